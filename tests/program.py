@@ -1,0 +1,185 @@
+#!/usr/bin/env python3
+"""Runs art_index as others see it: its statuses and texts, its replies while it waits, its system calls.
+
+    tests/program.py [WORD]      at the top of the repository, after rt ci; WORD: only tests that have it in their name
+Each test runs both of the programs that rt ci has built, as LLVM and as Rattle's own compiler make it.
+"""
+import os
+import select
+import subprocess
+import sys
+import tempfile
+import time
+
+PROGRAM = os.path.abspath("crates/art_index/out/art_index")
+FIRST_RUN = b"put 7 0a0b 6869\nget 7 0a0b\nget 8 0a0b\n"
+FIRST_REPLIES = b"new\nis 6869\nnone\n"
+LIMIT = 60
+
+
+def ended(words, **how):
+    """Runs a program to its end, and gives what it wrote to standard output and to standard error, and its status."""
+    how.setdefault("stdout", subprocess.PIPE)
+    ran = subprocess.run(words, stderr=subprocess.PIPE, timeout=LIMIT, **how)
+    return ran.stdout, ran.stderr, ran.returncode
+
+
+def wants(found, wanted):
+    assert found == wanted, f"{found} and not {wanted}"
+
+
+def first_run(program):
+    wants(ended([program], input=FIRST_RUN), (FIRST_REPLIES, b"", 0))
+
+
+def first_run_by_the_script(program):
+    """./run starts what is built, whatever folder it is called from."""
+    wants(ended([os.path.abspath("run")], input=FIRST_RUN, cwd="/"), (FIRST_REPLIES, b"", 0))
+
+
+def nothing_in_nothing_out(program):
+    wants(ended([program], input=b""), (b"", b"", 0))
+    wants(ended([program], input=b"\n"), (b"bad\n", b"", 0))
+
+
+def any_bytes_are_answered(program):
+    """A line a byte, each byte of all alone on a line, and lines at and past the longest."""
+    text = b"".join(bytes([it]) + b"\n" for it in range(256) if it != 10)
+    wants(ended([program], input=text), (b"bad\n" * 255, b"", 0))
+    key = b"ab" * 2044
+    text = b"put 1 %b -\nput 10 %b -\n%b\ndump\n" % (key, key, b"x" * 70000)
+    wants(ended([program], input=text), (b"new\nbad\nbad\nput 1 %b -\nend 1\n" % key, b"", 0))
+
+
+def an_argument_is_refused(program):
+    """It ends while its standard input is open, so it has not waited for it."""
+    reads, writes = os.pipe()
+    try:
+        wants(ended([program, "-"], stdin=reads), (b"", b"art_index: takes no arguments\n", 2))
+    finally:
+        os.close(reads)
+        os.close(writes)
+
+
+def a_failed_read_is_told(program):
+    folder = os.open("/", os.O_RDONLY)
+    try:
+        wants(ended([program], stdin=folder), (b"", b"art_index: read failed\n", 1))
+    finally:
+        os.close(folder)
+
+
+def a_failed_write_is_told(program):
+    with open("/dev/full", "wb") as full:
+        wants(ended([program], input=FIRST_RUN, stdout=full), (None, b"art_index: write failed\n", 1))
+
+
+def a_closed_output_is_told(program):
+    reads, writes = os.pipe()
+    os.close(reads)
+    try:
+        told = ended([program], input=FIRST_RUN, stdout=writes, restore_signals=False)
+        wants(told, (None, b"art_index: write failed\n", 1))
+    finally:
+        os.close(writes)
+
+
+class Running:
+    """A program with its two ends in our hands."""
+
+    def __init__(self, program):
+        self.ran = subprocess.Popen([program], stdin=subprocess.PIPE, stdout=subprocess.PIPE, bufsize=0)
+
+    def __enter__(self):
+        return self
+
+    def __exit__(self, *why):
+        self.ran.stdin.close()
+        self.ran.stdout.close()
+        self.ran.wait(LIMIT)
+
+    def gives(self, wanted, wait=LIMIT):
+        """Reads as many bytes as are wanted, and compares them."""
+        found, until = b"", time.monotonic() + wait
+        while len(found) < len(wanted):
+            ready = select.select([self.ran.stdout], [], [], max(0, until - time.monotonic()))[0]
+            piece = os.read(self.ran.stdout.fileno(), 1 << 16) if ready else b""
+            assert piece, f"it gave {found[-100:]} and no more"
+            found += piece
+        wants(found, wanted)
+
+    def calls(self):
+        """The numbers of reads and writes so far."""
+        with open(f"/proc/{self.ran.pid}/io") as file:
+            numbers = dict(it.split(": ") for it in file.read().splitlines())
+        return int(numbers["syscr"]), int(numbers["syscw"])
+
+
+def replies_before_it_waits(program):
+    """Line by line, and with lines cut at each byte: what is whole is answered before more is asked for."""
+    with Running(program) as it:
+        for line, reply in zip(FIRST_RUN.splitlines(True), FIRST_REPLIES.splitlines(True)):
+            it.ran.stdin.write(line)
+            it.gives(reply)
+    with Running(program) as it:
+        replies = iter(FIRST_REPLIES.splitlines(True))
+        for byte in FIRST_RUN:
+            it.ran.stdin.write(bytes([byte]))
+            if byte == 10:
+                it.gives(next(replies))
+
+
+def few_system_calls(program):
+    """Plentiful input is read and answered in large pieces: at most one call for 4,000 bytes, beside a few."""
+    with tempfile.TemporaryFile() as file:
+        lines = 100_000
+        file.write(b"get 7 0a0b0c0d0e0f1011\n" * lines)
+        size = file.tell()
+        file.seek(0)
+        ran = subprocess.Popen([program], stdin=file, stdout=subprocess.PIPE)
+        replies = b""
+        while len(replies) < 5 * lines:
+            replies += os.read(ran.stdout.fileno(), 1 << 16)
+        # (what stands in /proc goes with the process, which now only has to read the end of the file)
+        os.waitid(os.P_PID, ran.pid, os.WEXITED | os.WNOWAIT)
+        with open(f"/proc/{ran.pid}/io") as told:
+            numbers = dict(it.split(": ") for it in told.read().splitlines())
+        wants((ran.wait(), replies), (0, b"none\n" * lines))
+        reads, writes = int(numbers["syscr"]), int(numbers["syscw"])
+        assert reads <= size / 4000 + 20, f"{reads} reads of {size} bytes"
+        assert writes <= 5 * lines / 4000 + 20, f"{writes} writes of {5 * lines} bytes"
+
+
+TESTS = [
+    first_run,
+    first_run_by_the_script,
+    nothing_in_nothing_out,
+    any_bytes_are_answered,
+    an_argument_is_refused,
+    a_failed_read_is_told,
+    a_failed_write_is_told,
+    a_closed_output_is_told,
+    replies_before_it_waits,
+    few_system_calls,
+]
+
+
+def main():
+    word = sys.argv[1] if len(sys.argv) > 1 else ""
+    counts = {True: 0, False: 0}
+    for test in TESTS:
+        for program in (PROGRAM, f"{PROGRAM}.by-rattle"):
+            if word not in test.__name__:
+                continue
+            ended_as = "ok"
+            try:
+                test(program)
+            except (AssertionError, OSError, StopIteration, subprocess.TimeoutExpired) as why:
+                ended_as = f"FAILED: {str(why)[:600]}"
+            counts[ended_as == "ok"] += 1
+            print(f"{os.path.basename(program)} {test.__name__}: {ended_as}")
+    print(f"{counts[True]} passed, {counts[False]} failed")
+    sys.exit(bool(counts[False]) or not counts[True])
+
+
+main()
