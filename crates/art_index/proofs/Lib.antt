@@ -7,6 +7,9 @@ pub mod Carrying
 pub mod Replies
 pub mod Parsing
 pub mod Dumping
+pub mod FieldLengths
+pub mod Placing
+pub mod Putting
 pub mod Standing
 pub mod Filters
 pub mod OwnLaws

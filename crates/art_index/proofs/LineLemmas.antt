@@ -1,5 +1,7 @@
 -- What one more byte does to the lines of a text.
-use Rattle.std.proofs.Common.{◌≡◌, ℕ, zero, suc, append-nil, append_assoc, ◌+◌, ◌<◌, ◌≤◌, List, [], ◌∷◌, ◌++◌, length, take, drop, get_or, refl, ap, sym, ◌∙◌, Bool, true, false, cond, arith}
+use Rattle.std.proofs.Math.Seq.{drop-cons}
+use Rattle.std.proofs.lemmas.List.{take_all, take_rest, take-append-drop}
+use Rattle.std.proofs.Common.{◌≡◌, ℕ, zero, suc, ◌-◌, subst, add-one, append-nil, append_assoc, ◌+◌, ◌<◌, ◌≤◌, List, [], ◌∷◌, ◌++◌, length, take, drop, get_or, refl, ap, sym, ◌∙◌, Bool, true, false, cond, arith}
 use Rattle.std.specs.Prelude.{◌==◌}
 use Rattle.art_index.specs.Progress.{NoNewline}
 use Rattle.std.proofs.lemmas.Bool.{ne_eqb, eq-eqb, eqb-true, eqb-false, cases_Bool}
@@ -118,3 +120,22 @@ no_newline_before [] zero none = tt
 no_newline_before [] (suc i) none = tt
 no_newline_before (b ∷ bytes) zero none = tt
 no_newline_before (b ∷ bytes) (suc i) none = (none 0 (omega arith) (omega arith), no_newline_before bytes i (λ k low within. none (suc k) (omega arith) (omega arith)))
+
+not_true : (b : Bool) → (b ≡ true → ⊥) → b ≡ false
+not_true false h = refl
+not_true true h = absurd (h refl)
+
+-- the bytes before the first newline, and a text without one, as a search tells them
+pub none_before : (bytes : List ℕ) (i : ℕ) → ((k : ℕ) → 0 ≤ k → k < i → (get_or bytes k 0 == 10) ≡ true → ⊥) → NoNewline (take i bytes)
+none_before bytes i none = no_newline_before bytes i (λ k low within. not_true (get_or bytes k 0 == 10) (none k (omega arith) low))
+
+pub none_at_all : (bytes : List ℕ) → ((k : ℕ) → 0 ≤ k → k < length bytes → (get_or bytes k 0 == 10) ≡ true → ⊥) → NoNewline bytes
+none_at_all bytes none = subst NoNewline (take_all (length bytes) bytes (omega arith)) (none_before bytes (length bytes) none)
+
+-- what is left behind a newline
+pub behind_newline : (rest : List ℕ) (i n : ℕ) → n ≡ length rest → i < length rest → (get_or rest i 0 == 10) ≡ true
+  → rest ≡ (take i rest ++ 10 ∷ []) ++ take (n - (i + 1)) (drop (i + 1) rest)
+behind_newline rest i n long within here =
+    let e : drop i rest ≡ 10 ∷ drop (i + 1) rest = drop-cons rest i 0 within ∙ ap (λ b. b ∷ drop (suc i) rest) (eqb-true (get_or rest i 0) 10 here) ∙ ap (λ k. 10 ∷ drop k rest) (sym (add-one i)) in
+    let whole : take (n - (i + 1)) (drop (i + 1) rest) ≡ drop (i + 1) rest = ap (λ m. take (m - (i + 1)) (drop (i + 1) rest)) long ∙ take_rest rest (i + 1) in
+    sym (take-append-drop i rest) ∙ ap (λ l. take i rest ++ l) e ∙ ap (λ l. take i rest ++ 10 ∷ l) (sym whole) ∙ sym (append_assoc (take i rest) (10 ∷ []) (take (n - (i + 1)) (drop (i + 1) rest)))

@@ -132,7 +132,7 @@ others_are_untouched s t mine r apart = own_from _ _ _ _
     (ap (map key_part) (untouched (λ (x : KeyRecord). x.tenant) key_part key_made (λ t p. refl) (λ t p. refl) (λ x. refl) s t mine.keys r.keys apart))
     (ap (map number_part) (untouched (λ (x : NumberRecord). x.tenant) number_part number_made (λ t p. refl) (λ t p. refl) (λ x. refl) s t mine.numbers r.numbers apart))
 
-key_ascends : (rs : List KeyRecord) → InOrder KeyComesBefore rs → InOrder (λ (x y : KeyRecord). x.tenant ≤ y.tenant) rs
+pub key_ascends : (rs : List KeyRecord) → InOrder KeyComesBefore rs → InOrder (λ (x y : KeyRecord). x.tenant ≤ y.tenant) rs
 key_ascends [] h = tt
 key_ascends (r ∷ rs) h = (All-map (KeyComesBefore r) (λ s. r.tenant ≤ s.tenant) (λ s b. elim b [ inl lt ↦ omega arith | inr same ↦ let e = same.0 in omega arith ]) rs h.0, key_ascends rs h.1)
 

@@ -110,7 +110,7 @@ pub(crate) fn put_entry(alloc: Global, entries: &mut Vec<Entry>, tenant: u32, ke
     ensures placed { IsPlaced result (records_of entries.old.items) tenant key.now value.now (records_of entries.new.items) }
 {
     match place_of(entries, tenant, key) {
-        Ok(at) => match value.to_vec(alloc) {
+        Ok(at) => match Vec::from_slice(alloc, value) {
             Ok(mut value) => {
                 mem::swap(&mut entries[at].value, &mut value);
                 Placed::Old(value)
@@ -124,13 +124,13 @@ pub(crate) fn put_entry(alloc: Global, entries: &mut Vec<Entry>, tenant: u32, ke
             let Ok(key) = full_key(alloc, tenant, key) else {
                 return Placed::Memory;
             };
-            let Ok(value) = value.to_vec(alloc) else {
+            let Ok(value) = Vec::from_slice(alloc, value) else {
                 return Placed::Memory;
             };
-            match entries.insert(at, Entry { key, value }) {
-                Ok(()) => Placed::New,
-                Err(_) => Placed::Memory,
+            if entries.insert(at, Entry { key, value }).is_err() {
+                return Placed::Memory;
             }
+            Placed::New
         }
     }
 }

@@ -64,7 +64,7 @@ impl<const PREFIX_LEN: usize> Model for Index<PREFIX_LEN> {
 impl<const PREFIX_LEN: usize> Index<PREFIX_LEN> {
     ghost use Rattle.art_index.specs.Words.{line_of};
     ghost use Rattle.art_index.specs.Commands.{put, get};
-    ghost use Rattle.art_index.specs.Records.{no_records, KeyFits, own};
+    ghost use Rattle.art_index.specs.Records.{AreRecords, no_records, KeyFits, own};
     ghost use Rattle.art_index.specs.Replies.{own_reply};
     ghost use Rattle.art_index.specs.Refusals.{LineMayRefuse};
     ghost use Rattle.art_index.specs.Outcome.{answer, left_by};
@@ -78,6 +78,13 @@ impl<const PREFIX_LEN: usize> Index<PREFIX_LEN> {
             alloc,
             entries: Vec::new(alloc),
         }
+    }
+
+    /// A law, which does nothing: what an index holds are records in order, without conflicts, each no longer than a line.
+    pub fn holds_records(&self)
+        ensures { AreRecords self.now }
+    {
+        let _entries = &self.entries;
     }
 
     /// Carries out one line, without its newline, and writes its whole reply.

@@ -1,8 +1,5 @@
 //! Laws of the definitions. Each function does nothing, and its contract is the law.
-ghost use Rattle.art_index.specs.Records.{AreRecords};
 ghost use Rattle.art_index.specs.Laws.{OwnReadsBack, OthersAreUntouched, OwnIsInPlace, SpellsOneCommand};
-
-use crate::index::Index;
 
 /// What is put in place for a tenant is what it holds then.
 pub fn own_reads_back()
@@ -19,12 +16,6 @@ pub fn others_are_untouched()
 /// What a tenant holds, put in place again, changes nothing.
 pub fn own_is_in_place()
     ensures { OwnIsInPlace }
-{
-}
-
-/// What an index holds are records: in order, without conflicts, each no longer than a line.
-pub fn holds_records<const PREFIX_LEN: usize>(_index: &Index<PREFIX_LEN>)
-    ensures { AreRecords _index.now }
 {
 }
 
