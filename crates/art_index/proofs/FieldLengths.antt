@@ -1,0 +1,66 @@
+-- How long a field is beside what it is read as.
+use Rattle.std.proofs.Common.{◌≡◌, ℕ, suc, ◌+◌, ◌*◌, ◌^◌, ◌<◌, ◌≤◌, List, [], ◌∷◌, ◌++◌, length, refl, ap, sym, ◌∙◌, arith, length-append, Ok, Err, Bool, true, false}
+use Rattle.std.specs.Prelude.{decimal, codes, map}
+use Rattle.std.specs.List.{join_with_byte, slice_split, onto_first}
+use Rattle.hex.specs.Hex.{encode_with, encode_lower, lower_digits, decode_of, decode_pairs}
+use Rattle.art_index.specs.Words.{Word, name, natural, signed, bytes, shown, Reads, text_of, line_of}
+use Rattle.hex.proofs.HexLemmas.{decode_of-ok}
+use Rattle.std.proofs.lemmas.List.Splits.{join_with_byte-slice_split}
+use Rattle.art_index.specs.Commands.{Command, of_tenant, put, put_words, words_of, AllRead, fields_of, Spells}
+use Rattle.art_index.specs.Records.{KeyFits}
+
+length-encode : (bs : List ℕ) → length (encode_lower bs) ≡ 2 * length bs
+unfolding encode_with
+length-encode [] = refl
+length-encode (b ∷ bs) = let ih = length-encode bs in omega arith
+
+length-shown : (bs : List ℕ) → length bs ≤ length (shown (bytes bs))
+length-shown [] = omega arith
+length-shown (b ∷ bs) = let twice = length-encode (b ∷ bs) in omega arith
+
+-- a key is no longer than the line that puts a value at it
+pub key_short : (t : ℕ) (k v : List ℕ) → length (text_of (put_words t k v)) ≤ 4096 → length k ≤ 4096
+key_short t k v h =
+    let shown_key : List ℕ = shown (bytes k) in
+    let behind : List ℕ = 32 ∷ shown (bytes v) in
+    let one = length-append (decimal t) (32 ∷ (shown_key ++ behind)) in
+    let two = length-append shown_key behind in
+    let low = length-shown k in
+    omega arith
+
+length-read : (field : List ℕ) (w : Word) → Reads field w → length (shown w) ≡ length field
+length-read field (name text) h = ap length (sym h)
+length-read field (natural n) h = ap length (sym h.0)
+length-read field (signed n) h = ap length (sym h.0)
+length-read field (bytes []) h = ap length (sym h)
+length-read field (bytes (b ∷ bs)) h = let decoded = (decode_of-ok field (b ∷ bs) h).2 in length-encode (b ∷ bs) ∙ sym decoded
+
+length-joined : (fields : List (List ℕ)) (ws : List Word) → AllRead fields ws → length (join_with_byte 32 (map shown ws)) ≡ length (join_with_byte 32 fields)
+length-joined [] [] h = refl
+length-joined (f ∷ []) (w ∷ []) h = length-read f w h.0
+length-joined (f ∷ g ∷ fs) (w ∷ x ∷ ws) h =
+    let first = length-read f w h.0 in
+    let ih = length-joined (g ∷ fs) (x ∷ ws) h.1 in
+    let left = length-append (shown w) (32 ∷ join_with_byte 32 (map shown (x ∷ ws))) in
+    let right = length-append f (32 ∷ join_with_byte 32 (g ∷ fs)) in
+    omega arith
+length-joined [] (w ∷ ws) h = absurd h
+length-joined (f ∷ []) [] h = absurd h
+length-joined (f ∷ []) (w ∷ x ∷ ws) h = absurd h.1
+length-joined (f ∷ g ∷ fs) [] h = absurd h
+length-joined (f ∷ g ∷ fs) (w ∷ []) h = absurd h.1
+
+-- the text of a command is as long as a line that spells it
+pub length-spelled : (line : List ℕ) (c : Command) → Spells line c → length (text_of (words_of c)) ≡ length line
+length-spelled line c h = length-joined (fields_of line) (words_of c) h.read ∙ ap length (join_with_byte-slice_split 32 line)
+
+-- so a record that a line puts fits
+pub put_fits : (line : List ℕ) (t : ℕ) (k v : List ℕ) → Spells line (of_tenant t (put k v)) → KeyFits (record { tenant = t; key = k; value = v })
+put_fits line t k v h =
+    let same = length-spelled line (of_tenant t (put k v)) h in let short = h.short in
+    (tenant_small (fields_of line) h.read, omega arith)
+  where
+    tenant_small : (fields : List (List ℕ)) → AllRead fields (words_of (of_tenant t (put k v))) → t < 2 ^ 32
+    tenant_small [] r = absurd r
+    tenant_small (f ∷ []) r = absurd r.1
+    tenant_small (f ∷ g ∷ fs) r = r.1.0.1

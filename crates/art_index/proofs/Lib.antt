@@ -1,0 +1,17 @@
+pub mod Rows
+pub mod Walks
+pub mod LineLemmas
+pub mod RunLemmas
+pub mod HexText
+pub mod Carrying
+pub mod Replies
+pub mod Parsing
+pub mod Dumping
+pub mod FieldLengths
+pub mod Placing
+pub mod Putting
+pub mod Standing
+pub mod Filters
+pub mod OwnLaws
+pub mod Conflicts
+pub mod Spelling

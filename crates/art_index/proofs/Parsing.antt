@@ -1,0 +1,233 @@
+-- What the parser's steps say of the definitions.
+use Rattle.std.proofs.Common.{◌≡◌, ℕ, zero, suc, ◌+◌, ◌-◌, ◌*◌, ◌/◌, ◌^◌, ◌<◌, ◌≤◌, List, [], ◌∷◌, ◌++◌, length, take, drop, get_or, refl, ap, sym, ◌∙◌, Bool, true, false, cond, arith, add-one, Some, None, Option, Ok, Err, Result, drop_of_length-le}
+use Rattle.std.specs.Prelude.{◌==◌, decimal, nat_lt, ◌&&◌, codes}
+use Rattle.std.specs.List.{slice_split, onto_first}
+use Rattle.std.specs.Str.{bytes_eq}
+use Rattle.std.proofs.lemmas.Bool.{ne_eqb, eq-eqb}
+use Rattle.std.proofs.lemmas.List.{take_rest}
+use Rattle.std.proofs.Math.Seq.{drop-cons}
+use Rattle.std.specs.Str.Parse.{digits_value, digits_value_after, AllDigits}
+use Rattle.std.specs.Char.{digit_value}
+use Rattle.std.proofs.lemmas.Bool.{lt-leb, le-leb, true≢false, cases_lt, ltb-true, eqb-true, lt-ltb, le-ltb}
+use Rattle.std.proofs.lemmas.Slice.Eq.{bytes_eq-Decides}
+use Rattle.std.proofs.lemmas.Str.Parse.{numerals_by_value, tells_digits, digit_at}
+use Rattle.std.proofs.lemmas.Fmt.{decimal_is_IsNumeral, decimal_nonempty, length-decimal-le, first_decimal, decimal_digit, decimal-digits_value}
+use Rattle.std.specs.Prelude.{◌⊎◌}
+use Rattle.std.specs.Prelude.{option_copied, is_some, is_none}
+use Rattle.std.specs.Borrow.{Bor}
+use Rattle.std.specs.Result.{OkIff, result_ok, MatchResult}
+use Rattle.std.proofs.Common.{inl, inr, subst}
+use Rattle.hex.specs.Hex.{decode_of, decode_sized, decode_pairs}
+use Rattle.hex.specs.declared.error.FromHexError.{FromHexError}
+use Rattle.art_index.specs.Commands.{fields_of, dump}
+use Rattle.art_index.specs.Reading.{tenant_in, bytes_in, some_bytes, put_in, get_in, dump_in, command_in, command_of}
+use Rattle.art_index.specs.Parsed.{fields_behind}
+
+-- the fields_of of a line whose first space is at a place
+fields_at : (line : List ℕ) (i : ℕ) → i < length line → get_or line i 0 ≡ 32 → ((k : ℕ) → k < i → get_or line k 0 ≡ 32 → ⊥)
+  → fields_of line ≡ take i line ∷ fields_of (drop (suc i) line)
+fields_at [] i h here before = absurd (omega arith)
+fields_at (x ∷ xs) zero h here before = rw (eq-eqb x 32 here) refl
+fields_at (x ∷ xs) (suc i) h here before =
+    let other : x ≡ 32 → ⊥ = before 0 (omega arith) in
+    let within : i < length xs = omega arith in
+    let again = fields_at xs i within here (λ k lt e. before (suc k) (omega arith) e) in
+    rw (ne_eqb x 32 other) (ap (onto_first x) again)
+
+pub fields_first : (line : List ℕ) (i : ℕ) → i < length line → get_or line i 0 ≡ 32 → ((k : ℕ) → k < i → get_or line k 0 ≡ 32 → ⊥)
+  → fields_of line ≡ take i line ∷ fields_of (take (length line - (i + 1)) (drop (i + 1) line))
+fields_first line i h here before = fields_at line i h here before ∙ ap (λ t. take i line ∷ fields_of t) (ap (λ k. drop k line) (sym (add-one i)) ∙ sym (take_rest line (i + 1)))
+
+pub fields_none : (line : List ℕ) → ((k : ℕ) → k < length line → get_or line k 0 ≡ 32 → ⊥) → fields_of line ≡ line ∷ []
+fields_none [] none = refl
+fields_none (x ∷ xs) none =
+    let other : x ≡ 32 → ⊥ = none 0 (omega arith) in
+    rw (ne_eqb x 32 other) (ap (onto_first x) (fields_none xs (λ k lt e. none (suc k) (omega arith) e)))
+
+-- a text that shows no number below the limit
+no_number : (text : List ℕ) → ((n : ℕ) → n < 2 ^ 32 → text ≡ decimal n → ⊥) → None ≡ tenant_in text
+unfolding tenant_in
+no_number text none = go (nat_lt (digits_value 10 text) (2 ^ 32)) (bytes_eq text (decimal (digits_value 10 text))) refl refl
+  where
+    go : (a b : Bool) → nat_lt (digits_value 10 text) (2 ^ 32) ≡ a → bytes_eq text (decimal (digits_value 10 text)) ≡ b → None ≡ cond (a && b) (Some (digits_value 10 text)) None
+    go false b p q = refl
+    go true false p q = refl
+    go true true p q = absurd (none (digits_value 10 text) (ltb-true (digits_value 10 text) (2 ^ 32) p) ((bytes_eq-Decides text (decimal (digits_value 10 text))).0 q))
+
+pub number_empty : (text : List ℕ) → length text ≡ 0 → None ≡ tenant_in text
+number_empty text h = no_number text (λ n lt e. let small : n < 2 ^ 64 = omega arith in let some = decimal_nonempty n small in let same = ap length e in omega arith)
+
+pub number_long : (text : List ℕ) → 10 < length text → None ≡ tenant_in text
+number_long text h = no_number text (λ n lt e. let small : n < 2 ^ 64 = omega arith in let few : n < 10 ^ 10 = omega arith in let short = length-decimal-le 10 n (omega arith) few small in let same = ap length e in omega arith)
+
+pub number_padded : (text : List ℕ) → get_or text 0 0 ≡ 48 → 1 < length text → None ≡ tenant_in text
+number_padded text zero_first h = no_number text (λ n lt e. elim (cases_lt 0 n) [
+    inl some ↦ let small : n < 2 ^ 64 = omega arith in let high = first_decimal n some small in let same = ap (λ t. get_or t 0 0) e in omega arith
+  | inr none ↦ let nil : n ≡ 0 = omega arith in let one = ap length (decimal_digit n (omega arith)) in let same = ap length e in absurd (omega arith) ])
+
+pub number_other : (text : List ℕ) (i : ℕ) → i < length text → ((48 ≤ get_or text i 0) × (get_or text i 0 ≤ 57) → ⊥) → None ≡ tenant_in text
+number_other text i h other = no_number text (λ n lt e.
+    let small : n < 2 ^ 64 = omega arith in let numeral = decimal_is_IsNumeral n small in
+    let within : i < length (decimal n) = subst (λ t. i < length t) e h in
+    let digit = digit_at (decimal n) i numeral.0.1 within in
+    other (subst (λ t. (48 ≤ get_or t i 0) × (get_or t i 0 ≤ 57)) (sym e) (let low = digit.0 in let high = digit.1 in (omega arith, omega arith))))
+
+digit_is : (b : ℕ) → 48 ≤ b → b ≤ 57 → digit_value b ≡ b - 48
+digit_is b low high = let below : b < 58 = omega arith in rw (le-ltb b 48 low, lt-ltb b 58 below) refl
+
+pub read_more : (text : List ℕ) (i number b v : ℕ) → i < length text → get_or text i 0 ≡ b → 48 ≤ b → b ≤ 57
+  → digits_value_after 10 number (drop i text) ≡ v → digits_value_after 10 (number * 10 + (b - 48)) (drop (i + 1) text) ≡ v
+read_more text i number b v h here low high e =
+    let cell : drop i text ≡ b ∷ drop (i + 1) text = drop-cons text i 0 h ∙ ap (λ x. x ∷ drop (suc i) text) here ∙ ap (λ k. b ∷ drop k text) (sym (add-one i)) in
+    ap (λ d. digits_value_after 10 (number * 10 + d) (drop (i + 1) text)) (sym (digit_is b low high)) ∙ ap (digits_value_after 10 number) (sym cell) ∙ e
+
+all_digits : (text : List ℕ) → ((k : ℕ) → k < length text → (48 ≤ get_or text k 0) × (get_or text k 0 ≤ 57)) → AllDigits 10 text
+all_digits [] h = tt
+all_digits (x ∷ xs) h =
+    let first = h 0 (omega arith) in let low = first.0 in let high = first.1 in let value = digit_is x low high in
+    (omega arith, all_digits xs (λ k lt. h (suc k) (omega arith)))
+
+-- digits with no 0 before them show their value, where it is below the limit
+pub number_read : (text : List ℕ) (n : ℕ) → 0 < length text → (get_or text 0 0 ≡ 48 → length text ≡ 1)
+  → ((k : ℕ) → k < length text → (48 ≤ get_or text k 0) × (get_or text k 0 ≤ 57)) → n ≡ digits_value 10 text → n < 2 ^ 32 → Some n ≡ tenant_in text
+unfolding tenant_in
+number_read text n some front digits e small =
+    let wide : digits_value 10 text < 2 ^ 64 = omega arith in let within : digits_value 10 text < 2 ^ 32 = omega arith in
+    let same = decimal-digits_value (numerals_by_value (AllDigits 10) tells_digits) text (all_digits text digits) some front wide in
+    rw (lt-ltb (digits_value 10 text) (2 ^ 32) within, (bytes_eq-Decides text (decimal (digits_value 10 text))).1 (sym same)) (ap (λ m. Some m) e)
+
+pub number_wide : (text : List ℕ) → 2 ^ 32 ≤ digits_value 10 text → None ≡ tenant_in text
+unfolding tenant_in
+number_wide text h = rw (le-ltb (digits_value 10 text) (2 ^ 32) h) refl
+
+number_result : {E : Type 0} (text : List ℕ) (n : ℕ) (r : Result ℕ E) → OkIff r (n < 2 ^ 32) n → 0 < length text → (get_or text 0 0 ≡ 48 → length text ≡ 1)
+  → ((k : ℕ) → k < length text → (48 ≤ get_or text k 0) × (get_or text k 0 ≤ 57)) → n ≡ digits_value 10 text → result_ok r ≡ tenant_in text
+number_result text n (Ok x) h some front digits e = let small = h.0 in let is = h.1 in let below : x < 2 ^ 32 = omega arith in number_read text x some front digits (is ∙ e) below
+number_result text n (Err y) h some front digits e = number_wide text (elim (cases_lt (digits_value 10 text) (2 ^ 32)) [ inl lt ↦ let small : n < 2 ^ 32 = omega arith in absurd (h small) | inr ge ↦ ge ])
+
+pub number_end : {E : Type 0} (text : List ℕ) (i n : ℕ) (r : Result ℕ E) (o : Option ℕ) → OkIff r (n < 2 ^ 32) n → o ≡ result_ok r → 0 < length text
+  → (get_or text 0 0 ≡ 48 → length text ≡ 1) → length text ≤ i
+  → ((k : ℕ) → k < i → (48 ≤ get_or text k 0) × (get_or text k 0 ≤ 57)) → digits_value_after 10 n (drop i text) ≡ digits_value 10 text → o ≡ tenant_in text
+number_end text i n r o h is some front all digits e =
+    is ∙ number_result text n r h some front (λ k lt. let far : k < i = omega arith in digits k far) (ap (digits_value_after 10 n) (sym (drop_of_length-le text all)) ∙ e)
+
+-- a line has a text
+fields_some : (line : List ℕ) → (t : List ℕ) × (ts : List (List ℕ)) × (fields_of line ≡ t ∷ ts)
+fields_some [] = ([], [], refl)
+fields_some (x ∷ xs) = go (x == 32) (fields_of xs) (fields_some xs)
+  where
+    go : (b : Bool) (rest : List (List ℕ)) → (t : List ℕ) × (ts : List (List ℕ)) × (rest ≡ t ∷ ts) → (t : List ℕ) × (ts : List (List ℕ)) × (cond b ([] ∷ rest) (onto_first x rest) ≡ t ∷ ts)
+    go true rest some = ([], rest, refl)
+    go false rest some = (x ∷ some.0, some.1, ap (onto_first x) some.2)
+
+pub put_more : (t k v line : List ℕ) → None ≡ put_in (t ∷ k ∷ v ∷ fields_of line)
+put_more t k v line = let some = fields_some line in rw some.2 refl
+
+pub get_more : (t k line : List ℕ) → None ≡ get_in (t ∷ k ∷ fields_of line)
+get_more t k line = let some = fields_some line in rw some.2 refl
+
+pub too_long : (line : List ℕ) → 4096 < length line → None ≡ command_of line
+unfolding command_of
+too_long line h = rw (lt-leb (length line) 4096 h) refl
+
+module _ (line word : List ℕ) (rest : List (List ℕ)) (short : length line ≤ 4096) (split : fields_of line ≡ word ∷ rest) where
+  pub says : command_in (word ∷ rest) ≡ command_of line
+  unfolding command_of
+  says = rw (le-leb (length line) 4096 short, split) refl
+
+  pub says_put : true ≡ bytes_eq word (codes "put") → put_in rest ≡ command_of line
+  says_put put = let p = sym put in let e : put_in rest ≡ command_in (word ∷ rest) = rw p refl in e ∙ says
+
+  pub says_get : false ≡ bytes_eq word (codes "put") → true ≡ bytes_eq word (codes "get") → get_in rest ≡ command_of line
+  says_get put get = let p = sym put in let g = sym get in let e : get_in rest ≡ command_in (word ∷ rest) = rw (p, g) refl in e ∙ says
+
+  pub says_dump : false ≡ bytes_eq word (codes "put") → false ≡ bytes_eq word (codes "get") → true ≡ bytes_eq word (codes "dump") → dump_in rest ≡ command_of line
+  says_dump put get last = let p = sym put in let g = sym get in let d = sym last in let e : dump_in rest ≡ command_in (word ∷ rest) = rw (p, g, d) refl in e ∙ says
+
+  pub says_nothing : false ≡ bytes_eq word (codes "put") → false ≡ bytes_eq word (codes "get") → false ≡ bytes_eq word (codes "dump") → None ≡ command_of line
+  says_nothing put get last = let p = sym put in let g = sym get in let d = sym last in let e : None ≡ command_in (word ∷ rest) = rw (p, g, d) refl in e ∙ says
+
+-- behind the last field nothing stands
+pub put_behind : (r r1 r2 r3 : Option (Bor (List ℕ))) (x y z : Bor (List ℕ)) (t k v : List ℕ)
+  → r ≡ Some x → fields_of x.now ≡ t ∷ fields_behind (option_copied r1) → r1 ≡ Some y → fields_of y.now ≡ k ∷ fields_behind (option_copied r2)
+  → r2 ≡ Some z → fields_of z.now ≡ v ∷ fields_behind (option_copied r3) → true ≡ is_some r3
+  → None ≡ put_in (fields_behind (option_copied r))
+put_behind r r1 r2 r3 x y z t k v is first is1 second is2 third more =
+    let two : fields_of y.now ≡ k ∷ v ∷ fields_behind (option_copied r3) = second ∙ ap (λ o. k ∷ fields_behind (option_copied o)) is2 ∙ ap (λ l. k ∷ l) third in
+    let one : fields_of x.now ≡ t ∷ k ∷ v ∷ fields_behind (option_copied r3) = first ∙ ap (λ o. t ∷ fields_behind (option_copied o)) is1 ∙ ap (λ l. t ∷ l) two in
+    let all : fields_behind (option_copied r) ≡ t ∷ k ∷ v ∷ fields_behind (option_copied r3) = ap (λ o. fields_behind (option_copied o)) is ∙ one in
+    end r3 more ∙ ap put_in (sym all)
+  where
+    end : (o : Option (Bor (List ℕ))) → true ≡ is_some o → None ≡ put_in (t ∷ k ∷ v ∷ fields_behind (option_copied o))
+    end None h = absurd (true≢false h)
+    end (Some w) h = put_more t k v w.now
+
+pub get_behind : (r r1 r2 : Option (Bor (List ℕ))) (x y : Bor (List ℕ)) (t k : List ℕ)
+  → r ≡ Some x → fields_of x.now ≡ t ∷ fields_behind (option_copied r1) → r1 ≡ Some y → fields_of y.now ≡ k ∷ fields_behind (option_copied r2)
+  → true ≡ is_some r2 → None ≡ get_in (fields_behind (option_copied r))
+get_behind r r1 r2 x y t k is first is1 second more =
+    let one : fields_of x.now ≡ t ∷ k ∷ fields_behind (option_copied r2) = first ∙ ap (λ o. t ∷ fields_behind (option_copied o)) is1 ∙ ap (λ l. t ∷ l) second in
+    let all : fields_behind (option_copied r) ≡ t ∷ k ∷ fields_behind (option_copied r2) = ap (λ o. fields_behind (option_copied o)) is ∙ one in
+    end r2 more ∙ ap get_in (sym all)
+  where
+    end : (o : Option (Bor (List ℕ))) → true ≡ is_some o → None ≡ get_in (t ∷ k ∷ fields_behind (option_copied o))
+    end None h = absurd (true≢false h)
+    end (Some w) h = get_more t k w.now
+
+pub nothing_behind : (r : Option (Bor (List ℕ))) → is_some r ≡ false → Some dump ≡ dump_in (fields_behind (option_copied r))
+nothing_behind None h = refl
+nothing_behind (Some w) h = absurd (true≢false h)
+
+pub something_behind : (r : Option (Bor (List ℕ))) → is_some r ≡ true → None ≡ dump_in (fields_behind (option_copied r))
+something_behind None h = absurd (true≢false (sym h))
+something_behind (Some w) h = let some = fields_some w.now in rw some.2 refl
+
+pub bytes_dash : (text : List ℕ) → true ≡ bytes_eq text (codes "-") → Some [] ≡ bytes_in text
+unfolding bytes_in
+bytes_dash text h = let e = sym h in rw e refl
+
+decode_half : (text : List ℕ) → decode_sized text (length text / 2) ≡ decode_of text
+decode_half text = rw (eq-eqb (length text / 2) (length text / 2) refl) refl
+
+pub bytes_short : (text : List ℕ) → false ≡ bytes_eq text (codes "-") → length text / 2 ≡ 0 → None ≡ bytes_in text
+unfolding bytes_in decode_pairs
+bytes_short [] h e = refl
+bytes_short (x ∷ []) h e = let f = sym h in rw f refl
+bytes_short (x ∷ y ∷ r) h e = absurd (omega arith)
+
+pub bytes_bad : (text : List ℕ) (n : ℕ) (e : FromHexError) → false ≡ bytes_eq text (codes "-") → n ≡ length text / 2 → decode_sized text n ≡ Err e → None ≡ bytes_in text
+unfolding bytes_in
+bytes_bad text n e h half d = let f = sym h in let g = sym (ap (decode_sized text) half ∙ decode_half text) ∙ d in rw (f, g) refl
+
+pub bytes_good : (text : List ℕ) (n : ℕ) (bytes : List ℕ) → false ≡ bytes_eq text (codes "-") → n ≡ length text / 2 → decode_sized text n ≡ Ok bytes → 0 < length bytes → Some bytes ≡ bytes_in text
+unfolding bytes_in
+bytes_good text n [] h half d some = absurd (omega arith)
+bytes_good text n (b ∷ bs) h half d some = let f = sym h in let g = sym (ap (decode_sized text) half ∙ decode_half text) ∙ d in rw (f, g) refl
+
+-- what `decode_to_slice` says of its room
+abbrev Decodes : List ℕ → ℕ → Result (Unit {0}) FromHexError → List ℕ → Type 0
+Decodes text n r new = MatchResult (decode_sized text n) (λ bytes. (r ≡ Ok tt) × (new ≡ bytes)) (λ e. r ≡ Err e)
+
+ok_differs : (r : Result (Unit {0}) FromHexError) → None ≡ result_ok r → r ≡ Ok tt → ⊥
+ok_differs (Ok x) h e = cc
+ok_differs (Err x) h e = cc
+
+err_differs : (e : FromHexError) (r : Result (Unit {0}) FromHexError) → Some tt ≡ result_ok r → r ≡ Err e → ⊥
+err_differs e (Ok x) h i = cc
+err_differs e (Err x) h i = cc
+
+pub bytes_err : (text : List ℕ) (n : ℕ) (r : Result (Unit {0}) FromHexError) (new : List ℕ) → Decodes text n r new → None ≡ result_ok r
+  → false ≡ bytes_eq text (codes "-") → n ≡ length text / 2 → None ≡ bytes_in text
+bytes_err text n r new d none h half = go (decode_sized text n) refl d
+  where
+    go : (o : Result (List ℕ) FromHexError) → decode_sized text n ≡ o → MatchResult o (λ bytes. (r ≡ Ok tt) × (new ≡ bytes)) (λ e. r ≡ Err e) → None ≡ bytes_in text
+    go (Ok bytes) is m = let e = m.0 in absurd (ok_differs r none e)
+    go (Err e) is m = bytes_bad text n e h half is
+
+pub bytes_ok : (text : List ℕ) (n : ℕ) (r : Result (Unit {0}) FromHexError) (new : List ℕ) → Decodes text n r new → Some tt ≡ result_ok r
+  → false ≡ bytes_eq text (codes "-") → n ≡ length text / 2 → 0 < length new → Some new ≡ bytes_in text
+bytes_ok text n r new d some h half long = go (decode_sized text n) refl d
+  where
+    go : (o : Result (List ℕ) FromHexError) → decode_sized text n ≡ o → MatchResult o (λ bytes. (r ≡ Ok tt) × (new ≡ bytes)) (λ e. r ≡ Err e) → Some new ≡ bytes_in text
+    go (Ok bytes) is m = bytes_good text n new h half (is ∙ ap (λ b. Ok b) (sym m.1)) long
+    go (Err e) is m = absurd (err_differs e r some m)

@@ -1,0 +1,23 @@
+-- What was written and what is held where a run ends by a fault.
+use Rattle.std.specs.Prelude.{◌≡◌, ℕ, suc, ◌≤◌, ◌≢◌, List, [], ◌++◌, length, take}
+use Rattle.art_index.specs.Lines.{whole_lines_of}
+use Rattle.art_index.specs.Records.{Records}
+use Rattle.art_index.specs.Outcome.{outcome_of, IsLawful, IsOutcome}
+
+-- After a failed read, all whole lines of the text were answered, and nothing else: an unfinished line is not carried out.
+abbrev pub AfterReadFault : Records → List ℕ → List ℕ → Records → Type 0
+AfterReadFault start text written now = IsOutcome start (whole_lines_of text) written now
+
+-- After a failed write, one line more than `answered` ones was carried out. Their answers were written whole,
+-- and of the answer to the last a beginning that is not all of it.
+pub record AfterWriteFault (start : Records) (lines : List (List ℕ)) (written : List ℕ) (now : Records) : Type 0 where
+  pub refused : List ℕ
+  pub answered : ℕ
+  pub within : suc answered ≤ length lines
+  pub lawful : IsLawful start (take (suc answered) lines) refused
+  pub begun : List ℕ
+  pub missing : List ℕ
+  pub is_cut : missing ≢ []
+  pub told : written ≡ (outcome_of start (take answered lines) refused).written ++ begun
+  pub cut : written ++ missing ≡ (outcome_of start (take (suc answered) lines) refused).written
+  pub left : now ≡ (outcome_of start (take (suc answered) lines) refused).records

@@ -1,0 +1,21 @@
+-- Laws of the definitions, each proved on a function of `laws`.
+use Rattle.std.specs.Prelude.{◌≡◌, ◌≢◌, ℕ, List}
+use Rattle.art_index.specs.Commands.{Command, Spells}
+use Rattle.art_index.specs.Records.{Own, Records, AreRecords, own, with_own}
+
+-- what is put in place for a tenant is what it holds then
+abbrev pub OwnReadsBack : Type 0
+OwnReadsBack = (tenant : ℕ) (mine : Own) (records : Records) → own tenant (with_own tenant mine records) ≡ mine
+
+-- what another tenant holds is untouched by it
+abbrev pub OthersAreUntouched : Type 0
+OthersAreUntouched = (other tenant : ℕ) (mine : Own) (records : Records) → other ≢ tenant
+    → own other (with_own tenant mine records) ≡ own other records
+
+-- what a tenant holds, put in place again, changes nothing
+abbrev pub OwnIsInPlace : Type 0
+OwnIsInPlace = (tenant : ℕ) (records : Records) → AreRecords records → with_own tenant (own tenant records) records ≡ records
+
+-- no line spells two commands
+abbrev pub SpellsOneCommand : Type 0
+SpellsOneCommand = (line : List ℕ) (a b : Command) → Spells line a → Spells line b → a ≡ b

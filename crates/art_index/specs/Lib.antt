@@ -1,0 +1,14 @@
+pub mod Lines
+pub mod Words
+pub mod Commands
+pub mod Reading
+pub mod Keys
+pub mod Records
+pub mod Replies
+pub mod Refusals
+pub mod Outcome
+pub mod Faults
+pub mod Laws
+pub mod Parsed
+pub mod Stored
+pub mod Progress

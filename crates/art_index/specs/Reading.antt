@@ -1,0 +1,62 @@
+-- The command that a line spells, computed. That it is the one that `Spells` relates to the line stands on `parse_line`.
+use Rattle.std.specs.Prelude.{ℕ, ◌^◌, ◌&&◌, nat_lt, nat_le, if◌then◌else◌, List, [], ◌∷◌, length, codes, decimal, Option, Some, None, option_and_then, Result, Ok, Err}
+use Rattle.std.specs.Str.{bytes_eq}
+use Rattle.std.specs.Str.Parse.{digits_value}
+use Rattle.hex.specs.Hex.{decode_of}
+use Rattle.hex.specs.declared.error.FromHexError.{FromHexError}
+use Rattle.art_index.specs.Commands.{put, get, Command, of_tenant, dump, fields_of}
+
+infixl 10 ◌>>=◌
+abbrev pub ◌>>=◌ : {A B : Type 0} → Option A → (A → Option B) → Option B
+o >>= f = option_and_then f o
+
+-- the tenant that a field is read as
+unfoldable pub tenant_in : List ℕ → Option ℕ
+tenant_in field =
+    let n = digits_value 10 field in
+    if nat_lt n (2 ^ 32) && bytes_eq field (decimal n) then Some n else None
+
+-- decoded bytes, at least one
+abbrev pub some_bytes : Result (List ℕ) FromHexError → Option (List ℕ)
+some_bytes (Ok []) = None
+some_bytes (Ok (b ∷ bs)) = Some (b ∷ bs)
+some_bytes (Err e) = None
+
+-- the bytes that a field is read as
+unfoldable pub bytes_in : List ℕ → Option (List ℕ)
+bytes_in field = if bytes_eq field (codes "-") then Some [] else some_bytes (decode_of field)
+
+-- the command that the fields behind `put` make
+abbrev pub put_in : List (List ℕ) → Option Command
+put_in (t ∷ k ∷ v ∷ []) = do
+  tenant ← tenant_in t
+  key ← bytes_in k
+  value ← bytes_in v
+  Some (of_tenant tenant (put key value))
+put_in other = None
+
+-- the command that the fields behind `get` make
+abbrev pub get_in : List (List ℕ) → Option Command
+get_in (t ∷ k ∷ []) = do
+  tenant ← tenant_in t
+  key ← bytes_in k
+  Some (of_tenant tenant (get key))
+get_in other = None
+
+-- the command that the fields behind `dump` make
+abbrev pub dump_in : List (List ℕ) → Option Command
+dump_in [] = Some dump
+dump_in other = None
+
+-- the command that some fields make
+abbrev pub command_in : List (List ℕ) → Option Command
+command_in [] = None
+command_in (word ∷ rest) =
+    if bytes_eq word (codes "put") then put_in rest
+    else if bytes_eq word (codes "get") then get_in rest
+    else if bytes_eq word (codes "dump") then dump_in rest
+    else None
+
+-- the command that a line spells
+unfoldable pub command_of : List ℕ → Option Command
+command_of line = if nat_le (length line) 4096 then command_in (fields_of line) else None

@@ -1,0 +1,32 @@
+//! What the sorted vector holds, and how a put into it went.
+
+/// A record under its full key: four bytes of the tenant, the highest first, then the tenant's key.
+#[derive(Drop)]
+pub(crate) struct Entry {
+    pub(crate) key: Vec<u8>,
+    pub(crate) value: Vec<u8>,
+}
+
+/// How a put went.
+#[derive(Drop)]
+pub(crate) enum Placed {
+    /// The key was there; this was its value.
+    Old(Vec<u8>),
+    /// The key was not there.
+    New,
+    /// The key conflicts with another of the tenant's.
+    Conflict,
+    /// No memory was found.
+    Memory,
+}
+
+impl Placed {
+    ghost use Rattle.std.specs.Prelude.{◌≡◌};
+    ghost use Rattle.art_index.specs.Stored.{found_no_memory};
+
+    pub(crate) fn is_memory(&self) -> bool
+        ensures { result ≡ found_no_memory self.now }
+    {
+        matches!(self, Placed::Memory)
+    }
+}

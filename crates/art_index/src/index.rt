@@ -1,0 +1,135 @@
+//! An index, and what a line does to it.
+ghost use Rattle.std.specs.Prelude.{◌≡◌, ℕ, ◌+◌, ◌<◌, ◌≤◌, ◌++◌, ◌∷◌, [], List, length, map, drop, take, flat_map, OnOk, OnErr, IfOk, IfErr, IsTrue, IsErr, is_err, true, false, Option, Some, None, option_map, codes};
+
+use crate::command::{Command, parse_line};
+use crate::entries::{put_entry, value_of, write_entries, write_placed};
+use crate::entry::{Entry, Placed};
+use crate::reply::{write_found, write_word};
+use crate::stream::{Sink, WriteFailed};
+use std::alloc::Global;
+use std::marker::Model;
+use thiserror::Error;
+
+/// Which end of a run failed.
+#[derive(Debug, Drop, Error)]
+pub enum RunFault {
+    /// The source failed to give bytes.
+    #[error("read failed")]
+    Read,
+    /// The sink failed to take bytes.
+    #[error("write failed")]
+    Write,
+}
+
+impl From<WriteFailed> for RunFault {
+    ghost use Rattle.art_index.specs.declared.index.RunFault.TheVariants.{Write};
+
+    ghost use Rattle.std.specs.Prelude.{◌≡◌};
+
+    ghost from_gives = { λ _ fault. fault ≡ Write };
+
+    fn from(_failed: WriteFailed) -> RunFault {
+        RunFault::Write
+    }
+}
+
+/// How a line was carried out.
+#[derive(Clone, Copy, Debug)]
+pub struct Handled {
+    /// Whether the reply was `memory`.
+    pub memory: bool,
+    /// The number of nodes read. The records stand in no nodes yet, so it is 0.
+    pub visits: u64,
+}
+
+/// The records of all tenants.
+#[derive(Drop)]
+pub struct Index<const PREFIX_LEN: usize> {
+    alloc: Global,
+    entries: Vec<Entry>,
+}
+
+impl<const PREFIX_LEN: usize> Model for Index<PREFIX_LEN> {
+    ghost use Rattle.art_index.specs.Records.{Records};
+
+    ghost Value = { Records };
+
+    ghost use Rattle.art_index.specs.Stored.{records_of, AreEntries};
+
+    ghost view = { λ s. records_of s.entries.items };
+
+    ghost invariant = { λ s. AreEntries s.entries.items };
+}
+
+impl<const PREFIX_LEN: usize> Index<PREFIX_LEN> {
+    ghost use Rattle.art_index.specs.Words.{line_of};
+    ghost use Rattle.art_index.specs.Commands.{put, get};
+    ghost use Rattle.art_index.specs.Records.{AreRecords, no_records, KeyFits, own};
+    ghost use Rattle.art_index.specs.Replies.{own_reply};
+    ghost use Rattle.art_index.specs.Refusals.{LineMayRefuse};
+    ghost use Rattle.art_index.specs.Outcome.{answer, left_by};
+    ghost use Rattle.art_index.specs.Stored.{IsPlaced};
+
+    /// An index that holds nothing. It takes no memory.
+    pub fn new(alloc: Global) -> Self
+        ensures { result ≡ no_records }
+    {
+        Index {
+            alloc,
+            entries: Vec::new(alloc),
+        }
+    }
+
+    /// A law, which does nothing: what an index holds are records in order, without conflicts, each no longer than a line.
+    pub fn holds_records(&self)
+        ensures { AreRecords self.now }
+    {
+        let _entries = &self.entries;
+    }
+
+    /// Carries out one line, without its newline, and writes its whole reply.
+    /// It answers `RunFault::Write` where the sink fails: what the line does is done then, and its reply is cut.
+    pub fn handle<W: Sink>(&mut self, line: &[u8], sink: &mut W) -> Result<Handled, RunFault>
+        requires { W.has_failed sink.old ≡ false }
+        ensures told { IfOk result (λ done. W.taken sink.new ≡ W.taken sink.old ++ answer done.memory self.old line.now) }
+        ensures left { IfOk result (λ done. self.new ≡ left_by done.memory self.old line.now) }
+        ensures lawful { IfOk result (λ done. done.memory ≡ true → LineMayRefuse self.old line.now) }
+        ensures visits { IfOk result (λ done. done.visits ≡ 0) }
+
+        ensures err { IfErr result (λ fault. fault ≡ RunFault.Write) }
+        ensures failed { is_err result ≡ W.has_failed sink.new }
+    {
+        let mut memory = false;
+        match parse_line(line) {
+            Some(Command::Get { tenant, key }) => self.get(tenant, key.as_slice(), sink)?,
+            Some(Command::Put { tenant, key, value }) => {
+                let placed = self.put(tenant, key.as_slice(), value.as_slice());
+                memory = placed.is_memory();
+                write_placed(sink, &placed)?;
+            }
+            Some(Command::Dump) => write_entries(&self.entries, sink)?,
+            None => write_word(sink, b"bad")?,
+        }
+        Ok(Handled { memory, visits: 0 })
+    }
+
+    /// Writes the value at a tenant's key.
+    fn get<W: Sink>(&self, tenant: u32, key: &[u8], sink: &mut W) -> Result<(), WriteFailed>
+        requires { W.has_failed sink.old ≡ false }
+        ensures ok { OnOk result (W.taken sink.new ≡ W.taken sink.old ++ flat_map line_of (own_reply (get key.now) (own tenant self.now))) }
+        ensures failed { is_err result ≡ W.has_failed sink.new }
+    {
+        match value_of(&self.entries, tenant, key) {
+            Some(value) => write_found(sink, b"is", value),
+            None => write_word(sink, b"none"),
+        }
+    }
+
+    /// Puts a value at a tenant's key, unless the key conflicts with another.
+    fn put(&mut self, tenant: u32, key: &[u8], value: &[u8]) -> Placed
+        requires { KeyFits (record { tenant = tenant; key = key.now; value = value.now }) }
+        ensures { IsPlaced result self.old tenant key.now value.now self.new }
+    {
+        put_entry(self.alloc, &mut self.entries, tenant, key, value)
+    }
+}

@@ -1,0 +1,53 @@
+//! A program that keeps the records of many tenants: it reads lines and writes the reply to each.
+//! The contract that it rests on is that of `run`: what is written is the definition's replies to the lines read, however they are cut.
+//! The definitions stand in specs/: `Lines`, `Commands`, `Records`, `Replies`, `Refusals` and `Outcome`, in this order.
+#![tactic(auto)]
+
+mod buffered;
+mod command;
+mod entries;
+mod entry;
+mod history;
+mod index;
+mod laws;
+mod reply;
+mod running;
+mod stream;
+#[cfg(test)]
+mod tests;
+
+use buffered::{Buffer, Input, Output};
+use index::{Index, RunFault};
+use running::run;
+use std::cell::RefCell;
+use std::env;
+use std::process::ExitCode;
+use stream::{FromReader, ToWriter};
+
+/// The number of bytes of a prefix that an inner node stores.
+const PREFIX_LEN: usize = 16;
+
+fn main(rt: HostRuntime) -> ExitCode {
+    let bare = match env::args(&rt) {
+        Ok(args) => args.count() <= 1,
+        Err(_) => false,
+    };
+    if !bare {
+        let _ = eprintln!(rt; "art_index: takes no arguments");
+        return ExitCode::from(2);
+    }
+    let buffer = RefCell::new(Buffer::new(rt.stdout()));
+    let mut index: Index<PREFIX_LEN> = Index::new(rt.alloc());
+    let mut source = FromReader::new(Input::new(rt.stdin(), &buffer));
+    let mut sink = ToWriter::new(Output::new(&buffer));
+    let done = run(&mut index, &mut source, &mut sink);
+    if let Err(RunFault::Read) = done {
+        let _ = eprintln!(rt; "art_index: read failed");
+        return ExitCode::from(1);
+    }
+    if done.is_err() || !Buffer::finish(&buffer) {
+        let _ = eprintln!(rt; "art_index: write failed");
+        return ExitCode::from(1);
+    }
+    ExitCode::from(0)
+}

@@ -1,0 +1,122 @@
+//! Replies, written to a sink.
+ghost use Rattle.std.specs.Prelude.{◌≡◌, ℕ, ◌^◌, ◌<◌, ◌≤◌, ◌++◌, ◌∷◌, [], List, length, OnOk, IsErr, IsTrue, false, is_err, codes, decimal};
+ghost use Rattle.hex.specs.Hex.{encode_lower};
+ghost use Rattle.art_index.specs.Words.{shown, line_of, name, natural, bytes};
+ghost use Rattle.art_index.specs.Commands.{put_words};
+
+use crate::stream::{Sink, WriteFailed};
+
+/// The bytes that are encoded at a time.
+const PART: usize = 64;
+
+/// Writes the whole piece, by as many writes as it takes.
+pub(crate) fn write_piece<W: Sink>(sink: &mut W, piece: &[u8]) -> Result<(), WriteFailed>
+    requires { W.has_failed sink.old ≡ false }
+    ensures ok { OnOk result (W.taken sink.new ≡ W.taken sink.old ++ piece.now) }
+    ensures failed { is_err result ≡ W.has_failed sink.new }
+{
+    let mut rest = piece;
+    while !rest.is_empty() {
+        let n = sink.write(rest)?;
+        rest = &rest[n..];
+    }
+    Ok(())
+}
+
+/// Writes a few bytes as lower case digits.
+fn write_part<W: Sink>(sink: &mut W, part: &[u8]) -> Result<(), WriteFailed>
+    requires open { W.has_failed sink.old ≡ false }
+    requires few { length part.now ≤ 64 }
+    ensures ok { OnOk result (W.taken sink.new ≡ W.taken sink.old ++ encode_lower part.now) }
+    ensures failed { is_err result ≡ W.has_failed sink.new }
+{
+    let mut digits = [0; 2 * PART];
+    let text = &mut digits[..2 * part.len()];
+    let _ = hex::encode_to_slice(part, text);
+    write_piece(sink, text)
+}
+
+/// Writes bytes as lower case digits, or `-` for none.
+pub(crate) fn write_bytes<W: Sink>(sink: &mut W, value: &[u8]) -> Result<(), WriteFailed>
+    requires { W.has_failed sink.old ≡ false }
+    ensures ok { OnOk result (W.taken sink.new ≡ W.taken sink.old ++ shown (bytes value.now)) }
+    ensures failed { is_err result ≡ W.has_failed sink.new }
+{
+    if value.is_empty() {
+        return write_piece(sink, b"-");
+    }
+    let mut rest = value;
+    while !rest.is_empty() {
+        let (part, after) = rest.split_at(rest.len().min(PART));
+        write_part(sink, part)?;
+        rest = after;
+    }
+    Ok(())
+}
+
+/// Writes a number in digits.
+pub(crate) fn write_number<W: Sink>(sink: &mut W, number: u64) -> Result<(), WriteFailed>
+    requires { W.has_failed sink.old ≡ false }
+    ensures ok { OnOk result (W.taken sink.new ≡ W.taken sink.old ++ decimal number) }
+    ensures failed { is_err result ≡ W.has_failed sink.new }
+{
+    let mut digits = [0; 20];
+    let mut start: usize = 20;
+    let mut rest = number;
+    while rest >= 10 {
+        start -= 1;
+        digits[start] = b'0' + (rest % 10) as u8;
+        rest /= 10;
+    }
+    start -= 1;
+    digits[start] = b'0' + rest as u8;
+    write_piece(sink, &digits[start..])
+}
+
+/// A line of one word.
+pub(crate) fn write_word<W: Sink>(sink: &mut W, word: &[u8]) -> Result<(), WriteFailed>
+    requires { W.has_failed sink.old ≡ false }
+    ensures ok { OnOk result (W.taken sink.new ≡ W.taken sink.old ++ line_of (name word.now ∷ [])) }
+    ensures failed { is_err result ≡ W.has_failed sink.new }
+{
+    write_piece(sink, word)?;
+    write_piece(sink, b"\n")
+}
+
+/// A line of a word and bytes.
+pub(crate) fn write_found<W: Sink>(sink: &mut W, word: &[u8], value: &[u8]) -> Result<(), WriteFailed>
+    requires { W.has_failed sink.old ≡ false }
+    ensures ok { OnOk result (W.taken sink.new ≡ W.taken sink.old ++ line_of (name word.now ∷ bytes value.now ∷ [])) }
+    ensures failed { is_err result ≡ W.has_failed sink.new }
+{
+    write_piece(sink, word)?;
+    write_piece(sink, b" ")?;
+    write_bytes(sink, value)?;
+    write_piece(sink, b"\n")
+}
+
+/// The line that makes a record.
+pub(crate) fn write_record<W: Sink>(sink: &mut W, tenant: u32, key: &[u8], value: &[u8]) -> Result<(), WriteFailed>
+    requires { W.has_failed sink.old ≡ false }
+    ensures ok { OnOk result (W.taken sink.new ≡ W.taken sink.old ++ line_of (put_words tenant key.now value.now)) }
+    ensures failed { is_err result ≡ W.has_failed sink.new }
+{
+    write_piece(sink, b"put ")?;
+    write_number(sink, u64::from(tenant))?;
+    write_piece(sink, b" ")?;
+    write_bytes(sink, key)?;
+    write_piece(sink, b" ")?;
+    write_bytes(sink, value)?;
+    write_piece(sink, b"\n")
+}
+
+/// The line that ends a list.
+pub(crate) fn write_end<W: Sink>(sink: &mut W, count: usize) -> Result<(), WriteFailed>
+    requires { W.has_failed sink.old ≡ false }
+    ensures ok { OnOk result (W.taken sink.new ≡ W.taken sink.old ++ line_of (name (codes "end") ∷ natural count ∷ [])) }
+    ensures failed { is_err result ≡ W.has_failed sink.new }
+{
+    write_piece(sink, b"end ")?;
+    write_number(sink, count as u64)?;
+    write_piece(sink, b"\n")
+}

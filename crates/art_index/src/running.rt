@@ -1,0 +1,120 @@
+//! From a source to a sink.
+ghost use Rattle.std.specs.Prelude.{◌≡◌, ℕ, ◌<◌, ◌≤◌, ◌++◌, ◌∷◌, ◌↔◌, [], List, length, take, OnOk, IfErr, IsTrue, is_err, true, false, Err};
+ghost use Rattle.art_index.specs.Lines.{lines_of};
+ghost use Rattle.art_index.specs.Records.{Records};
+ghost use Rattle.art_index.specs.Outcome.{IsOutcome};
+ghost use Rattle.art_index.specs.Faults.{AfterReadFault};
+ghost use Rattle.art_index.specs.Progress.{Carried, NoNewline};
+
+use crate::index::{Index, RunFault};
+use crate::stream::{Sink, Source};
+use arrayvec::ArrayVec;
+use memchr::memchr;
+
+/// The bytes that are read at a time, at most.
+const PIECE: usize = 65_536;
+
+/// The bytes of an unfinished line that are held: one more than a line may have, so that a longer one is known as such.
+const HELD: usize = 4097;
+
+/// Reads lines to the end of the input, and writes the reply to each. Before each read, the replies to all whole lines
+/// so far have been written. A last line without a newline counts, unless it is empty; after a failed read it does not.
+pub fn run<S: Source, W: Sink, const PREFIX_LEN: usize>(
+    index: &mut Index<PREFIX_LEN>,
+    source: &mut S,
+    sink: &mut W,
+) -> Result<(), RunFault>
+    requires source_open { S.has_failed source.old ≡ false }
+    requires source_goes_on { S.has_ended source.old ≡ false }
+    requires sink_open { W.has_failed sink.old ≡ false }
+
+    // Where it answers Ok, the source has ended, and what was written is the replies to the lines of the text given.
+    ensures ended { OnOk result (S.has_ended source.new ≡ true) }
+    ensures outcome { OnOk result ((text written : List ℕ)
+        × (S.given source.new ≡ S.given source.old ++ text)
+        × (W.taken sink.new ≡ W.taken sink.old ++ written)
+        × IsOutcome index.old (lines_of text) written index.new) }
+
+    // A fault is that of the end that failed.
+    ensures read { (result ≡ Err RunFault.Read) ↔ (S.has_failed source.new ≡ true) }
+    ensures write { (result ≡ Err RunFault.Write) ↔ (W.has_failed sink.new ≡ true) }
+
+    // After a failed read, the whole lines of the text given are answered.
+    ensures after_read_fault { result ≡ Err RunFault.Read → (text written : List ℕ)
+        × (S.given source.new ≡ S.given source.old ++ text)
+        × (W.taken sink.new ≡ W.taken sink.old ++ written)
+        × AfterReadFault index.old text written index.new }
+{
+    let mut held: ArrayVec<u8, 4097> = ArrayVec::new();
+    let mut buf = [0; PIECE];
+    'reads: loop {
+        let Ok(n) = source.read(&mut buf) else {
+            return Err(RunFault::Read);
+        };
+        if n == 0 {
+            break 'reads;
+        }
+        feed(index, &mut held, &buf[..n], sink)?;
+    }
+    if !held.is_empty() {
+        index.handle(held.as_slice(), sink)?;
+    }
+    Ok(())
+}
+
+/// Carries out the lines that the piece ends, and holds what stands behind them. A line that lies whole in the piece is
+/// handled there; only a line that was cut is put together.
+fn feed<W: Sink, const PREFIX_LEN: usize>(
+    index: &mut Index<PREFIX_LEN>,
+    held: &mut ArrayVec<u8, 4097>,
+    piece: &[u8],
+    sink: &mut W,
+) -> Result<(), RunFault>
+    requires { W.has_failed sink.old ≡ false }
+    ensures carried { OnOk result ((start : Records) (text before : List ℕ)
+        → Carried start index.old text held.old.items before (W.taken sink.old)
+        → Carried start index.new (text ++ piece.now) held.new.items before (W.taken sink.new)) }
+    ensures err { IfErr result (λ fault. fault ≡ RunFault.Write) }
+    ensures failed { is_err result ≡ W.has_failed sink.new }
+{
+    let mut rest = piece;
+    'lines: while let Some(at) = memchr(b'\n', rest) {
+        finish(index, held, &rest[..at], sink)?;
+        rest = &rest[at + 1..];
+    }
+    hold(held, rest);
+    Ok(())
+}
+
+/// Carries out the line that is held and then ends with the part.
+fn finish<W: Sink, const PREFIX_LEN: usize>(
+    index: &mut Index<PREFIX_LEN>,
+    held: &mut ArrayVec<u8, 4097>,
+    part: &[u8],
+    sink: &mut W,
+) -> Result<(), RunFault>
+    requires { W.has_failed sink.old ≡ false }
+    ensures carried { OnOk result ((start : Records) (text before : List ℕ)
+        → NoNewline part.now
+        → Carried start index.old text held.old.items before (W.taken sink.old)
+        → Carried start index.new (text ++ part.now ++ 10 ∷ []) held.new.items before (W.taken sink.new)) }
+    ensures err { IfErr result (λ fault. fault ≡ RunFault.Write) }
+    ensures failed { is_err result ≡ W.has_failed sink.new }
+{
+    if held.is_empty() {
+        index.handle(part, sink)?;
+        return Ok(());
+    }
+    hold(held, part);
+    index.handle(held.as_slice(), sink)?;
+    held.clear();
+    Ok(())
+}
+
+/// Adds the part to what is held, as far as there is room.
+fn hold(held: &mut ArrayVec<u8, 4097>, part: &[u8])
+    ensures { held.new.items ≡ take 4097 (held.old.items ++ part.now) }
+{
+    let room = part.len().min(HELD - held.len());
+    let _ = held.try_extend_from_slice(&part[..room]);
+}
