@@ -1,8 +1,9 @@
 //! Replies, written to a sink.
-ghost use Rattle.std.specs.Prelude.{◌≡◌, ℕ, ◌^◌, ◌<◌, ◌≤◌, ◌++◌, ◌∷◌, [], List, length, OnOk, IsErr, IsTrue, false, is_err, codes, decimal};
+ghost use Rattle.std.specs.Prelude.{◌≡◌, ℕ, ◌^◌, ◌<◌, ◌≤◌, ◌++◌, ◌∷◌, [], List, length, OnOk, IsErr, IsTrue, false, is_err, codes, decimal, option_map};
 ghost use Rattle.hex.specs.Hex.{encode_lower};
 ghost use Rattle.art_index.specs.Words.{shown, line_of, name, natural, bytes};
 ghost use Rattle.art_index.specs.Commands.{put_words};
+ghost use Rattle.art_index.specs.Replies.{found_or};
 
 use crate::stream::{Sink, WriteFailed};
 
@@ -93,6 +94,18 @@ pub(crate) fn write_found<W: Sink>(sink: &mut W, word: &[u8], value: &[u8]) -> R
     write_piece(sink, b" ")?;
     write_bytes(sink, value)?;
     write_piece(sink, b"\n")
+}
+
+/// The line of a value that was looked for.
+pub(crate) fn write_value<W: Sink>(sink: &mut W, value: Option<&[u8]>) -> Result<(), WriteFailed>
+    requires { W.has_failed sink.old ≡ false }
+    ensures ok { OnOk result (W.taken sink.new ≡ W.taken sink.old ++ line_of (found_or (option_map (λ v. v.now) value.entry) (codes "is") (codes "none"))) }
+    ensures failed { is_err result ≡ W.has_failed sink.new }
+{
+    match value {
+        Some(value) => write_found(sink, b"is", value),
+        None => write_word(sink, b"none"),
+    }
 }
 
 /// The line that makes a record.
