@@ -7,6 +7,7 @@ pub mod Carrying
 pub mod Replies
 pub mod Parsing
 pub mod Dumping
+pub mod DigitPairs
 pub mod FieldLengths
 pub mod Placing
 pub mod Putting

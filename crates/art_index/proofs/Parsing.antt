@@ -19,7 +19,9 @@ use Rattle.std.specs.Prelude.{option_copied, is_some, is_none}
 use Rattle.std.specs.Borrow.{Bor}
 use Rattle.std.specs.Result.{OkIff, result_ok, MatchResult}
 use Rattle.std.proofs.Common.{inl, inr, subst}
-use Rattle.hex.specs.Hex.{decode_of, decode_sized, decode_pairs}
+use Rattle.hex.specs.Hex.{decode_of, decode_pairs}
+use Rattle.hex.proofs.HexLemmas.{decode_of-odd}
+use Rattle.std.specs.Prelude.{◌%◌}
 use Rattle.hex.specs.declared.error.FromHexError.{FromHexError}
 use Rattle.art_index.specs.Commands.{fields_of, dump}
 use Rattle.art_index.specs.Reading.{tenant_in, bytes_in, some_bytes, put_in, get_in, dump_in, command_in, command_of}
@@ -190,46 +192,37 @@ pub bytes_dash : (text : List ℕ) → true ≡ bytes_eq text (codes "-") → So
 unfolding bytes_in
 bytes_dash text h = let e = sym h in rw e refl
 
-decode_half : (text : List ℕ) → decode_sized text (length text / 2) ≡ decode_of text
-decode_half text = rw (eq-eqb (length text / 2) (length text / 2) refl) refl
-
 pub bytes_short : (text : List ℕ) → false ≡ bytes_eq text (codes "-") → length text / 2 ≡ 0 → None ≡ bytes_in text
 unfolding bytes_in decode_pairs
 bytes_short [] h e = refl
 bytes_short (x ∷ []) h e = let f = sym h in rw f refl
 bytes_short (x ∷ y ∷ r) h e = absurd (omega arith)
 
-pub bytes_bad : (text : List ℕ) (n : ℕ) (e : FromHexError) → false ≡ bytes_eq text (codes "-") → n ≡ length text / 2 → decode_sized text n ≡ Err e → None ≡ bytes_in text
+pub bytes_odd : (text : List ℕ) → false ≡ bytes_eq text (codes "-") → length text % 2 ≡ 1 → None ≡ bytes_in text
 unfolding bytes_in
-bytes_bad text n e h half d = let f = sym h in let g = sym (ap (decode_sized text) half ∙ decode_half text) ∙ d in rw (f, g) refl
+bytes_odd text h odd = let f = sym h in rw (f, decode_of-odd text odd) refl
 
-pub bytes_good : (text : List ℕ) (n : ℕ) (bytes : List ℕ) → false ≡ bytes_eq text (codes "-") → n ≡ length text / 2 → decode_sized text n ≡ Ok bytes → 0 < length bytes → Some bytes ≡ bytes_in text
+bytes_bad : (text : List ℕ) → false ≡ bytes_eq text (codes "-") → is_ok (decode_of text) ≡ false → None ≡ bytes_in text
 unfolding bytes_in
-bytes_good text n [] h half d some = absurd (omega arith)
-bytes_good text n (b ∷ bs) h half d some = let f = sym h in let g = sym (ap (decode_sized text) half ∙ decode_half text) ∙ d in rw (f, g) refl
-
--- what `decode_to_slice` says of its room
-abbrev Decodes : List ℕ → ℕ → Result (Unit {0}) FromHexError → List ℕ → Type 0
-Decodes text n r new = MatchResult (decode_sized text n) (λ bytes. (r ≡ Ok tt) × (new ≡ bytes)) (λ e. r ≡ Err e)
-
-pub decoded : (text : List ℕ) (n : ℕ) (b : Bool) (r : Result (Unit {0}) FromHexError) (xs new : List ℕ) → Decodes text (length xs) r new → b ≡ is_ok r
-  → false ≡ bytes_eq text (codes "-") → length text / 2 ≡ n → 0 < n → length xs ≡ n → length new ≡ n
-  → MatchBool b (Some (refill (length xs) xs new) ≡ bytes_in text) (None ≡ bytes_in text)
-decoded text n b r xs new d tells other half some long same = go (decode_sized text (length xs)) refl d
+bytes_bad text h bad = let f = sym h in rw f (go (decode_of text) bad)
   where
-    whole : refill (length xs) xs new ≡ new
-    whole =
-        let fits : length xs ≤ length new = omega arith in let all : length new ≤ length xs = omega arith in
-        take-append-le (length xs) new (drop (length new) xs) fits ∙ take_all (length xs) new all
+    go : (r : Result (List ℕ) FromHexError) → is_ok r ≡ false → None ≡ some_bytes r
+    go (Ok bytes) e = absurd (true≢false e)
+    go (Err x) e = refl
 
-    go : (o : Result (List ℕ) FromHexError) → decode_sized text (length xs) ≡ o → MatchResult o (λ bytes. (r ≡ Ok tt) × (new ≡ bytes)) (λ e. r ≡ Err e)
-      → MatchBool b (Some (refill (length xs) xs new) ≡ bytes_in text) (None ≡ bytes_in text)
-    go (Ok bytes) is m =
-        let good = m.0 in let yes : b ≡ true = tells ∙ ap is_ok good in
-        rw (yes, whole) (bytes_good text (length xs) new other (omega arith) (is ∙ ap (λ l. Ok l) (sym m.1)) (omega arith))
-    go (Err e) is m =
-        let none : b ≡ false = tells ∙ ap is_ok m in
-        rw none (bytes_bad text (length xs) e other (omega arith) is)
+bytes_good : (text bytes : List ℕ) → false ≡ bytes_eq text (codes "-") → decode_of text ≡ Ok bytes → 0 < length bytes → Some bytes ≡ bytes_in text
+unfolding bytes_in
+bytes_good text [] h d some = absurd (omega arith)
+bytes_good text (b ∷ bs) h d some = let f = sym h in rw (f, d) refl
+
+-- what was decoded over some bytes
+pub decoded : (text : List ℕ) (b : Bool) (xs new : List ℕ) → MatchBool b (decode_of text ≡ Ok new) (is_ok (decode_of text) ≡ false)
+  → false ≡ bytes_eq text (codes "-") → 0 < length new → length new ≡ length xs
+  → MatchBool b (Some (refill (length xs) xs new) ≡ bytes_in text) (None ≡ bytes_in text)
+decoded text true xs new d other some same =
+    let fits : length xs ≤ length new = omega arith in let all : length new ≤ length xs = omega arith in
+    ap (λ l. Some l) (take-append-le (length xs) new (drop (length new) xs) fits ∙ take_all (length xs) new all) ∙ bytes_good text new other d some
+decoded text false xs new d other some same = bytes_bad text other d
 
 -- whether a command was read, where that is told
 pub read_none : (b : Bool) (command : Command) (o : Option Asked.Command) → IsRead b command o → b ≡ false → None ≡ o

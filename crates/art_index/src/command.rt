@@ -4,6 +4,7 @@ ghost use Rattle.art_index.specs.Commands.{Command as AskedCommand, Spells, fiel
 ghost use Rattle.art_index.specs.Reading.{tenant_in, bytes_in, command_of, put_in, get_in, dump_in};
 ghost use Rattle.art_index.specs.Parsed.{meaning, fields_behind, IsRead, IsPut, IsGet};
 
+use crate::digits::decode_digits;
 use arrayvec::ArrayVec;
 use memchr::memchr;
 
@@ -238,9 +239,12 @@ fn decode_bytes(field: &[u8], bytes: &mut ArrayVec<u8, 2045>) -> bool
     if len == 0 {
         return false;
     }
+    if field.len() % 2 != 0 {
+        return false;
+    }
     // As many bytes as are decoded; what they are does not matter, since they are decoded over.
     let _ = bytes.try_extend_from_slice(&field[..len]);
-    hex::decode_to_slice(field, bytes.as_mut_slice()).is_ok()
+    decode_digits(field, bytes.as_mut_slice())
 }
 
 /// Room for commands as they are read, one for each word that has fields.

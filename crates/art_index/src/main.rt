@@ -5,6 +5,7 @@
 
 mod buffered;
 mod command;
+mod digits;
 mod entries;
 mod entry;
 mod history;
