@@ -3,6 +3,26 @@
 ghost use Rattle.std.specs.Prelude.{◌≡◌, ◌*◌, ◌<◌, ◌≤◌, length, MatchBool, Some, None, Ok, is_ok, false};
 ghost use Rattle.hex.specs.Hex.{hex_digit_value, decode_of};
 
+/// The value of each byte as a digit of either case, and 16 where it is none.
+static VALUES: [u8; 256] = [
+    16, 16, 16, 16, 16, 16, 16, 16, 16, 16, 16, 16, 16, 16, 16, 16,
+    16, 16, 16, 16, 16, 16, 16, 16, 16, 16, 16, 16, 16, 16, 16, 16,
+    16, 16, 16, 16, 16, 16, 16, 16, 16, 16, 16, 16, 16, 16, 16, 16,
+    0, 1, 2, 3, 4, 5, 6, 7, 8, 9, 16, 16, 16, 16, 16, 16,
+    16, 10, 11, 12, 13, 14, 15, 16, 16, 16, 16, 16, 16, 16, 16, 16,
+    16, 16, 16, 16, 16, 16, 16, 16, 16, 16, 16, 16, 16, 16, 16, 16,
+    16, 10, 11, 12, 13, 14, 15, 16, 16, 16, 16, 16, 16, 16, 16, 16,
+    16, 16, 16, 16, 16, 16, 16, 16, 16, 16, 16, 16, 16, 16, 16, 16,
+    16, 16, 16, 16, 16, 16, 16, 16, 16, 16, 16, 16, 16, 16, 16, 16,
+    16, 16, 16, 16, 16, 16, 16, 16, 16, 16, 16, 16, 16, 16, 16, 16,
+    16, 16, 16, 16, 16, 16, 16, 16, 16, 16, 16, 16, 16, 16, 16, 16,
+    16, 16, 16, 16, 16, 16, 16, 16, 16, 16, 16, 16, 16, 16, 16, 16,
+    16, 16, 16, 16, 16, 16, 16, 16, 16, 16, 16, 16, 16, 16, 16, 16,
+    16, 16, 16, 16, 16, 16, 16, 16, 16, 16, 16, 16, 16, 16, 16, 16,
+    16, 16, 16, 16, 16, 16, 16, 16, 16, 16, 16, 16, 16, 16, 16, 16,
+    16, 16, 16, 16, 16, 16, 16, 16, 16, 16, 16, 16, 16, 16, 16, 16,
+];
+
 /// The value of a digit of either case, and 16 for any other byte.
 #[inline]
 fn digit_value(digit: u8) -> u8
@@ -10,20 +30,7 @@ fn digit_value(digit: u8) -> u8
     ensures none { 15 < result → hex_digit_value digit ≡ None }
     ensures bound { result ≤ 16 }
 {
-    let mut value = 16;
-    let number = digit.wrapping_sub(b'0');
-    if number < 10 {
-        value = number;
-    }
-    let lower = digit.wrapping_sub(b'a');
-    if lower < 6 {
-        value = lower + 10;
-    }
-    let upper = digit.wrapping_sub(b'A');
-    if upper < 6 {
-        value = upper + 10;
-    }
-    value
+    VALUES[usize::from(digit)]
 }
 
 /// Decodes the digits over what was there: false where one of them is none.
