@@ -4,7 +4,7 @@ ghost use Rattle.std.specs.Prelude.{◌≡◌, ℕ, ◌+◌, ◌<◌, ◌≤◌,
 use crate::command::{Command, Slots};
 use crate::entries::{put_entry, value_of, write_entries, write_placed};
 use crate::entry::Entry;
-use crate::reply::{write_value, write_word};
+use crate::reply::{write_piece, write_value};
 use crate::stream::{Sink, WriteFailed};
 use std::alloc::Global;
 use std::marker::Model;
@@ -110,7 +110,7 @@ impl<const PREFIX_LEN: usize> Index<PREFIX_LEN> {
                 write_placed(sink, &placed)?;
             }
             Some(Command::Dump) => write_entries(&self.entries, sink)?,
-            None => write_word(sink, b"bad")?,
+            None => write_piece(sink, b"bad\n")?,
         }
         Ok(Handled { memory, visits: 0 })
     }

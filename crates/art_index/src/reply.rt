@@ -74,16 +74,6 @@ pub(crate) fn write_number<W: Sink>(sink: &mut W, number: u64) -> Result<(), Wri
     write_piece(sink, &digits[start..])
 }
 
-/// A line of one word.
-pub(crate) fn write_word<W: Sink>(sink: &mut W, word: &[u8]) -> Result<(), WriteFailed>
-    requires { W.has_failed sink.old ≡ false }
-    ensures ok { OnOk result (W.taken sink.new ≡ W.taken sink.old ++ line_of (name word.now ∷ [])) }
-    ensures failed { is_err result ≡ W.has_failed sink.new }
-{
-    write_piece(sink, word)?;
-    write_piece(sink, b"\n")
-}
-
 /// A line of a word and bytes.
 pub(crate) fn write_found<W: Sink>(sink: &mut W, word: &[u8], value: &[u8]) -> Result<(), WriteFailed>
     requires { W.has_failed sink.old ≡ false }
@@ -104,7 +94,7 @@ pub(crate) fn write_value<W: Sink>(sink: &mut W, value: Option<&[u8]>) -> Result
 {
     match value {
         Some(value) => write_found(sink, b"is", value),
-        None => write_word(sink, b"none"),
+        None => write_piece(sink, b"none\n"),
     }
 }
 

@@ -65,13 +65,13 @@ pub returns-in_ok-write_entries-in-Some-Dump-clause-left :
 returns-in_ok-write_entries-in-Some-Dump-clause-left g c =
     c.self.view_is ∙ dump_left c.args.self.now c.args.line.now (ap (λ x. Some (meaning x)) (sym c.in-Some-Dump.field-0-is) ∙ c.in-Some-Dump.ensures.value)
 
-pub returns-in_ok-write_word-in-None-clause-told :
-    goal.returns-in_ok-write_word-in-None-clause-told
-returns-in_ok-write_word-in-None-clause-told g c = c.in_ok-write_word-in-None.ensures.ok ∙ ap (λ t. g.W.Sink.taken c.args.sink.now ++ t) (bad_told c.args.self.now c.args.line.now c.in-None.ensures.value)
+pub returns-in_ok-write_piece-in-None-clause-told :
+    goal.returns-in_ok-write_piece-in-None-clause-told
+returns-in_ok-write_piece-in-None-clause-told g c = c.in_ok-write_piece-in-None.ensures.ok ∙ ap (λ t. g.W.Sink.taken c.args.sink.now ++ t) (bad_told c.args.self.now c.args.line.now c.in-None.ensures.value)
 
-pub returns-in_ok-write_word-in-None-clause-left :
-    goal.returns-in_ok-write_word-in-None-clause-left
-returns-in_ok-write_word-in-None-clause-left g c = c.self.view_is ∙ bad_left c.args.self.now c.args.line.now c.in-None.ensures.value
+pub returns-in_ok-write_piece-in-None-clause-left :
+    goal.returns-in_ok-write_piece-in-None-clause-left
+returns-in_ok-write_piece-in-None-clause-left g c = c.self.view_is ∙ bad_left c.args.self.now c.args.line.now c.in-None.ensures.value
 
 pub returns-in_ok-write_placed-in-Some-Put-clause-lawful : goal.returns-in_ok-write_placed-in-Some-Put-clause-lawful
 returns-in_ok-write_placed-in-Some-Put-clause-lawful g c = λ _.
