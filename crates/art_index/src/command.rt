@@ -214,7 +214,7 @@ fn parse_tenant(field: &[u8]) -> Option<u32>
         return None;
     }
     if field.len() > 1 && field[0] == b'0' {
-        return None;
+        return None; // `01`
     }
     let mut number: u64 = 0;
     for digit in field {

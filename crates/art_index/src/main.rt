@@ -8,6 +8,7 @@ mod command;
 mod digits;
 mod entries;
 mod entry;
+mod from_reader;
 mod history;
 mod index;
 mod laws;
@@ -16,14 +17,16 @@ mod running;
 mod stream;
 #[cfg(test)]
 mod tests;
+mod to_writer;
 
 use buffered::{Buffer, Input, Output};
+use from_reader::FromReader;
 use index::{Index, RunFault};
 use running::run;
 use std::cell::RefCell;
 use std::env;
 use std::process::ExitCode;
-use stream::{FromReader, ToWriter};
+use to_writer::ToWriter;
 
 /// The number of bytes of a prefix that an inner node stores.
 const PREFIX_LEN: usize = 16;

@@ -1,9 +1,11 @@
 //! What no clause says: worked lines from outside, however they are cut, and both ends failing at each place.
 use crate::command::{Command, parse_line};
+use crate::from_reader::FromReader;
 use crate::index::{Index, RunFault};
 use crate::laws;
 use crate::running::run;
-use crate::stream::{FromReader, Sink, Source, ToWriter};
+use crate::stream::{Sink, Source};
+use crate::to_writer::ToWriter;
 use std::alloc::Global;
 use std::io;
 use std::io::{Read, Write};
