@@ -45,13 +45,16 @@ fn main(rt: HostRuntime) -> ExitCode {
     let mut source = FromReader::new(Input::new(rt.stdin(), &buffer));
     let mut sink = ToWriter::new(Output::new(&buffer));
     let done = run(&mut index, &mut source, &mut sink);
-    if let Err(RunFault::Read) = done {
-        let _ = eprintln!(rt; "art_index: read failed");
-        return ExitCode::from(1);
+    let flushed = Buffer::finish(&buffer);
+    match done {
+        Err(RunFault::Read) => {
+            let _ = eprintln!(rt; "art_index: read failed");
+            ExitCode::from(1)
+        }
+        Ok(()) if flushed => ExitCode::from(0),
+        _ => {
+            let _ = eprintln!(rt; "art_index: write failed");
+            ExitCode::from(1)
+        }
     }
-    if done.is_err() || !Buffer::finish(&buffer) {
-        let _ = eprintln!(rt; "art_index: write failed");
-        return ExitCode::from(1);
-    }
-    ExitCode::from(0)
 }

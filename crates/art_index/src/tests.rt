@@ -278,6 +278,8 @@ fn handles_a_line(rt: HostRuntime) -> Result<(), Fail> {
     laws::others_are_untouched();
     laws::own_is_in_place();
     laws::spells_one_command();
+    laws::full_keys_keep_order();
+    laws::full_keys_keep_conflicts();
     Ok(())
 }
 
