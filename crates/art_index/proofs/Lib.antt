@@ -1,4 +1,4 @@
-pub mod Rows
+pub mod Examples
 pub mod Walks
 pub mod LineLemmas
 pub mod RunLemmas
@@ -7,6 +7,8 @@ pub mod Carrying
 pub mod Replies
 pub mod Parsing
 pub mod Dumping
+pub mod FullKeys
+pub mod DigitPairs
 pub mod FieldLengths
 pub mod Placing
 pub mod Putting

@@ -4,7 +4,9 @@ use Rattle.std.specs.Prelude.{◌==◌, decimal, nat_lt, ◌&&◌, codes}
 use Rattle.std.specs.List.{slice_split, onto_first}
 use Rattle.std.specs.Str.{bytes_eq}
 use Rattle.std.proofs.lemmas.Bool.{ne_eqb, eq-eqb}
-use Rattle.std.proofs.lemmas.List.{take_rest}
+use Rattle.std.proofs.lemmas.List.{take_rest, take-append-le, take_all}
+use Rattle.std.specs.List.{refill}
+use Rattle.std.specs.Prelude.{MatchBool, is_ok}
 use Rattle.std.proofs.Math.Seq.{drop-cons}
 use Rattle.std.specs.Str.Parse.{digits_value, digits_value_after, AllDigits}
 use Rattle.std.specs.Char.{digit_value}
@@ -17,11 +19,15 @@ use Rattle.std.specs.Prelude.{option_copied, is_some, is_none}
 use Rattle.std.specs.Borrow.{Bor}
 use Rattle.std.specs.Result.{OkIff, result_ok, MatchResult}
 use Rattle.std.proofs.Common.{inl, inr, subst}
-use Rattle.hex.specs.Hex.{decode_of, decode_sized, decode_pairs}
+use Rattle.hex.specs.Hex.{decode_of, decode_pairs}
+use Rattle.hex.proofs.HexLemmas.{decode_of-odd}
+use Rattle.std.specs.Prelude.{◌%◌}
 use Rattle.hex.specs.declared.error.FromHexError.{FromHexError}
 use Rattle.art_index.specs.Commands.{fields_of, dump}
 use Rattle.art_index.specs.Reading.{tenant_in, bytes_in, some_bytes, put_in, get_in, dump_in, command_in, command_of}
-use Rattle.art_index.specs.Parsed.{fields_behind}
+use Rattle.art_index.specs.Commands as Asked
+use Rattle.art_index.specs.Parsed.{fields_behind, meaning, IsRead}
+use Rattle.art_index.specs.declared.command.Command.{Command}
 
 -- the fields_of of a line whose first space is at a place
 fields_at : (line : List ℕ) (i : ℕ) → i < length line → get_or line i 0 ≡ 32 → ((k : ℕ) → k < i → get_or line k 0 ≡ 32 → ⊥)
@@ -186,48 +192,46 @@ pub bytes_dash : (text : List ℕ) → true ≡ bytes_eq text (codes "-") → So
 unfolding bytes_in
 bytes_dash text h = let e = sym h in rw e refl
 
-decode_half : (text : List ℕ) → decode_sized text (length text / 2) ≡ decode_of text
-decode_half text = rw (eq-eqb (length text / 2) (length text / 2) refl) refl
-
 pub bytes_short : (text : List ℕ) → false ≡ bytes_eq text (codes "-") → length text / 2 ≡ 0 → None ≡ bytes_in text
 unfolding bytes_in decode_pairs
 bytes_short [] h e = refl
 bytes_short (x ∷ []) h e = let f = sym h in rw f refl
 bytes_short (x ∷ y ∷ r) h e = absurd (omega arith)
 
-pub bytes_bad : (text : List ℕ) (n : ℕ) (e : FromHexError) → false ≡ bytes_eq text (codes "-") → n ≡ length text / 2 → decode_sized text n ≡ Err e → None ≡ bytes_in text
+pub bytes_odd : (text : List ℕ) → false ≡ bytes_eq text (codes "-") → length text % 2 ≡ 1 → None ≡ bytes_in text
 unfolding bytes_in
-bytes_bad text n e h half d = let f = sym h in let g = sym (ap (decode_sized text) half ∙ decode_half text) ∙ d in rw (f, g) refl
+bytes_odd text h odd = let f = sym h in rw (f, decode_of-odd text odd) refl
 
-pub bytes_good : (text : List ℕ) (n : ℕ) (bytes : List ℕ) → false ≡ bytes_eq text (codes "-") → n ≡ length text / 2 → decode_sized text n ≡ Ok bytes → 0 < length bytes → Some bytes ≡ bytes_in text
+bytes_bad : (text : List ℕ) → false ≡ bytes_eq text (codes "-") → is_ok (decode_of text) ≡ false → None ≡ bytes_in text
 unfolding bytes_in
-bytes_good text n [] h half d some = absurd (omega arith)
-bytes_good text n (b ∷ bs) h half d some = let f = sym h in let g = sym (ap (decode_sized text) half ∙ decode_half text) ∙ d in rw (f, g) refl
-
--- what `decode_to_slice` says of its room
-abbrev Decodes : List ℕ → ℕ → Result (Unit {0}) FromHexError → List ℕ → Type 0
-Decodes text n r new = MatchResult (decode_sized text n) (λ bytes. (r ≡ Ok tt) × (new ≡ bytes)) (λ e. r ≡ Err e)
-
-ok_differs : (r : Result (Unit {0}) FromHexError) → None ≡ result_ok r → r ≡ Ok tt → ⊥
-ok_differs (Ok x) h e = cc
-ok_differs (Err x) h e = cc
-
-err_differs : (e : FromHexError) (r : Result (Unit {0}) FromHexError) → Some tt ≡ result_ok r → r ≡ Err e → ⊥
-err_differs e (Ok x) h i = cc
-err_differs e (Err x) h i = cc
-
-pub bytes_err : (text : List ℕ) (n : ℕ) (r : Result (Unit {0}) FromHexError) (new : List ℕ) → Decodes text n r new → None ≡ result_ok r
-  → false ≡ bytes_eq text (codes "-") → n ≡ length text / 2 → None ≡ bytes_in text
-bytes_err text n r new d none h half = go (decode_sized text n) refl d
+bytes_bad text h bad = let f = sym h in rw f (go (decode_of text) bad)
   where
-    go : (o : Result (List ℕ) FromHexError) → decode_sized text n ≡ o → MatchResult o (λ bytes. (r ≡ Ok tt) × (new ≡ bytes)) (λ e. r ≡ Err e) → None ≡ bytes_in text
-    go (Ok bytes) is m = let e = m.0 in absurd (ok_differs r none e)
-    go (Err e) is m = bytes_bad text n e h half is
+    go : (r : Result (List ℕ) FromHexError) → is_ok r ≡ false → None ≡ some_bytes r
+    go (Ok bytes) e = absurd (true≢false e)
+    go (Err x) e = refl
 
-pub bytes_ok : (text : List ℕ) (n : ℕ) (r : Result (Unit {0}) FromHexError) (new : List ℕ) → Decodes text n r new → Some tt ≡ result_ok r
-  → false ≡ bytes_eq text (codes "-") → n ≡ length text / 2 → 0 < length new → Some new ≡ bytes_in text
-bytes_ok text n r new d some h half long = go (decode_sized text n) refl d
-  where
-    go : (o : Result (List ℕ) FromHexError) → decode_sized text n ≡ o → MatchResult o (λ bytes. (r ≡ Ok tt) × (new ≡ bytes)) (λ e. r ≡ Err e) → Some new ≡ bytes_in text
-    go (Ok bytes) is m = bytes_good text n new h half (is ∙ ap (λ b. Ok b) (sym m.1)) long
-    go (Err e) is m = absurd (err_differs e r some m)
+bytes_good : (text bytes : List ℕ) → false ≡ bytes_eq text (codes "-") → decode_of text ≡ Ok bytes → 0 < length bytes → Some bytes ≡ bytes_in text
+unfolding bytes_in
+bytes_good text [] h d some = absurd (omega arith)
+bytes_good text (b ∷ bs) h d some = let f = sym h in rw (f, d) refl
+
+-- what was decoded over some bytes
+pub decoded : (text : List ℕ) (b : Bool) (xs new : List ℕ) → MatchBool b (decode_of text ≡ Ok new) (is_ok (decode_of text) ≡ false)
+  → false ≡ bytes_eq text (codes "-") → 0 < length new → length new ≡ length xs
+  → MatchBool b (Some (refill (length xs) xs new) ≡ bytes_in text) (None ≡ bytes_in text)
+decoded text true xs new d other some same =
+    let fits : length xs ≤ length new = omega arith in let all : length new ≤ length xs = omega arith in
+    ap (λ l. Some l) (take-append-le (length xs) new (drop (length new) xs) fits ∙ take_all (length xs) new all) ∙ bytes_good text new other d some
+decoded text false xs new d other some same = bytes_bad text other d
+
+-- whether a command was read, where that is told
+pub read_none : (b : Bool) (command : Command) (o : Option Asked.Command) → IsRead b command o → b ≡ false → None ≡ o
+read_none false command o h e = h
+read_none true command o h e = absurd (true≢false e)
+
+pub read_some : (b : Bool) (command : Command) (o : Option Asked.Command) → IsRead b command o → b ≡ true → Some (meaning command) ≡ o
+read_some true command o h e = h
+read_some false command o h e = absurd (true≢false (sym e))
+
+pub read_same : (b : Bool) (command : Command) (o p : Option Asked.Command) → IsRead b command o → o ≡ p → IsRead b command p
+read_same b command o p h e = subst (IsRead b command) e h

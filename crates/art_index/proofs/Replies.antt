@@ -19,7 +19,7 @@ after_is : (o : Option Command) (r : Records) (line : List ℕ) → o ≡ comman
 unfolding records_after
 after_is o r line e = ap (λ p. command_after p r) e
 
-told_once : (ws : List Word) (o : Option Command) (r : Records) (line : List ℕ) → o ≡ command_of line → ws ∷ [] ≡ command_reply o r → line_of ws ≡ reply_to r line
+pub told_once : (ws : List Word) (o : Option Command) (r : Records) (line : List ℕ) → o ≡ command_of line → ws ∷ [] ≡ command_reply o r → line_of ws ≡ reply_to r line
 told_once ws o r line e h = sym (append-nil (line_of ws)) ∙ ap (flat_map line_of) h ∙ reply_is o r line e
 
 pub placed_told : (p : Placed) (old new : Records) (t : ℕ) (k v line : List ℕ) → Some (of_tenant t (put k v)) ≡ command_of line

@@ -1,6 +1,7 @@
 -- Laws of the definitions, each proved on a function of `laws`.
-use Rattle.std.specs.Prelude.{◌≡◌, ◌≢◌, ℕ, List}
+use Rattle.std.specs.Prelude.{◌≡◌, ◌≢◌, ℕ, ◌^◌, ◌<◌, ◌==◌, ◌||◌, ◌&&◌, nat_lt, List}
 use Rattle.art_index.specs.Commands.{Command, Spells}
+use Rattle.art_index.specs.Keys.{is_below, conflicts, full_key}
 use Rattle.art_index.specs.Records.{Own, Records, AreRecords, own, with_own}
 
 -- what is put in place for a tenant is what it holds then
@@ -19,3 +20,13 @@ OwnIsInPlace = (tenant : ℕ) (records : Records) → AreRecords records → wit
 -- no line spells two commands
 abbrev pub SpellsOneCommand : Type 0
 SpellsOneCommand = (line : List ℕ) (a b : Command) → Spells line a → Spells line b → a ≡ b
+
+-- full keys are in order where their tenants are, and within a tenant where its keys are
+abbrev pub FullKeysKeepOrder : Type 0
+FullKeysKeepOrder = (t u : ℕ) (k j : List ℕ) → t < 2 ^ 32 → u < 2 ^ 32
+    → is_below (full_key t k) (full_key u j) ≡ (nat_lt t u || ((t == u) && is_below k j))
+
+-- full keys conflict where they are one tenant's and its keys do
+abbrev pub FullKeysKeepConflicts : Type 0
+FullKeysKeepConflicts = (t u : ℕ) (k j : List ℕ) → t < 2 ^ 32 → u < 2 ^ 32
+    → conflicts (full_key t k) (full_key u j) ≡ ((t == u) && conflicts k j)

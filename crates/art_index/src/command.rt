@@ -1,19 +1,18 @@
 //! Commands, and how a line spells one.
-ghost use Rattle.std.specs.Prelude.{◌≡◌, ℕ, ◌+◌, ◌*◌, ◌<◌, ◌≤◌, ◌≢◌, ◌↔◌, ◌∷◌, [], List, length, Option, Some, None, IfSome, IfNone, IsSome, option_map, option_copied, OnSome};
+ghost use Rattle.std.specs.Prelude.{◌≡◌, ℕ, ◌+◌, ◌*◌, ◌<◌, ◌≤◌, ◌≢◌, ◌↔◌, ◌∷◌, [], List, length, Option, Some, None, IfSome, IfNone, IsSome, MatchBool, option_map, option_copied, OnSome};
 ghost use Rattle.art_index.specs.Commands.{Command as AskedCommand, Spells, fields_of};
 ghost use Rattle.art_index.specs.Reading.{tenant_in, bytes_in, command_of, put_in, get_in, dump_in};
-ghost use Rattle.art_index.specs.Parsed.{meaning, fields_behind};
+ghost use Rattle.art_index.specs.Parsed.{meaning, fields_behind, IsRead, IsPut, IsGet};
 
+use crate::digits::decode_digits;
 use arrayvec::ArrayVec;
 use memchr::memchr;
-
-/// The longest decoded field in bytes: the key of `get 0 k`.
-const FIELD: usize = 2045;
 
 /// The longest line in bytes, without its newline.
 const LINE: usize = 4096;
 
 /// What a line asks for.
+#[derive(Drop)]
 pub enum Command {
     /// `put t k v`: puts a value at a tenant's key.
     Put {
@@ -37,54 +36,158 @@ pub fn parse_line(line: &[u8]) -> Option<Command>
     // It is the one command that the line spells, and None exactly where the line spells none.
     ensures spelled { (command : AskedCommand) → (option_map meaning result ≡ Some command) ↔ Spells line.now command }
 {
-    if line.len() > LINE {
+    let mut command = Command::Dump;
+    if !read_line(line, &mut command) {
         return None;
+    }
+    Some(command)
+}
+
+/// Reads the line as a command in place of what was there, so that fields are decoded where they stay: true where it is one.
+fn read_line(line: &[u8], command: &mut Command) -> bool
+    ensures { IsRead result command.new (command_of line.now) }
+{
+    if line.len() > LINE {
+        return false;
     }
     let (word, rest) = split_field(line);
     if word == b"put".as_slice() {
-        return parse_put(rest);
+        return read_put(rest, command);
     }
     if word == b"get".as_slice() {
-        return parse_get(rest);
+        return read_get(rest, command);
     }
     if word == b"dump".as_slice() && rest.is_none() {
-        return Some(Command::Dump);
+        become_dump(command);
+        return true;
     }
-    None
+    false
 }
 
-/// The command that the fields behind `put` make.
-fn parse_put(rest: Option<&[u8]>) -> Option<Command>
+/// Reads the fields behind `put`.
+fn read_put(rest: Option<&[u8]>, command: &mut Command) -> bool
     requires { IfSome rest (λ text. length text.now ≤ 4092) }
-    ensures { option_map meaning result ≡ put_in (fields_behind (option_copied rest.entry)) }
+    ensures { IsRead result command.new (put_in (fields_behind (option_copied rest.entry))) }
 {
-    let (tenant, rest) = split_field(rest?);
-    let (key, rest) = split_field(rest?);
-    let (value, rest) = split_field(rest?);
+    let Some(text) = rest else {
+        return false;
+    };
+    let (tenant, rest) = split_field(text);
+    let Some(text) = rest else {
+        return false;
+    };
+    let (key, rest) = split_field(text);
+    let Some(text) = rest else {
+        return false;
+    };
+    let (value, rest) = split_field(text);
     if rest.is_some() {
-        return None;
+        return false;
     }
-    Some(Command::Put {
-        tenant: parse_tenant(tenant)?,
-        key: parse_bytes(key)?,
-        value: parse_bytes(value)?,
-    })
+    fill_put(tenant, key, value, command)
 }
 
-/// The command that the fields behind `get` make.
-fn parse_get(rest: Option<&[u8]>) -> Option<Command>
+/// Reads the fields behind `get`.
+fn read_get(rest: Option<&[u8]>, command: &mut Command) -> bool
     requires { IfSome rest (λ text. length text.now ≤ 4092) }
-    ensures { option_map meaning result ≡ get_in (fields_behind (option_copied rest.entry)) }
+    ensures { IsRead result command.new (get_in (fields_behind (option_copied rest.entry))) }
 {
-    let (tenant, rest) = split_field(rest?);
-    let (key, rest) = split_field(rest?);
+    let Some(text) = rest else {
+        return false;
+    };
+    let (tenant, rest) = split_field(text);
+    let Some(text) = rest else {
+        return false;
+    };
+    let (key, rest) = split_field(text);
     if rest.is_some() {
-        return None;
+        return false;
     }
-    Some(Command::Get {
-        tenant: parse_tenant(tenant)?,
-        key: parse_bytes(key)?,
-    })
+    fill_get(tenant, key, command)
+}
+
+/// Makes a `put` of its fields.
+fn fill_put(tenant: &[u8], key: &[u8], value: &[u8], command: &mut Command) -> bool
+    requires { length tenant.now + 1 + length key.now + 1 + length value.now ≤ 4092 }
+    ensures { IsRead result command.new (put_in (tenant.now ∷ key.now ∷ value.now ∷ [])) }
+{
+    let Some(number) = parse_tenant(tenant) else {
+        return false;
+    };
+    if !matches!(command, Command::Put { .. }) {
+        become_put(command);
+    }
+    match command {
+        Command::Put {
+            tenant: tenant_slot,
+            key: key_slot,
+            value: value_slot,
+        } => {
+            *tenant_slot = number;
+            if !decode_bytes(key, key_slot) {
+                return false;
+            }
+            decode_bytes(value, value_slot)
+        }
+        _ => unreachable!(),
+    }
+}
+
+/// Makes a `get` of its fields.
+fn fill_get(tenant: &[u8], key: &[u8], command: &mut Command) -> bool
+    requires { length tenant.now + 1 + length key.now ≤ 4092 }
+    ensures { IsRead result command.new (get_in (tenant.now ∷ key.now ∷ [])) }
+{
+    let Some(number) = parse_tenant(tenant) else {
+        return false;
+    };
+    if !matches!(command, Command::Get { .. }) {
+        become_get(command);
+    }
+    match command {
+        Command::Get {
+            tenant: tenant_slot,
+            key: key_slot,
+        } => {
+            *tenant_slot = number;
+            decode_bytes(key, key_slot)
+        }
+        _ => unreachable!(),
+    }
+}
+
+/// Makes room for a `put`. It stands apart, since a function pays for the room of its values at each call.
+#[cold]
+#[inline(never)]
+fn become_put(command: &mut Command)
+    ensures { IsPut command.new }
+{
+    *command = Command::Put {
+        tenant: 0,
+        key: ArrayVec::new(),
+        value: ArrayVec::new(),
+    };
+}
+
+/// Makes room for a `get`.
+#[cold]
+#[inline(never)]
+fn become_get(command: &mut Command)
+    ensures { IsGet command.new }
+{
+    *command = Command::Get {
+        tenant: 0,
+        key: ArrayVec::new(),
+    };
+}
+
+/// Makes it a `dump`.
+#[cold]
+#[inline(never)]
+fn become_dump(command: &mut Command)
+    ensures { command.new ≡ Command.Dump }
+{
+    *command = Command::Dump;
 }
 
 /// The field before the first space, and what stands behind that space.
@@ -111,7 +214,7 @@ fn parse_tenant(field: &[u8]) -> Option<u32>
         return None;
     }
     if field.len() > 1 && field[0] == b'0' {
-        return None;
+        return None; // `01`
     }
     let mut number: u64 = 0;
     for digit in field {
@@ -123,21 +226,56 @@ fn parse_tenant(field: &[u8]) -> Option<u32>
     u32::try_from(number).ok()
 }
 
-/// The bytes that the field is read as.
-fn parse_bytes(field: &[u8]) -> Option<ArrayVec<u8, 2045>>
+/// Decodes the bytes that the field is read as in place of what was there: false where it is read as none.
+fn decode_bytes(field: &[u8], bytes: &mut ArrayVec<u8, 2045>) -> bool
     requires { length field.now ≤ 4090 }
-    ensures { option_map (λ v. v.items) result ≡ bytes_in field.now }
+    ensures { MatchBool result (Some bytes.new.items ≡ bytes_in field.now) (None ≡ bytes_in field.now) }
 {
-    let mut bytes = ArrayVec::new();
+    bytes.clear();
     if field == b"-".as_slice() {
-        return Some(bytes);
+        return true;
     }
     let len = field.len() / 2;
     if len == 0 {
-        return None;
+        return false;
     }
-    let mut buf = [0; FIELD];
-    hex::decode_to_slice(field, &mut buf[..len]).ok()?;
-    bytes.try_extend_from_slice(&buf[..len]).ok()?;
-    Some(bytes)
+    if field.len() % 2 != 0 {
+        return false;
+    }
+    // As many bytes as are decoded; what they are does not matter, since they are decoded over.
+    let _ = bytes.try_extend_from_slice(&field[..len]);
+    decode_digits(field, bytes.as_mut_slice())
+}
+
+/// Room for commands as they are read, one for each word that has fields.
+#[derive(Drop)]
+pub(crate) struct Slots {
+    put: Command,
+    get: Command,
+}
+
+impl Slots {
+    pub(crate) fn new() -> Slots {
+        Slots {
+            put: Command::Dump,
+            get: Command::Dump,
+        }
+    }
+
+    /// The command that the line spells. Which room it is read into does not matter for what it is.
+    pub(crate) fn read(&mut self, line: &[u8]) -> Option<&Command>
+        ensures value { option_map (λ c. meaning c.now) result ≡ command_of line.now }
+        ensures spelled { (command : AskedCommand) → (option_map (λ c. meaning c.now) result ≡ Some command) ↔ Spells line.now command }
+    {
+        if line.first() == Some(&b'p') {
+            if !read_line(line, &mut self.put) {
+                return None;
+            }
+            return Some(&self.put);
+        }
+        if !read_line(line, &mut self.get) {
+            return None;
+        }
+        Some(&self.get)
+    }
 }

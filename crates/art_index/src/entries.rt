@@ -7,7 +7,7 @@ ghost use Rattle.art_index.specs.Replies.{dump_of, has_conflict, value_at};
 ghost use Rattle.art_index.specs.Stored.{stands_to, stands_against, record_of, records_of, IsFull, AreEntries, IsPlaced, IsFoundAt, IsGapAt, placed_words};
 
 use crate::entry::{Entry, Placed};
-use crate::reply::{write_end, write_found, write_record, write_word};
+use crate::reply::{write_end, write_found, write_piece, write_record};
 use crate::stream::{Sink, WriteFailed};
 use std::alloc::{AllocError, Global};
 use std::cmp::Ordering;
@@ -143,9 +143,9 @@ pub(crate) fn write_placed<W: Sink>(sink: &mut W, placed: &Placed) -> Result<(),
 {
     match placed {
         Placed::Old(old) => write_found(sink, b"old", old.as_slice()),
-        Placed::New => write_word(sink, b"new"),
-        Placed::Conflict => write_word(sink, b"conflict"),
-        Placed::Memory => write_word(sink, b"memory"),
+        Placed::New => write_piece(sink, b"new\n"),
+        Placed::Conflict => write_piece(sink, b"conflict\n"),
+        Placed::Memory => write_piece(sink, b"memory\n"),
     }
 }
 

@@ -1,10 +1,10 @@
 //! An index, and what a line does to it.
 ghost use Rattle.std.specs.Prelude.{◌≡◌, ℕ, ◌+◌, ◌<◌, ◌≤◌, ◌++◌, ◌∷◌, [], List, length, map, drop, take, flat_map, OnOk, OnErr, IfOk, IfErr, IsTrue, IsErr, is_err, true, false, Option, Some, None, option_map, codes};
 
-use crate::command::{Command, parse_line};
+use crate::command::{Command, Slots};
 use crate::entries::{put_entry, value_of, write_entries, write_placed};
-use crate::entry::{Entry, Placed};
-use crate::reply::{write_found, write_word};
+use crate::entry::Entry;
+use crate::reply::{write_piece, write_value};
 use crate::stream::{Sink, WriteFailed};
 use std::alloc::Global;
 use std::marker::Model;
@@ -47,6 +47,7 @@ pub struct Handled {
 pub struct Index<const PREFIX_LEN: usize> {
     alloc: Global,
     entries: Vec<Entry>,
+    slots: Slots,
 }
 
 impl<const PREFIX_LEN: usize> Model for Index<PREFIX_LEN> {
@@ -77,6 +78,7 @@ impl<const PREFIX_LEN: usize> Index<PREFIX_LEN> {
         Index {
             alloc,
             entries: Vec::new(alloc),
+            slots: Slots::new(),
         }
     }
 
@@ -100,36 +102,16 @@ impl<const PREFIX_LEN: usize> Index<PREFIX_LEN> {
         ensures failed { is_err result ≡ W.has_failed sink.new }
     {
         let mut memory = false;
-        match parse_line(line) {
-            Some(Command::Get { tenant, key }) => self.get(tenant, key.as_slice(), sink)?,
+        match self.slots.read(line) {
+            Some(Command::Get { tenant, key }) => write_value(sink, value_of(&self.entries, *tenant, key.as_slice()))?,
             Some(Command::Put { tenant, key, value }) => {
-                let placed = self.put(tenant, key.as_slice(), value.as_slice());
+                let placed = put_entry(self.alloc, &mut self.entries, *tenant, key.as_slice(), value.as_slice());
                 memory = placed.is_memory();
                 write_placed(sink, &placed)?;
             }
             Some(Command::Dump) => write_entries(&self.entries, sink)?,
-            None => write_word(sink, b"bad")?,
+            None => write_piece(sink, b"bad\n")?,
         }
         Ok(Handled { memory, visits: 0 })
-    }
-
-    /// Writes the value at a tenant's key.
-    fn get<W: Sink>(&self, tenant: u32, key: &[u8], sink: &mut W) -> Result<(), WriteFailed>
-        requires { W.has_failed sink.old ≡ false }
-        ensures ok { OnOk result (W.taken sink.new ≡ W.taken sink.old ++ flat_map line_of (own_reply (get key.now) (own tenant self.now))) }
-        ensures failed { is_err result ≡ W.has_failed sink.new }
-    {
-        match value_of(&self.entries, tenant, key) {
-            Some(value) => write_found(sink, b"is", value),
-            None => write_word(sink, b"none"),
-        }
-    }
-
-    /// Puts a value at a tenant's key, unless the key conflicts with another.
-    fn put(&mut self, tenant: u32, key: &[u8], value: &[u8]) -> Placed
-        requires { KeyFits (record { tenant = tenant; key = key.now; value = value.now }) }
-        ensures { IsPlaced result self.old tenant key.now value.now self.new }
-    {
-        put_entry(self.alloc, &mut self.entries, tenant, key, value)
     }
 }

@@ -1,5 +1,5 @@
 //! Laws of the definitions. Each function does nothing, and its contract is the law.
-ghost use Rattle.art_index.specs.Laws.{OwnReadsBack, OthersAreUntouched, OwnIsInPlace, SpellsOneCommand};
+ghost use Rattle.art_index.specs.Laws.{OwnReadsBack, OthersAreUntouched, OwnIsInPlace, SpellsOneCommand, FullKeysKeepOrder, FullKeysKeepConflicts};
 
 /// What is put in place for a tenant is what it holds then.
 pub fn own_reads_back()
@@ -22,5 +22,17 @@ pub fn own_is_in_place()
 /// No line spells two commands.
 pub fn spells_one_command()
     ensures { SpellsOneCommand }
+{
+}
+
+/// Full keys are in order where their tenants are, and within a tenant where its keys are.
+pub fn full_keys_keep_order()
+    ensures { FullKeysKeepOrder }
+{
+}
+
+/// Full keys conflict where they are one tenant's and its keys do.
+pub fn full_keys_keep_conflicts()
+    ensures { FullKeysKeepConflicts }
 {
 }

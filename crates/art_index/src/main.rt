@@ -5,8 +5,10 @@
 
 mod buffered;
 mod command;
+mod digits;
 mod entries;
 mod entry;
+mod from_reader;
 mod history;
 mod index;
 mod laws;
@@ -15,14 +17,16 @@ mod running;
 mod stream;
 #[cfg(test)]
 mod tests;
+mod to_writer;
 
 use buffered::{Buffer, Input, Output};
+use from_reader::FromReader;
 use index::{Index, RunFault};
 use running::run;
 use std::cell::RefCell;
 use std::env;
 use std::process::ExitCode;
-use stream::{FromReader, ToWriter};
+use to_writer::ToWriter;
 
 /// The number of bytes of a prefix that an inner node stores.
 const PREFIX_LEN: usize = 16;
@@ -41,13 +45,16 @@ fn main(rt: HostRuntime) -> ExitCode {
     let mut source = FromReader::new(Input::new(rt.stdin(), &buffer));
     let mut sink = ToWriter::new(Output::new(&buffer));
     let done = run(&mut index, &mut source, &mut sink);
-    if let Err(RunFault::Read) = done {
-        let _ = eprintln!(rt; "art_index: read failed");
-        return ExitCode::from(1);
+    let flushed = Buffer::finish(&buffer);
+    match done {
+        Err(RunFault::Read) => {
+            let _ = eprintln!(rt; "art_index: read failed");
+            ExitCode::from(1)
+        }
+        Ok(()) if flushed => ExitCode::from(0),
+        _ => {
+            let _ = eprintln!(rt; "art_index: write failed");
+            ExitCode::from(1)
+        }
     }
-    if done.is_err() || !Buffer::finish(&buffer) {
-        let _ = eprintln!(rt; "art_index: write failed");
-        return ExitCode::from(1);
-    }
-    ExitCode::from(0)
 }

@@ -1,8 +1,9 @@
 //! Replies, written to a sink.
-ghost use Rattle.std.specs.Prelude.{◌≡◌, ℕ, ◌^◌, ◌<◌, ◌≤◌, ◌++◌, ◌∷◌, [], List, length, OnOk, IsErr, IsTrue, false, is_err, codes, decimal};
+ghost use Rattle.std.specs.Prelude.{◌≡◌, ℕ, ◌^◌, ◌<◌, ◌≤◌, ◌++◌, ◌∷◌, [], List, length, OnOk, IsErr, IsTrue, false, is_err, codes, decimal, option_map};
 ghost use Rattle.hex.specs.Hex.{encode_lower};
 ghost use Rattle.art_index.specs.Words.{shown, line_of, name, natural, bytes};
 ghost use Rattle.art_index.specs.Commands.{put_words};
+ghost use Rattle.art_index.specs.Replies.{found_or};
 
 use crate::stream::{Sink, WriteFailed};
 
@@ -73,16 +74,6 @@ pub(crate) fn write_number<W: Sink>(sink: &mut W, number: u64) -> Result<(), Wri
     write_piece(sink, &digits[start..])
 }
 
-/// A line of one word.
-pub(crate) fn write_word<W: Sink>(sink: &mut W, word: &[u8]) -> Result<(), WriteFailed>
-    requires { W.has_failed sink.old ≡ false }
-    ensures ok { OnOk result (W.taken sink.new ≡ W.taken sink.old ++ line_of (name word.now ∷ [])) }
-    ensures failed { is_err result ≡ W.has_failed sink.new }
-{
-    write_piece(sink, word)?;
-    write_piece(sink, b"\n")
-}
-
 /// A line of a word and bytes.
 pub(crate) fn write_found<W: Sink>(sink: &mut W, word: &[u8], value: &[u8]) -> Result<(), WriteFailed>
     requires { W.has_failed sink.old ≡ false }
@@ -93,6 +84,18 @@ pub(crate) fn write_found<W: Sink>(sink: &mut W, word: &[u8], value: &[u8]) -> R
     write_piece(sink, b" ")?;
     write_bytes(sink, value)?;
     write_piece(sink, b"\n")
+}
+
+/// The line of a value that was looked for.
+pub(crate) fn write_value<W: Sink>(sink: &mut W, value: Option<&[u8]>) -> Result<(), WriteFailed>
+    requires { W.has_failed sink.old ≡ false }
+    ensures ok { OnOk result (W.taken sink.new ≡ W.taken sink.old ++ line_of (found_or (option_map (λ v. v.now) value.entry) (codes "is") (codes "none"))) }
+    ensures failed { is_err result ≡ W.has_failed sink.new }
+{
+    match value {
+        Some(value) => write_found(sink, b"is", value),
+        None => write_piece(sink, b"none\n"),
+    }
 }
 
 /// The line that makes a record.

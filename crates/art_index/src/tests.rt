@@ -1,1 +1,303 @@
-//! Tests.
+//! What no clause says: worked lines from outside, however they are cut, and both ends failing at each place.
+use crate::command::{Command, parse_line};
+use crate::from_reader::FromReader;
+use crate::index::{Index, RunFault};
+use crate::laws;
+use crate::running::run;
+use crate::stream::{Sink, Source};
+use crate::to_writer::ToWriter;
+use std::alloc::Global;
+use std::io;
+use std::io::{Read, Write};
+use std::process::Abort;
+use std::test::Fail;
+
+/// Gives a text: `first` bytes at most at the first read, then `more` at each. At its end it fails or ends.
+#[derive(Drop)]
+struct Pieces<'a> {
+    rest: &'a [u8],
+    first: usize,
+    more: usize,
+    fails: bool,
+}
+
+impl Read for Pieces<'_> {
+    fn read(&mut self, buf: &mut [u8]) -> io::Result<usize> {
+        if self.rest.is_empty() && self.fails {
+            return Err(io::ErrorKind::Other.into());
+        }
+        let n = self.rest.len().min(self.first).min(buf.len());
+        buf[..n].copy_from_slice(&self.rest[..n]);
+        self.rest = &self.rest[n..];
+        self.first = self.more;
+        Ok(n)
+    }
+}
+
+/// Keeps what is written, three bytes at most at a time, and fails once it has `room` bytes.
+#[derive(Drop)]
+struct Kept {
+    bytes: Vec<u8>,
+    room: usize,
+}
+
+impl Write for Kept {
+    fn write(&mut self, piece: &[u8]) -> io::Result<usize> {
+        let n = piece.len().min(3).min(self.room);
+        self.bytes.extend_from_slice(&piece[..n])?;
+        self.room -= n;
+        Ok(n)
+    }
+
+    fn flush(&mut self) -> io::Result<()> {
+        Ok(())
+    }
+}
+
+fn make_kept(alloc: Global, room: usize) -> Kept {
+    Kept {
+        bytes: Vec::new(alloc),
+        room,
+    }
+}
+
+/// Runs the text over an index.
+fn run_over<const PREFIX_LEN: usize>(index: &mut Index<PREFIX_LEN>, pieces: Pieces<'_>, out: &mut Kept) -> Result<(), RunFault> {
+    let mut source = FromReader::new(pieces);
+    let mut sink = ToWriter::new(out);
+    run(index, &mut source, &mut sink)
+}
+
+/// A whole text, cut behind its first bytes.
+fn cut_text(text: &[u8], first: usize) -> Pieces<'_> {
+    Pieces {
+        rest: text,
+        first,
+        more: usize::MAX,
+        fails: false,
+    }
+}
+
+/// Checks that the text is answered so, cut at every place and byte by byte.
+fn is_answered<const PREFIX_LEN: usize>(rt: &impl Abort, alloc: Global, text: &[u8], wanted: &[u8]) {
+    for first in 1..text.len().max(1) {
+        let mut index: Index<PREFIX_LEN> = Index::new(alloc);
+        let mut out = make_kept(alloc, usize::MAX);
+        assert!(rt; run_over(&mut index, cut_text(text, first), &mut out).is_ok());
+        assert_eq!(rt; out.bytes.as_slice(), wanted, "cut at {first}");
+    }
+    let mut index: Index<PREFIX_LEN> = Index::new(alloc);
+    let mut out = make_kept(alloc, usize::MAX);
+    let bytes = Pieces {
+        rest: text,
+        first: 1,
+        more: 1,
+        fails: false,
+    };
+    assert!(rt; run_over(&mut index, bytes, &mut out).is_ok());
+    assert_eq!(rt; out.bytes.as_slice(), wanted, "byte by byte");
+}
+
+/// Checks it for three lengths of stored prefixes.
+fn is_answered_by_all(rt: &impl Abort, alloc: Global, text: &[u8], wanted: &[u8]) {
+    is_answered::<0>(rt, alloc, text, wanted);
+    is_answered::<4>(rt, alloc, text, wanted);
+    is_answered::<16>(rt, alloc, text, wanted);
+}
+
+#[test]
+fn answers_worked_lines(rt: HostRuntime) {
+    let rows: [(&[u8], &[u8]); 9] = [
+        (b"", b""),
+        (b"\n", b"bad\n"),
+        (
+            b"put 1 0a 61\nput 1 0a0b 62\nput 2 0a0b 63\nput 1 0a 64\ndump\n",
+            b"new\nconflict\nnew\nold 61\nput 1 0a 64\nput 2 0a0b 63\nend 2\n",
+        ),
+        (b"put 7 0a0b 6869\nget 7 0a0b\nget 8 0a0b", b"new\nis 6869\nnone\n"),
+        (
+            b"get  1 0a\nget 1 0\nPUT 1 0a 61\nnget 1 -0\nput 1 0a\nend 2\n",
+            b"bad\nbad\nbad\nbad\nbad\nbad\n",
+        ),
+        (b"put 12 0a 61\nput 1 320a 62\n", b"new\nnew\n"),
+        (
+            b"put 10 aB 61\nput 2 - -\ndump\nget 2 -\n",
+            b"new\nnew\nput 2 - -\nput 10 ab 61\nend 2\nis -\n",
+        ),
+        (
+            b"put 256 00 61\nput 1 00 62\nput 2 AB 4A\ndump\n",
+            b"new\nnew\nnew\nput 1 00 62\nput 2 ab 4a\nput 256 00 61\nend 3\n",
+        ),
+        (
+            b"put 01 0a 61\nget 4294967296 0a\nget +1 0a\nget 1 0a\r\n get 1 0a\nget 1 0a \nget 4294967295 0a\n",
+            b"bad\nbad\nbad\nbad\nbad\nbad\nnone\n",
+        ),
+    ];
+    for (text, wanted) in rows {
+        is_answered_by_all(&rt, rt.alloc(), text, wanted);
+    }
+}
+
+#[test]
+fn answers_a_long_line_once(rt: HostRuntime) -> Result<(), Fail> {
+    let mut text = Vec::new(rt.alloc());
+    for front in [b"put 1 ".as_slice(), b"put 10 ".as_slice()] {
+        text.extend_from_slice(front)?;
+        for _ in 0..4088 {
+            text.push(b'a')?;
+        }
+        text.extend_from_slice(b" -\n")?;
+    }
+    text.extend_from_slice(b"get 1 00\n")?;
+    is_answered::<16>(&rt, rt.alloc(), text.as_slice(), b"new\nbad\nnone\n");
+    Ok(())
+}
+
+#[test]
+fn a_long_last_line_is_bad_once(rt: HostRuntime) -> Result<(), Fail> {
+    let mut text = Vec::new(rt.alloc());
+    for _ in 0..9000 {
+        text.push(b'a')?;
+    }
+    let mut index: Index<16> = Index::new(rt.alloc());
+    let mut out = make_kept(rt.alloc(), usize::MAX);
+    assert!(rt; run_over(&mut index, cut_text(text.as_slice(), 4097), &mut out).is_ok());
+    assert_eq!(rt; out.bytes.as_slice(), b"bad\n".as_slice());
+    let mut out = make_kept(rt.alloc(), usize::MAX);
+    let fails = Pieces {
+        rest: text.as_slice(),
+        first: 4097,
+        more: usize::MAX,
+        fails: true,
+    };
+    assert!(rt; matches!(run_over(&mut index, fails, &mut out), Err(RunFault::Read)));
+    assert_eq!(rt; out.bytes.as_slice(), b"".as_slice());
+    Ok(())
+}
+
+/// The lines of the tests below, and the replies to them.
+const LINES: &[u8] = b"put 1 0a 61\nput 1 0b 6262\nget 1 0b\ndump\nput 1 0a0a 61\nput 2 0a 63\nget 1 0";
+const REPLIES: &[u8] = b"new\nnew\nis 6262\nput 1 0a 61\nput 1 0b 6262\nend 2\nconflict\nnew\nbad\n";
+
+#[test]
+fn a_failed_read_leaves_the_whole_lines(rt: HostRuntime) {
+    // The bytes of the lines up to each newline, and of their replies.
+    let ends: [(usize, usize); 7] = [(0, 0), (12, 4), (26, 8), (35, 16), (40, 48), (54, 57), (66, 61)];
+    for count in 0..LINES.len() {
+        let mut index: Index<16> = Index::new(rt.alloc());
+        let mut out = make_kept(rt.alloc(), usize::MAX);
+        let fails = Pieces {
+            rest: &LINES[..count],
+            first: 5,
+            more: 7,
+            fails: true,
+        };
+        assert!(rt; matches!(run_over(&mut index, fails, &mut out), Err(RunFault::Read)), "after {count}");
+        let mut told = 0;
+        for (line_end, reply_end) in ends {
+            if line_end <= count {
+                told = reply_end;
+            }
+        }
+        assert_eq!(rt; out.bytes.as_slice(), &REPLIES[..told.min(REPLIES.len())], "after {count}");
+    }
+}
+
+#[test]
+fn a_failed_write_cuts_the_replies(rt: HostRuntime) {
+    for room in 0..REPLIES.len() {
+        let mut index: Index<16> = Index::new(rt.alloc());
+        let mut out = make_kept(rt.alloc(), room);
+        assert!(rt; matches!(run_over(&mut index, cut_text(LINES, 30), &mut out), Err(RunFault::Write)), "after {room}");
+        assert_eq!(rt; out.bytes.as_slice(), &REPLIES[..room]);
+    }
+    let mut index: Index<16> = Index::new(rt.alloc());
+    let mut out = make_kept(rt.alloc(), REPLIES.len());
+    assert!(rt; run_over(&mut index, cut_text(LINES, 30), &mut out).is_ok());
+    assert_eq!(rt; out.bytes.as_slice(), REPLIES);
+}
+
+/// What an index holds, by a dump of it.
+fn holds(rt: &impl Abort, alloc: Global, index: &mut Index<16>, wanted: &[u8]) {
+    let mut out = make_kept(alloc, usize::MAX);
+    assert!(rt; run_over(index, cut_text(b"dump", 4), &mut out).is_ok());
+    assert_eq!(rt; out.bytes.as_slice(), wanted);
+}
+
+#[test]
+fn faults_leave_what_was_done(rt: HostRuntime) {
+    let mut index: Index<16> = Index::new(rt.alloc());
+    let mut out = make_kept(rt.alloc(), usize::MAX);
+    let fails = Pieces {
+        rest: b"put 1 0a 61\nget 1 0",
+        first: usize::MAX,
+        more: 1,
+        fails: true,
+    };
+    assert!(rt; matches!(run_over(&mut index, fails, &mut out), Err(RunFault::Read)));
+    assert_eq!(rt; out.bytes.as_slice(), b"new\n".as_slice());
+    holds(&rt, rt.alloc(), &mut index, b"put 1 0a 61\nend 1\n");
+
+    let mut index: Index<16> = Index::new(rt.alloc());
+    let mut out = make_kept(rt.alloc(), 2);
+    assert!(rt; matches!(run_over(&mut index, cut_text(b"put 1 0a 61\nget 1 0a\n", 50), &mut out), Err(RunFault::Write)));
+    assert_eq!(rt; out.bytes.as_slice(), b"ne".as_slice());
+    holds(&rt, rt.alloc(), &mut index, b"put 1 0a 61\nend 1\n");
+}
+
+#[test]
+fn reads_a_line_as_a_command(rt: HostRuntime) {
+    match parse_line(b"put 12 0A - ") {
+        Some(_) => assert!(rt; false),
+        None => {}
+    }
+    match parse_line(b"put 12 0Aff -") {
+        Some(Command::Put { tenant, key, value }) => {
+            assert_eq!(rt; tenant, 12);
+            assert_eq!(rt; key.as_slice(), [10, 255].as_slice());
+            assert!(rt; value.is_empty());
+        }
+        _ => assert!(rt; false),
+    }
+    assert!(rt; matches!(parse_line(b"dump"), Some(Command::Dump)));
+    assert!(rt; matches!(parse_line(b"get 0 -"), Some(Command::Get { .. })));
+}
+
+#[test]
+fn handles_a_line(rt: HostRuntime) -> Result<(), Fail> {
+    let mut index: Index<4> = Index::new(rt.alloc());
+    let mut out = make_kept(rt.alloc(), usize::MAX);
+    let mut sink = ToWriter::new(&mut out);
+    let done = index.handle(b"put 3 ab cd", &mut sink)?;
+    assert!(rt; !done.memory);
+    assert_eq!(rt; done.visits, 0);
+    assert!(rt; !sink.failed());
+    index.holds_records();
+    assert_eq!(rt; out.bytes.as_slice(), b"new\n".as_slice());
+    laws::own_reads_back();
+    laws::others_are_untouched();
+    laws::own_is_in_place();
+    laws::spells_one_command();
+    laws::full_keys_keep_order();
+    laws::full_keys_keep_conflicts();
+    Ok(())
+}
+
+#[test]
+fn ends_tell_their_state(rt: HostRuntime) {
+    let mut buf = [0; 4];
+    let mut source = FromReader::new(cut_text(b"abc", 2));
+    assert!(rt; !source.ended());
+    assert_eq!(rt; source.read(&mut buf), Ok(2));
+    assert_eq!(rt; source.read(&mut buf), Ok(1));
+    assert_eq!(rt; source.read(&mut buf), Ok(0));
+    assert!(rt; source.ended());
+    assert!(rt; !source.failed());
+    let mut out = make_kept(rt.alloc(), 2);
+    let mut sink = ToWriter::new(&mut out);
+    assert_eq!(rt; sink.write(b"abc"), Ok(2));
+    assert!(rt; !sink.failed());
+    assert!(rt; sink.write(b"c").is_err());
+    assert!(rt; sink.failed());
+    assert!(rt; sink.write(b"c").is_err());
+}
