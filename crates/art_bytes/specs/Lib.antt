@@ -1,2 +1,7 @@
-pub mod Keys
+pub mod FixedLaws
+pub mod FlipLaws
 pub mod KeyLaws
+pub mod Keys
+pub mod Mappings
+pub mod NumberLaws
+pub mod Numbers

@@ -4,6 +4,7 @@
 #![tactic(auto)]
 
 mod as_bytes;
+mod fixed;
 mod keys;
 
 pub use as_bytes::{AsBytes, NoPrefixesBytes, OrderedBytes};
