@@ -1,3 +1,4 @@
+pub mod AddressLaws
 pub mod FixedLaws
 pub mod FlipLaws
 pub mod KeyLaws

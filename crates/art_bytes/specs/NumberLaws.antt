@@ -11,7 +11,7 @@ use Rattle.std.specs.declared.cmp.Ordering.TheVariants.{Less, Equal, Greater}
 use Rattle.std.specs.Ordering.{nat_cmp, ordering_then, MatchOrdering}
 use Rattle.std.specs.Cmp.{nat_cmp_is}
 use Rattle.std.specs.Cmp.Lexicographic.{slice_cmp}
-use Rattle.std.proofs.lemmas.Grind.{common_steps}
+use Rattle.art_bytes.specs.KeyLaws.{AreBytes-by_index}
 use Rattle.std.specs.Int.{w128, byte_at, bytes_high_first, byte_worth, sum_through, from_be_bytes, to_be_bytes}
 use Rattle.std.specs.List.{slice_index}
 use Rattle.art_bytes.specs.Keys.{AreBytes, bytes_cmp}
@@ -68,7 +68,7 @@ outweighs : (a b unit : ℕ) → a < b → a * unit + unit ≤ b * unit
 outweighs a b unit h = let some : suc a * unit ≤ b * unit = mul-le-mul_right unit h in omega (arith, some)
 
 -- the first pair of digits decides, and else the rest
-digit_first : (a b unit r s : ℕ) → r < unit → s < unit → ordering_then (nat_cmp a b) (nat_cmp r s) ≡ nat_cmp (a * unit + r) (b * unit + s)
+pub digit_first : (a b unit r s : ℕ) → r < unit → s < unit → ordering_then (nat_cmp a b) (nat_cmp r s) ≡ nat_cmp (a * unit + r) (b * unit + s)
 digit_first a b unit r s hr hs = elim (cases_lt a b) [
   | inl less ↦
       let by = outweighs a b unit less in
@@ -172,7 +172,4 @@ big_endian-from k n bytes e h is =
 
 -- the same at sixteen bytes, in the form of std's lemmas for two, four and eight
 pub be_bytes_16 : (bs : List ℕ) (n : ℕ) → length bs ≡ 16 → ((i : ℕ) → get_or bs i 0 < 256) → n ≡ from_be_bytes w128 bs → to_be_bytes w128 n ≡ bs
-be_bytes_16 bs n e h is = big_endian-from 15 n bs e (λ k d below. in_list bs k d below (h k)) is
-  where
-    in_list : (bs : List ℕ) (k d : ℕ) → k < length bs → get_or bs k 0 < 256 → get_or bs k d < 256
-    in_list bs k d below h = grind (arith, common_steps)
+be_bytes_16 bs n e h is = big_endian-from 15 n bs e (AreBytes-by_index bs h) is

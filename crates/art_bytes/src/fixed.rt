@@ -2,12 +2,14 @@
 ghost use Rattle.std.specs.Prelude.{◌≡◌, ℕ, List, length, MatchOption};
 ghost use Rattle.art_bytes.specs.Mappings.{HaveFixedBytes};
 
+mod address;
 mod non_zero;
 mod signed;
 mod stored;
 mod unsigned;
 
 use crate::as_bytes::AsBytes;
+pub use address::Address;
 pub use signed::Signed;
 pub use stored::StoredAsNumber;
 pub use unsigned::Unsigned;
