@@ -1,5 +1,5 @@
 -- That addresses have fixed bytes: their octets. Nothing here is a definition.
-use Rattle.std.proofs.Common.{◌≡◌, ℕ, zero, suc, ◌+◌, ◌*◌, ◌/◌, ◌%◌, ◌<◌, List, [], ◌∷◌, length, refl, sym, ap, ◌∙◌, arith}
+use Rattle.std.proofs.Common.{◌≡◌, ℕ, zero, suc, ◌+◌, ◌*◌, ◌/◌, ◌%◌, ◌<◌, List, [], ◌∷◌, length, refl, sym, ap, ◌∙◌, arith, lit<}
 use Rattle.std.proofs.lemmas.List.Elements.{All-nil, All-cons, All-head, All-tail}
 use Rattle.std.specs.declared.cmp.Ordering.{Ordering}
 use Rattle.std.specs.declared.cmp.Ordering.TheVariants.{Less, Equal, Greater}
@@ -14,6 +14,7 @@ use Rattle.art_bytes.specs.Mappings.{HaveFixedBytes}
 
 pub ipv4_bytes : HaveFixedBytes 4 (λ a. AreBytes (ipv4_octets a) × (length (ipv4_octets a) ≡ 4)) ipv4_octets (λ a b. slice_cmp nat_cmp a.octets b.octets)
 ipv4_bytes = record {
+  some = lit< tt;
   long = λ a h. h.1;
   fit = λ a h. h.0;
   one_value = λ a b ha hb e. λ i. record { octets = e i };
@@ -69,6 +70,7 @@ octets_read octets segments is e h = ap octets_of is ∙ octets_of-segments_of 8
 
 pub ipv6_bytes : HaveFixedBytes 16 (λ a. AreBytes (ipv6_octets a) × (length (ipv6_octets a) ≡ 16)) ipv6_octets (λ a b. slice_cmp nat_cmp a.segments b.segments)
 ipv6_bytes = record {
+  some = lit< tt;
   long = λ a h. h.1;
   fit = λ a h. h.0;
   one_value = λ a b ha hb e.

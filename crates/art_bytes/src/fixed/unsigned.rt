@@ -3,6 +3,7 @@
 
 ghost use Rattle.std.specs.Prelude.{◌<◌, ◌^◌};
 ghost use Rattle.art_bytes.specs.Numbers.{big_endian};
+ghost use Rattle.std.proofs.Common.{lit<};
 ghost use Rattle.art_bytes.specs.FixedLaws.{unsigned_bytes};
 
 use super::{FixedBytes, array_of};
@@ -31,7 +32,7 @@ impl FixedBytes for u8 {
 
     ghost fixed_bytes = { big_endian 1 };
 
-    ghost have_bytes = { unsigned_bytes 1 };
+    ghost have_bytes = { unsigned_bytes 1 (lit< tt) };
 
     fn to_array(self) -> [u8; 1] {
         self.to_be_bytes()
@@ -53,7 +54,7 @@ impl FixedBytes for u16 {
 
     ghost fixed_bytes = { big_endian 2 };
 
-    ghost have_bytes = { unsigned_bytes 2 };
+    ghost have_bytes = { unsigned_bytes 2 (lit< tt) };
 
     fn to_array(self) -> [u8; 2] {
         self.to_be_bytes()
@@ -75,7 +76,7 @@ impl FixedBytes for u32 {
 
     ghost fixed_bytes = { big_endian 4 };
 
-    ghost have_bytes = { unsigned_bytes 4 };
+    ghost have_bytes = { unsigned_bytes 4 (lit< tt) };
 
     fn to_array(self) -> [u8; 4] {
         self.to_be_bytes()
@@ -97,7 +98,7 @@ impl FixedBytes for u64 {
 
     ghost fixed_bytes = { big_endian 8 };
 
-    ghost have_bytes = { unsigned_bytes 8 };
+    ghost have_bytes = { unsigned_bytes 8 (lit< tt) };
 
     fn to_array(self) -> [u8; 8] {
         self.to_be_bytes()
@@ -119,7 +120,7 @@ impl FixedBytes for u128 {
 
     ghost fixed_bytes = { big_endian 16 };
 
-    ghost have_bytes = { unsigned_bytes 16 };
+    ghost have_bytes = { unsigned_bytes 16 (lit< tt) };
 
     fn to_array(self) -> [u8; 16] {
         self.to_be_bytes()

@@ -1,0 +1,4 @@
+//! The mappings.
+mod numbers;
+
+pub use numbers::{ToIBE, ToOctets, ToUBE};
