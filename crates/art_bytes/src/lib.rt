@@ -6,10 +6,11 @@
 mod as_bytes;
 mod fixed;
 mod keys;
+mod mapped;
 mod mapping;
 mod mappings;
 
 pub use as_bytes::{AsBytes, NoPrefixesBytes, OrderedBytes};
 pub use fixed::{Address, FixedBytes, Signed, StoredAsNumber, Unsigned};
 pub use mapping::{BytesMapping, FixedBytesMapping, NoPrefixesMapping, OrderedMapping};
-pub use mappings::{ToIBE, ToOctets, ToUBE};
+pub use mappings::{Identity, ToIBE, ToOctets, ToUBE};

@@ -1,4 +1,6 @@
 //! The mappings.
+mod identity;
 mod numbers;
 
+pub use identity::Identity;
 pub use numbers::{ToIBE, ToOctets, ToUBE};

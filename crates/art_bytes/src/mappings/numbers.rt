@@ -16,8 +16,17 @@ pub struct ToIBE;
 /// Addresses as their octets.
 pub struct ToOctets;
 
-/// The mapping keeps values of `E` as their fixed bytes.
-pub trait Keeps<E: FixedBytes> {}
+/// A mapping that keeps values as their fixed bytes.
+pub trait KeepsFixed {}
+
+impl KeepsFixed for ToUBE {}
+
+impl KeepsFixed for ToIBE {}
+
+impl KeepsFixed for ToOctets {}
+
+/// It keeps the values of `E` so.
+pub trait Keeps<E: FixedBytes>: KeepsFixed {}
 
 impl<E: Unsigned> Keeps<E> for ToUBE {}
 
@@ -25,7 +34,7 @@ impl<E: Signed> Keeps<E> for ToIBE {}
 
 impl<E: Address> Keeps<E> for ToOctets {}
 
-impl<M: Keeps<E>, E: FixedBytes> BytesMapping<E> for M {
+impl<M: KeepsFixed + Keeps<E>, E: FixedBytes> BytesMapping<E> for M {
     type Bytes = E::Array;
 
     ghost has_bytes = { λ v b. E.is_value v × E.Array.is_key b × (E.Array.bytes b ≡ E.fixed_bytes v) };
@@ -62,7 +71,7 @@ impl<M: Keeps<E>, E: FixedBytes> BytesMapping<E> for M {
     }
 }
 
-impl<M: Keeps<E>, E: FixedBytes> FixedBytesMapping<E> for M {
+impl<M: KeepsFixed + Keeps<E>, E: FixedBytes> FixedBytesMapping<E> for M {
     ghost WIDTH = { E.WIDTH };
 
     const WIDTH: usize = E::WIDTH;
@@ -80,11 +89,11 @@ impl<M: Keeps<E>, E: FixedBytes> FixedBytesMapping<E> for M {
     }
 }
 
-impl<M: Keeps<E>, E: FixedBytes> NoPrefixesMapping<E> for M {
+impl<M: KeepsFixed + Keeps<E>, E: FixedBytes> NoPrefixesMapping<E> for M {
     ghost no_prefixes = { λ v w b c h k. BeginsWith-same_length _ _ E.WIDTH (E.have_bytes.long v h.0) (E.have_bytes.long w k.0) };
 }
 
-impl<M: Keeps<E>, E: FixedBytes> OrderedMapping<E> for M {
+impl<M: KeepsFixed + Keeps<E>, E: FixedBytes> OrderedMapping<E> for M {
     ghost ordered = { λ v w b c h k. E.have_bytes.ordered v w h.0 k.0 };
 }
 
