@@ -18,3 +18,7 @@ BeginsWith-same_length k l n hk hl (rest, e) =
     none : (rest : List ℕ) → length rest ≡ 0 → rest ≡ []
     none [] h = refl
     none (x ∷ xs) h = absurd (omega arith)
+
+-- what holds of the fronts of values' bytes holds of the keys that have these bytes
+pub front_of_mapped : {k l v w : List ℕ} → k ≡ v → l ≡ w → (BeginsWith v w → v ≡ w) → BeginsWith k l → k ≡ l
+front_of_mapped {k} {l} {v} {w} at_k at_l same (rest, e) = at_k ∙ same (rest, sym at_l ∙ e ∙ ap (λ m. m ++ rest) at_k) ∙ sym at_l

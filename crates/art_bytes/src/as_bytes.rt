@@ -31,3 +31,8 @@ pub trait NoPrefixesBytes: AsBytes {
 pub trait OrderedBytes: AsBytes + Ord {
     ghost ordered: { (k l : Self) → Self.is_key k → Self.is_key l → Self.cmp k l ≡ bytes_cmp (Self.bytes k) (Self.bytes l) };
 }
+
+/// Keys whose clones have the same bytes.
+pub trait CloneBytes: AsBytes + Clone {
+    ghost same_bytes: { (k l : Self) → Self.is_clone k l → Self.bytes l ≡ Self.bytes k };
+}

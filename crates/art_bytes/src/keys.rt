@@ -1,10 +1,12 @@
 //! The keys that are bytes already, and those that stand for another key.
 ghost use Rattle.std.specs.Prelude.{◌≡◌, length, refl};
 ghost use Rattle.std.specs.String.{string_bytes};
+ghost use Rattle.std.proofs.Common.{ap};
+ghost use Rattle.std.specs.List.{each_same};
 ghost use Rattle.art_bytes.specs.Keys.{AreBytes};
 ghost use Rattle.art_bytes.specs.KeyLaws.{BeginsWith-same_length};
 
-use crate::as_bytes::{AsBytes, NoPrefixesBytes, OrderedBytes};
+use crate::as_bytes::{AsBytes, CloneBytes, NoPrefixesBytes, OrderedBytes};
 use std::rc::Rc;
 
 impl AsBytes for Vec<u8> {
@@ -119,4 +121,28 @@ impl AsBytes for String {
 
 impl OrderedBytes for String {
     ghost ordered = { λ k l hk hl. refl };
+}
+
+impl CloneBytes for Vec<u8> {
+    ghost same_bytes = { λ k l h. each_same k.items l.items h.0 };
+}
+
+impl<const N: usize> CloneBytes for [u8; N] {
+    ghost same_bytes = { λ k l h. each_same k l h.whole };
+}
+
+impl<T: AsBytes> CloneBytes for &T {
+    ghost same_bytes = { λ k l h. ap (λ it. T.bytes it.now) h };
+}
+
+impl<T: AsBytes + Drop> CloneBytes for Rc<T> {
+    ghost same_bytes = { λ k l h. ap T.bytes h };
+}
+
+impl<T: CloneBytes> CloneBytes for Box<T> {
+    ghost same_bytes = { λ k l h. T.same_bytes k.value l.value h };
+}
+
+impl CloneBytes for String {
+    ghost same_bytes = { λ k l h. h };
 }

@@ -10,7 +10,8 @@ mod mapped;
 mod mapping;
 mod mappings;
 
-pub use as_bytes::{AsBytes, NoPrefixesBytes, OrderedBytes};
+pub use as_bytes::{AsBytes, CloneBytes, NoPrefixesBytes, OrderedBytes};
 pub use fixed::{Address, FixedBytes, Signed, StoredAsNumber, Unsigned};
+pub use mapped::Mapped;
 pub use mapping::{BytesMapping, FixedBytesMapping, NoPrefixesMapping, OrderedMapping};
 pub use mappings::{Identity, ToIBE, ToOctets, ToUBE};

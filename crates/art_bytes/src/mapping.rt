@@ -46,6 +46,9 @@ pub trait BytesMapping<D> {
     /// What has a value's bytes is a key of these bytes.
     ghost are_bytes: { (v : D) (b : Self.Bytes) → has_bytes v b → Self.Bytes.is_key b × (Self.Bytes.bytes b ≡ bytes_of v) };
 
+    /// Whether a key is some value's follows from its bytes.
+    ghost by_bytes: { (v : D) (b c : Self.Bytes) → has_bytes v b → Self.Bytes.is_key c → Self.Bytes.bytes c ≡ Self.Bytes.bytes b → (w : D) × has_bytes w c };
+
     /// Values of equal bytes are the same.
     ghost one_value: { (v w : D) (b c : Self.Bytes) → has_bytes v b → has_bytes w c → bytes_of v ≡ bytes_of w → is_same v w };
 }

@@ -1,6 +1,6 @@
 //! A key as itself.
 ghost use Rattle.std.specs.Prelude.{◌≡◌};
-ghost use Rattle.std.proofs.Common.{subst, sym, ap};
+ghost use Rattle.std.proofs.Common.{refl, subst, sym, ap};
 
 use crate::as_bytes::{AsBytes, NoPrefixesBytes, OrderedBytes};
 use crate::mapping::{BytesMapping, NoPrefixesMapping, OrderedMapping};
@@ -23,6 +23,8 @@ impl<D: AsBytes> BytesMapping<D> for Identity {
     ghost value_is_free = { Unit {0} };
 
     ghost are_bytes = { λ v b h. (subst D.is_key h.0 h.1, ap D.bytes (sym h.0)) };
+
+    ghost by_bytes = { λ v b c h k e. (c, (refl, k)) };
 
     ghost one_value = { λ v w b c h k e. e };
 

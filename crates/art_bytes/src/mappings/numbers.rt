@@ -1,5 +1,6 @@
 //! Numbers and addresses as their fixed bytes.
 ghost use Rattle.std.specs.Prelude.{◌≡◌};
+ghost use Rattle.std.proofs.Common.{◌∙◌};
 ghost use Rattle.art_bytes.specs.KeyLaws.{BeginsWith-same_length};
 
 use crate::as_bytes::AsBytes;
@@ -48,6 +49,8 @@ impl<M: KeepsFixed + Keeps<E>, E: FixedBytes> BytesMapping<E> for M {
     ghost value_is_free = { Unit {0} };
 
     ghost are_bytes = { λ v b h. (h.1, h.2) };
+
+    ghost by_bytes = { λ v b c h k e. (v, (h.0, k, e ∙ h.2)) };
 
     ghost one_value = { λ v w b c h k e. E.have_bytes.one_value v w h.0 k.0 e };
 
