@@ -1,8 +1,10 @@
 pub mod AddressLaws
+pub mod ConcatLaws
 pub mod FixedLaws
 pub mod FlipLaws
 pub mod KeyLaws
 pub mod Keys
+pub mod Lists
 pub mod Mappings
 pub mod NumberLaws
 pub mod Numbers
