@@ -61,6 +61,7 @@ octets_of-segments_of (suc n) (a ∷ b ∷ octets) e h =
   where
     high : (a b : ℕ) → b < 256 → (a * 256 + b) / 256 ≡ a
     high a b h = omega arith
+
     low : (a b : ℕ) → b < 256 → (a * 256 + b) % 256 ≡ b
     low a b h = omega arith
 
@@ -74,7 +75,7 @@ ipv6_bytes = record {
   long = λ a h. h.1;
   fit = λ a h. h.0;
   one_value = λ a b ha hb e.
-    let same : a.segments ≡ b.segments = sym (segments_of-octets_of a.segments) ∙ ap segments_of e ∙ segments_of-octets_of b.segments in
-    λ i. record { segments = same i };
+      let same : a.segments ≡ b.segments = sym (segments_of-octets_of a.segments) ∙ ap segments_of e ∙ segments_of-octets_of b.segments in
+      λ i. record { segments = same i };
   ordered = λ a b ha hb. octets_cmp a.segments b.segments;
 }

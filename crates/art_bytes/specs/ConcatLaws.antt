@@ -1,5 +1,5 @@
 -- Bytes put one after the other: what two parts keep, and lists of parts. Nothing here is a definition.
-use Rattle.std.proofs.Common.{◌≡◌, ◌≢◌, ℕ, suc, zero, ◌+◌, ◌-◌, ◌*◌, ◌<◌, ◌≤◌, List, [], ◌∷◌, ◌++◌, length, take, drop, refl, sym, ap, ◌∙◌, subst, arith, append_assoc, length-append, get_or}
+use Rattle.std.proofs.Common.{◌≡◌, ◌≢◌, ℕ, suc, zero, ◌+◌, ◌-◌, ◌*◌, ◌<◌, ◌≤◌, List, [], ◌∷◌, ◌++◌, length, take, drop, refl, sym, ap, ◌∙◌, subst, arith, append_assoc, length-append, append-nil, get_or}
 use Rattle.std.specs.List.{AllByRecursion, flat_map}
 use Rattle.std.proofs.lemmas.Grind.{common_steps, flat_map-append}
 use Rattle.std.proofs.lemmas.List.Elements.{All-append, All-nil}
@@ -45,12 +45,12 @@ pair_bytes {V} {W} m n P Q f g first second front back = record {
   long = λ p h. length-append (f p.0) (g p.1) ∙ ap (λ k. k + length (g p.1)) (front.long p.0 h.0) ∙ ap (λ k. m + k) (back.long p.1 h.1);
   fit = λ p h. All-append (λ b. b < 256) (f p.0) (g p.1) (front.fit p.0 h.0) (back.fit p.1 h.1);
   one_value = λ p q hp hq e.
-    let parts = split_same (f p.0) (f q.0) (g p.1) (g q.1) (front.long p.0 hp.0 ∙ sym (front.long q.0 hq.0)) e in
-    λ i. (front.one_value p.0 q.0 hp.0 hq.0 parts.0 i, back.one_value p.1 q.1 hp.1 hq.1 parts.1 i);
+      let parts = split_same (f p.0) (f q.0) (g p.1) (g q.1) (front.long p.0 hp.0 ∙ sym (front.long q.0 hq.0)) e in
+      λ i. (front.one_value p.0 q.0 hp.0 hq.0 parts.0 i, back.one_value p.1 q.1 hp.1 hq.1 parts.1 i);
   ordered = λ p q hp hq.
-    ap (λ o. ordering_then o (second p.1 q.1)) (front.ordered p.0 q.0 hp.0 hq.0)
-    ∙ ap (ordering_then (bytes_cmp (f p.0) (f q.0))) (back.ordered p.1 q.1 hp.1 hq.1)
-    ∙ sym (bytes_cmp-append (f p.0) (f q.0) (g p.1) (g q.1) (front.long p.0 hp.0 ∙ sym (front.long q.0 hq.0)));
+      ap (λ o. ordering_then o (second p.1 q.1)) (front.ordered p.0 q.0 hp.0 hq.0)
+      ∙ ap (ordering_then (bytes_cmp (f p.0) (f q.0))) (back.ordered p.1 q.1 hp.1 hq.1)
+      ∙ sym (bytes_cmp-append (f p.0) (f q.0) (g p.1) (g q.1) (front.long p.0 hp.0 ∙ sym (front.long q.0 hq.0)));
 }
 
 -- the same values in another grouping have the same bytes
@@ -131,6 +131,11 @@ module _ {V : Type 0} (width : ℕ) (P : V → Type 0) (f : V → List ℕ) (cmp
       ∙ ap (ordering_then (bytes_cmp (f x) (f y))) (bytes_cmp-list xs ys hx.1 hy.1)
       ∙ sym (bytes_cmp-append (f x) (f y) (flat_map f xs) (flat_map f ys) (laws.long x hx.0 ∙ sym (laws.long y hy.0)))
 
+  -- one value's bytes behind those of others
+  pub pushed : (vs : List V) (v : V) (bytes : List ℕ) → HaveListBytes P f vs bytes → P v → HaveListBytes P f (vs ++ v ∷ []) (bytes ++ f v)
+  pushed vs v bytes h at_v =
+      (all_append P vs (v ∷ []) h.0 (at_v, tt), ap (λ b. b ++ f v) h.1 ∙ ap (λ b. flat_map f vs ++ b) (sym (append-nil (f v))) ∙ sym (flat_map-append f vs (v ∷ [])))
+
   -- a loop over the parts: the values read so far, and the bytes that are left
 
   pub one_more : (vs : List V) (v : V) (bytes rest : List ℕ) → AllByRecursion P vs → P v → bytes ≡ flat_map f vs ++ rest → f v ≡ take width rest
@@ -144,6 +149,7 @@ module _ {V : Type 0} (width : ℕ) (P : V → Type 0) (f : V → List ℕ) (cmp
     where
       front : (a b : List ℕ) → length a ≡ width → take width (a ++ b) ≡ a
       front a b h = grind (arith, common_steps)
+
       by_rest : ((us : List V) × AllByRecursion P us × (flat_map f us ≡ rest) × (xs ≡ vs ++ us)) → ⊥
       by_rest ([], hu, e, _) = let l = ap length e in let some = laws.some in omega arith
       by_rest (u ∷ us, hu, e, _) =

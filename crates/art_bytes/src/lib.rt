@@ -14,4 +14,6 @@ pub use as_bytes::{AsBytes, CloneBytes, NoPrefixesBytes, OrderedBytes};
 pub use fixed::{Address, FixedBytes, Signed, StoredAsNumber, Unsigned};
 pub use mapped::Mapped;
 pub use mapping::{BytesMapping, FixedBytesMapping, NoPrefixesMapping, OrderedMapping};
-pub use mappings::{Identity, ToIBE, ToOctets, ToUBE};
+pub use mappings::{
+    ConcatTuple, Identity, Keeps, KeepsFixed, KeepsLists, Parts, ToIBE, ToOctets, ToUBE,
+};

@@ -9,7 +9,7 @@ use std::alloc::{AllocError, Global};
 /// A way to give the values of `D` bytes, and to read them back.
 pub trait BytesMapping<D> {
     /// What a value's bytes are kept in.
-    type Bytes: AsBytes;
+    type Bytes: AsBytes + Drop;
 
     /// The value has these bytes. What is written and what is read back both follow from this.
     ghost has_bytes: { D → Self.Bytes → Type 0 };

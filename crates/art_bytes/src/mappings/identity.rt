@@ -9,7 +9,7 @@ use std::alloc::{AllocError, Global};
 /// A key is kept as it is.
 pub struct Identity;
 
-impl<D: AsBytes> BytesMapping<D> for Identity {
+impl<D: AsBytes + Drop> BytesMapping<D> for Identity {
     type Bytes = D;
 
     ghost has_bytes = { λ v b. (v ≡ b) × D.is_key v };
@@ -44,10 +44,10 @@ impl<D: AsBytes> BytesMapping<D> for Identity {
     }
 }
 
-impl<D: NoPrefixesBytes> NoPrefixesMapping<D> for Identity {
+impl<D: NoPrefixesBytes + Drop> NoPrefixesMapping<D> for Identity {
     ghost no_prefixes = { λ v w b c h k. D.no_prefixes v w h.1 k.1 };
 }
 
-impl<D: OrderedBytes> OrderedMapping<D> for Identity {
+impl<D: OrderedBytes + Drop> OrderedMapping<D> for Identity {
     ghost ordered = { λ v w b c h k. D.ordered v w h.1 k.1 };
 }
