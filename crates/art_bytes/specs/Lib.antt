@@ -8,3 +8,5 @@ pub mod Lists
 pub mod Mappings
 pub mod NumberLaws
 pub mod Numbers
+pub mod PartLaws
+pub mod ZeroEnded

@@ -36,3 +36,11 @@ pub trait OrderedBytes: AsBytes + Ord {
 pub trait CloneBytes: AsBytes + Clone {
     ghost same_bytes: { (k l : Self) → Self.is_clone k l → Self.bytes l ≡ Self.bytes k };
 }
+
+// The same bytes, of which the caller then knows that each is below 256.
+pub(crate) fn known_bytes(bytes: &[u8]) -> &[u8]
+    ensures value { result.now ≡ bytes.now }
+    ensures fit { AreBytes bytes.now }
+{
+    bytes
+}

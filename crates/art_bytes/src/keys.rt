@@ -6,6 +6,12 @@ ghost use Rattle.std.specs.List.{each_same};
 ghost use Rattle.art_bytes.specs.Keys.{AreBytes};
 ghost use Rattle.art_bytes.specs.KeyLaws.{BeginsWith-same_length};
 
+mod slices;
+mod zero_ended;
+
+pub use slices::{SliceKey, StrKey};
+pub use zero_ended::{ZeroEnded, ZeroEndedError};
+
 use crate::as_bytes::{AsBytes, CloneBytes, NoPrefixesBytes, OrderedBytes};
 use std::rc::Rc;
 

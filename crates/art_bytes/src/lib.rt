@@ -12,6 +12,7 @@ mod mappings;
 
 pub use as_bytes::{AsBytes, CloneBytes, NoPrefixesBytes, OrderedBytes};
 pub use fixed::{Address, FixedBytes, Signed, StoredAsNumber, Unsigned};
+pub use keys::{SliceKey, StrKey, ZeroEnded, ZeroEndedError};
 pub use mapped::Mapped;
 pub use mapping::{BytesMapping, FixedBytesMapping, NoPrefixesMapping, OrderedMapping};
 pub use mappings::{
