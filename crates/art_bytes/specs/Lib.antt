@@ -4,6 +4,7 @@ pub mod FixedLaws
 pub mod FlipLaws
 pub mod KeyLaws
 pub mod Keys
+pub mod Laws
 pub mod Lists
 pub mod Mappings
 pub mod NumberLaws

@@ -6,6 +6,7 @@
 mod as_bytes;
 mod fixed;
 mod keys;
+pub mod laws;
 mod mapped;
 mod mapping;
 mod mappings;

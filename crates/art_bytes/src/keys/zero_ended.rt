@@ -1,6 +1,6 @@
 //! Bytes without a zero, kept with one behind them.
 ghost use Rattle.std.specs.Prelude.{◌≡◌, ◌++◌, ◌-◌, [], ◌∷◌, ℕ, List, IfOk, IfErr, OnOk, nat_eq, Some, take, length};
-ghost use Rattle.std.proofs.Common.{refl, rules};
+ghost use Rattle.std.proofs.Common.{refl, rules, ap};
 ghost use Rattle.std.specs.Cmp.{on_per, on_po, partial_equiv_from_equiv};
 ghost use Rattle.std.specs.Cmp.Rules.{hashing};
 ghost use Rattle.std.specs.Cmp.Lexicographic.{pointwise, nat_list_eq_equiv, on_texts, on_texts_equal, texts_po, texts_ties};
@@ -87,4 +87,76 @@ impl AsBytes for ZeroEnded {
 
 impl NoPrefixesBytes for ZeroEnded {
     ghost no_prefixes = { λ k l hk hl. zero_ended_front k l hk.0 hl.0 };
+}
+
+impl PartialEq for ZeroEnded {
+    ghost eq = { λ k l. pointwise nat_eq (k ++ 0 ∷ []) (l ++ 0 ∷ []) };
+
+    ghost laws = { on_per (λ k. k ++ 0 ∷ []) (partial_equiv_from_equiv nat_list_eq_equiv) };
+
+    fn eq(&self, other: &Self) -> bool {
+        self.as_bytes() == other.as_bytes()
+    }
+}
+
+impl Eq for ZeroEnded {
+    ghost laws = { on_texts_equal (λ k. k ++ 0 ∷ []) };
+}
+
+impl PartialOrd for ZeroEnded {
+    ghost partial_cmp = { λ k l. Some (bytes_cmp (k ++ 0 ∷ []) (l ++ 0 ∷ [])) };
+
+    ghost laws = { on_po (λ k. k ++ 0 ∷ []) texts_po };
+
+    fn partial_cmp(&self, other: &Self) -> Option<Ordering> {
+        Some(self.cmp(other))
+    }
+}
+
+impl Ord for ZeroEnded {
+    ghost cmp = { λ k l. bytes_cmp (k ++ 0 ∷ []) (l ++ 0 ∷ []) };
+
+    ghost total = { on_texts (λ k. k ++ 0 ∷ []) };
+
+    ghost matches_partial_cmp = { λ k l. refl };
+
+    ghost matches_eq = { λ k l. texts_ties (k ++ 0 ∷ []) (l ++ 0 ∷ []) };
+
+    fn cmp(&self, other: &Self) -> Ordering {
+        self.as_bytes().cmp(other.as_bytes())
+    }
+}
+
+impl OrderedBytes for ZeroEnded {
+    ghost ordered = { λ k l hk hl. refl };
+}
+
+impl Hash for ZeroEnded {
+    ghost hash_input = { λ k. fed.slice fed.u8 (k ++ 0 ∷ []) };
+
+    ghost respects_eq = { Prim.search (hashing, rules) };
+
+    fn hash<H: Hasher>(&self, state: &mut H) {
+        self.as_bytes().hash(state);
+    }
+}
+
+impl Clone for ZeroEnded {
+    ghost is_clone = { λ k l. l ≡ k };
+
+    fn clone(&self) -> Result<Self, AllocError> {
+        let with_zero = self.with_zero.clone()?;
+        Ok(ZeroEnded { with_zero })
+    }
+}
+
+impl CloneBytes for ZeroEnded {
+    ghost same_bytes = { λ k l h. ap (λ it. it ++ 0 ∷ []) h };
+}
+
+impl fmt::Debug for ZeroEnded {
+    fn fmt<W: fmt::Write>(&self, f: &mut fmt::Formatter<W>) -> fmt::Result {
+        let bytes = self.to_bytes();
+        write!(f, "ZeroEnded({bytes:?})")
+    }
 }
