@@ -42,13 +42,15 @@ module _ {V : Type 0} (width : ℕ) (P : V → Type 0) (f : V → List ℕ) (cmp
       let head = parts 0 x (omega arith) in
       let count : suc (length xs) * width ≡ width + length xs * width = grind arith in
       let rest = list_of_parts xs (drop width bytes) (shorter width (length xs) bytes (long ∙ count))
-            (λ k d below. let at = parts (suc k) d (omega arith) in (at.0, at.1 ∙ sym (part_rest width bytes k))) in
+      (λ k d below. let at = parts (suc k) d (omega arith) in (at.0, at.1 ∙ sym (part_rest width bytes k))) in
       ((head.0, rest.0), whole width bytes ∙ ap (λ b. b ++ drop width bytes) (first width bytes ∙ sym head.1) ∙ ap (λ b. f x ++ b) rest.1)
     where
       shorter : (width m : ℕ) (bytes : List ℕ) → length bytes ≡ width + m * width → length (drop width bytes) ≡ m * width
       shorter width m bytes h = grind (arith, common_steps)
+
       whole : (width : ℕ) (bytes : List ℕ) → bytes ≡ take width bytes ++ drop width bytes
       whole width bytes = grind (arith, common_steps)
+
       first : (width : ℕ) (bytes : List ℕ) → take width bytes ≡ part_at width bytes 0
       first width bytes = grind (arith, common_steps)
 
@@ -62,6 +64,7 @@ module _ {V : Type 0} (width : ℕ) (P : V → Type 0) (f : V → List ℕ) (cmp
           → (k : ℕ) (d : V) → k < length (x ∷ xs) → P (get_or (x ∷ xs) k d) × (f (get_or (x ∷ xs) k d) ≡ part_at width bytes k)
       at_each bytes x xs h e rest zero d below = (h, e)
       at_each bytes x xs h e rest (suc k) d below = let at = rest k d (omega arith) in (at.0, at.1 ∙ part_rest width bytes k)
+
       make : (n : ℕ) (bytes : List ℕ) → ((k : ℕ) → k < n → HasValue P f (part_at width bytes k))
           → (xs : List V) × (length xs ≡ n) × ((k : ℕ) (d : V) → k < length xs → P (get_or xs k d) × (f (get_or xs k d) ≡ part_at width bytes k))
       make zero bytes parts = ([], refl, λ k d below. absurd (omega arith))

@@ -9,11 +9,10 @@ ghost use Rattle.art_bytes.specs.KeyLaws.{BeginsWith-same_length};
 mod slices;
 mod zero_ended;
 
-pub use slices::{SliceKey, StrKey};
-pub use zero_ended::{ZeroEnded, ZeroEndedError};
-
 use crate::as_bytes::{AsBytes, CloneBytes, NoPrefixesBytes, OrderedBytes};
+pub use slices::{SliceKey, StrKey};
 use std::rc::Rc;
+pub use zero_ended::{ZeroEnded, ZeroEndedError};
 
 impl AsBytes for Vec<u8> {
     ghost is_key = { λ k. AreBytes k.items };

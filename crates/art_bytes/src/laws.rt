@@ -45,7 +45,10 @@ pub fn reads_back<B: BytesMapping<D>, D>(alloc: Global, value: D) -> Result<D, A
 }
 
 /// Bytes that are read and written back are the same bytes.
-pub fn writes_back<B: BytesMapping<D>, D>(alloc: Global, bytes: B::Bytes) -> Result<B::Bytes, AllocError>
+pub fn writes_back<B: BytesMapping<D>, D>(
+    alloc: Global,
+    bytes: B::Bytes,
+) -> Result<B::Bytes, AllocError>
     requires { (v : D) × B.has_bytes v bytes }
     ensures { IfOk result (λ b. B.Bytes.bytes b ≡ B.Bytes.bytes bytes) }
 {
@@ -64,7 +67,10 @@ pub fn fixed_bytes<B: FixedBytesMapping<D>, D: Ord>(alloc: Global, value: D) -> 
 }
 
 /// Mapped values have the order of the values.
-pub fn order_is_of_values<B: OrderedMapping<D>, D: Ord>(a: &Mapped<B, D>, b: &Mapped<B, D>) -> Ordering
+pub fn order_is_of_values<B: OrderedMapping<D>, D: Ord>(
+    a: &Mapped<B, D>,
+    b: &Mapped<B, D>,
+) -> Ordering
     ensures { (v w : D) → B.has_bytes v a.now → B.has_bytes w b.now → result ≡ D.cmp v w }
 {
     a.cmp(b)

@@ -67,8 +67,8 @@ impl ZeroEnded {
         ensures value { result.now ≡ self.now }
         ensures no_zero { HasNoZero self.now }
     {
-        let bytes = self.with_zero.as_slice();
-        &bytes[..bytes.len() - 1]
+        let with_zero = self.with_zero.as_slice();
+        &with_zero[..with_zero.len() - 1]
     }
 }
 

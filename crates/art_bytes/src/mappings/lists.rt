@@ -20,7 +20,10 @@ impl KeepsLists for ToUBE {}
 impl KeepsLists for ToIBE {}
 
 // The bytes of the values, one after the other.
-pub(super) fn write_list<E: FixedBytes>(alloc: Global, values: Vec<E>) -> Result<Vec<u8>, AllocError>
+pub(super) fn write_list<E: FixedBytes>(
+    alloc: Global,
+    values: Vec<E>,
+) -> Result<Vec<u8>, AllocError>
     ensures { IfOk result (λ bytes. HaveListBytes E.is_value E.fixed_bytes values.items bytes.items) }
 {
     let mut bytes = Vec::new(alloc);

@@ -9,12 +9,15 @@ use crate::mapping::{BytesMapping, FixedBytesMapping, NoPrefixesMapping, Ordered
 use std::alloc::{AllocError, Global};
 
 /// Unsigned numbers as big-endian bytes.
+#[derive(Clone, Copy, Debug)]
 pub struct ToUBE;
 
 /// Signed numbers as big-endian bytes with the top bit flipped, so that the negative ones come first.
+#[derive(Clone, Copy, Debug)]
 pub struct ToIBE;
 
 /// Addresses as their octets.
+#[derive(Clone, Copy, Debug)]
 pub struct ToOctets;
 
 /// A mapping that keeps values as their fixed bytes.
@@ -98,19 +101,4 @@ impl<M: KeepsFixed + Keeps<E>, E: FixedBytes> NoPrefixesMapping<E> for M {
 
 impl<M: KeepsFixed + Keeps<E>, E: FixedBytes> OrderedMapping<E> for M {
     ghost ordered = { λ v w b c h k. E.have_bytes.ordered v w h.0 k.0 };
-}
-
-#[cfg(test)]
-mod tests {
-    use super::*;
-    use std::test::Fail;
-
-    #[test]
-    fn writes_big_endian(rt: HostRuntime) -> Result<(), Fail> {
-        let bytes = ToUBE::to_bytes(rt.alloc(), 256u32)?;
-        assert_eq!(rt; bytes.as_slice(), [0, 0, 1, 0].as_slice());
-        let bytes = ToIBE::to_bytes(rt.alloc(), -1i8)?;
-        assert_eq!(rt; bytes.as_slice(), [0x7f].as_slice());
-        Ok(())
-    }
 }

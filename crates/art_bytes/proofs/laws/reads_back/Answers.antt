@@ -9,4 +9,4 @@ returns g c =
     let read = c.in_ok-read.ensures.value in
     let had = c.in_ok-bytes.ensures.value in
     laws.one_value c.in_ok-read.read c.args.value written written read had
-      (sym (laws.are_bytes c.in_ok-read.read written read).1 ∙ (laws.are_bytes c.args.value written had).1)
+    (sym (laws.are_bytes c.in_ok-read.read written read).1 ∙ (laws.are_bytes c.args.value written had).1)
