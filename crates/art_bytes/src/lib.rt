@@ -18,6 +18,4 @@ pub use fixed::{Address, FixedBytes, Signed, StoredAsNumber, Unsigned};
 pub use keys::{SliceKey, StrKey, ZeroEnded, ZeroEndedError};
 pub use mapped::Mapped;
 pub use mapping::{BytesMapping, FixedBytesMapping, NoPrefixesMapping, OrderedMapping};
-pub use mappings::{
-    ConcatTuple, Identity, Keeps, KeepsFixed, KeepsLists, Parts, ToIBE, ToOctets, ToUBE,
-};
+pub use mappings::{ConcatTuple, Identity, Parts, ToIBE, ToOctets, ToUBE};

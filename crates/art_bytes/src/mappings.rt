@@ -6,5 +6,4 @@ mod numbers;
 
 pub use concat::{ConcatTuple, Parts};
 pub use identity::Identity;
-pub use lists::KeepsLists;
-pub use numbers::{Keeps, KeepsFixed, ToIBE, ToOctets, ToUBE};
+pub use numbers::{ToIBE, ToOctets, ToUBE};

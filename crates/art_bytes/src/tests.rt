@@ -179,6 +179,20 @@ fn mapped_values(rt: HostRuntime) -> Result<(), Fail> {
 }
 
 #[test]
+fn mapped_tuple(rt: HostRuntime) -> Result<(), Fail> {
+    let least = Mapped::<ConcatTuple<(ToUBE, ToIBE)>, (u32, i64)>::new(rt.alloc(), (1, -5))?;
+    let most = Mapped::<ConcatTuple<(ToUBE, ToIBE)>, (u32, i64)>::new(rt.alloc(), (1, 6))?;
+    ordered(&rt, &least, &most);
+    ends(
+        &rt,
+        &least,
+        b"\x00\x00\x00\x01\x7f\xff\xff\xff\xff\xff\xff\xfb",
+    );
+    assert!(rt; most.get(rt.alloc())? == (1, 6));
+    Ok(())
+}
+
+#[test]
 fn plain_keys(rt: HostRuntime) -> Result<(), Fail> {
     is(&rt, &StrKey("ab"), b"ab");
     ordered(&rt, &StrKey("ab"), &StrKey("b"));

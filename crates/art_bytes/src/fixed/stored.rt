@@ -1,6 +1,5 @@
 //! Values that are stored as a number of another type.
-ghost use Rattle.std.specs.Prelude.{◌≡◌, MatchOption};
-ghost use Rattle.art_bytes.specs.FixedLaws.{stored_bytes};
+ghost use Rattle.std.specs.Prelude.{◌≡◌, MatchOption, length};
 
 use super::FixedBytes;
 
@@ -28,24 +27,10 @@ pub trait StoredAsNumber: Ord + Drop {
     ghost same_order: { (v w : Self) → in_range v → in_range w → Self.cmp v w ≡ Self.Number.cmp (stored v) (stored w) };
 }
 
-impl<X: StoredAsNumber> FixedBytes for X {
-    type Array = <X::Number as FixedBytes>::Array;
-
-    ghost WIDTH = { X.Number.WIDTH };
-
-    const WIDTH: usize = X::Number::WIDTH;
-
-    ghost is_value = { λ v. X.in_range v × X.Number.is_value (X.stored v) };
-
-    ghost fixed_bytes = { λ v. X.Number.fixed_bytes (X.stored v) };
-
-    ghost have_bytes = { stored_bytes X.stored X.in_range X.cmp X.Number.WIDTH X.Number.is_value X.Number.fixed_bytes X.Number.cmp X.one_value X.same_order X.Number.have_bytes };
-
-    fn to_array(self) -> <X::Number as FixedBytes>::Array {
-        self.to_number().to_array()
-    }
-
-    fn checked_from_slice(bytes: &[u8]) -> Option<X> {
-        X::from_number(X::Number::checked_from_slice(bytes)?)
-    }
+// The value whose number has these bytes, or None where there is none.
+pub(super) fn read_stored<X: StoredAsNumber>(bytes: &[u8]) -> Option<X>
+    requires { length bytes.now ≡ X.Number.WIDTH }
+    ensures { MatchOption result (¬ ((v : X) × (X.in_range v × X.Number.is_value (X.stored v)) × (X.Number.fixed_bytes (X.stored v) ≡ bytes.now))) (λ v. (X.in_range v × X.Number.is_value (X.stored v)) × (X.Number.fixed_bytes (X.stored v) ≡ bytes.now)) }
+{
+    X::from_number(X::Number::checked_from_slice(bytes)?)
 }

@@ -6,18 +6,11 @@ ghost use Rattle.art_bytes.specs.Keys.{AreBytes};
 ghost use Rattle.art_bytes.specs.Lists.{HaveListBytes};
 ghost use Rattle.art_bytes.specs.ConcatLaws.{AreBytes-list, one_list, bytes_cmp-list};
 
-use super::numbers::{Keeps, KeepsFixed, ToIBE, ToUBE};
+use super::numbers::{ToIBE, ToUBE};
 use crate::as_bytes::AsBytes;
-use crate::fixed::FixedBytes;
+use crate::fixed::{FixedBytes, Signed, Unsigned};
 use crate::mapping::{BytesMapping, OrderedMapping};
 use std::alloc::{AllocError, Global};
-
-/// A mapping that also keeps lists of what it keeps.
-pub trait KeepsLists: KeepsFixed {}
-
-impl KeepsLists for ToUBE {}
-
-impl KeepsLists for ToIBE {}
 
 // The bytes of the values, one after the other.
 pub(super) fn write_list<E: FixedBytes>(
@@ -56,7 +49,7 @@ fn read_list<E: FixedBytes>(alloc: Global, bytes: &[u8]) -> Result<Option<Vec<E>
     }
 }
 
-impl<M: KeepsLists + Keeps<E>, E: FixedBytes> BytesMapping<Vec<E>> for M {
+impl<E: Unsigned> BytesMapping<Vec<E>> for ToUBE {
     type Bytes = Vec<u8>;
 
     ghost has_bytes = { λ v b. HaveListBytes E.is_value E.fixed_bytes v.items b.items };
@@ -91,6 +84,45 @@ impl<M: KeepsLists + Keeps<E>, E: FixedBytes> BytesMapping<Vec<E>> for M {
     }
 }
 
-impl<M: KeepsLists + Keeps<E>, E: FixedBytes> OrderedMapping<Vec<E>> for M {
+impl<E: Unsigned> OrderedMapping<Vec<E>> for ToUBE {
+    ghost ordered = { λ v w b c h k. bytes_cmp-list E.WIDTH E.is_value E.fixed_bytes E.cmp E.have_bytes v.items w.items h.0 k.0 };
+}
+
+impl<E: Signed> BytesMapping<Vec<E>> for ToIBE {
+    type Bytes = Vec<u8>;
+
+    ghost has_bytes = { λ v b. HaveListBytes E.is_value E.fixed_bytes v.items b.items };
+
+    ghost bytes_of = { λ v. flat_map E.fixed_bytes v.items };
+
+    ghost is_same = { λ v w. v.items ≡ w.items };
+
+    ghost bytes_are_free = { ⊥ };
+
+    ghost value_is_free = { ⊥ };
+
+    ghost are_bytes = { λ v b h. (subst AreBytes (sym h.1) (AreBytes-list E.WIDTH E.is_value E.fixed_bytes E.cmp E.have_bytes v.items h.0), h.1) };
+
+    ghost by_bytes = { λ v b c h k e. (v, (h.0, e ∙ h.1)) };
+
+    ghost one_value = { λ v w b c h k e. one_list E.WIDTH E.is_value E.fixed_bytes E.cmp E.have_bytes v.items w.items h.0 k.0 e };
+
+    fn to_bytes(alloc: Global, value: Vec<E>) -> Result<Vec<u8>, AllocError> {
+        write_list(alloc, value)
+    }
+
+    fn from_bytes(alloc: Global, bytes: Vec<u8>) -> Result<Vec<E>, AllocError> {
+        match read_list(alloc, bytes.as_slice())? {
+            Some(values) => Ok(values),
+            None => unreachable!(),
+        }
+    }
+
+    fn checked_from_bytes(alloc: Global, bytes: Vec<u8>) -> Result<Option<Vec<E>>, AllocError> {
+        read_list(alloc, bytes.as_slice())
+    }
+}
+
+impl<E: Signed> OrderedMapping<Vec<E>> for ToIBE {
     ghost ordered = { λ v w b c h k. bytes_cmp-list E.WIDTH E.is_value E.fixed_bytes E.cmp E.have_bytes v.items w.items h.0 k.0 };
 }

@@ -1,5 +1,5 @@
 //! Numbers and addresses as their fixed bytes.
-ghost use Rattle.std.specs.Prelude.{◌≡◌};
+ghost use Rattle.std.specs.Prelude.{◌≡◌, IfOk, OnErr, MatchOption};
 ghost use Rattle.std.proofs.Common.{◌∙◌};
 ghost use Rattle.art_bytes.specs.KeyLaws.{BeginsWith-same_length};
 
@@ -20,25 +20,32 @@ pub struct ToIBE;
 #[derive(Clone, Copy, Debug)]
 pub struct ToOctets;
 
-/// A mapping that keeps values as their fixed bytes.
-pub trait KeepsFixed {}
+// The value that has these bytes.
+fn read<E: FixedBytes>(bytes: E::Array) -> E
+    requires { (v : E) × E.is_value v × (E.Array.bytes bytes ≡ E.fixed_bytes v) }
+    ensures value { E.is_value result }
+    ensures bytes { E.Array.bytes bytes ≡ E.fixed_bytes result }
+    ensures key { E.Array.is_key bytes }
+{
+    match E::checked_from_slice(bytes.as_bytes()) {
+        Some(value) => value,
+        None => unreachable!(),
+    }
+}
 
-impl KeepsFixed for ToUBE {}
+// The value that has these bytes, or None where there is none.
+fn checked_read<E: FixedBytes>(bytes: E::Array) -> Option<E>
+    ensures value { MatchOption result (¬ ((v : E) × E.is_value v × (E.Array.bytes bytes ≡ E.fixed_bytes v))) (λ v. E.is_value v × (E.Array.bytes bytes ≡ E.fixed_bytes v)) }
+    ensures key { E.Array.is_key bytes }
+{
+    let bytes = bytes.as_bytes();
+    if bytes.len() != E::WIDTH {
+        return None;
+    }
+    E::checked_from_slice(bytes)
+}
 
-impl KeepsFixed for ToIBE {}
-
-impl KeepsFixed for ToOctets {}
-
-/// It keeps the values of `E` so.
-pub trait Keeps<E: FixedBytes>: KeepsFixed {}
-
-impl<E: Unsigned> Keeps<E> for ToUBE {}
-
-impl<E: Signed> Keeps<E> for ToIBE {}
-
-impl<E: Address> Keeps<E> for ToOctets {}
-
-impl<M: KeepsFixed + Keeps<E>, E: FixedBytes> BytesMapping<E> for M {
+impl<E: Unsigned> BytesMapping<E> for ToUBE {
     type Bytes = E::Array;
 
     ghost has_bytes = { λ v b. E.is_value v × E.Array.is_key b × (E.Array.bytes b ≡ E.fixed_bytes v) };
@@ -62,22 +69,15 @@ impl<M: KeepsFixed + Keeps<E>, E: FixedBytes> BytesMapping<E> for M {
     }
 
     fn from_bytes(_alloc: Global, bytes: E::Array) -> Result<E, AllocError> {
-        match E::checked_from_slice(bytes.as_bytes()) {
-            Some(value) => Ok(value),
-            None => unreachable!(),
-        }
+        Ok(read::<E>(bytes))
     }
 
     fn checked_from_bytes(_alloc: Global, bytes: E::Array) -> Result<Option<E>, AllocError> {
-        let bytes = bytes.as_bytes();
-        if bytes.len() != E::WIDTH {
-            return Ok(None);
-        }
-        Ok(E::checked_from_slice(bytes))
+        Ok(checked_read::<E>(bytes))
     }
 }
 
-impl<M: KeepsFixed + Keeps<E>, E: FixedBytes> FixedBytesMapping<E> for M {
+impl<E: Unsigned> FixedBytesMapping<E> for ToUBE {
     ghost WIDTH = { E.WIDTH };
 
     const WIDTH: usize = E::WIDTH;
@@ -95,10 +95,126 @@ impl<M: KeepsFixed + Keeps<E>, E: FixedBytes> FixedBytesMapping<E> for M {
     }
 }
 
-impl<M: KeepsFixed + Keeps<E>, E: FixedBytes> NoPrefixesMapping<E> for M {
+impl<E: Unsigned> NoPrefixesMapping<E> for ToUBE {
     ghost no_prefixes = { λ v w b c h k. BeginsWith-same_length _ _ E.WIDTH (E.have_bytes.long v h.0) (E.have_bytes.long w k.0) };
 }
 
-impl<M: KeepsFixed + Keeps<E>, E: FixedBytes> OrderedMapping<E> for M {
+impl<E: Unsigned> OrderedMapping<E> for ToUBE {
+    ghost ordered = { λ v w b c h k. E.have_bytes.ordered v w h.0 k.0 };
+}
+
+impl<E: Signed> BytesMapping<E> for ToIBE {
+    type Bytes = E::Array;
+
+    ghost has_bytes = { λ v b. E.is_value v × E.Array.is_key b × (E.Array.bytes b ≡ E.fixed_bytes v) };
+
+    ghost bytes_of = { E.fixed_bytes };
+
+    ghost is_same = { λ v w. v ≡ w };
+
+    ghost bytes_are_free = { Unit {0} };
+
+    ghost value_is_free = { Unit {0} };
+
+    ghost are_bytes = { λ v b h. (h.1, h.2) };
+
+    ghost by_bytes = { λ v b c h k e. (v, (h.0, k, e ∙ h.2)) };
+
+    ghost one_value = { λ v w b c h k e. E.have_bytes.one_value v w h.0 k.0 e };
+
+    fn to_bytes(_alloc: Global, value: E) -> Result<E::Array, AllocError> {
+        Ok(value.to_array())
+    }
+
+    fn from_bytes(_alloc: Global, bytes: E::Array) -> Result<E, AllocError> {
+        Ok(read::<E>(bytes))
+    }
+
+    fn checked_from_bytes(_alloc: Global, bytes: E::Array) -> Result<Option<E>, AllocError> {
+        Ok(checked_read::<E>(bytes))
+    }
+}
+
+impl<E: Signed> FixedBytesMapping<E> for ToIBE {
+    ghost WIDTH = { E.WIDTH };
+
+    const WIDTH: usize = E::WIDTH;
+
+    ghost is_value = { E.is_value };
+
+    ghost takes_no_memory = { (tt, tt) };
+
+    ghost values = { λ v b h. h.0 };
+
+    ghost have_bytes = { E.have_bytes };
+
+    fn checked_from_slice(bytes: &[u8]) -> Option<E> {
+        E::checked_from_slice(bytes)
+    }
+}
+
+impl<E: Signed> NoPrefixesMapping<E> for ToIBE {
+    ghost no_prefixes = { λ v w b c h k. BeginsWith-same_length _ _ E.WIDTH (E.have_bytes.long v h.0) (E.have_bytes.long w k.0) };
+}
+
+impl<E: Signed> OrderedMapping<E> for ToIBE {
+    ghost ordered = { λ v w b c h k. E.have_bytes.ordered v w h.0 k.0 };
+}
+
+impl<E: Address> BytesMapping<E> for ToOctets {
+    type Bytes = E::Array;
+
+    ghost has_bytes = { λ v b. E.is_value v × E.Array.is_key b × (E.Array.bytes b ≡ E.fixed_bytes v) };
+
+    ghost bytes_of = { E.fixed_bytes };
+
+    ghost is_same = { λ v w. v ≡ w };
+
+    ghost bytes_are_free = { Unit {0} };
+
+    ghost value_is_free = { Unit {0} };
+
+    ghost are_bytes = { λ v b h. (h.1, h.2) };
+
+    ghost by_bytes = { λ v b c h k e. (v, (h.0, k, e ∙ h.2)) };
+
+    ghost one_value = { λ v w b c h k e. E.have_bytes.one_value v w h.0 k.0 e };
+
+    fn to_bytes(_alloc: Global, value: E) -> Result<E::Array, AllocError> {
+        Ok(value.to_array())
+    }
+
+    fn from_bytes(_alloc: Global, bytes: E::Array) -> Result<E, AllocError> {
+        Ok(read::<E>(bytes))
+    }
+
+    fn checked_from_bytes(_alloc: Global, bytes: E::Array) -> Result<Option<E>, AllocError> {
+        Ok(checked_read::<E>(bytes))
+    }
+}
+
+impl<E: Address> FixedBytesMapping<E> for ToOctets {
+    ghost WIDTH = { E.WIDTH };
+
+    const WIDTH: usize = E::WIDTH;
+
+    ghost is_value = { E.is_value };
+
+    ghost takes_no_memory = { (tt, tt) };
+
+    ghost values = { λ v b h. h.0 };
+
+    ghost have_bytes = { E.have_bytes };
+
+    fn checked_from_slice(bytes: &[u8]) -> Option<E> {
+        E::checked_from_slice(bytes)
+    }
+}
+
+impl<E: Address> NoPrefixesMapping<E> for ToOctets {
+    ghost no_prefixes = { λ v w b c h k. BeginsWith-same_length _ _ E.WIDTH (E.have_bytes.long v h.0) (E.have_bytes.long w k.0) };
+}
+
+impl<E: Address> OrderedMapping<E> for ToOctets {
     ghost ordered = { λ v w b c h k. E.have_bytes.ordered v w h.0 k.0 };
 }
