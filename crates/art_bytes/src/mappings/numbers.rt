@@ -122,8 +122,8 @@ impl<E: Signed> BytesMapping<E> for ToIBE {
 
     ghost one_value = { λ v w b c h k e. E.have_bytes.one_value v w h.0 k.0 e };
 
-    fn to_bytes(_alloc: Global, value: E) -> Result<E::Array, AllocError> {
-        Ok(value.to_array())
+    fn to_bytes(_alloc: Global, number: E) -> Result<E::Array, AllocError> {
+        Ok(number.to_array())
     }
 
     fn from_bytes(_alloc: Global, bytes: E::Array) -> Result<E, AllocError> {
@@ -180,16 +180,16 @@ impl<E: Address> BytesMapping<E> for ToOctets {
 
     ghost one_value = { λ v w b c h k e. E.have_bytes.one_value v w h.0 k.0 e };
 
-    fn to_bytes(_alloc: Global, value: E) -> Result<E::Array, AllocError> {
-        Ok(value.to_array())
+    fn to_bytes(_alloc: Global, address: E) -> Result<E::Array, AllocError> {
+        Ok(address.to_array())
     }
 
-    fn from_bytes(_alloc: Global, bytes: E::Array) -> Result<E, AllocError> {
-        Ok(read::<E>(bytes))
+    fn from_bytes(_alloc: Global, octets: E::Array) -> Result<E, AllocError> {
+        Ok(read::<E>(octets))
     }
 
-    fn checked_from_bytes(_alloc: Global, bytes: E::Array) -> Result<Option<E>, AllocError> {
-        Ok(checked_read::<E>(bytes))
+    fn checked_from_bytes(_alloc: Global, octets: E::Array) -> Result<Option<E>, AllocError> {
+        Ok(checked_read::<E>(octets))
     }
 }
 
