@@ -1,0 +1,13 @@
+pub mod AddressLaws
+pub mod ConcatLaws
+pub mod FixedLaws
+pub mod FlipLaws
+pub mod KeyLaws
+pub mod Keys
+pub mod Laws
+pub mod Lists
+pub mod Mappings
+pub mod NumberLaws
+pub mod Numbers
+pub mod PartLaws
+pub mod ZeroEnded

@@ -1,0 +1,55 @@
+//! Text and bytes that are borrowed.
+ghost use Rattle.std.specs.Prelude.{◌≡◌};
+ghost use Rattle.std.proofs.Common.{refl, ap};
+ghost use Rattle.art_bytes.specs.Keys.{AreBytes};
+
+use crate::as_bytes::{AsBytes, CloneBytes, OrderedBytes, known_bytes};
+
+/// A text that is borrowed: its UTF-8 bytes.
+#[derive(Clone, Copy, PartialEq, Eq, PartialOrd, Ord, Hash, Debug)]
+pub struct StrKey<'a>(pub &'a str);
+
+impl AsBytes for StrKey<'_> {
+    ghost is_key = { λ k. AreBytes k.0.now };
+
+    ghost bytes = { λ k. k.0.now };
+
+    ghost bytes_fit = { λ k h. h };
+
+    fn as_bytes(&self) -> &[u8] {
+        let bytes = self.0.as_bytes();
+        bytes
+    }
+}
+
+impl OrderedBytes for StrKey<'_> {
+    ghost ordered = { λ k l hk hl. refl };
+}
+
+impl CloneBytes for StrKey<'_> {
+    ghost same_bytes = { λ k l h. ap (λ it. it.0.now) h };
+}
+
+/// Bytes that are borrowed.
+#[derive(Clone, Copy, PartialEq, Eq, PartialOrd, Ord, Hash, Debug)]
+pub struct SliceKey<'a>(pub &'a [u8]);
+
+impl AsBytes for SliceKey<'_> {
+    ghost is_key = { λ k. AreBytes k.0.now };
+
+    ghost bytes = { λ k. k.0.now };
+
+    ghost bytes_fit = { λ k h. h };
+
+    fn as_bytes(&self) -> &[u8] {
+        known_bytes(self.0)
+    }
+}
+
+impl OrderedBytes for SliceKey<'_> {
+    ghost ordered = { λ k l hk hl. refl };
+}
+
+impl CloneBytes for SliceKey<'_> {
+    ghost same_bytes = { λ k l h. ap (λ it. it.0.now) h };
+}
