@@ -1,5 +1,5 @@
 -- What more bytes do to a run over the bytes given so far.
-use Rattle.std.proofs.Common.{◌≡◌, ℕ, suc, ◌+◌, ◌<◌, ◌≤◌, List, [], ◌∷◌, ◌++◌, length, take, refl, ap, sym, ◌∙◌, subst, Bool, true, false, arith, append_assoc, append-nil, length-append, min}
+use Rattle.std.proofs.Common.{◌≡◌, ℕ, ◌+◌, ◌<◌, ◌≤◌, List, [], ◌∷◌, ◌++◌, length, take, refl, ap, sym, ◌∙◌, subst, Bool, true, false, arith, append_assoc, append-nil, min}
 use Rattle.std.proofs.Common.{inl, inr, ◌-◌, Result, Ok, Err, IsOk, OnOk}
 use Rattle.std.proofs.lemmas.Bool.{true≢false}
 use Rattle.std.proofs.Math.Seq.{take-append-add}
@@ -11,7 +11,7 @@ use Rattle.art_index.specs.Reading.{command_of}
 use Rattle.art_index.specs.Records.{Records}
 use Rattle.art_index.specs.Replies.{reply_to, records_after}
 use Rattle.art_index.specs.Refusals.{LineMayRefuse}
-use Rattle.art_index.specs.Outcome.{answer, left_by, IsLawful, outcome_of, IsOutcome}
+use Rattle.art_index.specs.Outcome.{answer, left_by, IsOutcome}
 use Rattle.art_index.specs.Progress.{Ran, Carried, NoNewline}
 use Rattle.art_index.proofs.LineLemmas.{whole_lines_of-part, unfinished_line_of-part, whole_lines_of-line, unfinished_line_of-newline}
 use Rattle.art_index.proofs.RunLemmas.{Ran-none, Ran-more, with_place}
@@ -32,7 +32,7 @@ itself line held e = record { command = ap command_of e; spelled = λ c h. subst
 pub cut : (line held : List ℕ) → held ≡ take 4097 line → StandsFor held line
 unfolding command_of
 cut line held e = elim (cases_lt (length line) 4097) [
-    inl short ↦ let all : length line ≤ 4097 = omega arith in itself line held (e ∙ take_all 4097 line all)
+  | inl short ↦ let all : length line ≤ 4097 = omega arith in itself line held (e ∙ take_all 4097 line all)
   | inr long ↦
       let same : length held ≡ 4097 = ap length e ∙ length-take-le 4097 line long in
       let held_long : 4096 < length held = omega arith in
@@ -40,7 +40,8 @@ cut line held e = elim (cases_lt (length line) 4097) [
       record {
         command = rw (lt-leb (length held) 4096 held_long, lt-leb (length line) 4096 line_long) refl;
         spelled = λ c h. let short = h.short in absurd (omega arith);
-      } ]
+      }
+]
 
 same_answer : (memory : Bool) (now : Records) (held line : List ℕ) → StandsFor held line → answer memory now held ≡ answer memory now line
 unfolding reply_to
@@ -57,43 +58,44 @@ same_refusal now held line s may = (may.0, s.spelled may.0 may.1, may.2)
 
 -- a run that goes on by a line
 goes_on : (start now : Records) (text held before taken line handled : List ℕ) (c : Carried start now text held before taken) → StandsFor handled line
-  → (memory : Bool) → (memory ≡ true → LineMayRefuse now handled)
-  → Ran start (whole_lines_of text ++ line ∷ []) (with_place memory c.refused (length (whole_lines_of text))) (c.written ++ answer memory now handled) (left_by memory now handled)
+    → (memory : Bool) → (memory ≡ true → LineMayRefuse now handled)
+    → Ran start (whole_lines_of text ++ line ∷ []) (with_place memory c.refused (length (whole_lines_of text))) (c.written ++ answer memory now handled) (left_by memory now handled)
 goes_on start now text held before taken line handled c s memory lawful =
     rw (same_answer memory now handled line s, same_left memory now handled line s)
-      (Ran-more start (whole_lines_of text) c.refused c.written now memory line c.ran (λ yes. same_refusal now handled line s (lawful yes)))
+    (Ran-more start (whole_lines_of text) c.refused c.written now memory line c.ran (λ yes. same_refusal now handled line s (lawful yes)))
 
 pub carried_line : (start now now' : Records) (text part handled held held' before taken taken' : List ℕ) (memory : Bool)
-  → Carried start now text held before taken → NoNewline part → StandsFor handled (unfinished_line_of text ++ part)
-  → (memory ≡ true → LineMayRefuse now handled)
-  → taken' ≡ taken ++ answer memory now handled → now' ≡ left_by memory now handled → held' ≡ []
-  → Carried start now' (text ++ part ++ 10 ∷ []) held' before taken'
+    → Carried start now text held before taken → NoNewline part → StandsFor handled (unfinished_line_of text ++ part)
+    → (memory ≡ true → LineMayRefuse now handled)
+    → taken' ≡ taken ++ answer memory now handled → now' ≡ left_by memory now handled → held' ≡ []
+    → Carried start now' (text ++ part ++ 10 ∷ []) held' before taken'
 carried_line start now now' text part handled held held' before taken taken' memory c none s lawful told left empty = record {
-    refused = with_place memory c.refused (length (whole_lines_of text));
-    written = c.written ++ answer memory now handled;
-    ran = rw (left, whole_lines_of-line text part none) (goes_on start now text held before taken (unfinished_line_of text ++ part) handled c s memory lawful);
-    told = told ∙ ap (λ t. t ++ answer memory now handled) c.told ∙ append_assoc before c.written (answer memory now handled);
-    rest = empty ∙ sym (ap (take 4097) (unfinished_line_of-newline (text ++ part)));
-  }
+  refused = with_place memory c.refused (length (whole_lines_of text));
+  written = c.written ++ answer memory now handled;
+  ran = rw (left, whole_lines_of-line text part none) (goes_on start now text held before taken (unfinished_line_of text ++ part) handled c s memory lawful);
+  told = told ∙ ap (λ t. t ++ answer memory now handled) c.told ∙ append_assoc before c.written (answer memory now handled);
+  rest = empty ∙ sym (ap (take 4097) (unfinished_line_of-newline (text ++ part)));
+}
 
 -- what is held, and then more, as far as there is room
 take-take : (n : ℕ) (xs ys : List ℕ) → take n (take n xs ++ ys) ≡ take n (xs ++ ys)
 take-take n xs ys = elim (cases_lt (length xs) n) [
-    inl short ↦ let all : length xs ≤ n = omega arith in ap (λ t. take n (t ++ ys)) (take_all n xs all)
+  | inl short ↦ let all : length xs ≤ n = omega arith in ap (λ t. take n (t ++ ys)) (take_all n xs all)
   | inr long ↦
       let full : length (take n xs) ≡ n = length-take-le n xs long in let enough : n ≤ length (take n xs) = omega arith in let within : length (take n xs) ≤ n = omega arith in
-      take-append-le n (take n xs) ys enough ∙ take_all n (take n xs) within ∙ sym (take-append-le n xs ys long) ]
+      take-append-le n (take n xs) ys enough ∙ take_all n (take n xs) within ∙ sym (take-append-le n xs ys long)
+]
 
 pub carried_part : (start now now' : Records) (text part held held' before taken taken' : List ℕ)
-  → Carried start now text held before taken → NoNewline part → now' ≡ now → held' ≡ take 4097 (held ++ part) → taken' ≡ taken
-  → Carried start now' (text ++ part) held' before taken'
+    → Carried start now text held before taken → NoNewline part → now' ≡ now → held' ≡ take 4097 (held ++ part) → taken' ≡ taken
+    → Carried start now' (text ++ part) held' before taken'
 carried_part start now now' text part held held' before taken taken' c none same longer told = record {
-    refused = c.refused;
-    written = c.written;
-    ran = rw (same, whole_lines_of-part text part none) c.ran;
-    told = told ∙ c.told;
-    rest = longer ∙ ap (λ t. take 4097 (t ++ part)) c.rest ∙ take-take 4097 (unfinished_line_of text) part ∙ sym (ap (take 4097) (unfinished_line_of-part text part none));
-  }
+  refused = c.refused;
+  written = c.written;
+  ran = rw (same, whole_lines_of-part text part none) c.ran;
+  told = told ∙ c.told;
+  rest = longer ∙ ap (λ t. take 4097 (t ++ part)) c.rest ∙ take-take 4097 (unfinished_line_of text) part ∙ sym (ap (take 4097) (unfinished_line_of-part text part none));
+}
 
 nothing_held : (l : List ℕ) → take 4097 l ≡ [] → l ≡ []
 nothing_held [] e = refl
@@ -101,13 +103,13 @@ nothing_held (x ∷ xs) e = let cut = ap length e in let all : length (take 4097
 
 -- where nothing is held, a line that lies whole in the piece is the whole line
 pub whole_in_piece : (start now : Records) (text held before taken part handled : List ℕ) → Carried start now text held before taken
-  → held ≡ [] → handled ≡ part → StandsFor handled (unfinished_line_of text ++ part)
+    → held ≡ [] → handled ≡ part → StandsFor handled (unfinished_line_of text ++ part)
 whole_in_piece start now text held before taken part handled c empty same =
     itself (unfinished_line_of text ++ part) handled (same ∙ ap (λ l. l ++ part) (sym (nothing_held (unfinished_line_of text) (sym c.rest ∙ empty))))
 
 -- where a part is held, the line is put together
 pub put_together : (start now : Records) (text held before taken part handled : List ℕ) → Carried start now text held before taken
-  → handled ≡ take 4097 (held ++ part) → StandsFor handled (unfinished_line_of text ++ part)
+    → handled ≡ take 4097 (held ++ part) → StandsFor handled (unfinished_line_of text ++ part)
 put_together start now text held before taken part handled c same =
     cut (unfinished_line_of text ++ part) handled (same ∙ ap (λ t. take 4097 (t ++ part)) c.rest ∙ take-take 4097 (unfinished_line_of text) part)
 
@@ -120,7 +122,7 @@ outcome_whole start now text held before taken c = outcome_of_run start now (who
 
 -- the end of the input, with nothing held
 pub outcome_end : (start now : Records) (text held before taken : List ℕ) (c : Carried start now text held before taken) → held ≡ []
-  → IsOutcome start (lines_of text) c.written now
+    → IsOutcome start (lines_of text) c.written now
 outcome_end start now text held before taken c nothing =
     let none : unfinished_line_of text ≡ [] = nothing_held (unfinished_line_of text) (sym c.rest ∙ nothing) in
     outcome_of_run start now (lines_of text) c.refused c.written (rw (none, append-nil) c.ran)
@@ -131,13 +133,13 @@ closed (x ∷ xs) h = refl
 
 -- the end of the input, behind a line that no newline ends
 pub outcome_last : (start now : Records) (text held before taken handled : List ℕ) (c : Carried start now text held before taken) → 0 < length held → handled ≡ held → (memory : Bool)
-  → (memory ≡ true → LineMayRefuse now handled)
-  → IsOutcome start (lines_of text) (c.written ++ answer memory now handled) (left_by memory now handled)
+    → (memory ≡ true → LineMayRefuse now handled)
+    → IsOutcome start (lines_of text) (c.written ++ answer memory now handled) (left_by memory now handled)
 outcome_last start now text held before taken handled c some same memory lawful =
     let shorter = ap length c.rest ∙ length-take 4097 (unfinished_line_of text) in
     let long : 0 < length (unfinished_line_of text) = omega arith in
     outcome_of_run start (left_by memory now handled) (lines_of text) (with_place memory c.refused (length (whole_lines_of text))) (c.written ++ answer memory now handled)
-      (rw (closed (unfinished_line_of text) long) (goes_on start now text held before taken (unfinished_line_of text) handled c (cut (unfinished_line_of text) handled (same ∙ c.rest)) memory lawful))
+    (rw (closed (unfinished_line_of text) long) (goes_on start now text held before taken (unfinished_line_of text) handled c (cut (unfinished_line_of text) handled (same ∙ c.rest)) memory lawful))
 
 pub on_ok : {T E : Type 0} {P : Type 0} (r : Result T E) → IsOk r → OnOk r P → P
 on_ok (Ok x) is p = p
@@ -145,7 +147,7 @@ on_ok (Err e) is p = absurd (true≢false (sym is))
 
 -- as much of a part as there is room for
 pub held_as_fits : (held part : List ℕ) (room : ℕ) → length held ≤ 4097 → room ≤ length part → min (length part) (4097 - length held) ≡ room
-  → held ++ take room part ≡ take 4097 (held ++ part)
+    → held ++ take room part ≡ take 4097 (held ++ part)
 held_as_fits held part room fits within is =
     let left : ℕ = 4097 - length held in
     let all : length held + left ≡ 4097 = omega arith in

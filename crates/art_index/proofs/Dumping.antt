@@ -3,7 +3,7 @@ use Rattle.std.proofs.Common.{◌≡◌, ℕ, suc, ◌+◌, ◌<◌, List, [], �
 use Rattle.std.specs.Prelude.{flat_map, codes}
 use Rattle.std.proofs.lemmas.List.{take_more}
 use Rattle.art_index.specs.Words.{Word, name, natural, line_of}
-use Rattle.art_index.specs.Commands.{put_words, nput_words}
+use Rattle.art_index.specs.Commands.{put_words}
 use Rattle.art_index.specs.Records.{KeyRecord}
 use Rattle.art_index.specs.Replies.{dump_of}
 use Rattle.art_index.specs.Stored.{record_of, records_of}

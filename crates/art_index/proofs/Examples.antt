@@ -1,14 +1,14 @@
 -- A worked example beside each definition, computed by the checker.
-use Rattle.std.proofs.Common.{◌≡◌, ℕ, List, [], ◌∷◌, ◌++◌, refl, Bool, true, false, negsuc, pos, lit<, lit≤}
-use Rattle.std.specs.Prelude.{codes, flat_map, replicate, Some, None, Option, IsTrue}
+use Rattle.std.proofs.Common.{◌≡◌, ℕ, List, [], ◌∷◌, ◌++◌, refl, false, negsuc, lit<, lit≤}
+use Rattle.std.specs.Prelude.{codes, flat_map, replicate, Some, None, IsTrue}
 use Rattle.art_index.specs.Lines.{lines_of, whole_lines_of, unfinished_line_of}
-use Rattle.art_index.specs.Words.{Word, name, natural, signed, bytes, shown, line_of}
+use Rattle.art_index.specs.Words.{name, natural, signed, bytes, shown, line_of}
 use Rattle.art_index.specs.Commands.{put, get, of_tenant, dump, Spells}
 use Rattle.art_index.specs.Reading.{command_of, tenant_in, bytes_in}
 use Rattle.art_index.specs.Keys.{is_below, conflicts, full_key}
-use Rattle.art_index.specs.Records.{Own, KeyRecord, Records, no_records, own, with_own}
-use Rattle.art_index.specs.Replies.{reply_to, records_after, own_reply, dump_of}
-use Rattle.art_index.specs.Refusals.{MayRefuse, LineMayRefuse}
+use Rattle.art_index.specs.Records.{KeyRecord, Records, no_records, own, with_own}
+use Rattle.art_index.specs.Replies.{reply_to, records_after, dump_of}
+use Rattle.art_index.specs.Refusals.{LineMayRefuse}
 use Rattle.art_index.specs.Outcome.{outcome_of, IsLawful}
 use Rattle.art_index.specs.Faults.{AfterReadFault, AfterWriteFault}
 use Rattle.hex.proofs.OnLiterals.{hex_on_literals}
@@ -196,14 +196,14 @@ read_fault-behind_a_line = record { refused = []; lawful = (λ no_line. absurd (
 write_fault-within_a_reply : AfterWriteFault no_records (codes "put 1 0a 61" ∷ codes "get 1 0a" ∷ []) (codes "ne") one_record
 unfolding one_record IsLawful outcome_of whole_lines_of unfinished_line_of reply_to records_after command_of tenant_in bytes_in hex_on_literals digits
 write_fault-within_a_reply = record {
-    refused = [];
-    answered = 0;
-    within = lit≤ tt;
-    lawful = (λ no_line. absurd (false≢true no_line), tt);
-    begun = codes "ne";
-    missing = codes "w" ++ 10 ∷ [];
-    is_cut = λ e. cc;
-    told = refl;
-    cut = refl;
-    left = refl;
-  }
+  refused = [];
+  answered = 0;
+  within = lit≤ tt;
+  lawful = (λ no_line. absurd (false≢true no_line), tt);
+  begun = codes "ne";
+  missing = codes "w" ++ 10 ∷ [];
+  is_cut = λ e. cc;
+  told = refl;
+  cut = refl;
+  left = refl;
+}

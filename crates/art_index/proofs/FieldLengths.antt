@@ -1,9 +1,9 @@
 -- How long a field is beside what it is read as.
-use Rattle.std.proofs.Common.{◌≡◌, ℕ, suc, ◌+◌, ◌*◌, ◌^◌, ◌<◌, ◌≤◌, List, [], ◌∷◌, ◌++◌, length, refl, ap, sym, ◌∙◌, arith, length-append, Ok, Err, Bool, true, false}
-use Rattle.std.specs.Prelude.{decimal, codes, map}
-use Rattle.std.specs.List.{join_with_byte, slice_split, onto_first}
-use Rattle.hex.specs.Hex.{encode_with, encode_lower, lower_digits, decode_of, decode_pairs}
-use Rattle.art_index.specs.Words.{Word, name, natural, signed, bytes, shown, Reads, text_of, line_of}
+use Rattle.std.proofs.Common.{◌≡◌, ℕ, ◌*◌, ◌^◌, ◌<◌, ◌≤◌, List, [], ◌∷◌, ◌++◌, length, refl, ap, sym, ◌∙◌, arith, length-append}
+use Rattle.std.specs.Prelude.{decimal, map}
+use Rattle.std.specs.List.{join_with_byte}
+use Rattle.hex.specs.Hex.{encode_with, encode_lower}
+use Rattle.art_index.specs.Words.{Word, name, natural, signed, bytes, shown, Reads, text_of}
 use Rattle.hex.proofs.HexLemmas.{decode_of-ok}
 use Rattle.std.proofs.lemmas.List.Splits.{join_with_byte-slice_split}
 use Rattle.art_index.specs.Commands.{Command, of_tenant, put, put_words, words_of, AllRead, fields_of, Spells}

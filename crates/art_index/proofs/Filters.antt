@@ -1,5 +1,5 @@
 -- Filters of lists, one within another, and what holds of all elements.
-use Rattle.std.proofs.Common.{◌≡◌, ℕ, zero, suc, ◌+◌, ◌<◌, ◌≤◌, List, [], ◌∷◌, ◌++◌, length, take, drop, get_or, refl, ap, sym, ◌∙◌, Bool, true, false, cond, arith, add-one}
+use Rattle.std.proofs.Common.{◌≡◌, ℕ, zero, suc, ◌<◌, List, [], ◌∷◌, ◌++◌, length, take, drop, get_or, refl, ap, sym, ◌∙◌, Bool, true, false, cond, arith}
 use Rattle.std.specs.Prelude.{map, filter}
 use Rattle.std.specs.List.{AllByRecursion, HoldsAt}
 
@@ -17,7 +17,7 @@ module _ {X : Type 0} where
   filter-within p q within (x ∷ xs) = go (p x) (q x) refl refl (filter-within p q within xs)
     where
       go : (a b : Bool) → p x ≡ a → q x ≡ b → filter p (filter q xs) ≡ filter p xs
-        → filter p (cond b (x ∷ filter q xs) (filter q xs)) ≡ cond a (x ∷ filter p xs) (filter p xs)
+          → filter p (cond b (x ∷ filter q xs) (filter q xs)) ≡ cond a (x ∷ filter p xs) (filter p xs)
       go true true e f ih = rw e (ap (λ l. x ∷ l) ih)
       go true false e f ih = let g = sym f ∙ within x e in cc
       go false true e f ih = rw e ih

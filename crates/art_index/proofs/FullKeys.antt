@@ -1,14 +1,12 @@
 -- Full keys: their order is that of tenants and then keys, and they conflict where one tenant's keys do.
-use Rattle.std.proofs.Common.{◌≡◌, ◌≢◌, ℕ, zero, suc, ◌+◌, ◌*◌, ◌/◌, ◌%◌, ◌^◌, ◌<◌, ◌≤◌, List, [], ◌∷◌, ◌++◌, length, take, refl, ap, sym, ◌∙◌, subst, Bool, true, false, cond, arith, inl, inr}
+use Rattle.std.proofs.Common.{◌≡◌, ℕ, suc, ◌+◌, ◌*◌, ◌/◌, ◌%◌, ◌^◌, ◌<◌, ◌≤◌, List, length, take, refl, ap, sym, ◌∙◌, subst, Bool, true, false, arith, inl, inr}
 use Rattle.std.specs.Prelude.{◌==◌, ◌||◌, ◌&&◌, nat_lt, nat_eq}
-use Rattle.std.specs.Int.{to_be_bytes, w32}
-use Rattle.std.specs.List.{starts_with}
 use Rattle.std.specs.declared.cmp.Ordering.{Ordering}
 use Rattle.std.specs.declared.cmp.Ordering.TheVariants.{Less, Equal, Greater}
 use Rattle.std.specs.Ordering.{nat_cmp, is_lt, ordering_then}
 use Rattle.std.specs.Cmp.Lexicographic.{slice_cmp, pointwise}
 use Rattle.std.proofs.lemmas.Bool.{eq-eqb, ne_eqb, eqb-true, lt-ltb, le-ltb, cases_lt, true≢false}
-use Rattle.art_index.specs.Keys.{is_below, is_proper_front, conflicts, full_key}
+use Rattle.art_index.specs.Keys.{is_proper_front, full_key}
 use Rattle.art_index.specs.Laws.{FullKeysKeepOrder, FullKeysKeepConflicts}
 
 cmp_low : (t u : ℕ) → t < u → nat_cmp t u ≡ Less
@@ -23,20 +21,24 @@ cmp_equal t = let ge : t ≤ t = omega arith in rw (le-ltb t t ge, eq-eqb t t re
 -- numbers compare by all digits but the last, and then by the last
 cmp_digits : (a b x y : ℕ) → x < 256 → y < 256 → nat_cmp (a * 256 + x) (b * 256 + y) ≡ ordering_then (nat_cmp a b) (nat_cmp x y)
 cmp_digits a b x y hx hy = elim (cases_lt a b) [
-    inl low ↦ cmp_low (a * 256 + x) (b * 256 + y) (omega arith) ∙ ap (λ o. ordering_then o (nat_cmp x y)) (sym (cmp_low a b low))
+  | inl low ↦ cmp_low (a * 256 + x) (b * 256 + y) (omega arith) ∙ ap (λ o. ordering_then o (nat_cmp x y)) (sym (cmp_low a b low))
   | inr ge ↦ elim (cases_lt b a) [
-      inl high ↦ cmp_high (a * 256 + x) (b * 256 + y) (omega arith) ∙ ap (λ o. ordering_then o (nat_cmp x y)) (sym (cmp_high a b high))
+    | inl high ↦ cmp_high (a * 256 + x) (b * 256 + y) (omega arith) ∙ ap (λ o. ordering_then o (nat_cmp x y)) (sym (cmp_high a b high))
     | inr le ↦
         let same : a ≡ b = omega arith in
         subst (λ c. nat_cmp (a * 256 + x) (c * 256 + y) ≡ ordering_then (nat_cmp a c) (nat_cmp x y)) same
-          (elim (cases_lt x y) [
-            inl low ↦ cmp_low (a * 256 + x) (a * 256 + y) (omega arith) ∙ sym (ap (λ o. ordering_then o (nat_cmp x y)) (cmp_equal a) ∙ cmp_low x y low)
+        (elim (cases_lt x y) [
+          | inl low ↦ cmp_low (a * 256 + x) (a * 256 + y) (omega arith) ∙ sym (ap (λ o. ordering_then o (nat_cmp x y)) (cmp_equal a) ∙ cmp_low x y low)
           | inr xge ↦ elim (cases_lt y x) [
-              inl high ↦ cmp_high (a * 256 + x) (a * 256 + y) (omega arith) ∙ sym (ap (λ o. ordering_then o (nat_cmp x y)) (cmp_equal a) ∙ cmp_high x y high)
+            | inl high ↦ cmp_high (a * 256 + x) (a * 256 + y) (omega arith) ∙ sym (ap (λ o. ordering_then o (nat_cmp x y)) (cmp_equal a) ∙ cmp_high x y high)
             | inr xle ↦
                 let e : x ≡ y = omega arith in
                 subst (λ z. nat_cmp (a * 256 + x) (a * 256 + z) ≡ ordering_then (nat_cmp a a) (nat_cmp x z)) e
-                  (cmp_equal (a * 256 + x) ∙ sym (ap (λ o. ordering_then o (nat_cmp x x)) (cmp_equal a) ∙ cmp_equal x)) ] ]) ] ]
+                (cmp_equal (a * 256 + x) ∙ sym (ap (λ o. ordering_then o (nat_cmp x x)) (cmp_equal a) ∙ cmp_equal x))
+          ]
+        ])
+  ]
+]
 
 then_assoc : (o p q : Ordering) → ordering_then (ordering_then o p) q ≡ ordering_then o (ordering_then p q)
 then_assoc Less p q = refl
@@ -48,7 +50,7 @@ four : (t : ℕ) → t < 2 ^ 32 → t ≡ ((t / 16777216 % 256 * 256 + t / 65536
 four t small = omega arith
 
 pub cmp-full_key : (t u : ℕ) (k j : List ℕ) → t < 2 ^ 32 → u < 2 ^ 32
-  → slice_cmp nat_cmp (full_key t k) (full_key u j) ≡ ordering_then (nat_cmp t u) (slice_cmp nat_cmp k j)
+    → slice_cmp nat_cmp (full_key t k) (full_key u j) ≡ ordering_then (nat_cmp t u) (slice_cmp nat_cmp k j)
 cmp-full_key t u k j ht hu =
     let a : ℕ = t / 16777216 % 256 in let b : ℕ = t / 65536 % 256 in let c : ℕ = t / 256 % 256 in let d : ℕ = t % 256 in
     let e : ℕ = u / 16777216 % 256 in let f : ℕ = u / 65536 % 256 in let g : ℕ = u / 256 % 256 in let h : ℕ = u % 256 in
@@ -56,25 +58,28 @@ cmp-full_key t u k j ht hu =
     let two = cmp_digits (a * 256 + b) (e * 256 + f) c g (omega arith) (omega arith) in
     let three = cmp_digits a e b f (omega arith) (omega arith) in
     let all : nat_cmp t u ≡ ordering_then (ordering_then (ordering_then (nat_cmp a e) (nat_cmp b f)) (nat_cmp c g)) (nat_cmp d h) =
-      ap (λ x. nat_cmp x u) (four t ht) ∙ ap (nat_cmp (((a * 256 + b) * 256 + c) * 256 + d)) (four u hu) ∙ one
-      ∙ ap (λ o. ordering_then o (nat_cmp d h)) (two ∙ ap (λ o. ordering_then o (nat_cmp c g)) three) in
+    ap (λ x. nat_cmp x u) (four t ht) ∙ ap (nat_cmp (((a * 256 + b) * 256 + c) * 256 + d)) (four u hu) ∙ one
+    ∙ ap (λ o. ordering_then o (nat_cmp d h)) (two ∙ ap (λ o. ordering_then o (nat_cmp c g)) three) in
     let rest = slice_cmp nat_cmp k j in
     sym (ap (λ o. ordering_then o rest) all
-      ∙ then_assoc (ordering_then (ordering_then (nat_cmp a e) (nat_cmp b f)) (nat_cmp c g)) (nat_cmp d h) rest
-      ∙ then_assoc (ordering_then (nat_cmp a e) (nat_cmp b f)) (nat_cmp c g) (ordering_then (nat_cmp d h) rest)
-      ∙ then_assoc (nat_cmp a e) (nat_cmp b f) (ordering_then (nat_cmp c g) (ordering_then (nat_cmp d h) rest)))
+    ∙ then_assoc (ordering_then (ordering_then (nat_cmp a e) (nat_cmp b f)) (nat_cmp c g)) (nat_cmp d h) rest
+    ∙ then_assoc (ordering_then (nat_cmp a e) (nat_cmp b f)) (nat_cmp c g) (ordering_then (nat_cmp d h) rest)
+    ∙ then_assoc (nat_cmp a e) (nat_cmp b f) (ordering_then (nat_cmp c g) (ordering_then (nat_cmp d h) rest)))
 
 pub full_keys_keep_order : FullKeysKeepOrder
 full_keys_keep_order t u k j ht hu = ap is_lt (cmp-full_key t u k j ht hu) ∙ elim (cases_lt t u) [
-    inl low ↦ rw (lt-ltb t u low) refl
+  | inl low ↦ rw (lt-ltb t u low) refl
   | inr ge ↦ elim (cases_lt u t) [
-      inl high ↦ rw (le-ltb t u ge, ne_eqb t u (λ e. omega arith)) refl
-    | inr le ↦ let same : t ≡ u = omega arith in rw (le-ltb t u ge, eq-eqb t u same) refl ] ]
+    | inl high ↦ rw (le-ltb t u ge, ne_eqb t u (λ e. omega arith)) refl
+    | inr le ↦ let same : t ≡ u = omega arith in rw (le-ltb t u ge, eq-eqb t u same) refl
+  ]
+]
 
 lt-suc : (m n : ℕ) → nat_lt (suc m) (suc n) ≡ nat_lt m n
 lt-suc m n = elim (cases_lt m n) [
-    inl low ↦ lt-ltb (suc m) (suc n) (omega arith) ∙ sym (lt-ltb m n low)
-  | inr high ↦ le-ltb (suc m) (suc n) (omega arith) ∙ sym (le-ltb m n high) ]
+  | inl low ↦ lt-ltb (suc m) (suc n) (omega arith) ∙ sym (lt-ltb m n low)
+  | inr high ↦ le-ltb (suc m) (suc n) (omega arith) ∙ sym (le-ltb m n high)
+]
 
 and_false : (b : Bool) → (b && false) ≡ false
 and_false true = refl
@@ -90,7 +95,7 @@ front-full_key t u k j ht hu = go (t == u) refl
     same_front = rw (four_lt (length k) (length j), eq-eqb (t / 16777216 % 256) (t / 16777216 % 256) refl, eq-eqb (t / 65536 % 256) (t / 65536 % 256) refl, eq-eqb (t / 256 % 256) (t / 256 % 256) refl, eq-eqb (t % 256) (t % 256) refl) refl
 
     apart : (w x y z r : Bool) → (t / 16777216 % 256 == u / 16777216 % 256) ≡ w → (t / 65536 % 256 == u / 65536 % 256) ≡ x → (t / 256 % 256 == u / 256 % 256) ≡ y → (t % 256 == u % 256) ≡ z
-      → (t ≡ u → ⊥) → (w && (x && (y && (z && r)))) ≡ false
+        → (t ≡ u → ⊥) → (w && (x && (y && (z && r)))) ≡ false
     apart false x y z r p q s v other = refl
     apart true false y z r p q s v other = refl
     apart true true false z r p q s v other = refl
@@ -105,8 +110,8 @@ front-full_key t u k j ht hu = go (t == u) refl
     go true e = subst (λ v. is_proper_front (full_key t k) (full_key v j) ≡ is_proper_front k j) (eqb-true t u e) same_front
     go false e =
         ap (λ b. nat_lt (length (full_key t k)) (length (full_key u j)) && b)
-          (apart (t / 16777216 % 256 == u / 16777216 % 256) (t / 65536 % 256 == u / 65536 % 256) (t / 256 % 256 == u / 256 % 256) (t % 256 == u % 256) (pointwise nat_eq k (take (length k) j))
-            refl refl refl refl (λ same. true≢false (sym (eq-eqb t u same) ∙ e)))
+        (apart (t / 16777216 % 256 == u / 16777216 % 256) (t / 65536 % 256 == u / 65536 % 256) (t / 256 % 256 == u / 256 % 256) (t % 256 == u % 256) (pointwise nat_eq k (take (length k) j))
+        refl refl refl refl (λ same. true≢false (sym (eq-eqb t u same) ∙ e)))
         ∙ and_false (nat_lt (length (full_key t k)) (length (full_key u j)))
 
 pub full_keys_keep_conflicts : FullKeysKeepConflicts

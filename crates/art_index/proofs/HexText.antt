@@ -1,6 +1,6 @@
 -- The digits of joined bytes, and of a number.
-use Rattle.std.proofs.Common.{◌≡◌, ℕ, suc, ◌+◌, ◌-◌, ◌/◌, ◌%◌, ◌^◌, ◌<◌, ◌≤◌, List, [], ◌∷◌, ◌++◌, length, take, drop, set, refl, ap, sym, ◌∙◌, arith, append_assoc, length-append, take-append-drop}
-use Rattle.std.specs.Prelude.{slice_index, decimal, codes}
+use Rattle.std.proofs.Common.{◌≡◌, ℕ, ◌+◌, ◌-◌, ◌/◌, ◌%◌, ◌^◌, ◌<◌, ◌≤◌, List, [], ◌∷◌, ◌++◌, length, take, drop, set, refl, ap, sym, ◌∙◌, arith, append_assoc, length-append, take-append-drop}
+use Rattle.std.specs.Prelude.{slice_index, decimal}
 use Rattle.std.proofs.lemmas.Fmt.{decimal_step, decimal_digit, decimal_nonempty, length-decimal-le}
 use Rattle.std.proofs.lemmas.List.{drop-set, take_rest}
 use Rattle.hex.specs.Hex.{encode_with, encode_lower, lower_digits}
@@ -28,7 +28,7 @@ number_room n h k = sym (ap length (decimal_step n h k) ∙ length-append (decim
 
 -- the last digit of a number stands before the digits behind it
 pub number_more : (n start : ℕ) (ds : List ℕ) → 10 ≤ n → n < 2 ^ 64 → 0 < start → start ≤ length ds
-  → decimal (n / 10) ++ drop (start - 1) (set ds (start - 1) (48 + n % 10)) ≡ decimal n ++ drop start ds
+    → decimal (n / 10) ++ drop (start - 1) (set ds (start - 1) (48 + n % 10)) ≡ decimal n ++ drop start ds
 number_more n start ds h k some long =
     let within : start - 1 < length ds = omega arith in
     let back : (start - 1) + 1 ≡ start = omega arith in
@@ -36,7 +36,7 @@ number_more n start ds h k some long =
     ap (λ r. decimal (n / 10) ++ r) e ∙ sym (append_assoc (decimal (n / 10)) ((48 + n % 10) ∷ []) (drop start ds)) ∙ ap (λ r. r ++ drop start ds) (sym (decimal_step n h k))
 
 pub number_last : (n start : ℕ) (ds : List ℕ) → n < 10 → 0 < start → start ≤ length ds
-  → drop (start - 1) (set ds (start - 1) (48 + n)) ≡ decimal n ++ drop start ds
+    → drop (start - 1) (set ds (start - 1) (48 + n)) ≡ decimal n ++ drop start ds
 number_last n start ds h some long =
     let within : start - 1 < length ds = omega arith in
     let back : (start - 1) + 1 ≡ start = omega arith in

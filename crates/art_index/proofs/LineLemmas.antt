@@ -4,8 +4,8 @@ use Rattle.std.proofs.lemmas.List.{take_all, take_rest, take-append-drop}
 use Rattle.std.proofs.Common.{◌≡◌, ℕ, zero, suc, ◌-◌, subst, add-one, append-nil, append_assoc, ◌+◌, ◌<◌, ◌≤◌, List, [], ◌∷◌, ◌++◌, length, take, drop, get_or, refl, ap, sym, ◌∙◌, Bool, true, false, cond, arith}
 use Rattle.std.specs.Prelude.{◌==◌}
 use Rattle.art_index.specs.Progress.{NoNewline}
-use Rattle.std.proofs.lemmas.Bool.{ne_eqb, eq-eqb, eqb-true, eqb-false, cases_Bool}
-use Rattle.std.specs.List.{slice_split, onto_first}
+use Rattle.std.proofs.lemmas.Bool.{eqb-true}
+use Rattle.std.specs.List.{onto_first}
 use Rattle.art_index.specs.Lines.{pieces_of, last_of, all_but_last, whole_lines_of, unfinished_line_of}
 
 -- the pieces with a byte behind the last
@@ -46,15 +46,17 @@ pieces_of-newline : (text : List ℕ) → pieces_of (text ++ 10 ∷ []) ≡ piec
 pieces_of-newline [] = refl
 pieces_of-newline (x ∷ xs) =
     elim (x == 10) as (λ v. cond v ([] ∷ pieces_of (xs ++ 10 ∷ [])) (onto_first x (pieces_of (xs ++ 10 ∷ []))) ≡ cond v ([] ∷ pieces_of xs) (onto_first x (pieces_of xs)) ++ [] ∷ []) [
-      true ↦ ap (λ ps. [] ∷ ps) (pieces_of-newline xs)
-    | false ↦ ap (onto_first x) (pieces_of-newline xs) ∙ onto_first-append x (pieces_of xs) ([] ∷ []) (some_pieces xs) ]
+      | true ↦ ap (λ ps. [] ∷ ps) (pieces_of-newline xs)
+      | false ↦ ap (onto_first x) (pieces_of-newline xs) ∙ onto_first-append x (pieces_of xs) ([] ∷ []) (some_pieces xs)
+    ]
 
 pieces_of-byte : (text : List ℕ) (b : ℕ) → (b == 10) ≡ false → pieces_of (text ++ b ∷ []) ≡ onto_last (pieces_of text) b
 pieces_of-byte [] b other = rw other refl
 pieces_of-byte (x ∷ xs) b other =
     elim (x == 10) as (λ v. cond v ([] ∷ pieces_of (xs ++ b ∷ [])) (onto_first x (pieces_of (xs ++ b ∷ []))) ≡ onto_last (cond v ([] ∷ pieces_of xs) (onto_first x (pieces_of xs))) b) [
-      true ↦ ap (λ ps. [] ∷ ps) (pieces_of-byte xs b other) ∙ sym (onto_last-cons b [] (pieces_of xs) (some_pieces xs))
-    | false ↦ ap (onto_first x) (pieces_of-byte xs b other) ∙ sym (onto_both x b (pieces_of xs) (some_pieces xs)) ]
+      | true ↦ ap (λ ps. [] ∷ ps) (pieces_of-byte xs b other) ∙ sym (onto_last-cons b [] (pieces_of xs) (some_pieces xs))
+      | false ↦ ap (onto_first x) (pieces_of-byte xs b other) ∙ sym (onto_both x b (pieces_of xs) (some_pieces xs))
+    ]
 
 last_of-append : (ps : List (List ℕ)) → last_of (ps ++ [] ∷ []) ≡ []
 last_of-append [] = refl
@@ -134,7 +136,7 @@ none_at_all bytes none = subst NoNewline (take_all (length bytes) bytes (omega a
 
 -- what is left behind a newline
 pub behind_newline : (rest : List ℕ) (i n : ℕ) → n ≡ length rest → i < length rest → (get_or rest i 0 == 10) ≡ true
-  → rest ≡ (take i rest ++ 10 ∷ []) ++ take (n - (i + 1)) (drop (i + 1) rest)
+    → rest ≡ (take i rest ++ 10 ∷ []) ++ take (n - (i + 1)) (drop (i + 1) rest)
 behind_newline rest i n long within here =
     let e : drop i rest ≡ 10 ∷ drop (i + 1) rest = drop-cons rest i 0 within ∙ ap (λ b. b ∷ drop (suc i) rest) (eqb-true (get_or rest i 0) 10 here) ∙ ap (λ k. 10 ∷ drop k rest) (sym (add-one i)) in
     let whole : take (n - (i + 1)) (drop (i + 1) rest) ≡ drop (i + 1) rest = ap (λ m. take (m - (i + 1)) (drop (i + 1) rest)) long ∙ take_rest rest (i + 1) in

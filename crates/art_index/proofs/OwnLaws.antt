@@ -1,18 +1,16 @@
 -- What a tenant holds, in the flat lists of all records.
 use Rattle.art_index.specs.Laws.{OwnReadsBack, OthersAreUntouched, OwnIsInPlace}
-use Rattle.std.proofs.Common.{◌≡◌, ◌≢◌, ℕ, ℤ, ◌<◌, ◌≤◌, ◌⊎◌, List, [], ◌∷◌, ◌++◌, refl, ap, sym, ◌∙◌, Bool, true, false, cond, arith, append-nil, append_assoc, inl, inr}
+use Rattle.std.proofs.Common.{◌≡◌, ◌≢◌, ℕ, ℤ, ◌<◌, ◌≤◌, List, [], ◌∷◌, ◌++◌, refl, ap, sym, ◌∙◌, Bool, true, false, cond, arith, append-nil, inl, inr}
 use Rattle.std.specs.Prelude.{◌==◌, nat_lt, map, filter}
-use Rattle.std.specs.List.{AllByRecursion}
 use Rattle.std.proofs.lemmas.Bool.{eq-eqb, ne_eqb, eqb-true, ltb-true, lt-ltb, le-ltb, cases_lt}
 use Rattle.std.proofs.lemmas.List.Elements.{filter-append}
-use Rattle.art_index.specs.Records.{Own, KeyRecord, NumberRecord, Records, own, with_own, InOrder, KeyComesBefore, NumberComesBefore, AreRecords}
-use Rattle.art_index.proofs.Filters.{filter-apart, filter-within, filter-all, filter-none, All-map}
+use Rattle.art_index.specs.Records.{Own, KeyRecord, NumberRecord, Records, InOrder, KeyComesBefore, NumberComesBefore}
+use Rattle.art_index.proofs.Filters.{filter-apart, filter-within, filter-none, All-map}
 
 -- a list of records as it is for each kind: with its tenant, its own part, and back
 module _ {X P : Type 0} (tenant_of : X → ℕ) (part_of : X → P) (made : ℕ → P → X)
-  (makes_tenant : (t : ℕ) (p : P) → tenant_of (made t p) ≡ t) (makes_part : (t : ℕ) (p : P) → part_of (made t p) ≡ p)
-  (made_again : (x : X) → made (tenant_of x) (part_of x) ≡ x) where
-
+    (makes_tenant : (t : ℕ) (p : P) → tenant_of (made t p) ≡ t) (makes_part : (t : ℕ) (p : P) → part_of (made t p) ≡ p)
+    (made_again : (x : X) → made (tenant_of x) (part_of x) ≡ x) where
   abbrev mine : ℕ → List X → List X
   mine t xs = filter (λ x. tenant_of x == t) xs
 
@@ -42,34 +40,35 @@ module _ {X P : Type 0} (tenant_of : X → ℕ) (part_of : X → P) (made : ℕ 
       let low : mine t (before t xs) ≡ [] = filter-apart (λ x. tenant_of x == t) (λ x. nat_lt (tenant_of x) t) (λ x h. let lt = ltb-true (tenant_of x) t h in ne_eqb (tenant_of x) t (λ e. omega arith)) xs in
       let high : mine t (behind t xs) ≡ [] = filter-apart (λ x. tenant_of x == t) (λ x. nat_lt t (tenant_of x)) (λ x h. let lt = ltb-true t (tenant_of x) h in ne_eqb (tenant_of x) t (λ e. omega arith)) xs in
       let all : mine t (put_back t ps xs) ≡ map (made t) ps =
-        filter-append (λ x. tenant_of x == t) (before t xs ++ map (made t) ps) (behind t xs)
-        ∙ ap (λ l. l ++ mine t (behind t xs)) (filter-append (λ x. tenant_of x == t) (before t xs) (map (made t) ps))
-        ∙ rw (low, high, made_mine t ps) (append-nil (map (made t) ps)) in
+      filter-append (λ x. tenant_of x == t) (before t xs ++ map (made t) ps) (behind t xs)
+      ∙ ap (λ l. l ++ mine t (behind t xs)) (filter-append (λ x. tenant_of x == t) (before t xs) (map (made t) ps))
+      ∙ rw (low, high, made_mine t ps) (append-nil (map (made t) ps)) in
       ap (map part_of) all ∙ parts_made t ps
 
   pub untouched : (s t : ℕ) (ps : List P) (xs : List X) → s ≢ t → mine s (put_back t ps xs) ≡ mine s xs
   untouched s t ps xs apart =
       let all : mine s (put_back t ps xs) ≡ mine s (before t xs) ++ mine s (behind t xs) =
-        filter-append (λ x. tenant_of x == s) (before t xs ++ map (made t) ps) (behind t xs)
-        ∙ ap (λ l. l ++ mine s (behind t xs)) (filter-append (λ x. tenant_of x == s) (before t xs) (map (made t) ps))
-        ∙ rw (made_other s t apart ps) (ap (λ l. l ++ mine s (behind t xs)) (append-nil (mine s (before t xs)))) in
+      filter-append (λ x. tenant_of x == s) (before t xs ++ map (made t) ps) (behind t xs)
+      ∙ ap (λ l. l ++ mine s (behind t xs)) (filter-append (λ x. tenant_of x == s) (before t xs) (map (made t) ps))
+      ∙ rw (made_other s t apart ps) (ap (λ l. l ++ mine s (behind t xs)) (append-nil (mine s (before t xs)))) in
       elim (cases_lt s t) [
-        inl low ↦
-          let kept : mine s (before t xs) ≡ mine s xs = filter-within (λ x. tenant_of x == s) (λ x. nat_lt (tenant_of x) t) (λ x h. let e = eqb-true (tenant_of x) s h in lt-ltb (tenant_of x) t (omega arith)) xs in
-          let none : mine s (behind t xs) ≡ [] = filter-apart (λ x. tenant_of x == s) (λ x. nat_lt t (tenant_of x)) (λ x h. let lt = ltb-true t (tenant_of x) h in ne_eqb (tenant_of x) s (λ e. omega arith)) xs in
-          all ∙ rw (kept, none) (append-nil (mine s xs))
-      | inr high ↦
-          let above : t < s = omega (arith, apart) in
-          let kept : mine s (behind t xs) ≡ mine s xs = filter-within (λ x. tenant_of x == s) (λ x. nat_lt t (tenant_of x)) (λ x h. let e = eqb-true (tenant_of x) s h in lt-ltb t (tenant_of x) (omega arith)) xs in
-          let none : mine s (before t xs) ≡ [] = filter-apart (λ x. tenant_of x == s) (λ x. nat_lt (tenant_of x) t) (λ x h. let lt = ltb-true (tenant_of x) t h in ne_eqb (tenant_of x) s (λ e. omega arith)) xs in
-          all ∙ rw (kept, none) refl ]
+        | inl low ↦
+            let kept : mine s (before t xs) ≡ mine s xs = filter-within (λ x. tenant_of x == s) (λ x. nat_lt (tenant_of x) t) (λ x h. let e = eqb-true (tenant_of x) s h in lt-ltb (tenant_of x) t (omega arith)) xs in
+            let none : mine s (behind t xs) ≡ [] = filter-apart (λ x. tenant_of x == s) (λ x. nat_lt t (tenant_of x)) (λ x h. let lt = ltb-true t (tenant_of x) h in ne_eqb (tenant_of x) s (λ e. omega arith)) xs in
+            all ∙ rw (kept, none) (append-nil (mine s xs))
+        | inr high ↦
+            let above : t < s = omega (arith, apart) in
+            let kept : mine s (behind t xs) ≡ mine s xs = filter-within (λ x. tenant_of x == s) (λ x. nat_lt t (tenant_of x)) (λ x h. let e = eqb-true (tenant_of x) s h in lt-ltb t (tenant_of x) (omega arith)) xs in
+            let none : mine s (before t xs) ≡ [] = filter-apart (λ x. tenant_of x == s) (λ x. nat_lt (tenant_of x) t) (λ x h. let lt = ltb-true (tenant_of x) t h in ne_eqb (tenant_of x) s (λ e. omega arith)) xs in
+            all ∙ rw (kept, none) refl
+      ]
 
   pub made_from_mine : (t : ℕ) (xs : List X) → map (made t) (map part_of (mine t xs)) ≡ mine t xs
   made_from_mine t [] = refl
   made_from_mine t (x ∷ xs) = go (tenant_of x == t) refl (made_from_mine t xs)
     where
       go : (b : Bool) → (tenant_of x == t) ≡ b → map (made t) (map part_of (mine t xs)) ≡ mine t xs
-        → map (made t) (map part_of (cond b (x ∷ mine t xs) (mine t xs))) ≡ cond b (x ∷ mine t xs) (mine t xs)
+          → map (made t) (map part_of (cond b (x ∷ mine t xs) (mine t xs))) ≡ cond b (x ∷ mine t xs) (mine t xs)
       go true e ih = let same : made t (part_of x) ≡ x = ap (λ s. made s (part_of x)) (sym (eqb-true (tenant_of x) t e)) ∙ made_again x in rw (same, ih) refl
       go false e ih = ih
 
@@ -82,7 +81,7 @@ module _ {X P : Type 0} (tenant_of : X → ℕ) (part_of : X → P) (made : ℕ 
   three_parts t (x ∷ xs) h = go (nat_lt (tenant_of x) t) (tenant_of x == t) refl refl (three_parts t xs h.1)
     where
       go : (a b : Bool) → nat_lt (tenant_of x) t ≡ a → (tenant_of x == t) ≡ b → before t xs ++ mine t xs ++ behind t xs ≡ xs
-        → before t (x ∷ xs) ++ mine t (x ∷ xs) ++ behind t (x ∷ xs) ≡ x ∷ xs
+          → before t (x ∷ xs) ++ mine t (x ∷ xs) ++ behind t (x ∷ xs) ≡ x ∷ xs
       go true b e f ih =
           let low = ltb-true (tenant_of x) t e in
           let other : (tenant_of x == t) ≡ false = ne_eqb (tenant_of x) t (λ k. omega arith) in
@@ -115,11 +114,11 @@ abbrev pub number_made : ℕ → ℤ × List ℕ → NumberRecord
 number_made t p = record { tenant = t; number = p.0; value = p.1 }
 
 own_from : (k k' : List (List ℕ × List ℕ)) (n n' : List (ℤ × List ℕ)) → k ≡ k' → n ≡ n'
-  → (let o : Own = record { keys = k; numbers = n } in o) ≡ (let o : Own = record { keys = k'; numbers = n' } in o)
+    → (let o : Own = record { keys = k; numbers = n } in o) ≡ (let o : Own = record { keys = k'; numbers = n' } in o)
 own_from k k' n n' e f = rw (e, f) refl
 
 pub records_from_lists : (k k' : List KeyRecord) (n n' : List NumberRecord) → k ≡ k' → n ≡ n'
-  → (let o : Records = record { keys = k; numbers = n } in o) ≡ (let o : Records = record { keys = k'; numbers = n' } in o)
+    → (let o : Records = record { keys = k; numbers = n } in o) ≡ (let o : Records = record { keys = k'; numbers = n' } in o)
 records_from_lists k k' n n' e f = rw (e, f) refl
 
 pub own_reads_back : OwnReadsBack

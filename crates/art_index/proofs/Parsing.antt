@@ -1,7 +1,7 @@
 -- What the parser's steps say of the definitions.
-use Rattle.std.proofs.Common.{◌≡◌, ℕ, zero, suc, ◌+◌, ◌-◌, ◌*◌, ◌/◌, ◌^◌, ◌<◌, ◌≤◌, List, [], ◌∷◌, ◌++◌, length, take, drop, get_or, refl, ap, sym, ◌∙◌, Bool, true, false, cond, arith, add-one, Some, None, Option, Ok, Err, Result, drop_of_length-le}
+use Rattle.std.proofs.Common.{◌≡◌, ℕ, zero, suc, ◌+◌, ◌-◌, ◌*◌, ◌/◌, ◌^◌, ◌<◌, ◌≤◌, List, [], ◌∷◌, length, take, drop, get_or, refl, ap, sym, ◌∙◌, Bool, true, false, cond, arith, add-one, Some, None, Option, Ok, Err, Result, drop_of_length-le}
 use Rattle.std.specs.Prelude.{◌==◌, decimal, nat_lt, ◌&&◌, codes}
-use Rattle.std.specs.List.{slice_split, onto_first}
+use Rattle.std.specs.List.{onto_first}
 use Rattle.std.specs.Str.{bytes_eq}
 use Rattle.std.proofs.lemmas.Bool.{ne_eqb, eq-eqb}
 use Rattle.std.proofs.lemmas.List.{take_rest, take-append-le, take_all}
@@ -10,14 +10,13 @@ use Rattle.std.specs.Prelude.{MatchBool, is_ok}
 use Rattle.std.proofs.Math.Seq.{drop-cons}
 use Rattle.std.specs.Str.Parse.{digits_value, digits_value_after, AllDigits}
 use Rattle.std.specs.Char.{digit_value}
-use Rattle.std.proofs.lemmas.Bool.{lt-leb, le-leb, true≢false, cases_lt, ltb-true, eqb-true, lt-ltb, le-ltb}
+use Rattle.std.proofs.lemmas.Bool.{lt-leb, le-leb, true≢false, cases_lt, ltb-true, lt-ltb, le-ltb}
 use Rattle.std.proofs.lemmas.Slice.Eq.{bytes_eq-Decides}
 use Rattle.std.proofs.lemmas.Str.Parse.{numerals_by_value, tells_digits, digit_at}
 use Rattle.std.proofs.lemmas.Fmt.{decimal_is_IsNumeral, decimal_nonempty, length-decimal-le, first_decimal, decimal_digit, decimal-digits_value}
-use Rattle.std.specs.Prelude.{◌⊎◌}
-use Rattle.std.specs.Prelude.{option_copied, is_some, is_none}
+use Rattle.std.specs.Prelude.{option_copied, is_some}
 use Rattle.std.specs.Borrow.{Bor}
-use Rattle.std.specs.Result.{OkIff, result_ok, MatchResult}
+use Rattle.std.specs.Result.{OkIff, result_ok}
 use Rattle.std.proofs.Common.{inl, inr, subst}
 use Rattle.hex.specs.Hex.{decode_of, decode_pairs}
 use Rattle.hex.proofs.HexLemmas.{decode_of-odd}
@@ -31,7 +30,7 @@ use Rattle.art_index.specs.declared.command.Command.{Command}
 
 -- the fields_of of a line whose first space is at a place
 fields_at : (line : List ℕ) (i : ℕ) → i < length line → get_or line i 0 ≡ 32 → ((k : ℕ) → k < i → get_or line k 0 ≡ 32 → ⊥)
-  → fields_of line ≡ take i line ∷ fields_of (drop (suc i) line)
+    → fields_of line ≡ take i line ∷ fields_of (drop (suc i) line)
 fields_at [] i h here before = absurd (omega arith)
 fields_at (x ∷ xs) zero h here before = rw (eq-eqb x 32 here) refl
 fields_at (x ∷ xs) (suc i) h here before =
@@ -41,7 +40,7 @@ fields_at (x ∷ xs) (suc i) h here before =
     rw (ne_eqb x 32 other) (ap (onto_first x) again)
 
 pub fields_first : (line : List ℕ) (i : ℕ) → i < length line → get_or line i 0 ≡ 32 → ((k : ℕ) → k < i → get_or line k 0 ≡ 32 → ⊥)
-  → fields_of line ≡ take i line ∷ fields_of (take (length line - (i + 1)) (drop (i + 1) line))
+    → fields_of line ≡ take i line ∷ fields_of (take (length line - (i + 1)) (drop (i + 1) line))
 fields_first line i h here before = fields_at line i h here before ∙ ap (λ t. take i line ∷ fields_of t) (ap (λ k. drop k line) (sym (add-one i)) ∙ sym (take_rest line (i + 1)))
 
 pub fields_none : (line : List ℕ) → ((k : ℕ) → k < length line → get_or line k 0 ≡ 32 → ⊥) → fields_of line ≡ line ∷ []
@@ -68,8 +67,9 @@ number_long text h = no_number text (λ n lt e. let small : n < 2 ^ 64 = omega a
 
 pub number_padded : (text : List ℕ) → get_or text 0 0 ≡ 48 → 1 < length text → None ≡ tenant_in text
 number_padded text zero_first h = no_number text (λ n lt e. elim (cases_lt 0 n) [
-    inl some ↦ let small : n < 2 ^ 64 = omega arith in let high = first_decimal n some small in let same = ap (λ t. get_or t 0 0) e in omega arith
-  | inr none ↦ let nil : n ≡ 0 = omega arith in let one = ap length (decimal_digit n (omega arith)) in let same = ap length e in absurd (omega arith) ])
+  | inl some ↦ let small : n < 2 ^ 64 = omega arith in let high = first_decimal n some small in let same = ap (λ t. get_or t 0 0) e in omega arith
+  | inr none ↦ let nil : n ≡ 0 = omega arith in let one = ap length (decimal_digit n (omega arith)) in let same = ap length e in absurd (omega arith)
+])
 
 pub number_other : (text : List ℕ) (i : ℕ) → i < length text → ((48 ≤ get_or text i 0) × (get_or text i 0 ≤ 57) → ⊥) → None ≡ tenant_in text
 number_other text i h other = no_number text (λ n lt e.
@@ -82,7 +82,7 @@ digit_is : (b : ℕ) → 48 ≤ b → b ≤ 57 → digit_value b ≡ b - 48
 digit_is b low high = let below : b < 58 = omega arith in rw (le-ltb b 48 low, lt-ltb b 58 below) refl
 
 pub read_more : (text : List ℕ) (i number b v : ℕ) → i < length text → get_or text i 0 ≡ b → 48 ≤ b → b ≤ 57
-  → digits_value_after 10 number (drop i text) ≡ v → digits_value_after 10 (number * 10 + (b - 48)) (drop (i + 1) text) ≡ v
+    → digits_value_after 10 number (drop i text) ≡ v → digits_value_after 10 (number * 10 + (b - 48)) (drop (i + 1) text) ≡ v
 read_more text i number b v h here low high e =
     let cell : drop i text ≡ b ∷ drop (i + 1) text = drop-cons text i 0 h ∙ ap (λ x. x ∷ drop (suc i) text) here ∙ ap (λ k. b ∷ drop k text) (sym (add-one i)) in
     ap (λ d. digits_value_after 10 (number * 10 + d) (drop (i + 1) text)) (sym (digit_is b low high)) ∙ ap (digits_value_after 10 number) (sym cell) ∙ e
@@ -95,7 +95,7 @@ all_digits (x ∷ xs) h =
 
 -- digits with no 0 before them show their value, where it is below the limit
 pub number_read : (text : List ℕ) (n : ℕ) → 0 < length text → (get_or text 0 0 ≡ 48 → length text ≡ 1)
-  → ((k : ℕ) → k < length text → (48 ≤ get_or text k 0) × (get_or text k 0 ≤ 57)) → n ≡ digits_value 10 text → n < 2 ^ 32 → Some n ≡ tenant_in text
+    → ((k : ℕ) → k < length text → (48 ≤ get_or text k 0) × (get_or text k 0 ≤ 57)) → n ≡ digits_value 10 text → n < 2 ^ 32 → Some n ≡ tenant_in text
 unfolding tenant_in
 number_read text n some front digits e small =
     let wide : digits_value 10 text < 2 ^ 64 = omega arith in let within : digits_value 10 text < 2 ^ 32 = omega arith in
@@ -107,13 +107,13 @@ unfolding tenant_in
 number_wide text h = rw (le-ltb (digits_value 10 text) (2 ^ 32) h) refl
 
 number_result : {E : Type 0} (text : List ℕ) (n : ℕ) (r : Result ℕ E) → OkIff r (n < 2 ^ 32) n → 0 < length text → (get_or text 0 0 ≡ 48 → length text ≡ 1)
-  → ((k : ℕ) → k < length text → (48 ≤ get_or text k 0) × (get_or text k 0 ≤ 57)) → n ≡ digits_value 10 text → result_ok r ≡ tenant_in text
+    → ((k : ℕ) → k < length text → (48 ≤ get_or text k 0) × (get_or text k 0 ≤ 57)) → n ≡ digits_value 10 text → result_ok r ≡ tenant_in text
 number_result text n (Ok x) h some front digits e = let small = h.0 in let is = h.1 in let below : x < 2 ^ 32 = omega arith in number_read text x some front digits (is ∙ e) below
 number_result text n (Err y) h some front digits e = number_wide text (elim (cases_lt (digits_value 10 text) (2 ^ 32)) [ inl lt ↦ let small : n < 2 ^ 32 = omega arith in absurd (h small) | inr ge ↦ ge ])
 
 pub number_end : {E : Type 0} (text : List ℕ) (i n : ℕ) (r : Result ℕ E) (o : Option ℕ) → OkIff r (n < 2 ^ 32) n → o ≡ result_ok r → 0 < length text
-  → (get_or text 0 0 ≡ 48 → length text ≡ 1) → length text ≤ i
-  → ((k : ℕ) → k < i → (48 ≤ get_or text k 0) × (get_or text k 0 ≤ 57)) → digits_value_after 10 n (drop i text) ≡ digits_value 10 text → o ≡ tenant_in text
+    → (get_or text 0 0 ≡ 48 → length text ≡ 1) → length text ≤ i
+    → ((k : ℕ) → k < i → (48 ≤ get_or text k 0) × (get_or text k 0 ≤ 57)) → digits_value_after 10 n (drop i text) ≡ digits_value 10 text → o ≡ tenant_in text
 number_end text i n r o h is some front all digits e =
     is ∙ number_result text n r h some front (λ k lt. let far : k < i = omega arith in digits k far) (ap (digits_value_after 10 n) (sym (drop_of_length-le text all)) ∙ e)
 
@@ -155,9 +155,9 @@ module _ (line word : List ℕ) (rest : List (List ℕ)) (short : length line �
 
 -- behind the last field nothing stands
 pub put_behind : (r r1 r2 r3 : Option (Bor (List ℕ))) (x y z : Bor (List ℕ)) (t k v : List ℕ)
-  → r ≡ Some x → fields_of x.now ≡ t ∷ fields_behind (option_copied r1) → r1 ≡ Some y → fields_of y.now ≡ k ∷ fields_behind (option_copied r2)
-  → r2 ≡ Some z → fields_of z.now ≡ v ∷ fields_behind (option_copied r3) → true ≡ is_some r3
-  → None ≡ put_in (fields_behind (option_copied r))
+    → r ≡ Some x → fields_of x.now ≡ t ∷ fields_behind (option_copied r1) → r1 ≡ Some y → fields_of y.now ≡ k ∷ fields_behind (option_copied r2)
+    → r2 ≡ Some z → fields_of z.now ≡ v ∷ fields_behind (option_copied r3) → true ≡ is_some r3
+    → None ≡ put_in (fields_behind (option_copied r))
 put_behind r r1 r2 r3 x y z t k v is first is1 second is2 third more =
     let two : fields_of y.now ≡ k ∷ v ∷ fields_behind (option_copied r3) = second ∙ ap (λ o. k ∷ fields_behind (option_copied o)) is2 ∙ ap (λ l. k ∷ l) third in
     let one : fields_of x.now ≡ t ∷ k ∷ v ∷ fields_behind (option_copied r3) = first ∙ ap (λ o. t ∷ fields_behind (option_copied o)) is1 ∙ ap (λ l. t ∷ l) two in
@@ -169,8 +169,8 @@ put_behind r r1 r2 r3 x y z t k v is first is1 second is2 third more =
     end (Some w) h = put_more t k v w.now
 
 pub get_behind : (r r1 r2 : Option (Bor (List ℕ))) (x y : Bor (List ℕ)) (t k : List ℕ)
-  → r ≡ Some x → fields_of x.now ≡ t ∷ fields_behind (option_copied r1) → r1 ≡ Some y → fields_of y.now ≡ k ∷ fields_behind (option_copied r2)
-  → true ≡ is_some r2 → None ≡ get_in (fields_behind (option_copied r))
+    → r ≡ Some x → fields_of x.now ≡ t ∷ fields_behind (option_copied r1) → r1 ≡ Some y → fields_of y.now ≡ k ∷ fields_behind (option_copied r2)
+    → true ≡ is_some r2 → None ≡ get_in (fields_behind (option_copied r))
 get_behind r r1 r2 x y t k is first is1 second more =
     let one : fields_of x.now ≡ t ∷ k ∷ fields_behind (option_copied r2) = first ∙ ap (λ o. t ∷ fields_behind (option_copied o)) is1 ∙ ap (λ l. t ∷ l) second in
     let all : fields_behind (option_copied r) ≡ t ∷ k ∷ fields_behind (option_copied r2) = ap (λ o. fields_behind (option_copied o)) is ∙ one in
@@ -217,8 +217,8 @@ bytes_good text (b ∷ bs) h d some = let f = sym h in rw (f, d) refl
 
 -- what was decoded over some bytes
 pub decoded : (text : List ℕ) (b : Bool) (xs new : List ℕ) → MatchBool b (decode_of text ≡ Ok new) (is_ok (decode_of text) ≡ false)
-  → false ≡ bytes_eq text (codes "-") → 0 < length new → length new ≡ length xs
-  → MatchBool b (Some (refill (length xs) xs new) ≡ bytes_in text) (None ≡ bytes_in text)
+    → false ≡ bytes_eq text (codes "-") → 0 < length new → length new ≡ length xs
+    → MatchBool b (Some (refill (length xs) xs new) ≡ bytes_in text) (None ≡ bytes_in text)
 decoded text true xs new d other some same =
     let fits : length xs ≤ length new = omega arith in let all : length new ≤ length xs = omega arith in
     ap (λ l. Some l) (take-append-le (length xs) new (drop (length new) xs) fits ∙ take_all (length xs) new all) ∙ bytes_good text new other d some

@@ -1,5 +1,5 @@
 -- How a put is answered, at the place that was found for its key.
-use Rattle.std.proofs.Common.{◌≡◌, ℕ, zero, suc, ◌+◌, ◌<◌, ◌≤◌, ◌^◌, List, [], ◌∷◌, ◌++◌, length, take, drop, set, get_or, refl, ap, sym, ◌∙◌, subst, Bool, true, false, arith, add-one, Option, Some, None}
+use Rattle.std.proofs.Common.{◌≡◌, ℕ, zero, suc, ◌+◌, ◌<◌, ◌^◌, List, [], ◌∷◌, ◌++◌, length, take, drop, set, get_or, refl, ap, sym, ◌∙◌, subst, Bool, true, false, arith, Option, Some, None}
 use Rattle.std.specs.Prelude.{map, if◌then◌else◌, codes, Result, Ok, Err, is_ok, is_err}
 use Rattle.std.proofs.lemmas.Bool.{true≢false}
 use Rattle.std.specs.List.{AllByRecursion, HoldsAt, insert}
@@ -8,11 +8,11 @@ use Rattle.std.specs.declared.cmp.Ordering.TheVariants.{Less, Equal, Greater}
 use Rattle.std.proofs.lemmas.List.{take-append-drop, map-append}
 use Rattle.art_index.specs.Words.{name, bytes}
 use Rattle.std.proofs.lemmas.Nat.{from_be_bytes-to_be_bytes_4}
-use Rattle.std.proofs.Math.Seq.{take-append_seam, drop-append_seam, drop-cons}
+use Rattle.std.proofs.Math.Seq.{take-append_seam, drop-append_seam}
 use Rattle.art_index.specs.declared.entry.Entry.{Entry}
 use Rattle.art_index.specs.declared.entry.Placed.TheVariants as placed
 use Rattle.art_index.specs.Keys.{full_key}
-use Rattle.art_index.specs.Records.{Own, KeyRecord, Records, own, with_own, InOrder, KeyComesBefore, KeyFits, AreRecords}
+use Rattle.art_index.specs.Records.{Own, KeyRecord, Records, own, with_own, InOrder, KeyComesBefore, KeyFits}
 use Rattle.art_index.specs.Replies.{value_at, has_conflict, with_pair, put_reply, puts, with_changed}
 use Rattle.art_index.specs.Stored.{record_of, records_of, IsFull, AreEntries, stands_to, IsGapAt, IsFoundAt, IsPlaced, placed_words}
 use Rattle.art_index.proofs.Filters.{All-at, All-left, All-right, take-map, drop-map, length-map}
@@ -47,7 +47,7 @@ set_around (y ∷ xs) (suc i) x within =
 
 -- what an insertion that was not refused leaves
 pub inserted : {X T E : Type 0} (xs : List X) (i : ℕ) (x : X) (r : Result T E) (b : Bool) (new : List X)
-  → new ≡ (if is_ok r then insert xs i x else xs) → b ≡ is_err r → b ≡ false → new ≡ insert xs i x
+    → new ≡ (if is_ok r then insert xs i x else xs) → b ≡ is_err r → b ≡ false → new ≡ insert xs i x
 inserted xs i x (Ok y) b new is e f = is
 inserted xs i x (Err y) b new is e f = absurd (true≢false (sym e ∙ f))
 
@@ -78,11 +78,12 @@ module _ (es : List Entry) (t : ℕ) (k v : List ℕ) (at : ℕ) where
 
   pub conflict_placed : IsGapAt t k rs at → has_conflict k (own t (records_of es)).keys ≡ true → IsPlaced placed.Conflict (records_of es) t k v (records_of es)
   conflict_placed gap conflict = (
-      conflict_words (value_at k (pairs_of t rs)) (has_conflict k (pairs_of t rs)) (gap_value gap) conflict,
-      conflict_left t (record { keys = with_pair k v (pairs_of t rs); numbers = [] }) (records_of es) (value_at k (pairs_of t rs)) (has_conflict k (pairs_of t rs)) (gap_value gap) conflict)
+    conflict_words (value_at k (pairs_of t rs)) (has_conflict k (pairs_of t rs)) (gap_value gap) conflict,
+    conflict_left t (record { keys = with_pair k v (pairs_of t rs); numbers = [] }) (records_of es) (value_at k (pairs_of t rs)) (has_conflict k (pairs_of t rs)) (gap_value gap) conflict,
+  )
 
   module _ (e : Entry) (are : AreEntries es) (fits : KeyFits (key_made t (k, v))) (gap : IsGapAt t k rs at)
-    (free : has_conflict k (own t (records_of es)).keys ≡ false) (full : e.key.items ≡ full_key t k) (value : e.value.items ≡ v) where
+      (free : has_conflict k (own t (records_of es)).keys ≡ false) (full : e.key.items ≡ full_key t k) (value : e.value.items ≡ v) where
     parted : es ≡ take at es ++ ([] ++ drop at es)
     parted = sym (take-append-drop at es)
 
@@ -110,9 +111,10 @@ module _ (es : List Entry) (t : ℕ) (k v : List ℕ) (at : ℕ) where
     new_placed =
         let mine : Records → Own = λ r. record { keys = with_pair k v (own t r).keys; numbers = (own t r).numbers } in
         let left : records_of (insert es at e) ≡ with_own t (mine (records_of es)) (records_of es) =
-          subst (λ l. records_of (insert es at e) ≡ with_own t (mine (records_of l)) (records_of l)) (sym parted) (put_records t k v (take at es) [] (drop at es) e (subst AreEntries parted are) between) in
-        (new_words (value_at k (pairs_of t rs)) (has_conflict k (pairs_of t rs)) (gap_value gap) free,
-          left ∙ new_left t (mine (records_of es)) (records_of es) (value_at k (pairs_of t rs)) (has_conflict k (pairs_of t rs)) (gap_value gap) free)
+        subst (λ l. records_of (insert es at e) ≡ with_own t (mine (records_of l)) (records_of l)) (sym parted) (put_records t k v (take at es) [] (drop at es) e (subst AreEntries parted are) between) in (
+          new_words (value_at k (pairs_of t rs)) (has_conflict k (pairs_of t rs)) (gap_value gap) free,
+          left ∙ new_left t (mine (records_of es)) (records_of es) (value_at k (pairs_of t rs)) (has_conflict k (pairs_of t rs)) (gap_value gap) free,
+        )
 
   module _ (m : Entry) (are : AreEntries es) (found : IsFoundAt t k rs at) (is : m ≡ get_or es at m) where
     within : at < length es
@@ -170,12 +172,12 @@ module _ (es : List Entry) (t : ℕ) (k v : List ℕ) (at : ℕ) where
       old_keeps = subst AreEntries (sym (set_around es at e within)) (put_keeps t k v (take at es) (m ∷ []) (drop (at + 1) es) e (subst AreEntries parts are) old_between)
 
       pub old_placed : (old : List ℕ) → old ≡ m.value.items
-        → (name (codes "old") ∷ bytes old ∷ []) ∷ [] ≡ put_reply (value_at k (pairs_of t rs)) (has_conflict k (pairs_of t rs)) ∷ []
+          → (name (codes "old") ∷ bytes old ∷ []) ∷ [] ≡ put_reply (value_at k (pairs_of t rs)) (has_conflict k (pairs_of t rs)) ∷ []
       old_placed old same = rw (there, same) refl
 
       pub old_changes : records_of (set es at e) ≡ with_changed t (if puts (value_at k (pairs_of t rs)) (has_conflict k (pairs_of t rs)) then Some (record { keys = with_pair k v (pairs_of t rs); numbers = [] }) else None) (records_of es)
       old_changes =
           let mine : Records → Own = λ r. record { keys = with_pair k v (own t r).keys; numbers = (own t r).numbers } in
           let left : records_of (take at es ++ e ∷ drop (at + 1) es) ≡ with_own t (mine (records_of es)) (records_of es) =
-            subst (λ l. records_of (take at es ++ e ∷ drop (at + 1) es) ≡ with_own t (mine (records_of l)) (records_of l)) (sym parts) (put_records t k v (take at es) (m ∷ []) (drop (at + 1) es) e (subst AreEntries parts are) old_between) in
+          subst (λ l. records_of (take at es ++ e ∷ drop (at + 1) es) ≡ with_own t (mine (records_of l)) (records_of l)) (sym parts) (put_records t k v (take at es) (m ∷ []) (drop (at + 1) es) e (subst AreEntries parts are) old_between) in
           ap records_of (set_around es at e within) ∙ left ∙ old_left t (mine (records_of es)) (records_of es) (value_at k (pairs_of t rs)) (has_conflict k (pairs_of t rs)) m.value.items there

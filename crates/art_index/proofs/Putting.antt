@@ -1,25 +1,21 @@
 -- What a put does to the records, where the entries around its place are known.
-use Rattle.std.proofs.Common.{◌≡◌, ℕ, zero, suc, ◌+◌, ◌<◌, ◌≤◌, ◌^◌, ◌⊎◌, List, [], ◌∷◌, ◌++◌, length, take, drop, set, get_or, refl, ap, sym, ◌∙◌, subst, Bool, true, false, cond, arith, append-nil, append_assoc, inl, inr, Option, Some, None}
-use Rattle.std.specs.Prelude.{◌==◌, ◌||◌, nat_lt, map, filter, option_map, if◌then◌else◌, IsTrue}
-use Rattle.std.specs.List.{AllByRecursion, find, list_any}
+use Rattle.std.proofs.Common.{◌≡◌, ℕ, ◌≤◌, List, [], ◌∷◌, ◌++◌, refl, ap, sym, ◌∙◌, subst, Bool, true, false, cond, arith, append-nil, append_assoc, inl, inr, Some, None}
+use Rattle.std.specs.Prelude.{◌==◌, ◌||◌, nat_lt, map, filter, option_map, IsTrue}
+use Rattle.std.specs.List.{AllByRecursion, find}
 use Rattle.std.specs.Str.{bytes_eq}
-use Rattle.std.specs.Int.{to_be_bytes, from_be_bytes, w32}
-use Rattle.std.specs.declared.cmp.Ordering.{Ordering}
 use Rattle.std.specs.declared.cmp.Ordering.TheVariants.{Less, Equal, Greater}
-use Rattle.std.proofs.lemmas.Bool.{eq-eqb, ne_eqb, eqb-true, ltb-true, lt-ltb, le-ltb, true≢false}
-use Rattle.std.proofs.lemmas.List.{map-append, drop-append-le, take-append-drop}
+use Rattle.std.proofs.lemmas.Bool.{eq-eqb, eqb-true, le-ltb, true≢false}
+use Rattle.std.proofs.lemmas.List.{map-append}
 use Rattle.std.proofs.lemmas.List.Elements.{filter-append}
 use Rattle.std.proofs.lemmas.Slice.Eq.{bytes_eq-Decides}
-use Rattle.std.proofs.lemmas.Nat.{from_be_bytes-to_be_bytes_4}
-use Rattle.std.proofs.Math.Seq.{take-append_seam, drop-append_seam}
 use Rattle.art_index.specs.declared.entry.Entry.{Entry}
-use Rattle.art_index.specs.Keys.{is_below, is_proper_front, conflicts, full_key}
-use Rattle.art_index.specs.Records.{Own, KeyRecord, Records, own, with_own, InOrder, KeyComesBefore, KeyFits, AreRecords}
+use Rattle.art_index.specs.Keys.{is_below, is_proper_front, conflicts}
+use Rattle.art_index.specs.Records.{KeyRecord, own, with_own, InOrder, KeyComesBefore, KeyFits}
 use Rattle.art_index.specs.Replies.{value_at, has_conflict, with_pair}
 use Rattle.art_index.specs.Stored.{record_of, records_of, IsFull, AreEntries, stands_to}
 use Rattle.art_index.proofs.Filters.{filter-all, filter-none, All-map, All-append, All-left, All-right}
 use Rattle.art_index.proofs.OwnLaws.{key_part, key_made, key_ascends, made_from_mine, three_parts, records_from_lists}
-use Rattle.art_index.proofs.Standing.{IsBefore, IsBehind, AllBefore, AllBehind, Says, standing, cmp_same, not_below_itself, not_both_below}
+use Rattle.art_index.proofs.Standing.{AllBefore, AllBehind, standing, not_below_itself, not_both_below}
 
 -- a tenant's pairs among some records
 abbrev pub pairs_of : ℕ → List KeyRecord → List (List ℕ × List ℕ)
@@ -51,7 +47,7 @@ module _ {X : Type 0} where
 
   -- one more in order, in the place of some
   InOrder-put : (B : X → X → Type 0) (fs ms bs : List X) (x : X) → InOrder B (fs ++ (ms ++ bs)) → AllByRecursion (λ a. B a x) fs → AllByRecursion (B x) bs
-    → InOrder B (fs ++ x ∷ bs)
+      → InOrder B (fs ++ x ∷ bs)
   InOrder-put B [] ms bs x order before behind = (behind, InOrder-right B ms bs order)
   InOrder-put B (a ∷ fs) ms bs x order before behind =
       let rest = All-right (B a) fs (ms ++ bs) order.0 in
@@ -125,7 +121,7 @@ module _ (t : ℕ) (k : List ℕ) where
       let mine : (r.tenant == t) ≡ true = eq-eqb r.tenant t is.0 in
       let same : bytes_eq r.key k ≡ true = (bytes_eq-Decides r.key k).1 is.1 in
       ap (λ ps. value_at k ps) (pairs_append fs (r ∷ bs)) ∙ ap (option_map (λ p. p.1))
-        (find-skips (λ p. bytes_eq p.0 k) (pairs_of t fs) (pairs_of t (r ∷ bs)) (All-map (λ p. IsTrue (is_below p.0 k)) (λ p. bytes_eq p.0 k ≡ false) (λ p. below_other p.0) (pairs_of t fs) (pairs_before fs low)))
+      (find-skips (λ p. bytes_eq p.0 k) (pairs_of t fs) (pairs_of t (r ∷ bs)) (All-map (λ p. IsTrue (is_below p.0 k)) (λ p. bytes_eq p.0 k ≡ false) (λ p. below_other p.0) (pairs_of t fs) (pairs_before fs low)))
       ∙ rw (mine, same) refl
 
   below_itself_not : (p : List ℕ × List ℕ) → p.0 ≡ k → is_below p.0 k ≡ false
@@ -136,25 +132,29 @@ module _ (t : ℕ) (k : List ℕ) where
 
   -- the tenant's pairs with the key's value put in place
   pairs_put : (v : List ℕ) (fs ms bs : List KeyRecord) → AllBefore t k fs → AllAt t k ms → AllBehind t k bs
-    → with_pair k v (pairs_of t (fs ++ (ms ++ bs))) ≡ pairs_of t fs ++ (k, v) ∷ pairs_of t bs
+      → with_pair k v (pairs_of t (fs ++ (ms ++ bs))) ≡ pairs_of t fs ++ (k, v) ∷ pairs_of t bs
   pairs_put v fs ms bs low here high =
       let A = pairs_of t fs in let M = pairs_of t ms in let B = pairs_of t bs in
       let parts : pairs_of t (fs ++ (ms ++ bs)) ≡ A ++ (M ++ B) = pairs_append fs (ms ++ bs) ∙ ap (λ l. A ++ l) (pairs_append ms bs) in
       let lower : filter (λ p. is_below p.0 k) (A ++ (M ++ B)) ≡ A =
-        filter-append (λ p. is_below p.0 k) A (M ++ B) ∙ ap (λ l. filter (λ p. is_below p.0 k) A ++ l) (filter-append (λ p. is_below p.0 k) M B)
-        ∙ rw (filter-all (λ p. is_below p.0 k) A (pairs_before fs low),
-            filter-none (λ p. is_below p.0 k) M (All-map (λ p. p.0 ≡ k) (λ p. is_below p.0 k ≡ false) below_itself_not M (pairs_at ms here)),
-            filter-none (λ p. is_below p.0 k) B (All-map (λ p. IsTrue (is_below k p.0)) (λ p. is_below p.0 k ≡ false) (λ p. not_both_below k p.0) B (pairs_behind bs high))) (append-nil A) in
+      filter-append (λ p. is_below p.0 k) A (M ++ B) ∙ ap (λ l. filter (λ p. is_below p.0 k) A ++ l) (filter-append (λ p. is_below p.0 k) M B)
+      ∙ rw (
+        filter-all (λ p. is_below p.0 k) A (pairs_before fs low),
+        filter-none (λ p. is_below p.0 k) M (All-map (λ p. p.0 ≡ k) (λ p. is_below p.0 k ≡ false) below_itself_not M (pairs_at ms here)),
+        filter-none (λ p. is_below p.0 k) B (All-map (λ p. IsTrue (is_below k p.0)) (λ p. is_below p.0 k ≡ false) (λ p. not_both_below k p.0) B (pairs_behind bs high)),
+      ) (append-nil A) in
       let upper : filter (λ p. is_below k p.0) (A ++ (M ++ B)) ≡ B =
-        filter-append (λ p. is_below k p.0) A (M ++ B) ∙ ap (λ l. filter (λ p. is_below k p.0) A ++ l) (filter-append (λ p. is_below k p.0) M B)
-        ∙ rw (filter-none (λ p. is_below k p.0) A (All-map (λ p. IsTrue (is_below p.0 k)) (λ p. is_below k p.0 ≡ false) (λ p. not_both_below p.0 k) A (pairs_before fs low)),
-            filter-none (λ p. is_below k p.0) M (All-map (λ p. p.0 ≡ k) (λ p. is_below k p.0 ≡ false) above_itself_not M (pairs_at ms here)),
-            filter-all (λ p. is_below k p.0) B (pairs_behind bs high)) refl in
+      filter-append (λ p. is_below k p.0) A (M ++ B) ∙ ap (λ l. filter (λ p. is_below k p.0) A ++ l) (filter-append (λ p. is_below k p.0) M B)
+      ∙ rw (
+        filter-none (λ p. is_below k p.0) A (All-map (λ p. IsTrue (is_below p.0 k)) (λ p. is_below k p.0 ≡ false) (λ p. not_both_below p.0 k) A (pairs_before fs low)),
+        filter-none (λ p. is_below k p.0) M (All-map (λ p. p.0 ≡ k) (λ p. is_below k p.0 ≡ false) above_itself_not M (pairs_at ms here)),
+        filter-all (λ p. is_below k p.0) B (pairs_behind bs high),
+      ) refl in
       ap (with_pair k v) parts ∙ rw (lower, upper) refl
 
   -- and all records with the tenant's put back
   pub records_put : (v : List ℕ) (fs ms bs : List KeyRecord) → InOrder KeyComesBefore (fs ++ (ms ++ bs)) → AllBefore t k fs → AllAt t k ms → AllBehind t k bs
-    → filter (λ r. nat_lt r.tenant t) (fs ++ (ms ++ bs)) ++ map (key_made t) (with_pair k v (pairs_of t (fs ++ (ms ++ bs)))) ++ filter (λ r. nat_lt t r.tenant) (fs ++ (ms ++ bs))
+      → filter (λ r. nat_lt r.tenant t) (fs ++ (ms ++ bs)) ++ map (key_made t) (with_pair k v (pairs_of t (fs ++ (ms ++ bs)))) ++ filter (λ r. nat_lt t r.tenant) (fs ++ (ms ++ bs))
       ≡ fs ++ key_made t (k, v) ∷ bs
   records_put v fs ms bs order low here high =
       let lt : KeyRecord → Bool = λ r. nat_lt r.tenant t in let gt : KeyRecord → Bool = λ r. nat_lt t r.tenant in let eq : KeyRecord → Bool = λ r. r.tenant == t in
@@ -163,25 +163,25 @@ module _ (t : ℕ) (k : List ℕ) where
       let no_lt_bs : filter lt bs ≡ [] = filter-none lt bs (All-map (λ r. stands_to t k r ≡ Greater) (λ r. lt r ≡ false) (λ r e. le-ltb r.tenant t (behind_tenant r e)) bs high) in
       let no_gt_fs : filter gt fs ≡ [] = filter-none gt fs (All-map (λ r. stands_to t k r ≡ Less) (λ r. gt r ≡ false) (λ r e. le-ltb t r.tenant (before_tenant r e)) fs low) in
       let lows : filter lt (fs ++ (ms ++ bs)) ≡ filter lt fs =
-        filter-append lt fs (ms ++ bs) ∙ ap (λ l. filter lt fs ++ l) (filter-append lt ms bs) ∙ rw (no_lt_ms, no_lt_bs) (append-nil (filter lt fs)) in
+      filter-append lt fs (ms ++ bs) ∙ ap (λ l. filter lt fs ++ l) (filter-append lt ms bs) ∙ rw (no_lt_ms, no_lt_bs) (append-nil (filter lt fs)) in
       let highs : filter gt (fs ++ (ms ++ bs)) ≡ filter gt bs =
-        filter-append gt fs (ms ++ bs) ∙ ap (λ l. filter gt fs ++ l) (filter-append gt ms bs) ∙ rw (no_gt_ms, no_gt_fs) refl in
+      filter-append gt fs (ms ++ bs) ∙ ap (λ l. filter gt fs ++ l) (filter-append gt ms bs) ∙ rw (no_gt_ms, no_gt_fs) refl in
       let from_mine : (xs : List KeyRecord) → map (key_made t) (pairs_of t xs) ≡ filter eq xs =
-        λ xs. made_from_mine (λ (x : KeyRecord). x.tenant) key_part key_made (λ t p. refl) (λ t p. refl) (λ x. refl) t xs in
+      λ xs. made_from_mine (λ (x : KeyRecord). x.tenant) key_part key_made (λ t p. refl) (λ t p. refl) (λ x. refl) t xs in
       let mines : map (key_made t) (with_pair k v (pairs_of t (fs ++ (ms ++ bs)))) ≡ filter eq fs ++ key_made t (k, v) ∷ filter eq bs =
-        ap (map (key_made t)) (pairs_put v fs ms bs low here high) ∙ map-append (key_made t) (pairs_of t fs) ((k, v) ∷ pairs_of t bs)
-        ∙ rw (from_mine fs, from_mine bs) refl in
+      ap (map (key_made t)) (pairs_put v fs ms bs low here high) ∙ map-append (key_made t) (pairs_of t fs) ((k, v) ∷ pairs_of t bs)
+      ∙ rw (from_mine fs, from_mine bs) refl in
       let all_fs : filter lt fs ++ filter eq fs ≡ fs =
-        let parts = three_parts (λ (x : KeyRecord). x.tenant) key_part key_made (λ t p. refl) (λ t p. refl) (λ x. refl) t fs (key_ascends fs (InOrder-left KeyComesBefore fs (ms ++ bs) order)) in
-        sym (append-nil (filter lt fs ++ filter eq fs)) ∙ ap (λ l. filter lt fs ++ filter eq fs ++ l) (sym no_gt_fs) ∙ parts in
+      let parts = three_parts (λ (x : KeyRecord). x.tenant) key_part key_made (λ t p. refl) (λ t p. refl) (λ x. refl) t fs (key_ascends fs (InOrder-left KeyComesBefore fs (ms ++ bs) order)) in
+      sym (append-nil (filter lt fs ++ filter eq fs)) ∙ ap (λ l. filter lt fs ++ filter eq fs ++ l) (sym no_gt_fs) ∙ parts in
       let all_bs : filter eq bs ++ filter gt bs ≡ bs =
-        let parts = three_parts (λ (x : KeyRecord). x.tenant) key_part key_made (λ t p. refl) (λ t p. refl) (λ x. refl) t bs (key_ascends bs (InOrder-right KeyComesBefore ms bs (InOrder-right KeyComesBefore fs (ms ++ bs) order))) in
-        ap (λ l. l ++ filter eq bs ++ filter gt bs) (sym no_lt_bs) ∙ parts in
+      let parts = three_parts (λ (x : KeyRecord). x.tenant) key_part key_made (λ t p. refl) (λ t p. refl) (λ x. refl) t bs (key_ascends bs (InOrder-right KeyComesBefore ms bs (InOrder-right KeyComesBefore fs (ms ++ bs) order))) in
+      ap (λ l. l ++ filter eq bs ++ filter gt bs) (sym no_lt_bs) ∙ parts in
       rw (lows, mines, highs)
-        (ap (λ l. l ++ filter gt bs) (sym (append_assoc (filter lt fs) (filter eq fs) (key_made t (k, v) ∷ filter eq bs)))
-        ∙ ap (λ l. (l ++ key_made t (k, v) ∷ filter eq bs) ++ filter gt bs) all_fs
-        ∙ append_assoc fs (key_made t (k, v) ∷ filter eq bs) (filter gt bs)
-        ∙ ap (λ l. fs ++ key_made t (k, v) ∷ l) all_bs)
+      (ap (λ l. l ++ filter gt bs) (sym (append_assoc (filter lt fs) (filter eq fs) (key_made t (k, v) ∷ filter eq bs)))
+      ∙ ap (λ l. (l ++ key_made t (k, v) ∷ filter eq bs) ++ filter gt bs) all_fs
+      ∙ append_assoc fs (key_made t (k, v) ∷ filter eq bs) (filter gt bs)
+      ∙ ap (λ l. fs ++ key_made t (k, v) ∷ l) all_bs)
 
 -- no conflict among a tenant's pairs is none with its records
 pub no_conflict_with : (t : ℕ) (k : List ℕ) (rs : List KeyRecord) → has_conflict k (pairs_of t rs) ≡ false → AllByRecursion (λ r. r.tenant ≡ t → conflicts k r.key ≡ false) rs
@@ -193,8 +193,8 @@ no_conflict_with t k (r ∷ rs) h = go (r.tenant == t) refl h (no_conflict_with 
     parts false b e = (refl, e)
 
     go : (b : Bool) → (r.tenant == t) ≡ b → has_conflict k (map key_part (cond b (r ∷ filter (λ s. s.tenant == t) rs) (filter (λ s. s.tenant == t) rs))) ≡ false
-      → (has_conflict k (pairs_of t rs) ≡ false → AllByRecursion (λ r. r.tenant ≡ t → conflicts k r.key ≡ false) rs)
-      → AllByRecursion (λ r. r.tenant ≡ t → conflicts k r.key ≡ false) (r ∷ rs)
+        → (has_conflict k (pairs_of t rs) ≡ false → AllByRecursion (λ r. r.tenant ≡ t → conflicts k r.key ≡ false) rs)
+        → AllByRecursion (λ r. r.tenant ≡ t → conflicts k r.key ≡ false) (r ∷ rs)
     go true e f ih = let both = parts (conflicts k r.key) (has_conflict k (pairs_of t rs)) f in (λ _. both.0, ih both.1)
     go false e f ih = (λ same. absurd (true≢false (sym (eq-eqb r.tenant t same) ∙ e)), ih f)
 
@@ -279,7 +279,7 @@ module _ (t : ℕ) (k v : List ℕ) (fs ms bs : List Entry) (e : Entry) (are : A
       keys_in_order = subst (InOrder KeyComesBefore) (sym new_list) (InOrder-put KeyComesBefore F M B (key_made t (k, v)) order f.before f.behind);
       numbers_in_order = tt;
       keys_fit = subst (AllByRecursion KeyFits) (sym new_list)
-        (All-append KeyFits F (key_made t (k, v) ∷ B) (All-left KeyFits F (M ++ B) fit) (f.fits, All-right KeyFits M B (All-right KeyFits F (M ++ B) fit)));
+          (All-append KeyFits F (key_made t (k, v) ∷ B) (All-left KeyFits F (M ++ B) fit) (f.fits, All-right KeyFits M B (All-right KeyFits F (M ++ B) fit)));
       numbers_fit = tt;
     };
   }

@@ -1,11 +1,11 @@
 -- The reply to a command, from what the line spells.
-use Rattle.std.proofs.Common.{◌≡◌, ℕ, List, [], ◌∷◌, ◌++◌, refl, ap, sym, ◌∙◌, append-nil, Bool, true, false}
+use Rattle.std.proofs.Common.{◌≡◌, ℕ, List, [], ◌∷◌, refl, ap, sym, ◌∙◌, append-nil}
 use Rattle.std.specs.Prelude.{Option, Some, None, flat_map, codes}
 use Rattle.art_index.specs.Words.{Word, line_of, name}
-use Rattle.art_index.specs.Commands.{Request, put, get, Command, of_tenant, dump}
+use Rattle.art_index.specs.Commands.{put, get, Command, of_tenant, dump}
 use Rattle.art_index.specs.Reading.{command_of}
-use Rattle.art_index.specs.Records.{Records, own}
-use Rattle.art_index.specs.Replies.{own_reply, own_after, with_changed, reply_to, records_after, command_reply, command_after, dump_of}
+use Rattle.art_index.specs.Records.{Records}
+use Rattle.art_index.specs.Replies.{reply_to, records_after, command_reply, command_after, dump_of}
 use Rattle.art_index.specs.Outcome.{answer, left_by}
 use Rattle.art_index.specs.Stored.{IsPlaced, placed_words, found_no_memory}
 use Rattle.art_index.specs.declared.entry.Placed.{Placed}
@@ -23,21 +23,18 @@ pub told_once : (ws : List Word) (o : Option Command) (r : Records) (line : List
 told_once ws o r line e h = sym (append-nil (line_of ws)) ∙ ap (flat_map line_of) h ∙ reply_is o r line e
 
 pub placed_told : (p : Placed) (old new : Records) (t : ℕ) (k v line : List ℕ) → Some (of_tenant t (put k v)) ≡ command_of line
-  → IsPlaced p old t k v new → line_of (placed_words p) ≡ answer (found_no_memory p) old line
+    → IsPlaced p old t k v new → line_of (placed_words p) ≡ answer (found_no_memory p) old line
 placed_told placed.Memory old new t k v line e h = refl
 placed_told (placed.Old o) old new t k v line e h = told_once (placed_words (placed.Old o)) (Some (of_tenant t (put k v))) old line e h.0
 placed_told placed.New old new t k v line e h = told_once (placed_words placed.New) (Some (of_tenant t (put k v))) old line e h.0
 placed_told placed.Conflict old new t k v line e h = told_once (placed_words placed.Conflict) (Some (of_tenant t (put k v))) old line e h.0
 
 pub placed_left : (p : Placed) (old new : Records) (t : ℕ) (k v line : List ℕ) → Some (of_tenant t (put k v)) ≡ command_of line
-  → IsPlaced p old t k v new → new ≡ left_by (found_no_memory p) old line
+    → IsPlaced p old t k v new → new ≡ left_by (found_no_memory p) old line
 placed_left placed.Memory old new t k v line e h = h
 placed_left (placed.Old o) old new t k v line e h = h.1 ∙ after_is (Some (of_tenant t (put k v))) old line e
 placed_left placed.New old new t k v line e h = h.1 ∙ after_is (Some (of_tenant t (put k v))) old line e
 placed_left placed.Conflict old new t k v line e h = h.1 ∙ after_is (Some (of_tenant t (put k v))) old line e
-
-pub get_told : (r : Records) (t : ℕ) (k line : List ℕ) → Some (of_tenant t (get k)) ≡ command_of line → flat_map line_of (own_reply (get k) (own t r)) ≡ reply_to r line
-get_told r t k line e = reply_is (Some (of_tenant t (get k))) r line e
 
 pub get_left : (r : Records) (t : ℕ) (k line : List ℕ) → Some (of_tenant t (get k)) ≡ command_of line → r ≡ records_after r line
 get_left r t k line e = after_is (Some (of_tenant t (get k))) r line e

@@ -1,7 +1,6 @@
 -- What one more line does to a run.
-use Rattle.std.proofs.Common.{◌≡◌, ℕ, suc, ◌+◌, ◌<◌, ◌≤◌, List, [], ◌∷◌, ◌++◌, length, take, drop, refl, ap, sym, ◌∙◌, subst, Bool, true, false, cond, arith, append_assoc, append-nil, add-zero, zero-add, add-one, length-append}
+use Rattle.std.proofs.Common.{◌≡◌, ℕ, suc, ◌+◌, ◌<◌, ◌≤◌, List, [], ◌∷◌, ◌++◌, length, refl, ap, sym, ◌∙◌, subst, Bool, true, false, arith, append_assoc, append-nil, add-zero, zero-add, add-one, length-append}
 use Rattle.std.specs.Prelude.{◌==◌, ◌||◌, IsTrue}
-use Rattle.std.specs.List.{list_any}
 use Rattle.std.proofs.lemmas.Bool.{ne_eqb, eq-eqb, true≢false}
 use Rattle.art_index.specs.Records.{Records}
 use Rattle.art_index.specs.Refusals.{LineMayRefuse}
@@ -9,7 +8,7 @@ use Rattle.art_index.specs.Progress.{AllBelow, Ran}
 use Rattle.art_index.specs.Outcome.{is_refused, answer, left_by, answers_from, records_from, IsLawfulFrom, outcome_of, IsLawful}
 
 answers_from-snoc : (place : ℕ) (r : Records) (ls : List (List ℕ)) (l : List ℕ) (refused : List ℕ)
-  → answers_from place r (ls ++ l ∷ []) refused ≡ answers_from place r ls refused ++ answer (is_refused refused (place + length ls)) (records_from place r ls refused) l
+    → answers_from place r (ls ++ l ∷ []) refused ≡ answers_from place r ls refused ++ answer (is_refused refused (place + length ls)) (records_from place r ls refused) l
 answers_from-snoc place r [] l refused = rw (add-zero, append-nil) refl
 answers_from-snoc place r (k ∷ ls) l refused =
     let again = answers_from-snoc (suc place) (left_by (is_refused refused place) r k) ls l refused in
@@ -18,7 +17,7 @@ answers_from-snoc place r (k ∷ ls) l refused =
     ap (λ t. told ++ t) (rw shifted at again) ∙ sym (append_assoc told (answers_from (suc place) (left_by (is_refused refused place) r k) ls refused) (answer (is_refused refused (place + suc (length ls))) (records_from (suc place) (left_by (is_refused refused place) r k) ls refused) l))
 
 records_from-snoc : (place : ℕ) (r : Records) (ls : List (List ℕ)) (l : List ℕ) (refused : List ℕ)
-  → records_from place r (ls ++ l ∷ []) refused ≡ left_by (is_refused refused (place + length ls)) (records_from place r ls refused) l
+    → records_from place r (ls ++ l ∷ []) refused ≡ left_by (is_refused refused (place + length ls)) (records_from place r ls refused) l
 records_from-snoc place r [] l refused = rw add-zero refl
 records_from-snoc place r (k ∷ ls) l refused =
     let again = records_from-snoc (suc place) (left_by (is_refused refused place) r k) ls l refused in
@@ -26,9 +25,9 @@ records_from-snoc place r (k ∷ ls) l refused =
     rw shifted at again
 
 IsLawfulFrom-snoc : (place : ℕ) (r : Records) (ls : List (List ℕ)) (l : List ℕ) (refused : List ℕ)
-  → IsLawfulFrom place r ls refused
-  → (IsTrue (is_refused refused (place + length ls)) → LineMayRefuse (records_from place r ls refused) l)
-  → IsLawfulFrom place r (ls ++ l ∷ []) refused
+    → IsLawfulFrom place r ls refused
+    → (IsTrue (is_refused refused (place + length ls)) → LineMayRefuse (records_from place r ls refused) l)
+    → IsLawfulFrom place r (ls ++ l ∷ []) refused
 IsLawfulFrom-snoc place r [] l refused h here = (rw add-zero at here, tt)
 IsLawfulFrom-snoc place r (k ∷ ls) l refused h here =
     let shifted : place + suc (length ls) ≡ suc place + length ls = omega arith in
@@ -40,7 +39,7 @@ is_refused-more [] n place h = let other : n ≡ place → ⊥ = λ e. omega ari
 is_refused-more (p ∷ ps) n place h = ap (λ b. (p == place) || b) (is_refused-more ps n place h)
 
 answers_from-more : (place : ℕ) (r : Records) (ls : List (List ℕ)) (refused : List ℕ) (n : ℕ) → place + length ls ≤ n
-  → answers_from place r ls (refused ++ n ∷ []) ≡ answers_from place r ls refused
+    → answers_from place r ls (refused ++ n ∷ []) ≡ answers_from place r ls refused
 answers_from-more place r [] refused n h = refl
 answers_from-more place r (k ∷ ls) refused n h =
     let below : place < n = omega arith in let next : suc place + length ls ≤ n = omega arith in
@@ -48,7 +47,7 @@ answers_from-more place r (k ∷ ls) refused n h =
     subst P (sym (is_refused-more refused n place below)) (ap (λ t. answer (is_refused refused place) r k ++ t) (answers_from-more (suc place) (left_by (is_refused refused place) r k) ls refused n next))
 
 records_from-more : (place : ℕ) (r : Records) (ls : List (List ℕ)) (refused : List ℕ) (n : ℕ) → place + length ls ≤ n
-  → records_from place r ls (refused ++ n ∷ []) ≡ records_from place r ls refused
+    → records_from place r ls (refused ++ n ∷ []) ≡ records_from place r ls refused
 records_from-more place r [] refused n h = refl
 records_from-more place r (k ∷ ls) refused n h =
     let below : place < n = omega arith in let next : suc place + length ls ≤ n = omega arith in
@@ -56,7 +55,7 @@ records_from-more place r (k ∷ ls) refused n h =
     subst P (sym (is_refused-more refused n place below)) (records_from-more (suc place) (left_by (is_refused refused place) r k) ls refused n next)
 
 IsLawfulFrom-more : (place : ℕ) (r : Records) (ls : List (List ℕ)) (refused : List ℕ) (n : ℕ) → place + length ls ≤ n
-  → IsLawfulFrom place r ls refused → IsLawfulFrom place r ls (refused ++ n ∷ [])
+    → IsLawfulFrom place r ls refused → IsLawfulFrom place r ls (refused ++ n ∷ [])
 IsLawfulFrom-more place r [] refused n h l = tt
 IsLawfulFrom-more place r (k ∷ ls) refused n h l =
     let below : place < n = omega arith in let next : suc place + length ls ≤ n = omega arith in
@@ -92,8 +91,8 @@ length-more : (ls : List (List ℕ)) (l : List ℕ) → length (ls ++ l ∷ []) 
 length-more ls l = length-append ls (l ∷ []) ∙ add-one (length ls)
 
 pub Ran-more : (start : Records) (ls : List (List ℕ)) (refused written : List ℕ) (now : Records) (memory : Bool) (l : List ℕ)
-  → Ran start ls refused written now → (memory ≡ true → LineMayRefuse now l)
-  → Ran start (ls ++ l ∷ []) (with_place memory refused (length ls)) (written ++ answer memory now l) (left_by memory now l)
+    → Ran start ls refused written now → (memory ≡ true → LineMayRefuse now l)
+    → Ran start (ls ++ l ∷ []) (with_place memory refused (length ls)) (written ++ answer memory now l) (left_by memory now l)
 unfolding IsLawful outcome_of
 Ran-more start ls refused written now true l ran here =
     let n : ℕ = length ls in let more : List ℕ = refused ++ n ∷ [] in

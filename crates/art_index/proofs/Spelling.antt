@@ -1,15 +1,15 @@
 -- What spells a command is read as that command, and the other way.
-use Rattle.std.proofs.Common.{◌≡◌, ℕ, suc, ◌^◌, ◌<◌, ◌≤◌, List, [], ◌∷◌, length, refl, ap, sym, ◌∙◌, subst, Bool, true, false, cond, arith, Some, None, Option, Ok, Err}
+use Rattle.std.proofs.Common.{◌≡◌, ℕ, ◌^◌, ◌<◌, List, [], ◌∷◌, length, refl, ap, sym, ◌∙◌, subst, Bool, true, false, cond, arith, Some, None, Option, Ok, Err}
 use Rattle.std.specs.Prelude.{◌&&◌, ◌↔◌, decimal, codes, nat_lt, nat_le, Result, option_and_then}
 use Rattle.hex.specs.declared.error.FromHexError.{FromHexError}
 use Rattle.std.specs.Str.{bytes_eq}
 use Rattle.std.specs.Str.Parse.{digits_value}
-use Rattle.std.proofs.lemmas.Bool.{lt-ltb, le-leb, ltb-true, leb-true, true≢false}
+use Rattle.std.proofs.lemmas.Bool.{lt-ltb, le-leb, ltb-true, leb-true}
 use Rattle.std.proofs.lemmas.Slice.Eq.{bytes_eq-Decides}
 use Rattle.std.proofs.lemmas.Fmt.{decimal_is_IsNumeral}
 use Rattle.hex.specs.Hex.{decode_of, decode_pairs}
-use Rattle.art_index.specs.Words.{Word, name, natural, bytes, Reads}
-use Rattle.art_index.specs.Commands.{Request, put, get, Command, of_tenant, dump, words_of, AllRead, fields_of, Spells}
+use Rattle.art_index.specs.Words.{natural, bytes, Reads}
+use Rattle.art_index.specs.Commands.{put, get, Command, of_tenant, dump, words_of, AllRead, fields_of, Spells}
 use Rattle.art_index.specs.Reading.{tenant_in, bytes_in, some_bytes, put_in, get_in, dump_in, command_in, command_of}
 
 tenant_reads : (text : List ℕ) (n : ℕ) → Reads text (natural n) → tenant_in text ≡ Some n
@@ -56,12 +56,12 @@ unfolding tenant_in
 tenant_spelled field n h = go (nat_lt (digits_value 10 field) (2 ^ 32)) (bytes_eq field (decimal (digits_value 10 field))) refl refl h
   where
     go : (a b : Bool) → nat_lt (digits_value 10 field) (2 ^ 32) ≡ a → bytes_eq field (decimal (digits_value 10 field)) ≡ b
-      → cond (a && b) (Some (digits_value 10 field)) None ≡ Some n → Reads field (natural n)
+        → cond (a && b) (Some (digits_value 10 field)) None ≡ Some n → Reads field (natural n)
     go false b p q e = cc
     go true false p q e = cc
     go true true p q e =
-      let is : digits_value 10 field ≡ n = cc in
-      ((bytes_eq-Decides field (decimal (digits_value 10 field))).0 q ∙ ap decimal is, subst (λ m. m < 2 ^ 32) is (ltb-true (digits_value 10 field) (2 ^ 32) p))
+        let is : digits_value 10 field ≡ n = cc in
+        ((bytes_eq-Decides field (decimal (digits_value 10 field))).0 q ∙ ap decimal is, subst (λ m. m < 2 ^ 32) is (ltb-true (digits_value 10 field) (2 ^ 32) p))
 
 some_bytes_spelled : (field : List ℕ) (r : Result (List ℕ) FromHexError) (bs : List ℕ) → decode_of field ≡ r → some_bytes r ≡ Some bs → Reads field (bytes bs)
 some_bytes_spelled field (Ok []) bs e h = cc
@@ -84,14 +84,14 @@ put_spelled (t ∷ k ∷ v ∷ x ∷ xs) c h = cc
 put_spelled (t ∷ k ∷ v ∷ []) c h = go (tenant_in t) (bytes_in k) (bytes_in v) refl refl refl h
   where
     go : (a : Option ℕ) (x y : Option (List ℕ)) → tenant_in t ≡ a → bytes_in k ≡ x → bytes_in v ≡ y
-      → option_and_then (λ tenant. option_and_then (λ key. option_and_then (λ value. Some (of_tenant tenant (put key value))) y) x) a ≡ Some c
-      → AllRead (codes "put" ∷ t ∷ k ∷ v ∷ []) (words_of c)
+        → option_and_then (λ tenant. option_and_then (λ key. option_and_then (λ value. Some (of_tenant tenant (put key value))) y) x) a ≡ Some c
+        → AllRead (codes "put" ∷ t ∷ k ∷ v ∷ []) (words_of c)
     go None x y p q r e = cc
     go (Some n) None y p q r e = cc
     go (Some n) (Some key) None p q r e = cc
     go (Some n) (Some key) (Some value) p q r e =
-      let is : of_tenant n (put key value) ≡ c = cc in
-      subst (λ x. AllRead (codes "put" ∷ t ∷ k ∷ v ∷ []) (words_of x)) is (refl, (tenant_spelled t n p, (bytes_spelled k key q, (bytes_spelled v value r, tt))))
+        let is : of_tenant n (put key value) ≡ c = cc in
+        subst (λ x. AllRead (codes "put" ∷ t ∷ k ∷ v ∷ []) (words_of x)) is (refl, (tenant_spelled t n p, (bytes_spelled k key q, (bytes_spelled v value r, tt))))
 
 get_spelled : (fields : List (List ℕ)) (c : Command) → get_in fields ≡ Some c → AllRead (codes "get" ∷ fields) (words_of c)
 get_spelled [] c h = cc
@@ -100,13 +100,13 @@ get_spelled (t ∷ k ∷ x ∷ xs) c h = cc
 get_spelled (t ∷ k ∷ []) c h = go (tenant_in t) (bytes_in k) refl refl h
   where
     go : (a : Option ℕ) (x : Option (List ℕ)) → tenant_in t ≡ a → bytes_in k ≡ x
-      → option_and_then (λ tenant. option_and_then (λ key. Some (of_tenant tenant (get key))) x) a ≡ Some c
-      → AllRead (codes "get" ∷ t ∷ k ∷ []) (words_of c)
+        → option_and_then (λ tenant. option_and_then (λ key. Some (of_tenant tenant (get key))) x) a ≡ Some c
+        → AllRead (codes "get" ∷ t ∷ k ∷ []) (words_of c)
     go None x p q e = cc
     go (Some n) None p q e = cc
     go (Some n) (Some key) p q e =
-      let is : of_tenant n (get key) ≡ c = cc in
-      subst (λ x. AllRead (codes "get" ∷ t ∷ k ∷ []) (words_of x)) is (refl, (tenant_spelled t n p, (bytes_spelled k key q, tt)))
+        let is : of_tenant n (get key) ≡ c = cc in
+        subst (λ x. AllRead (codes "get" ∷ t ∷ k ∷ []) (words_of x)) is (refl, (tenant_spelled t n p, (bytes_spelled k key q, tt)))
 
 dump_spelled : (fields : List (List ℕ)) (c : Command) → dump_in fields ≡ Some c → AllRead (codes "dump" ∷ fields) (words_of c)
 dump_spelled [] c h = let is : dump ≡ c = cc in subst (λ x. AllRead (codes "dump" ∷ []) (words_of x)) is (refl, tt)
@@ -120,7 +120,7 @@ all_spelled (word ∷ rest) c h = go (bytes_eq word (codes "put")) (bytes_eq wor
     begins text same read = subst (λ w. AllRead (w ∷ rest) (words_of c)) (sym ((bytes_eq-Decides word text).0 same)) read
 
     go : (p g d : Bool) → bytes_eq word (codes "put") ≡ p → bytes_eq word (codes "get") ≡ g → bytes_eq word (codes "dump") ≡ d
-      → cond p (put_in rest) (cond g (get_in rest) (cond d (dump_in rest) None)) ≡ Some c → AllRead (word ∷ rest) (words_of c)
+        → cond p (put_in rest) (cond g (get_in rest) (cond d (dump_in rest) None)) ≡ Some c → AllRead (word ∷ rest) (words_of c)
     go true g d x y z e = begins (codes "put") x (put_spelled rest c e)
     go false true d x y z e = begins (codes "get") y (get_spelled rest c e)
     go false false true x y z e = begins (codes "dump") z (dump_spelled rest c e)

@@ -1,14 +1,12 @@
 -- How records in order stand to a tenant's key.
-use Rattle.std.proofs.Common.{◌≡◌, ℕ, zero, suc, ◌+◌, ◌<◌, ◌≤◌, ◌⊎◌, List, [], ◌∷◌, ◌++◌, length, take, drop, get_or, refl, ap, sym, ◌∙◌, Bool, true, false, cond, arith, add-one, inl, inr, subst}
-use Rattle.std.specs.Prelude.{◌==◌, nat_lt, map, IsTrue}
+use Rattle.std.proofs.Common.{◌≡◌, ℕ, zero, suc, ◌+◌, ◌<◌, ◌⊎◌, List, [], ◌∷◌, length, take, drop, get_or, refl, ap, sym, ◌∙◌, true, false, arith, inl, inr, subst}
+use Rattle.std.specs.Prelude.{◌==◌, nat_lt, IsTrue}
 use Rattle.std.specs.List.{AllByRecursion, HoldsAt}
 use Rattle.std.specs.declared.cmp.Ordering.{Ordering}
 use Rattle.std.specs.declared.cmp.Ordering.TheVariants.{Less, Equal, Greater}
-use Rattle.std.specs.Ordering.{nat_cmp, is_lt, ordering_then, ordering_reverse}
-use Rattle.std.specs.Cmp.{IsTotalOrder}
+use Rattle.std.specs.Ordering.{nat_cmp, is_lt, ordering_reverse}
 use Rattle.std.specs.Cmp.Lexicographic.{slice_cmp}
-use Rattle.std.specs.Str.{bytes_eq}
-use Rattle.std.proofs.lemmas.Cmp.{nat_list_cmp_total, ranked}
+use Rattle.std.proofs.lemmas.Cmp.{nat_list_cmp_total}
 use Rattle.std.proofs.lemmas.Map.Text.{is_eq-slice_cmp}
 use Rattle.std.proofs.lemmas.Slice.Eq.{bytes_eq-Decides}
 use Rattle.std.proofs.lemmas.Bool.{lt-ltb, eq-eqb, ne_eqb, le-ltb, cases_lt}
@@ -67,14 +65,16 @@ said_by_keys t k r same Greater e = inr (same, cmp_greater r.key k e)
 
 says : (t : ℕ) (k : List ℕ) (r : KeyRecord) → Says t k r (stands_to t k r)
 says t k r = elim (cases_lt r.tenant t) [
-    inl low ↦ rw (lt-ltb r.tenant t low) (inl low)
+  | inl low ↦ rw (lt-ltb r.tenant t low) (inl low)
   | inr high ↦ elim (cases_lt t r.tenant) [
-      inl above ↦
+    | inl above ↦
         let no : nat_lt r.tenant t ≡ false = le-ltb r.tenant t high in let other : (r.tenant == t) ≡ false = ne_eqb r.tenant t (λ e. omega arith) in
         rw (no, other) (inl above)
     | inr under ↦
         let no : nat_lt r.tenant t ≡ false = le-ltb r.tenant t high in let e : r.tenant ≡ t = omega arith in let same : (r.tenant == t) ≡ true = eq-eqb r.tenant t e in
-        rw (no, same) (said_by_keys t k r e (slice_cmp nat_cmp r.key k) refl) ] ]
+        rw (no, same) (said_by_keys t k r e (slice_cmp nat_cmp r.key k) refl)
+  ]
+]
 
 pub standing : (t : ℕ) (k : List ℕ) (r : KeyRecord) (o : Ordering) → stands_to t k r ≡ o → Says t k r o
 standing t k r o e = subst (Says t k r) e (says t k r)
@@ -114,7 +114,7 @@ AllBehind t k rs = AllByRecursion (λ r. stands_to t k r ≡ Greater) rs
 
 -- all up to a record that stands before the key
 pub before_up_to : (t : ℕ) (k : List ℕ) (rs : List KeyRecord) (i : ℕ) → InOrder KeyComesBefore rs → i < length rs
-  → HoldsAt (λ r. stands_to t k r ≡ Less) rs i → AllBefore t k (take (i + 1) rs)
+    → HoldsAt (λ r. stands_to t k r ≡ Less) rs i → AllBefore t k (take (i + 1) rs)
 before_up_to t k [] i order within here = absurd (omega arith)
 before_up_to t k (r ∷ rs) zero order within here = (here r, tt)
 before_up_to t k (r ∷ rs) (suc i) order within here =
@@ -126,7 +126,7 @@ before_up_to t k (r ∷ rs) (suc i) order within here =
 
 -- all from a record that stands behind the key
 pub behind_from : (t : ℕ) (k : List ℕ) (rs : List KeyRecord) (i : ℕ) → InOrder KeyComesBefore rs → i < length rs
-  → HoldsAt (λ r. stands_to t k r ≡ Greater) rs i → AllBehind t k (drop i rs)
+    → HoldsAt (λ r. stands_to t k r ≡ Greater) rs i → AllBehind t k (drop i rs)
 behind_from t k [] i order within here = absurd (omega arith)
 behind_from t k (r ∷ rs) zero order within here =
     let first : IsBehind t k r = standing t k r Greater (here r) in
@@ -135,7 +135,7 @@ behind_from t k (r ∷ rs) (suc i) order within here = behind_from t k rs i orde
 
 -- around a record at the key
 pub before_found : (t : ℕ) (k : List ℕ) (rs : List KeyRecord) (i : ℕ) → InOrder KeyComesBefore rs → i < length rs
-  → HoldsAt (λ r. stands_to t k r ≡ Equal) rs i → AllBefore t k (take i rs)
+    → HoldsAt (λ r. stands_to t k r ≡ Equal) rs i → AllBefore t k (take i rs)
 before_found t k [] i order within here = absurd (omega arith)
 before_found t k (r ∷ rs) zero order within here = tt
 before_found t k (r ∷ rs) (suc i) order within here =
@@ -149,7 +149,7 @@ before_found t k (r ∷ rs) (suc i) order within here =
     before_of_same t k r s (inr up) e f = inr (up.0 ∙ e, subst (λ x. IsTrue (is_below r.key x)) f up.1)
 
 pub behind_found : (t : ℕ) (k : List ℕ) (rs : List KeyRecord) (i : ℕ) → InOrder KeyComesBefore rs → i < length rs
-  → HoldsAt (λ r. stands_to t k r ≡ Equal) rs i → AllBehind t k (drop (i + 1) rs)
+    → HoldsAt (λ r. stands_to t k r ≡ Equal) rs i → AllBehind t k (drop (i + 1) rs)
 behind_found t k [] i order within here = absurd (omega arith)
 behind_found t k (r ∷ rs) zero order within here =
     let same = standing t k r Equal (here r) in

@@ -42,11 +42,11 @@ own tenant records = record {
 abbrev pub with_own : ℕ → Own → Records → Records
 with_own tenant mine records = record {
   keys = filter (λ r. nat_lt r.tenant tenant) records.keys
-    ++ map (λ p. record { tenant = tenant; key = p.0; value = p.1 }) mine.keys
-    ++ filter (λ r. nat_lt tenant r.tenant) records.keys;
+      ++ map (λ p. record { tenant = tenant; key = p.0; value = p.1 }) mine.keys
+      ++ filter (λ r. nat_lt tenant r.tenant) records.keys;
   numbers = filter (λ r. nat_lt r.tenant tenant) records.numbers
-    ++ map (λ p. record { tenant = tenant; number = p.0; value = p.1 }) mine.numbers
-    ++ filter (λ r. nat_lt tenant r.tenant) records.numbers;
+      ++ map (λ p. record { tenant = tenant; number = p.0; value = p.1 }) mine.numbers
+      ++ filter (λ r. nat_lt tenant r.tenant) records.numbers;
 }
 
 -- a record comes before another: its tenant is smaller, or it is the same and the keys ascend without a conflict

@@ -9,7 +9,7 @@ use Rattle.std.specs.Cmp.Lexicographic.{slice_cmp}
 use Rattle.art_index.specs.declared.entry.Entry.{Entry}
 use Rattle.art_index.specs.declared.entry.Placed.{Placed}
 use Rattle.art_index.specs.declared.entry.Placed.TheVariants as placed
-use Rattle.art_index.specs.Words.{Word, name, bytes, line_of}
+use Rattle.art_index.specs.Words.{Word, name, bytes}
 use Rattle.art_index.specs.Commands.{put}
 use Rattle.art_index.specs.Keys.{conflicts, full_key}
 use Rattle.art_index.specs.Records.{KeyRecord, Records, AreRecords, own}

@@ -103,7 +103,13 @@ fn full_key(alloc: Global, tenant: u32, key: &[u8]) -> Result<Vec<u8>, AllocErro
 }
 
 /// Puts a value at a tenant's key, unless the key conflicts with another. All memory is taken before anything is changed.
-pub(crate) fn put_entry(alloc: Global, entries: &mut Vec<Entry>, tenant: u32, key: &[u8], value: &[u8]) -> Placed
+pub(crate) fn put_entry(
+    alloc: Global,
+    entries: &mut Vec<Entry>,
+    tenant: u32,
+    key: &[u8],
+    value: &[u8],
+) -> Placed
     requires ordered { AreEntries entries.old.items }
     requires fits { KeyFits (record { tenant = tenant; key = key.now; value = value.now }) }
     ensures ordered { AreEntries entries.new.items }

@@ -23,7 +23,6 @@ pub enum RunFault {
 
 impl From<WriteFailed> for RunFault {
     ghost use Rattle.art_index.specs.declared.index.RunFault.TheVariants.{Write};
-
     ghost use Rattle.std.specs.Prelude.{◌≡◌};
 
     ghost from_gives = { λ _ fault. fault ≡ Write };
@@ -103,9 +102,18 @@ impl<const PREFIX_LEN: usize> Index<PREFIX_LEN> {
     {
         let mut memory = false;
         match self.slots.read(line) {
-            Some(Command::Get { tenant, key }) => write_value(sink, value_of(&self.entries, *tenant, key.as_slice()))?,
+            Some(Command::Get { tenant, key }) => write_value(
+                sink,
+                value_of(&self.entries, *tenant, key.as_slice()),
+            )?,
             Some(Command::Put { tenant, key, value }) => {
-                let placed = put_entry(self.alloc, &mut self.entries, *tenant, key.as_slice(), value.as_slice());
+                let placed = put_entry(
+                    self.alloc,
+                    &mut self.entries,
+                    *tenant,
+                    key.as_slice(),
+                    value.as_slice(),
+                );
                 memory = placed.is_memory();
                 write_placed(sink, &placed)?;
             }

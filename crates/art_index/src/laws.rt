@@ -4,35 +4,29 @@ ghost use Rattle.art_index.specs.Laws.{OwnReadsBack, OthersAreUntouched, OwnIsIn
 /// What is put in place for a tenant is what it holds then.
 pub fn own_reads_back()
     ensures { OwnReadsBack }
-{
-}
+{}
 
 /// What another tenant holds is untouched by it.
 pub fn others_are_untouched()
     ensures { OthersAreUntouched }
-{
-}
+{}
 
 /// What a tenant holds, put in place again, changes nothing.
 pub fn own_is_in_place()
     ensures { OwnIsInPlace }
-{
-}
+{}
 
 /// No line spells two commands.
 pub fn spells_one_command()
     ensures { SpellsOneCommand }
-{
-}
+{}
 
 /// Full keys are in order where their tenants are, and within a tenant where its keys are.
 pub fn full_keys_keep_order()
     ensures { FullKeysKeepOrder }
-{
-}
+{}
 
 /// Full keys conflict where they are one tenant's and its keys do.
 pub fn full_keys_keep_conflicts()
     ensures { FullKeysKeepConflicts }
-{
-}
+{}

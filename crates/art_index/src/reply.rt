@@ -75,7 +75,11 @@ pub(crate) fn write_number<W: Sink>(sink: &mut W, number: u64) -> Result<(), Wri
 }
 
 /// A line of a word and bytes.
-pub(crate) fn write_found<W: Sink>(sink: &mut W, word: &[u8], value: &[u8]) -> Result<(), WriteFailed>
+pub(crate) fn write_found<W: Sink>(
+    sink: &mut W,
+    word: &[u8],
+    value: &[u8],
+) -> Result<(), WriteFailed>
     requires { W.has_failed sink.old ≡ false }
     ensures ok { OnOk result (W.taken sink.new ≡ W.taken sink.old ++ line_of (name word.now ∷ bytes value.now ∷ [])) }
     ensures failed { is_err result ≡ W.has_failed sink.new }
@@ -99,7 +103,12 @@ pub(crate) fn write_value<W: Sink>(sink: &mut W, value: Option<&[u8]>) -> Result
 }
 
 /// The line that makes a record.
-pub(crate) fn write_record<W: Sink>(sink: &mut W, tenant: u32, key: &[u8], value: &[u8]) -> Result<(), WriteFailed>
+pub(crate) fn write_record<W: Sink>(
+    sink: &mut W,
+    tenant: u32,
+    key: &[u8],
+    value: &[u8],
+) -> Result<(), WriteFailed>
     requires { W.has_failed sink.old ≡ false }
     ensures ok { OnOk result (W.taken sink.new ≡ W.taken sink.old ++ line_of (put_words tenant key.now value.now)) }
     ensures failed { is_err result ≡ W.has_failed sink.new }

@@ -62,7 +62,11 @@ fn make_kept(alloc: Global, room: usize) -> Kept {
 }
 
 /// Runs the text over an index.
-fn run_over<const PREFIX_LEN: usize>(index: &mut Index<PREFIX_LEN>, pieces: Pieces<'_>, out: &mut Kept) -> Result<(), RunFault> {
+fn run_over<const PREFIX_LEN: usize>(
+    index: &mut Index<PREFIX_LEN>,
+    pieces: Pieces<'_>,
+    out: &mut Kept,
+) -> Result<(), RunFault> {
     let mut source = FromReader::new(pieces);
     let mut sink = ToWriter::new(out);
     run(index, &mut source, &mut sink)
@@ -79,7 +83,12 @@ fn cut_text(text: &[u8], first: usize) -> Pieces<'_> {
 }
 
 /// Checks that the text is answered so, cut at every place and byte by byte.
-fn is_answered<const PREFIX_LEN: usize>(rt: &impl Abort, alloc: Global, text: &[u8], wanted: &[u8]) {
+fn is_answered<const PREFIX_LEN: usize>(
+    rt: &impl Abort,
+    alloc: Global,
+    text: &[u8],
+    wanted: &[u8],
+) {
     for first in 1..text.len().max(1) {
         let mut index: Index<PREFIX_LEN> = Index::new(alloc);
         let mut out = make_kept(alloc, usize::MAX);
@@ -114,7 +123,10 @@ fn answers_worked_lines(rt: HostRuntime) {
             b"put 1 0a 61\nput 1 0a0b 62\nput 2 0a0b 63\nput 1 0a 64\ndump\n",
             b"new\nconflict\nnew\nold 61\nput 1 0a 64\nput 2 0a0b 63\nend 2\n",
         ),
-        (b"put 7 0a0b 6869\nget 7 0a0b\nget 8 0a0b", b"new\nis 6869\nnone\n"),
+        (
+            b"put 7 0a0b 6869\nget 7 0a0b\nget 8 0a0b",
+            b"new\nis 6869\nnone\n",
+        ),
         (
             b"get  1 0a\nget 1 0\nPUT 1 0a 61\nnget 1 -0\nput 1 0a\nend 2\n",
             b"bad\nbad\nbad\nbad\nbad\nbad\n",
@@ -176,13 +188,24 @@ fn a_long_last_line_is_bad_once(rt: HostRuntime) -> Result<(), Fail> {
 }
 
 /// The lines of the tests below, and the replies to them.
-const LINES: &[u8] = b"put 1 0a 61\nput 1 0b 6262\nget 1 0b\ndump\nput 1 0a0a 61\nput 2 0a 63\nget 1 0";
-const REPLIES: &[u8] = b"new\nnew\nis 6262\nput 1 0a 61\nput 1 0b 6262\nend 2\nconflict\nnew\nbad\n";
+const LINES: &[u8] =
+    b"put 1 0a 61\nput 1 0b 6262\nget 1 0b\ndump\nput 1 0a0a 61\nput 2 0a 63\nget 1 0";
+
+const REPLIES: &[u8] =
+    b"new\nnew\nis 6262\nput 1 0a 61\nput 1 0b 6262\nend 2\nconflict\nnew\nbad\n";
 
 #[test]
 fn a_failed_read_leaves_the_whole_lines(rt: HostRuntime) {
     // The bytes of the lines up to each newline, and of their replies.
-    let ends: [(usize, usize); 7] = [(0, 0), (12, 4), (26, 8), (35, 16), (40, 48), (54, 57), (66, 61)];
+    let ends: [(usize, usize); 7] = [
+        (0, 0),
+        (12, 4),
+        (26, 8),
+        (35, 16),
+        (40, 48),
+        (54, 57),
+        (66, 61),
+    ];
     for count in 0..LINES.len() {
         let mut index: Index<16> = Index::new(rt.alloc());
         let mut out = make_kept(rt.alloc(), usize::MAX);
@@ -192,14 +215,21 @@ fn a_failed_read_leaves_the_whole_lines(rt: HostRuntime) {
             more: 7,
             fails: true,
         };
-        assert!(rt; matches!(run_over(&mut index, fails, &mut out), Err(RunFault::Read)), "after {count}");
+        assert!(rt;
+            matches!(run_over(&mut index, fails, &mut out), Err(RunFault::Read)),
+            "after {count}"
+        );
         let mut told = 0;
         for (line_end, reply_end) in ends {
             if line_end <= count {
                 told = reply_end;
             }
         }
-        assert_eq!(rt; out.bytes.as_slice(), &REPLIES[..told.min(REPLIES.len())], "after {count}");
+        assert_eq!(rt;
+            out.bytes.as_slice(),
+            &REPLIES[..told.min(REPLIES.len())],
+            "after {count}"
+        );
     }
 }
 
@@ -208,7 +238,13 @@ fn a_failed_write_cuts_the_replies(rt: HostRuntime) {
     for room in 0..REPLIES.len() {
         let mut index: Index<16> = Index::new(rt.alloc());
         let mut out = make_kept(rt.alloc(), room);
-        assert!(rt; matches!(run_over(&mut index, cut_text(LINES, 30), &mut out), Err(RunFault::Write)), "after {room}");
+        assert!(rt;
+            matches!(
+                run_over(&mut index, cut_text(LINES, 30), &mut out),
+                Err(RunFault::Write)
+            ),
+            "after {room}"
+        );
         assert_eq!(rt; out.bytes.as_slice(), &REPLIES[..room]);
     }
     let mut index: Index<16> = Index::new(rt.alloc());
@@ -240,7 +276,16 @@ fn faults_leave_what_was_done(rt: HostRuntime) {
 
     let mut index: Index<16> = Index::new(rt.alloc());
     let mut out = make_kept(rt.alloc(), 2);
-    assert!(rt; matches!(run_over(&mut index, cut_text(b"put 1 0a 61\nget 1 0a\n", 50), &mut out), Err(RunFault::Write)));
+    assert!(rt;
+        matches!(
+            run_over(
+                &mut index,
+                cut_text(b"put 1 0a 61\nget 1 0a\n", 50),
+                &mut out
+            ),
+            Err(RunFault::Write)
+        )
+    );
     assert_eq!(rt; out.bytes.as_slice(), b"ne".as_slice());
     holds(&rt, rt.alloc(), &mut index, b"put 1 0a 61\nend 1\n");
 }

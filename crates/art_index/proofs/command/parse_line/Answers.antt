@@ -1,4 +1,4 @@
-use Rattle.std.proofs.Common.{◌≡◌, ◌∙◌, sym, ap, Some, None}
+use Rattle.std.proofs.Common.{Some, None}
 use Rattle.art_index.specs.Parsed.{meaning}
 use Rattle.art_index.proofs.Parsing.{read_none, read_some}
 use Rattle.art_index.proofs.Spelling.{read_back}

@@ -1,6 +1,5 @@
-use Rattle.std.proofs.Common.{◌≡◌, ℕ, ◌+◌, ◌*◌, ◌<◌, ◌≤◌, ◌^◌, length, take, drop, get_or, sym, ◌∙◌, ap, arith, Some, None, Option}
+use Rattle.std.proofs.Common.{◌≡◌, ◌<◌, length, get_or, sym, ◌∙◌, arith}
 use Rattle.std.proofs.lemmas.Bool.{eqb-true, eqb-false, true≢false, and_from, le-leb}
-use Rattle.art_index.specs.Reading.{tenant_in}
 use Rattle.art_index.proofs.Parsing.{number_empty, number_long, number_padded, number_other, number_end}
 use Rattle.art_index.proofs.command.parse_tenant.Goals as goal
 use Rattle.art_index.proofs.command.parse_tenant.Goals.{else-field-gt1-via-then-field-gt1+else-field-eq48, else-field-gt1-via-else-field-gt1}
@@ -22,6 +21,7 @@ returns-clause-tenant c =
     let i = c.loop-digit.invariant in
     let some : 0 < length c.args.field.now = let h = eqb-false _ _ (sym c.if-is_empty.ensures) in omega arith in
     let front : get_or c.args.field.now 0 0 ≡ 48 → length c.args.field.now ≡ 1 = elim c.else-field-gt1.branch [
-        else-field-gt1-via-then-field-gt1+else-field-eq48 w ↦ λ e. absurd (w.if-field-eq48.false e)
-      | else-field-gt1-via-else-field-gt1 w ↦ λ _. let short = w.if-field-gt1.false in omega arith ] in
+      | else-field-gt1-via-then-field-gt1+else-field-eq48 w ↦ λ e. absurd (w.if-field-eq48.false e)
+      | else-field-gt1-via-else-field-gt1 w ↦ λ _. let short = w.if-field-gt1.false in omega arith
+    ] in
     number_end c.args.field.now c.loop-digit.digit-index c.loop-digit.number c.try_from.result c.ok.result c.try_from.ensures c.ok.ensures.value some front c.loop-digit-test.false i.digits i.read

@@ -1,4 +1,4 @@
-use Rattle.std.proofs.Common.{◌≡◌, ℕ, List, ◌∷◌, [], ◌<◌, ◌≤◌, length, sym, ◌∙◌, ap, None, Some, true, false}
+use Rattle.std.proofs.Common.{◌∙◌, ap, Some}
 use Rattle.std.specs.Str.{bytes_eq}
 use Rattle.art_index.specs.Parsed.{meaning}
 use Rattle.art_index.proofs.Parsing.{read_same, too_long, says_put, says_get, says_dump, says_nothing, nothing_behind, something_behind}
@@ -31,9 +31,10 @@ returns c =
     let put = c.if-eq.ensures ∙ ap (bytes_eq c.split_field.result.0.now) c.as_slice.ensures in
     let get = c.if-eq-2.ensures ∙ ap (bytes_eq c.split_field.result.0.now) c.as_slice-2.ensures in
     elim c.else-eq-3.branch [
-      else-eq-3-via-then-eq-3+else-is_none w ↦
-        let dump = w.if-eq-3.ensures ∙ ap (bytes_eq c.split_field.result.0.now) c.as_slice-3.ensures in
-        something_behind c.split_field.result.1 w.if-is_none.ensures ∙ says_dump c.args.line.now c.split_field.result.0.now _ c.if-line-gt-LINE.false c.split_field.ensures.split put get dump
-    | else-eq-3-via-else-eq-3 w ↦
-        let dump = w.if-eq-3.ensures ∙ ap (bytes_eq c.split_field.result.0.now) c.as_slice-3.ensures in
-        says_nothing c.args.line.now c.split_field.result.0.now _ c.if-line-gt-LINE.false c.split_field.ensures.split put get dump ]
+      | else-eq-3-via-then-eq-3+else-is_none w ↦
+          let dump = w.if-eq-3.ensures ∙ ap (bytes_eq c.split_field.result.0.now) c.as_slice-3.ensures in
+          something_behind c.split_field.result.1 w.if-is_none.ensures ∙ says_dump c.args.line.now c.split_field.result.0.now _ c.if-line-gt-LINE.false c.split_field.ensures.split put get dump
+      | else-eq-3-via-else-eq-3 w ↦
+          let dump = w.if-eq-3.ensures ∙ ap (bytes_eq c.split_field.result.0.now) c.as_slice-3.ensures in
+          says_nothing c.args.line.now c.split_field.result.0.now _ c.if-line-gt-LINE.false c.split_field.ensures.split put get dump
+    ]

@@ -1,5 +1,5 @@
-use Rattle.std.proofs.Common.{◌≡◌, ℕ, ◌+◌, ◌-◌, ◌/◌, ◌<◌, ◌≤◌, length, map, arith, sym, ◌∙◌, refl}
-use Rattle.std.specs.declared.cmp.Ordering.TheVariants.{Less, Equal, Greater}
+use Rattle.std.proofs.Common.{◌≡◌, ℕ, ◌+◌, ◌-◌, ◌/◌, ◌<◌, length, map, arith, sym, ◌∙◌}
+use Rattle.std.specs.declared.cmp.Ordering.TheVariants.{Less, Greater}
 use Rattle.art_index.specs.Stored.{record_of, stands_to}
 use Rattle.art_index.proofs.Filters.{HoldsAt-map, length-map}
 use Rattle.art_index.proofs.Standing.{before_up_to, behind_from}
@@ -16,7 +16,7 @@ loop-low-preserved-in-Less c =
       low_le_high = omega arith;
       within = within;
       before = before_up_to c.args.tenant c.args.key.now (map record_of c.args.entries.now) mid c.requires.records.keys_in_order (omega arith)
-        (HoldsAt-map record_of (λ r. stands_to c.args.tenant c.args.key.now r ≡ Less) c.args.entries.now mid c.index-entries-mid.result inside c.index-entries-mid.is (sym c.compare.ensures ∙ c.in-Less.is));
+          (HoldsAt-map record_of (λ r. stands_to c.args.tenant c.args.key.now r ≡ Less) c.args.entries.now mid c.index-entries-mid.result inside c.index-entries-mid.is (sym c.compare.ensures ∙ c.in-Less.is));
       behind = i.behind;
     }
 
@@ -32,5 +32,5 @@ loop-low-preserved c =
       within = omega arith;
       before = i.before;
       behind = behind_from c.args.tenant c.args.key.now (map record_of c.args.entries.now) mid c.requires.records.keys_in_order (omega arith)
-        (HoldsAt-map record_of (λ r. stands_to c.args.tenant c.args.key.now r ≡ Greater) c.args.entries.now mid c.index-entries-mid.result inside c.index-entries-mid.is (sym c.compare.ensures ∙ c.in-Greater.is));
+          (HoldsAt-map record_of (λ r. stands_to c.args.tenant c.args.key.now r ≡ Greater) c.args.entries.now mid c.index-entries-mid.result inside c.index-entries-mid.is (sym c.compare.ensures ∙ c.in-Greater.is));
     }

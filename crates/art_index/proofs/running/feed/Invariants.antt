@@ -7,8 +7,8 @@ use Rattle.art_index.proofs.running.feed.Given as goal
 abbrev pub invariant-lines : goal.invariant-lines
 invariant-lines g l = record {
   carried : (done : List ℕ) × (l.piece ≡ done ++ l.rest) × ((start : Records) (text before : List ℕ)
-    → Carried start l.fn.index text l.fn.held.items before (g.W.Sink.taken l.fn.sink)
-    → Carried start l.index (text ++ done) l.held.items before (g.W.Sink.taken l.sink));
+      → Carried start l.fn.index text l.fn.held.items before (g.W.Sink.taken l.fn.sink)
+      → Carried start l.index (text ++ done) l.held.items before (g.W.Sink.taken l.sink));
   fine : g.W.Sink.has_failed l.sink ≡ false;
 }
 

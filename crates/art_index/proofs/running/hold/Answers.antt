@@ -1,4 +1,4 @@
-use Rattle.std.proofs.Common.{◌≡◌, ◌+◌, ◌-◌, ◌≤◌, ◌++◌, length, take, sym, ◌∙◌, arith, length-append}
+use Rattle.std.proofs.Common.{◌≤◌, length, ◌∙◌, arith}
 use Rattle.std.proofs.lemmas.List.{length-take-le}
 use Rattle.art_index.proofs.Carrying.{held_as_fits, on_ok}
 use Rattle.art_index.proofs.running.hold.Goals as goal
@@ -10,4 +10,4 @@ returns c =
     let shorter = length-take-le c.min-room.result c.args.part.now within in
     let e = c.try_extend_from_slice.ensures in
     on_ok c.try_extend_from_slice.result (e.variant.1 (omega arith)) e.ok
-      ∙ held_as_fits c.args.held.now.items c.args.part.now c.min-room.result (omega arith) (omega arith) (omega arith)
+    ∙ held_as_fits c.args.held.now.items c.args.part.now c.min-room.result (omega arith) (omega arith) (omega arith)

@@ -1,10 +1,7 @@
-use Rattle.std.proofs.Common.{◌≡◌, ℕ, ◌<◌, ◌++◌, [], List, length, take, sym, ◌∙◌, ap, arith, append-nil, append_assoc, false}
-use Rattle.std.proofs.lemmas.Bool.{eqb-true, eqb-false}
-use Rattle.art_index.specs.Refusals.{LineMayRefuse}
-use Rattle.art_index.specs.Outcome.{IsOutcome, answer}
-use Rattle.art_index.specs.Progress.{Carried}
-use Rattle.art_index.proofs.Carrying.{carried_none, outcome_whole, outcome_end, outcome_last}
-use Rattle.art_index.proofs.HexText.{length_nil}
+use Rattle.std.proofs.Common.{◌≡◌, ℕ, ◌<◌, ◌++◌, [], List, length, take, sym, ◌∙◌, ap, arith, append-nil, append_assoc}
+use Rattle.std.proofs.lemmas.Bool.{eqb-false}
+use Rattle.art_index.specs.Outcome.{answer}
+use Rattle.art_index.proofs.Carrying.{carried_none, outcome_last}
 use Rattle.art_index.proofs.running.run.Goals as goal
 
 -- a read of no byte gives nothing
@@ -25,8 +22,10 @@ returns-in_ok-handle-clause-outcome g c =
     let carried = i.2 in let e = c.in_ok-handle.ensures in let memory = c.in_ok-handle.field-0.memory in
     let held : List ℕ = c.reads.held.items in let line = c.as_slice.ensures.value in
     let some : 0 < length held = let h = eqb-false _ _ (sym c.if-not-is_empty.ensures) in omega arith in
-    let last = outcome_last c.args.index.now c.reads.index text held (g.W.Sink.taken c.args.sink.now) (g.W.Sink.taken c.reads.sink) c.as_slice.result.now carried some line memory e.lawful in
-    (text, carried.written ++ answer memory c.reads.index c.as_slice.result.now,
+    let last = outcome_last c.args.index.now c.reads.index text held (g.W.Sink.taken c.args.sink.now) (g.W.Sink.taken c.reads.sink) c.as_slice.result.now carried some line memory e.lawful in (
+      text,
+      carried.written ++ answer memory c.reads.index c.as_slice.result.now,
       given_end (g.S.Source.given c.args.source.now) text (g.S.Source.given c.reads.source) (g.S.Source.given c.read.new.self) c.in-Ok.n c.read.new.buf i.1 c.in-Ok.ensures.gives c.if-n-eq0.true,
       e.told ∙ ap (λ t. t ++ answer memory c.reads.index c.as_slice.result.now) carried.told ∙ append_assoc (g.W.Sink.taken c.args.sink.now) carried.written (answer memory c.reads.index c.as_slice.result.now),
-      rw e.left last)
+      rw e.left last,
+    )
