@@ -1,0 +1,12 @@
+pub mod Order
+pub mod Changes
+pub mod Trees
+pub mod TreeOf
+pub mod Kinds
+pub mod Paths
+pub mod Landing
+pub mod Fronts
+pub mod Tenants
+pub mod Parts
+pub mod Shrinks
+pub mod Laws
