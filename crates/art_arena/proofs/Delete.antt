@@ -1,7 +1,7 @@
 -- Removal from a canonical tree.
 use Rattle.std.proofs.Common.{◌≡◌, ℕ, suc, ◌+◌, ◌<◌, ◌≤◌, ◌⊎◌, List, [], ◌∷◌, ◌++◌, length, drop, drop_at, Bool, cond, eqb, eq-eqb, ne_eqb, refl, sym, ap, ap₂, ◌∙◌, subst, inl, inr, append_assoc, append-nil, arith}
 use Rattle.std.proofs.lemmas.Bool.{cases_eq, cond-true, cond-false}
-use Rattle.art_arena.specs.Order.{BeginsWith}
+use Rattle.art_bytes.specs.Keys.{BeginsWith}
 use Rattle.art_arena.specs.Changes.{IsIn, IsPutIn}
 use Rattle.art_arena.specs.Trees.{Tree, Forest, leaf, inner, no_child, child, items, items_in, count, IsBelow, IsCanonical, AreCanonical, nodes_with, nodes_in}
 use Rattle.art_arena.specs.Shrinks.{one_if, one_fewer}

@@ -19,4 +19,10 @@ pub mod Cuts
 pub mod ChildCounts
 pub mod FrontShrinks
 pub mod Lexicographic
+pub mod CellLists
+pub mod Contexts
+pub mod LinkedLists
+pub mod Erased
+pub mod OneMeaning
+pub mod OtherChildren
 pub mod Examples

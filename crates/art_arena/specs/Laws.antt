@@ -1,20 +1,26 @@
 -- The statements that the functions of this crate ensure.
-use Rattle.std.specs.Prelude.{◌≡◌, ◌≢◌, ℕ, ◌+◌, ◌-◌, ◌<◌, ◌≤◌, ◌⊎◌, ◌↔◌, Bool, true, false, filter, List, [], ◌∷◌, ◌++◌, length, Some}
-use Rattle.std.specs.Ordering.{nat_cmp}
+use Rattle.std.specs.Prelude.{◌≡◌, ◌≢◌, ℕ, ◌+◌, ◌<◌, ◌≤◌, ◌⊎◌, ◌↔◌, Bool, true, false, filter, List, [], ◌∷◌, ◌++◌, length, Some, Option, IsSome}
 use Rattle.std.specs.declared.cmp.Ordering.TheVariants.{Less}
-use Rattle.std.specs.Cmp.Lexicographic.{slice_cmp}
 use Rattle.std.specs.List.{AllByRecursion}
-use Rattle.art_arena.specs.Order.{IsAscending, AreInOrder, IsBefore, BeginsWith, Conflict}
+use Rattle.art_nodes.specs.declared.kind.NodeType.{NodeType}
+use Rattle.art_nodes.specs.Name.{Name}
+use Rattle.art_bytes.specs.Keys.{BeginsWith, Conflict, bytes_cmp}
+use Rattle.art_arena.specs.Order.{IsAscending, AreInOrder, IsBefore}
 use Rattle.art_arena.specs.Changes.{IsIn, IsPutIn, put}
 use Rattle.art_arena.specs.Trees.{Tree, Forest, leaf, inner, items, IsCanonical, nodes_with}
 use Rattle.art_arena.specs.TreeOf.{tree_of}
-use Rattle.art_arena.specs.Kinds.{room, IsLimit}
+use Rattle.art_arena.specs.Kinds.{IsKindOf, IsLimit, ChangesKind}
 use Rattle.art_arena.specs.Paths.{last_leaf, path_of}
 use Rattle.art_arena.specs.Landing.{on_leaf, landing, IsBlocked}
 use Rattle.art_arena.specs.Fronts.{fronts_with, meetings_of, width_of}
 use Rattle.art_arena.specs.Tenants.{with_front, without_front, crossings}
 use Rattle.art_arena.specs.Parts.{part, items_of}
 use Rattle.art_arena.specs.Shrinks.{IsCrossing, IsMeeting, Shrinks, one_if, one_fewer}
+use Rattle.art_arena.specs.Cells.{Cell, copies}
+use Rattle.art_arena.specs.Shapes.{Shape, name_of, leaves, cells, pairs_of, key_of, IsBranch}
+use Rattle.art_arena.specs.Linked.{Links}
+use Rattle.art_arena.specs.Meaning.{IsPart, IsTree, Means, MeansAll}
+use Rattle.art_arena.specs.Context.{Frame, fill}
 
 -- what tree_of builds of ascending items is canonical, and has these items
 abbrev pub TreeExists : (X : Type 0) → Type 0
@@ -59,9 +65,15 @@ RemovalTakesOneChild X = (key : X → List ℕ) (t u : Tree X) → IsCanonical k
     → (m : List ℕ) → IsMeeting key (items t) (key x) m
     → let n = width_of key (items t) m in (test : ℕ → Bool) → nodes_with test u + one_if (test n) ≡ nodes_with test t + one_fewer test n
 
--- of a node with three children and more, the loss of one changes the kind at a limit alone
+-- a node of 2 to 256 children is of exactly one kind
+abbrev pub KindIsTold : Type 0
+KindIsTold =
+    ((n : ℕ) → 2 ≤ n → n ≤ 256 → (kind : NodeType) × IsKindOf kind n)
+    × ((n : ℕ) (kind other : NodeType) → IsKindOf kind n → IsKindOf other n → kind ≡ other)
+
+-- the loss of a child changes the kind of a node just where it has the fewest of its kind, and there is a smaller one
 abbrev pub LimitsAreKinds : Type 0
-LimitsAreKinds = (n : ℕ) → 3 ≤ n → (room (n - 1) ≢ room n) ↔ IsLimit n
+LimitsAreKinds = (n : ℕ) → IsLimit n ↔ ChangesKind n
 
 -- the path to a stored key has a node for each longest front that the key shares with a key, itself included
 abbrev pub PathIsMeetings : (X : Type 0) → Type 0
@@ -82,7 +94,7 @@ FrontIsBlock X = (key : X → List ℕ) (front : List ℕ) (xs : List X) → IsA
 
 -- one key is before another where its bytes are smaller, and neither is a front of the other
 abbrev pub OrderIsLexicographic : Type 0
-OrderIsLexicographic = (k l : List ℕ) → IsBefore k l ↔ ((slice_cmp nat_cmp k l ≡ Less) × (Conflict k l → ⊥))
+OrderIsLexicographic = (k l : List ℕ) → IsBefore k l ↔ ((bytes_cmp k l ≡ Less) × (Conflict k l → ⊥))
 
 -- the items whose keys pass a test that holds between two keys for which it holds stand together
 abbrev pub ConvexIsBlock : (X : Type 0) → Type 0
@@ -123,7 +135,7 @@ KindsFit X = (key : X → List ℕ) (t : Tree X) → IsCanonical key [] t → Al
 -- the removal of a key changes the kind of a node, and leaves the node, just where the key shrinks
 abbrev pub ShrinksIsKindChange : (X : Type 0) → Type 0
 ShrinksIsKindChange X = (key : X → List ℕ) (xs : List X) (k m : List ℕ) → IsMeeting key xs k m
-    → let n = width_of key xs m in Shrinks key xs k ↔ ((3 ≤ n) × (room (n - 1) ≢ room n))
+    → Shrinks key xs k ↔ ChangesKind (width_of key xs m)
 
 -- the key of an item below an inner node shares a longest front with another
 abbrev pub MeetingExists : (X : Type 0) → Type 0
@@ -142,3 +154,20 @@ NeighboursSuffice X = (key : X → List ℕ) (xs : List X) → IsAscending key x
 -- A key that begins with a stored one has the stored one's path.
 abbrev pub PathIsSame : (X : Type 0) → Type 0
 PathIsSame X = (key : X → List ℕ) (t : Tree X) → IsCanonical key [] t → (k : List ℕ) (x : X) → IsIn x (items t) → BeginsWith (key x) k → path_of t k ≡ path_of t (key x)
+
+-- a shape that an arena has, its leaves linked, means the tree of its pairs
+abbrev pub ShapeMeansTree : (K V : Type 0) → Type 0
+ShapeMeansTree K V = (bytes : K → List ℕ) (P : ℕ) (at : Name → Option (Cell K V)) (root : Name) (links : ℕ → Option Links) (s : Shape K V)
+    → IsTree bytes P at root links s
+    → (t : Tree (K × V)) × (tree_of (key_of bytes) (pairs_of (leaves s)) ≡ Some t) × MeansAll bytes P at root links t
+
+-- a name means one tree
+abbrev pub OneMeaning : (K V : Type 0) → Type 0
+OneMeaning K V = (bytes : K → List ℕ) (P : ℕ) (at : Name → Option (Cell K V)) (root : Name) (links : ℕ → Option Links) (t u : Tree (K × V))
+    → Means bytes P at root links t → Means bytes P at root links u → t ≡ u
+
+-- an edit that changes what stands below one child, its parent's cell and names that weren't held leaves every other child as it was
+abbrev pub EditKeepsOthers : (K V : Type 0) → Type 0
+EditKeepsOthers K V = (P : ℕ) (at now : Name → Option (Cell K V)) (f : Frame K V) (s : Shape K V) → IsPart P at f.name (fill f s)
+    → ((m : Name) → IsSome (at m) → m ≢ f.name → copies m (cells P s) ≡ 0 → now m ≡ at m)
+    → (t : Shape K V) → IsBranch t f.before ⊎ IsBranch t f.after → IsPart P now (name_of t) t

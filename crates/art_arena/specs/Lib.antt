@@ -9,4 +9,9 @@ pub mod Fronts
 pub mod Tenants
 pub mod Parts
 pub mod Shrinks
+pub mod Cells
+pub mod Shapes
+pub mod Linked
+pub mod Meaning
+pub mod Context
 pub mod Laws

@@ -1,6 +1,11 @@
 //! The laws of the canonical tree: each function does nothing, and its contract is the law.
 
-ghost use Rattle.art_arena.specs.Laws.{LimitsAreKinds, TreeExists, TreeIsUnique, Insertion, InsertionIsFree, Deletion, PathIsShort, HasFewNodes, CountsAreFronts, RemovalTakesOneChild, PathIsMeetings, PathIsSplit, HasFewCrossings, FrontIsBlock, OrderIsLexicographic, ConvexIsBlock, FindsStored, PathStays, ConflictIsSeen, PartIsFront, CutTakesOneChild, KindsFit, ShrinksIsKindChange, MeetingExists, ShrinksWithFront, NeighboursSuffice, PathIsSame};
+ghost use Rattle.art_arena.specs.Laws.{KindIsTold, LimitsAreKinds, TreeExists, TreeIsUnique, Insertion, InsertionIsFree, Deletion, PathIsShort, HasFewNodes, CountsAreFronts, RemovalTakesOneChild, PathIsMeetings, PathIsSplit, HasFewCrossings, FrontIsBlock, OrderIsLexicographic, ConvexIsBlock, FindsStored, PathStays, ConflictIsSeen, PartIsFront, CutTakesOneChild, KindsFit, ShrinksIsKindChange, MeetingExists, ShrinksWithFront, NeighboursSuffice, PathIsSame, ShapeMeansTree, OneMeaning, EditKeepsOthers};
+
+/// The number of children tells the kind.
+pub fn kind_is_told()
+    ensures { KindIsTold }
+{}
 
 /// At which numbers of children the loss of one changes the kind.
 pub fn limits_are_kinds()
@@ -135,4 +140,19 @@ pub fn neighbours_suffice<X>()
 /// What goes on behind a stored key has its path.
 pub fn path_is_same<X>()
     ensures { PathIsSame X }
+{}
+
+/// What an arena holds below a name is the tree of its pairs.
+pub fn shape_means_tree<K, V>()
+    ensures { ShapeMeansTree K V }
+{}
+
+/// A name in an arena means one tree.
+pub fn one_meaning<K, V>()
+    ensures { OneMeaning K V }
+{}
+
+/// An edit below one child leaves the meaning of every other child.
+pub fn edit_keeps_others<K, V>()
+    ensures { EditKeepsOthers K V }
 {}

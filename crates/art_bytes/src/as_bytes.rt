@@ -1,0 +1,33 @@
+//! What a key's bytes are, and the two laws that its type may keep of them.
+ghost use Rattle.std.specs.Prelude.{◌≡◌, ℕ, List};
+ghost use Rattle.art_bytes.specs.Keys.{AreBytes, BeginsWith, bytes_cmp};
+
+/// A key: a value that is seen as bytes.
+///
+/// Two keys of equal bytes name one entry, also where they are not equal values.
+pub trait AsBytes {
+    /// Holds of each value of the type: what its fields keep, such as the length of an array. `as_bytes` tells it of
+    /// any key at hand, and the laws take it as their premise.
+    ghost is_key: { Self → Type 0 };
+
+    /// The bytes, which depend on the value alone.
+    ghost bytes: { Self → List ℕ };
+
+    /// Lends the key's bytes. It takes no memory.
+    fn as_bytes(&self) -> &[u8]
+        ensures value { result.now ≡ bytes self.now }
+        ensures key { is_key self.now };
+
+    /// Each of them is below 256.
+    ghost bytes_fit: { (k : Self) → is_key k → AreBytes (bytes k) };
+}
+
+/// Keys none of which is a proper front of another's: if one key's bytes begin another's, both are equal.
+pub trait NoPrefixesBytes: AsBytes {
+    ghost no_prefixes: { (k l : Self) → Self.is_key k → Self.is_key l → BeginsWith (Self.bytes k) (Self.bytes l) → Self.bytes k ≡ Self.bytes l };
+}
+
+/// Keys whose `Ord` is the order of their bytes.
+pub trait OrderedBytes: AsBytes + Ord {
+    ghost ordered: { (k l : Self) → Self.is_key k → Self.is_key l → Self.cmp k l ≡ bytes_cmp (Self.bytes k) (Self.bytes l) };
+}

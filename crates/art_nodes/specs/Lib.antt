@@ -1,0 +1,3 @@
+pub mod Header
+pub mod Kind
+pub mod Name

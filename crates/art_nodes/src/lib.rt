@@ -1,0 +1,15 @@
+//! Names, headers, inner nodes and leaves of an adaptive radix tree.
+//! The layer above uses one contract: an inner node of any kind is a header and an ascending list of (byte, name).
+//! The definitions stand in `specs/Kind.antt`, `specs/Name.antt`, `specs/Header.antt` and `specs/InnerNode.antt`.
+#![tactic(auto)]
+
+mod header;
+mod inner_node;
+mod kind;
+mod names;
+mod slot;
+
+pub use header::Header;
+pub use inner_node::Node;
+pub use kind::{KindRow, NodeType};
+pub use names::{NodePtr, OpaqueNodePtr};
