@@ -1,1 +1,5 @@
+pub mod ChildLemmas
+pub mod PlaceLemmas
 pub mod PrefixLemmas
+pub mod SortedLemmas
+pub mod TableLemmas

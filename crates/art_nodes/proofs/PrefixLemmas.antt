@@ -2,7 +2,8 @@
 use Rattle.std.proofs.Common.{◌≡◌, ℕ, zero, suc, ◌+◌, ◌-◌, ◌<◌, ◌≤◌, List, [], ◌∷◌, ◌++◌, length, take, drop, min, refl, ap, sym, ◌∙◌, subst, arith, length-drop}
 use Rattle.std.specs.List.{copy_within}
 use Rattle.std.proofs.lemmas.Grind.{common_steps, elements}
-use Rattle.std.proofs.lemmas.List.{drop-take, length-take}
+use Rattle.std.proofs.lemmas.List.{drop-take, length-take, take_all}
+use Rattle.art_nodes.specs.Header.{front_of}
 use Rattle.std.proofs.Math.Seq.{take-append_seam}
 
 take-front : {X : Type 0} (xs ys : List X) (n : ℕ) → length xs ≡ n → take n (xs ++ ys) ≡ xs
@@ -24,3 +25,9 @@ take-copy_within n len xs below within =
 -- bytes written behind a front of `len` bytes, where at most `room` are stored
 pub take-pushed : (room len more : ℕ) (xs bytes : List ℕ) → length xs ≡ room → min (len + more) room ≤ min len room + length bytes → take (len + more) (take (min len room) xs ++ take (min more (room - min len room)) bytes ++ drop (min len room + length (take (min more (room - min len room)) bytes)) xs) ≡ take room (take len xs ++ take more bytes)
 take-pushed room len more xs bytes whole covers = grind (arith, elements)
+
+-- what a header stores of a prefix that it stores already
+pub front_of-stored : (room len : ℕ) (stored : List ℕ) → length stored ≡ min len room → front_of room stored len ≡ stored
+front_of-stored room len stored e = grind (arith, common_steps, take_all)
+
+pub ruleset fronts = (front_of-stored)

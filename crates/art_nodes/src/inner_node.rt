@@ -1,12 +1,20 @@
-//! The traits of nodes.
-ghost use Rattle.std.specs.Prelude.{◌≡◌};
+//! The traits of nodes: what is said of every kind is said here.
+ghost use Rattle.std.specs.Prelude.{◌≡◌, ◌↔◌, ◌<◌, ◌≤◌, ◌⊎◌, ◌+◌, ◌^◌, ℕ, [], length, min, IsTrue, IsSome};
+ghost use Rattle.art_nodes.specs.Header.{front_of};
+ghost use Rattle.art_nodes.specs.InnerNode.{InnerNode, IsInnerNode, IsAscending, child_at, with_child, without_child, with_children, first_child, last_child, children_between, AreValidBounds};
+ghost use Rattle.art_nodes.specs.declared.kind.NodeType.{NodeType};
 
+use crate::child_iter::ChildIter;
+use crate::header::Header;
 use crate::kind::NodeType;
+use crate::names::OpaqueNodePtr;
+use std::ops::Bound;
+
+/// Seals the traits of nodes: the kinds of this crate are all there are.
+pub trait Sealed {}
 
 /// A node of one kind.
-pub trait Node {
-    ghost use Rattle.art_nodes.specs.declared.kind.NodeType.{NodeType};
-
+pub trait Node: Sealed + Sized {
     ghost TYPE: { NodeType };
 
     /// The kind.
@@ -17,4 +25,88 @@ pub trait Node {
 
     /// The type of the values in its tree.
     type Value;
+}
+
+/// How an inner node is made.
+pub trait InnerNodeInit<const PREFIX_LEN: usize>: Sealed + Sized {
+    /// What a contract sees of the node.
+    ghost inner: { Self → InnerNode };
+
+    /// A node of no children whose prefix is the first `len` bytes of these, which must cover what is stored.
+    fn from_prefix(bytes: &[u8], len: usize) -> Self
+        requires { min len PREFIX_LEN ≤ length bytes.now }
+        ensures { inner result ≡ record { header = record { num_children = 0; prefix_len = len; stored = front_of PREFIX_LEN bytes.now len }; children = [] } };
+
+    /// A node of no children with this header, which must count none.
+    #[tactic(auto, using(crate::proofs::PrefixLemmas::fronts))]
+    final fn from_header(heading: Header<PREFIX_LEN>) -> Self
+        requires { heading.num_children ≡ 0 }
+        ensures { inner result ≡ record { header = heading.entry; children = [] } }
+    {
+        let _count = heading.num_children();
+        Self::from_prefix(heading.read_prefix(), heading.prefix_len())
+    }
+}
+
+/// An inner node: a header, and a finite map from byte to name, whichever way the children are held.
+pub trait InnerNodeCommon<const PREFIX_LEN: usize>: InnerNodeInit<PREFIX_LEN> + Drop {
+    /// The most children that the node has room for.
+    ghost room: { ℕ };
+
+    /// The header.
+    fn header(&self) -> &Header<PREFIX_LEN>
+        ensures value { result.now ≡ (Self.inner self.now).header }
+        ensures is_inner_node { IsInnerNode PREFIX_LEN room (Self.inner self.now) }
+        ensures fits_in_memory { PREFIX_LEN + 17 < 2 ^ 63 };
+
+    /// Takes the prefix of this header. The children stay.
+    fn copy_prefix(&mut self, prefix: &Header<PREFIX_LEN>)
+        ensures { Self.inner self.new ≡ record (Self.inner self.old) { header = record prefix.now { num_children = (Self.inner self.old).header.num_children } } };
+
+    /// Whether the room is used up.
+    fn is_full(&self) -> bool
+        ensures value { IsTrue result ↔ (length (Self.inner self.now).children ≡ room) }
+        ensures room { length (Self.inner self.now).children ≤ room };
+
+    /// The child under this byte.
+    fn lookup_child(&self, byte: u8) -> Option<OpaqueNodePtr>
+        ensures { result ≡ child_at (Self.inner self.now).children byte };
+
+    /// Stores a child under this byte, in place of one that stands there.
+    fn write_child(&mut self, byte: u8, name: OpaqueNodePtr)
+        requires { (length (Self.inner self.old).children < room) ⊎ IsSome (child_at (Self.inner self.old).children byte) }
+        ensures { Self.inner self.new ≡ with_children (Self.inner self.old) (with_child (Self.inner self.old).children byte name) };
+
+    /// Removes the child under this byte, and answers it.
+    fn remove_child(&mut self, byte: u8) -> Option<OpaqueNodePtr>
+        ensures value { result ≡ child_at (Self.inner self.old).children byte }
+        ensures rest { Self.inner self.new ≡ with_children (Self.inner self.old) (without_child (Self.inner self.old).children byte) };
+
+    /// The children, by ascending byte.
+    fn iter(&self) -> ChildIter<'_>
+        ensures value { result ≡ (Self.inner self.now).children }
+        ensures ascending { IsAscending result };
+
+    /// The children whose bytes lie between two bounds, by ascending byte.
+    final fn range(&self, start: Bound<u8>, end: Bound<u8>) -> ChildIter<'_>
+        requires { AreValidBounds start end }
+        ensures { result ≡ children_between start end (Self.inner self.now).children }
+    {
+        self.iter().between(start, end)
+    }
+
+    /// The child under the smallest byte, with its byte.
+    final fn min(&self) -> Option<(u8, OpaqueNodePtr)>
+        ensures { result ≡ first_child (Self.inner self.now).children }
+    {
+        self.iter().next()
+    }
+
+    /// The child under the greatest byte, with its byte.
+    #[tactic(auto, using(crate::proofs::ChildLemmas::lasts))]
+    final fn max(&self) -> Option<(u8, OpaqueNodePtr)>
+        ensures { result ≡ last_child (Self.inner self.now).children }
+    {
+        self.iter().next_back()
+    }
 }

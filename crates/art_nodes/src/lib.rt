@@ -3,13 +3,17 @@
 //! The definitions stand in `specs/Kind.antt`, `specs/Name.antt`, `specs/Header.antt` and `specs/InnerNode.antt`.
 #![tactic(auto)]
 
+mod child_iter;
 mod header;
 mod inner_node;
 mod kind;
 mod names;
 mod slot;
+mod sorted;
 
+pub use child_iter::ChildIter;
 pub use header::Header;
-pub use inner_node::Node;
+pub use inner_node::{InnerNodeCommon, InnerNodeInit, Node, Sealed};
 pub use kind::{KindRow, NodeType};
 pub use names::{NodePtr, OpaqueNodePtr};
+pub use sorted::{InnerNode4, InnerNode16, InnerNodeSorted};

@@ -63,6 +63,13 @@ impl OpaqueNodePtr {
     }
 }
 
+/// What stands in the unused places of a node: the name of the first leaf.
+impl Default for OpaqueNodePtr {
+    fn default() -> Self {
+        OpaqueNodePtr::new(NodeType::Leaf, 0)
+    }
+}
+
 /// The name of a node of one kind: its key in the slab of that kind.
 pub struct NodePtr<N> {
     slot: usize,
