@@ -1,4 +1,5 @@
 pub mod ChildLemmas
+pub mod DirectLemmas
 pub mod PlaceLemmas
 pub mod PrefixLemmas
 pub mod SortedLemmas

@@ -2,6 +2,7 @@ pub mod ChildIter
 pub mod Header
 pub mod InnerNode
 pub mod Kind
+pub mod Leaf
 pub mod Name
 pub mod Place
 pub mod Sorted

@@ -4,16 +4,20 @@
 #![tactic(auto)]
 
 mod child_iter;
+mod direct;
 mod header;
 mod inner_node;
 mod kind;
+mod leaf;
 mod names;
 mod slot;
 mod sorted;
 
 pub use child_iter::ChildIter;
+pub use direct::{InnerNode256, InnerNodeDirect};
 pub use header::Header;
 pub use inner_node::{InnerNodeCommon, InnerNodeInit, Node, Sealed};
 pub use kind::{KindRow, NodeType};
+pub use leaf::LeafNode;
 pub use names::{NodePtr, OpaqueNodePtr};
 pub use sorted::{InnerNode4, InnerNode16, InnerNodeSorted};
