@@ -1,5 +1,6 @@
 pub mod ChildIter
 pub mod Header
+pub mod Indirect
 pub mod InnerNode
 pub mod Kind
 pub mod Leaf

@@ -6,6 +6,7 @@
 mod child_iter;
 mod direct;
 mod header;
+mod indirect;
 mod inner_node;
 mod kind;
 mod leaf;
@@ -16,6 +17,7 @@ mod sorted;
 pub use child_iter::ChildIter;
 pub use direct::{InnerNode256, InnerNodeDirect};
 pub use header::Header;
+pub use indirect::{InnerNode48, InnerNodeIndirect};
 pub use inner_node::{InnerNodeCommon, InnerNodeInit, Node, Sealed};
 pub use kind::{KindRow, NodeType};
 pub use leaf::LeafNode;
