@@ -1,4 +1,5 @@
 pub mod ChildIter
+pub mod Concrete
 pub mod Header
 pub mod Indirect
 pub mod InnerNode

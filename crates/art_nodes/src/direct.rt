@@ -4,8 +4,9 @@ ghost use Rattle.art_nodes.specs.Table.{held_at};
 
 use crate::child_iter::ChildIter;
 use crate::header::Header;
-use crate::inner_node::{InnerNodeCommon, InnerNodeInit, Sealed};
+use crate::inner_node::{InnerNodeCommon, InnerNodeInit};
 use crate::names::OpaqueNodePtr;
+use crate::sealed::Sealed;
 use std::marker::{Model, PhantomData};
 
 /// The largest inner node.

@@ -4,8 +4,9 @@ ghost use Rattle.art_nodes.specs.Indirect.{place_at, shifted, shifted_place};
 
 use crate::child_iter::{ChildIter, name_in};
 use crate::header::Header;
-use crate::inner_node::{InnerNodeCommon, InnerNodeInit, Sealed};
+use crate::inner_node::{InnerNodeCommon, InnerNodeInit};
 use crate::names::OpaqueNodePtr;
+use crate::sealed::Sealed;
 use arrayvec::ArrayVec;
 use std::marker::{Model, PhantomData};
 

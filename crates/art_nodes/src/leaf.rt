@@ -2,9 +2,10 @@
 ghost use Rattle.std.specs.Prelude.{◌≡◌, ◌↔◌, IsTrue, None, IfOk, IsOk};
 ghost use Rattle.std.specs.Borrow.{sem};
 
-use crate::inner_node::{Node, Sealed};
-use crate::kind::NodeType;
+use crate::inner_node::Node;
+use crate::kind::KindLeaf;
 use crate::names::NodePtr;
+use crate::sealed::Sealed;
 use crate::slot::Slot;
 use art_bytes::AsBytes;
 use std::alloc::AllocError;
@@ -21,11 +22,7 @@ pub struct LeafNode<K, V> {
 impl<K, V> Sealed for LeafNode<K, V> {}
 
 impl<K, V> Node for LeafNode<K, V> {
-    ghost use Rattle.art_nodes.specs.declared.kind.NodeType.TheVariants.{Leaf};
-
-    ghost TYPE = { Leaf };
-
-    const TYPE: NodeType = NodeType::Leaf;
+    type Kind = KindLeaf;
 
     type Key = K;
 
@@ -104,7 +101,7 @@ impl<K, V> LeafNode<K, V> {
     }
 
     /// The name of the leaf before this one, if there is one.
-    pub fn previous(&self) -> Option<NodePtr<Self>>
+    pub fn previous(&self) -> Option<NodePtr<KindLeaf>>
         ensures { result ≡ self.now.previous }
     {
         match self.previous {
@@ -114,7 +111,7 @@ impl<K, V> LeafNode<K, V> {
     }
 
     /// The name of the leaf after this one, if there is one.
-    pub fn next(&self) -> Option<NodePtr<Self>>
+    pub fn next(&self) -> Option<NodePtr<KindLeaf>>
         ensures { result ≡ self.now.next }
     {
         match self.next {
@@ -124,14 +121,14 @@ impl<K, V> LeafNode<K, V> {
     }
 
     /// Names the leaf before this one, or none.
-    pub fn set_previous(&mut self, leaf: Option<NodePtr<Self>>)
+    pub fn set_previous(&mut self, leaf: Option<NodePtr<KindLeaf>>)
         ensures { self.new ≡ record self.old { previous = leaf } }
     {
         self.previous = slot_of(leaf);
     }
 
     /// Names the leaf after this one, or none.
-    pub fn set_next(&mut self, leaf: Option<NodePtr<Self>>)
+    pub fn set_next(&mut self, leaf: Option<NodePtr<KindLeaf>>)
         ensures { self.new ≡ record self.old { next = leaf } }
     {
         self.next = slot_of(leaf);
@@ -139,7 +136,7 @@ impl<K, V> LeafNode<K, V> {
 }
 
 // The slot of a name.
-fn slot_of<N: Node>(name: Option<NodePtr<N>>) -> Option<Slot>
+fn slot_of(name: Option<NodePtr<KindLeaf>>) -> Option<Slot>
     ensures { result ≡ name }
 {
     match name {
