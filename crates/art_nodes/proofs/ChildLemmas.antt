@@ -53,14 +53,14 @@ module _ {N : Type 0} where
     | inr other ↦ rw other.0 (rises.0, rises.1, IsAscendingFrom-without_child (c.0 + 1) rest byte rises.2)
   ]
 
-  child_at-above : (low : ℕ) (cs : List (ℕ × N)) (byte : ℕ) → byte < low → IsAscendingFrom low cs → child_at cs byte ≡ None
+  pub child_at-above : (low : ℕ) (cs : List (ℕ × N)) (byte : ℕ) → byte < low → IsAscendingFrom low cs → child_at cs byte ≡ None
   child_at-above low [] byte lt rises = refl
   child_at-above low (c ∷ rest) byte lt rises = elim (eqb_tells c.0 byte) [
     | inl same ↦ absurd (omega (arith, same.1, rises.0))
     | inr other ↦ rw other.0 (child_at-above (c.0 + 1) rest byte (omega (arith, rises.0, lt)) rises.2)
   ]
 
-  without_child-above : (low : ℕ) (cs : List (ℕ × N)) (byte : ℕ) → byte < low → IsAscendingFrom low cs → without_child cs byte ≡ cs
+  pub without_child-above : (low : ℕ) (cs : List (ℕ × N)) (byte : ℕ) → byte < low → IsAscendingFrom low cs → without_child cs byte ≡ cs
   without_child-above low [] byte lt rises = refl
   without_child-above low (c ∷ rest) byte lt rises = elim (eqb_tells c.0 byte) [
     | inl same ↦ absurd (omega (arith, same.1, rises.0))
@@ -137,3 +137,52 @@ module _ {N : Type 0} where
   pub length-ascending : (low : ℕ) (cs : List (ℕ × N)) → low ≤ 256 → IsAscendingFrom low cs → length cs + low ≤ 256
   length-ascending low [] h rises = omega arith
   length-ascending low (c ∷ cs) h rises = omega (arith, rises.0, rises.1, length-ascending (c.0 + 1) cs (omega (arith, rises.1)) rises.2)
+
+  pub length-with_child_new : (cs : List (ℕ × N)) (byte : ℕ) (name : N) → child_at cs byte ≡ None → length (with_child cs byte name) ≡ length cs + 1
+  length-with_child_new [] byte name none = refl
+  length-with_child_new (c ∷ cs) byte name none = elim (eqb_tells c.0 byte) [
+    | inl same ↦ absurd (let e = rw same.0 at none in cc)
+    | inr other ↦ elim (leb_tells (suc c.0) byte) [
+      | inl below ↦ rw below.0 (omega (arith, length-with_child_new cs byte name (rw other.0 at none)))
+      | inr above ↦ rw (above.0, other.0) (omega arith)
+    ]
+  ]
+
+  pub length-with_child_held : (low : ℕ) (cs : List (ℕ × N)) (byte : ℕ) (name old : N) → IsAscendingFrom low cs → child_at cs byte ≡ Some old → length (with_child cs byte name) ≡ length cs
+  length-with_child_held low [] byte name old rises some = absurd (cc)
+  length-with_child_held low (c ∷ cs) byte name old rises some = elim (eqb_tells c.0 byte) [
+    | inl same ↦ elim (leb_tells (suc c.0) byte) [
+      | inl below ↦ absurd (omega (arith, below.1, same.1))
+      | inr above ↦ rw (above.0, same.0) refl
+    ]
+    | inr other ↦ elim (leb_tells (suc c.0) byte) [
+      | inl below ↦ rw below.0 (ap (λ n. suc n) (length-with_child_held (c.0 + 1) cs byte name old rises.2 (rw other.0 at some)))
+      | inr above ↦ absurd (let e = child_at-above (c.0 + 1) cs byte (omega (arith, above.1, other.1)) rises.2 in let f = rw other.0 at some in cc)
+    ]
+  ]
+
+  pub length-without_child : (cs : List (ℕ × N)) (byte : ℕ) (old : N) → child_at cs byte ≡ Some old → length (without_child cs byte) + 1 ≡ length cs
+  length-without_child [] byte old some = absurd (cc)
+  length-without_child (c ∷ cs) byte old some = elim (eqb_tells c.0 byte) [
+    | inl same ↦ rw same.0 (omega arith)
+    | inr other ↦ rw other.0 (omega (arith, length-without_child cs byte old (rw other.0 at some)))
+  ]
+
+  pub without_child-none : (cs : List (ℕ × N)) (byte : ℕ) → child_at cs byte ≡ None → without_child cs byte ≡ cs
+  without_child-none [] byte none = refl
+  without_child-none (c ∷ cs) byte none = elim (eqb_tells c.0 byte) [
+    | inl same ↦ absurd (let e = rw same.0 at none in cc)
+    | inr other ↦ rw other.0 (ap (λ ds. c ∷ ds) (without_child-none cs byte (rw other.0 at none)))
+  ]
+
+  -- a child behind all others
+  low-le : (low : ℕ) (ys rest : List (ℕ × N)) (byte : ℕ) (name : N) → IsAscendingFrom low (ys ++ (byte, name) ∷ rest) → low ≤ byte
+  low-le low [] rest byte name rises = rises.0
+  low-le low (c ∷ ys) rest byte name rises = omega (arith, rises.0, low-le (c.0 + 1) ys rest byte name rises.2)
+
+  pub with_child-behind : (low : ℕ) (ys rest : List (ℕ × N)) (byte : ℕ) (name : N) → IsAscendingFrom low (ys ++ (byte, name) ∷ rest) → with_child ys byte name ≡ ys ++ (byte, name) ∷ []
+  with_child-behind low [] rest byte name rises = refl
+  with_child-behind low (c ∷ ys) rest byte name rises = elim (leb_tells (suc c.0) byte) [
+    | inl below ↦ rw below.0 (ap (λ cs. c ∷ cs) (with_child-behind (c.0 + 1) ys rest byte name rises.2))
+    | inr above ↦ absurd (omega (arith, above.1, low-le (c.0 + 1) ys rest byte name rises.2))
+  ]

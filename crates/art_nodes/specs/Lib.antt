@@ -1,7 +1,10 @@
 pub mod ChildIter
+pub mod Concrete
 pub mod Header
+pub mod Indirect
 pub mod InnerNode
 pub mod Kind
+pub mod Leaf
 pub mod Name
 pub mod Place
 pub mod Sorted

@@ -2,23 +2,18 @@
 ghost use Rattle.std.specs.Prelude.{◌≡◌, ◌↔◌, ◌<◌, ◌≤◌, ◌⊎◌, ◌+◌, ◌^◌, ℕ, [], length, min, IsTrue, IsSome};
 ghost use Rattle.art_nodes.specs.Header.{front_of};
 ghost use Rattle.art_nodes.specs.InnerNode.{InnerNode, IsInnerNode, IsAscending, child_at, with_child, without_child, with_children, first_child, last_child, children_between, AreValidBounds};
-ghost use Rattle.art_nodes.specs.declared.kind.NodeType.{NodeType};
 
 use crate::child_iter::ChildIter;
 use crate::header::Header;
-use crate::kind::NodeType;
+use crate::kind::NodeKind;
 use crate::names::OpaqueNodePtr;
+use crate::sealed::Sealed;
 use std::ops::Bound;
-
-/// Seals the traits of nodes: the kinds of this crate are all there are.
-pub trait Sealed {}
 
 /// A node of one kind.
 pub trait Node: Sealed + Sized {
-    ghost TYPE: { NodeType };
-
-    /// The kind.
-    const TYPE: NodeType;
+    /// The kind, which its names carry.
+    type Kind: NodeKind;
 
     /// The type of the keys in its tree.
     type Key;
@@ -56,8 +51,7 @@ pub trait InnerNodeCommon<const PREFIX_LEN: usize>: InnerNodeInit<PREFIX_LEN> + 
     /// The header.
     fn header(&self) -> &Header<PREFIX_LEN>
         ensures value { result.now ≡ (Self.inner self.now).header }
-        ensures is_inner_node { IsInnerNode PREFIX_LEN room (Self.inner self.now) }
-        ensures fits_in_memory { PREFIX_LEN + 17 < 2 ^ 63 };
+        ensures is_inner_node { IsInnerNode PREFIX_LEN room (Self.inner self.now) };
 
     /// Takes the prefix of this header. The children stay.
     fn copy_prefix(&mut self, prefix: &Header<PREFIX_LEN>)
@@ -85,7 +79,8 @@ pub trait InnerNodeCommon<const PREFIX_LEN: usize>: InnerNodeInit<PREFIX_LEN> + 
     /// The children, by ascending byte.
     fn iter(&self) -> ChildIter<'_>
         ensures value { result ≡ (Self.inner self.now).children }
-        ensures ascending { IsAscending result };
+        ensures ascending { IsAscending result }
+        ensures fits_in_memory { PREFIX_LEN + 17 < 2 ^ 63 };
 
     /// The children whose bytes lie between two bounds, by ascending byte.
     final fn range(&self, start: Bound<u8>, end: Bound<u8>) -> ChildIter<'_>
@@ -109,4 +104,31 @@ pub trait InnerNodeCommon<const PREFIX_LEN: usize>: InnerNodeInit<PREFIX_LEN> + 
     {
         self.iter().next_back()
     }
+}
+
+/// An inner node of one kind.
+pub trait InnerNode<const PREFIX_LEN: usize>: Node + InnerNodeCommon<PREFIX_LEN> {
+    ghost use Rattle.art_nodes.specs.Kind.{row_of, CanShrink};
+
+    /// The next larger kind, and for the largest itself.
+    type GrownNode: InnerNodeCommon<PREFIX_LEN>;
+
+    /// The next smaller kind, and for the smallest itself.
+    type ShrunkNode: InnerNodeCommon<PREFIX_LEN>;
+
+    /// A node of the next larger kind with the same header and children. This one must be full and not of the
+    /// largest kind.
+    fn grow(&self) -> Self::GrownNode
+        requires full { length (Self.inner self.now).children ≡ Self.room }
+        requires larger { IsSome (row_of Self.Kind.TYPE).larger }
+        ensures { Self.GrownNode.inner result ≡ Self.inner self.now };
+
+    /// A node of the next smaller kind with the same header and children, where `should_shrink_inner_node`
+    /// holds of their number.
+    fn shrink(&self) -> Self::ShrunkNode
+        requires { CanShrink Self.Kind.TYPE (length (Self.inner self.now).children) }
+        ensures { Self.ShrunkNode.inner result ≡ Self.inner self.now };
+
+    /// The room is the most children that the table of kinds names.
+    ghost room_is_most: { Self.room ≡ (row_of Self.Kind.TYPE).most };
 }

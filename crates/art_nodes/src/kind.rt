@@ -1,7 +1,10 @@
 //! The kinds of nodes, and the one table of what each kind of inner node holds.
 ghost use Rattle.std.specs.Prelude.{◌≡◌, ◌≢◌, ◌≤◌, ◌+◌, ◌↔◌, IsTrue, IsSomeAnd};
 ghost use Rattle.art_nodes.specs.Kind.{row_of, CanShrink};
+ghost use Rattle.art_nodes.specs.declared.kind.NodeType.{NodeType};
+ghost use Rattle.art_nodes.specs.declared.kind.NodeType.TheVariants.{Node4, Node16, Node48, Node256, Leaf};
 
+use crate::sealed::Sealed;
 use std::ops::Range;
 
 /// The kind of a node: one of the inner kinds, or a leaf.
@@ -93,4 +96,72 @@ impl NodeType {
             None => false,
         }
     }
+}
+
+/// A kind as a type, which the names of its nodes carry.
+pub trait NodeKind: Sealed {
+    ghost TYPE: { NodeType };
+
+    /// The kind as a value.
+    const TYPE: NodeType;
+}
+
+/// The kind of the smallest inner nodes.
+#[derive(Clone, Copy, PartialEq, Eq, Debug)]
+pub struct Kind4;
+
+impl Sealed for Kind4 {}
+
+impl NodeKind for Kind4 {
+    ghost TYPE = { Node4 };
+
+    const TYPE: NodeType = NodeType::Node4;
+}
+
+/// The kind of inner nodes of up to 16 children.
+#[derive(Clone, Copy, PartialEq, Eq, Debug)]
+pub struct Kind16;
+
+impl Sealed for Kind16 {}
+
+impl NodeKind for Kind16 {
+    ghost TYPE = { Node16 };
+
+    const TYPE: NodeType = NodeType::Node16;
+}
+
+/// The kind of inner nodes of up to 48 children.
+#[derive(Clone, Copy, PartialEq, Eq, Debug)]
+pub struct Kind48;
+
+impl Sealed for Kind48 {}
+
+impl NodeKind for Kind48 {
+    ghost TYPE = { Node48 };
+
+    const TYPE: NodeType = NodeType::Node48;
+}
+
+/// The kind of the largest inner nodes.
+#[derive(Clone, Copy, PartialEq, Eq, Debug)]
+pub struct Kind256;
+
+impl Sealed for Kind256 {}
+
+impl NodeKind for Kind256 {
+    ghost TYPE = { Node256 };
+
+    const TYPE: NodeType = NodeType::Node256;
+}
+
+/// The kind of leaves.
+#[derive(Clone, Copy, PartialEq, Eq, Debug)]
+pub struct KindLeaf;
+
+impl Sealed for KindLeaf {}
+
+impl NodeKind for KindLeaf {
+    ghost TYPE = { Leaf };
+
+    const TYPE: NodeType = NodeType::Leaf;
 }

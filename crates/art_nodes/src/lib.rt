@@ -4,16 +4,27 @@
 #![tactic(auto)]
 
 mod child_iter;
+mod concrete;
+mod direct;
 mod header;
+mod indirect;
 mod inner_node;
 mod kind;
+mod kinds;
+mod leaf;
 mod names;
+mod sealed;
 mod slot;
 mod sorted;
 
 pub use child_iter::ChildIter;
+pub use concrete::{ConcreteInnerNodePtr, ConcreteNodePtr};
+pub use direct::{InnerNode256, InnerNodeDirect};
 pub use header::Header;
-pub use inner_node::{InnerNodeCommon, InnerNodeInit, Node, Sealed};
-pub use kind::{KindRow, NodeType};
+pub use indirect::{InnerNode48, InnerNodeIndirect};
+pub use inner_node::{InnerNode, InnerNodeCommon, InnerNodeInit, Node};
+pub use kind::{Kind4, Kind16, Kind48, Kind256, KindLeaf, KindRow, NodeKind, NodeType};
+pub use leaf::LeafNode;
 pub use names::{NodePtr, OpaqueNodePtr};
+pub use sealed::Sealed;
 pub use sorted::{InnerNode4, InnerNode16, InnerNodeSorted};

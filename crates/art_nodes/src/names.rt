@@ -1,8 +1,7 @@
 //! Names of nodes: a kind, and a key in the slab of that kind.
 ghost use Rattle.std.specs.Prelude.{◌≡◌, ◌≢◌, ◌↔◌, IsTrue, IsSome, IfSome};
 
-use crate::inner_node::Node;
-use crate::kind::NodeType;
+use crate::kind::{NodeKind, NodeType};
 use crate::slot::Slot;
 use std::alloc::AllocError;
 use std::fmt;
@@ -43,15 +42,22 @@ impl OpaqueNodePtr {
         self.kind
     }
 
+    /// The slab key.
+    pub fn slot(self) -> usize
+        ensures { result ≡ self.slot }
+    {
+        self.slot.get()
+    }
+
     /// Whether this names a node of the kind `N`.
-    pub fn is<N: Node>(self) -> bool
+    pub fn is<N: NodeKind>(self) -> bool
         ensures { IsTrue result ↔ (self.kind ≡ N.TYPE) }
     {
         self.kind == N::TYPE
     }
 
     /// The name as one of the kind `N`, or `None` where it names a node of another kind.
-    pub fn cast<N: Node>(self) -> Option<NodePtr<N>>
+    pub fn cast<N: NodeKind>(self) -> Option<NodePtr<N>>
         ensures variant { IsSome result ↔ (self.kind ≡ N.TYPE) }
         ensures slot { IfSome result (λ name. name ≡ self.slot) }
     {
@@ -103,7 +109,7 @@ impl<N> Clone for NodePtr<N> {
 
 impl<N> Copy for NodePtr<N> {}
 
-impl<N: Node> NodePtr<N> {
+impl<N: NodeKind> NodePtr<N> {
     /// The name of the node of this kind with that slab key, whether one is held there or not.
     pub fn from_slot(slot: usize) -> Self
         ensures { result ≡ slot }
@@ -129,7 +135,7 @@ impl<N: Node> NodePtr<N> {
     }
 }
 
-impl<N: Node> PartialEq for NodePtr<N> {
+impl<N: NodeKind> PartialEq for NodePtr<N> {
     ghost use Rattle.std.specs.Prelude.{◌==◌};
     ghost use Rattle.std.proofs.Common.{rules};
     ghost use Rattle.std.specs.Cmp.Rules.{comparing};
@@ -143,14 +149,14 @@ impl<N: Node> PartialEq for NodePtr<N> {
     }
 }
 
-impl<N: Node> Eq for NodePtr<N> {
+impl<N: NodeKind> Eq for NodePtr<N> {
     ghost use Rattle.std.proofs.Common.{rules};
     ghost use Rattle.std.specs.Cmp.Rules.{comparing};
 
     ghost laws = { Prim.search (comparing, rules) };
 }
 
-impl<N: Node> Hash for NodePtr<N> {
+impl<N: NodeKind> Hash for NodePtr<N> {
     ghost use Rattle.std.proofs.Common.{rules};
     ghost use Rattle.std.specs.Hash as fed;
     ghost use Rattle.std.specs.Cmp.Rules.{hashing};
@@ -164,7 +170,7 @@ impl<N: Node> Hash for NodePtr<N> {
     }
 }
 
-impl<N: Node> fmt::Debug for NodePtr<N> {
+impl<N: NodeKind> fmt::Debug for NodePtr<N> {
     fn fmt<W: fmt::Write>(&self, f: &mut fmt::Formatter<W>) -> fmt::Result {
         let kind = N::TYPE;
         let slot = self.slot;

@@ -6,8 +6,9 @@ ghost use Rattle.art_nodes.specs.InnerNode.{InnerNode, IsInnerNode, IsAscending,
 
 use crate::child_iter::{ChildIter, name_in, place_of};
 use crate::header::Header;
-use crate::inner_node::{InnerNodeCommon, InnerNodeInit, Sealed};
+use crate::inner_node::{InnerNodeCommon, InnerNodeInit};
 use crate::names::OpaqueNodePtr;
+use crate::sealed::Sealed;
 use arrayvec::ArrayVec;
 use std::marker::{Model, PhantomData};
 
