@@ -25,4 +25,5 @@ pub mod LinkedLists
 pub mod Erased
 pub mod OneMeaning
 pub mod OtherChildren
+pub mod Arenas
 pub mod Examples

@@ -14,4 +14,7 @@ pub mod Shapes
 pub mod Linked
 pub mod Meaning
 pub mod Context
+pub mod Arena
+pub mod Lends
+pub mod WrittenNodes
 pub mod Laws

@@ -1,6 +1,12 @@
-//! The canonical tree of an ascending list of items, and the laws that every operation, count and promise above is stated by.
-//! The layer above uses that an ascending list without conflicts has exactly one canonical tree, `tree_of` its items (`laws::tree_exists`, `laws::tree_is_unique`).
+//! The arena of the nodes of a tree, and what a name in it means: the canonical tree of an ascending list of pairs.
+//! The layer above uses `MeansAll`: a root name in an arena means the tree of these pairs, and nothing else stands in the arena.
 //! The definitions stand in `specs/`, the statements of the laws in `specs/Laws.antt`.
 #![tactic(auto)]
 
+mod arena;
 pub mod laws;
+pub mod links;
+mod stored;
+
+pub use arena::{LeafPtr, NodeArena, NodeRefused};
+pub use stored::{NodeStore, Stored};
