@@ -16,5 +16,6 @@ pub mod Meaning
 pub mod Context
 pub mod Arena
 pub mod Lends
+pub mod Visited
 pub mod WrittenNodes
 pub mod Laws

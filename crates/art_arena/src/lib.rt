@@ -6,7 +6,12 @@
 mod arena;
 pub mod laws;
 pub mod links;
+mod reader;
 mod stored;
 
 pub use arena::{LeafPtr, NodeArena, NodeRefused};
+pub use reader::{ArenaReader, Reader, VisitedNode};
 pub use stored::{NodeStore, Stored};
+
+#[cfg(test)]
+mod tests;
