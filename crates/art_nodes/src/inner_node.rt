@@ -3,6 +3,7 @@ ghost use Rattle.std.specs.Prelude.{◌≡◌, ◌↔◌, ◌<◌, ◌≤◌, �
 ghost use Rattle.art_nodes.specs.Header.{front_of};
 ghost use Rattle.art_nodes.specs.InnerNode.{InnerNode, IsInnerNode, IsAscending, child_at, with_child, without_child, with_children, first_child, last_child, children_between, AreValidBounds};
 
+use crate::builder::{InnerNodeBuilder, NoChild};
 use crate::child_iter::ChildIter;
 use crate::header::Header;
 use crate::kind::NodeKind;
@@ -81,6 +82,14 @@ pub trait InnerNodeCommon<const PREFIX_LEN: usize>: InnerNodeInit<PREFIX_LEN> + 
         ensures value { result ≡ (Self.inner self.now).children }
         ensures ascending { IsAscending result }
         ensures fits_in_memory { PREFIX_LEN + 17 < 2 ^ 63 };
+
+    /// A builder of a node with this header, which must count none.
+    final fn builder(heading: Header<PREFIX_LEN>) -> InnerNodeBuilder<Self, NoChild>
+        requires { heading.num_children ≡ 0 }
+        ensures { Self.inner result.node ≡ record { header = heading.entry; children = [] } }
+    {
+        InnerNodeBuilder::new(Self::from_header(heading))
+    }
 
     /// The children whose bytes lie between two bounds, by ascending byte.
     final fn range(&self, start: Bound<u8>, end: Bound<u8>) -> ChildIter<'_>

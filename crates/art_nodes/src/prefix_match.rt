@@ -1,0 +1,44 @@
+//! What a look at a node's own prefix tells of a key, without reading any other node.
+ghost use Rattle.std.specs.Prelude.{◌≡◌, ◌<◌, ◌≤◌, length, MatchResult};
+
+use std::cmp::Ordering;
+
+/// The whole prefix agrees with the key's bytes, as far as the match looked.
+#[derive(Clone, Copy, PartialEq, Eq, Debug)]
+pub struct PrefixMatch {
+    /// How many bytes agree: the length of the prefix.
+    pub matched_bytes: usize,
+}
+
+/// The whole prefix may agree with the key's bytes.
+#[derive(Clone, Copy, PartialEq, Eq, Debug)]
+pub struct AttemptOptimisticPrefixMatch {
+    /// How many bytes count as agreeing: the length of the prefix.
+    pub matched_bytes: usize,
+    /// Whether they count by length alone, without a look at the bytes.
+    pub any_implicit_bytes: bool,
+}
+
+/// The prefix is longer than what is left of the key.
+#[derive(Clone, Copy, PartialEq, Eq, Debug)]
+pub struct OptimisticMismatch {
+    /// How many bytes count as agreeing: all that is left of the key.
+    pub matched_bytes: usize,
+}
+
+/// The key's bytes leave the prefix.
+#[derive(Clone, Copy, PartialEq, Eq, Debug)]
+pub struct PessimisticMismatch {
+    /// How many bytes agree before that.
+    pub matched_bytes: usize,
+}
+
+/// The key's bytes leave the whole prefix, or end inside it.
+#[derive(Clone, Copy, PartialEq, Eq, Debug)]
+pub struct ExplicitMismatch {
+    /// How many bytes agree before that.
+    pub matched_bytes: usize,
+    /// How the node's prefix compares with the key's bytes there: never `Equal`, and `Greater` where the key
+    /// ends inside the prefix.
+    pub node_prefix_comparison_to_search_key_segment: Ordering,
+}
