@@ -1,5 +1,6 @@
 //! What a look at a node's own prefix tells of a key, without reading any other node.
-ghost use Rattle.std.specs.Prelude.{◌≡◌, ◌<◌, ◌≤◌, length, MatchResult};
+ghost use Rattle.std.specs.Prelude.{◌≡◌, ◌≤◌, length};
+ghost use Rattle.art_nodes.specs.PrefixMatch.{agreeing};
 
 use std::cmp::Ordering;
 
@@ -41,4 +42,27 @@ pub struct ExplicitMismatch {
     /// How the node's prefix compares with the key's bytes there: never `Equal`, and `Greater` where the key
     /// ends inside the prefix.
     pub node_prefix_comparison_to_search_key_segment: Ordering,
+}
+
+impl From<OptimisticMismatch> for PessimisticMismatch {
+    ghost from_gives = { λ mismatch new. new.matched_bytes ≡ mismatch.matched_bytes };
+
+    fn from(mismatch: OptimisticMismatch) -> Self {
+        PessimisticMismatch {
+            matched_bytes: mismatch.matched_bytes,
+        }
+    }
+}
+
+/// How many bytes agree from the front on.
+#[tactic(auto, using(crate::proofs::PrefixLemmas::agreements))]
+pub(crate) fn count_agreeing(prefix: &[u8], rest: &[u8]) -> usize
+    ensures value { result ≡ agreeing prefix.now rest.now }
+    ensures within { result ≤ length prefix.now }
+{
+    let mut at = 0;
+    while at < prefix.len() && at < rest.len() && prefix[at] == rest[at] {
+        at += 1;
+    }
+    at
 }
