@@ -37,3 +37,6 @@ pub use prefix_match::{
 };
 pub use sealed::Sealed;
 pub use sorted::{InnerNode4, InnerNode16, InnerNodeSorted};
+
+#[cfg(test)]
+mod tests;
