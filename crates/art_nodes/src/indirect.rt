@@ -9,6 +9,7 @@ use crate::inner_node::{InnerNodeCommon, InnerNodeInit};
 use crate::names::OpaqueNodePtr;
 use crate::sealed::Sealed;
 use arrayvec::ArrayVec;
+use std::fmt;
 use std::marker::{Model, PhantomData};
 
 /// An inner node of up to 48 children.
@@ -156,5 +157,13 @@ impl<K, V, const PREFIX_LEN: usize, const SIZE: usize> InnerNodeCommon<PREFIX_LE
 
     fn iter(&self) -> ChildIter<'_> {
         ChildIter::indirect(&self.index, self.names.as_slice())
+    }
+}
+
+impl<K, V, const PREFIX_LEN: usize, const SIZE: usize> fmt::Debug
+    for InnerNodeIndirect<K, V, PREFIX_LEN, SIZE> {
+    fn fmt<W: fmt::Write>(&self, f: &mut fmt::Formatter<W>) -> fmt::Result {
+        let header = &self.header;
+        write!(f, "InnerNodeIndirect({header:?})")
     }
 }

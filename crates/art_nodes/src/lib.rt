@@ -21,7 +21,7 @@ mod slot;
 mod sorted;
 
 pub use builder::{HasChild, HasOneChild, InnerNodeBuilder, NoChild};
-pub use child_iter::ChildIter;
+pub use child_iter::{ChildIter, are_valid_child_bounds};
 pub use concrete::{ConcreteInnerNodePtr, ConcreteNodePtr};
 pub use direct::{InnerNode256, InnerNodeDirect};
 pub use header::Header;
@@ -32,8 +32,8 @@ pub use leaf::LeafNode;
 pub use names::{NodePtr, OpaqueNodePtr};
 pub use non_max_index::{NonMaxIndex, TryFromByteError};
 pub use prefix_match::{
-    AttemptOptimisticPrefixMatch, ExplicitMismatch, OptimisticMismatch, PessimisticMismatch,
-    PrefixMatch,
+    AttemptOptimisticPrefixMatch, ExplicitMismatch, NodePrefix, OptimisticMismatch,
+    PessimisticMismatch, PrefixMatch,
 };
 pub use sealed::Sealed;
 pub use sorted::{InnerNode4, InnerNode16, InnerNodeSorted};

@@ -2,6 +2,8 @@
 ghost use Rattle.std.specs.Prelude.{◌≡◌, ◌≤◌, length};
 ghost use Rattle.art_nodes.specs.PrefixMatch.{agreeing};
 
+use crate::kind::KindLeaf;
+use crate::names::NodePtr;
 use std::cmp::Ordering;
 
 /// The whole prefix agrees with the key's bytes, as far as the match looked.
@@ -42,6 +44,15 @@ pub struct ExplicitMismatch {
     /// How the node's prefix compares with the key's bytes there: never `Equal`, and `Greater` where the key
     /// ends inside the prefix.
     pub node_prefix_comparison_to_search_key_segment: Ordering,
+}
+
+/// The whole prefix of a node, lent from where it stands.
+#[derive(Clone, Copy, Debug)]
+pub struct NodePrefix<'a> {
+    /// The bytes of the prefix.
+    pub prefix: &'a [u8],
+    /// The name of the leaf whose key lends them, and `None` where the header does.
+    pub leaf: Option<NodePtr<KindLeaf>>,
 }
 
 impl From<OptimisticMismatch> for PessimisticMismatch {

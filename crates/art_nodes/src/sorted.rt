@@ -11,6 +11,7 @@ use crate::inner_node::{InnerNodeCommon, InnerNodeInit};
 use crate::names::OpaqueNodePtr;
 use crate::sealed::Sealed;
 use arrayvec::ArrayVec;
+use std::fmt;
 use std::marker::{Model, PhantomData};
 
 /// The smallest inner node.
@@ -141,5 +142,13 @@ impl<K, V, const PREFIX_LEN: usize, const SIZE: usize> InnerNodeCommon<PREFIX_LE
 
     fn iter(&self) -> ChildIter<'_> {
         ChildIter::sorted(self.keys.as_slice(), self.names.as_slice())
+    }
+}
+
+impl<K, V, const PREFIX_LEN: usize, const SIZE: usize> fmt::Debug
+    for InnerNodeSorted<K, V, PREFIX_LEN, SIZE> {
+    fn fmt<W: fmt::Write>(&self, f: &mut fmt::Formatter<W>) -> fmt::Result {
+        let header = &self.header;
+        write!(f, "InnerNodeSorted({header:?})")
     }
 }
