@@ -1,5 +1,5 @@
 -- Lemmas on an indirect node: each edit of index and names is the edit of the children.
-use Rattle.std.proofs.Common.{◌≡◌, ℕ, zero, suc, ◌+◌, ◌-◌, ◌<◌, ◌≤◌, ◌≢◌, ◌⊎◌, List, [], ◌∷◌, ◌++◌, length, min, Option, Some, None, IsSome, slice_get, slice_set, refl, ap, sym, ◌∙◌, subst, inl, inr, arith, get_or-set_same, get_or-set_other, length-append, zero-le}
+use Rattle.std.proofs.Common.{◌≡◌, ℕ, zero, suc, ◌+◌, ◌-◌, ◌<◌, ◌≤◌, ◌≢◌, ◌⊎◌, List, [], ◌∷◌, ◌++◌, length, min, Option, Some, None, IsSome, IfSome, slice_get, slice_set, refl, ap, sym, ◌∙◌, subst, inl, inr, arith, get_or-set_same, get_or-set_other, length-append, zero-le}
 use Rattle.std.specs.List.{remove}
 use Rattle.std.proofs.lemmas.Bool.Decides.{eqb_tells}
 use Rattle.std.proofs.lemmas.List.{length-set}
@@ -221,3 +221,11 @@ past_names names i none = elim ((slice_get_cases names i).1) [
   | inl there ↦ absurd (let e = there.2 in cc)
   | inr past ↦ past.0
 ]
+
+-- a name that a list gives stands in it
+pub named : (names : List Name) (i : ℕ) → IfSome (slice_get names i) (λ name. (j : ℕ) × (slice_get names j ≡ Some name))
+named names i = go (slice_get names i) refl
+  where
+    go : (o : Option Name) → slice_get names i ≡ o → IfSome o (λ name. (j : ℕ) × (slice_get names j ≡ Some name))
+    go None e = tt
+    go (Some name) e = (i, e)

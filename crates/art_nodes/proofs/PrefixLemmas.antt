@@ -4,6 +4,7 @@ use Rattle.std.specs.List.{copy_within}
 use Rattle.std.proofs.lemmas.Grind.{common_steps, elements}
 use Rattle.std.proofs.lemmas.List.{drop-take, length-take, take_all}
 use Rattle.art_nodes.specs.Header.{front_of}
+use Rattle.art_nodes.specs.PrefixMatch.{agreeing}
 use Rattle.std.proofs.Math.Seq.{take-append_seam}
 
 take-front : {X : Type 0} (xs ys : List X) (n : ℕ) → length xs ≡ n → take n (xs ++ ys) ≡ xs
@@ -31,3 +32,14 @@ pub front_of-stored : (room len : ℕ) (stored : List ℕ) → length stored ≡
 front_of-stored room len stored e = grind (arith, common_steps, take_all)
 
 pub ruleset fronts = (front_of-stored)
+
+agreeing-none : (prefix rest : List ℕ) → length rest ≤ 0 → agreeing prefix rest ≡ 0
+agreeing-none [] rest h = refl
+agreeing-none (x ∷ prefix) [] h = refl
+agreeing-none (x ∷ prefix) (y ∷ rest) h = absurd (omega (arith, h))
+
+-- nothing agrees past the end of the key
+pub agreeing-end : (prefix rest : List ℕ) (at : ℕ) → length rest ≤ at → agreeing (drop at prefix) (drop at rest) ≡ 0
+agreeing-end prefix rest at h = agreeing-none (drop at prefix) (drop at rest) (simp length-drop (omega arith))
+
+pub ruleset agreements = (agreeing-end)

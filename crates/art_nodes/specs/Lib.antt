@@ -7,5 +7,6 @@ pub mod Kind
 pub mod Leaf
 pub mod Name
 pub mod Place
+pub mod PrefixMatch
 pub mod Sorted
 pub mod Table

@@ -1,5 +1,5 @@
 //! The children of an inner node, from either end.
-ghost use Rattle.std.specs.Prelude.{◌≡◌, ◌+◌, ◌<◌, ◌≤◌, length, slice_get, count_by, nat_lt};
+ghost use Rattle.std.specs.Prelude.{◌≡◌, ◌↔◌, IsTrue, ◌+◌, ◌<◌, ◌≤◌, length, slice_get, count_by, nat_lt};
 ghost use Rattle.std.specs.List.{zip};
 ghost use Rattle.std.specs.Iterator.{YieldsFirst, YieldsLast, item_count};
 ghost use Rattle.art_nodes.specs.InnerNode.{children_between, AreValidBounds, IsAscending};
@@ -104,6 +104,21 @@ pub(crate) fn place_of(keys: &[u8], bound: usize) -> usize
         at += 1;
     }
     at
+}
+
+/// Whether `range` may be asked for these bounds: it may not where both are named and the start is above the
+/// end, or they are equal and both excluded.
+pub fn are_valid_child_bounds(start: Bound<u8>, end: Bound<u8>) -> bool
+    ensures { IsTrue result ↔ AreValidBounds start end }
+{
+    match (start, end) {
+        (Bound::Unbounded, _) => true,
+        (_, Bound::Unbounded) => true,
+        (Bound::Excluded(first), Bound::Excluded(last)) => first < last,
+        (Bound::Included(first), Bound::Included(last)) => first <= last,
+        (Bound::Included(first), Bound::Excluded(last)) => first <= last,
+        (Bound::Excluded(first), Bound::Included(last)) => first <= last,
+    }
 }
 
 // The first byte of a range that starts at this bound.

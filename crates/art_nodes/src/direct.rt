@@ -7,6 +7,7 @@ use crate::header::Header;
 use crate::inner_node::{InnerNodeCommon, InnerNodeInit};
 use crate::names::OpaqueNodePtr;
 use crate::sealed::Sealed;
+use std::fmt;
 use std::marker::{Model, PhantomData};
 
 /// The largest inner node.
@@ -109,5 +110,12 @@ impl<K, V, const PREFIX_LEN: usize> InnerNodeCommon<PREFIX_LEN>
 
     fn iter(&self) -> ChildIter<'_> {
         ChildIter::direct(&self.slots)
+    }
+}
+
+impl<K, V, const PREFIX_LEN: usize> fmt::Debug for InnerNodeDirect<K, V, PREFIX_LEN> {
+    fn fmt<W: fmt::Write>(&self, f: &mut fmt::Formatter<W>) -> fmt::Result {
+        let header = &self.header;
+        write!(f, "InnerNodeDirect({header:?})")
     }
 }

@@ -2,6 +2,8 @@
 ghost use Rattle.std.specs.Prelude.{◌≡◌, ◌≢◌, ◌↔◌, ◌+◌, ◌-◌, ◌<◌, ◌≤◌, ◌^◌, ◌⊎◌, ◌++◌, [], length, take, drop, min, IsTrue};
 ghost use Rattle.art_nodes.specs.Header.{front_of, IsHeader};
 
+use crate::leaf::LeafNode;
+use art_bytes::AsBytes;
 use std::alloc::AllocError;
 use std::fmt;
 use std::marker::Model;
@@ -119,6 +121,26 @@ impl<const PREFIX_LEN: usize> Header<PREFIX_LEN> {
         let kept = len.min(PREFIX_LEN - at);
         copy_in(&mut self.prefix, at, &bytes[..kept]);
         self.prefix_len += len;
+    }
+
+    /// Takes the first `n` bytes off the prefix, and refills what is stored from the key of a leaf below the
+    /// node, which stands at this depth. The key must cover what is then stored.
+    pub fn ltrim_by_with_leaf<K: AsBytes, V>(
+        &mut self,
+        n: usize,
+        depth: usize,
+        leaf: &LeafNode<K, V>,
+    )
+        requires within { n ≤ self.old.prefix_len }
+        requires covers { depth + n + min (self.old.prefix_len - n) PREFIX_LEN ≤ length (K.bytes leaf.now.key) }
+        ensures { self.new ≡ record self.old { prefix_len = self.old.prefix_len - n; stored = front_of PREFIX_LEN (drop (depth + n) (K.bytes leaf.now.key)) (self.old.prefix_len - n) } }
+    {
+        let key = leaf.key_ref().as_bytes();
+        let len = self.prefix_len - n;
+        let kept = len.min(PREFIX_LEN);
+        let rest = &key[depth + n..];
+        copy_in(&mut self.prefix, 0, &rest[..kept]);
+        self.prefix_len = len;
     }
 
     /// Takes the first `n` bytes off the prefix, which must be wholly stored, or `n` be 0.

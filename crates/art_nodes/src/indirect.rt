@@ -1,5 +1,6 @@
 //! Inner nodes whose children stand packed, found through a place for each byte.
-ghost use Rattle.std.specs.Prelude.{◌≡◌, ◌<◌, ◌≤◌, ◌+◌, length, min};
+ghost use Rattle.std.specs.Prelude.{◌≡◌, ◌<◌, ℕ, length, min, IfSome, slice_get};
+ghost use Rattle.art_nodes.specs.InnerNode.{child_at};
 ghost use Rattle.art_nodes.specs.Indirect.{place_at, shifted, shifted_place};
 
 use crate::child_iter::{ChildIter, name_in};
@@ -8,6 +9,7 @@ use crate::inner_node::{InnerNodeCommon, InnerNodeInit};
 use crate::names::OpaqueNodePtr;
 use crate::sealed::Sealed;
 use arrayvec::ArrayVec;
+use std::fmt;
 use std::marker::{Model, PhantomData};
 
 /// An inner node of up to 48 children.
@@ -74,6 +76,16 @@ fn close_gap(index: &mut [u8; 256], gap: u8)
 {
     for place in index.iter_mut() {
         *place = closed(gap, *place);
+    }
+}
+
+impl<K, V, const PREFIX_LEN: usize, const SIZE: usize> InnerNodeIndirect<K, V, PREFIX_LEN, SIZE> {
+    /// The names in use, in open order: as many as there are children, and each child's among them.
+    pub fn initialized_child_pointers(&self) -> &[OpaqueNodePtr]
+        ensures counts { length result.now ≡ length self.now.children }
+        ensures all { (byte : ℕ) → byte < 256 → IfSome (child_at self.now.children byte) (λ name. (i : ℕ) × (slice_get result.now i ≡ Some name)) }
+    {
+        self.names.as_slice()
     }
 }
 
@@ -145,5 +157,13 @@ impl<K, V, const PREFIX_LEN: usize, const SIZE: usize> InnerNodeCommon<PREFIX_LE
 
     fn iter(&self) -> ChildIter<'_> {
         ChildIter::indirect(&self.index, self.names.as_slice())
+    }
+}
+
+impl<K, V, const PREFIX_LEN: usize, const SIZE: usize> fmt::Debug
+    for InnerNodeIndirect<K, V, PREFIX_LEN, SIZE> {
+    fn fmt<W: fmt::Write>(&self, f: &mut fmt::Formatter<W>) -> fmt::Result {
+        let header = &self.header;
+        write!(f, "InnerNodeIndirect({header:?})")
     }
 }

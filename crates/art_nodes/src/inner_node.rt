@@ -1,12 +1,18 @@
 //! The traits of nodes: what is said of every kind is said here.
-ghost use Rattle.std.specs.Prelude.{◌≡◌, ◌↔◌, ◌<◌, ◌≤◌, ◌⊎◌, ◌+◌, ◌^◌, ℕ, [], length, min, IsTrue, IsSome};
+ghost use Rattle.std.specs.Prelude.{◌≡◌, ◌↔◌, ◌<◌, ◌≤◌, ◌⊎◌, ◌+◌, ◌^◌, ℕ, [], true, false, length, min, IsTrue, IsSome, MatchResult};
+ghost use Rattle.art_nodes.specs.PrefixMatch.{agreeing};
 ghost use Rattle.art_nodes.specs.Header.{front_of};
 ghost use Rattle.art_nodes.specs.InnerNode.{InnerNode, IsInnerNode, IsAscending, child_at, with_child, without_child, with_children, first_child, last_child, children_between, AreValidBounds};
 
+use crate::builder::{InnerNodeBuilder, NoChild};
 use crate::child_iter::ChildIter;
 use crate::header::Header;
 use crate::kind::NodeKind;
 use crate::names::OpaqueNodePtr;
+use crate::prefix_match::{
+    AttemptOptimisticPrefixMatch, OptimisticMismatch, PessimisticMismatch, PrefixMatch,
+    count_agreeing,
+};
 use crate::sealed::Sealed;
 use std::ops::Bound;
 
@@ -81,6 +87,72 @@ pub trait InnerNodeCommon<const PREFIX_LEN: usize>: InnerNodeInit<PREFIX_LEN> + 
         ensures value { result ≡ (Self.inner self.now).children }
         ensures ascending { IsAscending result }
         ensures fits_in_memory { PREFIX_LEN + 17 < 2 ^ 63 };
+
+    /// A builder of a node with this header, which must count none.
+    final fn builder(heading: Header<PREFIX_LEN>) -> InnerNodeBuilder<Self, NoChild>
+        requires { heading.num_children ≡ 0 }
+        ensures { Self.inner result.node ≡ record { header = heading.entry; children = [] } }
+    {
+        InnerNodeBuilder::new(Self::from_header(heading))
+    }
+
+    /// Looks by length alone whether the prefix may agree with the rest of a key, its bytes from the node's depth
+    /// on. A mismatch counts all of the rest.
+    final fn optimistic_match_prefix(&self, rest: &[u8]) -> Result<PrefixMatch, OptimisticMismatch>
+        ensures { MatchResult result
+            (λ yes. (yes.matched_bytes ≡ (Self.inner self.now).header.prefix_len) × ((Self.inner self.now).header.prefix_len ≤ length rest.now))
+            (λ no. (no.matched_bytes ≡ length rest.now) × (length rest.now < (Self.inner self.now).header.prefix_len)) }
+    {
+        // The children tell that a header fits in memory.
+        let _children = self.iter();
+        let len = self.header().prefix_len();
+        if len <= rest.len() {
+            Ok(PrefixMatch { matched_bytes: len })
+        } else {
+            Err(OptimisticMismatch {
+                matched_bytes: rest.len(),
+            })
+        }
+    }
+
+    /// Compares the prefix with the rest of a key, its bytes from the node's depth on, where the whole prefix is
+    /// stored, and else looks by length alone, which the answer says.
+    final fn attempt_pessimistic_match_prefix(
+        &self,
+        rest: &[u8],
+    ) -> Result<AttemptOptimisticPrefixMatch, PessimisticMismatch>
+        ensures compared { (Self.inner self.now).header.prefix_len ≤ PREFIX_LEN → MatchResult result
+            (λ yes. (yes.any_implicit_bytes ≡ false) × (yes.matched_bytes ≡ (Self.inner self.now).header.prefix_len) × (agreeing (Self.inner self.now).header.stored rest.now ≡ (Self.inner self.now).header.prefix_len))
+            (λ no. (no.matched_bytes ≡ agreeing (Self.inner self.now).header.stored rest.now) × (no.matched_bytes < (Self.inner self.now).header.prefix_len)) }
+        ensures by_length { PREFIX_LEN < (Self.inner self.now).header.prefix_len → MatchResult result
+            (λ yes. (yes.any_implicit_bytes ≡ true) × (yes.matched_bytes ≡ (Self.inner self.now).header.prefix_len) × ((Self.inner self.now).header.prefix_len ≤ length rest.now))
+            (λ no. (no.matched_bytes ≡ length rest.now) × (length rest.now < (Self.inner self.now).header.prefix_len)) }
+    {
+        // The children tell that a header fits in memory.
+        let _children = self.iter();
+        let header = self.header();
+        let len = header.prefix_len();
+        if len <= PREFIX_LEN {
+            let matched_bytes = count_agreeing(header.read_prefix(), rest);
+            if matched_bytes == len {
+                Ok(AttemptOptimisticPrefixMatch {
+                    matched_bytes,
+                    any_implicit_bytes: false,
+                })
+            } else {
+                Err(PessimisticMismatch { matched_bytes })
+            }
+        } else if len <= rest.len() {
+            Ok(AttemptOptimisticPrefixMatch {
+                matched_bytes: len,
+                any_implicit_bytes: true,
+            })
+        } else {
+            Err(PessimisticMismatch {
+                matched_bytes: rest.len(),
+            })
+        }
+    }
 
     /// The children whose bytes lie between two bounds, by ascending byte.
     final fn range(&self, start: Bound<u8>, end: Bound<u8>) -> ChildIter<'_>

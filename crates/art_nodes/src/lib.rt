@@ -3,6 +3,7 @@
 //! The definitions stand in `specs/Kind.antt`, `specs/Name.antt`, `specs/Header.antt` and `specs/InnerNode.antt`.
 #![tactic(auto)]
 
+mod builder;
 mod child_iter;
 mod concrete;
 mod direct;
@@ -13,11 +14,14 @@ mod kind;
 mod kinds;
 mod leaf;
 mod names;
+mod non_max_index;
+mod prefix_match;
 mod sealed;
 mod slot;
 mod sorted;
 
-pub use child_iter::ChildIter;
+pub use builder::{HasChild, HasOneChild, InnerNodeBuilder, NoChild};
+pub use child_iter::{ChildIter, are_valid_child_bounds};
 pub use concrete::{ConcreteInnerNodePtr, ConcreteNodePtr};
 pub use direct::{InnerNode256, InnerNodeDirect};
 pub use header::Header;
@@ -26,5 +30,13 @@ pub use inner_node::{InnerNode, InnerNodeCommon, InnerNodeInit, Node};
 pub use kind::{Kind4, Kind16, Kind48, Kind256, KindLeaf, KindRow, NodeKind, NodeType};
 pub use leaf::LeafNode;
 pub use names::{NodePtr, OpaqueNodePtr};
+pub use non_max_index::{NonMaxIndex, TryFromByteError};
+pub use prefix_match::{
+    AttemptOptimisticPrefixMatch, ExplicitMismatch, NodePrefix, OptimisticMismatch,
+    PessimisticMismatch, PrefixMatch,
+};
 pub use sealed::Sealed;
 pub use sorted::{InnerNode4, InnerNode16, InnerNodeSorted};
+
+#[cfg(test)]
+mod tests;

@@ -1,6 +1,7 @@
 //! Inner nodes of few children, whose bytes and names stand side by side in ascending order.
 ghost use Rattle.std.specs.Prelude.{◌≡◌, ◌↔◌, ◌<◌, ◌≤◌, ◌⊎◌, ◌+◌, ◌^◌, [], length, min, IsTrue, IsSome, MatchResult};
 ghost use Rattle.art_nodes.specs.Header.{front_of};
+ghost use Rattle.std.specs.List.{zip};
 ghost use Rattle.art_nodes.specs.Place.{StandsAt, BelongsAt};
 ghost use Rattle.art_nodes.specs.InnerNode.{InnerNode, IsInnerNode, IsAscending, child_at, with_child, without_child, with_children};
 
@@ -10,6 +11,7 @@ use crate::inner_node::{InnerNodeCommon, InnerNodeInit};
 use crate::names::OpaqueNodePtr;
 use crate::sealed::Sealed;
 use arrayvec::ArrayVec;
+use std::fmt;
 use std::marker::{Model, PhantomData};
 
 /// The smallest inner node.
@@ -60,6 +62,16 @@ impl<K, V, const PREFIX_LEN: usize, const SIZE: usize> Drop
             names: _,
             tree: _,
         } = self;
+    }
+}
+
+impl<K, V, const PREFIX_LEN: usize, const SIZE: usize> InnerNodeSorted<K, V, PREFIX_LEN, SIZE> {
+    /// The bytes and the names in use, side by side and ascending by byte.
+    pub fn initialized_portion(&self) -> (&[u8], &[OpaqueNodePtr])
+        ensures children { zip result.0.now result.1.now ≡ self.now.children }
+        ensures same_length { length result.0.now ≡ length result.1.now }
+    {
+        (self.keys.as_slice(), self.names.as_slice())
     }
 }
 
@@ -130,5 +142,13 @@ impl<K, V, const PREFIX_LEN: usize, const SIZE: usize> InnerNodeCommon<PREFIX_LE
 
     fn iter(&self) -> ChildIter<'_> {
         ChildIter::sorted(self.keys.as_slice(), self.names.as_slice())
+    }
+}
+
+impl<K, V, const PREFIX_LEN: usize, const SIZE: usize> fmt::Debug
+    for InnerNodeSorted<K, V, PREFIX_LEN, SIZE> {
+    fn fmt<W: fmt::Write>(&self, f: &mut fmt::Formatter<W>) -> fmt::Result {
+        let header = &self.header;
+        write!(f, "InnerNodeSorted({header:?})")
     }
 }
