@@ -1,0 +1,13 @@
+-- What a contract sees of a node that a reader lends.
+use Rattle.std.specs.Prelude.{ℕ}
+use Rattle.art_arena.specs.Arena.{Held, leaf_held, inner_held}
+use Rattle.art_arena.specs.declared.reader.VisitedNode.{VisitedNode}
+use Rattle.art_arena.specs.declared.reader.VisitedNode.TheVariants as visited
+
+-- the node that is lent, whatever its kind
+abbrev pub held_of : {K V : Type 0} {P : ℕ} → VisitedNode K V P → Held K V
+held_of (visited.Node4 node) = inner_held node.now
+held_of (visited.Node16 node) = inner_held node.now
+held_of (visited.Node48 node) = inner_held node.now
+held_of (visited.Node256 node) = inner_held node.now
+held_of (visited.Leaf node) = leaf_held node.now

@@ -1,0 +1,278 @@
+//! The nodes of a tree, under their names.
+ghost use Rattle.std.specs.Prelude.{◌≡◌, ◌≢◌, ◌<◌, ◌^◌, ◌↔◌, ◌+◌, ℕ, [], Some, None, IfOk, OnErr, IfErr, OnOk, IsSome, IsTrue, IsOk};
+
+use crate::stored::Stored;
+use art_nodes::{
+    InnerNode4, InnerNode16, InnerNode48, InnerNode256, KindLeaf, LeafNode, NodePtr, NodeType,
+    OpaqueNodePtr,
+};
+use slab::Slab;
+use std::alloc::{AllocError, Global};
+use std::marker::Model;
+use thiserror::Error;
+
+/// The name of a leaf.
+pub type LeafPtr = NodePtr<KindLeaf>;
+
+// No memory holds a node whose stored prefix has so many bytes.
+pub(crate) const NO_MEMORY_HOLDS: usize = 1 << 62;
+
+/// The nodes of one tree or more, each under the name that it was given when it was stored: a kind, and a
+/// key in the slab of that kind.
+#[derive(Drop)]
+pub struct NodeArena<K, V, const PREFIX_LEN: usize> {
+    pub(crate) leaves: Slab<LeafNode<K, V>>,
+    pub(crate) nodes4: Slab<InnerNode4<K, V, PREFIX_LEN>>,
+    pub(crate) nodes16: Slab<InnerNode16<K, V, PREFIX_LEN>>,
+    pub(crate) nodes48: Slab<InnerNode48<K, V, PREFIX_LEN>>,
+    pub(crate) nodes256: Slab<InnerNode256<K, V, PREFIX_LEN>>,
+}
+
+impl<K, V, const PREFIX_LEN: usize> Model for NodeArena<K, V, PREFIX_LEN> {
+    ghost use Rattle.art_arena.specs.Arena.{Arena};
+
+    ghost Value = { Arena K V };
+
+    ghost view = { λ a. record {
+      leaves = a.leaves;
+      nodes4 = a.nodes4;
+      nodes16 = a.nodes16;
+      nodes48 = a.nodes48;
+      nodes256 = a.nodes256;
+    } };
+
+    ghost use Rattle.art_arena.specs.Arena.{FitsWhereUsed};
+
+    ghost invariant = { λ a. FitsWhereUsed PREFIX_LEN a.nodes4 × FitsWhereUsed PREFIX_LEN a.nodes16 × FitsWhereUsed PREFIX_LEN a.nodes48 × FitsWhereUsed PREFIX_LEN a.nodes256 };
+}
+
+/// No memory was found for a node, which is handed back.
+#[derive(Debug, Drop, Error)]
+#[error("no memory for a node")]
+pub struct NodeRefused<N> {
+    pub node: N,
+}
+
+// So that `?` converts it, which lets go of the node.
+impl<N: Drop> From<NodeRefused<N>> for AllocError {
+    fn from(refused: NodeRefused<N>) -> AllocError {
+        AllocError
+    }
+}
+
+impl<K, V, const PREFIX_LEN: usize> NodeArena<K, V, PREFIX_LEN> {
+    ghost use Rattle.art_nodes.specs.Name.{Name};
+    ghost use Rattle.art_arena.specs.Cells.{UpdatesAt, leaf_name};
+    ghost use Rattle.std.specs.Borrow.{sem};
+    ghost use Rattle.art_arena.specs.Lends.{lends_node, lends_value};
+    ghost use Rattle.art_arena.specs.contracts.arena.NodeArena.{the_row};
+    ghost use Rattle.art_arena.specs.Arena.{leaf_held, held_at, links_at, Allocates, WritesLinks, SameNodes, HasRoom};
+
+    /// An arena that holds no node. It takes no memory.
+    pub fn new(alloc: Global) -> Self
+        ensures { (n : Name) → held_at result n ≡ None }
+    {
+        NodeArena {
+            leaves: Slab::new(alloc),
+            nodes4: Slab::new(alloc),
+            nodes16: Slab::new(alloc),
+            nodes48: Slab::new(alloc),
+            nodes256: Slab::new(alloc),
+        }
+    }
+
+    /// Whether a node stands under this name.
+    pub fn holds(&self, name: OpaqueNodePtr) -> bool
+        ensures { IsTrue result ↔ IsSome (held_at self.now name) }
+    {
+        let slot = name.slot();
+        match name.node_type() {
+            NodeType::Node4 => self.nodes4.contains(slot),
+            NodeType::Node16 => self.nodes16.contains(slot),
+            NodeType::Node48 => self.nodes48.contains(slot),
+            NodeType::Node256 => self.nodes256.contains(slot),
+            NodeType::Leaf => self.leaves.contains(slot),
+        }
+    }
+
+    /// Makes room for so many more nodes, whatever their kinds: as many allocations then need no memory. It is
+    /// refused only where there is no memory; no name changes either way.
+    pub fn reserve(&mut self, additional: usize) -> Result<(), AllocError>
+        ensures room { OnOk result (HasRoom self.new additional) }
+        ensures kept { SameNodes self.old self.new }
+    {
+        if PREFIX_LEN >= NO_MEMORY_HOLDS {
+            return Err(AllocError);
+        }
+        self.leaves.reserve(additional)?;
+        self.nodes4.reserve(additional)?;
+        self.nodes16.reserve(additional)?;
+        self.nodes48.reserve(additional)?;
+        self.nodes256.reserve(additional)
+    }
+
+    /// Stores a node under a name that it answers, or hands it back where there is no memory.
+    pub fn allocate_node_ptr<N: Stored<K, V, Self>>(
+        &mut self,
+        node: N,
+    ) -> Result<NodePtr<N::Kind>, NodeRefused<N>>
+        ensures ok { IfOk result (λ slot. Allocates self.old self.new (record { kind = N.Kind.TYPE; slot = slot }) (N.held node)) }
+        ensures err { OnErr result (SameNodes self.old self.new) }
+        ensures handed_back { IfErr result (λ refused. refused.node ≡ node) }
+        ensures succeeds { HasRoom self.old 1 → IsOk result }
+        ensures room { (n : ℕ) → HasRoom self.old (n + 1) → HasRoom self.new n }
+    {
+        match N::insert(self, node) {
+            Ok(slot) => Ok(NodePtr::from_slot(slot)),
+            Err(failed) => Err(NodeRefused { node: failed.value }),
+        }
+    }
+
+    /// Takes a node out of the arena. Its name may be given to another node later.
+    pub fn deallocate_node_ptr<N: Stored<K, V, Self>>(&mut self, ptr: NodePtr<N::Kind>) -> N
+        requires { IsSome (held_at self.old (record { kind = N.Kind.TYPE; slot = ptr })) }
+        ensures value { held_at self.old (record { kind = N.Kind.TYPE; slot = ptr }) ≡ Some (N.held result) }
+        ensures updates { UpdatesAt (held_at self.old) (held_at self.new) (record { kind = N.Kind.TYPE; slot = ptr }) None }
+        ensures room { (n : ℕ) → HasRoom self.old n → HasRoom self.new n }
+    {
+        N::remove(self, ptr.slot())
+    }
+
+    /// Puts a node in the place of the one under this name, and answers that one.
+    pub fn replace<N: Stored<K, V, Self>>(&mut self, ptr: NodePtr<N::Kind>, node: N) -> N
+        requires { IsSome (held_at self.old (record { kind = N.Kind.TYPE; slot = ptr })) }
+        ensures value { held_at self.old (record { kind = N.Kind.TYPE; slot = ptr }) ≡ Some (N.held result) }
+        ensures updates { UpdatesAt (held_at self.old) (held_at self.new) (record { kind = N.Kind.TYPE; slot = ptr }) (Some (N.held node)) }
+    {
+        N::replace(self, ptr.slot(), node)
+    }
+
+    /// The node under this name.
+    pub fn as_ref<N: Stored<K, V, Self>>(&self, ptr: NodePtr<N::Kind>) -> &N
+        requires { IsSome (held_at self.now (record { kind = N.Kind.TYPE; slot = ptr })) }
+        ensures { held_at self.now (record { kind = N.Kind.TYPE; slot = ptr }) ≡ Some (N.held result.now) }
+    {
+        N::get(self, ptr.slot())
+    }
+
+    /// Where an inner node is held, the stored front of a prefix is so short that the node fits in memory. A caller
+    /// over any `PREFIX_LEN` calls this before it names the node's type.
+    pub fn prefix_fits(&self, name: OpaqueNodePtr)
+        requires held { IsSome (held_at self.now name) }
+        requires inner { name.kind ≢ NodeType.Leaf }
+        ensures { PREFIX_LEN < 2 ^ 62 }
+    {
+        let _nodes = &self.nodes4;
+    }
+
+    /// The node under this name, for writing.
+    pub fn as_mut<N: Stored<K, V, Self>>(&mut self, ptr: NodePtr<N::Kind>) -> &mut N
+        requires { IsSome (held_at self.old (record { kind = N.Kind.TYPE; slot = ptr })) }
+        ensures* writes_back { sem 𝓛 (lends_node (the_row K.row V.row PREFIX_LEN.row) N.row N.with_node self.entry ptr result) }
+        ensures value { held_at self.old (record { kind = N.Kind.TYPE; slot = ptr }) ≡ Some (N.held result.now) }
+    {
+        N::get_mut(self, ptr.slot())
+    }
+
+    /// The key of a leaf.
+    pub fn as_key_ref(&self, leaf: LeafPtr) -> &K
+        requires { IsSome (held_at self.now (leaf_name leaf)) }
+        ensures { (l : _) → held_at self.now (leaf_name leaf) ≡ Some (leaf_held l) → result.now ≡ l.key }
+    {
+        self.as_ref::<LeafNode<K, V>>(leaf).key_ref()
+    }
+
+    /// The value of a leaf.
+    pub fn as_value_ref(&self, leaf: LeafPtr) -> &V
+        requires { IsSome (held_at self.now (leaf_name leaf)) }
+        ensures { (l : _) → held_at self.now (leaf_name leaf) ≡ Some (leaf_held l) → result.now ≡ l.value }
+    {
+        self.as_ref::<LeafNode<K, V>>(leaf).value_ref()
+    }
+
+    /// The key and the value of a leaf.
+    pub fn as_key_value_ref(&self, leaf: LeafPtr) -> (&K, &V)
+        requires { IsSome (held_at self.now (leaf_name leaf)) }
+        ensures key { (l : _) → held_at self.now (leaf_name leaf) ≡ Some (leaf_held l) → result.0.now ≡ l.key }
+        ensures value { (l : _) → held_at self.now (leaf_name leaf) ≡ Some (leaf_held l) → result.1.now ≡ l.value }
+    {
+        let leaf = self.as_ref::<LeafNode<K, V>>(leaf);
+        (leaf.key_ref(), leaf.value_ref())
+    }
+
+    /// The value of a leaf, for writing.
+    pub fn as_value_mut(&mut self, leaf: LeafPtr) -> &mut V
+        requires { IsSome (held_at self.old (leaf_name leaf)) }
+        ensures* writes_back { sem 𝓛 (lends_value K.row V.row PREFIX_LEN.row self.entry leaf result) }
+        ensures value { (l : _) → held_at self.old (leaf_name leaf) ≡ Some (leaf_held l) → result.now ≡ l.value }
+    {
+        match self.leaves.get_mut(leaf.slot()) {
+            Some(node) => node.value_mut(),
+            None => unreachable!(),
+        }
+    }
+
+    // The slab key of the leaf that comes before a leaf.
+    pub(crate) fn previous(&self, leaf: usize) -> Option<usize>
+        requires { IsSome (links_at self.now leaf) }
+        ensures { (links : _) → links_at self.now leaf ≡ Some links → result ≡ links.previous }
+    {
+        match self.leaves.get(leaf) {
+            Some(node) => slot_of(node.previous()),
+            None => unreachable!(),
+        }
+    }
+
+    // The slab key of the leaf that comes after a leaf.
+    pub(crate) fn next(&self, leaf: usize) -> Option<usize>
+        requires { IsSome (links_at self.now leaf) }
+        ensures { (links : _) → links_at self.now leaf ≡ Some links → result ≡ links.next }
+    {
+        match self.leaves.get(leaf) {
+            Some(node) => slot_of(node.next()),
+            None => unreachable!(),
+        }
+    }
+
+    // Sets the leaf that comes before a leaf.
+    pub(crate) fn set_previous(&mut self, leaf: usize, previous: Option<usize>)
+        requires { IsSome (links_at self.old leaf) }
+        ensures { (was : _) → links_at self.old leaf ≡ Some was → WritesLinks self.old self.new leaf (record was { previous = previous }) }
+    {
+        match self.leaves.get_mut(leaf) {
+            Some(node) => node.set_previous(name_of(previous)),
+            None => unreachable!(),
+        }
+    }
+
+    // Sets the leaf that comes after a leaf.
+    pub(crate) fn set_next(&mut self, leaf: usize, next: Option<usize>)
+        requires { IsSome (links_at self.old leaf) }
+        ensures { (was : _) → links_at self.old leaf ≡ Some was → WritesLinks self.old self.new leaf (record was { next = next }) }
+    {
+        match self.leaves.get_mut(leaf) {
+            Some(node) => node.set_next(name_of(next)),
+            None => unreachable!(),
+        }
+    }
+}
+
+// The slab key of a leaf.
+fn slot_of(leaf: Option<LeafPtr>) -> Option<usize>
+    ensures { result ≡ leaf }
+{
+    match leaf {
+        Some(leaf) => Some(leaf.slot()),
+        None => None,
+    }
+}
+
+// The leaf with that slab key.
+fn name_of(slot: Option<usize>) -> Option<LeafPtr>
+    ensures { result ≡ slot }
+{
+    match slot {
+        Some(slot) => Some(NodePtr::from_slot(slot)),
+        None => None,
+    }
+}

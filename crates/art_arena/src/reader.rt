@@ -1,0 +1,106 @@
+//! Reading an arena, each node that is read counted.
+ghost use Rattle.std.specs.Prelude.{◌≡◌, ◌+◌, ◌-◌, ◌^◌, min, Some, IsSome};
+ghost use Rattle.art_arena.specs.Arena.{held_at};
+ghost use Rattle.art_arena.specs.Visited.{held_of};
+
+use crate::arena::NodeArena;
+use art_nodes::{
+    InnerNode4, InnerNode16, InnerNode48, InnerNode256, LeafNode, NodeType, OpaqueNodePtr,
+};
+
+/// A node that was read, lent as long as the arena is.
+#[derive(Drop)]
+pub enum VisitedNode<'a, K, V, const PREFIX_LEN: usize> {
+    /// One of the smallest inner nodes.
+    Node4(&'a InnerNode4<K, V, PREFIX_LEN>),
+    /// An inner node of up to 16 children.
+    Node16(&'a InnerNode16<K, V, PREFIX_LEN>),
+    /// An inner node of up to 48 children.
+    Node48(&'a InnerNode48<K, V, PREFIX_LEN>),
+    /// One of the largest inner nodes.
+    Node256(&'a InnerNode256<K, V, PREFIX_LEN>),
+    /// A leaf.
+    Leaf(&'a LeafNode<K, V>),
+}
+
+/// Something that is read step by step, and how many steps were made.
+#[derive(Drop)]
+pub struct Reader<'a, T> {
+    arena: &'a T,
+    count: u64,
+}
+
+/// The one way to the nodes of an arena for a search whose reads are counted.
+pub type ArenaReader<'a, K, V, const PREFIX_LEN: usize> = Reader<'a, NodeArena<K, V, PREFIX_LEN>>;
+
+impl<'a, T> Reader<'a, T> {
+    /// A reader that has read nothing yet.
+    pub fn new(arena: &'a T) -> Self
+        ensures arena { result.arena.now ≡ arena.now }
+        ensures count { result.count ≡ 0 }
+    {
+        Reader { arena, count: 0 }
+    }
+
+    /// How many nodes were read so far. A count that reaches the greatest number stays there.
+    pub fn count(&self) -> u64
+        ensures { result ≡ self.now.count }
+    {
+        self.count
+    }
+
+    // One step.
+    fn step(&mut self) -> &'a T
+        ensures value { result.now ≡ self.old.arena.now }
+        ensures kept { self.new.arena.now ≡ self.old.arena.now }
+        ensures counts { self.new.count ≡ min (self.old.count + 1) (2 ^ 64 - 1) }
+    {
+        self.count = self.count.saturating_add(1);
+        self.arena
+    }
+}
+
+impl<'a, K, V, const PREFIX_LEN: usize> Reader<'a, NodeArena<K, V, PREFIX_LEN>> {
+    /// Reads the node under this name. Each call counts one.
+    pub fn visit(&mut self, name: OpaqueNodePtr) -> VisitedNode<'a, K, V, PREFIX_LEN>
+        requires { IsSome (held_at self.old.arena.now name) }
+        ensures value { held_at self.old.arena.now name ≡ Some (held_of result) }
+        ensures kept { self.new.arena.now ≡ self.old.arena.now }
+        ensures counts { self.new.count ≡ min (self.old.count + 1) (2 ^ 64 - 1) }
+    {
+        node_in(self.step(), name)
+    }
+}
+
+// The node under this name.
+fn node_in<'a, K, V, const PREFIX_LEN: usize>(
+    arena: &'a NodeArena<K, V, PREFIX_LEN>,
+    name: OpaqueNodePtr,
+) -> VisitedNode<'a, K, V, PREFIX_LEN>
+    requires { IsSome (held_at arena.now name) }
+    ensures { held_at arena.now name ≡ Some (held_of result) }
+{
+    let slot = name.slot();
+    match name.node_type() {
+        NodeType::Node4 => match arena.nodes4.get(slot) {
+            Some(node) => VisitedNode::Node4(node),
+            None => unreachable!(),
+        },
+        NodeType::Node16 => match arena.nodes16.get(slot) {
+            Some(node) => VisitedNode::Node16(node),
+            None => unreachable!(),
+        },
+        NodeType::Node48 => match arena.nodes48.get(slot) {
+            Some(node) => VisitedNode::Node48(node),
+            None => unreachable!(),
+        },
+        NodeType::Node256 => match arena.nodes256.get(slot) {
+            Some(node) => VisitedNode::Node256(node),
+            None => unreachable!(),
+        },
+        NodeType::Leaf => match arena.leaves.get(slot) {
+            Some(node) => VisitedNode::Leaf(node),
+            None => unreachable!(),
+        },
+    }
+}

@@ -1,0 +1,6 @@
+use Rattle.std.proofs.Common.{◌≤◌, arith}
+use Rattle.art_nodes.proofs.DirectLemmas.{IsInnerNode-table}
+use Rattle.art_nodes.proofs.direct.InnerNodeDirectInnerNodeCommon.header.Goals as goal
+
+pub returns-clause-is_inner_node : goal.returns-clause-is_inner_node
+returns-clause-is_inner_node g c = rw (← c.self.view_is) (IsInnerNode-table g.row.PREFIX_LEN 256 c.self.inside.header c.self.inside.slots c.self.invariant.whole c.num_children-count.ensures.is_header c.self.invariant.counts c.num_children-count.ensures.is_header.counts)

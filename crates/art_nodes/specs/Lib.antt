@@ -1,0 +1,12 @@
+pub mod ChildIter
+pub mod Concrete
+pub mod Header
+pub mod Indirect
+pub mod InnerNode
+pub mod Kind
+pub mod Leaf
+pub mod Name
+pub mod Place
+pub mod PrefixMatch
+pub mod Sorted
+pub mod Table

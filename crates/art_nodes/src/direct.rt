@@ -1,0 +1,121 @@
+//! The inner node with room for every byte: a place for each.
+ghost use Rattle.std.specs.Prelude.{◌≡◌};
+ghost use Rattle.art_nodes.specs.Table.{held_at};
+
+use crate::child_iter::ChildIter;
+use crate::header::Header;
+use crate::inner_node::{InnerNodeCommon, InnerNodeInit};
+use crate::names::OpaqueNodePtr;
+use crate::sealed::Sealed;
+use std::fmt;
+use std::marker::{Model, PhantomData};
+
+/// The largest inner node.
+pub type InnerNode256<K, V, const PREFIX_LEN: usize> = InnerNodeDirect<K, V, PREFIX_LEN>;
+
+/// An inner node with a place for the child of each byte.
+pub struct InnerNodeDirect<K, V, const PREFIX_LEN: usize> {
+    header: Header<PREFIX_LEN>,
+    slots: [Option<OpaqueNodePtr>; 256],
+    tree: PhantomData<(K, V)>,
+}
+
+impl<K, V, const PREFIX_LEN: usize> Model for InnerNodeDirect<K, V, PREFIX_LEN> {
+    ghost use Rattle.art_nodes.specs.InnerNode.{InnerNode};
+    ghost use Rattle.art_nodes.specs.Table.{children_from, IsCountedTable};
+
+    ghost Value = { InnerNode };
+
+    ghost view = { λ n. record { header = n.header; children = children_from 0 n.slots } };
+
+    ghost invariant = { λ n. IsCountedTable n.header n.slots };
+}
+
+// The child in the place of this byte.
+#[tactic(auto, using(crate::proofs::DirectLemmas::holds))]
+fn held(slots: &[Option<OpaqueNodePtr>; 256], byte: u8) -> Option<OpaqueNodePtr>
+    ensures { result ≡ held_at slots.now byte }
+{
+    slots[usize::from(byte)]
+}
+
+impl<K, V, const PREFIX_LEN: usize> Drop for InnerNodeDirect<K, V, PREFIX_LEN> {
+    fn drop(self) {
+        let InnerNodeDirect {
+            header: _,
+            slots: _,
+            tree: _,
+        } = self;
+    }
+}
+
+impl<K, V, const PREFIX_LEN: usize> Sealed for InnerNodeDirect<K, V, PREFIX_LEN> {}
+
+impl<K, V, const PREFIX_LEN: usize> InnerNodeInit<PREFIX_LEN>
+    for InnerNodeDirect<K, V, PREFIX_LEN> {
+    ghost inner = { λ n. n };
+
+    fn from_prefix(bytes: &[u8], len: usize) -> Self {
+        InnerNodeDirect {
+            header: Header::new(bytes, len),
+            slots: [None; 256],
+            tree: PhantomData,
+        }
+    }
+}
+
+impl<K, V, const PREFIX_LEN: usize> InnerNodeCommon<PREFIX_LEN>
+    for InnerNodeDirect<K, V, PREFIX_LEN> {
+    ghost room = { 256 };
+
+    fn header(&self) -> &Header<PREFIX_LEN> {
+        let _count = self.header.num_children();
+        &self.header
+    }
+
+    fn copy_prefix(&mut self, prefix: &Header<PREFIX_LEN>) {
+        self.header.copy_prefix(prefix);
+    }
+
+    fn is_full(&self) -> bool {
+        self.header.num_children() == 256
+    }
+
+    fn lookup_child(&self, byte: u8) -> Option<OpaqueNodePtr> {
+        held(&self.slots, byte)
+    }
+
+    fn write_child(&mut self, byte: u8, name: OpaqueNodePtr) {
+        let at = usize::from(byte);
+        match held(&self.slots, byte) {
+            Some(_) => self.slots[at] = Some(name),
+            None => {
+                self.slots[at] = Some(name);
+                self.header.inc_num_children();
+            }
+        }
+    }
+
+    fn remove_child(&mut self, byte: u8) -> Option<OpaqueNodePtr> {
+        let at = usize::from(byte);
+        match held(&self.slots, byte) {
+            Some(name) => {
+                self.slots[at] = None;
+                self.header.dec_num_children();
+                Some(name)
+            }
+            None => None,
+        }
+    }
+
+    fn iter(&self) -> ChildIter<'_> {
+        ChildIter::direct(&self.slots)
+    }
+}
+
+impl<K, V, const PREFIX_LEN: usize> fmt::Debug for InnerNodeDirect<K, V, PREFIX_LEN> {
+    fn fmt<W: fmt::Write>(&self, f: &mut fmt::Formatter<W>) -> fmt::Result {
+        let header = &self.header;
+        write!(f, "InnerNodeDirect({header:?})")
+    }
+}

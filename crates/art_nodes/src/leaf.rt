@@ -1,0 +1,168 @@
+//! Leaves: a key and its value, linked to the leaves beside them.
+ghost use Rattle.std.specs.Prelude.{◌≡◌, ◌↔◌, IsTrue, None, IfOk, IsOk};
+ghost use Rattle.std.specs.Borrow.{sem};
+
+use crate::inner_node::Node;
+use crate::kind::KindLeaf;
+use crate::names::NodePtr;
+use crate::sealed::Sealed;
+use crate::slot::Slot;
+use art_bytes::AsBytes;
+use std::alloc::AllocError;
+
+/// A leaf: a key with its value, and the names of the leaves before and after it in the order of keys.
+#[derive(Debug, Drop)]
+pub struct LeafNode<K, V> {
+    key: K,
+    value: V,
+    previous: Option<Slot>,
+    next: Option<Slot>,
+}
+
+impl<K, V> Sealed for LeafNode<K, V> {}
+
+impl<K, V> Node for LeafNode<K, V> {
+    type Kind = KindLeaf;
+
+    type Key = K;
+
+    type Value = V;
+}
+
+impl<K, V> LeafNode<K, V> {
+    ghost use Rattle.art_nodes.specs.Leaf.{lends_value};
+
+    /// A leaf without neighbours.
+    pub fn with_no_siblings(key: K, value: V) -> Self
+        ensures key { result.key ≡ key }
+        ensures value { result.value ≡ value }
+        ensures previous { result.previous ≡ None }
+        ensures next { result.next ≡ None }
+    {
+        LeafNode {
+            key,
+            value,
+            previous: None,
+            next: None,
+        }
+    }
+
+    /// The key.
+    pub fn key_ref(&self) -> &K
+        ensures { result.now ≡ self.now.key }
+    {
+        &self.key
+    }
+
+    /// The value.
+    pub fn value_ref(&self) -> &V
+        ensures { result.now ≡ self.now.value }
+    {
+        &self.value
+    }
+
+    /// The key and the value.
+    pub fn entry_ref(&self) -> (&K, &V)
+        ensures key { result.0.now ≡ self.now.key }
+        ensures value { result.1.now ≡ self.now.value }
+    {
+        (&self.key, &self.value)
+    }
+
+    /// The value, for writing.
+    pub fn value_mut(&mut self) -> &mut V
+        ensures* writes_back { sem 𝓛 (lends_value K.row V.row self.entry result) }
+        ensures value { result.now ≡ self.old.value }
+    {
+        &mut self.value
+    }
+
+    /// The key, and the value for writing.
+    pub fn entry_mut(&mut self) -> (&K, &mut V)
+        ensures* writes_back { sem 𝓛 (lends_value K.row V.row self.entry result.1) }
+        ensures key { result.0.now ≡ self.old.key }
+        ensures value { result.1.now ≡ self.old.value }
+    {
+        (&self.key, &mut self.value)
+    }
+
+    /// The key and the value, which the leaf gives up.
+    pub fn into_entry(self) -> (K, V)
+        ensures key { result.0 ≡ self.key }
+        ensures value { result.1 ≡ self.value }
+    {
+        let LeafNode {
+            key,
+            value,
+            previous: _,
+            next: _,
+        } = self;
+        (key, value)
+    }
+
+    /// The name of the leaf before this one, if there is one.
+    pub fn previous(&self) -> Option<NodePtr<KindLeaf>>
+        ensures { result ≡ self.now.previous }
+    {
+        match self.previous {
+            Some(slot) => Some(NodePtr::from_slot(slot.get())),
+            None => None,
+        }
+    }
+
+    /// The name of the leaf after this one, if there is one.
+    pub fn next(&self) -> Option<NodePtr<KindLeaf>>
+        ensures { result ≡ self.now.next }
+    {
+        match self.next {
+            Some(slot) => Some(NodePtr::from_slot(slot.get())),
+            None => None,
+        }
+    }
+
+    /// Names the leaf before this one, or none.
+    pub fn set_previous(&mut self, leaf: Option<NodePtr<KindLeaf>>)
+        ensures { self.new ≡ record self.old { previous = leaf } }
+    {
+        self.previous = slot_of(leaf);
+    }
+
+    /// Names the leaf after this one, or none.
+    pub fn set_next(&mut self, leaf: Option<NodePtr<KindLeaf>>)
+        ensures { self.new ≡ record self.old { next = leaf } }
+    {
+        self.next = slot_of(leaf);
+    }
+}
+
+// The slot of a name.
+fn slot_of(name: Option<NodePtr<KindLeaf>>) -> Option<Slot>
+    ensures { result ≡ name }
+{
+    match name {
+        Some(name) => Some(Slot::new(name.slot())),
+        None => None,
+    }
+}
+
+impl<K: AsBytes, V> LeafNode<K, V> {
+    /// Whether the bytes of the key are these.
+    pub fn compare_full_key(&self, bytes: &[u8]) -> bool
+        ensures { IsTrue result ↔ (K.bytes self.now.key ≡ bytes.now) }
+    {
+        self.key.as_bytes() == bytes
+    }
+}
+
+impl<K: Clone, V: Clone> LeafNode<K, V> {
+    /// A leaf of a clone of the key and a clone of the value, without neighbours. It is refused where one of
+    /// the clones is.
+    pub fn clone_without_siblings(&self) -> Result<Self, AllocError>
+        ensures key { IfOk result (λ leaf. K.is_clone self.now.key leaf.key) }
+        ensures value { IfOk result (λ leaf. V.is_clone self.now.value leaf.value) }
+        ensures links { IfOk result (λ leaf. (leaf.previous ≡ None) × (leaf.next ≡ None)) }
+        ensures succeeds { K.is_infallible self.now.key → V.is_infallible self.now.value → IsOk result }
+    {
+        Ok(LeafNode::with_no_siblings(self.key.clone()?, self.value.clone()?))
+    }
+}

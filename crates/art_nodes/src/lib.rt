@@ -1,0 +1,42 @@
+//! Names, headers, inner nodes and leaves of an adaptive radix tree.
+//! The layer above uses one contract: an inner node of any kind is a header and an ascending list of (byte, name).
+//! The definitions stand in `specs/Kind.antt`, `specs/Name.antt`, `specs/Header.antt` and `specs/InnerNode.antt`.
+#![tactic(auto)]
+
+mod builder;
+mod child_iter;
+mod concrete;
+mod direct;
+mod header;
+mod indirect;
+mod inner_node;
+mod kind;
+mod kinds;
+mod leaf;
+mod names;
+mod non_max_index;
+mod prefix_match;
+mod sealed;
+mod slot;
+mod sorted;
+
+pub use builder::{HasChild, HasOneChild, InnerNodeBuilder, NoChild};
+pub use child_iter::{ChildIter, are_valid_child_bounds};
+pub use concrete::{ConcreteInnerNodePtr, ConcreteNodePtr};
+pub use direct::{InnerNode256, InnerNodeDirect};
+pub use header::Header;
+pub use indirect::{InnerNode48, InnerNodeIndirect};
+pub use inner_node::{InnerNode, InnerNodeCommon, InnerNodeInit, Node};
+pub use kind::{Kind4, Kind16, Kind48, Kind256, KindLeaf, KindRow, NodeKind, NodeType};
+pub use leaf::LeafNode;
+pub use names::{NodePtr, OpaqueNodePtr};
+pub use non_max_index::{NonMaxIndex, TryFromByteError};
+pub use prefix_match::{
+    AttemptOptimisticPrefixMatch, ExplicitMismatch, NodePrefix, OptimisticMismatch,
+    PessimisticMismatch, PrefixMatch,
+};
+pub use sealed::Sealed;
+pub use sorted::{InnerNode4, InnerNode16, InnerNodeSorted};
+
+#[cfg(test)]
+mod tests;
