@@ -1,13 +1,11 @@
 -- That addresses have fixed bytes: their octets. Nothing here is a definition.
 use Rattle.std.proofs.Common.{◌≡◌, ℕ, zero, suc, ◌+◌, ◌*◌, ◌/◌, ◌%◌, ◌<◌, List, [], ◌∷◌, length, refl, sym, ap, ◌∙◌, arith, lit<}
-use Rattle.std.proofs.lemmas.List.Elements.{All-nil, All-cons, All-head, All-tail}
+use Rattle.std.proofs.lemmas.List.Elements.{All-head, All-tail}
 use Rattle.std.specs.declared.cmp.Ordering.{Ordering}
 use Rattle.std.specs.declared.cmp.Ordering.TheVariants.{Less, Equal, Greater}
 use Rattle.std.specs.Ordering.{nat_cmp, ordering_then}
 use Rattle.std.specs.Cmp.Lexicographic.{slice_cmp}
-use Rattle.std.specs.declared.net.Ipv4Addr.{Ipv4Addr}
-use Rattle.std.specs.declared.net.Ipv6Addr.{Ipv6Addr}
-use Rattle.std.specs.Net.Addr.{ipv4_octets, ipv6_octets, ipv6_segments, octets_of, segments_of}
+use Rattle.std.specs.Net.Addr.{ipv4_octets, ipv6_octets, octets_of, segments_of}
 use Rattle.art_bytes.specs.Keys.{AreBytes, bytes_cmp}
 use Rattle.art_bytes.specs.NumberLaws.{digit_first}
 use Rattle.art_bytes.specs.Mappings.{HaveFixedBytes}

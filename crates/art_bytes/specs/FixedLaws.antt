@@ -1,13 +1,11 @@
 -- That numbers have fixed bytes, once over the width. Nothing here is a definition.
-use Rattle.std.proofs.Common.{◌≡◌, ℕ, ℤ, ◌^◌, ◌<◌, List, length, refl, sym, ap, ◌∙◌, subst}
+use Rattle.std.proofs.Common.{◌≡◌, ℕ, ℤ, ◌^◌, ◌<◌, List, ap, ◌∙◌, subst}
 use denote.Struct.Props.{props}
 use Rattle.std.specs.declared.cmp.Ordering.{Ordering}
-use Rattle.std.specs.Ordering.{nat_cmp, int_cmp}
-use Rattle.std.specs.Int.{Width, byte_len}
-use Rattle.std.specs.Int.RustNames.{FitsSigned, unsigned_abs}
-use Rattle.art_bytes.specs.Numbers.{big_endian, flipped}
+use Rattle.std.specs.Ordering.{nat_cmp}
+use Rattle.std.specs.Int.RustNames.{unsigned_abs}
+use Rattle.art_bytes.specs.Numbers.{big_endian}
 use Rattle.art_bytes.specs.NumberLaws.{length-big_endian, AreBytes-big_endian, big_endian-injective, bytes_cmp-big_endian}
-use Rattle.art_bytes.specs.FlipLaws.{flipped-bound, flipped-injective, int_cmp-flipped}
 use Rattle.art_bytes.specs.Mappings.{HaveFixedBytes}
 
 pub unsigned_bytes : (width : ℕ) → 0 < width → HaveFixedBytes width (λ n. n < 256 ^ width) (big_endian width) nat_cmp

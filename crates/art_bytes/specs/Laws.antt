@@ -1,5 +1,5 @@
 -- The laws that functions of the module `laws` carry.
-use Rattle.std.specs.Prelude.{◌≡◌, ℕ, ℤ, ◌<◌, ◌^◌, ◌++◌, List}
+use Rattle.std.specs.Prelude.{ℕ, ℤ, ◌++◌, List}
 use Rattle.std.specs.Int.{w64}
 use Rattle.art_bytes.specs.Numbers.{big_endian, flipped}
 

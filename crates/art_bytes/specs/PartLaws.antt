@@ -1,10 +1,11 @@
 -- Bytes that are cut into parts of one width: a list of values has them where each part is a value's. Nothing here is a definition.
-use Rattle.std.proofs.Common.{◌≡◌, ℕ, suc, zero, ◌+◌, ◌-◌, ◌*◌, ◌<◌, ◌≤◌, List, [], ◌∷◌, ◌++◌, length, take, drop, refl, sym, ap, ◌∙◌, subst, arith, length-append, get_or}
-use Rattle.std.specs.List.{AllByRecursion, flat_map}
+use Rattle.std.proofs.Common.{◌≡◌, ℕ, suc, zero, ◌+◌, ◌*◌, ◌<◌, List, [], ◌∷◌, ◌++◌, length, take, drop, refl, sym, ap, ◌∙◌, arith, get_or}
+use Rattle.std.specs.List.{flat_map}
 use Rattle.std.proofs.Math.Seq.{drop-append-add}
 use Rattle.std.proofs.lemmas.Grind.{common_steps}
 use Rattle.std.specs.declared.cmp.Ordering.{Ordering}
 use Rattle.art_bytes.specs.Mappings.{HaveFixedBytes}
+use Rattle.art_bytes.specs.ConcatLaws.{length-list}
 use Rattle.art_bytes.specs.Lists.{HaveListBytes, part_at, HasValue}
 
 part_first : (width : ℕ) (a b : List ℕ) → length a ≡ width → part_at width (a ++ b) 0 ≡ a
@@ -73,3 +74,11 @@ module _ {V : Type 0} (width : ℕ) (P : V → Type 0) (f : V → List ℕ) (cmp
           let rest = make n (drop width bytes) (λ k below. let at = parts (suc k) (omega arith) in (at.0, at.1, at.2 ∙ sym (part_rest width bytes k))) in
           let long = rest.1 in
           (head.0 ∷ rest.0, omega arith, at_each bytes head.0 rest.0 head.1 head.2 rest.2)
+
+  -- a list of n values has n times the width of bytes
+  pub long_list : (n : ℕ) (bytes : List ℕ) → ((xs : List V) × HaveListBytes P f xs bytes × (length xs ≡ n)) → length bytes ≡ n * width
+  long_list n bytes (xs, h, e) = ap length h.1 ∙ length-list width P f cmp laws xs h.0 ∙ ap (λ m. m * width) e
+
+  -- part k of the bytes of n values is a value's
+  pub part_of_list : (n : ℕ) (bytes : List ℕ) (k : ℕ) → k < n → ((xs : List V) × HaveListBytes P f xs bytes × (length xs ≡ n)) → HasValue P f (part_at width bytes k)
+  part_of_list n bytes k below (xs, h, e) = parts_of_list xs bytes h k (omega arith)

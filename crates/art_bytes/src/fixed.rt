@@ -15,7 +15,7 @@ pub use stored::StoredAsNumber;
 pub use unsigned::Unsigned;
 
 /// A value of `WIDTH` bytes, whose order is the order of its bytes.
-pub trait FixedBytes: Ord + Drop {
+pub trait FixedBytes: Ord + Copy {
     type Array: AsBytes + Drop;
 
     ghost WIDTH: { ℕ };
@@ -28,6 +28,9 @@ pub trait FixedBytes: Ord + Drop {
 
     /// The bytes of a value.
     ghost fixed_bytes: { Self → List ℕ };
+
+    /// Some value of the type.
+    fn some() -> Self;
 
     /// The value's bytes. It takes no memory.
     fn to_array(self) -> Self::Array

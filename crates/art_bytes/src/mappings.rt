@@ -1,4 +1,5 @@
 //! The mappings.
+mod arrays;
 mod concat;
 mod identity;
 mod lists;

@@ -91,6 +91,18 @@ fn pair(rt: &impl AllocGlobal, bytes: &[u8]) -> Result<Option<(u8, NonZeroU8)>, 
 }
 
 #[test]
+fn array_of_numbers(rt: HostRuntime) -> Result<(), Fail> {
+    let bytes = ToIBE::to_bytes(rt.alloc(), [-1i16, 2])?;
+    is(&rt, &bytes, &[0x7f, 0xff, 0x80, 2]);
+    let read: Option<[i16; 2]> = ToIBE::checked_from_bytes(rt.alloc(), bytes)?;
+    assert!(rt; read.ok_or("none")? == [-1, 2]);
+    let more = [0u8, 1, 0, 2].to_vec(rt.alloc())?;
+    let none: Option<[u16; 3]> = ToUBE::checked_from_bytes(rt.alloc(), more)?;
+    assert!(rt; none.is_none());
+    Ok(())
+}
+
+#[test]
 fn tuple_read_back(rt: HostRuntime) -> Result<(), Fail> {
     let found = pair(&rt, &[1, 2])?.ok_or("none")?;
     assert_eq!(rt; found.0, 1);

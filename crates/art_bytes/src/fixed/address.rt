@@ -25,6 +25,10 @@ impl FixedBytes for Ipv4Addr {
 
     ghost have_bytes = { ipv4_bytes };
 
+    fn some() -> Ipv4Addr {
+        Ipv4Addr::UNSPECIFIED
+    }
+
     fn to_array(self) -> [u8; 4] {
         self.octets()
     }
@@ -48,6 +52,10 @@ impl FixedBytes for Ipv6Addr {
     ghost fixed_bytes = { ipv6_octets };
 
     ghost have_bytes = { ipv6_bytes };
+
+    fn some() -> Ipv6Addr {
+        Ipv6Addr::UNSPECIFIED
+    }
 
     fn to_array(self) -> [u8; 16] {
         let octets = self.octets();

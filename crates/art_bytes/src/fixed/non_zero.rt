@@ -248,6 +248,10 @@ impl FixedBytes for NonZeroU8 {
 
     ghost have_bytes = { stored_bytes non_zero_u8_get (λ _. Unit {0}) (λ m n. nat_cmp (non_zero_u8_get m) (non_zero_u8_get n)) 1 _ _ _ (λ m n hm hn e. one_holder (λ v ok. record { value = v; ok = ok }) above_zero m.value n.value m.ok n.ok e) (λ m n hm hn. refl) (unsigned_bytes 1 (lit< tt)) };
 
+    fn some() -> NonZeroU8 {
+        NonZeroU8::MIN
+    }
+
     fn to_array(self) -> [u8; 1] {
         self.to_number().to_array()
     }
@@ -269,6 +273,10 @@ impl FixedBytes for NonZeroU16 {
     ghost fixed_bytes = { λ v. big_endian 2 (non_zero_u16_get v) };
 
     ghost have_bytes = { stored_bytes non_zero_u16_get (λ _. Unit {0}) (λ m n. nat_cmp (non_zero_u16_get m) (non_zero_u16_get n)) 2 _ _ _ (λ m n hm hn e. one_holder (λ v ok. record { value = v; ok = ok }) above_zero m.value n.value m.ok n.ok e) (λ m n hm hn. refl) (unsigned_bytes 2 (lit< tt)) };
+
+    fn some() -> NonZeroU16 {
+        NonZeroU16::MIN
+    }
 
     fn to_array(self) -> [u8; 2] {
         self.to_number().to_array()
@@ -292,6 +300,10 @@ impl FixedBytes for NonZeroU32 {
 
     ghost have_bytes = { stored_bytes non_zero_u32_get (λ _. Unit {0}) (λ m n. nat_cmp (non_zero_u32_get m) (non_zero_u32_get n)) 4 _ _ _ (λ m n hm hn e. one_holder (λ v ok. record { value = v; ok = ok }) above_zero m.value n.value m.ok n.ok e) (λ m n hm hn. refl) (unsigned_bytes 4 (lit< tt)) };
 
+    fn some() -> NonZeroU32 {
+        NonZeroU32::MIN
+    }
+
     fn to_array(self) -> [u8; 4] {
         self.to_number().to_array()
     }
@@ -313,6 +325,10 @@ impl FixedBytes for NonZeroU64 {
     ghost fixed_bytes = { λ v. big_endian 8 (non_zero_u64_get v) };
 
     ghost have_bytes = { stored_bytes non_zero_u64_get (λ _. Unit {0}) (λ m n. nat_cmp (non_zero_u64_get m) (non_zero_u64_get n)) 8 _ _ _ (λ m n hm hn e. one_holder (λ v ok. record { value = v; ok = ok }) above_zero m.value n.value m.ok n.ok e) (λ m n hm hn. refl) (unsigned_bytes 8 (lit< tt)) };
+
+    fn some() -> NonZeroU64 {
+        NonZeroU64::MIN
+    }
 
     fn to_array(self) -> [u8; 8] {
         self.to_number().to_array()
@@ -336,6 +352,10 @@ impl FixedBytes for NonZeroU128 {
 
     ghost have_bytes = { stored_bytes non_zero_u128_get (λ _. Unit {0}) (λ m n. nat_cmp (non_zero_u128_get m) (non_zero_u128_get n)) 16 _ _ _ (λ m n hm hn e. one_holder (λ v ok. record { value = v; ok = ok }) above_zero m.value n.value m.ok n.ok e) (λ m n hm hn. refl) (unsigned_bytes 16 (lit< tt)) };
 
+    fn some() -> NonZeroU128 {
+        NonZeroU128::MIN
+    }
+
     fn to_array(self) -> [u8; 16] {
         self.to_number().to_array()
     }
@@ -357,6 +377,10 @@ impl FixedBytes for NonZeroI8 {
     ghost fixed_bytes = { λ v. big_endian 1 (flipped w8 (non_zero_i8_get v)) };
 
     ghost have_bytes = { stored_bytes non_zero_i8_get (λ _. Unit {0}) (λ m n. int_cmp (non_zero_i8_get m) (non_zero_i8_get n)) 1 _ _ _ (λ m n hm hn e. one_holder (λ v ok. record { value = v; ok = ok }) apart_from_zero m.value n.value m.ok n.ok e) (λ m n hm hn. refl) (stored_bytes (flipped w8) (FitsSigned w8) int_cmp 1 _ _ _ (flipped-injective w8) (int_cmp-flipped w8) (unsigned_bytes 1 (lit< tt))) };
+
+    fn some() -> NonZeroI8 {
+        NonZeroI8::MIN
+    }
 
     fn to_array(self) -> [u8; 1] {
         self.to_number().to_array()
@@ -380,6 +404,10 @@ impl FixedBytes for NonZeroI16 {
 
     ghost have_bytes = { stored_bytes non_zero_i16_get (λ _. Unit {0}) (λ m n. int_cmp (non_zero_i16_get m) (non_zero_i16_get n)) 2 _ _ _ (λ m n hm hn e. one_holder (λ v ok. record { value = v; ok = ok }) apart_from_zero m.value n.value m.ok n.ok e) (λ m n hm hn. refl) (stored_bytes (flipped w16) (FitsSigned w16) int_cmp 2 _ _ _ (flipped-injective w16) (int_cmp-flipped w16) (unsigned_bytes 2 (lit< tt))) };
 
+    fn some() -> NonZeroI16 {
+        NonZeroI16::MIN
+    }
+
     fn to_array(self) -> [u8; 2] {
         self.to_number().to_array()
     }
@@ -401,6 +429,10 @@ impl FixedBytes for NonZeroI32 {
     ghost fixed_bytes = { λ v. big_endian 4 (flipped w32 (non_zero_i32_get v)) };
 
     ghost have_bytes = { stored_bytes non_zero_i32_get (λ _. Unit {0}) (λ m n. int_cmp (non_zero_i32_get m) (non_zero_i32_get n)) 4 _ _ _ (λ m n hm hn e. one_holder (λ v ok. record { value = v; ok = ok }) apart_from_zero m.value n.value m.ok n.ok e) (λ m n hm hn. refl) (stored_bytes (flipped w32) (FitsSigned w32) int_cmp 4 _ _ _ (flipped-injective w32) (int_cmp-flipped w32) (unsigned_bytes 4 (lit< tt))) };
+
+    fn some() -> NonZeroI32 {
+        NonZeroI32::MIN
+    }
 
     fn to_array(self) -> [u8; 4] {
         self.to_number().to_array()
@@ -424,6 +456,10 @@ impl FixedBytes for NonZeroI64 {
 
     ghost have_bytes = { stored_bytes non_zero_i64_get (λ _. Unit {0}) (λ m n. int_cmp (non_zero_i64_get m) (non_zero_i64_get n)) 8 _ _ _ (λ m n hm hn e. one_holder (λ v ok. record { value = v; ok = ok }) apart_from_zero m.value n.value m.ok n.ok e) (λ m n hm hn. refl) (stored_bytes (flipped w64) (FitsSigned w64) int_cmp 8 _ _ _ (flipped-injective w64) (int_cmp-flipped w64) (unsigned_bytes 8 (lit< tt))) };
 
+    fn some() -> NonZeroI64 {
+        NonZeroI64::MIN
+    }
+
     fn to_array(self) -> [u8; 8] {
         self.to_number().to_array()
     }
@@ -445,6 +481,10 @@ impl FixedBytes for NonZeroI128 {
     ghost fixed_bytes = { λ v. big_endian 16 (flipped w128 (non_zero_i128_get v)) };
 
     ghost have_bytes = { stored_bytes non_zero_i128_get (λ _. Unit {0}) (λ m n. int_cmp (non_zero_i128_get m) (non_zero_i128_get n)) 16 _ _ _ (λ m n hm hn e. one_holder (λ v ok. record { value = v; ok = ok }) apart_from_zero m.value n.value m.ok n.ok e) (λ m n hm hn. refl) (stored_bytes (flipped w128) (FitsSigned w128) int_cmp 16 _ _ _ (flipped-injective w128) (int_cmp-flipped w128) (unsigned_bytes 16 (lit< tt))) };
+
+    fn some() -> NonZeroI128 {
+        NonZeroI128::MIN
+    }
 
     fn to_array(self) -> [u8; 16] {
         self.to_number().to_array()

@@ -136,6 +136,10 @@ impl FixedBytes for i8 {
 
     ghost have_bytes = { stored_bytes (flipped w8) (FitsSigned w8) int_cmp 1 _ _ _ (flipped-injective w8) (int_cmp-flipped w8) (unsigned_bytes 1 (lit< tt)) };
 
+    fn some() -> i8 {
+        0
+    }
+
     fn to_array(self) -> [u8; 1] {
         self.to_number().to_array()
     }
@@ -157,6 +161,10 @@ impl FixedBytes for i16 {
     ghost fixed_bytes = { λ v. big_endian 2 (flipped w16 v) };
 
     ghost have_bytes = { stored_bytes (flipped w16) (FitsSigned w16) int_cmp 2 _ _ _ (flipped-injective w16) (int_cmp-flipped w16) (unsigned_bytes 2 (lit< tt)) };
+
+    fn some() -> i16 {
+        0
+    }
 
     fn to_array(self) -> [u8; 2] {
         self.to_number().to_array()
@@ -180,6 +188,10 @@ impl FixedBytes for i32 {
 
     ghost have_bytes = { stored_bytes (flipped w32) (FitsSigned w32) int_cmp 4 _ _ _ (flipped-injective w32) (int_cmp-flipped w32) (unsigned_bytes 4 (lit< tt)) };
 
+    fn some() -> i32 {
+        0
+    }
+
     fn to_array(self) -> [u8; 4] {
         self.to_number().to_array()
     }
@@ -202,6 +214,10 @@ impl FixedBytes for i64 {
 
     ghost have_bytes = { stored_bytes (flipped w64) (FitsSigned w64) int_cmp 8 _ _ _ (flipped-injective w64) (int_cmp-flipped w64) (unsigned_bytes 8 (lit< tt)) };
 
+    fn some() -> i64 {
+        0
+    }
+
     fn to_array(self) -> [u8; 8] {
         self.to_number().to_array()
     }
@@ -223,6 +239,10 @@ impl FixedBytes for i128 {
     ghost fixed_bytes = { λ v. big_endian 16 (flipped w128 v) };
 
     ghost have_bytes = { stored_bytes (flipped w128) (FitsSigned w128) int_cmp 16 _ _ _ (flipped-injective w128) (int_cmp-flipped w128) (unsigned_bytes 16 (lit< tt)) };
+
+    fn some() -> i128 {
+        0
+    }
 
     fn to_array(self) -> [u8; 16] {
         self.to_number().to_array()

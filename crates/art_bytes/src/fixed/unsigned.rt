@@ -34,6 +34,10 @@ impl FixedBytes for u8 {
 
     ghost have_bytes = { unsigned_bytes 1 (lit< tt) };
 
+    fn some() -> u8 {
+        0
+    }
+
     fn to_array(self) -> [u8; 1] {
         self.to_be_bytes()
     }
@@ -55,6 +59,10 @@ impl FixedBytes for u16 {
     ghost fixed_bytes = { big_endian 2 };
 
     ghost have_bytes = { unsigned_bytes 2 (lit< tt) };
+
+    fn some() -> u16 {
+        0
+    }
 
     fn to_array(self) -> [u8; 2] {
         self.to_be_bytes()
@@ -78,6 +86,10 @@ impl FixedBytes for u32 {
 
     ghost have_bytes = { unsigned_bytes 4 (lit< tt) };
 
+    fn some() -> u32 {
+        0
+    }
+
     fn to_array(self) -> [u8; 4] {
         self.to_be_bytes()
     }
@@ -100,6 +112,10 @@ impl FixedBytes for u64 {
 
     ghost have_bytes = { unsigned_bytes 8 (lit< tt) };
 
+    fn some() -> u64 {
+        0
+    }
+
     fn to_array(self) -> [u8; 8] {
         self.to_be_bytes()
     }
@@ -121,6 +137,10 @@ impl FixedBytes for u128 {
     ghost fixed_bytes = { big_endian 16 };
 
     ghost have_bytes = { unsigned_bytes 16 (lit< tt) };
+
+    fn some() -> u128 {
+        0
+    }
 
     fn to_array(self) -> [u8; 16] {
         self.to_be_bytes()

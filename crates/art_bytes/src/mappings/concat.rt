@@ -79,7 +79,7 @@ fn push_part<A: FixedBytesMapping<X>, X: Ord>(
 }
 
 // Puts the bytes of the first parts and then those of the last behind those that are there.
-fn push_pair<M: Parts<X>, X: Ord, A: FixedBytesMapping<Y>, Y: Ord + Drop>(
+fn push_pair<M: Parts<X>, X: Ord + Drop, A: FixedBytesMapping<Y>, Y: Ord + Drop>(
     bytes: &mut Vec<u8>,
     alloc: Global,
     first: X,

@@ -1,8 +1,8 @@
 -- What the search for a zero found is what the key keeps or the refusal says.
-use Rattle.std.proofs.Common.{rules, ◌≡◌, refl, subst, sym, ap, ◌∙◌}
+use Rattle.std.proofs.Common.{refl, subst, sym, ap, ◌∙◌}
 use Rattle.std.specs.List.{list_any}
 use Rattle.std.specs.Prelude.{nat_eq}
-use Rattle.art_bytes.specs.Keys.{AreBytes, HasNoZero}
+use Rattle.art_bytes.specs.Keys.{AreBytes}
 use Rattle.art_bytes.specs.KeyLaws.{none_is_zero, some_is_zero}
 use Rattle.art_bytes.proofs.keys.zero_ended.ZeroEnded.new.Goals as goal
 
