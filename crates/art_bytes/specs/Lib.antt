@@ -9,5 +9,6 @@ pub mod Lists
 pub mod Mappings
 pub mod NumberLaws
 pub mod Numbers
+pub mod PairLaws
 pub mod PartLaws
 pub mod ZeroEnded

@@ -3,7 +3,9 @@
 // those two lines. With no word, every scenario is run.
 #![tactic(auto)]
 
-use art_bytes::{AsBytes, BytesMapping, ConcatTuple, Mapped, ToIBE, ToUBE, ZeroEnded, ZeroEndedError};
+use art_bytes::{
+    AsBytes, BytesMapping, ConcatTuple, Mapped, ToIBE, ToUBE, ZeroEnded, ZeroEndedError,
+};
 use std::alloc::{AllocError, Global};
 use std::{env, io};
 
@@ -21,7 +23,11 @@ fn show(rt: &impl Print, when: &str, bytes: &[u8]) -> io::Result<()> {
 }
 
 // The key that the call made, or nothing.
-fn show_made<K: AsBytes>(rt: &impl Print, when: &str, made: &Result<K, AllocError>) -> io::Result<()> {
+fn show_made<K: AsBytes>(
+    rt: &impl Print,
+    when: &str,
+    made: &Result<K, AllocError>,
+) -> io::Result<()> {
     match made {
         Ok(key) => show(rt, when, key.as_bytes()),
         Err(_) => println!(rt; "{when} nothing"),
