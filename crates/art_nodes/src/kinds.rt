@@ -47,7 +47,11 @@ impl<K, V, const PREFIX_LEN: usize> InnerNode<PREFIX_LEN> for InnerNode4<K, V, P
         converted::<Self, InnerNode16<K, V, PREFIX_LEN>, PREFIX_LEN>(self)
     }
 
-    fn shrink(&self) -> InnerNode4<K, V, PREFIX_LEN> {
+    /// There is no smaller kind: an equal node, where the trait's condition asks for none.
+    fn shrink(&self) -> InnerNode4<K, V, PREFIX_LEN>
+        ensures { result ≡ self.now }
+    {
+        let _fits = self.header();
         converted::<Self, InnerNode4<K, V, PREFIX_LEN>, PREFIX_LEN>(self)
     }
 
@@ -115,7 +119,11 @@ impl<K, V, const PREFIX_LEN: usize> InnerNode<PREFIX_LEN> for InnerNode256<K, V,
 
     type ShrunkNode = InnerNode48<K, V, PREFIX_LEN>;
 
-    fn grow(&self) -> InnerNode256<K, V, PREFIX_LEN> {
+    /// There is no larger kind: an equal node, where the trait's condition asks for none.
+    fn grow(&self) -> InnerNode256<K, V, PREFIX_LEN>
+        ensures { result ≡ self.now }
+    {
+        let _fits = self.header();
         converted::<Self, InnerNode256<K, V, PREFIX_LEN>, PREFIX_LEN>(self)
     }
 

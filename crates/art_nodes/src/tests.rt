@@ -189,6 +189,39 @@ fn leaves_and_prefixes(rt: HostRuntime) {
 }
 
 #[test]
+fn built_and_shrunk(rt: HostRuntime) {
+    let builder = InnerNode16::<[u8; 3], u64, 16>::builder(Header::new(&[7, 7], 2));
+    let sixteen = builder
+        .write_child(9, leaf(1))
+        .write_child(0, leaf(2))
+        .write_child(255, leaf(3))
+        .build();
+    assert!(rt; sixteen.min() == Some((0, leaf(2))));
+    assert!(rt; sixteen.max() == Some((255, leaf(3))));
+    assert_eq!(rt; sixteen.header().num_children(), 3);
+    let mut four = sixteen.shrink();
+    assert!(rt; four.lookup_child(9) == Some(leaf(1)));
+    four.copy_prefix(&Header::new(&[1, 2, 3], 3));
+    assert!(rt; four.header().read_prefix() == [1, 2, 3].as_slice());
+    assert_eq!(rt; four.header().num_children(), 3);
+    let empty = Middle::from_header(Header::new(&[5], 1));
+    assert!(rt; empty.min() == None && empty.header().prefix_len() == 1);
+    assert_eq!(rt; empty.shrink().header().prefix_len(), 1);
+    let direct = InnerNode256::<[u8; 3], u64, 16>::from_prefix(&[5], 1);
+    assert_eq!(rt; direct.shrink().header().prefix_len(), 1);
+}
+
+#[test]
+fn leaves_lend_their_pair(rt: HostRuntime) {
+    let mut pair = LeafNode::with_no_siblings([1u8, 2, 3], 7u64);
+    assert!(rt; *pair.key_ref() == [1, 2, 3] && *pair.value_ref() == 7);
+    *pair.entry_mut().1 = 9;
+    assert!(rt; *pair.entry_ref().0 == [1, 2, 3] && *pair.entry_ref().1 == 9);
+    pair.set_previous(Some(NodePtr::from_slot(4)));
+    assert!(rt; pair.previous() == Some(NodePtr::from_slot(4)));
+}
+
+#[test]
 fn weights(rt: HostRuntime) {
     assert_eq!(rt; size_of::<OpaqueNodePtr>(), 9);
     assert_eq!(rt; size_of::<Header<16>>(), 32);
