@@ -2,7 +2,8 @@
 """gate.py COMMAND..: runs the gate, passes on what it prints, and writes to out/gate.md what it cost, crate by crate.
 
 A crate's processor time is what its processes had used when they were last looked at, twice a second; its wall time is from
-the first such look to the last. A process belongs to the crate in whose folder it works. Linux's /proc is read.
+the first such look to the last. A process belongs to the crate in whose folder it works, or to that crate's must-fail edits where it
+checks one of those, in a folder of rt's own. Linux's /proc is read.
 """
 import os
 import re
@@ -15,18 +16,29 @@ TICKS = os.sysconf("SC_CLK_TCK")
 used, seen, peak = {}, {}, {}
 
 
+def crate_of(pid):
+    """The crate that a process works for, or None."""
+    folder = os.readlink(f"/proc/{pid}/cwd")
+    if "/rt-edit" in folder:
+        with open(f"/proc/{pid}/cmdline") as file:
+            name = re.search(r"--crate-name\0(\w+)", file.read())
+        return name and f"{name[1]}, its edits"
+    name = re.search(r"/crates/(\w+)(/|$)", folder)
+    return name and name[1]
+
+
 def look():
-    """Notes, for each process that works in a crate's folder, the crate and the processor time so far."""
+    """Notes, for each process that works for a crate, the crate and the processor time so far."""
     now, held = time.monotonic(), {}
     for pid in filter(str.isdigit, os.listdir("/proc")):
         try:
-            crate = re.search(r"/crates/(\w+)(/|$)", os.readlink(f"/proc/{pid}/cwd"))
-            if not crate:
+            name = crate_of(pid)
+            if not name:
                 continue
-            fields = open(f"/proc/{pid}/stat").read().rpartition(")")[2].split()
+            with open(f"/proc/{pid}/stat") as file:
+                fields = file.read().rpartition(")")[2].split()
         except OSError:
             continue
-        name = crate[1]
         used[name, pid, fields[19]] = (int(fields[11]) + int(fields[12])) / TICKS
         first, _ = seen.get(name, (now, now))
         seen[name] = first, now
@@ -45,7 +57,7 @@ def table(wall, processor):
     yield "|---|---:|---:|---:|"
     for name, (first, last) in sorted(seen.items()):
         spent = sum(it for (of, *_), it in used.items() if of == name)
-        yield f"| `{name}` | {last - first:.0f} | {spent:.0f} | {peak[name] / 2**30:.1f} |"
+        yield f"| {name} | {last - first:.0f} | {spent:.0f} | {peak[name] / 2**30:.1f} |"
     yield f"| all | {wall:.0f} | {processor:.0f} | |"
 
 
