@@ -71,6 +71,10 @@ impl OpaqueNodePtr {
 
 /// What stands in the unused places of a node: the name of the first leaf.
 impl Default for OpaqueNodePtr {
+    ghost use Rattle.art_nodes.specs.declared.kind.NodeType.TheVariants.{Leaf};
+
+    ghost is_default = { λ name. name ≡ record { kind = Leaf; slot = 0 } };
+
     fn default() -> Self {
         OpaqueNodePtr::new(NodeType::Leaf, 0)
     }
