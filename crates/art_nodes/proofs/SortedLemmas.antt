@@ -1,15 +1,14 @@
 -- Lemmas on a sorted node's bytes and names side by side.
-use Rattle.std.proofs.Common.{◌≡◌, ℕ, zero, suc, ◌+◌, ◌-◌, ◌<◌, ◌≤◌, ◌==◌, List, [], ◌∷◌, length, min, Option, Some, None, slice_get, slice_set, slice_index, position, refl, ap, sym, ◌∙◌, subst, arith, zero-le, ◌⊎◌, inl, inr, IsSome}
+use Rattle.std.proofs.Common.{◌≡◌, ℕ, zero, suc, ◌+◌, ◌-◌, ◌<◌, ◌≤◌, ◌==◌, List, [], ◌∷◌, length, Some, None, slice_get, slice_set, slice_index, position, refl, ap, sym, ◌∙◌, arith, zero-le, ◌⊎◌, inl, inr, IsSome}
 use Rattle.std.specs.List.{zip, insert, remove, position_or_len}
 use Rattle.std.proofs.lemmas.Bool.Decides.{eqb_tells, leb_tells}
-use Rattle.std.proofs.lemmas.Grind.{common_steps}
 use Rattle.std.proofs.lemmas.List.{length-set}
 use Rattle.std.proofs.lemmas.List.Edits.{length-insert, length-remove}
 use Rattle.std.proofs.lemmas.Option.{slice_get_past}
 use Rattle.art_nodes.specs.Header.{Header, IsHeader}
-use Rattle.art_nodes.specs.InnerNode.{InnerNode, IsInnerNode, IsAscending, IsAscendingFrom, child_at, with_child, without_child, with_children}
+use Rattle.art_nodes.specs.InnerNode.{InnerNode, IsInnerNode, IsAscendingFrom, child_at, with_child, without_child, with_children}
 use Rattle.art_nodes.specs.Name.{Name}
-use Rattle.art_nodes.specs.Place.{place, StandsAt, BelongsAt}
+use Rattle.art_nodes.specs.Place.{StandsAt, BelongsAt}
 use Rattle.art_nodes.specs.Sorted.{IsSideBySide}
 use Rattle.art_nodes.proofs.PlaceLemmas.{place-within}
 use Rattle.art_nodes.proofs.ChildLemmas.{Held, held, Absent, absent, length-zip_same, length-ascending, IsAscendingFrom-with_child, IsAscendingFrom-without_child}

@@ -1,4 +1,4 @@
-use Rattle.std.proofs.Common.{◌≡◌, ◌==◌, Option, Some, None, position, sym}
+use Rattle.std.proofs.Common.{◌≡◌, ◌==◌, Some, None, position, sym}
 use Rattle.art_nodes.proofs.SortedLemmas.{found-at, found-nowhere}
 use Rattle.art_nodes.proofs.sorted.InnerNodeSortedInnerNodeCommon.lookup_child.Goals as goal
 
