@@ -36,7 +36,10 @@ pub use prefix_match::{
     PessimisticMismatch, PrefixMatch,
 };
 pub use sealed::Sealed;
+pub use slot::Slot;
 pub use sorted::{InnerNode4, InnerNode16, InnerNodeSorted};
 
+#[cfg(test)]
+mod calling;
 #[cfg(test)]
 mod tests;
