@@ -7,6 +7,7 @@ mod arena;
 pub mod laws;
 pub mod links;
 mod reader;
+pub mod replay;
 mod stored;
 
 pub use arena::{LeafPtr, NodeArena, NodeRefused};
