@@ -231,8 +231,8 @@ fn decode_bytes(field: &[u8], bytes: &mut ArrayVec<u8, 2045>) -> bool
     requires { length field.now ≤ 4090 }
     ensures { MatchBool result (Some bytes.new.items ≡ bytes_in field.now) (None ≡ bytes_in field.now) }
 {
-    bytes.clear();
     if field == b"-".as_slice() {
+        bytes.clear();
         return true;
     }
     let len = field.len() / 2;
@@ -242,8 +242,11 @@ fn decode_bytes(field: &[u8], bytes: &mut ArrayVec<u8, 2045>) -> bool
     if field.len() % 2 != 0 {
         return false;
     }
-    // As many bytes as are decoded; what they are does not matter, since they are decoded over.
-    let _ = bytes.try_extend_from_slice(&field[..len]);
+    // As many bytes as are decoded; what they are does not matter, since they are decoded over. Where the field before
+    // had as many, nothing is moved.
+    bytes.truncate(len);
+    let more = len - bytes.len();
+    let _ = bytes.try_extend_from_slice(&field[..more]);
     decode_digits(field, bytes.as_mut_slice())
 }
 
