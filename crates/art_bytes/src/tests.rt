@@ -190,17 +190,29 @@ fn mapped_values(rt: HostRuntime) -> Result<(), Fail> {
     Ok(())
 }
 
+type PairKey = Mapped<ConcatTuple<(ToUBE, ToIBE)>, (u32, i64)>;
+
 #[test]
-fn mapped_tuple(rt: HostRuntime) -> Result<(), Fail> {
-    let least = Mapped::<ConcatTuple<(ToUBE, ToIBE)>, (u32, i64)>::new(rt.alloc(), (1, -5))?;
-    let most = Mapped::<ConcatTuple<(ToUBE, ToIBE)>, (u32, i64)>::new(rt.alloc(), (1, 6))?;
+fn mapped_tuples_in_order(rt: HostRuntime) -> Result<(), Fail> {
+    let least = PairKey::new(rt.alloc(), (1, -5))?;
+    let most = PairKey::new(rt.alloc(), (1, 6))?;
     ordered(&rt, &least, &most);
+    assert_eq!(rt;
+        laws::pair_keys_are_ordered((1, -5), (1, 6)),
+        Ordering::Less
+    );
+    Ok(())
+}
+
+#[test]
+fn mapped_tuple_read_back(rt: HostRuntime) -> Result<(), Fail> {
+    let key = PairKey::new(rt.alloc(), (1, -5))?;
     ends(
         &rt,
-        &least,
+        &key,
         b"\x00\x00\x00\x01\x7f\xff\xff\xff\xff\xff\xff\xfb",
     );
-    assert!(rt; most.get(rt.alloc())? == (1, 6));
+    assert!(rt; key.get(rt.alloc())? == (1, -5));
     Ok(())
 }
 
