@@ -1,22 +1,21 @@
--- That octets have fixed bytes, and that segments and octets tell each other. Nothing here is a definition.
+-- That addresses have fixed bytes: their octets. Nothing here is a definition.
 use Rattle.std.proofs.Common.{◌≡◌, ℕ, zero, suc, ◌+◌, ◌*◌, ◌/◌, ◌%◌, ◌<◌, List, [], ◌∷◌, length, refl, sym, ap, ◌∙◌, arith, lit<}
 use Rattle.std.proofs.lemmas.List.Elements.{All-head, All-tail}
 use Rattle.std.specs.declared.cmp.Ordering.{Ordering}
 use Rattle.std.specs.declared.cmp.Ordering.TheVariants.{Less, Equal, Greater}
 use Rattle.std.specs.Ordering.{nat_cmp, ordering_then}
 use Rattle.std.specs.Cmp.Lexicographic.{slice_cmp}
-use Rattle.std.specs.Net.Addr.{octets_of, segments_of}
+use Rattle.std.specs.Net.Addr.{ipv4_octets, ipv6_octets, octets_of, segments_of}
 use Rattle.art_bytes.specs.Keys.{AreBytes, bytes_cmp}
 use Rattle.art_bytes.specs.NumberLaws.{digit_first}
 use Rattle.art_bytes.specs.Mappings.{HaveFixedBytes}
 
--- octets are their own bytes
-pub octets_have_bytes : (n : ℕ) → 0 < n → HaveFixedBytes n (λ octets. AreBytes octets × (length octets ≡ n)) (λ octets. octets) (λ a b. slice_cmp nat_cmp a b)
-octets_have_bytes n some = record {
-  some = some;
+pub ipv4_bytes : HaveFixedBytes 4 (λ a. AreBytes (ipv4_octets a) × (length (ipv4_octets a) ≡ 4)) ipv4_octets (λ a b. slice_cmp nat_cmp a.octets b.octets)
+ipv4_bytes = record {
+  some = lit< tt;
   long = λ a h. h.1;
   fit = λ a h. h.0;
-  one_value = λ a b ha hb e. e;
+  one_value = λ a b ha hb e. λ i. record { octets = e i };
   ordered = λ a b ha hb. refl;
 }
 
@@ -32,7 +31,7 @@ segment_cmp s t =
     let at_t : t / 256 * 256 + t % 256 ≡ t = omega arith in
     sym (digit_first (s / 256) (t / 256) 256 (s % 256) (t % 256) (omega arith) (omega arith) ∙ ap (λ n. nat_cmp n (t / 256 * 256 + t % 256)) at_s ∙ ap (nat_cmp s) at_t)
 
-pub octets_cmp : (ss ts : List ℕ) → slice_cmp nat_cmp ss ts ≡ bytes_cmp (octets_of ss) (octets_of ts)
+octets_cmp : (ss ts : List ℕ) → slice_cmp nat_cmp ss ts ≡ bytes_cmp (octets_of ss) (octets_of ts)
 octets_cmp [] [] = refl
 octets_cmp [] (t ∷ ts) = refl
 octets_cmp (s ∷ ss) [] = refl
@@ -68,6 +67,13 @@ octets_of-segments_of (suc n) (a ∷ b ∷ octets) e h =
 pub octets_read : (octets segments : List ℕ) → segments ≡ segments_of octets → length octets ≡ 16 → AreBytes octets → octets_of segments ≡ octets
 octets_read octets segments is e h = ap octets_of is ∙ octets_of-segments_of 8 octets e h
 
--- segments of equal octets are the same
-pub one_segments : (ss ts : List ℕ) → octets_of ss ≡ octets_of ts → ss ≡ ts
-one_segments ss ts e = sym (segments_of-octets_of ss) ∙ ap segments_of e ∙ segments_of-octets_of ts
+pub ipv6_bytes : HaveFixedBytes 16 (λ a. AreBytes (ipv6_octets a) × (length (ipv6_octets a) ≡ 16)) ipv6_octets (λ a b. slice_cmp nat_cmp a.segments b.segments)
+ipv6_bytes = record {
+  some = lit< tt;
+  long = λ a h. h.1;
+  fit = λ a h. h.0;
+  one_value = λ a b ha hb e.
+      let same : a.segments ≡ b.segments = sym (segments_of-octets_of a.segments) ∙ ap segments_of e ∙ segments_of-octets_of b.segments in
+      λ i. record { segments = same i };
+  ordered = λ a b ha hb. octets_cmp a.segments b.segments;
+}

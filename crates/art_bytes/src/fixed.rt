@@ -1,6 +1,5 @@
 //! Values of a fixed number of bytes: numbers, numbers that are not 0, addresses.
 ghost use Rattle.std.specs.Prelude.{◌≡◌, ℕ, List, length, MatchOption};
-ghost use Rattle.art_bytes.specs.FixedLaws.{stored_bytes};
 ghost use Rattle.art_bytes.specs.Mappings.{HaveFixedBytes};
 
 mod address;
@@ -12,7 +11,7 @@ mod unsigned;
 use crate::as_bytes::AsBytes;
 pub use address::Address;
 pub use signed::Signed;
-pub use stored::{Plain, StoredAs};
+pub use stored::StoredAsNumber;
 pub use unsigned::Unsigned;
 
 /// A value of `WIDTH` bytes, whose order is the order of its bytes.
@@ -31,7 +30,7 @@ pub trait FixedBytes: Ord + Copy {
     ghost fixed_bytes: { Self → List ℕ };
 
     /// Some value of the type.
-    const SOME: Self;
+    fn some() -> Self;
 
     /// The value's bytes. It takes no memory.
     fn to_array(self) -> Self::Array
@@ -45,30 +44,6 @@ pub trait FixedBytes: Ord + Copy {
         ensures { MatchOption result (¬ ((v : Self) × is_value v × (fixed_bytes v ≡ bytes.now))) (λ v. is_value v × (fixed_bytes v ≡ bytes.now)) };
 
     ghost have_bytes: { HaveFixedBytes WIDTH is_value fixed_bytes Self.cmp };
-}
-
-impl<X: StoredAs> FixedBytes for X {
-    type Array = <X::As as Plain>::Array;
-
-    ghost WIDTH = { X.As.WIDTH };
-
-    const WIDTH: usize = X::As::WIDTH;
-
-    const SOME: X = X::SOME;
-
-    ghost is_value = { λ v. X.in_range v × X.As.is_plain (X.stored v) };
-
-    ghost fixed_bytes = { λ v. X.As.plain_bytes (X.stored v) };
-
-    ghost have_bytes = { stored_bytes X.stored X.in_range X.cmp X.As.WIDTH _ _ _ X.one_value X.same_order X.As.plain_laws };
-
-    fn to_array(self) -> <X::As as Plain>::Array {
-        self.to_plain().to_array()
-    }
-
-    fn checked_from_slice(bytes: &[u8]) -> Option<X> {
-        X::from_plain(X::As::from_slice(bytes))
-    }
 }
 
 // The bytes as an array.

@@ -14,7 +14,7 @@ mod mappings;
 mod tests;
 
 pub use as_bytes::{AsBytes, CloneBytes, NoPrefixesBytes, OrderedBytes};
-pub use fixed::{Address, FixedBytes, Plain, Signed, StoredAs, Unsigned};
+pub use fixed::{Address, FixedBytes, Signed, StoredAsNumber, Unsigned};
 pub use keys::{SliceKey, StrKey, ZeroEnded, ZeroEndedError};
 pub use mapped::Mapped;
 pub use mapping::{BytesMapping, FixedBytesMapping, NoPrefixesMapping, OrderedMapping};

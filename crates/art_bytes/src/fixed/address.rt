@@ -1,11 +1,9 @@
-//! The addresses: each is stored as its octets.
-ghost use Rattle.std.specs.Prelude.{◌≡◌, length, refl};
-ghost use Rattle.std.proofs.Common.{lit<};
+//! The addresses.
+ghost use Rattle.std.specs.Prelude.{◌≡◌, length};
 ghost use Rattle.std.specs.Net.Addr.{ipv4_octets, ipv6_octets};
 ghost use Rattle.art_bytes.specs.Keys.{AreBytes};
-ghost use Rattle.art_bytes.specs.AddressLaws.{octets_have_bytes, octets_cmp, one_segments};
+ghost use Rattle.art_bytes.specs.AddressLaws.{ipv4_bytes, ipv6_bytes};
 
-use super::stored::{Plain, StoredAs};
 use super::{FixedBytes, array_of};
 use std::net::{Ipv4Addr, Ipv6Addr};
 
@@ -14,96 +12,58 @@ pub trait Address: FixedBytes {}
 
 impl Address for Ipv4Addr {}
 
-impl Address for Ipv6Addr {}
-
-impl Plain for [u8; 4] {
+impl FixedBytes for Ipv4Addr {
     type Array = [u8; 4];
 
     ghost WIDTH = { 4 };
 
     const WIDTH: usize = 4;
 
-    ghost is_plain = { λ octets. AreBytes octets × (length octets ≡ 4) };
+    ghost is_value = { λ a. AreBytes (ipv4_octets a) × (length (ipv4_octets a) ≡ 4) };
 
-    ghost plain_bytes = { λ octets. octets };
+    ghost fixed_bytes = { ipv4_octets };
 
-    ghost plain_laws = { octets_have_bytes 4 (lit< tt) };
+    ghost have_bytes = { ipv4_bytes };
 
-    fn to_array(self) -> [u8; 4] {
-        self
+    fn some() -> Ipv4Addr {
+        Ipv4Addr::UNSPECIFIED
     }
 
-    fn from_slice(bytes: &[u8]) -> [u8; 4] {
-        let octets = array_of(bytes);
-        octets
+    fn to_array(self) -> [u8; 4] {
+        self.octets()
+    }
+
+    fn checked_from_slice(bytes: &[u8]) -> Option<Ipv4Addr> {
+        Some(Ipv4Addr::from_octets(array_of(bytes)))
     }
 }
 
-impl Plain for [u8; 16] {
+impl Address for Ipv6Addr {}
+
+impl FixedBytes for Ipv6Addr {
     type Array = [u8; 16];
 
     ghost WIDTH = { 16 };
 
     const WIDTH: usize = 16;
 
-    ghost is_plain = { λ octets. AreBytes octets × (length octets ≡ 16) };
+    ghost is_value = { λ a. AreBytes (ipv6_octets a) × (length (ipv6_octets a) ≡ 16) };
 
-    ghost plain_bytes = { λ octets. octets };
+    ghost fixed_bytes = { ipv6_octets };
 
-    ghost plain_laws = { octets_have_bytes 16 (lit< tt) };
+    ghost have_bytes = { ipv6_bytes };
+
+    fn some() -> Ipv6Addr {
+        Ipv6Addr::UNSPECIFIED
+    }
 
     fn to_array(self) -> [u8; 16] {
-        self
+        let octets = self.octets();
+        octets
     }
 
-    fn from_slice(bytes: &[u8]) -> [u8; 16] {
+    fn checked_from_slice(bytes: &[u8]) -> Option<Ipv6Addr> {
         let octets = array_of(bytes);
-        octets
-    }
-}
-
-impl StoredAs for Ipv4Addr {
-    type As = [u8; 4];
-
-    const SOME: Ipv4Addr = Ipv4Addr::UNSPECIFIED;
-
-    ghost in_range = { λ _. Unit {0} };
-
-    ghost stored = { ipv4_octets };
-
-    ghost one_value = { λ a b ha hb e. λ i. record { octets = e i } };
-
-    ghost same_order = { λ a b ha hb. refl };
-
-    fn to_plain(self) -> [u8; 4] {
-        let octets = self.octets();
-        octets
-    }
-
-    fn from_plain(plain: [u8; 4]) -> Option<Ipv4Addr> {
-        Some(Ipv4Addr::from_octets(plain))
-    }
-}
-
-impl StoredAs for Ipv6Addr {
-    type As = [u8; 16];
-
-    const SOME: Ipv6Addr = Ipv6Addr::UNSPECIFIED;
-
-    ghost in_range = { λ _. Unit {0} };
-
-    ghost stored = { ipv6_octets };
-
-    ghost one_value = { λ a b ha hb e. λ i. record { segments = one_segments a.segments b.segments e i } };
-
-    ghost same_order = { λ a b ha hb. octets_cmp a.segments b.segments };
-
-    fn to_plain(self) -> [u8; 16] {
-        let octets = self.octets();
-        octets
-    }
-
-    fn from_plain(plain: [u8; 16]) -> Option<Ipv6Addr> {
-        Some(Ipv6Addr::from_octets(plain))
+        Some(Ipv6Addr::from_octets(octets))
     }
 }

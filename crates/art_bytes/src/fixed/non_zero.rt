@@ -1,13 +1,15 @@
-//! The numbers that are not 0: each is stored as its number is.
-ghost use Rattle.std.specs.Prelude.{FitsSigned, refl};
+//! The numbers that are not 0.
+ghost use Rattle.std.specs.Prelude.{◌<◌, ◌^◌, FitsSigned, refl};
 ghost use Rattle.std.specs.Int.{w8, w16, w32, w64, w128};
-ghost use Rattle.art_bytes.specs.Numbers.{flipped};
+ghost use Rattle.std.specs.Ordering.{nat_cmp, int_cmp};
+ghost use Rattle.std.proofs.Common.{lit<};
+ghost use Rattle.art_bytes.specs.Numbers.{big_endian, flipped};
 ghost use Rattle.art_bytes.specs.FlipLaws.{flipped-injective, int_cmp-flipped};
 ghost use Rattle.std.specs.Int.NonZero.{non_zero_u8_get, non_zero_u16_get, non_zero_u32_get, non_zero_u64_get, non_zero_u128_get, non_zero_i8_get, non_zero_i16_get, non_zero_i32_get, non_zero_i64_get, non_zero_i128_get};
-ghost use Rattle.art_bytes.specs.FixedLaws.{one_holder, above_zero, apart_from_zero};
+ghost use Rattle.art_bytes.specs.FixedLaws.{stored_bytes, unsigned_bytes, one_holder, above_zero, apart_from_zero};
 
-use super::stored::StoredAs;
-use super::{Signed, Unsigned};
+use super::stored::read_stored;
+use super::{FixedBytes, Signed, StoredAsNumber, Unsigned};
 use std::num::{
     NonZeroI8, NonZeroI16, NonZeroI32, NonZeroI64, NonZeroI128, NonZeroU8, NonZeroU16, NonZeroU32,
     NonZeroU64, NonZeroU128,
@@ -15,28 +17,8 @@ use std::num::{
 
 impl Unsigned for NonZeroU8 {}
 
-impl Unsigned for NonZeroU16 {}
-
-impl Unsigned for NonZeroU32 {}
-
-impl Unsigned for NonZeroU64 {}
-
-impl Unsigned for NonZeroU128 {}
-
-impl Signed for NonZeroI8 {}
-
-impl Signed for NonZeroI16 {}
-
-impl Signed for NonZeroI32 {}
-
-impl Signed for NonZeroI64 {}
-
-impl Signed for NonZeroI128 {}
-
-impl StoredAs for NonZeroU8 {
-    type As = u8;
-
-    const SOME: NonZeroU8 = NonZeroU8::MIN;
+impl StoredAsNumber for NonZeroU8 {
+    type Number = u8;
 
     ghost in_range = { λ _. Unit {0} };
 
@@ -46,19 +28,19 @@ impl StoredAs for NonZeroU8 {
 
     ghost same_order = { λ m n hm hn. refl };
 
-    fn to_plain(self) -> u8 {
-        NonZeroU8::get(self)
+    fn to_number(self) -> u8 {
+        self.get()
     }
 
-    fn from_plain(plain: u8) -> Option<NonZeroU8> {
-        NonZeroU8::new(plain)
+    fn from_number(number: u8) -> Option<NonZeroU8> {
+        NonZeroU8::new(number)
     }
 }
 
-impl StoredAs for NonZeroU16 {
-    type As = u16;
+impl Unsigned for NonZeroU16 {}
 
-    const SOME: NonZeroU16 = NonZeroU16::MIN;
+impl StoredAsNumber for NonZeroU16 {
+    type Number = u16;
 
     ghost in_range = { λ _. Unit {0} };
 
@@ -68,19 +50,19 @@ impl StoredAs for NonZeroU16 {
 
     ghost same_order = { λ m n hm hn. refl };
 
-    fn to_plain(self) -> u16 {
-        NonZeroU16::get(self)
+    fn to_number(self) -> u16 {
+        self.get()
     }
 
-    fn from_plain(plain: u16) -> Option<NonZeroU16> {
-        NonZeroU16::new(plain)
+    fn from_number(number: u16) -> Option<NonZeroU16> {
+        NonZeroU16::new(number)
     }
 }
 
-impl StoredAs for NonZeroU32 {
-    type As = u32;
+impl Unsigned for NonZeroU32 {}
 
-    const SOME: NonZeroU32 = NonZeroU32::MIN;
+impl StoredAsNumber for NonZeroU32 {
+    type Number = u32;
 
     ghost in_range = { λ _. Unit {0} };
 
@@ -90,19 +72,19 @@ impl StoredAs for NonZeroU32 {
 
     ghost same_order = { λ m n hm hn. refl };
 
-    fn to_plain(self) -> u32 {
-        NonZeroU32::get(self)
+    fn to_number(self) -> u32 {
+        self.get()
     }
 
-    fn from_plain(plain: u32) -> Option<NonZeroU32> {
-        NonZeroU32::new(plain)
+    fn from_number(number: u32) -> Option<NonZeroU32> {
+        NonZeroU32::new(number)
     }
 }
 
-impl StoredAs for NonZeroU64 {
-    type As = u64;
+impl Unsigned for NonZeroU64 {}
 
-    const SOME: NonZeroU64 = NonZeroU64::MIN;
+impl StoredAsNumber for NonZeroU64 {
+    type Number = u64;
 
     ghost in_range = { λ _. Unit {0} };
 
@@ -112,19 +94,19 @@ impl StoredAs for NonZeroU64 {
 
     ghost same_order = { λ m n hm hn. refl };
 
-    fn to_plain(self) -> u64 {
-        NonZeroU64::get(self)
+    fn to_number(self) -> u64 {
+        self.get()
     }
 
-    fn from_plain(plain: u64) -> Option<NonZeroU64> {
-        NonZeroU64::new(plain)
+    fn from_number(number: u64) -> Option<NonZeroU64> {
+        NonZeroU64::new(number)
     }
 }
 
-impl StoredAs for NonZeroU128 {
-    type As = u128;
+impl Unsigned for NonZeroU128 {}
 
-    const SOME: NonZeroU128 = NonZeroU128::MIN;
+impl StoredAsNumber for NonZeroU128 {
+    type Number = u128;
 
     ghost in_range = { λ _. Unit {0} };
 
@@ -134,121 +116,381 @@ impl StoredAs for NonZeroU128 {
 
     ghost same_order = { λ m n hm hn. refl };
 
-    fn to_plain(self) -> u128 {
-        NonZeroU128::get(self)
+    fn to_number(self) -> u128 {
+        self.get()
     }
 
-    fn from_plain(plain: u128) -> Option<NonZeroU128> {
-        NonZeroU128::new(plain)
-    }
-}
-
-impl StoredAs for NonZeroI8 {
-    type As = u8;
-
-    const SOME: NonZeroI8 = NonZeroI8::MIN;
-
-    ghost in_range = { λ v. FitsSigned w8 (non_zero_i8_get v) };
-
-    ghost stored = { λ v. flipped w8 (non_zero_i8_get v) };
-
-    ghost one_value = { λ m n hm hn e. one_holder (λ v ok. record { value = v; ok = ok }) apart_from_zero m.value n.value m.ok n.ok (flipped-injective w8 m.value n.value hm hn e) };
-
-    ghost same_order = { λ m n. int_cmp-flipped w8 m.value n.value };
-
-    fn to_plain(self) -> u8 {
-        i8::to_plain(self.get())
-    }
-
-    fn from_plain(plain: u8) -> Option<NonZeroI8> {
-        NonZeroI8::new(i8::from_plain(plain)?)
+    fn from_number(number: u128) -> Option<NonZeroU128> {
+        NonZeroU128::new(number)
     }
 }
 
-impl StoredAs for NonZeroI16 {
-    type As = u16;
+impl Signed for NonZeroI8 {}
 
-    const SOME: NonZeroI16 = NonZeroI16::MIN;
+impl StoredAsNumber for NonZeroI8 {
+    type Number = i8;
 
-    ghost in_range = { λ v. FitsSigned w16 (non_zero_i16_get v) };
+    ghost in_range = { λ _. Unit {0} };
 
-    ghost stored = { λ v. flipped w16 (non_zero_i16_get v) };
+    ghost stored = { non_zero_i8_get };
 
-    ghost one_value = { λ m n hm hn e. one_holder (λ v ok. record { value = v; ok = ok }) apart_from_zero m.value n.value m.ok n.ok (flipped-injective w16 m.value n.value hm hn e) };
+    ghost one_value = { λ m n hm hn e. one_holder (λ v ok. record { value = v; ok = ok }) apart_from_zero m.value n.value m.ok n.ok e };
 
-    ghost same_order = { λ m n. int_cmp-flipped w16 m.value n.value };
+    ghost same_order = { λ m n hm hn. refl };
 
-    fn to_plain(self) -> u16 {
-        i16::to_plain(self.get())
+    fn to_number(self) -> i8 {
+        self.get()
     }
 
-    fn from_plain(plain: u16) -> Option<NonZeroI16> {
-        NonZeroI16::new(i16::from_plain(plain)?)
-    }
-}
-
-impl StoredAs for NonZeroI32 {
-    type As = u32;
-
-    const SOME: NonZeroI32 = NonZeroI32::MIN;
-
-    ghost in_range = { λ v. FitsSigned w32 (non_zero_i32_get v) };
-
-    ghost stored = { λ v. flipped w32 (non_zero_i32_get v) };
-
-    ghost one_value = { λ m n hm hn e. one_holder (λ v ok. record { value = v; ok = ok }) apart_from_zero m.value n.value m.ok n.ok (flipped-injective w32 m.value n.value hm hn e) };
-
-    ghost same_order = { λ m n. int_cmp-flipped w32 m.value n.value };
-
-    fn to_plain(self) -> u32 {
-        i32::to_plain(self.get())
-    }
-
-    fn from_plain(plain: u32) -> Option<NonZeroI32> {
-        NonZeroI32::new(i32::from_plain(plain)?)
+    fn from_number(number: i8) -> Option<NonZeroI8> {
+        NonZeroI8::new(number)
     }
 }
 
-impl StoredAs for NonZeroI64 {
-    type As = u64;
+impl Signed for NonZeroI16 {}
 
-    const SOME: NonZeroI64 = NonZeroI64::MIN;
+impl StoredAsNumber for NonZeroI16 {
+    type Number = i16;
 
-    ghost in_range = { λ v. FitsSigned w64 (non_zero_i64_get v) };
+    ghost in_range = { λ _. Unit {0} };
 
-    ghost stored = { λ v. flipped w64 (non_zero_i64_get v) };
+    ghost stored = { non_zero_i16_get };
 
-    ghost one_value = { λ m n hm hn e. one_holder (λ v ok. record { value = v; ok = ok }) apart_from_zero m.value n.value m.ok n.ok (flipped-injective w64 m.value n.value hm hn e) };
+    ghost one_value = { λ m n hm hn e. one_holder (λ v ok. record { value = v; ok = ok }) apart_from_zero m.value n.value m.ok n.ok e };
 
-    ghost same_order = { λ m n. int_cmp-flipped w64 m.value n.value };
+    ghost same_order = { λ m n hm hn. refl };
 
-    fn to_plain(self) -> u64 {
-        i64::to_plain(self.get())
+    fn to_number(self) -> i16 {
+        self.get()
     }
 
-    fn from_plain(plain: u64) -> Option<NonZeroI64> {
-        NonZeroI64::new(i64::from_plain(plain)?)
+    fn from_number(number: i16) -> Option<NonZeroI16> {
+        NonZeroI16::new(number)
     }
 }
 
-impl StoredAs for NonZeroI128 {
-    type As = u128;
+impl Signed for NonZeroI32 {}
 
-    const SOME: NonZeroI128 = NonZeroI128::MIN;
+impl StoredAsNumber for NonZeroI32 {
+    type Number = i32;
 
-    ghost in_range = { λ v. FitsSigned w128 (non_zero_i128_get v) };
+    ghost in_range = { λ _. Unit {0} };
 
-    ghost stored = { λ v. flipped w128 (non_zero_i128_get v) };
+    ghost stored = { non_zero_i32_get };
 
-    ghost one_value = { λ m n hm hn e. one_holder (λ v ok. record { value = v; ok = ok }) apart_from_zero m.value n.value m.ok n.ok (flipped-injective w128 m.value n.value hm hn e) };
+    ghost one_value = { λ m n hm hn e. one_holder (λ v ok. record { value = v; ok = ok }) apart_from_zero m.value n.value m.ok n.ok e };
 
-    ghost same_order = { λ m n. int_cmp-flipped w128 m.value n.value };
+    ghost same_order = { λ m n hm hn. refl };
 
-    fn to_plain(self) -> u128 {
-        i128::to_plain(self.get())
+    fn to_number(self) -> i32 {
+        self.get()
     }
 
-    fn from_plain(plain: u128) -> Option<NonZeroI128> {
-        NonZeroI128::new(i128::from_plain(plain)?)
+    fn from_number(number: i32) -> Option<NonZeroI32> {
+        NonZeroI32::new(number)
+    }
+}
+
+impl Signed for NonZeroI64 {}
+
+impl StoredAsNumber for NonZeroI64 {
+    type Number = i64;
+
+    ghost in_range = { λ _. Unit {0} };
+
+    ghost stored = { non_zero_i64_get };
+
+    ghost one_value = { λ m n hm hn e. one_holder (λ v ok. record { value = v; ok = ok }) apart_from_zero m.value n.value m.ok n.ok e };
+
+    ghost same_order = { λ m n hm hn. refl };
+
+    fn to_number(self) -> i64 {
+        self.get()
+    }
+
+    fn from_number(number: i64) -> Option<NonZeroI64> {
+        NonZeroI64::new(number)
+    }
+}
+
+impl Signed for NonZeroI128 {}
+
+impl StoredAsNumber for NonZeroI128 {
+    type Number = i128;
+
+    ghost in_range = { λ _. Unit {0} };
+
+    ghost stored = { non_zero_i128_get };
+
+    ghost one_value = { λ m n hm hn e. one_holder (λ v ok. record { value = v; ok = ok }) apart_from_zero m.value n.value m.ok n.ok e };
+
+    ghost same_order = { λ m n hm hn. refl };
+
+    fn to_number(self) -> i128 {
+        self.get()
+    }
+
+    fn from_number(number: i128) -> Option<NonZeroI128> {
+        NonZeroI128::new(number)
+    }
+}
+
+impl FixedBytes for NonZeroU8 {
+    type Array = [u8; 1];
+
+    ghost WIDTH = { 1 };
+
+    const WIDTH: usize = 1;
+
+    ghost is_value = { λ v. Unit {0} × (non_zero_u8_get v < 256 ^ 1) };
+
+    ghost fixed_bytes = { λ v. big_endian 1 (non_zero_u8_get v) };
+
+    ghost have_bytes = { stored_bytes non_zero_u8_get (λ _. Unit {0}) (λ m n. nat_cmp (non_zero_u8_get m) (non_zero_u8_get n)) 1 _ _ _ (λ m n hm hn e. one_holder (λ v ok. record { value = v; ok = ok }) above_zero m.value n.value m.ok n.ok e) (λ m n hm hn. refl) (unsigned_bytes 1 (lit< tt)) };
+
+    fn some() -> NonZeroU8 {
+        NonZeroU8::MIN
+    }
+
+    fn to_array(self) -> [u8; 1] {
+        self.to_number().to_array()
+    }
+
+    fn checked_from_slice(bytes: &[u8]) -> Option<NonZeroU8> {
+        read_stored(bytes)
+    }
+}
+
+impl FixedBytes for NonZeroU16 {
+    type Array = [u8; 2];
+
+    ghost WIDTH = { 2 };
+
+    const WIDTH: usize = 2;
+
+    ghost is_value = { λ v. Unit {0} × (non_zero_u16_get v < 256 ^ 2) };
+
+    ghost fixed_bytes = { λ v. big_endian 2 (non_zero_u16_get v) };
+
+    ghost have_bytes = { stored_bytes non_zero_u16_get (λ _. Unit {0}) (λ m n. nat_cmp (non_zero_u16_get m) (non_zero_u16_get n)) 2 _ _ _ (λ m n hm hn e. one_holder (λ v ok. record { value = v; ok = ok }) above_zero m.value n.value m.ok n.ok e) (λ m n hm hn. refl) (unsigned_bytes 2 (lit< tt)) };
+
+    fn some() -> NonZeroU16 {
+        NonZeroU16::MIN
+    }
+
+    fn to_array(self) -> [u8; 2] {
+        self.to_number().to_array()
+    }
+
+    fn checked_from_slice(bytes: &[u8]) -> Option<NonZeroU16> {
+        read_stored(bytes)
+    }
+}
+
+impl FixedBytes for NonZeroU32 {
+    type Array = [u8; 4];
+
+    ghost WIDTH = { 4 };
+
+    const WIDTH: usize = 4;
+
+    ghost is_value = { λ v. Unit {0} × (non_zero_u32_get v < 256 ^ 4) };
+
+    ghost fixed_bytes = { λ v. big_endian 4 (non_zero_u32_get v) };
+
+    ghost have_bytes = { stored_bytes non_zero_u32_get (λ _. Unit {0}) (λ m n. nat_cmp (non_zero_u32_get m) (non_zero_u32_get n)) 4 _ _ _ (λ m n hm hn e. one_holder (λ v ok. record { value = v; ok = ok }) above_zero m.value n.value m.ok n.ok e) (λ m n hm hn. refl) (unsigned_bytes 4 (lit< tt)) };
+
+    fn some() -> NonZeroU32 {
+        NonZeroU32::MIN
+    }
+
+    fn to_array(self) -> [u8; 4] {
+        self.to_number().to_array()
+    }
+
+    fn checked_from_slice(bytes: &[u8]) -> Option<NonZeroU32> {
+        read_stored(bytes)
+    }
+}
+
+impl FixedBytes for NonZeroU64 {
+    type Array = [u8; 8];
+
+    ghost WIDTH = { 8 };
+
+    const WIDTH: usize = 8;
+
+    ghost is_value = { λ v. Unit {0} × (non_zero_u64_get v < 256 ^ 8) };
+
+    ghost fixed_bytes = { λ v. big_endian 8 (non_zero_u64_get v) };
+
+    ghost have_bytes = { stored_bytes non_zero_u64_get (λ _. Unit {0}) (λ m n. nat_cmp (non_zero_u64_get m) (non_zero_u64_get n)) 8 _ _ _ (λ m n hm hn e. one_holder (λ v ok. record { value = v; ok = ok }) above_zero m.value n.value m.ok n.ok e) (λ m n hm hn. refl) (unsigned_bytes 8 (lit< tt)) };
+
+    fn some() -> NonZeroU64 {
+        NonZeroU64::MIN
+    }
+
+    fn to_array(self) -> [u8; 8] {
+        self.to_number().to_array()
+    }
+
+    fn checked_from_slice(bytes: &[u8]) -> Option<NonZeroU64> {
+        read_stored(bytes)
+    }
+}
+
+impl FixedBytes for NonZeroU128 {
+    type Array = [u8; 16];
+
+    ghost WIDTH = { 16 };
+
+    const WIDTH: usize = 16;
+
+    ghost is_value = { λ v. Unit {0} × (non_zero_u128_get v < 256 ^ 16) };
+
+    ghost fixed_bytes = { λ v. big_endian 16 (non_zero_u128_get v) };
+
+    ghost have_bytes = { stored_bytes non_zero_u128_get (λ _. Unit {0}) (λ m n. nat_cmp (non_zero_u128_get m) (non_zero_u128_get n)) 16 _ _ _ (λ m n hm hn e. one_holder (λ v ok. record { value = v; ok = ok }) above_zero m.value n.value m.ok n.ok e) (λ m n hm hn. refl) (unsigned_bytes 16 (lit< tt)) };
+
+    fn some() -> NonZeroU128 {
+        NonZeroU128::MIN
+    }
+
+    fn to_array(self) -> [u8; 16] {
+        self.to_number().to_array()
+    }
+
+    fn checked_from_slice(bytes: &[u8]) -> Option<NonZeroU128> {
+        read_stored(bytes)
+    }
+}
+
+impl FixedBytes for NonZeroI8 {
+    type Array = [u8; 1];
+
+    ghost WIDTH = { 1 };
+
+    const WIDTH: usize = 1;
+
+    ghost is_value = { λ v. Unit {0} × (FitsSigned w8 (non_zero_i8_get v) × (flipped w8 (non_zero_i8_get v) < 256 ^ 1)) };
+
+    ghost fixed_bytes = { λ v. big_endian 1 (flipped w8 (non_zero_i8_get v)) };
+
+    ghost have_bytes = { stored_bytes non_zero_i8_get (λ _. Unit {0}) (λ m n. int_cmp (non_zero_i8_get m) (non_zero_i8_get n)) 1 _ _ _ (λ m n hm hn e. one_holder (λ v ok. record { value = v; ok = ok }) apart_from_zero m.value n.value m.ok n.ok e) (λ m n hm hn. refl) (stored_bytes (flipped w8) (FitsSigned w8) int_cmp 1 _ _ _ (flipped-injective w8) (int_cmp-flipped w8) (unsigned_bytes 1 (lit< tt))) };
+
+    fn some() -> NonZeroI8 {
+        NonZeroI8::MIN
+    }
+
+    fn to_array(self) -> [u8; 1] {
+        self.to_number().to_array()
+    }
+
+    fn checked_from_slice(bytes: &[u8]) -> Option<NonZeroI8> {
+        read_stored(bytes)
+    }
+}
+
+impl FixedBytes for NonZeroI16 {
+    type Array = [u8; 2];
+
+    ghost WIDTH = { 2 };
+
+    const WIDTH: usize = 2;
+
+    ghost is_value = { λ v. Unit {0} × (FitsSigned w16 (non_zero_i16_get v) × (flipped w16 (non_zero_i16_get v) < 256 ^ 2)) };
+
+    ghost fixed_bytes = { λ v. big_endian 2 (flipped w16 (non_zero_i16_get v)) };
+
+    ghost have_bytes = { stored_bytes non_zero_i16_get (λ _. Unit {0}) (λ m n. int_cmp (non_zero_i16_get m) (non_zero_i16_get n)) 2 _ _ _ (λ m n hm hn e. one_holder (λ v ok. record { value = v; ok = ok }) apart_from_zero m.value n.value m.ok n.ok e) (λ m n hm hn. refl) (stored_bytes (flipped w16) (FitsSigned w16) int_cmp 2 _ _ _ (flipped-injective w16) (int_cmp-flipped w16) (unsigned_bytes 2 (lit< tt))) };
+
+    fn some() -> NonZeroI16 {
+        NonZeroI16::MIN
+    }
+
+    fn to_array(self) -> [u8; 2] {
+        self.to_number().to_array()
+    }
+
+    fn checked_from_slice(bytes: &[u8]) -> Option<NonZeroI16> {
+        read_stored(bytes)
+    }
+}
+
+impl FixedBytes for NonZeroI32 {
+    type Array = [u8; 4];
+
+    ghost WIDTH = { 4 };
+
+    const WIDTH: usize = 4;
+
+    ghost is_value = { λ v. Unit {0} × (FitsSigned w32 (non_zero_i32_get v) × (flipped w32 (non_zero_i32_get v) < 256 ^ 4)) };
+
+    ghost fixed_bytes = { λ v. big_endian 4 (flipped w32 (non_zero_i32_get v)) };
+
+    ghost have_bytes = { stored_bytes non_zero_i32_get (λ _. Unit {0}) (λ m n. int_cmp (non_zero_i32_get m) (non_zero_i32_get n)) 4 _ _ _ (λ m n hm hn e. one_holder (λ v ok. record { value = v; ok = ok }) apart_from_zero m.value n.value m.ok n.ok e) (λ m n hm hn. refl) (stored_bytes (flipped w32) (FitsSigned w32) int_cmp 4 _ _ _ (flipped-injective w32) (int_cmp-flipped w32) (unsigned_bytes 4 (lit< tt))) };
+
+    fn some() -> NonZeroI32 {
+        NonZeroI32::MIN
+    }
+
+    fn to_array(self) -> [u8; 4] {
+        self.to_number().to_array()
+    }
+
+    fn checked_from_slice(bytes: &[u8]) -> Option<NonZeroI32> {
+        read_stored(bytes)
+    }
+}
+
+impl FixedBytes for NonZeroI64 {
+    type Array = [u8; 8];
+
+    ghost WIDTH = { 8 };
+
+    const WIDTH: usize = 8;
+
+    ghost is_value = { λ v. Unit {0} × (FitsSigned w64 (non_zero_i64_get v) × (flipped w64 (non_zero_i64_get v) < 256 ^ 8)) };
+
+    ghost fixed_bytes = { λ v. big_endian 8 (flipped w64 (non_zero_i64_get v)) };
+
+    ghost have_bytes = { stored_bytes non_zero_i64_get (λ _. Unit {0}) (λ m n. int_cmp (non_zero_i64_get m) (non_zero_i64_get n)) 8 _ _ _ (λ m n hm hn e. one_holder (λ v ok. record { value = v; ok = ok }) apart_from_zero m.value n.value m.ok n.ok e) (λ m n hm hn. refl) (stored_bytes (flipped w64) (FitsSigned w64) int_cmp 8 _ _ _ (flipped-injective w64) (int_cmp-flipped w64) (unsigned_bytes 8 (lit< tt))) };
+
+    fn some() -> NonZeroI64 {
+        NonZeroI64::MIN
+    }
+
+    fn to_array(self) -> [u8; 8] {
+        self.to_number().to_array()
+    }
+
+    fn checked_from_slice(bytes: &[u8]) -> Option<NonZeroI64> {
+        read_stored(bytes)
+    }
+}
+
+impl FixedBytes for NonZeroI128 {
+    type Array = [u8; 16];
+
+    ghost WIDTH = { 16 };
+
+    const WIDTH: usize = 16;
+
+    ghost is_value = { λ v. Unit {0} × (FitsSigned w128 (non_zero_i128_get v) × (flipped w128 (non_zero_i128_get v) < 256 ^ 16)) };
+
+    ghost fixed_bytes = { λ v. big_endian 16 (flipped w128 (non_zero_i128_get v)) };
+
+    ghost have_bytes = { stored_bytes non_zero_i128_get (λ _. Unit {0}) (λ m n. int_cmp (non_zero_i128_get m) (non_zero_i128_get n)) 16 _ _ _ (λ m n hm hn e. one_holder (λ v ok. record { value = v; ok = ok }) apart_from_zero m.value n.value m.ok n.ok e) (λ m n hm hn. refl) (stored_bytes (flipped w128) (FitsSigned w128) int_cmp 16 _ _ _ (flipped-injective w128) (int_cmp-flipped w128) (unsigned_bytes 16 (lit< tt))) };
+
+    fn some() -> NonZeroI128 {
+        NonZeroI128::MIN
+    }
+
+    fn to_array(self) -> [u8; 16] {
+        self.to_number().to_array()
+    }
+
+    fn checked_from_slice(bytes: &[u8]) -> Option<NonZeroI128> {
+        read_stored(bytes)
     }
 }

@@ -1,62 +1,36 @@
-//! How values are stored: as an unsigned number, or as octets.
-ghost use Rattle.std.specs.Prelude.{◌≡◌, ℕ, List, MatchOption, length};
-ghost use Rattle.art_bytes.specs.Mappings.{HaveFixedBytes};
+//! Values that are stored as a number of another type.
+ghost use Rattle.std.specs.Prelude.{◌≡◌, MatchOption, length};
 
-use crate::as_bytes::AsBytes;
+use super::FixedBytes;
 
-/// What values are stored as: an unsigned number, whose bytes are the big-endian ones, or the octets themselves.
-pub trait Plain: Ord + Copy {
-    type Array: AsBytes + Drop;
-
-    ghost WIDTH: { ℕ };
-
-    /// The number of bytes.
-    const WIDTH: usize;
-
-    /// Holds of each value of the type: what its range keeps.
-    ghost is_plain: { Self → Type 0 };
-
-    /// The bytes of a value.
-    ghost plain_bytes: { Self → List ℕ };
-
-    /// The value's bytes. It takes no memory.
-    fn to_array(self) -> Self::Array
-        ensures value { is_plain self }
-        ensures key { Self.Array.is_key result }
-        ensures bytes { Self.Array.bytes result ≡ plain_bytes self };
-
-    /// The value that has these bytes. It takes no memory.
-    fn from_slice(bytes: &[u8]) -> Self
-        requires { length bytes.now ≡ WIDTH }
-        ensures value { is_plain result }
-        ensures bytes { plain_bytes result ≡ bytes.now };
-
-    ghost plain_laws: { HaveFixedBytes WIDTH is_plain plain_bytes Self.cmp };
-}
-
-/// A value that is stored as a number or as octets, in their order.
-pub trait StoredAs: Ord + Copy {
-    type As: Plain;
-
-    /// Some value of the type.
-    const SOME: Self;
+/// A value that is stored as a number of another type, in the order of these numbers.
+pub trait StoredAsNumber: Ord + Drop {
+    type Number: FixedBytes;
 
     /// Holds of each value of the type: what its range keeps.
     ghost in_range: { Self → Type 0 };
 
-    /// What the value is stored as.
-    ghost stored: { Self → Self.As };
+    /// The number that it is stored as.
+    ghost stored: { Self → Self.Number };
 
-    /// What the value is stored as. It takes no memory.
-    fn to_plain(self) -> Self::As
+    /// The number that the value is stored as. It takes no memory.
+    fn to_number(self) -> Self::Number
         ensures range { in_range self }
-        ensures stored { result ≡ stored self };
+        ensures number { result ≡ stored self };
 
-    /// The value that is stored as this, or None where there is none. It takes no memory.
-    fn from_plain(plain: Self::As) -> Option<Self>
-        ensures { MatchOption result (¬ ((v : Self) × in_range v × (stored v ≡ plain))) (λ v. in_range v × (stored v ≡ plain)) };
+    /// The value that is stored as this number, or None where there is none. It takes no memory.
+    fn from_number(number: Self::Number) -> Option<Self>
+        ensures { MatchOption result (¬ ((v : Self) × in_range v × (stored v ≡ number))) (λ v. in_range v × (stored v ≡ number)) };
 
     ghost one_value: { (v w : Self) → in_range v → in_range w → stored v ≡ stored w → v ≡ w };
 
-    ghost same_order: { (v w : Self) → in_range v → in_range w → Self.cmp v w ≡ Self.As.cmp (stored v) (stored w) };
+    ghost same_order: { (v w : Self) → in_range v → in_range w → Self.cmp v w ≡ Self.Number.cmp (stored v) (stored w) };
+}
+
+// The value whose number has these bytes, or None where there is none.
+pub(super) fn read_stored<X: StoredAsNumber>(bytes: &[u8]) -> Option<X>
+    requires { length bytes.now ≡ X.Number.WIDTH }
+    ensures { MatchOption result (¬ ((v : X) × (X.in_range v × X.Number.is_value (X.stored v)) × (X.Number.fixed_bytes (X.stored v) ≡ bytes.now))) (λ v. (X.in_range v × X.Number.is_value (X.stored v)) × (X.Number.fixed_bytes (X.stored v) ≡ bytes.now)) }
+{
+    X::from_number(X::Number::checked_from_slice(bytes)?)
 }
