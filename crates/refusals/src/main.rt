@@ -155,7 +155,10 @@ fn tuple_from_bytes(rt: &(impl Print + Eprint + AllocGlobal)) -> io::Result<()> 
     let bytes = Pair::to_bytes(rt.alloc(), (1u32, -5i64))?;
     show(rt, "before", bytes.as_slice())?;
     eprintln!(rt; "refuse")?;
-    let answer: Result<Option<(u32, i64)>, AllocError> = Pair::checked_from_bytes(rt.alloc(), bytes);
+    let answer: Result<Option<(u32, i64)>, AllocError> = Pair::checked_from_bytes(
+        rt.alloc(),
+        bytes,
+    );
     came(rt, &answer)?;
     let (tenant, number) = answer?.unwrap_or((0, 0));
     println!(rt; "after {tenant} {number}")
