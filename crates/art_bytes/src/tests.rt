@@ -242,3 +242,32 @@ fn laws_at_concrete_types(rt: HostRuntime) -> Result<(), Fail> {
     assert_eq!(rt; read, Some(258));
     Ok(())
 }
+
+#[test]
+fn mapped_triple(rt: HostRuntime) -> Result<(), Fail> {
+    let key = Mapped::<ConcatTuple<(ToUBE, ToIBE, ToOctets)>, (u32, i64, Ipv4Addr)>::new(
+        rt.alloc(),
+        (1, -5, Ipv4Addr::LOCALHOST),
+    )?;
+    assert!(rt; key.get(rt.alloc())? == (1, -5, Ipv4Addr::LOCALHOST));
+    Ok(())
+}
+
+#[test]
+fn mapped_six(rt: HostRuntime) -> Result<(), Fail> {
+    let key = Mapped::<
+        ConcatTuple<(ToUBE, ToUBE, ToUBE, ToUBE, ToUBE, ToUBE)>,
+        (u8, u8, u8, u8, u8, u8),
+    >::new(rt.alloc(), (1, 2, 3, 4, 5, 6))?;
+    is(&rt, &key, &[1, 2, 3, 4, 5, 6]);
+    Ok(())
+}
+
+#[test]
+fn mapped_address(rt: HostRuntime) -> Result<(), Fail> {
+    let key = Mapped::<ToOctets, Ipv4Addr>::new(rt.alloc(), Ipv4Addr::LOCALHOST)?;
+    is(&rt, &key, &[127, 0, 0, 1]);
+    let key = Mapped::<ToUBE, NonZeroU16>::new(rt.alloc(), NonZeroU16::MIN)?;
+    is(&rt, &key, &[0, 1]);
+    Ok(())
+}
