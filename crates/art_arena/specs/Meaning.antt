@@ -14,6 +14,11 @@ module _ {K V : Type 0} (P : ℕ) (at : Name → Option (Cell K V)) (root : Name
     pub once : (n : Name) → copies n (cells P s) ≤ 1
 
 module _ {K V : Type 0} (bytes : K → List ℕ) (P : ℕ) (at : Name → Option (Cell K V)) (root : Name) where
+  -- the arena has this shape below the name, which is canonical behind the path
+  pub record IsSubtree (path : List ℕ) (s : Shape K V) : Type 0 where
+    pub part : IsPart P at root s
+    pub under : IsUnder bytes path s
+
   -- the arena's nodes are those of this shape, which is canonical, and it holds no other name
   pub record IsNodes (s : Shape K V) : Type 0 where
     pub named : name_of s ≡ root

@@ -1,5 +1,7 @@
 -- What a contract sees of a node that a reader lends.
 use Rattle.std.specs.Prelude.{ℕ}
+use Rattle.art_nodes.specs.declared.kind.NodeType.{NodeType}
+use Rattle.art_nodes.specs.declared.kind.NodeType.TheVariants as kind
 use Rattle.art_arena.specs.Arena.{Held, leaf_held, inner_held}
 use Rattle.art_arena.specs.declared.reader.VisitedNode.{VisitedNode}
 use Rattle.art_arena.specs.declared.reader.VisitedNode.TheVariants as visited
@@ -11,3 +13,11 @@ held_of (visited.Node16 node) = inner_held node.now
 held_of (visited.Node48 node) = inner_held node.now
 held_of (visited.Node256 node) = inner_held node.now
 held_of (visited.Leaf node) = leaf_held node.now
+
+-- its kind
+abbrev pub kind_of : {K V : Type 0} {P : ℕ} → VisitedNode K V P → NodeType
+kind_of (visited.Node4 node) = kind.Node4
+kind_of (visited.Node16 node) = kind.Node16
+kind_of (visited.Node48 node) = kind.Node48
+kind_of (visited.Node256 node) = kind.Node256
+kind_of (visited.Leaf node) = kind.Leaf
