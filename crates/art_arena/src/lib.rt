@@ -23,4 +23,6 @@ pub use reader::{ArenaReader, Reader, VisitedNode};
 pub use stored::{NodeStore, Stored};
 
 #[cfg(test)]
+mod calling;
+#[cfg(test)]
 mod tests;
