@@ -2,8 +2,10 @@
 //! line that tells the outcome, tests/refusals.py refuses each request in turn. Nodes are made and moved by generic
 //! functions alone.
 use super::*;
+use art_bytes::AsBytes;
 use art_nodes::{
-    InnerNode4, InnerNode16, InnerNode48, InnerNode256, InnerNodeCommon, InnerNodeInit, NodePtr,
+    InnerNode4, InnerNode16, InnerNode48, InnerNode256, InnerNodeCommon, InnerNodeInit, LeafNode,
+    NodePtr,
 };
 use std::alloc::AllocError;
 use std::test::Fail;
@@ -33,9 +35,9 @@ fn came(rt: &HostRuntime, is_ok: bool) -> Result<(), Fail> {
 }
 
 // Stores a node, in a window. A node that was refused is handed back, and stored outside.
-fn stored<N: Stored<u8, u8, Arena> + Drop>(
+fn stored<K, V, N: Stored<K, V, NodeArena<K, V, 4>> + Drop>(
     rt: &HostRuntime,
-    arena: &mut Arena,
+    arena: &mut NodeArena<K, V, 4>,
     node: N,
 ) -> Result<bool, Fail> {
     eprintln!(rt; "refuse")?;
@@ -55,6 +57,35 @@ fn stored_inner<N: InnerNodeInit<4> + Stored<u8, u8, Arena> + Drop>(
 ) -> Result<bool, Fail> {
     let mut arena: Arena = NodeArena::new(rt.alloc());
     stored(rt, &mut arena, N::from_prefix(b"ab", 2))
+}
+
+fn stored_leaf<K: Drop, V: Drop>(rt: &HostRuntime, key: K, value: V) -> Result<bool, Fail> {
+    let mut arena: NodeArena<K, V, 4> = NodeArena::new(rt.alloc());
+    stored(rt, &mut arena, LeafNode::with_no_siblings(key, value))
+}
+
+#[test]
+fn stores_a_leaf(rt: HostRuntime) -> Result<(), Fail> {
+    assert!(rt; stored_leaf(&rt, 1u8, 2u8)?);
+    Ok(())
+}
+
+// Whether the key is found in the tree of one leaf.
+fn finds<K: AsBytes + Drop, V: Drop>(rt: &HostRuntime, key: K, value: V, wanted: &[u8]) -> bool {
+    let mut arena: NodeArena<K, V, 4> = NodeArena::new(rt.alloc());
+    let leaf = match arena.allocate_node_ptr(LeafNode::with_no_siblings(key, value)) {
+        Ok(leaf) => leaf,
+        Err(_refused) => return false,
+    };
+    let mut reader = ArenaReader::new(&arena);
+    find_leaf(&mut reader, leaf.to_opaque(), wanted).is_some()
+}
+
+#[test]
+fn finds_a_leaf(rt: HostRuntime) {
+    assert!(rt; finds(&rt, [1u8, 2, 3], 4u8, &[1, 2, 3]));
+    assert!(rt; !finds(&rt, [1u8, 2, 3], 4u8, &[1, 2, 4]));
+    assert!(rt; !finds(&rt, [1u8, 2, 3], 4u8, &[1, 2]));
 }
 
 #[test]
