@@ -16,6 +16,11 @@ pub mod Shapes
 pub mod Linked
 pub mod Meaning
 pub mod Context
+pub mod Prefixes
+pub mod Steps
+pub mod Places
+pub mod Found
+pub mod Turns
 pub mod Arena
 pub mod Lends
 pub mod Visited

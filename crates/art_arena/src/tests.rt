@@ -1,6 +1,14 @@
-//! Public calls once, at concrete types.
+//! Public calls once, at concrete types, and want of memory: between a line `refuse` on the standard error and the
+//! line that tells the outcome, tests/refusals.py refuses each request in turn. Nodes are made and moved by generic
+//! functions alone.
 use super::*;
-use art_nodes::{InnerNode4, InnerNodeCommon, InnerNodeInit, NodePtr};
+use art_bytes::AsBytes;
+use art_nodes::{
+    InnerNode4, InnerNode16, InnerNode48, InnerNode256, InnerNodeCommon, InnerNodeInit, LeafNode,
+    NodePtr,
+};
+use std::alloc::AllocError;
+use std::test::Fail;
 
 type Arena = NodeArena<u8, u8, 4>;
 
@@ -20,8 +28,99 @@ fn writes_an_inner_node(rt: HostRuntime) {
     }
 }
 
-#[test]
-fn reserves(rt: HostRuntime) {
+// Ends a window.
+fn came(rt: &HostRuntime, is_ok: bool) -> Result<(), Fail> {
+    eprintln!(rt; "{}", if is_ok { "ok" } else { "refused" })?;
+    Ok(())
+}
+
+// Stores a node, in a window. A node that was refused is handed back, and stored outside.
+fn stored<K, V, N: Stored<K, V, NodeArena<K, V, 4>> + Drop>(
+    rt: &HostRuntime,
+    arena: &mut NodeArena<K, V, 4>,
+    node: N,
+) -> Result<bool, Fail> {
+    eprintln!(rt; "refuse")?;
+    let answer = arena.allocate_node_ptr(node);
+    came(rt, answer.is_ok())?;
+    let name = match answer {
+        Ok(name) => name,
+        Err(refused) => arena
+            .allocate_node_ptr(refused.node)
+            .map_err(AllocError::from)?,
+    };
+    Ok(arena.holds(name.to_opaque()))
+}
+
+fn stored_inner<N: InnerNodeInit<4> + Stored<u8, u8, Arena> + Drop>(
+    rt: &HostRuntime,
+) -> Result<bool, Fail> {
     let mut arena: Arena = NodeArena::new(rt.alloc());
-    assert!(rt; arena.reserve(2).is_ok());
+    stored(rt, &mut arena, N::from_prefix(b"ab", 2))
+}
+
+fn stored_leaf<K: Drop, V: Drop>(rt: &HostRuntime, key: K, value: V) -> Result<bool, Fail> {
+    let mut arena: NodeArena<K, V, 4> = NodeArena::new(rt.alloc());
+    stored(rt, &mut arena, LeafNode::with_no_siblings(key, value))
+}
+
+#[test]
+fn stores_a_leaf(rt: HostRuntime) -> Result<(), Fail> {
+    assert!(rt; stored_leaf(&rt, 1u8, 2u8)?);
+    Ok(())
+}
+
+// Whether the key is found in the tree of one leaf.
+fn finds<K: AsBytes + Drop, V: Drop>(rt: &HostRuntime, key: K, value: V, wanted: &[u8]) -> bool {
+    let mut arena: NodeArena<K, V, 4> = NodeArena::new(rt.alloc());
+    let leaf = match arena.allocate_node_ptr(LeafNode::with_no_siblings(key, value)) {
+        Ok(leaf) => leaf,
+        Err(_refused) => return false,
+    };
+    let mut reader = ArenaReader::new(&arena);
+    find_leaf(&mut reader, leaf.to_opaque(), wanted).is_some()
+}
+
+#[test]
+fn finds_a_leaf(rt: HostRuntime) {
+    assert!(rt; finds(&rt, [1u8, 2, 3], 4u8, &[1, 2, 3]));
+    assert!(rt; !finds(&rt, [1u8, 2, 3], 4u8, &[1, 2, 4]));
+    assert!(rt; !finds(&rt, [1u8, 2, 3], 4u8, &[1, 2]));
+}
+
+#[test]
+fn stores_an_inner_node_of_each_kind(rt: HostRuntime) -> Result<(), Fail> {
+    assert!(rt; stored_inner::<InnerNode4<u8, u8, 4>>(&rt)?);
+    assert!(rt; stored_inner::<InnerNode16<u8, u8, 4>>(&rt)?);
+    assert!(rt; stored_inner::<InnerNode48<u8, u8, 4>>(&rt)?);
+    assert!(rt; stored_inner::<InnerNode256<u8, u8, 4>>(&rt)?);
+    Ok(())
+}
+
+#[test]
+fn makes_room(rt: HostRuntime) -> Result<(), Fail> {
+    let mut arena: Arena = NodeArena::new(rt.alloc());
+    eprintln!(rt; "refuse")?;
+    let answer = arena.reserve(2);
+    came(&rt, answer.is_ok())?;
+    if answer.is_err() {
+        arena.reserve(2)?;
+    }
+    Ok(())
+}
+
+fn fits<N: InnerNodeInit<4> + Stored<u8, u8, Arena> + Drop>(arena: &mut Arena) -> bool {
+    arena.allocate_node_ptr(N::from_prefix(b"ab", 2)).is_ok()
+}
+
+#[test]
+fn what_was_reserved_for_takes_no_memory(rt: HostRuntime) -> Result<(), Fail> {
+    let mut arena: Arena = NodeArena::new(rt.alloc());
+    arena.reserve(4)?;
+    eprintln!(rt; "refuse")?;
+    let four = fits::<InnerNode4<u8, u8, 4>>(&mut arena);
+    let sixteen = fits::<InnerNode16<u8, u8, 4>>(&mut arena);
+    let forty_eight = fits::<InnerNode48<u8, u8, 4>>(&mut arena);
+    let largest = fits::<InnerNode256<u8, u8, 4>>(&mut arena);
+    came(&rt, four && sixteen && forty_eight && largest)
 }
