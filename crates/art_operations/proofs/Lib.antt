@@ -1,0 +1,4 @@
+pub mod Measures
+pub mod Subtrees
+pub mod Ends
+pub mod Prefixes

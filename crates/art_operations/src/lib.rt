@@ -1,0 +1,11 @@
+//! Operations on the tree below a name in an arena: look-ups, the ends of a tree, whole prefixes.
+//! The layer above uses `search_unchecked`: the answer is a filter of the list of leaves.
+//! The definitions stand in `specs/`.
+#![tactic(auto)]
+
+mod inner;
+pub mod minmax;
+pub mod prefix;
+
+pub use minmax::{maximum_unchecked, minimum_unchecked};
+pub use prefix::{match_full_prefix, read_full_prefix};
