@@ -2,3 +2,4 @@ pub mod Measures
 pub mod Subtrees
 pub mod Ends
 pub mod Prefixes
+pub mod Descents

@@ -1,2 +1,4 @@
 pub mod Subtrees
 pub mod Prefixes
+pub mod Lookups
+pub mod Descents

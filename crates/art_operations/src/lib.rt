@@ -3,7 +3,9 @@
 //! The definitions stand in `specs/`.
 #![tactic(auto)]
 
+mod descent;
 mod inner;
+pub mod lookup;
 pub mod minmax;
 pub mod prefix;
 
