@@ -21,9 +21,13 @@ pub mod FrontShrinks
 pub mod Lexicographic
 pub mod CellLists
 pub mod Contexts
+pub mod Places
+pub mod Finding
+pub mod Walking
 pub mod LinkedLists
 pub mod Erased
 pub mod OneMeaning
+pub mod Meanings
 pub mod OtherChildren
 pub mod Arenas
 pub mod Examples

@@ -14,6 +14,10 @@ pub mod Shapes
 pub mod Linked
 pub mod Meaning
 pub mod Context
+pub mod Steps
+pub mod Places
+pub mod Found
+pub mod Turns
 pub mod Arena
 pub mod Lends
 pub mod Visited

@@ -4,12 +4,16 @@
 #![tactic(auto)]
 
 mod arena;
+mod find;
 pub mod laws;
 pub mod links;
+mod path;
 mod reader;
 mod stored;
 
 pub use arena::{LeafPtr, NodeArena, NodeRefused};
+pub use find::{FoundLeaf, find_leaf};
+pub use path::{TreePath, TreePathSearch, inner_node_ptr};
 pub use reader::{ArenaReader, Reader, VisitedNode};
 pub use stored::{NodeStore, Stored};
 

@@ -1,7 +1,7 @@
 //! Reading an arena, each node that is read counted.
-ghost use Rattle.std.specs.Prelude.{◌≡◌, ◌+◌, ◌-◌, ◌^◌, min, Some, IsSome};
+ghost use Rattle.std.specs.Prelude.{◌≡◌, ◌≢◌, ◌+◌, ◌-◌, ◌^◌, ◌<◌, min, Some, IsSome};
 ghost use Rattle.art_arena.specs.Arena.{held_at};
-ghost use Rattle.art_arena.specs.Visited.{held_of};
+ghost use Rattle.art_arena.specs.Visited.{held_of, kind_of};
 
 use crate::arena::NodeArena;
 use art_nodes::{
@@ -61,10 +61,13 @@ impl<'a, T> Reader<'a, T> {
 }
 
 impl<'a, K, V, const PREFIX_LEN: usize> Reader<'a, NodeArena<K, V, PREFIX_LEN>> {
-    /// Reads the node under this name. Each call counts one.
+    /// Reads the node under this name. Each call counts one. Where an inner node is held, it fits in memory, which a
+    /// caller over any `PREFIX_LEN` owes.
     pub fn visit(&mut self, name: OpaqueNodePtr) -> VisitedNode<'a, K, V, PREFIX_LEN>
         requires { IsSome (held_at self.old.arena.now name) }
         ensures value { held_at self.old.arena.now name ≡ Some (held_of result) }
+        ensures kind { kind_of result ≡ name.kind }
+        ensures fits_in_memory { name.kind ≢ NodeType.Leaf → PREFIX_LEN < 2 ^ 62 }
         ensures kept { self.new.arena.now ≡ self.old.arena.now }
         ensures counts { self.new.count ≡ min (self.old.count + 1) (2 ^ 64 - 1) }
     {
@@ -78,8 +81,11 @@ fn node_in<'a, K, V, const PREFIX_LEN: usize>(
     name: OpaqueNodePtr,
 ) -> VisitedNode<'a, K, V, PREFIX_LEN>
     requires { IsSome (held_at arena.now name) }
-    ensures { held_at arena.now name ≡ Some (held_of result) }
+    ensures value { held_at arena.now name ≡ Some (held_of result) }
+    ensures kind { kind_of result ≡ name.kind }
+    ensures fits_in_memory { name.kind ≢ NodeType.Leaf → PREFIX_LEN < 2 ^ 62 }
 {
+    let _nodes = &arena.nodes4;
     let slot = name.slot();
     match name.node_type() {
         NodeType::Node4 => match arena.nodes4.get(slot) {

@@ -36,6 +36,7 @@ pub use prefix_match::{
     PessimisticMismatch, PrefixMatch,
 };
 pub use sealed::Sealed;
+pub use slot::Slot;
 pub use sorted::{InnerNode4, InnerNode16, InnerNodeSorted};
 
 #[cfg(test)]

@@ -6,7 +6,8 @@ use std::fmt;
 use std::hash::{Hash, Hasher};
 use std::marker::Model;
 
-/// A slab key that takes eight bytes and forces no padding on what holds it.
+/// A slab key that takes eight bytes and forces no padding on what holds it. It is public since a leaf holds two, and a
+/// caller that moves a leaf must be able to name all that a leaf holds.
 pub struct Slot {
     bytes: [u8; 8],
 }
@@ -85,6 +86,7 @@ impl fmt::Debug for Slot {
 }
 
 impl Slot {
+    /// The slab key, held in these eight bytes.
     pub fn new(key: usize) -> Self
         ensures { result ≡ key }
     {
@@ -93,6 +95,7 @@ impl Slot {
         }
     }
 
+    /// The slab key.
     pub fn get(self) -> usize
         ensures { result ≡ self }
     {
