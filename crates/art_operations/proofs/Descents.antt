@@ -16,13 +16,14 @@ use Rattle.art_arena.specs.Arena.{Arena, leaf_held, inner_held, held_at, cell_of
 use Rattle.art_arena.specs.Shapes.{Shape, Branches, leaf_at, inner_at, no_branch, branch, LeafAt, name_of, children_at, join, leaves, leaves_in, erase, erase_in, cells, IsUnder, AreUnder}
 use Rattle.art_arena.proofs.Order.{all_append, all_weaker, begins_append, begins_step}
 use Rattle.art_arena.proofs.Fronts.{begins_trans}
-use Rattle.art_operations.specs.Subtrees.{IsSubtree}
+use Rattle.art_arena.proofs.Places.{leaves-begin}
+use Rattle.art_arena.specs.Meaning.{IsSubtree}
 use Rattle.art_operations.specs.declared.lookup.PrefixMatchBehavior.{PrefixMatchBehavior}
 use Rattle.art_operations.specs.declared.lookup.PrefixMatchBehavior.TheVariants.{Pessimistic, Optimistic}
 use Rattle.art_operations.specs.Lookups.{passing}
 use Rattle.art_operations.specs.Descents.{GoesOn, Ends, TakesFronts, LandsAt}
 use Rattle.art_operations.proofs.Prefixes.{drop-front}
-use Rattle.art_operations.proofs.Subtrees.{leaves_begin, subtree-branch}
+use Rattle.art_operations.proofs.Subtrees.{subtree-branch}
 
 byte_behind : (path rest : List ℕ) (c : ℕ) → get_or (path ++ c ∷ rest) (length path) 0 ≡ c
 byte_behind [] rest c = refl
@@ -65,7 +66,7 @@ module _ {K V : Type 0} (bytes : K → List ℕ) (key : List ℕ) where
     -- no leaf behind a path that isn't a front of the key
     none_below : (path : List ℕ) (s : Shape K V) → IsUnder bytes path s → (BeginsWith path key → ⊥) → passing bytes test (leaves s) ≡ []
     none_below path s under apart =
-        none_of (leaves s) (all_weaker _ _ (λ l begins. false_from_ne_true (test (bytes l.key)) (λ passed. apart (begins_trans path (bytes l.key) key begins (takes (bytes l.key) passed)))) (leaves s) (leaves_begin bytes path s under))
+        none_of (leaves s) (all_weaker _ _ (λ l begins. false_from_ne_true (test (bytes l.key)) (λ passed. apart (begins_trans path (bytes l.key) key begins (takes (bytes l.key) passed)))) (leaves s) (leaves-begin bytes path s under))
 
     branch_passing : (path : List ℕ) (c : ℕ) (t : Shape K V) (rest : Branches K V) → IsUnder bytes (path ++ c ∷ []) t → (BeginsWith (path ++ c ∷ []) key → ⊥)
         → passing bytes test (leaves_in (branch c t rest)) ≡ passing bytes test (leaves_in rest)
@@ -108,7 +109,7 @@ module _ {K V : Type 0} (bytes : K → List ℕ) (key : List ℕ) where
           filter-append (λ l. test (bytes l.key)) (leaves t) (leaves_in rest)
           ∙ ap (λ xs. passing bytes test (leaves t) ++ xs) (none_in test takes path (c + 1) rest under.2 (λ d above h. let b = next_byte path d key h in let f = same.1 in omega (arith, above, b, f)))
           ∙ append-nil (passing bytes test (leaves t));
-      walks = λ more. elim (eqb_tells (get_or key (length path) 0) c) [ inl yes ↦ rw yes.0 refl | inr other ↦ absurd (other.1 (sym same.1)) ];
+      walks = λ more. elim (eqb_tells (get_or key (length path) 0) c) [ inl alike ↦ rw alike.0 refl | inr other ↦ absurd (other.1 (sym same.1)) ];
     }
     | inr other ↦
         let later = found path (c + 1) rest m under.2 (rw other.0 at e) in
@@ -125,7 +126,7 @@ module _ {K V : Type 0} (bytes : K → List ℕ) (key : List ℕ) where
 
   module _ (P : ℕ) (at : Name → Option (Cell K V)) (s : Shape K V) (start : ℕ) where
     -- on the way: below this name stand all leaves that can be meant, behind so many bytes, which agree with the key where they
-    -- were compared; so many nodes were read, which are those of the key's path above
+    -- were compared; the nodes of the key's path above were read, and one more makes this count
     pub record OnWay (current : Name) (depth : ℕ) (behavior : PrefixMatchBehavior) (count : ℕ) : Type 0 where
       pub path : List ℕ
       pub sub : Shape K V
@@ -135,10 +136,10 @@ module _ {K V : Type 0} (bytes : K → List ℕ) (key : List ℕ) where
       pub compared : behavior ≡ Pessimistic → BeginsWith path key
       pub above : ℕ
       pub long : length (path_of (erase s) key) ≡ above + length (path_of (erase sub) (drop depth key))
-      pub reads : count ≡ min (start + above) (2 ^ 64 - 1)
+      pub reads : min (count + 1) (2 ^ 64 - 1) ≡ min (start + suc above) (2 ^ 64 - 1)
 
-    pub way-start : (root : Name) → IsSubtree bytes P at root [] s → start < 2 ^ 64 → OnWay root 0 Pessimistic start
-    way-start root subtree small = record {
+    pub way-start : (root : Name) → IsSubtree bytes P at root [] s → OnWay root 0 Pessimistic start
+    way-start root subtree = record {
       path = [];
       sub = s;
       subtree = subtree;
@@ -147,7 +148,7 @@ module _ {K V : Type 0} (bytes : K → List ℕ) (key : List ℕ) where
       compared = λ e. (key, refl);
       above = 0;
       long = omega arith;
-      reads = omega (arith, small);
+      reads = refl;
     }
 
     -- at an inner node
@@ -244,14 +245,14 @@ module _ {K V : Type 0} (bytes : K → List ℕ) (key : List ℕ) where
                   let stored : node.header.stored ≡ here.prefix = here.stored ∙ take_whole P here.prefix (let fits = c.1 in omega (arith, here.len, fits)) in
                   let agrees : agreeing here.prefix (drop depth key) ≡ length here.prefix = ap (λ x. agreeing x (drop depth key)) (sym stored) ∙ c.2 ∙ here.len in
                   let front = agrees_front here.prefix (drop depth key) agrees in
-                  begins_on on_path front left;
+                  begins_on b next on_path front left;
               above = way.above + 1;
               long = omega (arith, way.long, walk);
               reads = omega (arith, counts, way.reads);
             }
           where
-            begins_on : {b next : ℕ} → BeginsWith way.path key → BeginsWith here.prefix (drop depth key) → drop (length here.prefix) (drop depth key) ≡ b ∷ drop next key → BeginsWith ((way.path ++ here.prefix) ++ b ∷ []) key
-            begins_on {b} {next} (r, e) (q, f) left =
+            begins_on : (b next : ℕ) → BeginsWith way.path key → BeginsWith here.prefix (drop depth key) → drop (length here.prefix) (drop depth key) ≡ b ∷ drop next key → BeginsWith ((way.path ++ here.prefix) ++ b ∷ []) key
+            begins_on b next (r, e) (q, f) left =
                 let same : drop depth key ≡ r = ap (λ d. drop d key) (sym way.behind) ∙ ap (drop (length way.path)) e ∙ drop-front way.path r in
                 let tail_is : q ≡ b ∷ drop next key = sym (ap (drop (length here.prefix)) f ∙ drop-front here.prefix q) ∙ left in
                 (drop next key, e ∙ ap (λ x. way.path ++ x) (sym same ∙ f ∙ ap (λ x. here.prefix ++ x) tail_is) ∙ sym (append_assoc way.path here.prefix (b ∷ drop next key)) ∙ sym (append_assoc (way.path ++ here.prefix) (b ∷ []) (drop next key)))

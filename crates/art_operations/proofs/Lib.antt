@@ -3,3 +3,4 @@ pub mod Subtrees
 pub mod Ends
 pub mod Prefixes
 pub mod Descents
+pub mod Lookups

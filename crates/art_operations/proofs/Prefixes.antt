@@ -21,7 +21,7 @@ use Rattle.art_arena.specs.Arena.{Arena, leaf_held, inner_held, held_at, node_at
 use Rattle.art_arena.specs.Shapes.{Shape, Branches, leaf_at, inner_at, no_branch, branch, LeafAt, leaves, leaves_in, cells, cells_in}
 use Rattle.art_arena.specs.Linked.{first_slot}
 use Rattle.art_arena.proofs.Order.{all_append, all_left, all_right, all_weaker}
-use Rattle.art_operations.specs.Subtrees.{IsSubtree}
+use Rattle.art_arena.specs.Meaning.{IsSubtree}
 use Rattle.art_operations.specs.Prefixes.{prefix_of, Mismatches}
 use Rattle.art_operations.proofs.Subtrees.{inner_of, pair_of, leaves_begin_prefix}
 

@@ -8,14 +8,15 @@ use Rattle.art_arena.specs.Kinds.{IsKindOf}
 use Rattle.art_arena.specs.Cells.{Cell, pair, branches, copies, AreHeld}
 use Rattle.art_arena.specs.Arena.{Arena, Held, leaf_held, inner_held, cell_of, held_at, node_at}
 use Rattle.art_arena.specs.Shapes.{Shape, Branches, leaf_at, inner_at, no_branch, branch, LeafAt, name_of, children_at, join, leaves, leaves_in, cells, cells_in, IsUnder, AreUnder, width}
-use Rattle.art_arena.proofs.Order.{all_append, all_left, all_right, all_weaker, begins_append}
+use Rattle.art_arena.proofs.Order.{all_left, all_right}
+use Rattle.art_arena.proofs.Places.{leaves_in-begin}
 use Rattle.std.specs.List.{AllByRecursion}
 use Rattle.std.proofs.lemmas.List.{append-nil}
 use Rattle.art_bytes.specs.Keys.{BeginsWith}
 use Rattle.art_operations.specs.Prefixes.{prefix_of}
 use Rattle.art_arena.proofs.CellLists.{copies-append}
 use Rattle.art_arena.proofs.Contexts.{cells_in-join}
-use Rattle.art_operations.specs.Subtrees.{IsSubtree}
+use Rattle.art_arena.specs.Meaning.{IsSubtree}
 use Rattle.art_operations.proofs.Measures.{slots_of, cells_few, nodes_below, nodes_below-held}
 
 module _ {K V : Type 0} where
@@ -82,23 +83,10 @@ module _ {K V : Type 0} (bytes : K → List ℕ) where
       let first = some_leaf ((path ++ prefix) ++ b ∷ []) t under.1.1 in
       (first.0, first.1 ++ leaves_in rest, ap (λ xs. xs ++ leaves_in rest) first.2)
 
-  -- each key below begins with the path, and behind it the prefix
-  mutual
-    pub leaves_begin : (path : List ℕ) (s : Shape K V) → IsUnder bytes path s → AllByRecursion (λ l. BeginsWith path (bytes l.key)) (leaves s)
-    leaves_begin path (leaf_at slot k v) under = (under, tt)
-    leaves_begin path (inner_at n prefix kids) under =
-        all_weaker _ _ (λ l. begins_append path prefix (bytes l.key)) (leaves_in kids) (leaves_in_begin (path ++ prefix) 0 kids under.1)
-
-    pub leaves_in_begin : (path : List ℕ) (low : ℕ) (kids : Branches K V) → AreUnder bytes path low kids → AllByRecursion (λ l. BeginsWith path (bytes l.key)) (leaves_in kids)
-    leaves_in_begin path low no_branch under = tt
-    leaves_in_begin path low (branch b t rest) under =
-        all_append _ (leaves t) (leaves_in rest)
-        (all_weaker _ _ (λ l. begins_append path (b ∷ []) (bytes l.key)) (leaves t) (leaves_begin (path ++ b ∷ []) t under.1))
-        (leaves_in_begin path (b + 1) rest under.2)
-
+  -- each key below begins with the path and the prefix
   pub leaves_begin_prefix : (path : List ℕ) (s : Shape K V) → IsUnder bytes path s → AllByRecursion (λ l. BeginsWith (path ++ prefix_of s) (bytes l.key)) (leaves s)
   leaves_begin_prefix path (leaf_at slot k v) under = (rw append-nil under, tt)
-  leaves_begin_prefix path (inner_at n prefix kids) under = leaves_in_begin (path ++ prefix) 0 kids under.1
+  leaves_begin_prefix path (inner_at n prefix kids) under = leaves_in-begin bytes (path ++ prefix) 0 kids under.1
 
   module _ (P : ℕ) (at : Name → Option (Cell K V)) where
     pub subtree-leaf : (n : Name) (path : List ℕ) (s : Shape K V) → IsSubtree bytes P at n path s → n.kind ≡ Leaf → (k : K) × (v : V) × (s ≡ leaf_at n.slot k v)

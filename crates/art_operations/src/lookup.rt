@@ -6,7 +6,7 @@ ghost use Rattle.art_nodes.specs.PrefixMatch.{agreeing};
 ghost use Rattle.art_arena.specs.Tenants.{begins_with};
 ghost use Rattle.art_arena.specs.Arena.{node_at};
 ghost use Rattle.art_arena.specs.Shapes.{Shape, leaves};
-ghost use Rattle.art_operations.specs.Subtrees.{IsSubtree};
+ghost use Rattle.art_arena.specs.Meaning.{IsSubtree};
 ghost use Rattle.art_operations.specs.Lookups.{behavior_after, seen_by, leaf_where, ReadsPath};
 
 use crate::descent::land;
@@ -109,7 +109,8 @@ pub fn search_unchecked<K: AsBytes, V, const PREFIX_LEN: usize>(
     requires { (s : Shape K V) × IsSubtree K.bytes PREFIX_LEN (node_at arena.now) root [] s }
     ensures { (s : Shape K V) → IsSubtree K.bytes PREFIX_LEN (node_at arena.now) root [] s → result ≡ leaf_where K.bytes (λ k. bytes_eq k key.now) (leaves s) }
 {
-    search_by_reader(&mut ArenaReader::new(arena), root, key)
+    let mut reader = ArenaReader::new(arena);
+    search_by_reader(&mut reader, root, key)
 }
 
 /// The leaf whose key is a front of this one, or all of it, in the tree below a name, or `None` where there is none.
@@ -123,7 +124,8 @@ pub fn prefix_search_unchecked<K: AsBytes, V, const PREFIX_LEN: usize>(
     requires { (s : Shape K V) × IsSubtree K.bytes PREFIX_LEN (node_at arena.now) root [] s }
     ensures { (s : Shape K V) → IsSubtree K.bytes PREFIX_LEN (node_at arena.now) root [] s → result ≡ leaf_where K.bytes (λ k. begins_with k key.now) (leaves s) }
 {
-    prefix_search_by_reader(&mut ArenaReader::new(arena), root, key)
+    let mut counted = ArenaReader::new(arena);
+    prefix_search_by_reader(&mut counted, root, key)
 }
 
 /// What `search_unchecked` answers, by a reader that counts each node that is read: where the leaf is found the nodes
@@ -138,11 +140,14 @@ pub fn search_by_reader<K: AsBytes, V, const PREFIX_LEN: usize>(
     ensures kept { reader.new.arena.now ≡ reader.old.arena.now }
     ensures counts { (s : Shape K V) → IsSubtree K.bytes PREFIX_LEN (node_at reader.old.arena.now) root [] s → ReadsPath key.now s reader.old.count reader.new.count (is_some result) }
 {
-    let landed = land(reader, root, key)?;
-    if landed.behavior.matches_leaf_key(landed.leaf, key, landed.depth) {
-        Some(landed.name)
-    } else {
-        None
+    match land(reader, root, key) {
+        Some(landed) => {
+            if landed.behavior.matches_leaf_key(landed.leaf, key, landed.depth) {
+                return Some(landed.name);
+            }
+            None
+        }
+        None => None,
     }
 }
 
@@ -158,10 +163,13 @@ pub fn prefix_search_by_reader<K: AsBytes, V, const PREFIX_LEN: usize>(
     ensures kept { reader.new.arena.now ≡ reader.old.arena.now }
     ensures counts { (s : Shape K V) → IsSubtree K.bytes PREFIX_LEN (node_at reader.old.arena.now) root [] s → ReadsPath key.now s reader.old.count reader.new.count (is_some result) }
 {
-    let landed = land(reader, root, key)?;
-    if landed.behavior.leaf_key_is_prefix(landed.leaf, key, landed.depth) {
-        Some(landed.name)
-    } else {
-        None
+    match land(reader, root, key) {
+        Some(front) => {
+            if front.behavior.leaf_key_is_prefix(front.leaf, key, front.depth) {
+                return Some(front.name);
+            }
+            None
+        }
+        None => None,
     }
 }

@@ -3,7 +3,7 @@ ghost use Rattle.std.specs.Prelude.{◌≡◌, ℕ, List, Some, None};
 ghost use Rattle.art_arena.specs.Arena.{node_at};
 ghost use Rattle.art_arena.specs.Shapes.{Shape, leaves};
 ghost use Rattle.art_arena.specs.Linked.{first_slot, last_slot};
-ghost use Rattle.art_operations.specs.Subtrees.{IsSubtree};
+ghost use Rattle.art_arena.specs.Meaning.{IsSubtree};
 
 use crate::inner::{first_child, last_child};
 use art_arena::{LeafPtr, NodeArena};
@@ -21,8 +21,8 @@ pub fn minimum_unchecked<K: AsBytes, V, const PREFIX_LEN: usize>(
 {
     let mut current = root;
     loop {
-        if let Some(leaf) = current.cast::<KindLeaf>() {
-            return leaf;
+        if let Some(first) = current.cast::<KindLeaf>() {
+            return first;
         }
         match first_child(arena, current) {
             Some(child) => current = child.1,
@@ -42,8 +42,8 @@ pub fn maximum_unchecked<K: AsBytes, V, const PREFIX_LEN: usize>(
 {
     let mut current = root;
     loop {
-        if let Some(leaf) = current.cast::<KindLeaf>() {
-            return leaf;
+        if let Some(last) = current.cast::<KindLeaf>() {
+            return last;
         }
         match last_child(arena, current) {
             Some(child) => current = child.1,
