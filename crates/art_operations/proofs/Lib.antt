@@ -4,3 +4,7 @@ pub mod Ends
 pub mod Prefixes
 pub mod Descents
 pub mod Lookups
+pub mod Meetings
+pub mod Points
+pub mod EndPlaces
+pub mod Surroundings

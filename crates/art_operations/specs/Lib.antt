@@ -2,3 +2,6 @@ pub mod Subtrees
 pub mod Prefixes
 pub mod Lookups
 pub mod Descents
+pub mod Meetings
+pub mod Points
+pub mod DeletePoints

@@ -72,3 +72,17 @@ pub(crate) fn header<K, V, const PREFIX_LEN: usize>(
     arena.prefix_fits(name);
     match_inner_node!(arena, name, node => node.header())
 }
+
+// The child under a byte.
+pub(crate) fn lookup_child<K, V, const PREFIX_LEN: usize>(
+    arena: &NodeArena<K, V, PREFIX_LEN>,
+    name: OpaqueNodePtr,
+    byte: u8,
+) -> Option<OpaqueNodePtr>
+    requires held { IsSome (held_at arena.now name) }
+    requires inner { name.kind ≢ NodeType.Leaf }
+    ensures { (n : node.InnerNode) → held_at arena.now name ≡ Some (inner_held n) → result ≡ node.child_at n.children byte }
+{
+    arena.prefix_fits(name);
+    match_inner_node!(arena, name, node => node.lookup_child(byte))
+}

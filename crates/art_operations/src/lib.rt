@@ -3,11 +3,18 @@
 //! The definitions stand in `specs/`.
 #![tactic(auto)]
 
+pub mod delete;
 mod descent;
 mod inner;
+pub mod insert;
 pub mod lookup;
+pub mod meeting;
 pub mod minmax;
 pub mod prefix;
 
+pub use lookup::{
+    PrefixMatchBehavior, prefix_search_by_reader, prefix_search_unchecked, search_by_reader,
+    search_unchecked,
+};
 pub use minmax::{maximum_unchecked, minimum_unchecked};
 pub use prefix::{match_full_prefix, read_full_prefix};
