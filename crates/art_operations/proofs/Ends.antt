@@ -1,11 +1,11 @@
 -- The way down to the first or the last leaf below a node.
-use Rattle.std.proofs.Common.{◌≡◌, ◌≢◌, ℕ, ◌<◌, List, [], ◌∷◌, ◌++◌, Option, Some, None, IsSome, refl, sym, ap, subst, ◌∙◌, arith}
+use Rattle.std.proofs.Common.{◌≡◌, ◌≢◌, ℕ, ◌<◌, List, [], ◌∷◌, ◌++◌, Option, Some, None, IsSome, refl, sym, ap, subst, ◌∙◌, arith, ◌≤◌, ◌+◌, length}
 use Rattle.art_nodes.specs.declared.kind.NodeType.TheVariants.{Leaf}
 use Rattle.art_nodes.specs.InnerNode.{InnerNode, first_child, last_child}
 use Rattle.art_nodes.specs.Name.{Name}
 use Rattle.art_arena.specs.Cells.{Cell}
 use Rattle.art_arena.specs.Arena.{Arena, inner_held, held_at, node_at}
-use Rattle.art_arena.specs.Shapes.{Shape, Branches, inner_at, no_branch, branch, LeafAt, leaves, leaves_in}
+use Rattle.art_arena.specs.Shapes.{Shape, Branches, inner_at, no_branch, branch, LeafAt, leaves, leaves_in, join, width, IsUnder, AreUnder, children_at, name_of, cells}
 use Rattle.art_arena.specs.Linked.{first_slot, last_slot}
 use Rattle.art_arena.proofs.Contexts.{leaves_in-join}
 use Rattle.art_arena.proofs.LinkedLists.{last_slot-append}

@@ -1,11 +1,11 @@
 -- A subtree: what the arena has at its root, its children, and its leaves.
-use Rattle.std.proofs.Common.{◌≡◌, ◌≢◌, ℕ, ◌+◌, ◌<◌, ◌≤◌, List, [], ◌∷◌, ◌++◌, length, Option, Some, None, IsSome, refl, sym, ap, subst, ◌∙◌, arith, length-append, take}
+use Rattle.std.proofs.Common.{◌≡◌, ◌≢◌, ℕ, ◌+◌, ◌<◌, ◌≤◌, List, [], ◌∷◌, ◌++◌, length, Option, Some, None, IsSome, refl, sym, ap, subst, ◌∙◌, arith, length-append, take, Bool, true, false, cond}
 use Rattle.art_nodes.specs.declared.kind.NodeType.TheVariants.{Leaf}
 use Rattle.art_nodes.specs.declared.leaf.LeafNode.{LeafNode}
 use Rattle.art_nodes.specs.InnerNode.{InnerNode, first_child, last_child}
 use Rattle.art_nodes.specs.Name.{Name}
 use Rattle.art_arena.specs.Kinds.{IsKindOf}
-use Rattle.art_arena.specs.Cells.{Cell, pair, branches, copies, AreHeld}
+use Rattle.art_arena.specs.Cells.{Cell, pair, branches, copies, AreHeld, leaf_name, same_name}
 use Rattle.art_arena.specs.Arena.{Arena, Held, leaf_held, inner_held, cell_of, held_at, node_at}
 use Rattle.art_arena.specs.Shapes.{Shape, Branches, leaf_at, inner_at, no_branch, branch, LeafAt, name_of, children_at, join, leaves, leaves_in, cells, cells_in, IsUnder, AreUnder, width}
 use Rattle.art_arena.proofs.Order.{all_left, all_right}
@@ -98,6 +98,17 @@ module _ {K V : Type 0} (bytes : K → List ℕ) where
     pub subtree-inner : (n : Name) (path : List ℕ) (s : Shape K V) → IsSubtree bytes P at n path s → n.kind ≢ Leaf → (prefix : List ℕ) × (kids : Branches K V) × (s ≡ inner_at n prefix kids)
     subtree-inner n path (leaf_at slot k v) sub other = absurd (other (ap (λ (m : Name). m.kind) (sym sub.part.named)))
     subtree-inner n path (inner_at m prefix kids) sub other = (prefix, kids, ap (λ m. inner_at m prefix kids) sub.part.named)
+
+    -- a leaf that is held, as a tree
+    pub lone_leaf : (slot : ℕ) (k : K) (v : V) → at (leaf_name slot) ≡ Some (pair k v) → IsSubtree bytes P at (leaf_name slot) [] (leaf_at slot k v)
+    lone_leaf slot k v there = record {
+      part = record { named = refl; held = (there, tt); once = λ n. at_most (same_name n (leaf_name slot)) };
+      under = (bytes k, refl);
+    }
+      where
+        at_most : (b : Bool) → cond b 1 0 + 0 ≤ 1
+        at_most true = omega arith
+        at_most false = omega arith
 
     -- what stands below a branch of a subtree is a subtree of fewer nodes
     pub record IsBelow (path : List ℕ) (t : Shape K V) (more : ℕ) : Type 0 where

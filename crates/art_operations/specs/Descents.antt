@@ -32,8 +32,8 @@ Ends P key depth node =
 -- it ends at a leaf, goes on to a child, or leaves the tree
 abbrev pub IsTurn : {K V : Type 0} → ℕ → List ℕ → ℕ → PrefixMatchBehavior → Held K V → Turn K V → Type 0
 IsTurn P key depth behavior held (turn.Leaf leaf) = held ≡ leaf_held leaf.now
-IsTurn P key depth behavior held (turn.Child step) = (node : InnerNode) × (held ≡ inner_held node) × GoesOn P key depth behavior node step.child step.depth step.behavior
-IsTurn P key depth behavior held turn.Nowhere = (node : InnerNode) × (held ≡ inner_held node) × Ends P key depth node
+IsTurn P key depth behavior held (turn.Inner (Some step)) = (node : InnerNode) × (held ≡ inner_held node) × GoesOn P key depth behavior node step.child step.depth step.behavior
+IsTurn P key depth behavior held (turn.Inner None) = (node : InnerNode) × (held ≡ inner_held node) × Ends P key depth node
 
 -- only fronts of the key pass the test
 abbrev pub TakesFronts : List ℕ → (List ℕ → Bool) → Type 0

@@ -1,11 +1,11 @@
 //! The way of a key down the tree below a name, to the one leaf that can be meant.
-ghost use Rattle.std.specs.Prelude.{◌≡◌, ◌≢◌, ◌^◌, ◌<◌, ◌≤◌, ℕ, [], length, is_some};
-ghost use Rattle.art_arena.specs.Arena.{inner_held, node_at};
+ghost use Rattle.std.specs.Prelude.{◌≡◌, ◌≢◌, ◌^◌, ◌<◌, ◌≤◌, ℕ, [], length, is_some, MatchOption};
+ghost use Rattle.art_arena.specs.Arena.{node_at};
 ghost use Rattle.art_arena.specs.Shapes.{Shape};
 ghost use Rattle.art_arena.specs.Visited.{held_of, kind_of};
 ghost use Rattle.art_arena.specs.Meaning.{IsSubtree};
 ghost use Rattle.art_operations.specs.Lookups.{ReadsPath};
-ghost use Rattle.art_operations.specs.Descents.{IsTurn, Lands};
+ghost use Rattle.art_operations.specs.Descents.{Ends, GoesOn, IsTurn, Lands};
 
 use crate::lookup::PrefixMatchBehavior;
 use art_arena::{ArenaReader, LeafPtr, VisitedNode};
@@ -25,10 +25,8 @@ struct NextStep {
 enum Turn<'a, K, V> {
     // It ends at a leaf.
     Leaf(&'a LeafNode<K, V>),
-    // To a child.
-    Child(NextStep),
-    // Nowhere: the key leaves the tree.
-    Nowhere,
+    // To a child, or nowhere where the key leaves the tree.
+    Inner(Option<NextStep>),
 }
 
 // The leaf at which a look-up ended, and how it came there.
@@ -40,32 +38,32 @@ pub(crate) struct Landed<'a, K, V> {
     pub(crate) behavior: PrefixMatchBehavior,
 }
 
-// Where a look-up goes from an inner node that stands behind so many bytes of its key.
-fn turn_in<'a, K, V, N: InnerNodeCommon<PREFIX_LEN>, const PREFIX_LEN: usize>(
+// The child to which a key goes on from an inner node that stands behind so many of its bytes.
+fn next_step<N: InnerNodeCommon<PREFIX_LEN>, const PREFIX_LEN: usize>(
     node: &N,
     key: &[u8],
     depth: usize,
     behavior: PrefixMatchBehavior,
-) -> Turn<'a, K, V>
+) -> Option<NextStep>
     requires { depth ≤ length key.now }
-    ensures { IsTurn PREFIX_LEN key.now depth behavior (inner_held (N.inner node.now)) result }
+    ensures { MatchOption result (Ends PREFIX_LEN key.now depth (N.inner node.now)) (λ step. GoesOn PREFIX_LEN key.now depth behavior (N.inner node.now) step.child step.depth step.behavior) }
 {
     let mut behavior = behavior;
     let rest = &key[depth..];
     let len = match behavior.match_prefix(node, rest) {
         Ok(matched) => matched.matched_bytes,
-        Err(_) => return Turn::Nowhere,
+        Err(_) => return None,
     };
     if len >= rest.len() {
-        return Turn::Nowhere;
+        return None;
     }
     match node.lookup_child(rest[len]) {
-        Some(child) => Turn::Child(NextStep {
+        Some(child) => Some(NextStep {
             child,
             depth: depth + len + 1,
             behavior,
         }),
-        None => Turn::Nowhere,
+        None => None,
     }
 }
 
@@ -82,10 +80,10 @@ fn turn_at<'a, K, V, const PREFIX_LEN: usize>(
 {
     match node {
         VisitedNode::Leaf(leaf) => Turn::Leaf(leaf),
-        VisitedNode::Node4(node) => turn_in(node, key, depth, behavior),
-        VisitedNode::Node16(node) => turn_in(node, key, depth, behavior),
-        VisitedNode::Node48(node) => turn_in(node, key, depth, behavior),
-        VisitedNode::Node256(node) => turn_in(node, key, depth, behavior),
+        VisitedNode::Node4(node) => Turn::Inner(next_step(node, key, depth, behavior)),
+        VisitedNode::Node16(node) => Turn::Inner(next_step(node, key, depth, behavior)),
+        VisitedNode::Node48(node) => Turn::Inner(next_step(node, key, depth, behavior)),
+        VisitedNode::Node256(node) => Turn::Inner(next_step(node, key, depth, behavior)),
     }
 }
 
@@ -113,12 +111,14 @@ pub(crate) fn land<'a, K: AsBytes, V, const PREFIX_LEN: usize>(
                     behavior,
                 });
             }
-            Turn::Nowhere => return None,
-            Turn::Child(step) => {
-                current = step.child;
-                depth = step.depth;
-                behavior = step.behavior;
-            }
+            Turn::Inner(next) => match next {
+                None => return None,
+                Some(step) => {
+                    current = step.child;
+                    depth = step.depth;
+                    behavior = step.behavior;
+                }
+            },
         }
     }
 }

@@ -9,5 +9,9 @@ pub mod lookup;
 pub mod minmax;
 pub mod prefix;
 
+pub use lookup::{
+    PrefixMatchBehavior, prefix_search_by_reader, prefix_search_unchecked, search_by_reader,
+    search_unchecked,
+};
 pub use minmax::{maximum_unchecked, minimum_unchecked};
 pub use prefix::{match_full_prefix, read_full_prefix};

@@ -30,17 +30,17 @@ returns-in-Leaf-clause-lands g c = λ s tree.
     c.loop-leaf.current c.loop-leaf.depth c.loop-leaf.behavior c.loop-leaf.reader.count way c.in-Leaf.leaf.now there c.loop-leaf.invariant.room in
     rw slots at lands
 
-pub returns-in-Nowhere-clause-lands : goal.returns-in-Nowhere-clause-lands
-returns-in-Nowhere-clause-lands g c = λ s tree.
+pub returns-in-None-clause-lands : goal.returns-in-None-clause-lands
+returns-in-None-clause-lands g c = λ s tree.
     let way = c.loop-leaf.invariant.way s tree in
-    let turn = c.in-Nowhere.ensures in
+    let turn = rw c.in-None.is at c.in-Inner.ensures in
     let there = lent-inner c.args.reader.now.arena.now c.loop-leaf.reader.arena.now c.loop-leaf.current (held_of c.visit.result) turn.0 c.loop-leaf.invariant.kept c.visit.ensures.value turn.1 in
     way-ends g.K.AsBytes.bytes c.args.key.now g.row.PREFIX_LEN (node_at c.args.reader.now.arena.now) s c.args.reader.now.count
     c.loop-leaf.current c.loop-leaf.depth c.loop-leaf.behavior c.loop-leaf.reader.count way turn.0 there turn.2
 
 pub loop-leaf-preserved : goal.loop-leaf-preserved
 loop-leaf-preserved g c =
-    let turn = c.in-Child.ensures in
+    let turn = rw c.in-Some.is at c.in-Inner.ensures in
     record {
       room = turn.2.within;
       kept = c.visit.ensures.kept ∙ c.loop-leaf.invariant.kept;
@@ -59,10 +59,10 @@ returns-in-Leaf-clause-counts g c = λ s tree.
     c.loop-leaf.current c.loop-leaf.depth c.loop-leaf.behavior c.loop-leaf.reader.count way c.in-Leaf.leaf.now there c.loop-leaf.invariant.room in
     c.visit.ensures.counts ∙ way.reads ∙ ap (λ n. min (c.args.reader.now.count + n) (2 ^ 64 - 1)) (omega (arith, long))
 
-pub returns-in-Nowhere-clause-counts : goal.returns-in-Nowhere-clause-counts
-returns-in-Nowhere-clause-counts g c = λ s tree.
+pub returns-in-None-clause-counts : goal.returns-in-None-clause-counts
+returns-in-None-clause-counts g c = λ s tree.
     let way = c.loop-leaf.invariant.way s tree in
-    let turn = c.in-Nowhere.ensures in
+    let turn = rw c.in-None.is at c.in-Inner.ensures in
     let there = lent-inner c.args.reader.now.arena.now c.loop-leaf.reader.arena.now c.loop-leaf.current (held_of c.visit.result) turn.0 c.loop-leaf.invariant.kept c.visit.ensures.value turn.1 in
     let long : way.above + 1 ≤ length (path_of (erase s) c.args.key.now) = way-ends-long g.K.AsBytes.bytes c.args.key.now g.row.PREFIX_LEN (node_at c.args.reader.now.arena.now) s c.args.reader.now.count
     c.loop-leaf.current c.loop-leaf.depth c.loop-leaf.behavior c.loop-leaf.reader.count way turn.0 there in
