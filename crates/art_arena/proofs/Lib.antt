@@ -28,6 +28,14 @@ pub mod LinkedLists
 pub mod Erased
 pub mod OneMeaning
 pub mod Meanings
+pub mod Updates
+pub mod Measures
+pub mod Subtrees
+pub mod EndWalks
+pub mod Prefixes
+pub mod Repoint
+pub mod Surroundings
+pub mod Openings
 pub mod OtherChildren
 pub mod Arenas
 pub mod Examples

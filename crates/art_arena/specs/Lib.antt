@@ -14,6 +14,7 @@ pub mod Shapes
 pub mod Linked
 pub mod Meaning
 pub mod Context
+pub mod Prefixes
 pub mod Steps
 pub mod Places
 pub mod Found

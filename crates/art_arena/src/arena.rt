@@ -9,6 +9,7 @@ use art_nodes::{
 use slab::Slab;
 use std::alloc::{AllocError, Global};
 use std::marker::Model;
+use std::mem;
 use thiserror::Error;
 
 /// The name of a leaf.
@@ -143,8 +144,9 @@ impl<K, V, const PREFIX_LEN: usize> NodeArena<K, V, PREFIX_LEN> {
         requires { IsSome (held_at self.old (record { kind = N.Kind.TYPE; slot = ptr })) }
         ensures value { held_at self.old (record { kind = N.Kind.TYPE; slot = ptr }) ≡ Some (N.held result) }
         ensures updates { UpdatesAt (held_at self.old) (held_at self.new) (record { kind = N.Kind.TYPE; slot = ptr }) (Some (N.held node)) }
+        ensures room { (n : ℕ) → HasRoom self.old n → HasRoom self.new n }
     {
-        N::replace(self, ptr.slot(), node)
+        mem::replace(self.as_mut::<N>(ptr), node)
     }
 
     /// The node under this name.
@@ -206,8 +208,19 @@ impl<K, V, const PREFIX_LEN: usize> NodeArena<K, V, PREFIX_LEN> {
         ensures* writes_back { sem 𝓛 (lends_value K.row V.row PREFIX_LEN.row self.entry leaf result) }
         ensures value { (l : _) → held_at self.old (leaf_name leaf) ≡ Some (leaf_held l) → result.now ≡ l.value }
     {
+        let (_key, value) = self.as_key_ref_value_mut(leaf);
+        value
+    }
+
+    /// The key of a leaf, and its value for writing.
+    pub fn as_key_ref_value_mut(&mut self, leaf: LeafPtr) -> (&K, &mut V)
+        requires { IsSome (held_at self.old (leaf_name leaf)) }
+        ensures* writes_back { sem 𝓛 (lends_value K.row V.row PREFIX_LEN.row self.entry leaf result.1) }
+        ensures key { (l : _) → held_at self.old (leaf_name leaf) ≡ Some (leaf_held l) → result.0.now ≡ l.key }
+        ensures value { (l : _) → held_at self.old (leaf_name leaf) ≡ Some (leaf_held l) → result.1.now ≡ l.value }
+    {
         match self.leaves.get_mut(leaf.slot()) {
-            Some(node) => node.value_mut(),
+            Some(node) => node.entry_mut(),
             None => unreachable!(),
         }
     }
@@ -237,7 +250,8 @@ impl<K, V, const PREFIX_LEN: usize> NodeArena<K, V, PREFIX_LEN> {
     // Sets the leaf that comes before a leaf.
     pub(crate) fn set_previous(&mut self, leaf: usize, previous: Option<usize>)
         requires { IsSome (links_at self.old leaf) }
-        ensures { (was : _) → links_at self.old leaf ≡ Some was → WritesLinks self.old self.new leaf (record was { previous = previous }) }
+        ensures links { (was : _) → links_at self.old leaf ≡ Some was → WritesLinks self.old self.new leaf (record was { previous = previous }) }
+        ensures room { (n : ℕ) → HasRoom self.old n → HasRoom self.new n }
     {
         match self.leaves.get_mut(leaf) {
             Some(node) => node.set_previous(name_of(previous)),
@@ -248,7 +262,8 @@ impl<K, V, const PREFIX_LEN: usize> NodeArena<K, V, PREFIX_LEN> {
     // Sets the leaf that comes after a leaf.
     pub(crate) fn set_next(&mut self, leaf: usize, next: Option<usize>)
         requires { IsSome (links_at self.old leaf) }
-        ensures { (was : _) → links_at self.old leaf ≡ Some was → WritesLinks self.old self.new leaf (record was { next = next }) }
+        ensures links { (was : _) → links_at self.old leaf ≡ Some was → WritesLinks self.old self.new leaf (record was { next = next }) }
+        ensures room { (n : ℕ) → HasRoom self.old n → HasRoom self.new n }
     {
         match self.leaves.get_mut(leaf) {
             Some(node) => node.set_next(name_of(next)),

@@ -6,7 +6,7 @@ ghost use Rattle.art_arena.specs.Paths.{path_of};
 ghost use Rattle.art_arena.specs.Shapes.{Shape};
 ghost use Rattle.art_arena.specs.Meaning.{IsSubtree, Means};
 ghost use Rattle.art_arena.specs.Arena.{node_at, links_at};
-ghost use Rattle.art_arena.specs.Visited.{held_of, kind_of};
+ghost use Rattle.art_arena.specs.Visited.{arena_of, count_of, held_of, kind_of};
 ghost use Rattle.art_arena.specs.Steps.{steps_of};
 ghost use Rattle.art_arena.specs.Found.{found_of, found_in, pair_found, IsAtKey};
 ghost use Rattle.art_arena.specs.Turns.{GoesOn, Ends, IsTurn};
@@ -33,13 +33,13 @@ pub fn find_leaf<K: AsBytes, V, const PREFIX_LEN: usize>(
     root: OpaqueNodePtr,
     key: &[u8],
 ) -> Option<FoundLeaf>
-    requires { (s : Shape K V) × IsSubtree K.bytes PREFIX_LEN (node_at reader.old.arena.now) root [] s }
-    ensures value { (s : Shape K V) → IsSubtree K.bytes PREFIX_LEN (node_at reader.old.arena.now) root [] s → found_of result ≡ found_in K.bytes key.now s }
-    ensures place { (s : Shape K V) → IsSubtree K.bytes PREFIX_LEN (node_at reader.old.arena.now) root [] s → IfSome result (λ found. IsAtKey K.bytes key.now s found.leaf_node_ptr (steps_of found.path)) }
-    ensures pairs { (t : Tree (K × V)) → Means K.bytes PREFIX_LEN (node_at reader.old.arena.now) root (links_at reader.old.arena.now) t → pair_found (node_at reader.old.arena.now) result ≡ filter (λ p. bytes_eq (K.bytes p.0) key.now) (items t) }
-    ensures kept { reader.new.arena.now ≡ reader.old.arena.now }
-    ensures counts { (t : Tree (K × V)) → Means K.bytes PREFIX_LEN (node_at reader.old.arena.now) root (links_at reader.old.arena.now) t → reader.new.count ≡ min (reader.old.count + length (path_of t key.now)) (2 ^ 64 - 1) }
-    ensures few { reader.new.count ≤ reader.old.count + (length key.now + 1) }
+    requires { (s : Shape K V) × IsSubtree K.bytes PREFIX_LEN (node_at (arena_of reader.old)) root [] s }
+    ensures value { (s : Shape K V) → IsSubtree K.bytes PREFIX_LEN (node_at (arena_of reader.old)) root [] s → found_of result ≡ found_in K.bytes key.now s }
+    ensures place { (s : Shape K V) → IsSubtree K.bytes PREFIX_LEN (node_at (arena_of reader.old)) root [] s → IfSome result (λ found. IsAtKey K.bytes key.now s found.leaf_node_ptr (steps_of found.path)) }
+    ensures pairs { (t : Tree (K × V)) → Means K.bytes PREFIX_LEN (node_at (arena_of reader.old)) root (links_at (arena_of reader.old)) t → pair_found (node_at (arena_of reader.old)) result ≡ filter (λ p. bytes_eq (K.bytes p.0) key.now) (items t) }
+    ensures kept { arena_of reader.new ≡ arena_of reader.old }
+    ensures counts { (t : Tree (K × V)) → Means K.bytes PREFIX_LEN (node_at (arena_of reader.old)) root (links_at (arena_of reader.old)) t → count_of reader.new ≡ min (count_of reader.old + length (path_of t key.now)) (2 ^ 64 - 1) }
+    ensures few { count_of reader.new ≤ count_of reader.old + (length key.now + 1) }
 {
     let mut search = TreePathSearch::default();
     let mut current = root;

@@ -4,16 +4,21 @@
 #![tactic(auto)]
 
 mod arena;
+mod ends;
 mod find;
+pub mod inner;
 pub mod laws;
 pub mod links;
 mod path;
+mod prefix;
 mod reader;
 mod stored;
 
 pub use arena::{LeafPtr, NodeArena, NodeRefused};
+pub use ends::{first_leaf, last_leaf};
 pub use find::{FoundLeaf, find_leaf};
 pub use path::{TreePath, TreePathSearch, inner_node_ptr};
+pub use prefix::{match_full_prefix, read_full_prefix};
 pub use reader::{ArenaReader, Reader, VisitedNode};
 pub use stored::{NodeStore, Stored};
 

@@ -1,7 +1,7 @@
 //! Reading an arena, each node that is read counted.
 ghost use Rattle.std.specs.Prelude.{◌≡◌, ◌≢◌, ◌+◌, ◌-◌, ◌^◌, ◌<◌, min, Some, IsSome};
 ghost use Rattle.art_arena.specs.Arena.{held_at};
-ghost use Rattle.art_arena.specs.Visited.{held_of, kind_of};
+ghost use Rattle.art_arena.specs.Visited.{arena_of, count_of, held_of, kind_of};
 
 use crate::arena::NodeArena;
 use art_nodes::{
@@ -36,24 +36,24 @@ pub type ArenaReader<'a, K, V, const PREFIX_LEN: usize> = Reader<'a, NodeArena<K
 impl<'a, T> Reader<'a, T> {
     /// A reader that has read nothing yet.
     pub fn new(arena: &'a T) -> Self
-        ensures arena { result.arena.now ≡ arena.now }
-        ensures count { result.count ≡ 0 }
+        ensures arena { arena_of result ≡ arena.now }
+        ensures count { count_of result ≡ 0 }
     {
         Reader { arena, count: 0 }
     }
 
     /// How many nodes were read so far. A count that reaches the greatest number stays there.
     pub fn count(&self) -> u64
-        ensures { result ≡ self.now.count }
+        ensures { result ≡ count_of self.now }
     {
         self.count
     }
 
     // One step.
     fn step(&mut self) -> &'a T
-        ensures value { result.now ≡ self.old.arena.now }
-        ensures kept { self.new.arena.now ≡ self.old.arena.now }
-        ensures counts { self.new.count ≡ min (self.old.count + 1) (2 ^ 64 - 1) }
+        ensures value { result.now ≡ arena_of self.old }
+        ensures kept { arena_of self.new ≡ arena_of self.old }
+        ensures counts { count_of self.new ≡ min (count_of self.old + 1) (2 ^ 64 - 1) }
     {
         self.count = self.count.saturating_add(1);
         self.arena
@@ -64,12 +64,12 @@ impl<'a, K, V, const PREFIX_LEN: usize> Reader<'a, NodeArena<K, V, PREFIX_LEN>> 
     /// Reads the node under this name. Each call counts one. Where an inner node is held, it fits in memory, which a
     /// caller over any `PREFIX_LEN` owes.
     pub fn visit(&mut self, name: OpaqueNodePtr) -> VisitedNode<'a, K, V, PREFIX_LEN>
-        requires { IsSome (held_at self.old.arena.now name) }
-        ensures value { held_at self.old.arena.now name ≡ Some (held_of result) }
+        requires { IsSome (held_at (arena_of self.old) name) }
+        ensures value { held_at (arena_of self.old) name ≡ Some (held_of result) }
         ensures kind { kind_of result ≡ name.kind }
         ensures fits_in_memory { name.kind ≢ NodeType.Leaf → PREFIX_LEN < 2 ^ 62 }
-        ensures kept { self.new.arena.now ≡ self.old.arena.now }
-        ensures counts { self.new.count ≡ min (self.old.count + 1) (2 ^ 64 - 1) }
+        ensures kept { arena_of self.new ≡ arena_of self.old }
+        ensures counts { count_of self.new ≡ min (count_of self.old + 1) (2 ^ 64 - 1) }
     {
         node_in(self.step(), name)
     }

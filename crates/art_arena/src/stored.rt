@@ -6,12 +6,11 @@ ghost use Rattle.art_arena.specs.Cells.{UpdatesAt};
 ghost use Rattle.art_arena.specs.Arena.{Arena, Held, leaf_held, inner_held, held_at, Allocates, SameNodes, HasRoom, with_leaf, with_node4, with_node16, with_node48, with_node256};
 ghost use Rattle.std.specs.Borrow.{sem};
 ghost use Rattle.art_arena.specs.Lends.{lends_node};
-ghost use Rattle.art_arena.specs.WrittenNodes.{written_leaf, written_node4, written_node16, written_node48, written_node256};
+ghost use Rattle.art_arena.specs.WrittenNodes.{written_leaf, written_node4, written_node16, written_node48, written_node256, kept_leaf, kept_node4, kept_node16, kept_node48, kept_node256};
 
 use crate::arena::{NO_MEMORY_HOLDS, NodeArena};
 use art_nodes::{InnerNode4, InnerNode16, InnerNode48, InnerNode256, LeafNode, Node};
 use std::alloc::AllocFailed;
-use std::mem;
 
 /// What keeps nodes of these keys and values under names.
 pub trait NodeStore<K, V>: Sized {
@@ -57,15 +56,13 @@ pub trait Stored<K, V, A: NodeStore<K, V>>: Node + Sized {
         ensures updates { UpdatesAt (held_at (A.nodes arena.old)) (held_at (A.nodes arena.new)) (record { kind = Self.Kind.TYPE; slot = slot }) None }
         ensures room { (n : ℕ) → HasRoom (A.nodes arena.old) n → HasRoom (A.nodes arena.new) n };
 
-    /// Puts the node in the place of the one under a slab key, which is handed back.
-    fn replace(arena: &mut A, slot: usize, node: Self) -> Self
-        requires { IsSome (held_at (A.nodes arena.old) (record { kind = Self.Kind.TYPE; slot = slot })) }
-        ensures value { held_at (A.nodes arena.old) (record { kind = Self.Kind.TYPE; slot = slot }) ≡ Some (held result) }
-        ensures updates { UpdatesAt (held_at (A.nodes arena.old)) (held_at (A.nodes arena.new)) (record { kind = Self.Kind.TYPE; slot = slot }) (Some (held node)) };
-
     /// Another node under a slab key is another node under that name, and nothing else.
     ghost written: { (store : A) (slot : ℕ) (node : Self) → IsSome (held_at (A.nodes store) (record { kind = Self.Kind.TYPE; slot = slot }))
         → UpdatesAt (held_at (A.nodes store)) (held_at (A.nodes (with_node store slot node))) (record { kind = Self.Kind.TYPE; slot = slot }) (Some (held node)) };
+
+    /// And takes no room.
+    ghost keeps_room: { (store : A) (slot : ℕ) (node : Self) → IsSome (held_at (A.nodes store) (record { kind = Self.Kind.TYPE; slot = slot }))
+        → (n : ℕ) → HasRoom (A.nodes store) n → HasRoom (A.nodes (with_node store slot node)) n };
 }
 
 impl<K, V, const PREFIX_LEN: usize> Stored<K, V, NodeArena<K, V, PREFIX_LEN>> for LeafNode<K, V> {
@@ -74,6 +71,8 @@ impl<K, V, const PREFIX_LEN: usize> Stored<K, V, NodeArena<K, V, PREFIX_LEN>> fo
     ghost with_node = { with_leaf };
 
     ghost written = { written_leaf };
+
+    ghost keeps_room = { kept_leaf };
 
     fn insert(
         arena: &mut NodeArena<K, V, PREFIX_LEN>,
@@ -102,13 +101,6 @@ impl<K, V, const PREFIX_LEN: usize> Stored<K, V, NodeArena<K, V, PREFIX_LEN>> fo
             None => unreachable!(),
         }
     }
-
-    fn replace(arena: &mut NodeArena<K, V, PREFIX_LEN>, slot: usize, node: Self) -> Self {
-        match arena.leaves.get_mut(slot) {
-            Some(place) => mem::replace(place, node),
-            None => unreachable!(),
-        }
-    }
 }
 
 impl<K, V, const PREFIX_LEN: usize> Stored<K, V, NodeArena<K, V, PREFIX_LEN>>
@@ -118,6 +110,8 @@ impl<K, V, const PREFIX_LEN: usize> Stored<K, V, NodeArena<K, V, PREFIX_LEN>>
     ghost with_node = { with_node4 };
 
     ghost written = { written_node4 };
+
+    ghost keeps_room = { kept_node4 };
 
     fn insert(
         arena: &mut NodeArena<K, V, PREFIX_LEN>,
@@ -150,13 +144,6 @@ impl<K, V, const PREFIX_LEN: usize> Stored<K, V, NodeArena<K, V, PREFIX_LEN>>
             None => unreachable!(),
         }
     }
-
-    fn replace(arena: &mut NodeArena<K, V, PREFIX_LEN>, slot: usize, node: Self) -> Self {
-        match arena.nodes4.get_mut(slot) {
-            Some(place) => mem::replace(place, node),
-            None => unreachable!(),
-        }
-    }
 }
 
 impl<K, V, const PREFIX_LEN: usize> Stored<K, V, NodeArena<K, V, PREFIX_LEN>>
@@ -166,6 +153,8 @@ impl<K, V, const PREFIX_LEN: usize> Stored<K, V, NodeArena<K, V, PREFIX_LEN>>
     ghost with_node = { with_node16 };
 
     ghost written = { written_node16 };
+
+    ghost keeps_room = { kept_node16 };
 
     fn insert(
         arena: &mut NodeArena<K, V, PREFIX_LEN>,
@@ -198,13 +187,6 @@ impl<K, V, const PREFIX_LEN: usize> Stored<K, V, NodeArena<K, V, PREFIX_LEN>>
             None => unreachable!(),
         }
     }
-
-    fn replace(arena: &mut NodeArena<K, V, PREFIX_LEN>, slot: usize, node: Self) -> Self {
-        match arena.nodes16.get_mut(slot) {
-            Some(place) => mem::replace(place, node),
-            None => unreachable!(),
-        }
-    }
 }
 
 impl<K, V, const PREFIX_LEN: usize> Stored<K, V, NodeArena<K, V, PREFIX_LEN>>
@@ -214,6 +196,8 @@ impl<K, V, const PREFIX_LEN: usize> Stored<K, V, NodeArena<K, V, PREFIX_LEN>>
     ghost with_node = { with_node48 };
 
     ghost written = { written_node48 };
+
+    ghost keeps_room = { kept_node48 };
 
     fn insert(
         arena: &mut NodeArena<K, V, PREFIX_LEN>,
@@ -246,13 +230,6 @@ impl<K, V, const PREFIX_LEN: usize> Stored<K, V, NodeArena<K, V, PREFIX_LEN>>
             None => unreachable!(),
         }
     }
-
-    fn replace(arena: &mut NodeArena<K, V, PREFIX_LEN>, slot: usize, node: Self) -> Self {
-        match arena.nodes48.get_mut(slot) {
-            Some(place) => mem::replace(place, node),
-            None => unreachable!(),
-        }
-    }
 }
 
 impl<K, V, const PREFIX_LEN: usize> Stored<K, V, NodeArena<K, V, PREFIX_LEN>>
@@ -262,6 +239,8 @@ impl<K, V, const PREFIX_LEN: usize> Stored<K, V, NodeArena<K, V, PREFIX_LEN>>
     ghost with_node = { with_node256 };
 
     ghost written = { written_node256 };
+
+    ghost keeps_room = { kept_node256 };
 
     fn insert(
         arena: &mut NodeArena<K, V, PREFIX_LEN>,
@@ -291,13 +270,6 @@ impl<K, V, const PREFIX_LEN: usize> Stored<K, V, NodeArena<K, V, PREFIX_LEN>>
     fn remove(arena: &mut NodeArena<K, V, PREFIX_LEN>, slot: usize) -> Self {
         match arena.nodes256.try_remove(slot) {
             Some(node) => node,
-            None => unreachable!(),
-        }
-    }
-
-    fn replace(arena: &mut NodeArena<K, V, PREFIX_LEN>, slot: usize, node: Self) -> Self {
-        match arena.nodes256.get_mut(slot) {
-            Some(place) => mem::replace(place, node),
             None => unreachable!(),
         }
     }
