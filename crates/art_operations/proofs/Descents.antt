@@ -1,5 +1,5 @@
 -- The way of a look-up down a tree: which leaves can still be meant, and how many nodes were read.
-use Rattle.std.proofs.Common.{◌≡◌, ◌≢◌, ℕ, suc, ◌+◌, ◌-◌, ◌^◌, ◌<◌, ◌≤◌, Bool, true, false, min, List, [], ◌∷◌, ◌++◌, length, take, drop, filter, get_or, Option, Some, None, IsSome, refl, sym, ap, ap₂, subst, ◌∙◌, inl, inr, arith, append_assoc, length-append, length-drop, add-one, drop-cons}
+use Rattle.std.proofs.Common.{◌≡◌, ℕ, suc, ◌+◌, ◌-◌, ◌^◌, ◌<◌, ◌≤◌, Bool, false, min, List, [], ◌∷◌, ◌++◌, length, take, drop, get_or, Option, Some, None, IsSome, refl, sym, ap, ap₂, subst, ◌∙◌, inl, inr, arith, append_assoc, length-append, add-one, drop-cons}
 use Rattle.std.specs.List.{AllByRecursion}
 use Rattle.std.proofs.lemmas.Bool.{false_from_ne_true}
 use Rattle.std.proofs.lemmas.Bool.Decides.{eqb_tells}
@@ -11,19 +11,18 @@ use Rattle.art_nodes.specs.PrefixMatch.{agreeing}
 use Rattle.art_nodes.specs.InnerNode.{InnerNode, child_at}
 use Rattle.art_nodes.specs.declared.leaf.LeafNode.{LeafNode}
 use Rattle.art_arena.specs.Paths.{path_of, path_in}
-use Rattle.art_arena.specs.Cells.{Cell, pair, branches, leaf_name}
-use Rattle.art_arena.specs.Arena.{Arena, leaf_held, inner_held, held_at, cell_of, node_at}
-use Rattle.art_arena.specs.Shapes.{Shape, Branches, leaf_at, inner_at, no_branch, branch, LeafAt, name_of, children_at, join, leaves, leaves_in, erase, erase_in, cells, IsUnder, AreUnder}
-use Rattle.art_arena.proofs.Order.{all_append, all_weaker, begins_append, begins_step}
+use Rattle.art_arena.specs.Cells.{Cell, pair, branches}
+use Rattle.art_arena.specs.Shapes.{Shape, Branches, leaf_at, inner_at, no_branch, branch, LeafAt, name_of, children_at, join, leaves, leaves_in, erase, erase_in, IsUnder, AreUnder}
+use Rattle.art_arena.proofs.Order.{all_weaker, begins_append, begins_step}
 use Rattle.art_arena.proofs.Fronts.{begins_trans}
 use Rattle.art_arena.proofs.Places.{leaves-begin}
 use Rattle.art_arena.specs.Meaning.{IsSubtree}
 use Rattle.art_operations.specs.declared.lookup.PrefixMatchBehavior.{PrefixMatchBehavior}
-use Rattle.art_operations.specs.declared.lookup.PrefixMatchBehavior.TheVariants.{Pessimistic, Optimistic}
+use Rattle.art_operations.specs.declared.lookup.PrefixMatchBehavior.TheVariants.{Pessimistic}
 use Rattle.art_operations.specs.Lookups.{passing}
 use Rattle.art_operations.specs.Descents.{GoesOn, Ends, TakesFronts, LandsAt}
-use Rattle.art_operations.proofs.Prefixes.{drop-front}
-use Rattle.art_operations.proofs.Subtrees.{subtree-branch}
+use Rattle.art_arena.proofs.Prefixes.{drop-front}
+use Rattle.art_arena.proofs.Subtrees.{subtree-branch}
 
 byte_behind : (path rest : List ℕ) (c : ℕ) → get_or (path ++ c ∷ rest) (length path) 0 ≡ c
 byte_behind [] rest c = refl

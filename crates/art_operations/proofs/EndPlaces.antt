@@ -1,12 +1,11 @@
 -- The way down to the first or the last leaf of a tree, as places.
-use Rattle.std.proofs.Common.{◌≡◌, ◌≢◌, ℕ, suc, ◌+◌, ◌<◌, ◌≤◌, List, [], ◌∷◌, ◌++◌, length, take, Option, Some, None, IsSome, refl, sym, ap, ap₂, subst, ◌∙◌, arith}
+use Rattle.std.proofs.Common.{◌≡◌, ◌≢◌, ℕ, suc, ◌+◌, ◌<◌, ◌≤◌, List, [], ◌∷◌, ◌++◌, take, Option, Some, IsSome, refl, sym, ap, subst, ◌∙◌, arith}
 use Rattle.art_nodes.specs.declared.kind.NodeType.TheVariants.{Leaf}
-use Rattle.art_nodes.specs.InnerNode.{InnerNode, first_child, last_child}
+use Rattle.art_nodes.specs.InnerNode.{InnerNode}
 use Rattle.art_nodes.specs.Name.{Name}
 use Rattle.art_arena.specs.Kinds.{IsKindOf}
-use Rattle.art_arena.specs.Cells.{Cell}
 use Rattle.art_arena.specs.Arena.{Arena, inner_held, held_at, node_at}
-use Rattle.art_arena.specs.Shapes.{Shape, Branches, leaf_at, inner_at, no_branch, branch, LeafAt, name_of, children_at, join, width, leaves, leaves_in, cells, IsUnder, AreUnder}
+use Rattle.art_arena.specs.Shapes.{Shape, Branches, inner_at, no_branch, branch, LeafAt, join, width, leaves, IsUnder, AreUnder}
 use Rattle.art_arena.specs.Context.{Frame, plug, path_to, AreBelow}
 use Rattle.art_arena.specs.Meaning.{IsSubtree}
 use Rattle.art_arena.specs.Places.{IsPlace}
@@ -14,8 +13,8 @@ use Rattle.art_arena.specs.Steps.{Step, steps_to}
 use Rattle.art_arena.proofs.Contexts.{width-join}
 use Rattle.art_arena.proofs.Places.{at-root}
 use Rattle.art_operations.specs.DeletePoints.{IsLeafPlace}
-use Rattle.art_operations.proofs.Measures.{slots_of, nodes_below}
-use Rattle.art_operations.proofs.Subtrees.{subtree-leaf, subtree-inner, subtree-branch, root_held, measure_is}
+use Rattle.art_arena.proofs.Measures.{slots_of, nodes_below}
+use Rattle.art_arena.proofs.Subtrees.{subtree-leaf, subtree-inner, subtree-branch, root_held, measure_is}
 use Rattle.art_operations.proofs.Ends.{EndBranch}
 
 module _ {K V : Type 0} (bytes : K → List ℕ) where

@@ -1,26 +1,13 @@
--- The way down to the first or the last leaf below a node.
-use Rattle.std.proofs.Common.{◌≡◌, ◌≢◌, ℕ, ◌<◌, List, [], ◌∷◌, ◌++◌, Option, Some, None, IsSome, refl, sym, ap, subst, ◌∙◌, arith, ◌≤◌, ◌+◌, length}
-use Rattle.art_nodes.specs.declared.kind.NodeType.TheVariants.{Leaf}
-use Rattle.art_nodes.specs.InnerNode.{InnerNode, first_child, last_child}
+-- The child at the end of the branches: the first or the last leaf stands there.
+use Rattle.std.proofs.Common.{◌≡◌, ℕ, List, [], ◌∷◌, ◌++◌, Option, Some, None, IsSome, refl, sym, ap, subst, ◌∙◌, arith, ◌≤◌}
+use Rattle.art_nodes.specs.InnerNode.{first_child, last_child}
 use Rattle.art_nodes.specs.Name.{Name}
-use Rattle.art_arena.specs.Cells.{Cell}
-use Rattle.art_arena.specs.Arena.{Arena, inner_held, held_at, node_at}
-use Rattle.art_arena.specs.Shapes.{Shape, Branches, inner_at, no_branch, branch, LeafAt, leaves, leaves_in, join, width, IsUnder, AreUnder, children_at, name_of, cells}
+use Rattle.art_arena.specs.Shapes.{Shape, Branches, no_branch, branch, LeafAt, leaves, leaves_in, join, width, IsUnder, AreUnder, children_at, name_of}
 use Rattle.art_arena.specs.Linked.{first_slot, last_slot}
 use Rattle.art_arena.proofs.Contexts.{leaves_in-join}
 use Rattle.art_arena.proofs.LinkedLists.{last_slot-append}
 use Rattle.std.proofs.lemmas.List.{append-nil}
-use Rattle.art_arena.specs.Meaning.{IsSubtree}
-use Rattle.art_operations.proofs.Measures.{slots_of, nodes_below}
-use Rattle.art_operations.proofs.Subtrees.{branch-first, branch-last, has_first, has_last, some_leaf, AreUnder-here, subtree-leaf, subtree-inner, subtree-branch, root_held, measure_is}
-
-module _ {K V : Type 0} (bytes : K → List ℕ) (P : ℕ) (at : Name → Option (Cell K V)) (end_of : List (LeafAt K V) → Option ℕ) where
-  -- below this name stands a part with the same end
-  pub record IsTowardEnd (s : Shape K V) (current : Name) : Type 0 where
-    pub path : List ℕ
-    pub sub : Shape K V
-    pub subtree : IsSubtree bytes P at current path sub
-    pub same_end : end_of (leaves sub) ≡ end_of (leaves s)
+use Rattle.art_arena.proofs.Subtrees.{branch-first, branch-last, has_first, has_last, some_leaf, AreUnder-here}
 
 module _ {K V : Type 0} where
   abbrev pub first_of : List (LeafAt K V) → Option ℕ
@@ -83,49 +70,3 @@ module _ {K V : Type 0} (bytes : K → List ℕ) where
           same_end = sym (last_of-more (leaves_in b.0) (leaves b.1) (some_leaf bytes (path ++ c.0 ∷ []) b.1 here)) ∙ ap last_of (sym parts);
         };
   }
-
-module _ {K V : Type 0} (bytes : K → List ℕ) (P : ℕ) (arena : Arena K V) where
-  -- at a leaf: it is the end
-  pub end-leaf : (end_of : List (LeafAt K V) → Option ℕ) (s : Shape K V) (n : Name) → ((l : LeafAt K V) → end_of (l ∷ []) ≡ Some l.slot)
-      → IsTowardEnd bytes P (node_at arena) end_of s n → n.kind ≡ Leaf → end_of (leaves s) ≡ Some n.slot
-  end-leaf end_of s n single toward kind =
-      let leaf = subtree-leaf bytes P (node_at arena) n toward.path toward.sub toward.subtree kind in
-      sym toward.same_end ∙ ap (λ t. end_of (leaves t)) leaf.2 ∙ single _
-
-  -- at an inner node: it is held, has a child at its end, and the walk goes on there, to fewer nodes
-  pub record Step (end_of : List (LeafAt K V) → Option ℕ) (s : Shape K V) (n : Name) (child_of : List (ℕ × Name) → Option (ℕ × Name)) : Type 0 where
-    pub node : InnerNode
-    pub there : held_at arena n ≡ Some (inner_held node)
-    pub some : IsSome (child_of node.children)
-    pub goes_on : (c : ℕ × Name) → child_of node.children ≡ Some c
-        → IsTowardEnd bytes P (node_at arena) end_of s c.1 × (nodes_below (slots_of arena) (node_at arena) c.1 < nodes_below (slots_of arena) (node_at arena) n)
-
-  step : (end_of : List (LeafAt K V) → Option ℕ) (child_of : List (ℕ × Name) → Option (ℕ × Name)) → EndBranch bytes end_of child_of → (s : Shape K V) (n : Name)
-      → IsTowardEnd bytes P (node_at arena) end_of s n → n.kind ≢ Leaf → Step end_of s n child_of
-  step end_of child_of ends s n toward other = at_inner inner.0 inner.1 inner.2
-    where
-      inner : (prefix : List ℕ) × (kids : Branches K V) × (toward.sub ≡ inner_at n prefix kids)
-      inner = subtree-inner bytes P (node_at arena) n toward.path toward.sub toward.subtree other
-
-      at_inner : (prefix : List ℕ) (kids : Branches K V) → toward.sub ≡ inner_at n prefix kids → Step end_of s n child_of
-      at_inner prefix kids is =
-          let subtree = subst (IsSubtree bytes P (node_at arena) n toward.path) is toward.subtree in
-          record {
-            node = _;
-            there = root_held bytes P arena n toward.path prefix kids subtree;
-            some = (let two = subtree.under.0.two in ends.has kids two);
-            goes_on = λ c found.
-                let b = ends.child (toward.path ++ prefix) kids subtree.under.1 c found in
-                let below = subtree-branch bytes P (node_at arena) n toward.path prefix kids b.before c.0 b.here b.after subtree b.whole in
-                let child = subst (λ m. IsSubtree bytes P (node_at arena) m ((toward.path ++ prefix) ++ c.0 ∷ []) b.here) b.named below.subtree in
-                let fewer = below.fewer in (
-                  record { path = (toward.path ++ prefix) ++ c.0 ∷ []; sub = b.here; subtree = child; same_end = b.same_end ∙ ap (λ t. end_of (leaves t)) (sym is) ∙ toward.same_end },
-                  omega (arith, fewer, measure_is bytes P arena n toward.path (inner_at n prefix kids) subtree, measure_is bytes P arena c.1 ((toward.path ++ prefix) ++ c.0 ∷ []) b.here child),
-                );
-          }
-
-  pub step-first : (s : Shape K V) (n : Name) → IsTowardEnd bytes P (node_at arena) first_of s n → n.kind ≢ Leaf → Step first_of s n first_child
-  step-first s n toward other = step first_of first_child (first_end bytes) s n toward other
-
-  pub step-last : (s : Shape K V) (n : Name) → IsTowardEnd bytes P (node_at arena) last_of s n → n.kind ≢ Leaf → Step last_of s n last_child
-  step-last s n toward other = step last_of last_child (last_end bytes) s n toward other

@@ -1,10 +1,6 @@
-pub mod Measures
-pub mod Subtrees
 pub mod Ends
-pub mod Prefixes
 pub mod Descents
 pub mod Lookups
 pub mod Meetings
 pub mod Points
 pub mod EndPlaces
-pub mod Surroundings

@@ -1,11 +1,11 @@
 -- What the leaf at which a look-up ended tells of all leaves.
-use Rattle.std.proofs.Common.{◌≡◌, ℕ, ◌+◌, ◌≤◌, Bool, true, false, List, [], ◌∷◌, ◌++◌, length, take, drop, Option, Some, None, refl, sym, ap, ap₂, ◌∙◌, arith, append_assoc, bytes_eq, eqb}
+use Rattle.std.proofs.Common.{◌≡◌, ℕ, ◌≤◌, Bool, true, false, List, [], ◌∷◌, ◌++◌, length, take, drop, Some, None, refl, sym, ap, ap₂, ◌∙◌, arith, append_assoc, bytes_eq}
 use Rattle.std.proofs.lemmas.Bool.{false_from_ne_true}
 use Rattle.std.proofs.lemmas.List.{append-nil, length-take, take-append-drop}
 use Rattle.std.proofs.lemmas.Slice.Eq.{bytes_eq-Decides}
 use Rattle.art_bytes.specs.Keys.{BeginsWith}
 use Rattle.art_arena.specs.Tenants.{begins_with}
-use Rattle.art_arena.specs.Shapes.{Shape, LeafAt, leaves}
+use Rattle.art_arena.specs.Shapes.{Shape, leaves}
 use Rattle.art_arena.specs.Linked.{first_slot}
 use Rattle.art_arena.proofs.Parts.{begins_same}
 use Rattle.art_arena.proofs.Tenants.{begins_true}

@@ -1,5 +1,5 @@
 -- The way to the place of a new key, one node at a time, and where it ends.
-use Rattle.std.proofs.Common.{◌≡◌, ◌≢◌, ℕ, suc, ◌+◌, ◌<◌, ◌≤◌, List, [], ◌∷◌, ◌++◌, length, take, drop, get_or, Option, Some, None, IsSome, refl, sym, ap, ap₂, subst, ◌∙◌, inl, inr, arith, append_assoc, append-nil, length-append}
+use Rattle.std.proofs.Common.{◌≡◌, ◌≢◌, ℕ, ◌+◌, ◌<◌, ◌≤◌, List, [], ◌∷◌, ◌++◌, length, take, drop, get_or, Option, Some, None, refl, sym, ap, ap₂, subst, ◌∙◌, inl, inr, arith, append_assoc, append-nil, length-append}
 use Rattle.std.specs.List.{AllByRecursion}
 use Rattle.std.proofs.lemmas.Bool.Decides.{eqb_tells}
 use Rattle.art_bytes.specs.Keys.{BeginsWith, Conflict}
@@ -11,21 +11,19 @@ use Rattle.art_arena.specs.Order.{IsProperFront}
 use Rattle.art_arena.specs.Changes.{IsIn}
 use Rattle.art_arena.specs.Cells.{Cell, leaf_name}
 use Rattle.art_arena.specs.Arena.{Arena, leaf_held, inner_held, held_at, node_at}
-use Rattle.art_arena.specs.Shapes.{Shape, Branches, leaf_at, inner_at, no_branch, branch, LeafAt, name_of, children_at, join, width, leaves, leaves_in, IsUnder, AreUnder}
-use Rattle.art_arena.specs.Context.{Frame, plug, path_to}
-use Rattle.art_arena.specs.Meaning.{IsSubtree}
+use Rattle.art_arena.specs.Shapes.{Shape, Branches, leaf_at, inner_at, no_branch, branch, LeafAt, children_at, width, leaves, leaves_in, IsUnder, AreUnder}
+use Rattle.art_arena.specs.Context.{Frame, path_to}
+use Rattle.art_arena.specs.Meaning.{IsAtDepth, IsSubtree}
 use Rattle.art_arena.specs.Places.{IsPlace, IsToward}
 use Rattle.art_arena.specs.Steps.{Step, steps_to}
-use Rattle.art_arena.proofs.Order.{all_append, all_weaker, begins_append, begins_step, begins_from_step, conflict_first, conflict_second}
+use Rattle.art_arena.proofs.Order.{all_append, all_weaker, begins_step, begins_from_step, conflict_first, conflict_second}
 use Rattle.art_arena.proofs.Fronts.{begins_trans, one_byte}
 use Rattle.art_arena.proofs.Places.{leaves-begin, step-down, at-root}
-use Rattle.art_operations.specs.Subtrees.{IsAtDepth}
 use Rattle.art_operations.specs.Meetings.{PartAt}
-use Rattle.art_operations.specs.Prefixes.{prefix_of}
 use Rattle.art_operations.specs.declared.meeting.Parted.{Parted}
 use Rattle.art_operations.specs.Points.{HasConflict, NoConflict}
-use Rattle.art_operations.proofs.Prefixes.{drop-front}
-use Rattle.art_operations.proofs.Subtrees.{pair_of, leaves_begin_prefix, some_leaf, subtree-leaf, subtree-inner, subtree-branch, root_held}
+use Rattle.art_arena.proofs.Prefixes.{drop-front}
+use Rattle.art_arena.proofs.Subtrees.{pair_of, leaves_begin_prefix, some_leaf, subtree-leaf, subtree-inner, subtree-branch, root_held}
 
 -- the key behind the path to it
 pub behind : (path key : List ℕ) (depth : ℕ) → length path ≡ depth → BeginsWith path key → key ≡ path ++ drop depth key

@@ -1,5 +1,3 @@
-pub mod Subtrees
-pub mod Prefixes
 pub mod Lookups
 pub mod Descents
 pub mod Meetings

@@ -5,7 +5,7 @@ ghost use Rattle.art_arena.specs.Arena.{held_at, inner_held};
 
 use art_arena::NodeArena;
 use art_nodes::{
-    ConcreteNodePtr, Header, InnerNode4, InnerNode16, InnerNode48, InnerNode256, InnerNodeCommon,
+    ConcreteNodePtr, InnerNode4, InnerNode16, InnerNode48, InnerNode256, InnerNodeCommon,
     NodeType, OpaqueNodePtr,
 };
 
@@ -32,45 +32,6 @@ macro_rules! match_inner_node {
             ConcreteNodePtr::LeafNode(_) => unreachable!(),
         }
     };
-}
-
-// The child under the smallest byte.
-pub(crate) fn first_child<K, V, const PREFIX_LEN: usize>(
-    arena: &NodeArena<K, V, PREFIX_LEN>,
-    name: OpaqueNodePtr,
-) -> Option<(u8, OpaqueNodePtr)>
-    requires held { IsSome (held_at arena.now name) }
-    requires inner { name.kind ≢ NodeType.Leaf }
-    ensures { (n : node.InnerNode) → held_at arena.now name ≡ Some (inner_held n) → result ≡ node.first_child n.children }
-{
-    arena.prefix_fits(name);
-    match_inner_node!(arena, name, node => node.min())
-}
-
-// The child under the greatest byte.
-pub(crate) fn last_child<K, V, const PREFIX_LEN: usize>(
-    arena: &NodeArena<K, V, PREFIX_LEN>,
-    name: OpaqueNodePtr,
-) -> Option<(u8, OpaqueNodePtr)>
-    requires held { IsSome (held_at arena.now name) }
-    requires inner { name.kind ≢ NodeType.Leaf }
-    ensures { (n : node.InnerNode) → held_at arena.now name ≡ Some (inner_held n) → result ≡ node.last_child n.children }
-{
-    arena.prefix_fits(name);
-    match_inner_node!(arena, name, node => node.max())
-}
-
-// The header.
-pub(crate) fn header<K, V, const PREFIX_LEN: usize>(
-    arena: &NodeArena<K, V, PREFIX_LEN>,
-    name: OpaqueNodePtr,
-) -> &Header<PREFIX_LEN>
-    requires held { IsSome (held_at arena.now name) }
-    requires inner { name.kind ≢ NodeType.Leaf }
-    ensures { (n : node.InnerNode) → held_at arena.now name ≡ Some (inner_held n) → result.now ≡ n.header }
-{
-    arena.prefix_fits(name);
-    match_inner_node!(arena, name, node => node.header())
 }
 
 // The child under a byte.

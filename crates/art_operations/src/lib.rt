@@ -1,4 +1,4 @@
-//! Operations on the tree below a name in an arena: look-ups, the ends of a tree, whole prefixes.
+//! Operations on the tree below a name in an arena: look-ups, the ends of a tree, where a key is put in or taken out.
 //! The layer above uses `search_unchecked`: the answer is a filter of the list of leaves.
 //! The definitions stand in `specs/`.
 #![tactic(auto)]
@@ -10,11 +10,19 @@ pub mod insert;
 pub mod lookup;
 pub mod meeting;
 pub mod minmax;
-pub mod prefix;
 
+pub use delete::point::{
+    DeletePoint, find_maximum_to_delete, find_minimum_to_delete, search_for_delete_point,
+};
+pub use insert::point::{
+    InsertKind, InsertPoint, InsertPrefixError, InsertSearchError, KeyPrefix,
+    search_for_insert_point,
+};
 pub use lookup::{
     PrefixMatchBehavior, prefix_search_by_reader, prefix_search_unchecked, search_by_reader,
     search_unchecked,
 };
 pub use minmax::{maximum_unchecked, minimum_unchecked};
-pub use prefix::{match_full_prefix, read_full_prefix};
+
+#[cfg(test)]
+mod tests;

@@ -5,10 +5,9 @@ ghost use Rattle.art_arena.specs.Shapes.{Shape, leaves};
 ghost use Rattle.art_arena.specs.Linked.{first_slot, last_slot};
 ghost use Rattle.art_arena.specs.Meaning.{IsSubtree};
 
-use crate::inner::{first_child, last_child};
-use art_arena::{LeafPtr, NodeArena};
+use art_arena::{LeafPtr, NodeArena, first_leaf, last_leaf};
 use art_bytes::AsBytes;
-use art_nodes::{KindLeaf, OpaqueNodePtr};
+use art_nodes::OpaqueNodePtr;
 
 /// The first leaf below a node: the one with the smallest key.
 pub fn minimum_unchecked<K: AsBytes, V, const PREFIX_LEN: usize>(
@@ -19,16 +18,7 @@ pub fn minimum_unchecked<K: AsBytes, V, const PREFIX_LEN: usize>(
     ensures { (path : List ℕ) (s : Shape K V) → IsSubtree K.bytes PREFIX_LEN (node_at arena.now) root path s
         → first_slot (leaves s) None ≡ Some result }
 {
-    let mut current = root;
-    loop {
-        if let Some(first) = current.cast::<KindLeaf>() {
-            return first;
-        }
-        match first_child(arena, current) {
-            Some(child) => current = child.1,
-            None => unreachable!(),
-        }
-    }
+    first_leaf(arena, root)
 }
 
 /// The last leaf below a node: the one with the greatest key.
@@ -40,14 +30,5 @@ pub fn maximum_unchecked<K: AsBytes, V, const PREFIX_LEN: usize>(
     ensures { (path : List ℕ) (s : Shape K V) → IsSubtree K.bytes PREFIX_LEN (node_at arena.now) root path s
         → last_slot None (leaves s) ≡ Some result }
 {
-    let mut current = root;
-    loop {
-        if let Some(last) = current.cast::<KindLeaf>() {
-            return last;
-        }
-        match last_child(arena, current) {
-            Some(child) => current = child.1,
-            None => unreachable!(),
-        }
-    }
+    last_leaf(arena, root)
 }

@@ -4,14 +4,14 @@ ghost use Rattle.art_bytes.specs.Keys.{BeginsWith};
 ghost use Rattle.art_arena.specs.Arena.{node_at};
 ghost use Rattle.art_arena.specs.Cells.{leaf_name};
 ghost use Rattle.art_arena.specs.Shapes.{Shape};
-ghost use Rattle.art_arena.specs.Meaning.{IsSubtree};
-ghost use Rattle.art_operations.specs.Subtrees.{IsAtDepth};
+ghost use Rattle.art_arena.specs.Meaning.{IsAtDepth, IsSubtree};
 ghost use Rattle.art_operations.specs.Points.{IsWay, IsAnswer, Refuses};
 
 use crate::inner::lookup_child;
 use crate::meeting::{Meeting, Parted, meet};
-use crate::prefix::read_full_prefix;
-use art_arena::{LeafPtr, NodeArena, TreePath, TreePathSearch, inner_node_ptr};
+use art_arena::{
+    LeafPtr, NodeArena, TreePath, TreePathSearch, inner_node_ptr, read_full_prefix,
+};
 use art_bytes::AsBytes;
 use art_nodes::{KindLeaf, NodeType, OpaqueNodePtr};
 use std::alloc::{AllocError, Global};

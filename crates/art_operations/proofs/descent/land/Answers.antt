@@ -1,4 +1,4 @@
-use Rattle.std.proofs.Common.{◌≡◌, ◌+◌, ◌-◌, ◌^◌, ◌≤◌, suc, min, length, sym, ap, ◌∙◌, refl, arith, lit<}
+use Rattle.std.proofs.Common.{◌≡◌, ◌+◌, ◌-◌, ◌^◌, ◌≤◌, min, length, sym, ap, ◌∙◌, refl, arith, lit<}
 use Rattle.art_arena.specs.Arena.{node_at}
 use Rattle.art_arena.specs.Paths.{path_of}
 use Rattle.art_arena.specs.Shapes.{erase}

@@ -1,11 +1,8 @@
-use Rattle.std.proofs.Common.{◌≡◌, ◌≢◌, ◌∷◌, IsSome, take, sym, ap, ◌∙◌, refl, lit<}
+use Rattle.std.proofs.Common.{◌≢◌, ◌∷◌, take, sym, ap, ◌∙◌, refl}
 use Rattle.art_nodes.specs.declared.kind.NodeType.TheVariants.{Leaf}
-use Rattle.art_arena.specs.Arena.{node_at, held_at}
-use Rattle.art_arena.specs.Steps.{Step}
 use Rattle.art_arena.proofs.LinkedLists.{some_of}
-use Rattle.art_operations.specs.DeletePoints.{IsLeafPlace}
 use Rattle.art_operations.proofs.Ends.{first_of, first_end}
-use Rattle.art_operations.proofs.EndPlaces.{on_end-start, on_end-leaf, end_step}
+use Rattle.art_operations.proofs.EndPlaces.{on_end-start, end_step}
 use Rattle.art_operations.proofs.delete.point.find_minimum_to_delete.Goals as goal
 use Rattle.art_nodes.specs.InnerNode.{first_child}
 

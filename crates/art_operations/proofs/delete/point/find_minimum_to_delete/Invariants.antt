@@ -1,8 +1,8 @@
-use Rattle.std.proofs.Common.{[], ℕ}
+use Rattle.std.proofs.Common.{[]}
 use Rattle.art_arena.specs.Arena.{node_at}
 use Rattle.art_arena.specs.Shapes.{Shape}
 use Rattle.art_arena.specs.Meaning.{IsSubtree}
-use Rattle.art_operations.proofs.Measures.{slots_of, nodes_below}
+use Rattle.art_arena.proofs.Measures.{slots_of, nodes_below}
 use Rattle.art_operations.proofs.Ends.{first_of}
 use Rattle.art_operations.proofs.EndPlaces.{OnEnd}
 use Rattle.art_operations.proofs.delete.point.find_minimum_to_delete.Given as goal

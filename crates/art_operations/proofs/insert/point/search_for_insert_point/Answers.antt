@@ -1,8 +1,7 @@
-use Rattle.std.proofs.Common.{◌≡◌, ◌+◌, ◌-◌, ◌<◌, ◌≤◌, ◌∷◌, [], length, take, sym, ap, subst, ◌∙◌, refl, arith, lit<}
+use Rattle.std.proofs.Common.{◌<◌, ◌≤◌, ◌∷◌, length, take, sym, ap, ◌∙◌, arith}
 use Rattle.art_arena.specs.Arena.{node_at}
 use Rattle.art_arena.specs.Context.{path_to}
-use Rattle.art_arena.specs.Steps.{steps_to, steps_of}
-use Rattle.art_operations.proofs.Surroundings.{free, conflict}
+use Rattle.art_arena.proofs.Surroundings.{free, conflict}
 use Rattle.art_operations.proofs.Points.{way_start, way_step, way_inner, way_at_depth, way_room}
 use Rattle.art_operations.proofs.insert.point.search_for_insert_point.Goals as goal
 

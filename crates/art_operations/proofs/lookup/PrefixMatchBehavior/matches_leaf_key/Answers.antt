@@ -1,5 +1,5 @@
 use Rattle.std.proofs.Common.{ap, ◌∙◌}
-use Rattle.art_operations.proofs.Prefixes.{same_behind}
+use Rattle.art_arena.proofs.Prefixes.{same_behind}
 use Rattle.art_operations.proofs.lookup.PrefixMatchBehavior.matches_leaf_key.Goals as goal
 
 pub returns-in-Pessimistic : goal.returns-in-Pessimistic
