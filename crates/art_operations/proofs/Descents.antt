@@ -211,10 +211,10 @@ module _ {K V : Type 0} (bytes : K → List ℕ) (key : List ℕ) where
         way-ends (inr (inr (whole, differs))) test takes =
             only_kids test takes
             ∙ none_in test takes (way.path ++ here.prefix) 0 here.kids here.subtree.under.1 (λ c above h.
-                let r = rest_of (begins_append (way.path ++ here.prefix) (c ∷ []) key h) in
-                let stored : node.header.stored ≡ here.prefix = here.stored ∙ take_whole P here.prefix (omega (arith, here.len, whole)) in
-                let agrees : agreeing node.header.stored (drop depth key) ≡ length here.prefix = ap₂ (λ x y. agreeing x y) stored r.1 ∙ agrees_whole here.prefix r.0 in
-                omega (arith, agrees, differs, here.len))
+            let r = rest_of (begins_append (way.path ++ here.prefix) (c ∷ []) key h) in
+            let stored : node.header.stored ≡ here.prefix = here.stored ∙ take_whole P here.prefix (omega (arith, here.len, whole)) in
+            let agrees : agreeing node.header.stored (drop depth key) ≡ length here.prefix = ap₂ (λ x y. agreeing x y) stored r.1 ∙ agrees_whole here.prefix r.0 in
+            omega (arith, agrees, differs, here.len))
 
         -- and at least this node was on its path
         pub way-ends-long : way.above + 1 ≤ length (path_of (erase s) key)
@@ -228,10 +228,10 @@ module _ {K V : Type 0} (bytes : K → List ℕ) (key : List ℕ) where
             let b = get_or key (length (way.path ++ here.prefix)) 0 in
             let below = subtree-branch bytes P at current way.path here.prefix here.kids f.before b f.here f.after here.subtree f.whole in
             let left : drop (length here.prefix) (drop depth key) ≡ b ∷ drop next key =
-                drop-drop (length here.prefix) depth key ∙ ap (λ n. drop (depth + n) key) (sym here.len) ∙ dropped (depth + node.header.prefix_len) key (omega (arith, goes.next_is, goes.within))
-                ∙ ap₂ (λ i n. get_or key i 0 ∷ drop n key) (sym long_path) (sym goes.next_is) in
+            drop-drop (length here.prefix) depth key ∙ ap (λ n. drop (depth + n) key) (sym here.len) ∙ dropped (depth + node.header.prefix_len) key (omega (arith, goes.next_is, goes.within))
+            ∙ ap₂ (λ i n. get_or key i 0 ∷ drop n key) (sym long_path) (sym goes.next_is) in
             let walk : length (path_of (erase way.sub) (drop depth key)) ≡ suc (length (path_of (erase f.here) (drop next key))) =
-                ap (λ t. length (path_of (erase t) (drop depth key))) here.is ∙ ap (λ k. suc (length (path_in (erase_in here.kids) k))) left ∙ ap (λ ts. suc (length ts)) (f.walks (drop next key)) in
+            ap (λ t. length (path_of (erase t) (drop depth key))) here.is ∙ ap (λ k. suc (length (path_in (erase_in here.kids) k))) left ∙ ap (λ ts. suc (length ts)) (f.walks (drop next key)) in
             record {
               path = (way.path ++ here.prefix) ++ b ∷ [];
               sub = f.here;

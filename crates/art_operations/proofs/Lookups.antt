@@ -66,10 +66,11 @@ module _ {K V : Type 0} (bytes : K → List ℕ) (key : List ℕ) (s : Shape K V
 
   front_keys : (behavior : PrefixMatchBehavior) → LandsAt bytes key s slot stored depth behavior → BeginsWith (seen_by behavior depth (bytes stored)) (seen_by behavior depth key) → BeginsWith (bytes stored) key
   front_keys Optimistic lands begins = begins
-  front_keys Pessimistic lands (rest, e) =
-      (rest,
-       whole depth key lands.within ∙ ap₂ (λ xs ys. xs ++ ys) (sym (lands.compared refl)) e ∙ sym (append_assoc (take depth (bytes stored)) (drop depth (bytes stored)) rest)
-       ∙ ap (λ xs. xs ++ rest) (sym (whole depth (bytes stored) lands.within_leaf)))
+  front_keys Pessimistic lands (rest, e) = (
+    rest,
+    whole depth key lands.within ∙ ap₂ (λ xs ys. xs ++ ys) (sym (lands.compared refl)) e ∙ sym (append_assoc (take depth (bytes stored)) (drop depth (bytes stored)) rest)
+        ∙ ap (λ xs. xs ++ rest) (sym (whole depth (bytes stored) lands.within_leaf)),
+  )
 
   seen_front : (behavior : PrefixMatchBehavior) → depth ≤ length (bytes stored) → BeginsWith (bytes stored) key → BeginsWith (seen_by behavior depth (bytes stored)) (seen_by behavior depth key)
   seen_front Optimistic fits begins = begins

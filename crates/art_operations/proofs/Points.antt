@@ -97,9 +97,9 @@ module _ {K V : Type 0} (bytes : K → List ℕ) (key path : List ℕ) (depth : 
     leaf_parts p part = (
       subst (λ d. PartAt (drop d (bytes k)) (drop d key) p) (sym len) part,
       not_in_conflict (apart_free (path ++ part.front) key (bytes k) p.new_byte p.old_byte
-      (part_new path (drop depth key) key (drop depth (bytes k)) p (behind path key depth len begins) part)
-      (part_old path (drop depth key) (drop depth (bytes k)) (bytes k) [] p (behind path (bytes k) depth len leaf_begins ∙ sym (append-nil (path ++ drop depth (bytes k)))) part)
-      (λ e. part.differs (sym e))),
+          (part_new path (drop depth key) key (drop depth (bytes k)) p (behind path key depth len begins) part)
+          (part_old path (drop depth key) (drop depth (bytes k)) (bytes k) [] p (behind path (bytes k) depth len leaf_begins ∙ sym (append-nil (path ++ drop depth (bytes k)))) part)
+          (λ e. part.differs (sym e))),
     )
 
   -- at an inner node
@@ -117,7 +117,7 @@ module _ {K V : Type 0} (bytes : K → List ℕ) (key path : List ℕ) (depth : 
             let s = begins_step (path ++ prefix) c (bytes l.0.key) st in
             let parts : (path ++ (drop depth key ++ x)) ++ c ∷ s.0 ≡ path ++ (drop depth key ++ (x ++ c ∷ s.0)) = simp append_assoc in
             let spelled : bytes l.0.key ≡ key ++ (x ++ c ∷ s.0) =
-                s.1 ∙ ap (λ y. (path ++ y) ++ c ∷ s.0) e ∙ parts ∙ sym (append_assoc path (drop depth key) (x ++ c ∷ s.0)) ∙ ap (λ y. y ++ (x ++ c ∷ s.0)) (sym (behind path key depth len begins)) in
+            s.1 ∙ ap (λ y. (path ++ y) ++ c ∷ s.0) e ∙ parts ∙ sym (append_assoc path (drop depth key) (x ++ c ∷ s.0)) ∙ ap (λ y. y ++ (x ++ c ∷ s.0)) (sym (behind path key depth len begins)) in
             (l.0, subst (λ ls. IsIn l.0 (ls ++ leaves_in rest)) (sym l.2) (inl refl), conflict_first key (bytes l.0.key) (goes_on key x c s.0 (bytes l.0.key) spelled))
 
     -- the key has another byte within the prefix
@@ -125,9 +125,9 @@ module _ {K V : Type 0} (bytes : K → List ℕ) (key path : List ℕ) (depth : 
     inner_parts p part = (
       subst (λ d. PartAt prefix (drop d key) p) (sym len) part,
       all_weaker _ _ (λ l st. apart_free (path ++ part.front) key (bytes l.key) p.new_byte p.old_byte
-      (part_new path (drop depth key) key prefix p (behind path key depth len begins) part)
-      (part_old path (drop depth key) prefix (bytes l.key) st.0 p st.1 part)
-      (λ e. part.differs (sym e))) (leaves_in kids) (leaves_begin_prefix bytes path (inner_at n prefix kids) under),
+          (part_new path (drop depth key) key prefix p (behind path key depth len begins) part)
+          (part_old path (drop depth key) prefix (bytes l.key) st.0 p st.1 part)
+          (λ e. part.differs (sym e))) (leaves_in kids) (leaves_begin_prefix bytes path (inner_at n prefix kids) under),
     )
 
     -- the key goes on behind the prefix

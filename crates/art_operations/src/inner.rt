@@ -5,8 +5,8 @@ ghost use Rattle.art_arena.specs.Arena.{held_at, inner_held};
 
 use art_arena::NodeArena;
 use art_nodes::{
-    ConcreteNodePtr, InnerNode4, InnerNode16, InnerNode48, InnerNode256, InnerNodeCommon,
-    NodeType, OpaqueNodePtr,
+    ConcreteNodePtr, InnerNode4, InnerNode16, InnerNode48, InnerNode256, InnerNodeCommon, NodeType,
+    OpaqueNodePtr,
 };
 
 // An expression over the inner node under a name, whatever its kind.

@@ -12,9 +12,7 @@ ghost use Rattle.art_operations.specs.Lookups.{behavior_after, seen_by, leaf_whe
 use crate::descent::land;
 use art_arena::{ArenaReader, LeafPtr, NodeArena};
 use art_bytes::AsBytes;
-use art_nodes::{
-    InnerNodeCommon, LeafNode, OpaqueNodePtr, PessimisticMismatch, PrefixMatch,
-};
+use art_nodes::{InnerNodeCommon, LeafNode, OpaqueNodePtr, PessimisticMismatch, PrefixMatch};
 
 /// How a look-up matches the prefixes on its way with the bytes of a key.
 #[derive(Clone, Copy, PartialEq, Eq, Debug)]
@@ -142,7 +140,10 @@ pub fn search_by_reader<K: AsBytes, V, const PREFIX_LEN: usize>(
 {
     match land(reader, root, key) {
         Some(landed) => {
-            if landed.behavior.matches_leaf_key(landed.leaf, key, landed.depth) {
+            if landed
+                .behavior
+                .matches_leaf_key(landed.leaf, key, landed.depth)
+            {
                 return Some(landed.name);
             }
             None
@@ -165,7 +166,10 @@ pub fn prefix_search_by_reader<K: AsBytes, V, const PREFIX_LEN: usize>(
 {
     match land(reader, root, key) {
         Some(front) => {
-            if front.behavior.leaf_key_is_prefix(front.leaf, key, front.depth) {
+            if front
+                .behavior
+                .leaf_key_is_prefix(front.leaf, key, front.depth)
+            {
                 return Some(front.name);
             }
             None

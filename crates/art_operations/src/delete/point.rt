@@ -9,7 +9,9 @@ ghost use Rattle.art_arena.specs.Steps.{steps_of};
 ghost use Rattle.art_operations.specs.DeletePoints.{leaf_of, IsLeafPlace};
 
 use art_arena::inner::{first_child, last_child};
-use art_arena::{ArenaReader, LeafPtr, NodeArena, TreePath, TreePathSearch, find_leaf, inner_node_ptr};
+use art_arena::{
+    ArenaReader, LeafPtr, NodeArena, TreePath, TreePathSearch, find_leaf, inner_node_ptr,
+};
 use art_bytes::AsBytes;
 use art_nodes::{KindLeaf, OpaqueNodePtr};
 

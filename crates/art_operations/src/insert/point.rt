@@ -9,9 +9,7 @@ ghost use Rattle.art_operations.specs.Points.{IsWay, IsAnswer, Refuses};
 
 use crate::inner::lookup_child;
 use crate::meeting::{Meeting, Parted, meet};
-use art_arena::{
-    LeafPtr, NodeArena, TreePath, TreePathSearch, inner_node_ptr, read_full_prefix,
-};
+use art_arena::{LeafPtr, NodeArena, TreePath, TreePathSearch, inner_node_ptr, read_full_prefix};
 use art_bytes::AsBytes;
 use art_nodes::{KindLeaf, NodeType, OpaqueNodePtr};
 use std::alloc::{AllocError, Global};
