@@ -9,6 +9,7 @@ pub mod Sizes
 pub mod Distinct
 pub mod Fronts
 pub mod Paths
+pub mod ReplayLemmas
 pub mod Tenants
 pub mod Limits
 pub mod Shrinks

@@ -4,6 +4,8 @@ pub mod Trees
 pub mod TreeOf
 pub mod Kinds
 pub mod Paths
+pub mod Replay
+pub mod ReplayedNode
 pub mod Landing
 pub mod Fronts
 pub mod Tenants

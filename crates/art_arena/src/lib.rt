@@ -12,6 +12,7 @@ pub mod links;
 mod path;
 mod prefix;
 mod reader;
+pub mod replay;
 mod stored;
 
 pub use arena::{LeafPtr, NodeArena, NodeRefused};

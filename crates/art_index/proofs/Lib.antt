@@ -6,6 +6,7 @@ pub mod HexText
 pub mod Carrying
 pub mod Replies
 pub mod Parsing
+pub mod LastField
 pub mod Dumping
 pub mod FullKeys
 pub mod DigitPairs

@@ -118,19 +118,13 @@ number_end text i n r o h is some front all digits e =
     is ∙ number_result text n r h some front (λ k lt. let far : k < i = omega arith in digits k far) (ap (digits_value_after 10 n) (sym (drop_of_length-le text all)) ∙ e)
 
 -- a line has a text
-fields_some : (line : List ℕ) → (t : List ℕ) × (ts : List (List ℕ)) × (fields_of line ≡ t ∷ ts)
+pub fields_some : (line : List ℕ) → (t : List ℕ) × (ts : List (List ℕ)) × (fields_of line ≡ t ∷ ts)
 fields_some [] = ([], [], refl)
 fields_some (x ∷ xs) = go (x == 32) (fields_of xs) (fields_some xs)
   where
     go : (b : Bool) (rest : List (List ℕ)) → (t : List ℕ) × (ts : List (List ℕ)) × (rest ≡ t ∷ ts) → (t : List ℕ) × (ts : List (List ℕ)) × (cond b ([] ∷ rest) (onto_first x rest) ≡ t ∷ ts)
     go true rest some = ([], rest, refl)
     go false rest some = (x ∷ some.0, some.1, ap (onto_first x) some.2)
-
-pub put_more : (t k v line : List ℕ) → None ≡ put_in (t ∷ k ∷ v ∷ fields_of line)
-put_more t k v line = let some = fields_some line in rw some.2 refl
-
-pub get_more : (t k line : List ℕ) → None ≡ get_in (t ∷ k ∷ fields_of line)
-get_more t k line = let some = fields_some line in rw some.2 refl
 
 pub too_long : (line : List ℕ) → 4096 < length line → None ≡ command_of line
 unfolding command_of
@@ -152,33 +146,6 @@ module _ (line word : List ℕ) (rest : List (List ℕ)) (short : length line �
 
   pub says_nothing : false ≡ bytes_eq word (codes "put") → false ≡ bytes_eq word (codes "get") → false ≡ bytes_eq word (codes "dump") → None ≡ command_of line
   says_nothing put get last = let p = sym put in let g = sym get in let d = sym last in let e : None ≡ command_in (word ∷ rest) = rw (p, g, d) refl in e ∙ says
-
--- behind the last field nothing stands
-pub put_behind : (r r1 r2 r3 : Option (Bor (List ℕ))) (x y z : Bor (List ℕ)) (t k v : List ℕ)
-    → r ≡ Some x → fields_of x.now ≡ t ∷ fields_behind (option_copied r1) → r1 ≡ Some y → fields_of y.now ≡ k ∷ fields_behind (option_copied r2)
-    → r2 ≡ Some z → fields_of z.now ≡ v ∷ fields_behind (option_copied r3) → true ≡ is_some r3
-    → None ≡ put_in (fields_behind (option_copied r))
-put_behind r r1 r2 r3 x y z t k v is first is1 second is2 third more =
-    let two : fields_of y.now ≡ k ∷ v ∷ fields_behind (option_copied r3) = second ∙ ap (λ o. k ∷ fields_behind (option_copied o)) is2 ∙ ap (λ l. k ∷ l) third in
-    let one : fields_of x.now ≡ t ∷ k ∷ v ∷ fields_behind (option_copied r3) = first ∙ ap (λ o. t ∷ fields_behind (option_copied o)) is1 ∙ ap (λ l. t ∷ l) two in
-    let all : fields_behind (option_copied r) ≡ t ∷ k ∷ v ∷ fields_behind (option_copied r3) = ap (λ o. fields_behind (option_copied o)) is ∙ one in
-    end r3 more ∙ ap put_in (sym all)
-  where
-    end : (o : Option (Bor (List ℕ))) → true ≡ is_some o → None ≡ put_in (t ∷ k ∷ v ∷ fields_behind (option_copied o))
-    end None h = absurd (true≢false h)
-    end (Some w) h = put_more t k v w.now
-
-pub get_behind : (r r1 r2 : Option (Bor (List ℕ))) (x y : Bor (List ℕ)) (t k : List ℕ)
-    → r ≡ Some x → fields_of x.now ≡ t ∷ fields_behind (option_copied r1) → r1 ≡ Some y → fields_of y.now ≡ k ∷ fields_behind (option_copied r2)
-    → true ≡ is_some r2 → None ≡ get_in (fields_behind (option_copied r))
-get_behind r r1 r2 x y t k is first is1 second more =
-    let one : fields_of x.now ≡ t ∷ k ∷ fields_behind (option_copied r2) = first ∙ ap (λ o. t ∷ fields_behind (option_copied o)) is1 ∙ ap (λ l. t ∷ l) second in
-    let all : fields_behind (option_copied r) ≡ t ∷ k ∷ fields_behind (option_copied r2) = ap (λ o. fields_behind (option_copied o)) is ∙ one in
-    end r2 more ∙ ap get_in (sym all)
-  where
-    end : (o : Option (Bor (List ℕ))) → true ≡ is_some o → None ≡ get_in (t ∷ k ∷ fields_behind (option_copied o))
-    end None h = absurd (true≢false h)
-    end (Some w) h = get_more t k w.now
 
 pub nothing_behind : (r : Option (Bor (List ℕ))) → is_some r ≡ false → Some dump ≡ dump_in (fields_behind (option_copied r))
 nothing_behind None h = refl

@@ -64,7 +64,7 @@ fn read_line(line: &[u8], command: &mut Command) -> bool
     false
 }
 
-/// Reads the fields behind `put`.
+/// Reads the fields behind `put`. The value is not looked through for a space, which is no digit.
 fn read_put(rest: Option<&[u8]>, command: &mut Command) -> bool
     requires { IfSome rest (λ text. length text.now ≤ 4092) }
     ensures { IsRead result command.new (put_in (fields_behind (option_copied rest.entry))) }
@@ -77,17 +77,13 @@ fn read_put(rest: Option<&[u8]>, command: &mut Command) -> bool
         return false;
     };
     let (key, rest) = split_field(text);
-    let Some(text) = rest else {
+    let Some(value) = rest else {
         return false;
     };
-    let (value, rest) = split_field(text);
-    if rest.is_some() {
-        return false;
-    }
     fill_put(tenant, key, value, command)
 }
 
-/// Reads the fields behind `get`.
+/// Reads the fields behind `get`. The key is not looked through for a space, which is no digit.
 fn read_get(rest: Option<&[u8]>, command: &mut Command) -> bool
     requires { IfSome rest (λ text. length text.now ≤ 4092) }
     ensures { IsRead result command.new (get_in (fields_behind (option_copied rest.entry))) }
@@ -99,10 +95,9 @@ fn read_get(rest: Option<&[u8]>, command: &mut Command) -> bool
     let Some(text) = rest else {
         return false;
     };
-    let (key, rest) = split_field(text);
-    if rest.is_some() {
+    let Some(key) = rest else {
         return false;
-    }
+    };
     fill_get(tenant, key, command)
 }
 
@@ -231,8 +226,8 @@ fn decode_bytes(field: &[u8], bytes: &mut ArrayVec<u8, 2045>) -> bool
     requires { length field.now ≤ 4090 }
     ensures { MatchBool result (Some bytes.new.items ≡ bytes_in field.now) (None ≡ bytes_in field.now) }
 {
-    bytes.clear();
     if field == b"-".as_slice() {
+        bytes.clear();
         return true;
     }
     let len = field.len() / 2;
@@ -242,8 +237,11 @@ fn decode_bytes(field: &[u8], bytes: &mut ArrayVec<u8, 2045>) -> bool
     if field.len() % 2 != 0 {
         return false;
     }
-    // As many bytes as are decoded; what they are does not matter, since they are decoded over.
-    let _ = bytes.try_extend_from_slice(&field[..len]);
+    // As many bytes as are decoded; what they are does not matter, since they are decoded over. Where the field before
+    // had as many, nothing is moved.
+    bytes.truncate(len);
+    let more = len - bytes.len();
+    let _ = bytes.try_extend_from_slice(&field[..more]);
     decode_digits(field, bytes.as_mut_slice())
 }
 

@@ -1,5 +1,5 @@
 -- Lemmas on children as bytes and names side by side, by ascending byte.
-use Rattle.std.proofs.Common.{◌≡◌, ℕ, zero, suc, ◌+◌, ◌-◌, ◌<◌, ◌≤◌, ◌==◌, ◌≢◌, slice_get, slice_set, slice_index, IsTrue, Bool, true, false, ltb, List, [], ◌∷◌, ◌++◌, length, take, drop, Option, Some, None, IsSome, cond, refl, ap, inl, inr, arith}
+use Rattle.std.proofs.Common.{◌≡◌, ℕ, suc, ◌+◌, ◌<◌, ◌≤◌, ◌==◌, ◌≢◌, slice_get, slice_set, slice_index, IsTrue, List, [], ◌∷◌, ◌++◌, length, Some, None, refl, ap, inl, inr, arith}
 use Rattle.std.specs.List.{zip, insert, remove}
 use Rattle.art_nodes.specs.InnerNode.{IsAscendingFrom, child_at, with_child, without_child, last_child}
 use Rattle.art_nodes.specs.Place.{place}

@@ -1,12 +1,11 @@
 -- Lemmas on a table's children as a map.
-use Rattle.std.proofs.Common.{◌≡◌, ℕ, zero, suc, ◌+◌, ◌-◌, ◌<◌, ◌≤◌, ◌==◌, ◌≢◌, Bool, true, false, List, [], ◌∷◌, length, Option, Some, None, IsSome, slice_get, slice_set, slice_index_or, cond, replicate, refl, ap, sym, ◌∙◌, subst, inl, inr, arith, zero-le, zero-add}
+use Rattle.std.proofs.Common.{◌≡◌, ℕ, zero, suc, ◌+◌, ◌<◌, ◌≤◌, List, [], ◌∷◌, length, Option, Some, None, slice_set, slice_index_or, refl, ap, sym, ◌∙◌, inl, inr, arith}
 use Rattle.std.proofs.lemmas.Bool.Decides.{eqb_tells, leb_tells}
-use Rattle.std.proofs.lemmas.List.{length-set}
 use Rattle.art_nodes.specs.Header.{Header, IsHeader}
 use Rattle.art_nodes.specs.Name.{Name}
 use Rattle.art_nodes.specs.InnerNode.{InnerNode, IsInnerNode, with_children, IsAscendingFrom, child_at, with_child, without_child}
-use Rattle.art_nodes.specs.Table.{children_from, held_at, IsCountedTable}
-use Rattle.art_nodes.proofs.ChildLemmas.{IsAscendingFrom-lower, child_at-above, without_child-above, length-with_child_new, length-with_child_held, length-without_child, without_child-none, length-ascending}
+use Rattle.art_nodes.specs.Table.{children_from, held_at}
+use Rattle.art_nodes.proofs.ChildLemmas.{IsAscendingFrom-lower, child_at-above, without_child-above, length-with_child_new, length-with_child_held, length-without_child, without_child-none}
 
 module _ {N : Type 0} where
   pub held_at-index : (xs : List (Option N)) (i : ℕ) (d : Option N) → i < length xs → slice_index_or xs i d ≡ held_at xs i

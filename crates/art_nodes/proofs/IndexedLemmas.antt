@@ -1,17 +1,17 @@
 -- Lemmas on an indirect node: each edit of index and names is the edit of the children.
-use Rattle.std.proofs.Common.{◌≡◌, ℕ, zero, suc, ◌+◌, ◌-◌, ◌<◌, ◌≤◌, ◌≢◌, ◌⊎◌, List, [], ◌∷◌, ◌++◌, length, min, Option, Some, None, IsSome, IfSome, slice_get, slice_set, refl, ap, sym, ◌∙◌, subst, inl, inr, arith, get_or-set_same, get_or-set_other, length-append, zero-le}
+use Rattle.std.proofs.Common.{◌≡◌, ℕ, suc, ◌+◌, ◌-◌, ◌<◌, ◌≤◌, ◌≢◌, ◌⊎◌, List, [], ◌∷◌, ◌++◌, length, min, Option, Some, None, IsSome, IfSome, slice_get, slice_set, refl, ap, sym, ◌∙◌, inl, inr, arith, get_or-set_same, get_or-set_other, length-append, zero-le}
 use Rattle.std.specs.List.{remove}
 use Rattle.std.proofs.lemmas.Bool.Decides.{eqb_tells}
 use Rattle.std.proofs.lemmas.List.{length-set}
 use Rattle.std.proofs.lemmas.List.Edits.{length-remove}
 use Rattle.std.proofs.lemmas.Option.{slice_get_past, slice_get_cases}
-use Rattle.art_nodes.specs.Header.{Header, IsHeader}
+use Rattle.art_nodes.specs.Header.{Header}
 use Rattle.art_nodes.specs.Name.{Name}
-use Rattle.art_nodes.specs.InnerNode.{InnerNode, IsInnerNode, with_children, child_at, with_child, without_child}
+use Rattle.art_nodes.specs.InnerNode.{InnerNode, with_children, child_at, with_child, without_child}
 use Rattle.art_nodes.specs.Table.{children_from, names_at, held_at}
 use Rattle.art_nodes.specs.Indirect.{place_at, shifted_place, shifted, IsIndexed}
 use Rattle.art_nodes.proofs.TableLemmas.{length-names_at}
-use Rattle.art_nodes.proofs.DirectLemmas.{lookup-table, write-table, remove-table, counts-new, counts-held, counts-removed, unchanged-table, IsInnerNode-table, table_node, edited}
+use Rattle.art_nodes.proofs.DirectLemmas.{lookup-table, write-table, remove-table, counts-new, counts-held, counts-removed, unchanged-table, table_node, edited}
 use Rattle.art_nodes.proofs.IndirectLemmas.{held_at-names_at, names_at-edit, slice_get-push_last, slice_get-push_before, slice_get-set_here, slice_get-set_other, slice_get-remove_before, slice_get-remove_after, place_at-shifted, length-shifted, shifted-nowhere, moved}
 
 abbrev pub indexed_node : Header → List ℕ → List Name → InnerNode

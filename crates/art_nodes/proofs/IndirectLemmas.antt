@@ -1,11 +1,8 @@
 -- Lemmas on names in a list with a place for each byte: edits of it are edits of the table of names.
-use Rattle.std.proofs.Common.{◌≡◌, ℕ, zero, suc, ◌+◌, ◌-◌, ◌<◌, ◌≤◌, ◌≢◌, ◌==◌, ◌⊎◌, nat_lt, ◌&&◌, not, Bool, true, false, List, [], ◌∷◌, ◌++◌, length, map, min, Option, Some, None, slice_get, slice_set, slice_index, cond, take, drop, refl, ap, sym, ◌∙◌, subst, inl, inr, arith, get_or}
-use Rattle.std.specs.List.{insert, remove}
-use Rattle.std.proofs.lemmas.Bool.Decides.{eqb_tells, leb_tells, nat_tests}
-use Rattle.std.proofs.lemmas.Grind.{common_steps, elements}
-use Rattle.std.proofs.lemmas.List.{length-set}
-use Rattle.std.proofs.lemmas.Option.{slice_get_past, slice_get_within}
-use Rattle.art_nodes.specs.Table.{children_from, names_at, held_at}
+use Rattle.std.proofs.Common.{◌≡◌, ℕ, zero, suc, ◌-◌, ◌<◌, ◌≤◌, ◌≢◌, ◌⊎◌, List, [], ◌∷◌, ◌++◌, length, Option, Some, slice_get, slice_set, slice_index, take, drop, refl, ap, inl, inr, arith}
+use Rattle.std.specs.List.{remove}
+use Rattle.std.proofs.lemmas.Bool.Decides.{eqb_tells, leb_tells}
+use Rattle.art_nodes.specs.Table.{names_at, held_at}
 use Rattle.art_nodes.specs.Indirect.{place_at, shifted_place, shifted}
 
 module _ {N : Type 0} where

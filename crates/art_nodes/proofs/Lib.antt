@@ -2,6 +2,7 @@ pub mod ChildLemmas
 pub mod DirectLemmas
 pub mod IndexedLemmas
 pub mod IndirectLemmas
+pub mod PackedLemmas
 pub mod PlaceLemmas
 pub mod PrefixLemmas
 pub mod SortedLemmas

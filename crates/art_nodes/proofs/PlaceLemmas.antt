@@ -1,10 +1,10 @@
 -- Lemmas on places: children within bounds as a part of a table, or of bytes and names side by side.
-use Rattle.std.proofs.Common.{◌≡◌, ℕ, zero, suc, ◌+◌, ◌-◌, ◌<◌, ◌≤◌, min, Bool, true, false, ltb, leb, nat_le, nat_lt, ◌&&◌, List, [], ◌∷◌, ◌++◌, length, take, drop, filter, Option, Some, None, cond, refl, ap, sym, ◌∙◌, subst, inl, inr, arith, length-drop}
+use Rattle.std.proofs.Common.{◌≡◌, ℕ, zero, suc, ◌+◌, ◌-◌, ◌<◌, ◌≤◌, min, Bool, true, false, nat_le, nat_lt, ◌&&◌, List, [], ◌∷◌, length, take, drop, filter, Option, Some, None, cond, refl, ap, sym, ◌∙◌, inl, inr, arith, length-drop}
 use Rattle.std.specs.List.{zip}
 use Rattle.std.specs.Range.Bound.{start_index, end_index}
 use Rattle.std.specs.declared.ops.Bound.{Bound}
 use Rattle.std.specs.declared.ops.Bound.TheVariants.{Included, Excluded, Unbounded}
-use Rattle.std.proofs.lemmas.Bool.Decides.{eqb_tells, leb_tells, nat_tests}
+use Rattle.std.proofs.lemmas.Bool.Decides.{leb_tells, nat_tests}
 use Rattle.art_nodes.specs.InnerNode.{IsAscendingFrom, is_from, is_to, children_between, AreValidBounds}
 use Rattle.art_nodes.specs.Place.{place, children_within}
 use Rattle.art_nodes.specs.Table.{children_from}

@@ -1,13 +1,14 @@
 -- Lemmas on a sorted node's bytes and names side by side.
-use Rattle.std.proofs.Common.{◌≡◌, ℕ, zero, suc, ◌+◌, ◌-◌, ◌<◌, ◌≤◌, ◌==◌, List, [], ◌∷◌, length, min, Option, Some, None, slice_get, slice_set, slice_index, refl, ap, sym, ◌∙◌, subst, arith, zero-le, ◌⊎◌, inl, inr, IsSome}
-use Rattle.std.specs.List.{zip, insert, remove}
-use Rattle.std.proofs.lemmas.Grind.{common_steps}
+use Rattle.std.proofs.Common.{◌≡◌, ℕ, zero, suc, ◌+◌, ◌-◌, ◌<◌, ◌≤◌, ◌==◌, List, [], ◌∷◌, length, Some, None, slice_get, slice_set, slice_index, position, refl, ap, sym, ◌∙◌, arith, zero-le, ◌⊎◌, inl, inr, IsSome}
+use Rattle.std.specs.List.{zip, insert, remove, position_or_len}
+use Rattle.std.proofs.lemmas.Bool.Decides.{eqb_tells, leb_tells}
 use Rattle.std.proofs.lemmas.List.{length-set}
 use Rattle.std.proofs.lemmas.List.Edits.{length-insert, length-remove}
+use Rattle.std.proofs.lemmas.Option.{slice_get_past}
 use Rattle.art_nodes.specs.Header.{Header, IsHeader}
-use Rattle.art_nodes.specs.InnerNode.{InnerNode, IsInnerNode, IsAscending, IsAscendingFrom, child_at, with_child, without_child, with_children}
+use Rattle.art_nodes.specs.InnerNode.{InnerNode, IsInnerNode, IsAscendingFrom, child_at, with_child, without_child, with_children}
 use Rattle.art_nodes.specs.Name.{Name}
-use Rattle.art_nodes.specs.Place.{place, StandsAt, BelongsAt}
+use Rattle.art_nodes.specs.Place.{StandsAt, BelongsAt}
 use Rattle.art_nodes.specs.Sorted.{IsSideBySide}
 use Rattle.art_nodes.proofs.PlaceLemmas.{place-within}
 use Rattle.art_nodes.proofs.ChildLemmas.{Held, held, Absent, absent, length-zip_same, length-ascending, IsAscendingFrom-with_child, IsAscendingFrom-without_child}
@@ -39,6 +40,34 @@ counted room header keys names node children side same rest =
     let count : header.num_children ≡ length children = side.counts ∙ sym long ∙ ap (λ (cs : List (ℕ × Name)). length cs) same in
     record { side = side; view = cc }
 
+-- the first place of a byte is the place of its name, and past the names where the byte doesn't stand
+first_place : (keys : List ℕ) (names : List Name) (byte : ℕ) → length keys ≡ length names → slice_get names (position_or_len (λ key. key == byte) keys) ≡ child_at (zip keys names) byte
+first_place [] [] byte same = refl
+first_place [] (n ∷ names) byte same = absurd (omega (arith, same))
+first_place (k ∷ keys) [] byte same = absurd (omega (arith, same))
+first_place (k ∷ keys) (n ∷ names) byte same = elim (eqb_tells k byte) [
+  | inl yes_it ↦ rw yes_it.0 refl
+  | inr no_it ↦
+      let places = position_or_len (λ key. key == byte) keys in
+      let next : 1 + places ≡ suc places = omega arith in
+      rw no_it.0 (ap (λ at. slice_get (n ∷ names) at) next ∙ first_place keys names byte (omega (arith, same)))
+]
+
+pub found-at : (keys : List ℕ) (names : List Name) (byte at : ℕ) → length keys ≡ length names → position (λ key. key == byte) keys ≡ Some at → slice_get names at ≡ child_at (zip keys names) byte
+found-at keys names byte at same is = elim (leb_tells (suc (position_or_len (λ key. key == byte) keys)) (length keys)) [
+  | inl yes_it ↦
+      let here : Some (position_or_len (λ key. key == byte) keys) ≡ Some at = rw yes_it.0 at is in
+      let place : position_or_len (λ key. key == byte) keys ≡ at = cc in
+      rw (← place) (first_place keys names byte same)
+  | inr no_it ↦ absurd (let e = rw no_it.0 at is in cc)
+]
+
+pub found-nowhere : (keys : List ℕ) (names : List Name) (byte : ℕ) → length keys ≡ length names → position (λ key. key == byte) keys ≡ None → child_at (zip keys names) byte ≡ None
+found-nowhere keys names byte same is = elim (leb_tells (suc (position_or_len (λ key. key == byte) keys)) (length keys)) [
+  | inl yes_it ↦ absurd (let e = rw yes_it.0 at is in cc)
+  | inr no_it ↦ sym (first_place keys names byte same) ∙ slice_get_past names _ (omega (arith, no_it.1, same))
+]
+
 module _ (room : ℕ) (header : Header) (keys : List ℕ) (names : List Name) (byte at : ℕ) (side : IsSideBySide room header keys names) where
   here : StandsAt keys byte at → Held keys names byte
   here stands = held 0 keys names byte side.same_length side.ascending (rw stands.is_place at stands.within) (rw stands.is_place at stands.here)
@@ -46,7 +75,7 @@ module _ (room : ℕ) (header : Header) (keys : List ℕ) (names : List Name) (b
   away : BelongsAt keys byte at → Absent keys names byte
   away belongs = absent 0 keys names byte side.same_length side.ascending (rw belongs.is_place at belongs.apart)
 
-  -- a look-up
+  -- a look-up of a byte that is to be written or removed
   pub found_here : StandsAt keys byte at → slice_get names at ≡ child_at (zip keys names) byte
   found_here stands = rw stands.is_place (sym ((here stands).found))
 

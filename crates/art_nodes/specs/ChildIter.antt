@@ -1,7 +1,5 @@
 -- What a contract sees of the children that an iterator has left.
-use Rattle.std.specs.Prelude.{◌≡◌, ℕ, ◌+◌, ◌≤◌, List, [], ◌∷◌, length, map, Option, Some, None, slice_get}
-use Rattle.std.specs.List.{zip}
-use Rattle.art_nodes.specs.InnerNode.{IsAscendingFrom}
+use Rattle.std.specs.Prelude.{ℕ, List}
 use Rattle.art_nodes.specs.Name.{Name}
 use Rattle.art_nodes.specs.declared.child_iter.Arm.{Arm}
 use Rattle.art_nodes.specs.declared.child_iter.Arm.TheVariants.{Sorted, Indirect, Direct}

@@ -1,5 +1,5 @@
 -- What a contract sees of an inner node of any kind: a header, and a finite map from byte to name, as a list by ascending byte.
-use Rattle.std.specs.Prelude.{◌≡◌, ℕ, suc, ◌+◌, ◌<◌, ◌≤◌, ◌==◌, nat_lt, nat_le, Bool, true, ◌&&◌, List, [], ◌∷◌, length, filter, Option, Some, None, if◌then◌else◌}
+use Rattle.std.specs.Prelude.{◌≡◌, ℕ, ◌+◌, ◌<◌, ◌≤◌, ◌==◌, nat_lt, nat_le, Bool, true, ◌&&◌, List, [], ◌∷◌, length, map, filter, Option, Some, None, if◌then◌else◌}
 use Rattle.std.specs.Range.Bound.{IsForward}
 use Rattle.std.specs.declared.ops.Bound.{Bound}
 use Rattle.std.specs.declared.ops.Bound.TheVariants.{Included, Excluded, Unbounded}
@@ -32,6 +32,10 @@ module _ {N : Type 0} where
   abbrev pub without_child : List (ℕ × N) → ℕ → List (ℕ × N)
   without_child [] byte = []
   without_child (c ∷ rest) byte = if c.0 == byte then rest else c ∷ without_child rest byte
+
+  -- the names of the children, by ascending byte
+  abbrev pub names_of : List (ℕ × N) → List N
+  names_of children = map (λ c. c.1) children
 
   -- the child under the smallest byte, with its byte
   abbrev pub first_child : List (ℕ × N) → Option (ℕ × N)

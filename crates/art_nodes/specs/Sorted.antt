@@ -1,7 +1,7 @@
 -- How a sorted node holds its children.
 use Rattle.std.specs.Prelude.{◌≡◌, ℕ, ◌≤◌, List, length}
 use Rattle.std.specs.List.{zip}
-use Rattle.art_nodes.specs.Header.{Header, IsHeader}
+use Rattle.art_nodes.specs.Header.{Header}
 use Rattle.art_nodes.specs.InnerNode.{IsAscending}
 use Rattle.art_nodes.specs.Name.{Name}
 

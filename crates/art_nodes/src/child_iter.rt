@@ -1,7 +1,8 @@
 //! The children of an inner node, from either end.
-ghost use Rattle.std.specs.Prelude.{◌≡◌, ◌↔◌, IsTrue, ◌+◌, ◌<◌, ◌≤◌, length, slice_get, count_by, nat_lt};
+ghost use Rattle.std.specs.Prelude.{◌≡◌, ◌↔◌, IsTrue, ◌+◌, ◌<◌, ◌≤◌, length, slice_get, count_by, nat_lt, Some, IfSome};
 ghost use Rattle.std.specs.List.{zip};
-ghost use Rattle.std.specs.Iterator.{YieldsFirst, YieldsLast, item_count};
+ghost use Rattle.std.specs.Iterator.{YieldsFirst, YieldsLast, item_count, UpTo};
+ghost use Rattle.std.specs.Iterator.SizeHint.{IsWithinCount};
 ghost use Rattle.art_nodes.specs.InnerNode.{children_between, AreValidBounds, IsAscending};
 ghost use Rattle.std.specs.Range.Bound.{start_index, end_index};
 ghost use Rattle.art_nodes.specs.Place.{place, children_within};
@@ -384,6 +385,15 @@ impl<'a> Iterator for ChildIter<'a> {
             Arm::Indirect(children) => children.next(),
             Arm::Direct(children) => children.next(),
         }
+    }
+
+    fn size_hint(&self) -> (usize, Option<usize>)
+        ensures lower { IsWithinCount result.0 (item_count (λ s. s) self.now) }
+        ensures upper { IfSome result.1 (UpTo (item_count (λ s. s) self.now)) }
+        ensures value { result ≡ (length self.now, Some (length self.now)) }
+    {
+        let len = self.len();
+        (len, Some(len))
     }
 }
 

@@ -163,10 +163,11 @@ impl<const PREFIX_LEN: usize> Header<PREFIX_LEN> {
     pub fn without_children(&self) -> Self
         ensures { result ≡ record self.now { num_children = 0 } }
     {
+        let prefix = self.prefix;
         Header {
             prefix_len: self.prefix_len,
             num_children: 0,
-            prefix: self.prefix,
+            prefix,
         }
     }
 

@@ -1,6 +1,6 @@
 //! Inner nodes whose children stand packed, found through a place for each byte.
-ghost use Rattle.std.specs.Prelude.{◌≡◌, ◌<◌, ℕ, length, min, IfSome, slice_get};
-ghost use Rattle.art_nodes.specs.InnerNode.{child_at};
+ghost use Rattle.std.specs.Prelude.{◌≡◌, ◌<◌, ℕ, length, min, IsPermutation, slice_get};
+ghost use Rattle.art_nodes.specs.InnerNode.{child_at, names_of};
 ghost use Rattle.art_nodes.specs.Indirect.{place_at, shifted, shifted_place};
 
 use crate::child_iter::{ChildIter, name_in};
@@ -80,10 +80,9 @@ fn close_gap(index: &mut [u8; 256], gap: u8)
 }
 
 impl<K, V, const PREFIX_LEN: usize, const SIZE: usize> InnerNodeIndirect<K, V, PREFIX_LEN, SIZE> {
-    /// The names in use, in open order: as many as there are children, and each child's among them.
+    /// The names in use, each as often as there are children with it. Their order is open.
     pub fn initialized_child_pointers(&self) -> &[OpaqueNodePtr]
-        ensures counts { length result.now ≡ length self.now.children }
-        ensures all { (byte : ℕ) → byte < 256 → IfSome (child_at self.now.children byte) (λ name. (i : ℕ) × (slice_get result.now i ≡ Some name)) }
+        ensures { IsPermutation (names_of self.now.children) result.now }
     {
         self.names.as_slice()
     }

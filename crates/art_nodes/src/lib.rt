@@ -40,4 +40,6 @@ pub use slot::Slot;
 pub use sorted::{InnerNode4, InnerNode16, InnerNodeSorted};
 
 #[cfg(test)]
+mod calling;
+#[cfg(test)]
 mod tests;

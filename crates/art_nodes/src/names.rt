@@ -53,7 +53,7 @@ impl OpaqueNodePtr {
     pub fn is<N: NodeKind>(self) -> bool
         ensures { IsTrue result ↔ (self.kind ≡ N.TYPE) }
     {
-        self.kind == N::TYPE
+        self.node_type() == N::TYPE
     }
 
     /// The name as one of the kind `N`, or `None` where it names a node of another kind.
@@ -71,6 +71,10 @@ impl OpaqueNodePtr {
 
 /// What stands in the unused places of a node: the name of the first leaf.
 impl Default for OpaqueNodePtr {
+    ghost use Rattle.art_nodes.specs.declared.kind.NodeType.TheVariants.{Leaf};
+
+    ghost is_default = { λ name. name ≡ record { kind = Leaf; slot = 0 } };
+
     fn default() -> Self {
         OpaqueNodePtr::new(NodeType::Leaf, 0)
     }
@@ -124,7 +128,8 @@ impl<N: NodeKind> NodePtr<N> {
     pub fn slot(self) -> usize
         ensures { result ≡ self }
     {
-        self.slot
+        let NodePtr { slot, node: _ } = self;
+        slot
     }
 
     /// The same name, its kind as a value.

@@ -36,6 +36,8 @@ impl NonMaxIndex {
 }
 
 impl Default for NonMaxIndex {
+    ghost is_default = { λ it. it.index ≡ 0 };
+
     fn default() -> Self {
         NonMaxIndex { index: 0 }
     }

@@ -1,5 +1,5 @@
 //! Inner nodes of few children, whose bytes and names stand side by side in ascending order.
-ghost use Rattle.std.specs.Prelude.{◌≡◌, ◌↔◌, ◌<◌, ◌≤◌, ◌⊎◌, ◌+◌, ◌^◌, [], length, min, IsTrue, IsSome, MatchResult};
+ghost use Rattle.std.specs.Prelude.{◌≡◌, ◌↔◌, ◌<◌, ◌≤◌, ◌⊎◌, ◌+◌, ◌^◌, ◌==◌, [], length, min, position, IsTrue, IsSome, MatchResult};
 ghost use Rattle.art_nodes.specs.Header.{front_of};
 ghost use Rattle.std.specs.List.{zip};
 ghost use Rattle.art_nodes.specs.Place.{StandsAt, BelongsAt};
@@ -51,6 +51,14 @@ fn find(keys: &[u8], byte: u8) -> Result<usize, usize>
     } else {
         Err(at)
     }
+}
+
+// The first place of the byte among these bytes. A look-up needs no more, and to test for equality alone is faster
+// than to find the place where the byte belongs.
+fn position_of(keys: &[u8], byte: u8) -> Option<usize>
+    ensures { result ≡ position (λ key. key == byte) keys.now }
+{
+    keys.iter().position(|key| *key == byte)
 }
 
 impl<K, V, const PREFIX_LEN: usize, const SIZE: usize> Drop
@@ -110,9 +118,9 @@ impl<K, V, const PREFIX_LEN: usize, const SIZE: usize> InnerNodeCommon<PREFIX_LE
     }
 
     fn lookup_child(&self, byte: u8) -> Option<OpaqueNodePtr> {
-        match find(self.keys.as_slice(), byte) {
-            Ok(at) => name_in(self.names.as_slice(), at),
-            Err(_) => None,
+        match position_of(self.keys.as_slice(), byte) {
+            Some(at) => name_in(self.names.as_slice(), at),
+            None => None,
         }
     }
 

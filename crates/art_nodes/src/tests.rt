@@ -81,6 +81,7 @@ fn every_kind_at_the_borders(rt: HostRuntime) {
     fills_and_empties::<InnerNode256<[u8; 3], u64, 16>, _>(&rt, &borders);
     fills_and_empties::<Small, _>(&rt, &[255, 0]);
     fills_and_empties::<Small, _>(&rt, &[192, 64, 63, 128]);
+    fills_and_empties::<Small, _>(&rt, &[127, 0, 255, 191]);
 }
 
 // A node with a child under each of the first bytes.
@@ -219,6 +220,51 @@ fn leaves_lend_their_pair(rt: HostRuntime) {
     assert!(rt; *pair.entry_ref().0 == [1, 2, 3] && *pair.entry_ref().1 == 9);
     pair.set_previous(Some(NodePtr::from_slot(4)));
     assert!(rt; pair.previous() == Some(NodePtr::from_slot(4)));
+}
+
+#[test]
+fn children_are_counted_and_lent(rt: HostRuntime) {
+    let mut sixteen = InnerNode16::<[u8; 3], u64, 16>::from_prefix(&[], 0);
+    let mut large = Middle::from_prefix(&[], 0);
+    for (byte, slot) in [(9u8, 1usize), (255, 2), (0, 3)] {
+        if !sixteen.is_full() && !large.is_full() {
+            sixteen.write_child(byte, leaf(slot));
+            large.write_child(byte, leaf(slot));
+        }
+    }
+    let (bytes, names) = sixteen.initialized_portion();
+    assert!(rt; bytes == [0, 9, 255].as_slice());
+    assert!(rt; names == [leaf(3), leaf(1), leaf(2)].as_slice());
+    assert!(rt; large.initialized_child_pointers() == [leaf(1), leaf(2), leaf(3)].as_slice());
+    let mut children = large.iter();
+    assert!(rt; children.size_hint() == (3, Some(3)));
+    assert!(rt; children.next() == Some((0, leaf(3))));
+    assert!(rt; children.size_hint() == (2, Some(2)));
+    assert!(rt; are_valid_child_bounds(Bound::Included(3), Bound::Included(3)));
+    assert!(rt; !are_valid_child_bounds(Bound::Excluded(3), Bound::Excluded(3)));
+}
+
+#[test]
+fn conversions(rt: HostRuntime) {
+    let name = NodePtr::<KindLeaf>::from_slot(6);
+    assert!(rt; ConcreteNodePtr::from(name).to_opaque() == name.to_opaque());
+    let inner = NodePtr::<Kind4>::from_slot(6);
+    assert!(rt; ConcreteNodePtr::from(inner).to_opaque() == inner.to_opaque());
+    assert!(rt; ConcreteInnerNodePtr::from(inner).to_opaque() == inner.to_opaque());
+    assert!(rt; inner.to_opaque() != name.to_opaque());
+    assert_eq!(rt; Slot::new(1 << 40).get(), 1 << 40);
+    assert!(rt; OpaqueNodePtr::default() == leaf(0));
+    let index = NonMaxIndex::new(254);
+    assert!(rt; index.is_some_and(|it| it.get() == 254 && usize::from(it) == 254));
+    let mut header = Header::<16>::new(&[7, 7], 2);
+    header.inc_num_children();
+    assert_eq!(rt; header.without_children().num_children(), 0);
+    assert!(rt; header.without_children().read_prefix() == [7, 7].as_slice());
+    let sixteen = InnerNode16::from(filled::<Small>(4));
+    assert!(rt; holds(&sixteen, 4));
+    let large = InnerNode48::from(sixteen);
+    assert!(rt; holds(&large, 4));
+    assert!(rt; holds(&InnerNode256::from(large), 4));
 }
 
 #[test]

@@ -1,4 +1,4 @@
-use Rattle.std.proofs.Common.{◌≡◌, ℕ, ◌/◌, List, length, take, ◌∙◌, ap, Some, arith}
+use Rattle.std.proofs.Common.{◌≡◌, ℕ, ◌/◌, ◌-◌, List, length, take, ◌∙◌, ap, Some, arith}
 use Rattle.std.specs.Str.{bytes_eq}
 use Rattle.std.proofs.lemmas.List.{length-take-le}
 use Rattle.art_index.proofs.Parsing.{bytes_dash, bytes_short, bytes_odd, decoded}
@@ -19,10 +19,11 @@ returns c =
     let field : List ℕ = c.args.field.now in let half : ℕ = length field / 2 in
     let short = c.requires in let some = c.if-len-eq0.false in
     let other = c.if-eq.ensures ∙ ap (bytes_eq field) c.as_slice.ensures in
-    let front : length (take half field) ≡ half = length-take-le half field (omega arith) in
-    let empty = ap length c.clear.ensures in
+    let more : ℕ = half - c.len.result in
+    let front : length (take more field) ≡ more = length-take-le more field (omega arith) in
+    let kept = c.truncate.ensures.len in let had = c.len.ensures.value in
     let e = c.try_extend_from_slice.ensures in
     let filled = on_ok c.try_extend_from_slice.result (e.variant.1 (omega arith)) e.len in
     let lent = ap length c.as_mut_slice.ensures.value in
-    let kept = c.decode_digits.auto.bytes in
+    let all = c.decode_digits.auto.bytes in
     decoded field c.decode_digits.result c.try_extend_from_slice.new.self.items c.decode_digits.new.bytes c.decode_digits.ensures other (omega arith) (omega arith)

@@ -1,9 +1,6 @@
-use Rattle.std.proofs.Common.{◌≡◌, ◌*◌, take, drop}
-use Rattle.hex.specs.Hex.{decode_pairs}
-use Rattle.hex.proofs.Pairs.{prepend}
+use Rattle.art_index.proofs.DigitPairs.{Decoded}
 use Rattle.art_index.proofs.digits.decode_digits.Given as goal
 
 -- the digits so far are decoded
 abbrev pub invariant-bytes : goal.invariant-bytes
-invariant-bytes l =
-    decode_pairs 0 l.digits ≡ prepend (take l.i l.bytes) (decode_pairs (2 * l.i) (drop (2 * l.i) l.digits))
+invariant-bytes l = Decoded l.digits l.bytes l.i l.faults

@@ -7,5 +7,5 @@ returns-clause-value c = (is_digit c.args.digit c.from.result c.ranges.digit.fit
 pub returns-clause-none : goal.returns-clause-none
 returns-clause-none c = (is_digit c.args.digit c.from.result c.ranges.digit.fits c.from.ensures).none
 
-pub returns-clause-bound : goal.returns-clause-bound
-returns-clause-bound c = (is_digit c.args.digit c.from.result c.ranges.digit.fits c.from.ensures).bound
+pub returns-clause-mark : goal.returns-clause-mark
+returns-clause-mark c = (is_digit c.args.digit c.from.result c.ranges.digit.fits c.from.ensures).mark

@@ -1,4 +1,4 @@
-use Rattle.std.proofs.Common.{◌≡◌, ◌-◌, length, min, ap, sym, ◌∙◌}
+use Rattle.std.proofs.Common.{◌≡◌, ◌-◌, length, min, ap, ◌∙◌}
 use Rattle.art_nodes.proofs.PlaceLemmas.{within-children_from}
 use Rattle.art_nodes.proofs.child_iter.DirectChildren.between.Goals as goal
 

@@ -1,4 +1,4 @@
-use Rattle.std.proofs.Common.{◌≡◌, ◌-◌, length, min, map, take, drop, slice_get, ap, refl, sym, ◌∙◌}
+use Rattle.std.proofs.Common.{◌≡◌, ◌-◌, length, min, refl}
 use Rattle.art_nodes.specs.Table.{names_at}
 use Rattle.art_nodes.proofs.PlaceLemmas.{within-children_from}
 use Rattle.art_nodes.proofs.TableLemmas.{length-names_at, names_at-part}

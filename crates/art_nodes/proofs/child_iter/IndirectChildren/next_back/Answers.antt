@@ -1,5 +1,4 @@
-use Rattle.std.proofs.Common.{◌≡◌, ◌∙◌, ◌++◌, ◌∷◌, [], sym, slice_get, Some, None, arith}
-use Rattle.art_nodes.specs.Table.{children_from, names_at}
+use Rattle.std.proofs.Common.{◌≡◌, ◌∙◌, sym, slice_get, Some, None, arith}
 use Rattle.art_nodes.proofs.TableLemmas.{names_at-snoc_none, names_at-snoc_some}
 use Rattle.art_nodes.proofs.child_iter.IndirectChildren.next_back.Goals as goal
 

@@ -1,4 +1,3 @@
-use Rattle.std.proofs.Common.{refl, sym, ◌∙◌}
 use Rattle.art_nodes.proofs.PlaceLemmas.{within-zip}
 use Rattle.art_nodes.proofs.child_iter.SortedChildren.between.Goals as goal
 

@@ -1,4 +1,3 @@
-use Rattle.std.proofs.Common.{◌≤◌, arith}
 use Rattle.art_nodes.proofs.DirectLemmas.{IsInnerNode-table}
 use Rattle.art_nodes.proofs.direct.InnerNodeDirectInnerNodeCommon.header.Goals as goal
 

@@ -1,4 +1,4 @@
-use Rattle.std.proofs.Common.{◌≡◌, ◌-◌, ◌≤◌, slice_set, None, length, refl, ap, sym, ◌∙◌, arith}
+use Rattle.std.proofs.Common.{◌≡◌, ◌-◌, slice_set, None, length, sym, ◌∙◌, arith}
 use Rattle.std.proofs.lemmas.List.{length-set}
 use Rattle.art_nodes.specs.Table.{children_from}
 use Rattle.art_nodes.proofs.DirectLemmas.{lookup-table, remove-table, counts-removed, unchanged-table, edited}

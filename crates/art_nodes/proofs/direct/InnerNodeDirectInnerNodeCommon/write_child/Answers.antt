@@ -1,4 +1,4 @@
-use Rattle.std.proofs.Common.{◌≡◌, ◌≤◌, ◌+◌, slice_set, Some, length, refl, ap, sym, ◌∙◌, arith}
+use Rattle.std.proofs.Common.{◌+◌, slice_set, Some, ap, sym, ◌∙◌, arith}
 use Rattle.std.proofs.lemmas.List.{length-set}
 use Rattle.art_nodes.specs.Table.{children_from}
 use Rattle.art_nodes.proofs.ChildLemmas.{length-ascending}

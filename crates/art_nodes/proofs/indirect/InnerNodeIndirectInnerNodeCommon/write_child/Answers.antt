@@ -1,7 +1,7 @@
-use Rattle.std.proofs.Common.{◌≡◌, ◌<◌, ◌≤◌, suc, length, min, refl, sym, ◌∙◌, inl, inr, arith}
+use Rattle.std.proofs.Common.{◌≡◌, ◌<◌, ◌≤◌, suc, length, min, refl, ◌∙◌, inl, inr, arith}
 use Rattle.std.proofs.lemmas.Bool.Decides.{leb_tells}
 use Rattle.art_nodes.specs.Indirect.{place_at}
-use Rattle.art_nodes.proofs.IndexedLemmas.{Reindexed, replaced-indexed, added-indexed, room-indexed}
+use Rattle.art_nodes.proofs.IndexedLemmas.{replaced-indexed, added-indexed, room-indexed}
 use Rattle.art_nodes.proofs.indirect.InnerNodeIndirectInnerNodeCommon.write_child.Goals as goal
 
 pub invariant_of-self : goal.invariant_of-self

@@ -1,4 +1,4 @@
-use Rattle.std.proofs.Common.{◌≡◌, ◌≤◌, length, min, ap, ◌∙◌, arith}
+use Rattle.std.proofs.Common.{◌≤◌, length, ap, ◌∙◌, arith}
 use Rattle.art_nodes.specs.Header.{Header}
 use Rattle.art_nodes.proofs.inner_node.InnerNodeCommon.attempt_pessimistic_match_prefix.Goals as goal
 

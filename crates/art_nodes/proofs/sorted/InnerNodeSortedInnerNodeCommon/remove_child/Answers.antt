@@ -1,7 +1,7 @@
-use Rattle.std.proofs.Common.{◌≡◌, ◌<◌, length, Some, slice_get, refl, arith, sym, ◌∙◌}
+use Rattle.std.proofs.Common.{◌<◌, length, refl, arith, sym, ◌∙◌}
 use Rattle.std.proofs.lemmas.Option.{slice_get_read}
 use Rattle.art_nodes.specs.Place.{StandsAt, BelongsAt}
-use Rattle.art_nodes.proofs.SortedLemmas.{Becomes, found_here, found_nowhere, unchanged, removed}
+use Rattle.art_nodes.proofs.SortedLemmas.{found_here, found_nowhere, unchanged, removed}
 use Rattle.art_nodes.proofs.sorted.InnerNodeSortedInnerNodeCommon.remove_child.Goals as goal
 
 pub returns-in-Err-clause-value : goal.returns-in-Err-clause-value

@@ -1,6 +1,6 @@
-use Rattle.std.proofs.Common.{◌≡◌, ◌<◌, ◌≤◌, length, arith, sym, ◌∙◌}
+use Rattle.std.proofs.Common.{arith}
 use Rattle.art_nodes.specs.Place.{StandsAt, BelongsAt}
-use Rattle.art_nodes.proofs.SortedLemmas.{Becomes, replaced, added, room_there, place_there, counts_up}
+use Rattle.art_nodes.proofs.SortedLemmas.{replaced, added, room_there, place_there, counts_up}
 use Rattle.art_nodes.proofs.sorted.InnerNodeSortedInnerNodeCommon.write_child.Goals as goal
 
 pub invariant_of-self : goal.invariant_of-self
