@@ -3,7 +3,8 @@
 
     tests/refusals.py [WORD]      at the top of the repository; WORD: only what has it in its name
 Under tests/refuse.c, which says what a window is, it runs
-- each #[test] that opens windows by eprintln!(rt; "refuse") and closes each by eprintln!(rt; "ok") or "refused",
+- each #[test] once with nothing refused, and it must pass; then each that opens windows by eprintln!(rt; "refuse") and
+  closes each by eprintln!(rt; "ok") or "refused",
 - each scenario of crates/refusals, named by the lines 'scenario NAME' of its file stdout,
 - each line of tests/refusals.lines under art_index: the line stands twice, and is refused the first time. It must answer
   `memory` then, and all else must be as if it stood once. Only lines that may be refused may ask for memory at all.
@@ -76,6 +77,11 @@ def calls(name, words, prints_states):
             assert now.get("again") == was["after"], f"{label}: the second call left another state: {out}"
 
 
+def fails(ran):
+    """A test that fails though nothing is refused: no window of it tells anything then."""
+    raise AssertionError(f"status {ran.returncode}: {ran.stdout[-300:]} {ran.stderr[-300:]}")
+
+
 def one_line(words, lines, at):
     """The line stands twice, and is refused the first time: all else must be as if it stood once."""
     before, free = (run(words, "0", given=b"".join(it))[1] for it in (lines[:at], lines))
@@ -112,7 +118,10 @@ def of_tests():
     for program in sorted(glob("crates/*/out/*_tests")):
         listed = subprocess.run([program, "--list"], capture_output=True, text=True, check=True).stdout.splitlines()
         for test in [it.removesuffix(": test") for it in listed if it.endswith(": test")]:
-            if b"refuse\n" in subprocess.run([program, test], capture_output=True).stderr:
+            free = subprocess.run([program, test], capture_output=True, timeout=60)
+            if free.returncode:
+                count(program, test, fails, free)
+            elif b"refuse\n" in free.stderr:
                 count(program, test, calls, test, [program, test], False)
 
 

@@ -22,7 +22,7 @@ impl AsBytes for Vec<u8> {
     ghost bytes_fit = { λ k h. h };
 
     fn as_bytes(&self) -> &[u8] {
-        self.as_slice()
+        Vec::as_slice(self)
     }
 }
 
@@ -99,7 +99,8 @@ impl<T: AsBytes> AsBytes for Rc<T> {
     ghost bytes_fit = { λ k h. T.bytes_fit k.value h };
 
     fn as_bytes(&self) -> &[u8] {
-        T::as_bytes(self)
+        let shared: &T = self;
+        shared.as_bytes()
     }
 }
 

@@ -1,5 +1,5 @@
 //! The laws of keys and mappings, as contracts. No function here does any work.
-ghost use Rattle.std.specs.Prelude.{◌≡◌, ◌++◌, ℕ, ℤ, IfOk};
+ghost use Rattle.std.specs.Prelude.{◌≡◌, IfOk, OnErr};
 ghost use Rattle.art_bytes.specs.Keys.{AreBytes, BeginsWith, Conflict, bytes_cmp};
 ghost use Rattle.art_bytes.specs.Laws.{pair_key};
 
@@ -30,27 +30,29 @@ pub fn order_is_of_bytes<K: OrderedBytes>(a: &K, b: &K) -> Ordering
     ensures keys { result ≡ K.cmp a.now b.now }
     ensures bytes { result ≡ bytes_cmp (K.bytes a.now) (K.bytes b.now) }
 {
-    let _ = a.as_bytes();
-    let _ = b.as_bytes();
-    a.cmp(b)
+    let _first = a.as_bytes();
+    let _second = b.as_bytes();
+    K::cmp(a, b)
 }
 
-/// A value that is written and read back is the same value.
+/// A value that is written and read back is the same value; it is refused only where its bytes or it take memory.
 pub fn reads_back<B: BytesMapping<D>, D>(alloc: Global, value: D) -> Result<D, AllocError>
-    ensures { IfOk result (λ v. B.is_same v value) }
+    ensures same { IfOk result (λ v. B.is_same v value) }
+    ensures refused { OnErr result (¬ (B.bytes_are_free × B.value_is_free)) }
 {
     let bytes = B::to_bytes(alloc, value)?;
     let read = B::from_bytes(alloc, bytes)?;
     Ok(read)
 }
 
-/// Bytes that are read and written back are the same bytes.
+/// Bytes that are read and written back are the same bytes; it is refused only where the value or its bytes take memory.
 pub fn writes_back<B: BytesMapping<D>, D>(
     alloc: Global,
     bytes: B::Bytes,
 ) -> Result<B::Bytes, AllocError>
     requires { (v : D) × B.has_bytes v bytes }
-    ensures { IfOk result (λ b. B.Bytes.bytes b ≡ B.Bytes.bytes bytes) }
+    ensures same { IfOk result (λ b. B.Bytes.bytes b ≡ B.Bytes.bytes bytes) }
+    ensures refused { OnErr result (¬ (B.bytes_are_free × B.value_is_free)) }
 {
     let value = B::from_bytes(alloc, bytes)?;
     B::to_bytes(alloc, value)
@@ -82,4 +84,11 @@ pub fn pair_key_is(alloc: Global, tenant: u32, number: i64) -> Result<Vec<u8>, A
     ensures { IfOk result (λ key. key.items ≡ pair_key (tenant, number)) }
 {
     ConcatTuple::<(ToUBE, ToIBE)>::to_bytes(alloc, (tenant, number))
+}
+
+/// The keys of tenants' numbers are in the order of the pairs: by tenant, and then by number.
+pub fn pair_keys_are_ordered(a: (u32, i64), b: (u32, i64)) -> Ordering
+    ensures { result ≡ bytes_cmp (pair_key a) (pair_key b) }
+{
+    a.cmp(&b)
 }

@@ -190,17 +190,29 @@ fn mapped_values(rt: HostRuntime) -> Result<(), Fail> {
     Ok(())
 }
 
+type PairKey = Mapped<ConcatTuple<(ToUBE, ToIBE)>, (u32, i64)>;
+
 #[test]
-fn mapped_tuple(rt: HostRuntime) -> Result<(), Fail> {
-    let least = Mapped::<ConcatTuple<(ToUBE, ToIBE)>, (u32, i64)>::new(rt.alloc(), (1, -5))?;
-    let most = Mapped::<ConcatTuple<(ToUBE, ToIBE)>, (u32, i64)>::new(rt.alloc(), (1, 6))?;
+fn mapped_tuples_in_order(rt: HostRuntime) -> Result<(), Fail> {
+    let least = PairKey::new(rt.alloc(), (1, -5))?;
+    let most = PairKey::new(rt.alloc(), (1, 6))?;
     ordered(&rt, &least, &most);
+    assert_eq!(rt;
+        laws::pair_keys_are_ordered((1, -5), (1, 6)),
+        Ordering::Less
+    );
+    Ok(())
+}
+
+#[test]
+fn mapped_tuple_read_back(rt: HostRuntime) -> Result<(), Fail> {
+    let key = PairKey::new(rt.alloc(), (1, -5))?;
     ends(
         &rt,
-        &least,
+        &key,
         b"\x00\x00\x00\x01\x7f\xff\xff\xff\xff\xff\xff\xfb",
     );
-    assert!(rt; most.get(rt.alloc())? == (1, 6));
+    assert!(rt; key.get(rt.alloc())? == (1, -5));
     Ok(())
 }
 
@@ -228,5 +240,34 @@ fn laws_at_concrete_types(rt: HostRuntime) -> Result<(), Fail> {
     assert_eq!(rt; read, Some(258));
     let read = <u16 as FixedBytes>::checked_from_slice(&[1, 2]);
     assert_eq!(rt; read, Some(258));
+    Ok(())
+}
+
+#[test]
+fn mapped_triple(rt: HostRuntime) -> Result<(), Fail> {
+    let key = Mapped::<ConcatTuple<(ToUBE, ToIBE, ToOctets)>, (u32, i64, Ipv4Addr)>::new(
+        rt.alloc(),
+        (1, -5, Ipv4Addr::LOCALHOST),
+    )?;
+    assert!(rt; key.get(rt.alloc())? == (1, -5, Ipv4Addr::LOCALHOST));
+    Ok(())
+}
+
+#[test]
+fn mapped_six(rt: HostRuntime) -> Result<(), Fail> {
+    let key = Mapped::<
+        ConcatTuple<(ToUBE, ToUBE, ToUBE, ToUBE, ToUBE, ToUBE)>,
+        (u8, u8, u8, u8, u8, u8),
+    >::new(rt.alloc(), (1, 2, 3, 4, 5, 6))?;
+    is(&rt, &key, &[1, 2, 3, 4, 5, 6]);
+    Ok(())
+}
+
+#[test]
+fn mapped_address(rt: HostRuntime) -> Result<(), Fail> {
+    let key = Mapped::<ToOctets, Ipv4Addr>::new(rt.alloc(), Ipv4Addr::LOCALHOST)?;
+    is(&rt, &key, &[127, 0, 0, 1]);
+    let key = Mapped::<ToUBE, NonZeroU16>::new(rt.alloc(), NonZeroU16::MIN)?;
+    is(&rt, &key, &[0, 1]);
     Ok(())
 }

@@ -33,7 +33,7 @@ pub use names::{NodePtr, OpaqueNodePtr};
 pub use non_max_index::{NonMaxIndex, TryFromByteError};
 pub use prefix_match::{
     AttemptOptimisticPrefixMatch, ExplicitMismatch, NodePrefix, OptimisticMismatch,
-    PessimisticMismatch, PrefixMatch,
+    PessimisticMismatch, PrefixMatch, count_agreeing,
 };
 pub use sealed::Sealed;
 pub use slot::Slot;

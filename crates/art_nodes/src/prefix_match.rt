@@ -67,7 +67,7 @@ impl From<OptimisticMismatch> for PessimisticMismatch {
 
 /// How many bytes agree from the front on.
 #[tactic(auto, using(crate::proofs::PrefixLemmas::agreements))]
-pub(crate) fn count_agreeing(prefix: &[u8], rest: &[u8]) -> usize
+pub fn count_agreeing(prefix: &[u8], rest: &[u8]) -> usize
     ensures value { result ≡ agreeing prefix.now rest.now }
     ensures within { result ≤ length prefix.now }
 {

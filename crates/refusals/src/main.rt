@@ -4,9 +4,11 @@
 #![tactic(auto)]
 
 use art_bytes::{
-    AsBytes, BytesMapping, ConcatTuple, Mapped, ToIBE, ToUBE, ZeroEnded, ZeroEndedError,
+    AsBytes, BytesMapping, ConcatTuple, Mapped, ToIBE, ToOctets, ToUBE, ZeroEnded, ZeroEndedError,
+    laws,
 };
 use std::alloc::{AllocError, Global};
+use std::net::Ipv4Addr;
 use std::{env, io};
 
 type Pair = ConcatTuple<(ToUBE, ToIBE)>;
@@ -38,73 +40,54 @@ fn numbers(alloc: Global) -> Result<Vec<u16>, AllocError> {
     [1u16, 2, 3].to_vec(alloc)
 }
 
-fn vector_to_bytes(rt: &(impl Print + Eprint + AllocGlobal)) -> io::Result<()> {
-    let values = numbers(rt.alloc())?;
+// A call that makes a key of nothing that is there: after a refusal nothing is made, and it can be made again.
+fn makes<K: AsBytes + Drop, F: Fn() -> Result<K, AllocError>>(
+    rt: &(impl Print + Eprint),
+    make: &F,
+) -> io::Result<()>
+    requires { F.IsAlwaysCallable make.now }
+{
     println!(rt; "before nothing")?;
     eprintln!(rt; "refuse")?;
-    let answer = ToUBE::to_bytes(rt.alloc(), values);
+    let answer = make();
     came(rt, &answer)?;
     show_made(rt, "after", &answer)?;
     if answer.is_err() {
-        let values = numbers(rt.alloc())?;
-        show_made(rt, "again", &ToUBE::to_bytes(rt.alloc(), values))?;
+        show_made(rt, "again", &make())?;
     }
     Ok(())
 }
 
-fn vector_from_bytes(rt: &(impl Print + Eprint + AllocGlobal)) -> io::Result<()> {
-    let bytes = [0u8, 1, 0, 2].to_vec(rt.alloc())?;
-    println!(rt; "before 0")?;
-    eprintln!(rt; "refuse")?;
-    let answer: Result<Option<Vec<u16>>, AllocError> = ToUBE::checked_from_bytes(rt.alloc(), bytes);
-    came(rt, &answer)?;
-    let count = answer.map_or(0, |found| found.map_or(0, |values| values.len()));
-    println!(rt; "after {count}")?;
-    if count == 0 {
-        let bytes = [0u8, 1, 0, 2].to_vec(rt.alloc())?;
-        let found: Option<Vec<u16>> = ToUBE::checked_from_bytes(rt.alloc(), bytes)?;
-        let count = found.map_or(0, |values| values.len());
-        println!(rt; "again {count}")?;
-    }
-    Ok(())
+// The number of values that the bytes are, as a key.
+fn counted(alloc: Global, found: Option<Vec<u16>>) -> Result<[u8; 8], AllocError> {
+    ToUBE::to_bytes(alloc, found.map_or(0, |values| values.len() as u64))
 }
 
-fn tuple_to_bytes(rt: &(impl Print + Eprint + AllocGlobal)) -> io::Result<()> {
-    println!(rt; "before nothing")?;
-    eprintln!(rt; "refuse")?;
-    let answer = Pair::to_bytes(rt.alloc(), (1u32, -5i64));
-    came(rt, &answer)?;
-    show_made(rt, "after", &answer)?;
-    if answer.is_err() {
-        show_made(rt, "again", &Pair::to_bytes(rt.alloc(), (1u32, -5i64)))?;
-    }
-    Ok(())
+fn vector_checked_from_bytes(alloc: Global) -> Result<[u8; 8], AllocError> {
+    let bytes = [0u8, 1, 0, 2].to_vec(alloc)?;
+    counted(alloc, ToUBE::checked_from_bytes(alloc, bytes)?)
 }
 
-fn mapped_new(rt: &(impl Print + Eprint + AllocGlobal)) -> io::Result<()> {
-    println!(rt; "before nothing")?;
-    eprintln!(rt; "refuse")?;
-    let answer = PairKey::new(rt.alloc(), (1, -5));
-    came(rt, &answer)?;
-    show_made(rt, "after", &answer)?;
-    if answer.is_err() {
-        show_made(rt, "again", &PairKey::new(rt.alloc(), (1, -5)))?;
-    }
-    Ok(())
+fn vector_from_bytes(alloc: Global) -> Result<[u8; 8], AllocError> {
+    let bytes = ToUBE::to_bytes(alloc, numbers(alloc)?)?;
+    let values: Vec<u16> = ToUBE::from_bytes(alloc, bytes)?;
+    counted(alloc, Some(values))
 }
 
-fn mapped_clone(rt: &(impl Print + Eprint + AllocGlobal)) -> io::Result<()> {
-    let key = PairKey::new(rt.alloc(), (1, -5))?;
-    println!(rt; "before nothing")?;
-    eprintln!(rt; "refuse")?;
-    let answer: Result<PairKey, AllocError> = key.clone();
-    came(rt, &answer)?;
-    show_made(rt, "after", &answer)?;
-    if answer.is_err() {
-        let again: Result<PairKey, AllocError> = key.clone();
-        show_made(rt, "again", &again)?;
-    }
-    Ok(())
+fn tuple_reads_back(alloc: Global) -> Result<[u8; 8], AllocError> {
+    let (_, number) = laws::reads_back::<Pair, (u32, i64)>(alloc, (1, -5))?;
+    ToIBE::to_bytes(alloc, number)
+}
+
+fn number_from_bytes(alloc: Global) -> Result<[u8; 2], AllocError> {
+    let found: Option<u16> = ToUBE::checked_from_bytes(alloc, [1, 2])?;
+    ToUBE::to_bytes(alloc, found.unwrap_or(0))
+}
+
+fn address_from_bytes(alloc: Global) -> Result<[u8; 4], AllocError> {
+    let octets = ToOctets::to_bytes(alloc, Ipv4Addr::LOCALHOST)?;
+    let address: Ipv4Addr = ToOctets::from_bytes(alloc, octets)?;
+    ToOctets::to_bytes(alloc, address)
 }
 
 fn mapped_get(rt: &(impl Print + Eprint + AllocGlobal)) -> io::Result<()> {
@@ -115,23 +98,6 @@ fn mapped_get(rt: &(impl Print + Eprint + AllocGlobal)) -> io::Result<()> {
     came(rt, &answer)?;
     let (tenant, number) = answer?;
     println!(rt; "after {tenant} {number}")
-}
-
-fn number_to_bytes(rt: &(impl Print + Eprint + AllocGlobal)) -> io::Result<()> {
-    println!(rt; "before nothing")?;
-    eprintln!(rt; "refuse")?;
-    let answer = ToIBE::to_bytes(rt.alloc(), -5i64);
-    came(rt, &answer)?;
-    show_made(rt, "after", &answer)
-}
-
-fn number_from_bytes(rt: &(impl Print + Eprint + AllocGlobal)) -> io::Result<()> {
-    println!(rt; "before nothing")?;
-    eprintln!(rt; "refuse")?;
-    let answer: Result<Option<u16>, AllocError> = ToUBE::checked_from_bytes(rt.alloc(), [1, 2]);
-    came(rt, &answer)?;
-    let number = answer?.unwrap_or(0);
-    println!(rt; "after {number}")
 }
 
 // The bytes that a refusal hands back.
@@ -175,18 +141,76 @@ fn zero_ended_to_bytes(rt: &(impl Print + Eprint + AllocGlobal)) -> io::Result<(
     }
 }
 
+fn array_from_bytes(rt: &(impl Print + Eprint + AllocGlobal)) -> io::Result<()> {
+    let bytes = ToIBE::to_bytes(rt.alloc(), [-1i16, 2])?;
+    show(rt, "before", bytes.as_slice())?;
+    eprintln!(rt; "refuse")?;
+    let answer: Result<Option<[i16; 2]>, AllocError> = ToIBE::checked_from_bytes(rt.alloc(), bytes);
+    came(rt, &answer)?;
+    let [first, second] = answer?.unwrap_or([0, 0]);
+    println!(rt; "after {first} {second}")
+}
+
+fn tuple_from_bytes(rt: &(impl Print + Eprint + AllocGlobal)) -> io::Result<()> {
+    let bytes = Pair::to_bytes(rt.alloc(), (1u32, -5i64))?;
+    show(rt, "before", bytes.as_slice())?;
+    eprintln!(rt; "refuse")?;
+    let answer: Result<Option<(u32, i64)>, AllocError> = Pair::checked_from_bytes(
+        rt.alloc(),
+        bytes,
+    );
+    came(rt, &answer)?;
+    let (tenant, number) = answer?.unwrap_or((0, 0));
+    println!(rt; "after {tenant} {number}")
+}
+
+fn zero_ended_of_a_zero(rt: &(impl Print + Eprint + AllocGlobal)) -> io::Result<()> {
+    let bytes = [97u8, 0].to_vec(rt.alloc())?;
+    show(rt, "before", bytes.as_slice())?;
+    eprintln!(rt; "refuse")?;
+    let answer = ZeroEnded::new(bytes);
+    eprintln!(rt; "ok")?;
+    match answer {
+        Ok(_) => println!(rt; "after a key"),
+        Err(refused) => show(rt, "after", handed_back(refused).as_slice()),
+    }
+}
+
+fn zero_ended_clone(rt: &(impl Print + Eprint + AllocGlobal)) -> io::Result<()> {
+    let bytes = [97u8, 98].to_vec(rt.alloc())?;
+    match ZeroEnded::new(bytes) {
+        Ok(key) => makes(rt, &|| -> Result<ZeroEnded, AllocError> { key.clone() }),
+        Err(_) => println!(rt; "no key"),
+    }
+}
+
+fn mapped_clone(rt: &(impl Print + Eprint + AllocGlobal)) -> io::Result<()> {
+    let key = PairKey::new(rt.alloc(), (1, -5))?;
+    makes(rt, &|| -> Result<PairKey, AllocError> { key.clone() })
+}
+
 fn run(rt: &(impl Print + Eprint + AllocGlobal), name: &str) -> io::Result<()> {
     println!(rt; "scenario {name}")?;
+    let alloc = rt.alloc();
     match name {
-        "vector_to_bytes" => vector_to_bytes(rt),
-        "vector_from_bytes" => vector_from_bytes(rt),
-        "tuple_to_bytes" => tuple_to_bytes(rt),
-        "mapped_new" => mapped_new(rt),
+        "vector_to_bytes" => makes(rt, &|| ToUBE::to_bytes(alloc, numbers(alloc)?)),
+        "vector_from_bytes" => makes(rt, &|| vector_from_bytes(alloc)),
+        "vector_checked_from_bytes" => makes(rt, &|| vector_checked_from_bytes(alloc)),
+        "array_to_bytes" => makes(rt, &|| ToIBE::to_bytes(alloc, [-1i16, 2])),
+        "array_from_bytes_takes_no_memory" => array_from_bytes(rt),
+        "tuple_to_bytes" => makes(rt, &|| Pair::to_bytes(alloc, (1u32, -5i64))),
+        "tuple_reads_back" => makes(rt, &|| tuple_reads_back(alloc)),
+        "tuple_from_bytes_takes_no_memory" => tuple_from_bytes(rt),
+        "pair_key" => makes(rt, &|| laws::pair_key_is(alloc, 1, -5)),
+        "mapped_new" => makes(rt, &|| PairKey::new(alloc, (1, -5))),
         "mapped_clone" => mapped_clone(rt),
         "mapped_get_takes_no_memory" => mapped_get(rt),
-        "number_to_bytes_takes_no_memory" => number_to_bytes(rt),
-        "number_from_bytes_takes_no_memory" => number_from_bytes(rt),
+        "number_to_bytes_takes_no_memory" => makes(rt, &|| ToIBE::to_bytes(alloc, -5i64)),
+        "number_from_bytes_takes_no_memory" => makes(rt, &|| number_from_bytes(alloc)),
+        "address_from_bytes_takes_no_memory" => makes(rt, &|| address_from_bytes(alloc)),
         "zero_ended_new" => zero_ended_new(rt),
+        "zero_ended_of_a_zero_takes_no_memory" => zero_ended_of_a_zero(rt),
+        "zero_ended_clone" => zero_ended_clone(rt),
         "zero_ended_to_bytes_takes_no_memory" => zero_ended_to_bytes(rt),
         _ => println!(rt; "unknown"),
     }
@@ -202,13 +226,22 @@ fn main(rt: HostRuntime) -> io::Result<()> {
         for name in [
             "vector_to_bytes",
             "vector_from_bytes",
+            "vector_checked_from_bytes",
+            "array_to_bytes",
+            "array_from_bytes_takes_no_memory",
             "tuple_to_bytes",
+            "tuple_reads_back",
+            "tuple_from_bytes_takes_no_memory",
+            "pair_key",
             "mapped_new",
             "mapped_clone",
             "mapped_get_takes_no_memory",
             "number_to_bytes_takes_no_memory",
             "number_from_bytes_takes_no_memory",
+            "address_from_bytes_takes_no_memory",
             "zero_ended_new",
+            "zero_ended_of_a_zero_takes_no_memory",
+            "zero_ended_clone",
             "zero_ended_to_bytes_takes_no_memory",
         ] {
             run(&rt, name)?;

@@ -106,19 +106,19 @@ impl<E: Signed, const N: usize> BytesMapping<[E; N]> for ToIBE {
 
     ghost one_value = { λ v w b c h k e. one_list E.WIDTH E.is_value E.fixed_bytes E.cmp E.have_bytes v w h.0.0 k.0.0 e };
 
-    fn to_bytes(alloc: Global, value: [E; N]) -> Result<Vec<u8>, AllocError> {
-        write_list(alloc, Vec::from_array(alloc, value)?)
+    fn to_bytes(alloc: Global, numbers: [E; N]) -> Result<Vec<u8>, AllocError> {
+        write_list(alloc, Vec::from_array(alloc, numbers)?)
     }
 
-    fn from_bytes(_alloc: Global, bytes: Vec<u8>) -> Result<[E; N], AllocError> {
-        match read_array(bytes.as_slice()) {
-            Some(array) => Ok(array),
+    fn from_bytes(_alloc: Global, signed: Vec<u8>) -> Result<[E; N], AllocError> {
+        match read_array(signed.as_slice()) {
+            Some(numbers) => Ok(numbers),
             None => unreachable!(),
         }
     }
 
-    fn checked_from_bytes(_alloc: Global, bytes: Vec<u8>) -> Result<Option<[E; N]>, AllocError> {
-        Ok(read_array(bytes.as_slice()))
+    fn checked_from_bytes(_alloc: Global, signed: Vec<u8>) -> Result<Option<[E; N]>, AllocError> {
+        Ok(read_array(signed.as_slice()))
     }
 }
 

@@ -1,6 +1,6 @@
 //! Tuples: the parts' bytes in order.
-ghost use Rattle.std.specs.Prelude.{◌≡◌, ◌++◌, ℕ, List, OnOk, MatchOption};
-ghost use Rattle.std.proofs.Common.{◌∙◌, sym, subst, refl, ap, ◌+◌};
+ghost use Rattle.std.specs.Prelude.{◌≡◌, ◌++◌, ◌+◌, ◌<◌, ◌^◌, ℕ, List, OnOk, MatchOption};
+ghost use Rattle.std.proofs.Common.{◌∙◌, sym, subst, refl, ap};
 ghost use Rattle.art_bytes.specs.Keys.{AreBytes};
 ghost use Rattle.art_bytes.specs.KeyLaws.{BeginsWith-same_length};
 ghost use Rattle.art_bytes.specs.Mappings.{HaveFixedBytes};
@@ -26,6 +26,10 @@ pub trait Parts<D: Ord> {
 
     /// The bytes of a tuple: those of its parts in order.
     ghost parts_bytes: { D → List ℕ };
+
+    /// The number of bytes, or None where no `usize` is as great.
+    fn width() -> Option<usize>
+        ensures { MatchOption result (¬ (WIDTH < 2 ^ 64)) (λ n. n ≡ WIDTH) };
 
     /// Puts the tuple's bytes behind those that are there; where it is refused, some of them.
     fn push_bytes(bytes: &mut Vec<u8>, alloc: Global, value: D) -> Result<(), AllocError>
@@ -53,6 +57,10 @@ impl<A: FixedBytesMapping<X>, X: Ord + Drop> Parts<X> for First<A> {
 
     ghost have_bytes = { A.have_bytes };
 
+    fn width() -> Option<usize> {
+        Some(A::WIDTH)
+    }
+
     fn push_bytes(bytes: &mut Vec<u8>, alloc: Global, value: X) -> Result<(), AllocError> {
         push_part::<A, X>(bytes, alloc, value)
     }
@@ -76,6 +84,13 @@ fn push_part<A: FixedBytesMapping<X>, X: Ord>(
 {
     let part = A::to_bytes(alloc, value)?;
     bytes.extend_from_slice(part.as_bytes())
+}
+
+// The number of bytes of the first parts and the last, or None where no `usize` is as great.
+fn pair_width<M: Parts<X>, X: Ord + Drop, A: FixedBytesMapping<Y>, Y: Ord + Drop>() -> Option<usize>
+    ensures { MatchOption result (¬ (M.WIDTH + A.WIDTH < 2 ^ 64)) (λ n. n ≡ M.WIDTH + A.WIDTH) }
+{
+    M::width()?.checked_add(A::WIDTH)
 }
 
 // Puts the bytes of the first parts and then those of the last behind those that are there.
@@ -113,7 +128,7 @@ fn read_pair<M: Parts<X>, X: Ord + Drop, A: FixedBytesMapping<Y>, Y: Ord>(
     }
 }
 
-impl<M: Parts<D>, D: Ord> BytesMapping<D> for ConcatTuple<M> {
+impl<M: Parts<D>, D: Ord + Drop> BytesMapping<D> for ConcatTuple<M> {
     type Bytes = Vec<u8>;
 
     ghost has_bytes = { λ v b. M.is_value v × (b.items ≡ M.parts_bytes v) };
@@ -133,7 +148,11 @@ impl<M: Parts<D>, D: Ord> BytesMapping<D> for ConcatTuple<M> {
     ghost one_value = { λ v w b c h k e. M.have_bytes.one_value v w h.0 k.0 e };
 
     fn to_bytes(alloc: Global, value: D) -> Result<Vec<u8>, AllocError> {
-        let mut bytes = Vec::new(alloc);
+        let width = match M::width() {
+            Some(width) => width,
+            None => return Err(AllocError),
+        };
+        let mut bytes = Vec::with_capacity(alloc, width)?;
         M::push_bytes(&mut bytes, alloc, value)?;
         Ok(bytes)
     }
@@ -150,11 +169,11 @@ impl<M: Parts<D>, D: Ord> BytesMapping<D> for ConcatTuple<M> {
     }
 }
 
-impl<M: Parts<D>, D: Ord> NoPrefixesMapping<D> for ConcatTuple<M> {
+impl<M: Parts<D>, D: Ord + Drop> NoPrefixesMapping<D> for ConcatTuple<M> {
     ghost no_prefixes = { λ v w b c h k. BeginsWith-same_length _ _ M.WIDTH (M.have_bytes.long v h.0) (M.have_bytes.long w k.0) };
 }
 
-impl<M: Parts<D>, D: Ord> OrderedMapping<D> for ConcatTuple<M> {
+impl<M: Parts<D>, D: Ord + Drop> OrderedMapping<D> for ConcatTuple<M> {
     ghost ordered = { λ v w b c h k. M.have_bytes.ordered v w h.0 k.0 };
 }
 
@@ -167,6 +186,10 @@ impl<A: FixedBytesMapping<U>, B: FixedBytesMapping<V>, U: Ord + Drop, V: Ord + D
     ghost parts_bytes = { λ v. A.bytes_of v.0 ++ B.bytes_of v.1 };
 
     ghost have_bytes = { pair_bytes _ _ _ _ _ _ _ _ A.have_bytes B.have_bytes };
+
+    fn width() -> Option<usize> {
+        pair_width::<First<A>, U, B, V>()
+    }
 
     fn push_bytes(bytes: &mut Vec<u8>, alloc: Global, value: (U, V)) -> Result<(), AllocError> {
         push_pair::<First<A>, U, B, V>(bytes, alloc, value.0, value.1)
@@ -192,6 +215,10 @@ impl<
     ghost parts_bytes = { λ v. (A.bytes_of v.0 ++ B.bytes_of v.1) ++ C.bytes_of v.2 };
 
     ghost have_bytes = { regrouped_bytes (λ v. ((v.0, v.1), v.2)) _ _ _ _ _ (λ v w e. λ i. ((e i).0.0, (e i).0.1, (e i).1)) (λ v w. refl) (pair_bytes _ _ _ _ _ _ _ _ (pair_bytes _ _ _ _ _ _ _ _ A.have_bytes B.have_bytes) C.have_bytes) };
+
+    fn width() -> Option<usize> {
+        pair_width::<(A, B), (U, V), C, W>()
+    }
 
     fn push_bytes(bytes: &mut Vec<u8>, alloc: Global, value: (U, V, W)) -> Result<(), AllocError> {
         push_pair::<(A, B), (U, V), C, W>(bytes, alloc, (value.0, value.1), value.2)
@@ -222,6 +249,10 @@ impl<
     ghost parts_bytes = { λ v. ((A.bytes_of v.0 ++ B.bytes_of v.1) ++ C.bytes_of v.2) ++ D.bytes_of v.3 };
 
     ghost have_bytes = { regrouped_bytes (λ v. (((v.0, v.1), v.2), v.3)) _ _ _ _ _ (λ v w e. λ i. ((e i).0.0.0, (e i).0.0.1, (e i).0.1, (e i).1)) (λ v w. refl) (pair_bytes _ _ _ _ _ _ _ _ (pair_bytes _ _ _ _ _ _ _ _ (pair_bytes _ _ _ _ _ _ _ _ A.have_bytes B.have_bytes) C.have_bytes) D.have_bytes) };
+
+    fn width() -> Option<usize> {
+        pair_width::<(A, B, C), (U, V, W), D, X>()
+    }
 
     fn push_bytes(
         bytes: &mut Vec<u8>,
@@ -258,6 +289,10 @@ impl<
     ghost parts_bytes = { λ v. (((A.bytes_of v.0 ++ B.bytes_of v.1) ++ C.bytes_of v.2) ++ D.bytes_of v.3) ++ E.bytes_of v.4 };
 
     ghost have_bytes = { regrouped_bytes (λ v. ((((v.0, v.1), v.2), v.3), v.4)) _ _ _ _ _ (λ v w e. λ i. ((e i).0.0.0.0, (e i).0.0.0.1, (e i).0.0.1, (e i).0.1, (e i).1)) (λ v w. refl) (pair_bytes _ _ _ _ _ _ _ _ (pair_bytes _ _ _ _ _ _ _ _ (pair_bytes _ _ _ _ _ _ _ _ (pair_bytes _ _ _ _ _ _ _ _ A.have_bytes B.have_bytes) C.have_bytes) D.have_bytes) E.have_bytes) };
+
+    fn width() -> Option<usize> {
+        pair_width::<(A, B, C, D), (U, V, W, X), E, Y>()
+    }
 
     fn push_bytes(
         bytes: &mut Vec<u8>,
@@ -301,6 +336,10 @@ impl<
     ghost parts_bytes = { λ v. ((((A.bytes_of v.0 ++ B.bytes_of v.1) ++ C.bytes_of v.2) ++ D.bytes_of v.3) ++ E.bytes_of v.4) ++ F.bytes_of v.5 };
 
     ghost have_bytes = { regrouped_bytes (λ v. (((((v.0, v.1), v.2), v.3), v.4), v.5)) _ _ _ _ _ (λ v w e. λ i. ((e i).0.0.0.0.0, (e i).0.0.0.0.1, (e i).0.0.0.1, (e i).0.0.1, (e i).0.1, (e i).1)) (λ v w. refl) (pair_bytes _ _ _ _ _ _ _ _ (pair_bytes _ _ _ _ _ _ _ _ (pair_bytes _ _ _ _ _ _ _ _ (pair_bytes _ _ _ _ _ _ _ _ (pair_bytes _ _ _ _ _ _ _ _ A.have_bytes B.have_bytes) C.have_bytes) D.have_bytes) E.have_bytes) F.have_bytes) };
+
+    fn width() -> Option<usize> {
+        pair_width::<(A, B, C, D, E), (U, V, W, X, Y), F, Z>()
+    }
 
     fn push_bytes(
         bytes: &mut Vec<u8>,

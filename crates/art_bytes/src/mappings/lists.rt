@@ -19,7 +19,7 @@ pub(super) fn write_list<E: FixedBytes>(
 ) -> Result<Vec<u8>, AllocError>
     ensures { IfOk result (λ bytes. HaveListBytes E.is_value E.fixed_bytes values.items bytes.items) }
 {
-    let mut bytes = Vec::new(alloc);
+    let mut bytes = Vec::with_capacity(alloc, values.len().saturating_mul(E::WIDTH))?;
     for value in values {
         let array = value.to_array();
         bytes.extend_from_slice(array.as_bytes())?;
@@ -107,19 +107,19 @@ impl<E: Signed> BytesMapping<Vec<E>> for ToIBE {
 
     ghost one_value = { λ v w b c h k e. one_list E.WIDTH E.is_value E.fixed_bytes E.cmp E.have_bytes v.items w.items h.0 k.0 e };
 
-    fn to_bytes(alloc: Global, value: Vec<E>) -> Result<Vec<u8>, AllocError> {
-        write_list(alloc, value)
+    fn to_bytes(alloc: Global, numbers: Vec<E>) -> Result<Vec<u8>, AllocError> {
+        write_list(alloc, numbers)
     }
 
-    fn from_bytes(alloc: Global, bytes: Vec<u8>) -> Result<Vec<E>, AllocError> {
-        match read_list(alloc, bytes.as_slice())? {
-            Some(values) => Ok(values),
+    fn from_bytes(alloc: Global, signed: Vec<u8>) -> Result<Vec<E>, AllocError> {
+        match read_list(alloc, signed.as_slice())? {
+            Some(numbers) => Ok(numbers),
             None => unreachable!(),
         }
     }
 
-    fn checked_from_bytes(alloc: Global, bytes: Vec<u8>) -> Result<Option<Vec<E>>, AllocError> {
-        read_list(alloc, bytes.as_slice())
+    fn checked_from_bytes(alloc: Global, signed: Vec<u8>) -> Result<Option<Vec<E>>, AllocError> {
+        read_list(alloc, signed.as_slice())
     }
 }
 

@@ -90,8 +90,8 @@ impl<E: Unsigned> FixedBytesMapping<E> for ToUBE {
 
     ghost have_bytes = { E.have_bytes };
 
-    fn checked_from_slice(bytes: &[u8]) -> Option<E> {
-        E::checked_from_slice(bytes)
+    fn checked_from_slice(number: &[u8]) -> Option<E> {
+        E::checked_from_slice(number)
     }
 }
 
@@ -126,12 +126,12 @@ impl<E: Signed> BytesMapping<E> for ToIBE {
         Ok(number.to_array())
     }
 
-    fn from_bytes(_alloc: Global, bytes: E::Array) -> Result<E, AllocError> {
-        Ok(read::<E>(bytes))
+    fn from_bytes(_alloc: Global, signed: E::Array) -> Result<E, AllocError> {
+        Ok(read::<E>(signed))
     }
 
-    fn checked_from_bytes(_alloc: Global, bytes: E::Array) -> Result<Option<E>, AllocError> {
-        Ok(checked_read::<E>(bytes))
+    fn checked_from_bytes(_alloc: Global, signed: E::Array) -> Result<Option<E>, AllocError> {
+        Ok(checked_read::<E>(signed))
     }
 }
 
@@ -148,8 +148,8 @@ impl<E: Signed> FixedBytesMapping<E> for ToIBE {
 
     ghost have_bytes = { E.have_bytes };
 
-    fn checked_from_slice(bytes: &[u8]) -> Option<E> {
-        E::checked_from_slice(bytes)
+    fn checked_from_slice(signed: &[u8]) -> Option<E> {
+        E::checked_from_slice(signed)
     }
 }
 
@@ -206,8 +206,8 @@ impl<E: Address> FixedBytesMapping<E> for ToOctets {
 
     ghost have_bytes = { E.have_bytes };
 
-    fn checked_from_slice(bytes: &[u8]) -> Option<E> {
-        E::checked_from_slice(bytes)
+    fn checked_from_slice(octets: &[u8]) -> Option<E> {
+        E::checked_from_slice(octets)
     }
 }
 

@@ -2,8 +2,8 @@
 use Rattle.std.proofs.Common.{sym, ◌∙◌}
 use Rattle.art_bytes.proofs.laws.reads_back.Goals as goal
 
-pub returns : goal.returns
-returns g c =
+pub returns-clause-same : goal.returns-clause-same
+returns-clause-same g c =
     let laws = g.met.B.BytesMapping in
     let written = c.in_ok-bytes.bytes in
     let read = c.in_ok-read.ensures.value in
