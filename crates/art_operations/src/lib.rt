@@ -19,8 +19,7 @@ pub use insert::point::{
     search_for_insert_point,
 };
 pub use lookup::{
-    PrefixMatchBehavior, prefix_search_by_reader, prefix_search_unchecked, search_by_reader,
-    search_unchecked,
+    PrefixMatchBehavior, prefix_search_unchecked, prefix_search_with, search_unchecked, search_with,
 };
 pub use minmax::{maximum_unchecked, minimum_unchecked};
 

@@ -108,7 +108,7 @@ pub fn search_unchecked<K: AsBytes, V, const PREFIX_LEN: usize>(
     ensures { (s : Shape K V) → IsSubtree K.bytes PREFIX_LEN (node_at arena.now) root [] s → result ≡ leaf_where K.bytes (λ k. bytes_eq k key.now) (leaves s) }
 {
     let mut reader = ArenaReader::new(arena);
-    search_by_reader(&mut reader, root, key)
+    search_with(&mut reader, root, key)
 }
 
 /// The leaf whose key is a front of this one, or all of it, in the tree below a name, or `None` where there is none.
@@ -123,12 +123,12 @@ pub fn prefix_search_unchecked<K: AsBytes, V, const PREFIX_LEN: usize>(
     ensures { (s : Shape K V) → IsSubtree K.bytes PREFIX_LEN (node_at arena.now) root [] s → result ≡ leaf_where K.bytes (λ k. begins_with k key.now) (leaves s) }
 {
     let mut counted = ArenaReader::new(arena);
-    prefix_search_by_reader(&mut counted, root, key)
+    prefix_search_with(&mut counted, root, key)
 }
 
 /// What `search_unchecked` answers, by a reader that counts each node that is read: where the leaf is found the nodes
 /// of the key's path, and never more. The greatest count stays.
-pub fn search_by_reader<K: AsBytes, V, const PREFIX_LEN: usize>(
+pub fn search_with<K: AsBytes, V, const PREFIX_LEN: usize>(
     reader: &mut ArenaReader<'_, K, V, PREFIX_LEN>,
     root: OpaqueNodePtr,
     key: &[u8],
@@ -154,7 +154,7 @@ pub fn search_by_reader<K: AsBytes, V, const PREFIX_LEN: usize>(
 
 /// What `prefix_search_unchecked` answers, by a reader that counts each node that is read: where the leaf is found the
 /// nodes of the key's path, and never more. The greatest count stays.
-pub fn prefix_search_by_reader<K: AsBytes, V, const PREFIX_LEN: usize>(
+pub fn prefix_search_with<K: AsBytes, V, const PREFIX_LEN: usize>(
     reader: &mut ArenaReader<'_, K, V, PREFIX_LEN>,
     root: OpaqueNodePtr,
     key: &[u8],

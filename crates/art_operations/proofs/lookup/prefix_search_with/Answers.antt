@@ -1,6 +1,6 @@
 use Rattle.std.proofs.Common.{sym, ◌∙◌, true, false, ◌≡◌}
 use Rattle.art_operations.proofs.Lookups.{takes_front, passes, fails, front_passes, front_fails, misses}
-use Rattle.art_operations.proofs.lookup.prefix_search_by_reader.Goals as goal
+use Rattle.art_operations.proofs.lookup.prefix_search_with.Goals as goal
 
 pub returns-then-leaf_key_is_prefix-clause-value : goal.returns-then-leaf_key_is_prefix-clause-value
 returns-then-leaf_key_is_prefix-clause-value g c = λ s tree.

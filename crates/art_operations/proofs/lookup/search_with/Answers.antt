@@ -1,6 +1,6 @@
 use Rattle.std.proofs.Common.{sym, ◌∙◌, true, false, ◌≡◌}
 use Rattle.art_operations.proofs.Lookups.{takes_equal, passes, fails, equal_passes, equal_fails, misses}
-use Rattle.art_operations.proofs.lookup.search_by_reader.Goals as goal
+use Rattle.art_operations.proofs.lookup.search_with.Goals as goal
 
 pub returns-then-matches_leaf_key-clause-value : goal.returns-then-matches_leaf_key-clause-value
 returns-then-matches_leaf_key-clause-value g c = λ s tree.
