@@ -4,3 +4,4 @@ pub mod Lookups
 pub mod Meetings
 pub mod Points
 pub mod EndPlaces
+pub mod Lone

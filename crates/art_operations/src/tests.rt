@@ -1,6 +1,37 @@
 //! Public calls once, at concrete types.
 use super::*;
+use art_arena::NodeArena;
+use art_bytes::AsBytes;
 use art_nodes::{InnerNode4, InnerNodeInit, LeafNode};
+use std::alloc::Global;
+use std::process::Abort;
+
+// Looks for a key in a tree that has it alone. These are its bytes, with one byte more.
+fn looks_for_a_lone_key<K: AsBytes + Drop, V: Drop, R: Abort>(
+    rt: &R,
+    alloc: Global,
+    key: K,
+    value: V,
+    longer: &[u8],
+) {
+    let mut arena: NodeArena<K, V, 4> = NodeArena::new(alloc);
+    if let Ok(leaf) = arena.allocate_node_ptr(LeafNode::with_no_siblings(key, value)) {
+        let root = leaf.to_opaque();
+        assert!(rt; search_unchecked(&arena, root, longer).is_none());
+        assert!(rt; prefix_search_unchecked(&arena, root, longer) == Some(leaf));
+        assert!(rt; minimum_unchecked(&arena, root) == leaf);
+        assert!(rt; maximum_unchecked(&arena, root) == leaf);
+        assert!(rt; search_for_delete_point(&arena, root, longer).is_none());
+        assert!(rt; find_minimum_to_delete(&arena, root).leaf_node_ptr == leaf);
+        assert!(rt; find_maximum_to_delete(&arena, root).leaf_node_ptr == leaf);
+        assert!(rt; search_for_insert_point(alloc, &arena, root, longer).is_err());
+    }
+}
+
+#[test]
+fn finds_a_lone_leaf(rt: HostRuntime) {
+    looks_for_a_lone_key(&rt, rt.alloc(), [1, 2, 3], 7, &[1, 2, 3, 4]);
+}
 
 #[test]
 fn goes_on_by_length_behind_an_unstored_prefix(rt: HostRuntime) {
