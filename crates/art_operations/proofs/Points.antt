@@ -1,0 +1,238 @@
+-- The way to the place of a new key, one node at a time, and where it ends.
+use Rattle.std.proofs.Common.{◌≡◌, ◌≢◌, ℕ, ◌+◌, ◌<◌, ◌≤◌, List, [], ◌∷◌, ◌++◌, length, take, drop, get_or, Option, Some, None, refl, sym, ap, ap₂, subst, ◌∙◌, inl, inr, arith, append_assoc, append-nil, length-append}
+use Rattle.std.specs.List.{AllByRecursion}
+use Rattle.std.proofs.lemmas.Bool.Decides.{eqb_tells}
+use Rattle.art_bytes.specs.Keys.{BeginsWith, Conflict}
+use Rattle.art_nodes.specs.declared.kind.NodeType.TheVariants.{Leaf}
+use Rattle.art_nodes.specs.declared.leaf.LeafNode.{LeafNode}
+use Rattle.art_nodes.specs.InnerNode.{InnerNode, child_at}
+use Rattle.art_nodes.specs.Name.{Name}
+use Rattle.art_arena.specs.Order.{IsProperFront}
+use Rattle.art_arena.specs.Changes.{IsIn}
+use Rattle.art_arena.specs.Cells.{Cell, leaf_name}
+use Rattle.art_arena.specs.Arena.{Arena, leaf_held, inner_held, held_at, node_at}
+use Rattle.art_arena.specs.Shapes.{Shape, Branches, leaf_at, inner_at, no_branch, branch, LeafAt, children_at, width, leaves, leaves_in, IsUnder, AreUnder}
+use Rattle.art_arena.specs.Context.{Frame, path_to}
+use Rattle.art_arena.specs.Meaning.{IsAtDepth, IsSubtree}
+use Rattle.art_arena.specs.Places.{IsPlace, IsToward}
+use Rattle.art_arena.specs.Steps.{Step, steps_to}
+use Rattle.art_arena.proofs.Order.{all_append, all_weaker, begins_step, begins_from_step, conflict_first, conflict_second}
+use Rattle.art_arena.proofs.Fronts.{begins_trans, one_byte}
+use Rattle.art_arena.proofs.Places.{leaves-begin, step-down, at-root}
+use Rattle.art_operations.specs.Meetings.{PartAt}
+use Rattle.art_operations.specs.declared.meeting.Parted.{Parted}
+use Rattle.art_operations.specs.Points.{HasConflict, NoConflict}
+use Rattle.art_arena.proofs.Prefixes.{drop-front}
+use Rattle.art_arena.proofs.Subtrees.{pair_of, leaves_begin_prefix, some_leaf, subtree-leaf, subtree-inner, subtree-branch, root_held}
+
+-- the key behind the path to it
+pub behind : (path key : List ℕ) (depth : ℕ) → length path ≡ depth → BeginsWith path key → key ≡ path ++ drop depth key
+behind path key depth len (rest, e) =
+    let same : drop depth key ≡ rest = ap (λ d. drop d key) (sym len) ∙ ap (drop (length path)) e ∙ drop-front path rest in
+    e ∙ ap (λ r. path ++ r) (sym same)
+
+-- keys that go on behind a front by different bytes are not in conflict
+apart_free : (q k l : List ℕ) (a b : ℕ) → BeginsWith (q ++ a ∷ []) k → BeginsWith (q ++ b ∷ []) l → a ≢ b → Conflict k l → ⊥
+apart_free q k l a b ka lb differs (n, inl kl) = differs (one_byte q a b l (begins_trans (q ++ a ∷ []) k l ka kl) lb)
+apart_free q k l a b ka lb differs (n, inr lk) = differs (one_byte q a b k ka (begins_trans (q ++ b ∷ []) l k lb lk))
+
+goes_on : (k x : List ℕ) (c : ℕ) (r l : List ℕ) → l ≡ k ++ (x ++ c ∷ r) → IsProperFront k l
+goes_on k [] c r l e = (c, r, e)
+goes_on k (y ∷ x) c r l e = (y, x ++ c ∷ r, e)
+
+-- the front up to the byte in which a list parts from another
+part_new : (path rest key old : List ℕ) (p : Parted) → key ≡ path ++ rest → (part : PartAt old rest p) → BeginsWith ((path ++ part.front) ++ p.new_byte ∷ []) key
+part_new path rest key old p e part = begins_from_step (path ++ part.front) p.new_byte part.new_rest key (e ∙ ap (λ x. path ++ x) part.new_is ∙ sym (append_assoc path part.front (p.new_byte ∷ part.new_rest)))
+
+part_old : (path rest old key more : List ℕ) (p : Parted) → key ≡ (path ++ old) ++ more → (part : PartAt old rest p) → BeginsWith ((path ++ part.front) ++ p.old_byte ∷ []) key
+part_old path rest old key more p e part =
+    begins_from_step (path ++ part.front) p.old_byte (part.old_rest ++ more) key
+    (e ∙ ap (λ x. (path ++ x) ++ more) part.old_is ∙ simp append_assoc)
+
+module _ {K V : Type 0} (bytes : K → List ℕ) (P : ℕ) (arena : Arena K V) where
+  -- the leaf that a search has come to
+  pub record LeafThere (slot : ℕ) (path : List ℕ) (s : Shape K V) : Type 0 where
+    pub leaf : LeafNode K V
+    pub value : V
+    pub there : held_at arena (leaf_name slot) ≡ Some (leaf_held leaf)
+    pub is : s ≡ leaf_at slot leaf.key value
+    pub begins : BeginsWith path (bytes leaf.key)
+
+  pub leaf_there : (slot : ℕ) (path : List ℕ) (s : Shape K V) → IsSubtree bytes P (node_at arena) (leaf_name slot) path s → LeafThere slot path s
+  leaf_there slot path s sub = at_leaf is.0 is.1 is.2
+    where
+      is : (k : K) × (v : V) × (s ≡ leaf_at slot k v)
+      is = subtree-leaf bytes P (node_at arena) (leaf_name slot) path s sub refl
+
+      at_leaf : (k : K) (v : V) → s ≡ leaf_at slot k v → LeafThere slot path s
+      at_leaf k v e =
+          let here : IsSubtree bytes P (node_at arena) (leaf_name slot) path (leaf_at slot k v) = subst (IsSubtree bytes P (node_at arena) (leaf_name slot) path) e sub in
+          let p = pair_of (held_at arena (leaf_name slot)) k v here.part.held.0 in
+          record { leaf = p.leaf; value = v; there = p.is; is = e ∙ ap (λ x. leaf_at slot x v) (sym p.key); begins = subst (λ x. BeginsWith path (bytes x)) (sym p.key) here.under }
+
+module _ {K V : Type 0} (bytes : K → List ℕ) (key path : List ℕ) (depth : ℕ) (len : length path ≡ depth) (begins : BeginsWith path key) where
+  -- at a leaf
+
+  module _ (slot : ℕ) (k : K) (v : V) (s : Shape K V) (is : s ≡ leaf_at slot k v) (leaf_begins : BeginsWith path (bytes k)) where
+    in_conflict : Conflict key (bytes k) → HasConflict bytes key (leaves s)
+    in_conflict c = subst (λ t. HasConflict bytes key (leaves t)) (sym is) (record { slot = slot; key = k; value = v }, inl refl, c)
+
+    not_in_conflict : (Conflict key (bytes k) → ⊥) → NoConflict bytes key (leaves s)
+    not_in_conflict n = subst (λ t. NoConflict bytes key (leaves t)) (sym is) (n, tt)
+
+    pub leaf_same : drop depth (bytes k) ≡ drop depth key → (bytes k ≡ key) × NoConflict bytes key (leaves s)
+    leaf_same e =
+        let same : bytes k ≡ key = behind path (bytes k) depth len leaf_begins ∙ ap (λ r. path ++ r) e ∙ sym (behind path key depth len begins) in
+        (same, not_in_conflict (λ c. c.0 (sym same)))
+
+    pub leaf_old_ends : IsProperFront (drop depth (bytes k)) (drop depth key) → HasConflict bytes key (leaves s)
+    leaf_old_ends (b, r, e) =
+        in_conflict (conflict_second key (bytes k) (b, r, behind path key depth len begins ∙ ap (λ x. path ++ x) e ∙ sym (append_assoc path (drop depth (bytes k)) (b ∷ r)) ∙ ap (λ x. x ++ b ∷ r) (sym (behind path (bytes k) depth len leaf_begins))))
+
+    pub leaf_new_ends : IsProperFront (drop depth key) (drop depth (bytes k)) → HasConflict bytes key (leaves s)
+    leaf_new_ends (b, r, e) =
+        in_conflict (conflict_first key (bytes k) (b, r, behind path (bytes k) depth len leaf_begins ∙ ap (λ x. path ++ x) e ∙ sym (append_assoc path (drop depth key) (b ∷ r)) ∙ ap (λ x. x ++ b ∷ r) (sym (behind path key depth len begins))))
+
+    pub leaf_parts : (p : Parted) → PartAt (drop depth (bytes k)) (drop depth key) p → PartAt (drop (length path) (bytes k)) (drop (length path) key) p × NoConflict bytes key (leaves s)
+    leaf_parts p part = (
+      subst (λ d. PartAt (drop d (bytes k)) (drop d key) p) (sym len) part,
+      not_in_conflict (apart_free (path ++ part.front) key (bytes k) p.new_byte p.old_byte
+          (part_new path (drop depth key) key (drop depth (bytes k)) p (behind path key depth len begins) part)
+          (part_old path (drop depth key) (drop depth (bytes k)) (bytes k) [] p (behind path (bytes k) depth len leaf_begins ∙ sym (append-nil (path ++ drop depth (bytes k)))) part)
+          (λ e. part.differs (sym e))),
+    )
+
+  -- at an inner node
+
+  module _ (n : Name) (prefix : List ℕ) (kids : Branches K V) (under : IsUnder bytes path (inner_at n prefix kids)) where
+    -- the key ends within the prefix, or with it
+    pub inner_ends : BeginsWith (drop depth key) prefix → HasConflict bytes key (leaves_in kids)
+    inner_ends (x, e) = first kids under.0.two under.1
+      where
+        first : (f : Branches K V) → 2 ≤ width f → AreUnder bytes (path ++ prefix) 0 f → HasConflict bytes key (leaves_in f)
+        first no_branch wide h = absurd (omega (arith, wide))
+        first (branch c t rest) wide h =
+            let l = some_leaf bytes ((path ++ prefix) ++ c ∷ []) t h.1 in
+            let st = (subst (λ ls. AllByRecursion (λ (m : LeafAt K V). BeginsWith ((path ++ prefix) ++ c ∷ []) (bytes m.key)) ls) l.2 (leaves-begin bytes ((path ++ prefix) ++ c ∷ []) t h.1)).0 in
+            let s = begins_step (path ++ prefix) c (bytes l.0.key) st in
+            let parts : (path ++ (drop depth key ++ x)) ++ c ∷ s.0 ≡ path ++ (drop depth key ++ (x ++ c ∷ s.0)) = simp append_assoc in
+            let spelled : bytes l.0.key ≡ key ++ (x ++ c ∷ s.0) =
+            s.1 ∙ ap (λ y. (path ++ y) ++ c ∷ s.0) e ∙ parts ∙ sym (append_assoc path (drop depth key) (x ++ c ∷ s.0)) ∙ ap (λ y. y ++ (x ++ c ∷ s.0)) (sym (behind path key depth len begins)) in
+            (l.0, subst (λ ls. IsIn l.0 (ls ++ leaves_in rest)) (sym l.2) (inl refl), conflict_first key (bytes l.0.key) (goes_on key x c s.0 (bytes l.0.key) spelled))
+
+    -- the key has another byte within the prefix
+    pub inner_parts : (p : Parted) → PartAt prefix (drop depth key) p → PartAt prefix (drop (length path) key) p × NoConflict bytes key (leaves_in kids)
+    inner_parts p part = (
+      subst (λ d. PartAt prefix (drop d key) p) (sym len) part,
+      all_weaker _ _ (λ l st. apart_free (path ++ part.front) key (bytes l.key) p.new_byte p.old_byte
+          (part_new path (drop depth key) key prefix p (behind path key depth len begins) part)
+          (part_old path (drop depth key) prefix (bytes l.key) st.0 p st.1 part)
+          (λ e. part.differs (sym e))) (leaves_in kids) (leaves_begin_prefix bytes path (inner_at n prefix kids) under),
+    )
+
+    -- the key goes on behind the prefix
+    pub inner_passes : (b : ℕ) (r : List ℕ) → drop depth key ≡ prefix ++ b ∷ r → BeginsWith ((path ++ prefix) ++ get_or (drop depth key) (length prefix) 0 ∷ []) key
+    inner_passes b r e =
+        let at_b : get_or (drop depth key) (length prefix) 0 ≡ b = ap (λ k. get_or k (length prefix) 0) e ∙ byte_behind prefix r b in
+        subst (λ c. BeginsWith ((path ++ prefix) ++ c ∷ []) key) (sym at_b)
+        (begins_from_step (path ++ prefix) b r key (behind path key depth len begins ∙ ap (λ x. path ++ x) e ∙ sym (append_assoc path prefix (b ∷ r))))
+      where
+        byte_behind : (q more : List ℕ) (c : ℕ) → get_or (q ++ c ∷ more) (length q) 0 ≡ c
+        byte_behind [] more c = refl
+        byte_behind (y ∷ q) more c = byte_behind q more c
+
+    -- no child has its next byte
+    pub inner_missing : (b : ℕ) → BeginsWith ((path ++ prefix) ++ b ∷ []) key → child_at (children_at kids) b ≡ None → NoConflict bytes key (leaves_in kids)
+    inner_missing b on none = each 0 kids under.1 none
+      where
+        each : (low : ℕ) (f : Branches K V) → AreUnder bytes (path ++ prefix) low f → child_at (children_at f) b ≡ None → NoConflict bytes key (leaves_in f)
+        each low no_branch h e = tt
+        each low (branch c t rest) h e = elim (eqb_tells c b) [
+          | inl same ↦ absurd (let f = rw same.0 at e in cc)
+          | inr other ↦
+              all_append _ (leaves t) (leaves_in rest)
+              (all_weaker _ _ (λ l st. apart_free (path ++ prefix) key (bytes l.key) b c on st (λ same. other.1 (sym same))) (leaves t) (leaves-begin bytes ((path ++ prefix) ++ c ∷ []) t h.1))
+              (each (c + 1) rest h.2 (rw other.0 at e))
+        ]
+
+last_two : (step : Step) (xs : List Step) → take 2 (step ∷ xs) ≡ take 2 (step ∷ take 2 xs)
+last_two step [] = refl
+last_two step (x ∷ xs) = refl
+
+module _ {K V : Type 0} (bytes : K → List ℕ) (P : ℕ) (at : Name → Option (Cell K V)) (key : List ℕ) (s : Shape K V) where
+  -- on the way to the key's place
+  pub record OnWayTo (current : Name) (last : List Step) (depth : ℕ) : Type 0 where
+    pub ctx : List (Frame K V)
+    pub part : Shape K V
+    pub toward : IsToward bytes key s ctx part last depth
+    pub subtree : IsSubtree bytes P at current (path_to ctx) part
+
+  pub way_start : (root : Name) → IsSubtree bytes P at root [] s → OnWayTo root [] 0
+  way_start root tree = record {
+    ctx = [];
+    part = s;
+    toward = record { place = at-root bytes s tree.under; steps = refl; depth_is = refl; begins = (key, refl) };
+    subtree = tree;
+  }
+
+  pub way_step : (current : Name) (last : List Step) (depth : ℕ) (way : OnWayTo current last depth) (n : Name) (prefix : List ℕ) (kids : Branches K V) (b : ℕ) (child : Name) (next : ℕ) (later : List Step)
+      → way.part ≡ inner_at n prefix kids → child_at (children_at kids) b ≡ Some child → BeginsWith ((path_to way.ctx ++ prefix) ++ b ∷ []) key → next ≡ length (path_to way.ctx) + length prefix + 1
+      → later ≡ take 2 (record { node = current; byte = b } ∷ last) → OnWayTo child later next
+  way_step current last depth way n prefix kids b child next later is found begins next_is later_is =
+      let sub : IsSubtree bytes P at current (path_to way.ctx) (inner_at n prefix kids) = subst (IsSubtree bytes P at current (path_to way.ctx)) is way.subtree in
+      let same : n ≡ current = sub.part.named in
+      let place = subst (IsPlace bytes s way.ctx) is way.toward.place in
+      let sd = step-down bytes s way.ctx n prefix kids b child place found in
+      let here = subst (λ m. IsSubtree bytes P at m (path_to way.ctx) (inner_at m prefix kids)) (sym same) (subst (λ m. IsSubtree bytes P at current (path_to way.ctx) (inner_at m prefix kids)) same sub) in
+      let below = subtree-branch bytes P at n (path_to way.ctx) prefix kids sd.before b sd.here sd.after here sd.kids_are in
+      record {
+        ctx = record { name = n; prefix = prefix; before = sd.before; byte = b; after = sd.after } ∷ way.ctx;
+        part = sd.here;
+        toward = record {
+          place = sd.place;
+          steps = last_two (record { node = n; byte = b }) (steps_to way.ctx) ∙ ap₂ (λ m xs. take 2 (record { node = m; byte = b } ∷ xs)) same way.toward.steps ∙ sym later_is;
+          depth_is = omega (arith, length-append (path_to way.ctx ++ prefix) (b ∷ []), length-append (path_to way.ctx) prefix, next_is);
+          begins = begins;
+        };
+        subtree = subst (λ m. IsSubtree bytes P at m ((path_to way.ctx ++ prefix) ++ b ∷ []) sd.here) sd.named below.subtree;
+      }
+
+  -- where the way goes on, an inner node stands
+  pub way_inner : (current : Name) (last : List Step) (depth : ℕ) (way : OnWayTo current last depth) (n : Name) (prefix : List ℕ) (kids : Branches K V) → way.part ≡ inner_at n prefix kids → current.kind ≢ Leaf
+  way_inner current last depth way n prefix kids is e =
+      let leaf = subtree-leaf bytes P at current (path_to way.ctx) way.part way.subtree e in
+      let same = sym leaf.2 ∙ is in cc
+
+  pub way_at_depth : (current : Name) (last : List Step) (depth : ℕ) (way : OnWayTo current last depth) → IsAtDepth bytes P at current depth (path_to way.ctx) way.part
+  way_at_depth current last depth way = record { subtree = way.subtree; behind = way.toward.depth_is }
+
+  pub way_room : (current : Name) (last : List Step) (depth : ℕ) (way : OnWayTo current last depth) (prefix : List ℕ) (b next : ℕ) → BeginsWith ((path_to way.ctx ++ prefix) ++ b ∷ []) key → next ≡ length (path_to way.ctx) + length prefix + 1 → (depth < next) × (next ≤ length key)
+  way_room current last depth way prefix b next begins next_is =
+      let long : length key ≡ length ((path_to way.ctx ++ prefix) ++ b ∷ []) + length begins.0 = ap length begins.1 ∙ length-append ((path_to way.ctx ++ prefix) ++ b ∷ []) begins.0 in
+      let d = way.toward.depth_is in
+      (omega (arith, next_is, d), omega (arith, long, next_is, length-append (path_to way.ctx ++ prefix) (b ∷ []), length-append (path_to way.ctx) prefix))
+
+module _ {K V : Type 0} (bytes : K → List ℕ) (P : ℕ) (arena : Arena K V) where
+  -- the inner node that a search has come to
+  pub record InnerAt (n : Name) (path : List ℕ) (s : Shape K V) : Type 0 where
+    pub prefix : List ℕ
+    pub kids : Branches K V
+    pub is : s ≡ inner_at n prefix kids
+    pub under : IsUnder bytes path (inner_at n prefix kids)
+    pub node : InnerNode
+    pub there : held_at arena n ≡ Some (inner_held node)
+    pub children : node.children ≡ children_at kids
+
+  pub inner_there : (n : Name) (path : List ℕ) (s : Shape K V) → IsSubtree bytes P (node_at arena) n path s → n.kind ≢ Leaf → InnerAt n path s
+  inner_there n path s sub other =
+      let i = subtree-inner bytes P (node_at arena) n path s sub other in
+      let here = subst (IsSubtree bytes P (node_at arena) n path) i.2 sub in
+      record {
+        prefix = i.0;
+        kids = i.1;
+        is = i.2;
+        under = here.under;
+        node = _;
+        there = root_held bytes P arena n path i.0 i.1 here;
+        children = refl;
+      }

@@ -1,0 +1,5 @@
+pub mod Lookups
+pub mod Descents
+pub mod Meetings
+pub mod Points
+pub mod DeletePoints

@@ -1,0 +1,3 @@
+//! Deletion: which leaf goes, and its change of the tree.
+
+pub mod point;

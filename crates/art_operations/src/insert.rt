@@ -1,0 +1,3 @@
+//! Insertion: where a new key goes, and its change of the tree.
+
+pub mod point;

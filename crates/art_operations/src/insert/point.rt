@@ -1,0 +1,238 @@
+//! The place of a new key.
+ghost use Rattle.std.specs.Prelude.{◌≡◌, ◌≢◌, ◌≤◌, ℕ, List, [], length, IfOk, IfErr};
+ghost use Rattle.art_bytes.specs.Keys.{BeginsWith};
+ghost use Rattle.art_arena.specs.Arena.{node_at};
+ghost use Rattle.art_arena.specs.Cells.{leaf_name};
+ghost use Rattle.art_arena.specs.Shapes.{Shape};
+ghost use Rattle.art_arena.specs.Meaning.{IsAtDepth, IsSubtree};
+ghost use Rattle.art_operations.specs.Points.{IsWay, IsAnswer, Refuses};
+
+use crate::inner::lookup_child;
+use crate::meeting::{Meeting, Parted, meet};
+use art_arena::{LeafPtr, NodeArena, TreePath, TreePathSearch, inner_node_ptr, read_full_prefix};
+use art_bytes::AsBytes;
+use art_nodes::{KindLeaf, NodeType, OpaqueNodePtr};
+use std::alloc::{AllocError, Global};
+use std::marker::Model;
+use thiserror::Error;
+
+/// The bytes of a key that can't be put in, since it is a front of a stored key, or a stored key is one of it.
+#[derive(Debug, Drop)]
+pub struct KeyPrefix {
+    bytes: Vec<u8>,
+}
+
+impl Model for KeyPrefix {
+    ghost use Rattle.std.specs.Prelude.{ℕ, List};
+
+    ghost Value = { List ℕ };
+
+    ghost view = { λ p. p.bytes.items };
+}
+
+impl KeyPrefix {
+    /// A copy of these bytes. It is refused where there is no memory.
+    pub fn new(alloc: Global, bytes: &[u8]) -> Result<Self, AllocError>
+        ensures { IfOk result (λ prefix. prefix ≡ bytes.now) }
+    {
+        let bytes = Vec::from_slice(alloc, bytes)?;
+        Ok(KeyPrefix { bytes })
+    }
+
+    /// The bytes.
+    pub fn bytes(&self) -> &[u8]
+        ensures { result.now ≡ self.now }
+    {
+        self.bytes.as_slice()
+    }
+}
+
+/// A key can't be put in, since it is a front of a stored key, or a stored key is one of it.
+#[derive(Debug, Drop, Error)]
+#[error("the key is a front of a stored key, or a stored key is one of it")]
+pub struct InsertPrefixError {
+    /// The bytes of the new key.
+    pub byte_repr: KeyPrefix,
+}
+
+/// Why no place was found for a key.
+#[derive(Debug, Drop, Error)]
+pub enum InsertSearchError {
+    /// It is a front of a stored key, or a stored key is one of it.
+    #[error("the key is a front of a stored key, or a stored key is one of it")]
+    Prefix(InsertPrefixError),
+    /// So it is, and there was no memory for its bytes.
+    #[error("no memory for the bytes of a key that can't be put in")]
+    Memory,
+}
+
+/// What a new key meets at its place.
+#[derive(Clone, Copy, Debug)]
+pub enum InsertKind {
+    /// An inner node whose prefix has another byte than the key.
+    MismatchPrefix {
+        /// The node.
+        inner_node_ptr: OpaqueNodePtr,
+        /// Where the prefix and the rest of the key differ.
+        parted: Parted,
+    },
+    /// A leaf whose key has another byte.
+    SplitLeaf {
+        /// The leaf.
+        leaf_node_ptr: LeafPtr,
+        /// Where the rests of both keys differ.
+        parted: Parted,
+    },
+    /// An inner node that has no child under the key's next byte.
+    IntoExisting {
+        /// The node.
+        inner_node_ptr: OpaqueNodePtr,
+        /// The byte.
+        key_byte: u8,
+    },
+    /// A leaf with this key.
+    Exact {
+        /// The leaf.
+        leaf_node_ptr: LeafPtr,
+    },
+}
+
+/// Where a new key goes.
+#[derive(Clone, Copy, Debug)]
+pub struct InsertPoint {
+    /// The inner nodes just above what the key meets.
+    pub path: TreePath,
+    /// How many bytes of the key lead to what it meets.
+    pub key_bytes_used: usize,
+    /// What it meets.
+    pub insert_kind: InsertKind,
+}
+
+// Where the search for the place of a key goes from a node.
+#[derive(Clone, Copy)]
+enum Way {
+    // To a child: the byte, the child, and how many bytes of the key lead there.
+    Child(u8, OpaqueNodePtr, usize),
+    // Nowhere: this is the place.
+    Point(InsertKind),
+    // Nowhere: the key can't be put in.
+    Conflict,
+}
+
+// Where the search goes from a leaf.
+fn way_at_leaf<K: AsBytes, V, const PREFIX_LEN: usize>(
+    arena: &NodeArena<K, V, PREFIX_LEN>,
+    leaf: LeafPtr,
+    key: &[u8],
+    depth: usize,
+) -> Way
+    requires { (path : List ℕ) × (s : Shape K V) × IsAtDepth K.bytes PREFIX_LEN (node_at arena.now) (leaf_name leaf) depth path s × BeginsWith path key.now }
+    ensures { (path : List ℕ) (s : Shape K V) → IsAtDepth K.bytes PREFIX_LEN (node_at arena.now) (leaf_name leaf) depth path s → BeginsWith path key.now → IsWay K.bytes key.now path s result }
+{
+    let stored = arena.as_key_ref(leaf).as_bytes();
+    match meet(&stored[depth..], &key[depth..]) {
+        Meeting::Same => Way::Point(InsertKind::Exact {
+            leaf_node_ptr: leaf,
+        }),
+        Meeting::OldEnds => Way::Conflict,
+        Meeting::NewEnds => Way::Conflict,
+        Meeting::Parts(parted) => Way::Point(InsertKind::SplitLeaf {
+            leaf_node_ptr: leaf,
+            parted,
+        }),
+    }
+}
+
+// Where the search goes from an inner node.
+fn way_at_inner<K: AsBytes, V, const PREFIX_LEN: usize>(
+    arena: &NodeArena<K, V, PREFIX_LEN>,
+    node: OpaqueNodePtr,
+    key: &[u8],
+    depth: usize,
+) -> Way
+    requires stands { (path : List ℕ) × (s : Shape K V) × IsAtDepth K.bytes PREFIX_LEN (node_at arena.now) node depth path s × BeginsWith path key.now }
+    requires inner { node.kind ≢ NodeType.Leaf }
+    ensures { (path : List ℕ) (s : Shape K V) → IsAtDepth K.bytes PREFIX_LEN (node_at arena.now) node depth path s → BeginsWith path key.now → IsWay K.bytes key.now path s result }
+{
+    let prefix = read_full_prefix(arena, node, depth).prefix;
+    let rest = &key[depth..];
+    match meet(prefix, rest) {
+        Meeting::Same => Way::Conflict,
+        Meeting::NewEnds => Way::Conflict,
+        Meeting::Parts(parted) => Way::Point(InsertKind::MismatchPrefix {
+            inner_node_ptr: node,
+            parted,
+        }),
+        Meeting::OldEnds => {
+            let byte = rest[prefix.len()];
+            match lookup_child(arena, node, byte) {
+                Some(child) => Way::Child(byte, child, depth + prefix.len() + 1),
+                None => Way::Point(InsertKind::IntoExisting {
+                    inner_node_ptr: node,
+                    key_byte: byte,
+                }),
+            }
+        }
+    }
+}
+
+// Where the search goes from a node.
+fn way_at<K: AsBytes, V, const PREFIX_LEN: usize>(
+    arena: &NodeArena<K, V, PREFIX_LEN>,
+    node: OpaqueNodePtr,
+    key: &[u8],
+    depth: usize,
+) -> Way
+    requires { (path : List ℕ) × (s : Shape K V) × IsAtDepth K.bytes PREFIX_LEN (node_at arena.now) node depth path s × BeginsWith path key.now }
+    ensures { (path : List ℕ) (s : Shape K V) → IsAtDepth K.bytes PREFIX_LEN (node_at arena.now) node depth path s → BeginsWith path key.now → IsWay K.bytes key.now path s result }
+{
+    match node.cast::<KindLeaf>() {
+        Some(leaf) => way_at_leaf(arena, leaf, key, depth),
+        None => way_at_inner(arena, node, key, depth),
+    }
+}
+
+// Why a key can't be put in: it is in conflict with a stored one.
+fn refusal(alloc: Global, key: &[u8]) -> InsertSearchError
+    ensures { Refuses key.now result }
+{
+    match KeyPrefix::new(alloc, key) {
+        Ok(byte_repr) => InsertSearchError::Prefix(InsertPrefixError { byte_repr }),
+        Err(_) => InsertSearchError::Memory,
+    }
+}
+
+/// Finds where a new key goes in the tree below a name. It is refused where the key is a front of a stored key, or a
+/// stored key is one of it; the answer then has a copy of the key's bytes, if there is memory for one. Otherwise it
+/// takes no memory.
+pub fn search_for_insert_point<K: AsBytes, V, const PREFIX_LEN: usize>(
+    alloc: Global,
+    arena: &NodeArena<K, V, PREFIX_LEN>,
+    root: OpaqueNodePtr,
+    key: &[u8],
+) -> Result<InsertPoint, InsertSearchError>
+    requires { (s : Shape K V) × IsSubtree K.bytes PREFIX_LEN (node_at arena.now) root [] s }
+    ensures answer { (s : Shape K V) → IsSubtree K.bytes PREFIX_LEN (node_at arena.now) root [] s → IsAnswer K.bytes key.now s result }
+    ensures refusal { IfErr result (λ e. Refuses key.now e) }
+{
+    let mut search = TreePathSearch::default();
+    let mut current = root;
+    let mut depth = 0;
+    loop {
+        match way_at(arena, current, key, depth) {
+            Way::Conflict => return Err(refusal(alloc, key)),
+            Way::Point(insert_kind) => {
+                return Ok(InsertPoint {
+                    path: search.finish(),
+                    key_bytes_used: depth,
+                    insert_kind,
+                });
+            }
+            Way::Child(byte, child, next) => {
+                search.visit_inner_node(inner_node_ptr(current), byte);
+                current = child;
+                depth = next;
+            }
+        }
+    }
+}

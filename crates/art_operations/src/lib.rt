@@ -1,0 +1,27 @@
+//! Operations on the tree below a name in an arena: look-ups, the ends of a tree, where a key is put in or taken out.
+//! The layer above uses `search_unchecked`: the answer is a filter of the list of leaves.
+//! The definitions stand in `specs/`.
+#![tactic(auto)]
+
+pub mod delete;
+mod descent;
+mod inner;
+pub mod insert;
+pub mod lookup;
+pub mod meeting;
+pub mod minmax;
+
+pub use delete::point::{
+    DeletePoint, find_maximum_to_delete, find_minimum_to_delete, search_for_delete_point,
+};
+pub use insert::point::{
+    InsertKind, InsertPoint, InsertPrefixError, InsertSearchError, KeyPrefix,
+    search_for_insert_point,
+};
+pub use lookup::{
+    PrefixMatchBehavior, prefix_search_unchecked, prefix_search_with, search_unchecked, search_with,
+};
+pub use minmax::{maximum_unchecked, minimum_unchecked};
+
+#[cfg(test)]
+mod tests;
