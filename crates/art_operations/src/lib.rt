@@ -5,7 +5,6 @@
 
 pub mod delete;
 mod descent;
-mod inner;
 pub mod insert;
 pub mod lookup;
 pub mod meeting;

@@ -7,8 +7,8 @@ ghost use Rattle.art_arena.specs.Shapes.{Shape};
 ghost use Rattle.art_arena.specs.Meaning.{IsAtDepth, IsSubtree};
 ghost use Rattle.art_operations.specs.Points.{IsWay, IsAnswer, Refuses};
 
-use crate::inner::lookup_child;
 use crate::meeting::{Meeting, Parted, meet};
+use art_arena::inner::lookup_child;
 use art_arena::{LeafPtr, NodeArena, TreePath, TreePathSearch, inner_node_ptr, read_full_prefix};
 use art_bytes::AsBytes;
 use art_nodes::{KindLeaf, NodeType, OpaqueNodePtr};
