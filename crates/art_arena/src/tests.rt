@@ -88,6 +88,102 @@ fn finds_a_leaf(rt: HostRuntime) {
     assert!(rt; !finds(&rt, [1u8, 2, 3], 4u8, &[1, 2]));
 }
 
+// Reads a lone leaf by every call that lends of it, and takes it out.
+fn reads<K: AsBytes + Drop, V: Drop>(rt: &HostRuntime, key: K, value: V, bytes: &[u8]) -> bool {
+    let mut arena: NodeArena<K, V, 4> = NodeArena::new(rt.alloc());
+    let leaf = match arena.allocate_node_ptr(LeafNode::with_no_siblings(key, value)) {
+        Ok(leaf) => leaf,
+        Err(_refused) => return false,
+    };
+    let _value = arena.as_value_ref(leaf);
+    let (key, _value) = arena.as_key_value_ref(leaf);
+    if key.as_bytes() != bytes || arena.as_key_ref(leaf).as_bytes() != bytes {
+        return false;
+    }
+    let node: LeafNode<K, V> = arena.deallocate_node_ptr(leaf);
+    node.compare_full_key(bytes) && !arena.holds(leaf.to_opaque())
+}
+
+#[test]
+fn reads_a_leaf(rt: HostRuntime) {
+    assert!(rt; reads(&rt, [1u8, 2, 3], 4u8, &[1, 2, 3]));
+}
+
+// Writes the value of a lone leaf.
+fn writes<K: AsBytes + Drop, V: Drop>(rt: &HostRuntime, key: K, value: V, other: V) -> bool {
+    let mut arena: NodeArena<K, V, 4> = NodeArena::new(rt.alloc());
+    let leaf = match arena.allocate_node_ptr(LeafNode::with_no_siblings(key, value)) {
+        Ok(leaf) => leaf,
+        Err(_refused) => return false,
+    };
+    *arena.as_value_mut(leaf) = other;
+    arena.holds(leaf.to_opaque())
+}
+
+// Writes the value of a lone leaf, its key beside it.
+fn writes_by_key<K: AsBytes + Drop, V: Drop>(
+    rt: &HostRuntime,
+    key: K,
+    value: V,
+    other: V,
+    bytes: &[u8],
+) -> bool {
+    let mut arena: NodeArena<K, V, 4> = NodeArena::new(rt.alloc());
+    let leaf = match arena.allocate_node_ptr(LeafNode::with_no_siblings(key, value)) {
+        Ok(leaf) => leaf,
+        Err(_refused) => return false,
+    };
+    let (key, value) = arena.as_key_ref_value_mut(leaf);
+    if key.as_bytes() != bytes {
+        return false;
+    }
+    *value = other;
+    arena.holds(leaf.to_opaque())
+}
+
+#[test]
+fn writes_a_value(rt: HostRuntime) {
+    assert!(rt; writes(&rt, [1u8, 2, 3], 4u8, 5u8));
+    assert!(rt; writes_by_key(&rt, [1u8, 2, 3], 4u8, 5u8, &[1, 2, 3]));
+}
+
+// Whether a lone leaf is the first and the last below its name.
+fn is_at_both_ends<K: AsBytes + Drop, V: Drop>(rt: &HostRuntime, key: K, value: V) -> bool {
+    let mut arena: NodeArena<K, V, 4> = NodeArena::new(rt.alloc());
+    let leaf = match arena.allocate_node_ptr(LeafNode::with_no_siblings(key, value)) {
+        Ok(leaf) => leaf,
+        Err(_refused) => return false,
+    };
+    let root = leaf.to_opaque();
+    first_leaf(&arena, root) == leaf && last_leaf(&arena, root) == leaf
+}
+
+#[test]
+fn a_lone_leaf_is_first_and_last(rt: HostRuntime) {
+    assert!(rt; is_at_both_ends(&rt, [1u8, 2, 3], 4u8));
+}
+
+// Puts a node in the place of a lone leaf.
+fn replaces<K: AsBytes + Drop, V: Drop>(
+    rt: &HostRuntime,
+    old: (K, V),
+    new: (K, V),
+    bytes: &[u8],
+) -> bool {
+    let mut arena: NodeArena<K, V, 4> = NodeArena::new(rt.alloc());
+    let leaf = match arena.allocate_node_ptr(LeafNode::with_no_siblings(old.0, old.1)) {
+        Ok(leaf) => leaf,
+        Err(_refused) => return false,
+    };
+    let was = arena.replace(leaf, LeafNode::with_no_siblings(new.0, new.1));
+    !was.compare_full_key(bytes) && arena.as_key_ref(leaf).as_bytes() == bytes
+}
+
+#[test]
+fn replaces_a_leaf(rt: HostRuntime) {
+    assert!(rt; replaces(&rt, ([1u8], 2u8), ([3u8], 4u8), &[3]));
+}
+
 #[test]
 fn stores_an_inner_node_of_each_kind(rt: HostRuntime) -> Result<(), Fail> {
     assert!(rt; stored_inner::<InnerNode4<u8, u8, 4>>(&rt)?);
