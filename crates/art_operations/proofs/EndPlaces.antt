@@ -50,7 +50,7 @@ module _ {K V : Type 0} (bytes : K → List ℕ) where
         under = a.here_under;
       }
 
-last_two : (step : Step) (xs : List Step) → take 2 (step ∷ xs) ≡ take 2 (step ∷ take 2 xs)
+pub last_two : (step : Step) (xs : List Step) → take 2 (step ∷ xs) ≡ take 2 (step ∷ take 2 xs)
 last_two step [] = refl
 last_two step (x ∷ xs) = refl
 

@@ -4,4 +4,3 @@ pub mod Lookups
 pub mod Meetings
 pub mod Points
 pub mod EndPlaces
-pub mod Lone

@@ -20,6 +20,7 @@ use Rattle.art_arena.proofs.Order.{all_append, all_weaker, begins_step, begins_f
 use Rattle.art_arena.proofs.Fronts.{begins_trans, one_byte}
 use Rattle.art_arena.proofs.Places.{leaves-begin, step-down, at-root}
 use Rattle.art_operations.specs.Meetings.{PartAt}
+use Rattle.art_operations.proofs.EndPlaces.{last_two}
 use Rattle.art_operations.specs.declared.meeting.Parted.{Parted}
 use Rattle.art_operations.specs.Points.{HasConflict, NoConflict}
 use Rattle.art_arena.proofs.Prefixes.{drop-front}
@@ -154,10 +155,6 @@ module _ {K V : Type 0} (bytes : K → List ℕ) (key path : List ℕ) (depth : 
               (all_weaker _ _ (λ l st. apart_free (path ++ prefix) key (bytes l.key) b c on st (λ same. other.1 (sym same))) (leaves t) (leaves-begin bytes ((path ++ prefix) ++ c ∷ []) t h.1))
               (each (c + 1) rest h.2 (rw other.0 at e))
         ]
-
-last_two : (step : Step) (xs : List Step) → take 2 (step ∷ xs) ≡ take 2 (step ∷ take 2 xs)
-last_two step [] = refl
-last_two step (x ∷ xs) = refl
 
 module _ {K V : Type 0} (bytes : K → List ℕ) (P : ℕ) (at : Name → Option (Cell K V)) (key : List ℕ) (s : Shape K V) where
   -- on the way to the key's place
