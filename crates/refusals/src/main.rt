@@ -79,6 +79,11 @@ fn tuple_reads_back(alloc: Global) -> Result<[u8; 8], AllocError> {
     ToIBE::to_bytes(alloc, number)
 }
 
+fn tuple_writes_back(alloc: Global) -> Result<Vec<u8>, AllocError> {
+    let bytes = Pair::to_bytes(alloc, (1u32, -5i64))?;
+    laws::writes_back::<Pair, (u32, i64)>(alloc, bytes)
+}
+
 fn number_from_bytes(alloc: Global) -> Result<[u8; 2], AllocError> {
     let found: Option<u16> = ToUBE::checked_from_bytes(alloc, [1, 2])?;
     ToUBE::to_bytes(alloc, found.unwrap_or(0))
@@ -200,6 +205,7 @@ fn run(rt: &(impl Print + Eprint + AllocGlobal), name: &str) -> io::Result<()> {
         "array_from_bytes_takes_no_memory" => array_from_bytes(rt),
         "tuple_to_bytes" => makes(rt, &|| Pair::to_bytes(alloc, (1u32, -5i64))),
         "tuple_reads_back" => makes(rt, &|| tuple_reads_back(alloc)),
+        "tuple_writes_back" => makes(rt, &|| tuple_writes_back(alloc)),
         "tuple_from_bytes_takes_no_memory" => tuple_from_bytes(rt),
         "pair_key" => makes(rt, &|| laws::pair_key_is(alloc, 1, -5)),
         "mapped_new" => makes(rt, &|| PairKey::new(alloc, (1, -5))),
@@ -231,6 +237,7 @@ fn main(rt: HostRuntime) -> io::Result<()> {
             "array_from_bytes_takes_no_memory",
             "tuple_to_bytes",
             "tuple_reads_back",
+            "tuple_writes_back",
             "tuple_from_bytes_takes_no_memory",
             "pair_key",
             "mapped_new",
