@@ -16,6 +16,7 @@ pub struct FromReader<R> {
 }
 
 impl<R: Read> FromReader<R> {
+    /// A source over this reader. Nothing has been read yet, and it takes no memory.
     pub fn new(reader: R) -> Self
         ensures given { ⟦<FromReader<R> as Source>⟧.given result ≡ [] }
         ensures failed { ⟦<FromReader<R> as Source>⟧.has_failed result ≡ false }

@@ -14,6 +14,7 @@ pub struct ToWriter<W> {
 }
 
 impl<W: Write> ToWriter<W> {
+    /// A sink over this writer. Nothing has been written yet, and it takes no memory.
     pub fn new(writer: W) -> Self
         ensures taken { ⟦<ToWriter<W> as Sink>⟧.taken result ≡ [] }
         ensures failed { ⟦<ToWriter<W> as Sink>⟧.has_failed result ≡ false }
