@@ -3,3 +3,5 @@ pub mod Descents
 pub mod Meetings
 pub mod Points
 pub mod DeletePoints
+pub mod Insertions
+pub mod Deletions

@@ -6,7 +6,7 @@ use Rattle.art_bytes.specs.Keys.{BeginsWith, Conflict}
 use Rattle.art_nodes.specs.Name.{Name}
 use Rattle.art_nodes.specs.InnerNode.{child_at}
 use Rattle.art_arena.specs.Changes.{IsIn}
-use Rattle.art_arena.specs.Shapes.{Shape, Branches, leaf_at, inner_at, LeafAt, children_at, leaves}
+use Rattle.art_arena.specs.Shapes.{Shape, Branches, leaf_at, inner_at, LeafAt, name_of, children_at, leaves}
 use Rattle.art_arena.specs.Context.{Frame, path_to}
 use Rattle.art_arena.specs.Places.{IsToward}
 use Rattle.art_arena.specs.Steps.{steps_of}
@@ -53,6 +53,7 @@ module _ {K V : Type 0} (bytes : K → List ℕ) (key : List ℕ) where
 
   -- the place of the key: a part of the tree that stands behind a front of the key, and what the key meets there
   pub record IsPoint (s : Shape K V) (point : InsertPoint) : Type 0 where
+    pub named : name_of s ≡ point.root
     pub ctx : List (Frame K V)
     pub part : Shape K V
     pub toward : IsToward bytes key s ctx part (steps_of point.path) point.key_bytes_used

@@ -13,10 +13,12 @@ pub mod minmax;
 pub use delete::point::{
     DeletePoint, find_maximum_to_delete, find_minimum_to_delete, search_for_delete_point,
 };
+pub use delete::result::DeleteResult;
 pub use insert::point::{
     InsertKind, InsertPoint, InsertPrefixError, InsertSearchError, KeyPrefix,
     search_for_insert_point,
 };
+pub use insert::result::{InsertParentNodeChange, InsertRefused, InsertResult};
 pub use lookup::{
     PrefixMatchBehavior, prefix_search_unchecked, prefix_search_with, search_unchecked, search_with,
 };

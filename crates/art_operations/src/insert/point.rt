@@ -100,6 +100,8 @@ pub enum InsertKind {
 /// Where a new key goes.
 #[derive(Clone, Copy, Debug)]
 pub struct InsertPoint {
+    /// The root of the tree.
+    pub root: OpaqueNodePtr,
     /// The inner nodes just above what the key meets.
     pub path: TreePath,
     /// How many bytes of the key lead to what it meets.
@@ -223,6 +225,7 @@ pub fn search_for_insert_point<K: AsBytes, V, const PREFIX_LEN: usize>(
             Way::Conflict => return Err(refusal(alloc, key)),
             Way::Point(insert_kind) => {
                 return Ok(InsertPoint {
+                    root,
                     path: search.finish(),
                     key_bytes_used: depth,
                     insert_kind,

@@ -17,6 +17,7 @@ returns-in-Point-clause-answer g c = λ s tree.
     let at = way_at_depth g.K.AsBytes.bytes g.row.PREFIX_LEN (node_at c.args.arena.now) c.args.key.now s c.loop-insert_kind.current c.loop-insert_kind.search c.loop-insert_kind.depth way in
     let here = c.in-Point.ensures (path_to way.ctx) way.part at way.toward.begins in (
       record {
+        named = tree.part.named;
         ctx = way.ctx;
         part = way.part;
         toward = record { place = way.toward.place; steps = way.toward.steps ∙ sym c.finish.ensures; depth_is = way.toward.depth_is; begins = way.toward.begins };

@@ -1,0 +1,35 @@
+-- What an insertion leaves.
+use Rattle.std.specs.Prelude.{◌≡◌, ℕ, List, ◌∷◌, ◌++◌, take, Option, Some, None}
+use Rattle.art_nodes.specs.Concrete.{inner_name_of}
+use Rattle.art_nodes.specs.declared.leaf.LeafNode.{LeafNode}
+use Rattle.art_arena.specs.Arena.{Arena, node_at, links_at}
+use Rattle.art_arena.specs.Changes.{IsPutIn}
+use Rattle.art_arena.specs.Meaning.{IsTree}
+use Rattle.art_arena.specs.Shapes.{Shape, LeafAt, leaves}
+use Rattle.art_arena.specs.Steps.{Step}
+use Rattle.art_operations.specs.DeletePoints.{IsLeafPlace}
+use Rattle.art_operations.specs.declared.insert.result.InsertResult.{InsertResult}
+use Rattle.art_operations.specs.declared.insert.result.InsertParentNodeChange.{InsertParentNodeChange}
+use Rattle.art_operations.specs.declared.insert.result.InsertParentNodeChange.TheVariants.{NewParent, NoChange}
+
+-- the last steps to the leaf, where these led to what its key met
+abbrev pub steps_after : InsertParentNodeChange → List Step → List Step
+steps_after (NewParent parent byte) last = take 2 (record { node = inner_name_of parent; byte = byte } ∷ last)
+steps_after NoChange last = last
+
+-- new is old with y in the place of x
+abbrev pub IsReplaced : {X : Type 0} → X → X → List X → List X → Type 0
+IsReplaced {X} x y old new = (front : List X) × (back : List X) × (old ≡ front ++ x ∷ back) × (new ≡ front ++ y ∷ back)
+
+module _ {K V : Type 0} (bytes : K → List ℕ) where
+  -- the leaf is put in, or stands under the name of one that had its key
+  abbrev pub IsStored : LeafAt K V → Option (LeafNode K V) → List (LeafAt K V) → List (LeafAt K V) → Type 0
+  IsStored l None old new = IsPutIn l old new
+  IsStored l (Some was) old new = (bytes was.key ≡ bytes l.key) × IsReplaced (record { slot = l.slot; key = was.key; value = was.value }) l old new
+
+  -- the arena holds nothing but the tree of these leaves with the new one, which stands where the answer says
+  pub record IsInserted (P : ℕ) (arena : Arena K V) (s : Shape K V) (last : List Step) (key : K) (value : V) (result : InsertResult K V) : Type 0 where
+    pub shape : Shape K V
+    pub is_tree : IsTree bytes P (node_at arena) result.new_root (links_at arena) shape
+    pub stored : IsStored (record { slot = result.leaf_node_ptr; key = key; value = value }) result.existing_leaf (leaves s) (leaves shape)
+    pub place : IsLeafPlace bytes shape result.leaf_node_ptr (steps_after result.parent_node_change last)
