@@ -73,3 +73,5 @@ fn compares_leaf_keys(rt: HostRuntime) {
     assert!(rt; PrefixMatchBehavior::Pessimistic.leaf_key_is_prefix(&leaf, &[9, 2, 3, 4], 1));
     assert!(rt; !PrefixMatchBehavior::Optimistic.leaf_key_is_prefix(&leaf, &[9, 2, 3, 4], 1));
 }
+
+mod refused;
