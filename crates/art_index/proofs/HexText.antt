@@ -12,8 +12,10 @@ encode_with-append t [] b = refl
 encode_with-append t (x ∷ a) b = ap (λ r. slice_index t (x / 16) ∷ slice_index t (x % 16) ∷ r) (encode_with-append t a b)
 
 -- the digits of some bytes, a part first
-pub encode_lower-parts : (n : ℕ) (bs : List ℕ) → encode_lower (take n bs) ++ encode_lower (drop n bs) ≡ encode_lower bs
-encode_lower-parts n bs = sym (encode_with-append lower_digits (take n bs) (drop n bs)) ∙ ap encode_lower (take-append-drop n bs)
+pub encode_lower-parts : (n : ℕ) (bs front back : List ℕ) → front ≡ take n bs → back ≡ drop n bs → encode_lower bs ≡ encode_lower front ++ encode_lower back
+encode_lower-parts n bs front back first rest =
+    ap encode_lower (sym (take-append-drop n bs)) ∙ encode_with-append lower_digits (take n bs) (drop n bs)
+    ∙ ap (λ t. encode_lower t ++ encode_lower (drop n bs)) (sym first) ∙ ap (λ t. encode_lower front ++ encode_lower t) (sym rest)
 
 pub encode_lower-nil : encode_lower [] ≡ []
 unfolding encode_with

@@ -5,6 +5,7 @@ pub mod RunLemmas
 pub mod HexText
 pub mod Cuts
 pub mod Carrying
+pub mod CutRuns
 pub mod Replies
 pub mod ReplyLines
 pub mod Parsing
