@@ -1,11 +1,11 @@
 -- A run whose last write failed.
-use Rattle.std.proofs.Common.{◌≡◌, ℕ, suc, ◌+◌, ◌<◌, ◌≤◌, List, [], ◌∷◌, ◌++◌, length, take, ap, sym, ◌∙◌, subst, Bool, arith, append_assoc, length-append, add-one}
+use Rattle.std.proofs.Common.{◌≡◌, ℕ, suc, ◌<◌, List, [], ◌∷◌, ◌++◌, length, take, ap, sym, ◌∙◌, subst, arith, append_assoc, length-append, add-one}
 use Rattle.std.proofs.lemmas.List.{take-append-le, take_all, length-take}
 use Rattle.art_index.specs.Lines.{whole_lines_of, unfinished_line_of, lines_of}
 use Rattle.art_index.specs.Records.{Records}
-use Rattle.art_index.specs.Outcome.{answer, outcome_of, IsLawful}
+use Rattle.art_index.specs.Outcome.{outcome_of}
 use Rattle.art_index.specs.Faults.{IsCutLine, AfterWriteFault}
-use Rattle.art_index.specs.Progress.{Ran, Carried, IsCutRun, NoNewline}
+use Rattle.art_index.specs.Progress.{Carried, IsCutRun, NoNewline}
 use Rattle.art_index.proofs.LineLemmas.{whole_lines_of-line, whole_lines_of-more}
 use Rattle.art_index.proofs.RunLemmas.{with_place, outcome-with_place}
 use Rattle.art_index.proofs.Carrying.{StandsFor, goes_on, closed, cut}

@@ -1,5 +1,5 @@
 -- Texts that are taken part by part, and where a write fails within one.
-use Rattle.std.proofs.Common.{◌≡◌, ℕ, ◌<◌, ◌≢◌, List, [], ◌∷◌, ◌++◌, length, take, drop, refl, ap, sym, ◌∙◌, arith, subst, Bool, true, Result, Ok, Err, OnErr, append_assoc, append-nil, take-append-drop}
+use Rattle.std.proofs.Common.{◌≡◌, ℕ, ◌<◌, ◌≢◌, List, [], ◌∷◌, ◌++◌, length, refl, ap, sym, ◌∙◌, arith, subst, Bool, true, Result, Ok, Err, OnErr, append_assoc, append-nil}
 use Rattle.art_index.specs.Records.{Records}
 use Rattle.art_index.specs.Refusals.{LineMayRefuse}
 use Rattle.art_index.specs.Outcome.{answer, left_by}
