@@ -1,5 +1,5 @@
 -- Texts that are taken part by part, and where a write fails within one.
-use Rattle.std.proofs.Common.{◌≡◌, ℕ, ◌<◌, ◌≢◌, List, [], ◌∷◌, ◌++◌, length, refl, ap, sym, ◌∙◌, arith, subst, Bool, true, Result, Ok, Err, OnErr, append_assoc, append-nil}
+use Rattle.std.proofs.Common.{◌≡◌, ℕ, ◌≢◌, List, [], ◌∷◌, ◌++◌, length, refl, ap, sym, ◌∙◌, arith, subst, Bool, true, Result, Ok, Err, OnErr, append_assoc, append-nil}
 use Rattle.art_index.specs.Records.{Records}
 use Rattle.art_index.specs.Refusals.{LineMayRefuse}
 use Rattle.art_index.specs.Outcome.{answer, left_by}
@@ -69,16 +69,6 @@ pub taken_cut : (before now after part rest text : List ℕ) → IsTaken before 
 taken_cut before now after part rest text t c =
     let whole = cut_behind before now after t.begun (part ++ rest) t.told (cut_before now after part rest c) in
     record { begun = whole.begun; missing = whole.missing; is_cut = whole.is_cut; parts = whole.parts ∙ t.parts; told = whole.told }
-
--- a write that takes nothing of a rest that is left
-pub taken_stops : (before now after rest text : List ℕ) → IsTaken before now rest text → 0 < length rest → after ≡ now → IsCut before after text
-taken_stops before now after rest text t some same = record {
-  begun = t.begun;
-  missing = rest;
-  is_cut = λ e. let long = ap length e in absurd (omega arith);
-  parts = t.parts;
-  told = same ∙ t.told;
-}
 
 -- a line that was carried out, and whose answer was cut
 pub cut_line : (memory : Bool) (old new : Records) (line before after told : List ℕ) → told ≡ answer memory old line → IsCut before after told

@@ -1,13 +1,12 @@
 -- The lines of a dump, one entry after another.
-use Rattle.std.proofs.Common.{◌≡◌, ℕ, suc, ◌+◌, ◌<◌, ◌≤◌, List, [], ◌∷◌, ◌++◌, length, drop, get_or, refl, ap, sym, ◌∙◌, append_assoc, append-nil, add-zero, add-one, map}
+use Rattle.std.proofs.Common.{◌≡◌, ℕ, suc, ◌+◌, ◌<◌, ◌≤◌, List, [], ◌∷◌, ◌++◌, length, drop, get_or, ap, sym, ◌∙◌, append_assoc, add-one, map}
 use Rattle.std.specs.Prelude.{flat_map, codes}
 use Rattle.std.proofs.Math.Seq.{drop-cons}
 use Rattle.std.proofs.lemmas.List.{drop_all}
 use Rattle.art_index.specs.Words.{Word, name, natural, line_of}
 use Rattle.art_index.specs.Commands.{put_words}
 use Rattle.art_index.specs.Records.{KeyRecord}
-use Rattle.art_index.specs.Replies.{dump_of}
-use Rattle.art_index.specs.Stored.{record_of, records_of}
+use Rattle.art_index.specs.Stored.{record_of}
 use Rattle.art_index.specs.declared.entry.Entry.{Entry}
 
 abbrev pub words_put : KeyRecord → List Word
@@ -34,18 +33,3 @@ dump_next i es e within is =
 -- behind the last entry
 pub dump_last : (i : ℕ) (es : List Entry) → length es ≤ i → dump_from i es ≡ dump_end (length es)
 dump_last i es all = ap (λ xs. dumped xs ++ dump_end (length es)) (drop_all i es all)
-
-flat-end : (ws : List (List Word)) (w : List Word) → flat_map line_of (ws ++ w ∷ []) ≡ flat_map line_of ws ++ line_of w
-flat-end [] w = append-nil (line_of w)
-flat-end (x ∷ ws) w = ap (λ t. line_of x ++ t) (flat-end ws w) ∙ sym (append_assoc (line_of x) (flat_map line_of ws) (line_of w))
-
-length-records : (es : List Entry) → length (map record_of es) ≡ length es
-length-records [] = refl
-length-records (e ∷ es) = ap suc (length-records es)
-
--- a dump is all its lines
-pub dump_whole : (es : List Entry) → flat_map line_of (dump_of (records_of es)) ≡ dump_from 0 es
-dump_whole es =
-    ap (λ ws. flat_map line_of (ws ++ (name (codes "end") ∷ natural (length (map record_of es) + 0) ∷ []) ∷ [])) (append-nil (map words_put (map record_of es)))
-    ∙ flat-end (map words_put (map record_of es)) (name (codes "end") ∷ natural (length (map record_of es) + 0) ∷ [])
-    ∙ ap (λ n. dumped es ++ dump_end n) (add-zero (length (map record_of es)) ∙ length-records es)
