@@ -43,7 +43,7 @@ cut line held e = elim (cases_lt (length line) 4097) [
       }
 ]
 
-pub same_answer : (memory : Bool) (now : Records) (held line : List ℕ) → StandsFor held line → answer memory now held ≡ answer memory now line
+same_answer : (memory : Bool) (now : Records) (held line : List ℕ) → StandsFor held line → answer memory now held ≡ answer memory now line
 unfolding reply_to
 same_answer true now held line s = refl
 same_answer false now held line s = rw s.command refl

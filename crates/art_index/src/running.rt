@@ -45,7 +45,7 @@ pub fn run<S: Source, W: Sink, const PREFIX_LEN: usize>(
         × (W.taken sink.new ≡ W.taken sink.old ++ written)
         × AfterReadFault index.old text written index.new }
 
-    // After a failed write, one line more than were answered whole is carried out, and of its answer a beginning is written.
+    // After a failed write, one line more is carried out than is answered whole. Of its answer a beginning is written.
     ensures after_write_fault { result ≡ Err RunFault.Write → (text written : List ℕ)
         × (S.given source.new ≡ S.given source.old ++ text)
         × (W.taken sink.new ≡ W.taken sink.old ++ written)
