@@ -1,0 +1,3 @@
+//! Deletion: the change of the tree.
+
+pub mod apply;

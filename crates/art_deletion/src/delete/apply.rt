@@ -1,0 +1,1 @@
+//! A leaf is taken out of a tree.
