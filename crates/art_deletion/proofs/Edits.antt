@@ -1,10 +1,11 @@
 -- Edits of one node of an arena, as those of what a contract sees of it.
-use Rattle.std.proofs.Common.{◌≡◌, Some, ap, subst, sym, ◌∙◌}
-use Rattle.art_nodes.specs.InnerNode.{InnerNode}
+use Rattle.std.proofs.Common.{◌≡◌, ℕ, Option, Some, inl, inr, ap, subst, sym, ◌∙◌}
+use Rattle.art_nodes.specs.InnerNode.{InnerNode, with_child, without_child, with_children}
 use Rattle.art_nodes.specs.Name.{Name}
-use Rattle.art_arena.specs.Arena.{Arena, Held, inner_held, held_at}
+use Rattle.art_arena.specs.Arena.{Arena, Held, inner_held, held_at, SameNodes}
 use Rattle.art_arena.specs.Cells.{UpdatesAt}
-use Rattle.art_deletion.specs.Removals.{EditsNode}
+use Rattle.art_deletion.specs.Removals.{EditsNode, PutsBack}
+use Rattle.art_arena.proofs.CellLists.{same_name_tells}
 
 module _ {K V : Type 0} where
   -- a node that is written is edited as what is seen of it
@@ -14,3 +15,21 @@ module _ {K V : Type 0} where
       let node : ◌≡◌ {A = Held K V} (inner_held x) (inner_held n) = cc in
       let same : x ≡ n = cc in
       subst (λ h. UpdatesAt (held_at old) (held_at new) name (Some h)) (seen_now ∙ ap inner_held (edited ∙ ap edit same)) update
+
+  -- a child that was taken out and put back
+  pub undone : (old without same new : Arena K V) (name : Name) (n : InnerNode) (byte : ℕ) (child : Name) → held_at old name ≡ Some (inner_held n) → PutsBack n byte child
+      → EditsNode old without name (λ n. with_children n (without_child n.children byte)) → SameNodes without same → EditsNode same new name (λ n. with_children n (with_child n.children byte child))
+      → SameNodes old new
+  undone old without same new name n byte child there back removed kept written m =
+      let out = removed n there in
+      let in_again = written _ (kept name ∙ out.changed) in
+      elim (same_name_tells m name) [
+        | inl is ↦ ap (held_at new) is.1 ∙ in_again.changed ∙ ap (λ n. Some (inner_held n)) back ∙ sym there ∙ ap (held_at old) (sym is.1)
+        | inr other ↦ in_again.others m other.1 ∙ kept m ∙ out.others m other.1
+      ]
+
+  -- one inner node stands under a name
+  pub same_inner : (o : Option (Held K V)) (x y : InnerNode) → o ≡ Some (inner_held x) → o ≡ Some (inner_held y) → x ≡ y
+  same_inner o x y there also =
+      let e : ◌≡◌ {A = Option (Held K V)} (Some (inner_held x)) (Some (inner_held y)) = sym there ∙ also in
+      cc

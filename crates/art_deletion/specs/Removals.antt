@@ -1,8 +1,9 @@
 -- How a leaf is taken out of the nodes above it.
 use Rattle.std.specs.Prelude.{◌≡◌, ◌≢◌, ◌⊎◌, ℕ, ◌+◌, List, [], ◌∷◌, ◌++◌, take, Some, None}
-use Rattle.art_nodes.specs.InnerNode.{InnerNode}
+use Rattle.art_nodes.specs.declared.kind.NodeType.TheVariants.{Leaf}
+use Rattle.art_nodes.specs.InnerNode.{InnerNode, with_child, without_child, with_children}
 use Rattle.art_nodes.specs.Name.{Name}
-use Rattle.art_arena.specs.Arena.{Arena, Held, inner_held, held_at}
+use Rattle.art_arena.specs.Arena.{Arena, Held, inner_held, held_at, SameNodes}
 use Rattle.art_arena.specs.Cells.{UpdatesAt}
 
 -- the inner node under this name is edited so, and nothing else changed
@@ -32,3 +33,11 @@ lengthened P above byte node =
         stored = take P (above.header.stored ++ byte ∷ node.header.stored);
       };
     }
+
+-- the child, put back under the byte after it was taken out, gives the node as it was
+abbrev pub PutsBack : InnerNode → ℕ → Name → Type 0
+PutsBack n byte child = with_children (with_children n (without_child n.children byte)) (with_child (without_child n.children byte) byte child) ≡ n
+
+-- what stands under the name is so lengthened, if it is an inner node; nothing else changed
+abbrev pub Lengthens : {K V : Type 0} → ℕ → Arena K V → Arena K V → InnerNode → ℕ → Name → Type 0
+Lengthens P old new above byte name = (name.kind ≡ Leaf → SameNodes old new) × (name.kind ≢ Leaf → EditsNode old new name (lengthened P above byte))

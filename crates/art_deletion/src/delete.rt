@@ -1,3 +1,4 @@
 //! Deletion: the change of the tree.
 
 pub mod apply;
+mod detach;
