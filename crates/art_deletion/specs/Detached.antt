@@ -19,6 +19,16 @@ module _ {K V : Type 0} (bytes : K → List ℕ) (P : ℕ) (arena : Arena K V) w
     pub around : AreAround bytes ctx
     pub begins : BeginsWith (path_to ctx) (bytes leaf.key)
 
+  -- so does a leaf with this slab key, below this node under this byte
+  pub record IsChildLeaf (parent : Name) (byte slot : ℕ) : Type 0 where
+    pub frame : Frame K V
+    pub outer : List (Frame K V)
+    pub leaf : LeafAt K V
+    pub held : IsHeldAt (frame ∷ outer) leaf
+    pub named : frame.name ≡ parent
+    pub under : frame.byte ≡ byte
+    pub slot_is : leaf.slot ≡ slot
+
   -- it holds the leaf apart, and below this name what is left of the frame's node, to which the frames above don't point yet
   pub record StandsFor (f : Frame K V) (outer : List (Frame K V)) (leaf : LeafAt K V) (other : Name) : Type 0 where
     pub rest : Shape K V

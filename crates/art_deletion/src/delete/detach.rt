@@ -2,19 +2,23 @@
 ghost use Rattle.std.specs.Prelude.{◌≡◌, ◌≢◌, ◌<◌, ◌≤◌, ◌+◌, ◌^◌, ℕ, suc, List, ◌∷◌, ◌++◌, Some, None, IsSome, IfOk, IsOk, OnErr, length, take};
 ghost use Rattle.art_nodes.specs.Header.{IsHeader};
 ghost use Rattle.art_nodes.specs.InnerNode as node;
-ghost use Rattle.art_nodes.specs.InnerNode.{child_at, without_child, with_children};
+ghost use Rattle.art_nodes.specs.InnerNode.{child_at, with_child, without_child, with_children};
 ghost use Rattle.art_nodes.specs.Kind.{row_of, CanShrink};
 ghost use Rattle.art_nodes.specs.Name.{Name};
-ghost use Rattle.art_arena.specs.Arena.{Arena, held_at, inner_held, node_at, HasRoom, SameNodes};
+ghost use Rattle.art_arena.specs.Arena.{Arena, held_at, inner_held, node_at, links_at, HasRoom, SameNodes};
 ghost use Rattle.art_arena.specs.Cells.{UpdatesAt};
-ghost use Rattle.art_arena.specs.Kinds.{IsKindOf};
-ghost use Rattle.art_arena.specs.Meaning.{IsSubtree};
-ghost use Rattle.art_arena.specs.Shapes.{Shape};
+ghost use Rattle.art_arena.specs.Kinds.{IsKindOf, ChangesKind};
+ghost use Rattle.art_arena.specs.Meaning.{IsSubtree, IsNodes};
+ghost use Rattle.art_arena.specs.Shapes.{Shape, width, leaves};
+ghost use Rattle.art_arena.specs.Shrinks.{Shrinks};
+ghost use Rattle.art_arena.specs.Steps.{steps_of};
+ghost use Rattle.art_operations.specs.DeletePoints.{IsLeafPlace};
+ghost use Rattle.art_deletion.specs.Detached.{IsChildLeaf, StandsFor, IsDetached};
 ghost use Rattle.art_deletion.specs.Removals.{EditsNode, Moves, PutsBack, IsOther, Lengthens};
 
 use crate::edit::{copy_prefix, drop_node, remove_child, shrink, write_child};
 use art_arena::inner::{first_child, header, last_child};
-use art_arena::{NodeArena, first_leaf};
+use art_arena::{LeafPtr, NodeArena, TreePath, first_leaf};
 use art_bytes::AsBytes;
 use art_nodes::{Header, KindLeaf, NodeType, OpaqueNodePtr};
 use std::alloc::AllocError;
@@ -162,4 +166,89 @@ fn merge<K: AsBytes, V, const PREFIX_LEN: usize>(
     lengthen(arena, parent, edge, child);
     drop_node(arena, parent);
     child
+}
+
+// Takes a leaf out of the node above it, and answers what then stands for that node: itself, one of the next smaller
+// kind, or its only other child. It is refused where there is no memory for the smaller one; nothing changes then.
+fn take_out<K: AsBytes, V, const PREFIX_LEN: usize>(
+    arena: &mut NodeArena<K, V, PREFIX_LEN>,
+    parent: OpaqueNodePtr,
+    byte: u8,
+    leaf: LeafPtr,
+) -> Result<OpaqueNodePtr, AllocError>
+    requires { IsChildLeaf K.bytes PREFIX_LEN arena.old parent byte leaf }
+    ensures ok { IfOk result (λ other. (there : IsChildLeaf K.bytes PREFIX_LEN arena.old parent byte leaf) → StandsFor K.bytes PREFIX_LEN arena.new there.frame there.outer there.leaf other) }
+    ensures links { (slot : ℕ) → links_at arena.new slot ≡ links_at arena.old slot }
+    ensures err { OnErr result (SameNodes arena.old arena.new) }
+    ensures shrinks { OnErr result ((there : IsChildLeaf K.bytes PREFIX_LEN arena.old parent byte leaf) → ChangesKind (suc (width there.frame.before + width there.frame.after))) }
+    ensures succeeds { HasRoom arena.old 1 → IsOk result }
+    ensures room { (n : ℕ) → HasRoom arena.old (n + 1) → HasRoom arena.new n }
+{
+    arena.prefix_fits(parent);
+    if header(arena, parent).num_children() == 2 {
+        return Ok(merge(arena, parent, byte));
+    }
+    take_child(arena, parent, byte, leaf.to_opaque())
+}
+
+// Lets another node stand under the byte of a node, if it is another.
+fn point_at<K, V, const PREFIX_LEN: usize>(
+    arena: &mut NodeArena<K, V, PREFIX_LEN>,
+    above: OpaqueNodePtr,
+    byte: u8,
+    old: OpaqueNodePtr,
+    new: OpaqueNodePtr,
+)
+    requires inner { above.kind ≢ NodeType.Leaf }
+    requires there { (n : node.InnerNode) × (held_at arena.old above ≡ Some (inner_held n)) × IsSome (child_at n.children byte) }
+    ensures same { new ≡ old → SameNodes arena.old arena.new }
+    ensures other { new ≢ old → EditsNode arena.old arena.new above (λ n. with_children n (with_child n.children byte new)) }
+    ensures room { (n : ℕ) → HasRoom arena.old n → HasRoom arena.new n }
+{
+    if new == old {
+        return;
+    }
+    write_child(arena, above, byte, new);
+}
+
+/// Takes a leaf out of the inner nodes above it, and answers the root of what is left, if it isn't the root itself. The
+/// leaf stays in the arena and in the list of leaves. It is refused where the node above it becomes one of the next
+/// smaller kind and there is no memory for that one; nothing changes then.
+pub(crate) fn detach<K: AsBytes, V, const PREFIX_LEN: usize>(
+    arena: &mut NodeArena<K, V, PREFIX_LEN>,
+    root: OpaqueNodePtr,
+    path: TreePath,
+    leaf: LeafPtr,
+) -> Result<Option<OpaqueNodePtr>, AllocError>
+    requires { (s : Shape K V) × IsNodes K.bytes PREFIX_LEN (node_at arena.old) root s × IsLeafPlace K.bytes s leaf (steps_of path) }
+    ensures ok { IfOk result (λ left. (s : Shape K V) → IsNodes K.bytes PREFIX_LEN (node_at arena.old) root s → (place : IsLeafPlace K.bytes s leaf (steps_of path))
+        → IsDetached K.bytes PREFIX_LEN arena.new s (record { slot = leaf; key = place.key; value = place.value }) left) }
+    ensures links { (slot : ℕ) → links_at arena.new slot ≡ links_at arena.old slot }
+    ensures err { OnErr result (SameNodes arena.old arena.new) }
+    ensures shrinks { OnErr result ((s : Shape K V) → IsNodes K.bytes PREFIX_LEN (node_at arena.old) root s → (place : IsLeafPlace K.bytes s leaf (steps_of path))
+        → Shrinks (λ l. K.bytes l.key) (leaves s) (K.bytes place.key)) }
+    ensures succeeds { HasRoom arena.old 1 → IsOk result }
+    ensures room { (n : ℕ) → HasRoom arena.old (n + 1) → HasRoom arena.new n }
+{
+    match path {
+        TreePath::Root => Ok(None),
+        TreePath::ChildOfRoot {
+            parent,
+            child_key_byte,
+        } => {
+            let left = take_out(arena, parent.to_opaque(), child_key_byte, leaf)?;
+            Ok(Some(left))
+        }
+        TreePath::Normal {
+            grandparent,
+            parent_key_byte,
+            parent,
+            child_key_byte,
+        } => {
+            let parent = parent.to_opaque();
+            let left = take_out(arena, parent, child_key_byte, leaf)?;
+            point_at(arena, grandparent.to_opaque(), parent_key_byte, parent, left);
+            Ok(Some(root))
+        }
+    }
 }
