@@ -16,3 +16,8 @@ module _ {A E : Type 0} where
   pub either_way : (r : Result A E) (P Q : A → Type 0) (R S : Type 0) → IfOk r P → IfOk r Q → OnErr r R → ((x : A) → P x → Q x → S) → (R → S) → S
   either_way (Ok x) P Q R S p q e f h = f x p q
   either_way (Err err) P Q R S p q e f h = h e
+
+  -- what holds anyway
+  pub always_err : (r : Result A E) (P : Type 0) → P → OnErr r P
+  always_err (Ok x) P p = tt
+  always_err (Err e) P p = p
