@@ -1,25 +1,19 @@
 -- A leaf's cell set apart from those of its tree, and what becomes of the node above it.
-use Rattle.std.proofs.Common.{◌≡◌, ◌≢◌, ℕ, suc, zero, ◌+◌, ◌≤◌, ◌⊎◌, true, false, cond, List, [], ◌∷◌, ◌++◌, length, take, Option, Some, None, inl, inr, refl, sym, ap, ap₂, subst, ◌∙◌, arith, append_assoc, length-append}
-use Rattle.std.proofs.lemmas.List.{append-nil}
-use Rattle.art_bytes.specs.Keys.{BeginsWith}
+use Rattle.std.proofs.Common.{◌≡◌, ◌≢◌, ℕ, ◌+◌, ◌≤◌, cond, List, [], ◌∷◌, ◌++◌, Option, Some, None, inl, inr, refl, sym, ap, subst, ◌∙◌, arith, append_assoc}
 use Rattle.art_nodes.specs.Name.{Name}
 use Rattle.art_nodes.specs.InnerNode.{InnerNode, without_child, with_children}
-use Rattle.art_nodes.specs.declared.kind.NodeType.TheVariants.{Leaf}
-use Rattle.art_arena.specs.Arena.{Arena, Held, inner_held, held_at, cell_of, node_at}
+use Rattle.art_arena.specs.Arena.{Arena, inner_held, held_at, cell_of, node_at}
 use Rattle.art_arena.specs.Cells.{Cell, pair, branches, leaf_name, same_name, copies, Holds, UpdatesAt}
-use Rattle.art_arena.specs.Context.{Frame, plug, path_to, frame_cell, cells_before, cells_after, AreBelow, AreAround}
+use Rattle.art_arena.specs.Context.{Frame, plug, path_to, frame_cell, cells_before, cells_after, AreBelow}
 use Rattle.art_arena.specs.Kinds.{IsKindOf}
-use Rattle.art_arena.specs.Shapes.{Shape, Branches, leaf_at, inner_at, no_branch, branch, LeafAt, name_of, children_at, join, width, leaves, leaves_in, cells, cells_in, node_of, IsUnder, AreUnder}
+use Rattle.art_arena.specs.Shapes.{Branches, leaf_at, inner_at, no_branch, branch, LeafAt, children_at, join, width, cells, cells_in, AreUnder}
 use Rattle.art_arena.proofs.Order.{all_append, all_left, all_right}
-use Rattle.art_arena.proofs.CellLists.{same_name_tells, same_name-self, copies-append, Holds-add, Holds-write, Holds-remove, Holds-same}
+use Rattle.art_arena.proofs.CellLists.{same_name_tells, same_name-self, copies-append, Holds-add, Holds-write, Holds-remove}
 use Rattle.art_arena.proofs.Contexts.{children_at-join, leaves_in-join, cells_in-join, width-join, cells-plug}
 use Rattle.art_arena.proofs.Openings.{without_child-frame}
 use Rattle.art_arena.proofs.Repoint.{frame_node}
-use Rattle.art_arena.proofs.Updates.{nodes-update, nodes-same}
 use Rattle.art_deletion.specs.Detached.{alone, IsHeldAt, StandsFor}
-use Rattle.art_deletion.specs.Removals.{Moves, Lengthens, lengthened, IsOther}
-use Rattle.art_deletion.proofs.Headers.{joined}
-use Rattle.art_deletion.proofs.Merging.{kind_not_leaf}
+use Rattle.art_deletion.specs.Removals.{Moves}
 
 module _ {C : Type 0} where
   -- a cell may stand last

@@ -1,10 +1,10 @@
 -- A leaf that stands apart leaves the list, and then the arena.
-use Rattle.std.proofs.Common.{◌≡◌, ℕ, ◌+◌, ◌≤◌, cond, List, [], ◌∷◌, ◌++◌, Option, Some, None, IsSome, is_some, refl, sym, ap, ap₂, subst, ◌∙◌, arith}
+use Rattle.std.proofs.Common.{◌≡◌, ℕ, ◌+◌, cond, List, [], ◌∷◌, ◌++◌, Option, Some, None, is_some, refl, sym, ap, ap₂, subst, ◌∙◌, arith}
 use Rattle.std.proofs.lemmas.List.{append-nil}
 use Rattle.art_nodes.specs.Name.{Name}
 use Rattle.art_nodes.specs.declared.leaf.LeafNode.{LeafNode}
 use Rattle.art_arena.specs.Arena.{Arena, leaf_held, cell_of, held_at, node_at, links_at}
-use Rattle.art_arena.specs.Cells.{Cell, pair, leaf_name, AreHeld, Holds, UpdatesAt}
+use Rattle.art_arena.specs.Cells.{Cell, pair, leaf_name, Holds, UpdatesAt}
 use Rattle.art_arena.specs.Linked.{Links, AreLinked, times, IsList}
 use Rattle.art_arena.specs.Meaning.{IsTree}
 use Rattle.art_arena.specs.Shapes.{Shape, LeafAt, leaves, cells}
@@ -14,7 +14,6 @@ use Rattle.art_arena.proofs.Order.{all_right}
 use Rattle.art_arena.proofs.Subtrees.{HoldsPair, pair_of}
 use Rattle.art_arena.proofs.Surroundings.{tree-list}
 use Rattle.art_arena.proofs.Updates.{nodes-update, links-update}
-use Rattle.art_operations.specs.declared.delete.result.DeleteResult.{DeleteResult}
 use Rattle.art_operations.specs.Deletions.{HasLeaves, IsDeleted}
 use Rattle.art_deletion.specs.Detached.{alone, IsDetached}
 

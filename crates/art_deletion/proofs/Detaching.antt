@@ -1,15 +1,14 @@
 -- From what stands for the node above a leaf to the tree without the leaf.
-use Rattle.std.proofs.Common.{◌≡◌, ◌≢◌, ℕ, suc, ◌+◌, List, [], ◌∷◌, ◌++◌, take, Option, Some, IsSome, inl, inr, refl, sym, ap, ap₂, subst, ◌∙◌, arith, append_assoc}
-use Rattle.std.proofs.lemmas.List.{append-nil}
+use Rattle.std.proofs.Common.{◌≡◌, ◌≢◌, ℕ, List, [], ◌∷◌, ◌++◌, Some, IsSome, inl, inr, refl, sym, ap, subst, ◌∙◌, append_assoc}
 use Rattle.art_nodes.specs.Name.{Name}
 use Rattle.art_nodes.specs.InnerNode.{InnerNode, child_at, with_child, with_children}
 use Rattle.art_nodes.specs.declared.kind.NodeType.TheVariants.{Leaf}
 use Rattle.art_arena.specs.Arena.{Arena, inner_held, held_at, node_at, links_at, SameNodes}
-use Rattle.art_arena.specs.Cells.{Cell, pair, branches, leaf_name, Holds, UpdatesAt}
+use Rattle.art_arena.specs.Cells.{Cell, Holds}
 use Rattle.art_arena.specs.Context.{Frame, plug, path_to, leaves_before, leaves_after, root_of, cells_before, cells_after, AreAround}
 use Rattle.art_arena.specs.Meaning.{IsNodes}
 use Rattle.art_arena.specs.Shapes.{Shape, leaf_at, LeafAt, name_of, leaves, leaves_in, cells, IsUnder}
-use Rattle.art_arena.specs.Steps.{Step, steps_to}
+use Rattle.art_arena.specs.Steps.{Step}
 use Rattle.art_arena.proofs.CellLists.{same_name_tells, Holds-same}
 use Rattle.art_arena.proofs.Contexts.{leaves-plug, cells-plug, name_of-plug, IsUnder-plug}
 use Rattle.art_arena.proofs.Repoint.{frame_node, frame-there, frame-child, frame-inner, repoint, at_root, HasParent, parent-of, HasGrandparent, grandparent-of, no-grandparent}

@@ -1,13 +1,10 @@
 -- A node of two children without a leaf: the other child stands for it, behind a longer prefix.
-use Rattle.std.proofs.Common.{◌≡◌, ◌≢◌, ℕ, suc, ◌+◌, ◌≤◌, ◌⊎◌, cond, Option, is_some, List, [], ◌∷◌, ◌++◌, length, take, Some, None, inl, inr, refl, sym, ap, ap₂, subst, ◌∙◌, arith, append_assoc, length-append}
+use Rattle.std.proofs.Common.{◌≡◌, ◌≢◌, ℕ, ◌+◌, ◌≤◌, cond, Option, is_some, List, [], ◌∷◌, ◌++◌, length, take, Some, None, inl, inr, refl, sym, ap, ap₂, subst, ◌∙◌, arith, append_assoc, length-append}
 use Rattle.std.proofs.lemmas.List.{append-nil}
-use Rattle.art_bytes.specs.Keys.{BeginsWith}
 use Rattle.art_nodes.specs.Name.{Name}
-use Rattle.art_nodes.specs.Header.{Header}
 use Rattle.art_nodes.specs.InnerNode.{InnerNode}
-use Rattle.art_nodes.specs.declared.kind.NodeType.TheVariants.{Leaf}
-use Rattle.art_arena.specs.Arena.{Arena, inner_held, held_at, node_at}
-use Rattle.art_arena.specs.Cells.{Cell, pair, branches, leaf_name, copies, Holds, UpdatesAt}
+use Rattle.art_arena.specs.Arena.{Arena, held_at, node_at}
+use Rattle.art_arena.specs.Cells.{Cell, branches, leaf_name, copies, Holds, UpdatesAt}
 use Rattle.art_arena.specs.Context.{Frame, path_to, frame_cell, cells_before, cells_after, AreBelow}
 use Rattle.art_arena.specs.Meaning.{IsPart, IsSubtree}
 use Rattle.art_arena.specs.Shapes.{Shape, Branches, leaf_at, inner_at, no_branch, branch, LeafAt, name_of, children_at, join, width, leaves, leaves_in, cells, cells_in, node_of, IsUnder, AreUnder}
@@ -20,8 +17,8 @@ use Rattle.art_arena.proofs.Updates.{nodes-update, nodes-same}
 use Rattle.art_deletion.specs.Detached.{alone, IsHeldAt, StandsFor}
 use Rattle.art_deletion.specs.Removals.{Lengthens, lengthened, IsOther}
 use Rattle.art_deletion.proofs.Apart.{set_apart, AreUnder-closed}
-use Rattle.art_deletion.proofs.Headers.{joined}
-use Rattle.art_deletion.proofs.Merging.{kind_not_leaf}
+use Rattle.art_deletion.proofs.JoinedPrefixes.{joined}
+use Rattle.art_deletion.proofs.Lengthened.{kind_not_leaf}
 
 module _ {K V : Type 0} where
   -- the shape behind a longer prefix
@@ -40,7 +37,7 @@ module _ {K V : Type 0} where
   -- the cell of a node whose prefix is lengthened
   lengthened_cell : (P : ℕ) (prefix : List ℕ) (b : ℕ) (q : List ℕ) (kids above : List (ℕ × Name))
       → ◌≡◌ {A = Cell K V} (branches (lengthened P (record { header = record { num_children = length above; prefix_len = length prefix; stored = take P prefix }; children = above }) b
-          (record { header = record { num_children = length kids; prefix_len = length q; stored = take P q }; children = kids })))
+      (record { header = record { num_children = length kids; prefix_len = length q; stored = take P q }; children = kids })))
       (node_of P (prefix ++ b ∷ q) kids)
   lengthened_cell P prefix b q kids above =
       let len : length prefix + 1 + length q ≡ length (prefix ++ b ∷ q) = omega (arith, length-append prefix (b ∷ q)) in

@@ -1,28 +1,26 @@
 -- A leaf whose loss changes the kind of the node above it, by the keys alone.
-use Rattle.std.proofs.Common.{◌≡◌, ◌≢◌, ℕ, zero, suc, ◌+◌, eqb, cond, List, [], ◌∷◌, ◌++◌, length, drop, map, refl, sym, ap, ap₂, subst, ◌∙◌, inl, inr, arith, append_assoc, drop_at}
+use Rattle.std.proofs.Common.{◌≡◌, ℕ, suc, ◌+◌, List, [], ◌∷◌, ◌++◌, length, drop, map, refl, sym, ap, ap₂, subst, ◌∙◌, inl, inr, arith, append_assoc, drop_at}
 use Rattle.std.specs.List.{filter_map, cons_option}
 use Rattle.std.specs.Prelude.{Option, nat_eq}
-use Rattle.std.proofs.lemmas.Bool.{cond-true, cond-false}
 use Rattle.std.proofs.lemmas.Bool.Decides.{eqb_tells}
-use Rattle.art_bytes.specs.Keys.{BeginsWith}
 use Rattle.art_nodes.specs.Name.{Name}
 use Rattle.art_arena.specs.Arena.{Arena, node_at}
 use Rattle.art_arena.specs.Changes.{IsIn}
 use Rattle.art_arena.specs.Context.{Frame, fill, plug, path_to, leaves_before, leaves_after, AreBelow, AreAround}
-use Rattle.art_arena.specs.Fronts.{byte_after, bytes_after, width_of, distinct}
+use Rattle.art_arena.specs.Fronts.{byte_after, width_of, distinct}
 use Rattle.art_arena.specs.Kinds.{ChangesKind}
 use Rattle.art_arena.specs.Meaning.{IsNodes}
 use Rattle.art_arena.specs.Order.{common}
-use Rattle.art_arena.specs.Shapes.{Shape, Branches, leaf_at, no_branch, branch, LeafAt, join, leaves, pairs_of, width, erase, erase_in, key_of, IsUnder}
-use Rattle.art_arena.specs.Shrinks.{IsMeeting, Shrinks}
+use Rattle.art_arena.specs.Shapes.{Shape, Branches, leaf_at, no_branch, branch, join, leaves, width, erase, erase_in, key_of, IsUnder}
+use Rattle.art_arena.specs.Shrinks.{Shrinks}
 use Rattle.art_arena.specs.Steps.{Step}
-use Rattle.art_arena.specs.Trees.{Tree, items, count, IsCanonical}
+use Rattle.art_arena.specs.Trees.{items, count, IsCanonical}
 use Rattle.art_arena.proofs.Contexts.{leaves-plug, width-join}
 use Rattle.art_arena.proofs.Delete.{last_count, last_in}
 use Rattle.art_arena.proofs.Erased.{items-erase, count-erase, canonical-erase}
 use Rattle.art_arena.proofs.Fronts.{widths}
 use Rattle.art_arena.proofs.Insert.{in_right}
-use Rattle.art_arena.proofs.Paths.{in_map, Stored}
+use Rattle.art_arena.proofs.Paths.{in_map}
 use Rattle.art_arena.proofs.Shrinks.{TreeMeets, meets, shrinks_is_kind_change}
 use Rattle.art_operations.specs.DeletePoints.{IsLeafPlace}
 use Rattle.art_deletion.proofs.Detaching.{the_parent, the_leaf, whole_is, held_at_place}

@@ -2,3 +2,4 @@
 
 pub mod apply;
 mod detach;
+mod merge;

@@ -1,11 +1,6 @@
-use Rattle.std.proofs.Common.{◌≡◌, List, [], ◌∷◌, refl, sym, ap, ◌∙◌, lit<}
+use Rattle.std.proofs.Common.{[], ◌∷◌, sym, ap, ◌∙◌, lit<}
 use Rattle.art_nodes.specs.Concrete.{inner_name_of}
-use Rattle.art_arena.specs.Arena.{node_at, links_at}
-use Rattle.art_arena.specs.Meaning.{IsNodes}
-use Rattle.art_arena.specs.Shapes.{Shape}
-use Rattle.art_arena.specs.Steps.{Step, steps_of}
-use Rattle.art_operations.specs.DeletePoints.{IsLeafPlace}
-use Rattle.art_deletion.specs.Detached.{IsChildLeaf}
+use Rattle.art_arena.specs.Steps.{steps_of}
 use Rattle.art_deletion.proofs.Detaching.{lone, child_leaf, apart_of_root, grand_node, grand_there, grand_child, grand_inner, apart_below, links_below}
 use Rattle.art_deletion.proofs.Results.{always_err}
 use Rattle.art_deletion.proofs.Shrinking.{place_shrinks}
@@ -22,8 +17,8 @@ take_out-requires g c =
 pub returns-in_err-left-in-ChildOfRoot-clause-shrinks : goal.returns-in_err-left-in-ChildOfRoot-clause-shrinks
 returns-in_err-left-in-ChildOfRoot-clause-shrinks g c =
     always_err c.from_residual.result _ (λ s nodes place.
-      place_shrinks g.K.AsBytes.bytes g.row.PREFIX_LEN c.args.arena.now c.args.root s c.args.leaf (steps_of c.args.path) (record { node = inner_name_of c.in-ChildOfRoot.parent; byte = c.in-ChildOfRoot.child_key_byte }) [] (ap steps_of c.in-ChildOfRoot.is) c.to_opaque.result (sym c.to_opaque.ensures) nodes place
-      (c.in_err-left-in-ChildOfRoot.ensures.shrinks (child_leaf g.K.AsBytes.bytes g.row.PREFIX_LEN c.args.arena.now c.args.root s c.args.leaf (steps_of c.args.path) (record { node = inner_name_of c.in-ChildOfRoot.parent; byte = c.in-ChildOfRoot.child_key_byte }) [] (ap steps_of c.in-ChildOfRoot.is) c.to_opaque.result (sym c.to_opaque.ensures) nodes place)))
+    place_shrinks g.K.AsBytes.bytes g.row.PREFIX_LEN c.args.arena.now c.args.root s c.args.leaf (steps_of c.args.path) (record { node = inner_name_of c.in-ChildOfRoot.parent; byte = c.in-ChildOfRoot.child_key_byte }) [] (ap steps_of c.in-ChildOfRoot.is) c.to_opaque.result (sym c.to_opaque.ensures) nodes place
+    (c.in_err-left-in-ChildOfRoot.ensures.shrinks (child_leaf g.K.AsBytes.bytes g.row.PREFIX_LEN c.args.arena.now c.args.root s c.args.leaf (steps_of c.args.path) (record { node = inner_name_of c.in-ChildOfRoot.parent; byte = c.in-ChildOfRoot.child_key_byte }) [] (ap steps_of c.in-ChildOfRoot.is) c.to_opaque.result (sym c.to_opaque.ensures) nodes place)))
 
 pub returns-in_ok-left-in-ChildOfRoot-clause-ok : goal.returns-in_ok-left-in-ChildOfRoot-clause-ok
 returns-in_ok-left-in-ChildOfRoot-clause-ok g c = λ s nodes place.
@@ -38,8 +33,8 @@ take_out-requires-in-Normal g c =
 pub returns-in_err-left-in-Normal-clause-shrinks : goal.returns-in_err-left-in-Normal-clause-shrinks
 returns-in_err-left-in-Normal-clause-shrinks g c =
     always_err c.from_residual-in_err-left-in-Normal.result _ (λ s nodes place.
-      place_shrinks g.K.AsBytes.bytes g.row.PREFIX_LEN c.args.arena.now c.args.root s c.args.leaf (steps_of c.args.path) (record { node = inner_name_of c.in-Normal.parent; byte = c.in-Normal.child_key_byte }) ((record { node = inner_name_of c.in-Normal.grandparent; byte = c.in-Normal.parent_key_byte }) ∷ []) (ap steps_of c.in-Normal.is) c.to_opaque-parent.result (sym c.to_opaque-parent.ensures) nodes place
-      (c.in_err-left-in-Normal.ensures.shrinks (child_leaf g.K.AsBytes.bytes g.row.PREFIX_LEN c.args.arena.now c.args.root s c.args.leaf (steps_of c.args.path) (record { node = inner_name_of c.in-Normal.parent; byte = c.in-Normal.child_key_byte }) ((record { node = inner_name_of c.in-Normal.grandparent; byte = c.in-Normal.parent_key_byte }) ∷ []) (ap steps_of c.in-Normal.is) c.to_opaque-parent.result (sym c.to_opaque-parent.ensures) nodes place)))
+    place_shrinks g.K.AsBytes.bytes g.row.PREFIX_LEN c.args.arena.now c.args.root s c.args.leaf (steps_of c.args.path) (record { node = inner_name_of c.in-Normal.parent; byte = c.in-Normal.child_key_byte }) ((record { node = inner_name_of c.in-Normal.grandparent; byte = c.in-Normal.parent_key_byte }) ∷ []) (ap steps_of c.in-Normal.is) c.to_opaque-parent.result (sym c.to_opaque-parent.ensures) nodes place
+    (c.in_err-left-in-Normal.ensures.shrinks (child_leaf g.K.AsBytes.bytes g.row.PREFIX_LEN c.args.arena.now c.args.root s c.args.leaf (steps_of c.args.path) (record { node = inner_name_of c.in-Normal.parent; byte = c.in-Normal.child_key_byte }) ((record { node = inner_name_of c.in-Normal.grandparent; byte = c.in-Normal.parent_key_byte }) ∷ []) (ap steps_of c.in-Normal.is) c.to_opaque-parent.result (sym c.to_opaque-parent.ensures) nodes place)))
 
 pub point_at-requires : goal.point_at-requires
 point_at-requires g c =

@@ -1,19 +1,14 @@
-use Rattle.std.proofs.Common.{◌≡◌, ◌≢◌, ℕ, suc, IsSome, refl, sym, ap, ◌∙◌, subst, lit<, rules, arith}
+use Rattle.std.proofs.Common.{◌≡◌, ◌≢◌, ℕ, suc, ◌+◌, IsSome, refl, sym, ap, ◌∙◌, subst, lit<, rules, arith}
 use Rattle.art_nodes.specs.Header.{Header}
-use Rattle.art_nodes.specs.InnerNode.{InnerNode, without_child, with_children}
-use Rattle.art_nodes.specs.Kind.{CanShrink}
-use Rattle.art_nodes.specs.Name.{Name}
 use Rattle.art_nodes.specs.declared.kind.NodeType.TheVariants.{Leaf}
-use Rattle.art_arena.specs.Arena.{inner_held, held_at, links_at, SameNodes}
-use Rattle.art_arena.specs.Kinds.{IsKindOf}
+use Rattle.art_arena.specs.Arena.{held_at, links_at}
 use Rattle.art_arena.specs.Shapes.{name_of}
 use Rattle.art_arena.proofs.Updates.{links-same}
 use Rattle.art_deletion.specs.Detached.{IsChildLeaf, StandsFor}
-use Rattle.art_deletion.specs.Removals.{Moves}
 use Rattle.art_deletion.proofs.Merges.{other_path, other_subtree, other_apart}
 use Rattle.art_deletion.proofs.Results.{both_ok, from_err, either_way}
 use Rattle.art_deletion.proofs.Rooms.{fewer}
-use Rattle.art_deletion.proofs.Taken.{node, others, node_there, node_inner, node_count, puts_leaf_back, has_room, taken_out, taken_links, limit_kind, one, one_other, shorter, merged_out, merged_links}
+use Rattle.art_deletion.proofs.TakenOut.{node, others, node_there, node_inner, node_count, puts_leaf_back, has_room, taken_out, taken_links, limit_kind, one, one_other, shorter, merged_out, merged_links}
 use Rattle.art_deletion.proofs.delete.detach.take_out.Goals as goal
 use Rattle.art_deletion.proofs.delete.detach.take_out.Goals.{After-num_children}
 
@@ -34,8 +29,7 @@ pub merge-requires : goal.merge-requires
 merge-requires g c =
     let t = c.requires in
     let two : suc (others g.K.AsBytes.bytes g.row.PREFIX_LEN c.args.arena.now c.args.parent c.args.byte c.args.leaf t) ≡ 2 = sym (count g ((goal.at.merge-requires g c).After-num_children) t) ∙ c.if-num_children-eq2.true in
-    let o = one g.K.AsBytes.bytes g.row.PREFIX_LEN c.args.arena.now c.args.parent c.args.byte c.args.leaf t two in
-    (
+    let o = one g.K.AsBytes.bytes g.row.PREFIX_LEN c.args.arena.now c.args.parent c.args.byte c.args.leaf t two in (
       lit< tt,
       (
         node_inner g.K.AsBytes.bytes g.row.PREFIX_LEN c.args.arena.now c.args.parent c.args.byte c.args.leaf t,
@@ -70,7 +64,7 @@ returns-then-num_children-eq2-clause-links g c =
     merged_links g.K.AsBytes.bytes g.row.PREFIX_LEN c.args.arena.now c.args.parent c.args.byte c.args.leaf t two m.0 c.merge.new.arena m.1 m.2
 
 pub returns-then-num_children-eq2-clause-room : goal.returns-then-num_children-eq2-clause-room
-returns-then-num_children-eq2-clause-room g c = λ n room. c.merge.ensures.room n (fewer c.args.arena.now n room)
+returns-then-num_children-eq2-clause-room g c = λ n room. c.merge.ensures.room n (fewer c.args.arena.now n (n + 1) (omega arith) room)
 
 pub take_child-requires : goal.take_child-requires
 take_child-requires g c =
@@ -80,8 +74,8 @@ take_child-requires g c =
 pub returns-clause-ok : goal.returns-clause-ok
 returns-clause-ok g c =
     both_ok c.take_child.result _ _ _ c.take_child.ensures.ok c.take_child.ensures.kind (λ other moves kind t.
-      let more : suc (others g.K.AsBytes.bytes g.row.PREFIX_LEN c.args.arena.now c.args.parent c.args.byte c.args.leaf t) ≢ 2 = λ e. c.if-num_children-eq2.false (count g ((goal.at.returns-clause-ok g c).After-num_children) t ∙ e) in
-      taken_out g.K.AsBytes.bytes g.row.PREFIX_LEN c.args.arena.now c.args.parent c.args.byte c.args.leaf t c.take_child.new.arena other (moves (node g.K.AsBytes.bytes g.row.PREFIX_LEN c.args.arena.now c.args.parent c.args.byte c.args.leaf t) (node_there g.K.AsBytes.bytes g.row.PREFIX_LEN c.args.arena.now c.args.parent c.args.byte c.args.leaf t)) (kind (node g.K.AsBytes.bytes g.row.PREFIX_LEN c.args.arena.now c.args.parent c.args.byte c.args.leaf t) (node_there g.K.AsBytes.bytes g.row.PREFIX_LEN c.args.arena.now c.args.parent c.args.byte c.args.leaf t)) more)
+    let more : suc (others g.K.AsBytes.bytes g.row.PREFIX_LEN c.args.arena.now c.args.parent c.args.byte c.args.leaf t) ≢ 2 = λ e. c.if-num_children-eq2.false (count g ((goal.at.returns-clause-ok g c).After-num_children) t ∙ e) in
+    taken_out g.K.AsBytes.bytes g.row.PREFIX_LEN c.args.arena.now c.args.parent c.args.byte c.args.leaf t c.take_child.new.arena other (moves (node g.K.AsBytes.bytes g.row.PREFIX_LEN c.args.arena.now c.args.parent c.args.byte c.args.leaf t) (node_there g.K.AsBytes.bytes g.row.PREFIX_LEN c.args.arena.now c.args.parent c.args.byte c.args.leaf t)) (kind (node g.K.AsBytes.bytes g.row.PREFIX_LEN c.args.arena.now c.args.parent c.args.byte c.args.leaf t) (node_there g.K.AsBytes.bytes g.row.PREFIX_LEN c.args.arena.now c.args.parent c.args.byte c.args.leaf t)) more)
 
 pub returns-clause-links : goal.returns-clause-links
 returns-clause-links g c =

@@ -1,21 +1,12 @@
--- Edits of one node of an arena, as those of what a contract sees of it.
-use Rattle.std.proofs.Common.{◌≡◌, ℕ, Option, Some, inl, inr, ap, subst, sym, ◌∙◌}
+-- One node of an arena, and one from which a child was taken out and put back.
+use Rattle.std.proofs.Common.{◌≡◌, ℕ, Option, Some, inl, inr, ap, sym, ◌∙◌}
 use Rattle.art_nodes.specs.InnerNode.{InnerNode, with_child, without_child, with_children}
 use Rattle.art_nodes.specs.Name.{Name}
 use Rattle.art_arena.specs.Arena.{Arena, Held, inner_held, held_at, SameNodes}
-use Rattle.art_arena.specs.Cells.{UpdatesAt}
 use Rattle.art_deletion.specs.Removals.{EditsNode, PutsBack}
 use Rattle.art_arena.proofs.CellLists.{same_name_tells}
 
 module _ {K V : Type 0} where
-  -- a node that is written is edited as what is seen of it
-  pub edits : (old new : Arena K V) (name : Name) (was now : Held K V) (x y : InnerNode) (edit : InnerNode → InnerNode)
-      → held_at old name ≡ Some was → was ≡ inner_held x → now ≡ inner_held y → y ≡ edit x → UpdatesAt (held_at old) (held_at new) name (Some now) → EditsNode old new name edit
-  edits old new name was now x y edit there seen seen_now edited update = λ n held.
-      let node : ◌≡◌ {A = Held K V} (inner_held x) (inner_held n) = cc in
-      let same : x ≡ n = cc in
-      subst (λ h. UpdatesAt (held_at old) (held_at new) name (Some h)) (seen_now ∙ ap inner_held (edited ∙ ap edit same)) update
-
   -- a child that was taken out and put back
   pub undone : (old without same new : Arena K V) (name : Name) (n : InnerNode) (byte : ℕ) (child : Name) → held_at old name ≡ Some (inner_held n) → PutsBack n byte child
       → EditsNode old without name (λ n. with_children n (without_child n.children byte)) → SameNodes without same → EditsNode same new name (λ n. with_children n (with_child n.children byte child))

@@ -1,11 +1,11 @@
 -- A leaf below a node, and what its loss makes of the node.
-use Rattle.std.proofs.Common.{◌≡◌, ◌≢◌, ℕ, suc, ◌+◌, ◌-◌, ◌<◌, ◌≤◌, List, [], ◌∷◌, ◌++◌, length, Some, None, IsSomeAnd, inl, inr, refl, sym, ap, subst, ◌∙◌, arith, length-append}
+use Rattle.std.proofs.Common.{◌≡◌, ◌≢◌, ℕ, suc, ◌+◌, ◌<◌, ◌≤◌, List, [], ◌∷◌, ◌++◌, length, Some, None, sym, ap, subst, ◌∙◌, arith, length-append}
 use Rattle.art_nodes.specs.Name.{Name}
 use Rattle.art_nodes.specs.InnerNode.{InnerNode, without_child, with_children}
 use Rattle.art_nodes.specs.Kind.{row_of, CanShrink}
 use Rattle.art_nodes.specs.declared.kind.NodeType.{NodeType}
 use Rattle.art_nodes.specs.declared.kind.NodeType.TheVariants.{Node4, Node16, Node48, Node256, Leaf}
-use Rattle.art_arena.specs.Arena.{Arena, inner_held, held_at, links_at, node_at, SameNodes}
+use Rattle.art_arena.specs.Arena.{Arena, inner_held, held_at, links_at}
 use Rattle.art_arena.specs.Cells.{leaf_name, UpdatesAt}
 use Rattle.art_arena.specs.Context.{path_to}
 use Rattle.art_arena.specs.Kinds.{IsKindOf, ChangesKind}
@@ -14,9 +14,9 @@ use Rattle.art_arena.proofs.Updates.{links-kept}
 use Rattle.art_deletion.specs.Detached.{IsChildLeaf, StandsFor}
 use Rattle.art_deletion.specs.Removals.{Moves, PutsBack, Lengthens, IsOther}
 use Rattle.art_deletion.proofs.Apart.{taken}
-use Rattle.art_deletion.proofs.Merging.{kind_not_leaf}
-use Rattle.art_deletion.proofs.Merges.{OneLeft, one_left, other_path, other_subtree, other_apart, merged}
-use Rattle.art_deletion.proofs.Taking.{above, above_there, others_length, all_length, puts_back, moves_links, lengthens_links}
+use Rattle.art_deletion.proofs.Lengthened.{kind_not_leaf}
+use Rattle.art_deletion.proofs.Merges.{OneLeft, one_left, other_path, other_subtree, merged}
+use Rattle.art_deletion.proofs.Parents.{above, above_there, others_length, all_length, puts_back, moves_links, lengthens_links}
 
 -- where a node may shrink, the loss of a child changes its kind
 pub changes_kind : (kind : NodeType) (n : ℕ) → IsKindOf kind (suc n) → CanShrink kind n → ChangesKind (suc n)

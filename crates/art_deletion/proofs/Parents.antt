@@ -1,22 +1,20 @@
 -- The node above a leaf, and the leaf taken out of it.
-use Rattle.std.proofs.Common.{◌≡◌, ◌≢◌, ℕ, suc, ◌+◌, ◌<◌, ◌≤◌, List, [], ◌∷◌, ◌++◌, length, Some, inl, inr, refl, sym, ap, subst, ◌∙◌, arith, length-append}
+use Rattle.std.proofs.Common.{◌≡◌, ◌≢◌, ℕ, suc, ◌+◌, List, ◌∷◌, length, Some, refl, sym, ap, subst, ◌∙◌, arith, length-append}
 use Rattle.art_nodes.specs.Name.{Name}
 use Rattle.art_nodes.specs.InnerNode.{InnerNode, with_child, without_child, with_children}
-use Rattle.art_nodes.specs.Kind.{row_of}
 use Rattle.art_nodes.specs.declared.kind.NodeType.TheVariants.{Leaf}
 use Rattle.art_arena.specs.Arena.{Arena, inner_held, held_at, links_of, links_at, node_at}
 use Rattle.art_arena.specs.Cells.{leaf_name}
-use Rattle.art_arena.specs.Context.{Frame, AreAround}
-use Rattle.art_arena.specs.Kinds.{IsKindOf}
+use Rattle.art_arena.specs.Context.{Frame}
 use Rattle.art_arena.specs.Meaning.{IsSubtree}
-use Rattle.art_arena.specs.Shapes.{Shape, Branches, leaf_at, inner_at, no_branch, branch, LeafAt, name_of, children_at, join, width}
+use Rattle.art_arena.specs.Shapes.{Shape, Branches, leaf_at, inner_at, no_branch, branch, LeafAt, children_at, join, width}
 use Rattle.art_arena.proofs.Contexts.{children_at-join, cells-plug}
 use Rattle.art_arena.proofs.Openings.{with_child-opening, without_child-frame}
 use Rattle.art_arena.proofs.Repoint.{frame_node, frame-there}
 use Rattle.art_arena.proofs.Subtrees.{inner_of}
 use Rattle.art_deletion.specs.Detached.{IsHeldAt}
 use Rattle.art_deletion.specs.Removals.{Moves, PutsBack, Lengthens}
-use Rattle.art_deletion.proofs.Merging.{kind_not_leaf, others_kept}
+use Rattle.art_deletion.proofs.Lengthened.{kind_not_leaf, others_kept}
 use Rattle.art_arena.specs.Cells.{Holds}
 
 module _ {K V : Type 0} where

@@ -1,9 +1,9 @@
-use Rattle.std.proofs.Common.{◌≡◌, ◌+◌, ◌≤◌, length, refl, sym, ap, ◌∙◌, arith, lit<}
+use Rattle.std.proofs.Common.{◌≡◌, ◌+◌, ◌≤◌, length, refl, ap, ◌∙◌, arith, lit<}
 use Rattle.art_nodes.specs.InnerNode.{InnerNode}
 use Rattle.art_arena.specs.Prefixes.{prefix_of}
 use Rattle.art_arena.proofs.Prefixes.{header_of, first_leaf, read}
-use Rattle.art_deletion.proofs.Edits.{same_inner}
-use Rattle.art_deletion.proofs.delete.detach.prefixes_fit.Goals as goal
+use Rattle.art_deletion.proofs.PutBack.{same_inner}
+use Rattle.art_deletion.proofs.delete.merge.prefixes_fit.Goals as goal
 
 pub as_key_ref-requires : goal.as_key_ref-requires
 as_key_ref-requires g c =

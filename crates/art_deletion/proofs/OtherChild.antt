@@ -1,5 +1,5 @@
 -- The other one of two children.
-use Rattle.std.proofs.Common.{◌≡◌, ◌≢◌, ℕ, List, [], ◌∷◌, Some, None, inl, inr, refl, sym, ap, ◌∙◌, subst}
+use Rattle.std.proofs.Common.{◌≡◌, ◌≢◌, ℕ, List, Option, Some, None, inl, inr, sym, ap, ◌∙◌}
 use Rattle.art_nodes.specs.InnerNode.{first_child, last_child}
 use Rattle.art_nodes.specs.Name.{Name}
 use Rattle.art_deletion.specs.Removals.{IsOther}
@@ -19,12 +19,12 @@ last-other children byte other two first is same last at_end = elim two.are [
 
 pub has_first : (children : List (ℕ × Name)) (byte : ℕ) (other : ℕ × Name) → IsOther children byte other → first_child children ≡ None → ⊥
 has_first children byte other two none = elim two.are [
-  | inl a ↦ let e : Some (byte, two.child) ≡ None = sym (ap first_child a) ∙ none in cc
-  | inr a ↦ let e : Some other ≡ None = sym (ap first_child a) ∙ none in cc
+  | inl a ↦ let e : ◌≡◌ {A = Option (ℕ × Name)} (Some (byte, two.child)) None = sym (ap first_child a) ∙ none in cc
+  | inr a ↦ let e : ◌≡◌ {A = Option (ℕ × Name)} (Some other) None = sym (ap first_child a) ∙ none in cc
 ]
 
 pub has_last : (children : List (ℕ × Name)) (byte : ℕ) (other : ℕ × Name) → IsOther children byte other → last_child children ≡ None → ⊥
 has_last children byte other two none = elim two.are [
-  | inl a ↦ let e : Some other ≡ None = sym (ap last_child a) ∙ none in cc
-  | inr a ↦ let e : Some (byte, two.child) ≡ None = sym (ap last_child a) ∙ none in cc
+  | inl a ↦ let e : ◌≡◌ {A = Option (ℕ × Name)} (Some other) None = sym (ap last_child a) ∙ none in cc
+  | inr a ↦ let e : ◌≡◌ {A = Option (ℕ × Name)} (Some (byte, two.child)) None = sym (ap last_child a) ∙ none in cc
 ]

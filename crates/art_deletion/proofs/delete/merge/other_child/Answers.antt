@@ -1,6 +1,6 @@
-use Rattle.std.proofs.Common.{refl, sym, ◌∙◌}
-use Rattle.art_deletion.proofs.Others.{first-other, last-other, has_first, has_last}
-use Rattle.art_deletion.proofs.delete.detach.other_child.Goals as goal
+use Rattle.std.proofs.Common.{sym, ◌∙◌}
+use Rattle.art_deletion.proofs.OtherChild.{first-other, last-other, has_first, has_last}
+use Rattle.art_deletion.proofs.delete.merge.other_child.Goals as goal
 
 pub returns-then-first-byte : goal.returns-then-first-byte
 returns-then-first-byte g c = λ n other there two. first-other n.children c.args.byte other two c.in-Some.first (sym (c.first_child.ensures n there) ∙ c.in-Some.is) c.if-first-byte.true

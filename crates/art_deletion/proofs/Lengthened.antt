@@ -6,7 +6,7 @@ use Rattle.art_nodes.specs.Name.{Name}
 use Rattle.art_arena.specs.Arena.{Arena, held_at, node_at}
 use Rattle.art_arena.specs.Kinds.{IsKindOf}
 use Rattle.art_arena.specs.Meaning.{IsSubtree}
-use Rattle.art_arena.specs.Shapes.{Shape, Branches, leaf_at, inner_at, width}
+use Rattle.art_arena.specs.Shapes.{Shape, leaf_at, inner_at, width}
 use Rattle.art_arena.proofs.Subtrees.{inner_of}
 use Rattle.art_deletion.specs.Removals.{Lengthens}
 
