@@ -3,5 +3,7 @@ pub mod Descents
 pub mod Meetings
 pub mod Points
 pub mod DeletePoints
+pub mod Edits
+pub mod Forks
 pub mod Insertions
 pub mod Deletions
