@@ -4,3 +4,6 @@ pub mod Lookups
 pub mod Meetings
 pub mod Points
 pub mod EndPlaces
+pub mod NewNodes
+pub mod Edits
+pub mod Inserted

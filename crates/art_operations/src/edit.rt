@@ -1,11 +1,11 @@
 //! Edits of the inner node under a name, whatever its kind.
-ghost use Rattle.std.specs.Prelude.{◌≡◌, ◌≢◌, ◌++◌, ◌^◌, ◌<◌, ℕ, List, Some, IsSome};
+ghost use Rattle.std.specs.Prelude.{◌≡◌, ◌≢◌, ◌∷◌, ◌++◌, ℕ, List, [], Some, IsSome, MatchOption};
 ghost use Rattle.art_nodes.specs.Name.{Name};
 ghost use Rattle.art_nodes.specs.InnerNode as node;
 ghost use Rattle.art_arena.specs.Cells.{Cell, Holds, UpdatesAt};
 ghost use Rattle.art_arena.specs.Arena.{held_at, inner_held, node_at, links_at, HasRoom};
 ghost use Rattle.art_arena.specs.Context.{Frame, root_of, cells_before};
-ghost use Rattle.art_arena.specs.Steps.{steps_of};
+ghost use Rattle.art_arena.specs.Steps.{Step, steps_of};
 ghost use Rattle.art_operations.specs.Edits.{StandsAround};
 
 use art_arena::{NodeArena, TreePath};
@@ -73,6 +73,24 @@ pub(crate) fn copy_prefix<K, V, const PREFIX_LEN: usize>(
     edit_inner_node!(arena, name, node => node.copy_prefix(header));
 }
 
+// The last step of a path: an inner node, and the byte of its child.
+fn last_step(path: TreePath) -> Option<(OpaqueNodePtr, u8)>
+    ensures { MatchOption result (steps_of path ≡ []) (λ step. (more : List Step) × (steps_of path ≡ record { node = step.0; byte = step.1 } ∷ more)) }
+{
+    match path {
+        TreePath::Root => None,
+        TreePath::ChildOfRoot {
+            parent,
+            child_key_byte,
+        } => Some((parent.to_opaque(), child_key_byte)),
+        TreePath::Normal {
+            parent,
+            child_key_byte,
+            ..
+        } => Some((parent.to_opaque(), child_key_byte)),
+    }
+}
+
 /// Lets the inner node above the place to which a path leads have this node there, and answers the name of the root,
 /// which is the node itself where there is none above.
 pub(crate) fn repoint<K: AsBytes, V, const PREFIX_LEN: usize>(
@@ -89,18 +107,10 @@ pub(crate) fn repoint<K: AsBytes, V, const PREFIX_LEN: usize>(
     ensures links { (slot : ℕ) → links_at arena.new slot ≡ links_at arena.old slot }
     ensures room { (n : ℕ) → HasRoom arena.old n → HasRoom arena.new n }
 {
-    match path {
-        TreePath::Root => name,
-        TreePath::ChildOfRoot {
-            parent,
-            child_key_byte,
-        }
-        | TreePath::Normal {
-            parent,
-            child_key_byte,
-            ..
-        } => {
-            write_child(arena, parent.to_opaque(), child_key_byte, name);
+    match last_step(path) {
+        None => name,
+        Some(step) => {
+            write_child(arena, step.0, step.1, name);
             root
         }
     }

@@ -37,7 +37,8 @@ impl InsertPoint {
         ensures succeeds { HasRoom arena.old 2 → IsOk result }
         ensures room { (n : ℕ) → HasRoom arena.old (n + 2) → HasRoom arena.new n }
     {
-        match self.insert_kind {
+        let kind = self.insert_kind;
+        match kind {
             InsertKind::MismatchPrefix {
                 inner_node_ptr,
                 parted,

@@ -168,7 +168,7 @@ fn trim<K, V, const PREFIX_LEN: usize>(
     header: Option<Header<PREFIX_LEN>>,
 )
     requires held { IsSome (held_at arena.old node) }
-    requires inner { IsSome header.entry → node.kind ≢ NodeType.Leaf }
+    requires inner { IsSome header → node.kind ≢ NodeType.Leaf }
     ensures cell { (c : Cell K V) → node_at arena.old node ≡ Some c → UpdatesAt (node_at arena.old) (node_at arena.new) node (Some (with_prefix header.entry c)) }
     ensures links { (slot : ℕ) → links_at arena.new slot ≡ links_at arena.old slot }
     ensures room { (n : ℕ) → HasRoom arena.old n → HasRoom arena.new n }

@@ -1,0 +1,20 @@
+-- Nodes that are made in an arena: the room for them, and what is left where one is taken out again.
+use Rattle.std.proofs.Common.{◌≡◌, ℕ, ◌≤◌, None, Some, Option, sym, ◌∙◌, inl, inr, arith, subst, ap}
+use Rattle.art_nodes.specs.Name.{Name}
+use Rattle.art_arena.specs.Arena.{Arena, Held, held_at, Allocates, SameNodes, HasRoom}
+use Rattle.art_arena.specs.Cells.{UpdatesAt}
+use Rattle.art_arena.proofs.CellLists.{same_name_tells}
+
+module _ {K V : Type 0} where
+  -- room for more is room for fewer
+  pub fewer : (arena : Arena K V) (m n : ℕ) → m ≤ n → HasRoom arena n → HasRoom arena m
+  fewer arena m n less room =
+      let a = room.leaves in let b = room.nodes4 in let c = room.nodes16 in let d = room.nodes48 in let e = room.nodes256 in
+      record { leaves = omega (arith, a, less); nodes4 = omega (arith, b, less); nodes16 = omega (arith, c, less); nodes48 = omega (arith, d, less); nodes256 = omega (arith, e, less) }
+
+  -- a node that was made and taken out again leaves the arena as it was
+  pub undone : (old made still new : Arena K V) (n : Name) (node : Held K V) → Allocates old made n node → SameNodes made still → UpdatesAt (held_at still) (held_at new) n None → SameNodes old new
+  undone old made still new n node allocates same removed m = elim (same_name_tells m n) [
+    | inl is ↦ subst (λ x. held_at new x ≡ held_at old x) (sym is.1) (removed.changed ∙ sym allocates.vacant)
+    | inr other ↦ removed.others m other.1 ∙ same m ∙ allocates.updates.others m other.1
+  ]
