@@ -7,3 +7,6 @@ pub mod EndPlaces
 pub mod NewNodes
 pub mod Edits
 pub mod Inserted
+pub mod NewLeaves
+pub mod Forks
+pub mod ForkedTrees
