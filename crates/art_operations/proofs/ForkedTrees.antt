@@ -7,11 +7,10 @@ use Rattle.art_nodes.specs.declared.kind.NodeType.TheVariants.{Leaf, Node4}
 use Rattle.art_nodes.specs.declared.concrete.ConcreteInnerNodePtr.TheVariants as inner
 use Rattle.art_arena.specs.Arena.{Arena, inner_held, cell_of, held_at, node_at, links_at}
 use Rattle.art_arena.specs.Cells.{Cell, pair, branches, leaf_name, copies, AreHeld, Holds, UpdatesAt}
-use Rattle.art_arena.specs.Context.{Frame, plug, path_to, root_of, frame_cell, leaves_before, leaves_after, cells_before, cells_after, AreAround}
-use Rattle.art_arena.specs.Kinds.{IsKindOf}
+use Rattle.art_arena.specs.Context.{Frame, path_to, root_of, frame_cell, leaves_before, leaves_after, cells_before, cells_after, AreAround}
 use Rattle.art_arena.specs.Linked.{AreLinked, IsBeside}
 use Rattle.art_arena.specs.Meaning.{IsAtDepth, IsSubtree, IsTree}
-use Rattle.art_arena.specs.Shapes.{Shape, no_branch, branch, LeafAt, name_of, children_at, leaves, cells, node_of}
+use Rattle.art_arena.specs.Shapes.{Shape, no_branch, branch, name_of, leaves, cells, node_of}
 use Rattle.art_arena.specs.Steps.{Step}
 use Rattle.art_arena.proofs.Order.{all_append, all_left, all_right}
 use Rattle.art_arena.proofs.CellLists.{copies-append, Holds-add, Holds-write, Holds-same}
@@ -182,7 +181,7 @@ module _ {K V : Type 0} (bytes : K → List ℕ) (P : ℕ) (s : Shape K V) (old 
           let xs = cells_before P at.ctx (fork_name slot) in
           let moved : xs ++ fork_cell ∷ (cells P lower ++ leaf_cell ∷ right) ≡ (xs ++ fork_cell ∷ cells P lower) ++ leaf_cell ∷ right = sym (append_assoc xs (fork_cell ∷ cells P lower) (leaf_cell ∷ right)) in
           subst (Holds map) (ap (λ cs. xs ++ fork_cell ∷ (cs ++ leaf_cell ∷ right)) (sym lower_cells) ∙ moved
-              ∙ ap₂ (λ c cs. (xs ++ c ∷ cs) ++ leaf_cell ∷ right) (sym (frame_cell_is false order)) (sym (append-nil (cells P lower)))) holds
+          ∙ ap₂ (λ c cs. (xs ++ c ∷ cs) ++ leaf_cell ∷ right) (sym (frame_cell_is false order)) (sym (append-nil (cells P lower)))) holds
 
       module _ (made : Arena K V) (both : AllocatesBoth start made (leaf_name leaf) (lone_leaf key value) (fork_name slot) (inner_held (fork_node P (take parted.matched (drop depth (bytes key))) parted.old_byte old parted.new_byte (leaf_name leaf)))) where
         holds_made : Holds (node_at made) (left ++ fork_cell ∷ ((old, root_cell P at.part) ∷ (below ++ leaf_cell ∷ right)))
