@@ -11,3 +11,6 @@ pub mod Neighbours
 pub mod Waiting
 pub mod Growth
 pub mod IntoExisting
+pub mod NewLeaves
+pub mod Forks
+pub mod ForkedTrees

@@ -26,4 +26,6 @@ pub use lookup::{
 pub use minmax::{maximum_unchecked, minimum_unchecked};
 
 #[cfg(test)]
+mod calling;
+#[cfg(test)]
 mod tests;

@@ -141,23 +141,23 @@ fn link_between<K, V, const PREFIX_LEN: usize>(
     }
 }
 
-// The prefix of an inner node that stands at this depth, without so many of its bytes, in a header; none for a leaf.
+// The prefix of an inner node that stands at this depth, behind so many bytes and one more, in a header; none for a leaf.
 fn rest_of_prefix<K: AsBytes, V, const PREFIX_LEN: usize>(
     arena: &NodeArena<K, V, PREFIX_LEN>,
     node: OpaqueNodePtr,
     depth: usize,
-    taken: usize,
+    matched: usize,
 ) -> Option<Header<PREFIX_LEN>>
-    requires stands { (path : List ℕ) × (s : Shape K V) × IsAtDepth K.bytes PREFIX_LEN (node_at arena.now) node depth path s × (node.kind ≢ NodeType.Leaf → taken ≤ length (prefix_of s)) }
+    requires stands { (path : List ℕ) × (s : Shape K V) × IsAtDepth K.bytes PREFIX_LEN (node_at arena.now) node depth path s × (node.kind ≢ NodeType.Leaf → matched < length (prefix_of s)) }
     requires fits_in_memory { PREFIX_LEN < 2 ^ 62 }
-    ensures cell { (path : List ℕ) (s : Shape K V) → IsAtDepth K.bytes PREFIX_LEN (node_at arena.now) node depth path s → with_prefix result (root_cell PREFIX_LEN s) ≡ root_cell PREFIX_LEN (trimmed taken s) }
+    ensures cell { (path : List ℕ) (s : Shape K V) → IsAtDepth K.bytes PREFIX_LEN (node_at arena.now) node depth path s → with_prefix result (root_cell PREFIX_LEN s) ≡ root_cell PREFIX_LEN (trimmed (matched + 1) s) }
     ensures inner { IsSome result → node.kind ≢ NodeType.Leaf }
 {
     if node.is::<KindLeaf>() {
         return None;
     }
     let prefix = read_full_prefix(arena, node, depth).prefix;
-    let rest = &prefix[taken..];
+    let rest = &prefix[matched + 1..];
     Some(Header::new(rest, rest.len()))
 }
 
@@ -204,7 +204,7 @@ pub(crate) fn fork<K: AsBytes, V, const PREFIX_LEN: usize>(
     let depth = point.key_bytes_used;
     let is_before = parted.new_byte < parted.old_byte;
     let neighbour = end_leaf(arena, old, is_before);
-    let rest = rest_of_prefix(arena, old, depth, parted.matched + 1);
+    let rest = rest_of_prefix(arena, old, depth, parted.matched);
     let made = store_nodes(arena, old, depth, parted, key, value)?;
     trim(arena, old, rest);
     link_between(arena, made.leaf, neighbour, is_before);
