@@ -7,3 +7,4 @@ pub mod Edits
 pub mod Forks
 pub mod Insertions
 pub mod Deletions
+pub mod Growth

@@ -1,7 +1,8 @@
 //! Edits of the inner node under a name, whatever its kind.
-ghost use Rattle.std.specs.Prelude.{◌≡◌, ◌≢◌, ◌∷◌, ◌++◌, ℕ, List, [], Some, IsSome, MatchOption};
+ghost use Rattle.std.specs.Prelude.{◌≡◌, ◌≢◌, ◌<◌, ◌⊎◌, ◌∷◌, ◌++◌, ℕ, List, [], length, Some, None, IsSome, MatchOption};
 ghost use Rattle.art_nodes.specs.Name.{Name};
 ghost use Rattle.art_nodes.specs.InnerNode as node;
+ghost use Rattle.art_nodes.specs.Kind.{row_of};
 ghost use Rattle.art_arena.specs.Cells.{Cell, Holds, UpdatesAt};
 ghost use Rattle.art_arena.specs.Arena.{held_at, inner_held, node_at, links_at, HasRoom};
 ghost use Rattle.art_arena.specs.Context.{Frame, root_of, cells_before};
@@ -40,14 +41,14 @@ macro_rules! edit_inner_node {
     };
 }
 
-/// Puts another child in the place of the one under a byte.
+/// Stores a child under a byte of an inner node that has room for it, or in the place of the one that stands there.
 pub(crate) fn write_child<K, V, const PREFIX_LEN: usize>(
     arena: &mut NodeArena<K, V, PREFIX_LEN>,
     name: OpaqueNodePtr,
     byte: u8,
     child: OpaqueNodePtr,
 )
-    requires there { (n : node.InnerNode) × (held_at arena.old name ≡ Some (inner_held n)) × IsSome (node.child_at n.children byte) }
+    requires room { (n : node.InnerNode) × (held_at arena.old name ≡ Some (inner_held n)) × ((length n.children < (row_of name.kind).most) ⊎ IsSome (node.child_at n.children byte)) }
     requires inner { name.kind ≢ NodeType.Leaf }
     ensures updates { (n : node.InnerNode) → held_at arena.old name ≡ Some (inner_held n)
         → UpdatesAt (held_at arena.old) (held_at arena.new) name (Some (inner_held (node.with_children n (node.with_child n.children byte child)))) }
@@ -55,6 +56,34 @@ pub(crate) fn write_child<K, V, const PREFIX_LEN: usize>(
 {
     arena.prefix_fits(name);
     edit_inner_node!(arena, name, node => node.write_child(byte, child));
+}
+
+/// Takes an inner node out of the arena.
+pub(crate) fn drop_node<K, V, const PREFIX_LEN: usize>(
+    arena: &mut NodeArena<K, V, PREFIX_LEN>,
+    name: OpaqueNodePtr,
+)
+    requires held { IsSome (held_at arena.old name) }
+    requires inner { name.kind ≢ NodeType.Leaf }
+    ensures updates { UpdatesAt (held_at arena.old) (held_at arena.new) name None }
+    ensures room { (n : ℕ) → HasRoom arena.old n → HasRoom arena.new n }
+{
+    arena.prefix_fits(name);
+    match name.to_node_ptr() {
+        ConcreteNodePtr::Node4(ptr) => {
+            arena.deallocate_node_ptr::<InnerNode4<K, V, PREFIX_LEN>>(ptr);
+        }
+        ConcreteNodePtr::Node16(ptr) => {
+            arena.deallocate_node_ptr::<InnerNode16<K, V, PREFIX_LEN>>(ptr);
+        }
+        ConcreteNodePtr::Node48(ptr) => {
+            arena.deallocate_node_ptr::<InnerNode48<K, V, PREFIX_LEN>>(ptr);
+        }
+        ConcreteNodePtr::Node256(ptr) => {
+            arena.deallocate_node_ptr::<InnerNode256<K, V, PREFIX_LEN>>(ptr);
+        }
+        ConcreteNodePtr::LeafNode(_) => unreachable!(),
+    }
 }
 
 /// Gives the node the prefix of this header. The children stay.

@@ -1,4 +1,4 @@
-use Rattle.std.proofs.Common.{arith}
+use Rattle.std.proofs.Common.{inr, arith}
 use Rattle.art_arena.specs.Arena.{node_at}
 use Rattle.art_arena.specs.Steps.{steps_of}
 use Rattle.art_arena.proofs.Updates.{links-kept}
@@ -9,7 +9,7 @@ pub write_child-requires : goal.write_child-requires
 write_child-requires g c =
     let r = c.requires in
     let p = parent_there g.K.AsBytes.bytes g.row.PREFIX_LEN c.args.arena.now c.args.root r.0 r.1 r.2 (steps_of c.args.path) r.3 _ c.in-Some.ensures.0 c.in-Some.ensures.1 in
-    (omega arith, ((p.node, p.there, p.child), p.inner))
+    (omega arith, ((p.node, p.there, inr p.child), p.inner))
 
 pub returns-in-None-clause-holds : goal.returns-in-None-clause-holds
 returns-in-None-clause-holds g c = λ ctx was rest stands. (at_top g.K.AsBytes.bytes g.row.PREFIX_LEN (node_at c.args.arena.now) c.args.root ctx was c.args.name rest (steps_of c.args.path) stands c.in-None.ensures).0
