@@ -6,15 +6,14 @@ use Rattle.art_nodes.specs.Kind.{row_of}
 use Rattle.art_nodes.specs.Name.{Name}
 use Rattle.art_arena.specs.Arena.{Arena, inner_held, cell_of, held_at, node_at, links_at, Allocates}
 use Rattle.art_arena.specs.Cells.{Cell, pair, branches, leaf_name, UpdatesAt, Holds}
-use Rattle.art_arena.specs.Context.{Frame, root_of, leaves_before, leaves_after, cells_before, cells_after, AreAround}
+use Rattle.art_arena.specs.Context.{Frame, root_of, leaves_before, leaves_after, cells_before, cells_after}
 use Rattle.art_arena.specs.Kinds.{IsKindOf}
 use Rattle.art_arena.specs.Shapes.{LeafAt, cells_in}
 use Rattle.art_arena.specs.Steps.{Step, steps_to}
 use Rattle.art_arena.proofs.Order.{all_right}
-use Rattle.art_arena.proofs.CellLists.{Holds-add, Holds-same, Holds-remove}
-use Rattle.art_arena.proofs.Repoint.{frame_node, frame-there, frame-child, frame-inner, repoint}
+use Rattle.art_arena.proofs.CellLists.{Holds-add, Holds-remove}
 use Rattle.art_arena.proofs.Subtrees.{inner_of}
-use Rattle.art_arena.proofs.Updates.{nodes-update, links-kept, nodes-same, links-same}
+use Rattle.art_arena.proofs.Updates.{nodes-update, links-kept}
 use Rattle.art_operations.specs.Edits.{StandsAround}
 use Rattle.art_operations.specs.Growth.{AwaitsLeaf}
 use Rattle.art_operations.proofs.Neighbours.{beside-kept}
@@ -76,9 +75,9 @@ module _ {K V : Type 0} (bytes : K → List ℕ) (P : ℕ) where
           let left = Holds-remove (node_at moved) (node_at freed) f.name (branches (open_node P f)) (cells_before P outer copy ++ (copy, branches (open_node P f)) ∷ []) below gone
           (subst (Holds (node_at moved)) (sym (append_assoc (cells_before P outer copy) ((copy, branches (open_node P f)) ∷ []) ((f.name, branches (open_node P f)) ∷ below))) moved-there) in
           let links : (slot : ℕ) → links_at freed slot ≡ links_at arena slot = λ slot.
-              links-kept moved freed node None update (node-inner bytes P arena root node byte leaf f outer l awaits) slot
-              ∙ links_stay slot
-              ∙ links-kept arena copied copy _ copies.updates (inner-kind copied copy (open_node P f) copies.updates.changed) slot in
+          links-kept moved freed node None update (node-inner bytes P arena root node byte leaf f outer l awaits) slot
+          ∙ links_stay slot
+          ∙ links-kept arena copied copy _ copies.updates (inner-kind copied copy (open_node P f) copies.updates.changed) slot in
           record {
             named = named;
             node_is = refl;
