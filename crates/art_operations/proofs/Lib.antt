@@ -4,3 +4,13 @@ pub mod Lookups
 pub mod Meetings
 pub mod Points
 pub mod EndPlaces
+pub mod NewNodes
+pub mod Edits
+pub mod Inserted
+pub mod Neighbours
+pub mod Waiting
+pub mod Growth
+pub mod IntoExisting
+pub mod NewLeaves
+pub mod Forks
+pub mod ForkedTrees

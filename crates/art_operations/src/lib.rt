@@ -5,6 +5,7 @@
 
 pub mod delete;
 mod descent;
+mod edit;
 pub mod insert;
 pub mod lookup;
 pub mod meeting;
@@ -24,5 +25,7 @@ pub use lookup::{
 };
 pub use minmax::{maximum_unchecked, minimum_unchecked};
 
+#[cfg(test)]
+mod calling;
 #[cfg(test)]
 mod tests;

@@ -1,7 +1,7 @@
 //! How two lists of bytes meet.
-ghost use Rattle.std.specs.Prelude.{◌≡◌, length};
-ghost use Rattle.art_arena.specs.Order.{common};
 ghost use Rattle.art_operations.specs.Meetings.{Meets};
+
+use art_nodes::count_agreeing;
 
 /// Two bytes in which lists differ, behind a common front.
 #[derive(Clone, Copy, PartialEq, Eq, Debug)]
@@ -23,22 +23,11 @@ pub(crate) enum Meeting {
     Parts(Parted),
 }
 
-// How many bytes two lists begin with alike.
-fn common_len(old: &[u8], new: &[u8]) -> usize
-    ensures { result ≡ length (common old.now new.now) }
-{
-    let mut at = 0;
-    while at < old.len() && at < new.len() && old[at] == new[at] {
-        at += 1;
-    }
-    at
-}
-
 // Whether one list ends where the other goes on, or where they part.
 pub(crate) fn meet(old: &[u8], new: &[u8]) -> Meeting
     ensures { Meets old.now new.now result }
 {
-    let matched = common_len(old, new);
+    let matched = count_agreeing(old, new);
     if matched == old.len() {
         if matched == new.len() {
             return Meeting::Same;

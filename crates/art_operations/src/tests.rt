@@ -1,10 +1,30 @@
 //! Public calls once, at concrete types.
+ghost use Rattle.std.specs.Prelude.{[], IfSome};
+ghost use Rattle.art_arena.specs.Arena.{node_at};
+ghost use Rattle.art_arena.specs.Meaning.{IsSubtree};
+ghost use Rattle.art_arena.specs.Shapes.{Shape};
+
 use super::*;
 use art_arena::NodeArena;
 use art_bytes::AsBytes;
-use art_nodes::{InnerNode4, InnerNodeInit, LeafNode};
+use art_nodes::{InnerNode4, InnerNodeInit, LeafNode, OpaqueNodePtr};
 use std::alloc::Global;
 use std::process::Abort;
+
+// An arena that has one leaf and nothing else, and the leaf's name.
+pub(crate) fn lone_leaf<K: AsBytes + Drop, V: Drop>(
+    alloc: Global,
+    key: K,
+    value: V,
+) -> Option<(NodeArena<K, V, 4>, OpaqueNodePtr)>
+    ensures { IfSome result (λ lone. (s : Shape K V) × IsSubtree K.bytes 4 (node_at lone.0) lone.1 [] s) }
+{
+    let mut arena = NodeArena::new(alloc);
+    match arena.allocate_node_ptr(LeafNode::with_no_siblings(key, value)) {
+        Ok(leaf) => Some((arena, leaf.to_opaque())),
+        Err(_) => None,
+    }
+}
 
 // Looks for a key in a tree that has it alone. These are its bytes, with one byte more.
 fn looks_for_a_lone_key<K: AsBytes + Drop, V: Drop, R: Abort>(
@@ -14,12 +34,11 @@ fn looks_for_a_lone_key<K: AsBytes + Drop, V: Drop, R: Abort>(
     value: V,
     longer: &[u8],
 ) {
-    let mut arena: NodeArena<K, V, 4> = NodeArena::new(alloc);
-    if let Ok(leaf) = arena.allocate_node_ptr(LeafNode::with_no_siblings(key, value)) {
-        let root = leaf.to_opaque();
+    if let Some((arena, root)) = lone_leaf(alloc, key, value) {
         assert!(rt; search_unchecked(&arena, root, longer).is_none());
+        let leaf = minimum_unchecked(&arena, root);
+        assert!(rt; leaf.to_opaque() == root);
         assert!(rt; prefix_search_unchecked(&arena, root, longer) == Some(leaf));
-        assert!(rt; minimum_unchecked(&arena, root) == leaf);
         assert!(rt; maximum_unchecked(&arena, root) == leaf);
         assert!(rt; search_for_delete_point(&arena, root, longer).is_none());
         assert!(rt; find_minimum_to_delete(&arena, root).leaf_node_ptr == leaf);
@@ -54,3 +73,5 @@ fn compares_leaf_keys(rt: HostRuntime) {
     assert!(rt; PrefixMatchBehavior::Pessimistic.leaf_key_is_prefix(&leaf, &[9, 2, 3, 4], 1));
     assert!(rt; !PrefixMatchBehavior::Optimistic.leaf_key_is_prefix(&leaf, &[9, 2, 3, 4], 1));
 }
+
+mod refused;
