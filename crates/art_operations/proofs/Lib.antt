@@ -14,3 +14,15 @@ pub mod IntoExisting
 pub mod NewLeaves
 pub mod Forks
 pub mod ForkedTrees
+pub mod Results
+pub mod PutBack
+pub mod JoinedPrefixes
+pub mod OtherChild
+pub mod Lengthened
+pub mod Apart
+pub mod Merges
+pub mod Parents
+pub mod TakenOut
+pub mod Detaching
+pub mod Shrinking
+pub mod Deleted

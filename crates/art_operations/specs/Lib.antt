@@ -8,3 +8,5 @@ pub mod Forks
 pub mod Insertions
 pub mod Deletions
 pub mod Growth
+pub mod Removals
+pub mod Detached

@@ -1,10 +1,10 @@
 //! Edits of the inner node under a name, whatever its kind.
-ghost use Rattle.std.specs.Prelude.{◌≡◌, ◌≢◌, ◌<◌, ◌⊎◌, ◌∷◌, ◌++◌, ℕ, List, [], length, Some, None, IsSome, MatchOption};
+ghost use Rattle.std.specs.Prelude.{◌≡◌, ◌≢◌, ◌<◌, ◌⊎◌, ◌+◌, ◌∷◌, ◌++◌, ℕ, List, [], length, Some, None, IsSome, MatchOption, IsOk, IfOk, OnErr};
 ghost use Rattle.art_nodes.specs.Name.{Name};
 ghost use Rattle.art_nodes.specs.InnerNode as node;
-ghost use Rattle.art_nodes.specs.Kind.{row_of};
+ghost use Rattle.art_nodes.specs.Kind.{row_of, CanShrink};
 ghost use Rattle.art_arena.specs.Cells.{Cell, Holds, UpdatesAt};
-ghost use Rattle.art_arena.specs.Arena.{held_at, inner_held, node_at, links_at, HasRoom};
+ghost use Rattle.art_arena.specs.Arena.{held_at, inner_held, node_at, links_at, Allocates, SameNodes, HasRoom};
 ghost use Rattle.art_arena.specs.Context.{Frame, root_of, cells_before};
 ghost use Rattle.art_arena.specs.Steps.{Step, steps_of};
 ghost use Rattle.art_operations.specs.Edits.{StandsAround};
@@ -12,9 +12,10 @@ ghost use Rattle.art_operations.specs.Edits.{StandsAround};
 use art_arena::{NodeArena, TreePath};
 use art_bytes::AsBytes;
 use art_nodes::{
-    ConcreteNodePtr, Header, InnerNode4, InnerNode16, InnerNode48, InnerNode256, InnerNodeCommon,
-    NodeType, OpaqueNodePtr,
+    ConcreteNodePtr, Header, InnerNode, InnerNode4, InnerNode16, InnerNode48, InnerNode256,
+    InnerNodeCommon, NodeType, OpaqueNodePtr,
 };
+use std::alloc::AllocError;
 
 // A write to the inner node under a name, whatever its kind.
 macro_rules! edit_inner_node {
@@ -56,6 +57,24 @@ pub(crate) fn write_child<K, V, const PREFIX_LEN: usize>(
 {
     arena.prefix_fits(name);
     edit_inner_node!(arena, name, node => node.write_child(byte, child));
+}
+
+/// Takes out the child under a byte of an inner node.
+pub(crate) fn remove_child<K, V, const PREFIX_LEN: usize>(
+    arena: &mut NodeArena<K, V, PREFIX_LEN>,
+    name: OpaqueNodePtr,
+    byte: u8,
+)
+    requires held { IsSome (held_at arena.old name) }
+    requires inner { name.kind ≢ NodeType.Leaf }
+    ensures updates { (n : node.InnerNode) → held_at arena.old name ≡ Some (inner_held n)
+        → UpdatesAt (held_at arena.old) (held_at arena.new) name (Some (inner_held (node.with_children n (node.without_child n.children byte)))) }
+    ensures room { (n : ℕ) → HasRoom arena.old n → HasRoom arena.new n }
+{
+    arena.prefix_fits(name);
+    edit_inner_node!(arena, name, node => {
+        node.remove_child(byte);
+    });
 }
 
 /// Takes an inner node out of the arena.
@@ -100,6 +119,40 @@ pub(crate) fn copy_prefix<K, V, const PREFIX_LEN: usize>(
 {
     arena.prefix_fits(name);
     edit_inner_node!(arena, name, node => node.copy_prefix(header));
+}
+
+/// Stores a copy of an inner node in the next smaller kind, which must have room for its children. It is refused where
+/// there is no memory; nothing changes then.
+pub(crate) fn shrink<K, V, const PREFIX_LEN: usize>(
+    arena: &mut NodeArena<K, V, PREFIX_LEN>,
+    name: OpaqueNodePtr,
+) -> Result<OpaqueNodePtr, AllocError>
+    requires can { (n : node.InnerNode) × (held_at arena.old name ≡ Some (inner_held n)) × CanShrink name.kind (length n.children) }
+    ensures kind { IfOk result (λ smaller. (row_of name.kind).smaller ≡ Some smaller.kind) }
+    ensures ok { IfOk result (λ smaller. (n : node.InnerNode) → held_at arena.old name ≡ Some (inner_held n) → Allocates arena.old arena.new smaller (inner_held n)) }
+    ensures err { OnErr result (SameNodes arena.old arena.new) }
+    ensures succeeds { HasRoom arena.old 1 → IsOk result }
+    ensures room { (n : ℕ) → HasRoom arena.old (n + 1) → HasRoom arena.new n }
+{
+    match name.to_node_ptr() {
+        ConcreteNodePtr::Node16(ptr) => {
+            arena.prefix_fits(name);
+            let smaller = arena.as_ref::<InnerNode16<K, V, PREFIX_LEN>>(ptr).shrink();
+            Ok(arena.allocate_node_ptr(smaller)?.to_opaque())
+        }
+        ConcreteNodePtr::Node48(ptr) => {
+            arena.prefix_fits(name);
+            let smaller = arena.as_ref::<InnerNode48<K, V, PREFIX_LEN>>(ptr).shrink();
+            Ok(arena.allocate_node_ptr(smaller)?.to_opaque())
+        }
+        ConcreteNodePtr::Node256(ptr) => {
+            arena.prefix_fits(name);
+            let smaller = arena.as_ref::<InnerNode256<K, V, PREFIX_LEN>>(ptr).shrink();
+            Ok(arena.allocate_node_ptr(smaller)?.to_opaque())
+        }
+        ConcreteNodePtr::Node4(_) => unreachable!(),
+        ConcreteNodePtr::LeafNode(_) => unreachable!(),
+    }
 }
 
 // The last step of a path: an inner node, and the byte of its child.

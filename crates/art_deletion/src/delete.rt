@@ -1,5 +1,0 @@
-//! Deletion: the change of the tree.
-
-pub mod apply;
-mod detach;
-mod merge;
