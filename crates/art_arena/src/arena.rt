@@ -167,6 +167,16 @@ impl<K, V, const PREFIX_LEN: usize> NodeArena<K, V, PREFIX_LEN> {
         let _nodes = &self.nodes4;
     }
 
+    /// Whether the stored front of a prefix is so short that an inner node fits in memory, as it does where there is room
+    /// for one. A caller over any `PREFIX_LEN` asks this before it makes the first inner node of a tree.
+    pub fn fits_in_memory(&self) -> bool
+        ensures value { IsTrue result → PREFIX_LEN < 2 ^ 62 }
+        ensures room { HasRoom self.now 1 → IsTrue result }
+    {
+        let _nodes = &self.nodes4;
+        PREFIX_LEN < NO_MEMORY_HOLDS
+    }
+
     /// The node under this name, for writing.
     pub fn as_mut<N: Stored<K, V, Self>>(&mut self, ptr: NodePtr<N::Kind>) -> &mut N
         requires { IsSome (held_at self.old (record { kind = N.Kind.TYPE; slot = ptr })) }

@@ -42,10 +42,10 @@ goes_on k [] c r l e = (c, r, e)
 goes_on k (y ∷ x) c r l e = (y, x ++ c ∷ r, e)
 
 -- the front up to the byte in which a list parts from another
-part_new : (path rest key old : List ℕ) (p : Parted) → key ≡ path ++ rest → (part : PartAt old rest p) → BeginsWith ((path ++ part.front) ++ p.new_byte ∷ []) key
+pub part_new : (path rest key old : List ℕ) (p : Parted) → key ≡ path ++ rest → (part : PartAt old rest p) → BeginsWith ((path ++ part.front) ++ p.new_byte ∷ []) key
 part_new path rest key old p e part = begins_from_step (path ++ part.front) p.new_byte part.new_rest key (e ∙ ap (λ x. path ++ x) part.new_is ∙ sym (append_assoc path part.front (p.new_byte ∷ part.new_rest)))
 
-part_old : (path rest old key more : List ℕ) (p : Parted) → key ≡ (path ++ old) ++ more → (part : PartAt old rest p) → BeginsWith ((path ++ part.front) ++ p.old_byte ∷ []) key
+pub part_old : (path rest old key more : List ℕ) (p : Parted) → key ≡ (path ++ old) ++ more → (part : PartAt old rest p) → BeginsWith ((path ++ part.front) ++ p.old_byte ∷ []) key
 part_old path rest old key more p e part =
     begins_from_step (path ++ part.front) p.old_byte (part.old_rest ++ more) key
     (e ∙ ap (λ x. (path ++ x) ++ more) part.old_is ∙ simp append_assoc)

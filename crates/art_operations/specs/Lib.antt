@@ -3,5 +3,10 @@ pub mod Descents
 pub mod Meetings
 pub mod Points
 pub mod DeletePoints
+pub mod Edits
+pub mod Forks
 pub mod Insertions
 pub mod Deletions
+pub mod Growth
+pub mod Removals
+pub mod Detached

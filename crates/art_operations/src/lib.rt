@@ -5,6 +5,7 @@
 
 pub mod delete;
 mod descent;
+mod edit;
 pub mod insert;
 pub mod lookup;
 pub mod meeting;

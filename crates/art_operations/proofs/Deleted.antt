@@ -1,0 +1,117 @@
+-- A leaf that stands apart leaves the list, and then the arena.
+use Rattle.std.proofs.Common.{◌≡◌, ℕ, ◌+◌, cond, List, [], ◌∷◌, ◌++◌, Option, Some, None, is_some, refl, sym, ap, ap₂, subst, ◌∙◌, arith}
+use Rattle.std.proofs.lemmas.List.{append-nil}
+use Rattle.art_nodes.specs.Name.{Name}
+use Rattle.art_nodes.specs.declared.leaf.LeafNode.{LeafNode}
+use Rattle.art_arena.specs.Arena.{Arena, leaf_held, cell_of, held_at, node_at, links_at}
+use Rattle.art_arena.specs.Cells.{Cell, pair, leaf_name, Holds, UpdatesAt}
+use Rattle.art_arena.specs.Linked.{Links, AreLinked, times, IsList}
+use Rattle.art_arena.specs.Meaning.{IsTree}
+use Rattle.art_arena.specs.Shapes.{Shape, LeafAt, leaves, cells}
+use Rattle.art_arena.proofs.CellLists.{Holds-remove, Holds-same}
+use Rattle.art_arena.proofs.LinkedLists.{AreLinked-frame, times-append, eqb-self}
+use Rattle.art_arena.proofs.Order.{all_right}
+use Rattle.art_arena.proofs.Subtrees.{HoldsPair, pair_of}
+use Rattle.art_arena.proofs.Surroundings.{tree-list}
+use Rattle.art_arena.proofs.Updates.{nodes-update, links-update}
+use Rattle.art_operations.specs.Deletions.{HasLeaves, IsDeleted}
+use Rattle.art_operations.specs.Detached.{alone, IsDetached}
+
+module _ {K V : Type 0} where
+  AreLinked-same : (old new : ℕ → Option Links) → ((slot : ℕ) → new slot ≡ old slot) → (before : Option ℕ) (ls : List (LeafAt K V)) (after : Option ℕ) → AreLinked old before ls after → AreLinked new before ls after
+  AreLinked-same old new same before [] after linked = tt
+  AreLinked-same old new same before (l ∷ ls) after linked = (same l.slot ∙ linked.0, AreLinked-same old new same (Some l.slot) ls after linked.1)
+
+  -- what holds no cell holds nothing
+  nothing_at : (at : Name → Option (Cell K V)) → Holds at [] → (n : Name) → at n ≡ None
+  nothing_at at holds n = none (at n) (holds.once n)
+    where
+      none : (o : Option (Cell K V)) → ◌≡◌ {A = ℕ} 0 (cond (is_some o) 1 0) → o ≡ None
+      none None e = refl
+      none (Some c) e = absurd (omega (arith, e))
+
+module _ {K V : Type 0} (bytes : K → List ℕ) (P : ℕ) (mid : Arena K V) (s : Shape K V) (leaf : LeafAt K V) where
+  -- the other leaves, before it and after it
+  pub front_of : (left : Option Name) → IsDetached bytes P mid s leaf left → List (LeafAt K V)
+  front_of None apart = []
+  front_of (Some root) apart = apart.front
+
+  pub back_of : (left : Option Name) → IsDetached bytes P mid s leaf left → List (LeafAt K V)
+  back_of None apart = []
+  back_of (Some root) apart = apart.back
+
+  pub all_of : (left : Option Name) (apart : IsDetached bytes P mid s leaf left) → leaves s ≡ front_of left apart ++ leaf ∷ back_of left apart
+  unfolding front_of back_of
+  all_of None apart = apart.0
+  all_of (Some root) apart = apart.was
+
+  leaf_there : (left : Option Name) → IsDetached bytes P mid s leaf left → node_at mid (leaf_name leaf.slot) ≡ Some (pair leaf.key leaf.value)
+  leaf_there None apart = apart.1.held.0
+  leaf_there (Some root) apart = (all_right (λ (c : Name × Cell K V). node_at mid c.0 ≡ Some c.1) (cells P apart.rest) (alone leaf) apart.holds.held).0
+
+  module _ (old : Arena K V) (root : Name) (tree : IsTree bytes P (node_at old) root (links_at old) s) (kept : (slot : ℕ) → links_at mid slot ≡ links_at old slot) (left : Option Name) (apart : IsDetached bytes P mid s leaf left) where
+    pub still_listed : IsList (links_at mid) (front_of left apart ++ leaf ∷ back_of left apart)
+    still_listed =
+        let list = tree-list bytes P (node_at old) root (links_at old) s tree in
+        subst (IsList (links_at mid)) (all_of left apart) (record { linked = AreLinked-same (links_at old) (links_at mid) kept None (leaves s) None list.linked; once = list.once })
+
+    module _ (unlinked : Arena K V) (same : (n : Name) → node_at unlinked n ≡ node_at mid n) where
+      pub held_leaf : HoldsPair (held_at unlinked (leaf_name leaf.slot)) leaf.key leaf.value
+      held_leaf = pair_of (held_at unlinked (leaf_name leaf.slot)) leaf.key leaf.value (same (leaf_name leaf.slot) ∙ leaf_there left apart)
+
+      module _ (linked : AreLinked (links_at unlinked) None (front_of left apart ++ back_of left apart) None) (new : Arena K V) (node : LeafNode K V)
+          (taken : held_at unlinked (leaf_name leaf.slot) ≡ Some (leaf_held node)) (gone : UpdatesAt (held_at unlinked) (held_at new) (leaf_name leaf.slot) None) where
+        still_linked : AreLinked (links_at new) None (front_of left apart ++ back_of left apart) None
+        still_linked =
+            let once = still_listed.once leaf.slot in
+            let here : times leaf.slot (leaf ∷ back_of left apart) ≡ 1 + times leaf.slot (back_of left apart) = rw (eqb-self leaf.slot) refl in
+            let none : times leaf.slot (front_of left apart ++ back_of left apart) ≡ 0 =
+            omega (arith, once, here, times-append leaf.slot (front_of left apart) (leaf ∷ back_of left apart), times-append leaf.slot (front_of left apart) (back_of left apart)) in
+            AreLinked-frame (links_at unlinked) (links_at new) leaf.slot None (links-update unlinked new leaf.slot None gone) None (front_of left apart ++ back_of left apart) None none linked
+
+        same_pair : pair leaf.key leaf.value ≡ pair node.key node.value
+        same_pair =
+            let e : ◌≡◌ {A = Option (Cell K V)} (Some (pair leaf.key leaf.value)) (Some (pair node.key node.value)) = sym (same (leaf_name leaf.slot) ∙ leaf_there left apart) ∙ ap cell_of taken in
+            cc
+
+        same_leaf : ◌≡◌ {A = LeafAt K V} leaf (record { slot = leaf.slot; key = node.key; value = node.value })
+        same_leaf =
+            let e = same_pair in
+            let key : leaf.key ≡ node.key = cc in
+            let value : leaf.value ≡ node.value = cc in
+            ap₂ (λ k v. record { slot = leaf.slot; key = k; value = v }) key value
+
+        without : (xs : List (Name × Cell K V)) → Holds (node_at mid) (xs ++ alone leaf) → Holds (node_at new) (xs ++ [])
+        without xs holds =
+            Holds-remove (node_at unlinked) (node_at new) (leaf_name leaf.slot) (pair leaf.key leaf.value) xs [] (nodes-update unlinked new (leaf_name leaf.slot) None gone)
+            (Holds-same (node_at mid) (node_at unlinked) same (xs ++ alone leaf) holds)
+
+module _ {K V : Type 0} (bytes : K → List ℕ) (P : ℕ) (mid unlinked new : Arena K V) (s : Shape K V) (leaf : LeafAt K V) (old : Arena K V) (root : Name) (tree : IsTree bytes P (node_at old) root (links_at old) s)
+    (kept : (slot : ℕ) → links_at mid slot ≡ links_at old slot) (same : (n : Name) → node_at unlinked n ≡ node_at mid n) (node : LeafNode K V)
+    (taken : held_at unlinked (leaf_name leaf.slot) ≡ Some (leaf_held node)) (gone : UpdatesAt (held_at unlinked) (held_at new) (leaf_name leaf.slot) None) where
+  -- the arena holds nothing but the other leaves
+  pub others_left : (left : Option Name) (apart : IsDetached bytes P mid s leaf left) → AreLinked (links_at unlinked) None (front_of bytes P mid s leaf left apart ++ back_of bytes P mid s leaf left apart) None
+      → HasLeaves bytes P new left (front_of bytes P mid s leaf left apart ++ back_of bytes P mid s leaf left apart)
+  unfolding front_of back_of
+  others_left None apart linked = (refl, nothing_at (node_at new) (without bytes P mid s leaf old root tree kept None apart unlinked same linked new node taken gone [] apart.1))
+  others_left (Some rest) apart linked = (
+    apart.rest,
+    record {
+      nodes = record {
+        named = apart.named;
+        holds = subst (Holds (node_at new)) (append-nil (cells P apart.rest)) (without bytes P mid s leaf old root tree kept (Some rest) apart unlinked same linked new node taken gone (cells P apart.rest) apart.holds);
+        under = apart.under;
+      };
+      linked = subst (λ ls. AreLinked (links_at new) None ls None) (sym apart.left) (still_linked bytes P mid s leaf old root tree kept (Some rest) apart unlinked same linked new node taken gone);
+    },
+    apart.left,
+  )
+
+  pub deleted : (left : Option Name) (apart : IsDetached bytes P mid s leaf left) → AreLinked (links_at unlinked) None (front_of bytes P mid s leaf left apart ++ back_of bytes P mid s leaf left apart) None
+      → IsDeleted bytes P new s leaf.slot (record { new_root = left; deleted_leaf = node })
+  deleted left apart linked = record {
+    front = front_of bytes P mid s leaf left apart;
+    back = back_of bytes P mid s leaf left apart;
+    was = all_of bytes P mid s leaf left apart ∙ ap (λ l. front_of bytes P mid s leaf left apart ++ l ∷ back_of bytes P mid s leaf left apart) (same_leaf bytes P mid s leaf old root tree kept left apart unlinked same linked new node taken gone);
+    left = others_left left apart linked;
+  }

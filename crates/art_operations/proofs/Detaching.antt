@@ -1,0 +1,171 @@
+-- From what stands for the node above a leaf to the tree without the leaf.
+use Rattle.std.proofs.Common.{◌≡◌, ◌≢◌, ℕ, List, [], ◌∷◌, ◌++◌, Some, IsSome, inl, inr, refl, sym, ap, subst, ◌∙◌, append_assoc}
+use Rattle.art_nodes.specs.Name.{Name}
+use Rattle.art_nodes.specs.InnerNode.{InnerNode, child_at, with_child, with_children}
+use Rattle.art_nodes.specs.declared.kind.NodeType.TheVariants.{Leaf}
+use Rattle.art_arena.specs.Arena.{Arena, inner_held, held_at, node_at, links_at, SameNodes}
+use Rattle.art_arena.specs.Cells.{Cell, Holds}
+use Rattle.art_arena.specs.Context.{Frame, plug, path_to, leaves_before, leaves_after, root_of, cells_before, cells_after, AreAround}
+use Rattle.art_arena.specs.Meaning.{IsNodes}
+use Rattle.art_arena.specs.Shapes.{Shape, leaf_at, LeafAt, name_of, leaves, leaves_in, cells, IsUnder}
+use Rattle.art_arena.specs.Steps.{Step}
+use Rattle.art_arena.proofs.CellLists.{same_name_tells, Holds-same}
+use Rattle.art_arena.proofs.Contexts.{leaves-plug, cells-plug, name_of-plug, IsUnder-plug}
+use Rattle.art_arena.proofs.Repoint.{frame_node, frame-there, frame-child, frame-inner, repoint, at_root, HasParent, parent-of, HasGrandparent, grandparent-of, no-grandparent}
+use Rattle.art_arena.proofs.Subtrees.{inner_of}
+use Rattle.art_arena.proofs.Updates.{nodes-update, nodes-same, links-kept, links-same}
+use Rattle.art_operations.specs.DeletePoints.{IsLeafPlace}
+use Rattle.art_operations.specs.Detached.{alone, IsHeldAt, IsChildLeaf, StandsFor, IsApart}
+use Rattle.art_operations.specs.Removals.{EditsNode}
+
+module _ {K V : Type 0} (bytes : K → List ℕ) (P : ℕ) where
+  -- a leaf to which no step leads is the whole tree
+  pub lone : (arena : Arena K V) (root : Name) (s : Shape K V) (slot : ℕ) (last : List Step) → last ≡ [] → IsNodes bytes P (node_at arena) root s → (place : IsLeafPlace bytes s slot last)
+      → (leaves s ≡ record { slot = slot; key = place.key; value = place.value } ∷ []) × Holds (node_at arena) (alone (record { slot = slot; key = place.key; value = place.value }))
+  lone arena root s slot last none nodes place =
+      let is : s ≡ leaf_at slot place.key place.value = place.place.is ∙ ap (λ ctx. plug ctx (leaf_at slot place.key place.value)) (at_root place.ctx (place.steps ∙ none)) in
+      (ap leaves is, subst (λ t. Holds (node_at arena) (cells P t)) is nodes.holds)
+
+  -- one to which steps lead stands below the node of the last
+  module _ (arena : Arena K V) (root : Name) (s : Shape K V) (slot : ℕ) (last : List Step) (step : Step) (more : List Step) (some : last ≡ step ∷ more) (parent : Name) (node : step.node ≡ parent)
+      (nodes : IsNodes bytes P (node_at arena) root s) (place : IsLeafPlace bytes s slot last) where
+    abbrev pub the_parent : HasParent place.ctx step more
+    the_parent = parent-of place.ctx step more (place.steps ∙ some)
+
+    abbrev pub the_leaf : LeafAt K V
+    the_leaf = record { slot = slot; key = place.key; value = place.value }
+
+    pub whole_is : s ≡ plug (the_parent.frame ∷ the_parent.outer) (leaf_at slot place.key place.value)
+    whole_is = place.place.is ∙ ap (λ ctx. plug ctx (leaf_at slot place.key place.value)) the_parent.is
+
+    pub held_at_place : IsHeldAt bytes P arena (the_parent.frame ∷ the_parent.outer) the_leaf
+    held_at_place = record {
+      holds = subst (λ t. Holds (node_at arena) (cells P t)) whole_is nodes.holds;
+      around = subst (AreAround bytes) the_parent.is place.place.around;
+      begins = subst (λ ctx. IsUnder bytes (path_to ctx) (leaf_at slot place.key place.value)) the_parent.is place.place.under;
+    }
+
+    abbrev pub child_leaf : IsChildLeaf bytes P arena parent step.byte slot
+    child_leaf = record {
+      frame = the_parent.frame;
+      outer = the_parent.outer;
+      leaf = the_leaf;
+      held = held_at_place;
+      named = the_parent.named ∙ node;
+      under = the_parent.byte;
+      slot_is = refl;
+    }
+
+  -- once the frames above point to what is left, the leaf is apart
+  finish : (new : Arena K V) (f : Frame K V) (outer : List (Frame K V)) (leaf : LeafAt K V) (s rest : Shape K V) → s ≡ plug (f ∷ outer) (leaf_at leaf.slot leaf.key leaf.value) → AreAround bytes outer
+      → Holds (node_at new) (cells_before P outer (name_of rest) ++ (cells P rest ++ (cells_after P outer ++ alone leaf))) → IsUnder bytes (path_to outer) rest → leaves rest ≡ leaves_in f.before ++ leaves_in f.after
+      → IsApart bytes P new s leaf (root_of outer (name_of rest))
+  finish new f outer leaf s rest is around holds under left = record {
+    rest = plug outer rest;
+    named = name_of-plug outer rest;
+    holds = subst (Holds (node_at new)) (ordered (cells_before P outer (name_of rest)) (cells P rest) (cells_after P outer) (alone leaf) (cells P (plug outer rest)) (cells-plug P outer rest)) holds;
+    under = IsUnder-plug bytes outer rest around under;
+    front = leaves_before (f ∷ outer);
+    back = leaves_after (f ∷ outer);
+    was = ap leaves is ∙ leaves-plug (f ∷ outer) (leaf_at leaf.slot leaf.key leaf.value);
+    left = leaves-plug outer rest ∙ ap (λ ls. leaves_before outer ++ (ls ++ leaves_after outer)) left ∙ simp append_assoc;
+  }
+    where
+      ordered : (a b c d e : List (Name × Cell K V)) → e ≡ a ++ (b ++ c) → a ++ (b ++ (c ++ d)) ≡ e ++ d
+      ordered a b c d e is = rw is (simp append_assoc)
+
+  -- where the node was the root
+  pub finish_root : (new : Arena K V) (f : Frame K V) (outer : List (Frame K V)) (leaf : LeafAt K V) (s : Shape K V) (other : Name) → s ≡ plug (f ∷ outer) (leaf_at leaf.slot leaf.key leaf.value) → outer ≡ []
+      → StandsFor bytes P new f outer leaf other → IsApart bytes P new s leaf other
+  finish_root new f [] leaf s other is none stands = subst (IsApart bytes P new s leaf) stands.named (finish new f [] leaf s stands.rest is tt stands.holds stands.under stands.left)
+  finish_root new f (g ∷ above) leaf s other is none stands = absurd (cc)
+
+  -- where another node stands above it
+  module _ (mid : Arena K V) (f g : Frame K V) (above : List (Frame K V)) (leaf : LeafAt K V) (other : Name) (around : AreAround bytes (g ∷ above)) (stands : StandsFor bytes P mid f (g ∷ above) leaf other) where
+    pub above_held : held_at mid g.name ≡ Some (inner_held (frame_node P g f.name))
+    above_held = inner_of (held_at mid g.name) _ (frame-there P g above f.name _ around.2 (node_at mid) stands.holds)
+
+    pub above_child : child_at (frame_node P g f.name).children g.byte ≡ Some f.name
+    above_child = frame-child P g above f.name _ around.2 (node_at mid) stands.holds
+
+    module _ (new : Arena K V) (same : other ≡ f.name → SameNodes mid new) (edits : other ≢ f.name → EditsNode mid new g.name (λ n. with_children n (with_child n.children g.byte other))) where
+      pub pointed : Holds (node_at new) (cells_before P (g ∷ above) other ++ (cells P stands.rest ++ (cells_after P (g ∷ above) ++ alone leaf)))
+      pointed = elim (same_name_tells other f.name) [
+        | inl is ↦ Holds-same (node_at mid) (node_at new) (nodes-same mid new (same is.1)) _
+            (subst (λ n. Holds (node_at mid) (cells_before P (g ∷ above) n ++ (cells P stands.rest ++ (cells_after P (g ∷ above) ++ alone leaf)))) (sym is.1) stands.holds)
+        | inr not ↦ repoint P g above f.name _ around.2 (node_at mid) stands.holds (node_at new) other (nodes-update mid new g.name _ (edits not.1 _ above_held))
+      ]
+
+      pub finish_below : (s : Shape K V) (root : Name) → name_of s ≡ root → s ≡ plug (f ∷ g ∷ above) (leaf_at leaf.slot leaf.key leaf.value) → IsApart bytes P new s leaf root
+      finish_below s root named is =
+          let whole = finish new f (g ∷ above) leaf s stands.rest is around
+          (subst (λ n. Holds (node_at new) (cells_before P (g ∷ above) n ++ (cells P stands.rest ++ (cells_after P (g ∷ above) ++ alone leaf)))) (sym stands.named) pointed) stands.under stands.left in
+          let same_root : root_of above g.name ≡ root = sym (name_of-plug (f ∷ g ∷ above) (leaf_at leaf.slot leaf.key leaf.value)) ∙ ap name_of (sym is) ∙ named in
+          subst (IsApart bytes P new s leaf) same_root whole
+
+      pub pointed_links : g.name.kind ≢ Leaf → (slot : ℕ) → links_at new slot ≡ links_at mid slot
+      pointed_links inner slot = elim (same_name_tells other f.name) [
+        | inl is ↦ links-same mid new (same is.1) slot
+        | inr not ↦ links-kept mid new g.name _ (edits not.1 _ above_held) inner slot
+      ]
+
+  -- a leaf to which one step leads, taken out of the root
+  module _ (old new : Arena K V) (root : Name) (s : Shape K V) (slot : ℕ) (last : List Step) (step : Step) (some : last ≡ step ∷ []) (parent : Name) (node : step.node ≡ parent)
+      (nodes : IsNodes bytes P (node_at old) root s) (place : IsLeafPlace bytes s slot last) (other : Name)
+      (stands : (there : IsChildLeaf bytes P old parent step.byte slot) → StandsFor bytes P new there.frame there.outer there.leaf other) where
+    pub apart_of_root : IsApart bytes P new s (record { slot = slot; key = place.key; value = place.value }) other
+    apart_of_root =
+        let hp = the_parent old root s slot last step [] some parent node nodes place in
+        finish_root new hp.frame hp.outer _ s other (whole_is old root s slot last step [] some parent node nodes place) (no-grandparent hp.outer hp.above) (stands (child_leaf old root s slot last step [] some parent node nodes place))
+
+  -- one to which two lead, taken out of a node to which another points
+  module _ (old mid : Arena K V) (root : Name) (s : Shape K V) (slot : ℕ) (last : List Step) (step upper : Step) (some : last ≡ step ∷ upper ∷ []) (parent : Name) (node : step.node ≡ parent)
+      (nodes : IsNodes bytes P (node_at old) root s) (place : IsLeafPlace bytes s slot last) (other : Name)
+      (stands : (there : IsChildLeaf bytes P old parent step.byte slot) → StandsFor bytes P mid there.frame there.outer there.leaf other)
+      (grand : Name) (grand_is : upper.node ≡ grand) where
+    abbrev pub its_parent : HasParent place.ctx step (upper ∷ [])
+    its_parent = the_parent old root s slot last step (upper ∷ []) some parent node nodes place
+
+    abbrev pub its_grandparent : HasGrandparent its_parent.outer upper
+    its_grandparent = grandparent-of its_parent.outer upper its_parent.above
+
+    abbrev pub its_leaf : LeafAt K V
+    its_leaf = record { slot = slot; key = place.key; value = place.value }
+
+    there : IsHeldAt bytes P old (its_parent.frame ∷ its_parent.outer) its_leaf
+    there = held_at_place old root s slot last step (upper ∷ []) some parent node nodes place
+
+    around : AreAround bytes (its_grandparent.frame ∷ its_grandparent.above)
+    around = subst (AreAround bytes) its_grandparent.is there.around.4
+
+    left : StandsFor bytes P mid its_parent.frame (its_grandparent.frame ∷ its_grandparent.above) its_leaf other
+    left = subst (λ outer. StandsFor bytes P mid its_parent.frame outer its_leaf other) its_grandparent.is (stands (child_leaf old root s slot last step (upper ∷ []) some parent node nodes place))
+
+    abbrev pub grand_node : InnerNode
+    grand_node = frame_node P its_grandparent.frame its_parent.frame.name
+
+    pub grand_there : held_at mid grand ≡ Some (inner_held grand_node)
+    grand_there = ap (held_at mid) (sym grand_is ∙ sym its_grandparent.named) ∙ above_held mid its_parent.frame its_grandparent.frame its_grandparent.above its_leaf other around left
+
+    pub grand_child : IsSome (child_at grand_node.children upper.byte)
+    grand_child = subst (λ b. IsSome (child_at grand_node.children b)) its_grandparent.byte (rw (above_child mid its_parent.frame its_grandparent.frame its_grandparent.above its_leaf other around left) refl)
+
+    pub grand_inner : grand.kind ≢ Leaf
+    grand_inner = subst (λ (n : Name). n.kind ≢ Leaf) (its_grandparent.named ∙ grand_is) (frame-inner bytes its_grandparent.frame its_grandparent.above around)
+
+    module _ (new : Arena K V) (same : other ≡ parent → SameNodes mid new) (edits : other ≢ parent → EditsNode mid new grand (λ n. with_children n (with_child n.children upper.byte other))) where
+      edits_above : other ≢ its_parent.frame.name → EditsNode mid new its_grandparent.frame.name (λ n. with_children n (with_child n.children its_grandparent.frame.byte other))
+      edits_above apart =
+          subst (λ n. EditsNode mid new n (λ n. with_children n (with_child n.children its_grandparent.frame.byte other))) (sym (its_grandparent.named ∙ grand_is))
+          (subst (λ b. EditsNode mid new grand (λ n. with_children n (with_child n.children b other))) (sym its_grandparent.byte) (edits (λ e. apart (e ∙ sym node ∙ sym its_parent.named))))
+
+      same_above : other ≡ its_parent.frame.name → SameNodes mid new
+      same_above e = same (e ∙ its_parent.named ∙ node)
+
+      pub apart_below : IsApart bytes P new s its_leaf root
+      apart_below =
+          finish_below mid its_parent.frame its_grandparent.frame its_grandparent.above its_leaf other around left new same_above edits_above s root nodes.named
+          (whole_is old root s slot last step (upper ∷ []) some parent node nodes place ∙ ap (λ outer. plug (its_parent.frame ∷ outer) (leaf_at slot place.key place.value)) its_grandparent.is)
+
+      pub links_below : (at : ℕ) → links_at new at ≡ links_at mid at
+      links_below = pointed_links mid its_parent.frame its_grandparent.frame its_grandparent.above its_leaf other around left new same_above edits_above (frame-inner bytes its_grandparent.frame its_grandparent.above around)

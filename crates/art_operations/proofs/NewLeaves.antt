@@ -1,0 +1,54 @@
+-- A new leaf goes between two lists of leaves.
+use Rattle.std.proofs.Common.{◌≡◌, ℕ, Bool, true, false, List, [], ◌∷◌, ◌++◌, Option, Some, None, IsSome, refl, sym, subst, ◌∙◌, append_assoc}
+use Rattle.art_arena.specs.Linked.{Links, first_slot, last_slot, IsBeside}
+use Rattle.art_arena.specs.Shapes.{LeafAt}
+use Rattle.art_arena.proofs.LinkedLists.{ends_with-first, last_slot-append}
+use Rattle.art_operations.specs.Forks.{IsBetween}
+use Rattle.art_operations.proofs.Inserted.{AreLinked-same}
+
+module _ {K V : Type 0} where
+  -- the list behind the place begins with the leaf before which the new one goes
+  pub record GoesBefore (slot : ℕ) (ys : List (LeafAt K V)) : Type 0 where
+    pub first : LeafAt K V
+    pub more : List (LeafAt K V)
+    pub is : ys ≡ first ∷ more
+    pub named : first.slot ≡ slot
+
+  pub goes_before : (is_before : Bool) (slot : ℕ) (xs ys : List (LeafAt K V)) → is_before ≡ true → IsBetween is_before slot xs ys → GoesBefore slot ys
+  goes_before is_before slot xs [] is between = absurd (let e = subst (λ b. IsBetween {K = K} {V = V} b slot xs []) is between in cc)
+  goes_before is_before slot xs (y ∷ ys) is between = record { first = y; more = ys; is = refl; named = (let e = subst (λ b. IsBetween b slot xs (y ∷ ys)) is between in cc) }
+
+  -- the list before the place ends with the leaf behind which the new one goes
+  pub record GoesAfter (slot : ℕ) (xs : List (LeafAt K V)) : Type 0 where
+    pub more : List (LeafAt K V)
+    pub last : LeafAt K V
+    pub is : xs ≡ more ++ last ∷ []
+    pub named : last.slot ≡ slot
+
+  pub goes_after : (is_before : Bool) (slot : ℕ) (xs ys : List (LeafAt K V)) → is_before ≡ false → IsBetween is_before slot xs ys → GoesAfter slot xs
+  goes_after is_before slot xs ys is between =
+      let e = ends_with-first xs slot (subst (λ b. IsBetween b slot xs ys) is between) in
+      record { more = e.0; last = e.1; is = e.2; named = e.3 }
+
+  pub behind_last : (zs : List (LeafAt K V)) (z : LeafAt K V) (ys : List (LeafAt K V)) → (zs ++ z ∷ []) ++ ys ≡ zs ++ z ∷ ys
+  behind_last zs z ys = append_assoc zs (z ∷ []) ys
+
+  -- links that answer alike have the same list beside the same leaf
+  pub beside-same : (old new : ℕ → Option Links) (ls : List (LeafAt K V)) (leaf : ℕ) → ((n : ℕ) → new n ≡ old n) → IsBeside old ls leaf → IsBeside new ls leaf
+  beside-same old new ls leaf same beside = record {
+    list = record { linked = AreLinked-same old new same None ls None beside.list.linked; once = beside.list.once };
+    apart = beside.apart;
+    held = subst IsSome (sym (same leaf)) beside.held;
+  }
+
+  -- the end of a list is that of a longer one
+  pub first_of : (xs ys : List (LeafAt K V)) (slot : ℕ) → first_slot xs None ≡ Some slot → first_slot (xs ++ ys) None ≡ Some slot
+  first_of [] ys slot e = absurd (cc)
+  first_of (x ∷ xs) ys slot e = e
+
+  last_from : (before : Option ℕ) (xs : List (LeafAt K V)) (slot : ℕ) → last_slot None xs ≡ Some slot → last_slot before xs ≡ Some slot
+  last_from before [] slot e = absurd (cc)
+  last_from before (x ∷ xs) slot e = e
+
+  pub last_of : (xs ys : List (LeafAt K V)) (slot : ℕ) → last_slot None ys ≡ Some slot → last_slot None (xs ++ ys) ≡ Some slot
+  last_of xs ys slot e = last_slot-append None xs ys ∙ last_from (last_slot None xs) ys slot e

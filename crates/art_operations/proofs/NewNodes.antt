@@ -1,0 +1,38 @@
+-- Nodes that are made in an arena: the room for them, and what is left where one is taken out again.
+use Rattle.std.proofs.Common.{◌≡◌, ◌≢◌, ℕ, ◌≤◌, None, Some, Option, IsSome, refl, sym, ◌∙◌, inl, inr, arith, subst}
+use Rattle.art_nodes.specs.Name.{Name}
+use Rattle.art_nodes.specs.InnerNode.{InnerNode}
+use Rattle.art_nodes.specs.declared.kind.NodeType.{NodeType}
+use Rattle.art_nodes.specs.declared.kind.NodeType.TheVariants.{Node4, Node16, Node48, Node256, Leaf}
+use Rattle.art_arena.specs.Arena.{Arena, Held, inner_held, as_inner, held_as, held_at, Allocates, SameNodes, HasRoom}
+use Rattle.art_arena.specs.Cells.{UpdatesAt}
+use Rattle.art_arena.proofs.CellLists.{same_name_tells}
+
+module _ {K V : Type 0} where
+  -- room for more is room for fewer
+  pub fewer : (arena : Arena K V) (m n : ℕ) → m ≤ n → HasRoom arena n → HasRoom arena m
+  fewer arena m n less room =
+      let a = room.leaves in let b = room.nodes4 in let c = room.nodes16 in let d = room.nodes48 in let e = room.nodes256 in
+      record { leaves = omega (arith, a, less); nodes4 = omega (arith, b, less); nodes16 = omega (arith, c, less); nodes48 = omega (arith, d, less); nodes256 = omega (arith, e, less) }
+
+  -- a node that was made and taken out again leaves the arena as it was
+  pub undone : (old made still new : Arena K V) (n : Name) (node : Held K V) → Allocates old made n node → SameNodes made still → UpdatesAt (held_at still) (held_at new) n None → SameNodes old new
+  undone old made still new n node allocates same removed m = elim (same_name_tells m n) [
+    | inl is ↦ subst (λ x. held_at new x ≡ held_at old x) (sym is.1) (removed.changed ∙ sym allocates.vacant)
+    | inr other ↦ removed.others m other.1 ∙ same m ∙ allocates.updates.others m other.1
+  ]
+
+  of_inner : (o : Option InnerNode) → IsSome (as_inner {K = K} {V = V} o) → (n : InnerNode) × (as_inner {K = K} {V = V} o ≡ Some (inner_held n))
+  of_inner None there = absurd (cc)
+  of_inner (Some n) there = (n, refl)
+
+  held_of_kind : (arena : Arena K V) (kind : NodeType) (slot : ℕ) → IsSome (held_as arena kind slot) → kind ≢ Leaf → (n : InnerNode) × (held_as arena kind slot ≡ Some (inner_held n))
+  held_of_kind arena Node4 slot there other = of_inner _ there
+  held_of_kind arena Node16 slot there other = of_inner _ there
+  held_of_kind arena Node48 slot there other = of_inner _ there
+  held_of_kind arena Node256 slot there other = of_inner _ there
+  held_of_kind arena Leaf slot there other = absurd (other refl)
+
+  -- under the name of an inner node that is held stands an inner node
+  pub held_inner : (arena : Arena K V) (name : Name) → IsSome (held_at arena name) → name.kind ≢ Leaf → (n : InnerNode) × (held_at arena name ≡ Some (inner_held n))
+  held_inner arena name there other = held_of_kind arena name.kind name.slot there other

@@ -1,0 +1,104 @@
+-- A leaf whose loss changes the kind of the node above it, by the keys alone.
+use Rattle.std.proofs.Common.{◌≡◌, ℕ, suc, ◌+◌, List, [], ◌∷◌, ◌++◌, length, drop, map, refl, sym, ap, ap₂, subst, ◌∙◌, inl, inr, arith, append_assoc, drop_at}
+use Rattle.std.specs.List.{filter_map, cons_option}
+use Rattle.std.specs.Prelude.{Option, nat_eq}
+use Rattle.std.proofs.lemmas.Bool.Decides.{eqb_tells}
+use Rattle.art_nodes.specs.Name.{Name}
+use Rattle.art_arena.specs.Arena.{Arena, node_at}
+use Rattle.art_arena.specs.Changes.{IsIn}
+use Rattle.art_arena.specs.Context.{Frame, fill, plug, path_to, leaves_before, leaves_after, AreBelow, AreAround}
+use Rattle.art_arena.specs.Fronts.{byte_after, width_of, distinct}
+use Rattle.art_arena.specs.Kinds.{ChangesKind}
+use Rattle.art_arena.specs.Meaning.{IsNodes}
+use Rattle.art_arena.specs.Order.{common}
+use Rattle.art_arena.specs.Shapes.{Shape, Branches, leaf_at, no_branch, branch, join, leaves, width, erase, erase_in, key_of, IsUnder}
+use Rattle.art_arena.specs.Shrinks.{Shrinks}
+use Rattle.art_arena.specs.Steps.{Step}
+use Rattle.art_arena.specs.Trees.{items, count, IsCanonical}
+use Rattle.art_arena.proofs.Contexts.{leaves-plug, width-join}
+use Rattle.art_arena.proofs.Delete.{last_count, last_in}
+use Rattle.art_arena.proofs.Erased.{items-erase, count-erase, canonical-erase}
+use Rattle.art_arena.proofs.Fronts.{widths}
+use Rattle.art_arena.proofs.Insert.{in_right}
+use Rattle.art_arena.proofs.Paths.{in_map}
+use Rattle.art_arena.proofs.Shrinks.{TreeMeets, meets, shrinks_is_kind_change}
+use Rattle.art_operations.specs.DeletePoints.{IsLeafPlace}
+use Rattle.art_operations.proofs.Detaching.{the_parent, the_leaf, whole_is, held_at_place}
+
+-- of pairs, or of the leaves that they are of
+
+module _ {X Y : Type 0} (f : X → Y) where
+  from_map : (y : Y) (xs : List X) → IsIn y (map f xs) → (x : X) × IsIn x xs × (f x ≡ y)
+  from_map y [] i = absurd i
+  from_map y (x ∷ xs) (inl e) = (x, inl refl, e)
+  from_map y (x ∷ xs) (inr i) = let r = from_map y xs i in (r.0, inr r.1, r.2)
+
+  filtered : (g : Y → Option ℕ) (xs : List X) → filter_map g (map f xs) ≡ filter_map (λ x. g (f x)) xs
+  filtered g [] = refl
+  filtered g (x ∷ xs) = ap (cons_option (g (f x))) (filtered g xs)
+
+  shrinks_of_map : (key : Y → List ℕ) (xs : List X) (k : List ℕ) → Shrinks key (map f xs) k → Shrinks (λ x. key (f x)) xs k
+  shrinks_of_map key xs k (m, ((y, i, apart, meets), longest), limit) =
+      let x = from_map y xs i in
+      let same : width_of key (map f xs) m ≡ width_of (λ x. key (f x)) xs m = ap (λ bs. length (distinct nat_eq bs)) (filtered (λ y. byte_after m (key y)) xs) in (
+        m,
+        ((x.0, x.1, λ e. apart (ap key (sym x.2) ∙ e), ap (λ y. common k (key y)) x.2 ∙ meets), λ z j other. longest (f z) (in_map f z xs j) other),
+        rw (← same) limit,
+      )
+
+-- down to the node above a place
+
+module _ {K V : Type 0} where
+  into_branch : (n b : ℕ) (f : Branches K V) (s : Shape K V) (g : Branches K V) (r : List ℕ) → AreBelow b f → last_in n (erase_in (join f (branch b s g))) (b ∷ r) ≡ last_count n (erase s) r
+  into_branch n b no_branch s g r below = elim (eqb_tells b b) [ inl y ↦ rw y.0 refl | inr o ↦ absurd (o.1 refl) ]
+  into_branch n b (branch c t f) s g r below = elim (eqb_tells b c) [
+    | inl same ↦ absurd (omega (arith, same.1, below.0))
+    | inr other ↦ rw other.0 (into_branch n b f s g r below.1)
+  ]
+
+  into_fill : (n : ℕ) (f : Frame K V) (s : Shape K V) (r : List ℕ) → AreBelow f.byte f.before → last_count n (erase (fill f s)) ((f.prefix ++ f.byte ∷ []) ++ r) ≡ last_count (suc (width f.before + width f.after)) (erase s) r
+  into_fill n f s r below =
+      let kids = join f.before (branch f.byte s f.after) in
+      let rest : drop (length f.prefix) ((f.prefix ++ f.byte ∷ []) ++ r) ≡ f.byte ∷ r = ap (drop (length f.prefix)) (append_assoc f.prefix (f.byte ∷ []) r) ∙ drop_at f.prefix (f.byte ∷ r) (length f.prefix) refl in
+      let wide : count (erase_in kids) ≡ suc (width f.before + width f.after) = omega (arith, count-erase kids, width-join f.before (branch f.byte s f.after)) in
+      ap₂ (λ m l. last_in m (erase_in kids) l) wide rest ∙ into_branch _ f.byte f.before s f.after r below
+
+  into_place : (bytes : K → List ℕ) (n : ℕ) (f : Frame K V) (outer : List (Frame K V)) (s : Shape K V) (r : List ℕ) → AreAround bytes (f ∷ outer)
+      → last_count n (erase (plug (f ∷ outer) s)) (path_to (f ∷ outer) ++ r) ≡ last_count (suc (width f.before + width f.after)) (erase s) r
+  into_place bytes n f [] s r around = into_fill n f s r around.2
+  into_place bytes n f (g ∷ above) s r around =
+      let way : path_to (f ∷ g ∷ above) ++ r ≡ path_to (g ∷ above) ++ ((f.prefix ++ f.byte ∷ []) ++ r) = simp append_assoc in
+      ap (last_count n (erase (plug (f ∷ g ∷ above) s))) way
+      ∙ into_place bytes n g above (fill f s) ((f.prefix ++ f.byte ∷ []) ++ r) around.4
+      ∙ into_fill (suc (width g.before + width g.after)) f s r around.2
+
+module _ {K V : Type 0} (bytes : K → List ℕ) where
+  -- the node above a key's leaf has as many children as bytes follow the longest front that the key shares
+  shrinks_at : (s : Shape K V) → IsUnder bytes [] s → (k : K × V) → IsIn k (items (erase s)) → (n : ℕ) → ((m : ℕ) → last_count m (erase s) (key_of bytes k) ≡ suc n) → ChangesKind (suc n) → Shrinks (key_of bytes) (items (erase s)) (key_of bytes k)
+  shrinks_at s under k stored n counted changes = go (meets (key_of bytes) (key_of bytes k) [] (erase s) canonical (key_of bytes k) refl (k, stored, refl))
+    where
+      canonical : IsCanonical (key_of bytes) [] (erase s)
+      canonical = canonical-erase bytes [] s under
+
+      go : TreeMeets (key_of bytes) (key_of bytes k) [] (erase s) (key_of bytes k) → Shrinks (key_of bytes) (items (erase s)) (key_of bytes k)
+      go (inl alone) = absurd (omega (arith, counted 0, alone.0 0))
+      go (inr (m, meeting, longer, width)) =
+          let wide : width_of (key_of bytes) (items (erase s)) m ≡ suc n =
+          width (width_of (key_of bytes) (items (erase s))) 0 (widths (key_of bytes) (items (erase s)) [] (erase s) canonical (λ front i. refl)) ∙ counted 0 in
+          (shrinks_is_kind_change (K × V) (key_of bytes) (items (erase s)) (key_of bytes k) m meeting).1 (subst ChangesKind (sym wide) changes)
+
+module _ {K V : Type 0} (bytes : K → List ℕ) (P : ℕ) (arena : Arena K V) (root : Name) (s : Shape K V) (slot : ℕ) (last : List Step) (step : Step) (more : List Step) (some : last ≡ step ∷ more) (parent : Name) (node : step.node ≡ parent)
+    (nodes : IsNodes bytes P (node_at arena) root s) (place : IsLeafPlace bytes s slot last) where
+  pub place_shrinks : ChangesKind (suc (width (the_parent bytes P arena root s slot last step more some parent node nodes place).frame.before + width (the_parent bytes P arena root s slot last step more some parent node nodes place).frame.after))
+      → Shrinks (λ l. bytes l.key) (leaves s) (bytes place.key)
+  place_shrinks changes =
+      let hp = the_parent bytes P arena root s slot last step more some parent node nodes place in
+      let is = whole_is bytes P arena root s slot last step more some parent node nodes place in
+      let held = held_at_place bytes P arena root s slot last step more some parent node nodes place in
+      let counted = λ (m : ℕ).
+      ap₂ (λ t k. last_count m (erase t) k) is held.begins.1 ∙ into_place bytes m hp.frame hp.outer (leaf_at slot place.key place.value) held.begins.0 held.around in
+      let leaf = the_leaf bytes P arena root s slot last step more some parent node nodes place in
+      let there : IsIn leaf (leaves s) = subst (IsIn leaf) (sym (ap leaves is ∙ leaves-plug (hp.frame ∷ hp.outer) (leaf_at slot place.key place.value))) (in_right leaf (leaves_before (hp.frame ∷ hp.outer)) (leaf ∷ leaves_after (hp.frame ∷ hp.outer)) (inl refl)) in
+      let stored : IsIn (place.key, place.value) (items (erase s)) = subst (IsIn (place.key, place.value)) (sym (items-erase s)) (in_map (λ l. (l.key, l.value)) leaf (leaves s) there) in
+      shrinks_of_map (λ l. (l.key, l.value)) (key_of bytes) (leaves s) (bytes place.key)
+      (subst (λ xs. Shrinks (key_of bytes) xs (bytes place.key)) (items-erase s) (shrinks_at bytes s nodes.under (place.key, place.value) stored _ counted changes))

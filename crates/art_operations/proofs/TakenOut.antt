@@ -1,0 +1,101 @@
+-- A leaf below a node, and what its loss makes of the node.
+use Rattle.std.proofs.Common.{◌≡◌, ◌≢◌, ℕ, suc, ◌+◌, ◌<◌, ◌≤◌, List, [], ◌∷◌, ◌++◌, length, Some, None, sym, ap, subst, ◌∙◌, arith, length-append}
+use Rattle.art_nodes.specs.Name.{Name}
+use Rattle.art_nodes.specs.InnerNode.{InnerNode, without_child, with_children}
+use Rattle.art_nodes.specs.Kind.{row_of, CanShrink}
+use Rattle.art_nodes.specs.declared.kind.NodeType.{NodeType}
+use Rattle.art_nodes.specs.declared.kind.NodeType.TheVariants.{Node4, Node16, Node48, Node256, Leaf}
+use Rattle.art_arena.specs.Arena.{Arena, inner_held, held_at, links_at}
+use Rattle.art_arena.specs.Cells.{leaf_name, UpdatesAt}
+use Rattle.art_arena.specs.Context.{path_to}
+use Rattle.art_arena.specs.Kinds.{IsKindOf, ChangesKind}
+use Rattle.art_arena.specs.Shapes.{name_of, width}
+use Rattle.art_arena.proofs.Updates.{links-kept}
+use Rattle.art_operations.specs.Detached.{IsChildLeaf, StandsFor}
+use Rattle.art_operations.specs.Removals.{Moves, PutsBack, Lengthens, IsOther}
+use Rattle.art_operations.proofs.Apart.{taken}
+use Rattle.art_operations.proofs.Lengthened.{kind_not_leaf}
+use Rattle.art_operations.proofs.Merges.{OneLeft, one_left, other_path, other_subtree, merged}
+use Rattle.art_operations.proofs.Parents.{above, above_there, others_length, all_length, puts_back, moves_links, lengthens_links}
+
+-- where a node may shrink, the loss of a child changes its kind
+pub changes_kind : (kind : NodeType) (n : ℕ) → IsKindOf kind (suc n) → CanShrink kind n → ChangesKind (suc n)
+changes_kind Node4 n is can = absurd can
+changes_kind Node16 n is can = (Node16, Node4, is, record { two = omega (arith, is.fewest); fewest = omega (arith, is.fewest); most = omega (arith, can) }, λ e. absurd (cc))
+changes_kind Node48 n is can = (Node48, Node16, is, record { two = omega (arith, is.fewest); fewest = omega (arith, is.fewest); most = omega (arith, can) }, λ e. absurd (cc))
+changes_kind Node256 n is can = (Node256, Node48, is, record { two = omega (arith, is.fewest); fewest = omega (arith, is.fewest); most = omega (arith, can) }, λ e. absurd (cc))
+changes_kind Leaf n is can = absurd can
+
+module _ {K V : Type 0} (bytes : K → List ℕ) (P : ℕ) (old : Arena K V) (parent : Name) (byte slot : ℕ) (there : IsChildLeaf bytes P old parent byte slot) where
+  abbrev pub node : InnerNode
+  node = above bytes P old there.frame there.outer there.leaf there.held
+
+  -- how many other children there are
+  abbrev pub others : ℕ
+  others = width there.frame.before + width there.frame.after
+
+  pub node_there : held_at old parent ≡ Some (inner_held node)
+  node_there = ap (held_at old) (sym there.named) ∙ above_there bytes P old there.frame there.outer there.leaf there.held
+
+  pub node_kind : IsKindOf parent.kind (suc others)
+  node_kind = subst (λ (n : Name). IsKindOf n.kind (suc others)) there.named there.held.around.0
+
+  pub node_inner : parent.kind ≢ Leaf
+  node_inner = kind_not_leaf parent (suc others) node_kind
+
+  pub node_count : node.header.num_children ≡ suc others
+  node_count = all_length bytes P old there.frame there.outer there.leaf there.held
+
+  rest_length : length (without_child node.children byte) ≡ others
+  rest_length = ap (λ b. length (without_child node.children b)) (sym there.under) ∙ others_length bytes P old there.frame there.outer there.leaf there.held
+
+  pub puts_leaf_back : PutsBack node byte (leaf_name slot)
+  puts_leaf_back =
+      subst (λ b. PutsBack node b (leaf_name slot)) there.under
+      (subst (λ l. PutsBack node there.frame.byte (leaf_name l)) there.slot_is (puts_back bytes P old there.frame there.outer there.leaf there.held))
+
+  pub has_room : length (without_child node.children byte) < (row_of parent.kind).most
+  has_room = omega (arith, rest_length, node_kind.most)
+
+  -- where the leaf was taken out of a node of three children or more
+  module _ (new : Arena K V) (other : Name) (moves : Moves old new parent other (inner_held (with_children node (without_child node.children byte))))
+      (kind : IsKindOf parent.kind (suc (length (without_child node.children byte))) → 2 ≤ length (without_child node.children byte) → IsKindOf other.kind (length (without_child node.children byte)))
+      (more : suc others ≢ 2) where
+    other_kind : IsKindOf other.kind others
+    other_kind =
+        let two = node_kind.two in
+        subst (IsKindOf other.kind) rest_length (kind (subst (λ n. IsKindOf parent.kind (suc n)) (sym rest_length) node_kind) (omega (arith, rest_length, two, more)))
+
+    pub taken_out : StandsFor bytes P new there.frame there.outer there.leaf other
+    taken_out =
+        taken bytes P old new there.frame there.outer there.leaf there.held other
+        (subst (λ b. Moves old new there.frame.name other (inner_held (with_children node (without_child node.children b)))) (sym there.under)
+        (subst (λ n. Moves old new n other (inner_held (with_children node (without_child node.children byte)))) (sym there.named) moves))
+        other_kind
+
+    pub taken_links : (s : ℕ) → links_at new s ≡ links_at old s
+    taken_links = moves_links old new parent other _ moves node_inner (kind_not_leaf other others other_kind)
+
+  pub limit_kind : CanShrink parent.kind (length (without_child node.children byte)) → ChangesKind (suc others)
+  limit_kind can = changes_kind parent.kind others node_kind (subst (CanShrink parent.kind) rest_length can)
+
+  -- where it was one of two children
+  module _ (two : suc others ≡ 2) where
+    pub one : OneLeft there.frame.before there.frame.byte (leaf_name there.leaf.slot) there.frame.after
+    one = one_left bytes (path_to there.outer ++ there.frame.prefix) there.frame.before there.frame.byte (leaf_name there.leaf.slot) there.frame.after there.held.around.2 there.held.around.3 (omega (arith, two))
+
+    pub one_other : IsOther node.children byte (one.edge, name_of one.here)
+    one_other = subst (λ b. IsOther node.children b (one.edge, name_of one.here)) there.under one.other
+
+    pub shorter : node.header.prefix_len < length (other_path bytes P old there.frame there.outer there.leaf there.held one)
+    shorter = omega (arith, length-append (path_to there.outer ++ there.frame.prefix) (one.edge ∷ []), length-append (path_to there.outer) there.frame.prefix)
+
+    module _ (mid new : Arena K V) (lengthens : Lengthens P old mid node one.edge (name_of one.here)) (gone : UpdatesAt (held_at mid) (held_at new) parent None) where
+      pub merged_out : StandsFor bytes P new there.frame there.outer there.leaf (name_of one.here)
+      merged_out =
+          merged bytes P old there.frame there.outer there.leaf there.held one mid new lengthens (subst (λ n. UpdatesAt (held_at mid) (held_at new) n None) (sym there.named) gone)
+
+      pub merged_links : (s : ℕ) → links_at new s ≡ links_at old s
+      merged_links s =
+          links-kept mid new parent None gone node_inner s
+          ∙ lengthens_links bytes P old mid node one.edge (name_of one.here) _ one.here (other_subtree bytes P old there.frame there.outer there.leaf there.held one) lengthens s

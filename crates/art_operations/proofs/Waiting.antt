@@ -1,0 +1,172 @@
+-- A leaf that waits beside a tree for its place under an inner node: what the arena holds there, and how the leaf gets its place.
+use Rattle.std.proofs.Common.{◌≡◌, ◌≢◌, ℕ, suc, ◌+◌, ◌<◌, ◌≤◌, ◌⊎◌, List, [], ◌∷◌, ◌++◌, length, take, Option, Some, None, IsSome, is_some, cond, refl, sym, ap, ap₂, subst, ◌∙◌, inl, inr, arith, append_assoc}
+use Rattle.std.proofs.lemmas.List.{append-nil}
+use Rattle.std.specs.declared.ops.Bound.TheVariants.{Excluded, Unbounded}
+use Rattle.art_nodes.specs.declared.kind.NodeType.TheVariants.{Leaf}
+use Rattle.art_nodes.specs.declared.leaf.LeafNode.{LeafNode}
+use Rattle.art_nodes.specs.InnerNode.{InnerNode, child_at, first_child, last_child, children_between, with_child, with_children}
+use Rattle.art_nodes.specs.Name.{Name}
+use Rattle.art_arena.specs.Arena.{Arena, inner_held, held_as, as_leaf, held_at, node_at, links_at}
+use Rattle.art_arena.specs.Cells.{Cell, pair, branches, leaf_name, UpdatesAt, copies, Holds}
+use Rattle.art_arena.specs.Context.{Frame, plug, path_to, frame_cell, leaves_before, leaves_after, cells_before, cells_after}
+use Rattle.art_arena.specs.Kinds.{IsKindOf}
+use Rattle.art_arena.specs.Linked.{first_slot, last_slot, AreLinked}
+use Rattle.art_arena.specs.Meaning.{IsPart, IsSubtree, IsNodes, IsTree}
+use Rattle.art_arena.specs.Shapes.{Shape, Branches, leaf_at, no_branch, branch, LeafAt, name_of, children_at, join, width, leaves, leaves_in, cells, cells_in, AreUnder}
+use Rattle.art_arena.proofs.Order.{all_left, all_right}
+use Rattle.art_arena.proofs.CellLists.{copies-append, Holds-same, Holds-write}
+use Rattle.art_arena.proofs.Contexts.{leaves_in-join, cells_in-join, width-join, leaves-plug}
+use Rattle.art_arena.proofs.Openings.{with_child-opening}
+use Rattle.art_arena.proofs.Repoint.{IsNodes-plug}
+use Rattle.art_arena.proofs.Subtrees.{inner_of, branch-first, branch-last, has_last, AreUnder-here}
+use Rattle.art_arena.proofs.Updates.{nodes-update, links-kept}
+use Rattle.art_operations.specs.Growth.{AwaitsLeaf}
+use Rattle.art_operations.proofs.Inserted.{AreLinked-same}
+use Rattle.art_operations.proofs.Neighbours.{first-of-front, last-of-back, children_behind, child_at-opening}
+
+-- appended lists, grouped in another way
+regroup_behind : {X : Type 0} (xs bs ts rs cs : List X) (n l : X) → xs ++ (n ∷ (bs ++ (l ∷ ((ts ++ rs) ++ cs)))) ≡ (xs ++ (n ∷ (bs ++ (l ∷ [])))) ++ (ts ++ (rs ++ cs))
+regroup_behind xs bs ts rs cs n l = simp append_assoc
+
+pub regroup_front : {X : Type 0} (xs bs ts cs : List X) (n : X) → xs ++ (n ∷ ((bs ++ ts) ++ cs)) ≡ (xs ++ (n ∷ bs)) ++ (ts ++ cs)
+regroup_front xs bs ts cs n = simp append_assoc
+
+module _ {K V : Type 0} where
+  -- an inner node is held under no leaf's name
+  pub inner-kind : (arena : Arena K V) (n : Name) (node : InnerNode) → held_at arena n ≡ Some (inner_held node) → n.kind ≢ Leaf
+  inner-kind arena n node there e = none _ (subst (λ kind. held_as arena kind n.slot ≡ Some (inner_held node)) e there)
+    where
+      none : (o : Option (LeafNode K V)) → as_leaf o ≡ Some (inner_held node) → ⊥
+      none None h = cc
+      none (Some leaf) h = cc
+
+  length-children : (kids : Branches K V) → length (children_at kids) ≡ width kids
+  length-children no_branch = refl
+  length-children (branch b s rest) = ap suc (length-children rest)
+
+  join-none : (kids : Branches K V) → join kids no_branch ≡ kids
+  join-none no_branch = refl
+  join-none (branch b s rest) = ap (branch b s) (join-none rest)
+
+  none-behind : (kids : Branches K V) → first_child (children_at kids) ≡ None → kids ≡ no_branch
+  none-behind no_branch e = refl
+  none-behind (branch b s rest) e = absurd (cc)
+
+  -- the node of a frame with nothing at its place
+  abbrev pub open_node : ℕ → Frame K V → InnerNode
+  open_node P f =
+      let kids = children_at (join f.before f.after) in
+      record { header = record { num_children = length kids; prefix_len = length f.prefix; stored = take P f.prefix }; children = kids }
+
+  -- a shape whose cells are among those held is held as a part
+  part-within : (P : ℕ) (at : Name → Option (Cell K V)) (xs ys : List (Name × Cell K V)) (t : Shape K V) → Holds at (xs ++ (cells P t ++ ys)) → IsPart P at (name_of t) t
+  part-within P at xs ys t holds =
+      let Q = λ (c : Name × Cell K V). at c.0 ≡ Some c.1 in
+      record {
+        named = refl;
+        held = all_left Q (cells P t) ys (all_right Q xs (cells P t ++ ys) holds.held);
+        once = λ n. few (at n) (copies n xs) (copies n (cells P t)) (copies n ys)
+            (ap (λ m. copies n xs + m) (sym (copies-append n (cells P t) ys)) ∙ sym (copies-append n xs (cells P t ++ ys)) ∙ holds.once n);
+      }
+    where
+      few : {C : Type 0} (o : Option C) (a b c : ℕ) → a + (b + c) ≡ cond (is_some o) 1 0 → b ≤ 1
+      few None a b c e = omega arith
+      few (Some x) a b c e = omega arith
+
+module _ {K V : Type 0} (bytes : K → List ℕ) (P : ℕ) (arena : Arena K V) (root node : Name) (byte leaf : ℕ) (f : Frame K V) (outer : List (Frame K V)) (l : LeafAt K V) (awaits : AwaitsLeaf bytes P arena root node byte leaf f outer l) where
+  -- the node is held, an inner one, with a child for each branch and none under the byte
+  pub node-held : held_at arena node ≡ Some (inner_held (open_node P f))
+  node-held =
+      subst (λ n. held_at arena n ≡ Some (inner_held (open_node P f))) awaits.node_is
+      (inner_of (held_at arena f.name) (open_node P f)
+      (all_right (λ (c : Name × Cell K V). node_at arena c.0 ≡ Some c.1) (cells_before P outer f.name) ((f.name, branches (open_node P f)) ∷ (cells_in P f.before ++ ((leaf_name l.slot, pair l.key l.value) ∷ cells_after P (f ∷ outer)))) awaits.holds.held).0)
+
+  pub node-inner : node.kind ≢ Leaf
+  node-inner = inner-kind arena node (open_node P f) node-held
+
+  pub no_child : child_at (open_node P f).children byte ≡ None
+  no_child = subst (λ b. child_at (children_at (join f.before f.after)) b ≡ None) awaits.byte_is (child_at-opening bytes (path_to outer ++ f.prefix) f.byte f.before f.after awaits.below awaits.after_under)
+
+  pub as_many : length (open_node P f).children ≡ width f.before + width f.after
+  as_many = length-children (join f.before f.after) ∙ width-join f.before f.after
+
+  -- where a child may be written under the byte, there is room for one
+  pub has_few : (most : ℕ) → (length (open_node P f).children < most) ⊎ IsSome (child_at (open_node P f).children byte) → width f.before + width f.after < most
+  has_few most (inl few) = omega (arith, few, as_many)
+  has_few most (inr some) = let none = rw no_child at some in absurd (cc)
+
+  behind : children_between (Excluded byte) Unbounded (open_node P f).children ≡ children_at f.after
+  behind = subst (λ b. children_between (Excluded b) Unbounded (children_at (join f.before f.after)) ≡ children_at f.after) awaits.byte_is (children_behind bytes (path_to outer ++ f.prefix) f.byte f.before f.after awaits.below awaits.after_under)
+
+  -- a child is the root of a subtree, whose first leaf comes first behind the place, or whose last one comes last in front of it
+  pub record IsNext (child : Name) : Type 0 where
+    pub path : List ℕ
+    pub part : Shape K V
+    pub subtree : IsSubtree bytes P (node_at arena) child path part
+    pub first : (p : ℕ) → first_slot (leaves part) None ≡ Some p → first_slot (leaves_after (f ∷ outer)) None ≡ Some p
+
+  pub next : (c : ℕ × Name) → first_child (children_between (Excluded byte) Unbounded (open_node P f).children) ≡ Some c → IsNext c.1
+  next c found =
+      let b = branch-first f.after c (sym (ap first_child behind) ∙ found) in
+      let under = subst (AreUnder bytes (path_to outer ++ f.prefix) (f.byte + 1)) b.2 awaits.after_under in
+      let there = subst (λ xs. Holds (node_at arena) (cells_before P outer f.name ++ ((f.name, branches (open_node P f)) ∷ (cells_in P f.before ++ ((leaf_name l.slot, pair l.key l.value) ∷ (xs ++ cells_after P outer))))))
+      (ap (cells_in P) b.2) awaits.holds in
+      let part = part-within P (node_at arena) _ (cells_in P b.1 ++ cells_after P outer) b.0
+      (subst (Holds (node_at arena)) (regroup_behind (cells_before P outer f.name) (cells_in P f.before) (cells P b.0) (cells_in P b.1) (cells_after P outer) _ _) there) in
+      record {
+        path = (path_to outer ++ f.prefix) ++ c.0 ∷ [];
+        part = b.0;
+        subtree = subst (λ n. IsSubtree bytes P (node_at arena) n ((path_to outer ++ f.prefix) ++ c.0 ∷ []) b.0) b.3 (record { part = part; under = under.1 });
+        first = λ p h. subst (λ ls. first_slot (ls ++ leaves_after outer) None ≡ Some p) (sym (ap leaves_in b.2))
+            (first-of-front (leaves b.0 ++ leaves_in b.1) (leaves_after outer) p (first-of-front (leaves b.0) (leaves_in b.1) p h));
+      }
+
+  pub record IsPrevious (child : Name) : Type 0 where
+    pub path : List ℕ
+    pub part : Shape K V
+    pub subtree : IsSubtree bytes P (node_at arena) child path part
+    pub last : (p : ℕ) → last_slot None (leaves part) ≡ Some p → last_slot None (leaves_before (f ∷ outer)) ≡ Some p
+
+  pub previous : (c : ℕ × Name) → first_child (children_between (Excluded byte) Unbounded (open_node P f).children) ≡ None → last_child (open_node P f).children ≡ Some c → IsPrevious c.1
+  previous c none found =
+      let all_before : join f.before f.after ≡ f.before = ap (join f.before) (none-behind f.after (sym (ap first_child behind) ∙ none)) ∙ join-none f.before in
+      let b = branch-last f.before c (sym (ap (λ kids. last_child (children_at kids)) all_before) ∙ found) in
+      let under = AreUnder-here bytes (path_to outer ++ f.prefix) 0 b.0 c.0 b.1 no_branch (subst (AreUnder bytes (path_to outer ++ f.prefix) 0) b.2 awaits.before_under) in
+      let cells_are : cells_in P f.before ≡ cells_in P b.0 ++ cells P b.1 = ap (cells_in P) b.2 ∙ cells_in-join P b.0 (branch c.0 b.1 no_branch) ∙ ap (λ xs. cells_in P b.0 ++ xs) (append-nil (cells P b.1)) in
+      let leaves_are : leaves_in f.before ≡ leaves_in b.0 ++ leaves b.1 = ap leaves_in b.2 ∙ leaves_in-join b.0 (branch c.0 b.1 no_branch) ∙ ap (λ xs. leaves_in b.0 ++ xs) (append-nil (leaves b.1)) in
+      let there = subst (λ xs. Holds (node_at arena) (cells_before P outer f.name ++ ((f.name, branches (open_node P f)) ∷ (xs ++ ((leaf_name l.slot, pair l.key l.value) ∷ cells_after P (f ∷ outer)))))) cells_are awaits.holds in
+      let part = part-within P (node_at arena) _ ((leaf_name l.slot, pair l.key l.value) ∷ cells_after P (f ∷ outer)) b.1
+      (subst (Holds (node_at arena)) (regroup_front (cells_before P outer f.name) (cells_in P b.0) (cells P b.1) ((leaf_name l.slot, pair l.key l.value) ∷ cells_after P (f ∷ outer)) _) there) in
+      record {
+        path = (path_to outer ++ f.prefix) ++ c.0 ∷ [];
+        part = b.1;
+        subtree = subst (λ n. IsSubtree bytes P (node_at arena) n ((path_to outer ++ f.prefix) ++ c.0 ∷ []) b.1) b.3 (record { part = part; under = under });
+        last = λ p h. subst (λ ls. last_slot None (leaves_before outer ++ ls) ≡ Some p) (sym leaves_are)
+            (last-of-back (leaves_before outer) (leaves_in b.0 ++ leaves b.1) p (last-of-back (leaves_in b.0) (leaves b.1) p h));
+      }
+
+  -- there is a child on one side
+  pub some_child : last_child (open_node P f).children ≢ None
+  some_child e = let wide = awaits.two in let some = rw e at (has_last (join f.before f.after) (omega (arith, wide, width-join f.before f.after))) in absurd (cc)
+
+  -- once the leaf is linked in and the node has it under the byte, it stands in the tree
+  pub put : (linked new : Arena K V) → ((n : Name) → node_at linked n ≡ node_at arena n) → AreLinked (links_at linked) None (leaves_before (f ∷ outer) ++ (l ∷ leaves_after (f ∷ outer))) None
+      → UpdatesAt (held_at linked) (held_at new) node (Some (inner_held (with_children (open_node P f) (with_child (open_node P f).children byte (leaf_name leaf)))))
+      → IsKindOf node.kind (suc (width f.before + width f.after))
+      → IsTree bytes P (node_at new) root (links_at new) (plug (f ∷ outer) (leaf_at l.slot l.key l.value))
+  put linked new same list update kind =
+      let kids : with_child (open_node P f).children byte (leaf_name leaf) ≡ children_at f.before ++ (f.byte, leaf_name l.slot) ∷ children_at f.after =
+      ap₂ (λ b s. with_child (open_node P f).children b (leaf_name s)) (sym awaits.byte_is) (sym awaits.leaf_is)
+      ∙ with_child-opening bytes f.byte (leaf_name l.slot) f.before f.after (path_to outer ++ f.prefix) awaits.below awaits.after_under in
+      let written = subst (λ n. UpdatesAt (node_at linked) (node_at new) n (Some (frame_cell P f (leaf_name l.slot)).1)) (sym awaits.node_is)
+      (subst (λ xs. UpdatesAt (node_at linked) (node_at new) node (Some (branches (with_children (open_node P f) xs)))) kids (nodes-update linked new node _ update)) in
+      let holds = Holds-write (node_at linked) (node_at new) f.name (branches (open_node P f)) (frame_cell P f (leaf_name l.slot)).1 (cells_before P outer f.name) (cells_in P f.before ++ ((leaf_name l.slot, pair l.key l.value) ∷ cells_after P (f ∷ outer)))
+      written (Holds-same (node_at arena) (node_at linked) same _ awaits.holds) in
+      let nodes = IsNodes-plug bytes P (node_at new) (f ∷ outer) (leaf_at l.slot l.key l.value)
+      (subst (Holds (node_at new)) (sym (append_assoc (cells_before P outer f.name) (frame_cell P f (leaf_name l.slot) ∷ cells_in P f.before) ((leaf_name l.slot, pair l.key l.value) ∷ cells_after P (f ∷ outer)))) holds)
+      (subst (λ n. IsKindOf n.kind (suc (width f.before + width f.after))) (sym awaits.node_is) kind, awaits.before_under, awaits.below, awaits.after_under, awaits.around) awaits.begins in
+      record {
+        nodes = subst (λ n. IsNodes bytes P (node_at new) n (plug (f ∷ outer) (leaf_at l.slot l.key l.value))) awaits.named nodes;
+        linked = subst (λ ls. AreLinked (links_at new) None ls None) (sym (leaves-plug (f ∷ outer) (leaf_at l.slot l.key l.value)))
+            (AreLinked-same (links_at linked) (links_at new) (links-kept linked new node _ update node-inner) None _ None list);
+      }

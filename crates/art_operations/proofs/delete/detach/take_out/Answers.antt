@@ -1,0 +1,89 @@
+use Rattle.std.proofs.Common.{◌≡◌, ◌≢◌, ℕ, suc, ◌+◌, IsSome, refl, sym, ap, ◌∙◌, subst, lit<, rules, arith}
+use Rattle.art_nodes.specs.Header.{Header}
+use Rattle.art_nodes.specs.declared.kind.NodeType.TheVariants.{Leaf}
+use Rattle.art_arena.specs.Arena.{held_at, links_at}
+use Rattle.art_arena.specs.Shapes.{name_of}
+use Rattle.art_arena.proofs.Updates.{links-same}
+use Rattle.art_operations.specs.Detached.{IsChildLeaf, StandsFor}
+use Rattle.art_operations.proofs.Merges.{other_path, other_subtree, other_apart}
+use Rattle.art_operations.proofs.Results.{both_ok, from_err, either_way}
+use Rattle.art_operations.proofs.NewNodes.{fewer}
+use Rattle.art_operations.proofs.TakenOut.{node, others, node_there, node_inner, node_count, puts_leaf_back, has_room, taken_out, taken_links, limit_kind, one, one_other, shorter, merged_out, merged_links}
+use Rattle.art_operations.proofs.delete.detach.take_out.Goals as goal
+use Rattle.art_operations.proofs.delete.detach.take_out.Goals.{After-num_children}
+
+pub prefix_fits-requires : goal.prefix_fits-requires
+prefix_fits-requires g c = (lit< tt, (rw (node_there g.K.AsBytes.bytes g.row.PREFIX_LEN c.args.arena.now c.args.parent c.args.byte c.args.leaf c.requires) refl, node_inner g.K.AsBytes.bytes g.row.PREFIX_LEN c.args.arena.now c.args.parent c.args.byte c.args.leaf c.requires))
+
+pub header-requires : goal.header-requires
+header-requires g c =
+    let there : IsSome (held_at c.args.arena.now c.args.parent) = rw (node_there g.K.AsBytes.bytes g.row.PREFIX_LEN c.args.arena.now c.args.parent c.args.byte c.args.leaf c.requires) refl in
+    let inner : c.args.parent.kind ≢ Leaf = node_inner g.K.AsBytes.bytes g.row.PREFIX_LEN c.args.arena.now c.args.parent c.args.byte c.args.leaf c.requires in
+    search rules
+
+-- how many children the node was seen to have
+count : (g : _) (c : After-num_children g) (t : IsChildLeaf g.K.AsBytes.bytes g.row.PREFIX_LEN c.args.arena.now c.args.parent c.args.byte c.args.leaf) → c.num_children.result ≡ suc (others g.K.AsBytes.bytes g.row.PREFIX_LEN c.args.arena.now c.args.parent c.args.byte c.args.leaf t)
+count g c t = c.num_children.ensures.value ∙ ap (λ (h : Header). h.num_children) (c.header.ensures (node g.K.AsBytes.bytes g.row.PREFIX_LEN c.args.arena.now c.args.parent c.args.byte c.args.leaf t) (node_there g.K.AsBytes.bytes g.row.PREFIX_LEN c.args.arena.now c.args.parent c.args.byte c.args.leaf t)) ∙ node_count g.K.AsBytes.bytes g.row.PREFIX_LEN c.args.arena.now c.args.parent c.args.byte c.args.leaf t
+
+pub merge-requires : goal.merge-requires
+merge-requires g c =
+    let t = c.requires in
+    let two : suc (others g.K.AsBytes.bytes g.row.PREFIX_LEN c.args.arena.now c.args.parent c.args.byte c.args.leaf t) ≡ 2 = sym (count g ((goal.at.merge-requires g c).After-num_children) t) ∙ c.if-num_children-eq2.true in
+    let o = one g.K.AsBytes.bytes g.row.PREFIX_LEN c.args.arena.now c.args.parent c.args.byte c.args.leaf t two in (
+      lit< tt,
+      (
+        node_inner g.K.AsBytes.bytes g.row.PREFIX_LEN c.args.arena.now c.args.parent c.args.byte c.args.leaf t,
+        (
+          node g.K.AsBytes.bytes g.row.PREFIX_LEN c.args.arena.now c.args.parent c.args.byte c.args.leaf t,
+          (o.edge, name_of o.here),
+          node_there g.K.AsBytes.bytes g.row.PREFIX_LEN c.args.arena.now c.args.parent c.args.byte c.args.leaf t,
+          one_other g.K.AsBytes.bytes g.row.PREFIX_LEN c.args.arena.now c.args.parent c.args.byte c.args.leaf t two,
+          other_path g.K.AsBytes.bytes g.row.PREFIX_LEN c.args.arena.now t.frame t.outer t.leaf t.held o,
+          o.here,
+          other_subtree g.K.AsBytes.bytes g.row.PREFIX_LEN c.args.arena.now t.frame t.outer t.leaf t.held o,
+          shorter g.K.AsBytes.bytes g.row.PREFIX_LEN c.args.arena.now c.args.parent c.args.byte c.args.leaf t two,
+          λ e. other_apart g.K.AsBytes.bytes g.row.PREFIX_LEN c.args.arena.now t.frame t.outer t.leaf t.held o (e ∙ sym t.named),
+        ),
+      ),
+    )
+
+pub returns-then-num_children-eq2-clause-ok : goal.returns-then-num_children-eq2-clause-ok
+returns-then-num_children-eq2-clause-ok g c = λ t.
+    let two : suc (others g.K.AsBytes.bytes g.row.PREFIX_LEN c.args.arena.now c.args.parent c.args.byte c.args.leaf t) ≡ 2 = sym (count g ((goal.at.returns-then-num_children-eq2-clause-ok g c).After-num_children) t) ∙ c.if-num_children-eq2.true in
+    let o = one g.K.AsBytes.bytes g.row.PREFIX_LEN c.args.arena.now c.args.parent c.args.byte c.args.leaf t two in
+    let m = c.merge.ensures.merges (node g.K.AsBytes.bytes g.row.PREFIX_LEN c.args.arena.now c.args.parent c.args.byte c.args.leaf t) (o.edge, name_of o.here) (node_there g.K.AsBytes.bytes g.row.PREFIX_LEN c.args.arena.now c.args.parent c.args.byte c.args.leaf t) (one_other g.K.AsBytes.bytes g.row.PREFIX_LEN c.args.arena.now c.args.parent c.args.byte c.args.leaf t two) in
+    let is = c.merge.ensures.value (node g.K.AsBytes.bytes g.row.PREFIX_LEN c.args.arena.now c.args.parent c.args.byte c.args.leaf t) (o.edge, name_of o.here) (node_there g.K.AsBytes.bytes g.row.PREFIX_LEN c.args.arena.now c.args.parent c.args.byte c.args.leaf t) (one_other g.K.AsBytes.bytes g.row.PREFIX_LEN c.args.arena.now c.args.parent c.args.byte c.args.leaf t two) in
+    subst (λ n. StandsFor g.K.AsBytes.bytes g.row.PREFIX_LEN c.merge.new.arena t.frame t.outer t.leaf n) (sym is) (merged_out g.K.AsBytes.bytes g.row.PREFIX_LEN c.args.arena.now c.args.parent c.args.byte c.args.leaf t two m.0 c.merge.new.arena m.1 m.2)
+
+pub returns-then-num_children-eq2-clause-links : goal.returns-then-num_children-eq2-clause-links
+returns-then-num_children-eq2-clause-links g c =
+    let t = c.requires in
+    let two : suc (others g.K.AsBytes.bytes g.row.PREFIX_LEN c.args.arena.now c.args.parent c.args.byte c.args.leaf t) ≡ 2 = sym (count g ((goal.at.returns-then-num_children-eq2-clause-links g c).After-num_children) t) ∙ c.if-num_children-eq2.true in
+    let o = one g.K.AsBytes.bytes g.row.PREFIX_LEN c.args.arena.now c.args.parent c.args.byte c.args.leaf t two in
+    let m = c.merge.ensures.merges (node g.K.AsBytes.bytes g.row.PREFIX_LEN c.args.arena.now c.args.parent c.args.byte c.args.leaf t) (o.edge, name_of o.here) (node_there g.K.AsBytes.bytes g.row.PREFIX_LEN c.args.arena.now c.args.parent c.args.byte c.args.leaf t) (one_other g.K.AsBytes.bytes g.row.PREFIX_LEN c.args.arena.now c.args.parent c.args.byte c.args.leaf t two) in
+    merged_links g.K.AsBytes.bytes g.row.PREFIX_LEN c.args.arena.now c.args.parent c.args.byte c.args.leaf t two m.0 c.merge.new.arena m.1 m.2
+
+pub returns-then-num_children-eq2-clause-room : goal.returns-then-num_children-eq2-clause-room
+returns-then-num_children-eq2-clause-room g c = λ n room. c.merge.ensures.room n (fewer c.args.arena.now n (n + 1) (omega arith) room)
+
+pub take_child-requires : goal.take_child-requires
+take_child-requires g c =
+    let t = c.requires in
+    (lit< tt, (node_inner g.K.AsBytes.bytes g.row.PREFIX_LEN c.args.arena.now c.args.parent c.args.byte c.args.leaf t, (node g.K.AsBytes.bytes g.row.PREFIX_LEN c.args.arena.now c.args.parent c.args.byte c.args.leaf t, node_there g.K.AsBytes.bytes g.row.PREFIX_LEN c.args.arena.now c.args.parent c.args.byte c.args.leaf t, rw c.to_opaque.ensures (puts_leaf_back g.K.AsBytes.bytes g.row.PREFIX_LEN c.args.arena.now c.args.parent c.args.byte c.args.leaf t), has_room g.K.AsBytes.bytes g.row.PREFIX_LEN c.args.arena.now c.args.parent c.args.byte c.args.leaf t)))
+
+pub returns-clause-ok : goal.returns-clause-ok
+returns-clause-ok g c =
+    both_ok c.take_child.result _ _ _ c.take_child.ensures.ok c.take_child.ensures.kind (λ other moves kind t.
+    let more : suc (others g.K.AsBytes.bytes g.row.PREFIX_LEN c.args.arena.now c.args.parent c.args.byte c.args.leaf t) ≢ 2 = λ e. c.if-num_children-eq2.false (count g ((goal.at.returns-clause-ok g c).After-num_children) t ∙ e) in
+    taken_out g.K.AsBytes.bytes g.row.PREFIX_LEN c.args.arena.now c.args.parent c.args.byte c.args.leaf t c.take_child.new.arena other (moves (node g.K.AsBytes.bytes g.row.PREFIX_LEN c.args.arena.now c.args.parent c.args.byte c.args.leaf t) (node_there g.K.AsBytes.bytes g.row.PREFIX_LEN c.args.arena.now c.args.parent c.args.byte c.args.leaf t)) (kind (node g.K.AsBytes.bytes g.row.PREFIX_LEN c.args.arena.now c.args.parent c.args.byte c.args.leaf t) (node_there g.K.AsBytes.bytes g.row.PREFIX_LEN c.args.arena.now c.args.parent c.args.byte c.args.leaf t)) more)
+
+pub returns-clause-links : goal.returns-clause-links
+returns-clause-links g c =
+    let t = c.requires in
+    let more : suc (others g.K.AsBytes.bytes g.row.PREFIX_LEN c.args.arena.now c.args.parent c.args.byte c.args.leaf t) ≢ 2 = λ e. c.if-num_children-eq2.false (count g ((goal.at.returns-clause-links g c).After-num_children) t ∙ e) in
+    either_way c.take_child.result _ _ _ ((slot : ℕ) → links_at c.take_child.new.arena slot ≡ links_at c.args.arena.now slot) c.take_child.ensures.ok c.take_child.ensures.kind c.take_child.ensures.err
+    (λ other moves kind. taken_links g.K.AsBytes.bytes g.row.PREFIX_LEN c.args.arena.now c.args.parent c.args.byte c.args.leaf t c.take_child.new.arena other (moves (node g.K.AsBytes.bytes g.row.PREFIX_LEN c.args.arena.now c.args.parent c.args.byte c.args.leaf t) (node_there g.K.AsBytes.bytes g.row.PREFIX_LEN c.args.arena.now c.args.parent c.args.byte c.args.leaf t)) (kind (node g.K.AsBytes.bytes g.row.PREFIX_LEN c.args.arena.now c.args.parent c.args.byte c.args.leaf t) (node_there g.K.AsBytes.bytes g.row.PREFIX_LEN c.args.arena.now c.args.parent c.args.byte c.args.leaf t)) more)
+    (λ same. links-same c.args.arena.now c.take_child.new.arena same)
+
+pub returns-clause-shrinks : goal.returns-clause-shrinks
+returns-clause-shrinks g c = from_err c.take_child.result _ _ c.take_child.ensures.shrinks (λ can t. limit_kind g.K.AsBytes.bytes g.row.PREFIX_LEN c.args.arena.now c.args.parent c.args.byte c.args.leaf t (can (node g.K.AsBytes.bytes g.row.PREFIX_LEN c.args.arena.now c.args.parent c.args.byte c.args.leaf t) (node_there g.K.AsBytes.bytes g.row.PREFIX_LEN c.args.arena.now c.args.parent c.args.byte c.args.leaf t)))

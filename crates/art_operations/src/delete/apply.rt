@@ -1,0 +1,50 @@
+//! A leaf is taken out of a tree.
+ghost use Rattle.std.specs.Prelude.{ℕ, ◌+◌, IfOk, IsOk, OnErr};
+ghost use Rattle.art_arena.specs.Arena.{node_at, links_at, HasRoom, SameNodes};
+ghost use Rattle.art_arena.specs.Meaning.{IsTree};
+ghost use Rattle.art_arena.specs.Shapes.{Shape, leaves};
+ghost use Rattle.art_arena.specs.Shrinks.{Shrinks};
+ghost use Rattle.art_arena.specs.Steps.{steps_of};
+ghost use Rattle.art_operations.specs.DeletePoints.{IsLeafPlace};
+ghost use Rattle.art_operations.specs.Deletions.{IsDeleted};
+
+use crate::delete::detach::detach;
+use crate::delete::point::DeletePoint;
+use crate::delete::result::DeleteResult;
+use art_arena::NodeArena;
+use art_arena::links::remove_self;
+use art_bytes::AsBytes;
+use art_nodes::{LeafNode, OpaqueNodePtr};
+use std::alloc::AllocError;
+
+impl DeletePoint {
+    /// Takes its leaf out of the tree below a root, and answers it, with the root of what is left. It is refused
+    /// where the loss of a child makes a node smaller, so that it is stored anew, and there is no memory for that; the arena
+    /// is then as it was.
+    pub fn apply<K: AsBytes, V, const PREFIX_LEN: usize>(
+        self,
+        arena: &mut NodeArena<K, V, PREFIX_LEN>,
+        root: OpaqueNodePtr,
+    ) -> Result<DeleteResult<K, V>, AllocError>
+        requires { (s : Shape K V) × IsTree K.bytes PREFIX_LEN (node_at arena.old) root (links_at arena.old) s × IsLeafPlace K.bytes s self.leaf_node_ptr (steps_of self.path) }
+        ensures ok { IfOk result (λ deleted. (s : Shape K V) → IsTree K.bytes PREFIX_LEN (node_at arena.old) root (links_at arena.old) s → IsLeafPlace K.bytes s self.leaf_node_ptr (steps_of self.path)
+            → IsDeleted K.bytes PREFIX_LEN arena.new s self.leaf_node_ptr deleted) }
+        ensures err { OnErr result (SameNodes arena.old arena.new) }
+        ensures shrinks { OnErr result ((s : Shape K V) → IsTree K.bytes PREFIX_LEN (node_at arena.old) root (links_at arena.old) s → (place : IsLeafPlace K.bytes s self.leaf_node_ptr (steps_of self.path))
+            → Shrinks (λ l. K.bytes l.key) (leaves s) (K.bytes place.key)) }
+        ensures succeeds { HasRoom arena.old 1 → IsOk result }
+        ensures room { (n : ℕ) → HasRoom arena.old (n + 1) → HasRoom arena.new n }
+    {
+        let DeletePoint {
+            path,
+            leaf_node_ptr: leaf,
+        } = self;
+        let new_root = detach(arena, root, path, leaf)?;
+        remove_self(arena, leaf);
+        let deleted_leaf = arena.deallocate_node_ptr::<LeafNode<K, V>>(leaf);
+        Ok(DeleteResult {
+            new_root,
+            deleted_leaf,
+        })
+    }
+}

@@ -1,0 +1,151 @@
+//! A leaf is taken out of the inner nodes above it.
+ghost use Rattle.std.specs.Prelude.{◌≡◌, ◌≢◌, ◌<◌, ◌≤◌, ◌+◌, ℕ, suc, Some, IsSome, IfOk, IsOk, OnErr, length};
+ghost use Rattle.art_nodes.specs.InnerNode as node;
+ghost use Rattle.art_nodes.specs.InnerNode.{child_at, with_child, without_child, with_children};
+ghost use Rattle.art_nodes.specs.Kind.{row_of, CanShrink};
+ghost use Rattle.art_arena.specs.Arena.{held_at, inner_held, node_at, links_at, HasRoom, SameNodes};
+ghost use Rattle.art_arena.specs.Kinds.{IsKindOf, ChangesKind};
+ghost use Rattle.art_arena.specs.Meaning.{IsNodes};
+ghost use Rattle.art_arena.specs.Shapes.{Shape, width, leaves};
+ghost use Rattle.art_arena.specs.Shrinks.{Shrinks};
+ghost use Rattle.art_arena.specs.Steps.{steps_of};
+ghost use Rattle.art_operations.specs.DeletePoints.{IsLeafPlace};
+ghost use Rattle.art_operations.specs.Detached.{IsChildLeaf, StandsFor, IsDetached};
+ghost use Rattle.art_operations.specs.Removals.{EditsNode, Moves, PutsBack};
+
+use crate::delete::merge::merge;
+use crate::edit::{drop_node, remove_child, shrink, write_child};
+use art_arena::inner::header;
+use art_arena::{LeafPtr, NodeArena, TreePath};
+use art_bytes::AsBytes;
+use art_nodes::{NodeType, OpaqueNodePtr};
+use std::alloc::AllocError;
+
+// Takes the child under a byte out of a node of three or more, and answers what then stands for the node: one of the
+// next smaller kind, where that has room for the rest. It is refused where there is no memory for that one; nothing
+// changes then.
+fn take_child<K, V, const PREFIX_LEN: usize>(
+    arena: &mut NodeArena<K, V, PREFIX_LEN>,
+    parent: OpaqueNodePtr,
+    byte: u8,
+    child: OpaqueNodePtr,
+) -> Result<OpaqueNodePtr, AllocError>
+    requires inner { parent.kind ≢ NodeType.Leaf }
+    requires held { (n : node.InnerNode) × (held_at arena.old parent ≡ Some (inner_held n)) × PutsBack n byte child × (length (without_child n.children byte) < (row_of parent.kind).most) }
+    ensures ok { IfOk result (λ other. (n : node.InnerNode) → held_at arena.old parent ≡ Some (inner_held n)
+        → Moves arena.old arena.new parent other (inner_held (with_children n (without_child n.children byte)))) }
+    ensures kind { IfOk result (λ other. (n : node.InnerNode) → held_at arena.old parent ≡ Some (inner_held n)
+        → IsKindOf parent.kind (suc (length (without_child n.children byte))) → 2 ≤ length (without_child n.children byte) → IsKindOf other.kind (length (without_child n.children byte))) }
+    ensures err { OnErr result (SameNodes arena.old arena.new) }
+    ensures shrinks { OnErr result ((n : node.InnerNode) → held_at arena.old parent ≡ Some (inner_held n) → CanShrink parent.kind (length (without_child n.children byte))) }
+    ensures succeeds { HasRoom arena.old 1 → IsOk result }
+    ensures room { (n : ℕ) → HasRoom arena.old (n + 1) → HasRoom arena.new n }
+{
+    remove_child(arena, parent, byte);
+    arena.prefix_fits(parent);
+    let left = header(arena, parent).num_children();
+    if !parent.node_type().should_shrink_inner_node(left) {
+        return Ok(parent);
+    }
+    match shrink(arena, parent) {
+        Ok(smaller) => {
+            drop_node(arena, parent);
+            Ok(smaller)
+        }
+        Err(refused) => {
+            write_child(arena, parent, byte, child);
+            Err(refused)
+        }
+    }
+}
+
+// Takes a leaf out of the node above it, and answers what then stands for that node: itself, one of the next smaller
+// kind, or its only other child. It is refused where there is no memory for the smaller one; nothing changes then.
+fn take_out<K: AsBytes, V, const PREFIX_LEN: usize>(
+    arena: &mut NodeArena<K, V, PREFIX_LEN>,
+    parent: OpaqueNodePtr,
+    byte: u8,
+    leaf: LeafPtr,
+) -> Result<OpaqueNodePtr, AllocError>
+    requires { IsChildLeaf K.bytes PREFIX_LEN arena.old parent byte leaf }
+    ensures ok { IfOk result (λ other. (there : IsChildLeaf K.bytes PREFIX_LEN arena.old parent byte leaf) → StandsFor K.bytes PREFIX_LEN arena.new there.frame there.outer there.leaf other) }
+    ensures links { (slot : ℕ) → links_at arena.new slot ≡ links_at arena.old slot }
+    ensures err { OnErr result (SameNodes arena.old arena.new) }
+    ensures shrinks { OnErr result ((there : IsChildLeaf K.bytes PREFIX_LEN arena.old parent byte leaf) → ChangesKind (suc (width there.frame.before + width there.frame.after))) }
+    ensures succeeds { HasRoom arena.old 1 → IsOk result }
+    ensures room { (n : ℕ) → HasRoom arena.old (n + 1) → HasRoom arena.new n }
+{
+    arena.prefix_fits(parent);
+    if header(arena, parent).num_children() == 2 {
+        return Ok(merge(arena, parent, byte));
+    }
+    take_child(arena, parent, byte, leaf.to_opaque())
+}
+
+// Lets another node stand under the byte of a node, if it is another.
+fn point_at<K, V, const PREFIX_LEN: usize>(
+    arena: &mut NodeArena<K, V, PREFIX_LEN>,
+    above: OpaqueNodePtr,
+    byte: u8,
+    old: OpaqueNodePtr,
+    new: OpaqueNodePtr,
+)
+    requires inner { above.kind ≢ NodeType.Leaf }
+    requires there { (n : node.InnerNode) × (held_at arena.old above ≡ Some (inner_held n)) × IsSome (child_at n.children byte) }
+    ensures same { new ≡ old → SameNodes arena.old arena.new }
+    ensures other { new ≢ old → EditsNode arena.old arena.new above (λ n. with_children n (with_child n.children byte new)) }
+    ensures room { (n : ℕ) → HasRoom arena.old n → HasRoom arena.new n }
+{
+    if new == old {
+        return;
+    }
+    write_child(arena, above, byte, new);
+}
+
+/// Takes a leaf out of the inner nodes above it, and answers the root of what is left, if it isn't the root itself. The
+/// leaf stays in the arena and in the list of leaves. It is refused where the node above it becomes one of the next
+/// smaller kind and there is no memory for that one; nothing changes then.
+pub(crate) fn detach<K: AsBytes, V, const PREFIX_LEN: usize>(
+    arena: &mut NodeArena<K, V, PREFIX_LEN>,
+    root: OpaqueNodePtr,
+    path: TreePath,
+    leaf: LeafPtr,
+) -> Result<Option<OpaqueNodePtr>, AllocError>
+    requires { (s : Shape K V) × IsNodes K.bytes PREFIX_LEN (node_at arena.old) root s × IsLeafPlace K.bytes s leaf (steps_of path) }
+    ensures ok { IfOk result (λ left. (s : Shape K V) → IsNodes K.bytes PREFIX_LEN (node_at arena.old) root s → (place : IsLeafPlace K.bytes s leaf (steps_of path))
+        → IsDetached K.bytes PREFIX_LEN arena.new s (record { slot = leaf; key = place.key; value = place.value }) left) }
+    ensures links { (slot : ℕ) → links_at arena.new slot ≡ links_at arena.old slot }
+    ensures err { OnErr result (SameNodes arena.old arena.new) }
+    ensures shrinks { OnErr result ((s : Shape K V) → IsNodes K.bytes PREFIX_LEN (node_at arena.old) root s → (place : IsLeafPlace K.bytes s leaf (steps_of path))
+        → Shrinks (λ l. K.bytes l.key) (leaves s) (K.bytes place.key)) }
+    ensures succeeds { HasRoom arena.old 1 → IsOk result }
+    ensures room { (n : ℕ) → HasRoom arena.old (n + 1) → HasRoom arena.new n }
+{
+    match path {
+        TreePath::Root => Ok(None),
+        TreePath::ChildOfRoot {
+            parent,
+            child_key_byte,
+        } => {
+            let left = take_out(arena, parent.to_opaque(), child_key_byte, leaf)?;
+            Ok(Some(left))
+        }
+        TreePath::Normal {
+            grandparent,
+            parent_key_byte,
+            parent,
+            child_key_byte,
+        } => {
+            let parent = parent.to_opaque();
+            let left = take_out(arena, parent, child_key_byte, leaf)?;
+            point_at(
+                arena,
+                grandparent.to_opaque(),
+                parent_key_byte,
+                parent,
+                left,
+            );
+            Ok(Some(root))
+        }
+    }
+}

@@ -1,0 +1,59 @@
+//! The change of a tree that puts a new key in.
+ghost use Rattle.std.specs.Prelude.{◌≡◌, ◌+◌, ℕ, IfOk, OnErr, IfErr, IsOk};
+ghost use Rattle.art_arena.specs.Arena.{node_at, links_at, HasRoom, SameNodes};
+ghost use Rattle.art_arena.specs.Meaning.{IsTree};
+ghost use Rattle.art_arena.specs.Shapes.{Shape};
+ghost use Rattle.art_arena.specs.Steps.{steps_of};
+ghost use Rattle.art_operations.specs.Insertions.{IsInserted};
+ghost use Rattle.art_operations.specs.Points.{IsPoint};
+ghost use Rattle.art_operations.specs.declared.insert.point.InsertKind.TheVariants as kind;
+
+use crate::insert::exact::replace_pair;
+use crate::insert::fork::fork;
+use crate::insert::grow::put_into_existing;
+use crate::insert::point::{InsertKind, InsertPoint};
+use crate::insert::result::{InsertRefused, InsertResult};
+use art_arena::NodeArena;
+use art_bytes::AsBytes;
+
+impl InsertPoint {
+    /// Puts a key and its value in at its place, which was found by `search_for_insert_point` in this tree.
+    ///
+    /// Where a leaf has the key already, it takes the new key and value, and the answer has what it had: this takes no
+    /// memory and is never refused. Otherwise a leaf is made, and at most one inner node. Where there is no memory for
+    /// them, the key and the value are handed back, and the tree is as it was.
+    pub fn apply<K: AsBytes, V, const PREFIX_LEN: usize>(
+        self,
+        arena: &mut NodeArena<K, V, PREFIX_LEN>,
+        key: K,
+        value: V,
+    ) -> Result<InsertResult<K, V>, InsertRefused<K, V>>
+        requires { (s : Shape K V) × IsTree K.bytes PREFIX_LEN (node_at arena.old) self.root (links_at arena.old) s × IsPoint K.bytes (K.bytes key) s self }
+        ensures ok { IfOk result (λ inserted. (s : Shape K V) → IsTree K.bytes PREFIX_LEN (node_at arena.old) self.root (links_at arena.old) s → IsPoint K.bytes (K.bytes key) s self
+            → IsInserted K.bytes PREFIX_LEN arena.new s (steps_of self.path) key value inserted) }
+        ensures err { OnErr result (SameNodes arena.old arena.new) }
+        ensures handed_back { IfErr result (λ refused. (refused.key ≡ key) × (refused.value ≡ value)) }
+        ensures exact { (leaf : ℕ) → self.insert_kind ≡ kind.Exact leaf → IsOk result }
+        ensures succeeds { HasRoom arena.old 2 → IsOk result }
+        ensures room { (n : ℕ) → HasRoom arena.old (n + 2) → HasRoom arena.new n }
+    {
+        let kind = self.insert_kind;
+        match kind {
+            InsertKind::MismatchPrefix {
+                inner_node_ptr,
+                parted,
+            } => fork(arena, self, inner_node_ptr, parted, key, value),
+            InsertKind::SplitLeaf {
+                leaf_node_ptr,
+                parted,
+            } => fork(arena, self, leaf_node_ptr.to_opaque(), parted, key, value),
+            InsertKind::IntoExisting {
+                inner_node_ptr,
+                key_byte,
+            } => put_into_existing(arena, self, inner_node_ptr, key_byte, key, value),
+            InsertKind::Exact { leaf_node_ptr } => {
+                Ok(replace_pair(arena, self, leaf_node_ptr, key, value))
+            }
+        }
+    }
+}

@@ -1,0 +1,46 @@
+//! A new leaf, before it is linked and stands under an inner node.
+ghost use Rattle.std.specs.Prelude.{◌≡◌, ◌+◌, ℕ, None, Some, IsSome, IsOk, IfOk, OnErr, IfErr};
+ghost use Rattle.art_arena.specs.Arena.{held_at, leaf_held, Allocates, SameNodes, HasRoom};
+ghost use Rattle.art_arena.specs.Cells.{UpdatesAt, leaf_name};
+ghost use Rattle.art_nodes.specs.declared.leaf.LeafNode as node;
+ghost use Rattle.art_operations.specs.Edits.{lone_leaf};
+
+use crate::insert::result::InsertRefused;
+use art_arena::{LeafPtr, NodeArena};
+use art_nodes::LeafNode;
+
+/// Stores a leaf with no links. Where there is no memory the key and the value are handed back.
+pub(crate) fn store_leaf<K, V, const PREFIX_LEN: usize>(
+    arena: &mut NodeArena<K, V, PREFIX_LEN>,
+    key: K,
+    value: V,
+) -> Result<LeafPtr, InsertRefused<K, V>>
+    ensures ok { IfOk result (λ leaf. Allocates arena.old arena.new (leaf_name leaf) (lone_leaf key value)) }
+    ensures err { OnErr result (SameNodes arena.old arena.new) }
+    ensures handed_back { IfErr result (λ refused. (refused.key ≡ key) × (refused.value ≡ value)) }
+    ensures succeeds { HasRoom arena.old 1 → IsOk result }
+    ensures room { (n : ℕ) → HasRoom arena.old (n + 1) → HasRoom arena.new n }
+{
+    match arena.allocate_node_ptr(LeafNode::with_no_siblings(key, value)) {
+        Ok(leaf) => Ok(leaf),
+        Err(refused) => {
+            let (key, value) = refused.node.into_entry();
+            Err(InsertRefused { key, value })
+        }
+    }
+}
+
+/// Takes a leaf out of the arena again, and hands its key and value back.
+pub(crate) fn take_back<K, V, const PREFIX_LEN: usize>(
+    arena: &mut NodeArena<K, V, PREFIX_LEN>,
+    leaf: LeafPtr,
+) -> InsertRefused<K, V>
+    requires { IsSome (held_at arena.old (leaf_name leaf)) }
+    ensures pair { (l : node.LeafNode K V) → held_at arena.old (leaf_name leaf) ≡ Some (leaf_held l) → (result.key ≡ l.key) × (result.value ≡ l.value) }
+    ensures updates { UpdatesAt (held_at arena.old) (held_at arena.new) (leaf_name leaf) None }
+    ensures room { (n : ℕ) → HasRoom arena.old n → HasRoom arena.new n }
+{
+    let node: LeafNode<K, V> = arena.deallocate_node_ptr(leaf);
+    let (key, value) = node.into_entry();
+    InsertRefused { key, value }
+}
