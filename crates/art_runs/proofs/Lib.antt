@@ -1,1 +1,4 @@
-
+pub mod KeyedLists
+pub mod Pairs
+pub mod HeldPairs
+pub mod CommandLists

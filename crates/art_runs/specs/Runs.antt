@@ -6,7 +6,7 @@ use Rattle.art_arena.specs.Meaning.{IsTree, MeansAll}
 use Rattle.art_arena.specs.Shapes.{Shape, leaves, pairs_of, key_of}
 use Rattle.art_arena.specs.TreeOf.{tree_of}
 use Rattle.art_arena.specs.Trees.{Tree}
-use Rattle.art_operations.specs.Points.{IsPoint, NoConflict}
+use Rattle.art_operations.specs.Points.{IsPoint}
 use Rattle.art_operations.specs.declared.insert.point.InsertPoint.{InsertPoint}
 use Rattle.art_runs.specs.Commands.{IsAnswered, after}
 use Rattle.art_runs.specs.declared.running.Command.{Command}
@@ -27,10 +27,9 @@ module _ {K V : Type 0} (bytes : K → List ℕ) (P : ℕ) (arena : Arena K V) w
   abbrev pub IsDone : List (K × V) → Command K V → Change → Type 0
   IsDone pairs command change = IsAnswered bytes pairs command change.answer × HasPairs change.root (after bytes command change.answer pairs)
 
-  -- the arena has these pairs, and the place of the key in their tree is known; no pair blocks it
+  -- the arena has these pairs, and the place of the key in their tree is known
   pub record CanInsert (point : InsertPoint) (key : K) (pairs : List (K × V)) : Type 0 where
     pub shape : Shape K V
     pub is_tree : IsTree bytes P (node_at arena) point.root (links_at arena) shape
     pub place : IsPoint bytes (bytes key) shape point
-    pub free : NoConflict bytes (bytes key) (leaves shape)
     pub pairs_are : pairs_of (leaves shape) ≡ pairs

@@ -59,15 +59,18 @@ fn insert_first<K: AsBytes + Drop, V: Drop, const PREFIX_LEN: usize>(
     requires { HasPairs K.bytes PREFIX_LEN arena.old None [] }
     ensures { IsDone K.bytes PREFIX_LEN arena.new [] (Command.Insert key value) result }
 {
-    match arena.allocate_node_ptr(LeafNode::with_no_siblings(key, value)) {
-        Ok(leaf) => Change {
-            root: Some(leaf.to_opaque()),
-            answer: Answer::Done(0),
-        },
-        Err(_) => Change {
-            root: None,
-            answer: Answer::Memory,
-        },
+    let leaf = match arena.allocate_node_ptr(LeafNode::with_no_siblings(key, value)) {
+        Ok(leaf) => leaf,
+        Err(_) => {
+            return Change {
+                root: None,
+                answer: Answer::Memory,
+            };
+        }
+    };
+    Change {
+        root: Some(leaf.to_opaque()),
+        answer: Answer::Done(0),
     }
 }
 
@@ -81,18 +84,26 @@ fn insert_at<K: AsBytes + Drop, V: Drop, const PREFIX_LEN: usize>(
     requires { (pairs : List (K × V)) × CanInsert K.bytes PREFIX_LEN arena.old point key pairs }
     ensures { (pairs : List (K × V)) → CanInsert K.bytes PREFIX_LEN arena.old point key pairs → IsDone K.bytes PREFIX_LEN arena.new pairs (Command.Insert key value) result }
 {
-    match insert_apply(point, arena, key, value) {
-        Ok(inserted) => Change {
-            root: Some(inserted.new_root),
-            answer: match inserted.existing_leaf {
-                Some(_) => Answer::Done(1),
-                None => Answer::Done(0),
-            },
-        },
-        Err(_) => Change {
-            root: Some(point.root),
-            answer: Answer::Memory,
-        },
+    let root = point.root;
+    let inserted = match insert_apply(point, arena, key, value) {
+        Ok(inserted) => inserted,
+        Err(_) => {
+            return Change {
+                root: Some(root),
+                answer: Answer::Memory,
+            };
+        }
+    };
+    let new_root = inserted.new_root;
+    if inserted.existing_leaf.is_some() {
+        return Change {
+            root: Some(new_root),
+            answer: Answer::Done(1),
+        };
+    }
+    Change {
+        root: Some(new_root),
+        answer: Answer::Done(0),
     }
 }
 
@@ -156,7 +167,14 @@ fn delete<K: AsBytes + Drop, V: Drop, const PREFIX_LEN: usize>(
     }
 }
 
-// Carries out one command. A key or a value that can't be cloned refuses it.
+// A clone of a key and of a value. It is refused where one of the clones is.
+fn cloned<K: Clone, V: Clone>(key: &K, value: &V) -> Result<(K, V), AllocError>
+    ensures { IfOk result (λ pair. K.is_clone key.now pair.0 × V.is_clone value.now pair.1) }
+{
+    Ok((key.clone()?, value.clone()?))
+}
+
+// Carries out one command.
 fn carry_out<K: AsBytes + Clone + Drop, V: Clone + Drop, const PREFIX_LEN: usize>(
     alloc: Global,
     arena: &mut NodeArena<K, V, PREFIX_LEN>,
@@ -168,22 +186,14 @@ fn carry_out<K: AsBytes + Clone + Drop, V: Clone + Drop, const PREFIX_LEN: usize
     requires pairs { (pairs : List (K × V)) × HasPairs K.bytes PREFIX_LEN arena.old root pairs }
     ensures { (pairs : List (K × V)) → HasPairs K.bytes PREFIX_LEN arena.old root pairs → IsDone K.bytes PREFIX_LEN arena.new pairs command.now result }
 {
-    let refused = Change {
-        root,
-        answer: Answer::Memory,
-    };
     match command {
-        Command::Insert(key, value) => {
-            let key = match key.clone() {
-                Ok(key) => key,
-                Err(_) => return refused,
-            };
-            let value = match value.clone() {
-                Ok(value) => value,
-                Err(_) => return refused,
-            };
-            insert(alloc, arena, root, key, value)
-        }
+        Command::Insert(key, value) => match cloned(key, value) {
+            Ok((key, value)) => insert(alloc, arena, root, key, value),
+            Err(_) => Change {
+                root,
+                answer: Answer::Memory,
+            },
+        },
         Command::Delete(key) => delete(arena, root, key),
     }
 }
@@ -206,7 +216,7 @@ pub fn run<K: AsBytes + Clone + Drop, V: Clone + Drop, const PREFIX_LEN: usize>(
     for command in commands {
         let change = carry_out(alloc, &mut arena, root, command);
         root = change.root;
-        answers.push(change.answer)?;
+        answers.push_reserved(change.answer);
     }
     Ok(RunResult {
         arena,
