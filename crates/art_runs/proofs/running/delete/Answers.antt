@@ -13,7 +13,7 @@ delete_apply-requires g c =
     let point = c.in-Some-search_for_delete_point.point in (
       omega arith,
       can-delete g.K.AsBytes.bytes g.row.PREFIX_LEN c.args.arena.now c.args.root c.in-Some.top c.in-Some.is c.args.key.now c.as_bytes.result.now c.as_bytes.ensures.value c.requires.0 c.requires.1
-      point.leaf_node_ptr (steps_of point.path) c.in-Some-search_for_delete_point.ensures.place,
+          point.leaf_node_ptr (steps_of point.path) c.in-Some-search_for_delete_point.ensures.place,
     )
 
 pub returns-in-Ok : goal.returns-in-Ok

@@ -8,7 +8,7 @@ insert_at-requires g c = (
   (
     c.requires.0,
     can-insert g.K.AsBytes.bytes g.row.PREFIX_LEN c.args.arena.now c.args.root c.in-Some.root c.in-Some.is c.args.key c.as_bytes.result.now c.as_bytes.ensures.value c.requires.0 c.requires.1
-    c.in-Ok.point (λ s sub. (c.in-Ok.ensures.answer s sub).0),
+        c.in-Ok.point (λ s sub. (c.in-Ok.ensures.answer s sub).0),
   ),
 )
 

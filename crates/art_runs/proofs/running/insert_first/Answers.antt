@@ -1,7 +1,6 @@
-use Rattle.std.proofs.Common.{◌≡◌, ℕ, Some, refl, ap, ◌∙◌, rules, subst}
-use Rattle.art_arena.specs.Arena.{Allocates, leaf_held, node_at, links_at}
+use Rattle.std.proofs.Common.{refl, rules}
+use Rattle.art_arena.specs.Arena.{Allocates, leaf_held}
 use Rattle.art_arena.specs.Cells.{leaf_name}
-use Rattle.art_arena.specs.Meaning.{IsTree}
 use Rattle.art_arena.specs.Shapes.{leaf_at}
 use Rattle.art_runs.proofs.HeldPairs.{first-leaf}
 use Rattle.art_runs.proofs.running.insert_first.Goals as goal
