@@ -3,7 +3,7 @@ use Rattle.std.proofs.Common.{◌≡◌, ◌≢◌, ℕ, ◌+◌, ◌≤◌, Lis
 use Rattle.art_nodes.specs.Name.{Name}
 use Rattle.art_arena.specs.Arena.{Arena}
 use Rattle.art_runs.specs.Commands.{IsAnswered, AreAnswered, after, pairs_after}
-use Rattle.art_runs.specs.Runs.{HasPairs, IsDone}
+use Rattle.art_runs.specs.Runs.{HasClones}
 use Rattle.art_runs.specs.declared.running.Answer.{Answer}
 use Rattle.art_runs.specs.declared.running.Change.{Change}
 use Rattle.art_runs.specs.declared.running.Command.{Command}
@@ -32,18 +32,19 @@ module _ {K V : Type 0} (bytes : K → List ℕ) where
   as-many pairs (c ∷ commands) [] h = absurd h
   as-many pairs (c ∷ commands) (a ∷ answers) h = omega (arith, as-many (after bytes c a pairs) commands answers h.1)
 
-  module _ (P : ℕ) where
-    -- the commands have these answers, and the arena the pairs that they leave
+  module _ (P : ℕ) (KeyClone : K → K → Type 0) (ValueClone : V → V → Type 0) where
+    -- the commands have these answers, and the arena clones of the pairs that they leave
     abbrev pub HasRun : Arena K V → Option Name → List (Command K V) → List Answer → Type 0
-    HasRun arena root commands answers = AreAnswered bytes [] commands answers × HasPairs bytes P arena root (pairs_after bytes commands answers [])
+    HasRun arena root commands answers = AreAnswered bytes [] commands answers × HasClones bytes P arena KeyClone ValueClone root (pairs_after bytes commands answers [])
 
-    -- one command more was done
+    -- one command more was carried out
     pub run-one-more : (old new : Arena K V) (root : Option Name) (commands more : List (Command K V)) (answers : List Answer) (command : Command K V) (change : Change) → more ≡ commands ++ command ∷ []
-        → HasRun old root commands answers → ((pairs : List (K × V)) → HasPairs bytes P old root pairs → IsDone bytes P new pairs command change)
+        → HasRun old root commands answers
+        → ((pairs : List (K × V)) → HasClones bytes P old KeyClone ValueClone root pairs → IsAnswered bytes pairs command change.answer × HasClones bytes P new KeyClone ValueClone change.root (after bytes command change.answer pairs))
         → HasRun new change.root more (answers ++ change.answer ∷ [])
     run-one-more old new root commands more answers command change more_is (answered, has) done =
         let next = done (pairs_after bytes commands answers []) has in
         rw more_is (
           answers-one-more [] commands answers command change.answer answered next.0,
-          subst (HasPairs bytes P new change.root) (sym (pairs-one-more [] commands answers command change.answer answered)) next.1,
+          subst (HasClones bytes P new KeyClone ValueClone change.root) (sym (pairs-one-more [] commands answers command change.answer answered)) next.1,
         )

@@ -1,4 +1,5 @@
 pub mod KeyedLists
 pub mod Pairs
 pub mod HeldPairs
+pub mod Clones
 pub mod CommandLists

@@ -86,7 +86,7 @@ module _ {K V : Type 0} (bytes : K → List ℕ) where
 
 -- a front is as wide, and a removal shrinks as much, whether items or what they are mapped to have the keys
 module _ {X Y : Type 0} (f : X → Y) (key : Y → List ℕ) where
-  in_unmap : (z : Y) (xs : List X) → IsIn z (map f xs) → (x : X) × IsIn x xs × (f x ≡ z)
+  pub in_unmap : (z : Y) (xs : List X) → IsIn z (map f xs) → (x : X) × IsIn x xs × (f x ≡ z)
   in_unmap z [] i = absurd i
   in_unmap z (x ∷ xs) (inl e) = (x, inl refl, e)
   in_unmap z (x ∷ xs) (inr i) = let later = in_unmap z xs i in (later.0, inr later.1, later.2)
@@ -104,6 +104,14 @@ module _ {X Y : Type 0} (f : X → Y) (key : Y → List ℕ) where
     ((f y, in_map f y xs i, differs, meets), λ z j other. let back = in_unmap z xs j in subst (λ w. length (common k (key w)) ≤ length m) back.2 (longest back.0 back.1 (subst (λ w. key w ≢ k) (sym back.2) other))),
     subst IsLimit (sym (width_of-map m xs)) limit,
   )
+
+  pub shrinks-unmap : (xs : List X) (k : List ℕ) → Shrinks key (map f xs) k → Shrinks (λ x. key (f x)) xs k
+  shrinks-unmap xs k (m, ((z, i, differs, meets), longest), limit) =
+      let back = in_unmap z xs i in (
+        m,
+        ((back.0, back.1, subst (λ w. key w ≢ k) (sym back.2) differs, ap (λ w. common k (key w)) back.2 ∙ meets), λ w j other. longest (f w) (in_map f w xs j) other),
+        subst IsLimit (width_of-map m xs) limit,
+      )
 
 module _ {K V : Type 0} (P : ℕ) (at : Name → Option (Cell K V)) where
   -- each leaf is held under its name

@@ -1,7 +1,7 @@
 //! Lists of commands on a tree, from no pair on.
 ghost use Rattle.std.specs.Prelude.{◌≡◌, List, [], IfOk, Some};
-ghost use Rattle.art_runs.specs.Commands.{AreAnswered, pairs_after};
-ghost use Rattle.art_runs.specs.Runs.{CanInsert, HasPairs, HoldsTreeOf, IsDone};
+ghost use Rattle.art_runs.specs.Commands.{AreAnswered, IsAnswered, after, pairs_after};
+ghost use Rattle.art_runs.specs.Runs.{CanInsert, HasClones, HasPairs, HoldsClonesOf, IsDone};
 
 use crate::stubs::{delete_apply, insert_apply};
 use art_arena::NodeArena;
@@ -175,16 +175,16 @@ fn cloned<K: Clone, V: Clone>(key: &K, value: &V) -> Result<(K, V), AllocError>
 }
 
 // Carries out one command.
-fn carry_out<K: AsBytes + Clone + Drop, V: Clone + Drop, const PREFIX_LEN: usize>(
+fn carry_out<K: AsBytes + Clone, V: Clone, const PREFIX_LEN: usize>(
     alloc: Global,
     arena: &mut NodeArena<K, V, PREFIX_LEN>,
     root: Option<OpaqueNodePtr>,
     command: &Command<K, V>,
 ) -> Change
-    requires keys { (k c : K) → K.is_clone k c → c ≡ k }
-    requires values { (v c : V) → V.is_clone v c → c ≡ v }
-    requires pairs { (pairs : List (K × V)) × HasPairs K.bytes PREFIX_LEN arena.old root pairs }
-    ensures { (pairs : List (K × V)) → HasPairs K.bytes PREFIX_LEN arena.old root pairs → IsDone K.bytes PREFIX_LEN arena.new pairs command.now result }
+    requires keys { (k c : K) → K.is_clone k c → K.bytes c ≡ K.bytes k }
+    requires pairs { (pairs : List (K × V)) × HasClones K.bytes PREFIX_LEN arena.old K.is_clone V.is_clone root pairs }
+    ensures { (pairs : List (K × V)) → HasClones K.bytes PREFIX_LEN arena.old K.is_clone V.is_clone root pairs
+        → IsAnswered K.bytes pairs command.now result.answer × HasClones K.bytes PREFIX_LEN arena.new K.is_clone V.is_clone result.root (after K.bytes command.now result.answer pairs) }
 {
     match command {
         Command::Insert(key, value) => match cloned(key, value) {
@@ -201,14 +201,13 @@ fn carry_out<K: AsBytes + Clone + Drop, V: Clone + Drop, const PREFIX_LEN: usize
 /// Carries out the commands one after the other, from no pair on, and answers each in turn. A command whose key or value can't be
 /// cloned, or for whose nodes there is no memory, is refused and changes nothing. The run itself is refused only where there is no
 /// memory for the answers, before the first command.
-pub fn run<K: AsBytes + Clone + Drop, V: Clone + Drop, const PREFIX_LEN: usize>(
+pub fn run<K: AsBytes + Clone, V: Clone, const PREFIX_LEN: usize>(
     alloc: Global,
     commands: &[Command<K, V>],
 ) -> Result<RunResult<K, V, PREFIX_LEN>, AllocError>
-    requires keys { (k c : K) → K.is_clone k c → c ≡ k }
-    requires values { (v c : V) → V.is_clone v c → c ≡ v }
+    requires { (k c : K) → K.is_clone k c → K.bytes c ≡ K.bytes k }
     ensures answers { IfOk result (λ ran. AreAnswered K.bytes [] commands.now ran.answers.items) }
-    ensures tree { IfOk result (λ ran. HoldsTreeOf K.bytes PREFIX_LEN ran.arena ran.root (pairs_after K.bytes commands.now ran.answers.items [])) }
+    ensures tree { IfOk result (λ ran. HoldsClonesOf K.bytes PREFIX_LEN ran.arena K.is_clone V.is_clone ran.root (pairs_after K.bytes commands.now ran.answers.items [])) }
 {
     let mut answers = Vec::with_capacity(alloc, commands.len())?;
     let mut arena = NodeArena::new(alloc);

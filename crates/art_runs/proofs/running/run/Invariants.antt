@@ -4,4 +4,4 @@ use Rattle.art_runs.proofs.running.run.Given as goal
 
 abbrev pub invariant-loop-command : goal.invariant-loop-command
 invariant-loop-command g l =
-    HasRun g.K.AsBytes.bytes g.row.PREFIX_LEN l.arena l.root (take l.command-index l.commands) l.answers.items × (vec_capacity l.answers ≡ length l.commands)
+    HasRun g.K.AsBytes.bytes g.row.PREFIX_LEN g.K.Clone.is_clone g.V.Clone.is_clone l.arena l.root (take l.command-index l.commands) l.answers.items × (vec_capacity l.answers ≡ length l.commands)
