@@ -3,3 +3,4 @@ pub mod Pairs
 pub mod HeldPairs
 pub mod Clones
 pub mod CommandLists
+pub mod RunExamples

@@ -50,6 +50,38 @@ struct Change {
     answer: Answer,
 }
 
+impl Change {
+    // The command was done, and replaced or removed so many pairs.
+    fn done(root: Option<OpaqueNodePtr>, pairs: usize) -> Self
+        ensures { result ≡ record { root = root; answer = Answer.Done pairs } }
+    {
+        Change {
+            root,
+            answer: Answer::Done(pairs),
+        }
+    }
+
+    // Its key is in conflict with a stored one.
+    fn blocked(root: Option<OpaqueNodePtr>) -> Self
+        ensures { result ≡ record { root = root; answer = Answer.Prefix } }
+    {
+        Change {
+            root,
+            answer: Answer::Prefix,
+        }
+    }
+
+    // No memory was found for it.
+    fn refused(root: Option<OpaqueNodePtr>) -> Self
+        ensures { result ≡ record { root = root; answer = Answer.Memory } }
+    {
+        Change {
+            root,
+            answer: Answer::Memory,
+        }
+    }
+}
+
 // Stores a pair where there is none.
 fn insert_first<K: AsBytes + Drop, V: Drop, const PREFIX_LEN: usize>(
     arena: &mut NodeArena<K, V, PREFIX_LEN>,
@@ -61,17 +93,9 @@ fn insert_first<K: AsBytes + Drop, V: Drop, const PREFIX_LEN: usize>(
 {
     let leaf = match arena.allocate_node_ptr(LeafNode::with_no_siblings(key, value)) {
         Ok(leaf) => leaf,
-        Err(_) => {
-            return Change {
-                root: None,
-                answer: Answer::Memory,
-            };
-        }
+        Err(_) => return Change::refused(None),
     };
-    Change {
-        root: Some(leaf.to_opaque()),
-        answer: Answer::Done(0),
-    }
+    Change::done(Some(leaf.to_opaque()), 0)
 }
 
 // Stores a pair at the place that was found for its key.
@@ -87,24 +111,13 @@ fn insert_at<K: AsBytes + Drop, V: Drop, const PREFIX_LEN: usize>(
     let root = point.root;
     let inserted = match insert_apply(point, arena, key, value) {
         Ok(inserted) => inserted,
-        Err(_) => {
-            return Change {
-                root: Some(root),
-                answer: Answer::Memory,
-            };
-        }
+        Err(_) => return Change::refused(Some(root)),
     };
     let new_root = inserted.new_root;
     if inserted.existing_leaf.is_some() {
-        return Change {
-            root: Some(new_root),
-            answer: Answer::Done(1),
-        };
+        return Change::done(Some(new_root), 1);
     }
-    Change {
-        root: Some(new_root),
-        answer: Answer::Done(0),
-    }
+    Change::done(Some(new_root), 0)
 }
 
 // Stores a pair.
@@ -118,19 +131,13 @@ fn insert<K: AsBytes + Drop, V: Drop, const PREFIX_LEN: usize>(
     requires { (pairs : List (K × V)) × HasPairs K.bytes PREFIX_LEN arena.old root pairs }
     ensures { (pairs : List (K × V)) → HasPairs K.bytes PREFIX_LEN arena.old root pairs → IsDone K.bytes PREFIX_LEN arena.new pairs (Command.Insert key value) result }
 {
-    let Some(root) = root else {
+    let Some(top) = root else {
         return insert_first(arena, key, value);
     };
-    match search_for_insert_point(alloc, arena, root, key.as_bytes()) {
+    match search_for_insert_point(alloc, arena, top, key.as_bytes()) {
         Ok(point) => insert_at(arena, point, key, value),
-        Err(InsertSearchError::Prefix(_)) => Change {
-            root: Some(root),
-            answer: Answer::Prefix,
-        },
-        Err(InsertSearchError::Memory) => Change {
-            root: Some(root),
-            answer: Answer::Memory,
-        },
+        Err(InsertSearchError::Prefix(_)) => Change::blocked(root),
+        Err(InsertSearchError::Memory) => Change::refused(root),
     }
 }
 
@@ -144,26 +151,14 @@ fn delete<K: AsBytes + Drop, V: Drop, const PREFIX_LEN: usize>(
     ensures { (pairs : List (K × V)) → HasPairs K.bytes PREFIX_LEN arena.old root pairs → IsDone K.bytes PREFIX_LEN arena.new pairs (Command.Delete key.now) result }
 {
     let Some(top) = root else {
-        return Change {
-            root,
-            answer: Answer::Done(0),
-        };
+        return Change::done(None, 0);
     };
     let Some(point) = search_for_delete_point(arena, top, key.as_bytes()) else {
-        return Change {
-            root,
-            answer: Answer::Done(0),
-        };
+        return Change::done(root, 0);
     };
     match delete_apply(point, arena, top) {
-        Ok(deleted) => Change {
-            root: deleted.new_root,
-            answer: Answer::Done(1),
-        },
-        Err(_) => Change {
-            root,
-            answer: Answer::Memory,
-        },
+        Ok(deleted) => Change::done(deleted.new_root, 1),
+        Err(_) => Change::refused(root),
     }
 }
 
@@ -189,10 +184,7 @@ fn carry_out<K: AsBytes + Clone, V: Clone, const PREFIX_LEN: usize>(
     match command {
         Command::Insert(key, value) => match cloned(key, value) {
             Ok((key, value)) => insert(alloc, arena, root, key, value),
-            Err(_) => Change {
-                root,
-                answer: Answer::Memory,
-            },
+            Err(_) => Change::refused(root),
         },
         Command::Delete(key) => delete(arena, root, key),
     }
