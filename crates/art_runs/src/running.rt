@@ -51,34 +51,11 @@ struct Change {
 }
 
 impl Change {
-    // The command was done, and replaced or removed so many pairs.
-    fn done(root: Option<OpaqueNodePtr>, pairs: usize) -> Self
-        ensures { result ≡ record { root = root; answer = Answer.Done pairs } }
+    // A change to this root, with this answer.
+    fn to(root: Option<OpaqueNodePtr>, answer: Answer) -> Self
+        ensures { result ≡ record { root = root; answer = answer } }
     {
-        Change {
-            root,
-            answer: Answer::Done(pairs),
-        }
-    }
-
-    // Its key is in conflict with a stored one.
-    fn blocked(root: Option<OpaqueNodePtr>) -> Self
-        ensures { result ≡ record { root = root; answer = Answer.Prefix } }
-    {
-        Change {
-            root,
-            answer: Answer::Prefix,
-        }
-    }
-
-    // No memory was found for it.
-    fn refused(root: Option<OpaqueNodePtr>) -> Self
-        ensures { result ≡ record { root = root; answer = Answer.Memory } }
-    {
-        Change {
-            root,
-            answer: Answer::Memory,
-        }
+        Change { root, answer }
     }
 }
 
@@ -93,9 +70,9 @@ fn insert_first<K: AsBytes + Drop, V: Drop, const PREFIX_LEN: usize>(
 {
     let leaf = match arena.allocate_node_ptr(LeafNode::with_no_siblings(key, value)) {
         Ok(leaf) => leaf,
-        Err(_) => return Change::refused(None),
+        Err(_) => return Change::to(None, Answer::Memory),
     };
-    Change::done(Some(leaf.to_opaque()), 0)
+    Change::to(Some(leaf.to_opaque()), Answer::Done(0))
 }
 
 // Stores a pair at the place that was found for its key.
@@ -111,13 +88,13 @@ fn insert_at<K: AsBytes + Drop, V: Drop, const PREFIX_LEN: usize>(
     let root = point.root;
     let inserted = match insert_apply(point, arena, key, value) {
         Ok(inserted) => inserted,
-        Err(_) => return Change::refused(Some(root)),
+        Err(_) => return Change::to(Some(root), Answer::Memory),
     };
     let new_root = inserted.new_root;
     if inserted.existing_leaf.is_some() {
-        return Change::done(Some(new_root), 1);
+        return Change::to(Some(new_root), Answer::Done(1));
     }
-    Change::done(Some(new_root), 0)
+    Change::to(Some(new_root), Answer::Done(0))
 }
 
 // Stores a pair.
@@ -136,8 +113,8 @@ fn insert<K: AsBytes + Drop, V: Drop, const PREFIX_LEN: usize>(
     };
     match search_for_insert_point(alloc, arena, top, key.as_bytes()) {
         Ok(point) => insert_at(arena, point, key, value),
-        Err(InsertSearchError::Prefix(_)) => Change::blocked(root),
-        Err(InsertSearchError::Memory) => Change::refused(root),
+        Err(InsertSearchError::Prefix(_)) => Change::to(root, Answer::Prefix),
+        Err(InsertSearchError::Memory) => Change::to(root, Answer::Memory),
     }
 }
 
@@ -151,14 +128,14 @@ fn delete<K: AsBytes + Drop, V: Drop, const PREFIX_LEN: usize>(
     ensures { (pairs : List (K × V)) → HasPairs K.bytes PREFIX_LEN arena.old root pairs → IsDone K.bytes PREFIX_LEN arena.new pairs (Command.Delete key.now) result }
 {
     let Some(top) = root else {
-        return Change::done(None, 0);
+        return Change::to(None, Answer::Done(0));
     };
     let Some(point) = search_for_delete_point(arena, top, key.as_bytes()) else {
-        return Change::done(root, 0);
+        return Change::to(root, Answer::Done(0));
     };
     match delete_apply(point, arena, top) {
-        Ok(deleted) => Change::done(deleted.new_root, 1),
-        Err(_) => Change::refused(root),
+        Ok(deleted) => Change::to(deleted.new_root, Answer::Done(1)),
+        Err(_) => Change::to(root, Answer::Memory),
     }
 }
 
@@ -184,7 +161,7 @@ fn carry_out<K: AsBytes + Clone, V: Clone, const PREFIX_LEN: usize>(
     match command {
         Command::Insert(key, value) => match cloned(key, value) {
             Ok((key, value)) => insert(alloc, arena, root, key, value),
-            Err(_) => Change::refused(root),
+            Err(_) => Change::to(root, Answer::Memory),
         },
         Command::Delete(key) => delete(arena, root, key),
     }

@@ -20,6 +20,6 @@ returns-in-Ok g c pairs has =
 
 pub returns-in-Err-Prefix : goal.returns-in-Err-Prefix
 returns-in-Err-Prefix g c pairs has =
-    rw (c.blocked.ensures)
+    rw (c.to.ensures)
     (blocked-key g.K.AsBytes.bytes g.row.PREFIX_LEN c.args.arena.now c.args.root c.in-Some.top c.in-Some.is c.args.key c.as_bytes.result.now c.as_bytes.ensures.value pairs has
     c.in-Err-Prefix.ensures.answer)

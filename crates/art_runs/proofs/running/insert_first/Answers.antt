@@ -13,4 +13,4 @@ returns g c =
     let slot = c.in-Ok.leaf in
     let stored : Allocates old new (leaf_name slot) (leaf_held made.result) = search (rules, c.allocate_node_ptr, c.in-Ok) in
     let tree = first-leaf g.K.AsBytes.bytes g.row.PREFIX_LEN old new slot made.result c.requires.1 stored made.ensures.previous made.ensures.next in
-    rw (c.done.ensures) ((refl, λ blocked. blocked.1), (leaf_at slot c.args.key c.args.value, rw (c.to_opaque.ensures, ← made.ensures.key, ← made.ensures.value) tree, refl))
+    rw (c.to-2.ensures) ((refl, λ blocked. blocked.1), (leaf_at slot c.args.key c.args.value, rw (c.to_opaque.ensures, ← made.ensures.key, ← made.ensures.value) tree, refl))
