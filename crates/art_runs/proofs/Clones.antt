@@ -1,0 +1,126 @@
+-- Commands on pairs and on clones of them are answered alike, and leave clones.
+use Rattle.std.proofs.Common.{◌≡◌, ◌≢◌, ℕ, suc, not, Bool, true, false, cond, List, [], ◌∷◌, ◌++◌, length, map, bytes_eq, Option, refl, sym, ap, ap₂, subst, ◌∙◌}
+use Rattle.std.specs.List.{AllZip}
+use Rattle.art_nodes.specs.Name.{Name}
+use Rattle.art_arena.specs.Arena.{Arena}
+use Rattle.art_arena.specs.Changes.{IsIn, is_before, put}
+use Rattle.art_arena.specs.Shapes.{key_of}
+use Rattle.art_arena.specs.Shrinks.{Shrinks}
+use Rattle.art_arena.proofs.Paths.{in_map}
+use Rattle.art_runs.specs.Commands.{with_key, without_key, IsStored, IsBlocked, IsAnswered, after}
+use Rattle.art_runs.specs.Runs.{AreClones, HasPairs, HasClones, IsDone}
+use Rattle.art_runs.specs.declared.running.Answer.{Answer}
+use Rattle.art_runs.specs.declared.running.Answer.TheVariants.{Done, Prefix, Memory}
+use Rattle.art_runs.specs.declared.running.Change.{Change}
+use Rattle.art_runs.specs.declared.running.Command.{Command}
+use Rattle.art_runs.specs.declared.running.Command.TheVariants.{Insert, Delete}
+use Rattle.art_runs.proofs.Pairs.{in_unmap, shrinks-map, shrinks-unmap}
+
+abbrev bytes_of : List ℕ → List ℕ
+bytes_of k = k
+
+-- two lists of items with the same keys
+module _ {X : Type 0} (key : X → List ℕ) (xs ys : List X) (same : map key xs ≡ map key ys) where
+  in_other : (x : X) → IsIn x xs → (y : X) × IsIn y ys × (key y ≡ key x)
+  in_other x i = in_unmap key bytes_of (key x) ys (subst (IsIn (key x)) same (in_map key x xs i))
+
+  blocked_other : (k : List ℕ) → IsBlocked key k xs → IsBlocked key k ys
+  blocked_other k (x, i, c) = let other = in_other x i in (other.0, other.1, rw other.2 c)
+
+  stored_other : (k : List ℕ) → IsStored key k xs → IsStored key k ys
+  stored_other k (x, i, e) = let other = in_other x i in (other.0, other.1, other.2 ∙ e)
+
+  shrinks_other : (k : List ℕ) → Shrinks key xs k → Shrinks key ys k
+  shrinks_other k h = shrinks-unmap key bytes_of ys k (subst (λ ks. Shrinks bytes_of ks k) same (shrinks-map key bytes_of xs k h))
+
+-- a list and one that stands to it item by item, by a relation that keeps keys
+module _ {X : Type 0} (R : X → X → Type 0) (key : X → List ℕ) (same : (x y : X) → R x y → key y ≡ key x) where
+  keys_same : (xs ys : List X) → AllZip R xs ys → map key ys ≡ map key xs
+  keys_same [] [] h = refl
+  keys_same [] (y ∷ ys) h = absurd h
+  keys_same (x ∷ xs) [] h = absurd h
+  keys_same (x ∷ xs) (y ∷ ys) h = ap₂ (λ k ks. k ∷ ks) (same x y h.0) (keys_same xs ys h.1)
+
+  as_many : (k : List ℕ) (xs ys : List X) → AllZip R xs ys → length (with_key key k ys) ≡ length (with_key key k xs)
+  as_many k [] [] h = refl
+  as_many k [] (y ∷ ys) h = absurd h
+  as_many k (x ∷ xs) [] h = absurd h
+  as_many k (x ∷ xs) (y ∷ ys) h = rw (same x y h.0) (step (bytes_eq (key x) k) (as_many k xs ys h.1))
+    where
+      step : (b : Bool) → length (with_key key k ys) ≡ length (with_key key k xs) → length (cond b (y ∷ with_key key k ys) (with_key key k ys)) ≡ length (cond b (x ∷ with_key key k xs) (with_key key k xs))
+      step true e = ap suc e
+      step false e = e
+
+  without_both : (k : List ℕ) (xs ys : List X) → AllZip R xs ys → AllZip R (without_key key k xs) (without_key key k ys)
+  without_both k [] [] h = tt
+  without_both k [] (y ∷ ys) h = absurd h
+  without_both k (x ∷ xs) [] h = absurd h
+  without_both k (x ∷ xs) (y ∷ ys) h = rw (same x y h.0) (step (not (bytes_eq (key x) k)) (without_both k xs ys h.1))
+    where
+      step : (b : Bool) → AllZip R (without_key key k xs) (without_key key k ys) → AllZip R (cond b (x ∷ without_key key k xs) (without_key key k xs)) (cond b (y ∷ without_key key k ys) (without_key key k ys))
+      step true both = (h.0, both)
+      step false both = both
+
+  put_both : (x y : X) → R x y → (xs ys : List X) → AllZip R xs ys → AllZip R (put key x xs) (put key y ys)
+  put_both x y r [] [] h = (r, tt)
+  put_both x y r [] (b ∷ ys) h = absurd h
+  put_both x y r (a ∷ xs) [] h = absurd h
+  put_both x y r (a ∷ xs) (b ∷ ys) h = rw (same x y r, same a b h.0) (step (is_before (key x) (key a)) (put_both x y r xs ys h.1))
+    where
+      step : (t : Bool) → AllZip R (put key x xs) (put key y ys) → AllZip R (cond t (x ∷ a ∷ xs) (a ∷ put key x xs)) (cond t (y ∷ b ∷ ys) (b ∷ put key y ys))
+      step true both = (r, h)
+      step false both = (h.0, both)
+
+module _ {K V : Type 0} (bytes : K → List ℕ) (KeyClone : K → K → Type 0) (ValueClone : V → V → Type 0) (same : (k c : K) → KeyClone k c → bytes c ≡ bytes k) where
+  abbrev PairClone : K × V → K × V → Type 0
+  PairClone p q = KeyClone p.0 q.0 × ValueClone p.1 q.1
+
+  same_pair : (p q : K × V) → PairClone p q → key_of bytes q ≡ key_of bytes p
+  same_pair p q h = same p.0 q.0 h.0
+
+  module _ (pairs clones : List (K × V)) (are : AreClones KeyClone ValueClone pairs clones) where
+    same_keys : map (key_of bytes) clones ≡ map (key_of bytes) pairs
+    same_keys = keys_same PairClone (key_of bytes) same_pair pairs clones are
+
+    answered-insert : (k c : K) (v d : V) → bytes c ≡ bytes k → (answer : Answer) → IsAnswered bytes clones (Insert c d) answer → IsAnswered bytes pairs (Insert k v) answer
+    answered-insert k c v d e (Done n) (count, free) =
+        (rw (← e) (count ∙ as_many PairClone (key_of bytes) same_pair (bytes c) pairs clones are), λ blocked. free (rw e (blocked_other (key_of bytes) pairs clones (sym same_keys) (bytes k) blocked)))
+    answered-insert k c v d e Prefix blocked = blocked_other (key_of bytes) clones pairs same_keys (bytes k) (rw e at blocked)
+    answered-insert k c v d e Memory h = tt
+
+    answered-delete : (k : K) (answer : Answer) → IsAnswered bytes clones (Delete k) answer → IsAnswered bytes pairs (Delete k) answer
+    answered-delete k (Done n) count = count ∙ as_many PairClone (key_of bytes) same_pair (bytes k) pairs clones are
+    answered-delete k Prefix h = absurd h
+    answered-delete k Memory (stored, shrinks) = (stored_other (key_of bytes) clones pairs same_keys (bytes k) stored, shrinks_other (key_of bytes) clones pairs same_keys (bytes k) shrinks)
+
+    after-insert : (k c : K) (v d : V) → KeyClone k c → ValueClone v d → (answer : Answer) → AreClones KeyClone ValueClone (after bytes (Insert k v) answer pairs) (after bytes (Insert c d) answer clones)
+    after-insert k c v d kc vd (Done n) =
+        rw (same k c kc) (put_both PairClone (key_of bytes) same_pair (k, v) (c, d) (kc, vd) (without_key (key_of bytes) (bytes k) pairs) (without_key (key_of bytes) (bytes k) clones)
+        (without_both PairClone (key_of bytes) same_pair (bytes k) pairs clones are))
+    after-insert k c v d kc vd Prefix = are
+    after-insert k c v d kc vd Memory = are
+
+    after-delete : (k : K) (answer : Answer) → AreClones KeyClone ValueClone (after bytes (Delete k) answer pairs) (after bytes (Delete k) answer clones)
+    after-delete k (Done n) = without_both PairClone (key_of bytes) same_pair (bytes k) pairs clones are
+    after-delete k Prefix = are
+    after-delete k Memory = are
+
+  -- a command is answered, and the arena has clones of the pairs that it leaves
+  abbrev pub IsCarriedOut : ℕ → Arena K V → List (K × V) → Command K V → Change → Type 0
+  IsCarriedOut P arena pairs command change = IsAnswered bytes pairs command change.answer × HasClones bytes P arena KeyClone ValueClone change.root (after bytes command change.answer pairs)
+
+  -- an insertion of clones is one of the pair
+  pub insert-clones : (P : ℕ) (old new : Arena K V) (root : Option Name) (pairs : List (K × V)) (k c : K) (v d : V) (change : Change) → KeyClone k c → ValueClone v d
+      → ((stored : List (K × V)) → HasPairs bytes P old root stored → IsDone bytes P new stored (Insert c d) change)
+      → HasClones bytes P old KeyClone ValueClone root pairs → IsCarriedOut P new pairs (Insert k v) change
+  insert-clones P old new root pairs k c v d change kc vd done (clones, are, has) =
+      let result = done clones has in
+      (answered-insert pairs clones are k c v d (same k c kc) change.answer result.0, (_, after-insert pairs clones are k c v d kc vd change.answer, result.1))
+
+  -- a deletion from clones is one from the pairs
+  pub delete-clones : (P : ℕ) (old new : Arena K V) (root : Option Name) (pairs : List (K × V)) (k : K) (change : Change)
+      → ((stored : List (K × V)) → HasPairs bytes P old root stored → IsDone bytes P new stored (Delete k) change)
+      → HasClones bytes P old KeyClone ValueClone root pairs → IsCarriedOut P new pairs (Delete k) change
+  delete-clones P old new root pairs k change done (clones, are, has) =
+      let result = done clones has in
+      (answered-delete pairs clones are k change.answer result.0, (_, after-delete pairs clones are k change.answer, result.1))

@@ -1,0 +1,109 @@
+-- An ascending list into which an item is put, in which one is replaced, or from which one is taken, and the list without its key.
+use Rattle.std.proofs.Common.{◌≡◌, ◌≢◌, ℕ, not, true, false, Bool, cond, List, [], ◌∷◌, ◌++◌, length, bytes_eq, refl, sym, ap, ap₂, subst, ◌∙◌}
+use Rattle.std.specs.List.{AllByRecursion}
+use Rattle.std.proofs.lemmas.List.Elements.{filter-append}
+use Rattle.art_bytes.specs.Keys.{Conflict}
+use Rattle.art_arena.specs.Order.{IsBefore, IsAscending}
+use Rattle.art_arena.specs.Changes.{put}
+use Rattle.art_arena.proofs.Order.{all_append, all_weaker, before_not_self, conflict_not_before, conflict_turned}
+use Rattle.art_arena.proofs.Insert.{all_at}
+use Rattle.art_arena.proofs.Exists.{in_middle, put_is}
+use Rattle.art_arena.proofs.Finding.{same_key, other_key}
+use Rattle.art_runs.specs.Commands.{with_key, without_key, IsBlocked}
+
+module _ {X : Type 0} (key : X → List ℕ) where
+  -- new is old with x in the place of those that had its key, which were n; none is in conflict with it
+  pub record IsPut (x : X) (old new : List X) (n : ℕ) : Type 0 where
+    pub new_is : new ≡ put key x (without_key key (key x) old)
+    pub count : n ≡ length (with_key key (key x) old)
+    pub free : IsBlocked key (key x) old → ⊥
+
+  -- new is old without x, which alone had its key
+  pub record IsTaken (k : List ℕ) (old new : List X) : Type 0 where
+    pub new_is : new ≡ without_key key k old
+    pub count : 1 ≡ length (with_key key k old)
+
+  -- where none has the key, nothing is taken out
+  pub nothing_taken : (k : List ℕ) (xs : List X) → with_key key k xs ≡ [] → without_key key k xs ≡ xs
+  nothing_taken k [] h = refl
+  nothing_taken k (x ∷ xs) h = step (bytes_eq (key x) k) (nothing_taken k xs) h
+    where
+      step : (b : Bool) → (with_key key k xs ≡ [] → without_key key k xs ≡ xs) → cond b (x ∷ with_key key k xs) (with_key key k xs) ≡ [] → cond (not b) (x ∷ without_key key k xs) (without_key key k xs) ≡ x ∷ xs
+      step true later none = absurd (cc)
+      step false later none = ap (λ ys. x ∷ ys) (later none)
+
+  module _ (k : List ℕ) where
+    -- all have other keys
+    abbrev AreOthers : List X → Type 0
+    AreOthers xs = AllByRecursion (λ x. key x ≢ k) xs
+
+    -- none is in conflict with the key
+    abbrev AreFree : List X → Type 0
+    AreFree xs = AllByRecursion (λ x. Conflict k (key x) → ⊥) xs
+
+    with_none : (xs : List X) → AreOthers xs → with_key key k xs ≡ []
+    with_none [] h = refl
+    with_none (x ∷ xs) h = rw (other_key (key x) k h.0) (with_none xs h.1)
+
+    without_none : (xs : List X) → AreOthers xs → without_key key k xs ≡ xs
+    without_none [] h = refl
+    without_none (x ∷ xs) h = rw (other_key (key x) k h.0) (ap (λ ys. x ∷ ys) (without_none xs h.1))
+
+    with_one : (front : List X) (x : X) (back : List X) → key x ≡ k → AreOthers front → AreOthers back → with_key key k (front ++ x ∷ back) ≡ x ∷ []
+    with_one front x back same before behind =
+        filter-append (λ y. bytes_eq (key y) k) front (x ∷ back)
+        ∙ ap₂ (λ xs ys. xs ++ ys) (with_none front before) (rw (same_key (key x) k same) (ap (λ ys. x ∷ ys) (with_none back behind)))
+
+    without_one : (front : List X) (x : X) (back : List X) → key x ≡ k → AreOthers front → AreOthers back → without_key key k (front ++ x ∷ back) ≡ front ++ back
+    without_one front x back same before behind =
+        filter-append (λ y. not (bytes_eq (key y) k)) front (x ∷ back)
+        ∙ ap₂ (λ xs ys. xs ++ ys) (without_none front before) (rw (same_key (key x) k same) (without_none back behind))
+
+    not_blocked : (xs : List X) → AreFree xs → IsBlocked key k xs → ⊥
+    not_blocked xs free (x, i, c) = all_at (λ y. Conflict k (key y) → ⊥) x xs free i c
+
+  module _ (x : X) where
+    before : (front back : List X) → IsAscending key (front ++ x ∷ back) → AllByRecursion (λ y. IsBefore (key y) (key x)) front
+    before [] back h = tt
+    before (z ∷ front) back h = (all_at (λ y. IsBefore (key z) (key y)) x (front ++ x ∷ back) h.0 (in_middle key front x back), before front back h.1)
+
+    behind : (front back : List X) → IsAscending key (front ++ x ∷ back) → AllByRecursion (λ y. IsBefore (key x) (key y)) back
+    behind [] back h = h.0
+    behind (z ∷ front) back h = behind front back h.1
+
+    others_before : (front back : List X) → IsAscending key (front ++ x ∷ back) → AreOthers (key x) front
+    others_before front back h = all_weaker _ _ (λ y b e. before_not_self (key x) (subst (λ k. IsBefore k (key x)) e b)) front (before front back h)
+
+    others_behind : (front back : List X) → IsAscending key (front ++ x ∷ back) → AreOthers (key x) back
+    others_behind front back h = all_weaker _ _ (λ y b e. before_not_self (key x) (subst (λ k. IsBefore (key x) k) e b)) back (behind front back h)
+
+    free_before : (front back : List X) → IsAscending key (front ++ x ∷ back) → AreFree (key x) front
+    free_before front back h = all_weaker _ _ (λ y b c. conflict_not_before (key y) (key x) (conflict_turned (key x) (key y) c) b) front (before front back h)
+
+    free_behind : (front back : List X) → IsAscending key (front ++ x ∷ back) → AreFree (key x) back
+    free_behind front back h = all_weaker _ _ (λ y b c. conflict_not_before (key x) (key y) c b) back (behind front back h)
+
+    -- an item that was put in is put at the place of its key
+    pub put_new : (front back : List X) → IsAscending key (front ++ x ∷ back) → IsPut x (front ++ back) (front ++ x ∷ back) 0
+    put_new front back h =
+        let others = all_append _ front back (others_before front back h) (others_behind front back h) in
+        record {
+          new_is = sym (put_is key x front back h) ∙ ap (put key x) (sym (without_none (key x) (front ++ back) others));
+          count = ap length (sym (with_none (key x) (front ++ back) others));
+          free = not_blocked (key x) (front ++ back) (all_append _ front back (free_before front back h) (free_behind front back h));
+        }
+
+    -- and so is one that took the place of an item with its key
+    pub put_replaced : (front : List X) (was : X) (back : List X) → key was ≡ key x → IsAscending key (front ++ x ∷ back) → IsPut x (front ++ was ∷ back) (front ++ x ∷ back) 1
+    put_replaced front was back same h = record {
+      new_is = sym (put_is key x front back h) ∙ ap (put key x) (sym (without_one (key x) front was back same (others_before front back h) (others_behind front back h)));
+      count = ap length (sym (with_one (key x) front was back same (others_before front back h) (others_behind front back h)));
+      free = not_blocked (key x) (front ++ was ∷ back) (all_append _ front (was ∷ back) (free_before front back h) ((λ c. c.0 (sym same)), free_behind front back h));
+    }
+
+    -- an item that was taken out had its key alone
+    pub taken : (front back : List X) → IsAscending key (front ++ x ∷ back) → IsTaken (key x) (front ++ x ∷ back) (front ++ back)
+    taken front back h = record {
+      new_is = sym (without_one (key x) front x back refl (others_before front back h) (others_behind front back h));
+      count = ap length (sym (with_one (key x) front x back refl (others_before front back h) (others_behind front back h)));
+    }

@@ -1,0 +1,51 @@
+-- What commands leave and answer, as the checker computes it.
+use Rattle.std.proofs.Common.{◌≡◌, ℕ, List, [], ◌∷◌, refl, inl, inr}
+use Rattle.art_runs.specs.Commands.{IsAnswered, pairs_after}
+use Rattle.art_runs.specs.declared.running.Answer.{Answer}
+use Rattle.art_runs.specs.declared.running.Answer.TheVariants.{Done, Prefix, Memory}
+use Rattle.art_runs.specs.declared.running.Command.{Command}
+use Rattle.art_runs.specs.declared.running.Command.TheVariants.{Insert, Delete}
+
+-- each key is its own bytes
+abbrev itself : List ℕ → List ℕ
+itself k = k
+
+abbrev left_by : List (Command (List ℕ) ℕ) → List Answer → List (List ℕ × ℕ)
+left_by commands answers = pairs_after itself commands answers []
+
+abbrev AnswersOn : List (List ℕ × ℕ) → Command (List ℕ) ℕ → Answer → Type 0
+AnswersOn pairs command answer = IsAnswered itself pairs command answer
+
+-- pairs stand by ascending key, whichever came first
+in_order : left_by (Insert (2 ∷ []) 5 ∷ Insert (1 ∷ 9 ∷ []) 6 ∷ Insert (1 ∷ 3 ∷ []) 7 ∷ []) (Done 0 ∷ Done 0 ∷ Done 0 ∷ [])
+    ≡ (1 ∷ 3 ∷ [], 7) ∷ (1 ∷ 9 ∷ [], 6) ∷ (2 ∷ [], 5) ∷ []
+in_order = refl
+
+-- an equal key has its pair replaced, where it stands
+replaced : left_by (Insert (1 ∷ []) 5 ∷ Insert (2 ∷ []) 6 ∷ Insert (1 ∷ []) 7 ∷ []) (Done 0 ∷ Done 0 ∷ Done 1 ∷ []) ≡ (1 ∷ [], 7) ∷ (2 ∷ [], 6) ∷ []
+replaced = refl
+
+replaced_one : AnswersOn ((1 ∷ [], 5) ∷ (2 ∷ [], 6) ∷ []) (Delete (1 ∷ [])) (Done 1)
+replaced_one = refl
+
+-- a key that is a front of a stored one is refused, and changes nothing
+blocked : AnswersOn ((1 ∷ 2 ∷ [], 5) ∷ []) (Insert (1 ∷ []) 6) Prefix
+blocked = ((1 ∷ 2 ∷ [], 5), inl refl, (λ e. cc, inl (2 ∷ [], refl)))
+
+not_put : left_by (Insert (1 ∷ 2 ∷ []) 5 ∷ Insert (1 ∷ []) 6 ∷ []) (Done 0 ∷ Prefix ∷ []) ≡ (1 ∷ 2 ∷ [], 5) ∷ []
+not_put = refl
+
+-- so does a command for which there was no memory
+no_memory : left_by (Insert (1 ∷ []) 5 ∷ Insert (2 ∷ []) 6 ∷ Delete (1 ∷ []) ∷ []) (Done 0 ∷ Memory ∷ Memory ∷ []) ≡ (1 ∷ [], 5) ∷ []
+no_memory = refl
+
+-- a key that isn't stored is deleted zero times
+deleted : left_by (Insert (1 ∷ []) 5 ∷ Insert (2 ∷ []) 6 ∷ Delete (1 ∷ []) ∷ Delete (3 ∷ []) ∷ []) (Done 0 ∷ Done 0 ∷ Done 1 ∷ Done 0 ∷ []) ≡ (2 ∷ [], 6) ∷ []
+deleted = refl
+
+deleted_none : AnswersOn ((2 ∷ [], 6) ∷ []) (Delete (3 ∷ [])) (Done 0)
+deleted_none = refl
+
+-- the last pair goes, and none is left
+emptied : left_by (Insert (1 ∷ []) 5 ∷ Delete (1 ∷ []) ∷ []) (Done 0 ∷ Done 1 ∷ []) ≡ []
+emptied = refl
