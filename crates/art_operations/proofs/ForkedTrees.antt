@@ -182,7 +182,7 @@ module _ {K V : Type 0} (bytes : K → List ℕ) (P : ℕ) (s : Shape K V) (old 
           let xs = cells_before P at.ctx (fork_name slot) in
           let moved : xs ++ fork_cell ∷ (cells P lower ++ leaf_cell ∷ right) ≡ (xs ++ fork_cell ∷ cells P lower) ++ leaf_cell ∷ right = sym (append_assoc xs (fork_cell ∷ cells P lower) (leaf_cell ∷ right)) in
           subst (Holds map) (ap (λ cs. xs ++ fork_cell ∷ (cs ++ leaf_cell ∷ right)) (sym lower_cells) ∙ moved
-              ∙ ap₂ (λ c cs. (xs ++ c ∷ cs) ++ leaf_cell ∷ right) (sym (frame_cell_is false order)) (sym (append-nil (cells P lower)))) holds
+          ∙ ap₂ (λ c cs. (xs ++ c ∷ cs) ++ leaf_cell ∷ right) (sym (frame_cell_is false order)) (sym (append-nil (cells P lower)))) holds
 
       module _ (made : Arena K V) (both : AllocatesBoth start made (leaf_name leaf) (lone_leaf key value) (fork_name slot) (inner_held (fork_node P (take parted.matched (drop depth (bytes key))) parted.old_byte old parted.new_byte (leaf_name leaf)))) where
         holds_made : Holds (node_at made) (left ++ fork_cell ∷ ((old, root_cell P at.part) ∷ (below ++ leaf_cell ∷ right)))

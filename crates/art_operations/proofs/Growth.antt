@@ -17,7 +17,7 @@ use Rattle.art_arena.proofs.Subtrees.{inner_of}
 use Rattle.art_arena.proofs.Updates.{nodes-update, links-kept, nodes-same, links-same}
 use Rattle.art_operations.specs.Edits.{StandsAround}
 use Rattle.art_operations.specs.Growth.{AwaitsLeaf}
-use Rattle.art_operations.proofs.Neighbours.{beside-kept}
+use Rattle.art_operations.proofs.NewLeaves.{beside-same}
 use Rattle.art_operations.proofs.Waiting.{open_node, inner-kind, node-inner}
 
 -- a full node's children and one more are of the next larger kind
@@ -76,16 +76,16 @@ module _ {K V : Type 0} (bytes : K → List ℕ) (P : ℕ) where
           let left = Holds-remove (node_at moved) (node_at freed) f.name (branches (open_node P f)) (cells_before P outer copy ++ (copy, branches (open_node P f)) ∷ []) below gone
           (subst (Holds (node_at moved)) (sym (append_assoc (cells_before P outer copy) ((copy, branches (open_node P f)) ∷ []) ((f.name, branches (open_node P f)) ∷ below))) moved-there) in
           let links : (slot : ℕ) → links_at freed slot ≡ links_at arena slot = λ slot.
-              links-kept moved freed node None update (node-inner bytes P arena root node byte leaf f outer l awaits) slot
-              ∙ links_stay slot
-              ∙ links-kept arena copied copy _ copies.updates (inner-kind copied copy (open_node P f) copies.updates.changed) slot in
+          links-kept moved freed node None update (node-inner bytes P arena root node byte leaf f outer l awaits) slot
+          ∙ links_stay slot
+          ∙ links-kept arena copied copy _ copies.updates (inner-kind copied copy (open_node P f) copies.updates.changed) slot in
           record {
             named = named;
             node_is = refl;
             byte_is = awaits.byte_is;
             leaf_is = awaits.leaf_is;
             holds = subst (Holds (node_at freed)) (append_assoc (cells_before P outer copy) ((copy, branches (open_node P f)) ∷ []) below) left;
-            beside = beside-kept (links_at arena) (links_at freed) links (leaves_before (f ∷ outer) ++ leaves_after (f ∷ outer)) l.slot awaits.beside;
+            beside = beside-same (links_at arena) (links_at freed) (leaves_before (f ∷ outer) ++ leaves_after (f ∷ outer)) l.slot links awaits.beside;
             around = awaits.around;
             two = awaits.two;
             before_under = awaits.before_under;

@@ -71,8 +71,12 @@ fn store_fork<K: AsBytes, V, const PREFIX_LEN: usize>(
     ensures room { (n : ℕ) → HasRoom arena.old (n + 1) → HasRoom arena.new n }
 {
     let key = arena.as_key_ref(leaf).as_bytes();
-    let node: InnerNode4<K, V, PREFIX_LEN> =
-        fork_of(&key[depth..depth + parted.matched], parted, old, leaf);
+    let node: InnerNode4<K, V, PREFIX_LEN> = fork_of(
+        &key[depth..depth + parted.matched],
+        parted,
+        old,
+        leaf,
+    );
     match arena.allocate_node_ptr(node) {
         Ok(inner) => Ok(inner),
         Err(_) => Err(AllocError),
@@ -121,8 +125,8 @@ fn end_leaf<K: AsBytes, V, const PREFIX_LEN: usize>(
     }
 }
 
-// Links a new leaf in between two lists: before the first leaf of the second, or else behind the last one of the first.
-fn link_between<K, V, const PREFIX_LEN: usize>(
+/// Links a new leaf in between two lists: before the first leaf of the second, or else behind the last one of the first.
+pub(crate) fn link_between<K, V, const PREFIX_LEN: usize>(
     arena: &mut NodeArena<K, V, PREFIX_LEN>,
     leaf: LeafPtr,
     neighbour: LeafPtr,

@@ -46,7 +46,7 @@ returns-clause-ok g c = λ leaf f outer l awaits path kind.
     let full = c.has_room.ensures.no _ there c.if-has_room.false in
     let stands = both-held _ _ _ _ _ _ _ _ _ _ awaits c.grow.new.arena _ copies _ path in (
       renamed _ _ _ _ _ _ _ _ _ _ awaits c.grow.new.arena _ copies c.repoint-root.new.arena (c.repoint-root.ensures.holds _ _ _ stands) c.drop_node.new.arena _ (c.repoint-root.ensures.root _ _ _ stands) c.repoint-root.ensures.links
-      c.drop_node.ensures.updates,
+          c.drop_node.ensures.updates,
       next-kind _ _ (width f.before + width f.after) c.in_ok-node.ensures.kind (sym (as_many _ _ _ _ _ _ _ _ _ _ awaits) ∙ full.0),
     )
 
