@@ -7,11 +7,10 @@ use Rattle.art_nodes.specs.declared.kind.NodeType.TheVariants.{Leaf, Node4}
 use Rattle.art_nodes.specs.declared.concrete.ConcreteInnerNodePtr.TheVariants as inner
 use Rattle.art_arena.specs.Arena.{Arena, inner_held, cell_of, held_at, node_at, links_at}
 use Rattle.art_arena.specs.Cells.{Cell, pair, branches, leaf_name, copies, AreHeld, Holds, UpdatesAt}
-use Rattle.art_arena.specs.Context.{Frame, plug, path_to, root_of, frame_cell, leaves_before, leaves_after, cells_before, cells_after, AreAround}
-use Rattle.art_arena.specs.Kinds.{IsKindOf}
+use Rattle.art_arena.specs.Context.{Frame, path_to, root_of, frame_cell, leaves_before, leaves_after, cells_before, cells_after, AreAround}
 use Rattle.art_arena.specs.Linked.{AreLinked, IsBeside}
 use Rattle.art_arena.specs.Meaning.{IsAtDepth, IsSubtree, IsTree}
-use Rattle.art_arena.specs.Shapes.{Shape, no_branch, branch, LeafAt, name_of, children_at, leaves, cells, node_of}
+use Rattle.art_arena.specs.Shapes.{Shape, no_branch, branch, name_of, leaves, cells, node_of}
 use Rattle.art_arena.specs.Steps.{Step}
 use Rattle.art_arena.proofs.Order.{all_append, all_left, all_right}
 use Rattle.art_arena.proofs.CellLists.{copies-append, Holds-add, Holds-write, Holds-same}

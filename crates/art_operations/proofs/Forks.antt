@@ -1,42 +1,23 @@
 -- A fork in the place of a part of a tree: its cells, its leaves and their links.
-use Rattle.std.proofs.Common.{◌≡◌, ◌≢◌, ℕ, suc, ◌+◌, ◌<◌, ◌≤◌, Bool, true, false, ltb, List, [], ◌∷◌, ◌++◌, length, take, drop, Option, Some, None, IsSome, refl, sym, ap, ap₂, subst, ◌∙◌, inl, inr, arith, append_assoc, append-nil, length-append, zero-le}
-use Rattle.std.proofs.lemmas.Bool.Decides.{eqb_tells, leb_tells}
+use Rattle.std.proofs.Common.{◌≡◌, ◌≢◌, ℕ, ◌+◌, ◌≤◌, List, [], ◌∷◌, ◌++◌, length, take, drop, Option, Some, None, IsSome, refl, sym, ap, ap₂, subst, ◌∙◌, arith, append_assoc, append-nil, length-append}
 use Rattle.art_bytes.specs.Keys.{BeginsWith}
-use Rattle.art_nodes.specs.InnerNode.{InnerNode, with_child}
 use Rattle.art_nodes.specs.Name.{Name}
-use Rattle.art_nodes.specs.declared.kind.NodeType.TheVariants.{Leaf, Node4}
-use Rattle.art_arena.specs.Arena.{Arena, Held, leaf_held, inner_held, cell_of, held_at, node_at, links_at}
-use Rattle.art_arena.specs.Cells.{Cell, pair, branches, leaf_name, copies, AreHeld, Holds, UpdatesAt}
-use Rattle.art_arena.specs.Context.{Frame, plug, path_to, root_of, frame_cell, leaves_before, leaves_after, cells_before, cells_after, AreAround}
-use Rattle.art_arena.specs.Kinds.{IsKindOf}
-use Rattle.art_arena.specs.Linked.{Links, AreLinked, first_slot, last_slot, IsBeside, IsList}
-use Rattle.art_arena.specs.Meaning.{IsAtDepth, IsSubtree, IsNodes, IsTree}
+use Rattle.art_nodes.specs.declared.kind.NodeType.TheVariants.{Leaf}
+use Rattle.art_arena.specs.Arena.{Held, cell_of}
+use Rattle.art_arena.specs.Cells.{Cell, leaf_name}
+use Rattle.art_arena.specs.Context.{Frame, path_to}
 use Rattle.art_arena.specs.Places.{IsPlace}
 use Rattle.art_arena.specs.Prefixes.{prefix_of}
-use Rattle.art_arena.specs.Shapes.{Shape, Branches, leaf_at, inner_at, no_branch, branch, LeafAt, name_of, children_at, leaves, leaves_in, cells, cells_in, node_of, IsUnder, AreUnder}
+use Rattle.art_arena.specs.Shapes.{Shape, Branches, leaf_at, inner_at, name_of, leaves, cells, cells_in, IsUnder, AreUnder}
 use Rattle.art_arena.specs.Steps.{Step, steps_to, steps_of}
-use Rattle.art_arena.proofs.Order.{all_append, all_left, all_right}
-use Rattle.art_arena.proofs.CellLists.{copies-append, Holds-add, Holds-write, Holds-same}
-use Rattle.art_arena.proofs.Contexts.{cells-plug, leaves-plug, name_of-plug}
-use Rattle.art_arena.proofs.LinkedLists.{ends_with-first, last_slot-append, first_slot-append}
-use Rattle.art_arena.proofs.Meanings.{nodes-part}
-use Rattle.art_arena.proofs.Places.{held-below}
 use Rattle.art_arena.proofs.Prefixes.{drop-front}
-use Rattle.art_arena.proofs.Subtrees.{some_leaf}
-use Rattle.art_arena.proofs.Surroundings.{new-beside}
-use Rattle.art_arena.proofs.Updates.{nodes-update, links-update, links-kept}
-use Rattle.art_operations.specs.Edits.{StandsAround, lone_leaf, AllocatesBoth}
-use Rattle.art_operations.specs.Forks.{PartsFrom, trimmed, root_cell, IsEnd, IsBetween, fork_node}
-use Rattle.art_operations.specs.Insertions.{IsInserted}
+use Rattle.art_operations.specs.Forks.{PartsFrom, trimmed, root_cell}
 use Rattle.art_operations.specs.Meetings.{PartAt}
 use Rattle.art_operations.specs.Points.{IsPoint, MeetsAt}
 use Rattle.art_operations.specs.declared.insert.point.InsertPoint.{InsertPoint}
 use Rattle.art_operations.specs.declared.insert.point.InsertKind.{InsertKind}
 use Rattle.art_operations.specs.declared.insert.point.InsertKind.TheVariants as kind
-use Rattle.art_operations.specs.declared.insert.result.InsertParentNodeChange.TheVariants.{NewParent}
 use Rattle.art_operations.specs.declared.meeting.Parted.{Parted}
-use Rattle.art_nodes.specs.declared.concrete.ConcreteInnerNodePtr.TheVariants as inner
-use Rattle.art_operations.proofs.Inserted.{AreLinked-same, inserted_below}
 use Rattle.art_operations.proofs.Points.{behind, part_new, part_old}
 
 take_front : (xs ys : List ℕ) → take (length xs) (xs ++ ys) ≡ xs

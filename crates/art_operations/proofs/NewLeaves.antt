@@ -1,9 +1,9 @@
 -- A new leaf goes between two lists of leaves.
-use Rattle.std.proofs.Common.{◌≡◌, ℕ, Bool, true, false, List, [], ◌∷◌, ◌++◌, Option, Some, None, IsSome, refl, sym, ap, subst, ◌∙◌, append_assoc}
+use Rattle.std.proofs.Common.{◌≡◌, ℕ, Bool, true, false, List, [], ◌∷◌, ◌++◌, Option, Some, None, IsSome, refl, sym, subst, ◌∙◌, append_assoc}
 use Rattle.art_arena.specs.Linked.{Links, first_slot, last_slot, IsBeside}
 use Rattle.art_arena.specs.Shapes.{LeafAt}
 use Rattle.art_arena.proofs.LinkedLists.{ends_with-first, last_slot-append}
-use Rattle.art_operations.specs.Forks.{IsEnd, IsBetween}
+use Rattle.art_operations.specs.Forks.{IsBetween}
 use Rattle.art_operations.proofs.Inserted.{AreLinked-same}
 
 module _ {K V : Type 0} where

@@ -1,7 +1,6 @@
 -- What an edit of a part of a tree needs of what stands around it.
 use Rattle.std.specs.Prelude.{◌≡◌, ℕ, List, ◌++◌, take, Option, None}
 use Rattle.art_nodes.specs.Name.{Name}
-use Rattle.art_nodes.specs.declared.leaf.LeafNode.{LeafNode}
 use Rattle.art_arena.specs.Arena.{Arena, Held, leaf_held, Allocates}
 use Rattle.art_arena.specs.Cells.{Cell, Holds}
 use Rattle.art_arena.specs.Context.{Frame, root_of, cells_before, AreAround}

@@ -1,5 +1,5 @@
 -- A fork: an inner node over a part of a tree and a new leaf, in the part's place.
-use Rattle.std.specs.Prelude.{◌≡◌, ℕ, ◌+◌, nat_lt, Bool, true, false, List, [], ◌∷◌, ◌++◌, length, take, drop, Option, Some, None}
+use Rattle.std.specs.Prelude.{◌≡◌, ℕ, Bool, true, false, List, [], ◌∷◌, length, take, drop, Option, Some, None}
 use Rattle.art_nodes.specs.Header.{Header}
 use Rattle.art_nodes.specs.InnerNode.{InnerNode, with_child}
 use Rattle.art_nodes.specs.Name.{Name}

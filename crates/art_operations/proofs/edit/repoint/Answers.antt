@@ -1,5 +1,5 @@
 use Rattle.std.proofs.Common.{inr, arith}
-use Rattle.art_arena.specs.Arena.{inner_held, node_at}
+use Rattle.art_arena.specs.Arena.{node_at}
 use Rattle.art_arena.specs.Steps.{steps_of}
 use Rattle.art_arena.proofs.Updates.{links-kept}
 use Rattle.art_operations.proofs.Edits.{at_top, parent_there, new_child}

@@ -4,10 +4,10 @@ use Rattle.art_arena.specs.Cells.{UpdatesAt}
 use Rattle.art_arena.specs.Context.{path_to, leaves_before, leaves_after}
 use Rattle.art_arena.specs.Linked.{IsBeside}
 use Rattle.art_arena.specs.Meaning.{IsTree}
-use Rattle.art_arena.specs.Shapes.{Shape, leaves}
+use Rattle.art_arena.specs.Shapes.{Shape}
 use Rattle.art_arena.specs.Steps.{steps_of}
 use Rattle.art_operations.specs.Edits.{StandsAround}
-use Rattle.art_operations.specs.Forks.{trimmed, root_cell, with_prefix}
+use Rattle.art_operations.specs.Forks.{trimmed, root_cell, with_prefix, IsBetween}
 use Rattle.art_operations.specs.Points.{IsPoint}
 use Rattle.art_operations.proofs.Forks.{ForkPlace, fork_place}
 use Rattle.art_operations.proofs.ForkedTrees.{part_subtree, part_at_depth, part_cell, part_held, fork_frame, split_leaves, end_between, forked_cells, fork_beside, fork_stands, forked}
@@ -64,29 +64,40 @@ cut g c s tree point here rest =
     (part_cell g.K.AsBytes.bytes g.row.PREFIX_LEN s c.args.old c.args.parted c.args.point.key_bytes_used (steps_of c.args.point.path) c.args.key c.args.value here c.args.point.root c.args.arena.now tree
     c.in_ok-made.made.leaf c.in_ok-made.made.inner c.store_nodes.new.arena c.in_ok-made.ensures.ok))
 
+-- the new leaf goes between the leaves on both sides of its place
+goes_between : (g : _) (c : After-trim g) (s : Shape g.row.K.Denot g.row.V.Denot) (tree : IsTree g.K.AsBytes.bytes g.row.PREFIX_LEN (node_at c.args.arena.now) c.args.point.root (links_at c.args.arena.now) s)
+    (here : ForkPlace g.K.AsBytes.bytes (g.K.AsBytes.bytes c.args.key) s c.args.old c.args.parted c.args.point.key_bytes_used (steps_of c.args.point.path))
+    → UpdatesAt (node_at c.store_nodes.new.arena) (node_at c.trim.new.arena) c.args.old (Some (root_cell g.row.PREFIX_LEN (trimmed (c.args.parted.matched + 1) here.part)))
+    → (let frame = fork_frame g.K.AsBytes.bytes g.row.PREFIX_LEN s c.args.old c.args.parted c.args.point.key_bytes_used (steps_of c.args.point.path) c.args.key c.args.value here (ltb c.args.parted.new_byte c.args.parted.old_byte) c.in_ok-made.made.inner in
+    IsBeside (links_at c.trim.new.arena) (leaves_before (frame ∷ here.ctx) ++ leaves_after (frame ∷ here.ctx)) c.in_ok-made.made.leaf
+    × IsBetween (ltb c.args.parted.new_byte c.args.parted.old_byte) c.end_leaf-neighbour.result (leaves_before (frame ∷ here.ctx)) (leaves_after (frame ∷ here.ctx)))
+goes_between g c s tree here cell =
+    let is_before = ltb c.args.parted.new_byte c.args.parted.old_byte in
+    let end = c.end_leaf-neighbour.ensures (path_to here.ctx) here.part
+    (part_subtree g.K.AsBytes.bytes g.row.PREFIX_LEN s c.args.old c.args.parted c.args.point.key_bytes_used (steps_of c.args.point.path) c.args.key c.args.value here c.args.point.root c.args.arena.now tree) in
+    let beside = fork_beside g.K.AsBytes.bytes g.row.PREFIX_LEN s c.args.old c.args.parted c.args.point.key_bytes_used (steps_of c.args.point.path) c.args.key c.args.value here c.args.point.root c.args.arena.now tree
+    c.in_ok-made.made.leaf c.in_ok-made.made.inner c.store_nodes.new.arena c.in_ok-made.ensures.ok c.trim.new.arena cell c.trim.ensures.links in (
+      subst (λ ls. IsBeside (links_at c.trim.new.arena) ls c.in_ok-made.made.leaf)
+          (split_leaves g.K.AsBytes.bytes g.row.PREFIX_LEN s c.args.old c.args.parted c.args.point.key_bytes_used (steps_of c.args.point.path) c.args.key c.args.value here is_before c.in_ok-made.made.inner) beside,
+      end_between g.K.AsBytes.bytes g.row.PREFIX_LEN s c.args.old c.args.parted c.args.point.key_bytes_used (steps_of c.args.point.path) c.args.key c.args.value here is_before c.in_ok-made.made.inner c.end_leaf-neighbour.result end,
+    )
+
 pub link_between-requires : goal.link_between-requires
 link_between-requires g c =
     let d = (goal.at.link_between-requires g c).In_ok-made in
     let e = (goal.at.link_between-requires g c).After-trim in
     let r = c.requires.tree in
     let here = at g d r.0 r.1 r.2 in
-    let is_before = ltb c.args.parted.new_byte c.args.parted.old_byte in
-    let frame = fork_frame g.K.AsBytes.bytes g.row.PREFIX_LEN r.0 c.args.old c.args.parted c.args.point.key_bytes_used (steps_of c.args.point.path) c.args.key c.args.value here is_before c.in_ok-made.made.inner in
-    let leaves_are = split_leaves g.K.AsBytes.bytes g.row.PREFIX_LEN r.0 c.args.old c.args.parted c.args.point.key_bytes_used (steps_of c.args.point.path) c.args.key c.args.value here is_before c.in_ok-made.made.inner in
-    let beside = fork_beside g.K.AsBytes.bytes g.row.PREFIX_LEN r.0 c.args.old c.args.parted c.args.point.key_bytes_used (steps_of c.args.point.path) c.args.key c.args.value here c.args.point.root c.args.arena.now r.1
-    c.in_ok-made.made.leaf c.in_ok-made.made.inner c.store_nodes.new.arena c.in_ok-made.ensures.ok c.trim.new.arena (cut g e r.0 r.1 r.2 here (rest_is g d r.0 r.1 r.2)) c.trim.ensures.links in
-    let end = c.end_leaf-neighbour.ensures (path_to here.ctx) here.part
-    (part_subtree g.K.AsBytes.bytes g.row.PREFIX_LEN r.0 c.args.old c.args.parted c.args.point.key_bytes_used (steps_of c.args.point.path) c.args.key c.args.value here c.args.point.root c.args.arena.now r.1) in
-    (omega arith, (leaves_before (frame ∷ here.ctx), leaves_after (frame ∷ here.ctx), subst (λ ls. IsBeside (links_at c.trim.new.arena) ls c.in_ok-made.made.leaf) leaves_are beside,
-      end_between g.K.AsBytes.bytes g.row.PREFIX_LEN r.0 c.args.old c.args.parted c.args.point.key_bytes_used (steps_of c.args.point.path) c.args.key c.args.value here is_before c.in_ok-made.made.inner c.end_leaf-neighbour.result end))
+    let goes = goes_between g e r.0 r.1 here (cut g e r.0 r.1 r.2 here (rest_is g d r.0 r.1 r.2)) in
+    (omega arith, (_, _, goes.0, goes.1))
 
 -- and stands yet where it stood
 stands : (g : _) (c : After-link_between g) (s : Shape g.row.K.Denot g.row.V.Denot) (tree : IsTree g.K.AsBytes.bytes g.row.PREFIX_LEN (node_at c.args.arena.now) c.args.point.root (links_at c.args.arena.now) s)
     (here : ForkPlace g.K.AsBytes.bytes (g.K.AsBytes.bytes c.args.key) s c.args.old c.args.parted c.args.point.key_bytes_used (steps_of c.args.point.path))
     → UpdatesAt (node_at c.store_nodes.new.arena) (node_at c.trim.new.arena) c.args.old (Some (root_cell g.row.PREFIX_LEN (trimmed (c.args.parted.matched + 1) here.part)))
     → StandsAround g.K.AsBytes.bytes g.row.PREFIX_LEN (node_at c.link_between.new.arena) c.args.point.root here.ctx c.args.old
-        (forked_cells g.K.AsBytes.bytes g.row.PREFIX_LEN s c.args.old c.args.parted c.args.point.key_bytes_used (steps_of c.args.point.path) c.args.key c.args.value here c.args.point.root c.args.arena.now tree c.in_ok-made.made.leaf c.in_ok-made.made.inner)
-        (steps_of c.args.point.path)
+    (forked_cells g.K.AsBytes.bytes g.row.PREFIX_LEN s c.args.old c.args.parted c.args.point.key_bytes_used (steps_of c.args.point.path) c.args.key c.args.value here c.args.point.root c.args.arena.now tree c.in_ok-made.made.leaf c.in_ok-made.made.inner)
+    (steps_of c.args.point.path)
 stands g c s tree here cell =
     fork_stands g.K.AsBytes.bytes g.row.PREFIX_LEN s c.args.old c.args.parted c.args.point.key_bytes_used (steps_of c.args.point.path) c.args.key c.args.value here c.args.point.root c.args.arena.now tree
     c.in_ok-made.made.leaf c.in_ok-made.made.inner c.store_nodes.new.arena c.in_ok-made.ensures.ok c.trim.new.arena cell c.trim.ensures.links c.link_between.new.arena c.link_between.ensures.nodes
@@ -111,15 +122,8 @@ returns-clause-ok g c = λ s tree point.
     let is_before = ltb c.args.parted.new_byte c.args.parted.old_byte in
     let holds = rw c.to_opaque.ensures at (c.repoint-new_root.ensures.holds here.ctx c.args.old _ standing) in
     let named = rw c.to_opaque.ensures at (c.repoint-new_root.ensures.root here.ctx c.args.old _ standing) in
-    let frame = fork_frame g.K.AsBytes.bytes g.row.PREFIX_LEN s c.args.old c.args.parted c.args.point.key_bytes_used (steps_of c.args.point.path) c.args.key c.args.value here is_before c.in_ok-made.made.inner in
-    let leaves_are = split_leaves g.K.AsBytes.bytes g.row.PREFIX_LEN s c.args.old c.args.parted c.args.point.key_bytes_used (steps_of c.args.point.path) c.args.key c.args.value here is_before c.in_ok-made.made.inner in
-    let beside = fork_beside g.K.AsBytes.bytes g.row.PREFIX_LEN s c.args.old c.args.parted c.args.point.key_bytes_used (steps_of c.args.point.path) c.args.key c.args.value here c.args.point.root c.args.arena.now tree
-    c.in_ok-made.made.leaf c.in_ok-made.made.inner c.store_nodes.new.arena c.in_ok-made.ensures.ok c.trim.new.arena cell c.trim.ensures.links in
-    let end = c.end_leaf-neighbour.ensures (path_to here.ctx) here.part
-    (part_subtree g.K.AsBytes.bytes g.row.PREFIX_LEN s c.args.old c.args.parted c.args.point.key_bytes_used (steps_of c.args.point.path) c.args.key c.args.value here c.args.point.root c.args.arena.now tree) in
-    let between = end_between g.K.AsBytes.bytes g.row.PREFIX_LEN s c.args.old c.args.parted c.args.point.key_bytes_used (steps_of c.args.point.path) c.args.key c.args.value here is_before c.in_ok-made.made.inner c.end_leaf-neighbour.result end in
-    let linked = c.link_between.ensures.linked (leaves_before (frame ∷ here.ctx)) (leaves_after (frame ∷ here.ctx)) (record { slot = c.in_ok-made.made.leaf; key = c.args.key; value = c.args.value })
-    (subst (λ ls. IsBeside (links_at c.trim.new.arena) ls c.in_ok-made.made.leaf) leaves_are beside) between refl in
+    let goes = goes_between g e s tree here cell in
+    let linked = c.link_between.ensures.linked _ _ (record { slot = c.in_ok-made.made.leaf; key = c.args.key; value = c.args.value }) goes.0 goes.1 refl in
     forked g.K.AsBytes.bytes g.row.PREFIX_LEN s c.args.old c.args.parted c.args.point.key_bytes_used (steps_of c.args.point.path) c.args.key c.args.value here c.args.point.root c.args.arena.now tree
     c.in_ok-made.made.leaf c.in_ok-made.made.inner is_before refl c.link_between.new.arena c.repoint-new_root.new.arena c.repoint-new_root.result holds named c.repoint-new_root.ensures.links linked
 

@@ -1,4 +1,4 @@
-use Rattle.std.proofs.Common.{◌∷◌, ◌++◌, [], None, sym, ap, subst, ◌∙◌, arith}
+use Rattle.std.proofs.Common.{◌∷◌, ◌++◌, None, sym, ap, subst, ◌∙◌, arith}
 use Rattle.art_arena.specs.Arena.{links_at}
 use Rattle.art_arena.specs.Linked.{AreLinked, IsBeside}
 use Rattle.art_operations.proofs.NewLeaves.{goes_before, goes_after, behind_last}

@@ -1,4 +1,4 @@
-use Rattle.std.proofs.Common.{◌≡◌, ◌+◌, Some, IsSome, refl, sym, ap, subst, ◌∙◌, arith}
+use Rattle.std.proofs.Common.{◌≡◌, ◌+◌, Some, IsSome, refl, sym, subst, ◌∙◌, arith}
 use Rattle.art_arena.specs.Arena.{held_at}
 use Rattle.art_arena.specs.Cells.{leaf_name}
 use Rattle.art_operations.specs.Edits.{lone_leaf}
