@@ -1,19 +1,19 @@
 -- From the point of an insertion under an inner node to a leaf that waits there, and from the leaf in its place to what an insertion leaves.
-use Rattle.std.proofs.Common.{◌≡◌, ℕ, suc, ◌+◌, List, [], ◌∷◌, ◌++◌, take, None, refl, sym, ap, ap₂, subst, ◌∙◌, inl, inr, append_assoc}
+use Rattle.std.proofs.Common.{◌≡◌, ℕ, suc, ◌+◌, List, [], ◌∷◌, ◌++◌, take, None, refl, sym, ap, ap₂, subst, ◌∙◌, append_assoc}
 use Rattle.art_bytes.specs.Keys.{BeginsWith}
 use Rattle.art_nodes.specs.InnerNode.{child_at}
 use Rattle.art_nodes.specs.Name.{Name}
 use Rattle.art_nodes.specs.Concrete.{inner_name_of}
 use Rattle.art_nodes.specs.declared.concrete.ConcreteInnerNodePtr.{ConcreteInnerNodePtr}
-use Rattle.art_arena.specs.Arena.{Arena, Held, leaf_held, cell_of, held_at, node_at, links_at, Allocates, SameNodes}
-use Rattle.art_arena.specs.Cells.{pair, branches, leaf_name, UpdatesAt, Holds}
+use Rattle.art_arena.specs.Arena.{Arena, cell_of, node_at, links_at, Allocates}
+use Rattle.art_arena.specs.Cells.{pair, branches, leaf_name, Holds}
 use Rattle.art_arena.specs.Context.{Frame, plug, path_to, leaves_before, leaves_after, cells_before, cells_after}
 use Rattle.art_arena.specs.Kinds.{IsKindOf}
 use Rattle.art_arena.specs.Linked.{IsBeside}
 use Rattle.art_arena.specs.Meaning.{IsTree}
 use Rattle.art_arena.specs.Shapes.{Shape, Branches, inner_at, leaf_at, LeafAt, name_of, children_at, join, width, leaves, leaves_in, cells, cells_in, IsUnder}
-use Rattle.art_arena.specs.Steps.{Step, steps_to, steps_of}
-use Rattle.art_arena.proofs.CellLists.{same_name_tells, Holds-add}
+use Rattle.art_arena.specs.Steps.{steps_to, steps_of}
+use Rattle.art_arena.proofs.CellLists.{Holds-add}
 use Rattle.art_arena.proofs.Contexts.{leaves_in-join, cells_in-join, width-join, leaves-plug, cells-plug, name_of-plug}
 use Rattle.art_arena.proofs.Openings.{opening}
 use Rattle.art_arena.proofs.Surroundings.{new-beside}
