@@ -144,8 +144,8 @@ fn grow<K, V, const PREFIX_LEN: usize>(
     }
 }
 
-// Makes room for one more child, under this byte, in the inner node at a point: where the node is full, one of the next larger kind
-// takes its place.
+// Makes room for one more child, under this byte, in the inner node at a point: where the node is full, one of the next
+// larger kind takes its place.
 fn make_room<K: AsBytes, V, const PREFIX_LEN: usize>(
     arena: &mut NodeArena<K, V, PREFIX_LEN>,
     point: InsertPoint,
@@ -173,8 +173,8 @@ fn make_room<K: AsBytes, V, const PREFIX_LEN: usize>(
     Ok(Place { node, root })
 }
 
-// The leaf beside which a new one goes that is to stand under this byte of an inner node, where no child does: the first one behind
-// that place, or else the last one in front of it.
+// The leaf beside which a new one goes that is to stand under this byte of an inner node, where no child does: the first
+// one behind that place, or else the last one in front of it.
 fn neighbour_at<K: AsBytes, V, const PREFIX_LEN: usize>(
     arena: &NodeArena<K, V, PREFIX_LEN>,
     node: OpaqueNodePtr,
@@ -218,9 +218,10 @@ fn put_leaf<K: AsBytes, V, const PREFIX_LEN: usize>(
     write_child(arena, node, byte, leaf.to_opaque());
 }
 
-/// Puts a key and its value under an inner node that has no child under the key's next byte. A leaf is made, and where the node is
-/// full one of the next larger kind, which takes its place. It is refused only where there is no memory for these; the key and the
-/// value are then handed back, and each name has what it had.
+/// Puts a key and its value under an inner node that has no child under the key's next byte.
+///
+/// A leaf is made, and where the node is full one of the next larger kind, which takes its place. Where there is no memory
+/// for them, the key and the value are handed back, and the tree is as it was.
 pub(crate) fn put_into_existing<K: AsBytes, V, const PREFIX_LEN: usize>(
     arena: &mut NodeArena<K, V, PREFIX_LEN>,
     point: InsertPoint,

@@ -41,4 +41,6 @@ returns-clause-put g c = λ root f outer l awaits kind.
     let update = subst (λ n. UpdatesAt (held_at c.link_between.new.arena) (held_at c.write_child.new.arena) c.args.node
     (Some (inner_held (with_children (open_node g.row.PREFIX_LEN f) (with_child (open_node g.row.PREFIX_LEN f).children c.args.byte n)))))
     c.to_opaque.ensures (c.write_child.ensures.updates _ there) in
-    put _ _ _ _ _ _ _ _ _ _ awaits c.link_between.new.arena c.write_child.new.arena c.link_between.ensures.nodes (c.link_between.ensures.linked (leaves_before (f ∷ outer)) (leaves_after (f ∷ outer)) l (subst (IsBeside (links_at c.args.arena.now) (leaves_before (f ∷ outer) ++ leaves_after (f ∷ outer))) awaits.leaf_is awaits.beside) (c.neighbour_at-neighbour.ensures _ _ _ _ _ awaits) awaits.leaf_is) update kind
+    let beside = subst (IsBeside (links_at c.args.arena.now) (leaves_before (f ∷ outer) ++ leaves_after (f ∷ outer))) awaits.leaf_is awaits.beside in
+    let list = c.link_between.ensures.linked (leaves_before (f ∷ outer)) (leaves_after (f ∷ outer)) l beside (c.neighbour_at-neighbour.ensures _ _ _ _ _ awaits) awaits.leaf_is in
+    put _ _ _ _ _ _ _ _ _ _ awaits c.link_between.new.arena c.write_child.new.arena c.link_between.ensures.nodes list update kind
