@@ -25,3 +25,9 @@ pub mod TakenOut
 pub mod Detaching
 pub mod Shrinking
 pub mod Deleted
+pub mod KeyedLists
+pub mod Pairs
+pub mod HeldPairs
+pub mod Clones
+pub mod CommandLists
+pub mod RunExamples

@@ -10,3 +10,5 @@ pub mod Deletions
 pub mod Growth
 pub mod Removals
 pub mod Detached
+pub mod Commands
+pub mod Runs

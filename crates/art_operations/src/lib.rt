@@ -10,6 +10,7 @@ pub mod insert;
 pub mod lookup;
 pub mod meeting;
 pub mod minmax;
+pub mod running;
 
 pub use delete::point::{
     DeletePoint, find_maximum_to_delete, find_minimum_to_delete, search_for_delete_point,
@@ -24,6 +25,7 @@ pub use lookup::{
     PrefixMatchBehavior, prefix_search_unchecked, prefix_search_with, search_unchecked, search_with,
 };
 pub use minmax::{maximum_unchecked, minimum_unchecked};
+pub use running::{Answer, Command, RunResult, run};
 
 #[cfg(test)]
 mod calling;

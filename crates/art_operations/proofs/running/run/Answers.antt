@@ -1,10 +1,10 @@
 use Rattle.std.proofs.Common.{◌≡◌, ◌+◌, ◌<◌, ◌∙◌, [], ◌∷◌, ◌++◌, take, length, ap, sym, subst, rules, arith, vec_len, vec_capacity}
 use Rattle.std.proofs.lemmas.List.{take_more, take_all}
-use Rattle.art_runs.specs.Commands.{pairs_after}
-use Rattle.art_runs.specs.Runs.{HoldsClonesOf}
-use Rattle.art_runs.proofs.CommandLists.{as-many, run-one-more}
-use Rattle.art_runs.proofs.HeldPairs.{pairs-tree}
-use Rattle.art_runs.proofs.running.run.Goals as goal
+use Rattle.art_operations.specs.Commands.{pairs_after}
+use Rattle.art_operations.specs.Runs.{HoldsClonesOf}
+use Rattle.art_operations.proofs.CommandLists.{as-many, run-one-more}
+use Rattle.art_operations.proofs.HeldPairs.{pairs-tree}
+use Rattle.art_operations.proofs.running.run.Goals as goal
 
 pub push_reserved-requires : goal.push_reserved-requires
 push_reserved-requires g c =

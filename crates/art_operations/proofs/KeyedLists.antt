@@ -9,7 +9,7 @@ use Rattle.art_arena.proofs.Order.{all_append, all_weaker, before_not_self, conf
 use Rattle.art_arena.proofs.Insert.{all_at}
 use Rattle.art_arena.proofs.Exists.{in_middle, put_is}
 use Rattle.art_arena.proofs.Finding.{same_key, other_key}
-use Rattle.art_runs.specs.Commands.{with_key, without_key, IsBlocked}
+use Rattle.art_operations.specs.Commands.{with_key, without_key, IsBlocked}
 
 module _ {X : Type 0} (key : X → List ℕ) where
   -- new is old with x in the place of those that had its key, which were n; none is in conflict with it

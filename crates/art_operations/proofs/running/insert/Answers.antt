@@ -1,6 +1,6 @@
 use Rattle.std.proofs.Common.{arith}
-use Rattle.art_runs.proofs.HeldPairs.{can-insert, blocked-key}
-use Rattle.art_runs.proofs.running.insert.Goals as goal
+use Rattle.art_operations.proofs.HeldPairs.{can-insert, blocked-key}
+use Rattle.art_operations.proofs.running.insert.Goals as goal
 
 pub insert_at-requires : goal.insert_at-requires
 insert_at-requires g c = (

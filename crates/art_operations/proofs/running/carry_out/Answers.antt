@@ -1,5 +1,5 @@
-use Rattle.art_runs.proofs.Clones.{insert-clones, delete-clones}
-use Rattle.art_runs.proofs.running.carry_out.Goals as goal
+use Rattle.art_operations.proofs.Clones.{insert-clones, delete-clones}
+use Rattle.art_operations.proofs.running.carry_out.Goals as goal
 
 pub returns-in-Ok : goal.returns-in-Ok
 returns-in-Ok g c pairs has =

@@ -9,9 +9,9 @@ use Rattle.art_arena.specs.TreeOf.{tree_of}
 use Rattle.art_arena.specs.Trees.{Tree}
 use Rattle.art_operations.specs.Points.{IsPoint}
 use Rattle.art_operations.specs.declared.insert.point.InsertPoint.{InsertPoint}
-use Rattle.art_runs.specs.Commands.{IsAnswered, after}
-use Rattle.art_runs.specs.declared.running.Command.{Command}
-use Rattle.art_runs.specs.declared.running.Change.{Change}
+use Rattle.art_operations.specs.Commands.{IsAnswered, after}
+use Rattle.art_operations.specs.declared.running.Command.{Command}
+use Rattle.art_operations.specs.declared.running.Change.{Change}
 
 -- these are clones of the pairs, in the same order
 abbrev pub AreClones : {K V : Type 0} → (K → K → Type 0) → (V → V → Type 0) → List (K × V) → List (K × V) → Type 0

@@ -1,15 +1,13 @@
 //! Lists of commands on a tree, from no pair on.
 ghost use Rattle.std.specs.Prelude.{◌≡◌, List, [], IfOk, Some};
-ghost use Rattle.art_runs.specs.Commands.{AreAnswered, IsAnswered, after, pairs_after};
-ghost use Rattle.art_runs.specs.Runs.{CanInsert, HasClones, HasPairs, HoldsClonesOf, IsDone};
+ghost use Rattle.art_operations.specs.Commands.{AreAnswered, IsAnswered, after, pairs_after};
+ghost use Rattle.art_operations.specs.Runs.{CanInsert, HasClones, HasPairs, HoldsClonesOf, IsDone};
 
-use crate::stubs::{delete_apply, insert_apply};
+use crate::delete::point::search_for_delete_point;
+use crate::insert::point::{InsertPoint, InsertSearchError, search_for_insert_point};
 use art_arena::NodeArena;
 use art_bytes::AsBytes;
 use art_nodes::{LeafNode, OpaqueNodePtr};
-use art_operations::{
-    InsertPoint, InsertSearchError, search_for_delete_point, search_for_insert_point,
-};
 use std::alloc::{AllocError, Global};
 
 /// What is done to the tree.
@@ -86,7 +84,7 @@ fn insert_at<K: AsBytes + Drop, V: Drop, const PREFIX_LEN: usize>(
     ensures { (pairs : List (K × V)) → CanInsert K.bytes PREFIX_LEN arena.old point key pairs → IsDone K.bytes PREFIX_LEN arena.new pairs (Command.Insert key value) result }
 {
     let root = point.root;
-    let inserted = match insert_apply(point, arena, key, value) {
+    let inserted = match point.apply(arena, key, value) {
         Ok(inserted) => inserted,
         Err(_) => return Change::to(Some(root), Answer::Memory),
     };
@@ -133,7 +131,7 @@ fn delete<K: AsBytes + Drop, V: Drop, const PREFIX_LEN: usize>(
     let Some(point) = search_for_delete_point(arena, top, key.as_bytes()) else {
         return Change::to(root, Answer::Done(0));
     };
-    match delete_apply(point, arena, top) {
+    match point.apply(arena, top) {
         Ok(deleted) => Change::to(deleted.new_root, Answer::Done(1)),
         Err(_) => Change::to(root, Answer::Memory),
     }

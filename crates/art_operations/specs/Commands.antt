@@ -4,10 +4,10 @@ use Rattle.art_bytes.specs.Keys.{Conflict}
 use Rattle.art_arena.specs.Changes.{IsIn, put}
 use Rattle.art_arena.specs.Shapes.{key_of}
 use Rattle.art_arena.specs.Shrinks.{Shrinks}
-use Rattle.art_runs.specs.declared.running.Command.{Command}
-use Rattle.art_runs.specs.declared.running.Command.TheVariants.{Insert, Delete}
-use Rattle.art_runs.specs.declared.running.Answer.{Answer}
-use Rattle.art_runs.specs.declared.running.Answer.TheVariants.{Done, Prefix, Memory}
+use Rattle.art_operations.specs.declared.running.Command.{Command}
+use Rattle.art_operations.specs.declared.running.Command.TheVariants.{Insert, Delete}
+use Rattle.art_operations.specs.declared.running.Answer.{Answer}
+use Rattle.art_operations.specs.declared.running.Answer.TheVariants.{Done, Prefix, Memory}
 
 -- the items that have the key, and those that do not
 abbrev pub with_key : {X : Type 0} → (X → List ℕ) → List ℕ → List X → List X

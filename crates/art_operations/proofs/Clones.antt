@@ -7,14 +7,14 @@ use Rattle.art_arena.specs.Changes.{IsIn, is_before, put}
 use Rattle.art_arena.specs.Shapes.{key_of}
 use Rattle.art_arena.specs.Shrinks.{Shrinks}
 use Rattle.art_arena.proofs.Paths.{in_map}
-use Rattle.art_runs.specs.Commands.{with_key, without_key, IsStored, IsBlocked, IsAnswered, after}
-use Rattle.art_runs.specs.Runs.{AreClones, HasPairs, HasClones, IsDone}
-use Rattle.art_runs.specs.declared.running.Answer.{Answer}
-use Rattle.art_runs.specs.declared.running.Answer.TheVariants.{Done, Prefix, Memory}
-use Rattle.art_runs.specs.declared.running.Change.{Change}
-use Rattle.art_runs.specs.declared.running.Command.{Command}
-use Rattle.art_runs.specs.declared.running.Command.TheVariants.{Insert, Delete}
-use Rattle.art_runs.proofs.Pairs.{in_unmap, shrinks-map, shrinks-unmap}
+use Rattle.art_operations.specs.Commands.{with_key, without_key, IsStored, IsBlocked, IsAnswered, after}
+use Rattle.art_operations.specs.Runs.{AreClones, HasPairs, HasClones, IsDone}
+use Rattle.art_operations.specs.declared.running.Answer.{Answer}
+use Rattle.art_operations.specs.declared.running.Answer.TheVariants.{Done, Prefix, Memory}
+use Rattle.art_operations.specs.declared.running.Change.{Change}
+use Rattle.art_operations.specs.declared.running.Command.{Command}
+use Rattle.art_operations.specs.declared.running.Command.TheVariants.{Insert, Delete}
+use Rattle.art_operations.proofs.Pairs.{in_unmap, shrinks-map, shrinks-unmap}
 
 abbrev bytes_of : List ℕ → List ℕ
 bytes_of k = k

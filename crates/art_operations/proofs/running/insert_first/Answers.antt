@@ -2,8 +2,8 @@ use Rattle.std.proofs.Common.{refl, rules}
 use Rattle.art_arena.specs.Arena.{Allocates, leaf_held}
 use Rattle.art_arena.specs.Cells.{leaf_name}
 use Rattle.art_arena.specs.Shapes.{leaf_at}
-use Rattle.art_runs.proofs.HeldPairs.{first-leaf}
-use Rattle.art_runs.proofs.running.insert_first.Goals as goal
+use Rattle.art_operations.proofs.HeldPairs.{first-leaf}
+use Rattle.art_operations.proofs.running.insert_first.Goals as goal
 
 pub returns : goal.returns
 returns g c =

@@ -25,9 +25,9 @@ use Rattle.art_arena.proofs.Contexts.{leaves-plug}
 use Rattle.art_arena.proofs.Paths.{in_cases, in_map}
 use Rattle.art_operations.specs.Insertions.{IsReplaced, IsStored}
 use Rattle.art_operations.specs.Points.{HasConflict}
-use Rattle.art_runs.specs.Commands.{with_key, IsBlocked}
-use Rattle.art_runs.specs.Commands as command
-use Rattle.art_runs.proofs.KeyedLists.{IsPut, IsTaken, put_new, put_replaced, taken}
+use Rattle.art_operations.specs.Commands.{with_key, IsBlocked}
+use Rattle.art_operations.specs.Commands as command
+use Rattle.art_operations.proofs.KeyedLists.{IsPut, IsTaken, put_new, put_replaced, taken}
 
 -- the pair of a leaf
 abbrev pub pair_of : {K V : Type 0} → LeafAt K V → K × V

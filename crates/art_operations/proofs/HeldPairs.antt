@@ -25,13 +25,13 @@ use Rattle.art_operations.specs.Points.{IsPoint, HasConflict}
 use Rattle.art_operations.specs.declared.delete.result.DeleteResult.{DeleteResult}
 use Rattle.art_operations.specs.declared.insert.point.InsertPoint.{InsertPoint}
 use Rattle.art_operations.specs.declared.insert.result.InsertResult.{InsertResult}
-use Rattle.art_runs.specs.Commands.{IsAnswered, IsBlocked}
-use Rattle.art_runs.specs.Runs.{HasPairs, HoldsTreeOf, IsDone, CanInsert}
-use Rattle.art_runs.specs.declared.running.Answer.TheVariants.{Done, Memory}
-use Rattle.art_runs.specs.declared.running.Change.{Change}
-use Rattle.art_runs.specs.declared.running.Command.TheVariants.{Insert, Delete}
-use Rattle.art_runs.proofs.KeyedLists.{nothing_taken}
-use Rattle.art_runs.proofs.Pairs.{pair_of, pairs_ascend, blocked_pair, none_found, stored_pair, taken_pair, shrinks-map, same_leaf, found_leaf}
+use Rattle.art_operations.specs.Commands.{IsAnswered, IsBlocked}
+use Rattle.art_operations.specs.Runs.{HasPairs, HoldsTreeOf, IsDone, CanInsert}
+use Rattle.art_operations.specs.declared.running.Answer.TheVariants.{Done, Memory}
+use Rattle.art_operations.specs.declared.running.Change.{Change}
+use Rattle.art_operations.specs.declared.running.Command.TheVariants.{Insert, Delete}
+use Rattle.art_operations.proofs.KeyedLists.{nothing_taken}
+use Rattle.art_operations.proofs.Pairs.{pair_of, pairs_ascend, blocked_pair, none_found, stored_pair, taken_pair, shrinks-map, same_leaf, found_leaf}
 
 module _ {K V : Type 0} (bytes : K → List ℕ) (P : ℕ) where
   linked-same : (old new : ℕ → Option Links) → ((n : ℕ) → new n ≡ old n) → (before : Option ℕ) (ls : List (LeafAt K V)) (after : Option ℕ) → AreLinked old before ls after → AreLinked new before ls after

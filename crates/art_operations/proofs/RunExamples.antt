@@ -1,10 +1,10 @@
 -- What commands leave and answer, as the checker computes it.
 use Rattle.std.proofs.Common.{◌≡◌, ℕ, List, [], ◌∷◌, refl, inl, inr}
-use Rattle.art_runs.specs.Commands.{IsAnswered, pairs_after}
-use Rattle.art_runs.specs.declared.running.Answer.{Answer}
-use Rattle.art_runs.specs.declared.running.Answer.TheVariants.{Done, Prefix, Memory}
-use Rattle.art_runs.specs.declared.running.Command.{Command}
-use Rattle.art_runs.specs.declared.running.Command.TheVariants.{Insert, Delete}
+use Rattle.art_operations.specs.Commands.{IsAnswered, pairs_after}
+use Rattle.art_operations.specs.declared.running.Answer.{Answer}
+use Rattle.art_operations.specs.declared.running.Answer.TheVariants.{Done, Prefix, Memory}
+use Rattle.art_operations.specs.declared.running.Command.{Command}
+use Rattle.art_operations.specs.declared.running.Command.TheVariants.{Insert, Delete}
 
 -- each key is its own bytes
 abbrev itself : List ℕ → List ℕ

@@ -2,11 +2,11 @@
 use Rattle.std.proofs.Common.{◌≡◌, ◌≢◌, ℕ, ◌+◌, ◌≤◌, List, [], ◌∷◌, ◌++◌, length, take, Option, refl, sym, ap, subst, ◌∙◌, arith}
 use Rattle.art_nodes.specs.Name.{Name}
 use Rattle.art_arena.specs.Arena.{Arena}
-use Rattle.art_runs.specs.Commands.{IsAnswered, AreAnswered, after, pairs_after}
-use Rattle.art_runs.specs.Runs.{HasClones}
-use Rattle.art_runs.specs.declared.running.Answer.{Answer}
-use Rattle.art_runs.specs.declared.running.Change.{Change}
-use Rattle.art_runs.specs.declared.running.Command.{Command}
+use Rattle.art_operations.specs.Commands.{IsAnswered, AreAnswered, after, pairs_after}
+use Rattle.art_operations.specs.Runs.{HasClones}
+use Rattle.art_operations.specs.declared.running.Answer.{Answer}
+use Rattle.art_operations.specs.declared.running.Change.{Change}
+use Rattle.art_operations.specs.declared.running.Command.{Command}
 
 module _ {K V : Type 0} (bytes : K → List ℕ) where
   -- the pairs after one command more

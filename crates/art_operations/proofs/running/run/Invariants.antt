@@ -1,6 +1,6 @@
 use Rattle.std.proofs.Common.{◌≡◌, take, length, vec_capacity}
-use Rattle.art_runs.proofs.CommandLists.{HasRun}
-use Rattle.art_runs.proofs.running.run.Given as goal
+use Rattle.art_operations.proofs.CommandLists.{HasRun}
+use Rattle.art_operations.proofs.running.run.Given as goal
 
 abbrev pub invariant-loop-command : goal.invariant-loop-command
 invariant-loop-command g l =
