@@ -57,7 +57,7 @@ same_refusal : (now : Records) (held line : List ℕ) → StandsFor held line �
 same_refusal now held line s may = (may.0, s.spelled may.0 may.1, may.2)
 
 -- a run that goes on by a line
-goes_on : (start now : Records) (text held before taken line handled : List ℕ) (c : Carried start now text held before taken) → StandsFor handled line
+pub goes_on : (start now : Records) (text held before taken line handled : List ℕ) (c : Carried start now text held before taken) → StandsFor handled line
     → (memory : Bool) → (memory ≡ true → LineMayRefuse now handled)
     → Ran start (whole_lines_of text ++ line ∷ []) (with_place memory c.refused (length (whole_lines_of text))) (c.written ++ answer memory now handled) (left_by memory now handled)
 goes_on start now text held before taken line handled c s memory lawful =
@@ -127,7 +127,7 @@ outcome_end start now text held before taken c nothing =
     let none : unfinished_line_of text ≡ [] = nothing_held (unfinished_line_of text) (sym c.rest ∙ nothing) in
     outcome_of_run start now (lines_of text) c.refused c.written (rw (none, append-nil) c.ran)
 
-closed : (l : List ℕ) → 0 < length l → unless_empty l ≡ l ∷ []
+pub closed : (l : List ℕ) → 0 < length l → unless_empty l ≡ l ∷ []
 closed [] h = absurd (omega arith)
 closed (x ∷ xs) h = refl
 

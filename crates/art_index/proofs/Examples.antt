@@ -1,7 +1,7 @@
 -- A worked example beside each definition, computed by the checker.
-use Rattle.std.proofs.Common.{◌≡◌, ℕ, List, [], ◌∷◌, ◌++◌, refl, false, negsuc, lit<, lit≤}
+use Rattle.std.proofs.Common.{◌≡◌, ℕ, List, [], ◌∷◌, ◌++◌, refl, false, true, negsuc, lit<, lit≤}
 use Rattle.std.specs.Prelude.{codes, flat_map, replicate, Some, None, IsTrue}
-use Rattle.art_index.specs.Lines.{lines_of, whole_lines_of, unfinished_line_of}
+use Rattle.art_index.specs.Lines.{lines_of, whole_lines_of, unfinished_line_of, lines_so_far}
 use Rattle.art_index.specs.Words.{name, natural, signed, bytes, shown, line_of}
 use Rattle.art_index.specs.Commands.{put, get, of_tenant, dump, Spells}
 use Rattle.art_index.specs.Reading.{command_of, tenant_in, bytes_in}
@@ -10,7 +10,7 @@ use Rattle.art_index.specs.Records.{KeyRecord, Records, no_records, own, with_ow
 use Rattle.art_index.specs.Replies.{reply_to, records_after, dump_of}
 use Rattle.art_index.specs.Refusals.{LineMayRefuse}
 use Rattle.art_index.specs.Outcome.{outcome_of, IsLawful}
-use Rattle.art_index.specs.Faults.{AfterReadFault, AfterWriteFault}
+use Rattle.art_index.specs.Faults.{AfterReadFault, AfterWriteFault, IsCut, IsCutLine}
 use Rattle.hex.proofs.OnLiterals.{hex_on_literals}
 use Rattle.std.specs.Fmt.{digits}
 use mathlib.Core.Bool.{false≢true}
@@ -32,6 +32,14 @@ lines-of_two = refl
 whole_lines-of_two : whole_lines_of (codes "a" ++ 10 ∷ codes "b") ≡ codes "a" ∷ []
 unfolding outcome_of whole_lines_of unfinished_line_of reply_to records_after command_of tenant_in bytes_in hex_on_literals digits
 whole_lines-of_two = refl
+
+lines-before_the_end : lines_so_far false (codes "a" ++ 10 ∷ codes "b") ≡ codes "a" ∷ []
+unfolding outcome_of whole_lines_of unfinished_line_of reply_to records_after command_of tenant_in bytes_in hex_on_literals digits
+lines-before_the_end = refl
+
+lines-at_the_end : lines_so_far true (codes "a" ++ 10 ∷ codes "b") ≡ codes "a" ∷ codes "b" ∷ []
+unfolding outcome_of whole_lines_of unfinished_line_of reply_to records_after command_of tenant_in bytes_in hex_on_literals digits
+lines-at_the_end = refl
 
 lines-of_empty_ones : lines_of (10 ∷ 10 ∷ []) ≡ [] ∷ [] ∷ []
 unfolding outcome_of whole_lines_of unfinished_line_of reply_to records_after command_of tenant_in bytes_in hex_on_literals digits
@@ -205,5 +213,19 @@ write_fault-within_a_reply = record {
   is_cut = λ e. cc;
   told = refl;
   cut = refl;
+  left = refl;
+}
+
+-- one byte of three was taken, behind another
+text-cut_behind_a_byte : IsCut (codes "o") (codes "on") (codes "new")
+text-cut_behind_a_byte = record { begun = codes "n"; missing = codes "ew"; is_cut = λ e. cc; parts = refl; told = refl }
+
+-- a put was carried out, and of its answer nothing was taken
+line-cut_at_once : IsCutLine no_records (codes "put 1 0a 61") (codes "o") (codes "o") one_record
+unfolding one_record IsLawful outcome_of whole_lines_of unfinished_line_of reply_to records_after command_of tenant_in bytes_in hex_on_literals digits
+line-cut_at_once = record {
+  memory = false;
+  lawful = λ no_memory. absurd (false≢true no_memory);
+  told = record { begun = []; missing = codes "new" ++ 10 ∷ []; is_cut = λ e. cc; parts = refl; told = refl };
   left = refl;
 }

@@ -1,5 +1,5 @@
 -- The digits of joined bytes, and of a number.
-use Rattle.std.proofs.Common.{◌≡◌, ℕ, ◌+◌, ◌-◌, ◌/◌, ◌%◌, ◌^◌, ◌<◌, ◌≤◌, List, [], ◌∷◌, ◌++◌, length, take, drop, set, refl, ap, sym, ◌∙◌, arith, append_assoc, length-append, take-append-drop}
+use Rattle.std.proofs.Common.{◌≡◌, ℕ, ◌+◌, ◌-◌, ◌/◌, ◌%◌, ◌^◌, ◌<◌, ◌≤◌, List, [], ◌∷◌, ◌++◌, length, take, drop, set, refl, ap, sym, ◌∙◌, arith, append_assoc, length-append, length-set, take-append-drop}
 use Rattle.std.specs.Prelude.{slice_index, decimal}
 use Rattle.std.proofs.lemmas.Fmt.{decimal_step, decimal_digit, decimal_nonempty, length-decimal-le}
 use Rattle.std.proofs.lemmas.List.{drop-set, take_rest}
@@ -12,8 +12,10 @@ encode_with-append t [] b = refl
 encode_with-append t (x ∷ a) b = ap (λ r. slice_index t (x / 16) ∷ slice_index t (x % 16) ∷ r) (encode_with-append t a b)
 
 -- the digits of some bytes, a part first
-pub encode_lower-parts : (n : ℕ) (bs : List ℕ) → encode_lower (take n bs) ++ encode_lower (drop n bs) ≡ encode_lower bs
-encode_lower-parts n bs = sym (encode_with-append lower_digits (take n bs) (drop n bs)) ∙ ap encode_lower (take-append-drop n bs)
+pub encode_lower-parts : (n : ℕ) (bs front back : List ℕ) → front ≡ take n bs → back ≡ drop n bs → encode_lower bs ≡ encode_lower front ++ encode_lower back
+encode_lower-parts n bs front back first rest =
+    ap encode_lower (sym (take-append-drop n bs)) ∙ encode_with-append lower_digits (take n bs) (drop n bs)
+    ∙ ap (λ t. encode_lower t ++ encode_lower (drop n bs)) (sym first) ∙ ap (λ t. encode_lower front ++ encode_lower t) (sym rest)
 
 pub encode_lower-nil : encode_lower [] ≡ []
 unfolding encode_with
@@ -35,7 +37,7 @@ number_more n start ds h k some long =
     let e : drop (start - 1) (set ds (start - 1) (48 + n % 10)) ≡ (48 + n % 10) ∷ drop start ds = drop-set ds (start - 1) (48 + n % 10) within ∙ ap (λ m. (48 + n % 10) ∷ drop m ds) back in
     ap (λ r. decimal (n / 10) ++ r) e ∙ sym (append_assoc (decimal (n / 10)) ((48 + n % 10) ∷ []) (drop start ds)) ∙ ap (λ r. r ++ drop start ds) (sym (decimal_step n h k))
 
-pub number_last : (n start : ℕ) (ds : List ℕ) → n < 10 → 0 < start → start ≤ length ds
+number_last : (n start : ℕ) (ds : List ℕ) → n < 10 → 0 < start → start ≤ length ds
     → drop (start - 1) (set ds (start - 1) (48 + n)) ≡ decimal n ++ drop start ds
 number_last n start ds h some long =
     let within : start - 1 < length ds = omega arith in
@@ -52,5 +54,14 @@ pub length_nil : (xs : List ℕ) → length xs ≡ 0 → xs ≡ []
 length_nil [] h = refl
 length_nil (x ∷ xs) h = absurd (omega (arith, h))
 
-pub taken_rest : (n k : ℕ) (xs : List ℕ) → length xs ≡ n → take (n - k) (drop k xs) ≡ drop k xs
+taken_rest : (n k : ℕ) (xs : List ℕ) → length xs ≡ n → take (n - k) (drop k xs) ≡ drop k xs
 taken_rest n k xs h = ap (λ m. take (m - k) (drop k xs)) (sym h) ∙ take_rest xs k
+
+-- the digits of a number, with the last one set before those behind it
+pub number_written : (number n start : ℕ) (ds : List ℕ) → n < 10 → n < 2 ^ 64 → length (decimal n) ≤ start → start ≤ 20 → length ds ≡ 20 → decimal n ++ drop start ds ≡ decimal number
+    → take (20 - (start - 1)) (drop (start - 1) (set ds (start - 1) (48 + n))) ≡ decimal number
+number_written number n start ds last fits room long sized told =
+    let some = number_nonempty n fits in
+    let pos : 0 < start = omega arith in let within : start ≤ length ds = omega arith in
+    let all : length (set ds (start - 1) (48 + n)) ≡ 20 = length-set ds (start - 1) (48 + n) ∙ sized in
+    taken_rest 20 (start - 1) (set ds (start - 1) (48 + n)) all ∙ number_last n start ds last pos within ∙ told

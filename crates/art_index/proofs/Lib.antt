@@ -3,8 +3,11 @@ pub mod Walks
 pub mod LineLemmas
 pub mod RunLemmas
 pub mod HexText
+pub mod Cuts
 pub mod Carrying
+pub mod CutRuns
 pub mod Replies
+pub mod ReplyLines
 pub mod Parsing
 pub mod LastField
 pub mod Dumping

@@ -116,6 +116,19 @@ whole_lines_of-line text part none =
     whole_lines_of-newline (text ++ part) ∙ ap (λ ls. ls ++ unfinished_line_of (text ++ part) ∷ []) (whole_lines_of-part text part none)
     ∙ ap (λ l. whole_lines_of text ++ l ∷ []) (unfinished_line_of-part text part none)
 
+next_line : (text : List ℕ) (b : ℕ) (ends : Bool) → (b == 10) ≡ ends → (others : List (List ℕ)) × (whole_lines_of (text ++ b ∷ []) ≡ whole_lines_of text ++ others)
+next_line text b true e = (unfinished_line_of text ∷ [], ap (λ x. whole_lines_of (text ++ x ∷ [])) (eqb-true b 10 e) ∙ whole_lines_of-newline text)
+next_line text b false e = ([], whole_lines_of-byte text b e ∙ sym (append-nil (whole_lines_of text)))
+
+-- more bytes leave the whole lines as they are, and may bring others behind them
+pub whole_lines_of-more : (text more : List ℕ) → (others : List (List ℕ)) × (whole_lines_of (text ++ more) ≡ whole_lines_of text ++ others)
+whole_lines_of-more text [] = ([], ap whole_lines_of (append-nil text) ∙ sym (append-nil (whole_lines_of text)))
+whole_lines_of-more text (b ∷ more) =
+    let again = whole_lines_of-more (text ++ b ∷ []) more in let next = next_line text b (b == 10) refl in (
+      next.0 ++ again.0,
+      ap whole_lines_of (shifted text b more) ∙ again.1 ∙ ap (λ ls. ls ++ again.0) next.1 ∙ append_assoc (whole_lines_of text) next.0 again.0,
+    )
+
 -- the bytes before the first newline
 pub no_newline_before : (bytes : List ℕ) (i : ℕ) → ((k : ℕ) → k < i → k < length bytes → (get_or bytes k 0 == 10) ≡ false) → NoNewline (take i bytes)
 no_newline_before [] zero none = tt

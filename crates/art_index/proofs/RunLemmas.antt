@@ -118,3 +118,9 @@ Ran-more start ls refused written now false l ran here =
       left = sym (records_from-snoc 0 start ls l refused ∙ (rw (left, none) refl));
       below = subst (λ k. AllBelow refused k) (sym (length-more ls l)) (AllBelow-suc refused n ran.below);
     }
+
+-- the lines before one that finds no memory are answered as without it
+pub outcome-with_place : (start : Records) (ls : List (List ℕ)) (refused : List ℕ) (memory : Bool) → (outcome_of start ls (with_place memory refused (length ls))).written ≡ (outcome_of start ls refused).written
+unfolding outcome_of
+outcome-with_place start ls refused true = answers_from-more 0 start ls refused (length ls) (omega arith)
+outcome-with_place start ls refused false = refl

@@ -1,8 +1,9 @@
 -- What was written and what is held where a run ends by a fault.
-use Rattle.std.specs.Prelude.{◌≡◌, ℕ, suc, ◌≤◌, ◌≢◌, List, [], ◌++◌, length, take}
+use Rattle.std.specs.Prelude.{◌≡◌, ℕ, suc, ◌≤◌, ◌≢◌, Bool, true, List, [], ◌++◌, length, take}
 use Rattle.art_index.specs.Lines.{whole_lines_of}
 use Rattle.art_index.specs.Records.{Records}
-use Rattle.art_index.specs.Outcome.{outcome_of, IsLawful, IsOutcome}
+use Rattle.art_index.specs.Refusals.{LineMayRefuse}
+use Rattle.art_index.specs.Outcome.{answer, left_by, outcome_of, IsLawful, IsOutcome}
 
 -- After a failed read, all whole lines of the text were answered, and nothing else: an unfinished line is not carried out.
 abbrev pub AfterReadFault : Records → List ℕ → List ℕ → Records → Type 0
@@ -21,3 +22,18 @@ pub record AfterWriteFault (start : Records) (lines : List (List ℕ)) (written 
   pub told : written ≡ (outcome_of start (take answered lines) refused).written ++ begun
   pub cut : written ++ missing ≡ (outcome_of start (take (suc answered) lines) refused).written
   pub left : now ≡ (outcome_of start (take (suc answered) lines) refused).records
+
+-- Of a text, a beginning was taken that is not all of it.
+pub record IsCut (before after text : List ℕ) : Type 0 where
+  pub begun : List ℕ
+  pub missing : List ℕ
+  pub is_cut : missing ≢ []
+  pub parts : begun ++ missing ≡ text
+  pub told : after ≡ before ++ begun
+
+-- A line was carried out, and its answer was cut.
+pub record IsCutLine (old : Records) (line before after : List ℕ) (new : Records) : Type 0 where
+  pub memory : Bool
+  pub lawful : memory ≡ true → LineMayRefuse old line
+  pub told : IsCut before after (answer memory old line)
+  pub left : new ≡ left_by memory old line

@@ -4,6 +4,7 @@ use Rattle.std.specs.List.{AllByRecursion}
 use Rattle.art_index.specs.Lines.{whole_lines_of, unfinished_line_of}
 use Rattle.art_index.specs.Records.{Records}
 use Rattle.art_index.specs.Outcome.{IsLawful, outcome_of}
+use Rattle.art_index.specs.Faults.{AfterWriteFault}
 
 -- each position is below a number
 abbrev pub AllBelow : List ℕ → ℕ → Type 0
@@ -24,6 +25,12 @@ pub record Carried (start now : Records) (text held before taken : List ℕ) : T
   pub ran : Ran start (whole_lines_of text) refused written now
   pub told : taken ≡ before ++ written
   pub rest : held ≡ take 4097 (unfinished_line_of text)
+
+-- A write failed within the answer to one of these lines, and the ones before it were answered.
+pub record IsCutRun (start now : Records) (ls : List (List ℕ)) (before taken : List ℕ) : Type 0 where
+  pub written : List ℕ
+  pub told : taken ≡ before ++ written
+  pub fault : AfterWriteFault start ls written now
 
 -- no byte is a newline
 abbrev pub NoNewline : List ℕ → Type 0

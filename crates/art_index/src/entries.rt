@@ -1,9 +1,10 @@
 //! The sorted vector: entries in the order of their full keys.
-ghost use Rattle.std.specs.Prelude.{◌≡◌, ℕ, ◌+◌, ◌<◌, ◌≤◌, ◌++◌, ◌∷◌, [], List, length, map, drop, take, flat_map, OnOk, IfOk, IfErr, IsTrue, is_err, true, false, codes, option_map, slice_index_or};
+ghost use Rattle.std.specs.Prelude.{◌≡◌, ℕ, ◌+◌, ◌<◌, ◌≤◌, ◌++◌, ◌∷◌, [], List, length, map, drop, take, flat_map, OnOk, OnErr, IfOk, IfErr, IsTrue, is_err, true, false, codes, option_map, slice_index_or};
 ghost use Rattle.art_index.specs.Words.{line_of};
 ghost use Rattle.art_index.specs.Keys.{full_key as full_key_of};
 ghost use Rattle.art_index.specs.Records.{KeyFits, own};
 ghost use Rattle.art_index.specs.Replies.{dump_of, has_conflict, value_at};
+ghost use Rattle.art_index.specs.Faults.{IsCut};
 ghost use Rattle.art_index.specs.Stored.{stands_to, stands_against, record_of, records_of, IsFull, AreEntries, IsPlaced, IsFoundAt, IsGapAt, placed_words};
 
 use crate::entry::{Entry, Placed};
@@ -145,6 +146,7 @@ pub(crate) fn put_entry(
 pub(crate) fn write_placed<W: Sink>(sink: &mut W, placed: &Placed) -> Result<(), WriteFailed>
     requires { W.has_failed sink.old ≡ false }
     ensures ok { OnOk result (W.taken sink.new ≡ W.taken sink.old ++ line_of (placed_words placed.now)) }
+    ensures cut { OnErr result (IsCut (W.taken sink.old) (W.taken sink.new) (line_of (placed_words placed.now))) }
     ensures failed { is_err result ≡ W.has_failed sink.new }
 {
     match placed {
@@ -160,6 +162,7 @@ pub(crate) fn write_entries<W: Sink>(entries: &[Entry], sink: &mut W) -> Result<
     requires open { W.has_failed sink.old ≡ false }
     requires ordered { AreEntries entries.now }
     ensures ok { OnOk result (W.taken sink.new ≡ W.taken sink.old ++ flat_map line_of (dump_of (records_of entries.now))) }
+    ensures cut { OnErr result (IsCut (W.taken sink.old) (W.taken sink.new) (flat_map line_of (dump_of (records_of entries.now)))) }
     ensures failed { is_err result ≡ W.has_failed sink.new }
 {
     for entry in entries {

@@ -68,6 +68,7 @@ impl<const PREFIX_LEN: usize> Index<PREFIX_LEN> {
     ghost use Rattle.art_index.specs.Replies.{own_reply};
     ghost use Rattle.art_index.specs.Refusals.{LineMayRefuse};
     ghost use Rattle.art_index.specs.Outcome.{answer, left_by};
+    ghost use Rattle.art_index.specs.Faults.{IsCutLine};
     ghost use Rattle.art_index.specs.Stored.{IsPlaced};
 
     /// An index that holds nothing. It takes no memory.
@@ -99,6 +100,7 @@ impl<const PREFIX_LEN: usize> Index<PREFIX_LEN> {
 
         ensures err { IfErr result (λ fault. fault ≡ RunFault.Write) }
         ensures failed { is_err result ≡ W.has_failed sink.new }
+        ensures cut { OnErr result (IsCutLine self.old line.now (W.taken sink.old) (W.taken sink.new) self.new) }
     {
         let mut memory = false;
         match self.slots.read(line) {

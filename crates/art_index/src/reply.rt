@@ -1,9 +1,10 @@
 //! Replies, written to a sink.
-ghost use Rattle.std.specs.Prelude.{◌≡◌, ℕ, ◌^◌, ◌<◌, ◌≤◌, ◌++◌, ◌∷◌, [], List, length, OnOk, IsErr, IsTrue, false, is_err, codes, decimal, option_map};
+ghost use Rattle.std.specs.Prelude.{◌≡◌, ℕ, ◌^◌, ◌<◌, ◌≤◌, ◌++◌, ◌∷◌, [], List, length, OnOk, OnErr, IsErr, IsTrue, false, is_err, codes, decimal, option_map};
 ghost use Rattle.hex.specs.Hex.{encode_lower};
 ghost use Rattle.art_index.specs.Words.{shown, line_of, name, natural, bytes};
 ghost use Rattle.art_index.specs.Commands.{put_words};
 ghost use Rattle.art_index.specs.Replies.{found_or};
+ghost use Rattle.art_index.specs.Faults.{IsCut};
 
 use crate::stream::{Sink, WriteFailed};
 
@@ -14,6 +15,7 @@ const PART: usize = 64;
 pub(crate) fn write_piece<W: Sink>(sink: &mut W, piece: &[u8]) -> Result<(), WriteFailed>
     requires { W.has_failed sink.old ≡ false }
     ensures ok { OnOk result (W.taken sink.new ≡ W.taken sink.old ++ piece.now) }
+    ensures cut { OnErr result (IsCut (W.taken sink.old) (W.taken sink.new) piece.now) }
     ensures failed { is_err result ≡ W.has_failed sink.new }
 {
     let mut rest = piece;
@@ -29,6 +31,7 @@ fn write_part<W: Sink>(sink: &mut W, part: &[u8]) -> Result<(), WriteFailed>
     requires open { W.has_failed sink.old ≡ false }
     requires few { length part.now ≤ 64 }
     ensures ok { OnOk result (W.taken sink.new ≡ W.taken sink.old ++ encode_lower part.now) }
+    ensures cut { OnErr result (IsCut (W.taken sink.old) (W.taken sink.new) (encode_lower part.now)) }
     ensures failed { is_err result ≡ W.has_failed sink.new }
 {
     let mut digits = [0; 2 * PART];
@@ -41,6 +44,7 @@ fn write_part<W: Sink>(sink: &mut W, part: &[u8]) -> Result<(), WriteFailed>
 pub(crate) fn write_bytes<W: Sink>(sink: &mut W, value: &[u8]) -> Result<(), WriteFailed>
     requires { W.has_failed sink.old ≡ false }
     ensures ok { OnOk result (W.taken sink.new ≡ W.taken sink.old ++ shown (bytes value.now)) }
+    ensures cut { OnErr result (IsCut (W.taken sink.old) (W.taken sink.new) (shown (bytes value.now))) }
     ensures failed { is_err result ≡ W.has_failed sink.new }
 {
     if value.is_empty() {
@@ -59,6 +63,7 @@ pub(crate) fn write_bytes<W: Sink>(sink: &mut W, value: &[u8]) -> Result<(), Wri
 pub(crate) fn write_number<W: Sink>(sink: &mut W, number: u64) -> Result<(), WriteFailed>
     requires { W.has_failed sink.old ≡ false }
     ensures ok { OnOk result (W.taken sink.new ≡ W.taken sink.old ++ decimal number) }
+    ensures cut { OnErr result (IsCut (W.taken sink.old) (W.taken sink.new) (decimal number)) }
     ensures failed { is_err result ≡ W.has_failed sink.new }
 {
     let mut digits = [0; 20];
@@ -82,6 +87,7 @@ pub(crate) fn write_found<W: Sink>(
 ) -> Result<(), WriteFailed>
     requires { W.has_failed sink.old ≡ false }
     ensures ok { OnOk result (W.taken sink.new ≡ W.taken sink.old ++ line_of (name word.now ∷ bytes value.now ∷ [])) }
+    ensures cut { OnErr result (IsCut (W.taken sink.old) (W.taken sink.new) (line_of (name word.now ∷ bytes value.now ∷ []))) }
     ensures failed { is_err result ≡ W.has_failed sink.new }
 {
     write_piece(sink, word)?;
@@ -94,6 +100,7 @@ pub(crate) fn write_found<W: Sink>(
 pub(crate) fn write_value<W: Sink>(sink: &mut W, value: Option<&[u8]>) -> Result<(), WriteFailed>
     requires { W.has_failed sink.old ≡ false }
     ensures ok { OnOk result (W.taken sink.new ≡ W.taken sink.old ++ line_of (found_or (option_map (λ v. v.now) value.entry) (codes "is") (codes "none"))) }
+    ensures cut { OnErr result (IsCut (W.taken sink.old) (W.taken sink.new) (line_of (found_or (option_map (λ v. v.now) value.entry) (codes "is") (codes "none")))) }
     ensures failed { is_err result ≡ W.has_failed sink.new }
 {
     match value {
@@ -111,6 +118,7 @@ pub(crate) fn write_record<W: Sink>(
 ) -> Result<(), WriteFailed>
     requires { W.has_failed sink.old ≡ false }
     ensures ok { OnOk result (W.taken sink.new ≡ W.taken sink.old ++ line_of (put_words tenant key.now value.now)) }
+    ensures cut { OnErr result (IsCut (W.taken sink.old) (W.taken sink.new) (line_of (put_words tenant key.now value.now))) }
     ensures failed { is_err result ≡ W.has_failed sink.new }
 {
     write_piece(sink, b"put ")?;
@@ -126,6 +134,7 @@ pub(crate) fn write_record<W: Sink>(
 pub(crate) fn write_end<W: Sink>(sink: &mut W, count: usize) -> Result<(), WriteFailed>
     requires { W.has_failed sink.old ≡ false }
     ensures ok { OnOk result (W.taken sink.new ≡ W.taken sink.old ++ line_of (name (codes "end") ∷ natural count ∷ [])) }
+    ensures cut { OnErr result (IsCut (W.taken sink.old) (W.taken sink.new) (line_of (name (codes "end") ∷ natural count ∷ []))) }
     ensures failed { is_err result ≡ W.has_failed sink.new }
 {
     write_piece(sink, b"end ")?;

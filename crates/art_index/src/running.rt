@@ -1,10 +1,10 @@
 //! From a source to a sink.
-ghost use Rattle.std.specs.Prelude.{◌≡◌, ℕ, ◌<◌, ◌≤◌, ◌++◌, ◌∷◌, ◌↔◌, [], List, length, take, OnOk, IfErr, IsTrue, is_err, true, false, Err};
-ghost use Rattle.art_index.specs.Lines.{lines_of};
+ghost use Rattle.std.specs.Prelude.{◌≡◌, ℕ, ◌<◌, ◌≤◌, ◌++◌, ◌∷◌, ◌↔◌, [], List, length, take, OnOk, OnErr, IfErr, IsTrue, is_err, true, false, Err};
+ghost use Rattle.art_index.specs.Lines.{lines_of, whole_lines_of, lines_so_far};
 ghost use Rattle.art_index.specs.Records.{Records};
 ghost use Rattle.art_index.specs.Outcome.{IsOutcome};
-ghost use Rattle.art_index.specs.Faults.{AfterReadFault};
-ghost use Rattle.art_index.specs.Progress.{Carried, NoNewline};
+ghost use Rattle.art_index.specs.Faults.{AfterReadFault, AfterWriteFault};
+ghost use Rattle.art_index.specs.Progress.{Carried, IsCutRun, NoNewline};
 
 use crate::index::{Index, RunFault};
 use crate::stream::{Sink, Source};
@@ -44,6 +44,12 @@ pub fn run<S: Source, W: Sink, const PREFIX_LEN: usize>(
         × (S.given source.new ≡ S.given source.old ++ text)
         × (W.taken sink.new ≡ W.taken sink.old ++ written)
         × AfterReadFault index.old text written index.new }
+
+    // After a failed write, one line more is carried out than is answered whole. Of its answer a beginning is written.
+    ensures after_write_fault { result ≡ Err RunFault.Write → (text written : List ℕ)
+        × (S.given source.new ≡ S.given source.old ++ text)
+        × (W.taken sink.new ≡ W.taken sink.old ++ written)
+        × AfterWriteFault index.old (lines_so_far (S.has_ended source.new) text) written index.new }
 {
     let mut held: ArrayVec<u8, 4097> = ArrayVec::new();
     let mut buf = [0; PIECE];
@@ -74,6 +80,9 @@ fn feed<W: Sink, const PREFIX_LEN: usize>(
     ensures carried { OnOk result ((start : Records) (text before : List ℕ)
         → Carried start index.old text held.old.items before (W.taken sink.old)
         → Carried start index.new (text ++ piece.now) held.new.items before (W.taken sink.new)) }
+    ensures cut { OnErr result ((start : Records) (text before : List ℕ)
+        → Carried start index.old text held.old.items before (W.taken sink.old)
+        → IsCutRun start index.new (whole_lines_of (text ++ piece.now)) before (W.taken sink.new)) }
     ensures err { IfErr result (λ fault. fault ≡ RunFault.Write) }
     ensures failed { is_err result ≡ W.has_failed sink.new }
 {
@@ -98,6 +107,10 @@ fn finish<W: Sink, const PREFIX_LEN: usize>(
         → NoNewline part.now
         → Carried start index.old text held.old.items before (W.taken sink.old)
         → Carried start index.new (text ++ part.now ++ 10 ∷ []) held.new.items before (W.taken sink.new)) }
+    ensures cut { OnErr result ((start : Records) (text before : List ℕ)
+        → NoNewline part.now
+        → Carried start index.old text held.old.items before (W.taken sink.old)
+        → IsCutRun start index.new (whole_lines_of (text ++ part.now ++ 10 ∷ [])) before (W.taken sink.new)) }
     ensures err { IfErr result (λ fault. fault ≡ RunFault.Write) }
     ensures failed { is_err result ≡ W.has_failed sink.new }
 {

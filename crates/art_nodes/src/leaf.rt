@@ -9,14 +9,55 @@ use crate::sealed::Sealed;
 use crate::slot::Slot;
 use art_bytes::AsBytes;
 use std::alloc::AllocError;
+use std::marker::Model;
 
 /// A leaf: a key with its value, and the names of the leaves before and after it in the order of keys.
 #[derive(Debug, Drop)]
 pub struct LeafNode<K, V> {
     key: K,
     value: V,
-    previous: Option<Slot>,
-    next: Option<Slot>,
+    previous: Link,
+    next: Link,
+}
+
+// The leaf beside a leaf, if there is one. It has a model of its own, since the check fails of a caller that moves a leaf of
+// concrete types where an enum in the leaf holds a type with a model.
+#[derive(Clone, Copy, Debug)]
+struct Link {
+    slot: Option<Slot>,
+}
+
+impl Model for Link {
+    ghost use Rattle.std.specs.Prelude.{ℕ, Option};
+
+    ghost Value = { Option ℕ };
+
+    ghost view = { λ link. link.slot };
+
+    ghost inverse = { λ slot. record { slot = slot } };
+}
+
+impl Link {
+    // To this leaf, or to none.
+    fn new(leaf: Option<NodePtr<KindLeaf>>) -> Self
+        ensures { result ≡ leaf }
+    {
+        let slot = match leaf {
+            Some(leaf) => Some(Slot::new(leaf.slot())),
+            None => None,
+        };
+        Link { slot }
+    }
+
+    // The leaf.
+    fn get(self) -> Option<NodePtr<KindLeaf>>
+        ensures { result ≡ self }
+    {
+        match self.slot {
+            Some(slot) => Some(NodePtr::from_slot(slot.get())),
+            None => None,
+        }
+    }
 }
 
 impl<K, V> Sealed for LeafNode<K, V> {}
@@ -42,8 +83,8 @@ impl<K, V> LeafNode<K, V> {
         LeafNode {
             key,
             value,
-            previous: None,
-            next: None,
+            previous: Link::new(None),
+            next: Link::new(None),
         }
     }
 
@@ -104,44 +145,28 @@ impl<K, V> LeafNode<K, V> {
     pub fn previous(&self) -> Option<NodePtr<KindLeaf>>
         ensures { result ≡ self.now.previous }
     {
-        match self.previous {
-            Some(slot) => Some(NodePtr::from_slot(slot.get())),
-            None => None,
-        }
+        self.previous.get()
     }
 
     /// The name of the leaf after this one, if there is one.
     pub fn next(&self) -> Option<NodePtr<KindLeaf>>
         ensures { result ≡ self.now.next }
     {
-        match self.next {
-            Some(slot) => Some(NodePtr::from_slot(slot.get())),
-            None => None,
-        }
+        self.next.get()
     }
 
     /// Names the leaf before this one, or none.
     pub fn set_previous(&mut self, leaf: Option<NodePtr<KindLeaf>>)
         ensures { self.new ≡ record self.old { previous = leaf } }
     {
-        self.previous = slot_of(leaf);
+        self.previous = Link::new(leaf);
     }
 
     /// Names the leaf after this one, or none.
     pub fn set_next(&mut self, leaf: Option<NodePtr<KindLeaf>>)
         ensures { self.new ≡ record self.old { next = leaf } }
     {
-        self.next = slot_of(leaf);
-    }
-}
-
-// The slot of a name.
-fn slot_of(name: Option<NodePtr<KindLeaf>>) -> Option<Slot>
-    ensures { result ≡ name }
-{
-    match name {
-        Some(name) => Some(Slot::new(name.slot())),
-        None => None,
+        self.next = Link::new(leaf);
     }
 }
 

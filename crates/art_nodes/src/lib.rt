@@ -36,7 +36,6 @@ pub use prefix_match::{
     PessimisticMismatch, PrefixMatch, count_agreeing,
 };
 pub use sealed::Sealed;
-pub use slot::Slot;
 pub use sorted::{InnerNode4, InnerNode16, InnerNodeSorted};
 
 #[cfg(test)]

@@ -6,8 +6,7 @@ use std::fmt;
 use std::hash::{Hash, Hasher};
 use std::marker::Model;
 
-/// A slab key that takes eight bytes and forces no padding on what holds it. It is public since a leaf holds two, and a
-/// caller that moves a leaf must be able to name all that a leaf holds.
+/// A slab key that takes eight bytes and forces no padding on what holds it.
 pub struct Slot {
     bytes: [u8; 8],
 }

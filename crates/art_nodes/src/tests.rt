@@ -1,5 +1,6 @@
 //! Vectors from outside, and each public call once at a concrete type.
 
+use crate::slot::Slot;
 use crate::*;
 use std::mem::size_of;
 use std::ops::Bound;

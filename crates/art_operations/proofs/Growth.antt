@@ -16,7 +16,7 @@ use Rattle.art_arena.proofs.Subtrees.{inner_of}
 use Rattle.art_arena.proofs.Updates.{nodes-update, links-kept}
 use Rattle.art_operations.specs.Edits.{StandsAround}
 use Rattle.art_operations.specs.Growth.{AwaitsLeaf}
-use Rattle.art_operations.proofs.Neighbours.{beside-kept}
+use Rattle.art_operations.proofs.NewLeaves.{beside-same}
 use Rattle.art_operations.proofs.Waiting.{open_node, inner-kind, node-inner}
 
 -- a full node's children and one more are of the next larger kind
@@ -84,7 +84,7 @@ module _ {K V : Type 0} (bytes : K → List ℕ) (P : ℕ) where
             byte_is = awaits.byte_is;
             leaf_is = awaits.leaf_is;
             holds = subst (Holds (node_at freed)) (append_assoc (cells_before P outer copy) ((copy, branches (open_node P f)) ∷ []) below) left;
-            beside = beside-kept (links_at arena) (links_at freed) links (leaves_before (f ∷ outer) ++ leaves_after (f ∷ outer)) l.slot awaits.beside;
+            beside = beside-same (links_at arena) (links_at freed) (leaves_before (f ∷ outer) ++ leaves_after (f ∷ outer)) l.slot links awaits.beside;
             around = awaits.around;
             two = awaits.two;
             before_under = awaits.before_under;

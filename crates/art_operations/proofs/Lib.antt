@@ -7,7 +7,6 @@ pub mod EndPlaces
 pub mod NewNodes
 pub mod Edits
 pub mod Inserted
-pub mod Neighbours
 pub mod Waiting
 pub mod Growth
 pub mod IntoExisting

@@ -1,6 +1,7 @@
 -- A leaf that waits beside a tree for its place under an inner node: what the arena holds there, and how the leaf gets its place.
 use Rattle.std.proofs.Common.{◌≡◌, ◌≢◌, ℕ, suc, ◌+◌, ◌<◌, ◌≤◌, ◌⊎◌, List, [], ◌∷◌, ◌++◌, length, take, Option, Some, None, IsSome, is_some, cond, refl, sym, ap, ap₂, subst, ◌∙◌, inl, inr, arith, append_assoc}
 use Rattle.std.proofs.lemmas.List.{append-nil}
+use Rattle.std.proofs.lemmas.Bool.Decides.{eqb_tells, leb_tells}
 use Rattle.std.specs.declared.ops.Bound.TheVariants.{Excluded, Unbounded}
 use Rattle.art_nodes.specs.declared.kind.NodeType.TheVariants.{Leaf}
 use Rattle.art_nodes.specs.declared.leaf.LeafNode.{LeafNode}
@@ -8,7 +9,7 @@ use Rattle.art_nodes.specs.InnerNode.{InnerNode, child_at, first_child, last_chi
 use Rattle.art_nodes.specs.Name.{Name}
 use Rattle.art_arena.specs.Arena.{Arena, inner_held, held_as, as_leaf, held_at, node_at, links_at}
 use Rattle.art_arena.specs.Cells.{Cell, pair, branches, leaf_name, UpdatesAt, copies, Holds}
-use Rattle.art_arena.specs.Context.{Frame, plug, path_to, frame_cell, leaves_before, leaves_after, cells_before, cells_after}
+use Rattle.art_arena.specs.Context.{Frame, AreBelow, plug, path_to, frame_cell, leaves_before, leaves_after, cells_before, cells_after}
 use Rattle.art_arena.specs.Kinds.{IsKindOf}
 use Rattle.art_arena.specs.Linked.{first_slot, last_slot, AreLinked}
 use Rattle.art_arena.specs.Meaning.{IsPart, IsSubtree, IsNodes, IsTree}
@@ -22,7 +23,7 @@ use Rattle.art_arena.proofs.Subtrees.{inner_of, branch-first, branch-last, has_l
 use Rattle.art_arena.proofs.Updates.{nodes-update, links-kept}
 use Rattle.art_operations.specs.Growth.{AwaitsLeaf}
 use Rattle.art_operations.proofs.Inserted.{AreLinked-same}
-use Rattle.art_operations.proofs.Neighbours.{first-of-front, last-of-back, children_behind, child_at-opening}
+use Rattle.art_operations.proofs.NewLeaves.{first_of, last_of}
 
 -- appended lists, grouped in another way
 regroup_behind : {X : Type 0} (xs bs ts rs cs : List X) (n l : X) → xs ++ (n ∷ (bs ++ (l ∷ ((ts ++ rs) ++ cs)))) ≡ (xs ++ (n ∷ (bs ++ (l ∷ [])))) ++ (ts ++ (rs ++ cs))
@@ -73,6 +74,38 @@ module _ {K V : Type 0} where
       few None a b c e = omega arith
       few (Some x) a b c e = omega arith
 
+module _ {K V : Type 0} (bytes : K → List ℕ) where
+  none_above : (path : List ℕ) (b low : ℕ) (after : Branches K V) → AreUnder bytes path low after → b + 1 ≤ low → children_between (Excluded b) Unbounded (children_at after) ≡ children_at after
+  none_above path b low no_branch under above = refl
+  none_above path b low (branch c s rest) under above = elim (leb_tells (suc b) c) [
+    | inl more ↦ rw more.0 (ap (λ xs. (c, name_of s) ∷ xs) (none_above path b (c + 1) rest under.2 (omega (arith, under.0, above))))
+    | inr less ↦ absurd (omega (arith, less.1, under.0, above))
+  ]
+
+  -- the children above an opening are the branches behind it
+  pub children_behind : (path : List ℕ) (b : ℕ) (before after : Branches K V) → AreBelow b before → AreUnder bytes path (b + 1) after
+      → children_between (Excluded b) Unbounded (children_at (join before after)) ≡ children_at after
+  children_behind path b no_branch after below under = none_above path b (b + 1) after under (omega arith)
+  children_behind path b (branch c s before) after below under = elim (leb_tells (suc b) c) [
+    | inl more ↦ absurd (omega (arith, more.1, below.0))
+    | inr less ↦ rw less.0 (children_behind path b before after below.1 under)
+  ]
+
+  none_from : (path : List ℕ) (b low : ℕ) (after : Branches K V) → AreUnder bytes path low after → b + 1 ≤ low → child_at (children_at after) b ≡ None
+  none_from path b low no_branch under above = refl
+  none_from path b low (branch c s rest) under above = elim (eqb_tells c b) [
+    | inl same ↦ absurd (omega (arith, same.1, under.0, above))
+    | inr other ↦ rw other.0 (none_from path b (c + 1) rest under.2 (omega (arith, under.0, above)))
+  ]
+
+  -- no child stands in an opening
+  pub child_at-opening : (path : List ℕ) (b : ℕ) (before after : Branches K V) → AreBelow b before → AreUnder bytes path (b + 1) after → child_at (children_at (join before after)) b ≡ None
+  child_at-opening path b no_branch after below under = none_from path b (b + 1) after under (omega arith)
+  child_at-opening path b (branch c s before) after below under = elim (eqb_tells c b) [
+    | inl same ↦ absurd (omega (arith, same.1, below.0))
+    | inr other ↦ rw other.0 (child_at-opening path b before after below.1 under)
+  ]
+
 module _ {K V : Type 0} (bytes : K → List ℕ) (P : ℕ) (arena : Arena K V) (root node : Name) (byte leaf : ℕ) (f : Frame K V) (outer : List (Frame K V)) (l : LeafAt K V) (awaits : AwaitsLeaf bytes P arena root node byte leaf f outer l) where
   -- the node is held, an inner one, with a child for each branch and none under the byte
   pub node-held : held_at arena node ≡ Some (inner_held (open_node P f))
@@ -118,7 +151,7 @@ module _ {K V : Type 0} (bytes : K → List ℕ) (P : ℕ) (arena : Arena K V) (
         part = b.0;
         subtree = subst (λ n. IsSubtree bytes P (node_at arena) n ((path_to outer ++ f.prefix) ++ c.0 ∷ []) b.0) b.3 (record { part = part; under = under.1 });
         first = λ p h. subst (λ ls. first_slot (ls ++ leaves_after outer) None ≡ Some p) (sym (ap leaves_in b.2))
-            (first-of-front (leaves b.0 ++ leaves_in b.1) (leaves_after outer) p (first-of-front (leaves b.0) (leaves_in b.1) p h));
+            (first_of (leaves b.0 ++ leaves_in b.1) (leaves_after outer) p (first_of (leaves b.0) (leaves_in b.1) p h));
       }
 
   pub record IsPrevious (child : Name) : Type 0 where
@@ -142,7 +175,7 @@ module _ {K V : Type 0} (bytes : K → List ℕ) (P : ℕ) (arena : Arena K V) (
         part = b.1;
         subtree = subst (λ n. IsSubtree bytes P (node_at arena) n ((path_to outer ++ f.prefix) ++ c.0 ∷ []) b.1) b.3 (record { part = part; under = under });
         last = λ p h. subst (λ ls. last_slot None (leaves_before outer ++ ls) ≡ Some p) (sym leaves_are)
-            (last-of-back (leaves_before outer) (leaves_in b.0 ++ leaves b.1) p (last-of-back (leaves_in b.0) (leaves b.1) p h));
+            (last_of (leaves_before outer) (leaves_in b.0 ++ leaves b.1) p (last_of (leaves_in b.0) (leaves b.1) p h));
       }
 
   -- there is a child on one side

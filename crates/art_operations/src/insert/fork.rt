@@ -125,8 +125,8 @@ fn end_leaf<K: AsBytes, V, const PREFIX_LEN: usize>(
     }
 }
 
-// Links a new leaf in between two lists: before the first leaf of the second, or else behind the last one of the first.
-fn link_between<K, V, const PREFIX_LEN: usize>(
+/// Links a new leaf in between two lists: before the first leaf of the second, or else behind the last one of the first.
+pub(crate) fn link_between<K, V, const PREFIX_LEN: usize>(
     arena: &mut NodeArena<K, V, PREFIX_LEN>,
     leaf: LeafPtr,
     neighbour: LeafPtr,

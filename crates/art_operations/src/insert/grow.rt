@@ -9,21 +9,21 @@ ghost use Rattle.art_arena.specs.Arena.{held_at, leaf_held, inner_held, node_at,
 ghost use Rattle.art_arena.specs.Cells.{leaf_name, UpdatesAt};
 ghost use Rattle.art_arena.specs.Context.{Frame, plug, leaves_before, leaves_after};
 ghost use Rattle.art_arena.specs.Kinds.{IsKindOf};
-ghost use Rattle.art_arena.specs.Linked.{AreLinked};
 ghost use Rattle.art_arena.specs.Meaning.{IsTree};
 ghost use Rattle.art_arena.specs.Shapes.{Shape, LeafAt, leaf_at, width};
 ghost use Rattle.art_arena.specs.Steps.{steps_to, steps_of};
+ghost use Rattle.art_operations.specs.Forks.{IsBetween};
 ghost use Rattle.art_operations.specs.Points.{IsPoint};
 ghost use Rattle.art_operations.specs.Insertions.{IsInserted};
 ghost use Rattle.art_operations.specs.declared.insert.point.InsertKind.TheVariants as kind;
 ghost use Rattle.art_operations.specs.Growth.{AwaitsLeaf};
 
 use crate::edit::{drop_node, repoint, write_child};
+use crate::insert::fork::link_between;
 use crate::insert::leaf::{store_leaf, take_back};
 use crate::insert::point::InsertPoint;
 use crate::insert::result::{InsertParentNodeChange, InsertRefused, InsertResult};
 use art_arena::inner::last_child;
-use art_arena::links::{insert_after, insert_before};
 use art_arena::{LeafPtr, NodeArena, first_leaf, inner_node_ptr, last_leaf};
 use art_bytes::AsBytes;
 use art_nodes::{
@@ -38,6 +38,13 @@ use std::ops::Bound;
 struct Place {
     node: OpaqueNodePtr,
     root: OpaqueNodePtr,
+}
+
+// A leaf that is linked, and whether a new one goes before it or behind it.
+#[derive(Clone, Copy)]
+struct Neighbour {
+    leaf: LeafPtr,
+    is_before: bool,
 }
 
 // An expression over the inner node under a name, whatever its kind.
@@ -137,8 +144,8 @@ fn grow<K, V, const PREFIX_LEN: usize>(
     }
 }
 
-// Makes room for one more child, under this byte, in the inner node at a point: where the node is full, one of the next larger kind
-// takes its place.
+// Makes room for one more child, under this byte, in the inner node at a point: where the node is full, one of the next
+// larger kind takes its place.
 fn make_room<K: AsBytes, V, const PREFIX_LEN: usize>(
     arena: &mut NodeArena<K, V, PREFIX_LEN>,
     point: InsertPoint,
@@ -166,34 +173,33 @@ fn make_room<K: AsBytes, V, const PREFIX_LEN: usize>(
     Ok(Place { node, root })
 }
 
-// Links a leaf in where its key leads from an inner node, which has no child under the byte with which the key goes on there.
-fn link_leaf<K: AsBytes, V, const PREFIX_LEN: usize>(
-    arena: &mut NodeArena<K, V, PREFIX_LEN>,
+// The leaf beside which a new one goes that is to stand under this byte of an inner node, where no child does: the first
+// one behind that place, or else the last one in front of it.
+fn neighbour_at<K: AsBytes, V, const PREFIX_LEN: usize>(
+    arena: &NodeArena<K, V, PREFIX_LEN>,
     node: OpaqueNodePtr,
     byte: u8,
-    leaf: LeafPtr,
-)
-    requires { (root : Name) × (f : Frame K V) × (outer : List (Frame K V)) × (l : LeafAt K V) × AwaitsLeaf K.bytes PREFIX_LEN arena.old root node byte leaf f outer l }
-    ensures nodes { (n : Name) → node_at arena.new n ≡ node_at arena.old n }
-    ensures room { (n : ℕ) → HasRoom arena.old n → HasRoom arena.new n }
-    ensures linked { (root : Name) (f : Frame K V) (outer : List (Frame K V)) (l : LeafAt K V) → AwaitsLeaf K.bytes PREFIX_LEN arena.old root node byte leaf f outer l
-        → AreLinked (links_at arena.new) None (leaves_before (f ∷ outer) ++ (l ∷ leaves_after (f ∷ outer))) None }
+) -> Neighbour
+    requires { (root : Name) × (leaf : ℕ) × (f : Frame K V) × (outer : List (Frame K V)) × (l : LeafAt K V) × AwaitsLeaf K.bytes PREFIX_LEN arena.now root node byte leaf f outer l }
+    ensures { (root : Name) (leaf : ℕ) (f : Frame K V) (outer : List (Frame K V)) (l : LeafAt K V) → AwaitsLeaf K.bytes PREFIX_LEN arena.now root node byte leaf f outer l
+        → IsBetween result.is_before result.leaf (leaves_before (f ∷ outer)) (leaves_after (f ∷ outer)) }
 {
     if let Some(next) = child_after(arena, node, byte) {
-        let next = first_leaf(arena, next.1);
-        insert_before(arena, leaf, next);
-        return;
+        return Neighbour {
+            leaf: first_leaf(arena, next.1),
+            is_before: true,
+        };
     }
     match last_child(arena, node) {
-        Some(previous) => {
-            let previous = last_leaf(arena, previous.1);
-            insert_after(arena, leaf, previous);
-        }
+        Some(previous) => Neighbour {
+            leaf: last_leaf(arena, previous.1),
+            is_before: false,
+        },
         None => unreachable!(),
     }
 }
 
-// Puts a leaf under a byte of an inner node, which has room for it.
+// Links a leaf in and puts it under a byte of an inner node, which has room for it.
 fn put_leaf<K: AsBytes, V, const PREFIX_LEN: usize>(
     arena: &mut NodeArena<K, V, PREFIX_LEN>,
     node: OpaqueNodePtr,
@@ -207,13 +213,15 @@ fn put_leaf<K: AsBytes, V, const PREFIX_LEN: usize>(
         → IsKindOf node.kind (suc (width f.before + width f.after))
         → IsTree K.bytes PREFIX_LEN (node_at arena.new) root (links_at arena.new) (plug (f ∷ outer) (leaf_at l.slot l.key l.value)) }
 {
-    link_leaf(arena, node, byte, leaf);
+    let neighbour = neighbour_at(arena, node, byte);
+    link_between(arena, leaf, neighbour.leaf, neighbour.is_before);
     write_child(arena, node, byte, leaf.to_opaque());
 }
 
-/// Puts a key and its value under an inner node that has no child under the key's next byte. A leaf is made, and where the node is
-/// full one of the next larger kind, which takes its place. It is refused only where there is no memory for these; the key and the
-/// value are then handed back, and each name has what it had.
+/// Puts a key and its value under an inner node that has no child under the key's next byte.
+///
+/// A leaf is made, and where the node is full one of the next larger kind, which takes its place. Where there is no memory
+/// for them, the key and the value are handed back, and the tree is as it was.
 pub(crate) fn put_into_existing<K: AsBytes, V, const PREFIX_LEN: usize>(
     arena: &mut NodeArena<K, V, PREFIX_LEN>,
     point: InsertPoint,

@@ -1,7 +1,10 @@
-use Rattle.std.proofs.Common.{◌≡◌, ℕ, ◌<◌, ◌++◌, [], List, length, take, sym, ◌∙◌, ap, arith, append-nil, append_assoc}
+use Rattle.std.proofs.Common.{◌≡◌, ℕ, ◌<◌, ◌++◌, [], List, length, take, sym, ◌∙◌, ap, arith, append-nil, append_assoc, subst, true, false, Ok}
 use Rattle.std.proofs.lemmas.Bool.{eqb-false}
+use Rattle.art_index.specs.Lines.{lines_so_far}
 use Rattle.art_index.specs.Outcome.{answer}
+use Rattle.art_index.specs.Faults.{AfterWriteFault}
 use Rattle.art_index.proofs.Carrying.{carried_none, outcome_last}
+use Rattle.art_index.proofs.CutRuns.{cut_run-last}
 use Rattle.art_index.proofs.running.run.Goals as goal
 
 -- a read of no byte gives nothing
@@ -28,4 +31,35 @@ returns-in_ok-handle-clause-outcome g c =
       given_end (g.S.Source.given c.args.source.now) text (g.S.Source.given c.reads.source) (g.S.Source.given c.read.new.self) c.in-Ok.n c.read.new.buf i.1 c.in-Ok.ensures.gives c.if-n-eq0.true,
       e.told ∙ ap (λ t. t ++ answer memory c.reads.index c.as_slice.result.now) carried.told ∙ append_assoc (g.W.Sink.taken c.args.sink.now) carried.written (answer memory c.reads.index c.as_slice.result.now),
       rw e.left last,
+    )
+
+pub returns-in_err-feed-clause-after_write_fault :
+    goal.returns-in_err-feed-clause-after_write_fault
+returns-in_err-feed-clause-after_write_fault g c = λ _.
+    let i = c.reads.invariant.carried in let text : List ℕ = i.0 in let n : ℕ = c.in-Ok.n in
+    let more : List ℕ = take n c.read.new.buf in
+    let run = c.in_err-feed.ensures.cut c.args.index.now text (g.W.Sink.taken c.args.sink.now) i.2 in
+    let some : 0 < n = let other = c.if-n-eq0.false in omega arith in
+    let goes_on : g.S.Source.has_ended c.read.new.self ≡ false = c.in-Ok.ensures.goes_on some ∙ c.reads.invariant.source_goes_on in (
+      text ++ more,
+      run.written,
+      c.in-Ok.ensures.gives ∙ ap (λ t. t ++ more) i.1 ∙ append_assoc (g.S.Source.given c.args.source.now) text more,
+      run.told,
+      subst (λ b. AfterWriteFault c.args.index.now (lines_so_far b (text ++ more)) run.written c.feed.new.index) (sym goes_on) run.fault,
+    )
+
+pub returns-in_err-handle-clause-after_write_fault :
+    goal.returns-in_err-handle-clause-after_write_fault
+returns-in_err-handle-clause-after_write_fault g c = λ _.
+    let i = c.reads.invariant.carried in let text : List ℕ = i.0 in
+    let held : List ℕ = c.reads.held.items in
+    let some : 0 < length held = let h = eqb-false _ _ (sym c.if-not-is_empty.ensures) in omega arith in
+    let run = cut_run-last c.args.index.now c.reads.index c.handle.new.self text held (g.W.Sink.taken c.args.sink.now) (g.W.Sink.taken c.reads.sink) (g.W.Sink.taken c.handle.new.sink) c.as_slice.result.now
+    i.2 some c.as_slice.ensures.value c.in_err-handle.ensures.cut in
+    let ended : g.S.Source.has_ended c.read.new.self ≡ true = c.in-Ok.ensures.ends (ap (λ n. Ok n) c.if-n-eq0.true) in (
+      text,
+      run.written,
+      given_end (g.S.Source.given c.args.source.now) text (g.S.Source.given c.reads.source) (g.S.Source.given c.read.new.self) c.in-Ok.n c.read.new.buf i.1 c.in-Ok.ensures.gives c.if-n-eq0.true,
+      run.told,
+      subst (λ b. AfterWriteFault c.args.index.now (lines_so_far b text) run.written c.handle.new.self) (sym ended) run.fault,
     )

@@ -1,0 +1,21 @@
+-- The lines of replies as the parts that are written one after another.
+use Rattle.std.proofs.Common.{◌≡◌, ℕ, List, [], ◌∷◌, ◌++◌, ap, sym, ◌∙◌, append_assoc}
+use Rattle.std.specs.Prelude.{codes, decimal}
+use Rattle.art_index.specs.Words.{Word, name, natural, bytes, shown, text_of, line_of}
+use Rattle.art_index.specs.Commands.{put_words}
+
+line_more : (w v : Word) (ws : List Word) → shown w ++ 32 ∷ line_of (v ∷ ws) ≡ line_of (w ∷ v ∷ ws)
+line_more w v ws = sym (append_assoc (shown w) (32 ∷ text_of (v ∷ ws)) (10 ∷ []))
+
+-- a word and bytes
+pub found_parts : (word value : List ℕ) → word ++ (32 ∷ [] ++ (shown (bytes value) ++ 10 ∷ [])) ≡ line_of (name word ∷ bytes value ∷ [])
+found_parts word value = line_more (name word) (bytes value) []
+
+-- the line that makes a record, with the tenant as it is written
+pub put_parts : (number tenant : ℕ) (key value : List ℕ) → number ≡ tenant
+    → codes "put " ++ (decimal number ++ (32 ∷ [] ++ (shown (bytes key) ++ (32 ∷ [] ++ (shown (bytes value) ++ 10 ∷ []))))) ≡ line_of (put_words tenant key value)
+put_parts number tenant key value same =
+    ap (λ t. codes "put " ++ (decimal number ++ 32 ∷ t)) (line_more (bytes key) (bytes value) [])
+    ∙ ap (λ t. codes "put " ++ t) (line_more (natural number) (bytes key) (bytes value ∷ []))
+    ∙ line_more (name (codes "put")) (natural number) (bytes key ∷ bytes value ∷ [])
+    ∙ ap (λ n. line_of (put_words n key value)) same
