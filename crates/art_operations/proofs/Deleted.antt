@@ -5,7 +5,7 @@ use Rattle.art_nodes.specs.Name.{Name}
 use Rattle.art_nodes.specs.declared.leaf.LeafNode.{LeafNode}
 use Rattle.art_arena.specs.Arena.{Arena, leaf_held, cell_of, held_at, node_at, links_at}
 use Rattle.art_arena.specs.Cells.{Cell, pair, leaf_name, Holds, UpdatesAt}
-use Rattle.art_arena.specs.Linked.{Links, AreLinked, times, IsList}
+use Rattle.art_arena.specs.Linked.{AreLinked, times, IsList}
 use Rattle.art_arena.specs.Meaning.{IsTree}
 use Rattle.art_arena.specs.Shapes.{Shape, LeafAt, leaves, cells}
 use Rattle.art_arena.proofs.CellLists.{Holds-remove, Holds-same}
@@ -15,13 +15,10 @@ use Rattle.art_arena.proofs.Subtrees.{HoldsPair, pair_of}
 use Rattle.art_arena.proofs.Surroundings.{tree-list}
 use Rattle.art_arena.proofs.Updates.{nodes-update, links-update}
 use Rattle.art_operations.specs.Deletions.{HasLeaves, IsDeleted}
+use Rattle.art_operations.proofs.Inserted.{AreLinked-same}
 use Rattle.art_operations.specs.Detached.{alone, IsDetached}
 
 module _ {K V : Type 0} where
-  AreLinked-same : (old new : ℕ → Option Links) → ((slot : ℕ) → new slot ≡ old slot) → (before : Option ℕ) (ls : List (LeafAt K V)) (after : Option ℕ) → AreLinked old before ls after → AreLinked new before ls after
-  AreLinked-same old new same before [] after linked = tt
-  AreLinked-same old new same before (l ∷ ls) after linked = (same l.slot ∙ linked.0, AreLinked-same old new same (Some l.slot) ls after linked.1)
-
   -- what holds no cell holds nothing
   nothing_at : (at : Name → Option (Cell K V)) → Holds at [] → (n : Name) → at n ≡ None
   nothing_at at holds n = none (at n) (holds.once n)
@@ -40,6 +37,7 @@ module _ {K V : Type 0} (bytes : K → List ℕ) (P : ℕ) (mid : Arena K V) (s 
   back_of None apart = []
   back_of (Some root) apart = apart.back
 
+  -- with it they are the leaves of the tree
   pub all_of : (left : Option Name) (apart : IsDetached bytes P mid s leaf left) → leaves s ≡ front_of left apart ++ leaf ∷ back_of left apart
   unfolding front_of back_of
   all_of None apart = apart.0
@@ -50,12 +48,14 @@ module _ {K V : Type 0} (bytes : K → List ℕ) (P : ℕ) (mid : Arena K V) (s 
   leaf_there (Some root) apart = (all_right (λ (c : Name × Cell K V). node_at mid c.0 ≡ Some c.1) (cells P apart.rest) (alone leaf) apart.holds.held).0
 
   module _ (old : Arena K V) (root : Name) (tree : IsTree bytes P (node_at old) root (links_at old) s) (kept : (slot : ℕ) → links_at mid slot ≡ links_at old slot) (left : Option Name) (apart : IsDetached bytes P mid s leaf left) where
+    -- they are still linked
     pub still_listed : IsList (links_at mid) (front_of left apart ++ leaf ∷ back_of left apart)
     still_listed =
         let list = tree-list bytes P (node_at old) root (links_at old) s tree in
         subst (IsList (links_at mid)) (all_of left apart) (record { linked = AreLinked-same (links_at old) (links_at mid) kept None (leaves s) None list.linked; once = list.once })
 
     module _ (unlinked : Arena K V) (same : (n : Name) → node_at unlinked n ≡ node_at mid n) where
+      -- the leaf is still there
       pub held_leaf : HoldsPair (held_at unlinked (leaf_name leaf.slot)) leaf.key leaf.value
       held_leaf = pair_of (held_at unlinked (leaf_name leaf.slot)) leaf.key leaf.value (same (leaf_name leaf.slot) ∙ leaf_there left apart)
 
@@ -107,6 +107,7 @@ module _ {K V : Type 0} (bytes : K → List ℕ) (P : ℕ) (mid unlinked new : A
     apart.left,
   )
 
+  -- and the answer has the leaf
   pub deleted : (left : Option Name) (apart : IsDetached bytes P mid s leaf left) → AreLinked (links_at unlinked) None (front_of bytes P mid s leaf left apart ++ back_of bytes P mid s leaf left apart) None
       → IsDeleted bytes P new s leaf.slot (record { new_root = left; deleted_leaf = node })
   deleted left apart linked = record {

@@ -32,12 +32,15 @@ module _ {K V : Type 0} (bytes : K → List ℕ) (P : ℕ) where
     abbrev pub the_parent : HasParent place.ctx step more
     the_parent = parent-of place.ctx step more (place.steps ∙ some)
 
+    -- the leaf
     abbrev pub the_leaf : LeafAt K V
     the_leaf = record { slot = slot; key = place.key; value = place.value }
 
+    -- the tree around it
     pub whole_is : s ≡ plug (the_parent.frame ∷ the_parent.outer) (leaf_at slot place.key place.value)
     whole_is = place.place.is ∙ ap (λ ctx. plug ctx (leaf_at slot place.key place.value)) the_parent.is
 
+    -- the arena holds that tree
     pub held_at_place : IsHeldAt bytes P arena (the_parent.frame ∷ the_parent.outer) the_leaf
     held_at_place = record {
       holds = subst (λ t. Holds (node_at arena) (cells P t)) whole_is nodes.holds;
@@ -45,6 +48,7 @@ module _ {K V : Type 0} (bytes : K → List ℕ) (P : ℕ) where
       begins = subst (λ ctx. IsUnder bytes (path_to ctx) (leaf_at slot place.key place.value)) the_parent.is place.place.under;
     }
 
+    -- and the leaf stands below the node that the step names
     abbrev pub child_leaf : IsChildLeaf bytes P arena parent step.byte slot
     child_leaf = record {
       frame = the_parent.frame;
@@ -82,6 +86,7 @@ module _ {K V : Type 0} (bytes : K → List ℕ) (P : ℕ) where
 
   -- where another node stands above it
   module _ (mid : Arena K V) (f g : Frame K V) (above : List (Frame K V)) (leaf : LeafAt K V) (other : Name) (around : AreAround bytes (g ∷ above)) (stands : StandsFor bytes P mid f (g ∷ above) leaf other) where
+    -- the arena has that node, which still points to the old name
     pub above_held : held_at mid g.name ≡ Some (inner_held (frame_node P g f.name))
     above_held = inner_of (held_at mid g.name) _ (frame-there P g above f.name _ around.2 (node_at mid) stands.holds)
 
@@ -89,6 +94,7 @@ module _ {K V : Type 0} (bytes : K → List ℕ) (P : ℕ) where
     above_child = frame-child P g above f.name _ around.2 (node_at mid) stands.holds
 
     module _ (new : Arena K V) (same : other ≡ f.name → SameNodes mid new) (edits : other ≢ f.name → EditsNode mid new g.name (λ n. with_children n (with_child n.children g.byte other))) where
+      -- once it points to what is left, that stands in the tree
       pub pointed : Holds (node_at new) (cells_before P (g ∷ above) other ++ (cells P stands.rest ++ (cells_after P (g ∷ above) ++ alone leaf)))
       pointed = elim (same_name_tells other f.name) [
         | inl is ↦ Holds-same (node_at mid) (node_at new) (nodes-same mid new (same is.1)) _
@@ -96,6 +102,7 @@ module _ {K V : Type 0} (bytes : K → List ℕ) (P : ℕ) where
         | inr not ↦ repoint P g above f.name _ around.2 (node_at mid) stands.holds (node_at new) other (nodes-update mid new g.name _ (edits not.1 _ above_held))
       ]
 
+      -- and the leaf is apart from the tree of the others
       pub finish_below : (s : Shape K V) (root : Name) → name_of s ≡ root → s ≡ plug (f ∷ g ∷ above) (leaf_at leaf.slot leaf.key leaf.value) → IsApart bytes P new s leaf root
       finish_below s root named is =
           let whole = finish new f (g ∷ above) leaf s stands.rest is around
@@ -103,6 +110,7 @@ module _ {K V : Type 0} (bytes : K → List ℕ) (P : ℕ) where
           let same_root : root_of above g.name ≡ root = sym (name_of-plug (f ∷ g ∷ above) (leaf_at leaf.slot leaf.key leaf.value)) ∙ ap name_of (sym is) ∙ named in
           subst (IsApart bytes P new s leaf) same_root whole
 
+      -- no link has changed
       pub pointed_links : g.name.kind ≢ Leaf → (slot : ℕ) → links_at new slot ≡ links_at mid slot
       pointed_links inner slot = elim (same_name_tells other f.name) [
         | inl is ↦ links-same mid new (same is.1) slot
@@ -113,6 +121,7 @@ module _ {K V : Type 0} (bytes : K → List ℕ) (P : ℕ) where
   module _ (old new : Arena K V) (root : Name) (s : Shape K V) (slot : ℕ) (last : List Step) (step : Step) (some : last ≡ step ∷ []) (parent : Name) (node : step.node ≡ parent)
       (nodes : IsNodes bytes P (node_at old) root s) (place : IsLeafPlace bytes s slot last) (other : Name)
       (stands : (there : IsChildLeaf bytes P old parent step.byte slot) → StandsFor bytes P new there.frame there.outer there.leaf other) where
+    -- it is apart from the tree of the others
     pub apart_of_root : IsApart bytes P new s (record { slot = slot; key = place.key; value = place.value }) other
     apart_of_root =
         let hp = the_parent old root s slot last step [] some parent node nodes place in
@@ -144,6 +153,7 @@ module _ {K V : Type 0} (bytes : K → List ℕ) (P : ℕ) where
     abbrev pub grand_node : InnerNode
     grand_node = frame_node P its_grandparent.frame its_parent.frame.name
 
+    -- the node that points to its parent is there
     pub grand_there : held_at mid grand ≡ Some (inner_held grand_node)
     grand_there = ap (held_at mid) (sym grand_is ∙ sym its_grandparent.named) ∙ above_held mid its_parent.frame its_grandparent.frame its_grandparent.above its_leaf other around left
 
@@ -162,10 +172,12 @@ module _ {K V : Type 0} (bytes : K → List ℕ) (P : ℕ) where
       same_above : other ≡ its_parent.frame.name → SameNodes mid new
       same_above e = same (e ∙ its_parent.named ∙ node)
 
+      -- once that node points to what is left, the leaf is apart from the tree of the others
       pub apart_below : IsApart bytes P new s its_leaf root
       apart_below =
           finish_below mid its_parent.frame its_grandparent.frame its_grandparent.above its_leaf other around left new same_above edits_above s root nodes.named
           (whole_is old root s slot last step (upper ∷ []) some parent node nodes place ∙ ap (λ outer. plug (its_parent.frame ∷ outer) (leaf_at slot place.key place.value)) its_grandparent.is)
 
+      -- and no link has changed
       pub links_below : (at : ℕ) → links_at new at ≡ links_at mid at
       links_below = pointed_links mid its_parent.frame its_grandparent.frame its_grandparent.above its_leaf other around left new same_above edits_above (frame-inner bytes its_grandparent.frame its_grandparent.above around)

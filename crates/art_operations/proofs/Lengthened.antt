@@ -16,6 +16,7 @@ kind_not_leaf n children is e =
     let none : IsKindOf Leaf children = subst (λ kind. IsKindOf kind children) e is in
     absurd (omega (arith, none.two, none.most))
 
+-- every other name has what it had
 pub others_kept : {K V : Type 0} (bytes : K → List ℕ) (P : ℕ) (old new : Arena K V) (above : InnerNode) (byte : ℕ) (child : Name) (path : List ℕ) (s : Shape K V)
     → IsSubtree bytes P (node_at old) child path s → Lengthens P old new above byte child → (m : Name) → m ≢ child → held_at new m ≡ held_at old m
 others_kept bytes P old new above byte child path (leaf_at slot k v) sub lengthens m apart = lengthens.0 (sym (ap (λ (n : Name). n.kind) sub.part.named)) m

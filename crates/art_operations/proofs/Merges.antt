@@ -26,10 +26,12 @@ module _ {K V : Type 0} where
   behind_more prefix b (leaf_at slot k v) = leaf_at slot k v
   behind_more prefix b (inner_at n q kids) = inner_at n (prefix ++ b ∷ q) kids
 
+  -- it has the name that it had
   pub same_name_of : (prefix : List ℕ) (b : ℕ) (s : Shape K V) → name_of (behind_more prefix b s) ≡ name_of s
   same_name_of prefix b (leaf_at slot k v) = refl
   same_name_of prefix b (inner_at n q kids) = refl
 
+  -- and the leaves
   pub same_leaves : (prefix : List ℕ) (b : ℕ) (s : Shape K V) → leaves (behind_more prefix b s) ≡ leaves s
   same_leaves prefix b (leaf_at slot k v) = refl
   same_leaves prefix b (inner_at n q kids) = refl
@@ -49,6 +51,7 @@ module _ {K V : Type 0} where
     abbrev above_node : InnerNode
     above_node = record { header = record { num_children = length above; prefix_len = length prefix; stored = take P prefix }; children = above }
 
+    -- the cells are then those of the other child behind the longer prefix
     pub merge_cells : (s : Shape K V) → (path : List ℕ) → (bytes : K → List ℕ) → IsUnder bytes path s → Lengthens P old mid above_node b (name_of s) → (was : Cell K V) (xs ys : List (Name × Cell K V))
         → Holds (node_at old) (xs ++ ((place, was) ∷ (cells P s ++ ys))) → Holds (node_at new) (xs ++ (cells P (behind_more prefix b s) ++ ys))
     merge_cells (leaf_at slot k v) path bytes under lengthens was xs ys holds =
@@ -109,6 +112,7 @@ module _ {K V : Type 0} (bytes : K → List ℕ) where
       let same : ((path ++ prefix) ++ b ∷ []) ++ q ≡ path ++ (prefix ++ b ∷ q) = simp append_assoc in
       (under.0, subst (λ p. AreUnder bytes p 0 kids) same under.1)
 
+  -- of two in all, one is left
   pub one_left : (path : List ℕ) (before : Branches K V) (byte : ℕ) (n : Name) (after : Branches K V) → AreBelow byte before → AreUnder bytes path (byte + 1) after
       → width before + width after ≡ 1 → OneLeft before byte n after
   one_left path no_branch byte n no_branch below under one = absurd (omega (arith, one))
@@ -135,9 +139,11 @@ module _ {K V : Type 0} (bytes : K → List ℕ) where
         let listed = ap (cells_in P) one.is ∙ append-nil (cells P one.here) in
         subst (λ cs. Holds (node_at old) (cells_before P outer f.name ++ (frame_cell P f (leaf_name leaf.slot) ∷ (cs ++ (cells_after P outer ++ alone leaf))))) listed (set_apart P (node_at old) f outer leaf at.holds)
 
+    -- the arena has the other child there
     pub other_subtree : IsSubtree bytes P (node_at old) (name_of one.here) other_path one.here
     other_subtree = record { part = part_of P (node_at old) one.here (cells_before P outer f.name) (frame_cell P f (leaf_name leaf.slot)) (cells_after P outer ++ alone leaf) other_cells; under = other_under }
 
+    -- under another name than the node
     pub other_apart : name_of one.here ≢ f.name
     other_apart = root_apart P (node_at old) one.here (cells_before P outer f.name) f.name _ (cells_after P outer ++ alone leaf) other_cells
 

@@ -18,6 +18,7 @@ use Rattle.art_operations.proofs.Lengthened.{kind_not_leaf, others_kept}
 use Rattle.art_arena.specs.Cells.{Holds}
 
 module _ {K V : Type 0} where
+  -- a node has as many children as branches
   pub length-children : (f : Branches K V) → length (children_at f) ≡ width f
   length-children no_branch = refl
   length-children (branch b s rest) = ap suc (length-children rest)
@@ -41,6 +42,7 @@ module _ {K V : Type 0} (bytes : K → List ℕ) (P : ℕ) where
     abbrev pub above : InnerNode
     above = frame_node P f (leaf_name leaf.slot)
 
+    -- the arena has it there
     pub above_there : held_at arena f.name ≡ Some (inner_held above)
     above_there =
         inner_of (held_at arena f.name) above (frame-there P f outer (leaf_name leaf.slot) _ at.around.2 (node_at arena) (subst (Holds (node_at arena)) (cells-plug P (f ∷ outer) (leaf_at leaf.slot leaf.key leaf.value)) at.holds))
@@ -54,6 +56,7 @@ module _ {K V : Type 0} (bytes : K → List ℕ) (P : ℕ) where
         ap length (without_child-frame bytes f.byte (leaf_name leaf.slot) f.before (children_at f.after) at.around.2)
         ∙ omega (arith, length-append (children_at f.before) (children_at f.after), length-children f.before, length-children f.after)
 
+    -- and how many children in all
     pub all_length : above.header.num_children ≡ suc (width f.before + width f.after)
     all_length = omega (arith, length-append (children_at f.before) ((f.byte, leaf_name leaf.slot) ∷ children_at f.after), length-children f.before, length-children f.after)
 

@@ -8,6 +8,7 @@ module _ {A E : Type 0} where
   both_ok (Ok x) P Q R p q f = f x p q
   both_ok (Err e) P Q R p q f = tt
 
+  -- what a fact of a refusal tells
   pub from_err : (r : Result A E) (P Q : Type 0) → OnErr r P → (P → Q) → OnErr r Q
   from_err (Ok x) P Q p f = tt
   from_err (Err e) P Q p f = f p
@@ -17,7 +18,7 @@ module _ {A E : Type 0} where
   either_way (Ok x) P Q R S p q e f h = f x p q
   either_way (Err err) P Q R S p q e f h = h e
 
-  -- what holds anyway
+  -- what holds anyway holds of a refusal
   pub always_err : (r : Result A E) (P : Type 0) → P → OnErr r P
   always_err (Ok x) P p = tt
   always_err (Err e) P p = p

@@ -27,6 +27,7 @@ changes_kind Node256 n is can = (Node256, Node48, is, record { two = omega (arit
 changes_kind Leaf n is can = absurd can
 
 module _ {K V : Type 0} (bytes : K → List ℕ) (P : ℕ) (old : Arena K V) (parent : Name) (byte slot : ℕ) (there : IsChildLeaf bytes P old parent byte slot) where
+  -- the node above the leaf
   abbrev pub node : InnerNode
   node = above bytes P old there.frame there.outer there.leaf there.held
 
@@ -34,6 +35,7 @@ module _ {K V : Type 0} (bytes : K → List ℕ) (P : ℕ) (old : Arena K V) (pa
   abbrev pub others : ℕ
   others = width there.frame.before + width there.frame.after
 
+  -- the arena has it under the name, which is that of an inner node of its kind
   pub node_there : held_at old parent ≡ Some (inner_held node)
   node_there = ap (held_at old) (sym there.named) ∙ above_there bytes P old there.frame there.outer there.leaf there.held
 
@@ -43,12 +45,14 @@ module _ {K V : Type 0} (bytes : K → List ℕ) (P : ℕ) (old : Arena K V) (pa
   pub node_inner : parent.kind ≢ Leaf
   node_inner = kind_not_leaf parent (suc others) node_kind
 
+  -- its header counts the leaf and the others
   pub node_count : node.header.num_children ≡ suc others
   node_count = all_length bytes P old there.frame there.outer there.leaf there.held
 
   rest_length : length (without_child node.children byte) ≡ others
   rest_length = ap (λ b. length (without_child node.children b)) (sym there.under) ∙ others_length bytes P old there.frame there.outer there.leaf there.held
 
+  -- the leaf can be put back under the byte, and there is room for it
   pub puts_leaf_back : PutsBack node byte (leaf_name slot)
   puts_leaf_back =
       subst (λ b. PutsBack node b (leaf_name slot)) there.under
@@ -66,6 +70,7 @@ module _ {K V : Type 0} (bytes : K → List ℕ) (P : ℕ) (old : Arena K V) (pa
         let two = node_kind.two in
         subst (IsKindOf other.kind) rest_length (kind (subst (λ n. IsKindOf parent.kind (suc n)) (sym rest_length) node_kind) (omega (arith, rest_length, two, more)))
 
+    -- what is left of it stands for it
     pub taken_out : StandsFor bytes P new there.frame there.outer there.leaf other
     taken_out =
         taken bytes P old new there.frame there.outer there.leaf there.held other
@@ -73,28 +78,35 @@ module _ {K V : Type 0} (bytes : K → List ℕ) (P : ℕ) (old : Arena K V) (pa
         (subst (λ n. Moves old new n other (inner_held (with_children node (without_child node.children byte)))) (sym there.named) moves))
         other_kind
 
+    -- and no link has changed
     pub taken_links : (s : ℕ) → links_at new s ≡ links_at old s
     taken_links = moves_links old new parent other _ moves node_inner (kind_not_leaf other others other_kind)
 
+  -- where what is left may shrink, it has the fewest children of its kind
   pub limit_kind : CanShrink parent.kind (length (without_child node.children byte)) → ChangesKind (suc others)
   limit_kind can = changes_kind parent.kind others node_kind (subst (CanShrink parent.kind) rest_length can)
 
   -- where it was one of two children
   module _ (two : suc others ≡ 2) where
+    -- the other one
     pub one : OneLeft there.frame.before there.frame.byte (leaf_name there.leaf.slot) there.frame.after
     one = one_left bytes (path_to there.outer ++ there.frame.prefix) there.frame.before there.frame.byte (leaf_name there.leaf.slot) there.frame.after there.held.around.2 there.held.around.3 (omega (arith, two))
 
+    -- it is the only other child
     pub one_other : IsOther node.children byte (one.edge, name_of one.here)
     one_other = subst (λ b. IsOther node.children b (one.edge, name_of one.here)) there.under one.other
 
+    -- and stands behind more bytes than the prefix of the node
     pub shorter : node.header.prefix_len < length (other_path bytes P old there.frame there.outer there.leaf there.held one)
     shorter = omega (arith, length-append (path_to there.outer ++ there.frame.prefix) (one.edge ∷ []), length-append (path_to there.outer) there.frame.prefix)
 
     module _ (mid new : Arena K V) (lengthens : Lengthens P old mid node one.edge (name_of one.here)) (gone : UpdatesAt (held_at mid) (held_at new) parent None) where
+      -- behind the longer prefix it stands for the node
       pub merged_out : StandsFor bytes P new there.frame there.outer there.leaf (name_of one.here)
       merged_out =
           merged bytes P old there.frame there.outer there.leaf there.held one mid new lengthens (subst (λ n. UpdatesAt (held_at mid) (held_at new) n None) (sym there.named) gone)
 
+      -- and no link has changed
       pub merged_links : (s : ℕ) → links_at new s ≡ links_at old s
       merged_links s =
           links-kept mid new parent None gone node_inner s

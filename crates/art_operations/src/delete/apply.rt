@@ -18,9 +18,11 @@ use art_nodes::{LeafNode, OpaqueNodePtr};
 use std::alloc::AllocError;
 
 impl DeletePoint {
-    /// Takes its leaf out of the tree below a root, and answers it, with the root of what is left. It is refused
-    /// where the loss of a child makes a node smaller, so that it is stored anew, and there is no memory for that; the arena
-    /// is then as it was.
+    /// Takes its leaf out of the tree below this root, in which it was found, and answers the leaf, with the root of
+    /// what is left.
+    ///
+    /// It is refused only where the loss of the leaf makes a node one of the next smaller kind, and there is no memory
+    /// for that one. The arena is then as it was. A node that is left with one child takes no memory to go.
     pub fn apply<K: AsBytes, V, const PREFIX_LEN: usize>(
         self,
         arena: &mut NodeArena<K, V, PREFIX_LEN>,
