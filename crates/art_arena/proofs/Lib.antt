@@ -39,4 +39,5 @@ pub mod Surroundings
 pub mod Openings
 pub mod OtherChildren
 pub mod Arenas
+pub mod LeafTrios
 pub mod Examples
