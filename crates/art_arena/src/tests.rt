@@ -2,6 +2,7 @@
 //! line that tells the outcome, tests/refusals.py refuses each request in turn. Nodes are made and moved by generic
 //! functions alone.
 mod link_edits;
+mod two_leaves;
 
 use super::*;
 use art_bytes::AsBytes;

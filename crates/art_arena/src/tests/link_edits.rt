@@ -1,5 +1,5 @@
 //! Each edit of the linked list of leaves once, in a list of two leaves beside which a third stands.
-ghost use Rattle.std.specs.Prelude.{◌≡◌, List, [], ◌∷◌, None, IfOk};
+ghost use Rattle.std.specs.Prelude.{◌≡◌, List, [], ◌∷◌, None, IfSome};
 ghost use Rattle.art_arena.specs.Arena.{links_at, leaf_held, Allocates};
 ghost use Rattle.art_arena.specs.Cells.{leaf_name};
 ghost use Rattle.art_arena.specs.Shapes.{LeafAt};
@@ -8,19 +8,19 @@ ghost use Rattle.art_arena.specs.Linked.{AreLinked, IsBeside};
 use crate::links::{insert_after, insert_before, remove_self, replace};
 use crate::{LeafPtr, NodeArena};
 use art_nodes::LeafNode;
-use std::alloc::AllocError;
-use std::test::Fail;
 
 // Stores a leaf without neighbours.
 pub(super) fn lone_leaf<K: Drop, V: Drop>(
     arena: &mut NodeArena<K, V, 4>,
     entry: (K, V),
-) -> Result<LeafPtr, AllocError>
-    ensures { IfOk result (λ slot. Allocates arena.old arena.new (leaf_name slot) (leaf_held (record { key = entry.0; value = entry.1; previous = None; next = None }))) }
+) -> Option<LeafPtr>
+    ensures { IfSome result (λ slot. Allocates arena.old arena.new (leaf_name slot) (leaf_held (record { key = entry.0; value = entry.1; previous = None; next = None }))) }
 {
     let (key, value) = entry;
-    let leaf = arena.allocate_node_ptr(LeafNode::with_no_siblings(key, value))?;
-    Ok(leaf)
+    match arena.allocate_node_ptr(LeafNode::with_no_siblings(key, value)) {
+        Ok(leaf) => Some(leaf),
+        Err(_refused) => None,
+    }
 }
 
 // Three leaves: the first two are linked, and the third stands beside them.
@@ -35,15 +35,15 @@ struct Leaves {
 fn three_leaves<K: Drop, V: Drop>(
     arena: &mut NodeArena<K, V, 4>,
     entries: [(K, V); 3],
-) -> Result<Leaves, AllocError>
-    ensures { IfOk result (λ leaves. (x : LeafAt K V) × (y : LeafAt K V) × IsBeside (links_at arena.new) (x ∷ y ∷ []) leaves.third × (x.slot ≡ leaves.first) × (y.slot ≡ leaves.second)) }
+) -> Option<Leaves>
+    ensures { IfSome result (λ leaves. (x : LeafAt K V) × (y : LeafAt K V) × IsBeside (links_at arena.new) (x ∷ y ∷ []) leaves.third × (x.slot ≡ leaves.first) × (y.slot ≡ leaves.second)) }
 {
     let [a, b, c] = entries;
     let first = lone_leaf(arena, a)?;
     let second = lone_leaf(arena, b)?;
     let third = lone_leaf(arena, c)?;
     insert_after(arena, second, first);
-    Ok(Leaves {
+    Some(Leaves {
         first,
         second,
         third,
@@ -75,63 +75,53 @@ fn are_three<K, V>(arena: &NodeArena<K, V, 4>, leaves: [LeafPtr; 3]) -> bool
     ends && forth && back
 }
 
-fn inserts_before<K: Drop, V: Drop>(
-    rt: &HostRuntime,
-    entries: [(K, V); 3],
-) -> Result<bool, AllocError> {
+fn inserts_before<K: Drop, V: Drop>(rt: &HostRuntime, entries: [(K, V); 3]) -> Option<bool> {
     let mut arena: NodeArena<K, V, 4> = NodeArena::new(rt.alloc());
     let leaves = three_leaves(&mut arena, entries)?;
     insert_before(&mut arena, leaves.third, leaves.second);
-    Ok(are_three(&arena, [leaves.first, leaves.third, leaves.second]))
+    Some(are_three(&arena, [leaves.first, leaves.third, leaves.second]))
 }
 
-fn inserts_after<K: Drop, V: Drop>(
-    rt: &HostRuntime,
-    entries: [(K, V); 3],
-) -> Result<bool, AllocError> {
+fn inserts_after<K: Drop, V: Drop>(rt: &HostRuntime, entries: [(K, V); 3]) -> Option<bool> {
     let mut arena: NodeArena<K, V, 4> = NodeArena::new(rt.alloc());
     let leaves = three_leaves(&mut arena, entries)?;
     insert_after(&mut arena, leaves.third, leaves.second);
-    Ok(are_three(&arena, [leaves.first, leaves.second, leaves.third]))
+    Some(are_three(&arena, [leaves.first, leaves.second, leaves.third]))
 }
 
-fn replaces<K: Drop, V: Drop>(rt: &HostRuntime, entries: [(K, V); 3]) -> Result<bool, AllocError> {
+fn replaces<K: Drop, V: Drop>(rt: &HostRuntime, entries: [(K, V); 3]) -> Option<bool> {
     let mut arena: NodeArena<K, V, 4> = NodeArena::new(rt.alloc());
     let leaves = three_leaves(&mut arena, entries)?;
     replace(&mut arena, leaves.third, leaves.first);
-    Ok(are_two(&arena, leaves.third, leaves.second))
+    Some(are_two(&arena, leaves.third, leaves.second))
 }
 
-fn removes<K: Drop, V: Drop>(rt: &HostRuntime, entries: [(K, V); 3]) -> Result<bool, AllocError> {
+fn removes<K: Drop, V: Drop>(rt: &HostRuntime, entries: [(K, V); 3]) -> Option<bool> {
     let mut arena: NodeArena<K, V, 4> = NodeArena::new(rt.alloc());
     let leaves = three_leaves(&mut arena, entries)?;
     insert_after(&mut arena, leaves.third, leaves.second);
     remove_self(&mut arena, leaves.second);
-    Ok(are_two(&arena, leaves.first, leaves.third))
+    Some(are_two(&arena, leaves.first, leaves.third))
 }
 
 const ENTRIES: [(u8, u8); 3] = [(1, 10), (2, 20), (3, 30)];
 
 #[test]
-fn links_a_leaf_in_before_another(rt: HostRuntime) -> Result<(), Fail> {
-    assert!(rt; inserts_before(&rt, ENTRIES)?);
-    Ok(())
+fn links_a_leaf_in_before_another(rt: HostRuntime) {
+    assert!(rt; inserts_before(&rt, ENTRIES) == Some(true));
 }
 
 #[test]
-fn links_a_leaf_in_behind_another(rt: HostRuntime) -> Result<(), Fail> {
-    assert!(rt; inserts_after(&rt, ENTRIES)?);
-    Ok(())
+fn links_a_leaf_in_behind_another(rt: HostRuntime) {
+    assert!(rt; inserts_after(&rt, ENTRIES) == Some(true));
 }
 
 #[test]
-fn links_a_leaf_in_for_another(rt: HostRuntime) -> Result<(), Fail> {
-    assert!(rt; replaces(&rt, ENTRIES)?);
-    Ok(())
+fn links_a_leaf_in_for_another(rt: HostRuntime) {
+    assert!(rt; replaces(&rt, ENTRIES) == Some(true));
 }
 
 #[test]
-fn takes_a_leaf_out_of_the_middle(rt: HostRuntime) -> Result<(), Fail> {
-    assert!(rt; removes(&rt, ENTRIES)?);
-    Ok(())
+fn takes_a_leaf_out_of_the_middle(rt: HostRuntime) {
+    assert!(rt; removes(&rt, ENTRIES) == Some(true));
 }
