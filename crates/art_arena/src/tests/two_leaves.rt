@@ -159,3 +159,37 @@ fn reads_whole_prefixes(rt: HostRuntime) {
     assert!(rt; reads_prefix(&rt, b"abcd", (*b"abcdx", 1), (*b"abcdy", 2), false) == Some(true));
     assert!(rt; reads_prefix(&rt, b"abcde", (*b"abcdex", 1), (*b"abcdey", 2), true) == Some(true));
 }
+
+// A mismatch behind so many bytes.
+fn mismatch(matched_bytes: usize, order: Ordering) -> Result<PrefixMatch, ExplicitMismatch> {
+    Err(ExplicitMismatch {
+        matched_bytes,
+        node_prefix_comparison_to_search_key_segment: order,
+    })
+}
+
+#[test]
+fn matches_a_stored_prefix(rt: HostRuntime) {
+    let low = (*b"abx", 1);
+    let high = (*b"aby", 2);
+    let whole = Ok(PrefixMatch { matched_bytes: 2 });
+    assert!(rt; matched(&rt, b"ab", low, high, b"abq") == Some(whole));
+    assert!(rt; matched(&rt, b"ab", low, high, b"ac") == Some(mismatch(1, Ordering::Less)));
+    assert!(rt; matched(&rt, b"ab", low, high, b"aaq") == Some(mismatch(1, Ordering::Greater)));
+    assert!(rt; matched(&rt, b"ab", low, high, b"a") == Some(mismatch(1, Ordering::Greater)));
+}
+
+#[test]
+fn matches_a_prefix_that_is_not_stored_whole(rt: HostRuntime) {
+    let low = (*b"abcdefx", 1);
+    let high = (*b"abcdefy", 2);
+    let whole = Ok(PrefixMatch { matched_bytes: 6 });
+    assert!(rt; matched(&rt, b"abcdef", low, high, b"abcdefq") == Some(whole));
+    assert!(rt; matched(&rt, b"abcdef", low, high, b"abcdeg") == Some(mismatch(5, Ordering::Less)));
+    assert!(rt;
+        matched(&rt, b"abcdef", low, high, b"abcdeeq") == Some(mismatch(5, Ordering::Greater))
+    );
+    assert!(rt;
+        matched(&rt, b"abcdef", low, high, b"abcde") == Some(mismatch(5, Ordering::Greater))
+    );
+}
