@@ -78,20 +78,27 @@ fn has_both_ends<K: AsBytes + Drop, V: Drop>(
     Some(first == tree.low && last == tree.high)
 }
 
-// Which of the leaves of such a tree is found under a key: the first or the second, and in how many reads.
+// One of the two leaves.
+#[derive(Clone, Copy, PartialEq, Eq, Debug)]
+enum Side {
+    Low,
+    High,
+}
+
+// Which of the leaves of such a tree is found under a key, and in how many reads.
 fn found<K: AsBytes + Drop, V: Drop>(
     rt: &HostRuntime,
     prefix: &[u8],
     low: (K, V),
     high: (K, V),
     key: &[u8],
-) -> Option<(Option<usize>, u64)> {
+) -> Option<(Option<Side>, u64)> {
     let mut arena: NodeArena<K, V, 4> = NodeArena::new(rt.alloc());
     let tree = two_leaves(&mut arena, prefix, low, high)?;
     let mut reader = ArenaReader::new(&arena);
     let leaf = match find_leaf(&mut reader, tree.root, key) {
-        Some(found) if found.leaf_node_ptr == tree.low => Some(0),
-        Some(found) if found.leaf_node_ptr == tree.high => Some(1),
+        Some(found) if found.leaf_node_ptr == tree.low => Some(Side::Low),
+        Some(found) if found.leaf_node_ptr == tree.high => Some(Side::High),
         _ => None,
     };
     Some((leaf, reader.count()))
@@ -135,8 +142,8 @@ fn finds_the_ends_of_two_leaves(rt: HostRuntime) {
 fn finds_each_of_two_leaves(rt: HostRuntime) {
     let low = (*b"abx", 1);
     let high = (*b"aby", 2);
-    assert!(rt; found(&rt, b"ab", low, high, b"abx") == Some((Some(0), 2)));
-    assert!(rt; found(&rt, b"ab", low, high, b"aby") == Some((Some(1), 2)));
+    assert!(rt; found(&rt, b"ab", low, high, b"abx") == Some((Some(Side::Low), 2)));
+    assert!(rt; found(&rt, b"ab", low, high, b"aby") == Some((Some(Side::High), 2)));
     assert!(rt; found(&rt, b"ab", low, high, b"cdx") == Some((None, 2)));
     assert!(rt; found(&rt, b"ab", low, high, b"abz") == Some((None, 1)));
     assert!(rt; found(&rt, b"ab", low, high, b"ab") == Some((None, 1)));
@@ -146,8 +153,8 @@ fn finds_each_of_two_leaves(rt: HostRuntime) {
 fn finds_below_a_prefix_that_is_not_stored_whole(rt: HostRuntime) {
     let low = (*b"abcdefx", 1);
     let high = (*b"abcdefy", 2);
-    assert!(rt; found(&rt, b"abcdef", low, high, b"abcdefx") == Some((Some(0), 2)));
-    assert!(rt; found(&rt, b"abcdef", low, high, b"abcdefy") == Some((Some(1), 2)));
+    assert!(rt; found(&rt, b"abcdef", low, high, b"abcdefx") == Some((Some(Side::Low), 2)));
+    assert!(rt; found(&rt, b"abcdef", low, high, b"abcdefy") == Some((Some(Side::High), 2)));
     assert!(rt; found(&rt, b"abcdef", low, high, b"abcdeey") == Some((None, 2)));
     assert!(rt; found(&rt, b"abcdef", low, high, b"abcdefz") == Some((None, 1)));
     assert!(rt; found(&rt, b"abcdef", low, high, b"abcde") == Some((None, 1)));
