@@ -1,6 +1,9 @@
 //! Public calls once, at concrete types, and want of memory: between a line `refuse` on the standard error and the
 //! line that tells the outcome, tests/refusals.py refuses each request in turn. Nodes are made and moved by generic
 //! functions alone.
+mod link_edits;
+mod two_leaves;
+
 use super::*;
 use art_bytes::AsBytes;
 use art_nodes::{
