@@ -14,7 +14,7 @@ use Rattle.art_arena.specs.Steps.{Step}
 use Rattle.art_arena.specs.TreeOf.{tree_of}
 use Rattle.art_arena.proofs.CellLists.{Holds-add, Holds-same}
 use Rattle.art_arena.proofs.Erased.{shape_means}
-use Rattle.art_arena.proofs.Meanings.{nodes-subtree}
+use Rattle.art_arena.proofs.Meanings.{nodes-subtree, all-subtree}
 use Rattle.art_arena.proofs.Paths.{in_map}
 use Rattle.art_arena.proofs.Exists.{in_middle}
 use Rattle.art_arena.proofs.Updates.{nodes-update, links-update, nodes-same, links-same}
@@ -38,17 +38,17 @@ module _ {K V : Type 0} (bytes : K → List ℕ) (P : ℕ) where
   linked-same old new same before [] after linked = tt
   linked-same old new same before (l ∷ ls) after linked = (same l.slot ∙ linked.0, linked-same old new same (Some l.slot) ls after linked.1)
 
-  -- an arena with the same nodes has the same pairs
+  -- an arena with the same nodes has the same tree
+  pub tree-same : (old new : Arena K V) → SameNodes old new → (root : Name) (s : Shape K V) → IsTree bytes P (node_at old) root (links_at old) s → IsTree bytes P (node_at new) root (links_at new) s
+  tree-same old new same root s tree = record {
+    nodes = record { named = tree.nodes.named; holds = Holds-same (node_at old) (node_at new) (nodes-same old new same) (cells P s) tree.nodes.holds; under = tree.nodes.under };
+    linked = linked-same (links_at old) (links_at new) (links-same old new same) None (leaves s) None tree.linked;
+  }
+
+  -- and the same pairs
   pub pairs-same : (old new : Arena K V) → SameNodes old new → (root : Option Name) (pairs : List (K × V)) → HasPairs bytes P old root pairs → HasPairs bytes P new root pairs
   pairs-same old new same None pairs (none, empty) = (none, λ n. nodes-same old new same n ∙ empty n)
-  pairs-same old new same (Some root) pairs (s, tree, e) = (
-    s,
-    record {
-      nodes = record { named = tree.nodes.named; holds = Holds-same (node_at old) (node_at new) (nodes-same old new same) (cells P s) tree.nodes.holds; under = tree.nodes.under };
-      linked = linked-same (links_at old) (links_at new) (links-same old new same) None (leaves s) None tree.linked;
-    },
-    e,
-  )
+  pairs-same old new same (Some root) pairs (s, tree, e) = (s, tree-same old new same root s tree, e)
 
   -- the pairs of these leaves
   pub leaves-pairs : (arena : Arena K V) (root : Option Name) (ls : List (LeafAt K V)) (pairs : List (K × V)) → pairs_of ls ≡ pairs → HasLeaves bytes P arena root ls → HasPairs bytes P arena root pairs
@@ -61,6 +61,12 @@ module _ {K V : Type 0} (bytes : K → List ℕ) (P : ℕ) where
   pairs-tree arena (Some root) pairs (s, tree, e) =
       let m = shape_means K V bytes P (node_at arena) root (links_at arena) s tree in
       (m.0, ap (tree_of (key_of bytes)) (sym e) ∙ m.1, m.2)
+
+  -- a root names a tree
+  pub root-tree : (arena : Arena K V) (root : Option Name) (top : Name) (pairs : List (K × V)) → root ≡ Some top → HoldsTreeOf bytes P arena root pairs → (s : Shape K V) × IsSubtree bytes P (node_at arena) top [] s
+  root-tree arena root top pairs is holds =
+      let tree : HoldsTreeOf bytes P arena (Some top) pairs = subst (λ r. HoldsTreeOf bytes P arena r pairs) is holds in
+      (tree.2.shape, all-subtree bytes P (node_at arena) top (links_at arena) tree.0 tree.2)
 
   -- the first leaf is a tree
   pub first-leaf : (old new : Arena K V) (slot : ℕ) (leaf : LeafNode K V) → ((n : Name) → node_at old n ≡ None) → Allocates old new (leaf_name slot) (leaf_held leaf) → leaf.previous ≡ None → leaf.next ≡ None

@@ -74,4 +74,5 @@ fn compares_leaf_keys(rt: HostRuntime) {
     assert!(rt; !PrefixMatchBehavior::Optimistic.leaf_key_is_prefix(&leaf, &[9, 2, 3, 4], 1));
 }
 
+mod commands;
 mod refused;
