@@ -1,14 +1,14 @@
 -- An arena that has pairs, before and after a command.
-use Rattle.std.proofs.Common.{◌≡◌, ℕ, ◌+◌, cond, List, [], ◌∷◌, ◌++◌, length, Option, Some, None, IsSome, is_some, refl, sym, ap, subst, ◌∙◌}
+use Rattle.std.proofs.Common.{◌≡◌, ℕ, cond, List, [], ◌∷◌, ◌++◌, length, Option, Some, None, is_some, refl, sym, ap, subst, ◌∙◌}
 use Rattle.art_nodes.specs.Name.{Name}
 use Rattle.art_nodes.specs.declared.leaf.LeafNode.{LeafNode}
-use Rattle.art_arena.specs.Arena.{Arena, leaf_held, held_at, node_at, links_at, links_of, cell_of, Allocates, SameNodes}
-use Rattle.art_arena.specs.Cells.{Cell, leaf_name, AreHeld, Holds}
+use Rattle.art_arena.specs.Arena.{Arena, leaf_held, node_at, links_at, Allocates, SameNodes}
+use Rattle.art_arena.specs.Cells.{leaf_name, Holds}
 use Rattle.art_arena.specs.Linked.{Links, AreLinked}
 use Rattle.art_arena.specs.Changes.{IsIn}
 use Rattle.art_arena.specs.Found.{found_in, IsAtKey}
 use Rattle.art_arena.specs.Meaning.{IsTree, IsSubtree}
-use Rattle.art_arena.specs.Shapes.{Shape, leaf_at, LeafAt, name_of, leaves, pairs_of, key_of, cells}
+use Rattle.art_arena.specs.Shapes.{Shape, leaf_at, LeafAt, leaves, pairs_of, key_of, cells}
 use Rattle.art_arena.specs.Shrinks.{Shrinks}
 use Rattle.art_arena.specs.Steps.{Step}
 use Rattle.art_arena.specs.TreeOf.{tree_of}
@@ -20,7 +20,7 @@ use Rattle.art_arena.proofs.Exists.{in_middle}
 use Rattle.art_arena.proofs.Updates.{nodes-update, links-update, nodes-same, links-same}
 use Rattle.art_operations.specs.DeletePoints.{IsLeafPlace}
 use Rattle.art_operations.specs.Deletions.{HasLeaves, IsDeleted}
-use Rattle.art_operations.specs.Insertions.{IsStored, IsInserted}
+use Rattle.art_operations.specs.Insertions.{IsInserted}
 use Rattle.art_operations.specs.Points.{IsPoint, HasConflict}
 use Rattle.art_operations.specs.declared.delete.result.DeleteResult.{DeleteResult}
 use Rattle.art_operations.specs.declared.insert.point.InsertPoint.{InsertPoint}
@@ -28,7 +28,6 @@ use Rattle.art_operations.specs.declared.insert.result.InsertResult.{InsertResul
 use Rattle.art_operations.specs.Commands.{IsAnswered, IsBlocked}
 use Rattle.art_operations.specs.Runs.{HasPairs, HoldsTreeOf, IsDone, CanInsert}
 use Rattle.art_operations.specs.declared.running.Answer.TheVariants.{Done, Memory}
-use Rattle.art_operations.specs.declared.running.Change.{Change}
 use Rattle.art_operations.specs.declared.running.Command.TheVariants.{Insert, Delete}
 use Rattle.art_operations.proofs.KeyedLists.{nothing_taken}
 use Rattle.art_operations.proofs.Pairs.{pair_of, pairs_ascend, blocked_pair, none_found, stored_pair, taken_pair, shrinks-map, same_leaf, found_leaf}

@@ -1,32 +1,30 @@
 -- From the leaves of a tree to its pairs: what an insertion and a deletion make of them.
-use Rattle.std.proofs.Common.{◌≡◌, ◌≢◌, ℕ, suc, ◌≤◌, List, [], ◌∷◌, ◌++◌, length, take, filter, map, nat_eq, bytes_eq, cond, Option, Some, None, is_some, refl, sym, ap, ap₂, subst, ◌∙◌, inl, inr, arith}
-use Rattle.std.specs.List.{filter_map, cons_option}
+use Rattle.std.proofs.Common.{◌≡◌, ◌≢◌, ℕ, ◌≤◌, List, [], ◌∷◌, ◌++◌, length, take, map, nat_eq, cond, Option, Some, None, is_some, refl, sym, ap, subst, ◌∙◌, inl, inr}
+use Rattle.std.specs.List.{cons_option}
 use Rattle.std.proofs.lemmas.List.{map-append}
 use Rattle.art_nodes.specs.Name.{Name}
 use Rattle.art_nodes.specs.declared.leaf.LeafNode.{LeafNode}
 use Rattle.art_arena.specs.Order.{IsAscending, common}
 use Rattle.art_arena.specs.Changes.{IsIn, IsPutIn}
 use Rattle.art_arena.specs.Cells.{Cell, pair, leaf_name, AreHeld}
-use Rattle.art_arena.specs.Context.{Frame, plug, leaves_before, leaves_after}
+use Rattle.art_arena.specs.Context.{leaves_before, leaves_after}
 use Rattle.art_arena.specs.Fronts.{byte_after, bytes_after, distinct, width_of}
 use Rattle.art_arena.specs.Found.{found_in, IsAtKey}
 use Rattle.art_arena.specs.Kinds.{IsLimit}
 use Rattle.art_arena.specs.Steps.{Step}
 use Rattle.art_arena.specs.Found as found
-use Rattle.art_arena.specs.Places.{IsPlace}
 use Rattle.art_arena.specs.Shapes.{Shape, Branches, leaf_at, inner_at, no_branch, branch, LeafAt, leaves, leaves_in, pairs_of, erase, cells, cells_in, IsUnder, key_of}
-use Rattle.art_arena.specs.Shrinks.{IsMeeting, Shrinks}
+use Rattle.art_arena.specs.Shrinks.{Shrinks}
 use Rattle.art_arena.proofs.Order.{all_left, all_right}
 use Rattle.art_arena.proofs.Canonical.{ascending}
 use Rattle.art_arena.proofs.Erased.{items-erase, canonical-erase}
 use Rattle.art_arena.proofs.Finding.{pairs-with_key, pair_at}
-use Rattle.art_arena.proofs.Insert.{in_left, in_right}
+use Rattle.art_arena.proofs.Insert.{in_right}
 use Rattle.art_arena.proofs.Contexts.{leaves-plug}
 use Rattle.art_arena.proofs.Paths.{in_cases, in_map}
 use Rattle.art_operations.specs.Insertions.{IsReplaced, IsStored}
 use Rattle.art_operations.specs.Points.{HasConflict}
 use Rattle.art_operations.specs.Commands.{with_key, IsBlocked}
-use Rattle.art_operations.specs.Commands as command
 use Rattle.art_operations.proofs.KeyedLists.{IsPut, IsTaken, put_new, put_replaced, taken}
 
 -- the pair of a leaf

@@ -24,6 +24,7 @@ use Rattle.art_arena.proofs.Updates.{nodes-update, links-kept}
 use Rattle.art_operations.specs.Growth.{AwaitsLeaf}
 use Rattle.art_operations.proofs.Inserted.{AreLinked-same}
 use Rattle.art_operations.proofs.NewLeaves.{first_of, last_of}
+use Rattle.art_operations.proofs.Parents.{length-children}
 
 -- appended lists, grouped in another way
 regroup_behind : {X : Type 0} (xs bs ts rs cs : List X) (n l : X) → xs ++ (n ∷ (bs ++ (l ∷ ((ts ++ rs) ++ cs)))) ≡ (xs ++ (n ∷ (bs ++ (l ∷ [])))) ++ (ts ++ (rs ++ cs))
@@ -40,10 +41,6 @@ module _ {K V : Type 0} where
       none : (o : Option (LeafNode K V)) → as_leaf o ≡ Some (inner_held node) → ⊥
       none None h = cc
       none (Some leaf) h = cc
-
-  length-children : (kids : Branches K V) → length (children_at kids) ≡ width kids
-  length-children no_branch = refl
-  length-children (branch b s rest) = ap suc (length-children rest)
 
   join-none : (kids : Branches K V) → join kids no_branch ≡ kids
   join-none no_branch = refl

@@ -1,4 +1,4 @@
-use Rattle.std.proofs.Common.{◌≡◌, ◌+◌, ◌<◌, ◌∙◌, [], ◌∷◌, ◌++◌, take, length, ap, sym, subst, rules, arith, vec_len, vec_capacity}
+use Rattle.std.proofs.Common.{◌≡◌, ◌+◌, ◌∙◌, [], ◌∷◌, ◌++◌, take, ap, sym, subst, rules, arith}
 use Rattle.std.proofs.lemmas.List.{take_more, take_all}
 use Rattle.art_operations.specs.Commands.{pairs_after}
 use Rattle.art_operations.specs.Runs.{HoldsClonesOf}

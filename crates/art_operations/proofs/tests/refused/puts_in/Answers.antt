@@ -1,4 +1,3 @@
-use Rattle.std.proofs.Common.{sym}
 use Rattle.art_operations.proofs.HeldPairs.{tree-same}
 use Rattle.art_operations.proofs.tests.refused.puts_in.Goals as goal
 
