@@ -197,6 +197,12 @@ fn stores_an_inner_node_of_each_kind(rt: HostRuntime) -> Result<(), Fail> {
 }
 
 #[test]
+fn inner_nodes_fit_in_memory(rt: HostRuntime) {
+    let arena: Arena = NodeArena::new(rt.alloc());
+    assert!(rt; arena.fits_in_memory());
+}
+
+#[test]
 fn makes_room(rt: HostRuntime) -> Result<(), Fail> {
     let mut arena: Arena = NodeArena::new(rt.alloc());
     eprintln!(rt; "refuse")?;

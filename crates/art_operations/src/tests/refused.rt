@@ -242,12 +242,22 @@ fn deletes<K: CloneBytes + Drop, V: Clone + Drop>(
     takes_out(rt, &mut tree.0, tree.1, bytes)
 }
 
-// The keys of two bytes with a front in common, from the first on, so many of them.
+// Puts in keys of two bytes with this one in front, so many of them.
+fn add_children(
+    commands: &mut Vec<Command<[u8; 2], u8>>,
+    front: u8,
+    count: u8,
+) -> Result<(), AllocError> {
+    for byte in 0..count {
+        commands.push(Command::Insert([front, byte], byte))?;
+    }
+    Ok(())
+}
+
+// The commands that make an inner node of so many children.
 fn children(alloc: Global, count: u8) -> Result<Vec<Command<[u8; 2], u8>>, AllocError> {
     let mut commands = Vec::new(alloc);
-    for byte in 0..count {
-        commands.push(Command::Insert([9u8, byte], byte))?;
-    }
+    add_children(&mut commands, 9, count)?;
     Ok(commands)
 }
 
@@ -260,8 +270,11 @@ fn splits_a_leaf(rt: HostRuntime) -> Result<(), Fail> {
 
 #[test]
 fn splits_a_prefix(rt: HostRuntime) -> Result<(), Fail> {
-    let commands = children(rt.alloc(), 2)?;
-    assert!(rt; inserts(&rt, commands.as_slice(), [8, 7], 7, &[8, 7])?);
+    // At some of these numbers there is no room left for a leaf.
+    for count in 2..=8u8 {
+        let commands = children(rt.alloc(), count)?;
+        assert!(rt; inserts(&rt, commands.as_slice(), [8, 7], 7, &[8, 7])?);
+    }
     Ok(())
 }
 
@@ -274,11 +287,22 @@ fn grows_a_full_node(rt: HostRuntime) -> Result<(), Fail> {
     Ok(())
 }
 
+// Takes a child out of a node, beside so many nodes of so many children each.
+fn shrinks_beside(rt: &HostRuntime, count: u8, others: u8, of_children: u8) -> Result<bool, Fail> {
+    let mut commands = children(rt.alloc(), count)?;
+    for front in 0..others {
+        add_children(&mut commands, front, of_children)?;
+    }
+    deletes(rt, commands.as_slice(), &[9, 3])
+}
+
 #[test]
 fn shrinks_a_node(rt: HostRuntime) -> Result<(), Fail> {
-    for count in [5u8, 17, 49] {
-        let commands = children(rt.alloc(), count)?;
-        assert!(rt; deletes(&rt, commands.as_slice(), &[9, 3])?);
+    // Beside some numbers of nodes of the smaller kind there is no room left for one.
+    for others in 0..8u8 {
+        assert!(rt; shrinks_beside(&rt, 5, others, 2)?);
+        assert!(rt; shrinks_beside(&rt, 17, others, 5)?);
+        assert!(rt; shrinks_beside(&rt, 49, others, 17)?);
     }
     Ok(())
 }
@@ -296,5 +320,28 @@ fn a_deletion_that_does_not_shrink_takes_no_memory(rt: HostRuntime) -> Result<()
 fn replacing_a_pair_takes_no_memory(rt: HostRuntime) -> Result<(), Fail> {
     let commands = children(rt.alloc(), 3)?;
     assert!(rt; inserts(&rt, commands.as_slice(), [9, 1], 7, &[9, 1])?);
+    Ok(())
+}
+
+// Whether all of these insertions of new keys are done.
+fn all_done<K: CloneBytes, V: Clone>(alloc: Global, commands: &[Command<K, V>]) -> bool {
+    let ran: RunResult<K, V, 4> = match run(alloc, commands) {
+        Ok(ran) => ran,
+        Err(_) => return false,
+    };
+    for answer in ran.answers.as_slice() {
+        if *answer != Answer::Done(0) {
+            return false;
+        }
+    }
+    ran.answers.len() == commands.len()
+}
+
+#[test]
+fn runs_commands(rt: HostRuntime) -> Result<(), Fail> {
+    let commands = children(rt.alloc(), 6)?;
+    eprintln!(rt; "refuse")?;
+    came(&rt, all_done(rt.alloc(), commands.as_slice()))?;
+    assert!(rt; all_done(rt.alloc(), commands.as_slice()));
     Ok(())
 }
