@@ -116,8 +116,8 @@ def resolve(token, names, aliases):
 
 
 def words_in(text):
-    """The words of a text that may be names; an operator is named with its places, ◌."""
-    words = [it for it in NOT_A_NAME.split(text) if it]
+    """The words of a text that may be names; an operator is named with its places, ◌, and `do` stands for >>=."""
+    words = [">>=" if it == "do" else it for it in NOT_A_NAME.split(text) if it]
     return words + [f"◌{it}◌" for it in words]
 
 

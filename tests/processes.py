@@ -1,0 +1,121 @@
+"""The processes of one run: those that have its mark in their environment, and all that these start. Linux's /proc is read.
+
+A run has a folder of its own for what is made meanwhile, where TMPDIR points: it goes when the run ends, however it ends.
+"""
+import os
+import shutil
+import signal
+import sys
+import tempfile
+import time
+
+MARK = "ART_RUN"
+TICKS = os.sysconf("SC_CLK_TCK")
+
+
+def begin():
+    """Marks this process' children as a run's, unless they are one's already. Returns the run's folder if it was made here."""
+    if MARK in os.environ:
+        return None
+    room = tempfile.mkdtemp(prefix="art-run-")
+    os.chmod(room, 0o711)  # (rt runs what it built as nobody)
+    os.environ[MARK], os.environ["TMPDIR"], tempfile.tempdir = room, room, room
+    return room
+
+
+def read(pid, name):
+    with open(f"/proc/{pid}/{name}", "rb") as file:
+        return file.read()
+
+
+class Process:
+    """What /proc says of a process: times in seconds, its own and those of its children that it has waited for."""
+
+    def __init__(self, pid):
+        fields = read(pid, "stat").rpartition(b")")[2].split()
+        self.pid, self.parent, self.state, self.start = int(pid), int(fields[1]), fields[0], fields[19]
+        self.own, self.waited = (sum(map(int, fields[at : at + 2])) / TICKS for at in (11, 13))
+
+    def text(self, name):
+        try:
+            return os.readlink(f"/proc/{self.pid}/cwd") if name == "cwd" else read(self.pid, name).decode(errors="replace")
+        except OSError:
+            return ""
+
+
+def of_run():
+    """Returns the run's processes by number, without this one and those that it stands under."""
+    mark, every, found = f"{MARK}={os.environ[MARK]}", {}, {}
+    for pid in filter(str.isdigit, os.listdir("/proc")):
+        try:
+            every[int(pid)] = Process(pid)
+        except OSError:
+            continue
+    above, at = set(), os.getpid()
+    while at in every:
+        above.add(at)
+        at = every[at].parent
+    for pid, it in every.items():
+        if pid not in above and it.state != b"Z" and mark in it.text("environ").split("\0"):
+            found[pid] = it
+    # (what a program was given a new environment still stands under one that is marked)
+    changed = True
+    while changed:
+        more = {p: it for p, it in every.items() if p not in found and p not in above and it.state != b"Z"}
+        more = {p: it for p, it in more.items() if it.parent in found or it.parent == os.getpid()}
+        found.update(more)
+        changed = bool(more)
+    return found
+
+
+def end_all(seconds=10):
+    """Ends all processes of the run at once. They are stopped first, so that none starts another meanwhile."""
+    until, found = time.monotonic() + seconds, {}
+    while time.monotonic() < until:
+        more = {pid: it.start for pid, it in of_run().items() if found.get(pid) != it.start}
+        for pid in more:
+            send(pid, signal.SIGSTOP)
+        found.update(more)
+        if not more:
+            break
+    for pid, start in found.items():
+        try:
+            if Process(pid).start == start:
+                send(pid, signal.SIGKILL)
+        except OSError:
+            pass
+
+
+def send(pid, number):
+    try:
+        os.kill(pid, number)
+    except OSError:
+        pass
+
+
+def put_back(room):
+    """Gives the crates back what rt ci had set aside of theirs, where it was ended in a worktree (elsewhere rt does it itself)."""
+    for aside in [it for it in os.listdir(room) if it.startswith("rt-aside-")]:
+        for name in os.listdir(f"{room}/{aside}"):
+            for part in os.listdir(f"{room}/{aside}/{name}"):
+                to = f"crates/{name}/out/{part}"
+                if part in ("incremental", "rlib") and os.path.isdir(f"crates/{name}") and not os.path.exists(to):
+                    os.makedirs(os.path.dirname(to), exist_ok=True)
+                    shutil.move(f"{room}/{aside}/{name}/{part}", to)
+
+
+def end_by_signals(room):
+    """On Ctrl-C, or where it is asked to end, the run ends at once, all of it, with status 130."""
+
+    def end(*_):
+        for number in (signal.SIGINT, signal.SIGTERM, signal.SIGHUP):
+            signal.signal(number, signal.SIG_IGN)
+        print(f"{os.path.basename(sys.argv[0])}: ended before its end", file=sys.stderr, flush=True)
+        end_all()
+        if room:
+            put_back(room)
+            shutil.rmtree(room, ignore_errors=True)
+        os._exit(130)
+
+    for number in (signal.SIGINT, signal.SIGTERM, signal.SIGHUP):
+        signal.signal(number, end)
