@@ -79,11 +79,18 @@ def end_all(seconds=10):
         if not more:
             break
     for pid, start in found.items():
-        try:
-            if Process(pid).start == start:
-                send(pid, signal.SIGKILL)
-        except OSError:
-            pass
+        if lives(pid, start):
+            send(pid, signal.SIGKILL)
+    while time.monotonic() < until and any(lives(*it) for it in found.items()):
+        time.sleep(0.01)
+
+
+def lives(pid, start):
+    try:
+        it = Process(pid)
+    except OSError:
+        return False
+    return it.start == start and it.state != b"Z"
 
 
 def send(pid, number):
@@ -94,14 +101,14 @@ def send(pid, number):
 
 
 def put_back(room):
-    """Gives the crates back what rt ci had set aside of theirs, where it was ended in a worktree (elsewhere rt does it itself)."""
-    for aside in [it for it in os.listdir(room) if it.startswith("rt-aside-")]:
-        for name in os.listdir(f"{room}/{aside}"):
-            for part in os.listdir(f"{room}/{aside}/{name}"):
+    """Gives the crates back what rt ci had set aside of theirs while it proved from nothing, where it was ended."""
+    for aside in [".git/rt-aside", *(f"{room}/{it}" for it in os.listdir(room) if it.startswith("rt-aside-"))]:
+        for name in os.listdir(aside) if os.path.isdir(aside) else ():
+            for part in ("incremental", "rlib"):
                 to = f"crates/{name}/out/{part}"
-                if part in ("incremental", "rlib") and os.path.isdir(f"crates/{name}") and not os.path.exists(to):
+                if os.path.isdir(f"{aside}/{name}/{part}") and os.path.isdir(f"crates/{name}") and not os.path.exists(to):
                     os.makedirs(os.path.dirname(to), exist_ok=True)
-                    shutil.move(f"{room}/{aside}/{name}/{part}", to)
+                    shutil.move(f"{aside}/{name}/{part}", to)
 
 
 def end_by_signals(room):
