@@ -290,7 +290,7 @@ def row_of(name, parts, files, apart):
 
 def main():
     listing = sys.argv[2] if len(sys.argv) == 3 and sys.argv[1] == "--list" else None
-    limits, passed, failed, faces, laws, seen = budgets(), 0, 0, set(), set(), set()
+    limits, passed, faults, faces, laws, seen = budgets(), 0, [], set(), set(), set()
     print("| What | Lines to believe | Words | Lines of definitions, with those below | Lines of clauses |\n|---|---:|---:|---:|---:|")
     for name, parts, files in rows():
         is_face, is_law = name.endswith("face"), name.endswith("laws")
@@ -304,14 +304,13 @@ def main():
         if limits is not None and not is_law:
             seen.add(name)
             is_kept = lines <= limits.get(name, -1)
-            passed, failed = passed + is_kept, failed + (not is_kept)
+            passed += is_kept
             if not is_kept:
-                print(f"FAILED: {name}: {lines} lines, and {PAGE} allows {limits.get(name, 'none: it lacks the row')}")
-    for name in sorted({*(limits or ())} - seen):
-        failed += 1
-        print(f"FAILED: {PAGE} has a budget for {name}, which is no row here")
-    print(f"{passed if limits is not None else 1} passed, {failed} failed")
-    sys.exit(failed > 0)
+                faults.append(f"{name}: {lines} lines, and {PAGE} allows {limits.get(name, 'none: it lacks the row')}")
+    faults += [f"{PAGE} has a budget for {name}, which is no row here" for name in sorted({*(limits or ())} - seen)]
+    print("".join(f"FAILED: {it}\n" for it in faults), end="")
+    print(f"{passed if limits is not None else 1} passed, {len(faults)} failed")
+    sys.exit(bool(faults))
 
 
 CRATES = [it for it in re.findall(r"(?m)^(\w+)[^#\n]*:", open("crates.txt").read())]

@@ -177,6 +177,7 @@ def main():
             state.take(line)
     ended.set()
     looker.join()
+    state.tell_state(state.see({}))
     times = os.times()
     os.makedirs("out", exist_ok=True)
     with open("out/gate.md", "w", encoding="utf-8") as file:

@@ -116,7 +116,7 @@ def count(kind, name, call, *given):
 
 def of_tests():
     for program in sorted(glob("crates/*/out/*_tests")):
-        listed = subprocess.run([program, "--list"], capture_output=True, text=True, check=True).stdout.splitlines()
+        listed = subprocess.run([program, "--list"], capture_output=True, text=True, check=True, timeout=60).stdout.splitlines()
         for test in [it.removesuffix(": test") for it in listed if it.endswith(": test")]:
             free = subprocess.run([program, test], capture_output=True, timeout=60)
             if free.returncode:
