@@ -1,11 +1,12 @@
 #!/usr/bin/env python3
-"""gate.py COMMAND..: runs the gate, passes on what it prints, tells how far it is, and writes to out/gate.md what it cost.
+"""gate.py COMMAND..: runs the gate, passes on what it prints, tells how far it is, and writes its cost to out/gate.md.
 
     tests/gate.py rt ci      at the top of the repository
-On standard error stands a line at each change of state, and one a minute at least. The table has for each crate seconds of
-processor time: of its proof, of its tests (their proof, and the runs of tests and programs) and of its must-fail edits;
-and the memory held at most (PSS, in which shared memory counts once). Only this run's processes are counted, four times a second.
-'All' is what the system counted of the whole run; what stands in no crate's row is rt itself and the ends of processes.
+On standard error stands a line at each change of state, and one a minute at least. The table has for each crate
+seconds of processor time: of its proof, of its tests (their proof, and the runs of tests and programs) and of its
+must-fail edits; and the memory held at most (PSS, in which shared memory counts once). Only this run's processes are
+looked at, four times a second, and each second for memory. The row 'all' is what the system counted of the whole run;
+what stands in no crate's row is rt itself, and what processes used behind the last look at them.
 """
 import glob
 import os
@@ -66,10 +67,12 @@ class State:
         for room, crate in rooms.items():
             self.rooms.setdefault(crate, {})[room] = True
         # (behind the edits of a crate, rt tries the crate itself in such a folder)
-        return {it: min(len([at for at in all_of if at not in rooms]), self.edits.get(it, 0)) for it, all_of in self.rooms.items()}
+        ended = {it: sum(at not in rooms for at in of) for it, of in self.rooms.items()}
+        return {it: min(number, self.edits.get(it, 0)) for it, number in ended.items()}
 
     def line(self, tried):
-        parts = [f"proved {len(self.proved)} of {len(self.crates)} crates", f"tests {len(self.tested)} of {len(self.with_tests)}"]
+        parts = [f"proved {len(self.proved)} of {len(self.crates)} crates"]
+        parts.append(f"tests {len(self.tested)} of {len(self.with_tests)}")
         if not self.results:
             parts += [f"edits of {it} {tried.get(it, 0)} of {number}" for it, number in self.edits.items()]
         elif self.edits:
@@ -147,14 +150,14 @@ class Cost:
             memory = max(self.peak.get((crate, it), 0) for it in KINDS) / 2**30
             counts = [self.state.counts.get(crate, self.state.tests_of(crate)), self.state.edits.get(crate, 0)]
             numbers = [a + b for a, b in zip(numbers, counts)]
-            yield f"| {crate} | {' | '.join(f'{it:.0f}' for it in [*row, sum(row)])} | {memory:.1f} | {counts[0]} | {counts[1]} |"
+            seconds = " | ".join(f"{it:.0f}" for it in [*row, sum(row)])
+            yield f"| {crate} | {seconds} | {memory:.1f} | {counts[0]} | {counts[1]} |"
         yield f"| in no row above | | | | {processor - sum(sums.values()):.0f} | | | |"
         whole = " | ".join(f"{sums[it]:.0f}" for it in KINDS)
         yield f"| all | {whole} | {processor:.0f} | {self.most / 2**30:.1f} | {numbers[0]} | {numbers[1]} |"
         yield ""
-        commit = subprocess.run(["git", "describe", "--always", "--dirty"], capture_output=True, text=True).stdout.strip()
-        cores = len(os.sched_getaffinity(0))
-        yield f"{time.strftime('%Y-%m-%d')}, commit {commit}, {cores} processors: {wall / 60:.1f} minutes of wall time, {processor / 60:.1f} of processor time."
+        times = f"{wall / 60:.1f} minutes of wall time, {processor / 60:.1f} of processor time"
+        yield f"{processes.when_and_where()}, {len(os.sched_getaffinity(0))} processors: {times}."
 
 
 def main():
@@ -169,8 +172,8 @@ def main():
 
     looker = threading.Thread(target=keep_looking, daemon=True)
     looker.start()
-    how = {"stdin": subprocess.DEVNULL, "stdout": subprocess.PIPE, "stderr": subprocess.STDOUT, "start_new_session": True}
-    with subprocess.Popen(sys.argv[1:], text=True, errors="replace", **how) as ran:
+    how = {"stdin": subprocess.DEVNULL, "stdout": subprocess.PIPE, "stderr": subprocess.STDOUT}
+    with subprocess.Popen(sys.argv[1:], text=True, errors="replace", start_new_session=True, **how) as ran:
         for line in ran.stdout:
             sys.stdout.write(line)
             sys.stdout.flush()
@@ -181,7 +184,8 @@ def main():
     times = os.times()
     os.makedirs("out", exist_ok=True)
     with open("out/gate.md", "w", encoding="utf-8") as file:
-        file.writelines(f"{row}\n" for row in cost.table(time.monotonic() - START, times.children_user + times.children_system))
+        rows = cost.table(time.monotonic() - START, times.children_user + times.children_system)
+        file.writelines(f"{row}\n" for row in rows)
     if room:
         shutil.rmtree(room, ignore_errors=True)
     sys.exit(ran.returncode)

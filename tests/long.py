@@ -1,9 +1,10 @@
 #!/usr/bin/env python3
-"""./test --long [MINUTES]: tries all wrong bodies, those of more-edits/ too, and rt plant with MINUTES for each crate (10).
+"""./test --long [MINUTES]: tries all wrong bodies, and rt plant with so many minutes for each crate (10 if left out).
 
-It works on a copy of the repository outside it, which goes at the end. Standard error tells how far it is; what rt prints
-stands in out/long-*.log, the summary in out/long.md, for docs/PLANTS.md. The last line is 'N passed, M failed': an edit that is
-refused passes, and so does a crate whose plants were listed; a plant that is let through is listed, and fails nothing.
+It works on a copy of the repository outside it, which goes at the end; there the edits of more-edits/ stand in
+must-fail/. Standard error tells how far it is; what rt prints stands in out/long-*.log, and the summary in out/long.md,
+for docs/PLANTS.md. The last line is 'N passed, M failed': an edit that is refused passes, and so does a crate whose
+plants were listed; a plant that is let through is listed, and fails nothing.
 So many tasks run side by side as there are pairs of processors, or as RT_JOBS says.
 """
 import os
@@ -17,7 +18,8 @@ from glob import glob
 import processes
 
 START, TOP = time.monotonic(), os.getcwd()
-KINDS = ("proves", "same", "refused", "elsewhere", "not-judged", "not-source", "not-run")
+COLUMNS = ("Crate", "Edits", "Refused", "Let through", "Functions planted in", "Plants refused", "Let through")
+COLUMNS += ("Same as the body", "Not judged", "Not run")
 
 
 class Task:
@@ -57,7 +59,8 @@ def tasks_in(copy, minutes):
     for crate in crates:
         texts = [open(it, encoding="utf-8").read() for it in glob(f"{copy}/crates/{crate}/src/**/*.rt", recursive=True)]
         if not crate.endswith("_tests") and any("ensures" in it for it in texts):
-            yield Task(crate, "plants", ["rt", "plant", "--minutes", str(minutes), "--max", "9999"], f"{copy}/crates/{crate}")
+            words = ["rt", "plant", "--minutes", str(minutes), "--max", "9999"]
+            yield Task(crate, "plants", words, f"{copy}/crates/{crate}")
 
 
 def rooms_now():
@@ -81,7 +84,8 @@ def run_all(tasks):
         time.sleep(1)
         rooms = rooms_now()
         # (how many plants are left is told each minute, and no sooner)
-        line = ", ".join([f"{len(tasks) - len(todo) - len(running)} of {len(tasks)} done", *(it.state(rooms) for it in running)])
+        done = f"{len(tasks) - len(todo) - len(running)} of {len(tasks)} done"
+        line = ", ".join([done, *(it.state(rooms) for it in running)])
         running = [it for it in running if it.ran.poll() is None]
         now, short = time.monotonic(), re.sub(r", \d+ left in this pass", "", line)
         if short != said or now - when >= 55:
@@ -96,6 +100,7 @@ def summary(tasks):
         row, told = {}, []
         for task in (it for it in tasks if it.crate == crate):
             lines = task.lines()
+            end = lines[-1][:200] if lines else "rt said nothing"
             if task.kind == "edits":
                 tried = dict(re.findall(rf"(?m)^rt: must-fail {crate}/(\S+)\.edit: (.*)", "\n".join(lines)))
                 refused = [it for it, said in tried.items() if said.startswith("refused")]
@@ -103,23 +108,23 @@ def summary(tasks):
                 counts[0], counts[1] = counts[0] + len(refused), counts[1] + task.size - len(refused)
                 told += [f"- FAILED: edit `{it}`: {said[:160]}" for it, said in tried.items() if it not in refused]
                 if len(tried) < task.size:
-                    told.append(f"- FAILED: {task.size - len(tried)} edits were not tried: {lines[-1][:200] if lines else 'rt said nothing'}")
+                    told.append(f"- FAILED: {task.size - len(tried)} edits were not tried: {end}")
             else:
-                last = re.match(r"plants crate=\S+ (.*)", lines[-1] if lines else "")
+                last = re.match(r"plants crate=\S+ (.*)", end)
                 row.update(dict(it.split("=") for it in last[1].split()) if last else {})
                 counts[0 if last else 1] += 1
-                told += [f"- `{' '.join(it.split())}`" for it in lines if re.match(r"(proves|no-ensures|untested) ", it)]
+                shown = [it for it in lines if re.match(r"(proves|no-ensures|untested) ", it)]
+                told += [f"- `{' '.join(it.split())}`" for it in shown]
                 told += [f"- {it}" for it in lines if it.startswith("note: ")]
-                told += [] if last else [f"- FAILED: its plants were not listed: {lines[-1][:200] if lines else 'rt said nothing'}"]
+                told += [] if last else [f"- FAILED: its plants were not listed: {end}"]
         not_judged = sum(int(row.get(it, 0)) for it in ("elsewhere", "not-judged", "not-source"))
-        cells = [crate, row.get("edits", 0), row.get("kept", 0), row.get("edits", 0) - row.get("kept", 0), row.get("planted-in", "-")]
-        cells += [row.get("refused", "-"), row.get("proves", "-"), row.get("same", "-"), not_judged, row.get("not-run", "-")]
+        edits, kept = row.get("edits", 0), row.get("kept", 0)
+        planted = [row.get(it, "-") for it in ("planted-in", "refused", "proves", "same")]
+        cells = [crate, edits, kept, edits - kept, *planted, not_judged, row.get("not-run", "-")]
         rows.append(f"| {' | '.join(map(str, cells))} |")
         lists += ["", f"{crate}: let through, without a contract, or untested:", "", *told] if told else []
-    commit = subprocess.run(["git", "describe", "--always", "--dirty"], capture_output=True, text=True).stdout.strip()
-    taken = (time.monotonic() - START) / 60
-    head = [f"## {time.strftime('%Y-%m-%d')}, commit {commit}, {taken:.0f} minutes", ""]
-    head.append("| Crate | Edits | Refused | Let through | Functions planted in | Plants refused | Let through | Same as the body | Not judged | Not run |")
+    head = [f"## {processes.when_and_where()}, {(time.monotonic() - START) / 60:.0f} minutes", ""]
+    head.append(f"| {' | '.join(COLUMNS)} |")
     return [*head, "|---|" + "---:|" * 9, *rows, *lists], counts
 
 
@@ -131,7 +136,7 @@ def main():
     processes.end_by_signals(room)
     os.makedirs("out", exist_ok=True)
     copy = f"{room or os.environ[processes.MARK]}/copy"
-    shutil.copytree(TOP, copy, ignore=lambda at, names: [it for it in names if it == ".git" or (at == TOP and it == "out")])
+    shutil.copytree(TOP, copy, ignore=lambda at, names: {".git", *(["out"] if at == TOP else [])})
     tasks = list(tasks_in(copy, int(words[0]) if words else 10))
     run_all(tasks)
     lines, (passed, failed) = summary(tasks)

@@ -1,10 +1,11 @@
-"""The processes of one run: those that have its mark in their environment, and all that these start. Linux's /proc is read.
+"""The processes of one run, from Linux's /proc: those that have its mark in their environment, and all that these start.
 
-A run has a folder of its own for what is made meanwhile, where TMPDIR points: it goes when the run ends, however it ends.
+A run has a folder of its own for what is made meanwhile, where TMPDIR points. It goes when the run ends.
 """
 import os
 import shutil
 import signal
+import subprocess
 import sys
 import tempfile
 import time
@@ -14,7 +15,7 @@ TICKS = os.sysconf("SC_CLK_TCK")
 
 
 def begin():
-    """Marks this process' children as a run's, unless they are one's already. Returns the run's folder if it was made here."""
+    """Marks this process' children as a run's, unless they are one's already. Returns its folder if it is made here."""
     if MARK in os.environ:
         return None
     room = tempfile.mkdtemp(prefix="art-run-")
@@ -38,7 +39,9 @@ class Process:
 
     def text(self, name):
         try:
-            return os.readlink(f"/proc/{self.pid}/cwd") if name == "cwd" else read(self.pid, name).decode(errors="replace")
+            if name == "cwd":
+                return os.readlink(f"/proc/{self.pid}/cwd")
+            return read(self.pid, name).decode(errors="replace")
         except OSError:
             return ""
 
@@ -105,10 +108,17 @@ def put_back(room):
     for aside in [".git/rt-aside", *(f"{room}/{it}" for it in os.listdir(room) if it.startswith("rt-aside-"))]:
         for name in os.listdir(aside) if os.path.isdir(aside) else ():
             for part in ("incremental", "rlib"):
-                to = f"crates/{name}/out/{part}"
-                if os.path.isdir(f"{aside}/{name}/{part}") and os.path.isdir(f"crates/{name}") and not os.path.exists(to):
+                kept, to = f"{aside}/{name}/{part}", f"crates/{name}/out/{part}"
+                if os.path.isdir(kept) and os.path.isdir(f"crates/{name}") and not os.path.exists(to):
                     os.makedirs(os.path.dirname(to), exist_ok=True)
-                    shutil.move(f"{aside}/{name}/{part}", to)
+                    shutil.move(kept, to)
+
+
+def when_and_where():
+    """The date, and the commit that was tried."""
+    how = {"stdout": subprocess.PIPE, "stderr": subprocess.DEVNULL, "text": True}
+    commit = subprocess.run(["git", "describe", "--always", "--dirty"], **how).stdout.strip()
+    return f"{time.strftime('%Y-%m-%d')}, commit {commit or 'unknown'}"
 
 
 def end_by_signals(room):

@@ -99,7 +99,7 @@ def a_closed_output_is_told(program):
 
 
 class Running:
-    """A program with its two ends in our hands. It has LIMIT seconds for all that is asked of it, and then it is ended."""
+    """A program with its two ends in our hands. It has LIMIT seconds for all that is asked of it."""
 
     def __init__(self, program, stdin=subprocess.PIPE):
         how = {"stdin": stdin, "stdout": subprocess.PIPE, "bufsize": 0, "start_new_session": True}
@@ -134,7 +134,7 @@ class Running:
         found = bytearray()
         while len(found) < len(wanted):
             piece = self.read()
-            assert piece, f"its output ended, with status {self.ran.poll()}, after {len(found)} bytes: {bytes(found[-100:])}"
+            assert piece, f"its output ended after {len(found)} bytes, {bytes(found[-100:])}; status {self.ran.poll()}"
             found += piece
         assert found == wanted, f"{bytes(found[-300:])} and not {wanted[-300:]}"
 

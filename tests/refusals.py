@@ -6,8 +6,8 @@ Under tests/refuse.c, which says what a window is, it runs
 - each #[test] once with nothing refused, and it must pass; then each that opens windows by eprintln!(rt; "refuse") and
   closes each by eprintln!(rt; "ok") or "refused",
 - each scenario of crates/refusals, named by the lines 'scenario NAME' of its file stdout,
-- each line of tests/refusals.lines under art_index: the line stands twice, and is refused the first time. It must answer
-  `memory` then, and all else must be as if it stood once. Only lines that may be refused may ask for memory at all.
+- each line of tests/refusals.lines under art_index: the line stands twice, and is refused the first time. It must
+  answer `memory` then, and all else must be as if it stood once. Only lines that may be refused may ask for memory.
 """
 import itertools
 import os
@@ -43,7 +43,7 @@ def run(words, refuse, line=None, given=b"", status=0):
 
 
 def each_refusal(words, **how):
-    """Gives what each run wrote, with each request refused in turn, alone and with all later ones, until none is met."""
+    """Gives what each run wrote, each request refused in turn, alone and with all later ones, until none is met."""
     for rest in ("", "+"):
         for number in itertools.count(1):
             seen, out, err = run(words, f"{number}{rest}", **how)
@@ -116,8 +116,8 @@ def count(kind, name, call, *given):
 
 def of_tests():
     for program in sorted(glob("crates/*/out/*_tests")):
-        listed = subprocess.run([program, "--list"], capture_output=True, text=True, check=True, timeout=60).stdout.splitlines()
-        for test in [it.removesuffix(": test") for it in listed if it.endswith(": test")]:
+        listed = subprocess.run([program, "--list"], capture_output=True, text=True, check=True, timeout=60).stdout
+        for test in [it.removesuffix(": test") for it in listed.splitlines() if it.endswith(": test")]:
             free = subprocess.run([program, test], capture_output=True, timeout=60)
             if free.returncode:
                 count(program, test, fails, free)
