@@ -100,7 +100,7 @@ class Cost:
         key = it.pid, it.start
         folder, words = it.text("cwd"), it.text("cmdline")
         made = re.search(r"/rt-run-[^/\0]*/bin/(\w+)", words)
-        name = made and (made[1] if made[1] in self.state.crates else made[1].removesuffix("_tests"))
+        name = made and (made[1] if made[1] in self.state.crates else re.sub("_tests$", "", made[1]))
         if not name and "/rt-edit-" in folder:
             named = re.search(r"--crate-name\0(\w+)", words)
             self.labels[key] = (named[1], "edits") if named else self.labels.get(key)

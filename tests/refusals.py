@@ -11,6 +11,7 @@ Under tests/refuse.c, which says what a window is, it runs
 """
 import itertools
 import os
+import re
 import resource
 import subprocess
 import sys
@@ -33,7 +34,7 @@ def run(words, refuse, line=None, given=b"", status=0):
     runs += 1
     with tempfile.TemporaryFile() as trace:
         env = {"LD_PRELOAD": SHIM, "REFUSE": refuse, "REFUSE_TRACE": str(trace.fileno())}
-        env |= {} if line is None else {"REFUSE_LINE": str(line)}
+        env.update({} if line is None else {"REFUSE_LINE": str(line)})
         ran = subprocess.run(words, input=given, capture_output=True, env=env, pass_fds=[trace.fileno()], timeout=60)
         trace.seek(0)
         seen = trace.read().decode()
@@ -117,7 +118,7 @@ def count(kind, name, call, *given):
 def of_tests():
     for program in sorted(glob("crates/*/out/*_tests")):
         listed = subprocess.run([program, "--list"], capture_output=True, text=True, check=True, timeout=60).stdout
-        for test in [it.removesuffix(": test") for it in listed.splitlines() if it.endswith(": test")]:
+        for test in re.findall(r"(?m)^(.+): test$", listed):
             free = subprocess.run([program, test], capture_output=True, timeout=60)
             if free.returncode:
                 count(program, test, fails, free)
