@@ -39,7 +39,7 @@ class Spec:
         self.key = crate, os.path.relpath(file, f"crates/{crate}/specs")[: -len(".antt")].replace("/", ".")
         self.names, self.aliases, self.lines, self.owner, self.is_lemma = {}, {}, {}, {}, set()
         text = re.sub(r"\{-.*?-\}", "", open(file, encoding="utf-8").read(), flags=re.S)
-        rooms, piece, last = [(0, None)], [], None
+        rooms, piece, opening, last = [(0, None)], [], [], None
         for line in [*text.split("\n"), "end"]:
             bare = line.strip()
             if not bare or bare.startswith("--"):
@@ -50,14 +50,19 @@ class Spec:
                 piece = []
             while indent < rooms[-1][0]:
                 rooms.pop()
-            if re.match(r"module\b.*\bwhere$|((abbrev|unfoldable|pub) )*mutual$", bare):
-                # (what stands in a module is read under its head, so that this is a line to believe too)
-                head = f"{bare} at {len(self.lines)}"
-                self.lines[head] = [line] if bare.startswith("module") else []
-                self.owner[head] = rooms[-1][1]
-                rooms.append((indent + 2, head))
+            if opening or re.match(r"module\b|((abbrev|unfoldable|pub) )*mutual$", bare):
+                opening.append(line)
+                if bare.endswith(("where", "mutual")):
+                    # (what stands in a module is read under its head, so that this is to be believed too)
+                    head = f"{opening[0].strip()} at {len(self.lines)}"
+                    self.lines[head] = opening if not bare.endswith("mutual") else []
+                    self.owner[head] = rooms[-1][1]
+                    rooms.append((len(opening[0]) - len(opening[0].lstrip()) + 2, head))
+                    opening = []
             elif piece or indent == rooms[-1][0]:
                 piece.append(line)
+            else:
+                raise SystemExit(f"believed: a line of {self.key} stands in nothing: {line}\n0 passed, 1 failed")
 
     def take(self, piece, rooms, last):
         """Adds a piece that begins at a room's indent: an import, a definition or a clause of one. Returns its name."""
@@ -70,7 +75,7 @@ class Spec:
             return last
         if words[0] in ("record", "data"):
             name = words[1]
-        elif re.match(r"\S+( \S+)* :( |$)", " ".join(words)) and "=" not in " ".join(words).split(" : ")[0].split():
+        elif marks or re.match(r"\S+( \S+)* :( |$)", " ".join(words)) and "=" not in words[: words.index(":")]:
             name = words[0]
             marks += (rooms[-1][1] or "").split()
             self.is_lemma |= {name} if not {"abbrev", "unfoldable"} & {*marks} else set()

@@ -127,7 +127,7 @@ def end_by_signals(room):
     def end(*_):
         for number in (signal.SIGINT, signal.SIGTERM, signal.SIGHUP):
             signal.signal(number, signal.SIG_IGN)
-        print(f"{os.path.basename(sys.argv[0])}: ended before its end", file=sys.stderr, flush=True)
+        print(f"{os.path.basename(sys.argv[0])}: stopped", file=sys.stderr, flush=True)
         end_all()
         if room:
             put_back(room)
