@@ -6,6 +6,7 @@ Each test runs both of the programs that rt ci has built, as LLVM and as Rattle'
 """
 import os
 import select
+import signal
 import subprocess
 import sys
 import tempfile
@@ -14,14 +15,27 @@ import time
 PROGRAM = os.path.abspath("crates/art_index/out/art_index")
 FIRST_RUN = b"put 7 0a0b 6869\nget 7 0a0b\nget 8 0a0b\n"
 FIRST_REPLIES = b"new\nis 6869\nnone\n"
-LIMIT = 60
+LIMIT = 60  # seconds, which no wait exceeds
 
 
-def ended(words, **how):
+def ended(words, input=None, **how):
     """Runs a program to its end, and gives what it wrote to standard output and to standard error, and its status."""
     how.setdefault("stdout", subprocess.PIPE)
-    ran = subprocess.run(words, stderr=subprocess.PIPE, timeout=LIMIT, **how)
-    return ran.stdout, ran.stderr, ran.returncode
+    how.setdefault("stdin", subprocess.PIPE if input is not None else subprocess.DEVNULL)
+    with subprocess.Popen(words, stderr=subprocess.PIPE, start_new_session=True, **how) as ran:
+        try:
+            out, err = ran.communicate(input, timeout=LIMIT)
+        finally:
+            end_group(ran)
+    return out, err, ran.returncode
+
+
+def end_group(ran):
+    """Ends a program that has not ended, and what it started, so that nothing holds a pipe which is waited for."""
+    try:
+        os.killpg(ran.pid, signal.SIGKILL)
+    except OSError:
+        pass
 
 
 def wants(found, wanted):
@@ -85,28 +99,51 @@ def a_closed_output_is_told(program):
 
 
 class Running:
-    """A program with its two ends in our hands."""
+    """A program with its two ends in our hands. It has LIMIT seconds for all that is asked of it."""
 
-    def __init__(self, program):
-        self.ran = subprocess.Popen([program], stdin=subprocess.PIPE, stdout=subprocess.PIPE, bufsize=0)
+    def __init__(self, program, stdin=subprocess.PIPE):
+        how = {"stdin": stdin, "stdout": subprocess.PIPE, "bufsize": 0, "start_new_session": True}
+        self.ran, self.until = subprocess.Popen([program], **how), time.monotonic() + LIMIT
 
     def __enter__(self):
         return self
 
-    def __exit__(self, *why):
-        self.ran.stdin.close()
-        self.ran.stdout.close()
-        self.ran.wait(LIMIT)
+    def __exit__(self, failed, *why):
+        for it in (self.ran.stdin, self.ran.stdout):
+            if it:
+                it.close()
+        if failed:
+            end_group(self.ran)
+        try:
+            self.ran.wait(max(1, self.left()))
+        finally:
+            end_group(self.ran)
+            self.ran.wait(LIMIT)
 
-    def gives(self, wanted, wait=LIMIT):
+    def left(self):
+        return self.until - time.monotonic()
+
+    def read(self):
+        """Reads what it has written, nothing where its output is closed. It fails where nothing comes."""
+        ready = select.select([self.ran.stdout], [], [], max(0, self.left()))[0]
+        assert ready, f"it writes no more, and has not ended after {LIMIT} seconds"
+        return os.read(self.ran.stdout.fileno(), 1 << 16)
+
+    def gives(self, wanted):
         """Reads as many bytes as are wanted, and compares them."""
-        found, until = b"", time.monotonic() + wait
+        found = bytearray()
         while len(found) < len(wanted):
-            ready = select.select([self.ran.stdout], [], [], max(0, until - time.monotonic()))[0]
-            piece = os.read(self.ran.stdout.fileno(), 1 << 16) if ready else b""
-            assert piece, f"it gave {found[-100:]} and no more"
+            piece = self.read()
+            assert piece, f"its output ended after {len(found)} bytes, {bytes(found[-100:])}; status {self.ran.poll()}"
             found += piece
-        wants(found, wanted)
+        assert found == wanted, f"{bytes(found[-300:])} and not {wanted[-300:]}"
+
+    def ends(self):
+        """Waits for its end, and leaves what stands of it in /proc. It writes nothing more."""
+        wants(self.read(), b"")
+        while not os.waitid(os.P_PID, self.ran.pid, os.WEXITED | os.WNOWAIT | os.WNOHANG):
+            assert self.left() > 0, f"it has not ended after {LIMIT} seconds"
+            time.sleep(0.01)
 
     def calls(self):
         """The numbers of reads and writes so far."""
@@ -136,16 +173,11 @@ def few_system_calls(program):
         file.write(b"get 7 0a0b0c0d0e0f1011\n" * lines)
         size = file.tell()
         file.seek(0)
-        ran = subprocess.Popen([program], stdin=file, stdout=subprocess.PIPE)
-        replies = b""
-        while len(replies) < 5 * lines:
-            replies += os.read(ran.stdout.fileno(), 1 << 16)
-        # (what stands in /proc goes with the process, which now only has to read the end of the file)
-        os.waitid(os.P_PID, ran.pid, os.WEXITED | os.WNOWAIT)
-        with open(f"/proc/{ran.pid}/io") as told:
-            numbers = dict(it.split(": ") for it in told.read().splitlines())
-        wants((ran.wait(), replies), (0, b"none\n" * lines))
-        reads, writes = int(numbers["syscr"]), int(numbers["syscw"])
+        with Running(program, stdin=file) as it:
+            it.gives(b"none\n" * lines)
+            it.ends()
+            reads, writes = it.calls()
+            wants(it.ran.wait(LIMIT), 0)
         assert reads <= size / 4000 + 20, f"{reads} reads of {size} bytes"
         assert writes <= 5 * lines / 4000 + 20, f"{writes} writes of {5 * lines} bytes"
 

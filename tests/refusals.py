@@ -6,11 +6,12 @@ Under tests/refuse.c, which says what a window is, it runs
 - each #[test] once with nothing refused, and it must pass; then each that opens windows by eprintln!(rt; "refuse") and
   closes each by eprintln!(rt; "ok") or "refused",
 - each scenario of crates/refusals, named by the lines 'scenario NAME' of its file stdout,
-- each line of tests/refusals.lines under art_index: the line stands twice, and is refused the first time. It must answer
-  `memory` then, and all else must be as if it stood once. Only lines that may be refused may ask for memory at all.
+- each line of tests/refusals.lines under art_index: the line stands twice, and is refused the first time. It must
+  answer `memory` then, and all else must be as if it stood once. Only lines that may be refused may ask for memory.
 """
 import itertools
 import os
+import re
 import resource
 import subprocess
 import sys
@@ -33,7 +34,7 @@ def run(words, refuse, line=None, given=b"", status=0):
     runs += 1
     with tempfile.TemporaryFile() as trace:
         env = {"LD_PRELOAD": SHIM, "REFUSE": refuse, "REFUSE_TRACE": str(trace.fileno())}
-        env |= {} if line is None else {"REFUSE_LINE": str(line)}
+        env.update({} if line is None else {"REFUSE_LINE": str(line)})
         ran = subprocess.run(words, input=given, capture_output=True, env=env, pass_fds=[trace.fileno()], timeout=60)
         trace.seek(0)
         seen = trace.read().decode()
@@ -43,7 +44,7 @@ def run(words, refuse, line=None, given=b"", status=0):
 
 
 def each_refusal(words, **how):
-    """Gives what each run wrote, with each request refused in turn, alone and with all later ones, until none is met."""
+    """Gives what each run wrote, each request refused in turn, alone and with all later ones, until none is met."""
     for rest in ("", "+"):
         for number in itertools.count(1):
             seen, out, err = run(words, f"{number}{rest}", **how)
@@ -116,8 +117,8 @@ def count(kind, name, call, *given):
 
 def of_tests():
     for program in sorted(glob("crates/*/out/*_tests")):
-        listed = subprocess.run([program, "--list"], capture_output=True, text=True, check=True).stdout.splitlines()
-        for test in [it.removesuffix(": test") for it in listed if it.endswith(": test")]:
+        listed = subprocess.run([program, "--list"], capture_output=True, text=True, check=True, timeout=60).stdout
+        for test in re.findall(r"(?m)^(.+): test$", listed):
             free = subprocess.run([program, test], capture_output=True, timeout=60)
             if free.returncode:
                 count(program, test, fails, free)
