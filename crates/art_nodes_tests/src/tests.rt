@@ -1,7 +1,7 @@
 //! Vectors from outside, and each public call once at a concrete type.
 
-use crate::slot::Slot;
-use crate::*;
+use crate::calling::exchange;
+use art_nodes::*;
 use std::mem::size_of;
 use std::ops::Bound;
 use std::process::Abort;
@@ -253,7 +253,7 @@ fn conversions(rt: HostRuntime) {
     assert!(rt; ConcreteNodePtr::from(inner).to_opaque() == inner.to_opaque());
     assert!(rt; ConcreteInnerNodePtr::from(inner).to_opaque() == inner.to_opaque());
     assert!(rt; inner.to_opaque() != name.to_opaque());
-    assert_eq!(rt; Slot::new(1 << 40).get(), 1 << 40);
+    assert_eq!(rt; NodePtr::<KindLeaf>::from_slot(1 << 40).slot(), 1 << 40);
     assert!(rt; OpaqueNodePtr::default() == leaf(0));
     let index = NonMaxIndex::new(254);
     assert!(rt; index.is_some_and(|it| it.get() == 254 && usize::from(it) == 254));
@@ -276,4 +276,17 @@ fn weights(rt: HostRuntime) {
     assert_eq!(rt; size_of::<InnerNode16<[u8; 3], u64, 16>>(), 208);
     assert_eq!(rt; size_of::<Middle>(), 728);
     assert_eq!(rt; size_of::<InnerNode256<[u8; 3], u64, 16>>(), 2592);
+}
+
+#[test]
+fn exchanges(rt: HostRuntime) {
+    let first = NodePtr::<KindLeaf>::from_slot(1).to_opaque();
+    let second = NodePtr::<KindLeaf>::from_slot(2).to_opaque();
+    let mut small = InnerNode4::<[u8; 3], u64, 16>::from_prefix(&[], 0);
+    assert!(rt; exchange::<_, 16>(&mut small, 7, first) == None);
+    assert!(rt; exchange::<_, 16>(&mut small, 7, second) == Some(first));
+    assert!(rt; small.lookup_child(7) == Some(second));
+    let mut large = InnerNode48::<[u8; 3], u64, 16>::from_prefix(&[], 0);
+    assert!(rt; exchange::<_, 16>(&mut large, 255, first) == None);
+    assert!(rt; large.min() == Some((255, first)));
 }
