@@ -1,6 +1,6 @@
 use Rattle.std.proofs.Common.{[], arith}
 use Rattle.art_operations.proofs.HeldPairs.{root-tree}
-use Rattle.art_operations.proofs.tests.commands.has_left.Goals as goal
+use Rattle.art_operations_tests.proofs.commands.has_left.Goals as goal
 
 pub minimum_unchecked-least-requires : goal.minimum_unchecked-least-requires
 minimum_unchecked-least-requires g c =

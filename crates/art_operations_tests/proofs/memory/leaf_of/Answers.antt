@@ -1,6 +1,6 @@
 use Rattle.art_arena.specs.Arena.{node_at}
 use Rattle.art_arena.proofs.Meanings.{nodes-subtree}
-use Rattle.art_operations.proofs.tests.refused.leaf_of.Goals as goal
+use Rattle.art_operations_tests.proofs.memory.leaf_of.Goals as goal
 
 pub returns : goal.returns
 returns g c =

@@ -1,5 +1,5 @@
 use Rattle.art_operations.proofs.HeldPairs.{tree-same}
-use Rattle.art_operations.proofs.tests.refused.puts_in.Goals as goal
+use Rattle.art_operations_tests.proofs.memory.puts_in.Goals as goal
 
 pub put_in-again-requires : goal.put_in-again-requires
 put_in-again-requires g c =

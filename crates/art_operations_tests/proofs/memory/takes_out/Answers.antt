@@ -1,5 +1,5 @@
 use Rattle.art_operations.proofs.HeldPairs.{tree-same}
-use Rattle.art_operations.proofs.tests.refused.takes_out.Goals as goal
+use Rattle.art_operations_tests.proofs.memory.takes_out.Goals as goal
 
 pub take_out-again-requires : goal.take_out-again-requires
 take_out-again-requires g c =

@@ -1,13 +1,13 @@
-//! Commands run at concrete types, for several `PREFIX_LEN`. Nodes are made and moved by generic functions alone.
+//! Commands run at concrete types, for several `PREFIX_LEN`.
 ghost use Rattle.std.specs.Prelude.{List, ◌<◌};
 ghost use Rattle.art_operations.specs.Runs.{HoldsClonesOf};
 
-use crate::{
-    Answer, Command, RunResult, maximum_unchecked, minimum_unchecked, run, search_unchecked,
-};
 use art_arena::NodeArena;
 use art_bytes::{AsBytes, CloneBytes};
 use art_nodes::{Kind4, Kind16, Kind48, Kind256, KindLeaf, NodeKind, NodePtr};
+use art_operations::{
+    Answer, Command, RunResult, maximum_unchecked, minimum_unchecked, run, search_unchecked,
+};
 use std::alloc::{AllocError, Global};
 
 // Whether a run left these keys and none of those, the first and the last at the ends of the tree.
@@ -16,7 +16,8 @@ fn has_left<K: CloneBytes, V: Clone, const PREFIX_LEN: usize>(
     stored: &[K],
     missing: &[K],
 ) -> bool
-    requires { (pairs : List (K × V)) × HoldsClonesOf K.bytes PREFIX_LEN ran.now.arena K.is_clone V.is_clone ran.now.root pairs }
+    requires { (pairs : List (K × V))
+        × HoldsClonesOf K.bytes PREFIX_LEN ran.now.arena K.is_clone V.is_clone ran.now.root pairs }
 {
     let root = match ran.root {
         Some(root) => root,
@@ -74,6 +75,19 @@ fn leaves_16<K: CloneBytes, V: Clone>(
 ) -> Result<bool, AllocError> {
     let ran: RunResult<K, V, 16> = run(alloc, commands)?;
     Ok(has_left(&ran, stored, missing))
+}
+
+// Where it stores any of these.
+fn leaves_anyway<K: CloneBytes, V: Clone>(
+    alloc: Global,
+    commands: &[Command<K, V>],
+    stored: &[K],
+    missing: &[K],
+) -> Result<bool, AllocError> {
+    let in_0 = leaves_0(alloc, commands, stored, missing)?;
+    let in_4 = leaves_4(alloc, commands, stored, missing)?;
+    let in_16 = leaves_16(alloc, commands, stored, missing)?;
+    Ok(in_0 && in_4 && in_16)
 }
 
 // Whether the commands are answered so.
@@ -138,15 +152,7 @@ fn keeps_all_keys_of_a_cube(rt: HostRuntime) -> Result<(), AllocError> {
     let nodes = nodes_left(rt.alloc(), commands.as_slice())?;
     assert_eq!(rt; nodes, [0, 43, 0, 0, 216]);
     assert!(rt;
-        leaves_0(
-            rt.alloc(),
-            commands.as_slice(),
-            keys.as_slice(),
-            missing.as_slice()
-        )?
-    );
-    assert!(rt;
-        leaves_4(
+        leaves_anyway(
             rt.alloc(),
             commands.as_slice(),
             keys.as_slice(),
@@ -183,7 +189,7 @@ fn leaves_every_other_key_of_a_cube(rt: HostRuntime) -> Result<(), AllocError> {
     let nodes = nodes_left(rt.alloc(), commands.as_slice())?;
     assert_eq!(rt; nodes, [36, 7, 0, 0, 108]);
     assert!(rt;
-        leaves_4(
+        leaves_anyway(
             rt.alloc(),
             commands.as_slice(),
             kept.as_slice(),
@@ -198,19 +204,6 @@ fn with_front(alloc: Global, shared: usize, last: u8) -> Result<Vec<u8>, AllocEr
     let mut key = Vec::from_elem(alloc, 7u8, shared)?;
     key.push(last)?;
     Ok(key)
-}
-
-// Whether these keys are left and those are not, however many bytes of a prefix are stored.
-fn leaves_anyway(
-    alloc: Global,
-    commands: &[Command<Vec<u8>, u8>],
-    stored: &[Vec<u8>],
-    missing: &[Vec<u8>],
-) -> Result<bool, AllocError> {
-    let in_0 = leaves_0(alloc, commands, stored, missing)?;
-    let in_4 = leaves_4(alloc, commands, stored, missing)?;
-    let in_16 = leaves_16(alloc, commands, stored, missing)?;
-    Ok(in_0 && in_4 && in_16)
 }
 
 // Three keys with a common front, and one that leaves it halfway.
@@ -323,6 +316,6 @@ fn answers_each_command(rt: HostRuntime) -> Result<(), AllocError> {
         Answer::Done(1),
     ];
     assert!(rt; answers(alloc, commands.as_slice(), wanted.as_slice())?);
-    assert!(rt; leaves_4(alloc, commands.as_slice(), &[], &[])?);
+    assert!(rt; leaves_anyway(alloc, commands.as_slice(), &[], &[])?);
     Ok(())
 }

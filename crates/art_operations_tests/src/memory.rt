@@ -1,5 +1,4 @@
-//! Want of memory: between a line `refuse` on the standard error and the line that tells the outcome,
-//! tests/refusals.py refuses each request in turn.
+//! What needs memory leaves all as it was where it was refused, and can be made again.
 ghost use Rattle.std.specs.Prelude.{◌≡◌, [], IfSome, IfErr, OnErr};
 ghost use Rattle.art_arena.specs.Arena.{node_at, links_at, SameNodes};
 ghost use Rattle.art_arena.specs.Meaning.{IsSubtree, IsTree};
@@ -8,9 +7,15 @@ ghost use Rattle.art_arena.specs.Steps.{steps_of};
 ghost use Rattle.art_operations.specs.DeletePoints.{IsLeafPlace};
 ghost use Rattle.art_operations.specs.Points.{IsPoint};
 
-use super::*;
-use art_bytes::CloneBytes;
-use std::alloc::AllocError;
+use crate::lookups::lone_leaf;
+use art_arena::NodeArena;
+use art_bytes::{AsBytes, CloneBytes};
+use art_nodes::OpaqueNodePtr;
+use art_operations::{
+    Answer, Command, DeletePoint, InsertPoint, InsertRefused, InsertSearchError, KeyPrefix,
+    RunResult, run, search_for_delete_point, search_for_insert_point, search_unchecked,
+};
+use std::alloc::{AllocError, Global};
 use std::test::Fail;
 
 // Ends a window.
@@ -100,7 +105,8 @@ fn place_of<K: AsBytes, V>(
     key: &K,
 ) -> Option<InsertPoint>
     requires { (s : Shape K V) × IsTree K.bytes 4 (node_at arena.now) root (links_at arena.now) s }
-    ensures { IfSome result (λ point. (s : Shape K V) × IsTree K.bytes 4 (node_at arena.now) point.root (links_at arena.now) s × IsPoint K.bytes (K.bytes key.now) s point) }
+    ensures { IfSome result (λ point. (s : Shape K V)
+        × IsTree K.bytes 4 (node_at arena.now) point.root (links_at arena.now) s × IsPoint K.bytes (K.bytes key.now) s point) }
 {
     let Ok(point) = search_for_insert_point(alloc, arena, root, key.as_bytes()) else {
         return None;
@@ -116,7 +122,8 @@ fn put_in<K: AsBytes + Drop, V: Drop>(
     value: V,
     bytes: &[u8],
 ) -> Result<bool, InsertRefused<K, V>>
-    requires { (s : Shape K V) × IsTree K.bytes 4 (node_at arena.old) point.now.root (links_at arena.old) s × IsPoint K.bytes (K.bytes key) s point.now }
+    requires { (s : Shape K V) × IsTree K.bytes 4 (node_at arena.old) point.now.root (links_at arena.old) s
+        × IsPoint K.bytes (K.bytes key) s point.now }
     ensures { IfErr result (λ refused. SameNodes arena.old arena.new × (refused.key ≡ key)) }
 {
     let point = *point;
@@ -180,7 +187,8 @@ fn leaf_of<K: AsBytes, V>(
     bytes: &[u8],
 ) -> Option<DeletePoint>
     requires { (s : Shape K V) × IsTree K.bytes 4 (node_at arena.now) root (links_at arena.now) s }
-    ensures { IfSome result (λ point. (s : Shape K V) × IsTree K.bytes 4 (node_at arena.now) root (links_at arena.now) s × IsLeafPlace K.bytes s point.leaf_node_ptr (steps_of point.path)) }
+    ensures { IfSome result (λ point. (s : Shape K V) × IsTree K.bytes 4 (node_at arena.now) root (links_at arena.now) s
+        × IsLeafPlace K.bytes s point.leaf_node_ptr (steps_of point.path)) }
 {
     let Some(point) = search_for_delete_point(arena, root, bytes) else {
         return None;
@@ -195,7 +203,8 @@ fn take_out<K: AsBytes + Drop, V: Drop>(
     point: &DeletePoint,
     bytes: &[u8],
 ) -> Result<bool, AllocError>
-    requires { (s : Shape K V) × IsTree K.bytes 4 (node_at arena.old) root (links_at arena.old) s × IsLeafPlace K.bytes s point.now.leaf_node_ptr (steps_of point.now.path) }
+    requires { (s : Shape K V) × IsTree K.bytes 4 (node_at arena.old) root (links_at arena.old) s
+        × IsLeafPlace K.bytes s point.now.leaf_node_ptr (steps_of point.now.path) }
     ensures { OnErr result (SameNodes arena.old arena.new) }
 {
     let point = *point;

@@ -1,7 +1,7 @@
 use Rattle.std.proofs.Common.{arith}
 use Rattle.art_arena.specs.Arena.{node_at}
 use Rattle.art_arena.proofs.Meanings.{nodes-subtree}
-use Rattle.art_operations.proofs.tests.refused.take_out.Goals as goal
+use Rattle.art_operations_tests.proofs.memory.take_out.Goals as goal
 
 pub search_unchecked-requires : goal.search_unchecked-requires
 search_unchecked-requires g c =
