@@ -22,8 +22,3 @@ pub use path::{TreePath, TreePathSearch, inner_node_ptr};
 pub use prefix::{match_full_prefix, read_full_prefix};
 pub use reader::{ArenaReader, Reader, VisitedNode};
 pub use stored::{NodeStore, Stored};
-
-#[cfg(test)]
-mod calling;
-#[cfg(test)]
-mod tests;

@@ -10,8 +10,6 @@ pub mod laws;
 mod mapped;
 mod mapping;
 mod mappings;
-#[cfg(test)]
-mod tests;
 
 pub use as_bytes::{AsBytes, CloneBytes, NoPrefixesBytes, OrderedBytes};
 pub use fixed::{Address, FixedBytes, Signed, StoredAsNumber, Unsigned};

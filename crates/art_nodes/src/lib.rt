@@ -37,8 +37,3 @@ pub use prefix_match::{
 };
 pub use sealed::Sealed;
 pub use sorted::{InnerNode4, InnerNode16, InnerNodeSorted};
-
-#[cfg(test)]
-mod calling;
-#[cfg(test)]
-mod tests;

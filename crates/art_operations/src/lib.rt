@@ -26,8 +26,3 @@ pub use lookup::{
 };
 pub use minmax::{maximum_unchecked, minimum_unchecked};
 pub use running::{Answer, Command, RunResult, run};
-
-#[cfg(test)]
-mod calling;
-#[cfg(test)]
-mod tests;

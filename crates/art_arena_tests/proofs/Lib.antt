@@ -1,0 +1,2 @@
+pub mod LeafTrios
+pub mod TwoLeaves

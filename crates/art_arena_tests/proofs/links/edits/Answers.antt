@@ -1,0 +1,14 @@
+use Rattle.std.proofs.Common.{[], ◌∷◌, lit<}
+use Rattle.art_arena_tests.proofs.links.edits.Goals as goal
+
+pub remove_self-requires : goal.remove_self-requires
+remove_self-requires g c = let (x, y, z, list, second) = c.in_ok-all.ensures in (lit< tt, (x ∷ [], y, z ∷ [], list, second))
+
+pub insert_before-requires : goal.insert_before-requires
+insert_before-requires g c = let (x, y, beside, first, second) = c.in_ok-first.ensures in (lit< tt, (x ∷ [], y, [], beside, second))
+
+pub insert_after-requires : goal.insert_after-requires
+insert_after-requires g c = let (x, y, beside, first, second) = c.in_ok-first.ensures in (lit< tt, (x ∷ [], y, [], beside, second))
+
+pub replace-requires : goal.replace-requires
+replace-requires g c = let (x, y, beside, first, second) = c.in_ok-first.ensures in (lit< tt, ([], x, y ∷ [], beside, first))

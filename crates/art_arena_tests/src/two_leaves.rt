@@ -1,0 +1,222 @@
+//! Calls on a tree of two leaves below one inner node, whose header stores the whole prefix or a front of it.
+ghost use Rattle.std.specs.Prelude.{◌≡◌, ◌≢◌, ℕ, [], ◌∷◌, ◌++◌, None, IfSome};
+ghost use Rattle.art_bytes.specs.Keys.{BeginsWith};
+ghost use Rattle.art_nodes.specs.Name.{Name};
+ghost use Rattle.art_arena.specs.Arena.{held_at, node_at};
+ghost use Rattle.art_arena.specs.Shapes.{Shape};
+ghost use Rattle.art_arena.specs.Meaning.{IsSubtree};
+
+use crate::links::lone_leaf;
+use art_arena::inner::{first_child, header, last_child, lookup_child};
+use art_arena::{
+    ArenaReader, LeafPtr, NodeArena, find_leaf, first_leaf, last_leaf, match_full_prefix,
+    read_full_prefix,
+};
+use art_bytes::AsBytes;
+use art_nodes::{
+    ExplicitMismatch, InnerNode4, InnerNodeCommon, InnerNodeInit, NodeType, OpaqueNodePtr,
+    PrefixMatch,
+};
+use std::alloc::{AllocError, Global};
+use std::cmp::Ordering;
+use std::test::Fail;
+
+// The byte of a key behind the prefix that it begins with.
+fn byte_behind(prefix: &[u8], key: &[u8]) -> Option<u8>
+    ensures { IfSome result (λ byte. BeginsWith (prefix.now ++ byte ∷ []) key.now) }
+{
+    if !key.starts_with(prefix) {
+        return None;
+    }
+    if key.len() == prefix.len() {
+        return None;
+    }
+    Some(key[prefix.len()])
+}
+
+// An inner node over two leaves.
+#[derive(Clone, Copy)]
+struct Tree {
+    root: OpaqueNodePtr,
+    low: LeafPtr,
+    high: LeafPtr,
+}
+
+// Stores a tree of two leaves whose keys begin with the prefix, the first with the smaller byte behind it.
+fn two_leaves<K: AsBytes + Drop, V: Drop>(
+    arena: &mut NodeArena<K, V, 4>,
+    prefix: &[u8],
+    low: (K, V),
+    high: (K, V),
+) -> Option<Tree>
+    requires { (n : Name) → held_at arena.old n ≡ None }
+    ensures inner { IfSome result (λ tree. tree.root.kind ≢ NodeType.Leaf) }
+    ensures stands { IfSome result (λ tree. (s : Shape K V) × IsSubtree K.bytes 4 (node_at arena.new) tree.root [] s) }
+{
+    let low_byte = byte_behind(prefix, low.0.as_bytes())?;
+    let high_byte = byte_behind(prefix, high.0.as_bytes())?;
+    if high_byte <= low_byte {
+        return None;
+    }
+    let low = lone_leaf(arena, low)?;
+    let high = lone_leaf(arena, high)?;
+    let mut node: InnerNode4<K, V, 4> = InnerNode4::from_prefix(prefix, prefix.len());
+    node.write_child(low_byte, low.to_opaque());
+    node.write_child(high_byte, high.to_opaque());
+    let root = match arena.allocate_node_ptr(node) {
+        Ok(root) => root.to_opaque(),
+        Err(_refused) => return None,
+    };
+    Some(Tree { root, low, high })
+}
+
+// Whether such a tree is read as it was stored: its ends, the children of its inner node, which stand under `x` and
+// `y`, and the whole prefix, lent by the first leaf or not.
+fn reads_as_stored<K: AsBytes + Drop, V: Drop>(
+    arena: &mut NodeArena<K, V, 4>,
+    prefix: &[u8],
+    low: (K, V),
+    high: (K, V),
+    is_lent: bool,
+) -> Option<bool>
+    requires { (n : Name) → held_at arena.old n ≡ None }
+{
+    let Tree { root, low, high } = two_leaves(arena, prefix, low, high)?;
+    let ends = first_leaf(arena, root) == low && last_leaf(arena, root) == high;
+    let first = first_child(arena, root) == Some((b'x', low.to_opaque()));
+    let last = last_child(arena, root) == Some((b'y', high.to_opaque()));
+    let found = lookup_child(arena, root, b'y') == Some(high.to_opaque());
+    let none = lookup_child(arena, root, 0).is_none();
+    let len = header(arena, root).prefix_len() == prefix.len();
+    let read = read_full_prefix(arena, root, 0);
+    let lender = if is_lent { Some(low) } else { None };
+    let whole = read.prefix == prefix && read.leaf == lender;
+    Some(ends && first && last && found && none && len && whole)
+}
+
+// One of the two leaves.
+#[derive(Clone, Copy, PartialEq, Eq)]
+enum Side {
+    Low,
+    High,
+}
+
+// What a key meets in such a tree: the leaf that is found under it, in so many reads, and the whole prefix.
+#[derive(Clone, Copy, PartialEq, Eq)]
+struct Met {
+    leaf: Option<Side>,
+    reads: u64,
+    prefix: Result<PrefixMatch, ExplicitMismatch>,
+}
+
+fn meets<K: AsBytes + Drop, V: Drop>(
+    arena: &mut NodeArena<K, V, 4>,
+    prefix: &[u8],
+    low: (K, V),
+    high: (K, V),
+    key: &[u8],
+) -> Option<Met>
+    requires { (n : Name) → held_at arena.old n ≡ None }
+{
+    let tree = two_leaves(arena, prefix, low, high)?;
+    let prefix = match_full_prefix(arena, tree.root, key, 0);
+    let mut reader = ArenaReader::new(arena);
+    let leaf = match find_leaf(&mut reader, tree.root, key) {
+        Some(found) if found.leaf_node_ptr == tree.low => Some(Side::Low),
+        Some(found) if found.leaf_node_ptr == tree.high => Some(Side::High),
+        _ => None,
+    };
+    Some(Met {
+        leaf,
+        reads: reader.count(),
+        prefix,
+    })
+}
+
+// A leaf whose key is the prefix and one more byte.
+fn entry(alloc: Global, prefix: &[u8], last: u8) -> Result<(Vec<u8>, u8), AllocError> {
+    let mut key = prefix.to_vec(alloc)?;
+    key.push(last)?;
+    Ok((key, last))
+}
+
+// The header stores four bytes of a prefix: all of the first two, a front of the others.
+#[test]
+fn a_tree_of_two_leaves(rt: HostRuntime) -> Result<(), Fail> {
+    for (prefix, is_lent) in [
+        (b"ab".as_slice(), false),
+        (b"abcd".as_slice(), false),
+        (b"abcde".as_slice(), true),
+        (b"abcdef".as_slice(), true),
+    ] {
+        let mut arena: NodeArena<Vec<u8>, u8, 4> = NodeArena::new(rt.alloc());
+        let low = entry(rt.alloc(), prefix, b'x')?;
+        let high = entry(rt.alloc(), prefix, b'y')?;
+        let done = reads_as_stored(&mut arena, prefix, low, high, is_lent);
+        assert!(rt; done == Some(true), "{prefix:?}");
+    }
+    Ok(())
+}
+
+fn whole(matched_bytes: usize) -> Result<PrefixMatch, ExplicitMismatch> {
+    Ok(PrefixMatch { matched_bytes })
+}
+
+// A mismatch behind so many bytes.
+fn mismatch(matched_bytes: usize, order: Ordering) -> Result<PrefixMatch, ExplicitMismatch> {
+    Err(ExplicitMismatch {
+        matched_bytes,
+        node_prefix_comparison_to_search_key_segment: order,
+    })
+}
+
+#[test]
+fn keys_in_a_tree_of_two_leaves(rt: HostRuntime) -> Result<(), Fail> {
+    let stored = b"ab".as_slice();
+    let unstored = b"abcdef".as_slice();
+    let (low, high) = (Some(Side::Low), Some(Side::High));
+    let (less, greater) = (Ordering::Less, Ordering::Greater);
+    for (inner, key, leaf, reads, prefix) in [
+        (stored, b"abx".as_slice(), low, 2, whole(2)),
+        (stored, b"aby".as_slice(), high, 2, whole(2)),
+        (stored, b"cdx".as_slice(), None, 2, mismatch(0, less)),
+        (stored, b"abz".as_slice(), None, 1, whole(2)),
+        (stored, b"ab".as_slice(), None, 1, whole(2)),
+        (stored, b"abq".as_slice(), None, 1, whole(2)),
+        (stored, b"ac".as_slice(), None, 1, mismatch(1, less)),
+        (stored, b"aaq".as_slice(), None, 1, mismatch(1, greater)),
+        (stored, b"a".as_slice(), None, 1, mismatch(1, greater)),
+        (unstored, b"abcdefx".as_slice(), low, 2, whole(6)),
+        (unstored, b"abcdefy".as_slice(), high, 2, whole(6)),
+        (
+            unstored,
+            b"abcdeey".as_slice(),
+            None,
+            2,
+            mismatch(5, greater),
+        ),
+        (unstored, b"abcdefz".as_slice(), None, 1, whole(6)),
+        (unstored, b"abcdefq".as_slice(), None, 1, whole(6)),
+        (unstored, b"abcdeg".as_slice(), None, 1, mismatch(5, less)),
+        (
+            unstored,
+            b"abcdeeq".as_slice(),
+            None,
+            1,
+            mismatch(5, greater),
+        ),
+        (unstored, b"abcde".as_slice(), None, 1, mismatch(5, greater)),
+    ] {
+        let wanted = Met {
+            leaf,
+            reads,
+            prefix,
+        };
+        let mut arena: NodeArena<Vec<u8>, u8, 4> = NodeArena::new(rt.alloc());
+        let first = entry(rt.alloc(), inner, b'x')?;
+        let last = entry(rt.alloc(), inner, b'y')?;
+        let met = meets(&mut arena, inner, first, last, key);
+        assert!(rt; met == Some(wanted), "{key:?}");
+    }
+    Ok(())
+}
