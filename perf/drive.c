@@ -1,0 +1,106 @@
+/* drive LIB.so SET COUNT REPEATS: times the map behind LIB.so's one call over COUNT keys of a set (dense, rand8, rand16,
+ * url), and prints the least of the repeats, in nanoseconds of processor time: an insertion, a look-up that hits, one that
+ * misses. For callgrind: with REPEATS 0 it inserts once, with -1 it also looks each key up once.
+ *
+ * The call: strings end to end and where each ends, for keys and for queries; the value of key i is i. Steps: 1 inserts
+ * all keys, 2 looks all queries up. It answers the sum of what it found, and nanos[i] is what step i took. */
+#define _GNU_SOURCE
+#include <dlfcn.h>
+#include <stdint.h>
+#include <stdio.h>
+#include <stdlib.h>
+#include <string.h>
+
+typedef uint64_t (*run_t)(const uint8_t *keys, size_t keys_len, const uint64_t *ends, size_t count, const uint8_t *queries,
+                          size_t queries_len, const uint64_t *query_ends, size_t query_count, const uint8_t *steps,
+                          size_t step_count, uint64_t *nanos, size_t nanos_count);
+
+enum { LONGEST = 96 };
+
+static uint64_t state;
+static uint64_t next(void) {
+    state ^= state << 13;
+    state ^= state >> 7;
+    state ^= state << 17;
+    return state;
+}
+
+/* The key of a number, and its length. Numbers are spread by a product with an odd number, so keys come in no order. */
+static size_t key_of(const char *set, uint64_t number, size_t count, uint8_t *key) {
+    uint64_t random = number * 0x9e3779b97f4a7c15u;
+    random ^= random >> 32;
+    random *= 0xd6e8feb86659fd93u;
+    random ^= random >> 32;
+    if (!strcmp(set, "url"))
+        return (size_t)sprintf((char *)key, "https://www.shop%02u.example.com/shelf/%03u/item/%08u/", (unsigned)(random % 20),
+                               (unsigned)(random >> 8) % 200, (unsigned)number);
+    uint64_t head = !strcmp(set, "dense") ? __builtin_bswap64(number) : random;
+    memcpy(key, &head, 8);
+    uint64_t tail = random * 0x2545f4914f6cdd1du;
+    memcpy(key + 8, &tail, 8);
+    return strcmp(set, "rand16") ? 8 : 16;
+}
+
+struct strings {
+    uint8_t *bytes;
+    uint64_t *ends;
+    size_t len;
+};
+
+/* The keys of 0 to count in a random order; those of a miss differ in their last byte but one. */
+static struct strings strings_of(const char *set, size_t count, int is_miss) {
+    struct strings all = {malloc(count * LONGEST), malloc(count * 8), 0};
+    uint64_t *order = malloc(count * 8);
+    for (size_t i = 0; i < count; i++) {
+        size_t j = next() % (i + 1);
+        order[i] = order[j];
+        order[j] = i;
+    }
+    for (size_t i = 0; i < count; i++) {
+        uint8_t *key = all.bytes + all.len;
+        size_t len = key_of(set, order[i], count, key);
+        if (is_miss)
+            key[len - 2] ^= 0x55;
+        all.ends[i] = all.len += len;
+    }
+    free(order);
+    return all;
+}
+
+static uint64_t least[3] = {UINT64_MAX, UINT64_MAX, UINT64_MAX};
+
+static uint64_t once(run_t run, struct strings keys, struct strings queries, size_t count, const uint8_t *steps, size_t step_count,
+                     int at) {
+    uint64_t nanos[3] = {0, 0, 0};
+    uint64_t found = run(keys.bytes, keys.len, keys.ends, count, queries.bytes, queries.len, queries.ends, count, steps, step_count,
+                         nanos, step_count);
+    if (nanos[0] < least[0])
+        least[0] = nanos[0];
+    if (at && nanos[1] < least[at])
+        least[at] = nanos[1];
+    return found;
+}
+
+int main(int count_of_words, char **words) {
+    if (count_of_words != 5)
+        return 2;
+    void *library = dlopen(words[1], RTLD_NOW);
+    run_t run = library ? (run_t)dlsym(library, "art_bench_run") : NULL;
+    if (!run) {
+        fprintf(stderr, "%s\n", dlerror());
+        return 1;
+    }
+    const char *set = words[2];
+    size_t count = strtoull(words[3], NULL, 10);
+    long repeats = strtol(words[4], NULL, 10);
+    state = 88172645463325252u;
+    struct strings keys = strings_of(set, count, 0), hits = strings_of(set, count, 0), misses = strings_of(set, count, 1);
+    const uint8_t steps[2] = {1, 2};
+    if (repeats <= 0)
+        return once(run, keys, hits, count, steps, 1 - repeats, 0) != (repeats ? count : 0);
+    for (long i = 0; i < repeats; i++)
+        if (once(run, keys, hits, count, steps, 2, 1) != count || once(run, keys, misses, count, steps, 2, 2) > count)
+            return 1;
+    printf("%.1f %.1f %.1f\n", (double)least[0] / count, (double)least[1] / count, (double)least[2] / count);
+    return 0;
+}
