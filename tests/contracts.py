@@ -128,11 +128,13 @@ def read_specs():
             SPECS[spec.key] = spec
 
 
-def closure(found):
-    """All definitions that these name in turn. A name that is imported and stands nowhere stops the count."""
+def closure(found, tied):
+    """All definitions that these name in turn, with those that a law ties to others read as the others. A name that is
+    imported and stands nowhere stops the count."""
     todo, reached = list(found), set()
     while todo:
         crate, module, name = todo.pop()
+        crate, module, name = tied.get((crate, module, name), (crate, module, name))
         spec = SPECS.get((crate, module))
         if spec is None:
             if crate in CRATES and not re.match(r"(declared|contracts)\b", module):

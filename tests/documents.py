@@ -3,9 +3,9 @@
 
     tests/documents.py             at the top of the repository; its last line is 'N passed, M failed'
     tests/documents.py --list NAME   the public calls of a crate, each with its sentence and the names of its clauses
-Each public function of a library stands in a row of its crate's section (below a heading `###` with a type's name its methods stand by
-their own names), and the last cells of its rows have the names of all its clauses and no others. A program has no public face: there only
-what the rows name is looked at.
+Each public function of a library stands in a row of its crate's section (below a heading `###` with a type's name its
+methods stand by their own names), and the last cells of its rows have the names of all its clauses and no others. A
+program has no public face: there only what the rows name is looked at. Crates of tests and benchmarks have no section.
 """
 import os
 import re

@@ -1,5 +1,6 @@
 //! What a benchmark's one call is given and gives back: byte strings end to end, and the clock.
-//! `perf/drive.c` says what each argument of the call is. No contract is owed: a benchmark measures, and proves nothing.
+//! `perf/drive.c` says what each argument of the call is. No contract is owed: a benchmark measures, and proves
+//! nothing.
 #![tactic(auto)]
 
 use libc::types::timespec;
