@@ -106,7 +106,8 @@ fn place_of<K: AsBytes, V>(
 ) -> Option<InsertPoint>
     requires { (s : Shape K V) × IsTree K.bytes 4 (node_at arena.now) root (links_at arena.now) s }
     ensures { IfSome result (λ point. (s : Shape K V)
-        × IsTree K.bytes 4 (node_at arena.now) point.root (links_at arena.now) s × IsPoint K.bytes (K.bytes key.now) s point) }
+        × IsTree K.bytes 4 (node_at arena.now) point.root (links_at arena.now) s
+        × IsPoint K.bytes (K.bytes key.now) s point) }
 {
     let Ok(point) = search_for_insert_point(alloc, arena, root, key.as_bytes()) else {
         return None;
