@@ -39,7 +39,8 @@ module _ {V : Type 0} (width : ℕ) (P : V → Type 0) (f : V → List ℕ) (cmp
         found.0,
         found.1,
         found.2
-            ∙ sym (ap (λ b. part_at width b (suc k)) h.1 ∙ part_later width (f x) (flat_map f xs) k (laws.long x h.0.0)),
+            ∙ sym (ap (λ b. part_at width b (suc k)) h.1
+            ∙ part_later width (f x) (flat_map f xs) k (laws.long x h.0.0)),
       )
 
   -- values that have the parts have the bytes

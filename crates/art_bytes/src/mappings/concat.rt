@@ -360,7 +360,8 @@ impl<
         (pair_bytes _ _ _ _ _ _ _ _
         (pair_bytes _ _ _ _ _ _ _ _
         (pair_bytes _ _ _ _ _ _ _ _
-        (pair_bytes _ _ _ _ _ _ _ _ A.have_bytes B.have_bytes) C.have_bytes) D.have_bytes) E.have_bytes) F.have_bytes) };
+        (pair_bytes _ _ _ _ _ _ _ _ A.have_bytes B.have_bytes)
+        C.have_bytes) D.have_bytes) E.have_bytes) F.have_bytes) };
 
     fn width() -> Option<usize> {
         pair_width::<(A, B, C, D, E), (U, V, W, X, Y), F, Z>()
