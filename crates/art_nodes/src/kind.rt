@@ -8,7 +8,7 @@ use crate::sealed::Sealed;
 use std::ops::Range;
 
 /// The kind of a node: one of the inner kinds, or a leaf.
-#[derive(Clone, Copy, PartialEq, Eq, PartialOrd, Ord, Hash, Debug)]
+#[derive(Clone, Copy, PartialEq, Eq, Hash, Debug)]
 pub enum NodeType {
     /// The smallest inner node.
     Node4,
@@ -23,7 +23,7 @@ pub enum NodeType {
 }
 
 /// What the table of kinds says of one kind.
-#[derive(Clone, Copy, PartialEq, Eq, Debug)]
+#[derive(Clone, Copy)]
 pub struct KindRow {
     /// The fewest children in a canonical tree.
     pub fewest: usize,
@@ -107,7 +107,6 @@ pub trait NodeKind: Sealed {
 }
 
 /// The kind of the smallest inner nodes.
-#[derive(Clone, Copy, PartialEq, Eq, Debug)]
 pub struct Kind4;
 
 impl Sealed for Kind4 {}
@@ -119,7 +118,6 @@ impl NodeKind for Kind4 {
 }
 
 /// The kind of inner nodes of up to 16 children.
-#[derive(Clone, Copy, PartialEq, Eq, Debug)]
 pub struct Kind16;
 
 impl Sealed for Kind16 {}
@@ -131,7 +129,6 @@ impl NodeKind for Kind16 {
 }
 
 /// The kind of inner nodes of up to 48 children.
-#[derive(Clone, Copy, PartialEq, Eq, Debug)]
 pub struct Kind48;
 
 impl Sealed for Kind48 {}
@@ -143,7 +140,6 @@ impl NodeKind for Kind48 {
 }
 
 /// The kind of the largest inner nodes.
-#[derive(Clone, Copy, PartialEq, Eq, Debug)]
 pub struct Kind256;
 
 impl Sealed for Kind256 {}
@@ -155,7 +151,6 @@ impl NodeKind for Kind256 {
 }
 
 /// The kind of leaves.
-#[derive(Clone, Copy, PartialEq, Eq, Debug)]
 pub struct KindLeaf;
 
 impl Sealed for KindLeaf {}

@@ -12,7 +12,7 @@ use std::alloc::{AllocError, Global};
 use std::marker::PhantomData;
 
 /// Tuples of two to six parts, each by the mapping that stands in its place in `M`.
-#[derive(Clone, Copy, Debug)]
+#[derive(Clone, Copy)]
 pub struct ConcatTuple<M> {
     parts: PhantomData<M>,
 }

@@ -9,15 +9,15 @@ use crate::mapping::{BytesMapping, FixedBytesMapping, NoPrefixesMapping, Ordered
 use std::alloc::{AllocError, Global};
 
 /// Unsigned numbers as big-endian bytes.
-#[derive(Clone, Copy, Debug)]
+#[derive(Clone, Copy)]
 pub struct ToUBE;
 
 /// Signed numbers as big-endian bytes with the top bit flipped, so that the negative ones come first.
-#[derive(Clone, Copy, Debug)]
+#[derive(Clone, Copy)]
 pub struct ToIBE;
 
 /// Addresses as their octets.
-#[derive(Clone, Copy, Debug)]
+#[derive(Clone, Copy)]
 pub struct ToOctets;
 
 // The value that has these bytes.
