@@ -4,6 +4,7 @@ pub mod Header
 pub mod Indirect
 pub mod InnerNode
 pub mod Kind
+pub mod KindLaws
 pub mod Leaf
 pub mod Name
 pub mod Place

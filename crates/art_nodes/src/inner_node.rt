@@ -187,13 +187,13 @@ pub trait InnerNodeCommon<const PREFIX_LEN: usize>: InnerNodeInit<PREFIX_LEN> + 
 
 /// An inner node of one kind.
 pub trait InnerNode<const PREFIX_LEN: usize>: Node + InnerNodeCommon<PREFIX_LEN> {
-    ghost use Rattle.art_nodes.specs.Kind.{row_of, CanShrink};
+    ghost use Rattle.art_nodes.specs.Kind.{row_of, CanShrink, grown_kind, shrunk_kind};
 
     /// The next larger kind, and for the largest itself.
-    type GrownNode: InnerNodeCommon<PREFIX_LEN>;
+    type GrownNode: Node + InnerNodeCommon<PREFIX_LEN>;
 
     /// The next smaller kind, and for the smallest itself.
-    type ShrunkNode: InnerNodeCommon<PREFIX_LEN>;
+    type ShrunkNode: Node + InnerNodeCommon<PREFIX_LEN>;
 
     /// A node of the next larger kind with the same header and children. This one must be full and not of the
     /// largest kind.
@@ -210,4 +210,10 @@ pub trait InnerNode<const PREFIX_LEN: usize>: Node + InnerNodeCommon<PREFIX_LEN>
 
     /// The room is the most children that the table of kinds names.
     ghost room_is_most: { Self.room ≡ (row_of Self.Kind.TYPE).most };
+
+    /// What a node grows into is of the kind that the table names.
+    ghost grows_by_table: { Self.GrownNode.Kind.TYPE ≡ grown_kind Self.Kind.TYPE };
+
+    /// What a node shrinks into is of the kind that the table names.
+    ghost shrinks_by_table: { Self.ShrunkNode.Kind.TYPE ≡ shrunk_kind Self.Kind.TYPE };
 }

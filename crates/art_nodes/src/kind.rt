@@ -1,6 +1,8 @@
 //! The kinds of nodes, and the one table of what each kind of inner node holds.
 ghost use Rattle.std.specs.Prelude.{◌≡◌, ◌≢◌, ◌≤◌, ◌+◌, ◌↔◌, IsTrue, IsSomeAnd};
+ghost use Rattle.std.proofs.Common.{lit<};
 ghost use Rattle.art_nodes.specs.Kind.{row_of, CanShrink};
+ghost use Rattle.art_nodes.specs.KindLaws.{has_room};
 ghost use Rattle.art_nodes.specs.declared.kind.NodeType.{NodeType};
 ghost use Rattle.art_nodes.specs.declared.kind.NodeType.TheVariants.{Node4, Node16, Node48, Node256, Leaf};
 
@@ -106,6 +108,11 @@ pub trait NodeKind: Sealed {
     const TYPE: NodeType;
 }
 
+/// A kind of inner nodes.
+pub trait InnerKind: NodeKind {
+    ghost is_inner: { Self.TYPE ≢ NodeType.Leaf };
+}
+
 /// The kind of the smallest inner nodes.
 pub struct Kind4;
 
@@ -115,6 +122,10 @@ impl NodeKind for Kind4 {
     ghost TYPE = { Node4 };
 
     const TYPE: NodeType = NodeType::Node4;
+}
+
+impl InnerKind for Kind4 {
+    ghost is_inner = { has_room Node4 (lit< tt) };
 }
 
 /// The kind of inner nodes of up to 16 children.
@@ -128,6 +139,10 @@ impl NodeKind for Kind16 {
     const TYPE: NodeType = NodeType::Node16;
 }
 
+impl InnerKind for Kind16 {
+    ghost is_inner = { has_room Node16 (lit< tt) };
+}
+
 /// The kind of inner nodes of up to 48 children.
 pub struct Kind48;
 
@@ -139,6 +154,10 @@ impl NodeKind for Kind48 {
     const TYPE: NodeType = NodeType::Node48;
 }
 
+impl InnerKind for Kind48 {
+    ghost is_inner = { has_room Node48 (lit< tt) };
+}
+
 /// The kind of the largest inner nodes.
 pub struct Kind256;
 
@@ -148,6 +167,10 @@ impl NodeKind for Kind256 {
     ghost TYPE = { Node256 };
 
     const TYPE: NodeType = NodeType::Node256;
+}
+
+impl InnerKind for Kind256 {
+    ghost is_inner = { has_room Node256 (lit< tt) };
 }
 
 /// The kind of leaves.

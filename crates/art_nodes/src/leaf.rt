@@ -12,7 +12,7 @@ use std::alloc::AllocError;
 use std::marker::Model;
 
 /// A leaf: a key with its value, and the names of the leaves before and after it in the order of keys.
-#[derive(Drop)]
+#[derive(Debug, Drop)]
 pub struct LeafNode<K, V> {
     key: K,
     value: V,
@@ -22,7 +22,7 @@ pub struct LeafNode<K, V> {
 
 // The leaf beside a leaf, if there is one. It has a model of its own, since the check fails of a caller that moves a
 // leaf of concrete types where an enum in the leaf holds a type with a model.
-#[derive(Clone, Copy)]
+#[derive(Clone, Copy, Debug)]
 struct Link {
     slot: Option<Slot>,
 }

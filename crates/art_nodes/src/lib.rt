@@ -23,11 +23,12 @@ mod sorted;
 pub use builder::{HasChild, HasOneChild, InnerNodeBuilder, NoChild};
 pub use child_iter::{ChildIter, are_valid_child_bounds};
 pub use concrete::{ConcreteInnerNodePtr, ConcreteNodePtr};
-pub use direct::{InnerNode256, InnerNodeDirect};
+pub use direct::InnerNodeDirect;
 pub use header::Header;
-pub use indirect::{InnerNode48, InnerNodeIndirect};
+pub use indirect::InnerNodeIndirect;
 pub use inner_node::{InnerNode, InnerNodeCommon, InnerNodeInit, Node};
-pub use kind::{Kind4, Kind16, Kind48, Kind256, KindLeaf, KindRow, NodeKind, NodeType};
+pub use kind::{InnerKind, Kind4, Kind16, Kind48, Kind256, KindLeaf, KindRow, NodeKind, NodeType};
+pub use kinds::{InnerNode4, InnerNode16, InnerNode48, InnerNode256};
 pub use leaf::LeafNode;
 pub use names::{NodePtr, OpaqueNodePtr};
 pub use non_max_index::{NonMaxIndex, TryFromByteError};
@@ -36,7 +37,7 @@ pub use prefix_match::{
     PessimisticMismatch, PrefixMatch, count_agreeing,
 };
 pub use sealed::Sealed;
-pub use sorted::{InnerNode4, InnerNode16, InnerNodeSorted};
+pub use sorted::InnerNodeSorted;
 
 #[cfg(test)]
 mod calling;

@@ -16,12 +16,6 @@ use arrayvec::ArrayVec;
 use std::fmt;
 use std::marker::{Model, PhantomData};
 
-/// The smallest inner node.
-pub type InnerNode4<K, V, const PREFIX_LEN: usize> = InnerNodeSorted<K, V, PREFIX_LEN, 4>;
-
-/// An inner node of up to 16 children.
-pub type InnerNode16<K, V, const PREFIX_LEN: usize> = InnerNodeSorted<K, V, PREFIX_LEN, 16>;
-
 /// An inner node of up to `SIZE` children, by ascending byte.
 pub struct InnerNodeSorted<K, V, const PREFIX_LEN: usize, const SIZE: usize> {
     header: Header<PREFIX_LEN>,
