@@ -9,5 +9,7 @@ pub mod Leaf
 pub mod Name
 pub mod Place
 pub mod PrefixMatch
+pub mod Replay
 pub mod Sorted
 pub mod Table
+pub mod inner

@@ -16,6 +16,7 @@ mod leaf;
 mod names;
 mod non_max_index;
 mod prefix_match;
+mod replaying;
 mod sealed;
 mod slot;
 mod sorted;
@@ -36,6 +37,7 @@ pub use prefix_match::{
     AttemptOptimisticPrefixMatch, ExplicitMismatch, NodePrefix, OptimisticMismatch,
     PessimisticMismatch, PrefixMatch, count_agreeing,
 };
+pub use replaying::{ChildAnswer, ChildCommand, replay};
 pub use sealed::Sealed;
 pub use sorted::InnerNodeSorted;
 
