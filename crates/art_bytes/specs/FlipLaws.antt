@@ -1,5 +1,7 @@
--- The flipped bit over any width: what it does to a signed number, and the order that it gives. Nothing here is a definition that a contract cites.
-use Rattle.std.proofs.Common.{◌≡◌, ℕ, suc, ◌+◌, ◌-◌, ◌*◌, ◌^◌, ◌<◌, ℤ, pos, negsuc, refl, sym, ap, ◌∙◌, subst, inl, inr, arith, pow-suc}
+-- The flipped bit over any width: what it does to a signed number, and the order that it gives. Nothing here is a
+-- definition that a contract cites.
+use Rattle.std.proofs.Common.{◌≡◌, ℕ, suc, ◌+◌, ◌-◌, ◌*◌, ◌^◌, ◌<◌, ℤ, pos, negsuc, refl, sym, ap, ◌∙◌, subst, inl, inr}
+use Rattle.std.proofs.Common.{arith, pow-suc}
 use Rattle.std.proofs.lemmas.Bool.{cases_lt}
 use Rattle.std.proofs.lemmas.Bool.Decides.{nat_tests}
 use Rattle.std.proofs.lemmas.Nat.{xor_block, xor_lt}
@@ -55,44 +57,57 @@ flipped-negsuc w n h =
     let whole = halves w in
     let split : 2 ^ bits w - suc n ≡ 2 ^ hbits w + (2 ^ hbits w - suc n) = omega arith in
     let low : 2 ^ hbits w - suc n < 2 ^ hbits w = omega arith in
-    ap (λ k. bit_xor (2 ^ bits w - suc n) (2 ^ k)) (top_is w) ∙ ap (λ m. bit_xor m (2 ^ hbits w)) split ∙ flip_high (hbits w) (2 ^ hbits w - suc n) low
+    ap (λ k. bit_xor (2 ^ bits w - suc n) (2 ^ k)) (top_is w) ∙ ap (λ m. bit_xor m (2 ^ hbits w)) split
+    ∙ flip_high (hbits w) (2 ^ hbits w - suc n) low
 
 pub flipped-bound : (w : Width) (z : ℤ) → FitsSigned w z → flipped w z < 256 ^ byte_len w
 flipped-bound w (pos n) h =
-    let fits : n < 2 ^ hbits w = h.sfits in let whole = halves w in let range = range_is w in let e = flipped-pos w n fits in omega arith
+    let fits : n < 2 ^ hbits w = h.sfits in let whole = halves w in let range = range_is w in
+    let e = flipped-pos w n fits in omega arith
 flipped-bound w (negsuc n) h =
-    let fits : n < 2 ^ hbits w = h.sfits in let whole = halves w in let range = range_is w in let e = flipped-negsuc w n fits in omega arith
+    let fits : n < 2 ^ hbits w = h.sfits in let whole = halves w in let range = range_is w in
+    let e = flipped-negsuc w n fits in omega arith
 
 -- the order of signed numbers is the order of their flipped bits
-pub int_cmp-flipped : (w : Width) (y z : ℤ) → FitsSigned w y → FitsSigned w z → int_cmp y z ≡ nat_cmp (flipped w y) (flipped w z)
+pub int_cmp-flipped : (w : Width) (y z : ℤ) → FitsSigned w y → FitsSigned w z
+    → int_cmp y z ≡ nat_cmp (flipped w y) (flipped w z)
 int_cmp-flipped w (pos m) (pos n) hy hz =
     let at_y : m < 2 ^ hbits w = hy.sfits in let at_z : n < 2 ^ hbits w = hz.sfits in
-    pos_pos (2 ^ hbits w) m n ∙ sym (ap (λ k. nat_cmp k (flipped w (pos n))) (flipped-pos w m at_y) ∙ ap (nat_cmp (2 ^ hbits w + m)) (flipped-pos w n at_z))
+    pos_pos (2 ^ hbits w) m n
+    ∙ sym (ap (λ k. nat_cmp k (flipped w (pos n))) (flipped-pos w m at_y)
+    ∙ ap (nat_cmp (2 ^ hbits w + m)) (flipped-pos w n at_z))
   where
     pos_pos : (half m n : ℕ) → int_cmp (pos m) (pos n) ≡ nat_cmp (half + m) (half + n)
     pos_pos half m n = grind (arith, nat_tests)
 int_cmp-flipped w (pos m) (negsuc n) hy hz =
     let at_y : m < 2 ^ hbits w = hy.sfits in let at_z : n < 2 ^ hbits w = hz.sfits in
-    pos_negsuc (2 ^ hbits w) m n at_z ∙ sym (ap (λ k. nat_cmp k (flipped w (negsuc n))) (flipped-pos w m at_y) ∙ ap (nat_cmp (2 ^ hbits w + m)) (flipped-negsuc w n at_z))
+    pos_negsuc (2 ^ hbits w) m n at_z
+    ∙ sym (ap (λ k. nat_cmp k (flipped w (negsuc n))) (flipped-pos w m at_y)
+    ∙ ap (nat_cmp (2 ^ hbits w + m)) (flipped-negsuc w n at_z))
   where
     pos_negsuc : (half m n : ℕ) → n < half → int_cmp (pos m) (negsuc n) ≡ nat_cmp (half + m) (half - suc n)
     pos_negsuc half m n h = grind (arith, nat_tests)
 int_cmp-flipped w (negsuc m) (pos n) hy hz =
     let at_y : m < 2 ^ hbits w = hy.sfits in let at_z : n < 2 ^ hbits w = hz.sfits in
-    negsuc_pos (2 ^ hbits w) m n at_y ∙ sym (ap (λ k. nat_cmp k (flipped w (pos n))) (flipped-negsuc w m at_y) ∙ ap (nat_cmp (2 ^ hbits w - suc m)) (flipped-pos w n at_z))
+    negsuc_pos (2 ^ hbits w) m n at_y
+    ∙ sym (ap (λ k. nat_cmp k (flipped w (pos n))) (flipped-negsuc w m at_y)
+    ∙ ap (nat_cmp (2 ^ hbits w - suc m)) (flipped-pos w n at_z))
   where
     negsuc_pos : (half m n : ℕ) → m < half → int_cmp (negsuc m) (pos n) ≡ nat_cmp (half - suc m) (half + n)
     negsuc_pos half m n h = grind (arith, nat_tests)
 int_cmp-flipped w (negsuc m) (negsuc n) hy hz =
     let at_y : m < 2 ^ hbits w = hy.sfits in let at_z : n < 2 ^ hbits w = hz.sfits in
     negsuc_negsuc (2 ^ hbits w) m n at_y at_z
-    ∙ sym (ap (λ k. nat_cmp k (flipped w (negsuc n))) (flipped-negsuc w m at_y) ∙ ap (nat_cmp (2 ^ hbits w - suc m)) (flipped-negsuc w n at_z))
+    ∙ sym (ap (λ k. nat_cmp k (flipped w (negsuc n))) (flipped-negsuc w m at_y)
+    ∙ ap (nat_cmp (2 ^ hbits w - suc m)) (flipped-negsuc w n at_z))
   where
-    negsuc_negsuc : (half m n : ℕ) → m < half → n < half → int_cmp (negsuc m) (negsuc n) ≡ nat_cmp (half - suc m) (half - suc n)
+    negsuc_negsuc : (half m n : ℕ) → m < half → n < half
+        → int_cmp (negsuc m) (negsuc n) ≡ nat_cmp (half - suc m) (half - suc n)
     negsuc_negsuc half m n h k = grind (arith, nat_tests)
 
 pub flipped-injective : (w : Width) (y z : ℤ) → FitsSigned w y → FitsSigned w z → flipped w y ≡ flipped w z → y ≡ z
-flipped-injective w y z hy hz e = exact_signed y z (int_cmp-flipped w y z hy hz ∙ nat_cmp-same (flipped w y) (flipped w z) e)
+flipped-injective w y z hy hz e =
+    exact_signed y z (int_cmp-flipped w y z hy hz ∙ nat_cmp-same (flipped w y) (flipped w z) e)
 
 -- flipping twice gives the bits back
 flip_twice : (k n : ℕ) → n < 2 ^ k + 2 ^ k → bit_xor (bit_xor n (2 ^ k)) (2 ^ k) ≡ n
@@ -101,15 +116,18 @@ flip_twice k n h = elim (cases_lt n (2 ^ k)) [
   | inr high ↦
       let rest : n - 2 ^ k < 2 ^ k = omega arith in
       let all : n ≡ 2 ^ k + (n - 2 ^ k) = omega arith in
-      ap (λ m. bit_xor (bit_xor m (2 ^ k)) (2 ^ k)) all ∙ ap (λ m. bit_xor m (2 ^ k)) (flip_high k (n - 2 ^ k) rest) ∙ flip_low k (n - 2 ^ k) rest ∙ sym all
+      ap (λ m. bit_xor (bit_xor m (2 ^ k)) (2 ^ k)) all ∙ ap (λ m. bit_xor m (2 ^ k)) (flip_high k (n - 2 ^ k) rest)
+      ∙ flip_low k (n - 2 ^ k) rest ∙ sym all
 ]
 
 -- the signed number of flipped bits has those bits
 pub flipped-cast_signed : (w : Width) (n : ℕ) → n < 2 ^ bits w → flipped w (cast_signed w (bit_xor n (top_bit w))) ≡ n
 flipped-cast_signed w n h =
     let whole = halves w in
-    let small : bit_xor n (2 ^ hbits w) < 2 ^ bits w = xor_lt (bits w) n (2 ^ hbits w) h (omega (arith, pow_positive_2 (hbits w))) in
+    let small : bit_xor n (2 ^ hbits w) < 2 ^ bits w =
+    xor_lt (bits w) n (2 ^ hbits w) h (omega (arith, pow_positive_2 (hbits w))) in
     let top = ap (λ k. 2 ^ k) (top_is w) in
     let written : flipped w (cast_signed w (bit_xor n (top_bit w))) ≡ bit_xor (bit_xor n (top_bit w)) (top_bit w) =
-    ap (λ m. bit_xor m (top_bit w)) (of_z-to_z w (bit_xor n (top_bit w)) (subst (λ t. bit_xor n t < 2 ^ bits w) (sym top) small)) in
+    ap (λ m. bit_xor m (top_bit w))
+    (of_z-to_z w (bit_xor n (top_bit w)) (subst (λ t. bit_xor n t < 2 ^ bits w) (sym top) small)) in
     written ∙ ap (λ t. bit_xor (bit_xor n t) t) top ∙ flip_twice (hbits w) n (omega arith)

@@ -1,5 +1,6 @@
 -- Facts on keys that the impls of the marker traits cite. Nothing here is a definition.
-use Rattle.std.proofs.Common.{Bool, true, false, ◌||◌, true≢false, eq-eqb, ne_eqb, lit<, ◌-◌, take, ◌≡◌, ◌<◌, ℕ, get_or, List, [], ◌∷◌, ◌++◌, length, refl, sym, ap, ◌∙◌, arith, append-nil, length-append}
+use Rattle.std.proofs.Common.{Bool, true, false, ◌||◌, true≢false, eq-eqb, ne_eqb, lit<, ◌-◌, take, ◌≡◌, ◌<◌, ℕ, get_or}
+use Rattle.std.proofs.Common.{List, [], ◌∷◌, ◌++◌, length, refl, sym, ap, ◌∙◌, arith, append-nil, length-append}
 use Rattle.std.proofs.lemmas.Grind.{common_steps}
 use Rattle.std.specs.List.{list_any}
 use Rattle.std.specs.Prelude.{nat_eq}
@@ -24,10 +25,12 @@ BeginsWith-same_length k l n hk hl (rest, e) =
 
 -- what holds of the fronts of values' bytes holds of the keys that have these bytes
 pub front_of_mapped : {k l v w : List ℕ} → k ≡ v → l ≡ w → (BeginsWith v w → v ≡ w) → BeginsWith k l → k ≡ l
-front_of_mapped {k} {l} {v} {w} at_k at_l same (rest, e) = at_k ∙ same (rest, sym at_l ∙ e ∙ ap (λ m. m ++ rest) at_k) ∙ sym at_l
+front_of_mapped {k} {l} {v} {w} at_k at_l same (rest, e) = at_k ∙ same (rest, sym at_l ∙ e ∙ ap (λ m. m ++ rest) at_k)
+    ∙ sym at_l
 
 -- a zero at the end comes nowhere before it, so a front ends where the key does
-pub zero_ended_front : (k l : List ℕ) → HasNoZero k → HasNoZero l → BeginsWith (k ++ 0 ∷ []) (l ++ 0 ∷ []) → k ++ 0 ∷ [] ≡ l ++ 0 ∷ []
+pub zero_ended_front : (k l : List ℕ) → HasNoZero k → HasNoZero l → BeginsWith (k ++ 0 ∷ []) (l ++ 0 ∷ [])
+    → k ++ 0 ∷ [] ≡ l ++ 0 ∷ []
 zero_ended_front [] [] hk hl h = refl
 zero_ended_front [] (b ∷ l) hk hl (rest, e) = absurd (hl.0 (first e))
   where
@@ -50,7 +53,10 @@ none_is_zero (x ∷ xs) e = by_head (none_is_zero xs) (nat_eq x 0) refl
   where
     by_head : (list_any (λ b. nat_eq b 0) xs ≡ false → HasNoZero xs) → (t : Bool) → nat_eq x 0 ≡ t → HasNoZero (x ∷ xs)
     by_head rest true at = absurd (true≢false (sym (ap (λ b. b || list_any (λ b. nat_eq b 0) xs) at) ∙ e))
-    by_head rest false at = ((λ zero_x. true≢false (sym (eq-eqb x 0 zero_x) ∙ at)), rest (sym (ap (λ b. b || list_any (λ b. nat_eq b 0) xs) at) ∙ e))
+    by_head rest false at = (
+      (λ zero_x. true≢false (sym (eq-eqb x 0 zero_x) ∙ at)),
+      rest (sym (ap (λ b. b || list_any (λ b. nat_eq b 0) xs) at) ∙ e),
+    )
 
 pub some_is_zero : (xs : List ℕ) → list_any (λ b. nat_eq b 0) xs ≡ true → HasNoZero xs → ⊥
 some_is_zero [] e h = true≢false (sym e)
@@ -59,7 +65,8 @@ some_is_zero (x ∷ xs) e h =
 
 -- the bytes of a key with a zero at its end
 pub AreBytes-zero_ended : (k : List ℕ) → AreBytes k → AreBytes (k ++ 0 ∷ [])
-AreBytes-zero_ended k h = All-append (λ b. b < 256) k (0 ∷ []) h (All-cons (λ b. b < 256) 0 [] (lit< tt) (All-nil (λ b. b < 256)))
+AreBytes-zero_ended k h =
+    All-append (λ b. b < 256) k (0 ∷ []) h (All-cons (λ b. b < 256) 0 [] (lit< tt) (All-nil (λ b. b < 256)))
 
 -- what stands before the zero at the end
 pub before_zero : (k l : List ℕ) → l ≡ k ++ 0 ∷ [] → take (length l - 1) l ≡ k

@@ -24,12 +24,14 @@ pub trait AsBytes {
 
 /// Keys none of which is a proper front of another's: if one key's bytes begin another's, both are equal.
 pub trait NoPrefixesBytes: AsBytes {
-    ghost no_prefixes: { (k l : Self) → Self.is_key k → Self.is_key l → BeginsWith (Self.bytes k) (Self.bytes l) → Self.bytes k ≡ Self.bytes l };
+    ghost no_prefixes: { (k l : Self) → Self.is_key k → Self.is_key l → BeginsWith (Self.bytes k) (Self.bytes l)
+        → Self.bytes k ≡ Self.bytes l };
 }
 
 /// Keys whose `Ord` is the order of their bytes.
 pub trait OrderedBytes: AsBytes + Ord {
-    ghost ordered: { (k l : Self) → Self.is_key k → Self.is_key l → Self.cmp k l ≡ bytes_cmp (Self.bytes k) (Self.bytes l) };
+    ghost ordered: { (k l : Self) → Self.is_key k → Self.is_key l
+        → Self.cmp k l ≡ bytes_cmp (Self.bytes k) (Self.bytes l) };
 }
 
 /// Keys whose clones have the same bytes.

@@ -41,7 +41,8 @@ pub trait FixedBytes: Ord + Copy {
     /// The value that has these bytes, or None where there is none. It takes no memory.
     fn checked_from_slice(bytes: &[u8]) -> Option<Self>
         requires { length bytes.now ≡ WIDTH }
-        ensures { MatchOption result (¬ ((v : Self) × is_value v × (fixed_bytes v ≡ bytes.now))) (λ v. is_value v × (fixed_bytes v ≡ bytes.now)) };
+        ensures { MatchOption result (¬ ((v : Self) × is_value v × (fixed_bytes v ≡ bytes.now)))
+            (λ v. is_value v × (fixed_bytes v ≡ bytes.now)) };
 
     ghost have_bytes: { HaveFixedBytes WIDTH is_value fixed_bytes Self.cmp };
 }

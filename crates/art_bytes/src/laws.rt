@@ -45,7 +45,8 @@ pub fn reads_back<B: BytesMapping<D>, D>(alloc: Global, value: D) -> Result<D, A
     Ok(read)
 }
 
-/// Bytes that are read and written back are the same bytes; it is refused only where the value or its bytes take memory.
+/// Bytes that are read and written back are the same bytes; it is refused only where the value or its bytes take
+/// memory.
 pub fn writes_back<B: BytesMapping<D>, D>(
     alloc: Global,
     bytes: B::Bytes,

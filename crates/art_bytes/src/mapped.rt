@@ -3,7 +3,8 @@ ghost use Rattle.std.specs.Prelude.{◌≡◌, IfOk, OnErr, nat_eq, Some};
 ghost use Rattle.std.proofs.Common.{refl, rules};
 ghost use Rattle.std.specs.Cmp.Rules.{hashing};
 ghost use Rattle.std.specs.Cmp.{on_per, on_po, partial_equiv_from_equiv};
-ghost use Rattle.std.specs.Cmp.Lexicographic.{pointwise, nat_list_eq_equiv, on_texts, on_texts_equal, texts_po, texts_ties};
+ghost use Rattle.std.specs.Cmp.Lexicographic.{pointwise, nat_list_eq_equiv, on_texts, on_texts_equal, texts_po};
+ghost use Rattle.std.specs.Cmp.Lexicographic.{texts_ties};
 ghost use Rattle.std.specs.Hash as fed;
 ghost use Rattle.art_bytes.specs.Keys.{bytes_cmp};
 ghost use Rattle.art_bytes.specs.KeyLaws.{front_of_mapped};
@@ -69,7 +70,8 @@ impl<B: BytesMapping<D>, D> AsBytes for Mapped<B, D> {
 }
 
 impl<B: NoPrefixesMapping<D>, D> NoPrefixesBytes for Mapped<B, D> {
-    ghost no_prefixes = { λ m n hm hn. front_of_mapped (B.are_bytes hm.0 m hm.1).1 (B.are_bytes hn.0 n hn.1).1 (B.no_prefixes hm.0 hn.0 m n hm.1 hn.1) };
+    ghost no_prefixes = { λ m n hm hn. front_of_mapped (B.are_bytes hm.0 m hm.1).1 (B.are_bytes hn.0 n hn.1).1
+        (B.no_prefixes hm.0 hn.0 m n hm.1 hn.1) };
 }
 
 impl<B: BytesMapping<D>, D> PartialEq for Mapped<B, D> {

@@ -40,17 +40,21 @@ pub trait BytesMapping<D> {
     /// The value that has these bytes, or None exactly where they are no value's. It is refused only where the value
     /// takes memory.
     fn checked_from_bytes(alloc: Global, bytes: Self::Bytes) -> Result<Option<D>, AllocError>
-        ensures value { IfOk result (λ found. MatchOption found (¬ ((v : D) × has_bytes v bytes)) (λ v. has_bytes v bytes)) }
+        ensures value { IfOk result
+            (λ found. MatchOption found (¬ ((v : D) × has_bytes v bytes)) (λ v. has_bytes v bytes)) }
         ensures refused { OnErr result (¬ value_is_free) };
 
     /// What has a value's bytes is a key of these bytes.
-    ghost are_bytes: { (v : D) (b : Self.Bytes) → has_bytes v b → Self.Bytes.is_key b × (Self.Bytes.bytes b ≡ bytes_of v) };
+    ghost are_bytes: { (v : D) (b : Self.Bytes) → has_bytes v b
+        → Self.Bytes.is_key b × (Self.Bytes.bytes b ≡ bytes_of v) };
 
     /// Whether a key is some value's follows from its bytes.
-    ghost by_bytes: { (v : D) (b c : Self.Bytes) → has_bytes v b → Self.Bytes.is_key c → Self.Bytes.bytes c ≡ Self.Bytes.bytes b → (w : D) × has_bytes w c };
+    ghost by_bytes: { (v : D) (b c : Self.Bytes) → has_bytes v b → Self.Bytes.is_key c
+        → Self.Bytes.bytes c ≡ Self.Bytes.bytes b → (w : D) × has_bytes w c };
 
     /// Values of equal bytes are the same.
-    ghost one_value: { (v w : D) (b c : Self.Bytes) → has_bytes v b → has_bytes w c → bytes_of v ≡ bytes_of w → is_same v w };
+    ghost one_value: { (v w : D) (b c : Self.Bytes) → has_bytes v b → has_bytes w c → bytes_of v ≡ bytes_of w
+        → is_same v w };
 }
 
 /// A mapping that gives each value `WIDTH` bytes, in the order of the values, and takes no memory.
@@ -66,7 +70,8 @@ pub trait FixedBytesMapping<D: Ord>: BytesMapping<D> {
     /// The value that has these bytes, or None where there is none. It takes no memory.
     fn checked_from_slice(bytes: &[u8]) -> Option<D>
         requires { length bytes.now ≡ WIDTH }
-        ensures { MatchOption result (¬ ((v : D) × is_value v × (Self.bytes_of v ≡ bytes.now))) (λ v. is_value v × (Self.bytes_of v ≡ bytes.now)) };
+        ensures { MatchOption result (¬ ((v : D) × is_value v × (Self.bytes_of v ≡ bytes.now)))
+            (λ v. is_value v × (Self.bytes_of v ≡ bytes.now)) };
 
     /// Neither direction is ever refused.
     ghost takes_no_memory: { Self.bytes_are_free × Self.value_is_free };
@@ -80,10 +85,12 @@ pub trait FixedBytesMapping<D: Ord>: BytesMapping<D> {
 
 /// A mapping none of whose values has bytes that are a proper front of another's.
 pub trait NoPrefixesMapping<D>: BytesMapping<D> {
-    ghost no_prefixes: { (v w : D) (b c : Self.Bytes) → Self.has_bytes v b → Self.has_bytes w c → BeginsWith (Self.bytes_of v) (Self.bytes_of w) → Self.bytes_of v ≡ Self.bytes_of w };
+    ghost no_prefixes: { (v w : D) (b c : Self.Bytes) → Self.has_bytes v b → Self.has_bytes w c
+        → BeginsWith (Self.bytes_of v) (Self.bytes_of w) → Self.bytes_of v ≡ Self.bytes_of w };
 }
 
 /// A mapping under which the order of the values is the order of their bytes.
 pub trait OrderedMapping<D: Ord>: BytesMapping<D> {
-    ghost ordered: { (v w : D) (b c : Self.Bytes) → Self.has_bytes v b → Self.has_bytes w c → D.cmp v w ≡ bytes_cmp (Self.bytes_of v) (Self.bytes_of w) };
+    ghost ordered: { (v w : D) (b c : Self.Bytes) → Self.has_bytes v b → Self.has_bytes w c
+        → D.cmp v w ≡ bytes_cmp (Self.bytes_of v) (Self.bytes_of w) };
 }

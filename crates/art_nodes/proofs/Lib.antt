@@ -5,5 +5,6 @@ pub mod IndirectLemmas
 pub mod PackedLemmas
 pub mod PlaceLemmas
 pub mod PrefixLemmas
+pub mod ReplayLemmas
 pub mod SortedLemmas
 pub mod TableLemmas

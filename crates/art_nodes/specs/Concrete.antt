@@ -6,12 +6,12 @@ use Rattle.art_nodes.specs.declared.concrete.ConcreteNodePtr.TheVariants.{Node4,
 use Rattle.art_nodes.specs.declared.concrete.ConcreteInnerNodePtr.{ConcreteInnerNodePtr}
 use Rattle.art_nodes.specs.declared.concrete.ConcreteInnerNodePtr.TheVariants as inner
 
-abbrev pub name_of : ConcreteNodePtr → Name
-name_of (Node4 slot) = record { kind = kind.Node4; slot = slot }
-name_of (Node16 slot) = record { kind = kind.Node16; slot = slot }
-name_of (Node48 slot) = record { kind = kind.Node48; slot = slot }
-name_of (Node256 slot) = record { kind = kind.Node256; slot = slot }
-name_of (LeafNode slot) = record { kind = kind.Leaf; slot = slot }
+abbrev pub node_name_of : ConcreteNodePtr → Name
+node_name_of (Node4 slot) = record { kind = kind.Node4; slot = slot }
+node_name_of (Node16 slot) = record { kind = kind.Node16; slot = slot }
+node_name_of (Node48 slot) = record { kind = kind.Node48; slot = slot }
+node_name_of (Node256 slot) = record { kind = kind.Node256; slot = slot }
+node_name_of (LeafNode slot) = record { kind = kind.Leaf; slot = slot }
 
 abbrev pub inner_name_of : ConcreteInnerNodePtr → Name
 inner_name_of (inner.Node4 slot) = record { kind = kind.Node4; slot = slot }

@@ -11,7 +11,16 @@ pub record Header : Type 0 where
 abbrev pub front_of : ℕ → List ℕ → ℕ → List ℕ
 front_of room bytes len = take room (take len bytes)
 
--- what a header with room for so many bytes may be: at most 256 children, and as much of the prefix stored as there is room for
+-- the header of no children whose prefix is the first `len` of these bytes
+abbrev pub header_of : ℕ → List ℕ → ℕ → Header
+header_of room bytes len = record { num_children = 0; prefix_len = len; stored = front_of room bytes len }
+
+-- the header with a prefix of this length, of which these bytes are stored
+abbrev pub with_prefix : ℕ → List ℕ → Header → Header
+with_prefix len stored header = record header { prefix_len = len; stored = stored }
+
+-- what a header with room for so many bytes may be: it counts at most 256 children, and stores as much of the prefix as
+-- there is room for
 pub record IsHeader (room : ℕ) (header : Header) : Type 0 where
   pub counts : header.num_children ≤ 256
   pub stores : length header.stored ≡ min header.prefix_len room

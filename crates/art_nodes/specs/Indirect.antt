@@ -1,5 +1,6 @@
 -- How an indirect node holds its children: a place among the names for each byte.
-use Rattle.std.specs.Prelude.{◌≡◌, ℕ, ◌-◌, ◌<◌, ◌≤◌, ◌⊎◌, ◌==◌, nat_lt, ◌&&◌, not, List, length, map, min, slice_index, if◌then◌else◌}
+use Rattle.std.specs.Prelude.{◌≡◌, ℕ, ◌-◌, ◌<◌, ◌≤◌, ◌⊎◌, ◌==◌, nat_lt, ◌&&◌, not, List, length, map, min, slice_index}
+use Rattle.std.specs.Prelude.{if◌then◌else◌}
 use Rattle.art_nodes.specs.Header.{Header}
 use Rattle.art_nodes.specs.Name.{Name}
 use Rattle.art_nodes.specs.Table.{children_from, names_at}
@@ -19,7 +20,8 @@ shifted gap index = map (shifted_place gap) index
 pub record IsIndexed (room : ℕ) (header : Header) (index : List ℕ) (names : List Name) : Type 0 where
   pub whole : length index ≡ 256
   pub places : (byte : ℕ) → byte < 256 → (place_at index byte < length names) ⊎ (place_at index byte ≡ 255)
-  pub apart : (byte other : ℕ) → byte < 256 → other < 256 → place_at index byte ≡ place_at index other → place_at index byte < length names → byte ≡ other
+  pub apart : (byte other : ℕ) → byte < 256 → other < 256 → place_at index byte ≡ place_at index other
+      → place_at index byte < length names → byte ≡ other
   pub counts : header.num_children ≡ length names
   pub children : header.num_children ≡ length (children_from 0 (names_at names index))
   pub fits : length names ≤ min room 255

@@ -1,5 +1,7 @@
--- What a contract sees of an inner node of any kind: a header, and a finite map from byte to name, as a list by ascending byte.
-use Rattle.std.specs.Prelude.{◌≡◌, ℕ, ◌+◌, ◌<◌, ◌≤◌, ◌==◌, nat_lt, nat_le, Bool, true, ◌&&◌, List, [], ◌∷◌, length, map, filter, Option, Some, None, if◌then◌else◌}
+-- What a contract sees of an inner node of any kind: a header, and a finite map from byte to name, as a list by
+-- ascending byte.
+use Rattle.std.specs.Prelude.{◌≡◌, ℕ, ◌+◌, ◌<◌, ◌≤◌, ◌⊎◌, ◌==◌, nat_lt, nat_le, Bool, true, ◌&&◌, if◌then◌else◌}
+use Rattle.std.specs.Prelude.{List, [], ◌∷◌, length, map, filter, Option, Some, None, IsSome}
 use Rattle.std.specs.Range.Bound.{IsForward}
 use Rattle.std.specs.declared.ops.Bound.{Bound}
 use Rattle.std.specs.declared.ops.Bound.TheVariants.{Included, Excluded, Unbounded}
@@ -32,6 +34,10 @@ module _ {N : Type 0} where
   abbrev pub without_child : List (ℕ × N) → ℕ → List (ℕ × N)
   without_child [] byte = []
   without_child (c ∷ rest) byte = if c.0 == byte then rest else c ∷ without_child rest byte
+
+  -- a child may be written under the byte: there is room for one more, or one stands there
+  abbrev pub MayWrite : ℕ → List (ℕ × N) → ℕ → Type 0
+  MayWrite room children byte = (length children < room) ⊎ IsSome (child_at children byte)
 
   -- the names of the children, by ascending byte
   abbrev pub names_of : List (ℕ × N) → List N
@@ -66,7 +72,8 @@ is_to Unbounded byte = true
 abbrev pub children_between : {N : Type 0} → Bound ℕ → Bound ℕ → List (ℕ × N) → List (ℕ × N)
 children_between start end children = filter (λ c. is_from start c.0 && is_to end c.0) children
 
--- bounds that may be asked for: where both are named, the start isn't above the end, nor are they equal and both excluded
+-- bounds that may be asked for: where both are named, the start isn't above the end, nor are they equal and both
+-- excluded
 abbrev pub AreValidBounds : Bound ℕ → Bound ℕ → Type 0
 AreValidBounds start end = IsForward (λ a b. a ≤ b) (λ a b. a < b) start end
 
@@ -76,7 +83,24 @@ pub record InnerNode : Type 0 where
 
 -- a node of these children, and the rest of its header as it was
 abbrev pub with_children : InnerNode → List (ℕ × Name) → InnerNode
-with_children node children = record { header = record node.header { num_children = length children }; children = children }
+with_children node children =
+    record { header = record node.header { num_children = length children }; children = children }
+
+-- a node of no children with this header
+abbrev pub childless : Header → InnerNode
+childless header = record { header = header; children = [] }
+
+-- the node with this child under the byte, in place of one that stood there
+abbrev pub node_with : InnerNode → ℕ → Name → InnerNode
+node_with node byte name = with_children node (with_child node.children byte name)
+
+-- the node without the child under the byte
+abbrev pub node_without : InnerNode → ℕ → InnerNode
+node_without node byte = with_children node (without_child node.children byte)
+
+-- the node with the prefix of this header
+abbrev pub with_prefix_of : Header → InnerNode → InnerNode
+with_prefix_of prefix node = record node { header = record prefix { num_children = node.header.num_children } }
 
 -- what holds of each inner node: the header counts the children, they ascend, and there is room for them
 pub record IsInnerNode (prefix_room room : ℕ) (node : InnerNode) : Type 0 where

@@ -1,5 +1,5 @@
 -- The table of kinds: what an inner node of each kind holds, and the kinds beside it.
-use Rattle.std.specs.Prelude.{ℕ, ◌≤◌, Some, None, IsSomeAnd}
+use Rattle.std.specs.Prelude.{ℕ, ◌≤◌, Some, None, IsSomeAnd, unwrap_or}
 use Rattle.art_nodes.specs.declared.kind.NodeType.{NodeType}
 use Rattle.art_nodes.specs.declared.kind.NodeType.TheVariants.{Node4, Node16, Node48, Node256, Leaf}
 use Rattle.art_nodes.specs.declared.kind.KindRow.{KindRow}
@@ -11,6 +11,13 @@ row_of Node16 = record { fewest = 5; most = 16; larger = Some Node48; smaller = 
 row_of Node48 = record { fewest = 17; most = 48; larger = Some Node256; smaller = Some Node16 }
 row_of Node256 = record { fewest = 49; most = 256; larger = None; smaller = Some Node48 }
 row_of Leaf = record { fewest = 0; most = 0; larger = None; smaller = None }
+
+-- the kind that a node grows into, and the one that it shrinks into: its own where the table names none
+abbrev pub grown_kind : NodeType → NodeType
+grown_kind kind = unwrap_or (row_of kind).larger kind
+
+abbrev pub shrunk_kind : NodeType → NodeType
+shrunk_kind kind = unwrap_or (row_of kind).smaller kind
 
 -- there is a next smaller kind, and it has room for so many children
 abbrev pub CanShrink : NodeType → ℕ → Type 0

@@ -1,5 +1,6 @@
 -- Places in an ascending list of children.
-use Rattle.std.specs.Prelude.{◌≡◌, ◌≢◌, ℕ, suc, ◌<◌, nat_lt, nat_le, ◌&&◌, List, [], ◌∷◌, length, filter, slice_index, if◌then◌else◌}
+use Rattle.std.specs.Prelude.{◌≡◌, ◌≢◌, ℕ, suc, ◌<◌, nat_lt, nat_le, ◌&&◌, List, [], ◌∷◌, length, filter, slice_index}
+use Rattle.std.specs.Prelude.{if◌then◌else◌}
 
 -- how many of these ascending bytes come before the bound
 abbrev pub place : List ℕ → ℕ → ℕ

@@ -1,6 +1,6 @@
 //! A builder of inner nodes, which gives the node out once it has at least two children.
 ghost use Rattle.std.specs.Prelude.{◌≡◌, ◌<◌, None, length};
-ghost use Rattle.art_nodes.specs.InnerNode.{child_at, with_child, with_children};
+ghost use Rattle.art_nodes.specs.InnerNode.{child_at, with_child, with_children, node_with};
 
 use crate::inner_node::InnerNodeCommon;
 use crate::names::OpaqueNodePtr;
@@ -33,7 +33,7 @@ fn with_one_more<N: InnerNodeCommon<PREFIX_LEN>, const PREFIX_LEN: usize>(
 ) -> N
     requires vacant { child_at (N.inner node).children byte ≡ None }
     requires room { length (N.inner node).children < N.room }
-    ensures { N.inner result ≡ with_children (N.inner node) (with_child (N.inner node).children byte name) }
+    ensures { N.inner result ≡ node_with (N.inner node) byte name }
 {
     node.write_child(byte, name);
     node
@@ -60,7 +60,7 @@ impl<N> InnerNodeBuilder<N, NoChild> {
         N: InnerNodeCommon<PREFIX_LEN>,
         requires vacant { child_at (N.inner self.node).children byte ≡ None }
         requires room { length (N.inner self.node).children < N.room }
-        ensures { N.inner result.node ≡ with_children (N.inner self.node) (with_child (N.inner self.node).children byte name) }
+        ensures { N.inner result.node ≡ node_with (N.inner self.node) byte name }
     {
         let InnerNodeBuilder { node, state: _ } = self;
         InnerNodeBuilder {
@@ -81,7 +81,7 @@ impl<N> InnerNodeBuilder<N, HasOneChild> {
         N: InnerNodeCommon<PREFIX_LEN>,
         requires vacant { child_at (N.inner self.node).children byte ≡ None }
         requires room { length (N.inner self.node).children < N.room }
-        ensures { N.inner result.node ≡ with_children (N.inner self.node) (with_child (N.inner self.node).children byte name) }
+        ensures { N.inner result.node ≡ node_with (N.inner self.node) byte name }
     {
         let InnerNodeBuilder { node, state: _ } = self;
         InnerNodeBuilder {
@@ -98,7 +98,7 @@ impl<N> InnerNodeBuilder<N, HasChild> {
         N: InnerNodeCommon<PREFIX_LEN>,
         requires vacant { child_at (N.inner self.node).children byte ≡ None }
         requires room { length (N.inner self.node).children < N.room }
-        ensures { N.inner result.node ≡ with_children (N.inner self.node) (with_child (N.inner self.node).children byte name) }
+        ensures { N.inner result.node ≡ node_with (N.inner self.node) byte name }
     {
         let InnerNodeBuilder { node, state: _ } = self;
         InnerNodeBuilder {

@@ -1,7 +1,7 @@
 //! Names whose kind is seen by a match.
-ghost use Rattle.std.specs.Prelude.{◌≡◌};
+ghost use Rattle.std.specs.Prelude.{◌≡◌, ◌≢◌};
 
-use crate::kind::{Kind4, Kind16, Kind48, Kind256, KindLeaf, NodeType};
+use crate::kind::{InnerKind, Kind4, Kind16, Kind48, Kind256, KindLeaf, NodeKind, NodeType};
 use crate::names::{NodePtr, OpaqueNodePtr};
 
 /// The name of a node, with a case for each kind.
@@ -33,11 +33,11 @@ pub enum ConcreteInnerNodePtr {
 }
 
 impl ConcreteNodePtr {
-    ghost use Rattle.art_nodes.specs.Concrete.{name_of};
+    ghost use Rattle.art_nodes.specs.Concrete.{node_name_of};
 
     /// The same name, its kind as a value.
     pub fn to_opaque(self) -> OpaqueNodePtr
-        ensures { result ≡ name_of self }
+        ensures { result ≡ node_name_of self }
     {
         match self {
             ConcreteNodePtr::Node4(name) => name.to_opaque(),
@@ -66,11 +66,11 @@ impl ConcreteInnerNodePtr {
 }
 
 impl OpaqueNodePtr {
-    ghost use Rattle.art_nodes.specs.Concrete.{name_of};
+    ghost use Rattle.art_nodes.specs.Concrete.{node_name_of, inner_name_of};
 
     /// The same name, with a case for its kind.
     pub fn to_node_ptr(self) -> ConcreteNodePtr
-        ensures { name_of result ≡ self }
+        ensures { node_name_of result ≡ self }
     {
         let slot = self.slot();
         match self.node_type() {
@@ -81,103 +81,38 @@ impl OpaqueNodePtr {
             NodeType::Leaf => ConcreteNodePtr::LeafNode(NodePtr::from_slot(slot)),
         }
     }
-}
 
-impl From<NodePtr<Kind4>> for ConcreteNodePtr {
-    ghost use Rattle.art_nodes.specs.Concrete.{name_of};
-    ghost use Rattle.art_nodes.specs.declared.kind.NodeType.TheVariants.{Node4};
-
-    ghost from_gives = { λ name new. name_of new ≡ record { kind = Node4; slot = name } };
-
-    fn from(name: NodePtr<Kind4>) -> Self {
-        ConcreteNodePtr::Node4(name)
+    /// The same name, with a case for its kind, which must be that of an inner node.
+    pub fn to_inner_ptr(self) -> ConcreteInnerNodePtr
+        requires { self.kind ≢ NodeType.Leaf }
+        ensures { inner_name_of result ≡ self }
+    {
+        match self.to_node_ptr() {
+            ConcreteNodePtr::Node4(name) => ConcreteInnerNodePtr::Node4(name),
+            ConcreteNodePtr::Node16(name) => ConcreteInnerNodePtr::Node16(name),
+            ConcreteNodePtr::Node48(name) => ConcreteInnerNodePtr::Node48(name),
+            ConcreteNodePtr::Node256(name) => ConcreteInnerNodePtr::Node256(name),
+            ConcreteNodePtr::LeafNode(_) => unreachable!(),
+        }
     }
 }
 
-impl From<NodePtr<Kind16>> for ConcreteNodePtr {
-    ghost use Rattle.art_nodes.specs.Concrete.{name_of};
-    ghost use Rattle.art_nodes.specs.declared.kind.NodeType.TheVariants.{Node16};
+impl<N: NodeKind> From<NodePtr<N>> for ConcreteNodePtr {
+    ghost use Rattle.art_nodes.specs.Concrete.{node_name_of};
 
-    ghost from_gives = { λ name new. name_of new ≡ record { kind = Node16; slot = name } };
+    ghost from_gives = { λ name new. node_name_of new ≡ record { kind = N.TYPE; slot = name } };
 
-    fn from(name: NodePtr<Kind16>) -> Self {
-        ConcreteNodePtr::Node16(name)
+    fn from(name: NodePtr<N>) -> Self {
+        name.to_opaque().to_node_ptr()
     }
 }
 
-impl From<NodePtr<Kind48>> for ConcreteNodePtr {
-    ghost use Rattle.art_nodes.specs.Concrete.{name_of};
-    ghost use Rattle.art_nodes.specs.declared.kind.NodeType.TheVariants.{Node48};
-
-    ghost from_gives = { λ name new. name_of new ≡ record { kind = Node48; slot = name } };
-
-    fn from(name: NodePtr<Kind48>) -> Self {
-        ConcreteNodePtr::Node48(name)
-    }
-}
-
-impl From<NodePtr<Kind256>> for ConcreteNodePtr {
-    ghost use Rattle.art_nodes.specs.Concrete.{name_of};
-    ghost use Rattle.art_nodes.specs.declared.kind.NodeType.TheVariants.{Node256};
-
-    ghost from_gives = { λ name new. name_of new ≡ record { kind = Node256; slot = name } };
-
-    fn from(name: NodePtr<Kind256>) -> Self {
-        ConcreteNodePtr::Node256(name)
-    }
-}
-
-impl From<NodePtr<KindLeaf>> for ConcreteNodePtr {
-    ghost use Rattle.art_nodes.specs.Concrete.{name_of};
-    ghost use Rattle.art_nodes.specs.declared.kind.NodeType.TheVariants.{Leaf};
-
-    ghost from_gives = { λ name new. name_of new ≡ record { kind = Leaf; slot = name } };
-
-    fn from(name: NodePtr<KindLeaf>) -> Self {
-        ConcreteNodePtr::LeafNode(name)
-    }
-}
-
-impl From<NodePtr<Kind4>> for ConcreteInnerNodePtr {
+impl<N: InnerKind> From<NodePtr<N>> for ConcreteInnerNodePtr {
     ghost use Rattle.art_nodes.specs.Concrete.{inner_name_of};
-    ghost use Rattle.art_nodes.specs.declared.kind.NodeType.TheVariants.{Node4};
 
-    ghost from_gives = { λ name new. inner_name_of new ≡ record { kind = Node4; slot = name } };
+    ghost from_gives = { λ name new. inner_name_of new ≡ record { kind = N.TYPE; slot = name } };
 
-    fn from(name: NodePtr<Kind4>) -> Self {
-        ConcreteInnerNodePtr::Node4(name)
-    }
-}
-
-impl From<NodePtr<Kind16>> for ConcreteInnerNodePtr {
-    ghost use Rattle.art_nodes.specs.Concrete.{inner_name_of};
-    ghost use Rattle.art_nodes.specs.declared.kind.NodeType.TheVariants.{Node16};
-
-    ghost from_gives = { λ name new. inner_name_of new ≡ record { kind = Node16; slot = name } };
-
-    fn from(name: NodePtr<Kind16>) -> Self {
-        ConcreteInnerNodePtr::Node16(name)
-    }
-}
-
-impl From<NodePtr<Kind48>> for ConcreteInnerNodePtr {
-    ghost use Rattle.art_nodes.specs.Concrete.{inner_name_of};
-    ghost use Rattle.art_nodes.specs.declared.kind.NodeType.TheVariants.{Node48};
-
-    ghost from_gives = { λ name new. inner_name_of new ≡ record { kind = Node48; slot = name } };
-
-    fn from(name: NodePtr<Kind48>) -> Self {
-        ConcreteInnerNodePtr::Node48(name)
-    }
-}
-
-impl From<NodePtr<Kind256>> for ConcreteInnerNodePtr {
-    ghost use Rattle.art_nodes.specs.Concrete.{inner_name_of};
-    ghost use Rattle.art_nodes.specs.declared.kind.NodeType.TheVariants.{Node256};
-
-    ghost from_gives = { λ name new. inner_name_of new ≡ record { kind = Node256; slot = name } };
-
-    fn from(name: NodePtr<Kind256>) -> Self {
-        ConcreteInnerNodePtr::Node256(name)
+    fn from(name: NodePtr<N>) -> Self {
+        name.to_opaque().to_inner_ptr()
     }
 }

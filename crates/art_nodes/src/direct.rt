@@ -10,9 +10,6 @@ use crate::sealed::Sealed;
 use std::fmt;
 use std::marker::{Model, PhantomData};
 
-/// The largest inner node.
-pub type InnerNode256<K, V, const PREFIX_LEN: usize> = InnerNodeDirect<K, V, PREFIX_LEN>;
-
 /// An inner node with a place for the child of each byte.
 pub struct InnerNodeDirect<K, V, const PREFIX_LEN: usize> {
     header: Header<PREFIX_LEN>,

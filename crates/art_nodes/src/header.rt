@@ -1,6 +1,7 @@
 //! The header of an inner node: the number of its children, and its prefix.
-ghost use Rattle.std.specs.Prelude.{◌≡◌, ◌≢◌, ◌↔◌, ◌+◌, ◌-◌, ◌<◌, ◌≤◌, ◌^◌, ◌⊎◌, ◌++◌, [], length, take, drop, min, IsTrue};
-ghost use Rattle.art_nodes.specs.Header.{front_of, IsHeader};
+ghost use Rattle.std.specs.Prelude.{◌≡◌, ◌≢◌, ◌↔◌, ◌+◌, ◌-◌, ◌<◌, ◌≤◌, ◌^◌, ◌⊎◌, ◌++◌, [], length, take, drop, min};
+ghost use Rattle.std.specs.Prelude.{IsTrue};
+ghost use Rattle.art_nodes.specs.Header.{front_of, header_of, with_prefix, IsHeader};
 
 use crate::leaf::LeafNode;
 use art_bytes::AsBytes;
@@ -45,7 +46,7 @@ impl<const PREFIX_LEN: usize> Header<PREFIX_LEN> {
     /// what is stored: the first `PREFIX_LEN` of the prefix.
     pub fn new(bytes: &[u8], len: usize) -> Self
         requires { min len PREFIX_LEN ≤ length bytes.now }
-        ensures { result ≡ record { num_children = 0; prefix_len = len; stored = front_of PREFIX_LEN bytes.now len } }
+        ensures { result ≡ header_of PREFIX_LEN bytes.now len }
     {
         let mut prefix = [0; PREFIX_LEN];
         let kept = len.min(PREFIX_LEN);
@@ -105,7 +106,7 @@ impl<const PREFIX_LEN: usize> Header<PREFIX_LEN> {
 
     /// Makes the prefix empty.
     pub fn clear_prefix(&mut self)
-        ensures { self.new ≡ record self.old { prefix_len = 0; stored = [] } }
+        ensures { self.new ≡ with_prefix 0 [] self.old }
     {
         self.prefix_len = 0;
     }
@@ -115,7 +116,8 @@ impl<const PREFIX_LEN: usize> Header<PREFIX_LEN> {
     pub fn push_prefix(&mut self, bytes: &[u8], len: usize)
         requires covers { min (self.old.prefix_len + len) PREFIX_LEN ≤ length self.old.stored + length bytes.now }
         requires fits { self.old.prefix_len + len < 2 ^ 64 }
-        ensures { self.new ≡ record self.old { prefix_len = self.old.prefix_len + len; stored = take PREFIX_LEN (self.old.stored ++ take len bytes.now) } }
+        ensures { self.new ≡ with_prefix (self.old.prefix_len + len)
+            (take PREFIX_LEN (self.old.stored ++ take len bytes.now)) self.old }
     {
         let at = self.prefix_len.min(PREFIX_LEN);
         let kept = len.min(PREFIX_LEN - at);
@@ -133,7 +135,8 @@ impl<const PREFIX_LEN: usize> Header<PREFIX_LEN> {
     )
         requires within { n ≤ self.old.prefix_len }
         requires covers { depth + n + min (self.old.prefix_len - n) PREFIX_LEN ≤ length (K.bytes leaf.now.key) }
-        ensures { self.new ≡ record self.old { prefix_len = self.old.prefix_len - n; stored = front_of PREFIX_LEN (drop (depth + n) (K.bytes leaf.now.key)) (self.old.prefix_len - n) } }
+        ensures { let len = self.old.prefix_len - n in let rest = drop (depth + n) (K.bytes leaf.now.key) in
+            self.new ≡ with_prefix len (front_of PREFIX_LEN rest len) self.old }
     {
         let key = leaf.key_ref().as_bytes();
         let len = self.prefix_len - n;
@@ -147,7 +150,7 @@ impl<const PREFIX_LEN: usize> Header<PREFIX_LEN> {
     pub fn ltrim_by(&mut self, n: usize)
         requires within { n ≤ self.old.prefix_len }
         requires stored { (self.old.prefix_len ≤ PREFIX_LEN) ⊎ (n ≡ 0) }
-        ensures { self.new ≡ record self.old { prefix_len = self.old.prefix_len - n; stored = drop n self.old.stored } }
+        ensures { self.new ≡ with_prefix (self.old.prefix_len - n) (drop n self.old.stored) self.old }
     {
         if n == 0 {
             return;
@@ -203,7 +206,8 @@ impl<const PREFIX_LEN: usize> PartialEq for Header<PREFIX_LEN> {
     ghost use Rattle.std.proofs.Common.{rules};
     ghost use Rattle.std.specs.Cmp.Rules.{comparing};
 
-    ghost eq = { eq_of_both (on (λ h. h.num_children) ◌==◌) (eq_of_both (on (λ h. h.prefix_len) ◌==◌) (on (λ h. h.stored) (pointwise ◌==◌))) };
+    ghost eq = { eq_of_both (on (λ h. h.num_children) ◌==◌)
+        (eq_of_both (on (λ h. h.prefix_len) ◌==◌) (on (λ h. h.stored) (pointwise ◌==◌))) };
 
     ghost laws = { Prim.search (comparing, rules) depth 9 };
 

@@ -12,9 +12,6 @@ use arrayvec::ArrayVec;
 use std::fmt;
 use std::marker::{Model, PhantomData};
 
-/// An inner node of up to 48 children.
-pub type InnerNode48<K, V, const PREFIX_LEN: usize> = InnerNodeIndirect<K, V, PREFIX_LEN, 48>;
-
 /// The place of a byte that has no child. No name stands there: a node has room for fewer.
 const NOWHERE: u8 = 255;
 

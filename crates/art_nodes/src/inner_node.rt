@@ -1,8 +1,11 @@
 //! The traits of nodes: what is said of every kind is said here.
-ghost use Rattle.std.specs.Prelude.{◌≡◌, ◌↔◌, ◌<◌, ◌≤◌, ◌⊎◌, ◌+◌, ◌^◌, ℕ, [], true, false, length, min, IsTrue, IsSome, MatchResult};
+ghost use Rattle.std.specs.Prelude.{◌≡◌, ◌↔◌, ◌<◌, ◌≤◌, ◌⊎◌, ◌+◌, ◌^◌, ℕ, [], true, false, length, min, IsTrue, IsSome};
+ghost use Rattle.std.specs.Prelude.{MatchResult};
 ghost use Rattle.art_nodes.specs.PrefixMatch.{agreeing};
-ghost use Rattle.art_nodes.specs.Header.{front_of};
-ghost use Rattle.art_nodes.specs.InnerNode.{InnerNode, IsInnerNode, IsAscending, child_at, with_child, without_child, with_children, first_child, last_child, children_between, AreValidBounds};
+ghost use Rattle.art_nodes.specs.Header.{front_of, header_of};
+ghost use Rattle.art_nodes.specs.InnerNode.{InnerNode, IsInnerNode, IsAscending, MayWrite, child_at, with_child};
+ghost use Rattle.art_nodes.specs.InnerNode.{without_child, with_children, childless, node_with, node_without};
+ghost use Rattle.art_nodes.specs.InnerNode.{with_prefix_of, first_child, last_child, children_between, AreValidBounds};
 
 use crate::builder::{InnerNodeBuilder, NoChild};
 use crate::child_iter::ChildIter;
@@ -36,13 +39,13 @@ pub trait InnerNodeInit<const PREFIX_LEN: usize>: Sealed + Sized {
     /// A node of no children whose prefix is the first `len` bytes of these, which must cover what is stored.
     fn from_prefix(bytes: &[u8], len: usize) -> Self
         requires { min len PREFIX_LEN ≤ length bytes.now }
-        ensures { inner result ≡ record { header = record { num_children = 0; prefix_len = len; stored = front_of PREFIX_LEN bytes.now len }; children = [] } };
+        ensures { inner result ≡ childless (header_of PREFIX_LEN bytes.now len) };
 
     /// A node of no children with this header, which must count none.
     #[tactic(auto, using(crate::proofs::PrefixLemmas::fronts))]
     final fn from_header(heading: Header<PREFIX_LEN>) -> Self
         requires { heading.num_children ≡ 0 }
-        ensures { inner result ≡ record { header = heading.entry; children = [] } }
+        ensures { inner result ≡ childless heading.entry }
     {
         let _count = heading.num_children();
         Self::from_prefix(heading.read_prefix(), heading.prefix_len())
@@ -61,7 +64,7 @@ pub trait InnerNodeCommon<const PREFIX_LEN: usize>: InnerNodeInit<PREFIX_LEN> + 
 
     /// Takes the prefix of this header. The children stay.
     fn copy_prefix(&mut self, prefix: &Header<PREFIX_LEN>)
-        ensures { Self.inner self.new ≡ record (Self.inner self.old) { header = record prefix.now { num_children = (Self.inner self.old).header.num_children } } };
+        ensures { Self.inner self.new ≡ with_prefix_of prefix.now (Self.inner self.old) };
 
     /// Whether the room is used up.
     fn is_full(&self) -> bool
@@ -74,13 +77,13 @@ pub trait InnerNodeCommon<const PREFIX_LEN: usize>: InnerNodeInit<PREFIX_LEN> + 
 
     /// Stores a child under this byte, in place of one that stands there.
     fn write_child(&mut self, byte: u8, name: OpaqueNodePtr)
-        requires { (length (Self.inner self.old).children < room) ⊎ IsSome (child_at (Self.inner self.old).children byte) }
-        ensures { Self.inner self.new ≡ with_children (Self.inner self.old) (with_child (Self.inner self.old).children byte name) };
+        requires { MayWrite room (Self.inner self.old).children byte }
+        ensures { Self.inner self.new ≡ node_with (Self.inner self.old) byte name };
 
     /// Removes the child under this byte, and answers it.
     fn remove_child(&mut self, byte: u8) -> Option<OpaqueNodePtr>
         ensures value { result ≡ child_at (Self.inner self.old).children byte }
-        ensures rest { Self.inner self.new ≡ with_children (Self.inner self.old) (without_child (Self.inner self.old).children byte) };
+        ensures rest { Self.inner self.new ≡ node_without (Self.inner self.old) byte };
 
     /// The children, by ascending byte.
     fn iter(&self) -> ChildIter<'_>
@@ -91,7 +94,7 @@ pub trait InnerNodeCommon<const PREFIX_LEN: usize>: InnerNodeInit<PREFIX_LEN> + 
     /// A builder of a node with this header, which must count none.
     final fn builder(heading: Header<PREFIX_LEN>) -> InnerNodeBuilder<Self, NoChild>
         requires { heading.num_children ≡ 0 }
-        ensures { Self.inner result.node ≡ record { header = heading.entry; children = [] } }
+        ensures { Self.inner result.node ≡ childless heading.entry }
     {
         InnerNodeBuilder::new(Self::from_header(heading))
     }
@@ -99,9 +102,9 @@ pub trait InnerNodeCommon<const PREFIX_LEN: usize>: InnerNodeInit<PREFIX_LEN> + 
     /// Looks by length alone whether the prefix may agree with the rest of a key, its bytes from the node's depth
     /// on. A mismatch counts all of the rest.
     final fn optimistic_match_prefix(&self, rest: &[u8]) -> Result<PrefixMatch, OptimisticMismatch>
-        ensures { MatchResult result
-            (λ yes. (yes.matched_bytes ≡ (Self.inner self.now).header.prefix_len) × ((Self.inner self.now).header.prefix_len ≤ length rest.now))
-            (λ no. (no.matched_bytes ≡ length rest.now) × (length rest.now < (Self.inner self.now).header.prefix_len)) }
+        ensures { let len = (Self.inner self.now).header.prefix_len in MatchResult result
+            (λ yes. (yes.matched_bytes ≡ len) × (len ≤ length rest.now))
+            (λ no. (no.matched_bytes ≡ length rest.now) × (length rest.now < len)) }
     {
         // The children tell that a header fits in memory.
         let _children = self.iter();
@@ -121,12 +124,16 @@ pub trait InnerNodeCommon<const PREFIX_LEN: usize>: InnerNodeInit<PREFIX_LEN> + 
         &self,
         rest: &[u8],
     ) -> Result<AttemptOptimisticPrefixMatch, PessimisticMismatch>
-        ensures compared { (Self.inner self.now).header.prefix_len ≤ PREFIX_LEN → MatchResult result
-            (λ yes. (yes.any_implicit_bytes ≡ false) × (yes.matched_bytes ≡ (Self.inner self.now).header.prefix_len) × (agreeing (Self.inner self.now).header.stored rest.now ≡ (Self.inner self.now).header.prefix_len))
-            (λ no. (no.matched_bytes ≡ agreeing (Self.inner self.now).header.stored rest.now) × (no.matched_bytes < (Self.inner self.now).header.prefix_len)) }
-        ensures by_length { PREFIX_LEN < (Self.inner self.now).header.prefix_len → MatchResult result
-            (λ yes. (yes.any_implicit_bytes ≡ true) × (yes.matched_bytes ≡ (Self.inner self.now).header.prefix_len) × ((Self.inner self.now).header.prefix_len ≤ length rest.now))
-            (λ no. (no.matched_bytes ≡ length rest.now) × (length rest.now < (Self.inner self.now).header.prefix_len)) }
+        ensures compared { let header = (Self.inner self.now).header in
+            let len = header.prefix_len in
+            let agree = agreeing header.stored rest.now in
+            len ≤ PREFIX_LEN → MatchResult result
+            (λ yes. (yes.any_implicit_bytes ≡ false) × (yes.matched_bytes ≡ len) × (agree ≡ len))
+            (λ no. (no.matched_bytes ≡ agree) × (no.matched_bytes < len)) }
+        ensures by_length { let len = (Self.inner self.now).header.prefix_len in
+            PREFIX_LEN < len → MatchResult result
+            (λ yes. (yes.any_implicit_bytes ≡ true) × (yes.matched_bytes ≡ len) × (len ≤ length rest.now))
+            (λ no. (no.matched_bytes ≡ length rest.now) × (length rest.now < len)) }
     {
         // The children tell that a header fits in memory.
         let _children = self.iter();
@@ -180,13 +187,13 @@ pub trait InnerNodeCommon<const PREFIX_LEN: usize>: InnerNodeInit<PREFIX_LEN> + 
 
 /// An inner node of one kind.
 pub trait InnerNode<const PREFIX_LEN: usize>: Node + InnerNodeCommon<PREFIX_LEN> {
-    ghost use Rattle.art_nodes.specs.Kind.{row_of, CanShrink};
+    ghost use Rattle.art_nodes.specs.Kind.{row_of, CanShrink, grown_kind, shrunk_kind};
 
     /// The next larger kind, and for the largest itself.
-    type GrownNode: InnerNodeCommon<PREFIX_LEN>;
+    type GrownNode: Node + InnerNodeCommon<PREFIX_LEN>;
 
     /// The next smaller kind, and for the smallest itself.
-    type ShrunkNode: InnerNodeCommon<PREFIX_LEN>;
+    type ShrunkNode: Node + InnerNodeCommon<PREFIX_LEN>;
 
     /// A node of the next larger kind with the same header and children. This one must be full and not of the
     /// largest kind.
@@ -203,4 +210,10 @@ pub trait InnerNode<const PREFIX_LEN: usize>: Node + InnerNodeCommon<PREFIX_LEN>
 
     /// The room is the most children that the table of kinds names.
     ghost room_is_most: { Self.room ≡ (row_of Self.Kind.TYPE).most };
+
+    /// What a node grows into is of the kind that the table names.
+    ghost grows_by_table: { Self.GrownNode.Kind.TYPE ≡ grown_kind Self.Kind.TYPE };
+
+    /// What a node shrinks into is of the kind that the table names.
+    ghost shrinks_by_table: { Self.ShrunkNode.Kind.TYPE ≡ shrunk_kind Self.Kind.TYPE };
 }

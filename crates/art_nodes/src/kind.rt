@@ -1,6 +1,8 @@
 //! The kinds of nodes, and the one table of what each kind of inner node holds.
 ghost use Rattle.std.specs.Prelude.{◌≡◌, ◌≢◌, ◌≤◌, ◌+◌, ◌↔◌, IsTrue, IsSomeAnd};
+ghost use Rattle.std.proofs.Common.{lit<};
 ghost use Rattle.art_nodes.specs.Kind.{row_of, CanShrink};
+ghost use Rattle.art_nodes.specs.KindLaws.{has_room};
 ghost use Rattle.art_nodes.specs.declared.kind.NodeType.{NodeType};
 ghost use Rattle.art_nodes.specs.declared.kind.NodeType.TheVariants.{Node4, Node16, Node48, Node256, Leaf};
 
@@ -8,7 +10,7 @@ use crate::sealed::Sealed;
 use std::ops::Range;
 
 /// The kind of a node: one of the inner kinds, or a leaf.
-#[derive(Clone, Copy, PartialEq, Eq, PartialOrd, Ord, Hash, Debug)]
+#[derive(Clone, Copy, PartialEq, Eq, Hash, Debug)]
 pub enum NodeType {
     /// The smallest inner node.
     Node4,
@@ -23,7 +25,7 @@ pub enum NodeType {
 }
 
 /// What the table of kinds says of one kind.
-#[derive(Clone, Copy, PartialEq, Eq, Debug)]
+#[derive(Clone, Copy)]
 pub struct KindRow {
     /// The fewest children in a canonical tree.
     pub fewest: usize,
@@ -106,8 +108,12 @@ pub trait NodeKind: Sealed {
     const TYPE: NodeType;
 }
 
+/// A kind of inner nodes.
+pub trait InnerKind: NodeKind {
+    ghost is_inner: { Self.TYPE ≢ NodeType.Leaf };
+}
+
 /// The kind of the smallest inner nodes.
-#[derive(Clone, Copy, PartialEq, Eq, Debug)]
 pub struct Kind4;
 
 impl Sealed for Kind4 {}
@@ -118,8 +124,11 @@ impl NodeKind for Kind4 {
     const TYPE: NodeType = NodeType::Node4;
 }
 
+impl InnerKind for Kind4 {
+    ghost is_inner = { has_room Node4 (lit< tt) };
+}
+
 /// The kind of inner nodes of up to 16 children.
-#[derive(Clone, Copy, PartialEq, Eq, Debug)]
 pub struct Kind16;
 
 impl Sealed for Kind16 {}
@@ -130,8 +139,11 @@ impl NodeKind for Kind16 {
     const TYPE: NodeType = NodeType::Node16;
 }
 
+impl InnerKind for Kind16 {
+    ghost is_inner = { has_room Node16 (lit< tt) };
+}
+
 /// The kind of inner nodes of up to 48 children.
-#[derive(Clone, Copy, PartialEq, Eq, Debug)]
 pub struct Kind48;
 
 impl Sealed for Kind48 {}
@@ -142,8 +154,11 @@ impl NodeKind for Kind48 {
     const TYPE: NodeType = NodeType::Node48;
 }
 
+impl InnerKind for Kind48 {
+    ghost is_inner = { has_room Node48 (lit< tt) };
+}
+
 /// The kind of the largest inner nodes.
-#[derive(Clone, Copy, PartialEq, Eq, Debug)]
 pub struct Kind256;
 
 impl Sealed for Kind256 {}
@@ -154,8 +169,11 @@ impl NodeKind for Kind256 {
     const TYPE: NodeType = NodeType::Node256;
 }
 
+impl InnerKind for Kind256 {
+    ghost is_inner = { has_room Node256 (lit< tt) };
+}
+
 /// The kind of leaves.
-#[derive(Clone, Copy, PartialEq, Eq, Debug)]
 pub struct KindLeaf;
 
 impl Sealed for KindLeaf {}

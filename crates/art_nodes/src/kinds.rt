@@ -2,11 +2,23 @@
 //! conversions between neighbouring kinds.
 ghost use Rattle.std.specs.Prelude.{◌≡◌, ◌≤◌, length, refl};
 
-use crate::direct::InnerNode256;
-use crate::indirect::InnerNode48;
+use crate::direct::InnerNodeDirect;
+use crate::indirect::InnerNodeIndirect;
 use crate::inner_node::{InnerNode, InnerNodeCommon, Node};
 use crate::kind::{Kind4, Kind16, Kind48, Kind256};
-use crate::sorted::{InnerNode4, InnerNode16};
+use crate::sorted::InnerNodeSorted;
+
+/// The smallest inner node.
+pub type InnerNode4<K, V, const PREFIX_LEN: usize> = InnerNodeSorted<K, V, PREFIX_LEN, 4>;
+
+/// An inner node of up to 16 children.
+pub type InnerNode16<K, V, const PREFIX_LEN: usize> = InnerNodeSorted<K, V, PREFIX_LEN, 16>;
+
+/// An inner node of up to 48 children.
+pub type InnerNode48<K, V, const PREFIX_LEN: usize> = InnerNodeIndirect<K, V, PREFIX_LEN, 48>;
+
+/// The inner node with room for every byte.
+pub type InnerNode256<K, V, const PREFIX_LEN: usize> = InnerNodeDirect<K, V, PREFIX_LEN>;
 
 /// A node of another kind with the same header and the same children. Where its room doesn't hold them all,
 /// what it holds is open.
@@ -56,6 +68,10 @@ impl<K, V, const PREFIX_LEN: usize> InnerNode<PREFIX_LEN> for InnerNode4<K, V, P
     }
 
     ghost room_is_most = { refl };
+
+    ghost grows_by_table = { refl };
+
+    ghost shrinks_by_table = { refl };
 }
 
 impl<K, V, const PREFIX_LEN: usize> Node for InnerNode16<K, V, PREFIX_LEN> {
@@ -80,6 +96,10 @@ impl<K, V, const PREFIX_LEN: usize> InnerNode<PREFIX_LEN> for InnerNode16<K, V, 
     }
 
     ghost room_is_most = { refl };
+
+    ghost grows_by_table = { refl };
+
+    ghost shrinks_by_table = { refl };
 }
 
 impl<K, V, const PREFIX_LEN: usize> Node for InnerNode48<K, V, PREFIX_LEN> {
@@ -104,6 +124,10 @@ impl<K, V, const PREFIX_LEN: usize> InnerNode<PREFIX_LEN> for InnerNode48<K, V, 
     }
 
     ghost room_is_most = { refl };
+
+    ghost grows_by_table = { refl };
+
+    ghost shrinks_by_table = { refl };
 }
 
 impl<K, V, const PREFIX_LEN: usize> Node for InnerNode256<K, V, PREFIX_LEN> {
@@ -132,6 +156,10 @@ impl<K, V, const PREFIX_LEN: usize> InnerNode<PREFIX_LEN> for InnerNode256<K, V,
     }
 
     ghost room_is_most = { refl };
+
+    ghost grows_by_table = { refl };
+
+    ghost shrinks_by_table = { refl };
 }
 
 impl<K, V, const PREFIX_LEN: usize> From<InnerNode4<K, V, PREFIX_LEN>>

@@ -20,8 +20,8 @@ pub struct LeafNode<K, V> {
     next: Link,
 }
 
-// The leaf beside a leaf, if there is one. It has a model of its own, since the check fails of a caller that moves a leaf of
-// concrete types where an enum in the leaf holds a type with a model.
+// The leaf beside a leaf, if there is one. It has a model of its own, since the check fails of a caller that moves a
+// leaf of concrete types where an enum in the leaf holds a type with a model.
 #[derive(Clone, Copy, Debug)]
 struct Link {
     slot: Option<Slot>,

@@ -16,6 +16,7 @@ mod leaf;
 mod names;
 mod non_max_index;
 mod prefix_match;
+mod replaying;
 mod sealed;
 mod slot;
 mod sorted;
@@ -23,11 +24,12 @@ mod sorted;
 pub use builder::{HasChild, HasOneChild, InnerNodeBuilder, NoChild};
 pub use child_iter::{ChildIter, are_valid_child_bounds};
 pub use concrete::{ConcreteInnerNodePtr, ConcreteNodePtr};
-pub use direct::{InnerNode256, InnerNodeDirect};
+pub use direct::InnerNodeDirect;
 pub use header::Header;
-pub use indirect::{InnerNode48, InnerNodeIndirect};
+pub use indirect::InnerNodeIndirect;
 pub use inner_node::{InnerNode, InnerNodeCommon, InnerNodeInit, Node};
-pub use kind::{Kind4, Kind16, Kind48, Kind256, KindLeaf, KindRow, NodeKind, NodeType};
+pub use kind::{InnerKind, Kind4, Kind16, Kind48, Kind256, KindLeaf, KindRow, NodeKind, NodeType};
+pub use kinds::{InnerNode4, InnerNode16, InnerNode48, InnerNode256};
 pub use leaf::LeafNode;
 pub use names::{NodePtr, OpaqueNodePtr};
 pub use non_max_index::{NonMaxIndex, TryFromByteError};
@@ -35,5 +37,6 @@ pub use prefix_match::{
     AttemptOptimisticPrefixMatch, ExplicitMismatch, NodePrefix, OptimisticMismatch,
     PessimisticMismatch, PrefixMatch, count_agreeing,
 };
+pub use replaying::{ChildAnswer, ChildCommand, replay};
 pub use sealed::Sealed;
-pub use sorted::{InnerNode4, InnerNode16, InnerNodeSorted};
+pub use sorted::InnerNodeSorted;

@@ -5,7 +5,6 @@ use crate::kind::{NodeKind, NodeType};
 use crate::slot::Slot;
 use std::alloc::AllocError;
 use std::fmt;
-use std::hash::{Hash, Hasher};
 use std::marker::{Model, PhantomData};
 
 /// The name of a node of any kind. It takes nine bytes, so that nodes of many children stay small.
@@ -159,20 +158,6 @@ impl<N: NodeKind> Eq for NodePtr<N> {
     ghost use Rattle.std.specs.Cmp.Rules.{comparing};
 
     ghost laws = { Prim.search (comparing, rules) };
-}
-
-impl<N: NodeKind> Hash for NodePtr<N> {
-    ghost use Rattle.std.proofs.Common.{rules};
-    ghost use Rattle.std.specs.Hash as fed;
-    ghost use Rattle.std.specs.Cmp.Rules.{hashing};
-
-    ghost hash_input = { λ s. fed.usize s };
-
-    ghost respects_eq = { Prim.search (hashing, rules) };
-
-    fn hash<H: Hasher>(&self, state: &mut H) {
-        self.slot.hash(state);
-    }
 }
 
 impl<N: NodeKind> fmt::Debug for NodePtr<N> {

@@ -7,14 +7,14 @@ use crate::names::NodePtr;
 use std::cmp::Ordering;
 
 /// The whole prefix agrees with the key's bytes, as far as the match looked.
-#[derive(Clone, Copy, PartialEq, Eq, Debug)]
+#[derive(Clone, Copy, PartialEq, Eq)]
 pub struct PrefixMatch {
     /// How many bytes agree: the length of the prefix.
     pub matched_bytes: usize,
 }
 
 /// The whole prefix may agree with the key's bytes.
-#[derive(Clone, Copy, PartialEq, Eq, Debug)]
+#[derive(Clone, Copy, PartialEq, Eq)]
 pub struct AttemptOptimisticPrefixMatch {
     /// How many bytes count as agreeing: the length of the prefix.
     pub matched_bytes: usize,
@@ -23,14 +23,14 @@ pub struct AttemptOptimisticPrefixMatch {
 }
 
 /// The prefix is longer than what is left of the key.
-#[derive(Clone, Copy, PartialEq, Eq, Debug)]
+#[derive(Clone, Copy, PartialEq, Eq)]
 pub struct OptimisticMismatch {
     /// How many bytes count as agreeing: all that is left of the key.
     pub matched_bytes: usize,
 }
 
 /// The key's bytes leave the prefix.
-#[derive(Clone, Copy, PartialEq, Eq, Debug)]
+#[derive(Clone, Copy, PartialEq, Eq)]
 pub struct PessimisticMismatch {
     /// How many bytes agree before that.
     pub matched_bytes: usize,
@@ -47,7 +47,7 @@ pub struct ExplicitMismatch {
 }
 
 /// The whole prefix of a node, lent from where it stands.
-#[derive(Clone, Copy, Debug)]
+#[derive(Clone, Copy)]
 pub struct NodePrefix<'a> {
     /// The bytes of the prefix.
     pub prefix: &'a [u8],

@@ -25,7 +25,8 @@ impl Model for Slot {
 
     ghost inverse = { λ n. record { bytes = to_le_bytes w64 n } };
 
-    ghost inverse_ok = { λ a h. ap (λ (bytes : List ℕ). record a { bytes = bytes }) (le_bytes_8 a.bytes (from_le_bytes w64 a.bytes) h.0 h.1 refl) };
+    ghost inverse_ok = { λ a h. ap (λ (bytes : List ℕ). record a { bytes = bytes })
+        (le_bytes_8 a.bytes (from_le_bytes w64 a.bytes) h.0 h.1 refl) };
 }
 
 impl Clone for Slot {

@@ -1,9 +1,11 @@
 //! Inner nodes of few children, whose bytes and names stand side by side in ascending order.
-ghost use Rattle.std.specs.Prelude.{◌≡◌, ◌↔◌, ◌<◌, ◌≤◌, ◌⊎◌, ◌+◌, ◌^◌, ◌==◌, [], length, min, position, IsTrue, IsSome, MatchResult};
+ghost use Rattle.std.specs.Prelude.{◌≡◌, ◌↔◌, ◌<◌, ◌≤◌, ◌⊎◌, ◌+◌, ◌^◌, ◌==◌, [], length, min, position, IsTrue, IsSome};
+ghost use Rattle.std.specs.Prelude.{MatchResult};
 ghost use Rattle.art_nodes.specs.Header.{front_of};
 ghost use Rattle.std.specs.List.{zip};
 ghost use Rattle.art_nodes.specs.Place.{StandsAt, BelongsAt};
-ghost use Rattle.art_nodes.specs.InnerNode.{InnerNode, IsInnerNode, IsAscending, child_at, with_child, without_child, with_children};
+ghost use Rattle.art_nodes.specs.InnerNode.{InnerNode, IsInnerNode, IsAscending, child_at, with_child, without_child};
+ghost use Rattle.art_nodes.specs.InnerNode.{with_children};
 
 use crate::child_iter::{ChildIter, name_in, place_of};
 use crate::header::Header;
@@ -13,12 +15,6 @@ use crate::sealed::Sealed;
 use arrayvec::ArrayVec;
 use std::fmt;
 use std::marker::{Model, PhantomData};
-
-/// The smallest inner node.
-pub type InnerNode4<K, V, const PREFIX_LEN: usize> = InnerNodeSorted<K, V, PREFIX_LEN, 4>;
-
-/// An inner node of up to 16 children.
-pub type InnerNode16<K, V, const PREFIX_LEN: usize> = InnerNodeSorted<K, V, PREFIX_LEN, 16>;
 
 /// An inner node of up to `SIZE` children, by ascending byte.
 pub struct InnerNodeSorted<K, V, const PREFIX_LEN: usize, const SIZE: usize> {

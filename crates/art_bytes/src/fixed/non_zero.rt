@@ -5,7 +5,9 @@ ghost use Rattle.std.specs.Ordering.{nat_cmp, int_cmp};
 ghost use Rattle.std.proofs.Common.{lit<};
 ghost use Rattle.art_bytes.specs.Numbers.{big_endian, flipped};
 ghost use Rattle.art_bytes.specs.FlipLaws.{flipped-injective, int_cmp-flipped};
-ghost use Rattle.std.specs.Int.NonZero.{non_zero_u8_get, non_zero_u16_get, non_zero_u32_get, non_zero_u64_get, non_zero_u128_get, non_zero_i8_get, non_zero_i16_get, non_zero_i32_get, non_zero_i64_get, non_zero_i128_get};
+ghost use Rattle.std.specs.Int.NonZero.{non_zero_u8_get, non_zero_u16_get, non_zero_u32_get, non_zero_u64_get};
+ghost use Rattle.std.specs.Int.NonZero.{non_zero_u128_get, non_zero_i8_get, non_zero_i16_get, non_zero_i32_get};
+ghost use Rattle.std.specs.Int.NonZero.{non_zero_i64_get, non_zero_i128_get};
 ghost use Rattle.art_bytes.specs.FixedLaws.{stored_bytes, unsigned_bytes, one_holder, above_zero, apart_from_zero};
 
 use super::stored::read_stored;
@@ -24,7 +26,8 @@ impl StoredAsNumber for NonZeroU8 {
 
     ghost stored = { non_zero_u8_get };
 
-    ghost one_value = { λ m n hm hn e. one_holder (λ v ok. record { value = v; ok = ok }) above_zero m.value n.value m.ok n.ok e };
+    ghost one_value = { λ m n hm hn e. one_holder
+        (λ v ok. record { value = v; ok = ok }) above_zero m.value n.value m.ok n.ok e };
 
     ghost same_order = { λ m n hm hn. refl };
 
@@ -46,7 +49,8 @@ impl StoredAsNumber for NonZeroU16 {
 
     ghost stored = { non_zero_u16_get };
 
-    ghost one_value = { λ m n hm hn e. one_holder (λ v ok. record { value = v; ok = ok }) above_zero m.value n.value m.ok n.ok e };
+    ghost one_value = { λ m n hm hn e. one_holder
+        (λ v ok. record { value = v; ok = ok }) above_zero m.value n.value m.ok n.ok e };
 
     ghost same_order = { λ m n hm hn. refl };
 
@@ -68,7 +72,8 @@ impl StoredAsNumber for NonZeroU32 {
 
     ghost stored = { non_zero_u32_get };
 
-    ghost one_value = { λ m n hm hn e. one_holder (λ v ok. record { value = v; ok = ok }) above_zero m.value n.value m.ok n.ok e };
+    ghost one_value = { λ m n hm hn e. one_holder
+        (λ v ok. record { value = v; ok = ok }) above_zero m.value n.value m.ok n.ok e };
 
     ghost same_order = { λ m n hm hn. refl };
 
@@ -90,7 +95,8 @@ impl StoredAsNumber for NonZeroU64 {
 
     ghost stored = { non_zero_u64_get };
 
-    ghost one_value = { λ m n hm hn e. one_holder (λ v ok. record { value = v; ok = ok }) above_zero m.value n.value m.ok n.ok e };
+    ghost one_value = { λ m n hm hn e. one_holder
+        (λ v ok. record { value = v; ok = ok }) above_zero m.value n.value m.ok n.ok e };
 
     ghost same_order = { λ m n hm hn. refl };
 
@@ -112,7 +118,8 @@ impl StoredAsNumber for NonZeroU128 {
 
     ghost stored = { non_zero_u128_get };
 
-    ghost one_value = { λ m n hm hn e. one_holder (λ v ok. record { value = v; ok = ok }) above_zero m.value n.value m.ok n.ok e };
+    ghost one_value = { λ m n hm hn e. one_holder
+        (λ v ok. record { value = v; ok = ok }) above_zero m.value n.value m.ok n.ok e };
 
     ghost same_order = { λ m n hm hn. refl };
 
@@ -134,7 +141,8 @@ impl StoredAsNumber for NonZeroI8 {
 
     ghost stored = { non_zero_i8_get };
 
-    ghost one_value = { λ m n hm hn e. one_holder (λ v ok. record { value = v; ok = ok }) apart_from_zero m.value n.value m.ok n.ok e };
+    ghost one_value = { λ m n hm hn e. one_holder
+        (λ v ok. record { value = v; ok = ok }) apart_from_zero m.value n.value m.ok n.ok e };
 
     ghost same_order = { λ m n hm hn. refl };
 
@@ -156,7 +164,8 @@ impl StoredAsNumber for NonZeroI16 {
 
     ghost stored = { non_zero_i16_get };
 
-    ghost one_value = { λ m n hm hn e. one_holder (λ v ok. record { value = v; ok = ok }) apart_from_zero m.value n.value m.ok n.ok e };
+    ghost one_value = { λ m n hm hn e. one_holder
+        (λ v ok. record { value = v; ok = ok }) apart_from_zero m.value n.value m.ok n.ok e };
 
     ghost same_order = { λ m n hm hn. refl };
 
@@ -178,7 +187,8 @@ impl StoredAsNumber for NonZeroI32 {
 
     ghost stored = { non_zero_i32_get };
 
-    ghost one_value = { λ m n hm hn e. one_holder (λ v ok. record { value = v; ok = ok }) apart_from_zero m.value n.value m.ok n.ok e };
+    ghost one_value = { λ m n hm hn e. one_holder
+        (λ v ok. record { value = v; ok = ok }) apart_from_zero m.value n.value m.ok n.ok e };
 
     ghost same_order = { λ m n hm hn. refl };
 
@@ -200,7 +210,8 @@ impl StoredAsNumber for NonZeroI64 {
 
     ghost stored = { non_zero_i64_get };
 
-    ghost one_value = { λ m n hm hn e. one_holder (λ v ok. record { value = v; ok = ok }) apart_from_zero m.value n.value m.ok n.ok e };
+    ghost one_value = { λ m n hm hn e. one_holder
+        (λ v ok. record { value = v; ok = ok }) apart_from_zero m.value n.value m.ok n.ok e };
 
     ghost same_order = { λ m n hm hn. refl };
 
@@ -222,7 +233,8 @@ impl StoredAsNumber for NonZeroI128 {
 
     ghost stored = { non_zero_i128_get };
 
-    ghost one_value = { λ m n hm hn e. one_holder (λ v ok. record { value = v; ok = ok }) apart_from_zero m.value n.value m.ok n.ok e };
+    ghost one_value = { λ m n hm hn e. one_holder
+        (λ v ok. record { value = v; ok = ok }) apart_from_zero m.value n.value m.ok n.ok e };
 
     ghost same_order = { λ m n hm hn. refl };
 
@@ -246,7 +258,10 @@ impl FixedBytes for NonZeroU8 {
 
     ghost fixed_bytes = { λ v. big_endian 1 (non_zero_u8_get v) };
 
-    ghost have_bytes = { stored_bytes non_zero_u8_get (λ _. Unit {0}) (λ m n. nat_cmp (non_zero_u8_get m) (non_zero_u8_get n)) 1 _ _ _ (λ m n hm hn e. one_holder (λ v ok. record { value = v; ok = ok }) above_zero m.value n.value m.ok n.ok e) (λ m n hm hn. refl) (unsigned_bytes 1 (lit< tt)) };
+    ghost have_bytes = { stored_bytes non_zero_u8_get (λ _. Unit {0})
+        (λ m n. nat_cmp (non_zero_u8_get m) (non_zero_u8_get n)) 1 _ _ _
+        (λ m n hm hn e. one_holder (λ v ok. record { value = v; ok = ok }) above_zero m.value n.value m.ok n.ok e)
+        (λ m n hm hn. refl) (unsigned_bytes 1 (lit< tt)) };
 
     fn some() -> NonZeroU8 {
         NonZeroU8::MIN
@@ -272,7 +287,10 @@ impl FixedBytes for NonZeroU16 {
 
     ghost fixed_bytes = { λ v. big_endian 2 (non_zero_u16_get v) };
 
-    ghost have_bytes = { stored_bytes non_zero_u16_get (λ _. Unit {0}) (λ m n. nat_cmp (non_zero_u16_get m) (non_zero_u16_get n)) 2 _ _ _ (λ m n hm hn e. one_holder (λ v ok. record { value = v; ok = ok }) above_zero m.value n.value m.ok n.ok e) (λ m n hm hn. refl) (unsigned_bytes 2 (lit< tt)) };
+    ghost have_bytes = { stored_bytes non_zero_u16_get (λ _. Unit {0})
+        (λ m n. nat_cmp (non_zero_u16_get m) (non_zero_u16_get n)) 2 _ _ _
+        (λ m n hm hn e. one_holder (λ v ok. record { value = v; ok = ok }) above_zero m.value n.value m.ok n.ok e)
+        (λ m n hm hn. refl) (unsigned_bytes 2 (lit< tt)) };
 
     fn some() -> NonZeroU16 {
         NonZeroU16::MIN
@@ -298,7 +316,10 @@ impl FixedBytes for NonZeroU32 {
 
     ghost fixed_bytes = { λ v. big_endian 4 (non_zero_u32_get v) };
 
-    ghost have_bytes = { stored_bytes non_zero_u32_get (λ _. Unit {0}) (λ m n. nat_cmp (non_zero_u32_get m) (non_zero_u32_get n)) 4 _ _ _ (λ m n hm hn e. one_holder (λ v ok. record { value = v; ok = ok }) above_zero m.value n.value m.ok n.ok e) (λ m n hm hn. refl) (unsigned_bytes 4 (lit< tt)) };
+    ghost have_bytes = { stored_bytes non_zero_u32_get (λ _. Unit {0})
+        (λ m n. nat_cmp (non_zero_u32_get m) (non_zero_u32_get n)) 4 _ _ _
+        (λ m n hm hn e. one_holder (λ v ok. record { value = v; ok = ok }) above_zero m.value n.value m.ok n.ok e)
+        (λ m n hm hn. refl) (unsigned_bytes 4 (lit< tt)) };
 
     fn some() -> NonZeroU32 {
         NonZeroU32::MIN
@@ -324,7 +345,10 @@ impl FixedBytes for NonZeroU64 {
 
     ghost fixed_bytes = { λ v. big_endian 8 (non_zero_u64_get v) };
 
-    ghost have_bytes = { stored_bytes non_zero_u64_get (λ _. Unit {0}) (λ m n. nat_cmp (non_zero_u64_get m) (non_zero_u64_get n)) 8 _ _ _ (λ m n hm hn e. one_holder (λ v ok. record { value = v; ok = ok }) above_zero m.value n.value m.ok n.ok e) (λ m n hm hn. refl) (unsigned_bytes 8 (lit< tt)) };
+    ghost have_bytes = { stored_bytes non_zero_u64_get (λ _. Unit {0})
+        (λ m n. nat_cmp (non_zero_u64_get m) (non_zero_u64_get n)) 8 _ _ _
+        (λ m n hm hn e. one_holder (λ v ok. record { value = v; ok = ok }) above_zero m.value n.value m.ok n.ok e)
+        (λ m n hm hn. refl) (unsigned_bytes 8 (lit< tt)) };
 
     fn some() -> NonZeroU64 {
         NonZeroU64::MIN
@@ -350,7 +374,10 @@ impl FixedBytes for NonZeroU128 {
 
     ghost fixed_bytes = { λ v. big_endian 16 (non_zero_u128_get v) };
 
-    ghost have_bytes = { stored_bytes non_zero_u128_get (λ _. Unit {0}) (λ m n. nat_cmp (non_zero_u128_get m) (non_zero_u128_get n)) 16 _ _ _ (λ m n hm hn e. one_holder (λ v ok. record { value = v; ok = ok }) above_zero m.value n.value m.ok n.ok e) (λ m n hm hn. refl) (unsigned_bytes 16 (lit< tt)) };
+    ghost have_bytes = { stored_bytes non_zero_u128_get (λ _. Unit {0})
+        (λ m n. nat_cmp (non_zero_u128_get m) (non_zero_u128_get n)) 16 _ _ _
+        (λ m n hm hn e. one_holder (λ v ok. record { value = v; ok = ok }) above_zero m.value n.value m.ok n.ok e)
+        (λ m n hm hn. refl) (unsigned_bytes 16 (lit< tt)) };
 
     fn some() -> NonZeroU128 {
         NonZeroU128::MIN
@@ -372,11 +399,16 @@ impl FixedBytes for NonZeroI8 {
 
     const WIDTH: usize = 1;
 
-    ghost is_value = { λ v. Unit {0} × (FitsSigned w8 (non_zero_i8_get v) × (flipped w8 (non_zero_i8_get v) < 256 ^ 1)) };
+    ghost is_value = { λ v. Unit {0}
+        × (FitsSigned w8 (non_zero_i8_get v) × (flipped w8 (non_zero_i8_get v) < 256 ^ 1)) };
 
     ghost fixed_bytes = { λ v. big_endian 1 (flipped w8 (non_zero_i8_get v)) };
 
-    ghost have_bytes = { stored_bytes non_zero_i8_get (λ _. Unit {0}) (λ m n. int_cmp (non_zero_i8_get m) (non_zero_i8_get n)) 1 _ _ _ (λ m n hm hn e. one_holder (λ v ok. record { value = v; ok = ok }) apart_from_zero m.value n.value m.ok n.ok e) (λ m n hm hn. refl) (stored_bytes (flipped w8) (FitsSigned w8) int_cmp 1 _ _ _ (flipped-injective w8) (int_cmp-flipped w8) (unsigned_bytes 1 (lit< tt))) };
+    ghost have_bytes = { stored_bytes non_zero_i8_get (λ _. Unit {0})
+        (λ m n. int_cmp (non_zero_i8_get m) (non_zero_i8_get n)) 1 _ _ _
+        (λ m n hm hn e. one_holder (λ v ok. record { value = v; ok = ok }) apart_from_zero m.value n.value m.ok n.ok e)
+        (λ m n hm hn. refl) (stored_bytes (flipped w8) (FitsSigned w8) int_cmp 1 _ _ _ (flipped-injective w8)
+        (int_cmp-flipped w8) (unsigned_bytes 1 (lit< tt))) };
 
     fn some() -> NonZeroI8 {
         NonZeroI8::MIN
@@ -398,11 +430,16 @@ impl FixedBytes for NonZeroI16 {
 
     const WIDTH: usize = 2;
 
-    ghost is_value = { λ v. Unit {0} × (FitsSigned w16 (non_zero_i16_get v) × (flipped w16 (non_zero_i16_get v) < 256 ^ 2)) };
+    ghost is_value = { λ v. Unit {0}
+        × (FitsSigned w16 (non_zero_i16_get v) × (flipped w16 (non_zero_i16_get v) < 256 ^ 2)) };
 
     ghost fixed_bytes = { λ v. big_endian 2 (flipped w16 (non_zero_i16_get v)) };
 
-    ghost have_bytes = { stored_bytes non_zero_i16_get (λ _. Unit {0}) (λ m n. int_cmp (non_zero_i16_get m) (non_zero_i16_get n)) 2 _ _ _ (λ m n hm hn e. one_holder (λ v ok. record { value = v; ok = ok }) apart_from_zero m.value n.value m.ok n.ok e) (λ m n hm hn. refl) (stored_bytes (flipped w16) (FitsSigned w16) int_cmp 2 _ _ _ (flipped-injective w16) (int_cmp-flipped w16) (unsigned_bytes 2 (lit< tt))) };
+    ghost have_bytes = { stored_bytes non_zero_i16_get (λ _. Unit {0})
+        (λ m n. int_cmp (non_zero_i16_get m) (non_zero_i16_get n)) 2 _ _ _
+        (λ m n hm hn e. one_holder (λ v ok. record { value = v; ok = ok }) apart_from_zero m.value n.value m.ok n.ok e)
+        (λ m n hm hn. refl) (stored_bytes (flipped w16) (FitsSigned w16) int_cmp 2 _ _ _ (flipped-injective w16)
+        (int_cmp-flipped w16) (unsigned_bytes 2 (lit< tt))) };
 
     fn some() -> NonZeroI16 {
         NonZeroI16::MIN
@@ -424,11 +461,16 @@ impl FixedBytes for NonZeroI32 {
 
     const WIDTH: usize = 4;
 
-    ghost is_value = { λ v. Unit {0} × (FitsSigned w32 (non_zero_i32_get v) × (flipped w32 (non_zero_i32_get v) < 256 ^ 4)) };
+    ghost is_value = { λ v. Unit {0}
+        × (FitsSigned w32 (non_zero_i32_get v) × (flipped w32 (non_zero_i32_get v) < 256 ^ 4)) };
 
     ghost fixed_bytes = { λ v. big_endian 4 (flipped w32 (non_zero_i32_get v)) };
 
-    ghost have_bytes = { stored_bytes non_zero_i32_get (λ _. Unit {0}) (λ m n. int_cmp (non_zero_i32_get m) (non_zero_i32_get n)) 4 _ _ _ (λ m n hm hn e. one_holder (λ v ok. record { value = v; ok = ok }) apart_from_zero m.value n.value m.ok n.ok e) (λ m n hm hn. refl) (stored_bytes (flipped w32) (FitsSigned w32) int_cmp 4 _ _ _ (flipped-injective w32) (int_cmp-flipped w32) (unsigned_bytes 4 (lit< tt))) };
+    ghost have_bytes = { stored_bytes non_zero_i32_get (λ _. Unit {0})
+        (λ m n. int_cmp (non_zero_i32_get m) (non_zero_i32_get n)) 4 _ _ _
+        (λ m n hm hn e. one_holder (λ v ok. record { value = v; ok = ok }) apart_from_zero m.value n.value m.ok n.ok e)
+        (λ m n hm hn. refl) (stored_bytes (flipped w32) (FitsSigned w32) int_cmp 4 _ _ _ (flipped-injective w32)
+        (int_cmp-flipped w32) (unsigned_bytes 4 (lit< tt))) };
 
     fn some() -> NonZeroI32 {
         NonZeroI32::MIN
@@ -450,11 +492,16 @@ impl FixedBytes for NonZeroI64 {
 
     const WIDTH: usize = 8;
 
-    ghost is_value = { λ v. Unit {0} × (FitsSigned w64 (non_zero_i64_get v) × (flipped w64 (non_zero_i64_get v) < 256 ^ 8)) };
+    ghost is_value = { λ v. Unit {0}
+        × (FitsSigned w64 (non_zero_i64_get v) × (flipped w64 (non_zero_i64_get v) < 256 ^ 8)) };
 
     ghost fixed_bytes = { λ v. big_endian 8 (flipped w64 (non_zero_i64_get v)) };
 
-    ghost have_bytes = { stored_bytes non_zero_i64_get (λ _. Unit {0}) (λ m n. int_cmp (non_zero_i64_get m) (non_zero_i64_get n)) 8 _ _ _ (λ m n hm hn e. one_holder (λ v ok. record { value = v; ok = ok }) apart_from_zero m.value n.value m.ok n.ok e) (λ m n hm hn. refl) (stored_bytes (flipped w64) (FitsSigned w64) int_cmp 8 _ _ _ (flipped-injective w64) (int_cmp-flipped w64) (unsigned_bytes 8 (lit< tt))) };
+    ghost have_bytes = { stored_bytes non_zero_i64_get (λ _. Unit {0})
+        (λ m n. int_cmp (non_zero_i64_get m) (non_zero_i64_get n)) 8 _ _ _
+        (λ m n hm hn e. one_holder (λ v ok. record { value = v; ok = ok }) apart_from_zero m.value n.value m.ok n.ok e)
+        (λ m n hm hn. refl) (stored_bytes (flipped w64) (FitsSigned w64) int_cmp 8 _ _ _ (flipped-injective w64)
+        (int_cmp-flipped w64) (unsigned_bytes 8 (lit< tt))) };
 
     fn some() -> NonZeroI64 {
         NonZeroI64::MIN
@@ -476,11 +523,16 @@ impl FixedBytes for NonZeroI128 {
 
     const WIDTH: usize = 16;
 
-    ghost is_value = { λ v. Unit {0} × (FitsSigned w128 (non_zero_i128_get v) × (flipped w128 (non_zero_i128_get v) < 256 ^ 16)) };
+    ghost is_value = { λ v. Unit {0}
+        × (FitsSigned w128 (non_zero_i128_get v) × (flipped w128 (non_zero_i128_get v) < 256 ^ 16)) };
 
     ghost fixed_bytes = { λ v. big_endian 16 (flipped w128 (non_zero_i128_get v)) };
 
-    ghost have_bytes = { stored_bytes non_zero_i128_get (λ _. Unit {0}) (λ m n. int_cmp (non_zero_i128_get m) (non_zero_i128_get n)) 16 _ _ _ (λ m n hm hn e. one_holder (λ v ok. record { value = v; ok = ok }) apart_from_zero m.value n.value m.ok n.ok e) (λ m n hm hn. refl) (stored_bytes (flipped w128) (FitsSigned w128) int_cmp 16 _ _ _ (flipped-injective w128) (int_cmp-flipped w128) (unsigned_bytes 16 (lit< tt))) };
+    ghost have_bytes = { stored_bytes non_zero_i128_get (λ _. Unit {0})
+        (λ m n. int_cmp (non_zero_i128_get m) (non_zero_i128_get n)) 16 _ _ _
+        (λ m n hm hn e. one_holder (λ v ok. record { value = v; ok = ok }) apart_from_zero m.value n.value m.ok n.ok e)
+        (λ m n hm hn. refl) (stored_bytes (flipped w128) (FitsSigned w128) int_cmp 16 _ _ _ (flipped-injective w128)
+        (int_cmp-flipped w128) (unsigned_bytes 16 (lit< tt))) };
 
     fn some() -> NonZeroI128 {
         NonZeroI128::MIN

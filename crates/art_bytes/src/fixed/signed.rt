@@ -134,7 +134,8 @@ impl FixedBytes for i8 {
 
     ghost fixed_bytes = { λ v. big_endian 1 (flipped w8 v) };
 
-    ghost have_bytes = { stored_bytes (flipped w8) (FitsSigned w8) int_cmp 1 _ _ _ (flipped-injective w8) (int_cmp-flipped w8) (unsigned_bytes 1 (lit< tt)) };
+    ghost have_bytes = { stored_bytes (flipped w8) (FitsSigned w8) int_cmp 1 _ _ _ (flipped-injective w8)
+        (int_cmp-flipped w8) (unsigned_bytes 1 (lit< tt)) };
 
     fn some() -> i8 {
         0
@@ -160,7 +161,8 @@ impl FixedBytes for i16 {
 
     ghost fixed_bytes = { λ v. big_endian 2 (flipped w16 v) };
 
-    ghost have_bytes = { stored_bytes (flipped w16) (FitsSigned w16) int_cmp 2 _ _ _ (flipped-injective w16) (int_cmp-flipped w16) (unsigned_bytes 2 (lit< tt)) };
+    ghost have_bytes = { stored_bytes (flipped w16) (FitsSigned w16) int_cmp 2 _ _ _ (flipped-injective w16)
+        (int_cmp-flipped w16) (unsigned_bytes 2 (lit< tt)) };
 
     fn some() -> i16 {
         0
@@ -186,7 +188,8 @@ impl FixedBytes for i32 {
 
     ghost fixed_bytes = { λ v. big_endian 4 (flipped w32 v) };
 
-    ghost have_bytes = { stored_bytes (flipped w32) (FitsSigned w32) int_cmp 4 _ _ _ (flipped-injective w32) (int_cmp-flipped w32) (unsigned_bytes 4 (lit< tt)) };
+    ghost have_bytes = { stored_bytes (flipped w32) (FitsSigned w32) int_cmp 4 _ _ _ (flipped-injective w32)
+        (int_cmp-flipped w32) (unsigned_bytes 4 (lit< tt)) };
 
     fn some() -> i32 {
         0
@@ -212,7 +215,8 @@ impl FixedBytes for i64 {
 
     ghost fixed_bytes = { λ v. big_endian 8 (flipped w64 v) };
 
-    ghost have_bytes = { stored_bytes (flipped w64) (FitsSigned w64) int_cmp 8 _ _ _ (flipped-injective w64) (int_cmp-flipped w64) (unsigned_bytes 8 (lit< tt)) };
+    ghost have_bytes = { stored_bytes (flipped w64) (FitsSigned w64) int_cmp 8 _ _ _ (flipped-injective w64)
+        (int_cmp-flipped w64) (unsigned_bytes 8 (lit< tt)) };
 
     fn some() -> i64 {
         0
@@ -238,7 +242,8 @@ impl FixedBytes for i128 {
 
     ghost fixed_bytes = { λ v. big_endian 16 (flipped w128 v) };
 
-    ghost have_bytes = { stored_bytes (flipped w128) (FitsSigned w128) int_cmp 16 _ _ _ (flipped-injective w128) (int_cmp-flipped w128) (unsigned_bytes 16 (lit< tt)) };
+    ghost have_bytes = { stored_bytes (flipped w128) (FitsSigned w128) int_cmp 16 _ _ _ (flipped-injective w128)
+        (int_cmp-flipped w128) (unsigned_bytes 16 (lit< tt)) };
 
     fn some() -> i128 {
         0

@@ -20,7 +20,8 @@ pub trait StoredAsNumber: Ord + Drop {
 
     /// The value that is stored as this number, or None where there is none. It takes no memory.
     fn from_number(number: Self::Number) -> Option<Self>
-        ensures { MatchOption result (¬ ((v : Self) × in_range v × (stored v ≡ number))) (λ v. in_range v × (stored v ≡ number)) };
+        ensures { MatchOption result (¬ ((v : Self) × in_range v × (stored v ≡ number)))
+            (λ v. in_range v × (stored v ≡ number)) };
 
     ghost one_value: { (v w : Self) → in_range v → in_range w → stored v ≡ stored w → v ≡ w };
 
@@ -30,7 +31,10 @@ pub trait StoredAsNumber: Ord + Drop {
 // The value whose number has these bytes, or None where there is none.
 pub(super) fn read_stored<X: StoredAsNumber>(bytes: &[u8]) -> Option<X>
     requires { length bytes.now ≡ X.Number.WIDTH }
-    ensures { MatchOption result (¬ ((v : X) × (X.in_range v × X.Number.is_value (X.stored v)) × (X.Number.fixed_bytes (X.stored v) ≡ bytes.now))) (λ v. (X.in_range v × X.Number.is_value (X.stored v)) × (X.Number.fixed_bytes (X.stored v) ≡ bytes.now)) }
+    ensures { MatchOption result
+        (¬ ((v : X) × (X.in_range v × X.Number.is_value (X.stored v))
+        × (X.Number.fixed_bytes (X.stored v) ≡ bytes.now)))
+        (λ v. (X.in_range v × X.Number.is_value (X.stored v)) × (X.Number.fixed_bytes (X.stored v) ≡ bytes.now)) }
 {
     X::from_number(X::Number::checked_from_slice(bytes)?)
 }

@@ -3,7 +3,8 @@ ghost use Rattle.std.specs.Prelude.{◌≡◌, ◌++◌, ◌-◌, [], ◌∷◌,
 ghost use Rattle.std.proofs.Common.{refl, rules, ap};
 ghost use Rattle.std.specs.Cmp.{on_per, on_po, partial_equiv_from_equiv};
 ghost use Rattle.std.specs.Cmp.Rules.{hashing};
-ghost use Rattle.std.specs.Cmp.Lexicographic.{pointwise, nat_list_eq_equiv, on_texts, on_texts_equal, texts_po, texts_ties};
+ghost use Rattle.std.specs.Cmp.Lexicographic.{pointwise, nat_list_eq_equiv, on_texts, on_texts_equal, texts_po};
+ghost use Rattle.std.specs.Cmp.Lexicographic.{texts_ties};
 ghost use Rattle.std.specs.Hash as fed;
 ghost use Rattle.std.specs.List.{each_same};
 ghost use Rattle.art_bytes.specs.Keys.{AreBytes, HasNoZero, bytes_cmp};
@@ -39,7 +40,8 @@ impl Model for ZeroEnded {
 
     ghost view = { λ k. take (length k.with_zero.items - 1) k.with_zero.items };
 
-    ghost invariant = { λ k. (bytes : List ℕ) × HasNoZero bytes × AreBytes bytes × (k.with_zero.items ≡ bytes ++ 0 ∷ []) };
+    ghost invariant = { λ k. (bytes : List ℕ) × HasNoZero bytes × AreBytes bytes
+        × (k.with_zero.items ≡ bytes ++ 0 ∷ []) };
 }
 
 impl ZeroEnded {

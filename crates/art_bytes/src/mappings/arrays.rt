@@ -24,7 +24,9 @@ fn part<E: FixedBytes>(bytes: &[u8], index: usize) -> &[u8]
 
 // The array whose bytes these are, or None where they are no array's. It takes no memory.
 fn read_array<E: FixedBytes, const N: usize>(bytes: &[u8]) -> Option<[E; N]>
-    ensures { MatchOption result (¬ ((xs : List E) × HaveListBytes E.is_value E.fixed_bytes xs bytes.now × (length xs ≡ N))) (λ v. HaveListBytes E.is_value E.fixed_bytes v bytes.now × (length v ≡ N)) }
+    ensures { MatchOption result
+        (¬ ((xs : List E) × HaveListBytes E.is_value E.fixed_bytes xs bytes.now × (length xs ≡ N)))
+        (λ v. HaveListBytes E.is_value E.fixed_bytes v bytes.now × (length v ≡ N)) }
 {
     let fits = match N.checked_mul(E::WIDTH) {
         Some(len) => len == bytes.len(),
@@ -57,11 +59,15 @@ impl<E: Unsigned, const N: usize> BytesMapping<[E; N]> for ToUBE {
 
     ghost value_is_free = { Unit {0} };
 
-    ghost are_bytes = { λ v b h. (subst AreBytes (sym h.0.1) (AreBytes-list E.WIDTH E.is_value E.fixed_bytes E.cmp E.have_bytes v h.0.0), h.0.1) };
+    ghost are_bytes = { λ v b h. (
+      subst AreBytes (sym h.0.1) (AreBytes-list E.WIDTH E.is_value E.fixed_bytes E.cmp E.have_bytes v h.0.0),
+      h.0.1,
+    ) };
 
     ghost by_bytes = { λ v b c h k e. (v, ((h.0.0, e ∙ h.0.1), h.1)) };
 
-    ghost one_value = { λ v w b c h k e. one_list E.WIDTH E.is_value E.fixed_bytes E.cmp E.have_bytes v w h.0.0 k.0.0 e };
+    ghost one_value = { λ v w b c h k e.
+        one_list E.WIDTH E.is_value E.fixed_bytes E.cmp E.have_bytes v w h.0.0 k.0.0 e };
 
     fn to_bytes(alloc: Global, value: [E; N]) -> Result<Vec<u8>, AllocError> {
         write_list(alloc, Vec::from_array(alloc, value)?)
@@ -80,11 +86,14 @@ impl<E: Unsigned, const N: usize> BytesMapping<[E; N]> for ToUBE {
 }
 
 impl<E: Unsigned, const N: usize> NoPrefixesMapping<[E; N]> for ToUBE {
-    ghost no_prefixes = { λ v w b c h k. BeginsWith-same_length _ _ (N * E.WIDTH) (length-list E.WIDTH E.is_value E.fixed_bytes E.cmp E.have_bytes v h.0.0 ∙ ap (λ n. n * E.WIDTH) h.1) (length-list E.WIDTH E.is_value E.fixed_bytes E.cmp E.have_bytes w k.0.0 ∙ ap (λ n. n * E.WIDTH) k.1) };
+    ghost no_prefixes = { λ v w b c h k. BeginsWith-same_length _ _ (N * E.WIDTH)
+        (length-list E.WIDTH E.is_value E.fixed_bytes E.cmp E.have_bytes v h.0.0 ∙ ap (λ n. n * E.WIDTH) h.1)
+        (length-list E.WIDTH E.is_value E.fixed_bytes E.cmp E.have_bytes w k.0.0 ∙ ap (λ n. n * E.WIDTH) k.1) };
 }
 
 impl<E: Unsigned, const N: usize> OrderedMapping<[E; N]> for ToUBE {
-    ghost ordered = { λ v w b c h k. bytes_cmp-list E.WIDTH E.is_value E.fixed_bytes E.cmp E.have_bytes v w h.0.0 k.0.0 };
+    ghost ordered = { λ v w b c h k.
+        bytes_cmp-list E.WIDTH E.is_value E.fixed_bytes E.cmp E.have_bytes v w h.0.0 k.0.0 };
 }
 
 impl<E: Signed, const N: usize> BytesMapping<[E; N]> for ToIBE {
@@ -100,11 +109,15 @@ impl<E: Signed, const N: usize> BytesMapping<[E; N]> for ToIBE {
 
     ghost value_is_free = { Unit {0} };
 
-    ghost are_bytes = { λ v b h. (subst AreBytes (sym h.0.1) (AreBytes-list E.WIDTH E.is_value E.fixed_bytes E.cmp E.have_bytes v h.0.0), h.0.1) };
+    ghost are_bytes = { λ v b h. (
+      subst AreBytes (sym h.0.1) (AreBytes-list E.WIDTH E.is_value E.fixed_bytes E.cmp E.have_bytes v h.0.0),
+      h.0.1,
+    ) };
 
     ghost by_bytes = { λ v b c h k e. (v, ((h.0.0, e ∙ h.0.1), h.1)) };
 
-    ghost one_value = { λ v w b c h k e. one_list E.WIDTH E.is_value E.fixed_bytes E.cmp E.have_bytes v w h.0.0 k.0.0 e };
+    ghost one_value = { λ v w b c h k e.
+        one_list E.WIDTH E.is_value E.fixed_bytes E.cmp E.have_bytes v w h.0.0 k.0.0 e };
 
     fn to_bytes(alloc: Global, numbers: [E; N]) -> Result<Vec<u8>, AllocError> {
         write_list(alloc, Vec::from_array(alloc, numbers)?)
@@ -123,9 +136,12 @@ impl<E: Signed, const N: usize> BytesMapping<[E; N]> for ToIBE {
 }
 
 impl<E: Signed, const N: usize> NoPrefixesMapping<[E; N]> for ToIBE {
-    ghost no_prefixes = { λ v w b c h k. BeginsWith-same_length _ _ (N * E.WIDTH) (length-list E.WIDTH E.is_value E.fixed_bytes E.cmp E.have_bytes v h.0.0 ∙ ap (λ n. n * E.WIDTH) h.1) (length-list E.WIDTH E.is_value E.fixed_bytes E.cmp E.have_bytes w k.0.0 ∙ ap (λ n. n * E.WIDTH) k.1) };
+    ghost no_prefixes = { λ v w b c h k. BeginsWith-same_length _ _ (N * E.WIDTH)
+        (length-list E.WIDTH E.is_value E.fixed_bytes E.cmp E.have_bytes v h.0.0 ∙ ap (λ n. n * E.WIDTH) h.1)
+        (length-list E.WIDTH E.is_value E.fixed_bytes E.cmp E.have_bytes w k.0.0 ∙ ap (λ n. n * E.WIDTH) k.1) };
 }
 
 impl<E: Signed, const N: usize> OrderedMapping<[E; N]> for ToIBE {
-    ghost ordered = { λ v w b c h k. bytes_cmp-list E.WIDTH E.is_value E.fixed_bytes E.cmp E.have_bytes v w h.0.0 k.0.0 };
+    ghost ordered = { λ v w b c h k.
+        bytes_cmp-list E.WIDTH E.is_value E.fixed_bytes E.cmp E.have_bytes v w h.0.0 k.0.0 };
 }

@@ -12,7 +12,7 @@ use std::alloc::{AllocError, Global};
 use std::marker::PhantomData;
 
 /// Tuples of two to six parts, each by the mapping that stands in its place in `M`.
-#[derive(Clone, Copy, Debug)]
+#[derive(Clone, Copy)]
 pub struct ConcatTuple<M> {
     parts: PhantomData<M>,
 }
@@ -38,7 +38,8 @@ pub trait Parts<D: Ord> {
 
     /// The tuple that has these bytes, or None where there is none. It takes no memory.
     fn checked_from_slice(bytes: &[u8]) -> Option<D>
-        ensures { MatchOption result (¬ ((v : D) × is_value v × (parts_bytes v ≡ bytes.now))) (λ v. is_value v × (parts_bytes v ≡ bytes.now)) };
+        ensures { MatchOption result (¬ ((v : D) × is_value v × (parts_bytes v ≡ bytes.now)))
+            (λ v. is_value v × (parts_bytes v ≡ bytes.now)) };
 
     ghost have_bytes: { HaveFixedBytes WIDTH is_value parts_bytes D.cmp };
 }
@@ -112,7 +113,9 @@ fn push_pair<M: Parts<X>, X: Ord + Drop, A: FixedBytesMapping<Y>, Y: Ord + Drop>
 fn read_pair<M: Parts<X>, X: Ord + Drop, A: FixedBytesMapping<Y>, Y: Ord>(
     bytes: &[u8],
 ) -> Option<(X, Y)>
-    ensures { MatchOption result (¬ ((x : X) × (y : Y) × M.is_value x × A.is_value y × (M.parts_bytes x ++ A.bytes_of y ≡ bytes.now))) (λ p. M.is_value p.0 × A.is_value p.1 × (M.parts_bytes p.0 ++ A.bytes_of p.1 ≡ bytes.now)) }
+    ensures { MatchOption result
+        (¬ ((x : X) × (y : Y) × M.is_value x × A.is_value y × (M.parts_bytes x ++ A.bytes_of y ≡ bytes.now)))
+        (λ p. M.is_value p.0 × A.is_value p.1 × (M.parts_bytes p.0 ++ A.bytes_of p.1 ≡ bytes.now)) }
 {
     if bytes.len() < A::WIDTH {
         return None;
@@ -170,7 +173,8 @@ impl<M: Parts<D>, D: Ord + Drop> BytesMapping<D> for ConcatTuple<M> {
 }
 
 impl<M: Parts<D>, D: Ord + Drop> NoPrefixesMapping<D> for ConcatTuple<M> {
-    ghost no_prefixes = { λ v w b c h k. BeginsWith-same_length _ _ M.WIDTH (M.have_bytes.long v h.0) (M.have_bytes.long w k.0) };
+    ghost no_prefixes = { λ v w b c h k. BeginsWith-same_length _ _ M.WIDTH (M.have_bytes.long v h.0)
+        (M.have_bytes.long w k.0) };
 }
 
 impl<M: Parts<D>, D: Ord + Drop> OrderedMapping<D> for ConcatTuple<M> {
@@ -214,7 +218,9 @@ impl<
 
     ghost parts_bytes = { λ v. (A.bytes_of v.0 ++ B.bytes_of v.1) ++ C.bytes_of v.2 };
 
-    ghost have_bytes = { regrouped_bytes (λ v. ((v.0, v.1), v.2)) _ _ _ _ _ (λ v w e. λ i. ((e i).0.0, (e i).0.1, (e i).1)) (λ v w. refl) (pair_bytes _ _ _ _ _ _ _ _ (pair_bytes _ _ _ _ _ _ _ _ A.have_bytes B.have_bytes) C.have_bytes) };
+    ghost have_bytes = { regrouped_bytes (λ v. ((v.0, v.1), v.2)) _ _ _ _ _
+        (λ v w e. λ i. ((e i).0.0, (e i).0.1, (e i).1)) (λ v w. refl)
+        (pair_bytes _ _ _ _ _ _ _ _ (pair_bytes _ _ _ _ _ _ _ _ A.have_bytes B.have_bytes) C.have_bytes) };
 
     fn width() -> Option<usize> {
         pair_width::<(A, B), (U, V), C, W>()
@@ -248,7 +254,11 @@ impl<
 
     ghost parts_bytes = { λ v. ((A.bytes_of v.0 ++ B.bytes_of v.1) ++ C.bytes_of v.2) ++ D.bytes_of v.3 };
 
-    ghost have_bytes = { regrouped_bytes (λ v. (((v.0, v.1), v.2), v.3)) _ _ _ _ _ (λ v w e. λ i. ((e i).0.0.0, (e i).0.0.1, (e i).0.1, (e i).1)) (λ v w. refl) (pair_bytes _ _ _ _ _ _ _ _ (pair_bytes _ _ _ _ _ _ _ _ (pair_bytes _ _ _ _ _ _ _ _ A.have_bytes B.have_bytes) C.have_bytes) D.have_bytes) };
+    ghost have_bytes = { regrouped_bytes (λ v. (((v.0, v.1), v.2), v.3)) _ _ _ _ _
+        (λ v w e. λ i. ((e i).0.0.0, (e i).0.0.1, (e i).0.1, (e i).1)) (λ v w. refl)
+        (pair_bytes _ _ _ _ _ _ _ _
+        (pair_bytes _ _ _ _ _ _ _ _
+        (pair_bytes _ _ _ _ _ _ _ _ A.have_bytes B.have_bytes) C.have_bytes) D.have_bytes) };
 
     fn width() -> Option<usize> {
         pair_width::<(A, B, C), (U, V, W), D, X>()
@@ -286,9 +296,15 @@ impl<
 
     ghost is_value = { λ v. (((A.is_value v.0 × B.is_value v.1) × C.is_value v.2) × D.is_value v.3) × E.is_value v.4 };
 
-    ghost parts_bytes = { λ v. (((A.bytes_of v.0 ++ B.bytes_of v.1) ++ C.bytes_of v.2) ++ D.bytes_of v.3) ++ E.bytes_of v.4 };
+    ghost parts_bytes = { λ v. (((A.bytes_of v.0 ++ B.bytes_of v.1) ++ C.bytes_of v.2) ++ D.bytes_of v.3)
+        ++ E.bytes_of v.4 };
 
-    ghost have_bytes = { regrouped_bytes (λ v. ((((v.0, v.1), v.2), v.3), v.4)) _ _ _ _ _ (λ v w e. λ i. ((e i).0.0.0.0, (e i).0.0.0.1, (e i).0.0.1, (e i).0.1, (e i).1)) (λ v w. refl) (pair_bytes _ _ _ _ _ _ _ _ (pair_bytes _ _ _ _ _ _ _ _ (pair_bytes _ _ _ _ _ _ _ _ (pair_bytes _ _ _ _ _ _ _ _ A.have_bytes B.have_bytes) C.have_bytes) D.have_bytes) E.have_bytes) };
+    ghost have_bytes = { regrouped_bytes (λ v. ((((v.0, v.1), v.2), v.3), v.4)) _ _ _ _ _
+        (λ v w e. λ i. ((e i).0.0.0.0, (e i).0.0.0.1, (e i).0.0.1, (e i).0.1, (e i).1)) (λ v w. refl)
+        (pair_bytes _ _ _ _ _ _ _ _
+        (pair_bytes _ _ _ _ _ _ _ _
+        (pair_bytes _ _ _ _ _ _ _ _
+        (pair_bytes _ _ _ _ _ _ _ _ A.have_bytes B.have_bytes) C.have_bytes) D.have_bytes) E.have_bytes) };
 
     fn width() -> Option<usize> {
         pair_width::<(A, B, C, D), (U, V, W, X), E, Y>()
@@ -331,11 +347,21 @@ impl<
 > Parts<(U, V, W, X, Y, Z)> for (A, B, C, D, E, F) {
     ghost WIDTH = { ((((A.WIDTH + B.WIDTH) + C.WIDTH) + D.WIDTH) + E.WIDTH) + F.WIDTH };
 
-    ghost is_value = { λ v. ((((A.is_value v.0 × B.is_value v.1) × C.is_value v.2) × D.is_value v.3) × E.is_value v.4) × F.is_value v.5 };
+    ghost is_value = { λ v. ((((A.is_value v.0 × B.is_value v.1) × C.is_value v.2) × D.is_value v.3) × E.is_value v.4)
+        × F.is_value v.5 };
 
-    ghost parts_bytes = { λ v. ((((A.bytes_of v.0 ++ B.bytes_of v.1) ++ C.bytes_of v.2) ++ D.bytes_of v.3) ++ E.bytes_of v.4) ++ F.bytes_of v.5 };
+    ghost parts_bytes = { λ v.
+        ((((A.bytes_of v.0 ++ B.bytes_of v.1) ++ C.bytes_of v.2) ++ D.bytes_of v.3) ++ E.bytes_of v.4)
+        ++ F.bytes_of v.5 };
 
-    ghost have_bytes = { regrouped_bytes (λ v. (((((v.0, v.1), v.2), v.3), v.4), v.5)) _ _ _ _ _ (λ v w e. λ i. ((e i).0.0.0.0.0, (e i).0.0.0.0.1, (e i).0.0.0.1, (e i).0.0.1, (e i).0.1, (e i).1)) (λ v w. refl) (pair_bytes _ _ _ _ _ _ _ _ (pair_bytes _ _ _ _ _ _ _ _ (pair_bytes _ _ _ _ _ _ _ _ (pair_bytes _ _ _ _ _ _ _ _ (pair_bytes _ _ _ _ _ _ _ _ A.have_bytes B.have_bytes) C.have_bytes) D.have_bytes) E.have_bytes) F.have_bytes) };
+    ghost have_bytes = { regrouped_bytes (λ v. (((((v.0, v.1), v.2), v.3), v.4), v.5)) _ _ _ _ _
+        (λ v w e. λ i. ((e i).0.0.0.0.0, (e i).0.0.0.0.1, (e i).0.0.0.1, (e i).0.0.1, (e i).0.1, (e i).1)) (λ v w. refl)
+        (pair_bytes _ _ _ _ _ _ _ _
+        (pair_bytes _ _ _ _ _ _ _ _
+        (pair_bytes _ _ _ _ _ _ _ _
+        (pair_bytes _ _ _ _ _ _ _ _
+        (pair_bytes _ _ _ _ _ _ _ _ A.have_bytes B.have_bytes)
+        C.have_bytes) D.have_bytes) E.have_bytes) F.have_bytes) };
 
     fn width() -> Option<usize> {
         pair_width::<(A, B, C, D, E), (U, V, W, X, Y), F, Z>()

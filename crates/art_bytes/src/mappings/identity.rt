@@ -7,7 +7,7 @@ use crate::mapping::{BytesMapping, NoPrefixesMapping, OrderedMapping};
 use std::alloc::{AllocError, Global};
 
 /// A key is kept as it is.
-#[derive(Clone, Copy, Debug)]
+#[derive(Clone, Copy)]
 pub struct Identity;
 
 impl<D: AsBytes + Drop> BytesMapping<D> for Identity {

@@ -29,7 +29,9 @@ pub(super) fn write_list<E: FixedBytes>(
 
 // The values whose bytes these are, or None where they are not those of a list.
 fn read_list<E: FixedBytes>(alloc: Global, bytes: &[u8]) -> Result<Option<Vec<E>>, AllocError>
-    ensures { IfOk result (λ found. MatchOption found (¬ ((xs : List E) × HaveListBytes E.is_value E.fixed_bytes xs bytes.now)) (λ v. HaveListBytes E.is_value E.fixed_bytes v.items bytes.now)) }
+    ensures { IfOk result (λ found. MatchOption found
+        (¬ ((xs : List E) × HaveListBytes E.is_value E.fixed_bytes xs bytes.now))
+        (λ v. HaveListBytes E.is_value E.fixed_bytes v.items bytes.now)) }
 {
     let mut values = Vec::new(alloc);
     let mut rest = bytes;
@@ -62,11 +64,15 @@ impl<E: Unsigned> BytesMapping<Vec<E>> for ToUBE {
 
     ghost value_is_free = { ⊥ };
 
-    ghost are_bytes = { λ v b h. (subst AreBytes (sym h.1) (AreBytes-list E.WIDTH E.is_value E.fixed_bytes E.cmp E.have_bytes v.items h.0), h.1) };
+    ghost are_bytes = { λ v b h. (
+      subst AreBytes (sym h.1) (AreBytes-list E.WIDTH E.is_value E.fixed_bytes E.cmp E.have_bytes v.items h.0),
+      h.1,
+    ) };
 
     ghost by_bytes = { λ v b c h k e. (v, (h.0, e ∙ h.1)) };
 
-    ghost one_value = { λ v w b c h k e. one_list E.WIDTH E.is_value E.fixed_bytes E.cmp E.have_bytes v.items w.items h.0 k.0 e };
+    ghost one_value = { λ v w b c h k e.
+        one_list E.WIDTH E.is_value E.fixed_bytes E.cmp E.have_bytes v.items w.items h.0 k.0 e };
 
     fn to_bytes(alloc: Global, value: Vec<E>) -> Result<Vec<u8>, AllocError> {
         write_list(alloc, value)
@@ -85,7 +91,8 @@ impl<E: Unsigned> BytesMapping<Vec<E>> for ToUBE {
 }
 
 impl<E: Unsigned> OrderedMapping<Vec<E>> for ToUBE {
-    ghost ordered = { λ v w b c h k. bytes_cmp-list E.WIDTH E.is_value E.fixed_bytes E.cmp E.have_bytes v.items w.items h.0 k.0 };
+    ghost ordered = { λ v w b c h k.
+        bytes_cmp-list E.WIDTH E.is_value E.fixed_bytes E.cmp E.have_bytes v.items w.items h.0 k.0 };
 }
 
 impl<E: Signed> BytesMapping<Vec<E>> for ToIBE {
@@ -101,11 +108,15 @@ impl<E: Signed> BytesMapping<Vec<E>> for ToIBE {
 
     ghost value_is_free = { ⊥ };
 
-    ghost are_bytes = { λ v b h. (subst AreBytes (sym h.1) (AreBytes-list E.WIDTH E.is_value E.fixed_bytes E.cmp E.have_bytes v.items h.0), h.1) };
+    ghost are_bytes = { λ v b h. (
+      subst AreBytes (sym h.1) (AreBytes-list E.WIDTH E.is_value E.fixed_bytes E.cmp E.have_bytes v.items h.0),
+      h.1,
+    ) };
 
     ghost by_bytes = { λ v b c h k e. (v, (h.0, e ∙ h.1)) };
 
-    ghost one_value = { λ v w b c h k e. one_list E.WIDTH E.is_value E.fixed_bytes E.cmp E.have_bytes v.items w.items h.0 k.0 e };
+    ghost one_value = { λ v w b c h k e.
+        one_list E.WIDTH E.is_value E.fixed_bytes E.cmp E.have_bytes v.items w.items h.0 k.0 e };
 
     fn to_bytes(alloc: Global, numbers: Vec<E>) -> Result<Vec<u8>, AllocError> {
         write_list(alloc, numbers)
@@ -124,5 +135,6 @@ impl<E: Signed> BytesMapping<Vec<E>> for ToIBE {
 }
 
 impl<E: Signed> OrderedMapping<Vec<E>> for ToIBE {
-    ghost ordered = { λ v w b c h k. bytes_cmp-list E.WIDTH E.is_value E.fixed_bytes E.cmp E.have_bytes v.items w.items h.0 k.0 };
+    ghost ordered = { λ v w b c h k.
+        bytes_cmp-list E.WIDTH E.is_value E.fixed_bytes E.cmp E.have_bytes v.items w.items h.0 k.0 };
 }

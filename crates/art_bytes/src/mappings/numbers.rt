@@ -9,15 +9,15 @@ use crate::mapping::{BytesMapping, FixedBytesMapping, NoPrefixesMapping, Ordered
 use std::alloc::{AllocError, Global};
 
 /// Unsigned numbers as big-endian bytes.
-#[derive(Clone, Copy, Debug)]
+#[derive(Clone, Copy)]
 pub struct ToUBE;
 
 /// Signed numbers as big-endian bytes with the top bit flipped, so that the negative ones come first.
-#[derive(Clone, Copy, Debug)]
+#[derive(Clone, Copy)]
 pub struct ToIBE;
 
 /// Addresses as their octets.
-#[derive(Clone, Copy, Debug)]
+#[derive(Clone, Copy)]
 pub struct ToOctets;
 
 // The value that has these bytes.
@@ -35,7 +35,8 @@ fn read<E: FixedBytes>(bytes: E::Array) -> E
 
 // The value that has these bytes, or None where there is none.
 fn checked_read<E: FixedBytes>(bytes: E::Array) -> Option<E>
-    ensures value { MatchOption result (¬ ((v : E) × E.is_value v × (E.Array.bytes bytes ≡ E.fixed_bytes v))) (λ v. E.is_value v × (E.Array.bytes bytes ≡ E.fixed_bytes v)) }
+    ensures value { MatchOption result (¬ ((v : E) × E.is_value v × (E.Array.bytes bytes ≡ E.fixed_bytes v)))
+        (λ v. E.is_value v × (E.Array.bytes bytes ≡ E.fixed_bytes v)) }
     ensures key { E.Array.is_key bytes }
 {
     let bytes = bytes.as_bytes();
@@ -96,7 +97,8 @@ impl<E: Unsigned> FixedBytesMapping<E> for ToUBE {
 }
 
 impl<E: Unsigned> NoPrefixesMapping<E> for ToUBE {
-    ghost no_prefixes = { λ v w b c h k. BeginsWith-same_length _ _ E.WIDTH (E.have_bytes.long v h.0) (E.have_bytes.long w k.0) };
+    ghost no_prefixes = { λ v w b c h k. BeginsWith-same_length _ _ E.WIDTH (E.have_bytes.long v h.0)
+        (E.have_bytes.long w k.0) };
 }
 
 impl<E: Unsigned> OrderedMapping<E> for ToUBE {
@@ -154,7 +156,8 @@ impl<E: Signed> FixedBytesMapping<E> for ToIBE {
 }
 
 impl<E: Signed> NoPrefixesMapping<E> for ToIBE {
-    ghost no_prefixes = { λ v w b c h k. BeginsWith-same_length _ _ E.WIDTH (E.have_bytes.long v h.0) (E.have_bytes.long w k.0) };
+    ghost no_prefixes = { λ v w b c h k. BeginsWith-same_length _ _ E.WIDTH (E.have_bytes.long v h.0)
+        (E.have_bytes.long w k.0) };
 }
 
 impl<E: Signed> OrderedMapping<E> for ToIBE {
@@ -212,7 +215,8 @@ impl<E: Address> FixedBytesMapping<E> for ToOctets {
 }
 
 impl<E: Address> NoPrefixesMapping<E> for ToOctets {
-    ghost no_prefixes = { λ v w b c h k. BeginsWith-same_length _ _ E.WIDTH (E.have_bytes.long v h.0) (E.have_bytes.long w k.0) };
+    ghost no_prefixes = { λ v w b c h k. BeginsWith-same_length _ _ E.WIDTH (E.have_bytes.long v h.0)
+        (E.have_bytes.long w k.0) };
 }
 
 impl<E: Address> OrderedMapping<E> for ToOctets {
