@@ -22,7 +22,11 @@ pub mod Places
 pub mod Found
 pub mod Turns
 pub mod Arena
+pub mod Fits
+pub mod NodeEdits
+pub mod NodesLends
 pub mod Lends
+pub mod InnerRef
 pub mod Visited
 pub mod WrittenNodes
 pub mod Laws
