@@ -4,8 +4,6 @@ pub mod Trees
 pub mod TreeOf
 pub mod Kinds
 pub mod Paths
-pub mod Replay
-pub mod ReplayedNode
 pub mod Landing
 pub mod Fronts
 pub mod Tenants

@@ -1,5 +1,5 @@
 //! The one door to an inner node: what is read of it, whatever its kind.
-ghost use Rattle.std.specs.Prelude.{◌≡◌, ◌↔◌, ◌≤◌, IsTrue, length};
+ghost use Rattle.std.specs.Prelude.{◌≡◌, ◌↔◌, ◌<◌, ◌≤◌, ◌⊎◌, IsFalse, IsSome, IsTrue, length};
 ghost use Rattle.std.specs.declared.ops.Bound.TheVariants.{Excluded, Unbounded};
 ghost use Rattle.art_nodes.specs.InnerNode as node;
 ghost use Rattle.art_nodes.specs.Kind.{row_of};
@@ -97,6 +97,17 @@ impl<'a, K, V, const PREFIX_LEN: usize> InnerRef<'a, K, V, PREFIX_LEN> {
         on_arm!(self, node => node.lookup_child(byte))
     }
 
+    /// Whether a child may be written under this byte of the node as it stands: it has room, or one stands there. Where not,
+    /// there is a larger kind.
+    pub fn may_write(&self, byte: u8) -> bool
+        ensures yes { IsTrue result → (length self.now.node.children < (row_of self.now.kind).most)
+            ⊎ IsSome (node.child_at self.now.node.children byte) }
+        ensures no { IsFalse result → (length self.now.node.children ≡ (row_of self.now.kind).most)
+            × IsSome (row_of self.now.kind).larger }
+    {
+        on_arm!(self, node => has_room::<_, PREFIX_LEN>(node, byte))
+    }
+
     /// The children, by ascending byte.
     pub fn children(&self) -> ChildIter<'_>
         ensures value { result ≡ self.now.node.children }
@@ -134,4 +145,14 @@ impl<'a, K, V, const PREFIX_LEN: usize> InnerRef<'a, K, V, PREFIX_LEN> {
     {
         self.range(Bound::Excluded(byte), Bound::Unbounded).next()
     }
+}
+
+// Whether a child may be written under this byte of a node as it stands.
+fn has_room<N: InnerNodeCommon<PREFIX_LEN>, const PREFIX_LEN: usize>(inner: &N, byte: u8) -> bool
+    ensures yes { IsTrue result → (length (N.inner inner.now).children < N.room)
+        ⊎ IsSome (node.child_at (N.inner inner.now).children byte) }
+    ensures no { IsFalse result → (length (N.inner inner.now).children ≡ N.room) × (N.room < 256) }
+{
+    let _children = inner.iter();
+    !inner.is_full() || inner.lookup_child(byte).is_some()
 }

@@ -14,7 +14,6 @@ mod nodes;
 mod path;
 mod prefix;
 mod reader;
-pub mod replay;
 mod stored;
 
 pub use arena::{LeafPtr, NodeArena, NodeRefused};
