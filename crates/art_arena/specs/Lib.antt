@@ -18,7 +18,7 @@ pub mod Prefixes
 pub mod Steps
 pub mod Places
 pub mod Found
-pub mod Turns
+pub mod Descents
 pub mod Arena
 pub mod Fits
 pub mod NodeEdits
