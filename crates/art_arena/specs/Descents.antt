@@ -50,7 +50,7 @@ module _ {K V : Type 0} (bytes : K → List ℕ) where
     pub steps : take 2 (steps_to ctx) ≡ last
     pub only : (test : List ℕ → Bool) → TakesFronts key test
         → located_where test (located [] s)
-            ≡ located_where test (record { leaf = record { slot = slot; key = leaf.key; value = leaf.value }; steps = steps_to ctx } ∷ [])
+        ≡ located_where test (record { leaf = record { slot = slot; key = leaf.key; value = leaf.value }; steps = steps_to ctx } ∷ [])
 
   -- no leaf's key is the key or a front of it
   abbrev pub HasNoFront : List ℕ → Shape K V → Type 0

@@ -17,6 +17,7 @@ pub mod Context
 pub mod Prefixes
 pub mod Steps
 pub mod Places
+pub mod EndLeaves
 pub mod Found
 pub mod Descents
 pub mod Arena

@@ -42,15 +42,11 @@ pub fn land<'a, K: AsBytes, V, const PREFIX_LEN: usize>(
     key: &[u8],
 ) -> Option<Landed<'a, K, V>>
     requires { (s : Shape K V) × IsSubtree K.bytes PREFIX_LEN (node_at (arena_of reader.old)) root [] s }
-    ensures lands {
-        (s : Shape K V) → IsSubtree K.bytes PREFIX_LEN (node_at (arena_of reader.old)) root [] s
-        → Lands K.bytes key.now s result
-    }
+    ensures lands { (s : Shape K V) → IsSubtree K.bytes PREFIX_LEN (node_at (arena_of reader.old)) root [] s
+        → Lands K.bytes key.now s result }
     ensures kept { arena_of reader.new ≡ arena_of reader.old }
-    ensures counts {
-        (s : Shape K V) → IsSubtree K.bytes PREFIX_LEN (node_at (arena_of reader.old)) root [] s
-        → count_of reader.new ≡ min (count_of reader.old + length (path_of (erase s) key.now)) (2 ^ 64 - 1)
-    }
+    ensures counts { (s : Shape K V) → IsSubtree K.bytes PREFIX_LEN (node_at (arena_of reader.old)) root [] s
+        → count_of reader.new ≡ min (count_of reader.old + length (path_of (erase s) key.now)) (2 ^ 64 - 1) }
 {
     let mut search = TreePathSearch::default();
     let mut current = root;
@@ -83,10 +79,8 @@ fn next_step<K, V, const PREFIX_LEN: usize>(
     depth: usize,
 ) -> Option<NextStep>
     requires { depth ≤ length key.now }
-    ensures {
-        MatchOption result (Ends key.now depth inner.now.node)
-            (λ step. GoesOn key.now depth inner.now.node step.byte step.child step.depth)
-    }
+    ensures { MatchOption result (Ends key.now depth inner.now.node)
+        (λ step. GoesOn key.now depth inner.now.node step.byte step.child step.depth) }
 {
     let prefix_len = inner.prefix_len();
     if key.len() - depth <= prefix_len {

@@ -34,25 +34,17 @@ pub fn find_leaf<K: AsBytes, V, const PREFIX_LEN: usize>(
     key: &[u8],
 ) -> Option<FoundLeaf>
     requires { (s : Shape K V) × IsSubtree K.bytes PREFIX_LEN (node_at (arena_of reader.old)) root [] s }
-    ensures value {
-        (s : Shape K V) → IsSubtree K.bytes PREFIX_LEN (node_at (arena_of reader.old)) root [] s
-        → found_of result ≡ found_in K.bytes key.now s
-    }
-    ensures place {
-        (s : Shape K V) → IsSubtree K.bytes PREFIX_LEN (node_at (arena_of reader.old)) root [] s
-        → IfSome result (λ found. IsAtKey K.bytes key.now s found.leaf_node_ptr (steps_of found.path))
-    }
-    ensures pairs {
-        (t : Tree (K × V))
+    ensures value { (s : Shape K V) → IsSubtree K.bytes PREFIX_LEN (node_at (arena_of reader.old)) root [] s
+        → found_of result ≡ found_in K.bytes key.now s }
+    ensures place { (s : Shape K V) → IsSubtree K.bytes PREFIX_LEN (node_at (arena_of reader.old)) root [] s
+        → IfSome result (λ found. IsAtKey K.bytes key.now s found.leaf_node_ptr (steps_of found.path)) }
+    ensures pairs { (t : Tree (K × V))
         → Means K.bytes PREFIX_LEN (node_at (arena_of reader.old)) root (links_at (arena_of reader.old)) t
-        → pair_found (node_at (arena_of reader.old)) result ≡ filter (λ p. bytes_eq (K.bytes p.0) key.now) (items t)
-    }
+        → pair_found (node_at (arena_of reader.old)) result ≡ filter (λ p. bytes_eq (K.bytes p.0) key.now) (items t) }
     ensures kept { arena_of reader.new ≡ arena_of reader.old }
-    ensures counts {
-        (t : Tree (K × V))
+    ensures counts { (t : Tree (K × V))
         → Means K.bytes PREFIX_LEN (node_at (arena_of reader.old)) root (links_at (arena_of reader.old)) t
-        → count_of reader.new ≡ min (count_of reader.old + length (path_of t key.now)) (2 ^ 64 - 1)
-    }
+        → count_of reader.new ≡ min (count_of reader.old + length (path_of t key.now)) (2 ^ 64 - 1) }
     ensures few { count_of reader.new ≤ count_of reader.old + (length key.now + 1) }
 {
     match land(reader, root, key) {

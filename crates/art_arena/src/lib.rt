@@ -19,7 +19,7 @@ mod stored;
 
 pub use arena::{LeafPtr, NodeArena, NodeRefused};
 pub use descent::{Landed, land};
-pub use ends::{first_leaf, last_leaf};
+pub use ends::{End, end_leaf, first_leaf, last_leaf};
 pub use find::{FoundLeaf, find_leaf};
 pub use inner_ref::InnerRef;
 pub use node_edits::{NodeEdit, StoredInner};
