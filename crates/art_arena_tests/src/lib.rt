@@ -12,6 +12,4 @@ mod links;
 #[cfg(test)]
 mod memory;
 #[cfg(test)]
-mod replay;
-#[cfg(test)]
 mod two_leaves;

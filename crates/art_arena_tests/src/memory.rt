@@ -1,14 +1,12 @@
 //! Nodes of each kind are stored, and what needs memory can be made again where it was refused.
 
 use crate::calling::store;
-use art_arena::replay::{ChildCommand, replay};
 use art_arena::{LeafPtr, NodeArena, Stored};
 use art_nodes::{
     InnerNode4, InnerNode16, InnerNode48, InnerNode256, InnerNodeCommon, InnerNodeInit, LeafNode,
     NodePtr,
 };
 use std::alloc::AllocError;
-use std::ops::Bound;
 use std::test::Fail;
 
 type Arena = NodeArena<u8, u8, 4>;
@@ -108,22 +106,4 @@ fn what_was_reserved_for_takes_no_memory(rt: HostRuntime) -> Result<(), Fail> {
     let forty_eight = fits::<InnerNode48<u8, u8, 4>>(&mut arena);
     let largest = fits::<InnerNode256<u8, u8, 4>>(&mut arena);
     came(&rt, four && sixteen && forty_eight && largest)
-}
-
-#[test]
-fn replays_commands(rt: HostRuntime) -> Result<(), Fail> {
-    let child: LeafPtr = NodePtr::from_slot(0);
-    let commands = [
-        ChildCommand::Write(3, child.to_opaque()),
-        ChildCommand::Range(Bound::Included(3), Bound::Unbounded),
-    ];
-    eprintln!(rt; "refuse")?;
-    let answer = replay(rt.alloc(), commands.as_slice());
-    came(&rt, answer.is_ok())?;
-    let answers = match answer {
-        Ok(answers) => answers,
-        Err(_) => replay(rt.alloc(), commands.as_slice())?,
-    };
-    assert_eq!(rt; answers.len(), 2);
-    Ok(())
 }

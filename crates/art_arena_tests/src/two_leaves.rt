@@ -7,7 +7,6 @@ ghost use Rattle.art_arena.specs.Shapes.{Shape};
 ghost use Rattle.art_arena.specs.Meaning.{IsSubtree};
 
 use crate::links::lone_leaf;
-use art_arena::inner::{first_child, header, last_child, lookup_child};
 use art_arena::{
     ArenaReader, LeafPtr, NodeArena, find_leaf, first_leaf, last_leaf, match_full_prefix,
     read_full_prefix,
@@ -83,11 +82,12 @@ fn reads_as_stored<K: AsBytes + Drop, V: Drop>(
 {
     let Tree { root, low, high } = two_leaves(arena, prefix, low, high)?;
     let ends = first_leaf(arena, root) == low && last_leaf(arena, root) == high;
-    let first = first_child(arena, root) == Some((b'x', low.to_opaque()));
-    let last = last_child(arena, root) == Some((b'y', high.to_opaque()));
-    let found = lookup_child(arena, root, b'y') == Some(high.to_opaque());
-    let none = lookup_child(arena, root, 0).is_none();
-    let len = header(arena, root).prefix_len() == prefix.len();
+    let inner = arena.inner(root);
+    let first = inner.first_child() == Some((b'x', low.to_opaque()));
+    let last = inner.last_child() == Some((b'y', high.to_opaque()));
+    let found = inner.lookup_child(b'y') == Some(high.to_opaque());
+    let none = inner.lookup_child(0).is_none();
+    let len = inner.prefix_len() == prefix.len();
     let read = read_full_prefix(arena, root, 0);
     let lender = if is_lent { Some(low) } else { None };
     let whole = read.prefix == prefix && read.leaf == lender;
