@@ -1,14 +1,7 @@
-pub mod AddressLaws
-pub mod ConcatLaws
-pub mod FixedLaws
-pub mod FlipLaws
-pub mod KeyLaws
 pub mod Keys
 pub mod Laws
 pub mod Lists
 pub mod Mappings
-pub mod NumberLaws
 pub mod Numbers
-pub mod PairLaws
-pub mod PartLaws
 pub mod ZeroEnded
+pub mod inner

@@ -2,7 +2,7 @@
 use Rattle.std.proofs.Common.{◌≡◌, ℕ, suc, ◌+◌, ◌<◌, ◌≤◌, ◌==◌, ◌≢◌, slice_get, slice_set, slice_index, IsTrue, List, [], ◌∷◌, ◌++◌, length, Some, None, refl, ap, inl, inr, arith}
 use Rattle.std.specs.List.{zip, insert, remove}
 use Rattle.art_nodes.specs.InnerNode.{IsAscendingFrom, child_at, with_child, without_child, last_child}
-use Rattle.art_nodes.specs.Place.{place}
+use Rattle.art_nodes.specs.inner.Place.{place}
 use Rattle.std.proofs.lemmas.Bool.Decides.{eqb_tells, leb_tells, nat_tests}
 
 -- a test that answers whether two numbers are equal

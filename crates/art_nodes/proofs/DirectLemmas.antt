@@ -4,14 +4,14 @@ use Rattle.std.proofs.lemmas.Bool.Decides.{eqb_tells, leb_tells}
 use Rattle.art_nodes.specs.Header.{Header, IsHeader}
 use Rattle.art_nodes.specs.Name.{Name}
 use Rattle.art_nodes.specs.InnerNode.{InnerNode, IsInnerNode, with_children, IsAscendingFrom, child_at, with_child, without_child}
-use Rattle.art_nodes.specs.Table.{children_from, held_at}
+use Rattle.art_nodes.specs.inner.Table.{children_from, entry_at}
 use Rattle.art_nodes.proofs.ChildLemmas.{IsAscendingFrom-lower, child_at-above, without_child-above, length-with_child_new, length-with_child_held, length-without_child, without_child-none}
 
 module _ {N : Type 0} where
-  pub held_at-index : (xs : List (Option N)) (i : ℕ) (d : Option N) → i < length xs → slice_index_or xs i d ≡ held_at xs i
-  held_at-index [] i d h = absurd (omega (arith, h))
-  held_at-index (x ∷ xs) zero d h = refl
-  held_at-index (x ∷ xs) (suc i) d h = held_at-index xs i d (omega (arith, h))
+  pub entry_at-index : (xs : List (Option N)) (i : ℕ) (d : Option N) → i < length xs → slice_index_or xs i d ≡ entry_at xs i
+  entry_at-index [] i d h = absurd (omega (arith, h))
+  entry_at-index (x ∷ xs) zero d h = refl
+  entry_at-index (x ∷ xs) (suc i) d h = entry_at-index xs i d (omega (arith, h))
 
   pub ascending-children_from : (first : ℕ) (xs : List (Option N)) → first + length xs ≤ 256 → IsAscendingFrom first (children_from first xs)
   ascending-children_from first [] h = tt
@@ -19,7 +19,7 @@ module _ {N : Type 0} where
   ascending-children_from first (Some n ∷ xs) h = (omega arith, omega arith, ascending-children_from (first + 1) xs (omega arith))
 
   -- a look-up by place
-  pub child_at-children_from : (first i : ℕ) (xs : List (Option N)) → first + length xs ≤ 256 → child_at (children_from first xs) (first + i) ≡ held_at xs i
+  pub child_at-children_from : (first i : ℕ) (xs : List (Option N)) → first + length xs ≤ 256 → child_at (children_from first xs) (first + i) ≡ entry_at xs i
   child_at-children_from first i [] h = refl
   child_at-children_from first zero (None ∷ xs) h = child_at-above (first + 1) (children_from (first + 1) xs) (first + 0) (omega arith) (ascending-children_from (first + 1) xs (omega arith))
   child_at-children_from first zero (Some n ∷ xs) h = elim (eqb_tells first (first + 0)) [
@@ -76,7 +76,7 @@ module _ {N : Type 0} where
   ]
 
   -- the same for a whole table
-  pub lookup-table : (slots : List (Option N)) (byte : ℕ) → length slots ≡ 256 → child_at (children_from 0 slots) byte ≡ held_at slots byte
+  pub lookup-table : (slots : List (Option N)) (byte : ℕ) → length slots ≡ 256 → child_at (children_from 0 slots) byte ≡ entry_at slots byte
   lookup-table slots byte whole = let e : 0 + byte ≡ byte = omega arith in rw e at (child_at-children_from 0 byte slots (omega arith))
 
   pub write-table : (slots : List (Option N)) (byte : ℕ) (name : N) → length slots ≡ 256 → byte < 256 → children_from 0 (slice_set slots byte (Some name)) ≡ with_child (children_from 0 slots) byte name
@@ -89,16 +89,16 @@ module _ {N : Type 0} where
   ascending-table slots whole = ascending-children_from 0 slots (omega arith)
 
   -- how many children a table has after an edit
-  pub counts-new : (slots : List (Option N)) (byte : ℕ) (name : N) → length slots ≡ 256 → byte < 256 → held_at slots byte ≡ None → length (children_from 0 (slice_set slots byte (Some name))) ≡ length (children_from 0 slots) + 1
+  pub counts-new : (slots : List (Option N)) (byte : ℕ) (name : N) → length slots ≡ 256 → byte < 256 → entry_at slots byte ≡ None → length (children_from 0 (slice_set slots byte (Some name))) ≡ length (children_from 0 slots) + 1
   counts-new slots byte name whole fits none = rw (write-table slots byte name whole fits) (length-with_child_new (children_from 0 slots) byte name (lookup-table slots byte whole ∙ none))
 
-  pub counts-held : (slots : List (Option N)) (byte : ℕ) (name old : N) → length slots ≡ 256 → byte < 256 → held_at slots byte ≡ Some old → length (children_from 0 (slice_set slots byte (Some name))) ≡ length (children_from 0 slots)
+  pub counts-held : (slots : List (Option N)) (byte : ℕ) (name old : N) → length slots ≡ 256 → byte < 256 → entry_at slots byte ≡ Some old → length (children_from 0 (slice_set slots byte (Some name))) ≡ length (children_from 0 slots)
   counts-held slots byte name old whole fits some = rw (write-table slots byte name whole fits) (length-with_child_held 0 (children_from 0 slots) byte name old (ascending-table slots whole) (lookup-table slots byte whole ∙ some))
 
-  pub counts-removed : (slots : List (Option N)) (byte : ℕ) (old : N) → length slots ≡ 256 → byte < 256 → held_at slots byte ≡ Some old → length (children_from 0 (slice_set slots byte None)) + 1 ≡ length (children_from 0 slots)
+  pub counts-removed : (slots : List (Option N)) (byte : ℕ) (old : N) → length slots ≡ 256 → byte < 256 → entry_at slots byte ≡ Some old → length (children_from 0 (slice_set slots byte None)) + 1 ≡ length (children_from 0 slots)
   counts-removed slots byte old whole fits some = rw (remove-table slots byte whole fits) (length-without_child (children_from 0 slots) byte old (lookup-table slots byte whole ∙ some))
 
-  pub unchanged-table : (slots : List (Option N)) (byte : ℕ) → length slots ≡ 256 → held_at slots byte ≡ None → without_child (children_from 0 slots) byte ≡ children_from 0 slots
+  pub unchanged-table : (slots : List (Option N)) (byte : ℕ) → length slots ≡ 256 → entry_at slots byte ≡ None → without_child (children_from 0 slots) byte ≡ children_from 0 slots
   unchanged-table slots byte whole none = without_child-none (children_from 0 slots) byte (lookup-table slots byte whole ∙ none)
 
 abbrev pub table_node : Header → List (Option Name) → InnerNode
@@ -112,4 +112,4 @@ IsInnerNode-table prefix_room room header slots whole is_header counts fits = re
 pub edited : (old : Header) (count : ℕ) (slots edit : List (Option Name)) (children : List (ℕ × Name)) → children_from 0 edit ≡ children → count ≡ length (children_from 0 edit) → table_node (record old { num_children = count }) edit ≡ with_children (table_node old slots) children
 edited old count slots edit children same counts = rw (counts, same) refl
 
-pub ruleset holds = (held_at-index)
+pub ruleset holds = (entry_at-index)

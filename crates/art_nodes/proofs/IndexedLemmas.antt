@@ -8,11 +8,11 @@ use Rattle.std.proofs.lemmas.Option.{slice_get_past, slice_get_cases}
 use Rattle.art_nodes.specs.Header.{Header}
 use Rattle.art_nodes.specs.Name.{Name}
 use Rattle.art_nodes.specs.InnerNode.{InnerNode, with_children, child_at, with_child, without_child}
-use Rattle.art_nodes.specs.Table.{children_from, names_at, held_at}
-use Rattle.art_nodes.specs.Indirect.{place_at, shifted_place, shifted, IsIndexed}
+use Rattle.art_nodes.specs.inner.Table.{children_from, names_at, entry_at}
+use Rattle.art_nodes.specs.inner.Indirect.{place_at, shifted_place, shifted, IsIndexed}
 use Rattle.art_nodes.proofs.TableLemmas.{length-names_at}
 use Rattle.art_nodes.proofs.DirectLemmas.{lookup-table, write-table, remove-table, counts-new, counts-held, counts-removed, unchanged-table, table_node, edited}
-use Rattle.art_nodes.proofs.IndirectLemmas.{held_at-names_at, names_at-edit, slice_get-push_last, slice_get-push_before, slice_get-set_here, slice_get-set_other, slice_get-remove_before, slice_get-remove_after, place_at-shifted, length-shifted, shifted-nowhere, moved}
+use Rattle.art_nodes.proofs.IndirectLemmas.{entry_at-names_at, names_at-edit, slice_get-push_last, slice_get-push_before, slice_get-set_here, slice_get-set_other, slice_get-remove_before, slice_get-remove_after, place_at-shifted, length-shifted, shifted-nowhere, moved}
 
 abbrev pub indexed_node : Header → List ℕ → List Name → InnerNode
 indexed_node header index names = table_node header (names_at names index)
@@ -54,8 +54,8 @@ module _ (room : ℕ) (header : Header) (index : List ℕ) (names : List Name) (
   whole : length (names_at names index) ≡ 256
   whole = length-names_at names index ∙ ix.whole
 
-  at_byte : held_at (names_at names index) byte ≡ slice_get names (place_at index byte)
-  at_byte = held_at-names_at names index byte (omega (arith, ix.whole))
+  at_byte : entry_at (names_at names index) byte ≡ slice_get names (place_at index byte)
+  at_byte = entry_at-names_at names index byte (omega (arith, ix.whole))
 
   -- a look-up
   pub found-indexed : slice_get names (place_at index byte) ≡ child_at (children_from 0 (names_at names index)) byte
@@ -69,7 +69,7 @@ module _ (room : ℕ) (header : Header) (index : List ℕ) (names : List Name) (
       let none = at_byte ∙ slice_get_past names (place_at index byte) past in
       edited header header.num_children (names_at names index) (names_at names index) _ (sym (unchanged-table (names_at names index) byte whole none)) ix.children
 
-  old_there : place_at index byte < length names → (old : Name) × (held_at (names_at names index) byte ≡ Some old)
+  old_there : place_at index byte < length names → (old : Name) × (entry_at (names_at names index) byte ≡ Some old)
   old_there known = elim ((slice_get_cases names (place_at index byte)).1) [
     | inl there ↦ (there.0, at_byte ∙ there.2)
     | inr past ↦ absurd (omega (arith, past.0, known))

@@ -2,15 +2,15 @@
 use Rattle.std.proofs.Common.{◌≡◌, ℕ, zero, suc, ◌-◌, ◌<◌, ◌≤◌, ◌≢◌, ◌⊎◌, List, [], ◌∷◌, ◌++◌, length, Option, Some, slice_get, slice_set, slice_index, take, drop, refl, ap, inl, inr, arith}
 use Rattle.std.specs.List.{remove}
 use Rattle.std.proofs.lemmas.Bool.Decides.{eqb_tells, leb_tells}
-use Rattle.art_nodes.specs.Table.{names_at, held_at}
-use Rattle.art_nodes.specs.Indirect.{place_at, shifted_place, shifted}
+use Rattle.art_nodes.specs.inner.Table.{names_at, entry_at}
+use Rattle.art_nodes.specs.inner.Indirect.{place_at, shifted_place, shifted}
 
 module _ {N : Type 0} where
   -- the table at a byte is the name at its place
-  pub held_at-names_at : (names : List N) (index : List ℕ) (byte : ℕ) → byte < length index → held_at (names_at names index) byte ≡ slice_get names (place_at index byte)
-  held_at-names_at names [] byte h = absurd (omega (arith, h))
-  held_at-names_at names (p ∷ index) zero h = refl
-  held_at-names_at names (p ∷ index) (suc byte) h = held_at-names_at names index byte (omega (arith, h))
+  pub entry_at-names_at : (names : List N) (index : List ℕ) (byte : ℕ) → byte < length index → entry_at (names_at names index) byte ≡ slice_get names (place_at index byte)
+  entry_at-names_at names [] byte h = absurd (omega (arith, h))
+  entry_at-names_at names (p ∷ index) zero h = refl
+  entry_at-names_at names (p ∷ index) (suc byte) h = entry_at-names_at names index byte (omega (arith, h))
 
   -- a table that agrees with another is that table
   names_at-same : (old new : List N) (index edited : List ℕ) → length edited ≡ length index → ((other : ℕ) → other < length index → slice_get new (place_at edited other) ≡ slice_get old (place_at index other)) → names_at new edited ≡ names_at old index

@@ -9,8 +9,8 @@ use Rattle.std.proofs.lemmas.Option.{slice_get_cases}
 use Rattle.art_nodes.specs.Header.{Header}
 use Rattle.art_nodes.specs.Name.{Name}
 use Rattle.art_nodes.specs.InnerNode.{names_of}
-use Rattle.art_nodes.specs.Table.{children_from, names_at}
-use Rattle.art_nodes.specs.Indirect.{IsIndexed}
+use Rattle.art_nodes.specs.inner.Table.{children_from, names_at}
+use Rattle.art_nodes.specs.inner.Indirect.{IsIndexed}
 use Rattle.art_nodes.proofs.IndirectLemmas.{slice_get-remove_before, slice_get-remove_after}
 
 -- none of these places is this one

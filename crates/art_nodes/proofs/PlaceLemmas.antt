@@ -6,8 +6,8 @@ use Rattle.std.specs.declared.ops.Bound.{Bound}
 use Rattle.std.specs.declared.ops.Bound.TheVariants.{Included, Excluded, Unbounded}
 use Rattle.std.proofs.lemmas.Bool.Decides.{leb_tells, nat_tests}
 use Rattle.art_nodes.specs.InnerNode.{IsAscendingFrom, is_from, is_to, children_between, AreValidBounds}
-use Rattle.art_nodes.specs.Place.{place, children_within}
-use Rattle.art_nodes.specs.Table.{children_from}
+use Rattle.art_nodes.specs.inner.Place.{place, children_within}
+use Rattle.art_nodes.specs.inner.Table.{children_from}
 
 place-drop : (ks : List ℕ) (from to : ℕ) → from ≤ to → place (drop (place ks from) ks) to ≡ place ks to - place ks from
 place-drop [] from to h = refl

@@ -8,8 +8,8 @@ use Rattle.std.proofs.lemmas.Option.{slice_get_past}
 use Rattle.art_nodes.specs.Header.{Header, IsHeader}
 use Rattle.art_nodes.specs.InnerNode.{InnerNode, IsInnerNode, IsAscendingFrom, child_at, with_child, without_child, with_children}
 use Rattle.art_nodes.specs.Name.{Name}
-use Rattle.art_nodes.specs.Place.{StandsAt, BelongsAt}
-use Rattle.art_nodes.specs.Sorted.{IsSideBySide}
+use Rattle.art_nodes.specs.inner.Place.{StandsAt, BelongsAt}
+use Rattle.art_nodes.specs.inner.Sorted.{IsSideBySide}
 use Rattle.art_nodes.proofs.PlaceLemmas.{place-within}
 use Rattle.art_nodes.proofs.ChildLemmas.{Held, held, Absent, absent, length-zip_same, length-ascending, IsAscendingFrom-with_child, IsAscendingFrom-without_child}
 

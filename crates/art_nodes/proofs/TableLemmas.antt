@@ -2,7 +2,7 @@
 use Rattle.std.proofs.Common.{◌≡◌, ℕ, zero, suc, ◌+◌, ◌≤◌, List, [], ◌∷◌, ◌++◌, length, take, drop, Option, Some, None, slice_get, count_by, is_some, nat_lt, cond, refl, ap, ◌∙◌, arith}
 use Rattle.std.proofs.lemmas.List.Recursion.{is_count_by}
 use Rattle.std.proofs.lemmas.Bool.Decides.{nat_tests}
-use Rattle.art_nodes.specs.Table.{children_from, names_at}
+use Rattle.art_nodes.specs.inner.Table.{children_from, names_at}
 
 module _ {N : Type 0} where
   -- the child at the last place of a table, if it holds one

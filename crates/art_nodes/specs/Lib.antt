@@ -1,15 +1,9 @@
-pub mod ChildIter
 pub mod Concrete
 pub mod Header
-pub mod Indirect
 pub mod InnerNode
 pub mod Kind
-pub mod KindLaws
 pub mod Leaf
 pub mod Name
-pub mod Place
 pub mod PrefixMatch
 pub mod Replay
-pub mod Sorted
-pub mod Table
 pub mod inner

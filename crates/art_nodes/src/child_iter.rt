@@ -5,8 +5,8 @@ ghost use Rattle.std.specs.Iterator.{YieldsFirst, YieldsLast, item_count, UpTo};
 ghost use Rattle.std.specs.Iterator.SizeHint.{IsWithinCount};
 ghost use Rattle.art_nodes.specs.InnerNode.{children_between, AreValidBounds, IsAscending};
 ghost use Rattle.std.specs.Range.Bound.{start_index, end_index};
-ghost use Rattle.art_nodes.specs.Place.{place, children_within};
-ghost use Rattle.art_nodes.specs.Table.{children_from, names_at};
+ghost use Rattle.art_nodes.specs.inner.Place.{place, children_within};
+ghost use Rattle.art_nodes.specs.inner.Table.{children_from, names_at};
 
 use crate::names::OpaqueNodePtr;
 use std::marker::Model;
@@ -25,7 +25,7 @@ impl<'a> Model for ChildIter<'a> {
 
     ghost Value = { List (ℕ × Name) };
 
-    ghost use Rattle.art_nodes.specs.ChildIter.{left_in};
+    ghost use Rattle.art_nodes.specs.inner.ChildIter.{left_in};
 
     ghost view = { λ it. left_in it.arm };
 }
@@ -67,7 +67,7 @@ struct DirectChildren<'a> {
 impl<'a> Model for DirectChildren<'a> {
     ghost use Rattle.std.specs.Prelude.{ℕ, List, ◌+◌, ◌≤◌, length};
     ghost use Rattle.art_nodes.specs.Name.{Name};
-    ghost use Rattle.art_nodes.specs.Table.{children_from};
+    ghost use Rattle.art_nodes.specs.inner.Table.{children_from};
 
     ghost Value = { List (ℕ × Name) };
 
@@ -87,7 +87,7 @@ struct IndirectChildren<'a> {
 impl<'a> Model for IndirectChildren<'a> {
     ghost use Rattle.std.specs.Prelude.{ℕ, List, ◌+◌, ◌≤◌, length};
     ghost use Rattle.art_nodes.specs.Name.{Name};
-    ghost use Rattle.art_nodes.specs.Table.{children_from, names_at};
+    ghost use Rattle.art_nodes.specs.inner.Table.{children_from, names_at};
 
     ghost Value = { List (ℕ × Name) };
 
@@ -308,7 +308,7 @@ impl<'a> IndirectChildren<'a> {
 }
 
 impl<'a> Arm<'a> {
-    ghost use Rattle.art_nodes.specs.ChildIter.{left_in};
+    ghost use Rattle.art_nodes.specs.inner.ChildIter.{left_in};
 
     fn between(self, from: usize, to: usize) -> Self
         requires ascending { IsAscending (left_in self) }

@@ -1,6 +1,6 @@
 //! The inner node with room for every byte: a place for each.
 ghost use Rattle.std.specs.Prelude.{◌≡◌};
-ghost use Rattle.art_nodes.specs.Table.{held_at};
+ghost use Rattle.art_nodes.specs.inner.Table.{entry_at};
 
 use crate::child_iter::ChildIter;
 use crate::header::Header;
@@ -19,7 +19,7 @@ pub struct InnerNodeDirect<K, V, const PREFIX_LEN: usize> {
 
 impl<K, V, const PREFIX_LEN: usize> Model for InnerNodeDirect<K, V, PREFIX_LEN> {
     ghost use Rattle.art_nodes.specs.InnerNode.{InnerNode};
-    ghost use Rattle.art_nodes.specs.Table.{children_from, IsCountedTable};
+    ghost use Rattle.art_nodes.specs.inner.Table.{children_from, IsCountedTable};
 
     ghost Value = { InnerNode };
 
@@ -31,7 +31,7 @@ impl<K, V, const PREFIX_LEN: usize> Model for InnerNodeDirect<K, V, PREFIX_LEN> 
 // The child in the place of this byte.
 #[tactic(auto, using(crate::proofs::DirectLemmas::holds))]
 fn held(slots: &[Option<OpaqueNodePtr>; 256], byte: u8) -> Option<OpaqueNodePtr>
-    ensures { result ≡ held_at slots.now byte }
+    ensures { result ≡ entry_at slots.now byte }
 {
     slots[usize::from(byte)]
 }

@@ -1,7 +1,7 @@
 //! Inner nodes whose children stand packed, found through a place for each byte.
 ghost use Rattle.std.specs.Prelude.{◌≡◌, ◌<◌, ℕ, length, min, IsPermutation, slice_get};
 ghost use Rattle.art_nodes.specs.InnerNode.{child_at, names_of};
-ghost use Rattle.art_nodes.specs.Indirect.{place_at, shifted, shifted_place};
+ghost use Rattle.art_nodes.specs.inner.Indirect.{place_at, shifted, shifted_place};
 
 use crate::child_iter::{ChildIter, name_in};
 use crate::header::Header;
@@ -27,8 +27,8 @@ pub struct InnerNodeIndirect<K, V, const PREFIX_LEN: usize, const SIZE: usize> {
 impl<K, V, const PREFIX_LEN: usize, const SIZE: usize> Model
     for InnerNodeIndirect<K, V, PREFIX_LEN, SIZE> {
     ghost use Rattle.art_nodes.specs.InnerNode.{InnerNode};
-    ghost use Rattle.art_nodes.specs.Table.{children_from, names_at};
-    ghost use Rattle.art_nodes.specs.Indirect.{IsIndexed};
+    ghost use Rattle.art_nodes.specs.inner.Table.{children_from, names_at};
+    ghost use Rattle.art_nodes.specs.inner.Indirect.{IsIndexed};
 
     ghost Value = { InnerNode };
 

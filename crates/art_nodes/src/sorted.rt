@@ -3,7 +3,7 @@ ghost use Rattle.std.specs.Prelude.{◌≡◌, ◌↔◌, ◌<◌, ◌≤◌, �
 ghost use Rattle.std.specs.Prelude.{MatchResult};
 ghost use Rattle.art_nodes.specs.Header.{front_of};
 ghost use Rattle.std.specs.List.{zip};
-ghost use Rattle.art_nodes.specs.Place.{StandsAt, BelongsAt};
+ghost use Rattle.art_nodes.specs.inner.Place.{StandsAt, BelongsAt};
 ghost use Rattle.art_nodes.specs.InnerNode.{InnerNode, IsInnerNode, IsAscending, child_at, with_child, without_child};
 ghost use Rattle.art_nodes.specs.InnerNode.{with_children};
 
@@ -28,7 +28,7 @@ impl<K, V, const PREFIX_LEN: usize, const SIZE: usize> Model
     for InnerNodeSorted<K, V, PREFIX_LEN, SIZE> {
     ghost use Rattle.std.specs.List.{zip};
     ghost use Rattle.art_nodes.specs.InnerNode.{InnerNode};
-    ghost use Rattle.art_nodes.specs.Sorted.{IsSideBySide};
+    ghost use Rattle.art_nodes.specs.inner.Sorted.{IsSideBySide};
 
     ghost Value = { InnerNode };
 

@@ -1,7 +1,7 @@
 //! Numbers and addresses as their fixed bytes.
 ghost use Rattle.std.specs.Prelude.{◌≡◌, IfOk, OnErr, MatchOption};
 ghost use Rattle.std.proofs.Common.{◌∙◌};
-ghost use Rattle.art_bytes.specs.KeyLaws.{BeginsWith-same_length};
+ghost use Rattle.art_bytes.specs.inner.KeyLaws.{BeginsWith-same_length};
 
 use crate::as_bytes::AsBytes;
 use crate::fixed::{Address, FixedBytes, Signed, Unsigned};

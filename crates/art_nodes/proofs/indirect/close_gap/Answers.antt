@@ -1,5 +1,5 @@
 use Rattle.std.proofs.Common.{◌≡◌, ◌<◌, ◌++◌, List, ℕ, suc, length, take, drop, slice_index, slice_set, subst, sym, add-one, arith}
-use Rattle.art_nodes.specs.Indirect.{shifted, shifted_place}
+use Rattle.art_nodes.specs.inner.Indirect.{shifted, shifted_place}
 use Rattle.art_nodes.proofs.IndirectLemmas.{shifted-step}
 use Rattle.art_nodes.proofs.indirect.close_gap.Goals as goal
 

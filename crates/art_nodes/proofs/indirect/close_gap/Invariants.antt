@@ -1,5 +1,5 @@
 use Rattle.std.proofs.Common.{◌≡◌, ◌++◌, take, drop}
-use Rattle.art_nodes.specs.Indirect.{shifted}
+use Rattle.art_nodes.specs.inner.Indirect.{shifted}
 use Rattle.art_nodes.proofs.indirect.close_gap.Given as goal
 
 abbrev pub invariant-loop-place : goal.invariant-loop-place

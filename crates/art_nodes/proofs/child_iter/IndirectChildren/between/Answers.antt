@@ -1,5 +1,5 @@
 use Rattle.std.proofs.Common.{◌≡◌, ◌-◌, length, min, refl}
-use Rattle.art_nodes.specs.Table.{names_at}
+use Rattle.art_nodes.specs.inner.Table.{names_at}
 use Rattle.art_nodes.proofs.PlaceLemmas.{within-children_from}
 use Rattle.art_nodes.proofs.TableLemmas.{length-names_at, names_at-part}
 use Rattle.art_nodes.proofs.child_iter.IndirectChildren.between.Goals as goal

@@ -1,5 +1,5 @@
 use Rattle.std.proofs.Common.{◌≡◌, ◌+◌, ◌≤◌, length}
-use Rattle.art_nodes.specs.Table.{children_from, names_at}
+use Rattle.art_nodes.specs.inner.Table.{children_from, names_at}
 use Rattle.art_nodes.proofs.child_iter.IndirectChildren.next_back.Given as goal
 
 abbrev pub invariant-loop-place : goal.invariant-loop-place

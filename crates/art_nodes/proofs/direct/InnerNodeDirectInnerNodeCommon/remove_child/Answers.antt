@@ -1,6 +1,6 @@
 use Rattle.std.proofs.Common.{◌≡◌, ◌-◌, slice_set, None, length, sym, ◌∙◌, arith}
 use Rattle.std.proofs.lemmas.List.{length-set}
-use Rattle.art_nodes.specs.Table.{children_from}
+use Rattle.art_nodes.specs.inner.Table.{children_from}
 use Rattle.art_nodes.proofs.DirectLemmas.{lookup-table, remove-table, counts-removed, unchanged-table, edited}
 use Rattle.art_nodes.proofs.direct.InnerNodeDirectInnerNodeCommon.remove_child.Goals as goal
 

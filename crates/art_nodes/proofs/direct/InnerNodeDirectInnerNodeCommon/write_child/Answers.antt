@@ -1,6 +1,6 @@
 use Rattle.std.proofs.Common.{◌+◌, slice_set, Some, ap, sym, ◌∙◌, arith}
 use Rattle.std.proofs.lemmas.List.{length-set}
-use Rattle.art_nodes.specs.Table.{children_from}
+use Rattle.art_nodes.specs.inner.Table.{children_from}
 use Rattle.art_nodes.proofs.ChildLemmas.{length-ascending}
 use Rattle.art_nodes.proofs.DirectLemmas.{write-table, counts-new, counts-held, ascending-table, edited}
 use Rattle.art_nodes.proofs.direct.InnerNodeDirectInnerNodeCommon.write_child.Goals as goal

@@ -1,5 +1,5 @@
 use Rattle.std.proofs.Common.{◌∙◌, ◌≤◌, min, arith}
-use Rattle.art_nodes.specs.Table.{names_at}
+use Rattle.art_nodes.specs.inner.Table.{names_at}
 use Rattle.art_nodes.proofs.TableLemmas.{length-names_at}
 use Rattle.art_nodes.proofs.DirectLemmas.{IsInnerNode-table}
 use Rattle.art_nodes.proofs.indirect.InnerNodeIndirectInnerNodeCommon.header.Goals as goal

@@ -1,7 +1,7 @@
 use Rattle.std.proofs.Common.{◌∙◌}
 use Rattle.art_nodes.proofs.TableLemmas.{length-names_at}
 use Rattle.art_nodes.proofs.DirectLemmas.{ascending-table}
-use Rattle.art_nodes.specs.Table.{names_at}
+use Rattle.art_nodes.specs.inner.Table.{names_at}
 use Rattle.art_nodes.proofs.indirect.InnerNodeIndirectInnerNodeCommon.iter.Goals as goal
 
 pub returns-clause-ascending : goal.returns-clause-ascending

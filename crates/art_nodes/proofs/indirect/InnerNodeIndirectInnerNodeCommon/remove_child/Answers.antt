@@ -1,6 +1,6 @@
 use Rattle.std.proofs.Common.{◌≡◌, sym, ◌∙◌}
 use Rattle.std.proofs.lemmas.Option.{slice_get_within}
-use Rattle.art_nodes.specs.Indirect.{place_at}
+use Rattle.art_nodes.specs.inner.Indirect.{place_at}
 use Rattle.art_nodes.proofs.IndexedLemmas.{found-indexed, unchanged-indexed, removed-indexed, past_names}
 use Rattle.art_nodes.proofs.indirect.InnerNodeIndirectInnerNodeCommon.remove_child.Goals as goal
 

@@ -1,6 +1,6 @@
 use Rattle.std.proofs.Common.{◌≡◌, ◌<◌, ◌≤◌, suc, length, min, refl, ◌∙◌, inl, inr, arith}
 use Rattle.std.proofs.lemmas.Bool.Decides.{leb_tells}
-use Rattle.art_nodes.specs.Indirect.{place_at}
+use Rattle.art_nodes.specs.inner.Indirect.{place_at}
 use Rattle.art_nodes.proofs.IndexedLemmas.{replaced-indexed, added-indexed, room-indexed}
 use Rattle.art_nodes.proofs.indirect.InnerNodeIndirectInnerNodeCommon.write_child.Goals as goal
 

@@ -1,6 +1,6 @@
 use Rattle.std.proofs.Common.{◌<◌, length, refl, arith, sym, ◌∙◌}
 use Rattle.std.proofs.lemmas.Option.{slice_get_read}
-use Rattle.art_nodes.specs.Place.{StandsAt, BelongsAt}
+use Rattle.art_nodes.specs.inner.Place.{StandsAt, BelongsAt}
 use Rattle.art_nodes.proofs.SortedLemmas.{found_here, found_nowhere, unchanged, removed}
 use Rattle.art_nodes.proofs.sorted.InnerNodeSortedInnerNodeCommon.remove_child.Goals as goal
 

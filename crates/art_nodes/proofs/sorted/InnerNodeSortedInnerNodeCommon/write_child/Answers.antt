@@ -1,5 +1,5 @@
 use Rattle.std.proofs.Common.{arith}
-use Rattle.art_nodes.specs.Place.{StandsAt, BelongsAt}
+use Rattle.art_nodes.specs.inner.Place.{StandsAt, BelongsAt}
 use Rattle.art_nodes.proofs.SortedLemmas.{replaced, added, room_there, place_there, counts_up}
 use Rattle.art_nodes.proofs.sorted.InnerNodeSortedInnerNodeCommon.write_child.Goals as goal
 

@@ -3,7 +3,7 @@ use Rattle.std.specs.Prelude.{◌≡◌, ℕ, ◌-◌, ◌<◌, ◌≤◌, ◌�
 use Rattle.std.specs.Prelude.{if◌then◌else◌}
 use Rattle.art_nodes.specs.Header.{Header}
 use Rattle.art_nodes.specs.Name.{Name}
-use Rattle.art_nodes.specs.Table.{children_from, names_at}
+use Rattle.art_nodes.specs.inner.Table.{children_from, names_at}
 
 -- the place of a byte's name
 abbrev pub place_at : List ℕ → ℕ → ℕ

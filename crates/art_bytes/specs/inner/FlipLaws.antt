@@ -8,7 +8,7 @@ use Rattle.std.proofs.lemmas.Nat.{xor_block, xor_lt}
 use Rattle.std.proofs.lemmas.Int.{of_z-to_z}
 use Rattle.std.proofs.lemmas.Map.Lookups.{exact_signed}
 use Rattle.std.specs.Ordering.{nat_cmp, int_cmp}
-use Rattle.art_bytes.specs.NumberLaws.{nat_cmp-same, pow_positive_2}
+use Rattle.art_bytes.specs.inner.NumberLaws.{nat_cmp-same, pow_positive_2}
 use Rattle.std.specs.Int.Bits.{bit_xor, xor_zero_r}
 use Rattle.std.specs.Int.{Width, w8, w16, w32, w64, w128, byte_len, cast_signed}
 use Rattle.std.specs.Int.RustNames.{FitsSigned}

@@ -7,7 +7,7 @@ use Rattle.std.proofs.Math.Seq.{drop-append-add}
 use Rattle.std.proofs.lemmas.Grind.{common_steps}
 use Rattle.std.specs.declared.cmp.Ordering.{Ordering}
 use Rattle.art_bytes.specs.Mappings.{HaveFixedBytes}
-use Rattle.art_bytes.specs.ConcatLaws.{length-list}
+use Rattle.art_bytes.specs.inner.ConcatLaws.{length-list}
 use Rattle.art_bytes.specs.Lists.{HaveListBytes, part_at, HasValue}
 
 part_first : (width : ℕ) (a b : List ℕ) → length a ≡ width → part_at width (a ++ b) 0 ≡ a

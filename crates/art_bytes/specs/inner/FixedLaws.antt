@@ -5,8 +5,8 @@ use Rattle.std.specs.declared.cmp.Ordering.{Ordering}
 use Rattle.std.specs.Ordering.{nat_cmp}
 use Rattle.std.specs.Int.RustNames.{unsigned_abs}
 use Rattle.art_bytes.specs.Numbers.{big_endian}
-use Rattle.art_bytes.specs.NumberLaws.{length-big_endian, AreBytes-big_endian, big_endian-injective}
-use Rattle.art_bytes.specs.NumberLaws.{bytes_cmp-big_endian}
+use Rattle.art_bytes.specs.inner.NumberLaws.{length-big_endian, AreBytes-big_endian, big_endian-injective}
+use Rattle.art_bytes.specs.inner.NumberLaws.{bytes_cmp-big_endian}
 use Rattle.art_bytes.specs.Mappings.{HaveFixedBytes}
 
 pub unsigned_bytes : (width : ℕ) → 0 < width → HaveFixedBytes width (λ n. n < 256 ^ width) (big_endian width) nat_cmp

@@ -6,10 +6,10 @@ use Rattle.std.specs.Int.{w64}
 use Rattle.std.specs.Int.RustNames.{FitsSigned}
 use Rattle.art_bytes.specs.Numbers.{flipped}
 use Rattle.art_bytes.specs.Laws.{pair_key}
-use Rattle.art_bytes.specs.FlipLaws.{flipped-injective, int_cmp-flipped}
+use Rattle.art_bytes.specs.inner.FlipLaws.{flipped-injective, int_cmp-flipped}
 use Rattle.art_bytes.specs.Mappings.{HaveFixedBytes}
-use Rattle.art_bytes.specs.FixedLaws.{unsigned_bytes, stored_bytes}
-use Rattle.art_bytes.specs.ConcatLaws.{pair_bytes}
+use Rattle.art_bytes.specs.inner.FixedLaws.{unsigned_bytes, stored_bytes}
+use Rattle.art_bytes.specs.inner.ConcatLaws.{pair_bytes}
 
 pub pair_keys : HaveFixedBytes {V = ℕ × ℤ} 12
     (λ p. (p.0 < 256 ^ 4) × (FitsSigned w64 p.1 × (flipped w64 p.1 < 256 ^ 8))) pair_key

@@ -8,7 +8,7 @@ use Rattle.std.specs.Ordering.{nat_cmp, ordering_then}
 use Rattle.std.specs.Cmp.Lexicographic.{slice_cmp}
 use Rattle.std.specs.Net.Addr.{ipv4_octets, ipv6_octets, octets_of, segments_of}
 use Rattle.art_bytes.specs.Keys.{AreBytes, bytes_cmp}
-use Rattle.art_bytes.specs.NumberLaws.{digit_first}
+use Rattle.art_bytes.specs.inner.NumberLaws.{digit_first}
 use Rattle.art_bytes.specs.Mappings.{HaveFixedBytes}
 
 pub ipv4_bytes : HaveFixedBytes 4 (λ a. AreBytes (ipv4_octets a) × (length (ipv4_octets a) ≡ 4)) ipv4_octets

@@ -9,7 +9,7 @@ use Rattle.std.proofs.lemmas.List.Elements.{All-nil, All-cons, All-head, All-tai
 use Rattle.std.proofs.lemmas.Map.Lookups.{exact_bytes}
 use Rattle.std.specs.declared.cmp.Ordering.TheVariants.{Equal}
 use Rattle.std.specs.Ordering.{nat_cmp, ordering_then}
-use Rattle.art_bytes.specs.KeyLaws.{AreBytes-by_index}
+use Rattle.art_bytes.specs.inner.KeyLaws.{AreBytes-by_index}
 use Rattle.std.specs.Int.{w128, byte_at, byte_worth, sum_through, from_be_bytes, to_be_bytes}
 use Rattle.std.specs.List.{slice_index}
 use Rattle.art_bytes.specs.Keys.{AreBytes, bytes_cmp}

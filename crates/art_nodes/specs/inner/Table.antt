@@ -14,10 +14,10 @@ abbrev pub names_at : {N : Type 0} → List N → List ℕ → List (Option N)
 names_at names index = map (slice_get names) index
 
 -- what stands at a place of a table: nothing past its end
-abbrev pub held_at : {N : Type 0} → List (Option N) → ℕ → Option N
-held_at [] i = None
-held_at (x ∷ rest) zero = x
-held_at (x ∷ rest) (suc i) = held_at rest i
+abbrev pub entry_at : {N : Type 0} → List (Option N) → ℕ → Option N
+entry_at [] i = None
+entry_at (x ∷ rest) zero = x
+entry_at (x ∷ rest) (suc i) = entry_at rest i
 
 -- a place for each byte, and the header counts those that hold a name
 pub record IsCountedTable (header : Header) (slots : List (Option Name)) : Type 0 where
