@@ -1,4 +1,5 @@
--- The command that a line spells, computed. That it is the one that `Spells` relates to the line stands on `parse_line`.
+-- The command that a line spells, computed. That it is the one that `Spells` relates to the line is a law,
+-- `laws::reading_is_spelling`.
 use Rattle.std.specs.Prelude.{ℕ, ◌^◌, ◌&&◌, nat_lt, nat_le, if◌then◌else◌, List, [], ◌∷◌, length, codes, decimal, Option, Some, None, option_and_then, Result, Ok, Err}
 use Rattle.std.specs.Str.{bytes_eq}
 use Rattle.std.specs.Str.Parse.{digits_value}

@@ -82,7 +82,8 @@ impl<const PREFIX_LEN: usize> Index<PREFIX_LEN> {
         }
     }
 
-    /// A law, which does nothing: what an index holds are records in order, without conflicts, each no longer than a line.
+    /// A law, which does nothing: what an index holds are records in order, without conflicts, each of bytes and no longer
+    /// than a line.
     pub fn holds_records(&self)
         ensures { AreRecords self.now }
     {

@@ -424,6 +424,7 @@ fn handles_a_line(rt: HostRuntime) -> Result<(), Fail> {
     laws::own_reads_back();
     laws::others_are_untouched();
     laws::own_is_in_place();
+    laws::reading_is_spelling();
     laws::spells_one_command();
     laws::full_keys_keep_order();
     laws::full_keys_keep_conflicts();

@@ -13,7 +13,7 @@ returns-then-conflicts_with-clause-placed c =
     conflict_placed c.args.entries.now.items c.args.tenant c.args.key.now c.args.value.now c.in-Err.at gap (sym conflict ∙ c.if-conflicts_with.true)
 
 pub full_key-requires : goal.full_key-requires
-full_key-requires c = key_short c.args.tenant c.args.key.now c.args.value.now c.requires.fits.1
+full_key-requires c = key_short c.args.tenant c.args.key.now c.args.value.now c.requires.fits.line_fits
 
 pub returns-in-Ok-from_slice-clause-ordered : goal.returns-in-Ok-from_slice-clause-ordered
 returns-in-Ok-from_slice-clause-ordered c =
