@@ -1,5 +1,5 @@
 use Rattle.art_index.proofs.DigitPairs.{is_digit}
-use Rattle.art_index.proofs.digits.digit_value.Goals as goal
+use Rattle.art_index.proofs.command.digits.digit_value.Goals as goal
 
 pub returns-clause-value : goal.returns-clause-value
 returns-clause-value c = (is_digit c.args.digit c.from.result c.ranges.digit.fits c.from.ensures).value

@@ -1,7 +1,7 @@
 use Rattle.std.proofs.Common.{◌*◌, arith, refl}
 use Rattle.std.specs.Prelude.{◌+◌, nat_lt, slice_index}
 use Rattle.art_index.proofs.DigitPairs.{IsDigit, decoded_start, decoded_step, decoded_end}
-use Rattle.art_index.proofs.digits.decode_digits.Goals as goal
+use Rattle.art_index.proofs.command.digits.decode_digits.Goals as goal
 
 pub bytes-init : goal.bytes-init
 bytes-init c = decoded_start c.args.digits.now c.args.bytes.now

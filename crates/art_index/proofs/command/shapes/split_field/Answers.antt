@@ -1,7 +1,7 @@
 use Rattle.std.proofs.Common.{arith}
 use Rattle.std.proofs.lemmas.Bool.{eqb-true, eq-eqb}
 use Rattle.art_index.proofs.Parsing.{fields_first, fields_none}
-use Rattle.art_index.proofs.command.split_field.Goals as goal
+use Rattle.art_index.proofs.command.shapes.split_field.Goals as goal
 
 pub returns-in-Some-clause-split : goal.returns-in-Some-clause-split
 returns-in-Some-clause-split c =

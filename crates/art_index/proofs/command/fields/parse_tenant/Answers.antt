@@ -1,8 +1,8 @@
 use Rattle.std.proofs.Common.{◌≡◌, ◌<◌, length, get_or, sym, ◌∙◌, arith}
 use Rattle.std.proofs.lemmas.Bool.{eqb-true, eqb-false, true≢false, and_from, le-leb}
 use Rattle.art_index.proofs.Parsing.{number_empty, number_long, number_padded, number_other, number_end}
-use Rattle.art_index.proofs.command.parse_tenant.Goals as goal
-use Rattle.art_index.proofs.command.parse_tenant.Goals.{else-field-gt1-via-then-field-gt1+else-field-eq48, else-field-gt1-via-else-field-gt1}
+use Rattle.art_index.proofs.command.fields.parse_tenant.Goals as goal
+use Rattle.art_index.proofs.command.fields.parse_tenant.Goals.{else-field-gt1-via-then-field-gt1+else-field-eq48, else-field-gt1-via-else-field-gt1}
 
 pub returns-then-is_empty-clause-tenant : goal.returns-then-is_empty-clause-tenant
 returns-then-is_empty-clause-tenant c = number_empty c.args.field.now (eqb-true _ _ (sym c.if-is_empty.ensures))
