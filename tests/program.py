@@ -65,6 +65,24 @@ def any_bytes_are_answered(program):
     wants(ended([program], input=text), (b"new\nbad\nbad\nput 1 %b -\nend 1\n" % key, b"", 0))
 
 
+def many_values_are_kept(program):
+    """5,000 puts at some 1,000 keys, of values of 0 to 2,044 bytes, longer and shorter ones by turns: none finds no memory."""
+    held, lines, replies = {}, [], []
+    for it in range(5000):
+        size = it * 7919 % 2045
+        at = (it % 5, "-") if size > 2042 else (5 + it % 5, f"{it % 199:04x}")
+        value = f"{it % 256:02x}" * size or "-"
+        replies.append(f"old {held[at]}" if at in held else "new")
+        held[at] = value
+        lines.append(f"put {at[0]} {at[1]} {value}")
+    replies += [f"put {tenant} {key} {value}" for (tenant, key), value in sorted(held.items())]
+    replies.append(f"end {len(held)}")
+    text, wanted = ("".join(f"{it}\n" for it in each).encode() for each in (lines + ["dump"], replies))
+    out, err, status = ended([program], input=text)
+    wants((err, status, len(out)), (b"", 0, len(wanted)))
+    assert out == wanted, f"line {next(n for n, it in enumerate(out.splitlines()) if it != replies[n].encode()) + 1} differs"
+
+
 def an_argument_is_refused(program):
     """It ends while its standard input is open, so it has not waited for it."""
     reads, writes = os.pipe()
@@ -187,6 +205,7 @@ TESTS = [
     first_run_by_the_script,
     nothing_in_nothing_out,
     any_bytes_are_answered,
+    many_values_are_kept,
     an_argument_is_refused,
     a_failed_read_is_told,
     a_failed_write_is_told,

@@ -6,8 +6,10 @@ Under tests/refuse.c, which says what a window is, it runs
 - each #[test] once with nothing refused, and it must pass; then each that opens windows by eprintln!(rt; "refuse") and
   closes each by eprintln!(rt; "ok") or "refused",
 - each scenario of crates/refusals, named by the lines 'scenario NAME' of its file stdout,
-- each line of tests/refusals.lines under art_index: the line stands twice, and is refused the first time. It must
-  answer `memory` then, and all else must be as if it stood once. Only lines that may be refused may ask for memory.
+- art_index over tests/refusals.lines with nothing refused: it must answer tests/refusals.replies, in which no line is
+  refused,
+- each of these lines: the line stands twice, and is refused the first time. It must answer `memory` then, and all else
+  must be as if it stood once. Only lines that may be refused may ask for memory.
 """
 import itertools
 import os
@@ -96,6 +98,12 @@ def one_line(words, lines, at):
         assert out == wanted, f"{label}: it answers {out[-300:]}, and not {wanted[-300:]}"
 
 
+def free_run(words, lines, wanted):
+    """With nothing refused the replies are those that were written down, and so none is `memory`."""
+    out = run(words, "0", given=b"".join(lines))[1]
+    assert out == wanted, f"it answers {out[-300:]}, and not {wanted[-300:]}"
+
+
 def start(words, lines):
     """Refused before it reads its first line, the program counts its arguments as wrong, and has answered nothing."""
     for label, out, err, _ in each_refusal(words, line=0, given=b"".join(lines), status=2):
@@ -136,8 +144,9 @@ def of_scenarios(by):
 
 def of_program(by):
     program = f"crates/{PROGRAM}/out/{PROGRAM}{by}"
-    with open("tests/refusals.lines", "rb") as script:
-        lines = script.readlines()
+    with open("tests/refusals.lines", "rb") as script, open("tests/refusals.replies", "rb") as told:
+        lines, replies = script.readlines(), told.read()
+    count(program, "free run", free_run, [program], lines, replies)
     count(program, "start", start, [program], lines)
     for at, line in enumerate(lines):
         count(program, f"line {at + 1}, {line.decode().strip()[:60]}", one_line, [program], lines, at)

@@ -2,7 +2,7 @@
 use Rattle.std.proofs.Common.{◌≡◌, ℕ, ◌*◌, ◌^◌, ◌<◌, ◌≤◌, List, [], ◌∷◌, ◌++◌, length, refl, ap, sym, ◌∙◌, arith, length-append}
 use Rattle.std.specs.Prelude.{decimal, map}
 use Rattle.std.specs.List.{join_with_byte}
-use Rattle.hex.specs.Hex.{encode_with, encode_lower}
+use Rattle.hex.specs.Hex.{encode_with, encode_lower, IsBytes}
 use Rattle.art_index.specs.Words.{Word, name, natural, signed, bytes, shown, Reads, text_of}
 use Rattle.hex.proofs.HexLemmas.{decode_of-ok}
 use Rattle.std.proofs.lemmas.List.Splits.{join_with_byte-slice_split}
@@ -54,13 +54,19 @@ length-joined (f ∷ g ∷ fs) (w ∷ []) h = absurd h.1
 pub length-spelled : (line : List ℕ) (c : Command) → Spells line c → length (text_of (words_of c)) ≡ length line
 length-spelled line c h = length-joined (fields_of line) (words_of c) h.read ∙ ap length (join_with_byte-slice_split 32 line)
 
+bytes_read : (field bs : List ℕ) → Reads field (bytes bs) → IsBytes bs
+bytes_read field [] h = λ k. omega arith
+bytes_read field (b ∷ bs) h = (decode_of-ok field (b ∷ bs) h).3
+
 -- so a record that a line puts fits
 pub put_fits : (line : List ℕ) (t : ℕ) (k v : List ℕ) → Spells line (of_tenant t (put k v)) → KeyFits (record { tenant = t; key = k; value = v })
 put_fits line t k v h =
-    let same = length-spelled line (of_tenant t (put k v)) h in let short = h.short in
-    (tenant_small (fields_of line) h.read, omega arith)
+    let same = length-spelled line (of_tenant t (put k v)) h in let short = h.short in let parts = read (fields_of line) h.read in
+    record { tenant_fits = parts.0; key_fits = parts.1; value_fits = parts.2; line_fits = omega arith }
   where
-    tenant_small : (fields : List (List ℕ)) → AllRead fields (words_of (of_tenant t (put k v))) → t < 2 ^ 32
-    tenant_small [] r = absurd r
-    tenant_small (f ∷ []) r = absurd r.1
-    tenant_small (f ∷ g ∷ fs) r = r.1.0.1
+    read : (fields : List (List ℕ)) → AllRead fields (words_of (of_tenant t (put k v))) → (t < 2 ^ 32) × IsBytes k × IsBytes v
+    read [] r = absurd r
+    read (f ∷ []) r = absurd r.1
+    read (f ∷ g ∷ []) r = absurd r.1.1
+    read (f ∷ g ∷ i ∷ []) r = absurd r.1.1.1
+    read (f ∷ g ∷ i ∷ j ∷ fs) r = (r.1.0.1, bytes_read i k r.1.1.0, bytes_read j v r.1.1.1.0)

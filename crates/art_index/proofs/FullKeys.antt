@@ -1,11 +1,14 @@
 -- Full keys: their order is that of tenants and then keys, and they conflict where one tenant's keys do.
-use Rattle.std.proofs.Common.{◌≡◌, ℕ, suc, ◌+◌, ◌*◌, ◌/◌, ◌%◌, ◌^◌, ◌<◌, ◌≤◌, List, length, take, refl, ap, sym, ◌∙◌, subst, Bool, true, false, arith, inl, inr}
+use Rattle.std.proofs.Common.{◌≡◌, ℕ, zero, suc, [], ◌∷◌, ◌++◌, drop, get_or, take-append-drop, ◌+◌, ◌*◌, ◌/◌, ◌%◌, ◌^◌, ◌<◌, ◌≤◌, List, length, take, refl, ap, sym, ◌∙◌, subst, Bool, true, false, arith, inl, inr}
 use Rattle.std.specs.Prelude.{◌==◌, ◌||◌, ◌&&◌, nat_lt, nat_eq}
 use Rattle.std.specs.declared.cmp.Ordering.{Ordering}
 use Rattle.std.specs.declared.cmp.Ordering.TheVariants.{Less, Equal, Greater}
 use Rattle.std.specs.Ordering.{nat_cmp, is_lt, ordering_then}
 use Rattle.std.specs.Cmp.Lexicographic.{slice_cmp, pointwise}
 use Rattle.std.proofs.lemmas.Bool.{eq-eqb, ne_eqb, eqb-true, lt-ltb, le-ltb, cases_lt, true≢false}
+use Rattle.std.specs.Int.{from_be_bytes, w32}
+use Rattle.std.proofs.lemmas.List.{length-take-le}
+use Rattle.std.proofs.lemmas.Nat.{be_bytes_4}
 use Rattle.art_index.specs.Keys.{is_proper_front, full_key}
 use Rattle.art_index.specs.Laws.{FullKeysKeepOrder, FullKeysKeepConflicts}
 
@@ -123,3 +126,16 @@ full_keys_keep_conflicts t u k j ht hu =
     go false false e f = refl
     go true false e f = let same = eqb-true t u e in absurd (true≢false (sym (eq-eqb u t (sym same)) ∙ f))
     go false true e f = let same = eqb-true u t f in absurd (true≢false (sym (eq-eqb t u (sym same)) ∙ e))
+
+-- bytes are the full key of the tenant that stands at their front, and of what stands behind it
+pub full_key_again : (xs : List ℕ) → 4 ≤ length xs → ((i : ℕ) → get_or xs i 0 < 256) → xs ≡ full_key (from_be_bytes w32 (take 4 xs)) (drop 4 xs)
+full_key_again xs long small =
+    let four_long : length (take 4 xs) ≡ 4 = length-take-le 4 xs long in
+    let bytes : (i : ℕ) → get_or (take 4 xs) i 0 < 256 = front_small 4 xs small in
+    sym (ap (λ t. t ++ drop 4 xs) (be_bytes_4 (take 4 xs) (from_be_bytes w32 (take 4 xs)) four_long bytes refl) ∙ take-append-drop 4 xs)
+  where
+    front_small : (n : ℕ) (ys : List ℕ) → ((i : ℕ) → get_or ys i 0 < 256) → (i : ℕ) → get_or (take n ys) i 0 < 256
+    front_small zero ys h i = omega arith
+    front_small (suc n) [] h i = omega arith
+    front_small (suc n) (y ∷ ys) h zero = h zero
+    front_small (suc n) (y ∷ ys) h (suc i) = front_small n ys (λ j. h (suc j)) i

@@ -10,6 +10,7 @@ pub mod Replies
 pub mod ReplyLines
 pub mod Parsing
 pub mod LastField
+pub mod Shapes
 pub mod Dumping
 pub mod FullKeys
 pub mod DigitPairs

@@ -1,20 +1,20 @@
 -- What the parser's steps say of the definitions.
-use Rattle.std.proofs.Common.{◌≡◌, ℕ, zero, suc, ◌+◌, ◌-◌, ◌*◌, ◌/◌, ◌^◌, ◌<◌, ◌≤◌, List, [], ◌∷◌, length, take, drop, get_or, refl, ap, sym, ◌∙◌, Bool, true, false, cond, arith, add-one, Some, None, Option, Ok, Err, Result, drop_of_length-le}
+use Rattle.std.proofs.Common.{◌≡◌, ℕ, zero, suc, ◌+◌, ◌-◌, ◌*◌, ◌/◌, ◌^◌, ◌<◌, ◌≤◌, List, [], ◌∷◌, ◌++◌, length, take, drop, get_or, append_assoc, append-nil, length-append, refl, ap, sym, ◌∙◌, Bool, true, false, cond, arith, add-one, Some, None, Option, Ok, Err, Result, drop_of_length-le}
 use Rattle.std.specs.Prelude.{◌==◌, decimal, nat_lt, ◌&&◌, codes}
 use Rattle.std.specs.List.{onto_first}
 use Rattle.std.specs.Str.{bytes_eq}
 use Rattle.std.proofs.lemmas.Bool.{ne_eqb, eq-eqb}
-use Rattle.std.proofs.lemmas.List.{take_rest, take-append-le, take_all}
+use Rattle.std.proofs.lemmas.List.{take_rest, length-take}
 use Rattle.std.specs.List.{refill}
 use Rattle.std.specs.Prelude.{MatchBool, is_ok}
-use Rattle.std.proofs.Math.Seq.{drop-cons}
+use Rattle.std.proofs.Math.Seq.{drop-cons, take-append_seam, drop-append_seam}
 use Rattle.std.specs.Str.Parse.{digits_value, digits_value_after, AllDigits}
 use Rattle.std.specs.Char.{digit_value}
 use Rattle.std.proofs.lemmas.Bool.{lt-leb, le-leb, true≢false, cases_lt, ltb-true, lt-ltb, le-ltb}
 use Rattle.std.proofs.lemmas.Slice.Eq.{bytes_eq-Decides}
 use Rattle.std.proofs.lemmas.Str.Parse.{numerals_by_value, tells_digits, digit_at}
 use Rattle.std.proofs.lemmas.Fmt.{decimal_is_IsNumeral, decimal_nonempty, length-decimal-le, first_decimal, decimal_digit, decimal-digits_value}
-use Rattle.std.specs.Prelude.{option_copied, is_some}
+use Rattle.std.specs.Prelude.{option_copied, is_some, not}
 use Rattle.std.specs.Borrow.{Bor}
 use Rattle.std.specs.Result.{OkIff, result_ok}
 use Rattle.std.proofs.Common.{inl, inr, subst}
@@ -22,11 +22,15 @@ use Rattle.hex.specs.Hex.{decode_of, decode_pairs}
 use Rattle.hex.proofs.HexLemmas.{decode_of-odd}
 use Rattle.std.specs.Prelude.{◌%◌}
 use Rattle.hex.specs.declared.error.FromHexError.{FromHexError}
-use Rattle.art_index.specs.Commands.{fields_of, dump}
-use Rattle.art_index.specs.Reading.{tenant_in, bytes_in, some_bytes, put_in, get_in, dump_in, command_in, command_of}
-use Rattle.art_index.specs.Commands as Asked
-use Rattle.art_index.specs.Parsed.{fields_behind, meaning, IsRead}
-use Rattle.art_index.specs.declared.command.Command.{Command}
+use Rattle.art_index.specs.declared.command.word.Word.{Word}
+use Rattle.art_index.specs.declared.command.word.Word.TheVariants.{LookUp, Change, Whole}
+use Rattle.art_index.specs.declared.command.word.LookUp.TheVariants as look_up
+use Rattle.art_index.specs.declared.command.word.Change.TheVariants as change
+use Rattle.art_index.specs.declared.command.word.Whole.TheVariants as whole
+use Rattle.art_index.specs.Commands.{Command, fields_of}
+use Rattle.art_index.specs.Reading.{tenant_in, bytes_in, some_bytes, nothing_in, put_in, get_in, dump_in, command_in, command_of}
+use Rattle.art_index.specs.Parsed.{word_in}
+use Rattle.art_index.specs.InPlace.{fields_behind, IsRead}
 
 -- the fields_of of a line whose first space is at a place
 fields_at : (line : List ℕ) (i : ℕ) → i < length line → get_or line i 0 ≡ 32 → ((k : ℕ) → k < i → get_or line k 0 ≡ 32 → ⊥)
@@ -130,30 +134,45 @@ pub too_long : (line : List ℕ) → 4096 < length line → None ≡ command_of 
 unfolding command_of
 too_long line h = rw (lt-leb (length line) 4096 h) refl
 
+-- the command that the fields behind a word make
+abbrev pub command_by : Word → List (List ℕ) → Option Command
+command_by (Change change.Put) rest = put_in rest
+command_by (LookUp look_up.Get) rest = get_in rest
+command_by (Whole whole.Dump) rest = dump_in rest
+
 module _ (line word : List ℕ) (rest : List (List ℕ)) (short : length line ≤ 4096) (split : fields_of line ≡ word ∷ rest) where
   pub says : command_in (word ∷ rest) ≡ command_of line
   unfolding command_of
   says = rw (le-leb (length line) 4096 short, split) refl
 
-  pub says_put : true ≡ bytes_eq word (codes "put") → put_in rest ≡ command_of line
-  says_put put = let p = sym put in let e : put_in rest ≡ command_in (word ∷ rest) = rw p refl in e ∙ says
+  -- what a word makes of the fields behind it
+  pub says_word : (w : Word) → Some w ≡ word_in word → command_by w rest ≡ command_of line
+  says_word w e = go (bytes_eq word (codes "put")) (bytes_eq word (codes "get")) (bytes_eq word (codes "dump")) refl refl refl e ∙ says
+    where
+      go : (p g d : Bool) → bytes_eq word (codes "put") ≡ p → bytes_eq word (codes "get") ≡ g → bytes_eq word (codes "dump") ≡ d
+          → Some w ≡ cond p (Some (Change change.Put)) (cond g (Some (LookUp look_up.Get)) (cond d (Some (Whole whole.Dump)) None))
+          → command_by w rest ≡ cond p (put_in rest) (cond g (get_in rest) (cond d (dump_in rest) None))
+      go true g d x y z e = let is : w ≡ Change change.Put = cc in rw is refl
+      go false true d x y z e = let is : w ≡ LookUp look_up.Get = cc in rw is refl
+      go false false true x y z e = let is : w ≡ Whole whole.Dump = cc in rw is refl
+      go false false false x y z e = cc
 
-  pub says_get : false ≡ bytes_eq word (codes "put") → true ≡ bytes_eq word (codes "get") → get_in rest ≡ command_of line
-  says_get put get = let p = sym put in let g = sym get in let e : get_in rest ≡ command_in (word ∷ rest) = rw (p, g) refl in e ∙ says
+  pub says_nothing : None ≡ word_in word → None ≡ command_of line
+  says_nothing e = go (bytes_eq word (codes "put")) (bytes_eq word (codes "get")) (bytes_eq word (codes "dump")) refl refl refl e ∙ says
+    where
+      go : (p g d : Bool) → bytes_eq word (codes "put") ≡ p → bytes_eq word (codes "get") ≡ g → bytes_eq word (codes "dump") ≡ d
+          → None ≡ cond p (Some (Change change.Put)) (cond g (Some (LookUp look_up.Get)) (cond d (Some (Whole whole.Dump)) None))
+          → None ≡ cond p (put_in rest) (cond g (get_in rest) (cond d (dump_in rest) None))
+      go true g d x y z e = cc
+      go false true d x y z e = cc
+      go false false true x y z e = cc
+      go false false false x y z e = refl
 
-  pub says_dump : false ≡ bytes_eq word (codes "put") → false ≡ bytes_eq word (codes "get") → true ≡ bytes_eq word (codes "dump") → dump_in rest ≡ command_of line
-  says_dump put get last = let p = sym put in let g = sym get in let d = sym last in let e : dump_in rest ≡ command_in (word ∷ rest) = rw (p, g, d) refl in e ∙ says
-
-  pub says_nothing : false ≡ bytes_eq word (codes "put") → false ≡ bytes_eq word (codes "get") → false ≡ bytes_eq word (codes "dump") → None ≡ command_of line
-  says_nothing put get last = let p = sym put in let g = sym get in let d = sym last in let e : None ≡ command_in (word ∷ rest) = rw (p, g, d) refl in e ∙ says
-
-pub nothing_behind : (r : Option (Bor (List ℕ))) → is_some r ≡ false → Some dump ≡ dump_in (fields_behind (option_copied r))
-nothing_behind None h = refl
-nothing_behind (Some w) h = absurd (true≢false h)
-
-pub something_behind : (r : Option (Bor (List ℕ))) → is_some r ≡ true → None ≡ dump_in (fields_behind (option_copied r))
-something_behind None h = absurd (true≢false (sym h))
-something_behind (Some w) h = let some = fields_some w.now in rw some.2 refl
+pub nothing_read : (r : Option (Bor (List ℕ))) (b : Bool) → is_some r ≡ not b → IsRead b tt (nothing_in (fields_behind (option_copied r)))
+nothing_read None true h = refl
+nothing_read None false h = cc
+nothing_read (Some w) true h = cc
+nothing_read (Some w) false h = let some = fields_some w.now in rw some.2 refl
 
 pub bytes_dash : (text : List ℕ) → true ≡ bytes_eq text (codes "-") → Some [] ≡ bytes_in text
 unfolding bytes_in
@@ -182,23 +201,36 @@ unfolding bytes_in
 bytes_good text [] h d some = absurd (omega arith)
 bytes_good text (b ∷ bs) h d some = let f = sym h in rw (f, d) refl
 
--- what was decoded over some bytes
-pub decoded : (text : List ℕ) (b : Bool) (xs new : List ℕ) → MatchBool b (decode_of text ≡ Ok new) (is_ok (decode_of text) ≡ false)
-    → false ≡ bytes_eq text (codes "-") → 0 < length new → length new ≡ length xs
-    → MatchBool b (Some (refill (length xs) xs new) ≡ bytes_in text) (None ≡ bytes_in text)
-decoded text true xs new d other some same =
-    let fits : length xs ≤ length new = omega arith in let all : length new ≤ length xs = omega arith in
-    ap (λ l. Some l) (take-append-le (length xs) new (drop (length new) xs) fits ∙ take_all (length xs) new all) ∙ bytes_good text new other d some
-decoded text false xs new d other some same = bytes_bad text other d
+pub drop_taken : (n : ℕ) (xs : List ℕ) → drop n (take n xs) ≡ []
+drop_taken n xs = drop_of_length-le (take n xs) (let short = length-take n xs in omega arith)
 
--- whether a command was read, where that is told
-pub read_none : (b : Bool) (command : Command) (o : Option Asked.Command) → IsRead b command o → b ≡ false → None ≡ o
-read_none false command o h e = h
-read_none true command o h e = absurd (true≢false e)
+-- what was decoded over some bytes, behind a front
+module _ (front : ℕ) (xs lent new tail : List ℕ) (kept : length (take front lent) ≡ front) (filled : length xs ≡ front + length new) where
+  behind_front : drop front (refill (length xs) xs (take front lent ++ (new ++ tail))) ≡ new
+  behind_front =
+      let a : List ℕ = take front lent in
+      let all = length-append a (new ++ tail) in let more = length-append new tail in let both = length-append a new in
+      let whole : take (length xs) (a ++ (new ++ tail)) ≡ a ++ new =
+      ap (take (length xs)) (sym (append_assoc a new tail)) ∙ ap (λ n. take n ((a ++ new) ++ tail)) (omega arith) ∙ take-append_seam (a ++ new) tail in
+      let none : drop (length (a ++ (new ++ tail))) xs ≡ [] = drop_of_length-le xs (omega arith) in
+      ap (λ l. drop front (take (length xs) ((a ++ (new ++ tail)) ++ l))) none ∙ ap (λ l. drop front (take (length xs) l)) (append-nil (a ++ (new ++ tail)))
+      ∙ ap (drop front) whole ∙ ap (λ n. drop n (a ++ new)) (sym kept) ∙ drop-append_seam a new
 
-pub read_some : (b : Bool) (command : Command) (o : Option Asked.Command) → IsRead b command o → b ≡ true → Some (meaning command) ≡ o
-read_some true command o h e = h
-read_some false command o h e = absurd (true≢false (sym e))
+  pub decoded : (text : List ℕ) (b : Bool) → MatchBool b (decode_of text ≡ Ok new) (is_ok (decode_of text) ≡ false)
+      → false ≡ bytes_eq text (codes "-") → 0 < length new
+      → IsRead b (drop front (refill (length xs) xs (take front lent ++ (new ++ tail)))) (bytes_in text)
+  decoded text true d other some = ap (λ l. Some l) behind_front ∙ bytes_good text new other d some
+  decoded text false d other some = bytes_bad text other d
 
-pub read_same : (b : Bool) (command : Command) (o p : Option Asked.Command) → IsRead b command o → o ≡ p → IsRead b command p
-read_same b command o p h e = subst (IsRead b command) e h
+-- whether something was read, where that is told
+module _ {A : Type 0} where
+  pub read_none : (b : Bool) (x : A) (o : Option A) → IsRead b x o → b ≡ false → None ≡ o
+  read_none false x o h e = h
+  read_none true x o h e = absurd (true≢false e)
+
+  pub read_some : (b : Bool) (x : A) (o : Option A) → IsRead b x o → b ≡ true → Some x ≡ o
+  read_some true x o h e = h
+  read_some false x o h e = absurd (true≢false (sym e))
+
+  pub read_same : (b : Bool) (x : A) (o p : Option A) → IsRead b x o → o ≡ p → IsRead b x p
+  read_same b x o p h e = subst (IsRead b x) e h

@@ -92,7 +92,7 @@ module _ (es : List Entry) (t : ℕ) (k v : List ℕ) (at : ℕ) where
         let low : AllByRecursion (λ r. stands_to t k r ≡ Less) (map record_of (take at es)) = subst (AllByRecursion (λ r. stands_to t k r ≡ Less)) (take-map record_of at es) gap.before in
         let high : AllByRecursion (λ r. stands_to t k r ≡ Greater) (map record_of (drop at es)) = subst (AllByRecursion (λ r. stands_to t k r ≡ Greater)) (drop-map record_of at es) gap.behind in
         let all = subst (AllByRecursion (λ r. r.tenant ≡ t → _)) (sym (take-append-drop at rs)) (no_conflict_with t k rs free) in
-        let is = full_record t k v e fits.0 full value in
+        let is = full_record t k v e fits.tenant_fits full value in
         record {
           low = low;
           here = tt;
@@ -155,7 +155,7 @@ module _ (es : List Entry) (t : ℕ) (k v : List ℕ) (at : ℕ) where
 
       old_between : FitsBetween t k v (take at es) (m ∷ []) (drop (at + 1) es) e
       old_between =
-          let r = full_record t k v e fits.0 old_full value in
+          let r = full_record t k v e fits.tenant_fits old_full value in
           let order = subst (InOrder KeyComesBefore) (ap (map record_of) parts ∙ map-append record_of (take at es) (m ∷ drop (at + 1) es)) are.records.keys_in_order in
           record {
             low = low;

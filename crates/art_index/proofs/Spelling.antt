@@ -1,6 +1,6 @@
 -- What spells a command is read as that command, and the other way.
 use Rattle.std.proofs.Common.{◌≡◌, ℕ, ◌^◌, ◌<◌, List, [], ◌∷◌, length, refl, ap, sym, ◌∙◌, subst, Bool, true, false, cond, arith, Some, None, Option, Ok, Err}
-use Rattle.std.specs.Prelude.{◌&&◌, ◌↔◌, decimal, codes, nat_lt, nat_le, Result, option_and_then}
+use Rattle.std.specs.Prelude.{◌&&◌, ◌↔◌, decimal, codes, nat_lt, nat_le, Result, option_map}
 use Rattle.hex.specs.declared.error.FromHexError.{FromHexError}
 use Rattle.std.specs.Str.{bytes_eq}
 use Rattle.std.specs.Str.Parse.{digits_value}
@@ -10,7 +10,8 @@ use Rattle.std.proofs.lemmas.Fmt.{decimal_is_IsNumeral}
 use Rattle.hex.specs.Hex.{decode_of, decode_pairs}
 use Rattle.art_index.specs.Words.{natural, bytes, Reads}
 use Rattle.art_index.specs.Commands.{put, get, Command, of_tenant, dump, words_of, AllRead, fields_of, Spells}
-use Rattle.art_index.specs.Reading.{tenant_in, bytes_in, some_bytes, put_in, get_in, dump_in, command_in, command_of}
+use Rattle.art_index.proofs.Shapes.{key_from, key_and_value_from}
+use Rattle.art_index.specs.Reading.{tenant_in, bytes_in, some_bytes, key_in, key_and_value_in, nothing_in, put_in, get_in, dump_in, command_in, command_of}
 
 tenant_reads : (text : List ℕ) (n : ℕ) → Reads text (natural n) → tenant_in text ≡ Some n
 unfolding tenant_in
@@ -30,21 +31,31 @@ bytes_reads text (b ∷ bs) h = go (bytes_eq text (codes "-")) refl
     go false e = rw (e, h) refl
     go true e = let d = rw ((bytes_eq-Decides text (codes "-")).0 e) at h in cc
 
+-- by shape
+key_reads : (fields : List (List ℕ)) (n : ℕ) (k : List ℕ) → AllRead fields (natural n ∷ bytes k ∷ []) → key_in fields ≡ Some (n, k)
+key_reads [] n k h = absurd h
+key_reads (t ∷ []) n k h = absurd h.1
+key_reads (t ∷ f ∷ []) n k h = rw (tenant_reads t n h.0, bytes_reads f k h.1.0) refl
+key_reads (t ∷ f ∷ g ∷ fs) n k h = absurd h.1.1
+
+key_and_value_reads : (fields : List (List ℕ)) (n : ℕ) (k v : List ℕ) → AllRead fields (natural n ∷ bytes k ∷ bytes v ∷ []) → key_and_value_in fields ≡ Some (n, k, v)
+key_and_value_reads [] n k v h = absurd h
+key_and_value_reads (t ∷ []) n k v h = absurd h.1
+key_and_value_reads (t ∷ f ∷ []) n k v h = absurd h.1.1
+key_and_value_reads (t ∷ f ∷ g ∷ []) n k v h = rw (tenant_reads t n h.0, bytes_reads f k h.1.0, bytes_reads g v h.1.1.0) refl
+key_and_value_reads (t ∷ f ∷ g ∷ i ∷ fs) n k v h = absurd h.1.1.1
+
+nothing_reads : (fields : List (List ℕ)) → AllRead fields [] → nothing_in fields ≡ Some tt
+nothing_reads [] h = refl
+nothing_reads (f ∷ fs) h = absurd h
+
 all_read : (ts : List (List ℕ)) (c : Command) → AllRead ts (words_of c) → command_in ts ≡ Some c
-all_read (w ∷ t ∷ k ∷ v ∷ []) (of_tenant n (put key value)) h = rw (h.0, tenant_reads t n h.1.0, bytes_reads k key h.1.1.0, bytes_reads v value h.1.1.1.0) refl
-all_read (w ∷ t ∷ k ∷ []) (of_tenant n (get key)) h = rw (h.0, tenant_reads t n h.1.0, bytes_reads k key h.1.1.0) refl
-all_read (w ∷ []) dump h = rw h.0 refl
 all_read [] (of_tenant n (put key value)) h = absurd h
-all_read (w ∷ []) (of_tenant n (put key value)) h = absurd h.1
-all_read (w ∷ t ∷ []) (of_tenant n (put key value)) h = absurd h.1.1
-all_read (w ∷ t ∷ k ∷ []) (of_tenant n (put key value)) h = absurd h.1.1.1
-all_read (w ∷ t ∷ k ∷ v ∷ x ∷ xs) (of_tenant n (put key value)) h = absurd h.1.1.1.1
 all_read [] (of_tenant n (get key)) h = absurd h
-all_read (w ∷ []) (of_tenant n (get key)) h = absurd h.1
-all_read (w ∷ t ∷ []) (of_tenant n (get key)) h = absurd h.1.1
-all_read (w ∷ t ∷ k ∷ x ∷ xs) (of_tenant n (get key)) h = absurd h.1.1.1
 all_read [] dump h = absurd h
-all_read (w ∷ x ∷ xs) dump h = absurd h.1
+all_read (w ∷ fs) (of_tenant n (put key value)) h = rw (h.0, key_and_value_reads fs n key value h.1) refl
+all_read (w ∷ fs) (of_tenant n (get key)) h = rw (h.0, key_reads fs n key h.1) refl
+all_read (w ∷ fs) dump h = rw (h.0, nothing_reads fs h.1) refl
 
 pub spelled : (line : List ℕ) (c : Command) → Spells line c → command_of line ≡ Some c
 unfolding command_of
@@ -76,41 +87,63 @@ bytes_spelled field bs h = go (bytes_eq field (codes "-")) refl h
     go true p e = let is : [] ≡ bs = cc in subst (λ x. Reads field (bytes x)) is ((bytes_eq-Decides field (codes "-")).0 p)
     go false p e = some_bytes_spelled field (decode_of field) bs refl e
 
-put_spelled : (fields : List (List ℕ)) (c : Command) → put_in fields ≡ Some c → AllRead (codes "put" ∷ fields) (words_of c)
-put_spelled [] c h = cc
-put_spelled (t ∷ []) c h = cc
-put_spelled (t ∷ k ∷ []) c h = cc
-put_spelled (t ∷ k ∷ v ∷ x ∷ xs) c h = cc
-put_spelled (t ∷ k ∷ v ∷ []) c h = go (tenant_in t) (bytes_in k) (bytes_in v) refl refl refl h
+-- by shape
+key_spelled : (fields : List (List ℕ)) (f : ℕ × List ℕ) → key_in fields ≡ Some f → AllRead fields (natural f.0 ∷ bytes f.1 ∷ [])
+key_spelled [] f h = cc
+key_spelled (t ∷ []) f h = cc
+key_spelled (t ∷ k ∷ x ∷ xs) f h = cc
+key_spelled (t ∷ k ∷ []) f h = go (tenant_in t) (bytes_in k) refl refl h
   where
-    go : (a : Option ℕ) (x y : Option (List ℕ)) → tenant_in t ≡ a → bytes_in k ≡ x → bytes_in v ≡ y
-        → option_and_then (λ tenant. option_and_then (λ key. option_and_then (λ value. Some (of_tenant tenant (put key value))) y) x) a ≡ Some c
-        → AllRead (codes "put" ∷ t ∷ k ∷ v ∷ []) (words_of c)
+    go : (a : Option ℕ) (x : Option (List ℕ)) → tenant_in t ≡ a → bytes_in k ≡ x → key_from a x ≡ Some f → AllRead (t ∷ k ∷ []) (natural f.0 ∷ bytes f.1 ∷ [])
+    go None x p q e = cc
+    go (Some n) None p q e = cc
+    go (Some n) (Some key) p q e =
+        let is : (n, key) ≡ f = cc in
+        subst (λ (f : ℕ × List ℕ). AllRead (t ∷ k ∷ []) (natural f.0 ∷ bytes f.1 ∷ [])) is (tenant_spelled t n p, (bytes_spelled k key q, tt))
+
+key_and_value_spelled : (fields : List (List ℕ)) (f : ℕ × List ℕ × List ℕ) → key_and_value_in fields ≡ Some f
+    → AllRead fields (natural f.0 ∷ bytes f.1 ∷ bytes f.2 ∷ [])
+key_and_value_spelled [] f h = cc
+key_and_value_spelled (t ∷ []) f h = cc
+key_and_value_spelled (t ∷ k ∷ []) f h = cc
+key_and_value_spelled (t ∷ k ∷ v ∷ x ∷ xs) f h = cc
+key_and_value_spelled (t ∷ k ∷ v ∷ []) f h = go (tenant_in t) (bytes_in k) (bytes_in v) refl refl refl h
+  where
+    go : (a : Option ℕ) (x y : Option (List ℕ)) → tenant_in t ≡ a → bytes_in k ≡ x → bytes_in v ≡ y → key_and_value_from a x y ≡ Some f
+        → AllRead (t ∷ k ∷ v ∷ []) (natural f.0 ∷ bytes f.1 ∷ bytes f.2 ∷ [])
     go None x y p q r e = cc
     go (Some n) None y p q r e = cc
     go (Some n) (Some key) None p q r e = cc
     go (Some n) (Some key) (Some value) p q r e =
-        let is : of_tenant n (put key value) ≡ c = cc in
-        subst (λ x. AllRead (codes "put" ∷ t ∷ k ∷ v ∷ []) (words_of x)) is (refl, (tenant_spelled t n p, (bytes_spelled k key q, (bytes_spelled v value r, tt))))
+        let is : (n, key, value) ≡ f = cc in
+        subst (λ (f : ℕ × List ℕ × List ℕ). AllRead (t ∷ k ∷ v ∷ []) (natural f.0 ∷ bytes f.1 ∷ bytes f.2 ∷ [])) is
+        (tenant_spelled t n p, (bytes_spelled k key q, (bytes_spelled v value r, tt)))
+
+nothing_spelled : (fields : List (List ℕ)) → nothing_in fields ≡ Some tt → AllRead fields []
+nothing_spelled [] h = tt
+nothing_spelled (x ∷ xs) h = cc
+
+-- by word
+put_spelled : (fields : List (List ℕ)) (c : Command) → put_in fields ≡ Some c → AllRead (codes "put" ∷ fields) (words_of c)
+put_spelled fields c h = go (key_and_value_in fields) refl h
+  where
+    go : (o : Option (ℕ × List ℕ × List ℕ)) → key_and_value_in fields ≡ o → option_map (λ f. of_tenant f.0 (put f.1 f.2)) o ≡ Some c → AllRead (codes "put" ∷ fields) (words_of c)
+    go None e h = cc
+    go (Some f) e h = let is : of_tenant f.0 (put f.1 f.2) ≡ c = cc in subst (λ x. AllRead (codes "put" ∷ fields) (words_of x)) is (refl, key_and_value_spelled fields f e)
 
 get_spelled : (fields : List (List ℕ)) (c : Command) → get_in fields ≡ Some c → AllRead (codes "get" ∷ fields) (words_of c)
-get_spelled [] c h = cc
-get_spelled (t ∷ []) c h = cc
-get_spelled (t ∷ k ∷ x ∷ xs) c h = cc
-get_spelled (t ∷ k ∷ []) c h = go (tenant_in t) (bytes_in k) refl refl h
+get_spelled fields c h = go (key_in fields) refl h
   where
-    go : (a : Option ℕ) (x : Option (List ℕ)) → tenant_in t ≡ a → bytes_in k ≡ x
-        → option_and_then (λ tenant. option_and_then (λ key. Some (of_tenant tenant (get key))) x) a ≡ Some c
-        → AllRead (codes "get" ∷ t ∷ k ∷ []) (words_of c)
-    go None x p q e = cc
-    go (Some n) None p q e = cc
-    go (Some n) (Some key) p q e =
-        let is : of_tenant n (get key) ≡ c = cc in
-        subst (λ x. AllRead (codes "get" ∷ t ∷ k ∷ []) (words_of x)) is (refl, (tenant_spelled t n p, (bytes_spelled k key q, tt)))
+    go : (o : Option (ℕ × List ℕ)) → key_in fields ≡ o → option_map (λ f. of_tenant f.0 (get f.1)) o ≡ Some c → AllRead (codes "get" ∷ fields) (words_of c)
+    go None e h = cc
+    go (Some f) e h = let is : of_tenant f.0 (get f.1) ≡ c = cc in subst (λ x. AllRead (codes "get" ∷ fields) (words_of x)) is (refl, key_spelled fields f e)
 
 dump_spelled : (fields : List (List ℕ)) (c : Command) → dump_in fields ≡ Some c → AllRead (codes "dump" ∷ fields) (words_of c)
-dump_spelled [] c h = let is : dump ≡ c = cc in subst (λ x. AllRead (codes "dump" ∷ []) (words_of x)) is (refl, tt)
-dump_spelled (x ∷ xs) c h = cc
+dump_spelled fields c h = go (nothing_in fields) refl h
+  where
+    go : (o : Option (Unit {0})) → nothing_in fields ≡ o → option_map (λ f. dump) o ≡ Some c → AllRead (codes "dump" ∷ fields) (words_of c)
+    go None e h = cc
+    go (Some f) e h = let is : dump ≡ c = cc in subst (λ x. AllRead (codes "dump" ∷ fields) (words_of x)) is (refl, nothing_spelled fields e)
 
 all_spelled : (fields : List (List ℕ)) (c : Command) → command_in fields ≡ Some c → AllRead fields (words_of c)
 all_spelled [] c h = cc

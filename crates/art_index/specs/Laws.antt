@@ -1,6 +1,7 @@
 -- Laws of the definitions, each proved on a function of `laws`.
-use Rattle.std.specs.Prelude.{◌≡◌, ◌≢◌, ℕ, ◌^◌, ◌<◌, ◌==◌, ◌||◌, ◌&&◌, nat_lt, List}
+use Rattle.std.specs.Prelude.{◌≡◌, ◌≢◌, ℕ, ◌^◌, ◌<◌, ◌==◌, ◌||◌, ◌&&◌, ◌↔◌, nat_lt, List, Some}
 use Rattle.art_index.specs.Commands.{Command, Spells}
+use Rattle.art_index.specs.Reading.{command_of}
 use Rattle.art_index.specs.Keys.{is_below, conflicts, full_key}
 use Rattle.art_index.specs.Records.{Own, Records, AreRecords, own, with_own}
 
@@ -16,6 +17,10 @@ OthersAreUntouched = (other tenant : ℕ) (mine : Own) (records : Records) → o
 -- what a tenant holds, put in place again, changes nothing
 abbrev pub OwnIsInPlace : Type 0
 OwnIsInPlace = (tenant : ℕ) (records : Records) → AreRecords records → with_own tenant (own tenant records) records ≡ records
+
+-- what is read of a line is the command that it spells, and nothing is read where it spells none
+abbrev pub ReadingIsSpelling : Type 0
+ReadingIsSpelling = (line : List ℕ) (command : Command) → (command_of line ≡ Some command) ↔ Spells line command
 
 -- no line spells two commands
 abbrev pub SpellsOneCommand : Type 0

@@ -9,6 +9,7 @@ pub mod Refusals
 pub mod Outcome
 pub mod Faults
 pub mod Laws
+pub mod InPlace
 pub mod Parsed
 pub mod Stored
 pub mod Progress

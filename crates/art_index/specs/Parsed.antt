@@ -1,7 +1,17 @@
--- The command that a parsed value stands for, and what is left of a line behind a space.
-use Rattle.std.specs.Prelude.{◌≡◌, ℕ, Bool, true, false, List, [], Option, Some, None}
+-- What the parser's values stand for.
+use Rattle.std.specs.Prelude.{ℕ, if◌then◌else◌, List, take, drop, codes, Option, Some, None}
+use Rattle.std.specs.Int.{from_be_bytes, w32}
+use Rattle.std.specs.Str.{bytes_eq}
 use Rattle.art_index.specs.declared.command.Command.{Command}
 use Rattle.art_index.specs.declared.command.Command.TheVariants.{Put, Get, Dump}
+use Rattle.art_index.specs.declared.command.fields.Fields.{Fields}
+use Rattle.art_index.specs.declared.command.word.Word.{Word}
+use Rattle.art_index.specs.declared.command.word.Word.TheVariants.{LookUp, Change, Whole}
+use Rattle.art_index.specs.declared.command.word.LookUp.TheVariants as look_up
+use Rattle.art_index.specs.declared.command.word.Change.TheVariants as change
+use Rattle.art_index.specs.declared.command.word.Whole.TheVariants as whole
+use Rattle.art_index.specs.declared.command.word.Shape.{Shape}
+use Rattle.art_index.specs.declared.command.word.Shape.TheVariants.{Key, KeyAndValue, Nothing}
 use Rattle.art_index.specs.Commands as said
 
 abbrev pub meaning : Command → said.Command
@@ -9,23 +19,29 @@ meaning (Put tenant key value) = said.of_tenant tenant (said.put key.items value
 meaning (Get tenant key) = said.of_tenant tenant (said.get key.items)
 meaning Dump = said.dump
 
--- the fields of what stands behind a space
-abbrev pub fields_behind : Option (List ℕ) → List (List ℕ)
-fields_behind None = []
-fields_behind (Some rest) = said.fields_of rest
+-- the tenant and the key that were read in place
+abbrev pub tenant_of : Fields → ℕ
+tenant_of f = from_be_bytes w32 (take 4 f.full_key.items)
 
--- Whether a command was read: it is the one that is meant, and where there was none, none is meant.
-abbrev pub IsRead : Bool → Command → Option said.Command → Type 0
-IsRead true command meant = Some (meaning command) ≡ meant
-IsRead false command meant = None ≡ meant
+abbrev pub key_of : Fields → List ℕ
+key_of f = drop 4 f.full_key.items
 
--- a command of one word
-abbrev pub IsPut : Command → Type 0
-IsPut (Put tenant key value) = Unit {0}
-IsPut (Get tenant key) = ⊥
-IsPut Dump = ⊥
+-- the word that a field is
+abbrev pub word_in : List ℕ → Option Word
+word_in field =
+    if bytes_eq field (codes "put") then Some (Change change.Put)
+    else if bytes_eq field (codes "get") then Some (LookUp look_up.Get)
+    else if bytes_eq field (codes "dump") then Some (Whole whole.Dump)
+    else None
 
-abbrev pub IsGet : Command → Type 0
-IsGet (Put tenant key value) = ⊥
-IsGet (Get tenant key) = Unit {0}
-IsGet Dump = ⊥
+-- what stands behind a word
+abbrev pub shape_of : Word → Shape
+shape_of (LookUp look_up.Get) = Key
+shape_of (Change change.Put) = KeyAndValue
+shape_of (Whole whole.Dump) = Nothing
+
+-- the command of a word and of what was read behind it
+abbrev pub command_with : Word → Fields → said.Command
+command_with (LookUp look_up.Get) f = said.of_tenant (tenant_of f) (said.get (key_of f))
+command_with (Change change.Put) f = said.of_tenant (tenant_of f) (said.put (key_of f) f.value.items)
+command_with (Whole whole.Dump) f = said.dump

@@ -1,5 +1,7 @@
--- The command that a line spells, computed. That it is the one that `Spells` relates to the line stands on `parse_line`.
-use Rattle.std.specs.Prelude.{ℕ, ◌^◌, ◌&&◌, nat_lt, nat_le, if◌then◌else◌, List, [], ◌∷◌, length, codes, decimal, Option, Some, None, option_and_then, Result, Ok, Err}
+-- The command that a line spells, computed. That it is the one that `Spells` relates to the line is a law,
+-- `laws::reading_is_spelling`.
+use Rattle.std.specs.Prelude.{ℕ, ◌^◌, ◌&&◌, nat_lt, nat_le, if◌then◌else◌, List, [], ◌∷◌, length, codes, decimal}
+use Rattle.std.specs.Prelude.{Option, Some, None, option_and_then, option_map, Result, Ok, Err}
 use Rattle.std.specs.Str.{bytes_eq}
 use Rattle.std.specs.Str.Parse.{digits_value}
 use Rattle.hex.specs.Hex.{decode_of}
@@ -26,27 +28,40 @@ some_bytes (Err e) = None
 unfoldable pub bytes_in : List ℕ → Option (List ℕ)
 bytes_in field = if bytes_eq field (codes "-") then Some [] else some_bytes (decode_of field)
 
--- the command that the fields behind `put` make
-abbrev pub put_in : List (List ℕ) → Option Command
-put_in (t ∷ k ∷ v ∷ []) = do
+-- What stands behind a word, by its shape. A prefix is read as a key; two bounds, a number and a value, and two numbers as a
+-- key and a value are, with the number that a field is read as.
+
+-- a tenant and a key
+abbrev pub key_in : List (List ℕ) → Option (ℕ × List ℕ)
+key_in (t ∷ k ∷ []) = do
+  tenant ← tenant_in t
+  key ← bytes_in k
+  Some (tenant, key)
+key_in other = None
+
+-- a tenant, a key and a value
+abbrev pub key_and_value_in : List (List ℕ) → Option (ℕ × List ℕ × List ℕ)
+key_and_value_in (t ∷ k ∷ v ∷ []) = do
   tenant ← tenant_in t
   key ← bytes_in k
   value ← bytes_in v
-  Some (of_tenant tenant (put key value))
-put_in other = None
+  Some (tenant, key, value)
+key_and_value_in other = None
 
--- the command that the fields behind `get` make
+-- nothing
+abbrev pub nothing_in : List (List ℕ) → Option (Unit {0})
+nothing_in [] = Some tt
+nothing_in other = None
+
+-- the command that the fields behind each word make
+abbrev pub put_in : List (List ℕ) → Option Command
+put_in fields = option_map (λ f. of_tenant f.0 (put f.1 f.2)) (key_and_value_in fields)
+
 abbrev pub get_in : List (List ℕ) → Option Command
-get_in (t ∷ k ∷ []) = do
-  tenant ← tenant_in t
-  key ← bytes_in k
-  Some (of_tenant tenant (get key))
-get_in other = None
+get_in fields = option_map (λ f. of_tenant f.0 (get f.1)) (key_in fields)
 
--- the command that the fields behind `dump` make
 abbrev pub dump_in : List (List ℕ) → Option Command
-dump_in [] = Some dump
-dump_in other = None
+dump_in fields = option_map (λ f. dump) (nothing_in fields)
 
 -- the command that some fields make
 abbrev pub command_in : List (List ℕ) → Option Command

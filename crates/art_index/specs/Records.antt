@@ -1,6 +1,9 @@
 -- What an index holds: the records of each tenant.
-use Rattle.std.specs.Prelude.{◌≡◌, ℕ, ℤ, ◌^◌, ◌<◌, ◌≤◌, ◌⊎◌, ◌==◌, nat_lt, int_lt, IsTrue, false, List, [], ◌∷◌, ◌++◌, length, map, filter}
+use Rattle.std.specs.Prelude.{◌≡◌, ℕ, ℤ, ◌^◌, ◌<◌, ◌≤◌, ◌⊎◌, ◌==◌, nat_lt, int_lt, IsTrue, false, List, [], ◌∷◌, ◌++◌}
+use Rattle.std.specs.Prelude.{length, map, filter, FitsSigned}
+use Rattle.std.specs.Int.{w64}
 use Rattle.std.specs.List.{AllByRecursion}
+use Rattle.hex.specs.Hex.{IsBytes}
 use Rattle.art_index.specs.Words.{text_of}
 use Rattle.art_index.specs.Commands.{put_words, nput_words}
 use Rattle.art_index.specs.Keys.{is_below, conflicts}
@@ -63,14 +66,22 @@ abbrev pub InOrder : {X : Type 0} → (X → X → Type 0) → List X → Type 0
 InOrder Before [] = Unit {0}
 InOrder Before (x ∷ xs) = AllByRecursion (Before x) xs × InOrder Before xs
 
--- a tenant is below 2 ^ 32, and the line that would make the record has at most 4,096 bytes
-abbrev pub KeyFits : KeyRecord → Type 0
-KeyFits r = (r.tenant < 2 ^ 32) × (length (text_of (put_words r.tenant r.key r.value)) ≤ 4096)
+-- A value under a tenant's key as an index may hold it: the tenant is below 2 ^ 32, key and value are bytes, and the line
+-- that would make the record has at most 4,096 bytes.
+pub record KeyFits (r : KeyRecord) : Type 0 where
+  pub tenant_fits : r.tenant < 2 ^ 32
+  pub key_fits : IsBytes r.key
+  pub value_fits : IsBytes r.value
+  pub line_fits : length (text_of (put_words r.tenant r.key r.value)) ≤ 4096
 
-abbrev pub NumberFits : NumberRecord → Type 0
-NumberFits r = (r.tenant < 2 ^ 32) × (length (text_of (nput_words r.tenant r.number r.value)) ≤ 4096)
+-- likewise under a number, which has 64 bits with its sign
+pub record NumberFits (r : NumberRecord) : Type 0 where
+  pub tenant_fits : r.tenant < 2 ^ 32
+  pub number_fits : FitsSigned w64 r.number
+  pub value_fits : IsBytes r.value
+  pub line_fits : length (text_of (nput_words r.tenant r.number r.value)) ≤ 4096
 
--- Records as an index may hold them: in order, without conflicts, each no longer than a line.
+-- Records as an index may hold them: in order, without conflicts, each of bytes and no longer than a line.
 pub record AreRecords (records : Records) : Type 0 where
   pub keys_in_order : InOrder KeyComesBefore records.keys
   pub numbers_in_order : InOrder NumberComesBefore records.numbers

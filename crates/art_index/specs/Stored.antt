@@ -27,7 +27,8 @@ records_of es = record { keys = map record_of es; numbers = [] }
 abbrev pub IsFull : Entry → Type 0
 IsFull e = e.key.items ≡ full_key (record_of e).tenant (record_of e).key
 
--- Entries as an index holds them: under full keys, and their records in order, without conflicts, each no longer than a line.
+-- Entries as an index holds them: under full keys, and their records in order, without conflicts, each of bytes and no
+-- longer than a line.
 pub record AreEntries (es : List Entry) : Type 0 where
   pub full : AllByRecursion IsFull es
   pub records : AreRecords (records_of es)

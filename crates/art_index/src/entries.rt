@@ -10,7 +10,7 @@ ghost use Rattle.art_index.specs.Stored.{stands_to, stands_against, record_of, r
 use crate::entry::{Entry, Placed};
 use crate::reply::{write_end, write_found, write_piece, write_record};
 use crate::stream::{Sink, WriteFailed};
-use std::alloc::{AllocError, Global};
+use std::alloc::Global;
 use std::cmp::Ordering;
 use std::mem;
 
@@ -92,26 +92,18 @@ fn conflicts_with(entries: &[Entry], tenant: u32, key: &[u8]) -> bool
     false
 }
 
-/// The full key of a tenant's key.
-fn full_key(alloc: Global, tenant: u32, key: &[u8]) -> Result<Vec<u8>, AllocError>
-    requires { length key.now ≤ 4096 }
-    ensures { IfOk result (λ full. full.items ≡ full_key_of tenant key.now) }
-{
-    let mut full = Vec::with_capacity(alloc, 4 + key.len())?;
-    full.extend_from_slice(&tenant.to_be_bytes())?;
-    full.extend_from_slice(key)?;
-    Ok(full)
-}
-
-/// Puts a value at a tenant's key, unless the key conflicts with another. All memory is taken before anything is changed.
+/// Puts a value at a tenant's key, unless the key conflicts with another. The full key stands ready, to be kept where the
+/// key is new. All memory is taken before anything is changed.
 pub(crate) fn put_entry(
     alloc: Global,
     entries: &mut Vec<Entry>,
     tenant: u32,
     key: &[u8],
+    full: &[u8],
     value: &[u8],
 ) -> Placed
     requires ordered { AreEntries entries.old.items }
+    requires full { full.now ≡ full_key_of tenant key.now }
     requires fits { KeyFits (record { tenant = tenant; key = key.now; value = value.now }) }
     ensures ordered { AreEntries entries.new.items }
     ensures placed { IsPlaced result (records_of entries.old.items) tenant key.now value.now (records_of entries.new.items) }
@@ -128,7 +120,7 @@ pub(crate) fn put_entry(
             if conflicts_with(entries, tenant, key) {
                 return Placed::Conflict;
             }
-            let Ok(key) = full_key(alloc, tenant, key) else {
+            let Ok(key) = Vec::from_slice(alloc, full) else {
                 return Placed::Memory;
             };
             let Ok(value) = Vec::from_slice(alloc, value) else {

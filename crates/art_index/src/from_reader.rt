@@ -1,11 +1,14 @@
 //! A reader as a source.
-ghost use Rattle.std.specs.Prelude.{◌≡◌, [], false};
+ghost use Rattle.std.specs.Prelude.{◌≡◌, ℕ, suc, ◌^◌, ◌-◌, ◌<◌, ◌≤◌, ◌++◌, [], length, take, is_err, IsTrue, IsErr};
+ghost use Rattle.std.specs.Prelude.{IfOk, OnErr, Ok, false};
+ghost use Rattle.std.specs.Io.KnownBytes.{Consumes, Keeps, IsAtEnd};
 
 use crate::history::{History, Piece};
 use crate::stream::{ReadFailed, Source};
 use std::io::Read;
 
-/// A reader as a source: any error is the failure, and a read of no byte is the end.
+/// A reader as a source: any error is the failure, and a read of no byte is the end. Neither is tried again, and so no
+/// error is taken for an end. After 2^64 - 1 reads it fails.
 #[derive(Drop)]
 pub struct FromReader<R> {
     reader: R,
@@ -21,6 +24,8 @@ impl<R: Read> FromReader<R> {
         ensures given { ⟦<FromReader<R> as Source>⟧.given result ≡ [] }
         ensures failed { ⟦<FromReader<R> as Source>⟧.has_failed result ≡ false }
         ensures ended { ⟦<FromReader<R> as Source>⟧.has_ended result ≡ false }
+        ensures reads { ⟦<FromReader<R> as Source>⟧.reads_left result ≡ 2 ^ 64 - 1 }
+        ensures over { result.reader ≡ reader }
     {
         FromReader {
             reader,
@@ -41,7 +46,30 @@ impl<R: Read> Source for FromReader<R> {
 
     ghost reads_left = { λ s. s.reads_left };
 
-    fn read(&mut self, buf: &mut [u8]) -> Result<usize, ReadFailed> {
+    fn read(&mut self, buf: &mut [u8]) -> Result<usize, ReadFailed>
+        requires { 0 < length buf.old }
+        ensures bound { IfOk result (λ n. n ≤ length buf.new) }
+        ensures gives { IfOk result (λ n. self.new.given.bytes ≡ self.old.given.bytes ++ take n buf.new) }
+        ensures gives_none { OnErr result (self.new.given.bytes ≡ self.old.given.bytes) }
+
+        ensures failed { is_err result ≡ self.new.failed }
+        ensures stays_failed { IsTrue self.old.failed → IsErr result }
+
+        ensures ends { result ≡ Ok 0 → IsTrue self.new.ended }
+        ensures goes_on { IfOk result (λ n. 0 < n → self.new.ended ≡ self.old.ended) }
+        ensures gives_no_more { IfOk result (λ n. IsTrue self.old.ended → n ≡ 0) }
+        ensures ended_before { OnErr result (self.new.ended ≡ self.old.ended) }
+
+        // Each read of the reader counts, and one that fails is the last.
+        ensures fewer { IfOk result (λ n. 0 < n → self.new.reads_left < self.old.reads_left) }
+        ensures counts { IfOk result (λ n. self.old.ended ≡ false → suc self.new.reads_left ≡ self.old.reads_left) }
+
+        // What it gives is what the reader has next, and nothing of it passes by.
+        ensures passed { IfOk result (λ n. Consumes
+            (R.remaining self.old.reader) (R.remaining self.new.reader) (take n buf.new)) }
+        ensures at_end { IfOk result (λ n. n ≡ 0 → self.old.ended ≡ false → IsAtEnd (R.remaining self.new.reader)) }
+        ensures passes_none { OnErr result (Keeps (R.remaining self.old.reader) (R.remaining self.new.reader)) }
+    {
         if self.failed || self.reads_left == 0 {
             self.failed = true;
             return Err(ReadFailed);

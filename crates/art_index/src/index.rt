@@ -1,7 +1,9 @@
 //! An index, and what a line does to it.
 ghost use Rattle.std.specs.Prelude.{◌≡◌, ℕ, ◌+◌, ◌<◌, ◌≤◌, ◌++◌, ◌∷◌, [], List, length, map, drop, take, flat_map, OnOk, OnErr, IfOk, IfErr, IsTrue, IsErr, is_err, true, false, Option, Some, None, option_map, codes};
 
-use crate::command::{Command, Slots};
+use crate::command::fields::Fields;
+use crate::command::read_line;
+use crate::command::word::{Change, LookUp, Whole, Word};
 use crate::entries::{put_entry, value_of, write_entries, write_placed};
 use crate::entry::Entry;
 use crate::reply::{write_piece, write_value};
@@ -46,7 +48,7 @@ pub struct Handled {
 pub struct Index<const PREFIX_LEN: usize> {
     alloc: Global,
     entries: Vec<Entry>,
-    slots: Slots,
+    fields: Fields,
 }
 
 impl<const PREFIX_LEN: usize> Model for Index<PREFIX_LEN> {
@@ -78,11 +80,12 @@ impl<const PREFIX_LEN: usize> Index<PREFIX_LEN> {
         Index {
             alloc,
             entries: Vec::new(alloc),
-            slots: Slots::new(),
+            fields: Fields::new(),
         }
     }
 
-    /// A law, which does nothing: what an index holds are records in order, without conflicts, each no longer than a line.
+    /// A law, which does nothing: what an index holds are records in order, without conflicts, each of bytes and no longer
+    /// than a line.
     pub fn holds_records(&self)
         ensures { AreRecords self.now }
     {
@@ -103,23 +106,24 @@ impl<const PREFIX_LEN: usize> Index<PREFIX_LEN> {
         ensures cut { OnErr result (IsCutLine self.old line.now (W.taken sink.old) (W.taken sink.new) self.new) }
     {
         let mut memory = false;
-        match self.slots.read(line) {
-            Some(Command::Get { tenant, key }) => write_value(
+        match read_line(line, &mut self.fields) {
+            Some(Word::LookUp(LookUp::Get)) => write_value(
                 sink,
-                value_of(&self.entries, *tenant, key.as_slice()),
+                value_of(&self.entries, self.fields.tenant(), self.fields.key()),
             )?,
-            Some(Command::Put { tenant, key, value }) => {
+            Some(Word::Change(Change::Put)) => {
                 let placed = put_entry(
                     self.alloc,
                     &mut self.entries,
-                    *tenant,
-                    key.as_slice(),
-                    value.as_slice(),
+                    self.fields.tenant(),
+                    self.fields.key(),
+                    self.fields.full_key(),
+                    self.fields.value(),
                 );
                 memory = placed.is_memory();
                 write_placed(sink, &placed)?;
             }
-            Some(Command::Dump) => write_entries(&self.entries, sink)?,
+            Some(Word::Whole(Whole::Dump)) => write_entries(&self.entries, sink)?,
             None => write_piece(sink, b"bad\n")?,
         }
         Ok(Handled { memory, visits: 0 })

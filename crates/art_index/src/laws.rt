@@ -1,5 +1,6 @@
 //! Laws of the definitions. Each function does nothing, and its contract is the law.
-ghost use Rattle.art_index.specs.Laws.{OwnReadsBack, OthersAreUntouched, OwnIsInPlace, SpellsOneCommand, FullKeysKeepOrder, FullKeysKeepConflicts};
+ghost use Rattle.art_index.specs.Laws.{OwnReadsBack, OthersAreUntouched, OwnIsInPlace, ReadingIsSpelling, SpellsOneCommand};
+ghost use Rattle.art_index.specs.Laws.{FullKeysKeepOrder, FullKeysKeepConflicts};
 
 /// What is put in place for a tenant is what it holds then.
 pub fn own_reads_back()
@@ -14,6 +15,12 @@ pub fn others_are_untouched()
 /// What a tenant holds, put in place again, changes nothing.
 pub fn own_is_in_place()
     ensures { OwnIsInPlace }
+{}
+
+/// What the replies and the records after a line read of it is the command that it spells: so who believes the grammar
+/// need not believe the reading.
+pub fn reading_is_spelling()
+    ensures { ReadingIsSpelling }
 {}
 
 /// No line spells two commands.

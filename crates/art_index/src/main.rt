@@ -5,7 +5,6 @@
 
 mod buffered;
 mod command;
-mod digits;
 mod entries;
 mod entry;
 mod from_reader;

@@ -7,6 +7,7 @@ ghost use Rattle.art_index.specs.Replies.{found_or};
 ghost use Rattle.art_index.specs.Faults.{IsCut};
 
 use crate::stream::{Sink, WriteFailed};
+use itoa::Buffer;
 
 /// The bytes that are encoded at a time.
 const PART: usize = 64;
@@ -66,17 +67,8 @@ pub(crate) fn write_number<W: Sink>(sink: &mut W, number: u64) -> Result<(), Wri
     ensures cut { OnErr result (IsCut (W.taken sink.old) (W.taken sink.new) (decimal number)) }
     ensures failed { is_err result ≡ W.has_failed sink.new }
 {
-    let mut digits = [0; 20];
-    let mut start: usize = 20;
-    let mut rest = number;
-    while rest >= 10 {
-        start -= 1;
-        digits[start] = b'0' + (rest % 10) as u8;
-        rest /= 10;
-    }
-    start -= 1;
-    digits[start] = b'0' + rest as u8;
-    write_piece(sink, &digits[start..])
+    let mut digits = Buffer::new();
+    write_piece(sink, digits.format(number).as_bytes())
 }
 
 /// A line of a word and bytes.

@@ -253,6 +253,108 @@ fn a_failed_write_cuts_the_replies(rt: HostRuntime) {
     assert_eq!(rt; out.bytes.as_slice(), REPLIES);
 }
 
+/// Gives a line at each read but one, which fails, and tells how often it was read. It has no more than three lines.
+#[derive(Drop)]
+struct Stumbling {
+    reads: usize,
+    fault: io::ErrorKind,
+}
+
+const LINE: &[u8] = b"get 1 0a\n";
+
+impl Read for Stumbling {
+    fn read(&mut self, buf: &mut [u8]) -> io::Result<usize> {
+        self.reads = self.reads.saturating_add(1);
+        if self.reads == 2 {
+            return Err(self.fault.into());
+        }
+        if self.reads > 4 {
+            return Ok(0);
+        }
+        let n = LINE.len().min(buf.len());
+        buf[..n].copy_from_slice(&LINE[..n]);
+        Ok(n)
+    }
+}
+
+#[test]
+fn a_failed_read_is_not_tried_again(rt: HostRuntime) {
+    for fault in [io::ErrorKind::Interrupted, io::ErrorKind::WouldBlock] {
+        let mut index: Index<16> = Index::new(rt.alloc());
+        let mut reader = Stumbling { reads: 0, fault };
+        let mut out = make_kept(rt.alloc(), usize::MAX);
+        let mut source = FromReader::new(&mut reader);
+        let mut sink = ToWriter::new(&mut out);
+        assert!(rt; matches!(run(&mut index, &mut source, &mut sink), Err(RunFault::Read)));
+        assert!(rt; source.read(&mut [0; 4]).is_err());
+        assert_eq!(rt; out.bytes.as_slice(), b"none\n".as_slice());
+        assert_eq!(rt; reader.reads, 2);
+    }
+}
+
+/// Takes each piece but the second, at which it takes nothing or fails, and tells how often it was written to.
+#[derive(Drop)]
+struct Balking {
+    writes: usize,
+    fault: Option<io::ErrorKind>,
+}
+
+impl Write for Balking {
+    fn write(&mut self, piece: &[u8]) -> io::Result<usize> {
+        self.writes = self.writes.saturating_add(1);
+        if self.writes != 2 {
+            return Ok(piece.len());
+        }
+        match self.fault {
+            Some(fault) => Err(fault.into()),
+            None => Ok(0),
+        }
+    }
+
+    fn flush(&mut self) -> io::Result<()> {
+        Ok(())
+    }
+}
+
+#[test]
+fn a_failed_write_is_not_tried_again(rt: HostRuntime) {
+    for fault in [None, Some(io::ErrorKind::Interrupted)] {
+        let mut index: Index<16> = Index::new(rt.alloc());
+        let mut writer = Balking { writes: 0, fault };
+        let mut source = FromReader::new(cut_text(b"bad\nbad\nbad\n", 12));
+        let mut sink = ToWriter::new(&mut writer);
+        assert!(rt;
+            matches!(
+                run(&mut index, &mut source, &mut sink),
+                Err(RunFault::Write)
+            )
+        );
+        assert!(rt; sink.write(b"x").is_err());
+        assert_eq!(rt; writer.writes, 2);
+    }
+}
+
+#[test]
+fn reads_as_long_as_there_is_more(rt: HostRuntime) -> Result<(), Fail> {
+    let mut text = Vec::new(rt.alloc());
+    let mut wanted = Vec::new(rt.alloc());
+    for _ in 0..8000 {
+        text.extend_from_slice(LINE)?;
+        wanted.extend_from_slice(b"none\n")?;
+    }
+    let mut index: Index<16> = Index::new(rt.alloc());
+    let mut out = make_kept(rt.alloc(), usize::MAX);
+    let bytes = Pieces {
+        rest: text.as_slice(),
+        first: 1,
+        more: 1,
+        fails: false,
+    };
+    assert!(rt; run_over(&mut index, bytes, &mut out).is_ok());
+    assert!(rt; out.bytes == wanted);
+    Ok(())
+}
+
 /// What an index holds, by a dump of it.
 fn holds(rt: &impl Abort, alloc: Global, index: &mut Index<16>, wanted: &[u8]) {
     let mut out = make_kept(alloc, usize::MAX);
@@ -322,6 +424,7 @@ fn handles_a_line(rt: HostRuntime) -> Result<(), Fail> {
     laws::own_reads_back();
     laws::others_are_untouched();
     laws::own_is_in_place();
+    laws::reading_is_spelling();
     laws::spells_one_command();
     laws::full_keys_keep_order();
     laws::full_keys_keep_conflicts();
@@ -337,6 +440,7 @@ fn ends_tell_their_state(rt: HostRuntime) {
     assert_eq!(rt; source.read(&mut buf), Ok(1));
     assert_eq!(rt; source.read(&mut buf), Ok(0));
     assert!(rt; source.ended());
+    assert_eq!(rt; source.read(&mut buf), Ok(0));
     assert!(rt; !source.failed());
     let mut out = make_kept(rt.alloc(), 2);
     let mut sink = ToWriter::new(&mut out);

@@ -1,11 +1,11 @@
-use Rattle.std.proofs.Common.{Some, None}
+use Rattle.std.proofs.Common.{ap, ◌∙◌, Some}
+use Rattle.std.specs.Prelude.{option_map}
 use Rattle.art_index.specs.Parsed.{meaning}
-use Rattle.art_index.proofs.Parsing.{read_none, read_some}
 use Rattle.art_index.proofs.Spelling.{read_back}
 use Rattle.art_index.proofs.command.parse_line.Goals as goal
 
-pub returns-then-not-read_line-clause-spelled : goal.returns-then-not-read_line-clause-spelled
-returns-then-not-read_line-clause-spelled c = read_back c.args.line.now None (read_none c.read_line.result c.read_line.new.command _ c.read_line.ensures c.if-not-read_line.true)
+pub returns-in_err-word-clause-spelled : goal.returns-in_err-word-clause-spelled
+returns-in_err-word-clause-spelled c = read_back c.args.line.now (option_map meaning c.from_residual.result) (ap (option_map meaning) c.from_residual.ensures ∙ c.in_err-word.ensures)
 
 pub returns-clause-spelled : goal.returns-clause-spelled
-returns-clause-spelled c = read_back c.args.line.now (Some (meaning c.read_line.new.command)) (read_some c.read_line.result c.read_line.new.command _ c.read_line.ensures c.if-not-read_line.false)
+returns-clause-spelled c = read_back c.args.line.now (Some (meaning c.command_of_fields.result)) (ap (λ x. Some x) c.command_of_fields.ensures ∙ c.in_ok-word.ensures)

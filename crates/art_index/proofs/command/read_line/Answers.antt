@@ -1,40 +1,38 @@
-use Rattle.std.proofs.Common.{◌∙◌, ap, Some}
-use Rattle.std.specs.Str.{bytes_eq}
-use Rattle.art_index.specs.Parsed.{meaning}
-use Rattle.art_index.proofs.Parsing.{read_same, too_long, says_put, says_get, says_dump, says_nothing, nothing_behind, something_behind}
+use Rattle.std.proofs.Common.{ap, sym, ◌∙◌, Some, None}
+use Rattle.std.specs.Prelude.{option_map, option_copied}
+use Rattle.art_index.specs.InPlace.{fields_behind, IsRead}
+use Rattle.art_index.specs.Parsed.{command_with}
+use Rattle.art_index.proofs.Parsing.{command_by, too_long, says_word, says_nothing, nothing_read, read_none, read_some}
+use Rattle.art_index.proofs.Shapes.{by_key, by_key_and_value, by_nothing}
 use Rattle.art_index.proofs.command.read_line.Goals as goal
-use Rattle.art_index.proofs.command.read_line.Goals.{else-eq-3-via-then-eq-3+else-is_none, else-eq-3-via-else-eq-3}
+use Rattle.art_index.proofs.command.read_line.Goals.{in-Key, in-KeyAndValue, in-Nothing}
 
 pub returns-then-line-gt-LINE : goal.returns-then-line-gt-LINE
 returns-then-line-gt-LINE c = too_long c.args.line.now c.if-line-gt-LINE.true
 
-pub returns-then-eq : goal.returns-then-eq
-returns-then-eq c =
-    let put = c.if-eq.ensures ∙ ap (bytes_eq c.split_field.result.0.now) c.as_slice.ensures in
-    read_same c.read_put.result c.read_put.new.command _ _ c.read_put.ensures (says_put c.args.line.now c.split_field.result.0.now _ c.if-line-gt-LINE.false c.split_field.ensures.split put)
+pub returns-in_err-word : goal.returns-in_err-word
+returns-in_err-word c =
+    ap (option_map (λ w. _)) c.from_residual.ensures
+    ∙ says_nothing c.args.line.now c.split_field.result.0.now (fields_behind (option_copied c.split_field.result.1)) c.if-line-gt-LINE.false c.split_field.ensures.split c.in_err-word.ensures
 
-pub returns-then-eq-2 : goal.returns-then-eq-2
-returns-then-eq-2 c =
-    let put = c.if-eq.ensures ∙ ap (bytes_eq c.split_field.result.0.now) c.as_slice.ensures in
-    let get = c.if-eq-2.ensures ∙ ap (bytes_eq c.split_field.result.0.now) c.as_slice-2.ensures in
-    read_same c.read_get.result c.read_get.new.command _ _ c.read_get.ensures (says_get c.args.line.now c.split_field.result.0.now _ c.if-line-gt-LINE.false c.split_field.ensures.split put get)
-
-pub returns-then-is_none : goal.returns-then-is_none
-returns-then-is_none c =
-    let put = c.if-eq.ensures ∙ ap (bytes_eq c.split_field.result.0.now) c.as_slice.ensures in
-    let get = c.if-eq-2.ensures ∙ ap (bytes_eq c.split_field.result.0.now) c.as_slice-2.ensures in
-    let dump = c.if-eq-3.ensures ∙ ap (bytes_eq c.split_field.result.0.now) c.as_slice-3.ensures in
-    ap (λ x. Some (meaning x)) c.become_dump.ensures ∙ nothing_behind c.split_field.result.1 c.if-is_none.ensures ∙ says_dump c.args.line.now c.split_field.result.0.now _ c.if-line-gt-LINE.false c.split_field.ensures.split put get dump
+pub returns-then-not-is_read : goal.returns-then-not-is_read
+returns-then-not-is_read c =
+    let rest = fields_behind (option_copied c.split_field.result.1) in
+    let read : IsRead c.match-shape.is_read (command_with c.in_ok-word.word c.match-shape.fields) (command_by c.in_ok-word.word rest) = elim c.match-shape.branch [
+      | in-Key w ↦ rw (w.is_read-is, w.fields-is) (by_key _ _ rest c.in_ok-word.word (sym c.shape.ensures ∙ w.in-Key.is) w.read_key-is_read.ensures)
+      | in-KeyAndValue w ↦ rw (w.is_read-is, w.fields-is) (by_key_and_value _ _ rest c.in_ok-word.word (sym c.shape.ensures ∙ w.in-KeyAndValue.is) w.read_key_and_value-is_read.ensures)
+      | in-Nothing w ↦ rw (w.is_read-is, w.fields-is) (by_nothing _ _ rest c.in_ok-word.word (sym c.shape.ensures ∙ w.in-Nothing.is) (nothing_read c.split_field.result.1 w.is_none-is_read.result w.is_none-is_read.ensures))
+    ] in
+    read_none c.match-shape.is_read _ _ read c.if-not-is_read.true
+    ∙ says_word c.args.line.now c.split_field.result.0.now rest c.if-line-gt-LINE.false c.split_field.ensures.split c.in_ok-word.word c.in_ok-word.ensures
 
 pub returns : goal.returns
 returns c =
-    let put = c.if-eq.ensures ∙ ap (bytes_eq c.split_field.result.0.now) c.as_slice.ensures in
-    let get = c.if-eq-2.ensures ∙ ap (bytes_eq c.split_field.result.0.now) c.as_slice-2.ensures in
-    elim c.else-eq-3.branch [
-      | else-eq-3-via-then-eq-3+else-is_none w ↦
-          let dump = w.if-eq-3.ensures ∙ ap (bytes_eq c.split_field.result.0.now) c.as_slice-3.ensures in
-          something_behind c.split_field.result.1 w.if-is_none.ensures ∙ says_dump c.args.line.now c.split_field.result.0.now _ c.if-line-gt-LINE.false c.split_field.ensures.split put get dump
-      | else-eq-3-via-else-eq-3 w ↦
-          let dump = w.if-eq-3.ensures ∙ ap (bytes_eq c.split_field.result.0.now) c.as_slice-3.ensures in
-          says_nothing c.args.line.now c.split_field.result.0.now _ c.if-line-gt-LINE.false c.split_field.ensures.split put get dump
-    ]
+    let rest = fields_behind (option_copied c.split_field.result.1) in
+    let read : IsRead c.match-shape.is_read (command_with c.in_ok-word.word c.match-shape.fields) (command_by c.in_ok-word.word rest) = elim c.match-shape.branch [
+      | in-Key w ↦ rw (w.is_read-is, w.fields-is) (by_key _ _ rest c.in_ok-word.word (sym c.shape.ensures ∙ w.in-Key.is) w.read_key-is_read.ensures)
+      | in-KeyAndValue w ↦ rw (w.is_read-is, w.fields-is) (by_key_and_value _ _ rest c.in_ok-word.word (sym c.shape.ensures ∙ w.in-KeyAndValue.is) w.read_key_and_value-is_read.ensures)
+      | in-Nothing w ↦ rw (w.is_read-is, w.fields-is) (by_nothing _ _ rest c.in_ok-word.word (sym c.shape.ensures ∙ w.in-Nothing.is) (nothing_read c.split_field.result.1 w.is_none-is_read.result w.is_none-is_read.ensures))
+    ] in
+    read_some c.match-shape.is_read _ _ read c.if-not-is_read.false
+    ∙ says_word c.args.line.now c.split_field.result.0.now rest c.if-line-gt-LINE.false c.split_field.ensures.split c.in_ok-word.word c.in_ok-word.ensures

@@ -1,0 +1,156 @@
+-- What is read in place is what stands behind a word, by its shape.
+use Rattle.std.proofs.Common.{◌≡◌, ℕ, List, [], ◌∷◌, refl, ap, sym, ◌∙◌, true, false, Bool, Some, None, Option, inl, inr}
+use Rattle.std.specs.Prelude.{option_copied, option_map, option_and_then}
+use Rattle.std.specs.Borrow.{Bor}
+use Rattle.art_index.specs.declared.command.fields.Fields.{Fields}
+use Rattle.art_index.specs.declared.command.word.Word.{Word}
+use Rattle.art_index.specs.declared.command.word.Word.TheVariants.{LookUp, Change, Whole}
+use Rattle.art_index.specs.declared.command.word.LookUp.{LookUp as LookUpWord}
+use Rattle.art_index.specs.declared.command.word.Change.{Change as ChangeWord}
+use Rattle.art_index.specs.declared.command.word.Whole.{Whole as WholeWord}
+use Rattle.art_index.specs.declared.command.word.LookUp.TheVariants as look_up
+use Rattle.art_index.specs.declared.command.word.Change.TheVariants as change
+use Rattle.art_index.specs.declared.command.word.Whole.TheVariants as whole
+use Rattle.art_index.specs.declared.command.word.Shape.TheVariants.{Key, KeyAndValue, Nothing}
+use Rattle.art_index.specs.Commands.{put, get, Command, of_tenant, dump, fields_of}
+use Rattle.art_index.specs.Reading.{tenant_in, bytes_in, key_in, key_and_value_in, nothing_in, ◌>>=◌}
+use Rattle.art_index.specs.InPlace.{fields_behind, IsRead}
+use Rattle.art_index.specs.Parsed.{tenant_of, key_of, shape_of, command_with}
+use Rattle.art_index.proofs.LastField.{one_or_more, no_bytes}
+use Rattle.art_index.proofs.Parsing.{command_by}
+
+-- the parts of each shape, from those of its fields
+abbrev pub key_from : Option ℕ → Option (List ℕ) → Option (ℕ × List ℕ)
+key_from o p = do
+  tenant ← o
+  key ← p
+  Some (tenant, key)
+
+abbrev pub key_and_value_from : Option ℕ → Option (List ℕ) → Option (List ℕ) → Option (ℕ × List ℕ × List ℕ)
+key_and_value_from o p q = do
+  tenant ← o
+  key ← p
+  value ← q
+  Some (tenant, key, value)
+
+-- the last field may be all that stands behind the one before
+key_last : (t k : List ℕ) → key_in (t ∷ k ∷ []) ≡ key_in (t ∷ fields_of k)
+key_last t k = elim (one_or_more k) [
+  | inl one ↦ ap (λ l. key_in (t ∷ l)) (sym one)
+  | inr more ↦ nothing (tenant_in t) (bytes_in k) (no_bytes k more.0 more.1 more.2 more.3) ∙ ap (λ l. key_in (t ∷ l)) (sym more.3)
+]
+  where
+    nothing : (o : Option ℕ) (p : Option (List ℕ)) → p ≡ None → key_from o p ≡ None
+    nothing None p h = refl
+    nothing (Some n) p h = rw h refl
+
+key_and_value_last : (t k v : List ℕ) → key_and_value_in (t ∷ k ∷ v ∷ []) ≡ key_and_value_in (t ∷ k ∷ fields_of v)
+key_and_value_last t k v = elim (one_or_more v) [
+  | inl one ↦ ap (λ l. key_and_value_in (t ∷ k ∷ l)) (sym one)
+  | inr more ↦ nothing (tenant_in t) (bytes_in k) (bytes_in v) (no_bytes v more.0 more.1 more.2 more.3) ∙ ap (λ l. key_and_value_in (t ∷ k ∷ l)) (sym more.3)
+]
+  where
+    nothing : (o : Option ℕ) (p q : Option (List ℕ)) → q ≡ None → key_and_value_from o p q ≡ None
+    nothing None p q h = refl
+    nothing (Some n) None q h = refl
+    nothing (Some n) (Some bs) q h = rw h refl
+
+module _ (r r1 : Option (Bor (List ℕ))) (x y : Bor (List ℕ)) (t : List ℕ) (is : r ≡ Some x) (first : fields_of x.now ≡ t ∷ fields_behind (option_copied r1)) (is1 : r1 ≡ Some y) where
+  parted : fields_behind (option_copied r) ≡ t ∷ fields_of y.now
+  parted = ap (λ o. fields_behind (option_copied o)) is ∙ first ∙ ap (λ o. t ∷ fields_behind (option_copied o)) is1
+
+  -- a key, from its two fields, where the tenant stays as it is while the key is read
+  key_fields : key_in (t ∷ y.now ∷ []) ≡ key_in (fields_behind (option_copied r))
+  key_fields = key_last t y.now ∙ ap key_in (sym parted)
+
+  pub key_not_read : (b : Bool) (n : ℕ) → IsRead b n (tenant_in t) → b ≡ false → None ≡ key_in (fields_behind (option_copied r))
+  key_not_read b n h e = go b (tenant_in t) h e ∙ key_fields
+    where
+      go : (b : Bool) (o : Option ℕ) → IsRead b n o → b ≡ false → None ≡ key_from o (bytes_in y.now)
+      go b None h e = refl
+      go true (Some m) h e = cc
+      go false (Some m) h e = cc
+
+  pub key_read : (b d : Bool) (n m : ℕ) (k : List ℕ) → IsRead b n (tenant_in t) → b ≡ true → m ≡ n → IsRead d k (bytes_in y.now)
+      → IsRead d (m, k) (key_in (fields_behind (option_copied r)))
+  key_read b d n m k h e same last = rw (← key_fields) (go b d (tenant_in t) (bytes_in y.now) h e last)
+    where
+      go : (b d : Bool) (o : Option ℕ) (p : Option (List ℕ)) → IsRead b n o → b ≡ true → IsRead d k p → IsRead d (m, k) (key_from o p)
+      go false d o p h e last = cc
+      go true d None p h e last = cc
+      go true true (Some i) None h e last = cc
+      go true false (Some i) None h e last = refl
+      go true true (Some i) (Some j) h e last = let one : m ≡ i = cc in let two : k ≡ j = cc in rw (one, two) refl
+      go true false (Some i) (Some j) h e last = cc
+
+  -- a key and a value, from three fields
+  module _ (r2 : Option (Bor (List ℕ))) (z : Bor (List ℕ)) (k : List ℕ) (second : fields_of y.now ≡ k ∷ fields_behind (option_copied r2)) (is2 : r2 ≡ Some z) where
+    key_and_value_fields : key_and_value_in (t ∷ k ∷ z.now ∷ []) ≡ key_and_value_in (fields_behind (option_copied r))
+    key_and_value_fields =
+        let two : fields_of y.now ≡ k ∷ fields_of z.now = second ∙ ap (λ o. k ∷ fields_behind (option_copied o)) is2 in
+        key_and_value_last t k z.now ∙ ap key_and_value_in (sym (parted ∙ ap (λ l. t ∷ l) two))
+
+    pub tenant_not_read : (b : Bool) (n : ℕ) → IsRead b n (tenant_in t) → b ≡ false → None ≡ key_and_value_in (fields_behind (option_copied r))
+    tenant_not_read b n h e = go b (tenant_in t) h e ∙ key_and_value_fields
+      where
+        go : (b : Bool) (o : Option ℕ) → IsRead b n o → b ≡ false → None ≡ key_and_value_from o (bytes_in k) (bytes_in z.now)
+        go b None h e = refl
+        go true (Some m) h e = cc
+        go false (Some m) h e = cc
+
+    pub middle_not_read : (b : Bool) (bs : List ℕ) → IsRead b bs (bytes_in k) → b ≡ false → None ≡ key_and_value_in (fields_behind (option_copied r))
+    middle_not_read b bs h e = go b (tenant_in t) (bytes_in k) h e ∙ key_and_value_fields
+      where
+        go : (b : Bool) (o : Option ℕ) (p : Option (List ℕ)) → IsRead b bs p → b ≡ false → None ≡ key_and_value_from o p (bytes_in z.now)
+        go b None p h e = refl
+        go b (Some n) None h e = refl
+        go true (Some n) (Some m) h e = cc
+        go false (Some n) (Some m) h e = cc
+
+    pub key_and_value_read : (a b d : Bool) (n m : ℕ) (key old v : List ℕ) → IsRead a n (tenant_in t) → a ≡ true → IsRead b old (bytes_in k) → b ≡ true
+        → m ≡ n → key ≡ old → IsRead d v (bytes_in z.now) → IsRead d (m, key, v) (key_and_value_in (fields_behind (option_copied r)))
+    key_and_value_read a b d n m key old v h e i f same kept last = rw (← key_and_value_fields) (go a b d (tenant_in t) (bytes_in k) (bytes_in z.now) h e i f last)
+      where
+        go : (a b d : Bool) (o : Option ℕ) (p q : Option (List ℕ)) → IsRead a n o → a ≡ true → IsRead b old p → b ≡ true → IsRead d v q
+            → IsRead d (m, key, v) (key_and_value_from o p q)
+        go false b d o p q h e i f last = cc
+        go true false d o p q h e i f last = cc
+        go true true d None p q h e i f last = cc
+        go true true d (Some x) None q h e i f last = cc
+        go true true true (Some x) (Some y) None h e i f last = cc
+        go true true false (Some x) (Some y) None h e i f last = refl
+        go true true true (Some x) (Some y) (Some z) h e i f last = let one : m ≡ x = cc in let two : key ≡ y = cc in let three : v ≡ z = cc in rw (one, two, three) refl
+        go true true false (Some x) (Some y) (Some z) h e i f last = cc
+
+-- so the word's command is read, by the word's shape
+made : {A : Type 0} (b : Bool) (x : A) (o : Option A) (make : A → Command) → IsRead b x o → IsRead b (make x) (option_map make o)
+made true x o make h = ap (option_map make) h
+made false x o make h = ap (option_map make) h
+
+-- a family of one word is that word
+module _ (f : Fields) where
+  pub is_get : (w : LookUpWord) → of_tenant (tenant_of f) (get (key_of f)) ≡ command_with (LookUp w) f
+  is_get look_up.Get = refl
+
+  pub is_put : (w : ChangeWord) → of_tenant (tenant_of f) (put (key_of f) f.value.items) ≡ command_with (Change w) f
+  is_put change.Put = refl
+
+  pub is_dump : (w : WholeWord) → dump ≡ command_with (Whole w) f
+  is_dump whole.Dump = refl
+
+module _ (f : Fields) (b : Bool) (rest : List (List ℕ)) where
+  pub by_key : (w : Word) → shape_of w ≡ Key → IsRead b (tenant_of f, key_of f) (key_in rest) → IsRead b (command_with w f) (command_by w rest)
+  by_key (LookUp look_up.Get) e h = made b (tenant_of f, key_of f) (key_in rest) (λ p. of_tenant p.0 (get p.1)) h
+  by_key (Change change.Put) e h = cc
+  by_key (Whole whole.Dump) e h = cc
+
+  pub by_key_and_value : (w : Word) → shape_of w ≡ KeyAndValue → IsRead b (tenant_of f, key_of f, f.value.items) (key_and_value_in rest)
+      → IsRead b (command_with w f) (command_by w rest)
+  by_key_and_value (LookUp look_up.Get) e h = cc
+  by_key_and_value (Change change.Put) e h = made b (tenant_of f, key_of f, f.value.items) (key_and_value_in rest) (λ p. of_tenant p.0 (put p.1 p.2)) h
+  by_key_and_value (Whole whole.Dump) e h = cc
+
+  pub by_nothing : (w : Word) → shape_of w ≡ Nothing → IsRead b tt (nothing_in rest) → IsRead b (command_with w f) (command_by w rest)
+  by_nothing (LookUp look_up.Get) e h = cc
+  by_nothing (Change change.Put) e h = cc
+  by_nothing (Whole whole.Dump) e h = made b tt (nothing_in rest) (λ p. dump) h

@@ -1,0 +1,163 @@
+//! The fields of a line: a tenant, and bytes, read in place of what was there.
+//!
+//! A signed number is to be read here too, beside the tenant: into a field `number: i64`, by the same loop over digits behind
+//! a `-`; and the second of two bounds into the room of a value.
+ghost use Rattle.std.specs.Prelude.{◌≡◌, ◌+◌, ◌/◌, ◌<◌, ◌≤◌, length, take, drop, IsSome, true};
+ghost use Rattle.std.specs.Int.{from_be_bytes, w32};
+ghost use Rattle.art_index.specs.Keys.{full_key as full_key_of};
+ghost use Rattle.art_index.specs.Reading.{tenant_in, bytes_in};
+ghost use Rattle.art_index.specs.InPlace.{IsRead};
+
+use crate::command::digits::decode_digits;
+use arrayvec::ArrayVec;
+
+/// The bytes of a tenant, which stand before those of its keys.
+const FRONT: usize = 4;
+
+/// What stands behind a word. Fields are decoded where they stay, and each keeps what it had until the next of its kind is
+/// read. A key stands behind the four bytes of its tenant, the highest first, so that the full key is there without a copy.
+#[derive(Drop)]
+pub(crate) struct Fields {
+    full_key: ArrayVec<u8, 2049>,
+    value: ArrayVec<u8, 2045>,
+    ghost front: { 4 ≤ length full_key.items },
+}
+
+impl Fields {
+    ghost use Rattle.art_index.specs.Parsed.{tenant_of, key_of};
+
+    /// Room for fields. What stands in it does not matter.
+    pub(crate) fn new() -> Fields {
+        let mut full_key = ArrayVec::new();
+        let _ = full_key.try_extend_from_slice(&[0; FRONT]);
+        Fields {
+            full_key,
+            value: ArrayVec::new(),
+        }
+    }
+
+    pub(crate) fn tenant(&self) -> u32
+        ensures { result ≡ tenant_of self.now }
+    {
+        let full = self.full_key.as_slice();
+        u32::from_be_bytes([full[0], full[1], full[2], full[3]])
+    }
+
+    pub(crate) fn key(&self) -> &[u8]
+        ensures value { result.now ≡ key_of self.now }
+        ensures short { length result.now ≤ 2045 }
+    {
+        &self.full_key.as_slice()[FRONT..]
+    }
+
+    /// The tenant's four bytes, and then the key.
+    pub(crate) fn full_key(&self) -> &[u8]
+        ensures { result.now ≡ full_key_of (tenant_of self.now) (key_of self.now) }
+    {
+        split_of(self.full_key.as_slice())
+    }
+
+    pub(crate) fn value(&self) -> &[u8]
+        ensures value { result.now ≡ self.now.value.items }
+        ensures short { length result.now ≤ 2045 }
+    {
+        self.value.as_slice()
+    }
+
+    /// Reads the tenant: false where the field is read as none.
+    pub(crate) fn read_tenant(&mut self, field: &[u8]) -> bool
+        ensures read { IsRead result (tenant_of self.new) (tenant_in field.now) }
+        ensures some { result ≡ true → 0 < length field.now }
+    {
+        let Some(tenant) = parse_tenant(field) else {
+            return false;
+        };
+        let front = tenant.to_be_bytes();
+        let full = self.full_key.as_mut_slice();
+        full[0] = front[0];
+        full[1] = front[1];
+        full[2] = front[2];
+        full[3] = front[3];
+        true
+    }
+
+    /// Reads the key, behind the tenant that is there: false where the field is read as no bytes.
+    pub(crate) fn read_key(&mut self, field: &[u8]) -> bool
+        requires { length field.now ≤ 4090 }
+        ensures read { IsRead result (key_of self.new) (bytes_in field.now) }
+        ensures tenant { tenant_of self.new ≡ tenant_of self.old }
+    {
+        decode_bytes(field, &mut self.full_key, FRONT)
+    }
+
+    /// Reads the value: false where the field is read as no bytes.
+    pub(crate) fn read_value(&mut self, field: &[u8]) -> bool
+        requires { length field.now ≤ 4090 }
+        ensures read { IsRead result self.new.value.items (bytes_in field.now) }
+        ensures tenant { tenant_of self.new ≡ tenant_of self.old }
+        ensures key { key_of self.new ≡ key_of self.old }
+    {
+        decode_bytes(field, &mut self.value, 0)
+    }
+}
+
+/// A law, which does nothing: bytes are the full key of the tenant that stands at their front, and of the key behind it.
+fn split_of(full: &[u8]) -> &[u8]
+    requires { 4 ≤ length full.now }
+    ensures same { result.now ≡ full.now }
+    ensures split { result.now ≡ full_key_of (from_be_bytes w32 (take 4 full.now)) (drop 4 full.now) }
+{
+    full
+}
+
+/// The tenant that the field is read as.
+fn parse_tenant(field: &[u8]) -> Option<u32>
+    ensures tenant { result ≡ tenant_in field.now }
+    ensures some { IsSome result → 0 < length field.now }
+{
+    if field.is_empty() {
+        return None;
+    }
+    if field.len() > 10 {
+        return None;
+    }
+    if field.len() > 1 && field[0] == b'0' {
+        return None; // `01`
+    }
+    let mut number: u64 = 0;
+    for digit in field {
+        if !digit.is_ascii_digit() {
+            return None;
+        }
+        number = number * 10 + u64::from(*digit - b'0');
+    }
+    u32::try_from(number).ok()
+}
+
+/// Decodes the bytes that the field is read as, in place of what was there behind some at the front, which stay: false where
+/// the field is read as no bytes.
+fn decode_bytes<const N: usize>(field: &[u8], bytes: &mut ArrayVec<u8, N>, front: usize) -> bool
+    requires front_in { front ≤ length bytes.old.items }
+    requires fits { front + length field.now / 2 ≤ N }
+    ensures read { IsRead result (drop front bytes.new.items) (bytes_in field.now) }
+    ensures kept { take front bytes.new.items ≡ take front bytes.old.items }
+    ensures front_in { front ≤ length bytes.new.items }
+{
+    if field == b"-".as_slice() {
+        bytes.truncate(front);
+        return true;
+    }
+    let len = field.len() / 2;
+    if len == 0 {
+        return false;
+    }
+    if field.len() % 2 != 0 {
+        return false;
+    }
+    // As many bytes as are decoded; what they are does not matter, since they are decoded over. Where the field before
+    // had as many, nothing is moved.
+    bytes.truncate(front + len);
+    let more = front + len - bytes.len();
+    let _ = bytes.try_extend_from_slice(&field[..more]);
+    decode_digits(field, &mut bytes.as_mut_slice()[front..])
+}

@@ -1,0 +1,69 @@
+//! What stands behind a word, by its shape: a reader in place for each.
+//!
+//! Two bounds are to be read as a key and a value are; a number, a number and a value and two numbers as the readers here
+//! do, with a signed number in the place of a key; a tenant alone by the first step of each.
+ghost use Rattle.std.specs.Prelude.{◌≡◌, ◌+◌, ◌≤◌, ◌∷◌, length, IfSome, IfNone, option_copied};
+ghost use Rattle.art_index.specs.Commands.{fields_of};
+ghost use Rattle.art_index.specs.Reading.{key_in, key_and_value_in};
+ghost use Rattle.art_index.specs.InPlace.{fields_behind, IsRead};
+ghost use Rattle.art_index.specs.Parsed.{tenant_of, key_of};
+
+use crate::command::fields::Fields;
+use memchr::memchr;
+
+/// Reads a tenant and a key. The key is not looked through for a space, which is no digit.
+pub(crate) fn read_key(rest: Option<&[u8]>, fields: &mut Fields) -> bool
+    requires { IfSome rest (λ text. length text.now ≤ 4092) }
+    ensures { IsRead result (tenant_of fields.new, key_of fields.new)
+        (key_in (fields_behind (option_copied rest.entry))) }
+{
+    let Some(text) = rest else {
+        return false;
+    };
+    let (tenant, rest) = split_field(text);
+    let Some(key) = rest else {
+        return false;
+    };
+    if !fields.read_tenant(tenant) {
+        return false;
+    }
+    fields.read_key(key)
+}
+
+/// Reads a tenant, a key and a value. The value is not looked through for a space, which is no digit.
+pub(crate) fn read_key_and_value(rest: Option<&[u8]>, fields: &mut Fields) -> bool
+    requires { IfSome rest (λ text. length text.now ≤ 4092) }
+    ensures { IsRead result (tenant_of fields.new, key_of fields.new, fields.new.value.items)
+        (key_and_value_in (fields_behind (option_copied rest.entry))) }
+{
+    let Some(text) = rest else {
+        return false;
+    };
+    let (tenant, rest) = split_field(text);
+    let Some(text) = rest else {
+        return false;
+    };
+    let (key, rest) = split_field(text);
+    let Some(value) = rest else {
+        return false;
+    };
+    if !fields.read_tenant(tenant) {
+        return false;
+    }
+    if !fields.read_key(key) {
+        return false;
+    }
+    fields.read_value(value)
+}
+
+/// The field before the first space, and what stands behind that space.
+pub(crate) fn split_field(line: &[u8]) -> (&[u8], Option<&[u8]>)
+    ensures split { fields_of line.now ≡ result.0.now ∷ fields_behind (option_copied result.1) }
+    ensures shorter { IfSome result.1 (λ rest. length result.0.now + 1 + length rest.now ≡ length line.now) }
+    ensures whole { IfNone result.1 (result.0.now ≡ line.now) }
+{
+    match memchr(b' ', line) {
+        Some(i) => (&line[..i], Some(&line[i + 1..])),
+        None => (line, None),
+    }
+}

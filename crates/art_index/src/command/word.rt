@@ -1,0 +1,75 @@
+//! The words that a line may begin with, the family of each, and what stands behind it. Every other word makes a line bad.
+//!
+//! A later word is a variant of its family, a line of `word_of` and a line of `shape`, and in the definitions an equation of
+//! `word_in`, `shape_of` and `command_with`.
+ghost use Rattle.std.specs.Prelude.{◌≡◌};
+ghost use Rattle.art_index.specs.Parsed.{word_in, shape_of};
+
+/// A word that asks for something of a tenant's records and changes nothing.
+#[derive(Clone, Copy)]
+pub(crate) enum LookUp {
+    /// `get t k`
+    Get,
+}
+
+/// A word that changes a tenant's records.
+#[derive(Clone, Copy)]
+pub(crate) enum Change {
+    /// `put t k v`
+    Put,
+}
+
+/// A word that asks for something of all records.
+#[derive(Clone, Copy)]
+pub(crate) enum Whole {
+    /// `dump`
+    Dump,
+}
+
+/// A word, by its family.
+#[derive(Clone, Copy)]
+pub(crate) enum Word {
+    LookUp(LookUp),
+    Change(Change),
+    Whole(Whole),
+}
+
+/// What stands behind a word. `shapes` has a reader in place for each.
+#[derive(Clone, Copy)]
+pub(crate) enum Shape {
+    /// A tenant and a key: `get`, and later `find` and `del`; a prefix, of `list`, is read as a key.
+    Key,
+    /// A tenant, a key and a value: `put`, and later `over`.
+    KeyAndValue,
+    /// Nothing: `dump`, and later `audit`.
+    Nothing,
+}
+
+impl Word {
+    /// What stands behind the word.
+    pub(crate) fn shape(self) -> Shape
+        ensures { result ≡ shape_of self }
+    {
+        match self {
+            Word::LookUp(LookUp::Get) => Shape::Key,
+            Word::Change(Change::Put) => Shape::KeyAndValue,
+            Word::Whole(Whole::Dump) => Shape::Nothing,
+        }
+    }
+}
+
+/// The word that a field is, by its letters, which are lower case.
+pub(crate) fn word_of(field: &[u8]) -> Option<Word>
+    ensures { result ≡ word_in field.now }
+{
+    if field == b"put".as_slice() {
+        return Some(Word::Change(Change::Put));
+    }
+    if field == b"get".as_slice() {
+        return Some(Word::LookUp(LookUp::Get));
+    }
+    if field == b"dump".as_slice() {
+        return Some(Word::Whole(Whole::Dump));
+    }
+    None
+}
