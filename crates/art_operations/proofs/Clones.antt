@@ -7,8 +7,9 @@ use Rattle.art_arena.specs.Changes.{IsIn, is_before, put}
 use Rattle.art_arena.specs.Shapes.{key_of}
 use Rattle.art_arena.specs.Shrinks.{Shrinks}
 use Rattle.art_arena.proofs.Paths.{in_map}
-use Rattle.art_operations.specs.Commands.{with_key, without_key, IsStored, IsBlocked, IsAnswered, after}
-use Rattle.art_operations.specs.Runs.{AreClones, HasPairs, HasClones, IsDone}
+use Rattle.art_operations.specs.Commands.{with_key, without_key, HasKey, IsBlocked, IsAnswered, after}
+use Rattle.art_operations.specs.Runs.{AreClones, HasPairs}
+use Rattle.art_operations.specs.inner.Runs.{HasClones, IsDone}
 use Rattle.art_operations.specs.declared.running.Answer.{Answer}
 use Rattle.art_operations.specs.declared.running.Answer.TheVariants.{Done, Prefix, Memory}
 use Rattle.art_operations.specs.declared.running.Change.{Change}
@@ -27,7 +28,7 @@ module _ {X : Type 0} (key : X → List ℕ) (xs ys : List X) (same : map key xs
   blocked_other : (k : List ℕ) → IsBlocked key k xs → IsBlocked key k ys
   blocked_other k (x, i, c) = let other = in_other x i in (other.0, other.1, rw other.2 c)
 
-  stored_other : (k : List ℕ) → IsStored key k xs → IsStored key k ys
+  stored_other : (k : List ℕ) → HasKey key k xs → HasKey key k ys
   stored_other k (x, i, e) = let other = in_other x i in (other.0, other.1, other.2 ∙ e)
 
   shrinks_other : (k : List ℕ) → Shrinks key xs k → Shrinks key ys k

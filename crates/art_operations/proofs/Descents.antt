@@ -20,7 +20,7 @@ use Rattle.art_arena.specs.Meaning.{IsSubtree}
 use Rattle.art_operations.specs.declared.lookup.PrefixMatchBehavior.{PrefixMatchBehavior}
 use Rattle.art_operations.specs.declared.lookup.PrefixMatchBehavior.TheVariants.{Pessimistic}
 use Rattle.art_operations.specs.Lookups.{passing}
-use Rattle.art_operations.specs.Descents.{GoesOn, Ends, TakesFronts, LandsAt}
+use Rattle.art_operations.specs.inner.Descents.{GoesOn, Ends, TakesFronts, LandsAt}
 use Rattle.art_arena.proofs.Prefixes.{drop-front}
 use Rattle.art_arena.proofs.Subtrees.{subtree-branch}
 

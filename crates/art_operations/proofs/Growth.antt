@@ -14,8 +14,8 @@ use Rattle.art_arena.proofs.Order.{all_right}
 use Rattle.art_arena.proofs.CellLists.{Holds-add, Holds-remove}
 use Rattle.art_arena.proofs.Subtrees.{inner_of}
 use Rattle.art_arena.proofs.Updates.{nodes-update, links-kept}
-use Rattle.art_operations.specs.Edits.{StandsAround}
-use Rattle.art_operations.specs.Growth.{AwaitsLeaf}
+use Rattle.art_operations.specs.inner.Edits.{StandsAround}
+use Rattle.art_operations.specs.inner.Waiting.{AwaitsLeaf}
 use Rattle.art_operations.proofs.NewLeaves.{beside-same}
 use Rattle.art_operations.proofs.Waiting.{open_node, inner-kind, node-inner}
 

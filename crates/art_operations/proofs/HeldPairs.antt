@@ -26,7 +26,8 @@ use Rattle.art_operations.specs.declared.delete.result.DeleteResult.{DeleteResul
 use Rattle.art_operations.specs.declared.insert.point.InsertPoint.{InsertPoint}
 use Rattle.art_operations.specs.declared.insert.result.InsertResult.{InsertResult}
 use Rattle.art_operations.specs.Commands.{IsAnswered, IsBlocked}
-use Rattle.art_operations.specs.Runs.{HasPairs, HoldsTreeOf, IsDone, CanInsert}
+use Rattle.art_operations.specs.Runs.{HasPairs, HoldsTreeOf}
+use Rattle.art_operations.specs.inner.Runs.{IsDone, CanInsert}
 use Rattle.art_operations.specs.declared.running.Answer.TheVariants.{Done, Memory}
 use Rattle.art_operations.specs.declared.running.Command.TheVariants.{Insert, Delete}
 use Rattle.art_operations.proofs.KeyedLists.{nothing_taken}

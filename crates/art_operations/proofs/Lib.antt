@@ -11,8 +11,8 @@ pub mod Waiting
 pub mod Growth
 pub mod IntoExisting
 pub mod NewLeaves
-pub mod Forks
-pub mod ForkedTrees
+pub mod Splits
+pub mod SplitTrees
 pub mod Results
 pub mod PutBack
 pub mod JoinedPrefixes

@@ -12,7 +12,7 @@ use Rattle.art_arena.proofs.Tenants.{begins_true}
 use Rattle.art_operations.specs.declared.lookup.PrefixMatchBehavior.{PrefixMatchBehavior}
 use Rattle.art_operations.specs.declared.lookup.PrefixMatchBehavior.TheVariants.{Pessimistic, Optimistic}
 use Rattle.art_operations.specs.Lookups.{seen_by, passing, leaf_where}
-use Rattle.art_operations.specs.Descents.{TakesFronts, LandsAt}
+use Rattle.art_operations.specs.inner.Descents.{TakesFronts, LandsAt}
 
 -- the two tests of a look-up let fronts of the key pass alone
 

@@ -22,7 +22,7 @@ use Rattle.art_arena.proofs.Finding.{pairs-with_key, pair_at}
 use Rattle.art_arena.proofs.Insert.{in_right}
 use Rattle.art_arena.proofs.Contexts.{leaves-plug}
 use Rattle.art_arena.proofs.Paths.{in_cases, in_map}
-use Rattle.art_operations.specs.Insertions.{IsReplaced, IsStored}
+use Rattle.art_operations.specs.Insertions.{IsReplaced, IsPutOrReplaced}
 use Rattle.art_operations.specs.Points.{HasConflict}
 use Rattle.art_operations.specs.Commands.{with_key, IsBlocked}
 use Rattle.art_operations.proofs.KeyedLists.{IsPut, IsTaken, put_new, put_replaced, taken}
@@ -55,7 +55,7 @@ module _ {K V : Type 0} (bytes : K → List ℕ) where
       rw (new_is, old_is) (put_replaced (key_of bytes) (pair_of l) (pairs_of front) (pair_of was) (pairs_of back) same (subst (IsAscending (key_of bytes)) new_is h))
 
   -- an insertion does the one or the other, and counts the leaf whose place was taken
-  pub stored_pair : (l : LeafAt K V) (was : Option (LeafNode K V)) (old new : List (LeafAt K V)) → IsAscending (key_of bytes) (pairs_of new) → IsStored bytes l was old new
+  pub stored_pair : (l : LeafAt K V) (was : Option (LeafNode K V)) (old new : List (LeafAt K V)) → IsAscending (key_of bytes) (pairs_of new) → IsPutOrReplaced bytes l was old new
       → IsPut (key_of bytes) (pair_of l) (pairs_of old) (pairs_of new) (cond (is_some was) 1 0)
   stored_pair l None old new h stored = new_pair l old new h stored
   stored_pair l (Some was) old new h stored = replaced_pair l (record { slot = l.slot; key = was.key; value = was.value }) old new stored.0 h stored.1

@@ -1,14 +1,10 @@
+pub mod Stores
 pub mod Lookups
-pub mod Descents
 pub mod Meetings
 pub mod Points
 pub mod DeletePoints
-pub mod Edits
-pub mod Forks
 pub mod Insertions
 pub mod Deletions
-pub mod Growth
-pub mod Removals
-pub mod Detached
 pub mod Commands
 pub mod Runs
+pub mod inner

@@ -1,5 +1,11 @@
 -- What a look-up answers.
-use Rattle.std.specs.Prelude.{◌≡◌, ℕ, ◌+◌, ◌-◌, ◌^◌, ◌≤◌, Bool, true, false, nat_le, min, List, length, drop, filter, Option, None, if◌then◌else◌}
+use Rattle.std.specs.Prelude.{◌≡◌, ℕ, ◌+◌, ◌-◌, ◌^◌, ◌<◌, ◌≤◌, Bool, true, false, nat_le, min, List, length, drop}
+use Rattle.std.specs.Prelude.{filter, Option, None, Ok, Err, if◌then◌else◌}
+use Rattle.std.specs.declared.result.Result.{Result}
+use Rattle.art_nodes.specs.Header.{Header}
+use Rattle.art_nodes.specs.PrefixMatch.{agreeing}
+use Rattle.art_nodes.specs.declared.prefix_match.PrefixMatch.{PrefixMatch}
+use Rattle.art_nodes.specs.declared.prefix_match.PessimisticMismatch.{PessimisticMismatch}
 use Rattle.art_arena.specs.Paths.{path_of}
 use Rattle.art_arena.specs.Shapes.{Shape, LeafAt, erase}
 use Rattle.art_arena.specs.Linked.{first_slot}
@@ -10,6 +16,20 @@ use Rattle.art_operations.specs.declared.lookup.PrefixMatchBehavior.TheVariants.
 abbrev pub behavior_after : ℕ → PrefixMatchBehavior → ℕ → PrefixMatchBehavior
 behavior_after P Optimistic len = Optimistic
 behavior_after P Pessimistic len = if nat_le len P then Pessimistic else Optimistic
+
+-- A prefix is compared with the rest of a key byte by byte. All its bytes agree, or so many do, fewer than it has.
+abbrev pub IsMatchedByBytes : Header → List ℕ → Result PrefixMatch PessimisticMismatch → Type 0
+IsMatchedByBytes header rest (Ok matched) =
+    (matched.matched_bytes ≡ header.prefix_len) × (agreeing header.stored rest ≡ header.prefix_len)
+IsMatchedByBytes header rest (Err mismatch) =
+    (mismatch.matched_bytes ≡ agreeing header.stored rest) × (mismatch.matched_bytes < header.prefix_len)
+
+-- It is compared by its length alone. The rest has as many bytes, or it has fewer, which all count.
+abbrev pub IsMatchedByLength : Header → List ℕ → Result PrefixMatch PessimisticMismatch → Type 0
+IsMatchedByLength header rest (Ok matched) =
+    (matched.matched_bytes ≡ header.prefix_len) × (header.prefix_len ≤ length rest)
+IsMatchedByLength header rest (Err mismatch) =
+    (mismatch.matched_bytes ≡ length rest) × (length rest < header.prefix_len)
 
 -- the bytes of a key that are looked at where a leaf stands at this depth
 abbrev pub seen_by : PrefixMatchBehavior → ℕ → List ℕ → List ℕ

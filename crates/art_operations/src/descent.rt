@@ -1,11 +1,10 @@
 //! The way of a key down the tree below a name, to the one leaf that can be meant.
-ghost use Rattle.std.specs.Prelude.{◌≡◌, ◌≢◌, ◌^◌, ◌<◌, ◌≤◌, ℕ, [], length, is_some, MatchOption};
-ghost use Rattle.art_arena.specs.Arena.{node_at};
+ghost use Rattle.std.specs.Prelude.{◌≡◌, ◌≢◌, ◌^◌, ◌<◌, ◌≤◌, length, is_some, MatchOption};
 ghost use Rattle.art_arena.specs.Shapes.{Shape};
 ghost use Rattle.art_arena.specs.Visited.{held_of, kind_of};
-ghost use Rattle.art_arena.specs.Meaning.{IsSubtree};
 ghost use Rattle.art_operations.specs.Lookups.{ReadsPath};
-ghost use Rattle.art_operations.specs.Descents.{Ends, GoesOn, IsTurn, Lands};
+ghost use Rattle.art_operations.specs.inner.Descents.{Ends, GoesOn, IsTurn, Lands};
+ghost use Rattle.art_operations.specs.Stores.{Stores};
 
 use crate::lookup::PrefixMatchBehavior;
 use art_arena::{ArenaReader, LeafPtr, VisitedNode};
@@ -46,7 +45,8 @@ fn next_step<N: InnerNodeCommon<PREFIX_LEN>, const PREFIX_LEN: usize>(
     behavior: PrefixMatchBehavior,
 ) -> Option<NextStep>
     requires { depth ≤ length key.now }
-    ensures { MatchOption result (Ends PREFIX_LEN key.now depth (N.inner node.now)) (λ step. GoesOn PREFIX_LEN key.now depth behavior (N.inner node.now) step.child step.depth step.behavior) }
+    ensures { MatchOption result (Ends PREFIX_LEN key.now depth (N.inner node.now))
+        (λ step. GoesOn PREFIX_LEN key.now depth behavior (N.inner node.now) step.child step.depth step.behavior) }
 {
     let mut behavior = behavior;
     let rest = &key[depth..];
@@ -93,10 +93,12 @@ pub(crate) fn land<'a, K: AsBytes, V, const PREFIX_LEN: usize>(
     root: OpaqueNodePtr,
     key: &[u8],
 ) -> Option<Landed<'a, K, V>>
-    requires { (s : Shape K V) × IsSubtree K.bytes PREFIX_LEN (node_at reader.old.arena.now) root [] s }
-    ensures lands { (s : Shape K V) → IsSubtree K.bytes PREFIX_LEN (node_at reader.old.arena.now) root [] s → Lands K.bytes key.now s result }
+    requires { (s : Shape K V) × Stores K.bytes PREFIX_LEN reader.old.arena.now root s }
+    ensures lands { (s : Shape K V) → Stores K.bytes PREFIX_LEN reader.old.arena.now root s
+        → Lands K.bytes key.now s result }
     ensures kept { reader.new.arena.now ≡ reader.old.arena.now }
-    ensures counts { (s : Shape K V) → IsSubtree K.bytes PREFIX_LEN (node_at reader.old.arena.now) root [] s → ReadsPath key.now s reader.old.count reader.new.count (is_some result) }
+    ensures counts { (s : Shape K V) → Stores K.bytes PREFIX_LEN reader.old.arena.now root s
+        → ReadsPath key.now s reader.old.count reader.new.count (is_some result) }
 {
     let mut current = root;
     let mut depth = 0;

@@ -1,13 +1,15 @@
 //! Edits of the inner node under a name, whatever its kind.
-ghost use Rattle.std.specs.Prelude.{◌≡◌, ◌≢◌, ◌<◌, ◌⊎◌, ◌+◌, ◌∷◌, ◌++◌, ℕ, List, [], length, Some, None, IsSome, MatchOption, IsOk, IfOk, OnErr};
+ghost use Rattle.std.specs.Prelude.{◌≡◌, ◌≢◌, ◌<◌, ◌⊎◌, ◌+◌, ◌∷◌, ◌++◌, List, [], length, Some, None, IsSome};
+ghost use Rattle.std.specs.Prelude.{MatchOption, IsOk, IfOk, OnErr};
 ghost use Rattle.art_nodes.specs.Name.{Name};
 ghost use Rattle.art_nodes.specs.InnerNode as node;
 ghost use Rattle.art_nodes.specs.Kind.{row_of, CanShrink};
 ghost use Rattle.art_arena.specs.Cells.{Cell, Holds, UpdatesAt};
-ghost use Rattle.art_arena.specs.Arena.{held_at, inner_held, node_at, links_at, Allocates, SameNodes, HasRoom};
+ghost use Rattle.art_arena.specs.Arena.{held_at, inner_held, node_at, Allocates, SameNodes, HasRoom};
 ghost use Rattle.art_arena.specs.Context.{Frame, root_of, cells_before};
 ghost use Rattle.art_arena.specs.Steps.{Step, steps_of};
-ghost use Rattle.art_operations.specs.Edits.{StandsAround};
+ghost use Rattle.art_operations.specs.inner.Edits.{StandsAround};
+ghost use Rattle.art_operations.specs.Stores.{HasInner, KeepsRoom, SameLinks, Stores, UsesRoom};
 
 use art_arena::{NodeArena, TreePath};
 use art_bytes::AsBytes;
@@ -49,11 +51,13 @@ pub(crate) fn write_child<K, V, const PREFIX_LEN: usize>(
     byte: u8,
     child: OpaqueNodePtr,
 )
-    requires room { (n : node.InnerNode) × (held_at arena.old name ≡ Some (inner_held n)) × ((length n.children < (row_of name.kind).most) ⊎ IsSome (node.child_at n.children byte)) }
+    requires room { (n : node.InnerNode) × HasInner arena.old name n
+        × ((length n.children < (row_of name.kind).most) ⊎ IsSome (node.child_at n.children byte)) }
     requires inner { name.kind ≢ NodeType.Leaf }
-    ensures updates { (n : node.InnerNode) → held_at arena.old name ≡ Some (inner_held n)
-        → UpdatesAt (held_at arena.old) (held_at arena.new) name (Some (inner_held (node.with_children n (node.with_child n.children byte child)))) }
-    ensures room { (n : ℕ) → HasRoom arena.old n → HasRoom arena.new n }
+    ensures updates { (n : node.InnerNode) → HasInner arena.old name n
+        → UpdatesAt (held_at arena.old) (held_at arena.new) name
+        (Some (inner_held (node.with_children n (node.with_child n.children byte child)))) }
+    ensures room { KeepsRoom arena.old arena.new }
 {
     arena.prefix_fits(name);
     edit_inner_node!(arena, name, node => node.write_child(byte, child));
@@ -67,9 +71,10 @@ pub(crate) fn remove_child<K, V, const PREFIX_LEN: usize>(
 )
     requires held { IsSome (held_at arena.old name) }
     requires inner { name.kind ≢ NodeType.Leaf }
-    ensures updates { (n : node.InnerNode) → held_at arena.old name ≡ Some (inner_held n)
-        → UpdatesAt (held_at arena.old) (held_at arena.new) name (Some (inner_held (node.with_children n (node.without_child n.children byte)))) }
-    ensures room { (n : ℕ) → HasRoom arena.old n → HasRoom arena.new n }
+    ensures updates { (n : node.InnerNode) → HasInner arena.old name n
+        → UpdatesAt (held_at arena.old) (held_at arena.new) name
+        (Some (inner_held (node.with_children n (node.without_child n.children byte)))) }
+    ensures room { KeepsRoom arena.old arena.new }
 {
     arena.prefix_fits(name);
     edit_inner_node!(arena, name, node => {
@@ -85,7 +90,7 @@ pub(crate) fn drop_node<K, V, const PREFIX_LEN: usize>(
     requires held { IsSome (held_at arena.old name) }
     requires inner { name.kind ≢ NodeType.Leaf }
     ensures updates { UpdatesAt (held_at arena.old) (held_at arena.new) name None }
-    ensures room { (n : ℕ) → HasRoom arena.old n → HasRoom arena.new n }
+    ensures room { KeepsRoom arena.old arena.new }
 {
     arena.prefix_fits(name);
     match name.to_node_ptr() {
@@ -113,9 +118,10 @@ pub(crate) fn copy_prefix<K, V, const PREFIX_LEN: usize>(
 )
     requires held { IsSome (held_at arena.old name) }
     requires inner { name.kind ≢ NodeType.Leaf }
-    ensures updates { (n : node.InnerNode) → held_at arena.old name ≡ Some (inner_held n)
-        → UpdatesAt (held_at arena.old) (held_at arena.new) name (Some (inner_held (record n { header = record header.now { num_children = n.header.num_children } }))) }
-    ensures room { (n : ℕ) → HasRoom arena.old n → HasRoom arena.new n }
+    ensures updates { (n : node.InnerNode) → HasInner arena.old name n
+        → UpdatesAt (held_at arena.old) (held_at arena.new) name
+        (Some (inner_held (record n { header = record header.now { num_children = n.header.num_children } }))) }
+    ensures room { KeepsRoom arena.old arena.new }
 {
     arena.prefix_fits(name);
     edit_inner_node!(arena, name, node => node.copy_prefix(header));
@@ -127,12 +133,13 @@ pub(crate) fn shrink<K, V, const PREFIX_LEN: usize>(
     arena: &mut NodeArena<K, V, PREFIX_LEN>,
     name: OpaqueNodePtr,
 ) -> Result<OpaqueNodePtr, AllocError>
-    requires can { (n : node.InnerNode) × (held_at arena.old name ≡ Some (inner_held n)) × CanShrink name.kind (length n.children) }
+    requires can { (n : node.InnerNode) × HasInner arena.old name n × CanShrink name.kind (length n.children) }
     ensures kind { IfOk result (λ smaller. (row_of name.kind).smaller ≡ Some smaller.kind) }
-    ensures ok { IfOk result (λ smaller. (n : node.InnerNode) → held_at arena.old name ≡ Some (inner_held n) → Allocates arena.old arena.new smaller (inner_held n)) }
+    ensures ok { IfOk result (λ smaller. (n : node.InnerNode) → HasInner arena.old name n
+        → Allocates arena.old arena.new smaller (inner_held n)) }
     ensures err { OnErr result (SameNodes arena.old arena.new) }
     ensures succeeds { HasRoom arena.old 1 → IsOk result }
-    ensures room { (n : ℕ) → HasRoom arena.old (n + 1) → HasRoom arena.new n }
+    ensures room { UsesRoom 1 arena.old arena.new }
 {
     match name.to_node_ptr() {
         ConcreteNodePtr::Node16(ptr) => {
@@ -157,7 +164,8 @@ pub(crate) fn shrink<K, V, const PREFIX_LEN: usize>(
 
 // The last step of a path: an inner node, and the byte of its child.
 fn last_step(path: TreePath) -> Option<(OpaqueNodePtr, u8)>
-    ensures { MatchOption result (steps_of path ≡ []) (λ step. (more : List Step) × (steps_of path ≡ record { node = step.0; byte = step.1 } ∷ more)) }
+    ensures { MatchOption result (steps_of path ≡ [])
+        (λ step. (more : List Step) × (steps_of path ≡ record { node = step.0; byte = step.1 } ∷ more)) }
 {
     match path {
         TreePath::Root => None,
@@ -181,13 +189,16 @@ pub(crate) fn repoint<K: AsBytes, V, const PREFIX_LEN: usize>(
     path: TreePath,
     name: OpaqueNodePtr,
 ) -> OpaqueNodePtr
-    requires { (ctx : List (Frame K V)) × (was : Name) × (rest : List (Name × Cell K V)) × StandsAround K.bytes PREFIX_LEN (node_at arena.old) root ctx was rest (steps_of path) }
-    ensures holds { (ctx : List (Frame K V)) (was : Name) (rest : List (Name × Cell K V)) → StandsAround K.bytes PREFIX_LEN (node_at arena.old) root ctx was rest (steps_of path)
+    requires { (ctx : List (Frame K V)) × (was : Name) × (rest : List (Name × Cell K V))
+        × StandsAround K.bytes PREFIX_LEN (node_at arena.old) root ctx was rest (steps_of path) }
+    ensures holds { (ctx : List (Frame K V)) (was : Name) (rest : List (Name × Cell K V))
+        → StandsAround K.bytes PREFIX_LEN (node_at arena.old) root ctx was rest (steps_of path)
         → Holds (node_at arena.new) (cells_before PREFIX_LEN ctx name ++ rest) }
-    ensures root { (ctx : List (Frame K V)) (was : Name) (rest : List (Name × Cell K V)) → StandsAround K.bytes PREFIX_LEN (node_at arena.old) root ctx was rest (steps_of path)
+    ensures root { (ctx : List (Frame K V)) (was : Name) (rest : List (Name × Cell K V))
+        → StandsAround K.bytes PREFIX_LEN (node_at arena.old) root ctx was rest (steps_of path)
         → root_of ctx name ≡ result }
-    ensures links { (slot : ℕ) → links_at arena.new slot ≡ links_at arena.old slot }
-    ensures room { (n : ℕ) → HasRoom arena.old n → HasRoom arena.new n }
+    ensures links { SameLinks arena.old arena.new }
+    ensures room { KeepsRoom arena.old arena.new }
 {
     match last_step(path) {
         None => name,

@@ -1,13 +1,12 @@
 //! Look-ups of a key in the tree below a name.
-ghost use Rattle.std.specs.Prelude.{◌≡◌, ◌+◌, ◌^◌, ◌<◌, ◌≤◌, ◌⊎◌, ◌↔◌, ℕ, [], length, is_some, IsTrue, MatchResult};
+ghost use Rattle.std.specs.Prelude.{◌≡◌, ◌<◌, ◌≤◌, ◌⊎◌, ◌↔◌, length, is_some, IsTrue, MatchResult};
 ghost use Rattle.std.specs.Str.{bytes_eq};
 ghost use Rattle.art_bytes.specs.Keys.{BeginsWith};
-ghost use Rattle.art_nodes.specs.PrefixMatch.{agreeing};
 ghost use Rattle.art_arena.specs.Tenants.{begins_with};
-ghost use Rattle.art_arena.specs.Arena.{node_at};
 ghost use Rattle.art_arena.specs.Shapes.{Shape, leaves};
-ghost use Rattle.art_arena.specs.Meaning.{IsSubtree};
-ghost use Rattle.art_operations.specs.Lookups.{behavior_after, seen_by, leaf_where, ReadsPath};
+ghost use Rattle.art_operations.specs.Lookups.{behavior_after, leaf_where, seen_by};
+ghost use Rattle.art_operations.specs.Lookups.{IsMatchedByBytes, IsMatchedByLength, ReadsPath};
+ghost use Rattle.art_operations.specs.Stores.{Stores};
 
 use crate::descent::land;
 use art_arena::{ArenaReader, LeafPtr, NodeArena};
@@ -31,13 +30,15 @@ impl PrefixMatchBehavior {
         node: &N,
         rest: &[u8],
     ) -> Result<PrefixMatch, PessimisticMismatch>
-        ensures compared { self.old ≡ PrefixMatchBehavior.Pessimistic → (N.inner node.now).header.prefix_len ≤ PREFIX_LEN → MatchResult result
-            (λ yes. (yes.matched_bytes ≡ (N.inner node.now).header.prefix_len) × (agreeing (N.inner node.now).header.stored rest.now ≡ (N.inner node.now).header.prefix_len))
-            (λ no. (no.matched_bytes ≡ agreeing (N.inner node.now).header.stored rest.now) × (no.matched_bytes < (N.inner node.now).header.prefix_len)) }
-        ensures by_length { (self.old ≡ PrefixMatchBehavior.Optimistic) ⊎ (PREFIX_LEN < (N.inner node.now).header.prefix_len) → MatchResult result
-            (λ yes. (yes.matched_bytes ≡ (N.inner node.now).header.prefix_len) × ((N.inner node.now).header.prefix_len ≤ length rest.now))
-            (λ no. (no.matched_bytes ≡ length rest.now) × (length rest.now < (N.inner node.now).header.prefix_len)) }
-        ensures behavior { MatchResult result (λ yes. self.new ≡ behavior_after PREFIX_LEN self.old (N.inner node.now).header.prefix_len) (λ no. self.new ≡ self.old) }
+        ensures compared { self.old ≡ PrefixMatchBehavior.Pessimistic
+            → (N.inner node.now).header.prefix_len ≤ PREFIX_LEN
+            → IsMatchedByBytes (N.inner node.now).header rest.now result }
+        ensures by_length { (self.old ≡ PrefixMatchBehavior.Optimistic)
+            ⊎ (PREFIX_LEN < (N.inner node.now).header.prefix_len)
+            → IsMatchedByLength (N.inner node.now).header rest.now result }
+        ensures behavior { MatchResult result
+            (λ yes. self.new ≡ behavior_after PREFIX_LEN self.old (N.inner node.now).header.prefix_len)
+            (λ no. self.new ≡ self.old) }
     {
         match *self {
             PrefixMatchBehavior::Pessimistic => match node.attempt_pessimistic_match_prefix(rest) {
@@ -104,8 +105,9 @@ pub fn search_unchecked<K: AsBytes, V, const PREFIX_LEN: usize>(
     root: OpaqueNodePtr,
     key: &[u8],
 ) -> Option<LeafPtr>
-    requires { (s : Shape K V) × IsSubtree K.bytes PREFIX_LEN (node_at arena.now) root [] s }
-    ensures { (s : Shape K V) → IsSubtree K.bytes PREFIX_LEN (node_at arena.now) root [] s → result ≡ leaf_where K.bytes (λ k. bytes_eq k key.now) (leaves s) }
+    requires { (s : Shape K V) × Stores K.bytes PREFIX_LEN arena.now root s }
+    ensures { (s : Shape K V) → Stores K.bytes PREFIX_LEN arena.now root s
+        → result ≡ leaf_where K.bytes (λ k. bytes_eq k key.now) (leaves s) }
 {
     let mut reader = ArenaReader::new(arena);
     search_with(&mut reader, root, key)
@@ -119,8 +121,9 @@ pub fn prefix_search_unchecked<K: AsBytes, V, const PREFIX_LEN: usize>(
     root: OpaqueNodePtr,
     key: &[u8],
 ) -> Option<LeafPtr>
-    requires { (s : Shape K V) × IsSubtree K.bytes PREFIX_LEN (node_at arena.now) root [] s }
-    ensures { (s : Shape K V) → IsSubtree K.bytes PREFIX_LEN (node_at arena.now) root [] s → result ≡ leaf_where K.bytes (λ k. begins_with k key.now) (leaves s) }
+    requires { (s : Shape K V) × Stores K.bytes PREFIX_LEN arena.now root s }
+    ensures { (s : Shape K V) → Stores K.bytes PREFIX_LEN arena.now root s
+        → result ≡ leaf_where K.bytes (λ k. begins_with k key.now) (leaves s) }
 {
     let mut counted = ArenaReader::new(arena);
     prefix_search_with(&mut counted, root, key)
@@ -133,10 +136,12 @@ pub fn search_with<K: AsBytes, V, const PREFIX_LEN: usize>(
     root: OpaqueNodePtr,
     key: &[u8],
 ) -> Option<LeafPtr>
-    requires { (s : Shape K V) × IsSubtree K.bytes PREFIX_LEN (node_at reader.old.arena.now) root [] s }
-    ensures value { (s : Shape K V) → IsSubtree K.bytes PREFIX_LEN (node_at reader.old.arena.now) root [] s → result ≡ leaf_where K.bytes (λ k. bytes_eq k key.now) (leaves s) }
+    requires { (s : Shape K V) × Stores K.bytes PREFIX_LEN reader.old.arena.now root s }
+    ensures value { (s : Shape K V) → Stores K.bytes PREFIX_LEN reader.old.arena.now root s
+        → result ≡ leaf_where K.bytes (λ k. bytes_eq k key.now) (leaves s) }
     ensures kept { reader.new.arena.now ≡ reader.old.arena.now }
-    ensures counts { (s : Shape K V) → IsSubtree K.bytes PREFIX_LEN (node_at reader.old.arena.now) root [] s → ReadsPath key.now s reader.old.count reader.new.count (is_some result) }
+    ensures counts { (s : Shape K V) → Stores K.bytes PREFIX_LEN reader.old.arena.now root s
+        → ReadsPath key.now s reader.old.count reader.new.count (is_some result) }
 {
     match land(reader, root, key) {
         Some(landed) => {
@@ -159,10 +164,12 @@ pub fn prefix_search_with<K: AsBytes, V, const PREFIX_LEN: usize>(
     root: OpaqueNodePtr,
     key: &[u8],
 ) -> Option<LeafPtr>
-    requires { (s : Shape K V) × IsSubtree K.bytes PREFIX_LEN (node_at reader.old.arena.now) root [] s }
-    ensures value { (s : Shape K V) → IsSubtree K.bytes PREFIX_LEN (node_at reader.old.arena.now) root [] s → result ≡ leaf_where K.bytes (λ k. begins_with k key.now) (leaves s) }
+    requires { (s : Shape K V) × Stores K.bytes PREFIX_LEN reader.old.arena.now root s }
+    ensures value { (s : Shape K V) → Stores K.bytes PREFIX_LEN reader.old.arena.now root s
+        → result ≡ leaf_where K.bytes (λ k. begins_with k key.now) (leaves s) }
     ensures kept { reader.new.arena.now ≡ reader.old.arena.now }
-    ensures counts { (s : Shape K V) → IsSubtree K.bytes PREFIX_LEN (node_at reader.old.arena.now) root [] s → ReadsPath key.now s reader.old.count reader.new.count (is_some result) }
+    ensures counts { (s : Shape K V) → Stores K.bytes PREFIX_LEN reader.old.arena.now root s
+        → ReadsPath key.now s reader.old.count reader.new.count (is_some result) }
 {
     match land(reader, root, key) {
         Some(front) => {

@@ -1,7 +1,9 @@
 //! Lists of commands on a tree, from no pair on.
 ghost use Rattle.std.specs.Prelude.{◌≡◌, List, [], IfOk, Some};
 ghost use Rattle.art_operations.specs.Commands.{AreAnswered, IsAnswered, after, pairs_after};
-ghost use Rattle.art_operations.specs.Runs.{CanInsert, HasClones, HasPairs, HoldsClonesOf, IsDone};
+ghost use Rattle.art_operations.specs.Runs.{HasPairs, HoldsClonesOf};
+ghost use Rattle.art_operations.specs.inner.Runs.{CanInsert, HasClones, IsDone};
+ghost use Rattle.art_operations.specs.Stores.{Stores};
 
 use crate::delete::point::search_for_delete_point;
 use crate::insert::point::{InsertPoint, InsertSearchError, search_for_insert_point};
@@ -81,7 +83,8 @@ fn insert_at<K: AsBytes + Drop, V: Drop, const PREFIX_LEN: usize>(
     value: V,
 ) -> Change
     requires { (pairs : List (K × V)) × CanInsert K.bytes PREFIX_LEN arena.old point key pairs }
-    ensures { (pairs : List (K × V)) → CanInsert K.bytes PREFIX_LEN arena.old point key pairs → IsDone K.bytes PREFIX_LEN arena.new pairs (Command.Insert key value) result }
+    ensures { (pairs : List (K × V)) → CanInsert K.bytes PREFIX_LEN arena.old point key pairs
+        → IsDone K.bytes PREFIX_LEN arena.new pairs (Command.Insert key value) result }
 {
     let root = point.root;
     let inserted = match point.apply(arena, key, value) {
@@ -104,7 +107,8 @@ fn insert<K: AsBytes + Drop, V: Drop, const PREFIX_LEN: usize>(
     value: V,
 ) -> Change
     requires { (pairs : List (K × V)) × HasPairs K.bytes PREFIX_LEN arena.old root pairs }
-    ensures { (pairs : List (K × V)) → HasPairs K.bytes PREFIX_LEN arena.old root pairs → IsDone K.bytes PREFIX_LEN arena.new pairs (Command.Insert key value) result }
+    ensures { (pairs : List (K × V)) → HasPairs K.bytes PREFIX_LEN arena.old root pairs
+        → IsDone K.bytes PREFIX_LEN arena.new pairs (Command.Insert key value) result }
 {
     let Some(top) = root else {
         return insert_first(arena, key, value);
@@ -123,7 +127,8 @@ fn delete<K: AsBytes + Drop, V: Drop, const PREFIX_LEN: usize>(
     key: &K,
 ) -> Change
     requires { (pairs : List (K × V)) × HasPairs K.bytes PREFIX_LEN arena.old root pairs }
-    ensures { (pairs : List (K × V)) → HasPairs K.bytes PREFIX_LEN arena.old root pairs → IsDone K.bytes PREFIX_LEN arena.new pairs (Command.Delete key.now) result }
+    ensures { (pairs : List (K × V)) → HasPairs K.bytes PREFIX_LEN arena.old root pairs
+        → IsDone K.bytes PREFIX_LEN arena.new pairs (Command.Delete key.now) result }
 {
     let Some(top) = root else {
         return Change::to(None, Answer::Done(0));
@@ -154,7 +159,9 @@ fn carry_out<K: AsBytes + Clone, V: Clone, const PREFIX_LEN: usize>(
     requires keys { (k c : K) → K.is_clone k c → K.bytes c ≡ K.bytes k }
     requires pairs { (pairs : List (K × V)) × HasClones K.bytes PREFIX_LEN arena.old K.is_clone V.is_clone root pairs }
     ensures { (pairs : List (K × V)) → HasClones K.bytes PREFIX_LEN arena.old K.is_clone V.is_clone root pairs
-        → IsAnswered K.bytes pairs command.now result.answer × HasClones K.bytes PREFIX_LEN arena.new K.is_clone V.is_clone result.root (after K.bytes command.now result.answer pairs) }
+        → IsAnswered K.bytes pairs command.now result.answer
+        × HasClones K.bytes PREFIX_LEN arena.new K.is_clone V.is_clone result.root
+        (after K.bytes command.now result.answer pairs) }
 {
     match command {
         Command::Insert(key, value) => match cloned(key, value) {
@@ -165,16 +172,17 @@ fn carry_out<K: AsBytes + Clone, V: Clone, const PREFIX_LEN: usize>(
     }
 }
 
-/// Carries out the commands one after the other, from no pair on, and answers each in turn. A command whose key or value can't be
-/// cloned, or for whose nodes there is no memory, is refused and changes nothing. The run itself is refused only where there is no
-/// memory for the answers, before the first command.
+/// Carries out the commands one after the other, from no pair on, and answers each in turn. A command whose key or
+/// value can't be cloned, or for whose nodes there is no memory, is refused and changes nothing. The run itself is
+/// refused only where there is no memory for the answers, before the first command.
 pub fn run<K: AsBytes + Clone, V: Clone, const PREFIX_LEN: usize>(
     alloc: Global,
     commands: &[Command<K, V>],
 ) -> Result<RunResult<K, V, PREFIX_LEN>, AllocError>
     requires { (k c : K) → K.is_clone k c → K.bytes c ≡ K.bytes k }
     ensures answers { IfOk result (λ ran. AreAnswered K.bytes [] commands.now ran.answers.items) }
-    ensures tree { IfOk result (λ ran. HoldsClonesOf K.bytes PREFIX_LEN ran.arena K.is_clone V.is_clone ran.root (pairs_after K.bytes commands.now ran.answers.items [])) }
+    ensures tree { IfOk result (λ ran. HoldsClonesOf K.bytes PREFIX_LEN ran.arena K.is_clone V.is_clone ran.root
+        (pairs_after K.bytes commands.now ran.answers.items [])) }
 {
     let mut answers = Vec::with_capacity(alloc, commands.len())?;
     let mut arena = NodeArena::new(alloc);

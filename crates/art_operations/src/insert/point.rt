@@ -1,11 +1,11 @@
 //! The place of a new key.
-ghost use Rattle.std.specs.Prelude.{◌≡◌, ◌≢◌, ◌≤◌, ℕ, List, [], length, IfOk, IfErr};
+ghost use Rattle.std.specs.Prelude.{◌≡◌, ◌≢◌, ℕ, List, IfOk, IfErr};
 ghost use Rattle.art_bytes.specs.Keys.{BeginsWith};
-ghost use Rattle.art_arena.specs.Arena.{node_at};
 ghost use Rattle.art_arena.specs.Cells.{leaf_name};
 ghost use Rattle.art_arena.specs.Shapes.{Shape};
-ghost use Rattle.art_arena.specs.Meaning.{IsAtDepth, IsSubtree};
-ghost use Rattle.art_operations.specs.Points.{IsWay, IsAnswer, Refuses};
+ghost use Rattle.art_operations.specs.Points.{IsPlaceOrConflict, Refuses};
+ghost use Rattle.art_operations.specs.inner.Ways.{IsWay};
+ghost use Rattle.art_operations.specs.Stores.{Stores, StoresAt};
 
 use crate::meeting::{Meeting, Parted, meet};
 use art_arena::inner::lookup_child;
@@ -128,8 +128,10 @@ fn way_at_leaf<K: AsBytes, V, const PREFIX_LEN: usize>(
     key: &[u8],
     depth: usize,
 ) -> Way
-    requires { (path : List ℕ) × (s : Shape K V) × IsAtDepth K.bytes PREFIX_LEN (node_at arena.now) (leaf_name leaf) depth path s × BeginsWith path key.now }
-    ensures { (path : List ℕ) (s : Shape K V) → IsAtDepth K.bytes PREFIX_LEN (node_at arena.now) (leaf_name leaf) depth path s → BeginsWith path key.now → IsWay K.bytes key.now path s result }
+    requires { (path : List ℕ) × (s : Shape K V)
+        × StoresAt K.bytes PREFIX_LEN arena.now (leaf_name leaf) depth path s × BeginsWith path key.now }
+    ensures { (path : List ℕ) (s : Shape K V) → StoresAt K.bytes PREFIX_LEN arena.now (leaf_name leaf) depth path s
+        → BeginsWith path key.now → IsWay K.bytes key.now path s result }
 {
     let stored = arena.as_key_ref(leaf).as_bytes();
     match meet(&stored[depth..], &key[depth..]) {
@@ -152,9 +154,11 @@ fn way_at_inner<K: AsBytes, V, const PREFIX_LEN: usize>(
     key: &[u8],
     depth: usize,
 ) -> Way
-    requires stands { (path : List ℕ) × (s : Shape K V) × IsAtDepth K.bytes PREFIX_LEN (node_at arena.now) node depth path s × BeginsWith path key.now }
+    requires stands { (path : List ℕ) × (s : Shape K V) × StoresAt K.bytes PREFIX_LEN arena.now node depth path s
+        × BeginsWith path key.now }
     requires inner { node.kind ≢ NodeType.Leaf }
-    ensures { (path : List ℕ) (s : Shape K V) → IsAtDepth K.bytes PREFIX_LEN (node_at arena.now) node depth path s → BeginsWith path key.now → IsWay K.bytes key.now path s result }
+    ensures { (path : List ℕ) (s : Shape K V) → StoresAt K.bytes PREFIX_LEN arena.now node depth path s
+        → BeginsWith path key.now → IsWay K.bytes key.now path s result }
 {
     let prefix = read_full_prefix(arena, node, depth).prefix;
     let rest = &key[depth..];
@@ -185,8 +189,10 @@ fn way_at<K: AsBytes, V, const PREFIX_LEN: usize>(
     key: &[u8],
     depth: usize,
 ) -> Way
-    requires { (path : List ℕ) × (s : Shape K V) × IsAtDepth K.bytes PREFIX_LEN (node_at arena.now) node depth path s × BeginsWith path key.now }
-    ensures { (path : List ℕ) (s : Shape K V) → IsAtDepth K.bytes PREFIX_LEN (node_at arena.now) node depth path s → BeginsWith path key.now → IsWay K.bytes key.now path s result }
+    requires { (path : List ℕ) × (s : Shape K V) × StoresAt K.bytes PREFIX_LEN arena.now node depth path s
+        × BeginsWith path key.now }
+    ensures { (path : List ℕ) (s : Shape K V) → StoresAt K.bytes PREFIX_LEN arena.now node depth path s
+        → BeginsWith path key.now → IsWay K.bytes key.now path s result }
 {
     match node.cast::<KindLeaf>() {
         Some(leaf) => way_at_leaf(arena, leaf, key, depth),
@@ -213,8 +219,9 @@ pub fn search_for_insert_point<K: AsBytes, V, const PREFIX_LEN: usize>(
     root: OpaqueNodePtr,
     key: &[u8],
 ) -> Result<InsertPoint, InsertSearchError>
-    requires { (s : Shape K V) × IsSubtree K.bytes PREFIX_LEN (node_at arena.now) root [] s }
-    ensures answer { (s : Shape K V) → IsSubtree K.bytes PREFIX_LEN (node_at arena.now) root [] s → IsAnswer K.bytes key.now s result }
+    requires { (s : Shape K V) × Stores K.bytes PREFIX_LEN arena.now root s }
+    ensures answer { (s : Shape K V) → Stores K.bytes PREFIX_LEN arena.now root s
+        → IsPlaceOrConflict K.bytes key.now s result }
     ensures refusal { IfErr result (λ e. Refuses key.now e) }
 {
     let mut search = TreePathSearch::default();

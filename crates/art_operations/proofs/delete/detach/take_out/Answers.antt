@@ -4,7 +4,7 @@ use Rattle.art_nodes.specs.declared.kind.NodeType.TheVariants.{Leaf}
 use Rattle.art_arena.specs.Arena.{held_at, links_at}
 use Rattle.art_arena.specs.Shapes.{name_of}
 use Rattle.art_arena.proofs.Updates.{links-same}
-use Rattle.art_operations.specs.Detached.{IsChildLeaf, StandsFor}
+use Rattle.art_operations.specs.inner.Detached.{IsChildLeaf, StandsFor}
 use Rattle.art_operations.proofs.Merges.{other_path, other_subtree, other_apart}
 use Rattle.art_operations.proofs.Results.{both_ok, from_err, either_way}
 use Rattle.art_operations.proofs.NewNodes.{fewer}
