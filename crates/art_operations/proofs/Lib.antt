@@ -26,8 +26,10 @@ pub mod Detaching
 pub mod Shrinking
 pub mod Deleted
 pub mod KeyedLists
-pub mod Pairs
+pub mod LeafPairs
+pub mod NotStored
 pub mod HeldPairs
+pub mod Done
 pub mod Clones
 pub mod CommandLists
 pub mod RunExamples

@@ -22,12 +22,13 @@ abbrev pub IsReplaced : {X : Type 0} → X → X → List X → List X → Type 
 IsReplaced {X} x y old new = (front : List X) × (back : List X) × (old ≡ front ++ x ∷ back) × (new ≡ front ++ y ∷ back)
 
 module _ {K V : Type 0} (bytes : K → List ℕ) where
-  -- the leaf is put in, or stands under the name of one that had its key
+  -- the leaf is put in, or stands under the name of one that had its key, which is answered with open ends
   abbrev pub IsPutOrReplaced : LeafAt K V → Option (LeafNode K V) → List (LeafAt K V) → List (LeafAt K V) → Type 0
   IsPutOrReplaced l None old new = IsPutIn l old new
   IsPutOrReplaced l (Some was) old new =
       (bytes was.key ≡ bytes l.key)
       × IsReplaced (record { slot = l.slot; key = was.key; value = was.value }) l old new
+      × (was.previous ≡ None) × (was.next ≡ None)
 
   -- the arena holds nothing but the tree of these leaves with the new one, which stands where the answer says
   pub record IsInserted (P : ℕ) (arena : Arena K V) (s : Shape K V) (last : List Step) (key : K) (value : V)

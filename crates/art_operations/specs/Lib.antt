@@ -5,6 +5,8 @@ pub mod Points
 pub mod DeletePoints
 pub mod Insertions
 pub mod Deletions
+pub mod KeyedLists
+pub mod Pairs
 pub mod Commands
 pub mod Runs
 pub mod inner

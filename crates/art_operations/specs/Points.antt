@@ -1,9 +1,8 @@
 -- Where a new key goes in a tree.
-use Rattle.std.specs.Prelude.{◌≡◌, ℕ, ◌+◌, List, [], ◌∷◌, ◌++◌, length, drop, None, Some, Ok, Err}
+use Rattle.std.specs.Prelude.{◌≡◌, ℕ, List, [], ◌∷◌, ◌++◌, length, drop, None, Ok, Err}
 use Rattle.std.specs.List.{AllByRecursion}
 use Rattle.std.specs.declared.result.Result.{Result}
 use Rattle.art_bytes.specs.Keys.{BeginsWith, Conflict}
-use Rattle.art_nodes.specs.Name.{Name}
 use Rattle.art_nodes.specs.InnerNode.{child_at}
 use Rattle.art_arena.specs.Changes.{IsIn}
 use Rattle.art_arena.specs.Shapes.{Shape, Branches, leaf_at, inner_at, LeafAt, name_of, children_at, leaves}
@@ -52,6 +51,6 @@ module _ {K V : Type 0} (bytes : K → List ℕ) (key : List ℕ) where
     pub meets : MeetsAt (path_to ctx) part point.insert_kind
 
   -- a place and no conflict, or a conflict
-  abbrev pub IsPlaceOrConflict : Shape K V → Result InsertPoint InsertSearchError → Type 0
+  abbrev pub IsPlaceOrConflict : {E : Type 0} → Shape K V → Result InsertPoint E → Type 0
   IsPlaceOrConflict s (Ok point) = IsPoint s point × NoConflict (leaves s)
   IsPlaceOrConflict s (Err e) = HasConflict (leaves s)

@@ -4,10 +4,9 @@ use Rattle.std.specs.List.{AllZip}
 use Rattle.art_nodes.specs.Name.{Name}
 use Rattle.art_arena.specs.Arena.{Arena, node_at, links_at}
 use Rattle.art_arena.specs.Meaning.{MeansAll}
-use Rattle.art_arena.specs.Shapes.{Shape, leaves, pairs_of, key_of}
+use Rattle.art_arena.specs.Shapes.{key_of}
 use Rattle.art_arena.specs.TreeOf.{tree_of}
 use Rattle.art_arena.specs.Trees.{Tree}
-use Rattle.art_operations.specs.Stores.{StoresOnly}
 
 module _ {K V : Type 0} (KeyClone : K → K → Type 0) (ValueClone : V → V → Type 0) where
   -- these are clones of the pairs, in the same order
@@ -22,12 +21,6 @@ module _ {K V : Type 0} (bytes : K → List ℕ) (P : ℕ) (arena : Arena K V) w
   HoldsTreeOf (Some root) pairs =
       (t : Tree (K × V)) × (tree_of (key_of bytes) pairs ≡ Some t)
       × MeansAll bytes P (node_at arena) root (links_at arena) t
-
-  -- the same, told by the leaves in the arena
-  abbrev pub HasPairs : Option Name → List (K × V) → Type 0
-  HasPairs None pairs = (pairs ≡ []) × ((n : Name) → node_at arena n ≡ None)
-  HasPairs (Some root) pairs =
-      (s : Shape K V) × StoresOnly bytes P arena root s × (pairs_of (leaves s) ≡ pairs)
 
   -- the root means the tree of clones of these pairs, and the arena holds nothing else
   abbrev pub HoldsClonesOf : (K → K → Type 0) → (V → V → Type 0) → Option Name → List (K × V) → Type 0

@@ -3,7 +3,7 @@
 mod apply;
 mod exact;
 mod into_existing;
-mod leaf;
+pub(crate) mod leaf;
 pub mod point;
 pub mod result;
 mod split;

@@ -1,5 +1,5 @@
 //! Look-ups of a key in the tree below a name.
-ghost use Rattle.std.specs.Prelude.{◌≡◌, ◌<◌, ◌≤◌, ◌⊎◌, ◌↔◌, length, is_some, IsTrue, MatchResult};
+ghost use Rattle.std.specs.Prelude.{◌≡◌, ◌<◌, ◌≤◌, ◌⊎◌, ◌↔◌, drop, is_some, IsTrue, MatchResult};
 ghost use Rattle.std.specs.Str.{bytes_eq};
 ghost use Rattle.art_bytes.specs.Keys.{BeginsWith};
 ghost use Rattle.art_arena.specs.Tenants.{begins_with};
@@ -20,6 +20,16 @@ pub enum PrefixMatchBehavior {
     Pessimistic,
     /// By their lengths alone, since a prefix came that isn't wholly stored. The key is compared at the leaf.
     Optimistic,
+}
+
+// What lies behind so many of these bytes: nothing where there are no more.
+fn behind(bytes: &[u8], depth: usize) -> &[u8]
+    ensures { result.now ≡ drop depth bytes.now }
+{
+    if depth < bytes.len() {
+        return &bytes[depth..];
+    }
+    &bytes[bytes.len()..]
 }
 
 impl PrefixMatchBehavior {
@@ -60,38 +70,38 @@ impl PrefixMatchBehavior {
     }
 
     /// Whether the key of a leaf equals these bytes. Where every prefix was compared, it looks from the leaf's depth
-    /// on alone.
+    /// on alone: what has no byte there ends there.
     pub fn matches_leaf_key<K: AsBytes, V>(
         self,
         leaf: &LeafNode<K, V>,
         key: &[u8],
         depth: usize,
     ) -> bool
-        requires key { depth ≤ length key.now }
-        requires leaf { depth ≤ length (K.bytes leaf.now.key) }
         ensures { IsTrue result ↔ (seen_by self depth (K.bytes leaf.now.key) ≡ seen_by self depth key.now) }
     {
         match self {
-            PrefixMatchBehavior::Pessimistic => leaf.key_ref().as_bytes()[depth..] == key[depth..],
+            PrefixMatchBehavior::Pessimistic => {
+                behind(leaf.key_ref().as_bytes(), depth) == behind(key, depth)
+            }
             PrefixMatchBehavior::Optimistic => leaf.compare_full_key(key),
         }
     }
 
     /// Whether the key of a leaf is a front of these bytes, or all of them. Where every prefix was compared, it looks
-    /// from the leaf's depth on alone.
+    /// from the leaf's depth on alone: what has no byte there ends there.
     pub fn leaf_key_is_prefix<K: AsBytes, V>(
         self,
         leaf: &LeafNode<K, V>,
         key: &[u8],
         depth: usize,
     ) -> bool
-        requires key { depth ≤ length key.now }
-        requires leaf { depth ≤ length (K.bytes leaf.now.key) }
         ensures { IsTrue result ↔ BeginsWith (seen_by self depth (K.bytes leaf.now.key)) (seen_by self depth key.now) }
     {
         let front = leaf.key_ref().as_bytes();
         match self {
-            PrefixMatchBehavior::Pessimistic => key[depth..].starts_with(&front[depth..]),
+            PrefixMatchBehavior::Pessimistic => behind(key, depth).starts_with(behind(
+                front, depth,
+            )),
             PrefixMatchBehavior::Optimistic => key.starts_with(front),
         }
     }

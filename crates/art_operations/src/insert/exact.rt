@@ -34,7 +34,9 @@ pub(crate) fn replace_pair<K: AsBytes, V, const PREFIX_LEN: usize>(
     let old = arena.as_ref::<LeafNode<K, V>>(leaf);
     node.set_previous(old.previous());
     node.set_next(old.next());
-    let existing = arena.replace(leaf, node);
+    let mut existing = arena.replace(leaf, node);
+    existing.set_previous(None);
+    existing.set_next(None);
     InsertResult {
         leaf_node_ptr: leaf,
         existing_leaf: Some(existing),

@@ -48,6 +48,11 @@ impl KeyPrefix {
 }
 
 /// A key can't be put in, since it is a front of a stored key, or a stored key is one of it.
+#[derive(Clone, Copy, PartialEq, Eq, Debug, Error)]
+#[error("the key is a front of a stored key, or a stored key is one of it")]
+pub struct PrefixConflict;
+
+/// A key can't be put in, since it is a front of a stored key, or a stored key is one of it.
 #[derive(Debug, Drop, Error)]
 #[error("the key is a front of a stored key, or a stored key is one of it")]
 pub struct InsertPrefixError {
@@ -200,36 +205,23 @@ fn way_at<K: AsBytes, V, const PREFIX_LEN: usize>(
     }
 }
 
-// Why a key can't be put in: it is in conflict with a stored one.
-fn refusal(alloc: Global, key: &[u8]) -> InsertSearchError
-    ensures { Refuses key.now result }
-{
-    match KeyPrefix::new(alloc, key) {
-        Ok(byte_repr) => InsertSearchError::Prefix(InsertPrefixError { byte_repr }),
-        Err(_) => InsertSearchError::Memory,
-    }
-}
-
 /// Finds where a new key goes in the tree below a name. It is refused where the key is a front of a stored key, or a
-/// stored key is one of it; the answer then has a copy of the key's bytes, if there is memory for one. Otherwise it
-/// takes no memory.
-pub fn search_for_insert_point<K: AsBytes, V, const PREFIX_LEN: usize>(
-    alloc: Global,
+/// stored key is one of it. It takes no memory.
+pub fn find_insert_point<K: AsBytes, V, const PREFIX_LEN: usize>(
     arena: &NodeArena<K, V, PREFIX_LEN>,
     root: OpaqueNodePtr,
     key: &[u8],
-) -> Result<InsertPoint, InsertSearchError>
+) -> Result<InsertPoint, PrefixConflict>
     requires { (s : Shape K V) × Stores K.bytes PREFIX_LEN arena.now root s }
-    ensures answer { (s : Shape K V) → Stores K.bytes PREFIX_LEN arena.now root s
+    ensures { (s : Shape K V) → Stores K.bytes PREFIX_LEN arena.now root s
         → IsPlaceOrConflict K.bytes key.now s result }
-    ensures refusal { IfErr result (λ e. Refuses key.now e) }
 {
     let mut search = TreePathSearch::default();
     let mut current = root;
     let mut depth = 0;
     loop {
         match way_at(arena, current, key, depth) {
-            Way::Conflict => return Err(refusal(alloc, key)),
+            Way::Conflict => return Err(PrefixConflict),
             Way::Point(insert_kind) => {
                 return Ok(InsertPoint {
                     root,
@@ -244,5 +236,34 @@ pub fn search_for_insert_point<K: AsBytes, V, const PREFIX_LEN: usize>(
                 depth = next;
             }
         }
+    }
+}
+
+// Why a key can't be put in: it is in conflict with a stored one.
+fn refusal(alloc: Global, key: &[u8]) -> InsertSearchError
+    ensures { Refuses key.now result }
+{
+    match KeyPrefix::new(alloc, key) {
+        Ok(byte_repr) => InsertSearchError::Prefix(InsertPrefixError { byte_repr }),
+        Err(_) => InsertSearchError::Memory,
+    }
+}
+
+/// What `find_insert_point` answers, but where the key is in conflict with a copy of its bytes, if there is memory for
+/// one. Otherwise it takes no memory.
+pub fn search_for_insert_point<K: AsBytes, V, const PREFIX_LEN: usize>(
+    alloc: Global,
+    arena: &NodeArena<K, V, PREFIX_LEN>,
+    root: OpaqueNodePtr,
+    key: &[u8],
+) -> Result<InsertPoint, InsertSearchError>
+    requires { (s : Shape K V) × Stores K.bytes PREFIX_LEN arena.now root s }
+    ensures answer { (s : Shape K V) → Stores K.bytes PREFIX_LEN arena.now root s
+        → IsPlaceOrConflict K.bytes key.now s result }
+    ensures refusal { IfErr result (λ e. Refuses key.now e) }
+{
+    match find_insert_point(arena, root, key) {
+        Ok(point) => Ok(point),
+        Err(_) => Err(refusal(alloc, key)),
     }
 }

@@ -3,7 +3,7 @@ use Rattle.art_arena.specs.Arena.{node_at}
 use Rattle.art_arena.specs.Shapes.{Shape}
 use Rattle.art_arena.specs.Meaning.{IsSubtree}
 use Rattle.art_operations.proofs.Points.{OnWayTo}
-use Rattle.art_operations.proofs.insert.point.search_for_insert_point.Given as goal
+use Rattle.art_operations.proofs.insert.point.find_insert_point.Given as goal
 
 abbrev pub invariant-loop-insert_kind : goal.invariant-loop-insert_kind
 invariant-loop-insert_kind g l = record {

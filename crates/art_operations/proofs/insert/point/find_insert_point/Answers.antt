@@ -3,7 +3,7 @@ use Rattle.art_arena.specs.Arena.{node_at}
 use Rattle.art_arena.specs.Context.{path_to}
 use Rattle.art_arena.proofs.Surroundings.{free, conflict}
 use Rattle.art_operations.proofs.Points.{way_start, way_step, way_inner, way_at_depth, way_room}
-use Rattle.art_operations.proofs.insert.point.search_for_insert_point.Goals as goal
+use Rattle.art_operations.proofs.insert.point.find_insert_point.Goals as goal
 
 pub loop-insert_kind-init : goal.loop-insert_kind-init
 loop-insert_kind-init g c = record {
@@ -11,8 +11,8 @@ loop-insert_kind-init g c = record {
   way = λ s tree. rw c.default-search.ensures (way_start g.K.AsBytes.bytes g.row.PREFIX_LEN (node_at c.args.arena.now) c.args.key.now s c.args.root tree);
 }
 
-pub returns-in-Point-clause-answer : goal.returns-in-Point-clause-answer
-returns-in-Point-clause-answer g c = λ s tree.
+pub returns-in-Point : goal.returns-in-Point
+returns-in-Point g c = λ s tree.
     let way = c.loop-insert_kind.invariant.way s tree in
     let at = way_at_depth g.K.AsBytes.bytes g.row.PREFIX_LEN (node_at c.args.arena.now) c.args.key.now s c.loop-insert_kind.current c.loop-insert_kind.search c.loop-insert_kind.depth way in
     let here = c.in-Point.ensures (path_to way.ctx) way.part at way.toward.begins in (
@@ -26,8 +26,8 @@ returns-in-Point-clause-answer g c = λ s tree.
       free g.K.AsBytes.bytes c.args.key.now s way.ctx way.part way.toward.place way.toward.begins here.1,
     )
 
-pub returns-in-Conflict-clause-answer : goal.returns-in-Conflict-clause-answer
-returns-in-Conflict-clause-answer g c = λ s tree.
+pub returns-in-Conflict : goal.returns-in-Conflict
+returns-in-Conflict g c = λ s tree.
     let way = c.loop-insert_kind.invariant.way s tree in
     let at = way_at_depth g.K.AsBytes.bytes g.row.PREFIX_LEN (node_at c.args.arena.now) c.args.key.now s c.loop-insert_kind.current c.loop-insert_kind.search c.loop-insert_kind.depth way in
     conflict g.K.AsBytes.bytes c.args.key.now s way.ctx way.part way.toward.place way.toward.begins (c.in-Conflict.ensures (path_to way.ctx) way.part at way.toward.begins)
