@@ -4,8 +4,6 @@ pub mod Trees
 pub mod TreeOf
 pub mod Kinds
 pub mod Paths
-pub mod Replay
-pub mod ReplayedNode
 pub mod Landing
 pub mod Fronts
 pub mod Tenants
@@ -22,7 +20,11 @@ pub mod Places
 pub mod Found
 pub mod Turns
 pub mod Arena
+pub mod Fits
+pub mod NodeEdits
+pub mod NodesLends
 pub mod Lends
+pub mod InnerRef
 pub mod Visited
 pub mod WrittenNodes
 pub mod Laws

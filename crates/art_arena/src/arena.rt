@@ -1,12 +1,12 @@
 //! The nodes of a tree, under their names.
 ghost use Rattle.std.specs.Prelude.{◌≡◌, ◌≢◌, ◌<◌, ◌^◌, ◌↔◌, ◌+◌, ℕ, [], Some, None, IfOk, OnErr, IfErr, OnOk, IsSome, IsTrue, IsOk};
 
+use crate::nodes::Nodes;
 use crate::stored::Stored;
 use art_nodes::{
     InnerNode4, InnerNode16, InnerNode48, InnerNode256, KindLeaf, LeafNode, NodePtr, NodeType,
     OpaqueNodePtr,
 };
-use slab::Slab;
 use std::alloc::{AllocError, Global};
 use std::marker::Model;
 use std::mem;
@@ -15,18 +15,15 @@ use thiserror::Error;
 /// The name of a leaf.
 pub type LeafPtr = NodePtr<KindLeaf>;
 
-// No memory holds a node whose stored prefix has so many bytes.
-pub(crate) const NO_MEMORY_HOLDS: usize = 1 << 62;
-
 /// The nodes of one tree or more, each under the name that it was given when it was stored: a kind, and a
 /// key in the slab of that kind.
 #[derive(Drop)]
 pub struct NodeArena<K, V, const PREFIX_LEN: usize> {
-    pub(crate) leaves: Slab<LeafNode<K, V>>,
-    pub(crate) nodes4: Slab<InnerNode4<K, V, PREFIX_LEN>>,
-    pub(crate) nodes16: Slab<InnerNode16<K, V, PREFIX_LEN>>,
-    pub(crate) nodes48: Slab<InnerNode48<K, V, PREFIX_LEN>>,
-    pub(crate) nodes256: Slab<InnerNode256<K, V, PREFIX_LEN>>,
+    pub(crate) leaves: Nodes<LeafNode<K, V>, 0>,
+    pub(crate) nodes4: Nodes<InnerNode4<K, V, PREFIX_LEN>, PREFIX_LEN>,
+    pub(crate) nodes16: Nodes<InnerNode16<K, V, PREFIX_LEN>, PREFIX_LEN>,
+    pub(crate) nodes48: Nodes<InnerNode48<K, V, PREFIX_LEN>, PREFIX_LEN>,
+    pub(crate) nodes256: Nodes<InnerNode256<K, V, PREFIX_LEN>, PREFIX_LEN>,
 }
 
 impl<K, V, const PREFIX_LEN: usize> Model for NodeArena<K, V, PREFIX_LEN> {
@@ -41,10 +38,6 @@ impl<K, V, const PREFIX_LEN: usize> Model for NodeArena<K, V, PREFIX_LEN> {
       nodes48 = a.nodes48;
       nodes256 = a.nodes256;
     } };
-
-    ghost use Rattle.art_arena.specs.Arena.{FitsWhereUsed};
-
-    ghost invariant = { λ a. FitsWhereUsed PREFIX_LEN a.nodes4 × FitsWhereUsed PREFIX_LEN a.nodes16 × FitsWhereUsed PREFIX_LEN a.nodes48 × FitsWhereUsed PREFIX_LEN a.nodes256 };
 }
 
 /// No memory was found for a node, which is handed back.
@@ -74,11 +67,11 @@ impl<K, V, const PREFIX_LEN: usize> NodeArena<K, V, PREFIX_LEN> {
         ensures { (n : Name) → held_at result n ≡ None }
     {
         NodeArena {
-            leaves: Slab::new(alloc),
-            nodes4: Slab::new(alloc),
-            nodes16: Slab::new(alloc),
-            nodes48: Slab::new(alloc),
-            nodes256: Slab::new(alloc),
+            leaves: Nodes::new(alloc),
+            nodes4: Nodes::new(alloc),
+            nodes16: Nodes::new(alloc),
+            nodes48: Nodes::new(alloc),
+            nodes256: Nodes::new(alloc),
         }
     }
 
@@ -97,14 +90,14 @@ impl<K, V, const PREFIX_LEN: usize> NodeArena<K, V, PREFIX_LEN> {
     }
 
     /// Makes room for so many more nodes, whatever their kinds: as many allocations then need no memory. It is
-    /// refused only where there is no memory; no name changes either way.
+    /// refused only where there is no room for so many, and no memory. Room that was there stays, and no name changes,
+    /// either way.
     pub fn reserve(&mut self, additional: usize) -> Result<(), AllocError>
         ensures room { OnOk result (HasRoom self.new additional) }
+        ensures succeeds { HasRoom self.old additional → IsOk result }
+        ensures kept_room { (n : ℕ) → HasRoom self.old n → HasRoom self.new n }
         ensures kept { SameNodes self.old self.new }
     {
-        if PREFIX_LEN >= NO_MEMORY_HOLDS {
-            return Err(AllocError);
-        }
         self.leaves.reserve(additional)?;
         self.nodes4.reserve(additional)?;
         self.nodes16.reserve(additional)?;
@@ -157,24 +150,13 @@ impl<K, V, const PREFIX_LEN: usize> NodeArena<K, V, PREFIX_LEN> {
         N::get(self, ptr.slot())
     }
 
-    /// Where an inner node is held, the stored front of a prefix is so short that the node fits in memory. A caller
-    /// over any `PREFIX_LEN` calls this before it names the node's type.
-    pub fn prefix_fits(&self, name: OpaqueNodePtr)
-        requires held { IsSome (held_at self.now name) }
-        requires inner { name.kind ≢ NodeType.Leaf }
-        ensures { PREFIX_LEN < 2 ^ 62 }
-    {
-        let _nodes = &self.nodes4;
-    }
-
     /// Whether the stored front of a prefix is so short that an inner node fits in memory, as it does where there is room
     /// for one. A caller over any `PREFIX_LEN` asks this before it makes the first inner node of a tree.
     pub fn fits_in_memory(&self) -> bool
         ensures value { IsTrue result → PREFIX_LEN < 2 ^ 62 }
         ensures room { HasRoom self.now 1 → IsTrue result }
     {
-        let _nodes = &self.nodes4;
-        PREFIX_LEN < NO_MEMORY_HOLDS
+        self.nodes4.fits_in_memory()
     }
 
     /// The node under this name, for writing.
@@ -229,10 +211,7 @@ impl<K, V, const PREFIX_LEN: usize> NodeArena<K, V, PREFIX_LEN> {
         ensures key { (l : _) → held_at self.old (leaf_name leaf) ≡ Some (leaf_held l) → result.0.now ≡ l.key }
         ensures value { (l : _) → held_at self.old (leaf_name leaf) ≡ Some (leaf_held l) → result.1.now ≡ l.value }
     {
-        match self.leaves.get_mut(leaf.slot()) {
-            Some(node) => node.entry_mut(),
-            None => unreachable!(),
-        }
+        self.leaves.node_mut(leaf.slot()).entry_mut()
     }
 
     // The slab key of the leaf that comes before a leaf.
@@ -240,10 +219,7 @@ impl<K, V, const PREFIX_LEN: usize> NodeArena<K, V, PREFIX_LEN> {
         requires { IsSome (links_at self.now leaf) }
         ensures { (links : _) → links_at self.now leaf ≡ Some links → result ≡ links.previous }
     {
-        match self.leaves.get(leaf) {
-            Some(node) => slot_of(node.previous()),
-            None => unreachable!(),
-        }
+        slot_of(self.leaves.node(leaf).previous())
     }
 
     // The slab key of the leaf that comes after a leaf.
@@ -251,10 +227,7 @@ impl<K, V, const PREFIX_LEN: usize> NodeArena<K, V, PREFIX_LEN> {
         requires { IsSome (links_at self.now leaf) }
         ensures { (links : _) → links_at self.now leaf ≡ Some links → result ≡ links.next }
     {
-        match self.leaves.get(leaf) {
-            Some(node) => slot_of(node.next()),
-            None => unreachable!(),
-        }
+        slot_of(self.leaves.node(leaf).next())
     }
 
     // Sets the leaf that comes before a leaf.
@@ -263,10 +236,7 @@ impl<K, V, const PREFIX_LEN: usize> NodeArena<K, V, PREFIX_LEN> {
         ensures links { (was : _) → links_at self.old leaf ≡ Some was → WritesLinks self.old self.new leaf (record was { previous = previous }) }
         ensures room { (n : ℕ) → HasRoom self.old n → HasRoom self.new n }
     {
-        match self.leaves.get_mut(leaf) {
-            Some(node) => node.set_previous(name_of(previous)),
-            None => unreachable!(),
-        }
+        self.leaves.node_mut(leaf).set_previous(name_of(previous))
     }
 
     // Sets the leaf that comes after a leaf.
@@ -275,10 +245,7 @@ impl<K, V, const PREFIX_LEN: usize> NodeArena<K, V, PREFIX_LEN> {
         ensures links { (was : _) → links_at self.old leaf ≡ Some was → WritesLinks self.old self.new leaf (record was { next = next }) }
         ensures room { (n : ℕ) → HasRoom self.old n → HasRoom self.new n }
     {
-        match self.leaves.get_mut(leaf) {
-            Some(node) => node.set_next(name_of(next)),
-            None => unreachable!(),
-        }
+        self.leaves.node_mut(leaf).set_next(name_of(next))
     }
 }
 

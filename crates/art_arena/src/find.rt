@@ -12,10 +12,11 @@ ghost use Rattle.art_arena.specs.Found.{found_of, found_in, pair_found, IsAtKey}
 ghost use Rattle.art_arena.specs.Turns.{GoesOn, Ends, IsTurn};
 
 use crate::arena::LeafPtr;
+use crate::inner_ref::InnerRef;
 use crate::path::{TreePath, TreePathSearch, inner_node_ptr};
 use crate::reader::{ArenaReader, VisitedNode};
 use art_bytes::AsBytes;
-use art_nodes::{InnerNodeCommon, LeafNode, NodePtr, NodeType, OpaqueNodePtr};
+use art_nodes::{LeafNode, NodePtr, NodeType, OpaqueNodePtr};
 
 /// A leaf that was found, and the last steps of the way to it.
 #[derive(Clone, Copy, Debug)]
@@ -92,33 +93,29 @@ fn turn_at<'a, K, V, const PREFIX_LEN: usize>(
     requires fits_in_memory { kind_of node ≢ NodeType.Leaf → PREFIX_LEN < 2 ^ 62 }
     ensures { IsTurn key.now depth (held_of node.entry) result }
 {
-    match node {
-        VisitedNode::Leaf(leaf) => Turn::Leaf(leaf),
-        VisitedNode::Node4(node) => Turn::Inner(next_step(node, key, depth)),
-        VisitedNode::Node16(node) => Turn::Inner(next_step(node, key, depth)),
-        VisitedNode::Node48(node) => Turn::Inner(next_step(node, key, depth)),
-        VisitedNode::Node256(node) => Turn::Inner(next_step(node, key, depth)),
+    match node.leaf() {
+        Ok(leaf) => Turn::Leaf(leaf),
+        Err(inner) => Turn::Inner(next_step(&inner, key, depth)),
     }
 }
 
 // The child to which a key goes on from an inner node that stands behind so many of its bytes.
-fn next_step<N: InnerNodeCommon<PREFIX_LEN>, const PREFIX_LEN: usize>(
-    node: &N,
+fn next_step<K, V, const PREFIX_LEN: usize>(
+    inner: &InnerRef<'_, K, V, PREFIX_LEN>,
     key: &[u8],
     depth: usize,
 ) -> Option<NextStep>
     requires { depth ≤ length key.now }
-    ensures { MatchOption result (Ends key.now depth (N.inner node.now)) (λ step. GoesOn key.now depth (N.inner node.now) step.byte step.child step.depth) }
+    ensures { MatchOption result (Ends key.now depth inner.now.node)
+        (λ step. GoesOn key.now depth inner.now.node step.byte step.child step.depth) }
 {
-    // The children tell that a header fits in memory.
-    let _children = node.iter();
-    let prefix_len = node.header().prefix_len();
+    let prefix_len = inner.prefix_len();
     if key.len() - depth <= prefix_len {
         return None;
     }
     let at = depth + prefix_len;
     let byte = key[at];
-    match node.lookup_child(byte) {
+    match inner.lookup_child(byte) {
         Some(child) => Some(NextStep {
             byte,
             child,

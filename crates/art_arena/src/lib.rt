@@ -6,18 +6,21 @@
 mod arena;
 mod ends;
 mod find;
-pub mod inner;
+mod inner_ref;
 pub mod laws;
 pub mod links;
+mod node_edits;
+mod nodes;
 mod path;
 mod prefix;
 mod reader;
-pub mod replay;
 mod stored;
 
 pub use arena::{LeafPtr, NodeArena, NodeRefused};
 pub use ends::{first_leaf, last_leaf};
 pub use find::{FoundLeaf, find_leaf};
+pub use inner_ref::InnerRef;
+pub use node_edits::{NodeEdit, StoredInner};
 pub use path::{TreePath, TreePathSearch, inner_node_ptr};
 pub use prefix::{match_full_prefix, read_full_prefix};
 pub use reader::{ArenaReader, Reader, VisitedNode};

@@ -1,9 +1,10 @@
 //! Reading an arena, each node that is read counted.
-ghost use Rattle.std.specs.Prelude.{◌≡◌, ◌≢◌, ◌+◌, ◌-◌, ◌^◌, ◌<◌, min, Some, IsSome};
-ghost use Rattle.art_arena.specs.Arena.{held_at};
+ghost use Rattle.std.specs.Prelude.{◌≡◌, ◌≢◌, ◌+◌, ◌-◌, ◌^◌, ◌<◌, min, Some, IsSome, MatchResult};
+ghost use Rattle.art_arena.specs.Arena.{held_at, leaf_held, inner_held};
 ghost use Rattle.art_arena.specs.Visited.{arena_of, count_of, held_of, kind_of};
 
 use crate::arena::NodeArena;
+use crate::inner_ref::{InnerArm, InnerRef};
 use art_nodes::{
     InnerNode4, InnerNode16, InnerNode48, InnerNode256, LeafNode, NodeType, OpaqueNodePtr,
 };
@@ -21,6 +22,31 @@ pub enum VisitedNode<'a, K, V, const PREFIX_LEN: usize> {
     Node256(&'a InnerNode256<K, V, PREFIX_LEN>),
     /// A leaf.
     Leaf(&'a LeafNode<K, V>),
+}
+
+impl<'a, K, V, const PREFIX_LEN: usize> VisitedNode<'a, K, V, PREFIX_LEN> {
+    /// The leaf, or else the inner node, whatever its kind. That an inner node fits in memory is what `visit` says.
+    pub fn leaf(self) -> Result<&'a LeafNode<K, V>, InnerRef<'a, K, V, PREFIX_LEN>>
+        requires fits_in_memory { kind_of self ≢ NodeType.Leaf → PREFIX_LEN < 2 ^ 62 }
+        ensures { MatchResult result (λ leaf. held_of self.entry ≡ leaf_held leaf.now)
+            (λ inner. (held_of self.entry ≡ inner_held inner.node) × (kind_of self.entry ≡ inner.kind)) }
+    {
+        match self {
+            VisitedNode::Leaf(leaf) => Ok(leaf),
+            VisitedNode::Node4(node) => Err(InnerRef {
+                arm: InnerArm::Node4(node),
+            }),
+            VisitedNode::Node16(node) => Err(InnerRef {
+                arm: InnerArm::Node16(node),
+            }),
+            VisitedNode::Node48(node) => Err(InnerRef {
+                arm: InnerArm::Node48(node),
+            }),
+            VisitedNode::Node256(node) => Err(InnerRef {
+                arm: InnerArm::Node256(node),
+            }),
+        }
+    }
 }
 
 /// Something that is read step by step, and how many steps were made.
@@ -85,28 +111,28 @@ fn node_in<'a, K, V, const PREFIX_LEN: usize>(
     ensures kind { kind_of result ≡ name.kind }
     ensures fits_in_memory { name.kind ≢ NodeType.Leaf → PREFIX_LEN < 2 ^ 62 }
 {
-    let _nodes = &arena.nodes4;
     let slot = name.slot();
     match name.node_type() {
-        NodeType::Node4 => match arena.nodes4.get(slot) {
-            Some(node) => VisitedNode::Node4(node),
-            None => unreachable!(),
-        },
-        NodeType::Node16 => match arena.nodes16.get(slot) {
-            Some(node) => VisitedNode::Node16(node),
-            None => unreachable!(),
-        },
-        NodeType::Node48 => match arena.nodes48.get(slot) {
-            Some(node) => VisitedNode::Node48(node),
-            None => unreachable!(),
-        },
-        NodeType::Node256 => match arena.nodes256.get(slot) {
-            Some(node) => VisitedNode::Node256(node),
-            None => unreachable!(),
-        },
-        NodeType::Leaf => match arena.leaves.get(slot) {
-            Some(node) => VisitedNode::Leaf(node),
-            None => unreachable!(),
-        },
+        NodeType::Node4 => VisitedNode::Node4(arena.nodes4.node(slot)),
+        NodeType::Node16 => VisitedNode::Node16(arena.nodes16.node(slot)),
+        NodeType::Node48 => VisitedNode::Node48(arena.nodes48.node(slot)),
+        NodeType::Node256 => VisitedNode::Node256(arena.nodes256.node(slot)),
+        NodeType::Leaf => VisitedNode::Leaf(arena.leaves.node(slot)),
+    }
+}
+
+impl<K, V, const PREFIX_LEN: usize> NodeArena<K, V, PREFIX_LEN> {
+    /// The inner node under this name, whatever its kind. It isn't counted.
+    pub fn inner(&self, name: OpaqueNodePtr) -> InnerRef<'_, K, V, PREFIX_LEN>
+        requires held { IsSome (held_at self.now name) }
+        requires inner { name.kind ≢ NodeType.Leaf }
+        ensures value { held_at self.now name ≡ Some (inner_held result.node) }
+        ensures kind { result.kind ≡ name.kind }
+        ensures fits_in_memory { PREFIX_LEN < 2 ^ 62 }
+    {
+        match node_in(self, name).leaf() {
+            Err(inner) => inner,
+            Ok(_) => unreachable!(),
+        }
     }
 }

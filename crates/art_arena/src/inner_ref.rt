@@ -1,0 +1,158 @@
+//! The one door to an inner node: what is read of it, whatever its kind.
+ghost use Rattle.std.specs.Prelude.{◌≡◌, ◌↔◌, ◌<◌, ◌≤◌, ◌⊎◌, IsFalse, IsSome, IsTrue, length};
+ghost use Rattle.std.specs.declared.ops.Bound.TheVariants.{Excluded, Unbounded};
+ghost use Rattle.art_nodes.specs.InnerNode as node;
+ghost use Rattle.art_nodes.specs.Kind.{row_of};
+
+use art_nodes::{
+    ChildIter, Header, InnerNode4, InnerNode16, InnerNode48, InnerNode256, InnerNodeCommon,
+    OpaqueNodePtr,
+};
+use std::marker::Model;
+use std::ops::Bound;
+
+// An inner node, with a case for each kind.
+#[derive(Drop)]
+pub(crate) enum InnerArm<'a, K, V, const PREFIX_LEN: usize> {
+    Node4(&'a InnerNode4<K, V, PREFIX_LEN>),
+    Node16(&'a InnerNode16<K, V, PREFIX_LEN>),
+    Node48(&'a InnerNode48<K, V, PREFIX_LEN>),
+    Node256(&'a InnerNode256<K, V, PREFIX_LEN>),
+}
+
+/// An inner node of any kind, lent by an arena. It fits in memory, which a caller over any `PREFIX_LEN` need not show.
+#[derive(Drop)]
+pub struct InnerRef<'a, K, V, const PREFIX_LEN: usize> {
+    pub(crate) arm: InnerArm<'a, K, V, PREFIX_LEN>,
+}
+
+impl<'a, K, V, const PREFIX_LEN: usize> Model for InnerRef<'a, K, V, PREFIX_LEN> {
+    ghost use Rattle.std.specs.Prelude.{◌<◌, ◌^◌};
+    ghost use Rattle.art_arena.specs.InnerRef.{Inner, arm_kind, arm_node};
+
+    ghost Value = { Inner };
+
+    ghost view = { λ a. record { kind = arm_kind a.arm; node = arm_node a.arm } };
+
+    ghost invariant = { λ a. PREFIX_LEN < 2 ^ 62 };
+}
+
+// An expression over the node, whatever its kind.
+macro_rules! on_arm {
+    ($self:ident, $node:ident => $body:expr) => {
+        match $self.arm {
+            InnerArm::Node4($node) => $body,
+            InnerArm::Node16($node) => $body,
+            InnerArm::Node48($node) => $body,
+            InnerArm::Node256($node) => $body,
+        }
+    };
+}
+
+impl<'a, K, V, const PREFIX_LEN: usize> InnerRef<'a, K, V, PREFIX_LEN> {
+    /// The header.
+    pub fn header(&self) -> &'a Header<PREFIX_LEN>
+        ensures value { result.now ≡ self.now.node.header }
+        ensures is_inner_node { node.IsInnerNode PREFIX_LEN (row_of self.now.kind).most self.now.node }
+    {
+        on_arm!(self, node => node.header())
+    }
+
+    /// How many bytes the whole prefix has.
+    pub fn prefix_len(&self) -> usize
+        ensures { result ≡ self.now.node.header.prefix_len }
+    {
+        let _arm = &self.arm;
+        self.header().prefix_len()
+    }
+
+    /// The bytes of the prefix that are stored: its front.
+    pub fn read_prefix(&self) -> &[u8]
+        ensures { result.now ≡ self.now.node.header.stored }
+    {
+        let _arm = &self.arm;
+        self.header().read_prefix()
+    }
+
+    /// How many children there are.
+    pub fn num_children(&self) -> usize
+        ensures { result ≡ length self.now.node.children }
+    {
+        let _arm = &self.arm;
+        self.header().num_children()
+    }
+
+    /// Whether the room is used up.
+    pub fn is_full(&self) -> bool
+        ensures value { IsTrue result ↔ (length self.now.node.children ≡ (row_of self.now.kind).most) }
+        ensures room { length self.now.node.children ≤ (row_of self.now.kind).most }
+    {
+        on_arm!(self, node => node.is_full())
+    }
+
+    /// The child under this byte.
+    pub fn lookup_child(&self, byte: u8) -> Option<OpaqueNodePtr>
+        ensures { result ≡ node.child_at self.now.node.children byte }
+    {
+        on_arm!(self, node => node.lookup_child(byte))
+    }
+
+    /// Whether a child may be written under this byte of the node as it stands: it has room, or one stands there. Where not,
+    /// there is a larger kind.
+    pub fn may_write(&self, byte: u8) -> bool
+        ensures yes { IsTrue result → (length self.now.node.children < (row_of self.now.kind).most)
+            ⊎ IsSome (node.child_at self.now.node.children byte) }
+        ensures no { IsFalse result → (length self.now.node.children ≡ (row_of self.now.kind).most)
+            × IsSome (row_of self.now.kind).larger }
+    {
+        on_arm!(self, node => has_room::<_, PREFIX_LEN>(node, byte))
+    }
+
+    /// The children, by ascending byte.
+    pub fn children(&self) -> ChildIter<'_>
+        ensures value { result ≡ self.now.node.children }
+        ensures ascending { node.IsAscending result }
+    {
+        on_arm!(self, node => node.iter())
+    }
+
+    /// The children whose bytes lie between two bounds, by ascending byte.
+    pub fn range(&self, start: Bound<u8>, end: Bound<u8>) -> ChildIter<'_>
+        requires { node.AreValidBounds start end }
+        ensures { result ≡ node.children_between start end self.now.node.children }
+    {
+        on_arm!(self, node => node.range(start, end))
+    }
+
+    /// The child under the smallest byte, with its byte.
+    pub fn first_child(&self) -> Option<(u8, OpaqueNodePtr)>
+        ensures { result ≡ node.first_child self.now.node.children }
+    {
+        self.children().next()
+    }
+
+    /// The child under the greatest byte, with its byte.
+    #[tactic(auto, using(art_nodes::proofs::ChildLemmas::lasts))]
+    pub fn last_child(&self) -> Option<(u8, OpaqueNodePtr)>
+        ensures { result ≡ node.last_child self.now.node.children }
+    {
+        self.children().next_back()
+    }
+
+    /// The child under the smallest byte above this one, with its byte.
+    pub fn child_after(&self, byte: u8) -> Option<(u8, OpaqueNodePtr)>
+        ensures { result ≡ node.first_child (node.children_between (Excluded byte) Unbounded self.now.node.children) }
+    {
+        self.range(Bound::Excluded(byte), Bound::Unbounded).next()
+    }
+}
+
+// Whether a child may be written under this byte of a node as it stands.
+fn has_room<N: InnerNodeCommon<PREFIX_LEN>, const PREFIX_LEN: usize>(inner: &N, byte: u8) -> bool
+    ensures yes { IsTrue result → (length (N.inner inner.now).children < N.room)
+        ⊎ IsSome (node.child_at (N.inner inner.now).children byte) }
+    ensures no { IsFalse result → (length (N.inner inner.now).children ≡ N.room) × (N.room < 256) }
+{
+    let _children = inner.iter();
+    !inner.is_full() || inner.lookup_child(byte).is_some()
+}

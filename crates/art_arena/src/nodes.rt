@@ -1,0 +1,131 @@
+//! The nodes of one kind, under their slab keys.
+ghost use Rattle.std.specs.Prelude.{◌≡◌, ◌<◌, ◌≤◌, ◌^◌, ◌↔◌, ◌+◌};
+ghost use Rattle.std.specs.Prelude.{[], Some, None, IfOk, IfErr, IsOk, IsSome, IsTrue, OnErr, OnOk};
+ghost use Rattle.std.specs.Borrow.{sem};
+ghost use Rattle.slab.specs.Slab.{get, slab_len, HasRoomFor, Updates};
+ghost use Rattle.art_arena.specs.NodesLends.{lends_in};
+
+use slab::Slab;
+use std::alloc::{AllocError, AllocFailed, Global};
+use std::marker::Model;
+
+// No memory holds a node whose stored prefix has so many bytes.
+const NO_MEMORY_HOLDS: usize = 1 << 62;
+
+/// The nodes of one kind, each under its slab key. Where there is one, or room for one, a prefix of `PREFIX_LEN` stored
+/// bytes is so short that a node fits in memory.
+#[derive(Drop)]
+pub(crate) struct Nodes<N, const PREFIX_LEN: usize> {
+    slab: Slab<N>,
+}
+
+impl<N, const PREFIX_LEN: usize> Model for Nodes<N, PREFIX_LEN> {
+    ghost use Rattle.slab.specs.Slab.{Slab};
+    ghost use Rattle.art_arena.specs.Fits.{FitsWhereUsed};
+
+    ghost Value = { Slab N };
+
+    ghost view = { λ a. a.slab };
+
+    ghost invariant = { λ a. FitsWhereUsed PREFIX_LEN a.slab };
+}
+
+impl<N, const PREFIX_LEN: usize> Nodes<N, PREFIX_LEN> {
+    // No nodes. It takes no memory.
+    pub(crate) fn new(alloc: Global) -> Self
+        ensures slots { result.slots ≡ [] }
+        ensures capacity { result.capacity ≡ 0 }
+    {
+        Nodes {
+            slab: Slab::new(alloc),
+        }
+    }
+
+    // Whether there is a node under this key.
+    pub(crate) fn contains(&self, slot: usize) -> bool
+        ensures { IsTrue result ↔ IsSome (get self.now slot) }
+    {
+        self.slab.contains(slot)
+    }
+
+    // Makes room for so many more nodes. It is refused only where there is no room for them, and no memory.
+    pub(crate) fn reserve(&mut self, additional: usize) -> Result<(), AllocError>
+        ensures room { OnOk result (HasRoomFor self.new additional) }
+        ensures succeeds { HasRoomFor self.old additional → IsOk result }
+        ensures capacity { self.old.capacity ≤ self.new.capacity }
+        ensures kept { self.new ≡ record self.old { capacity = self.new.capacity } }
+    {
+        let slab = &mut self.slab;
+        if slab.capacity() - slab.len() >= additional {
+            return Ok(());
+        }
+        if PREFIX_LEN >= NO_MEMORY_HOLDS {
+            return Err(AllocError);
+        }
+        slab.reserve(additional)
+    }
+
+    // Stores a node, or hands it back where there is no memory.
+    pub(crate) fn insert(&mut self, node: N) -> Result<usize, AllocFailed<N>>
+        ensures was_vacant { IfOk result (λ slot. get self.old slot ≡ None) }
+        ensures updates { IfOk result (λ slot. Updates self.old self.new slot (Some node)) }
+        ensures len { OnOk result (slab_len self.new ≡ slab_len self.old + 1) }
+        ensures err { OnErr result (self.new ≡ record self.old { capacity = self.new.capacity }) }
+        ensures handed_back { IfErr result (λ failed. failed.value ≡ node) }
+        ensures succeeds { HasRoomFor self.old 1 → IsOk result }
+        ensures capacity { self.old.capacity ≤ self.new.capacity }
+    {
+        let slab = &mut self.slab;
+        if PREFIX_LEN >= NO_MEMORY_HOLDS {
+            return Err(AllocFailed { value: node });
+        }
+        slab.insert(node)
+    }
+
+    // Whether a node fits in memory, as it does where there is room for one.
+    pub(crate) fn fits_in_memory(&self) -> bool
+        ensures value { IsTrue result → PREFIX_LEN < 2 ^ 62 }
+        ensures room { HasRoomFor self.now 1 → IsTrue result }
+    {
+        let _slab = &self.slab;
+        PREFIX_LEN < NO_MEMORY_HOLDS
+    }
+
+    // The node under this key. Where there is one, it fits in memory.
+    pub(crate) fn node(&self, slot: usize) -> &N
+        requires { IsSome (get self.now slot) }
+        ensures value { get self.now slot ≡ Some result.now }
+        ensures fits_in_memory { PREFIX_LEN < 2 ^ 62 }
+    {
+        match self.slab.get(slot) {
+            Some(node) => node,
+            None => unreachable!(),
+        }
+    }
+
+    // The node under this key, for writing.
+    pub(crate) fn node_mut(&mut self, slot: usize) -> &mut N
+        requires { IsSome (get self.old slot) }
+        ensures* writes_back { sem 𝓛 (lends_in N.row PREFIX_LEN.row self.entry slot result) }
+        ensures value { get self.old slot ≡ Some result.now }
+    {
+        match self.slab.get_mut(slot) {
+            Some(node) => node,
+            None => unreachable!(),
+        }
+    }
+
+    // Takes the node under this key out.
+    pub(crate) fn remove(&mut self, slot: usize) -> N
+        requires { IsSome (get self.old slot) }
+        ensures value { get self.old slot ≡ Some result }
+        ensures updates { Updates self.old self.new slot None }
+        ensures len { slab_len self.new + 1 ≡ slab_len self.old }
+        ensures capacity { self.new.capacity ≡ self.old.capacity }
+    {
+        match self.slab.try_remove(slot) {
+            Some(node) => node,
+            None => unreachable!(),
+        }
+    }
+}
