@@ -15,6 +15,7 @@ pub mod Splits
 pub mod SplitTrees
 pub mod Results
 pub mod PutBack
+pub mod Door
 pub mod JoinedPrefixes
 pub mod OtherChild
 pub mod Lengthened

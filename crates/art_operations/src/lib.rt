@@ -5,12 +5,12 @@
 
 pub mod delete;
 mod descent;
-mod edit;
 pub mod insert;
 pub mod lookup;
 pub mod meeting;
 pub mod minmax;
 pub mod pairs;
+mod parent;
 pub mod running;
 
 pub use delete::point::{

@@ -14,9 +14,7 @@ ghost use Rattle.art_operations.specs.inner.Removals.{EditsNode, Moves, PutsBack
 ghost use Rattle.art_operations.specs.Stores.{HasInner, KeepsRoom, SameLinks, StoresNodes, UsesRoom};
 
 use crate::delete::merge::merge;
-use crate::edit::{drop_node, remove_child, shrink, write_child};
-use art_arena::inner::header;
-use art_arena::{LeafPtr, NodeArena, TreePath};
+use art_arena::{LeafPtr, NodeArena, NodeEdit, TreePath};
 use art_bytes::AsBytes;
 use art_nodes::{NodeType, OpaqueNodePtr};
 use std::alloc::AllocError;
@@ -45,19 +43,18 @@ fn take_child<K, V, const PREFIX_LEN: usize>(
     ensures succeeds { HasRoom arena.old 1 → IsOk result }
     ensures room { UsesRoom 1 arena.old arena.new }
 {
-    remove_child(arena, parent, byte);
-    arena.prefix_fits(parent);
-    let left = header(arena, parent).num_children();
+    arena.edit_inner(parent, &NodeEdit::Remove { byte });
+    let left = arena.inner(parent).num_children();
     if !parent.node_type().should_shrink_inner_node(left) {
         return Ok(parent);
     }
-    match shrink(arena, parent) {
+    match arena.shrink(parent) {
         Ok(smaller) => {
-            drop_node(arena, parent);
+            arena.edit_inner(parent, &NodeEdit::Free);
             Ok(smaller)
         }
         Err(refused) => {
-            write_child(arena, parent, byte, child);
+            arena.edit_inner(parent, &NodeEdit::Write { byte, child });
             Err(refused)
         }
     }
@@ -81,8 +78,7 @@ fn take_out<K: AsBytes, V, const PREFIX_LEN: usize>(
     ensures succeeds { HasRoom arena.old 1 → IsOk result }
     ensures room { UsesRoom 1 arena.old arena.new }
 {
-    arena.prefix_fits(parent);
-    if header(arena, parent).num_children() == 2 {
+    if arena.inner(parent).num_children() == 2 {
         return Ok(merge(arena, parent, byte));
     }
     take_child(arena, parent, byte, leaf.to_opaque())
@@ -106,7 +102,7 @@ fn point_at<K, V, const PREFIX_LEN: usize>(
     if new == old {
         return;
     }
-    write_child(arena, above, byte, new);
+    arena.edit_inner(above, &NodeEdit::Write { byte, child: new });
 }
 
 /// Takes a leaf out of the inner nodes above it, and answers the root of what is left, if it isn't the root itself. The

@@ -8,9 +8,7 @@ ghost use Rattle.art_arena.specs.Shapes.{Shape};
 ghost use Rattle.art_operations.specs.inner.Removals.{IsOther, Lengthens};
 ghost use Rattle.art_operations.specs.Stores.{HasInner, KeepsRoom, StoresBehind};
 
-use crate::edit::{copy_prefix, drop_node};
-use art_arena::inner::{first_child, header, last_child};
-use art_arena::{NodeArena, first_leaf};
+use art_arena::{NodeArena, NodeEdit, first_leaf};
 use art_bytes::AsBytes;
 use art_nodes::{Header, KindLeaf, NodeType, OpaqueNodePtr};
 
@@ -26,7 +24,8 @@ fn other_child<K, V, const PREFIX_LEN: usize>(
     ensures { (n : node.InnerNode) (other : ℕ × Name) → HasInner arena.now parent n → IsOther n.children byte other
         → result ≡ other }
 {
-    match first_child(arena, parent) {
+    let inner = arena.inner(parent);
+    match inner.first_child() {
         Some(first) => {
             if first.0 != byte {
                 return first;
@@ -34,7 +33,7 @@ fn other_child<K, V, const PREFIX_LEN: usize>(
         }
         None => unreachable!(),
     }
-    match last_child(arena, parent) {
+    match inner.last_child() {
         Some(last) => last,
         None => unreachable!(),
     }
@@ -74,8 +73,7 @@ fn prefixes_fit<K: AsBytes, V, const PREFIX_LEN: usize>(
         × (len < length path) }
     ensures { (n : node.InnerNode) → HasInner arena.now child n → len + 1 + n.header.prefix_len < 2 ^ 64 }
 {
-    arena.prefix_fits(child);
-    let below = header(arena, child).prefix_len();
+    let below = arena.inner(child).prefix_len();
     if len <= PREFIX_LEN {
         if below <= PREFIX_LEN {
             return;
@@ -103,11 +101,10 @@ fn lengthen<K: AsBytes, V, const PREFIX_LEN: usize>(
     if child.is::<KindLeaf>() {
         return;
     }
-    arena.prefix_fits(parent);
-    let above = header(arena, parent);
+    let above = arena.inner(parent).header();
     prefixes_fit(arena, above.prefix_len(), child);
-    let prefix = joined_prefix(above, byte, header(arena, child));
-    copy_prefix(arena, child, &prefix);
+    let header = joined_prefix(above, byte, arena.inner(child).header());
+    arena.edit_inner(child, &NodeEdit::CopyPrefix { header: &header });
 }
 
 /// Drops a node of two children without the one under a byte, so that the other one, which it answers, can stand for
@@ -132,6 +129,6 @@ pub(crate) fn merge<K: AsBytes, V, const PREFIX_LEN: usize>(
 {
     let (edge, child) = other_child(arena, parent, byte);
     lengthen(arena, parent, edge, child);
-    drop_node(arena, parent);
+    arena.edit_inner(parent, &NodeEdit::Free);
     child
 }

@@ -7,7 +7,6 @@ ghost use Rattle.art_arena.specs.Steps.{steps_of};
 ghost use Rattle.art_operations.specs.DeletePoints.{leaf_of, IsLeafPlace};
 ghost use Rattle.art_operations.specs.Stores.{Stores};
 
-use art_arena::inner::{first_child, last_child};
 use art_arena::{
     ArenaReader, LeafPtr, NodeArena, TreePath, TreePathSearch, find_leaf, inner_node_ptr,
 };
@@ -65,7 +64,7 @@ pub fn find_minimum_to_delete<K: AsBytes, V, const PREFIX_LEN: usize>(
                 leaf_node_ptr: first,
             };
         }
-        match first_child(arena, current) {
+        match arena.inner(current).first_child() {
             Some(child) => {
                 search.visit_inner_node(inner_node_ptr(current), child.0);
                 current = child.1;
@@ -95,7 +94,7 @@ pub fn find_maximum_to_delete<K: AsBytes, V, const PREFIX_LEN: usize>(
                 leaf_node_ptr: last,
             };
         }
-        match last_child(arena, current) {
+        match arena.inner(current).last_child() {
             Some(child) => {
                 search.visit_inner_node(inner_node_ptr(current), child.0);
                 current = child.1;

@@ -18,20 +18,15 @@ ghost use Rattle.art_operations.specs.declared.insert.point.InsertKind.TheVarian
 ghost use Rattle.art_operations.specs.inner.Waiting.{AwaitsLeaf};
 ghost use Rattle.art_operations.specs.Stores.{HasInner, KeepsRoom, Stores, StoresOnly, UsesRoom};
 
-use crate::edit::{drop_node, repoint, write_child};
 use crate::insert::leaf::{store_leaf, take_back};
 use crate::insert::point::InsertPoint;
 use crate::insert::result::{InsertParentNodeChange, InsertRefused, InsertResult};
 use crate::insert::split::link_between;
-use art_arena::inner::last_child;
-use art_arena::{LeafPtr, NodeArena, first_leaf, inner_node_ptr, last_leaf};
+use crate::parent::repoint;
+use art_arena::{LeafPtr, NodeArena, NodeEdit, first_leaf, inner_node_ptr, last_leaf};
 use art_bytes::AsBytes;
-use art_nodes::{
-    ConcreteNodePtr, InnerNode, InnerNode4, InnerNode16, InnerNode48, InnerNode256,
-    InnerNodeCommon, LeafNode, NodeType, OpaqueNodePtr,
-};
+use art_nodes::OpaqueNodePtr;
 use std::alloc::AllocError;
-use std::ops::Bound;
 
 // An inner node with room for one more child, and the root of its tree.
 #[derive(Clone, Copy)]
@@ -45,106 +40,6 @@ struct Place {
 struct Neighbour {
     leaf: LeafPtr,
     is_before: bool,
-}
-
-// An expression over the inner node under a name, whatever its kind.
-macro_rules! match_inner_node {
-    ($arena:ident, $name:ident, $node:ident => $body:expr) => {
-        match $name.to_node_ptr() {
-            ConcreteNodePtr::Node4(ptr) => {
-                let $node = $arena.as_ref::<InnerNode4<K, V, PREFIX_LEN>>(ptr);
-                $body
-            }
-            ConcreteNodePtr::Node16(ptr) => {
-                let $node = $arena.as_ref::<InnerNode16<K, V, PREFIX_LEN>>(ptr);
-                $body
-            }
-            ConcreteNodePtr::Node48(ptr) => {
-                let $node = $arena.as_ref::<InnerNode48<K, V, PREFIX_LEN>>(ptr);
-                $body
-            }
-            ConcreteNodePtr::Node256(ptr) => {
-                let $node = $arena.as_ref::<InnerNode256<K, V, PREFIX_LEN>>(ptr);
-                $body
-            }
-            ConcreteNodePtr::LeafNode(_) => unreachable!(),
-        }
-    };
-}
-
-// Whether a child may be written under this byte of a node as it stands.
-fn may_write<N: InnerNodeCommon<PREFIX_LEN>, const PREFIX_LEN: usize>(node: &N, byte: u8) -> bool
-    ensures yes { IsTrue result → (length (N.inner node.now).children < N.room)
-        ⊎ IsSome (child_at (N.inner node.now).children byte) }
-    ensures no { IsFalse result → (length (N.inner node.now).children ≡ N.room) × (N.room < 256) }
-{
-    let _children = node.iter();
-    !node.is_full() || node.lookup_child(byte).is_some()
-}
-
-// Whether a child may be written under this byte of an inner node as it stands.
-fn has_room<K, V, const PREFIX_LEN: usize>(
-    arena: &NodeArena<K, V, PREFIX_LEN>,
-    name: OpaqueNodePtr,
-    byte: u8,
-) -> bool
-    requires held { IsSome (held_at arena.now name) }
-    requires inner { name.kind ≢ NodeType.Leaf }
-    ensures yes { (n : node.InnerNode) → HasInner arena.now name n → IsTrue result
-        → (length n.children < (row_of name.kind).most) ⊎ IsSome (child_at n.children byte) }
-    ensures no { (n : node.InnerNode) → HasInner arena.now name n → IsFalse result
-        → (length n.children ≡ (row_of name.kind).most) × IsSome (row_of name.kind).larger }
-{
-    arena.prefix_fits(name);
-    match_inner_node!(arena, name, node => may_write::<_, PREFIX_LEN>(node, byte))
-}
-
-// The child under the smallest byte above this one, with its byte.
-fn child_after<K, V, const PREFIX_LEN: usize>(
-    arena: &NodeArena<K, V, PREFIX_LEN>,
-    name: OpaqueNodePtr,
-    byte: u8,
-) -> Option<(u8, OpaqueNodePtr)>
-    requires held { IsSome (held_at arena.now name) }
-    requires inner { name.kind ≢ NodeType.Leaf }
-    ensures { (n : node.InnerNode) → HasInner arena.now name n
-        → result ≡ first_child (children_between (Excluded byte) Unbounded n.children) }
-{
-    arena.prefix_fits(name);
-    match_inner_node!(arena, name, node => node.range(Bound::Excluded(byte), Bound::Unbounded).next())
-}
-
-// Stores a copy of a full inner node in the next larger kind.
-fn grow<K, V, const PREFIX_LEN: usize>(
-    arena: &mut NodeArena<K, V, PREFIX_LEN>,
-    name: OpaqueNodePtr,
-) -> Result<OpaqueNodePtr, AllocError>
-    requires full { (n : node.InnerNode) × HasInner arena.old name n × (length n.children ≡ (row_of name.kind).most) }
-    requires larger { IsSome (row_of name.kind).larger }
-    ensures kind { IfOk result (λ grown. (row_of name.kind).larger ≡ Some grown.kind) }
-    ensures ok { IfOk result (λ grown. (n : node.InnerNode) → HasInner arena.old name n
-        → Allocates arena.old arena.new grown (inner_held n)) }
-    ensures err { OnErr result (SameNodes arena.old arena.new) }
-    ensures succeeds { HasRoom arena.old 1 → IsOk result }
-    ensures room { UsesRoom 1 arena.old arena.new }
-{
-    arena.prefix_fits(name);
-    match name.to_node_ptr() {
-        ConcreteNodePtr::Node4(ptr) => {
-            let grown = arena.as_ref::<InnerNode4<K, V, PREFIX_LEN>>(ptr).grow();
-            Ok(arena.allocate_node_ptr(grown)?.to_opaque())
-        }
-        ConcreteNodePtr::Node16(ptr) => {
-            let grown = arena.as_ref::<InnerNode16<K, V, PREFIX_LEN>>(ptr).grow();
-            Ok(arena.allocate_node_ptr(grown)?.to_opaque())
-        }
-        ConcreteNodePtr::Node48(ptr) => {
-            let grown = arena.as_ref::<InnerNode48<K, V, PREFIX_LEN>>(ptr).grow();
-            Ok(arena.allocate_node_ptr(grown)?.to_opaque())
-        }
-        ConcreteNodePtr::Node256(_) => unreachable!(),
-        ConcreteNodePtr::LeafNode(_) => unreachable!(),
-    }
 }
 
 // Makes room for one more child, under this byte, in the inner node at a point: where the node is full, one of the next
@@ -168,15 +63,15 @@ fn make_room<K: AsBytes, V, const PREFIX_LEN: usize>(
     ensures succeeds { HasRoom arena.old 1 → IsOk result }
     ensures room { UsesRoom 1 arena.old arena.new }
 {
-    if has_room(arena, inner, byte) {
+    if arena.inner(inner).may_write(byte) {
         return Ok(Place {
             node: inner,
             root: point.root,
         });
     }
-    let node = grow(arena, inner)?;
+    let node = arena.grow(inner)?;
     let root = repoint(arena, point.root, point.path, node);
-    drop_node(arena, inner);
+    arena.edit_inner(inner, &NodeEdit::Free);
     Ok(Place { node, root })
 }
 
@@ -193,13 +88,14 @@ fn neighbour_at<K: AsBytes, V, const PREFIX_LEN: usize>(
         → AwaitsLeaf K.bytes PREFIX_LEN arena.now root node byte leaf f outer l
         → IsBetween result.is_before result.leaf (leaves_before (f ∷ outer)) (leaves_after (f ∷ outer)) }
 {
-    if let Some(next) = child_after(arena, node, byte) {
+    let inner = arena.inner(node);
+    if let Some(next) = inner.child_after(byte) {
         return Neighbour {
             leaf: first_leaf(arena, next.1),
             is_before: true,
         };
     }
-    match last_child(arena, node) {
+    match inner.last_child() {
         Some(previous) => Neighbour {
             leaf: last_leaf(arena, previous.1),
             is_before: false,
@@ -226,7 +122,13 @@ fn put_leaf<K: AsBytes, V, const PREFIX_LEN: usize>(
 {
     let neighbour = neighbour_at(arena, node, byte);
     link_between(arena, leaf, neighbour.leaf, neighbour.is_before);
-    write_child(arena, node, byte, leaf.to_opaque());
+    arena.edit_inner(
+        node,
+        &NodeEdit::Write {
+            byte,
+            child: leaf.to_opaque(),
+        },
+    );
 }
 
 /// Puts a key and its value under an inner node that has no child under the key's next byte.

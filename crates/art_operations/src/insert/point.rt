@@ -8,7 +8,6 @@ ghost use Rattle.art_operations.specs.inner.Ways.{IsWay};
 ghost use Rattle.art_operations.specs.Stores.{Stores, StoresAt};
 
 use crate::meeting::{Meeting, Parted, meet};
-use art_arena::inner::lookup_child;
 use art_arena::{LeafPtr, NodeArena, TreePath, TreePathSearch, inner_node_ptr, read_full_prefix};
 use art_bytes::AsBytes;
 use art_nodes::{KindLeaf, NodeType, OpaqueNodePtr};
@@ -176,7 +175,7 @@ fn way_at_inner<K: AsBytes, V, const PREFIX_LEN: usize>(
         }),
         Meeting::OldEnds => {
             let byte = rest[prefix.len()];
-            match lookup_child(arena, node, byte) {
+            match arena.inner(node).lookup_child(byte) {
                 Some(child) => Way::Child(byte, child, depth + prefix.len() + 1),
                 None => Way::Point(InsertKind::IntoExisting {
                     inner_node_ptr: node,

@@ -18,13 +18,13 @@ ghost use Rattle.art_operations.specs.Points.{IsPoint};
 ghost use Rattle.art_operations.specs.Stores.{HasLeaf, KeepsRoom, SameCells, SameLinks, Stores, StoresAt};
 ghost use Rattle.art_operations.specs.Stores.{StoresBehind, StoresOnly, UsesRoom};
 
-use crate::edit::{copy_prefix, repoint};
 use crate::insert::leaf::{store_leaf, take_back};
 use crate::insert::point::InsertPoint;
 use crate::insert::result::{InsertParentNodeChange, InsertRefused, InsertResult};
 use crate::meeting::Parted;
+use crate::parent::repoint;
 use art_arena::links::{insert_after, insert_before};
-use art_arena::{LeafPtr, NodeArena, first_leaf, last_leaf, read_full_prefix};
+use art_arena::{LeafPtr, NodeArena, NodeEdit, first_leaf, last_leaf, read_full_prefix};
 use art_bytes::AsBytes;
 use art_nodes::{
     ConcreteInnerNodePtr, Header, InnerNode4, InnerNodeCommon, InnerNodeInit, Kind4, KindLeaf,
@@ -191,7 +191,7 @@ fn trim<K, V, const PREFIX_LEN: usize>(
     ensures room { KeepsRoom arena.old arena.new }
 {
     if let Some(header) = header {
-        copy_prefix(arena, node, &header);
+        arena.edit_inner(node, &NodeEdit::CopyPrefix { header: &header });
     }
 }
 

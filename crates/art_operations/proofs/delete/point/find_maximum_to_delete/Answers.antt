@@ -1,6 +1,7 @@
 use Rattle.std.proofs.Common.{◌≢◌, ◌∷◌, take, sym, ap, ◌∙◌, refl}
 use Rattle.art_nodes.specs.declared.kind.NodeType.TheVariants.{Leaf}
 use Rattle.art_arena.proofs.LinkedLists.{some_of}
+use Rattle.art_operations.proofs.Door.{read_at}
 use Rattle.art_operations.proofs.Ends.{last_of, last_end}
 use Rattle.art_operations.proofs.EndPlaces.{on_end-start, end_step}
 use Rattle.art_operations.proofs.delete.point.find_maximum_to_delete.Goals as goal
@@ -13,13 +14,13 @@ pub loop-last-smaller : goal.loop-last-smaller
 loop-last-smaller g c =
     let other : c.loop-last.current.kind ≢ Leaf = λ e. let h = c.in_default.ensures.variant.1 e in cc in
     let step = end_step g.K.AsBytes.bytes g.row.PREFIX_LEN c.args.arena.now last_of c.requires.0 last_child (last_end g.K.AsBytes.bytes) c.loop-last.current c.loop-last.search (c.loop-last.invariant c.requires.0 c.requires.1) other in
-    (step.goes_on c.in-Some-last_child.child _ (sym (c.last_child.ensures step.node step.there) ∙ c.in-Some-last_child.is) refl).1
+    (step.goes_on c.in-Some-last_child.child _ (sym (read_at (λ m. last_child m.children) _ step.node _ step.there c.inner.ensures.value _ c.last_child.ensures) ∙ c.in-Some-last_child.is) refl).1
 
 pub loop-last-preserved : goal.loop-last-preserved
 loop-last-preserved g c = λ s tree.
     let other : c.loop-last.current.kind ≢ Leaf = λ e. let h = c.in_default.ensures.variant.1 e in cc in
     let step = end_step g.K.AsBytes.bytes g.row.PREFIX_LEN c.args.arena.now last_of s last_child (last_end g.K.AsBytes.bytes) c.loop-last.current c.loop-last.search (c.loop-last.invariant s tree) other in
-    (step.goes_on c.in-Some-last_child.child _ (sym (c.last_child.ensures step.node step.there) ∙ c.in-Some-last_child.is)
+    (step.goes_on c.in-Some-last_child.child _ (sym (read_at (λ m. last_child m.children) _ step.node _ step.there c.inner.ensures.value _ c.last_child.ensures) ∙ c.in-Some-last_child.is)
     (c.visit_inner_node.ensures ∙ ap (λ n. take 2 (record { node = n; byte = c.in-Some-last_child.child.0 } ∷ c.loop-last.search)) c.inner_node_ptr.ensures)).0
 
 pub unreachable-requires : goal.unreachable-requires
@@ -27,4 +28,4 @@ unreachable-requires g c =
     let other : c.loop-last.current.kind ≢ Leaf = λ e. let h = c.in_default.ensures.variant.1 e in cc in
     let step = end_step g.K.AsBytes.bytes g.row.PREFIX_LEN c.args.arena.now last_of c.requires.0 last_child (last_end g.K.AsBytes.bytes) c.loop-last.current c.loop-last.search (c.loop-last.invariant c.requires.0 c.requires.1) other in
     let child = some_of _ step.some in
-    let e = sym child.1 ∙ sym (c.last_child.ensures step.node step.there) ∙ c.in-None.is in cc
+    let e = sym child.1 ∙ sym (read_at (λ m. last_child m.children) _ step.node _ step.there c.inner.ensures.value _ c.last_child.ensures) ∙ c.in-None.is in cc

@@ -24,23 +24,23 @@ link_between-requires g c =
       ),
     )
 
-pub write_child-requires : goal.write_child-requires
-write_child-requires g c =
+pub edit_inner-requires : goal.edit_inner-requires
+edit_inner-requires g c =
     let r = c.requires in
     let there : held_at c.link_between.new.arena c.args.node ≡ Some (inner_held (open_node g.row.PREFIX_LEN r.1)) = inner_of _ (open_node g.row.PREFIX_LEN r.1) (c.link_between.ensures.nodes c.args.node ∙ ap cell_of (node-held _ _ _ _ _ _ _ _ _ _ r.4)) in
     let most = r.5.most in
     let few : length (open_node g.row.PREFIX_LEN r.1).children < (row_of c.args.node.kind).most = omega (arith, most, as_many _ _ _ _ _ _ _ _ _ _ r.4) in
-    (omega arith, ((open_node g.row.PREFIX_LEN r.1, there, inl few), node-inner _ _ _ _ _ _ _ _ _ _ r.4))
+    (omega arith, (omega arith, ((open_node g.row.PREFIX_LEN r.1, there, inl few), node-inner _ _ _ _ _ _ _ _ _ _ r.4)))
 
 pub returns-clause-room : goal.returns-clause-room
-returns-clause-room g c = λ n room. c.write_child.ensures.room n (c.link_between.ensures.room n room)
+returns-clause-room g c = λ n room. c.edit_inner.ensures.room n (c.link_between.ensures.room n room)
 
 pub returns-clause-put : goal.returns-clause-put
 returns-clause-put g c = λ root f outer l awaits kind.
     let there = inner_of _ (open_node g.row.PREFIX_LEN f) (c.link_between.ensures.nodes c.args.node ∙ ap cell_of (node-held _ _ _ _ _ _ _ _ _ _ awaits)) in
-    let update = subst (λ n. UpdatesAt (held_at c.link_between.new.arena) (held_at c.write_child.new.arena) c.args.node
+    let update = subst (λ n. UpdatesAt (held_at c.link_between.new.arena) (held_at c.edit_inner.new.self) c.args.node
     (Some (inner_held (with_children (open_node g.row.PREFIX_LEN f) (with_child (open_node g.row.PREFIX_LEN f).children c.args.byte n)))))
-    c.to_opaque.ensures (c.write_child.ensures.updates _ there) in
+    c.to_opaque.ensures (c.edit_inner.ensures.updates _ there) in
     let beside = subst (IsBeside (links_at c.args.arena.now) (leaves_before (f ∷ outer) ++ leaves_after (f ∷ outer))) awaits.leaf_is awaits.beside in
     let list = c.link_between.ensures.linked (leaves_before (f ∷ outer)) (leaves_after (f ∷ outer)) l beside (c.neighbour_at-neighbour.ensures _ _ _ _ _ awaits) awaits.leaf_is in
-    put _ _ _ _ _ _ _ _ _ _ awaits c.link_between.new.arena c.write_child.new.arena c.link_between.ensures.nodes list update kind
+    put _ _ _ _ _ _ _ _ _ _ awaits c.link_between.new.arena c.edit_inner.new.self c.link_between.ensures.nodes list update kind
