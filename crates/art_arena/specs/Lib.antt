@@ -17,8 +17,9 @@ pub mod Context
 pub mod Prefixes
 pub mod Steps
 pub mod Places
+pub mod EndLeaves
 pub mod Found
-pub mod Turns
+pub mod Descents
 pub mod Arena
 pub mod Fits
 pub mod NodeEdits

@@ -3,7 +3,9 @@ ghost use Rattle.std.specs.Prelude.{◌≡◌, ◌↔◌, ◌<◌, ◌≤◌, �
 ghost use Rattle.std.specs.declared.ops.Bound.TheVariants.{Excluded, Unbounded};
 ghost use Rattle.art_nodes.specs.InnerNode as node;
 ghost use Rattle.art_nodes.specs.Kind.{row_of};
+ghost use Rattle.art_arena.specs.EndLeaves.{end_child};
 
+use crate::ends::End;
 use art_nodes::{
     ChildIter, Header, InnerNode4, InnerNode16, InnerNode48, InnerNode256, InnerNodeCommon,
     OpaqueNodePtr,
@@ -137,6 +139,16 @@ impl<'a, K, V, const PREFIX_LEN: usize> InnerRef<'a, K, V, PREFIX_LEN> {
         ensures { result ≡ node.last_child self.now.node.children }
     {
         self.children().next_back()
+    }
+
+    /// The child at this end, with its byte.
+    pub fn end_child(&self, end: End) -> Option<(u8, OpaqueNodePtr)>
+        ensures { result ≡ end_child end self.now.node.children }
+    {
+        match end {
+            End::First => self.first_child(),
+            End::Last => self.last_child(),
+        }
     }
 
     /// The child under the smallest byte above this one, with its byte.

@@ -4,6 +4,7 @@
 #![tactic(auto)]
 
 mod arena;
+mod descent;
 mod ends;
 mod find;
 mod inner_ref;
@@ -17,7 +18,8 @@ mod reader;
 mod stored;
 
 pub use arena::{LeafPtr, NodeArena, NodeRefused};
-pub use ends::{first_leaf, last_leaf};
+pub use descent::{Landed, land};
+pub use ends::{End, end_leaf, first_leaf, last_leaf};
 pub use find::{FoundLeaf, find_leaf};
 pub use inner_ref::InnerRef;
 pub use node_edits::{NodeEdit, StoredInner};

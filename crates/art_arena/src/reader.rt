@@ -29,7 +29,7 @@ impl<'a, K, V, const PREFIX_LEN: usize> VisitedNode<'a, K, V, PREFIX_LEN> {
     pub fn leaf(self) -> Result<&'a LeafNode<K, V>, InnerRef<'a, K, V, PREFIX_LEN>>
         requires fits_in_memory { kind_of self ≢ NodeType.Leaf → PREFIX_LEN < 2 ^ 62 }
         ensures { MatchResult result (λ leaf. held_of self.entry ≡ leaf_held leaf.now)
-            (λ inner. (held_of self.entry ≡ inner_held inner.node) × (kind_of self.entry ≡ inner.kind)) }
+            (λ inner. (held_of self.entry ≡ inner_held inner.node) × (kind_of self.entry ≡ inner.kind) × (inner.kind ≢ NodeType.Leaf)) }
     {
         match self {
             VisitedNode::Leaf(leaf) => Ok(leaf),

@@ -1,0 +1,15 @@
+use Rattle.std.proofs.Common.{ℕ, List}
+use Rattle.art_arena.specs.Arena.{node_at}
+use Rattle.art_arena.specs.Shapes.{Shape}
+use Rattle.art_arena.specs.Meaning.{IsSubtree}
+use Rattle.art_arena.proofs.Measures.{slots_of, nodes_below}
+use Rattle.art_arena.proofs.EndWalks.{OnEnd}
+use Rattle.art_arena.proofs.ends.end_leaf.Given as goal
+
+abbrev pub invariant-down : goal.invariant-down
+invariant-down g l =
+    (path : List ℕ) (s : Shape g.row.K.Denot g.row.V.Denot) → IsSubtree g.K.AsBytes.bytes g.row.PREFIX_LEN (node_at l.arena) l.fn.root path s
+    → OnEnd g.K.AsBytes.bytes g.row.PREFIX_LEN l.arena l.end path s l.current l.search
+
+abbrev pub decreases-down : goal.decreases-down
+decreases-down g l = nodes_below (slots_of l.arena) (node_at l.arena) l.current
