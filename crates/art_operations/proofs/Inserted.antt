@@ -27,7 +27,7 @@ use Rattle.art_operations.specs.declared.insert.result.InsertParentNodeChange.Th
 use Rattle.art_arena.specs.Steps.{steps_of}
 use Rattle.art_arena.proofs.Places.{held-below}
 use Rattle.art_arena.proofs.Subtrees.{pair_of, HoldsPair}
-use Rattle.art_operations.proofs.EndPlaces.{last_two}
+use Rattle.art_operations.proofs.LastSteps.{last_two}
 
 module _ {K V : Type 0} where
   -- links that answer alike link the same lists

@@ -1,9 +1,6 @@
-pub mod Ends
-pub mod Descents
-pub mod Lookups
+pub mod LastSteps
 pub mod Meetings
 pub mod Points
-pub mod EndPlaces
 pub mod NewNodes
 pub mod Edits
 pub mod Inserted

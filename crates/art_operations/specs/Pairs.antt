@@ -25,8 +25,8 @@ module _ {K V : Type 0} (bytes : K → List ℕ) where
   with_pair k v pairs = put (key_of bytes) (k, v) (without_key (key_of bytes) (bytes k) pairs)
 
 module _ {K V : Type 0} (bytes : K → List ℕ) (P : ℕ) (arena : Arena K V) where
-  -- The arena holds nothing but the tree of these pairs, and its leaves are linked in order. Where there are none it has
-  -- no root, and holds nothing.
+  -- The arena holds nothing but the tree of these pairs, and its leaves are linked in order. Where there are none it
+  -- has no root, and holds nothing.
   abbrev pub HasPairs : Option Name → List (K × V) → Type 0
   HasPairs None pairs = (pairs ≡ []) × ((n : Name) → node_at arena n ≡ None)
   HasPairs (Some root) pairs =

@@ -1,4 +1,3 @@
-pub mod Descents
 pub mod Meetings
 pub mod Ways
 pub mod Edits

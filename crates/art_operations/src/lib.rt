@@ -4,7 +4,6 @@
 #![tactic(auto)]
 
 pub mod delete;
-mod descent;
 pub mod insert;
 pub mod lookup;
 pub mod meeting;

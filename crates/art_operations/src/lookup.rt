@@ -1,5 +1,5 @@
 //! Look-ups of a key in the tree below a name.
-ghost use Rattle.std.specs.Prelude.{◌≡◌, ◌<◌, ◌≤◌, ◌⊎◌, ◌↔◌, drop, is_some, IsTrue, MatchResult};
+ghost use Rattle.std.specs.Prelude.{◌≡◌, ◌<◌, ◌≤◌, ◌⊎◌, ◌↔◌, drop, IsTrue, MatchResult};
 ghost use Rattle.std.specs.Str.{bytes_eq};
 ghost use Rattle.art_bytes.specs.Keys.{BeginsWith};
 ghost use Rattle.art_arena.specs.Tenants.{begins_with};
@@ -8,8 +8,7 @@ ghost use Rattle.art_operations.specs.Lookups.{behavior_after, leaf_where, seen_
 ghost use Rattle.art_operations.specs.Lookups.{IsMatchedByBytes, IsMatchedByLength, ReadsPath};
 ghost use Rattle.art_operations.specs.Stores.{Stores};
 
-use crate::descent::land;
-use art_arena::{ArenaReader, LeafPtr, NodeArena};
+use art_arena::{ArenaReader, LeafPtr, NodeArena, land};
 use art_bytes::AsBytes;
 use art_nodes::{InnerNodeCommon, LeafNode, OpaqueNodePtr, PessimisticMismatch, PrefixMatch};
 
@@ -139,8 +138,8 @@ pub fn prefix_search_unchecked<K: AsBytes, V, const PREFIX_LEN: usize>(
     prefix_search_with(&mut counted, root, key)
 }
 
-/// What `search_unchecked` answers, by a reader that counts each node that is read: where the leaf is found the nodes
-/// of the key's path, and never more. The greatest count stays.
+/// What `search_unchecked` answers, by a reader that counts each node that is read: those of the key's path. The
+/// greatest count stays.
 pub fn search_with<K: AsBytes, V, const PREFIX_LEN: usize>(
     reader: &mut ArenaReader<'_, K, V, PREFIX_LEN>,
     root: OpaqueNodePtr,
@@ -151,14 +150,11 @@ pub fn search_with<K: AsBytes, V, const PREFIX_LEN: usize>(
         → result ≡ leaf_where K.bytes (λ k. bytes_eq k key.now) (leaves s) }
     ensures kept { reader.new.arena.now ≡ reader.old.arena.now }
     ensures counts { (s : Shape K V) → Stores K.bytes PREFIX_LEN reader.old.arena.now root s
-        → ReadsPath key.now s reader.old.count reader.new.count (is_some result) }
+        → ReadsPath key.now s reader.old.count reader.new.count }
 {
     match land(reader, root, key) {
         Some(landed) => {
-            if landed
-                .behavior
-                .matches_leaf_key(landed.leaf, key, landed.depth)
-            {
+            if landed.leaf.compare_full_key(key) {
                 return Some(landed.name);
             }
             None
@@ -167,8 +163,8 @@ pub fn search_with<K: AsBytes, V, const PREFIX_LEN: usize>(
     }
 }
 
-/// What `prefix_search_unchecked` answers, by a reader that counts each node that is read: where the leaf is found the
-/// nodes of the key's path, and never more. The greatest count stays.
+/// What `prefix_search_unchecked` answers, by a reader that counts each node that is read: those of the key's path. The
+/// greatest count stays.
 pub fn prefix_search_with<K: AsBytes, V, const PREFIX_LEN: usize>(
     reader: &mut ArenaReader<'_, K, V, PREFIX_LEN>,
     root: OpaqueNodePtr,
@@ -179,15 +175,12 @@ pub fn prefix_search_with<K: AsBytes, V, const PREFIX_LEN: usize>(
         → result ≡ leaf_where K.bytes (λ k. begins_with k key.now) (leaves s) }
     ensures kept { reader.new.arena.now ≡ reader.old.arena.now }
     ensures counts { (s : Shape K V) → Stores K.bytes PREFIX_LEN reader.old.arena.now root s
-        → ReadsPath key.now s reader.old.count reader.new.count (is_some result) }
+        → ReadsPath key.now s reader.old.count reader.new.count }
 {
     match land(reader, root, key) {
-        Some(front) => {
-            if front
-                .behavior
-                .leaf_key_is_prefix(front.leaf, key, front.depth)
-            {
-                return Some(front.name);
+        Some(landed) => {
+            if key.starts_with(landed.leaf.key_ref().as_bytes()) {
+                return Some(landed.name);
             }
             None
         }

@@ -59,9 +59,9 @@ fn put_first<K: AsBytes, V, const PREFIX_LEN: usize>(
     })
 }
 
-/// Puts a key and its value in at the place that was found for the key. A pair that has the key already is answered, and
-/// this one takes its leaf: that is never refused. Where there is no memory, the key and the value are handed back, and
-/// nothing changed.
+/// Puts a key and its value in at the place that was found for the key. A pair that has the key already is answered,
+/// and this one takes its leaf: that is never refused. Where there is no memory, the key and the value are handed back,
+/// and nothing changed.
 pub fn put_pair<K: AsBytes, V, const PREFIX_LEN: usize>(
     arena: &mut NodeArena<K, V, PREFIX_LEN>,
     place: Option<InsertPoint>,

@@ -7,11 +7,9 @@ ghost use Rattle.art_arena.specs.Steps.{steps_of};
 ghost use Rattle.art_operations.specs.DeletePoints.{leaf_of, IsLeafPlace};
 ghost use Rattle.art_operations.specs.Stores.{Stores};
 
-use art_arena::{
-    ArenaReader, LeafPtr, NodeArena, TreePath, TreePathSearch, find_leaf, inner_node_ptr,
-};
+use art_arena::{ArenaReader, End, LeafPtr, NodeArena, TreePath, end_leaf, find_leaf};
 use art_bytes::AsBytes;
-use art_nodes::{KindLeaf, OpaqueNodePtr};
+use art_nodes::OpaqueNodePtr;
 
 /// A leaf that is to be deleted. One that is built with the path and the leaf that a search would find counts as found.
 #[derive(Clone, Copy, Debug)]
@@ -55,22 +53,10 @@ pub fn find_minimum_to_delete<K: AsBytes, V, const PREFIX_LEN: usize>(
     ensures place { (s : Shape K V) → Stores K.bytes PREFIX_LEN arena.now root s
         → IsLeafPlace K.bytes s result.leaf_node_ptr (steps_of result.path) }
 {
-    let mut search = TreePathSearch::default();
-    let mut current = root;
-    loop {
-        if let Some(first) = current.cast::<KindLeaf>() {
-            return DeletePoint {
-                path: search.finish(),
-                leaf_node_ptr: first,
-            };
-        }
-        match arena.inner(current).first_child() {
-            Some(child) => {
-                search.visit_inner_node(inner_node_ptr(current), child.0);
-                current = child.1;
-            }
-            None => unreachable!(),
-        }
+    let found = end_leaf(arena, root, End::First);
+    DeletePoint {
+        path: found.path,
+        leaf_node_ptr: found.leaf_node_ptr,
     }
 }
 
@@ -85,21 +71,9 @@ pub fn find_maximum_to_delete<K: AsBytes, V, const PREFIX_LEN: usize>(
     ensures place { (s : Shape K V) → Stores K.bytes PREFIX_LEN arena.now root s
         → IsLeafPlace K.bytes s result.leaf_node_ptr (steps_of result.path) }
 {
-    let mut search = TreePathSearch::default();
-    let mut current = root;
-    loop {
-        if let Some(last) = current.cast::<KindLeaf>() {
-            return DeletePoint {
-                path: search.finish(),
-                leaf_node_ptr: last,
-            };
-        }
-        match arena.inner(current).last_child() {
-            Some(child) => {
-                search.visit_inner_node(inner_node_ptr(current), child.0);
-                current = child.1;
-            }
-            None => unreachable!(),
-        }
+    let found = end_leaf(arena, root, End::Last);
+    DeletePoint {
+        path: found.path,
+        leaf_node_ptr: found.leaf_node_ptr,
     }
 }

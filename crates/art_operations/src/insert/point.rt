@@ -8,7 +8,7 @@ ghost use Rattle.art_operations.specs.inner.Ways.{IsWay};
 ghost use Rattle.art_operations.specs.Stores.{Stores, StoresAt};
 
 use crate::meeting::{Meeting, Parted, meet};
-use art_arena::{LeafPtr, NodeArena, TreePath, TreePathSearch, inner_node_ptr, read_full_prefix};
+use art_arena::{LeafPtr, NodeArena, TreePath, TreePathSearch, read_full_prefix};
 use art_bytes::AsBytes;
 use art_nodes::{KindLeaf, NodeType, OpaqueNodePtr};
 use std::alloc::{AllocError, Global};
@@ -230,7 +230,7 @@ pub fn find_insert_point<K: AsBytes, V, const PREFIX_LEN: usize>(
                 });
             }
             Way::Child(byte, child, next) => {
-                search.visit_inner_node(inner_node_ptr(current), byte);
+                search.go_down(current, byte);
                 current = child;
                 depth = next;
             }

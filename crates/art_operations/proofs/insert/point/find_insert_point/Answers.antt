@@ -1,4 +1,4 @@
-use Rattle.std.proofs.Common.{◌<◌, ◌≤◌, ◌∷◌, length, take, sym, ap, ◌∙◌, arith}
+use Rattle.std.proofs.Common.{◌<◌, ◌≤◌, length, sym, ◌∙◌, arith}
 use Rattle.art_arena.specs.Arena.{node_at}
 use Rattle.art_arena.specs.Context.{path_to}
 use Rattle.art_arena.proofs.Surroundings.{free, conflict}
@@ -32,8 +32,8 @@ returns-in-Conflict g c = λ s tree.
     let at = way_at_depth g.K.AsBytes.bytes g.row.PREFIX_LEN (node_at c.args.arena.now) c.args.key.now s c.loop-insert_kind.current c.loop-insert_kind.search c.loop-insert_kind.depth way in
     conflict g.K.AsBytes.bytes c.args.key.now s way.ctx way.part way.toward.place way.toward.begins (c.in-Conflict.ensures (path_to way.ctx) way.part at way.toward.begins)
 
-pub inner_node_ptr-requires : goal.inner_node_ptr-requires
-inner_node_ptr-requires g c =
+pub go_down-requires : goal.go_down-requires
+go_down-requires g c =
     let way = c.loop-insert_kind.invariant.way c.requires.0 c.requires.1 in
     let at = way_at_depth g.K.AsBytes.bytes g.row.PREFIX_LEN (node_at c.args.arena.now) c.args.key.now c.requires.0 c.loop-insert_kind.current c.loop-insert_kind.search c.loop-insert_kind.depth way in
     let here = c.in-Child.ensures (path_to way.ctx) way.part at way.toward.begins in
@@ -62,5 +62,5 @@ loop-insert_kind-preserved g c = record {
       let here = c.in-Child.ensures (path_to way.ctx) way.part at way.toward.begins in
       way_step g.K.AsBytes.bytes g.row.PREFIX_LEN (node_at c.args.arena.now) c.args.key.now s c.loop-insert_kind.current c.loop-insert_kind.search c.loop-insert_kind.depth way here.0 here.1 here.2 c.in-Child.byte c.in-Child.child c.in-Child.next _
       here.3 here.4 here.5 here.6
-      (c.visit_inner_node.ensures ∙ ap (λ n. take 2 (record { node = n; byte = c.in-Child.byte } ∷ c.loop-insert_kind.search)) c.inner_node_ptr.ensures);
+      c.go_down.ensures;
 }
