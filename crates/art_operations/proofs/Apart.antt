@@ -12,8 +12,8 @@ use Rattle.art_arena.proofs.CellLists.{same_name_tells, same_name-self, copies-a
 use Rattle.art_arena.proofs.Contexts.{children_at-join, leaves_in-join, cells_in-join, width-join, cells-plug}
 use Rattle.art_arena.proofs.Openings.{without_child-frame}
 use Rattle.art_arena.proofs.Repoint.{frame_node}
-use Rattle.art_operations.specs.Detached.{alone, IsHeldAt, StandsFor}
-use Rattle.art_operations.specs.Removals.{Moves}
+use Rattle.art_operations.specs.inner.Detached.{alone, IsHeldAt, StandsFor}
+use Rattle.art_operations.specs.inner.Removals.{Moves}
 
 module _ {C : Type 0} where
   -- a cell may stand last

@@ -7,14 +7,16 @@ use Rattle.art_arena.specs.Changes.{IsIn, is_before, put}
 use Rattle.art_arena.specs.Shapes.{key_of}
 use Rattle.art_arena.specs.Shrinks.{Shrinks}
 use Rattle.art_arena.proofs.Paths.{in_map}
-use Rattle.art_operations.specs.Commands.{with_key, without_key, IsStored, IsBlocked, IsAnswered, after}
-use Rattle.art_operations.specs.Runs.{AreClones, HasPairs, HasClones, IsDone}
+use Rattle.art_operations.specs.Commands.{IsAnswered, after}
+use Rattle.art_operations.specs.KeyedLists.{with_key, without_key, HasKey, IsBlocked}
+use Rattle.art_operations.specs.Pairs.{HasPairs}
+use Rattle.art_operations.specs.Runs.{AreClones}
+use Rattle.art_operations.specs.inner.Runs.{HasClones, IsCarriedOut, IsDone}
 use Rattle.art_operations.specs.declared.running.Answer.{Answer}
 use Rattle.art_operations.specs.declared.running.Answer.TheVariants.{Done, Prefix, Memory}
 use Rattle.art_operations.specs.declared.running.Change.{Change}
-use Rattle.art_operations.specs.declared.running.Command.{Command}
 use Rattle.art_operations.specs.declared.running.Command.TheVariants.{Insert, Delete}
-use Rattle.art_operations.proofs.Pairs.{in_unmap, shrinks-map, shrinks-unmap}
+use Rattle.art_operations.proofs.LeafPairs.{in_unmap, shrinks-map, shrinks-unmap}
 
 abbrev bytes_of : List ℕ → List ℕ
 bytes_of k = k
@@ -27,7 +29,7 @@ module _ {X : Type 0} (key : X → List ℕ) (xs ys : List X) (same : map key xs
   blocked_other : (k : List ℕ) → IsBlocked key k xs → IsBlocked key k ys
   blocked_other k (x, i, c) = let other = in_other x i in (other.0, other.1, rw other.2 c)
 
-  stored_other : (k : List ℕ) → IsStored key k xs → IsStored key k ys
+  stored_other : (k : List ℕ) → HasKey key k xs → HasKey key k ys
   stored_other k (x, i, e) = let other = in_other x i in (other.0, other.1, other.2 ∙ e)
 
   shrinks_other : (k : List ℕ) → Shrinks key xs k → Shrinks key ys k
@@ -86,7 +88,7 @@ module _ {K V : Type 0} (bytes : K → List ℕ) (KeyClone : K → K → Type 0)
     answered-insert k c v d e (Done n) (count, free) =
         (rw (← e) (count ∙ as_many PairClone (key_of bytes) same_pair (bytes c) pairs clones are), λ blocked. free (rw e (blocked_other (key_of bytes) pairs clones (sym same_keys) (bytes k) blocked)))
     answered-insert k c v d e Prefix blocked = blocked_other (key_of bytes) clones pairs same_keys (bytes k) (rw e at blocked)
-    answered-insert k c v d e Memory h = tt
+    answered-insert k c v d e Memory free = λ blocked. free (rw e (blocked_other (key_of bytes) pairs clones (sym same_keys) (bytes k) blocked))
 
     answered-delete : (k : K) (answer : Answer) → IsAnswered bytes clones (Delete k) answer → IsAnswered bytes pairs (Delete k) answer
     answered-delete k (Done n) count = count ∙ as_many PairClone (key_of bytes) same_pair (bytes k) pairs clones are
@@ -105,14 +107,17 @@ module _ {K V : Type 0} (bytes : K → List ℕ) (KeyClone : K → K → Type 0)
     after-delete k Prefix = are
     after-delete k Memory = are
 
-  -- a command is answered, and the arena has clones of the pairs that it leaves
-  abbrev pub IsCarriedOut : ℕ → Arena K V → List (K × V) → Command K V → Change → Type 0
-  IsCarriedOut P arena pairs command change = IsAnswered bytes pairs command change.answer × HasClones bytes P arena KeyClone ValueClone change.root (after bytes command change.answer pairs)
+  -- an insertion that is refused before it clones leaves the clones that there were
+  pub insert-stays : (P : ℕ) (arena : Arena K V) (root : Option Name) (pairs : List (K × V)) (k : K) (v : V) (answer : Answer) → ((ps : List (K × V)) → after bytes (Insert k v) answer ps ≡ ps)
+      → ((stored : List (K × V)) → HasPairs bytes P arena root stored → IsAnswered bytes stored (Insert k v) answer)
+      → HasClones bytes P arena KeyClone ValueClone root pairs → IsCarriedOut bytes P arena KeyClone ValueClone pairs (Insert k v) (record { root = root; answer = answer })
+  insert-stays P arena root pairs k v answer stays answered (clones, are, has) =
+      (answered-insert pairs clones are k k v v refl answer (answered clones has), rw (stays pairs) (clones, are, has))
 
   -- an insertion of clones is one of the pair
   pub insert-clones : (P : ℕ) (old new : Arena K V) (root : Option Name) (pairs : List (K × V)) (k c : K) (v d : V) (change : Change) → KeyClone k c → ValueClone v d
       → ((stored : List (K × V)) → HasPairs bytes P old root stored → IsDone bytes P new stored (Insert c d) change)
-      → HasClones bytes P old KeyClone ValueClone root pairs → IsCarriedOut P new pairs (Insert k v) change
+      → HasClones bytes P old KeyClone ValueClone root pairs → IsCarriedOut bytes P new KeyClone ValueClone pairs (Insert k v) change
   insert-clones P old new root pairs k c v d change kc vd done (clones, are, has) =
       let result = done clones has in
       (answered-insert pairs clones are k c v d (same k c kc) change.answer result.0, (_, after-insert pairs clones are k c v d kc vd change.answer, result.1))
@@ -120,7 +125,7 @@ module _ {K V : Type 0} (bytes : K → List ℕ) (KeyClone : K → K → Type 0)
   -- a deletion from clones is one from the pairs
   pub delete-clones : (P : ℕ) (old new : Arena K V) (root : Option Name) (pairs : List (K × V)) (k : K) (change : Change)
       → ((stored : List (K × V)) → HasPairs bytes P old root stored → IsDone bytes P new stored (Delete k) change)
-      → HasClones bytes P old KeyClone ValueClone root pairs → IsCarriedOut P new pairs (Delete k) change
+      → HasClones bytes P old KeyClone ValueClone root pairs → IsCarriedOut bytes P new KeyClone ValueClone pairs (Delete k) change
   delete-clones P old new root pairs k change done (clones, are, has) =
       let result = done clones has in
       (answered-delete pairs clones are k change.answer result.0, (_, after-delete pairs clones are k change.answer, result.1))

@@ -3,7 +3,7 @@ use Rattle.std.proofs.Common.{◌≡◌, ℕ, List, [], ◌∷◌, ◌++◌, len
 use Rattle.art_nodes.specs.Name.{Name}
 use Rattle.art_arena.specs.Arena.{Arena}
 use Rattle.art_operations.specs.Commands.{IsAnswered, AreAnswered, after, pairs_after}
-use Rattle.art_operations.specs.Runs.{HasClones}
+use Rattle.art_operations.specs.inner.Runs.{HasClones}
 use Rattle.art_operations.specs.declared.running.Answer.{Answer}
 use Rattle.art_operations.specs.declared.running.Change.{Change}
 use Rattle.art_operations.specs.declared.running.Command.{Command}

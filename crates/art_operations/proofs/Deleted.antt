@@ -16,7 +16,7 @@ use Rattle.art_arena.proofs.Surroundings.{tree-list}
 use Rattle.art_arena.proofs.Updates.{nodes-update, links-update}
 use Rattle.art_operations.specs.Deletions.{HasLeaves, IsDeleted}
 use Rattle.art_operations.proofs.Inserted.{AreLinked-same}
-use Rattle.art_operations.specs.Detached.{alone, IsDetached}
+use Rattle.art_operations.specs.inner.Detached.{alone, IsDetached}
 
 module _ {K V : Type 0} where
   -- what holds no cell holds nothing

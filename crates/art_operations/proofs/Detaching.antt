@@ -15,8 +15,8 @@ use Rattle.art_arena.proofs.Repoint.{frame_node, frame-there, frame-child, frame
 use Rattle.art_arena.proofs.Subtrees.{inner_of}
 use Rattle.art_arena.proofs.Updates.{nodes-update, nodes-same, links-kept, links-same}
 use Rattle.art_operations.specs.DeletePoints.{IsLeafPlace}
-use Rattle.art_operations.specs.Detached.{alone, IsHeldAt, IsChildLeaf, StandsFor, IsApart}
-use Rattle.art_operations.specs.Removals.{EditsNode}
+use Rattle.art_operations.specs.inner.Detached.{alone, IsHeldAt, IsChildLeaf, StandsFor, IsApart}
+use Rattle.art_operations.specs.inner.Removals.{EditsNode}
 
 module _ {K V : Type 0} (bytes : K → List ℕ) (P : ℕ) where
   -- a leaf to which no step leads is the whole tree

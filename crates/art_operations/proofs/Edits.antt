@@ -11,7 +11,7 @@ use Rattle.art_arena.specs.Steps.{Step, steps_to}
 use Rattle.art_arena.proofs.Repoint.{repointed, child_at-frame, frame_node, frame-there, frame-inner, repoint}
 use Rattle.art_arena.proofs.Subtrees.{inner_of}
 use Rattle.art_arena.proofs.Updates.{nodes-update}
-use Rattle.art_operations.specs.Edits.{StandsAround}
+use Rattle.art_operations.specs.inner.Edits.{StandsAround}
 
 module _ {K V : Type 0} (bytes : K → List ℕ) (P : ℕ) where
   -- at the root there is no parent

@@ -1,5 +1,5 @@
 -- An inner node gives way to one of the next larger kind.
-use Rattle.std.proofs.Common.{◌≡◌, ℕ, suc, ◌<◌, List, [], ◌∷◌, ◌++◌, take, Some, None, IsSome, refl, sym, ap, subst, ◌∙◌, arith, append_assoc}
+use Rattle.std.proofs.Common.{◌≡◌, ℕ, suc, ◌<◌, List, [], ◌∷◌, ◌++◌, take, Some, None, refl, sym, ap, subst, ◌∙◌, arith, append_assoc}
 use Rattle.art_nodes.specs.declared.kind.NodeType.{NodeType}
 use Rattle.art_nodes.specs.declared.kind.NodeType.TheVariants.{Node4, Node16, Node48, Node256, Leaf}
 use Rattle.art_nodes.specs.Kind.{row_of}
@@ -14,8 +14,8 @@ use Rattle.art_arena.proofs.Order.{all_right}
 use Rattle.art_arena.proofs.CellLists.{Holds-add, Holds-remove}
 use Rattle.art_arena.proofs.Subtrees.{inner_of}
 use Rattle.art_arena.proofs.Updates.{nodes-update, links-kept}
-use Rattle.art_operations.specs.Edits.{StandsAround}
-use Rattle.art_operations.specs.Growth.{AwaitsLeaf}
+use Rattle.art_operations.specs.inner.Edits.{StandsAround}
+use Rattle.art_operations.specs.inner.Waiting.{AwaitsLeaf}
 use Rattle.art_operations.proofs.NewLeaves.{beside-same}
 use Rattle.art_operations.proofs.Waiting.{open_node, inner-kind, node-inner}
 
@@ -62,10 +62,10 @@ module _ {K V : Type 0} (bytes : K → List ℕ) (P : ℕ) where
 
     module _ (moved : Arena K V) (moved-there : Holds (node_at moved) (cells_before P outer copy ++ both)) where
       -- the node is still held
-      pub still-held : IsSome (held_at moved node)
+      pub still-held : held_at moved node ≡ Some (inner_held (open_node P f))
       still-held =
           let all = all_right (λ (c : Name × Cell K V). node_at moved c.0 ≡ Some c.1) (cells_before P outer copy) both moved-there.held in
-          rw (subst (λ n. held_at moved n ≡ Some (inner_held (open_node P f))) awaits.node_is (inner_of (held_at moved f.name) (open_node P f) all.1.0)) refl
+          subst (λ n. held_at moved n ≡ Some (inner_held (open_node P f))) awaits.node_is (inner_of (held_at moved f.name) (open_node P f) all.1.0)
 
       -- the leaf waits beside the tree with the copy
       pub renamed : (freed : Arena K V) (new_root : Name) → root_of outer copy ≡ new_root → ((slot : ℕ) → links_at moved slot ≡ links_at copied slot) → UpdatesAt (held_at moved) (held_at freed) node None

@@ -1,5 +1,5 @@
 -- An arena that has pairs, before and after a command.
-use Rattle.std.proofs.Common.{◌≡◌, ℕ, cond, List, [], ◌∷◌, ◌++◌, length, Option, Some, None, is_some, refl, sym, ap, subst, ◌∙◌}
+use Rattle.std.proofs.Common.{◌≡◌, ◌≢◌, ℕ, List, [], ◌∷◌, ◌++◌, Option, Some, None, refl, sym, ap, subst, ◌∙◌, inl, inr}
 use Rattle.art_nodes.specs.Name.{Name}
 use Rattle.art_nodes.specs.declared.leaf.LeafNode.{LeafNode}
 use Rattle.art_arena.specs.Arena.{Arena, leaf_held, node_at, links_at, Allocates, SameNodes}
@@ -17,20 +17,22 @@ use Rattle.art_arena.proofs.Erased.{shape_means}
 use Rattle.art_arena.proofs.Meanings.{nodes-subtree, all-subtree}
 use Rattle.art_arena.proofs.Paths.{in_map}
 use Rattle.art_arena.proofs.Exists.{in_middle}
+use Rattle.art_arena.proofs.Insert.{all_at}
 use Rattle.art_arena.proofs.Updates.{nodes-update, links-update, nodes-same, links-same}
 use Rattle.art_operations.specs.DeletePoints.{IsLeafPlace}
 use Rattle.art_operations.specs.Deletions.{HasLeaves, IsDeleted}
 use Rattle.art_operations.specs.Insertions.{IsInserted}
-use Rattle.art_operations.specs.Points.{IsPoint, HasConflict}
+use Rattle.art_operations.specs.Points.{IsPoint, HasConflict, NoConflict}
 use Rattle.art_operations.specs.declared.delete.result.DeleteResult.{DeleteResult}
 use Rattle.art_operations.specs.declared.insert.point.InsertPoint.{InsertPoint}
 use Rattle.art_operations.specs.declared.insert.result.InsertResult.{InsertResult}
-use Rattle.art_operations.specs.Commands.{IsAnswered, IsBlocked}
-use Rattle.art_operations.specs.Runs.{HasPairs, HoldsTreeOf, IsDone, CanInsert}
-use Rattle.art_operations.specs.declared.running.Answer.TheVariants.{Done, Memory}
-use Rattle.art_operations.specs.declared.running.Command.TheVariants.{Insert, Delete}
-use Rattle.art_operations.proofs.KeyedLists.{nothing_taken}
-use Rattle.art_operations.proofs.Pairs.{pair_of, pairs_ascend, blocked_pair, none_found, stored_pair, taken_pair, shrinks-map, same_leaf, found_leaf}
+use Rattle.art_operations.specs.KeyedLists.{HasKey, IsBlocked, with_key}
+use Rattle.art_operations.specs.Pairs.{HasPairs, HasPoint, HasPut, HasTaken}
+use Rattle.art_operations.specs.Runs.{HoldsTreeOf}
+use Rattle.art_operations.specs.declared.insert.point.InsertKind.TheVariants as kind
+use Rattle.art_operations.specs.declared.insert.result.InsertParentNodeChange.TheVariants.{NoChange}
+use Rattle.art_operations.proofs.NotStored.{not-stored, which}
+use Rattle.art_operations.proofs.LeafPairs.{pair_of, pairs_ascend, blocked_pair, free_pairs, none_found, stored_in, stored_pair, taken_pair, shrinks-map, same_leaf, found_leaf, held_leaf, in_unmap}
 
 module _ {K V : Type 0} (bytes : K → List ℕ) (P : ℕ) where
   linked-same : (old new : ℕ → Option Links) → ((n : ℕ) → new n ≡ old n) → (before : Option ℕ) (ls : List (LeafAt K V)) (after : Option ℕ) → AreLinked old before ls after → AreLinked new before ls after
@@ -83,86 +85,105 @@ module _ {K V : Type 0} (bytes : K → List ℕ) (P : ℕ) where
         linked = (links.changed ∙ rw (first, last) refl, tt);
       }
 
-  -- an insertion that was done
-  pub done-inserted : (old new : Arena K V) (point : InsertPoint) (key : K) (value : V) (pairs : List (K × V)) (can : CanInsert bytes P old point key pairs) (last : List Step) (inserted : InsertResult K V)
-      → IsInserted bytes P new can.shape last key value inserted → (n : ℕ) → n ≡ cond (is_some inserted.existing_leaf) 1 0
-      → IsDone bytes P new pairs (Insert key value) (record { root = Some inserted.new_root; answer = Done n })
-  done-inserted old new point key value pairs can last inserted is n counted =
-      let put = stored_pair bytes _ inserted.existing_leaf (leaves can.shape) (leaves is.shape) (pairs_ascend bytes is.shape is.is_tree.nodes.under) is.stored in
-      let there = rw can.pairs_are at put in
-      ((counted ∙ there.count, there.free), (is.shape, is.is_tree, there.new_is))
+  -- a pair that was put in at a point
+  pub put-at : (old new : Arena K V) (point : InsertPoint) (key : K) (value : V) (pairs : List (K × V)) (has : HasPoint bytes P old point (bytes key) pairs) (last : List Step) (result : InsertResult K V)
+      → IsInserted bytes P new has.shape last key value result → HasPut bytes P new pairs key value result
+  put-at old new point key value pairs has last result is =
+      let leaf : LeafAt K V = record { slot = result.leaf_node_ptr; key = key; value = value } in
+      let put = stored_pair bytes leaf result.existing_leaf (leaves has.shape) (leaves is.shape) (pairs_ascend bytes is.shape is.is_tree.nodes.under) is.stored in
+      let there = rw has.pairs_are at put in
+      record {
+        has = (is.shape, is.is_tree, there.new_is);
+        old = there.were;
+        leaf = held_leaf P (node_at new) is.shape leaf (stored_in bytes leaf result.existing_leaf (leaves has.shape) (leaves is.shape) is.stored) is.is_tree.nodes.holds.held;
+      }
 
-  -- an insertion that was refused
-  pub refused-insertion : (old new : Arena K V) (point : InsertPoint) (key : K) (pairs : List (K × V)) → CanInsert bytes P old point key pairs → SameNodes old new → HasPairs bytes P new (Some point.root) pairs
-  refused-insertion old new point key pairs can same = pairs-same old new same (Some point.root) pairs (can.shape, can.is_tree, can.pairs_are)
+  -- where a pair has the key, the point is its leaf
+  pub stored-exact : (old : Arena K V) (point : InsertPoint) (key : List ℕ) (pairs : List (K × V)) → HasPoint bytes P old point key pairs → HasKey (key_of bytes) key pairs → (slot : ℕ) × (point.insert_kind ≡ kind.Exact slot)
+  stored-exact old point key pairs has (x, i, same) = elim (which point.insert_kind) [
+    | inl exact ↦ exact
+    | inr differs ↦
+        let back = in_unmap pair_of (key_of bytes) x (leaves has.shape) (subst (IsIn x) (sym has.pairs_are) i) in
+        let others = not-stored bytes key has.shape point has.place differs in
+        absurd (all_at (λ (l : LeafAt K V). bytes l.key ≢ key) back.0 (leaves has.shape) others back.1 (ap (key_of bytes) back.2 ∙ same))
+  ]
 
-  -- where the arena had a tree below a root, in which a key was looked for
-  module _ (old : Arena K V) (root : Option Name) (top : Name) (root_is : root ≡ Some top) (key : K) (seen : List ℕ) (seen_is : seen ≡ bytes key) (pairs : List (K × V)) (has : HasPairs bytes P old root pairs) where
+  -- the first pair
+  pub put-first : (old new : Arena K V) (slot : ℕ) (key : K) (value : V) → ((n : Name) → node_at old n ≡ None)
+      → Allocates old new (leaf_name slot) (leaf_held (record { key = key; value = value; previous = None; next = None }))
+      → HasPut bytes P new [] key value (record { leaf_node_ptr = slot; existing_leaf = None; new_root = leaf_name slot; parent_node_change = NoChange })
+  put-first old new slot key value empty allocates =
+      let leaf : LeafNode K V = record { key = key; value = value; previous = None; next = None } in
+      record {
+        has = (leaf_at slot key value, first-leaf old new slot leaf empty allocates refl refl, refl);
+        old = refl;
+        leaf = (nodes-update old new (leaf_name slot) _ allocates.updates).changed;
+      }
+
+  -- where the arena has a tree below a root, in which a key is looked for
+  module _ (old : Arena K V) (root : Option Name) (top : Name) (root_is : root ≡ Some top) (key : List ℕ) (pairs : List (K × V)) (has : HasPairs bytes P old root pairs) where
     below : HasPairs bytes P old (Some top) pairs
     below = subst (λ r. HasPairs bytes P old r pairs) root_is has
 
     subtree : IsSubtree bytes P (node_at old) top [] below.0
     subtree = nodes-subtree bytes P (node_at old) top below.0 below.1.nodes
 
-    -- the place that was found is one for this key
-    pub can-insert : (point : InsertPoint) → ((s : Shape K V) → IsSubtree bytes P (node_at old) top [] s → IsPoint bytes seen s point) → CanInsert bytes P old point key pairs
-    can-insert point found =
-        let place : IsPoint bytes (bytes key) below.0 point = subst (λ k. IsPoint bytes k below.0 point) seen_is (found below.0 subtree) in
-        record {
-          shape = below.0;
-          is_tree = subst (λ n. IsTree bytes P (node_at old) n (links_at old) below.0) (sym below.1.nodes.named ∙ place.named) below.1;
-          place = place;
-          pairs_are = below.2;
-        }
+    pub some-tree : (s : Shape K V) × IsSubtree bytes P (node_at old) top [] s
+    some-tree = (below.0, subtree)
+
+    -- the place that was found is one for this key, and no pair blocks it
+    pub placed : (point : InsertPoint) → ((s : Shape K V) → IsSubtree bytes P (node_at old) top [] s → IsPoint bytes key s point × NoConflict bytes key (leaves s))
+        → HasPoint bytes P old point key pairs × (IsBlocked (key_of bytes) key pairs → ⊥)
+    placed point found =
+        let is = found below.0 subtree in (
+          record {
+            shape = below.0;
+            is_tree = subst (λ n. IsTree bytes P (node_at old) n (links_at old) below.0) (sym below.1.nodes.named ∙ is.0.named) below.1;
+            place = is.0;
+            pairs_are = below.2;
+          },
+          subst (λ ps. IsBlocked (key_of bytes) key ps → ⊥) below.2 (free_pairs bytes key (leaves below.0) is.1),
+        )
 
     -- where a leaf is in conflict with the key, a pair blocks it
-    pub blocked-key : ((s : Shape K V) → IsSubtree bytes P (node_at old) top [] s → HasConflict bytes seen (leaves s)) → IsBlocked (key_of bytes) (bytes key) pairs × HasPairs bytes P old (Some top) pairs
-    blocked-key found =
-        let conflict : HasConflict bytes (bytes key) (leaves below.0) = subst (λ k. HasConflict bytes k (leaves below.0)) seen_is (found below.0 subtree) in
-        (subst (IsBlocked (key_of bytes) (bytes key)) below.2 (blocked_pair bytes (bytes key) (leaves below.0) conflict), below)
+    pub blocked-key : ((s : Shape K V) → IsSubtree bytes P (node_at old) top [] s → HasConflict bytes key (leaves s)) → IsBlocked (key_of bytes) key pairs
+    blocked-key found = subst (IsBlocked (key_of bytes) key) below.2 (blocked_pair bytes key (leaves below.0) (found below.0 subtree))
 
-    -- where no leaf has the key, a deletion takes nothing
-    pub nothing-deleted : ((s : Shape K V) → IsSubtree bytes P (node_at old) top [] s → [] ≡ found_in bytes seen s)
-        → IsDone bytes P old pairs (Delete key) (record { root = Some top; answer = Done 0 })
-    nothing-deleted none =
-        let unknown = none_found bytes (bytes key) below.0 (subst (λ k. [] ≡ found_in bytes k below.0) seen_is (none below.0 subtree)) in
-        let here = rw below.2 at unknown in
-        (ap length (sym here), (below.0, below.1, below.2 ∙ sym (nothing_taken (key_of bytes) (bytes key) pairs here)))
+    -- where no leaf has the key, no pair has it
+    pub nothing-found : ((s : Shape K V) → IsSubtree bytes P (node_at old) top [] s → [] ≡ found_in bytes key s) → with_key (key_of bytes) key pairs ≡ []
+    nothing-found none = subst (λ ps. with_key (key_of bytes) key ps ≡ []) below.2 (none_found bytes key below.0 (none below.0 subtree))
 
     -- where a leaf was found that has the key
-    module _ (slot : ℕ) (last : List Step) (found : (s : Shape K V) → IsSubtree bytes P (node_at old) top [] s → IsAtKey bytes seen s slot last) where
-      there : IsAtKey bytes (bytes key) below.0 slot last
-      there = subst (λ k. IsAtKey bytes k below.0 slot last) seen_is (found below.0 subtree)
+    module _ (slot : ℕ) (last : List Step) (found : (s : Shape K V) → IsSubtree bytes P (node_at old) top [] s → IsAtKey bytes key s slot last) where
+      there : IsAtKey bytes key below.0 slot last
+      there = found below.0 subtree
 
       place : IsLeafPlace bytes below.0 slot last
       place = record { ctx = there.ctx; key = there.leaf_key; value = there.value; place = there.place; steps = there.steps }
 
       among : IsIn (record { slot = slot; key = there.leaf_key; value = there.value }) (leaves below.0)
-      among = found_leaf bytes (bytes key) below.0 slot last there
+      among = found_leaf bytes key below.0 slot last there
 
       pub can-delete : (s : Shape K V) × IsTree bytes P (node_at old) top (links_at old) s × IsLeafPlace bytes s slot last
       can-delete = (below.0, below.1, place)
 
-      -- a deletion that was done
-      pub done-deleted : (new : Arena K V) (deleted : DeleteResult K V) → ((s : Shape K V) → IsTree bytes P (node_at old) top (links_at old) s → IsLeafPlace bytes s slot last → IsDeleted bytes P new s slot deleted)
-          → IsDone bytes P new pairs (Delete key) (record { root = deleted.new_root; answer = Done 1 })
-      done-deleted new deleted result =
+      -- its pair was taken out
+      pub taken-pair : (new : Arena K V) (deleted : DeleteResult K V) → ((s : Shape K V) → IsTree bytes P (node_at old) top (links_at old) s → IsLeafPlace bytes s slot last → IsDeleted bytes P new s slot deleted)
+          → HasTaken bytes P new root key pairs (Some deleted)
+      taken-pair new deleted result =
           let is = result below.0 below.1 place in
           let leaf : LeafAt K V = record { slot = slot; key = deleted.deleted_leaf.key; value = deleted.deleted_leaf.value } in
           let stood = subst (IsIn leaf) (sym is.was) (in_middle (λ (l : LeafAt K V). bytes l.key) is.front leaf is.back) in
           let same_key = ap bytes (same_leaf P (node_at old) below.0 below.1.nodes.holds.held leaf _ stood among refl) ∙ there.same in
           let taken = taken_pair bytes is.front leaf is.back (leaves below.0) (pairs_ascend bytes below.0 below.1.nodes.under) is.was in
           let gone = rw (same_key, below.2) at taken in
-          (gone.count, leaves-pairs new deleted.new_root (is.front ++ is.back) _ gone.new_is is.left)
+          (gone.had, leaves-pairs new deleted.new_root (is.front ++ is.back) _ gone.new_is is.left)
 
-      -- a deletion that was refused
-      pub refused-deletion : (new : Arena K V) → SameNodes old new
-          → ((s : Shape K V) → IsTree bytes P (node_at old) top (links_at old) s → (leaf : IsLeafPlace bytes s slot last) → Shrinks (λ l. bytes l.key) (leaves s) (bytes leaf.key))
-          → IsDone bytes P new pairs (Delete key) (record { root = Some top; answer = Memory })
-      refused-deletion new same shrinks =
-          let smaller = shrinks below.0 below.1 (record { ctx = there.ctx; key = there.leaf_key; value = there.value; place = there.place; steps = there.steps }) in
-          let known : IsAnswered bytes (pairs_of (leaves below.0)) (Delete key) Memory = (
-            ((there.leaf_key, there.value), in_map pair_of _ (leaves below.0) among, there.same),
-            shrinks-map pair_of (key_of bytes) (leaves below.0) (bytes key) (rw there.same at smaller),
-          ) in
-          (rw below.2 at known, pairs-same old new same (Some top) pairs below)
+      -- or it would make a node smaller
+      pub shrinks-pair : ((s : Shape K V) → IsTree bytes P (node_at old) top (links_at old) s → (leaf : IsLeafPlace bytes s slot last) → Shrinks (λ l. bytes l.key) (leaves s) (bytes leaf.key))
+          → HasKey (key_of bytes) key pairs × Shrinks (key_of bytes) pairs key
+      shrinks-pair shrinks =
+          let smaller = shrinks below.0 below.1 (record { ctx = there.ctx; key = there.leaf_key; value = there.value; place = there.place; steps = there.steps }) in (
+            subst (HasKey (key_of bytes) key) below.2 ((there.leaf_key, there.value), in_map pair_of _ (leaves below.0) among, there.same),
+            subst (λ ps. Shrinks (key_of bytes) ps key) below.2 (shrinks-map pair_of (key_of bytes) (leaves below.0) key (rw there.same at smaller)),
+          )

@@ -27,7 +27,7 @@ use Rattle.art_operations.specs.declared.insert.result.InsertParentNodeChange.Th
 use Rattle.art_arena.specs.Steps.{steps_of}
 use Rattle.art_arena.proofs.Places.{held-below}
 use Rattle.art_arena.proofs.Subtrees.{pair_of, HoldsPair}
-use Rattle.art_operations.proofs.EndPlaces.{last_two}
+use Rattle.art_operations.proofs.LastSteps.{last_two}
 
 module _ {K V : Type 0} where
   -- links that answer alike link the same lists
@@ -94,10 +94,14 @@ module _ {K V : Type 0} (bytes : K → List ℕ) (P : ℕ) where
     exact_there key last at =
         pair_of (held_at old (leaf_name leaf)) at.k at.v (held-below P (node_at old) at.ctx (leaf_at leaf at.k at.v) (subst (λ t. AreHeld (node_at old) (cells P t)) at.place.is tree.nodes.holds.held)).0
 
+    -- a leaf without its links
+    abbrev pub lone : LeafNode K V → LeafNode K V
+    lone was = record was { previous = None; next = None }
+
     -- a leaf that takes another key of the same bytes, and another value
     pub replaced : (new : Arena K V) (key : K) (value : V) (last : List Step) (at : IsExactPlace (bytes key) s leaf last) (was node : LeafNode K V) → held_at old (leaf_name leaf) ≡ Some (leaf_held was)
         → UpdatesAt (held_at old) (held_at new) (leaf_name leaf) (Some (leaf_held node)) → node.key ≡ key → node.value ≡ value → node.previous ≡ was.previous → node.next ≡ was.next
-        → IsInserted bytes P new s last key value (record { leaf_node_ptr = leaf; existing_leaf = Some was; new_root = root; parent_node_change = NoChange })
+        → IsInserted bytes P new s last key value (record { leaf_node_ptr = leaf; existing_leaf = Some (lone was); new_root = root; parent_node_change = NoChange })
     replaced new key value last at was node there update key_is value_is previous next = record {
       shape = plug at.ctx (leaf_at leaf key value);
       is_tree = record {
@@ -106,7 +110,7 @@ module _ {K V : Type 0} (bytes : K → List ℕ) (P : ℕ) where
             (AreLinked-pair (links_at new) (leaves_before at.ctx) (leaves_after at.ctx) leaf at.k key at.v value (AreLinked-same (links_at old) (links_at new) same_links None _ None
             (subst (λ ls. AreLinked (links_at old) None ls None) were tree.linked)));
       };
-      stored = (ap bytes same_key ∙ at.same, (leaves_before at.ctx, leaves_after at.ctx, were ∙ ap (λ p. leaves_before at.ctx ++ p ∷ leaves_after at.ctx) same_leaf, leaves-plug at.ctx (leaf_at leaf key value)));
+      stored = (ap bytes same_key ∙ at.same, (leaves_before at.ctx, leaves_after at.ctx, were ∙ ap (λ p. leaves_before at.ctx ++ p ∷ leaves_after at.ctx) same_leaf, leaves-plug at.ctx (leaf_at leaf key value)), refl, refl);
       place = record { ctx = at.ctx; key = key; value = value; place = record { is = refl; around = at.place.around; under = under }; steps = at.steps };
     }
       where

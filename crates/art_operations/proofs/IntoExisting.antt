@@ -18,14 +18,14 @@ use Rattle.art_arena.proofs.Contexts.{leaves_in-join, cells_in-join, width-join,
 use Rattle.art_arena.proofs.Openings.{opening}
 use Rattle.art_arena.proofs.Surroundings.{new-beside}
 use Rattle.art_arena.proofs.Updates.{nodes-update, links-update}
-use Rattle.art_operations.specs.Edits.{lone_leaf}
+use Rattle.art_operations.specs.inner.Edits.{lone_leaf}
 use Rattle.art_operations.specs.Insertions.{IsInserted}
 use Rattle.art_operations.specs.Points.{IsPoint, MeetsAt}
 use Rattle.art_operations.specs.declared.insert.point.InsertPoint.{InsertPoint}
 use Rattle.art_operations.specs.declared.insert.point.InsertKind.TheVariants.{IntoExisting}
 use Rattle.art_operations.specs.declared.insert.result.InsertParentNodeChange.TheVariants.{NewParent}
-use Rattle.art_operations.specs.Growth.{AwaitsLeaf}
-use Rattle.art_operations.proofs.EndPlaces.{last_two}
+use Rattle.art_operations.specs.inner.Waiting.{AwaitsLeaf}
+use Rattle.art_operations.proofs.LastSteps.{last_two}
 use Rattle.art_operations.proofs.Waiting.{open_node, regroup_front}
 
 regroup : {X : Type 0} (xs bs ts cs : List X) → xs ++ ((bs ++ ts) ++ cs) ≡ (xs ++ bs) ++ (ts ++ cs)

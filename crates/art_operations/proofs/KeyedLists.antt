@@ -1,5 +1,5 @@
 -- An ascending list into which an item is put, in which one is replaced, or from which one is taken, and the list without its key.
-use Rattle.std.proofs.Common.{◌≡◌, ◌≢◌, ℕ, not, true, false, Bool, cond, List, [], ◌∷◌, ◌++◌, length, bytes_eq, refl, sym, ap, ap₂, subst, ◌∙◌}
+use Rattle.std.proofs.Common.{◌≡◌, ◌≢◌, ℕ, not, true, false, Bool, cond, List, [], ◌∷◌, ◌++◌, bytes_eq, refl, sym, ap, ap₂, subst, ◌∙◌}
 use Rattle.std.specs.List.{AllByRecursion}
 use Rattle.std.proofs.lemmas.List.Elements.{filter-append}
 use Rattle.art_bytes.specs.Keys.{Conflict}
@@ -9,19 +9,19 @@ use Rattle.art_arena.proofs.Order.{all_append, all_weaker, before_not_self, conf
 use Rattle.art_arena.proofs.Insert.{all_at}
 use Rattle.art_arena.proofs.Exists.{in_middle, put_is}
 use Rattle.art_arena.proofs.Finding.{same_key, other_key}
-use Rattle.art_operations.specs.Commands.{with_key, without_key, IsBlocked}
+use Rattle.art_operations.specs.KeyedLists.{with_key, without_key, IsBlocked}
 
 module _ {X : Type 0} (key : X → List ℕ) where
-  -- new is old with x in the place of those that had its key, which were n; none is in conflict with it
-  pub record IsPut (x : X) (old new : List X) (n : ℕ) : Type 0 where
+  -- new is old with x in the place of those that had its key, which were these; none is in conflict with it
+  pub record IsPut (x : X) (old new was : List X) : Type 0 where
     pub new_is : new ≡ put key x (without_key key (key x) old)
-    pub count : n ≡ length (with_key key (key x) old)
+    pub were : was ≡ with_key key (key x) old
     pub free : IsBlocked key (key x) old → ⊥
 
   -- new is old without x, which alone had its key
-  pub record IsTaken (k : List ℕ) (old new : List X) : Type 0 where
+  pub record IsTaken (k : List ℕ) (x : X) (old new : List X) : Type 0 where
     pub new_is : new ≡ without_key key k old
-    pub count : 1 ≡ length (with_key key k old)
+    pub had : with_key key k old ≡ x ∷ []
 
   -- where none has the key, nothing is taken out
   pub nothing_taken : (k : List ℕ) (xs : List X) → with_key key k xs ≡ [] → without_key key k xs ≡ xs
@@ -84,26 +84,26 @@ module _ {X : Type 0} (key : X → List ℕ) where
     free_behind front back h = all_weaker _ _ (λ y b c. conflict_not_before (key x) (key y) c b) back (behind front back h)
 
     -- an item that was put in is put at the place of its key
-    pub put_new : (front back : List X) → IsAscending key (front ++ x ∷ back) → IsPut x (front ++ back) (front ++ x ∷ back) 0
+    pub put_new : (front back : List X) → IsAscending key (front ++ x ∷ back) → IsPut x (front ++ back) (front ++ x ∷ back) []
     put_new front back h =
         let others = all_append _ front back (others_before front back h) (others_behind front back h) in
         record {
           new_is = sym (put_is key x front back h) ∙ ap (put key x) (sym (without_none (key x) (front ++ back) others));
-          count = ap length (sym (with_none (key x) (front ++ back) others));
+          were = sym (with_none (key x) (front ++ back) others);
           free = not_blocked (key x) (front ++ back) (all_append _ front back (free_before front back h) (free_behind front back h));
         }
 
     -- and so is one that took the place of an item with its key
-    pub put_replaced : (front : List X) (was : X) (back : List X) → key was ≡ key x → IsAscending key (front ++ x ∷ back) → IsPut x (front ++ was ∷ back) (front ++ x ∷ back) 1
+    pub put_replaced : (front : List X) (was : X) (back : List X) → key was ≡ key x → IsAscending key (front ++ x ∷ back) → IsPut x (front ++ was ∷ back) (front ++ x ∷ back) (was ∷ [])
     put_replaced front was back same h = record {
       new_is = sym (put_is key x front back h) ∙ ap (put key x) (sym (without_one (key x) front was back same (others_before front back h) (others_behind front back h)));
-      count = ap length (sym (with_one (key x) front was back same (others_before front back h) (others_behind front back h)));
+      were = sym (with_one (key x) front was back same (others_before front back h) (others_behind front back h));
       free = not_blocked (key x) (front ++ was ∷ back) (all_append _ front (was ∷ back) (free_before front back h) ((λ c. c.0 (sym same)), free_behind front back h));
     }
 
     -- an item that was taken out had its key alone
-    pub taken : (front back : List X) → IsAscending key (front ++ x ∷ back) → IsTaken (key x) (front ++ x ∷ back) (front ++ back)
+    pub taken : (front back : List X) → IsAscending key (front ++ x ∷ back) → IsTaken (key x) x (front ++ x ∷ back) (front ++ back)
     taken front back h = record {
       new_is = sym (without_one (key x) front x back refl (others_before front back h) (others_behind front back h));
-      count = ap length (sym (with_one (key x) front x back refl (others_before front back h) (others_behind front back h)));
+      had = with_one (key x) front x back refl (others_before front back h) (others_behind front back h);
     }

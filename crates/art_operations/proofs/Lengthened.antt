@@ -8,7 +8,7 @@ use Rattle.art_arena.specs.Kinds.{IsKindOf}
 use Rattle.art_arena.specs.Meaning.{IsSubtree}
 use Rattle.art_arena.specs.Shapes.{Shape, leaf_at, inner_at, width}
 use Rattle.art_arena.proofs.Subtrees.{inner_of}
-use Rattle.art_operations.specs.Removals.{Lengthens}
+use Rattle.art_operations.specs.inner.Removals.{Lengthens}
 
 -- an inner node's kind is no leaf's
 pub kind_not_leaf : (n : Name) (children : ℕ) → IsKindOf n.kind children → n.kind ≢ Leaf

@@ -1,9 +1,6 @@
-pub mod Ends
-pub mod Descents
-pub mod Lookups
+pub mod LastSteps
 pub mod Meetings
 pub mod Points
-pub mod EndPlaces
 pub mod NewNodes
 pub mod Edits
 pub mod Inserted
@@ -11,10 +8,11 @@ pub mod Waiting
 pub mod Growth
 pub mod IntoExisting
 pub mod NewLeaves
-pub mod Forks
-pub mod ForkedTrees
+pub mod Splits
+pub mod SplitTrees
 pub mod Results
 pub mod PutBack
+pub mod Door
 pub mod JoinedPrefixes
 pub mod OtherChild
 pub mod Lengthened
@@ -26,8 +24,10 @@ pub mod Detaching
 pub mod Shrinking
 pub mod Deleted
 pub mod KeyedLists
-pub mod Pairs
+pub mod LeafPairs
+pub mod NotStored
 pub mod HeldPairs
+pub mod Done
 pub mod Clones
 pub mod CommandLists
 pub mod RunExamples

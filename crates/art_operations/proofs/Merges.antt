@@ -14,8 +14,8 @@ use Rattle.art_arena.proofs.Contexts.{leaves_in-join}
 use Rattle.art_arena.proofs.Repoint.{frame_node}
 use Rattle.art_arena.proofs.Subtrees.{inner_of}
 use Rattle.art_arena.proofs.Updates.{nodes-update, nodes-same}
-use Rattle.art_operations.specs.Detached.{alone, IsHeldAt, StandsFor}
-use Rattle.art_operations.specs.Removals.{Lengthens, lengthened, IsOther}
+use Rattle.art_operations.specs.inner.Detached.{alone, IsHeldAt, StandsFor}
+use Rattle.art_operations.specs.inner.Removals.{Lengthens, lengthened, IsOther}
 use Rattle.art_operations.proofs.Apart.{set_apart, AreUnder-closed}
 use Rattle.art_operations.proofs.JoinedPrefixes.{joined}
 use Rattle.art_operations.proofs.Lengthened.{kind_not_leaf}

@@ -3,7 +3,7 @@ use Rattle.std.proofs.Common.{◌≡◌, ℕ, Bool, true, false, List, [], ◌�
 use Rattle.art_arena.specs.Linked.{Links, first_slot, last_slot, IsBeside}
 use Rattle.art_arena.specs.Shapes.{LeafAt}
 use Rattle.art_arena.proofs.LinkedLists.{ends_with-first, last_slot-append}
-use Rattle.art_operations.specs.Forks.{IsBetween}
+use Rattle.art_operations.specs.inner.Splits.{IsBetween}
 use Rattle.art_operations.proofs.Inserted.{AreLinked-same}
 
 module _ {K V : Type 0} where

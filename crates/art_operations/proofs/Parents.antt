@@ -12,8 +12,8 @@ use Rattle.art_arena.proofs.Contexts.{children_at-join, cells-plug}
 use Rattle.art_arena.proofs.Openings.{with_child-opening, without_child-frame}
 use Rattle.art_arena.proofs.Repoint.{frame_node, frame-there}
 use Rattle.art_arena.proofs.Subtrees.{inner_of}
-use Rattle.art_operations.specs.Detached.{IsHeldAt}
-use Rattle.art_operations.specs.Removals.{Moves, PutsBack, Lengthens}
+use Rattle.art_operations.specs.inner.Detached.{IsHeldAt}
+use Rattle.art_operations.specs.inner.Removals.{Moves, PutsBack, Lengthens}
 use Rattle.art_operations.proofs.Lengthened.{kind_not_leaf, others_kept}
 use Rattle.art_arena.specs.Cells.{Holds}
 

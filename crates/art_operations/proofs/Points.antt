@@ -20,7 +20,7 @@ use Rattle.art_arena.proofs.Order.{all_append, all_weaker, begins_step, begins_f
 use Rattle.art_arena.proofs.Fronts.{begins_trans, one_byte}
 use Rattle.art_arena.proofs.Places.{leaves-begin, step-down, at-root}
 use Rattle.art_operations.specs.Meetings.{PartAt}
-use Rattle.art_operations.proofs.EndPlaces.{last_two}
+use Rattle.art_operations.proofs.LastSteps.{last_two}
 use Rattle.art_operations.specs.declared.meeting.Parted.{Parted}
 use Rattle.art_operations.specs.Points.{HasConflict, NoConflict}
 use Rattle.art_arena.proofs.Prefixes.{drop-front}

@@ -3,6 +3,11 @@ use Rattle.std.proofs.Common.{IfOk, OnErr, Ok, Err}
 use Rattle.std.specs.declared.result.Result.{Result}
 
 module _ {A E : Type 0} where
+  -- what a fact of an answer tells
+  pub map_ok : (r : Result A E) (P Q : A → Type 0) → IfOk r P → ((x : A) → P x → Q x) → IfOk r Q
+  map_ok (Ok x) P Q p f = f x p
+  map_ok (Err e) P Q p f = tt
+
   -- what two facts of an answer tell
   pub both_ok : (r : Result A E) (P Q R : A → Type 0) → IfOk r P → IfOk r Q → ((x : A) → P x → Q x → R x) → IfOk r R
   both_ok (Ok x) P Q R p q f = f x p q

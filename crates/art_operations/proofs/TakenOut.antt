@@ -11,8 +11,8 @@ use Rattle.art_arena.specs.Context.{path_to}
 use Rattle.art_arena.specs.Kinds.{IsKindOf, ChangesKind}
 use Rattle.art_arena.specs.Shapes.{name_of, width}
 use Rattle.art_arena.proofs.Updates.{links-kept}
-use Rattle.art_operations.specs.Detached.{IsChildLeaf, StandsFor}
-use Rattle.art_operations.specs.Removals.{Moves, PutsBack, Lengthens, IsOther}
+use Rattle.art_operations.specs.inner.Detached.{IsChildLeaf, StandsFor}
+use Rattle.art_operations.specs.inner.Removals.{Moves, PutsBack, Lengthens, IsOther}
 use Rattle.art_operations.proofs.Apart.{taken}
 use Rattle.art_operations.proofs.Lengthened.{kind_not_leaf}
 use Rattle.art_operations.proofs.Merges.{OneLeft, one_left, other_path, other_subtree, merged}

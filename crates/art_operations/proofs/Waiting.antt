@@ -21,7 +21,7 @@ use Rattle.art_arena.proofs.Openings.{with_child-opening}
 use Rattle.art_arena.proofs.Repoint.{IsNodes-plug}
 use Rattle.art_arena.proofs.Subtrees.{inner_of, branch-first, branch-last, has_last, AreUnder-here}
 use Rattle.art_arena.proofs.Updates.{nodes-update, links-kept}
-use Rattle.art_operations.specs.Growth.{AwaitsLeaf}
+use Rattle.art_operations.specs.inner.Waiting.{AwaitsLeaf}
 use Rattle.art_operations.proofs.Inserted.{AreLinked-same}
 use Rattle.art_operations.proofs.NewLeaves.{first_of, last_of}
 use Rattle.art_operations.proofs.Parents.{length-children}

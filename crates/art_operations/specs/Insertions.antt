@@ -2,12 +2,12 @@
 use Rattle.std.specs.Prelude.{◌≡◌, ℕ, List, ◌∷◌, ◌++◌, take, Option, Some, None}
 use Rattle.art_nodes.specs.Concrete.{inner_name_of}
 use Rattle.art_nodes.specs.declared.leaf.LeafNode.{LeafNode}
-use Rattle.art_arena.specs.Arena.{Arena, node_at, links_at}
+use Rattle.art_arena.specs.Arena.{Arena}
 use Rattle.art_arena.specs.Changes.{IsPutIn}
-use Rattle.art_arena.specs.Meaning.{IsTree}
 use Rattle.art_arena.specs.Shapes.{Shape, LeafAt, leaves}
 use Rattle.art_arena.specs.Steps.{Step}
 use Rattle.art_operations.specs.DeletePoints.{IsLeafPlace}
+use Rattle.art_operations.specs.Stores.{StoresOnly}
 use Rattle.art_operations.specs.declared.insert.result.InsertResult.{InsertResult}
 use Rattle.art_operations.specs.declared.insert.result.InsertParentNodeChange.{InsertParentNodeChange}
 use Rattle.art_operations.specs.declared.insert.result.InsertParentNodeChange.TheVariants.{NewParent, NoChange}
@@ -22,14 +22,19 @@ abbrev pub IsReplaced : {X : Type 0} → X → X → List X → List X → Type 
 IsReplaced {X} x y old new = (front : List X) × (back : List X) × (old ≡ front ++ x ∷ back) × (new ≡ front ++ y ∷ back)
 
 module _ {K V : Type 0} (bytes : K → List ℕ) where
-  -- the leaf is put in, or stands under the name of one that had its key
-  abbrev pub IsStored : LeafAt K V → Option (LeafNode K V) → List (LeafAt K V) → List (LeafAt K V) → Type 0
-  IsStored l None old new = IsPutIn l old new
-  IsStored l (Some was) old new = (bytes was.key ≡ bytes l.key) × IsReplaced (record { slot = l.slot; key = was.key; value = was.value }) l old new
+  -- the leaf is put in, or stands under the name of one that had its key, which is answered with open ends
+  abbrev pub IsPutOrReplaced : LeafAt K V → Option (LeafNode K V) → List (LeafAt K V) → List (LeafAt K V) → Type 0
+  IsPutOrReplaced l None old new = IsPutIn l old new
+  IsPutOrReplaced l (Some was) old new =
+      (bytes was.key ≡ bytes l.key)
+      × IsReplaced (record { slot = l.slot; key = was.key; value = was.value }) l old new
+      × (was.previous ≡ None) × (was.next ≡ None)
 
   -- the arena holds nothing but the tree of these leaves with the new one, which stands where the answer says
-  pub record IsInserted (P : ℕ) (arena : Arena K V) (s : Shape K V) (last : List Step) (key : K) (value : V) (result : InsertResult K V) : Type 0 where
+  pub record IsInserted (P : ℕ) (arena : Arena K V) (s : Shape K V) (last : List Step) (key : K) (value : V)
+      (result : InsertResult K V) : Type 0 where
     pub shape : Shape K V
-    pub is_tree : IsTree bytes P (node_at arena) result.new_root (links_at arena) shape
-    pub stored : IsStored (record { slot = result.leaf_node_ptr; key = key; value = value }) result.existing_leaf (leaves s) (leaves shape)
+    pub is_tree : StoresOnly bytes P arena result.new_root shape
+    pub stored : IsPutOrReplaced (record { slot = result.leaf_node_ptr; key = key; value = value })
+        result.existing_leaf (leaves s) (leaves shape)
     pub place : IsLeafPlace bytes shape result.leaf_node_ptr (steps_after result.parent_node_change last)

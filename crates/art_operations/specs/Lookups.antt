@@ -1,8 +1,13 @@
 -- What a look-up answers.
-use Rattle.std.specs.Prelude.{◌≡◌, ℕ, ◌+◌, ◌-◌, ◌^◌, ◌≤◌, Bool, true, false, nat_le, min, List, length, drop, filter, Option, None, if◌then◌else◌}
+pub use Rattle.art_arena.specs.Descents.{leaf_where}
+use Rattle.std.specs.Prelude.{◌≡◌, ℕ, ◌+◌, ◌-◌, ◌^◌, ◌<◌, ◌≤◌, nat_le, min, List, length, drop, Ok, Err, if◌then◌else◌}
+use Rattle.std.specs.declared.result.Result.{Result}
+use Rattle.art_nodes.specs.Header.{Header}
+use Rattle.art_nodes.specs.PrefixMatch.{agreeing}
+use Rattle.art_nodes.specs.declared.prefix_match.PrefixMatch.{PrefixMatch}
+use Rattle.art_nodes.specs.declared.prefix_match.PessimisticMismatch.{PessimisticMismatch}
 use Rattle.art_arena.specs.Paths.{path_of}
-use Rattle.art_arena.specs.Shapes.{Shape, LeafAt, erase}
-use Rattle.art_arena.specs.Linked.{first_slot}
+use Rattle.art_arena.specs.Shapes.{Shape, erase}
 use Rattle.art_operations.specs.declared.lookup.PrefixMatchBehavior.{PrefixMatchBehavior}
 use Rattle.art_operations.specs.declared.lookup.PrefixMatchBehavior.TheVariants.{Pessimistic, Optimistic}
 
@@ -11,20 +16,25 @@ abbrev pub behavior_after : ℕ → PrefixMatchBehavior → ℕ → PrefixMatchB
 behavior_after P Optimistic len = Optimistic
 behavior_after P Pessimistic len = if nat_le len P then Pessimistic else Optimistic
 
+-- A prefix is compared with the rest of a key byte by byte. All its bytes agree, or so many do, fewer than it has.
+abbrev pub IsMatchedByBytes : Header → List ℕ → Result PrefixMatch PessimisticMismatch → Type 0
+IsMatchedByBytes header rest (Ok matched) =
+    (matched.matched_bytes ≡ header.prefix_len) × (agreeing header.stored rest ≡ header.prefix_len)
+IsMatchedByBytes header rest (Err mismatch) =
+    (mismatch.matched_bytes ≡ agreeing header.stored rest) × (mismatch.matched_bytes < header.prefix_len)
+
+-- It is compared by its length alone. The rest has as many bytes, or it has fewer, which all count.
+abbrev pub IsMatchedByLength : Header → List ℕ → Result PrefixMatch PessimisticMismatch → Type 0
+IsMatchedByLength header rest (Ok matched) =
+    (matched.matched_bytes ≡ header.prefix_len) × (header.prefix_len ≤ length rest)
+IsMatchedByLength header rest (Err mismatch) =
+    (mismatch.matched_bytes ≡ length rest) × (length rest < header.prefix_len)
+
 -- the bytes of a key that are looked at where a leaf stands at this depth
 abbrev pub seen_by : PrefixMatchBehavior → ℕ → List ℕ → List ℕ
 seen_by Optimistic depth key = key
 seen_by Pessimistic depth key = drop depth key
 
--- the leaves whose keys pass the test
-abbrev pub passing : {K V : Type 0} → (K → List ℕ) → (List ℕ → Bool) → List (LeafAt K V) → List (LeafAt K V)
-passing bytes test ls = filter (λ l. test (bytes l.key)) ls
-
--- the slab key of the first of them
-abbrev pub leaf_where : {K V : Type 0} → (K → List ℕ) → (List ℕ → Bool) → List (LeafAt K V) → Option ℕ
-leaf_where bytes test ls = first_slot (passing bytes test ls) None
-
--- where a leaf was found, so many nodes were read as the key's path has, and else no more; the greatest count stays
-abbrev pub ReadsPath : {K V : Type 0} → List ℕ → Shape K V → ℕ → ℕ → Bool → Type 0
-ReadsPath key s old new false = new ≤ min (old + length (path_of (erase s) key)) (2 ^ 64 - 1)
-ReadsPath key s old new true = new ≡ min (old + length (path_of (erase s) key)) (2 ^ 64 - 1)
+-- so many nodes were read as the key's path has; the greatest count stays
+abbrev pub ReadsPath : {K V : Type 0} → List ℕ → Shape K V → ℕ → ℕ → Type 0
+ReadsPath key s old new = new ≡ min (old + length (path_of (erase s) key)) (2 ^ 64 - 1)

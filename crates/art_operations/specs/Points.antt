@@ -1,9 +1,8 @@
 -- Where a new key goes in a tree.
-use Rattle.std.specs.Prelude.{◌≡◌, ℕ, ◌+◌, List, [], ◌∷◌, ◌++◌, length, drop, None, Some, Ok, Err}
+use Rattle.std.specs.Prelude.{◌≡◌, ℕ, List, [], ◌∷◌, ◌++◌, length, drop, None, Ok, Err}
 use Rattle.std.specs.List.{AllByRecursion}
 use Rattle.std.specs.declared.result.Result.{Result}
 use Rattle.art_bytes.specs.Keys.{BeginsWith, Conflict}
-use Rattle.art_nodes.specs.Name.{Name}
 use Rattle.art_nodes.specs.InnerNode.{child_at}
 use Rattle.art_arena.specs.Changes.{IsIn}
 use Rattle.art_arena.specs.Shapes.{Shape, Branches, leaf_at, inner_at, LeafAt, name_of, children_at, leaves}
@@ -16,8 +15,6 @@ use Rattle.art_operations.specs.declared.insert.point.InsertSearchError.{InsertS
 use Rattle.art_operations.specs.declared.insert.point.InsertSearchError.TheVariants as error
 use Rattle.art_operations.specs.declared.insert.point.InsertKind.{InsertKind}
 use Rattle.art_operations.specs.declared.insert.point.InsertKind.TheVariants as kind
-use Rattle.art_operations.specs.declared.insert.point.Way.{Way}
-use Rattle.art_operations.specs.declared.insert.point.Way.TheVariants as way
 
 -- the refusal has the key's bytes, if there was memory for them
 abbrev pub Refuses : List ℕ → InsertSearchError → Type 0
@@ -32,24 +29,18 @@ module _ {K V : Type 0} (bytes : K → List ℕ) (key : List ℕ) where
   abbrev pub NoConflict : List (LeafAt K V) → Type 0
   NoConflict ls = AllByRecursion (λ l. Conflict key (bytes l.key) → ⊥) ls
 
-  -- what the key meets in the part at its place, behind this path: another byte within the prefix, or within the key of a leaf; no child
-  -- under its next byte; or a leaf with the key
+  -- what the key meets in the part at its place, behind this path: another byte within the prefix, or within the key
+  -- of a leaf; no child under its next byte; or a leaf with the key
   abbrev pub MeetsAt : List ℕ → Shape K V → InsertKind → Type 0
   MeetsAt path s (kind.MismatchPrefix name parted) =
-      (prefix : List ℕ) × (kids : Branches K V) × (s ≡ inner_at name prefix kids) × PartAt prefix (drop (length path) key) parted
+      (prefix : List ℕ) × (kids : Branches K V) × (s ≡ inner_at name prefix kids)
+      × PartAt prefix (drop (length path) key) parted
   MeetsAt path s (kind.SplitLeaf slot parted) =
       (k : K) × (v : V) × (s ≡ leaf_at slot k v) × PartAt (drop (length path) (bytes k)) (drop (length path) key) parted
   MeetsAt path s (kind.IntoExisting name byte) =
-      (prefix : List ℕ) × (kids : Branches K V) × (s ≡ inner_at name prefix kids) × (child_at (children_at kids) byte ≡ None) × BeginsWith ((path ++ prefix) ++ byte ∷ []) key
+      (prefix : List ℕ) × (kids : Branches K V) × (s ≡ inner_at name prefix kids)
+      × (child_at (children_at kids) byte ≡ None) × BeginsWith ((path ++ prefix) ++ byte ∷ []) key
   MeetsAt path s (kind.Exact slot) = (k : K) × (v : V) × (s ≡ leaf_at slot k v) × (bytes k ≡ key)
-
-  -- where the search goes from the part behind this path: on to a child; or the key's place, or a conflict, is here
-  abbrev pub IsWay : List ℕ → Shape K V → Way → Type 0
-  IsWay path s (way.Child byte child next) =
-      (n : Name) × (prefix : List ℕ) × (kids : Branches K V) × (s ≡ inner_at n prefix kids) × (child_at (children_at kids) byte ≡ Some child)
-      × BeginsWith ((path ++ prefix) ++ byte ∷ []) key × (next ≡ length path + length prefix + 1)
-  IsWay path s (way.Point kind) = MeetsAt path s kind × NoConflict (leaves s)
-  IsWay path s way.Conflict = HasConflict (leaves s)
 
   -- the place of the key: a part of the tree that stands behind a front of the key, and what the key meets there
   pub record IsPoint (s : Shape K V) (point : InsertPoint) : Type 0 where
@@ -60,6 +51,6 @@ module _ {K V : Type 0} (bytes : K → List ℕ) (key : List ℕ) where
     pub meets : MeetsAt (path_to ctx) part point.insert_kind
 
   -- a place and no conflict, or a conflict
-  abbrev pub IsAnswer : Shape K V → Result InsertPoint InsertSearchError → Type 0
-  IsAnswer s (Ok point) = IsPoint s point × NoConflict (leaves s)
-  IsAnswer s (Err e) = HasConflict (leaves s)
+  abbrev pub IsPlaceOrConflict : {E : Type 0} → Shape K V → Result InsertPoint E → Type 0
+  IsPlaceOrConflict s (Ok point) = IsPoint s point × NoConflict (leaves s)
+  IsPlaceOrConflict s (Err e) = HasConflict (leaves s)

@@ -2,8 +2,8 @@
 
 mod apply;
 mod exact;
-mod fork;
-mod grow;
-mod leaf;
+mod into_existing;
+pub(crate) mod leaf;
 pub mod point;
 pub mod result;
+mod split;

@@ -4,12 +4,12 @@
 #![tactic(auto)]
 
 pub mod delete;
-mod descent;
-mod edit;
 pub mod insert;
 pub mod lookup;
 pub mod meeting;
 pub mod minmax;
+pub mod pairs;
+mod parent;
 pub mod running;
 
 pub use delete::point::{
@@ -17,12 +17,13 @@ pub use delete::point::{
 };
 pub use delete::result::DeleteResult;
 pub use insert::point::{
-    InsertKind, InsertPoint, InsertPrefixError, InsertSearchError, KeyPrefix,
-    search_for_insert_point,
+    InsertKind, InsertPoint, InsertPrefixError, InsertSearchError, KeyPrefix, PrefixConflict,
+    find_insert_point, search_for_insert_point,
 };
 pub use insert::result::{InsertParentNodeChange, InsertRefused, InsertResult};
 pub use lookup::{
     PrefixMatchBehavior, prefix_search_unchecked, prefix_search_with, search_unchecked, search_with,
 };
 pub use minmax::{maximum_unchecked, minimum_unchecked};
+pub use pairs::{find_place, put_pair, take_pair};
 pub use running::{Answer, Command, RunResult, run};

@@ -1,16 +1,14 @@
 //! Look-ups of a key in the tree below a name.
-ghost use Rattle.std.specs.Prelude.{◌≡◌, ◌+◌, ◌^◌, ◌<◌, ◌≤◌, ◌⊎◌, ◌↔◌, ℕ, [], length, is_some, IsTrue, MatchResult};
+ghost use Rattle.std.specs.Prelude.{◌≡◌, ◌<◌, ◌≤◌, ◌⊎◌, ◌↔◌, drop, IsTrue, MatchResult};
 ghost use Rattle.std.specs.Str.{bytes_eq};
 ghost use Rattle.art_bytes.specs.Keys.{BeginsWith};
-ghost use Rattle.art_nodes.specs.PrefixMatch.{agreeing};
 ghost use Rattle.art_arena.specs.Tenants.{begins_with};
-ghost use Rattle.art_arena.specs.Arena.{node_at};
 ghost use Rattle.art_arena.specs.Shapes.{Shape, leaves};
-ghost use Rattle.art_arena.specs.Meaning.{IsSubtree};
-ghost use Rattle.art_operations.specs.Lookups.{behavior_after, seen_by, leaf_where, ReadsPath};
+ghost use Rattle.art_operations.specs.Lookups.{behavior_after, leaf_where, seen_by};
+ghost use Rattle.art_operations.specs.Lookups.{IsMatchedByBytes, IsMatchedByLength, ReadsPath};
+ghost use Rattle.art_operations.specs.Stores.{Stores};
 
-use crate::descent::land;
-use art_arena::{ArenaReader, LeafPtr, NodeArena};
+use art_arena::{ArenaReader, LeafPtr, NodeArena, land};
 use art_bytes::AsBytes;
 use art_nodes::{InnerNodeCommon, LeafNode, OpaqueNodePtr, PessimisticMismatch, PrefixMatch};
 
@@ -23,6 +21,16 @@ pub enum PrefixMatchBehavior {
     Optimistic,
 }
 
+// What lies behind so many of these bytes: nothing where there are no more.
+fn behind(bytes: &[u8], depth: usize) -> &[u8]
+    ensures { result.now ≡ drop depth bytes.now }
+{
+    if depth < bytes.len() {
+        return &bytes[depth..];
+    }
+    &bytes[bytes.len()..]
+}
+
 impl PrefixMatchBehavior {
     /// Matches the prefix of an inner node with the rest of a key, its bytes from the node's depth on. A look-up that
     /// compares bytes goes on by lengths alone from the first prefix that isn't wholly stored.
@@ -31,13 +39,15 @@ impl PrefixMatchBehavior {
         node: &N,
         rest: &[u8],
     ) -> Result<PrefixMatch, PessimisticMismatch>
-        ensures compared { self.old ≡ PrefixMatchBehavior.Pessimistic → (N.inner node.now).header.prefix_len ≤ PREFIX_LEN → MatchResult result
-            (λ yes. (yes.matched_bytes ≡ (N.inner node.now).header.prefix_len) × (agreeing (N.inner node.now).header.stored rest.now ≡ (N.inner node.now).header.prefix_len))
-            (λ no. (no.matched_bytes ≡ agreeing (N.inner node.now).header.stored rest.now) × (no.matched_bytes < (N.inner node.now).header.prefix_len)) }
-        ensures by_length { (self.old ≡ PrefixMatchBehavior.Optimistic) ⊎ (PREFIX_LEN < (N.inner node.now).header.prefix_len) → MatchResult result
-            (λ yes. (yes.matched_bytes ≡ (N.inner node.now).header.prefix_len) × ((N.inner node.now).header.prefix_len ≤ length rest.now))
-            (λ no. (no.matched_bytes ≡ length rest.now) × (length rest.now < (N.inner node.now).header.prefix_len)) }
-        ensures behavior { MatchResult result (λ yes. self.new ≡ behavior_after PREFIX_LEN self.old (N.inner node.now).header.prefix_len) (λ no. self.new ≡ self.old) }
+        ensures compared { self.old ≡ PrefixMatchBehavior.Pessimistic
+            → (N.inner node.now).header.prefix_len ≤ PREFIX_LEN
+            → IsMatchedByBytes (N.inner node.now).header rest.now result }
+        ensures by_length { (self.old ≡ PrefixMatchBehavior.Optimistic)
+            ⊎ (PREFIX_LEN < (N.inner node.now).header.prefix_len)
+            → IsMatchedByLength (N.inner node.now).header rest.now result }
+        ensures behavior { MatchResult result
+            (λ yes. self.new ≡ behavior_after PREFIX_LEN self.old (N.inner node.now).header.prefix_len)
+            (λ no. self.new ≡ self.old) }
     {
         match *self {
             PrefixMatchBehavior::Pessimistic => match node.attempt_pessimistic_match_prefix(rest) {
@@ -59,38 +69,38 @@ impl PrefixMatchBehavior {
     }
 
     /// Whether the key of a leaf equals these bytes. Where every prefix was compared, it looks from the leaf's depth
-    /// on alone.
+    /// on alone: what has no byte there ends there.
     pub fn matches_leaf_key<K: AsBytes, V>(
         self,
         leaf: &LeafNode<K, V>,
         key: &[u8],
         depth: usize,
     ) -> bool
-        requires key { depth ≤ length key.now }
-        requires leaf { depth ≤ length (K.bytes leaf.now.key) }
         ensures { IsTrue result ↔ (seen_by self depth (K.bytes leaf.now.key) ≡ seen_by self depth key.now) }
     {
         match self {
-            PrefixMatchBehavior::Pessimistic => leaf.key_ref().as_bytes()[depth..] == key[depth..],
+            PrefixMatchBehavior::Pessimistic => {
+                behind(leaf.key_ref().as_bytes(), depth) == behind(key, depth)
+            }
             PrefixMatchBehavior::Optimistic => leaf.compare_full_key(key),
         }
     }
 
     /// Whether the key of a leaf is a front of these bytes, or all of them. Where every prefix was compared, it looks
-    /// from the leaf's depth on alone.
+    /// from the leaf's depth on alone: what has no byte there ends there.
     pub fn leaf_key_is_prefix<K: AsBytes, V>(
         self,
         leaf: &LeafNode<K, V>,
         key: &[u8],
         depth: usize,
     ) -> bool
-        requires key { depth ≤ length key.now }
-        requires leaf { depth ≤ length (K.bytes leaf.now.key) }
         ensures { IsTrue result ↔ BeginsWith (seen_by self depth (K.bytes leaf.now.key)) (seen_by self depth key.now) }
     {
         let front = leaf.key_ref().as_bytes();
         match self {
-            PrefixMatchBehavior::Pessimistic => key[depth..].starts_with(&front[depth..]),
+            PrefixMatchBehavior::Pessimistic => behind(key, depth).starts_with(behind(
+                front, depth,
+            )),
             PrefixMatchBehavior::Optimistic => key.starts_with(front),
         }
     }
@@ -104,8 +114,9 @@ pub fn search_unchecked<K: AsBytes, V, const PREFIX_LEN: usize>(
     root: OpaqueNodePtr,
     key: &[u8],
 ) -> Option<LeafPtr>
-    requires { (s : Shape K V) × IsSubtree K.bytes PREFIX_LEN (node_at arena.now) root [] s }
-    ensures { (s : Shape K V) → IsSubtree K.bytes PREFIX_LEN (node_at arena.now) root [] s → result ≡ leaf_where K.bytes (λ k. bytes_eq k key.now) (leaves s) }
+    requires { (s : Shape K V) × Stores K.bytes PREFIX_LEN arena.now root s }
+    ensures { (s : Shape K V) → Stores K.bytes PREFIX_LEN arena.now root s
+        → result ≡ leaf_where K.bytes (λ k. bytes_eq k key.now) (leaves s) }
 {
     let mut reader = ArenaReader::new(arena);
     search_with(&mut reader, root, key)
@@ -119,31 +130,31 @@ pub fn prefix_search_unchecked<K: AsBytes, V, const PREFIX_LEN: usize>(
     root: OpaqueNodePtr,
     key: &[u8],
 ) -> Option<LeafPtr>
-    requires { (s : Shape K V) × IsSubtree K.bytes PREFIX_LEN (node_at arena.now) root [] s }
-    ensures { (s : Shape K V) → IsSubtree K.bytes PREFIX_LEN (node_at arena.now) root [] s → result ≡ leaf_where K.bytes (λ k. begins_with k key.now) (leaves s) }
+    requires { (s : Shape K V) × Stores K.bytes PREFIX_LEN arena.now root s }
+    ensures { (s : Shape K V) → Stores K.bytes PREFIX_LEN arena.now root s
+        → result ≡ leaf_where K.bytes (λ k. begins_with k key.now) (leaves s) }
 {
     let mut counted = ArenaReader::new(arena);
     prefix_search_with(&mut counted, root, key)
 }
 
-/// What `search_unchecked` answers, by a reader that counts each node that is read: where the leaf is found the nodes
-/// of the key's path, and never more. The greatest count stays.
+/// What `search_unchecked` answers, by a reader that counts each node that is read: those of the key's path. The
+/// greatest count stays.
 pub fn search_with<K: AsBytes, V, const PREFIX_LEN: usize>(
     reader: &mut ArenaReader<'_, K, V, PREFIX_LEN>,
     root: OpaqueNodePtr,
     key: &[u8],
 ) -> Option<LeafPtr>
-    requires { (s : Shape K V) × IsSubtree K.bytes PREFIX_LEN (node_at reader.old.arena.now) root [] s }
-    ensures value { (s : Shape K V) → IsSubtree K.bytes PREFIX_LEN (node_at reader.old.arena.now) root [] s → result ≡ leaf_where K.bytes (λ k. bytes_eq k key.now) (leaves s) }
+    requires { (s : Shape K V) × Stores K.bytes PREFIX_LEN reader.old.arena.now root s }
+    ensures value { (s : Shape K V) → Stores K.bytes PREFIX_LEN reader.old.arena.now root s
+        → result ≡ leaf_where K.bytes (λ k. bytes_eq k key.now) (leaves s) }
     ensures kept { reader.new.arena.now ≡ reader.old.arena.now }
-    ensures counts { (s : Shape K V) → IsSubtree K.bytes PREFIX_LEN (node_at reader.old.arena.now) root [] s → ReadsPath key.now s reader.old.count reader.new.count (is_some result) }
+    ensures counts { (s : Shape K V) → Stores K.bytes PREFIX_LEN reader.old.arena.now root s
+        → ReadsPath key.now s reader.old.count reader.new.count }
 {
     match land(reader, root, key) {
         Some(landed) => {
-            if landed
-                .behavior
-                .matches_leaf_key(landed.leaf, key, landed.depth)
-            {
+            if landed.leaf.compare_full_key(key) {
                 return Some(landed.name);
             }
             None
@@ -152,25 +163,24 @@ pub fn search_with<K: AsBytes, V, const PREFIX_LEN: usize>(
     }
 }
 
-/// What `prefix_search_unchecked` answers, by a reader that counts each node that is read: where the leaf is found the
-/// nodes of the key's path, and never more. The greatest count stays.
+/// What `prefix_search_unchecked` answers, by a reader that counts each node that is read: those of the key's path. The
+/// greatest count stays.
 pub fn prefix_search_with<K: AsBytes, V, const PREFIX_LEN: usize>(
     reader: &mut ArenaReader<'_, K, V, PREFIX_LEN>,
     root: OpaqueNodePtr,
     key: &[u8],
 ) -> Option<LeafPtr>
-    requires { (s : Shape K V) × IsSubtree K.bytes PREFIX_LEN (node_at reader.old.arena.now) root [] s }
-    ensures value { (s : Shape K V) → IsSubtree K.bytes PREFIX_LEN (node_at reader.old.arena.now) root [] s → result ≡ leaf_where K.bytes (λ k. begins_with k key.now) (leaves s) }
+    requires { (s : Shape K V) × Stores K.bytes PREFIX_LEN reader.old.arena.now root s }
+    ensures value { (s : Shape K V) → Stores K.bytes PREFIX_LEN reader.old.arena.now root s
+        → result ≡ leaf_where K.bytes (λ k. begins_with k key.now) (leaves s) }
     ensures kept { reader.new.arena.now ≡ reader.old.arena.now }
-    ensures counts { (s : Shape K V) → IsSubtree K.bytes PREFIX_LEN (node_at reader.old.arena.now) root [] s → ReadsPath key.now s reader.old.count reader.new.count (is_some result) }
+    ensures counts { (s : Shape K V) → Stores K.bytes PREFIX_LEN reader.old.arena.now root s
+        → ReadsPath key.now s reader.old.count reader.new.count }
 {
     match land(reader, root, key) {
-        Some(front) => {
-            if front
-                .behavior
-                .leaf_key_is_prefix(front.leaf, key, front.depth)
-            {
-                return Some(front.name);
+        Some(landed) => {
+            if key.starts_with(landed.leaf.key_ref().as_bytes()) {
+                return Some(landed.name);
             }
             None
         }

@@ -1,5 +1,5 @@
 //! How two lists of bytes meet.
-ghost use Rattle.art_operations.specs.Meetings.{Meets};
+ghost use Rattle.art_operations.specs.inner.Meetings.{Meets};
 
 use art_nodes::count_agreeing;
 

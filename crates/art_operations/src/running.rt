@@ -1,13 +1,17 @@
 //! Lists of commands on a tree, from no pair on.
-ghost use Rattle.std.specs.Prelude.{◌≡◌, List, [], IfOk, Some};
-ghost use Rattle.art_operations.specs.Commands.{AreAnswered, IsAnswered, after, pairs_after};
-ghost use Rattle.art_operations.specs.Runs.{CanInsert, HasClones, HasPairs, HoldsClonesOf, IsDone};
+ghost use Rattle.std.specs.Prelude.{◌≡◌, List, [], IfOk};
+ghost use Rattle.art_arena.specs.Shapes.{key_of};
+ghost use Rattle.art_operations.specs.Commands.{AreAnswered, pairs_after};
+ghost use Rattle.art_operations.specs.KeyedLists.{IsBlocked};
+ghost use Rattle.art_operations.specs.Pairs.{CanPut, HasPairs};
+ghost use Rattle.art_operations.specs.Runs.{HoldsClonesOf};
+ghost use Rattle.art_operations.specs.inner.Runs.{HasClones, IsCarriedOut, IsDone};
 
-use crate::delete::point::search_for_delete_point;
-use crate::insert::point::{InsertPoint, InsertSearchError, search_for_insert_point};
+use crate::insert::point::InsertPoint;
+use crate::pairs::{find_place, put_pair, take_pair};
 use art_arena::NodeArena;
 use art_bytes::AsBytes;
-use art_nodes::{LeafNode, OpaqueNodePtr};
+use art_nodes::OpaqueNodePtr;
 use std::alloc::{AllocError, Global};
 
 /// What is done to the tree.
@@ -48,71 +52,75 @@ struct Change {
     answer: Answer,
 }
 
-impl Change {
-    // A change to this root, with this answer.
-    fn to(root: Option<OpaqueNodePtr>, answer: Answer) -> Self
-        ensures { result ≡ record { root = root; answer = answer } }
-    {
-        Change { root, answer }
-    }
-}
-
-// Stores a pair where there is none.
-fn insert_first<K: AsBytes + Drop, V: Drop, const PREFIX_LEN: usize>(
-    arena: &mut NodeArena<K, V, PREFIX_LEN>,
-    key: K,
-    value: V,
-) -> Change
-    requires { HasPairs K.bytes PREFIX_LEN arena.old None [] }
-    ensures { IsDone K.bytes PREFIX_LEN arena.new [] (Command.Insert key value) result }
+// A clone of a key and of a value. It is refused where one of the clones is.
+fn cloned<K: Clone, V: Clone>(key: &K, value: &V) -> Result<(K, V), AllocError>
+    ensures { IfOk result (λ pair. K.is_clone key.now pair.0 × V.is_clone value.now pair.1) }
 {
-    let leaf = match arena.allocate_node_ptr(LeafNode::with_no_siblings(key, value)) {
-        Ok(leaf) => leaf,
-        Err(_) => return Change::to(None, Answer::Memory),
-    };
-    Change::to(Some(leaf.to_opaque()), Answer::Done(0))
+    Ok((key.clone()?, value.clone()?))
 }
 
 // Stores a pair at the place that was found for its key.
 fn insert_at<K: AsBytes + Drop, V: Drop, const PREFIX_LEN: usize>(
     arena: &mut NodeArena<K, V, PREFIX_LEN>,
-    point: InsertPoint,
+    root: Option<OpaqueNodePtr>,
+    place: Option<InsertPoint>,
     key: K,
     value: V,
 ) -> Change
-    requires { (pairs : List (K × V)) × CanInsert K.bytes PREFIX_LEN arena.old point key pairs }
-    ensures { (pairs : List (K × V)) → CanInsert K.bytes PREFIX_LEN arena.old point key pairs → IsDone K.bytes PREFIX_LEN arena.new pairs (Command.Insert key value) result }
+    requires { (pairs : List (K × V)) × CanPut K.bytes PREFIX_LEN arena.old place (K.bytes key) pairs }
+    ensures { (pairs : List (K × V)) → HasPairs K.bytes PREFIX_LEN arena.old root pairs
+        → CanPut K.bytes PREFIX_LEN arena.old place (K.bytes key) pairs
+        → (IsBlocked (key_of K.bytes) (K.bytes key) pairs → ⊥)
+        → IsDone K.bytes PREFIX_LEN arena.new pairs (Command.Insert key value) result }
 {
-    let root = point.root;
-    let inserted = match point.apply(arena, key, value) {
-        Ok(inserted) => inserted,
-        Err(_) => return Change::to(Some(root), Answer::Memory),
+    let put = match put_pair(arena, place, key, value) {
+        Ok(put) => put,
+        Err(_) => return Change {
+            root,
+            answer: Answer::Memory,
+        },
     };
-    let new_root = inserted.new_root;
-    if inserted.existing_leaf.is_some() {
-        return Change::to(Some(new_root), Answer::Done(1));
+    let new_root = put.new_root;
+    if put.existing_leaf.is_some() {
+        return Change {
+            root: Some(new_root),
+            answer: Answer::Done(1),
+        };
     }
-    Change::to(Some(new_root), Answer::Done(0))
+    Change {
+        root: Some(new_root),
+        answer: Answer::Done(0),
+    }
 }
 
-// Stores a pair.
-fn insert<K: AsBytes + Drop, V: Drop, const PREFIX_LEN: usize>(
-    alloc: Global,
+// Stores clones of a pair. A key that can't be put in is answered before anything is cloned.
+fn insert<K: AsBytes + Clone, V: Clone, const PREFIX_LEN: usize>(
     arena: &mut NodeArena<K, V, PREFIX_LEN>,
     root: Option<OpaqueNodePtr>,
-    key: K,
-    value: V,
+    key: &K,
+    value: &V,
 ) -> Change
-    requires { (pairs : List (K × V)) × HasPairs K.bytes PREFIX_LEN arena.old root pairs }
-    ensures { (pairs : List (K × V)) → HasPairs K.bytes PREFIX_LEN arena.old root pairs → IsDone K.bytes PREFIX_LEN arena.new pairs (Command.Insert key value) result }
+    requires keys { (k c : K) → K.is_clone k c → K.bytes c ≡ K.bytes k }
+    requires pairs { (pairs : List (K × V))
+        × HasClones K.bytes PREFIX_LEN arena.old K.is_clone V.is_clone root pairs }
+    ensures { (pairs : List (K × V)) → HasClones K.bytes PREFIX_LEN arena.old K.is_clone V.is_clone root pairs
+        → IsCarriedOut K.bytes PREFIX_LEN arena.new K.is_clone V.is_clone pairs
+        (Command.Insert key.now value.now) result }
 {
-    let Some(top) = root else {
-        return insert_first(arena, key, value);
+    let before = root;
+    let place = match find_place(arena, before, key.as_bytes()) {
+        Ok(place) => place,
+        Err(_) => return Change {
+            root,
+            answer: Answer::Prefix,
+        },
     };
-    match search_for_insert_point(alloc, arena, top, key.as_bytes()) {
-        Ok(point) => insert_at(arena, point, key, value),
-        Err(InsertSearchError::Prefix(_)) => Change::to(root, Answer::Prefix),
-        Err(InsertSearchError::Memory) => Change::to(root, Answer::Memory),
+    match cloned(key, value) {
+        Ok((key, value)) => insert_at(arena, root, place, key, value),
+        Err(_) => Change {
+            root,
+            answer: Answer::Memory,
+        },
     }
 }
 
@@ -123,64 +131,63 @@ fn delete<K: AsBytes + Drop, V: Drop, const PREFIX_LEN: usize>(
     key: &K,
 ) -> Change
     requires { (pairs : List (K × V)) × HasPairs K.bytes PREFIX_LEN arena.old root pairs }
-    ensures { (pairs : List (K × V)) → HasPairs K.bytes PREFIX_LEN arena.old root pairs → IsDone K.bytes PREFIX_LEN arena.new pairs (Command.Delete key.now) result }
+    ensures { (pairs : List (K × V)) → HasPairs K.bytes PREFIX_LEN arena.old root pairs
+        → IsDone K.bytes PREFIX_LEN arena.new pairs (Command.Delete key.now) result }
 {
-    let Some(top) = root else {
-        return Change::to(None, Answer::Done(0));
-    };
-    let Some(point) = search_for_delete_point(arena, top, key.as_bytes()) else {
-        return Change::to(root, Answer::Done(0));
-    };
-    match point.apply(arena, top) {
-        Ok(deleted) => Change::to(deleted.new_root, Answer::Done(1)),
-        Err(_) => Change::to(root, Answer::Memory),
+    let before = root;
+    match take_pair(arena, before, key.as_bytes()) {
+        Ok(Some(deleted)) => Change {
+            root: deleted.new_root,
+            answer: Answer::Done(1),
+        },
+        Ok(None) => Change {
+            root,
+            answer: Answer::Done(0),
+        },
+        Err(_) => Change {
+            root,
+            answer: Answer::Memory,
+        },
     }
-}
-
-// A clone of a key and of a value. It is refused where one of the clones is.
-fn cloned<K: Clone, V: Clone>(key: &K, value: &V) -> Result<(K, V), AllocError>
-    ensures { IfOk result (λ pair. K.is_clone key.now pair.0 × V.is_clone value.now pair.1) }
-{
-    Ok((key.clone()?, value.clone()?))
 }
 
 // Carries out one command.
 fn carry_out<K: AsBytes + Clone, V: Clone, const PREFIX_LEN: usize>(
-    alloc: Global,
     arena: &mut NodeArena<K, V, PREFIX_LEN>,
     root: Option<OpaqueNodePtr>,
     command: &Command<K, V>,
 ) -> Change
     requires keys { (k c : K) → K.is_clone k c → K.bytes c ≡ K.bytes k }
-    requires pairs { (pairs : List (K × V)) × HasClones K.bytes PREFIX_LEN arena.old K.is_clone V.is_clone root pairs }
+    requires pairs { (pairs : List (K × V))
+        × HasClones K.bytes PREFIX_LEN arena.old K.is_clone V.is_clone root pairs }
     ensures { (pairs : List (K × V)) → HasClones K.bytes PREFIX_LEN arena.old K.is_clone V.is_clone root pairs
-        → IsAnswered K.bytes pairs command.now result.answer × HasClones K.bytes PREFIX_LEN arena.new K.is_clone V.is_clone result.root (after K.bytes command.now result.answer pairs) }
+        → IsCarriedOut K.bytes PREFIX_LEN arena.new K.is_clone V.is_clone pairs command.now result }
 {
     match command {
-        Command::Insert(key, value) => match cloned(key, value) {
-            Ok((key, value)) => insert(alloc, arena, root, key, value),
-            Err(_) => Change::to(root, Answer::Memory),
-        },
+        Command::Insert(key, value) => insert(arena, root, key, value),
         Command::Delete(key) => delete(arena, root, key),
     }
 }
 
-/// Carries out the commands one after the other, from no pair on, and answers each in turn. A command whose key or value can't be
-/// cloned, or for whose nodes there is no memory, is refused and changes nothing. The run itself is refused only where there is no
-/// memory for the answers, before the first command.
+/// Carries out the commands one after the other, from no pair on, and answers each in turn. An insertion is answered
+/// `Prefix` exactly where its key is in conflict with a stored one, which takes no memory. A command whose key or value
+/// can't be cloned, or for whose nodes there is no memory, is refused and changes nothing; where the key is stored
+/// already, an insertion needs clones alone. The run itself is refused only where there is no memory for the answers,
+/// before the first command.
 pub fn run<K: AsBytes + Clone, V: Clone, const PREFIX_LEN: usize>(
     alloc: Global,
     commands: &[Command<K, V>],
 ) -> Result<RunResult<K, V, PREFIX_LEN>, AllocError>
     requires { (k c : K) → K.is_clone k c → K.bytes c ≡ K.bytes k }
     ensures answers { IfOk result (λ ran. AreAnswered K.bytes [] commands.now ran.answers.items) }
-    ensures tree { IfOk result (λ ran. HoldsClonesOf K.bytes PREFIX_LEN ran.arena K.is_clone V.is_clone ran.root (pairs_after K.bytes commands.now ran.answers.items [])) }
+    ensures tree { IfOk result (λ ran. HoldsClonesOf K.bytes PREFIX_LEN ran.arena K.is_clone V.is_clone ran.root
+        (pairs_after K.bytes commands.now ran.answers.items [])) }
 {
     let mut answers = Vec::with_capacity(alloc, commands.len())?;
     let mut arena = NodeArena::new(alloc);
     let mut root = None;
     for command in commands {
-        let change = carry_out(alloc, &mut arena, root, command);
+        let change = carry_out(&mut arena, root, command);
         root = change.root;
         answers.push_reserved(change.answer);
     }

@@ -1,12 +1,12 @@
 //! A leaf is taken out of a tree.
-ghost use Rattle.std.specs.Prelude.{ℕ, ◌+◌, IfOk, IsOk, OnErr};
-ghost use Rattle.art_arena.specs.Arena.{node_at, links_at, HasRoom, SameNodes};
-ghost use Rattle.art_arena.specs.Meaning.{IsTree};
+ghost use Rattle.std.specs.Prelude.{IfOk, IsOk, OnErr};
+ghost use Rattle.art_arena.specs.Arena.{HasRoom, SameNodes};
 ghost use Rattle.art_arena.specs.Shapes.{Shape, leaves};
 ghost use Rattle.art_arena.specs.Shrinks.{Shrinks};
 ghost use Rattle.art_arena.specs.Steps.{steps_of};
 ghost use Rattle.art_operations.specs.DeletePoints.{IsLeafPlace};
 ghost use Rattle.art_operations.specs.Deletions.{IsDeleted};
+ghost use Rattle.art_operations.specs.Stores.{StoresOnly, UsesRoom};
 
 use crate::delete::detach::detach;
 use crate::delete::point::DeletePoint;
@@ -28,14 +28,17 @@ impl DeletePoint {
         arena: &mut NodeArena<K, V, PREFIX_LEN>,
         root: OpaqueNodePtr,
     ) -> Result<DeleteResult<K, V>, AllocError>
-        requires { (s : Shape K V) × IsTree K.bytes PREFIX_LEN (node_at arena.old) root (links_at arena.old) s × IsLeafPlace K.bytes s self.leaf_node_ptr (steps_of self.path) }
-        ensures ok { IfOk result (λ deleted. (s : Shape K V) → IsTree K.bytes PREFIX_LEN (node_at arena.old) root (links_at arena.old) s → IsLeafPlace K.bytes s self.leaf_node_ptr (steps_of self.path)
+        requires { (s : Shape K V) × StoresOnly K.bytes PREFIX_LEN arena.old root s
+            × IsLeafPlace K.bytes s self.leaf_node_ptr (steps_of self.path) }
+        ensures ok { IfOk result (λ deleted. (s : Shape K V) → StoresOnly K.bytes PREFIX_LEN arena.old root s
+            → IsLeafPlace K.bytes s self.leaf_node_ptr (steps_of self.path)
             → IsDeleted K.bytes PREFIX_LEN arena.new s self.leaf_node_ptr deleted) }
         ensures err { OnErr result (SameNodes arena.old arena.new) }
-        ensures shrinks { OnErr result ((s : Shape K V) → IsTree K.bytes PREFIX_LEN (node_at arena.old) root (links_at arena.old) s → (place : IsLeafPlace K.bytes s self.leaf_node_ptr (steps_of self.path))
+        ensures shrinks { OnErr result ((s : Shape K V) → StoresOnly K.bytes PREFIX_LEN arena.old root s
+            → (place : IsLeafPlace K.bytes s self.leaf_node_ptr (steps_of self.path))
             → Shrinks (λ l. K.bytes l.key) (leaves s) (K.bytes place.key)) }
         ensures succeeds { HasRoom arena.old 1 → IsOk result }
-        ensures room { (n : ℕ) → HasRoom arena.old (n + 1) → HasRoom arena.new n }
+        ensures room { UsesRoom 1 arena.old arena.new }
     {
         let DeletePoint {
             path,

@@ -1,22 +1,20 @@
 //! A leaf is taken out of the inner nodes above it.
-ghost use Rattle.std.specs.Prelude.{◌≡◌, ◌≢◌, ◌<◌, ◌≤◌, ◌+◌, ℕ, suc, Some, IsSome, IfOk, IsOk, OnErr, length};
+ghost use Rattle.std.specs.Prelude.{◌≡◌, ◌≢◌, ◌<◌, ◌≤◌, ◌+◌, suc, Some, IsSome, IfOk, IsOk, OnErr, length};
 ghost use Rattle.art_nodes.specs.InnerNode as node;
 ghost use Rattle.art_nodes.specs.InnerNode.{child_at, with_child, without_child, with_children};
 ghost use Rattle.art_nodes.specs.Kind.{row_of, CanShrink};
-ghost use Rattle.art_arena.specs.Arena.{held_at, inner_held, node_at, links_at, HasRoom, SameNodes};
+ghost use Rattle.art_arena.specs.Arena.{inner_held, HasRoom, SameNodes};
 ghost use Rattle.art_arena.specs.Kinds.{IsKindOf, ChangesKind};
-ghost use Rattle.art_arena.specs.Meaning.{IsNodes};
 ghost use Rattle.art_arena.specs.Shapes.{Shape, width, leaves};
 ghost use Rattle.art_arena.specs.Shrinks.{Shrinks};
 ghost use Rattle.art_arena.specs.Steps.{steps_of};
 ghost use Rattle.art_operations.specs.DeletePoints.{IsLeafPlace};
-ghost use Rattle.art_operations.specs.Detached.{IsChildLeaf, StandsFor, IsDetached};
-ghost use Rattle.art_operations.specs.Removals.{EditsNode, Moves, PutsBack};
+ghost use Rattle.art_operations.specs.inner.Detached.{IsChildLeaf, StandsFor, IsDetached};
+ghost use Rattle.art_operations.specs.inner.Removals.{EditsNode, Moves, PutsBack};
+ghost use Rattle.art_operations.specs.Stores.{HasInner, KeepsRoom, SameLinks, StoresNodes, UsesRoom};
 
 use crate::delete::merge::merge;
-use crate::edit::{drop_node, remove_child, shrink, write_child};
-use art_arena::inner::header;
-use art_arena::{LeafPtr, NodeArena, TreePath};
+use art_arena::{LeafPtr, NodeArena, NodeEdit, TreePath};
 use art_bytes::AsBytes;
 use art_nodes::{NodeType, OpaqueNodePtr};
 use std::alloc::AllocError;
@@ -31,29 +29,32 @@ fn take_child<K, V, const PREFIX_LEN: usize>(
     child: OpaqueNodePtr,
 ) -> Result<OpaqueNodePtr, AllocError>
     requires inner { parent.kind ≢ NodeType.Leaf }
-    requires held { (n : node.InnerNode) × (held_at arena.old parent ≡ Some (inner_held n)) × PutsBack n byte child × (length (without_child n.children byte) < (row_of parent.kind).most) }
-    ensures ok { IfOk result (λ other. (n : node.InnerNode) → held_at arena.old parent ≡ Some (inner_held n)
+    requires held { (n : node.InnerNode) × HasInner arena.old parent n × PutsBack n byte child
+        × (length (without_child n.children byte) < (row_of parent.kind).most) }
+    ensures ok { IfOk result (λ other. (n : node.InnerNode) → HasInner arena.old parent n
         → Moves arena.old arena.new parent other (inner_held (with_children n (without_child n.children byte)))) }
-    ensures kind { IfOk result (λ other. (n : node.InnerNode) → held_at arena.old parent ≡ Some (inner_held n)
-        → IsKindOf parent.kind (suc (length (without_child n.children byte))) → 2 ≤ length (without_child n.children byte) → IsKindOf other.kind (length (without_child n.children byte))) }
+    ensures kind { IfOk result (λ other. (n : node.InnerNode) → HasInner arena.old parent n
+        → IsKindOf parent.kind (suc (length (without_child n.children byte)))
+        → 2 ≤ length (without_child n.children byte)
+        → IsKindOf other.kind (length (without_child n.children byte))) }
     ensures err { OnErr result (SameNodes arena.old arena.new) }
-    ensures shrinks { OnErr result ((n : node.InnerNode) → held_at arena.old parent ≡ Some (inner_held n) → CanShrink parent.kind (length (without_child n.children byte))) }
+    ensures shrinks { OnErr result ((n : node.InnerNode) → HasInner arena.old parent n
+        → CanShrink parent.kind (length (without_child n.children byte))) }
     ensures succeeds { HasRoom arena.old 1 → IsOk result }
-    ensures room { (n : ℕ) → HasRoom arena.old (n + 1) → HasRoom arena.new n }
+    ensures room { UsesRoom 1 arena.old arena.new }
 {
-    remove_child(arena, parent, byte);
-    arena.prefix_fits(parent);
-    let left = header(arena, parent).num_children();
+    arena.edit_inner(parent, &NodeEdit::Remove { byte });
+    let left = arena.inner(parent).num_children();
     if !parent.node_type().should_shrink_inner_node(left) {
         return Ok(parent);
     }
-    match shrink(arena, parent) {
+    match arena.shrink(parent) {
         Ok(smaller) => {
-            drop_node(arena, parent);
+            arena.edit_inner(parent, &NodeEdit::Free);
             Ok(smaller)
         }
         Err(refused) => {
-            write_child(arena, parent, byte, child);
+            arena.edit_inner(parent, &NodeEdit::Write { byte, child });
             Err(refused)
         }
     }
@@ -68,15 +69,16 @@ fn take_out<K: AsBytes, V, const PREFIX_LEN: usize>(
     leaf: LeafPtr,
 ) -> Result<OpaqueNodePtr, AllocError>
     requires { IsChildLeaf K.bytes PREFIX_LEN arena.old parent byte leaf }
-    ensures ok { IfOk result (λ other. (there : IsChildLeaf K.bytes PREFIX_LEN arena.old parent byte leaf) → StandsFor K.bytes PREFIX_LEN arena.new there.frame there.outer there.leaf other) }
-    ensures links { (slot : ℕ) → links_at arena.new slot ≡ links_at arena.old slot }
+    ensures ok { IfOk result (λ other. (there : IsChildLeaf K.bytes PREFIX_LEN arena.old parent byte leaf)
+        → StandsFor K.bytes PREFIX_LEN arena.new there.frame there.outer there.leaf other) }
+    ensures links { SameLinks arena.old arena.new }
     ensures err { OnErr result (SameNodes arena.old arena.new) }
-    ensures shrinks { OnErr result ((there : IsChildLeaf K.bytes PREFIX_LEN arena.old parent byte leaf) → ChangesKind (suc (width there.frame.before + width there.frame.after))) }
+    ensures shrinks { OnErr result ((there : IsChildLeaf K.bytes PREFIX_LEN arena.old parent byte leaf)
+        → ChangesKind (suc (width there.frame.before + width there.frame.after))) }
     ensures succeeds { HasRoom arena.old 1 → IsOk result }
-    ensures room { (n : ℕ) → HasRoom arena.old (n + 1) → HasRoom arena.new n }
+    ensures room { UsesRoom 1 arena.old arena.new }
 {
-    arena.prefix_fits(parent);
-    if header(arena, parent).num_children() == 2 {
+    if arena.inner(parent).num_children() == 2 {
         return Ok(merge(arena, parent, byte));
     }
     take_child(arena, parent, byte, leaf.to_opaque())
@@ -91,15 +93,16 @@ fn point_at<K, V, const PREFIX_LEN: usize>(
     new: OpaqueNodePtr,
 )
     requires inner { above.kind ≢ NodeType.Leaf }
-    requires there { (n : node.InnerNode) × (held_at arena.old above ≡ Some (inner_held n)) × IsSome (child_at n.children byte) }
+    requires there { (n : node.InnerNode) × HasInner arena.old above n × IsSome (child_at n.children byte) }
     ensures same { new ≡ old → SameNodes arena.old arena.new }
-    ensures other { new ≢ old → EditsNode arena.old arena.new above (λ n. with_children n (with_child n.children byte new)) }
-    ensures room { (n : ℕ) → HasRoom arena.old n → HasRoom arena.new n }
+    ensures other { new ≢ old → EditsNode arena.old arena.new above
+        (λ n. with_children n (with_child n.children byte new)) }
+    ensures room { KeepsRoom arena.old arena.new }
 {
     if new == old {
         return;
     }
-    write_child(arena, above, byte, new);
+    arena.edit_inner(above, &NodeEdit::Write { byte, child: new });
 }
 
 /// Takes a leaf out of the inner nodes above it, and answers the root of what is left, if it isn't the root itself. The
@@ -111,15 +114,19 @@ pub(crate) fn detach<K: AsBytes, V, const PREFIX_LEN: usize>(
     path: TreePath,
     leaf: LeafPtr,
 ) -> Result<Option<OpaqueNodePtr>, AllocError>
-    requires { (s : Shape K V) × IsNodes K.bytes PREFIX_LEN (node_at arena.old) root s × IsLeafPlace K.bytes s leaf (steps_of path) }
-    ensures ok { IfOk result (λ left. (s : Shape K V) → IsNodes K.bytes PREFIX_LEN (node_at arena.old) root s → (place : IsLeafPlace K.bytes s leaf (steps_of path))
-        → IsDetached K.bytes PREFIX_LEN arena.new s (record { slot = leaf; key = place.key; value = place.value }) left) }
-    ensures links { (slot : ℕ) → links_at arena.new slot ≡ links_at arena.old slot }
+    requires { (s : Shape K V) × StoresNodes K.bytes PREFIX_LEN arena.old root s
+        × IsLeafPlace K.bytes s leaf (steps_of path) }
+    ensures ok { IfOk result (λ left. (s : Shape K V) → StoresNodes K.bytes PREFIX_LEN arena.old root s
+        → (place : IsLeafPlace K.bytes s leaf (steps_of path))
+        → IsDetached K.bytes PREFIX_LEN arena.new s
+        (record { slot = leaf; key = place.key; value = place.value }) left) }
+    ensures links { SameLinks arena.old arena.new }
     ensures err { OnErr result (SameNodes arena.old arena.new) }
-    ensures shrinks { OnErr result ((s : Shape K V) → IsNodes K.bytes PREFIX_LEN (node_at arena.old) root s → (place : IsLeafPlace K.bytes s leaf (steps_of path))
+    ensures shrinks { OnErr result ((s : Shape K V) → StoresNodes K.bytes PREFIX_LEN arena.old root s
+        → (place : IsLeafPlace K.bytes s leaf (steps_of path))
         → Shrinks (λ l. K.bytes l.key) (leaves s) (K.bytes place.key)) }
     ensures succeeds { HasRoom arena.old 1 → IsOk result }
-    ensures room { (n : ℕ) → HasRoom arena.old (n + 1) → HasRoom arena.new n }
+    ensures room { UsesRoom 1 arena.old arena.new }
 {
     match path {
         TreePath::Root => Ok(None),

@@ -2,15 +2,13 @@
 ghost use Rattle.std.specs.Prelude.{◌≡◌, ◌≢◌, ◌<◌, ◌+◌, ◌^◌, ℕ, List, ◌∷◌, ◌++◌, Some, None, length, take};
 ghost use Rattle.art_nodes.specs.InnerNode as node;
 ghost use Rattle.art_nodes.specs.Name.{Name};
-ghost use Rattle.art_arena.specs.Arena.{Arena, held_at, inner_held, node_at, HasRoom};
+ghost use Rattle.art_arena.specs.Arena.{Arena, held_at};
 ghost use Rattle.art_arena.specs.Cells.{UpdatesAt};
-ghost use Rattle.art_arena.specs.Meaning.{IsSubtree};
 ghost use Rattle.art_arena.specs.Shapes.{Shape};
-ghost use Rattle.art_operations.specs.Removals.{IsOther, Lengthens};
+ghost use Rattle.art_operations.specs.inner.Removals.{IsOther, Lengthens};
+ghost use Rattle.art_operations.specs.Stores.{HasInner, KeepsRoom, StoresBehind};
 
-use crate::edit::{copy_prefix, drop_node};
-use art_arena::inner::{first_child, header, last_child};
-use art_arena::{NodeArena, first_leaf};
+use art_arena::{NodeArena, NodeEdit, first_leaf};
 use art_bytes::AsBytes;
 use art_nodes::{Header, KindLeaf, NodeType, OpaqueNodePtr};
 
@@ -21,10 +19,13 @@ fn other_child<K, V, const PREFIX_LEN: usize>(
     byte: u8,
 ) -> (u8, OpaqueNodePtr)
     requires inner { parent.kind ≢ NodeType.Leaf }
-    requires two { (n : node.InnerNode) × (other : ℕ × Name) × (held_at arena.now parent ≡ Some (inner_held n)) × IsOther n.children byte other }
-    ensures { (n : node.InnerNode) (other : ℕ × Name) → held_at arena.now parent ≡ Some (inner_held n) → IsOther n.children byte other → result ≡ other }
+    requires two { (n : node.InnerNode) × (other : ℕ × Name) × HasInner arena.now parent n
+        × IsOther n.children byte other }
+    ensures { (n : node.InnerNode) (other : ℕ × Name) → HasInner arena.now parent n → IsOther n.children byte other
+        → result ≡ other }
 {
-    match first_child(arena, parent) {
+    let inner = arena.inner(parent);
+    match inner.first_child() {
         Some(first) => {
             if first.0 != byte {
                 return first;
@@ -32,7 +33,7 @@ fn other_child<K, V, const PREFIX_LEN: usize>(
         }
         None => unreachable!(),
     }
-    match last_child(arena, parent) {
+    match inner.last_child() {
         Some(last) => last,
         None => unreachable!(),
     }
@@ -45,7 +46,11 @@ fn joined_prefix<const PREFIX_LEN: usize>(
     below: &Header<PREFIX_LEN>,
 ) -> Header<PREFIX_LEN>
     requires fits { above.now.prefix_len + 1 + below.now.prefix_len < 2 ^ 64 }
-    ensures { result ≡ record { num_children = 0; prefix_len = above.now.prefix_len + 1 + below.now.prefix_len; stored = take PREFIX_LEN (above.now.stored ++ byte ∷ below.now.stored) } }
+    ensures { result ≡ record {
+      num_children = 0;
+      prefix_len = above.now.prefix_len + 1 + below.now.prefix_len;
+      stored = take PREFIX_LEN (above.now.stored ++ byte ∷ below.now.stored);
+    } }
 {
     // The counts tell how much of each prefix is stored.
     let _above = above.num_children();
@@ -64,11 +69,11 @@ fn prefixes_fit<K: AsBytes, V, const PREFIX_LEN: usize>(
     child: OpaqueNodePtr,
 )
     requires inner { child.kind ≢ NodeType.Leaf }
-    requires behind { (path : List ℕ) × (s : Shape K V) × IsSubtree K.bytes PREFIX_LEN (node_at arena.now) child path s × (len < length path) }
-    ensures { (n : node.InnerNode) → held_at arena.now child ≡ Some (inner_held n) → len + 1 + n.header.prefix_len < 2 ^ 64 }
+    requires behind { (path : List ℕ) × (s : Shape K V) × StoresBehind K.bytes PREFIX_LEN arena.now child path s
+        × (len < length path) }
+    ensures { (n : node.InnerNode) → HasInner arena.now child n → len + 1 + n.header.prefix_len < 2 ^ 64 }
 {
-    arena.prefix_fits(child);
-    let below = header(arena, child).prefix_len();
+    let below = arena.inner(child).prefix_len();
     if len <= PREFIX_LEN {
         if below <= PREFIX_LEN {
             return;
@@ -86,37 +91,44 @@ fn lengthen<K: AsBytes, V, const PREFIX_LEN: usize>(
     child: OpaqueNodePtr,
 )
     requires inner { parent.kind ≢ NodeType.Leaf }
-    requires held { (n : node.InnerNode) × (held_at arena.old parent ≡ Some (inner_held n))
-        × (path : List ℕ) × (s : Shape K V) × IsSubtree K.bytes PREFIX_LEN (node_at arena.old) child path s × (n.header.prefix_len < length path) }
-    ensures lengthens { (n : node.InnerNode) → held_at arena.old parent ≡ Some (inner_held n) → Lengthens PREFIX_LEN arena.old arena.new n byte child }
-    ensures room { (n : ℕ) → HasRoom arena.old n → HasRoom arena.new n }
+    requires held { (n : node.InnerNode) × HasInner arena.old parent n
+        × (path : List ℕ) × (s : Shape K V) × StoresBehind K.bytes PREFIX_LEN arena.old child path s
+        × (n.header.prefix_len < length path) }
+    ensures lengthens { (n : node.InnerNode) → HasInner arena.old parent n
+        → Lengthens PREFIX_LEN arena.old arena.new n byte child }
+    ensures room { KeepsRoom arena.old arena.new }
 {
     if child.is::<KindLeaf>() {
         return;
     }
-    arena.prefix_fits(parent);
-    let above = header(arena, parent);
+    let above = arena.inner(parent).header();
     prefixes_fit(arena, above.prefix_len(), child);
-    let prefix = joined_prefix(above, byte, header(arena, child));
-    copy_prefix(arena, child, &prefix);
+    let header = joined_prefix(above, byte, arena.inner(child).header());
+    arena.edit_inner(child, &NodeEdit::CopyPrefix { header: &header });
 }
 
-/// Drops a node of two children without the one under a byte, so that the other one, which it answers, can stand for it.
+/// Drops a node of two children without the one under a byte, so that the other one, which it answers, can stand for
+/// it.
 pub(crate) fn merge<K: AsBytes, V, const PREFIX_LEN: usize>(
     arena: &mut NodeArena<K, V, PREFIX_LEN>,
     parent: OpaqueNodePtr,
     byte: u8,
 ) -> OpaqueNodePtr
     requires inner { parent.kind ≢ NodeType.Leaf }
-    requires two { (n : node.InnerNode) × (other : ℕ × Name) × (held_at arena.old parent ≡ Some (inner_held n)) × IsOther n.children byte other
-        × (path : List ℕ) × (s : Shape K V) × IsSubtree K.bytes PREFIX_LEN (node_at arena.old) other.1 path s × (n.header.prefix_len < length path) × (other.1 ≢ parent) }
-    ensures value { (n : node.InnerNode) (other : ℕ × Name) → held_at arena.old parent ≡ Some (inner_held n) → IsOther n.children byte other → result ≡ other.1 }
-    ensures merges { (n : node.InnerNode) (other : ℕ × Name) → held_at arena.old parent ≡ Some (inner_held n) → IsOther n.children byte other
-        → (mid : Arena K V) × Lengthens PREFIX_LEN arena.old mid n other.0 other.1 × UpdatesAt (held_at mid) (held_at arena.new) parent None }
-    ensures room { (n : ℕ) → HasRoom arena.old n → HasRoom arena.new n }
+    requires two { (n : node.InnerNode) × (other : ℕ × Name) × HasInner arena.old parent n
+        × IsOther n.children byte other
+        × (path : List ℕ) × (s : Shape K V) × StoresBehind K.bytes PREFIX_LEN arena.old other.1 path s
+        × (n.header.prefix_len < length path) × (other.1 ≢ parent) }
+    ensures value { (n : node.InnerNode) (other : ℕ × Name) → HasInner arena.old parent n
+        → IsOther n.children byte other → result ≡ other.1 }
+    ensures merges { (n : node.InnerNode) (other : ℕ × Name) → HasInner arena.old parent n
+        → IsOther n.children byte other
+        → (mid : Arena K V) × Lengthens PREFIX_LEN arena.old mid n other.0 other.1
+        × UpdatesAt (held_at mid) (held_at arena.new) parent None }
+    ensures room { KeepsRoom arena.old arena.new }
 {
     let (edge, child) = other_child(arena, parent, byte);
     lengthen(arena, parent, edge, child);
-    drop_node(arena, parent);
+    arena.edit_inner(parent, &NodeEdit::Free);
     child
 }

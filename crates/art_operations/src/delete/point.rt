@@ -1,19 +1,15 @@
 //! The leaf that is to be deleted.
-ghost use Rattle.std.specs.Prelude.{◌≡◌, ℕ, List, [], Some, None, IfSome};
-ghost use Rattle.art_arena.specs.Arena.{node_at};
+ghost use Rattle.std.specs.Prelude.{◌≡◌, Some, None, IfSome};
 ghost use Rattle.art_arena.specs.Found.{found_in, IsAtKey};
 ghost use Rattle.art_arena.specs.Linked.{first_slot, last_slot};
-ghost use Rattle.art_arena.specs.Meaning.{IsSubtree};
 ghost use Rattle.art_arena.specs.Shapes.{Shape, leaves};
 ghost use Rattle.art_arena.specs.Steps.{steps_of};
 ghost use Rattle.art_operations.specs.DeletePoints.{leaf_of, IsLeafPlace};
+ghost use Rattle.art_operations.specs.Stores.{Stores};
 
-use art_arena::inner::{first_child, last_child};
-use art_arena::{
-    ArenaReader, LeafPtr, NodeArena, TreePath, TreePathSearch, find_leaf, inner_node_ptr,
-};
+use art_arena::{ArenaReader, End, LeafPtr, NodeArena, TreePath, end_leaf, find_leaf};
 use art_bytes::AsBytes;
-use art_nodes::{KindLeaf, OpaqueNodePtr};
+use art_nodes::OpaqueNodePtr;
 
 /// A leaf that is to be deleted. One that is built with the path and the leaf that a search would find counts as found.
 #[derive(Clone, Copy, Debug)]
@@ -30,9 +26,11 @@ pub fn search_for_delete_point<K: AsBytes, V, const PREFIX_LEN: usize>(
     root: OpaqueNodePtr,
     key: &[u8],
 ) -> Option<DeletePoint>
-    requires { (s : Shape K V) × IsSubtree K.bytes PREFIX_LEN (node_at arena.now) root [] s }
-    ensures value { (s : Shape K V) → IsSubtree K.bytes PREFIX_LEN (node_at arena.now) root [] s → leaf_of result ≡ found_in K.bytes key.now s }
-    ensures place { (s : Shape K V) → IsSubtree K.bytes PREFIX_LEN (node_at arena.now) root [] s → IfSome result (λ point. IsAtKey K.bytes key.now s point.leaf_node_ptr (steps_of point.path)) }
+    requires { (s : Shape K V) × Stores K.bytes PREFIX_LEN arena.now root s }
+    ensures value { (s : Shape K V) → Stores K.bytes PREFIX_LEN arena.now root s
+        → leaf_of result ≡ found_in K.bytes key.now s }
+    ensures place { (s : Shape K V) → Stores K.bytes PREFIX_LEN arena.now root s
+        → IfSome result (λ point. IsAtKey K.bytes key.now s point.leaf_node_ptr (steps_of point.path)) }
 {
     let mut reader = ArenaReader::new(arena);
     match find_leaf(&mut reader, root, key) {
@@ -49,26 +47,16 @@ pub fn find_minimum_to_delete<K: AsBytes, V, const PREFIX_LEN: usize>(
     arena: &NodeArena<K, V, PREFIX_LEN>,
     root: OpaqueNodePtr,
 ) -> DeletePoint
-    requires { (s : Shape K V) × IsSubtree K.bytes PREFIX_LEN (node_at arena.now) root [] s }
-    ensures value { (s : Shape K V) → IsSubtree K.bytes PREFIX_LEN (node_at arena.now) root [] s → first_slot (leaves s) None ≡ Some result.leaf_node_ptr }
-    ensures place { (s : Shape K V) → IsSubtree K.bytes PREFIX_LEN (node_at arena.now) root [] s → IsLeafPlace K.bytes s result.leaf_node_ptr (steps_of result.path) }
+    requires { (s : Shape K V) × Stores K.bytes PREFIX_LEN arena.now root s }
+    ensures value { (s : Shape K V) → Stores K.bytes PREFIX_LEN arena.now root s
+        → first_slot (leaves s) None ≡ Some result.leaf_node_ptr }
+    ensures place { (s : Shape K V) → Stores K.bytes PREFIX_LEN arena.now root s
+        → IsLeafPlace K.bytes s result.leaf_node_ptr (steps_of result.path) }
 {
-    let mut search = TreePathSearch::default();
-    let mut current = root;
-    loop {
-        if let Some(first) = current.cast::<KindLeaf>() {
-            return DeletePoint {
-                path: search.finish(),
-                leaf_node_ptr: first,
-            };
-        }
-        match first_child(arena, current) {
-            Some(child) => {
-                search.visit_inner_node(inner_node_ptr(current), child.0);
-                current = child.1;
-            }
-            None => unreachable!(),
-        }
+    let found = end_leaf(arena, root, End::First);
+    DeletePoint {
+        path: found.path,
+        leaf_node_ptr: found.leaf_node_ptr,
     }
 }
 
@@ -77,25 +65,15 @@ pub fn find_maximum_to_delete<K: AsBytes, V, const PREFIX_LEN: usize>(
     arena: &NodeArena<K, V, PREFIX_LEN>,
     root: OpaqueNodePtr,
 ) -> DeletePoint
-    requires { (s : Shape K V) × IsSubtree K.bytes PREFIX_LEN (node_at arena.now) root [] s }
-    ensures value { (s : Shape K V) → IsSubtree K.bytes PREFIX_LEN (node_at arena.now) root [] s → last_slot None (leaves s) ≡ Some result.leaf_node_ptr }
-    ensures place { (s : Shape K V) → IsSubtree K.bytes PREFIX_LEN (node_at arena.now) root [] s → IsLeafPlace K.bytes s result.leaf_node_ptr (steps_of result.path) }
+    requires { (s : Shape K V) × Stores K.bytes PREFIX_LEN arena.now root s }
+    ensures value { (s : Shape K V) → Stores K.bytes PREFIX_LEN arena.now root s
+        → last_slot None (leaves s) ≡ Some result.leaf_node_ptr }
+    ensures place { (s : Shape K V) → Stores K.bytes PREFIX_LEN arena.now root s
+        → IsLeafPlace K.bytes s result.leaf_node_ptr (steps_of result.path) }
 {
-    let mut search = TreePathSearch::default();
-    let mut current = root;
-    loop {
-        if let Some(last) = current.cast::<KindLeaf>() {
-            return DeletePoint {
-                path: search.finish(),
-                leaf_node_ptr: last,
-            };
-        }
-        match last_child(arena, current) {
-            Some(child) => {
-                search.visit_inner_node(inner_node_ptr(current), child.0);
-                current = child.1;
-            }
-            None => unreachable!(),
-        }
+    let found = end_leaf(arena, root, End::Last);
+    DeletePoint {
+        path: found.path,
+        leaf_node_ptr: found.leaf_node_ptr,
     }
 }

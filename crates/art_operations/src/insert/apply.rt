@@ -1,18 +1,18 @@
 //! The change of a tree that puts a new key in.
-ghost use Rattle.std.specs.Prelude.{◌≡◌, ◌+◌, ℕ, IfOk, OnErr, IfErr, IsOk};
-ghost use Rattle.art_arena.specs.Arena.{node_at, links_at, HasRoom, SameNodes};
-ghost use Rattle.art_arena.specs.Meaning.{IsTree};
+ghost use Rattle.std.specs.Prelude.{◌≡◌, ℕ, IfOk, OnErr, IfErr, IsOk};
+ghost use Rattle.art_arena.specs.Arena.{HasRoom, SameNodes};
 ghost use Rattle.art_arena.specs.Shapes.{Shape};
 ghost use Rattle.art_arena.specs.Steps.{steps_of};
 ghost use Rattle.art_operations.specs.Insertions.{IsInserted};
 ghost use Rattle.art_operations.specs.Points.{IsPoint};
 ghost use Rattle.art_operations.specs.declared.insert.point.InsertKind.TheVariants as kind;
+ghost use Rattle.art_operations.specs.Stores.{StoresOnly, UsesRoom};
 
 use crate::insert::exact::replace_pair;
-use crate::insert::fork::fork;
-use crate::insert::grow::put_into_existing;
+use crate::insert::into_existing::put_into_existing;
 use crate::insert::point::{InsertKind, InsertPoint};
 use crate::insert::result::{InsertRefused, InsertResult};
+use crate::insert::split::split;
 use art_arena::NodeArena;
 use art_bytes::AsBytes;
 
@@ -28,25 +28,27 @@ impl InsertPoint {
         key: K,
         value: V,
     ) -> Result<InsertResult<K, V>, InsertRefused<K, V>>
-        requires { (s : Shape K V) × IsTree K.bytes PREFIX_LEN (node_at arena.old) self.root (links_at arena.old) s × IsPoint K.bytes (K.bytes key) s self }
-        ensures ok { IfOk result (λ inserted. (s : Shape K V) → IsTree K.bytes PREFIX_LEN (node_at arena.old) self.root (links_at arena.old) s → IsPoint K.bytes (K.bytes key) s self
+        requires { (s : Shape K V) × StoresOnly K.bytes PREFIX_LEN arena.old self.root s
+            × IsPoint K.bytes (K.bytes key) s self }
+        ensures ok { IfOk result (λ inserted. (s : Shape K V) → StoresOnly K.bytes PREFIX_LEN arena.old self.root s
+            → IsPoint K.bytes (K.bytes key) s self
             → IsInserted K.bytes PREFIX_LEN arena.new s (steps_of self.path) key value inserted) }
         ensures err { OnErr result (SameNodes arena.old arena.new) }
         ensures handed_back { IfErr result (λ refused. (refused.key ≡ key) × (refused.value ≡ value)) }
         ensures exact { (leaf : ℕ) → self.insert_kind ≡ kind.Exact leaf → IsOk result }
         ensures succeeds { HasRoom arena.old 2 → IsOk result }
-        ensures room { (n : ℕ) → HasRoom arena.old (n + 2) → HasRoom arena.new n }
+        ensures room { UsesRoom 2 arena.old arena.new }
     {
         let kind = self.insert_kind;
         match kind {
             InsertKind::MismatchPrefix {
                 inner_node_ptr,
                 parted,
-            } => fork(arena, self, inner_node_ptr, parted, key, value),
+            } => split(arena, self, inner_node_ptr, parted, key, value),
             InsertKind::SplitLeaf {
                 leaf_node_ptr,
                 parted,
-            } => fork(arena, self, leaf_node_ptr.to_opaque(), parted, key, value),
+            } => split(arena, self, leaf_node_ptr.to_opaque(), parted, key, value),
             InsertKind::IntoExisting {
                 inner_node_ptr,
                 key_byte,

@@ -1,12 +1,11 @@
 //! A key that the tree has already: its leaf takes the new key and the new value.
-ghost use Rattle.std.specs.Prelude.{◌≡◌, ℕ};
-ghost use Rattle.art_arena.specs.Arena.{node_at, links_at, HasRoom};
-ghost use Rattle.art_arena.specs.Meaning.{IsTree};
+ghost use Rattle.std.specs.Prelude.{◌≡◌};
 ghost use Rattle.art_arena.specs.Shapes.{Shape};
 ghost use Rattle.art_arena.specs.Steps.{steps_of};
 ghost use Rattle.art_operations.specs.Insertions.{IsInserted};
 ghost use Rattle.art_operations.specs.Points.{IsPoint};
 ghost use Rattle.art_operations.specs.declared.insert.point.InsertKind.TheVariants as kind;
+ghost use Rattle.art_operations.specs.Stores.{KeepsRoom, StoresOnly};
 
 use crate::insert::point::InsertPoint;
 use crate::insert::result::{InsertParentNodeChange, InsertResult};
@@ -14,8 +13,8 @@ use art_arena::{LeafPtr, NodeArena};
 use art_bytes::AsBytes;
 use art_nodes::LeafNode;
 
-/// Puts a key and a value into the leaf that has the key. The leaf keeps its name and its links; what it had is answered.
-/// It takes no memory.
+/// Puts a key and a value into the leaf that has the key. The leaf keeps its name and its links; what it had is
+/// answered. It takes no memory.
 pub(crate) fn replace_pair<K: AsBytes, V, const PREFIX_LEN: usize>(
     arena: &mut NodeArena<K, V, PREFIX_LEN>,
     point: InsertPoint,
@@ -23,17 +22,21 @@ pub(crate) fn replace_pair<K: AsBytes, V, const PREFIX_LEN: usize>(
     key: K,
     value: V,
 ) -> InsertResult<K, V>
-    requires tree { (s : Shape K V) × IsTree K.bytes PREFIX_LEN (node_at arena.old) point.root (links_at arena.old) s × IsPoint K.bytes (K.bytes key) s point }
+    requires tree { (s : Shape K V) × StoresOnly K.bytes PREFIX_LEN arena.old point.root s
+        × IsPoint K.bytes (K.bytes key) s point }
     requires kind { point.insert_kind ≡ kind.Exact leaf }
-    ensures inserted { (s : Shape K V) → IsTree K.bytes PREFIX_LEN (node_at arena.old) point.root (links_at arena.old) s → IsPoint K.bytes (K.bytes key) s point
+    ensures inserted { (s : Shape K V) → StoresOnly K.bytes PREFIX_LEN arena.old point.root s
+        → IsPoint K.bytes (K.bytes key) s point
         → IsInserted K.bytes PREFIX_LEN arena.new s (steps_of point.path) key value result }
-    ensures room { (n : ℕ) → HasRoom arena.old n → HasRoom arena.new n }
+    ensures room { KeepsRoom arena.old arena.new }
 {
     let mut node = LeafNode::with_no_siblings(key, value);
     let old = arena.as_ref::<LeafNode<K, V>>(leaf);
     node.set_previous(old.previous());
     node.set_next(old.next());
-    let existing = arena.replace(leaf, node);
+    let mut existing = arena.replace(leaf, node);
+    existing.set_previous(None);
+    existing.set_next(None);
     InsertResult {
         leaf_node_ptr: leaf,
         existing_leaf: Some(existing),

@@ -1,9 +1,10 @@
 //! A new leaf, before it is linked and stands under an inner node.
-ghost use Rattle.std.specs.Prelude.{◌≡◌, ◌+◌, ℕ, None, Some, IsSome, IsOk, IfOk, OnErr, IfErr};
-ghost use Rattle.art_arena.specs.Arena.{held_at, leaf_held, Allocates, SameNodes, HasRoom};
+ghost use Rattle.std.specs.Prelude.{◌≡◌, None, IsSome, IsOk, IfOk, OnErr, IfErr};
+ghost use Rattle.art_arena.specs.Arena.{held_at, Allocates, SameNodes, HasRoom};
 ghost use Rattle.art_arena.specs.Cells.{UpdatesAt, leaf_name};
 ghost use Rattle.art_nodes.specs.declared.leaf.LeafNode as node;
-ghost use Rattle.art_operations.specs.Edits.{lone_leaf};
+ghost use Rattle.art_operations.specs.inner.Edits.{lone_leaf};
+ghost use Rattle.art_operations.specs.Stores.{HasLeaf, KeepsRoom, Stores, UsesRoom};
 
 use crate::insert::result::InsertRefused;
 use art_arena::{LeafPtr, NodeArena};
@@ -19,7 +20,7 @@ pub(crate) fn store_leaf<K, V, const PREFIX_LEN: usize>(
     ensures err { OnErr result (SameNodes arena.old arena.new) }
     ensures handed_back { IfErr result (λ refused. (refused.key ≡ key) × (refused.value ≡ value)) }
     ensures succeeds { HasRoom arena.old 1 → IsOk result }
-    ensures room { (n : ℕ) → HasRoom arena.old (n + 1) → HasRoom arena.new n }
+    ensures room { UsesRoom 1 arena.old arena.new }
 {
     match arena.allocate_node_ptr(LeafNode::with_no_siblings(key, value)) {
         Ok(leaf) => Ok(leaf),
@@ -36,9 +37,10 @@ pub(crate) fn take_back<K, V, const PREFIX_LEN: usize>(
     leaf: LeafPtr,
 ) -> InsertRefused<K, V>
     requires { IsSome (held_at arena.old (leaf_name leaf)) }
-    ensures pair { (l : node.LeafNode K V) → held_at arena.old (leaf_name leaf) ≡ Some (leaf_held l) → (result.key ≡ l.key) × (result.value ≡ l.value) }
+    ensures pair { (l : node.LeafNode K V) → HasLeaf arena.old leaf l → (result.key ≡ l.key)
+        × (result.value ≡ l.value) }
     ensures updates { UpdatesAt (held_at arena.old) (held_at arena.new) (leaf_name leaf) None }
-    ensures room { (n : ℕ) → HasRoom arena.old n → HasRoom arena.new n }
+    ensures room { KeepsRoom arena.old arena.new }
 {
     let node: LeafNode<K, V> = arena.deallocate_node_ptr(leaf);
     let (key, value) = node.into_entry();

@@ -1,15 +1,14 @@
 //! The place of a new key.
-ghost use Rattle.std.specs.Prelude.{◌≡◌, ◌≢◌, ◌≤◌, ℕ, List, [], length, IfOk, IfErr};
+ghost use Rattle.std.specs.Prelude.{◌≡◌, ◌≢◌, ℕ, List, IfOk, IfErr};
 ghost use Rattle.art_bytes.specs.Keys.{BeginsWith};
-ghost use Rattle.art_arena.specs.Arena.{node_at};
 ghost use Rattle.art_arena.specs.Cells.{leaf_name};
 ghost use Rattle.art_arena.specs.Shapes.{Shape};
-ghost use Rattle.art_arena.specs.Meaning.{IsAtDepth, IsSubtree};
-ghost use Rattle.art_operations.specs.Points.{IsWay, IsAnswer, Refuses};
+ghost use Rattle.art_operations.specs.Points.{IsPlaceOrConflict, Refuses};
+ghost use Rattle.art_operations.specs.inner.Ways.{IsWay};
+ghost use Rattle.art_operations.specs.Stores.{Stores, StoresAt};
 
 use crate::meeting::{Meeting, Parted, meet};
-use art_arena::inner::lookup_child;
-use art_arena::{LeafPtr, NodeArena, TreePath, TreePathSearch, inner_node_ptr, read_full_prefix};
+use art_arena::{LeafPtr, NodeArena, TreePath, TreePathSearch, read_full_prefix};
 use art_bytes::AsBytes;
 use art_nodes::{KindLeaf, NodeType, OpaqueNodePtr};
 use std::alloc::{AllocError, Global};
@@ -46,6 +45,11 @@ impl KeyPrefix {
         self.bytes.as_slice()
     }
 }
+
+/// A key can't be put in, since it is a front of a stored key, or a stored key is one of it.
+#[derive(Clone, Copy, PartialEq, Eq, Debug, Error)]
+#[error("the key is a front of a stored key, or a stored key is one of it")]
+pub struct PrefixConflict;
 
 /// A key can't be put in, since it is a front of a stored key, or a stored key is one of it.
 #[derive(Debug, Drop, Error)]
@@ -128,8 +132,10 @@ fn way_at_leaf<K: AsBytes, V, const PREFIX_LEN: usize>(
     key: &[u8],
     depth: usize,
 ) -> Way
-    requires { (path : List ℕ) × (s : Shape K V) × IsAtDepth K.bytes PREFIX_LEN (node_at arena.now) (leaf_name leaf) depth path s × BeginsWith path key.now }
-    ensures { (path : List ℕ) (s : Shape K V) → IsAtDepth K.bytes PREFIX_LEN (node_at arena.now) (leaf_name leaf) depth path s → BeginsWith path key.now → IsWay K.bytes key.now path s result }
+    requires { (path : List ℕ) × (s : Shape K V)
+        × StoresAt K.bytes PREFIX_LEN arena.now (leaf_name leaf) depth path s × BeginsWith path key.now }
+    ensures { (path : List ℕ) (s : Shape K V) → StoresAt K.bytes PREFIX_LEN arena.now (leaf_name leaf) depth path s
+        → BeginsWith path key.now → IsWay K.bytes key.now path s result }
 {
     let stored = arena.as_key_ref(leaf).as_bytes();
     match meet(&stored[depth..], &key[depth..]) {
@@ -152,9 +158,11 @@ fn way_at_inner<K: AsBytes, V, const PREFIX_LEN: usize>(
     key: &[u8],
     depth: usize,
 ) -> Way
-    requires stands { (path : List ℕ) × (s : Shape K V) × IsAtDepth K.bytes PREFIX_LEN (node_at arena.now) node depth path s × BeginsWith path key.now }
+    requires stands { (path : List ℕ) × (s : Shape K V) × StoresAt K.bytes PREFIX_LEN arena.now node depth path s
+        × BeginsWith path key.now }
     requires inner { node.kind ≢ NodeType.Leaf }
-    ensures { (path : List ℕ) (s : Shape K V) → IsAtDepth K.bytes PREFIX_LEN (node_at arena.now) node depth path s → BeginsWith path key.now → IsWay K.bytes key.now path s result }
+    ensures { (path : List ℕ) (s : Shape K V) → StoresAt K.bytes PREFIX_LEN arena.now node depth path s
+        → BeginsWith path key.now → IsWay K.bytes key.now path s result }
 {
     let prefix = read_full_prefix(arena, node, depth).prefix;
     let rest = &key[depth..];
@@ -167,7 +175,7 @@ fn way_at_inner<K: AsBytes, V, const PREFIX_LEN: usize>(
         }),
         Meeting::OldEnds => {
             let byte = rest[prefix.len()];
-            match lookup_child(arena, node, byte) {
+            match arena.inner(node).lookup_child(byte) {
                 Some(child) => Way::Child(byte, child, depth + prefix.len() + 1),
                 None => Way::Point(InsertKind::IntoExisting {
                     inner_node_ptr: node,
@@ -185,12 +193,48 @@ fn way_at<K: AsBytes, V, const PREFIX_LEN: usize>(
     key: &[u8],
     depth: usize,
 ) -> Way
-    requires { (path : List ℕ) × (s : Shape K V) × IsAtDepth K.bytes PREFIX_LEN (node_at arena.now) node depth path s × BeginsWith path key.now }
-    ensures { (path : List ℕ) (s : Shape K V) → IsAtDepth K.bytes PREFIX_LEN (node_at arena.now) node depth path s → BeginsWith path key.now → IsWay K.bytes key.now path s result }
+    requires { (path : List ℕ) × (s : Shape K V) × StoresAt K.bytes PREFIX_LEN arena.now node depth path s
+        × BeginsWith path key.now }
+    ensures { (path : List ℕ) (s : Shape K V) → StoresAt K.bytes PREFIX_LEN arena.now node depth path s
+        → BeginsWith path key.now → IsWay K.bytes key.now path s result }
 {
     match node.cast::<KindLeaf>() {
         Some(leaf) => way_at_leaf(arena, leaf, key, depth),
         None => way_at_inner(arena, node, key, depth),
+    }
+}
+
+/// Finds where a new key goes in the tree below a name. It is refused where the key is a front of a stored key, or a
+/// stored key is one of it. It takes no memory.
+pub fn find_insert_point<K: AsBytes, V, const PREFIX_LEN: usize>(
+    arena: &NodeArena<K, V, PREFIX_LEN>,
+    root: OpaqueNodePtr,
+    key: &[u8],
+) -> Result<InsertPoint, PrefixConflict>
+    requires { (s : Shape K V) × Stores K.bytes PREFIX_LEN arena.now root s }
+    ensures { (s : Shape K V) → Stores K.bytes PREFIX_LEN arena.now root s
+        → IsPlaceOrConflict K.bytes key.now s result }
+{
+    let mut search = TreePathSearch::default();
+    let mut current = root;
+    let mut depth = 0;
+    loop {
+        match way_at(arena, current, key, depth) {
+            Way::Conflict => return Err(PrefixConflict),
+            Way::Point(insert_kind) => {
+                return Ok(InsertPoint {
+                    root,
+                    path: search.finish(),
+                    key_bytes_used: depth,
+                    insert_kind,
+                });
+            }
+            Way::Child(byte, child, next) => {
+                search.go_down(current, byte);
+                current = child;
+                depth = next;
+            }
+        }
     }
 }
 
@@ -204,38 +248,21 @@ fn refusal(alloc: Global, key: &[u8]) -> InsertSearchError
     }
 }
 
-/// Finds where a new key goes in the tree below a name. It is refused where the key is a front of a stored key, or a
-/// stored key is one of it; the answer then has a copy of the key's bytes, if there is memory for one. Otherwise it
-/// takes no memory.
+/// What `find_insert_point` answers, but where the key is in conflict with a copy of its bytes, if there is memory for
+/// one. Otherwise it takes no memory.
 pub fn search_for_insert_point<K: AsBytes, V, const PREFIX_LEN: usize>(
     alloc: Global,
     arena: &NodeArena<K, V, PREFIX_LEN>,
     root: OpaqueNodePtr,
     key: &[u8],
 ) -> Result<InsertPoint, InsertSearchError>
-    requires { (s : Shape K V) × IsSubtree K.bytes PREFIX_LEN (node_at arena.now) root [] s }
-    ensures answer { (s : Shape K V) → IsSubtree K.bytes PREFIX_LEN (node_at arena.now) root [] s → IsAnswer K.bytes key.now s result }
+    requires { (s : Shape K V) × Stores K.bytes PREFIX_LEN arena.now root s }
+    ensures answer { (s : Shape K V) → Stores K.bytes PREFIX_LEN arena.now root s
+        → IsPlaceOrConflict K.bytes key.now s result }
     ensures refusal { IfErr result (λ e. Refuses key.now e) }
 {
-    let mut search = TreePathSearch::default();
-    let mut current = root;
-    let mut depth = 0;
-    loop {
-        match way_at(arena, current, key, depth) {
-            Way::Conflict => return Err(refusal(alloc, key)),
-            Way::Point(insert_kind) => {
-                return Ok(InsertPoint {
-                    root,
-                    path: search.finish(),
-                    key_bytes_used: depth,
-                    insert_kind,
-                });
-            }
-            Way::Child(byte, child, next) => {
-                search.visit_inner_node(inner_node_ptr(current), byte);
-                current = child;
-                depth = next;
-            }
-        }
+    match find_insert_point(arena, root, key) {
+        Ok(point) => Ok(point),
+        Err(_) => Err(refusal(alloc, key)),
     }
 }

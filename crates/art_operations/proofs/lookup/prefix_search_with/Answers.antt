@@ -1,21 +1,25 @@
-use Rattle.std.proofs.Common.{sym, ◌∙◌, true, false, ◌≡◌}
-use Rattle.art_operations.proofs.Lookups.{takes_front, passes, fails, front_passes, front_fails, misses}
+use Rattle.std.proofs.Common.{ap, refl, ◌∙◌}
+use Rattle.std.proofs.lemmas.Bool.{false_from_ne_true}
+use Rattle.art_arena.specs.Tenants.{begins_with}
+use Rattle.art_arena.proofs.FoundLeaves.{takes_front, passes, fails, misses}
+use Rattle.art_arena.proofs.Parts.{begins_same}
+use Rattle.art_arena.proofs.Prefixes.{begins_of, begins_not}
+use Rattle.art_arena.proofs.Tenants.{begins_true}
 use Rattle.art_operations.proofs.lookup.prefix_search_with.Goals as goal
 
-pub returns-then-leaf_key_is_prefix-clause-value : goal.returns-then-leaf_key_is_prefix-clause-value
-returns-then-leaf_key_is_prefix-clause-value g c = λ s tree.
-    let l = c.in-Some.front in
-    let lands = c.in-Some.ensures.lands s tree in
-    passes g.K.AsBytes.bytes c.args.key.now s l.name l.leaf.now.key l.depth l.behavior lands _ (takes_front c.args.key.now)
-    (front_passes g.K.AsBytes.bytes c.args.key.now s l.name l.leaf.now.key l.depth l.behavior lands (c.leaf_key_is_prefix.ensures.0 c.if-leaf_key_is_prefix.true))
+pub returns-then-starts_with-clause-value : goal.returns-then-starts_with-clause-value
+returns-then-starts_with-clause-value g c = λ s tree.
+    let stored = g.K.AsBytes.bytes c.in-Some.landed.leaf.now.key in
+    let front = c.as_bytes.ensures.value ∙ ap g.K.AsBytes.bytes c.key_ref.ensures in
+    passes g.K.AsBytes.bytes c.args.key.now s _ _ _ (c.in-Some.ensures.lands s tree) _ (takes_front c.args.key.now)
+    (begins_same stored c.args.key.now (begins_of c.starts_with.result _ c.args.key.now _ stored refl front c.starts_with.ensures.value c.if-starts_with.true))
 
-pub returns-else-leaf_key_is_prefix-clause-value : goal.returns-else-leaf_key_is_prefix-clause-value
-returns-else-leaf_key_is_prefix-clause-value g c = λ s tree.
-    let l = c.in-Some.front in
-    let lands = c.in-Some.ensures.lands s tree in
-    fails g.K.AsBytes.bytes c.args.key.now s l.name l.leaf.now.key l.depth l.behavior lands _ (takes_front c.args.key.now)
-    (front_fails g.K.AsBytes.bytes c.args.key.now s l.name l.leaf.now.key l.depth l.behavior lands
-    (λ begins. let t : true ≡ false = sym (c.leaf_key_is_prefix.ensures.1 begins) ∙ c.if-leaf_key_is_prefix.false in cc))
+pub returns-else-starts_with-clause-value : goal.returns-else-starts_with-clause-value
+returns-else-starts_with-clause-value g c = λ s tree.
+    let stored = g.K.AsBytes.bytes c.in-Some.landed.leaf.now.key in
+    let front = c.as_bytes.ensures.value ∙ ap g.K.AsBytes.bytes c.key_ref.ensures in
+    fails g.K.AsBytes.bytes c.args.key.now s _ _ _ (c.in-Some.ensures.lands s tree) _ (takes_front c.args.key.now)
+    (false_from_ne_true (begins_with stored c.args.key.now) (λ passed. begins_not c.starts_with.result _ c.args.key.now _ stored refl front c.starts_with.ensures.value c.if-starts_with.false (begins_true stored c.args.key.now passed)))
 
 pub returns-in-None-clause-value : goal.returns-in-None-clause-value
 returns-in-None-clause-value g c = λ s tree. misses g.K.AsBytes.bytes c.args.key.now s (c.in-None.ensures.lands s tree) _ (takes_front c.args.key.now)

@@ -1,32 +1,21 @@
-use Rattle.std.proofs.Common.{arith}
-use Rattle.art_arena.specs.Steps.{steps_of}
-use Rattle.art_operations.proofs.HeldPairs.{can-delete, done-deleted, refused-deletion, nothing-deleted}
+use Rattle.std.proofs.Common.{subst}
+use Rattle.art_operations.specs.Pairs.{HasTaken}
+use Rattle.art_operations.proofs.Done.{done-taken, done-none}
+use Rattle.art_operations.proofs.HeldPairs.{pairs-same}
 use Rattle.art_operations.proofs.running.delete.Goals as goal
 
-pub returns-in_default-search_for_delete_point : goal.returns-in_default-search_for_delete_point
-returns-in_default-search_for_delete_point g c pairs has =
-    rw ((c.to-in_default-search_for_delete_point).ensures)
-    (nothing-deleted g.K.AsBytes.bytes g.row.PREFIX_LEN c.args.arena.now c.args.root c.in-Some.top c.in-Some.is c.args.key.now c.as_bytes.result.now c.as_bytes.ensures.value pairs has
-    (c.in_default-search_for_delete_point).ensures.value)
+pub returns-in-Ok-Some : goal.returns-in-Ok-Some
+returns-in-Ok-Some g c pairs has =
+    done-taken g.K.AsBytes.bytes g.row.PREFIX_LEN c.take_pair.new.arena pairs c.args.root c.args.key.now c.in-Ok-Some.deleted
+    (subst (HasTaken g.K.AsBytes.bytes g.row.PREFIX_LEN c.take_pair.new.arena c.args.root (g.K.AsBytes.bytes c.args.key.now) pairs) c.in-Ok-Some.field-0-is (rw c.as_bytes.ensures.value at (c.in-Ok-Some.ensures.ok pairs has)))
 
-pub apply-requires : goal.apply-requires
-apply-requires g c =
-    let point = c.in-Some-search_for_delete_point.point in (
-      omega arith,
-      can-delete g.K.AsBytes.bytes g.row.PREFIX_LEN c.args.arena.now c.args.root c.in-Some.top c.in-Some.is c.args.key.now c.as_bytes.result.now c.as_bytes.ensures.value c.requires.0 c.requires.1
-          point.leaf_node_ptr (steps_of point.path) c.in-Some-search_for_delete_point.ensures.place,
-    )
-
-pub returns-in-Ok : goal.returns-in-Ok
-returns-in-Ok g c pairs has =
-    let point = c.in-Some-search_for_delete_point.point in
-    rw (c.to-in-Ok.ensures)
-    (done-deleted g.K.AsBytes.bytes g.row.PREFIX_LEN c.args.arena.now c.args.root c.in-Some.top c.in-Some.is c.args.key.now c.as_bytes.result.now c.as_bytes.ensures.value pairs has
-    point.leaf_node_ptr (steps_of point.path) c.in-Some-search_for_delete_point.ensures.place c.apply.new.arena c.in-Ok.deleted c.in-Ok.ensures.ok)
+pub returns-in-Ok-None : goal.returns-in-Ok-None
+returns-in-Ok-None g c pairs has =
+    done-none g.K.AsBytes.bytes g.row.PREFIX_LEN c.take_pair.new.arena pairs c.args.root c.args.key.now
+    (subst (HasTaken g.K.AsBytes.bytes g.row.PREFIX_LEN c.take_pair.new.arena c.args.root (g.K.AsBytes.bytes c.args.key.now) pairs) c.in-Ok-None.field-0-is (rw c.as_bytes.ensures.value at (c.in-Ok-None.ensures.ok pairs has)))
 
 pub returns-in-Err : goal.returns-in-Err
-returns-in-Err g c pairs has =
-    let point = c.in-Some-search_for_delete_point.point in
-    rw (c.to-in-Err.ensures)
-    (refused-deletion g.K.AsBytes.bytes g.row.PREFIX_LEN c.args.arena.now c.args.root c.in-Some.top c.in-Some.is c.args.key.now c.as_bytes.result.now c.as_bytes.ensures.value pairs has
-    point.leaf_node_ptr (steps_of point.path) c.in-Some-search_for_delete_point.ensures.place c.apply.new.arena c.in-Err.ensures.err c.in-Err.ensures.shrinks)
+returns-in-Err g c pairs has = (
+  rw c.as_bytes.ensures.value at (c.in-Err.ensures.shrinks pairs has),
+  pairs-same g.K.AsBytes.bytes g.row.PREFIX_LEN c.args.arena.now c.take_pair.new.arena c.in-Err.ensures.err c.args.root pairs has,
+)

@@ -1,25 +1,39 @@
-use Rattle.std.proofs.Common.{arith}
-use Rattle.art_operations.proofs.HeldPairs.{can-insert, blocked-key}
+use Rattle.std.proofs.Common.{◌∙◌, refl, sym, subst, arith}
+use Rattle.art_arena.specs.Shapes.{key_of}
+use Rattle.art_operations.specs.KeyedLists.{IsBlocked}
+use Rattle.art_operations.specs.Pairs.{CanPut}
+use Rattle.art_operations.specs.declared.running.Answer.TheVariants.{Prefix, Memory}
+use Rattle.art_operations.proofs.Clones.{insert-clones, insert-stays}
 use Rattle.art_operations.proofs.running.insert.Goals as goal
 
+pub find_place-requires : goal.find_place-requires
+find_place-requires g c = (omega arith, (c.requires.pairs.1.0, c.requires.pairs.1.2))
+
+pub returns-in-Err : goal.returns-in-Err
+returns-in-Err g c pairs has =
+    insert-stays g.K.AsBytes.bytes g.K.Clone.is_clone g.V.Clone.is_clone c.requires.keys g.row.PREFIX_LEN c.args.arena.now c.args.root pairs c.args.key.now c.args.value.now Prefix (λ ps. refl)
+    (λ stored there. rw c.as_bytes.ensures.value at (c.in-Err.ensures stored there)) has
+
 pub insert_at-requires : goal.insert_at-requires
-insert_at-requires g c = (
-  omega arith,
-  (
-    c.requires.0,
-    can-insert g.K.AsBytes.bytes g.row.PREFIX_LEN c.args.arena.now c.args.root c.in-Some.top c.in-Some.is c.args.key c.as_bytes.result.now c.as_bytes.ensures.value c.requires.0 c.requires.1
-        c.in-Ok.point (λ s sub. (c.in-Ok.ensures.answer s sub).0),
-  ),
-)
+insert_at-requires g c =
+    let same = c.as_bytes.ensures.value ∙ sym (c.requires.keys c.args.key.now c.in-Ok-cloned.key c.in-Ok-cloned.ensures.0) in (
+      omega arith,
+      (c.requires.pairs.1.0, subst (λ k. CanPut g.K.AsBytes.bytes g.row.PREFIX_LEN c.args.arena.now c.in-Ok.place k c.requires.pairs.1.0) same (c.in-Ok.ensures c.requires.pairs.1.0 c.requires.pairs.1.2).0),
+    )
 
-pub returns-in-Ok : goal.returns-in-Ok
-returns-in-Ok g c pairs has =
-    c.insert_at.ensures pairs
-    (can-insert g.K.AsBytes.bytes g.row.PREFIX_LEN c.args.arena.now c.args.root c.in-Some.top c.in-Some.is c.args.key c.as_bytes.result.now c.as_bytes.ensures.value pairs has
-    c.in-Ok.point (λ s sub. (c.in-Ok.ensures.answer s sub).0))
+pub returns-in-Ok-cloned : goal.returns-in-Ok-cloned
+returns-in-Ok-cloned g c pairs has =
+    let same = c.as_bytes.ensures.value ∙ sym (c.requires.keys c.args.key.now c.in-Ok-cloned.key c.in-Ok-cloned.ensures.0) in
+    insert-clones g.K.AsBytes.bytes g.K.Clone.is_clone g.V.Clone.is_clone c.requires.keys g.row.PREFIX_LEN c.args.arena.now c.insert_at.new.arena c.args.root pairs
+    c.args.key.now c.in-Ok-cloned.key c.args.value.now c.in-Ok-cloned.value c.insert_at.result c.in-Ok-cloned.ensures.0 c.in-Ok-cloned.ensures.1
+    (λ stored there.
+    let placed = c.in-Ok.ensures stored there in
+    c.insert_at.ensures stored there
+    (subst (λ k. CanPut g.K.AsBytes.bytes g.row.PREFIX_LEN c.args.arena.now c.in-Ok.place k stored) same placed.0)
+    (subst (λ k. IsBlocked (key_of g.K.AsBytes.bytes) k stored → ⊥) same placed.1))
+    has
 
-pub returns-in-Err-Prefix : goal.returns-in-Err-Prefix
-returns-in-Err-Prefix g c pairs has =
-    rw (c.to.ensures)
-    (blocked-key g.K.AsBytes.bytes g.row.PREFIX_LEN c.args.arena.now c.args.root c.in-Some.top c.in-Some.is c.args.key c.as_bytes.result.now c.as_bytes.ensures.value pairs has
-    c.in-Err-Prefix.ensures.answer)
+pub returns-in-Err-cloned : goal.returns-in-Err-cloned
+returns-in-Err-cloned g c pairs has =
+    insert-stays g.K.AsBytes.bytes g.K.Clone.is_clone g.V.Clone.is_clone c.requires.keys g.row.PREFIX_LEN c.args.arena.now c.args.root pairs c.args.key.now c.args.value.now Memory (λ ps. refl)
+    (λ stored there. rw c.as_bytes.ensures.value at ((c.in-Ok.ensures stored there).1)) has

@@ -4,18 +4,18 @@ use Rattle.art_operations.proofs.NewNodes.{fewer}
 use Rattle.art_operations.proofs.delete.detach.take_child.Goals as goal
 
 pub returns-then-not-should_shrink_inner_node-clause-room : goal.returns-then-not-should_shrink_inner_node-clause-room
-returns-then-not-should_shrink_inner_node-clause-room g c = λ n room. c.remove_child.ensures.room n (fewer c.args.arena.now n (n + 1) (omega arith) room)
+returns-then-not-should_shrink_inner_node-clause-room g c = λ n room. c.edit_inner.ensures.room n (fewer c.args.arena.now n (n + 1) (omega arith) room)
 
 pub returns-in-Ok-clause-room : goal.returns-in-Ok-clause-room
-returns-in-Ok-clause-room g c = λ n room. c.drop_node.ensures.room n (c.in-Ok.ensures.room n (c.remove_child.ensures.room _ room))
+returns-in-Ok-clause-room g c = λ n room. c.edit_inner-in-Ok.ensures.room n (c.in-Ok.ensures.room n (c.edit_inner.ensures.room _ room))
 
 pub returns-in-Err-clause-err : goal.returns-in-Err-clause-err
 returns-in-Err-clause-err g c =
     let h = c.requires.held in
-    undone c.args.arena.now c.remove_child.new.arena c.shrink.new.arena c.write_child.new.arena c.args.parent h.0 c.args.byte c.args.child h.1 h.2 c.remove_child.ensures.updates c.in-Err.ensures.err c.write_child.ensures.updates
+    undone c.args.arena.now c.edit_inner.new.self c.shrink.new.self c.edit_inner-in-Err.new.self c.args.parent h.0 c.args.byte c.args.child h.1 h.2 c.edit_inner.ensures.updates c.in-Err.ensures.err c.edit_inner-in-Err.ensures.updates
 
 pub returns-in-Err-clause-succeeds : goal.returns-in-Err-clause-succeeds
-returns-in-Err-clause-succeeds g c = λ room. c.in-Err.ensures.succeeds (c.remove_child.ensures.room 1 room)
+returns-in-Err-clause-succeeds g c = λ room. c.in-Err.ensures.succeeds (c.edit_inner.ensures.room 1 room)
 
 pub returns-in-Err-clause-room : goal.returns-in-Err-clause-room
-returns-in-Err-clause-room g c = λ n room. c.write_child.ensures.room n (c.in-Err.ensures.room n (c.remove_child.ensures.room _ room))
+returns-in-Err-clause-room g c = λ n room. c.edit_inner-in-Err.ensures.room n (c.in-Err.ensures.room n (c.edit_inner.ensures.room _ room))

@@ -1,10 +1,9 @@
-use Rattle.std.proofs.Common.{◌≡◌, ◌≢◌, ℕ, suc, ◌+◌, IsSome, refl, sym, ap, ◌∙◌, subst, lit<, rules, arith}
-use Rattle.art_nodes.specs.Header.{Header}
-use Rattle.art_nodes.specs.declared.kind.NodeType.TheVariants.{Leaf}
-use Rattle.art_arena.specs.Arena.{held_at, links_at}
+use Rattle.std.proofs.Common.{◌≡◌, ◌≢◌, ℕ, suc, ◌+◌, length, refl, sym, ◌∙◌, subst, lit<, arith}
+use Rattle.art_arena.specs.Arena.{links_at}
 use Rattle.art_arena.specs.Shapes.{name_of}
 use Rattle.art_arena.proofs.Updates.{links-same}
-use Rattle.art_operations.specs.Detached.{IsChildLeaf, StandsFor}
+use Rattle.art_operations.specs.inner.Detached.{IsChildLeaf, StandsFor}
+use Rattle.art_operations.proofs.Door.{read_at}
 use Rattle.art_operations.proofs.Merges.{other_path, other_subtree, other_apart}
 use Rattle.art_operations.proofs.Results.{both_ok, from_err, either_way}
 use Rattle.art_operations.proofs.NewNodes.{fewer}
@@ -12,18 +11,12 @@ use Rattle.art_operations.proofs.TakenOut.{node, others, node_there, node_inner,
 use Rattle.art_operations.proofs.delete.detach.take_out.Goals as goal
 use Rattle.art_operations.proofs.delete.detach.take_out.Goals.{After-num_children}
 
-pub prefix_fits-requires : goal.prefix_fits-requires
-prefix_fits-requires g c = (lit< tt, (rw (node_there g.K.AsBytes.bytes g.row.PREFIX_LEN c.args.arena.now c.args.parent c.args.byte c.args.leaf c.requires) refl, node_inner g.K.AsBytes.bytes g.row.PREFIX_LEN c.args.arena.now c.args.parent c.args.byte c.args.leaf c.requires))
-
-pub header-requires : goal.header-requires
-header-requires g c =
-    let there : IsSome (held_at c.args.arena.now c.args.parent) = rw (node_there g.K.AsBytes.bytes g.row.PREFIX_LEN c.args.arena.now c.args.parent c.args.byte c.args.leaf c.requires) refl in
-    let inner : c.args.parent.kind ≢ Leaf = node_inner g.K.AsBytes.bytes g.row.PREFIX_LEN c.args.arena.now c.args.parent c.args.byte c.args.leaf c.requires in
-    search rules
+pub inner-requires : goal.inner-requires
+inner-requires g c = (lit< tt, (lit< tt, (rw (node_there g.K.AsBytes.bytes g.row.PREFIX_LEN c.args.arena.now c.args.parent c.args.byte c.args.leaf c.requires) refl, node_inner g.K.AsBytes.bytes g.row.PREFIX_LEN c.args.arena.now c.args.parent c.args.byte c.args.leaf c.requires)))
 
 -- how many children the node was seen to have
 count : (g : _) (c : After-num_children g) (t : IsChildLeaf g.K.AsBytes.bytes g.row.PREFIX_LEN c.args.arena.now c.args.parent c.args.byte c.args.leaf) → c.num_children.result ≡ suc (others g.K.AsBytes.bytes g.row.PREFIX_LEN c.args.arena.now c.args.parent c.args.byte c.args.leaf t)
-count g c t = c.num_children.ensures.value ∙ ap (λ (h : Header). h.num_children) (c.header.ensures (node g.K.AsBytes.bytes g.row.PREFIX_LEN c.args.arena.now c.args.parent c.args.byte c.args.leaf t) (node_there g.K.AsBytes.bytes g.row.PREFIX_LEN c.args.arena.now c.args.parent c.args.byte c.args.leaf t)) ∙ node_count g.K.AsBytes.bytes g.row.PREFIX_LEN c.args.arena.now c.args.parent c.args.byte c.args.leaf t
+count g c t = read_at (λ m. length m.children) _ (node g.K.AsBytes.bytes g.row.PREFIX_LEN c.args.arena.now c.args.parent c.args.byte c.args.leaf t) _ (node_there g.K.AsBytes.bytes g.row.PREFIX_LEN c.args.arena.now c.args.parent c.args.byte c.args.leaf t) c.inner.ensures.value _ c.num_children.ensures ∙ node_count g.K.AsBytes.bytes g.row.PREFIX_LEN c.args.arena.now c.args.parent c.args.byte c.args.leaf t
 
 pub merge-requires : goal.merge-requires
 merge-requires g c =

@@ -20,5 +20,6 @@ returns-clause-inserted g c = λ s tree point.
     let previous : c.set_next.new.self.previous ≡ c.replace-existing.result.previous =
     ap (λ (l : LeafNode g.row.K.Denot g.row.V.Denot). l.previous) c.set_next.ensures ∙ ap (λ (l : LeafNode g.row.K.Denot g.row.V.Denot). l.previous) c.set_previous.ensures ∙ c.previous.ensures ∙ ap (λ (l : LeafNode g.row.K.Denot g.row.V.Denot). l.previous) was in
     let next : c.set_next.new.self.next ≡ c.replace-existing.result.next = ap (λ (l : LeafNode g.row.K.Denot g.row.V.Denot). l.next) c.set_next.ensures ∙ c.next.ensures ∙ ap (λ (l : LeafNode g.row.K.Denot g.row.V.Denot). l.next) was in
-    replaced g.K.AsBytes.bytes g.row.PREFIX_LEN c.args.arena.now c.args.point.root s tree c.args.leaf c.replace-existing.new.self c.args.key c.args.value (steps_of c.args.point.path) at
-    c.replace-existing.result c.set_next.new.self c.replace-existing.ensures.value c.replace-existing.ensures.updates key value previous next
+    rw (c.set_next-2.ensures, c.set_previous-2.ensures)
+    (replaced g.K.AsBytes.bytes g.row.PREFIX_LEN c.args.arena.now c.args.point.root s tree c.args.leaf c.replace-existing.new.self c.args.key c.args.value (steps_of c.args.point.path) at
+    c.replace-existing.result c.set_next.new.self c.replace-existing.ensures.value c.replace-existing.ensures.updates key value previous next)

@@ -4,6 +4,7 @@ use Rattle.art_arena.specs.Shapes.{leaves}
 use Rattle.art_arena.specs.Prefixes.{prefix_of}
 use Rattle.art_operations.specs.Points.{HasConflict, NoConflict}
 use Rattle.art_arena.proofs.Prefixes.{tail}
+use Rattle.art_operations.proofs.PutBack.{same_inner}
 use Rattle.art_operations.proofs.Points.{inner_there, inner_ends, inner_parts, inner_passes, inner_missing}
 use Rattle.art_operations.proofs.insert.point.way_at_inner.Goals as goal
 
@@ -38,7 +39,7 @@ returns-in-Some g c = λ path s at begins.
     let is = c.read_full_prefix.ensures.prefix path s at ∙ ap prefix_of i.is in
     let e = rw (is, tail c.args.depth c.args.key.now) at c.in-OldEnds.ensures in
     let on = inner_passes g.K.AsBytes.bytes c.args.key.now path c.args.depth at.behind begins c.args.node i.prefix i.kids i.under e.0 e.1 e.2 in
-    let found = rw (is, tail c.args.depth c.args.key.now, i.children) at (sym (c.lookup_child.ensures i.node i.there) ∙ c.in-Some.is) in
+    let found = rw (is, tail c.args.depth c.args.key.now, i.children) at (sym (rw (same_inner _ _ i.node c.inner.ensures.value i.there) at c.lookup_child.ensures) ∙ c.in-Some.is) in
     rw (is, tail c.args.depth c.args.key.now) (c.args.node, i.prefix, i.kids, i.is, found, on, omega (arith, at.behind))
 
 pub returns-in-None : goal.returns-in-None
@@ -47,6 +48,6 @@ returns-in-None g c = λ path s at begins.
     let is = c.read_full_prefix.ensures.prefix path s at ∙ ap prefix_of i.is in
     let e = rw (is, tail c.args.depth c.args.key.now) at c.in-OldEnds.ensures in
     let on = inner_passes g.K.AsBytes.bytes c.args.key.now path c.args.depth at.behind begins c.args.node i.prefix i.kids i.under e.0 e.1 e.2 in
-    let missing = rw (is, tail c.args.depth c.args.key.now, i.children) at (sym (c.lookup_child.ensures i.node i.there) ∙ c.in-None.is) in
+    let missing = rw (is, tail c.args.depth c.args.key.now, i.children) at (sym (rw (same_inner _ _ i.node c.inner.ensures.value i.there) at c.lookup_child.ensures) ∙ c.in-None.is) in
     let free = inner_missing g.K.AsBytes.bytes c.args.key.now path c.args.depth at.behind begins c.args.node i.prefix i.kids i.under _ on missing in
     rw (is, tail c.args.depth c.args.key.now) ((i.prefix, i.kids, i.is, missing, on), subst (λ t. NoConflict g.K.AsBytes.bytes c.args.key.now (leaves t)) (sym i.is) free)

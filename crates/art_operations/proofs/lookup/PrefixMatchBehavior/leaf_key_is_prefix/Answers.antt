@@ -1,5 +1,5 @@
 use Rattle.std.proofs.Common.{refl, ap, drop, ◌∙◌}
-use Rattle.art_arena.proofs.Prefixes.{tail, begins_tells}
+use Rattle.art_arena.proofs.Prefixes.{begins_tells}
 use Rattle.art_operations.proofs.lookup.PrefixMatchBehavior.leaf_key_is_prefix.Goals as goal
 
 pub returns-in-Pessimistic : goal.returns-in-Pessimistic
@@ -7,7 +7,7 @@ returns-in-Pessimistic g c =
     let front = c.as_bytes-front.ensures.value ∙ ap g.K.AsBytes.bytes c.key_ref.ensures in
     rw c.in-Pessimistic.is
     (begins_tells c.starts_with.result _ (drop c.args.depth c.args.key.now) _ (drop c.args.depth (g.K.AsBytes.bytes c.args.leaf.now.key))
-    (tail c.args.depth c.args.key.now) (tail c.args.depth c.as_bytes-front.result.now ∙ ap (drop c.args.depth) front) c.starts_with.ensures.value)
+    c.behind.ensures (c.behind-in-Pessimistic.ensures ∙ ap (drop c.args.depth) front) c.starts_with.ensures.value)
 
 pub returns-in-Optimistic : goal.returns-in-Optimistic
 returns-in-Optimistic g c =

@@ -1,0 +1,172 @@
+//! A new leaf under an inner node that is there.
+ghost use Rattle.std.specs.Prelude.{◌≡◌, ◌≢◌, ◌<◌, ◌⊎◌, ◌+◌, ℕ, suc, List, ◌∷◌, length, take, Some, None, IsSome};
+ghost use Rattle.std.specs.Prelude.{IsTrue, IsFalse, IsOk, IfOk, OnErr, IfErr};
+ghost use Rattle.art_nodes.specs.Name.{Name};
+ghost use Rattle.art_nodes.specs.InnerNode as node;
+ghost use Rattle.art_nodes.specs.InnerNode.{child_at, first_child, children_between};
+ghost use Rattle.art_nodes.specs.Kind.{row_of};
+ghost use Rattle.std.specs.declared.ops.Bound.TheVariants.{Excluded, Unbounded};
+ghost use Rattle.art_arena.specs.Arena.{held_at, inner_held, Allocates, SameNodes, HasRoom};
+ghost use Rattle.art_arena.specs.Context.{Frame, plug, leaves_before, leaves_after};
+ghost use Rattle.art_arena.specs.Kinds.{IsKindOf};
+ghost use Rattle.art_arena.specs.Shapes.{Shape, LeafAt, leaf_at, width};
+ghost use Rattle.art_arena.specs.Steps.{steps_to, steps_of};
+ghost use Rattle.art_operations.specs.inner.Splits.{IsBetween};
+ghost use Rattle.art_operations.specs.Points.{IsPoint};
+ghost use Rattle.art_operations.specs.Insertions.{IsInserted};
+ghost use Rattle.art_operations.specs.declared.insert.point.InsertKind.TheVariants as kind;
+ghost use Rattle.art_operations.specs.inner.Waiting.{AwaitsLeaf};
+ghost use Rattle.art_operations.specs.Stores.{HasInner, KeepsRoom, Stores, StoresOnly, UsesRoom};
+
+use crate::insert::leaf::{store_leaf, take_back};
+use crate::insert::point::InsertPoint;
+use crate::insert::result::{InsertParentNodeChange, InsertRefused, InsertResult};
+use crate::insert::split::link_between;
+use crate::parent::repoint;
+use art_arena::{LeafPtr, NodeArena, NodeEdit, first_leaf, inner_node_ptr, last_leaf};
+use art_bytes::AsBytes;
+use art_nodes::OpaqueNodePtr;
+use std::alloc::AllocError;
+
+// An inner node with room for one more child, and the root of its tree.
+#[derive(Clone, Copy)]
+struct Place {
+    node: OpaqueNodePtr,
+    root: OpaqueNodePtr,
+}
+
+// A leaf that is linked, and whether a new one goes before it or behind it.
+#[derive(Clone, Copy)]
+struct Neighbour {
+    leaf: LeafPtr,
+    is_before: bool,
+}
+
+// Makes room for one more child, under this byte, in the inner node at a point: where the node is full, one of the next
+// larger kind takes its place.
+fn make_room<K: AsBytes, V, const PREFIX_LEN: usize>(
+    arena: &mut NodeArena<K, V, PREFIX_LEN>,
+    point: InsertPoint,
+    inner: OpaqueNodePtr,
+    byte: u8,
+) -> Result<Place, AllocError>
+    requires { (leaf : ℕ) × (f : Frame K V) × (outer : List (Frame K V)) × (l : LeafAt K V)
+        × AwaitsLeaf K.bytes PREFIX_LEN arena.old point.root inner byte leaf f outer l
+        × (take 2 (steps_to outer) ≡ steps_of point.path) × IsKindOf inner.kind (width f.before + width f.after) }
+    ensures ok { IfOk result (λ place. (leaf : ℕ) (f : Frame K V) (outer : List (Frame K V)) (l : LeafAt K V)
+        → AwaitsLeaf K.bytes PREFIX_LEN arena.old point.root inner byte leaf f outer l
+        → take 2 (steps_to outer) ≡ steps_of point.path → IsKindOf inner.kind (width f.before + width f.after)
+        → AwaitsLeaf K.bytes PREFIX_LEN arena.new place.root place.node byte leaf
+        (record f { name = place.node }) outer l
+        × IsKindOf place.node.kind (suc (width f.before + width f.after))) }
+    ensures err { OnErr result (SameNodes arena.old arena.new) }
+    ensures succeeds { HasRoom arena.old 1 → IsOk result }
+    ensures room { UsesRoom 1 arena.old arena.new }
+{
+    if arena.inner(inner).may_write(byte) {
+        return Ok(Place {
+            node: inner,
+            root: point.root,
+        });
+    }
+    let node = arena.grow(inner)?;
+    let root = repoint(arena, point.root, point.path, node);
+    arena.edit_inner(inner, &NodeEdit::Free);
+    Ok(Place { node, root })
+}
+
+// The leaf beside which a new one goes that is to stand under this byte of an inner node, where no child does: the
+// first one behind that place, or else the last one in front of it.
+fn neighbour_at<K: AsBytes, V, const PREFIX_LEN: usize>(
+    arena: &NodeArena<K, V, PREFIX_LEN>,
+    node: OpaqueNodePtr,
+    byte: u8,
+) -> Neighbour
+    requires { (root : Name) × (leaf : ℕ) × (f : Frame K V) × (outer : List (Frame K V)) × (l : LeafAt K V)
+        × AwaitsLeaf K.bytes PREFIX_LEN arena.now root node byte leaf f outer l }
+    ensures { (root : Name) (leaf : ℕ) (f : Frame K V) (outer : List (Frame K V)) (l : LeafAt K V)
+        → AwaitsLeaf K.bytes PREFIX_LEN arena.now root node byte leaf f outer l
+        → IsBetween result.is_before result.leaf (leaves_before (f ∷ outer)) (leaves_after (f ∷ outer)) }
+{
+    let inner = arena.inner(node);
+    if let Some(next) = inner.child_after(byte) {
+        return Neighbour {
+            leaf: first_leaf(arena, next.1),
+            is_before: true,
+        };
+    }
+    match inner.last_child() {
+        Some(previous) => Neighbour {
+            leaf: last_leaf(arena, previous.1),
+            is_before: false,
+        },
+        None => unreachable!(),
+    }
+}
+
+// Links a leaf in and puts it under a byte of an inner node, which has room for it.
+fn put_leaf<K: AsBytes, V, const PREFIX_LEN: usize>(
+    arena: &mut NodeArena<K, V, PREFIX_LEN>,
+    node: OpaqueNodePtr,
+    byte: u8,
+    leaf: LeafPtr,
+)
+    requires { (root : Name) × (f : Frame K V) × (outer : List (Frame K V)) × (l : LeafAt K V)
+        × AwaitsLeaf K.bytes PREFIX_LEN arena.old root node byte leaf f outer l
+        × IsKindOf node.kind (suc (width f.before + width f.after)) }
+    ensures room { KeepsRoom arena.old arena.new }
+    ensures put { (root : Name) (f : Frame K V) (outer : List (Frame K V)) (l : LeafAt K V)
+        → AwaitsLeaf K.bytes PREFIX_LEN arena.old root node byte leaf f outer l
+        → IsKindOf node.kind (suc (width f.before + width f.after))
+        → StoresOnly K.bytes PREFIX_LEN arena.new root (plug (f ∷ outer) (leaf_at l.slot l.key l.value)) }
+{
+    let neighbour = neighbour_at(arena, node, byte);
+    link_between(arena, leaf, neighbour.leaf, neighbour.is_before);
+    arena.edit_inner(
+        node,
+        &NodeEdit::Write {
+            byte,
+            child: leaf.to_opaque(),
+        },
+    );
+}
+
+/// Puts a key and its value under an inner node that has no child under the key's next byte.
+///
+/// A leaf is made, and where the node is full one of the next larger kind, which takes its place. Where there is no
+/// memory for them, the key and the value are handed back, and the tree is as it was.
+pub(crate) fn put_into_existing<K: AsBytes, V, const PREFIX_LEN: usize>(
+    arena: &mut NodeArena<K, V, PREFIX_LEN>,
+    point: InsertPoint,
+    inner: OpaqueNodePtr,
+    byte: u8,
+    key: K,
+    value: V,
+) -> Result<InsertResult<K, V>, InsertRefused<K, V>>
+    requires tree { (s : Shape K V) × StoresOnly K.bytes PREFIX_LEN arena.old point.root s
+        × IsPoint K.bytes (K.bytes key) s point }
+    requires kind { point.insert_kind ≡ kind.IntoExisting inner byte }
+    ensures ok { IfOk result (λ inserted. (s : Shape K V) → StoresOnly K.bytes PREFIX_LEN arena.old point.root s
+        → IsPoint K.bytes (K.bytes key) s point
+        → IsInserted K.bytes PREFIX_LEN arena.new s (steps_of point.path) key value inserted) }
+    ensures err { OnErr result (SameNodes arena.old arena.new) }
+    ensures handed_back { IfErr result (λ refused. (refused.key ≡ key) × (refused.value ≡ value)) }
+    ensures succeeds { HasRoom arena.old 2 → IsOk result }
+    ensures room { UsesRoom 2 arena.old arena.new }
+{
+    let leaf = store_leaf(arena, key, value)?;
+    let place = match make_room(arena, point, inner, byte) {
+        Ok(place) => place,
+        Err(_) => return Err(take_back(arena, leaf)),
+    };
+    put_leaf(arena, place.node, byte, leaf);
+    Ok(InsertResult {
+        leaf_node_ptr: leaf,
+        existing_leaf: None,
+        new_root: place.root,
+        parent_node_change: InsertParentNodeChange::NewParent {
+            new_parent_node: inner_node_ptr(place.node),
+            leaf_node_key_byte: byte,
+        },
+    })
+}
