@@ -1,5 +1,6 @@
 -- The way of a key down a tree: where it turns at a node, and the one leaf at which it can end.
-use Rattle.std.specs.Prelude.{◌≡◌, ℕ, ◌+◌, ◌≤◌, ◌⊎◌, Bool, true, List, [], ◌∷◌, length, take, filter, get_or, Option, Some, None}
+use Rattle.std.specs.Prelude.{◌≡◌, ℕ, ◌+◌, ◌≤◌, ◌⊎◌, Bool, true, List, [], ◌∷◌, length, take, filter, get_or, Option}
+use Rattle.std.specs.Prelude.{Some, None}
 use Rattle.art_bytes.specs.Keys.{BeginsWith}
 use Rattle.art_nodes.specs.Name.{Name}
 use Rattle.art_nodes.specs.InnerNode.{InnerNode, child_at}
@@ -12,7 +13,8 @@ use Rattle.art_arena.specs.Steps.{Step, steps_to, steps_of}
 use Rattle.art_arena.specs.Found.{Located, located}
 use Rattle.art_arena.specs.declared.descent.Landed.{Landed}
 
--- the key goes on from this inner node, which stands behind `depth` of its bytes: by this byte to this child, behind `next` bytes
+-- the key goes on from this inner node, which stands behind `depth` of its bytes: by this byte to this child, behind
+-- `next` bytes
 pub record GoesOn (key : List ℕ) (depth : ℕ) (node : InnerNode) (byte : ℕ) (child : Name) (next : ℕ) : Type 0 where
   pub next_is : next ≡ depth + node.header.prefix_len + 1
   pub within : next ≤ length key
@@ -42,7 +44,8 @@ module _ {K V : Type 0} (bytes : K → List ℕ) where
   abbrev pub located_where : (List ℕ → Bool) → List (Located K V) → List (Located K V)
   located_where test ls = filter (λ l. test (bytes l.leaf.key)) ls
 
-  -- the leaf with this slab key stands at a place of the tree to which these last steps lead, and no other leaf's key is
+  -- the leaf with this slab key stands at a place of the tree to which these last steps lead, and no other leaf's key
+  -- is
   -- the key or a front of it
   pub record LandsAt (key : List ℕ) (s : Shape K V) (slot : ℕ) (leaf : LeafNode K V) (last : List Step) : Type 0 where
     pub ctx : List (Frame K V)
@@ -50,7 +53,8 @@ module _ {K V : Type 0} (bytes : K → List ℕ) where
     pub steps : take 2 (steps_to ctx) ≡ last
     pub only : (test : List ℕ → Bool) → TakesFronts key test
         → located_where test (located [] s)
-        ≡ located_where test (record { leaf = record { slot = slot; key = leaf.key; value = leaf.value }; steps = steps_to ctx } ∷ [])
+        ≡ located_where test
+        (record { leaf = record { slot = slot; key = leaf.key; value = leaf.value }; steps = steps_to ctx } ∷ [])
 
   -- no leaf's key is the key or a front of it
   abbrev pub HasNoFront : List ℕ → Shape K V → Type 0

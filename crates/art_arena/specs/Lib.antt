@@ -21,6 +21,7 @@ pub mod EndLeaves
 pub mod Found
 pub mod Descents
 pub mod Arena
+pub mod Stores
 pub mod Fits
 pub mod NodeEdits
 pub mod NodesLends

@@ -1,5 +1,5 @@
 //! The nodes of a tree, under their names.
-ghost use Rattle.std.specs.Prelude.{◌≡◌, ◌≢◌, ◌<◌, ◌^◌, ◌↔◌, ◌+◌, ℕ, [], Some, None, IfOk, OnErr, IfErr, OnOk, IsSome, IsTrue, IsOk};
+ghost use Rattle.std.specs.Prelude.{◌≡◌, ◌<◌, ◌^◌, ◌↔◌, Some, None, IfOk, OnErr, IfErr, OnOk, IsSome, IsTrue, IsOk};
 
 use crate::nodes::Nodes;
 use crate::stored::Stored;
@@ -61,6 +61,7 @@ impl<K, V, const PREFIX_LEN: usize> NodeArena<K, V, PREFIX_LEN> {
     ghost use Rattle.art_arena.specs.Lends.{lends_node, lends_value};
     ghost use Rattle.art_arena.specs.contracts.arena.NodeArena.{the_row};
     ghost use Rattle.art_arena.specs.Arena.{leaf_held, held_at, links_at, Allocates, WritesLinks, SameNodes, HasRoom};
+    ghost use Rattle.art_arena.specs.Arena.{KeepsRoom, UsesRoom};
 
     /// An arena that holds no node. It takes no memory.
     pub fn new(alloc: Global) -> Self
@@ -95,7 +96,7 @@ impl<K, V, const PREFIX_LEN: usize> NodeArena<K, V, PREFIX_LEN> {
     pub fn reserve(&mut self, additional: usize) -> Result<(), AllocError>
         ensures room { OnOk result (HasRoom self.new additional) }
         ensures succeeds { HasRoom self.old additional → IsOk result }
-        ensures kept_room { (n : ℕ) → HasRoom self.old n → HasRoom self.new n }
+        ensures kept_room { KeepsRoom self.old self.new }
         ensures kept { SameNodes self.old self.new }
     {
         self.leaves.reserve(additional)?;
@@ -114,7 +115,7 @@ impl<K, V, const PREFIX_LEN: usize> NodeArena<K, V, PREFIX_LEN> {
         ensures err { OnErr result (SameNodes self.old self.new) }
         ensures handed_back { IfErr result (λ refused. refused.node ≡ node) }
         ensures succeeds { HasRoom self.old 1 → IsOk result }
-        ensures room { (n : ℕ) → HasRoom self.old (n + 1) → HasRoom self.new n }
+        ensures room { UsesRoom 1 self.old self.new }
     {
         match N::insert(self, node) {
             Ok(slot) => Ok(NodePtr::from_slot(slot)),
@@ -127,7 +128,7 @@ impl<K, V, const PREFIX_LEN: usize> NodeArena<K, V, PREFIX_LEN> {
         requires { IsSome (held_at self.old (record { kind = N.Kind.TYPE; slot = ptr })) }
         ensures value { held_at self.old (record { kind = N.Kind.TYPE; slot = ptr }) ≡ Some (N.held result) }
         ensures updates { UpdatesAt (held_at self.old) (held_at self.new) (record { kind = N.Kind.TYPE; slot = ptr }) None }
-        ensures room { (n : ℕ) → HasRoom self.old n → HasRoom self.new n }
+        ensures room { KeepsRoom self.old self.new }
     {
         N::remove(self, ptr.slot())
     }
@@ -136,8 +137,9 @@ impl<K, V, const PREFIX_LEN: usize> NodeArena<K, V, PREFIX_LEN> {
     pub fn replace<N: Stored<K, V, Self>>(&mut self, ptr: NodePtr<N::Kind>, node: N) -> N
         requires { IsSome (held_at self.old (record { kind = N.Kind.TYPE; slot = ptr })) }
         ensures value { held_at self.old (record { kind = N.Kind.TYPE; slot = ptr }) ≡ Some (N.held result) }
-        ensures updates { UpdatesAt (held_at self.old) (held_at self.new) (record { kind = N.Kind.TYPE; slot = ptr }) (Some (N.held node)) }
-        ensures room { (n : ℕ) → HasRoom self.old n → HasRoom self.new n }
+        ensures updates { UpdatesAt (held_at self.old) (held_at self.new) (record { kind = N.Kind.TYPE; slot = ptr })
+            (Some (N.held node)) }
+        ensures room { KeepsRoom self.old self.new }
     {
         mem::replace(self.as_mut::<N>(ptr), node)
     }
@@ -150,7 +152,8 @@ impl<K, V, const PREFIX_LEN: usize> NodeArena<K, V, PREFIX_LEN> {
         N::get(self, ptr.slot())
     }
 
-    /// Whether the stored front of a prefix is so short that an inner node fits in memory, as it does where there is room
+    /// Whether the stored front of a prefix is so short that an inner node fits in memory, as it does where there is
+    /// room
     /// for one. A caller over any `PREFIX_LEN` asks this before it makes the first inner node of a tree.
     pub fn fits_in_memory(&self) -> bool
         ensures value { IsTrue result → PREFIX_LEN < 2 ^ 62 }
@@ -233,8 +236,9 @@ impl<K, V, const PREFIX_LEN: usize> NodeArena<K, V, PREFIX_LEN> {
     // Sets the leaf that comes before a leaf.
     pub(crate) fn set_previous(&mut self, leaf: usize, previous: Option<usize>)
         requires { IsSome (links_at self.old leaf) }
-        ensures links { (was : _) → links_at self.old leaf ≡ Some was → WritesLinks self.old self.new leaf (record was { previous = previous }) }
-        ensures room { (n : ℕ) → HasRoom self.old n → HasRoom self.new n }
+        ensures links { (was : _) → links_at self.old leaf ≡ Some was
+            → WritesLinks self.old self.new leaf (record was { previous = previous }) }
+        ensures room { KeepsRoom self.old self.new }
     {
         self.leaves.node_mut(leaf).set_previous(name_of(previous))
     }
@@ -242,8 +246,9 @@ impl<K, V, const PREFIX_LEN: usize> NodeArena<K, V, PREFIX_LEN> {
     // Sets the leaf that comes after a leaf.
     pub(crate) fn set_next(&mut self, leaf: usize, next: Option<usize>)
         requires { IsSome (links_at self.old leaf) }
-        ensures links { (was : _) → links_at self.old leaf ≡ Some was → WritesLinks self.old self.new leaf (record was { next = next }) }
-        ensures room { (n : ℕ) → HasRoom self.old n → HasRoom self.new n }
+        ensures links { (was : _) → links_at self.old leaf ≡ Some was
+            → WritesLinks self.old self.new leaf (record was { next = next }) }
+        ensures room { KeepsRoom self.old self.new }
     {
         self.leaves.node_mut(leaf).set_next(name_of(next))
     }

@@ -1,10 +1,9 @@
 //! The way of a key down the tree below a name, to the one leaf that can be meant.
-ghost use Rattle.std.specs.Prelude.{◌≡◌, ◌+◌, ◌-◌, ◌^◌, ◌≤◌, [], length, min, MatchOption};
-ghost use Rattle.art_arena.specs.Arena.{node_at};
+ghost use Rattle.std.specs.Prelude.{◌≡◌, ◌+◌, ◌-◌, ◌^◌, ◌≤◌, length, min, MatchOption};
 ghost use Rattle.art_arena.specs.Descents.{Ends, GoesOn, Lands};
-ghost use Rattle.art_arena.specs.Meaning.{IsSubtree};
 ghost use Rattle.art_arena.specs.Paths.{path_of};
 ghost use Rattle.art_arena.specs.Shapes.{Shape, erase};
+ghost use Rattle.art_arena.specs.Stores.{Stores};
 ghost use Rattle.art_arena.specs.Visited.{arena_of, count_of};
 
 use crate::arena::LeafPtr;
@@ -34,18 +33,19 @@ struct NextStep {
 }
 
 /// Goes down for a key in the canonical tree below a name, to a leaf, or to a node where the key ends or has no child.
-/// It passes over prefixes by their lengths alone, so a caller compares the leaf's key as a whole. It reads the nodes of
+/// It passes over prefixes by their lengths alone, so a caller compares the leaf's key as a whole. It reads the nodes
+/// of
 /// the key's path, each once; nothing is copied, and no memory is taken.
 pub fn land<'a, K: AsBytes, V, const PREFIX_LEN: usize>(
     reader: &mut ArenaReader<'a, K, V, PREFIX_LEN>,
     root: OpaqueNodePtr,
     key: &[u8],
 ) -> Option<Landed<'a, K, V>>
-    requires { (s : Shape K V) × IsSubtree K.bytes PREFIX_LEN (node_at (arena_of reader.old)) root [] s }
-    ensures lands { (s : Shape K V) → IsSubtree K.bytes PREFIX_LEN (node_at (arena_of reader.old)) root [] s
+    requires { (s : Shape K V) × Stores K.bytes PREFIX_LEN (arena_of reader.old) root s }
+    ensures lands { (s : Shape K V) → Stores K.bytes PREFIX_LEN (arena_of reader.old) root s
         → Lands K.bytes key.now s result }
     ensures kept { arena_of reader.new ≡ arena_of reader.old }
-    ensures counts { (s : Shape K V) → IsSubtree K.bytes PREFIX_LEN (node_at (arena_of reader.old)) root [] s
+    ensures counts { (s : Shape K V) → Stores K.bytes PREFIX_LEN (arena_of reader.old) root s
         → count_of reader.new ≡ min (count_of reader.old + length (path_of (erase s) key.now)) (2 ^ 64 - 1) }
 {
     let mut search = TreePathSearch::default();

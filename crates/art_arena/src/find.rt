@@ -1,12 +1,12 @@
 //! The search for a key.
-ghost use Rattle.std.specs.Prelude.{◌≡◌, ◌+◌, ◌-◌, ◌^◌, ◌≤◌, [], length, min, filter, IfSome};
+ghost use Rattle.std.specs.Prelude.{◌≡◌, ◌+◌, ◌-◌, ◌^◌, ◌≤◌, length, min, filter, IfSome};
 ghost use Rattle.std.specs.Str.{bytes_eq};
-ghost use Rattle.art_arena.specs.Arena.{node_at, links_at};
+ghost use Rattle.art_arena.specs.Arena.{node_at};
 ghost use Rattle.art_arena.specs.Found.{found_of, found_in, pair_found, IsAtKey};
-ghost use Rattle.art_arena.specs.Meaning.{IsSubtree, Means};
 ghost use Rattle.art_arena.specs.Paths.{path_of};
 ghost use Rattle.art_arena.specs.Shapes.{Shape};
 ghost use Rattle.art_arena.specs.Steps.{steps_of};
+ghost use Rattle.art_arena.specs.Stores.{Stores, IsMeant};
 ghost use Rattle.art_arena.specs.Trees.{Tree, items};
 ghost use Rattle.art_arena.specs.Visited.{arena_of, count_of};
 
@@ -26,24 +26,25 @@ pub struct FoundLeaf {
     pub path: TreePath,
 }
 
-/// Finds the leaf with exactly this key in the canonical tree below a name: a descent, and one comparison of whole keys.
+/// Finds the leaf with exactly this key in the canonical tree below a name: a descent, and one comparison of whole
+/// keys.
 /// It reads the nodes of the key's path, each once.
 pub fn find_leaf<K: AsBytes, V, const PREFIX_LEN: usize>(
     reader: &mut ArenaReader<'_, K, V, PREFIX_LEN>,
     root: OpaqueNodePtr,
     key: &[u8],
 ) -> Option<FoundLeaf>
-    requires { (s : Shape K V) × IsSubtree K.bytes PREFIX_LEN (node_at (arena_of reader.old)) root [] s }
-    ensures value { (s : Shape K V) → IsSubtree K.bytes PREFIX_LEN (node_at (arena_of reader.old)) root [] s
+    requires { (s : Shape K V) × Stores K.bytes PREFIX_LEN (arena_of reader.old) root s }
+    ensures value { (s : Shape K V) → Stores K.bytes PREFIX_LEN (arena_of reader.old) root s
         → found_of result ≡ found_in K.bytes key.now s }
-    ensures place { (s : Shape K V) → IsSubtree K.bytes PREFIX_LEN (node_at (arena_of reader.old)) root [] s
+    ensures place { (s : Shape K V) → Stores K.bytes PREFIX_LEN (arena_of reader.old) root s
         → IfSome result (λ found. IsAtKey K.bytes key.now s found.leaf_node_ptr (steps_of found.path)) }
     ensures pairs { (t : Tree (K × V))
-        → Means K.bytes PREFIX_LEN (node_at (arena_of reader.old)) root (links_at (arena_of reader.old)) t
+        → IsMeant K.bytes PREFIX_LEN (arena_of reader.old) root t
         → pair_found (node_at (arena_of reader.old)) result ≡ filter (λ p. bytes_eq (K.bytes p.0) key.now) (items t) }
     ensures kept { arena_of reader.new ≡ arena_of reader.old }
     ensures counts { (t : Tree (K × V))
-        → Means K.bytes PREFIX_LEN (node_at (arena_of reader.old)) root (links_at (arena_of reader.old)) t
+        → IsMeant K.bytes PREFIX_LEN (arena_of reader.old) root t
         → count_of reader.new ≡ min (count_of reader.old + length (path_of t key.now)) (2 ^ 64 - 1) }
     ensures few { count_of reader.new ≤ count_of reader.old + (length key.now + 1) }
 {

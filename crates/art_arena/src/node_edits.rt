@@ -1,9 +1,10 @@
 //! Edits of the inner node under a name, whatever its kind.
-ghost use Rattle.std.specs.Prelude.{◌≡◌, ◌≢◌, ◌+◌, ◌<◌, ◌^◌, ℕ, length, Some, IsSome, IsOk, IfOk, OnErr, refl};
+ghost use Rattle.std.specs.Prelude.{◌≡◌, ◌≢◌, ◌+◌, ◌<◌, ◌^◌, length, Some, IsSome, IsOk, IfOk, OnErr, refl};
 ghost use Rattle.art_nodes.specs.InnerNode as node;
 ghost use Rattle.art_nodes.specs.Kind.{row_of, CanShrink};
 ghost use Rattle.art_arena.specs.Cells.{UpdatesAt};
-ghost use Rattle.art_arena.specs.Arena.{held_at, as_inner, inner_held, Allocates, SameNodes, HasRoom};
+ghost use Rattle.art_arena.specs.Arena.{held_at, as_inner, inner_held, Allocates, SameNodes, HasRoom, KeepsRoom};
+ghost use Rattle.art_arena.specs.Arena.{UsesRoom};
 ghost use Rattle.art_arena.specs.NodeEdits.{edited, MayEdit};
 
 use crate::arena::NodeArena;
@@ -109,7 +110,7 @@ where
     ensures updates { (n : node.InnerNode) → held_at arena.old (record { kind = N.Kind.TYPE; slot = ptr }) ≡ Some (inner_held n)
         → UpdatesAt (held_at arena.old) (held_at arena.new) (record { kind = N.Kind.TYPE; slot = ptr })
         (as_inner (edited edit.now n)) }
-    ensures room { (n : ℕ) → HasRoom arena.old n → HasRoom arena.new n }
+    ensures room { KeepsRoom arena.old arena.new }
 {
     if let NodeEdit::Free = *edit {
         arena.deallocate_node_ptr::<N>(ptr);
@@ -127,7 +128,8 @@ macro_rules! store_copy {
 }
 
 impl<K, V, const PREFIX_LEN: usize> NodeArena<K, V, PREFIX_LEN> {
-    /// Edits the inner node under a name, whatever its kind. A child is written only where the node has room for it, or one
+    /// Edits the inner node under a name, whatever its kind. A child is written only where the node has room for it, or
+    /// one
     /// stands under its byte.
     pub fn edit_inner(&mut self, name: OpaqueNodePtr, edit: &NodeEdit<'_, PREFIX_LEN>)
         requires may { (n : node.InnerNode) × (held_at self.old name ≡ Some (inner_held n))
@@ -135,7 +137,7 @@ impl<K, V, const PREFIX_LEN: usize> NodeArena<K, V, PREFIX_LEN> {
         requires inner { name.kind ≢ NodeType.Leaf }
         ensures updates { (n : node.InnerNode) → held_at self.old name ≡ Some (inner_held n)
             → UpdatesAt (held_at self.old) (held_at self.new) name (as_inner (edited edit.now n)) }
-        ensures room { (n : ℕ) → HasRoom self.old n → HasRoom self.new n }
+        ensures room { KeepsRoom self.old self.new }
     {
         self.prefix_fits(name);
         match name.to_node_ptr() {
@@ -155,7 +157,8 @@ impl<K, V, const PREFIX_LEN: usize> NodeArena<K, V, PREFIX_LEN> {
         }
     }
 
-    /// Stores a copy of a full inner node in the next larger kind, and answers its name. It is refused where there is no
+    /// Stores a copy of a full inner node in the next larger kind, and answers its name. It is refused where there is
+    /// no
     /// memory; nothing changes then.
     pub fn grow(&mut self, name: OpaqueNodePtr) -> Result<OpaqueNodePtr, AllocError>
         requires full { (n : node.InnerNode) × (held_at self.old name ≡ Some (inner_held n))
@@ -166,7 +169,7 @@ impl<K, V, const PREFIX_LEN: usize> NodeArena<K, V, PREFIX_LEN> {
             → Allocates self.old self.new grown (inner_held n)) }
         ensures err { OnErr result (SameNodes self.old self.new) }
         ensures succeeds { HasRoom self.old 1 → IsOk result }
-        ensures room { (n : ℕ) → HasRoom self.old (n + 1) → HasRoom self.new n }
+        ensures room { UsesRoom 1 self.old self.new }
     {
         self.prefix_fits(name);
         match name.to_node_ptr() {
@@ -194,7 +197,7 @@ impl<K, V, const PREFIX_LEN: usize> NodeArena<K, V, PREFIX_LEN> {
             → Allocates self.old self.new smaller (inner_held n)) }
         ensures err { OnErr result (SameNodes self.old self.new) }
         ensures succeeds { HasRoom self.old 1 → IsOk result }
-        ensures room { (n : ℕ) → HasRoom self.old (n + 1) → HasRoom self.new n }
+        ensures room { UsesRoom 1 self.old self.new }
     {
         match name.to_node_ptr() {
             ConcreteNodePtr::Node16(ptr) => {
@@ -214,7 +217,8 @@ impl<K, V, const PREFIX_LEN: usize> NodeArena<K, V, PREFIX_LEN> {
         }
     }
 
-    // Where an inner node is held, the stored front of a prefix is so short that the node fits in memory. What names its type
+    // Where an inner node is held, the stored front of a prefix is so short that the node fits in memory. What names
+    // its type
     // over any `PREFIX_LEN` calls this before.
     fn prefix_fits(&self, name: OpaqueNodePtr)
         requires held { IsSome (held_at self.now name) }

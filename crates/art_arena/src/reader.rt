@@ -28,8 +28,9 @@ impl<'a, K, V, const PREFIX_LEN: usize> VisitedNode<'a, K, V, PREFIX_LEN> {
     /// The leaf, or else the inner node, whatever its kind. That an inner node fits in memory is what `visit` says.
     pub fn leaf(self) -> Result<&'a LeafNode<K, V>, InnerRef<'a, K, V, PREFIX_LEN>>
         requires fits_in_memory { kind_of self ≢ NodeType.Leaf → PREFIX_LEN < 2 ^ 62 }
-        ensures { MatchResult result (λ leaf. held_of self.entry ≡ leaf_held leaf.now)
-            (λ inner. (held_of self.entry ≡ inner_held inner.node) × (kind_of self.entry ≡ inner.kind) × (inner.kind ≢ NodeType.Leaf)) }
+        ensures { MatchResult result (λ leaf. held_of self.entry
+            ≡ leaf_held leaf.now) (λ inner. (held_of self.entry ≡ inner_held inner.node)
+            × (kind_of self.entry ≡ inner.kind) × (inner.kind ≢ NodeType.Leaf)) }
     {
         match self {
             VisitedNode::Leaf(leaf) => Ok(leaf),
