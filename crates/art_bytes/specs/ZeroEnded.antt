@@ -5,6 +5,6 @@ use Rattle.art_bytes.specs.declared.keys.zero_ended.ZeroEndedError.TheVariants.{
 use Rattle.art_bytes.specs.Keys.{HasNoZero}
 
 -- the refusal hands these bytes back; for want of memory alone where none is zero, and else exactly since one is
-abbrev pub Refuses : ZeroEndedError → List ℕ → Type 0
-Refuses (HoldsZero held) bytes = (held.items ≡ bytes) × (¬ (HasNoZero bytes))
-Refuses (Memory held) bytes = (held.items ≡ bytes) × HasNoZero bytes
+abbrev pub HandsBack : ZeroEndedError → List ℕ → Type 0
+HandsBack (HoldsZero held) bytes = (held.items ≡ bytes) × (¬ (HasNoZero bytes))
+HandsBack (Memory held) bytes = (held.items ≡ bytes) × HasNoZero bytes

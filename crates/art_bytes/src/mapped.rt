@@ -143,6 +143,14 @@ where
     }
 }
 
+impl<B: BytesMapping<D>, D: Drop> CloneBytes for Mapped<B, D>
+where
+    B: Drop,
+    B::Bytes: CloneBytes,
+{
+    ghost same_bytes = { λ m n h. B.Bytes.same_bytes m n h };
+}
+
 impl<B: BytesMapping<D>, D> fmt::Debug for Mapped<B, D> {
     fn fmt<W: fmt::Write>(&self, f: &mut fmt::Formatter<W>) -> fmt::Result {
         let bytes = self.as_bytes();

@@ -16,8 +16,8 @@ abbrev pub header_of : ℕ → List ℕ → ℕ → Header
 header_of room bytes len = record { num_children = 0; prefix_len = len; stored = front_of room bytes len }
 
 -- the header with a prefix of this length, of which these bytes are stored
-abbrev pub with_prefix : ℕ → List ℕ → Header → Header
-with_prefix len stored header = record header { prefix_len = len; stored = stored }
+abbrev pub with_stored_prefix : ℕ → List ℕ → Header → Header
+with_stored_prefix len stored header = record header { prefix_len = len; stored = stored }
 
 -- what a header with room for so many bytes may be: it counts at most 256 children, and stores as much of the prefix as
 -- there is room for

@@ -9,9 +9,9 @@ use Rattle.art_nodes.specs.declared.replaying.ChildAnswer.{ChildAnswer}
 use Rattle.art_nodes.specs.declared.replaying.ChildAnswer.TheVariants.{Child, Children, InvalidBounds}
 
 -- a child with its byte
-abbrev pub under : ℕ → Option Name → Option (ℕ × Name)
-under byte None = None
-under byte (Some name) = Some (byte, name)
+abbrev pub child_under : ℕ → Option Name → Option (ℕ × Name)
+child_under byte None = None
+child_under byte (Some name) = Some (byte, name)
 
 -- the children after a command
 abbrev pub children_after : List (ℕ × Name) → ChildCommand → List (ℕ × Name)
@@ -30,9 +30,9 @@ IsRangeAnswer children start end InvalidBounds = AreValidBounds start end → �
 
 -- what a command answers on these children
 abbrev pub IsChildAnswer : List (ℕ × Name) → ChildCommand → ChildAnswer → Type 0
-IsChildAnswer children (Write byte name) answer = answer ≡ Child (under byte (child_at children byte))
-IsChildAnswer children (Remove byte) answer = answer ≡ Child (under byte (child_at children byte))
-IsChildAnswer children (Lookup byte) answer = answer ≡ Child (under byte (child_at children byte))
+IsChildAnswer children (Write byte name) answer = answer ≡ Child (child_under byte (child_at children byte))
+IsChildAnswer children (Remove byte) answer = answer ≡ Child (child_under byte (child_at children byte))
+IsChildAnswer children (Lookup byte) answer = answer ≡ Child (child_under byte (child_at children byte))
 IsChildAnswer children Min answer = answer ≡ Child (first_child children)
 IsChildAnswer children Max answer = answer ≡ Child (last_child children)
 IsChildAnswer children (Range start end) answer = IsRangeAnswer children start end answer

@@ -1,7 +1,7 @@
 //! The header of an inner node: the number of its children, and its prefix.
 ghost use Rattle.std.specs.Prelude.{◌≡◌, ◌≢◌, ◌↔◌, ◌+◌, ◌-◌, ◌<◌, ◌≤◌, ◌^◌, ◌⊎◌, ◌++◌, [], length, take, drop, min};
 ghost use Rattle.std.specs.Prelude.{IsTrue};
-ghost use Rattle.art_nodes.specs.Header.{front_of, header_of, with_prefix, IsHeader};
+ghost use Rattle.art_nodes.specs.Header.{front_of, header_of, with_stored_prefix, IsHeader};
 
 use crate::leaf::LeafNode;
 use art_bytes::AsBytes;
@@ -106,7 +106,7 @@ impl<const PREFIX_LEN: usize> Header<PREFIX_LEN> {
 
     /// Makes the prefix empty.
     pub fn clear_prefix(&mut self)
-        ensures { self.new ≡ with_prefix 0 [] self.old }
+        ensures { self.new ≡ with_stored_prefix 0 [] self.old }
     {
         self.prefix_len = 0;
     }
@@ -116,7 +116,7 @@ impl<const PREFIX_LEN: usize> Header<PREFIX_LEN> {
     pub fn push_prefix(&mut self, bytes: &[u8], len: usize)
         requires covers { min (self.old.prefix_len + len) PREFIX_LEN ≤ length self.old.stored + length bytes.now }
         requires fits { self.old.prefix_len + len < 2 ^ 64 }
-        ensures { self.new ≡ with_prefix (self.old.prefix_len + len)
+        ensures { self.new ≡ with_stored_prefix (self.old.prefix_len + len)
             (take PREFIX_LEN (self.old.stored ++ take len bytes.now)) self.old }
     {
         let at = self.prefix_len.min(PREFIX_LEN);
@@ -136,7 +136,7 @@ impl<const PREFIX_LEN: usize> Header<PREFIX_LEN> {
         requires within { n ≤ self.old.prefix_len }
         requires covers { depth + n + min (self.old.prefix_len - n) PREFIX_LEN ≤ length (K.bytes leaf.now.key) }
         ensures { let len = self.old.prefix_len - n in let rest = drop (depth + n) (K.bytes leaf.now.key) in
-            self.new ≡ with_prefix len (front_of PREFIX_LEN rest len) self.old }
+            self.new ≡ with_stored_prefix len (front_of PREFIX_LEN rest len) self.old }
     {
         let key = leaf.key_ref().as_bytes();
         let len = self.prefix_len - n;
@@ -150,7 +150,7 @@ impl<const PREFIX_LEN: usize> Header<PREFIX_LEN> {
     pub fn ltrim_by(&mut self, n: usize)
         requires within { n ≤ self.old.prefix_len }
         requires stored { (self.old.prefix_len ≤ PREFIX_LEN) ⊎ (n ≡ 0) }
-        ensures { self.new ≡ with_prefix (self.old.prefix_len - n) (drop n self.old.stored) self.old }
+        ensures { self.new ≡ with_stored_prefix (self.old.prefix_len - n) (drop n self.old.stored) self.old }
     {
         if n == 0 {
             return;

@@ -4,7 +4,7 @@
 //! `specs/Replay.antt`.
 ghost use Rattle.std.specs.Prelude.{◌≡◌, [], length, IfOk};
 ghost use Rattle.art_nodes.specs.InnerNode.{child_at, with_child, without_child};
-ghost use Rattle.art_nodes.specs.Replay.{IsChildAnswer, AreChildAnswers, children_after, under};
+ghost use Rattle.art_nodes.specs.Replay.{IsChildAnswer, AreChildAnswers, children_after, child_under};
 ghost use Rattle.art_nodes.specs.declared.replaying.ChildAnswer.TheVariants.{Child};
 ghost use Rattle.art_nodes.specs.inner.Replayed.{replayed_children};
 
@@ -121,7 +121,7 @@ where
 
 // The child under this byte, with the byte.
 fn found<N: InnerNodeCommon<0>>(node: &N, byte: u8) -> ChildAnswer
-    ensures { result ≡ Child (under byte (child_at (N.inner node.now).children byte)) }
+    ensures { result ≡ Child (child_under byte (child_at (N.inner node.now).children byte)) }
 {
     match node.lookup_child(byte) {
         Some(name) => ChildAnswer::Child(Some((byte, name))),

@@ -45,14 +45,14 @@ impl Model for ZeroEnded {
 }
 
 impl ZeroEnded {
-    ghost use Rattle.art_bytes.specs.ZeroEnded.{Refuses};
+    ghost use Rattle.art_bytes.specs.ZeroEnded.{HandsBack};
 
     /// The bytes as a key. It is refused where one of them is zero, or where there is no memory for the zero at the
     /// end; the bytes are then handed back.
     pub fn new(bytes: Vec<u8>) -> Result<Self, ZeroEndedError>
         ensures value { IfOk result (λ k. k ≡ bytes.items) }
         ensures fits { OnOk result (HasNoZero bytes.items) }
-        ensures refused { IfErr result (λ e. Refuses e bytes.items) }
+        ensures refused { IfErr result (λ e. HandsBack e bytes.items) }
     {
         if known_bytes(bytes.as_slice()).contains(&0) {
             return Err(ZeroEndedError::HoldsZero(bytes));
