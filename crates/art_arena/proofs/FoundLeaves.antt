@@ -7,11 +7,11 @@ use Rattle.art_nodes.specs.declared.leaf.LeafNode.{LeafNode}
 use Rattle.art_arena.specs.Trees.{Tree, items}
 use Rattle.art_arena.specs.Tenants.{begins_with}
 use Rattle.art_arena.specs.Cells.{Cell, pair, leaf_name, AreHeld}
-use Rattle.art_arena.specs.Shapes.{Shape, Branches, leaf_at, inner_at, no_branch, branch, LeafAt, leaves, leaves_in, erase, cells}
+use Rattle.art_arena.specs.Shapes.{Shape, Branches, leaf_at, inner_at, no_branch, branch, LeafAt, leaves, leaves_in, cells}
 use Rattle.art_arena.specs.Linked.{Links, first_slot}
 use Rattle.art_arena.specs.Meaning.{IsSubtree, Means}
 use Rattle.art_arena.specs.Steps.{Step, steps_to}
-use Rattle.art_arena.specs.Found.{Located, located, located_in, with_key, pair_of}
+use Rattle.art_arena.specs.Found.{Located, located, located_in, with_key}
 use Rattle.art_arena.specs.Descents.{TakesFronts, passing, leaf_where, located_where, LandsAt, HasNoFront}
 use Rattle.art_arena.proofs.Tenants.{begins_true}
 use Rattle.art_arena.proofs.Places.{held-below}

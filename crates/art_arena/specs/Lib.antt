@@ -22,11 +22,9 @@ pub mod Found
 pub mod Descents
 pub mod Arena
 pub mod Stores
-pub mod Fits
 pub mod NodeEdits
-pub mod NodesLends
 pub mod Lends
 pub mod InnerRef
 pub mod Visited
-pub mod WrittenNodes
 pub mod Laws
+pub mod inner

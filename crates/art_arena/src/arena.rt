@@ -111,7 +111,8 @@ impl<K, V, const PREFIX_LEN: usize> NodeArena<K, V, PREFIX_LEN> {
         &mut self,
         node: N,
     ) -> Result<NodePtr<N::Kind>, NodeRefused<N>>
-        ensures ok { IfOk result (λ slot. Allocates self.old self.new (record { kind = N.Kind.TYPE; slot = slot }) (N.held node)) }
+        ensures ok { IfOk result (λ slot. Allocates self.old self.new (record { kind = N.Kind.TYPE; slot = slot })
+            (N.held node)) }
         ensures err { OnErr result (SameNodes self.old self.new) }
         ensures handed_back { IfErr result (λ refused. refused.node ≡ node) }
         ensures succeeds { HasRoom self.old 1 → IsOk result }
@@ -127,7 +128,8 @@ impl<K, V, const PREFIX_LEN: usize> NodeArena<K, V, PREFIX_LEN> {
     pub fn deallocate_node_ptr<N: Stored<K, V, Self>>(&mut self, ptr: NodePtr<N::Kind>) -> N
         requires { IsSome (held_at self.old (record { kind = N.Kind.TYPE; slot = ptr })) }
         ensures value { held_at self.old (record { kind = N.Kind.TYPE; slot = ptr }) ≡ Some (N.held result) }
-        ensures updates { UpdatesAt (held_at self.old) (held_at self.new) (record { kind = N.Kind.TYPE; slot = ptr }) None }
+        ensures updates { UpdatesAt (held_at self.old) (held_at self.new) (record { kind = N.Kind.TYPE; slot = ptr })
+            None }
         ensures room { KeepsRoom self.old self.new }
     {
         N::remove(self, ptr.slot())
@@ -165,7 +167,8 @@ impl<K, V, const PREFIX_LEN: usize> NodeArena<K, V, PREFIX_LEN> {
     /// The node under this name, for writing.
     pub fn as_mut<N: Stored<K, V, Self>>(&mut self, ptr: NodePtr<N::Kind>) -> &mut N
         requires { IsSome (held_at self.old (record { kind = N.Kind.TYPE; slot = ptr })) }
-        ensures* writes_back { sem 𝓛 (lends_node (the_row K.row V.row PREFIX_LEN.row) N.row N.with_node self.entry ptr result) }
+        ensures* writes_back { sem 𝓛 (lends_node (the_row K.row V.row PREFIX_LEN.row) N.row N.with_node self.entry ptr
+            result) }
         ensures value { held_at self.old (record { kind = N.Kind.TYPE; slot = ptr }) ≡ Some (N.held result.now) }
     {
         N::get_mut(self, ptr.slot())

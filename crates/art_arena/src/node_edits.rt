@@ -105,9 +105,11 @@ fn edit_at<K, V, N, const PREFIX_LEN: usize>(
 )
 where
     N: StoredInner<K, V, NodeArena<K, V, PREFIX_LEN>, PREFIX_LEN>,
-    requires { (n : node.InnerNode) × (held_at arena.old (record { kind = N.Kind.TYPE; slot = ptr }) ≡ Some (inner_held n))
+    requires { (n : node.InnerNode)
+        × (held_at arena.old (record { kind = N.Kind.TYPE; slot = ptr }) ≡ Some (inner_held n))
         × MayEdit (row_of N.Kind.TYPE).most edit.now n }
-    ensures updates { (n : node.InnerNode) → held_at arena.old (record { kind = N.Kind.TYPE; slot = ptr }) ≡ Some (inner_held n)
+    ensures updates { (n : node.InnerNode)
+        → held_at arena.old (record { kind = N.Kind.TYPE; slot = ptr }) ≡ Some (inner_held n)
         → UpdatesAt (held_at arena.old) (held_at arena.new) (record { kind = N.Kind.TYPE; slot = ptr })
         (as_inner (edited edit.now n)) }
     ensures room { KeepsRoom arena.old arena.new }
