@@ -7,7 +7,7 @@ use Rattle.art_arena.specs.Changes.{IsPutIn}
 use Rattle.art_arena.specs.Shapes.{Shape, LeafAt, leaves}
 use Rattle.art_arena.specs.Steps.{Step}
 use Rattle.art_operations.specs.DeletePoints.{IsLeafPlace}
-use Rattle.art_operations.specs.Stores.{StoresOnly}
+use Rattle.art_arena.specs.Stores.{StoresOnly}
 use Rattle.art_operations.specs.declared.insert.result.InsertResult.{InsertResult}
 use Rattle.art_operations.specs.declared.insert.result.InsertParentNodeChange.{InsertParentNodeChange}
 use Rattle.art_operations.specs.declared.insert.result.InsertParentNodeChange.TheVariants.{NewParent, NoChange}

@@ -1,4 +1,4 @@
-pub mod Stores
+pub mod Held
 pub mod Lookups
 pub mod Meetings
 pub mod Points

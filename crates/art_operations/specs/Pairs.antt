@@ -9,7 +9,7 @@ use Rattle.art_arena.specs.Changes.{put}
 use Rattle.art_arena.specs.Shapes.{Shape, leaves, pairs_of, key_of}
 use Rattle.art_operations.specs.KeyedLists.{IsBlocked, with_key, without_key}
 use Rattle.art_operations.specs.Points.{IsPoint}
-use Rattle.art_operations.specs.Stores.{StoresOnly}
+use Rattle.art_arena.specs.Stores.{StoresOnly}
 use Rattle.art_operations.specs.declared.delete.result.DeleteResult.{DeleteResult}
 use Rattle.art_operations.specs.declared.insert.point.InsertPoint.{InsertPoint}
 use Rattle.art_operations.specs.declared.insert.result.InsertResult.{InsertResult}

@@ -6,7 +6,7 @@ ghost use Rattle.art_arena.specs.Tenants.{begins_with};
 ghost use Rattle.art_arena.specs.Shapes.{Shape, leaves};
 ghost use Rattle.art_operations.specs.Lookups.{behavior_after, leaf_where, seen_by};
 ghost use Rattle.art_operations.specs.Lookups.{IsMatchedByBytes, IsMatchedByLength, ReadsPath};
-ghost use Rattle.art_operations.specs.Stores.{Stores};
+ghost use Rattle.art_arena.specs.Stores.{Stores};
 
 use art_arena::{ArenaReader, LeafPtr, NodeArena, land};
 use art_bytes::AsBytes;

@@ -2,7 +2,7 @@
 ghost use Rattle.std.specs.Prelude.{◌≡◌, ℕ, List, Some, None};
 ghost use Rattle.art_arena.specs.Shapes.{Shape, leaves};
 ghost use Rattle.art_arena.specs.Linked.{first_slot, last_slot};
-ghost use Rattle.art_operations.specs.Stores.{StoresBehind};
+ghost use Rattle.art_arena.specs.Stores.{StoresBelow};
 
 use art_arena::{LeafPtr, NodeArena, first_leaf, last_leaf};
 use art_bytes::AsBytes;
@@ -13,8 +13,8 @@ pub fn minimum_unchecked<K: AsBytes, V, const PREFIX_LEN: usize>(
     arena: &NodeArena<K, V, PREFIX_LEN>,
     root: OpaqueNodePtr,
 ) -> LeafPtr
-    requires { (path : List ℕ) × (s : Shape K V) × StoresBehind K.bytes PREFIX_LEN arena.now root path s }
-    ensures { (path : List ℕ) (s : Shape K V) → StoresBehind K.bytes PREFIX_LEN arena.now root path s
+    requires { (path : List ℕ) × (s : Shape K V) × StoresBelow K.bytes PREFIX_LEN arena.now root path s }
+    ensures { (path : List ℕ) (s : Shape K V) → StoresBelow K.bytes PREFIX_LEN arena.now root path s
         → first_slot (leaves s) None ≡ Some result }
 {
     first_leaf(arena, root)
@@ -25,8 +25,8 @@ pub fn maximum_unchecked<K: AsBytes, V, const PREFIX_LEN: usize>(
     arena: &NodeArena<K, V, PREFIX_LEN>,
     root: OpaqueNodePtr,
 ) -> LeafPtr
-    requires { (path : List ℕ) × (s : Shape K V) × StoresBehind K.bytes PREFIX_LEN arena.now root path s }
-    ensures { (path : List ℕ) (s : Shape K V) → StoresBehind K.bytes PREFIX_LEN arena.now root path s
+    requires { (path : List ℕ) × (s : Shape K V) × StoresBelow K.bytes PREFIX_LEN arena.now root path s }
+    ensures { (path : List ℕ) (s : Shape K V) → StoresBelow K.bytes PREFIX_LEN arena.now root path s
         → last_slot None (leaves s) ≡ Some result }
 {
     last_leaf(arena, root)

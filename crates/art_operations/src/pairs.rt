@@ -1,11 +1,10 @@
 //! Insertion and deletion, told by the pairs that an arena has: commands and maps stand on these.
 ghost use Rattle.std.specs.Prelude.{◌≡◌, ◌+◌, List, [], None, IfOk, IfErr, IsOk, OnErr};
-ghost use Rattle.art_arena.specs.Arena.{HasRoom, SameNodes};
+ghost use Rattle.art_arena.specs.Arena.{HasRoom, SameNodes, UsesRoom};
 ghost use Rattle.art_arena.specs.Shapes.{key_of};
 ghost use Rattle.art_arena.specs.Shrinks.{Shrinks};
 ghost use Rattle.art_operations.specs.KeyedLists.{HasKey};
 ghost use Rattle.art_operations.specs.Pairs.{CanPut, HasPairs, HasPut, HasTaken, IsPlaced};
-ghost use Rattle.art_operations.specs.Stores.{UsesRoom};
 
 use crate::delete::point::search_for_delete_point;
 use crate::delete::result::DeleteResult;

@@ -5,6 +5,7 @@ use Rattle.art_nodes.specs.Name.{Name}
 use Rattle.art_arena.specs.Arena.{Arena, node_at}
 use Rattle.art_arena.specs.Cells.{Cell, pair, leaf_name, Holds}
 use Rattle.art_arena.specs.Context.{Frame, plug, path_to, cells_before, cells_after, AreAround}
+use Rattle.art_arena.specs.Meaning.{IsNodes}
 use Rattle.art_arena.specs.Shapes.{Shape, LeafAt, leaf_at, name_of, leaves, leaves_in, cells, IsUnder}
 
 module _ {K V : Type 0} where
@@ -13,6 +14,10 @@ module _ {K V : Type 0} where
   alone leaf = (leaf_name leaf.slot, pair leaf.key leaf.value) ∷ []
 
 module _ {K V : Type 0} (bytes : K → List ℕ) (P : ℕ) (arena : Arena K V) where
+  -- the arena's nodes are those of this canonical tree, and no other
+  abbrev pub StoresNodes : Name → Shape K V → Type 0
+  StoresNodes root s = IsNodes bytes P (node_at arena) root s
+
   -- the arena holds nothing but a canonical tree, in which the leaf stands at this place
   pub record IsHeldAt (ctx : List (Frame K V)) (leaf : LeafAt K V) : Type 0 where
     pub holds : Holds (node_at arena) (cells P (plug ctx (leaf_at leaf.slot leaf.key leaf.value)))

@@ -5,7 +5,7 @@ use Rattle.art_nodes.specs.InnerNode.{InnerNode, with_child, without_child, with
 use Rattle.art_nodes.specs.Name.{Name}
 use Rattle.art_arena.specs.Arena.{Arena, Held, inner_held, held_at, SameNodes}
 use Rattle.art_arena.specs.Cells.{UpdatesAt}
-use Rattle.art_operations.specs.Stores.{HasInner}
+use Rattle.art_operations.specs.Held.{HasInner}
 
 -- the inner node under this name is edited so, and nothing else changed
 abbrev pub EditsNode : {K V : Type 0} → Arena K V → Arena K V → Name → (InnerNode → InnerNode) → Type 0

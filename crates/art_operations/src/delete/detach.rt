@@ -3,15 +3,15 @@ ghost use Rattle.std.specs.Prelude.{◌≡◌, ◌≢◌, ◌<◌, ◌≤◌, �
 ghost use Rattle.art_nodes.specs.InnerNode as node;
 ghost use Rattle.art_nodes.specs.InnerNode.{child_at, with_child, without_child, with_children};
 ghost use Rattle.art_nodes.specs.Kind.{row_of, CanShrink};
-ghost use Rattle.art_arena.specs.Arena.{inner_held, HasRoom, SameNodes};
+ghost use Rattle.art_arena.specs.Arena.{inner_held, HasRoom, SameNodes, KeepsRoom, UsesRoom};
 ghost use Rattle.art_arena.specs.Kinds.{IsKindOf, ChangesKind};
 ghost use Rattle.art_arena.specs.Shapes.{Shape, width, leaves};
 ghost use Rattle.art_arena.specs.Shrinks.{Shrinks};
 ghost use Rattle.art_arena.specs.Steps.{steps_of};
 ghost use Rattle.art_operations.specs.DeletePoints.{IsLeafPlace};
-ghost use Rattle.art_operations.specs.inner.Detached.{IsChildLeaf, StandsFor, IsDetached};
+ghost use Rattle.art_operations.specs.inner.Detached.{IsChildLeaf, IsDetached, StandsFor, StoresNodes};
 ghost use Rattle.art_operations.specs.inner.Removals.{EditsNode, Moves, PutsBack};
-ghost use Rattle.art_operations.specs.Stores.{HasInner, KeepsRoom, SameLinks, StoresNodes, UsesRoom};
+ghost use Rattle.art_operations.specs.Held.{HasInner, SameLinks};
 
 use crate::delete::merge::merge;
 use art_arena::{LeafPtr, NodeArena, NodeEdit, TreePath};

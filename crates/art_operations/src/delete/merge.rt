@@ -2,11 +2,12 @@
 ghost use Rattle.std.specs.Prelude.{◌≡◌, ◌≢◌, ◌<◌, ◌+◌, ◌^◌, ℕ, List, ◌∷◌, ◌++◌, Some, None, length, take};
 ghost use Rattle.art_nodes.specs.InnerNode as node;
 ghost use Rattle.art_nodes.specs.Name.{Name};
-ghost use Rattle.art_arena.specs.Arena.{Arena, held_at};
+ghost use Rattle.art_arena.specs.Arena.{Arena, held_at, KeepsRoom};
 ghost use Rattle.art_arena.specs.Cells.{UpdatesAt};
 ghost use Rattle.art_arena.specs.Shapes.{Shape};
 ghost use Rattle.art_operations.specs.inner.Removals.{IsOther, Lengthens};
-ghost use Rattle.art_operations.specs.Stores.{HasInner, KeepsRoom, StoresBehind};
+ghost use Rattle.art_arena.specs.Stores.{StoresBelow};
+ghost use Rattle.art_operations.specs.Held.{HasInner};
 
 use art_arena::{NodeArena, NodeEdit, first_leaf};
 use art_bytes::AsBytes;
@@ -69,7 +70,7 @@ fn prefixes_fit<K: AsBytes, V, const PREFIX_LEN: usize>(
     child: OpaqueNodePtr,
 )
     requires inner { child.kind ≢ NodeType.Leaf }
-    requires behind { (path : List ℕ) × (s : Shape K V) × StoresBehind K.bytes PREFIX_LEN arena.now child path s
+    requires behind { (path : List ℕ) × (s : Shape K V) × StoresBelow K.bytes PREFIX_LEN arena.now child path s
         × (len < length path) }
     ensures { (n : node.InnerNode) → HasInner arena.now child n → len + 1 + n.header.prefix_len < 2 ^ 64 }
 {
@@ -92,7 +93,7 @@ fn lengthen<K: AsBytes, V, const PREFIX_LEN: usize>(
 )
     requires inner { parent.kind ≢ NodeType.Leaf }
     requires held { (n : node.InnerNode) × HasInner arena.old parent n
-        × (path : List ℕ) × (s : Shape K V) × StoresBehind K.bytes PREFIX_LEN arena.old child path s
+        × (path : List ℕ) × (s : Shape K V) × StoresBelow K.bytes PREFIX_LEN arena.old child path s
         × (n.header.prefix_len < length path) }
     ensures lengthens { (n : node.InnerNode) → HasInner arena.old parent n
         → Lengthens PREFIX_LEN arena.old arena.new n byte child }
@@ -117,7 +118,7 @@ pub(crate) fn merge<K: AsBytes, V, const PREFIX_LEN: usize>(
     requires inner { parent.kind ≢ NodeType.Leaf }
     requires two { (n : node.InnerNode) × (other : ℕ × Name) × HasInner arena.old parent n
         × IsOther n.children byte other
-        × (path : List ℕ) × (s : Shape K V) × StoresBehind K.bytes PREFIX_LEN arena.old other.1 path s
+        × (path : List ℕ) × (s : Shape K V) × StoresBelow K.bytes PREFIX_LEN arena.old other.1 path s
         × (n.header.prefix_len < length path) × (other.1 ≢ parent) }
     ensures value { (n : node.InnerNode) (other : ℕ × Name) → HasInner arena.old parent n
         → IsOther n.children byte other → result ≡ other.1 }

@@ -5,7 +5,7 @@ ghost use Rattle.art_arena.specs.Linked.{first_slot, last_slot};
 ghost use Rattle.art_arena.specs.Shapes.{Shape, leaves};
 ghost use Rattle.art_arena.specs.Steps.{steps_of};
 ghost use Rattle.art_operations.specs.DeletePoints.{leaf_of, IsLeafPlace};
-ghost use Rattle.art_operations.specs.Stores.{Stores};
+ghost use Rattle.art_arena.specs.Stores.{Stores};
 
 use art_arena::{ArenaReader, End, LeafPtr, NodeArena, TreePath, end_leaf, find_leaf};
 use art_bytes::AsBytes;

@@ -5,7 +5,8 @@ ghost use Rattle.art_arena.specs.Steps.{steps_of};
 ghost use Rattle.art_operations.specs.Insertions.{IsInserted};
 ghost use Rattle.art_operations.specs.Points.{IsPoint};
 ghost use Rattle.art_operations.specs.declared.insert.point.InsertKind.TheVariants as kind;
-ghost use Rattle.art_operations.specs.Stores.{KeepsRoom, StoresOnly};
+ghost use Rattle.art_arena.specs.Stores.{StoresOnly};
+ghost use Rattle.art_arena.specs.Arena.{KeepsRoom};
 
 use crate::insert::point::InsertPoint;
 use crate::insert::result::{InsertParentNodeChange, InsertResult};

@@ -6,7 +6,7 @@ ghost use Rattle.art_nodes.specs.InnerNode as node;
 ghost use Rattle.art_nodes.specs.InnerNode.{child_at, first_child, children_between};
 ghost use Rattle.art_nodes.specs.Kind.{row_of};
 ghost use Rattle.std.specs.declared.ops.Bound.TheVariants.{Excluded, Unbounded};
-ghost use Rattle.art_arena.specs.Arena.{held_at, inner_held, Allocates, SameNodes, HasRoom};
+ghost use Rattle.art_arena.specs.Arena.{SameNodes, HasRoom, KeepsRoom, UsesRoom};
 ghost use Rattle.art_arena.specs.Context.{Frame, plug, leaves_before, leaves_after};
 ghost use Rattle.art_arena.specs.Kinds.{IsKindOf};
 ghost use Rattle.art_arena.specs.Shapes.{Shape, LeafAt, leaf_at, width};
@@ -16,7 +16,7 @@ ghost use Rattle.art_operations.specs.Points.{IsPoint};
 ghost use Rattle.art_operations.specs.Insertions.{IsInserted};
 ghost use Rattle.art_operations.specs.declared.insert.point.InsertKind.TheVariants as kind;
 ghost use Rattle.art_operations.specs.inner.Waiting.{AwaitsLeaf};
-ghost use Rattle.art_operations.specs.Stores.{HasInner, KeepsRoom, Stores, StoresOnly, UsesRoom};
+ghost use Rattle.art_arena.specs.Stores.{StoresOnly};
 
 use crate::insert::leaf::{store_leaf, take_back};
 use crate::insert::point::InsertPoint;

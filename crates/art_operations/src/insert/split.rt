@@ -4,7 +4,8 @@ ghost use Rattle.std.specs.Prelude.{◌≡◌, ◌≢◌, ◌+◌, ◌<◌, ◌�
 ghost use Rattle.std.specs.Prelude.{IsSome, IsOk, IfOk, OnErr, IfErr};
 ghost use Rattle.art_nodes.specs.declared.kind.NodeType.TheVariants.{Node4};
 ghost use Rattle.art_nodes.specs.declared.leaf.LeafNode as node;
-ghost use Rattle.art_arena.specs.Arena.{held_at, node_at, links_at, Allocates, SameNodes, HasRoom};
+ghost use Rattle.art_arena.specs.Arena.{held_at, node_at, links_at, Allocates, SameNodes, HasRoom, KeepsRoom};
+ghost use Rattle.art_arena.specs.Arena.{SameCells, UsesRoom};
 ghost use Rattle.art_arena.specs.Cells.{Cell, UpdatesAt, leaf_name};
 ghost use Rattle.art_arena.specs.Linked.{AreLinked, IsBeside};
 ghost use Rattle.art_arena.specs.Prefixes.{prefix_of};
@@ -15,8 +16,8 @@ ghost use Rattle.art_operations.specs.inner.Splits.{PartsFrom, trimmed, root_cel
 ghost use Rattle.art_operations.specs.inner.Splits.{split_held, split_node};
 ghost use Rattle.art_operations.specs.Insertions.{IsInserted};
 ghost use Rattle.art_operations.specs.Points.{IsPoint};
-ghost use Rattle.art_operations.specs.Stores.{HasLeaf, KeepsRoom, SameCells, SameLinks, Stores, StoresAt};
-ghost use Rattle.art_operations.specs.Stores.{StoresBehind, StoresOnly, UsesRoom};
+ghost use Rattle.art_arena.specs.Stores.{StoresAt, StoresBelow, StoresOnly};
+ghost use Rattle.art_operations.specs.Held.{HasLeaf, SameLinks};
 
 use crate::insert::leaf::{store_leaf, take_back};
 use crate::insert::point::InsertPoint;
@@ -115,13 +116,13 @@ fn store_nodes<K: AsBytes, V, const PREFIX_LEN: usize>(
 }
 
 // The leaf at one end of a part: the first, or else the last.
-fn end_leaf<K: AsBytes, V, const PREFIX_LEN: usize>(
+fn leaf_at_end<K: AsBytes, V, const PREFIX_LEN: usize>(
     arena: &NodeArena<K, V, PREFIX_LEN>,
     node: OpaqueNodePtr,
     is_first: bool,
 ) -> LeafPtr
-    requires { (path : List ℕ) × (s : Shape K V) × StoresBehind K.bytes PREFIX_LEN arena.now node path s }
-    ensures { (path : List ℕ) (s : Shape K V) → StoresBehind K.bytes PREFIX_LEN arena.now node path s
+    requires { (path : List ℕ) × (s : Shape K V) × StoresBelow K.bytes PREFIX_LEN arena.now node path s }
+    ensures { (path : List ℕ) (s : Shape K V) → StoresBelow K.bytes PREFIX_LEN arena.now node path s
         → IsEnd is_first result (leaves s) }
 {
     if is_first {
@@ -222,7 +223,7 @@ pub(crate) fn split<K: AsBytes, V, const PREFIX_LEN: usize>(
     }
     let depth = point.key_bytes_used;
     let is_before = parted.new_byte < parted.old_byte;
-    let neighbour = end_leaf(arena, old, is_before);
+    let neighbour = leaf_at_end(arena, old, is_before);
     let rest = rest_of_prefix(arena, old, depth, parted.matched);
     let made = store_nodes(arena, old, depth, parted, key, value)?;
     trim(arena, old, rest);

@@ -14,8 +14,8 @@ use Rattle.art_operations.proofs.SplitTrees.{part_subtree, part_at_depth, part_c
 use Rattle.art_operations.proofs.insert.split.split.Goals as goal
 use Rattle.art_operations.proofs.insert.split.split.Goals.{In_ok-made, After-trim, After-link_between}
 
-pub end_leaf-neighbour-requires : goal.end_leaf-neighbour-requires
-end_leaf-neighbour-requires g c =
+pub leaf_at_end-neighbour-requires : goal.leaf_at_end-neighbour-requires
+leaf_at_end-neighbour-requires g c =
     let r = c.requires.tree in
     let at = split_place g.K.AsBytes.bytes (g.K.AsBytes.bytes c.args.key) r.0 c.args.point c.args.old c.args.parted r.2 c.requires.kind in
     (omega arith, (path_to at.ctx, at.part, part_subtree g.K.AsBytes.bytes g.row.PREFIX_LEN r.0 c.args.old c.args.parted c.args.point.key_bytes_used (steps_of c.args.point.path) c.args.key c.args.value at c.args.point.root c.args.arena.now r.1))
@@ -70,16 +70,16 @@ goes_between : (g : _) (c : After-trim g) (s : Shape g.row.K.Denot g.row.V.Denot
     → UpdatesAt (node_at c.store_nodes.new.arena) (node_at c.trim.new.arena) c.args.old (Some (root_cell g.row.PREFIX_LEN (trimmed (c.args.parted.matched + 1) here.part)))
     → (let frame = split_frame g.K.AsBytes.bytes g.row.PREFIX_LEN s c.args.old c.args.parted c.args.point.key_bytes_used (steps_of c.args.point.path) c.args.key c.args.value here (ltb c.args.parted.new_byte c.args.parted.old_byte) c.in_ok-made.made.inner in
     IsBeside (links_at c.trim.new.arena) (leaves_before (frame ∷ here.ctx) ++ leaves_after (frame ∷ here.ctx)) c.in_ok-made.made.leaf
-    × IsBetween (ltb c.args.parted.new_byte c.args.parted.old_byte) c.end_leaf-neighbour.result (leaves_before (frame ∷ here.ctx)) (leaves_after (frame ∷ here.ctx)))
+    × IsBetween (ltb c.args.parted.new_byte c.args.parted.old_byte) c.leaf_at_end-neighbour.result (leaves_before (frame ∷ here.ctx)) (leaves_after (frame ∷ here.ctx)))
 goes_between g c s tree here cell =
     let is_before = ltb c.args.parted.new_byte c.args.parted.old_byte in
-    let end = c.end_leaf-neighbour.ensures (path_to here.ctx) here.part
+    let end = c.leaf_at_end-neighbour.ensures (path_to here.ctx) here.part
     (part_subtree g.K.AsBytes.bytes g.row.PREFIX_LEN s c.args.old c.args.parted c.args.point.key_bytes_used (steps_of c.args.point.path) c.args.key c.args.value here c.args.point.root c.args.arena.now tree) in
     let beside = split_beside g.K.AsBytes.bytes g.row.PREFIX_LEN s c.args.old c.args.parted c.args.point.key_bytes_used (steps_of c.args.point.path) c.args.key c.args.value here c.args.point.root c.args.arena.now tree
     c.in_ok-made.made.leaf c.in_ok-made.made.inner c.store_nodes.new.arena c.in_ok-made.ensures.ok c.trim.new.arena cell c.trim.ensures.links in (
       subst (λ ls. IsBeside (links_at c.trim.new.arena) ls c.in_ok-made.made.leaf)
           (split_leaves g.K.AsBytes.bytes g.row.PREFIX_LEN s c.args.old c.args.parted c.args.point.key_bytes_used (steps_of c.args.point.path) c.args.key c.args.value here is_before c.in_ok-made.made.inner) beside,
-      end_between g.K.AsBytes.bytes g.row.PREFIX_LEN s c.args.old c.args.parted c.args.point.key_bytes_used (steps_of c.args.point.path) c.args.key c.args.value here is_before c.in_ok-made.made.inner c.end_leaf-neighbour.result end,
+      end_between g.K.AsBytes.bytes g.row.PREFIX_LEN s c.args.old c.args.parted c.args.point.key_bytes_used (steps_of c.args.point.path) c.args.key c.args.value here is_before c.in_ok-made.made.inner c.leaf_at_end-neighbour.result end,
     )
 
 pub link_between-requires : goal.link_between-requires
