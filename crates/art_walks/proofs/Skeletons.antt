@@ -57,13 +57,17 @@ module _ {K V : Type 0} where
     split_at at (c ∷ children) names (s ∷ all) e kinds =
         let first : name_of s ≡ c.1 = cc in
         let more : roots_of all ≡ names_of children ++ names = cc in
-        let later = split_at at children names all more kinds.1 in
-        (later.0, later.1, later.2, record {
-          kids = branch c.0 s later.3.kids;
-          children_are = ap₂ (λ (n : Name) (cs : List (ℕ × Name)). (c.0, n) ∷ cs) first later.3.children_are;
-          cells_are = ap (λ xs. cells P s ++ xs) later.3.cells_are ∙ sym (append_assoc (cells P s) (cells_in P later.3.kids) (cells_all later.0));
-          kinds = (kinds.0, later.3.kinds);
-        })
+        let later = split_at at children names all more kinds.1 in (
+          later.0,
+          later.1,
+          later.2,
+          record {
+            kids = branch c.0 s later.3.kids;
+            children_are = ap₂ (λ (n : Name) (cs : List (ℕ × Name)). (c.0, n) ∷ cs) first later.3.children_are;
+            cells_are = ap (λ xs. cells P s ++ xs) later.3.cells_are ∙ sym (append_assoc (cells P s) (cells_in P later.3.kids) (cells_all later.0));
+            kinds = (kinds.0, later.3.kinds);
+          },
+        )
 
   module _ (P : ℕ) (at : Name → Option (Cell K V)) (root : Name) where
     -- a shape that stands below the root, whose cells have these names in order
