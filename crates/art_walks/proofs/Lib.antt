@@ -1,0 +1,4 @@
+pub mod RunSteps
+pub mod Ways
+pub mod Skeletons
+pub mod Fillings

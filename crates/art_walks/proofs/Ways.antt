@@ -1,0 +1,228 @@
+-- Where bytes lead down from the root of a canonical shape: to its parts, and different bytes to different ones. So no fault stands there.
+use Rattle.std.proofs.Common.{◌≡◌, ◌≢◌, ℕ, ◌+◌, ◌<◌, ◌≤◌, cond, List, [], ◌∷◌, ◌++◌, length, Option, Some, None, inl, inr, refl, sym, ap, ap₂, subst, ◌∙◌, arith, true}
+use Rattle.std.proofs.lemmas.Bool.Decides.{eqb_tells}
+use Rattle.art_nodes.specs.Name.{Name}
+use Rattle.art_nodes.specs.InnerNode.{InnerNode, child_at}
+use Rattle.art_arena.specs.Cells.{Cell, pair, branches, copies, same_name, leaf_name}
+use Rattle.art_arena.specs.Kinds.{IsKindOf}
+use Rattle.art_arena.specs.Trees.{Tree}
+use Rattle.art_arena.specs.Shapes.{Shape, Branches, leaf_at, inner_at, no_branch, branch, name_of, children_at, width, join, cells, cells_in, node_of}
+use Rattle.art_arena.specs.Linked.{Links}
+use Rattle.art_arena.specs.Meaning.{IsSubtree, Means}
+use Rattle.art_arena.proofs.CellLists.{copies-append, same_name-self}
+use Rattle.art_arena.proofs.Contexts.{cells_in-join}
+use Rattle.art_arena.proofs.Measures.{nodes_below, nodes_below-held}
+use Rattle.art_arena.proofs.Meanings.{means-subtree}
+use Rattle.art_arena.proofs.Subtrees.{subtree-branch}
+use Rattle.art_walks.specs.declared.malformed.MalformedTreeError.{MalformedTreeError}
+use Rattle.art_walks.specs.declared.malformed.MalformedTreeError.TheVariants.{DeadName, LoopFound, WrongChildrenCount, PrefixMismatch, LeafSiblingWrongOrder, WrongSiblingLinks, EmptyTreeWithLen, Memory}
+use Rattle.art_walks.specs.Faults.{child_in, onward, led_to, HasDeadName, HasLoop, HasWrongCount, Stands, FaultMeansNoTree}
+
+onward-some : (next : Name → Option Name) (o : Option Name) (m : Name) → onward next o ≡ Some m → (c : Name) × (o ≡ Some c) × (next c ≡ Some m)
+onward-some next None m e = absurd (cc)
+onward-some next (Some c) m e = (c, refl, e)
+
+module _ {K V : Type 0} where
+  -- a branch under this byte to a child of this name
+  pub record HasBranch (kids : Branches K V) (byte : ℕ) (c : Name) : Type 0 where
+    pub before : Branches K V
+    pub child : Shape K V
+    pub after : Branches K V
+    pub whole : kids ≡ join before (branch byte child after)
+    pub named : name_of child ≡ c
+
+  branch_of : (kids : Branches K V) (byte : ℕ) (c : Name) → child_at (children_at kids) byte ≡ Some c → HasBranch kids byte c
+  branch_of no_branch byte c e = absurd (cc)
+  branch_of (branch b s rest) byte c e = elim (eqb_tells b byte) [
+    | inl same ↦
+        let here : Some (name_of s) ≡ Some c = rw same.0 at e in
+        record { before = no_branch; child = s; after = rest; whole = ap (λ x. branch x s rest) same.1; named = (cc) }
+    | inr other ↦
+        let later = branch_of rest byte c (rw other.0 at e) in
+        record { before = branch b s later.before; child = later.child; after = later.after; whole = ap (λ f. branch b s f) later.whole; named = later.named }
+  ]
+
+  same_kids : (n : Name) (p q : List ℕ) (f g : Branches K V) → inner_at n p f ≡ inner_at n q g → f ≡ g
+  same_kids n p q f g e = cc
+
+  width-children : (kids : Branches K V) → length (children_at kids) ≡ width kids
+  width-children no_branch = refl
+  width-children (branch b s rest) = omega (arith, width-children rest)
+
+  module _ (P : ℕ) (m : Name) where
+    one_part : (f before : Branches K V) (b : ℕ) (t : Shape K V) (after : Branches K V) → f ≡ join before (branch b t after) → copies m (cells P t) ≤ copies m (cells_in P f)
+    one_part f before b t after whole =
+        let parts : cells_in P f ≡ cells_in P before ++ (cells P t ++ cells_in P after) = ap (cells_in P) whole ∙ cells_in-join P before (branch b t after) in
+        let counted : copies m (cells_in P f) ≡ copies m (cells_in P before) + copies m (cells P t ++ cells_in P after) = ap (copies m) parts ∙ copies-append m (cells_in P before) (cells P t ++ cells_in P after) in
+        omega (arith, counted, copies-append m (cells P t) (cells_in P after))
+
+    -- two branches under different bytes are two
+    two_parts : (f : Branches K V) (a b : ℕ) (before : Branches K V) (t : Shape K V) (after before' : Branches K V) (u : Shape K V) (after' : Branches K V)
+        → f ≡ join before (branch a t after) → f ≡ join before' (branch b u after') → a ≢ b
+        → copies m (cells P t) + copies m (cells P u) ≤ copies m (cells_in P f)
+    two_parts no_branch a b no_branch t after before' u after' e e' apart = absurd (cc)
+    two_parts no_branch a b (branch x s before) t after before' u after' e e' apart = absurd (cc)
+    two_parts (branch y r rest) a b no_branch t after no_branch u after' e e' apart = absurd (apart (cc))
+    two_parts (branch y r rest) a b no_branch t after (branch x s before') u after' e e' apart =
+        let same : r ≡ t = cc in
+        let more : rest ≡ join before' (branch b u after') = cc in
+        omega (arith, one_part rest before' b u after' more, ap (λ z. copies m (cells P z)) same, copies-append m (cells P r) (cells_in P rest))
+    two_parts (branch y r rest) a b (branch x s before) t after no_branch u after' e e' apart =
+        let same : r ≡ u = cc in
+        let more : rest ≡ join before (branch a t after) = cc in
+        omega (arith, one_part rest before a t after more, ap (λ z. copies m (cells P z)) same, copies-append m (cells P r) (cells_in P rest))
+    two_parts (branch y r rest) a b (branch x s before) t after (branch x' s' before') u after' e e' apart =
+        let more : rest ≡ join before (branch a t after) = cc in
+        let more' : rest ≡ join before' (branch b u after') = cc in
+        omega (arith, two_parts rest a b before t after before' u after' more more' apart, copies-append m (cells P r) (cells_in P rest))
+
+    here_once : (s : Shape K V) → name_of s ≡ m → 1 ≤ copies m (cells P s)
+    here_once (leaf_at slot k v) e =
+        let one : ◌≡◌ {A = ℕ} (copies m (cells P (leaf_at slot k v))) (1 + 0) = ap (λ b. cond b 1 0 + 0) (subst (λ q. same_name q (leaf_name slot) ≡ true) e (same_name-self (leaf_name slot))) in
+        omega (arith, one)
+    here_once (inner_at n prefix kids) e =
+        let one : ◌≡◌ {A = ℕ} (copies m (cells P (inner_at n prefix kids))) (1 + copies m (cells_in P kids)) = ap (λ b. cond b 1 0 + copies m (cells_in P kids)) (subst (λ q. same_name q n ≡ true) e (same_name-self n)) in
+        omega (arith, one)
+
+module _ {K V : Type 0} (bytes : K → List ℕ) (P : ℕ) (at : Name → Option (Cell K V)) where
+  -- the root of a subtree goes on by this byte to this child
+  pub record GoesOn (n : Name) (path : List ℕ) (s : Shape K V) (byte : ℕ) (c : Name) : Type 0 where
+    pub prefix : List ℕ
+    pub kids : Branches K V
+    pub is : s ≡ inner_at n prefix kids
+    pub has : HasBranch kids byte c
+    pub below : IsSubtree bytes P at c ((path ++ prefix) ++ byte ∷ []) has.child
+    pub fewer : length (cells P has.child) < length (cells P s)
+
+  goes_on : (n : Name) (path : List ℕ) (s : Shape K V) → IsSubtree bytes P at n path s → (byte : ℕ) (c : Name) → child_in (at n) byte ≡ Some c → GoesOn n path s byte c
+  goes_on n path (leaf_at slot k v) sub byte c e =
+      let there : at n ≡ Some (pair k v) = ap at (sym sub.part.named) ∙ sub.part.held.0 in
+      let none : None ≡ Some c = sym (ap (λ o. child_in o byte) there) ∙ e in absurd (cc)
+  goes_on n path (inner_at m prefix kids) sub byte c e =
+      let there : at n ≡ Some (node_of P prefix (children_at kids)) = ap at (sym sub.part.named) ∙ sub.part.held.0 in
+      let found : child_at (children_at kids) byte ≡ Some c = sym (ap (λ o. child_in o byte) there) ∙ e in
+      let has = branch_of kids byte c found in
+      let below = subtree-branch bytes P at m path prefix kids has.before byte has.child has.after (record { part = record { named = refl; held = sub.part.held; once = sub.part.once }; under = sub.under }) has.whole in
+      record {
+        prefix = prefix;
+        kids = kids;
+        is = ap (λ x. inner_at x prefix kids) sub.part.named;
+        has = has;
+        below = subst (λ x. IsSubtree bytes P at x ((path ++ prefix) ++ byte ∷ []) has.child) has.named below.subtree;
+        fewer = below.fewer;
+      }
+
+  -- a subtree of the arena below this name, which is a part of a shape
+  pub record IsLed (s : Shape K V) (m : Name) : Type 0 where
+    pub path : List ℕ
+    pub part : Shape K V
+    pub subtree : IsSubtree bytes P at m path part
+    pub within : length (cells P part) ≤ length (cells P s)
+    pub counted : (q : Name) → copies q (cells P part) ≤ copies q (cells P s)
+
+  counted_below : (n : Name) (path : List ℕ) (s : Shape K V) (byte : ℕ) (c : Name) (on : GoesOn n path s byte c) (q : Name) → copies q (cells P on.has.child) ≤ copies q (cells P s)
+  counted_below n path s byte c on q =
+      let one = one_part P q on.kids on.has.before byte on.has.child on.has.after on.has.whole in
+      let all : copies q (cells P s) ≡ copies q (cells P (inner_at n on.prefix on.kids)) = ap (λ z. copies q (cells P z)) on.is in
+      omega (arith, one, all)
+
+  pub led : (way : List ℕ) (n : Name) (path : List ℕ) (s : Shape K V) → IsSubtree bytes P at n path s → (m : Name) → led_to at n way ≡ Some m → IsLed s m
+  led [] n path s sub m e =
+      let same : n ≡ m = cc in
+      record { path = path; part = s; subtree = subst (λ x. IsSubtree bytes P at x path s) same sub; within = omega arith; counted = λ q. omega arith }
+  led (byte ∷ way) n path s sub m e =
+      let next = onward-some (λ child. led_to at child way) (child_in (at n) byte) m e in
+      let on = goes_on n path s sub byte next.0 next.1 in
+      let later = led way next.0 _ on.has.child on.below m next.2 in
+      record {
+        path = later.path;
+        part = later.part;
+        subtree = later.subtree;
+        within = (let a = later.within in let b = on.fewer in omega (arith, a, b));
+        counted = λ q. let a = later.counted q in let b = counted_below n path s byte next.0 on q in omega (arith, a, b);
+      }
+
+  -- all subtrees below one name have as many nodes
+  same_size : (n : Name) (p q : List ℕ) (s t : Shape K V) → IsSubtree bytes P at n p s → IsSubtree bytes P at n q t → length (cells P t) ≤ length (cells P s) → length (cells P t) ≡ length (cells P s)
+  same_size n p q s t a b low =
+      sym (nodes_below-held P at (length (cells P s)) t b.part.held low)
+      ∙ ap (nodes_below (length (cells P s)) at) (b.part.named ∙ sym a.part.named)
+      ∙ nodes_below-held P at (length (cells P s)) s a.part.held (omega arith)
+
+  -- a way down doesn't come back
+  no_return : (n : Name) (path : List ℕ) (s : Shape K V) → IsSubtree bytes P at n path s → (byte : ℕ) (way : List ℕ) → led_to at n (byte ∷ way) ≡ Some n → ⊥
+  no_return n path s sub byte way e =
+      let next = onward-some (λ child. led_to at child way) (child_in (at n) byte) n e in
+      let on = goes_on n path s sub byte next.0 next.1 in
+      let later = led way next.0 _ on.has.child on.below n next.2 in
+      let within = later.within in
+      let fewer = on.fewer in
+      let same = same_size n path later.path s later.part sub later.subtree (omega (arith, within, fewer)) in
+      omega (arith, within, fewer, same)
+
+  -- different ways lead to different names
+  pub no_loop : (v w : List ℕ) (n : Name) (path : List ℕ) (s : Shape K V) → IsSubtree bytes P at n path s → (m : Name) → led_to at n v ≡ Some m → led_to at n w ≡ Some m → v ≢ w → ⊥
+  no_loop [] [] n path s sub m e f apart = apart refl
+  no_loop [] (b ∷ w) n path s sub m e f apart = let same : m ≡ n = cc in no_return n path s sub b w (f ∙ ap Some same)
+  no_loop (a ∷ v) [] n path s sub m e f apart = let same : m ≡ n = cc in no_return n path s sub a v (e ∙ ap Some same)
+  no_loop (a ∷ v) (b ∷ w) n path s sub m e f apart =
+      let next = onward-some (λ child. led_to at child v) (child_in (at n) a) m e in
+      let next' = onward-some (λ child. led_to at child w) (child_in (at n) b) m f in
+      elim (eqb_tells a b) [
+        | inl same ↦
+            let child : Some next.0 ≡ Some next'.0 = sym next.1 ∙ ap (child_in (at n)) same.1 ∙ next'.1 in
+            let one : next.0 ≡ next'.0 = cc in
+            let on = goes_on n path s sub a next.0 next.1 in
+            no_loop v w next.0 _ on.has.child on.below m next.2 (ap (λ c. led_to at c w) one ∙ next'.2) (λ g. apart (ap₂ (λ x y. x ∷ y) same.1 g))
+        | inr other ↦ elsewhere n path s sub m a b next.0 next'.0 (goes_on n path s sub a next.0 next.1) (goes_on n path s sub b next'.0 next'.1) other.1
+            (λ path t below. led v next.0 path t below m next.2) (λ path t below. led w next'.0 path t below m next'.2)
+      ]
+    where
+      -- one name below two different children
+      elsewhere : (n : Name) (path : List ℕ) (s : Shape K V) → IsSubtree bytes P at n path s → (m : Name) (a b : ℕ) (c d : Name) → GoesOn n path s a c → GoesOn n path s b d → a ≢ b
+          → ((path : List ℕ) (t : Shape K V) → IsSubtree bytes P at c path t → IsLed t m) → ((path : List ℕ) (t : Shape K V) → IsSubtree bytes P at d path t → IsLed t m) → ⊥
+      elsewhere n path s sub m a b c d on on' apart lead lead' =
+          let l = lead _ on.has.child on.below in
+          let l' = lead' _ on'.has.child on'.below in
+          let kids : on'.kids ≡ on.kids = same_kids n on'.prefix on.prefix on'.kids on.kids (sym on'.is ∙ on.is) in
+          let both = two_parts P m on.kids a b on.has.before on.has.child on.has.after on'.has.before on'.has.child on'.has.after on.has.whole (sym kids ∙ on'.has.whole) apart in
+          let once = sub.part.once m in
+          let all : copies m (cells P s) ≡ copies m (cells P (inner_at n on.prefix on.kids)) = ap (λ z. copies m (cells P z)) on.is in
+          omega (arith, both, once, all, here_once P m l.part l.subtree.part.named, here_once P m l'.part l'.subtree.part.named, l.counted m, l'.counted m)
+
+  -- what is held at the end of a way is of its kind
+  pub right_count : (n : Name) (path : List ℕ) (s : Shape K V) → IsSubtree bytes P at n path s → (node : InnerNode) → at n ≡ Some (branches node) → IsKindOf n.kind (length node.children)
+  right_count n path (leaf_at slot k v) sub node e =
+      let there : at n ≡ Some (pair k v) = ap at (sym sub.part.named) ∙ sub.part.held.0 in
+      let both : Some (pair k v) ≡ Some (branches node) = sym there ∙ e in absurd (cc)
+  right_count n path (inner_at m prefix kids) sub node e =
+      let there : at n ≡ Some (node_of P prefix (children_at kids)) = ap at (sym sub.part.named) ∙ sub.part.held.0 in
+      let both : Some (node_of P prefix (children_at kids)) ≡ Some (branches node) = sym there ∙ e in
+      let cells_same : node_of P prefix (children_at kids) ≡ branches node = cc in
+      let same : children_at kids ≡ node.children = ap children_in cells_same in
+      subst (λ (x : Name). IsKindOf x.kind (length node.children)) sub.part.named (subst (IsKindOf m.kind) (sym (width-children kids) ∙ ap length same) sub.under.0)
+    where
+      children_in : Cell K V → List (ℕ × Name)
+      children_in (pair k v) = []
+      children_in (branches node) = node.children
+
+  pub held_at_root : (n : Name) (path : List ℕ) (s : Shape K V) → IsSubtree bytes P at n path s → at n ≡ None → ⊥
+  held_at_root n path (leaf_at slot k v) sub dead = let there = sym dead ∙ ap at (sym sub.part.named) ∙ sub.part.held.0 in cc
+  held_at_root n path (inner_at m prefix kids) sub dead = let there = sym dead ∙ ap at (sym sub.part.named) ∙ sub.part.held.0 in cc
+
+  module _ (links_of : ℕ → Option Links) (root : Name) (tree : Tree (K × V)) (means : Means bytes P at root links_of tree) where
+    abbrev sub : IsSubtree bytes P at root [] means.shape
+    sub = means-subtree bytes P at root links_of tree means
+
+    excluded : (fault : MalformedTreeError) → Stands bytes P at links_of root fault → fault ≡ Memory
+    excluded DeadName h = let l = led h.way root [] means.shape sub h.name h.leads in absurd (held_at_root h.name l.path l.part l.subtree h.dead)
+    excluded LoopFound h = absurd (no_loop h.way h.other root [] means.shape sub h.name h.leads h.leads_too h.apart)
+    excluded WrongChildrenCount h = let l = led h.way root [] means.shape sub h.name h.leads in absurd (h.wrong (right_count h.name l.path l.part l.subtree h.node h.held))
+    excluded PrefixMismatch h = absurd (h.none means.shape sub)
+    excluded LeafSiblingWrongOrder h = absurd (h.links.none means.shape sub means.linked)
+    excluded WrongSiblingLinks h = absurd (h.none means.shape sub means.linked)
+    excluded EmptyTreeWithLen h = absurd h
+    excluded Memory h = refl
+
+pub fault_means_no_tree : (K V : Type 0) → FaultMeansNoTree K V
+fault_means_no_tree K V bytes P at links root t means fault stands = excluded bytes P at links root t means fault stands

@@ -1,0 +1,13 @@
+//! Walks along the linked leaves of an arena, and what a check of the tree below a name tells.
+//! The layer above uses that a walk is a run of neighbouring leaves, from which calls take the first or the last.
+//! The definitions stand in `specs/`.
+#![tactic(auto)]
+
+pub mod laws;
+mod malformed;
+mod raw_iterator;
+mod stats;
+
+pub use malformed::MalformedTreeError;
+pub use raw_iterator::RawIterator;
+pub use stats::WellFormedTreeStats;

@@ -1,0 +1,33 @@
+//! Why what stands below a name is no canonical tree.
+
+use thiserror::Error;
+
+/// Why what stands below a name is no canonical tree with its leaves linked in order. Where several faults stand, any of
+/// them is told, save that a fault of links is told only where no other stands.
+#[derive(Clone, Copy, PartialEq, Eq, Debug, Error)]
+pub enum MalformedTreeError {
+    /// A name below the root isn't held.
+    #[error("a name below the root isn't held")]
+    DeadName,
+    /// A name is met twice on the ways down from the root. Nothing below the second meeting counts as a fault.
+    #[error("a name below the root is met twice")]
+    LoopFound,
+    /// A node has fewer or more children than a node of its kind has.
+    #[error("a node's number of children is not one of its kind")]
+    WrongChildrenCount,
+    /// A leaf's key doesn't begin with the prefixes and the child bytes above it, or a header stores another byte.
+    #[error("a key doesn't begin with the bytes above it, or a stored byte differs")]
+    PrefixMismatch,
+    /// A leaf's next name is a leaf of this tree without a greater key.
+    #[error("a leaf is linked to one that doesn't come after it")]
+    LeafSiblingWrongOrder,
+    /// The links of the leaves aren't the leaves in order with open ends.
+    #[error("the links are not the leaves in order with open ends")]
+    WrongSiblingLinks,
+    /// There is no root, but a length other than 0.
+    #[error("there is no root, but a length other than 0")]
+    EmptyTreeWithLen,
+    /// No memory was found for the set of names that were seen.
+    #[error("no memory for the names that were seen")]
+    Memory,
+}

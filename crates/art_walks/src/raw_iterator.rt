@@ -1,0 +1,88 @@
+//! A run of neighbours among linked leaves, by the names of its first and its last leaf.
+ghost use Rattle.std.specs.Prelude.{◌≡◌, ℕ, List, [], ◌∷◌, ◌++◌, Some, None};
+ghost use Rattle.art_arena.specs.Arena.{links_at};
+ghost use Rattle.art_arena.specs.Shapes.{LeafAt};
+ghost use Rattle.art_walks.specs.Runs.{IsWalk};
+
+use art_arena::{LeafPtr, NodeArena};
+use art_nodes::LeafNode;
+use std::marker::Model;
+
+/// A run of neighbours among the linked leaves of an arena, which may be empty. It borrows nothing, and each call names
+/// the arena.
+#[derive(Clone, Copy, Debug)]
+pub struct RawIterator {
+    ends: Option<(LeafPtr, LeafPtr)>,
+}
+
+impl Model for RawIterator {
+    ghost use Rattle.art_walks.specs.Runs.{Ends};
+
+    ghost Value = { Ends };
+
+    ghost view = { λ walk. walk.ends };
+
+    ghost inverse = { λ ends. record { ends = ends } };
+}
+
+impl RawIterator {
+    /// The empty run.
+    pub fn empty() -> Self
+        ensures { result ≡ None }
+    {
+        RawIterator { ends: None }
+    }
+
+    /// The run from one leaf to another, which doesn't come before it in their list.
+    pub fn new(start: LeafPtr, end: LeafPtr) -> Self
+        ensures { result ≡ Some (start, end) }
+    {
+        RawIterator {
+            ends: Some((start, end)),
+        }
+    }
+
+    /// The first leaf of the run, which goes on behind it, or `None` where the run is empty, as it then stays.
+    pub fn next<K, V, const PREFIX_LEN: usize>(
+        &mut self,
+        arena: &NodeArena<K, V, PREFIX_LEN>,
+    ) -> Option<LeafPtr>
+        requires { ∥ ((ys : List (LeafAt K V)) × IsWalk (links_at arena.now) self.old ys) ∥₁ }
+        ensures first { (l : LeafAt K V) (ys : List (LeafAt K V)) → IsWalk (links_at arena.now) self.old (l ∷ ys)
+            → (result ≡ Some l.slot) × IsWalk (links_at arena.now) self.new ys }
+        ensures end { self.old ≡ None → (result ≡ None) × (self.new ≡ None) }
+    {
+        let (first, last) = self.ends?;
+        if first == last {
+            self.ends = None;
+            return Some(first);
+        }
+        match arena.as_ref::<LeafNode<K, V>>(first).next() {
+            Some(next) => self.ends = Some((next, last)),
+            None => unreachable!(),
+        }
+        Some(first)
+    }
+
+    /// The last leaf of the run, which then ends before it, or `None` where the run is empty, as it then stays.
+    pub fn next_back<K, V, const PREFIX_LEN: usize>(
+        &mut self,
+        arena: &NodeArena<K, V, PREFIX_LEN>,
+    ) -> Option<LeafPtr>
+        requires { ∥ ((ys : List (LeafAt K V)) × IsWalk (links_at arena.now) self.old ys) ∥₁ }
+        ensures last { (l : LeafAt K V) (ys : List (LeafAt K V)) → IsWalk (links_at arena.now) self.old (ys ++ l ∷ [])
+            → (result ≡ Some l.slot) × IsWalk (links_at arena.now) self.new ys }
+        ensures end { self.old ≡ None → (result ≡ None) × (self.new ≡ None) }
+    {
+        let (first, last) = self.ends?;
+        if first == last {
+            self.ends = None;
+            return Some(last);
+        }
+        match arena.as_ref::<LeafNode<K, V>>(last).previous() {
+            Some(previous) => self.ends = Some((first, previous)),
+            None => unreachable!(),
+        }
+        Some(last)
+    }
+}
