@@ -1,12 +1,12 @@
 -- A worked example beside each definition, computed by the checker.
-use Rattle.std.proofs.Common.{◌≡◌, ℕ, List, [], ◌∷◌, ◌++◌, refl, false, true, negsuc, lit<, lit≤}
+use Rattle.std.proofs.Common.{◌≡◌, ℕ, ◌<◌, List, [], ◌∷◌, ◌++◌, refl, false, true, negsuc, lit<, lit≤, arith}
 use Rattle.std.specs.Prelude.{codes, flat_map, replicate, Some, None, IsTrue}
 use Rattle.art_index.specs.Lines.{lines_of, whole_lines_of, unfinished_line_of, lines_so_far}
 use Rattle.art_index.specs.Words.{name, natural, signed, bytes, shown, line_of}
 use Rattle.art_index.specs.Commands.{put, get, of_tenant, dump, Spells}
 use Rattle.art_index.specs.Reading.{command_of, tenant_in, bytes_in}
 use Rattle.art_index.specs.Keys.{is_below, conflicts, full_key}
-use Rattle.art_index.specs.Records.{KeyRecord, Records, no_records, own, with_own}
+use Rattle.art_index.specs.Records.{KeyRecord, KeyFits, Records, no_records, own, with_own}
 use Rattle.art_index.specs.Replies.{reply_to, records_after, dump_of}
 use Rattle.art_index.specs.Refusals.{LineMayRefuse}
 use Rattle.art_index.specs.Outcome.{outcome_of, IsLawful}
@@ -229,3 +229,8 @@ line-cut_at_once = record {
   told = record { begun = []; missing = codes "new" ++ 10 ∷ []; is_cut = λ e. cc; parts = refl; told = refl };
   left = refl;
 }
+
+-- Records: a key is bytes, so that no record has 256 in its key.
+
+no_record-256 : KeyFits (record { tenant = 1; key = 256 ∷ []; value = [] }) → ⊥
+no_record-256 h = let first : 256 < 256 = h.key_fits 0 in omega arith

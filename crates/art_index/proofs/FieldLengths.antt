@@ -1,32 +1,18 @@
 -- How long a field is beside what it is read as.
-use Rattle.std.proofs.Common.{◌≡◌, ℕ, ◌*◌, ◌^◌, ◌<◌, ◌≤◌, List, [], ◌∷◌, ◌++◌, length, refl, ap, sym, ◌∙◌, arith, length-append}
-use Rattle.std.specs.Prelude.{decimal, map}
+use Rattle.std.proofs.Common.{◌≡◌, ℕ, ◌*◌, ◌^◌, ◌<◌, ◌≤◌, List, [], ◌∷◌, length, refl, ap, sym, ◌∙◌, arith, length-append}
+use Rattle.std.specs.Prelude.{map}
 use Rattle.std.specs.List.{join_with_byte}
 use Rattle.hex.specs.Hex.{encode_with, encode_lower, IsBytes}
 use Rattle.art_index.specs.Words.{Word, name, natural, signed, bytes, shown, Reads, text_of}
 use Rattle.hex.proofs.HexLemmas.{decode_of-ok}
 use Rattle.std.proofs.lemmas.List.Splits.{join_with_byte-slice_split}
-use Rattle.art_index.specs.Commands.{Command, of_tenant, put, put_words, words_of, AllRead, fields_of, Spells}
+use Rattle.art_index.specs.Commands.{Command, of_tenant, put, words_of, AllRead, fields_of, Spells}
 use Rattle.art_index.specs.Records.{KeyFits}
 
 length-encode : (bs : List ℕ) → length (encode_lower bs) ≡ 2 * length bs
 unfolding encode_with
 length-encode [] = refl
 length-encode (b ∷ bs) = let ih = length-encode bs in omega arith
-
-length-shown : (bs : List ℕ) → length bs ≤ length (shown (bytes bs))
-length-shown [] = omega arith
-length-shown (b ∷ bs) = let twice = length-encode (b ∷ bs) in omega arith
-
--- a key is no longer than the line that puts a value at it
-pub key_short : (t : ℕ) (k v : List ℕ) → length (text_of (put_words t k v)) ≤ 4096 → length k ≤ 4096
-key_short t k v h =
-    let shown_key : List ℕ = shown (bytes k) in
-    let behind : List ℕ = 32 ∷ shown (bytes v) in
-    let one = length-append (decimal t) (32 ∷ (shown_key ++ behind)) in
-    let two = length-append shown_key behind in
-    let low = length-shown k in
-    omega arith
 
 length-read : (field : List ℕ) (w : Word) → Reads field w → length (shown w) ≡ length field
 length-read field (name text) h = ap length (sym h)

@@ -1,11 +1,13 @@
 -- What was written and what is held where a run ends by a fault.
 use Rattle.std.specs.Prelude.{◌≡◌, ℕ, suc, ◌≤◌, ◌≢◌, Bool, true, List, [], ◌++◌, length, take}
+use Rattle.std.specs.Prelude.{Result, OnOk, OnErr, is_err}
 use Rattle.art_index.specs.Lines.{whole_lines_of}
 use Rattle.art_index.specs.Records.{Records}
 use Rattle.art_index.specs.Refusals.{LineMayRefuse}
 use Rattle.art_index.specs.Outcome.{answer, left_by, outcome_of, IsLawful, IsOutcome}
 
--- After a failed read, all whole lines of the text were answered, and nothing else: an unfinished line is not carried out.
+-- After a failed read, all whole lines of the text were answered, and nothing else: an unfinished line is not carried
+-- out.
 abbrev pub AfterReadFault : Records → List ℕ → List ℕ → Records → Type 0
 AfterReadFault start text written now = IsOutcome start (whole_lines_of text) written now
 
@@ -30,6 +32,12 @@ pub record IsCut (before after text : List ℕ) : Type 0 where
   pub is_cut : missing ≢ []
   pub parts : begun ++ missing ≡ text
   pub told : after ≡ before ++ begun
+
+-- What a writer of a text says: it was taken whole, or a write failed, and a beginning was taken that is not all of it.
+pub record Writes {T E : Type 0} (result : Result T E) (before after text : List ℕ) (has_failed : Bool) : Type 0 where
+  pub ok : OnOk result (after ≡ before ++ text)
+  pub cut : OnErr result (IsCut before after text)
+  pub failed : is_err result ≡ has_failed
 
 -- A line was carried out, and its answer was cut.
 pub record IsCutLine (old : Records) (line before after : List ℕ) (new : Records) : Type 0 where

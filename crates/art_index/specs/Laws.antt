@@ -16,7 +16,8 @@ OthersAreUntouched = (other tenant : ℕ) (mine : Own) (records : Records) → o
 
 -- what a tenant holds, put in place again, changes nothing
 abbrev pub OwnIsInPlace : Type 0
-OwnIsInPlace = (tenant : ℕ) (records : Records) → AreRecords records → with_own tenant (own tenant records) records ≡ records
+OwnIsInPlace = (tenant : ℕ) (records : Records) → AreRecords records
+    → with_own tenant (own tenant records) records ≡ records
 
 -- what is read of a line is the command that it spells, and nothing is read where it spells none
 abbrev pub ReadingIsSpelling : Type 0

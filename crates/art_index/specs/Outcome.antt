@@ -54,7 +54,8 @@ outcome_of records lines refused = record {
 unfoldable pub IsLawful : Records → List (List ℕ) → List ℕ → Type 0
 IsLawful records lines refused = IsLawfulFrom 0 records lines refused
 
--- From the records at the start, some lines were answered by this and left these records, for some lawful refused positions.
+-- From the records at the start, some lines were answered by this and left these records, for some lawful refused
+-- positions.
 pub record IsOutcome (start : Records) (lines : List (List ℕ)) (written : List ℕ) (now : Records) : Type 0 where
   pub refused : List ℕ
   pub lawful : IsLawful start lines refused

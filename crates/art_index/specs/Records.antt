@@ -66,8 +66,8 @@ abbrev pub InOrder : {X : Type 0} → (X → X → Type 0) → List X → Type 0
 InOrder Before [] = Unit {0}
 InOrder Before (x ∷ xs) = AllByRecursion (Before x) xs × InOrder Before xs
 
--- A value under a tenant's key as an index may hold it: the tenant is below 2 ^ 32, key and value are bytes, and the line
--- that would make the record has at most 4,096 bytes.
+-- A value under a tenant's key as an index may hold it: the tenant is below 2 ^ 32, key and value are bytes, and the
+-- line that would make the record has at most 4,096 bytes.
 pub record KeyFits (r : KeyRecord) : Type 0 where
   pub tenant_fits : r.tenant < 2 ^ 32
   pub key_fits : IsBytes r.key

@@ -1,5 +1,6 @@
 -- The reply to a line, and the records after it.
-use Rattle.std.specs.Prelude.{ℕ, ◌+◌, not, Bool, true, false, if◌then◌else◌, List, [], ◌∷◌, ◌++◌, length, map, filter, flat_map, codes, Option, Some, None, option_map}
+use Rattle.std.specs.Prelude.{ℕ, ◌+◌, not, Bool, true, false, if◌then◌else◌, List, [], ◌∷◌, ◌++◌}
+use Rattle.std.specs.Prelude.{length, map, filter, flat_map, codes, Option, Some, None, option_map}
 use Rattle.std.specs.List.{list_any, find}
 use Rattle.std.specs.Str.{bytes_eq}
 use Rattle.art_index.specs.Words.{Word, name, natural, bytes, line_of}
@@ -69,7 +70,8 @@ with_changed tenant (Some mine) records = with_own tenant mine records
 -- the records after a command
 abbrev pub command_after : Option Command → Records → Records
 command_after None records = records
-command_after (Some (of_tenant tenant request)) records = with_changed tenant (own_after request (own tenant records)) records
+command_after (Some (of_tenant tenant request)) records =
+    with_changed tenant (own_after request (own tenant records)) records
 command_after (Some dump) records = records
 
 -- the reply to a line

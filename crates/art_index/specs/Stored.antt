@@ -1,5 +1,6 @@
 -- What the entries of an index stand for, and what its parts say of them.
-use Rattle.std.specs.Prelude.{◌≡◌, ℕ, ◌<◌, ◌≤◌, ◌==◌, ◌&&◌, Bool, true, false, List, [], ◌∷◌, length, map, take, drop, codes}
+use Rattle.std.specs.Prelude.{◌≡◌, ℕ, ◌<◌, ◌≤◌, ◌==◌, ◌&&◌, Bool, true, false, List, [], ◌∷◌}
+use Rattle.std.specs.Prelude.{length, map, take, drop, codes}
 use Rattle.std.specs.Int.{from_be_bytes, w32}
 use Rattle.std.specs.List.{AllByRecursion, HoldsAt}
 use Rattle.std.specs.declared.cmp.Ordering.{Ordering}
@@ -17,7 +18,11 @@ use Rattle.art_index.specs.Replies.{own_reply, own_after, with_changed}
 
 -- the record of an entry: its tenant is the first four bytes of the full key, its key the others
 abbrev pub record_of : Entry → KeyRecord
-record_of e = record { tenant = from_be_bytes w32 (take 4 e.key.items); key = drop 4 e.key.items; value = e.value.items }
+record_of e = record {
+  tenant = from_be_bytes w32 (take 4 e.key.items);
+  key = drop 4 e.key.items;
+  value = e.value.items;
+}
 
 -- the records of some entries
 abbrev pub records_of : List Entry → Records

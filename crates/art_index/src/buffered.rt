@@ -1,4 +1,5 @@
-//! Standard input and output, joined so that replies leave in large writes, and are out before more input is waited for.
+//! Standard input and output, joined so that replies leave in large writes, and are out before more input is waited
+//! for.
 ghost use Rattle.std.specs.Prelude.{◌≤◌};
 
 use std::cell::RefCell;
@@ -12,7 +13,7 @@ const ROOM: usize = 65_536;
 #[derive(Drop)]
 pub(crate) struct Buffer {
     stdout: Stdout,
-    bytes: [u8; 65_536],
+    bytes: [u8; ROOM],
     len: usize,
     failed: bool,
     ghost fits: { len ≤ 65_536 },

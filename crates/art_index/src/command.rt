@@ -12,7 +12,7 @@ mod shapes;
 pub(crate) mod word;
 
 use arrayvec::ArrayVec;
-use fields::Fields;
+use fields::{FIELD, Fields};
 use shapes::{read_key, read_key_and_value, split_field};
 use word::{Change, LookUp, Shape, Whole, Word, word_of};
 
@@ -25,13 +25,13 @@ pub enum Command {
     /// `put t k v`: puts a value at a tenant's key.
     Put {
         tenant: u32,
-        key: ArrayVec<u8, 2045>,
-        value: ArrayVec<u8, 2045>,
+        key: ArrayVec<u8, FIELD>,
+        value: ArrayVec<u8, FIELD>,
     },
     /// `get t k`: asks for the value at a tenant's key.
     Get {
         tenant: u32,
-        key: ArrayVec<u8, 2045>,
+        key: ArrayVec<u8, FIELD>,
     },
     /// `dump`: asks for all records.
     Dump,
@@ -68,7 +68,7 @@ fn command_of_fields(word: Word, fields: &Fields) -> Command
 }
 
 /// A field's bytes as a vector.
-fn bytes_of(field: &[u8]) -> ArrayVec<u8, 2045>
+fn bytes_of(field: &[u8]) -> ArrayVec<u8, FIELD>
     requires { length field.now ≤ 2045 }
     ensures { result.items ≡ field.now }
 {
@@ -77,8 +77,8 @@ fn bytes_of(field: &[u8]) -> ArrayVec<u8, 2045>
     bytes
 }
 
-/// Reads a line in place: the word that it begins with, and into `fields` what stands behind that, or None where the line
-/// spells no command.
+/// Reads a line in place: the word that it begins with, and into `fields` what stands behind that, or None where the
+/// line spells no command.
 pub(crate) fn read_line(line: &[u8], fields: &mut Fields) -> Option<Word>
     ensures { option_map (λ word. command_with word fields.new) result ≡ command_of line.now }
 {

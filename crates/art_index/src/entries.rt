@@ -1,11 +1,12 @@
 //! The sorted vector: entries in the order of their full keys.
-ghost use Rattle.std.specs.Prelude.{◌≡◌, ℕ, ◌+◌, ◌<◌, ◌≤◌, ◌++◌, ◌∷◌, [], List, length, map, drop, take, flat_map, OnOk, OnErr, IfOk, IfErr, IsTrue, is_err, true, false, codes, option_map, slice_index_or};
+ghost use Rattle.std.specs.Prelude.{◌≡◌, ◌+◌, ◌<◌, map, flat_map, IfOk, IfErr, is_err, true, false, option_map};
 ghost use Rattle.art_index.specs.Words.{line_of};
 ghost use Rattle.art_index.specs.Keys.{full_key as full_key_of};
 ghost use Rattle.art_index.specs.Records.{KeyFits, own};
 ghost use Rattle.art_index.specs.Replies.{dump_of, has_conflict, value_at};
-ghost use Rattle.art_index.specs.Faults.{IsCut};
-ghost use Rattle.art_index.specs.Stored.{stands_to, stands_against, record_of, records_of, IsFull, AreEntries, IsPlaced, IsFoundAt, IsGapAt, placed_words};
+ghost use Rattle.art_index.specs.Faults.{Writes};
+ghost use Rattle.art_index.specs.Stored.{stands_to, stands_against, record_of, records_of, IsFull, AreEntries};
+ghost use Rattle.art_index.specs.Stored.{IsPlaced, IsFoundAt, IsGapAt, placed_words};
 
 use crate::entry::{Entry, Placed};
 use crate::reply::{write_end, write_found, write_piece, write_record};
@@ -92,8 +93,8 @@ fn conflicts_with(entries: &[Entry], tenant: u32, key: &[u8]) -> bool
     false
 }
 
-/// Puts a value at a tenant's key, unless the key conflicts with another. The full key stands ready, to be kept where the
-/// key is new. All memory is taken before anything is changed.
+/// Puts a value at a tenant's key, unless the key conflicts with another. The full key stands ready, to be kept where
+/// the key is new. All memory is taken before anything is changed.
 pub(crate) fn put_entry(
     alloc: Global,
     entries: &mut Vec<Entry>,
@@ -106,7 +107,8 @@ pub(crate) fn put_entry(
     requires full { full.now ≡ full_key_of tenant key.now }
     requires fits { KeyFits (record { tenant = tenant; key = key.now; value = value.now }) }
     ensures ordered { AreEntries entries.new.items }
-    ensures placed { IsPlaced result (records_of entries.old.items) tenant key.now value.now (records_of entries.new.items) }
+    ensures placed { IsPlaced result (records_of entries.old.items) tenant key.now value.now
+        (records_of entries.new.items) }
 {
     match place_of(entries, tenant, key) {
         Ok(at) => match Vec::from_slice(alloc, value) {
@@ -137,9 +139,9 @@ pub(crate) fn put_entry(
 /// Writes how a put went.
 pub(crate) fn write_placed<W: Sink>(sink: &mut W, placed: &Placed) -> Result<(), WriteFailed>
     requires { W.has_failed sink.old ≡ false }
-    ensures ok { OnOk result (W.taken sink.new ≡ W.taken sink.old ++ line_of (placed_words placed.now)) }
-    ensures cut { OnErr result (IsCut (W.taken sink.old) (W.taken sink.new) (line_of (placed_words placed.now))) }
-    ensures failed { is_err result ≡ W.has_failed sink.new }
+    ensures { Writes result (W.taken sink.old) (W.taken sink.new)
+        (line_of (placed_words placed.now))
+        (W.has_failed sink.new) }
 {
     match placed {
         Placed::Old(old) => write_found(sink, b"old", old.as_slice()),
@@ -153,9 +155,9 @@ pub(crate) fn write_placed<W: Sink>(sink: &mut W, placed: &Placed) -> Result<(),
 pub(crate) fn write_entries<W: Sink>(entries: &[Entry], sink: &mut W) -> Result<(), WriteFailed>
     requires open { W.has_failed sink.old ≡ false }
     requires ordered { AreEntries entries.now }
-    ensures ok { OnOk result (W.taken sink.new ≡ W.taken sink.old ++ flat_map line_of (dump_of (records_of entries.now))) }
-    ensures cut { OnErr result (IsCut (W.taken sink.old) (W.taken sink.new) (flat_map line_of (dump_of (records_of entries.now)))) }
-    ensures failed { is_err result ≡ W.has_failed sink.new }
+    ensures { Writes result (W.taken sink.old) (W.taken sink.new)
+        (flat_map line_of (dump_of (records_of entries.now)))
+        (W.has_failed sink.new) }
 {
     for entry in entries {
         let (tenant, key) = parts_of(entry);

@@ -1,5 +1,6 @@
 //! An index, and what a line does to it.
-ghost use Rattle.std.specs.Prelude.{◌≡◌, ℕ, ◌+◌, ◌<◌, ◌≤◌, ◌++◌, ◌∷◌, [], List, length, map, drop, take, flat_map, OnOk, OnErr, IfOk, IfErr, IsTrue, IsErr, is_err, true, false, Option, Some, None, option_map, codes};
+ghost use Rattle.std.specs.Prelude.{◌≡◌, ◌+◌, ◌<◌, ◌++◌, take, OnErr, IfOk, IfErr, is_err, true, false, Some};
+ghost use Rattle.std.specs.Prelude.{None};
 
 use crate::command::fields::Fields;
 use crate::command::read_line;
@@ -84,8 +85,8 @@ impl<const PREFIX_LEN: usize> Index<PREFIX_LEN> {
         }
     }
 
-    /// A law, which does nothing: what an index holds are records in order, without conflicts, each of bytes and no longer
-    /// than a line.
+    /// A law, which does nothing: what an index holds are records in order, without conflicts, each of bytes and no
+    /// longer than a line.
     pub fn holds_records(&self)
         ensures { AreRecords self.now }
     {
@@ -96,7 +97,8 @@ impl<const PREFIX_LEN: usize> Index<PREFIX_LEN> {
     /// It answers `RunFault::Write` where the sink fails: what the line does is done then, and its reply is cut.
     pub fn handle<W: Sink>(&mut self, line: &[u8], sink: &mut W) -> Result<Handled, RunFault>
         requires { W.has_failed sink.old ≡ false }
-        ensures told { IfOk result (λ done. W.taken sink.new ≡ W.taken sink.old ++ answer done.memory self.old line.now) }
+        ensures told { IfOk result (λ done.
+            W.taken sink.new ≡ W.taken sink.old ++ answer done.memory self.old line.now) }
         ensures left { IfOk result (λ done. self.new ≡ left_by done.memory self.old line.now) }
         ensures lawful { IfOk result (λ done. done.memory ≡ true → LineMayRefuse self.old line.now) }
         ensures visits { IfOk result (λ done. done.visits ≡ 0) }

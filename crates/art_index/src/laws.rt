@@ -1,6 +1,6 @@
 //! Laws of the definitions. Each function does nothing, and its contract is the law.
-ghost use Rattle.art_index.specs.Laws.{OwnReadsBack, OthersAreUntouched, OwnIsInPlace, ReadingIsSpelling, SpellsOneCommand};
-ghost use Rattle.art_index.specs.Laws.{FullKeysKeepOrder, FullKeysKeepConflicts};
+ghost use Rattle.art_index.specs.Laws.{OwnReadsBack, OthersAreUntouched, OwnIsInPlace, ReadingIsSpelling};
+ghost use Rattle.art_index.specs.Laws.{SpellsOneCommand, FullKeysKeepOrder, FullKeysKeepConflicts};
 
 /// What is put in place for a tenant is what it holds then.
 pub fn own_reads_back()

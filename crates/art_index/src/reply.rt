@@ -1,10 +1,10 @@
 //! Replies, written to a sink.
-ghost use Rattle.std.specs.Prelude.{◌≡◌, ℕ, ◌^◌, ◌<◌, ◌≤◌, ◌++◌, ◌∷◌, [], List, length, OnOk, OnErr, IsErr, IsTrue, false, is_err, codes, decimal, option_map};
+ghost use Rattle.std.specs.Prelude.{◌≡◌, ◌<◌, ◌≤◌, ◌∷◌, [], length, false, codes, decimal, option_map};
 ghost use Rattle.hex.specs.Hex.{encode_lower};
 ghost use Rattle.art_index.specs.Words.{shown, line_of, name, natural, bytes};
 ghost use Rattle.art_index.specs.Commands.{put_words};
 ghost use Rattle.art_index.specs.Replies.{found_or};
-ghost use Rattle.art_index.specs.Faults.{IsCut};
+ghost use Rattle.art_index.specs.Faults.{Writes};
 
 use crate::stream::{Sink, WriteFailed};
 use itoa::Buffer;
@@ -15,9 +15,7 @@ const PART: usize = 64;
 /// Writes the whole piece, by as many writes as it takes.
 pub(crate) fn write_piece<W: Sink>(sink: &mut W, piece: &[u8]) -> Result<(), WriteFailed>
     requires { W.has_failed sink.old ≡ false }
-    ensures ok { OnOk result (W.taken sink.new ≡ W.taken sink.old ++ piece.now) }
-    ensures cut { OnErr result (IsCut (W.taken sink.old) (W.taken sink.new) piece.now) }
-    ensures failed { is_err result ≡ W.has_failed sink.new }
+    ensures { Writes result (W.taken sink.old) (W.taken sink.new) piece.now (W.has_failed sink.new) }
 {
     let mut rest = piece;
     while !rest.is_empty() {
@@ -31,9 +29,7 @@ pub(crate) fn write_piece<W: Sink>(sink: &mut W, piece: &[u8]) -> Result<(), Wri
 fn write_part<W: Sink>(sink: &mut W, part: &[u8]) -> Result<(), WriteFailed>
     requires open { W.has_failed sink.old ≡ false }
     requires few { length part.now ≤ 64 }
-    ensures ok { OnOk result (W.taken sink.new ≡ W.taken sink.old ++ encode_lower part.now) }
-    ensures cut { OnErr result (IsCut (W.taken sink.old) (W.taken sink.new) (encode_lower part.now)) }
-    ensures failed { is_err result ≡ W.has_failed sink.new }
+    ensures { Writes result (W.taken sink.old) (W.taken sink.new) (encode_lower part.now) (W.has_failed sink.new) }
 {
     let mut digits = [0; 2 * PART];
     let text = &mut digits[..2 * part.len()];
@@ -44,9 +40,7 @@ fn write_part<W: Sink>(sink: &mut W, part: &[u8]) -> Result<(), WriteFailed>
 /// Writes bytes as lower case digits, or `-` for none.
 pub(crate) fn write_bytes<W: Sink>(sink: &mut W, value: &[u8]) -> Result<(), WriteFailed>
     requires { W.has_failed sink.old ≡ false }
-    ensures ok { OnOk result (W.taken sink.new ≡ W.taken sink.old ++ shown (bytes value.now)) }
-    ensures cut { OnErr result (IsCut (W.taken sink.old) (W.taken sink.new) (shown (bytes value.now))) }
-    ensures failed { is_err result ≡ W.has_failed sink.new }
+    ensures { Writes result (W.taken sink.old) (W.taken sink.new) (shown (bytes value.now)) (W.has_failed sink.new) }
 {
     if value.is_empty() {
         return write_piece(sink, b"-");
@@ -63,9 +57,7 @@ pub(crate) fn write_bytes<W: Sink>(sink: &mut W, value: &[u8]) -> Result<(), Wri
 /// Writes a number in digits.
 pub(crate) fn write_number<W: Sink>(sink: &mut W, number: u64) -> Result<(), WriteFailed>
     requires { W.has_failed sink.old ≡ false }
-    ensures ok { OnOk result (W.taken sink.new ≡ W.taken sink.old ++ decimal number) }
-    ensures cut { OnErr result (IsCut (W.taken sink.old) (W.taken sink.new) (decimal number)) }
-    ensures failed { is_err result ≡ W.has_failed sink.new }
+    ensures { Writes result (W.taken sink.old) (W.taken sink.new) (decimal number) (W.has_failed sink.new) }
 {
     let mut digits = Buffer::new();
     write_piece(sink, digits.format(number).as_bytes())
@@ -78,9 +70,9 @@ pub(crate) fn write_found<W: Sink>(
     value: &[u8],
 ) -> Result<(), WriteFailed>
     requires { W.has_failed sink.old ≡ false }
-    ensures ok { OnOk result (W.taken sink.new ≡ W.taken sink.old ++ line_of (name word.now ∷ bytes value.now ∷ [])) }
-    ensures cut { OnErr result (IsCut (W.taken sink.old) (W.taken sink.new) (line_of (name word.now ∷ bytes value.now ∷ []))) }
-    ensures failed { is_err result ≡ W.has_failed sink.new }
+    ensures { Writes result (W.taken sink.old) (W.taken sink.new)
+        (line_of (name word.now ∷ bytes value.now ∷ []))
+        (W.has_failed sink.new) }
 {
     write_piece(sink, word)?;
     write_piece(sink, b" ")?;
@@ -91,9 +83,9 @@ pub(crate) fn write_found<W: Sink>(
 /// The line of a value that was looked for.
 pub(crate) fn write_value<W: Sink>(sink: &mut W, value: Option<&[u8]>) -> Result<(), WriteFailed>
     requires { W.has_failed sink.old ≡ false }
-    ensures ok { OnOk result (W.taken sink.new ≡ W.taken sink.old ++ line_of (found_or (option_map (λ v. v.now) value.entry) (codes "is") (codes "none"))) }
-    ensures cut { OnErr result (IsCut (W.taken sink.old) (W.taken sink.new) (line_of (found_or (option_map (λ v. v.now) value.entry) (codes "is") (codes "none")))) }
-    ensures failed { is_err result ≡ W.has_failed sink.new }
+    ensures { Writes result (W.taken sink.old) (W.taken sink.new)
+        (line_of (found_or (option_map (λ v. v.now) value.entry) (codes "is") (codes "none")))
+        (W.has_failed sink.new) }
 {
     match value {
         Some(value) => write_found(sink, b"is", value),
@@ -109,9 +101,9 @@ pub(crate) fn write_record<W: Sink>(
     value: &[u8],
 ) -> Result<(), WriteFailed>
     requires { W.has_failed sink.old ≡ false }
-    ensures ok { OnOk result (W.taken sink.new ≡ W.taken sink.old ++ line_of (put_words tenant key.now value.now)) }
-    ensures cut { OnErr result (IsCut (W.taken sink.old) (W.taken sink.new) (line_of (put_words tenant key.now value.now))) }
-    ensures failed { is_err result ≡ W.has_failed sink.new }
+    ensures { Writes result (W.taken sink.old) (W.taken sink.new)
+        (line_of (put_words tenant key.now value.now))
+        (W.has_failed sink.new) }
 {
     write_piece(sink, b"put ")?;
     write_number(sink, u64::from(tenant))?;
@@ -125,9 +117,9 @@ pub(crate) fn write_record<W: Sink>(
 /// The line that ends a list.
 pub(crate) fn write_end<W: Sink>(sink: &mut W, count: usize) -> Result<(), WriteFailed>
     requires { W.has_failed sink.old ≡ false }
-    ensures ok { OnOk result (W.taken sink.new ≡ W.taken sink.old ++ line_of (name (codes "end") ∷ natural count ∷ [])) }
-    ensures cut { OnErr result (IsCut (W.taken sink.old) (W.taken sink.new) (line_of (name (codes "end") ∷ natural count ∷ []))) }
-    ensures failed { is_err result ≡ W.has_failed sink.new }
+    ensures { Writes result (W.taken sink.old) (W.taken sink.new)
+        (line_of (name (codes "end") ∷ natural count ∷ []))
+        (W.has_failed sink.new) }
 {
     write_piece(sink, b"end ")?;
     write_number(sink, count as u64)?;

@@ -1,5 +1,6 @@
 //! From a source to a sink.
-ghost use Rattle.std.specs.Prelude.{◌≡◌, ℕ, ◌<◌, ◌≤◌, ◌++◌, ◌∷◌, ◌↔◌, [], List, length, take, OnOk, OnErr, IfErr, IsTrue, is_err, true, false, Err};
+ghost use Rattle.std.specs.Prelude.{◌≡◌, ℕ, ◌<◌, ◌++◌, ◌∷◌, ◌↔◌, [], List, take, OnOk, OnErr, IfErr, is_err};
+ghost use Rattle.std.specs.Prelude.{true, false, Err};
 ghost use Rattle.art_index.specs.Lines.{lines_of, whole_lines_of, lines_so_far};
 ghost use Rattle.art_index.specs.Records.{Records};
 ghost use Rattle.art_index.specs.Outcome.{IsOutcome};
@@ -51,7 +52,7 @@ pub fn run<S: Source, W: Sink, const PREFIX_LEN: usize>(
         × (W.taken sink.new ≡ W.taken sink.old ++ written)
         × AfterWriteFault index.old (lines_so_far (S.has_ended source.new) text) written index.new }
 {
-    let mut held: ArrayVec<u8, 4097> = ArrayVec::new();
+    let mut held: ArrayVec<u8, HELD> = ArrayVec::new();
     let mut buf = [0; PIECE];
     'reads: loop {
         let Ok(n) = source.read(&mut buf) else {
@@ -72,7 +73,7 @@ pub fn run<S: Source, W: Sink, const PREFIX_LEN: usize>(
 /// handled there; only a line that was cut is put together.
 fn feed<W: Sink, const PREFIX_LEN: usize>(
     index: &mut Index<PREFIX_LEN>,
-    held: &mut ArrayVec<u8, 4097>,
+    held: &mut ArrayVec<u8, HELD>,
     piece: &[u8],
     sink: &mut W,
 ) -> Result<(), RunFault>
@@ -98,7 +99,7 @@ fn feed<W: Sink, const PREFIX_LEN: usize>(
 /// Carries out the line that is held and then ends with the part.
 fn finish<W: Sink, const PREFIX_LEN: usize>(
     index: &mut Index<PREFIX_LEN>,
-    held: &mut ArrayVec<u8, 4097>,
+    held: &mut ArrayVec<u8, HELD>,
     part: &[u8],
     sink: &mut W,
 ) -> Result<(), RunFault>
@@ -125,7 +126,7 @@ fn finish<W: Sink, const PREFIX_LEN: usize>(
 }
 
 /// Adds the part to what is held, as far as there is room.
-fn hold(held: &mut ArrayVec<u8, 4097>, part: &[u8])
+fn hold(held: &mut ArrayVec<u8, HELD>, part: &[u8])
     ensures { held.new.items ≡ take 4097 (held.old.items ++ part.now) }
 {
     let room = part.len().min(HELD - held.len());

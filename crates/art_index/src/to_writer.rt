@@ -1,12 +1,14 @@
 //! A writer as a sink.
-ghost use Rattle.std.specs.Prelude.{◌≡◌, ℕ, ◌<◌, ◌≤◌, ◌++◌, [], length, take, is_err, IsTrue, IsErr, IfOk, OnErr, false};
+ghost use Rattle.std.specs.Prelude.{◌≡◌, ◌<◌, ◌≤◌, ◌++◌, [], length, take, is_err, IsTrue, IsErr, IfOk, OnErr};
+ghost use Rattle.std.specs.Prelude.{false};
 ghost use Rattle.std.specs.Io.KnownBytes.{WriteAppends};
 
 use crate::history::{History, Piece};
 use crate::stream::{Sink, WriteFailed};
 use std::io::Write;
 
-/// A writer as a sink: any error is the failure, and so is a write that takes nothing of a piece. Neither is tried again.
+/// A writer as a sink: any error is the failure, and so is a write that takes nothing of a piece. Neither is tried
+/// again.
 #[derive(Drop)]
 pub struct ToWriter<W> {
     writer: W,

@@ -1,7 +1,7 @@
 //! The fields of a line: a tenant, and bytes, read in place of what was there.
 //!
-//! A signed number is to be read here too, beside the tenant: into a field `number: i64`, by the same loop over digits behind
-//! a `-`; and the second of two bounds into the room of a value.
+//! A signed number is to be read here too, beside the tenant: into a field `number: i64`, by the same loop over digits
+//! behind a `-`; and the second of two bounds into the room of a value.
 ghost use Rattle.std.specs.Prelude.{◌≡◌, ◌+◌, ◌/◌, ◌<◌, ◌≤◌, length, take, drop, IsSome, true};
 ghost use Rattle.std.specs.Int.{from_be_bytes, w32};
 ghost use Rattle.art_index.specs.Keys.{full_key as full_key_of};
@@ -14,12 +14,19 @@ use arrayvec::ArrayVec;
 /// The bytes of a tenant, which stand before those of its keys.
 const FRONT: usize = 4;
 
-/// What stands behind a word. Fields are decoded where they stay, and each keeps what it had until the next of its kind is
-/// read. A key stands behind the four bytes of its tenant, the highest first, so that the full key is there without a copy.
+/// The longest field of bytes, which `get 0 k` may have.
+pub(crate) const FIELD: usize = 2045;
+
+/// The longest full key: a tenant's bytes and then a field of bytes.
+const FULL_KEY: usize = 2049;
+
+/// What stands behind a word. Fields are decoded where they stay, and each keeps what it had until the next of its kind
+/// is read. A key stands behind the four bytes of its tenant, the highest first, so that the full key is there without a
+/// copy.
 #[derive(Drop)]
 pub(crate) struct Fields {
-    full_key: ArrayVec<u8, 2049>,
-    value: ArrayVec<u8, 2045>,
+    full_key: ArrayVec<u8, FULL_KEY>,
+    value: ArrayVec<u8, FIELD>,
     ghost front: { 4 ≤ length full_key.items },
 }
 
@@ -101,7 +108,7 @@ impl Fields {
     }
 }
 
-/// A law, which does nothing: bytes are the full key of the tenant that stands at their front, and of the key behind it.
+/// A law, which does nothing: bytes are the full key of the tenant that stands at their front, and of the key behind.
 fn split_of(full: &[u8]) -> &[u8]
     requires { 4 ≤ length full.now }
     ensures same { result.now ≡ full.now }
@@ -134,8 +141,8 @@ fn parse_tenant(field: &[u8]) -> Option<u32>
     u32::try_from(number).ok()
 }
 
-/// Decodes the bytes that the field is read as, in place of what was there behind some at the front, which stay: false where
-/// the field is read as no bytes.
+/// Decodes the bytes that the field is read as, in place of what was there behind some at the front, which stay: false
+/// where the field is read as no bytes.
 fn decode_bytes<const N: usize>(field: &[u8], bytes: &mut ArrayVec<u8, N>, front: usize) -> bool
     requires front_in { front ≤ length bytes.old.items }
     requires fits { front + length field.now / 2 ≤ N }

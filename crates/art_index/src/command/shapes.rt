@@ -1,7 +1,7 @@
 //! What stands behind a word, by its shape: a reader in place for each.
 //!
-//! Two bounds are to be read as a key and a value are; a number, a number and a value and two numbers as the readers here
-//! do, with a signed number in the place of a key; a tenant alone by the first step of each.
+//! Two bounds are to be read as a key and a value are; a number, a number and a value and two numbers as the readers
+//! here do, with a signed number in the place of a key; a tenant alone by the first step of each.
 ghost use Rattle.std.specs.Prelude.{◌≡◌, ◌+◌, ◌≤◌, ◌∷◌, length, IfSome, IfNone, option_copied};
 ghost use Rattle.art_index.specs.Commands.{fields_of};
 ghost use Rattle.art_index.specs.Reading.{key_in, key_and_value_in};
