@@ -27,7 +27,7 @@ pub struct NodeArena<K, V, const PREFIX_LEN: usize> {
 }
 
 impl<K, V, const PREFIX_LEN: usize> Model for NodeArena<K, V, PREFIX_LEN> {
-    ghost use Rattle.art_arena.specs.Arena.{Arena};
+    ghost use Rattle.art_arena.specs.arena.Arena.{Arena};
 
     ghost Value = { Arena K V };
 
@@ -56,12 +56,13 @@ impl<N: Drop> From<NodeRefused<N>> for AllocError {
 
 impl<K, V, const PREFIX_LEN: usize> NodeArena<K, V, PREFIX_LEN> {
     ghost use Rattle.art_nodes.specs.Name.{Name};
-    ghost use Rattle.art_arena.specs.Cells.{UpdatesAt, leaf_name};
+    ghost use Rattle.art_arena.specs.arena.Cells.{UpdatesAt, leaf_name};
     ghost use Rattle.std.specs.Borrow.{sem};
-    ghost use Rattle.art_arena.specs.Lends.{lends_node, lends_value};
+    ghost use Rattle.art_arena.specs.arena.Lends.{lends_node, lends_value};
     ghost use Rattle.art_arena.specs.contracts.arena.NodeArena.{the_row};
-    ghost use Rattle.art_arena.specs.Arena.{leaf_held, held_at, links_at, Allocates, WritesLinks, SameNodes, HasRoom};
-    ghost use Rattle.art_arena.specs.Arena.{KeepsRoom, UsesRoom};
+    ghost use Rattle.art_arena.specs.arena.Arena.{leaf_held, held_at, links_at, Allocates, WritesLinks, SameNodes};
+    ghost use Rattle.art_arena.specs.arena.Arena.{HasRoom};
+    ghost use Rattle.art_arena.specs.arena.Arena.{KeepsRoom, UsesRoom};
 
     /// An arena that holds no node. It takes no memory.
     pub fn new(alloc: Global) -> Self

@@ -2,10 +2,10 @@
 ghost use Rattle.std.specs.Prelude.{◌≡◌, ◌≢◌, ◌+◌, ◌<◌, ◌^◌, length, Some, IsSome, IsOk, IfOk, OnErr, refl};
 ghost use Rattle.art_nodes.specs.InnerNode as node;
 ghost use Rattle.art_nodes.specs.Kind.{row_of, CanShrink};
-ghost use Rattle.art_arena.specs.Cells.{UpdatesAt};
-ghost use Rattle.art_arena.specs.Arena.{held_at, as_inner, inner_held, Allocates, SameNodes, HasRoom, KeepsRoom};
-ghost use Rattle.art_arena.specs.Arena.{UsesRoom};
-ghost use Rattle.art_arena.specs.NodeEdits.{edited, MayEdit};
+ghost use Rattle.art_arena.specs.arena.Cells.{UpdatesAt};
+ghost use Rattle.art_arena.specs.arena.Arena.{held_at, as_inner, inner_held, Allocates, SameNodes, HasRoom, KeepsRoom};
+ghost use Rattle.art_arena.specs.arena.Arena.{UsesRoom};
+ghost use Rattle.art_arena.specs.arena.NodeEdits.{edited, MayEdit};
 
 use crate::arena::NodeArena;
 use crate::stored::{NodeStore, Stored};

@@ -1,7 +1,7 @@
 //! The caller that `CALLING.md` of art_arena shows, letter for letter; a test in `memory.rt` runs it.
 
 ghost use Rattle.std.specs.Prelude.{◌≡◌, Some, OnErr, IfOk};
-ghost use Rattle.art_arena.specs.Arena.{held_at, SameNodes};
+ghost use Rattle.art_arena.specs.arena.Arena.{held_at, SameNodes};
 
 use art_arena::{NodeArena, NodeRefused, Stored};
 use art_nodes::NodePtr;

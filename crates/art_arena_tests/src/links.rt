@@ -1,9 +1,9 @@
 //! Each edit of the linked list of leaves once, in a list of two leaves or three.
 ghost use Rattle.std.specs.Prelude.{◌≡◌, List, [], ◌∷◌, None, IfSome};
-ghost use Rattle.art_arena.specs.Arena.{links_at, leaf_held, Allocates};
-ghost use Rattle.art_arena.specs.Cells.{leaf_name};
-ghost use Rattle.art_arena.specs.Shapes.{LeafAt};
-ghost use Rattle.art_arena.specs.Linked.{IsList, IsBeside};
+ghost use Rattle.art_arena.specs.arena.Arena.{links_at, leaf_held, Allocates};
+ghost use Rattle.art_arena.specs.arena.Cells.{leaf_name};
+ghost use Rattle.art_arena.specs.arena.Shapes.{LeafAt};
+ghost use Rattle.art_arena.specs.arena.Linked.{IsList, IsBeside};
 
 use art_arena::links::{insert_after, insert_before, remove_self, replace};
 use art_arena::{LeafPtr, NodeArena};

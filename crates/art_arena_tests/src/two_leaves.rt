@@ -2,9 +2,9 @@
 ghost use Rattle.std.specs.Prelude.{◌≡◌, ◌≢◌, ℕ, [], ◌∷◌, ◌++◌, None, IfSome};
 ghost use Rattle.art_bytes.specs.Keys.{BeginsWith};
 ghost use Rattle.art_nodes.specs.Name.{Name};
-ghost use Rattle.art_arena.specs.Arena.{held_at, node_at};
-ghost use Rattle.art_arena.specs.Shapes.{Shape};
-ghost use Rattle.art_arena.specs.Meaning.{IsSubtree};
+ghost use Rattle.art_arena.specs.arena.Arena.{held_at, node_at};
+ghost use Rattle.art_arena.specs.arena.Shapes.{Shape};
+ghost use Rattle.art_arena.specs.arena.Meaning.{IsSubtree};
 
 use crate::links::lone_leaf;
 use art_arena::{

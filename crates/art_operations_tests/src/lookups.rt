@@ -1,8 +1,8 @@
 //! Look-ups, ends and points in a tree of a lone leaf, and what two prefixes and two keys are compared by.
 ghost use Rattle.std.specs.Prelude.{[], IfSome};
-ghost use Rattle.art_arena.specs.Arena.{node_at};
-ghost use Rattle.art_arena.specs.Meaning.{IsSubtree};
-ghost use Rattle.art_arena.specs.Shapes.{Shape};
+ghost use Rattle.art_arena.specs.arena.Arena.{node_at};
+ghost use Rattle.art_arena.specs.arena.Meaning.{IsSubtree};
+ghost use Rattle.art_arena.specs.arena.Shapes.{Shape};
 
 use crate::calling::find;
 use art_arena::NodeArena;

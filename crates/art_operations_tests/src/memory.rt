@@ -1,9 +1,9 @@
 //! What needs memory leaves all as it was where it was refused, and can be made again.
 ghost use Rattle.std.specs.Prelude.{◌≡◌, [], IfSome, IfErr, OnErr};
-ghost use Rattle.art_arena.specs.Arena.{node_at, links_at, SameNodes};
-ghost use Rattle.art_arena.specs.Meaning.{IsSubtree, IsTree};
-ghost use Rattle.art_arena.specs.Shapes.{Shape};
-ghost use Rattle.art_arena.specs.Steps.{steps_of};
+ghost use Rattle.art_arena.specs.arena.Arena.{node_at, links_at, SameNodes};
+ghost use Rattle.art_arena.specs.arena.Meaning.{IsSubtree, IsTree};
+ghost use Rattle.art_arena.specs.arena.Shapes.{Shape};
+ghost use Rattle.art_arena.specs.arena.Steps.{steps_of};
 ghost use Rattle.art_operations.specs.DeletePoints.{IsLeafPlace};
 ghost use Rattle.art_operations.specs.Points.{IsPoint};
 

@@ -5,10 +5,10 @@ use Rattle.std.proofs.lemmas.List.{take-append-drop, take_at, drop_at, length-ta
 use Rattle.std.proofs.Math.Seq.{take-add}
 use Rattle.art_bytes.specs.Keys.{BeginsWith}
 use Rattle.art_nodes.specs.Name.{Name}
-use Rattle.art_arena.specs.Cells.{Cell, pair, branches, AreHeld}
-use Rattle.art_arena.specs.Kinds.{IsKindOf}
-use Rattle.art_arena.specs.Shapes.{Shape, Branches, leaf_at, inner_at, no_branch, branch, name_of, children_at, width, cells, cells_in, node_of, IsUnder, AreUnder}
-use Rattle.art_arena.proofs.Order.{all_left, all_right, begins_append}
+use Rattle.art_arena.specs.arena.Cells.{Cell, pair, branches, AreHeld}
+use Rattle.art_arena.specs.tree.Kinds.{IsKindOf}
+use Rattle.art_arena.specs.arena.Shapes.{Shape, Branches, leaf_at, inner_at, no_branch, branch, name_of, children_at, width, cells, cells_in, node_of, IsUnder, AreUnder}
+use Rattle.art_arena.proofs.tree.Order.{all_left, all_right, begins_append}
 
 module _ {K V : Type 0} (bytes : K → List ℕ) where
   -- the bytes of the first key below

@@ -3,17 +3,17 @@ use Rattle.std.proofs.Common.{◌≡◌, ◌≢◌, ℕ, ◌+◌, ◌<◌, ◌�
 use Rattle.std.proofs.lemmas.Bool.Decides.{eqb_tells}
 use Rattle.art_nodes.specs.Name.{Name}
 use Rattle.art_nodes.specs.InnerNode.{InnerNode, child_at}
-use Rattle.art_arena.specs.Cells.{Cell, pair, branches, copies, same_name, leaf_name}
-use Rattle.art_arena.specs.Kinds.{IsKindOf}
-use Rattle.art_arena.specs.Trees.{Tree}
-use Rattle.art_arena.specs.Shapes.{Shape, Branches, leaf_at, inner_at, no_branch, branch, name_of, children_at, width, join, cells, cells_in, node_of}
-use Rattle.art_arena.specs.Linked.{Links}
-use Rattle.art_arena.specs.Meaning.{IsSubtree, Means}
-use Rattle.art_arena.proofs.CellLists.{copies-append, same_name-self}
-use Rattle.art_arena.proofs.Contexts.{cells_in-join}
-use Rattle.art_arena.proofs.Measures.{nodes_below, nodes_below-held}
-use Rattle.art_arena.proofs.Meanings.{means-subtree}
-use Rattle.art_arena.proofs.Subtrees.{subtree-branch}
+use Rattle.art_arena.specs.arena.Cells.{Cell, pair, branches, copies, same_name, leaf_name}
+use Rattle.art_arena.specs.tree.Kinds.{IsKindOf}
+use Rattle.art_arena.specs.tree.Trees.{Tree}
+use Rattle.art_arena.specs.arena.Shapes.{Shape, Branches, leaf_at, inner_at, no_branch, branch, name_of, children_at, width, join, cells, cells_in, node_of}
+use Rattle.art_arena.specs.arena.Linked.{Links}
+use Rattle.art_arena.specs.arena.Meaning.{IsSubtree, Means}
+use Rattle.art_arena.proofs.shapes.CellLists.{copies-append, same_name-self}
+use Rattle.art_arena.proofs.shapes.Contexts.{cells_in-join}
+use Rattle.art_arena.proofs.shapes.Measures.{nodes_below, nodes_below-held}
+use Rattle.art_arena.proofs.shapes.Meanings.{means-subtree}
+use Rattle.art_arena.proofs.shapes.Subtrees.{subtree-branch}
 use Rattle.art_walks.specs.declared.malformed.MalformedTreeError.{MalformedTreeError}
 use Rattle.art_walks.specs.declared.malformed.MalformedTreeError.TheVariants.{DeadName, LoopFound, WrongChildrenCount, PrefixMismatch, LeafSiblingWrongOrder, WrongSiblingLinks, EmptyTreeWithLen, Memory}
 use Rattle.art_walks.specs.Faults.{child_in, onward, led_to, HasDeadName, HasLoop, HasWrongCount, Stands, FaultMeansNoTree}

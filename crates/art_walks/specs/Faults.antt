@@ -4,13 +4,13 @@ use Rattle.art_nodes.specs.Name.{Name}
 use Rattle.art_nodes.specs.InnerNode.{InnerNode, child_at}
 use Rattle.art_bytes.specs.Keys.{bytes_cmp}
 use Rattle.std.specs.declared.cmp.Ordering.TheVariants.{Less}
-use Rattle.art_arena.specs.Cells.{Cell, pair, branches}
-use Rattle.art_arena.specs.Trees.{Tree}
-use Rattle.art_arena.specs.Kinds.{IsKindOf}
-use Rattle.art_arena.specs.Shapes.{Shape, LeafAt, leaves}
-use Rattle.art_arena.specs.Linked.{Links, AreLinked}
-use Rattle.art_arena.specs.Changes.{IsIn}
-use Rattle.art_arena.specs.Meaning.{IsPart, IsSubtree, Means}
+use Rattle.art_arena.specs.arena.Cells.{Cell, pair, branches}
+use Rattle.art_arena.specs.tree.Trees.{Tree}
+use Rattle.art_arena.specs.tree.Kinds.{IsKindOf}
+use Rattle.art_arena.specs.arena.Shapes.{Shape, LeafAt, leaves}
+use Rattle.art_arena.specs.arena.Linked.{Links, AreLinked}
+use Rattle.art_arena.specs.tree.Changes.{IsIn}
+use Rattle.art_arena.specs.arena.Meaning.{IsPart, IsSubtree, Means}
 use Rattle.art_walks.specs.declared.malformed.MalformedTreeError.{MalformedTreeError}
 use Rattle.art_walks.specs.declared.malformed.MalformedTreeError.TheVariants.{DeadName, LoopFound, WrongChildrenCount, PrefixMismatch, LeafSiblingWrongOrder, WrongSiblingLinks, EmptyTreeWithLen, Memory}
 

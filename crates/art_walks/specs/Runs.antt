@@ -1,7 +1,7 @@
 -- A run of neighbours among linked leaves.
 use Rattle.std.specs.Prelude.{◌≡◌, ℕ, List, [], ◌++◌, Option, Some, None}
-use Rattle.art_arena.specs.Shapes.{LeafAt}
-use Rattle.art_arena.specs.Linked.{Links, first_slot, last_slot, IsList}
+use Rattle.art_arena.specs.arena.Shapes.{LeafAt}
+use Rattle.art_arena.specs.arena.Linked.{Links, first_slot, last_slot, IsList}
 
 -- the slab keys of the first and of the last leaf of a run, or nothing where it is empty
 abbrev pub Ends : Type 0

@@ -1,7 +1,7 @@
 //! A run of neighbours among linked leaves, by the names of its first and its last leaf.
 ghost use Rattle.std.specs.Prelude.{◌≡◌, ℕ, List, [], ◌∷◌, ◌++◌, Some, None};
-ghost use Rattle.art_arena.specs.Arena.{links_at};
-ghost use Rattle.art_arena.specs.Shapes.{LeafAt};
+ghost use Rattle.art_arena.specs.arena.Arena.{links_at};
+ghost use Rattle.art_arena.specs.arena.Shapes.{LeafAt};
 ghost use Rattle.art_walks.specs.Runs.{IsWalk};
 
 use art_arena::{LeafPtr, NodeArena};
