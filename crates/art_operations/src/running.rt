@@ -107,6 +107,7 @@ fn insert<K: AsBytes + Clone, V: Clone, const PREFIX_LEN: usize>(
         → IsCarriedOut K.bytes PREFIX_LEN arena.new K.is_clone V.is_clone pairs
         (Command.Insert key.now value.now) result }
 {
+    // By value an option of a name counts as moved, so a copy goes in.
     let before = root;
     let place = match find_place(arena, before, key.as_bytes()) {
         Ok(place) => place,
@@ -134,6 +135,7 @@ fn delete<K: AsBytes + Drop, V: Drop, const PREFIX_LEN: usize>(
     ensures { (pairs : List (K × V)) → HasPairs K.bytes PREFIX_LEN arena.old root pairs
         → IsDone K.bytes PREFIX_LEN arena.new pairs (Command.Delete key.now) result }
 {
+    // By value an option of a name counts as moved, so a copy goes in.
     let before = root;
     match take_pair(arena, before, key.as_bytes()) {
         Ok(Some(deleted)) => Change {
