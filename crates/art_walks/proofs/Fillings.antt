@@ -5,9 +5,10 @@ use Rattle.std.proofs.lemmas.List.{take-append-drop, take_at, drop_at, length-ta
 use Rattle.std.proofs.Math.Seq.{take-add}
 use Rattle.art_bytes.specs.Keys.{BeginsWith}
 use Rattle.art_nodes.specs.Name.{Name}
-use Rattle.art_arena.specs.arena.Cells.{Cell, pair, branches, AreHeld}
+use Rattle.art_arena.specs.arena.Cells.{Cell, pair, branches, copies, AreHeld}
 use Rattle.art_arena.specs.tree.Kinds.{IsKindOf}
 use Rattle.art_arena.specs.arena.Shapes.{Shape, Branches, leaf_at, inner_at, no_branch, branch, name_of, children_at, width, cells, cells_in, node_of, IsUnder, AreUnder}
+use Rattle.art_arena.specs.arena.Meaning.{IsPart, IsSubtree}
 use Rattle.art_arena.proofs.tree.Order.{all_left, all_right, begins_append}
 
 module _ {K V : Type 0} (bytes : K → List ℕ) where
@@ -131,3 +132,100 @@ module _ {K V : Type 0} (bytes : K → List ℕ) where
             subst (λ d. Fits d s) deep (fits-under (q ++ b ∷ []) s under.1),
             fit-under q e len key both (b + 1) rest under.2,
           )
+
+    -- whether nodes fit is told by the cells alone: of two shapes that an arena has below one name both fit, or neither
+    module _ (at : Name → Option (Cell K V)) where
+      abbrev held_cell : Name × Cell K V → Type 0
+      held_cell c = at c.0 ≡ Some c.1
+
+      one_cell : (m n : Name) (c d : Cell K V) → m ≡ n → at m ≡ Some c → at n ≡ Some d → c ≡ d
+      one_cell m n c d e f g = let h : Some c ≡ Some d = sym f ∙ ap at e ∙ g in cc
+
+      abbrev children_of : Cell K V → List (ℕ × Name)
+      children_of (pair k v) = []
+      children_of (branches node) = node.children
+
+      abbrev prefix_len_of : Cell K V → ℕ
+      prefix_len_of (pair k v) = 0
+      prefix_len_of (branches node) = node.header.prefix_len
+
+      abbrev stored_of : Cell K V → List ℕ
+      stored_of (pair k v) = []
+      stored_of (branches node) = node.header.stored
+
+      mutual
+        pub first_key-same : (s t : Shape K V) → AreHeld at (cells P s) → AreHeld at (cells P t) → name_of s ≡ name_of t → first_key s ≡ first_key t
+        first_key-same (leaf_at m j u) (leaf_at n k v) h i e = let same = one_cell _ _ _ _ e h.0 i.0 in let keys : j ≡ k = cc in ap bytes keys
+        first_key-same (leaf_at m j u) (inner_at n prefix kids) h i e = let same = one_cell _ _ _ _ e h.0 i.0 in absurd (cc)
+        first_key-same (inner_at m prefix kids) (leaf_at n k v) h i e = let same = one_cell _ _ _ _ e h.0 i.0 in absurd (cc)
+        first_key-same (inner_at m a cs) (inner_at n b ds) h i e =
+            let same = one_cell _ _ (node_of P a (children_at cs)) (node_of P b (children_at ds)) e h.0 i.0 in first_key-same_in cs ds h.1 i.1 (ap children_of same)
+
+        first_key-same_in : (cs ds : Branches K V) → AreHeld at (cells_in P cs) → AreHeld at (cells_in P ds) → children_at cs ≡ children_at ds → first_key_in cs ≡ first_key_in ds
+        first_key-same_in no_branch no_branch h i e = refl
+        first_key-same_in no_branch (branch c t ds) h i e = absurd (cc)
+        first_key-same_in (branch b s cs) no_branch h i e = absurd (cc)
+        first_key-same_in (branch b s cs) (branch c t ds) h i e =
+            let first : ◌≡◌ {A = ℕ × Name} (b, name_of s) (c, name_of t) = cc in
+            first_key-same s t (all_left held_cell (cells P s) (cells_in P cs) h) (all_left held_cell (cells P t) (cells_in P ds) i) (ap (λ (z : ℕ × Name). z.1) first)
+
+      width-children : (kids : Branches K V) → length (children_at kids) ≡ width kids
+      width-children no_branch = refl
+      width-children (branch b s rest) = omega (arith, width-children rest)
+
+      fit-parts : (d x y : ℕ) (p q j k : List ℕ) (w : Branches K V) → x ≡ y → p ≡ q → j ≡ k
+          → (d + y ≤ length k) × (q ≡ take P (take y (drop d k))) × FitIn (d + y) k 0 w → (d + x ≤ length j) × (p ≡ take P (take x (drop d j))) × FitIn (d + x) j 0 w
+      fit-parts d x y p q j k w e f g h = rw (e, f, g) h
+
+      mutual
+        pub fits-same : (d : ℕ) (s t : Shape K V) → AreHeld at (cells P s) → AreHeld at (cells P t) → name_of s ≡ name_of t → Fits d t → Fits d s
+        fits-same d (leaf_at m j u) (leaf_at n k v) h i e fits =
+            let same = one_cell _ _ _ _ e h.0 i.0 in let keys : j ≡ k = cc in subst (λ x. d ≤ length (bytes x)) (sym keys) fits
+        fits-same d (leaf_at m j u) (inner_at n prefix kids) h i e fits = let same = one_cell _ _ _ _ e h.0 i.0 in absurd (cc)
+        fits-same d (inner_at m prefix kids) (leaf_at n k v) h i e fits = let same = one_cell _ _ _ _ e h.0 i.0 in absurd (cc)
+        fits-same d (inner_at m a cs) (inner_at n b ds) h i e fits =
+            let same = one_cell _ _ (node_of P a (children_at cs)) (node_of P b (children_at ds)) e h.0 i.0 in
+            let children : children_at cs ≡ children_at ds = ap children_of same in
+            let widths : width cs ≡ width ds = sym (width-children cs) ∙ ap length children ∙ width-children ds in
+            let kind : IsKindOf m.kind (width cs) = subst (λ w. IsKindOf m.kind w) (sym widths) (subst (λ (x : Name). IsKindOf x.kind (width ds)) (sym e) fits.0) in
+            let keys = first_key-same_in cs ds h.1 i.1 children in
+            let rest = fit-parts d (length a) (length b) (take P a) (take P b) (first_key_in cs) (first_key_in ds) cs (ap prefix_len_of same) (ap stored_of same) keys
+            (fits.1, fits.2, fit-same (d + length b) (first_key_in ds) 0 cs ds h.1 i.1 children fits.3) in
+            (kind, rest.0, rest.1, rest.2)
+
+        fit-same : (x : ℕ) (key : List ℕ) (low : ℕ) (cs ds : Branches K V) → AreHeld at (cells_in P cs) → AreHeld at (cells_in P ds) → children_at cs ≡ children_at ds → FitIn x key low ds → FitIn x key low cs
+        fit-same x key low no_branch no_branch h i e fit = tt
+        fit-same x key low no_branch (branch c t ds) h i e fit = absurd (cc)
+        fit-same x key low (branch b s cs) no_branch h i e fit = absurd (cc)
+        fit-same x key low (branch b s cs) (branch c t ds) h i e fit =
+            let first : ◌≡◌ {A = ℕ × Name} (b, name_of s) (c, name_of t) = cc in
+            let more : children_at cs ≡ children_at ds = cc in
+            let same_byte : b ≡ c = ap (λ (z : ℕ × Name). z.0) first in
+            let s_held = all_left held_cell (cells P s) (cells_in P cs) h in
+            let t_held = all_left held_cell (cells P t) (cells_in P ds) i in
+            let names : name_of s ≡ name_of t = ap (λ (z : ℕ × Name). z.1) first in
+            let key_same = first_key-same s t s_held t_held names in
+            (
+              subst (λ y. low ≤ y) (sym same_byte) fit.0,
+              ap (take (x + 1)) key_same ∙ fit.1 ∙ ap (λ y. take x key ++ y ∷ []) (sym same_byte),
+              fits-same (x + 1) s t s_held t_held names fit.2,
+              fit-same x key (b + 1) cs ds (all_right held_cell (cells P s) (cells_in P cs) h) (all_right held_cell (cells P t) (cells_in P ds) i) more (subst (λ y. FitIn x key (y + 1) ds) (sym same_byte) fit.3),
+            )
+
+      module _ (root : Name) (s : Shape K V) (part : IsPart P at root s) where
+        -- a shape whose nodes fit is canonical once its prefixes are filled in
+        pub filled-subtree : Fits 0 s → IsSubtree bytes P at root [] (fill 0 s)
+        filled-subtree fits =
+            let same = cells-fill 0 s fits in
+            record {
+              part = record {
+                named = name-fill 0 s ∙ part.named;
+                held = subst (AreHeld at) (sym same) part.held;
+                once = λ m. subst (λ xs. copies m xs ≤ 1) (sym same) (part.once m);
+              };
+              under = under-fill 0 s fits;
+            }
+
+        -- and where one doesn't fit, none is
+        pub unfit-none : (Fits 0 s → ⊥) → (t : Shape K V) → IsSubtree bytes P at root [] t → ⊥
+        unfit-none unfit t sub = unfit (fits-same 0 s t part.held sub.part.held (part.named ∙ sym sub.part.named) (fits-under [] t sub.under))

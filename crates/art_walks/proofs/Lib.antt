@@ -2,3 +2,4 @@ pub mod RunSteps
 pub mod Ways
 pub mod Skeletons
 pub mod Fillings
+pub mod LeafSlots

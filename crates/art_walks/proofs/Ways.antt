@@ -1,5 +1,5 @@
 -- Where bytes lead down from the root of a canonical shape: to its parts, and different bytes to different ones. So no fault stands there.
-use Rattle.std.proofs.Common.{◌≡◌, ◌≢◌, ℕ, ◌+◌, ◌<◌, ◌≤◌, cond, List, [], ◌∷◌, ◌++◌, length, Option, Some, None, inl, inr, refl, sym, ap, ap₂, subst, ◌∙◌, arith, true}
+use Rattle.std.proofs.Common.{◌≡◌, ◌≢◌, ◌⊎◌, ℕ, ◌+◌, ◌<◌, ◌≤◌, cond, List, [], ◌∷◌, ◌++◌, length, Option, Some, None, inl, inr, refl, sym, ap, ap₂, subst, ◌∙◌, arith, true}
 use Rattle.std.proofs.lemmas.Bool.Decides.{eqb_tells}
 use Rattle.art_nodes.specs.Name.{Name}
 use Rattle.art_nodes.specs.InnerNode.{InnerNode, child_at}
@@ -209,6 +209,64 @@ module _ {K V : Type 0} (bytes : K → List ℕ) (P : ℕ) (at : Name → Option
   pub held_at_root : (n : Name) (path : List ℕ) (s : Shape K V) → IsSubtree bytes P at n path s → at n ≡ None → ⊥
   held_at_root n path (leaf_at slot k v) sub dead = let there = sym dead ∙ ap at (sym sub.part.named) ∙ sub.part.held.0 in cc
   held_at_root n path (inner_at m prefix kids) sub dead = let there = sym dead ∙ ap at (sym sub.part.named) ∙ sub.part.held.0 in cc
+
+  -- a way goes on by an edge
+  onward-twice : (f g h : Name → Option Name) → ((c : Name) → f c ≡ onward h (g c)) → (o : Option Name) → onward f o ≡ onward h (onward g o)
+  onward-twice f g h same None = refl
+  onward-twice f g h same (Some c) = same c
+
+  onward-itself : (o : Option Name) → onward (λ c. Some c) o ≡ o
+  onward-itself None = refl
+  onward-itself (Some c) = refl
+
+  led_to-more : (v : List ℕ) (n : Name) (b : ℕ) → led_to at n (v ++ b ∷ []) ≡ onward (λ m. child_in (at m) b) (led_to at n v)
+  led_to-more [] n b = onward-itself (child_in (at n) b)
+  led_to-more (a ∷ v) n b =
+      onward-twice (λ c. led_to at c (v ++ b ∷ [])) (λ c. led_to at c v) (λ m. child_in (at m) b) (λ c. led_to-more v c b) (child_in (at n) a)
+
+  pub led_to-edge : (root : Name) (v : List ℕ) (p : Name) (a : ℕ) (c : Name) → led_to at root v ≡ Some p → child_in (at p) a ≡ Some c → led_to at root (v ++ a ∷ []) ≡ Some c
+  led_to-edge root v p a c e f = led_to-more v root a ∙ ap (onward (λ m. child_in (at m) a)) e ∙ f
+
+  same_ways : (v w : List ℕ) (a b : ℕ) → v ++ a ∷ [] ≡ w ++ b ∷ [] → (v ≡ w) × (a ≡ b)
+  same_ways [] [] a b e = (refl, (cc))
+  same_ways [] (y ∷ []) a b e = absurd (cc)
+  same_ways [] (y ∷ z ∷ w) a b e = absurd (cc)
+  same_ways (x ∷ []) [] a b e = absurd (cc)
+  same_ways (x ∷ z ∷ v) [] a b e = absurd (cc)
+  same_ways (x ∷ v) (y ∷ w) a b e =
+      let first : x ≡ y = cc in
+      let rest : v ++ a ∷ [] ≡ w ++ b ∷ [] = cc in
+      let later = same_ways v w a b rest in (ap₂ (λ z zs. z ∷ zs) first later.0, later.1)
+
+  -- what a check finds when it meets a name again: two edges to it, or one to the root
+  pub loop_of_edges : (links_of : ℕ → Option Links) (root : Name) (v w : List ℕ) (p q : Name) (a b : ℕ) (c : Name) → led_to at root v ≡ Some p → led_to at root w ≡ Some q
+      → child_in (at p) a ≡ Some c → child_in (at q) b ≡ Some c → (p ≢ q) ⊎ (a ≢ b) → HasLoop bytes P at links_of root
+  loop_of_edges links_of root v w p q a b c to_p to_q at_p at_q apart = record {
+    way = v ++ a ∷ [];
+    other = w ++ b ∷ [];
+    name = c;
+    leads = led_to-edge root v p a c to_p at_p;
+    leads_too = led_to-edge root w q b c to_q at_q;
+    apart = λ e.
+        let same = same_ways v w a b e in
+        let both : Some p ≡ Some q = sym to_p ∙ ap (led_to at root) same.0 ∙ to_q in
+        let one : p ≡ q = cc in
+        elim apart [ inl other ↦ other one | inr other ↦ other same.1 ];
+  }
+
+  pub loop_of_root : (links_of : ℕ → Option Links) (root : Name) (v : List ℕ) (p : Name) (a : ℕ) → led_to at root v ≡ Some p → child_in (at p) a ≡ Some root → HasLoop bytes P at links_of root
+  loop_of_root links_of root v p a to_p at_p = record {
+    way = v ++ a ∷ [];
+    other = [];
+    name = root;
+    leads = led_to-edge root v p a root to_p at_p;
+    leads_too = refl;
+    apart = not_empty v a;
+  }
+    where
+      not_empty : (v : List ℕ) (a : ℕ) → v ++ a ∷ [] ≢ []
+      not_empty [] a e = cc
+      not_empty (x ∷ v) a e = cc
 
   module _ (links_of : ℕ → Option Links) (root : Name) (tree : Tree (K × V)) (means : Means bytes P at root links_of tree) where
     abbrev sub : IsSubtree bytes P at root [] means.shape
