@@ -4,3 +4,4 @@ pub mod Skeletons
 pub mod Fillings
 pub mod LeafSlots
 pub mod KindCounts
+pub mod Verdicts
