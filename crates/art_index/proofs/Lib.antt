@@ -11,6 +11,7 @@ pub mod ReplyLines
 pub mod Parsing
 pub mod LastField
 pub mod Shapes
+pub mod Families
 pub mod Dumping
 pub mod FullKeys
 pub mod DigitPairs

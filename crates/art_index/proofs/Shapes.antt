@@ -5,9 +5,6 @@ use Rattle.std.specs.Borrow.{Bor}
 use Rattle.art_index.specs.declared.command.fields.Fields.{Fields}
 use Rattle.art_index.specs.declared.command.word.Word.{Word}
 use Rattle.art_index.specs.declared.command.word.Word.TheVariants.{LookUp, Change, Whole}
-use Rattle.art_index.specs.declared.command.word.LookUp.{LookUp as LookUpWord}
-use Rattle.art_index.specs.declared.command.word.Change.{Change as ChangeWord}
-use Rattle.art_index.specs.declared.command.word.Whole.{Whole as WholeWord}
 use Rattle.art_index.specs.declared.command.word.LookUp.TheVariants as look_up
 use Rattle.art_index.specs.declared.command.word.Change.TheVariants as change
 use Rattle.art_index.specs.declared.command.word.Whole.TheVariants as whole
@@ -126,17 +123,6 @@ module _ (r r1 : Option (Bor (List ℕ))) (x y : Bor (List ℕ)) (t : List ℕ) 
 made : {A : Type 0} (b : Bool) (x : A) (o : Option A) (make : A → Command) → IsRead b x o → IsRead b (make x) (option_map make o)
 made true x o make h = ap (option_map make) h
 made false x o make h = ap (option_map make) h
-
--- a family of one word is that word
-module _ (f : Fields) where
-  pub is_get : (w : LookUpWord) → of_tenant (tenant_of f) (get (key_of f)) ≡ command_with (LookUp w) f
-  is_get look_up.Get = refl
-
-  pub is_put : (w : ChangeWord) → of_tenant (tenant_of f) (put (key_of f) f.value.items) ≡ command_with (Change w) f
-  is_put change.Put = refl
-
-  pub is_dump : (w : WholeWord) → dump ≡ command_with (Whole w) f
-  is_dump whole.Dump = refl
 
 module _ (f : Fields) (b : Bool) (rest : List (List ℕ)) where
   pub by_key : (w : Word) → shape_of w ≡ Key → IsRead b (tenant_of f, key_of f) (key_in rest) → IsRead b (command_with w f) (command_by w rest)

@@ -7,6 +7,9 @@ use Rattle.art_index.specs.declared.command.Command.TheVariants.{Put, Get, Dump}
 use Rattle.art_index.specs.declared.command.fields.Fields.{Fields}
 use Rattle.art_index.specs.declared.command.word.Word.{Word}
 use Rattle.art_index.specs.declared.command.word.Word.TheVariants.{LookUp, Change, Whole}
+use Rattle.art_index.specs.declared.command.word.LookUp.{LookUp as LookUpWord}
+use Rattle.art_index.specs.declared.command.word.Change.{Change as ChangeWord}
+use Rattle.art_index.specs.declared.command.word.Whole.{Whole as WholeWord}
 use Rattle.art_index.specs.declared.command.word.LookUp.TheVariants as look_up
 use Rattle.art_index.specs.declared.command.word.Change.TheVariants as change
 use Rattle.art_index.specs.declared.command.word.Whole.TheVariants as whole
@@ -40,8 +43,17 @@ shape_of (LookUp look_up.Get) = Key
 shape_of (Change change.Put) = KeyAndValue
 shape_of (Whole whole.Dump) = Nothing
 
--- the command of a word and of what was read behind it
+-- the command of a word, by its family, and of what was read behind it
+abbrev pub looks_up : LookUpWord → Fields → said.Command
+looks_up look_up.Get f = said.of_tenant (tenant_of f) (said.get (key_of f))
+
+abbrev pub changes : ChangeWord → Fields → said.Command
+changes change.Put f = said.of_tenant (tenant_of f) (said.put (key_of f) f.value.items)
+
+abbrev pub asks_all : WholeWord → said.Command
+asks_all whole.Dump = said.dump
+
 abbrev pub command_with : Word → Fields → said.Command
-command_with (LookUp look_up.Get) f = said.of_tenant (tenant_of f) (said.get (key_of f))
-command_with (Change change.Put) f = said.of_tenant (tenant_of f) (said.put (key_of f) f.value.items)
-command_with (Whole whole.Dump) f = said.dump
+command_with (LookUp w) f = looks_up w f
+command_with (Change w) f = changes w f
+command_with (Whole w) f = asks_all w

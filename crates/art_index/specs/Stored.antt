@@ -1,6 +1,6 @@
 -- What the entries of an index stand for, and what its parts say of them.
 use Rattle.std.specs.Prelude.{◌≡◌, ℕ, ◌<◌, ◌≤◌, ◌==◌, ◌&&◌, Bool, true, false, List, [], ◌∷◌}
-use Rattle.std.specs.Prelude.{length, map, take, drop, codes}
+use Rattle.std.specs.Prelude.{length, map, take, drop, codes, Some}
 use Rattle.std.specs.Int.{from_be_bytes, w32}
 use Rattle.std.specs.List.{AllByRecursion, HoldsAt}
 use Rattle.std.specs.declared.cmp.Ordering.{Ordering}
@@ -11,10 +11,10 @@ use Rattle.art_index.specs.declared.entry.Entry.{Entry}
 use Rattle.art_index.specs.declared.entry.Placed.{Placed}
 use Rattle.art_index.specs.declared.entry.Placed.TheVariants as placed
 use Rattle.art_index.specs.Words.{Word, name, bytes}
-use Rattle.art_index.specs.Commands.{put}
+use Rattle.art_index.specs.Commands.{put, Command}
 use Rattle.art_index.specs.Keys.{conflicts, full_key}
 use Rattle.art_index.specs.Records.{KeyRecord, Records, AreRecords, own}
-use Rattle.art_index.specs.Replies.{own_reply, own_after, with_changed}
+use Rattle.art_index.specs.Replies.{own_reply, own_after, with_changed, command_reply, command_after}
 
 -- the record of an entry: its tenant is the first four bytes of the full key, its key the others
 abbrev pub record_of : Entry → KeyRecord
@@ -77,3 +77,9 @@ IsPlaced placed.Memory old tenant key value new = new ≡ old
 IsPlaced p old tenant key value new =
     (placed_words p ∷ [] ≡ own_reply (put key value) (own tenant old))
     × (new ≡ with_changed tenant (own_after (put key value) (own tenant old)) old)
+
+-- A change was done as it is answered; where it found no memory, nothing is changed.
+abbrev pub IsDone : Placed → Command → Records → Records → Type 0
+IsDone placed.Memory command old new = new ≡ old
+IsDone p command old new =
+    (placed_words p ∷ [] ≡ command_reply (Some command) old) × (new ≡ command_after (Some command) old)

@@ -2,12 +2,13 @@
 ghost use Rattle.std.specs.Prelude.{◌≡◌, ◌+◌, ◌<◌, ◌++◌, take, OnErr, IfOk, IfErr, is_err, true, false, Some};
 ghost use Rattle.std.specs.Prelude.{None};
 
+use crate::carry::{change, look_up, tell_all};
 use crate::command::fields::Fields;
 use crate::command::read_line;
-use crate::command::word::{Change, LookUp, Whole, Word};
-use crate::entries::{put_entry, value_of, write_entries, write_placed};
+use crate::command::word::Word;
+use crate::entries::write_placed;
 use crate::entry::Entry;
-use crate::reply::{write_piece, write_value};
+use crate::reply::write_piece;
 use crate::stream::{Sink, WriteFailed};
 use std::alloc::Global;
 use std::marker::Model;
@@ -109,23 +110,13 @@ impl<const PREFIX_LEN: usize> Index<PREFIX_LEN> {
     {
         let mut memory = false;
         match read_line(line, &mut self.fields) {
-            Some(Word::LookUp(LookUp::Get)) => write_value(
-                sink,
-                value_of(&self.entries, self.fields.tenant(), self.fields.key()),
-            )?,
-            Some(Word::Change(Change::Put)) => {
-                let placed = put_entry(
-                    self.alloc,
-                    &mut self.entries,
-                    self.fields.tenant(),
-                    self.fields.key(),
-                    self.fields.full_key(),
-                    self.fields.value(),
-                );
-                memory = placed.is_memory();
-                write_placed(sink, &placed)?;
+            Some(Word::LookUp(word)) => look_up(&self.entries, word, &self.fields, sink)?,
+            Some(Word::Change(word)) => {
+                let done = change(self.alloc, &mut self.entries, word, &self.fields);
+                memory = done.is_memory();
+                write_placed(sink, &done)?;
             }
-            Some(Word::Whole(Whole::Dump)) => write_entries(&self.entries, sink)?,
+            Some(Word::Whole(word)) => tell_all(&self.entries, word, sink)?,
             None => write_piece(sink, b"bad\n")?,
         }
         Ok(Handled { memory, visits: 0 })

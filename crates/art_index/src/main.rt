@@ -9,6 +9,7 @@
 #![tactic(auto)]
 
 mod buffered;
+mod carry;
 mod command;
 mod entries;
 mod entry;

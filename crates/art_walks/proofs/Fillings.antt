@@ -40,7 +40,7 @@ module _ {K V : Type 0} (bytes : K → List ℕ) where
   children-fill d no_branch = refl
   children-fill d (branch b s rest) = ap₂ (λ (n : Name) (cs : List (ℕ × Name)). (b, n) ∷ cs) (name-fill d s) (children-fill d rest)
 
-  width-fill : (d : ℕ) (kids : Branches K V) → width (fill_in d kids) ≡ width kids
+  pub width-fill : (d : ℕ) (kids : Branches K V) → width (fill_in d kids) ≡ width kids
   width-fill d no_branch = refl
   width-fill d (branch b s rest) = omega (arith, width-fill d rest)
 

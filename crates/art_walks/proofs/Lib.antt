@@ -3,3 +3,5 @@ pub mod Ways
 pub mod Skeletons
 pub mod Fillings
 pub mod LeafSlots
+pub mod KindCounts
+pub mod Verdicts

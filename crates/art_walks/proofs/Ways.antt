@@ -18,7 +18,7 @@ use Rattle.art_walks.specs.declared.malformed.MalformedTreeError.{MalformedTreeE
 use Rattle.art_walks.specs.declared.malformed.MalformedTreeError.TheVariants.{DeadName, LoopFound, WrongChildrenCount, PrefixMismatch, LeafSiblingWrongOrder, WrongSiblingLinks, EmptyTreeWithLen, Memory}
 use Rattle.art_walks.specs.Faults.{child_in, onward, led_to, HasDeadName, HasLoop, HasWrongCount, Stands, FaultMeansNoTree}
 
-onward-some : (next : Name → Option Name) (o : Option Name) (m : Name) → onward next o ≡ Some m → (c : Name) × (o ≡ Some c) × (next c ≡ Some m)
+pub onward-some : (next : Name → Option Name) (o : Option Name) (m : Name) → onward next o ≡ Some m → (c : Name) × (o ≡ Some c) × (next c ≡ Some m)
 onward-some next None m e = absurd (cc)
 onward-some next (Some c) m e = (c, refl, e)
 
@@ -31,7 +31,7 @@ module _ {K V : Type 0} where
     pub whole : kids ≡ join before (branch byte child after)
     pub named : name_of child ≡ c
 
-  branch_of : (kids : Branches K V) (byte : ℕ) (c : Name) → child_at (children_at kids) byte ≡ Some c → HasBranch kids byte c
+  pub branch_of : (kids : Branches K V) (byte : ℕ) (c : Name) → child_at (children_at kids) byte ≡ Some c → HasBranch kids byte c
   branch_of no_branch byte c e = absurd (cc)
   branch_of (branch b s rest) byte c e = elim (eqb_tells b byte) [
     | inl same ↦
