@@ -5,11 +5,11 @@ use Rattle.art_nodes.specs.declared.kind.NodeType.{NodeType}
 use Rattle.art_nodes.specs.declared.kind.NodeType.TheVariants.{Node4, Node16, Node48, Node256, Leaf}
 use Rattle.art_nodes.specs.Kind.{row_of}
 use Rattle.art_nodes.specs.Name.{Name}
-use Rattle.art_arena.specs.Cells.{same_kind}
-use Rattle.art_arena.specs.Kinds.{IsKindOf}
-use Rattle.art_arena.specs.Trees.{count, nodes_with, nodes_in}
-use Rattle.art_arena.specs.Shapes.{Shape, Branches, leaf_at, inner_at, no_branch, branch, leaves, leaves_in, cells, cells_in, width, erase, erase_in}
-use Rattle.art_arena.proofs.Erased.{count-erase}
+use Rattle.art_arena.specs.arena.Cells.{same_kind}
+use Rattle.art_arena.specs.tree.Kinds.{IsKindOf}
+use Rattle.art_arena.specs.tree.Trees.{count, nodes_with, nodes_in}
+use Rattle.art_arena.specs.arena.Shapes.{Shape, Branches, leaf_at, inner_at, no_branch, branch, leaves, leaves_in, cells, cells_in, width, erase, erase_in}
+use Rattle.art_arena.proofs.shapes.Erased.{count-erase}
 use Rattle.art_walks.proofs.Skeletons.{HasKinds, HaveKinds, named, named-append}
 
 -- how many of some names are of a kind

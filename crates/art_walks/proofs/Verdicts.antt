@@ -4,14 +4,14 @@ use Rattle.art_nodes.specs.declared.kind.NodeType.{NodeType}
 use Rattle.art_nodes.specs.declared.kind.NodeType.TheVariants.{Leaf}
 use Rattle.art_nodes.specs.Name.{Name}
 use Rattle.art_nodes.specs.InnerNode.{InnerNode, child_at}
-use Rattle.art_arena.specs.Cells.{Cell, pair, branches, copies, same_name, AreHeld}
-use Rattle.art_arena.specs.Kinds.{IsKindOf}
-use Rattle.art_arena.specs.Trees.{Tree, nodes_with}
-use Rattle.art_arena.specs.Shapes.{Shape, Branches, leaf_at, inner_at, no_branch, branch, name_of, children_at, join, leaves, erase, cells, cells_in, width, node_of, IsUnder, AreUnder}
-use Rattle.art_arena.specs.Linked.{Links, AreLinked}
-use Rattle.art_arena.specs.Meaning.{IsPart, IsSubtree, Means}
-use Rattle.art_arena.proofs.Contexts.{cells_in-join}
-use Rattle.art_arena.proofs.Order.{all_left, all_right}
+use Rattle.art_arena.specs.arena.Cells.{Cell, pair, branches, copies, same_name, AreHeld}
+use Rattle.art_arena.specs.tree.Kinds.{IsKindOf}
+use Rattle.art_arena.specs.tree.Trees.{Tree, nodes_with}
+use Rattle.art_arena.specs.arena.Shapes.{Shape, Branches, leaf_at, inner_at, no_branch, branch, name_of, children_at, join, leaves, erase, cells, cells_in, width, node_of, IsUnder, AreUnder}
+use Rattle.art_arena.specs.arena.Linked.{Links, AreLinked}
+use Rattle.art_arena.specs.arena.Meaning.{IsPart, IsSubtree, Means}
+use Rattle.art_arena.proofs.shapes.Contexts.{cells_in-join}
+use Rattle.art_arena.proofs.tree.Order.{all_left, all_right}
 use Rattle.art_walks.specs.Faults.{child_in, onward, led_to, HasWrongCount, HasOtherKeys, HasOtherLinks}
 use Rattle.art_walks.proofs.Ways.{onward-some, HasBranch, branch_of}
 use Rattle.art_walks.proofs.Skeletons.{HasKinds, HaveKinds, named, IsSkeleton, same_cells}
