@@ -27,7 +27,7 @@ pub struct NodeArena<K, V, const PREFIX_LEN: usize> {
 }
 
 impl<K, V, const PREFIX_LEN: usize> Model for NodeArena<K, V, PREFIX_LEN> {
-    ghost use Rattle.art_arena.specs.Arena.{Arena};
+    ghost use Rattle.art_arena.specs.arena.Arena.{Arena};
 
     ghost Value = { Arena K V };
 
@@ -56,12 +56,13 @@ impl<N: Drop> From<NodeRefused<N>> for AllocError {
 
 impl<K, V, const PREFIX_LEN: usize> NodeArena<K, V, PREFIX_LEN> {
     ghost use Rattle.art_nodes.specs.Name.{Name};
-    ghost use Rattle.art_arena.specs.Cells.{UpdatesAt, leaf_name};
+    ghost use Rattle.art_arena.specs.arena.Cells.{UpdatesAt, leaf_name};
     ghost use Rattle.std.specs.Borrow.{sem};
-    ghost use Rattle.art_arena.specs.Lends.{lends_node, lends_value};
+    ghost use Rattle.art_arena.specs.arena.Lends.{lends_node, lends_value};
     ghost use Rattle.art_arena.specs.contracts.arena.NodeArena.{the_row};
-    ghost use Rattle.art_arena.specs.Arena.{leaf_held, held_at, links_at, Allocates, WritesLinks, SameNodes, HasRoom};
-    ghost use Rattle.art_arena.specs.Arena.{KeepsRoom, UsesRoom};
+    ghost use Rattle.art_arena.specs.arena.Arena.{leaf_held, held_at, links_at, Allocates, WritesLinks, SameNodes};
+    ghost use Rattle.art_arena.specs.arena.Arena.{HasRoom};
+    ghost use Rattle.art_arena.specs.arena.Arena.{KeepsRoom, UsesRoom};
 
     /// An arena that holds no node. It takes no memory.
     pub fn new(alloc: Global) -> Self
@@ -111,7 +112,8 @@ impl<K, V, const PREFIX_LEN: usize> NodeArena<K, V, PREFIX_LEN> {
         &mut self,
         node: N,
     ) -> Result<NodePtr<N::Kind>, NodeRefused<N>>
-        ensures ok { IfOk result (λ slot. Allocates self.old self.new (record { kind = N.Kind.TYPE; slot = slot }) (N.held node)) }
+        ensures ok { IfOk result (λ slot. Allocates self.old self.new (record { kind = N.Kind.TYPE; slot = slot })
+            (N.held node)) }
         ensures err { OnErr result (SameNodes self.old self.new) }
         ensures handed_back { IfErr result (λ refused. refused.node ≡ node) }
         ensures succeeds { HasRoom self.old 1 → IsOk result }
@@ -127,7 +129,8 @@ impl<K, V, const PREFIX_LEN: usize> NodeArena<K, V, PREFIX_LEN> {
     pub fn deallocate_node_ptr<N: Stored<K, V, Self>>(&mut self, ptr: NodePtr<N::Kind>) -> N
         requires { IsSome (held_at self.old (record { kind = N.Kind.TYPE; slot = ptr })) }
         ensures value { held_at self.old (record { kind = N.Kind.TYPE; slot = ptr }) ≡ Some (N.held result) }
-        ensures updates { UpdatesAt (held_at self.old) (held_at self.new) (record { kind = N.Kind.TYPE; slot = ptr }) None }
+        ensures updates { UpdatesAt (held_at self.old) (held_at self.new) (record { kind = N.Kind.TYPE; slot = ptr })
+            None }
         ensures room { KeepsRoom self.old self.new }
     {
         N::remove(self, ptr.slot())
@@ -165,7 +168,8 @@ impl<K, V, const PREFIX_LEN: usize> NodeArena<K, V, PREFIX_LEN> {
     /// The node under this name, for writing.
     pub fn as_mut<N: Stored<K, V, Self>>(&mut self, ptr: NodePtr<N::Kind>) -> &mut N
         requires { IsSome (held_at self.old (record { kind = N.Kind.TYPE; slot = ptr })) }
-        ensures* writes_back { sem 𝓛 (lends_node (the_row K.row V.row PREFIX_LEN.row) N.row N.with_node self.entry ptr result) }
+        ensures* writes_back { sem 𝓛 (lends_node (the_row K.row V.row PREFIX_LEN.row) N.row N.with_node self.entry ptr
+            result) }
         ensures value { held_at self.old (record { kind = N.Kind.TYPE; slot = ptr }) ≡ Some (N.held result.now) }
     {
         N::get_mut(self, ptr.slot())

@@ -1,10 +1,10 @@
 //! The way of a key down the tree below a name, to the one leaf that can be meant.
 ghost use Rattle.std.specs.Prelude.{◌≡◌, ◌+◌, ◌-◌, ◌^◌, ◌≤◌, length, min, MatchOption};
-ghost use Rattle.art_arena.specs.Descents.{Ends, GoesOn, Lands};
-ghost use Rattle.art_arena.specs.Paths.{path_of};
-ghost use Rattle.art_arena.specs.Shapes.{Shape, erase};
-ghost use Rattle.art_arena.specs.Stores.{Stores};
-ghost use Rattle.art_arena.specs.Visited.{arena_of, count_of};
+ghost use Rattle.art_arena.specs.arena.Descents.{Ends, GoesOn, Lands};
+ghost use Rattle.art_arena.specs.tree.Paths.{path_of};
+ghost use Rattle.art_arena.specs.arena.Shapes.{Shape, erase};
+ghost use Rattle.art_arena.specs.arena.Stores.{Stores};
+ghost use Rattle.art_arena.specs.arena.Visited.{arena_of, count_of};
 
 use crate::arena::LeafPtr;
 use crate::inner_ref::InnerRef;

@@ -1,14 +1,14 @@
 //! The search for a key.
 ghost use Rattle.std.specs.Prelude.{◌≡◌, ◌+◌, ◌-◌, ◌^◌, ◌≤◌, length, min, filter, IfSome};
 ghost use Rattle.std.specs.Str.{bytes_eq};
-ghost use Rattle.art_arena.specs.Arena.{node_at};
-ghost use Rattle.art_arena.specs.Found.{found_of, found_in, pair_found, IsAtKey};
-ghost use Rattle.art_arena.specs.Paths.{path_of};
-ghost use Rattle.art_arena.specs.Shapes.{Shape};
-ghost use Rattle.art_arena.specs.Steps.{steps_of};
-ghost use Rattle.art_arena.specs.Stores.{Stores, IsMeant};
-ghost use Rattle.art_arena.specs.Trees.{Tree, items};
-ghost use Rattle.art_arena.specs.Visited.{arena_of, count_of};
+ghost use Rattle.art_arena.specs.arena.Arena.{node_at};
+ghost use Rattle.art_arena.specs.arena.Found.{found_of, found_in, pair_found, IsAtKey};
+ghost use Rattle.art_arena.specs.tree.Paths.{path_of};
+ghost use Rattle.art_arena.specs.arena.Shapes.{Shape};
+ghost use Rattle.art_arena.specs.arena.Steps.{steps_of};
+ghost use Rattle.art_arena.specs.arena.Stores.{Stores, IsMeant};
+ghost use Rattle.art_arena.specs.tree.Trees.{Tree, items};
+ghost use Rattle.art_arena.specs.arena.Visited.{arena_of, count_of};
 
 use crate::arena::LeafPtr;
 use crate::descent::land;

@@ -3,7 +3,7 @@ ghost use Rattle.std.specs.Prelude.{◌≡◌, ◌↔◌, ◌<◌, ◌≤◌, �
 ghost use Rattle.std.specs.declared.ops.Bound.TheVariants.{Excluded, Unbounded};
 ghost use Rattle.art_nodes.specs.InnerNode as node;
 ghost use Rattle.art_nodes.specs.Kind.{row_of};
-ghost use Rattle.art_arena.specs.EndLeaves.{end_child};
+ghost use Rattle.art_arena.specs.arena.EndLeaves.{end_child};
 
 use crate::ends::End;
 use art_nodes::{
@@ -30,7 +30,7 @@ pub struct InnerRef<'a, K, V, const PREFIX_LEN: usize> {
 
 impl<'a, K, V, const PREFIX_LEN: usize> Model for InnerRef<'a, K, V, PREFIX_LEN> {
     ghost use Rattle.std.specs.Prelude.{◌<◌, ◌^◌};
-    ghost use Rattle.art_arena.specs.InnerRef.{Inner, arm_kind, arm_node};
+    ghost use Rattle.art_arena.specs.arena.InnerRef.{Inner, arm_kind, arm_node};
 
     ghost Value = { Inner };
 

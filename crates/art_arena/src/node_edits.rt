@@ -2,10 +2,10 @@
 ghost use Rattle.std.specs.Prelude.{◌≡◌, ◌≢◌, ◌+◌, ◌<◌, ◌^◌, length, Some, IsSome, IsOk, IfOk, OnErr, refl};
 ghost use Rattle.art_nodes.specs.InnerNode as node;
 ghost use Rattle.art_nodes.specs.Kind.{row_of, CanShrink};
-ghost use Rattle.art_arena.specs.Cells.{UpdatesAt};
-ghost use Rattle.art_arena.specs.Arena.{held_at, as_inner, inner_held, Allocates, SameNodes, HasRoom, KeepsRoom};
-ghost use Rattle.art_arena.specs.Arena.{UsesRoom};
-ghost use Rattle.art_arena.specs.NodeEdits.{edited, MayEdit};
+ghost use Rattle.art_arena.specs.arena.Cells.{UpdatesAt};
+ghost use Rattle.art_arena.specs.arena.Arena.{held_at, as_inner, inner_held, Allocates, SameNodes, HasRoom, KeepsRoom};
+ghost use Rattle.art_arena.specs.arena.Arena.{UsesRoom};
+ghost use Rattle.art_arena.specs.arena.NodeEdits.{edited, MayEdit};
 
 use crate::arena::NodeArena;
 use crate::stored::{NodeStore, Stored};
@@ -105,9 +105,11 @@ fn edit_at<K, V, N, const PREFIX_LEN: usize>(
 )
 where
     N: StoredInner<K, V, NodeArena<K, V, PREFIX_LEN>, PREFIX_LEN>,
-    requires { (n : node.InnerNode) × (held_at arena.old (record { kind = N.Kind.TYPE; slot = ptr }) ≡ Some (inner_held n))
+    requires { (n : node.InnerNode)
+        × (held_at arena.old (record { kind = N.Kind.TYPE; slot = ptr }) ≡ Some (inner_held n))
         × MayEdit (row_of N.Kind.TYPE).most edit.now n }
-    ensures updates { (n : node.InnerNode) → held_at arena.old (record { kind = N.Kind.TYPE; slot = ptr }) ≡ Some (inner_held n)
+    ensures updates { (n : node.InnerNode)
+        → held_at arena.old (record { kind = N.Kind.TYPE; slot = ptr }) ≡ Some (inner_held n)
         → UpdatesAt (held_at arena.old) (held_at arena.new) (record { kind = N.Kind.TYPE; slot = ptr })
         (as_inner (edited edit.now n)) }
     ensures room { KeepsRoom arena.old arena.new }

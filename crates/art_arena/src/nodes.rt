@@ -3,7 +3,7 @@ ghost use Rattle.std.specs.Prelude.{◌≡◌, ◌<◌, ◌≤◌, ◌^◌, ◌�
 ghost use Rattle.std.specs.Prelude.{[], Some, None, IfOk, IfErr, IsOk, IsSome, IsTrue, OnErr, OnOk};
 ghost use Rattle.std.specs.Borrow.{sem};
 ghost use Rattle.slab.specs.Slab.{get, slab_len, HasRoomFor, Updates};
-ghost use Rattle.art_arena.specs.NodesLends.{lends_in};
+ghost use Rattle.art_arena.specs.inner.NodesLends.{lends_in};
 
 use slab::Slab;
 use std::alloc::{AllocError, AllocFailed, Global};
@@ -21,7 +21,7 @@ pub(crate) struct Nodes<N, const PREFIX_LEN: usize> {
 
 impl<N, const PREFIX_LEN: usize> Model for Nodes<N, PREFIX_LEN> {
     ghost use Rattle.slab.specs.Slab.{Slab};
-    ghost use Rattle.art_arena.specs.Fits.{FitsWhereUsed};
+    ghost use Rattle.art_arena.specs.inner.Fits.{FitsWhereUsed};
 
     ghost Value = { Slab N };
 

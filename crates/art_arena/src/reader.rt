@@ -1,7 +1,7 @@
 //! Reading an arena, each node that is read counted.
 ghost use Rattle.std.specs.Prelude.{◌≡◌, ◌≢◌, ◌+◌, ◌-◌, ◌^◌, ◌<◌, min, Some, IsSome, MatchResult};
-ghost use Rattle.art_arena.specs.Arena.{held_at, leaf_held, inner_held};
-ghost use Rattle.art_arena.specs.Visited.{arena_of, count_of, held_of, kind_of};
+ghost use Rattle.art_arena.specs.arena.Arena.{held_at, leaf_held, inner_held};
+ghost use Rattle.art_arena.specs.arena.Visited.{arena_of, count_of, held_of, kind_of};
 
 use crate::arena::NodeArena;
 use crate::inner_ref::{InnerArm, InnerRef};

@@ -2,11 +2,11 @@
 use Rattle.std.proofs.Common.{◌≡◌, ℕ, suc, not, Bool, true, false, cond, List, [], ◌∷◌, length, map, bytes_eq, Option, refl, sym, ap, ap₂, subst, ◌∙◌}
 use Rattle.std.specs.List.{AllZip}
 use Rattle.art_nodes.specs.Name.{Name}
-use Rattle.art_arena.specs.Arena.{Arena}
-use Rattle.art_arena.specs.Changes.{IsIn, is_before, put}
-use Rattle.art_arena.specs.Shapes.{key_of}
-use Rattle.art_arena.specs.Shrinks.{Shrinks}
-use Rattle.art_arena.proofs.Paths.{in_map}
+use Rattle.art_arena.specs.arena.Arena.{Arena}
+use Rattle.art_arena.specs.tree.Changes.{IsIn, is_before, put}
+use Rattle.art_arena.specs.arena.Shapes.{key_of}
+use Rattle.art_arena.specs.tree.Shrinks.{Shrinks}
+use Rattle.art_arena.proofs.tree.Paths.{in_map}
 use Rattle.art_operations.specs.Commands.{IsAnswered, after}
 use Rattle.art_operations.specs.KeyedLists.{with_key, without_key, HasKey, IsBlocked}
 use Rattle.art_operations.specs.Pairs.{HasPairs}

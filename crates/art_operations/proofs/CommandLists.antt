@@ -1,7 +1,7 @@
 -- A list of commands with one more: what it answers, and the pairs that it leaves.
 use Rattle.std.proofs.Common.{◌≡◌, ℕ, List, [], ◌∷◌, ◌++◌, length, Option, refl, sym, subst, arith}
 use Rattle.art_nodes.specs.Name.{Name}
-use Rattle.art_arena.specs.Arena.{Arena}
+use Rattle.art_arena.specs.arena.Arena.{Arena}
 use Rattle.art_operations.specs.Commands.{IsAnswered, AreAnswered, after, pairs_after}
 use Rattle.art_operations.specs.inner.Runs.{HasClones}
 use Rattle.art_operations.specs.declared.running.Answer.{Answer}

@@ -3,17 +3,17 @@ use Rattle.std.proofs.Common.{◌≡◌, ℕ, ◌+◌, cond, List, [], ◌∷◌
 use Rattle.std.proofs.lemmas.List.{append-nil}
 use Rattle.art_nodes.specs.Name.{Name}
 use Rattle.art_nodes.specs.declared.leaf.LeafNode.{LeafNode}
-use Rattle.art_arena.specs.Arena.{Arena, leaf_held, cell_of, held_at, node_at, links_at}
-use Rattle.art_arena.specs.Cells.{Cell, pair, leaf_name, Holds, UpdatesAt}
-use Rattle.art_arena.specs.Linked.{AreLinked, times, IsList}
-use Rattle.art_arena.specs.Meaning.{IsTree}
-use Rattle.art_arena.specs.Shapes.{Shape, LeafAt, leaves, cells}
-use Rattle.art_arena.proofs.CellLists.{Holds-remove, Holds-same}
-use Rattle.art_arena.proofs.LinkedLists.{AreLinked-frame, times-append, eqb-self}
-use Rattle.art_arena.proofs.Order.{all_right}
-use Rattle.art_arena.proofs.Subtrees.{HoldsPair, pair_of}
-use Rattle.art_arena.proofs.Surroundings.{tree-list}
-use Rattle.art_arena.proofs.Updates.{nodes-update, links-update}
+use Rattle.art_arena.specs.arena.Arena.{Arena, leaf_held, cell_of, held_at, node_at, links_at}
+use Rattle.art_arena.specs.arena.Cells.{Cell, pair, leaf_name, Holds, UpdatesAt}
+use Rattle.art_arena.specs.arena.Linked.{AreLinked, times, IsList}
+use Rattle.art_arena.specs.arena.Meaning.{IsTree}
+use Rattle.art_arena.specs.arena.Shapes.{Shape, LeafAt, leaves, cells}
+use Rattle.art_arena.proofs.shapes.CellLists.{Holds-remove, Holds-same}
+use Rattle.art_arena.proofs.shapes.LinkedLists.{AreLinked-frame, times-append, eqb-self}
+use Rattle.art_arena.proofs.tree.Order.{all_right}
+use Rattle.art_arena.proofs.shapes.Subtrees.{HoldsPair, pair_of}
+use Rattle.art_arena.proofs.shapes.Surroundings.{tree-list}
+use Rattle.art_arena.proofs.shapes.Updates.{nodes-update, links-update}
 use Rattle.art_operations.specs.Deletions.{HasLeaves, IsDeleted}
 use Rattle.art_operations.proofs.Inserted.{AreLinked-same}
 use Rattle.art_operations.specs.inner.Detached.{alone, IsDetached}

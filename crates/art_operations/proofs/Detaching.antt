@@ -3,17 +3,17 @@ use Rattle.std.proofs.Common.{◌≡◌, ◌≢◌, ℕ, List, [], ◌∷◌, �
 use Rattle.art_nodes.specs.Name.{Name}
 use Rattle.art_nodes.specs.InnerNode.{InnerNode, child_at, with_child, with_children}
 use Rattle.art_nodes.specs.declared.kind.NodeType.TheVariants.{Leaf}
-use Rattle.art_arena.specs.Arena.{Arena, inner_held, held_at, node_at, links_at, SameNodes}
-use Rattle.art_arena.specs.Cells.{Cell, Holds}
-use Rattle.art_arena.specs.Context.{Frame, plug, path_to, leaves_before, leaves_after, root_of, cells_before, cells_after, AreAround}
-use Rattle.art_arena.specs.Meaning.{IsNodes}
-use Rattle.art_arena.specs.Shapes.{Shape, leaf_at, LeafAt, name_of, leaves, leaves_in, cells, IsUnder}
-use Rattle.art_arena.specs.Steps.{Step}
-use Rattle.art_arena.proofs.CellLists.{same_name_tells, Holds-same}
-use Rattle.art_arena.proofs.Contexts.{leaves-plug, cells-plug, name_of-plug, IsUnder-plug}
-use Rattle.art_arena.proofs.Repoint.{frame_node, frame-there, frame-child, frame-inner, repoint, at_root, HasParent, parent-of, HasGrandparent, grandparent-of, no-grandparent}
-use Rattle.art_arena.proofs.Subtrees.{inner_of}
-use Rattle.art_arena.proofs.Updates.{nodes-update, nodes-same, links-kept, links-same}
+use Rattle.art_arena.specs.arena.Arena.{Arena, inner_held, held_at, node_at, links_at, SameNodes}
+use Rattle.art_arena.specs.arena.Cells.{Cell, Holds}
+use Rattle.art_arena.specs.arena.Context.{Frame, plug, path_to, leaves_before, leaves_after, root_of, cells_before, cells_after, AreAround}
+use Rattle.art_arena.specs.arena.Meaning.{IsNodes}
+use Rattle.art_arena.specs.arena.Shapes.{Shape, leaf_at, LeafAt, name_of, leaves, leaves_in, cells, IsUnder}
+use Rattle.art_arena.specs.arena.Steps.{Step}
+use Rattle.art_arena.proofs.shapes.CellLists.{same_name_tells, Holds-same}
+use Rattle.art_arena.proofs.shapes.Contexts.{leaves-plug, cells-plug, name_of-plug, IsUnder-plug}
+use Rattle.art_arena.proofs.shapes.Repoint.{frame_node, frame-there, frame-child, frame-inner, repoint, at_root, HasParent, parent-of, HasGrandparent, grandparent-of, no-grandparent}
+use Rattle.art_arena.proofs.shapes.Subtrees.{inner_of}
+use Rattle.art_arena.proofs.shapes.Updates.{nodes-update, nodes-same, links-kept, links-same}
 use Rattle.art_operations.specs.DeletePoints.{IsLeafPlace}
 use Rattle.art_operations.specs.inner.Detached.{alone, IsHeldAt, IsChildLeaf, StandsFor, IsApart}
 use Rattle.art_operations.specs.inner.Removals.{EditsNode}

@@ -2,8 +2,8 @@
 use Rattle.std.proofs.Common.{◌≡◌, ℕ, cond, List, length, Option, Some, None, is_some, refl, sym, ap, subst, ◌∙◌}
 use Rattle.art_nodes.specs.Name.{Name}
 use Rattle.art_nodes.specs.declared.leaf.LeafNode.{LeafNode}
-use Rattle.art_arena.specs.Arena.{Arena}
-use Rattle.art_arena.specs.Shapes.{key_of}
+use Rattle.art_arena.specs.arena.Arena.{Arena}
+use Rattle.art_arena.specs.arena.Shapes.{key_of}
 use Rattle.art_operations.specs.KeyedLists.{IsBlocked}
 use Rattle.art_operations.specs.Pairs.{HasPairs, HasPut, HasTaken, pair_in}
 use Rattle.art_operations.specs.declared.delete.result.DeleteResult.{DeleteResult}

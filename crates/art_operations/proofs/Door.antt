@@ -1,7 +1,7 @@
 -- What was read of the inner node under a name is so of the node that stands there.
 use Rattle.std.proofs.Common.{◌≡◌, Option, Some, ap, ◌∙◌}
 use Rattle.art_nodes.specs.InnerNode.{InnerNode}
-use Rattle.art_arena.specs.Arena.{Held, inner_held}
+use Rattle.art_arena.specs.arena.Arena.{Held, inner_held}
 use Rattle.art_operations.proofs.PutBack.{same_inner}
 
 module _ {K V : Type 0} where

@@ -3,14 +3,14 @@ use Rattle.std.proofs.Common.{◌≡◌, ◌≢◌, ℕ, List, [], ◌∷◌, �
 use Rattle.art_nodes.specs.declared.kind.NodeType.TheVariants.{Leaf}
 use Rattle.art_nodes.specs.InnerNode.{InnerNode, child_at}
 use Rattle.art_nodes.specs.Name.{Name}
-use Rattle.art_arena.specs.Arena.{Arena, inner_held, held_at, node_at}
-use Rattle.art_arena.specs.Cells.{Cell, Holds, UpdatesAt}
-use Rattle.art_arena.specs.Context.{Frame, root_of, cells_before}
-use Rattle.art_arena.specs.Shapes.{children_at}
-use Rattle.art_arena.specs.Steps.{Step, steps_to}
-use Rattle.art_arena.proofs.Repoint.{repointed, child_at-frame, frame_node, frame-there, frame-inner, repoint}
-use Rattle.art_arena.proofs.Subtrees.{inner_of}
-use Rattle.art_arena.proofs.Updates.{nodes-update}
+use Rattle.art_arena.specs.arena.Arena.{Arena, inner_held, held_at, node_at}
+use Rattle.art_arena.specs.arena.Cells.{Cell, Holds, UpdatesAt}
+use Rattle.art_arena.specs.arena.Context.{Frame, root_of, cells_before}
+use Rattle.art_arena.specs.arena.Shapes.{children_at}
+use Rattle.art_arena.specs.arena.Steps.{Step, steps_to}
+use Rattle.art_arena.proofs.shapes.Repoint.{repointed, child_at-frame, frame_node, frame-there, frame-inner, repoint}
+use Rattle.art_arena.proofs.shapes.Subtrees.{inner_of}
+use Rattle.art_arena.proofs.shapes.Updates.{nodes-update}
 use Rattle.art_operations.specs.inner.Edits.{StandsAround}
 
 module _ {K V : Type 0} (bytes : K → List ℕ) (P : ℕ) where

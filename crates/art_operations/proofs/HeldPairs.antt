@@ -2,23 +2,23 @@
 use Rattle.std.proofs.Common.{◌≡◌, ◌≢◌, ℕ, List, [], ◌∷◌, ◌++◌, Option, Some, None, refl, sym, ap, subst, ◌∙◌, inl, inr}
 use Rattle.art_nodes.specs.Name.{Name}
 use Rattle.art_nodes.specs.declared.leaf.LeafNode.{LeafNode}
-use Rattle.art_arena.specs.Arena.{Arena, leaf_held, node_at, links_at, Allocates, SameNodes}
-use Rattle.art_arena.specs.Cells.{leaf_name, Holds}
-use Rattle.art_arena.specs.Linked.{Links, AreLinked}
-use Rattle.art_arena.specs.Changes.{IsIn}
-use Rattle.art_arena.specs.Found.{found_in, IsAtKey}
-use Rattle.art_arena.specs.Meaning.{IsTree, IsSubtree}
-use Rattle.art_arena.specs.Shapes.{Shape, leaf_at, LeafAt, leaves, pairs_of, key_of, cells}
-use Rattle.art_arena.specs.Shrinks.{Shrinks}
-use Rattle.art_arena.specs.Steps.{Step}
-use Rattle.art_arena.specs.TreeOf.{tree_of}
-use Rattle.art_arena.proofs.CellLists.{Holds-add, Holds-same}
-use Rattle.art_arena.proofs.Erased.{shape_means}
-use Rattle.art_arena.proofs.Meanings.{nodes-subtree, all-subtree}
-use Rattle.art_arena.proofs.Paths.{in_map}
-use Rattle.art_arena.proofs.Exists.{in_middle}
-use Rattle.art_arena.proofs.Insert.{all_at}
-use Rattle.art_arena.proofs.Updates.{nodes-update, links-update, nodes-same, links-same}
+use Rattle.art_arena.specs.arena.Arena.{Arena, leaf_held, node_at, links_at, Allocates, SameNodes}
+use Rattle.art_arena.specs.arena.Cells.{leaf_name, Holds}
+use Rattle.art_arena.specs.arena.Linked.{Links, AreLinked}
+use Rattle.art_arena.specs.tree.Changes.{IsIn}
+use Rattle.art_arena.specs.arena.Found.{found_in, IsAtKey}
+use Rattle.art_arena.specs.arena.Meaning.{IsTree, IsSubtree}
+use Rattle.art_arena.specs.arena.Shapes.{Shape, leaf_at, LeafAt, leaves, pairs_of, key_of, cells}
+use Rattle.art_arena.specs.tree.Shrinks.{Shrinks}
+use Rattle.art_arena.specs.arena.Steps.{Step}
+use Rattle.art_arena.specs.tree.TreeOf.{tree_of}
+use Rattle.art_arena.proofs.shapes.CellLists.{Holds-add, Holds-same}
+use Rattle.art_arena.proofs.shapes.Erased.{shape_means}
+use Rattle.art_arena.proofs.shapes.Meanings.{nodes-subtree, all-subtree}
+use Rattle.art_arena.proofs.tree.Paths.{in_map}
+use Rattle.art_arena.proofs.tree.Exists.{in_middle}
+use Rattle.art_arena.proofs.tree.Insert.{all_at}
+use Rattle.art_arena.proofs.shapes.Updates.{nodes-update, links-update, nodes-same, links-same}
 use Rattle.art_operations.specs.DeletePoints.{IsLeafPlace}
 use Rattle.art_operations.specs.Deletions.{HasLeaves, IsDeleted}
 use Rattle.art_operations.specs.Insertions.{IsInserted}

@@ -5,28 +5,28 @@ use Rattle.art_nodes.specs.Concrete.{inner_name_of}
 use Rattle.art_nodes.specs.declared.concrete.ConcreteInnerNodePtr.{ConcreteInnerNodePtr}
 use Rattle.art_nodes.specs.declared.leaf.LeafNode.{LeafNode}
 use Rattle.art_nodes.specs.Name.{Name}
-use Rattle.art_arena.specs.Arena.{Arena, leaf_held, held_at, node_at, links_at, links_of}
-use Rattle.art_arena.specs.Cells.{pair, leaf_name, AreHeld, Holds, UpdatesAt}
-use Rattle.art_arena.specs.Context.{Frame, plug, path_to, root_of, leaves_before, leaves_after, cells_before, cells_after, AreAround}
-use Rattle.art_arena.specs.Linked.{Links, AreLinked}
-use Rattle.art_arena.specs.Meaning.{IsNodes, IsTree}
-use Rattle.art_arena.specs.Places.{IsPlace}
-use Rattle.art_arena.specs.Shapes.{Shape, leaf_at, LeafAt, name_of, leaves, cells}
-use Rattle.art_arena.specs.Steps.{Step, steps_to}
-use Rattle.art_arena.proofs.CellLists.{Holds-write}
-use Rattle.art_arena.proofs.Contexts.{cells-plug, leaves-plug, name_of-plug}
-use Rattle.art_arena.proofs.LinkedLists.{AreLinked-left, AreLinked-right, AreLinked-join}
-use Rattle.art_arena.proofs.Repoint.{IsNodes-plug}
-use Rattle.art_arena.proofs.Updates.{nodes-update, links-update}
+use Rattle.art_arena.specs.arena.Arena.{Arena, leaf_held, held_at, node_at, links_at, links_of}
+use Rattle.art_arena.specs.arena.Cells.{pair, leaf_name, AreHeld, Holds, UpdatesAt}
+use Rattle.art_arena.specs.arena.Context.{Frame, plug, path_to, root_of, leaves_before, leaves_after, cells_before, cells_after, AreAround}
+use Rattle.art_arena.specs.arena.Linked.{Links, AreLinked}
+use Rattle.art_arena.specs.arena.Meaning.{IsNodes, IsTree}
+use Rattle.art_arena.specs.arena.Places.{IsPlace}
+use Rattle.art_arena.specs.arena.Shapes.{Shape, leaf_at, LeafAt, name_of, leaves, cells}
+use Rattle.art_arena.specs.arena.Steps.{Step, steps_to}
+use Rattle.art_arena.proofs.shapes.CellLists.{Holds-write}
+use Rattle.art_arena.proofs.shapes.Contexts.{cells-plug, leaves-plug, name_of-plug}
+use Rattle.art_arena.proofs.shapes.LinkedLists.{AreLinked-left, AreLinked-right, AreLinked-join}
+use Rattle.art_arena.proofs.shapes.Repoint.{IsNodes-plug}
+use Rattle.art_arena.proofs.shapes.Updates.{nodes-update, links-update}
 use Rattle.std.proofs.lemmas.Bool.Decides.{eqb_tells}
 use Rattle.art_operations.specs.Insertions.{IsInserted}
 use Rattle.art_operations.specs.Points.{IsPoint, MeetsAt}
 use Rattle.art_operations.specs.declared.insert.point.InsertPoint.{InsertPoint}
 use Rattle.art_operations.specs.declared.insert.point.InsertKind.TheVariants as kind
 use Rattle.art_operations.specs.declared.insert.result.InsertParentNodeChange.TheVariants.{NewParent, NoChange}
-use Rattle.art_arena.specs.Steps.{steps_of}
-use Rattle.art_arena.proofs.Places.{held-below}
-use Rattle.art_arena.proofs.Subtrees.{pair_of, HoldsPair}
+use Rattle.art_arena.specs.arena.Steps.{steps_of}
+use Rattle.art_arena.proofs.shapes.Places.{held-below}
+use Rattle.art_arena.proofs.shapes.Subtrees.{pair_of, HoldsPair}
 use Rattle.art_operations.proofs.LastSteps.{last_two}
 
 module _ {K V : Type 0} where

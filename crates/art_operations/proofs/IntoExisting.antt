@@ -5,19 +5,19 @@ use Rattle.art_nodes.specs.InnerNode.{child_at}
 use Rattle.art_nodes.specs.Name.{Name}
 use Rattle.art_nodes.specs.Concrete.{inner_name_of}
 use Rattle.art_nodes.specs.declared.concrete.ConcreteInnerNodePtr.{ConcreteInnerNodePtr}
-use Rattle.art_arena.specs.Arena.{Arena, cell_of, node_at, links_at, Allocates}
-use Rattle.art_arena.specs.Cells.{pair, branches, leaf_name, Holds}
-use Rattle.art_arena.specs.Context.{Frame, plug, path_to, leaves_before, leaves_after, cells_before, cells_after}
-use Rattle.art_arena.specs.Kinds.{IsKindOf}
-use Rattle.art_arena.specs.Linked.{IsBeside}
-use Rattle.art_arena.specs.Meaning.{IsTree}
-use Rattle.art_arena.specs.Shapes.{Shape, Branches, inner_at, leaf_at, LeafAt, name_of, children_at, join, width, leaves, leaves_in, cells, cells_in, IsUnder}
-use Rattle.art_arena.specs.Steps.{steps_to, steps_of}
-use Rattle.art_arena.proofs.CellLists.{Holds-add}
-use Rattle.art_arena.proofs.Contexts.{leaves_in-join, cells_in-join, width-join, leaves-plug, cells-plug, name_of-plug}
-use Rattle.art_arena.proofs.Openings.{opening}
-use Rattle.art_arena.proofs.Surroundings.{new-beside}
-use Rattle.art_arena.proofs.Updates.{nodes-update, links-update}
+use Rattle.art_arena.specs.arena.Arena.{Arena, cell_of, node_at, links_at, Allocates}
+use Rattle.art_arena.specs.arena.Cells.{pair, branches, leaf_name, Holds}
+use Rattle.art_arena.specs.arena.Context.{Frame, plug, path_to, leaves_before, leaves_after, cells_before, cells_after}
+use Rattle.art_arena.specs.tree.Kinds.{IsKindOf}
+use Rattle.art_arena.specs.arena.Linked.{IsBeside}
+use Rattle.art_arena.specs.arena.Meaning.{IsTree}
+use Rattle.art_arena.specs.arena.Shapes.{Shape, Branches, inner_at, leaf_at, LeafAt, name_of, children_at, join, width, leaves, leaves_in, cells, cells_in, IsUnder}
+use Rattle.art_arena.specs.arena.Steps.{steps_to, steps_of}
+use Rattle.art_arena.proofs.shapes.CellLists.{Holds-add}
+use Rattle.art_arena.proofs.shapes.Contexts.{leaves_in-join, cells_in-join, width-join, leaves-plug, cells-plug, name_of-plug}
+use Rattle.art_arena.proofs.shapes.Openings.{opening}
+use Rattle.art_arena.proofs.shapes.Surroundings.{new-beside}
+use Rattle.art_arena.proofs.shapes.Updates.{nodes-update, links-update}
 use Rattle.art_operations.specs.inner.Edits.{lone_leaf}
 use Rattle.art_operations.specs.Insertions.{IsInserted}
 use Rattle.art_operations.specs.Points.{IsPoint, MeetsAt}

@@ -5,25 +5,25 @@ use Rattle.std.proofs.lemmas.List.{map-append}
 use Rattle.art_bytes.specs.Keys.{Conflict}
 use Rattle.art_nodes.specs.Name.{Name}
 use Rattle.art_nodes.specs.declared.leaf.LeafNode.{LeafNode}
-use Rattle.art_arena.specs.Order.{IsAscending, common}
-use Rattle.art_arena.specs.Changes.{IsIn, IsPutIn}
-use Rattle.art_arena.specs.Cells.{Cell, pair, leaf_name, AreHeld}
-use Rattle.art_arena.specs.Context.{leaves_before, leaves_after}
-use Rattle.art_arena.specs.Fronts.{byte_after, bytes_after, distinct, width_of}
-use Rattle.art_arena.specs.Found.{found_in, IsAtKey}
-use Rattle.art_arena.specs.Kinds.{IsLimit}
-use Rattle.art_arena.specs.Steps.{Step}
-use Rattle.art_arena.specs.Found as found
-use Rattle.art_arena.specs.Shapes.{Shape, Branches, leaf_at, inner_at, no_branch, branch, LeafAt, leaves, leaves_in, pairs_of, erase, cells, cells_in, IsUnder, key_of}
-use Rattle.art_arena.specs.Shrinks.{Shrinks}
-use Rattle.art_arena.proofs.Order.{all_left, all_right}
-use Rattle.art_arena.proofs.Canonical.{ascending}
-use Rattle.art_arena.proofs.Erased.{items-erase, canonical-erase}
-use Rattle.art_arena.proofs.Finding.{pairs-with_key, pair_at}
-use Rattle.art_arena.proofs.Exists.{in_middle}
-use Rattle.art_arena.proofs.Insert.{all_at, in_right}
-use Rattle.art_arena.proofs.Contexts.{leaves-plug}
-use Rattle.art_arena.proofs.Paths.{in_cases, in_map}
+use Rattle.art_arena.specs.tree.Order.{IsAscending, common}
+use Rattle.art_arena.specs.tree.Changes.{IsIn, IsPutIn}
+use Rattle.art_arena.specs.arena.Cells.{Cell, pair, leaf_name, AreHeld}
+use Rattle.art_arena.specs.arena.Context.{leaves_before, leaves_after}
+use Rattle.art_arena.specs.tree.Fronts.{byte_after, bytes_after, distinct, width_of}
+use Rattle.art_arena.specs.arena.Found.{found_in, IsAtKey}
+use Rattle.art_arena.specs.tree.Kinds.{IsLimit}
+use Rattle.art_arena.specs.arena.Steps.{Step}
+use Rattle.art_arena.specs.arena.Found as found
+use Rattle.art_arena.specs.arena.Shapes.{Shape, Branches, leaf_at, inner_at, no_branch, branch, LeafAt, leaves, leaves_in, pairs_of, erase, cells, cells_in, IsUnder, key_of}
+use Rattle.art_arena.specs.tree.Shrinks.{Shrinks}
+use Rattle.art_arena.proofs.tree.Order.{all_left, all_right}
+use Rattle.art_arena.proofs.tree.Canonical.{ascending}
+use Rattle.art_arena.proofs.shapes.Erased.{items-erase, canonical-erase}
+use Rattle.art_arena.proofs.shapes.Finding.{pairs-with_key, pair_at}
+use Rattle.art_arena.proofs.tree.Exists.{in_middle}
+use Rattle.art_arena.proofs.tree.Insert.{all_at, in_right}
+use Rattle.art_arena.proofs.shapes.Contexts.{leaves-plug}
+use Rattle.art_arena.proofs.tree.Paths.{in_cases, in_map}
 use Rattle.art_operations.specs.Insertions.{IsReplaced, IsPutOrReplaced}
 use Rattle.art_operations.specs.KeyedLists.{with_key, IsBlocked}
 use Rattle.art_operations.specs.Pairs.{pair_in}

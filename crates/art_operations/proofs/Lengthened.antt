@@ -3,11 +3,11 @@ use Rattle.std.proofs.Common.{◌≡◌, ◌≢◌, ℕ, List, sym, ap, subst, �
 use Rattle.art_nodes.specs.declared.kind.NodeType.TheVariants.{Leaf}
 use Rattle.art_nodes.specs.InnerNode.{InnerNode}
 use Rattle.art_nodes.specs.Name.{Name}
-use Rattle.art_arena.specs.Arena.{Arena, held_at, node_at}
-use Rattle.art_arena.specs.Kinds.{IsKindOf}
-use Rattle.art_arena.specs.Meaning.{IsSubtree}
-use Rattle.art_arena.specs.Shapes.{Shape, leaf_at, inner_at, width}
-use Rattle.art_arena.proofs.Subtrees.{inner_of}
+use Rattle.art_arena.specs.arena.Arena.{Arena, held_at, node_at}
+use Rattle.art_arena.specs.tree.Kinds.{IsKindOf}
+use Rattle.art_arena.specs.arena.Meaning.{IsSubtree}
+use Rattle.art_arena.specs.arena.Shapes.{Shape, leaf_at, inner_at, width}
+use Rattle.art_arena.proofs.shapes.Subtrees.{inner_of}
 use Rattle.art_operations.specs.inner.Removals.{Lengthens}
 
 -- an inner node's kind is no leaf's

@@ -3,17 +3,17 @@ use Rattle.std.proofs.Common.{◌≡◌, ◌≢◌, ℕ, ◌+◌, ◌≤◌, con
 use Rattle.std.proofs.lemmas.List.{append-nil}
 use Rattle.art_nodes.specs.Name.{Name}
 use Rattle.art_nodes.specs.InnerNode.{InnerNode}
-use Rattle.art_arena.specs.Arena.{Arena, held_at, node_at}
-use Rattle.art_arena.specs.Cells.{Cell, branches, leaf_name, copies, Holds, UpdatesAt}
-use Rattle.art_arena.specs.Context.{Frame, path_to, frame_cell, cells_before, cells_after, AreBelow}
-use Rattle.art_arena.specs.Meaning.{IsPart, IsSubtree}
-use Rattle.art_arena.specs.Shapes.{Shape, Branches, leaf_at, inner_at, no_branch, branch, LeafAt, name_of, children_at, join, width, leaves, leaves_in, cells, cells_in, node_of, IsUnder, AreUnder}
-use Rattle.art_arena.proofs.Order.{all_left, all_right, begins_append}
-use Rattle.art_arena.proofs.CellLists.{same_name-self, copies-append, Holds-write, Holds-remove, Holds-same}
-use Rattle.art_arena.proofs.Contexts.{leaves_in-join}
-use Rattle.art_arena.proofs.Repoint.{frame_node}
-use Rattle.art_arena.proofs.Subtrees.{inner_of}
-use Rattle.art_arena.proofs.Updates.{nodes-update, nodes-same}
+use Rattle.art_arena.specs.arena.Arena.{Arena, held_at, node_at}
+use Rattle.art_arena.specs.arena.Cells.{Cell, branches, leaf_name, copies, Holds, UpdatesAt}
+use Rattle.art_arena.specs.arena.Context.{Frame, path_to, frame_cell, cells_before, cells_after, AreBelow}
+use Rattle.art_arena.specs.arena.Meaning.{IsPart, IsSubtree}
+use Rattle.art_arena.specs.arena.Shapes.{Shape, Branches, leaf_at, inner_at, no_branch, branch, LeafAt, name_of, children_at, join, width, leaves, leaves_in, cells, cells_in, node_of, IsUnder, AreUnder}
+use Rattle.art_arena.proofs.tree.Order.{all_left, all_right, begins_append}
+use Rattle.art_arena.proofs.shapes.CellLists.{same_name-self, copies-append, Holds-write, Holds-remove, Holds-same}
+use Rattle.art_arena.proofs.shapes.Contexts.{leaves_in-join}
+use Rattle.art_arena.proofs.shapes.Repoint.{frame_node}
+use Rattle.art_arena.proofs.shapes.Subtrees.{inner_of}
+use Rattle.art_arena.proofs.shapes.Updates.{nodes-update, nodes-same}
 use Rattle.art_operations.specs.inner.Detached.{alone, IsHeldAt, StandsFor}
 use Rattle.art_operations.specs.inner.Removals.{Lengthens, lengthened, IsOther}
 use Rattle.art_operations.proofs.Apart.{set_apart, AreUnder-closed}

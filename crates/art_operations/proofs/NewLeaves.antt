@@ -1,8 +1,8 @@
 -- A new leaf goes between two lists of leaves.
 use Rattle.std.proofs.Common.{◌≡◌, ℕ, Bool, true, false, List, [], ◌∷◌, ◌++◌, Option, Some, None, IsSome, refl, sym, subst, ◌∙◌, append_assoc}
-use Rattle.art_arena.specs.Linked.{Links, first_slot, last_slot, IsBeside}
-use Rattle.art_arena.specs.Shapes.{LeafAt}
-use Rattle.art_arena.proofs.LinkedLists.{ends_with-first, last_slot-append}
+use Rattle.art_arena.specs.arena.Linked.{Links, first_slot, last_slot, IsBeside}
+use Rattle.art_arena.specs.arena.Shapes.{LeafAt}
+use Rattle.art_arena.proofs.shapes.LinkedLists.{ends_with-first, last_slot-append}
 use Rattle.art_operations.specs.inner.Splits.{IsBetween}
 use Rattle.art_operations.proofs.Inserted.{AreLinked-same}
 

@@ -4,9 +4,9 @@ use Rattle.art_nodes.specs.Name.{Name}
 use Rattle.art_nodes.specs.InnerNode.{InnerNode}
 use Rattle.art_nodes.specs.declared.kind.NodeType.{NodeType}
 use Rattle.art_nodes.specs.declared.kind.NodeType.TheVariants.{Node4, Node16, Node48, Node256, Leaf}
-use Rattle.art_arena.specs.Arena.{Arena, Held, inner_held, as_inner, held_as, held_at, Allocates, SameNodes, HasRoom}
-use Rattle.art_arena.specs.Cells.{UpdatesAt}
-use Rattle.art_arena.proofs.CellLists.{same_name_tells}
+use Rattle.art_arena.specs.arena.Arena.{Arena, Held, inner_held, as_inner, held_as, held_at, Allocates, SameNodes, HasRoom}
+use Rattle.art_arena.specs.arena.Cells.{UpdatesAt}
+use Rattle.art_arena.proofs.shapes.CellLists.{same_name_tells}
 
 module _ {K V : Type 0} where
   -- room for more is room for fewer

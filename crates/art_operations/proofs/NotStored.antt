@@ -4,15 +4,15 @@ use Rattle.std.specs.List.{AllByRecursion}
 use Rattle.std.proofs.lemmas.Bool.Decides.{eqb_tells}
 use Rattle.art_bytes.specs.Keys.{BeginsWith}
 use Rattle.art_nodes.specs.InnerNode.{child_at}
-use Rattle.art_arena.specs.Context.{path_to, leaves_before, leaves_after}
-use Rattle.art_arena.specs.Order.{IsBefore}
-use Rattle.art_arena.specs.Shapes.{Shape, Branches, inner_at, no_branch, branch, LeafAt, children_at, leaves, leaves_in, IsUnder, AreUnder}
-use Rattle.art_arena.proofs.Contexts.{leaves-plug}
-use Rattle.art_arena.proofs.Fronts.{one_byte}
-use Rattle.art_arena.proofs.Order.{all_append, all_weaker, before_not_self}
-use Rattle.art_arena.proofs.Places.{leaves-begin}
-use Rattle.art_arena.proofs.Subtrees.{leaves_begin_prefix}
-use Rattle.art_arena.proofs.Surroundings.{ctx-before, ctx-after}
+use Rattle.art_arena.specs.arena.Context.{path_to, leaves_before, leaves_after}
+use Rattle.art_arena.specs.tree.Order.{IsBefore}
+use Rattle.art_arena.specs.arena.Shapes.{Shape, Branches, inner_at, no_branch, branch, LeafAt, children_at, leaves, leaves_in, IsUnder, AreUnder}
+use Rattle.art_arena.proofs.shapes.Contexts.{leaves-plug}
+use Rattle.art_arena.proofs.tree.Fronts.{one_byte}
+use Rattle.art_arena.proofs.tree.Order.{all_append, all_weaker, before_not_self}
+use Rattle.art_arena.proofs.shapes.Places.{leaves-begin}
+use Rattle.art_arena.proofs.shapes.Subtrees.{leaves_begin_prefix}
+use Rattle.art_arena.proofs.shapes.Surroundings.{ctx-before, ctx-after}
 use Rattle.art_operations.specs.Points.{IsPoint, MeetsAt}
 use Rattle.art_operations.specs.declared.insert.point.InsertKind.{InsertKind}
 use Rattle.art_operations.specs.declared.insert.point.InsertKind.TheVariants as kind

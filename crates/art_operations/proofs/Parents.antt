@@ -3,19 +3,19 @@ use Rattle.std.proofs.Common.{◌≡◌, ◌≢◌, ℕ, suc, ◌+◌, List, ◌
 use Rattle.art_nodes.specs.Name.{Name}
 use Rattle.art_nodes.specs.InnerNode.{InnerNode, with_child, without_child, with_children}
 use Rattle.art_nodes.specs.declared.kind.NodeType.TheVariants.{Leaf}
-use Rattle.art_arena.specs.Arena.{Arena, inner_held, held_at, links_of, links_at, node_at}
-use Rattle.art_arena.specs.Cells.{leaf_name}
-use Rattle.art_arena.specs.Context.{Frame}
-use Rattle.art_arena.specs.Meaning.{IsSubtree}
-use Rattle.art_arena.specs.Shapes.{Shape, Branches, leaf_at, inner_at, no_branch, branch, LeafAt, children_at, join, width}
-use Rattle.art_arena.proofs.Contexts.{children_at-join, cells-plug}
-use Rattle.art_arena.proofs.Openings.{with_child-opening, without_child-frame}
-use Rattle.art_arena.proofs.Repoint.{frame_node, frame-there}
-use Rattle.art_arena.proofs.Subtrees.{inner_of}
+use Rattle.art_arena.specs.arena.Arena.{Arena, inner_held, held_at, links_of, links_at, node_at}
+use Rattle.art_arena.specs.arena.Cells.{leaf_name}
+use Rattle.art_arena.specs.arena.Context.{Frame}
+use Rattle.art_arena.specs.arena.Meaning.{IsSubtree}
+use Rattle.art_arena.specs.arena.Shapes.{Shape, Branches, leaf_at, inner_at, no_branch, branch, LeafAt, children_at, join, width}
+use Rattle.art_arena.proofs.shapes.Contexts.{children_at-join, cells-plug}
+use Rattle.art_arena.proofs.shapes.Openings.{with_child-opening, without_child-frame}
+use Rattle.art_arena.proofs.shapes.Repoint.{frame_node, frame-there}
+use Rattle.art_arena.proofs.shapes.Subtrees.{inner_of}
 use Rattle.art_operations.specs.inner.Detached.{IsHeldAt}
 use Rattle.art_operations.specs.inner.Removals.{Moves, PutsBack, Lengthens}
 use Rattle.art_operations.proofs.Lengthened.{kind_not_leaf, others_kept}
-use Rattle.art_arena.specs.Cells.{Holds}
+use Rattle.art_arena.specs.arena.Cells.{Holds}
 
 module _ {K V : Type 0} where
   -- a node has as many children as branches

@@ -7,24 +7,24 @@ use Rattle.art_nodes.specs.declared.kind.NodeType.TheVariants.{Leaf}
 use Rattle.art_nodes.specs.declared.leaf.LeafNode.{LeafNode}
 use Rattle.art_nodes.specs.InnerNode.{InnerNode, child_at}
 use Rattle.art_nodes.specs.Name.{Name}
-use Rattle.art_arena.specs.Order.{IsProperFront}
-use Rattle.art_arena.specs.Changes.{IsIn}
-use Rattle.art_arena.specs.Cells.{Cell, leaf_name}
-use Rattle.art_arena.specs.Arena.{Arena, leaf_held, inner_held, held_at, node_at}
-use Rattle.art_arena.specs.Shapes.{Shape, Branches, leaf_at, inner_at, no_branch, branch, LeafAt, children_at, width, leaves, leaves_in, IsUnder, AreUnder}
-use Rattle.art_arena.specs.Context.{Frame, path_to}
-use Rattle.art_arena.specs.Meaning.{IsAtDepth, IsSubtree}
-use Rattle.art_arena.specs.Places.{IsPlace, IsToward}
-use Rattle.art_arena.specs.Steps.{Step, steps_to}
-use Rattle.art_arena.proofs.Order.{all_append, all_weaker, begins_step, begins_from_step, conflict_first, conflict_second}
-use Rattle.art_arena.proofs.Fronts.{begins_trans, one_byte}
-use Rattle.art_arena.proofs.Places.{leaves-begin, step-down, at-root}
+use Rattle.art_arena.specs.tree.Order.{IsProperFront}
+use Rattle.art_arena.specs.tree.Changes.{IsIn}
+use Rattle.art_arena.specs.arena.Cells.{Cell, leaf_name}
+use Rattle.art_arena.specs.arena.Arena.{Arena, leaf_held, inner_held, held_at, node_at}
+use Rattle.art_arena.specs.arena.Shapes.{Shape, Branches, leaf_at, inner_at, no_branch, branch, LeafAt, children_at, width, leaves, leaves_in, IsUnder, AreUnder}
+use Rattle.art_arena.specs.arena.Context.{Frame, path_to}
+use Rattle.art_arena.specs.arena.Meaning.{IsAtDepth, IsSubtree}
+use Rattle.art_arena.specs.arena.Places.{IsPlace, IsToward}
+use Rattle.art_arena.specs.arena.Steps.{Step, steps_to}
+use Rattle.art_arena.proofs.tree.Order.{all_append, all_weaker, begins_step, begins_from_step, conflict_first, conflict_second}
+use Rattle.art_arena.proofs.tree.Fronts.{begins_trans, one_byte}
+use Rattle.art_arena.proofs.shapes.Places.{leaves-begin, step-down, at-root}
 use Rattle.art_operations.specs.Meetings.{PartAt}
 use Rattle.art_operations.proofs.LastSteps.{last_two}
 use Rattle.art_operations.specs.declared.meeting.Parted.{Parted}
 use Rattle.art_operations.specs.Points.{HasConflict, NoConflict}
-use Rattle.art_arena.proofs.Prefixes.{drop-front}
-use Rattle.art_arena.proofs.Subtrees.{pair_of, leaves_begin_prefix, some_leaf, subtree-leaf, subtree-inner, subtree-branch, root_held}
+use Rattle.art_arena.proofs.shapes.Prefixes.{drop-front}
+use Rattle.art_arena.proofs.shapes.Subtrees.{pair_of, leaves_begin_prefix, some_leaf, subtree-leaf, subtree-inner, subtree-branch, root_held}
 
 -- the key behind the path to it
 pub behind : (path key : List ℕ) (depth : ℕ) → length path ≡ depth → BeginsWith path key → key ≡ path ++ drop depth key

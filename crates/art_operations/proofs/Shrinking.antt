@@ -4,24 +4,24 @@ use Rattle.std.specs.List.{filter_map, cons_option}
 use Rattle.std.specs.Prelude.{Option, nat_eq}
 use Rattle.std.proofs.lemmas.Bool.Decides.{eqb_tells}
 use Rattle.art_nodes.specs.Name.{Name}
-use Rattle.art_arena.specs.Arena.{Arena, node_at}
-use Rattle.art_arena.specs.Changes.{IsIn}
-use Rattle.art_arena.specs.Context.{Frame, fill, plug, path_to, leaves_before, leaves_after, AreBelow, AreAround}
-use Rattle.art_arena.specs.Fronts.{byte_after, width_of, distinct}
-use Rattle.art_arena.specs.Kinds.{ChangesKind}
-use Rattle.art_arena.specs.Meaning.{IsNodes}
-use Rattle.art_arena.specs.Order.{common}
-use Rattle.art_arena.specs.Shapes.{Shape, Branches, leaf_at, no_branch, branch, join, leaves, width, erase, erase_in, key_of, IsUnder}
-use Rattle.art_arena.specs.Shrinks.{Shrinks}
-use Rattle.art_arena.specs.Steps.{Step}
-use Rattle.art_arena.specs.Trees.{items, count, IsCanonical}
-use Rattle.art_arena.proofs.Contexts.{leaves-plug, width-join}
-use Rattle.art_arena.proofs.Delete.{last_count, last_in}
-use Rattle.art_arena.proofs.Erased.{items-erase, count-erase, canonical-erase}
-use Rattle.art_arena.proofs.Fronts.{widths}
-use Rattle.art_arena.proofs.Insert.{in_right}
-use Rattle.art_arena.proofs.Paths.{in_map}
-use Rattle.art_arena.proofs.Shrinks.{TreeMeets, meets, shrinks_is_kind_change}
+use Rattle.art_arena.specs.arena.Arena.{Arena, node_at}
+use Rattle.art_arena.specs.tree.Changes.{IsIn}
+use Rattle.art_arena.specs.arena.Context.{Frame, fill, plug, path_to, leaves_before, leaves_after, AreBelow, AreAround}
+use Rattle.art_arena.specs.tree.Fronts.{byte_after, width_of, distinct}
+use Rattle.art_arena.specs.tree.Kinds.{ChangesKind}
+use Rattle.art_arena.specs.arena.Meaning.{IsNodes}
+use Rattle.art_arena.specs.tree.Order.{common}
+use Rattle.art_arena.specs.arena.Shapes.{Shape, Branches, leaf_at, no_branch, branch, join, leaves, width, erase, erase_in, key_of, IsUnder}
+use Rattle.art_arena.specs.tree.Shrinks.{Shrinks}
+use Rattle.art_arena.specs.arena.Steps.{Step}
+use Rattle.art_arena.specs.tree.Trees.{items, count, IsCanonical}
+use Rattle.art_arena.proofs.shapes.Contexts.{leaves-plug, width-join}
+use Rattle.art_arena.proofs.tree.Delete.{last_count, last_in}
+use Rattle.art_arena.proofs.shapes.Erased.{items-erase, count-erase, canonical-erase}
+use Rattle.art_arena.proofs.tree.Fronts.{widths}
+use Rattle.art_arena.proofs.tree.Insert.{in_right}
+use Rattle.art_arena.proofs.tree.Paths.{in_map}
+use Rattle.art_arena.proofs.tree.Shrinks.{TreeMeets, meets, shrinks_is_kind_change}
 use Rattle.art_operations.specs.DeletePoints.{IsLeafPlace}
 use Rattle.art_operations.proofs.Detaching.{the_parent, the_leaf, whole_is, held_at_place}
 

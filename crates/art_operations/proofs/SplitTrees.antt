@@ -5,20 +5,20 @@ use Rattle.art_nodes.specs.InnerNode.{with_child}
 use Rattle.art_nodes.specs.Name.{Name}
 use Rattle.art_nodes.specs.declared.kind.NodeType.TheVariants.{Leaf, Node4}
 use Rattle.art_nodes.specs.declared.concrete.ConcreteInnerNodePtr.TheVariants as inner
-use Rattle.art_arena.specs.Arena.{Arena, inner_held, cell_of, held_at, node_at, links_at}
-use Rattle.art_arena.specs.Cells.{Cell, pair, branches, leaf_name, copies, AreHeld, Holds, UpdatesAt}
-use Rattle.art_arena.specs.Context.{Frame, path_to, root_of, frame_cell, leaves_before, leaves_after, cells_before, cells_after, AreAround}
-use Rattle.art_arena.specs.Linked.{AreLinked, IsBeside}
-use Rattle.art_arena.specs.Meaning.{IsAtDepth, IsSubtree, IsTree}
-use Rattle.art_arena.specs.Shapes.{Shape, no_branch, branch, name_of, leaves, cells, node_of}
-use Rattle.art_arena.specs.Steps.{Step}
-use Rattle.art_arena.proofs.Order.{all_append, all_left, all_right}
-use Rattle.art_arena.proofs.CellLists.{copies-append, Holds-add, Holds-write, Holds-same}
-use Rattle.art_arena.proofs.Contexts.{cells-plug, leaves-plug, name_of-plug}
-use Rattle.art_arena.proofs.Meanings.{nodes-part}
-use Rattle.art_arena.proofs.Places.{held-below}
-use Rattle.art_arena.proofs.Surroundings.{new-beside}
-use Rattle.art_arena.proofs.Updates.{nodes-update, links-update, links-kept}
+use Rattle.art_arena.specs.arena.Arena.{Arena, inner_held, cell_of, held_at, node_at, links_at}
+use Rattle.art_arena.specs.arena.Cells.{Cell, pair, branches, leaf_name, copies, AreHeld, Holds, UpdatesAt}
+use Rattle.art_arena.specs.arena.Context.{Frame, path_to, root_of, frame_cell, leaves_before, leaves_after, cells_before, cells_after, AreAround}
+use Rattle.art_arena.specs.arena.Linked.{AreLinked, IsBeside}
+use Rattle.art_arena.specs.arena.Meaning.{IsAtDepth, IsSubtree, IsTree}
+use Rattle.art_arena.specs.arena.Shapes.{Shape, no_branch, branch, name_of, leaves, cells, node_of}
+use Rattle.art_arena.specs.arena.Steps.{Step}
+use Rattle.art_arena.proofs.tree.Order.{all_append, all_left, all_right}
+use Rattle.art_arena.proofs.shapes.CellLists.{copies-append, Holds-add, Holds-write, Holds-same}
+use Rattle.art_arena.proofs.shapes.Contexts.{cells-plug, leaves-plug, name_of-plug}
+use Rattle.art_arena.proofs.shapes.Meanings.{nodes-part}
+use Rattle.art_arena.proofs.shapes.Places.{held-below}
+use Rattle.art_arena.proofs.shapes.Surroundings.{new-beside}
+use Rattle.art_arena.proofs.shapes.Updates.{nodes-update, links-update, links-kept}
 use Rattle.art_operations.specs.inner.Edits.{StandsAround, lone_leaf, AllocatesBoth}
 use Rattle.art_operations.specs.inner.Splits.{trimmed, root_cell, IsEnd, IsBetween, split_node}
 use Rattle.art_operations.specs.Insertions.{IsInserted}

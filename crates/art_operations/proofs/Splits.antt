@@ -3,14 +3,14 @@ use Rattle.std.proofs.Common.{◌≡◌, ◌≢◌, ℕ, ◌+◌, ◌≤◌, Lis
 use Rattle.art_bytes.specs.Keys.{BeginsWith}
 use Rattle.art_nodes.specs.Name.{Name}
 use Rattle.art_nodes.specs.declared.kind.NodeType.TheVariants.{Leaf}
-use Rattle.art_arena.specs.Arena.{Held, cell_of}
-use Rattle.art_arena.specs.Cells.{Cell, leaf_name}
-use Rattle.art_arena.specs.Context.{Frame, path_to}
-use Rattle.art_arena.specs.Places.{IsPlace}
-use Rattle.art_arena.specs.Prefixes.{prefix_of}
-use Rattle.art_arena.specs.Shapes.{Shape, Branches, leaf_at, inner_at, name_of, leaves, cells, cells_in, IsUnder, AreUnder}
-use Rattle.art_arena.specs.Steps.{Step, steps_to, steps_of}
-use Rattle.art_arena.proofs.Prefixes.{drop-front}
+use Rattle.art_arena.specs.arena.Arena.{Held, cell_of}
+use Rattle.art_arena.specs.arena.Cells.{Cell, leaf_name}
+use Rattle.art_arena.specs.arena.Context.{Frame, path_to}
+use Rattle.art_arena.specs.arena.Places.{IsPlace}
+use Rattle.art_arena.specs.arena.Prefixes.{prefix_of}
+use Rattle.art_arena.specs.arena.Shapes.{Shape, Branches, leaf_at, inner_at, name_of, leaves, cells, cells_in, IsUnder, AreUnder}
+use Rattle.art_arena.specs.arena.Steps.{Step, steps_to, steps_of}
+use Rattle.art_arena.proofs.shapes.Prefixes.{drop-front}
 use Rattle.art_operations.specs.inner.Splits.{PartsFrom, trimmed, root_cell}
 use Rattle.art_operations.specs.Meetings.{PartAt}
 use Rattle.art_operations.specs.Points.{IsPoint, MeetsAt}

@@ -5,12 +5,12 @@ use Rattle.art_nodes.specs.InnerNode.{InnerNode, without_child, with_children}
 use Rattle.art_nodes.specs.Kind.{row_of, CanShrink}
 use Rattle.art_nodes.specs.declared.kind.NodeType.{NodeType}
 use Rattle.art_nodes.specs.declared.kind.NodeType.TheVariants.{Node4, Node16, Node48, Node256, Leaf}
-use Rattle.art_arena.specs.Arena.{Arena, inner_held, held_at, links_at}
-use Rattle.art_arena.specs.Cells.{leaf_name, UpdatesAt}
-use Rattle.art_arena.specs.Context.{path_to}
-use Rattle.art_arena.specs.Kinds.{IsKindOf, ChangesKind}
-use Rattle.art_arena.specs.Shapes.{name_of, width}
-use Rattle.art_arena.proofs.Updates.{links-kept}
+use Rattle.art_arena.specs.arena.Arena.{Arena, inner_held, held_at, links_at}
+use Rattle.art_arena.specs.arena.Cells.{leaf_name, UpdatesAt}
+use Rattle.art_arena.specs.arena.Context.{path_to}
+use Rattle.art_arena.specs.tree.Kinds.{IsKindOf, ChangesKind}
+use Rattle.art_arena.specs.arena.Shapes.{name_of, width}
+use Rattle.art_arena.proofs.shapes.Updates.{links-kept}
 use Rattle.art_operations.specs.inner.Detached.{IsChildLeaf, StandsFor}
 use Rattle.art_operations.specs.inner.Removals.{Moves, PutsBack, Lengthens, IsOther}
 use Rattle.art_operations.proofs.Apart.{taken}

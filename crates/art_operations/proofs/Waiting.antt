@@ -7,20 +7,20 @@ use Rattle.art_nodes.specs.declared.kind.NodeType.TheVariants.{Leaf}
 use Rattle.art_nodes.specs.declared.leaf.LeafNode.{LeafNode}
 use Rattle.art_nodes.specs.InnerNode.{InnerNode, child_at, first_child, last_child, children_between, with_child, with_children}
 use Rattle.art_nodes.specs.Name.{Name}
-use Rattle.art_arena.specs.Arena.{Arena, inner_held, held_as, as_leaf, held_at, node_at, links_at}
-use Rattle.art_arena.specs.Cells.{Cell, pair, branches, leaf_name, UpdatesAt, copies, Holds}
-use Rattle.art_arena.specs.Context.{Frame, AreBelow, plug, path_to, frame_cell, leaves_before, leaves_after, cells_before, cells_after}
-use Rattle.art_arena.specs.Kinds.{IsKindOf}
-use Rattle.art_arena.specs.Linked.{first_slot, last_slot, AreLinked}
-use Rattle.art_arena.specs.Meaning.{IsPart, IsSubtree, IsNodes, IsTree}
-use Rattle.art_arena.specs.Shapes.{Shape, Branches, leaf_at, no_branch, branch, LeafAt, name_of, children_at, join, width, leaves, leaves_in, cells, cells_in, AreUnder}
-use Rattle.art_arena.proofs.Order.{all_left, all_right}
-use Rattle.art_arena.proofs.CellLists.{copies-append, Holds-same, Holds-write}
-use Rattle.art_arena.proofs.Contexts.{leaves_in-join, cells_in-join, width-join, leaves-plug}
-use Rattle.art_arena.proofs.Openings.{with_child-opening}
-use Rattle.art_arena.proofs.Repoint.{IsNodes-plug}
-use Rattle.art_arena.proofs.Subtrees.{inner_of, branch-first, branch-last, has_last, AreUnder-here}
-use Rattle.art_arena.proofs.Updates.{nodes-update, links-kept}
+use Rattle.art_arena.specs.arena.Arena.{Arena, inner_held, held_as, as_leaf, held_at, node_at, links_at}
+use Rattle.art_arena.specs.arena.Cells.{Cell, pair, branches, leaf_name, UpdatesAt, copies, Holds}
+use Rattle.art_arena.specs.arena.Context.{Frame, AreBelow, plug, path_to, frame_cell, leaves_before, leaves_after, cells_before, cells_after}
+use Rattle.art_arena.specs.tree.Kinds.{IsKindOf}
+use Rattle.art_arena.specs.arena.Linked.{first_slot, last_slot, AreLinked}
+use Rattle.art_arena.specs.arena.Meaning.{IsPart, IsSubtree, IsNodes, IsTree}
+use Rattle.art_arena.specs.arena.Shapes.{Shape, Branches, leaf_at, no_branch, branch, LeafAt, name_of, children_at, join, width, leaves, leaves_in, cells, cells_in, AreUnder}
+use Rattle.art_arena.proofs.tree.Order.{all_left, all_right}
+use Rattle.art_arena.proofs.shapes.CellLists.{copies-append, Holds-same, Holds-write}
+use Rattle.art_arena.proofs.shapes.Contexts.{leaves_in-join, cells_in-join, width-join, leaves-plug}
+use Rattle.art_arena.proofs.shapes.Openings.{with_child-opening}
+use Rattle.art_arena.proofs.shapes.Repoint.{IsNodes-plug}
+use Rattle.art_arena.proofs.shapes.Subtrees.{inner_of, branch-first, branch-last, has_last, AreUnder-here}
+use Rattle.art_arena.proofs.shapes.Updates.{nodes-update, links-kept}
 use Rattle.art_operations.specs.inner.Waiting.{AwaitsLeaf}
 use Rattle.art_operations.proofs.Inserted.{AreLinked-same}
 use Rattle.art_operations.proofs.NewLeaves.{first_of, last_of}

@@ -1,7 +1,7 @@
 -- What a list of commands makes of an ascending list of pairs, and what it answers.
 use Rattle.std.specs.Prelude.{◌≡◌, ℕ, List, [], ◌∷◌, length}
-use Rattle.art_arena.specs.Shapes.{key_of}
-use Rattle.art_arena.specs.Shrinks.{Shrinks}
+use Rattle.art_arena.specs.arena.Shapes.{key_of}
+use Rattle.art_arena.specs.tree.Shrinks.{Shrinks}
 use Rattle.art_operations.specs.KeyedLists.{HasKey, IsBlocked, with_key, without_key}
 use Rattle.art_operations.specs.Pairs.{with_pair}
 use Rattle.art_operations.specs.declared.running.Command.{Command}

@@ -1,9 +1,9 @@
 -- What a deletion leaves.
 use Rattle.std.specs.Prelude.{◌≡◌, ℕ, List, [], ◌∷◌, ◌++◌, Option, Some, None}
 use Rattle.art_nodes.specs.Name.{Name}
-use Rattle.art_arena.specs.Arena.{Arena, node_at}
-use Rattle.art_arena.specs.Shapes.{Shape, LeafAt, leaves}
-use Rattle.art_arena.specs.Stores.{StoresOnly}
+use Rattle.art_arena.specs.arena.Arena.{Arena, node_at}
+use Rattle.art_arena.specs.arena.Shapes.{Shape, LeafAt, leaves}
+use Rattle.art_arena.specs.arena.Stores.{StoresOnly}
 use Rattle.art_operations.specs.declared.delete.result.DeleteResult.{DeleteResult}
 
 module _ {K V : Type 0} (bytes : K → List ℕ) (P : ℕ) (arena : Arena K V) where

@@ -3,8 +3,8 @@ use Rattle.std.specs.Prelude.{◌≡◌, ℕ, Some}
 use Rattle.art_nodes.specs.InnerNode.{InnerNode}
 use Rattle.art_nodes.specs.Name.{Name}
 use Rattle.art_nodes.specs.declared.leaf.LeafNode.{LeafNode}
-use Rattle.art_arena.specs.Arena.{Arena, held_at, inner_held, leaf_held, links_at}
-use Rattle.art_arena.specs.Cells.{leaf_name}
+use Rattle.art_arena.specs.arena.Arena.{Arena, held_at, inner_held, leaf_held, links_at}
+use Rattle.art_arena.specs.arena.Cells.{leaf_name}
 
 module _ {K V : Type 0} where
   -- this inner node stands under the name

@@ -2,12 +2,12 @@
 use Rattle.std.specs.Prelude.{◌≡◌, ℕ, List, ◌∷◌, ◌++◌, take, Option, Some, None}
 use Rattle.art_nodes.specs.Concrete.{inner_name_of}
 use Rattle.art_nodes.specs.declared.leaf.LeafNode.{LeafNode}
-use Rattle.art_arena.specs.Arena.{Arena}
-use Rattle.art_arena.specs.Changes.{IsPutIn}
-use Rattle.art_arena.specs.Shapes.{Shape, LeafAt, leaves}
-use Rattle.art_arena.specs.Steps.{Step}
+use Rattle.art_arena.specs.arena.Arena.{Arena}
+use Rattle.art_arena.specs.tree.Changes.{IsPutIn}
+use Rattle.art_arena.specs.arena.Shapes.{Shape, LeafAt, leaves}
+use Rattle.art_arena.specs.arena.Steps.{Step}
 use Rattle.art_operations.specs.DeletePoints.{IsLeafPlace}
-use Rattle.art_arena.specs.Stores.{StoresOnly}
+use Rattle.art_arena.specs.arena.Stores.{StoresOnly}
 use Rattle.art_operations.specs.declared.insert.result.InsertResult.{InsertResult}
 use Rattle.art_operations.specs.declared.insert.result.InsertParentNodeChange.{InsertParentNodeChange}
 use Rattle.art_operations.specs.declared.insert.result.InsertParentNodeChange.TheVariants.{NewParent, NoChange}

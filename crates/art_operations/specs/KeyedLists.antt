@@ -1,7 +1,7 @@
 -- Lists of items with keys.
 use Rattle.std.specs.Prelude.{◌≡◌, ℕ, List, filter, not, bytes_eq}
 use Rattle.art_bytes.specs.Keys.{Conflict}
-use Rattle.art_arena.specs.Changes.{IsIn}
+use Rattle.art_arena.specs.tree.Changes.{IsIn}
 
 -- the items that have the key, and those that do not
 abbrev pub with_key : {X : Type 0} → (X → List ℕ) → List ℕ → List X → List X

@@ -1,13 +1,13 @@
 -- What a look-up answers.
-pub use Rattle.art_arena.specs.Descents.{leaf_where}
+pub use Rattle.art_arena.specs.arena.Descents.{leaf_where}
 use Rattle.std.specs.Prelude.{◌≡◌, ℕ, ◌+◌, ◌-◌, ◌^◌, ◌<◌, ◌≤◌, nat_le, min, List, length, drop, Ok, Err, if◌then◌else◌}
 use Rattle.std.specs.declared.result.Result.{Result}
 use Rattle.art_nodes.specs.Header.{Header}
 use Rattle.art_nodes.specs.PrefixMatch.{agreeing}
 use Rattle.art_nodes.specs.declared.prefix_match.PrefixMatch.{PrefixMatch}
 use Rattle.art_nodes.specs.declared.prefix_match.PessimisticMismatch.{PessimisticMismatch}
-use Rattle.art_arena.specs.Paths.{path_of}
-use Rattle.art_arena.specs.Shapes.{Shape, erase}
+use Rattle.art_arena.specs.tree.Paths.{path_of}
+use Rattle.art_arena.specs.arena.Shapes.{Shape, erase}
 use Rattle.art_operations.specs.declared.lookup.PrefixMatchBehavior.{PrefixMatchBehavior}
 use Rattle.art_operations.specs.declared.lookup.PrefixMatchBehavior.TheVariants.{Pessimistic, Optimistic}
 

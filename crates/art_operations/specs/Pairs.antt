@@ -3,13 +3,13 @@ use Rattle.std.specs.Prelude.{◌≡◌, ℕ, List, [], ◌∷◌, Option, Some,
 use Rattle.std.specs.declared.result.Result.{Result}
 use Rattle.art_nodes.specs.Name.{Name}
 use Rattle.art_nodes.specs.declared.leaf.LeafNode.{LeafNode}
-use Rattle.art_arena.specs.Arena.{Arena, node_at}
-use Rattle.art_arena.specs.Cells.{leaf_name, pair}
-use Rattle.art_arena.specs.Changes.{put}
-use Rattle.art_arena.specs.Shapes.{Shape, leaves, pairs_of, key_of}
+use Rattle.art_arena.specs.arena.Arena.{Arena, node_at}
+use Rattle.art_arena.specs.arena.Cells.{leaf_name, pair}
+use Rattle.art_arena.specs.tree.Changes.{put}
+use Rattle.art_arena.specs.arena.Shapes.{Shape, leaves, pairs_of, key_of}
 use Rattle.art_operations.specs.KeyedLists.{IsBlocked, with_key, without_key}
 use Rattle.art_operations.specs.Points.{IsPoint}
-use Rattle.art_arena.specs.Stores.{StoresOnly}
+use Rattle.art_arena.specs.arena.Stores.{StoresOnly}
 use Rattle.art_operations.specs.declared.delete.result.DeleteResult.{DeleteResult}
 use Rattle.art_operations.specs.declared.insert.point.InsertPoint.{InsertPoint}
 use Rattle.art_operations.specs.declared.insert.result.InsertResult.{InsertResult}

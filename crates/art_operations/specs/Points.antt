@@ -4,11 +4,11 @@ use Rattle.std.specs.List.{AllByRecursion}
 use Rattle.std.specs.declared.result.Result.{Result}
 use Rattle.art_bytes.specs.Keys.{BeginsWith, Conflict}
 use Rattle.art_nodes.specs.InnerNode.{child_at}
-use Rattle.art_arena.specs.Changes.{IsIn}
-use Rattle.art_arena.specs.Shapes.{Shape, Branches, leaf_at, inner_at, LeafAt, name_of, children_at, leaves}
-use Rattle.art_arena.specs.Context.{Frame, path_to}
-use Rattle.art_arena.specs.Places.{IsToward}
-use Rattle.art_arena.specs.Steps.{steps_of}
+use Rattle.art_arena.specs.tree.Changes.{IsIn}
+use Rattle.art_arena.specs.arena.Shapes.{Shape, Branches, leaf_at, inner_at, LeafAt, name_of, children_at, leaves}
+use Rattle.art_arena.specs.arena.Context.{Frame, path_to}
+use Rattle.art_arena.specs.arena.Places.{IsToward}
+use Rattle.art_arena.specs.arena.Steps.{steps_of}
 use Rattle.art_operations.specs.Meetings.{PartAt}
 use Rattle.art_operations.specs.declared.insert.point.InsertPoint.{InsertPoint}
 use Rattle.art_operations.specs.declared.insert.point.InsertSearchError.{InsertSearchError}

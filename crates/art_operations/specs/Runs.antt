@@ -2,11 +2,11 @@
 use Rattle.std.specs.Prelude.{◌≡◌, ℕ, List, [], Option, Some, None}
 use Rattle.std.specs.List.{AllZip}
 use Rattle.art_nodes.specs.Name.{Name}
-use Rattle.art_arena.specs.Arena.{Arena, node_at, links_at}
-use Rattle.art_arena.specs.Meaning.{MeansAll}
-use Rattle.art_arena.specs.Shapes.{key_of}
-use Rattle.art_arena.specs.TreeOf.{tree_of}
-use Rattle.art_arena.specs.Trees.{Tree}
+use Rattle.art_arena.specs.arena.Arena.{Arena, node_at, links_at}
+use Rattle.art_arena.specs.arena.Meaning.{MeansAll}
+use Rattle.art_arena.specs.arena.Shapes.{key_of}
+use Rattle.art_arena.specs.tree.TreeOf.{tree_of}
+use Rattle.art_arena.specs.tree.Trees.{Tree}
 
 module _ {K V : Type 0} (KeyClone : K → K → Type 0) (ValueClone : V → V → Type 0) where
   -- these are clones of the pairs, in the same order

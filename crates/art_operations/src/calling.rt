@@ -1,9 +1,9 @@
 //! The caller that `CALLING.md` shows, so that it is proved with the tests, and run.
 ghost use Rattle.std.specs.Prelude.{◌≡◌, [], ℕ};
 ghost use Rattle.std.specs.Str.{bytes_eq};
-ghost use Rattle.art_arena.specs.Arena.{node_at};
-ghost use Rattle.art_arena.specs.Meaning.{IsSubtree};
-ghost use Rattle.art_arena.specs.Shapes.{Shape, leaves};
+ghost use Rattle.art_arena.specs.arena.Arena.{node_at};
+ghost use Rattle.art_arena.specs.arena.Meaning.{IsSubtree};
+ghost use Rattle.art_arena.specs.arena.Shapes.{Shape, leaves};
 ghost use Rattle.art_operations.specs.Lookups.{leaf_where};
 
 use crate::search_unchecked;

@@ -2,11 +2,11 @@
 ghost use Rattle.std.specs.Prelude.{◌≡◌, ◌<◌, ◌≤◌, ◌⊎◌, ◌↔◌, drop, IsTrue, MatchResult};
 ghost use Rattle.std.specs.Str.{bytes_eq};
 ghost use Rattle.art_bytes.specs.Keys.{BeginsWith};
-ghost use Rattle.art_arena.specs.Tenants.{begins_with};
-ghost use Rattle.art_arena.specs.Shapes.{Shape, leaves};
+ghost use Rattle.art_arena.specs.tree.Tenants.{begins_with};
+ghost use Rattle.art_arena.specs.arena.Shapes.{Shape, leaves};
 ghost use Rattle.art_operations.specs.Lookups.{behavior_after, leaf_where, seen_by};
 ghost use Rattle.art_operations.specs.Lookups.{IsMatchedByBytes, IsMatchedByLength, ReadsPath};
-ghost use Rattle.art_arena.specs.Stores.{Stores};
+ghost use Rattle.art_arena.specs.arena.Stores.{Stores};
 
 use art_arena::{ArenaReader, LeafPtr, NodeArena, land};
 use art_bytes::AsBytes;

@@ -1,8 +1,8 @@
 //! The first and the last leaf below a node.
 ghost use Rattle.std.specs.Prelude.{◌≡◌, ℕ, List, Some, None};
-ghost use Rattle.art_arena.specs.Shapes.{Shape, leaves};
-ghost use Rattle.art_arena.specs.Linked.{first_slot, last_slot};
-ghost use Rattle.art_arena.specs.Stores.{StoresBelow};
+ghost use Rattle.art_arena.specs.arena.Shapes.{Shape, leaves};
+ghost use Rattle.art_arena.specs.arena.Linked.{first_slot, last_slot};
+ghost use Rattle.art_arena.specs.arena.Stores.{StoresBelow};
 
 use art_arena::{LeafPtr, NodeArena, first_leaf, last_leaf};
 use art_bytes::AsBytes;

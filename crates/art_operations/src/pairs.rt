@@ -1,8 +1,8 @@
 //! Insertion and deletion, told by the pairs that an arena has: commands and maps stand on these.
 ghost use Rattle.std.specs.Prelude.{◌≡◌, ◌+◌, List, [], None, IfOk, IfErr, IsOk, OnErr};
-ghost use Rattle.art_arena.specs.Arena.{HasRoom, SameNodes, UsesRoom};
-ghost use Rattle.art_arena.specs.Shapes.{key_of};
-ghost use Rattle.art_arena.specs.Shrinks.{Shrinks};
+ghost use Rattle.art_arena.specs.arena.Arena.{HasRoom, SameNodes, UsesRoom};
+ghost use Rattle.art_arena.specs.arena.Shapes.{key_of};
+ghost use Rattle.art_arena.specs.tree.Shrinks.{Shrinks};
 ghost use Rattle.art_operations.specs.KeyedLists.{HasKey};
 ghost use Rattle.art_operations.specs.Pairs.{CanPut, HasPairs, HasPut, HasTaken, IsPlaced};
 

@@ -1,10 +1,10 @@
 //! The inner node above a place in a tree.
 ghost use Rattle.std.specs.Prelude.{◌≡◌, ◌∷◌, ◌++◌, List, [], MatchOption};
 ghost use Rattle.art_nodes.specs.Name.{Name};
-ghost use Rattle.art_arena.specs.Cells.{Cell, Holds};
-ghost use Rattle.art_arena.specs.Arena.{node_at, KeepsRoom};
-ghost use Rattle.art_arena.specs.Context.{Frame, root_of, cells_before};
-ghost use Rattle.art_arena.specs.Steps.{Step, steps_of};
+ghost use Rattle.art_arena.specs.arena.Cells.{Cell, Holds};
+ghost use Rattle.art_arena.specs.arena.Arena.{node_at, KeepsRoom};
+ghost use Rattle.art_arena.specs.arena.Context.{Frame, root_of, cells_before};
+ghost use Rattle.art_arena.specs.arena.Steps.{Step, steps_of};
 ghost use Rattle.art_operations.specs.inner.Edits.{StandsAround};
 ghost use Rattle.art_operations.specs.Held.{SameLinks};
 

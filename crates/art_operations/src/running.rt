@@ -1,6 +1,6 @@
 //! Lists of commands on a tree, from no pair on.
 ghost use Rattle.std.specs.Prelude.{◌≡◌, List, [], IfOk};
-ghost use Rattle.art_arena.specs.Shapes.{key_of};
+ghost use Rattle.art_arena.specs.arena.Shapes.{key_of};
 ghost use Rattle.art_operations.specs.Commands.{AreAnswered, pairs_after};
 ghost use Rattle.art_operations.specs.KeyedLists.{IsBlocked};
 ghost use Rattle.art_operations.specs.Pairs.{CanPut, HasPairs};

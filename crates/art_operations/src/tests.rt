@@ -1,8 +1,8 @@
 //! Public calls once, at concrete types.
 ghost use Rattle.std.specs.Prelude.{[], IfSome};
-ghost use Rattle.art_arena.specs.Arena.{node_at};
-ghost use Rattle.art_arena.specs.Meaning.{IsSubtree};
-ghost use Rattle.art_arena.specs.Shapes.{Shape};
+ghost use Rattle.art_arena.specs.arena.Arena.{node_at};
+ghost use Rattle.art_arena.specs.arena.Meaning.{IsSubtree};
+ghost use Rattle.art_arena.specs.arena.Shapes.{Shape};
 
 use super::*;
 use art_arena::NodeArena;

@@ -2,11 +2,11 @@
 use Rattle.std.specs.Prelude.{◌≡◌, ℕ, List, [], ◌∷◌, ◌++◌, Option, Some, None}
 use Rattle.art_bytes.specs.Keys.{BeginsWith}
 use Rattle.art_nodes.specs.Name.{Name}
-use Rattle.art_arena.specs.Arena.{Arena, node_at}
-use Rattle.art_arena.specs.Cells.{Cell, pair, leaf_name, Holds}
-use Rattle.art_arena.specs.Context.{Frame, plug, path_to, cells_before, cells_after, AreAround}
-use Rattle.art_arena.specs.Meaning.{IsNodes}
-use Rattle.art_arena.specs.Shapes.{Shape, LeafAt, leaf_at, name_of, leaves, leaves_in, cells, IsUnder}
+use Rattle.art_arena.specs.arena.Arena.{Arena, node_at}
+use Rattle.art_arena.specs.arena.Cells.{Cell, pair, leaf_name, Holds}
+use Rattle.art_arena.specs.arena.Context.{Frame, plug, path_to, cells_before, cells_after, AreAround}
+use Rattle.art_arena.specs.arena.Meaning.{IsNodes}
+use Rattle.art_arena.specs.arena.Shapes.{Shape, LeafAt, leaf_at, name_of, leaves, leaves_in, cells, IsUnder}
 
 module _ {K V : Type 0} where
   -- the leaf's cell alone

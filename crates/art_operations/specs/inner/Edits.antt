@@ -1,10 +1,10 @@
 -- What an edit of a part of a tree needs of what stands around it.
 use Rattle.std.specs.Prelude.{◌≡◌, ℕ, List, ◌++◌, take, Option, None}
 use Rattle.art_nodes.specs.Name.{Name}
-use Rattle.art_arena.specs.Arena.{Arena, Held, leaf_held, Allocates}
-use Rattle.art_arena.specs.Cells.{Cell, Holds}
-use Rattle.art_arena.specs.Context.{Frame, root_of, cells_before, AreAround}
-use Rattle.art_arena.specs.Steps.{Step, steps_to}
+use Rattle.art_arena.specs.arena.Arena.{Arena, Held, leaf_held, Allocates}
+use Rattle.art_arena.specs.arena.Cells.{Cell, Holds}
+use Rattle.art_arena.specs.arena.Context.{Frame, root_of, cells_before, AreAround}
+use Rattle.art_arena.specs.arena.Steps.{Step, steps_to}
 
 -- the map holds what stands around the place, which has this name and these last steps, and these cells beside
 pub record StandsAround {K V : Type 0} (bytes : K → List ℕ) (P : ℕ) (at : Name → Option (Cell K V)) (root : Name)

@@ -1,6 +1,6 @@
 -- How a stored list of bytes and a new one meet.
 use Rattle.std.specs.Prelude.{◌≡◌, ℕ, List}
-use Rattle.art_arena.specs.Order.{IsProperFront}
+use Rattle.art_arena.specs.tree.Order.{IsProperFront}
 use Rattle.art_operations.specs.Meetings.{PartAt}
 use Rattle.art_operations.specs.declared.meeting.Meeting.{Meeting}
 use Rattle.art_operations.specs.declared.meeting.Meeting.TheVariants as meeting

@@ -3,8 +3,8 @@ use Rattle.std.specs.Prelude.{◌≡◌, ◌≢◌, ◌⊎◌, ℕ, ◌+◌, Lis
 use Rattle.art_nodes.specs.declared.kind.NodeType.TheVariants.{Leaf}
 use Rattle.art_nodes.specs.InnerNode.{InnerNode, with_child, without_child, with_children}
 use Rattle.art_nodes.specs.Name.{Name}
-use Rattle.art_arena.specs.Arena.{Arena, Held, inner_held, held_at, SameNodes}
-use Rattle.art_arena.specs.Cells.{UpdatesAt}
+use Rattle.art_arena.specs.arena.Arena.{Arena, Held, inner_held, held_at, SameNodes}
+use Rattle.art_arena.specs.arena.Cells.{UpdatesAt}
 use Rattle.art_operations.specs.Held.{HasInner}
 
 -- the inner node under this name is edited so, and nothing else changed

@@ -1,7 +1,7 @@
 -- The steps of a run, told by the pairs that an arena has.
 use Rattle.std.specs.Prelude.{ℕ, List, Option}
 use Rattle.art_nodes.specs.Name.{Name}
-use Rattle.art_arena.specs.Arena.{Arena}
+use Rattle.art_arena.specs.arena.Arena.{Arena}
 use Rattle.art_operations.specs.Commands.{IsAnswered, after}
 use Rattle.art_operations.specs.Pairs.{HasPairs}
 use Rattle.art_operations.specs.Runs.{AreClones}

@@ -3,10 +3,10 @@ use Rattle.std.specs.Prelude.{◌≡◌, ℕ, Bool, true, false, List, [], ◌�
 use Rattle.art_nodes.specs.Header.{Header}
 use Rattle.art_nodes.specs.InnerNode.{InnerNode, with_child}
 use Rattle.art_nodes.specs.Name.{Name}
-use Rattle.art_arena.specs.Arena.{Held, inner_held}
-use Rattle.art_arena.specs.Cells.{Cell, pair, branches, leaf_name}
-use Rattle.art_arena.specs.Linked.{first_slot, last_slot}
-use Rattle.art_arena.specs.Shapes.{Shape, leaf_at, inner_at, LeafAt, children_at, node_of}
+use Rattle.art_arena.specs.arena.Arena.{Held, inner_held}
+use Rattle.art_arena.specs.arena.Cells.{Cell, pair, branches, leaf_name}
+use Rattle.art_arena.specs.arena.Linked.{first_slot, last_slot}
+use Rattle.art_arena.specs.arena.Shapes.{Shape, leaf_at, inner_at, LeafAt, children_at, node_of}
 use Rattle.art_operations.specs.declared.insert.point.InsertKind.{InsertKind}
 use Rattle.art_operations.specs.declared.insert.point.InsertKind.TheVariants as kind
 use Rattle.art_operations.specs.declared.meeting.Parted.{Parted}

@@ -2,12 +2,13 @@
 use Rattle.std.specs.Prelude.{◌≡◌, ℕ, ◌+◌, ◌≤◌, List, ◌∷◌, ◌++◌}
 use Rattle.art_bytes.specs.Keys.{BeginsWith}
 use Rattle.art_nodes.specs.Name.{Name}
-use Rattle.art_arena.specs.Arena.{Arena, node_at, links_at}
-use Rattle.art_arena.specs.Cells.{pair, leaf_name, Holds}
-use Rattle.art_arena.specs.Context.{Frame, path_to, root_of, leaves_before, leaves_after, cells_before, cells_after}
-use Rattle.art_arena.specs.Context.{AreAround, AreBelow}
-use Rattle.art_arena.specs.Linked.{IsBeside}
-use Rattle.art_arena.specs.Shapes.{LeafAt, join, children_at, width, node_of, cells_in, AreUnder}
+use Rattle.art_arena.specs.arena.Arena.{Arena, node_at, links_at}
+use Rattle.art_arena.specs.arena.Cells.{pair, leaf_name, Holds}
+use Rattle.art_arena.specs.arena.Context.{Frame, path_to, root_of, leaves_before, leaves_after, cells_before}
+use Rattle.art_arena.specs.arena.Context.{cells_after}
+use Rattle.art_arena.specs.arena.Context.{AreAround, AreBelow}
+use Rattle.art_arena.specs.arena.Linked.{IsBeside}
+use Rattle.art_arena.specs.arena.Shapes.{LeafAt, join, children_at, width, node_of, cells_in, AreUnder}
 
 -- The arena holds a leaf and a canonical tree with this root. An inner node of the tree has no child under the byte
 -- with which the leaf's key goes on there: it is the frame's node with nothing at the frame's place.

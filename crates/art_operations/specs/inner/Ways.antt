@@ -3,7 +3,7 @@ use Rattle.std.specs.Prelude.{◌≡◌, ℕ, ◌+◌, List, [], ◌∷◌, ◌+
 use Rattle.art_bytes.specs.Keys.{BeginsWith}
 use Rattle.art_nodes.specs.Name.{Name}
 use Rattle.art_nodes.specs.InnerNode.{child_at}
-use Rattle.art_arena.specs.Shapes.{Shape, Branches, inner_at, children_at, leaves}
+use Rattle.art_arena.specs.arena.Shapes.{Shape, Branches, inner_at, children_at, leaves}
 use Rattle.art_operations.specs.Points.{HasConflict, MeetsAt, NoConflict}
 use Rattle.art_operations.specs.declared.insert.point.Way.{Way}
 use Rattle.art_operations.specs.declared.insert.point.Way.TheVariants as way

@@ -1,12 +1,12 @@
 //! A leaf is taken out of a tree.
 ghost use Rattle.std.specs.Prelude.{IfOk, IsOk, OnErr};
-ghost use Rattle.art_arena.specs.Arena.{HasRoom, SameNodes, UsesRoom};
-ghost use Rattle.art_arena.specs.Shapes.{Shape, leaves};
-ghost use Rattle.art_arena.specs.Shrinks.{Shrinks};
-ghost use Rattle.art_arena.specs.Steps.{steps_of};
+ghost use Rattle.art_arena.specs.arena.Arena.{HasRoom, SameNodes, UsesRoom};
+ghost use Rattle.art_arena.specs.arena.Shapes.{Shape, leaves};
+ghost use Rattle.art_arena.specs.tree.Shrinks.{Shrinks};
+ghost use Rattle.art_arena.specs.arena.Steps.{steps_of};
 ghost use Rattle.art_operations.specs.DeletePoints.{IsLeafPlace};
 ghost use Rattle.art_operations.specs.Deletions.{IsDeleted};
-ghost use Rattle.art_arena.specs.Stores.{StoresOnly};
+ghost use Rattle.art_arena.specs.arena.Stores.{StoresOnly};
 
 use crate::delete::detach::detach;
 use crate::delete::point::DeletePoint;

@@ -3,11 +3,11 @@ ghost use Rattle.std.specs.Prelude.{◌≡◌, ◌≢◌, ◌<◌, ◌≤◌, �
 ghost use Rattle.art_nodes.specs.InnerNode as node;
 ghost use Rattle.art_nodes.specs.InnerNode.{child_at, with_child, without_child, with_children};
 ghost use Rattle.art_nodes.specs.Kind.{row_of, CanShrink};
-ghost use Rattle.art_arena.specs.Arena.{inner_held, HasRoom, SameNodes, KeepsRoom, UsesRoom};
-ghost use Rattle.art_arena.specs.Kinds.{IsKindOf, ChangesKind};
-ghost use Rattle.art_arena.specs.Shapes.{Shape, width, leaves};
-ghost use Rattle.art_arena.specs.Shrinks.{Shrinks};
-ghost use Rattle.art_arena.specs.Steps.{steps_of};
+ghost use Rattle.art_arena.specs.arena.Arena.{inner_held, HasRoom, SameNodes, KeepsRoom, UsesRoom};
+ghost use Rattle.art_arena.specs.tree.Kinds.{IsKindOf, ChangesKind};
+ghost use Rattle.art_arena.specs.arena.Shapes.{Shape, width, leaves};
+ghost use Rattle.art_arena.specs.tree.Shrinks.{Shrinks};
+ghost use Rattle.art_arena.specs.arena.Steps.{steps_of};
 ghost use Rattle.art_operations.specs.DeletePoints.{IsLeafPlace};
 ghost use Rattle.art_operations.specs.inner.Detached.{IsChildLeaf, IsDetached, StandsFor, StoresNodes};
 ghost use Rattle.art_operations.specs.inner.Removals.{EditsNode, Moves, PutsBack};

@@ -2,11 +2,11 @@
 ghost use Rattle.std.specs.Prelude.{◌≡◌, ◌≢◌, ◌<◌, ◌+◌, ◌^◌, ℕ, List, ◌∷◌, ◌++◌, Some, None, length, take};
 ghost use Rattle.art_nodes.specs.InnerNode as node;
 ghost use Rattle.art_nodes.specs.Name.{Name};
-ghost use Rattle.art_arena.specs.Arena.{Arena, held_at, KeepsRoom};
-ghost use Rattle.art_arena.specs.Cells.{UpdatesAt};
-ghost use Rattle.art_arena.specs.Shapes.{Shape};
+ghost use Rattle.art_arena.specs.arena.Arena.{Arena, held_at, KeepsRoom};
+ghost use Rattle.art_arena.specs.arena.Cells.{UpdatesAt};
+ghost use Rattle.art_arena.specs.arena.Shapes.{Shape};
 ghost use Rattle.art_operations.specs.inner.Removals.{IsOther, Lengthens};
-ghost use Rattle.art_arena.specs.Stores.{StoresBelow};
+ghost use Rattle.art_arena.specs.arena.Stores.{StoresBelow};
 ghost use Rattle.art_operations.specs.Held.{HasInner};
 
 use art_arena::{NodeArena, NodeEdit, first_leaf};

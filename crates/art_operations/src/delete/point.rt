@@ -1,11 +1,11 @@
 //! The leaf that is to be deleted.
 ghost use Rattle.std.specs.Prelude.{◌≡◌, Some, None, IfSome};
-ghost use Rattle.art_arena.specs.Found.{found_in, IsAtKey};
-ghost use Rattle.art_arena.specs.Linked.{first_slot, last_slot};
-ghost use Rattle.art_arena.specs.Shapes.{Shape, leaves};
-ghost use Rattle.art_arena.specs.Steps.{steps_of};
+ghost use Rattle.art_arena.specs.arena.Found.{found_in, IsAtKey};
+ghost use Rattle.art_arena.specs.arena.Linked.{first_slot, last_slot};
+ghost use Rattle.art_arena.specs.arena.Shapes.{Shape, leaves};
+ghost use Rattle.art_arena.specs.arena.Steps.{steps_of};
 ghost use Rattle.art_operations.specs.DeletePoints.{leaf_of, IsLeafPlace};
-ghost use Rattle.art_arena.specs.Stores.{Stores};
+ghost use Rattle.art_arena.specs.arena.Stores.{Stores};
 
 use art_arena::{ArenaReader, End, LeafPtr, NodeArena, TreePath, end_leaf, find_leaf};
 use art_bytes::AsBytes;

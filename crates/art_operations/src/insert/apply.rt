@@ -1,12 +1,12 @@
 //! The change of a tree that puts a new key in.
 ghost use Rattle.std.specs.Prelude.{◌≡◌, ℕ, IfOk, OnErr, IfErr, IsOk};
-ghost use Rattle.art_arena.specs.Arena.{HasRoom, SameNodes, UsesRoom};
-ghost use Rattle.art_arena.specs.Shapes.{Shape};
-ghost use Rattle.art_arena.specs.Steps.{steps_of};
+ghost use Rattle.art_arena.specs.arena.Arena.{HasRoom, SameNodes, UsesRoom};
+ghost use Rattle.art_arena.specs.arena.Shapes.{Shape};
+ghost use Rattle.art_arena.specs.arena.Steps.{steps_of};
 ghost use Rattle.art_operations.specs.Insertions.{IsInserted};
 ghost use Rattle.art_operations.specs.Points.{IsPoint};
 ghost use Rattle.art_operations.specs.declared.insert.point.InsertKind.TheVariants as kind;
-ghost use Rattle.art_arena.specs.Stores.{StoresOnly};
+ghost use Rattle.art_arena.specs.arena.Stores.{StoresOnly};
 
 use crate::insert::exact::replace_pair;
 use crate::insert::into_existing::put_into_existing;

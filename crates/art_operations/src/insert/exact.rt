@@ -1,12 +1,12 @@
 //! A key that the tree has already: its leaf takes the new key and the new value.
 ghost use Rattle.std.specs.Prelude.{◌≡◌};
-ghost use Rattle.art_arena.specs.Shapes.{Shape};
-ghost use Rattle.art_arena.specs.Steps.{steps_of};
+ghost use Rattle.art_arena.specs.arena.Shapes.{Shape};
+ghost use Rattle.art_arena.specs.arena.Steps.{steps_of};
 ghost use Rattle.art_operations.specs.Insertions.{IsInserted};
 ghost use Rattle.art_operations.specs.Points.{IsPoint};
 ghost use Rattle.art_operations.specs.declared.insert.point.InsertKind.TheVariants as kind;
-ghost use Rattle.art_arena.specs.Stores.{StoresOnly};
-ghost use Rattle.art_arena.specs.Arena.{KeepsRoom};
+ghost use Rattle.art_arena.specs.arena.Stores.{StoresOnly};
+ghost use Rattle.art_arena.specs.arena.Arena.{KeepsRoom};
 
 use crate::insert::point::InsertPoint;
 use crate::insert::result::{InsertParentNodeChange, InsertResult};

@@ -1,7 +1,7 @@
 //! A new leaf, before it is linked and stands under an inner node.
 ghost use Rattle.std.specs.Prelude.{◌≡◌, None, IsSome, IsOk, IfOk, OnErr, IfErr};
-ghost use Rattle.art_arena.specs.Arena.{held_at, Allocates, SameNodes, HasRoom, KeepsRoom, UsesRoom};
-ghost use Rattle.art_arena.specs.Cells.{UpdatesAt, leaf_name};
+ghost use Rattle.art_arena.specs.arena.Arena.{held_at, Allocates, SameNodes, HasRoom, KeepsRoom, UsesRoom};
+ghost use Rattle.art_arena.specs.arena.Cells.{UpdatesAt, leaf_name};
 ghost use Rattle.art_nodes.specs.declared.leaf.LeafNode as node;
 ghost use Rattle.art_operations.specs.inner.Edits.{lone_leaf};
 ghost use Rattle.art_operations.specs.Held.{HasLeaf};

@@ -1,11 +1,11 @@
 //! The place of a new key.
 ghost use Rattle.std.specs.Prelude.{◌≡◌, ◌≢◌, ℕ, List, IfOk, IfErr};
 ghost use Rattle.art_bytes.specs.Keys.{BeginsWith};
-ghost use Rattle.art_arena.specs.Cells.{leaf_name};
-ghost use Rattle.art_arena.specs.Shapes.{Shape};
+ghost use Rattle.art_arena.specs.arena.Cells.{leaf_name};
+ghost use Rattle.art_arena.specs.arena.Shapes.{Shape};
 ghost use Rattle.art_operations.specs.Points.{IsPlaceOrConflict, Refuses};
 ghost use Rattle.art_operations.specs.inner.Ways.{IsWay};
-ghost use Rattle.art_arena.specs.Stores.{Stores, StoresAt};
+ghost use Rattle.art_arena.specs.arena.Stores.{Stores, StoresAt};
 
 use crate::meeting::{Meeting, Parted, meet};
 use art_arena::{LeafPtr, NodeArena, TreePath, TreePathSearch, read_full_prefix};

@@ -4,19 +4,19 @@ ghost use Rattle.std.specs.Prelude.{◌≡◌, ◌≢◌, ◌+◌, ◌<◌, ◌�
 ghost use Rattle.std.specs.Prelude.{IsSome, IsOk, IfOk, OnErr, IfErr};
 ghost use Rattle.art_nodes.specs.declared.kind.NodeType.TheVariants.{Node4};
 ghost use Rattle.art_nodes.specs.declared.leaf.LeafNode as node;
-ghost use Rattle.art_arena.specs.Arena.{held_at, node_at, links_at, Allocates, SameNodes, HasRoom, KeepsRoom};
-ghost use Rattle.art_arena.specs.Arena.{SameCells, UsesRoom};
-ghost use Rattle.art_arena.specs.Cells.{Cell, UpdatesAt, leaf_name};
-ghost use Rattle.art_arena.specs.Linked.{AreLinked, IsBeside};
-ghost use Rattle.art_arena.specs.Prefixes.{prefix_of};
-ghost use Rattle.art_arena.specs.Shapes.{Shape, LeafAt, leaves};
-ghost use Rattle.art_arena.specs.Steps.{steps_of};
+ghost use Rattle.art_arena.specs.arena.Arena.{held_at, node_at, links_at, Allocates, SameNodes, HasRoom, KeepsRoom};
+ghost use Rattle.art_arena.specs.arena.Arena.{SameCells, UsesRoom};
+ghost use Rattle.art_arena.specs.arena.Cells.{Cell, UpdatesAt, leaf_name};
+ghost use Rattle.art_arena.specs.arena.Linked.{AreLinked, IsBeside};
+ghost use Rattle.art_arena.specs.arena.Prefixes.{prefix_of};
+ghost use Rattle.art_arena.specs.arena.Shapes.{Shape, LeafAt, leaves};
+ghost use Rattle.art_arena.specs.arena.Steps.{steps_of};
 ghost use Rattle.art_operations.specs.inner.Edits.{lone_leaf, AllocatesBoth};
 ghost use Rattle.art_operations.specs.inner.Splits.{PartsFrom, trimmed, root_cell, with_prefix, IsEnd, IsBetween};
 ghost use Rattle.art_operations.specs.inner.Splits.{split_held, split_node};
 ghost use Rattle.art_operations.specs.Insertions.{IsInserted};
 ghost use Rattle.art_operations.specs.Points.{IsPoint};
-ghost use Rattle.art_arena.specs.Stores.{StoresAt, StoresBelow, StoresOnly};
+ghost use Rattle.art_arena.specs.arena.Stores.{StoresAt, StoresBelow, StoresOnly};
 ghost use Rattle.art_operations.specs.Held.{HasLeaf, SameLinks};
 
 use crate::insert::leaf::{store_leaf, take_back};

@@ -1,10 +1,10 @@
 //! Want of memory: between a line `refuse` on the standard error and the line that tells the outcome,
 //! tests/refusals.py refuses each request in turn.
 ghost use Rattle.std.specs.Prelude.{◌≡◌, [], IfSome, IfErr, OnErr};
-ghost use Rattle.art_arena.specs.Arena.{node_at, links_at, SameNodes};
-ghost use Rattle.art_arena.specs.Meaning.{IsSubtree, IsTree};
-ghost use Rattle.art_arena.specs.Shapes.{Shape};
-ghost use Rattle.art_arena.specs.Steps.{steps_of};
+ghost use Rattle.art_arena.specs.arena.Arena.{node_at, links_at, SameNodes};
+ghost use Rattle.art_arena.specs.arena.Meaning.{IsSubtree, IsTree};
+ghost use Rattle.art_arena.specs.arena.Shapes.{Shape};
+ghost use Rattle.art_arena.specs.arena.Steps.{steps_of};
 ghost use Rattle.art_operations.specs.DeletePoints.{IsLeafPlace};
 ghost use Rattle.art_operations.specs.Points.{IsPoint};
 

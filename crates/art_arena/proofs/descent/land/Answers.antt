@@ -1,7 +1,7 @@
-use Rattle.std.proofs.Common.{◌≡◌, ◌≢◌, ◌+◌, ◌-◌, ◌^◌, min, [], ◌∷◌, List, take, sym, ap, subst, ◌∙◌, refl, arith, lit<}
-use Rattle.art_arena.specs.Arena.{node_at}
-use Rattle.art_arena.specs.Visited.{held_of}
-use Rattle.art_arena.proofs.Walking.{IsOnWay, way-start, way-there, way-step, way-ends, way-lands, reads-leaf, lent-leaf, lent-inner, node-there}
+use Rattle.std.proofs.Common.{◌≡◌, sym, ◌∙◌, refl, arith, lit<}
+use Rattle.art_arena.specs.arena.Arena.{node_at}
+use Rattle.art_arena.specs.arena.Visited.{held_of}
+use Rattle.art_arena.proofs.shapes.Walking.{way-start, way-there, way-step, way-ends, way-lands, reads-leaf, lent-leaf, lent-inner, node-there}
 use Rattle.art_arena.proofs.descent.land.Goals as goal
 
 pub down-init : goal.down-init

@@ -1,9 +1,9 @@
-use Rattle.std.proofs.Common.{◌≡◌, ◌≢◌, [], ◌∷◌, take, sym, ap, ◌∙◌, refl}
+use Rattle.std.proofs.Common.{◌≢◌, sym, ap, ◌∙◌}
 use Rattle.art_nodes.specs.declared.kind.NodeType.TheVariants.{Leaf}
 use Rattle.art_nodes.specs.InnerNode.{InnerNode}
-use Rattle.art_arena.specs.EndLeaves.{end_child}
-use Rattle.art_arena.proofs.LinkedLists.{some_of}
-use Rattle.art_arena.proofs.EndWalks.{same_inner, on_end-start, on_end-slot, on_end-place, end_step}
+use Rattle.art_arena.specs.arena.EndLeaves.{end_child}
+use Rattle.art_arena.proofs.shapes.LinkedLists.{some_of}
+use Rattle.art_arena.proofs.shapes.EndWalks.{same_inner, on_end-start, end_step}
 use Rattle.art_arena.proofs.ends.end_leaf.Goals as goal
 
 pub down-init : goal.down-init

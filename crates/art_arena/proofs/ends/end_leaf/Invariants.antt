@@ -1,9 +1,9 @@
 use Rattle.std.proofs.Common.{ℕ, List}
-use Rattle.art_arena.specs.Arena.{node_at}
-use Rattle.art_arena.specs.Shapes.{Shape}
-use Rattle.art_arena.specs.Meaning.{IsSubtree}
-use Rattle.art_arena.proofs.Measures.{slots_of, nodes_below}
-use Rattle.art_arena.proofs.EndWalks.{OnEnd}
+use Rattle.art_arena.specs.arena.Arena.{node_at}
+use Rattle.art_arena.specs.arena.Shapes.{Shape}
+use Rattle.art_arena.specs.arena.Meaning.{IsSubtree}
+use Rattle.art_arena.proofs.shapes.Measures.{slots_of, nodes_below}
+use Rattle.art_arena.proofs.shapes.EndWalks.{OnEnd}
 use Rattle.art_arena.proofs.ends.end_leaf.Given as goal
 
 abbrev pub invariant-down : goal.invariant-down

@@ -1,5 +1,5 @@
 use Rattle.std.proofs.Common.{inl, inr, arith, rules}
-use Rattle.art_arena.proofs.FullNodes.{room_in_largest}
+use Rattle.art_arena.proofs.shapes.FullNodes.{room_in_largest}
 use Rattle.art_arena.proofs.inner_ref.has_room.Goals as goal
 
 pub returns-else-not-is_full-clause-no : goal.returns-else-not-is_full-clause-no

@@ -1,5 +1,5 @@
 use Rattle.std.proofs.Common.{◌+◌, subst, arith}
-use Rattle.art_arena.specs.Steps.{steps_of}
+use Rattle.art_arena.specs.arena.Steps.{steps_of}
 use Rattle.art_operations.specs.Pairs.{CanPut, HasPoint}
 use Rattle.art_operations.proofs.HeldPairs.{put-at, stored-exact}
 use Rattle.art_operations.proofs.NewNodes.{fewer}

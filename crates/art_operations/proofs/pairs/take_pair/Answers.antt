@@ -1,5 +1,5 @@
 use Rattle.std.proofs.Common.{arith}
-use Rattle.art_arena.specs.Steps.{steps_of}
+use Rattle.art_arena.specs.arena.Steps.{steps_of}
 use Rattle.art_operations.proofs.HeldPairs.{some-tree, can-delete, taken-pair, shrinks-pair, nothing-found}
 use Rattle.art_operations.proofs.pairs.take_pair.Goals as goal
 

@@ -1,7 +1,7 @@
 use Rattle.std.proofs.Common.{inr, arith}
-use Rattle.art_arena.specs.Arena.{node_at}
-use Rattle.art_arena.specs.Steps.{steps_of}
-use Rattle.art_arena.proofs.Updates.{links-kept}
+use Rattle.art_arena.specs.arena.Arena.{node_at}
+use Rattle.art_arena.specs.arena.Steps.{steps_of}
+use Rattle.art_arena.proofs.shapes.Updates.{links-kept}
 use Rattle.art_operations.proofs.Edits.{at_top, parent_there, new_child}
 use Rattle.art_operations.proofs.parent.repoint.Goals as goal
 

@@ -1,5 +1,5 @@
 use Rattle.std.proofs.Common.{◌∙◌, refl, sym, subst, arith}
-use Rattle.art_arena.specs.Shapes.{key_of}
+use Rattle.art_arena.specs.arena.Shapes.{key_of}
 use Rattle.art_operations.specs.KeyedLists.{IsBlocked}
 use Rattle.art_operations.specs.Pairs.{CanPut}
 use Rattle.art_operations.specs.declared.running.Answer.TheVariants.{Prefix, Memory}

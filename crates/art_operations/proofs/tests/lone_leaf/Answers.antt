@@ -1,7 +1,7 @@
 use Rattle.std.proofs.Common.{ap}
-use Rattle.art_arena.specs.Arena.{node_at, cell_of}
-use Rattle.art_arena.specs.Shapes.{leaf_at}
-use Rattle.art_arena.proofs.Meanings.{leaf-subtree}
+use Rattle.art_arena.specs.arena.Arena.{node_at, cell_of}
+use Rattle.art_arena.specs.arena.Shapes.{leaf_at}
+use Rattle.art_arena.proofs.shapes.Meanings.{leaf-subtree}
 use Rattle.art_operations.proofs.tests.lone_leaf.Goals as goal
 
 pub returns-in-Ok : goal.returns-in-Ok

@@ -1,6 +1,6 @@
 use Rattle.std.proofs.Common.{[], ◌∷◌, sym, ap, ◌∙◌, lit<}
 use Rattle.art_nodes.specs.Concrete.{inner_name_of}
-use Rattle.art_arena.specs.Steps.{steps_of}
+use Rattle.art_arena.specs.arena.Steps.{steps_of}
 use Rattle.art_operations.proofs.Detaching.{lone, child_leaf, apart_of_root, grand_node, grand_there, grand_child, grand_inner, apart_below, links_below}
 use Rattle.art_operations.proofs.Results.{always_err}
 use Rattle.art_operations.proofs.Shrinking.{place_shrinks}

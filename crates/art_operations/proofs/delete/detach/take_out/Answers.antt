@@ -1,7 +1,7 @@
 use Rattle.std.proofs.Common.{◌≡◌, ◌≢◌, ℕ, suc, ◌+◌, length, refl, sym, ◌∙◌, subst, lit<, arith}
-use Rattle.art_arena.specs.Arena.{links_at}
-use Rattle.art_arena.specs.Shapes.{name_of}
-use Rattle.art_arena.proofs.Updates.{links-same}
+use Rattle.art_arena.specs.arena.Arena.{links_at}
+use Rattle.art_arena.specs.arena.Shapes.{name_of}
+use Rattle.art_arena.proofs.shapes.Updates.{links-same}
 use Rattle.art_operations.specs.inner.Detached.{IsChildLeaf, StandsFor}
 use Rattle.art_operations.proofs.Door.{read_at}
 use Rattle.art_operations.proofs.Merges.{other_path, other_subtree, other_apart}

@@ -1,7 +1,7 @@
 use Rattle.std.proofs.Common.{◌+◌, refl, sym, ◌∙◌, subst, arith}
 use Rattle.std.specs.Option.{IsSome}
-use Rattle.art_arena.specs.Arena.{HasRoom}
-use Rattle.art_arena.specs.Cells.{leaf_name}
+use Rattle.art_arena.specs.arena.Arena.{HasRoom}
+use Rattle.art_arena.specs.arena.Cells.{leaf_name}
 use Rattle.art_operations.proofs.Waiting.{node-inner}
 use Rattle.art_operations.proofs.IntoExisting.{starts, inserted}
 use Rattle.art_operations.proofs.NewNodes.{undone}

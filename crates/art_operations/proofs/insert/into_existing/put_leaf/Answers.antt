@@ -1,11 +1,11 @@
 use Rattle.std.proofs.Common.{◌≡◌, ◌<◌, ◌∷◌, ◌++◌, length, Some, ◌∙◌, ap, subst, inl, arith}
 use Rattle.art_nodes.specs.Kind.{row_of}
 use Rattle.art_nodes.specs.InnerNode.{with_child, with_children}
-use Rattle.art_arena.specs.Arena.{inner_held, held_at, links_at, cell_of}
-use Rattle.art_arena.specs.Cells.{UpdatesAt}
-use Rattle.art_arena.specs.Context.{leaves_before, leaves_after}
-use Rattle.art_arena.specs.Linked.{IsBeside}
-use Rattle.art_arena.proofs.Subtrees.{inner_of}
+use Rattle.art_arena.specs.arena.Arena.{inner_held, held_at, links_at, cell_of}
+use Rattle.art_arena.specs.arena.Cells.{UpdatesAt}
+use Rattle.art_arena.specs.arena.Context.{leaves_before, leaves_after}
+use Rattle.art_arena.specs.arena.Linked.{IsBeside}
+use Rattle.art_arena.proofs.shapes.Subtrees.{inner_of}
 use Rattle.art_operations.proofs.Waiting.{open_node, node-held, node-inner, as_many, put}
 use Rattle.art_operations.proofs.insert.into_existing.put_leaf.Goals as goal
 

@@ -1,7 +1,7 @@
 use Rattle.std.proofs.Common.{◌<◌, ◌≤◌, length, sym, ◌∙◌, arith}
-use Rattle.art_arena.specs.Arena.{node_at}
-use Rattle.art_arena.specs.Context.{path_to}
-use Rattle.art_arena.proofs.Surroundings.{free, conflict}
+use Rattle.art_arena.specs.arena.Arena.{node_at}
+use Rattle.art_arena.specs.arena.Context.{path_to}
+use Rattle.art_arena.proofs.shapes.Surroundings.{free, conflict}
 use Rattle.art_operations.proofs.Points.{way_start, way_step, way_inner, way_at_depth, way_room}
 use Rattle.art_operations.proofs.insert.point.find_insert_point.Goals as goal
 

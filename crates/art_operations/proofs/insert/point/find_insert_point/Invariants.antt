@@ -1,7 +1,7 @@
 use Rattle.std.proofs.Common.{◌≤◌, ◌-◌, [], length}
-use Rattle.art_arena.specs.Arena.{node_at}
-use Rattle.art_arena.specs.Shapes.{Shape}
-use Rattle.art_arena.specs.Meaning.{IsSubtree}
+use Rattle.art_arena.specs.arena.Arena.{node_at}
+use Rattle.art_arena.specs.arena.Shapes.{Shape}
+use Rattle.art_arena.specs.arena.Meaning.{IsSubtree}
 use Rattle.art_operations.proofs.Points.{OnWayTo}
 use Rattle.art_operations.proofs.insert.point.find_insert_point.Given as goal
 

@@ -1,9 +1,9 @@
 use Rattle.std.proofs.Common.{◌≡◌, ◌∷◌, [], drop, sym, ap, subst, ◌∙◌, arith, append-nil}
 use Rattle.art_bytes.specs.Keys.{BeginsWith}
-use Rattle.art_arena.specs.Shapes.{leaves}
-use Rattle.art_arena.specs.Prefixes.{prefix_of}
+use Rattle.art_arena.specs.arena.Shapes.{leaves}
+use Rattle.art_arena.specs.arena.Prefixes.{prefix_of}
 use Rattle.art_operations.specs.Points.{HasConflict, NoConflict}
-use Rattle.art_arena.proofs.Prefixes.{tail}
+use Rattle.art_arena.proofs.shapes.Prefixes.{tail}
 use Rattle.art_operations.proofs.PutBack.{same_inner}
 use Rattle.art_operations.proofs.Points.{inner_there, inner_ends, inner_parts, inner_passes, inner_missing}
 use Rattle.art_operations.proofs.insert.point.way_at_inner.Goals as goal

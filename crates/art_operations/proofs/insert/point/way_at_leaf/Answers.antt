@@ -1,5 +1,5 @@
 use Rattle.std.proofs.Common.{ap, ◌∙◌, refl, lit<}
-use Rattle.art_arena.proofs.Prefixes.{tail}
+use Rattle.art_arena.proofs.shapes.Prefixes.{tail}
 use Rattle.art_operations.proofs.Points.{leaf_there, leaf_same, leaf_old_ends, leaf_new_ends, leaf_parts}
 use Rattle.art_operations.proofs.insert.point.way_at_leaf.Goals as goal
 

@@ -1,6 +1,6 @@
 use Rattle.std.proofs.Common.{◌∷◌, ◌++◌, None, sym, ap, subst, ◌∙◌, arith}
-use Rattle.art_arena.specs.Arena.{links_at}
-use Rattle.art_arena.specs.Linked.{AreLinked, IsBeside}
+use Rattle.art_arena.specs.arena.Arena.{links_at}
+use Rattle.art_arena.specs.arena.Linked.{AreLinked, IsBeside}
 use Rattle.art_operations.proofs.NewLeaves.{goes_before, goes_after, behind_last}
 use Rattle.art_operations.proofs.insert.split.link_between.Goals as goal
 

@@ -1,11 +1,11 @@
 use Rattle.std.proofs.Common.{rules, ◌≡◌, ◌+◌, ◌<◌, ◌^◌, ◌∷◌, ◌++◌, ltb, Some, refl, subst, arith}
-use Rattle.art_arena.specs.Arena.{node_at, links_at}
-use Rattle.art_arena.specs.Cells.{UpdatesAt}
-use Rattle.art_arena.specs.Context.{path_to, leaves_before, leaves_after}
-use Rattle.art_arena.specs.Linked.{IsBeside}
-use Rattle.art_arena.specs.Meaning.{IsTree}
-use Rattle.art_arena.specs.Shapes.{Shape}
-use Rattle.art_arena.specs.Steps.{steps_of}
+use Rattle.art_arena.specs.arena.Arena.{node_at, links_at}
+use Rattle.art_arena.specs.arena.Cells.{UpdatesAt}
+use Rattle.art_arena.specs.arena.Context.{path_to, leaves_before, leaves_after}
+use Rattle.art_arena.specs.arena.Linked.{IsBeside}
+use Rattle.art_arena.specs.arena.Meaning.{IsTree}
+use Rattle.art_arena.specs.arena.Shapes.{Shape}
+use Rattle.art_arena.specs.arena.Steps.{steps_of}
 use Rattle.art_operations.specs.inner.Edits.{StandsAround}
 use Rattle.art_operations.specs.inner.Splits.{trimmed, root_cell, with_prefix, IsBetween}
 use Rattle.art_operations.specs.Points.{IsPoint}

@@ -1,5 +1,5 @@
-use Rattle.art_arena.specs.Arena.{node_at}
-use Rattle.art_arena.proofs.Meanings.{nodes-subtree}
+use Rattle.art_arena.specs.arena.Arena.{node_at}
+use Rattle.art_arena.proofs.shapes.Meanings.{nodes-subtree}
 use Rattle.art_operations.proofs.tests.refused.leaf_of.Goals as goal
 
 pub returns : goal.returns

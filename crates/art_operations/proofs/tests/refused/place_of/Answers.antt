@@ -1,6 +1,6 @@
 use Rattle.std.proofs.Common.{sym, ◌∙◌}
-use Rattle.art_arena.specs.Arena.{node_at}
-use Rattle.art_arena.proofs.Meanings.{nodes-subtree}
+use Rattle.art_arena.specs.arena.Arena.{node_at}
+use Rattle.art_arena.proofs.shapes.Meanings.{nodes-subtree}
 use Rattle.art_operations.proofs.tests.refused.place_of.Goals as goal
 
 pub returns : goal.returns

@@ -1,6 +1,6 @@
 use Rattle.std.proofs.Common.{ℕ, refl, lit<}
 use Rattle.art_operations.proofs.delete.point.DeletePoint.apply.Given.{Over}
-use Rattle.art_arena.specs.Shapes.{LeafAt}
+use Rattle.art_arena.specs.arena.Shapes.{LeafAt}
 use Rattle.art_operations.proofs.Deleted.{front_of, back_of, still_listed, held_leaf, deleted}
 use Rattle.art_operations.proofs.Results.{always_err}
 use Rattle.art_operations.proofs.delete.point.DeletePoint.apply.Goals as goal

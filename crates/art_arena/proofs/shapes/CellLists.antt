@@ -1,0 +1,144 @@
+-- Finite maps from names, and the lists of what they hold: no shapes here.
+use Rattle.std.proofs.Common.{◌≡◌, ◌≢◌, ◌⊎◌, ◌+◌, ◌≤◌, ℕ, true, false, cond, List, [], ◌∷◌, ◌++◌, Option, Some, None, is_some, refl, sym, ap, ap₂, ◌∙◌, inl, inr, arith}
+use Rattle.std.proofs.lemmas.Bool.Decides.{eqb_tells}
+use Rattle.art_nodes.specs.declared.kind.NodeType.{NodeType}
+use Rattle.art_nodes.specs.declared.kind.NodeType.TheVariants.{Node4, Node16, Node48, Node256, Leaf}
+use Rattle.art_nodes.specs.Name.{Name}
+use Rattle.art_arena.specs.arena.Cells.{UpdatesAt, same_kind, same_name, copies, AreHeld, Holds}
+use Rattle.art_arena.proofs.tree.Order.{all_append, all_left, all_right}
+
+-- the test tells names apart
+
+same_kind_tells : (a b : NodeType) → ((same_kind a b ≡ true) × (a ≡ b)) ⊎ ((same_kind a b ≡ false) × (a ≢ b))
+same_kind_tells Node4 Node4 = inl (refl, refl)
+same_kind_tells Node4 b = inr (refl, λ e. absurd (cc))
+same_kind_tells Node16 Node16 = inl (refl, refl)
+same_kind_tells Node16 b = inr (refl, λ e. absurd (cc))
+same_kind_tells Node48 Node48 = inl (refl, refl)
+same_kind_tells Node48 b = inr (refl, λ e. absurd (cc))
+same_kind_tells Node256 Node256 = inl (refl, refl)
+same_kind_tells Node256 b = inr (refl, λ e. absurd (cc))
+same_kind_tells Leaf Leaf = inl (refl, refl)
+same_kind_tells Leaf b = inr (refl, λ e. absurd (cc))
+
+pub same_name_tells : (a b : Name) → ((same_name a b ≡ true) × (a ≡ b)) ⊎ ((same_name a b ≡ false) × (a ≢ b))
+same_name_tells a b = elim (same_kind_tells a.kind b.kind) [
+  | inl kind ↦ elim (eqb_tells a.slot b.slot) [
+    | inl slot ↦ inl (rw (kind.0, slot.0) refl, ap₂ (λ k s. record { kind = k; slot = s }) kind.1 slot.1)
+    | inr slot ↦ inr (rw (kind.0, slot.0) refl, λ e. slot.1 (ap (λ (n : Name). n.slot) e))
+  ]
+  | inr kind ↦ inr (rw kind.0 refl, λ e. kind.1 (ap (λ (n : Name). n.kind) e))
+]
+
+pub same_name-self : (a : Name) → same_name a a ≡ true
+same_name-self a = elim (same_name_tells a a) [ inl y ↦ y.0 | inr n ↦ absurd (n.1 refl) ]
+
+module _ {C : Type 0} where
+  pub copies-append : (n : Name) (xs ys : List (Name × C)) → copies n (xs ++ ys) ≡ copies n xs + copies n ys
+  copies-append n [] ys = omega arith
+  copies-append n (x ∷ xs) ys = omega (arith, copies-append n xs ys)
+
+  -- what the list doesn't name may change
+  pub AreHeld-frame : (old new : Name → Option C) (place : Name) (value : Option C) → UpdatesAt old new place value → (cells : List (Name × C)) → copies place cells ≡ 0 → AreHeld old cells → AreHeld new cells
+  AreHeld-frame old new place value updates [] absent held = tt
+  AreHeld-frame old new place value updates (c ∷ rest) absent held =
+      elim (same_name_tells place c.0) [
+        | inl same ↦ absurd (omega (arith, rw same.0 at absent))
+        | inr other ↦
+            let none : copies place rest ≡ 0 = omega (arith, absent) in
+            (updates.others c.0 (λ e. other.1 (sym e)) ∙ held.0, AreHeld-frame old new place value updates rest none held.1)
+      ]
+
+  -- a name that isn't in the map isn't in the list
+  pub copies-vacant : (at : Name → Option C) (cells : List (Name × C)) (n : Name) → Holds at cells → at n ≡ None → copies n cells ≡ 0
+  copies-vacant at cells n holds vacant = holds.once n ∙ ap (λ o. cond (is_some o) 1 0) vacant
+
+  -- the map of a list with one more cell
+  pub Holds-add : (old new : Name → Option C) (n : Name) (c : C) (xs ys : List (Name × C)) → UpdatesAt old new n (Some c) → old n ≡ None → Holds old (xs ++ ys) → Holds new (xs ++ (n, c) ∷ ys)
+  Holds-add old new n c xs ys updates vacant holds =
+      let none : copies n (xs ++ ys) ≡ 0 = copies-vacant old (xs ++ ys) n holds vacant in
+      let parts = copies-append n xs ys in
+      let P_old = λ (x : Name × C). old x.0 ≡ Some x.1 in
+      let P_new = λ (x : Name × C). new x.0 ≡ Some x.1 in
+      let left = AreHeld-frame old new n (Some c) updates xs (omega arith) (all_left P_old xs ys holds.held) in
+      let right = AreHeld-frame old new n (Some c) updates ys (omega arith) (all_right P_old xs ys holds.held) in
+      record {
+        held = all_append P_new xs ((n, c) ∷ ys) left (updates.changed, right);
+        once = λ m. elim (same_name_tells m n) [
+          | inl same ↦
+              let is_there : new m ≡ Some c = ap new same.1 ∙ updates.changed in
+              let was : copies m (xs ++ ys) ≡ 0 = ap (λ p. copies p (xs ++ ys)) same.1 ∙ none in
+              let counted : copies m (xs ++ (n, c) ∷ ys) ≡ copies m xs + (1 + copies m ys) = rw same.0 at (copies-append m xs ((n, c) ∷ ys)) in
+              rw is_there (omega (arith, counted, was, copies-append m xs ys))
+          | inr other ↦
+              let counted : copies m (xs ++ (n, c) ∷ ys) ≡ copies m xs + (0 + copies m ys) = rw other.0 at (copies-append m xs ((n, c) ∷ ys)) in
+              let same_count : copies m (xs ++ (n, c) ∷ ys) ≡ copies m (xs ++ ys) = omega (arith, copies-append m xs ys) in
+              rw (updates.others m other.1) (same_count ∙ holds.once m)
+        ];
+      }
+
+  -- the map of a list with another cell in the place of one
+  pub Holds-write : (old new : Name → Option C) (n : Name) (was c : C) (xs ys : List (Name × C)) → UpdatesAt old new n (Some c) → Holds old (xs ++ (n, was) ∷ ys) → Holds new (xs ++ (n, c) ∷ ys)
+  Holds-write old new n was c xs ys updates holds =
+      let P_old = λ (x : Name × C). old x.0 ≡ Some x.1 in
+      let P_new = λ (x : Name × C). new x.0 ≡ Some x.1 in
+      let there = all_right P_old xs ((n, was) ∷ ys) holds.held in
+      let once : copies n (xs ++ (n, was) ∷ ys) ≡ 1 = holds.once n ∙ ap (λ o. cond (is_some o) 1 0) there.0 in
+      let parts : copies n (xs ++ (n, was) ∷ ys) ≡ copies n xs + (1 + copies n ys) = rw same_name-self at (copies-append n xs ((n, was) ∷ ys)) in
+      let left = AreHeld-frame old new n (Some c) updates xs (omega arith) (all_left P_old xs ((n, was) ∷ ys) holds.held) in
+      let right = AreHeld-frame old new n (Some c) updates ys (omega arith) there.1 in
+      record {
+        held = all_append P_new xs ((n, c) ∷ ys) left (updates.changed, right);
+        once = λ m.
+            let same_count : copies m (xs ++ (n, c) ∷ ys) ≡ copies m (xs ++ (n, was) ∷ ys) = copies-append m xs ((n, c) ∷ ys) ∙ sym (copies-append m xs ((n, was) ∷ ys)) in
+            elim (same_name_tells m n) [
+              | inl same ↦
+                  let is_there : new m ≡ Some c = ap new same.1 ∙ updates.changed in
+                  let was_there : old m ≡ Some was = ap old same.1 ∙ there.0 in
+                  rw is_there (same_count ∙ holds.once m ∙ ap (λ o. cond (is_some o) 1 0) was_there)
+              | inr other ↦ rw (updates.others m other.1) (same_count ∙ holds.once m)
+            ];
+      }
+
+  -- the map of a list with one cell less
+  pub Holds-remove : (old new : Name → Option C) (n : Name) (was : C) (xs ys : List (Name × C)) → UpdatesAt old new n None → Holds old (xs ++ (n, was) ∷ ys) → Holds new (xs ++ ys)
+  Holds-remove old new n was xs ys updates holds =
+      let P_old = λ (x : Name × C). old x.0 ≡ Some x.1 in
+      let P_new = λ (x : Name × C). new x.0 ≡ Some x.1 in
+      let there = all_right P_old xs ((n, was) ∷ ys) holds.held in
+      let once : copies n (xs ++ (n, was) ∷ ys) ≡ 1 = holds.once n ∙ ap (λ o. cond (is_some o) 1 0) there.0 in
+      let parts : copies n (xs ++ (n, was) ∷ ys) ≡ copies n xs + (1 + copies n ys) = rw same_name-self at (copies-append n xs ((n, was) ∷ ys)) in
+      let left = AreHeld-frame old new n None updates xs (omega arith) (all_left P_old xs ((n, was) ∷ ys) holds.held) in
+      let right = AreHeld-frame old new n None updates ys (omega arith) there.1 in
+      record {
+        held = all_append P_new xs ys left right;
+        once = λ m. elim (same_name_tells m n) [
+          | inl same ↦
+              let gone : new m ≡ None = ap new same.1 ∙ updates.changed in
+              let empty : copies n (xs ++ ys) ≡ 0 = omega (arith, copies-append n xs ys) in
+              rw (gone, same.1) empty
+          | inr other ↦
+              let counted : copies m (xs ++ (n, was) ∷ ys) ≡ copies m xs + (0 + copies m ys) = rw other.0 at (copies-append m xs ((n, was) ∷ ys)) in
+              let same_count : copies m (xs ++ ys) ≡ copies m (xs ++ (n, was) ∷ ys) = omega (arith, copies-append m xs ys) in
+              rw (updates.others m other.1) (same_count ∙ holds.once m)
+        ];
+      }
+
+  AreHeld-same : (old new : Name → Option C) → ((n : Name) → new n ≡ old n) → (cells : List (Name × C)) → AreHeld old cells → AreHeld new cells
+  AreHeld-same old new same [] held = tt
+  AreHeld-same old new same (c ∷ rest) held = (same c.0 ∙ held.0, AreHeld-same old new same rest held.1)
+
+  -- two maps that answer alike hold the same cells
+  pub Holds-same : (old new : Name → Option C) → ((n : Name) → new n ≡ old n) → (cells : List (Name × C)) → Holds old cells → Holds new cells
+  Holds-same old new same cells holds = record {
+    held = AreHeld-same old new same cells holds.held;
+    once = λ n. holds.once n ∙ ap (λ o. cond (is_some o) 1 0) (sym (same n));
+  }
+
+  -- what the list names stays, where the maps differ elsewhere alone
+  pub AreHeld-kept : (old new : Name → Option C) (cells : List (Name × C)) → ((n : Name) → 1 ≤ copies n cells → new n ≡ old n) → AreHeld old cells → AreHeld new cells
+  AreHeld-kept old new [] same held = tt
+  AreHeld-kept old new (c ∷ rest) same held = (
+    same c.0 (omega (arith, ap {B = ℕ} (λ b. cond b 1 0) (same_name-self c.0))) ∙ held.0,
+    AreHeld-kept old new rest (λ n here. same n (omega (arith, here))) held.1,
+  )

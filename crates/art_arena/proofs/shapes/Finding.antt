@@ -1,0 +1,184 @@
+-- The way of a key: what one step down finds, and where it ends.
+use Rattle.std.proofs.Common.{◌≡◌, ◌≢◌, ℕ, suc, ◌+◌, ◌<◌, ◌≤◌, min, Bool, true, false, cond, List, [], ◌∷◌, ◌++◌, length, get_or, drop, filter, map, None, refl, sym, ap, ap₂, ◌∙◌, inl, inr, arith, length-append, append_assoc, add-one, drop-cons, bytes_eq}
+use Rattle.std.specs.List.{AllByRecursion}
+use Rattle.std.specs.Bool.{Decides}
+use Rattle.std.proofs.lemmas.Bool.{false_from_ne_true}
+use Rattle.std.proofs.lemmas.Bool.Decides.{eqb_tells}
+use Rattle.std.proofs.lemmas.Slice.Eq.{bytes_eq-Decides}
+use Rattle.std.proofs.lemmas.List.{append-nil, map-append}
+use Rattle.std.proofs.lemmas.List.Elements.{filter-append}
+use Rattle.art_bytes.specs.Keys.{BeginsWith}
+use Rattle.art_nodes.specs.Name.{Name}
+use Rattle.art_nodes.specs.InnerNode.{child_at}
+use Rattle.art_arena.specs.tree.Trees as tree
+use Rattle.art_arena.specs.tree.Paths.{path_of, path_in}
+use Rattle.art_arena.specs.arena.Shapes.{Shape, Branches, leaf_at, inner_at, no_branch, branch, LeafAt, children_at, join, leaves, leaves_in, erase, erase_in, AreUnder}
+use Rattle.art_arena.specs.arena.Context.{AreBelow}
+use Rattle.art_arena.specs.arena.Steps.{Step}
+use Rattle.art_arena.specs.arena.Found.{Located, located, located_in, with_key}
+use Rattle.art_arena.proofs.tree.Order.{all_append, all_left, all_right, all_weaker, begins_step}
+use Rattle.art_arena.specs.arena.Descents.{TakesFronts, located_where}
+use Rattle.art_arena.proofs.tree.Fronts.{begins_trans}
+use Rattle.art_arena.proofs.shapes.Places.{leaves-begin}
+
+-- bytes behind a path
+pub byte_behind : (path rest : List ℕ) (c : ℕ) → get_or (path ++ c ∷ rest) (length path) 0 ≡ c
+byte_behind [] rest c = refl
+byte_behind (x ∷ path) rest c = byte_behind path rest c
+
+-- a key that goes on behind the path by one byte is no front of one that goes on by another, or that ends with it
+pub other_byte : (path key other : List ℕ) (c b : ℕ) → BeginsWith (path ++ c ∷ []) other → get_or key (length path) 0 ≡ b → c ≢ b → BeginsWith other key → ⊥
+other_byte path key other c b h here differs front =
+    let s = begins_step path c key (begins_trans (path ++ c ∷ []) other key h front) in
+    let read : get_or key (length path) 0 ≡ c = ap (λ k. get_or k (length path) 0) s.1 ∙ byte_behind path s.0 c in
+    differs (sym read ∙ here)
+
+pub shorter : (path key other : List ℕ) (c : ℕ) → BeginsWith (path ++ c ∷ []) other → length key ≤ length path → BeginsWith other key → ⊥
+shorter path key other c h short front =
+    let s = begins_step path c key (begins_trans (path ++ c ∷ []) other key h front) in
+    let long : length key ≡ length path + suc (length s.0) = ap length s.1 ∙ length-append path (c ∷ s.0) in
+    omega arith
+
+not_passed : (r : Bool) {P : Type 0} → Decides r P → (P → ⊥) → r ≡ false
+not_passed true d h = absurd (h (d.0 refl))
+not_passed false d h = refl
+
+pub same_key : (a b : List ℕ) → a ≡ b → bytes_eq a b ≡ true
+same_key a b same = (bytes_eq-Decides a b).1 same
+
+pub other_key : (a b : List ℕ) → a ≢ b → bytes_eq a b ≡ false
+other_key a b differs = not_passed (bytes_eq a b) (bytes_eq-Decides a b) differs
+
+-- a test that lets fronts of the key pass alone fails on what is none
+not_fitting : (key : List ℕ) (test : List ℕ → Bool) → TakesFronts key test → (k : List ℕ) → (BeginsWith k key → ⊥) → test k ≡ false
+not_fitting key test takes k apart = false_from_ne_true (test k) (λ passed. apart (takes k passed))
+
+pub dropped : (n : ℕ) (key : List ℕ) → n < length key → drop n key ≡ get_or key n 0 ∷ drop (n + 1) key
+dropped n key l = rw (add-one, drop-cons key n 0) refl
+
+pub counted_more : (start n most : ℕ) → min (min (start + n) most + 1) most ≡ min (start + suc n) most
+counted_more start n most = omega arith
+
+module _ {K V : Type 0} (bytes : K → List ℕ) (key : List ℕ) where
+  -- no leaf's key is the key or a front of it
+  abbrev pub NoneFits : List (LeafAt K V) → Type 0
+  NoneFits ls = AllByRecursion (λ l. BeginsWith (bytes l.key) key → ⊥) ls
+
+  -- none of the branches stands under this byte
+  abbrev pub Avoid : ℕ → Branches K V → Type 0
+  Avoid b no_branch = Unit {0}
+  Avoid b (branch c s rest) = (c ≢ b) × Avoid b rest
+
+  pub avoid-below : (b : ℕ) (f : Branches K V) → AreBelow b f → Avoid b f
+  avoid-below b no_branch h = tt
+  avoid-below b (branch c s rest) h = (omega (arith, h.0), avoid-below b rest h.1)
+
+  pub avoid-above : (path : List ℕ) (b low : ℕ) (f : Branches K V) → b < low → AreUnder bytes path low f → Avoid b f
+  avoid-above path b low no_branch l h = tt
+  avoid-above path b low (branch c s rest) l h = (omega (arith, h.0), avoid-above path b (c + 1) rest (omega (arith, h.0)) h.2)
+
+  pub avoid-missing : (b : ℕ) (f : Branches K V) → child_at (children_at f) b ≡ None → Avoid b f
+  avoid-missing b no_branch missing = tt
+  avoid-missing b (branch c s rest) missing = elim (eqb_tells c b) [
+    | inl same ↦ absurd (let e = rw same.0 at missing in cc)
+    | inr other ↦ (other.1, avoid-missing b rest (rw other.0 at missing))
+  ]
+
+  pub none-avoid : (path : List ℕ) (b low : ℕ) (f : Branches K V) → AreUnder bytes path low f → get_or key (length path) 0 ≡ b → Avoid b f → NoneFits (leaves_in f)
+  none-avoid path b low no_branch h here avoid = tt
+  none-avoid path b low (branch c s rest) h here avoid =
+      all_append (λ l. BeginsWith (bytes l.key) key → ⊥) (leaves s) (leaves_in rest)
+      (all_weaker _ (λ l. BeginsWith (bytes l.key) key → ⊥) (λ l st. other_byte path key (bytes l.key) c b st here avoid.0) (leaves s) (leaves-begin bytes (path ++ c ∷ []) s h.1))
+      (none-avoid path b (c + 1) rest h.2 here avoid.1)
+
+  pub none-short : (path : List ℕ) (low : ℕ) (f : Branches K V) → AreUnder bytes path low f → length key ≤ length path → NoneFits (leaves_in f)
+  none-short path low no_branch h short = tt
+  none-short path low (branch c s rest) h short =
+      all_append (λ l. BeginsWith (bytes l.key) key → ⊥) (leaves s) (leaves_in rest)
+      (all_weaker _ (λ l. BeginsWith (bytes l.key) key → ⊥) (λ l st. shorter path key (bytes l.key) c st short) (leaves s) (leaves-begin bytes (path ++ c ∷ []) s h.1))
+      (none-short path (c + 1) rest h.2 short)
+
+  -- none of these leaves passes a test that lets fronts of the key pass alone, and of an inner node's all that do stand under its
+  -- next byte
+  module _ (test : List ℕ → Bool) (takes : TakesFronts key test) where
+    mutual
+      pub none-located : (above : List Step) (s : Shape K V) → NoneFits (leaves s) → located_where bytes test (located above s) ≡ []
+      none-located above (leaf_at slot k v) h = rw (not_fitting key test takes (bytes k) h.0) refl
+      none-located above (inner_at n prefix kids) h = none-located_in above n kids h
+
+      pub none-located_in : (above : List Step) (n : Name) (f : Branches K V) → NoneFits (leaves_in f) → located_where bytes test (located_in above n f) ≡ []
+      none-located_in above n no_branch h = refl
+      none-located_in above n (branch b s rest) h =
+          filter-append (λ l. test (bytes l.leaf.key)) (located (record { node = n; byte = b } ∷ above) s) (located_in above n rest)
+          ∙ ap₂ (λ xs ys. xs ++ ys) (none-located (record { node = n; byte = b } ∷ above) s (all_left (λ l. BeginsWith (bytes l.key) key → ⊥) (leaves s) (leaves_in rest) h))
+          (none-located_in above n rest (all_right (λ l. BeginsWith (bytes l.key) key → ⊥) (leaves s) (leaves_in rest) h))
+
+    located_in-join : (above : List Step) (n : Name) (f g : Branches K V) → located_where bytes test (located_in above n (join f g)) ≡ located_where bytes test (located_in above n f) ++ located_where bytes test (located_in above n g)
+    located_in-join above n no_branch g = refl
+    located_in-join above n (branch b s f) g =
+        let step = record { node = n; byte = b } ∷ above in
+        filter-append (λ l. test (bytes l.leaf.key)) (located step s) (located_in above n (join f g))
+        ∙ ap (λ xs. located_where bytes test (located step s) ++ xs) (located_in-join above n f g)
+        ∙ sym (append_assoc (located_where bytes test (located step s)) (located_where bytes test (located_in above n f)) (located_where bytes test (located_in above n g)))
+        ∙ ap (λ xs. xs ++ located_where bytes test (located_in above n g)) (sym (filter-append (λ l. test (bytes l.leaf.key)) (located step s) (located_in above n f)))
+
+    pub located-step : (path : List ℕ) (above : List Step) (n : Name) (before : Branches K V) (b : ℕ) (here : Shape K V) (after : Branches K V) → get_or key (length path) 0 ≡ b
+        → AreUnder bytes path 0 before → AreBelow b before → AreUnder bytes path (b + 1) after
+        → located_where bytes test (located_in above n (join before (branch b here after))) ≡ located_where bytes test (located (record { node = n; byte = b } ∷ above) here)
+    located-step path above n before b here after at_b before_under below after_under =
+        let step = record { node = n; byte = b } ∷ above in
+        let none_before = none-located_in above n before (none-avoid path b 0 before before_under at_b (avoid-below b before below)) in
+        let none_after = none-located_in above n after (none-avoid path b (b + 1) after after_under at_b (avoid-above path b (b + 1) after (omega arith) after_under)) in
+        located_in-join above n before (branch b here after)
+        ∙ ap₂ (λ xs ys. xs ++ ys) none_before
+        (filter-append (λ l. test (bytes l.leaf.key)) (located step here) (located_in above n after)
+        ∙ ap (λ xs. located_where bytes test (located step here) ++ xs) none_after ∙ append-nil (located_where bytes test (located step here)))
+
+  -- the path goes on in the child under the next byte, or ends
+  pub path_in-step : (before : Branches K V) (b : ℕ) (here : Shape K V) (after : Branches K V) (rest : List ℕ) → AreBelow b before
+      → path_in (erase_in (join before (branch b here after))) (b ∷ rest) ≡ path_of (erase here) rest
+  path_in-step no_branch b here after rest below = elim (eqb_tells b b) [ inl same ↦ rw same.0 refl | inr other ↦ absurd (other.1 refl) ]
+  path_in-step (branch c s before) b here after rest below = elim (eqb_tells b c) [
+    | inl same ↦ absurd (omega (arith, same.1, below.0))
+    | inr other ↦ rw other.0 (path_in-step before b here after rest below.1)
+  ]
+
+  pub path_in-missing : (f : Branches K V) (b : ℕ) (rest : List ℕ) → Avoid b f → path_in (erase_in f) (b ∷ rest) ≡ []
+  path_in-missing no_branch b rest avoid = refl
+  path_in-missing (branch c s f) b rest avoid = elim (eqb_tells b c) [
+    | inl same ↦ absurd (avoid.0 (sym same.1))
+    | inr other ↦ rw other.0 (path_in-missing f b rest avoid.1)
+  ]
+
+  pub path_in-ended : (f : Branches K V) → path_in (erase_in f) [] ≡ []
+  path_in-ended no_branch = refl
+  path_in-ended (branch c s f) = refl
+
+  -- the leaves with the key, as pairs
+  abbrev pub pair_at : Located K V → K × V
+  pair_at l = (l.leaf.key, l.leaf.value)
+
+  mutual
+    pairs-located : (above : List Step) (s : Shape K V) → map pair_at (located above s) ≡ tree.items (erase s)
+    pairs-located above (leaf_at slot k v) = refl
+    pairs-located above (inner_at n prefix kids) = pairs-located_in above n kids
+
+    pairs-located_in : (above : List Step) (n : Name) (f : Branches K V) → map pair_at (located_in above n f) ≡ tree.items_in (erase_in f)
+    pairs-located_in above n no_branch = refl
+    pairs-located_in above n (branch b s rest) =
+        map-append pair_at (located (record { node = n; byte = b } ∷ above) s) (located_in above n rest)
+        ∙ ap₂ (λ xs ys. xs ++ ys) (pairs-located (record { node = n; byte = b } ∷ above) s) (pairs-located_in above n rest)
+
+  -- the test that a leaf has the key
+  abbrev has : Located K V → Bool
+  has l = bytes_eq (bytes l.leaf.key) key
+
+  pairs-filter : (ls : List (Located K V)) → filter (λ p. bytes_eq (bytes p.0) key) (map pair_at ls) ≡ map pair_at (filter has ls)
+  pairs-filter [] = refl
+  pairs-filter (l ∷ ls) = elim (has l) as (λ b. cond b (pair_at l ∷ filter (λ p. bytes_eq (bytes p.0) key) (map pair_at ls)) (filter (λ p. bytes_eq (bytes p.0) key) (map pair_at ls)) ≡ map pair_at (cond b (l ∷ filter has ls) (filter has ls))) [
+    | true ↦ ap (λ xs. pair_at l ∷ xs) (pairs-filter ls)
+    | false ↦ pairs-filter ls
+  ]
+
+  pub pairs-with_key : (s : Shape K V) → filter (λ p. bytes_eq (bytes p.0) key) (tree.items (erase s)) ≡ map pair_at (with_key bytes key s)
+  pairs-with_key s = ap (filter (λ p. bytes_eq (bytes p.0) key)) (sym (pairs-located [] s)) ∙ pairs-filter (located [] s)

@@ -1,0 +1,305 @@
+-- The leaves as a linked list: a list in two parts, and what a write of one leaf's links leaves.
+use Rattle.std.proofs.Common.{◌≡◌, ◌≢◌, ℕ, ◌+◌, ◌≤◌, Bool, true, false, cond, eqb, List, [], ◌∷◌, ◌++◌, Option, Some, None, IsSome, refl, sym, ap, ◌∙◌, inl, inr, arith, ap₂, subst, append_assoc}
+use Rattle.std.proofs.lemmas.Bool.Decides.{eqb_tells}
+use Rattle.art_arena.specs.arena.Cells.{UpdatesAt}
+use Rattle.art_arena.specs.arena.Shapes.{LeafAt}
+use Rattle.art_arena.specs.arena.Linked.{Links, first_slot, last_slot, AreLinked, times, AreHalves, CanLink, IsList, IsBeside}
+
+pub eqb-self : (n : ℕ) → eqb n n ≡ true
+eqb-self n = elim (eqb_tells n n) [ inl y ↦ y.0 | inr o ↦ absurd (o.1 refl) ]
+
+pub some_of : {A : Type 0} (o : Option A) → IsSome o → (x : A) × (o ≡ Some x)
+some_of None h = absurd (cc)
+some_of (Some x) h = (x, refl)
+
+module _ {K V : Type 0} where
+  pub times-append : (n : ℕ) (xs ys : List (LeafAt K V)) → times n (xs ++ ys) ≡ times n xs + times n ys
+  times-append n [] ys = omega arith
+  times-append n (x ∷ xs) ys = omega (arith, times-append n xs ys)
+
+  pub first_slot-append : (xs ys : List (LeafAt K V)) (after : Option ℕ) → first_slot (xs ++ ys) after ≡ first_slot xs (first_slot ys after)
+  first_slot-append [] ys after = refl
+  first_slot-append (x ∷ xs) ys after = refl
+
+  pub last_slot-append : (before : Option ℕ) (xs ys : List (LeafAt K V)) → last_slot before (xs ++ ys) ≡ last_slot (last_slot before xs) ys
+  last_slot-append before [] ys = refl
+  last_slot-append before (x ∷ xs) ys = last_slot-append (Some x.slot) xs ys
+
+  pub AreLinked-frame : (old new : ℕ → Option Links) (p : ℕ) (value : Option Links) → UpdatesAt old new p value → (before : Option ℕ) (xs : List (LeafAt K V)) (after : Option ℕ) → times p xs ≡ 0 → AreLinked old before xs after → AreLinked new before xs after
+  AreLinked-frame old new p value updates before [] after absent linked = tt
+  AreLinked-frame old new p value updates before (x ∷ xs) after absent linked =
+      elim (eqb_tells p x.slot) [
+        | inl same ↦ absurd (omega (arith, rw same.0 at absent))
+        | inr other ↦
+            let none : times p xs ≡ 0 = omega (arith, absent) in
+            (updates.others x.slot (λ e. other.1 (sym e)) ∙ linked.0, AreLinked-frame old new p value updates (Some x.slot) xs after none linked.1)
+      ]
+
+  pub AreLinked-left : (links : ℕ → Option Links) (before : Option ℕ) (xs ys : List (LeafAt K V)) (after : Option ℕ) → AreLinked links before (xs ++ ys) after → AreLinked links before xs (first_slot ys after)
+  AreLinked-left links before [] ys after linked = tt
+  AreLinked-left links before (x ∷ xs) ys after linked =
+      (linked.0 ∙ ap (λ n. Some (record { previous = before; next = n })) (first_slot-append xs ys after), AreLinked-left links (Some x.slot) xs ys after linked.1)
+
+  pub AreLinked-right : (links : ℕ → Option Links) (before : Option ℕ) (xs ys : List (LeafAt K V)) (after : Option ℕ) → AreLinked links before (xs ++ ys) after → AreLinked links (last_slot before xs) ys after
+  AreLinked-right links before [] ys after linked = linked
+  AreLinked-right links before (x ∷ xs) ys after linked = AreLinked-right links (Some x.slot) xs ys after linked.1
+
+  pub AreLinked-join : (links : ℕ → Option Links) (before : Option ℕ) (xs ys : List (LeafAt K V)) (after : Option ℕ) → AreLinked links before xs (first_slot ys after) → AreLinked links (last_slot before xs) ys after → AreLinked links before (xs ++ ys) after
+  AreLinked-join links before [] ys after left right = right
+  AreLinked-join links before (x ∷ xs) ys after left right =
+      (left.0 ∙ sym (ap (λ n. Some (record { previous = before; next = n })) (first_slot-append xs ys after)), AreLinked-join links (Some x.slot) xs ys after left.1 right)
+
+  -- a list that ends with this slot
+  pub ends_with : (before : Option ℕ) (x : LeafAt K V) (xs : List (LeafAt K V)) (p : ℕ) → last_slot before (x ∷ xs) ≡ Some p → (zs : List (LeafAt K V)) × (z : LeafAt K V) × (x ∷ xs ≡ zs ++ z ∷ []) × (z.slot ≡ p)
+  ends_with before x [] p last = ([], x, refl, (cc))
+  ends_with before x (y ∷ xs) p last =
+      let later = ends_with (Some x.slot) y xs p last in
+      (x ∷ later.0, later.1, ap (λ ws. x ∷ ws) later.2, later.3)
+
+  pub ends_with-first : (xs : List (LeafAt K V)) (p : ℕ) → last_slot None xs ≡ Some p → (zs : List (LeafAt K V)) × (z : LeafAt K V) × (xs ≡ zs ++ z ∷ []) × (z.slot ≡ p)
+  ends_with-first [] p last = absurd (cc)
+  ends_with-first (x ∷ xs) p last = ends_with None x xs p last
+
+  pub empty_of : (xs : List (LeafAt K V)) (before : ℕ) → last_slot (Some before) xs ≡ None → ⊥
+  empty_of [] before last = cc
+  empty_of (x ∷ xs) before last = empty_of xs x.slot last
+
+  pub empty-first : (xs : List (LeafAt K V)) → last_slot None xs ≡ None → xs ≡ []
+  empty-first [] last = refl
+  empty-first (x ∷ xs) last = absurd (empty_of xs x.slot last)
+
+  -- a leaf in the list is met there
+  pub times-here : (xs ys : List (LeafAt K V)) (l : LeafAt K V) → 1 ≤ times l.slot (xs ++ l ∷ ys)
+  times-here xs ys l = omega (arith, times-append l.slot xs (l ∷ ys), ap {B = ℕ} (λ b. cond b 1 0) (eqb-self l.slot))
+
+  -- the next slot of the last leaf changes
+  pub relink_end : (old new : ℕ → Option Links) (xs : List (LeafAt K V)) (p : ℕ) (was after : Option ℕ) → ((n : ℕ) → times n xs ≤ 1) → last_slot None xs ≡ Some p → AreLinked old None xs was → ((links : Links) → old p ≡ Some links → UpdatesAt old new p (Some (record links { next = after }))) → AreLinked new None xs after
+  relink_end old new xs p was after once last linked updates =
+      let e = ends_with-first xs p last in
+      let zs = e.0 in
+      let z = e.1 in
+      let parts : AreLinked old None (zs ++ z ∷ []) was = rw e.2 at linked in
+      let left = AreLinked-left old None zs (z ∷ []) was parts in
+      let right = AreLinked-right old None zs (z ∷ []) was parts in
+      let there : old p ≡ Some (record { previous = last_slot None zs; next = was }) = ap old (sym e.3) ∙ right.0 in
+      let update = updates _ there in
+      let count : times p zs + times p (z ∷ []) ≤ 1 = rw (e.2, times-append p zs (z ∷ [])) at (once p) in
+      let one : times p (z ∷ []) ≡ 1 = rw (e.3, eqb-self p) refl in
+      let kept = AreLinked-frame old new p _ update None zs (Some z.slot) (omega arith) left in
+      rw e.2 (AreLinked-join new None zs (z ∷ []) after kept (ap new e.3 ∙ update.changed, tt))
+
+  -- what the end of a list links to
+  pub end_there : (links : ℕ → Option Links) (xs : List (LeafAt K V)) (p : ℕ) (after : Option ℕ) → last_slot None xs ≡ Some p → AreLinked links None xs after → IsSome (links p)
+  end_there links xs p after last linked =
+      let e = ends_with-first xs p last in
+      let right = AreLinked-right links None e.0 (e.1 ∷ []) after (rw e.2 at linked) in
+      rw (← e.3, right.0) refl
+
+  -- what the end of the first of two lists links to may change
+  pub halves-end : (old new : ℕ → Option Links) (xs : List (LeafAt K V)) (after before : Option ℕ) (ys : List (LeafAt K V)) (p : ℕ) (next : Option ℕ)
+      → AreHalves old xs after before ys → last_slot None xs ≡ Some p → ((was : Links) → old p ≡ Some was → UpdatesAt old new p (Some (record was { next = next })))
+      → AreHalves new xs next before ys
+  halves-end old new xs after before ys p next halves last updates =
+      let there = some_of (old p) (end_there old xs p after last halves.left) in
+      let update = updates there.0 there.1 in
+      let e = ends_with-first xs p last in
+      let here = times-here e.0 [] e.1 in
+      let same : times p xs ≡ times e.1.slot (e.0 ++ e.1 ∷ []) = ap (times p) e.2 ∙ ap (λ n. times n (e.0 ++ e.1 ∷ [])) (sym e.3) in
+      let both = halves.once p in
+      let none : times p ys ≡ 0 = omega (arith, here, same, both) in
+      record {
+        left = relink_end old new xs p after next (λ n. let b = halves.once n in omega (arith, b)) last halves.left updates;
+        right = AreLinked-frame old new p _ update before ys None none halves.right;
+        once = halves.once;
+      }
+
+  -- what the start of the second links back to may change
+  pub halves-start : (old new : ℕ → Option Links) (xs : List (LeafAt K V)) (after before : Option ℕ) (ys : List (LeafAt K V)) (p : ℕ) (previous : Option ℕ)
+      → AreHalves old xs after before ys → first_slot ys None ≡ Some p → ((was : Links) → old p ≡ Some was → UpdatesAt old new p (Some (record was { previous = previous })))
+      → AreHalves new xs after previous ys
+  halves-start old new xs after before [] p previous halves first updates = absurd (cc)
+  halves-start old new xs after before (y ∷ ys) p previous halves first updates =
+      let is : y.slot ≡ p = cc in
+      let there : old p ≡ Some (record { previous = before; next = first_slot ys None }) = ap old (sym is) ∙ halves.right.0 in
+      let update = updates _ there in
+      let both = halves.once p in
+      let same : eqb p y.slot ≡ true = rw is (eqb-self p) in
+      let one : times p (y ∷ []) ≡ 1 = rw same refl in
+      record {
+        left = AreLinked-frame old new p _ update None xs after (omega (arith, both, one)) halves.left;
+        right = (ap new is ∙ update.changed, AreLinked-frame old new p _ update (Some y.slot) ys None (omega (arith, both, one)) halves.right.1);
+        once = halves.once;
+      }
+
+  -- where the first is empty there is no end to change, and so for the start of the second
+  pub halves-no_end : (links : ℕ → Option Links) (xs : List (LeafAt K V)) (after before next : Option ℕ) (ys : List (LeafAt K V)) → AreHalves links xs after before ys → last_slot None xs ≡ None → AreHalves links xs next before ys
+  halves-no_end links xs after before next ys halves last =
+      record { left = rw (empty-first xs last) tt; right = halves.right; once = halves.once }
+
+  pub halves-no_start : (links : ℕ → Option Links) (xs : List (LeafAt K V)) (after before previous : Option ℕ) (ys : List (LeafAt K V)) → AreHalves links xs after before ys → first_slot ys None ≡ None → AreHalves links xs after previous ys
+  halves-no_start links xs after before previous [] halves first = record { left = halves.left; right = tt; once = halves.once }
+  halves-no_start links xs after before previous (y ∷ ys) halves first = absurd (cc)
+
+  -- a leaf that is in neither list may change its links
+  pub halves-apart : (old new : ℕ → Option Links) (p : ℕ) (value : Option Links) (xs : List (LeafAt K V)) (after before : Option ℕ) (ys : List (LeafAt K V))
+      → UpdatesAt old new p value → times p xs + times p ys ≡ 0 → AreHalves old xs after before ys → AreHalves new xs after before ys
+  halves-apart old new p value xs after before ys update apart halves = record {
+    left = AreLinked-frame old new p value update None xs after (omega (arith, apart)) halves.left;
+    right = AreLinked-frame old new p value update before ys None (omega (arith, apart)) halves.right;
+    once = halves.once;
+  }
+
+  -- two lists, each of which links to the other, are one; and a leaf between two lists, linked to by both, makes them one
+  pub joined : (links : ℕ → Option Links) (xs ys : List (LeafAt K V)) → AreHalves links xs (first_slot ys None) (last_slot None xs) ys → AreLinked links None (xs ++ ys) None
+  joined links xs ys halves = AreLinked-join links None xs ys None halves.left halves.right
+
+  pub linked_in : (links : ℕ → Option Links) (xs ys : List (LeafAt K V)) (m : LeafAt K V) (leaf : ℕ) → m.slot ≡ leaf → AreHalves links xs (Some leaf) (Some leaf) ys
+      → links leaf ≡ Some (record { previous = last_slot None xs; next = first_slot ys None }) → AreLinked links None (xs ++ m ∷ ys) None
+  linked_in links xs ys m leaf is halves here = AreLinked-join links None xs (m ∷ ys) None (rw is halves.left) (rw is here, rw is halves.right)
+
+  -- one list in two parts
+  pub parted : (links : ℕ → Option Links) (xs ys : List (LeafAt K V)) → AreLinked links None (xs ++ ys) None → ((n : ℕ) → times n (xs ++ ys) ≤ 1) → AreHalves links xs (first_slot ys None) (last_slot None xs) ys
+  parted links xs ys linked once = record {
+    left = AreLinked-left links None xs ys None linked;
+    right = AreLinked-right links None xs ys None linked;
+    once = λ n. let o = once n in omega (arith, o, times-append n xs ys);
+  }
+
+  -- a leaf that is in neither of two lists is no end of them
+  pub last-apart : (xs : List (LeafAt K V)) (p : ℕ) → times p xs ≡ 0 → last_slot None xs ≢ Some p
+  last-apart xs p none last =
+      let e = ends_with-first xs p last in
+      let here = times-here e.0 [] e.1 in
+      let same : times p xs ≡ times e.1.slot (e.0 ++ e.1 ∷ []) = ap (times p) e.2 ∙ ap (λ n. times n (e.0 ++ e.1 ∷ [])) (sym e.3) in
+      absurd (omega (arith, here, same, none))
+
+  pub first-apart : (ys : List (LeafAt K V)) (p : ℕ) → times p ys ≡ 0 → first_slot ys None ≢ Some p
+  first-apart [] p none first = absurd (cc)
+  first-apart (y ∷ ys) p none first =
+      let is : y.slot ≡ p = cc in
+      let same : eqb p y.slot ≡ true = rw is (eqb-self p) in
+      let one : times p (y ∷ []) ≡ 1 = rw same refl in
+      absurd (omega (arith, one, none))
+
+  -- what the start of a list links back to
+  pub start_there : (links : ℕ → Option Links) (before : Option ℕ) (ys : List (LeafAt K V)) (p : ℕ) → first_slot ys None ≡ Some p → AreLinked links before ys None → IsSome (links p)
+  start_there links before [] p first linked = absurd (cc)
+  start_there links before (y ∷ ys) p first linked = let is : y.slot ≡ p = cc in rw (← is, linked.0) refl
+
+  -- the links of a leaf in a list
+  pub link_there : (links : ℕ → Option Links) (xs : List (LeafAt K V)) (l : LeafAt K V) (ys : List (LeafAt K V)) (p : ℕ) → AreLinked links None (xs ++ l ∷ ys) None → l.slot ≡ p
+      → links p ≡ Some (record { previous = last_slot None xs; next = first_slot ys None })
+  link_there links xs l ys p linked is = ap links (sym is) ∙ (AreLinked-right links None xs (l ∷ ys) None linked).0
+
+  -- a new leaf goes between the parts of a list
+  pub can_link : (links : ℕ → Option Links) (xs ys : List (LeafAt K V)) (leaf : ℕ) → IsBeside links (xs ++ ys) leaf → CanLink links xs ys (last_slot None xs) leaf (first_slot ys None)
+  can_link links xs ys leaf beside = record {
+    after = first_slot ys None;
+    before = last_slot None xs;
+    halves = parted links xs ys beside.list.linked beside.list.once;
+    last = refl;
+    first = refl;
+    apart = let a = beside.apart in omega (arith, a, times-append leaf xs ys);
+    held = beside.held;
+  }
+
+  -- the parts of a list around one of its leaves
+  pub around_leaf : (links : ℕ → Option Links) (xs : List (LeafAt K V)) (l : LeafAt K V) (ys : List (LeafAt K V)) → IsList links (xs ++ l ∷ ys) → AreHalves links xs (Some l.slot) (Some l.slot) ys
+  around_leaf links xs l ys list = record {
+    left = AreLinked-left links None xs (l ∷ ys) None list.linked;
+    right = (AreLinked-right links None xs (l ∷ ys) None list.linked).1;
+    once = λ n. let o = list.once n in omega (arith, o, times-append n xs (l ∷ ys));
+  }
+
+  -- or in the place of one of its leaves
+  pub can_replace : (links : ℕ → Option Links) (xs : List (LeafAt K V)) (l : LeafAt K V) (ys : List (LeafAt K V)) (leaf : ℕ) → IsBeside links (xs ++ l ∷ ys) leaf → CanLink links xs ys (last_slot None xs) leaf (first_slot ys None)
+  can_replace links xs l ys leaf beside =
+      let parts = times-append leaf xs (l ∷ ys) in
+      let a = beside.apart in
+      record { after = Some l.slot; before = Some l.slot; halves = around_leaf links xs l ys beside.list; last = refl; first = refl; apart = omega (arith, a, parts); held = beside.held }
+
+  -- both links of the new leaf are set
+  pub both_set : (L0 L1 L2 : ℕ → Option Links) (xs ys : List (LeafAt K V)) (previous : Option ℕ) (leaf : ℕ) (next : Option ℕ) (can : CanLink L0 xs ys previous leaf next)
+      → ((was : Links) → L0 leaf ≡ Some was → UpdatesAt L0 L1 leaf (Some (record was { previous = previous })))
+      → ((was : Links) → L1 leaf ≡ Some was → UpdatesAt L1 L2 leaf (Some (record was { next = next })))
+      → AreHalves L2 xs can.after can.before ys × (L2 leaf ≡ Some (record { previous = last_slot None xs; next = first_slot ys None }))
+  both_set L0 L1 L2 xs ys previous leaf next can set1 set2 =
+      let w = some_of (L0 leaf) can.held in
+      let u1 = set1 w.0 w.1 in
+      let u2 = set2 _ u1.changed in (
+        halves-apart L1 L2 leaf _ xs can.after can.before ys u2 can.apart (halves-apart L0 L1 leaf _ xs can.after can.before ys u1 can.apart can.halves),
+        u2.changed ∙ ap₂ (λ p n. Some (record { previous = p; next = n })) (sym can.last) (sym can.first),
+      )
+
+  -- the same place, its parts under other names
+  relabel : (links : ℕ → Option Links) (xs ys : List (LeafAt K V)) (p q : Option ℕ) (leaf name : ℕ) (n o : Option ℕ) → p ≡ q → leaf ≡ name → n ≡ o → CanLink links xs ys p leaf n → CanLink links xs ys q name o
+  relabel links xs ys p q leaf name n o e f g can = record {
+    after = can.after;
+    before = can.before;
+    halves = can.halves;
+    last = can.last ∙ e;
+    first = can.first ∙ g;
+    apart = subst (λ x. times x xs + times x ys ≡ 0) f can.apart;
+    held = subst (λ x. IsSome (links x)) f can.held;
+  }
+
+  -- a leaf of a list has links
+  pub in_list : (links : ℕ → Option Links) (xs : List (LeafAt K V)) (l : LeafAt K V) (ys : List (LeafAt K V)) (p : ℕ) → AreLinked links None (xs ++ l ∷ ys) None → l.slot ≡ p → IsSome (links p)
+  in_list links xs l ys p linked is = rw (link_there links xs l ys p linked is) refl
+
+  module _ (links : ℕ → Option Links) (xs : List (LeafAt K V)) (l : LeafAt K V) (ys : List (LeafAt K V)) (at : ℕ) (is : l.slot ≡ at) where
+    -- what a look at the links of a leaf of the list tells
+    pub previous_is : AreLinked links None (xs ++ l ∷ ys) None → (p : Option ℕ) → ((was : Links) → links at ≡ Some was → p ≡ was.previous) → last_slot None xs ≡ p
+    previous_is linked p tells = sym (tells _ (link_there links xs l ys at linked is))
+
+    pub next_is : AreLinked links None (xs ++ l ∷ ys) None → (n : Option ℕ) → ((was : Links) → links at ≡ Some was → n ≡ was.next) → first_slot ys None ≡ n
+    next_is linked n tells = sym (tells _ (link_there links xs l ys at linked is))
+
+    module _ (leaf name : ℕ) (same : leaf ≡ name) (beside : IsBeside links (xs ++ l ∷ ys) leaf) where
+      pub can_go_before : (p : Option ℕ) → ((was : Links) → links at ≡ Some was → p ≡ was.previous) → CanLink links xs (l ∷ ys) p name (Some at)
+      can_go_before p tells = relabel links xs (l ∷ ys) _ p leaf name _ (Some at) (previous_is beside.list.linked p tells) same (ap Some is) (can_link links xs (l ∷ ys) leaf beside)
+
+      pub can_go_after : (n : Option ℕ) → ((was : Links) → links at ≡ Some was → n ≡ was.next) → CanLink links (xs ++ l ∷ []) ys (Some at) name n
+      can_go_after n tells =
+          let whole : xs ++ l ∷ ys ≡ (xs ++ l ∷ []) ++ ys = sym (append_assoc xs (l ∷ []) ys) in
+          relabel links (xs ++ l ∷ []) ys _ (Some at) leaf name _ n (last_slot-append None xs (l ∷ []) ∙ ap Some is) same (next_is beside.list.linked n tells)
+          (can_link links (xs ++ l ∷ []) ys leaf (subst (λ ls. IsBeside links ls leaf) whole beside))
+
+      pub can_take_place : (p n : Option ℕ) → ((was : Links) → links at ≡ Some was → p ≡ was.previous) → ((was : Links) → links at ≡ Some was → n ≡ was.next) → CanLink links xs ys p name n
+      can_take_place p n before after =
+          relabel links xs ys _ p leaf name _ n (previous_is beside.list.linked p before) same (next_is beside.list.linked n after) (can_replace links xs l ys leaf beside)
+
+  -- a leaf alone is a list, and another stands beside it
+  pub lone-list : (links : ℕ → Option Links) (l : LeafAt K V) → links l.slot ≡ Some (record { previous = None; next = None }) → IsList links (l ∷ [])
+  lone-list links l there = record { linked = (there, tt); once = λ n. at_most (eqb n l.slot) }
+    where
+      at_most : (b : Bool) → cond b 1 0 + 0 ≤ 1
+      at_most true = omega arith
+      at_most false = omega arith
+
+  pub lone-beside : (links : ℕ → Option Links) (l : LeafAt K V) (m : ℕ) → links l.slot ≡ Some (record { previous = None; next = None }) → m ≢ l.slot → IsSome (links m) → IsBeside links (l ∷ []) m
+  lone-beside links l m there apart held = record {
+    list = lone-list links l there;
+    apart = elim (eqb_tells m l.slot) [ inl same ↦ absurd (apart same.1) | inr other ↦ rw other.0 (omega arith) ];
+    held = held;
+  }
+
+-- a leaf that is in a list once isn't beside itself
+
+pub not_before : {K V : Type 0} (xs : List (LeafAt K V)) (l : LeafAt K V) (ys : List (LeafAt K V)) (p : ℕ) → l.slot ≡ p → ((n : ℕ) → times n (xs ++ l ∷ ys) ≤ 1) → last_slot None xs ≢ Some p
+not_before xs l ys p is once = last-apart xs p (apart is)
+  where
+    apart : l.slot ≡ p → times p xs ≡ 0
+    apart e =
+        let o = once l.slot in
+        let none : times l.slot xs ≡ 0 = omega (arith, o, times-append l.slot xs (l ∷ ys), ap {B = ℕ} (λ b. cond b 1 0) (eqb-self l.slot)) in
+        subst (λ n. times n xs ≡ 0) e none
+
+pub not_behind : {K V : Type 0} (xs : List (LeafAt K V)) (l : LeafAt K V) (ys : List (LeafAt K V)) (p : ℕ) → l.slot ≡ p → ((n : ℕ) → times n (xs ++ l ∷ ys) ≤ 1) → first_slot ys None ≢ Some p
+not_behind xs l ys p is once = first-apart ys p (apart is)
+  where
+    apart : l.slot ≡ p → times p ys ≡ 0
+    apart e =
+        let o = once l.slot in
+        let none : times l.slot ys ≡ 0 = omega (arith, o, times-append l.slot xs (l ∷ ys), ap {B = ℕ} (λ b. cond b 1 0) (eqb-self l.slot)) in
+        subst (λ n. times n ys ≡ 0) e none

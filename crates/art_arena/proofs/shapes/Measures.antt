@@ -1,0 +1,174 @@
+-- How many nodes stand below a name, told by the arena alone: the measure of a walk down.
+use Rattle.std.proofs.Common.{◌≡◌, ℕ, zero, suc, ◌+◌, ◌<◌, ◌≤◌, Bool, true, false, cond, eqb, List, [], ◌∷◌, length, Option, Some, None, IsSome, refl, sym, ap, subst, ◌∙◌, inl, inr, arith, length-append}
+use Rattle.std.specs.List.{AllByRecursion}
+use Rattle.std.proofs.lemmas.Bool.Decides.{eqb_tells}
+use Rattle.slab.specs.Slab.{get}
+use Rattle.slab.proofs.SlabLemmas.{ContainsKey-within}
+use Rattle.art_nodes.specs.declared.kind.NodeType.{NodeType}
+use Rattle.art_nodes.specs.declared.kind.NodeType.TheVariants.{Node4, Node16, Node48, Node256, Leaf}
+use Rattle.art_nodes.specs.declared.leaf.LeafNode.{LeafNode}
+use Rattle.art_nodes.specs.InnerNode.{InnerNode}
+use Rattle.art_nodes.specs.Name.{Name}
+use Rattle.art_arena.specs.arena.Cells.{Cell, pair, branches, same_kind, copies, AreHeld}
+use Rattle.art_arena.specs.arena.Arena.{Arena, as_leaf, as_inner, held_as, cell_of, node_at}
+use Rattle.art_arena.specs.arena.Shapes.{Shape, Branches, leaf_at, inner_at, no_branch, branch, name_of, children_at, cells, cells_in}
+use Rattle.art_arena.specs.arena.Meaning.{IsPart}
+use Rattle.art_arena.proofs.tree.Order.{all_left, all_right}
+
+-- how often a number stands in a list
+abbrev count : ℕ → List ℕ → ℕ
+count n [] = 0
+count n (x ∷ xs) = cond (eqb n x) 1 0 + count n xs
+
+-- the list without a number
+abbrev without : ℕ → List ℕ → List ℕ
+without n [] = []
+without n (x ∷ xs) = cond (eqb n x) (without n xs) (x ∷ without n xs)
+
+length-without : (n : ℕ) (xs : List ℕ) → length xs ≡ length (without n xs) + count n xs
+length-without n [] = refl
+length-without n (x ∷ xs) = elim (eqb n x) as (λ b. suc (length xs) ≡ length (cond b (without n xs) (x ∷ without n xs)) + (cond b 1 0 + count n xs)) [
+  | true ↦ omega (arith, length-without n xs)
+  | false ↦ omega (arith, length-without n xs)
+]
+
+count-without : (m n : ℕ) (xs : List ℕ) → count m (without n xs) ≤ count m xs
+count-without m n [] = omega arith
+count-without m n (x ∷ xs) = elim (eqb n x) as (λ b. count m (cond b (without n xs) (x ∷ without n xs)) ≤ cond (eqb m x) 1 0 + count m xs) [
+  | true ↦ omega (arith, count-without m n xs)
+  | false ↦ omega (arith, count-without m n xs)
+]
+
+below-without : (n : ℕ) (xs : List ℕ) → AllByRecursion (λ x. x < suc n) xs → AllByRecursion (λ x. x < n) (without n xs)
+below-without n [] h = tt
+below-without n (x ∷ xs) h = elim (eqb_tells n x) [
+  | inl same ↦ rw same.0 (below-without n xs h.1)
+  | inr other ↦ rw other.0 (omega (arith, h.0, other.1), below-without n xs h.1)
+]
+
+-- numbers below n that are met once each are no more than n
+few : (n : ℕ) (xs : List ℕ) → AllByRecursion (λ x. x < n) xs → ((m : ℕ) → count m xs ≤ 1) → length xs ≤ n
+few zero [] h once = omega arith
+few zero (x ∷ xs) h once = absurd (omega (arith, h.0))
+few (suc n) xs h once =
+    let rest = few n (without n xs) (below-without n xs h) (λ m. omega (arith, count-without m n xs, once m)) in
+    omega (arith, rest, once n, length-without n xs)
+
+kind_tells : (a b : NodeType) → same_kind a b ≡ true → a ≡ b
+kind_tells Node4 Node4 e = refl
+kind_tells Node4 b e = absurd (cc)
+kind_tells Node16 Node16 e = refl
+kind_tells Node16 b e = absurd (cc)
+kind_tells Node48 Node48 e = refl
+kind_tells Node48 b e = absurd (cc)
+kind_tells Node256 Node256 e = refl
+kind_tells Node256 b e = absurd (cc)
+kind_tells Leaf Leaf e = refl
+kind_tells Leaf b e = absurd (cc)
+
+one_kind : (kind : NodeType) → cond (same_kind Leaf kind) 1 0 + (cond (same_kind Node4 kind) 1 0 + (cond (same_kind Node16 kind) 1 0 + (cond (same_kind Node48 kind) 1 0 + cond (same_kind Node256 kind) 1 0))) ≡ 1
+one_kind Node4 = refl
+one_kind Node16 = refl
+one_kind Node48 = refl
+one_kind Node256 = refl
+one_kind Leaf = refl
+
+abbrev total : (Name → ℕ) → List (ℕ × Name) → ℕ
+total f [] = 0
+total f (c ∷ rest) = f c.1 + total f rest
+
+module _ {C : Type 0} where
+  -- the slab keys of the nodes of a kind in a list of cells
+  abbrev slots_as : NodeType → List (Name × C) → List ℕ
+  slots_as kind [] = []
+  slots_as kind (c ∷ rest) = cond (same_kind kind c.0.kind) (c.0.slot ∷ slots_as kind rest) (slots_as kind rest)
+
+  count-slots_as : (kind : NodeType) (n : ℕ) (xs : List (Name × C)) → count n (slots_as kind xs) ≡ copies (record { kind = kind; slot = n }) xs
+  count-slots_as kind n [] = refl
+  count-slots_as kind n (c ∷ xs) = here (same_kind kind c.0.kind) refl (count-slots_as kind n xs)
+    where
+      here : (b : Bool) → same_kind kind c.0.kind ≡ b → count n (slots_as kind xs) ≡ copies (record { kind = kind; slot = n }) xs → count n (slots_as kind (c ∷ xs)) ≡ copies (record { kind = kind; slot = n }) (c ∷ xs)
+      here true e later = rw e (omega (arith, later))
+      here false e later = rw e (omega (arith, later))
+
+  length-slots_as : (kind : NodeType) (c : Name × C) (xs : List (Name × C)) → length (slots_as kind (c ∷ xs)) ≡ cond (same_kind kind c.0.kind) 1 0 + length (slots_as kind xs)
+  length-slots_as kind c xs = elim (same_kind kind c.0.kind) as (λ b. length (cond b (c.0.slot ∷ slots_as kind xs) (slots_as kind xs)) ≡ cond b 1 0 + length (slots_as kind xs)) [
+    | true ↦ omega arith
+    | false ↦ omega arith
+  ]
+
+  -- each cell is of one kind
+  by_kinds : (xs : List (Name × C)) → length xs ≡ length (slots_as Leaf xs) + (length (slots_as Node4 xs) + (length (slots_as Node16 xs) + (length (slots_as Node48 xs) + length (slots_as Node256 xs))))
+  by_kinds [] = refl
+  by_kinds (c ∷ xs) =
+      omega (arith, by_kinds xs, one_kind c.0.kind, length-slots_as Leaf c xs, length-slots_as Node4 c xs, length-slots_as Node16 c xs, length-slots_as Node48 c xs, length-slots_as Node256 c xs)
+
+module _ {K V : Type 0} where
+  -- how many slots a slab has
+  abbrev slots_in : Arena K V → NodeType → ℕ
+  slots_in arena Leaf = length arena.leaves.slots
+  slots_in arena Node4 = length arena.nodes4.slots
+  slots_in arena Node16 = length arena.nodes16.slots
+  slots_in arena Node48 = length arena.nodes48.slots
+  slots_in arena Node256 = length arena.nodes256.slots
+
+  abbrev pub slots_of : Arena K V → ℕ
+  slots_of arena = slots_in arena Leaf + (slots_in arena Node4 + (slots_in arena Node16 + (slots_in arena Node48 + slots_in arena Node256)))
+
+  leaf_there : (o : Option (LeafNode K V)) (c : Cell K V) → cell_of (as_leaf o) ≡ Some c → IsSome o
+  leaf_there None c e = absurd (cc)
+  leaf_there (Some node) c e = refl
+
+  inner_there : (o : Option InnerNode) (c : Cell K V) → cell_of {K = K} {V = V} (as_inner o) ≡ Some c → IsSome o
+  inner_there None c e = absurd (cc)
+  inner_there (Some node) c e = refl
+
+  slot_within : (arena : Arena K V) (kind : NodeType) (slot : ℕ) (c : Cell K V) → cell_of (held_as arena kind slot) ≡ Some c → slot < slots_in arena kind
+  slot_within arena Leaf slot c e = ContainsKey-within arena.leaves slot (leaf_there (get arena.leaves slot) c e)
+  slot_within arena Node4 slot c e = ContainsKey-within arena.nodes4 slot (inner_there (get arena.nodes4 slot) c e)
+  slot_within arena Node16 slot c e = ContainsKey-within arena.nodes16 slot (inner_there (get arena.nodes16 slot) c e)
+  slot_within arena Node48 slot c e = ContainsKey-within arena.nodes48 slot (inner_there (get arena.nodes48 slot) c e)
+  slot_within arena Node256 slot c e = ContainsKey-within arena.nodes256 slot (inner_there (get arena.nodes256 slot) c e)
+
+  slots_within : (arena : Arena K V) (kind : NodeType) (cs : List (Name × Cell K V)) → AreHeld (node_at arena) cs → AllByRecursion (λ x. x < slots_in arena kind) (slots_as kind cs)
+  slots_within arena kind [] h = tt
+  slots_within arena kind (c ∷ cs) h = here (same_kind kind c.0.kind) refl (slots_within arena kind cs h.1)
+    where
+      here : (b : Bool) → same_kind kind c.0.kind ≡ b → AllByRecursion (λ x. x < slots_in arena kind) (slots_as kind cs) → AllByRecursion (λ x. x < slots_in arena kind) (slots_as kind (c ∷ cs))
+      here true e later = rw e (subst (λ k. c.0.slot < slots_in arena k) (sym (kind_tells kind c.0.kind e)) (slot_within arena c.0.kind c.0.slot c.1 h.0), later)
+      here false e later = rw e later
+
+  -- no shape has more nodes than the arena has slots
+  pub cells_few : (P : ℕ) (arena : Arena K V) (n : Name) (s : Shape K V) → IsPart P (node_at arena) n s → length (cells P s) ≤ slots_of arena
+  cells_few P arena n s part =
+      let each : (kind : NodeType) → length (slots_as kind (cells P s)) ≤ slots_in arena kind =
+      λ kind. few (slots_in arena kind) (slots_as kind (cells P s)) (slots_within arena kind (cells P s) part.held) (λ m. rw (count-slots_as kind m (cells P s)) (part.once (record { kind = kind; slot = m }))) in
+      omega (arith, by_kinds (cells P s), each Leaf, each Node4, each Node16, each Node48, each Node256)
+
+  abbrev nodes_in : (Name → ℕ) → Option (Cell K V) → ℕ
+  nodes_in f None = 0
+  nodes_in f (Some (pair k v)) = 1
+  nodes_in f (Some (branches node)) = suc (total f node.children)
+
+  -- the number of nodes below a name, itself included, as far as this many steps down show it
+  abbrev pub nodes_below : ℕ → (Name → Option (Cell K V)) → Name → ℕ
+  nodes_below zero at n = 0
+  nodes_below (suc fuel) at n = nodes_in (nodes_below fuel at) (at n)
+
+  module _ (P : ℕ) (at : Name → Option (Cell K V)) where
+    mutual
+      pub nodes_below-held : (fuel : ℕ) (s : Shape K V) → AreHeld at (cells P s) → length (cells P s) ≤ fuel → nodes_below fuel at (name_of s) ≡ length (cells P s)
+      nodes_below-held zero (leaf_at slot k v) held low = absurd (omega (arith, low))
+      nodes_below-held (suc fuel) (leaf_at slot k v) held low = ap (nodes_in (nodes_below fuel at)) held.0
+      nodes_below-held zero (inner_at n prefix kids) held low = absurd (omega (arith, low))
+      nodes_below-held (suc fuel) (inner_at n prefix kids) held low =
+          ap (nodes_in (nodes_below fuel at)) held.0 ∙ ap suc (total-held fuel kids held.1 (omega (arith, low)))
+
+      total-held : (fuel : ℕ) (f : Branches K V) → AreHeld at (cells_in P f) → length (cells_in P f) ≤ fuel → total (nodes_below fuel at) (children_at f) ≡ length (cells_in P f)
+      total-held fuel no_branch held low = refl
+      total-held fuel (branch byte s rest) held low =
+          let P_at = λ (c : Name × Cell K V). at c.0 ≡ Some c.1 in
+          let wide = length-append (cells P s) (cells_in P rest) in
+          let here = nodes_below-held fuel s (all_left P_at (cells P s) (cells_in P rest) held) (omega (arith, low, wide)) in
+          let later = total-held fuel rest (all_right P_at (cells P s) (cells_in P rest) held) (omega (arith, low, wide)) in
+          omega (arith, here, later, wide)

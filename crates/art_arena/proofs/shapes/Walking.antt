@@ -1,0 +1,192 @@
+-- The walk of a descent from the root to a leaf.
+use Rattle.std.proofs.Common.{◌≡◌, ℕ, suc, ◌+◌, ◌-◌, ◌^◌, ◌<◌, ◌≤◌, min, Bool, List, [], ◌∷◌, ◌++◌, length, get_or, take, drop, Option, Some, None, IsSome, refl, sym, ap, ap₂, subst, ◌∙◌, inl, inr, arith, length-append}
+use Rattle.std.proofs.Math.ListN.{drop_of_length-le}
+use Rattle.std.proofs.lemmas.Bool.Decides.{leb_tells}
+use Rattle.std.proofs.lemmas.List.{drop-drop}
+use Rattle.art_nodes.specs.Name.{Name}
+use Rattle.art_nodes.specs.InnerNode.{InnerNode, child_at}
+use Rattle.art_arena.specs.tree.Paths.{path_of, path_in}
+use Rattle.art_arena.specs.arena.Cells.{Cell, pair, branches, AreHeld}
+use Rattle.art_arena.specs.arena.Shapes.{Shape, Branches, leaf_at, inner_at, name_of, children_at, cells, erase, erase_in, leaves_in}
+use Rattle.art_arena.specs.arena.Context.{Frame, path_to}
+use Rattle.art_arena.specs.arena.Meaning.{IsSubtree}
+use Rattle.art_arena.specs.arena.Steps.{Step, steps_to}
+use Rattle.art_arena.specs.arena.Places.{IsPlace}
+use Rattle.art_arena.specs.arena.Found.{located, located_in}
+use Rattle.art_arena.specs.arena.Descents.{GoesOn, Ends, TakesFronts, located_where, LandsAt, HasNoFront}
+use Rattle.art_nodes.specs.declared.leaf.LeafNode.{LeafNode}
+use Rattle.art_arena.specs.arena.Arena.{Arena, Held, leaf_held, inner_held, held_at, cell_of, node_at}
+use Rattle.art_arena.proofs.shapes.Places.{held-below, leaf-there, inner-there, step-down, at-root}
+use Rattle.art_arena.proofs.shapes.Finding.{NoneFits, dropped, counted_more, located-step, none-located_in, none-avoid, none-short, avoid-missing, path_in-step, path_in-missing, path_in-ended}
+
+-- how many nodes are counted after so many more
+abbrev pub counted : ℕ → ℕ → ℕ
+counted start n = min (start + n) (2 ^ 64 - 1)
+
+last_two : (step : Step) (xs : List Step) → take 2 (step ∷ xs) ≡ take 2 (step ∷ take 2 xs)
+last_two step [] = refl
+last_two step (x ∷ xs) = refl
+
+module _ {K V : Type 0} (bytes : K → List ℕ) (key : List ℕ) (whole : Shape K V) (start : ℕ) where
+  -- on the way to the key: `depth` bytes of it, and these last steps, lead to the node with this name; each node above it was read, and one more makes this count
+  pub record IsOnWay (current : Name) (last : List Step) (depth count : ℕ) : Type 0 where
+    pub ctx : List (Frame K V)
+    pub part : Shape K V
+    pub place : IsPlace bytes whole ctx part
+    pub named : name_of part ≡ current
+    pub steps : take 2 (steps_to ctx) ≡ last
+    pub depth_is : length (path_to ctx) ≡ depth
+    pub finds : (test : List ℕ → Bool) → TakesFronts key test → located_where bytes test (located [] whole) ≡ located_where bytes test (located (steps_to ctx) part)
+    pub long : length (path_of (erase whole) key) ≡ length ctx + length (path_of (erase part) (drop depth key))
+    pub reads : min (count + 1) (2 ^ 64 - 1) ≡ counted start (suc (length ctx))
+
+  -- each node of the key's path was read
+  abbrev pub ReadsPath : ℕ → Type 0
+  ReadsPath count = count ≡ counted start (length (path_of (erase whole) key))
+
+  module _ (P : ℕ) (at : Name → Option (Cell K V)) (root : Name) (tree : IsSubtree bytes P at root [] whole) where
+    pub way-start : IsOnWay root [] 0 start
+    way-start = record {
+      ctx = [];
+      part = whole;
+      place = at-root bytes whole tree.under;
+      named = tree.part.named;
+      steps = refl;
+      depth_is = refl;
+      finds = λ test takes. refl;
+      long = omega arith;
+      reads = omega arith;
+    }
+
+    module _ (current : Name) (last : List Step) (depth count : ℕ) (way : IsOnWay current last depth count) where
+      pub part-held : AreHeld at (cells P way.part)
+      part-held = held-below P at way.ctx way.part (subst (λ s. AreHeld at (cells P s)) way.place.is tree.part.held)
+
+      -- a node is held there
+      pub way-there : IsSome (at current)
+      way-there = subst (λ n. IsSome (at n)) way.named (top way.part part-held)
+        where
+          top : (s : Shape K V) → AreHeld at (cells P s) → IsSome (at (name_of s))
+          top (leaf_at slot k v) held = rw held.0 refl
+          top (inner_at n prefix kids) held = rw held.0 refl
+
+      -- at a leaf
+      module _ (k : K) (v : V) (there : at current ≡ Some (pair k v)) where
+        the_leaf : way.part ≡ leaf_at current.slot k v
+        the_leaf = leaf-there P at way.part k v part-held (ap at way.named ∙ there) ∙ ap (λ (n : Name). leaf_at n.slot k v) way.named
+
+        pub leaf-place : IsPlace bytes whole way.ctx (leaf_at current.slot k v)
+        leaf-place = subst (IsPlace bytes whole way.ctx) the_leaf way.place
+
+        pub way-lands : (leaf : LeafNode K V) → leaf.key ≡ k → leaf.value ≡ v → LandsAt bytes key whole current.slot leaf last
+        way-lands leaf key_is value_is = record {
+          ctx = way.ctx;
+          place = rw (key_is, value_is) leaf-place;
+          steps = way.steps;
+          only = λ test takes. rw (key_is, value_is) (way.finds test takes ∙ ap (λ s. located_where bytes test (located (steps_to way.ctx) s)) the_leaf);
+        }
+
+        pub reads-leaf : ReadsPath (min (count + 1) (2 ^ 64 - 1))
+        reads-leaf = way.reads ∙ ap (counted start) (omega (arith, way.long, ap (λ s. length (path_of (erase s) (drop depth key))) the_leaf))
+
+      -- at an inner node
+      module _ (node : InnerNode) (there : at current ≡ Some (branches node)) where
+        pub record Here : Type 0 where
+          pub prefix : List ℕ
+          pub kids : Branches K V
+          pub is : way.part ≡ inner_at current prefix kids
+          pub place : IsPlace bytes whole way.ctx (inner_at current prefix kids)
+          pub node_is : node ≡ record { header = record { num_children = length (children_at kids); prefix_len = length prefix; stored = take P prefix }; children = children_at kids }
+
+        pub here : Here
+        here =
+            let i = inner-there P at way.part node part-held (ap at way.named ∙ there) in
+            let is = i.is ∙ ap (λ n. inner_at n i.prefix i.kids) way.named in
+            record { prefix = i.prefix; kids = i.kids; is = is; place = subst (IsPlace bytes whole way.ctx) is way.place; node_is = i.node_is }
+
+        abbrev path : List ℕ
+        path = path_to way.ctx ++ here.prefix
+
+        path-long : length path ≡ depth + node.header.prefix_len
+        path-long = omega (arith, length-append (path_to way.ctx) here.prefix, way.depth_is, ap (λ n. n.header.prefix_len) here.node_is)
+
+        behind : drop (length here.prefix) (drop depth key) ≡ drop (depth + node.header.prefix_len) key
+        behind = drop-drop (length here.prefix) depth key ∙ ap (λ n. drop (depth + n.header.prefix_len) key) (sym here.node_is)
+
+        -- the path of what is left of the key, in the part
+        part-path : length (path_of (erase way.part) (drop depth key)) ≡ suc (length (path_in (erase_in here.kids) (drop (depth + node.header.prefix_len) key)))
+        part-path = ap (λ s. length (path_of (erase s) (drop depth key))) here.is ∙ ap (λ k. suc (length (path_in (erase_in here.kids) k))) behind
+
+        -- it goes on to a child
+        pub way-step : (b : ℕ) (child : Name) (next : ℕ) → GoesOn key depth node b child next
+            → IsOnWay child (take 2 (record { node = current; byte = b } ∷ last)) next (min (count + 1) (2 ^ 64 - 1))
+        way-step b child next goes =
+            let h = here in
+            let at_b : get_or key (length path) 0 ≡ b = ap (λ i. get_or key i 0) path-long ∙ goes.byte_is in
+            let found : child_at (children_at h.kids) b ≡ Some child = ap (λ n. child_at n.children b) (sym h.node_is) ∙ goes.child_is in
+            let sd = step-down bytes whole way.ctx current h.prefix h.kids b child h.place found in
+            let rest : drop (depth + node.header.prefix_len) key ≡ b ∷ drop next key =
+            dropped (depth + node.header.prefix_len) key (omega (arith, goes.within, goes.next_is)) ∙ ap₂ (λ c n. c ∷ drop n key) goes.byte_is (sym goes.next_is) in
+            let inner_path : path_in (erase_in h.kids) (drop (depth + node.header.prefix_len) key) ≡ path_of (erase sd.here) (drop next key) =
+            ap₂ (λ f k. path_in (erase_in f) k) sd.kids_are rest ∙ path_in-step bytes key sd.before b sd.here sd.after (drop next key) sd.place.around.2 in
+            record {
+              ctx = record { name = current; prefix = h.prefix; before = sd.before; byte = b; after = sd.after } ∷ way.ctx;
+              part = sd.here;
+              place = sd.place;
+              named = sd.named;
+              steps = last_two (record { node = current; byte = b }) (steps_to way.ctx) ∙ ap (λ xs. take 2 (record { node = current; byte = b } ∷ xs)) way.steps;
+              depth_is = omega (arith, length-append (path_to way.ctx ++ h.prefix) (b ∷ []), length-append (path_to way.ctx) h.prefix, way.depth_is, goes.next_is, ap (λ n. n.header.prefix_len) h.node_is);
+              finds = λ test takes.
+                  way.finds test takes ∙ ap (λ s. located_where bytes test (located (steps_to way.ctx) s)) h.is
+                  ∙ ap (λ f. located_where bytes test (located_in (steps_to way.ctx) current f)) sd.kids_are
+                  ∙ located-step bytes key test takes path (steps_to way.ctx) current sd.before b sd.here sd.after at_b sd.place.around.1 sd.place.around.2 sd.place.around.3;
+              long = omega (arith, way.long, part-path, ap length inner_path);
+              reads = ap (λ c. min (c + 1) (2 ^ 64 - 1)) way.reads ∙ counted_more start (suc (length way.ctx)) (2 ^ 64 - 1);
+            }
+
+        -- where no leaf below can be meant, and the path has no further node, it ends
+        pub record HasEnded (total : ℕ) : Type 0 where
+          pub none : HasNoFront bytes key whole
+          pub reads : ReadsPath total
+
+        ended : NoneFits bytes key (leaves_in here.kids) → path_in (erase_in here.kids) (drop (depth + node.header.prefix_len) key) ≡ [] → HasEnded (min (count + 1) (2 ^ 64 - 1))
+        ended none no_more = record {
+          none = λ test takes.
+              way.finds test takes ∙ ap (λ s. located_where bytes test (located (steps_to way.ctx) s)) here.is ∙ none-located_in bytes key test takes (steps_to way.ctx) current here.kids none;
+          reads = way.reads ∙ ap (counted start) (omega (arith, way.long, part-path, ap length no_more));
+        }
+
+        ends-short : length key ≤ depth + node.header.prefix_len → HasEnded (min (count + 1) (2 ^ 64 - 1))
+        ends-short short = ended
+            (none-short bytes key path 0 here.kids here.place.under.1 (omega (arith, path-long)))
+            (ap (path_in (erase_in here.kids)) (drop_of_length-le key short) ∙ path_in-ended bytes key here.kids)
+
+        ends-missing : depth + node.header.prefix_len < length key → child_at node.children (get_or key (depth + node.header.prefix_len) 0) ≡ None → HasEnded (min (count + 1) (2 ^ 64 - 1))
+        ends-missing more missing =
+            let b = get_or key (depth + node.header.prefix_len) 0 in
+            let avoid = avoid-missing bytes key b here.kids (ap (λ n. child_at n.children b) (sym here.node_is) ∙ missing) in
+            ended
+            (none-avoid bytes key path b 0 here.kids here.place.under.1 (ap (λ i. get_or key i 0) path-long) avoid)
+            (ap (path_in (erase_in here.kids)) (dropped (depth + node.header.prefix_len) key more) ∙ path_in-missing bytes key here.kids b (drop (depth + node.header.prefix_len + 1) key) avoid)
+
+        -- it ends
+        pub way-ends : Ends key depth node → HasEnded (min (count + 1) (2 ^ 64 - 1))
+        way-ends (inl short) = ends-short short
+        way-ends (inr missing) = elim (leb_tells (length key) (depth + node.header.prefix_len)) [
+          | inl short ↦ ends-short short.1
+          | inr more ↦ ends-missing (omega (arith, more.1)) missing
+        ]
+
+-- what a reader lent stands in the arena as it was before
+pub lent-leaf : {K V : Type 0} (was is : Arena K V) (n : Name) (held : Held K V) (l : LeafNode K V) → is ≡ was → held_at is n ≡ Some held → held ≡ leaf_held l → node_at was n ≡ Some (pair l.key l.value)
+lent-leaf was is n held l same there e = ap cell_of (ap (λ a. held_at a n) (sym same) ∙ there ∙ ap Some e)
+
+pub lent-inner : {K V : Type 0} (was is : Arena K V) (n : Name) (held : Held K V) (node : InnerNode) → is ≡ was → held_at is n ≡ Some held → held ≡ inner_held node → node_at was n ≡ Some (branches node)
+lent-inner was is n held node same there e = ap cell_of (ap (λ a. held_at a n) (sym same) ∙ there ∙ ap Some e)
+
+pub node-there : {K V : Type 0} (was is : Arena K V) (n : Name) → is ≡ was → IsSome (node_at was n) → IsSome (held_at is n)
+node-there {K} {V} was is n same there = some (held_at is n) (subst (λ a. IsSome (node_at a n)) (sym same) there)
+  where
+    some : (o : Option (Held K V)) → IsSome (cell_of o) → IsSome o
+    some None h = absurd (cc)
+    some (Some held) h = refl

@@ -1,0 +1,92 @@
+-- The items whose keys pass a test stand together, if the test holds between two keys for which it holds.
+use Rattle.std.proofs.Common.{◌≡◌, ℕ, ◌<◌, ◌⊎◌, List, [], ◌∷◌, ◌++◌, refl, sym, ap, ap₂, ◌∙◌, subst, inl, inr, arith, Bool, true, false, filter}
+use Rattle.std.specs.List.{AllByRecursion}
+use Rattle.std.proofs.lemmas.Bool.{cond-true, cond-false, cases_Bool}
+use Rattle.art_bytes.specs.Keys.{BeginsWith}
+use Rattle.art_arena.specs.tree.Order.{IsBefore, IsAscending}
+use Rattle.art_arena.specs.tree.Tenants.{begins_with, with_front}
+use Rattle.art_arena.specs.Laws.{FrontIsBlock}
+use Rattle.art_arena.proofs.tree.Tenants.{begins_true}
+use Rattle.art_arena.proofs.tree.Parts.{begins_same}
+
+-- a key between two that begin with a front
+between : (front k l m : List ℕ) → BeginsWith front k → BeginsWith front m → IsBefore k l → IsBefore l m → BeginsWith front l
+between [] k l m h j a b = (l, refl)
+between (c ∷ front) [] l m h j a b = absurd a
+between (c ∷ front) (d ∷ k) [] m h j a b = absurd a
+between (c ∷ front) (d ∷ k) (e ∷ l) [] h j a b = absurd b
+between (c ∷ front) (d ∷ k) (e ∷ l) (f ∷ m) (r, g) (s, i) a b = go (λ x y h j. between front k l m x y h j) a b
+  where
+    p : d ≡ c
+    p = cc
+
+    q : f ≡ c
+    q = cc
+
+    go : (BeginsWith front k → BeginsWith front m → IsBefore k l → IsBefore l m → BeginsWith front l) → (d < e) ⊎ ((d ≡ e) × IsBefore k l) → (e < f) ⊎ ((e ≡ f) × IsBefore l m) → BeginsWith (c ∷ front) (e ∷ l)
+    go _ (inl x) (inl y) = absurd (omega (arith, p, q))
+    go _ (inl x) (inr y) = let z = y.0 in absurd (omega (arith, p, q))
+    go _ (inr x) (inl y) = let z = x.0 in absurd (omega (arith, p, q))
+    go deeper (inr x) (inr y) =
+        let hk : k ≡ front ++ r = cc in
+        let hm : m ≡ front ++ s = cc in
+        let rest = deeper (r, hk) (s, hm) x.1 y.1 in
+        (rest.0, ap₂ (λ u v. u ∷ v) (sym x.0 ∙ p) rest.1)
+
+-- a filter by a test that holds between
+module _ {X : Type 0} (key : X → List ℕ) (test : List ℕ → Bool) (convex : (k l m : List ℕ) → test k ≡ true → test m ≡ true → IsBefore k l → IsBefore l m → test l ≡ true) where
+  abbrev Kept : List X → List X
+  Kept xs = filter (λ x. test (key x)) xs
+
+  past : (x y : X) → test (key x) ≡ true → IsBefore (key x) (key y) → test (key y) ≡ false → (ys : List X) → AllByRecursion (λ z. IsBefore (key y) (key z)) ys → Kept ys ≡ []
+  past x y h less out [] a = refl
+  past x y h less out (z ∷ zs) a =
+      let r = past x y h less out zs a.1 in
+      elim (cases_Bool (test (key z))) [
+        | inl t ↦ let e : true ≡ false = sym (convex (key x) (key y) (key z) h t less a.0) ∙ out in absurd (cc)
+        | inr f ↦ cond-false _ (z ∷ Kept zs) (Kept zs) f ∙ r
+      ]
+
+  kept_after : (x : X) (xs : List X) → test (key x) ≡ true → IsAscending key (x ∷ xs) → (after : List X) × (xs ≡ Kept xs ++ after)
+  kept_after x [] h a = ([], refl)
+  kept_after x (y ∷ ys) h a =
+      let later = λ (t : test (key y) ≡ true). kept_after y ys t a.1 in
+      elim (cases_Bool (test (key y))) [
+        | inl t ↦ let r = later t in (r.0, ap (λ l. y ∷ l) r.1 ∙ sym (ap (λ l. l ++ r.0) (cond-true _ (y ∷ Kept ys) (Kept ys) t)))
+        | inr f ↦ (y ∷ ys, sym (ap (λ l. l ++ y ∷ ys) (cond-false _ (y ∷ Kept ys) (Kept ys) f ∙ past x y h a.0.0 f ys a.1.0)))
+      ]
+
+  pub kept_block : (xs : List X) → IsAscending key xs → (before : List X) × (after : List X) × (xs ≡ before ++ (Kept xs ++ after))
+  kept_block [] h = ([], [], refl)
+  kept_block (x ∷ xs) h =
+      let r = kept_block xs h.1 in
+      elim (cases_Bool (test (key x))) [
+        | inl t ↦ let b = kept_after x xs t h in ([], b.0, ap (λ l. x ∷ l) b.1 ∙ sym (ap (λ l. l ++ b.0) (cond-true _ (x ∷ Kept xs) (Kept xs) t)))
+        | inr f ↦ (x ∷ r.0, r.1, ap (λ l. x ∷ l) r.2 ∙ sym (ap (λ l. (x ∷ r.0) ++ (l ++ r.1)) (cond-false _ (x ∷ Kept xs) (Kept xs) f)))
+      ]
+
+module _ {X : Type 0} (key : X → List ℕ) where
+  -- a filter
+  own_all : (P : X → Type 0) (front : List ℕ) (xs : List X) → AllByRecursion P xs → AllByRecursion P (with_front key front xs)
+  own_all P front [] h = tt
+  own_all P front (x ∷ xs) h =
+      let r = own_all P front xs h.1 in
+      elim (cases_Bool (begins_with front (key x))) [
+        | inl t ↦ subst (AllByRecursion P) (sym (cond-true _ (x ∷ with_front key front xs) (with_front key front xs) t)) (h.0, r)
+        | inr f ↦ subst (AllByRecursion P) (sym (cond-false _ (x ∷ with_front key front xs) (with_front key front xs) f)) r
+      ]
+
+  own_ascending : (front : List ℕ) (xs : List X) → IsAscending key xs → IsAscending key (with_front key front xs)
+  own_ascending front [] h = tt
+  own_ascending front (x ∷ xs) h =
+      let r = own_ascending front xs h.1 in
+      elim (cases_Bool (begins_with front (key x))) [
+        | inl t ↦ subst (IsAscending key) (sym (cond-true _ (x ∷ with_front key front xs) (with_front key front xs) t)) (own_all (λ y. IsBefore (key x) (key y)) front xs h.0, r)
+        | inr f ↦ subst (IsAscending key) (sym (cond-false _ (x ∷ with_front key front xs) (with_front key front xs) f)) r
+      ]
+
+module _ (X : Type 0) where
+  pub front_is_block : FrontIsBlock X
+  front_is_block key front xs h =
+      let b = kept_block key (begins_with front) (λ k l m a c x y. begins_same front l (between front k l m (begins_true front k a) (begins_true front m c) x y)) xs h in
+      (own_ascending key front xs h, b.0, b.1, b.2)

@@ -1,0 +1,107 @@
+-- What a contract sees of an arena: the nodes of each kind under their slab keys, and so one map from names to nodes.
+use Rattle.std.specs.Prelude.{◌≡◌, ℕ, ◌+◌, Option, Some, None}
+use Rattle.slab.specs.Slab.{Slab, get, HasRoomFor, with_value}
+use Rattle.art_nodes.specs.declared.kind.NodeType.{NodeType}
+use Rattle.art_nodes.specs.declared.kind.NodeType.TheVariants.{Node4, Node16, Node48, Node256, Leaf}
+use Rattle.art_nodes.specs.declared.leaf.LeafNode.{LeafNode}
+use Rattle.art_nodes.specs.InnerNode.{InnerNode}
+use Rattle.art_nodes.specs.Name.{Name}
+use Rattle.art_arena.specs.arena.Cells.{Cell, pair, branches, leaf_name, UpdatesAt}
+use Rattle.art_arena.specs.arena.Linked.{Links}
+
+-- the nodes of each kind under their slab keys
+pub record Arena (K V : Type 0) : Type 0 where
+  pub leaves : Slab (LeafNode K V)
+  pub nodes4 : Slab InnerNode
+  pub nodes16 : Slab InnerNode
+  pub nodes48 : Slab InnerNode
+  pub nodes256 : Slab InnerNode
+
+-- a node of any kind
+pub data Held (K V : Type 0) : Type 0 where
+  leaf_held : LeafNode K V → Held K V
+  inner_held : InnerNode → Held K V
+
+module _ {K V : Type 0} where
+  abbrev pub as_leaf : Option (LeafNode K V) → Option (Held K V)
+  as_leaf None = None
+  as_leaf (Some leaf) = Some (leaf_held leaf)
+
+  abbrev pub as_inner : Option InnerNode → Option (Held K V)
+  as_inner None = None
+  as_inner (Some node) = Some (inner_held node)
+
+  -- the node of this kind with this slab key
+  abbrev pub held_as : Arena K V → NodeType → ℕ → Option (Held K V)
+  held_as arena Leaf slot = as_leaf (get arena.leaves slot)
+  held_as arena Node4 slot = as_inner (get arena.nodes4 slot)
+  held_as arena Node16 slot = as_inner (get arena.nodes16 slot)
+  held_as arena Node48 slot = as_inner (get arena.nodes48 slot)
+  held_as arena Node256 slot = as_inner (get arena.nodes256 slot)
+
+  -- the node under this name
+  abbrev pub held_at : Arena K V → Name → Option (Held K V)
+  held_at arena n = held_as arena n.kind n.slot
+
+  -- what stands there, the links of leaves aside
+  abbrev pub cell_of : Option (Held K V) → Option (Cell K V)
+  cell_of None = None
+  cell_of (Some (leaf_held leaf)) = Some (pair leaf.key leaf.value)
+  cell_of (Some (inner_held node)) = Some (branches node)
+
+  -- the links of what stands there, if it is a leaf
+  abbrev pub links_of : Option (Held K V) → Option Links
+  links_of None = None
+  links_of (Some (leaf_held leaf)) = Some (record { previous = leaf.previous; next = leaf.next })
+  links_of (Some (inner_held node)) = None
+
+  abbrev pub node_at : Arena K V → Name → Option (Cell K V)
+  node_at arena n = cell_of (held_at arena n)
+
+  abbrev pub links_at : Arena K V → ℕ → Option Links
+  links_at arena slot = links_of (held_at arena (leaf_name slot))
+
+  -- the node stands now under the name, which was vacant, and all others as they did
+  pub record Allocates (old new : Arena K V) (n : Name) (node : Held K V) : Type 0 where
+    pub vacant : held_at old n ≡ None
+    pub updates : UpdatesAt (held_at old) (held_at new) n (Some node)
+
+  -- one leaf has these links now, and nothing else changed
+  pub record WritesLinks (old new : Arena K V) (slot : ℕ) (now : Links) : Type 0 where
+    pub nodes : (n : Name) → node_at new n ≡ node_at old n
+    pub links : UpdatesAt (links_at old) (links_at new) slot (Some now)
+
+  -- every name has what it had
+  abbrev pub SameNodes : Arena K V → Arena K V → Type 0
+  SameNodes old new = (n : Name) → held_at new n ≡ held_at old n
+
+  -- the arena with another node of a kind under a slab key
+  abbrev pub with_leaf : Arena K V → ℕ → LeafNode K V → Arena K V
+  with_leaf arena slot node = record arena { leaves = with_value arena.leaves slot node }
+
+  abbrev pub with_inner : Arena K V → NodeType → ℕ → InnerNode → Arena K V
+  with_inner arena Node4 slot node = record arena { nodes4 = with_value arena.nodes4 slot node }
+  with_inner arena Node16 slot node = record arena { nodes16 = with_value arena.nodes16 slot node }
+  with_inner arena Node48 slot node = record arena { nodes48 = with_value arena.nodes48 slot node }
+  with_inner arena Node256 slot node = record arena { nodes256 = with_value arena.nodes256 slot node }
+  with_inner arena Leaf slot node = arena
+
+  -- so many more nodes of any kinds take no memory
+  pub record HasRoom (arena : Arena K V) (n : ℕ) : Type 0 where
+    pub leaves : HasRoomFor arena.leaves n
+    pub nodes4 : HasRoomFor arena.nodes4 n
+    pub nodes16 : HasRoomFor arena.nodes16 n
+    pub nodes48 : HasRoomFor arena.nodes48 n
+    pub nodes256 : HasRoomFor arena.nodes256 n
+
+  -- what room there was stays
+  abbrev pub KeepsRoom : Arena K V → Arena K V → Type 0
+  KeepsRoom old new = (n : ℕ) → HasRoom old n → HasRoom new n
+
+  -- of what room there was, so much may be used up
+  abbrev pub UsesRoom : ℕ → Arena K V → Arena K V → Type 0
+  UsesRoom used old new = (n : ℕ) → HasRoom old (n + used) → HasRoom new n
+
+  -- every name has what it had, the links of leaves aside
+  abbrev pub SameCells : Arena K V → Arena K V → Type 0
+  SameCells old new = (n : Name) → node_at new n ≡ node_at old n

@@ -1,0 +1,66 @@
+-- The way of a key down a tree: where it turns at a node, and the one leaf at which it can end.
+use Rattle.std.specs.Prelude.{◌≡◌, ℕ, ◌+◌, ◌≤◌, ◌⊎◌, Bool, true, List, [], ◌∷◌, length, take, filter, get_or, Option}
+use Rattle.std.specs.Prelude.{Some, None}
+use Rattle.art_bytes.specs.Keys.{BeginsWith}
+use Rattle.art_nodes.specs.Name.{Name}
+use Rattle.art_nodes.specs.InnerNode.{InnerNode, child_at}
+use Rattle.art_nodes.specs.declared.leaf.LeafNode.{LeafNode}
+use Rattle.art_arena.specs.arena.Shapes.{Shape, leaf_at, LeafAt}
+use Rattle.art_arena.specs.arena.Linked.{first_slot}
+use Rattle.art_arena.specs.arena.Context.{Frame}
+use Rattle.art_arena.specs.arena.Places.{IsPlace}
+use Rattle.art_arena.specs.arena.Steps.{Step, steps_to, steps_of}
+use Rattle.art_arena.specs.arena.Found.{Located, located}
+use Rattle.art_arena.specs.declared.descent.Landed.{Landed}
+
+-- the key goes on from this inner node, which stands behind `depth` of its bytes: by this byte to this child, behind
+-- `next` bytes
+pub record GoesOn (key : List ℕ) (depth : ℕ) (node : InnerNode) (byte : ℕ) (child : Name) (next : ℕ) : Type 0 where
+  pub next_is : next ≡ depth + node.header.prefix_len + 1
+  pub within : next ≤ length key
+  pub byte_is : get_or key (depth + node.header.prefix_len) 0 ≡ byte
+  pub child_is : child_at node.children byte ≡ Some child
+
+-- the key doesn't go on: it ends within the prefix or with it, or there is no child under its next byte
+abbrev pub Ends : List ℕ → ℕ → InnerNode → Type 0
+Ends key depth node =
+    (length key ≤ depth + node.header.prefix_len)
+    ⊎ (child_at node.children (get_or key (depth + node.header.prefix_len) 0) ≡ None)
+
+-- only fronts of the key pass the test
+abbrev pub TakesFronts : List ℕ → (List ℕ → Bool) → Type 0
+TakesFronts key test = (k : List ℕ) → test k ≡ true → BeginsWith k key
+
+module _ {K V : Type 0} (bytes : K → List ℕ) where
+  -- the leaves whose keys pass the test
+  abbrev pub passing : (List ℕ → Bool) → List (LeafAt K V) → List (LeafAt K V)
+  passing test ls = filter (λ l. test (bytes l.key)) ls
+
+  -- the slab key of the first of them
+  abbrev pub leaf_where : (List ℕ → Bool) → List (LeafAt K V) → Option ℕ
+  leaf_where test ls = first_slot (passing test ls) None
+
+  -- these leaves, each with the steps to it
+  abbrev pub located_where : (List ℕ → Bool) → List (Located K V) → List (Located K V)
+  located_where test ls = filter (λ l. test (bytes l.leaf.key)) ls
+
+  -- the leaf with this slab key stands at a place of the tree to which these last steps lead, and no other leaf's key
+  -- is
+  -- the key or a front of it
+  pub record LandsAt (key : List ℕ) (s : Shape K V) (slot : ℕ) (leaf : LeafNode K V) (last : List Step) : Type 0 where
+    pub ctx : List (Frame K V)
+    pub place : IsPlace bytes s ctx (leaf_at slot leaf.key leaf.value)
+    pub steps : take 2 (steps_to ctx) ≡ last
+    pub only : (test : List ℕ → Bool) → TakesFronts key test
+        → located_where test (located [] s)
+        ≡ located_where test
+        (record { leaf = record { slot = slot; key = leaf.key; value = leaf.value }; steps = steps_to ctx } ∷ [])
+
+  -- no leaf's key is the key or a front of it
+  abbrev pub HasNoFront : List ℕ → Shape K V → Type 0
+  HasNoFront key s = (test : List ℕ → Bool) → TakesFronts key test → located_where test (located [] s) ≡ []
+
+  -- where a descent ends
+  abbrev pub Lands : List ℕ → Shape K V → Option (Landed K V) → Type 0
+  Lands key s None = HasNoFront key s
+  Lands key s (Some landed) = LandsAt key s landed.name landed.leaf.now (steps_of landed.path)

@@ -1,0 +1,23 @@
+-- The nodes on the way to a key.
+use Rattle.std.specs.Prelude.{ℕ, ◌==◌, if◌then◌else◌, List, [], ◌∷◌, length, drop, Option, Some, None}
+use Rattle.art_arena.specs.tree.Trees.{Tree, Forest, leaf, inner, no_child, child}
+
+-- From the root down: at an inner node by the byte of the key just behind the prefix, whatever the prefix's bytes are,
+-- as
+-- long as there is such a byte and a child for it.
+abbrev mutual
+  pub path_of : {X : Type 0} → Tree X → List ℕ → List (Tree X)
+  path_of (leaf x) k = leaf x ∷ []
+  path_of (inner prefix children) k = inner prefix children ∷ path_in children (drop (length prefix) k)
+
+  pub path_in : {X : Type 0} → Forest X → List ℕ → List (Tree X)
+  path_in no_child k = []
+  path_in (child byte tree others) [] = []
+  path_in (child byte tree others) (b ∷ k) = if b == byte then path_of tree k else path_in others (b ∷ k)
+
+-- the item of the leaf at which the nodes end
+abbrev pub last_leaf : {X : Type 0} → List (Tree X) → Option X
+last_leaf [] = None
+last_leaf (leaf x ∷ []) = Some x
+last_leaf (inner prefix children ∷ []) = None
+last_leaf (t ∷ u ∷ nodes) = last_leaf (u ∷ nodes)
