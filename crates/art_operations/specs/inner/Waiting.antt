@@ -4,7 +4,8 @@ use Rattle.art_bytes.specs.Keys.{BeginsWith}
 use Rattle.art_nodes.specs.Name.{Name}
 use Rattle.art_arena.specs.arena.Arena.{Arena, node_at, links_at}
 use Rattle.art_arena.specs.arena.Cells.{pair, leaf_name, Holds}
-use Rattle.art_arena.specs.arena.Context.{Frame, path_to, root_of, leaves_before, leaves_after, cells_before, cells_after}
+use Rattle.art_arena.specs.arena.Context.{Frame, path_to, root_of, leaves_before, leaves_after, cells_before}
+use Rattle.art_arena.specs.arena.Context.{cells_after}
 use Rattle.art_arena.specs.arena.Context.{AreAround, AreBelow}
 use Rattle.art_arena.specs.arena.Linked.{IsBeside}
 use Rattle.art_arena.specs.arena.Shapes.{LeafAt, join, children_at, width, node_of, cells_in, AreUnder}
