@@ -101,4 +101,5 @@ module _ {K V : Type 0} (bytes : K → List ℕ) (P : ℕ)
 abbrev pub FaultMeansNoTree : (K V : Type 0) → Type 0
 FaultMeansNoTree K V =
     (bytes : K → List ℕ) (P : ℕ) (at : Name → Option (Cell K V)) (links : ℕ → Option Links) (root : Name)
-    (t : Tree (K × V)) → Means bytes P at root links t → (fault : MalformedTreeError) → Stands bytes P at links root fault → fault ≡ Memory
+    (t : Tree (K × V)) → Means bytes P at root links t
+    → (fault : MalformedTreeError) → Stands bytes P at links root fault → fault ≡ Memory
