@@ -204,8 +204,7 @@ module _ {K V : Type 0} (bytes : K → List ℕ) where
             let s_held = all_left held_cell (cells P s) (cells_in P cs) h in
             let t_held = all_left held_cell (cells P t) (cells_in P ds) i in
             let names : name_of s ≡ name_of t = ap (λ (z : ℕ × Name). z.1) first in
-            let key_same = first_key-same s t s_held t_held names in
-            (
+            let key_same = first_key-same s t s_held t_held names in (
               subst (λ y. low ≤ y) (sym same_byte) fit.0,
               ap (take (x + 1)) key_same ∙ fit.1 ∙ ap (λ y. take x key ++ y ∷ []) (sym same_byte),
               fits-same (x + 1) s t s_held t_held names fit.2,

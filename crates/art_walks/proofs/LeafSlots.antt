@@ -1,12 +1,11 @@
 -- The leaves of a shape among the names that a check met: their links are told by the slab keys alone.
-use Rattle.std.proofs.Common.{◌≡◌, ℕ, ◌+◌, ◌≤◌, List, [], ◌∷◌, ◌++◌, length, Option, Some, None, refl, sym, ap, ap₂, subst, ◌∙◌, arith}
+use Rattle.std.proofs.Common.{◌≡◌, ℕ, ◌+◌, List, [], ◌∷◌, ◌++◌, length, Option, Some, refl, sym, ap, ap₂, ◌∙◌, arith}
 use Rattle.art_nodes.specs.declared.kind.NodeType.{NodeType}
 use Rattle.art_nodes.specs.declared.kind.NodeType.TheVariants.{Node4, Node16, Node48, Node256, Leaf}
 use Rattle.art_nodes.specs.Name.{Name}
-use Rattle.art_arena.specs.arena.Cells.{leaf_name}
 use Rattle.art_arena.specs.tree.Kinds.{IsKindOf}
 use Rattle.art_arena.specs.arena.Shapes.{Shape, Branches, leaf_at, inner_at, no_branch, branch, LeafAt, leaves, leaves_in, cells, cells_in, width}
-use Rattle.art_arena.specs.arena.Linked.{Links, first_slot, AreLinked}
+use Rattle.art_arena.specs.arena.Linked.{Links, AreLinked}
 use Rattle.art_walks.proofs.Skeletons.{HasKinds, HaveKinds, named, named-append}
 use Rattle.art_walks.proofs.Fillings.{fill, fill_in}
 

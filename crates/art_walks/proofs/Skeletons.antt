@@ -1,11 +1,11 @@
 -- From an arena to a shape: what a check has met so far, as a shape whose last parts are still to come. Prefixes play no part here.
-use Rattle.std.proofs.Common.{◌≡◌, ◌≢◌, ℕ, ◌+◌, ◌≤◌, List, [], ◌∷◌, ◌++◌, length, map, take, Option, Some, None, refl, sym, ap, ap₂, subst, ◌∙◌, arith, append_assoc}
+use Rattle.std.proofs.Common.{◌≡◌, ℕ, List, [], ◌∷◌, ◌++◌, length, Option, Some, refl, sym, ap, ap₂, subst, ◌∙◌, arith, append_assoc}
 use Rattle.art_nodes.specs.Name.{Name}
-use Rattle.art_nodes.specs.InnerNode.{InnerNode, names_of}
+use Rattle.art_nodes.specs.InnerNode.{names_of}
 use Rattle.art_arena.specs.arena.Cells.{Cell, pair, branches, leaf_name, AreHeld}
 use Rattle.art_arena.specs.tree.Kinds.{IsKindOf}
 use Rattle.art_arena.specs.arena.Shapes.{Shape, Branches, leaf_at, inner_at, no_branch, branch, name_of, children_at, width, cells, cells_in, node_of}
-use Rattle.art_arena.proofs.tree.Order.{all_left, all_right, all_append}
+use Rattle.art_arena.proofs.tree.Order.{all_left, all_right}
 
 module _ {K V : Type 0} where
   -- each inner node has as many children as its kind

@@ -9,11 +9,11 @@ use Rattle.art_arena.specs.tree.Kinds.{IsKindOf}
 use Rattle.art_arena.specs.tree.Trees.{Tree, nodes_with}
 use Rattle.art_arena.specs.arena.Shapes.{Shape, Branches, leaf_at, inner_at, no_branch, branch, name_of, children_at, join, leaves, erase, cells, cells_in, width, node_of, IsUnder, AreUnder}
 use Rattle.art_arena.specs.arena.Linked.{Links, AreLinked}
-use Rattle.art_arena.specs.arena.Meaning.{IsPart, IsSubtree, Means}
+use Rattle.art_arena.specs.arena.Meaning.{IsPart, Means}
 use Rattle.art_arena.proofs.shapes.Contexts.{cells_in-join}
 use Rattle.art_arena.proofs.tree.Order.{all_left, all_right}
-use Rattle.art_walks.specs.Faults.{child_in, onward, led_to, HasWrongCount, HasOtherKeys, HasOtherLinks}
-use Rattle.art_walks.proofs.Ways.{onward-some, HasBranch, branch_of}
+use Rattle.art_walks.specs.Faults.{child_in, led_to, HasOtherKeys, HasOtherLinks}
+use Rattle.art_walks.proofs.Ways.{onward-some, branch_of}
 use Rattle.art_walks.proofs.Skeletons.{HasKinds, HaveKinds, named, IsSkeleton, same_cells}
 use Rattle.art_walks.proofs.Fillings.{Fits, fill, fill_in, width-fill, cells-fill, filled-subtree, unfit-none}
 use Rattle.art_walks.proofs.LeafSlots.{AreLinkedSlots, leaf_slots, slots_of, slots-named, linked-slots, slots-linked, leaves-fill}

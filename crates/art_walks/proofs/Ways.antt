@@ -16,7 +16,7 @@ use Rattle.art_arena.proofs.shapes.Meanings.{means-subtree}
 use Rattle.art_arena.proofs.shapes.Subtrees.{subtree-branch}
 use Rattle.art_walks.specs.declared.malformed.MalformedTreeError.{MalformedTreeError}
 use Rattle.art_walks.specs.declared.malformed.MalformedTreeError.TheVariants.{DeadName, LoopFound, WrongChildrenCount, PrefixMismatch, LeafSiblingWrongOrder, WrongSiblingLinks, EmptyTreeWithLen, Memory}
-use Rattle.art_walks.specs.Faults.{child_in, onward, led_to, HasDeadName, HasLoop, HasWrongCount, Stands, FaultMeansNoTree}
+use Rattle.art_walks.specs.Faults.{child_in, onward, led_to, HasLoop, Stands, FaultMeansNoTree}
 
 pub onward-some : (next : Name → Option Name) (o : Option Name) (m : Name) → onward next o ≡ Some m → (c : Name) × (o ≡ Some c) × (next c ≡ Some m)
 onward-some next None m e = absurd (cc)

@@ -1,4 +1,4 @@
--- The faults that may stand below a name, in any arena: names may be dead or looping, and headers and links may say anything.
+-- The faults that may stand below a name, in any arena: names may be dead or looping, headers and links may be wrong.
 use Rattle.std.specs.Prelude.{◌≡◌, ◌≢◌, ℕ, List, [], ◌∷◌, length, Option, Some, None}
 use Rattle.art_nodes.specs.Name.{Name}
 use Rattle.art_nodes.specs.InnerNode.{InnerNode, child_at}
@@ -12,7 +12,10 @@ use Rattle.art_arena.specs.arena.Linked.{Links, AreLinked}
 use Rattle.art_arena.specs.tree.Changes.{IsIn}
 use Rattle.art_arena.specs.arena.Meaning.{IsPart, IsSubtree, Means}
 use Rattle.art_walks.specs.declared.malformed.MalformedTreeError.{MalformedTreeError}
-use Rattle.art_walks.specs.declared.malformed.MalformedTreeError.TheVariants.{DeadName, LoopFound, WrongChildrenCount, PrefixMismatch, LeafSiblingWrongOrder, WrongSiblingLinks, EmptyTreeWithLen, Memory}
+use Rattle.art_walks.specs.declared.malformed.MalformedTreeError.TheVariants.{DeadName, LoopFound, WrongChildrenCount}
+use Rattle.art_walks.specs.declared.malformed.MalformedTreeError.TheVariants.{PrefixMismatch, LeafSiblingWrongOrder}
+use Rattle.art_walks.specs.declared.malformed.MalformedTreeError.TheVariants.{WrongSiblingLinks, EmptyTreeWithLen}
+use Rattle.art_walks.specs.declared.malformed.MalformedTreeError.TheVariants.{Memory}
 
 -- on from a name, if there is one
 abbrev pub onward : (Name → Option Name) → Option Name → Option Name
@@ -31,7 +34,8 @@ module _ {K V : Type 0} where
   led_to at n [] = Some n
   led_to at n (byte ∷ way) = onward (λ child. led_to at child way) (child_in (at n) byte)
 
-module _ {K V : Type 0} (bytes : K → List ℕ) (P : ℕ) (at : Name → Option (Cell K V)) (links_of : ℕ → Option Links) (root : Name) where
+module _ {K V : Type 0} (bytes : K → List ℕ) (P : ℕ)
+    (at : Name → Option (Cell K V)) (links_of : ℕ → Option Links) (root : Name) where
   -- a name below the root isn't held
   pub record HasDeadName : Type 0 where
     pub way : List ℕ
@@ -57,8 +61,8 @@ module _ {K V : Type 0} (bytes : K → List ℕ) (P : ℕ) (at : Name → Option
     pub held : at name ≡ Some (branches node)
     pub wrong : IsKindOf name.kind (length node.children) → ⊥
 
-  -- The nodes below the root are those of a shape, and as many as their kinds have, but no whole prefixes of which the headers store the fronts make each leaf's key
-  -- begin with the path to it.
+  -- The nodes below the root are those of a shape, with as many children as their kinds have, but no whole prefixes, of
+  -- which the headers store the fronts, make each leaf's key begin with the path to it.
   pub record HasOtherKeys : Type 0 where
     pub shape : Shape K V
     pub part : IsPart P at root shape
@@ -95,5 +99,7 @@ module _ {K V : Type 0} (bytes : K → List ℕ) (P : ℕ) (at : Name → Option
 
 -- a fault other than want of memory stands only where the root means no tree
 abbrev pub FaultMeansNoTree : (K V : Type 0) → Type 0
-FaultMeansNoTree K V = (bytes : K → List ℕ) (P : ℕ) (at : Name → Option (Cell K V)) (links : ℕ → Option Links) (root : Name) (t : Tree (K × V))
-    → Means bytes P at root links t → (fault : MalformedTreeError) → Stands bytes P at links root fault → fault ≡ Memory
+FaultMeansNoTree K V =
+    (bytes : K → List ℕ) (P : ℕ) (at : Name → Option (Cell K V)) (links : ℕ → Option Links) (root : Name)
+    (t : Tree (K × V)) → Means bytes P at root links t
+    → (fault : MalformedTreeError) → Stands bytes P at links root fault → fault ≡ Memory

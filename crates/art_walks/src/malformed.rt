@@ -2,8 +2,8 @@
 
 use thiserror::Error;
 
-/// Why what stands below a name is no canonical tree with its leaves linked in order. Where several faults stand, any of
-/// them is told, save that a fault of links is told only where no other stands.
+/// Why what stands below a name is no canonical tree with its leaves linked in order. Where several faults stand, any
+/// of them is told, save that a fault of links is told only where no other stands.
 #[derive(Clone, Copy, PartialEq, Eq, Debug, Error)]
 pub enum MalformedTreeError {
     /// A name below the root isn't held.

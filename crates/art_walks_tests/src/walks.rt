@@ -67,7 +67,8 @@ fn linked_leaves<K: Drop, V: Drop>(
 
 // Whether a walk over all three takes each once, from both ends in turn, and then none.
 fn meets_in_the_middle<K, V>(arena: &NodeArena<K, V, 4>, leaves: Leaves) -> bool
-    requires { (x : LeafAt K V) × (y : LeafAt K V) × (z : LeafAt K V) × IsList (links_at arena.now) (x ∷ y ∷ z ∷ [])
+    requires { (x : LeafAt K V) × (y : LeafAt K V) × (z : LeafAt K V)
+        × IsList (links_at arena.now) (x ∷ y ∷ z ∷ [])
         × (x.slot ≡ leaves.first) × (y.slot ≡ leaves.second) × (z.slot ≡ leaves.third) }
 {
     let mut walk = RawIterator::new(leaves.first, leaves.third);
