@@ -231,6 +231,3 @@ module _ {A : Type 0} where
   pub read_some : (b : Bool) (x : A) (o : Option A) → IsRead b x o → b ≡ true → Some x ≡ o
   read_some true x o h e = h
   read_some false x o h e = absurd (true≢false (sym e))
-
-  pub read_same : (b : Bool) (x : A) (o p : Option A) → IsRead b x o → o ≡ p → IsRead b x p
-  read_same b x o p h e = subst (IsRead b x) e h

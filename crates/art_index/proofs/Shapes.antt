@@ -1,6 +1,6 @@
 -- What is read in place is what stands behind a word, by its shape.
 use Rattle.std.proofs.Common.{◌≡◌, ℕ, List, [], ◌∷◌, refl, ap, sym, ◌∙◌, true, false, Bool, Some, None, Option, inl, inr}
-use Rattle.std.specs.Prelude.{option_copied, option_map, option_and_then}
+use Rattle.std.specs.Prelude.{option_copied, option_map}
 use Rattle.std.specs.Borrow.{Bor}
 use Rattle.art_index.specs.declared.command.fields.Fields.{Fields}
 use Rattle.art_index.specs.declared.command.word.Word.{Word}

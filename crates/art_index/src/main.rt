@@ -1,11 +1,12 @@
 //! A program that keeps the records of many tenants: it reads lines and writes the reply to each.
-//! The contract that it rests on is that of `run`: what is written is the definition's replies to the lines read, however
-//! they are cut.
+//! The contract that it rests on is that of `run`: what is written is the definition's replies to the lines read,
+//! however they are cut.
 //!
 //! To believe it, believe these definitions of specs/, in this order: `Lines`, `Words`, `Commands`, `Keys`, `Records`,
-//! `Replies`, `Refusals`, `Outcome` and `Faults`. `Replies` reads a line by `Reading`, which need not be believed: the law
-//! `reading_is_spelling` says that it is the grammar of `Commands`. What passes between `run` and the program's two ends is
-//! a clause of `FromReader::read` and `ToWriter::write`; what a file, pipe or terminal gave or took no contract can say.
+//! `Replies`, `Refusals`, `Outcome` and `Faults`. `Replies` reads a line by `Reading`, which need not be believed: the
+//! law `reading_is_spelling` says that it is the grammar of `Commands`. What passes between `run` and the program's two
+//! ends is a clause of `FromReader::read` and of `ToWriter::write`; what a file, a pipe or a terminal gave or took no
+//! contract can say.
 #![tactic(auto)]
 
 mod buffered;

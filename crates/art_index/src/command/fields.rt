@@ -21,8 +21,8 @@ pub(crate) const FIELD: usize = 2045;
 const FULL_KEY: usize = 2049;
 
 /// What stands behind a word. Fields are decoded where they stay, and each keeps what it had until the next of its kind
-/// is read. A key stands behind the four bytes of its tenant, the highest first, so that the full key is there without a
-/// copy.
+/// is read. A key stands behind the four bytes of its tenant, the highest first, so that the full key is there without
+/// a copy.
 #[derive(Drop)]
 pub(crate) struct Fields {
     full_key: ArrayVec<u8, FULL_KEY>,

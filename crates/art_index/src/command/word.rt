@@ -1,7 +1,7 @@
-//! The words that a line may begin with, the family of each, and what stands behind it. Any other word makes a line bad.
+//! The words that a line may begin with, the family of each, and what stands behind it. Any other makes a line bad.
 //!
-//! A later word is a variant of its family, a line of `word_of` and a line of `shape`, and in the definitions an equation
-//! of `word_in`, `shape_of` and `command_with`.
+//! A later word is a variant of its family, a line of `word_of` and a line of `shape`, and in the definitions an
+//! equation of `word_in`, of `shape_of` and of its family's command.
 ghost use Rattle.std.specs.Prelude.{◌≡◌};
 ghost use Rattle.art_index.specs.Parsed.{word_in, shape_of};
 
