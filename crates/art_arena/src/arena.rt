@@ -156,8 +156,7 @@ impl<K, V, const PREFIX_LEN: usize> NodeArena<K, V, PREFIX_LEN> {
     }
 
     /// Whether the stored front of a prefix is so short that an inner node fits in memory, as it does where there is
-    /// room
-    /// for one. A caller over any `PREFIX_LEN` asks this before it makes the first inner node of a tree.
+    /// room for one. A caller over any `PREFIX_LEN` asks this before it makes the first inner node of a tree.
     pub fn fits_in_memory(&self) -> bool
         ensures value { IsTrue result → PREFIX_LEN < 2 ^ 62 }
         ensures room { HasRoom self.now 1 → IsTrue result }

@@ -34,8 +34,7 @@ struct NextStep {
 
 /// Goes down for a key in the canonical tree below a name, to a leaf, or to a node where the key ends or has no child.
 /// It passes over prefixes by their lengths alone, so a caller compares the leaf's key as a whole. It reads the nodes
-/// of
-/// the key's path, each once; nothing is copied, and no memory is taken.
+/// of the key's path, each once; nothing is copied, and no memory is taken.
 pub fn land<'a, K: AsBytes, V, const PREFIX_LEN: usize>(
     reader: &mut ArenaReader<'a, K, V, PREFIX_LEN>,
     root: OpaqueNodePtr,

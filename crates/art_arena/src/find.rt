@@ -27,8 +27,7 @@ pub struct FoundLeaf {
 }
 
 /// Finds the leaf with exactly this key in the canonical tree below a name: a descent, and one comparison of whole
-/// keys.
-/// It reads the nodes of the key's path, each once.
+/// keys. It reads the nodes of the key's path, each once.
 pub fn find_leaf<K: AsBytes, V, const PREFIX_LEN: usize>(
     reader: &mut ArenaReader<'_, K, V, PREFIX_LEN>,
     root: OpaqueNodePtr,

@@ -100,8 +100,7 @@ impl<'a, K, V, const PREFIX_LEN: usize> InnerRef<'a, K, V, PREFIX_LEN> {
     }
 
     /// Whether a child may be written under this byte of the node as it stands: it has room, or one stands there. Where
-    /// not,
-    /// there is a larger kind.
+    /// not, there is a larger kind.
     pub fn may_write(&self, byte: u8) -> bool
         ensures yes { IsTrue result → (length self.now.node.children < (row_of self.now.kind).most)
             ⊎ IsSome (node.child_at self.now.node.children byte) }

@@ -1,7 +1,6 @@
-//! The arena of the nodes of a tree, and what a name in it means: the canonical tree of an ascending list of pairs.
-//! The layer above uses `MeansAll`: a root name in an arena means the tree of these pairs, and nothing else stands in
-//! the arena.
-//! The definitions stand in `specs/`, the statements of the laws in `specs/Laws.antt`.
+//! The arena of the nodes of a tree, and what a name in it means: the canonical tree of an ascending list of pairs. The
+//! layer above uses `MeansAll`: a root name in an arena means the tree of these pairs, and nothing else stands in the
+//! arena. The definitions stand in `specs/`, the statements of the laws in `specs/Laws.antt`.
 #![tactic(auto)]
 
 mod arena;

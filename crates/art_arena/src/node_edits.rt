@@ -131,8 +131,7 @@ macro_rules! store_copy {
 
 impl<K, V, const PREFIX_LEN: usize> NodeArena<K, V, PREFIX_LEN> {
     /// Edits the inner node under a name, whatever its kind. A child is written only where the node has room for it, or
-    /// one
-    /// stands under its byte.
+    /// one stands under its byte.
     pub fn edit_inner(&mut self, name: OpaqueNodePtr, edit: &NodeEdit<'_, PREFIX_LEN>)
         requires may { (n : node.InnerNode) × (held_at self.old name ≡ Some (inner_held n))
             × MayEdit (row_of name.kind).most edit.now n }
@@ -160,8 +159,7 @@ impl<K, V, const PREFIX_LEN: usize> NodeArena<K, V, PREFIX_LEN> {
     }
 
     /// Stores a copy of a full inner node in the next larger kind, and answers its name. It is refused where there is
-    /// no
-    /// memory; nothing changes then.
+    /// no memory; nothing changes then.
     pub fn grow(&mut self, name: OpaqueNodePtr) -> Result<OpaqueNodePtr, AllocError>
         requires full { (n : node.InnerNode) × (held_at self.old name ≡ Some (inner_held n))
             × (length n.children ≡ (row_of name.kind).most) }
@@ -220,8 +218,7 @@ impl<K, V, const PREFIX_LEN: usize> NodeArena<K, V, PREFIX_LEN> {
     }
 
     // Where an inner node is held, the stored front of a prefix is so short that the node fits in memory. What names
-    // its type
-    // over any `PREFIX_LEN` calls this before.
+    // its type over any `PREFIX_LEN` calls this before.
     fn prefix_fits(&self, name: OpaqueNodePtr)
         requires held { IsSome (held_at self.now name) }
         requires inner { name.kind ≢ NodeType.Leaf }

@@ -1,7 +1,8 @@
 -- What commands on one inner node answer: those of a finite map from byte to name, as a list by ascending byte.
 use Rattle.std.specs.Prelude.{◌≡◌, ℕ, List, [], ◌∷◌, Option, Some, None}
 use Rattle.art_nodes.specs.Name.{Name}
-use Rattle.art_nodes.specs.InnerNode.{child_at, with_child, without_child, first_child, last_child, children_between, AreValidBounds}
+use Rattle.art_nodes.specs.InnerNode.{child_at, with_child, without_child, first_child, last_child}
+use Rattle.art_nodes.specs.InnerNode.{children_between, AreValidBounds}
 use Rattle.std.specs.declared.ops.Bound.{Bound}
 use Rattle.art_nodes.specs.declared.replaying.ChildCommand.{ChildCommand}
 use Rattle.art_nodes.specs.declared.replaying.ChildCommand.TheVariants.{Write, Remove, Lookup, Min, Max, Range}
@@ -25,7 +26,8 @@ children_after children (Range start end) = children
 -- what a range answers: the children between bounds that may be asked for, and for others that they are none
 abbrev pub IsRangeAnswer : List (ℕ × Name) → Bound ℕ → Bound ℕ → ChildAnswer → Type 0
 IsRangeAnswer children start end (Child child) = ⊥
-IsRangeAnswer children start end (Children all) = AreValidBounds start end × (all.items ≡ children_between start end children)
+IsRangeAnswer children start end (Children all) =
+    AreValidBounds start end × (all.items ≡ children_between start end children)
 IsRangeAnswer children start end InvalidBounds = AreValidBounds start end → ⊥
 
 -- what a command answers on these children
@@ -42,4 +44,6 @@ abbrev pub AreChildAnswers : List (ℕ × Name) → List ChildCommand → List C
 AreChildAnswers children [] [] = Unit {0}
 AreChildAnswers children [] (answer ∷ answers) = ⊥
 AreChildAnswers children (command ∷ commands) [] = ⊥
-AreChildAnswers children (command ∷ commands) (answer ∷ answers) = IsChildAnswer children command answer × AreChildAnswers (children_after children command) commands answers
+AreChildAnswers children (command ∷ commands) (answer ∷ answers) =
+    IsChildAnswer children command answer
+    × AreChildAnswers (children_after children command) commands answers

@@ -1,6 +1,5 @@
 //! Replays commands on one inner node, which grows and shrinks from kind to kind as a tree's nodes do. What it answers
-//! is
-//! that of one finite map from byte to name, whichever kind holds the children: `AreChildAnswers` in
+//! is that of one finite map from byte to name, whichever kind holds the children: `AreChildAnswers` in
 //! `specs/Replay.antt`.
 ghost use Rattle.std.specs.Prelude.{◌≡◌, [], length, IfOk};
 ghost use Rattle.art_nodes.specs.InnerNode.{child_at, with_child, without_child};
@@ -229,12 +228,9 @@ impl ReplayedNode {
 }
 
 /// Carries the commands out one after the other, on a node of the smallest kind with no child, and answers each in
-/// turn:
-/// for a write and a removal the child that stood there. The names are the caller's; nothing looks at what they name.
-/// The
-/// node grows when it is full and shrinks where `should_shrink_inner_node` says so, which no answer shows. It is
-/// refused
-/// only where there is no memory for the answers.
+/// turn: for a write and a removal the child that stood there. The names are the caller's; nothing looks at what they
+/// name. The node grows when it is full and shrinks where `should_shrink_inner_node` says so, which no answer shows. It
+/// is refused only where there is no memory for the answers.
 pub fn replay(alloc: Global, commands: &[ChildCommand]) -> Result<Vec<ChildAnswer>, AllocError>
     ensures { IfOk result (λ answers. AreChildAnswers [] commands.now answers.items) }
 {

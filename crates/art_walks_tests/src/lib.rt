@@ -1,6 +1,9 @@
-//! Tests of art_walks: each public call at concrete types, over trees and lists made by the arena's public calls.
+//! Tests of art_walks: each public call at concrete types, over trees and lists made by the arena's public calls;
+//! and the caller of its CALLING.md.
 #![tactic(auto)]
 
+#[cfg(test)]
+mod calling;
 #[cfg(test)]
 mod stats;
 #[cfg(test)]

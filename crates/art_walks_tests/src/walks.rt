@@ -5,10 +5,10 @@ ghost use Rattle.art_arena.specs.arena.Cells.{leaf_name};
 ghost use Rattle.art_arena.specs.arena.Shapes.{LeafAt};
 ghost use Rattle.art_arena.specs.arena.Linked.{IsList, IsBeside};
 
+use crate::calling::{Leaves, meets_in_the_middle};
 use art_arena::links::insert_after;
 use art_arena::{LeafPtr, NodeArena};
 use art_nodes::LeafNode;
-use art_walks::RawIterator;
 
 // Stores a leaf without neighbours.
 fn lone_leaf<K: Drop, V: Drop>(arena: &mut NodeArena<K, V, 4>, entry: (K, V)) -> Option<LeafPtr>
@@ -20,14 +20,6 @@ fn lone_leaf<K: Drop, V: Drop>(arena: &mut NodeArena<K, V, 4>, entry: (K, V)) ->
         Ok(leaf) => Some(leaf),
         Err(_refused) => None,
     }
-}
-
-// Three leaves.
-#[derive(Clone, Copy)]
-struct Leaves {
-    first: LeafPtr,
-    second: LeafPtr,
-    third: LeafPtr,
 }
 
 // Stores three leaves, and links the first two.
@@ -63,25 +55,6 @@ fn linked_leaves<K: Drop, V: Drop>(
     let leaves = three_leaves(arena, entries)?;
     insert_after(arena, leaves.third, leaves.second);
     Some(leaves)
-}
-
-// Whether a walk over all three takes each once, from both ends in turn, and then none.
-fn meets_in_the_middle<K, V>(arena: &NodeArena<K, V, 4>, leaves: Leaves) -> bool
-    requires { (x : LeafAt K V) × (y : LeafAt K V) × (z : LeafAt K V)
-        × IsList (links_at arena.now) (x ∷ y ∷ z ∷ [])
-        × (x.slot ≡ leaves.first) × (y.slot ≡ leaves.second) × (z.slot ≡ leaves.third) }
-{
-    let mut walk = RawIterator::new(leaves.first, leaves.third);
-    let first = walk.next(arena);
-    let last = walk.next_back(arena);
-    let middle = walk.next(arena);
-    let none = walk.next_back(arena);
-    let never = walk.next(arena);
-    first == Some(leaves.first)
-        && last == Some(leaves.third)
-        && middle == Some(leaves.second)
-        && none.is_none()
-        && never.is_none()
 }
 
 fn walks<K: Drop, V: Drop>(rt: &HostRuntime, entries: [(K, V); 3]) -> Option<bool> {

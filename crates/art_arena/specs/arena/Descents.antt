@@ -45,8 +45,7 @@ module _ {K V : Type 0} (bytes : K → List ℕ) where
   located_where test ls = filter (λ l. test (bytes l.leaf.key)) ls
 
   -- the leaf with this slab key stands at a place of the tree to which these last steps lead, and no other leaf's key
-  -- is
-  -- the key or a front of it
+  -- is the key or a front of it
   pub record LandsAt (key : List ℕ) (s : Shape K V) (slot : ℕ) (leaf : LeafNode K V) (last : List Step) : Type 0 where
     pub ctx : List (Frame K V)
     pub place : IsPlace bytes s ctx (leaf_at slot leaf.key leaf.value)

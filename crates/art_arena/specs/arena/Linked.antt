@@ -31,8 +31,7 @@ module _ {K V : Type 0} where
   times n (l ∷ rest) = (if nat_eq n l.slot then 1 else 0) + times n rest
 
 -- Two lists without a leaf in common: `xs` from its open start, at whose end stands a link to `after`, and `ys`, at
--- whose start
--- stands a link back to `before`, to its open end.
+-- whose start stands a link back to `before`, to its open end.
 pub record AreHalves {K V : Type 0} (links : ℕ
     → Option Links) (xs : List (LeafAt K V)) (after before : Option ℕ) (ys : List (LeafAt K V)) : Type 0 where
   pub left : AreLinked links None xs after

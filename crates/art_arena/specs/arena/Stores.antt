@@ -1,6 +1,5 @@
 -- What an arena stores below a name: the words of contracts, over the arena itself rather than over its two views, that
--- of
--- nodes and that of links.
+-- of nodes and that of links.
 use Rattle.std.specs.Prelude.{ℕ, List, []}
 use Rattle.art_nodes.specs.Name.{Name}
 use Rattle.art_arena.specs.arena.Arena.{Arena, node_at, links_at}

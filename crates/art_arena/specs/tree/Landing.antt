@@ -18,8 +18,7 @@ pass (a ∷ prefix) [] = ends
 pass (a ∷ prefix) (b ∷ k) = if a == b then pass prefix k else differs
 
 -- at a leaf; where the key is a front of all keys below; where it has another byte within a prefix; at a node that has
--- no
--- child for its byte
+-- no child for its byte
 pub data Landing (X : Type 0) : Type 0 where
   on_leaf : X → Landing X
   is_front : Landing X

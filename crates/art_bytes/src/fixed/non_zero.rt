@@ -8,7 +8,8 @@ ghost use Rattle.art_bytes.specs.inner.FlipLaws.{flipped-injective, int_cmp-flip
 ghost use Rattle.std.specs.Int.NonZero.{non_zero_u8_get, non_zero_u16_get, non_zero_u32_get, non_zero_u64_get};
 ghost use Rattle.std.specs.Int.NonZero.{non_zero_u128_get, non_zero_i8_get, non_zero_i16_get, non_zero_i32_get};
 ghost use Rattle.std.specs.Int.NonZero.{non_zero_i64_get, non_zero_i128_get};
-ghost use Rattle.art_bytes.specs.inner.FixedLaws.{stored_bytes, unsigned_bytes, one_holder, above_zero, apart_from_zero};
+ghost use Rattle.art_bytes.specs.inner.FixedLaws.{stored_bytes, unsigned_bytes, one_holder, above_zero};
+ghost use Rattle.art_bytes.specs.inner.FixedLaws.{apart_from_zero};
 
 use super::stored::read_stored;
 use super::{FixedBytes, Signed, StoredAsNumber, Unsigned};
