@@ -10,10 +10,12 @@ far it is. Times are processor time; take ratios from one run alone.
 import argparse
 import os
 import re
+import shutil
 import subprocess
 import sys
 import tempfile
 import time
+from glob import glob
 
 MAPS = {"tree": "bench_tree", "BTreeMap": "bench_btree"}
 OPERATIONS = ("insertion", "look-up", "miss")
@@ -28,16 +30,40 @@ def called(words, **how):
     return subprocess.run(words, check=True, capture_output=True, text=True, **how).stdout
 
 
+def workspace():
+    """Makes out/bench: the repository's libraries, with what is built of them, and the benchmark's crates beside them."""
+    top = "out/bench"
+    os.makedirs(f"{top}/crates", exist_ok=True)
+    lines = open("crates.txt").read().split("\n")
+    wanted = re.search(r"(?m)^bench_tree [^:]*: (.*)$", open("perf/crates.lines").read())[1].split()
+    kept = [it for it in lines if it.split(":")[0] in wanted]
+    with open(f"{top}/crates.txt", "w") as file:
+        file.write("\n".join(kept) + "\n" + open("perf/crates.lines").read())
+    for it in kept:
+        name = it.split(":")[0]
+        for part in ("src", "specs", "proofs"):
+            shutil.rmtree(f"{top}/crates/{name}/{part}", ignore_errors=True)
+            shutil.copytree(f"crates/{name}/{part}", f"{top}/crates/{name}/{part}")
+        if os.path.isdir(f"crates/{name}/out") and not os.path.isdir(f"{top}/crates/{name}/out"):
+            shutil.copytree(f"crates/{name}/out", f"{top}/crates/{name}/out", symlinks=True)
+    for path in glob("perf/crates/**/*.in", recursive=True):
+        made = f"{top}/crates/{os.path.relpath(path, 'perf/crates')[:-3]}"
+        os.makedirs(os.path.dirname(made), exist_ok=True)
+        if not os.path.exists(made) or open(made).read() != open(path).read():
+            shutil.copyfile(path, made)
+    return top
+
+
 def build(folder):
     """Makes drive and a shared object for each map, and returns their paths."""
-    kit = os.path.dirname(called(["rt", "doc"]).strip())
+    kit, top = os.path.dirname(called(["rt", "doc"]).strip()), workspace()
     called(["cc", "-O2", "-Wall", "-o", f"{folder}/drive", "perf/drive.c", "-ldl"])
     made = {}
     for name, crate in MAPS.items():
         tell(f"proving and building {crate}, where it is not built")
-        called([os.environ.get("RT", "rt"), "lib"], cwd=f"crates/{crate}")
+        called([os.environ.get("RT", "rt"), "lib"], cwd=f"{top}/crates/{crate}")
         made[name] = f"{folder}/{crate}.so"
-        whole = ["-Wl,--whole-archive", f"crates/{crate}/out/lib{crate}.a", "-Wl,--no-whole-archive"]
+        whole = ["-Wl,--whole-archive", f"{top}/crates/{crate}/out/lib{crate}.a", "-Wl,--no-whole-archive"]
         called(["cc", "-shared", "-o", made[name], *whole, f"{kit}/c/liblibc_c.a"])
     return made
 
