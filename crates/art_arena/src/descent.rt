@@ -1,13 +1,12 @@
 //! The way of a key down the tree below a name, to the one leaf that can be meant.
-ghost use Rattle.std.specs.Prelude.{◌≡◌, ◌+◌, ◌-◌, ◌^◌, ◌≤◌, length, min, MatchOption};
-ghost use Rattle.art_arena.specs.arena.Descents.{Ends, GoesOn, Lands};
+ghost use Rattle.std.specs.Prelude.{◌≡◌, ◌+◌, ◌-◌, ◌^◌, length, min};
+ghost use Rattle.art_arena.specs.arena.Descents.{Lands};
 ghost use Rattle.art_arena.specs.tree.Paths.{path_of};
 ghost use Rattle.art_arena.specs.arena.Shapes.{Shape, erase};
 ghost use Rattle.art_arena.specs.arena.Stores.{Stores};
 ghost use Rattle.art_arena.specs.arena.Visited.{arena_of, count_of};
 
 use crate::arena::LeafPtr;
-use crate::inner_ref::InnerRef;
 use crate::path::{TreePath, TreePathSearch};
 use crate::reader::ArenaReader;
 use art_bytes::AsBytes;
@@ -24,17 +23,10 @@ pub struct Landed<'a, K, V> {
     pub path: TreePath,
 }
 
-// From an inner node to a child: the byte, the child, and how many bytes of the key lead there.
-#[derive(Clone, Copy)]
-struct NextStep {
-    byte: u8,
-    child: OpaqueNodePtr,
-    depth: usize,
-}
-
 /// Goes down for a key in the canonical tree below a name, to a leaf, or to a node where the key ends or has no child.
 /// It passes over prefixes by their lengths alone, so a caller compares the leaf's key as a whole. It reads the nodes
 /// of the key's path, each once; nothing is copied, and no memory is taken.
+#[inline(always)]
 pub fn land<'a, K: AsBytes, V, const PREFIX_LEN: usize>(
     reader: &mut ArenaReader<'a, K, V, PREFIX_LEN>,
     root: OpaqueNodePtr,
@@ -59,7 +51,7 @@ pub fn land<'a, K: AsBytes, V, const PREFIX_LEN: usize>(
                     path: search.finish(),
                 });
             }
-            Err(inner) => match next_step(&inner, key, depth) {
+            Err(inner) => match inner.next_step(key, depth) {
                 None => return None,
                 Some(step) => {
                     search.go_down(current, step.byte);
@@ -68,31 +60,5 @@ pub fn land<'a, K: AsBytes, V, const PREFIX_LEN: usize>(
                 }
             },
         }
-    }
-}
-
-// The child to which a key goes on from an inner node that stands behind so many of its bytes.
-fn next_step<K, V, const PREFIX_LEN: usize>(
-    inner: &InnerRef<'_, K, V, PREFIX_LEN>,
-    key: &[u8],
-    depth: usize,
-) -> Option<NextStep>
-    requires { depth ≤ length key.now }
-    ensures { MatchOption result (Ends key.now depth inner.now.node)
-        (λ step. GoesOn key.now depth inner.now.node step.byte step.child step.depth) }
-{
-    let prefix_len = inner.prefix_len();
-    if key.len() - depth <= prefix_len {
-        return None;
-    }
-    let at = depth + prefix_len;
-    let byte = key[at];
-    match inner.lookup_child(byte) {
-        Some(child) => Some(NextStep {
-            byte,
-            child,
-            depth: at + 1,
-        }),
-        None => None,
     }
 }

@@ -1,8 +1,10 @@
-//! The one door to an inner node: what is read of it, whatever its kind.
-ghost use Rattle.std.specs.Prelude.{◌≡◌, ◌↔◌, ◌<◌, ◌≤◌, ◌⊎◌, IsFalse, IsSome, IsTrue, length};
+//! The one door to an inner node: what is read of it, whatever its kind. The hints to inline let a descent look at the
+//! kind of a node once, and not at each call: without them a look-up takes twice the instructions.
+ghost use Rattle.std.specs.Prelude.{◌≡◌, ◌↔◌, ◌<◌, ◌≤◌, ◌⊎◌, IsFalse, IsSome, IsTrue, MatchOption, length};
 ghost use Rattle.std.specs.declared.ops.Bound.TheVariants.{Excluded, Unbounded};
 ghost use Rattle.art_nodes.specs.InnerNode as node;
 ghost use Rattle.art_nodes.specs.Kind.{row_of};
+ghost use Rattle.art_arena.specs.arena.Descents.{Ends, GoesOn};
 ghost use Rattle.art_arena.specs.arena.EndLeaves.{end_child};
 
 use crate::ends::End;
@@ -52,7 +54,18 @@ macro_rules! on_arm {
 }
 
 impl<'a, K, V, const PREFIX_LEN: usize> InnerRef<'a, K, V, PREFIX_LEN> {
+    // The child to which a key goes on from here, where so many of its bytes lead.
+    #[inline(always)]
+    pub(crate) fn next_step(&self, key: &[u8], depth: usize) -> Option<NextStep>
+        requires { depth ≤ length key.now }
+        ensures { MatchOption result (Ends key.now depth self.now.node)
+            (λ step. GoesOn key.now depth self.now.node step.byte step.child step.depth) }
+    {
+        on_arm!(self, node => step_from::<_, PREFIX_LEN>(node, key, depth))
+    }
+
     /// The header.
+    #[inline(always)]
     pub fn header(&self) -> &'a Header<PREFIX_LEN>
         ensures value { result.now ≡ self.now.node.header }
         ensures is_inner_node { node.IsInnerNode PREFIX_LEN (row_of self.now.kind).most self.now.node }
@@ -61,6 +74,7 @@ impl<'a, K, V, const PREFIX_LEN: usize> InnerRef<'a, K, V, PREFIX_LEN> {
     }
 
     /// How many bytes the whole prefix has.
+    #[inline(always)]
     pub fn prefix_len(&self) -> usize
         ensures { result ≡ self.now.node.header.prefix_len }
     {
@@ -69,6 +83,7 @@ impl<'a, K, V, const PREFIX_LEN: usize> InnerRef<'a, K, V, PREFIX_LEN> {
     }
 
     /// The bytes of the prefix that are stored: its front.
+    #[inline(always)]
     pub fn read_prefix(&self) -> &[u8]
         ensures { result.now ≡ self.now.node.header.stored }
     {
@@ -77,6 +92,7 @@ impl<'a, K, V, const PREFIX_LEN: usize> InnerRef<'a, K, V, PREFIX_LEN> {
     }
 
     /// How many children there are.
+    #[inline(always)]
     pub fn num_children(&self) -> usize
         ensures { result ≡ length self.now.node.children }
     {
@@ -85,6 +101,7 @@ impl<'a, K, V, const PREFIX_LEN: usize> InnerRef<'a, K, V, PREFIX_LEN> {
     }
 
     /// Whether the room is used up.
+    #[inline(always)]
     pub fn is_full(&self) -> bool
         ensures value { IsTrue result ↔ (length self.now.node.children ≡ (row_of self.now.kind).most) }
         ensures room { length self.now.node.children ≤ (row_of self.now.kind).most }
@@ -93,6 +110,7 @@ impl<'a, K, V, const PREFIX_LEN: usize> InnerRef<'a, K, V, PREFIX_LEN> {
     }
 
     /// The child under this byte.
+    #[inline(always)]
     pub fn lookup_child(&self, byte: u8) -> Option<OpaqueNodePtr>
         ensures { result ≡ node.child_at self.now.node.children byte }
     {
@@ -101,6 +119,7 @@ impl<'a, K, V, const PREFIX_LEN: usize> InnerRef<'a, K, V, PREFIX_LEN> {
 
     /// Whether a child may be written under this byte of the node as it stands: it has room, or one stands there. Where
     /// not, there is a larger kind.
+    #[inline(always)]
     pub fn may_write(&self, byte: u8) -> bool
         ensures yes { IsTrue result → (length self.now.node.children < (row_of self.now.kind).most)
             ⊎ IsSome (node.child_at self.now.node.children byte) }
@@ -111,6 +130,7 @@ impl<'a, K, V, const PREFIX_LEN: usize> InnerRef<'a, K, V, PREFIX_LEN> {
     }
 
     /// The children, by ascending byte.
+    #[inline(always)]
     pub fn children(&self) -> ChildIter<'_>
         ensures value { result ≡ self.now.node.children }
         ensures ascending { node.IsAscending result }
@@ -119,6 +139,7 @@ impl<'a, K, V, const PREFIX_LEN: usize> InnerRef<'a, K, V, PREFIX_LEN> {
     }
 
     /// The children whose bytes lie between two bounds, by ascending byte.
+    #[inline(always)]
     pub fn range(&self, start: Bound<u8>, end: Bound<u8>) -> ChildIter<'_>
         requires { node.AreValidBounds start end }
         ensures { result ≡ node.children_between start end self.now.node.children }
@@ -127,6 +148,7 @@ impl<'a, K, V, const PREFIX_LEN: usize> InnerRef<'a, K, V, PREFIX_LEN> {
     }
 
     /// The child under the smallest byte, with its byte.
+    #[inline(always)]
     pub fn first_child(&self) -> Option<(u8, OpaqueNodePtr)>
         ensures { result ≡ node.first_child self.now.node.children }
     {
@@ -135,6 +157,7 @@ impl<'a, K, V, const PREFIX_LEN: usize> InnerRef<'a, K, V, PREFIX_LEN> {
 
     /// The child under the greatest byte, with its byte.
     #[tactic(auto, using(art_nodes::proofs::ChildLemmas::lasts))]
+    #[inline(always)]
     pub fn last_child(&self) -> Option<(u8, OpaqueNodePtr)>
         ensures { result ≡ node.last_child self.now.node.children }
     {
@@ -142,6 +165,7 @@ impl<'a, K, V, const PREFIX_LEN: usize> InnerRef<'a, K, V, PREFIX_LEN> {
     }
 
     /// The child at this end, with its byte.
+    #[inline(always)]
     pub fn end_child(&self, end: End) -> Option<(u8, OpaqueNodePtr)>
         ensures { result ≡ end_child end self.now.node.children }
     {
@@ -152,6 +176,7 @@ impl<'a, K, V, const PREFIX_LEN: usize> InnerRef<'a, K, V, PREFIX_LEN> {
     }
 
     /// The child under the smallest byte above this one, with its byte.
+    #[inline(always)]
     pub fn child_after(&self, byte: u8) -> Option<(u8, OpaqueNodePtr)>
         ensures { result ≡ node.first_child (node.children_between (Excluded byte) Unbounded self.now.node.children) }
     {
@@ -159,7 +184,44 @@ impl<'a, K, V, const PREFIX_LEN: usize> InnerRef<'a, K, V, PREFIX_LEN> {
     }
 }
 
+// From an inner node to a child: the byte, the child, and how many bytes of the key lead there.
+#[derive(Clone, Copy)]
+pub(crate) struct NextStep {
+    pub(crate) byte: u8,
+    pub(crate) child: OpaqueNodePtr,
+    pub(crate) depth: usize,
+}
+
+// The child to which a key goes on from an inner node of one kind that stands behind so many of its bytes.
+#[inline(always)]
+fn step_from<N: InnerNodeCommon<PREFIX_LEN>, const PREFIX_LEN: usize>(
+    inner: &N,
+    key: &[u8],
+    depth: usize,
+) -> Option<NextStep>
+    requires { depth ≤ length key.now }
+    ensures { MatchOption result (Ends key.now depth (N.inner inner.now))
+        (λ step. GoesOn key.now depth (N.inner inner.now) step.byte step.child step.depth) }
+{
+    let _children = inner.iter();
+    let prefix_len = inner.header().prefix_len();
+    if key.len() - depth <= prefix_len {
+        return None;
+    }
+    let at = depth + prefix_len;
+    let byte = key[at];
+    match inner.lookup_child(byte) {
+        Some(child) => Some(NextStep {
+            byte,
+            child,
+            depth: at + 1,
+        }),
+        None => None,
+    }
+}
+
 // Whether a child may be written under this byte of a node as it stands.
+#[inline(always)]
 fn has_room<N: InnerNodeCommon<PREFIX_LEN>, const PREFIX_LEN: usize>(inner: &N, byte: u8) -> bool
     ensures yes { IsTrue result → (length (N.inner inner.now).children < N.room)
         ⊎ IsSome (node.child_at (N.inner inner.now).children byte) }

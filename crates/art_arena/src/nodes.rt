@@ -92,6 +92,7 @@ impl<N, const PREFIX_LEN: usize> Nodes<N, PREFIX_LEN> {
     }
 
     // The node under this key. Where there is one, it fits in memory.
+    #[inline(always)]
     pub(crate) fn node(&self, slot: usize) -> &N
         requires { IsSome (get self.now slot) }
         ensures value { get self.now slot ≡ Some result.now }

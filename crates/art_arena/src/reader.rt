@@ -26,6 +26,7 @@ pub enum VisitedNode<'a, K, V, const PREFIX_LEN: usize> {
 
 impl<'a, K, V, const PREFIX_LEN: usize> VisitedNode<'a, K, V, PREFIX_LEN> {
     /// The leaf, or else the inner node, whatever its kind. That an inner node fits in memory is what `visit` says.
+    #[inline(always)]
     pub fn leaf(self) -> Result<&'a LeafNode<K, V>, InnerRef<'a, K, V, PREFIX_LEN>>
         requires fits_in_memory { kind_of self ≢ NodeType.Leaf → PREFIX_LEN < 2 ^ 62 }
         ensures { MatchResult result (λ leaf. held_of self.entry
@@ -77,6 +78,7 @@ impl<'a, T> Reader<'a, T> {
     }
 
     // One step.
+    #[inline(always)]
     fn step(&mut self) -> &'a T
         ensures value { result.now ≡ arena_of self.old }
         ensures kept { arena_of self.new ≡ arena_of self.old }
@@ -90,6 +92,7 @@ impl<'a, T> Reader<'a, T> {
 impl<'a, K, V, const PREFIX_LEN: usize> Reader<'a, NodeArena<K, V, PREFIX_LEN>> {
     /// Reads the node under this name. Each call counts one. Where an inner node is held, it fits in memory, which a
     /// caller over any `PREFIX_LEN` owes.
+    #[inline(always)]
     pub fn visit(&mut self, name: OpaqueNodePtr) -> VisitedNode<'a, K, V, PREFIX_LEN>
         requires { IsSome (held_at (arena_of self.old) name) }
         ensures value { held_at (arena_of self.old) name ≡ Some (held_of result) }
@@ -103,6 +106,7 @@ impl<'a, K, V, const PREFIX_LEN: usize> Reader<'a, NodeArena<K, V, PREFIX_LEN>> 
 }
 
 // The node under this name.
+#[inline(always)]
 fn node_in<'a, K, V, const PREFIX_LEN: usize>(
     arena: &'a NodeArena<K, V, PREFIX_LEN>,
     name: OpaqueNodePtr,
@@ -124,6 +128,7 @@ fn node_in<'a, K, V, const PREFIX_LEN: usize>(
 
 impl<K, V, const PREFIX_LEN: usize> NodeArena<K, V, PREFIX_LEN> {
     /// The inner node under this name, whatever its kind. It isn't counted.
+    #[inline(always)]
     pub fn inner(&self, name: OpaqueNodePtr) -> InnerRef<'_, K, V, PREFIX_LEN>
         requires held { IsSome (held_at self.now name) }
         requires inner { name.kind ≢ NodeType.Leaf }

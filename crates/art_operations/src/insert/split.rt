@@ -134,6 +134,7 @@ fn leaf_at_end<K: AsBytes, V, const PREFIX_LEN: usize>(
 
 /// Links a new leaf in between two lists: before the first leaf of the second, or else behind the last one of the
 /// first.
+#[inline(always)]
 pub(crate) fn link_between<K, V, const PREFIX_LEN: usize>(
     arena: &mut NodeArena<K, V, PREFIX_LEN>,
     leaf: LeafPtr,
