@@ -2,14 +2,15 @@
 use Rattle.std.proofs.Common.{◌≡◌, ◌≢◌, ℕ, not, true, false, Bool, cond, List, [], ◌∷◌, ◌++◌, bytes_eq, refl, sym, ap, ap₂, subst, ◌∙◌}
 use Rattle.std.specs.List.{AllByRecursion}
 use Rattle.std.proofs.lemmas.List.Elements.{filter-append}
-use Rattle.art_bytes.specs.Keys.{Conflict}
-use Rattle.art_arena.specs.tree.Order.{IsBefore, IsAscending}
+use Rattle.art_bytes.specs.Keys.{Conflict, IsBefore}
+use Rattle.art_arena.specs.tree.Order.{IsAscending}
 use Rattle.art_arena.specs.tree.Changes.{put}
-use Rattle.art_arena.proofs.tree.Order.{all_append, all_weaker, before_not_self, conflict_not_before, conflict_turned}
+use Rattle.art_arena.proofs.tree.Order.{all_append, all_weaker}
 use Rattle.art_arena.proofs.tree.Insert.{all_at}
 use Rattle.art_arena.proofs.tree.Exists.{in_middle, put_is}
 use Rattle.art_arena.proofs.shapes.Finding.{same_key, other_key}
 use Rattle.art_operations.specs.KeyedLists.{with_key, without_key, IsBlocked}
+use Rattle.art_bytes.proofs.Order.{before_not_self, conflict_not_before, conflict_turned}
 
 module _ {X : Type 0} (key : X → List ℕ) where
   -- new is old with x in the place of those that had its key, which were these; none is in conflict with it

@@ -2,10 +2,10 @@
 use Rattle.std.proofs.Common.{◌≡◌, ◌≢◌, ℕ, ◌≤◌, List, [], ◌∷◌, ◌++◌, length, take, map, nat_eq, Option, Some, None, refl, sym, ap, subst, ◌∙◌, inl, inr}
 use Rattle.std.specs.List.{cons_option}
 use Rattle.std.proofs.lemmas.List.{map-append}
-use Rattle.art_bytes.specs.Keys.{Conflict}
+use Rattle.art_bytes.specs.Keys.{Conflict, common_prefix}
 use Rattle.art_nodes.specs.Name.{Name}
 use Rattle.art_nodes.specs.declared.leaf.LeafNode.{LeafNode}
-use Rattle.art_arena.specs.tree.Order.{IsAscending, common}
+use Rattle.art_arena.specs.tree.Order.{IsAscending}
 use Rattle.art_arena.specs.tree.Changes.{IsIn, IsPutIn}
 use Rattle.art_arena.specs.arena.Cells.{Cell, pair, leaf_name, AreHeld}
 use Rattle.art_arena.specs.arena.Context.{leaves_before, leaves_after}
@@ -51,7 +51,7 @@ module _ {X Y : Type 0} (f : X → Y) (key : Y → List ℕ) where
   pub shrinks-map : (xs : List X) (k : List ℕ) → Shrinks (λ x. key (f x)) xs k → Shrinks key (map f xs) k
   shrinks-map xs k (m, ((y, i, differs, meets), longest), limit) = (
     m,
-    ((f y, in_map f y xs i, differs, meets), λ z j other. let back = in_unmap z xs j in subst (λ w. length (common k (key w)) ≤ length m) back.2 (longest back.0 back.1 (subst (λ w. key w ≢ k) (sym back.2) other))),
+    ((f y, in_map f y xs i, differs, meets), λ z j other. let back = in_unmap z xs j in subst (λ w. length (common_prefix k (key w)) ≤ length m) back.2 (longest back.0 back.1 (subst (λ w. key w ≢ k) (sym back.2) other))),
     subst IsLimit (sym (width_of-map m xs)) limit,
   )
 
@@ -59,7 +59,7 @@ module _ {X Y : Type 0} (f : X → Y) (key : Y → List ℕ) where
   shrinks-unmap xs k (m, ((z, i, differs, meets), longest), limit) =
       let back = in_unmap z xs i in (
         m,
-        ((back.0, back.1, subst (λ w. key w ≢ k) (sym back.2) differs, ap (λ w. common k (key w)) back.2 ∙ meets), λ w j other. longest (f w) (in_map f w xs j) other),
+        ((back.0, back.1, subst (λ w. key w ≢ k) (sym back.2) differs, ap (λ w. common_prefix k (key w)) back.2 ∙ meets), λ w j other. longest (f w) (in_map f w xs j) other),
         subst IsLimit (width_of-map m xs) limit,
       )
 

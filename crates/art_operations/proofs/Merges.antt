@@ -8,7 +8,7 @@ use Rattle.art_arena.specs.arena.Cells.{Cell, branches, leaf_name, copies, Holds
 use Rattle.art_arena.specs.arena.Context.{Frame, path_to, frame_cell, cells_before, cells_after, AreBelow}
 use Rattle.art_arena.specs.arena.Meaning.{IsPart, IsSubtree}
 use Rattle.art_arena.specs.arena.Shapes.{Shape, Branches, leaf_at, inner_at, no_branch, branch, LeafAt, name_of, children_at, join, width, leaves, leaves_in, cells, cells_in, node_of, IsUnder, AreUnder}
-use Rattle.art_arena.proofs.tree.Order.{all_left, all_right, begins_append}
+use Rattle.art_arena.proofs.tree.Order.{all_left, all_right}
 use Rattle.art_arena.proofs.shapes.CellLists.{same_name-self, copies-append, Holds-write, Holds-remove, Holds-same}
 use Rattle.art_arena.proofs.shapes.Contexts.{leaves_in-join}
 use Rattle.art_arena.proofs.shapes.Repoint.{frame_node}
@@ -19,6 +19,7 @@ use Rattle.art_operations.specs.inner.Removals.{Lengthens, lengthened, IsOther}
 use Rattle.art_operations.proofs.Apart.{set_apart, AreUnder-closed}
 use Rattle.art_operations.proofs.JoinedPrefixes.{joined}
 use Rattle.art_operations.proofs.Lengthened.{kind_not_leaf}
+use Rattle.art_bytes.proofs.Order.{begins_append}
 
 module _ {K V : Type 0} where
   -- the shape behind a longer prefix

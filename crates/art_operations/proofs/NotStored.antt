@@ -2,14 +2,13 @@
 use Rattle.std.proofs.Common.{◌≡◌, ◌≢◌, ◌⊎◌, ℕ, ◌+◌, List, [], ◌∷◌, ◌++◌, length, drop, None, refl, sym, ap, subst, ◌∙◌, inl, inr, append-nil}
 use Rattle.std.specs.List.{AllByRecursion}
 use Rattle.std.proofs.lemmas.Bool.Decides.{eqb_tells}
-use Rattle.art_bytes.specs.Keys.{BeginsWith}
+use Rattle.art_bytes.specs.Keys.{BeginsWith, IsBefore}
 use Rattle.art_nodes.specs.InnerNode.{child_at}
 use Rattle.art_arena.specs.arena.Context.{path_to, leaves_before, leaves_after}
-use Rattle.art_arena.specs.tree.Order.{IsBefore}
 use Rattle.art_arena.specs.arena.Shapes.{Shape, Branches, inner_at, no_branch, branch, LeafAt, children_at, leaves, leaves_in, IsUnder, AreUnder}
 use Rattle.art_arena.proofs.shapes.Contexts.{leaves-plug}
 use Rattle.art_arena.proofs.tree.Fronts.{one_byte}
-use Rattle.art_arena.proofs.tree.Order.{all_append, all_weaker, before_not_self}
+use Rattle.art_arena.proofs.tree.Order.{all_append, all_weaker}
 use Rattle.art_arena.proofs.shapes.Places.{leaves-begin}
 use Rattle.art_arena.proofs.shapes.Subtrees.{leaves_begin_prefix}
 use Rattle.art_arena.proofs.shapes.Surroundings.{ctx-before, ctx-after}
@@ -18,6 +17,7 @@ use Rattle.art_operations.specs.declared.insert.point.InsertKind.{InsertKind}
 use Rattle.art_operations.specs.declared.insert.point.InsertKind.TheVariants as kind
 use Rattle.art_operations.specs.declared.insert.point.InsertPoint.{InsertPoint}
 use Rattle.art_operations.proofs.Points.{behind, part_new, part_old}
+use Rattle.art_bytes.proofs.Order.{before_not_self}
 
 -- whether a leaf with the key was met
 pub which : (k : InsertKind) → ((slot : ℕ) × (k ≡ kind.Exact slot)) ⊎ ((slot : ℕ) → k ≡ kind.Exact slot → ⊥)

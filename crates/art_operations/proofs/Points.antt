@@ -2,12 +2,11 @@
 use Rattle.std.proofs.Common.{◌≡◌, ◌≢◌, ℕ, ◌+◌, ◌<◌, ◌≤◌, List, [], ◌∷◌, ◌++◌, length, take, drop, get_or, Option, Some, None, refl, sym, ap, ap₂, subst, ◌∙◌, inl, inr, arith, append_assoc, append-nil, length-append}
 use Rattle.std.specs.List.{AllByRecursion}
 use Rattle.std.proofs.lemmas.Bool.Decides.{eqb_tells}
-use Rattle.art_bytes.specs.Keys.{BeginsWith, Conflict}
+use Rattle.art_bytes.specs.Keys.{BeginsWith, Conflict, IsProperFront}
 use Rattle.art_nodes.specs.declared.kind.NodeType.TheVariants.{Leaf}
 use Rattle.art_nodes.specs.declared.leaf.LeafNode.{LeafNode}
 use Rattle.art_nodes.specs.InnerNode.{InnerNode, child_at}
 use Rattle.art_nodes.specs.Name.{Name}
-use Rattle.art_arena.specs.tree.Order.{IsProperFront}
 use Rattle.art_arena.specs.tree.Changes.{IsIn}
 use Rattle.art_arena.specs.arena.Cells.{Cell, leaf_name}
 use Rattle.art_arena.specs.arena.Arena.{Arena, leaf_held, inner_held, held_at, node_at}
@@ -16,7 +15,7 @@ use Rattle.art_arena.specs.arena.Context.{Frame, path_to}
 use Rattle.art_arena.specs.arena.Meaning.{IsAtDepth, IsSubtree}
 use Rattle.art_arena.specs.arena.Places.{IsPlace, IsToward}
 use Rattle.art_arena.specs.arena.Steps.{Step, steps_to}
-use Rattle.art_arena.proofs.tree.Order.{all_append, all_weaker, begins_step, begins_from_step, conflict_first, conflict_second}
+use Rattle.art_arena.proofs.tree.Order.{all_append, all_weaker}
 use Rattle.art_arena.proofs.tree.Fronts.{begins_trans, one_byte}
 use Rattle.art_arena.proofs.shapes.Places.{leaves-begin, step-down, at-root}
 use Rattle.art_operations.specs.Meetings.{PartAt}
@@ -25,6 +24,7 @@ use Rattle.art_operations.specs.declared.meeting.Parted.{Parted}
 use Rattle.art_operations.specs.Points.{HasConflict, NoConflict}
 use Rattle.art_arena.proofs.shapes.Prefixes.{drop-front}
 use Rattle.art_arena.proofs.shapes.Subtrees.{pair_of, leaves_begin_prefix, some_leaf, subtree-leaf, subtree-inner, subtree-branch, root_held}
+use Rattle.art_bytes.proofs.Order.{begins_step, begins_from_step, conflict_first, conflict_second}
 
 -- the key behind the path to it
 pub behind : (path key : List ℕ) (depth : ℕ) → length path ≡ depth → BeginsWith path key → key ≡ path ++ drop depth key

@@ -10,7 +10,6 @@ use Rattle.art_arena.specs.arena.Context.{Frame, fill, plug, path_to, leaves_bef
 use Rattle.art_arena.specs.tree.Fronts.{byte_after, width_of, distinct}
 use Rattle.art_arena.specs.tree.Kinds.{ChangesKind}
 use Rattle.art_arena.specs.arena.Meaning.{IsNodes}
-use Rattle.art_arena.specs.tree.Order.{common}
 use Rattle.art_arena.specs.arena.Shapes.{Shape, Branches, leaf_at, no_branch, branch, join, leaves, width, erase, erase_in, key_of, IsUnder}
 use Rattle.art_arena.specs.tree.Shrinks.{Shrinks}
 use Rattle.art_arena.specs.arena.Steps.{Step}
@@ -24,6 +23,7 @@ use Rattle.art_arena.proofs.tree.Paths.{in_map}
 use Rattle.art_arena.proofs.tree.Shrinks.{TreeMeets, meets, shrinks_is_kind_change}
 use Rattle.art_operations.specs.DeletePoints.{IsLeafPlace}
 use Rattle.art_operations.proofs.Detaching.{the_parent, the_leaf, whole_is, held_at_place}
+use Rattle.art_bytes.specs.Keys.{common_prefix}
 
 -- of pairs, or of the leaves that they are of
 
@@ -42,7 +42,7 @@ module _ {X Y : Type 0} (f : X → Y) where
       let x = from_map y xs i in
       let same : width_of key (map f xs) m ≡ width_of (λ x. key (f x)) xs m = ap (λ bs. length (distinct nat_eq bs)) (filtered (λ y. byte_after m (key y)) xs) in (
         m,
-        ((x.0, x.1, λ e. apart (ap key (sym x.2) ∙ e), ap (λ y. common k (key y)) x.2 ∙ meets), λ z j other. longest (f z) (in_map f z xs j) other),
+        ((x.0, x.1, λ e. apart (ap key (sym x.2) ∙ e), ap (λ y. common_prefix k (key y)) x.2 ∙ meets), λ z j other. longest (f z) (in_map f z xs j) other),
         rw (← same) limit,
       )
 

@@ -9,7 +9,8 @@ use Rattle.art_arena.specs.arena.Cells.{Cell, pair, branches, copies, AreHeld}
 use Rattle.art_arena.specs.tree.Kinds.{IsKindOf}
 use Rattle.art_arena.specs.arena.Shapes.{Shape, Branches, leaf_at, inner_at, no_branch, branch, name_of, children_at, width, cells, cells_in, node_of, IsUnder, AreUnder}
 use Rattle.art_arena.specs.arena.Meaning.{IsPart, IsSubtree}
-use Rattle.art_arena.proofs.tree.Order.{all_left, all_right, begins_append}
+use Rattle.art_arena.proofs.tree.Order.{all_left, all_right}
+use Rattle.art_bytes.proofs.Order.{begins_append}
 
 module _ {K V : Type 0} (bytes : K → List ℕ) where
   -- the bytes of the first key below

@@ -16,10 +16,11 @@ use Rattle.art_arena.specs.arena.Shapes.{Shape, Branches, leaf_at, inner_at, no_
 use Rattle.art_arena.specs.arena.Context.{AreBelow}
 use Rattle.art_arena.specs.arena.Steps.{Step}
 use Rattle.art_arena.specs.arena.Found.{Located, located, located_in, with_key}
-use Rattle.art_arena.proofs.tree.Order.{all_append, all_left, all_right, all_weaker, begins_step}
+use Rattle.art_arena.proofs.tree.Order.{all_append, all_left, all_right, all_weaker}
 use Rattle.art_arena.specs.arena.Descents.{TakesFronts, located_where}
 use Rattle.art_arena.proofs.tree.Fronts.{begins_trans}
 use Rattle.art_arena.proofs.shapes.Places.{leaves-begin}
+use Rattle.art_bytes.proofs.Order.{begins_step}
 
 -- bytes behind a path
 pub byte_behind : (path rest : List ℕ) (c : ℕ) → get_or (path ++ c ∷ rest) (length path) 0 ≡ c

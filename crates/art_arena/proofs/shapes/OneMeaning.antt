@@ -6,11 +6,12 @@ use Rattle.art_bytes.specs.Keys.{BeginsWith}
 use Rattle.art_arena.specs.arena.Cells.{Cell, pair, branches, AreHeld}
 use Rattle.art_arena.specs.arena.Shapes.{Shape, Branches, leaf_at, inner_at, no_branch, branch, name_of, children_at, width, erase, erase_in, cells, cells_in, IsUnder, AreUnder, key_of, node_of}
 use Rattle.art_arena.specs.Laws.{OneMeaning}
-use Rattle.art_arena.proofs.tree.Order.{all_left, all_right, begins_append}
+use Rattle.art_arena.proofs.tree.Order.{all_left, all_right}
 use Rattle.art_arena.proofs.tree.Canonical.{begin_in, some_item_in}
 use Rattle.art_arena.proofs.tree.Fronts.{cancel}
 use Rattle.art_arena.proofs.tree.Shrinks.{same_front}
 use Rattle.art_arena.proofs.shapes.Erased.{count-erase, canonical_in-erase}
+use Rattle.art_bytes.proofs.Order.{begins_append}
 
 module _ {K V : Type 0} (bytes : K → List ℕ) (P : ℕ) (at : Name → Option (Cell K V)) where
   same_cell : (m n : Name) (c d : Cell K V) → m ≡ n → at m ≡ Some c → at n ≡ Some d → c ≡ d

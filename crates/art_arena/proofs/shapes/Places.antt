@@ -10,8 +10,9 @@ use Rattle.art_arena.specs.arena.Cells.{Cell, pair, branches, AreHeld}
 use Rattle.art_arena.specs.arena.Shapes.{Shape, Branches, leaf_at, inner_at, no_branch, branch, name_of, children_at, join, width, leaves, leaves_in, cells, IsUnder, AreUnder}
 use Rattle.art_arena.specs.arena.Context.{Frame, plug, path_to, cells_before, cells_after, AreBelow}
 use Rattle.art_arena.specs.arena.Places.{IsPlace}
-use Rattle.art_arena.proofs.tree.Order.{all_append, all_left, all_right, all_weaker, begins_append}
+use Rattle.art_arena.proofs.tree.Order.{all_append, all_left, all_right, all_weaker}
 use Rattle.art_arena.proofs.shapes.Contexts.{cells-plug, width-join}
+use Rattle.art_bytes.proofs.Order.{begins_append}
 
 module _ {K V : Type 0} (P : ℕ) (at : Name → Option (Cell K V)) where
   -- what stands at a place of a tree that is held is held

@@ -2,8 +2,8 @@
 use Rattle.std.proofs.Common.{◌≡◌, ℕ, ◌<◌, ◌⊎◌, List, [], ◌∷◌, ◌++◌, refl, sym, ap, ap₂, ◌∙◌, subst, inl, inr, arith, Bool, true, false, filter}
 use Rattle.std.specs.List.{AllByRecursion}
 use Rattle.std.proofs.lemmas.Bool.{cond-true, cond-false, cases_Bool}
-use Rattle.art_bytes.specs.Keys.{BeginsWith}
-use Rattle.art_arena.specs.tree.Order.{IsBefore, IsAscending}
+use Rattle.art_bytes.specs.Keys.{BeginsWith, IsBefore}
+use Rattle.art_arena.specs.tree.Order.{IsAscending}
 use Rattle.art_arena.specs.tree.Tenants.{begins_with, with_front}
 use Rattle.art_arena.specs.Laws.{FrontIsBlock}
 use Rattle.art_arena.proofs.tree.Tenants.{begins_true}

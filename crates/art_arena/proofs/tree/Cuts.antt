@@ -3,15 +3,14 @@ use Rattle.std.proofs.Common.{◌≡◌, ◌≢◌, ℕ, suc, ◌+◌, ◌<◌, 
 use Rattle.std.specs.List.{AllByRecursion}
 use Rattle.std.proofs.lemmas.Bool.{cond-true, cond-false, cases_eq, cases_Bool, not_from_true, not_from_false}
 use Rattle.std.proofs.lemmas.List.Elements.{filter-append}
-use Rattle.art_bytes.specs.Keys.{BeginsWith}
-use Rattle.art_arena.specs.tree.Order.{common}
+use Rattle.art_bytes.specs.Keys.{BeginsWith, common_prefix}
 use Rattle.art_arena.specs.tree.Changes.{IsIn}
 use Rattle.art_arena.specs.tree.Trees.{Tree, Forest, leaf, inner, no_child, child, items, items_in, count, IsBelow, IsCanonical, AreCanonical, nodes_with, nodes_in}
 use Rattle.art_arena.specs.tree.Landing.{ends, differs, passes, pass}
 use Rattle.art_arena.specs.tree.Fronts.{width_of}
 use Rattle.art_arena.specs.tree.Tenants.{begins_with, with_front, without_front}
 use Rattle.art_arena.specs.tree.Shrinks.{one_if, one_fewer, IsCrossing}
-use Rattle.art_arena.proofs.tree.Order.{all_weaker, begins_step, begins_from_step, common_apart}
+use Rattle.art_arena.proofs.tree.Order.{all_weaker}
 use Rattle.art_arena.proofs.tree.Canonical.{begin, begin_in, some_item, some_item_in}
 use Rattle.art_arena.proofs.tree.Insert.{all_at, in_left, in_right}
 use Rattle.art_arena.proofs.tree.Delete.{settled, settled_canonical, settled_items, settled_nodes}
@@ -20,6 +19,7 @@ use Rattle.art_arena.proofs.tree.Paths.{in_cases}
 use Rattle.art_arena.proofs.tree.Shrinks.{same_front, same_tree}
 use Rattle.art_arena.proofs.tree.Landing.{Passed, end, other, on, passing}
 use Rattle.art_arena.proofs.tree.Parts.{own_all, own_none, own_append, elsewhere, begins_same, begins_not}
+use Rattle.art_bytes.proofs.Order.{begins_step, begins_from_step, common_apart}
 
 -- how many children the node has from which the part is cut, n where there is none
 abbrev mutual
@@ -85,7 +85,7 @@ module _ {X : Type 0} (key : X → List ℕ) (front : List ℕ) where
     untouched_in : AllByRecursion (λ x. BeginsWith front (key x) → ⊥) (items_in cs) → CutIn q b r cs
     gone : (ds : Forest X) (v : Tree X) (w : List ℕ) → AreCanonical key q ds → IsCanonical key w v → count cs ≡ suc (count ds) → ((a : ℕ) → IsBelow a cs → IsBelow a ds)
         → without_front key front (items_in cs) ≡ items_in ds → with_front key front (items_in cs) ≡ items v
-        → ((z : X) → IsIn z (items_in cs) → (BeginsWith front (key z) → ⊥) → common front (key z) ≡ q)
+        → ((z : X) → IsIn z (items_in cs) → (BeginsWith front (key z) → ⊥) → common_prefix front (key z) ≡ q)
         → ((z : X) → IsIn z (items_in ds) → BeginsWith front (key z) → ⊥)
         → ((test : ℕ → Bool) → nodes_in test ds + nodes_with test v ≡ nodes_in test cs) → ((n : ℕ) → cut_count_in n cs b r ≡ n) → CutIn q b r cs
     inside : (ds : Forest X) (v : Tree X) (w : List ℕ) → AreCanonical key q ds → IsCanonical key w v → count cs ≡ count ds → ((a : ℕ) → IsBelow a cs → IsBelow a ds)
@@ -121,10 +121,10 @@ module _ {X : Type 0} (key : X → List ℕ) (front : List ℕ) where
       (λ g n ws. last g (count cs) ws.1 ∙ sym (l n))
 
   -- other children's keys meet the front at the node
-  at_other : (q : List ℕ) (b : ℕ) (r : List ℕ) → front ≡ q ++ b ∷ r → (c : ℕ) → b ≢ c → (k : List ℕ) → BeginsWith (q ++ c ∷ []) k → common front k ≡ q
-  at_other q b r e c n k h = let s = begins_step q c k h in ap₂ common e s.1 ∙ common_apart q b c r s.0 n
+  at_other : (q : List ℕ) (b : ℕ) (r : List ℕ) → front ≡ q ++ b ∷ r → (c : ℕ) → b ≢ c → (k : List ℕ) → BeginsWith (q ++ c ∷ []) k → common_prefix front k ≡ q
+  at_other q b r e c n k h = let s = begins_step q c k h in ap₂ common_prefix e s.1 ∙ common_apart q b c r s.0 n
 
-  at_above : (q : List ℕ) (b : ℕ) (r : List ℕ) → front ≡ q ++ b ∷ r → (cs : Forest X) → IsBelow b cs → AreCanonical key q cs → (z : X) → IsIn z (items_in cs) → common front (key z) ≡ q
+  at_above : (q : List ℕ) (b : ℕ) (r : List ℕ) → front ≡ q ++ b ∷ r → (cs : Forest X) → IsBelow b cs → AreCanonical key q cs → (z : X) → IsIn z (items_in cs) → common_prefix front (key z) ≡ q
   at_above q b r e no_child low h z i = absurd i
   at_above q b r e (child c t cs) low h z i =
       elim (in_cases z (items t) (items_in cs) i) [

@@ -5,9 +5,9 @@ use Rattle.art_bytes.specs.Keys.{BeginsWith}
 use Rattle.art_arena.specs.tree.Changes.{IsIn, IsPutIn}
 use Rattle.art_arena.specs.tree.Trees.{Tree, Forest, leaf, inner, no_child, child, items, items_in, count, IsBelow, IsCanonical, AreCanonical, nodes_with, nodes_in}
 use Rattle.art_arena.specs.tree.Shrinks.{one_if, one_fewer}
-use Rattle.art_arena.proofs.tree.Order.{begins_append, begins_step}
 use Rattle.art_arena.proofs.tree.Canonical.{begin}
 use Rattle.art_arena.proofs.tree.Insert.{all_at, put_left, put_right, put_first}
+use Rattle.art_bytes.proofs.Order.{begins_append, begins_step}
 
 -- A child that is left alone takes the node's place: its prefix becomes the node's, the byte, and its own.
 abbrev pub merged : {X : Type 0} → List ℕ → ℕ → Tree X → Tree X

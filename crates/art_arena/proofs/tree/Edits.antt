@@ -1,17 +1,17 @@
 -- An item is put into a canonical tree, or taken out of it.
 use Rattle.std.proofs.Common.{◌≡◌, ◌≢◌, ℕ, ◌⊎◌, List, [], ◌∷◌, ◌++◌, refl, sym, ap, ◌∙◌, subst, inl, inr}
 use Rattle.std.proofs.lemmas.Bool.{cond-true, cond-false, cases_Bool}
-use Rattle.art_bytes.specs.Keys.{Conflict}
-use Rattle.art_arena.specs.tree.Order.{IsBefore, IsAscending}
+use Rattle.art_bytes.specs.Keys.{Conflict, IsBefore}
+use Rattle.art_arena.specs.tree.Order.{IsAscending}
 use Rattle.art_arena.specs.tree.Changes.{IsIn, IsPutIn, is_before, put}
 use Rattle.art_arena.specs.tree.Trees.{Tree, leaf, items, IsCanonical}
 use Rattle.art_arena.specs.Laws.{Insertion, InsertionIsFree, Deletion}
-use Rattle.art_arena.proofs.tree.Order.{before_not_self, conflict_turned, conflict_not_before}
 use Rattle.art_arena.proofs.tree.Canonical.{ascending}
 use Rattle.art_arena.proofs.tree.Insert.{all_at, in_right, Outcome, grown, found, blocked, insert}
 use Rattle.art_arena.proofs.tree.Exists.{put_is}
 use Rattle.art_arena.proofs.tree.Delete.{Removal, absent, whole, removed, delete}
 use Rattle.art_arena.proofs.tree.Paths.{in_cases}
+use Rattle.art_bytes.proofs.Order.{before_not_self, conflict_turned, conflict_not_before}
 
 module _ {X : Type 0} (key : X → List ℕ) where
   put_in : (x : X) (xs : List X) → IsPutIn x xs (put key x xs)

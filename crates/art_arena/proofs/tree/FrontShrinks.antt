@@ -2,8 +2,7 @@
 use Rattle.std.proofs.Common.{◌≡◌, ◌≢◌, ℕ, ◌≤◌, ◌↔◌, List, [], ◌∷◌, ◌++◌, length, refl, sym, ap, ap₂, ◌∙◌, subst, inl, inr, arith, length-append, nat_eq}
 use Rattle.std.specs.List.{cons_option}
 use Rattle.std.proofs.lemmas.Bool.{cond-true, cond-false, cases_Bool, cases_lt}
-use Rattle.art_bytes.specs.Keys.{BeginsWith}
-use Rattle.art_arena.specs.tree.Order.{common}
+use Rattle.art_bytes.specs.Keys.{BeginsWith, common_prefix}
 use Rattle.art_arena.specs.tree.Changes.{IsIn}
 use Rattle.art_arena.specs.tree.Trees.{Forest, inner, items, IsCanonical}
 use Rattle.art_arena.specs.tree.Kinds.{IsLimit}
@@ -57,10 +56,10 @@ module _ {X : Type 0} (key : X → List ℕ) where
   own_width front m h xs = ap (λ l. length (distinct nat_eq l)) (own_bytes front m h xs)
 
   module _ (front k : List ℕ) (xs : List X) (k-with_front : BeginsWith front k) (y : X) (y-in : IsIn y xs) (y-with_front : BeginsWith front (key y)) (apart : key y ≢ k) where
-    reaches : (m : List ℕ) → BeginsWith m k → length (common k (key y)) ≤ length m → BeginsWith front m
+    reaches : (m : List ℕ) → BeginsWith m k → length (common_prefix k (key y)) ≤ length m → BeginsWith front m
     reaches m h l =
-        let c : BeginsWith front (common k (key y)) = Rattle.art_arena.proofs.tree.Order.common_begins front k (key y) k-with_front y-with_front in
-        let n = begins_length front (common k (key y)) c in
+        let c : BeginsWith front (common_prefix k (key y)) = Rattle.art_bytes.proofs.Order.common_begins front k (key y) k-with_front y-with_front in
+        let n = begins_length front (common_prefix k (key y)) c in
         front_le front m k k-with_front h (omega arith)
 
     to_own : (m : List ℕ) → IsMeeting key xs k m → IsMeeting key (with_front key front xs) k m × BeginsWith front m
@@ -80,10 +79,10 @@ module _ {X : Type 0} (key : X → List ℕ) where
             λ w j o.
                 elim (cases_Bool (begins_with front (key w))) [
                   | inl t ↦ longest w (in_own front w xs j (begins_true front (key w) t)) o
-                  | inr f ↦ elim (cases_lt (length (common k (key w))) (length front)) [
+                  | inr f ↦ elim (cases_lt (length (common_prefix k (key w))) (length front)) [
                     | inl l ↦ omega arith
                     | inr l ↦ absurd (begins_false front (key w) f
-                        (begins_trans front (common k (key w)) (key w) (front_le front (common k (key w)) k k-with_front (common_left k (key w)) l) (common_right k (key w))))
+                        (begins_trans front (common_prefix k (key w)) (key w) (front_le front (common_prefix k (key w)) k k-with_front (common_left k (key w)) l) (common_right k (key w))))
                   ]
                 ],
           ),

@@ -3,15 +3,15 @@ use Rattle.std.proofs.Common.{◌≡◌, ℕ, zero, suc, ◌+◌, ◌<◌, ◌�
 use Rattle.std.specs.List.{AllByRecursion, list_any, cons_option}
 use Rattle.std.proofs.lemmas.Bool.{cond-true}
 use Rattle.std.proofs.lemmas.List.Elements.{filter_map-append}
-use Rattle.art_bytes.specs.Keys.{BeginsWith}
-use Rattle.art_arena.specs.tree.Order.{common}
+use Rattle.art_bytes.specs.Keys.{BeginsWith, common_prefix}
 use Rattle.art_arena.specs.tree.Changes.{IsIn}
 use Rattle.art_arena.specs.tree.Trees.{Tree, Forest, leaf, inner, no_child, child, items, items_in, count, IsBelow, IsCanonical, AreCanonical, nodes_with, nodes_in}
 use Rattle.art_arena.specs.tree.Fronts.{distinct, neighbour_fronts, byte_after, bytes_after, width_of, fronts_with}
-use Rattle.art_arena.proofs.tree.Order.{all_append, all_weaker, begins_append, begins_step, common_begins, common_apart}
+use Rattle.art_arena.proofs.tree.Order.{all_append, all_weaker}
 use Rattle.art_arena.proofs.tree.Canonical.{begin, some_item}
 use Rattle.art_arena.proofs.tree.Insert.{in_right}
 use Rattle.art_arena.proofs.tree.Distinct.{same_bytes, bytes_from_same, length_sum, not_among, among, sum_again, sum_new, sum_apart, sum_same}
+use Rattle.art_bytes.proofs.Order.{begins_append, begins_step, common_begins, common_apart}
 
 -- fronts of fronts
 
@@ -22,12 +22,12 @@ cancel (a ∷ q) k l e = let f : q ++ k ≡ q ++ l = cc in cancel q k l f
 pub begins_trans : (p q k : List ℕ) → BeginsWith p q → BeginsWith q k → BeginsWith p k
 begins_trans p q k (r, e) (s, f) = (r ++ s, f ∙ ap (λ m. m ++ s) e ∙ append_assoc p r s)
 
-pub common_left : (k l : List ℕ) → BeginsWith (common k l) k
+pub common_left : (k l : List ℕ) → BeginsWith (common_prefix k l) k
 common_left [] l = ([], refl)
 common_left (a ∷ k) [] = (a ∷ k, refl)
 common_left (a ∷ k) (b ∷ l) = go (eqb a b) (common_left k l)
   where
-    go : (t : Bool) → BeginsWith (common k l) k → BeginsWith (cond t (a ∷ common k l) []) (a ∷ k)
+    go : (t : Bool) → BeginsWith (common_prefix k l) k → BeginsWith (cond t (a ∷ common_prefix k l) []) (a ∷ k)
     go true (r, e) = (r, ap (λ m. a ∷ m) e)
     go false h = (a ∷ k, refl)
 
@@ -111,12 +111,12 @@ module _ {X : Type 0} (key : X → List ℕ) where
   nf_apart : (p : List ℕ) (xs : List X) → AllByRecursion (λ x. BeginsWith p (key x) → ⊥) xs → AllByRecursion (λ f. BeginsWith p f → ⊥) (neighbour_fronts key xs)
   nf_apart p [] h = tt
   nf_apart p (x ∷ []) h = tt
-  nf_apart p (x ∷ y ∷ ys) h = (λ j. h.0 (begins_trans p (common (key x) (key y)) (key x) j (common_left (key x) (key y))), nf_apart p (y ∷ ys) h.1)
+  nf_apart p (x ∷ y ∷ ys) h = (λ j. h.0 (begins_trans p (common_prefix (key x) (key y)) (key x) j (common_left (key x) (key y))), nf_apart p (y ∷ ys) h.1)
 
-  nf_append : (q : List ℕ) (x : X) (xs : List X) (y : X) (ys : List X) → AllByRecursion (λ z. common (key z) (key y) ≡ q) (x ∷ xs)
+  nf_append : (q : List ℕ) (x : X) (xs : List X) (y : X) (ys : List X) → AllByRecursion (λ z. common_prefix (key z) (key y) ≡ q) (x ∷ xs)
       → neighbour_fronts key ((x ∷ xs) ++ (y ∷ ys)) ≡ neighbour_fronts key (x ∷ xs) ++ q ∷ neighbour_fronts key (y ∷ ys)
   nf_append q x [] y ys h = ap (λ f. f ∷ neighbour_fronts key (y ∷ ys)) h.0
-  nf_append q x (z ∷ zs) y ys h = ap (λ fs. common (key x) (key z) ∷ fs) (nf_append q z zs y ys h.1)
+  nf_append q x (z ∷ zs) y ys h = ap (λ fs. common_prefix (key x) (key z) ∷ fs) (nf_append q z zs y ys h.1)
 
   -- the keys below other children
   pub not_among_others : (q : List ℕ) (b : ℕ) (cs : Forest X) → IsBelow b cs → AreCanonical key q cs → AllByRecursion (λ y. BeginsWith (q ++ b ∷ []) (key y) → ⊥) (items_in cs)
@@ -135,8 +135,8 @@ module _ {X : Type 0} (key : X → List ℕ) where
       let all = subst (AllByRecursion (λ z. BeginsWith (q ++ b ∷ []) (key z))) s.2 (begin key (q ++ b ∷ []) t h.0) in
       let first = subst (AllByRecursion (λ z. BeginsWith (q ++ c ∷ []) (key z))) v.2 (begin key (q ++ c ∷ []) u h.2.0) in
       let l = begins_step q c (key v.0) first.0 in
-      let meet = all_weaker _ (λ z. common (key z) (key v.0) ≡ q) (λ z j. let k = begins_step q b (key z) j in
-      ap₂ common k.1 l.1 ∙ common_apart q b c k.0 l.0 (λ e. let o = h.1.0 in omega arith)) (s.0 ∷ s.1) all in
+      let meet = all_weaker _ (λ z. common_prefix (key z) (key v.0) ≡ q) (λ z j. let k = begins_step q b (key z) j in
+      ap₂ common_prefix k.1 l.1 ∙ common_apart q b c k.0 l.0 (λ e. let o = h.1.0 in omega arith)) (s.0 ∷ s.1) all in
       ap₂ (λ l m. neighbour_fronts key (l ++ (m ++ items_in cs))) s.2 v.2
       ∙ nf_append q s.0 s.1 v.0 (v.1 ++ items_in cs) meet
       ∙ sym (ap₂ (λ l m. neighbour_fronts key l ++ q ∷ neighbour_fronts key (m ++ items_in cs)) s.2 v.2)

@@ -2,12 +2,11 @@
 use Rattle.std.proofs.Common.{◌≡◌, ℕ, ◌<◌, ◌≤◌, ◌⊎◌, List, [], ◌∷◌, ◌++◌, refl, sym, ap, ◌∙◌, subst, inl, inr, append_assoc, append-nil, arith}
 use Rattle.std.specs.List.{AllByRecursion}
 use Rattle.std.proofs.lemmas.Bool.{cases_order}
-use Rattle.art_bytes.specs.Keys.{BeginsWith, Conflict}
-use Rattle.art_arena.specs.tree.Order.{IsProperFront}
+use Rattle.art_bytes.specs.Keys.{BeginsWith, Conflict, IsProperFront}
 use Rattle.art_arena.specs.tree.Changes.{IsIn, IsPutIn}
 use Rattle.art_arena.specs.tree.Trees.{Tree, Forest, leaf, inner, no_child, child, items, items_in, count, IsBelow, IsCanonical, AreCanonical}
-use Rattle.art_arena.proofs.tree.Order.{begins_step, begins_from_step, conflict_first, conflict_second}
 use Rattle.art_arena.proofs.tree.Canonical.{begin, some_item}
+use Rattle.art_bytes.proofs.Order.{begins_step, begins_from_step, conflict_first, conflict_second}
 
 -- how two lists of bytes meet
 pub data Meeting (k l : List ℕ) : Type 0 where

@@ -1,17 +1,16 @@
 -- Where a key's descent ends, and the items.
 use Rattle.std.proofs.Common.{◌≡◌, ◌≢◌, ℕ, List, [], ◌∷◌, ◌++◌, length, drop, drop_at, refl, sym, ap, ◌∙◌, subst, inl, inr, append_assoc, append-nil, arith, eqb, eq-eqb, ne_eqb, Some}
 use Rattle.std.proofs.lemmas.Bool.{cond-true, cond-false, cases_eq, cases_order}
-use Rattle.art_bytes.specs.Keys.{BeginsWith, Conflict}
-use Rattle.art_arena.specs.tree.Order.{IsProperFront}
+use Rattle.art_bytes.specs.Keys.{BeginsWith, Conflict, IsProperFront}
 use Rattle.art_arena.specs.tree.Changes.{IsIn}
 use Rattle.art_arena.specs.tree.Trees.{Tree, Forest, leaf, inner, no_child, child, items, items_in, IsCanonical, AreCanonical}
 use Rattle.art_arena.specs.tree.Paths.{last_leaf, path_of, path_in}
 use Rattle.art_arena.specs.tree.Landing.{ends, differs, passes, pass, Landing, on_leaf, is_front, splits_prefix, lacks_child, landing, landing_in, IsBlocked}
-use Rattle.art_arena.proofs.tree.Order.{begins_step, begins_from_step, before_at, conflict_first, conflict_turned, conflict_not_before}
 use Rattle.art_arena.proofs.tree.Canonical.{begin, some_item_in}
 use Rattle.art_arena.proofs.tree.Insert.{all_at, in_left, in_right}
 use Rattle.art_arena.proofs.tree.Fronts.{cancel, one_byte, not_among_others, begins_trans}
 use Rattle.art_arena.proofs.tree.Paths.{in_cases, deeper}
+use Rattle.art_bytes.proofs.Order.{begins_step, begins_from_step, before_at, conflict_first, conflict_turned, conflict_not_before}
 
 -- pass, with what it says
 pub data Passed (prefix k : List ℕ) : Type 0 where

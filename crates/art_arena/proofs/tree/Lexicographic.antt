@@ -4,10 +4,9 @@ use Rattle.std.specs.Ordering.{nat_cmp}
 use Rattle.std.specs.declared.cmp.Ordering.TheVariants.{Less, Greater}
 use Rattle.std.specs.Cmp.Lexicographic.{slice_cmp}
 use Rattle.std.proofs.lemmas.Bool.{cases_order}
-use Rattle.art_bytes.specs.Keys.{Conflict}
-use Rattle.art_arena.specs.tree.Order.{IsBefore}
+use Rattle.art_bytes.specs.Keys.{Conflict, IsBefore}
 use Rattle.art_arena.specs.Laws.{OrderIsLexicographic}
-use Rattle.art_arena.proofs.tree.Order.{conflict_first, conflict_longer, conflict_not_before}
+use Rattle.art_bytes.proofs.Order.{conflict_first, conflict_longer, conflict_not_before}
 
 -- the order of bytes
 by_cmp : (a b : ℕ) (k l : List ℕ) → IsBefore (a ∷ k) (b ∷ l) → (IsBefore k l → slice_cmp nat_cmp k l ≡ Less) → slice_cmp nat_cmp (a ∷ k) (b ∷ l) ≡ Less

@@ -8,11 +8,12 @@ use Rattle.art_arena.specs.tree.Trees.{Tree, Forest, leaf, inner, no_child, chil
 use Rattle.art_arena.specs.tree.Landing.{ends, differs, passes}
 use Rattle.art_arena.specs.tree.Tenants.{begins_with, with_front}
 use Rattle.art_arena.specs.tree.Parts.{part, part_in, items_of}
-use Rattle.art_arena.proofs.tree.Order.{all_weaker, begins_from_step}
+use Rattle.art_arena.proofs.tree.Order.{all_weaker}
 use Rattle.art_arena.proofs.tree.Canonical.{begin, begin_in}
 use Rattle.art_arena.proofs.tree.Fronts.{one_byte, not_among_others, begins_trans}
 use Rattle.art_arena.proofs.tree.Tenants.{begins_true, begins_false}
 use Rattle.art_arena.proofs.tree.Landing.{Passed, end, other, on, passing}
+use Rattle.art_bytes.proofs.Order.{begins_from_step}
 
 pub begins_same : (front k : List ℕ) → BeginsWith front k → begins_with front k ≡ true
 begins_same front k h = true_from_ne_false _ (λ e. begins_false front k e h)

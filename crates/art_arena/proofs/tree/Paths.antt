@@ -3,17 +3,17 @@ use Rattle.std.proofs.Common.{◌≡◌, ℕ, zero, suc, ◌+◌, ◌≤◌, ◌
 use Rattle.std.specs.List.{AllByRecursion, list_any}
 use Rattle.std.proofs.lemmas.Bool.{cond-true, cond-false, cases_eq}
 use Rattle.std.proofs.lemmas.List.{map-append}
-use Rattle.art_bytes.specs.Keys.{BeginsWith}
-use Rattle.art_arena.specs.tree.Order.{common}
+use Rattle.art_bytes.specs.Keys.{BeginsWith, common_prefix}
 use Rattle.art_arena.specs.tree.Changes.{IsIn}
 use Rattle.art_arena.specs.tree.Trees.{Tree, Forest, leaf, inner, no_child, child, items, items_in, count, IsBelow, IsCanonical, AreCanonical}
 use Rattle.art_arena.specs.tree.Paths.{path_of, path_in}
 use Rattle.art_arena.specs.tree.Fronts.{distinct, meetings_of}
-use Rattle.art_arena.proofs.tree.Order.{all_append, all_weaker, begins_step, begins_from_step, common_begins, common_apart}
+use Rattle.art_arena.proofs.tree.Order.{all_append, all_weaker}
 use Rattle.art_arena.proofs.tree.Canonical.{begin, some_item, some_item_in}
 use Rattle.art_arena.proofs.tree.Insert.{in_right, in_left, all_at}
 use Rattle.art_arena.proofs.tree.Distinct.{same_bytes, bytes_from_same, length_sum, not_among, among, sum_apart, sum_same, sum_absorbed}
 use Rattle.art_arena.proofs.tree.Fronts.{extra, cancel, one_byte, not_longer, not_among_others}
+use Rattle.art_bytes.proofs.Order.{begins_step, begins_from_step, common_begins, common_apart}
 
 pub in_cases : {X : Type 0} (y : X) (xs ys : List X) → IsIn y (xs ++ ys) → IsIn y xs ⊎ IsIn y ys
 in_cases y [] ys i = inr i
@@ -31,7 +31,7 @@ all_map f P (x ∷ xs) h = (h.0, all_map f P xs h.1)
 
 module _ {X : Type 0} (key : X → List ℕ) (k : List ℕ) where
   abbrev Meets : List X → List (List ℕ)
-  Meets xs = map (λ x. common k (key x)) xs
+  Meets xs = map (λ x. common_prefix k (key x)) xs
 
   one : List ℕ → ℕ
   one f = 1
@@ -50,16 +50,16 @@ module _ {X : Type 0} (key : X → List ℕ) (k : List ℕ) where
   pub meets_apart : (q : List ℕ) (b : ℕ) (r : List ℕ) → k ≡ q ++ b ∷ r → (c : ℕ) → (b ≡ c → ⊥) → (xs : List X) → AllByRecursion (λ x. BeginsWith (q ++ c ∷ []) (key x)) xs
       → AllByRecursion (λ f. f ≡ q) (Meets xs)
   meets_apart q b r e c apart xs h =
-      all_map (λ x. common k (key x)) (λ f. f ≡ q) xs
-      (all_weaker _ (λ x. common k (key x) ≡ q) (λ x j. let s = begins_step q c (key x) j in ap₂ common e s.1 ∙ common_apart q b c r s.0 apart) xs h)
+      all_map (λ x. common_prefix k (key x)) (λ f. f ≡ q) xs
+      (all_weaker _ (λ x. common_prefix k (key x) ≡ q) (λ x j. let s = begins_step q c (key x) j in ap₂ common_prefix e s.1 ∙ common_apart q b c r s.0 apart) xs h)
 
   meets_begin : (p : List ℕ) → BeginsWith p k → (xs : List X) → AllByRecursion (λ x. BeginsWith p (key x)) xs → AllByRecursion (BeginsWith p) (Meets xs)
-  meets_begin p h xs j = all_map (λ x. common k (key x)) (BeginsWith p) xs (all_weaker _ (λ x. BeginsWith p (common k (key x))) (λ x i. common_begins p k (key x) h i) xs j)
+  meets_begin p h xs j = all_map (λ x. common_prefix k (key x)) (BeginsWith p) xs (all_weaker _ (λ x. BeginsWith p (common_prefix k (key x))) (λ x i. common_begins p k (key x) h i) xs j)
 
   pub meets_above : (q : List ℕ) (b : ℕ) (r : List ℕ) → k ≡ q ++ b ∷ r → (cs : Forest X) → IsBelow b cs → AreCanonical key q cs → AllByRecursion (λ f. f ≡ q) (Meets (items_in cs))
   meets_above q b r e no_child low h = tt
   meets_above q b r e (child c t cs) low h =
-      subst (AllByRecursion (λ f. f ≡ q)) (sym (map-append (λ x. common k (key x)) (items t) (items_in cs)))
+      subst (AllByRecursion (λ f. f ≡ q)) (sym (map-append (λ x. common_prefix k (key x)) (items t) (items_in cs)))
       (all_append _ _ _ (meets_apart q b r e c (λ i. let l = low.0 in omega arith) (items t) (begin key (q ++ c ∷ []) t h.0)) (meets_above q b r e cs low.1 h.2))
 
   -- two children, one of which is off the path
@@ -70,12 +70,12 @@ module _ {X : Type 0} (key : X → List ℕ) (k : List ℕ) where
       let v = some_item key (q ++ d ∷ []) u h.2.0 in
       let is : IsIn s.0 (items t ++ (items u ++ items_in cs)) = in_left s.0 (items t) _ (subst (IsIn s.0) (sym s.2) (inl refl)) in
       let iv : IsIn v.0 (items t ++ (items u ++ items_in cs)) = in_right v.0 (items t) (items u ++ items_in cs) (in_left v.0 (items u) (items_in cs) (subst (IsIn v.0) (sym v.2) (inl refl))) in
-      let at = λ (x : X) (i : IsIn x (items t ++ (items u ++ items_in cs))) (f : common k (key x) ≡ q). subst (λ l. IsIn l (Meets (items t ++ (items u ++ items_in cs)))) f (in_map (λ y. common k (key y)) x _ i) in
+      let at = λ (x : X) (i : IsIn x (items t ++ (items u ++ items_in cs))) (f : common_prefix k (key x) ≡ q). subst (λ l. IsIn l (Meets (items t ++ (items u ++ items_in cs)))) f (in_map (λ y. common_prefix k (key y)) x _ i) in
       let ks = begins_step q c (key s.0) (all_at _ s.0 (items t) (begin key (q ++ c ∷ []) t h.0) (subst (IsIn s.0) (sym s.2) (inl refl))) in
       let kv = begins_step q d (key v.0) (all_at _ v.0 (items u) (begin key (q ++ d ∷ []) u h.2.0) (subst (IsIn v.0) (sym v.2) (inl refl))) in
       elim (cases_eq b c) [
-        | inl f ↦ at v.0 iv (ap₂ common e kv.1 ∙ common_apart q b d r kv.0 (λ g. let l = h.1.0 in omega arith))
-        | inr f ↦ at s.0 is (ap₂ common e ks.1 ∙ common_apart q b c r ks.0 f)
+        | inl f ↦ at v.0 iv (ap₂ common_prefix e kv.1 ∙ common_apart q b d r kv.0 (λ g. let l = h.1.0 in omega arith))
+        | inr f ↦ at s.0 is (ap₂ common_prefix e ks.1 ∙ common_apart q b c r ks.0 f)
       ]
 
   abbrev ForestPath : List ℕ → ℕ → List ℕ → Forest X → Type 0
@@ -89,15 +89,15 @@ module _ {X : Type 0} (key : X → List ℕ) (k : List ℕ) where
   on_child q b r e t (child c u cs) h ih =
       let ms = Meets (items t) in
       let v = some_item_in key q (child c u cs) (omega arith) h.2 in
-      let all : AllByRecursion (λ f. f ≡ q) (common k (key v.0) ∷ Meets v.1) = subst (λ l. AllByRecursion (λ f. f ≡ q) (Meets l)) v.2 (meets_above q b r e (child c u cs) h.1 h.2) in
+      let all : AllByRecursion (λ f. f ≡ q) (common_prefix k (key v.0) ∷ Meets v.1) = subst (λ l. AllByRecursion (λ f. f ≡ q) (Meets l)) v.2 (meets_above q b r e (child c u cs) h.1 h.2) in
       let here = meets_begin (q ++ b ∷ []) (goes_on q b r e) (items t) (begin key (q ++ b ∷ []) t h.0) in
-      let apart = all_weaker (BeginsWith (q ++ b ∷ [])) (λ g. list_any (bytes_eq g) (common k (key v.0) ∷ Meets v.1) ≡ false)
-      (λ g j. not_among bytes_eq same_bytes bytes_from_same g (common k (key v.0) ∷ Meets v.1)
-      (all_weaker (λ f. f ≡ q) (λ f. g ≡ f → ⊥) (λ f i n. not_longer q b (subst (BeginsWith (q ++ b ∷ [])) (n ∙ i) j)) (common k (key v.0) ∷ Meets v.1) all)) (Meets (items t)) here in
-      let sum = sum_apart bytes_eq same_bytes bytes_from_same (λ f. 1) (Meets (items t)) (common k (key v.0) ∷ Meets v.1) apart in
-      let last = sum_same bytes_eq same_bytes bytes_from_same (λ f. 1) q (common k (key v.0)) (Meets v.1) all in
+      let apart = all_weaker (BeginsWith (q ++ b ∷ [])) (λ g. list_any (bytes_eq g) (common_prefix k (key v.0) ∷ Meets v.1) ≡ false)
+      (λ g j. not_among bytes_eq same_bytes bytes_from_same g (common_prefix k (key v.0) ∷ Meets v.1)
+      (all_weaker (λ f. f ≡ q) (λ f. g ≡ f → ⊥) (λ f i n. not_longer q b (subst (BeginsWith (q ++ b ∷ [])) (n ∙ i) j)) (common_prefix k (key v.0) ∷ Meets v.1) all)) (Meets (items t)) here in
+      let sum = sum_apart bytes_eq same_bytes bytes_from_same (λ f. 1) (Meets (items t)) (common_prefix k (key v.0) ∷ Meets v.1) apart in
+      let last = sum_same bytes_eq same_bytes bytes_from_same (λ f. 1) q (common_prefix k (key v.0)) (Meets v.1) all in
       let walk = ap length (cond-true (eqb b b) (path_of t r) (path_in (child c u cs) (b ∷ r)) (eq-eqb b b refl)) in
-      ap (λ l. Number (Meets (items t ++ l))) v.2 ∙ ap Number (map-append (λ x. common k (key x)) (items t) (v.0 ∷ v.1)) ∙ omega (arith, sum, last, walk, ih)
+      ap (λ l. Number (Meets (items t ++ l))) v.2 ∙ ap Number (map-append (λ x. common_prefix k (key x)) (items t) (v.0 ∷ v.1)) ∙ omega (arith, sum, last, walk, ih)
 
   -- a child below the path's
   past_child : (q : List ℕ) (b : ℕ) (r : List ℕ) → k ≡ q ++ b ∷ r → (c : ℕ) → (b ≡ c → ⊥) → (t : Tree X) (cs : Forest X) → AreCanonical key q (child c t cs)
@@ -105,24 +105,24 @@ module _ {X : Type 0} (key : X → List ℕ) (k : List ℕ) where
   past_child q b r e c apart t no_child h s ih = absurd s.1
   past_child q b r e c apart t (child d u no_child) h s ih =
       let v = some_item key (q ++ c ∷ []) t h.0 in
-      let all : AllByRecursion (λ f. f ≡ q) (common k (key v.0) ∷ Meets v.1) = subst (λ l. AllByRecursion (λ f. f ≡ q) (Meets l)) v.2 (meets_apart q b r e c apart (items t) (begin key (q ++ c ∷ []) t h.0)) in
+      let all : AllByRecursion (λ f. f ≡ q) (common_prefix k (key v.0) ∷ Meets v.1) = subst (λ l. AllByRecursion (λ f. f ≡ q) (Meets l)) v.2 (meets_apart q b r e c apart (items t) (begin key (q ++ c ∷ []) t h.0)) in
       let below = all_append _ (items u) [] (begin key (q ++ d ∷ []) u h.2.0) tt in
       let on : BeginsWith (q ++ d ∷ []) k = subst (BeginsWith (q ++ d ∷ [])) s.2 (all_at (λ x. BeginsWith (q ++ d ∷ []) (key x)) s.0 (items u ++ []) below s.1) in
       let rest = meets_begin (q ++ d ∷ []) on (items u ++ []) below in
       let other = all_weaker (λ f. f ≡ q) (λ g. list_any (bytes_eq g) (Meets (items u ++ [])) ≡ false)
       (λ g i. not_among bytes_eq same_bytes bytes_from_same g (Meets (items u ++ []))
       (all_weaker (BeginsWith (q ++ d ∷ [])) (λ f. g ≡ f → ⊥) (λ f j n. not_longer q d (subst (BeginsWith (q ++ d ∷ [])) (sym n ∙ i) j)) (Meets (items u ++ [])) rest))
-      (common k (key v.0) ∷ Meets v.1) all in
-      let sum = sum_apart bytes_eq same_bytes bytes_from_same (λ f. 1) (common k (key v.0) ∷ Meets v.1) (Meets (items u ++ [])) other in
-      let first = sum_same bytes_eq same_bytes bytes_from_same (λ f. 1) q (common k (key v.0)) (Meets v.1) all in
+      (common_prefix k (key v.0) ∷ Meets v.1) all in
+      let sum = sum_apart bytes_eq same_bytes bytes_from_same (λ f. 1) (common_prefix k (key v.0) ∷ Meets v.1) (Meets (items u ++ [])) other in
+      let first = sum_same bytes_eq same_bytes bytes_from_same (λ f. 1) q (common_prefix k (key v.0)) (Meets v.1) all in
       let walk = ap length (cond-false (eqb b c) (path_of t r) (path_in (child d u no_child) (b ∷ r)) (ne_eqb b c apart)) in
-      ap (λ l. Number (Meets (l ++ (items u ++ [])))) v.2 ∙ ap Number (map-append (λ x. common k (key x)) (v.0 ∷ v.1) (items u ++ [])) ∙ omega (arith, sum, first, walk, ih)
+      ap (λ l. Number (Meets (l ++ (items u ++ [])))) v.2 ∙ ap Number (map-append (λ x. common_prefix k (key x)) (v.0 ∷ v.1) (items u ++ [])) ∙ omega (arith, sum, first, walk, ih)
   past_child q b r e c apart t (child d u (child a w cs)) h s ih =
       let all = meets_apart q b r e c apart (items t) (begin key (q ++ c ∷ []) t h.0) in
       let same = sum_absorbed bytes_eq same_bytes bytes_from_same (λ f. 1) q (Meets (items t)) (Meets (items_in (child d u (child a w cs)))) all
       (among bytes_eq same_bytes bytes_from_same q _ (off_path q b r e d u a w cs h.2)) in
       let walk = ap length (cond-false (eqb b c) (path_of t r) (path_in (child d u (child a w cs)) (b ∷ r)) (ne_eqb b c apart)) in
-      ap Number (map-append (λ x. common k (key x)) (items t) (items_in (child d u (child a w cs)))) ∙ same ∙ omega (arith, walk, ih)
+      ap Number (map-append (λ x. common_prefix k (key x)) (items t) (items_in (child d u (child a w cs)))) ∙ same ∙ omega (arith, walk, ih)
 
   -- each key below goes on behind the path
   pub deeper : (q : List ℕ) (cs : Forest X) → AreCanonical key q cs → Stored (items_in cs) → (b : ℕ) × (r : List ℕ) × (k ≡ q ++ b ∷ r)

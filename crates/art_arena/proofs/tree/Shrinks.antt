@@ -1,8 +1,8 @@
 -- The node above a leaf, by the keys alone.
 use Rattle.std.proofs.Common.{◌≡◌, ◌≢◌, ℕ, ◌<◌, ◌≤◌, ◌⊎◌, List, [], ◌∷◌, ◌++◌, length, drop, drop_at, map, refl, sym, ap, ap₂, ◌∙◌, subst, inl, inr, append_assoc, append-nil, arith, length-append, Bool, eqb, eq-eqb, ne_eqb, Some}
 use Rattle.std.proofs.lemmas.Bool.{cond-true, cond-false}
-use Rattle.art_bytes.specs.Keys.{BeginsWith}
-use Rattle.art_arena.specs.tree.Order.{IsAscending, IsBefore, common}
+use Rattle.art_bytes.specs.Keys.{BeginsWith, IsBefore, common_prefix}
+use Rattle.art_arena.specs.tree.Order.{IsAscending}
 use Rattle.art_arena.specs.tree.Changes.{IsIn, IsPutIn}
 use Rattle.art_arena.specs.tree.Trees.{Tree, Forest, leaf, inner, no_child, child, items, items_in, count, IsBelow, IsCanonical, AreCanonical, nodes_with}
 use Rattle.art_arena.specs.tree.TreeOf.{tree_of}
@@ -10,7 +10,6 @@ use Rattle.art_arena.specs.tree.Kinds.{IsLimit}
 use Rattle.art_arena.specs.tree.Fronts.{width_of}
 use Rattle.art_arena.specs.tree.Shrinks.{IsMeeting}
 use Rattle.art_arena.specs.Laws.{ShrinksIsKindChange}
-use Rattle.art_arena.proofs.tree.Order.{before_not_self}
 use Rattle.art_arena.proofs.tree.Canonical.{begin, ascending}
 use Rattle.art_arena.proofs.tree.Unique.{tree_of_items}
 use Rattle.art_arena.proofs.tree.Insert.{all_at, in_left, in_right}
@@ -18,13 +17,14 @@ use Rattle.art_arena.proofs.tree.Delete.{last_count, last_in, Loses, Removal, ab
 use Rattle.art_arena.proofs.tree.Fronts.{Widths, WidthsIn, cancel, one_byte, not_among_others, widths, common_left}
 use Rattle.art_arena.proofs.tree.Paths.{in_cases, in_map, Stored, meets_apart, meets_above, off_path, deeper, goes_on}
 use Rattle.art_arena.proofs.tree.Limits.{limits_are_kinds}
+use Rattle.art_bytes.proofs.Order.{before_not_self}
 
 from_map : {X Y : Type 0} (f : X → Y) (y : Y) (xs : List X) → IsIn y (map f xs) → (x : X) × IsIn x xs × (f x ≡ y)
 from_map f y [] i = absurd i
 from_map f y (x ∷ xs) (inl e) = (x, inl refl, e)
 from_map f y (x ∷ xs) (inr i) = let r = from_map f y xs i in (r.0, inr r.1, r.2)
 
-common_itself : (k : List ℕ) → common k k ≡ k
+common_itself : (k : List ℕ) → common_prefix k k ≡ k
 common_itself [] = refl
 common_itself (a ∷ k) = cond-true _ _ _ (eq-eqb a a refl) ∙ ap (λ m. a ∷ m) (common_itself k)
 
@@ -57,16 +57,16 @@ module _ {X : Type 0} (key : X → List ℕ) where
 
     abbrev pub ForestMeets : List ℕ → ℕ → List ℕ → Forest X → Type 0
     ForestMeets q b r cs =
-        (((n : ℕ) → last_in n cs (b ∷ r) ≡ n) × ((z : X) → IsIn z (items_in cs) → key z ≢ k → common k (key z) ≡ q))
+        (((n : ℕ) → last_in n cs (b ∷ r) ≡ n) × ((z : X) → IsIn z (items_in cs) → key z ≢ k → common_prefix k (key z) ≡ q))
         ⊎ ((m : List ℕ) × IsMeeting key (items_in cs) k m × (length q < length m) × ((w : List ℕ → ℕ) (n : ℕ) → WidthsIn w q cs → w m ≡ last_in n cs (b ∷ r)))
 
     -- the keys off the path meet k at the node's front
-    at_other : (q : List ℕ) (b : ℕ) (r : List ℕ) → k ≡ q ++ b ∷ r → (c : ℕ) → (b ≡ c → ⊥) → (t : Tree X) → IsCanonical key (q ++ c ∷ []) t → (z : X) → IsIn z (items t) → common k (key z) ≡ q
+    at_other : (q : List ℕ) (b : ℕ) (r : List ℕ) → k ≡ q ++ b ∷ r → (c : ℕ) → (b ≡ c → ⊥) → (t : Tree X) → IsCanonical key (q ++ c ∷ []) t → (z : X) → IsIn z (items t) → common_prefix k (key z) ≡ q
     at_other q b r e c apart t h z i =
-        all_at (λ f. f ≡ q) _ _ (meets_apart key k q b r e c apart (items t) (begin key (q ++ c ∷ []) t h)) (in_map (λ x. common k (key x)) z (items t) i)
+        all_at (λ f. f ≡ q) _ _ (meets_apart key k q b r e c apart (items t) (begin key (q ++ c ∷ []) t h)) (in_map (λ x. common_prefix k (key x)) z (items t) i)
 
-    at_above : (q : List ℕ) (b : ℕ) (r : List ℕ) → k ≡ q ++ b ∷ r → (cs : Forest X) → IsBelow b cs → AreCanonical key q cs → (z : X) → IsIn z (items_in cs) → common k (key z) ≡ q
-    at_above q b r e cs low h z i = all_at (λ f. f ≡ q) _ _ (meets_above key k q b r e cs low h) (in_map (λ x. common k (key x)) z (items_in cs) i)
+    at_above : (q : List ℕ) (b : ℕ) (r : List ℕ) → k ≡ q ++ b ∷ r → (cs : Forest X) → IsBelow b cs → AreCanonical key q cs → (z : X) → IsIn z (items_in cs) → common_prefix k (key z) ≡ q
+    at_above q b r e cs low h z i = all_at (λ f. f ≡ q) _ _ (meets_above key k q b r e cs low h) (in_map (λ x. common_prefix k (key x)) z (items_in cs) i)
 
     on_child : (q : List ℕ) (b : ℕ) (r : List ℕ) → k ≡ q ++ b ∷ r → (t : Tree X) (cs : Forest X) → AreCanonical key q (child b t cs)
         → TreeMeets (q ++ b ∷ []) t r → ForestMeets q b r (child b t cs)
@@ -112,12 +112,12 @@ module _ {X : Type 0} (key : X → List ℕ) where
         )
 
     -- of two children and more, one is off the path
-    pub another : (q : List ℕ) (b : ℕ) (r : List ℕ) → k ≡ q ++ b ∷ r → (cs : Forest X) → AreCanonical key q cs → 2 ≤ count cs → (y : X) × IsIn y (items_in cs) × (key y ≢ k) × (common k (key y) ≡ q)
+    pub another : (q : List ℕ) (b : ℕ) (r : List ℕ) → k ≡ q ++ b ∷ r → (cs : Forest X) → AreCanonical key q cs → 2 ≤ count cs → (y : X) × IsIn y (items_in cs) × (key y ≢ k) × (common_prefix k (key y) ≡ q)
     another q b r e no_child h n = absurd (omega arith)
     another q b r e (child c t no_child) h n = absurd (omega arith)
     another q b r e (child c t (child d u cs)) h n =
-        let s = from_map (λ x. common k (key x)) q (items_in (child c t (child d u cs))) (off_path key k q b r e c t d u cs h) in
-        (s.0, s.1, λ f. let g : q ++ [] ≡ q ++ b ∷ r = append-nil q ∙ sym s.2 ∙ ap (common k) f ∙ common_itself k ∙ e in let i : [] ≡ b ∷ r = cancel q [] (b ∷ r) g in cc, s.2)
+        let s = from_map (λ x. common_prefix k (key x)) q (items_in (child c t (child d u cs))) (off_path key k q b r e c t d u cs h) in
+        (s.0, s.1, λ f. let g : q ++ [] ≡ q ++ b ∷ r = append-nil q ∙ sym s.2 ∙ ap (common_prefix k) f ∙ common_itself k ∙ e in let i : [] ≡ b ∷ r = cancel q [] (b ∷ r) g in cc, s.2)
 
     up : (p prefix : List ℕ) (b : ℕ) (r rest : List ℕ) (cs : Forest X) → rest ≡ prefix ++ b ∷ r → k ≡ (p ++ prefix) ++ b ∷ r → IsCanonical key p (inner prefix cs)
         → ForestMeets (p ++ prefix) b r cs → TreeMeets p (inner prefix cs) rest

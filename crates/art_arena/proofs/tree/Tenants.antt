@@ -2,17 +2,16 @@
 use Rattle.std.proofs.Common.{◌≡◌, ℕ, ◌+◌, ◌≤◌, List, [], ◌∷◌, ◌++◌, length, map, filter, refl, sym, ap, ap₂, ◌∙◌, subst, inl, inr, append-nil, arith, Bool, true, false, not, cond, ◌||◌, ◌&&◌, sum_by, eqb, bytes_eq, eq-eqb, eqb-true, ne_eqb}
 use Rattle.std.specs.List.{AllByRecursion, list_any}
 use Rattle.std.proofs.lemmas.Bool.{cond-true, cond-false, cases_Bool, cases_eq, or_left, or_right, or_cases, and_parts, and_from, not_from_true, not_from_false, false_from_ne_true}
-use Rattle.art_bytes.specs.Keys.{BeginsWith}
-use Rattle.art_arena.specs.tree.Order.{common, IsProperFront}
+use Rattle.art_bytes.specs.Keys.{BeginsWith, common_prefix, IsProperFront}
 use Rattle.art_arena.specs.tree.Changes.{IsIn}
 use Rattle.art_arena.specs.tree.Trees.{Tree, items, IsCanonical}
 use Rattle.art_arena.specs.tree.Paths.{path_of}
 use Rattle.art_arena.specs.tree.Fronts.{distinct, meetings_of}
 use Rattle.art_arena.specs.tree.Tenants.{begins_with, with_front, without_front, crossings}
-use Rattle.art_arena.proofs.tree.Order.{common_begins}
 use Rattle.art_arena.proofs.tree.Distinct.{same_bytes, bytes_from_same, length_sum, sum_again, sum_new, sum_chosen}
 use Rattle.art_arena.proofs.tree.Fronts.{begins_trans, common_left}
 use Rattle.art_arena.proofs.tree.Paths.{path_is_meetings, all_map}
+use Rattle.art_bytes.proofs.Order.{common_begins}
 
 pub begins_true : (front k : List ℕ) → begins_with front k ≡ true → BeginsWith front k
 begins_true [] k e = (k, refl)
@@ -30,7 +29,7 @@ begins_false front k e (r, f) = let g : true ≡ false = sym (whole front r) ∙
     whole (a ∷ p) s = and_from _ _ (eq-eqb a a refl) (whole p s)
 
 -- what doesn't begin with the front meets a longer key as it meets the front
-common_short : (front r l : List ℕ) → begins_with front l ≡ false → common (front ++ r) l ≡ common front l
+common_short : (front r l : List ℕ) → begins_with front l ≡ false → common_prefix (front ++ r) l ≡ common_prefix front l
 common_short [] r l e = absurd (cc)
 common_short (a ∷ front) r [] e = refl
 common_short (a ∷ front) r (b ∷ l) e =
@@ -40,12 +39,12 @@ common_short (a ∷ front) r (b ∷ l) e =
       | inr f ↦ cond-false _ _ _ f ∙ sym (cond-false _ _ _ f)
     ]
 
-pub common_right : (k l : List ℕ) → BeginsWith (common k l) l
+pub common_right : (k l : List ℕ) → BeginsWith (common_prefix k l) l
 common_right [] l = (l, refl)
 common_right (a ∷ k) [] = ([], refl)
 common_right (a ∷ k) (b ∷ l) =
     let r = common_right k l in
-    elim (cases_eq a b) as (λ _. BeginsWith (cond (eqb a b) (a ∷ common k l) []) (b ∷ l)) [
+    elim (cases_eq a b) as (λ _. BeginsWith (cond (eqb a b) (a ∷ common_prefix k l) []) (b ∷ l)) [
       | inl e ↦ subst (λ m. BeginsWith m (b ∷ l)) (sym (cond-true _ _ _ (eq-eqb a b e))) (r.0, ap₂ (λ c m. c ∷ m) (sym e) r.1)
       | inr n ↦ subst (λ m. BeginsWith m (b ∷ l)) (sym (cond-false _ _ _ (ne_eqb a b n))) (b ∷ l, refl)
     ]
@@ -179,15 +178,15 @@ module _ {X : Type 0} (key : X → List ℕ) (front : List ℕ) where
         | inr f ↦ let r = rest (subst (IsIn x) (cond-false _ (y ∷ with_front key front ys) (with_front key front ys) f) i) in (inr r.0, r.1)
       ]
 
-  short : (r : List ℕ) (xs : List X) → map (λ y. common (front ++ r) (key y)) (without_front key front xs) ≡ map (λ y. common front (key y)) (without_front key front xs)
+  short : (r : List ℕ) (xs : List X) → map (λ y. common_prefix (front ++ r) (key y)) (without_front key front xs) ≡ map (λ y. common_prefix front (key y)) (without_front key front xs)
   short r [] = refl
   short r (x ∷ xs) =
       let rest = short r xs in
       elim (cases_Bool (begins_with front (key x))) [
         | inl t ↦ let o = cond-false (not (begins_with front (key x))) (x ∷ without_front key front xs) (without_front key front xs) (not_from_true _ t) in
-            ap (map (λ y. common (front ++ r) (key y))) o ∙ rest ∙ sym (ap (map (λ y. common front (key y))) o)
+            ap (map (λ y. common_prefix (front ++ r) (key y))) o ∙ rest ∙ sym (ap (map (λ y. common_prefix front (key y))) o)
         | inr f ↦ let o = cond-true (not (begins_with front (key x))) (x ∷ without_front key front xs) (without_front key front xs) (not_from_false _ f) in
-            ap (map (λ y. common (front ++ r) (key y))) o ∙ ap₂ (λ a l. a ∷ l) (common_short front r (key x) f) rest ∙ sym (ap (map (λ y. common front (key y))) o)
+            ap (map (λ y. common_prefix (front ++ r) (key y))) o ∙ ap₂ (λ a l. a ∷ l) (common_short front r (key x) f) rest ∙ sym (ap (map (λ y. common_prefix front (key y))) o)
       ]
 
   -- The path to a key of its own is longer in the tree of all keys, by the number of crossings.
@@ -198,10 +197,10 @@ module _ {X : Type 0} (key : X → List ℕ) (front : List ℕ) where
       let whole = path_is_meetings key (key x) t h (x, mine.0, refl) in
       let part = path_is_meetings key (key x) u j (x, i, refl) in
       let s = begins_true front (key x) mine.1 in
-      let parts = two_parts (λ y. begins_with front (key y)) (λ y. common (key x) (key y)) (BeginsWith front)
+      let parts = two_parts (λ y. begins_with front (key y)) (λ y. common_prefix (key x) (key y)) (BeginsWith front)
       (λ y g. common_begins front (key x) (key y) s (begins_true front (key y) g))
       (λ y g b. begins_false front (key y) g (begins_trans front _ (key y) b (common_right (key x) (key y)))) (items t) in
-      let same = ap (λ k. map (λ y. common k (key y)) (without_front key front (items t))) s.1 ∙ short s.0 (items t) in
+      let same = ap (λ k. map (λ y. common_prefix k (key y)) (without_front key front (items t))) s.1 ∙ short s.0 (items t) in
       let crossing = ap (λ ms. length (distinct bytes_eq ms)) same in
       let mine_same = ap (λ l. length (meetings_of key (key x) l)) e in
       omega (
@@ -216,24 +215,24 @@ module _ {X : Type 0} (key : X → List ℕ) (front : List ℕ) where
         length_sum (meetings_of key (key x) (without_front key front (items t))),
       )
 
-  proper_front : (l : List ℕ) → begins_with front l ≡ false → IsProperFront (common front l) front
+  proper_front : (l : List ℕ) → begins_with front l ≡ false → IsProperFront (common_prefix front l) front
   proper_front l e = goes (common_left front l)
     where
-      goes : BeginsWith (common front l) front → IsProperFront (common front l) front
+      goes : BeginsWith (common_prefix front l) front → IsProperFront (common_prefix front l) front
       goes ([], f) = absurd (begins_false front l e (let s = common_right front l in (s.0, s.1 ∙ ap (λ m. m ++ s.0) (sym (f ∙ append-nil _)))))
       goes (b ∷ r, f) = (b, r, f)
 
-  all_proper : (xs : List X) → AllByRecursion (λ y. IsProperFront (common front (key y)) front) (without_front key front xs)
+  all_proper : (xs : List X) → AllByRecursion (λ y. IsProperFront (common_prefix front (key y)) front) (without_front key front xs)
   all_proper [] = tt
   all_proper (x ∷ xs) =
       let rest = all_proper xs in
       elim (cases_Bool (begins_with front (key x))) [
-        | inl t ↦ subst (AllByRecursion (λ y. IsProperFront (common front (key y)) front)) (sym (cond-false _ _ _ (not_from_true _ t))) rest
-        | inr f ↦ subst (AllByRecursion (λ y. IsProperFront (common front (key y)) front)) (sym (cond-true _ _ _ (not_from_false _ f))) (proper_front (key x) f, rest)
+        | inl t ↦ subst (AllByRecursion (λ y. IsProperFront (common_prefix front (key y)) front)) (sym (cond-false _ _ _ (not_from_true _ t))) rest
+        | inr f ↦ subst (AllByRecursion (λ y. IsProperFront (common_prefix front (key y)) front)) (sym (cond-true _ _ _ (not_from_false _ f))) (proper_front (key x) f, rest)
       ]
 
   -- four bytes have at most four crossings
   pub few_crossings : (xs : List X) → crossings key front xs ≤ length front
   few_crossings xs =
-      let n = few_fronts front (map (λ y. common front (key y)) (without_front key front xs)) (all_map (λ y. common front (key y)) (λ m. IsProperFront m front) _ (all_proper xs)) in
-      omega (arith, n, length_sum (distinct bytes_eq (map (λ y. common front (key y)) (without_front key front xs))))
+      let n = few_fronts front (map (λ y. common_prefix front (key y)) (without_front key front xs)) (all_map (λ y. common_prefix front (key y)) (λ m. IsProperFront m front) _ (all_proper xs)) in
+      omega (arith, n, length_sum (distinct bytes_eq (map (λ y. common_prefix front (key y)) (without_front key front xs))))

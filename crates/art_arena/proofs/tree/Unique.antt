@@ -3,12 +3,11 @@ use Rattle.std.proofs.Common.{◌≡◌, ℕ, zero, suc, ◌+◌, ◌<◌, ◌�
 use Rattle.std.specs.List.{AllByRecursion}
 use Rattle.std.proofs.lemmas.Bool.{cond-true, cond-false}
 use Rattle.std.proofs.lemmas.List.{get_or_at}
-use Rattle.art_bytes.specs.Keys.{BeginsWith}
-use Rattle.art_arena.specs.tree.Order.{common, shared}
+use Rattle.art_bytes.specs.Keys.{BeginsWith, common_prefix, shared_prefix}
 use Rattle.art_arena.specs.tree.Trees.{Tree, Forest, leaf, inner, no_child, child, items, items_in, count, IsBelow, IsCanonical, AreCanonical}
 use Rattle.art_arena.specs.tree.TreeOf.{Group, add_to, grouped, children_of, tree_below, tree_of}
-use Rattle.art_arena.proofs.tree.Order.{begins_step, shared_parts, shared_begins, common_apart, common_front}
 use Rattle.art_arena.proofs.tree.Canonical.{begin, some_item, some_item_in}
+use Rattle.art_bytes.proofs.Order.{begins_step, shared_parts, shared_begins, common_apart, common_front}
 
 -- the groups of the children's items
 abbrev pub groups_of : {X : Type 0} → Forest X → List (Group X)
@@ -56,17 +55,17 @@ module _ {X : Type 0} (key : X → List ℕ) where
 
   -- the keys below an inner node share its path and prefix, and no more
   shared_after : (q : List ℕ) (b : ℕ) (c : ℕ) (t : Tree X) (cs : Forest X) → b < c → AreCanonical key q (child c t cs)
-      → (1 ≤ count cs → shared key (items_in (child c t cs)) ≡ q) → (r : List ℕ) → common (q ++ b ∷ r) (shared key (items_in (child c t cs))) ≡ q
+      → (1 ≤ count cs → shared_prefix key (items_in (child c t cs)) ≡ q) → (r : List ℕ) → common_prefix (q ++ b ∷ r) (shared_prefix key (items_in (child c t cs))) ≡ q
   shared_after q b c t no_child less h more r =
       let s = some_item key (q ++ c ∷ []) t h.0 in
       let all = subst (AllByRecursion (λ z. BeginsWith (q ++ c ∷ []) (key z))) s.2 (begin key (q ++ c ∷ []) t h.0) in
       let u = begins_step q c _ (shared_begins key (q ++ c ∷ []) s.0 s.1 all) in
-      ap (λ l. common (q ++ b ∷ r) (shared key l)) (append-nil (items t) ∙ s.2) ∙ ap (common (q ++ b ∷ r)) u.1
+      ap (λ l. common_prefix (q ++ b ∷ r) (shared_prefix key l)) (append-nil (items t) ∙ s.2) ∙ ap (common_prefix (q ++ b ∷ r)) u.1
       ∙ common_apart q b c r u.0 (λ e. omega arith)
   shared_after q b c t (child d v cs) less h more r =
-      ap (common (q ++ b ∷ r)) (more (omega arith)) ∙ common_front q (b ∷ r)
+      ap (common_prefix (q ++ b ∷ r)) (more (omega arith)) ∙ common_front q (b ∷ r)
 
-  shared_items : (q : List ℕ) (cs : Forest X) → AreCanonical key q cs → 2 ≤ count cs → shared key (items_in cs) ≡ q
+  shared_items : (q : List ℕ) (cs : Forest X) → AreCanonical key q cs → 2 ≤ count cs → shared_prefix key (items_in cs) ≡ q
   shared_items q no_child h n = absurd (omega arith)
   shared_items q (child b t no_child) h n = absurd (omega arith)
   shared_items q (child b t (child c u cs)) h n =
@@ -74,8 +73,8 @@ module _ {X : Type 0} (key : X → List ℕ) where
       let all = subst (AllByRecursion (λ z. BeginsWith (q ++ b ∷ []) (key z))) s.2 (begin key (q ++ b ∷ []) t h.0) in
       let v = some_item_in key q (child c u cs) (omega arith) h.2 in
       let after = shared_after q b c u cs h.1.0 h.2 (λ m. shared_items q (child c u cs) h.2 (omega arith)) in
-      ap (λ l. shared key (l ++ items_in (child c u cs))) s.2 ∙ ap (λ l. shared key ((s.0 ∷ s.1) ++ l)) v.2
-      ∙ shared_parts key q b s.0 s.1 v.0 v.1 all (λ r. ap (λ l. common (q ++ b ∷ r) (shared key l)) (sym v.2) ∙ after r)
+      ap (λ l. shared_prefix key (l ++ items_in (child c u cs))) s.2 ∙ ap (λ l. shared_prefix key ((s.0 ∷ s.1) ++ l)) v.2
+      ∙ shared_parts key q b s.0 s.1 v.0 v.1 all (λ r. ap (λ l. common_prefix (q ++ b ∷ r) (shared_prefix key l)) (sym v.2) ∙ after r)
 
   -- fuel
 
@@ -98,7 +97,7 @@ module _ {X : Type 0} (key : X → List ℕ) where
 
   tree_below_many : (fuel depth : ℕ) (xs : List X) → 2 ≤ length xs
       → tree_below key (suc fuel) depth xs
-      ≡ inner (drop depth (shared key xs)) (children_of (tree_below key fuel (suc (length (shared key xs)))) (grouped key (length (shared key xs)) xs))
+      ≡ inner (drop depth (shared_prefix key xs)) (children_of (tree_below key fuel (suc (length (shared_prefix key xs)))) (grouped key (length (shared_prefix key xs)) xs))
   tree_below_many fuel depth [] n = absurd (omega arith)
   tree_below_many fuel depth (x ∷ []) n = absurd (omega arith)
   tree_below_many fuel depth (x ∷ y ∷ xs) n = refl

@@ -2,7 +2,7 @@
 use Rattle.std.specs.Prelude.{ℕ, ◌==◌, nat_eq, bytes_eq, Bool, if◌then◌else◌, List, [], ◌∷◌, length, count_by, map}
 use Rattle.std.specs.Prelude.{Option, Some, None}
 use Rattle.std.specs.List.{list_any, filter_map}
-use Rattle.art_arena.specs.tree.Order.{common}
+use Rattle.art_bytes.specs.Keys.{common_prefix}
 
 -- each element once
 abbrev pub distinct : {A : Type 0} → (A → A → Bool) → List A → List A
@@ -13,7 +13,7 @@ distinct same (x ∷ xs) = if list_any (same x) xs then distinct same xs else x 
 abbrev pub neighbour_fronts : {X : Type 0} → (X → List ℕ) → List X → List (List ℕ)
 neighbour_fronts key [] = []
 neighbour_fronts key (x ∷ []) = []
-neighbour_fronts key (x ∷ y ∷ ys) = common (key x) (key y) ∷ neighbour_fronts key (y ∷ ys)
+neighbour_fronts key (x ∷ y ∷ ys) = common_prefix (key x) (key y) ∷ neighbour_fronts key (y ∷ ys)
 
 -- the different longest common fronts of neighbours
 abbrev pub fronts_of : {X : Type 0} → (X → List ℕ) → List X → List (List ℕ)
@@ -40,4 +40,4 @@ fronts_with test key xs = count_by (λ front. test (width_of key xs front)) (fro
 
 -- the different longest common fronts of k with the keys
 abbrev pub meetings_of : {X : Type 0} → (X → List ℕ) → List ℕ → List X → List (List ℕ)
-meetings_of key k xs = distinct bytes_eq (map (λ x. common k (key x)) xs)
+meetings_of key k xs = distinct bytes_eq (map (λ x. common_prefix k (key x)) xs)

@@ -1,7 +1,7 @@
 -- A part of the keys: those that begin with a front, as those of one tenant do.
 use Rattle.std.specs.Prelude.{ℕ, ◌==◌, ◌&&◌, not, bytes_eq, Bool, true, false, List, [], ◌∷◌, length, map, filter}
-use Rattle.art_arena.specs.tree.Order.{common}
 use Rattle.art_arena.specs.tree.Fronts.{distinct}
+use Rattle.art_bytes.specs.Keys.{common_prefix}
 
 -- the test that k begins with the front
 abbrev pub begins_with : List ℕ → List ℕ → Bool
@@ -19,4 +19,4 @@ without_front key front xs = filter (λ x. not (begins_with front (key x))) xs
 
 -- how many different longest common fronts the front has with the other keys
 abbrev pub crossings : {X : Type 0} → (X → List ℕ) → List ℕ → List X → ℕ
-crossings key front xs = length (distinct bytes_eq (map (λ x. common front (key x)) (without_front key front xs)))
+crossings key front xs = length (distinct bytes_eq (map (λ x. common_prefix front (key x)) (without_front key front xs)))

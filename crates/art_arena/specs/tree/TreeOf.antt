@@ -1,8 +1,8 @@
 -- The tree of an ascending list of items, built from the list at once.
 use Rattle.std.specs.Prelude.{ℕ, zero, suc, ◌==◌, if◌then◌else◌, List, [], ◌∷◌, length, drop, slice_index, Option, Some}
 use Rattle.std.specs.Prelude.{None}
-use Rattle.art_arena.specs.tree.Order.{shared}
 use Rattle.art_arena.specs.tree.Trees.{Tree, Forest, leaf, inner, no_child, child}
+use Rattle.art_bytes.specs.Keys.{shared_prefix}
 
 -- a byte, and the items whose keys have it at some depth
 abbrev pub Group : Type 0 → Type 0
@@ -32,7 +32,7 @@ tree_below key zero depth xs = inner [] no_child
 tree_below key (suc fuel) depth [] = inner [] no_child
 tree_below key (suc fuel) depth (x ∷ []) = leaf x
 tree_below key (suc fuel) depth (x ∷ y ∷ xs) =
-    let front = shared key (x ∷ y ∷ xs) in
+    let front = shared_prefix key (x ∷ y ∷ xs) in
     inner (drop depth front)
     (children_of (tree_below key fuel (suc (length front))) (grouped key (length front) (x ∷ y ∷ xs)))
 

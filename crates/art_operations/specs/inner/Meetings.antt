@@ -1,9 +1,9 @@
 -- How a stored list of bytes and a new one meet.
 use Rattle.std.specs.Prelude.{◌≡◌, ℕ, List}
-use Rattle.art_arena.specs.tree.Order.{IsProperFront}
 use Rattle.art_operations.specs.Meetings.{PartAt}
 use Rattle.art_operations.specs.declared.meeting.Meeting.{Meeting}
 use Rattle.art_operations.specs.declared.meeting.Meeting.TheVariants as meeting
+use Rattle.art_bytes.specs.Keys.{IsProperFront}
 
 -- they are the same, one is a proper front of the other, or they part
 abbrev pub Meets : List ℕ → List ℕ → Meeting → Type 0
