@@ -34,6 +34,8 @@ pub mod Prefixes
 pub mod Repoint
 -- The leaves around a place, and a key that goes there.
 pub mod Surroundings
+-- What stands beside a tree, and stays where only the tree changes.
+pub mod Besides
 -- The branches around the place of a byte that none has: where a new child goes.
 pub mod Openings
 -- An edit below one child leaves every other child as it was.

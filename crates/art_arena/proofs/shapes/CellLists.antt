@@ -4,7 +4,7 @@ use Rattle.std.proofs.lemmas.Bool.Decides.{eqb_tells}
 use Rattle.art_nodes.specs.declared.kind.NodeType.{NodeType}
 use Rattle.art_nodes.specs.declared.kind.NodeType.TheVariants.{Node4, Node16, Node48, Node256, Leaf}
 use Rattle.art_nodes.specs.Name.{Name}
-use Rattle.art_arena.specs.arena.Cells.{UpdatesAt, same_kind, same_name, copies, AreHeld, Holds}
+use Rattle.art_arena.specs.arena.Cells.{UpdatesAt, same_kind, same_name, copies, AreHeld, Holds, HoldsOnly}
 use Rattle.art_arena.proofs.tree.Order.{all_append, all_left, all_right}
 
 -- the test tells names apart
@@ -123,6 +123,43 @@ module _ {C : Type 0} where
               rw (updates.others m other.1) (same_count ∙ holds.once m)
         ];
       }
+
+  -- cells may stand in another order
+  pub Holds-turn : (at : Name → Option C) (xs ys zs ws : List (Name × C)) → Holds at (xs ++ (ys ++ (zs ++ ws))) → Holds at (xs ++ (zs ++ (ys ++ ws)))
+  Holds-turn at xs ys zs ws holds =
+      let Q = λ (c : Name × C). at c.0 ≡ Some c.1 in
+      let behind_xs = all_right Q xs (ys ++ (zs ++ ws)) holds.held in
+      let behind_ys = all_right Q ys (zs ++ ws) behind_xs in
+      record {
+        held = all_append Q xs (zs ++ (ys ++ ws)) (all_left Q xs (ys ++ (zs ++ ws)) holds.held)
+            (all_append Q zs (ys ++ ws) (all_left Q zs ws behind_ys) (all_append Q ys ws (all_left Q ys (zs ++ ws) behind_xs) (all_right Q zs ws behind_ys)));
+        once = λ n.
+            let same : copies n (xs ++ (zs ++ (ys ++ ws))) ≡ copies n (xs ++ (ys ++ (zs ++ ws))) =
+            omega (arith, copies-append n xs (zs ++ (ys ++ ws)), copies-append n zs (ys ++ ws), copies-append n ys ws, copies-append n xs (ys ++ (zs ++ ws)), copies-append n ys (zs ++ ws), copies-append n zs ws) in
+            same ∙ holds.once n;
+      }
+
+  -- those that stand in front may stand behind
+  pub Holds-swap : (at : Name → Option C) (xs ys : List (Name × C)) → Holds at (xs ++ ys) → Holds at (ys ++ xs)
+  Holds-swap at xs ys holds =
+      let Q = λ (c : Name × C). at c.0 ≡ Some c.1 in
+      record {
+        held = all_append Q ys xs (all_right Q xs ys holds.held) (all_left Q xs ys holds.held);
+        once = λ n. let same : copies n (ys ++ xs) ≡ copies n (xs ++ ys) = omega (arith, copies-append n xs ys, copies-append n ys xs) in same ∙ holds.once n;
+      }
+
+  -- what holds no cell holds nothing
+  pub only-holds : (at : Name → Option C) (cells : List (Name × C)) → HoldsOnly at cells → Holds at cells
+  only-holds at [] empty = record { held = tt; once = λ n. rw (empty n) refl }
+  only-holds at (c ∷ cells) holds = holds
+
+  pub holds-only : (at : Name → Option C) (cells : List (Name × C)) → Holds at cells → HoldsOnly at cells
+  holds-only at [] holds = λ n. none (at n) (holds.once n)
+    where
+      none : (o : Option C) → ◌≡◌ {A = ℕ} 0 (cond (is_some o) 1 0) → o ≡ None
+      none None e = refl
+      none (Some c) e = absurd (omega (arith, e))
+  holds-only at (c ∷ cells) holds = holds
 
   AreHeld-same : (old new : Name → Option C) → ((n : Name) → new n ≡ old n) → (cells : List (Name × C)) → AreHeld old cells → AreHeld new cells
   AreHeld-same old new same [] held = tt

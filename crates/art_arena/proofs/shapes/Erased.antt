@@ -38,7 +38,7 @@ module _ {K V : Type 0} (bytes : K → List ℕ) where
         (canonical-erase (path ++ b ∷ []) s under.1, below-erase path b (b + 1) rest (omega arith) under.2, canonical_in-erase path (b + 1) rest under.2)
 
 pub shape_means : (K V : Type 0) → ShapeMeansTree K V
-shape_means K V bytes P at root links s tree = (
+shape_means K V bytes P at root links s rest tree = (
   erase s,
   sym (ap (tree_of (key_of bytes)) (items-erase s)) ∙ tree_of_items (key_of bytes) (erase s) (canonical-erase bytes [] s tree.nodes.under),
   record { shape = s; is_tree = tree; erased = refl },

@@ -3,7 +3,7 @@ use Rattle.std.proofs.Common.{◌≡◌, ◌≢◌, ℕ, ◌+◌, ◌≤◌, Boo
 use Rattle.std.proofs.lemmas.Bool.Decides.{eqb_tells}
 use Rattle.art_arena.specs.arena.Cells.{UpdatesAt}
 use Rattle.art_arena.specs.arena.Shapes.{LeafAt}
-use Rattle.art_arena.specs.arena.Linked.{Links, first_slot, last_slot, AreLinked, times, AreHalves, CanLink, IsList, IsBeside}
+use Rattle.art_arena.specs.arena.Linked.{Links, first_slot, last_slot, AreLinked, times, AreHalves, CanLink, IsList, IsBeside, KeepsOtherLinks, KeepsLinksOutside}
 
 pub eqb-self : (n : ℕ) → eqb n n ≡ true
 eqb-self n = elim (eqb_tells n n) [ inl y ↦ y.0 | inr o ↦ absurd (o.1 refl) ]
@@ -268,6 +268,29 @@ module _ {K V : Type 0} where
       pub can_take_place : (p n : Option ℕ) → ((was : Links) → links at ≡ Some was → p ≡ was.previous) → ((was : Links) → links at ≡ Some was → n ≡ was.next) → CanLink links xs ys p name n
       can_take_place p n before after =
           relabel links xs ys _ p leaf name _ n (previous_is beside.list.linked p before) same (next_is beside.list.linked n after) (can_replace links xs l ys leaf beside)
+
+-- where a leaf is linked in or taken out, those that aren't in the list keep their links
+
+module _ {K V : Type 0} (old new : ℕ → Option Links) where
+  pub kept-between : (xs ys : List (LeafAt K V)) (m : LeafAt K V) → KeepsOtherLinks old new (last_slot None xs) m.slot (first_slot ys None) → KeepsLinksOutside old new (xs ++ m ∷ ys)
+  kept-between xs ys m kept n none =
+      let parts : times n xs + times n (m ∷ ys) ≡ 0 = sym (times-append n xs (m ∷ ys)) ∙ none in
+      let other : n ≢ m.slot = λ e.
+      let here : times m.slot (m ∷ ys) ≡ 1 + times m.slot ys = rw (eqb-self m.slot) refl in
+      let none_here = subst (λ k. times k xs + times k (m ∷ ys) ≡ 0) e parts in
+      absurd (omega (arith, none_here, here)) in
+      kept n other (last-apart xs n (omega (arith, parts))) (first-apart ys n (omega (arith, parts)))
+
+  pub kept-around : (xs : List (LeafAt K V)) (l : LeafAt K V) (ys : List (LeafAt K V)) (p : ℕ) → l.slot ≡ p → AreLinked old None (xs ++ l ∷ ys) None
+      → ((was : Links) → old p ≡ Some was → KeepsOtherLinks old new was.previous p was.next) → KeepsLinksOutside old new (xs ++ l ∷ ys)
+  kept-around xs l ys p is linked kept = kept-between xs ys l (rw is (kept _ (link_there old xs l ys p linked is)))
+
+  module _ (xs : List (LeafAt K V)) (l m : LeafAt K V) (ys : List (LeafAt K V)) (at leaf : ℕ) (is : l.slot ≡ at) (new_is : m.slot ≡ leaf) (linked : AreLinked old None (xs ++ l ∷ ys) None) where
+    pub kept-before : ((was : Links) → old at ≡ Some was → KeepsOtherLinks old new was.previous leaf (Some at)) → KeepsLinksOutside old new (xs ++ m ∷ l ∷ ys)
+    kept-before kept = kept-between xs (l ∷ ys) m (rw (is, new_is) (kept _ (link_there old xs l ys at linked is)))
+
+    pub kept-behind : ((was : Links) → old at ≡ Some was → KeepsOtherLinks old new (Some at) leaf was.next) → KeepsLinksOutside old new ((xs ++ l ∷ []) ++ m ∷ ys)
+    kept-behind kept = kept-between (xs ++ l ∷ []) ys m (rw (last_slot-append None xs (l ∷ []), is, new_is) (kept _ (link_there old xs l ys at linked is)))
 
 -- a leaf that is in a list once isn't beside itself
 

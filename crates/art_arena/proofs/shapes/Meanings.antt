@@ -1,31 +1,37 @@
 -- From what a name means to what is held below it, and back.
-use Rattle.std.proofs.Common.{◌≡◌, ℕ, ◌≤◌, cond, List, [], Option, Some, None, is_some, arith, ◌+◌, Bool, true, false, refl}
+use Rattle.std.proofs.Common.{◌≡◌, ℕ, ◌≤◌, cond, List, [], Option, Some, None, is_some, arith, ◌+◌, Bool, true, false, refl, sym, ◌∙◌}
 use Rattle.art_nodes.specs.Name.{Name}
 use Rattle.art_arena.specs.tree.Trees.{Tree}
 use Rattle.art_arena.specs.arena.Cells.{Cell, pair, leaf_name, same_name, copies}
 use Rattle.art_arena.specs.arena.Shapes.{Shape, leaf_at, cells}
 use Rattle.art_arena.specs.arena.Linked.{Links}
-use Rattle.art_arena.specs.arena.Meaning.{IsPart, IsSubtree, IsNodes, Means, MeansAll}
+use Rattle.art_arena.specs.arena.Meaning.{IsPart, IsSubtree, IsNodesBeside, Means, MeansBeside}
 use Rattle.art_arena.specs.Laws.{AllIsMeant}
+use Rattle.art_arena.proofs.shapes.CellLists.{copies-append}
+use Rattle.art_arena.proofs.tree.Order.{all_right}
 
 module _ {K V : Type 0} (bytes : K → List ℕ) (P : ℕ) (at : Name → Option (Cell K V)) (root : Name) where
-  pub nodes-part : (s : Shape K V) → IsNodes bytes P at root s → IsPart P at root s
-  nodes-part s nodes = record { named = nodes.named; held = nodes.holds.held; once = λ n. at_most (at n) (copies n (cells P s)) (nodes.holds.once n) }
+  pub nodes-part : {rest : List (Name × Cell K V)} (s : Shape K V) → IsNodesBeside bytes P at root rest s → IsPart P at root s
+  nodes-part {rest} s nodes = record {
+    named = nodes.named;
+    held = all_right (λ (c : Name × Cell K V). at c.0 ≡ Some c.1) rest (cells P s) nodes.holds.held;
+    once = λ n. at_most (at n) (copies n rest) (copies n (cells P s)) (sym (copies-append n rest (cells P s)) ∙ nodes.holds.once n);
+  }
     where
-      at_most : (o : Option (Cell K V)) (n : ℕ) → n ≡ cond (is_some o) 1 0 → n ≤ 1
-      at_most None n e = omega arith
-      at_most (Some c) n e = omega arith
+      at_most : (o : Option (Cell K V)) (m n : ℕ) → m + n ≡ cond (is_some o) 1 0 → n ≤ 1
+      at_most None m n e = omega arith
+      at_most (Some c) m n e = omega arith
 
-  pub nodes-subtree : (s : Shape K V) → IsNodes bytes P at root s → IsSubtree bytes P at root [] s
+  pub nodes-subtree : {rest : List (Name × Cell K V)} (s : Shape K V) → IsNodesBeside bytes P at root rest s → IsSubtree bytes P at root [] s
   nodes-subtree s nodes = record { part = nodes-part s nodes; under = nodes.under }
 
   pub means-subtree : (links : ℕ → Option Links) (t : Tree (K × V)) (m : Means bytes P at root links t) → IsSubtree bytes P at root [] m.shape
   means-subtree links t m = record { part = m.part; under = m.under }
 
-  pub all-subtree : (links : ℕ → Option Links) (t : Tree (K × V)) (m : MeansAll bytes P at root links t) → IsSubtree bytes P at root [] m.shape
+  pub all-subtree : {rest : List (Name × Cell K V)} (links : ℕ → Option Links) (t : Tree (K × V)) (m : MeansBeside bytes P at root links rest t) → IsSubtree bytes P at root [] m.shape
   all-subtree links t m = nodes-subtree m.shape m.is_tree.nodes
 
-  pub all-means : (links : ℕ → Option Links) (t : Tree (K × V)) → MeansAll bytes P at root links t → Means bytes P at root links t
+  pub all-means : {rest : List (Name × Cell K V)} (links : ℕ → Option Links) (t : Tree (K × V)) → MeansBeside bytes P at root links rest t → Means bytes P at root links t
   all-means links t m = record {
     shape = m.shape;
     part = nodes-part m.shape m.is_tree.nodes;
@@ -35,7 +41,7 @@ module _ {K V : Type 0} (bytes : K → List ℕ) (P : ℕ) (at : Name → Option
   }
 
 pub all_is_meant : (K V : Type 0) → AllIsMeant K V
-all_is_meant K V bytes P at root links t m = all-means bytes P at root links t m
+all_is_meant K V bytes P at root links t rest m = all-means bytes P at root links t m
 
 -- a leaf alone is the tree of its pair
 pub leaf-subtree : {K V : Type 0} (bytes : K → List ℕ) (P : ℕ) (at : Name → Option (Cell K V)) (slot : ℕ) (k : K) (v : V) → at (leaf_name slot) ≡ Some (pair k v) → IsSubtree bytes P at (leaf_name slot) [] (leaf_at slot k v)

@@ -5,7 +5,7 @@ use Rattle.art_bytes.specs.Keys.{BeginsWith, Conflict, IsBefore}
 use Rattle.art_nodes.specs.Name.{Name}
 use Rattle.art_nodes.specs.declared.kind.NodeType.TheVariants.{Leaf}
 use Rattle.art_arena.specs.tree.Kinds.{IsKindOf}
-use Rattle.art_arena.specs.arena.Meaning.{IsTree}
+use Rattle.art_arena.specs.arena.Meaning.{IsTreeBeside}
 use Rattle.art_arena.specs.tree.Changes.{IsIn}
 use Rattle.art_arena.specs.arena.Cells.{Cell, leaf_name, same_name, UpdatesAt, copies}
 use Rattle.art_arena.specs.arena.Shapes.{Shape, Branches, leaf_at, inner_at, no_branch, branch, LeafAt, width, leaves, leaves_in, cells, cells_in, IsUnder, AreUnder}
@@ -17,6 +17,7 @@ use Rattle.art_arena.proofs.tree.Insert.{in_left, in_right}
 use Rattle.art_arena.proofs.shapes.CellLists.{same_name_tells, copies-append, copies-vacant}
 use Rattle.art_arena.proofs.shapes.LinkedLists.{times-append, AreLinked-frame}
 use Rattle.art_arena.proofs.shapes.Contexts.{leaves-plug}
+use Rattle.art_arena.proofs.shapes.Meanings.{nodes-part}
 use Rattle.art_arena.proofs.shapes.Places.{leaves-begin}
 use Rattle.art_bytes.proofs.Order.{before_at, begins_append, begins_step, conflict_not_before, conflict_turned}
 
@@ -117,21 +118,18 @@ module _ {K V : Type 0} (bytes : K → List ℕ) (P : ℕ) where
         omega (arith, times-leaves n (path ++ b ∷ []) s under.1, times-leaves_in n path (b + 1) rest under.2, times-append n (leaves s) (leaves_in rest), copies-append (leaf_name n) (cells P s) (cells_in P rest))
 
   -- the leaves of a tree are a list, no leaf in it twice
-  pub tree-list : (at : Name → Option (Cell K V)) (root : Name) (links : ℕ → Option Links) (s : Shape K V) → IsTree bytes P at root links s → IsList links (leaves s)
+  pub tree-list : {rest : List (Name × Cell K V)} (at : Name → Option (Cell K V)) (root : Name) (links : ℕ → Option Links) (s : Shape K V) → IsTreeBeside bytes P at root links rest s → IsList links (leaves s)
   tree-list at root links s tree = record {
     linked = tree.linked;
-    once = λ n. at_most (at (leaf_name n)) (times n (leaves s)) (times-leaves n [] s tree.nodes.under ∙ tree.nodes.holds.once (leaf_name n));
+    once = λ n. let one = (nodes-part bytes P at root s tree.nodes).once (leaf_name n) in omega (arith, one, times-leaves n [] s tree.nodes.under);
   }
-    where
-      at_most : (o : Option (Cell K V)) (n : ℕ) → n ≡ cond (is_some o) 1 0 → n ≤ 1
-      at_most None n e = omega arith
-      at_most (Some c) n e = omega arith
 
   -- a leaf that was stored under a vacant name stands beside them
-  pub new-beside : (at : Name → Option (Cell K V)) (root : Name) (links now : ℕ → Option Links) (s : Shape K V) (new : ℕ) (v : Links) → IsTree bytes P at root links s
+  pub new-beside : {rest : List (Name × Cell K V)} (at : Name → Option (Cell K V)) (root : Name) (links now : ℕ → Option Links) (s : Shape K V) (new : ℕ) (v : Links) → IsTreeBeside bytes P at root links rest s
       → at (leaf_name new) ≡ None → UpdatesAt links now new (Some v) → IsBeside now (leaves s) new
-  new-beside at root links now s new v tree vacant update =
-      let none : times new (leaves s) ≡ 0 = times-leaves new [] s tree.nodes.under ∙ copies-vacant at (cells P s) (leaf_name new) tree.nodes.holds vacant in
+  new-beside {rest} at root links now s new v tree vacant update =
+      let absent = copies-vacant at (rest ++ cells P s) (leaf_name new) tree.nodes.holds vacant in
+      let none : times new (leaves s) ≡ 0 = omega (arith, absent, times-leaves new [] s tree.nodes.under, copies-append (leaf_name new) rest (cells P s)) in
       record {
         list = record { linked = AreLinked-frame links now new (Some v) update None (leaves s) None none tree.linked; once = (tree-list at root links s tree).once };
         apart = none;

@@ -1,5 +1,6 @@
 -- What a contract sees of an arena: the nodes of each kind under their slab keys, and so one map from names to nodes.
-use Rattle.std.specs.Prelude.{◌≡◌, ℕ, ◌+◌, Option, Some, None}
+use Rattle.std.specs.Prelude.{◌≡◌, ℕ, ◌+◌, List, Option, Some, None}
+use Rattle.std.specs.List.{AllByRecursion}
 use Rattle.slab.specs.Slab.{Slab, get, HasRoomFor, with_value}
 use Rattle.art_nodes.specs.declared.kind.NodeType.{NodeType}
 use Rattle.art_nodes.specs.declared.kind.NodeType.TheVariants.{Node4, Node16, Node48, Node256, Leaf}
@@ -74,6 +75,10 @@ module _ {K V : Type 0} where
   -- every name has what it had
   abbrev pub SameNodes : Arena K V → Arena K V → Type 0
   SameNodes old new = (n : Name) → held_at new n ≡ held_at old n
+
+  -- each of these names has what it had, a leaf its links too
+  abbrev pub KeepsNodes : List (Name × Cell K V) → Arena K V → Arena K V → Type 0
+  KeepsNodes rest old new = AllByRecursion (λ c. held_at new c.0 ≡ held_at old c.0) rest
 
   -- the arena with another node of a kind under a slab key
   abbrev pub with_leaf : Arena K V → ℕ → LeafNode K V → Arena K V

@@ -61,6 +61,10 @@ pub record IsBeside {K V : Type 0} (links : ℕ → Option Links) (ls : List (Le
   pub apart : times leaf ls ≡ 0
   pub held : IsSome (links leaf)
 
+-- every leaf that isn't in the list keeps its links
+abbrev pub KeepsLinksOutside : {K V : Type 0} → (ℕ → Option Links) → (ℕ → Option Links) → List (LeafAt K V) → Type 0
+KeepsLinksOutside old new ls = (n : ℕ) → times n ls ≡ 0 → new n ≡ old n
+
 -- every leaf but this one and those beside it keeps its links
 abbrev pub KeepsOtherLinks : (ℕ → Option Links) → (ℕ → Option Links) → Option ℕ → ℕ → Option ℕ → Type 0
 KeepsOtherLinks old new previous leaf next = (n : ℕ) → n ≢ leaf → previous ≢ Some n → next ≢ Some n → new n ≡ old n

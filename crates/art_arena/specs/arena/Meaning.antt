@@ -1,6 +1,6 @@
 -- What a name means: which tree stands under it in an arena. `at` tells what stands under a name, `links` the links of
 -- a leaf.
-use Rattle.std.specs.Prelude.{◌≡◌, ℕ, ◌≤◌, List, [], length, Option, None}
+use Rattle.std.specs.Prelude.{◌≡◌, ℕ, ◌≤◌, List, [], ◌++◌, length, Option, None}
 use Rattle.art_nodes.specs.Name.{Name}
 use Rattle.art_arena.specs.tree.Trees.{Tree}
 use Rattle.art_arena.specs.arena.Cells.{Cell, copies, AreHeld, Holds}
@@ -25,17 +25,24 @@ module _ {K V : Type 0} (bytes : K → List ℕ) (P : ℕ) (at : Name → Option
     pub subtree : IsSubtree path s
     pub behind : length path ≡ depth
 
-  -- the arena's nodes are those of this shape, which is canonical, and it holds no other name
-  pub record IsNodes (s : Shape K V) : Type 0 where
+  -- the arena's nodes are these and those of this shape, which is canonical, and it holds no other name
+  pub record IsNodesBeside (rest : List (Name × Cell K V)) (s : Shape K V) : Type 0 where
     pub named : name_of s ≡ root
-    pub holds : Holds at (cells P s)
+    pub holds : Holds at (rest ++ cells P s)
     pub under : IsUnder bytes [] s
 
+  -- it holds the nodes of this shape alone
+  abbrev pub IsNodes : Shape K V → Type 0
+  IsNodes s = IsNodesBeside [] s
+
   module _ (links : ℕ → Option Links) where
-    -- and its leaves are linked in order, with open ends
-    pub record IsTree (s : Shape K V) : Type 0 where
-      pub nodes : IsNodes s
+    -- and the shape's leaves are linked in order, with open ends
+    pub record IsTreeBeside (rest : List (Name × Cell K V)) (s : Shape K V) : Type 0 where
+      pub nodes : IsNodesBeside rest s
       pub linked : AreLinked links None (leaves s) None
+
+    abbrev pub IsTree : Shape K V → Type 0
+    IsTree s = IsTreeBeside [] s
 
     -- the name means the tree: it is the root of a canonical shape of that tree, whose leaves are linked in order with
     -- open ends
@@ -46,8 +53,11 @@ module _ {K V : Type 0} (bytes : K → List ℕ) (P : ℕ) (at : Name → Option
       pub linked : AreLinked links None (leaves shape) None
       pub erased : erase shape ≡ tree
 
-    -- and the arena holds no name beside those of the tree
-    pub record MeansAll (tree : Tree (K × V)) : Type 0 where
+    -- and the arena holds these nodes and those of the tree, and no other
+    pub record MeansBeside (rest : List (Name × Cell K V)) (tree : Tree (K × V)) : Type 0 where
       pub shape : Shape K V
-      pub is_tree : IsTree shape
+      pub is_tree : IsTreeBeside rest shape
       pub erased : erase shape ≡ tree
+
+    abbrev pub MeansAll : Tree (K × V) → Type 0
+    MeansAll tree = MeansBeside [] tree

@@ -3,7 +3,8 @@
 use Rattle.std.specs.Prelude.{ℕ, List, []}
 use Rattle.art_nodes.specs.Name.{Name}
 use Rattle.art_arena.specs.arena.Arena.{Arena, node_at, links_at}
-use Rattle.art_arena.specs.arena.Meaning.{IsSubtree, IsAtDepth, IsTree, Means, MeansAll}
+use Rattle.art_arena.specs.arena.Cells.{Cell}
+use Rattle.art_arena.specs.arena.Meaning.{IsSubtree, IsAtDepth, IsTreeBeside, Means, MeansAll}
 use Rattle.art_arena.specs.arena.Shapes.{Shape}
 use Rattle.art_arena.specs.tree.Trees.{Tree}
 
@@ -20,10 +21,14 @@ module _ {K V : Type 0} (bytes : K → List ℕ) (P : ℕ) (arena : Arena K V) (
   abbrev pub StoresAt : ℕ → List ℕ → Shape K V → Type 0
   StoresAt depth path s = IsAtDepth bytes P (node_at arena) root depth path s
 
-  -- the name is the root of a canonical tree of this shape, whose leaves are linked in order, and the arena holds no
-  -- other node
+  -- the name is the root of a canonical tree of this shape, whose leaves are linked in order, with open ends; beside it
+  -- the arena holds these nodes, and no other
+  abbrev pub StoresBeside : List (Name × Cell K V) → Shape K V → Type 0
+  StoresBeside rest s = IsTreeBeside bytes P (node_at arena) root (links_at arena) rest s
+
+  -- and the arena holds no node beside it
   abbrev pub StoresOnly : Shape K V → Type 0
-  StoresOnly s = IsTree bytes P (node_at arena) root (links_at arena) s
+  StoresOnly s = StoresBeside [] s
 
   -- the name means this tree
   abbrev pub IsMeant : Tree (K × V) → Type 0
