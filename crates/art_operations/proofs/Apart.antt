@@ -7,26 +7,19 @@ use Rattle.art_arena.specs.arena.Cells.{Cell, pair, branches, leaf_name, same_na
 use Rattle.art_arena.specs.arena.Context.{Frame, plug, path_to, frame_cell, cells_before, cells_after, AreBelow}
 use Rattle.art_arena.specs.tree.Kinds.{IsKindOf}
 use Rattle.art_arena.specs.arena.Shapes.{Branches, leaf_at, inner_at, no_branch, branch, LeafAt, children_at, join, width, cells, cells_in, AreUnder}
-use Rattle.art_arena.proofs.tree.Order.{all_append, all_left, all_right}
-use Rattle.art_arena.proofs.shapes.CellLists.{same_name_tells, same_name-self, copies-append, Holds-add, Holds-write, Holds-remove}
+use Rattle.art_arena.proofs.tree.Order.{all_right}
+use Rattle.art_arena.proofs.shapes.CellLists.{same_name_tells, same_name-self, copies-append, Holds-add, Holds-write, Holds-remove, Holds-turn, Holds-swap}
 use Rattle.art_arena.proofs.shapes.Contexts.{children_at-join, leaves_in-join, cells_in-join, width-join, cells-plug}
 use Rattle.art_arena.proofs.shapes.Openings.{without_child-frame}
 use Rattle.art_arena.proofs.shapes.Repoint.{frame_node}
-use Rattle.art_operations.specs.inner.Detached.{alone, IsHeldAt, StandsFor}
+use Rattle.art_operations.specs.inner.Detached.{leaf_cell, IsHeldAt, StandsFor}
 use Rattle.art_operations.specs.inner.Removals.{Moves}
 
 module _ {C : Type 0} where
-  -- a cell may stand last
-  pub Holds-last : (at : Name → Option C) (xs : List (Name × C)) (c : Name × C) (ys : List (Name × C)) → Holds at (xs ++ c ∷ ys) → Holds at ((xs ++ ys) ++ c ∷ [])
-  Holds-last at xs c ys holds =
-      let Q = λ (x : Name × C). at x.0 ≡ Some x.1 in
-      let there = all_right Q xs (c ∷ ys) holds.held in
-      record {
-        held = all_append Q (xs ++ ys) (c ∷ []) (all_append Q xs ys (all_left Q xs (c ∷ ys) holds.held) there.1) (there.0, tt);
-        once = λ n.
-            let same : copies n ((xs ++ ys) ++ c ∷ []) ≡ copies n (xs ++ c ∷ ys) = omega (arith, copies-append n (xs ++ ys) (c ∷ []), copies-append n xs ys, copies-append n xs (c ∷ ys)) in
-            same ∙ holds.once n;
-      }
+  -- a cell may stand behind the others, and before those that stood in front
+  pub Holds-behind : (at : Name → Option C) (ws xs : List (Name × C)) (c : Name × C) (ys : List (Name × C)) → Holds at (ws ++ (xs ++ c ∷ ys)) → Holds at ((xs ++ ys) ++ c ∷ ws)
+  Holds-behind at ws xs c ys holds = subst (Holds at) (sym (append_assoc xs ys (c ∷ ws)))
+      (Holds-turn at xs (c ∷ []) ys ws (subst (Holds at) (append_assoc xs (c ∷ ys) ws) (Holds-swap at ws (xs ++ c ∷ ys) holds)))
 
 module _ {K V : Type 0} where
   -- a node that moves to another name is a cell that does
@@ -65,13 +58,13 @@ module _ {K V : Type 0} where
           Holds-add mid (node_at new) other (branches node) xs ys in_again free (Holds-remove (node_at old) mid place was xs ys out holds)
 
   -- the leaf's cell stands last, behind those of the tree without it, but for the node above it
-  pub set_apart : (P : ℕ) (at : Name → Option (Cell K V)) (f : Frame K V) (outer : List (Frame K V)) (leaf : LeafAt K V)
-      → Holds at (cells P (plug (f ∷ outer) (leaf_at leaf.slot leaf.key leaf.value)))
-      → Holds at (cells_before P outer f.name ++ (frame_cell P f (leaf_name leaf.slot) ∷ (cells_in P (join f.before f.after) ++ (cells_after P outer ++ alone leaf))))
-  set_apart P at f outer leaf holds =
-      let parts = subst (Holds at) (cells-plug P (f ∷ outer) (leaf_at leaf.slot leaf.key leaf.value)) holds in
-      let last = Holds-last at (cells_before P (f ∷ outer) (leaf_name leaf.slot)) (leaf_name leaf.slot, pair leaf.key leaf.value) (cells_after P (f ∷ outer)) parts in
-      subst (Holds at) (reordered (cells_before P outer f.name) (cells_in P f.before) (cells_in P f.after) (cells_after P outer) (alone leaf) (cells_in P (join f.before f.after)) (frame_cell P f (leaf_name leaf.slot)) (cells_in-join P f.before f.after)) last
+  pub set_apart : (P : ℕ) (at : Name → Option (Cell K V)) (rest : List (Name × Cell K V)) (f : Frame K V) (outer : List (Frame K V)) (leaf : LeafAt K V)
+      → Holds at (rest ++ cells P (plug (f ∷ outer) (leaf_at leaf.slot leaf.key leaf.value)))
+      → Holds at (cells_before P outer f.name ++ (frame_cell P f (leaf_name leaf.slot) ∷ (cells_in P (join f.before f.after) ++ (cells_after P outer ++ (leaf_cell leaf ∷ rest)))))
+  set_apart P at rest f outer leaf holds =
+      let parts = subst (λ cs. Holds at (rest ++ cs)) (cells-plug P (f ∷ outer) (leaf_at leaf.slot leaf.key leaf.value)) holds in
+      let last = Holds-behind at rest (cells_before P (f ∷ outer) (leaf_name leaf.slot)) (leaf_cell leaf) (cells_after P (f ∷ outer)) parts in
+      subst (Holds at) (reordered (cells_before P outer f.name) (cells_in P f.before) (cells_in P f.after) (cells_after P outer) (leaf_cell leaf ∷ rest) (cells_in P (join f.before f.after)) (frame_cell P f (leaf_name leaf.slot)) (cells_in-join P f.before f.after)) last
     where
       reordered : (a b c d e j : List (Name × Cell K V)) (x : Name × Cell K V) → j ≡ b ++ c → ((a ++ x ∷ b) ++ (c ++ d)) ++ e ≡ a ++ (x ∷ (j ++ (d ++ e)))
       reordered a b c d e j x is = rw is (simp append_assoc)
@@ -87,18 +80,18 @@ module _ {K V : Type 0} (bytes : K → List ℕ) where
   AreUnder-closed path low byte no_branch g before below less after = lower path low (byte + 1) g less after
   AreUnder-closed path low byte (branch c s f) g before below less after = (before.0, before.1, AreUnder-closed path (c + 1) byte f g before.2 below.1 (omega (arith, below.0)) after)
 
-  module _ (P : ℕ) (old new : Arena K V) (f : Frame K V) (outer : List (Frame K V)) (leaf : LeafAt K V) (at : IsHeldAt bytes P old (f ∷ outer) leaf) where
+  module _ (P : ℕ) {rest : List (Name × Cell K V)} (old new : Arena K V) (f : Frame K V) (outer : List (Frame K V)) (leaf : LeafAt K V) (at : IsHeldAt bytes P old rest (f ∷ outer) leaf) where
     -- the node above the leaf without it, under whichever name
     pub taken : (other : Name)
         → Moves old new f.name other (inner_held (with_children (frame_node P f (leaf_name leaf.slot)) (without_child (frame_node P f (leaf_name leaf.slot)).children f.byte)))
-        → IsKindOf other.kind (width f.before + width f.after) → StandsFor bytes P new f outer leaf other
+        → IsKindOf other.kind (width f.before + width f.after) → StandsFor bytes P new rest f outer leaf other
     taken other moves kind =
-        let rest = without_child-frame bytes f.byte (leaf_name leaf.slot) f.before (children_at f.after) at.around.2 ∙ sym (children_at-join f.before f.after) in
-        let moved = Holds-move old new f.name other _ moves _ (cells_before P outer f.name) _ (set_apart P (node_at old) f outer leaf at.holds) in
+        let left = without_child-frame bytes f.byte (leaf_name leaf.slot) f.before (children_at f.after) at.around.2 ∙ sym (children_at-join f.before f.after) in
+        let moved = Holds-move old new f.name other _ moves _ (cells_before P outer f.name) _ (set_apart P (node_at old) rest f outer leaf at.holds) in
         record {
-          rest = inner_at other f.prefix (join f.before f.after);
+          remains = inner_at other f.prefix (join f.before f.after);
           named = refl;
-          holds = subst (λ kids. Holds (node_at new) (cells_before P outer f.name ++ ((other, branches (with_children (frame_node P f (leaf_name leaf.slot)) kids)) ∷ (cells_in P (join f.before f.after) ++ (cells_after P outer ++ alone leaf))))) rest moved;
+          holds = subst (λ kids. Holds (node_at new) (cells_before P outer f.name ++ ((other, branches (with_children (frame_node P f (leaf_name leaf.slot)) kids)) ∷ (cells_in P (join f.before f.after) ++ (cells_after P outer ++ (leaf_cell leaf ∷ rest)))))) left moved;
           under = (
             subst (IsKindOf other.kind) (sym (width-join f.before f.after)) kind,
             AreUnder-closed (path_to outer ++ f.prefix) 0 f.byte f.before f.after at.around.1 at.around.2 (omega arith) at.around.3,

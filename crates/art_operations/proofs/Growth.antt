@@ -42,10 +42,10 @@ same-kind kind n is few = let two = is.two in let fewest = is.fewest in record {
 
 module _ {K V : Type 0} (bytes : K → List ℕ) (P : ℕ) where
   -- a copy of the node is stored, put in its place, and the node taken out
-  module _ (arena : Arena K V) (root node : Name) (byte leaf : ℕ) (f : Frame K V) (outer : List (Frame K V)) (l : LeafAt K V) (awaits : AwaitsLeaf bytes P arena root node byte leaf f outer l)
+  module _ {rest : List (Name × Cell K V)} (arena : Arena K V) (root node : Name) (byte leaf : ℕ) (f : Frame K V) (outer : List (Frame K V)) (l : LeafAt K V) (awaits : AwaitsLeaf bytes P arena rest root node byte leaf f outer l)
       (copied : Arena K V) (copy : Name) (copies : Allocates arena copied copy (inner_held (open_node P f))) where
     abbrev below : List (Name × Cell K V)
-    below = cells_in P f.before ++ ((leaf_name l.slot, pair l.key l.value) ∷ cells_after P (f ∷ outer))
+    below = cells_in P f.before ++ ((leaf_name l.slot, pair l.key l.value) ∷ (cells_after P (f ∷ outer) ++ rest))
 
     abbrev pub both : List (Name × Cell K V)
     both = (copy, branches (open_node P f)) ∷ ((f.name, branches (open_node P f)) ∷ below)
@@ -67,24 +67,27 @@ module _ {K V : Type 0} (bytes : K → List ℕ) (P : ℕ) where
           let all = all_right (λ (c : Name × Cell K V). node_at moved c.0 ≡ Some c.1) (cells_before P outer copy) both moved-there.held in
           subst (λ n. held_at moved n ≡ Some (inner_held (open_node P f))) awaits.node_is (inner_of (held_at moved f.name) (open_node P f) all.1.0)
 
+      -- no link has changed
+      pub same_links : (freed : Arena K V) → ((slot : ℕ) → links_at moved slot ≡ links_at copied slot) → UpdatesAt (held_at moved) (held_at freed) node None → (slot : ℕ) → links_at freed slot ≡ links_at arena slot
+      same_links freed links_stay update slot =
+          links-kept moved freed node None update (node-inner bytes P arena root node byte leaf f outer l awaits) slot
+          ∙ links_stay slot
+          ∙ links-kept arena copied copy _ copies.updates (inner-kind copied copy (open_node P f) copies.updates.changed) slot
+
       -- the leaf waits beside the tree with the copy
       pub renamed : (freed : Arena K V) (new_root : Name) → root_of outer copy ≡ new_root → ((slot : ℕ) → links_at moved slot ≡ links_at copied slot) → UpdatesAt (held_at moved) (held_at freed) node None
-          → AwaitsLeaf bytes P freed new_root copy byte leaf (record f { name = copy }) outer l
+          → AwaitsLeaf bytes P freed rest new_root copy byte leaf (record f { name = copy }) outer l
       renamed freed new_root named links_stay update =
           let gone = subst (λ n. UpdatesAt (node_at moved) (node_at freed) n None) (sym awaits.node_is) (nodes-update moved freed node None update) in
           let left = Holds-remove (node_at moved) (node_at freed) f.name (branches (open_node P f)) (cells_before P outer copy ++ (copy, branches (open_node P f)) ∷ []) below gone
           (subst (Holds (node_at moved)) (sym (append_assoc (cells_before P outer copy) ((copy, branches (open_node P f)) ∷ []) ((f.name, branches (open_node P f)) ∷ below))) moved-there) in
-          let links : (slot : ℕ) → links_at freed slot ≡ links_at arena slot = λ slot.
-          links-kept moved freed node None update (node-inner bytes P arena root node byte leaf f outer l awaits) slot
-          ∙ links_stay slot
-          ∙ links-kept arena copied copy _ copies.updates (inner-kind copied copy (open_node P f) copies.updates.changed) slot in
           record {
             named = named;
             node_is = refl;
             byte_is = awaits.byte_is;
             leaf_is = awaits.leaf_is;
             holds = subst (Holds (node_at freed)) (append_assoc (cells_before P outer copy) ((copy, branches (open_node P f)) ∷ []) below) left;
-            beside = beside-same (links_at arena) (links_at freed) (leaves_before (f ∷ outer) ++ leaves_after (f ∷ outer)) l.slot links awaits.beside;
+            beside = beside-same (links_at arena) (links_at freed) (leaves_before (f ∷ outer) ++ leaves_after (f ∷ outer)) l.slot (same_links freed links_stay update) awaits.beside;
             around = awaits.around;
             two = awaits.two;
             before_under = awaits.before_under;

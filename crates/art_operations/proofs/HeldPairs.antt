@@ -1,33 +1,37 @@
 -- An arena that has pairs, before and after a command.
 use Rattle.std.proofs.Common.{◌≡◌, ◌≢◌, ℕ, List, [], ◌∷◌, ◌++◌, Option, Some, None, refl, sym, ap, subst, ◌∙◌, inl, inr}
+use Rattle.std.proofs.lemmas.List.{append-nil}
 use Rattle.art_nodes.specs.Name.{Name}
 use Rattle.art_nodes.specs.declared.leaf.LeafNode.{LeafNode}
-use Rattle.art_arena.specs.arena.Arena.{Arena, leaf_held, node_at, links_at, Allocates, SameNodes}
-use Rattle.art_arena.specs.arena.Cells.{leaf_name, Holds}
+use Rattle.art_arena.specs.arena.Arena.{Arena, leaf_held, cell_of, node_at, links_at, Allocates, KeepsNodes, SameNodes}
+use Rattle.art_arena.specs.arena.Cells.{Cell, leaf_name, Holds, HoldsOnly}
 use Rattle.art_arena.specs.arena.Linked.{Links, AreLinked}
 use Rattle.art_arena.specs.tree.Changes.{IsIn}
 use Rattle.art_arena.specs.arena.Found.{found_in, IsAtKey}
-use Rattle.art_arena.specs.arena.Meaning.{IsTree, IsSubtree}
+use Rattle.art_arena.specs.arena.Meaning.{IsTreeBeside, IsSubtree}
 use Rattle.art_arena.specs.arena.Shapes.{Shape, leaf_at, LeafAt, leaves, pairs_of, key_of, cells}
 use Rattle.art_arena.specs.tree.Shrinks.{Shrinks}
 use Rattle.art_arena.specs.arena.Steps.{Step}
 use Rattle.art_arena.specs.tree.TreeOf.{tree_of}
-use Rattle.art_arena.proofs.shapes.CellLists.{Holds-add, Holds-same}
+use Rattle.art_arena.proofs.shapes.Besides.{keeps-beside}
+use Rattle.art_arena.proofs.shapes.CellLists.{Holds-add, Holds-same, only-holds}
 use Rattle.art_arena.proofs.shapes.Erased.{shape_means}
-use Rattle.art_arena.proofs.shapes.Meanings.{nodes-subtree, all-subtree}
+use Rattle.art_arena.proofs.shapes.Meanings.{nodes-part, nodes-subtree, all-subtree}
+use Rattle.art_arena.proofs.shapes.LinkedLists.{outside-apart}
+use Rattle.art_arena.proofs.tree.Order.{all_left}
 use Rattle.art_arena.proofs.tree.Paths.{in_map}
 use Rattle.art_arena.proofs.tree.Exists.{in_middle}
 use Rattle.art_arena.proofs.tree.Insert.{all_at}
 use Rattle.art_arena.proofs.shapes.Updates.{nodes-update, links-update, nodes-same, links-same}
 use Rattle.art_operations.specs.DeletePoints.{IsLeafPlace}
-use Rattle.art_operations.specs.Deletions.{HasLeaves, IsDeleted}
-use Rattle.art_operations.specs.Insertions.{IsInserted}
+use Rattle.art_operations.specs.Deletions.{HasLeavesBeside, IsDeletedBeside}
+use Rattle.art_operations.specs.Insertions.{IsInsertedBeside}
 use Rattle.art_operations.specs.Points.{IsPoint, HasConflict, NoConflict}
 use Rattle.art_operations.specs.declared.delete.result.DeleteResult.{DeleteResult}
 use Rattle.art_operations.specs.declared.insert.point.InsertPoint.{InsertPoint}
 use Rattle.art_operations.specs.declared.insert.result.InsertResult.{InsertResult}
 use Rattle.art_operations.specs.KeyedLists.{HasKey, IsBlocked, with_key}
-use Rattle.art_operations.specs.Pairs.{HasPairs, HasPoint, HasPut, HasTaken}
+use Rattle.art_operations.specs.Pairs.{HasPairs, HasPairsBeside, HasPointBeside, HasPutBeside, HasTakenBeside}
 use Rattle.art_operations.specs.Runs.{HoldsTreeOf}
 use Rattle.art_operations.specs.declared.insert.point.InsertKind.TheVariants as kind
 use Rattle.art_operations.specs.declared.insert.result.InsertParentNodeChange.TheVariants.{NoChange}
@@ -40,9 +44,9 @@ module _ {K V : Type 0} (bytes : K → List ℕ) (P : ℕ) where
   linked-same old new same before (l ∷ ls) after linked = (same l.slot ∙ linked.0, linked-same old new same (Some l.slot) ls after linked.1)
 
   -- an arena with the same nodes has the same tree
-  pub tree-same : (old new : Arena K V) → SameNodes old new → (root : Name) (s : Shape K V) → IsTree bytes P (node_at old) root (links_at old) s → IsTree bytes P (node_at new) root (links_at new) s
-  tree-same old new same root s tree = record {
-    nodes = record { named = tree.nodes.named; holds = Holds-same (node_at old) (node_at new) (nodes-same old new same) (cells P s) tree.nodes.holds; under = tree.nodes.under };
+  pub tree-same : {rest : List (Name × Cell K V)} (old new : Arena K V) → SameNodes old new → (root : Name) (s : Shape K V) → IsTreeBeside bytes P (node_at old) root (links_at old) rest s → IsTreeBeside bytes P (node_at new) root (links_at new) rest s
+  tree-same {rest} old new same root s tree = record {
+    nodes = record { named = tree.nodes.named; holds = Holds-same (node_at old) (node_at new) (nodes-same old new same) (rest ++ cells P s) tree.nodes.holds; under = tree.nodes.under };
     linked = linked-same (links_at old) (links_at new) (links-same old new same) None (leaves s) None tree.linked;
   }
 
@@ -52,15 +56,15 @@ module _ {K V : Type 0} (bytes : K → List ℕ) (P : ℕ) where
   pairs-same old new same (Some root) pairs (s, tree, e) = (s, tree-same old new same root s tree, e)
 
   -- the pairs of these leaves
-  pub leaves-pairs : (arena : Arena K V) (root : Option Name) (ls : List (LeafAt K V)) (pairs : List (K × V)) → pairs_of ls ≡ pairs → HasLeaves bytes P arena root ls → HasPairs bytes P arena root pairs
-  leaves-pairs arena None ls pairs e (none, empty) = (sym e ∙ ap pairs_of none, empty)
-  leaves-pairs arena (Some root) ls pairs e (s, tree, same) = (s, tree, ap pairs_of same ∙ e)
+  pub leaves-pairs : (arena : Arena K V) (rest : List (Name × Cell K V)) (root : Option Name) (ls : List (LeafAt K V)) (pairs : List (K × V)) → pairs_of ls ≡ pairs → HasLeavesBeside bytes P arena rest root ls → HasPairsBeside bytes P arena rest root pairs
+  leaves-pairs arena rest None ls pairs e (none, empty) = (sym e ∙ ap pairs_of none, empty)
+  leaves-pairs arena rest (Some root) ls pairs e (s, tree, same) = (s, tree, ap pairs_of same ∙ e)
 
   -- the root means their tree
   pub pairs-tree : (arena : Arena K V) (root : Option Name) (pairs : List (K × V)) → HasPairs bytes P arena root pairs → HoldsTreeOf bytes P arena root pairs
   pairs-tree arena None pairs h = h
   pairs-tree arena (Some root) pairs (s, tree, e) =
-      let m = shape_means K V bytes P (node_at arena) root (links_at arena) s tree in
+      let m = shape_means K V bytes P (node_at arena) root (links_at arena) s [] tree in
       (m.0, ap (tree_of (key_of bytes)) (sym e) ∙ m.1, m.2)
 
   -- a root names a tree
@@ -70,24 +74,23 @@ module _ {K V : Type 0} (bytes : K → List ℕ) (P : ℕ) where
       (tree.2.shape, all-subtree bytes P (node_at arena) top (links_at arena) tree.0 tree.2)
 
   -- the first leaf is a tree
-  pub first-leaf : (old new : Arena K V) (slot : ℕ) (leaf : LeafNode K V) → ((n : Name) → node_at old n ≡ None) → Allocates old new (leaf_name slot) (leaf_held leaf) → leaf.previous ≡ None → leaf.next ≡ None
-      → IsTree bytes P (node_at new) (leaf_name slot) (links_at new) (leaf_at slot leaf.key leaf.value)
-  first-leaf old new slot leaf empty allocates first last =
-      let none : Holds (node_at old) [] = record { held = tt; once = λ n. rw (empty n) refl } in
+  pub first-leaf : (old new : Arena K V) (rest : List (Name × Cell K V)) (slot : ℕ) (leaf : LeafNode K V) → HoldsOnly (node_at old) rest → Allocates old new (leaf_name slot) (leaf_held leaf) → leaf.previous ≡ None → leaf.next ≡ None
+      → IsTreeBeside bytes P (node_at new) (leaf_name slot) (links_at new) rest (leaf_at slot leaf.key leaf.value)
+  first-leaf old new rest slot leaf before allocates first last =
       let nodes = nodes-update old new (leaf_name slot) _ allocates.updates in
       let links = links-update old new slot _ allocates.updates in
       record {
         nodes = record {
           named = refl;
-          holds = Holds-add (node_at old) (node_at new) (leaf_name slot) _ [] [] nodes (empty (leaf_name slot)) none;
+          holds = Holds-add (node_at old) (node_at new) (leaf_name slot) _ rest [] nodes (ap cell_of allocates.vacant) (subst (Holds (node_at old)) (sym (append-nil rest)) (only-holds (node_at old) rest before));
           under = (bytes leaf.key, refl);
         };
         linked = (links.changed ∙ rw (first, last) refl, tt);
       }
 
   -- a pair that was put in at a point
-  pub put-at : (old new : Arena K V) (point : InsertPoint) (key : K) (value : V) (pairs : List (K × V)) (has : HasPoint bytes P old point (bytes key) pairs) (last : List Step) (result : InsertResult K V)
-      → IsInserted bytes P new has.shape last key value result → HasPut bytes P new pairs key value result
+  pub put-at : {rest : List (Name × Cell K V)} (old new : Arena K V) (point : InsertPoint) (key : K) (value : V) (pairs : List (K × V)) (has : HasPointBeside bytes P old rest point (bytes key) pairs) (last : List Step) (result : InsertResult K V)
+      → IsInsertedBeside bytes P new rest has.shape last key value result → HasPutBeside bytes P new rest pairs key value result
   put-at old new point key value pairs has last result is =
       let leaf : LeafAt K V = record { slot = result.leaf_node_ptr; key = key; value = value } in
       let put = stored_pair bytes leaf result.existing_leaf (leaves has.shape) (leaves is.shape) (pairs_ascend bytes is.shape is.is_tree.nodes.under) is.stored in
@@ -95,11 +98,11 @@ module _ {K V : Type 0} (bytes : K → List ℕ) (P : ℕ) where
       record {
         has = (is.shape, is.is_tree, there.new_is);
         old = there.were;
-        leaf = held_leaf P (node_at new) is.shape leaf (stored_in bytes leaf result.existing_leaf (leaves has.shape) (leaves is.shape) is.stored) is.is_tree.nodes.holds.held;
+        leaf = held_leaf P (node_at new) is.shape leaf (stored_in bytes leaf result.existing_leaf (leaves has.shape) (leaves is.shape) is.stored) (nodes-part bytes P (node_at new) result.new_root is.shape is.is_tree.nodes).held;
       }
 
   -- where a pair has the key, the point is its leaf
-  pub stored-exact : (old : Arena K V) (point : InsertPoint) (key : List ℕ) (pairs : List (K × V)) → HasPoint bytes P old point key pairs → HasKey (key_of bytes) key pairs → (slot : ℕ) × (point.insert_kind ≡ kind.Exact slot)
+  pub stored-exact : {rest : List (Name × Cell K V)} (old : Arena K V) (point : InsertPoint) (key : List ℕ) (pairs : List (K × V)) → HasPointBeside bytes P old rest point key pairs → HasKey (key_of bytes) key pairs → (slot : ℕ) × (point.insert_kind ≡ kind.Exact slot)
   stored-exact old point key pairs has (x, i, same) = elim (which point.insert_kind) [
     | inl exact ↦ exact
     | inr differs ↦
@@ -109,21 +112,24 @@ module _ {K V : Type 0} (bytes : K → List ℕ) (P : ℕ) where
   ]
 
   -- the first pair
-  pub put-first : (old new : Arena K V) (slot : ℕ) (key : K) (value : V) → ((n : Name) → node_at old n ≡ None)
-      → Allocates old new (leaf_name slot) (leaf_held (record { key = key; value = value; previous = None; next = None }))
-      → HasPut bytes P new [] key value (record { leaf_node_ptr = slot; existing_leaf = None; new_root = leaf_name slot; parent_node_change = NoChange })
-  put-first old new slot key value empty allocates =
-      let leaf : LeafNode K V = record { key = key; value = value; previous = None; next = None } in
-      record {
-        has = (leaf_at slot key value, first-leaf old new slot leaf empty allocates refl refl, refl);
-        old = refl;
-        leaf = (nodes-update old new (leaf_name slot) _ allocates.updates).changed;
-      }
+  module _ (old new : Arena K V) (rest : List (Name × Cell K V)) (slot : ℕ) (key : K) (value : V) (before : HoldsOnly (node_at old) rest) (allocates : Allocates old new (leaf_name slot) (leaf_held (record { key = key; value = value; previous = None; next = None }))) where
+    first : IsTreeBeside bytes P (node_at new) (leaf_name slot) (links_at new) rest (leaf_at slot key value)
+    first = first-leaf old new rest slot (record { key = key; value = value; previous = None; next = None }) before allocates refl refl
+
+    pub put-first : HasPutBeside bytes P new rest [] key value (record { leaf_node_ptr = slot; existing_leaf = None; new_root = leaf_name slot; parent_node_change = NoChange })
+    put-first = record { has = (leaf_at slot key value, first, refl); old = refl; leaf = (nodes-update old new (leaf_name slot) _ allocates.updates).changed }
+
+    -- what stood there is kept
+    pub first-keeps : KeepsNodes rest old new
+    first-keeps =
+        let held = all_left (λ (c : Name × Cell K V). node_at new c.0 ≡ Some c.1) rest (cells P (leaf_at slot key value)) first.nodes.holds.held in
+        keeps-beside bytes P old new (node_at new) rest (leaf_at slot key value) (only-holds (node_at old) rest before).held held first.nodes.holds first.nodes.under
+        (λ n none. (links-update old new slot _ allocates.updates).others n (outside-apart n [] (record { slot = slot; key = key; value = value }) [] none))
 
   -- where the arena has a tree below a root, in which a key is looked for
-  module _ (old : Arena K V) (root : Option Name) (top : Name) (root_is : root ≡ Some top) (key : List ℕ) (pairs : List (K × V)) (has : HasPairs bytes P old root pairs) where
-    below : HasPairs bytes P old (Some top) pairs
-    below = subst (λ r. HasPairs bytes P old r pairs) root_is has
+  module _ (old : Arena K V) (rest : List (Name × Cell K V)) (root : Option Name) (top : Name) (root_is : root ≡ Some top) (key : List ℕ) (pairs : List (K × V)) (has : HasPairsBeside bytes P old rest root pairs) where
+    below : HasPairsBeside bytes P old rest (Some top) pairs
+    below = subst (λ r. HasPairsBeside bytes P old rest r pairs) root_is has
 
     subtree : IsSubtree bytes P (node_at old) top [] below.0
     subtree = nodes-subtree bytes P (node_at old) top below.0 below.1.nodes
@@ -133,12 +139,12 @@ module _ {K V : Type 0} (bytes : K → List ℕ) (P : ℕ) where
 
     -- the place that was found is one for this key, and no pair blocks it
     pub placed : (point : InsertPoint) → ((s : Shape K V) → IsSubtree bytes P (node_at old) top [] s → IsPoint bytes key s point × NoConflict bytes key (leaves s))
-        → HasPoint bytes P old point key pairs × (IsBlocked (key_of bytes) key pairs → ⊥)
+        → HasPointBeside bytes P old rest point key pairs × (IsBlocked (key_of bytes) key pairs → ⊥)
     placed point found =
         let is = found below.0 subtree in (
           record {
             shape = below.0;
-            is_tree = subst (λ n. IsTree bytes P (node_at old) n (links_at old) below.0) (sym below.1.nodes.named ∙ is.0.named) below.1;
+            is_tree = subst (λ n. IsTreeBeside bytes P (node_at old) n (links_at old) rest below.0) (sym below.1.nodes.named ∙ is.0.named) below.1;
             place = is.0;
             pairs_are = below.2;
           },
@@ -164,23 +170,27 @@ module _ {K V : Type 0} (bytes : K → List ℕ) (P : ℕ) where
       among : IsIn (record { slot = slot; key = there.leaf_key; value = there.value }) (leaves below.0)
       among = found_leaf bytes key below.0 slot last there
 
-      pub can-delete : (s : Shape K V) × IsTree bytes P (node_at old) top (links_at old) s × IsLeafPlace bytes s slot last
-      can-delete = (below.0, below.1, place)
+      pub can-delete : (s : Shape K V) × (others : List (Name × Cell K V)) × IsTreeBeside bytes P (node_at old) top (links_at old) others s × IsLeafPlace bytes s slot last
+      can-delete = (below.0, rest, below.1, place)
 
       -- its pair was taken out
-      pub taken-pair : (new : Arena K V) (deleted : DeleteResult K V) → ((s : Shape K V) → IsTree bytes P (node_at old) top (links_at old) s → IsLeafPlace bytes s slot last → IsDeleted bytes P new s slot deleted)
-          → HasTaken bytes P new root key pairs (Some deleted)
+      pub taken-pair : (new : Arena K V) (deleted : DeleteResult K V) → ((s : Shape K V) → IsTreeBeside bytes P (node_at old) top (links_at old) rest s → IsLeafPlace bytes s slot last → IsDeletedBeside bytes P new rest s slot deleted)
+          → HasTakenBeside bytes P new rest root key pairs (Some deleted)
       taken-pair new deleted result =
           let is = result below.0 below.1 place in
           let leaf : LeafAt K V = record { slot = slot; key = deleted.deleted_leaf.key; value = deleted.deleted_leaf.value } in
           let stood = subst (IsIn leaf) (sym is.was) (in_middle (λ (l : LeafAt K V). bytes l.key) is.front leaf is.back) in
-          let same_key = ap bytes (same_leaf P (node_at old) below.0 below.1.nodes.holds.held leaf _ stood among refl) ∙ there.same in
+          let same_key = ap bytes (same_leaf P (node_at old) below.0 (nodes-part bytes P (node_at old) top below.0 below.1.nodes).held leaf _ stood among refl) ∙ there.same in
           let taken = taken_pair bytes is.front leaf is.back (leaves below.0) (pairs_ascend bytes below.0 below.1.nodes.under) is.was in
           let gone = rw (same_key, below.2) at taken in
-          (gone.had, leaves-pairs new deleted.new_root (is.front ++ is.back) _ gone.new_is is.left)
+          (gone.had, leaves-pairs new rest deleted.new_root (is.front ++ is.back) _ gone.new_is is.left)
+
+      -- and what stood beside the tree is kept
+      pub taken-keeps : (new : Arena K V) → ((s : Shape K V) → IsTreeBeside bytes P (node_at old) top (links_at old) rest s → IsLeafPlace bytes s slot last → KeepsNodes rest old new) → KeepsNodes rest old new
+      taken-keeps new keeps = keeps below.0 below.1 place
 
       -- or it would make a node smaller
-      pub shrinks-pair : ((s : Shape K V) → IsTree bytes P (node_at old) top (links_at old) s → (leaf : IsLeafPlace bytes s slot last) → Shrinks (λ l. bytes l.key) (leaves s) (bytes leaf.key))
+      pub shrinks-pair : ((s : Shape K V) → IsTreeBeside bytes P (node_at old) top (links_at old) rest s → (leaf : IsLeafPlace bytes s slot last) → Shrinks (λ l. bytes l.key) (leaves s) (bytes leaf.key))
           → HasKey (key_of bytes) key pairs × Shrinks (key_of bytes) pairs key
       shrinks-pair shrinks =
           let smaller = shrinks below.0 below.1 (record { ctx = there.ctx; key = there.leaf_key; value = there.value; place = there.place; steps = there.steps }) in (

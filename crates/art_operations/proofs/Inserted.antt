@@ -1,31 +1,35 @@
 -- The tree that an insertion leaves, from the cells and the links of an arena.
-use Rattle.std.proofs.Common.{◌≡◌, ℕ, List, [], ◌∷◌, ◌++◌, take, Option, Some, None, refl, sym, ap, ap₂, subst, ◌∙◌, inl, inr}
+use Rattle.std.proofs.Common.{◌≡◌, ◌≢◌, ℕ, List, [], ◌∷◌, ◌++◌, take, Option, Some, None, refl, sym, ap, ap₂, subst, ◌∙◌, inl, inr, arith}
 use Rattle.art_bytes.specs.Keys.{BeginsWith}
 use Rattle.art_nodes.specs.Concrete.{inner_name_of}
 use Rattle.art_nodes.specs.declared.concrete.ConcreteInnerNodePtr.{ConcreteInnerNodePtr}
 use Rattle.art_nodes.specs.declared.leaf.LeafNode.{LeafNode}
 use Rattle.art_nodes.specs.Name.{Name}
-use Rattle.art_arena.specs.arena.Arena.{Arena, leaf_held, held_at, node_at, links_at, links_of}
-use Rattle.art_arena.specs.arena.Cells.{pair, leaf_name, AreHeld, Holds, UpdatesAt}
+use Rattle.art_arena.specs.arena.Arena.{Arena, leaf_held, held_at, node_at, links_at, links_of, KeepsNodes}
+use Rattle.art_arena.specs.arena.Cells.{Cell, pair, leaf_name, AreHeld, Holds, UpdatesAt}
 use Rattle.art_arena.specs.arena.Context.{Frame, plug, path_to, root_of, leaves_before, leaves_after, cells_before, cells_after, AreAround}
-use Rattle.art_arena.specs.arena.Linked.{Links, AreLinked}
-use Rattle.art_arena.specs.arena.Meaning.{IsNodes, IsTree}
+use Rattle.art_arena.specs.arena.Linked.{Links, AreLinked, times, KeepsLinksOutside}
+use Rattle.art_arena.specs.arena.Meaning.{IsNodesBeside, IsTreeBeside}
 use Rattle.art_arena.specs.arena.Places.{IsPlace}
 use Rattle.art_arena.specs.arena.Shapes.{Shape, leaf_at, LeafAt, name_of, leaves, cells}
 use Rattle.art_arena.specs.arena.Steps.{Step, steps_to}
+use Rattle.art_arena.proofs.shapes.Besides.{keeps-beside}
 use Rattle.art_arena.proofs.shapes.CellLists.{Holds-write}
-use Rattle.art_arena.proofs.shapes.Contexts.{cells-plug, leaves-plug, name_of-plug}
-use Rattle.art_arena.proofs.shapes.LinkedLists.{AreLinked-left, AreLinked-right, AreLinked-join}
-use Rattle.art_arena.proofs.shapes.Repoint.{IsNodes-plug}
+use Rattle.art_arena.proofs.shapes.Contexts.{leaves-plug, name_of-plug}
+use Rattle.art_arena.proofs.shapes.LinkedLists.{AreLinked-left, AreLinked-right, AreLinked-join, outside-apart, times-append}
+use Rattle.art_arena.proofs.shapes.Meanings.{nodes-part}
+use Rattle.art_arena.proofs.shapes.Repoint.{IsNodesBeside-plug, unplugged}
 use Rattle.art_arena.proofs.shapes.Updates.{nodes-update, links-update}
 use Rattle.std.proofs.lemmas.Bool.Decides.{eqb_tells}
-use Rattle.art_operations.specs.Insertions.{IsInserted}
+use Rattle.art_operations.specs.Insertions.{IsInsertedBeside}
 use Rattle.art_operations.specs.Points.{IsPoint, MeetsAt}
 use Rattle.art_operations.specs.declared.insert.point.InsertPoint.{InsertPoint}
 use Rattle.art_operations.specs.declared.insert.point.InsertKind.TheVariants as kind
 use Rattle.art_operations.specs.declared.insert.result.InsertParentNodeChange.TheVariants.{NewParent, NoChange}
+use Rattle.art_operations.specs.declared.insert.result.InsertParentNodeChange.{InsertParentNodeChange}
 use Rattle.art_arena.specs.arena.Steps.{steps_of}
 use Rattle.art_arena.proofs.shapes.Places.{held-below}
+use Rattle.art_arena.proofs.tree.Order.{all_left}
 use Rattle.art_arena.proofs.shapes.Subtrees.{pair_of, HoldsPair}
 use Rattle.art_operations.proofs.LastSteps.{last_two}
 
@@ -42,18 +46,28 @@ module _ {K V : Type 0} where
       let y : LeafAt K V = record { slot = slot; key = l; value = w } in
       AreLinked-join links None xs (y ∷ ys) None (AreLinked-left links None xs (x ∷ ys) None linked) (AreLinked-right links None xs (x ∷ ys) None linked)
 
+  -- a leaf that is written with the links that it had leaves all links
+  pub kept_links : (old : Arena K V) (leaf : ℕ) (new : Arena K V) (was node : LeafNode K V) → held_at old (leaf_name leaf) ≡ Some (leaf_held was) → UpdatesAt (held_at old) (held_at new) (leaf_name leaf) (Some (leaf_held node))
+      → node.previous ≡ was.previous → node.next ≡ was.next → (n : ℕ) → links_at new n ≡ links_at old n
+  kept_links old leaf new was node there update previous next n =
+      let written = links-update old new leaf (Some (leaf_held node)) update in
+      elim (eqb_tells n leaf) [
+        | inl same ↦ subst (λ m. links_at new m ≡ links_at old m) (sym same.1) (written.changed ∙ ap₂ (λ p q. Some (record { previous = p; next = q })) previous next ∙ sym (ap links_of there))
+        | inr other ↦ written.others n other.1
+      ]
+
 module _ {K V : Type 0} (bytes : K → List ℕ) (P : ℕ) where
   -- a new leaf below an inner node
-  pub inserted_below : (s : Shape K V) (new : Arena K V) (root : Name) (f : Frame K V) (outer : List (Frame K V)) (leaf : ℕ) (key : K) (value : V) (last : List Step) (parent : ConcreteInnerNodePtr)
-      → Holds (node_at new) (cells_before P (f ∷ outer) (leaf_name leaf) ++ (leaf_name leaf, pair key value) ∷ cells_after P (f ∷ outer))
+  pub inserted_below : {rest : List (Name × Cell K V)} (s : Shape K V) (new : Arena K V) (root : Name) (f : Frame K V) (outer : List (Frame K V)) (leaf : ℕ) (key : K) (value : V) (last : List Step) (parent : ConcreteInnerNodePtr)
+      → Holds (node_at new) (cells_before P (f ∷ outer) (leaf_name leaf) ++ (leaf_name leaf, pair key value) ∷ (cells_after P (f ∷ outer) ++ rest))
       → AreAround bytes (f ∷ outer) → BeginsWith (path_to (f ∷ outer)) (bytes key) → root_of outer f.name ≡ root
       → AreLinked (links_at new) None (leaves_before (f ∷ outer) ++ record { slot = leaf; key = key; value = value } ∷ leaves_after (f ∷ outer)) None
       → leaves s ≡ leaves_before (f ∷ outer) ++ leaves_after (f ∷ outer) → inner_name_of parent ≡ f.name → take 2 (steps_to outer) ≡ last
-      → IsInserted bytes P new s last key value (record { leaf_node_ptr = leaf; existing_leaf = None; new_root = root; parent_node_change = NewParent parent f.byte })
-  inserted_below s new root f outer leaf key value last parent holds around under root_is linked leaves_are parent_is steps = record {
+      → IsInsertedBeside bytes P new rest s last key value (record { leaf_node_ptr = leaf; existing_leaf = None; new_root = root; parent_node_change = NewParent parent f.byte })
+  inserted_below {rest} s new root f outer leaf key value last parent holds around under root_is linked leaves_are parent_is steps = record {
     shape = plug (f ∷ outer) (leaf_at leaf key value);
     is_tree = record {
-      nodes = subst (λ r. IsNodes bytes P (node_at new) r (plug (f ∷ outer) (leaf_at leaf key value))) root_is (IsNodes-plug bytes P (node_at new) (f ∷ outer) (leaf_at leaf key value) holds around under);
+      nodes = subst (λ r. IsNodesBeside bytes P (node_at new) r rest (plug (f ∷ outer) (leaf_at leaf key value))) root_is (IsNodesBeside-plug bytes P (node_at new) rest (f ∷ outer) (leaf_at leaf key value) holds around under);
       linked = subst (λ ls. AreLinked (links_at new) None ls None) (sym (leaves-plug (f ∷ outer) (leaf_at leaf key value))) linked;
     };
     stored = (leaves_before (f ∷ outer), leaves_after (f ∷ outer), leaves_are, leaves-plug (f ∷ outer) (leaf_at leaf key value));
@@ -67,6 +81,27 @@ module _ {K V : Type 0} (bytes : K → List ℕ) (P : ℕ) where
           ∙ ap (λ n. take 2 (record { node = n; byte = f.byte } ∷ last)) (sym parent_is);
     };
   }
+
+  -- where the leaves of the new tree alone change their links, what stands beside it is kept
+  pub inserted_keeps : {rest : List (Name × Cell K V)} (old new : Arena K V) (root top : Name) (s t : Shape K V) → IsTreeBeside bytes P (node_at old) root (links_at old) rest s → IsTreeBeside bytes P (node_at new) top (links_at new) rest t
+      → KeepsLinksOutside (links_at old) (links_at new) (leaves t) → KeepsNodes rest old new
+  inserted_keeps {rest} old new root top s t before after links =
+      let held = λ (at : Name → Option (Cell K V)) (u : Shape K V) (h : AreHeld at (rest ++ cells P u)). all_left (λ (c : Name × Cell K V). at c.0 ≡ Some c.1) rest (cells P u) h in
+      keeps-beside bytes P old new (node_at new) rest t (held (node_at old) s before.nodes.holds.held) (held (node_at new) t after.nodes.holds.held) after.nodes.holds after.nodes.under links
+
+  -- so it is where a leaf was stored, then linked in, and then put in its place
+  pub put_keeps : {rest : List (Name × Cell K V)} (old stored linked new : Arena K V) (root top : Name) (s : Shape K V) (last : List Step) (slot : ℕ) (key : K) (value : V) (change : InsertParentNodeChange) (xs ys : List (LeafAt K V))
+      → IsTreeBeside bytes P (node_at old) root (links_at old) rest s → IsInsertedBeside bytes P new rest s last key value (record { leaf_node_ptr = slot; existing_leaf = None; new_root = top; parent_node_change = change }) → leaves s ≡ xs ++ ys
+      → ((n : ℕ) → n ≢ slot → links_at stored n ≡ links_at old n) → KeepsLinksOutside (links_at stored) (links_at linked) (xs ++ record { slot = slot; key = key; value = value } ∷ ys) → ((n : ℕ) → links_at new n ≡ links_at linked n) → KeepsNodes rest old new
+  put_keeps old stored linked new root top s last slot key value change xs ys tree is were first second third =
+      let l : LeafAt K V = record { slot = slot; key = key; value = value } in
+      inserted_keeps old new root top s is.shape tree is.is_tree (λ n none.
+      let all : times n (is.stored.0 ++ l ∷ is.stored.1) ≡ 0 = subst (λ ls. times n ls ≡ 0) is.stored.3 none in
+      let same : times n (is.stored.0 ++ is.stored.1) ≡ times n (xs ++ ys) = ap (times n) (sym is.stored.2 ∙ were) in
+      let parts = times-append n xs ys in
+      let parts_of_new = times-append n is.stored.0 is.stored.1 in
+      let absent : times n (xs ++ l ∷ ys) ≡ 0 = omega (arith, all, same, parts, parts_of_new, times-append n xs (l ∷ ys), times-append n is.stored.0 (l ∷ is.stored.1)) in
+      third n ∙ second n absent ∙ first n (outside-apart n xs l ys absent))
 
   -- the place of a leaf that has the key
   pub record IsExactPlace (key : List ℕ) (s : Shape K V) (leaf : ℕ) (last : List Step) : Type 0 where
@@ -89,10 +124,10 @@ module _ {K V : Type 0} (bytes : K → List ℕ) (P : ℕ) where
         same = meets.3;
       }
 
-  module _ (old : Arena K V) (root : Name) (s : Shape K V) (tree : IsTree bytes P (node_at old) root (links_at old) s) (leaf : ℕ) where
+  module _ {rest : List (Name × Cell K V)} (old : Arena K V) (root : Name) (s : Shape K V) (tree : IsTreeBeside bytes P (node_at old) root (links_at old) rest s) (leaf : ℕ) where
     pub exact_there : (key : List ℕ) (last : List Step) (at : IsExactPlace key s leaf last) → HoldsPair (held_at old (leaf_name leaf)) at.k at.v
     exact_there key last at =
-        pair_of (held_at old (leaf_name leaf)) at.k at.v (held-below P (node_at old) at.ctx (leaf_at leaf at.k at.v) (subst (λ t. AreHeld (node_at old) (cells P t)) at.place.is tree.nodes.holds.held)).0
+        pair_of (held_at old (leaf_name leaf)) at.k at.v (held-below P (node_at old) at.ctx (leaf_at leaf at.k at.v) (subst (λ t. AreHeld (node_at old) (cells P t)) at.place.is (nodes-part bytes P (node_at old) root s tree.nodes).held)).0
 
     -- a leaf without its links
     abbrev pub lone : LeafNode K V → LeafNode K V
@@ -101,13 +136,13 @@ module _ {K V : Type 0} (bytes : K → List ℕ) (P : ℕ) where
     -- a leaf that takes another key of the same bytes, and another value
     pub replaced : (new : Arena K V) (key : K) (value : V) (last : List Step) (at : IsExactPlace (bytes key) s leaf last) (was node : LeafNode K V) → held_at old (leaf_name leaf) ≡ Some (leaf_held was)
         → UpdatesAt (held_at old) (held_at new) (leaf_name leaf) (Some (leaf_held node)) → node.key ≡ key → node.value ≡ value → node.previous ≡ was.previous → node.next ≡ was.next
-        → IsInserted bytes P new s last key value (record { leaf_node_ptr = leaf; existing_leaf = Some (lone was); new_root = root; parent_node_change = NoChange })
+        → IsInsertedBeside bytes P new rest s last key value (record { leaf_node_ptr = leaf; existing_leaf = Some (lone was); new_root = root; parent_node_change = NoChange })
     replaced new key value last at was node there update key_is value_is previous next = record {
       shape = plug at.ctx (leaf_at leaf key value);
       is_tree = record {
-        nodes = subst (λ r. IsNodes bytes P (node_at new) r (plug at.ctx (leaf_at leaf key value))) named (IsNodes-plug bytes P (node_at new) at.ctx (leaf_at leaf key value) holds at.place.around under);
+        nodes = subst (λ r. IsNodesBeside bytes P (node_at new) r rest (plug at.ctx (leaf_at leaf key value))) named (IsNodesBeside-plug bytes P (node_at new) rest at.ctx (leaf_at leaf key value) holds at.place.around under);
         linked = subst (λ ls. AreLinked (links_at new) None ls None) (sym (leaves-plug at.ctx (leaf_at leaf key value)))
-            (AreLinked-pair (links_at new) (leaves_before at.ctx) (leaves_after at.ctx) leaf at.k key at.v value (AreLinked-same (links_at old) (links_at new) same_links None _ None
+            (AreLinked-pair (links_at new) (leaves_before at.ctx) (leaves_after at.ctx) leaf at.k key at.v value (AreLinked-same (links_at old) (links_at new) (kept_links old leaf new was node there update previous next) None _ None
             (subst (λ ls. AreLinked (links_at old) None ls None) were tree.linked)));
       };
       stored = (ap bytes same_key ∙ at.same, (leaves_before at.ctx, leaves_after at.ctx, were ∙ ap (λ p. leaves_before at.ctx ++ p ∷ leaves_after at.ctx) same_leaf, leaves-plug at.ctx (leaf_at leaf key value)), refl, refl);
@@ -139,15 +174,6 @@ module _ {K V : Type 0} (bytes : K → List ℕ) (P : ℕ) where
         cell = subst (λ k. UpdatesAt (node_at old) (node_at new) (leaf_name leaf) (Some (pair k value))) key_is
             (subst (λ v. UpdatesAt (node_at old) (node_at new) (leaf_name leaf) (Some (pair node.key v))) value_is (nodes-update old new (leaf_name leaf) (Some (leaf_held node)) update))
 
-        holds : Holds (node_at new) (cells_before P at.ctx (leaf_name leaf) ++ (leaf_name leaf, pair key value) ∷ cells_after P at.ctx)
-        holds = Holds-write (node_at old) (node_at new) (leaf_name leaf) (pair at.k at.v) (pair key value) (cells_before P at.ctx (leaf_name leaf)) (cells_after P at.ctx) cell
-            (subst (Holds (node_at old)) (ap (cells P) at.place.is ∙ cells-plug P at.ctx (leaf_at leaf at.k at.v)) tree.nodes.holds)
-
-        written : UpdatesAt (links_at old) (links_at new) leaf (Some (record { previous = node.previous; next = node.next }))
-        written = links-update old new leaf (Some (leaf_held node)) update
-
-        same_links : (n : ℕ) → links_at new n ≡ links_at old n
-        same_links n = elim (eqb_tells n leaf) [
-          | inl same ↦ subst (λ m. links_at new m ≡ links_at old m) (sym same.1) (written.changed ∙ ap₂ (λ p q. Some (record { previous = p; next = q })) previous next ∙ sym (ap links_of there))
-          | inr other ↦ written.others n other.1
-        ]
+        holds : Holds (node_at new) (cells_before P at.ctx (leaf_name leaf) ++ (leaf_name leaf, pair key value) ∷ (cells_after P at.ctx ++ rest))
+        holds = Holds-write (node_at old) (node_at new) (leaf_name leaf) (pair at.k at.v) (pair key value) (cells_before P at.ctx (leaf_name leaf)) (cells_after P at.ctx ++ rest) cell
+            (unplugged P (node_at old) rest at.ctx (leaf_at leaf at.k at.v) (subst (λ t. Holds (node_at old) (rest ++ cells P t)) at.place.is tree.nodes.holds))

@@ -6,20 +6,20 @@ use Rattle.art_nodes.specs.Name.{Name}
 use Rattle.art_nodes.specs.Concrete.{inner_name_of}
 use Rattle.art_nodes.specs.declared.concrete.ConcreteInnerNodePtr.{ConcreteInnerNodePtr}
 use Rattle.art_arena.specs.arena.Arena.{Arena, cell_of, node_at, links_at, Allocates}
-use Rattle.art_arena.specs.arena.Cells.{pair, branches, leaf_name, Holds}
+use Rattle.art_arena.specs.arena.Cells.{Cell, pair, branches, leaf_name, Holds}
 use Rattle.art_arena.specs.arena.Context.{Frame, plug, path_to, leaves_before, leaves_after, cells_before, cells_after}
 use Rattle.art_arena.specs.tree.Kinds.{IsKindOf}
 use Rattle.art_arena.specs.arena.Linked.{IsBeside}
-use Rattle.art_arena.specs.arena.Meaning.{IsTree}
+use Rattle.art_arena.specs.arena.Meaning.{IsTreeBeside}
 use Rattle.art_arena.specs.arena.Shapes.{Shape, Branches, inner_at, leaf_at, LeafAt, name_of, children_at, join, width, leaves, leaves_in, cells, cells_in, IsUnder}
 use Rattle.art_arena.specs.arena.Steps.{steps_to, steps_of}
-use Rattle.art_arena.proofs.shapes.CellLists.{Holds-add}
+use Rattle.art_arena.proofs.shapes.CellLists.{Holds-add, Holds-swap}
 use Rattle.art_arena.proofs.shapes.Contexts.{leaves_in-join, cells_in-join, width-join, leaves-plug, cells-plug, name_of-plug}
 use Rattle.art_arena.proofs.shapes.Openings.{opening}
 use Rattle.art_arena.proofs.shapes.Surroundings.{new-beside}
 use Rattle.art_arena.proofs.shapes.Updates.{nodes-update, links-update}
 use Rattle.art_operations.specs.inner.Edits.{lone_leaf}
-use Rattle.art_operations.specs.Insertions.{IsInserted}
+use Rattle.art_operations.specs.Insertions.{IsInsertedBeside}
 use Rattle.art_operations.specs.Points.{IsPoint, MeetsAt}
 use Rattle.art_operations.specs.declared.insert.point.InsertPoint.{InsertPoint}
 use Rattle.art_operations.specs.declared.insert.point.InsertKind.TheVariants.{IntoExisting}
@@ -36,22 +36,22 @@ module _ {K V : Type 0} (bytes : K → List ℕ) (P : ℕ) (s : Shape K V) (poin
   new_leaf = record { slot = slot; key = key; value = value }
 
   -- the leaf waits beside the tree for the place that the point names
-  pub record Starts (arena : Arena K V) : Type 0 where
+  pub record Starts (arena : Arena K V) (rest : List (Name × Cell K V)) : Type 0 where
     pub frame : Frame K V
     pub outer : List (Frame K V)
-    pub awaits : AwaitsLeaf bytes P arena point.root inner byte slot frame outer new_leaf
+    pub awaits : AwaitsLeaf bytes P arena rest point.root inner byte slot frame outer new_leaf
     pub path : take 2 (steps_to outer) ≡ steps_of point.path
     pub kind : IsKindOf inner.kind (width frame.before + width frame.after)
     pub was : leaves s ≡ leaves_before (frame ∷ outer) ++ leaves_after (frame ∷ outer)
 
-  pub starts : (old new : Arena K V) → IsTree bytes P (node_at old) point.root (links_at old) s → IsPoint bytes (bytes key) s point → point.insert_kind ≡ IntoExisting inner byte
-      → Allocates old new (leaf_name slot) (lone_leaf key value) → Starts new
-  starts old new tree at is_kind allocates = there meets.0 meets.1 meets.2 meets.3 meets.4
+  pub starts : {rest : List (Name × Cell K V)} (old new : Arena K V) → IsTreeBeside bytes P (node_at old) point.root (links_at old) rest s → IsPoint bytes (bytes key) s point → point.insert_kind ≡ IntoExisting inner byte
+      → Allocates old new (leaf_name slot) (lone_leaf key value) → Starts new rest
+  starts {rest} old new tree at is_kind allocates = there meets.0 meets.1 meets.2 meets.3 meets.4
     where
       meets : MeetsAt bytes (bytes key) (path_to at.ctx) at.part (IntoExisting inner byte)
       meets = subst (MeetsAt bytes (bytes key) (path_to at.ctx) at.part) is_kind at.meets
 
-      there : (prefix : List ℕ) (kids : Branches K V) → at.part ≡ inner_at inner prefix kids → child_at (children_at kids) byte ≡ None → BeginsWith ((path_to at.ctx ++ prefix) ++ byte ∷ []) (bytes key) → Starts new
+      there : (prefix : List ℕ) (kids : Branches K V) → at.part ≡ inner_at inner prefix kids → child_at (children_at kids) byte ≡ None → BeginsWith ((path_to at.ctx ++ prefix) ++ byte ∷ []) (bytes key) → Starts new rest
       there prefix kids is missing begins =
           let ctx = at.ctx in
           let under = subst (IsUnder bytes (path_to ctx)) is at.toward.place.under in
@@ -67,8 +67,9 @@ module _ {K V : Type 0} (bytes : K → List ℕ) (P : ℕ) (s : Shape K V) (poin
           let cells_are : cells P s ≡ (cells_before P ctx inner ++ ((inner, branches (open_node P f)) ∷ cells_in P o.before)) ++ cells_after P (f ∷ ctx) =
           ap (cells P) whole ∙ cells-plug P ctx node ∙ ap (λ xs. cells_before P ctx inner ++ ((inner, branches (open_node P f)) ∷ (xs ++ cells_after P ctx))) (cells_in-join P o.before o.after)
           ∙ regroup_front (cells_before P ctx inner) (cells_in P o.before) (cells_in P o.after) (cells_after P ctx) _ in
-          let added = Holds-add (node_at old) (node_at new) (leaf_name slot) (pair key value) (cells_before P ctx inner ++ ((inner, branches (open_node P f)) ∷ cells_in P o.before)) (cells_after P (f ∷ ctx))
-          (nodes-update old new (leaf_name slot) _ allocates.updates) (ap cell_of allocates.vacant) (subst (Holds (node_at old)) cells_are tree.nodes.holds) in
+          let added = Holds-add (node_at old) (node_at new) (leaf_name slot) (pair key value) (cells_before P ctx inner ++ ((inner, branches (open_node P f)) ∷ cells_in P o.before)) (cells_after P (f ∷ ctx) ++ rest)
+          (nodes-update old new (leaf_name slot) _ allocates.updates) (ap cell_of allocates.vacant)
+          (subst (Holds (node_at old)) (ap (λ cs. cs ++ rest) cells_are ∙ append_assoc (cells_before P ctx inner ++ ((inner, branches (open_node P f)) ∷ cells_in P o.before)) (cells_after P (f ∷ ctx)) rest) (Holds-swap (node_at old) rest (cells P s) tree.nodes.holds)) in
           record {
             frame = f;
             outer = ctx;
@@ -77,7 +78,7 @@ module _ {K V : Type 0} (bytes : K → List ℕ) (P : ℕ) (s : Shape K V) (poin
               node_is = refl;
               byte_is = refl;
               leaf_is = refl;
-              holds = subst (Holds (node_at new)) (append_assoc (cells_before P ctx inner) ((inner, branches (open_node P f)) ∷ cells_in P o.before) ((leaf_name slot, pair key value) ∷ cells_after P (f ∷ ctx))) added;
+              holds = subst (Holds (node_at new)) (append_assoc (cells_before P ctx inner) ((inner, branches (open_node P f)) ∷ cells_in P o.before) ((leaf_name slot, pair key value) ∷ (cells_after P (f ∷ ctx) ++ rest))) added;
               beside = subst (λ ls. IsBeside (links_at new) ls slot) was
                   (new-beside bytes P (node_at old) point.root (links_at old) (links_at new) s slot _ tree (ap cell_of allocates.vacant) (links-update old new slot _ allocates.updates));
               around = at.toward.place.around;
@@ -93,11 +94,11 @@ module _ {K V : Type 0} (bytes : K → List ℕ) (P : ℕ) (s : Shape K V) (poin
           }
 
   -- the tree with the leaf in its place, under this node, is what an insertion leaves
-  pub inserted : (arena final : Arena K V) (root node : Name) (f : Frame K V) (outer : List (Frame K V)) (parent : ConcreteInnerNodePtr)
-      → AwaitsLeaf bytes P arena root node byte slot f outer new_leaf → IsKindOf node.kind (suc (width f.before + width f.after)) → take 2 (steps_to outer) ≡ steps_of point.path
+  pub inserted : {rest : List (Name × Cell K V)} (arena final : Arena K V) (root node : Name) (f : Frame K V) (outer : List (Frame K V)) (parent : ConcreteInnerNodePtr)
+      → AwaitsLeaf bytes P arena rest root node byte slot f outer new_leaf → IsKindOf node.kind (suc (width f.before + width f.after)) → take 2 (steps_to outer) ≡ steps_of point.path
       → leaves s ≡ leaves_before (f ∷ outer) ++ leaves_after (f ∷ outer) → inner_name_of parent ≡ node
-      → IsTree bytes P (node_at final) root (links_at final) (plug (f ∷ outer) (leaf_at slot key value))
-      → IsInserted bytes P final s (steps_of point.path) key value (record { leaf_node_ptr = slot; existing_leaf = None; new_root = root; parent_node_change = NewParent parent byte })
+      → IsTreeBeside bytes P (node_at final) root (links_at final) rest (plug (f ∷ outer) (leaf_at slot key value))
+      → IsInsertedBeside bytes P final rest s (steps_of point.path) key value (record { leaf_node_ptr = slot; existing_leaf = None; new_root = root; parent_node_change = NewParent parent byte })
   inserted arena final root node f outer parent awaits kind path was is_parent tree = record {
     shape = plug (f ∷ outer) (leaf_at slot key value);
     is_tree = tree;

@@ -4,18 +4,17 @@ use Rattle.art_nodes.specs.Name.{Name}
 use Rattle.art_nodes.specs.InnerNode.{InnerNode, with_child, without_child, with_children}
 use Rattle.art_nodes.specs.declared.kind.NodeType.TheVariants.{Leaf}
 use Rattle.art_arena.specs.arena.Arena.{Arena, inner_held, held_at, links_of, links_at, node_at}
-use Rattle.art_arena.specs.arena.Cells.{leaf_name}
+use Rattle.art_arena.specs.arena.Cells.{Cell, leaf_name}
 use Rattle.art_arena.specs.arena.Context.{Frame}
 use Rattle.art_arena.specs.arena.Meaning.{IsSubtree}
 use Rattle.art_arena.specs.arena.Shapes.{Shape, Branches, leaf_at, inner_at, no_branch, branch, LeafAt, children_at, join, width}
-use Rattle.art_arena.proofs.shapes.Contexts.{children_at-join, cells-plug}
+use Rattle.art_arena.proofs.shapes.Contexts.{children_at-join}
 use Rattle.art_arena.proofs.shapes.Openings.{with_child-opening, without_child-frame}
-use Rattle.art_arena.proofs.shapes.Repoint.{frame_node, frame-there}
+use Rattle.art_arena.proofs.shapes.Repoint.{frame_node, frame-there, unplugged}
 use Rattle.art_arena.proofs.shapes.Subtrees.{inner_of}
 use Rattle.art_operations.specs.inner.Detached.{IsHeldAt}
 use Rattle.art_operations.specs.inner.Removals.{Moves, PutsBack, Lengthens}
 use Rattle.art_operations.proofs.Lengthened.{kind_not_leaf, others_kept}
-use Rattle.art_arena.specs.arena.Cells.{Holds}
 
 module _ {K V : Type 0} where
   -- a node has as many children as branches
@@ -37,7 +36,7 @@ module _ {K V : Type 0} (bytes : K → List ℕ) (P : ℕ) where
       let other = λ (e : child.kind ≡ Leaf). kind_not_leaf n (width kids) sub.under.0 (ap (λ (n : Name). n.kind) sub.part.named ∙ e) in
       ap links_of (others_kept bytes P old new above byte child path (inner_at n prefix kids) sub lengthens (leaf_name slot) (λ e. other (sym (ap (λ (n : Name). n.kind) e))))
 
-  module _ (arena : Arena K V) (f : Frame K V) (outer : List (Frame K V)) (leaf : LeafAt K V) (at : IsHeldAt bytes P arena (f ∷ outer) leaf) where
+  module _ {rest : List (Name × Cell K V)} (arena : Arena K V) (f : Frame K V) (outer : List (Frame K V)) (leaf : LeafAt K V) (at : IsHeldAt bytes P arena rest (f ∷ outer) leaf) where
     -- the node above the leaf
     abbrev pub above : InnerNode
     above = frame_node P f (leaf_name leaf.slot)
@@ -45,7 +44,7 @@ module _ {K V : Type 0} (bytes : K → List ℕ) (P : ℕ) where
     -- the arena has it there
     pub above_there : held_at arena f.name ≡ Some (inner_held above)
     above_there =
-        inner_of (held_at arena f.name) above (frame-there P f outer (leaf_name leaf.slot) _ at.around.2 (node_at arena) (subst (Holds (node_at arena)) (cells-plug P (f ∷ outer) (leaf_at leaf.slot leaf.key leaf.value)) at.holds))
+        inner_of (held_at arena f.name) above (frame-there P f outer (leaf_name leaf.slot) _ at.around.2 (node_at arena) (unplugged P (node_at arena) rest (f ∷ outer) (leaf_at leaf.slot leaf.key leaf.value) at.holds))
 
     others_are : without_child above.children f.byte ≡ children_at (join f.before f.after)
     others_are = without_child-frame bytes f.byte (leaf_name leaf.slot) f.before (children_at f.after) at.around.2 ∙ sym (children_at-join f.before f.after)

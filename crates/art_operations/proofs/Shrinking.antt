@@ -5,11 +5,12 @@ use Rattle.std.specs.Prelude.{Option, nat_eq}
 use Rattle.std.proofs.lemmas.Bool.Decides.{eqb_tells}
 use Rattle.art_nodes.specs.Name.{Name}
 use Rattle.art_arena.specs.arena.Arena.{Arena, node_at}
+use Rattle.art_arena.specs.arena.Cells.{Cell}
 use Rattle.art_arena.specs.tree.Changes.{IsIn}
 use Rattle.art_arena.specs.arena.Context.{Frame, fill, plug, path_to, leaves_before, leaves_after, AreBelow, AreAround}
 use Rattle.art_arena.specs.tree.Fronts.{byte_after, width_of, distinct}
 use Rattle.art_arena.specs.tree.Kinds.{ChangesKind}
-use Rattle.art_arena.specs.arena.Meaning.{IsNodes}
+use Rattle.art_arena.specs.arena.Meaning.{IsNodesBeside}
 use Rattle.art_arena.specs.arena.Shapes.{Shape, Branches, leaf_at, no_branch, branch, join, leaves, width, erase, erase_in, key_of, IsUnder}
 use Rattle.art_arena.specs.tree.Shrinks.{Shrinks}
 use Rattle.art_arena.specs.arena.Steps.{Step}
@@ -87,8 +88,8 @@ module _ {K V : Type 0} (bytes : K → List ℕ) where
           width (width_of (key_of bytes) (items (erase s))) 0 (widths (key_of bytes) (items (erase s)) [] (erase s) canonical (λ front i. refl)) ∙ counted 0 in
           (shrinks_is_kind_change (K × V) (key_of bytes) (items (erase s)) (key_of bytes k) m meeting).1 (subst ChangesKind (sym wide) changes)
 
-module _ {K V : Type 0} (bytes : K → List ℕ) (P : ℕ) (arena : Arena K V) (root : Name) (s : Shape K V) (slot : ℕ) (last : List Step) (step : Step) (more : List Step) (some : last ≡ step ∷ more) (parent : Name) (node : step.node ≡ parent)
-    (nodes : IsNodes bytes P (node_at arena) root s) (place : IsLeafPlace bytes s slot last) where
+module _ {K V : Type 0} (bytes : K → List ℕ) (P : ℕ) {rest : List (Name × Cell K V)} (arena : Arena K V) (root : Name) (s : Shape K V) (slot : ℕ) (last : List Step) (step : Step) (more : List Step) (some : last ≡ step ∷ more) (parent : Name) (node : step.node ≡ parent)
+    (nodes : IsNodesBeside bytes P (node_at arena) root rest s) (place : IsLeafPlace bytes s slot last) where
   pub place_shrinks : ChangesKind (suc (width (the_parent bytes P arena root s slot last step more some parent node nodes place).frame.before + width (the_parent bytes P arena root s slot last step more some parent node nodes place).frame.after))
       → Shrinks (λ l. bytes l.key) (leaves s) (bytes place.key)
   place_shrinks changes =

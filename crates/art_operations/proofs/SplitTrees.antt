@@ -9,19 +9,20 @@ use Rattle.art_arena.specs.arena.Arena.{Arena, inner_held, cell_of, held_at, nod
 use Rattle.art_arena.specs.arena.Cells.{Cell, pair, branches, leaf_name, copies, AreHeld, Holds, UpdatesAt}
 use Rattle.art_arena.specs.arena.Context.{Frame, path_to, root_of, frame_cell, leaves_before, leaves_after, cells_before, cells_after, AreAround}
 use Rattle.art_arena.specs.arena.Linked.{AreLinked, IsBeside}
-use Rattle.art_arena.specs.arena.Meaning.{IsAtDepth, IsSubtree, IsTree}
+use Rattle.art_arena.specs.arena.Meaning.{IsAtDepth, IsSubtree, IsTreeBeside}
 use Rattle.art_arena.specs.arena.Shapes.{Shape, no_branch, branch, name_of, leaves, cells, node_of}
 use Rattle.art_arena.specs.arena.Steps.{Step}
-use Rattle.art_arena.proofs.tree.Order.{all_append, all_left, all_right}
-use Rattle.art_arena.proofs.shapes.CellLists.{copies-append, Holds-add, Holds-write, Holds-same}
+use Rattle.art_arena.proofs.tree.Order.{all_right}
+use Rattle.art_arena.proofs.shapes.CellLists.{copies-append, Holds-add, Holds-write, Holds-same, Holds-turn}
 use Rattle.art_arena.proofs.shapes.Contexts.{cells-plug, leaves-plug, name_of-plug}
 use Rattle.art_arena.proofs.shapes.Meanings.{nodes-part}
 use Rattle.art_arena.proofs.shapes.Places.{held-below}
+use Rattle.art_arena.proofs.shapes.Repoint.{unplugged}
 use Rattle.art_arena.proofs.shapes.Surroundings.{new-beside}
 use Rattle.art_arena.proofs.shapes.Updates.{nodes-update, links-update, links-kept}
 use Rattle.art_operations.specs.inner.Edits.{StandsAround, lone_leaf, AllocatesBoth}
 use Rattle.art_operations.specs.inner.Splits.{trimmed, root_cell, IsEnd, IsBetween, split_node}
-use Rattle.art_operations.specs.Insertions.{IsInserted}
+use Rattle.art_operations.specs.Insertions.{IsInsertedBeside}
 use Rattle.art_operations.specs.declared.insert.result.InsertParentNodeChange.TheVariants.{NewParent}
 use Rattle.art_operations.specs.declared.meeting.Parted.{Parted}
 use Rattle.art_operations.proofs.Splits.{SplitPlace, below_root, cells-root, below-trimmed, name_of-trimmed, leaves-trimmed, held_there}
@@ -46,25 +47,10 @@ split_children false a b x y order differs = elim (leb_tells (suc a) b) [
   | inr more ↦ absurd (let same : a ≡ b = omega (arith, more.1, after_is b a order) in differs same)
 ]
 
--- cells may stand in another order
-Holds-turn : {C : Type 0} (at : Name → Option C) (xs ys zs ws : List (Name × C)) → Holds at (xs ++ (ys ++ (zs ++ ws))) → Holds at (xs ++ (zs ++ (ys ++ ws)))
-Holds-turn {C} at xs ys zs ws holds =
-    let Q = λ (c : Name × C). at c.0 ≡ Some c.1 in
-    let behind_xs = all_right Q xs (ys ++ (zs ++ ws)) holds.held in
-    let behind_ys = all_right Q ys (zs ++ ws) behind_xs in
-    record {
-      held = all_append Q xs (zs ++ (ys ++ ws)) (all_left Q xs (ys ++ (zs ++ ws)) holds.held)
-          (all_append Q zs (ys ++ ws) (all_left Q zs ws behind_ys) (all_append Q ys ws (all_left Q ys (zs ++ ws) behind_xs) (all_right Q zs ws behind_ys)));
-      once = λ n.
-          let same : copies n (xs ++ (zs ++ (ys ++ ws))) ≡ copies n (xs ++ (ys ++ (zs ++ ws))) =
-          omega (arith, copies-append n xs (zs ++ (ys ++ ws)), copies-append n zs (ys ++ ws), copies-append n ys ws, copies-append n xs (ys ++ (zs ++ ws)), copies-append n ys (zs ++ ws), copies-append n zs ws) in
-          same ∙ holds.once n;
-    }
-
 abbrev pub split_name : ℕ → Name
 split_name slot = record { kind = Node4; slot = slot }
 
-not_leaf : (slot : ℕ) → (split_name slot).kind ≢ Leaf
+pub not_leaf : (slot : ℕ) → (split_name slot).kind ≢ Leaf
 not_leaf slot e = cc
 
 module _ {K V : Type 0} (bytes : K → List ℕ) (P : ℕ) (s : Shape K V) (old : Name) (parted : Parted) (depth : ℕ) (last : List Step) (key : K) (value : V) (at : SplitPlace bytes (bytes key) s old parted depth last) where
@@ -107,31 +93,31 @@ module _ {K V : Type 0} (bytes : K → List ℕ) (P : ℕ) (s : Shape K V) (old 
       let same = leaves-trimmed (parted.matched + 1) at.part in
       last_of (leaves_before at.ctx) (leaves lower ++ []) neighbour (subst (IsEnd false neighbour) (sym (append-nil (leaves lower))) (subst (IsEnd false neighbour) (sym same) end))
 
-  module _ (root : Name) (start : Arena K V) (tree : IsTree bytes P (node_at start) root (links_at start) s) where
+  module _ {rest : List (Name × Cell K V)} (root : Name) (start : Arena K V) (tree : IsTreeBeside bytes P (node_at start) root (links_at start) rest s) where
     abbrev left : List (Name × Cell K V)
     left = cells_before P at.ctx old
 
     abbrev right : List (Name × Cell K V)
-    right = cells_after P at.ctx
+    right = cells_after P at.ctx ++ rest
 
     abbrev below : List (Name × Cell K V)
     below = below_root P at.part
 
-    cells_are : cells P s ≡ left ++ (((old, root_cell P at.part) ∷ below) ++ right)
-    cells_are =
-        ap (cells P) at.place.is ∙ cells-plug P at.ctx at.part
-        ∙ ap₂ (λ n c. cells_before P at.ctx n ++ (c ++ right)) at.named (cells-root P at.part ∙ ap (λ n. (n, root_cell P at.part) ∷ below) at.named)
+    holds_start : Holds (node_at start) (left ++ (((old, root_cell P at.part) ∷ below) ++ right))
+    holds_start =
+        subst (Holds (node_at start)) (ap₂ (λ n c. cells_before P at.ctx n ++ (c ++ right)) at.named (cells-root P at.part ∙ ap (λ n. (n, root_cell P at.part) ∷ below) at.named))
+        (unplugged P (node_at start) rest at.ctx at.part (subst (λ w. Holds (node_at start) (rest ++ cells P w)) at.place.is tree.nodes.holds))
 
     -- the part is a tree of its own
     pub part_subtree : IsSubtree bytes P (node_at start) old (path_to at.ctx) at.part
     part_subtree = record {
       part = record {
         named = at.named;
-        held = held-below P (node_at start) at.ctx at.part (subst (λ w. AreHeld (node_at start) (cells P w)) at.place.is tree.nodes.holds.held);
+        held = held-below P (node_at start) at.ctx at.part (subst (λ w. AreHeld (node_at start) (cells P w)) at.place.is (nodes-part bytes P (node_at start) root s tree.nodes).held);
         once = λ n.
             let whole = (nodes-part bytes P (node_at start) root s tree.nodes).once n in
-            let counted = ap (copies n) (ap (cells P) at.place.is ∙ cells-plug P at.ctx at.part) ∙ copies-append n (cells_before P at.ctx (name_of at.part)) (cells P at.part ++ right) in
-            omega (arith, whole, counted, copies-append n (cells P at.part) right);
+            let counted = ap (copies n) (ap (cells P) at.place.is ∙ cells-plug P at.ctx at.part) ∙ copies-append n (cells_before P at.ctx (name_of at.part)) (cells P at.part ++ cells_after P at.ctx) in
+            omega (arith, whole, counted, copies-append n (cells P at.part) (cells_after P at.ctx));
       };
       under = at.place.under;
     }
@@ -170,13 +156,14 @@ module _ {K V : Type 0} (bytes : K → List ℕ) (P : ℕ) (s : Shape K V) (old 
 
       -- the same cells as those around the new leaf
       placed : (is_before : Bool) → is_before ≡ ltb parted.new_byte parted.old_byte → (map : Name → Option (Cell K V)) → Holds map (cells_before P at.ctx (split_name slot) ++ split_cells)
-          → Holds map (cells_before P (split_frame is_before slot ∷ at.ctx) (leaf_name leaf) ++ leaf_cell ∷ cells_after P (split_frame is_before slot ∷ at.ctx))
+          → Holds map (cells_before P (split_frame is_before slot ∷ at.ctx) (leaf_name leaf) ++ leaf_cell ∷ (cells_after P (split_frame is_before slot ∷ at.ctx) ++ rest))
       placed true order map holds =
           let xs = cells_before P at.ctx (split_name slot) in
           let here : Holds map ((xs ++ split_cell ∷ []) ++ (cells P lower ++ ((leaf_cell ∷ []) ++ right))) =
           subst (Holds map) (ap (λ cs. xs ++ split_cell ∷ (cs ++ leaf_cell ∷ right)) (sym lower_cells) ∙ sym (append_assoc xs (split_cell ∷ []) (cells P lower ++ ((leaf_cell ∷ []) ++ right)))) holds in
           let turned = Holds-turn map (xs ++ split_cell ∷ []) (cells P lower) (leaf_cell ∷ []) right here in
-          subst (Holds map) (ap₂ (λ c cs. (xs ++ c ∷ []) ++ leaf_cell ∷ (cs ++ right)) (sym (frame_cell_is true order)) (sym (append-nil (cells P lower)))) turned
+          subst (Holds map) (ap₂ (λ c cs. (xs ++ c ∷ []) ++ leaf_cell ∷ (cs ++ right)) (sym (frame_cell_is true order)) (sym (append-nil (cells P lower)))
+          ∙ ap (λ zs. (xs ++ frame_cell P (split_frame true slot) (leaf_name leaf) ∷ []) ++ leaf_cell ∷ zs) (sym (append_assoc (cells P lower ++ []) (cells_after P at.ctx) rest))) turned
       placed false order map holds =
           let xs = cells_before P at.ctx (split_name slot) in
           let moved : xs ++ split_cell ∷ (cells P lower ++ leaf_cell ∷ right) ≡ (xs ++ split_cell ∷ cells P lower) ++ leaf_cell ∷ right = sym (append_assoc xs (split_cell ∷ cells P lower) (leaf_cell ∷ right)) in
@@ -187,7 +174,7 @@ module _ {K V : Type 0} (bytes : K → List ℕ) (P : ℕ) (s : Shape K V) (old 
         holds_made : Holds (node_at made) (left ++ split_cell ∷ ((old, root_cell P at.part) ∷ (below ++ leaf_cell ∷ right)))
         holds_made =
             let part = (old, root_cell P at.part) ∷ below in
-            let was : Holds (node_at start) ((left ++ part) ++ right) = subst (Holds (node_at start)) (cells_are ∙ sym (append_assoc left part right)) tree.nodes.holds in
+            let was : Holds (node_at start) ((left ++ part) ++ right) = subst (Holds (node_at start)) (sym (append_assoc left part right)) holds_start in
             let with_leaf = Holds-add (node_at start) (node_at both.between) (leaf_name leaf) (pair key value) (left ++ part) right
             (nodes-update start both.between (leaf_name leaf) (Some (lone_leaf key value)) both.first.updates) (ap cell_of both.first.vacant) was in
             Holds-add (node_at both.between) (node_at made) (split_name slot) _ left (part ++ leaf_cell ∷ right)
@@ -230,7 +217,7 @@ module _ {K V : Type 0} (bytes : K → List ℕ) (P : ℕ) (s : Shape K V) (old 
       pub split : (is_before : Bool) → is_before ≡ ltb parted.new_byte parted.old_byte → (linked new : Arena K V) (new_root : Name) → Holds (node_at new) (cells_before P at.ctx (split_name slot) ++ split_cells)
           → root_of at.ctx (split_name slot) ≡ new_root → ((n : ℕ) → links_at new n ≡ links_at linked n)
           → AreLinked (links_at linked) None (leaves_before (split_frame is_before slot ∷ at.ctx) ++ record { slot = leaf; key = key; value = value } ∷ leaves_after (split_frame is_before slot ∷ at.ctx)) None
-          → IsInserted bytes P new s last key value (record { leaf_node_ptr = leaf; existing_leaf = None; new_root = new_root; parent_node_change = NewParent (inner.Node4 slot) parted.new_byte })
+          → IsInsertedBeside bytes P new rest s last key value (record { leaf_node_ptr = leaf; existing_leaf = None; new_root = new_root; parent_node_change = NewParent (inner.Node4 slot) parted.new_byte })
       split true order linked new new_root holds root_is links in_order =
           inserted_below bytes P s new new_root (split_frame true slot) at.ctx leaf key value last (inner.Node4 slot) (placed true order (node_at new) holds) (around_split true order slot) at.begins root_is
           (AreLinked-same (links_at linked) (links_at new) links None _ None in_order) (split_leaves true slot) refl at.steps

@@ -6,7 +6,7 @@ use Rattle.art_nodes.specs.Kind.{row_of, CanShrink}
 use Rattle.art_nodes.specs.declared.kind.NodeType.{NodeType}
 use Rattle.art_nodes.specs.declared.kind.NodeType.TheVariants.{Node4, Node16, Node48, Node256, Leaf}
 use Rattle.art_arena.specs.arena.Arena.{Arena, inner_held, held_at, links_at}
-use Rattle.art_arena.specs.arena.Cells.{leaf_name, UpdatesAt}
+use Rattle.art_arena.specs.arena.Cells.{Cell, leaf_name, UpdatesAt}
 use Rattle.art_arena.specs.arena.Context.{path_to}
 use Rattle.art_arena.specs.tree.Kinds.{IsKindOf, ChangesKind}
 use Rattle.art_arena.specs.arena.Shapes.{name_of, width}
@@ -26,7 +26,7 @@ changes_kind Node48 n is can = (Node48, Node16, is, record { two = omega (arith,
 changes_kind Node256 n is can = (Node256, Node48, is, record { two = omega (arith, is.fewest); fewest = omega (arith, is.fewest); most = omega (arith, can) }, λ e. absurd (cc))
 changes_kind Leaf n is can = absurd can
 
-module _ {K V : Type 0} (bytes : K → List ℕ) (P : ℕ) (old : Arena K V) (parent : Name) (byte slot : ℕ) (there : IsChildLeaf bytes P old parent byte slot) where
+module _ {K V : Type 0} (bytes : K → List ℕ) (P : ℕ) {rest : List (Name × Cell K V)} (old : Arena K V) (parent : Name) (byte slot : ℕ) (there : IsChildLeaf bytes P old rest parent byte slot) where
   -- the node above the leaf
   abbrev pub node : InnerNode
   node = above bytes P old there.frame there.outer there.leaf there.held
@@ -71,7 +71,7 @@ module _ {K V : Type 0} (bytes : K → List ℕ) (P : ℕ) (old : Arena K V) (pa
         subst (IsKindOf other.kind) rest_length (kind (subst (λ n. IsKindOf parent.kind (suc n)) (sym rest_length) node_kind) (omega (arith, rest_length, two, more)))
 
     -- what is left of it stands for it
-    pub taken_out : StandsFor bytes P new there.frame there.outer there.leaf other
+    pub taken_out : StandsFor bytes P new rest there.frame there.outer there.leaf other
     taken_out =
         taken bytes P old new there.frame there.outer there.leaf there.held other
         (subst (λ b. Moves old new there.frame.name other (inner_held (with_children node (without_child node.children b)))) (sym there.under)
@@ -102,7 +102,7 @@ module _ {K V : Type 0} (bytes : K → List ℕ) (P : ℕ) (old : Arena K V) (pa
 
     module _ (mid new : Arena K V) (lengthens : Lengthens P old mid node one.edge (name_of one.here)) (gone : UpdatesAt (held_at mid) (held_at new) parent None) where
       -- behind the longer prefix it stands for the node
-      pub merged_out : StandsFor bytes P new there.frame there.outer there.leaf (name_of one.here)
+      pub merged_out : StandsFor bytes P new rest there.frame there.outer there.leaf (name_of one.here)
       merged_out =
           merged bytes P old there.frame there.outer there.leaf there.held one mid new lengthens (subst (λ n. UpdatesAt (held_at mid) (held_at new) n None) (sym there.named) gone)
 

@@ -12,13 +12,13 @@ use Rattle.art_arena.specs.arena.Cells.{Cell, pair, branches, leaf_name, Updates
 use Rattle.art_arena.specs.arena.Context.{Frame, AreBelow, plug, path_to, frame_cell, leaves_before, leaves_after, cells_before, cells_after}
 use Rattle.art_arena.specs.tree.Kinds.{IsKindOf}
 use Rattle.art_arena.specs.arena.Linked.{first_slot, last_slot, AreLinked}
-use Rattle.art_arena.specs.arena.Meaning.{IsPart, IsSubtree, IsNodes, IsTree}
+use Rattle.art_arena.specs.arena.Meaning.{IsPart, IsSubtree, IsNodesBeside, IsTreeBeside}
 use Rattle.art_arena.specs.arena.Shapes.{Shape, Branches, leaf_at, no_branch, branch, LeafAt, name_of, children_at, join, width, leaves, leaves_in, cells, cells_in, AreUnder}
 use Rattle.art_arena.proofs.tree.Order.{all_left, all_right}
 use Rattle.art_arena.proofs.shapes.CellLists.{copies-append, Holds-same, Holds-write}
 use Rattle.art_arena.proofs.shapes.Contexts.{leaves_in-join, cells_in-join, width-join, leaves-plug}
 use Rattle.art_arena.proofs.shapes.Openings.{with_child-opening}
-use Rattle.art_arena.proofs.shapes.Repoint.{IsNodes-plug}
+use Rattle.art_arena.proofs.shapes.Repoint.{IsNodesBeside-plug}
 use Rattle.art_arena.proofs.shapes.Subtrees.{inner_of, branch-first, branch-last, has_last, AreUnder-here}
 use Rattle.art_arena.proofs.shapes.Updates.{nodes-update, links-kept}
 use Rattle.art_operations.specs.inner.Waiting.{AwaitsLeaf}
@@ -27,8 +27,8 @@ use Rattle.art_operations.proofs.NewLeaves.{first_of, last_of}
 use Rattle.art_operations.proofs.Parents.{length-children}
 
 -- appended lists, grouped in another way
-regroup_behind : {X : Type 0} (xs bs ts rs cs : List X) (n l : X) → xs ++ (n ∷ (bs ++ (l ∷ ((ts ++ rs) ++ cs)))) ≡ (xs ++ (n ∷ (bs ++ (l ∷ [])))) ++ (ts ++ (rs ++ cs))
-regroup_behind xs bs ts rs cs n l = simp append_assoc
+regroup_behind : {X : Type 0} (xs bs ts rs cs ds : List X) (n l : X) → xs ++ (n ∷ (bs ++ (l ∷ (((ts ++ rs) ++ cs) ++ ds)))) ≡ (xs ++ (n ∷ (bs ++ (l ∷ [])))) ++ (ts ++ (rs ++ (cs ++ ds)))
+regroup_behind xs bs ts rs cs ds n l = simp append_assoc
 
 pub regroup_front : {X : Type 0} (xs bs ts cs : List X) (n : X) → xs ++ (n ∷ ((bs ++ ts) ++ cs)) ≡ (xs ++ (n ∷ bs)) ++ (ts ++ cs)
 regroup_front xs bs ts cs n = simp append_assoc
@@ -103,13 +103,13 @@ module _ {K V : Type 0} (bytes : K → List ℕ) where
     | inr other ↦ rw other.0 (child_at-opening path b before after below.1 under)
   ]
 
-module _ {K V : Type 0} (bytes : K → List ℕ) (P : ℕ) (arena : Arena K V) (root node : Name) (byte leaf : ℕ) (f : Frame K V) (outer : List (Frame K V)) (l : LeafAt K V) (awaits : AwaitsLeaf bytes P arena root node byte leaf f outer l) where
+module _ {K V : Type 0} (bytes : K → List ℕ) (P : ℕ) {rest : List (Name × Cell K V)} (arena : Arena K V) (root node : Name) (byte leaf : ℕ) (f : Frame K V) (outer : List (Frame K V)) (l : LeafAt K V) (awaits : AwaitsLeaf bytes P arena rest root node byte leaf f outer l) where
   -- the node is held, an inner one, with a child for each branch and none under the byte
   pub node-held : held_at arena node ≡ Some (inner_held (open_node P f))
   node-held =
       subst (λ n. held_at arena n ≡ Some (inner_held (open_node P f))) awaits.node_is
       (inner_of (held_at arena f.name) (open_node P f)
-      (all_right (λ (c : Name × Cell K V). node_at arena c.0 ≡ Some c.1) (cells_before P outer f.name) ((f.name, branches (open_node P f)) ∷ (cells_in P f.before ++ ((leaf_name l.slot, pair l.key l.value) ∷ cells_after P (f ∷ outer)))) awaits.holds.held).0)
+      (all_right (λ (c : Name × Cell K V). node_at arena c.0 ≡ Some c.1) (cells_before P outer f.name) ((f.name, branches (open_node P f)) ∷ (cells_in P f.before ++ ((leaf_name l.slot, pair l.key l.value) ∷ (cells_after P (f ∷ outer) ++ rest)))) awaits.holds.held).0)
 
   pub node-inner : node.kind ≢ Leaf
   node-inner = inner-kind arena node (open_node P f) node-held
@@ -139,10 +139,10 @@ module _ {K V : Type 0} (bytes : K → List ℕ) (P : ℕ) (arena : Arena K V) (
   next c found =
       let b = branch-first f.after c (sym (ap first_child behind) ∙ found) in
       let under = subst (AreUnder bytes (path_to outer ++ f.prefix) (f.byte + 1)) b.2 awaits.after_under in
-      let there = subst (λ xs. Holds (node_at arena) (cells_before P outer f.name ++ ((f.name, branches (open_node P f)) ∷ (cells_in P f.before ++ ((leaf_name l.slot, pair l.key l.value) ∷ (xs ++ cells_after P outer))))))
+      let there = subst (λ xs. Holds (node_at arena) (cells_before P outer f.name ++ ((f.name, branches (open_node P f)) ∷ (cells_in P f.before ++ ((leaf_name l.slot, pair l.key l.value) ∷ ((xs ++ cells_after P outer) ++ rest))))))
       (ap (cells_in P) b.2) awaits.holds in
-      let part = part-within P (node_at arena) _ (cells_in P b.1 ++ cells_after P outer) b.0
-      (subst (Holds (node_at arena)) (regroup_behind (cells_before P outer f.name) (cells_in P f.before) (cells P b.0) (cells_in P b.1) (cells_after P outer) _ _) there) in
+      let part = part-within P (node_at arena) _ (cells_in P b.1 ++ (cells_after P outer ++ rest)) b.0
+      (subst (Holds (node_at arena)) (regroup_behind (cells_before P outer f.name) (cells_in P f.before) (cells P b.0) (cells_in P b.1) (cells_after P outer) rest _ _) there) in
       record {
         path = (path_to outer ++ f.prefix) ++ c.0 ∷ [];
         part = b.0;
@@ -164,9 +164,9 @@ module _ {K V : Type 0} (bytes : K → List ℕ) (P : ℕ) (arena : Arena K V) (
       let under = AreUnder-here bytes (path_to outer ++ f.prefix) 0 b.0 c.0 b.1 no_branch (subst (AreUnder bytes (path_to outer ++ f.prefix) 0) b.2 awaits.before_under) in
       let cells_are : cells_in P f.before ≡ cells_in P b.0 ++ cells P b.1 = ap (cells_in P) b.2 ∙ cells_in-join P b.0 (branch c.0 b.1 no_branch) ∙ ap (λ xs. cells_in P b.0 ++ xs) (append-nil (cells P b.1)) in
       let leaves_are : leaves_in f.before ≡ leaves_in b.0 ++ leaves b.1 = ap leaves_in b.2 ∙ leaves_in-join b.0 (branch c.0 b.1 no_branch) ∙ ap (λ xs. leaves_in b.0 ++ xs) (append-nil (leaves b.1)) in
-      let there = subst (λ xs. Holds (node_at arena) (cells_before P outer f.name ++ ((f.name, branches (open_node P f)) ∷ (xs ++ ((leaf_name l.slot, pair l.key l.value) ∷ cells_after P (f ∷ outer)))))) cells_are awaits.holds in
-      let part = part-within P (node_at arena) _ ((leaf_name l.slot, pair l.key l.value) ∷ cells_after P (f ∷ outer)) b.1
-      (subst (Holds (node_at arena)) (regroup_front (cells_before P outer f.name) (cells_in P b.0) (cells P b.1) ((leaf_name l.slot, pair l.key l.value) ∷ cells_after P (f ∷ outer)) _) there) in
+      let there = subst (λ xs. Holds (node_at arena) (cells_before P outer f.name ++ ((f.name, branches (open_node P f)) ∷ (xs ++ ((leaf_name l.slot, pair l.key l.value) ∷ (cells_after P (f ∷ outer) ++ rest)))))) cells_are awaits.holds in
+      let part = part-within P (node_at arena) _ ((leaf_name l.slot, pair l.key l.value) ∷ (cells_after P (f ∷ outer) ++ rest)) b.1
+      (subst (Holds (node_at arena)) (regroup_front (cells_before P outer f.name) (cells_in P b.0) (cells P b.1) ((leaf_name l.slot, pair l.key l.value) ∷ (cells_after P (f ∷ outer) ++ rest)) _) there) in
       record {
         path = (path_to outer ++ f.prefix) ++ c.0 ∷ [];
         part = b.1;
@@ -183,20 +183,20 @@ module _ {K V : Type 0} (bytes : K → List ℕ) (P : ℕ) (arena : Arena K V) (
   pub put : (linked new : Arena K V) → ((n : Name) → node_at linked n ≡ node_at arena n) → AreLinked (links_at linked) None (leaves_before (f ∷ outer) ++ (l ∷ leaves_after (f ∷ outer))) None
       → UpdatesAt (held_at linked) (held_at new) node (Some (inner_held (with_children (open_node P f) (with_child (open_node P f).children byte (leaf_name leaf)))))
       → IsKindOf node.kind (suc (width f.before + width f.after))
-      → IsTree bytes P (node_at new) root (links_at new) (plug (f ∷ outer) (leaf_at l.slot l.key l.value))
+      → IsTreeBeside bytes P (node_at new) root (links_at new) rest (plug (f ∷ outer) (leaf_at l.slot l.key l.value))
   put linked new same list update kind =
       let kids : with_child (open_node P f).children byte (leaf_name leaf) ≡ children_at f.before ++ (f.byte, leaf_name l.slot) ∷ children_at f.after =
       ap₂ (λ b s. with_child (open_node P f).children b (leaf_name s)) (sym awaits.byte_is) (sym awaits.leaf_is)
       ∙ with_child-opening bytes f.byte (leaf_name l.slot) f.before f.after (path_to outer ++ f.prefix) awaits.below awaits.after_under in
       let written = subst (λ n. UpdatesAt (node_at linked) (node_at new) n (Some (frame_cell P f (leaf_name l.slot)).1)) (sym awaits.node_is)
       (subst (λ xs. UpdatesAt (node_at linked) (node_at new) node (Some (branches (with_children (open_node P f) xs)))) kids (nodes-update linked new node _ update)) in
-      let holds = Holds-write (node_at linked) (node_at new) f.name (branches (open_node P f)) (frame_cell P f (leaf_name l.slot)).1 (cells_before P outer f.name) (cells_in P f.before ++ ((leaf_name l.slot, pair l.key l.value) ∷ cells_after P (f ∷ outer)))
+      let holds = Holds-write (node_at linked) (node_at new) f.name (branches (open_node P f)) (frame_cell P f (leaf_name l.slot)).1 (cells_before P outer f.name) (cells_in P f.before ++ ((leaf_name l.slot, pair l.key l.value) ∷ (cells_after P (f ∷ outer) ++ rest)))
       written (Holds-same (node_at arena) (node_at linked) same _ awaits.holds) in
-      let nodes = IsNodes-plug bytes P (node_at new) (f ∷ outer) (leaf_at l.slot l.key l.value)
-      (subst (Holds (node_at new)) (sym (append_assoc (cells_before P outer f.name) (frame_cell P f (leaf_name l.slot) ∷ cells_in P f.before) ((leaf_name l.slot, pair l.key l.value) ∷ cells_after P (f ∷ outer)))) holds)
+      let nodes = IsNodesBeside-plug bytes P (node_at new) rest (f ∷ outer) (leaf_at l.slot l.key l.value)
+      (subst (Holds (node_at new)) (sym (append_assoc (cells_before P outer f.name) (frame_cell P f (leaf_name l.slot) ∷ cells_in P f.before) ((leaf_name l.slot, pair l.key l.value) ∷ (cells_after P (f ∷ outer) ++ rest)))) holds)
       (subst (λ n. IsKindOf n.kind (suc (width f.before + width f.after))) (sym awaits.node_is) kind, awaits.before_under, awaits.below, awaits.after_under, awaits.around) awaits.begins in
       record {
-        nodes = subst (λ n. IsNodes bytes P (node_at new) n (plug (f ∷ outer) (leaf_at l.slot l.key l.value))) awaits.named nodes;
+        nodes = subst (λ n. IsNodesBeside bytes P (node_at new) n rest (plug (f ∷ outer) (leaf_at l.slot l.key l.value))) awaits.named nodes;
         linked = subst (λ ls. AreLinked (links_at new) None ls None) (sym (leaves-plug (f ∷ outer) (leaf_at l.slot l.key l.value)))
             (AreLinked-same (links_at linked) (links_at new) (links-kept linked new node _ update node-inner) None _ None list);
       }

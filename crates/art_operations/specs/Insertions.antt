@@ -1,13 +1,15 @@
 -- What an insertion leaves.
-use Rattle.std.specs.Prelude.{◌≡◌, ℕ, List, ◌∷◌, ◌++◌, take, Option, Some, None}
+use Rattle.std.specs.Prelude.{◌≡◌, ℕ, List, [], ◌∷◌, ◌++◌, take, Option, Some, None}
+use Rattle.art_nodes.specs.Name.{Name}
 use Rattle.art_nodes.specs.Concrete.{inner_name_of}
 use Rattle.art_nodes.specs.declared.leaf.LeafNode.{LeafNode}
 use Rattle.art_arena.specs.arena.Arena.{Arena}
+use Rattle.art_arena.specs.arena.Cells.{Cell}
 use Rattle.art_arena.specs.tree.Changes.{IsPutIn}
 use Rattle.art_arena.specs.arena.Shapes.{Shape, LeafAt, leaves}
 use Rattle.art_arena.specs.arena.Steps.{Step}
 use Rattle.art_operations.specs.DeletePoints.{IsLeafPlace}
-use Rattle.art_arena.specs.arena.Stores.{StoresOnly}
+use Rattle.art_arena.specs.arena.Stores.{StoresBeside}
 use Rattle.art_operations.specs.declared.insert.result.InsertResult.{InsertResult}
 use Rattle.art_operations.specs.declared.insert.result.InsertParentNodeChange.{InsertParentNodeChange}
 use Rattle.art_operations.specs.declared.insert.result.InsertParentNodeChange.TheVariants.{NewParent, NoChange}
@@ -30,11 +32,15 @@ module _ {K V : Type 0} (bytes : K → List ℕ) where
       × IsReplaced (record { slot = l.slot; key = was.key; value = was.value }) l old new
       × (was.previous ≡ None) × (was.next ≡ None)
 
-  -- the arena holds nothing but the tree of these leaves with the new one, which stands where the answer says
-  pub record IsInserted (P : ℕ) (arena : Arena K V) (s : Shape K V) (last : List Step) (key : K) (value : V)
-      (result : InsertResult K V) : Type 0 where
+  -- beside these nodes the arena holds nothing but the tree of these leaves with the new one, which stands where the
+  -- answer says
+  pub record IsInsertedBeside (P : ℕ) (arena : Arena K V) (rest : List (Name × Cell K V)) (s : Shape K V)
+      (last : List Step) (key : K) (value : V) (result : InsertResult K V) : Type 0 where
     pub shape : Shape K V
-    pub is_tree : StoresOnly bytes P arena result.new_root shape
+    pub is_tree : StoresBeside bytes P arena result.new_root rest shape
     pub stored : IsPutOrReplaced (record { slot = result.leaf_node_ptr; key = key; value = value })
         result.existing_leaf (leaves s) (leaves shape)
     pub place : IsLeafPlace bytes shape result.leaf_node_ptr (steps_after result.parent_node_change last)
+
+  abbrev pub IsInserted : ℕ → Arena K V → Shape K V → List Step → K → V → InsertResult K V → Type 0
+  IsInserted P arena s last key value result = IsInsertedBeside P arena [] s last key value result

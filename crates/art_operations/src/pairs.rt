@@ -1,10 +1,13 @@
 //! Insertion and deletion, told by the pairs that an arena has: commands and maps stand on these.
 ghost use Rattle.std.specs.Prelude.{◌≡◌, ◌+◌, List, [], None, IfOk, IfErr, IsOk, OnErr};
-ghost use Rattle.art_arena.specs.arena.Arena.{HasRoom, SameNodes, UsesRoom};
+ghost use Rattle.art_nodes.specs.Name.{Name};
+ghost use Rattle.art_arena.specs.arena.Arena.{node_at, HasRoom, KeepsNodes, SameNodes, UsesRoom};
+ghost use Rattle.art_arena.specs.arena.Cells.{Cell, HoldsOnly};
 ghost use Rattle.art_arena.specs.arena.Shapes.{key_of};
 ghost use Rattle.art_arena.specs.tree.Shrinks.{Shrinks};
 ghost use Rattle.art_operations.specs.KeyedLists.{HasKey};
-ghost use Rattle.art_operations.specs.Pairs.{CanPut, HasPairs, HasPut, HasTaken, IsPlaced};
+ghost use Rattle.art_operations.specs.Pairs.{CanPutBeside, HasPairsBeside, HasPutBeside, HasTakenBeside};
+ghost use Rattle.art_operations.specs.Pairs.{IsPlacedBeside};
 
 use crate::delete::point::search_for_delete_point;
 use crate::delete::result::DeleteResult;
@@ -23,9 +26,11 @@ pub fn find_place<K: AsBytes, V, const PREFIX_LEN: usize>(
     root: Option<OpaqueNodePtr>,
     key: &[u8],
 ) -> Result<Option<InsertPoint>, PrefixConflict>
-    requires { (pairs : List (K × V)) × HasPairs K.bytes PREFIX_LEN arena.now root pairs }
-    ensures { (pairs : List (K × V)) → HasPairs K.bytes PREFIX_LEN arena.now root pairs
-        → IsPlaced K.bytes PREFIX_LEN arena.now key.now pairs result }
+    requires { (pairs : List (K × V)) × (rest : List (Name × Cell K V))
+        × HasPairsBeside K.bytes PREFIX_LEN arena.now rest root pairs }
+    ensures { (pairs : List (K × V)) (rest : List (Name × Cell K V))
+        → HasPairsBeside K.bytes PREFIX_LEN arena.now rest root pairs
+        → IsPlacedBeside K.bytes PREFIX_LEN arena.now rest key.now pairs result }
 {
     match root {
         Some(top) => match find_insert_point(arena, top, key) {
@@ -42,8 +47,10 @@ fn put_first<K: AsBytes, V, const PREFIX_LEN: usize>(
     key: K,
     value: V,
 ) -> Result<InsertResult<K, V>, InsertRefused<K, V>>
-    requires { HasPairs K.bytes PREFIX_LEN arena.old None [] }
-    ensures ok { IfOk result (λ put. HasPut K.bytes PREFIX_LEN arena.new [] key value put) }
+    ensures ok { IfOk result (λ put. (rest : List (Name × Cell K V)) → HoldsOnly (node_at arena.old) rest
+        → HasPutBeside K.bytes PREFIX_LEN arena.new rest [] key value put) }
+    ensures others { IfOk result (λ put. (rest : List (Name × Cell K V)) → HoldsOnly (node_at arena.old) rest
+        → KeepsNodes rest arena.old arena.new) }
     ensures err { OnErr result (SameNodes arena.old arena.new) }
     ensures handed_back { IfErr result (λ refused. (refused.key ≡ key) × (refused.value ≡ value)) }
     ensures succeeds { HasRoom arena.old 1 → IsOk result }
@@ -60,18 +67,23 @@ fn put_first<K: AsBytes, V, const PREFIX_LEN: usize>(
 
 /// Puts a key and its value in at the place that was found for the key. A pair that has the key already is answered,
 /// and this one takes its leaf: that is never refused. Where there is no memory, the key and the value are handed back,
-/// and nothing changed.
+/// and nothing changed. Whatever stands beside the tree stays as it is.
 pub fn put_pair<K: AsBytes, V, const PREFIX_LEN: usize>(
     arena: &mut NodeArena<K, V, PREFIX_LEN>,
     place: Option<InsertPoint>,
     key: K,
     value: V,
 ) -> Result<InsertResult<K, V>, InsertRefused<K, V>>
-    requires { (pairs : List (K × V)) × CanPut K.bytes PREFIX_LEN arena.old place (K.bytes key) pairs }
-    ensures ok { IfOk result (λ put. (pairs : List (K × V))
-        → CanPut K.bytes PREFIX_LEN arena.old place (K.bytes key) pairs
-        → HasPut K.bytes PREFIX_LEN arena.new pairs key value put) }
-    ensures stored { (pairs : List (K × V)) → CanPut K.bytes PREFIX_LEN arena.old place (K.bytes key) pairs
+    requires { (pairs : List (K × V)) × (rest : List (Name × Cell K V))
+        × CanPutBeside K.bytes PREFIX_LEN arena.old rest place (K.bytes key) pairs }
+    ensures ok { IfOk result (λ put. (pairs : List (K × V)) (rest : List (Name × Cell K V))
+        → CanPutBeside K.bytes PREFIX_LEN arena.old rest place (K.bytes key) pairs
+        → HasPutBeside K.bytes PREFIX_LEN arena.new rest pairs key value put) }
+    ensures others { IfOk result (λ put. (pairs : List (K × V)) (rest : List (Name × Cell K V))
+        → CanPutBeside K.bytes PREFIX_LEN arena.old rest place (K.bytes key) pairs
+        → KeepsNodes rest arena.old arena.new) }
+    ensures stored { (pairs : List (K × V)) (rest : List (Name × Cell K V))
+        → CanPutBeside K.bytes PREFIX_LEN arena.old rest place (K.bytes key) pairs
         → HasKey (key_of K.bytes) (K.bytes key) pairs → IsOk result }
     ensures err { OnErr result (SameNodes arena.old arena.new) }
     ensures handed_back { IfErr result (λ refused. (refused.key ≡ key) × (refused.value ≡ value)) }
@@ -86,17 +98,22 @@ pub fn put_pair<K: AsBytes, V, const PREFIX_LEN: usize>(
 
 /// Takes the pair with a key out, and answers its leaf; or nothing where no pair has the key. It is refused only where
 /// the loss of the leaf makes a node one of the next smaller kind, and there is no memory for that one: nothing changed
-/// then.
+/// then. Whatever stands beside the tree stays as it is.
 pub fn take_pair<K: AsBytes, V, const PREFIX_LEN: usize>(
     arena: &mut NodeArena<K, V, PREFIX_LEN>,
     root: Option<OpaqueNodePtr>,
     key: &[u8],
 ) -> Result<Option<DeleteResult<K, V>>, AllocError>
-    requires { (pairs : List (K × V)) × HasPairs K.bytes PREFIX_LEN arena.old root pairs }
-    ensures ok { IfOk result (λ taken. (pairs : List (K × V)) → HasPairs K.bytes PREFIX_LEN arena.old root pairs
-        → HasTaken K.bytes PREFIX_LEN arena.new root key.now pairs taken) }
+    requires { (pairs : List (K × V)) × (rest : List (Name × Cell K V))
+        × HasPairsBeside K.bytes PREFIX_LEN arena.old rest root pairs }
+    ensures ok { IfOk result (λ taken. (pairs : List (K × V)) (rest : List (Name × Cell K V))
+        → HasPairsBeside K.bytes PREFIX_LEN arena.old rest root pairs
+        → HasTakenBeside K.bytes PREFIX_LEN arena.new rest root key.now pairs taken) }
+    ensures others { IfOk result (λ taken. (pairs : List (K × V)) (rest : List (Name × Cell K V))
+        → HasPairsBeside K.bytes PREFIX_LEN arena.old rest root pairs → KeepsNodes rest arena.old arena.new) }
     ensures err { OnErr result (SameNodes arena.old arena.new) }
-    ensures shrinks { OnErr result ((pairs : List (K × V)) → HasPairs K.bytes PREFIX_LEN arena.old root pairs
+    ensures shrinks { OnErr result ((pairs : List (K × V)) (rest : List (Name × Cell K V))
+        → HasPairsBeside K.bytes PREFIX_LEN arena.old rest root pairs
         → HasKey (key_of K.bytes) key.now pairs × Shrinks (key_of K.bytes) pairs key.now) }
     ensures succeeds { HasRoom arena.old 1 → IsOk result }
     ensures room { UsesRoom 1 arena.old arena.new }

@@ -5,7 +5,7 @@ use Rattle.art_nodes.specs.Name.{Name}
 use Rattle.art_nodes.specs.declared.kind.NodeType.{NodeType}
 use Rattle.art_nodes.specs.declared.kind.NodeType.TheVariants.{Node4, Node16, Node48, Node256, Leaf}
 use Rattle.art_nodes.specs.declared.leaf.LeafNode.{LeafNode}
-use Rattle.art_arena.specs.arena.Arena.{Arena, Held, leaf_held, inner_held, as_inner, held_as, held_at, cell_of, links_of, node_at, links_at, KeepsNodes}
+use Rattle.art_arena.specs.arena.Arena.{Arena, Held, leaf_held, inner_held, as_inner, held_as, held_at, cell_of, links_of, node_at, links_at, KeepsNodes, SameNodes}
 use Rattle.art_arena.specs.arena.Cells.{Cell, pair, branches, leaf_name, same_name, copies, AreHeld, Holds}
 use Rattle.art_arena.specs.arena.Linked.{Links, times, KeepsLinksOutside}
 use Rattle.art_arena.specs.arena.Shapes.{Shape, leaves, cells, IsUnder}
@@ -42,6 +42,11 @@ module _ {K V : Type 0} where
   same_as old new Node16 slot cell links = same_held _ _ cell (no_links K V _ ∙ sym (no_links K V _))
   same_as old new Node48 slot cell links = same_held _ _ cell (no_links K V _ ∙ sym (no_links K V _))
   same_as old new Node256 slot cell links = same_held _ _ cell (no_links K V _ ∙ sym (no_links K V _))
+
+  -- where every name has what it had, so have these
+  pub keeps-same : (old new : Arena K V) → SameNodes old new → (rest : List (Name × Cell K V)) → KeepsNodes rest old new
+  keeps-same old new same [] = tt
+  keeps-same old new same (c ∷ rest) = (same c.0, keeps-same old new same rest)
 
   -- cells that are held before and after are kept, where their leaves keep their links
   keeps : (old new : Arena K V) (rest : List (Name × Cell K V)) → AreHeld (node_at old) rest → AreHeld (node_at new) rest → ((n : ℕ) → 1 ≤ copies (leaf_name n) rest → links_at new n ≡ links_at old n) → KeepsNodes rest old new

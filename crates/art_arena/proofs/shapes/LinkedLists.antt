@@ -271,15 +271,17 @@ module _ {K V : Type 0} where
 
 -- where a leaf is linked in or taken out, those that aren't in the list keep their links
 
+pub outside-apart : {K V : Type 0} (n : ℕ) (xs : List (LeafAt K V)) (l : LeafAt K V) (ys : List (LeafAt K V)) → times n (xs ++ l ∷ ys) ≡ 0 → n ≢ l.slot
+outside-apart n xs l ys none e =
+    let here = times-here xs ys l in
+    let absent = subst (λ k. times k (xs ++ l ∷ ys) ≡ 0) e none in
+    omega (arith, here, absent)
+
 module _ {K V : Type 0} (old new : ℕ → Option Links) where
   pub kept-between : (xs ys : List (LeafAt K V)) (m : LeafAt K V) → KeepsOtherLinks old new (last_slot None xs) m.slot (first_slot ys None) → KeepsLinksOutside old new (xs ++ m ∷ ys)
   kept-between xs ys m kept n none =
       let parts : times n xs + times n (m ∷ ys) ≡ 0 = sym (times-append n xs (m ∷ ys)) ∙ none in
-      let other : n ≢ m.slot = λ e.
-      let here : times m.slot (m ∷ ys) ≡ 1 + times m.slot ys = rw (eqb-self m.slot) refl in
-      let none_here = subst (λ k. times k xs + times k (m ∷ ys) ≡ 0) e parts in
-      absurd (omega (arith, none_here, here)) in
-      kept n other (last-apart xs n (omega (arith, parts))) (first-apart ys n (omega (arith, parts)))
+      kept n (outside-apart n xs m ys none) (last-apart xs n (omega (arith, parts))) (first-apart ys n (omega (arith, parts)))
 
   pub kept-around : (xs : List (LeafAt K V)) (l : LeafAt K V) (ys : List (LeafAt K V)) (p : ℕ) → l.slot ≡ p → AreLinked old None (xs ++ l ∷ ys) None
       → ((was : Links) → old p ≡ Some was → KeepsOtherLinks old new was.previous p was.next) → KeepsLinksOutside old new (xs ++ l ∷ ys)

@@ -5,22 +5,22 @@ use Rattle.art_nodes.specs.Name.{Name}
 use Rattle.art_arena.specs.arena.Arena.{Arena, node_at}
 use Rattle.art_arena.specs.arena.Cells.{Cell, pair, leaf_name, Holds}
 use Rattle.art_arena.specs.arena.Context.{Frame, plug, path_to, cells_before, cells_after, AreAround}
-use Rattle.art_arena.specs.arena.Meaning.{IsNodes}
+use Rattle.art_arena.specs.arena.Meaning.{IsNodesBeside}
 use Rattle.art_arena.specs.arena.Shapes.{Shape, LeafAt, leaf_at, name_of, leaves, leaves_in, cells, IsUnder}
 
 module _ {K V : Type 0} where
-  -- the leaf's cell alone
-  abbrev pub alone : LeafAt K V → List (Name × Cell K V)
-  alone leaf = (leaf_name leaf.slot, pair leaf.key leaf.value) ∷ []
+  -- the leaf's cell
+  abbrev pub leaf_cell : LeafAt K V → Name × Cell K V
+  leaf_cell leaf = (leaf_name leaf.slot, pair leaf.key leaf.value)
 
-module _ {K V : Type 0} (bytes : K → List ℕ) (P : ℕ) (arena : Arena K V) where
-  -- the arena's nodes are those of this canonical tree, and no other
+module _ {K V : Type 0} (bytes : K → List ℕ) (P : ℕ) (arena : Arena K V) (rest : List (Name × Cell K V)) where
+  -- the arena's nodes are these and those of this canonical tree, and no other
   abbrev pub StoresNodes : Name → Shape K V → Type 0
-  StoresNodes root s = IsNodes bytes P (node_at arena) root s
+  StoresNodes root s = IsNodesBeside bytes P (node_at arena) root rest s
 
-  -- the arena holds nothing but a canonical tree, in which the leaf stands at this place
+  -- beside these nodes the arena holds nothing but a canonical tree, in which the leaf stands at this place
   pub record IsHeldAt (ctx : List (Frame K V)) (leaf : LeafAt K V) : Type 0 where
-    pub holds : Holds (node_at arena) (cells P (plug ctx (leaf_at leaf.slot leaf.key leaf.value)))
+    pub holds : Holds (node_at arena) (rest ++ cells P (plug ctx (leaf_at leaf.slot leaf.key leaf.value)))
     pub around : AreAround bytes ctx
     pub begins : BeginsWith (path_to ctx) (bytes leaf.key)
 
@@ -37,25 +37,25 @@ module _ {K V : Type 0} (bytes : K → List ℕ) (P : ℕ) (arena : Arena K V) w
   -- it holds the leaf apart, and below this name what is left of the frame's node, to which the frames above don't
   -- point yet
   pub record StandsFor (f : Frame K V) (outer : List (Frame K V)) (leaf : LeafAt K V) (other : Name) : Type 0 where
-    pub rest : Shape K V
-    pub named : name_of rest ≡ other
+    pub remains : Shape K V
+    pub named : name_of remains ≡ other
     pub holds : Holds (node_at arena) (cells_before P outer f.name
-        ++ (cells P rest ++ (cells_after P outer ++ alone leaf)))
-    pub under : IsUnder bytes (path_to outer) rest
-    pub left : leaves rest ≡ leaves_in f.before ++ leaves_in f.after
+        ++ (cells P remains ++ (cells_after P outer ++ leaf_cell leaf ∷ rest)))
+    pub under : IsUnder bytes (path_to outer) remains
+    pub left : leaves remains ≡ leaves_in f.before ++ leaves_in f.after
 
   -- it holds the leaf apart, and the canonical tree of the others below this name
   pub record IsApart (s : Shape K V) (leaf : LeafAt K V) (root : Name) : Type 0 where
-    pub rest : Shape K V
-    pub named : name_of rest ≡ root
-    pub holds : Holds (node_at arena) (cells P rest ++ alone leaf)
-    pub under : IsUnder bytes [] rest
+    pub remains : Shape K V
+    pub named : name_of remains ≡ root
+    pub holds : Holds (node_at arena) (cells P remains ++ leaf_cell leaf ∷ rest)
+    pub under : IsUnder bytes [] remains
     pub front : List (LeafAt K V)
     pub back : List (LeafAt K V)
     pub was : leaves s ≡ front ++ leaf ∷ back
-    pub left : leaves rest ≡ front ++ back
+    pub left : leaves remains ≡ front ++ back
 
   -- it holds the leaf apart, and the tree of the others, if there are others
   abbrev pub IsDetached : Shape K V → LeafAt K V → Option Name → Type 0
-  IsDetached s leaf None = (leaves s ≡ leaf ∷ []) × Holds (node_at arena) (alone leaf)
+  IsDetached s leaf None = (leaves s ≡ leaf ∷ []) × Holds (node_at arena) (leaf_cell leaf ∷ rest)
   IsDetached s leaf (Some root) = IsApart s leaf root

@@ -3,24 +3,25 @@ use Rattle.std.specs.Prelude.{◌≡◌, ℕ, ◌+◌, ◌≤◌, List, ◌∷�
 use Rattle.art_bytes.specs.Keys.{BeginsWith}
 use Rattle.art_nodes.specs.Name.{Name}
 use Rattle.art_arena.specs.arena.Arena.{Arena, node_at, links_at}
-use Rattle.art_arena.specs.arena.Cells.{pair, leaf_name, Holds}
+use Rattle.art_arena.specs.arena.Cells.{Cell, pair, leaf_name, Holds}
 use Rattle.art_arena.specs.arena.Context.{Frame, path_to, root_of, leaves_before, leaves_after, cells_before}
 use Rattle.art_arena.specs.arena.Context.{cells_after}
 use Rattle.art_arena.specs.arena.Context.{AreAround, AreBelow}
 use Rattle.art_arena.specs.arena.Linked.{IsBeside}
 use Rattle.art_arena.specs.arena.Shapes.{LeafAt, join, children_at, width, node_of, cells_in, AreUnder}
 
--- The arena holds a leaf and a canonical tree with this root. An inner node of the tree has no child under the byte
+-- The arena holds a leaf and a canonical tree with this root, and these nodes beside. An inner node of the tree has no child under the byte
 -- with which the leaf's key goes on there: it is the frame's node with nothing at the frame's place.
-pub record AwaitsLeaf {K V : Type 0} (bytes : K → List ℕ) (P : ℕ) (arena : Arena K V) (root node : Name)
-    (byte leaf : ℕ) (f : Frame K V) (outer : List (Frame K V)) (l : LeafAt K V) : Type 0 where
+pub record AwaitsLeaf {K V : Type 0} (bytes : K → List ℕ) (P : ℕ) (arena : Arena K V)
+    (rest : List (Name × Cell K V)) (root node : Name) (byte leaf : ℕ) (f : Frame K V) (outer : List (Frame K V)) (l : LeafAt K V) : Type 0 where
   pub named : root_of outer f.name ≡ root
   pub node_is : f.name ≡ node
   pub byte_is : f.byte ≡ byte
   pub leaf_is : l.slot ≡ leaf
   pub holds : Holds (node_at arena) (cells_before P outer f.name
       ++ ((f.name, node_of P f.prefix (children_at (join f.before f.after)))
-      ∷ (cells_in P f.before ++ ((leaf_name l.slot, pair l.key l.value) ∷ cells_after P (f ∷ outer)))))
+      ∷ (cells_in P f.before
+      ++ ((leaf_name l.slot, pair l.key l.value) ∷ (cells_after P (f ∷ outer) ++ rest)))))
   pub beside : IsBeside (links_at arena) (leaves_before (f ∷ outer) ++ leaves_after (f ∷ outer)) l.slot
   pub around : AreAround bytes outer
   pub two : 2 ≤ width f.before + width f.after

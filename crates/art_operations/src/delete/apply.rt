@@ -1,12 +1,14 @@
 //! A leaf is taken out of a tree.
-ghost use Rattle.std.specs.Prelude.{IfOk, IsOk, OnErr};
-ghost use Rattle.art_arena.specs.arena.Arena.{HasRoom, SameNodes, UsesRoom};
+ghost use Rattle.std.specs.Prelude.{List, IfOk, IsOk, OnErr};
+ghost use Rattle.art_nodes.specs.Name.{Name};
+ghost use Rattle.art_arena.specs.arena.Arena.{HasRoom, KeepsNodes, SameNodes, UsesRoom};
+ghost use Rattle.art_arena.specs.arena.Cells.{Cell};
 ghost use Rattle.art_arena.specs.arena.Shapes.{Shape, leaves};
 ghost use Rattle.art_arena.specs.tree.Shrinks.{Shrinks};
 ghost use Rattle.art_arena.specs.arena.Steps.{steps_of};
 ghost use Rattle.art_operations.specs.DeletePoints.{IsLeafPlace};
-ghost use Rattle.art_operations.specs.Deletions.{IsDeleted};
-ghost use Rattle.art_arena.specs.arena.Stores.{StoresOnly};
+ghost use Rattle.art_operations.specs.Deletions.{IsDeletedBeside};
+ghost use Rattle.art_arena.specs.arena.Stores.{StoresBeside};
 
 use crate::delete::detach::detach;
 use crate::delete::point::DeletePoint;
@@ -19,7 +21,7 @@ use std::alloc::AllocError;
 
 impl DeletePoint {
     /// Takes its leaf out of the tree below this root, in which it was found, and answers the leaf, with the root of
-    /// what is left.
+    /// what is left. Whatever stands beside the tree stays as it is.
     ///
     /// It is refused only where the loss of the leaf makes a node one of the next smaller kind, and there is no memory
     /// for that one. The arena is then as it was. A node that is left with one child takes no memory to go.
@@ -28,13 +30,20 @@ impl DeletePoint {
         arena: &mut NodeArena<K, V, PREFIX_LEN>,
         root: OpaqueNodePtr,
     ) -> Result<DeleteResult<K, V>, AllocError>
-        requires { (s : Shape K V) × StoresOnly K.bytes PREFIX_LEN arena.old root s
+        requires { (s : Shape K V) × (rest : List (Name × Cell K V))
+            × StoresBeside K.bytes PREFIX_LEN arena.old root rest s
             × IsLeafPlace K.bytes s self.leaf_node_ptr (steps_of self.path) }
-        ensures ok { IfOk result (λ deleted. (s : Shape K V) → StoresOnly K.bytes PREFIX_LEN arena.old root s
+        ensures ok { IfOk result (λ deleted. (s : Shape K V) (rest : List (Name × Cell K V))
+            → StoresBeside K.bytes PREFIX_LEN arena.old root rest s
             → IsLeafPlace K.bytes s self.leaf_node_ptr (steps_of self.path)
-            → IsDeleted K.bytes PREFIX_LEN arena.new s self.leaf_node_ptr deleted) }
+            → IsDeletedBeside K.bytes PREFIX_LEN arena.new rest s self.leaf_node_ptr deleted) }
+        ensures others { IfOk result (λ deleted. (s : Shape K V) (rest : List (Name × Cell K V))
+            → StoresBeside K.bytes PREFIX_LEN arena.old root rest s
+            → IsLeafPlace K.bytes s self.leaf_node_ptr (steps_of self.path)
+            → KeepsNodes rest arena.old arena.new) }
         ensures err { OnErr result (SameNodes arena.old arena.new) }
-        ensures shrinks { OnErr result ((s : Shape K V) → StoresOnly K.bytes PREFIX_LEN arena.old root s
+        ensures shrinks { OnErr result ((s : Shape K V) (rest : List (Name × Cell K V))
+            → StoresBeside K.bytes PREFIX_LEN arena.old root rest s
             → (place : IsLeafPlace K.bytes s self.leaf_node_ptr (steps_of self.path))
             → Shrinks (λ l. K.bytes l.key) (leaves s) (K.bytes place.key)) }
         ensures succeeds { HasRoom arena.old 1 → IsOk result }

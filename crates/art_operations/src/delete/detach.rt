@@ -1,9 +1,11 @@
 //! A leaf is taken out of the inner nodes above it.
-ghost use Rattle.std.specs.Prelude.{◌≡◌, ◌≢◌, ◌<◌, ◌≤◌, ◌+◌, suc, Some, IsSome, IfOk, IsOk, OnErr, length};
+ghost use Rattle.std.specs.Prelude.{◌≡◌, ◌≢◌, ◌<◌, ◌≤◌, ◌+◌, suc, List, Some, IsSome, IfOk, IsOk, OnErr, length};
+ghost use Rattle.art_nodes.specs.Name.{Name};
 ghost use Rattle.art_nodes.specs.InnerNode as node;
 ghost use Rattle.art_nodes.specs.InnerNode.{child_at, with_child, without_child, with_children};
 ghost use Rattle.art_nodes.specs.Kind.{row_of, CanShrink};
 ghost use Rattle.art_arena.specs.arena.Arena.{inner_held, HasRoom, SameNodes, KeepsRoom, UsesRoom};
+ghost use Rattle.art_arena.specs.arena.Cells.{Cell};
 ghost use Rattle.art_arena.specs.tree.Kinds.{IsKindOf, ChangesKind};
 ghost use Rattle.art_arena.specs.arena.Shapes.{Shape, width, leaves};
 ghost use Rattle.art_arena.specs.tree.Shrinks.{Shrinks};
@@ -68,12 +70,14 @@ fn take_out<K: AsBytes, V, const PREFIX_LEN: usize>(
     byte: u8,
     leaf: LeafPtr,
 ) -> Result<OpaqueNodePtr, AllocError>
-    requires { IsChildLeaf K.bytes PREFIX_LEN arena.old parent byte leaf }
-    ensures ok { IfOk result (λ other. (there : IsChildLeaf K.bytes PREFIX_LEN arena.old parent byte leaf)
-        → StandsFor K.bytes PREFIX_LEN arena.new there.frame there.outer there.leaf other) }
+    requires { (rest : List (Name × Cell K V)) × IsChildLeaf K.bytes PREFIX_LEN arena.old rest parent byte leaf }
+    ensures ok { IfOk result (λ other. (rest : List (Name × Cell K V))
+        (there : IsChildLeaf K.bytes PREFIX_LEN arena.old rest parent byte leaf)
+        → StandsFor K.bytes PREFIX_LEN arena.new rest there.frame there.outer there.leaf other) }
     ensures links { SameLinks arena.old arena.new }
     ensures err { OnErr result (SameNodes arena.old arena.new) }
-    ensures shrinks { OnErr result ((there : IsChildLeaf K.bytes PREFIX_LEN arena.old parent byte leaf)
+    ensures shrinks { OnErr result ((rest : List (Name × Cell K V))
+        (there : IsChildLeaf K.bytes PREFIX_LEN arena.old rest parent byte leaf)
         → ChangesKind (suc (width there.frame.before + width there.frame.after))) }
     ensures succeeds { HasRoom arena.old 1 → IsOk result }
     ensures room { UsesRoom 1 arena.old arena.new }
@@ -114,15 +118,17 @@ pub(crate) fn detach<K: AsBytes, V, const PREFIX_LEN: usize>(
     path: TreePath,
     leaf: LeafPtr,
 ) -> Result<Option<OpaqueNodePtr>, AllocError>
-    requires { (s : Shape K V) × StoresNodes K.bytes PREFIX_LEN arena.old root s
-        × IsLeafPlace K.bytes s leaf (steps_of path) }
-    ensures ok { IfOk result (λ left. (s : Shape K V) → StoresNodes K.bytes PREFIX_LEN arena.old root s
+    requires { (s : Shape K V) × (rest : List (Name × Cell K V))
+        × StoresNodes K.bytes PREFIX_LEN arena.old rest root s × IsLeafPlace K.bytes s leaf (steps_of path) }
+    ensures ok { IfOk result (λ left. (s : Shape K V) (rest : List (Name × Cell K V))
+        → StoresNodes K.bytes PREFIX_LEN arena.old rest root s
         → (place : IsLeafPlace K.bytes s leaf (steps_of path))
-        → IsDetached K.bytes PREFIX_LEN arena.new s
+        → IsDetached K.bytes PREFIX_LEN arena.new rest s
         (record { slot = leaf; key = place.key; value = place.value }) left) }
     ensures links { SameLinks arena.old arena.new }
     ensures err { OnErr result (SameNodes arena.old arena.new) }
-    ensures shrinks { OnErr result ((s : Shape K V) → StoresNodes K.bytes PREFIX_LEN arena.old root s
+    ensures shrinks { OnErr result ((s : Shape K V) (rest : List (Name × Cell K V))
+        → StoresNodes K.bytes PREFIX_LEN arena.old rest root s
         → (place : IsLeafPlace K.bytes s leaf (steps_of path))
         → Shrinks (λ l. K.bytes l.key) (leaves s) (K.bytes place.key)) }
     ensures succeeds { HasRoom arena.old 1 → IsOk result }

@@ -1,12 +1,14 @@
 //! The change of a tree that puts a new key in.
-ghost use Rattle.std.specs.Prelude.{◌≡◌, ℕ, IfOk, OnErr, IfErr, IsOk};
-ghost use Rattle.art_arena.specs.arena.Arena.{HasRoom, SameNodes, UsesRoom};
+ghost use Rattle.std.specs.Prelude.{◌≡◌, ℕ, List, IfOk, OnErr, IfErr, IsOk};
+ghost use Rattle.art_nodes.specs.Name.{Name};
+ghost use Rattle.art_arena.specs.arena.Arena.{HasRoom, KeepsNodes, SameNodes, UsesRoom};
+ghost use Rattle.art_arena.specs.arena.Cells.{Cell};
 ghost use Rattle.art_arena.specs.arena.Shapes.{Shape};
 ghost use Rattle.art_arena.specs.arena.Steps.{steps_of};
-ghost use Rattle.art_operations.specs.Insertions.{IsInserted};
+ghost use Rattle.art_operations.specs.Insertions.{IsInsertedBeside};
 ghost use Rattle.art_operations.specs.Points.{IsPoint};
 ghost use Rattle.art_operations.specs.declared.insert.point.InsertKind.TheVariants as kind;
-ghost use Rattle.art_arena.specs.arena.Stores.{StoresOnly};
+ghost use Rattle.art_arena.specs.arena.Stores.{StoresBeside};
 
 use crate::insert::exact::replace_pair;
 use crate::insert::into_existing::put_into_existing;
@@ -17,7 +19,8 @@ use art_arena::NodeArena;
 use art_bytes::AsBytes;
 
 impl InsertPoint {
-    /// Puts a key and its value in at its place, which was found by `search_for_insert_point` in this tree.
+    /// Puts a key and its value in at its place, which was found by `search_for_insert_point` in this tree. Whatever
+    /// stands beside the tree stays as it is.
     ///
     /// Where a leaf has the key already, it takes the new key and value, and the answer has what it had: this takes no
     /// memory and is never refused. Otherwise a leaf is made, and at most one inner node. Where there is no memory for
@@ -28,11 +31,14 @@ impl InsertPoint {
         key: K,
         value: V,
     ) -> Result<InsertResult<K, V>, InsertRefused<K, V>>
-        requires { (s : Shape K V) × StoresOnly K.bytes PREFIX_LEN arena.old self.root s
-            × IsPoint K.bytes (K.bytes key) s self }
-        ensures ok { IfOk result (λ inserted. (s : Shape K V) → StoresOnly K.bytes PREFIX_LEN arena.old self.root s
-            → IsPoint K.bytes (K.bytes key) s self
-            → IsInserted K.bytes PREFIX_LEN arena.new s (steps_of self.path) key value inserted) }
+        requires { (s : Shape K V) × (rest : List (Name × Cell K V))
+            × StoresBeside K.bytes PREFIX_LEN arena.old self.root rest s × IsPoint K.bytes (K.bytes key) s self }
+        ensures ok { IfOk result (λ inserted. (s : Shape K V) (rest : List (Name × Cell K V))
+            → StoresBeside K.bytes PREFIX_LEN arena.old self.root rest s → IsPoint K.bytes (K.bytes key) s self
+            → IsInsertedBeside K.bytes PREFIX_LEN arena.new rest s (steps_of self.path) key value inserted) }
+        ensures others { IfOk result (λ inserted. (s : Shape K V) (rest : List (Name × Cell K V))
+            → StoresBeside K.bytes PREFIX_LEN arena.old self.root rest s → IsPoint K.bytes (K.bytes key) s self
+            → KeepsNodes rest arena.old arena.new) }
         ensures err { OnErr result (SameNodes arena.old arena.new) }
         ensures handed_back { IfErr result (λ refused. (refused.key ≡ key) × (refused.value ≡ value)) }
         ensures exact { (leaf : ℕ) → self.insert_kind ≡ kind.Exact leaf → IsOk result }

@@ -1,22 +1,25 @@
 //! A new leaf under an inner node that is there.
-ghost use Rattle.std.specs.Prelude.{◌≡◌, ◌≢◌, ◌<◌, ◌⊎◌, ◌+◌, ℕ, suc, List, ◌∷◌, length, take, Some, None, IsSome};
+ghost use Rattle.std.specs.Prelude.{◌≡◌, ◌≢◌, ◌<◌, ◌⊎◌, ◌+◌, ℕ, suc, List, ◌∷◌, ◌++◌, length, take, Some, None, IsSome};
 ghost use Rattle.std.specs.Prelude.{IsTrue, IsFalse, IsOk, IfOk, OnErr, IfErr};
 ghost use Rattle.art_nodes.specs.Name.{Name};
 ghost use Rattle.art_nodes.specs.InnerNode as node;
 ghost use Rattle.art_nodes.specs.InnerNode.{child_at, first_child, children_between};
 ghost use Rattle.art_nodes.specs.Kind.{row_of};
 ghost use Rattle.std.specs.declared.ops.Bound.TheVariants.{Excluded, Unbounded};
-ghost use Rattle.art_arena.specs.arena.Arena.{SameNodes, HasRoom, KeepsRoom, UsesRoom};
+ghost use Rattle.art_arena.specs.arena.Arena.{KeepsNodes, SameNodes, HasRoom, KeepsRoom, UsesRoom, links_at};
+ghost use Rattle.art_arena.specs.arena.Cells.{Cell};
+ghost use Rattle.art_arena.specs.arena.Linked.{KeepsLinksOutside};
 ghost use Rattle.art_arena.specs.arena.Context.{Frame, plug, leaves_before, leaves_after};
 ghost use Rattle.art_arena.specs.tree.Kinds.{IsKindOf};
 ghost use Rattle.art_arena.specs.arena.Shapes.{Shape, LeafAt, leaf_at, width};
 ghost use Rattle.art_arena.specs.arena.Steps.{steps_to, steps_of};
 ghost use Rattle.art_operations.specs.inner.Splits.{IsBetween};
 ghost use Rattle.art_operations.specs.Points.{IsPoint};
-ghost use Rattle.art_operations.specs.Insertions.{IsInserted};
+ghost use Rattle.art_operations.specs.Insertions.{IsInsertedBeside};
 ghost use Rattle.art_operations.specs.declared.insert.point.InsertKind.TheVariants as kind;
 ghost use Rattle.art_operations.specs.inner.Waiting.{AwaitsLeaf};
-ghost use Rattle.art_arena.specs.arena.Stores.{StoresOnly};
+ghost use Rattle.art_arena.specs.arena.Stores.{StoresBeside};
+ghost use Rattle.art_operations.specs.Held.{SameLinks};
 
 use crate::insert::leaf::{store_leaf, take_back};
 use crate::insert::point::InsertPoint;
@@ -51,14 +54,17 @@ fn make_room<K: AsBytes, V, const PREFIX_LEN: usize>(
     byte: u8,
 ) -> Result<Place, AllocError>
     requires { (leaf : ℕ) × (f : Frame K V) × (outer : List (Frame K V)) × (l : LeafAt K V)
-        × AwaitsLeaf K.bytes PREFIX_LEN arena.old point.root inner byte leaf f outer l
+        × (rest : List (Name × Cell K V))
+        × AwaitsLeaf K.bytes PREFIX_LEN arena.old rest point.root inner byte leaf f outer l
         × (take 2 (steps_to outer) ≡ steps_of point.path) × IsKindOf inner.kind (width f.before + width f.after) }
     ensures ok { IfOk result (λ place. (leaf : ℕ) (f : Frame K V) (outer : List (Frame K V)) (l : LeafAt K V)
-        → AwaitsLeaf K.bytes PREFIX_LEN arena.old point.root inner byte leaf f outer l
+        (rest : List (Name × Cell K V))
+        → AwaitsLeaf K.bytes PREFIX_LEN arena.old rest point.root inner byte leaf f outer l
         → take 2 (steps_to outer) ≡ steps_of point.path → IsKindOf inner.kind (width f.before + width f.after)
-        → AwaitsLeaf K.bytes PREFIX_LEN arena.new place.root place.node byte leaf
+        → AwaitsLeaf K.bytes PREFIX_LEN arena.new rest place.root place.node byte leaf
         (record f { name = place.node }) outer l
         × IsKindOf place.node.kind (suc (width f.before + width f.after))) }
+    ensures links { IfOk result (λ place. SameLinks arena.old arena.new) }
     ensures err { OnErr result (SameNodes arena.old arena.new) }
     ensures succeeds { HasRoom arena.old 1 → IsOk result }
     ensures room { UsesRoom 1 arena.old arena.new }
@@ -83,9 +89,11 @@ fn neighbour_at<K: AsBytes, V, const PREFIX_LEN: usize>(
     byte: u8,
 ) -> Neighbour
     requires { (root : Name) × (leaf : ℕ) × (f : Frame K V) × (outer : List (Frame K V)) × (l : LeafAt K V)
-        × AwaitsLeaf K.bytes PREFIX_LEN arena.now root node byte leaf f outer l }
+        × (rest : List (Name × Cell K V))
+        × AwaitsLeaf K.bytes PREFIX_LEN arena.now rest root node byte leaf f outer l }
     ensures { (root : Name) (leaf : ℕ) (f : Frame K V) (outer : List (Frame K V)) (l : LeafAt K V)
-        → AwaitsLeaf K.bytes PREFIX_LEN arena.now root node byte leaf f outer l
+        (rest : List (Name × Cell K V))
+        → AwaitsLeaf K.bytes PREFIX_LEN arena.now rest root node byte leaf f outer l
         → IsBetween result.is_before result.leaf (leaves_before (f ∷ outer)) (leaves_after (f ∷ outer)) }
 {
     let inner = arena.inner(node);
@@ -112,13 +120,17 @@ fn put_leaf<K: AsBytes, V, const PREFIX_LEN: usize>(
     leaf: LeafPtr,
 )
     requires { (root : Name) × (f : Frame K V) × (outer : List (Frame K V)) × (l : LeafAt K V)
-        × AwaitsLeaf K.bytes PREFIX_LEN arena.old root node byte leaf f outer l
+        × (rest : List (Name × Cell K V)) × AwaitsLeaf K.bytes PREFIX_LEN arena.old rest root node byte leaf f outer l
         × IsKindOf node.kind (suc (width f.before + width f.after)) }
     ensures room { KeepsRoom arena.old arena.new }
     ensures put { (root : Name) (f : Frame K V) (outer : List (Frame K V)) (l : LeafAt K V)
-        → AwaitsLeaf K.bytes PREFIX_LEN arena.old root node byte leaf f outer l
+        (rest : List (Name × Cell K V)) → AwaitsLeaf K.bytes PREFIX_LEN arena.old rest root node byte leaf f outer l
         → IsKindOf node.kind (suc (width f.before + width f.after))
-        → StoresOnly K.bytes PREFIX_LEN arena.new root (plug (f ∷ outer) (leaf_at l.slot l.key l.value)) }
+        → StoresBeside K.bytes PREFIX_LEN arena.new root rest (plug (f ∷ outer) (leaf_at l.slot l.key l.value)) }
+    ensures others { (root : Name) (f : Frame K V) (outer : List (Frame K V)) (l : LeafAt K V)
+        (rest : List (Name × Cell K V)) → AwaitsLeaf K.bytes PREFIX_LEN arena.old rest root node byte leaf f outer l
+        → KeepsLinksOutside (links_at arena.old) (links_at arena.new)
+        (leaves_before (f ∷ outer) ++ l ∷ leaves_after (f ∷ outer)) }
 {
     let neighbour = neighbour_at(arena, node, byte);
     link_between(arena, leaf, neighbour.leaf, neighbour.is_before);
@@ -143,12 +155,15 @@ pub(crate) fn put_into_existing<K: AsBytes, V, const PREFIX_LEN: usize>(
     key: K,
     value: V,
 ) -> Result<InsertResult<K, V>, InsertRefused<K, V>>
-    requires tree { (s : Shape K V) × StoresOnly K.bytes PREFIX_LEN arena.old point.root s
-        × IsPoint K.bytes (K.bytes key) s point }
+    requires tree { (s : Shape K V) × (rest : List (Name × Cell K V))
+        × StoresBeside K.bytes PREFIX_LEN arena.old point.root rest s × IsPoint K.bytes (K.bytes key) s point }
     requires kind { point.insert_kind ≡ kind.IntoExisting inner byte }
-    ensures ok { IfOk result (λ inserted. (s : Shape K V) → StoresOnly K.bytes PREFIX_LEN arena.old point.root s
-        → IsPoint K.bytes (K.bytes key) s point
-        → IsInserted K.bytes PREFIX_LEN arena.new s (steps_of point.path) key value inserted) }
+    ensures ok { IfOk result (λ inserted. (s : Shape K V) (rest : List (Name × Cell K V))
+        → StoresBeside K.bytes PREFIX_LEN arena.old point.root rest s → IsPoint K.bytes (K.bytes key) s point
+        → IsInsertedBeside K.bytes PREFIX_LEN arena.new rest s (steps_of point.path) key value inserted) }
+    ensures others { IfOk result (λ inserted. (s : Shape K V) (rest : List (Name × Cell K V))
+        → StoresBeside K.bytes PREFIX_LEN arena.old point.root rest s → IsPoint K.bytes (K.bytes key) s point
+        → KeepsNodes rest arena.old arena.new) }
     ensures err { OnErr result (SameNodes arena.old arena.new) }
     ensures handed_back { IfErr result (λ refused. (refused.key ≡ key) × (refused.value ≡ value)) }
     ensures succeeds { HasRoom arena.old 2 → IsOk result }

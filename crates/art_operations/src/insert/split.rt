@@ -3,20 +3,21 @@
 ghost use Rattle.std.specs.Prelude.{◌≡◌, ◌≢◌, ◌+◌, ◌<◌, ◌≤◌, ◌^◌, ◌∷◌, ◌++◌, ℕ, List, None, Some, length, take, drop};
 ghost use Rattle.std.specs.Prelude.{IsSome, IsOk, IfOk, OnErr, IfErr};
 ghost use Rattle.art_nodes.specs.declared.kind.NodeType.TheVariants.{Node4};
+ghost use Rattle.art_nodes.specs.Name.{Name};
 ghost use Rattle.art_nodes.specs.declared.leaf.LeafNode as node;
 ghost use Rattle.art_arena.specs.arena.Arena.{held_at, node_at, links_at, Allocates, SameNodes, HasRoom, KeepsRoom};
-ghost use Rattle.art_arena.specs.arena.Arena.{SameCells, UsesRoom};
+ghost use Rattle.art_arena.specs.arena.Arena.{KeepsNodes, SameCells, UsesRoom};
 ghost use Rattle.art_arena.specs.arena.Cells.{Cell, UpdatesAt, leaf_name};
-ghost use Rattle.art_arena.specs.arena.Linked.{AreLinked, IsBeside};
+ghost use Rattle.art_arena.specs.arena.Linked.{AreLinked, IsBeside, KeepsLinksOutside};
 ghost use Rattle.art_arena.specs.arena.Prefixes.{prefix_of};
 ghost use Rattle.art_arena.specs.arena.Shapes.{Shape, LeafAt, leaves};
 ghost use Rattle.art_arena.specs.arena.Steps.{steps_of};
 ghost use Rattle.art_operations.specs.inner.Edits.{lone_leaf, AllocatesBoth};
 ghost use Rattle.art_operations.specs.inner.Splits.{PartsFrom, trimmed, root_cell, with_prefix, IsEnd, IsBetween};
 ghost use Rattle.art_operations.specs.inner.Splits.{split_held, split_node};
-ghost use Rattle.art_operations.specs.Insertions.{IsInserted};
+ghost use Rattle.art_operations.specs.Insertions.{IsInsertedBeside};
 ghost use Rattle.art_operations.specs.Points.{IsPoint};
-ghost use Rattle.art_arena.specs.arena.Stores.{StoresAt, StoresBelow, StoresOnly};
+ghost use Rattle.art_arena.specs.arena.Stores.{StoresAt, StoresBelow, StoresBeside};
 ghost use Rattle.art_operations.specs.Held.{HasLeaf, SameLinks};
 
 use crate::insert::leaf::{store_leaf, take_back};
@@ -148,6 +149,9 @@ pub(crate) fn link_between<K, V, const PREFIX_LEN: usize>(
     ensures linked { (xs ys : List (LeafAt K V)) (m : LeafAt K V) → IsBeside (links_at arena.old) (xs ++ ys) leaf
         → IsBetween is_before neighbour xs ys → m.slot ≡ leaf
         → AreLinked (links_at arena.new) None (xs ++ m ∷ ys) None }
+    ensures others { (xs ys : List (LeafAt K V)) (m : LeafAt K V) → IsBeside (links_at arena.old) (xs ++ ys) leaf
+        → IsBetween is_before neighbour xs ys → m.slot ≡ leaf
+        → KeepsLinksOutside (links_at arena.old) (links_at arena.new) (xs ++ m ∷ ys) }
 {
     if is_before {
         insert_before(arena, leaf, neighbour);
@@ -208,12 +212,15 @@ pub(crate) fn split<K: AsBytes, V, const PREFIX_LEN: usize>(
     key: K,
     value: V,
 ) -> Result<InsertResult<K, V>, InsertRefused<K, V>>
-    requires tree { (s : Shape K V) × StoresOnly K.bytes PREFIX_LEN arena.old point.root s
-        × IsPoint K.bytes (K.bytes key) s point }
+    requires tree { (s : Shape K V) × (rest : List (Name × Cell K V))
+        × StoresBeside K.bytes PREFIX_LEN arena.old point.root rest s × IsPoint K.bytes (K.bytes key) s point }
     requires kind { PartsFrom point.insert_kind old parted }
-    ensures ok { IfOk result (λ inserted. (s : Shape K V) → StoresOnly K.bytes PREFIX_LEN arena.old point.root s
-        → IsPoint K.bytes (K.bytes key) s point
-        → IsInserted K.bytes PREFIX_LEN arena.new s (steps_of point.path) key value inserted) }
+    ensures ok { IfOk result (λ inserted. (s : Shape K V) (rest : List (Name × Cell K V))
+        → StoresBeside K.bytes PREFIX_LEN arena.old point.root rest s → IsPoint K.bytes (K.bytes key) s point
+        → IsInsertedBeside K.bytes PREFIX_LEN arena.new rest s (steps_of point.path) key value inserted) }
+    ensures others { IfOk result (λ inserted. (s : Shape K V) (rest : List (Name × Cell K V))
+        → StoresBeside K.bytes PREFIX_LEN arena.old point.root rest s → IsPoint K.bytes (K.bytes key) s point
+        → KeepsNodes rest arena.old arena.new) }
     ensures err { OnErr result (SameNodes arena.old arena.new) }
     ensures handed_back { IfErr result (λ refused. (refused.key ≡ key) × (refused.value ≡ value)) }
     ensures succeeds { HasRoom arena.old 2 → IsOk result }

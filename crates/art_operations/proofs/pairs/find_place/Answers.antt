@@ -4,17 +4,17 @@ use Rattle.art_operations.proofs.pairs.find_place.Goals as goal
 
 pub find_insert_point-requires : goal.find_insert_point-requires
 find_insert_point-requires g c =
-    (omega arith, some-tree g.K.AsBytes.bytes g.row.PREFIX_LEN c.args.arena.now c.args.root c.in-Some.top c.in-Some.is c.args.key.now c.requires.0 c.requires.1)
+    (omega arith, some-tree g.K.AsBytes.bytes g.row.PREFIX_LEN c.args.arena.now c.requires.1 c.args.root c.in-Some.top c.in-Some.is c.args.key.now c.requires.0 c.requires.2)
 
 pub returns-in-Ok : goal.returns-in-Ok
-returns-in-Ok g c pairs has =
-    placed g.K.AsBytes.bytes g.row.PREFIX_LEN c.args.arena.now c.args.root c.in-Some.top c.in-Some.is c.args.key.now pairs has c.in-Ok.point c.in-Ok.ensures
+returns-in-Ok g c pairs rest has =
+    placed g.K.AsBytes.bytes g.row.PREFIX_LEN c.args.arena.now rest c.args.root c.in-Some.top c.in-Some.is c.args.key.now pairs has c.in-Ok.point c.in-Ok.ensures
 
 pub returns-in-Err : goal.returns-in-Err
-returns-in-Err g c pairs has =
-    blocked-key g.K.AsBytes.bytes g.row.PREFIX_LEN c.args.arena.now c.args.root c.in-Some.top c.in-Some.is c.args.key.now pairs has c.in-Err.ensures
+returns-in-Err g c pairs rest has =
+    blocked-key g.K.AsBytes.bytes g.row.PREFIX_LEN c.args.arena.now rest c.args.root c.in-Some.top c.in-Some.is c.args.key.now pairs has c.in-Err.ensures
 
 pub returns-in-None : goal.returns-in-None
-returns-in-None g c pairs has =
+returns-in-None g c pairs rest has =
     let none = rw c.in-None.is at has in
     (none, λ blocked. (rw none.0 at blocked).1)

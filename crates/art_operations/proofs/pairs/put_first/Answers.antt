@@ -1,7 +1,11 @@
-use Rattle.art_operations.proofs.HeldPairs.{put-first}
+use Rattle.art_operations.proofs.HeldPairs.{put-first, first-keeps}
 use Rattle.art_operations.proofs.pairs.put_first.Goals as goal
 
 pub returns-clause-ok : goal.returns-clause-ok
-returns-clause-ok g c =
+returns-clause-ok g c = λ rest before.
     rw (c.to_opaque.ensures)
-    (put-first g.K.AsBytes.bytes g.row.PREFIX_LEN c.args.arena.now c.store_leaf.new.arena c.in_ok-leaf.leaf c.args.key c.args.value c.requires.1 c.in_ok-leaf.ensures.ok)
+    (put-first g.K.AsBytes.bytes g.row.PREFIX_LEN c.args.arena.now c.store_leaf.new.arena rest c.in_ok-leaf.leaf c.args.key c.args.value before c.in_ok-leaf.ensures.ok)
+
+pub returns-clause-others : goal.returns-clause-others
+returns-clause-others g c = λ rest before.
+    first-keeps g.K.AsBytes.bytes g.row.PREFIX_LEN c.args.arena.now c.store_leaf.new.arena rest c.in_ok-leaf.leaf c.args.key c.args.value before c.in_ok-leaf.ensures.ok

@@ -1,5 +1,7 @@
-use Rattle.std.proofs.Common.{◌≡◌, ◌≢◌, ℕ, suc, ◌+◌, length, refl, sym, ◌∙◌, subst, lit<, arith}
+use Rattle.std.proofs.Common.{◌≡◌, ◌≢◌, ℕ, suc, ◌+◌, List, length, refl, sym, ◌∙◌, subst, lit<, arith}
+use Rattle.art_nodes.specs.Name.{Name}
 use Rattle.art_arena.specs.arena.Arena.{links_at}
+use Rattle.art_arena.specs.arena.Cells.{Cell}
 use Rattle.art_arena.specs.arena.Shapes.{name_of}
 use Rattle.art_arena.proofs.shapes.Updates.{links-same}
 use Rattle.art_operations.specs.inner.Detached.{IsChildLeaf, StandsFor}
@@ -12,15 +14,15 @@ use Rattle.art_operations.proofs.delete.detach.take_out.Goals as goal
 use Rattle.art_operations.proofs.delete.detach.take_out.Goals.{After-num_children}
 
 pub inner-requires : goal.inner-requires
-inner-requires g c = (lit< tt, (lit< tt, (rw (node_there g.K.AsBytes.bytes g.row.PREFIX_LEN c.args.arena.now c.args.parent c.args.byte c.args.leaf c.requires) refl, node_inner g.K.AsBytes.bytes g.row.PREFIX_LEN c.args.arena.now c.args.parent c.args.byte c.args.leaf c.requires)))
+inner-requires g c = (lit< tt, (lit< tt, (rw (node_there g.K.AsBytes.bytes g.row.PREFIX_LEN c.args.arena.now c.args.parent c.args.byte c.args.leaf c.requires.1) refl, node_inner g.K.AsBytes.bytes g.row.PREFIX_LEN c.args.arena.now c.args.parent c.args.byte c.args.leaf c.requires.1)))
 
 -- how many children the node was seen to have
-count : (g : _) (c : After-num_children g) (t : IsChildLeaf g.K.AsBytes.bytes g.row.PREFIX_LEN c.args.arena.now c.args.parent c.args.byte c.args.leaf) → c.num_children.result ≡ suc (others g.K.AsBytes.bytes g.row.PREFIX_LEN c.args.arena.now c.args.parent c.args.byte c.args.leaf t)
+count : (g : _) (c : After-num_children g) {rest : List (Name × Cell g.row.K.Denot g.row.V.Denot)} (t : IsChildLeaf g.K.AsBytes.bytes g.row.PREFIX_LEN c.args.arena.now rest c.args.parent c.args.byte c.args.leaf) → c.num_children.result ≡ suc (others g.K.AsBytes.bytes g.row.PREFIX_LEN c.args.arena.now c.args.parent c.args.byte c.args.leaf t)
 count g c t = read_at (λ m. length m.children) _ (node g.K.AsBytes.bytes g.row.PREFIX_LEN c.args.arena.now c.args.parent c.args.byte c.args.leaf t) _ (node_there g.K.AsBytes.bytes g.row.PREFIX_LEN c.args.arena.now c.args.parent c.args.byte c.args.leaf t) c.inner.ensures.value _ c.num_children.ensures ∙ node_count g.K.AsBytes.bytes g.row.PREFIX_LEN c.args.arena.now c.args.parent c.args.byte c.args.leaf t
 
 pub merge-requires : goal.merge-requires
 merge-requires g c =
-    let t = c.requires in
+    let t = c.requires.1 in
     let two : suc (others g.K.AsBytes.bytes g.row.PREFIX_LEN c.args.arena.now c.args.parent c.args.byte c.args.leaf t) ≡ 2 = sym (count g ((goal.at.merge-requires g c).After-num_children) t) ∙ c.if-num_children-eq2.true in
     let o = one g.K.AsBytes.bytes g.row.PREFIX_LEN c.args.arena.now c.args.parent c.args.byte c.args.leaf t two in (
       lit< tt,
@@ -41,16 +43,16 @@ merge-requires g c =
     )
 
 pub returns-then-num_children-eq2-clause-ok : goal.returns-then-num_children-eq2-clause-ok
-returns-then-num_children-eq2-clause-ok g c = λ t.
+returns-then-num_children-eq2-clause-ok g c = λ rest t.
     let two : suc (others g.K.AsBytes.bytes g.row.PREFIX_LEN c.args.arena.now c.args.parent c.args.byte c.args.leaf t) ≡ 2 = sym (count g ((goal.at.returns-then-num_children-eq2-clause-ok g c).After-num_children) t) ∙ c.if-num_children-eq2.true in
     let o = one g.K.AsBytes.bytes g.row.PREFIX_LEN c.args.arena.now c.args.parent c.args.byte c.args.leaf t two in
     let m = c.merge.ensures.merges (node g.K.AsBytes.bytes g.row.PREFIX_LEN c.args.arena.now c.args.parent c.args.byte c.args.leaf t) (o.edge, name_of o.here) (node_there g.K.AsBytes.bytes g.row.PREFIX_LEN c.args.arena.now c.args.parent c.args.byte c.args.leaf t) (one_other g.K.AsBytes.bytes g.row.PREFIX_LEN c.args.arena.now c.args.parent c.args.byte c.args.leaf t two) in
     let is = c.merge.ensures.value (node g.K.AsBytes.bytes g.row.PREFIX_LEN c.args.arena.now c.args.parent c.args.byte c.args.leaf t) (o.edge, name_of o.here) (node_there g.K.AsBytes.bytes g.row.PREFIX_LEN c.args.arena.now c.args.parent c.args.byte c.args.leaf t) (one_other g.K.AsBytes.bytes g.row.PREFIX_LEN c.args.arena.now c.args.parent c.args.byte c.args.leaf t two) in
-    subst (λ n. StandsFor g.K.AsBytes.bytes g.row.PREFIX_LEN c.merge.new.arena t.frame t.outer t.leaf n) (sym is) (merged_out g.K.AsBytes.bytes g.row.PREFIX_LEN c.args.arena.now c.args.parent c.args.byte c.args.leaf t two m.0 c.merge.new.arena m.1 m.2)
+    subst (λ n. StandsFor g.K.AsBytes.bytes g.row.PREFIX_LEN c.merge.new.arena rest t.frame t.outer t.leaf n) (sym is) (merged_out g.K.AsBytes.bytes g.row.PREFIX_LEN c.args.arena.now c.args.parent c.args.byte c.args.leaf t two m.0 c.merge.new.arena m.1 m.2)
 
 pub returns-then-num_children-eq2-clause-links : goal.returns-then-num_children-eq2-clause-links
 returns-then-num_children-eq2-clause-links g c =
-    let t = c.requires in
+    let t = c.requires.1 in
     let two : suc (others g.K.AsBytes.bytes g.row.PREFIX_LEN c.args.arena.now c.args.parent c.args.byte c.args.leaf t) ≡ 2 = sym (count g ((goal.at.returns-then-num_children-eq2-clause-links g c).After-num_children) t) ∙ c.if-num_children-eq2.true in
     let o = one g.K.AsBytes.bytes g.row.PREFIX_LEN c.args.arena.now c.args.parent c.args.byte c.args.leaf t two in
     let m = c.merge.ensures.merges (node g.K.AsBytes.bytes g.row.PREFIX_LEN c.args.arena.now c.args.parent c.args.byte c.args.leaf t) (o.edge, name_of o.here) (node_there g.K.AsBytes.bytes g.row.PREFIX_LEN c.args.arena.now c.args.parent c.args.byte c.args.leaf t) (one_other g.K.AsBytes.bytes g.row.PREFIX_LEN c.args.arena.now c.args.parent c.args.byte c.args.leaf t two) in
@@ -61,22 +63,22 @@ returns-then-num_children-eq2-clause-room g c = λ n room. c.merge.ensures.room 
 
 pub take_child-requires : goal.take_child-requires
 take_child-requires g c =
-    let t = c.requires in
+    let t = c.requires.1 in
     (lit< tt, (node_inner g.K.AsBytes.bytes g.row.PREFIX_LEN c.args.arena.now c.args.parent c.args.byte c.args.leaf t, (node g.K.AsBytes.bytes g.row.PREFIX_LEN c.args.arena.now c.args.parent c.args.byte c.args.leaf t, node_there g.K.AsBytes.bytes g.row.PREFIX_LEN c.args.arena.now c.args.parent c.args.byte c.args.leaf t, rw c.to_opaque.ensures (puts_leaf_back g.K.AsBytes.bytes g.row.PREFIX_LEN c.args.arena.now c.args.parent c.args.byte c.args.leaf t), has_room g.K.AsBytes.bytes g.row.PREFIX_LEN c.args.arena.now c.args.parent c.args.byte c.args.leaf t)))
 
 pub returns-clause-ok : goal.returns-clause-ok
 returns-clause-ok g c =
-    both_ok c.take_child.result _ _ _ c.take_child.ensures.ok c.take_child.ensures.kind (λ other moves kind t.
+    both_ok c.take_child.result _ _ _ c.take_child.ensures.ok c.take_child.ensures.kind (λ other moves kind rest t.
     let more : suc (others g.K.AsBytes.bytes g.row.PREFIX_LEN c.args.arena.now c.args.parent c.args.byte c.args.leaf t) ≢ 2 = λ e. c.if-num_children-eq2.false (count g ((goal.at.returns-clause-ok g c).After-num_children) t ∙ e) in
     taken_out g.K.AsBytes.bytes g.row.PREFIX_LEN c.args.arena.now c.args.parent c.args.byte c.args.leaf t c.take_child.new.arena other (moves (node g.K.AsBytes.bytes g.row.PREFIX_LEN c.args.arena.now c.args.parent c.args.byte c.args.leaf t) (node_there g.K.AsBytes.bytes g.row.PREFIX_LEN c.args.arena.now c.args.parent c.args.byte c.args.leaf t)) (kind (node g.K.AsBytes.bytes g.row.PREFIX_LEN c.args.arena.now c.args.parent c.args.byte c.args.leaf t) (node_there g.K.AsBytes.bytes g.row.PREFIX_LEN c.args.arena.now c.args.parent c.args.byte c.args.leaf t)) more)
 
 pub returns-clause-links : goal.returns-clause-links
 returns-clause-links g c =
-    let t = c.requires in
+    let t = c.requires.1 in
     let more : suc (others g.K.AsBytes.bytes g.row.PREFIX_LEN c.args.arena.now c.args.parent c.args.byte c.args.leaf t) ≢ 2 = λ e. c.if-num_children-eq2.false (count g ((goal.at.returns-clause-links g c).After-num_children) t ∙ e) in
     either_way c.take_child.result _ _ _ ((slot : ℕ) → links_at c.take_child.new.arena slot ≡ links_at c.args.arena.now slot) c.take_child.ensures.ok c.take_child.ensures.kind c.take_child.ensures.err
     (λ other moves kind. taken_links g.K.AsBytes.bytes g.row.PREFIX_LEN c.args.arena.now c.args.parent c.args.byte c.args.leaf t c.take_child.new.arena other (moves (node g.K.AsBytes.bytes g.row.PREFIX_LEN c.args.arena.now c.args.parent c.args.byte c.args.leaf t) (node_there g.K.AsBytes.bytes g.row.PREFIX_LEN c.args.arena.now c.args.parent c.args.byte c.args.leaf t)) (kind (node g.K.AsBytes.bytes g.row.PREFIX_LEN c.args.arena.now c.args.parent c.args.byte c.args.leaf t) (node_there g.K.AsBytes.bytes g.row.PREFIX_LEN c.args.arena.now c.args.parent c.args.byte c.args.leaf t)) more)
     (λ same. links-same c.args.arena.now c.take_child.new.arena same)
 
 pub returns-clause-shrinks : goal.returns-clause-shrinks
-returns-clause-shrinks g c = from_err c.take_child.result _ _ c.take_child.ensures.shrinks (λ can t. limit_kind g.K.AsBytes.bytes g.row.PREFIX_LEN c.args.arena.now c.args.parent c.args.byte c.args.leaf t (can (node g.K.AsBytes.bytes g.row.PREFIX_LEN c.args.arena.now c.args.parent c.args.byte c.args.leaf t) (node_there g.K.AsBytes.bytes g.row.PREFIX_LEN c.args.arena.now c.args.parent c.args.byte c.args.leaf t)))
+returns-clause-shrinks g c = from_err c.take_child.result _ _ c.take_child.ensures.shrinks (λ can rest t. limit_kind g.K.AsBytes.bytes g.row.PREFIX_LEN c.args.arena.now c.args.parent c.args.byte c.args.leaf t (can (node g.K.AsBytes.bytes g.row.PREFIX_LEN c.args.arena.now c.args.parent c.args.byte c.args.leaf t) (node_there g.K.AsBytes.bytes g.row.PREFIX_LEN c.args.arena.now c.args.parent c.args.byte c.args.leaf t)))

@@ -2,6 +2,8 @@ use Rattle.std.proofs.Common.{◌+◌, refl, sym, ◌∙◌, subst, arith}
 use Rattle.std.specs.Option.{IsSome}
 use Rattle.art_arena.specs.arena.Arena.{HasRoom}
 use Rattle.art_arena.specs.arena.Cells.{leaf_name}
+use Rattle.art_arena.proofs.shapes.Updates.{links-update}
+use Rattle.art_operations.proofs.Inserted.{put_keeps}
 use Rattle.art_operations.proofs.Waiting.{node-inner}
 use Rattle.art_operations.proofs.IntoExisting.{starts, inserted}
 use Rattle.art_operations.proofs.NewNodes.{undone}
@@ -10,8 +12,8 @@ use Rattle.art_operations.proofs.insert.into_existing.put_into_existing.Goals as
 pub make_room-requires : goal.make_room-requires
 make_room-requires g c =
     let r = c.requires.tree in
-    let st = starts _ _ r.0 c.args.point c.args.inner c.args.byte c.in_ok-leaf.leaf c.args.key c.args.value c.args.arena.now c.store_leaf.new.arena r.1 r.2 c.requires.kind c.in_ok-leaf.ensures.ok in
-    (omega arith, (_, st.frame, st.outer, _, st.awaits, st.path, st.kind))
+    let st = starts _ _ r.0 c.args.point c.args.inner c.args.byte c.in_ok-leaf.leaf c.args.key c.args.value c.args.arena.now c.store_leaf.new.arena r.2 r.3 c.requires.kind c.in_ok-leaf.ensures.ok in
+    (omega arith, (_, st.frame, st.outer, _, _, st.awaits, st.path, st.kind))
 
 pub take_back-requires : goal.take_back-requires
 take_back-requires g c = (omega arith, subst IsSome (sym (c.in-Err.ensures.err (leaf_name c.in_ok-leaf.leaf) ∙ c.in_ok-leaf.ensures.ok.updates.changed)) refl)
@@ -31,23 +33,31 @@ returns-in-Err-clause-room g c = λ n room. c.take_back.ensures.room n (c.in-Err
 pub put_leaf-requires : goal.put_leaf-requires
 put_leaf-requires g c =
     let r = c.requires.tree in
-    let st = starts _ _ r.0 c.args.point c.args.inner c.args.byte c.in_ok-leaf.leaf c.args.key c.args.value c.args.arena.now c.store_leaf.new.arena r.1 r.2 c.requires.kind c.in_ok-leaf.ensures.ok in
-    let made = c.in-Ok.ensures.ok _ st.frame st.outer _ st.awaits st.path st.kind in
-    (omega arith, (_, record st.frame { name = c.in-Ok.place.node }, st.outer, _, made.0, made.1))
+    let st = starts _ _ r.0 c.args.point c.args.inner c.args.byte c.in_ok-leaf.leaf c.args.key c.args.value c.args.arena.now c.store_leaf.new.arena r.2 r.3 c.requires.kind c.in_ok-leaf.ensures.ok in
+    let made = c.in-Ok.ensures.ok _ st.frame st.outer _ _ st.awaits st.path st.kind in
+    (omega arith, (_, record st.frame { name = c.in-Ok.place.node }, st.outer, _, _, made.0, made.1))
 
 pub inner_node_ptr-requires : goal.inner_node_ptr-requires
 inner_node_ptr-requires g c =
     let r = c.requires.tree in
-    let st = starts _ _ r.0 c.args.point c.args.inner c.args.byte c.in_ok-leaf.leaf c.args.key c.args.value c.args.arena.now c.store_leaf.new.arena r.1 r.2 c.requires.kind c.in_ok-leaf.ensures.ok in
-    let made = c.in-Ok.ensures.ok _ st.frame st.outer _ st.awaits st.path st.kind in
+    let st = starts _ _ r.0 c.args.point c.args.inner c.args.byte c.in_ok-leaf.leaf c.args.key c.args.value c.args.arena.now c.store_leaf.new.arena r.2 r.3 c.requires.kind c.in_ok-leaf.ensures.ok in
+    let made = c.in-Ok.ensures.ok _ st.frame st.outer _ _ st.awaits st.path st.kind in
     node-inner _ _ _ _ _ _ _ _ _ _ made.0
 
 pub returns-clause-ok : goal.returns-clause-ok
-returns-clause-ok g c = λ s tree at.
+returns-clause-ok g c = λ s rest tree at.
     let st = starts _ _ s c.args.point c.args.inner c.args.byte c.in_ok-leaf.leaf c.args.key c.args.value c.args.arena.now c.store_leaf.new.arena tree at c.requires.kind c.in_ok-leaf.ensures.ok in
-    let made = c.in-Ok.ensures.ok _ st.frame st.outer _ st.awaits st.path st.kind in
+    let made = c.in-Ok.ensures.ok _ st.frame st.outer _ _ st.awaits st.path st.kind in
     inserted _ _ s c.args.point c.args.inner c.args.byte c.in_ok-leaf.leaf c.args.key c.args.value c.make_room.new.arena c.put_leaf.new.arena c.in-Ok.place.root c.in-Ok.place.node (record st.frame { name = c.in-Ok.place.node }) st.outer
-    c.inner_node_ptr.result made.0 made.1 st.path st.was c.inner_node_ptr.ensures (c.put_leaf.ensures.put _ _ _ _ made.0 made.1)
+    c.inner_node_ptr.result made.0 made.1 st.path st.was c.inner_node_ptr.ensures (c.put_leaf.ensures.put _ _ _ _ _ made.0 made.1)
 
 pub returns-clause-room : goal.returns-clause-room
 returns-clause-room g c = λ n room. c.put_leaf.ensures.room n (c.make_room.ensures.room n (c.in_ok-leaf.ensures.room (n + 1) (subst (HasRoom c.args.arena.now) (omega arith) room)))
+
+pub returns-clause-others : goal.returns-clause-others
+returns-clause-others g c = λ s rest tree at.
+    let st = starts _ _ s c.args.point c.args.inner c.args.byte c.in_ok-leaf.leaf c.args.key c.args.value c.args.arena.now c.store_leaf.new.arena tree at c.requires.kind c.in_ok-leaf.ensures.ok in
+    let made = c.in-Ok.ensures.ok _ st.frame st.outer _ _ st.awaits st.path st.kind in
+    put_keeps g.K.AsBytes.bytes g.row.PREFIX_LEN c.args.arena.now c.make_room.new.arena c.put_leaf.new.arena c.put_leaf.new.arena c.args.point.root _ s _ c.in_ok-leaf.leaf c.args.key c.args.value _ _ _ tree (returns-clause-ok g c s rest tree at) st.was
+    (λ n other. c.in-Ok.ensures.links n ∙ (links-update c.args.arena.now c.store_leaf.new.arena c.in_ok-leaf.leaf _ c.in_ok-leaf.ensures.ok.updates).others n other)
+    (c.put_leaf.ensures.others _ _ _ _ _ made.0) (λ n. refl)

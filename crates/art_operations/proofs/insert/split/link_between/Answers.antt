@@ -1,6 +1,7 @@
 use Rattle.std.proofs.Common.{◌∷◌, ◌++◌, None, sym, ap, subst, ◌∙◌, arith}
 use Rattle.art_arena.specs.arena.Arena.{links_at}
-use Rattle.art_arena.specs.arena.Linked.{AreLinked, IsBeside}
+use Rattle.art_arena.specs.arena.Linked.{AreLinked, IsBeside, KeepsLinksOutside}
+use Rattle.art_arena.proofs.shapes.LinkedLists.{kept-before, kept-behind}
 use Rattle.art_operations.proofs.NewLeaves.{goes_before, goes_after, behind_last}
 use Rattle.art_operations.proofs.insert.split.link_between.Goals as goal
 
@@ -27,3 +28,17 @@ returns-else-is_before-clause-linked g c = λ xs ys m beside between m_is.
     let a = goes_after c.args.is_before c.args.neighbour xs ys c.if-is_before.false between in
     subst (λ zs. AreLinked (links_at c.insert_after.new.arena) None zs None) (sym (ap (λ zs. zs ++ m ∷ ys) a.is ∙ behind_last a.more a.last (m ∷ ys)))
     (c.insert_after.ensures.linked a.more a.last m ys (subst (λ zs. IsBeside (links_at c.args.arena.now) zs c.args.leaf) (ap (λ zs. zs ++ ys) a.is ∙ behind_last a.more a.last ys) beside) a.named m_is)
+
+pub returns-then-is_before-clause-others : goal.returns-then-is_before-clause-others
+returns-then-is_before-clause-others g c = λ xs ys m beside between m_is.
+    let b = goes_before c.args.is_before c.args.neighbour xs ys c.if-is_before.true between in
+    let list = subst (λ zs. IsBeside (links_at c.args.arena.now) (xs ++ zs) c.args.leaf) b.is beside in
+    subst (λ zs. KeepsLinksOutside (links_at c.args.arena.now) (links_at c.insert_before.new.arena) (xs ++ m ∷ zs)) (sym b.is)
+    (kept-before (links_at c.args.arena.now) (links_at c.insert_before.new.arena) xs b.first m b.more c.args.neighbour c.args.leaf b.named m_is list.list.linked c.insert_before.ensures.others)
+
+pub returns-else-is_before-clause-others : goal.returns-else-is_before-clause-others
+returns-else-is_before-clause-others g c = λ xs ys m beside between m_is.
+    let a = goes_after c.args.is_before c.args.neighbour xs ys c.if-is_before.false between in
+    let list = subst (λ zs. IsBeside (links_at c.args.arena.now) zs c.args.leaf) (ap (λ zs. zs ++ ys) a.is ∙ behind_last a.more a.last ys) beside in
+    subst (λ zs. KeepsLinksOutside (links_at c.args.arena.now) (links_at c.insert_after.new.arena) (zs ++ m ∷ ys)) (sym a.is)
+    (kept-behind (links_at c.args.arena.now) (links_at c.insert_after.new.arena) a.more a.last m ys c.args.neighbour c.args.leaf a.named m_is list.list.linked c.insert_after.ensures.others)

@@ -1,40 +1,43 @@
-use Rattle.std.proofs.Common.{rules, ◌≡◌, ◌+◌, ◌<◌, ◌^◌, ◌∷◌, ◌++◌, ltb, Some, refl, subst, arith}
+use Rattle.std.proofs.Common.{rules, ◌≡◌, ◌+◌, ◌<◌, ◌^◌, ◌∷◌, ◌++◌, ◌∙◌, List, ltb, Some, refl, subst, arith}
 use Rattle.art_arena.specs.arena.Arena.{node_at, links_at}
-use Rattle.art_arena.specs.arena.Cells.{UpdatesAt}
+use Rattle.art_arena.specs.arena.Cells.{Cell, UpdatesAt}
+use Rattle.art_nodes.specs.Name.{Name}
 use Rattle.art_arena.specs.arena.Context.{path_to, leaves_before, leaves_after}
 use Rattle.art_arena.specs.arena.Linked.{IsBeside}
-use Rattle.art_arena.specs.arena.Meaning.{IsTree}
+use Rattle.art_arena.specs.arena.Meaning.{IsTreeBeside}
 use Rattle.art_arena.specs.arena.Shapes.{Shape}
 use Rattle.art_arena.specs.arena.Steps.{steps_of}
 use Rattle.art_operations.specs.inner.Edits.{StandsAround}
 use Rattle.art_operations.specs.inner.Splits.{trimmed, root_cell, with_prefix, IsBetween}
 use Rattle.art_operations.specs.Points.{IsPoint}
 use Rattle.art_operations.proofs.Splits.{SplitPlace, split_place}
-use Rattle.art_operations.proofs.SplitTrees.{part_subtree, part_at_depth, part_cell, part_held, split_frame, split_leaves, end_between, split_cells, split_beside, split_stands, split}
+use Rattle.art_operations.proofs.SplitTrees.{part_subtree, part_at_depth, part_cell, part_held, split_frame, split_leaves, end_between, split_cells, split_beside, split_stands, split, split_name, not_leaf}
+use Rattle.art_operations.proofs.Inserted.{put_keeps}
+use Rattle.art_arena.proofs.shapes.Updates.{links-update, links-kept}
 use Rattle.art_operations.proofs.insert.split.split.Goals as goal
 use Rattle.art_operations.proofs.insert.split.split.Goals.{In_ok-made, After-trim, After-link_between}
 
 pub leaf_at_end-neighbour-requires : goal.leaf_at_end-neighbour-requires
 leaf_at_end-neighbour-requires g c =
     let r = c.requires.tree in
-    let at = split_place g.K.AsBytes.bytes (g.K.AsBytes.bytes c.args.key) r.0 c.args.point c.args.old c.args.parted r.2 c.requires.kind in
-    (omega arith, (path_to at.ctx, at.part, part_subtree g.K.AsBytes.bytes g.row.PREFIX_LEN r.0 c.args.old c.args.parted c.args.point.key_bytes_used (steps_of c.args.point.path) c.args.key c.args.value at c.args.point.root c.args.arena.now r.1))
+    let at = split_place g.K.AsBytes.bytes (g.K.AsBytes.bytes c.args.key) r.0 c.args.point c.args.old c.args.parted r.3 c.requires.kind in
+    (omega arith, (path_to at.ctx, at.part, part_subtree g.K.AsBytes.bytes g.row.PREFIX_LEN r.0 c.args.old c.args.parted c.args.point.key_bytes_used (steps_of c.args.point.path) c.args.key c.args.value at c.args.point.root c.args.arena.now r.2))
 
 pub rest_of_prefix-rest-requires : goal.rest_of_prefix-rest-requires
 rest_of_prefix-rest-requires g c =
     let r = c.requires.tree in
-    let at = split_place g.K.AsBytes.bytes (g.K.AsBytes.bytes c.args.key) r.0 c.args.point c.args.old c.args.parted r.2 c.requires.kind in
-    let stands = part_at_depth g.K.AsBytes.bytes g.row.PREFIX_LEN r.0 c.args.old c.args.parted c.args.point.key_bytes_used (steps_of c.args.point.path) c.args.key c.args.value at c.args.point.root c.args.arena.now r.1 in
+    let at = split_place g.K.AsBytes.bytes (g.K.AsBytes.bytes c.args.key) r.0 c.args.point c.args.old c.args.parted r.3 c.requires.kind in
+    let stands = part_at_depth g.K.AsBytes.bytes g.row.PREFIX_LEN r.0 c.args.old c.args.parted c.args.point.key_bytes_used (steps_of c.args.point.path) c.args.key c.args.value at c.args.point.root c.args.arena.now r.2 in
     let fits : g.row.PREFIX_LEN < 2 ^ 62 = c.if-not-fits_in_memory.ensures.value refl in
     (omega arith, (search (rules, fits), ((path_to at.ctx, at.part, stands, λ other. let inside = at.inside other in omega (arith, inside)), fits)))
 
 pub store_nodes-requires : goal.store_nodes-requires
 store_nodes-requires g c =
     let r = c.requires.tree in
-    let at = split_place g.K.AsBytes.bytes (g.K.AsBytes.bytes c.args.key) r.0 c.args.point c.args.old c.args.parted r.2 c.requires.kind in
+    let at = split_place g.K.AsBytes.bytes (g.K.AsBytes.bytes c.args.key) r.0 c.args.point c.args.old c.args.parted r.3 c.requires.kind in
     (omega arith, (at.within, (at.differs, c.if-not-fits_in_memory.ensures.value refl)))
 
-module _ (g : _) (c : In_ok-made g) (s : Shape g.row.K.Denot g.row.V.Denot) (tree : IsTree g.K.AsBytes.bytes g.row.PREFIX_LEN (node_at c.args.arena.now) c.args.point.root (links_at c.args.arena.now) s)
+module _ (g : _) (c : In_ok-made g) {rest : List (Name × Cell g.row.K.Denot g.row.V.Denot)} (s : Shape g.row.K.Denot g.row.V.Denot) (tree : IsTreeBeside g.K.AsBytes.bytes g.row.PREFIX_LEN (node_at c.args.arena.now) c.args.point.root (links_at c.args.arena.now) rest s)
     (point : IsPoint g.K.AsBytes.bytes (g.K.AsBytes.bytes c.args.key) s c.args.point) where
   at : SplitPlace g.K.AsBytes.bytes (g.K.AsBytes.bytes c.args.key) s c.args.old c.args.parted c.args.point.key_bytes_used (steps_of c.args.point.path)
   at = split_place g.K.AsBytes.bytes (g.K.AsBytes.bytes c.args.key) s c.args.point c.args.old c.args.parted point c.requires.kind
@@ -48,13 +51,13 @@ pub trim-requires : goal.trim-requires
 trim-requires g c =
     let d = (goal.at.trim-requires g c).In_ok-made in
     let r = c.requires.tree in
-    let held = part_held g.K.AsBytes.bytes g.row.PREFIX_LEN r.0 c.args.old c.args.parted c.args.point.key_bytes_used (steps_of c.args.point.path) c.args.key c.args.value (at g d r.0 r.1 r.2) c.args.point.root c.args.arena.now r.1
+    let held = part_held g.K.AsBytes.bytes g.row.PREFIX_LEN r.0 c.args.old c.args.parted c.args.point.key_bytes_used (steps_of c.args.point.path) c.args.key c.args.value (at g d r.0 r.2 r.3) c.args.point.root c.args.arena.now r.2
     c.in_ok-made.made.leaf c.in_ok-made.made.inner c.store_nodes.new.arena c.in_ok-made.ensures.ok in
     let fits : g.row.PREFIX_LEN < 2 ^ 62 = c.if-not-fits_in_memory.ensures.value refl in
     (omega arith, (search (rules, fits), (held, c.rest_of_prefix-rest.ensures.inner)))
 
 -- the node from which the key parts is trimmed
-cut : (g : _) (c : After-trim g) (s : Shape g.row.K.Denot g.row.V.Denot) (tree : IsTree g.K.AsBytes.bytes g.row.PREFIX_LEN (node_at c.args.arena.now) c.args.point.root (links_at c.args.arena.now) s)
+cut : (g : _) (c : After-trim g) {rest : List (Name × Cell g.row.K.Denot g.row.V.Denot)} (s : Shape g.row.K.Denot g.row.V.Denot) (tree : IsTreeBeside g.K.AsBytes.bytes g.row.PREFIX_LEN (node_at c.args.arena.now) c.args.point.root (links_at c.args.arena.now) rest s)
     (point : IsPoint g.K.AsBytes.bytes (g.K.AsBytes.bytes c.args.key) s c.args.point) (here : SplitPlace g.K.AsBytes.bytes (g.K.AsBytes.bytes c.args.key) s c.args.old c.args.parted c.args.point.key_bytes_used (steps_of c.args.point.path))
     → with_prefix c.rest_of_prefix-rest.result (root_cell g.row.PREFIX_LEN here.part) ≡ root_cell g.row.PREFIX_LEN (trimmed (c.args.parted.matched + 1) here.part)
     → UpdatesAt (node_at c.store_nodes.new.arena) (node_at c.trim.new.arena) c.args.old (Some (root_cell g.row.PREFIX_LEN (trimmed (c.args.parted.matched + 1) here.part)))
@@ -65,7 +68,7 @@ cut g c s tree point here rest =
     c.in_ok-made.made.leaf c.in_ok-made.made.inner c.store_nodes.new.arena c.in_ok-made.ensures.ok))
 
 -- the new leaf goes between the leaves on both sides of its place
-goes_between : (g : _) (c : After-trim g) (s : Shape g.row.K.Denot g.row.V.Denot) (tree : IsTree g.K.AsBytes.bytes g.row.PREFIX_LEN (node_at c.args.arena.now) c.args.point.root (links_at c.args.arena.now) s)
+goes_between : (g : _) (c : After-trim g) {rest : List (Name × Cell g.row.K.Denot g.row.V.Denot)} (s : Shape g.row.K.Denot g.row.V.Denot) (tree : IsTreeBeside g.K.AsBytes.bytes g.row.PREFIX_LEN (node_at c.args.arena.now) c.args.point.root (links_at c.args.arena.now) rest s)
     (here : SplitPlace g.K.AsBytes.bytes (g.K.AsBytes.bytes c.args.key) s c.args.old c.args.parted c.args.point.key_bytes_used (steps_of c.args.point.path))
     → UpdatesAt (node_at c.store_nodes.new.arena) (node_at c.trim.new.arena) c.args.old (Some (root_cell g.row.PREFIX_LEN (trimmed (c.args.parted.matched + 1) here.part)))
     → (let frame = split_frame g.K.AsBytes.bytes g.row.PREFIX_LEN s c.args.old c.args.parted c.args.point.key_bytes_used (steps_of c.args.point.path) c.args.key c.args.value here (ltb c.args.parted.new_byte c.args.parted.old_byte) c.in_ok-made.made.inner in
@@ -87,12 +90,12 @@ link_between-requires g c =
     let d = (goal.at.link_between-requires g c).In_ok-made in
     let e = (goal.at.link_between-requires g c).After-trim in
     let r = c.requires.tree in
-    let here = at g d r.0 r.1 r.2 in
-    let goes = goes_between g e r.0 r.1 here (cut g e r.0 r.1 r.2 here (rest_is g d r.0 r.1 r.2)) in
+    let here = at g d r.0 r.2 r.3 in
+    let goes = goes_between g e r.0 r.2 here (cut g e r.0 r.2 r.3 here (rest_is g d r.0 r.2 r.3)) in
     (omega arith, (_, _, goes.0, goes.1))
 
 -- and stands yet where it stood
-stands : (g : _) (c : After-link_between g) (s : Shape g.row.K.Denot g.row.V.Denot) (tree : IsTree g.K.AsBytes.bytes g.row.PREFIX_LEN (node_at c.args.arena.now) c.args.point.root (links_at c.args.arena.now) s)
+stands : (g : _) (c : After-link_between g) {rest : List (Name × Cell g.row.K.Denot g.row.V.Denot)} (s : Shape g.row.K.Denot g.row.V.Denot) (tree : IsTreeBeside g.K.AsBytes.bytes g.row.PREFIX_LEN (node_at c.args.arena.now) c.args.point.root (links_at c.args.arena.now) rest s)
     (here : SplitPlace g.K.AsBytes.bytes (g.K.AsBytes.bytes c.args.key) s c.args.old c.args.parted c.args.point.key_bytes_used (steps_of c.args.point.path))
     → UpdatesAt (node_at c.store_nodes.new.arena) (node_at c.trim.new.arena) c.args.old (Some (root_cell g.row.PREFIX_LEN (trimmed (c.args.parted.matched + 1) here.part)))
     → StandsAround g.K.AsBytes.bytes g.row.PREFIX_LEN (node_at c.link_between.new.arena) c.args.point.root here.ctx c.args.old
@@ -108,11 +111,11 @@ repoint-new_root-requires g c =
     let e = (goal.at.repoint-new_root-requires g c).After-trim in
     let f = (goal.at.repoint-new_root-requires g c).After-link_between in
     let r = c.requires.tree in
-    let here = at g d r.0 r.1 r.2 in
-    (omega arith, (here.ctx, c.args.old, _, stands g f r.0 r.1 here (cut g e r.0 r.1 r.2 here (rest_is g d r.0 r.1 r.2))))
+    let here = at g d r.0 r.2 r.3 in
+    (omega arith, (here.ctx, c.args.old, _, stands g f r.0 r.2 here (cut g e r.0 r.2 r.3 here (rest_is g d r.0 r.2 r.3))))
 
 pub returns-clause-ok : goal.returns-clause-ok
-returns-clause-ok g c = λ s tree point.
+returns-clause-ok g c = λ s rest tree point.
     let d = (goal.at.returns-clause-ok g c).In_ok-made in
     let e = (goal.at.returns-clause-ok g c).After-trim in
     let f = (goal.at.returns-clause-ok g c).After-link_between in
@@ -126,6 +129,18 @@ returns-clause-ok g c = λ s tree point.
     let linked = c.link_between.ensures.linked _ _ (record { slot = c.in_ok-made.made.leaf; key = c.args.key; value = c.args.value }) goes.0 goes.1 refl in
     split g.K.AsBytes.bytes g.row.PREFIX_LEN s c.args.old c.args.parted c.args.point.key_bytes_used (steps_of c.args.point.path) c.args.key c.args.value here c.args.point.root c.args.arena.now tree
     c.in_ok-made.made.leaf c.in_ok-made.made.inner is_before refl c.link_between.new.arena c.repoint-new_root.new.arena c.repoint-new_root.result holds named c.repoint-new_root.ensures.links linked
+
+pub returns-clause-others : goal.returns-clause-others
+returns-clause-others g c = λ s rest tree point.
+    let d = (goal.at.returns-clause-others g c).In_ok-made in
+    let e = (goal.at.returns-clause-others g c).After-trim in
+    let here = at g d s tree point in
+    let goes = goes_between g e s tree here (cut g e s tree point here (rest_is g d s tree point)) in
+    let both = c.in_ok-made.ensures.ok in
+    put_keeps g.K.AsBytes.bytes g.row.PREFIX_LEN c.args.arena.now c.trim.new.arena c.link_between.new.arena c.repoint-new_root.new.arena c.args.point.root _ s _ c.in_ok-made.made.leaf c.args.key c.args.value _ _ _ tree (returns-clause-ok g c s rest tree point)
+    (split_leaves g.K.AsBytes.bytes g.row.PREFIX_LEN s c.args.old c.args.parted c.args.point.key_bytes_used (steps_of c.args.point.path) c.args.key c.args.value here (ltb c.args.parted.new_byte c.args.parted.old_byte) c.in_ok-made.made.inner)
+    (λ n other. c.trim.ensures.links n ∙ links-kept both.between c.store_nodes.new.arena (split_name c.in_ok-made.made.inner) _ both.second.updates (not_leaf c.in_ok-made.made.inner) n ∙ (links-update c.args.arena.now both.between c.in_ok-made.made.leaf _ both.first.updates).others n other)
+    (c.link_between.ensures.others _ _ (record { slot = c.in_ok-made.made.leaf; key = c.args.key; value = c.args.value }) goes.0 goes.1 refl) c.repoint-new_root.ensures.links
 
 pub returns-clause-room : goal.returns-clause-room
 returns-clause-room g c = λ n room. c.repoint-new_root.ensures.room n (c.link_between.ensures.room n (c.trim.ensures.room n (c.in_ok-made.ensures.room n room)))
