@@ -1,6 +1,5 @@
 -- The way to the place of a new key, one node at a time, and where it ends.
 use Rattle.std.proofs.Common.{◌≡◌, ◌≢◌, ℕ, ◌+◌, ◌<◌, ◌≤◌, List, [], ◌∷◌, ◌++◌, length, take, drop, get_or, Option, Some, None, refl, sym, ap, ap₂, subst, ◌∙◌, inl, inr, arith, append_assoc, append-nil, length-append}
-use Rattle.std.specs.List.{AllByRecursion}
 use Rattle.std.proofs.lemmas.Bool.Decides.{eqb_tells}
 use Rattle.art_bytes.specs.Keys.{BeginsWith, Conflict, IsProperFront}
 use Rattle.art_nodes.specs.declared.kind.NodeType.TheVariants.{Leaf}
@@ -10,7 +9,7 @@ use Rattle.art_nodes.specs.Name.{Name}
 use Rattle.art_arena.specs.tree.Changes.{IsIn}
 use Rattle.art_arena.specs.arena.Cells.{Cell, leaf_name}
 use Rattle.art_arena.specs.arena.Arena.{Arena, leaf_held, inner_held, held_at, node_at}
-use Rattle.art_arena.specs.arena.Shapes.{Shape, Branches, leaf_at, inner_at, no_branch, branch, LeafAt, children_at, width, leaves, leaves_in, IsUnder, AreUnder}
+use Rattle.art_arena.specs.arena.Shapes.{Shape, Branches, leaf_at, inner_at, no_branch, branch, children_at, leaves, leaves_in, IsUnder, AreUnder}
 use Rattle.art_arena.specs.arena.Context.{Frame, path_to}
 use Rattle.art_arena.specs.arena.Meaning.{IsAtDepth, IsSubtree}
 use Rattle.art_arena.specs.arena.Places.{IsPlace, IsToward}
@@ -21,7 +20,7 @@ use Rattle.art_arena.proofs.shapes.Places.{leaves-begin, step-down, at-root}
 use Rattle.art_operations.specs.Meetings.{PartAt}
 use Rattle.art_operations.proofs.LastSteps.{last_two}
 use Rattle.art_operations.specs.declared.meeting.Parted.{Parted}
-use Rattle.art_operations.specs.Points.{HasConflict, NoConflict}
+use Rattle.art_operations.specs.Points.{AllConflict, HasConflict, NoConflict}
 use Rattle.art_arena.proofs.shapes.Prefixes.{drop-front}
 use Rattle.art_arena.proofs.shapes.Subtrees.{pair_of, leaves_begin_prefix, some_leaf, subtree-leaf, subtree-inner, subtree-branch, root_held}
 use Rattle.art_bytes.proofs.Order.{begins_step, begins_from_step, conflict_first, conflict_second}
@@ -75,8 +74,8 @@ module _ {K V : Type 0} (bytes : K → List ℕ) (key path : List ℕ) (depth : 
   -- at a leaf
 
   module _ (slot : ℕ) (k : K) (v : V) (s : Shape K V) (is : s ≡ leaf_at slot k v) (leaf_begins : BeginsWith path (bytes k)) where
-    in_conflict : Conflict key (bytes k) → HasConflict bytes key (leaves s)
-    in_conflict c = subst (λ t. HasConflict bytes key (leaves t)) (sym is) (record { slot = slot; key = k; value = v }, inl refl, c)
+    in_conflict : Conflict key (bytes k) → AllConflict bytes key (leaves s)
+    in_conflict c = subst (λ t. AllConflict bytes key (leaves t)) (sym is) (c, tt)
 
     not_in_conflict : (Conflict key (bytes k) → ⊥) → NoConflict bytes key (leaves s)
     not_in_conflict n = subst (λ t. NoConflict bytes key (leaves t)) (sym is) (n, tt)
@@ -86,11 +85,11 @@ module _ {K V : Type 0} (bytes : K → List ℕ) (key path : List ℕ) (depth : 
         let same : bytes k ≡ key = behind path (bytes k) depth len leaf_begins ∙ ap (λ r. path ++ r) e ∙ sym (behind path key depth len begins) in
         (same, not_in_conflict (λ c. c.0 (sym same)))
 
-    pub leaf_old_ends : IsProperFront (drop depth (bytes k)) (drop depth key) → HasConflict bytes key (leaves s)
+    pub leaf_old_ends : IsProperFront (drop depth (bytes k)) (drop depth key) → AllConflict bytes key (leaves s)
     leaf_old_ends (b, r, e) =
         in_conflict (conflict_second key (bytes k) (b, r, behind path key depth len begins ∙ ap (λ x. path ++ x) e ∙ sym (append_assoc path (drop depth (bytes k)) (b ∷ r)) ∙ ap (λ x. x ++ b ∷ r) (sym (behind path (bytes k) depth len leaf_begins))))
 
-    pub leaf_new_ends : IsProperFront (drop depth key) (drop depth (bytes k)) → HasConflict bytes key (leaves s)
+    pub leaf_new_ends : IsProperFront (drop depth key) (drop depth (bytes k)) → AllConflict bytes key (leaves s)
     leaf_new_ends (b, r, e) =
         in_conflict (conflict_first key (bytes k) (b, r, behind path (bytes k) depth len leaf_begins ∙ ap (λ x. path ++ x) e ∙ sym (append_assoc path (drop depth key) (b ∷ r)) ∙ ap (λ x. x ++ b ∷ r) (sym (behind path key depth len begins))))
 
@@ -107,19 +106,23 @@ module _ {K V : Type 0} (bytes : K → List ℕ) (key path : List ℕ) (depth : 
 
   module _ (n : Name) (prefix : List ℕ) (kids : Branches K V) (under : IsUnder bytes path (inner_at n prefix kids)) where
     -- the key ends within the prefix, or with it
-    pub inner_ends : BeginsWith (drop depth key) prefix → HasConflict bytes key (leaves_in kids)
-    inner_ends (x, e) = first kids under.0.two under.1
+    pub inner_ends : BeginsWith (drop depth key) prefix → AllConflict bytes key (leaves_in kids)
+    inner_ends (x, e) = each 0 kids under.1
       where
-        first : (f : Branches K V) → 2 ≤ width f → AreUnder bytes (path ++ prefix) 0 f → HasConflict bytes key (leaves_in f)
-        first no_branch wide h = absurd (omega (arith, wide))
-        first (branch c t rest) wide h =
-            let l = some_leaf bytes ((path ++ prefix) ++ c ∷ []) t h.1 in
-            let st = (subst (λ ls. AllByRecursion (λ (m : LeafAt K V). BeginsWith ((path ++ prefix) ++ c ∷ []) (bytes m.key)) ls) l.2 (leaves-begin bytes ((path ++ prefix) ++ c ∷ []) t h.1)).0 in
-            let s = begins_step (path ++ prefix) c (bytes l.0.key) st in
+        longer : (c : ℕ) (k : List ℕ) → BeginsWith ((path ++ prefix) ++ c ∷ []) k → Conflict key k
+        longer c k st =
+            let s = begins_step (path ++ prefix) c k st in
             let parts : (path ++ (drop depth key ++ x)) ++ c ∷ s.0 ≡ path ++ (drop depth key ++ (x ++ c ∷ s.0)) = simp append_assoc in
-            let spelled : bytes l.0.key ≡ key ++ (x ++ c ∷ s.0) =
+            let spelled : k ≡ key ++ (x ++ c ∷ s.0) =
             s.1 ∙ ap (λ y. (path ++ y) ++ c ∷ s.0) e ∙ parts ∙ sym (append_assoc path (drop depth key) (x ++ c ∷ s.0)) ∙ ap (λ y. y ++ (x ++ c ∷ s.0)) (sym (behind path key depth len begins)) in
-            (l.0, subst (λ ls. IsIn l.0 (ls ++ leaves_in rest)) (sym l.2) (inl refl), conflict_first key (bytes l.0.key) (goes_on key x c s.0 (bytes l.0.key) spelled))
+            conflict_first key k (goes_on key x c s.0 k spelled)
+
+        each : (low : ℕ) (f : Branches K V) → AreUnder bytes (path ++ prefix) low f → AllConflict bytes key (leaves_in f)
+        each low no_branch h = tt
+        each low (branch c t rest) h =
+            all_append _ (leaves t) (leaves_in rest)
+            (all_weaker _ _ (λ l st. longer c (bytes l.key) st) (leaves t) (leaves-begin bytes ((path ++ prefix) ++ c ∷ []) t h.1))
+            (each (c + 1) rest h.2)
 
     -- the key has another byte within the prefix
     pub inner_parts : (p : Parted) → PartAt prefix (drop depth key) p → PartAt prefix (drop (length path) key) p × NoConflict bytes key (leaves_in kids)
@@ -155,6 +158,12 @@ module _ {K V : Type 0} (bytes : K → List ℕ) (key path : List ℕ) (depth : 
               (all_weaker _ _ (λ l st. apart_free (path ++ prefix) key (bytes l.key) b c on st (λ same. other.1 (sym same))) (leaves t) (leaves-begin bytes ((path ++ prefix) ++ c ∷ []) t h.1))
               (each (c + 1) rest h.2 (rw other.0 at e))
         ]
+
+-- where all leaves below are in conflict with the key, one is
+pub some_conflict : {K V : Type 0} (bytes : K → List ℕ) (key path : List ℕ) (s : Shape K V) → IsUnder bytes path s → AllConflict bytes key (leaves s) → HasConflict bytes key (leaves s)
+some_conflict bytes key path s under all =
+    let l = some_leaf bytes path s under in
+    (l.0, subst (IsIn l.0) (sym l.2) (inl refl), (subst (AllConflict bytes key) l.2 all).0)
 
 module _ {K V : Type 0} (bytes : K → List ℕ) (P : ℕ) (at : Name → Option (Cell K V)) (key : List ℕ) (s : Shape K V) where
   -- on the way to the key's place

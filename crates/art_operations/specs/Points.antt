@@ -4,11 +4,12 @@ use Rattle.std.specs.List.{AllByRecursion}
 use Rattle.std.specs.declared.result.Result.{Result}
 use Rattle.art_bytes.specs.Keys.{BeginsWith, Conflict}
 use Rattle.art_nodes.specs.InnerNode.{child_at}
+use Rattle.art_nodes.specs.Name.{Name}
 use Rattle.art_arena.specs.tree.Changes.{IsIn}
 use Rattle.art_arena.specs.arena.Shapes.{Shape, Branches, leaf_at, inner_at, LeafAt, name_of, children_at, leaves}
 use Rattle.art_arena.specs.arena.Context.{Frame, path_to}
 use Rattle.art_arena.specs.arena.Places.{IsToward}
-use Rattle.art_arena.specs.arena.Steps.{steps_of}
+use Rattle.art_arena.specs.arena.Steps.{Step, steps_of}
 use Rattle.art_operations.specs.Meetings.{PartAt}
 use Rattle.art_operations.specs.declared.insert.point.InsertPoint.{InsertPoint}
 use Rattle.art_operations.specs.declared.insert.point.InsertSearchError.{InsertSearchError}
@@ -28,6 +29,9 @@ module _ {K V : Type 0} (bytes : K → List ℕ) (key : List ℕ) where
 
   abbrev pub NoConflict : List (LeafAt K V) → Type 0
   NoConflict ls = AllByRecursion (λ l. Conflict key (bytes l.key) → ⊥) ls
+
+  abbrev pub AllConflict : List (LeafAt K V) → Type 0
+  AllConflict ls = AllByRecursion (λ l. Conflict key (bytes l.key)) ls
 
   -- what the key meets in the part at its place, behind this path: another byte within the prefix, or within the key
   -- of a leaf; no child under its next byte; or a leaf with the key
@@ -49,6 +53,16 @@ module _ {K V : Type 0} (bytes : K → List ℕ) (key : List ℕ) where
     pub part : Shape K V
     pub toward : IsToward bytes key s ctx part (steps_of point.path) point.key_bytes_used
     pub meets : MeetsAt (path_to ctx) part point.insert_kind
+
+  -- the part of the tree that has this name stands behind a front of the key, at the end of these last steps, and each
+  -- of its leaves has a key in conflict with this one
+  pub record IsInTheWay (s : Shape K V) (root name : Name) (last : List Step) : Type 0 where
+    pub named : name_of s ≡ root
+    pub ctx : List (Frame K V)
+    pub part : Shape K V
+    pub toward : IsToward bytes key s ctx part last (length (path_to ctx))
+    pub here : name_of part ≡ name
+    pub conflicts : AllConflict (leaves part)
 
   -- a place and no conflict, or a conflict
   abbrev pub IsPlaceOrConflict : {E : Type 0} → Shape K V → Result InsertPoint E → Type 0

@@ -1,5 +1,5 @@
 -- The leaves as a linked list: a list in two parts, and what a write of one leaf's links leaves.
-use Rattle.std.proofs.Common.{◌≡◌, ◌≢◌, ℕ, ◌+◌, ◌≤◌, Bool, true, false, cond, eqb, List, [], ◌∷◌, ◌++◌, Option, Some, None, IsSome, refl, sym, ap, ◌∙◌, inl, inr, arith, ap₂, subst, append_assoc}
+use Rattle.std.proofs.Common.{◌≡◌, ◌≢◌, ℕ, ◌+◌, ◌≤◌, true, cond, eqb, List, [], ◌∷◌, ◌++◌, Option, Some, None, IsSome, refl, sym, ap, ◌∙◌, inl, inr, arith, ap₂, subst, append_assoc}
 use Rattle.std.proofs.lemmas.Bool.Decides.{eqb_tells}
 use Rattle.art_arena.specs.arena.Cells.{UpdatesAt}
 use Rattle.art_arena.specs.arena.Shapes.{LeafAt}
@@ -293,6 +293,42 @@ module _ {K V : Type 0} (old new : ℕ → Option Links) where
 
     pub kept-behind : ((was : Links) → old at ≡ Some was → KeepsOtherLinks old new (Some at) leaf was.next) → KeepsLinksOutside old new ((xs ++ l ∷ []) ++ m ∷ ys)
     kept-behind kept = kept-between (xs ++ l ∷ []) ys m (rw (last_slot-append None xs (l ∷ []), is, new_is) (kept _ (link_there old xs l ys at linked is)))
+
+-- a run of leaves, told by its first and its last one
+module _ {K V : Type 0} (links : ℕ → Option Links) (xs run ys : List (LeafAt K V)) (linked : AreLinked links None (xs ++ (run ++ ys)) None) where
+  pub run_start : (p : ℕ) → first_slot run None ≡ Some p → (after : Option ℕ) × (links p ≡ Some (record { previous = last_slot None xs; next = after }))
+  run_start p first = there run linked first
+    where
+      there : (ms : List (LeafAt K V)) → AreLinked links None (xs ++ (ms ++ ys)) None → first_slot ms None ≡ Some p → (after : Option ℕ) × (links p ≡ Some (record { previous = last_slot None xs; next = after }))
+      there [] in_order e = absurd (cc)
+      there (m ∷ ms) in_order e = (_, link_there links xs m (ms ++ ys) p in_order (cc))
+
+  pub run_end : (p : ℕ) → last_slot None run ≡ Some p → (before : Option ℕ) × (links p ≡ Some (record { previous = before; next = first_slot ys None }))
+  run_end p last =
+      let e = ends_with-first run p last in
+      let whole : xs ++ (run ++ ys) ≡ (xs ++ e.0) ++ e.1 ∷ ys = ap (λ ms. xs ++ (ms ++ ys)) e.2 ∙ ap (λ ms. xs ++ ms) (append_assoc e.0 (e.1 ∷ []) ys) ∙ sym (append_assoc xs e.0 (e.1 ∷ ys)) in
+      (_, link_there links (xs ++ e.0) e.1 ys p (subst (λ ls. AreLinked links None ls None) whole linked) e.3)
+
+-- a new leaf goes in its place
+pub can_take_run : {K V : Type 0} (links : ℕ → Option Links) (xs run ys : List (LeafAt K V)) (leaf name first last : ℕ) (p n : Option ℕ) → leaf ≡ name → IsBeside links (xs ++ (run ++ ys)) leaf
+    → first_slot run None ≡ Some first → last_slot None run ≡ Some last → ((was : Links) → links first ≡ Some was → p ≡ was.previous) → ((was : Links) → links last ≡ Some was → n ≡ was.next)
+    → CanLink links xs ys p name n
+can_take_run links xs run ys leaf name first last p n same beside starts ends before after =
+    let linked = beside.list.linked in
+    relabel links xs ys _ p leaf name _ n (sym (before _ (run_start links xs run ys linked first starts).1)) same (sym (after _ (run_end links xs run ys linked last ends).1))
+    (record {
+      after = first_slot (run ++ ys) None;
+      before = last_slot (last_slot None xs) run;
+      halves = record {
+        left = AreLinked-left links None xs (run ++ ys) None linked;
+        right = AreLinked-right links (last_slot None xs) run ys None (AreLinked-right links None xs (run ++ ys) None linked);
+        once = λ m. let o = beside.list.once m in omega (arith, o, times-append m xs (run ++ ys), times-append m run ys);
+      };
+      last = refl;
+      first = refl;
+      apart = let a = beside.apart in omega (arith, a, times-append leaf xs (run ++ ys), times-append leaf run ys);
+      held = beside.held;
+    })
 
 -- a leaf that is in a list once isn't beside itself
 

@@ -4,7 +4,7 @@ use Rattle.art_bytes.specs.Keys.{BeginsWith}
 use Rattle.art_nodes.specs.Name.{Name}
 use Rattle.art_nodes.specs.InnerNode.{child_at}
 use Rattle.art_arena.specs.arena.Shapes.{Shape, Branches, inner_at, children_at, leaves}
-use Rattle.art_operations.specs.Points.{HasConflict, MeetsAt, NoConflict}
+use Rattle.art_operations.specs.Points.{AllConflict, MeetsAt, NoConflict}
 use Rattle.art_operations.specs.declared.insert.point.Way.{Way}
 use Rattle.art_operations.specs.declared.insert.point.Way.TheVariants as way
 
@@ -16,4 +16,4 @@ module _ {K V : Type 0} (bytes : K → List ℕ) (key : List ℕ) where
       × (child_at (children_at kids) byte ≡ Some child)
       × BeginsWith ((path ++ prefix) ++ byte ∷ []) key × (next ≡ length path + length prefix + 1)
   IsWay path s (way.Point kind) = MeetsAt bytes key path s kind × NoConflict bytes key (leaves s)
-  IsWay path s way.Conflict = HasConflict bytes key (leaves s)
+  IsWay path s way.Conflict = AllConflict bytes key (leaves s)

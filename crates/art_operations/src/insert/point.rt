@@ -3,7 +3,8 @@ ghost use Rattle.std.specs.Prelude.{◌≡◌, ◌≢◌, ℕ, List, IfOk, IfErr
 ghost use Rattle.art_bytes.specs.Keys.{BeginsWith};
 ghost use Rattle.art_arena.specs.arena.Cells.{leaf_name};
 ghost use Rattle.art_arena.specs.arena.Shapes.{Shape};
-ghost use Rattle.art_operations.specs.Points.{IsPlaceOrConflict, Refuses};
+ghost use Rattle.art_arena.specs.arena.Steps.{steps_of};
+ghost use Rattle.art_operations.specs.Points.{IsInTheWay, IsPlaceOrConflict, Refuses};
 ghost use Rattle.art_operations.specs.inner.Ways.{IsWay};
 ghost use Rattle.art_arena.specs.arena.Stores.{Stores, StoresAt};
 
@@ -46,10 +47,18 @@ impl KeyPrefix {
     }
 }
 
-/// A key can't be put in, since it is a front of a stored key, or a stored key is one of it.
-#[derive(Clone, Copy, PartialEq, Eq, Debug, Error)]
+/// A key can't be put in, since it is a front of a stored key, or a stored key is one of it. The stored keys of which
+/// that holds are those of one part of the tree.
+#[derive(Clone, Copy, Debug, Error)]
 #[error("the key is a front of a stored key, or a stored key is one of it")]
-pub struct PrefixConflict;
+pub struct PrefixConflict {
+    /// The root of the tree.
+    pub root: OpaqueNodePtr,
+    /// The inner nodes just above the part.
+    pub path: TreePath,
+    /// The root of the part.
+    pub part: OpaqueNodePtr,
+}
 
 /// A key can't be put in, since it is a front of a stored key, or a stored key is one of it.
 #[derive(Debug, Drop, Error)]
@@ -205,22 +214,30 @@ fn way_at<K: AsBytes, V, const PREFIX_LEN: usize>(
 }
 
 /// Finds where a new key goes in the tree below a name. It is refused where the key is a front of a stored key, or a
-/// stored key is one of it. It takes no memory.
+/// stored key is one of it: the refusal tells the part of the tree that has these keys. It takes no memory.
 pub fn find_insert_point<K: AsBytes, V, const PREFIX_LEN: usize>(
     arena: &NodeArena<K, V, PREFIX_LEN>,
     root: OpaqueNodePtr,
     key: &[u8],
 ) -> Result<InsertPoint, PrefixConflict>
     requires { (s : Shape K V) × Stores K.bytes PREFIX_LEN arena.now root s }
-    ensures { (s : Shape K V) → Stores K.bytes PREFIX_LEN arena.now root s
+    ensures answer { (s : Shape K V) → Stores K.bytes PREFIX_LEN arena.now root s
         → IsPlaceOrConflict K.bytes key.now s result }
+    ensures part { IfErr result (λ e. (s : Shape K V) → Stores K.bytes PREFIX_LEN arena.now root s
+        → IsInTheWay K.bytes key.now s e.root e.part (steps_of e.path)) }
 {
     let mut search = TreePathSearch::default();
     let mut current = root;
     let mut depth = 0;
-    loop {
+    'down: loop {
         match way_at(arena, current, key, depth) {
-            Way::Conflict => return Err(PrefixConflict),
+            Way::Conflict => {
+                return Err(PrefixConflict {
+                    root,
+                    path: search.finish(),
+                    part: current,
+                });
+            }
             Way::Point(insert_kind) => {
                 return Ok(InsertPoint {
                     root,

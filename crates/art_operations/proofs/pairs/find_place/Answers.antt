@@ -8,11 +8,11 @@ find_insert_point-requires g c =
 
 pub returns-in-Ok : goal.returns-in-Ok
 returns-in-Ok g c pairs rest has =
-    placed g.K.AsBytes.bytes g.row.PREFIX_LEN c.args.arena.now rest c.args.root c.in-Some.top c.in-Some.is c.args.key.now pairs has c.in-Ok.point c.in-Ok.ensures
+    placed g.K.AsBytes.bytes g.row.PREFIX_LEN c.args.arena.now rest c.args.root c.in-Some.top c.in-Some.is c.args.key.now pairs has c.in-Ok.point c.in-Ok.ensures.answer
 
 pub returns-in-Err : goal.returns-in-Err
 returns-in-Err g c pairs rest has =
-    blocked-key g.K.AsBytes.bytes g.row.PREFIX_LEN c.args.arena.now rest c.args.root c.in-Some.top c.in-Some.is c.args.key.now pairs has c.in-Err.ensures
+    blocked-key g.K.AsBytes.bytes g.row.PREFIX_LEN c.args.arena.now rest c.args.root c.in-Some.top c.in-Some.is c.args.key.now pairs has c.in-Err.ensures.answer
 
 pub returns-in-None : goal.returns-in-None
 returns-in-None g c pairs rest has =

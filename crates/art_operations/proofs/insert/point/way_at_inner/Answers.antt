@@ -2,7 +2,7 @@ use Rattle.std.proofs.Common.{◌≡◌, ◌∷◌, [], drop, sym, ap, subst, �
 use Rattle.art_bytes.specs.Keys.{BeginsWith}
 use Rattle.art_arena.specs.arena.Shapes.{leaves}
 use Rattle.art_arena.specs.arena.Prefixes.{prefix_of}
-use Rattle.art_operations.specs.Points.{HasConflict, NoConflict}
+use Rattle.art_operations.specs.Points.{AllConflict, NoConflict}
 use Rattle.art_arena.proofs.shapes.Prefixes.{tail}
 use Rattle.art_operations.proofs.PutBack.{same_inner}
 use Rattle.art_operations.proofs.Points.{inner_there, inner_ends, inner_parts, inner_passes, inner_missing}
@@ -14,7 +14,7 @@ returns-in-Same g c = λ path s at begins.
     let is = c.read_full_prefix.ensures.prefix path s at ∙ ap prefix_of i.is in
     let same : i.prefix ≡ drop c.args.depth c.args.key.now = rw (is, tail c.args.depth c.args.key.now) at c.in-Same.ensures in
     let ends : BeginsWith (drop c.args.depth c.args.key.now) i.prefix = ([], same ∙ sym (append-nil (drop c.args.depth c.args.key.now))) in
-    subst (λ t. HasConflict g.K.AsBytes.bytes c.args.key.now (leaves t)) (sym i.is)
+    subst (λ t. AllConflict g.K.AsBytes.bytes c.args.key.now (leaves t)) (sym i.is)
     (inner_ends g.K.AsBytes.bytes c.args.key.now path c.args.depth at.behind begins c.args.node i.prefix i.kids i.under ends)
 
 pub returns-in-NewEnds : goal.returns-in-NewEnds
@@ -23,7 +23,7 @@ returns-in-NewEnds g c = λ path s at begins.
     let is = c.read_full_prefix.ensures.prefix path s at ∙ ap prefix_of i.is in
     let e = rw (is, tail c.args.depth c.args.key.now) at c.in-NewEnds.ensures in
     let ends : BeginsWith (drop c.args.depth c.args.key.now) i.prefix = (e.0 ∷ e.1, e.2) in
-    subst (λ t. HasConflict g.K.AsBytes.bytes c.args.key.now (leaves t)) (sym i.is)
+    subst (λ t. AllConflict g.K.AsBytes.bytes c.args.key.now (leaves t)) (sym i.is)
     (inner_ends g.K.AsBytes.bytes c.args.key.now path c.args.depth at.behind begins c.args.node i.prefix i.kids i.under ends)
 
 pub returns-in-Parts : goal.returns-in-Parts
