@@ -10,7 +10,8 @@ use Rattle.art_arena.specs.tree.Kinds.{IsKindOf}
 use Rattle.art_arena.specs.tree.Trees.{count, nodes_with, nodes_in}
 use Rattle.art_arena.specs.arena.Shapes.{Shape, Branches, leaf_at, inner_at, no_branch, branch, leaves, leaves_in, cells, cells_in, width, erase, erase_in}
 use Rattle.art_arena.proofs.shapes.Erased.{count-erase}
-use Rattle.art_walks.proofs.Skeletons.{HasKinds, HaveKinds, named, named-append}
+use Rattle.art_walks.specs.inner.Skeletons.{HasKinds, HaveKinds, named}
+use Rattle.art_walks.proofs.Skeletons.{named-append}
 
 -- how many of some names are of a kind
 abbrev pub count_kind : NodeType → List Name → ℕ

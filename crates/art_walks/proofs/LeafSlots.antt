@@ -6,7 +6,8 @@ use Rattle.art_nodes.specs.Name.{Name}
 use Rattle.art_arena.specs.tree.Kinds.{IsKindOf}
 use Rattle.art_arena.specs.arena.Shapes.{Shape, Branches, leaf_at, inner_at, no_branch, branch, LeafAt, leaves, leaves_in, cells, cells_in, width}
 use Rattle.art_arena.specs.arena.Linked.{Links, AreLinked}
-use Rattle.art_walks.proofs.Skeletons.{HasKinds, HaveKinds, named, named-append}
+use Rattle.art_walks.specs.inner.Skeletons.{HasKinds, HaveKinds, named}
+use Rattle.art_walks.proofs.Skeletons.{named-append}
 use Rattle.art_walks.proofs.Fillings.{fill, fill_in}
 
 -- the slab key of a leaf, before those of others

@@ -6,18 +6,9 @@ use Rattle.art_arena.specs.arena.Cells.{Cell, pair, branches, leaf_name, AreHeld
 use Rattle.art_arena.specs.tree.Kinds.{IsKindOf}
 use Rattle.art_arena.specs.arena.Shapes.{Shape, Branches, leaf_at, inner_at, no_branch, branch, name_of, children_at, width, cells, cells_in, node_of}
 use Rattle.art_arena.proofs.tree.Order.{all_left, all_right}
+use Rattle.art_walks.specs.inner.Skeletons.{HasKinds, HaveKinds, named, IsSkeleton}
 
 module _ {K V : Type 0} where
-  -- each inner node has as many children as its kind
-  abbrev mutual
-    pub HasKinds : Shape K V → Type 0
-    HasKinds (leaf_at slot k v) = Unit {0}
-    HasKinds (inner_at n prefix kids) = IsKindOf n.kind (width kids) × HaveKinds kids
-
-    pub HaveKinds : Branches K V → Type 0
-    HaveKinds no_branch = Unit {0}
-    HaveKinds (branch byte s rest) = HasKinds s × HaveKinds rest
-
   -- the names of some shapes, and their kinds
   abbrev pub roots_of : List (Shape K V) → List Name
   roots_of [] = []
@@ -26,11 +17,6 @@ module _ {K V : Type 0} where
   abbrev pub AllHaveKinds : List (Shape K V) → Type 0
   AllHaveKinds [] = Unit {0}
   AllHaveKinds (s ∷ more) = HasKinds s × AllHaveKinds more
-
-  -- the names of cells
-  abbrev pub named : List (Name × Cell K V) → List Name
-  named [] = []
-  named (c ∷ rest) = c.0 ∷ named rest
 
   pub named-append : (xs ys : List (Name × Cell K V)) → named (xs ++ ys) ≡ named xs ++ named ys
   named-append [] ys = refl
@@ -70,18 +56,10 @@ module _ {K V : Type 0} where
         )
 
   module _ (P : ℕ) (at : Name → Option (Cell K V)) (root : Name) where
-    -- a shape that stands below the root, whose cells have these names in order
-    pub record IsSkeleton (names : List Name) : Type 0 where
-      pub shape : Shape K V
-      pub root_is : name_of shape ≡ root
-      pub held : AreHeld at (cells P shape)
-      pub kinds : HasKinds shape
-      pub names_are : named (cells P shape) ≡ names
-
     -- Whatever stands below the names that wait, it makes a shape below the root with the names that were met.
     abbrev pub Completes : List Name → List Name → Type 0
     Completes met waiting =
-        (all : List (Shape K V)) → roots_of all ≡ waiting → AreHeld at (cells_all P all) → AllHaveKinds all → IsSkeleton (met ++ named (cells_all P all))
+        (all : List (Shape K V)) → roots_of all ≡ waiting → AreHeld at (cells_all P all) → AllHaveKinds all → IsSkeleton P at root (met ++ named (cells_all P all))
 
     -- At the start nothing was met.
     pub completes-start : Completes [] (root ∷ [])
@@ -100,8 +78,8 @@ module _ {K V : Type 0} where
         nothing (x ∷ xs) = ap (λ ys. x ∷ ys) (nothing xs)
 
     -- At the end the whole shape was.
-    pub completes-end : (met : List Name) → Completes met [] → IsSkeleton met
-    completes-end met complete = subst IsSkeleton (nothing met) (complete [] refl tt tt)
+    pub completes-end : (met : List Name) → Completes met [] → IsSkeleton P at root met
+    completes-end met complete = subst (IsSkeleton P at root) (nothing met) (complete [] refl tt tt)
       where
         nothing : (xs : List Name) → xs ++ [] ≡ xs
         nothing [] = refl
@@ -110,7 +88,7 @@ module _ {K V : Type 0} where
     -- A leaf is met.
     pub completes-leaf : (met waiting : List Name) (slot : ℕ) (k : K) (v : V) → at (leaf_name slot) ≡ Some (pair k v) → Completes met (leaf_name slot ∷ waiting) → Completes (met ++ leaf_name slot ∷ []) waiting
     completes-leaf met waiting slot k v there complete all e held kinds =
-        subst IsSkeleton (sym (append_assoc met (leaf_name slot ∷ []) (named (cells_all P all))))
+        subst (IsSkeleton P at root) (sym (append_assoc met (leaf_name slot ∷ []) (named (cells_all P all))))
         (complete (leaf_at slot k v ∷ all) (ap (λ ns. leaf_name slot ∷ ns) e) (there, held) (tt, kinds))
 
     -- An inner node is met, whose children then wait. Its whole prefix may be any that the header doesn't contradict.
@@ -122,7 +100,7 @@ module _ {K V : Type 0} where
         let names : named (cells_all P all) ≡ named (cells_in P below.kids ++ cells_all P parts.0) = ap named below.cells_are in
         let children_held : at n ≡ Some (node_of P prefix (children_at below.kids)) = there ∙ ap (λ cs. Some (node_of P prefix cs)) (sym below.children_are) in
         let many : IsKindOf n.kind (width below.kids) = subst (IsKindOf n.kind) (sym (ap length below.children_are) ∙ length-children below.kids) kind in
-        subst IsSkeleton (ap (λ ns. met ++ n ∷ ns) (sym names) ∙ sym (append_assoc met (n ∷ []) (named (cells_all P all))))
+        subst (IsSkeleton P at root) (ap (λ ns. met ++ n ∷ ns) (sym names) ∙ sym (append_assoc met (n ∷ []) (named (cells_all P all))))
         (complete (inner_at n prefix below.kids ∷ parts.0) (ap (λ ns. n ∷ ns) parts.1) (children_held, subst (AreHeld at) below.cells_are held) ((many, below.kinds), parts.2))
       where
         length-children : (kids : Branches K V) → length (children_at kids) ≡ width kids

@@ -13,22 +13,16 @@ use Rattle.art_arena.specs.arena.Meaning.{IsPart, Means}
 use Rattle.art_arena.proofs.shapes.Contexts.{cells_in-join}
 use Rattle.art_arena.proofs.tree.Order.{all_left, all_right}
 use Rattle.art_walks.specs.Faults.{child_in, led_to, HasOtherKeys, HasOtherLinks}
+use Rattle.art_walks.proofs.NameWalks.{copies-named}
 use Rattle.art_walks.proofs.Ways.{onward-some, branch_of}
-use Rattle.art_walks.proofs.Skeletons.{HasKinds, HaveKinds, named, IsSkeleton, same_cells}
+use Rattle.art_walks.specs.inner.Names.{meets, AreOnce}
+use Rattle.art_walks.specs.inner.Skeletons.{HasKinds, HaveKinds, named, IsSkeleton}
+use Rattle.art_walks.proofs.Skeletons.{same_cells}
 use Rattle.art_walks.proofs.Fillings.{Fits, fill, fill_in, width-fill, cells-fill, filled-subtree, unfit-none}
 use Rattle.art_walks.proofs.LeafSlots.{AreLinkedSlots, leaf_slots, slots_of, slots-named, linked-slots, slots-linked, leaves-fill}
 use Rattle.art_walks.proofs.KindCounts.{count_kind, in_range, count-leaves, count-nodes}
 
--- how often a name is among some
-abbrev pub meets : Name → List Name → ℕ
-meets n [] = 0
-meets n (x ∷ rest) = cond (same_name n x) 1 0 + meets n rest
-
 module _ {K V : Type 0} where
-  copies-named : (n : Name) (cs : List (Name × Cell K V)) → copies n cs ≡ meets n (named cs)
-  copies-named n [] = refl
-  copies-named n (c ∷ cs) = ap (λ m. cond (same_name n c.0) 1 0 + m) (copies-named n cs)
-
   width-children : (kids : Branches K V) → length (children_at kids) ≡ width kids
   width-children no_branch = refl
   width-children (branch b s rest) = omega (arith, width-children rest)
@@ -92,7 +86,7 @@ module _ {K V : Type 0} where
         children_of (pair k v) = []
         children_of (branches node) = node.children
 
-  module _ (bytes : K → List ℕ) (P : ℕ) (at : Name → Option (Cell K V)) (links : ℕ → Option Links) (root : Name) (names : List Name) (s : IsSkeleton P at root names) (once : (n : Name) → meets n names ≤ 1) where
+  module _ (bytes : K → List ℕ) (P : ℕ) (at : Name → Option (Cell K V)) (links : ℕ → Option Links) (root : Name) (names : List Name) (s : IsSkeleton P at root names) (once : AreOnce names) where
     -- the names that were met make a shape in which none stands twice
     pub skeleton-part : IsPart P at root s.shape
     skeleton-part = record {

@@ -3,6 +3,7 @@
 //! The definitions stand in `specs/`.
 #![tactic(auto)]
 
+mod checker;
 pub mod laws;
 mod malformed;
 mod raw_iterator;

@@ -1,5 +1,9 @@
 //! Why what stands below a name is no canonical tree.
 
+ghost use Rattle.std.specs.Prelude.{◌≡◌};
+ghost use Rattle.art_walks.specs.declared.malformed.MalformedTreeError.TheVariants.{Memory};
+
+use std::alloc::{AllocError, AllocFailed};
 use thiserror::Error;
 
 /// Why what stands below a name is no canonical tree with its leaves linked in order. Where several faults stand, any
@@ -30,4 +34,22 @@ pub enum MalformedTreeError {
     /// No memory was found for the set of names that were seen.
     #[error("no memory for the names that were seen")]
     Memory,
+}
+
+// So that `?` converts it.
+impl From<AllocError> for MalformedTreeError {
+    ghost from_gives = { λ refused fault. fault ≡ Memory };
+
+    fn from(_refused: AllocError) -> MalformedTreeError {
+        MalformedTreeError::Memory
+    }
+}
+
+// So that `?` converts it, which lets go of the name.
+impl<T: Drop> From<AllocFailed<T>> for MalformedTreeError {
+    ghost from_gives = { λ refused fault. fault ≡ Memory };
+
+    fn from(_refused: AllocFailed<T>) -> MalformedTreeError {
+        MalformedTreeError::Memory
+    }
 }

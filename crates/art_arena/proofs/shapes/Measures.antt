@@ -10,7 +10,7 @@ use Rattle.art_nodes.specs.declared.leaf.LeafNode.{LeafNode}
 use Rattle.art_nodes.specs.InnerNode.{InnerNode}
 use Rattle.art_nodes.specs.Name.{Name}
 use Rattle.art_arena.specs.arena.Cells.{Cell, pair, branches, same_kind, copies, AreHeld}
-use Rattle.art_arena.specs.arena.Arena.{Arena, as_leaf, as_inner, held_as, cell_of, node_at}
+use Rattle.art_arena.specs.arena.Arena.{Arena, Held, as_leaf, as_inner, held_as, held_at, cell_of, node_at}
 use Rattle.art_arena.specs.arena.Shapes.{Shape, Branches, leaf_at, inner_at, no_branch, branch, name_of, children_at, cells, cells_in}
 use Rattle.art_arena.specs.arena.Meaning.{IsPart}
 use Rattle.art_arena.proofs.tree.Order.{all_left, all_right}
@@ -119,6 +119,24 @@ module _ {K V : Type 0} where
   leaf_there None c e = absurd (cc)
   leaf_there (Some node) c e = refl
 
+  -- what stands under the name of a leaf is a pair
+  pub pair_there : (arena : Arena K V) (n : Name) → IsSome (held_at arena n) → n.kind ≡ Leaf → (k : K) × (v : V) × (node_at arena n ≡ Some (pair k v))
+  pair_there arena n held kind =
+      let same : held_at arena n ≡ held_as arena Leaf n.slot = ap (λ x. held_as arena x n.slot) kind in
+      let there = a_leaf (get arena.leaves n.slot) (subst IsSome same held) in (there.0, there.1, ap cell_of same ∙ there.2)
+    where
+      a_leaf : (o : Option (LeafNode K V)) → IsSome (as_leaf o) → (k : K) × (v : V) × (cell_of (as_leaf o) ≡ Some (pair k v))
+      a_leaf None h = absurd (cc)
+      a_leaf (Some leaf) h = (leaf.key, leaf.value, refl)
+
+  -- under a name that isn't held stands nothing
+  pub nothing_there : (arena : Arena K V) (n : Name) → (IsSome (held_at arena n) → ⊥) → node_at arena n ≡ None
+  nothing_there arena n dead = nothing (held_at arena n) dead
+    where
+      nothing : (o : Option (Held K V)) → (IsSome o → ⊥) → cell_of o ≡ None
+      nothing None h = refl
+      nothing (Some held) h = absurd (h refl)
+
   inner_there : (o : Option InnerNode) (c : Cell K V) → cell_of {K = K} {V = V} (as_inner o) ≡ Some c → IsSome o
   inner_there None c e = absurd (cc)
   inner_there (Some node) c e = refl
@@ -138,12 +156,16 @@ module _ {K V : Type 0} where
       here true e later = rw e (subst (λ k. c.0.slot < slots_in arena k) (sym (kind_tells kind c.0.kind e)) (slot_within arena c.0.kind c.0.slot c.1 h.0), later)
       here false e later = rw e later
 
+  -- no list of cells that the arena holds, each name in it once, is longer than the arena has slots
+  pub held_few : (arena : Arena K V) (cs : List (Name × Cell K V)) → AreHeld (node_at arena) cs → ((n : Name) → copies n cs ≤ 1) → length cs ≤ slots_of arena
+  held_few arena cs held once =
+      let each : (kind : NodeType) → length (slots_as kind cs) ≤ slots_in arena kind =
+      λ kind. few (slots_in arena kind) (slots_as kind cs) (slots_within arena kind cs held) (λ m. rw (count-slots_as kind m cs) (once (record { kind = kind; slot = m }))) in
+      omega (arith, by_kinds cs, each Leaf, each Node4, each Node16, each Node48, each Node256)
+
   -- no shape has more nodes than the arena has slots
   pub cells_few : (P : ℕ) (arena : Arena K V) (n : Name) (s : Shape K V) → IsPart P (node_at arena) n s → length (cells P s) ≤ slots_of arena
-  cells_few P arena n s part =
-      let each : (kind : NodeType) → length (slots_as kind (cells P s)) ≤ slots_in arena kind =
-      λ kind. few (slots_in arena kind) (slots_as kind (cells P s)) (slots_within arena kind (cells P s) part.held) (λ m. rw (count-slots_as kind m (cells P s)) (part.once (record { kind = kind; slot = m }))) in
-      omega (arith, by_kinds (cells P s), each Leaf, each Node4, each Node16, each Node48, each Node256)
+  cells_few P arena n s part = held_few arena (cells P s) part.held part.once
 
   abbrev nodes_in : (Name → ℕ) → Option (Cell K V) → ℕ
   nodes_in f None = 0

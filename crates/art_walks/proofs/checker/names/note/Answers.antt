@@ -1,0 +1,62 @@
+use Rattle.std.proofs.Common.{◌≡◌, ◌||◌, ◌&&◌, not, ℕ, Bool, true, false, cond, nat_eq, List, [], ◌∷◌, refl, sym, ap, ap₂, ◌∙◌, inl, inr}
+use Rattle.std.specs.List.{list_any}
+use Rattle.std.proofs.lemmas.Bool.Decides.{eqb_tells}
+use Rattle.art_walks.specs.inner.Names.{has_name}
+use Rattle.art_arena.specs.arena.Cells.{same_name}
+use Rattle.art_arena.proofs.shapes.CellLists.{same_name_tells, same_name-self}
+use Rattle.art_nodes.specs.Name.{Name}
+use Rattle.art_nodes.specs.declared.kind.NodeType.{NodeType}
+use Rattle.art_nodes.specs.declared.kind.NodeType.TheVariants.{Node4, Node16, Node48, Node256, Leaf}
+use Rattle.art_nodes.specs.contracts.names.OpaqueNodePtrPartialEq.TheImpl.{eq-value}
+use Rattle.art_walks.proofs.checker.names.note.Goals as goal
+
+-- the equality of names tells them apart
+same : (k l : NodeType) (x y : ℕ) → eq-value.it (record { kind = k; slot = x }) (record { kind = l; slot = y }) ≡ same_name (record { kind = k; slot = x }) (record { kind = l; slot = y })
+same Node4 Node4 x y = refl
+same Node4 Node16 x y = refl
+same Node4 Node48 x y = refl
+same Node4 Node256 x y = refl
+same Node4 Leaf x y = refl
+same Node16 Node4 x y = refl
+same Node16 Node16 x y = refl
+same Node16 Node48 x y = refl
+same Node16 Node256 x y = refl
+same Node16 Leaf x y = refl
+same Node48 Node4 x y = refl
+same Node48 Node16 x y = refl
+same Node48 Node48 x y = refl
+same Node48 Node256 x y = refl
+same Node48 Leaf x y = refl
+same Node256 Node4 x y = refl
+same Node256 Node16 x y = refl
+same Node256 Node48 x y = refl
+same Node256 Node256 x y = refl
+same Node256 Leaf x y = refl
+same Leaf Node4 x y = refl
+same Leaf Node16 x y = refl
+same Leaf Node48 x y = refl
+same Leaf Node256 x y = refl
+same Leaf Leaf x y = refl
+
+swapped : (a b : Name) → same_name a b ≡ same_name b a
+swapped a b = elim (same_name_tells a b) [
+  | inl one ↦ elim (same_name_tells b a) [ inl two ↦ one.0 ∙ sym two.0 | inr other ↦ absurd (other.1 (sym one.1)) ]
+  | inr one ↦ elim (same_name_tells b a) [ inl two ↦ absurd (one.1 (sym two.1)) | inr other ↦ one.0 ∙ sym other.0 ]
+]
+
+among : (n : Name) (xs : List Name) → list_any (eq-value.it n) xs ≡ has_name n xs
+among n [] = refl
+among n (x ∷ xs) = ap₂ (λ a b. a || b) (same n.kind x.kind n.slot x.slot) (among n xs)
+
+either : (a b : Bool) → cond a true b ≡ (a || b)
+either true b = refl
+either false b = refl
+
+pub returns-in-Ok-clause-new : goal.returns-in-Ok-clause-new
+returns-in-Ok-clause-new c = c.in-Ok.ensures.added ∙ ap not (among c.args.name c.args.seen.now.keys)
+
+pub returns-in-Ok-clause-noted : goal.returns-in-Ok-clause-noted
+returns-in-Ok-clause-noted c = λ q.
+    sym (among q c.insert.new.self.keys) ∙ c.in-Ok.ensures.updates.0 q
+    ∙ ap₂ (λ a b. cond a true b) (same c.args.name.kind q.kind c.args.name.slot q.slot ∙ swapped c.args.name q) (among q c.args.seen.now.keys)
+    ∙ either (same_name q c.args.name) (has_name q c.args.seen.now.keys)

@@ -1,0 +1,3 @@
+-- Words of private contracts.
+pub mod Names
+pub mod Skeletons
