@@ -64,6 +64,13 @@ module _ (room : ℕ) (header : Header) (index : List ℕ) (names : List Name) (
   pub nothing_there : length names ≤ place_at index byte → child_at (children_from 0 (names_at names index)) byte ≡ None
   nothing_there past = sym found-indexed ∙ slice_get_past names (place_at index byte) past
 
+  -- a place that isn't 255 is a name's
+  pub known_place : place_at index byte ≢ 255 → place_at index byte < length names
+  known_place named = elim (ix.places byte fits) [
+    | inl known ↦ known
+    | inr nowhere ↦ absurd (named nowhere)
+  ]
+
   pub unchanged-indexed : length names ≤ place_at index byte → indexed_node header index names ≡ with_children (indexed_node header index names) (without_child (children_from 0 (names_at names index)) byte)
   unchanged-indexed past =
       let none = at_byte ∙ slice_get_past names (place_at index byte) past in

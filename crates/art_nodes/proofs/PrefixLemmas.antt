@@ -1,7 +1,8 @@
 -- Lemmas on the stored front of a prefix.
-use Rattle.std.proofs.Common.{◌≡◌, ℕ, ◌+◌, ◌-◌, ◌≤◌, List, [], ◌∷◌, ◌++◌, length, take, drop, min, refl, sym, subst, arith, length-drop}
+use Rattle.std.proofs.Common.{◌≡◌, ℕ, zero, suc, ◌+◌, ◌-◌, ◌≤◌, List, [], ◌∷◌, ◌++◌, length, take, drop, min, get_or, refl, sym, ap, subst, inl, inr, arith, length-drop, drop-drop}
 use Rattle.std.specs.List.{copy_within}
 use Rattle.std.proofs.lemmas.Grind.{common_steps, elements}
+use Rattle.std.proofs.lemmas.Bool.Decides.{eqb_tells}
 use Rattle.std.proofs.lemmas.List.{drop-take, length-take, take_all}
 use Rattle.art_nodes.specs.Header.{front_of}
 use Rattle.art_nodes.specs.PrefixMatch.{agreeing}
@@ -43,3 +44,18 @@ pub agreeing-end : (prefix rest : List ℕ) (at : ℕ) → length rest ≤ at �
 agreeing-end prefix rest at h = agreeing-none (drop at prefix) (drop at rest) (simp length-drop (omega arith))
 
 pub ruleset agreements = (agreeing-end)
+
+word : (n : ℕ) (xs ys : List ℕ) → take n xs ≡ take n ys → n ≤ length xs → n + agreeing (drop n xs) (drop n ys) ≡ agreeing xs ys
+word zero xs ys same within = omega arith
+word (suc n) [] ys same within = absurd (omega (arith, within))
+word (suc n) (x ∷ xs) [] same within = absurd cc
+word (suc n) (x ∷ xs) (y ∷ ys) same within = elim (eqb_tells x y) [
+  | inl yes_it ↦
+      let rest = word n xs ys (ap (λ l. drop 1 l) same) (omega (arith, within)) in
+      rw yes_it.0 (omega (arith, rest))
+  | inr no_it ↦ absurd (no_it.1 (ap (λ l. get_or l 0 0) same))
+]
+
+-- so many bytes that are equal agree
+pub agreeing-word : (n at : ℕ) (prefix rest : List ℕ) → take n (drop at prefix) ≡ take n (drop at rest) → at + n ≤ length prefix → n + agreeing (drop (at + n) prefix) (drop (at + n) rest) ≡ agreeing (drop at prefix) (drop at rest)
+agreeing-word n at prefix rest same within = rw (← drop-drop n at prefix, ← drop-drop n at rest) (word n (drop at prefix) (drop at rest) same (simp length-drop (omega (arith, within))))

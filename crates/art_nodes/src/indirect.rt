@@ -120,8 +120,12 @@ impl<K, V, const PREFIX_LEN: usize, const SIZE: usize> InnerNodeCommon<PREFIX_LE
     }
 
     fn lookup_child(&self, byte: u8) -> Option<OpaqueNodePtr> {
+        // A place that isn't `NOWHERE` is that of a name, so how many names there are isn't read.
         let place = place_of_byte(&self.index, byte);
-        name_in(self.names.as_slice(), usize::from(place))
+        if place == NOWHERE {
+            return None;
+        }
+        Some(self.names.as_slice()[usize::from(place)])
     }
 
     fn write_child(&mut self, byte: u8, name: OpaqueNodePtr) {

@@ -65,6 +65,9 @@ impl From<OptimisticMismatch> for PessimisticMismatch {
     }
 }
 
+// So many bytes are compared at once.
+const WORD: usize = 8;
+
 /// How many bytes agree from the front on.
 #[tactic(auto, using(crate::proofs::PrefixLemmas::agreements))]
 pub fn count_agreeing(prefix: &[u8], rest: &[u8]) -> usize
@@ -72,7 +75,12 @@ pub fn count_agreeing(prefix: &[u8], rest: &[u8]) -> usize
     ensures within { result ≤ length prefix.now }
 {
     let mut at = 0;
-    while at < prefix.len() && at < rest.len() && prefix[at] == rest[at] {
+    'words: while at + WORD <= prefix.len()
+        && at + WORD <= rest.len()
+        && prefix[at..at + WORD] == rest[at..at + WORD] {
+        at += WORD;
+    }
+    'bytes: while at < prefix.len() && at < rest.len() && prefix[at] == rest[at] {
         at += 1;
     }
     at

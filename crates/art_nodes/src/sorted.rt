@@ -7,7 +7,7 @@ ghost use Rattle.art_nodes.specs.inner.Place.{StandsAt, BelongsAt};
 ghost use Rattle.art_nodes.specs.InnerNode.{InnerNode, IsInnerNode, IsAscending, child_at, with_child, without_child};
 ghost use Rattle.art_nodes.specs.InnerNode.{with_children};
 
-use crate::child_iter::{ChildIter, name_in, place_of};
+use crate::child_iter::{ChildIter, place_of};
 use crate::header::Header;
 use crate::inner_node::{InnerNodeCommon, InnerNodeInit};
 use crate::names::OpaqueNodePtr;
@@ -114,8 +114,9 @@ impl<K, V, const PREFIX_LEN: usize, const SIZE: usize> InnerNodeCommon<PREFIX_LE
     }
 
     fn lookup_child(&self, byte: u8) -> Option<OpaqueNodePtr> {
+        // There is a name for each byte, so how many names there are isn't read.
         match position_of(self.keys.as_slice(), byte) {
-            Some(at) => name_in(self.names.as_slice(), at),
+            Some(at) => Some(self.names.as_slice()[at]),
             None => None,
         }
     }
