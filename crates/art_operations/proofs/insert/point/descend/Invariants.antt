@@ -2,15 +2,15 @@ use Rattle.std.proofs.Common.{◌≤◌, ◌-◌, [], length}
 use Rattle.art_arena.specs.arena.Arena.{node_at}
 use Rattle.art_arena.specs.arena.Shapes.{Shape}
 use Rattle.art_arena.specs.arena.Meaning.{IsSubtree}
-use Rattle.art_operations.proofs.Points.{OnWayTo}
-use Rattle.art_operations.proofs.insert.point.find_insert_point.Given as goal
+use Rattle.art_operations.specs.inner.Ways.{OnWayTo}
+use Rattle.art_operations.proofs.insert.point.descend.Given as goal
 
-abbrev pub invariant-loop-insert_kind : goal.invariant-loop-insert_kind
-invariant-loop-insert_kind g l = record {
+abbrev pub invariant-down : goal.invariant-down
+invariant-down g l = record {
   room : l.depth ≤ length l.key;
   way : (s : Shape g.row.K.Denot g.row.V.Denot) → IsSubtree g.K.AsBytes.bytes g.row.PREFIX_LEN (node_at l.arena) l.fn.root [] s
       → OnWayTo g.K.AsBytes.bytes g.row.PREFIX_LEN (node_at l.arena) l.key s l.current l.search l.depth;
 }
 
-abbrev pub decreases-loop-insert_kind : goal.decreases-loop-insert_kind
-decreases-loop-insert_kind g l = length l.key - l.depth
+abbrev pub decreases-down : goal.decreases-down
+decreases-down g l = length l.key - l.depth
