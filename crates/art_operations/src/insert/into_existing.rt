@@ -147,6 +147,7 @@ fn put_leaf<K: AsBytes, V, const PREFIX_LEN: usize>(
 ///
 /// A leaf is made, and where the node is full one of the next larger kind, which takes its place. Where there is no
 /// memory for them, the key and the value are handed back, and the tree is as it was.
+#[inline(never)]
 pub(crate) fn put_into_existing<K: AsBytes, V, const PREFIX_LEN: usize>(
     arena: &mut NodeArena<K, V, PREFIX_LEN>,
     point: InsertPoint,

@@ -1,11 +1,13 @@
 //! The place of a new key.
 ghost use Rattle.std.specs.Prelude.{◌≡◌, ◌≢◌, ℕ, List, IfOk, IfErr};
+ghost use Rattle.std.specs.Prelude.{MatchOption};
 ghost use Rattle.art_bytes.specs.Keys.{BeginsWith};
 ghost use Rattle.art_arena.specs.arena.Cells.{leaf_name};
 ghost use Rattle.art_arena.specs.arena.Shapes.{Shape};
-ghost use Rattle.art_arena.specs.arena.Steps.{steps_of};
 ghost use Rattle.art_operations.specs.Points.{IsInTheWay, IsPlaceOrConflict, Refuses};
-ghost use Rattle.art_operations.specs.inner.Ways.{IsWay};
+ghost use Rattle.art_arena.specs.arena.Arena.{node_at};
+ghost use Rattle.art_arena.specs.arena.Steps.{steps_of};
+ghost use Rattle.art_operations.specs.inner.Ways.{GoesDown, IsWay, OnWayTo, Stops};
 ghost use Rattle.art_arena.specs.arena.Stores.{Stores, StoresAt};
 
 use crate::meeting::{Meeting, Parted, meet};
@@ -123,18 +125,33 @@ pub struct InsertPoint {
     pub insert_kind: InsertKind,
 }
 
-// Where the search for the place of a key goes from a node.
+// Where a descent stopped: the node, the last steps of the way to it, and how many bytes of the key lead there.
+#[derive(Clone, Copy)]
+struct Stop {
+    node: OpaqueNodePtr,
+    path: TreePath,
+    depth: usize,
+}
+
+// Where the search for the place of a key ends.
 #[derive(Clone, Copy)]
 enum Way {
-    // To a child: the byte, the child, and how many bytes of the key lead there.
-    Child(u8, OpaqueNodePtr, usize),
-    // Nowhere: this is the place.
+    // This is the place.
     Point(InsertKind),
-    // Nowhere: the key can't be put in.
+    // The key can't be put in.
     Conflict,
 }
 
-// Where the search goes from a leaf.
+// From an inner node to a child: the byte, the child, and how many bytes of the key lead there.
+#[derive(Clone, Copy)]
+struct Step {
+    byte: u8,
+    child: OpaqueNodePtr,
+    depth: usize,
+}
+
+// Where the search ends at a leaf.
+#[inline(always)]
 fn way_at_leaf<K: AsBytes, V, const PREFIX_LEN: usize>(
     arena: &NodeArena<K, V, PREFIX_LEN>,
     leaf: LeafPtr,
@@ -160,7 +177,46 @@ fn way_at_leaf<K: AsBytes, V, const PREFIX_LEN: usize>(
     }
 }
 
-// Where the search goes from an inner node.
+// The child to which the key goes on from a node: behind its whole prefix, under the key's next byte.
+#[inline(always)]
+fn step_at<K: AsBytes, V, const PREFIX_LEN: usize>(
+    arena: &NodeArena<K, V, PREFIX_LEN>,
+    node: OpaqueNodePtr,
+    key: &[u8],
+    depth: usize,
+) -> Option<Step>
+    requires { (path : List ℕ) × (s : Shape K V) × StoresAt K.bytes PREFIX_LEN arena.now node depth path s
+        × BeginsWith path key.now }
+    ensures { MatchOption result
+        ((path : List ℕ) (s : Shape K V) → StoresAt K.bytes PREFIX_LEN arena.now node depth path s
+        → BeginsWith path key.now → Stops K.bytes key.now path s)
+        (λ step. (path : List ℕ) (s : Shape K V) → StoresAt K.bytes PREFIX_LEN arena.now node depth path s
+        → BeginsWith path key.now → GoesDown K.bytes key.now path s step.byte step.child step.depth) }
+{
+    if node.is::<KindLeaf>() {
+        return None;
+    }
+    let prefix = read_full_prefix(arena, node, depth).prefix;
+    let rest = &key[depth..];
+    if rest.len() <= prefix.len() {
+        return None;
+    }
+    if rest.starts_with(prefix) {
+        let byte = rest[prefix.len()];
+        return match arena.inner(node).lookup_child(byte) {
+            Some(child) => Some(Step {
+                byte,
+                child,
+                depth: depth + prefix.len() + 1,
+            }),
+            None => None,
+        };
+    }
+    None
+}
+
+// Where the search ends at an inner node, from which the key goes no further.
+#[inline(always)]
 fn way_at_inner<K: AsBytes, V, const PREFIX_LEN: usize>(
     arena: &NodeArena<K, V, PREFIX_LEN>,
     node: OpaqueNodePtr,
@@ -170,6 +226,8 @@ fn way_at_inner<K: AsBytes, V, const PREFIX_LEN: usize>(
     requires stands { (path : List ℕ) × (s : Shape K V) × StoresAt K.bytes PREFIX_LEN arena.now node depth path s
         × BeginsWith path key.now }
     requires inner { node.kind ≢ NodeType.Leaf }
+    requires stops { (path : List ℕ) (s : Shape K V) → StoresAt K.bytes PREFIX_LEN arena.now node depth path s
+        → BeginsWith path key.now → Stops K.bytes key.now path s }
     ensures { (path : List ℕ) (s : Shape K V) → StoresAt K.bytes PREFIX_LEN arena.now node depth path s
         → BeginsWith path key.now → IsWay K.bytes key.now path s result }
 {
@@ -182,28 +240,25 @@ fn way_at_inner<K: AsBytes, V, const PREFIX_LEN: usize>(
             inner_node_ptr: node,
             parted,
         }),
-        Meeting::OldEnds => {
-            let byte = rest[prefix.len()];
-            match arena.inner(node).lookup_child(byte) {
-                Some(child) => Way::Child(byte, child, depth + prefix.len() + 1),
-                None => Way::Point(InsertKind::IntoExisting {
-                    inner_node_ptr: node,
-                    key_byte: byte,
-                }),
-            }
-        }
+        Meeting::OldEnds => Way::Point(InsertKind::IntoExisting {
+            inner_node_ptr: node,
+            key_byte: rest[prefix.len()],
+        }),
     }
 }
 
-// Where the search goes from a node.
+// Where the search ends at a node, from which the key goes no further.
+#[inline(always)]
 fn way_at<K: AsBytes, V, const PREFIX_LEN: usize>(
     arena: &NodeArena<K, V, PREFIX_LEN>,
     node: OpaqueNodePtr,
     key: &[u8],
     depth: usize,
 ) -> Way
-    requires { (path : List ℕ) × (s : Shape K V) × StoresAt K.bytes PREFIX_LEN arena.now node depth path s
+    requires stands { (path : List ℕ) × (s : Shape K V) × StoresAt K.bytes PREFIX_LEN arena.now node depth path s
         × BeginsWith path key.now }
+    requires stops { (path : List ℕ) (s : Shape K V) → StoresAt K.bytes PREFIX_LEN arena.now node depth path s
+        → BeginsWith path key.now → Stops K.bytes key.now path s }
     ensures { (path : List ℕ) (s : Shape K V) → StoresAt K.bytes PREFIX_LEN arena.now node depth path s
         → BeginsWith path key.now → IsWay K.bytes key.now path s result }
 {
@@ -213,8 +268,43 @@ fn way_at<K: AsBytes, V, const PREFIX_LEN: usize>(
     }
 }
 
+// Goes down for a key by whole prefixes, as far as it goes. It is a function of its own, and isn't inlined, so that the
+// loop keeps names in registers: next to an enum that holds names it takes them apart into bytes.
+#[inline(never)]
+fn descend<K: AsBytes, V, const PREFIX_LEN: usize>(
+    arena: &NodeArena<K, V, PREFIX_LEN>,
+    root: OpaqueNodePtr,
+    key: &[u8],
+) -> Stop
+    requires { (s : Shape K V) × Stores K.bytes PREFIX_LEN arena.now root s }
+    ensures way { (s : Shape K V) → Stores K.bytes PREFIX_LEN arena.now root s
+        → OnWayTo K.bytes PREFIX_LEN (node_at arena.now) key.now s result.node (steps_of result.path) result.depth }
+    ensures stops { (path : List ℕ) (s : Shape K V)
+        → StoresAt K.bytes PREFIX_LEN arena.now result.node result.depth path s
+        → BeginsWith path key.now → Stops K.bytes key.now path s }
+{
+    let mut search = TreePathSearch::default();
+    let mut current = root;
+    let mut depth = 0;
+    'down: loop {
+        match step_at(arena, current, key, depth) {
+            Some(step) => {
+                search.go_down(current, step.byte);
+                current = step.child;
+                depth = step.depth;
+            }
+            None => return Stop {
+                node: current,
+                path: search.finish(),
+                depth,
+            },
+        }
+    }
+}
+
 /// Finds where a new key goes in the tree below a name. It is refused where the key is a front of a stored key, or a
 /// stored key is one of it: the refusal tells the part of the tree that has these keys. It takes no memory.
+#[inline(never)]
 pub fn find_insert_point<K: AsBytes, V, const PREFIX_LEN: usize>(
     arena: &NodeArena<K, V, PREFIX_LEN>,
     root: OpaqueNodePtr,
@@ -226,32 +316,19 @@ pub fn find_insert_point<K: AsBytes, V, const PREFIX_LEN: usize>(
     ensures part { IfErr result (λ e. (s : Shape K V) → Stores K.bytes PREFIX_LEN arena.now root s
         → IsInTheWay K.bytes key.now s e.root e.part (steps_of e.path)) }
 {
-    let mut search = TreePathSearch::default();
-    let mut current = root;
-    let mut depth = 0;
-    'down: loop {
-        match way_at(arena, current, key, depth) {
-            Way::Conflict => {
-                return Err(PrefixConflict {
-                    root,
-                    path: search.finish(),
-                    part: current,
-                });
-            }
-            Way::Point(insert_kind) => {
-                return Ok(InsertPoint {
-                    root,
-                    path: search.finish(),
-                    key_bytes_used: depth,
-                    insert_kind,
-                });
-            }
-            Way::Child(byte, child, next) => {
-                search.go_down(current, byte);
-                current = child;
-                depth = next;
-            }
-        }
+    let stop = descend(arena, root, key);
+    match way_at(arena, stop.node, key, stop.depth) {
+        Way::Conflict => Err(PrefixConflict {
+            root,
+            path: stop.path,
+            part: stop.node,
+        }),
+        Way::Point(insert_kind) => Ok(InsertPoint {
+            root,
+            path: stop.path,
+            key_bytes_used: stop.depth,
+            insert_kind,
+        }),
     }
 }
 

@@ -204,6 +204,7 @@ fn trim<K, V, const PREFIX_LEN: usize>(
 /// Puts an inner node in the place of the node from which the key parts, over it and over a new leaf of the key.
 ///
 /// Where there is no memory for the two new nodes, the key and the value are handed back, and the tree is as it was.
+#[inline(never)]
 pub(crate) fn split<K: AsBytes, V, const PREFIX_LEN: usize>(
     arena: &mut NodeArena<K, V, PREFIX_LEN>,
     point: InsertPoint,

@@ -2,8 +2,8 @@ use Rattle.std.proofs.Common.{◌≤◌, ◌-◌, [], length}
 use Rattle.art_arena.specs.arena.Arena.{node_at}
 use Rattle.art_arena.specs.arena.Shapes.{Shape}
 use Rattle.art_arena.specs.arena.Meaning.{IsSubtree}
-use Rattle.art_operations.proofs.Points.{OnWayTo}
-use Rattle.art_operations.proofs.insert.point.find_insert_point.Given as goal
+use Rattle.art_operations.specs.inner.Ways.{OnWayTo}
+use Rattle.art_operations.proofs.insert.point.descend.Given as goal
 
 abbrev pub invariant-down : goal.invariant-down
 invariant-down g l = record {
