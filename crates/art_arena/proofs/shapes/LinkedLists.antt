@@ -1,5 +1,5 @@
 -- The leaves as a linked list: a list in two parts, and what a write of one leaf's links leaves.
-use Rattle.std.proofs.Common.{◌≡◌, ◌≢◌, ℕ, ◌+◌, ◌≤◌, Bool, true, false, cond, eqb, List, [], ◌∷◌, ◌++◌, Option, Some, None, IsSome, refl, sym, ap, ◌∙◌, inl, inr, arith, ap₂, subst, append_assoc}
+use Rattle.std.proofs.Common.{◌≡◌, ◌≢◌, ℕ, ◌+◌, ◌≤◌, true, cond, eqb, List, [], ◌∷◌, ◌++◌, Option, Some, None, IsSome, refl, sym, ap, ◌∙◌, inl, inr, arith, ap₂, subst, append_assoc}
 use Rattle.std.proofs.lemmas.Bool.Decides.{eqb_tells}
 use Rattle.art_arena.specs.arena.Cells.{UpdatesAt}
 use Rattle.art_arena.specs.arena.Shapes.{LeafAt}
