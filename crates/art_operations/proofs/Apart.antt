@@ -3,12 +3,12 @@ use Rattle.std.proofs.Common.{◌≡◌, ◌≢◌, ℕ, ◌+◌, ◌≤◌, con
 use Rattle.art_nodes.specs.Name.{Name}
 use Rattle.art_nodes.specs.InnerNode.{InnerNode, without_child, with_children}
 use Rattle.art_arena.specs.arena.Arena.{Arena, inner_held, held_at, cell_of, node_at}
-use Rattle.art_arena.specs.arena.Cells.{Cell, pair, branches, leaf_name, same_name, copies, Holds, UpdatesAt}
+use Rattle.art_arena.specs.arena.Cells.{Cell, branches, leaf_name, same_name, Holds, UpdatesAt}
 use Rattle.art_arena.specs.arena.Context.{Frame, plug, path_to, frame_cell, cells_before, cells_after, AreBelow}
 use Rattle.art_arena.specs.tree.Kinds.{IsKindOf}
 use Rattle.art_arena.specs.arena.Shapes.{Branches, leaf_at, inner_at, no_branch, branch, LeafAt, children_at, join, width, cells, cells_in, AreUnder}
 use Rattle.art_arena.proofs.tree.Order.{all_right}
-use Rattle.art_arena.proofs.shapes.CellLists.{same_name_tells, same_name-self, copies-append, Holds-add, Holds-write, Holds-remove, Holds-turn, Holds-swap}
+use Rattle.art_arena.proofs.shapes.CellLists.{same_name_tells, same_name-self, Holds-add, Holds-write, Holds-remove, Holds-turn, Holds-swap}
 use Rattle.art_arena.proofs.shapes.Contexts.{children_at-join, leaves_in-join, cells_in-join, width-join, cells-plug}
 use Rattle.art_arena.proofs.shapes.Openings.{without_child-frame}
 use Rattle.art_arena.proofs.shapes.Repoint.{frame_node}

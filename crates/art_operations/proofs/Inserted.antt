@@ -90,10 +90,10 @@ module _ {K V : Type 0} (bytes : K → List ℕ) (P : ℕ) where
       keeps-beside bytes P old new (node_at new) rest t (held (node_at old) s before.nodes.holds.held) (held (node_at new) t after.nodes.holds.held) after.nodes.holds after.nodes.under links
 
   -- so it is where a leaf was stored, then linked in, and then put in its place
-  pub put_keeps : {rest : List (Name × Cell K V)} (old stored linked new : Arena K V) (root top : Name) (s : Shape K V) (last : List Step) (slot : ℕ) (key : K) (value : V) (change : InsertParentNodeChange) (xs ys : List (LeafAt K V))
-      → IsTreeBeside bytes P (node_at old) root (links_at old) rest s → IsInsertedBeside bytes P new rest s last key value (record { leaf_node_ptr = slot; existing_leaf = None; new_root = top; parent_node_change = change }) → leaves s ≡ xs ++ ys
+  pub put_keeps : {rest : List (Name × Cell K V)} (old stored linked new : Arena K V) (root top : Name) (s : Shape K V) (last : List Step) (slot : ℕ) (key : K) (value : V) (above : InsertParentNodeChange) (xs ys : List (LeafAt K V))
+      → IsTreeBeside bytes P (node_at old) root (links_at old) rest s → IsInsertedBeside bytes P new rest s last key value (record { leaf_node_ptr = slot; existing_leaf = None; new_root = top; parent_node_change = above }) → leaves s ≡ xs ++ ys
       → ((n : ℕ) → n ≢ slot → links_at stored n ≡ links_at old n) → KeepsLinksOutside (links_at stored) (links_at linked) (xs ++ record { slot = slot; key = key; value = value } ∷ ys) → ((n : ℕ) → links_at new n ≡ links_at linked n) → KeepsNodes rest old new
-  put_keeps old stored linked new root top s last slot key value change xs ys tree is were first second third =
+  put_keeps old stored linked new root top s last slot key value above xs ys tree is were first second third =
       let l : LeafAt K V = record { slot = slot; key = key; value = value } in
       inserted_keeps old new root top s is.shape tree is.is_tree (λ n none.
       let all : times n (is.stored.0 ++ l ∷ is.stored.1) ≡ 0 = subst (λ ls. times n ls ≡ 0) is.stored.3 none in

@@ -1,5 +1,5 @@
 -- The node above a leaf, and the leaf taken out of it.
-use Rattle.std.proofs.Common.{◌≡◌, ◌≢◌, ℕ, suc, ◌+◌, List, ◌∷◌, length, Some, refl, sym, ap, subst, ◌∙◌, arith, length-append}
+use Rattle.std.proofs.Common.{◌≡◌, ◌≢◌, ℕ, suc, ◌+◌, List, ◌∷◌, length, Some, refl, sym, ap, ◌∙◌, arith, length-append}
 use Rattle.art_nodes.specs.Name.{Name}
 use Rattle.art_nodes.specs.InnerNode.{InnerNode, with_child, without_child, with_children}
 use Rattle.art_nodes.specs.declared.kind.NodeType.TheVariants.{Leaf}

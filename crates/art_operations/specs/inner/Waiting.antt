@@ -10,10 +10,10 @@ use Rattle.art_arena.specs.arena.Context.{AreAround, AreBelow}
 use Rattle.art_arena.specs.arena.Linked.{IsBeside}
 use Rattle.art_arena.specs.arena.Shapes.{LeafAt, join, children_at, width, node_of, cells_in, AreUnder}
 
--- The arena holds a leaf and a canonical tree with this root, and these nodes beside. An inner node of the tree has no child under the byte
--- with which the leaf's key goes on there: it is the frame's node with nothing at the frame's place.
-pub record AwaitsLeaf {K V : Type 0} (bytes : K → List ℕ) (P : ℕ) (arena : Arena K V)
-    (rest : List (Name × Cell K V)) (root node : Name) (byte leaf : ℕ) (f : Frame K V) (outer : List (Frame K V)) (l : LeafAt K V) : Type 0 where
+-- Beside these nodes the arena holds a leaf and a canonical tree with this root. An inner node of the tree has no child
+-- under the byte with which the leaf's key goes on there: it is the frame's node with nothing at the frame's place.
+pub record AwaitsLeaf {K V : Type 0} (bytes : K → List ℕ) (P : ℕ) (arena : Arena K V) (rest : List (Name × Cell K V))
+    (root node : Name) (byte leaf : ℕ) (f : Frame K V) (outer : List (Frame K V)) (l : LeafAt K V) : Type 0 where
   pub named : root_of outer f.name ≡ root
   pub node_is : f.name ≡ node
   pub byte_is : f.byte ≡ byte
