@@ -5,4 +5,5 @@ pub mod NameWalks
 pub mod Fillings
 pub mod LeafSlots
 pub mod KindCounts
+pub mod KeyWalks
 pub mod Verdicts

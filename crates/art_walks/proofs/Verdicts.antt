@@ -18,7 +18,8 @@ use Rattle.art_walks.proofs.Ways.{onward-some, branch_of}
 use Rattle.art_walks.specs.inner.Names.{meets, AreOnce}
 use Rattle.art_walks.specs.inner.Skeletons.{HasKinds, HaveKinds, named, IsSkeleton}
 use Rattle.art_walks.proofs.Skeletons.{same_cells}
-use Rattle.art_walks.proofs.Fillings.{Fits, fill, fill_in, width-fill, cells-fill, filled-subtree, unfit-none}
+use Rattle.art_walks.specs.inner.Fillings.{Fits}
+use Rattle.art_walks.proofs.Fillings.{fill, fill_in, width-fill, cells-fill, filled-subtree, unfit-none}
 use Rattle.art_walks.proofs.LeafSlots.{AreLinkedSlots, leaf_slots, slots_of, slots-named, linked-slots, slots-linked, leaves-fill}
 use Rattle.art_walks.proofs.KindCounts.{count_kind, in_range, count-leaves, count-nodes}
 

@@ -50,7 +50,7 @@ module _ {K V : Type 0} where
   width-children (branch b s rest) = omega (arith, width-children rest)
 
   module _ (P : ℕ) (m : Name) where
-    one_part : (f before : Branches K V) (b : ℕ) (t : Shape K V) (after : Branches K V) → f ≡ join before (branch b t after) → copies m (cells P t) ≤ copies m (cells_in P f)
+    pub one_part : (f before : Branches K V) (b : ℕ) (t : Shape K V) (after : Branches K V) → f ≡ join before (branch b t after) → copies m (cells P t) ≤ copies m (cells_in P f)
     one_part f before b t after whole =
         let parts : cells_in P f ≡ cells_in P before ++ (cells P t ++ cells_in P after) = ap (cells_in P) whole ∙ cells_in-join P before (branch b t after) in
         let counted : copies m (cells_in P f) ≡ copies m (cells_in P before) + copies m (cells P t ++ cells_in P after) = ap (copies m) parts ∙ copies-append m (cells_in P before) (cells P t ++ cells_in P after) in

@@ -1,3 +1,4 @@
 -- Words of private contracts.
 pub mod Names
 pub mod Skeletons
+pub mod Fillings

@@ -73,7 +73,8 @@ one_kind Node48 = refl
 one_kind Node256 = refl
 one_kind Leaf = refl
 
-abbrev total : (Name → ℕ) → List (ℕ × Name) → ℕ
+-- a number for each child, in sum
+abbrev pub total : (Name → ℕ) → List (ℕ × Name) → ℕ
 total f [] = 0
 total f (c ∷ rest) = f c.1 + total f rest
 
