@@ -57,6 +57,7 @@ impl<N: Drop> From<NodeRefused<N>> for AllocError {
 impl<K, V, const PREFIX_LEN: usize> NodeArena<K, V, PREFIX_LEN> {
     ghost use Rattle.art_nodes.specs.Name.{Name};
     ghost use Rattle.art_arena.specs.arena.Cells.{UpdatesAt, leaf_name};
+    ghost use Rattle.slab.specs.Slab.{slab_len};
     ghost use Rattle.std.specs.Borrow.{sem};
     ghost use Rattle.art_arena.specs.arena.Lends.{lends_node, lends_value};
     ghost use Rattle.art_arena.specs.contracts.arena.NodeArena.{the_row};
@@ -89,6 +90,13 @@ impl<K, V, const PREFIX_LEN: usize> NodeArena<K, V, PREFIX_LEN> {
             NodeType::Node256 => self.nodes256.contains(slot),
             NodeType::Leaf => self.leaves.contains(slot),
         }
+    }
+
+    /// How many leaves there are.
+    pub fn leaf_count(&self) -> usize
+        ensures { result ≡ slab_len self.now.leaves }
+    {
+        self.leaves.len()
     }
 
     /// Makes room for so many more nodes, whatever their kinds: as many allocations then need no memory. It is

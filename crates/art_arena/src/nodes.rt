@@ -48,6 +48,13 @@ impl<N, const PREFIX_LEN: usize> Nodes<N, PREFIX_LEN> {
         self.slab.contains(slot)
     }
 
+    // How many nodes there are.
+    pub(crate) fn len(&self) -> usize
+        ensures { result ≡ slab_len self.now }
+    {
+        self.slab.len()
+    }
+
     // Makes room for so many more nodes. It is refused only where there is no room for them, and no memory.
     pub(crate) fn reserve(&mut self, additional: usize) -> Result<(), AllocError>
         ensures room { OnOk result (HasRoomFor self.new additional) }
