@@ -31,3 +31,6 @@ pub mod Done
 pub mod Clones
 pub mod CommandLists
 pub mod RunExamples
+pub mod Freeing
+pub mod FreedSizes
+pub mod FreeSteps
