@@ -57,12 +57,11 @@ impl<N: Drop> From<NodeRefused<N>> for AllocError {
 impl<K, V, const PREFIX_LEN: usize> NodeArena<K, V, PREFIX_LEN> {
     ghost use Rattle.art_nodes.specs.Name.{Name};
     ghost use Rattle.art_arena.specs.arena.Cells.{UpdatesAt, leaf_name};
-    ghost use Rattle.slab.specs.Slab.{slab_len};
     ghost use Rattle.std.specs.Borrow.{sem};
     ghost use Rattle.art_arena.specs.arena.Lends.{lends_node, lends_value};
     ghost use Rattle.art_arena.specs.contracts.arena.NodeArena.{the_row};
     ghost use Rattle.art_arena.specs.arena.Arena.{leaf_held, held_at, links_at, Allocates, WritesLinks, SameNodes};
-    ghost use Rattle.art_arena.specs.arena.Arena.{HasRoom};
+    ghost use Rattle.art_arena.specs.arena.Arena.{HasRoom, leaves_held};
     ghost use Rattle.art_arena.specs.arena.Arena.{KeepsRoom, UsesRoom};
 
     /// An arena that holds no node. It takes no memory.
@@ -94,7 +93,7 @@ impl<K, V, const PREFIX_LEN: usize> NodeArena<K, V, PREFIX_LEN> {
 
     /// How many leaves there are.
     pub fn leaf_count(&self) -> usize
-        ensures { result ≡ slab_len self.now.leaves }
+        ensures value { result ≡ leaves_held self.now }
     {
         self.leaves.len()
     }

@@ -41,18 +41,18 @@ impl<N, const PREFIX_LEN: usize> Nodes<N, PREFIX_LEN> {
         }
     }
 
-    // Whether there is a node under this key.
-    pub(crate) fn contains(&self, slot: usize) -> bool
-        ensures { IsTrue result ↔ IsSome (get self.now slot) }
-    {
-        self.slab.contains(slot)
-    }
-
     // How many nodes there are.
     pub(crate) fn len(&self) -> usize
         ensures { result ≡ slab_len self.now }
     {
         self.slab.len()
+    }
+
+    // Whether there is a node under this key.
+    pub(crate) fn contains(&self, slot: usize) -> bool
+        ensures { IsTrue result ↔ IsSome (get self.now slot) }
+    {
+        self.slab.contains(slot)
     }
 
     // Makes room for so many more nodes. It is refused only where there is no room for them, and no memory.

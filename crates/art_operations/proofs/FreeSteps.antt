@@ -12,7 +12,7 @@ use Rattle.art_arena.specs.arena.Steps.{Step, steps_to}
 use Rattle.art_arena.proofs.tree.Order.{all_append, all_left, all_right}
 use Rattle.art_arena.proofs.shapes.CellLists.{same_name_tells, copies-append, Holds-write}
 use Rattle.art_arena.proofs.shapes.Contexts.{children_at-join, cells_in-join, cells-plug, name_of-plug}
-use Rattle.art_arena.proofs.shapes.LeafCounts.{no_inner}
+use Rattle.art_arena.proofs.shapes.HeldLeaves.{no_inner}
 use Rattle.art_arena.proofs.shapes.Repoint.{repointed, frame_node, frame-there, frame-child, repoint}
 use Rattle.art_arena.proofs.shapes.Subtrees.{inner_of, branch-last, branch-first}
 use Rattle.art_arena.proofs.shapes.Updates.{nodes-update}
@@ -60,18 +60,18 @@ module _ {K V : Type 0} (P : ℕ) (w : Bool) (arena : Arena K V) where
   first-start root s rest part = record { ctx = []; part = s; whole = refl; first = tt; holds = part; place_is = refl }
 
   -- a part of a shape, the rest of the shape beside it
-  part-there : (ctx : List (Frame K V)) (part : Shape K V) (rest : List (Name × Cell K V)) → AreFirst ctx → Holds (node_at arena) (cells_with P w (plug ctx part) ++ rest)
+  pub part-there : (ctx : List (Frame K V)) (part : Shape K V) (rest : List (Name × Cell K V)) → AreFirst ctx → Holds (node_at arena) (cells_with P w (plug ctx part) ++ rest)
       → Holds (node_at arena) (cells_with P w part ++ (cells_before P ctx (name_of part) ++ (after_with P w ctx ++ rest)))
   part-there ctx part rest first holds =
-      let open : Holds (node_at arena) (cells_before P ctx (name_of part) ++ (cells_with P w part ++ (after_with P w ctx ++ rest))) =
+      let parts : Holds (node_at arena) (cells_before P ctx (name_of part) ++ (cells_with P w part ++ (after_with P w ctx ++ rest))) =
       subst (Holds (node_at arena)) (ap (λ xs. xs ++ rest) (with-plug P w ctx part first) ∙ append_assoc (cells_before P ctx (name_of part)) (cells_with P w part ++ after_with P w ctx) rest ∙ ap (λ xs. cells_before P ctx (name_of part) ++ xs) (append_assoc (cells_with P w part) (after_with P w ctx) rest)) holds in
-      Holds-swap (node_at arena) (cells_before P ctx (name_of part)) (cells_with P w part) (after_with P w ctx ++ rest) open
+      Holds-swap (node_at arena) [] (cells_before P ctx (name_of part)) (cells_with P w part) (after_with P w ctx ++ rest) parts
 
-  whole-there : (ctx : List (Frame K V)) (part : Shape K V) (rest : List (Name × Cell K V)) → AreFirst ctx
+  pub whole-there : (ctx : List (Frame K V)) (part : Shape K V) (rest : List (Name × Cell K V)) → AreFirst ctx
       → Holds (node_at arena) (cells_with P w part ++ (cells_before P ctx (name_of part) ++ (after_with P w ctx ++ rest))) → Holds (node_at arena) (cells_with P w (plug ctx part) ++ rest)
   whole-there ctx part rest first holds =
       subst (Holds (node_at arena)) (sym (ap (λ xs. xs ++ rest) (with-plug P w ctx part first) ∙ append_assoc (cells_before P ctx (name_of part)) (cells_with P w part ++ after_with P w ctx) rest ∙ ap (λ xs. cells_before P ctx (name_of part) ++ xs) (append_assoc (cells_with P w part) (after_with P w ctx) rest)))
-      (Holds-swap (node_at arena) (cells_with P w part) (cells_before P ctx (name_of part)) (after_with P w ctx ++ rest) holds)
+      (Holds-swap (node_at arena) [] (cells_with P w part) (cells_before P ctx (name_of part)) (after_with P w ctx ++ rest) holds)
 
   -- from an inner node to its first child
   pub record FirstStep (s : Shape K V) (rest : List (Name × Cell K V)) (n : Name) (place : Option (Name × ℕ)) : Type 0 where

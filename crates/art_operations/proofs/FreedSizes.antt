@@ -7,16 +7,16 @@ use Rattle.art_arena.specs.arena.Cells.{Cell, pair, branches, leaf_name, copies,
 use Rattle.art_arena.specs.arena.Shapes.{Shape, Branches, leaf_at, inner_at, no_branch, branch, name_of, children_at, cells, cells_in}
 use Rattle.art_arena.proofs.tree.Order.{all_left, all_right}
 use Rattle.art_arena.proofs.shapes.CellLists.{copies-append}
-use Rattle.art_arena.proofs.shapes.LeafCounts.{no_inner}
+use Rattle.art_arena.proofs.shapes.HeldLeaves.{no_inner}
 use Rattle.art_arena.proofs.shapes.Measures.{slots_of, held_few}
 use Rattle.art_operations.specs.Frees.{cells_with, cells_with_in}
 use Rattle.art_operations.specs.inner.Freeing.{HoldsPart}
 
-module _ {K V : Type 0} where
-  abbrev sum_over : (Name → ℕ) → List (ℕ × Name) → ℕ
-  sum_over f [] = 0
-  sum_over f (c ∷ rest) = f c.1 + sum_over f rest
+abbrev sum_over : (Name → ℕ) → List (ℕ × Name) → ℕ
+sum_over f [] = 0
+sum_over f (c ∷ rest) = f c.1 + sum_over f rest
 
+module _ {K V : Type 0} where
   abbrev size_at : (Name → ℕ) → Option (Cell K V) → ℕ
   size_at f None = 1
   size_at f (Some (pair k v)) = 1

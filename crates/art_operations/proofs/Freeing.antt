@@ -13,7 +13,7 @@ use Rattle.art_arena.specs.arena.Steps.{Step, steps_to}
 use Rattle.art_arena.proofs.tree.Order.{all_append, all_left, all_right}
 use Rattle.art_arena.proofs.shapes.CellLists.{same_name_tells, copies-append, Holds-remove, Holds-same, Holds-write}
 use Rattle.art_arena.proofs.shapes.Contexts.{children_at-join, cells_in-join, cells-plug, name_of-plug}
-use Rattle.art_arena.proofs.shapes.LeafCounts.{no_inner}
+use Rattle.art_arena.proofs.shapes.HeldLeaves.{no_inner}
 use Rattle.art_arena.proofs.shapes.Repoint.{repointed, frame_node, frame-there, frame-child, repoint}
 use Rattle.art_arena.proofs.shapes.Subtrees.{inner_of, branch-last}
 use Rattle.art_arena.proofs.shapes.Updates.{nodes-update, nodes-same}
@@ -22,21 +22,22 @@ use Rattle.art_operations.specs.declared.deallocate.Bottom.{Bottom}
 use Rattle.art_operations.specs.inner.Freeing.{step_in, IsChildless, AreFirst, IsBottom, FreesRoot, HoldsPart, HoldsBoth, HoldsOneLess}
 
 -- cells that stand in another order are held as well
-Holds-swap : {C : Type 0} (at : Name → Option C) (xs ys zs : List (Name × C)) → Holds at (xs ++ (ys ++ zs)) → Holds at (ys ++ (xs ++ zs))
-Holds-swap {C} at xs ys zs holds =
+pub Holds-swap : {C : Type 0} (at : Name → Option C) (front xs ys zs : List (Name × C)) → Holds at (front ++ (xs ++ (ys ++ zs))) → Holds at (front ++ (ys ++ (xs ++ zs)))
+Holds-swap {C} at front xs ys zs holds =
     let Q = λ (c : Name × C). at c.0 ≡ Some c.1 in
-    let left = all_left Q xs (ys ++ zs) holds.held in
-    let right = all_right Q xs (ys ++ zs) holds.held in
+    let behind = all_right Q front (xs ++ (ys ++ zs)) holds.held in
+    let left = all_left Q xs (ys ++ zs) behind in
+    let right = all_right Q xs (ys ++ zs) behind in
     record {
-      held = all_append Q ys (xs ++ zs) (all_left Q ys zs right) (all_append Q xs zs left (all_right Q ys zs right));
+      held = all_append Q front (ys ++ (xs ++ zs)) (all_left Q front (xs ++ (ys ++ zs)) holds.held) (all_append Q ys (xs ++ zs) (all_left Q ys zs right) (all_append Q xs zs left (all_right Q ys zs right)));
       once = λ n.
-          let same : copies n (ys ++ (xs ++ zs)) ≡ copies n (xs ++ (ys ++ zs)) =
-          omega (arith, copies-append n ys (xs ++ zs), copies-append n xs zs, copies-append n xs (ys ++ zs), copies-append n ys zs) in
+          let same : copies n (front ++ (ys ++ (xs ++ zs))) ≡ copies n (front ++ (xs ++ (ys ++ zs))) =
+          omega (arith, copies-append n front (ys ++ (xs ++ zs)), copies-append n front (xs ++ (ys ++ zs)), copies-append n ys (xs ++ zs), copies-append n xs zs, copies-append n xs (ys ++ zs), copies-append n ys zs) in
           same ∙ holds.once n;
     }
 
 -- of children by ascending byte the last one is taken out
-without-last : {N : Type 0} (low : ℕ) (xs : List (ℕ × N)) (b : ℕ) (m : N) → IsAscendingFrom low (xs ++ (b, m) ∷ []) → (low ≤ b) × (without_child (xs ++ (b, m) ∷ []) b ≡ xs)
+pub without-last : {N : Type 0} (low : ℕ) (xs : List (ℕ × N)) (b : ℕ) (m : N) → IsAscendingFrom low (xs ++ (b, m) ∷ []) → (low ≤ b) × (without_child (xs ++ (b, m) ∷ []) b ≡ xs)
 without-last low [] b m up = (up.0, elim (eqb_tells b b) [ inl same ↦ rw same.0 refl | inr other ↦ absurd (other.1 refl) ])
 without-last low (x ∷ xs) b m up =
     let later = without-last (x.0 + 1) xs b m up.2 in
@@ -49,7 +50,7 @@ without-last low (x ∷ xs) b m up =
     )
 
 module _ {K V : Type 0} (P : ℕ) (w : Bool) where
-  with-join : (f g : Branches K V) → cells_with_in P w (join f g) ≡ cells_with_in P w f ++ cells_with_in P w g
+  pub with-join : (f g : Branches K V) → cells_with_in P w (join f g) ≡ cells_with_in P w f ++ cells_with_in P w g
   with-join no_branch g = refl
   with-join (branch b s f) g = ap (λ xs. cells_with P w s ++ xs) (with-join f g) ∙ sym (append_assoc (cells_with P w s) (cells_with_in P w f) (cells_with_in P w g))
 
@@ -83,16 +84,16 @@ module _ {K V : Type 0} (P : ℕ) (w : Bool) where
   below_root (leaf_at slot k v) = []
   below_root (inner_at n prefix kids) = cells_with_in P w kids
 
-  with-root : (s : Shape K V) → cells_with P w s ≡ root_cells s ++ below_root s
+  pub with-root : (s : Shape K V) → cells_with P w s ≡ root_cells s ++ below_root s
   with-root (leaf_at slot k v) = sym (append-nil (root_cells (leaf_at slot k v)))
   with-root (inner_at n prefix kids) = refl
 
-  childless-cells : (s : Shape K V) → IsChildless s → cells_with P w s ≡ root_cells s
+  pub childless-cells : (s : Shape K V) → IsChildless s → cells_with P w s ≡ root_cells s
   childless-cells (leaf_at slot k v) none = refl
   childless-cells (inner_at n prefix no_branch) none = refl
   childless-cells (inner_at n prefix (branch b t rest)) none = absurd none
 
-  childless-one : (s : Shape K V) → IsChildless s → length (cells P s) ≡ 1
+  pub childless-one : (s : Shape K V) → IsChildless s → length (cells P s) ≡ 1
   childless-one (leaf_at slot k v) none = refl
   childless-one (inner_at n prefix no_branch) none = refl
   childless-one (inner_at n prefix (branch b t rest)) none = absurd none
@@ -109,7 +110,7 @@ freed_root P w old new (leaf_at slot k v) xs ys frees holds = freed_leaf P w old
 freed_root P w old new (inner_at n prefix kids) xs ys frees holds = Holds-remove (node_at old) (node_at new) n _ xs ys (nodes-update old new n None frees) holds
 
 -- a write of one name leaves the others
-apart-from : {C : Type 0} (n m : Name) (c : C) (xs : List (Name × C)) → copies n ((m, c) ∷ xs) ≡ 0 → n ≢ m
+pub apart-from : {C : Type 0} (n m : Name) (c : C) (xs : List (Name × C)) → copies n ((m, c) ∷ xs) ≡ 0 → n ≢ m
 apart-from n m c xs none e = elim (same_name_tells n m) [
   | inl same ↦ absurd (omega (arith, rw same.0 at none))
   | inr other ↦ other.1 e
@@ -120,5 +121,5 @@ kept_leaf P true old new slot k v frees n none = frees.others n (apart-from n (l
 kept_leaf P false old new slot k v frees n none = frees n
 
 pub kept_root : {K V : Type 0} (P : ℕ) (w : Bool) (old new : Arena K V) (s : Shape K V) → FreesRoot w old new s → KeepsAllBut (root_cells P w s) old new
-kept_root P w old new (leaf_at slot k v) frees = kept_leaf P w old new slot k v frees
-kept_root P w old new (inner_at n prefix kids) frees m none = frees.others m (apart-from m n _ [] none)
+kept_root {K} {V} P w old new (leaf_at slot k v) frees = kept_leaf P w old new slot k v frees
+kept_root {K} {V} P w old new (inner_at n prefix kids) frees = λ m none. frees.others m (apart-from m n (node_of {K = K} {V = V} P prefix (children_at kids)) [] none)

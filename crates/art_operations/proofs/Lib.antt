@@ -34,3 +34,7 @@ pub mod RunExamples
 pub mod Freeing
 pub mod FreedSizes
 pub mod FreeSteps
+pub mod Hanging
+pub mod FreedOne
+pub mod FreedAll
+pub mod FreedRuns

@@ -41,9 +41,9 @@ fn find_bottom<K, V, const PREFIX_LEN: usize>(
             return Bottom { node, place };
         }
         match arena.inner(node).first_child() {
-            Some((byte, child)) => {
-                place = Some((node, byte));
-                node = child;
+            Some(child) => {
+                place = Some((node, child.0));
+                node = child.1;
             }
             None => return Bottom { node, place },
         }
@@ -95,8 +95,12 @@ fn hang<K: Drop, V: Drop, const PREFIX_LEN: usize>(
     free_node(arena, bottom.node, with_leaves);
     match bottom.place {
         None => node,
-        Some((parent, byte)) => {
-            arena.edit_inner(parent, &NodeEdit::Write { byte, child: node });
+        Some(place) => {
+            let edit = NodeEdit::Write {
+                byte: place.1,
+                child: node,
+            };
+            arena.edit_inner(place.0, &edit);
             below
         }
     }
@@ -129,13 +133,13 @@ fn free_one<K: Drop, V: Drop, const PREFIX_LEN: usize>(
             free_node(arena, root, with_leaves);
             None
         }
-        Some((byte, child)) => {
+        Some(last) => {
             if count == 1 {
                 free_node(arena, root, with_leaves);
-                return Some(child);
+                return Some(last.1);
             }
-            arena.edit_inner(root, &NodeEdit::Remove { byte });
-            Some(hang(arena, root, child, with_leaves))
+            arena.edit_inner(root, &NodeEdit::Remove { byte: last.0 });
+            Some(hang(arena, root, last.1, with_leaves))
         }
     }
 }
@@ -201,6 +205,32 @@ pub fn deallocate_tree_non_leaves<K: Drop, V: Drop, const PREFIX_LEN: usize>(
     free_nodes(arena, root, false);
 }
 
+// Frees the leaves of a linked run, from its first to its last.
+fn free_run<K: Drop, V: Drop, const PREFIX_LEN: usize>(
+    arena: &mut NodeArena<K, V, PREFIX_LEN>,
+    first: LeafPtr,
+    last: LeafPtr,
+)
+    requires { (ls : List (LeafAt K V)) × (rest : List (Name × Cell K V)) × HoldsRun arena.old first last ls rest }
+    ensures freed { (ls : List (LeafAt K V)) (rest : List (Name × Cell K V))
+        → HoldsRun arena.old first last ls rest → Holds (node_at arena.new) rest }
+    ensures kept { (ls : List (LeafAt K V)) (rest : List (Name × Cell K V))
+        → HoldsRun arena.old first last ls rest → KeepsAllBut (leaf_cells ls) arena.old arena.new }
+    ensures room { KeepsRoom arena.old arena.new }
+{
+    let mut current = first;
+    'run: loop {
+        let leaf = arena.deallocate_node_ptr::<LeafNode<K, V>>(current);
+        if current == last {
+            return;
+        }
+        match leaf.next() {
+            Some(next) => current = next,
+            None => unreachable!(),
+        }
+    }
+}
+
 /// Frees the leaves of a linked run, from its first to its last, or none. What else the arena holds stays as it is:
 /// the leaves beside the run keep their links, also those that led into it. It is never refused and takes no memory.
 pub fn deallocate_leaves<K: Drop, V: Drop, const PREFIX_LEN: usize>(
@@ -216,18 +246,7 @@ pub fn deallocate_leaves<K: Drop, V: Drop, const PREFIX_LEN: usize>(
     ensures none { IfNone run (SameNodes arena.old arena.new) }
     ensures room { KeepsRoom arena.old arena.new }
 {
-    let Some((first, last)) = run else {
-        return;
-    };
-    let mut current = first;
-    'run: loop {
-        let leaf = arena.deallocate_node_ptr::<LeafNode<K, V>>(current);
-        if current == last {
-            return;
-        }
-        match leaf.next() {
-            Some(next) => current = next,
-            None => return,
-        }
+    if let Some(ends) = run {
+        free_run(arena, ends.0, ends.1);
     }
 }

@@ -1,14 +1,14 @@
--- How many leaves an arena has, told by the cells that it holds.
+-- The leaves that an arena has are those of the cells that it holds.
 use Rattle.std.proofs.Common.{◌≡◌, ◌≢◌, ℕ, zero, suc, ◌+◌, ◌<◌, ◌≤◌, true, false, cond, eqb, leb, List, [], ◌∷◌, ◌++◌, length, Option, Some, None, is_some, count_by, slice_index_or, refl, sym, ap, ◌∙◌, inl, inr, arith, length-append}
 use Rattle.std.proofs.lemmas.Bool.Decides.{eqb_tells, leb_tells}
 use Rattle.std.proofs.lemmas.List.Sums.{sum_by-cons}
-use Rattle.slab.specs.Slab.{Slab, get, slab_len}
+use Rattle.slab.specs.Slab.{Slab, get}
 use Rattle.art_nodes.specs.declared.kind.NodeType.TheVariants.{Leaf}
 use Rattle.art_nodes.specs.declared.leaf.LeafNode.{LeafNode}
 use Rattle.art_nodes.specs.InnerNode.{InnerNode}
 use Rattle.art_nodes.specs.Name.{Name}
 use Rattle.art_arena.specs.arena.Cells.{Cell, branches, leaf_name, AreHeld, Holds}
-use Rattle.art_arena.specs.arena.Arena.{Arena, as_leaf, cell_of, held_as, node_at}
+use Rattle.art_arena.specs.arena.Arena.{Arena, as_leaf, cell_of, held_as, node_at, leaves_held}
 use Rattle.art_arena.specs.arena.Shapes.{Shape, Branches, leaf_at, inner_at, no_branch, branch, leaves, leaves_in, cells, cells_in}
 use Rattle.art_arena.proofs.tree.Order.{all_left, all_right}
 use Rattle.art_arena.proofs.shapes.CellLists.{same_kind_tells}
@@ -91,7 +91,7 @@ module _ {K V : Type 0} where
   leaf_filled (Some leaf) = refl
 
   -- an arena has as many leaves as the list of its cells
-  pub leaves_counted : (arena : Arena K V) (cs : List (Name × Cell K V)) → Holds (node_at arena) cs → slab_len arena.leaves ≡ length (slots_as Leaf cs)
+  pub leaves_counted : (arena : Arena K V) (cs : List (Name × Cell K V)) → Holds (node_at arena) cs → leaves_held arena ≡ length (slots_as Leaf cs)
   leaves_counted arena cs holds =
       let f = filled arena.leaves.slots in
       let once : (m : ℕ) → count m (slots_as Leaf cs) ≡ f m = λ m. count-slots_as Leaf m cs ∙ holds.once (leaf_name m) ∙ leaf_filled (get arena.leaves m) in
@@ -135,7 +135,7 @@ module _ {K V : Type 0} where
 
     -- an arena that holds a shape, and these cells beside it, has so many leaves more than they are
     pub leaves_beside : (s : Shape K V) (rest : List (Name × Cell K V)) → Holds (node_at arena) (cells P s ++ rest)
-        → slab_len arena.leaves ≡ length (leaves s) + length (slots_as Leaf rest)
+        → leaves_held arena ≡ length (leaves s) + length (slots_as Leaf rest)
     leaves_beside s rest holds =
         let held = leaf_slots s (all_left (λ (c : Name × Cell K V). node_at arena c.0 ≡ Some c.1) (cells P s) rest holds.held) in
         omega (arith, leaves_counted arena (cells P s ++ rest) holds, slots-append (cells P s) rest, held)
