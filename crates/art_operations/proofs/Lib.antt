@@ -38,3 +38,4 @@ pub mod Hanging
 pub mod FreedOne
 pub mod FreedAll
 pub mod FreedRuns
+pub mod FreedParts
