@@ -7,6 +7,7 @@ use crate::indirect::InnerNodeIndirect;
 use crate::inner_node::{InnerNode, InnerNodeCommon, Node};
 use crate::kind::{Kind4, Kind16, Kind48, Kind256};
 use crate::sorted::InnerNodeSorted;
+use std::alloc::AllocError;
 
 /// The smallest inner node.
 pub type InnerNode4<K, V, const PREFIX_LEN: usize> = InnerNodeSorted<K, V, PREFIX_LEN, 4>;
@@ -40,6 +41,35 @@ fn converted<
         new.write_child(child.0, child.1);
     }
     new
+}
+
+impl<K, V, const PREFIX_LEN: usize, const SIZE: usize> Clone
+    for InnerNodeSorted<K, V, PREFIX_LEN, SIZE> {
+    ghost is_clone = { λ original copy. copy ≡ original };
+
+    fn clone(&self) -> Result<Self, AllocError> {
+        let _fits = self.header();
+        Ok(converted::<Self, Self, PREFIX_LEN>(self))
+    }
+}
+
+impl<K, V, const PREFIX_LEN: usize, const SIZE: usize> Clone
+    for InnerNodeIndirect<K, V, PREFIX_LEN, SIZE> {
+    ghost is_clone = { λ original copy. copy ≡ original };
+
+    fn clone(&self) -> Result<Self, AllocError> {
+        let _fits = self.header();
+        Ok(converted::<Self, Self, PREFIX_LEN>(self))
+    }
+}
+
+impl<K, V, const PREFIX_LEN: usize> Clone for InnerNodeDirect<K, V, PREFIX_LEN> {
+    ghost is_clone = { λ original copy. copy ≡ original };
+
+    fn clone(&self) -> Result<Self, AllocError> {
+        let _fits = self.header();
+        Ok(converted::<Self, Self, PREFIX_LEN>(self))
+    }
 }
 
 impl<K, V, const PREFIX_LEN: usize> Node for InnerNode4<K, V, PREFIX_LEN> {

@@ -179,6 +179,22 @@ impl<K: AsBytes, V> LeafNode<K, V> {
     }
 }
 
+/// A leaf of clones of the key and of the value, with the same neighbours. It is refused where one of the clones is.
+impl<K: Clone, V: Clone> Clone for LeafNode<K, V> {
+    ghost use Rattle.art_nodes.specs.Leaf.{IsLeafClone};
+
+    ghost is_clone = { IsLeafClone K.is_clone V.is_clone };
+
+    fn clone(&self) -> Result<Self, AllocError> {
+        Ok(LeafNode {
+            key: self.key.clone()?,
+            value: self.value.clone()?,
+            previous: self.previous,
+            next: self.next,
+        })
+    }
+}
+
 impl<K: Clone, V: Clone> LeafNode<K, V> {
     /// A leaf of a clone of the key and a clone of the value, without neighbours. It is refused where one of
     /// the clones is.
