@@ -41,6 +41,23 @@ impl<N, const PREFIX_LEN: usize> Nodes<N, PREFIX_LEN> {
         }
     }
 
+    // How many nodes there are.
+    pub(crate) fn len(&self) -> usize
+        ensures { result ≡ slab_len self.now }
+    {
+        self.slab.len()
+    }
+
+    // Takes all nodes out. The room for them stays.
+    pub(crate) fn clear(&mut self)
+    where
+        N: Drop,
+        ensures slots { self.new.slots ≡ [] }
+        ensures capacity { self.new.capacity ≡ self.old.capacity }
+    {
+        self.slab.clear();
+    }
+
     // Whether there is a node under this key.
     pub(crate) fn contains(&self, slot: usize) -> bool
         ensures { IsTrue result ↔ IsSome (get self.now slot) }

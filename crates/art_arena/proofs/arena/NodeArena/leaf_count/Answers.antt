@@ -1,0 +1,9 @@
+use Rattle.std.proofs.Common.{◌∙◌}
+use Rattle.art_arena.proofs.shapes.LeafCounts.{leaf_count-tree, leaf_count-none}
+use Rattle.art_arena.proofs.arena.NodeArena.leaf_count.Goals as goal
+
+pub returns-clause-tree : goal.returns-clause-tree
+returns-clause-tree g c = λ bytes root s tree. c.len.ensures ∙ leaf_count-tree bytes g.row.PREFIX_LEN c.args.self.now root s tree
+
+pub returns-clause-none : goal.returns-clause-none
+returns-clause-none g c = λ empty. c.len.ensures ∙ leaf_count-none c.args.self.now empty
