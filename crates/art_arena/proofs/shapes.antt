@@ -42,3 +42,7 @@ pub mod OtherChildren
 pub mod FullNodes
 -- A slab of leaves has as many as the tree that the arena holds.
 pub mod LeafCounts
+-- Each leaf of a tree stands at a place.
+pub mod LeafPlaces
+-- A leaf that has another value.
+pub mod LeafValues

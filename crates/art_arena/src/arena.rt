@@ -1,7 +1,7 @@
 //! The nodes of a tree, under their names.
 ghost use Rattle.std.specs.Prelude.{◌≡◌, ℕ, ◌<◌, ◌^◌, ◌↔◌, List, length, Some, None, IfOk, OnErr, IfErr, OnOk, IsSome, IsTrue, IsOk};
 
-use crate::nodes::Nodes;
+use crate::nodes::{NO_MEMORY_HOLDS, Nodes};
 use crate::stored::Stored;
 use art_nodes::{
     InnerNode4, InnerNode16, InnerNode48, InnerNode256, KindLeaf, LeafNode, NodePtr, NodeType,
@@ -113,6 +113,13 @@ impl<K, V, const PREFIX_LEN: usize> NodeArena<K, V, PREFIX_LEN> {
         ensures room { KeepsRoom self.old self.new }
     {
         self.leaves.clear();
+        if PREFIX_LEN >= NO_MEMORY_HOLDS {
+            self.nodes4.none_fits();
+            self.nodes16.none_fits();
+            self.nodes48.none_fits();
+            self.nodes256.none_fits();
+            return;
+        }
         self.nodes4.clear();
         self.nodes16.clear();
         self.nodes48.clear();

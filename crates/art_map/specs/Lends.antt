@@ -2,15 +2,14 @@
 use Rattle.std.specs.Prelude.{◌≡◌, ℕ, Bool, List, Option}
 use Rattle.std.specs.Borrow.{Fml, RattleType, MutBor, Lends, LendsSo}
 use Rattle.std.specs.Map.{set_value}
-use Rattle.slab.specs.Slab.{get}
 use Rattle.art_bytes.specs.declared.as_bytes.AsBytes as as_bytes
-use Rattle.art_arena.specs.arena.Lends.{with_value_in}
+use Rattle.art_arena.specs.arena.Lends.{with_leaf_value}
 use Rattle.art_map.specs.Contents.{Contents, contents}
 use Rattle.art_map.specs.contracts.map.TreeMap.{the_row}
 
 -- the map with another value in a leaf
 abbrev pub with_value_at : {K V : Type 0} → Contents K V → ℕ → V → Contents K V
-with_value_at m slot w = contents (with_value_in m.nodes slot (get m.nodes.leaves slot) w) m.root
+with_value_at m slot w = contents (with_leaf_value m.nodes slot w) m.root
 
 module _ (K V P : RattleType) (key : as_bytes.Ghosts K.Denot) (m : MutBor (Contents K.Denot V.Denot)) where
   -- once the borrow r ends, the leaf has the last value written through r

@@ -77,7 +77,7 @@ module _ {K V : Type 0} where
   leaves-counted arena ls once =
       sym (slots-counted arena.leaves.slots)
       ∙ sym (length-counted (length arena.leaves.slots) _ (slots_of ls) (all-below (length arena.leaves.slots) (slots_of ls) within) (λ m less. counts m))
-      ∙ length-map (λ (l : LeafAt K V). l.slot) ls
+      ∙ length-map ls (λ (l : LeafAt K V). l.slot)
     where
       counts : (n : ℕ) → count n (slots_of ls) ≡ cond (is_some (get arena.leaves n)) 1 0
       counts n = sym (times-count n ls) ∙ once n ∙ one_if-cell (get arena.leaves n)
