@@ -3,6 +3,7 @@ use Rattle.std.specs.Prelude.{◌≡◌, ℕ, zero, suc, Bool, bytes_eq, List, [
 use Rattle.std.specs.List.{AllByRecursion}
 use Rattle.std.specs.Borrow.{Bor}
 use Rattle.art_nodes.specs.Name.{Name}
+use Rattle.art_nodes.specs.declared.leaf.LeafNode.{LeafNode}
 use Rattle.art_arena.specs.arena.Arena.{Arena, node_at, held_at}
 use Rattle.art_arena.specs.arena.Cells.{Cell, pair, branches, leaf_name}
 use Rattle.art_arena.specs.tree.Tenants.{begins_with}
@@ -22,6 +23,16 @@ has_bytes bytes query k = bytes_eq (bytes k) query
 -- the test that a key is a front of these bytes, or has them all
 abbrev pub is_front : {K : Type 0} → (K → List ℕ) → List ℕ → K → Bool
 is_front bytes query k = begins_with (bytes k) query
+
+-- the value of a pair, if there is one
+abbrev pub option_value : {K V : Type 0} → Option (K × V) → Option V
+option_value None = None
+option_value (Some p) = Some p.1
+
+-- the value of a leaf, if there is one
+abbrev pub value_in : {K V : Type 0} → Option (LeafNode K V) → Option V
+value_in None = None
+value_in (Some leaf) = Some leaf.value
 
 -- the first item, and the last
 abbrev pub first_of : {X : Type 0} → List X → Option X

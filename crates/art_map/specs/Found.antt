@@ -11,6 +11,11 @@ module _ {K V : Type 0} where
   abbrev pub HasPairAt : Contents K V → ℕ → K × V → Type 0
   HasPairAt m slot p = node_at m.nodes (leaf_name slot) ≡ Some (pair p.0 p.1)
 
+  -- the leaf has this pair, or there is none
+  abbrev pub IsAt : Option (K × V) → Contents K V → Option ℕ → Type 0
+  IsAt wanted m None = wanted ≡ None
+  IsAt wanted m (Some slot) = (p : K × V) × HasPairAt m slot p × (wanted ≡ Some p)
+
   -- the leaf has the first pair whose key passes the test, which has another value where the leaf has; or no key passes
   abbrev pub IsFound : (K → Bool) → Contents K V → Option ℕ → Type 0
   IsFound test m None = lookup_entry test m.pairs ≡ None

@@ -18,7 +18,7 @@ use std::marker::Model;
 
 /// A map whose keys are seen as bytes, and ascend by them. No key is a front of another.
 #[derive(Drop)]
-pub struct TreeMap<K: AsBytes, V, const PREFIX_LEN: usize = 16> {
+pub struct TreeMap<K: AsBytes, V, const PREFIX_LEN: usize> {
     alloc: Global,
     arena: NodeArena<K, V, PREFIX_LEN>,
     root: Option<OpaqueNodePtr>,

@@ -1,16 +1,32 @@
 //! Pairs are put in.
 ghost use Rattle.std.specs.Prelude.{◌≡◌, IfOk, IfErr, IsOk, OnErr, OnOk};
+ghost use Rattle.std.specs.List.{AllByRecursion};
 ghost use Rattle.std.specs.Map.{lookup};
 ghost use Rattle.art_arena.specs.arena.Shapes.{key_of};
 ghost use Rattle.art_operations.specs.KeyedLists.{HasKey, IsBlocked};
 ghost use Rattle.art_operations.specs.Pairs.{CanPut, with_pair};
+ghost use Rattle.art_map.specs.Contents.{value_in};
 
 use crate::map::TreeMap;
 use crate::map::refused::TryInsertError;
 use art_bytes::{AsBytes, NoPrefixesBytes};
+use art_nodes::LeafNode;
 use art_operations::{
     InsertPoint, InsertPrefixError, InsertRefused, KeyPrefix, PrefixConflict, find_place, put_pair,
 };
+
+// The value of a leaf, whose key is let go.
+fn value_of<K: Drop, V>(leaf: Option<LeafNode<K, V>>) -> Option<V>
+    ensures { result ≡ value_in leaf }
+{
+    match leaf {
+        Some(leaf) => {
+            let (_key, value) = leaf.into_entry();
+            Some(value)
+        }
+        None => None,
+    }
+}
 
 impl<K: AsBytes, V, const PREFIX_LEN: usize> TreeMap<K, V, PREFIX_LEN> {
     ghost use Rattle.art_map.specs.Contents.{has_bytes};
@@ -19,7 +35,10 @@ impl<K: AsBytes, V, const PREFIX_LEN: usize> TreeMap<K, V, PREFIX_LEN> {
 
     // Where a key goes. It is refused where the key is a front of a stored key, or a stored key is one of it.
     fn place(&self, key: &K) -> Result<Option<InsertPoint>, PrefixConflict>
-        ensures { IsPlaced K.bytes PREFIX_LEN self.now.nodes (K.bytes key.now) self.now.pairs result }
+        ensures placed { IsPlaced K.bytes PREFIX_LEN self.now.nodes (K.bytes key.now) self.now.pairs result }
+        ensures stored { HasKey (key_of K.bytes) (K.bytes key.now) self.now.pairs → IsOk result }
+        ensures keys { AllByRecursion (λ p. K.is_key p.0) self.now.pairs }
+        ensures key { K.is_key key.now }
     {
         // By value an option of a name counts as moved, so a copy goes in.
         let root = self.root;
@@ -43,14 +62,12 @@ impl<K: AsBytes, V, const PREFIX_LEN: usize> TreeMap<K, V, PREFIX_LEN> {
         ensures handed_back { IfErr result (λ refused. (refused.key ≡ key) × (refused.value ≡ value)) }
     {
         let _known = key.as_bytes();
-        let put = put_pair(&mut self.arena, place, key, value)?;
-        self.root = Some(put.new_root);
-        match put.existing_leaf {
-            Some(leaf) => {
-                let (_key, old) = leaf.into_entry();
-                Ok(Some(old))
+        match put_pair(&mut self.arena, place, key, value) {
+            Ok(put) => {
+                self.root = Some(put.new_root);
+                Ok(value_of(put.existing_leaf))
             }
-            None => Ok(None),
+            Err(refused) => Err(refused),
         }
     }
 

@@ -13,7 +13,7 @@ use std::ops::Index;
 
 impl<K: AsBytes, V, const PREFIX_LEN: usize> TreeMap<K, V, PREFIX_LEN> {
     ghost use Rattle.art_map.specs.Contents.{first_of, has_bytes, HasLeaf, is_front, last_of};
-    ghost use Rattle.art_map.specs.Found.{IsFound, HasPairAt};
+    ghost use Rattle.art_map.specs.Found.{IsAt, IsFound, HasPairAt};
     ghost use Rattle.art_map.specs.Lends.{lends_get, lends_value_at};
 
     // The leaf of the pair whose key has these bytes.
@@ -32,6 +32,26 @@ impl<K: AsBytes, V, const PREFIX_LEN: usize> TreeMap<K, V, PREFIX_LEN> {
     {
         match self.root {
             Some(root) => prefix_search_unchecked(&self.arena, root, key),
+            None => None,
+        }
+    }
+
+    // The leaf of the first pair.
+    fn first(&self) -> Option<LeafPtr>
+        ensures { IsAt (first_of self.now.pairs) self.now result }
+    {
+        match self.root {
+            Some(root) => Some(minimum_unchecked(&self.arena, root)),
+            None => None,
+        }
+    }
+
+    // The leaf of the last pair.
+    fn last(&self) -> Option<LeafPtr>
+        ensures { IsAt (last_of self.now.pairs) self.now result }
+    {
+        match self.root {
+            Some(root) => Some(maximum_unchecked(&self.arena, root)),
             None => None,
         }
     }
@@ -119,11 +139,8 @@ impl<K: AsBytes, V, const PREFIX_LEN: usize> TreeMap<K, V, PREFIX_LEN> {
     pub fn first_key_value(&self) -> Option<(&K, &V)>
         ensures { option_map deref_pair result ≡ first_of self.now.pairs }
     {
-        match self.root {
-            Some(root) => {
-                let leaf = minimum_unchecked(&self.arena, root);
-                Some(self.pair_at(leaf))
-            }
+        match self.first() {
+            Some(leaf) => Some(self.pair_at(leaf)),
             None => None,
         }
     }
@@ -132,11 +149,8 @@ impl<K: AsBytes, V, const PREFIX_LEN: usize> TreeMap<K, V, PREFIX_LEN> {
     pub fn last_key_value(&self) -> Option<(&K, &V)>
         ensures { option_map deref_pair result ≡ last_of self.now.pairs }
     {
-        match self.root {
-            Some(root) => {
-                let leaf = maximum_unchecked(&self.arena, root);
-                Some(self.pair_at(leaf))
-            }
+        match self.last() {
+            Some(leaf) => Some(self.pair_at(leaf)),
             None => None,
         }
     }

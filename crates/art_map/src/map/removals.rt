@@ -3,12 +3,23 @@ ghost use Rattle.std.specs.Prelude.{◌≡◌, IfOk, OnErr, OnOk};
 ghost use Rattle.std.specs.Map.{lookup, lookup_entry};
 ghost use Rattle.art_arena.specs.arena.Shapes.{key_of};
 ghost use Rattle.art_arena.specs.tree.Shrinks.{Shrinks};
+ghost use Rattle.art_map.specs.Contents.{option_value};
 ghost use Rattle.art_operations.specs.KeyedLists.{HasKey, without_key};
 
 use crate::map::TreeMap;
 use art_bytes::AsBytes;
 use art_operations::take_pair;
 use std::alloc::AllocError;
+
+// The value of a pair, whose key is let go.
+fn value_of<K: Drop, V>(pair: Option<(K, V)>) -> Option<V>
+    ensures { result ≡ option_value pair }
+{
+    match pair {
+        Some((_key, value)) => Some(value),
+        None => None,
+    }
+}
 
 impl<K: AsBytes, V, const PREFIX_LEN: usize> TreeMap<K, V, PREFIX_LEN> {
     ghost use Rattle.art_map.specs.Contents.{has_bytes};
@@ -24,9 +35,9 @@ impl<K: AsBytes, V, const PREFIX_LEN: usize> TreeMap<K, V, PREFIX_LEN> {
         ensures shrinks { OnErr result (HasKey (key_of K.bytes) (Q.bytes key.now) self.old.pairs
             × Shrinks (key_of K.bytes) self.old.pairs (Q.bytes key.now)) }
     {
-        match self.remove_entry(key)? {
-            Some((_key, value)) => Ok(Some(value)),
-            None => Ok(None),
+        match self.remove_entry(key) {
+            Ok(pair) => Ok(value_of(pair)),
+            Err(refused) => Err(refused),
         }
     }
 
@@ -44,12 +55,13 @@ impl<K: AsBytes, V, const PREFIX_LEN: usize> TreeMap<K, V, PREFIX_LEN> {
     {
         // By value an option of a name counts as moved, so a copy goes in.
         let root = self.root;
-        match take_pair(&mut self.arena, root, key.as_bytes())? {
-            Some(deleted) => {
+        match take_pair(&mut self.arena, root, key.as_bytes()) {
+            Ok(Some(deleted)) => {
                 self.root = deleted.new_root;
                 Ok(Some(deleted.deleted_leaf.into_entry()))
             }
-            None => Ok(None),
+            Ok(None) => Ok(None),
+            Err(refused) => Err(refused),
         }
     }
 }
