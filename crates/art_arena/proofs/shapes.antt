@@ -44,3 +44,7 @@ pub mod OtherChildren
 pub mod FullNodes
 -- The leaves that an arena has are those of the cells that it holds.
 pub mod HeldLeaves
+-- Each leaf of a tree stands at a place.
+pub mod LeafPlaces
+-- A leaf that has another value.
+pub mod LeafValues

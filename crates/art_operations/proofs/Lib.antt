@@ -39,3 +39,5 @@ pub mod FreedOne
 pub mod FreedAll
 pub mod FreedRuns
 pub mod FreedParts
+pub mod WrittenValues
+pub mod TakenEnds

@@ -7,3 +7,4 @@ pub mod LeafSlots
 pub mod KindCounts
 pub mod KeyWalks
 pub mod Verdicts
+pub mod Counted

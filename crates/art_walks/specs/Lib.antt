@@ -2,3 +2,4 @@ pub mod Runs
 pub mod Stats
 pub mod Faults
 pub mod inner
+pub mod Walked

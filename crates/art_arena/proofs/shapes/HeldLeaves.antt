@@ -9,6 +9,7 @@ use Rattle.art_nodes.specs.InnerNode.{InnerNode}
 use Rattle.art_nodes.specs.Name.{Name}
 use Rattle.art_arena.specs.arena.Cells.{Cell, branches, leaf_name, AreHeld, Holds}
 use Rattle.art_arena.specs.arena.Arena.{Arena, as_leaf, cell_of, held_as, node_at, leaves_held}
+use Rattle.art_arena.specs.arena.Stores.{StoresOnly}
 use Rattle.art_arena.specs.arena.Shapes.{Shape, Branches, leaf_at, inner_at, no_branch, branch, leaves, leaves_in, cells, cells_in}
 use Rattle.art_arena.proofs.tree.Order.{all_left, all_right}
 use Rattle.art_arena.proofs.shapes.CellLists.{same_kind_tells}
@@ -139,3 +140,11 @@ module _ {K V : Type 0} where
     leaves_beside s rest holds =
         let held = leaf_slots s (all_left (λ (c : Name × Cell K V). node_at arena c.0 ≡ Some c.1) (cells P s) rest holds.held) in
         omega (arith, leaves_counted arena (cells P s ++ rest) holds, slots-append (cells P s) rest, held)
+
+  -- as many as the tree has that the arena holds alone
+  pub leaves_of_tree : (bytes : K → List ℕ) (P : ℕ) (arena : Arena K V) (root : Name) (s : Shape K V) → StoresOnly bytes P arena root s → leaves_held arena ≡ length (leaves s)
+  leaves_of_tree bytes P arena root s tree = leaves_counted arena (cells P s) tree.nodes.holds ∙ leaf_slots P arena s tree.nodes.holds.held
+
+  -- and none where it holds nothing
+  pub leaves_of_none : (arena : Arena K V) → ((n : Name) → node_at arena n ≡ None) → leaves_held arena ≡ 0
+  leaves_of_none arena empty = leaves_counted arena [] (record { held = tt; once = λ n. rw (empty n) refl })
