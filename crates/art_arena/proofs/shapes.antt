@@ -40,3 +40,5 @@ pub mod Openings
 pub mod OtherChildren
 -- A node of the largest kind has room under each byte.
 pub mod FullNodes
+-- The leaves that an arena has are those of the cells that it holds.
+pub mod HeldLeaves

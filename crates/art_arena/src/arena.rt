@@ -61,7 +61,7 @@ impl<K, V, const PREFIX_LEN: usize> NodeArena<K, V, PREFIX_LEN> {
     ghost use Rattle.art_arena.specs.arena.Lends.{lends_node, lends_value};
     ghost use Rattle.art_arena.specs.contracts.arena.NodeArena.{the_row};
     ghost use Rattle.art_arena.specs.arena.Arena.{leaf_held, held_at, links_at, Allocates, WritesLinks, SameNodes};
-    ghost use Rattle.art_arena.specs.arena.Arena.{HasRoom};
+    ghost use Rattle.art_arena.specs.arena.Arena.{HasRoom, leaves_held};
     ghost use Rattle.art_arena.specs.arena.Arena.{KeepsRoom, UsesRoom};
 
     /// An arena that holds no node. It takes no memory.
@@ -89,6 +89,13 @@ impl<K, V, const PREFIX_LEN: usize> NodeArena<K, V, PREFIX_LEN> {
             NodeType::Node256 => self.nodes256.contains(slot),
             NodeType::Leaf => self.leaves.contains(slot),
         }
+    }
+
+    /// How many leaves there are.
+    pub fn leaf_count(&self) -> usize
+        ensures value { result ≡ leaves_held self.now }
+    {
+        self.leaves.len()
     }
 
     /// Makes room for so many more nodes, whatever their kinds: as many allocations then need no memory. It is

@@ -41,6 +41,13 @@ impl<N, const PREFIX_LEN: usize> Nodes<N, PREFIX_LEN> {
         }
     }
 
+    // How many nodes there are.
+    pub(crate) fn len(&self) -> usize
+        ensures { result ≡ slab_len self.now }
+    {
+        self.slab.len()
+    }
+
     // Whether there is a node under this key.
     pub(crate) fn contains(&self, slot: usize) -> bool
         ensures { IsTrue result ↔ IsSome (get self.now slot) }

@@ -31,3 +31,10 @@ pub mod Done
 pub mod Clones
 pub mod CommandLists
 pub mod RunExamples
+pub mod Freeing
+pub mod FreedSizes
+pub mod FreeSteps
+pub mod Hanging
+pub mod FreedOne
+pub mod FreedAll
+pub mod FreedRuns

@@ -9,4 +9,5 @@ pub mod KeyedLists
 pub mod Pairs
 pub mod Commands
 pub mod Runs
+pub mod Frees
 pub mod inner

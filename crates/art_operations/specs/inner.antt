@@ -6,3 +6,4 @@ pub mod Waiting
 pub mod Removals
 pub mod Detached
 pub mod Runs
+pub mod Freeing

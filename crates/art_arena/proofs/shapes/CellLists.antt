@@ -9,7 +9,7 @@ use Rattle.art_arena.proofs.tree.Order.{all_append, all_left, all_right}
 
 -- the test tells names apart
 
-same_kind_tells : (a b : NodeType) → ((same_kind a b ≡ true) × (a ≡ b)) ⊎ ((same_kind a b ≡ false) × (a ≢ b))
+pub same_kind_tells : (a b : NodeType) → ((same_kind a b ≡ true) × (a ≡ b)) ⊎ ((same_kind a b ≡ false) × (a ≢ b))
 same_kind_tells Node4 Node4 = inl (refl, refl)
 same_kind_tells Node4 b = inr (refl, λ e. absurd (cc))
 same_kind_tells Node16 Node16 = inl (refl, refl)

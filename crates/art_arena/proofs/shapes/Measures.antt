@@ -16,16 +16,16 @@ use Rattle.art_arena.specs.arena.Meaning.{IsPart}
 use Rattle.art_arena.proofs.tree.Order.{all_left, all_right}
 
 -- how often a number stands in a list
-abbrev count : ℕ → List ℕ → ℕ
+abbrev pub count : ℕ → List ℕ → ℕ
 count n [] = 0
 count n (x ∷ xs) = cond (eqb n x) 1 0 + count n xs
 
 -- the list without a number
-abbrev without : ℕ → List ℕ → List ℕ
+abbrev pub without : ℕ → List ℕ → List ℕ
 without n [] = []
 without n (x ∷ xs) = cond (eqb n x) (without n xs) (x ∷ without n xs)
 
-length-without : (n : ℕ) (xs : List ℕ) → length xs ≡ length (without n xs) + count n xs
+pub length-without : (n : ℕ) (xs : List ℕ) → length xs ≡ length (without n xs) + count n xs
 length-without n [] = refl
 length-without n (x ∷ xs) = elim (eqb n x) as (λ b. suc (length xs) ≡ length (cond b (without n xs) (x ∷ without n xs)) + (cond b 1 0 + count n xs)) [
   | true ↦ omega (arith, length-without n xs)
@@ -39,7 +39,7 @@ count-without m n (x ∷ xs) = elim (eqb n x) as (λ b. count m (cond b (without
   | false ↦ omega (arith, count-without m n xs)
 ]
 
-below-without : (n : ℕ) (xs : List ℕ) → AllByRecursion (λ x. x < suc n) xs → AllByRecursion (λ x. x < n) (without n xs)
+pub below-without : (n : ℕ) (xs : List ℕ) → AllByRecursion (λ x. x < suc n) xs → AllByRecursion (λ x. x < n) (without n xs)
 below-without n [] h = tt
 below-without n (x ∷ xs) h = elim (eqb_tells n x) [
   | inl same ↦ rw same.0 (below-without n xs h.1)
@@ -47,7 +47,7 @@ below-without n (x ∷ xs) h = elim (eqb_tells n x) [
 ]
 
 -- numbers below n that are met once each are no more than n
-few : (n : ℕ) (xs : List ℕ) → AllByRecursion (λ x. x < n) xs → ((m : ℕ) → count m xs ≤ 1) → length xs ≤ n
+pub few : (n : ℕ) (xs : List ℕ) → AllByRecursion (λ x. x < n) xs → ((m : ℕ) → count m xs ≤ 1) → length xs ≤ n
 few zero [] h once = omega arith
 few zero (x ∷ xs) h once = absurd (omega (arith, h.0))
 few (suc n) xs h once =
@@ -79,11 +79,11 @@ total f (c ∷ rest) = f c.1 + total f rest
 
 module _ {C : Type 0} where
   -- the slab keys of the nodes of a kind in a list of cells
-  abbrev slots_as : NodeType → List (Name × C) → List ℕ
+  abbrev pub slots_as : NodeType → List (Name × C) → List ℕ
   slots_as kind [] = []
   slots_as kind (c ∷ rest) = cond (same_kind kind c.0.kind) (c.0.slot ∷ slots_as kind rest) (slots_as kind rest)
 
-  count-slots_as : (kind : NodeType) (n : ℕ) (xs : List (Name × C)) → count n (slots_as kind xs) ≡ copies (record { kind = kind; slot = n }) xs
+  pub count-slots_as : (kind : NodeType) (n : ℕ) (xs : List (Name × C)) → count n (slots_as kind xs) ≡ copies (record { kind = kind; slot = n }) xs
   count-slots_as kind n [] = refl
   count-slots_as kind n (c ∷ xs) = here (same_kind kind c.0.kind) refl (count-slots_as kind n xs)
     where
@@ -91,7 +91,7 @@ module _ {C : Type 0} where
       here true e later = rw e (omega (arith, later))
       here false e later = rw e (omega (arith, later))
 
-  length-slots_as : (kind : NodeType) (c : Name × C) (xs : List (Name × C)) → length (slots_as kind (c ∷ xs)) ≡ cond (same_kind kind c.0.kind) 1 0 + length (slots_as kind xs)
+  pub length-slots_as : (kind : NodeType) (c : Name × C) (xs : List (Name × C)) → length (slots_as kind (c ∷ xs)) ≡ cond (same_kind kind c.0.kind) 1 0 + length (slots_as kind xs)
   length-slots_as kind c xs = elim (same_kind kind c.0.kind) as (λ b. length (cond b (c.0.slot ∷ slots_as kind xs) (slots_as kind xs)) ≡ cond b 1 0 + length (slots_as kind xs)) [
     | true ↦ omega arith
     | false ↦ omega arith
@@ -105,7 +105,7 @@ module _ {C : Type 0} where
 
 module _ {K V : Type 0} where
   -- how many slots a slab has
-  abbrev slots_in : Arena K V → NodeType → ℕ
+  abbrev pub slots_in : Arena K V → NodeType → ℕ
   slots_in arena Leaf = length arena.leaves.slots
   slots_in arena Node4 = length arena.nodes4.slots
   slots_in arena Node16 = length arena.nodes16.slots
@@ -130,7 +130,7 @@ module _ {K V : Type 0} where
   slot_within arena Node48 slot c e = ContainsKey-within arena.nodes48 slot (inner_there (get arena.nodes48 slot) c e)
   slot_within arena Node256 slot c e = ContainsKey-within arena.nodes256 slot (inner_there (get arena.nodes256 slot) c e)
 
-  slots_within : (arena : Arena K V) (kind : NodeType) (cs : List (Name × Cell K V)) → AreHeld (node_at arena) cs → AllByRecursion (λ x. x < slots_in arena kind) (slots_as kind cs)
+  pub slots_within : (arena : Arena K V) (kind : NodeType) (cs : List (Name × Cell K V)) → AreHeld (node_at arena) cs → AllByRecursion (λ x. x < slots_in arena kind) (slots_as kind cs)
   slots_within arena kind [] h = tt
   slots_within arena kind (c ∷ cs) h = here (same_kind kind c.0.kind) refl (slots_within arena kind cs h.1)
     where
@@ -138,12 +138,16 @@ module _ {K V : Type 0} where
       here true e later = rw e (subst (λ k. c.0.slot < slots_in arena k) (sym (kind_tells kind c.0.kind e)) (slot_within arena c.0.kind c.0.slot c.1 h.0), later)
       here false e later = rw e later
 
+  -- no more cells are held, each once, than the arena has slots
+  pub held_few : (arena : Arena K V) (cs : List (Name × Cell K V)) → AreHeld (node_at arena) cs → ((n : Name) → copies n cs ≤ 1) → length cs ≤ slots_of arena
+  held_few arena cs held once =
+      let each : (kind : NodeType) → length (slots_as kind cs) ≤ slots_in arena kind =
+      λ kind. few (slots_in arena kind) (slots_as kind cs) (slots_within arena kind cs held) (λ m. rw (count-slots_as kind m cs) (once (record { kind = kind; slot = m }))) in
+      omega (arith, by_kinds cs, each Leaf, each Node4, each Node16, each Node48, each Node256)
+
   -- no shape has more nodes than the arena has slots
   pub cells_few : (P : ℕ) (arena : Arena K V) (n : Name) (s : Shape K V) → IsPart P (node_at arena) n s → length (cells P s) ≤ slots_of arena
-  cells_few P arena n s part =
-      let each : (kind : NodeType) → length (slots_as kind (cells P s)) ≤ slots_in arena kind =
-      λ kind. few (slots_in arena kind) (slots_as kind (cells P s)) (slots_within arena kind (cells P s) part.held) (λ m. rw (count-slots_as kind m (cells P s)) (part.once (record { kind = kind; slot = m }))) in
-      omega (arith, by_kinds (cells P s), each Leaf, each Node4, each Node16, each Node48, each Node256)
+  cells_few P arena n s part = held_few arena (cells P s) part.held part.once
 
   abbrev nodes_in : (Name → ℕ) → Option (Cell K V) → ℕ
   nodes_in f None = 0

@@ -1,6 +1,6 @@
 -- What a contract sees of an arena: the nodes of each kind under their slab keys, and so one map from names to nodes.
 use Rattle.std.specs.Prelude.{◌≡◌, ℕ, ◌+◌, Option, Some, None}
-use Rattle.slab.specs.Slab.{Slab, get, HasRoomFor, with_value}
+use Rattle.slab.specs.Slab.{Slab, get, slab_len, HasRoomFor, with_value}
 use Rattle.art_nodes.specs.declared.kind.NodeType.{NodeType}
 use Rattle.art_nodes.specs.declared.kind.NodeType.TheVariants.{Node4, Node16, Node48, Node256, Leaf}
 use Rattle.art_nodes.specs.declared.leaf.LeafNode.{LeafNode}
@@ -60,6 +60,10 @@ module _ {K V : Type 0} where
 
   abbrev pub links_at : Arena K V → ℕ → Option Links
   links_at arena slot = links_of (held_at arena (leaf_name slot))
+
+  -- how many leaves the arena has
+  abbrev pub leaves_held : Arena K V → ℕ
+  leaves_held arena = slab_len arena.leaves
 
   -- the node stands now under the name, which was vacant, and all others as they did
   pub record Allocates (old new : Arena K V) (n : Name) (node : Held K V) : Type 0 where

@@ -1,0 +1,143 @@
+-- One node of a tree is freed: what is left under which name.
+use Rattle.std.proofs.Common.{◌≡◌, ◌≢◌, ℕ, suc, ◌+◌, ◌≤◌, Bool, List, [], ◌∷◌, ◌++◌, length, Option, Some, None, refl, sym, ap, subst, ◌∙◌, arith, append_assoc, length-append}
+use Rattle.std.proofs.lemmas.List.{append-nil}
+use Rattle.art_nodes.specs.declared.kind.NodeType.TheVariants.{Leaf}
+use Rattle.art_nodes.specs.InnerNode.{InnerNode, IsAscending, without_child, with_children, last_child}
+use Rattle.art_nodes.specs.Name.{Name}
+use Rattle.art_arena.specs.arena.Arena.{Arena, inner_held, held_at, node_at}
+use Rattle.art_arena.specs.arena.Cells.{Cell, branches, copies, UpdatesAt, Holds}
+use Rattle.art_arena.specs.arena.Shapes.{Shape, Branches, leaf_at, inner_at, no_branch, branch, name_of, children_at, join, node_of, cells, cells_in}
+use Rattle.art_arena.proofs.shapes.CellLists.{copies-append, Holds-write}
+use Rattle.art_arena.proofs.shapes.Contexts.{children_at-join, cells_in-join}
+use Rattle.art_arena.proofs.shapes.Subtrees.{branch-last}
+use Rattle.art_arena.proofs.shapes.Updates.{nodes-update}
+use Rattle.art_operations.specs.Frees.{cells_with, cells_with_in, KeepsAllBut}
+use Rattle.art_operations.specs.inner.Freeing.{IsChildless, FreesRoot, HoldsPart, HoldsBoth, HoldsOneLess}
+use Rattle.art_operations.proofs.Freeing.{without-last, with-join, root_cells, childless-cells, freed_root, apart-from, kept_root}
+use Rattle.art_operations.proofs.FreeSteps.{part-leaf, node_in, HasInnerPart, part-inner}
+
+module _ {K V : Type 0} (P : ℕ) (w : Bool) (old : Arena K V) (n : Name) (s : Shape K V) (rest : List (Name × Cell K V)) (part : HoldsPart P w old n s rest) where
+  -- a leaf, and an inner node without children, have nothing below them
+
+  pub leaf-childless : n.kind ≡ Leaf → IsChildless s
+  leaf-childless kind = let leaf = part-leaf P w old n s rest part kind in subst IsChildless (sym leaf.3) tt
+
+  no-last : (prefix : List ℕ) (kids : Branches K V) → last_child (children_at kids) ≡ None → IsChildless (inner_at n prefix kids)
+  no-last prefix no_branch none = tt
+  no-last prefix (branch b t no_branch) none = absurd (cc)
+  no-last prefix (branch b t (branch c u more)) none = no-last-more c u more none
+    where
+      no-last-more : (c : ℕ) (u : Shape K V) (more : Branches K V) → last_child (children_at (branch c u more)) ≡ None → ⊥
+      no-last-more c u no_branch none = absurd (cc)
+      no-last-more c u (branch d x more) none = no-last-more d x more none
+
+  pub inner-childless : (inner : HasInnerPart P w old n s) → last_child (children_at inner.kids) ≡ None → IsChildless s
+  inner-childless inner none = subst IsChildless (sym inner.is) (no-last inner.prefix inner.kids none)
+
+  pub freed-childless : (new : Arena K V) → IsChildless s → FreesRoot w old new s → Holds (node_at new) rest
+  freed-childless new childless frees =
+      freed_root P w old new s [] rest frees (subst (λ xs. Holds (node_at old) (xs ++ rest)) (childless-cells P w s childless) part.holds)
+
+  pub kept-childless : (new : Arena K V) → IsChildless s → FreesRoot w old new s → KeepsAllBut (cells_with P w s) old new
+  kept-childless new childless frees k none = kept_root P w old new s frees k (ap (copies k) (sym (childless-cells P w s childless)) ∙ none)
+
+  -- where there is one child it is what is left
+
+  pub record IsSingle (prefix : List ℕ) (last : ℕ × Name) : Type 0 where
+    pub child : Shape K V
+    pub is : s ≡ inner_at n prefix (branch last.0 child no_branch)
+    pub named : name_of child ≡ last.1
+
+  single : (prefix : List ℕ) (kids : Branches K V) → s ≡ inner_at n prefix kids → (last : ℕ × Name) → last_child (children_at kids) ≡ Some last → length (children_at kids) ≡ 1 → IsSingle prefix last
+  single prefix no_branch is last e one = absurd (cc)
+  single prefix (branch b t no_branch) is last e one =
+      let same : (b, name_of t) ≡ last = cc in
+      record { child = t; is = is ∙ ap (λ (p : ℕ × Name). inner_at n prefix (branch p.0 t no_branch)) same; named = ap (λ (p : ℕ × Name). p.1) same }
+  single prefix (branch b t (branch c u more)) is last e one = absurd (omega (arith, one))
+
+  module _ (new : Arena K V) (inner : HasInnerPart P w old n s) (last : ℕ × Name) (at_end : last_child (children_at inner.kids) ≡ Some last) (one : length (children_at inner.kids) ≡ 1) (frees : FreesRoot w old new s) where
+    abbrev only : IsSingle inner.prefix last
+    only = single inner.prefix inner.kids inner.is last at_end one
+
+    single-cells : cells_with P w s ≡ (n, node_of P inner.prefix ((last.0, name_of only.child) ∷ [])) ∷ cells_with P w only.child
+    single-cells = ap (cells_with P w) only.is ∙ ap (λ xs. (n, node_of P inner.prefix ((last.0, name_of only.child) ∷ [])) ∷ xs) (append-nil (cells_with P w only.child))
+
+    single-frees : UpdatesAt (held_at old) (held_at new) n None
+    single-frees = subst (FreesRoot w old new) only.is frees
+
+    pub freed-single : HoldsOneLess P w new last.1 (length (cells P s)) (cells_with P w s) rest
+    freed-single = record {
+      left = only.child;
+      part = record {
+        named = only.named;
+        holds = freed_root P w old new (inner_at n inner.prefix (branch last.0 only.child no_branch)) [] (cells_with P w only.child ++ rest) single-frees
+        (subst (λ xs. Holds (node_at old) (xs ++ rest)) single-cells part.holds);
+      };
+      less = ap (λ x. length (cells P x)) only.is ∙ ap (λ xs. suc (length xs)) (append-nil (cells P only.child));
+      names = λ k. omega (arith, ap (copies k) single-cells);
+    }
+
+    pub kept-single : KeepsAllBut (cells_with P w s) old new
+    kept-single k none =
+        single-frees.others k (apart-from k n (node_of {K = K} {V = V} P inner.prefix ((last.0, name_of only.child) ∷ [])) (cells_with P w only.child) (ap (copies k) (sym single-cells) ∙ none))
+
+  -- else the last child is taken out, and stands apart
+  module _ (mid : Arena K V) (inner : HasInnerPart P w old n s) (last : ℕ × Name) (at_end : last_child (children_at inner.kids) ≡ Some last) (up : IsAscending (children_at inner.kids)) (removes : (m : InnerNode) → held_at old n ≡ Some (inner_held m) → UpdatesAt (held_at old) (held_at mid) n (Some (inner_held (with_children m (without_child m.children last.0))))) where
+    abbrev split : (before : Branches K V) × (t : Shape K V) × (inner.kids ≡ join before (branch last.0 t no_branch)) × (name_of t ≡ last.1)
+    split = branch-last inner.kids last at_end
+
+    -- the node without its last child, and that child
+    abbrev pub lessened : Shape K V
+    lessened = inner_at n inner.prefix split.0
+
+    abbrev pub taken : Shape K V
+    taken = split.1
+
+    children_are : children_at inner.kids ≡ children_at split.0 ++ (last.0, name_of taken) ∷ []
+    children_are = ap children_at split.2 ∙ children_at-join split.0 (branch last.0 taken no_branch)
+
+    others_are : without_child (children_at inner.kids) last.0 ≡ children_at split.0
+    others_are =
+        ap (λ xs. without_child xs last.0) children_are
+        ∙ (without-last 0 (children_at split.0) last.0 (name_of taken) (subst IsAscending children_are up)).1
+
+    parts : cells_with_in P w inner.kids ≡ cells_with_in P w split.0 ++ cells_with P w taken
+    parts = ap (cells_with_in P w) split.2 ∙ with-join P w split.0 (branch last.0 taken no_branch) ∙ ap (λ xs. cells_with_in P w split.0 ++ xs) (append-nil (cells_with P w taken))
+
+    whole-cells : cells_with P w s ≡ (n, node_of P inner.prefix (children_at inner.kids)) ∷ (cells_with_in P w split.0 ++ cells_with P w taken)
+    whole-cells = ap (cells_with P w) inner.is ∙ ap (λ xs. (n, node_of P inner.prefix (children_at inner.kids)) ∷ xs) parts
+
+    written : UpdatesAt (held_at old) (held_at mid) n (Some (inner_held (node_in P w old inner.prefix split.0)))
+    written =
+        subst (λ xs. UpdatesAt (held_at old) (held_at mid) n (Some (inner_held (with_children (node_in P w old inner.prefix inner.kids) xs)))) others_are (removes (node_in P w old inner.prefix inner.kids) inner.there)
+
+    pub taken-out : HoldsBoth P w mid n lessened last.1 taken rest
+    taken-out = record {
+      named = refl;
+      named_other = split.3;
+      holds =
+          Holds-write (node_at old) (node_at mid) n (node_of P inner.prefix (children_at inner.kids)) (node_of P inner.prefix (children_at split.0)) [] (cells_with_in P w split.0 ++ (cells_with P w taken ++ rest))
+          (nodes-update old mid n (Some (inner_held (node_in P w old inner.prefix split.0))) written)
+          (subst (Holds (node_at old)) (ap (λ xs. xs ++ rest) whole-cells ∙ ap (λ xs. (n, node_of P inner.prefix (children_at inner.kids)) ∷ xs) (append_assoc (cells_with_in P w split.0) (cells_with P w taken) rest)) part.holds);
+    }
+
+    same-copies : (k : Name) → copies k (cells_with P w lessened ++ cells_with P w taken) ≡ copies k (cells_with P w s)
+    same-copies k = omega (arith, ap (copies k) whole-cells, copies-append k (cells_with P w lessened) (cells_with P w taken), copies-append k (cells_with_in P w split.0) (cells_with P w taken))
+
+    same-size : length (cells P lessened ++ cells P taken) ≡ length (cells P s)
+    same-size =
+        let all : cells_in P inner.kids ≡ cells_in P split.0 ++ cells P taken = ap (cells_in P) split.2 ∙ cells_in-join P split.0 (branch last.0 taken no_branch) ∙ ap (λ xs. cells_in P split.0 ++ xs) (append-nil (cells P taken)) in
+        omega (arith, ap (λ x. length (cells P x)) inner.is, ap length all, length-append (cells_in P split.0) (cells P taken), length-append (cells P lessened) (cells P taken))
+
+    pub freed-last : (new : Arena K V) (root : Name) → HoldsOneLess P w new root (length (cells P lessened ++ cells P taken)) (cells_with P w lessened ++ cells_with P w taken) rest → HoldsOneLess P w new root (length (cells P s)) (cells_with P w s) rest
+    freed-last new root less = record {
+      left = less.left;
+      part = less.part;
+      less = sym same-size ∙ less.less;
+      names = λ k. omega (arith, less.names k, same-copies k);
+    }
+
+    pub kept-last : (new : Arena K V) → KeepsAllBut (cells_with P w lessened ++ cells_with P w taken) mid new → KeepsAllBut (cells_with P w s) old new
+    kept-last new kept k none =
+        kept k (same-copies k ∙ none)
+        ∙ written.others k (apart-from k n (node_of {K = K} {V = V} P inner.prefix (children_at inner.kids)) (cells_with_in P w split.0 ++ cells_with P w taken) (ap (copies k) (sym whole-cells) ∙ none))

@@ -1,0 +1,125 @@
+-- The nodes of a shape are freed one at a time: what the arena holds after each step.
+use Rattle.std.proofs.Common.{◌≡◌, ◌≢◌, ℕ, suc, ◌+◌, ◌≤◌, Bool, true, false, cond, List, [], ◌∷◌, ◌++◌, length, take, Option, Some, None, IsSome, refl, sym, ap, subst, ◌∙◌, inl, inr, arith, append_assoc, length-append}
+use Rattle.std.proofs.lemmas.Bool.Decides.{eqb_tells}
+use Rattle.std.proofs.lemmas.List.{append-nil}
+use Rattle.art_nodes.specs.declared.kind.NodeType.TheVariants.{Leaf}
+use Rattle.art_nodes.specs.InnerNode.{InnerNode, IsAscendingFrom, without_child, with_children, first_child, last_child}
+use Rattle.art_nodes.specs.Name.{Name}
+use Rattle.art_arena.specs.arena.Arena.{Arena, inner_held, held_at, node_at, SameNodes}
+use Rattle.art_arena.specs.arena.Cells.{Cell, pair, branches, leaf_name, copies, UpdatesAt, AreHeld, Holds}
+use Rattle.art_arena.specs.arena.Context.{Frame, fill, plug, root_of, frame_cell, cells_before, cells_after, AreBelow}
+use Rattle.art_arena.specs.arena.Shapes.{Shape, Branches, leaf_at, inner_at, no_branch, branch, name_of, children_at, join, node_of, cells, cells_in}
+use Rattle.art_arena.specs.arena.Steps.{Step, steps_to}
+use Rattle.art_arena.proofs.tree.Order.{all_append, all_left, all_right}
+use Rattle.art_arena.proofs.shapes.CellLists.{same_name_tells, copies-append, Holds-remove, Holds-same, Holds-write}
+use Rattle.art_arena.proofs.shapes.Contexts.{children_at-join, cells_in-join, cells-plug, name_of-plug}
+use Rattle.art_arena.proofs.shapes.HeldLeaves.{no_inner}
+use Rattle.art_arena.proofs.shapes.Repoint.{repointed, frame_node, frame-there, frame-child, repoint}
+use Rattle.art_arena.proofs.shapes.Subtrees.{inner_of, branch-last}
+use Rattle.art_arena.proofs.shapes.Updates.{nodes-update, nodes-same}
+use Rattle.art_operations.specs.Frees.{cells_with, cells_with_in, KeepsAllBut}
+use Rattle.art_operations.specs.declared.deallocate.Bottom.{Bottom}
+use Rattle.art_operations.specs.inner.Freeing.{step_in, IsChildless, AreFirst, IsBottom, FreesRoot, HoldsPart, HoldsBoth, HoldsOneLess}
+
+-- cells that stand in another order are held as well
+pub Holds-swap : {C : Type 0} (at : Name → Option C) (front xs ys zs : List (Name × C)) → Holds at (front ++ (xs ++ (ys ++ zs))) → Holds at (front ++ (ys ++ (xs ++ zs)))
+Holds-swap {C} at front xs ys zs holds =
+    let Q = λ (c : Name × C). at c.0 ≡ Some c.1 in
+    let behind = all_right Q front (xs ++ (ys ++ zs)) holds.held in
+    let left = all_left Q xs (ys ++ zs) behind in
+    let right = all_right Q xs (ys ++ zs) behind in
+    record {
+      held = all_append Q front (ys ++ (xs ++ zs)) (all_left Q front (xs ++ (ys ++ zs)) holds.held) (all_append Q ys (xs ++ zs) (all_left Q ys zs right) (all_append Q xs zs left (all_right Q ys zs right)));
+      once = λ n.
+          let same : copies n (front ++ (ys ++ (xs ++ zs))) ≡ copies n (front ++ (xs ++ (ys ++ zs))) =
+          omega (arith, copies-append n front (ys ++ (xs ++ zs)), copies-append n front (xs ++ (ys ++ zs)), copies-append n ys (xs ++ zs), copies-append n xs zs, copies-append n xs (ys ++ zs), copies-append n ys zs) in
+          same ∙ holds.once n;
+    }
+
+-- of children by ascending byte the last one is taken out
+pub without-last : {N : Type 0} (low : ℕ) (xs : List (ℕ × N)) (b : ℕ) (m : N) → IsAscendingFrom low (xs ++ (b, m) ∷ []) → (low ≤ b) × (without_child (xs ++ (b, m) ∷ []) b ≡ xs)
+without-last low [] b m up = (up.0, elim (eqb_tells b b) [ inl same ↦ rw same.0 refl | inr other ↦ absurd (other.1 refl) ])
+without-last low (x ∷ xs) b m up =
+    let later = without-last (x.0 + 1) xs b m up.2 in
+    let above = later.0 in (
+      omega (arith, up.0, above),
+      elim (eqb_tells x.0 b) [
+        | inl same ↦ absurd (omega (arith, same.1, above))
+        | inr other ↦ rw other.0 (ap (λ ys. x ∷ ys) later.1)
+      ],
+    )
+
+module _ {K V : Type 0} (P : ℕ) (w : Bool) where
+  pub with-join : (f g : Branches K V) → cells_with_in P w (join f g) ≡ cells_with_in P w f ++ cells_with_in P w g
+  with-join no_branch g = refl
+  with-join (branch b s f) g = ap (λ xs. cells_with P w s ++ xs) (with-join f g) ∙ sym (append_assoc (cells_with P w s) (cells_with_in P w f) (cells_with_in P w g))
+
+  -- the cells behind a place
+  abbrev pub after_with : List (Frame K V) → List (Name × Cell K V)
+  after_with [] = []
+  after_with (f ∷ outer) = cells_with_in P w f.after ++ after_with outer
+
+  with-fill : (f : Frame K V) (s : Shape K V) → f.before ≡ no_branch → cells_with P w (fill f s) ≡ frame_cell P f (name_of s) ∷ (cells_with P w s ++ cells_with_in P w f.after)
+  with-fill f s e =
+      ap (λ before. cells_with P w (inner_at f.name f.prefix (join before (branch f.byte s f.after)))) e
+      ∙ ap (λ before. (f.name, node_of P f.prefix (children_at before ++ (f.byte, name_of s) ∷ children_at f.after)) ∷ (cells_with P w s ++ cells_with_in P w f.after)) (sym e)
+
+  -- the cells of a shape with a place that is the first below each node above it
+  pub with-plug : (ctx : List (Frame K V)) (s : Shape K V) → AreFirst ctx → cells_with P w (plug ctx s) ≡ cells_before P ctx (name_of s) ++ (cells_with P w s ++ after_with ctx)
+  with-plug [] s first = sym (append-nil (cells_with P w s))
+  with-plug (f ∷ outer) s first =
+      with-plug outer (fill f s) first.1
+      ∙ ap (λ xs. cells_before P outer f.name ++ (xs ++ after_with outer)) (with-fill f s first.0)
+      ∙ ap (λ xs. cells_before P outer f.name ++ (frame_cell P f (name_of s) ∷ xs)) (append_assoc (cells_with P w s) (cells_with_in P w f.after) (after_with outer))
+      ∙ sym (append_assoc (cells_before P outer f.name) (frame_cell P f (name_of s) ∷ []) (cells_with P w s ++ (cells_with_in P w f.after ++ after_with outer)))
+      ∙ ap (λ before. (cells_before P outer f.name ++ frame_cell P f (name_of s) ∷ cells_in P before) ++ (cells_with P w s ++ (cells_with_in P w f.after ++ after_with outer))) (sym first.0)
+
+  -- the cell of the root, where it is freed
+  abbrev pub root_cells : Shape K V → List (Name × Cell K V)
+  root_cells (leaf_at slot k v) = cond w ((leaf_name slot, pair k v) ∷ []) []
+  root_cells (inner_at n prefix kids) = (n, node_of P prefix (children_at kids)) ∷ []
+
+  -- and those below it
+  abbrev pub below_root : Shape K V → List (Name × Cell K V)
+  below_root (leaf_at slot k v) = []
+  below_root (inner_at n prefix kids) = cells_with_in P w kids
+
+  pub with-root : (s : Shape K V) → cells_with P w s ≡ root_cells s ++ below_root s
+  with-root (leaf_at slot k v) = sym (append-nil (root_cells (leaf_at slot k v)))
+  with-root (inner_at n prefix kids) = refl
+
+  pub childless-cells : (s : Shape K V) → IsChildless s → cells_with P w s ≡ root_cells s
+  childless-cells (leaf_at slot k v) none = refl
+  childless-cells (inner_at n prefix no_branch) none = refl
+  childless-cells (inner_at n prefix (branch b t rest)) none = absurd none
+
+  pub childless-one : (s : Shape K V) → IsChildless s → length (cells P s) ≡ 1
+  childless-one (leaf_at slot k v) none = refl
+  childless-one (inner_at n prefix no_branch) none = refl
+  childless-one (inner_at n prefix (branch b t rest)) none = absurd none
+
+-- where the root was freed its cell is gone, and nothing else
+freed_leaf : {K V : Type 0} (P : ℕ) (w : Bool) (old new : Arena K V) (slot : ℕ) (k : K) (v : V) (xs ys : List (Name × Cell K V)) → FreesRoot w old new (leaf_at slot k v)
+    → Holds (node_at old) (xs ++ (root_cells P w (leaf_at slot k v) ++ ys)) → Holds (node_at new) (xs ++ ys)
+freed_leaf P true old new slot k v xs ys frees holds = Holds-remove (node_at old) (node_at new) (leaf_name slot) (pair k v) xs ys (nodes-update old new (leaf_name slot) None frees) holds
+freed_leaf P false old new slot k v xs ys frees holds = Holds-same (node_at old) (node_at new) (nodes-same old new frees) (xs ++ ys) holds
+
+pub freed_root : {K V : Type 0} (P : ℕ) (w : Bool) (old new : Arena K V) (s : Shape K V) (xs ys : List (Name × Cell K V)) → FreesRoot w old new s
+    → Holds (node_at old) (xs ++ (root_cells P w s ++ ys)) → Holds (node_at new) (xs ++ ys)
+freed_root P w old new (leaf_at slot k v) xs ys frees holds = freed_leaf P w old new slot k v xs ys frees holds
+freed_root P w old new (inner_at n prefix kids) xs ys frees holds = Holds-remove (node_at old) (node_at new) n _ xs ys (nodes-update old new n None frees) holds
+
+-- a write of one name leaves the others
+pub apart-from : {C : Type 0} (n m : Name) (c : C) (xs : List (Name × C)) → copies n ((m, c) ∷ xs) ≡ 0 → n ≢ m
+apart-from n m c xs none e = elim (same_name_tells n m) [
+  | inl same ↦ absurd (omega (arith, rw same.0 at none))
+  | inr other ↦ other.1 e
+]
+
+kept_leaf : {K V : Type 0} (P : ℕ) (w : Bool) (old new : Arena K V) (slot : ℕ) (k : K) (v : V) → FreesRoot w old new (leaf_at slot k v) → KeepsAllBut (root_cells P w (leaf_at slot k v)) old new
+kept_leaf P true old new slot k v frees n none = frees.others n (apart-from n (leaf_name slot) (pair k v) [] none)
+kept_leaf P false old new slot k v frees n none = frees n
+
+pub kept_root : {K V : Type 0} (P : ℕ) (w : Bool) (old new : Arena K V) (s : Shape K V) → FreesRoot w old new s → KeepsAllBut (root_cells P w s) old new
+kept_root {K} {V} P w old new (leaf_at slot k v) frees = kept_leaf P w old new slot k v frees
+kept_root {K} {V} P w old new (inner_at n prefix kids) frees = λ m none. frees.others m (apart-from m n (node_of {K = K} {V = V} P prefix (children_at kids)) [] none)

@@ -1,0 +1,28 @@
+use Rattle.std.proofs.Common.{◌≡◌, ◌+◌, ◌∙◌, sym, ap, lit<, arith}
+use Rattle.art_operations.proofs.FreedAll.{all-part, all-kept, leaves-gone}
+use Rattle.art_operations.proofs.deallocate.deallocate_tree.Goals as goal
+
+pub free_nodes-requires : goal.free_nodes-requires
+free_nodes-requires g c =
+    let r = c.requires in
+    (lit< tt, (r.0, r.1, all-part g.row.PREFIX_LEN c.args.arena.now c.args.root r.0 r.1 r.2))
+
+pub overflow_sub-result : goal.overflow_sub-result
+overflow_sub-result g c =
+    let r = c.requires in
+    let left = c.free_nodes.ensures.freed r.0 r.1 (all-part g.row.PREFIX_LEN c.args.arena.now c.args.root r.0 r.1 r.2) in
+    let gone = leaves-gone g.row.PREFIX_LEN c.args.arena.now c.free_nodes.new.arena c.args.root r.0 r.1 r.2 left in
+    omega (arith, gone, c.leaf_count-before.ensures, c.leaf_count.ensures)
+
+pub returns-clause-freed : goal.returns-clause-freed
+returns-clause-freed g c = λ s rest beside. c.free_nodes.ensures.freed s rest (all-part g.row.PREFIX_LEN c.args.arena.now c.args.root s rest beside)
+
+pub returns-clause-value : goal.returns-clause-value
+returns-clause-value g c = λ s rest beside.
+    let left = c.free_nodes.ensures.freed s rest (all-part g.row.PREFIX_LEN c.args.arena.now c.args.root s rest beside) in
+    let gone = leaves-gone g.row.PREFIX_LEN c.args.arena.now c.free_nodes.new.arena c.args.root s rest beside left in
+    omega (arith, gone, c.leaf_count-before.ensures, c.leaf_count.ensures)
+
+pub returns-clause-kept : goal.returns-clause-kept
+returns-clause-kept g c = λ s rest beside.
+    all-kept g.row.PREFIX_LEN c.args.arena.now c.free_nodes.new.arena s (c.free_nodes.ensures.kept s rest (all-part g.row.PREFIX_LEN c.args.arena.now c.args.root s rest beside))

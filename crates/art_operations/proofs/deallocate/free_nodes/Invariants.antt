@@ -1,0 +1,19 @@
+use Rattle.std.proofs.Common.{◌≡◌, ℕ, ◌≤◌, List}
+use Rattle.art_nodes.specs.Name.{Name}
+use Rattle.art_arena.specs.arena.Arena.{KeepsRoom}
+use Rattle.art_arena.specs.arena.Cells.{Cell}
+use Rattle.art_arena.specs.arena.Shapes.{Shape}
+use Rattle.art_operations.specs.inner.Freeing.{HoldsPart}
+use Rattle.art_operations.proofs.FreedSizes.{size_of}
+use Rattle.art_operations.proofs.FreedAll.{IsLeft}
+use Rattle.art_operations.proofs.deallocate.free_nodes.Given as goal
+
+abbrev pub invariant-free : goal.invariant-free
+invariant-free g l = record {
+  left : (s : Shape g.row.K.Denot g.row.V.Denot) (rest : List (Name × Cell g.row.K.Denot g.row.V.Denot)) → HoldsPart g.row.PREFIX_LEN l.with_leaves l.fn.arena l.fn.root s rest
+      → IsLeft g.row.PREFIX_LEN l.with_leaves l.fn.arena l.arena s l.current rest;
+  room : KeepsRoom l.fn.arena l.arena;
+}
+
+abbrev pub decreases-free : goal.decreases-free
+decreases-free g l = size_of l.arena l.current

@@ -1,0 +1,18 @@
+use Rattle.std.proofs.Common.{List}
+use Rattle.art_nodes.specs.Name.{Name}
+use Rattle.art_arena.specs.arena.Arena.{KeepsRoom, leaves_held}
+use Rattle.art_arena.specs.arena.Cells.{Cell}
+use Rattle.art_arena.specs.arena.Shapes.{LeafAt}
+use Rattle.art_operations.specs.Frees.{HoldsRun}
+use Rattle.art_operations.proofs.FreedRuns.{IsRunLeft}
+use Rattle.art_operations.proofs.deallocate.free_run.Given as goal
+
+abbrev pub invariant-run : goal.invariant-run
+invariant-run g l = record {
+  left : (ls : List (LeafAt g.row.K.Denot g.row.V.Denot)) (rest : List (Name × Cell g.row.K.Denot g.row.V.Denot)) → HoldsRun l.fn.arena l.fn.first l.last ls rest
+      → IsRunLeft l.fn.arena l.arena ls l.current l.last rest;
+  room : KeepsRoom l.fn.arena l.arena;
+}
+
+abbrev pub decreases-run : goal.decreases-run
+decreases-run g l = leaves_held l.arena

@@ -1,0 +1,252 @@
+//! Frees: a tree, its leaves alone, its inner nodes alone. None of these is refused, takes memory or recurses, and each
+//! takes time in proportion to the nodes that it frees.
+//!
+//! A tree is freed from its last children on. What waits stands below the first child of what is at hand: where the
+//! last child of a node is an inner node, the node itself takes the place of the first childless node below that child,
+//! which is freed for it. So the way down to that one is gone only once.
+ghost use Rattle.std.specs.Prelude.{◌≡◌, ◌++◌, Bool, List, IfSome, IfNone, length};
+ghost use Rattle.art_nodes.specs.Name.{Name};
+ghost use Rattle.art_arena.specs.arena.Arena.{node_at, KeepsRoom, SameNodes};
+ghost use Rattle.art_arena.specs.arena.Cells.{Cell, Holds};
+ghost use Rattle.art_arena.specs.arena.Shapes.{Shape, LeafAt, cells, leaves};
+ghost use Rattle.art_operations.specs.Frees.{cells_with, inner_cells, leaf_cells, HoldsBeside, HoldsInnerBeside};
+ghost use Rattle.art_operations.specs.Frees.{HoldsRun, KeepsAllBut};
+ghost use Rattle.art_operations.specs.inner.Freeing.{FreesRoot, HasFreedOne, HoldsBoth, HoldsOneLess, HoldsPart, IsBottom};
+
+use art_arena::{LeafPtr, NodeArena, NodeEdit};
+use art_nodes::{KindLeaf, LeafNode, OpaqueNodePtr};
+
+// The first node without a child below a node, and the byte of a parent under which it stands. There is none where it
+// is that node itself.
+#[derive(Clone, Copy)]
+struct Bottom {
+    node: OpaqueNodePtr,
+    place: Option<(OpaqueNodePtr, u8)>,
+}
+
+// Goes down from a node by first children.
+fn find_bottom<K, V, const PREFIX_LEN: usize>(
+    arena: &NodeArena<K, V, PREFIX_LEN>,
+    root: OpaqueNodePtr,
+) -> Bottom
+    requires { (with_leaves : Bool) × (s : Shape K V) × (rest : List (Name × Cell K V))
+        × HoldsPart PREFIX_LEN with_leaves arena.now root s rest }
+    ensures { (with_leaves : Bool) (s : Shape K V) (rest : List (Name × Cell K V))
+        → HoldsPart PREFIX_LEN with_leaves arena.now root s rest → IsBottom s result }
+{
+    let mut node = root;
+    let mut place = None;
+    'down: loop {
+        if node.is::<KindLeaf>() {
+            return Bottom { node, place };
+        }
+        match arena.inner(node).first_child() {
+            Some(child) => {
+                place = Some((node, child.0));
+                node = child.1;
+            }
+            None => return Bottom { node, place },
+        }
+    }
+}
+
+// Frees a node alone, a leaf only where leaves are to be freed.
+fn free_node<K: Drop, V: Drop, const PREFIX_LEN: usize>(
+    arena: &mut NodeArena<K, V, PREFIX_LEN>,
+    node: OpaqueNodePtr,
+    with_leaves: bool,
+)
+    requires { (s : Shape K V) × (rest : List (Name × Cell K V))
+        × HoldsPart PREFIX_LEN with_leaves arena.old node s rest }
+    ensures freed { (s : Shape K V) (rest : List (Name × Cell K V))
+        → HoldsPart PREFIX_LEN with_leaves arena.old node s rest → FreesRoot with_leaves arena.old arena.new s }
+    ensures room { KeepsRoom arena.old arena.new }
+{
+    if let Some(leaf) = node.cast::<KindLeaf>() {
+        if with_leaves {
+            arena.deallocate_node_ptr::<LeafNode<K, V>>(leaf);
+        }
+        return;
+    }
+    arena.edit_inner(node, &NodeEdit::Free);
+}
+
+// Lets a node stand in the place of the first childless node below another one, which is freed. Answers the root of
+// both.
+fn hang<K: Drop, V: Drop, const PREFIX_LEN: usize>(
+    arena: &mut NodeArena<K, V, PREFIX_LEN>,
+    node: OpaqueNodePtr,
+    below: OpaqueNodePtr,
+    with_leaves: bool,
+) -> OpaqueNodePtr
+    requires { (s t : Shape K V) × (rest : List (Name × Cell K V))
+        × HoldsBoth PREFIX_LEN with_leaves arena.old node s below t rest }
+    ensures freed { (s t : Shape K V) (rest : List (Name × Cell K V))
+        → HoldsBoth PREFIX_LEN with_leaves arena.old node s below t rest
+        → HoldsOneLess PREFIX_LEN with_leaves arena.new result (length (cells PREFIX_LEN s ++ cells PREFIX_LEN t))
+        (cells_with PREFIX_LEN with_leaves s ++ cells_with PREFIX_LEN with_leaves t) rest }
+    ensures kept { (s t : Shape K V) (rest : List (Name × Cell K V))
+        → HoldsBoth PREFIX_LEN with_leaves arena.old node s below t rest
+        → KeepsAllBut (cells_with PREFIX_LEN with_leaves s ++ cells_with PREFIX_LEN with_leaves t) arena.old
+        arena.new }
+    ensures room { KeepsRoom arena.old arena.new }
+{
+    let bottom = find_bottom(arena, below);
+    free_node(arena, bottom.node, with_leaves);
+    match bottom.place {
+        None => node,
+        Some(place) => {
+            let edit = NodeEdit::Write {
+                byte: place.1,
+                child: node,
+            };
+            arena.edit_inner(place.0, &edit);
+            below
+        }
+    }
+}
+
+// Frees one node of a tree, and answers the root of what is left of it, if anything is.
+fn free_one<K: Drop, V: Drop, const PREFIX_LEN: usize>(
+    arena: &mut NodeArena<K, V, PREFIX_LEN>,
+    root: OpaqueNodePtr,
+    with_leaves: bool,
+) -> Option<OpaqueNodePtr>
+    requires { (s : Shape K V) × (rest : List (Name × Cell K V))
+        × HoldsPart PREFIX_LEN with_leaves arena.old root s rest }
+    ensures freed { (s : Shape K V) (rest : List (Name × Cell K V))
+        → HoldsPart PREFIX_LEN with_leaves arena.old root s rest
+        → HasFreedOne PREFIX_LEN with_leaves arena.new result s rest }
+    ensures kept { (s : Shape K V) (rest : List (Name × Cell K V))
+        → HoldsPart PREFIX_LEN with_leaves arena.old root s rest
+        → KeepsAllBut (cells_with PREFIX_LEN with_leaves s) arena.old arena.new }
+    ensures room { KeepsRoom arena.old arena.new }
+{
+    if root.is::<KindLeaf>() {
+        free_node(arena, root, with_leaves);
+        return None;
+    }
+    let inner = arena.inner(root);
+    let count = inner.children().len();
+    match inner.last_child() {
+        None => {
+            free_node(arena, root, with_leaves);
+            None
+        }
+        Some(last) => {
+            if count == 1 {
+                free_node(arena, root, with_leaves);
+                return Some(last.1);
+            }
+            arena.edit_inner(root, &NodeEdit::Remove { byte: last.0 });
+            Some(hang(arena, root, last.1, with_leaves))
+        }
+    }
+}
+
+// Frees the inner nodes of a tree, and its leaves where these are to be freed too.
+fn free_nodes<K: Drop, V: Drop, const PREFIX_LEN: usize>(
+    arena: &mut NodeArena<K, V, PREFIX_LEN>,
+    root: OpaqueNodePtr,
+    with_leaves: bool,
+)
+    requires { (s : Shape K V) × (rest : List (Name × Cell K V))
+        × HoldsPart PREFIX_LEN with_leaves arena.old root s rest }
+    ensures freed { (s : Shape K V) (rest : List (Name × Cell K V))
+        → HoldsPart PREFIX_LEN with_leaves arena.old root s rest → Holds (node_at arena.new) rest }
+    ensures kept { (s : Shape K V) (rest : List (Name × Cell K V))
+        → HoldsPart PREFIX_LEN with_leaves arena.old root s rest
+        → KeepsAllBut (cells_with PREFIX_LEN with_leaves s) arena.old arena.new }
+    ensures room { KeepsRoom arena.old arena.new }
+{
+    let mut current = root;
+    'free: loop {
+        match free_one(arena, current, with_leaves) {
+            Some(left) => current = left,
+            None => return,
+        }
+    }
+}
+
+/// Frees each node of the tree below a name, and answers how many leaves it had. Any shape is freed, canonical or not;
+/// what else the arena holds stays as it is, and so does the room that there was. It is never refused, takes no memory
+/// and doesn't recurse; it takes time in proportion to the nodes, however deep they lie.
+pub fn deallocate_tree<K: Drop, V: Drop, const PREFIX_LEN: usize>(
+    arena: &mut NodeArena<K, V, PREFIX_LEN>,
+    root: OpaqueNodePtr,
+) -> usize
+    requires { (s : Shape K V) × (rest : List (Name × Cell K V)) × HoldsBeside PREFIX_LEN arena.old root s rest }
+    ensures freed { (s : Shape K V) (rest : List (Name × Cell K V)) → HoldsBeside PREFIX_LEN arena.old root s rest
+        → Holds (node_at arena.new) rest }
+    ensures value { (s : Shape K V) (rest : List (Name × Cell K V)) → HoldsBeside PREFIX_LEN arena.old root s rest
+        → result ≡ length (leaves s) }
+    ensures kept { (s : Shape K V) (rest : List (Name × Cell K V)) → HoldsBeside PREFIX_LEN arena.old root s rest
+        → KeepsAllBut (cells PREFIX_LEN s) arena.old arena.new }
+    ensures room { KeepsRoom arena.old arena.new }
+{
+    let before = arena.leaf_count();
+    free_nodes(arena, root, true);
+    before - arena.leaf_count()
+}
+
+/// Frees each inner node of the tree below a name. Its leaves stay as they are, with their links, where the arena still
+/// holds them; they may also be gone. Never refused, without memory, in time, as `deallocate_tree`.
+pub fn deallocate_tree_non_leaves<K: Drop, V: Drop, const PREFIX_LEN: usize>(
+    arena: &mut NodeArena<K, V, PREFIX_LEN>,
+    root: OpaqueNodePtr,
+)
+    requires { (s : Shape K V) × (rest : List (Name × Cell K V)) × HoldsInnerBeside PREFIX_LEN arena.old root s rest }
+    ensures freed { (s : Shape K V) (rest : List (Name × Cell K V)) → HoldsInnerBeside PREFIX_LEN arena.old root s rest
+        → Holds (node_at arena.new) rest }
+    ensures kept { (s : Shape K V) (rest : List (Name × Cell K V)) → HoldsInnerBeside PREFIX_LEN arena.old root s rest
+        → KeepsAllBut (inner_cells PREFIX_LEN s) arena.old arena.new }
+    ensures room { KeepsRoom arena.old arena.new }
+{
+    free_nodes(arena, root, false);
+}
+
+// Frees the leaves of a linked run, from its first to its last.
+fn free_run<K: Drop, V: Drop, const PREFIX_LEN: usize>(
+    arena: &mut NodeArena<K, V, PREFIX_LEN>,
+    first: LeafPtr,
+    last: LeafPtr,
+)
+    requires { (ls : List (LeafAt K V)) × (rest : List (Name × Cell K V)) × HoldsRun arena.old first last ls rest }
+    ensures freed { (ls : List (LeafAt K V)) (rest : List (Name × Cell K V))
+        → HoldsRun arena.old first last ls rest → Holds (node_at arena.new) rest }
+    ensures kept { (ls : List (LeafAt K V)) (rest : List (Name × Cell K V))
+        → HoldsRun arena.old first last ls rest → KeepsAllBut (leaf_cells ls) arena.old arena.new }
+    ensures room { KeepsRoom arena.old arena.new }
+{
+    let mut current = first;
+    'run: loop {
+        let leaf = arena.deallocate_node_ptr::<LeafNode<K, V>>(current);
+        if current == last {
+            return;
+        }
+        match leaf.next() {
+            Some(next) => current = next,
+            None => unreachable!(),
+        }
+    }
+}
+
+/// Frees the leaves of a linked run, from its first to its last, or none. What else the arena holds stays as it is:
+/// the leaves beside the run keep their links, also those that led into it. It is never refused and takes no memory.
+pub fn deallocate_leaves<K: Drop, V: Drop, const PREFIX_LEN: usize>(
+    arena: &mut NodeArena<K, V, PREFIX_LEN>,
+    run: Option<(LeafPtr, LeafPtr)>,
+)
+    requires { IfSome run (λ ends. (ls : List (LeafAt K V)) × (rest : List (Name × Cell K V))
+        × HoldsRun arena.old ends.0 ends.1 ls rest) }
+    ensures freed { IfSome run (λ ends. (ls : List (LeafAt K V)) (rest : List (Name × Cell K V))
+        → HoldsRun arena.old ends.0 ends.1 ls rest → Holds (node_at arena.new) rest) }
+    ensures kept { IfSome run (λ ends. (ls : List (LeafAt K V)) (rest : List (Name × Cell K V))
+        → HoldsRun arena.old ends.0 ends.1 ls rest → KeepsAllBut (leaf_cells ls) arena.old arena.new) }
+    ensures none { IfNone run (SameNodes arena.old arena.new) }
+    ensures room { KeepsRoom arena.old arena.new }
+{
+    if let Some(ends) = run {
+        free_run(arena, ends.0, ends.1);
+    }
+}
