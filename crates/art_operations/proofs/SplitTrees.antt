@@ -12,7 +12,7 @@ use Rattle.art_arena.specs.arena.Linked.{AreLinked, IsBeside}
 use Rattle.art_arena.specs.arena.Meaning.{IsAtDepth, IsSubtree, IsTree}
 use Rattle.art_arena.specs.arena.Shapes.{Shape, no_branch, branch, name_of, leaves, cells, node_of}
 use Rattle.art_arena.specs.arena.Steps.{Step}
-use Rattle.art_arena.proofs.tree.Order.{all_append, all_left, all_right}
+use Rattle.art_arena.proofs.tree.Order.{all_right}
 use Rattle.art_arena.proofs.shapes.CellLists.{copies-append, Holds-add, Holds-write, Holds-same}
 use Rattle.art_arena.proofs.shapes.Contexts.{cells-plug, leaves-plug, name_of-plug}
 use Rattle.art_arena.proofs.shapes.Meanings.{nodes-part}
@@ -24,6 +24,7 @@ use Rattle.art_operations.specs.inner.Splits.{trimmed, root_cell, IsEnd, IsBetwe
 use Rattle.art_operations.specs.Insertions.{IsInserted}
 use Rattle.art_operations.specs.declared.insert.result.InsertParentNodeChange.TheVariants.{NewParent}
 use Rattle.art_operations.specs.declared.meeting.Parted.{Parted}
+use Rattle.art_operations.proofs.Freeing.{Holds-swap}
 use Rattle.art_operations.proofs.Splits.{SplitPlace, below_root, cells-root, below-trimmed, name_of-trimmed, leaves-trimmed, held_there}
 use Rattle.art_operations.proofs.Inserted.{AreLinked-same, inserted_below}
 use Rattle.art_operations.proofs.NewLeaves.{first_of, last_of, beside-same}
@@ -45,21 +46,6 @@ split_children false a b x y order differs = elim (leb_tells (suc a) b) [
   | inl less ↦ rw less.0 refl
   | inr more ↦ absurd (let same : a ≡ b = omega (arith, more.1, after_is b a order) in differs same)
 ]
-
--- cells may stand in another order
-Holds-turn : {C : Type 0} (at : Name → Option C) (xs ys zs ws : List (Name × C)) → Holds at (xs ++ (ys ++ (zs ++ ws))) → Holds at (xs ++ (zs ++ (ys ++ ws)))
-Holds-turn {C} at xs ys zs ws holds =
-    let Q = λ (c : Name × C). at c.0 ≡ Some c.1 in
-    let behind_xs = all_right Q xs (ys ++ (zs ++ ws)) holds.held in
-    let behind_ys = all_right Q ys (zs ++ ws) behind_xs in
-    record {
-      held = all_append Q xs (zs ++ (ys ++ ws)) (all_left Q xs (ys ++ (zs ++ ws)) holds.held)
-          (all_append Q zs (ys ++ ws) (all_left Q zs ws behind_ys) (all_append Q ys ws (all_left Q ys (zs ++ ws) behind_xs) (all_right Q zs ws behind_ys)));
-      once = λ n.
-          let same : copies n (xs ++ (zs ++ (ys ++ ws))) ≡ copies n (xs ++ (ys ++ (zs ++ ws))) =
-          omega (arith, copies-append n xs (zs ++ (ys ++ ws)), copies-append n zs (ys ++ ws), copies-append n ys ws, copies-append n xs (ys ++ (zs ++ ws)), copies-append n ys (zs ++ ws), copies-append n zs ws) in
-          same ∙ holds.once n;
-    }
 
 abbrev pub split_name : ℕ → Name
 split_name slot = record { kind = Node4; slot = slot }
@@ -175,7 +161,7 @@ module _ {K V : Type 0} (bytes : K → List ℕ) (P : ℕ) (s : Shape K V) (old 
           let xs = cells_before P at.ctx (split_name slot) in
           let here : Holds map ((xs ++ split_cell ∷ []) ++ (cells P lower ++ ((leaf_cell ∷ []) ++ right))) =
           subst (Holds map) (ap (λ cs. xs ++ split_cell ∷ (cs ++ leaf_cell ∷ right)) (sym lower_cells) ∙ sym (append_assoc xs (split_cell ∷ []) (cells P lower ++ ((leaf_cell ∷ []) ++ right)))) holds in
-          let turned = Holds-turn map (xs ++ split_cell ∷ []) (cells P lower) (leaf_cell ∷ []) right here in
+          let turned = Holds-swap map (xs ++ split_cell ∷ []) (cells P lower) (leaf_cell ∷ []) right here in
           subst (Holds map) (ap₂ (λ c cs. (xs ++ c ∷ []) ++ leaf_cell ∷ (cs ++ right)) (sym (frame_cell_is true order)) (sym (append-nil (cells P lower)))) turned
       placed false order map holds =
           let xs = cells_before P at.ctx (split_name slot) in

@@ -19,7 +19,7 @@ use std::alloc::{AllocError, Global};
 use std::test::Fail;
 
 // Ends a window.
-fn came(rt: &HostRuntime, is_ok: bool) -> Result<(), Fail> {
+pub(crate) fn came(rt: &HostRuntime, is_ok: bool) -> Result<(), Fail> {
     eprintln!(rt; "{}", if is_ok { "ok" } else { "refused" })?;
     Ok(())
 }
@@ -76,7 +76,7 @@ fn tells_a_key_that_cannot_be_put_in(rt: HostRuntime) -> Result<(), Fail> {
 }
 
 // The tree that commands make.
-fn tree_of<K: CloneBytes, V: Clone>(
+pub(crate) fn tree_of<K: CloneBytes, V: Clone>(
     alloc: Global,
     commands: &[Command<K, V>],
 ) -> Option<(NodeArena<K, V, 4>, OpaqueNodePtr)>
@@ -134,7 +134,7 @@ fn put_in<K: AsBytes + Drop, V: Drop>(
 }
 
 // The key and the value that were handed back.
-fn handed_back<K, V>(refused: InsertRefused<K, V>) -> (K, V)
+pub(crate) fn handed_back<K, V>(refused: InsertRefused<K, V>) -> (K, V)
     ensures { (result.0 ≡ refused.key) × (result.1 ≡ refused.value) }
 {
     let InsertRefused { key, value } = refused;
