@@ -1,5 +1,5 @@
 -- Commands on pairs and on clones of them are answered alike, and leave clones.
-use Rattle.std.proofs.Common.{◌≡◌, ℕ, suc, not, Bool, true, false, cond, List, [], ◌∷◌, length, map, bytes_eq, Option, refl, sym, ap, ap₂, subst, ◌∙◌}
+use Rattle.std.proofs.Common.{◌≡◌, ℕ, suc, not, Bool, true, false, cond, List, [], ◌∷◌, length, map, filter, bytes_eq, Option, refl, sym, ap, ap₂, subst, ◌∙◌}
 use Rattle.std.specs.List.{AllZip}
 use Rattle.art_nodes.specs.Name.{Name}
 use Rattle.art_arena.specs.arena.Arena.{Arena}
@@ -8,14 +8,14 @@ use Rattle.art_arena.specs.arena.Shapes.{key_of}
 use Rattle.art_arena.specs.tree.Shrinks.{Shrinks}
 use Rattle.art_arena.proofs.tree.Paths.{in_map}
 use Rattle.art_operations.specs.Commands.{IsAnswered, after}
-use Rattle.art_operations.specs.KeyedLists.{with_key, without_key, HasKey, IsBlocked}
+use Rattle.art_operations.specs.KeyedLists.{without_key, overlaps, without_overlapping, HasKey, IsBlocked}
 use Rattle.art_operations.specs.Pairs.{HasPairs}
 use Rattle.art_operations.specs.Runs.{AreClones}
 use Rattle.art_operations.specs.inner.Runs.{HasClones, IsCarriedOut, IsDone}
 use Rattle.art_operations.specs.declared.running.Answer.{Answer}
 use Rattle.art_operations.specs.declared.running.Answer.TheVariants.{Done, Prefix, Memory}
 use Rattle.art_operations.specs.declared.running.Change.{Change}
-use Rattle.art_operations.specs.declared.running.Command.TheVariants.{Insert, Delete}
+use Rattle.art_operations.specs.declared.running.Command.TheVariants.{Insert, PrefixInsert, Delete}
 use Rattle.art_operations.proofs.LeafPairs.{in_unmap, shrinks-map, shrinks-unmap}
 
 abbrev bytes_of : List ℕ → List ℕ
@@ -43,25 +43,26 @@ module _ {X : Type 0} (R : X → X → Type 0) (key : X → List ℕ) (same : (x
   keys_same (x ∷ xs) [] h = absurd h
   keys_same (x ∷ xs) (y ∷ ys) h = ap₂ (λ k ks. k ∷ ks) (same x y h.0) (keys_same xs ys h.1)
 
-  as_many : (k : List ℕ) (xs ys : List X) → AllZip R xs ys → length (with_key key k ys) ≡ length (with_key key k xs)
-  as_many k [] [] h = refl
-  as_many k [] (y ∷ ys) h = absurd h
-  as_many k (x ∷ xs) [] h = absurd h
-  as_many k (x ∷ xs) (y ∷ ys) h = rw (same x y h.0) (step (bytes_eq (key x) k) (as_many k xs ys h.1))
+  -- their items whose keys pass a test
+  filter_both : (test : List ℕ → Bool) (xs ys : List X) → AllZip R xs ys → AllZip R (filter (λ x. test (key x)) xs) (filter (λ x. test (key x)) ys)
+  filter_both test [] [] h = tt
+  filter_both test [] (y ∷ ys) h = absurd h
+  filter_both test (x ∷ xs) [] h = absurd h
+  filter_both test (x ∷ xs) (y ∷ ys) h = rw (same x y h.0) (step (test (key x)) (filter_both test xs ys h.1))
     where
-      step : (b : Bool) → length (with_key key k ys) ≡ length (with_key key k xs) → length (cond b (y ∷ with_key key k ys) (with_key key k ys)) ≡ length (cond b (x ∷ with_key key k xs) (with_key key k xs))
-      step true e = ap suc e
-      step false e = e
-
-  without_both : (k : List ℕ) (xs ys : List X) → AllZip R xs ys → AllZip R (without_key key k xs) (without_key key k ys)
-  without_both k [] [] h = tt
-  without_both k [] (y ∷ ys) h = absurd h
-  without_both k (x ∷ xs) [] h = absurd h
-  without_both k (x ∷ xs) (y ∷ ys) h = rw (same x y h.0) (step (not (bytes_eq (key x) k)) (without_both k xs ys h.1))
-    where
-      step : (b : Bool) → AllZip R (without_key key k xs) (without_key key k ys) → AllZip R (cond b (x ∷ without_key key k xs) (without_key key k xs)) (cond b (y ∷ without_key key k ys) (without_key key k ys))
+      step : (b : Bool) → AllZip R (filter (λ z. test (key z)) xs) (filter (λ z. test (key z)) ys)
+          → AllZip R (cond b (x ∷ filter (λ z. test (key z)) xs) (filter (λ z. test (key z)) xs)) (cond b (y ∷ filter (λ z. test (key z)) ys) (filter (λ z. test (key z)) ys))
       step true both = (h.0, both)
       step false both = both
+
+  as_many : (xs ys : List X) → AllZip R xs ys → length ys ≡ length xs
+  as_many [] [] h = refl
+  as_many [] (y ∷ ys) h = absurd h
+  as_many (x ∷ xs) [] h = absurd h
+  as_many (x ∷ xs) (y ∷ ys) h = ap suc (as_many xs ys h.1)
+
+  many_both : (test : List ℕ → Bool) (xs ys : List X) → AllZip R xs ys → length (filter (λ x. test (key x)) ys) ≡ length (filter (λ x. test (key x)) xs)
+  many_both test xs ys h = as_many (filter (λ x. test (key x)) xs) (filter (λ x. test (key x)) ys) (filter_both test xs ys h)
 
   put_both : (x y : X) → R x y → (xs ys : List X) → AllZip R xs ys → AllZip R (put key x xs) (put key y ys)
   put_both x y r [] [] h = (r, tt)
@@ -86,24 +87,36 @@ module _ {K V : Type 0} (bytes : K → List ℕ) (KeyClone : K → K → Type 0)
 
     answered-insert : (k c : K) (v d : V) → bytes c ≡ bytes k → (answer : Answer) → IsAnswered bytes clones (Insert c d) answer → IsAnswered bytes pairs (Insert k v) answer
     answered-insert k c v d e (Done n) (count, free) =
-        (rw (← e) (count ∙ as_many PairClone (key_of bytes) same_pair (bytes c) pairs clones are), λ blocked. free (rw e (blocked_other (key_of bytes) pairs clones (sym same_keys) (bytes k) blocked)))
+        (rw (← e) (count ∙ many_both PairClone (key_of bytes) same_pair (λ b. bytes_eq b (bytes c)) pairs clones are), λ blocked. free (rw e (blocked_other (key_of bytes) pairs clones (sym same_keys) (bytes k) blocked)))
     answered-insert k c v d e Prefix blocked = blocked_other (key_of bytes) clones pairs same_keys (bytes k) (rw e at blocked)
     answered-insert k c v d e Memory free = λ blocked. free (rw e (blocked_other (key_of bytes) pairs clones (sym same_keys) (bytes k) blocked))
 
+    answered-over : (k c : K) (v d : V) → bytes c ≡ bytes k → (answer : Answer) → IsAnswered bytes clones (PrefixInsert c d) answer → IsAnswered bytes pairs (PrefixInsert k v) answer
+    answered-over k c v d e (Done n) count = rw (← e) (count ∙ many_both PairClone (key_of bytes) same_pair (overlaps (bytes c)) pairs clones are)
+    answered-over k c v d e Prefix h = absurd h
+    answered-over k c v d e Memory h = tt
+
     answered-delete : (k : K) (answer : Answer) → IsAnswered bytes clones (Delete k) answer → IsAnswered bytes pairs (Delete k) answer
-    answered-delete k (Done n) count = count ∙ as_many PairClone (key_of bytes) same_pair (bytes k) pairs clones are
+    answered-delete k (Done n) count = count ∙ many_both PairClone (key_of bytes) same_pair (λ b. bytes_eq b (bytes k)) pairs clones are
     answered-delete k Prefix h = absurd h
     answered-delete k Memory (stored, shrinks) = (stored_other (key_of bytes) clones pairs same_keys (bytes k) stored, shrinks_other (key_of bytes) clones pairs same_keys (bytes k) shrinks)
 
     after-insert : (k c : K) (v d : V) → KeyClone k c → ValueClone v d → (answer : Answer) → AreClones KeyClone ValueClone (after bytes (Insert k v) answer pairs) (after bytes (Insert c d) answer clones)
     after-insert k c v d kc vd (Done n) =
         rw (same k c kc) (put_both PairClone (key_of bytes) same_pair (k, v) (c, d) (kc, vd) (without_key (key_of bytes) (bytes k) pairs) (without_key (key_of bytes) (bytes k) clones)
-        (without_both PairClone (key_of bytes) same_pair (bytes k) pairs clones are))
+        (filter_both PairClone (key_of bytes) same_pair (λ b. not (bytes_eq b (bytes k))) pairs clones are))
     after-insert k c v d kc vd Prefix = are
     after-insert k c v d kc vd Memory = are
 
+    after-over : (k c : K) (v d : V) → KeyClone k c → ValueClone v d → (answer : Answer) → AreClones KeyClone ValueClone (after bytes (PrefixInsert k v) answer pairs) (after bytes (PrefixInsert c d) answer clones)
+    after-over k c v d kc vd (Done n) =
+        rw (same k c kc) (put_both PairClone (key_of bytes) same_pair (k, v) (c, d) (kc, vd) (without_overlapping (key_of bytes) (bytes k) pairs) (without_overlapping (key_of bytes) (bytes k) clones)
+        (filter_both PairClone (key_of bytes) same_pair (λ b. not (overlaps (bytes k) b)) pairs clones are))
+    after-over k c v d kc vd Prefix = are
+    after-over k c v d kc vd Memory = are
+
     after-delete : (k : K) (answer : Answer) → AreClones KeyClone ValueClone (after bytes (Delete k) answer pairs) (after bytes (Delete k) answer clones)
-    after-delete k (Done n) = without_both PairClone (key_of bytes) same_pair (bytes k) pairs clones are
+    after-delete k (Done n) = filter_both PairClone (key_of bytes) same_pair (λ b. not (bytes_eq b (bytes k))) pairs clones are
     after-delete k Prefix = are
     after-delete k Memory = are
 
@@ -121,6 +134,14 @@ module _ {K V : Type 0} (bytes : K → List ℕ) (KeyClone : K → K → Type 0)
   insert-clones P old new root pairs k c v d change kc vd done (clones, are, has) =
       let result = done clones has in
       (answered-insert pairs clones are k c v d (same k c kc) change.answer result.0, (_, after-insert pairs clones are k c v d kc vd change.answer, result.1))
+
+  -- a prefix insertion of clones is one of the pair
+  pub over-clones : (P : ℕ) (old new : Arena K V) (root : Option Name) (pairs : List (K × V)) (k c : K) (v d : V) (change : Change) → KeyClone k c → ValueClone v d
+      → ((stored : List (K × V)) → HasPairs bytes P old root stored → IsDone bytes P new stored (PrefixInsert c d) change)
+      → HasClones bytes P old KeyClone ValueClone root pairs → IsCarriedOut bytes P new KeyClone ValueClone pairs (PrefixInsert k v) change
+  over-clones P old new root pairs k c v d change kc vd done (clones, are, has) =
+      let result = done clones has in
+      (answered-over pairs clones are k c v d (same k c kc) change.answer result.0, (_, after-over pairs clones are k c v d kc vd change.answer, result.1))
 
   -- a deletion from clones is one from the pairs
   pub delete-clones : (P : ℕ) (old new : Arena K V) (root : Option Name) (pairs : List (K × V)) (k : K) (change : Change)

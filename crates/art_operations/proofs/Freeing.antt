@@ -21,21 +21,6 @@ use Rattle.art_operations.specs.Frees.{cells_with, cells_with_in, KeepsAllBut}
 use Rattle.art_operations.specs.declared.deallocate.Bottom.{Bottom}
 use Rattle.art_operations.specs.inner.Freeing.{step_in, IsChildless, AreFirst, IsBottom, FreesRoot, HoldsPart, HoldsBoth, HoldsOneLess}
 
--- cells that stand in another order are held as well
-pub Holds-swap : {C : Type 0} (at : Name → Option C) (front xs ys zs : List (Name × C)) → Holds at (front ++ (xs ++ (ys ++ zs))) → Holds at (front ++ (ys ++ (xs ++ zs)))
-Holds-swap {C} at front xs ys zs holds =
-    let Q = λ (c : Name × C). at c.0 ≡ Some c.1 in
-    let behind = all_right Q front (xs ++ (ys ++ zs)) holds.held in
-    let left = all_left Q xs (ys ++ zs) behind in
-    let right = all_right Q xs (ys ++ zs) behind in
-    record {
-      held = all_append Q front (ys ++ (xs ++ zs)) (all_left Q front (xs ++ (ys ++ zs)) holds.held) (all_append Q ys (xs ++ zs) (all_left Q ys zs right) (all_append Q xs zs left (all_right Q ys zs right)));
-      once = λ n.
-          let same : copies n (front ++ (ys ++ (xs ++ zs))) ≡ copies n (front ++ (xs ++ (ys ++ zs))) =
-          omega (arith, copies-append n front (ys ++ (xs ++ zs)), copies-append n front (xs ++ (ys ++ zs)), copies-append n ys (xs ++ zs), copies-append n xs zs, copies-append n xs (ys ++ zs), copies-append n ys zs) in
-          same ∙ holds.once n;
-    }
-
 -- of children by ascending byte the last one is taken out
 pub without-last : {N : Type 0} (low : ℕ) (xs : List (ℕ × N)) (b : ℕ) (m : N) → IsAscendingFrom low (xs ++ (b, m) ∷ []) → (low ≤ b) × (without_child (xs ++ (b, m) ∷ []) b ≡ xs)
 without-last low [] b m up = (up.0, elim (eqb_tells b b) [ inl same ↦ rw same.0 refl | inr other ↦ absurd (other.1 refl) ])

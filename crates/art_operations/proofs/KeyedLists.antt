@@ -64,11 +64,11 @@ module _ {X : Type 0} (key : X → List ℕ) where
     not_blocked xs free (x, i, c) = all_at (λ y. Conflict k (key y) → ⊥) x xs free i c
 
   module _ (x : X) where
-    before : (front back : List X) → IsAscending key (front ++ x ∷ back) → AllByRecursion (λ y. IsBefore (key y) (key x)) front
+    pub before : (front back : List X) → IsAscending key (front ++ x ∷ back) → AllByRecursion (λ y. IsBefore (key y) (key x)) front
     before [] back h = tt
     before (z ∷ front) back h = (all_at (λ y. IsBefore (key z) (key y)) x (front ++ x ∷ back) h.0 (in_middle key front x back), before front back h.1)
 
-    behind : (front back : List X) → IsAscending key (front ++ x ∷ back) → AllByRecursion (λ y. IsBefore (key x) (key y)) back
+    pub behind : (front back : List X) → IsAscending key (front ++ x ∷ back) → AllByRecursion (λ y. IsBefore (key x) (key y)) back
     behind [] back h = h.0
     behind (z ∷ front) back h = behind front back h.1
 

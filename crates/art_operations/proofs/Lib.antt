@@ -27,6 +27,9 @@ pub mod KeyedLists
 pub mod LeafPairs
 pub mod NotStored
 pub mod HeldPairs
+pub mod Overlaps
+pub mod Overwrites
+pub mod PutOver
 pub mod Done
 pub mod Clones
 pub mod CommandLists

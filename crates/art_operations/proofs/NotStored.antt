@@ -4,6 +4,8 @@ use Rattle.std.specs.List.{AllByRecursion}
 use Rattle.std.proofs.lemmas.Bool.Decides.{eqb_tells}
 use Rattle.art_bytes.specs.Keys.{BeginsWith, IsBefore}
 use Rattle.art_nodes.specs.InnerNode.{child_at}
+use Rattle.art_nodes.specs.Name.{Name}
+use Rattle.art_arena.specs.arena.Steps.{Step}
 use Rattle.art_arena.specs.arena.Context.{path_to, leaves_before, leaves_after}
 use Rattle.art_arena.specs.arena.Shapes.{Shape, Branches, inner_at, no_branch, branch, LeafAt, children_at, leaves, leaves_in, IsUnder, AreUnder}
 use Rattle.art_arena.proofs.shapes.Contexts.{leaves-plug}
@@ -12,7 +14,7 @@ use Rattle.art_arena.proofs.tree.Order.{all_append, all_weaker}
 use Rattle.art_arena.proofs.shapes.Places.{leaves-begin}
 use Rattle.art_arena.proofs.shapes.Subtrees.{leaves_begin_prefix}
 use Rattle.art_arena.proofs.shapes.Surroundings.{ctx-before, ctx-after}
-use Rattle.art_operations.specs.Points.{IsPoint, MeetsAt}
+use Rattle.art_operations.specs.Points.{IsInTheWay, IsPoint, MeetsAt}
 use Rattle.art_operations.specs.declared.insert.point.InsertKind.{InsertKind}
 use Rattle.art_operations.specs.declared.insert.point.InsertKind.TheVariants as kind
 use Rattle.art_operations.specs.declared.insert.point.InsertPoint.{InsertPoint}
@@ -77,3 +79,14 @@ module _ {K V : Type 0} (bytes : K → List ℕ) (key : List ℕ) where
       (all_append _ (leaves at.part) (leaves_after at.ctx)
       (met (path_to at.ctx) at.part point.insert_kind place.under at.toward.begins at.meets unmet)
       (all_weaker _ (λ l. bytes l.key ≢ key) (λ l b e. before_not_self key (subst (λ k. IsBefore key k) e b)) (leaves_after at.ctx) (ctx-after bytes key at.ctx place.around at.toward.begins))))
+
+  -- nor in one that has a part in the way of the key
+  pub not-in-way : (s : Shape K V) (root name : Name) (last : List Step) → IsInTheWay bytes key s root name last → HaveOthers (leaves s)
+  not-in-way s root name last way =
+      let place = way.toward.place in
+      subst HaveOthers (sym (ap leaves place.is ∙ leaves-plug way.ctx way.part))
+      (all_append _ (leaves_before way.ctx) (leaves way.part ++ leaves_after way.ctx)
+      (all_weaker _ (λ l. bytes l.key ≢ key) (λ l b e. before_not_self key (subst (λ k. IsBefore k key) e b)) (leaves_before way.ctx) (ctx-before bytes key way.ctx place.around way.toward.begins))
+      (all_append _ (leaves way.part) (leaves_after way.ctx)
+      (all_weaker _ (λ l. bytes l.key ≢ key) (λ l c e. c.0 (sym e)) (leaves way.part) way.conflicts)
+      (all_weaker _ (λ l. bytes l.key ≢ key) (λ l b e. before_not_self key (subst (λ k. IsBefore key k) e b)) (leaves_after way.ctx) (ctx-after bytes key way.ctx place.around way.toward.begins))))

@@ -4,7 +4,7 @@ use Rattle.art_operations.specs.Commands.{IsAnswered, pairs_after}
 use Rattle.art_operations.specs.declared.running.Answer.{Answer}
 use Rattle.art_operations.specs.declared.running.Answer.TheVariants.{Done, Prefix, Memory}
 use Rattle.art_operations.specs.declared.running.Command.{Command}
-use Rattle.art_operations.specs.declared.running.Command.TheVariants.{Insert, Delete}
+use Rattle.art_operations.specs.declared.running.Command.TheVariants.{Insert, PrefixInsert, Delete}
 
 -- each key is its own bytes
 abbrev itself : List ℕ → List ℕ
@@ -35,7 +35,21 @@ blocked = ((1 ∷ 2 ∷ [], 5), inl refl, (λ e. cc, inl (2 ∷ [], refl)))
 not_put : left_by (Insert (1 ∷ 2 ∷ []) 5 ∷ Insert (1 ∷ []) 6 ∷ []) (Done 0 ∷ Prefix ∷ []) ≡ (1 ∷ 2 ∷ [], 5) ∷ []
 not_put = refl
 
--- so does a command for which there was no memory
+-- it may take that one's place, as that of all that begin with it or are a front of it
+put_over : left_by (Insert (1 ∷ 2 ∷ []) 5 ∷ Insert (1 ∷ 3 ∷ []) 6 ∷ Insert (2 ∷ []) 7 ∷ PrefixInsert (1 ∷ []) 8 ∷ []) (Done 0 ∷ Done 0 ∷ Done 0 ∷ Done 2 ∷ []) ≡ (1 ∷ [], 8) ∷ (2 ∷ [], 7) ∷ []
+put_over = refl
+
+put_over_longer : left_by (Insert (1 ∷ []) 5 ∷ Insert (2 ∷ []) 6 ∷ PrefixInsert (2 ∷ 3 ∷ []) 7 ∷ []) (Done 0 ∷ Done 0 ∷ Done 1 ∷ []) ≡ (1 ∷ [], 5) ∷ (2 ∷ 3 ∷ [], 7) ∷ []
+put_over_longer = refl
+
+put_over_two : AnswersOn ((1 ∷ 2 ∷ [], 5) ∷ (1 ∷ 3 ∷ [], 6) ∷ (2 ∷ [], 7) ∷ []) (PrefixInsert (1 ∷ []) 8) (Done 2)
+put_over_two = refl
+
+-- all overlap the key of no bytes
+put_over_all : AnswersOn ((1 ∷ [], 5) ∷ (2 ∷ [], 6) ∷ (3 ∷ [], 7) ∷ []) (PrefixInsert [] 8) (Done 3)
+put_over_all = refl
+
+-- nothing changes either by a command for which there was no memory
 no_memory : left_by (Insert (1 ∷ []) 5 ∷ Insert (2 ∷ []) 6 ∷ Delete (1 ∷ []) ∷ []) (Done 0 ∷ Memory ∷ Memory ∷ []) ≡ (1 ∷ [], 5) ∷ []
 no_memory = refl
 

@@ -2,18 +2,19 @@
 use Rattle.std.specs.Prelude.{◌≡◌, ℕ, List, [], ◌∷◌, length}
 use Rattle.art_arena.specs.arena.Shapes.{key_of}
 use Rattle.art_arena.specs.tree.Shrinks.{Shrinks}
-use Rattle.art_operations.specs.KeyedLists.{HasKey, IsBlocked, with_key, without_key}
-use Rattle.art_operations.specs.Pairs.{with_pair}
+use Rattle.art_operations.specs.KeyedLists.{HasKey, IsBlocked, with_key, without_key, overlapping}
+use Rattle.art_operations.specs.Pairs.{with_pair, with_pair_over}
 use Rattle.art_operations.specs.declared.running.Command.{Command}
-use Rattle.art_operations.specs.declared.running.Command.TheVariants.{Insert, Delete}
+use Rattle.art_operations.specs.declared.running.Command.TheVariants.{Insert, PrefixInsert, Delete}
 use Rattle.art_operations.specs.declared.running.Answer.{Answer}
 use Rattle.art_operations.specs.declared.running.Answer.TheVariants.{Done, Prefix, Memory}
 
 module _ {K V : Type 0} (bytes : K → List ℕ) where
-  -- the pairs after a command that was done: a pair is put in at the place of its key, where no other stands then;
-  -- the pairs with a key are taken out
+  -- the pairs after a command that was done: a pair is put in at the place of its key, where no other stands then; or
+  -- in the place of all whose keys overlap its key; the pairs with a key are taken out
   abbrev pub done : Command K V → List (K × V) → List (K × V)
   done (Insert k v) pairs = with_pair bytes k v pairs
+  done (PrefixInsert k v) pairs = with_pair_over bytes k v pairs
   done (Delete k) pairs = without_key (key_of bytes) (bytes k) pairs
 
   -- the pairs after a command with this answer: it counts if it was done
@@ -28,15 +29,18 @@ module _ {K V : Type 0} (bytes : K → List ℕ) where
   pairs_after (command ∷ commands) [] pairs = pairs
   pairs_after (command ∷ commands) (answer ∷ answers) pairs = pairs_after commands answers (after command answer pairs)
 
-  -- What a command answers on these pairs: how many had its key, and were replaced or removed. An insertion is
-  -- answered `Prefix` exactly where a pair blocks its key: for want of memory it is refused only where none does. A
-  -- deletion is refused so only where it makes a node smaller.
+  -- What a command answers on these pairs: how many had its key, and were replaced or removed; of a prefix insertion
+  -- how many had keys that overlap its key. An insertion is answered `Prefix` exactly where a pair blocks its key: for
+  -- want of memory it is refused only where none does. A deletion is refused so only where it makes a node smaller.
   abbrev pub IsAnswered : List (K × V) → Command K V → Answer → Type 0
   IsAnswered pairs (Insert k v) (Done n) =
       (n ≡ length (with_key (key_of bytes) (bytes k) pairs))
       × (IsBlocked (key_of bytes) (bytes k) pairs → ⊥)
   IsAnswered pairs (Insert k v) Prefix = IsBlocked (key_of bytes) (bytes k) pairs
   IsAnswered pairs (Insert k v) Memory = IsBlocked (key_of bytes) (bytes k) pairs → ⊥
+  IsAnswered pairs (PrefixInsert k v) (Done n) = n ≡ length (overlapping (key_of bytes) (bytes k) pairs)
+  IsAnswered pairs (PrefixInsert k v) Prefix = ⊥
+  IsAnswered pairs (PrefixInsert k v) Memory = Unit {0}
   IsAnswered pairs (Delete k) (Done n) = n ≡ length (with_key (key_of bytes) (bytes k) pairs)
   IsAnswered pairs (Delete k) Prefix = ⊥
   IsAnswered pairs (Delete k) Memory = HasKey (key_of bytes) (bytes k) pairs × Shrinks (key_of bytes) pairs (bytes k)

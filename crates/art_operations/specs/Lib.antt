@@ -6,6 +6,7 @@ pub mod DeletePoints
 pub mod Insertions
 pub mod Deletions
 pub mod KeyedLists
+pub mod Overwrites
 pub mod Pairs
 pub mod Commands
 pub mod Runs

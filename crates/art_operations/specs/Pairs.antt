@@ -10,12 +10,15 @@ use Rattle.art_arena.specs.tree.Shrinks.{Shrinks}
 use Rattle.art_arena.specs.declared.ends.End.{End}
 use Rattle.art_arena.specs.declared.ends.End.TheVariants.{First, Last}
 use Rattle.art_arena.specs.arena.Shapes.{Shape, leaves, pairs_of, key_of}
-use Rattle.art_operations.specs.KeyedLists.{IsBlocked, with_key, without_key}
+use Rattle.art_operations.specs.KeyedLists.{IsBlocked, with_key, without_key, overlapping, without_overlapping}
+use Rattle.art_operations.specs.Overwrites.{AreRemoved, IsPrefixPoint, root_at}
 use Rattle.art_operations.specs.Points.{IsPoint}
-use Rattle.art_arena.specs.arena.Stores.{StoresBeside}
+use Rattle.art_arena.specs.arena.Stores.{StoresBeside, StoresOnly}
 use Rattle.art_operations.specs.declared.delete.result.DeleteResult.{DeleteResult}
 use Rattle.art_operations.specs.declared.insert.point.InsertPoint.{InsertPoint}
 use Rattle.art_operations.specs.declared.insert.result.InsertResult.{InsertResult}
+use Rattle.art_operations.specs.declared.prefix_insert.point.PrefixInsertPoint.{PrefixInsertPoint}
+use Rattle.art_operations.specs.declared.prefix_insert.result.PrefixInsertResult.{PrefixInsertResult}
 
 -- the pair of a leaf, if there is one
 abbrev pub pair_in : {K V : Type 0} → Option (LeafNode K V) → List (K × V)
@@ -36,6 +39,10 @@ module _ {K V : Type 0} (bytes : K → List ℕ) where
   -- the pairs with this one at the place of its key, where no other stands then
   abbrev pub with_pair : K → V → List (K × V) → List (K × V)
   with_pair k v pairs = put (key_of bytes) (k, v) (without_key (key_of bytes) (bytes k) pairs)
+
+  -- the pairs with this one at the place of its key, where no other stands then whose key overlaps its key
+  abbrev pub with_pair_over : K → V → List (K × V) → List (K × V)
+  with_pair_over k v pairs = put (key_of bytes) (k, v) (without_overlapping (key_of bytes) (bytes k) pairs)
 
 module _ {K V : Type 0} (bytes : K → List ℕ) (P : ℕ) (arena : Arena K V) (rest : List (Name × Cell K V)) where
   -- Beside these nodes the arena holds nothing but the tree of these pairs, and its leaves are linked in order. Where
@@ -101,3 +108,23 @@ module _ {K V : Type 0} (bytes : K → List ℕ) (P : ℕ) (arena : Arena K V) w
   HasTakenEnd root end pairs (Some deleted) =
       (rest : List (K × V)) × IsAtEnd end (deleted.deleted_leaf.key, deleted.deleted_leaf.value) rest pairs
       × HasPairs deleted.new_root rest
+
+  -- it has these pairs, and this is where the key goes in their tree, whichever keys it is in conflict with
+  pub record HasPrefixPoint (point : PrefixInsertPoint) (key : List ℕ) (pairs : List (K × V)) : Type 0 where
+    pub shape : Shape K V
+    pub is_tree : StoresOnly bytes P arena (root_at point) shape
+    pub place : IsPrefixPoint bytes key shape point
+    pub pairs_are : pairs_of (leaves shape) ≡ pairs
+
+  -- so it has, or there is no pair
+  abbrev pub CanPutOver : Option PrefixInsertPoint → List ℕ → List (K × V) → Type 0
+  CanPutOver None key pairs = HasPairs None pairs
+  CanPutOver (Some point) key pairs = HasPrefixPoint point key pairs
+
+  -- it has the pairs with this one, in the leaf that is answered, in the place of those whose keys overlap its key, and
+  -- these are told
+  pub record HasPutOver (pairs : List (K × V)) (key : K) (value : V) (result : PrefixInsertResult K V) : Type 0 where
+    pub has : HasPairs (Some result.insert_result.new_root) (with_pair_over bytes key value pairs)
+    pub removed : AreRemoved (overlapping (key_of bytes) (bytes key) pairs)
+        result.insert_result.existing_leaf result.leafs_removed
+    pub leaf : node_at arena (leaf_name result.insert_result.leaf_node_ptr) ≡ Some (pair key value)

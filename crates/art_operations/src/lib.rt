@@ -11,6 +11,7 @@ pub mod meeting;
 pub mod minmax;
 pub mod pairs;
 mod parent;
+pub mod prefix_insert;
 pub mod running;
 
 pub use deallocate::{deallocate_leaves, deallocate_tree, deallocate_tree_non_leaves};
@@ -27,5 +28,7 @@ pub use lookup::{
     PrefixMatchBehavior, prefix_search_unchecked, prefix_search_with, search_unchecked, search_with,
 };
 pub use minmax::{maximum_unchecked, minimum_unchecked};
-pub use pairs::{find_place, put_pair, take_end, take_pair};
+pub use pairs::{find_place, find_place_over, put_over, put_pair, take_end, take_pair};
+pub use prefix_insert::point::{OverwritePoint, PrefixInsertPoint, search_for_prefix_insert_point};
+pub use prefix_insert::result::PrefixInsertResult;
 pub use running::{Answer, Command, RunResult, run};

@@ -12,6 +12,7 @@ ghost use Rattle.art_operations.specs.DeletePoints.{IsLeafPlace};
 ghost use Rattle.art_operations.specs.KeyedLists.{HasKey};
 ghost use Rattle.art_operations.specs.Pairs.{CanPutBeside, HasPairs, HasPairsBeside, HasPutBeside, HasTakenBeside};
 ghost use Rattle.art_operations.specs.Pairs.{HasTakenEnd, IsPlacedBeside, ShrinksAtEnd};
+ghost use Rattle.art_operations.specs.Pairs.{CanPutOver, HasPutOver};
 
 use crate::delete::point::{
     DeletePoint, find_maximum_to_delete, find_minimum_to_delete, search_for_delete_point,
@@ -20,6 +21,8 @@ use crate::delete::result::DeleteResult;
 use crate::insert::leaf::store_leaf;
 use crate::insert::point::{InsertPoint, PrefixConflict, find_insert_point};
 use crate::insert::result::{InsertParentNodeChange, InsertRefused, InsertResult};
+use crate::prefix_insert::point::{PrefixInsertPoint, search_for_prefix_insert_point};
+use crate::prefix_insert::result::PrefixInsertResult;
 use art_arena::{End, NodeArena};
 use art_bytes::AsBytes;
 use art_nodes::OpaqueNodePtr;
@@ -99,6 +102,53 @@ pub fn put_pair<K: AsBytes, V, const PREFIX_LEN: usize>(
     match place {
         Some(point) => point.apply(arena, key, value),
         None => put_first(arena, key, value),
+    }
+}
+
+/// Finds where a key goes that takes the place of all whose keys overlap it: those that are its bytes, a front of them,
+/// or begin with them. It is nowhere where there is no pair yet. It is never refused, and takes no memory.
+pub fn find_place_over<K: AsBytes, V, const PREFIX_LEN: usize>(
+    arena: &NodeArena<K, V, PREFIX_LEN>,
+    root: Option<OpaqueNodePtr>,
+    key: &[u8],
+) -> Option<PrefixInsertPoint>
+    requires { (pairs : List (K × V)) × HasPairs K.bytes PREFIX_LEN arena.now root pairs }
+    ensures { (pairs : List (K × V)) → HasPairs K.bytes PREFIX_LEN arena.now root pairs
+        → CanPutOver K.bytes PREFIX_LEN arena.now result key.now pairs }
+{
+    match root {
+        Some(top) => Some(search_for_prefix_insert_point(arena, top, key)),
+        None => None,
+    }
+}
+
+/// Puts a key and its value in at the place that was found for the key by `find_place_over`: the pairs whose keys
+/// overlap it go, and their number is `pairs_removed` of the answer. Where a pair has the key already, this one takes
+/// its leaf: that is never refused. Where there is no memory, the key and the value are handed back, and nothing
+/// changed.
+pub fn put_over<K: AsBytes + Drop, V: Drop, const PREFIX_LEN: usize>(
+    arena: &mut NodeArena<K, V, PREFIX_LEN>,
+    place: Option<PrefixInsertPoint>,
+    key: K,
+    value: V,
+) -> Result<PrefixInsertResult<K, V>, InsertRefused<K, V>>
+    requires { (pairs : List (K × V)) × CanPutOver K.bytes PREFIX_LEN arena.old place (K.bytes key) pairs }
+    ensures ok { IfOk result (λ put. (pairs : List (K × V))
+        → CanPutOver K.bytes PREFIX_LEN arena.old place (K.bytes key) pairs
+        → HasPutOver K.bytes PREFIX_LEN arena.new pairs key value put) }
+    ensures stored { (pairs : List (K × V)) → CanPutOver K.bytes PREFIX_LEN arena.old place (K.bytes key) pairs
+        → HasKey (key_of K.bytes) (K.bytes key) pairs → IsOk result }
+    ensures err { OnErr result (SameNodes arena.old arena.new) }
+    ensures handed_back { IfErr result (λ refused. (refused.key ≡ key) × (refused.value ≡ value)) }
+    ensures succeeds { HasRoom arena.old 2 → IsOk result }
+    ensures room { UsesRoom 2 arena.old arena.new }
+{
+    match place {
+        Some(over) => over.apply(arena, key, value),
+        None => Ok(PrefixInsertResult {
+            insert_result: put_first(arena, key, value)?,
+            leafs_removed: 0,
+        }),
     }
 }
 

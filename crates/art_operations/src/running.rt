@@ -1,14 +1,16 @@
 //! Lists of commands on a tree, from no pair on.
-ghost use Rattle.std.specs.Prelude.{◌≡◌, List, [], IfOk};
+ghost use Rattle.std.specs.Prelude.{◌≡◌, List, [], Some, IfOk};
 ghost use Rattle.art_arena.specs.arena.Shapes.{key_of};
 ghost use Rattle.art_operations.specs.Commands.{AreAnswered, pairs_after};
 ghost use Rattle.art_operations.specs.KeyedLists.{IsBlocked};
+ghost use Rattle.art_operations.specs.Overwrites.{removed_by};
 ghost use Rattle.art_operations.specs.Pairs.{CanPut, HasPairs};
 ghost use Rattle.art_operations.specs.Runs.{HoldsClonesOf};
 ghost use Rattle.art_operations.specs.inner.Runs.{HasClones, IsCarriedOut, IsDone};
 
 use crate::insert::point::InsertPoint;
-use crate::pairs::{find_place, put_pair, take_pair};
+use crate::pairs::{find_place, find_place_over, put_over, put_pair, take_pair};
+use crate::prefix_insert::result::PrefixInsertResult;
 use art_arena::NodeArena;
 use art_bytes::AsBytes;
 use art_nodes::OpaqueNodePtr;
@@ -19,6 +21,8 @@ use std::alloc::{AllocError, Global};
 pub enum Command<K, V> {
     /// Stores a value under a key, in the place of the pair with that key if there is one.
     Insert(K, V),
+    /// Stores a value under a key, in the place of all pairs whose keys are the same, a front of it, or begin with it.
+    PrefixInsert(K, V),
     /// Removes the pair with a key.
     Delete(K),
 }
@@ -125,6 +129,65 @@ fn insert<K: AsBytes + Clone, V: Clone, const PREFIX_LEN: usize>(
     }
 }
 
+// What a prefix insertion that was done leaves and answers.
+fn change_of<K, V>(put: &PrefixInsertResult<K, V>) -> Change
+    ensures { result ≡ record {
+      root = Some put.now.insert_result.new_root;
+      answer = Answer.Done (removed_by put.now);
+    } }
+{
+    Change {
+        root: Some(put.insert_result.new_root),
+        answer: Answer::Done(put.pairs_removed()),
+    }
+}
+
+// Stores a pair in the place of those whose keys overlap its key.
+fn overwrite<K: AsBytes + Drop, V: Drop, const PREFIX_LEN: usize>(
+    arena: &mut NodeArena<K, V, PREFIX_LEN>,
+    root: Option<OpaqueNodePtr>,
+    key: K,
+    value: V,
+) -> Change
+    requires { (pairs : List (K × V)) × HasPairs K.bytes PREFIX_LEN arena.old root pairs }
+    ensures { (pairs : List (K × V)) → HasPairs K.bytes PREFIX_LEN arena.old root pairs
+        → IsDone K.bytes PREFIX_LEN arena.new pairs (Command.PrefixInsert key value) result }
+{
+    // By value an option of a name counts as moved, so a copy goes in.
+    let before = root;
+    let place = find_place_over(arena, before, key.as_bytes());
+    match put_over(arena, place, key, value) {
+        Ok(put) => change_of(&put),
+        Err(_) => Change {
+            root,
+            answer: Answer::Memory,
+        },
+    }
+}
+
+// Stores clones of a pair in the place of those whose keys overlap its key.
+fn prefix_insert<K: AsBytes + Clone, V: Clone, const PREFIX_LEN: usize>(
+    arena: &mut NodeArena<K, V, PREFIX_LEN>,
+    root: Option<OpaqueNodePtr>,
+    key: &K,
+    value: &V,
+) -> Change
+    requires keys { (k c : K) → K.is_clone k c → K.bytes c ≡ K.bytes k }
+    requires pairs { (pairs : List (K × V))
+        × HasClones K.bytes PREFIX_LEN arena.old K.is_clone V.is_clone root pairs }
+    ensures { (pairs : List (K × V)) → HasClones K.bytes PREFIX_LEN arena.old K.is_clone V.is_clone root pairs
+        → IsCarriedOut K.bytes PREFIX_LEN arena.new K.is_clone V.is_clone pairs
+        (Command.PrefixInsert key.now value.now) result }
+{
+    match cloned(key, value) {
+        Ok((key, value)) => overwrite(arena, root, key, value),
+        Err(_) => Change {
+            root,
+            answer: Answer::Memory,
+        },
+    }
+}
+
 // Removes the pair with a key.
 fn delete<K: AsBytes + Drop, V: Drop, const PREFIX_LEN: usize>(
     arena: &mut NodeArena<K, V, PREFIX_LEN>,
@@ -167,6 +230,7 @@ fn carry_out<K: AsBytes + Clone, V: Clone, const PREFIX_LEN: usize>(
 {
     match command {
         Command::Insert(key, value) => insert(arena, root, key, value),
+        Command::PrefixInsert(key, value) => prefix_insert(arena, root, key, value),
         Command::Delete(key) => delete(arena, root, key),
     }
 }
@@ -174,8 +238,8 @@ fn carry_out<K: AsBytes + Clone, V: Clone, const PREFIX_LEN: usize>(
 /// Carries out the commands one after the other, from no pair on, and answers each in turn. An insertion is answered
 /// `Prefix` exactly where its key is in conflict with a stored one, which takes no memory. A command whose key or value
 /// can't be cloned, or for whose nodes there is no memory, is refused and changes nothing; where the key is stored
-/// already, an insertion needs clones alone. The run itself is refused only where there is no memory for the answers,
-/// before the first command.
+/// already, an insertion of either kind needs clones alone. The run itself is refused only where there is no memory for
+/// the answers, before the first command.
 pub fn run<K: AsBytes + Clone, V: Clone, const PREFIX_LEN: usize>(
     alloc: Global,
     commands: &[Command<K, V>],

@@ -319,3 +319,45 @@ fn answers_each_command(rt: HostRuntime) -> Result<(), AllocError> {
     assert!(rt; leaves_anyway(alloc, commands.as_slice(), &[], &[])?);
     Ok(())
 }
+
+#[test]
+fn puts_keys_in_over_others(rt: HostRuntime) -> Result<(), AllocError> {
+    let alloc = rt.alloc();
+    let mut commands = Vec::new(alloc);
+    commands.push(Command::PrefixInsert(Vec::from_slice(alloc, &[1, 2, 3])?, 1u8))?;
+    commands.push(Command::PrefixInsert(Vec::from_slice(alloc, &[2, 3, 4, 5])?, 2))?;
+    commands.push(Command::PrefixInsert(Vec::from_slice(alloc, &[2, 3, 4, 6])?, 3))?;
+    commands.push(Command::PrefixInsert(Vec::from_slice(alloc, &[2, 3, 4])?, 4))?;
+    commands.push(Command::PrefixInsert(Vec::from_slice(alloc, &[1, 2])?, 5))?;
+    commands.push(Command::PrefixInsert(Vec::from_slice(alloc, &[1, 2])?, 6))?;
+    let wanted = [
+        Answer::Done(0),
+        Answer::Done(0),
+        Answer::Done(0),
+        Answer::Done(2),
+        Answer::Done(1),
+        Answer::Done(1),
+    ];
+    assert!(rt; answers(alloc, commands.as_slice(), wanted.as_slice())?);
+    let mut stored = Vec::new(alloc);
+    stored.push(Vec::from_slice(alloc, &[1, 2])?)?;
+    stored.push(Vec::from_slice(alloc, &[2, 3, 4])?)?;
+    let mut missing = Vec::new(alloc);
+    missing.push(Vec::from_slice(alloc, &[1, 2, 3])?)?;
+    missing.push(Vec::from_slice(alloc, &[2, 3, 4, 5])?)?;
+    missing.push(Vec::from_slice(alloc, &[2, 3, 4, 6])?)?;
+    assert!(rt;
+        leaves_anyway(
+            alloc,
+            commands.as_slice(),
+            stored.as_slice(),
+            missing.as_slice()
+        )?
+    );
+    // What gave way is freed.
+    assert_eq!(rt; nodes_left(alloc, commands.as_slice())?, [1, 0, 0, 0, 2]);
+    // All give way to the empty key.
+    commands.push(Command::PrefixInsert(Vec::new(alloc), 7))?;
+    assert_eq!(rt; nodes_left(alloc, commands.as_slice())?, [0, 0, 0, 0, 1]);
+    Ok(())
+}

@@ -19,7 +19,7 @@ use std::alloc::{AllocError, Global};
 use std::test::Fail;
 
 // Ends a window.
-fn came(rt: &HostRuntime, is_ok: bool) -> Result<(), Fail> {
+pub(crate) fn came(rt: &HostRuntime, is_ok: bool) -> Result<(), Fail> {
     eprintln!(rt; "{}", if is_ok { "ok" } else { "refused" })?;
     Ok(())
 }
@@ -134,7 +134,7 @@ fn put_in<K: AsBytes + Drop, V: Drop>(
 }
 
 // The key and the value that were handed back.
-fn handed_back<K, V>(refused: InsertRefused<K, V>) -> (K, V)
+pub(crate) fn handed_back<K, V>(refused: InsertRefused<K, V>) -> (K, V)
     ensures { (result.0 ≡ refused.key) × (result.1 ≡ refused.value) }
 {
     let InsertRefused { key, value } = refused;

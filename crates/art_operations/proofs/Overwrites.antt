@@ -1,0 +1,201 @@
+-- A leaf in the place of a part of a tree, step by step: it is stored, linked, pointed at, and the part is freed.
+use Rattle.std.proofs.Common.{◌≡◌, ℕ, ◌≤◌, true, cond, List, [], ◌∷◌, ◌++◌, Option, Some, None, is_some, refl, sym, ap, ap₂, subst, ◌∙◌, arith, append_assoc}
+use Rattle.art_nodes.specs.Name.{Name}
+use Rattle.art_nodes.specs.declared.kind.NodeType.TheVariants.{Leaf}
+use Rattle.art_nodes.specs.declared.leaf.LeafNode.{LeafNode}
+use Rattle.art_arena.specs.arena.Arena.{Arena, cell_of, links_of, held_at, node_at, links_at, Allocates, SameCells}
+use Rattle.art_arena.specs.arena.Cells.{Cell, pair, leaf_name, copies, AreHeld, Holds, UpdatesAt}
+use Rattle.art_arena.specs.arena.Context.{Frame, plug, path_to, root_of, leaves_before, leaves_after, cells_before, cells_after}
+use Rattle.art_arena.specs.arena.Linked.{Links, AreLinked, IsBeside, times}
+use Rattle.art_arena.specs.arena.Meaning.{IsNodes, IsSubtree, IsTree}
+use Rattle.art_arena.specs.arena.Places.{IsPlace}
+use Rattle.art_arena.specs.arena.Shapes.{Shape, leaf_at, inner_at, LeafAt, name_of, leaves, pairs_of, cells, width, IsUnder}
+use Rattle.art_arena.specs.arena.Steps.{Step}
+use Rattle.art_arena.proofs.tree.Order.{all_weaker}
+use Rattle.art_arena.proofs.shapes.CellLists.{copies-append, Holds-add, Holds-remove, Holds-same}
+use Rattle.art_arena.proofs.shapes.Contexts.{cells-plug, leaves-plug, name_of-plug, IsUnder-plug}
+use Rattle.art_arena.proofs.shapes.LinkedLists.{eqb-self}
+use Rattle.art_arena.proofs.shapes.Meanings.{nodes-part}
+use Rattle.art_arena.proofs.shapes.Places.{held-below}
+use Rattle.art_arena.proofs.shapes.Repoint.{IsNodes-plug}
+use Rattle.art_arena.proofs.shapes.Surroundings.{new-beside, times-leaves}
+use Rattle.art_arena.proofs.shapes.Updates.{nodes-update, links-update}
+use Rattle.art_operations.specs.Frees.{HoldsBeside, KeepsAllBut}
+use Rattle.art_operations.specs.Insertions.{IsInserted, IsPutOrReplaced}
+use Rattle.art_operations.specs.KeyedLists.{overlaps}
+use Rattle.art_operations.specs.Overwrites.{AreRemoved, IsOverwritten}
+use Rattle.art_operations.specs.Points.{IsInTheWay}
+use Rattle.art_operations.specs.inner.Edits.{StandsAround, lone_leaf}
+use Rattle.art_operations.specs.declared.insert.result.InsertResult.{InsertResult}
+use Rattle.art_operations.specs.declared.insert.result.InsertParentNodeChange.TheVariants.{NoChange}
+use Rattle.art_arena.proofs.shapes.CellLists.{Holds-turn}
+use Rattle.art_operations.proofs.Lengthened.{kind_not_leaf}
+use Rattle.art_operations.proofs.Overlaps.{overlaps_same, overlaps_conflict}
+
+-- the name of a leaf, from its kind and its slot
+pub leaf_named : (n : Name) (slot : ℕ) → n.kind ≡ Leaf → slot ≡ n.slot → n ≡ leaf_name slot
+leaf_named n slot kind same = ap₂ (λ k m. record { kind = k; slot = m }) kind (sym same)
+
+module _ {K V : Type 0} where
+  -- links that answer alike of the leaves of a list link it alike
+  pub AreLinked-kept : (old new : ℕ → Option Links) (before : Option ℕ) (xs : List (LeafAt K V)) (after : Option ℕ) → ((n : ℕ) → 1 ≤ times n xs → new n ≡ old n) → AreLinked old before xs after → AreLinked new before xs after
+  AreLinked-kept old new before [] after same linked = tt
+  AreLinked-kept old new before (x ∷ xs) after same linked = (
+    same x.slot (omega (arith, ap {B = ℕ} (λ b. cond b 1 0) (eqb-self x.slot))) ∙ linked.0,
+    AreLinked-kept old new (Some x.slot) xs after (λ n here. same n (omega (arith, here))) linked.1,
+  )
+
+module _ {K V : Type 0} (bytes : K → List ℕ) (P : ℕ) where
+  -- a leaf is taken out from beside other nodes
+  pub freed_leaf : (old new : Arena K V) (part : Name) (slot : ℕ) (path : List ℕ) (s : Shape K V) (rest : List (Name × Cell K V)) → IsUnder bytes path s → HoldsBeside P old part s rest → part ≡ leaf_name slot
+      → UpdatesAt (held_at old) (held_at new) (leaf_name slot) None → Holds (node_at new) rest
+  freed_leaf old new part slot path (leaf_at l k v) rest under holds is update =
+      let same : leaf_name l ≡ leaf_name slot = holds.named ∙ is in
+      Holds-remove (node_at old) (node_at new) (leaf_name l) (pair k v) [] rest
+      (subst (λ n. UpdatesAt (node_at old) (node_at new) n None) (sym same) (nodes-update old new (leaf_name slot) None update)) holds.holds
+  freed_leaf old new part slot path (inner_at n prefix kids) rest under holds is update =
+      absurd (kind_not_leaf n (width kids) under.0 (ap (λ (m : Name). m.kind) (holds.named ∙ is)))
+
+  -- what stands at a place of a tree is a tree of its own
+  pub place-subtree : (at : Name → Option (Cell K V)) (root : Name) (s : Shape K V) (ctx : List (Frame K V)) (part : Shape K V) → IsNodes bytes P at root s → IsPlace bytes s ctx part → IsSubtree bytes P at (name_of part) (path_to ctx) part
+  place-subtree at root s ctx part nodes place = record {
+    part = record {
+      named = refl;
+      held = held-below P at ctx part (subst (λ w. AreHeld at (cells P w)) place.is nodes.holds.held);
+      once = λ n.
+          let whole = (nodes-part bytes P at root s nodes).once n in
+          let counted = ap (copies n) (ap (cells P) place.is ∙ cells-plug P ctx part) ∙ copies-append n (cells_before P ctx (name_of part)) (cells P part ++ cells_after P ctx) in
+          omega (arith, whole, counted, copies-append n (cells P part) (cells_after P ctx));
+    };
+    under = place.under;
+  }
+
+  module _ (start : Arena K V) (root : Name) (s : Shape K V) (tree : IsTree bytes P (node_at start) root (links_at start) s) (key : K) (value : V) (name : Name) (last : List Step) (way : IsInTheWay bytes (bytes key) s root name last) where
+    pub part_stands : IsSubtree bytes P (node_at start) name (path_to way.ctx) way.part
+    part_stands = subst (λ n. IsSubtree bytes P (node_at start) n (path_to way.ctx) way.part) way.here (place-subtree (node_at start) root s way.ctx way.part tree.nodes way.toward.place)
+
+    leaves_are : leaves s ≡ leaves_before way.ctx ++ (leaves way.part ++ leaves_after way.ctx)
+    leaves_are = ap leaves way.toward.place.is ∙ leaves-plug way.ctx way.part
+
+    root_named : root_of way.ctx name ≡ root
+    root_named = ap (root_of way.ctx) (sym way.here) ∙ sym (name_of-plug way.ctx way.part) ∙ sym (ap name_of way.toward.place.is) ∙ tree.nodes.named
+
+    module _ (leaf : ℕ) where
+      -- the cells behind those of the part
+      abbrev behind : List (Name × Cell K V)
+      behind = (leaf_name leaf, pair key value) ∷ cells_after P way.ctx
+
+      -- the cells around the new leaf, its own among them
+      abbrev pub around : List (Name × Cell K V)
+      around = cells_before P way.ctx (leaf_name leaf) ++ behind
+
+      abbrev new_leaf : LeafAt K V
+      new_leaf = record { slot = leaf; key = key; value = value }
+
+      module _ (made : Arena K V) (stored : Allocates start made (leaf_name leaf) (lone_leaf key value)) where
+        holds_made : Holds (node_at made) (cells_before P way.ctx name ++ (cells P way.part ++ behind))
+        holds_made =
+            let before = cells_before P way.ctx name in
+            let cells_are : cells P s ≡ before ++ (cells P way.part ++ cells_after P way.ctx) =
+            ap (cells P) way.toward.place.is ∙ cells-plug P way.ctx way.part ∙ ap (λ n. cells_before P way.ctx n ++ (cells P way.part ++ cells_after P way.ctx)) way.here in
+            let was : Holds (node_at start) ((before ++ cells P way.part) ++ cells_after P way.ctx) = subst (Holds (node_at start)) (cells_are ∙ sym (append_assoc before (cells P way.part) (cells_after P way.ctx))) tree.nodes.holds in
+            subst (Holds (node_at made)) (append_assoc before (cells P way.part) behind)
+            (Holds-add (node_at start) (node_at made) (leaf_name leaf) (pair key value) (before ++ cells P way.part) (cells_after P way.ctx)
+            (nodes-update start made (leaf_name leaf) (Some (lone_leaf key value)) stored.updates) (ap cell_of stored.vacant) was)
+
+        -- the leaf stands beside the list of leaves
+        pub stands_beside : IsBeside (links_at made) (leaves_before way.ctx ++ (leaves way.part ++ leaves_after way.ctx)) leaf
+        stands_beside =
+            subst (λ ls. IsBeside (links_at made) ls leaf) leaves_are
+            (new-beside bytes P (node_at start) root (links_at start) (links_at made) s leaf _ tree (ap cell_of stored.vacant) (links-update start made leaf (Some (lone_leaf key value)) stored.updates))
+
+        -- the part can be left
+        pub part_left : (linked : Arena K V) → SameCells made linked → StandsAround bytes P (node_at linked) root way.ctx name (cells P way.part ++ behind) last
+        part_left linked same = record {
+          around = way.toward.place.around;
+          holds = Holds-same (node_at made) (node_at linked) same (cells_before P way.ctx name ++ (cells P way.part ++ behind)) holds_made;
+          steps = way.toward.steps;
+          named = root_named;
+        }
+
+      module _ (moved : Arena K V) (there : Holds (node_at moved) (cells_before P way.ctx (leaf_name leaf) ++ (cells P way.part ++ behind))) where
+        -- the part stands beside the tree with the new leaf
+        pub part_apart : HoldsBeside P moved name way.part around
+        part_apart = record { named = way.here; holds = Holds-turn (node_at moved) [] (cells_before P way.ctx (leaf_name leaf)) (cells P way.part) behind there }
+
+        under : IsUnder bytes [] (plug way.ctx (leaf_at leaf key value))
+        under = IsUnder-plug bytes way.ctx (leaf_at leaf key value) way.toward.place.around way.toward.begins
+
+        -- the leaves of the tree keep their links when the part is freed
+        links_stay : (new : Arena K V) → KeepsAllBut (cells P way.part) moved new → (n : ℕ) → 1 ≤ times n (leaves_before way.ctx ++ new_leaf ∷ leaves_after way.ctx) → links_at new n ≡ links_at moved n
+        links_stay new kept n among =
+            let all = leaves-plug way.ctx (leaf_at leaf key value) in
+            let held = cells-plug P way.ctx (leaf_at leaf key value) in
+            let counted = sym (ap (times n) all) ∙ times-leaves bytes P n [] (plug way.ctx (leaf_at leaf key value)) under ∙ ap (copies (leaf_name n)) held in
+            let once = at_most (node_at moved (leaf_name n)) _ (part_apart.holds.once (leaf_name n)) in
+            ap links_of (kept (leaf_name n) (omega (arith, among, counted, once, copies-append (leaf_name n) (cells P way.part) around)))
+          where
+            at_most : (o : Option (Cell K V)) (m : ℕ) → m ≡ cond (is_some o) 1 0 → m ≤ 1
+            at_most None m e = omega arith
+            at_most (Some c) m e = omega arith
+
+        pub overwritten : (linked new : Arena K V) (new_root : Name) (was : Option (LeafNode K V)) (count : ℕ) → root_of way.ctx (leaf_name leaf) ≡ new_root
+            → AreLinked (links_at linked) None (leaves_before way.ctx ++ new_leaf ∷ leaves_after way.ctx) None → ((n : ℕ) → links_at moved n ≡ links_at linked n)
+            → Holds (node_at new) around → KeepsAllBut (cells P way.part) moved new → AreRemoved (pairs_of (leaves way.part)) was count
+            → IsOverwritten bytes P new s last key value
+            (record { insert_result = record { leaf_node_ptr = leaf; existing_leaf = was; new_root = new_root; parent_node_change = NoChange }; leafs_removed = count })
+        overwritten linked new new_root was count named in_order same holds kept removed = record {
+          shape = plug way.ctx (leaf_at leaf key value);
+          is_tree = record {
+            nodes = subst (λ r. IsNodes bytes P (node_at new) r (plug way.ctx (leaf_at leaf key value))) named
+                (IsNodes-plug bytes P (node_at new) way.ctx (leaf_at leaf key value) holds way.toward.place.around way.toward.begins);
+            linked = subst (λ ls. AreLinked (links_at new) None ls None) (sym (leaves-plug way.ctx (leaf_at leaf key value)))
+                (AreLinked-kept (links_at linked) (links_at new) None (leaves_before way.ctx ++ new_leaf ∷ leaves_after way.ctx) None (λ n among. links_stay new kept n among ∙ same n) in_order);
+          };
+          front = leaves_before way.ctx;
+          block = leaves way.part;
+          back = leaves_after way.ctx;
+          were = leaves_are;
+          are = leaves-plug way.ctx (leaf_at leaf key value);
+          overlap = all_weaker _ (λ (l : LeafAt K V). overlaps (bytes key) (bytes l.key) ≡ true) (λ l c. overlaps_conflict (bytes key) (bytes l.key) c) (leaves way.part) way.conflicts;
+          removed = removed;
+          place = record {
+            ctx = way.ctx;
+            key = key;
+            value = value;
+            place = record { is = refl; around = way.toward.place.around; under = way.toward.begins };
+            steps = way.toward.steps;
+          };
+        }
+
+  -- an insertion in which no part gives way
+  pub inserted : (new : Arena K V) (s : Shape K V) (last : List Step) (key : K) (value : V) (result : InsertResult K V) → IsInserted bytes P new s last key value result
+      → IsOverwritten bytes P new s last key value (record { insert_result = result; leafs_removed = 0 })
+  inserted new s last key value result is = stored result.existing_leaf is.stored
+    where
+      stored : (was : Option (LeafNode K V)) → IsPutOrReplaced bytes (record { slot = result.leaf_node_ptr; key = key; value = value }) was (leaves s) (leaves is.shape)
+          → IsOverwritten bytes P new s last key value (record { insert_result = record result { existing_leaf = was }; leafs_removed = 0 })
+      stored None (front, back, old_is, new_is) = record {
+        shape = is.shape;
+        is_tree = is.is_tree;
+        front = front;
+        block = [];
+        back = back;
+        were = old_is;
+        are = new_is;
+        overlap = tt;
+        removed = refl;
+        place = is.place;
+      }
+      stored (Some was) (same, (front, back, old_is, new_is), previous, next) = record {
+        shape = is.shape;
+        is_tree = is.is_tree;
+        front = front;
+        block = record { slot = result.leaf_node_ptr; key = was.key; value = was.value } ∷ [];
+        back = back;
+        were = old_is;
+        are = new_is;
+        overlap = (overlaps_same (bytes key) (bytes was.key) same, tt);
+        removed = (refl, refl, previous, next);
+        place = is.place;
+      }

@@ -1,0 +1,98 @@
+-- An arena that has pairs, before and after one took the place of those whose keys overlap its key.
+use Rattle.std.proofs.Common.{◌≡◌, ◌≢◌, ℕ, true, cond, List, [], ◌∷◌, ◌++◌, length, Option, Some, None, is_some, refl, sym, ap, subst, ◌∙◌}
+use Rattle.std.specs.List.{AllByRecursion}
+use Rattle.std.proofs.lemmas.List.{map-append}
+use Rattle.art_nodes.specs.Name.{Name}
+use Rattle.art_nodes.specs.declared.leaf.LeafNode.{LeafNode}
+use Rattle.art_arena.specs.tree.Changes.{IsIn}
+use Rattle.art_arena.specs.arena.Arena.{Arena, node_at, links_at}
+use Rattle.art_arena.specs.arena.Meaning.{IsSubtree, IsTree}
+use Rattle.art_arena.specs.arena.Shapes.{Shape, LeafAt, name_of, leaves, pairs_of, key_of}
+use Rattle.art_arena.specs.arena.Steps.{Step, steps_of}
+use Rattle.art_arena.proofs.shapes.Meanings.{nodes-subtree}
+use Rattle.art_arena.proofs.tree.Exists.{in_middle}
+use Rattle.art_arena.proofs.tree.Insert.{all_at}
+use Rattle.art_operations.specs.KeyedLists.{HasKey, overlaps, overlapping}
+use Rattle.art_operations.specs.Overwrites.{AreRemoved, IsExact, IsOverwritten, IsPrefixPoint, root_at, removed_by}
+use Rattle.art_operations.specs.Pairs.{HasPairs, HasPoint, HasPrefixPoint, HasPut, HasPutOver, pair_in}
+use Rattle.art_operations.specs.declared.insert.result.InsertResult.{InsertResult}
+use Rattle.art_operations.specs.declared.prefix_insert.point.PrefixInsertPoint.{PrefixInsertPoint}
+use Rattle.art_operations.specs.declared.prefix_insert.point.PrefixInsertPoint.TheVariants as at
+use Rattle.art_operations.specs.declared.prefix_insert.result.PrefixInsertResult.{PrefixInsertResult}
+use Rattle.art_operations.specs.declared.running.Answer.TheVariants.{Done}
+use Rattle.art_operations.specs.declared.running.Command.TheVariants.{PrefixInsert}
+use Rattle.art_operations.specs.inner.Runs.{IsDone}
+use Rattle.art_operations.proofs.HeldPairs.{stored-exact}
+use Rattle.art_operations.proofs.LeafPairs.{pair_of, pairs_ascend, in_unmap, held_leaf}
+use Rattle.art_operations.proofs.NotStored.{not-in-way}
+use Rattle.art_operations.proofs.Overlaps.{put_over}
+
+-- how many pairs are no more
+pub how_many : {K V : Type 0} (gone : List (K × V)) (result : PrefixInsertResult K V) → AreRemoved gone result.insert_result.existing_leaf result.leafs_removed → removed_by result ≡ length gone
+how_many {K = K} {V = V} gone result removed = number result.insert_result.existing_leaf removed
+  where
+    number : (was : Option (LeafNode K V)) → AreRemoved gone was result.leafs_removed → cond (is_some was) 1 result.leafs_removed ≡ length gone
+    number None e = e
+    number (Some was) e = sym (ap length e.1)
+
+module _ {K V : Type 0} (bytes : K → List ℕ) (P : ℕ) where
+  pair_overlap : (key : List ℕ) (ls : List (LeafAt K V)) → AllByRecursion (λ l. overlaps key (bytes l.key) ≡ true) ls → AllByRecursion (λ p. overlaps key (key_of bytes p) ≡ true) (pairs_of ls)
+  pair_overlap key [] h = tt
+  pair_overlap key (l ∷ ls) h = (h.0, pair_overlap key ls h.1)
+
+  -- a pair that took the place of others at a point
+  pub put-over-at : (old new : Arena K V) (point : PrefixInsertPoint) (key : K) (value : V) (pairs : List (K × V)) (has : HasPrefixPoint bytes P old point (bytes key) pairs) (last : List Step) (result : PrefixInsertResult K V)
+      → IsOverwritten bytes P new has.shape last key value result → HasPutOver bytes P new pairs key value result
+  put-over-at old new point key value pairs has last result is =
+      let leaf : LeafAt K V = record { slot = result.insert_result.leaf_node_ptr; key = key; value = value } in
+      let new_is : pairs_of (leaves is.shape) ≡ pairs_of is.front ++ (key, value) ∷ pairs_of is.back = ap pairs_of is.are ∙ map-append pair_of is.front (leaf ∷ is.back) in
+      let old_is : pairs ≡ pairs_of is.front ++ (pairs_of is.block ++ pairs_of is.back) =
+      sym has.pairs_are ∙ ap pairs_of is.were ∙ map-append pair_of is.front (is.block ++ is.back) ∙ ap (λ ps. pairs_of is.front ++ ps) (map-append pair_of is.block is.back) in
+      let h = rw new_is at (pairs_ascend bytes is.shape is.is_tree.nodes.under) in
+      let put = put_over (key_of bytes) (key, value) (pairs_of is.front) (pairs_of is.block) (pairs_of is.back) h (pair_overlap (bytes key) is.block is.overlap) in
+      let told = rw (sym old_is) at put in
+      record {
+        has = (is.shape, is.is_tree, new_is ∙ told.new_is);
+        removed = subst (λ gone. AreRemoved gone result.insert_result.existing_leaf result.leafs_removed) told.were is.removed;
+        leaf = held_leaf P (node_at new) is.shape leaf (subst (IsIn leaf) (sym is.are) (in_middle (λ (m : LeafAt K V). bytes m.key) is.front leaf is.back)) is.is_tree.nodes.holds.held;
+      }
+
+  -- the first pair takes the place of none
+  pub put-first-over : (new : Arena K V) (key : K) (value : V) (result : InsertResult K V) → HasPut bytes P new [] key value result → HasPutOver bytes P new [] key value (record { insert_result = result; leafs_removed = 0 })
+  put-first-over new key value result put = record { has = put.has; removed = none result.existing_leaf put.old; leaf = put.leaf }
+    where
+      none : (was : Option (LeafNode K V)) → pair_in was ≡ [] → AreRemoved {K = K} {V = V} [] was 0
+      none None e = refl
+      none (Some was) e = absurd (cc)
+
+  -- where a pair has the key, the point is its leaf
+  pub stored-over : (old : Arena K V) (point : PrefixInsertPoint) (key : List ℕ) (pairs : List (K × V)) → HasPrefixPoint bytes P old point key pairs → HasKey (key_of bytes) key pairs → IsExact point
+  stored-over old (at.InsertPoint point) key pairs has stored =
+      let here : HasPoint bytes P old point key pairs = record { shape = has.shape; is_tree = has.is_tree; place = has.place; pairs_are = has.pairs_are } in
+      stored-exact bytes P old point key pairs here stored
+  stored-over old (at.OverwritePoint point) key pairs has (x, i, same) =
+      let back = in_unmap pair_of (key_of bytes) x (leaves has.shape) (subst (IsIn x) (sym has.pairs_are) i) in
+      let others = not-in-way bytes key has.shape point.root point.overwrite_point (steps_of point.path) has.place in
+      absurd (all_at (λ (l : LeafAt K V). bytes l.key ≢ key) back.0 (leaves has.shape) others back.1 (ap (key_of bytes) back.2 ∙ same))
+
+  pub named-root : (key : List ℕ) (s : Shape K V) (point : PrefixInsertPoint) → IsPrefixPoint bytes key s point → name_of s ≡ root_at point
+  named-root key s (at.InsertPoint point) is = is.named
+  named-root key s (at.OverwritePoint point) is = is.named
+
+  -- the point that was found is one for this key
+  pub placed-over : (old : Arena K V) (root : Option Name) (top : Name) (key : List ℕ) (pairs : List (K × V)) (point : PrefixInsertPoint) → root ≡ Some top → HasPairs bytes P old root pairs
+      → ((s : Shape K V) → IsSubtree bytes P (node_at old) top [] s → IsPrefixPoint bytes key s point) → HasPrefixPoint bytes P old point key pairs
+  placed-over old root top key pairs point is has found =
+      let below : HasPairs bytes P old (Some top) pairs = subst (λ r. HasPairs bytes P old r pairs) is has in
+      let here = found below.0 (nodes-subtree bytes P (node_at old) top below.0 below.1.nodes) in
+      record {
+        shape = below.0;
+        is_tree = subst (λ n. IsTree bytes P (node_at old) n (links_at old) below.0) (sym below.1.nodes.named ∙ named-root key below.0 point here) below.1;
+        place = here;
+        pairs_are = below.2;
+      }
+
+  -- what an arena has after a prefix insertion
+  pub done-over : (arena : Arena K V) (pairs : List (K × V)) (key : K) (value : V) (put : PrefixInsertResult K V) (n : ℕ) → HasPutOver bytes P arena pairs key value put → n ≡ removed_by put
+      → IsDone bytes P arena pairs (PrefixInsert key value) (record { root = Some put.insert_result.new_root; answer = Done n })
+  done-over arena pairs key value put n has counted = (counted ∙ how_many (overlapping (key_of bytes) (bytes key) pairs) put has.removed, has.has)

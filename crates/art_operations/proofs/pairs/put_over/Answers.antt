@@ -1,0 +1,28 @@
+use Rattle.std.proofs.Common.{◌+◌, subst, arith}
+use Rattle.art_operations.specs.Overwrites.{steps_at}
+use Rattle.art_operations.specs.Pairs.{CanPutOver, HasPrefixPoint}
+use Rattle.art_operations.proofs.NewNodes.{fewer}
+use Rattle.art_operations.proofs.PutOver.{put-over-at, stored-over}
+use Rattle.art_operations.proofs.Results.{map_ok}
+use Rattle.art_operations.proofs.pairs.put_over.Goals as goal
+
+pub apply-requires : goal.apply-requires
+apply-requires g c =
+    let bytes = g.K.AsBytes.bytes in
+    let has : HasPrefixPoint bytes g.row.PREFIX_LEN c.args.arena.now c.in-Some.over (bytes c.args.key) c.requires.0 = subst (λ p. CanPutOver bytes g.row.PREFIX_LEN c.args.arena.now p (bytes c.args.key) c.requires.0) c.in-Some.is c.requires.1 in
+    (omega arith, (has.shape, has.is_tree, has.place))
+
+pub returns-in-Some-clause-ok : goal.returns-in-Some-clause-ok
+returns-in-Some-clause-ok g c = map_ok c.apply.result _ _ c.apply.ensures.ok (λ put done. λ pairs can.
+    let bytes = g.K.AsBytes.bytes in
+    let has : HasPrefixPoint bytes g.row.PREFIX_LEN c.args.arena.now c.in-Some.over (bytes c.args.key) pairs = subst (λ p. CanPutOver bytes g.row.PREFIX_LEN c.args.arena.now p (bytes c.args.key) pairs) c.in-Some.is can in
+    put-over-at bytes g.row.PREFIX_LEN c.args.arena.now c.apply.new.arena c.in-Some.over c.args.key c.args.value pairs has (steps_at c.in-Some.over) put (done has.shape has.is_tree has.place))
+
+pub returns-in-Some-clause-stored : goal.returns-in-Some-clause-stored
+returns-in-Some-clause-stored g c = λ pairs can stored.
+    let bytes = g.K.AsBytes.bytes in
+    let has : HasPrefixPoint bytes g.row.PREFIX_LEN c.args.arena.now c.in-Some.over (bytes c.args.key) pairs = subst (λ p. CanPutOver bytes g.row.PREFIX_LEN c.args.arena.now p (bytes c.args.key) pairs) c.in-Some.is can in
+    c.apply.ensures.exact (stored-over bytes g.row.PREFIX_LEN c.args.arena.now c.in-Some.over (bytes c.args.key) pairs has stored)
+
+pub returns-in_ok-put_first-in-None-clause-room : goal.returns-in_ok-put_first-in-None-clause-room
+returns-in_ok-put_first-in-None-clause-room g c = λ n room. c.put_first.ensures.room n (fewer c.args.arena.now (n + 1) (n + 2) (omega arith) room)

@@ -1,0 +1,54 @@
+//! The place of a new key that takes the place of those with which it is in conflict.
+ghost use Rattle.art_arena.specs.arena.Shapes.{Shape, leaves};
+ghost use Rattle.art_arena.specs.arena.Stores.{Stores};
+ghost use Rattle.art_operations.specs.Overwrites.{IsPrefixPoint, TellsConflict};
+
+use crate::insert::point::{InsertPoint, find_insert_point};
+use art_arena::{NodeArena, TreePath};
+use art_bytes::AsBytes;
+use art_nodes::OpaqueNodePtr;
+
+/// The part of a tree that gives way to a new leaf: those keys are below it that are in conflict with the new one, and
+/// no others.
+#[derive(Clone, Copy, Debug)]
+pub struct OverwritePoint {
+    /// The root of the tree.
+    pub root: OpaqueNodePtr,
+    /// The inner nodes just above the part.
+    pub path: TreePath,
+    /// The root of the part.
+    pub overwrite_point: OpaqueNodePtr,
+}
+
+/// Where a new key goes, whichever keys it is in conflict with.
+#[derive(Clone, Copy, Debug)]
+pub enum PrefixInsertPoint {
+    /// It is in conflict with no key: this is its place.
+    InsertPoint(InsertPoint),
+    /// It takes the place of a part.
+    OverwritePoint(OverwritePoint),
+}
+
+/// Finds where a new key goes in the tree below a name: an `InsertPoint`, of kind `Exact` where the key is stored, or
+/// an `OverwritePoint` where it is in conflict with a stored key. An empty key so overwrites the whole tree, unless it
+/// is stored. This is never refused, and takes no memory.
+pub fn search_for_prefix_insert_point<K: AsBytes, V, const PREFIX_LEN: usize>(
+    arena: &NodeArena<K, V, PREFIX_LEN>,
+    root: OpaqueNodePtr,
+    key: &[u8],
+) -> PrefixInsertPoint
+    requires { (s : Shape K V) × Stores K.bytes PREFIX_LEN arena.now root s }
+    ensures place { (s : Shape K V) → Stores K.bytes PREFIX_LEN arena.now root s
+        → IsPrefixPoint K.bytes key.now s result }
+    ensures conflict { (s : Shape K V) → Stores K.bytes PREFIX_LEN arena.now root s
+        → TellsConflict K.bytes key.now (leaves s) result }
+{
+    match find_insert_point(arena, root, key) {
+        Ok(point) => PrefixInsertPoint::InsertPoint(point),
+        Err(conflict) => PrefixInsertPoint::OverwritePoint(OverwritePoint {
+            root: conflict.root,
+            path: conflict.path,
+            overwrite_point: conflict.part,
+        }),
+    }
+}
