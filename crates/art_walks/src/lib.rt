@@ -9,6 +9,7 @@ mod malformed;
 mod raw_iterator;
 mod stats;
 
+pub use checker::WellFormedChecker;
 pub use malformed::MalformedTreeError;
 pub use raw_iterator::RawIterator;
 pub use stats::WellFormedTreeStats;

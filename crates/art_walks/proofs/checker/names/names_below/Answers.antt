@@ -8,6 +8,7 @@ use Rattle.art_walks.specs.declared.malformed.MalformedTreeError.TheVariants.{Wr
 use Rattle.art_walks.specs.Faults.{HasWrongCount, Stands}
 use Rattle.art_walks.specs.inner.Names.{has_name}
 use Rattle.art_walks.proofs.NameWalks.{seen-more, seen-first, nearer, walk-begin, walk-end, walk-dead, walk-loop, walk-miscounted, walk-leaf, walk-inner, walk-few, IsWalk}
+use Rattle.art_walks.proofs.Verdicts.{passed}
 use Rattle.art_walks.proofs.checker.names.names_below.Goals as goal
 
 negated : (b x : Bool) → x ≡ not b → x ≡ false → b ≡ true
@@ -17,10 +18,6 @@ negated false x e f = absurd (cc)
 unseen : (b x : Bool) → x ≡ not b → x ≡ true → b ≡ false
 unseen true x e f = absurd (cc)
 unseen false x e f = refl
-
-passed : {T : Type 0} (r : Result T MalformedTreeError) (e : MalformedTreeError) (Q : MalformedTreeError → Type 0) → IsErrAnd r (λ x. x ≡ e) → Q e → IfErr r Q
-passed (Ok x) e Q h q = absurd h
-passed (Err x) e Q h q = subst Q (sym h) q
 
 pub loop-name-init : goal.loop-name-init
 loop-name-init g c =
