@@ -7,6 +7,8 @@ mod broken;
 #[cfg(test)]
 mod calling;
 #[cfg(test)]
+mod checks;
+#[cfg(test)]
 mod stats;
 #[cfg(test)]
 mod walks;

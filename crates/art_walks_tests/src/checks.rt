@@ -1,0 +1,51 @@
+//! What a check answers of trees that insertions made.
+use art_bytes::CloneBytes;
+use art_operations::{Command, RunResult, run};
+use art_walks::{MalformedTreeError, WellFormedChecker, WellFormedTreeStats};
+use std::alloc::{AllocError, Global};
+
+// What a check tells after these commands.
+fn checked<K: CloneBytes, V: Clone, const PREFIX_LEN: usize>(
+    alloc: Global,
+    ran: &RunResult<K, V, PREFIX_LEN>,
+    len: usize,
+) -> Result<WellFormedTreeStats, MalformedTreeError> {
+    WellFormedChecker::check(alloc, &ran.arena, ran.root, len)
+}
+
+fn checked_4<K: CloneBytes, V: Clone>(
+    alloc: Global,
+    commands: &[Command<K, V>],
+) -> Result<Result<WellFormedTreeStats, MalformedTreeError>, AllocError> {
+    let ran: RunResult<K, V, 4> = run(alloc, commands)?;
+    Ok(checked(alloc, &ran, commands.len()))
+}
+
+// Insertions of all keys of three bytes, of which the first is one of 4, the second of 3, the third of 2.
+fn insertions(alloc: Global) -> Result<Vec<Command<[u8; 3], u8>>, AllocError> {
+    let mut commands = Vec::new(alloc);
+    for first in 0..4u8 {
+        for second in 0..3u8 {
+            for third in 0..2u8 {
+                commands.push(Command::Insert([first, second, third], first))?;
+            }
+        }
+    }
+    Ok(commands)
+}
+
+fn counts_24(alloc: Global) -> Result<Result<WellFormedTreeStats, MalformedTreeError>, AllocError> {
+    let commands = insertions(alloc)?;
+    checked_4(alloc, commands.as_slice())
+}
+
+#[test]
+fn a_tree_of_24_keys_has_41_nodes(rt: HostRuntime) {
+    let stats = match counts_24(rt.alloc()) {
+        Ok(Ok(stats)) => stats,
+        _ => return assert!(rt; false),
+    };
+    assert_eq!(rt; stats.total_nodes(), 41);
+    assert_eq!(rt; stats.num_leaf, 24);
+    assert_eq!(rt; stats.num_node4, 17);
+}
