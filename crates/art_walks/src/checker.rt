@@ -1,5 +1,5 @@
-//! Whether what stands below a name is a canonical tree with its leaves linked in order, in any arena: a check goes over
-//! the names, then over the keys, then over the links.
+//! Whether what stands below a name is a canonical tree with its leaves linked in order, in any arena: a check goes
+//! over the names, then over the keys, then over the links.
 ghost use Rattle.std.specs.Prelude.{◌≡◌, ◌≢◌, IfErr, IfOk, MatchOption};
 ghost use Rattle.art_arena.specs.arena.Arena.{links_at, node_at};
 ghost use Rattle.art_arena.specs.arena.Stores.{IsMeant};
@@ -60,7 +60,8 @@ impl WellFormedChecker {
     ) -> Result<WellFormedTreeStats, MalformedTreeError>
         ensures ok { IfOk result (λ stats. MatchOption root ((len ≡ 0) × (stats ≡ no_nodes))
             (λ r. (t : Tree (K × V)) × IsMeant K.bytes PREFIX_LEN arena.now r t × AreCounts stats t)) }
-        ensures err { IfErr result (λ fault. MatchOption root ((len ≢ 0) × (fault ≡ MalformedTreeError.EmptyTreeWithLen))
+        ensures err { IfErr result (λ fault. MatchOption root
+            ((len ≢ 0) × (fault ≡ MalformedTreeError.EmptyTreeWithLen))
             (λ r. Stands K.bytes PREFIX_LEN (node_at arena.now) (links_at arena.now) r fault)) }
     {
         match root {

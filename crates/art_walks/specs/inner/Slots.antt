@@ -23,7 +23,8 @@ leaf_slots (n ∷ rest) = with_slot n.kind n.slot (leaf_slots rest)
 abbrev pub AreLinkedSlots : (ℕ → Option Links) → Option ℕ → List ℕ → Option ℕ → Type 0
 AreLinkedSlots links before [] after = Unit {0}
 AreLinkedSlots links before (slot ∷ rest) after =
-    (links slot ≡ Some (record { previous = before; next = first_of rest })) × AreLinkedSlots links (Some slot) rest after
+    (links slot ≡ Some (record { previous = before; next = first_of rest }))
+    × AreLinkedSlots links (Some slot) rest after
   where
     first_of : List ℕ → Option ℕ
     first_of [] = after
