@@ -3,6 +3,7 @@ use art_bytes::CloneBytes;
 use art_operations::{Command, RunResult, run};
 use art_walks::{MalformedTreeError, WellFormedChecker, WellFormedTreeStats};
 use std::alloc::{AllocError, Global};
+use std::test::Fail;
 
 // What a check tells after these commands.
 fn checked<K: CloneBytes, V: Clone, const PREFIX_LEN: usize>(
@@ -48,4 +49,29 @@ fn a_tree_of_24_keys_has_41_nodes(rt: HostRuntime) {
     assert_eq!(rt; stats.total_nodes(), 41);
     assert_eq!(rt; stats.num_leaf, 24);
     assert_eq!(rt; stats.num_node4, 17);
+}
+
+// Whether a check of what commands made answers this number of nodes, in a window; where there was no memory, outside
+// it.
+fn counts_again<K: CloneBytes, V: Clone>(
+    rt: &HostRuntime,
+    commands: &[Command<K, V>],
+    nodes: usize,
+) -> Result<bool, Fail> {
+    let ran: RunResult<K, V, 4> = run(rt.alloc(), commands)?;
+    eprintln!(rt; "refuse")?;
+    let answer = checked(rt.alloc(), &ran, commands.len());
+    eprintln!(rt; "{}", if answer.is_ok() { "ok" } else { "refused" })?;
+    let answer = match answer {
+        Err(MalformedTreeError::Memory) => checked(rt.alloc(), &ran, commands.len()),
+        told => told,
+    };
+    Ok(answer.is_ok_and(|stats| stats.total_nodes() == nodes))
+}
+
+#[test]
+fn a_check_without_memory_can_be_made_again(rt: HostRuntime) -> Result<(), Fail> {
+    let commands = insertions(rt.alloc())?;
+    assert!(rt; counts_again(&rt, commands.as_slice(), 41)?);
+    Ok(())
 }
