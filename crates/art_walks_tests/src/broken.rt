@@ -36,10 +36,7 @@ fn link<K, V>(
 }
 
 // Stores an inner node with this prefix and no children.
-fn inner<N, K, V>(
-    arena: &mut NodeArena<K, V, 16>,
-    prefix: &[u8],
-) -> Option<NodePtr<N::Kind>>
+fn inner<N, K, V>(arena: &mut NodeArena<K, V, 16>, prefix: &[u8]) -> Option<NodePtr<N::Kind>>
 where
     N: InnerNodeCommon<16> + Stored<K, V, NodeArena<K, V, 16>>,
 {
@@ -55,7 +52,8 @@ fn put_child<N, K, V>(
     parent: NodePtr<N::Kind>,
     byte: u8,
     child: OpaqueNodePtr,
-) where
+)
+where
     N: InnerNodeCommon<16> + Stored<K, V, NodeArena<K, V, 16>>,
 {
     if arena.holds(parent.to_opaque()) {

@@ -19,12 +19,14 @@ returns-in_err-met-clause-err g c =
 
 pub keys_fit-requires : goal.keys_fit-requires
 keys_fit-requires g c =
-    let s = c.in_ok-met.ensures.shape in
-    (omega arith, record {
-      shape = s.shape;
-      part = skeleton-part g.K.AsBytes.bytes g.row.PREFIX_LEN (node_at c.args.arena.now) (links_at c.args.arena.now) c.args.root c.in_ok-met.met.items s c.in_ok-met.ensures.once;
-      kinds = s.kinds;
-    })
+    let s = c.in_ok-met.ensures.shape in (
+      omega arith,
+      record {
+        shape = s.shape;
+        part = skeleton-part g.K.AsBytes.bytes g.row.PREFIX_LEN (node_at c.args.arena.now) (links_at c.args.arena.now) c.args.root c.in_ok-met.met.items s c.in_ok-met.ensures.once;
+        kinds = s.kinds;
+      },
+    )
 
 pub returns-then-not-branch-clause-err : goal.returns-then-not-branch-clause-err
 returns-then-not-branch-clause-err g c =
@@ -32,12 +34,14 @@ returns-then-not-branch-clause-err g c =
     let part = skeleton-part g.K.AsBytes.bytes g.row.PREFIX_LEN (node_at c.args.arena.now) (links_at c.args.arena.now) c.args.root c.in_ok-met.met.items s c.in_ok-met.ensures.once in
     keys-fault g.K.AsBytes.bytes g.row.PREFIX_LEN (node_at c.args.arena.now) (links_at c.args.arena.now) c.args.root c.in_ok-met.met.items s c.in_ok-met.ensures.once
     (λ fits. no_of c.in_ok-keys_fit.field-0 _ _ c.if-not-branch.true c.in_ok-keys_fit.ensures
-      (fits-below g.K.AsBytes.bytes g.row.PREFIX_LEN (node_at c.args.arena.now) 0 c.args.root s.shape part fits))
+    (fits-below g.K.AsBytes.bytes g.row.PREFIX_LEN (node_at c.args.arena.now) 0 c.args.root s.shape part fits))
 
 pub leaves_linked-requires : goal.leaves_linked-requires
-leaves_linked-requires g c =
-    (omega arith, subst (AllByRecursion (λ (n : Name). IsSome (held_at c.args.arena.now n))) (sym c.as_slice.ensures.value)
-      (names-held c.args.arena.now g.row.PREFIX_LEN c.args.root c.in_ok-met.met.items c.in_ok-met.ensures.shape))
+leaves_linked-requires g c = (
+  omega arith,
+  subst (AllByRecursion (λ (n : Name). IsSome (held_at c.args.arena.now n))) (sym c.as_slice.ensures.value)
+      (names-held c.args.arena.now g.row.PREFIX_LEN c.args.root c.in_ok-met.met.items c.in_ok-met.ensures.shape),
+)
 
 pub returns-then-not-leaves_linked-clause-err : goal.returns-then-not-leaves_linked-clause-err
 returns-then-not-leaves_linked-clause-err g c =
@@ -46,7 +50,7 @@ returns-then-not-leaves_linked-clause-err g c =
     let fits : Fits g.K.AsBytes.bytes g.row.PREFIX_LEN 0 s.shape = yes_of c.in_ok-keys_fit.field-0 _ _ c.if-not-branch.false c.in_ok-keys_fit.ensures s.shape part in
     links-fault g.K.AsBytes.bytes g.row.PREFIX_LEN (node_at c.args.arena.now) (links_at c.args.arena.now) c.args.root c.in_ok-met.met.items s c.in_ok-met.ensures.once fits
     (λ linked. no_of c.leaves_linked.result _ _ c.if-not-leaves_linked.true c.leaves_linked.ensures
-      (subst (λ names. AreLinkedSlots (links_at c.args.arena.now) None (leaf_slots names) None) (sym c.as_slice.ensures.value) linked))
+    (subst (λ names. AreLinkedSlots (links_at c.args.arena.now) None (leaf_slots names) None) (sym c.as_slice.ensures.value) linked))
 
 pub returns-clause-ok : goal.returns-clause-ok
 returns-clause-ok g c =

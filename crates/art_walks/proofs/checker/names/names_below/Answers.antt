@@ -39,7 +39,7 @@ pub loop-name-preserved-in_ok-open : goal.loop-name-preserved-in_ok-open
 loop-name-preserved-in_ok-open g c =
     let new = sym (c.loop-name.invariant.1 c.in-Some.name) ∙ unseen _ _ c.in_ok-note.ensures.new c.if-not-branch.false in (
       subst (λ met. IsWalk (node_at c.args.arena.now) g.row.PREFIX_LEN c.args.root met c.open.new.waiting.items) (sym c.in_ok-push-2.ensures.items)
-      (walk-inner _ _ _ _ _ _ _ c.loop-name.invariant.0 c.in-Some.ensures.items new c.open.new.waiting.items c.in_ok-open.ensures.ok),
+          (walk-inner _ _ _ _ _ _ _ c.loop-name.invariant.0 c.in-Some.ensures.items new c.open.new.waiting.items c.in_ok-open.ensures.ok),
       seen-more _ _ _ _ _ c.in_ok-push-2.ensures.items c.loop-name.invariant.1 c.in_ok-note.ensures.noted,
     )
 
@@ -70,7 +70,7 @@ loop-name-preserved g c =
     let kind = c.if-not-is.ensures.0 refl in
     let there = pair_there c.args.arena.now c.in-Some.name (c.holds.ensures.0 c.if-not-holds.false) kind in (
       subst (λ met. IsWalk (node_at c.args.arena.now) g.row.PREFIX_LEN c.args.root met c.pop.new.self.items) (sym c.in_ok-push-2.ensures.items)
-      (walk-leaf _ _ _ _ _ _ _ c.loop-name.invariant.0 c.in-Some.ensures.items new there.0 there.1 there.2 kind),
+          (walk-leaf _ _ _ _ _ _ _ c.loop-name.invariant.0 c.in-Some.ensures.items new there.0 there.1 there.2 kind),
       seen-more _ _ _ _ _ c.in_ok-push-2.ensures.items c.loop-name.invariant.1 c.in_ok-note.ensures.noted,
     )
 
