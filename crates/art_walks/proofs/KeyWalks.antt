@@ -288,19 +288,19 @@ module _ {K V : Type 0} (bytes : K → List ℕ) (P : ℕ) (at : Name → Option
         let fits = fits-root fit in
         let long = fits.1 in
         apart (
-          stored-is ∙ fits.2
-          ∙ front-stored root.prefix (drop place.depth (first_key_in bytes root.kids)) (omega (arith, long, length-drop place.depth (first_key_in bytes root.kids)))
-          ∙ ap₂ (λ n (k : List ℕ). take n (drop place.depth k)) (ap length (sym stored-is)) (sym key-in)
+        stored-is ∙ fits.2
+        ∙ front-stored root.prefix (drop place.depth (first_key_in bytes root.kids)) (omega (arith, long, length-drop place.depth (first_key_in bytes root.kids)))
+        ∙ ap₂ (λ n (k : List ℕ). take n (drop place.depth k)) (ap length (sym stored-is)) (sym key-in)
         )
 
     pub unfit-children : (AllByRecursion (ChildFits bytes P at (place.depth + node.header.prefix_len) key) node.children → ⊥) → FitAt bytes P at place → ⊥
     unfit-children unfit fit =
         let fits = fits-root fit in
         unfit (subst (AllByRecursion (ChildFits bytes P at (place.depth + node.header.prefix_len) key)) root.children_are (
-          subst (λ k. AllByRecursion (ChildFits bytes P at (place.depth + node.header.prefix_len) k) (children_at root.kids)) (sym key-in) (
-            subst (λ n. AllByRecursion (ChildFits bytes P at (place.depth + n) (first_key_in bytes root.kids)) (children_at root.kids)) (sym len-is)
-            (fit-out (place.depth + length root.prefix) (first_key_in bytes root.kids) 0 root.kids root.parts fits.3)
-          )
+        subst (λ k. AllByRecursion (ChildFits bytes P at (place.depth + node.header.prefix_len) k) (children_at root.kids)) (sym key-in) (
+        subst (λ n. AllByRecursion (ChildFits bytes P at (place.depth + n) (first_key_in bytes root.kids)) (children_at root.kids)) (sym len-is)
+        (fit-out (place.depth + length root.prefix) (first_key_in bytes root.kids) 0 root.kids root.parts fits.3)
+        )
         ))
 
     pub opens : IsAscendingFrom 0 node.children → place.depth + node.header.prefix_len ≤ length key → node.header.stored ≡ take (length node.header.stored) (drop place.depth key)
@@ -319,10 +319,10 @@ module _ {K V : Type 0} (bytes : K → List ℕ) (P : ℕ) (at : Name → Option
         all-fit : FitAt bytes P at place → AllByRecursion (ChildFits bytes P at (place.depth + node.header.prefix_len) key) node.children
         all-fit fit =
             subst (AllByRecursion (ChildFits bytes P at (place.depth + node.header.prefix_len) key)) root.children_are (
-              subst (λ k. AllByRecursion (ChildFits bytes P at (place.depth + node.header.prefix_len) k) (children_at root.kids)) (sym key-in) (
-                subst (λ n. AllByRecursion (ChildFits bytes P at (place.depth + n) (first_key_in bytes root.kids)) (children_at root.kids)) (sym len-is)
-                (let fits = fits-root fit in fit-out (place.depth + length root.prefix) (first_key_in bytes root.kids) 0 root.kids root.parts fits.3)
-              )
+            subst (λ k. AllByRecursion (ChildFits bytes P at (place.depth + node.header.prefix_len) k) (children_at root.kids)) (sym key-in) (
+            subst (λ n. AllByRecursion (ChildFits bytes P at (place.depth + n) (first_key_in bytes root.kids)) (children_at root.kids)) (sym len-is)
+            (let fits = fits-root fit in fit-out (place.depth + length root.prefix) (first_key_in bytes root.kids) 0 root.kids root.parts fits.3)
+            )
             )
 
         here : AllByRecursion (ChildFits bytes P at (place.depth + node.header.prefix_len) key) node.children → Fits bytes P place.depth (inner_at (name_of stands.below.shape) root.prefix root.kids)
@@ -334,13 +334,13 @@ module _ {K V : Type 0} (bytes : K → List ℕ) (P : ℕ) (at : Name → Option
               root.kinds.0,
               deep,
               sym stored-is ∙ stored ∙ ap₂ (λ n (j : List ℕ). take n (drop place.depth j)) (ap length stored-is) key-in
-              ∙ sym (front-stored root.prefix (drop place.depth (first_key_in bytes root.kids)) (omega (arith, deep, rest))),
+                  ∙ sym (front-stored root.prefix (drop place.depth (first_key_in bytes root.kids)) (omega (arith, deep, rest))),
               fit-in (place.depth + length root.prefix) (first_key_in bytes root.kids) 0 root.kids root.parts (subst (IsAscendingFrom 0) (sym root.children_are) rises) (
-                subst (λ n. AllByRecursion (ChildFits bytes P at (place.depth + n) (first_key_in bytes root.kids)) (children_at root.kids)) len-is (
+                  subst (λ n. AllByRecursion (ChildFits bytes P at (place.depth + n) (first_key_in bytes root.kids)) (children_at root.kids)) len-is (
                   subst (λ j. AllByRecursion (ChildFits bytes P at (place.depth + node.header.prefix_len) j) (children_at root.kids)) key-in
                   (subst (AllByRecursion (ChildFits bytes P at (place.depth + node.header.prefix_len) key)) (sym root.children_are) all)
-                )
-              ),
+                  )
+                  ),
             )
 
   -- where a leaf stands, all fits

@@ -10,21 +10,14 @@ use Rattle.art_arena.specs.tree.Kinds.{IsKindOf}
 use Rattle.art_arena.specs.tree.Trees.{count, nodes_with, nodes_in}
 use Rattle.art_arena.specs.arena.Shapes.{Shape, Branches, leaf_at, inner_at, no_branch, branch, leaves, leaves_in, cells, cells_in, width, erase, erase_in}
 use Rattle.art_arena.proofs.shapes.Erased.{count-erase}
+use Rattle.art_walks.specs.Stats.{in_range}
+use Rattle.art_walks.specs.inner.Names.{count_kind}
 use Rattle.art_walks.specs.inner.Skeletons.{HasKinds, HaveKinds, named}
 use Rattle.art_walks.proofs.Skeletons.{named-append}
 
--- how many of some names are of a kind
-abbrev pub count_kind : NodeType → List Name → ℕ
-count_kind kind [] = 0
-count_kind kind (n ∷ rest) = cond (same_kind kind n.kind) 1 0 + count_kind kind rest
-
-count_kind-append : (kind : NodeType) (xs ys : List Name) → count_kind kind (xs ++ ys) ≡ count_kind kind xs + count_kind kind ys
+pub count_kind-append : (kind : NodeType) (xs ys : List Name) → count_kind kind (xs ++ ys) ≡ count_kind kind xs + count_kind kind ys
 count_kind-append kind [] ys = omega arith
 count_kind-append kind (x ∷ xs) ys = omega (arith, count_kind-append kind xs ys)
-
--- the number of children is one of this kind's
-abbrev pub in_range : NodeType → ℕ → Bool
-in_range kind children = nat_le (row_of kind).fewest children && nat_le children (row_of kind).most
 
 inside : (a b w : ℕ) → a ≤ w → w ≤ b → true ≡ (nat_le a w && nat_le w b)
 inside a b w low high = grind (arith, nat_tests)

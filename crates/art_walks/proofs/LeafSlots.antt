@@ -7,21 +7,9 @@ use Rattle.art_arena.specs.tree.Kinds.{IsKindOf}
 use Rattle.art_arena.specs.arena.Shapes.{Shape, Branches, leaf_at, inner_at, no_branch, branch, LeafAt, leaves, leaves_in, cells, cells_in, width}
 use Rattle.art_arena.specs.arena.Linked.{Links, AreLinked}
 use Rattle.art_walks.specs.inner.Skeletons.{HasKinds, HaveKinds, named}
+use Rattle.art_walks.specs.inner.Slots.{with_slot, leaf_slots, AreLinkedSlots}
 use Rattle.art_walks.proofs.Skeletons.{named-append}
 use Rattle.art_walks.proofs.Fillings.{fill, fill_in}
-
--- the slab key of a leaf, before those of others
-abbrev pub with_slot : NodeType → ℕ → List ℕ → List ℕ
-with_slot Leaf slot slots = slot ∷ slots
-with_slot Node4 slot slots = slots
-with_slot Node16 slot slots = slots
-with_slot Node48 slot slots = slots
-with_slot Node256 slot slots = slots
-
--- the slab keys of the leaves among some names
-abbrev pub leaf_slots : List Name → List ℕ
-leaf_slots [] = []
-leaf_slots (n ∷ rest) = with_slot n.kind n.slot (leaf_slots rest)
 
 leaf_slots-append : (xs ys : List Name) → leaf_slots (xs ++ ys) ≡ leaf_slots xs ++ leaf_slots ys
 leaf_slots-append [] ys = refl
@@ -41,15 +29,6 @@ inner-slot Node4 slot children slots is = refl
 inner-slot Node16 slot children slots is = refl
 inner-slot Node48 slot children slots is = refl
 inner-slot Node256 slot children slots is = refl
-
--- these slab keys are linked: each leaf's links name those beside it
-abbrev pub AreLinkedSlots : (ℕ → Option Links) → Option ℕ → List ℕ → Option ℕ → Type 0
-AreLinkedSlots links before [] after = Unit {0}
-AreLinkedSlots links before (slot ∷ rest) after = (links slot ≡ Some (record { previous = before; next = first_of rest })) × AreLinkedSlots links (Some slot) rest after
-  where
-    first_of : List ℕ → Option ℕ
-    first_of [] = after
-    first_of (next ∷ more) = Some next
 
 module _ {K V : Type 0} where
   -- the slab keys of leaves

@@ -4,7 +4,9 @@ pub mod Skeletons
 pub mod NameWalks
 pub mod Fillings
 pub mod LeafSlots
+pub mod KindTests
 pub mod KindCounts
 pub mod KeyWalks
+pub mod LinkWalks
 pub mod Verdicts
 pub mod Counted

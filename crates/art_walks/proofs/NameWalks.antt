@@ -158,11 +158,10 @@ module _ {K V : Type 0} where
       let counts = is.counts in
       let many = length-pad (node.header.prefix_len - length node.header.stored) in
       let lens : node.header.prefix_len ≡ length (node.header.stored ++ pad (node.header.prefix_len - length node.header.stored)) =
-      omega (arith, stores, many, length-append node.header.stored (pad (node.header.prefix_len - length node.header.stored))) in
-      (
+      omega (arith, stores, many, length-append node.header.stored (pad (node.header.prefix_len - length node.header.stored))) in (
         node.header.stored ++ pad (node.header.prefix_len - length node.header.stored),
         ap₂ (λ num len. make node.children num len node.header.stored) counts lens
-        ∙ ap (make node.children (length node.children) (length (node.header.stored ++ pad (node.header.prefix_len - length node.header.stored)))) (front node.header.stored node.header.prefix_len stores),
+            ∙ ap (make node.children (length node.children) (length (node.header.stored ++ pad (node.header.prefix_len - length node.header.stored)))) (front node.header.stored node.header.prefix_len stores),
       )
     where
       all : (xs : List ℕ) (n : ℕ) → length xs ≤ n → xs ≡ take n (xs ++ [])
@@ -387,7 +386,7 @@ module _ {K V : Type 0} where
               let plain : rest ++ [] ≡ rest = nothing rest in
               record {
                 complete = subst (λ x. Completes P at root (met ++ x ∷ []) (reverse rest)) (sym named_so)
-                (completes-leaf P at root met (reverse rest) q.slot k v (ap at (sym named_so) ∙ there) (subst (λ x. Completes P at root met (x ∷ reverse rest)) named_so complete_here));
+                    (completes-leaf P at root met (reverse rest) q.slot k v (ap at (sym named_so) ∙ there) (subst (λ x. Completes P at root met (x ∷ reverse rest)) named_so complete_here));
                 once = once_more;
                 rises = rises_more rising;
                 held = held_more (there_some there);
@@ -415,7 +414,7 @@ module _ {K V : Type 0} where
               subst (IsWalk (met ++ q ∷ [])) (sym opened.wait)
               (record {
                 complete = subst (Completes P at root (met ++ q ∷ [])) (sym back)
-                (completes-inner P at root met (reverse rest) q prefixed.0 node.children (opened.held ∙ ap Some prefixed.1) opened.kind complete_here);
+                    (completes-inner P at root met (reverse rest) q prefixed.0 node.children (opened.held ∙ ap Some prefixed.1) opened.kind complete_here);
                 once = once_more;
                 rises = rises_more rising;
                 held = held_more (rw opened.held refl);

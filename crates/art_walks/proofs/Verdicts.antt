@@ -1,16 +1,21 @@
 -- What a check may say: with the names that it met, each once, as a skeleton; of nodes that fit or not; of leaves that are linked or not.
-use Rattle.std.proofs.Common.{◌≡◌, ◌≢◌, ℕ, ◌+◌, ◌≤◌, cond, List, [], ◌∷◌, ◌++◌, length, Option, Some, None, refl, sym, ap, subst, ◌∙◌, arith}
+use Rattle.std.proofs.Common.{◌≡◌, ◌≢◌, ℕ, suc, ◌+◌, ◌≤◌, cond, List, [], ◌∷◌, ◌++◌, length, map, Option, Some, None, IsSome, Result, Ok, Err, IfErr, refl, sym, ap, subst, ◌∙◌, arith}
+use Rattle.std.specs.List.{AllByRecursion}
+use Rattle.std.specs.Result.{IsErrAnd}
+use Rattle.art_walks.specs.declared.malformed.MalformedTreeError.{MalformedTreeError}
+use Rattle.art_arena.specs.arena.Arena.{Arena, Held, held_at, cell_of, node_at}
 use Rattle.art_nodes.specs.declared.kind.NodeType.{NodeType}
 use Rattle.art_nodes.specs.declared.kind.NodeType.TheVariants.{Leaf}
 use Rattle.art_nodes.specs.Name.{Name}
 use Rattle.art_nodes.specs.InnerNode.{InnerNode, child_at}
 use Rattle.art_arena.specs.arena.Cells.{Cell, pair, branches, copies, same_name, AreHeld}
 use Rattle.art_arena.specs.tree.Kinds.{IsKindOf}
-use Rattle.art_arena.specs.tree.Trees.{Tree, nodes_with}
-use Rattle.art_arena.specs.arena.Shapes.{Shape, Branches, leaf_at, inner_at, no_branch, branch, name_of, children_at, join, leaves, erase, cells, cells_in, width, node_of, IsUnder, AreUnder}
+use Rattle.art_arena.specs.tree.Trees.{Tree, items, nodes_with}
+use Rattle.art_arena.specs.arena.Shapes.{LeafAt, pairs_of, Shape, Branches, leaf_at, inner_at, no_branch, branch, name_of, children_at, join, leaves, erase, cells, cells_in, width, node_of, IsUnder, AreUnder}
 use Rattle.art_arena.specs.arena.Linked.{Links, AreLinked}
 use Rattle.art_arena.specs.arena.Meaning.{IsPart, Means}
 use Rattle.art_arena.proofs.shapes.Contexts.{cells_in-join}
+use Rattle.art_arena.proofs.shapes.Erased.{items-erase}
 use Rattle.art_arena.proofs.tree.Order.{all_left, all_right}
 use Rattle.art_walks.specs.Faults.{child_in, led_to, HasOtherKeys, HasOtherLinks}
 use Rattle.art_walks.proofs.NameWalks.{copies-named}
@@ -20,10 +25,30 @@ use Rattle.art_walks.specs.inner.Skeletons.{HasKinds, HaveKinds, named, IsSkelet
 use Rattle.art_walks.proofs.Skeletons.{same_cells}
 use Rattle.art_walks.specs.inner.Fillings.{Fits}
 use Rattle.art_walks.proofs.Fillings.{fill, fill_in, width-fill, cells-fill, filled-subtree, unfit-none}
-use Rattle.art_walks.proofs.LeafSlots.{AreLinkedSlots, leaf_slots, slots_of, slots-named, linked-slots, slots-linked, leaves-fill}
-use Rattle.art_walks.proofs.KindCounts.{count_kind, in_range, count-leaves, count-nodes}
+use Rattle.art_walks.specs.inner.Slots.{AreLinkedSlots, leaf_slots}
+use Rattle.art_walks.proofs.LeafSlots.{slots_of, slots-named, linked-slots, slots-linked, leaves-fill}
+use Rattle.art_walks.specs.Stats.{in_range}
+use Rattle.art_walks.specs.inner.Names.{count_kind}
+use Rattle.art_walks.proofs.KindCounts.{count-leaves, count-nodes}
+
+-- a fault that is passed on stands as it did
+pub passed : {T : Type 0} (r : Result T MalformedTreeError) (e : MalformedTreeError) (Q : MalformedTreeError → Type 0) → IsErrAnd r (λ x. x ≡ e) → Q e → IfErr r Q
+passed (Ok x) e Q h q = absurd h
+passed (Err x) e Q h q = subst Q (sym h) q
 
 module _ {K V : Type 0} where
+  -- the names of a skeleton are held
+  pub names-held : (arena : Arena K V) (P : ℕ) (root : Name) (names : List Name) → IsSkeleton P (node_at arena) root names → AllByRecursion (λ n. IsSome (held_at arena n)) names
+  names-held arena P root names s = subst (AllByRecursion (λ n. IsSome (held_at arena n))) s.names_are (all (cells P s.shape) s.held)
+    where
+      there : (o : Option (Held K V)) (c : Cell K V) → cell_of o ≡ Some c → IsSome o
+      there None c e = absurd (cc)
+      there (Some held) c e = refl
+
+      all : (cs : List (Name × Cell K V)) → AreHeld (node_at arena) cs → AllByRecursion (λ n. IsSome (held_at arena n)) (named cs)
+      all [] h = tt
+      all (c ∷ cs) h = (there (held_at arena c.0) c.1 h.0, all cs h.1)
+
   width-children : (kids : Branches K V) → length (children_at kids) ≡ width kids
   width-children no_branch = refl
   width-children (branch b s rest) = omega (arith, width-children rest)
@@ -127,7 +152,11 @@ module _ {K V : Type 0} where
         pub tree : Tree (K × V)
         pub means : Means bytes P at root links tree
         pub inner_nodes : (kind : NodeType) → kind ≢ Leaf → count_kind kind names ≡ nodes_with (in_range kind) tree
-        pub all_leaves : count_kind Leaf names ≡ length (leaves means.shape)
+        pub all_leaves : count_kind Leaf names ≡ length (items tree)
+
+      length-pairs : (ls : List (LeafAt K V)) → length (pairs_of ls) ≡ length ls
+      length-pairs [] = refl
+      length-pairs (l ∷ ls) = ap suc (length-pairs ls)
 
       pub canonical : AreLinkedSlots links None (leaf_slots names) None → IsCanonicalTree
       canonical linked =
@@ -145,5 +174,5 @@ module _ {K V : Type 0} where
               erased = refl;
             };
             inner_nodes = λ kind inner. ap (count_kind kind) met ∙ count-nodes P kind inner (fill bytes 0 s.shape) kinds;
-            all_leaves = ap (count_kind Leaf) met ∙ count-leaves P (fill bytes 0 s.shape) kinds;
+            all_leaves = ap (count_kind Leaf) met ∙ count-leaves P (fill bytes 0 s.shape) kinds ∙ sym (length-pairs (leaves (fill bytes 0 s.shape))) ∙ sym (ap length (items-erase (fill bytes 0 s.shape)));
           }

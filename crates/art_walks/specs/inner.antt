@@ -2,3 +2,4 @@
 pub mod Names
 pub mod Skeletons
 pub mod Fillings
+pub mod Slots

@@ -10,6 +10,7 @@ mod malformed;
 mod raw_iterator;
 mod stats;
 
+pub use checker::WellFormedChecker;
 pub use iter::{Iter, Keys, Values};
 pub use malformed::MalformedTreeError;
 pub use raw_iterator::RawIterator;

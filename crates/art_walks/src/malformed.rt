@@ -22,7 +22,8 @@ pub enum MalformedTreeError {
     /// A leaf's key doesn't begin with the prefixes and the child bytes above it, or a header stores another byte.
     #[error("a key doesn't begin with the bytes above it, or a stored byte differs")]
     PrefixMismatch,
-    /// A leaf's next name is a leaf of this tree without a greater key.
+    /// A leaf's next name is a leaf of this tree without a greater key. `check_tree` tells `WrongSiblingLinks` there,
+    /// which stands too.
     #[error("a leaf is linked to one that doesn't come after it")]
     LeafSiblingWrongOrder,
     /// The links of the leaves aren't the leaves in order with open ends.

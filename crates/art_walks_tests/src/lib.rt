@@ -3,7 +3,11 @@
 #![tactic(auto)]
 
 #[cfg(test)]
+mod broken;
+#[cfg(test)]
 mod calling;
+#[cfg(test)]
+mod checks;
 #[cfg(test)]
 mod stats;
 #[cfg(test)]

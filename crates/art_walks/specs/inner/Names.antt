@@ -1,11 +1,11 @@
 -- Names that a check meets, and the node that it opens.
 use Rattle.std.specs.Prelude.{◌≡◌, ℕ, ◌+◌, ◌≤◌, Bool, false, ◌||◌, if◌then◌else◌, List, [], ◌∷◌, ◌++◌, length, Option}
 use Rattle.std.specs.Prelude.{Some, reverse}
-
 use Rattle.art_nodes.specs.Kind.{row_of}
+use Rattle.art_nodes.specs.declared.kind.NodeType.{NodeType}
 use Rattle.art_nodes.specs.Name.{Name}
 use Rattle.art_nodes.specs.InnerNode.{InnerNode, IsInnerNode, names_of}
-use Rattle.art_arena.specs.arena.Cells.{Cell, branches, same_name}
+use Rattle.art_arena.specs.arena.Cells.{Cell, branches, same_kind, same_name}
 use Rattle.art_arena.specs.tree.Kinds.{IsKindOf}
 
 -- whether a name is among some
@@ -17,6 +17,11 @@ has_name n (x ∷ rest) = same_name n x || has_name n rest
 abbrev pub meets : Name → List Name → ℕ
 meets n [] = 0
 meets n (x ∷ rest) = (if same_name n x then 1 else 0) + meets n rest
+
+-- how many of some names are of a kind
+abbrev pub count_kind : NodeType → List Name → ℕ
+count_kind kind [] = 0
+count_kind kind (n ∷ rest) = (if same_kind kind n.kind then 1 else 0) + count_kind kind rest
 
 -- none of these names is met twice
 abbrev pub AreOnce : List Name → Type 0

@@ -1,5 +1,6 @@
 //! Whether each node below a root fits what stands directly below it: its prefix, and the bytes of its children.
-ghost use Rattle.std.specs.Prelude.{◌≡◌, ◌≢◌, ◌+◌, ◌<◌, ◌≤◌, ◌++◌, ◌∷◌, ◌↔◌, ℕ, List, [], IfOk, IsTrue, drop, length, take};
+ghost use Rattle.std.specs.Prelude.{◌≡◌, ◌≢◌, ◌+◌, ◌<◌, ◌≤◌, ◌++◌, ◌∷◌, ◌↔◌, ℕ, List, [], IfOk, IsTrue};
+ghost use Rattle.std.specs.Prelude.{drop, length, take};
 ghost use Rattle.art_nodes.specs.Name.{Name};
 ghost use Rattle.std.specs.Bool.{MatchBool};
 ghost use Rattle.std.specs.List.{AllByRecursion};

@@ -20,10 +20,13 @@ loop-place-smaller-then-is g c =
     (stands-here g.K.AsBytes.bytes g.row.PREFIX_LEN (node_at c.args.arena.now) c.args.root _ _ c.in-Some.place c.loop-place.invariant c.in-Some.ensures.items)
 
 pub node_fits-requires : goal.node_fits-requires
-node_fits-requires g c = (omega arith, (
-  stands-here g.K.AsBytes.bytes g.row.PREFIX_LEN (node_at c.args.arena.now) c.args.root _ _ c.in-Some.place c.loop-place.invariant c.in-Some.ensures.items,
-  λ e. let h = c.if-is.ensures.1 e in cc,
-))
+node_fits-requires g c = (
+  omega arith,
+  (
+    stands-here g.K.AsBytes.bytes g.row.PREFIX_LEN (node_at c.args.arena.now) c.args.root _ _ c.in-Some.place c.loop-place.invariant c.in-Some.ensures.items,
+    λ e. let h = c.if-is.ensures.1 e in cc,
+  ),
+)
 
 pub returns-then-not-branch : goal.returns-then-not-branch
 returns-then-not-branch g c =

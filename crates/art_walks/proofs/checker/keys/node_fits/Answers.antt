@@ -44,14 +44,19 @@ children_fit-requires g c =
     let same = ap length is_key in
     let deep = st.deep in
     let short = c.if-key-place.false in
-    let are = c.children.ensures.value in
-    (omega arith, (
-      subst (AllByRecursion (λ (x : ℕ × Name). HasShape bytes g.row.PREFIX_LEN at x.1)) (sym are) (children-stand bytes g.row.PREFIX_LEN at c.args.place.name st.below c.requires.inner c.inner-inner.result.node there),
-      (omega (arith, same, deep, short), (
-        subst (HasKey bytes g.row.PREFIX_LEN at c.args.place.first) (sym is_key) st.first,
-        λ x rest s e part. first-child-key bytes g.row.PREFIX_LEN at c.args.place.name st.below c.requires.inner c.inner-inner.result.node there x rest s (sym are ∙ e) part ∙ sym is_key,
-      )),
-    ))
+    let are = c.children.ensures.value in (
+      omega arith,
+      (
+        subst (AllByRecursion (λ (x : ℕ × Name). HasShape bytes g.row.PREFIX_LEN at x.1)) (sym are) (children-stand bytes g.row.PREFIX_LEN at c.args.place.name st.below c.requires.inner c.inner-inner.result.node there),
+        (
+          omega (arith, same, deep, short),
+          (
+            subst (HasKey bytes g.row.PREFIX_LEN at c.args.place.first) (sym is_key) st.first,
+            λ x rest s e part. first-child-key bytes g.row.PREFIX_LEN at c.args.place.name st.below c.requires.inner c.inner-inner.result.node there x rest s (sym are ∙ e) part ∙ sym is_key,
+          ),
+        ),
+      ),
+    )
 
 pub returns : goal.returns
 returns g c =
@@ -69,10 +74,10 @@ returns g c =
     let stored = sym read ∙ c.if-not-begins_at.ensures.0 refl ∙ ap (λ (s : List ℕ). take (length s) (drop c.args.place.depth c.key_at-key.result.now)) read in
     other_words c.children_fit.result _ _ _ _
     (λ w. opens bytes g.row.PREFIX_LEN at c.args.place st c.requires.inner c.inner-inner.result.node there c.key_at-key.result.now is_key
-      (subst IsAscending are c.children.ensures.ascending) (omega (arith, same, deep, short, len)) stored c.args.waiting.now.items _ w.0 w.1
-      (subst (λ n. Await bytes g.row.PREFIX_LEN at (c.args.place.depth + n) c.key_at-key.result.now c.inner-inner.result.node.children w.0) len
-        (subst (λ cs. Await bytes g.row.PREFIX_LEN at (c.args.place.depth + c.prefix_len-prefix_len.result) c.key_at-key.result.now cs w.0) are w.2)))
+    (subst IsAscending are c.children.ensures.ascending) (omega (arith, same, deep, short, len)) stored c.args.waiting.now.items _ w.0 w.1
+    (subst (λ n. Await bytes g.row.PREFIX_LEN at (c.args.place.depth + n) c.key_at-key.result.now c.inner-inner.result.node.children w.0) len
+    (subst (λ cs. Await bytes g.row.PREFIX_LEN at (c.args.place.depth + c.prefix_len-prefix_len.result) c.key_at-key.result.now cs w.0) are w.2)))
     (λ unfit. unfit-children bytes g.row.PREFIX_LEN at c.args.place st c.requires.inner c.inner-inner.result.node there c.key_at-key.result.now is_key
-      (λ all. unfit (subst (λ n. AllByRecursion (ChildFits bytes g.row.PREFIX_LEN at (c.args.place.depth + n) c.key_at-key.result.now) c.children.result) (sym len)
-        (subst (AllByRecursion (ChildFits bytes g.row.PREFIX_LEN at (c.args.place.depth + c.inner-inner.result.node.header.prefix_len) c.key_at-key.result.now)) (sym are) all))))
+    (λ all. unfit (subst (λ n. AllByRecursion (ChildFits bytes g.row.PREFIX_LEN at (c.args.place.depth + n) c.key_at-key.result.now) c.children.result) (sym len)
+    (subst (AllByRecursion (ChildFits bytes g.row.PREFIX_LEN at (c.args.place.depth + c.inner-inner.result.node.header.prefix_len) c.key_at-key.result.now)) (sym are) all))))
     c.children_fit.ensures

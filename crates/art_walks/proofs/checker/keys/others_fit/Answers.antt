@@ -9,9 +9,11 @@ use Rattle.art_walks.proofs.checker.keys.others_fit.Goals as goal
 
 pub first_below-first-requires : goal.first_below-first-requires
 first_below-first-requires g c =
-    let inv = c.loop-child.invariant in
-    (omega arith, of_one g.K.AsBytes.bytes g.row.PREFIX_LEN (node_at c.args.arena.now) (λ x. HasShape g.K.AsBytes.bytes g.row.PREFIX_LEN (node_at c.args.arena.now) x.1)
-    c.args.children inv.0 c.loop-child.left c.next.new.self c.in-Some.child inv.2 c.in-Some.ensures.steps c.requires.stand)
+    let inv = c.loop-child.invariant in (
+      omega arith,
+      of_one g.K.AsBytes.bytes g.row.PREFIX_LEN (node_at c.args.arena.now) (λ x. HasShape g.K.AsBytes.bytes g.row.PREFIX_LEN (node_at c.args.arena.now) x.1)
+          c.args.children inv.0 c.loop-child.left c.next.new.self c.in-Some.child inv.2 c.in-Some.ensures.steps c.requires.stand,
+    )
 
 pub key_at-requires : goal.key_at-requires
 key_at-requires g c =
@@ -46,6 +48,6 @@ loop-child-preserved g c =
       inv.2 ∙ ap (λ xs. inv.0 ++ xs) c.in-Some.ensures.steps ∙ sym (append_assoc inv.0 (c.in-Some.child ∷ []) c.next.new.self),
       c.in_ok-push.ensures.items ∙ ap (λ xs. xs ++ place ∷ []) inv.3 ∙ append_assoc c.args.waiting.now.items inv.1 (place ∷ []),
       await-join g.K.AsBytes.bytes g.row.PREFIX_LEN (node_at c.args.arena.now) c.args.end c.args.key.now inv.0 (c.in-Some.child ∷ []) inv.1 (place ∷ []) inv.4
-      (await-one g.K.AsBytes.bytes g.row.PREFIX_LEN (node_at c.args.arena.now) c.args.end c.args.key.now c.in-Some.child c.first_below-first.result below has
-      (sym (ap (take (c.args.end + 1)) is_key) ∙ told.value.0 refl) (omega (arith, deep, same))),
+          (await-one g.K.AsBytes.bytes g.row.PREFIX_LEN (node_at c.args.arena.now) c.args.end c.args.key.now c.in-Some.child c.first_below-first.result below has
+          (sym (ap (take (c.args.end + 1)) is_key) ∙ told.value.0 refl) (omega (arith, deep, same))),
     )

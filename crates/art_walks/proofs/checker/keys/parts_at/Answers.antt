@@ -10,7 +10,7 @@ returns-clause-value c =
     let more = take_more c.args.other.now c.args.end 0 c.if-other-end.false in (
       λ yes. more ∙ ap₂ (λ xs b. xs ++ b ∷ []) (tells.0 yes) c.if-other-end-2.false,
       λ e. tells.1 (
-        sym (take-take c.args.end (c.args.end + 1) c.args.other.now (omega arith)) ∙ ap (take c.args.end) e
-        ∙ take_at (take c.args.end c.args.key.now) (c.args.byte ∷ []) c.args.end (length-take-le c.args.end c.args.key.now c.requires)
-      ),
+          sym (take-take c.args.end (c.args.end + 1) c.args.other.now (omega arith)) ∙ ap (take c.args.end) e
+          ∙ take_at (take c.args.end c.args.key.now) (c.args.byte ∷ []) c.args.end (length-take-le c.args.end c.args.key.now c.requires)
+          ),
     )

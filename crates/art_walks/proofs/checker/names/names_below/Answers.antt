@@ -8,6 +8,7 @@ use Rattle.art_walks.specs.declared.malformed.MalformedTreeError.TheVariants.{Wr
 use Rattle.art_walks.specs.Faults.{HasWrongCount, Stands}
 use Rattle.art_walks.specs.inner.Names.{has_name}
 use Rattle.art_walks.proofs.NameWalks.{seen-more, seen-first, nearer, walk-begin, walk-end, walk-dead, walk-loop, walk-miscounted, walk-leaf, walk-inner, walk-few, IsWalk}
+use Rattle.art_walks.proofs.Verdicts.{passed}
 use Rattle.art_walks.proofs.checker.names.names_below.Goals as goal
 
 negated : (b x : Bool) → x ≡ not b → x ≡ false → b ≡ true
@@ -17,10 +18,6 @@ negated false x e f = absurd (cc)
 unseen : (b x : Bool) → x ≡ not b → x ≡ true → b ≡ false
 unseen true x e f = absurd (cc)
 unseen false x e f = refl
-
-passed : {T : Type 0} (r : Result T MalformedTreeError) (e : MalformedTreeError) (Q : MalformedTreeError → Type 0) → IsErrAnd r (λ x. x ≡ e) → Q e → IfErr r Q
-passed (Ok x) e Q h q = absurd h
-passed (Err x) e Q h q = subst Q (sym h) q
 
 pub loop-name-init : goal.loop-name-init
 loop-name-init g c =
@@ -42,7 +39,7 @@ pub loop-name-preserved-in_ok-open : goal.loop-name-preserved-in_ok-open
 loop-name-preserved-in_ok-open g c =
     let new = sym (c.loop-name.invariant.1 c.in-Some.name) ∙ unseen _ _ c.in_ok-note.ensures.new c.if-not-branch.false in (
       subst (λ met. IsWalk (node_at c.args.arena.now) g.row.PREFIX_LEN c.args.root met c.open.new.waiting.items) (sym c.in_ok-push-2.ensures.items)
-      (walk-inner _ _ _ _ _ _ _ c.loop-name.invariant.0 c.in-Some.ensures.items new c.open.new.waiting.items c.in_ok-open.ensures.ok),
+          (walk-inner _ _ _ _ _ _ _ c.loop-name.invariant.0 c.in-Some.ensures.items new c.open.new.waiting.items c.in_ok-open.ensures.ok),
       seen-more _ _ _ _ _ c.in_ok-push-2.ensures.items c.loop-name.invariant.1 c.in_ok-note.ensures.noted,
     )
 
@@ -73,7 +70,7 @@ loop-name-preserved g c =
     let kind = c.if-not-is.ensures.0 refl in
     let there = pair_there c.args.arena.now c.in-Some.name (c.holds.ensures.0 c.if-not-holds.false) kind in (
       subst (λ met. IsWalk (node_at c.args.arena.now) g.row.PREFIX_LEN c.args.root met c.pop.new.self.items) (sym c.in_ok-push-2.ensures.items)
-      (walk-leaf _ _ _ _ _ _ _ c.loop-name.invariant.0 c.in-Some.ensures.items new there.0 there.1 there.2 kind),
+          (walk-leaf _ _ _ _ _ _ _ c.loop-name.invariant.0 c.in-Some.ensures.items new there.0 there.1 there.2 kind),
       seen-more _ _ _ _ _ c.in_ok-push-2.ensures.items c.loop-name.invariant.1 c.in_ok-note.ensures.noted,
     )
 

@@ -6,37 +6,13 @@ use Rattle.art_arena.specs.arena.Cells.{same_name}
 use Rattle.art_arena.proofs.shapes.CellLists.{same_name_tells, same_name-self}
 use Rattle.art_nodes.specs.Name.{Name}
 use Rattle.art_nodes.specs.declared.kind.NodeType.{NodeType}
-use Rattle.art_nodes.specs.declared.kind.NodeType.TheVariants.{Node4, Node16, Node48, Node256, Leaf}
+use Rattle.art_walks.proofs.KindTests.{kinds_told}
 use Rattle.art_nodes.specs.contracts.names.OpaqueNodePtrPartialEq.TheImpl.{eq-value}
 use Rattle.art_walks.proofs.checker.names.note.Goals as goal
 
 -- the equality of names tells them apart
 same : (k l : NodeType) (x y : ℕ) → eq-value.it (record { kind = k; slot = x }) (record { kind = l; slot = y }) ≡ same_name (record { kind = k; slot = x }) (record { kind = l; slot = y })
-same Node4 Node4 x y = refl
-same Node4 Node16 x y = refl
-same Node4 Node48 x y = refl
-same Node4 Node256 x y = refl
-same Node4 Leaf x y = refl
-same Node16 Node4 x y = refl
-same Node16 Node16 x y = refl
-same Node16 Node48 x y = refl
-same Node16 Node256 x y = refl
-same Node16 Leaf x y = refl
-same Node48 Node4 x y = refl
-same Node48 Node16 x y = refl
-same Node48 Node48 x y = refl
-same Node48 Node256 x y = refl
-same Node48 Leaf x y = refl
-same Node256 Node4 x y = refl
-same Node256 Node16 x y = refl
-same Node256 Node48 x y = refl
-same Node256 Node256 x y = refl
-same Node256 Leaf x y = refl
-same Leaf Node4 x y = refl
-same Leaf Node16 x y = refl
-same Leaf Node48 x y = refl
-same Leaf Node256 x y = refl
-same Leaf Leaf x y = refl
+same k l x y = ap (λ b. b && nat_eq x y) (kinds_told k l)
 
 swapped : (a b : Name) → same_name a b ≡ same_name b a
 swapped a b = elim (same_name_tells a b) [
