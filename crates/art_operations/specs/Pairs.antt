@@ -75,9 +75,9 @@ module _ {K V : Type 0} (bytes : K → List ℕ) (P : ℕ) (arena : Arena K V) w
       (with_key (key_of bytes) key pairs ≡ pair_in (Some deleted.deleted_leaf))
       × HasPairs deleted.new_root (without_key (key_of bytes) key pairs)
 
-  -- it has the pairs without the one at this end, which is answered; or there is no pair
+  -- it has the pairs without the one at this end, which is answered; or there was none
   abbrev pub HasTakenEnd : Option Name → End → List (K × V) → Option (DeleteResult K V) → Type 0
-  HasTakenEnd root end pairs None = pairs ≡ []
+  HasTakenEnd root end pairs None = (pairs ≡ []) × HasPairs root pairs
   HasTakenEnd root end pairs (Some deleted) =
       (rest : List (K × V)) × IsAtEnd end (deleted.deleted_leaf.key, deleted.deleted_leaf.value) rest pairs
       × HasPairs deleted.new_root rest
