@@ -102,9 +102,9 @@ module _ {K V : Type 0} (bytes : K → List ℕ) (P : ℕ) (arena : Arena K V) w
   abbrev pub HasTaken : Option Name → List ℕ → List (K × V) → Option (DeleteResult K V) → Type 0
   HasTaken root key pairs result = HasTakenBeside bytes P arena [] root key pairs result
 
-  -- it has the pairs without the one at this end, which is answered; or there is no pair
+  -- it has the pairs without the one at this end, which is answered; or there was none
   abbrev pub HasTakenEnd : Option Name → End → List (K × V) → Option (DeleteResult K V) → Type 0
-  HasTakenEnd root end pairs None = pairs ≡ []
+  HasTakenEnd root end pairs None = (pairs ≡ []) × HasPairs root pairs
   HasTakenEnd root end pairs (Some deleted) =
       (rest : List (K × V)) × IsAtEnd end (deleted.deleted_leaf.key, deleted.deleted_leaf.value) rest pairs
       × HasPairs deleted.new_root rest
