@@ -36,6 +36,8 @@ pub mod Repoint
 pub mod Surroundings
 -- What stands beside a tree, and stays where only the tree changes.
 pub mod Besides
+-- Another tree of an arena: where its nodes are kept, its root means what it meant.
+pub mod KeptTrees
 -- The branches around the place of a byte that none has: where a new child goes.
 pub mod Openings
 -- An edit below one child leaves every other child as it was.
