@@ -19,7 +19,8 @@ use Rattle.art_arena.proofs.shapes.Updates.{nodes-update}
 use Rattle.art_operations.specs.Frees.{cells_with, cells_with_in, KeepsAllBut}
 use Rattle.art_operations.specs.declared.deallocate.Bottom.{Bottom}
 use Rattle.art_operations.specs.inner.Freeing.{step_in, IsChildless, AreFirst, IsBottom, FreesRoot, HoldsPart, HoldsBoth, HoldsOneLess}
-use Rattle.art_operations.proofs.Freeing.{Holds-swap, without-last, with-join, after_with, with-plug, root_cells, below_root, with-root, childless-cells, childless-one, freed_root, apart-from, kept_root}
+use Rattle.art_arena.proofs.shapes.CellLists.{Holds-turn}
+use Rattle.art_operations.proofs.Freeing.{without-last, with-join, after_with, with-plug, root_cells, below_root, with-root, childless-cells, childless-one, freed_root, apart-from, kept_root}
 use Rattle.art_operations.proofs.FreedSizes.{size_of, size-part}
 
 module _ {K V : Type 0} (P : ℕ) (w : Bool) (arena : Arena K V) where
@@ -65,13 +66,13 @@ module _ {K V : Type 0} (P : ℕ) (w : Bool) (arena : Arena K V) where
   part-there ctx part rest first holds =
       let parts : Holds (node_at arena) (cells_before P ctx (name_of part) ++ (cells_with P w part ++ (after_with P w ctx ++ rest))) =
       subst (Holds (node_at arena)) (ap (λ xs. xs ++ rest) (with-plug P w ctx part first) ∙ append_assoc (cells_before P ctx (name_of part)) (cells_with P w part ++ after_with P w ctx) rest ∙ ap (λ xs. cells_before P ctx (name_of part) ++ xs) (append_assoc (cells_with P w part) (after_with P w ctx) rest)) holds in
-      Holds-swap (node_at arena) [] (cells_before P ctx (name_of part)) (cells_with P w part) (after_with P w ctx ++ rest) parts
+      Holds-turn (node_at arena) [] (cells_before P ctx (name_of part)) (cells_with P w part) (after_with P w ctx ++ rest) parts
 
   pub whole-there : (ctx : List (Frame K V)) (part : Shape K V) (rest : List (Name × Cell K V)) → AreFirst ctx
       → Holds (node_at arena) (cells_with P w part ++ (cells_before P ctx (name_of part) ++ (after_with P w ctx ++ rest))) → Holds (node_at arena) (cells_with P w (plug ctx part) ++ rest)
   whole-there ctx part rest first holds =
       subst (Holds (node_at arena)) (sym (ap (λ xs. xs ++ rest) (with-plug P w ctx part first) ∙ append_assoc (cells_before P ctx (name_of part)) (cells_with P w part ++ after_with P w ctx) rest ∙ ap (λ xs. cells_before P ctx (name_of part) ++ xs) (append_assoc (cells_with P w part) (after_with P w ctx) rest)))
-      (Holds-swap (node_at arena) [] (cells_with P w part) (cells_before P ctx (name_of part)) (after_with P w ctx ++ rest) holds)
+      (Holds-turn (node_at arena) [] (cells_with P w part) (cells_before P ctx (name_of part)) (after_with P w ctx ++ rest) holds)
 
   -- from an inner node to its first child
   pub record FirstStep (s : Shape K V) (rest : List (Name × Cell K V)) (n : Name) (place : Option (Name × ℕ)) : Type 0 where

@@ -16,7 +16,8 @@ use Rattle.art_arena.proofs.shapes.Updates.{nodes-update}
 use Rattle.art_operations.specs.Frees.{cells_with, KeepsAllBut}
 use Rattle.art_operations.specs.declared.deallocate.Bottom.{Bottom}
 use Rattle.art_operations.specs.inner.Freeing.{step_in, AreFirst, IsBottom, FreesRoot, HoldsPart, HoldsBoth, HoldsOneLess}
-use Rattle.art_operations.proofs.Freeing.{Holds-swap, after_with, with-plug, root_cells, childless-cells, childless-one, freed_root, apart-from, kept_root}
+use Rattle.art_arena.proofs.shapes.CellLists.{Holds-turn}
+use Rattle.art_operations.proofs.Freeing.{after_with, with-plug, root_cells, childless-cells, childless-one, freed_root, apart-from, kept_root}
 use Rattle.art_operations.proofs.FreeSteps.{part-there}
 
 module _ {K V : Type 0} (P : ℕ) where
@@ -42,7 +43,7 @@ module _ {K V : Type 0} (P : ℕ) where
         ap (copies k) (with-plug P w ctx s first) ∙ omega (arith, copies-append k (cells_before P ctx (name_of s)) (cells_with P w s ++ after_with P w ctx), copies-append k (cells_with P w s) (after_with P w ctx))
 
     pub both-other : (arena : Arena K V) (one : Name) (s : Shape K V) (other : Name) (t : Shape K V) (rest : List (Name × Cell K V)) → HoldsBoth P w arena one s other t rest → HoldsPart P w arena other t (cells_with P w s ++ rest)
-    both-other arena one s other t rest both = record { named = both.named_other; holds = Holds-swap (node_at arena) [] (cells_with P w s) (cells_with P w t) rest both.holds }
+    both-other arena one s other t rest both = record { named = both.named_other; holds = Holds-turn (node_at arena) [] (cells_with P w s) (cells_with P w t) rest both.holds }
 
     -- the childless node at the bottom, all else beside it
     pub bottom-part : (arena : Arena K V) (n : Name) (t : Shape K V) (rest : List (Name × Cell K V)) → HoldsPart P w arena n t rest → (bottom : Bottom) → (b : IsBottom t bottom)
@@ -58,7 +59,7 @@ module _ {K V : Type 0} (P : ℕ) where
       without_bottom =
           let part = bottom-part old below t (cells_with P w s ++ rest) (both-other old node s below t rest both) bottom b in
           let at_root = subst (λ xs. Holds (node_at old) (xs ++ (cells_before P b.ctx (name_of b.end) ++ (after_with P w b.ctx ++ (cells_with P w s ++ rest))))) (childless-cells P w b.end b.childless) part.holds in
-          Holds-swap (node_at mid) (cells_before P b.ctx (name_of b.end)) (after_with P w b.ctx) (cells_with P w s) rest
+          Holds-turn (node_at mid) (cells_before P b.ctx (name_of b.end)) (after_with P w b.ctx) (cells_with P w s) rest
           (freed_root P w old mid b.end [] (cells_before P b.ctx (name_of b.end) ++ (after_with P w b.ctx ++ (cells_with P w s ++ rest))) frees at_root)
 
       t_size : length (cells P t) ≡ length (cells_before P b.ctx (name_of b.end)) + (1 + length (cells_after P b.ctx))
