@@ -4,9 +4,9 @@ use Rattle.art_operations_tests.proofs.overwrites.puts_over_in_window.Goals as g
 
 pub overwrite-again-requires : goal.overwrite-again-requires
 overwrite-again-requires g c =
-    let was = c.place_over.ensures in
+    let was = c.place_over-point.ensures in
     let refused = rw c.in-Err.is at c.overwrite-answer.ensures in (
       was.0,
-      tree-same g.K.AsBytes.bytes 4 c.args.arena.now c.overwrite-answer.new.arena refused.0 (root_at c.place_over.result) was.0 was.1,
+      tree-same g.K.AsBytes.bytes 4 c.args.arena.now c.overwrite-answer.new.arena refused.0 (root_at c.place_over-point.result) was.0 was.1,
       rw (c.handed_back.ensures.0, refused.1) was.2,
     )
