@@ -42,3 +42,5 @@ pub mod OtherChildren
 pub mod FullNodes
 -- The leaves that an arena has are those of the cells that it holds.
 pub mod HeldLeaves
+-- The clones of the slabs of an arena are a clone of the arena.
+pub mod ClonedArenas

@@ -1,8 +1,8 @@
 //! The nodes of one kind, under their slab keys.
-ghost use Rattle.std.specs.Prelude.{◌≡◌, ◌<◌, ◌≤◌, ◌^◌, ◌↔◌, ◌+◌};
+ghost use Rattle.std.specs.Prelude.{◌≡◌, ℕ, ◌<◌, ◌≤◌, ◌^◌, ◌↔◌, ◌+◌};
 ghost use Rattle.std.specs.Prelude.{[], Some, None, IfOk, IfErr, IsOk, IsSome, IsTrue, OnErr, OnOk};
 ghost use Rattle.std.specs.Borrow.{sem};
-ghost use Rattle.slab.specs.Slab.{get, slab_len, HasRoomFor, Updates};
+ghost use Rattle.slab.specs.Slab.{get, slab_len, HasRoomFor, Updates, IsSlotClone};
 ghost use Rattle.art_arena.specs.inner.NodesLends.{lends_in};
 
 use slab::Slab;
@@ -10,7 +10,7 @@ use std::alloc::{AllocError, AllocFailed, Global};
 use std::marker::Model;
 
 // No memory holds a node whose stored prefix has so many bytes.
-const NO_MEMORY_HOLDS: usize = 1 << 62;
+pub(crate) const NO_MEMORY_HOLDS: usize = 1 << 62;
 
 /// The nodes of one kind, each under its slab key. Where there is one, or room for one, a prefix of `PREFIX_LEN` stored
 /// bytes is so short that a node fits in memory.
@@ -46,6 +46,25 @@ impl<N, const PREFIX_LEN: usize> Nodes<N, PREFIX_LEN> {
         ensures { result ≡ slab_len self.now }
     {
         self.slab.len()
+    }
+
+    // Where a node fits in no memory, there is none.
+    pub(crate) fn none_fits(&self)
+        ensures { 2 ^ 62 ≤ PREFIX_LEN → (slot : ℕ) → get self.now slot ≡ None }
+    {
+        let _slab = &self.slab;
+    }
+
+    // Clones of the nodes, each under the key of its original. Spare room is not copied.
+    pub(crate) fn try_clone(&self) -> Result<Self, AllocError>
+    where
+        N: Clone,
+        requires { PREFIX_LEN < 2 ^ 62 }
+        ensures { IfOk result (λ copy. (slot : ℕ) → IsSlotClone N.is_clone (get self.now slot) (get copy slot)) }
+    {
+        Ok(Nodes {
+            slab: self.slab.clone()?,
+        })
     }
 
     // Whether there is a node under this key.

@@ -39,3 +39,4 @@ pub mod FreedOne
 pub mod FreedAll
 pub mod FreedRuns
 pub mod FreedParts
+pub mod ClonedTrees
