@@ -50,3 +50,5 @@ pub mod HeldLeaves
 pub mod LeafPlaces
 -- A leaf that has another value.
 pub mod LeafValues
+-- The clones of the slabs of an arena are a clone of the arena.
+pub mod ClonedArenas

@@ -32,3 +32,4 @@ pub mod Lends
 pub mod InnerRef
 -- What a contract sees of a reader, and of a node that it lends.
 pub mod Visited
+pub mod ArenaClones

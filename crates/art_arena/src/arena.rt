@@ -65,6 +65,7 @@ impl<K, V, const PREFIX_LEN: usize> NodeArena<K, V, PREFIX_LEN> {
     ghost use Rattle.art_arena.specs.arena.Shapes.{Shape, leaves};
     ghost use Rattle.art_arena.specs.arena.Stores.{StoresOnly};
     ghost use Rattle.art_arena.specs.arena.Arena.{KeepsRoom, UsesRoom};
+    ghost use Rattle.art_arena.specs.arena.ArenaClones.{IsArenaClone};
 
     /// An arena that holds no node. It takes no memory.
     pub fn new(alloc: Global) -> Self
@@ -123,6 +124,38 @@ impl<K, V, const PREFIX_LEN: usize> NodeArena<K, V, PREFIX_LEN> {
         self.nodes16.clear();
         self.nodes48.clear();
         self.nodes256.clear();
+    }
+
+    /// An arena with a clone of each node under the same name, so that its links lead to clones as well. It has no room
+    /// to spare that it need not have. It is refused where a key, a value or a node can't be cloned; nothing is left
+    /// of it then.
+    pub fn try_clone(&self, alloc: Global) -> Result<Self, AllocError>
+    where
+        K: Clone,
+        V: Clone,
+        ensures { IfOk result (λ copy. IsArenaClone K.is_clone V.is_clone self.now copy) }
+    {
+        let leaves = self.leaves.try_clone()?;
+        if PREFIX_LEN >= NO_MEMORY_HOLDS {
+            self.nodes4.none_fits();
+            self.nodes16.none_fits();
+            self.nodes48.none_fits();
+            self.nodes256.none_fits();
+            return Ok(NodeArena {
+                leaves,
+                nodes4: Nodes::new(alloc),
+                nodes16: Nodes::new(alloc),
+                nodes48: Nodes::new(alloc),
+                nodes256: Nodes::new(alloc),
+            });
+        }
+        Ok(NodeArena {
+            leaves,
+            nodes4: self.nodes4.try_clone()?,
+            nodes16: self.nodes16.try_clone()?,
+            nodes48: self.nodes48.try_clone()?,
+            nodes256: self.nodes256.try_clone()?,
+        })
     }
 
     /// Makes room for so many more nodes, whatever their kinds: as many allocations then need no memory. It is

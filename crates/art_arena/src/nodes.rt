@@ -2,7 +2,7 @@
 ghost use Rattle.std.specs.Prelude.{◌≡◌, ℕ, ◌<◌, ◌≤◌, ◌^◌, ◌↔◌, ◌+◌};
 ghost use Rattle.std.specs.Prelude.{[], Some, None, IfOk, IfErr, IsOk, IsSome, IsTrue, OnErr, OnOk};
 ghost use Rattle.std.specs.Borrow.{sem};
-ghost use Rattle.slab.specs.Slab.{get, slab_len, HasRoomFor, Updates};
+ghost use Rattle.slab.specs.Slab.{get, slab_len, HasRoomFor, Updates, IsSlotClone};
 ghost use Rattle.art_arena.specs.inner.NodesLends.{lends_in};
 
 use slab::Slab;
@@ -64,6 +64,18 @@ impl<N, const PREFIX_LEN: usize> Nodes<N, PREFIX_LEN> {
         ensures capacity { self.new.capacity ≡ self.old.capacity }
     {
         self.slab.clear();
+    }
+
+    // Clones of the nodes, each under the key of its original. Spare room is not copied.
+    pub(crate) fn try_clone(&self) -> Result<Self, AllocError>
+    where
+        N: Clone,
+        requires { PREFIX_LEN < 2 ^ 62 }
+        ensures { IfOk result (λ copy. (slot : ℕ) → IsSlotClone N.is_clone (get self.now slot) (get copy slot)) }
+    {
+        Ok(Nodes {
+            slab: self.slab.clone()?,
+        })
     }
 
     // Whether there is a node under this key.

@@ -98,9 +98,9 @@ module _ {K V : Type 0} (P : ℕ) (w : Bool) (arena : Arena K V) where
             record { named = b.3; holds = part-there (f ∷ on.ctx) b.0 rest (refl, on.first) (subst (λ t. Holds (node_at arena) (cells_with P w t ++ rest)) whole at_part) } in (
               record { ctx = f ∷ on.ctx; part = b.0; whole = whole; first = (refl, on.first); holds = below; place_is = refl },
               (
-                let size : length (cells P on.part) ≡ suc (length (cells P b.0) + length (cells_in P b.1)) = ap (λ t. length (cells P t)) is ∙ ap suc (length-append (cells P b.0) (cells_in P b.1)) in
-                omega (arith, size, size-part P w arena n on.part _ on.holds, size-part P w arena c.1 b.0 _ below)
-              ),
+                  let size : length (cells P on.part) ≡ suc (length (cells P b.0) + length (cells_in P b.1)) = ap (λ t. length (cells P t)) is ∙ ap suc (length-append (cells P b.0) (cells_in P b.1)) in
+                  omega (arith, size, size-part P w arena n on.part _ on.holds, size-part P w arena c.1 b.0 _ below)
+                  ),
             );
         ends = λ none b node place.
             record {

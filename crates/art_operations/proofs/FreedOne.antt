@@ -71,7 +71,7 @@ module _ {K V : Type 0} (P : ℕ) (w : Bool) (old : Arena K V) (n : Name) (s : S
       part = record {
         named = only.named;
         holds = freed_root P w old new (inner_at n inner.prefix (branch last.0 only.child no_branch)) [] (cells_with P w only.child ++ rest) single-frees
-        (subst (λ xs. Holds (node_at old) (xs ++ rest)) single-cells part.holds);
+            (subst (λ xs. Holds (node_at old) (xs ++ rest)) single-cells part.holds);
       };
       less = ap (λ x. length (cells P x)) only.is ∙ ap (λ xs. suc (length xs)) (append-nil (cells P only.child));
       names = λ k. omega (arith, ap (copies k) single-cells);

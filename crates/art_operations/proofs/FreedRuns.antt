@@ -127,8 +127,8 @@ module _ {K V : Type 0} where
             before = Some first;
             after = run.after;
             linked = AreLinked-frame (links_at now) (links_at new) first None (links-update now new first None updates) (Some first) (l ∷ more) run.after
-            (times-copies first (l ∷ more) ∙ ap (λ xs. copies (leaf_name first) (leaf_cells xs)) (sym e) ∙ apart)
-            (subst (λ xs. AreLinked (links_at now) (Some first) xs run.after) e links_of_first.1);
+                (times-copies first (l ∷ more) ∙ ap (λ xs. copies (leaf_name first) (leaf_cells xs)) (sym e) ∙ apart)
+                (subst (λ xs. AreLinked (links_at now) (Some first) xs run.after) e links_of_first.1);
             first_is = sym (ap (λ xs. first_slot xs run.after) e) ∙ sym next_is ∙ is;
             last_is = ap (last_slot (Some first)) (sym e) ∙ last_of;
             holds = subst (λ xs. Holds (node_at new) (leaf_cells xs ++ rest)) e holds_more;

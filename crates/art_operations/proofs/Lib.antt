@@ -44,3 +44,4 @@ pub mod FreedRuns
 pub mod FreedParts
 pub mod WrittenValues
 pub mod TakenEnds
+pub mod ClonedTrees

@@ -11,4 +11,5 @@ pub mod Pairs
 pub mod Commands
 pub mod Runs
 pub mod Frees
+pub mod Clones
 pub mod inner

@@ -11,7 +11,8 @@ ghost use Rattle.art_arena.specs.arena.Cells.{Cell, Holds};
 ghost use Rattle.art_arena.specs.arena.Shapes.{Shape, LeafAt, cells, leaves};
 ghost use Rattle.art_operations.specs.Frees.{cells_with, inner_cells, leaf_cells, HoldsBeside, HoldsInnerBeside};
 ghost use Rattle.art_operations.specs.Frees.{HoldsRun, KeepsAllBut};
-ghost use Rattle.art_operations.specs.inner.Freeing.{FreesRoot, HasFreedOne, HoldsBoth, HoldsOneLess, HoldsPart, IsBottom};
+ghost use Rattle.art_operations.specs.inner.Freeing.{FreesRoot, HasFreedOne, HoldsBoth, HoldsOneLess, HoldsPart};
+ghost use Rattle.art_operations.specs.inner.Freeing.{IsBottom};
 
 use art_arena::{LeafPtr, NodeArena, NodeEdit};
 use art_nodes::{KindLeaf, LeafNode, OpaqueNodePtr};

@@ -3,6 +3,7 @@
 //! The definitions stand in `specs/`.
 #![tactic(auto)]
 
+pub mod clone;
 pub mod deallocate;
 pub mod delete;
 pub mod insert;
@@ -14,6 +15,7 @@ mod parent;
 pub mod prefix_insert;
 pub mod running;
 
+pub use clone::{CloneResult, clone_unchecked};
 pub use deallocate::{deallocate_leaves, deallocate_tree, deallocate_tree_non_leaves};
 pub use delete::point::{
     DeletePoint, find_maximum_to_delete, find_minimum_to_delete, search_for_delete_point,
