@@ -1,11 +1,9 @@
 //! What a check answers of arenas made by public calls: canonical trees, and one of each fault.
-ghost use Rattle.std.specs.Prelude.{◌≢◌};
-ghost use Rattle.art_nodes.specs.declared.kind.NodeType.TheVariants.{Leaf};
-
 use art_arena::{LeafPtr, NodeArena, Stored};
 use art_bytes::AsBytes;
 use art_nodes::{
-    InnerNode4, InnerNode16, InnerNodeCommon, InnerNodeInit, LeafNode, NodePtr, OpaqueNodePtr,
+    InnerNode4, InnerNode16, InnerNodeCommon, InnerNodeInit, Kind4, LeafNode, NodePtr,
+    OpaqueNodePtr,
 };
 use art_walks::{MalformedTreeError, WellFormedChecker, WellFormedTreeStats};
 use std::alloc::Global;
@@ -35,32 +33,25 @@ fn link<K, V>(
     }
 }
 
-// Stores an inner node with this prefix and no children.
-fn inner<N, K, V>(arena: &mut NodeArena<K, V, 16>, prefix: &[u8]) -> Option<NodePtr<N::Kind>>
-where
-    N: InnerNodeCommon<16> + Stored<K, V, NodeArena<K, V, 16>>,
-{
-    match arena.allocate_node_ptr(N::from_prefix(prefix, prefix.len())) {
-        Ok(node) => Some(node),
-        Err(_refused) => None,
-    }
-}
-
-// Writes a child.
-fn put_child<N, K, V>(
+// Stores an inner node with this prefix and these children, as far as it has room.
+fn inner<N, K, V>(
     arena: &mut NodeArena<K, V, 16>,
-    parent: NodePtr<N::Kind>,
-    byte: u8,
-    child: OpaqueNodePtr,
-)
+    prefix: &[u8],
+    children: &[(u8, OpaqueNodePtr)],
+) -> Option<OpaqueNodePtr>
 where
     N: InnerNodeCommon<16> + Stored<K, V, NodeArena<K, V, 16>>,
 {
-    if arena.holds(parent.to_opaque()) {
-        let node = arena.as_mut::<N>(parent);
-        if !node.is_full() {
-            node.write_child(byte, child);
+    let mut node = N::from_prefix(prefix, prefix.len());
+    for child in children {
+        if node.is_full() {
+            return None;
         }
+        node.write_child(child.0, child.1);
+    }
+    match arena.allocate_node_ptr(node) {
+        Ok(node) => Some(node.to_opaque()),
+        Err(_refused) => None,
     }
 }
 
@@ -84,23 +75,23 @@ fn pair<K: AsBytes + Drop, V: Drop>(
     entries: [(K, V); 2],
 ) -> Option<(OpaqueNodePtr, LeafPtr, LeafPtr)> {
     let (first, second) = two_leaves(arena, entries)?;
-    let root = inner::<InnerNode4<K, V, 16>, K, V>(arena, prefix)?;
-    put_child::<InnerNode4<K, V, 16>, K, V>(arena, root, 0, first.to_opaque());
-    put_child::<InnerNode4<K, V, 16>, K, V>(arena, root, 1, second.to_opaque());
-    Some((root.to_opaque(), first, second))
+    let children = [(0, first.to_opaque()), (1, second.to_opaque())];
+    let root = inner::<InnerNode4<K, V, 16>, K, V>(arena, prefix, &children)?;
+    Some((root, first, second))
 }
 
 fn told<K: AsBytes, V>(alloc: Global, arena: &NodeArena<K, V, 16>, root: OpaqueNodePtr) -> Answer {
     Some(WellFormedChecker::check_tree(alloc, arena, root))
 }
 
+// The first node of its kind has the first name.
 fn names_itself<K: AsBytes + Drop, V: Drop>(alloc: Global, entry: (K, V)) -> Answer {
     let mut arena: NodeArena<K, V, 16> = NodeArena::new(alloc);
     let only = leaf(&mut arena, entry)?;
-    let root = inner::<InnerNode4<K, V, 16>, K, V>(&mut arena, b"")?;
-    put_child::<InnerNode4<K, V, 16>, K, V>(&mut arena, root, 0, only.to_opaque());
-    put_child::<InnerNode4<K, V, 16>, K, V>(&mut arena, root, 1, root.to_opaque());
-    told(alloc, &arena, root.to_opaque())
+    let itself: NodePtr<Kind4> = NodePtr::from_slot(0);
+    let children = [(0, only.to_opaque()), (1, itself.to_opaque())];
+    let root = inner::<InnerNode4<K, V, 16>, K, V>(&mut arena, b"", &children)?;
+    told(alloc, &arena, root)
 }
 
 fn second_is_freed<K: AsBytes + Drop, V: Drop>(alloc: Global, entries: [(K, V); 2]) -> Answer {
@@ -116,24 +107,29 @@ fn second_is_freed<K: AsBytes + Drop, V: Drop>(alloc: Global, entries: [(K, V); 
 fn one_child<K: AsBytes + Drop, V: Drop>(alloc: Global, entry: (K, V)) -> Answer {
     let mut arena: NodeArena<K, V, 16> = NodeArena::new(alloc);
     let only = leaf(&mut arena, entry)?;
-    let root = inner::<InnerNode4<K, V, 16>, K, V>(&mut arena, b"")?;
-    put_child::<InnerNode4<K, V, 16>, K, V>(&mut arena, root, 0, only.to_opaque());
-    told(alloc, &arena, root.to_opaque())
+    let children = [(0, only.to_opaque())];
+    let root = inner::<InnerNode4<K, V, 16>, K, V>(&mut arena, b"", &children)?;
+    told(alloc, &arena, root)
 }
 
-fn too_large<K: AsBytes + Drop, V: Drop>(alloc: Global, entries: [(K, V); 4]) -> Answer {
+fn too_large<K: AsBytes + Drop, V: Drop>(
+    alloc: Global,
+    low: [(K, V); 2],
+    high: [(K, V); 2],
+) -> Answer {
     let mut arena: NodeArena<K, V, 16> = NodeArena::new(alloc);
-    let [a, b, c, d] = entries;
-    let (first, second) = two_leaves(&mut arena, [a, b])?;
-    let (third, fourth) = two_leaves(&mut arena, [c, d])?;
+    let (first, second) = two_leaves(&mut arena, low)?;
+    let (third, fourth) = two_leaves(&mut arena, high)?;
     link(&mut arena, second, Some(first), Some(third));
     link(&mut arena, third, Some(second), Some(fourth));
-    let root = inner::<InnerNode16<K, V, 16>, K, V>(&mut arena, b"")?;
-    put_child::<InnerNode16<K, V, 16>, K, V>(&mut arena, root, 0, first.to_opaque());
-    put_child::<InnerNode16<K, V, 16>, K, V>(&mut arena, root, 1, second.to_opaque());
-    put_child::<InnerNode16<K, V, 16>, K, V>(&mut arena, root, 2, third.to_opaque());
-    put_child::<InnerNode16<K, V, 16>, K, V>(&mut arena, root, 3, fourth.to_opaque());
-    told(alloc, &arena, root.to_opaque())
+    let children = [
+        (0, first.to_opaque()),
+        (1, second.to_opaque()),
+        (2, third.to_opaque()),
+        (3, fourth.to_opaque()),
+    ];
+    let root = inner::<InnerNode16<K, V, 16>, K, V>(&mut arena, b"", &children)?;
+    told(alloc, &arena, root)
 }
 
 fn two_below<K: AsBytes + Drop, V: Drop>(
@@ -210,8 +206,7 @@ fn a_dead_name_is_found(rt: HostRuntime) {
 fn a_wrong_count_is_found(rt: HostRuntime) {
     let answer = one_child(rt.alloc(), ([0u8], 1u8));
     assert!(rt; is_fault(answer, MalformedTreeError::WrongChildrenCount));
-    let entries = [([0u8], 1u8), ([1], 2), ([2], 3), ([3], 4)];
-    let answer = too_large(rt.alloc(), entries);
+    let answer = too_large(rt.alloc(), [([0u8], 1u8), ([1], 2)], [([2], 3), ([3], 4)]);
     assert!(rt; is_fault(answer, MalformedTreeError::WrongChildrenCount));
 }
 
