@@ -11,3 +11,5 @@ mod commands;
 mod lookups;
 #[cfg(test)]
 mod memory;
+#[cfg(test)]
+mod trees;

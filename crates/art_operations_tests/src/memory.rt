@@ -75,8 +75,8 @@ fn tells_a_key_that_cannot_be_put_in(rt: HostRuntime) -> Result<(), Fail> {
     Ok(())
 }
 
-// The tree that commands make.
-fn tree_of<K: CloneBytes, V: Clone>(
+/// The tree that commands make.
+pub(crate) fn tree_of<K: CloneBytes, V: Clone>(
     alloc: Global,
     commands: &[Command<K, V>],
 ) -> Option<(NodeArena<K, V, 4>, OpaqueNodePtr)>
