@@ -13,3 +13,5 @@ mod lookups;
 mod memory;
 #[cfg(test)]
 mod overwrites;
+#[cfg(test)]
+mod trees;

@@ -75,7 +75,7 @@ fn tells_a_key_that_cannot_be_put_in(rt: HostRuntime) -> Result<(), Fail> {
     Ok(())
 }
 
-// The tree that commands make.
+/// The tree that commands make.
 pub(crate) fn tree_of<K: CloneBytes, V: Clone>(
     alloc: Global,
     commands: &[Command<K, V>],

@@ -1,0 +1,75 @@
+//! Two trees in one arena: a change of one leaves the other alone.
+ghost use Rattle.std.specs.Prelude.{[], IfSome};
+ghost use Rattle.art_arena.specs.arena.Arena.{node_at, links_at};
+ghost use Rattle.art_arena.specs.arena.Meaning.{IsSubtree};
+ghost use Rattle.art_arena.specs.arena.Shapes.{Shape, cells};
+ghost use Rattle.art_arena.specs.arena.Stores.{StoresBeside, StoresOnly};
+
+use crate::memory::tree_of;
+use art_arena::NodeArena;
+use art_bytes::{AsBytes, CloneBytes};
+use art_nodes::OpaqueNodePtr;
+use art_operations::{Command, put_pair, search_unchecked, take_pair};
+use std::alloc::Global;
+use std::test::Fail;
+
+// Stores a pair as a tree of its own beside another tree, and answers its root.
+fn put_beside<K: AsBytes + Drop, V: Drop>(
+    arena: &mut NodeArena<K, V, 4>,
+    root: OpaqueNodePtr,
+    key: K,
+    value: V,
+) -> Option<OpaqueNodePtr>
+    requires { (s : Shape K V) × StoresOnly K.bytes 4 arena.old root s }
+    ensures { IfSome result (λ other. (s : Shape K V) × (t : Shape K V)
+        × StoresBeside K.bytes 4 arena.new root (cells 4 t) s × IsSubtree K.bytes 4 (node_at arena.new) other [] t) }
+{
+    match put_pair(arena, None, key, value) {
+        Ok(put) => Some(put.new_root),
+        Err(_) => None,
+    }
+}
+
+// Takes a key out of one tree, and answers whether the other, which stands beside it, has the key then.
+fn takes_from_one<K: AsBytes + Drop, V: Drop>(
+    arena: &mut NodeArena<K, V, 4>,
+    root: OpaqueNodePtr,
+    other: OpaqueNodePtr,
+    key: &[u8],
+) -> bool
+    requires { (s : Shape K V) × (t : Shape K V) × StoresBeside K.bytes 4 arena.old root (cells 4 t) s
+        × IsSubtree K.bytes 4 (node_at arena.old) other [] t }
+{
+    match take_pair(arena, Some(root), key) {
+        Ok(Some(_)) => search_unchecked(arena, other, key).is_some(),
+        Ok(None) => false,
+        Err(_) => false,
+    }
+}
+
+// Whether a key of two trees is found in the second, once it is taken out of the first.
+fn stays_in_other<K: CloneBytes + Drop, V: Clone + Drop>(
+    alloc: Global,
+    commands: &[Command<K, V>],
+    key: K,
+    value: V,
+    bytes: &[u8],
+) -> bool {
+    let Some((mut arena, root)) = tree_of(alloc, commands) else {
+        return false;
+    };
+    match put_beside(&mut arena, root, key, value) {
+        Some(other) => takes_from_one(&mut arena, root, other, bytes),
+        None => false,
+    }
+}
+
+#[test]
+fn two_trees_in_one_arena(rt: HostRuntime) -> Result<(), Fail> {
+    let commands = [
+        Command::Insert([1u8, 2], 7u8),
+        Command::Insert([1u8, 3], 8u8),
+    ];
+    assert!(rt; stays_in_other(rt.alloc(), &commands, [1u8, 3], 9u8, &[1, 3]));
+    Ok(())
+}
