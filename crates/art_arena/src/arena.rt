@@ -1,5 +1,6 @@
 //! The nodes of a tree, under their names.
-ghost use Rattle.std.specs.Prelude.{◌≡◌, ℕ, ◌<◌, ◌^◌, ◌↔◌, List, length, Some, None, IfOk, OnErr, IfErr, OnOk, IsSome, IsTrue, IsOk};
+ghost use Rattle.std.specs.Prelude.{◌≡◌, ℕ, ◌<◌, ◌^◌, ◌↔◌, List, length};
+ghost use Rattle.std.specs.Prelude.{Some, None, IfOk, OnErr, IfErr, OnOk, IsSome, IsTrue, IsOk};
 
 use crate::nodes::{NO_MEMORY_HOLDS, Nodes};
 use crate::stored::Stored;
