@@ -288,59 +288,39 @@ impl<K, V, const PREFIX_LEN: usize> NodeArena<K, V, PREFIX_LEN> {
         self.leaves.node_mut(leaf.slot()).entry_mut()
     }
 
-    // The slab key of the leaf that comes before a leaf.
-    pub(crate) fn previous(&self, leaf: usize) -> Option<usize>
+    // The leaf that comes before a leaf.
+    pub(crate) fn previous(&self, leaf: LeafPtr) -> Option<LeafPtr>
         requires { IsSome (links_at self.now leaf) }
         ensures { (links : _) → links_at self.now leaf ≡ Some links → result ≡ links.previous }
     {
-        slot_of(self.leaves.node(leaf).previous())
+        self.leaves.node(leaf.slot()).previous()
     }
 
-    // The slab key of the leaf that comes after a leaf.
-    pub(crate) fn next(&self, leaf: usize) -> Option<usize>
+    // The leaf that comes after a leaf.
+    pub(crate) fn next(&self, leaf: LeafPtr) -> Option<LeafPtr>
         requires { IsSome (links_at self.now leaf) }
         ensures { (links : _) → links_at self.now leaf ≡ Some links → result ≡ links.next }
     {
-        slot_of(self.leaves.node(leaf).next())
+        self.leaves.node(leaf.slot()).next()
     }
 
     // Sets the leaf that comes before a leaf.
-    pub(crate) fn set_previous(&mut self, leaf: usize, previous: Option<usize>)
+    pub(crate) fn set_previous(&mut self, leaf: LeafPtr, previous: Option<LeafPtr>)
         requires { IsSome (links_at self.old leaf) }
         ensures links { (was : _) → links_at self.old leaf ≡ Some was
             → WritesLinks self.old self.new leaf (record was { previous = previous }) }
         ensures room { KeepsRoom self.old self.new }
     {
-        self.leaves.node_mut(leaf).set_previous(name_of(previous))
+        self.leaves.node_mut(leaf.slot()).set_previous(previous)
     }
 
     // Sets the leaf that comes after a leaf.
-    pub(crate) fn set_next(&mut self, leaf: usize, next: Option<usize>)
+    pub(crate) fn set_next(&mut self, leaf: LeafPtr, next: Option<LeafPtr>)
         requires { IsSome (links_at self.old leaf) }
         ensures links { (was : _) → links_at self.old leaf ≡ Some was
             → WritesLinks self.old self.new leaf (record was { next = next }) }
         ensures room { KeepsRoom self.old self.new }
     {
-        self.leaves.node_mut(leaf).set_next(name_of(next))
-    }
-}
-
-// The slab key of a leaf.
-fn slot_of(leaf: Option<LeafPtr>) -> Option<usize>
-    ensures { result ≡ leaf }
-{
-    match leaf {
-        Some(leaf) => Some(leaf.slot()),
-        None => None,
-    }
-}
-
-// The leaf with that slab key.
-fn name_of(slot: Option<usize>) -> Option<LeafPtr>
-    ensures { result ≡ slot }
-{
-    match slot {
-        Some(slot) => Some(NodePtr::from_slot(slot)),
-        None => None,
+        self.leaves.node_mut(leaf.slot()).set_next(next)
     }
 }

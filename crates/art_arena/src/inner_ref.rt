@@ -4,7 +4,7 @@ ghost use Rattle.std.specs.Prelude.{◌≡◌, ◌↔◌, ◌<◌, ◌≤◌, �
 ghost use Rattle.std.specs.declared.ops.Bound.TheVariants.{Excluded, Unbounded};
 ghost use Rattle.art_nodes.specs.InnerNode as node;
 ghost use Rattle.art_nodes.specs.Kind.{row_of};
-ghost use Rattle.art_arena.specs.arena.Descents.{Ends, GoesOn};
+ghost use Rattle.art_arena.specs.arena.Descents.{GoesNoFurther, GoesOn};
 ghost use Rattle.art_arena.specs.arena.EndLeaves.{end_child};
 
 use crate::ends::End;
@@ -58,7 +58,7 @@ impl<'a, K, V, const PREFIX_LEN: usize> InnerRef<'a, K, V, PREFIX_LEN> {
     #[inline(always)]
     pub(crate) fn next_step(&self, key: &[u8], depth: usize) -> Option<NextStep>
         requires { depth ≤ length key.now }
-        ensures { MatchOption result (Ends key.now depth self.now.node)
+        ensures { MatchOption result (GoesNoFurther key.now depth self.now.node)
             (λ step. GoesOn key.now depth self.now.node step.byte step.child step.depth) }
     {
         on_arm!(self, node => step_from::<_, PREFIX_LEN>(node, key, depth))
@@ -200,7 +200,7 @@ fn step_from<N: InnerNodeCommon<PREFIX_LEN>, const PREFIX_LEN: usize>(
     depth: usize,
 ) -> Option<NextStep>
     requires { depth ≤ length key.now }
-    ensures { MatchOption result (Ends key.now depth (N.inner inner.now))
+    ensures { MatchOption result (GoesNoFurther key.now depth (N.inner inner.now))
         (λ step. GoesOn key.now depth (N.inner inner.now) step.byte step.child step.depth) }
 {
     let _children = inner.iter();

@@ -4,6 +4,7 @@ ghost use Rattle.art_bytes.specs.Keys.{BeginsWith, bytes_cmp};
 ghost use Rattle.art_bytes.specs.Mappings.{HaveFixedBytes};
 
 use crate::as_bytes::AsBytes;
+use crate::mappings::Parts;
 use std::alloc::{AllocError, Global};
 
 /// A way to give the values of `D` bytes, and to read them back.
@@ -57,8 +58,9 @@ pub trait BytesMapping<D> {
         → is_same v w };
 }
 
-/// A mapping that gives each value `WIDTH` bytes, in the order of the values, and takes no memory.
-pub trait FixedBytesMapping<D: Ord>: BytesMapping<D> {
+/// A mapping that gives each value `WIDTH` bytes, in the order of the values, and takes no memory. It may be one of a
+/// tuple's.
+pub trait FixedBytesMapping<D: Ord>: BytesMapping<D> + Parts<D> {
     ghost WIDTH: { ℕ };
 
     /// The number of bytes.
@@ -81,6 +83,9 @@ pub trait FixedBytesMapping<D: Ord>: BytesMapping<D> {
 
     /// Each value has its own bytes, all have `WIDTH`, and their order is the order of the values.
     ghost have_bytes: { HaveFixedBytes WIDTH is_value Self.bytes_of D.cmp };
+
+    /// In a tuple a value has these bytes too.
+    ghost part_has_bytes: { (v : D) → Self.parts_bytes v ≡ Self.bytes_of v };
 }
 
 /// A mapping none of whose values has bytes that are a proper front of another's.

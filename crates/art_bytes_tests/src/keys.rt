@@ -7,7 +7,7 @@ use art_bytes::{
 };
 use std::cmp::Ordering;
 use std::net::Ipv4Addr;
-use std::num::NonZeroU16;
+use std::num::{NonZeroI16, NonZeroU16};
 use std::process::Abort;
 use std::rc::Rc;
 use std::test::Fail;
@@ -76,6 +76,26 @@ fn mapped(rt: HostRuntime) -> Result<(), Fail> {
     is(&rt, &address, &[127, 0, 0, 1]);
     let number = Mapped::<ToUBE, NonZeroU16>::new(rt.alloc(), NonZeroU16::MIN)?;
     is(&rt, &number, &[0, 1]);
+    Ok(())
+}
+
+#[test]
+fn mapped_lists(rt: HostRuntime) -> Result<(), Fail> {
+    let least = Mapped::<ToUBE, Vec<u16>>::new(rt.alloc(), [1u16].to_vec(rt.alloc())?)?;
+    let most = Mapped::<ToUBE, Vec<u16>>::new(rt.alloc(), [1u16, 2].to_vec(rt.alloc())?)?;
+    ordered(&rt, &least, &most);
+    is(&rt, &most, &[0, 1, 0, 2]);
+    assert_eq!(rt; laws::order_is_of_values(&least, &most), Ordering::Less);
+    assert!(rt; most.clone()? == most);
+    assert!(rt; most.get(rt.alloc())?.as_slice() == [1, 2].as_slice());
+    let signed = Mapped::<ToIBE, Vec<i64>>::new(rt.alloc(), [-5i64].to_vec(rt.alloc())?)?;
+    is(&rt, &signed, b"\x7f\xff\xff\xff\xff\xff\xff\xfb");
+    assert!(rt; signed.get(rt.alloc())?.as_slice() == [-5].as_slice());
+    let array = Mapped::<ToUBE, [u32; 3]>::new(rt.alloc(), [1, 256, 0])?;
+    ends(&rt, &array, b"\0\0\0\x01\0\0\x01\0\0\0\0\0");
+    assert!(rt; array.get(rt.alloc())? == [1, 256, 0]);
+    let none = Mapped::<ToIBE, [NonZeroI16; 0]>::new(rt.alloc(), [])?;
+    ends(&rt, &none, &[]);
     Ok(())
 }
 

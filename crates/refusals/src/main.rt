@@ -74,6 +74,15 @@ fn vector_from_bytes(alloc: Global) -> Result<[u8; 8], AllocError> {
     counted(alloc, Some(values))
 }
 
+fn mapped_vector(alloc: Global) -> Result<Mapped<ToUBE, Vec<u16>>, AllocError> {
+    Mapped::new(alloc, numbers(alloc)?)
+}
+
+fn mapped_vector_get(alloc: Global) -> Result<[u8; 8], AllocError> {
+    let values = mapped_vector(alloc)?.get(alloc)?;
+    counted(alloc, Some(values))
+}
+
 fn tuple_reads_back(alloc: Global) -> Result<[u8; 8], AllocError> {
     let (_, number) = laws::reads_back::<Pair, (u32, i64)>(alloc, (1, -5))?;
     ToIBE::to_bytes(alloc, number)
@@ -210,6 +219,8 @@ fn run(rt: &(impl Print + Eprint + AllocGlobal), name: &str) -> io::Result<()> {
         "pair_key" => makes(rt, &|| laws::pair_key_is(alloc, 1, -5)),
         "mapped_new" => makes(rt, &|| PairKey::new(alloc, (1, -5))),
         "mapped_clone" => mapped_clone(rt),
+        "mapped_vector_new" => makes(rt, &|| mapped_vector(alloc)),
+        "mapped_vector_get" => makes(rt, &|| mapped_vector_get(alloc)),
         "mapped_get_takes_no_memory" => mapped_get(rt),
         "number_to_bytes_takes_no_memory" => makes(rt, &|| ToIBE::to_bytes(alloc, -5i64)),
         "number_from_bytes_takes_no_memory" => makes(rt, &|| number_from_bytes(alloc)),
@@ -242,6 +253,8 @@ fn main(rt: HostRuntime) -> io::Result<()> {
             "pair_key",
             "mapped_new",
             "mapped_clone",
+            "mapped_vector_new",
+            "mapped_vector_get",
             "mapped_get_takes_no_memory",
             "number_to_bytes_takes_no_memory",
             "number_from_bytes_takes_no_memory",

@@ -15,7 +15,7 @@ use Rattle.art_arena.specs.tree.Paths.{path_of, path_in}
 use Rattle.art_arena.specs.arena.Shapes.{Shape, Branches, leaf_at, inner_at, no_branch, branch, LeafAt, children_at, join, leaves, leaves_in, erase, erase_in, AreUnder}
 use Rattle.art_arena.specs.arena.Context.{AreBelow}
 use Rattle.art_arena.specs.arena.Steps.{Step}
-use Rattle.art_arena.specs.arena.Found.{Located, located, located_in, with_key}
+use Rattle.art_arena.specs.arena.Found.{Located, located, located_in, located_with_key}
 use Rattle.art_arena.proofs.tree.Order.{all_append, all_left, all_right, all_weaker}
 use Rattle.art_arena.specs.arena.Descents.{TakesFronts, located_where}
 use Rattle.art_arena.proofs.tree.Fronts.{begins_trans}
@@ -181,5 +181,5 @@ module _ {K V : Type 0} (bytes : K → List ℕ) (key : List ℕ) where
     | false ↦ pairs-filter ls
   ]
 
-  pub pairs-with_key : (s : Shape K V) → filter (λ p. bytes_eq (bytes p.0) key) (tree.items (erase s)) ≡ map pair_at (with_key bytes key s)
+  pub pairs-with_key : (s : Shape K V) → filter (λ p. bytes_eq (bytes p.0) key) (tree.items (erase s)) ≡ map pair_at (located_with_key bytes key s)
   pairs-with_key s = ap (filter (λ p. bytes_eq (bytes p.0) key)) (sym (pairs-located [] s)) ∙ pairs-filter (located [] s)

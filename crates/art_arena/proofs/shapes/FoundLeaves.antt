@@ -11,7 +11,7 @@ use Rattle.art_arena.specs.arena.Shapes.{Shape, Branches, leaf_at, inner_at, no_
 use Rattle.art_arena.specs.arena.Linked.{Links, first_slot}
 use Rattle.art_arena.specs.arena.Meaning.{IsSubtree, Means}
 use Rattle.art_arena.specs.arena.Steps.{Step, steps_to}
-use Rattle.art_arena.specs.arena.Found.{Located, located, located_in, with_key}
+use Rattle.art_arena.specs.arena.Found.{Located, located, located_in, located_with_key}
 use Rattle.art_arena.specs.arena.Descents.{TakesFronts, passing, leaf_where, located_where, LandsAt, HasNoFront}
 use Rattle.art_arena.proofs.tree.Tenants.{begins_true}
 use Rattle.art_arena.proofs.shapes.Places.{held-below}
@@ -71,10 +71,10 @@ module _ {K V : Type 0} (bytes : K → List ℕ) where
       pub fails : (test : List ℕ → Bool) → TakesFronts key test → test (bytes leaf.key) ≡ false → None ≡ leaf_where bytes test (leaves s)
       fails test takes failed = sym (ap (λ ls. first_slot ls None) (passing-located test s ∙ ap leaves_of (located-fails test takes failed)))
 
-      pub key-same : bytes leaf.key ≡ key → with_key bytes key s ≡ the_leaf ∷ []
+      pub key-same : bytes leaf.key ≡ key → located_with_key bytes key s ≡ the_leaf ∷ []
       key-same same = located-passes (λ k. bytes_eq k key) (takes_equal key) (same_key (bytes leaf.key) key same)
 
-      pub key-other : bytes leaf.key ≢ key → with_key bytes key s ≡ []
+      pub key-other : bytes leaf.key ≢ key → located_with_key bytes key s ≡ []
       key-other other = located-fails (λ k. bytes_eq k key) (takes_equal key) (other_key (bytes leaf.key) key other)
 
       -- the leaf stands in the arena under its name
@@ -85,12 +85,12 @@ module _ {K V : Type 0} (bytes : K → List ℕ) where
     pub misses : HasNoFront bytes key s → (test : List ℕ → Bool) → TakesFronts key test → None ≡ leaf_where bytes test (leaves s)
     misses none test takes = sym (ap (λ ls. first_slot ls None) (passing-located test s ∙ ap leaves_of (none test takes)))
 
-    pub key-none : HasNoFront bytes key s → with_key bytes key s ≡ []
+    pub key-none : HasNoFront bytes key s → located_with_key bytes key s ≡ []
     key-none none = none (λ k. bytes_eq k key) (takes_equal key)
 
 -- whatever tree a name means, its pairs with the key are those of the leaves with the key
 pub pairs-found : {K V : Type 0} (bytes : K → List ℕ) (key : List ℕ) (P : ℕ) (at : Name → Option (Cell K V)) (root : Name) (links : ℕ → Option Links) (pairs : List (K × V))
-    → ((s : Shape K V) → IsSubtree bytes P at root [] s → map (pair_at bytes key) (with_key bytes key s) ≡ pairs)
+    → ((s : Shape K V) → IsSubtree bytes P at root [] s → map (pair_at bytes key) (located_with_key bytes key s) ≡ pairs)
     → (t : Tree (K × V)) → Means bytes P at root links t → pairs ≡ filter (λ p. bytes_eq (bytes p.0) key) (items t)
 pairs-found bytes key P at root links pairs found t m =
     sym (ap (λ u. filter (λ p. bytes_eq (bytes p.0) key) (items u)) (sym m.erased) ∙ pairs-with_key bytes key m.shape ∙ found m.shape (record { part = m.part; under = m.under }))

@@ -13,7 +13,7 @@ use Rattle.art_arena.specs.arena.Meaning.{IsSubtree}
 use Rattle.art_arena.specs.arena.Steps.{Step, steps_to}
 use Rattle.art_arena.specs.arena.Places.{IsPlace}
 use Rattle.art_arena.specs.arena.Found.{located, located_in}
-use Rattle.art_arena.specs.arena.Descents.{GoesOn, Ends, TakesFronts, located_where, LandsAt, HasNoFront}
+use Rattle.art_arena.specs.arena.Descents.{GoesOn, GoesNoFurther, TakesFronts, located_where, LandsAt, HasNoFront}
 use Rattle.art_nodes.specs.declared.leaf.LeafNode.{LeafNode}
 use Rattle.art_arena.specs.arena.Arena.{Arena, Held, leaf_held, inner_held, held_at, cell_of, node_at}
 use Rattle.art_arena.proofs.shapes.Places.{held-below, leaf-there, inner-there, step-down, at-root}
@@ -170,7 +170,7 @@ module _ {K V : Type 0} (bytes : K → List ℕ) (key : List ℕ) (whole : Shape
             (ap (path_in (erase_in here.kids)) (dropped (depth + node.header.prefix_len) key more) ∙ path_in-missing bytes key here.kids b (drop (depth + node.header.prefix_len + 1) key) avoid)
 
         -- it ends
-        pub way-ends : Ends key depth node → HasEnded (min (count + 1) (2 ^ 64 - 1))
+        pub way-ends : GoesNoFurther key depth node → HasEnded (min (count + 1) (2 ^ 64 - 1))
         way-ends (inl short) = ends-short short
         way-ends (inr missing) = elim (leb_tells (length key) (depth + node.header.prefix_len)) [
           | inl short ↦ ends-short short.1

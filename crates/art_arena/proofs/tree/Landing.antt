@@ -5,7 +5,7 @@ use Rattle.art_bytes.specs.Keys.{BeginsWith, Conflict, IsProperFront}
 use Rattle.art_arena.specs.tree.Changes.{IsIn}
 use Rattle.art_arena.specs.tree.Trees.{Tree, Forest, leaf, inner, no_child, child, items, items_in, IsCanonical, AreCanonical}
 use Rattle.art_arena.specs.tree.Paths.{last_leaf, path_of, path_in}
-use Rattle.art_arena.specs.tree.Landing.{ends, differs, passes, pass, Landing, on_leaf, is_front, splits_prefix, lacks_child, landing, landing_in, IsBlocked}
+use Rattle.art_arena.specs.tree.Landing.{ends, differs, passes, pass, Landing, on_leaf, is_front, splits_prefix, lacks_child, landing, landing_in, EndsInConflict}
 use Rattle.art_arena.proofs.tree.Canonical.{begin, some_item_in}
 use Rattle.art_arena.proofs.tree.Insert.{all_at, in_left, in_right}
 use Rattle.art_arena.proofs.tree.Fronts.{cancel, one_byte, not_among_others, begins_trans}
@@ -174,22 +174,22 @@ module _ {X : Type 0} (key : X → List ℕ) (k : List ℕ) where
       go (lacks_child b) f = absurd f
 
   -- a conflict, and where the descent ends
-  pub conflict_blocks : (t : Tree X) → IsCanonical key [] t → (y : X) → IsIn y (items t) → Conflict k (key y) → IsBlocked key k (landing t k)
+  pub conflict_blocks : (t : Tree X) → IsCanonical key [] t → (y : X) → IsIn y (items t) → Conflict k (key y) → EndsInConflict key k (landing t k)
   conflict_blocks t h y i c = go (landing t k) (lands (Conflict k) apart [] t h k refl y i c)
     where
       apart : (q : List ℕ) (a : ℕ) (r : List ℕ) (b : ℕ) (s l : List ℕ) → k ≡ q ++ a ∷ r → l ≡ q ++ b ∷ s → a ≢ b → Conflict k l → ⊥
       apart q a r b s l e f n g = apart_no_conflict q a r b s n (subst (λ m. Conflict m (q ++ b ∷ s)) e (subst (Conflict k) f g))
 
-      go : (l : Landing X) → Lands (Conflict k) apart y l → IsBlocked key k l
+      go : (l : Landing X) → Lands (Conflict k) apart y l → EndsInConflict key k l
       go (on_leaf x) f = subst (Conflict k) (sym (ap key f)) c
       go is_front f = tt
       go splits_prefix f = f
       go (lacks_child b) f = f
 
-  pub block_conflicts : (t : Tree X) → IsCanonical key [] t → IsBlocked key k (landing t k) → (y : X) × IsIn y (items t) × Conflict k (key y)
+  pub block_conflicts : (t : Tree X) → IsCanonical key [] t → EndsInConflict key k (landing t k) → (y : X) × IsIn y (items t) × Conflict k (key y)
   block_conflicts t h b = go (landing t k) (there [] t h k refl) b
     where
-      go : (l : Landing X) → IsThere (items t) l → IsBlocked key k l → (y : X) × IsIn y (items t) × Conflict k (key y)
+      go : (l : Landing X) → IsThere (items t) l → EndsInConflict key k l → (y : X) × IsIn y (items t) × Conflict k (key y)
       go (on_leaf x) i c = (x, i, c)
       go is_front i c = (i.0, i.1, conflict_first k (key i.0) i.2)
       go splits_prefix i c = absurd c

@@ -7,7 +7,7 @@ use Rattle.art_bytes.specs.Keys.{BeginsWith}
 use Rattle.art_arena.specs.tree.Trees.{Tree, Forest, leaf, inner, no_child, child, items, items_in, IsCanonical, AreCanonical}
 use Rattle.art_arena.specs.tree.Landing.{ends, differs, passes}
 use Rattle.art_arena.specs.tree.Tenants.{begins_with, with_front}
-use Rattle.art_arena.specs.tree.Parts.{part, part_in, items_of}
+use Rattle.art_arena.specs.tree.Parts.{part_with_front, part_in, items_of}
 use Rattle.art_arena.proofs.tree.Order.{all_weaker}
 use Rattle.art_arena.proofs.tree.Canonical.{begin, begin_in}
 use Rattle.art_arena.proofs.tree.Fronts.{one_byte, not_among_others, begins_trans}
@@ -39,7 +39,7 @@ module _ {X : Type 0} (key : X → List ℕ) (front : List ℕ) where
 
   at_prefix : (p prefix : List ℕ) (cs : Forest X) → IsCanonical key p (inner prefix cs) → (rest : List ℕ) → front ≡ p ++ rest
       → ((b : ℕ) (r : List ℕ) → rest ≡ prefix ++ b ∷ r → with_front key front (items_in cs) ≡ items_of (part_in key front cs b r)) → Passed prefix rest
-      → with_front key front (items_in cs) ≡ items_of (part key front (inner prefix cs) rest)
+      → with_front key front (items_in cs) ≡ items_of (part_with_front key front (inner prefix cs) rest)
   at_prefix p prefix cs h rest e down (end f s g) =
       subst (λ w. with_front key front (items_in cs) ≡ items_of (elim w as (λ _. Option (Tree X)) [ ends ↦ Some (inner prefix cs) | differs ↦ None | passes b r ↦ part_in key front cs b r ])) (sym f)
       (own_all (items_in cs) (all_weaker _ _ (λ x j. begins_trans front (p ++ prefix) (key x) (s, ap (λ m. p ++ m) g ∙ sym (append_assoc p rest s) ∙ ap (λ m. m ++ s) (sym e)) j) _ (begin_in key (p ++ prefix) cs h.1)))
@@ -51,7 +51,7 @@ module _ {X : Type 0} (key : X → List ℕ) (front : List ℕ) where
       subst (λ w. with_front key front (items_in cs) ≡ items_of (elim w as (λ _. Option (Tree X)) [ ends ↦ Some (inner prefix cs) | differs ↦ None | passes b r ↦ part_in key front cs b r ])) (sym f) (down b r g)
 
   mutual
-    part_is : (p : List ℕ) (t : Tree X) → IsCanonical key p t → (rest : List ℕ) → front ≡ p ++ rest → with_front key front (items t) ≡ items_of (part key front t rest)
+    part_is : (p : List ℕ) (t : Tree X) → IsCanonical key p t → (rest : List ℕ) → front ≡ p ++ rest → with_front key front (items t) ≡ items_of (part_with_front key front t rest)
     part_is p (leaf x) h rest e =
         elim (cases_Bool (begins_with front (key x))) [
           | inl t ↦ cond-true _ (x ∷ []) [] t ∙ sym (ap items_of (cond-true _ (Some (leaf x)) None t))
@@ -71,9 +71,9 @@ module _ {X : Type 0} (key : X → List ℕ) (front : List ℕ) where
         ∙ ap (λ l. l ++ with_front key front (items_in cs)) (own_none (items t) (all_weaker _ _ (λ x i. elsewhere q b r e c n (key x) i) _ (begin key (q ++ c ∷ []) t h.0)))
         ∙ part_in_is q cs h.2 b r e in
         elim (cases_eq b c) [
-          | inl f ↦ here f ∙ sym (ap items_of (cond-true (eqb b c) (part key front t r) (part_in key front cs b r) (eq-eqb b c f)))
-          | inr n ↦ there n ∙ sym (ap items_of (cond-false (eqb b c) (part key front t r) (part_in key front cs b r) (ne_eqb b c n)))
+          | inl f ↦ here f ∙ sym (ap items_of (cond-true (eqb b c) (part_with_front key front t r) (part_in key front cs b r) (eq-eqb b c f)))
+          | inr n ↦ there n ∙ sym (ap items_of (cond-false (eqb b c) (part_with_front key front t r) (part_in key front cs b r) (ne_eqb b c n)))
         ]
 
-  pub part_is_own : (t : Tree X) → IsCanonical key [] t → with_front key front (items t) ≡ items_of (part key front t front)
+  pub part_is_own : (t : Tree X) → IsCanonical key [] t → with_front key front (items t) ≡ items_of (part_with_front key front t front)
   part_is_own t h = part_is [] t h front refl

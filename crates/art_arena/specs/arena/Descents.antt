@@ -22,8 +22,8 @@ pub record GoesOn (key : List ℕ) (depth : ℕ) (node : InnerNode) (byte : ℕ)
   pub child_is : child_at node.children byte ≡ Some child
 
 -- the key doesn't go on: it ends within the prefix or with it, or there is no child under its next byte
-abbrev pub Ends : List ℕ → ℕ → InnerNode → Type 0
-Ends key depth node =
+abbrev pub GoesNoFurther : List ℕ → ℕ → InnerNode → Type 0
+GoesNoFurther key depth node =
     (length key ≤ depth + node.header.prefix_len)
     ⊎ (child_at node.children (get_or key (depth + node.header.prefix_len) 0) ≡ None)
 

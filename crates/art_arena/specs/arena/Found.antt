@@ -48,12 +48,12 @@ found_of (Some found) = (found.leaf_node_ptr, steps_of found.path) ∷ []
 
 module _ {K V : Type 0} (bytes : K → List ℕ) (key : List ℕ) where
   -- the leaves with this key, each with the steps to it
-  abbrev pub with_key : Shape K V → List (Located K V)
-  with_key s = filter (λ l. bytes_eq (bytes l.leaf.key) key) (located [] s)
+  abbrev pub located_with_key : Shape K V → List (Located K V)
+  located_with_key s = filter (λ l. bytes_eq (bytes l.leaf.key) key) (located [] s)
 
   -- their slab keys, and the last two steps to each
   abbrev pub found_in : Shape K V → List Found
-  found_in s = map (λ l. (l.leaf.slot, take 2 l.steps)) (with_key s)
+  found_in s = map (λ l. (l.leaf.slot, take 2 l.steps)) (located_with_key s)
 
   -- the leaf with this slab key stands at a place of the tree to which these last steps lead, and has the key
   pub record IsAtKey (s : Shape K V) (slot : ℕ) (last : List Step) : Type 0 where

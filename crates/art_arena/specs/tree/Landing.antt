@@ -37,8 +37,8 @@ abbrev mutual
   landing_in (child byte tree others) b k = if b == byte then landing tree k else landing_in others b k
 
 -- the key is a front of a stored one, or that of the key
-abbrev pub IsBlocked : {X : Type 0} → (X → List ℕ) → List ℕ → Landing X → Type 0
-IsBlocked key k (on_leaf x) = Conflict k (key x)
-IsBlocked key k is_front = Unit {0}
-IsBlocked key k splits_prefix = ⊥
-IsBlocked key k (lacks_child b) = ⊥
+abbrev pub EndsInConflict : {X : Type 0} → (X → List ℕ) → List ℕ → Landing X → Type 0
+EndsInConflict key k (on_leaf x) = Conflict k (key x)
+EndsInConflict key k is_front = Unit {0}
+EndsInConflict key k splits_prefix = ⊥
+EndsInConflict key k (lacks_child b) = ⊥

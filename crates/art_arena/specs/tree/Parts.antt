@@ -6,16 +6,16 @@ use Rattle.art_arena.specs.tree.Tenants.{begins_with}
 
 -- `rest` is what is left of the front behind the path to the tree
 abbrev mutual
-  pub part : {X : Type 0} → (X → List ℕ) → List ℕ → Tree X → List ℕ → Option (Tree X)
-  part key front (leaf x) rest = if begins_with front (key x) then Some (leaf x) else None
-  part key front (inner prefix children) rest =
+  pub part_with_front : {X : Type 0} → (X → List ℕ) → List ℕ → Tree X → List ℕ → Option (Tree X)
+  part_with_front key front (leaf x) rest = if begins_with front (key x) then Some (leaf x) else None
+  part_with_front key front (inner prefix children) rest =
       elim (pass prefix rest)
       [ ends ↦ Some (inner prefix children) | differs ↦ None | passes b r ↦ part_in key front children b r ]
 
   pub part_in : {X : Type 0} → (X → List ℕ) → List ℕ → Forest X → ℕ → List ℕ → Option (Tree X)
   part_in key front no_child b rest = None
   part_in key front (child byte tree others) b rest =
-      if b == byte then part key front tree rest else part_in key front others b rest
+      if b == byte then part_with_front key front tree rest else part_in key front others b rest
 
 -- the items of a part, none where there is none
 abbrev pub items_of : {X : Type 0} → Option (Tree X) → List X

@@ -19,4 +19,5 @@ without_front key front xs = filter (λ x. not (begins_with front (key x))) xs
 
 -- how many different longest common fronts the front has with the other keys
 abbrev pub crossings : {X : Type 0} → (X → List ℕ) → List ℕ → List X → ℕ
-crossings key front xs = length (distinct bytes_eq (map (λ x. common_prefix front (key x)) (without_front key front xs)))
+crossings key front xs =
+    length (distinct bytes_eq (map (λ x. common_prefix front (key x)) (without_front key front xs)))

@@ -18,7 +18,9 @@ use std::num::{
     NonZeroU64, NonZeroU128,
 };
 
-impl Unsigned for NonZeroU8 {}
+impl Unsigned for NonZeroU8 {
+    type Coding = [u8; 1];
+}
 
 impl StoredAsNumber for NonZeroU8 {
     type Number = u8;
@@ -41,7 +43,9 @@ impl StoredAsNumber for NonZeroU8 {
     }
 }
 
-impl Unsigned for NonZeroU16 {}
+impl Unsigned for NonZeroU16 {
+    type Coding = [u8; 2];
+}
 
 impl StoredAsNumber for NonZeroU16 {
     type Number = u16;
@@ -64,7 +68,9 @@ impl StoredAsNumber for NonZeroU16 {
     }
 }
 
-impl Unsigned for NonZeroU32 {}
+impl Unsigned for NonZeroU32 {
+    type Coding = [u8; 4];
+}
 
 impl StoredAsNumber for NonZeroU32 {
     type Number = u32;
@@ -87,7 +93,9 @@ impl StoredAsNumber for NonZeroU32 {
     }
 }
 
-impl Unsigned for NonZeroU64 {}
+impl Unsigned for NonZeroU64 {
+    type Coding = [u8; 8];
+}
 
 impl StoredAsNumber for NonZeroU64 {
     type Number = u64;
@@ -110,7 +118,9 @@ impl StoredAsNumber for NonZeroU64 {
     }
 }
 
-impl Unsigned for NonZeroU128 {}
+impl Unsigned for NonZeroU128 {
+    type Coding = [u8; 16];
+}
 
 impl StoredAsNumber for NonZeroU128 {
     type Number = u128;
@@ -133,7 +143,9 @@ impl StoredAsNumber for NonZeroU128 {
     }
 }
 
-impl Signed for NonZeroI8 {}
+impl Signed for NonZeroI8 {
+    type Coding = [u8; 1];
+}
 
 impl StoredAsNumber for NonZeroI8 {
     type Number = i8;
@@ -156,7 +168,9 @@ impl StoredAsNumber for NonZeroI8 {
     }
 }
 
-impl Signed for NonZeroI16 {}
+impl Signed for NonZeroI16 {
+    type Coding = [u8; 2];
+}
 
 impl StoredAsNumber for NonZeroI16 {
     type Number = i16;
@@ -179,7 +193,9 @@ impl StoredAsNumber for NonZeroI16 {
     }
 }
 
-impl Signed for NonZeroI32 {}
+impl Signed for NonZeroI32 {
+    type Coding = [u8; 4];
+}
 
 impl StoredAsNumber for NonZeroI32 {
     type Number = i32;
@@ -202,7 +218,9 @@ impl StoredAsNumber for NonZeroI32 {
     }
 }
 
-impl Signed for NonZeroI64 {}
+impl Signed for NonZeroI64 {
+    type Coding = [u8; 8];
+}
 
 impl StoredAsNumber for NonZeroI64 {
     type Number = i64;
@@ -225,7 +243,9 @@ impl StoredAsNumber for NonZeroI64 {
     }
 }
 
-impl Signed for NonZeroI128 {}
+impl Signed for NonZeroI128 {
+    type Coding = [u8; 16];
+}
 
 impl StoredAsNumber for NonZeroI128 {
     type Number = i128;

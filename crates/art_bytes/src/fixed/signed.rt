@@ -9,11 +9,17 @@ ghost use Rattle.art_bytes.specs.inner.FlipLaws.{flipped-injective, int_cmp-flip
 
 use super::stored::read_stored;
 use super::{FixedBytes, StoredAsNumber};
+use crate::mapping::BytesMapping;
 
-/// A number with a sign, or one that is not 0. The negative ones come first.
-pub trait Signed: FixedBytes {}
+/// A number with a sign, one that is not 0, or a vector or an array of these. The negative ones come first.
+pub trait Signed: Sized {
+    /// What its bytes are kept in, which is also the mapping that gives them.
+    type Coding: BytesMapping<Self>;
+}
 
-impl Signed for i8 {}
+impl Signed for i8 {
+    type Coding = [u8; 1];
+}
 
 impl StoredAsNumber for i8 {
     type Number = u8;
@@ -35,7 +41,9 @@ impl StoredAsNumber for i8 {
     }
 }
 
-impl Signed for i16 {}
+impl Signed for i16 {
+    type Coding = [u8; 2];
+}
 
 impl StoredAsNumber for i16 {
     type Number = u16;
@@ -57,7 +65,9 @@ impl StoredAsNumber for i16 {
     }
 }
 
-impl Signed for i32 {}
+impl Signed for i32 {
+    type Coding = [u8; 4];
+}
 
 impl StoredAsNumber for i32 {
     type Number = u32;
@@ -79,7 +89,9 @@ impl StoredAsNumber for i32 {
     }
 }
 
-impl Signed for i64 {}
+impl Signed for i64 {
+    type Coding = [u8; 8];
+}
 
 impl StoredAsNumber for i64 {
     type Number = u64;
@@ -101,7 +113,9 @@ impl StoredAsNumber for i64 {
     }
 }
 
-impl Signed for i128 {}
+impl Signed for i128 {
+    type Coding = [u8; 16];
+}
 
 impl StoredAsNumber for i128 {
     type Number = u128;

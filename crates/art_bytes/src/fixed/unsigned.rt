@@ -7,19 +7,33 @@ ghost use Rattle.std.proofs.Common.{lit<};
 ghost use Rattle.art_bytes.specs.inner.FixedLaws.{unsigned_bytes};
 
 use super::{FixedBytes, array_of};
+use crate::mapping::BytesMapping;
 
-/// A number without a sign, or one that is not 0.
-pub trait Unsigned: FixedBytes {}
+/// A number without a sign, one that is not 0, or a vector or an array of these.
+pub trait Unsigned: Sized {
+    /// What its bytes are kept in, which is also the mapping that gives them.
+    type Coding: BytesMapping<Self>;
+}
 
-impl Unsigned for u8 {}
+impl Unsigned for u8 {
+    type Coding = [u8; 1];
+}
 
-impl Unsigned for u16 {}
+impl Unsigned for u16 {
+    type Coding = [u8; 2];
+}
 
-impl Unsigned for u32 {}
+impl Unsigned for u32 {
+    type Coding = [u8; 4];
+}
 
-impl Unsigned for u64 {}
+impl Unsigned for u64 {
+    type Coding = [u8; 8];
+}
 
-impl Unsigned for u128 {}
+impl Unsigned for u128 {
+    type Coding = [u8; 16];
+}
 
 impl FixedBytes for u8 {
     type Array = [u8; 1];

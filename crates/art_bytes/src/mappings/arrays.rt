@@ -8,7 +8,6 @@ ghost use Rattle.art_bytes.specs.Lists.{HaveListBytes, part_at};
 ghost use Rattle.art_bytes.specs.inner.ConcatLaws.{AreBytes-list, one_list, bytes_cmp-list, length-list};
 
 use super::lists::write_list;
-use super::numbers::{ToIBE, ToUBE};
 use crate::fixed::{FixedBytes, Signed, Unsigned};
 use crate::mapping::{BytesMapping, NoPrefixesMapping, OrderedMapping};
 use std::alloc::{AllocError, Global};
@@ -46,7 +45,7 @@ fn read_array<E: FixedBytes, const N: usize>(bytes: &[u8]) -> Option<[E; N]>
     Some(array)
 }
 
-impl<E: Unsigned, const N: usize> BytesMapping<[E; N]> for ToUBE {
+impl<E: FixedBytes, const N: usize> BytesMapping<[E; N]> for Vec<u8> {
     type Bytes = Vec<u8>;
 
     ghost has_bytes = { λ v b. HaveListBytes E.is_value E.fixed_bytes v b.items × (length v ≡ N) };
@@ -85,63 +84,21 @@ impl<E: Unsigned, const N: usize> BytesMapping<[E; N]> for ToUBE {
     }
 }
 
-impl<E: Unsigned, const N: usize> NoPrefixesMapping<[E; N]> for ToUBE {
+impl<E: FixedBytes, const N: usize> NoPrefixesMapping<[E; N]> for Vec<u8> {
     ghost no_prefixes = { λ v w b c h k. BeginsWith-same_length _ _ (N * E.WIDTH)
         (length-list E.WIDTH E.is_value E.fixed_bytes E.cmp E.have_bytes v h.0.0 ∙ ap (λ n. n * E.WIDTH) h.1)
         (length-list E.WIDTH E.is_value E.fixed_bytes E.cmp E.have_bytes w k.0.0 ∙ ap (λ n. n * E.WIDTH) k.1) };
 }
 
-impl<E: Unsigned, const N: usize> OrderedMapping<[E; N]> for ToUBE {
+impl<E: FixedBytes, const N: usize> OrderedMapping<[E; N]> for Vec<u8> {
     ghost ordered = { λ v w b c h k.
         bytes_cmp-list E.WIDTH E.is_value E.fixed_bytes E.cmp E.have_bytes v w h.0.0 k.0.0 };
 }
 
-impl<E: Signed, const N: usize> BytesMapping<[E; N]> for ToIBE {
-    type Bytes = Vec<u8>;
-
-    ghost has_bytes = { λ v b. HaveListBytes E.is_value E.fixed_bytes v b.items × (length v ≡ N) };
-
-    ghost bytes_of = { flat_map E.fixed_bytes };
-
-    ghost is_same = { λ v w. v ≡ w };
-
-    ghost bytes_are_free = { ⊥ };
-
-    ghost value_is_free = { Unit {0} };
-
-    ghost are_bytes = { λ v b h. (
-      subst AreBytes (sym h.0.1) (AreBytes-list E.WIDTH E.is_value E.fixed_bytes E.cmp E.have_bytes v h.0.0),
-      h.0.1,
-    ) };
-
-    ghost by_bytes = { λ v b c h k e. (v, ((h.0.0, e ∙ h.0.1), h.1)) };
-
-    ghost one_value = { λ v w b c h k e.
-        one_list E.WIDTH E.is_value E.fixed_bytes E.cmp E.have_bytes v w h.0.0 k.0.0 e };
-
-    fn to_bytes(alloc: Global, numbers: [E; N]) -> Result<Vec<u8>, AllocError> {
-        write_list(alloc, Vec::from_array(alloc, numbers)?)
-    }
-
-    fn from_bytes(_alloc: Global, signed: Vec<u8>) -> Result<[E; N], AllocError> {
-        match read_array(signed.as_slice()) {
-            Some(numbers) => Ok(numbers),
-            None => unreachable!(),
-        }
-    }
-
-    fn checked_from_bytes(_alloc: Global, signed: Vec<u8>) -> Result<Option<[E; N]>, AllocError> {
-        Ok(read_array(signed.as_slice()))
-    }
+impl<E: Unsigned + FixedBytes, const N: usize> Unsigned for [E; N] {
+    type Coding = Vec<u8>;
 }
 
-impl<E: Signed, const N: usize> NoPrefixesMapping<[E; N]> for ToIBE {
-    ghost no_prefixes = { λ v w b c h k. BeginsWith-same_length _ _ (N * E.WIDTH)
-        (length-list E.WIDTH E.is_value E.fixed_bytes E.cmp E.have_bytes v h.0.0 ∙ ap (λ n. n * E.WIDTH) h.1)
-        (length-list E.WIDTH E.is_value E.fixed_bytes E.cmp E.have_bytes w k.0.0 ∙ ap (λ n. n * E.WIDTH) k.1) };
-}
-
-impl<E: Signed, const N: usize> OrderedMapping<[E; N]> for ToIBE {
-    ghost ordered = { λ v w b c h k.
-        bytes_cmp-list E.WIDTH E.is_value E.fixed_bytes E.cmp E.have_bytes v w h.0.0 k.0.0 };
+impl<E: Signed + FixedBytes, const N: usize> Signed for [E; N] {
+    type Coding = Vec<u8>;
 }

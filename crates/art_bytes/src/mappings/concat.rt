@@ -7,7 +7,7 @@ ghost use Rattle.art_bytes.specs.Mappings.{HaveFixedBytes};
 ghost use Rattle.art_bytes.specs.inner.ConcatLaws.{pair_bytes, regrouped_bytes};
 
 use crate::as_bytes::AsBytes;
-use crate::mapping::{BytesMapping, FixedBytesMapping, NoPrefixesMapping, OrderedMapping};
+use crate::mapping::{BytesMapping, NoPrefixesMapping, OrderedMapping};
 use std::alloc::{AllocError, Global};
 use std::marker::PhantomData;
 
@@ -17,7 +17,7 @@ pub struct ConcatTuple<M> {
     parts: PhantomData<M>,
 }
 
-/// The mappings of a tuple's parts, as one.
+/// The mappings of a tuple's parts, as one; a fixed mapping is that of one part.
 pub trait Parts<D: Ord> {
     ghost WIDTH: { ℕ };
 
@@ -44,58 +44,15 @@ pub trait Parts<D: Ord> {
     ghost have_bytes: { HaveFixedBytes WIDTH is_value parts_bytes D.cmp };
 }
 
-/// One mapping as the first of several.
-struct First<A> {
-    part: PhantomData<A>,
-}
-
-impl<A: FixedBytesMapping<X>, X: Ord + Drop> Parts<X> for First<A> {
-    ghost WIDTH = { A.WIDTH };
-
-    ghost is_value = { A.is_value };
-
-    ghost parts_bytes = { A.bytes_of };
-
-    ghost have_bytes = { A.have_bytes };
-
-    fn width() -> Option<usize> {
-        Some(A::WIDTH)
-    }
-
-    fn push_bytes(bytes: &mut Vec<u8>, alloc: Global, value: X) -> Result<(), AllocError> {
-        push_part::<A, X>(bytes, alloc, value)
-    }
-
-    fn checked_from_slice(bytes: &[u8]) -> Option<X> {
-        if bytes.len() != A::WIDTH {
-            return None;
-        }
-        A::checked_from_slice(bytes)
-    }
-}
-
-// Puts a part's bytes behind those that are there.
-fn push_part<A: FixedBytesMapping<X>, X: Ord>(
-    bytes: &mut Vec<u8>,
-    alloc: Global,
-    value: X,
-) -> Result<(), AllocError>
-    ensures value { OnOk result (A.is_value value) }
-    ensures bytes { OnOk result (bytes.new.items ≡ bytes.old.items ++ A.bytes_of value) }
-{
-    let part = A::to_bytes(alloc, value)?;
-    bytes.extend_from_slice(part.as_bytes())
-}
-
 // The number of bytes of the first parts and the last, or None where no `usize` is as great.
-fn pair_width<M: Parts<X>, X: Ord + Drop, A: FixedBytesMapping<Y>, Y: Ord + Drop>() -> Option<usize>
+fn pair_width<M: Parts<X>, X: Ord + Drop, A: Parts<Y>, Y: Ord + Drop>() -> Option<usize>
     ensures { MatchOption result (¬ (M.WIDTH + A.WIDTH < 2 ^ 64)) (λ n. n ≡ M.WIDTH + A.WIDTH) }
 {
-    M::width()?.checked_add(A::WIDTH)
+    M::width()?.checked_add(A::width()?)
 }
 
 // Puts the bytes of the first parts and then those of the last behind those that are there.
-fn push_pair<M: Parts<X>, X: Ord + Drop, A: FixedBytesMapping<Y>, Y: Ord + Drop>(
+fn push_pair<M: Parts<X>, X: Ord + Drop, A: Parts<Y>, Y: Ord + Drop>(
     bytes: &mut Vec<u8>,
     alloc: Global,
     first: X,
@@ -103,24 +60,25 @@ fn push_pair<M: Parts<X>, X: Ord + Drop, A: FixedBytesMapping<Y>, Y: Ord + Drop>
 ) -> Result<(), AllocError>
     ensures first { OnOk result (M.is_value first) }
     ensures last { OnOk result (A.is_value last) }
-    ensures bytes { OnOk result (bytes.new.items ≡ bytes.old.items ++ (M.parts_bytes first ++ A.bytes_of last)) }
+    ensures bytes { OnOk result (bytes.new.items ≡ bytes.old.items ++ (M.parts_bytes first ++ A.parts_bytes last)) }
 {
     M::push_bytes(bytes, alloc, first)?;
-    push_part::<A, Y>(bytes, alloc, last)
+    A::push_bytes(bytes, alloc, last)
 }
 
 // The first parts and the last that have these bytes, or None where there are none.
-fn read_pair<M: Parts<X>, X: Ord + Drop, A: FixedBytesMapping<Y>, Y: Ord>(
+fn read_pair<M: Parts<X>, X: Ord + Drop, A: Parts<Y>, Y: Ord>(
     bytes: &[u8],
 ) -> Option<(X, Y)>
     ensures { MatchOption result
-        (¬ ((x : X) × (y : Y) × M.is_value x × A.is_value y × (M.parts_bytes x ++ A.bytes_of y ≡ bytes.now)))
-        (λ p. M.is_value p.0 × A.is_value p.1 × (M.parts_bytes p.0 ++ A.bytes_of p.1 ≡ bytes.now)) }
+        (¬ ((x : X) × (y : Y) × M.is_value x × A.is_value y × (M.parts_bytes x ++ A.parts_bytes y ≡ bytes.now)))
+        (λ p. M.is_value p.0 × A.is_value p.1 × (M.parts_bytes p.0 ++ A.parts_bytes p.1 ≡ bytes.now)) }
 {
-    if bytes.len() < A::WIDTH {
+    let width = A::width()?;
+    if bytes.len() < width {
         return None;
     }
-    let (front, back) = bytes.split_at(bytes.len() - A::WIDTH);
+    let (front, back) = bytes.split_at(bytes.len() - width);
     let first = match M::checked_from_slice(front) {
         Some(first) => first,
         None => return None,
@@ -181,33 +139,33 @@ impl<M: Parts<D>, D: Ord + Drop> OrderedMapping<D> for ConcatTuple<M> {
     ghost ordered = { λ v w b c h k. M.have_bytes.ordered v w h.0 k.0 };
 }
 
-impl<A: FixedBytesMapping<U>, B: FixedBytesMapping<V>, U: Ord + Drop, V: Ord + Drop> Parts<(U, V)>
+impl<A: Parts<U>, B: Parts<V>, U: Ord + Drop, V: Ord + Drop> Parts<(U, V)>
     for (A, B) {
     ghost WIDTH = { A.WIDTH + B.WIDTH };
 
     ghost is_value = { λ v. A.is_value v.0 × B.is_value v.1 };
 
-    ghost parts_bytes = { λ v. A.bytes_of v.0 ++ B.bytes_of v.1 };
+    ghost parts_bytes = { λ v. A.parts_bytes v.0 ++ B.parts_bytes v.1 };
 
     ghost have_bytes = { pair_bytes _ _ _ _ _ _ _ _ A.have_bytes B.have_bytes };
 
     fn width() -> Option<usize> {
-        pair_width::<First<A>, U, B, V>()
+        pair_width::<A, U, B, V>()
     }
 
     fn push_bytes(bytes: &mut Vec<u8>, alloc: Global, value: (U, V)) -> Result<(), AllocError> {
-        push_pair::<First<A>, U, B, V>(bytes, alloc, value.0, value.1)
+        push_pair::<A, U, B, V>(bytes, alloc, value.0, value.1)
     }
 
     fn checked_from_slice(bytes: &[u8]) -> Option<(U, V)> {
-        read_pair::<First<A>, U, B, V>(bytes)
+        read_pair::<A, U, B, V>(bytes)
     }
 }
 
 impl<
-    A: FixedBytesMapping<U>,
-    B: FixedBytesMapping<V>,
-    C: FixedBytesMapping<W>,
+    A: Parts<U>,
+    B: Parts<V>,
+    C: Parts<W>,
     U: Ord + Drop,
     V: Ord + Drop,
     W: Ord + Drop,
@@ -216,7 +174,7 @@ impl<
 
     ghost is_value = { λ v. (A.is_value v.0 × B.is_value v.1) × C.is_value v.2 };
 
-    ghost parts_bytes = { λ v. (A.bytes_of v.0 ++ B.bytes_of v.1) ++ C.bytes_of v.2 };
+    ghost parts_bytes = { λ v. (A.parts_bytes v.0 ++ B.parts_bytes v.1) ++ C.parts_bytes v.2 };
 
     ghost have_bytes = { regrouped_bytes (λ v. ((v.0, v.1), v.2)) _ _ _ _ _
         (λ v w e. λ i. ((e i).0.0, (e i).0.1, (e i).1)) (λ v w. refl)
@@ -239,10 +197,10 @@ impl<
 }
 
 impl<
-    A: FixedBytesMapping<U>,
-    B: FixedBytesMapping<V>,
-    C: FixedBytesMapping<W>,
-    D: FixedBytesMapping<X>,
+    A: Parts<U>,
+    B: Parts<V>,
+    C: Parts<W>,
+    D: Parts<X>,
     U: Ord + Drop,
     V: Ord + Drop,
     W: Ord + Drop,
@@ -252,7 +210,7 @@ impl<
 
     ghost is_value = { λ v. ((A.is_value v.0 × B.is_value v.1) × C.is_value v.2) × D.is_value v.3 };
 
-    ghost parts_bytes = { λ v. ((A.bytes_of v.0 ++ B.bytes_of v.1) ++ C.bytes_of v.2) ++ D.bytes_of v.3 };
+    ghost parts_bytes = { λ v. ((A.parts_bytes v.0 ++ B.parts_bytes v.1) ++ C.parts_bytes v.2) ++ D.parts_bytes v.3 };
 
     ghost have_bytes = { regrouped_bytes (λ v. (((v.0, v.1), v.2), v.3)) _ _ _ _ _
         (λ v w e. λ i. ((e i).0.0.0, (e i).0.0.1, (e i).0.1, (e i).1)) (λ v w. refl)
@@ -281,11 +239,11 @@ impl<
 }
 
 impl<
-    A: FixedBytesMapping<U>,
-    B: FixedBytesMapping<V>,
-    C: FixedBytesMapping<W>,
-    D: FixedBytesMapping<X>,
-    E: FixedBytesMapping<Y>,
+    A: Parts<U>,
+    B: Parts<V>,
+    C: Parts<W>,
+    D: Parts<X>,
+    E: Parts<Y>,
     U: Ord + Drop,
     V: Ord + Drop,
     W: Ord + Drop,
@@ -296,8 +254,8 @@ impl<
 
     ghost is_value = { λ v. (((A.is_value v.0 × B.is_value v.1) × C.is_value v.2) × D.is_value v.3) × E.is_value v.4 };
 
-    ghost parts_bytes = { λ v. (((A.bytes_of v.0 ++ B.bytes_of v.1) ++ C.bytes_of v.2) ++ D.bytes_of v.3)
-        ++ E.bytes_of v.4 };
+    ghost parts_bytes = { λ v. (((A.parts_bytes v.0 ++ B.parts_bytes v.1) ++ C.parts_bytes v.2) ++ D.parts_bytes v.3)
+        ++ E.parts_bytes v.4 };
 
     ghost have_bytes = { regrouped_bytes (λ v. ((((v.0, v.1), v.2), v.3), v.4)) _ _ _ _ _
         (λ v w e. λ i. ((e i).0.0.0.0, (e i).0.0.0.1, (e i).0.0.1, (e i).0.1, (e i).1)) (λ v w. refl)
@@ -332,12 +290,12 @@ impl<
 }
 
 impl<
-    A: FixedBytesMapping<U>,
-    B: FixedBytesMapping<V>,
-    C: FixedBytesMapping<W>,
-    D: FixedBytesMapping<X>,
-    E: FixedBytesMapping<Y>,
-    F: FixedBytesMapping<Z>,
+    A: Parts<U>,
+    B: Parts<V>,
+    C: Parts<W>,
+    D: Parts<X>,
+    E: Parts<Y>,
+    F: Parts<Z>,
     U: Ord + Drop,
     V: Ord + Drop,
     W: Ord + Drop,
@@ -351,8 +309,8 @@ impl<
         × F.is_value v.5 };
 
     ghost parts_bytes = { λ v.
-        ((((A.bytes_of v.0 ++ B.bytes_of v.1) ++ C.bytes_of v.2) ++ D.bytes_of v.3) ++ E.bytes_of v.4)
-        ++ F.bytes_of v.5 };
+        ((((A.parts_bytes v.0 ++ B.parts_bytes v.1) ++ C.parts_bytes v.2) ++ D.parts_bytes v.3) ++ E.parts_bytes v.4)
+        ++ F.parts_bytes v.5 };
 
     ghost have_bytes = { regrouped_bytes (λ v. (((((v.0, v.1), v.2), v.3), v.4), v.5)) _ _ _ _ _
         (λ v w e. λ i. ((e i).0.0.0.0.0, (e i).0.0.0.0.1, (e i).0.0.0.1, (e i).0.0.1, (e i).0.1, (e i).1)) (λ v w. refl)

@@ -6,7 +6,6 @@ ghost use Rattle.art_bytes.specs.Keys.{AreBytes};
 ghost use Rattle.art_bytes.specs.Lists.{HaveListBytes};
 ghost use Rattle.art_bytes.specs.inner.ConcatLaws.{AreBytes-list, one_list, bytes_cmp-list};
 
-use super::numbers::{ToIBE, ToUBE};
 use crate::as_bytes::AsBytes;
 use crate::fixed::{FixedBytes, Signed, Unsigned};
 use crate::mapping::{BytesMapping, OrderedMapping};
@@ -51,7 +50,7 @@ fn read_list<E: FixedBytes>(alloc: Global, bytes: &[u8]) -> Result<Option<Vec<E>
     }
 }
 
-impl<E: Unsigned> BytesMapping<Vec<E>> for ToUBE {
+impl<E: FixedBytes> BytesMapping<Vec<E>> for Vec<u8> {
     type Bytes = Vec<u8>;
 
     ghost has_bytes = { λ v b. HaveListBytes E.is_value E.fixed_bytes v.items b.items };
@@ -90,51 +89,15 @@ impl<E: Unsigned> BytesMapping<Vec<E>> for ToUBE {
     }
 }
 
-impl<E: Unsigned> OrderedMapping<Vec<E>> for ToUBE {
+impl<E: FixedBytes> OrderedMapping<Vec<E>> for Vec<u8> {
     ghost ordered = { λ v w b c h k.
         bytes_cmp-list E.WIDTH E.is_value E.fixed_bytes E.cmp E.have_bytes v.items w.items h.0 k.0 };
 }
 
-impl<E: Signed> BytesMapping<Vec<E>> for ToIBE {
-    type Bytes = Vec<u8>;
-
-    ghost has_bytes = { λ v b. HaveListBytes E.is_value E.fixed_bytes v.items b.items };
-
-    ghost bytes_of = { λ v. flat_map E.fixed_bytes v.items };
-
-    ghost is_same = { λ v w. v.items ≡ w.items };
-
-    ghost bytes_are_free = { ⊥ };
-
-    ghost value_is_free = { ⊥ };
-
-    ghost are_bytes = { λ v b h. (
-      subst AreBytes (sym h.1) (AreBytes-list E.WIDTH E.is_value E.fixed_bytes E.cmp E.have_bytes v.items h.0),
-      h.1,
-    ) };
-
-    ghost by_bytes = { λ v b c h k e. (v, (h.0, e ∙ h.1)) };
-
-    ghost one_value = { λ v w b c h k e.
-        one_list E.WIDTH E.is_value E.fixed_bytes E.cmp E.have_bytes v.items w.items h.0 k.0 e };
-
-    fn to_bytes(alloc: Global, numbers: Vec<E>) -> Result<Vec<u8>, AllocError> {
-        write_list(alloc, numbers)
-    }
-
-    fn from_bytes(alloc: Global, signed: Vec<u8>) -> Result<Vec<E>, AllocError> {
-        match read_list(alloc, signed.as_slice())? {
-            Some(numbers) => Ok(numbers),
-            None => unreachable!(),
-        }
-    }
-
-    fn checked_from_bytes(alloc: Global, signed: Vec<u8>) -> Result<Option<Vec<E>>, AllocError> {
-        read_list(alloc, signed.as_slice())
-    }
+impl<E: Unsigned + FixedBytes> Unsigned for Vec<E> {
+    type Coding = Vec<u8>;
 }
 
-impl<E: Signed> OrderedMapping<Vec<E>> for ToIBE {
-    ghost ordered = { λ v w b c h k.
-        bytes_cmp-list E.WIDTH E.is_value E.fixed_bytes E.cmp E.have_bytes v.items w.items h.0 k.0 };
+impl<E: Signed + FixedBytes> Signed for Vec<E> {
+    type Coding = Vec<u8>;
 }
