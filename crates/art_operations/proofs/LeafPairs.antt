@@ -116,7 +116,7 @@ module _ {K V : Type 0} (bytes : K → List ℕ) where
 
   -- where the search finds no leaf with the key, no pair has it
   pub none_found : (key : List ℕ) (s : Shape K V) → [] ≡ found_in bytes key s → with_key (key_of bytes) key (pairs_of (leaves s)) ≡ []
-  none_found key s none = ap (with_key (key_of bytes) key) (sym (items-erase s)) ∙ pairs-with_key bytes key s ∙ no_pair (found.with_key bytes key s) (sym none)
+  none_found key s none = ap (with_key (key_of bytes) key) (sym (items-erase s)) ∙ pairs-with_key bytes key s ∙ no_pair (found.located_with_key bytes key s) (sym none)
     where
       place_of : found.Located K V → found.Found
       place_of l = (l.leaf.slot, take 2 l.steps)

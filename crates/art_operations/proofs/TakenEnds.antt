@@ -7,7 +7,8 @@ use Rattle.art_arena.specs.arena.EndLeaves.{end_slot}
 use Rattle.art_arena.specs.arena.Linked.{first_slot, last_slot, times}
 use Rattle.art_arena.specs.arena.Shapes.{Shape, LeafAt, leaves, pairs_of, key_of}
 use Rattle.art_arena.specs.arena.Steps.{Step}
-use Rattle.art_arena.specs.arena.Stores.{Stores, StoresOnly}
+use Rattle.art_arena.specs.arena.Stores.{Stores, StoresBeside, StoresOnly}
+use Rattle.art_arena.specs.arena.Cells.{Cell}
 use Rattle.art_arena.specs.declared.ends.End.{End}
 use Rattle.art_arena.specs.declared.ends.End.TheVariants.{First, Last}
 use Rattle.art_arena.specs.tree.Changes.{IsIn}
@@ -55,8 +56,8 @@ module _ {K V : Type 0} (bytes : K → List ℕ) (P : ℕ) (old : Arena K V) (ro
   stored : Stores bytes P old top below.0
   stored = nodes-subtree bytes P (node_at old) top below.0 below.1.nodes
 
-  pub the-place : (s : Shape K V) × StoresOnly bytes P old top s × IsLeafPlace bytes s slot last
-  the-place = (below.0, below.1, place below.0 stored)
+  pub the-place : (s : Shape K V) × (rest : List (Name × Cell K V)) × StoresBeside bytes P old top rest s × IsLeafPlace bytes s slot last
+  the-place = (below.0, [], below.1, place below.0 stored)
 
   parts : (front : List (LeafAt K V)) (l : LeafAt K V) (back : List (LeafAt K V)) → pairs_of (front ++ l ∷ back) ≡ pairs_of front ++ pair_of l ∷ pairs_of back
   parts front l back = map-append pair_of front (l ∷ back)
@@ -83,7 +84,7 @@ module _ {K V : Type 0} (bytes : K → List ℕ) (P : ℕ) (old : Arena K V) (ro
   pub taken-end : (new : Arena K V) (deleted : DeleteResult K V) → ((s : Shape K V) → StoresOnly bytes P old top s → IsLeafPlace bytes s slot last → IsDeleted bytes P new s slot deleted) → HasTakenEnd bytes P new root end pairs (Some deleted)
   taken-end new deleted result =
       let it = result below.0 below.1 (place below.0 stored) in
-      (pairs_of (it.front ++ it.back), end-pair it.front _ it.back refl it.was, leaves-pairs bytes P new deleted.new_root (it.front ++ it.back) _ refl it.left)
+      (pairs_of (it.front ++ it.back), end-pair it.front _ it.back refl it.was, leaves-pairs bytes P new [] deleted.new_root (it.front ++ it.back) _ refl it.left)
 
   -- or it would make a node smaller
   pub shrinks-end : ((s : Shape K V) → StoresOnly bytes P old top s → (leaf : IsLeafPlace bytes s slot last) → Shrinks (λ l. bytes l.key) (leaves s) (bytes leaf.key)) → ShrinksAtEnd bytes end pairs

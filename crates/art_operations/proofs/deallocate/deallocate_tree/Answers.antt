@@ -12,7 +12,7 @@ overflow_sub-result g c =
     let r = c.requires in
     let left = c.free_nodes.ensures.freed r.0 r.1 (all-part g.row.PREFIX_LEN c.args.arena.now c.args.root r.0 r.1 r.2) in
     let gone = leaves-gone g.row.PREFIX_LEN c.args.arena.now c.free_nodes.new.arena c.args.root r.0 r.1 r.2 left in
-    omega (arith, gone, c.leaf_count-before.ensures, c.leaf_count.ensures)
+    omega (arith, gone, c.leaf_count-before.ensures.value, c.leaf_count.ensures.value)
 
 pub returns-clause-freed : goal.returns-clause-freed
 returns-clause-freed g c = λ s rest beside. c.free_nodes.ensures.freed s rest (all-part g.row.PREFIX_LEN c.args.arena.now c.args.root s rest beside)
@@ -21,7 +21,7 @@ pub returns-clause-value : goal.returns-clause-value
 returns-clause-value g c = λ s rest beside.
     let left = c.free_nodes.ensures.freed s rest (all-part g.row.PREFIX_LEN c.args.arena.now c.args.root s rest beside) in
     let gone = leaves-gone g.row.PREFIX_LEN c.args.arena.now c.free_nodes.new.arena c.args.root s rest beside left in
-    omega (arith, gone, c.leaf_count-before.ensures, c.leaf_count.ensures)
+    omega (arith, gone, c.leaf_count-before.ensures.value, c.leaf_count.ensures.value)
 
 pub returns-clause-kept : goal.returns-clause-kept
 returns-clause-kept g c = λ s rest beside.
