@@ -9,7 +9,8 @@ use Rattle.std.proofs.lemmas.Bool.{eq-eqb, ne_eqb, eqb-true, lt-ltb, le-ltb, cas
 use Rattle.std.specs.Int.{from_be_bytes, w32}
 use Rattle.std.proofs.lemmas.List.{length-take-le}
 use Rattle.std.proofs.lemmas.Nat.{be_bytes_4}
-use Rattle.art_index.specs.Keys.{is_proper_front, full_key}
+use Rattle.art_bytes.specs.Keys.{is_proper_front}
+use Rattle.art_index.specs.Keys.{full_key}
 use Rattle.art_index.specs.Laws.{FullKeysKeepOrder, FullKeysKeepConflicts}
 
 cmp_low : (t u : ℕ) → t < u → nat_cmp t u ≡ Less

@@ -9,7 +9,7 @@ use Rattle.std.proofs.lemmas.List.{map-append}
 use Rattle.std.proofs.lemmas.List.Elements.{filter-append}
 use Rattle.std.proofs.lemmas.Slice.Eq.{bytes_eq-Decides}
 use Rattle.art_index.specs.declared.entry.Entry.{Entry}
-use Rattle.art_index.specs.Keys.{is_below, is_proper_front, conflicts}
+use Rattle.art_bytes.specs.Keys.{is_below, is_proper_front, conflicts}
 use Rattle.art_index.specs.Records.{KeyRecord, own, with_own, InOrder, KeyComesBefore, KeyFits}
 use Rattle.art_index.specs.Replies.{value_at, has_conflict, with_pair}
 use Rattle.art_index.specs.Stored.{record_of, records_of, IsFull, AreEntries, stands_to}

@@ -10,7 +10,7 @@ use Rattle.std.proofs.lemmas.Cmp.{nat_list_cmp_total}
 use Rattle.std.proofs.lemmas.Map.Text.{is_eq-slice_cmp}
 use Rattle.std.proofs.lemmas.Slice.Eq.{bytes_eq-Decides}
 use Rattle.std.proofs.lemmas.Bool.{lt-ltb, eq-eqb, ne_eqb, le-ltb, cases_lt}
-use Rattle.art_index.specs.Keys.{is_below}
+use Rattle.art_bytes.specs.Keys.{is_below}
 use Rattle.art_index.specs.Records.{KeyRecord, InOrder, KeyComesBefore}
 use Rattle.art_index.specs.Stored.{stands_to}
 use Rattle.art_index.proofs.Filters.{All-at, All-map}

@@ -12,7 +12,8 @@ use Rattle.art_index.specs.declared.entry.Placed.{Placed}
 use Rattle.art_index.specs.declared.entry.Placed.TheVariants as placed
 use Rattle.art_index.specs.Words.{Word, name, bytes}
 use Rattle.art_index.specs.Commands.{put, Command}
-use Rattle.art_index.specs.Keys.{conflicts, full_key}
+use Rattle.art_bytes.specs.Keys.{conflicts}
+use Rattle.art_index.specs.Keys.{full_key}
 use Rattle.art_index.specs.Records.{KeyRecord, Records, AreRecords, own}
 use Rattle.art_index.specs.Replies.{own_reply, own_after, with_changed, command_reply, command_after}
 
