@@ -17,7 +17,7 @@ use Rattle.art_arena.proofs.shapes.Finding.{same_key, other_key}
 use Rattle.art_operations.specs.KeyedLists.{without_key, IsBlocked}
 use Rattle.art_operations.proofs.KeyedLists.{put_new, put_replaced}
 use Rattle.art_index.specs.declared.placed.Placed.TheVariants as placed
-use Rattle.art_index.specs.Keys.{full_key}
+use Rattle.art_index.specs.Keys.{full_key, full_pair}
 use Rattle.art_index.specs.Words.{name, bytes}
 use Rattle.art_index.specs.Records.{Own, KeyRecord, Records, own, with_own, InOrder, KeyComesBefore, KeyFits}
 use Rattle.art_index.specs.Replies.{value_at, has_conflict, with_pair, put_reply, puts, with_changed}
@@ -57,6 +57,11 @@ ascend (p ∷ ps) full order fit = (ascend_behind p ps full.0 fit.0 full.1 order
 
 pub pairs_ascend : (ps : List Pair) → ArePairs ps → IsAscending bytes_of ps
 pairs_ascend ps are = ascend ps are.full are.records.keys_in_order are.records.keys_fit
+
+-- pairs are their records, each value under its full key
+pub pairs_are : (ps : List Pair) → AllByRecursion IsFull ps → map (λ p. (p.0.items, p.1.items)) ps ≡ map full_pair (map record_of ps)
+pairs_are [] full = refl
+pairs_are (p ∷ ps) full = rw (sym full.0) (ap (λ l. (p.0.items, p.1.items) ∷ l) (pairs_are ps full.1))
 
 -- the test that a key is the full one
 abbrev pub is_full_key : ℕ → List ℕ → Vec ℕ → Bool

@@ -51,9 +51,9 @@ put_done placed.New old new t k v h = h
 put_done placed.Conflict old new t k v h = h
 
 -- what is written of some pairs, where these stand for the records
-pub told_of : (held ps : List Pair) (r : Records) (c : Command) (line : List ℕ) → Some c ≡ command_of line → ps ≡ held → records_of held ≡ r
+pub told_of : (ps : List Pair) (r : Records) (c : Command) (line : List ℕ) → Some c ≡ command_of line → records_of ps ≡ r
     → flat_map line_of (command_reply (Some c) (records_of ps)) ≡ reply_to r line
-told_of held ps r c line e all view = ap (λ x. flat_map line_of (command_reply (Some c) x)) (ap records_of all ∙ view) ∙ reply_is (Some c) r line e
+told_of ps r c line e view = ap (λ x. flat_map line_of (command_reply (Some c) x)) view ∙ reply_is (Some c) r line e
 
 pub bad_told : (r : Records) (line : List ℕ) → None ≡ command_of line → line_of (name (codes "bad") ∷ []) ≡ reply_to r line
 bad_told r line e = told_once (name (codes "bad") ∷ []) None r line e refl

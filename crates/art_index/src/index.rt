@@ -1,5 +1,5 @@
 //! An index, and what a line does to it.
-ghost use Rattle.std.specs.Prelude.{◌≡◌, ◌+◌, ◌<◌, ◌++◌, take, OnErr, IfOk, IfErr, is_err, true, false, Some};
+ghost use Rattle.std.specs.Prelude.{◌≡◌, ◌+◌, ◌<◌, ◌++◌, map, take, OnErr, IfOk, IfErr, is_err, true, false, Some};
 ghost use Rattle.std.specs.Prelude.{None};
 
 use crate::carry::{change, look_up, tell_all};
@@ -68,6 +68,7 @@ impl<const PREFIX_LEN: usize> Model for Index<PREFIX_LEN> {
 impl<const PREFIX_LEN: usize> Index<PREFIX_LEN> {
     ghost use Rattle.art_index.specs.Words.{line_of};
     ghost use Rattle.art_index.specs.Commands.{put, get};
+    ghost use Rattle.art_index.specs.Keys.{full_pair};
     ghost use Rattle.art_index.specs.Records.{AreRecords, no_records, KeyFits, own};
     ghost use Rattle.art_index.specs.Replies.{own_reply};
     ghost use Rattle.art_index.specs.Refusals.{LineMayRefuse};
@@ -92,6 +93,13 @@ impl<const PREFIX_LEN: usize> Index<PREFIX_LEN> {
         ensures { AreRecords self.now }
     {
         let _records = &self.records;
+    }
+
+    /// The records, each value under its full key: four bytes of the tenant, the highest first, and then its key.
+    pub fn byte_map(&self) -> &TreeMap<Vec<u8>, Vec<u8>, PREFIX_LEN>
+        ensures { map (λ p. (p.0.items, p.1.items)) result.now.pairs ≡ map full_pair self.now.keys }
+    {
+        &self.records
     }
 
     /// Carries out one line, without its newline, and writes its whole reply.
