@@ -40,3 +40,9 @@ pub mod Openings
 pub mod OtherChildren
 -- A node of the largest kind has room under each byte.
 pub mod FullNodes
+-- A slab of leaves has as many as the tree that the arena holds.
+pub mod LeafCounts
+-- Each leaf of a tree stands at a place.
+pub mod LeafPlaces
+-- A leaf that has another value.
+pub mod LeafValues

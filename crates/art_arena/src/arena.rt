@@ -1,7 +1,7 @@
 //! The nodes of a tree, under their names.
-ghost use Rattle.std.specs.Prelude.{◌≡◌, ◌<◌, ◌^◌, ◌↔◌, Some, None, IfOk, OnErr, IfErr, OnOk, IsSome, IsTrue, IsOk};
+ghost use Rattle.std.specs.Prelude.{◌≡◌, ℕ, ◌<◌, ◌^◌, ◌↔◌, List, length, Some, None, IfOk, OnErr, IfErr, OnOk, IsSome, IsTrue, IsOk};
 
-use crate::nodes::Nodes;
+use crate::nodes::{NO_MEMORY_HOLDS, Nodes};
 use crate::stored::Stored;
 use art_nodes::{
     InnerNode4, InnerNode16, InnerNode48, InnerNode256, KindLeaf, LeafNode, NodePtr, NodeType,
@@ -60,8 +60,11 @@ impl<K, V, const PREFIX_LEN: usize> NodeArena<K, V, PREFIX_LEN> {
     ghost use Rattle.std.specs.Borrow.{sem};
     ghost use Rattle.art_arena.specs.arena.Lends.{lends_node, lends_value};
     ghost use Rattle.art_arena.specs.contracts.arena.NodeArena.{the_row};
-    ghost use Rattle.art_arena.specs.arena.Arena.{leaf_held, held_at, links_at, Allocates, WritesLinks, SameNodes};
+    ghost use Rattle.art_arena.specs.arena.Arena.{leaf_held, held_at, links_at, node_at, Allocates, WritesLinks, SameNodes};
     ghost use Rattle.art_arena.specs.arena.Arena.{HasRoom};
+    ghost use Rattle.art_arena.specs.arena.Shapes.{Shape, leaves};
+    ghost use Rattle.art_arena.specs.arena.Stores.{StoresOnly};
+    ghost use Rattle.slab.specs.Slab.{slab_len};
     ghost use Rattle.art_arena.specs.arena.Arena.{KeepsRoom, UsesRoom};
 
     /// An arena that holds no node. It takes no memory.
@@ -89,6 +92,38 @@ impl<K, V, const PREFIX_LEN: usize> NodeArena<K, V, PREFIX_LEN> {
             NodeType::Node256 => self.nodes256.contains(slot),
             NodeType::Leaf => self.leaves.contains(slot),
         }
+    }
+
+    /// How many leaves there are: those of the tree, where the arena holds nothing else.
+    pub fn leaf_count(&self) -> usize
+        ensures value { result ≡ slab_len self.now.leaves }
+        ensures tree { (bytes : K → List ℕ) (root : Name) (s : Shape K V) → StoresOnly bytes PREFIX_LEN self.now root s
+            → result ≡ length (leaves s) }
+        ensures none { ((n : Name) → node_at self.now n ≡ None) → result ≡ 0 }
+    {
+        self.leaves.len()
+    }
+
+    /// Takes all nodes out, and lets go of them. The room for them stays.
+    pub fn clear(&mut self)
+    where
+        K: Drop,
+        V: Drop,
+        ensures empty { (n : Name) → held_at self.new n ≡ None }
+        ensures room { KeepsRoom self.old self.new }
+    {
+        self.leaves.clear();
+        if PREFIX_LEN >= NO_MEMORY_HOLDS {
+            self.nodes4.none_fits();
+            self.nodes16.none_fits();
+            self.nodes48.none_fits();
+            self.nodes256.none_fits();
+            return;
+        }
+        self.nodes4.clear();
+        self.nodes16.clear();
+        self.nodes48.clear();
+        self.nodes256.clear();
     }
 
     /// Makes room for so many more nodes, whatever their kinds: as many allocations then need no memory. It is

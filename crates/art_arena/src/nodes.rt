@@ -1,5 +1,5 @@
 //! The nodes of one kind, under their slab keys.
-ghost use Rattle.std.specs.Prelude.{◌≡◌, ◌<◌, ◌≤◌, ◌^◌, ◌↔◌, ◌+◌};
+ghost use Rattle.std.specs.Prelude.{◌≡◌, ℕ, ◌<◌, ◌≤◌, ◌^◌, ◌↔◌, ◌+◌};
 ghost use Rattle.std.specs.Prelude.{[], Some, None, IfOk, IfErr, IsOk, IsSome, IsTrue, OnErr, OnOk};
 ghost use Rattle.std.specs.Borrow.{sem};
 ghost use Rattle.slab.specs.Slab.{get, slab_len, HasRoomFor, Updates};
@@ -10,7 +10,7 @@ use std::alloc::{AllocError, AllocFailed, Global};
 use std::marker::Model;
 
 // No memory holds a node whose stored prefix has so many bytes.
-const NO_MEMORY_HOLDS: usize = 1 << 62;
+pub(crate) const NO_MEMORY_HOLDS: usize = 1 << 62;
 
 /// The nodes of one kind, each under its slab key. Where there is one, or room for one, a prefix of `PREFIX_LEN` stored
 /// bytes is so short that a node fits in memory.
@@ -39,6 +39,31 @@ impl<N, const PREFIX_LEN: usize> Nodes<N, PREFIX_LEN> {
         Nodes {
             slab: Slab::new(alloc),
         }
+    }
+
+    // How many nodes there are.
+    pub(crate) fn len(&self) -> usize
+        ensures { result ≡ slab_len self.now }
+    {
+        self.slab.len()
+    }
+
+    // Where a node fits in no memory, there is none.
+    pub(crate) fn none_fits(&self)
+        ensures { 2 ^ 62 ≤ PREFIX_LEN → (slot : ℕ) → get self.now slot ≡ None }
+    {
+        let _slab = &self.slab;
+    }
+
+    // Takes all nodes out. The room for them stays.
+    pub(crate) fn clear(&mut self)
+    where
+        N: Drop,
+        requires { PREFIX_LEN < 2 ^ 62 }
+        ensures slots { self.new.slots ≡ [] }
+        ensures capacity { self.new.capacity ≡ self.old.capacity }
+    {
+        self.slab.clear();
     }
 
     // Whether there is a node under this key.

@@ -31,3 +31,4 @@ pub mod Done
 pub mod Clones
 pub mod CommandLists
 pub mod RunExamples
+pub mod WrittenValues

@@ -16,16 +16,16 @@ use Rattle.art_arena.specs.arena.Meaning.{IsPart}
 use Rattle.art_arena.proofs.tree.Order.{all_left, all_right}
 
 -- how often a number stands in a list
-abbrev count : ℕ → List ℕ → ℕ
+abbrev pub count : ℕ → List ℕ → ℕ
 count n [] = 0
 count n (x ∷ xs) = cond (eqb n x) 1 0 + count n xs
 
 -- the list without a number
-abbrev without : ℕ → List ℕ → List ℕ
+abbrev pub without : ℕ → List ℕ → List ℕ
 without n [] = []
 without n (x ∷ xs) = cond (eqb n x) (without n xs) (x ∷ without n xs)
 
-length-without : (n : ℕ) (xs : List ℕ) → length xs ≡ length (without n xs) + count n xs
+pub length-without : (n : ℕ) (xs : List ℕ) → length xs ≡ length (without n xs) + count n xs
 length-without n [] = refl
 length-without n (x ∷ xs) = elim (eqb n x) as (λ b. suc (length xs) ≡ length (cond b (without n xs) (x ∷ without n xs)) + (cond b 1 0 + count n xs)) [
   | true ↦ omega (arith, length-without n xs)
@@ -39,7 +39,7 @@ count-without m n (x ∷ xs) = elim (eqb n x) as (λ b. count m (cond b (without
   | false ↦ omega (arith, count-without m n xs)
 ]
 
-below-without : (n : ℕ) (xs : List ℕ) → AllByRecursion (λ x. x < suc n) xs → AllByRecursion (λ x. x < n) (without n xs)
+pub below-without : (n : ℕ) (xs : List ℕ) → AllByRecursion (λ x. x < suc n) xs → AllByRecursion (λ x. x < n) (without n xs)
 below-without n [] h = tt
 below-without n (x ∷ xs) h = elim (eqb_tells n x) [
   | inl same ↦ rw same.0 (below-without n xs h.1)
@@ -47,7 +47,7 @@ below-without n (x ∷ xs) h = elim (eqb_tells n x) [
 ]
 
 -- numbers below n that are met once each are no more than n
-few : (n : ℕ) (xs : List ℕ) → AllByRecursion (λ x. x < n) xs → ((m : ℕ) → count m xs ≤ 1) → length xs ≤ n
+pub few : (n : ℕ) (xs : List ℕ) → AllByRecursion (λ x. x < n) xs → ((m : ℕ) → count m xs ≤ 1) → length xs ≤ n
 few zero [] h once = omega arith
 few zero (x ∷ xs) h once = absurd (omega (arith, h.0))
 few (suc n) xs h once =
@@ -79,7 +79,7 @@ total f (c ∷ rest) = f c.1 + total f rest
 
 module _ {C : Type 0} where
   -- the slab keys of the nodes of a kind in a list of cells
-  abbrev slots_as : NodeType → List (Name × C) → List ℕ
+  abbrev pub slots_as : NodeType → List (Name × C) → List ℕ
   slots_as kind [] = []
   slots_as kind (c ∷ rest) = cond (same_kind kind c.0.kind) (c.0.slot ∷ slots_as kind rest) (slots_as kind rest)
 
@@ -105,7 +105,7 @@ module _ {C : Type 0} where
 
 module _ {K V : Type 0} where
   -- how many slots a slab has
-  abbrev slots_in : Arena K V → NodeType → ℕ
+  abbrev pub slots_in : Arena K V → NodeType → ℕ
   slots_in arena Leaf = length arena.leaves.slots
   slots_in arena Node4 = length arena.nodes4.slots
   slots_in arena Node16 = length arena.nodes16.slots
@@ -130,7 +130,7 @@ module _ {K V : Type 0} where
   slot_within arena Node48 slot c e = ContainsKey-within arena.nodes48 slot (inner_there (get arena.nodes48 slot) c e)
   slot_within arena Node256 slot c e = ContainsKey-within arena.nodes256 slot (inner_there (get arena.nodes256 slot) c e)
 
-  slots_within : (arena : Arena K V) (kind : NodeType) (cs : List (Name × Cell K V)) → AreHeld (node_at arena) cs → AllByRecursion (λ x. x < slots_in arena kind) (slots_as kind cs)
+  pub slots_within : (arena : Arena K V) (kind : NodeType) (cs : List (Name × Cell K V)) → AreHeld (node_at arena) cs → AllByRecursion (λ x. x < slots_in arena kind) (slots_as kind cs)
   slots_within arena kind [] h = tt
   slots_within arena kind (c ∷ cs) h = here (same_kind kind c.0.kind) refl (slots_within arena kind cs h.1)
     where

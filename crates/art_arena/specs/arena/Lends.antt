@@ -16,7 +16,11 @@ abbrev pub with_value_in : {K V : Type 0} → Arena K V → ℕ → Option (Leaf
 with_value_in arena slot None value = arena
 with_value_in arena slot (Some leaf) value = with_leaf arena slot (record leaf { value = value })
 
+-- the arena with another value in the leaf with this slab key, if there is one
+abbrev pub with_leaf_value : {K V : Type 0} → Arena K V → ℕ → V → Arena K V
+with_leaf_value arena slot value = with_value_in arena slot (get arena.leaves slot) value
+
 module _ (K V P : RattleType) (arena : MutBor (Arena K.Denot V.Denot)) (slot : ℕ) where
   -- once the borrow r ends, the leaf has the last value written through r
   abbrev pub lends_value : MutBor V.Denot → Fml
-  lends_value r = Lends (the_row K V P) V arena r (with_value_in arena.now slot (get arena.now.leaves slot))
+  lends_value r = Lends (the_row K V P) V arena r (with_leaf_value arena.now slot)

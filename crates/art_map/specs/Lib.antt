@@ -1,0 +1,4 @@
+pub mod Contents
+pub mod Changes
+pub mod Lends
+pub mod Found

@@ -1,0 +1,140 @@
+//! Pairs are put in.
+ghost use Rattle.std.specs.Prelude.{◌≡◌, IfOk, IfErr, IsOk, OnErr, OnOk};
+ghost use Rattle.std.specs.List.{AllByRecursion};
+ghost use Rattle.std.specs.Map.{lookup};
+ghost use Rattle.art_arena.specs.arena.Shapes.{key_of};
+ghost use Rattle.art_operations.specs.KeyedLists.{HasKey, IsBlocked};
+ghost use Rattle.art_operations.specs.Pairs.{CanPut, with_pair};
+ghost use Rattle.art_map.specs.Contents.{value_in};
+
+use crate::map::TreeMap;
+use crate::map::refused::TryInsertError;
+use art_bytes::{AsBytes, NoPrefixesBytes};
+use art_nodes::LeafNode;
+use art_operations::{
+    InsertPoint, InsertPrefixError, InsertRefused, KeyPrefix, PrefixConflict, find_place, put_pair,
+};
+
+// The value of a leaf, whose key is let go.
+fn value_of<K: Drop, V>(leaf: Option<LeafNode<K, V>>) -> Option<V>
+    ensures { result ≡ value_in leaf }
+{
+    match leaf {
+        Some(leaf) => {
+            let (_key, value) = leaf.into_entry();
+            Some(value)
+        }
+        None => None,
+    }
+}
+
+impl<K: AsBytes, V, const PREFIX_LEN: usize> TreeMap<K, V, PREFIX_LEN> {
+    ghost use Rattle.art_map.specs.Contents.{has_bytes};
+    ghost use Rattle.art_map.specs.Changes.{IsTryRefused};
+    ghost use Rattle.art_operations.specs.Pairs.{IsPlaced};
+
+    // Where a key goes. It is refused where the key is a front of a stored key, or a stored key is one of it.
+    fn place(&self, key: &K) -> Result<Option<InsertPoint>, PrefixConflict>
+        ensures placed { IsPlaced K.bytes PREFIX_LEN self.now.nodes (K.bytes key.now) self.now.pairs result }
+        ensures stored { HasKey (key_of K.bytes) (K.bytes key.now) self.now.pairs → IsOk result }
+        ensures keys { AllByRecursion (λ p. K.is_key p.0) self.now.pairs }
+        ensures key { K.is_key key.now }
+    {
+        // By value an option of a name counts as moved, so a copy goes in.
+        let root = self.root;
+        find_place(&self.arena, root, key.as_bytes())
+    }
+
+    // Puts a pair in at the place of its key, and answers the value that the key had.
+    fn put_at(
+        &mut self,
+        place: Option<InsertPoint>,
+        key: K,
+        value: V,
+    ) -> Result<Option<V>, InsertRefused<K, V>>
+    where
+        K: Drop,
+        requires { CanPut K.bytes PREFIX_LEN self.old.nodes place (K.bytes key) self.old.pairs }
+        ensures value { IfOk result (λ old. old ≡ lookup (has_bytes K.bytes (K.bytes key)) self.old.pairs) }
+        ensures pairs { OnOk result (self.new.pairs ≡ with_pair K.bytes key value self.old.pairs) }
+        ensures stored { HasKey (key_of K.bytes) (K.bytes key) self.old.pairs → IsOk result }
+        ensures err { OnErr result (self.new.pairs ≡ self.old.pairs) }
+        ensures handed_back { IfErr result (λ refused. (refused.key ≡ key) × (refused.value ≡ value)) }
+    {
+        let _known = key.as_bytes();
+        match put_pair(&mut self.arena, place, key, value) {
+            Ok(put) => {
+                self.root = Some(put.new_root);
+                Ok(value_of(put.existing_leaf))
+            }
+            Err(refused) => Err(refused),
+        }
+    }
+
+    /// Puts a pair in, in the place of the one whose key has the same bytes if there is one, and answers the value of
+    /// that one.
+    ///
+    /// It is refused with `Prefix` where the key is a front of a stored key, or a stored key is one of it, and with
+    /// `Memory` where there is no memory for the pair, or for the bytes that `Prefix` tells. The pair is handed back,
+    /// and the map is as it was. A key that is stored is never refused.
+    pub fn try_insert(&mut self, key: K, value: V) -> Result<Option<V>, TryInsertError<K, V>>
+    where
+        K: Drop,
+        ensures value { IfOk result (λ old. old ≡ lookup (has_bytes K.bytes (K.bytes key)) self.old.pairs) }
+        ensures pairs { OnOk result (self.new.pairs ≡ with_pair K.bytes key value self.old.pairs) }
+        ensures free { OnOk result (IsBlocked (key_of K.bytes) (K.bytes key) self.old.pairs → ⊥) }
+        ensures stored { HasKey (key_of K.bytes) (K.bytes key) self.old.pairs → IsOk result }
+        ensures err { OnErr result (self.new.pairs ≡ self.old.pairs) }
+        ensures refused { IfErr result (IsTryRefused K.bytes self.old.pairs key value) }
+    {
+        match self.place(&key) {
+            Ok(place) => match self.put_at(place, key, value) {
+                Ok(old) => Ok(old),
+                Err(refused) => Err(TryInsertError::Memory {
+                    key: refused.key,
+                    value: refused.value,
+                }),
+            },
+            Err(_) => match KeyPrefix::new(self.alloc, key.as_bytes()) {
+                Ok(byte_repr) => Err(TryInsertError::Prefix {
+                    key,
+                    value,
+                    error: InsertPrefixError { byte_repr },
+                }),
+                Err(_) => Err(TryInsertError::Memory { key, value }),
+            },
+        }
+    }
+}
+
+impl<K: NoPrefixesBytes, V, const PREFIX_LEN: usize> TreeMap<K, V, PREFIX_LEN> {
+    ghost use Rattle.art_map.specs.Contents.{has_bytes};
+
+    // Where a key goes: no key of its type is a front of another.
+    fn place_free(&self, key: &K) -> Option<InsertPoint>
+        ensures { CanPut K.bytes PREFIX_LEN self.now.nodes result (K.bytes key.now) self.now.pairs }
+    {
+        match self.place(key) {
+            Ok(place) => place,
+            Err(_) => unreachable!(),
+        }
+    }
+
+    /// Puts a pair in, in the place of the one whose key has the same bytes if there is one, and answers the value of
+    /// that one.
+    ///
+    /// It is refused only where there is no memory. The pair is handed back, and the map is as it was. A key that is
+    /// stored is never refused.
+    pub fn insert(&mut self, key: K, value: V) -> Result<Option<V>, InsertRefused<K, V>>
+    where
+        K: Drop,
+        ensures value { IfOk result (λ old. old ≡ lookup (has_bytes K.bytes (K.bytes key)) self.old.pairs) }
+        ensures pairs { OnOk result (self.new.pairs ≡ with_pair K.bytes key value self.old.pairs) }
+        ensures stored { HasKey (key_of K.bytes) (K.bytes key) self.old.pairs → IsOk result }
+        ensures err { OnErr result (self.new.pairs ≡ self.old.pairs) }
+        ensures handed_back { IfErr result (λ refused. (refused.key ≡ key) × (refused.value ≡ value)) }
+    {
+        let place = self.place_free(&key);
+        self.put_at(place, key, value)
+    }
+}

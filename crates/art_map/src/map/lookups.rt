@@ -1,0 +1,171 @@
+//! Look-ups of a key, of the key that is a front of a query, and of the ends.
+ghost use Rattle.std.specs.Prelude.{◌≡◌, Some, IsSome, is_some, option_copied, option_map};
+ghost use Rattle.std.specs.Borrow.{sem};
+ghost use Rattle.std.specs.Option.{option_copied_mut};
+ghost use Rattle.std.specs.Map.{lookup, lookup_entry};
+ghost use Rattle.std.specs.Map.Iter.{deref_pair, deref_pair_mut};
+
+use crate::map::TreeMap;
+use art_arena::LeafPtr;
+use art_bytes::AsBytes;
+use art_operations::{maximum_unchecked, minimum_unchecked, prefix_search_unchecked, search_unchecked};
+use std::ops::Index;
+
+impl<K: AsBytes, V, const PREFIX_LEN: usize> TreeMap<K, V, PREFIX_LEN> {
+    ghost use Rattle.art_map.specs.Contents.{first_of, has_bytes, HasLeaf, is_front, last_of};
+    ghost use Rattle.art_map.specs.Found.{IsAt, IsFound, HasPairAt};
+    ghost use Rattle.art_map.specs.Lends.{lends_get, lends_value_at};
+
+    // The leaf of the pair whose key has these bytes.
+    fn find(&self, key: &[u8]) -> Option<LeafPtr>
+        ensures { IsFound (has_bytes K.bytes key.now) self.now result }
+    {
+        match self.root {
+            Some(root) => search_unchecked(&self.arena, root, key),
+            None => None,
+        }
+    }
+
+    // The leaf of the pair whose key is a front of these bytes, or has them all.
+    fn prefix_find(&self, key: &[u8]) -> Option<LeafPtr>
+        ensures { IsFound (is_front K.bytes key.now) self.now result }
+    {
+        match self.root {
+            Some(root) => prefix_search_unchecked(&self.arena, root, key),
+            None => None,
+        }
+    }
+
+    // The leaf of the first pair.
+    fn first(&self) -> Option<LeafPtr>
+        ensures { IsAt (first_of self.now.pairs) self.now result }
+    {
+        match self.root {
+            Some(root) => Some(minimum_unchecked(&self.arena, root)),
+            None => None,
+        }
+    }
+
+    // The leaf of the last pair.
+    fn last(&self) -> Option<LeafPtr>
+        ensures { IsAt (last_of self.now.pairs) self.now result }
+    {
+        match self.root {
+            Some(root) => Some(maximum_unchecked(&self.arena, root)),
+            None => None,
+        }
+    }
+
+    // The pair of a leaf.
+    fn pair_at(&self, leaf: LeafPtr) -> (&K, &V)
+        requires { HasLeaf self.now leaf }
+        ensures { HasPairAt self.now leaf (deref_pair result) }
+    {
+        self.arena.as_key_value_ref(leaf)
+    }
+
+    // The key of a leaf, and its value for writing.
+    fn pair_mut_at(&mut self, leaf: LeafPtr) -> (&K, &mut V)
+        requires { HasLeaf self.old leaf }
+        ensures* writes_back { sem 𝓛 (lends_value_at K.row V.row PREFIX_LEN.row K.AsBytes self.entry leaf result.1) }
+        ensures value { HasPairAt self.old leaf (deref_pair_mut result) }
+    {
+        self.arena.as_key_ref_value_mut(leaf)
+    }
+
+    /// The value of the pair whose key has the query's bytes, if there is one.
+    pub fn get<Q: AsBytes>(&self, key: &Q) -> Option<&V>
+        ensures { option_copied result ≡ lookup (has_bytes K.bytes (Q.bytes key.now)) self.now.pairs }
+    {
+        match self.get_key_value(key) {
+            Some((_key, value)) => Some(value),
+            None => None,
+        }
+    }
+
+    /// The pair whose key has the query's bytes, if there is one.
+    pub fn get_key_value<Q: AsBytes>(&self, key: &Q) -> Option<(&K, &V)>
+        ensures { option_map deref_pair result ≡ lookup_entry (has_bytes K.bytes (Q.bytes key.now)) self.now.pairs }
+    {
+        match self.find(key.as_bytes()) {
+            Some(leaf) => Some(self.pair_at(leaf)),
+            None => None,
+        }
+    }
+
+    /// Whether there is a pair whose key has the query's bytes.
+    pub fn contains_key<Q: AsBytes>(&self, key: &Q) -> bool
+        ensures { result ≡ is_some (lookup (has_bytes K.bytes (Q.bytes key.now)) self.now.pairs) }
+    {
+        self.get(key).is_some()
+    }
+
+    /// The value of the pair whose key has the query's bytes, for writing, if there is one.
+    pub fn get_mut<Q: AsBytes>(&mut self, key: &Q) -> Option<&mut V>
+        ensures* writes_back { sem 𝓛 (lends_get K.row V.row PREFIX_LEN.row K.AsBytes self.entry
+            (has_bytes K.bytes (Q.bytes key.now)) result) }
+        ensures value { option_copied_mut result ≡ lookup (has_bytes K.bytes (Q.bytes key.now)) self.old.pairs }
+    {
+        match self.find(key.as_bytes()) {
+            Some(leaf) => {
+                let (_key, value) = self.pair_mut_at(leaf);
+                Some(value)
+            }
+            None => None,
+        }
+    }
+
+    /// The value of the one pair whose key is a front of the query's bytes, or has them all, if there is one.
+    pub fn prefix_get<Q: AsBytes>(&self, key: &Q) -> Option<&V>
+        ensures { option_copied result ≡ lookup (is_front K.bytes (Q.bytes key.now)) self.now.pairs }
+    {
+        match self.prefix_get_key_value(key) {
+            Some((_key, value)) => Some(value),
+            None => None,
+        }
+    }
+
+    /// The one pair whose key is a front of the query's bytes, or has them all, if there is one.
+    pub fn prefix_get_key_value<Q: AsBytes>(&self, key: &Q) -> Option<(&K, &V)>
+        ensures { option_map deref_pair result ≡ lookup_entry (is_front K.bytes (Q.bytes key.now)) self.now.pairs }
+    {
+        match self.prefix_find(key.as_bytes()) {
+            Some(leaf) => Some(self.pair_at(leaf)),
+            None => None,
+        }
+    }
+
+    /// The first pair, whose key is the least, if there is one.
+    pub fn first_key_value(&self) -> Option<(&K, &V)>
+        ensures { option_map deref_pair result ≡ first_of self.now.pairs }
+    {
+        match self.first() {
+            Some(leaf) => Some(self.pair_at(leaf)),
+            None => None,
+        }
+    }
+
+    /// The last pair, whose key is the greatest, if there is one.
+    pub fn last_key_value(&self) -> Option<(&K, &V)>
+        ensures { option_map deref_pair result ≡ last_of self.now.pairs }
+    {
+        match self.last() {
+            Some(leaf) => Some(self.pair_at(leaf)),
+            None => None,
+        }
+    }
+}
+
+impl<K: AsBytes, V, Q: AsBytes, const PREFIX_LEN: usize> Index<&Q> for TreeMap<K, V, PREFIX_LEN> {
+    ghost use Rattle.art_map.specs.Contents.{has_bytes};
+
+    type Output = V;
+
+    ghost can_index = { λ m q. IsSome (lookup (has_bytes K.bytes (Q.bytes q.now)) m.pairs) };
+
+    ghost index_gives = { λ m q v. lookup (has_bytes K.bytes (Q.bytes q.now)) m.pairs ≡ Some v };
+
+    fn index(&self, key: &Q) -> &V {
+        self.get(key).unwrap()
+    }
+}

@@ -1,0 +1,27 @@
+//! Why a pair is not put in.
+
+use art_operations::InsertPrefixError;
+use thiserror::Error;
+
+/// Why a pair was not put in. It is handed back, and the map is as it was.
+#[derive(Debug, Drop, Error)]
+pub enum TryInsertError<K, V> {
+    /// The key is a front of a stored key, or a stored key is one of it.
+    #[error("the key is a front of a stored key, or a stored key is one of it")]
+    Prefix {
+        /// The key.
+        key: K,
+        /// The value.
+        value: V,
+        /// The bytes of the key.
+        error: InsertPrefixError,
+    },
+    /// No memory was found.
+    #[error("no memory for a pair")]
+    Memory {
+        /// The key.
+        key: K,
+        /// The value.
+        value: V,
+    },
+}

@@ -1,0 +1,67 @@
+//! Pairs are taken out.
+ghost use Rattle.std.specs.Prelude.{◌≡◌, IfOk, OnErr, OnOk};
+ghost use Rattle.std.specs.Map.{lookup, lookup_entry};
+ghost use Rattle.art_arena.specs.arena.Shapes.{key_of};
+ghost use Rattle.art_arena.specs.tree.Shrinks.{Shrinks};
+ghost use Rattle.art_map.specs.Contents.{option_value};
+ghost use Rattle.art_operations.specs.KeyedLists.{HasKey, without_key};
+
+use crate::map::TreeMap;
+use art_bytes::AsBytes;
+use art_operations::take_pair;
+use std::alloc::AllocError;
+
+// The value of a pair, whose key is let go.
+fn value_of<K: Drop, V>(pair: Option<(K, V)>) -> Option<V>
+    ensures { result ≡ option_value pair }
+{
+    match pair {
+        Some((_key, value)) => Some(value),
+        None => None,
+    }
+}
+
+impl<K: AsBytes, V, const PREFIX_LEN: usize> TreeMap<K, V, PREFIX_LEN> {
+    ghost use Rattle.art_map.specs.Contents.{has_bytes};
+
+    /// Takes the pair out whose key has the query's bytes, and answers its value, if there is one. It is refused as
+    /// `remove_entry` is.
+    pub fn remove<Q: AsBytes>(&mut self, key: &Q) -> Result<Option<V>, AllocError>
+    where
+        K: Drop,
+        ensures value { IfOk result (λ old. old ≡ lookup (has_bytes K.bytes (Q.bytes key.now)) self.old.pairs) }
+        ensures pairs { OnOk result (self.new.pairs ≡ without_key (key_of K.bytes) (Q.bytes key.now) self.old.pairs) }
+        ensures err { OnErr result (self.new.pairs ≡ self.old.pairs) }
+        ensures shrinks { OnErr result (HasKey (key_of K.bytes) (Q.bytes key.now) self.old.pairs
+            × Shrinks (key_of K.bytes) self.old.pairs (Q.bytes key.now)) }
+    {
+        match self.remove_entry(key) {
+            Ok(pair) => Ok(value_of(pair)),
+            Err(refused) => Err(refused),
+        }
+    }
+
+    /// Takes the pair out whose key has the query's bytes, and answers it, if there is one.
+    ///
+    /// It is refused only where the loss of the key makes a node one of the next smaller kind, and there is no memory
+    /// for that one. The map is then as it was.
+    pub fn remove_entry<Q: AsBytes>(&mut self, key: &Q) -> Result<Option<(K, V)>, AllocError>
+        ensures value { IfOk result (λ old.
+            old ≡ lookup_entry (has_bytes K.bytes (Q.bytes key.now)) self.old.pairs) }
+        ensures pairs { OnOk result (self.new.pairs ≡ without_key (key_of K.bytes) (Q.bytes key.now) self.old.pairs) }
+        ensures err { OnErr result (self.new.pairs ≡ self.old.pairs) }
+        ensures shrinks { OnErr result (HasKey (key_of K.bytes) (Q.bytes key.now) self.old.pairs
+            × Shrinks (key_of K.bytes) self.old.pairs (Q.bytes key.now)) }
+    {
+        // By value an option of a name counts as moved, so a copy goes in.
+        let root = self.root;
+        match take_pair(&mut self.arena, root, key.as_bytes()) {
+            Ok(Some(deleted)) => {
+                self.root = deleted.new_root;
+                Ok(Some(deleted.deleted_leaf.into_entry()))
+            }
+            Ok(None) => Ok(None),
+            Err(refused) => Err(refused),
+        }
+    }
+}
