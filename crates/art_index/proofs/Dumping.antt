@@ -14,7 +14,7 @@ words_put r = put_words r.tenant r.key r.value
 
 -- the lines that make the records of some pairs
 abbrev dumped : List Pair → List ℕ
-dumped es = flat_map line_of (map words_put (map record_of es))
+dumped es = flat_map line_of (map (λ r. put_words r.tenant r.key r.value) (map record_of es))
 
 -- the line that ends a dump of so many records
 abbrev pub dump_end : ℕ → List ℕ
@@ -33,8 +33,10 @@ pub dump_all : (ps : List Pair) → dump_from (length ps) ps ≡ flat_map line_o
 dump_all ps =
     let end : List Word = name (codes "end") ∷ natural (length ps) ∷ [] in
     let lines : List (List Word) = map (λ r. put_words r.tenant r.key r.value) (map record_of ps) in
+    let last : ℕ → List (List Word) = λ n. (name (codes "end") ∷ natural n ∷ []) ∷ [] in
     ap (λ e. flat_map line_of lines ++ e) (sym (append-nil (line_of end))) ∙ sym (flat_map-append line_of lines (end ∷ []))
-    ∙ ap (λ n. flat_map line_of (lines ++ (name (codes "end") ∷ natural n ∷ []) ∷ [])) (sym (length-map record_of ps) ∙ sym (plus-zero (length (map record_of ps))))
+    ∙ ap (λ n. flat_map line_of (lines ++ last n)) (sym (length-map record_of ps) ∙ sym (plus-zero (length (map record_of ps))))
+    ∙ ap (λ l. flat_map line_of (l ++ last (length (map record_of ps) + 0))) (sym (append-nil lines))
   where
     plus-zero : (n : ℕ) → n + 0 ≡ n
     plus-zero n = omega arith

@@ -41,7 +41,7 @@ impl From<WriteFailed> for RunFault {
 pub struct Handled {
     /// Whether the reply was `memory`.
     pub memory: bool,
-    /// The number of nodes read. The records stand in no nodes yet, so it is 0.
+    /// The number of nodes read. They are not counted yet, so it is 0.
     pub visits: u64,
 }
 
