@@ -5,3 +5,4 @@ pub mod Fillings
 pub mod LeafSlots
 pub mod KindCounts
 pub mod Verdicts
+pub mod Counted

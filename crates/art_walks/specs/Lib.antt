@@ -1,3 +1,4 @@
 pub mod Runs
 pub mod Stats
 pub mod Faults
+pub mod Walked

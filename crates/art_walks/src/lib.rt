@@ -3,11 +3,13 @@
 //! The definitions stand in `specs/`.
 #![tactic(auto)]
 
+mod iter;
 pub mod laws;
 mod malformed;
 mod raw_iterator;
 mod stats;
 
+pub use iter::{Iter, Keys, Values};
 pub use malformed::MalformedTreeError;
 pub use raw_iterator::RawIterator;
 pub use stats::WellFormedTreeStats;

@@ -1,0 +1,268 @@
+//! Walks that lend the pairs of a run of leaves.
+ghost use Rattle.std.specs.Prelude.{◌≡◌, length, ⊤};
+ghost use Rattle.std.specs.Iterator.{at_most};
+ghost use Rattle.std.specs.Map.{keys_of, values_of};
+ghost use Rattle.std.specs.Map.Iter.{TakesFirst, TakesLast, deref, deref_pair};
+ghost use Rattle.art_arena.specs.arena.Shapes.{pairs_of};
+ghost use Rattle.art_walks.specs.Walked.{IsCounted};
+
+use crate::raw_iterator::RawIterator;
+use art_arena::NodeArena;
+use std::alloc::AllocError;
+use std::iter::FusedIterator;
+use std::marker::{Model, PhantomData};
+
+/// The pairs of a run of leaves in order, from either end. It is seen as the list of those still to come.
+///
+/// The last parameter is never written: it tells the borrow check that the arena lives as long as it is lent.
+#[derive(Drop)]
+pub struct Iter<'a, K, V, const PREFIX_LEN: usize, M: 'a = NodeArena<K, V, PREFIX_LEN>> {
+    arena: &'a NodeArena<K, V, PREFIX_LEN>,
+    leaves: RawIterator,
+    len: usize,
+    mark: PhantomData<M>,
+}
+
+impl<'a, K, V, const PREFIX_LEN: usize, M: 'a> Model for Iter<'a, K, V, PREFIX_LEN, M> {
+    ghost use Rattle.std.specs.Prelude.{List};
+    ghost use Rattle.art_walks.specs.Walked.{IsCounted, pairs_along, start_of};
+
+    ghost Value = { List (K × V) };
+
+    ghost view = { λ it. pairs_along it.len it.arena.now (start_of it.leaves) };
+
+    ghost invariant = { λ it. IsCounted it.arena.now it.leaves it.len };
+}
+
+impl<'a, K, V, const PREFIX_LEN: usize> Iter<'a, K, V, PREFIX_LEN> {
+    /// The pairs of a run of so many leaves.
+    pub fn new(arena: &'a NodeArena<K, V, PREFIX_LEN>, leaves: RawIterator, len: usize) -> Self
+        requires { IsCounted arena.now leaves len }
+        ensures { (run : IsCounted arena.now leaves len) → result ≡ pairs_of run.leaves }
+    {
+        Iter {
+            arena,
+            leaves,
+            len,
+            mark: PhantomData,
+        }
+    }
+}
+
+impl<'a, K, V, const PREFIX_LEN: usize> Clone for Iter<'a, K, V, PREFIX_LEN> {
+    ghost is_clone = { λ original copy. copy ≡ original };
+
+    ghost is_infallible = { λ _. ⊤ };
+
+    fn clone(&self) -> Result<Self, AllocError> {
+        Ok(Iter {
+            arena: self.arena,
+            leaves: self.leaves,
+            len: self.len,
+            mark: PhantomData,
+        })
+    }
+}
+
+impl<'a, K, V, const PREFIX_LEN: usize> Iterator for Iter<'a, K, V, PREFIX_LEN> {
+    type Item = (&'a K, &'a V);
+
+    ghost next_gives = { TakesFirst deref_pair };
+
+    ghost remaining = { λ rest. at_most (length rest) };
+
+    #[inline]
+    fn next(&mut self) -> Option<(&'a K, &'a V)> {
+        let arena = self.arena;
+        match self.leaves.next(arena) {
+            Some(leaf) => {
+                self.len -= 1;
+                Some(arena.as_key_value_ref(leaf))
+            }
+            None => None,
+        }
+    }
+
+    fn size_hint(&self) -> (usize, Option<usize>) {
+        let len = self.len();
+        (len, Some(len))
+    }
+}
+
+impl<'a, K, V, const PREFIX_LEN: usize> FusedIterator for Iter<'a, K, V, PREFIX_LEN> {}
+
+impl<'a, K, V, const PREFIX_LEN: usize> DoubleEndedIterator for Iter<'a, K, V, PREFIX_LEN> {
+    ghost next_back_gives = { TakesLast deref_pair };
+
+    #[inline]
+    fn next_back(&mut self) -> Option<(&'a K, &'a V)> {
+        let arena = self.arena;
+        match self.leaves.next_back(arena) {
+            Some(leaf) => {
+                self.len -= 1;
+                Some(arena.as_key_value_ref(leaf))
+            }
+            None => None,
+        }
+    }
+}
+
+impl<'a, K, V, const PREFIX_LEN: usize> ExactSizeIterator for Iter<'a, K, V, PREFIX_LEN> {
+    fn len(&self) -> usize {
+        self.len
+    }
+}
+
+/// The keys of a run of leaves in order, from either end. It is seen as the list of those still to come.
+#[derive(Drop)]
+pub struct Keys<'a, K, V, const PREFIX_LEN: usize, M: 'a = NodeArena<K, V, PREFIX_LEN>> {
+    inner: Iter<'a, K, V, PREFIX_LEN, M>,
+}
+
+impl<'a, K, V, const PREFIX_LEN: usize, M: 'a> Model for Keys<'a, K, V, PREFIX_LEN, M> {
+    ghost use Rattle.std.specs.Prelude.{List};
+    ghost use Rattle.std.specs.Map.{keys_of};
+
+    ghost Value = { List K };
+
+    ghost view = { λ it. keys_of it.inner };
+}
+
+impl<'a, K, V, const PREFIX_LEN: usize> Keys<'a, K, V, PREFIX_LEN> {
+    /// The keys of these pairs.
+    pub fn new(pairs: Iter<'a, K, V, PREFIX_LEN>) -> Self
+        ensures { result ≡ keys_of pairs.entry }
+    {
+        Keys { inner: pairs }
+    }
+}
+
+impl<'a, K, V, const PREFIX_LEN: usize> Clone for Keys<'a, K, V, PREFIX_LEN> {
+    ghost is_clone = { λ original copy. copy ≡ original };
+
+    ghost is_infallible = { λ _. ⊤ };
+
+    fn clone(&self) -> Result<Self, AllocError> {
+        Ok(Keys {
+            inner: self.inner.clone()?,
+        })
+    }
+}
+
+impl<'a, K, V, const PREFIX_LEN: usize> Iterator for Keys<'a, K, V, PREFIX_LEN> {
+    type Item = &'a K;
+
+    ghost next_gives = { TakesFirst deref };
+
+    ghost remaining = { λ rest. at_most (length rest) };
+
+    #[inline]
+    fn next(&mut self) -> Option<&'a K> {
+        match self.inner.next() {
+            Some((key, _)) => Some(key),
+            None => None,
+        }
+    }
+
+    fn size_hint(&self) -> (usize, Option<usize>) {
+        let len = self.len();
+        (len, Some(len))
+    }
+}
+
+impl<'a, K, V, const PREFIX_LEN: usize> FusedIterator for Keys<'a, K, V, PREFIX_LEN> {}
+
+impl<'a, K, V, const PREFIX_LEN: usize> DoubleEndedIterator for Keys<'a, K, V, PREFIX_LEN> {
+    ghost next_back_gives = { TakesLast deref };
+
+    #[inline]
+    fn next_back(&mut self) -> Option<&'a K> {
+        match self.inner.next_back() {
+            Some((key, _)) => Some(key),
+            None => None,
+        }
+    }
+}
+
+impl<'a, K, V, const PREFIX_LEN: usize> ExactSizeIterator for Keys<'a, K, V, PREFIX_LEN> {
+    fn len(&self) -> usize {
+        self.inner.len()
+    }
+}
+
+/// The values of a run of leaves in order, from either end. It is seen as the list of those still to come.
+#[derive(Drop)]
+pub struct Values<'a, K, V, const PREFIX_LEN: usize, M: 'a = NodeArena<K, V, PREFIX_LEN>> {
+    inner: Iter<'a, K, V, PREFIX_LEN, M>,
+}
+
+impl<'a, K, V, const PREFIX_LEN: usize, M: 'a> Model for Values<'a, K, V, PREFIX_LEN, M> {
+    ghost use Rattle.std.specs.Prelude.{List};
+    ghost use Rattle.std.specs.Map.{values_of};
+
+    ghost Value = { List V };
+
+    ghost view = { λ it. values_of it.inner };
+}
+
+impl<'a, K, V, const PREFIX_LEN: usize> Values<'a, K, V, PREFIX_LEN> {
+    /// The values of these pairs.
+    pub fn new(pairs: Iter<'a, K, V, PREFIX_LEN>) -> Self
+        ensures { result ≡ values_of pairs.entry }
+    {
+        Values { inner: pairs }
+    }
+}
+
+impl<'a, K, V, const PREFIX_LEN: usize> Clone for Values<'a, K, V, PREFIX_LEN> {
+    ghost is_clone = { λ original copy. copy ≡ original };
+
+    ghost is_infallible = { λ _. ⊤ };
+
+    fn clone(&self) -> Result<Self, AllocError> {
+        Ok(Values {
+            inner: self.inner.clone()?,
+        })
+    }
+}
+
+impl<'a, K, V, const PREFIX_LEN: usize> Iterator for Values<'a, K, V, PREFIX_LEN> {
+    type Item = &'a V;
+
+    ghost next_gives = { TakesFirst deref };
+
+    ghost remaining = { λ rest. at_most (length rest) };
+
+    #[inline]
+    fn next(&mut self) -> Option<&'a V> {
+        match self.inner.next() {
+            Some((_, value)) => Some(value),
+            None => None,
+        }
+    }
+
+    fn size_hint(&self) -> (usize, Option<usize>) {
+        let len = self.len();
+        (len, Some(len))
+    }
+}
+
+impl<'a, K, V, const PREFIX_LEN: usize> FusedIterator for Values<'a, K, V, PREFIX_LEN> {}
+
+impl<'a, K, V, const PREFIX_LEN: usize> DoubleEndedIterator for Values<'a, K, V, PREFIX_LEN> {
+    ghost next_back_gives = { TakesLast deref };
+
+    #[inline]
+    fn next_back(&mut self) -> Option<&'a V> {
+        match self.inner.next_back() {
+            Some((_, value)) => Some(value),
+            None => None,
+        }
+    }
+}
+
+impl<'a, K, V, const PREFIX_LEN: usize> ExactSizeIterator for Values<'a, K, V, PREFIX_LEN> {
+    fn len(&self) -> usize {
+        self.inner.len()
+    }
+}
