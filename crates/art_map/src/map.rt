@@ -8,6 +8,7 @@ mod changes;
 mod lookups;
 pub mod refused;
 mod removals;
+mod walks;
 
 use art_arena::NodeArena;
 use art_bytes::AsBytes;

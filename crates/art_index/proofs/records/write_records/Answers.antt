@@ -11,9 +11,9 @@ use Rattle.art_index.proofs.records.write_records.Goals as goal
 
 pub loop-full-init : goal.loop-full-init
 loop-full-init g c = record {
-  taken = taken_none _ _ _ (ap (dump_from (length c.args.records.now.pairs)) (c.into_iter-full-iterator.ensures.into_iter_gives ∙ c.iter-full-items.ensures) ∙ dump_all c.args.records.now.pairs);
+  taken = taken_none _ _ _ (ap (dump_from (length c.args.records.now.pairs)) (c.into_iter-full-iterator.ensures.into_iter_gives ∙ c.iter-full-items.ensures.rest) ∙ dump_all c.args.records.now.pairs);
   fine = c.requires.open;
-  full = subst (AllByRecursion IsFull) (sym (c.into_iter-full-iterator.ensures.into_iter_gives ∙ c.iter-full-items.ensures)) c.requires.held.full;
+  full = subst (AllByRecursion IsFull) (sym (c.into_iter-full-iterator.ensures.into_iter_gives ∙ c.iter-full-items.ensures.rest)) c.requires.held.full;
 }
 
 pub loop-full-preserved : goal.loop-full-preserved
