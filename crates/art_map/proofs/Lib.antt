@@ -1,4 +1,3 @@
 pub mod Below
 pub mod LookedUp
 pub mod Maps
-pub mod Walks

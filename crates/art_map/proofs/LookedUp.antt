@@ -1,9 +1,9 @@
 -- A leaf that a look-up finds, told by the pairs.
-use Rattle.std.proofs.Common.{◌≡◌, ◌≢◌, ℕ, suc, ◌+◌, ◌≤◌, Bool, true, false, cond, eqb, List, [], ◌∷◌, ◌++◌, map, bytes_eq, Option, Some, None, refl, sym, ap, ap₂, subst, ◌∙◌, inl, inr, arith}
+use Rattle.std.proofs.Common.{◌≡◌, ℕ, ◌≤◌, Bool, true, false, cond, eqb, List, [], ◌∷◌, ◌++◌, bytes_eq, Option, Some, None, refl, sym, ap, ap₂, subst, ◌∙◌, inl, arith}
 use Rattle.std.specs.List.{AllByRecursion}
 use Rattle.std.specs.Map.{lookup, lookup_entry, set_value}
 use Rattle.std.proofs.lemmas.List.{map-append}
-use Rattle.art_arena.specs.arena.Descents.{passing, leaf_where}
+use Rattle.art_arena.specs.arena.Descents.{leaf_where}
 use Rattle.art_arena.specs.arena.Linked.{first_slot, last_slot, times}
 use Rattle.art_arena.specs.arena.Shapes.{LeafAt, pairs_of}
 use Rattle.art_arena.specs.arena.Shapes.{key_of}

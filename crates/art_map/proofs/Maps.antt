@@ -1,18 +1,20 @@
 -- What a map's nodes have, before and after a call.
-use Rattle.std.proofs.Common.{◌≡◌, ℕ, Bool, true, false, cond, not, bytes_eq, List, [], ◌∷◌, ◌++◌, Option, Some, None, IsSome, Ok, Err, IsOk, Result, refl, sym, ap, subst, ◌∙◌, arith, ◌≤◌, inl, inr}
+use Rattle.std.proofs.Common.{◌≡◌, ℕ, Bool, true, false, cond, not, bytes_eq, List, [], ◌∷◌, ◌++◌, length, Option, Some, None, IsSome, Ok, Err, IsOk, Result, refl, sym, ap, subst, ◌∙◌, arith, ◌≤◌, inl, inr}
 use Rattle.std.specs.List.{AllByRecursion}
 use Rattle.std.specs.Map.{lookup, lookup_entry, set_value}
-use Rattle.std.proofs.lemmas.List.{map-append}
+use Rattle.std.proofs.lemmas.List.{append-nil, length-map, map-append}
 use Rattle.art_bytes.specs.Keys.{BeginsWith, Conflict, IsBefore}
 use Rattle.art_bytes.proofs.Order.{conflict_not_before, conflict_turned}
 use Rattle.art_nodes.specs.Name.{Name}
 use Rattle.art_nodes.specs.declared.leaf.LeafNode.{LeafNode}
-use Rattle.art_arena.specs.arena.Arena.{Arena, Held, held_at, node_at, SameNodes, cell_of, as_leaf}
+use Rattle.art_arena.specs.arena.Arena.{Arena, Held, held_at, node_at, links_at, SameNodes, cell_of}
 use Rattle.art_arena.specs.arena.Cells.{Cell, pair, leaf_name}
 use Rattle.art_arena.specs.arena.Descents.{leaf_where}
 use Rattle.art_arena.specs.arena.Lends.{with_leaf_value}
-use Rattle.art_arena.specs.arena.Linked.{first_slot, last_slot, times}
+use Rattle.art_arena.specs.arena.Linked.{first_slot, last_slot, times, IsList}
 use Rattle.art_arena.specs.arena.Shapes.{Shape, LeafAt, leaves, pairs_of, key_of}
+use Rattle.art_arena.specs.declared.ends.End.{End}
+use Rattle.art_arena.specs.declared.ends.End.TheVariants.{First, Last}
 use Rattle.art_arena.specs.arena.Stores.{Stores, StoresBelow, StoresOnly}
 use Rattle.art_arena.specs.tree.Changes.{IsIn, is_before, put}
 use Rattle.art_arena.specs.tree.Order.{IsAscending}
@@ -22,18 +24,38 @@ use Rattle.art_arena.proofs.tree.Exists.{in_middle}
 use Rattle.art_arena.proofs.tree.Insert.{all_at}
 use Rattle.art_arena.proofs.tree.Order.{all_append, all_left, all_right}
 use Rattle.art_operations.specs.KeyedLists.{HasKey, IsBlocked, without_key}
-use Rattle.art_operations.specs.Pairs.{HasPairs, HasPut, HasTaken, IsPlaced, with_pair, pair_in}
+use Rattle.art_operations.specs.Pairs.{HasPairs, HasPut, HasTaken, HasTakenEnd, IsAtEnd, IsPlaced, with_pair, pair_in}
 use Rattle.art_operations.specs.declared.insert.point.InsertPoint.{InsertPoint}
 use Rattle.art_operations.specs.declared.delete.result.DeleteResult.{DeleteResult}
 use Rattle.art_operations.specs.declared.insert.result.InsertResult.{InsertResult}
 use Rattle.art_operations.proofs.HeldPairs.{pairs-same}
 use Rattle.art_operations.proofs.KeyedLists.{nothing_taken}
 use Rattle.art_operations.proofs.LeafPairs.{pair_of, pairs_ascend, held_leaf}
-use Rattle.art_operations.proofs.WrittenValues.{written, Written}
+use Rattle.art_operations.proofs.WrittenValues.{written}
 use Rattle.art_map.specs.Contents.{contents, pairs_from, IsMap, has_bytes, first_of, last_of, option_value, value_in}
 use Rattle.art_map.specs.Found.{IsAt, IsFound}
+use Rattle.art_walks.specs.Runs.{Ends}
+use Rattle.art_walks.specs.Walked.{IsCounted}
+use Rattle.art_map.specs.Walked.{IsWalkOf}
+use Rattle.art_arena.proofs.shapes.Surroundings.{tree-list}
 use Rattle.art_map.proofs.Below.{tree-pairs, has-seen, has-there}
 use Rattle.art_map.proofs.LookedUp.{key_test, EndAt, first-end, last-end, first-at, none-at, entry-at, set-at, same-place, entry-first, lookup-value}
+
+-- a walk over pairs is a run of as many
+pub record Counted {K V : Type 0} (arena : Arena K V) (ends : Ends) (pairs : List (K × V)) (len : ℕ) : Type 0 where
+  pub run : IsCounted arena ends len
+  pub pairs_are : pairs_of run.leaves ≡ pairs
+
+pub as-counted : {K V : Type 0} (arena : Arena K V) (ends : Ends) (pairs : List (K × V)) (len : ℕ) → len ≡ length pairs → IsWalkOf arena ends pairs → Counted arena ends pairs len
+as-counted arena ends pairs len e walk = record {
+  run = record { leaves = walk.run.leaves; walk = walk.run.walk; stored = walk.run.stored; len_is = e ∙ walk.run.len_is };
+  pairs_are = walk.pairs_are;
+}
+
+-- what holds of each item of a list holds of all
+all_in : {X : Type 0} (P : X → Type 0) (xs : List X) → ((x : X) → IsIn x xs → P x) → AllByRecursion P xs
+all_in P [] each = tt
+all_in P (x ∷ xs) each = (each x (inl refl), all_in P xs (λ y i. each y (inr i)))
 
 module _ {K V : Type 0} (is_key : K → Type 0) where
   -- each key of these pairs is one
@@ -53,6 +75,10 @@ module _ {K V : Type 0} (is_key : K → Type 0) where
     | true ↦ keys-without key k qs all.1
     | false ↦ (all.0, keys-without key k qs all.1)
   ]
+
+  pub keys-end : (end : End) (p : K × V) (rest pairs : List (K × V)) → IsAtEnd end p rest pairs → AreKeys pairs → AreKeys rest
+  keys-end First p rest pairs at all = (subst AreKeys at all).1
+  keys-end Last p rest pairs at all = all_left (λ q. is_key q.0) rest (p ∷ []) (subst AreKeys at all)
 
 held-some : {K V : Type 0} (o : Option (Held K V)) (c : Cell K V) → cell_of o ≡ Some c → IsSome o
 held-some None c e = absurd (cc)
@@ -135,6 +161,20 @@ module _ {K V : Type 0} (bytes : K → List ℕ) (is_key : K → Type 0) (P : �
 
     pub taken-entry : (new : Arena K V) (key : List ℕ) (deleted : DeleteResult K V) → HasTaken bytes P new root key the_pairs (Some deleted) → lookup_entry (has_bytes bytes key) the_pairs ≡ Some (deleted.deleted_leaf.key, deleted.deleted_leaf.value)
     taken-entry new key deleted has = entry-first bytes key the_pairs ∙ ap first_of has.0
+
+    -- with the pair at an end less
+    pub end-map : (new : Arena K V) (end : End) (deleted : DeleteResult K V) → HasTakenEnd bytes P new root end the_pairs (Some deleted) → IsMap bytes is_key P new deleted.new_root
+    end-map new end deleted (rest, at, has) = make new deleted.new_root rest has (keys-end is_key end (deleted.deleted_leaf.key, deleted.deleted_leaf.value) rest the_pairs at map.keys)
+
+    pub end-pairs : (new : Arena K V) (end : End) (deleted : DeleteResult K V) → HasTakenEnd bytes P new root end the_pairs (Some deleted) → (k : K) (v : V) → k ≡ deleted.deleted_leaf.key → v ≡ deleted.deleted_leaf.value
+        → IsAtEnd end (k, v) (pairs_from new deleted.new_root) the_pairs
+    end-pairs new end deleted (rest, at, has) k v key value = rw (has-seen bytes P new deleted.new_root rest has, key, value) at
+
+    pub end-none-map : (new : Arena K V) (end : End) → HasTakenEnd bytes P new root end the_pairs None → IsMap bytes is_key P new root
+    end-none-map new end has = make new root the_pairs has.1 map.keys
+
+    pub end-none-pairs : (new : Arena K V) (end : End) → HasTakenEnd bytes P new root end the_pairs None → pairs_from new root ≡ []
+    end-none-pairs new end has = has-seen bytes P new root the_pairs has.1 ∙ has.0
 
     -- or with none to be taken
     pub none-map : (new : Arena K V) (key : List ℕ) → HasTaken bytes P new root key the_pairs None → IsMap bytes is_key P new root
@@ -233,3 +273,27 @@ module _ {K V : Type 0} (bytes : K → List ℕ) (is_key : K → Type 0) (P : �
       last-found answer =
           subst (λ r. IsAt (last_of (pairs_from old r)) (contents old r) (Some slot)) (sym is)
           (at-end top has_top.0 has_top.1 last_of slot (last-end (leaves has_top.0) slot (answer [] has_top.0 (nodes-subtree bytes P (node_at old) top has_top.0 has_top.1.nodes))))
+
+      -- and the walk over all
+      pub walk-found : (least most : ℕ) → ((path : List ℕ) (s : Shape K V) → StoresBelow bytes P old top path s → first_slot (leaves s) None ≡ Some least) → ((path : List ℕ) (s : Shape K V) → StoresBelow bytes P old top path s → last_slot None (leaves s) ≡ Some most)
+          → IsWalkOf old (Some (least, most)) (pairs_from old root)
+      walk-found least most first last =
+          let s = has_top.0 in
+          let tree = has_top.1 in
+          let below = nodes-subtree bytes P (node_at old) top s tree.nodes in
+          record {
+            run = record {
+              leaves = leaves s;
+              walk = record { xs = []; zs = []; list = subst (IsList (links_at old)) (sym (append-nil (leaves s))) (tree-list bytes P (node_at old) top (links_at old) s tree); ends_are = (first [] s below, last [] s below) };
+              stored = all_in (λ (l : LeafAt K V). node_at old (leaf_name l.slot) ≡ Some (pair l.key l.value)) (leaves s) (λ l i. held_leaf P (node_at old) s l i tree.nodes.holds.held);
+              len_is = ap length (sym has_top.2) ∙ length-map (leaves s) pair_of;
+            };
+            pairs_are = has_top.2;
+          }
+
+    -- the empty walk
+    pub walk-none : (root : Option Name) → root ≡ None → IsMap bytes is_key P old root → IsWalkOf old None (pairs_from old root)
+    walk-none root is map = subst (λ r. IsWalkOf old None (pairs_from old r)) (sym is) (record {
+      run = record { leaves = []; walk = record { xs = []; zs = []; list = record { linked = tt; once = λ n. omega arith }; ends_are = refl }; stored = tt; len_is = refl };
+      pairs_are = refl;
+    })

@@ -1,5 +1,5 @@
 -- The leaf that a look-up finds in a map.
-use Rattle.std.specs.Prelude.{◌≡◌, ℕ, Bool, List, Option, Some, None}
+use Rattle.std.specs.Prelude.{◌≡◌, ℕ, Bool, Option, Some, None}
 use Rattle.std.specs.Map.{lookup_entry, set_value}
 use Rattle.art_arena.specs.arena.Arena.{node_at}
 use Rattle.art_arena.specs.arena.Cells.{leaf_name, pair}

@@ -1,5 +1,5 @@
 -- What a map ends as, where a `&mut` to one of its values is returned.
-use Rattle.std.specs.Prelude.{◌≡◌, ℕ, Bool, List, Option}
+use Rattle.std.specs.Prelude.{◌≡◌, ℕ, Bool, Option}
 use Rattle.std.specs.Borrow.{Fml, RattleType, MutBor, Lends, LendsSo}
 use Rattle.std.specs.Map.{set_value}
 use Rattle.art_bytes.specs.declared.as_bytes.AsBytes as as_bytes

@@ -2,3 +2,4 @@ pub mod Contents
 pub mod Changes
 pub mod Lends
 pub mod Found
+pub mod Walked

@@ -32,3 +32,4 @@ pub mod Clones
 pub mod CommandLists
 pub mod RunExamples
 pub mod WrittenValues
+pub mod TakenEnds

@@ -1,11 +1,14 @@
 -- An arena that has pairs, before and after one is put in or taken out.
-use Rattle.std.specs.Prelude.{◌≡◌, ℕ, List, [], ◌∷◌, Option, Some, None, Ok, Err}
+use Rattle.std.specs.Prelude.{◌≡◌, ℕ, List, [], ◌∷◌, ◌++◌, Option, Some, None, Ok, Err}
 use Rattle.std.specs.declared.result.Result.{Result}
 use Rattle.art_nodes.specs.Name.{Name}
 use Rattle.art_nodes.specs.declared.leaf.LeafNode.{LeafNode}
 use Rattle.art_arena.specs.arena.Arena.{Arena, node_at}
 use Rattle.art_arena.specs.arena.Cells.{leaf_name, pair}
 use Rattle.art_arena.specs.tree.Changes.{put}
+use Rattle.art_arena.specs.tree.Shrinks.{Shrinks}
+use Rattle.art_arena.specs.declared.ends.End.{End}
+use Rattle.art_arena.specs.declared.ends.End.TheVariants.{First, Last}
 use Rattle.art_arena.specs.arena.Shapes.{Shape, leaves, pairs_of, key_of}
 use Rattle.art_operations.specs.KeyedLists.{IsBlocked, with_key, without_key}
 use Rattle.art_operations.specs.Points.{IsPoint}
@@ -19,7 +22,17 @@ abbrev pub pair_in : {K V : Type 0} → Option (LeafNode K V) → List (K × V)
 pair_in None = []
 pair_in (Some leaf) = (leaf.key, leaf.value) ∷ []
 
+-- the list has this item at an end, and these beside it
+abbrev pub IsAtEnd : {X : Type 0} → End → X → List X → List X → Type 0
+IsAtEnd First x rest xs = xs ≡ x ∷ rest
+IsAtEnd Last x rest xs = xs ≡ rest ++ x ∷ []
+
 module _ {K V : Type 0} (bytes : K → List ℕ) where
+  -- the loss of the pair at this end makes a node smaller
+  abbrev pub ShrinksAtEnd : End → List (K × V) → Type 0
+  ShrinksAtEnd end pairs =
+      (p : K × V) × (rest : List (K × V)) × IsAtEnd end p rest pairs × Shrinks (key_of bytes) pairs (key_of bytes p)
+
   -- the pairs with this one at the place of its key, where no other stands then
   abbrev pub with_pair : K → V → List (K × V) → List (K × V)
   with_pair k v pairs = put (key_of bytes) (k, v) (without_key (key_of bytes) (bytes k) pairs)
@@ -61,3 +74,10 @@ module _ {K V : Type 0} (bytes : K → List ℕ) (P : ℕ) (arena : Arena K V) w
   HasTaken root key pairs (Some deleted) =
       (with_key (key_of bytes) key pairs ≡ pair_in (Some deleted.deleted_leaf))
       × HasPairs deleted.new_root (without_key (key_of bytes) key pairs)
+
+  -- it has the pairs without the one at this end, which is answered; or there was none
+  abbrev pub HasTakenEnd : Option Name → End → List (K × V) → Option (DeleteResult K V) → Type 0
+  HasTakenEnd root end pairs None = (pairs ≡ []) × HasPairs root pairs
+  HasTakenEnd root end pairs (Some deleted) =
+      (rest : List (K × V)) × IsAtEnd end (deleted.deleted_leaf.key, deleted.deleted_leaf.value) rest pairs
+      × HasPairs deleted.new_root rest

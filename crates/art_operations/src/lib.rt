@@ -25,5 +25,5 @@ pub use lookup::{
     PrefixMatchBehavior, prefix_search_unchecked, prefix_search_with, search_unchecked, search_with,
 };
 pub use minmax::{maximum_unchecked, minimum_unchecked};
-pub use pairs::{find_place, put_pair, take_pair};
+pub use pairs::{find_place, put_pair, take_end, take_pair};
 pub use running::{Answer, Command, RunResult, run};

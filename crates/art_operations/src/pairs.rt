@@ -1,17 +1,23 @@
 //! Insertion and deletion, told by the pairs that an arena has: commands and maps stand on these.
-ghost use Rattle.std.specs.Prelude.{◌≡◌, ◌+◌, List, [], None, IfOk, IfErr, IsOk, OnErr};
+ghost use Rattle.std.specs.Prelude.{◌≡◌, ◌+◌, List, [], Some, None, IfOk, IfErr, IsOk, OnErr};
 ghost use Rattle.art_arena.specs.arena.Arena.{HasRoom, SameNodes, UsesRoom};
-ghost use Rattle.art_arena.specs.arena.Shapes.{key_of};
+ghost use Rattle.art_arena.specs.arena.EndLeaves.{end_slot};
+ghost use Rattle.art_arena.specs.arena.Shapes.{Shape, key_of, leaves};
+ghost use Rattle.art_arena.specs.arena.Steps.{steps_of};
+ghost use Rattle.art_arena.specs.arena.Stores.{Stores};
+ghost use Rattle.art_operations.specs.DeletePoints.{IsLeafPlace};
 ghost use Rattle.art_arena.specs.tree.Shrinks.{Shrinks};
 ghost use Rattle.art_operations.specs.KeyedLists.{HasKey};
-ghost use Rattle.art_operations.specs.Pairs.{CanPut, HasPairs, HasPut, HasTaken, IsPlaced};
+ghost use Rattle.art_operations.specs.Pairs.{CanPut, HasPairs, HasPut, HasTaken, HasTakenEnd, IsPlaced, ShrinksAtEnd};
 
-use crate::delete::point::search_for_delete_point;
+use crate::delete::point::{
+    DeletePoint, find_maximum_to_delete, find_minimum_to_delete, search_for_delete_point,
+};
 use crate::delete::result::DeleteResult;
 use crate::insert::leaf::store_leaf;
 use crate::insert::point::{InsertPoint, PrefixConflict, find_insert_point};
 use crate::insert::result::{InsertParentNodeChange, InsertRefused, InsertResult};
-use art_arena::NodeArena;
+use art_arena::{End, NodeArena};
 use art_bytes::AsBytes;
 use art_nodes::OpaqueNodePtr;
 use std::alloc::AllocError;
@@ -110,5 +116,50 @@ pub fn take_pair<K: AsBytes, V, const PREFIX_LEN: usize>(
     match point.apply(arena, top) {
         Ok(deleted) => Ok(Some(deleted)),
         Err(refused) => Err(refused),
+    }
+}
+
+/// Takes the pair at an end out, and answers its leaf; or nothing where there is no pair. It is refused only where the
+/// loss of the leaf makes a node one of the next smaller kind, and there is no memory for that one: nothing changed
+/// then.
+pub fn take_end<K: AsBytes, V, const PREFIX_LEN: usize>(
+    arena: &mut NodeArena<K, V, PREFIX_LEN>,
+    root: Option<OpaqueNodePtr>,
+    end: End,
+) -> Result<Option<DeleteResult<K, V>>, AllocError>
+    requires { (pairs : List (K × V)) × HasPairs K.bytes PREFIX_LEN arena.old root pairs }
+    ensures ok { IfOk result (λ taken. (pairs : List (K × V)) → HasPairs K.bytes PREFIX_LEN arena.old root pairs
+        → HasTakenEnd K.bytes PREFIX_LEN arena.new root end pairs taken) }
+    ensures err { OnErr result (SameNodes arena.old arena.new) }
+    ensures shrinks { OnErr result ((pairs : List (K × V)) → HasPairs K.bytes PREFIX_LEN arena.old root pairs
+        → ShrinksAtEnd K.bytes end pairs) }
+    ensures succeeds { HasRoom arena.old 1 → IsOk result }
+    ensures room { UsesRoom 1 arena.old arena.new }
+{
+    let Some(top) = root else {
+        return Ok(None);
+    };
+    let point = end_point(arena, top, end);
+    match point.apply(arena, top) {
+        Ok(deleted) => Ok(Some(deleted)),
+        Err(refused) => Err(refused),
+    }
+}
+
+// The leaf at an end, which is to be deleted.
+fn end_point<K: AsBytes, V, const PREFIX_LEN: usize>(
+    arena: &NodeArena<K, V, PREFIX_LEN>,
+    root: OpaqueNodePtr,
+    end: End,
+) -> DeletePoint
+    requires { (s : Shape K V) × Stores K.bytes PREFIX_LEN arena.now root s }
+    ensures value { (s : Shape K V) → Stores K.bytes PREFIX_LEN arena.now root s
+        → end_slot end (leaves s) ≡ Some result.leaf_node_ptr }
+    ensures place { (s : Shape K V) → Stores K.bytes PREFIX_LEN arena.now root s
+        → IsLeafPlace K.bytes s result.leaf_node_ptr (steps_of result.path) }
+{
+    match end {
+        End::First => find_minimum_to_delete(arena, root),
+        End::Last => find_maximum_to_delete(arena, root),
     }
 }

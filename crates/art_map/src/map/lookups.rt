@@ -135,6 +135,22 @@ impl<K: AsBytes, V, const PREFIX_LEN: usize> TreeMap<K, V, PREFIX_LEN> {
         }
     }
 
+    /// The value of the one pair whose key is a front of the query's bytes, or has them all, for writing, if there is
+    /// one.
+    pub fn prefix_get_mut<Q: AsBytes>(&mut self, key: &Q) -> Option<&mut V>
+        ensures* writes_back { sem 𝓛 (lends_get K.row V.row PREFIX_LEN.row K.AsBytes self.entry
+            (is_front K.bytes (Q.bytes key.now)) result) }
+        ensures value { option_copied_mut result ≡ lookup (is_front K.bytes (Q.bytes key.now)) self.old.pairs }
+    {
+        match self.prefix_find(key.as_bytes()) {
+            Some(leaf) => {
+                let (_key, value) = self.pair_mut_at(leaf);
+                Some(value)
+            }
+            None => None,
+        }
+    }
+
     /// The first pair, whose key is the least, if there is one.
     pub fn first_key_value(&self) -> Option<(&K, &V)>
         ensures { option_map deref_pair result ≡ first_of self.now.pairs }

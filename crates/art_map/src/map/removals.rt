@@ -1,14 +1,16 @@
 //! Pairs are taken out.
-ghost use Rattle.std.specs.Prelude.{◌≡◌, IfOk, OnErr, OnOk};
+ghost use Rattle.std.specs.Prelude.{◌≡◌, ◌∷◌, ◌++◌, [], IfNone, IfOk, MatchOption, OnErr, OnOk};
 ghost use Rattle.std.specs.Map.{lookup, lookup_entry};
 ghost use Rattle.art_arena.specs.arena.Shapes.{key_of};
 ghost use Rattle.art_arena.specs.tree.Shrinks.{Shrinks};
 ghost use Rattle.art_map.specs.Contents.{option_value};
 ghost use Rattle.art_operations.specs.KeyedLists.{HasKey, without_key};
+ghost use Rattle.art_operations.specs.Pairs.{IsAtEnd, ShrinksAtEnd};
 
 use crate::map::TreeMap;
+use art_arena::End;
 use art_bytes::AsBytes;
-use art_operations::take_pair;
+use art_operations::{take_end, take_pair};
 use std::alloc::AllocError;
 
 // The value of a pair, whose key is let go.
@@ -56,6 +58,50 @@ impl<K: AsBytes, V, const PREFIX_LEN: usize> TreeMap<K, V, PREFIX_LEN> {
         // By value an option of a name counts as moved, so a copy goes in.
         let root = self.root;
         match take_pair(&mut self.arena, root, key.as_bytes()) {
+            Ok(Some(deleted)) => {
+                self.root = deleted.new_root;
+                Ok(Some(deleted.deleted_leaf.into_entry()))
+            }
+            Ok(None) => Ok(None),
+            Err(refused) => Err(refused),
+        }
+    }
+
+    /// Takes the first pair out, whose key is the least, and answers it, if there is one. It is refused as
+    /// `remove_entry` is.
+    pub fn pop_first(&mut self) -> Result<Option<(K, V)>, AllocError>
+        ensures value { IfOk result (λ taken. MatchOption taken (self.old.pairs ≡ [])
+            (λ pair. self.old.pairs ≡ pair ∷ self.new.pairs)) }
+        ensures none { IfOk result (λ taken. IfNone taken (self.new.pairs ≡ [])) }
+        ensures err { OnErr result (self.new.pairs ≡ self.old.pairs) }
+        ensures shrinks { OnErr result (ShrinksAtEnd K.bytes End.First self.old.pairs) }
+    {
+        self.pop(End::First)
+    }
+
+    /// Takes the last pair out, whose key is the greatest, and answers it, if there is one. It is refused as
+    /// `remove_entry` is.
+    pub fn pop_last(&mut self) -> Result<Option<(K, V)>, AllocError>
+        ensures value { IfOk result (λ taken. MatchOption taken (self.old.pairs ≡ [])
+            (λ pair. self.old.pairs ≡ self.new.pairs ++ pair ∷ [])) }
+        ensures none { IfOk result (λ taken. IfNone taken (self.new.pairs ≡ [])) }
+        ensures err { OnErr result (self.new.pairs ≡ self.old.pairs) }
+        ensures shrinks { OnErr result (ShrinksAtEnd K.bytes End.Last self.old.pairs) }
+    {
+        self.pop(End::Last)
+    }
+
+    // Takes the pair at an end out.
+    fn pop(&mut self, end: End) -> Result<Option<(K, V)>, AllocError>
+        ensures value { IfOk result (λ taken. MatchOption taken (self.old.pairs ≡ [])
+            (λ pair. IsAtEnd end pair self.new.pairs self.old.pairs)) }
+        ensures none { IfOk result (λ taken. IfNone taken (self.new.pairs ≡ [])) }
+        ensures err { OnErr result (self.new.pairs ≡ self.old.pairs) }
+        ensures shrinks { OnErr result (ShrinksAtEnd K.bytes end self.old.pairs) }
+    {
+        // By value an option of a name counts as moved, so a copy goes in.
+        let root = self.root;
+        match take_end(&mut self.arena, root, end) {
             Ok(Some(deleted)) => {
                 self.root = deleted.new_root;
                 Ok(Some(deleted.deleted_leaf.into_entry()))

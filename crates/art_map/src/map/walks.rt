@@ -1,27 +1,62 @@
-//! Walks over the pairs.
-ghost use Rattle.std.specs.Prelude.{◌≡◌};
+//! Walks over the pairs, the keys and the values.
+ghost use Rattle.std.specs.Prelude.{◌≡◌, length};
+ghost use Rattle.std.specs.Map.{keys_of, values_of};
 ghost use Rattle.art_arena.specs.arena.Shapes.{key_of};
 ghost use Rattle.art_arena.specs.tree.Order.{IsAscending};
+ghost use Rattle.art_map.specs.Walked.{IsWalkOf};
 
 use crate::map::TreeMap;
 use art_bytes::AsBytes;
 use art_operations::{maximum_unchecked, minimum_unchecked};
-use art_walks::{Iter, RawIterator};
+use art_walks::{Iter, Keys, RawIterator, Values};
 
 impl<K: AsBytes, V, const PREFIX_LEN: usize> TreeMap<K, V, PREFIX_LEN> {
+    // The run of all leaves.
+    fn walk(&self) -> RawIterator
+        ensures { IsWalkOf self.now.nodes result self.now.pairs }
+    {
+        match self.root {
+            Some(root) => RawIterator::new(
+                minimum_unchecked(&self.arena, root),
+                maximum_unchecked(&self.arena, root),
+            ),
+            None => RawIterator::empty(),
+        }
+    }
+
     /// The pairs, ascending by the bytes of their keys, from either end.
     pub fn iter(&self) -> Iter<'_, K, V, PREFIX_LEN>
         ensures rest { result ≡ self.now.pairs }
         ensures ordered { IsAscending (key_of K.bytes) self.now.pairs }
     {
-        match self.root {
-            Some(root) => {
-                let first = minimum_unchecked(&self.arena, root);
-                let last = maximum_unchecked(&self.arena, root);
-                let leaves = RawIterator::new(first, last);
-                Iter::new(&self.arena, leaves, self.arena.leaf_count())
-            }
-            None => Iter::new(&self.arena, RawIterator::empty(), 0),
-        }
+        let walk = self.walk();
+        let len = self.len();
+        Iter::new(&self.arena, walk, len)
+    }
+
+    /// The keys, ascending by their bytes, from either end.
+    pub fn keys(&self) -> Keys<'_, K, V, PREFIX_LEN>
+        ensures { result ≡ keys_of self.now.pairs }
+    {
+        Keys::new(self.iter())
+    }
+
+    /// The values, ascending by the bytes of their keys, from either end.
+    pub fn values(&self) -> Values<'_, K, V, PREFIX_LEN>
+        ensures { result ≡ values_of self.now.pairs }
+    {
+        Values::new(self.iter())
+    }
+}
+
+impl<'a, K: AsBytes, V, const PREFIX_LEN: usize> IntoIterator for &'a TreeMap<K, V, PREFIX_LEN> {
+    type Item = (&'a K, &'a V);
+
+    type IntoIter = Iter<'a, K, V, PREFIX_LEN>;
+
+    ghost into_iter_gives = { λ m r. r ≡ m.now.pairs };
+
+    fn into_iter(self) -> Iter<'a, K, V, PREFIX_LEN> {
+        self.iter()
     }
 }

@@ -1,4 +1,4 @@
-use Rattle.std.proofs.Common.{sym, ap, Some, ◌∙◌}
+use Rattle.std.proofs.Common.{sym, Some}
 use Rattle.art_map.proofs.LookedUp.{lookup-value}
 use Rattle.art_map.proofs.map.TreeMap.get.Goals as goal
 

@@ -1,5 +1,4 @@
 use Rattle.std.proofs.Common.{refl, sym}
-use Rattle.std.specs.Map.{lookup}
 use Rattle.art_map.proofs.LookedUp.{found-value, lookup-value, set-none}
 use Rattle.art_map.proofs.map.TreeMap.get_mut.Goals as goal
 
