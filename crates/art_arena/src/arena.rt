@@ -1,5 +1,6 @@
 //! The nodes of a tree, under their names.
-ghost use Rattle.std.specs.Prelude.{◌≡◌, ℕ, ◌<◌, ◌^◌, ◌↔◌, List, length, Some, None, IfOk, OnErr, IfErr, OnOk, IsSome, IsTrue, IsOk};
+ghost use Rattle.std.specs.Prelude.{◌≡◌, ℕ, ◌<◌, ◌^◌, ◌↔◌, List, length};
+ghost use Rattle.std.specs.Prelude.{Some, None, IfOk, OnErr, IfErr, OnOk, IsSome, IsTrue, IsOk};
 
 use crate::nodes::{NO_MEMORY_HOLDS, Nodes};
 use crate::stored::Stored;
@@ -60,8 +61,8 @@ impl<K, V, const PREFIX_LEN: usize> NodeArena<K, V, PREFIX_LEN> {
     ghost use Rattle.std.specs.Borrow.{sem};
     ghost use Rattle.art_arena.specs.arena.Lends.{lends_node, lends_value};
     ghost use Rattle.art_arena.specs.contracts.arena.NodeArena.{the_row};
-    ghost use Rattle.art_arena.specs.arena.Arena.{leaf_held, held_at, links_at, node_at, Allocates, WritesLinks, SameNodes};
-    ghost use Rattle.art_arena.specs.arena.Arena.{HasRoom};
+    ghost use Rattle.art_arena.specs.arena.Arena.{leaf_held, held_at, links_at, node_at};
+    ghost use Rattle.art_arena.specs.arena.Arena.{Allocates, HasRoom, SameNodes, WritesLinks};
     ghost use Rattle.art_arena.specs.arena.Shapes.{Shape, leaves};
     ghost use Rattle.art_arena.specs.arena.Stores.{StoresOnly};
     ghost use Rattle.slab.specs.Slab.{slab_len};

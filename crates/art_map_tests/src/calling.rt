@@ -1,4 +1,4 @@
-//! The caller that `CALLING.md` of art_map shows, letter for letter; a test in `calls.rt` runs it.
+//! The caller that `CALLING.md` of art_map shows, letter for letter.
 
 use art_bytes::{SliceKey, StrKey};
 use art_map::{TreeMap, TryInsertError};

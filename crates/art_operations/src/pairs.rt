@@ -142,7 +142,7 @@ pub fn take_end<K: AsBytes, V, const PREFIX_LEN: usize>(
     let point = end_point(arena, top, end);
     match point.apply(arena, top) {
         Ok(deleted) => Ok(Some(deleted)),
-        Err(refused) => Err(refused),
+        Err(failed) => Err(failed),
     }
 }
 
