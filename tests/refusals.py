@@ -20,10 +20,10 @@ import sys
 import tempfile
 from glob import glob
 
-SCENARIOS, PROGRAM, REFUSED = "refusals", "art_index", b"memory\n"
+SCENARIOS, PROGRAM, REFUSED, CONFLICT = "refusals", "art_index", b"memory\n", b"conflict\n"
 # A scenario or test whose name ends so must ask for nothing in its window, and each other must ask for something.
 NO_MEMORY = "takes_no_memory"
-# The command words of the lines that may be answered by `memory`.
+# The command words of the lines that may be answered by `memory`, unless they are answered `conflict`.
 MAY_REFUSE = {b"put"}
 SHIM = os.path.abspath("out/refuse.so")
 word = sys.argv[1] if len(sys.argv) > 1 else ""
@@ -90,7 +90,7 @@ def one_line(words, lines, at):
     before, free = (run(words, "0", given=b"".join(it))[1] for it in (lines[:at], lines))
     wanted = before + REFUSED + free[len(before) :]
     assert free.startswith(before), "the answers to the lines before differ"
-    may_refuse = lines[at].split(b" ")[0] in MAY_REFUSE
+    may_refuse = lines[at].split(b" ")[0] in MAY_REFUSE and not free.startswith(before + CONFLICT)
     twice = b"".join(lines[: at + 1] + lines[at:])
     seen = run(words, "0", line=at + 1, given=twice)[0]
     assert may_refuse or "." not in seen, f"a line that takes no memory makes {seen.count('.')} requests"

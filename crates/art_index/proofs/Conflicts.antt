@@ -1,25 +1,71 @@
--- Conflicts, one entry after another.
-use Rattle.std.proofs.Common.{◌≡◌, ℕ, suc, ◌+◌, ◌<◌, List, ◌∷◌, length, drop, get_or, refl, ap, sym, ◌∙◌, Bool, true, false, add-one}
-use Rattle.std.specs.Prelude.{◌==◌, ◌||◌}
-use Rattle.std.proofs.Math.Seq.{drop-cons}
-use Rattle.art_index.specs.Records.{own}
+-- A full key is blocked among those of an index exactly where its key conflicts with one of its tenant's.
+use Rattle.std.proofs.Common.{◌≡◌, ℕ, ◌<◌, ◌^◌, List, [], ◌∷◌, map, refl, ap, sym, ◌∙◌, Bool, true, false, cond, subst, inl, inr}
+use Rattle.std.specs.Prelude.{◌==◌, ◌||◌, ◌&&◌, filter}
+use Rattle.std.specs.List.{AllByRecursion}
+use Rattle.std.proofs.lemmas.Bool.{eqb-true, eq-eqb, or_left, or_right, or_cases, and_from, and_parts}
+use Rattle.art_bytes.specs.Keys.{Conflict, conflicts}
+use Rattle.art_bytes.proofs.Conflicts.{conflict_told, told_conflict}
+use Rattle.art_arena.specs.tree.Changes.{IsIn}
+use Rattle.art_operations.specs.KeyedLists.{IsBlocked}
+use Rattle.art_index.specs.Keys.{full_key}
+use Rattle.art_index.specs.Records.{KeyRecord, KeyFits}
 use Rattle.art_index.specs.Replies.{has_conflict}
-use Rattle.art_index.specs.Stored.{record_of, records_of, stands_against}
-use Rattle.art_index.specs.declared.entry.Entry.{Entry}
+use Rattle.art_index.specs.Stored.{Pair, record_of, IsFull}
+use Rattle.art_index.proofs.FullKeys.{full_keys_keep_conflicts}
+use Rattle.art_index.proofs.OwnLaws.{key_part}
+use Rattle.art_index.proofs.Putting.{pairs_of}
 
--- whether a key conflicts with one of the tenant's among the entries
-abbrev pub conflict_among : List ℕ → ℕ → List Entry → Bool
-conflict_among key tenant es = has_conflict key (own tenant (records_of es)).keys
+-- the bytes of a pair's key
+abbrev pub bytes_of : Pair → List ℕ
+bytes_of p = p.0.items
 
-conflict_among-cons : (key : List ℕ) (tenant : ℕ) (e : Entry) (es : List Entry) → conflict_among key tenant (e ∷ es) ≡ (stands_against (record_of e) tenant key || conflict_among key tenant es)
-conflict_among-cons key tenant e es = go ((record_of e).tenant == tenant) refl
+-- a record is the tenant's, and its key conflicts with a key
+abbrev stands_against : ℕ → List ℕ → KeyRecord → Bool
+stands_against t k r = (r.tenant == t) && conflicts k r.key
+
+has_conflict-cons : (t : ℕ) (k : List ℕ) (r : KeyRecord) (rs : List KeyRecord) → has_conflict k (pairs_of t (r ∷ rs)) ≡ (stands_against t k r || has_conflict k (pairs_of t rs))
+has_conflict-cons t k r rs = go (r.tenant == t)
   where
-    go : (b : Bool) → ((record_of e).tenant == tenant) ≡ b → conflict_among key tenant (e ∷ es) ≡ (stands_against (record_of e) tenant key || conflict_among key tenant es)
-    go true is = rw is refl
-    go false is = rw is refl
+    go : (b : Bool) → has_conflict k (map key_part (cond b (r ∷ filter (λ s. s.tenant == t) rs) (filter (λ s. s.tenant == t) rs))) ≡ ((b && conflicts k r.key) || has_conflict k (pairs_of t rs))
+    go true = refl
+    go false = refl
 
-pub conflict_at : (key : List ℕ) (tenant : ℕ) (es : List Entry) (i : ℕ) (e : Entry) (all : Bool) → i < length es → e ≡ get_or es i e
-    → conflict_among key tenant (drop i es) ≡ all → (stands_against (record_of e) tenant key || conflict_among key tenant (drop (i + 1) es)) ≡ all
-conflict_at key tenant es i e all h is before =
-    let cell : drop i es ≡ e ∷ drop (i + 1) es = drop-cons es i e h ∙ ap (λ x. x ∷ drop (suc i) es) (sym is) ∙ ap (λ k. e ∷ drop k es) (sym (add-one i)) in
-    sym (conflict_among-cons key tenant e (drop (i + 1) es)) ∙ ap (conflict_among key tenant) (sym cell) ∙ before
+module _ (t : ℕ) (k : List ℕ) (small : t < 2 ^ 32) where
+  against : (p : Pair) → IsFull p → KeyFits (record_of p) → Conflict (full_key t k) (bytes_of p) → stands_against t k (record_of p) ≡ true
+  against p full fits c =
+      let r = record_of p in
+      let whole : conflicts (full_key t k) (full_key r.tenant r.key) ≡ true = conflict_told (full_key t k) (full_key r.tenant r.key) (subst (Conflict (full_key t k)) full c) in
+      let both = and_parts _ _ (sym (full_keys_keep_conflicts t r.tenant k r.key small fits.tenant_fits) ∙ whole) in
+      and_from _ _ (eq-eqb r.tenant t (sym (eqb-true t r.tenant both.0))) both.1
+
+  in_conflict : (p : Pair) → IsFull p → KeyFits (record_of p) → stands_against t k (record_of p) ≡ true → Conflict (full_key t k) (bytes_of p)
+  in_conflict p full fits h =
+      let r = record_of p in
+      let both = and_parts _ _ h in
+      let whole = full_keys_keep_conflicts t r.tenant k r.key small fits.tenant_fits ∙ and_from _ _ (eq-eqb t r.tenant (sym (eqb-true r.tenant t both.0))) both.1 in
+      subst (Conflict (full_key t k)) (sym full) (told_conflict (full_key t k) (full_key r.tenant r.key) whole)
+
+  pub blocked_told : (ps : List Pair) → AllByRecursion IsFull ps → AllByRecursion KeyFits (map record_of ps) → IsBlocked bytes_of (full_key t k) ps
+      → has_conflict k (pairs_of t (map record_of ps)) ≡ true
+  blocked_told [] full fits (x, i, c) = absurd i
+  blocked_told (p ∷ ps) full fits (x, inl same, c) =
+      has_conflict-cons t k (record_of p) (map record_of ps) ∙ or_left _ _ (against p full.0 fits.0 (subst (λ q. Conflict (full_key t k) (bytes_of q)) (sym same) c))
+  blocked_told (p ∷ ps) full fits (x, inr i, c) =
+      has_conflict-cons t k (record_of p) (map record_of ps) ∙ or_right _ _ (blocked_told ps full.1 fits.1 (x, i, c))
+
+  told_blocked : (ps : List Pair) → AllByRecursion IsFull ps → AllByRecursion KeyFits (map record_of ps) → has_conflict k (pairs_of t (map record_of ps)) ≡ true
+      → IsBlocked bytes_of (full_key t k) ps
+  told_blocked [] full fits h = absurd (cc)
+  told_blocked (p ∷ ps) full fits h =
+      elim (or_cases _ _ (sym (has_conflict-cons t k (record_of p) (map record_of ps)) ∙ h)) [
+        | inl first ↦ (p, inl refl, in_conflict p full.0 fits.0 first)
+        | inr later ↦ let b = told_blocked ps full.1 fits.1 later in (b.0, inr b.1, b.2)
+      ]
+
+  pub free_told : (ps : List Pair) → AllByRecursion IsFull ps → AllByRecursion KeyFits (map record_of ps) → (IsBlocked bytes_of (full_key t k) ps → ⊥)
+      → has_conflict k (pairs_of t (map record_of ps)) ≡ false
+  free_told ps full fits free = go (has_conflict k (pairs_of t (map record_of ps))) refl
+    where
+      go : (b : Bool) → has_conflict k (pairs_of t (map record_of ps)) ≡ b → b ≡ false
+      go true e = absurd (free (told_blocked ps full fits e))
+      go false e = refl

@@ -1,35 +1,42 @@
--- The lines of a dump, one entry after another.
-use Rattle.std.proofs.Common.{◌≡◌, ℕ, suc, ◌+◌, ◌<◌, ◌≤◌, List, [], ◌∷◌, ◌++◌, length, drop, get_or, ap, sym, ◌∙◌, append_assoc, add-one, map}
+-- The lines of a dump, one pair after another.
+use Rattle.std.proofs.Common.{◌≡◌, ℕ, ◌+◌, List, [], ◌∷◌, ◌++◌, length, ap, sym, ◌∙◌, append_assoc, append-nil, map, arith}
 use Rattle.std.specs.Prelude.{flat_map, codes}
-use Rattle.std.proofs.Math.Seq.{drop-cons}
-use Rattle.std.proofs.lemmas.List.{drop_all}
+use Rattle.std.proofs.lemmas.Grind.{flat_map-append}
 use Rattle.art_index.specs.Words.{Word, name, natural, line_of}
 use Rattle.art_index.specs.Commands.{put_words}
 use Rattle.art_index.specs.Records.{KeyRecord}
-use Rattle.art_index.specs.Stored.{record_of}
-use Rattle.art_index.specs.declared.entry.Entry.{Entry}
+use Rattle.art_index.specs.Replies.{dump_of}
+use Rattle.art_index.proofs.Filters.{length-map}
+use Rattle.art_index.specs.Stored.{Pair, record_of, records_of}
 
 abbrev pub words_put : KeyRecord → List Word
 words_put r = put_words r.tenant r.key r.value
 
--- the lines that make the records of some entries
-abbrev dumped : List Entry → List ℕ
-dumped es = flat_map line_of (map words_put (map record_of es))
+-- the lines that make the records of some pairs
+abbrev dumped : List Pair → List ℕ
+dumped es = flat_map line_of (map (λ r. put_words r.tenant r.key r.value) (map record_of es))
 
 -- the line that ends a dump of so many records
 abbrev pub dump_end : ℕ → List ℕ
 dump_end count = line_of (name (codes "end") ∷ natural count ∷ [])
 
--- the lines of a dump from an entry on
-abbrev pub dump_from : ℕ → List Entry → List ℕ
-dump_from i es = dumped (drop i es) ++ dump_end (length es)
+-- the lines of a dump of so many records from some pairs on
+abbrev pub dump_from : ℕ → List Pair → List ℕ
+dump_from count ps = dumped ps ++ dump_end count
 
--- an entry's line, and the lines behind it
-pub dump_next : (i : ℕ) (es : List Entry) (e : Entry) → i < length es → e ≡ get_or es i e → dump_from i es ≡ line_of (words_put (record_of e)) ++ dump_from (i + 1) es
-dump_next i es e within is =
-    let first : drop i es ≡ e ∷ drop (i + 1) es = drop-cons es i e within ∙ ap (λ x. x ∷ drop (suc i) es) (sym is) ∙ ap (λ k. e ∷ drop k es) (sym (add-one i)) in
-    ap (λ xs. dumped xs ++ dump_end (length es)) first ∙ append_assoc (line_of (words_put (record_of e))) (dumped (drop (i + 1) es)) (dump_end (length es))
+-- a pair's line, and the lines behind it
+pub dump_next : (count : ℕ) (p : Pair) (ps : List Pair) → dump_from count (p ∷ ps) ≡ line_of (words_put (record_of p)) ++ dump_from count ps
+dump_next count p ps = append_assoc (line_of (words_put (record_of p))) (dumped ps) (dump_end count)
 
--- behind the last entry
-pub dump_last : (i : ℕ) (es : List Entry) → length es ≤ i → dump_from i es ≡ dump_end (length es)
-dump_last i es all = ap (λ xs. dumped xs ++ dump_end (length es)) (drop_all i es all)
+-- the lines of a dump are those from the first pair on
+pub dump_all : (ps : List Pair) → dump_from (length ps) ps ≡ flat_map line_of (dump_of (records_of ps))
+dump_all ps =
+    let end : List Word = name (codes "end") ∷ natural (length ps) ∷ [] in
+    let lines : List (List Word) = map (λ r. put_words r.tenant r.key r.value) (map record_of ps) in
+    let last : ℕ → List (List Word) = λ n. (name (codes "end") ∷ natural n ∷ []) ∷ [] in
+    ap (λ e. flat_map line_of lines ++ e) (sym (append-nil (line_of end))) ∙ sym (flat_map-append line_of lines (end ∷ []))
+    ∙ ap (λ n. flat_map line_of (lines ++ last n)) (sym (length-map record_of ps) ∙ sym (plus-zero (length (map record_of ps))))
+    ∙ ap (λ l. flat_map line_of (l ++ last (length (map record_of ps) + 0))) (sym (append-nil lines))
+  where
+    plus-zero : (n : ℕ) → n + 0 ≡ n
+    plus-zero n = omega arith

@@ -5,7 +5,8 @@ use Rattle.art_index.specs.Lines.{lines_of, whole_lines_of, unfinished_line_of, 
 use Rattle.art_index.specs.Words.{name, natural, signed, bytes, shown, line_of}
 use Rattle.art_index.specs.Commands.{put, get, of_tenant, dump, Spells}
 use Rattle.art_index.specs.Reading.{command_of, tenant_in, bytes_in}
-use Rattle.art_index.specs.Keys.{is_below, conflicts, full_key}
+use Rattle.art_bytes.specs.Keys.{is_below, conflicts}
+use Rattle.art_index.specs.Keys.{full_key}
 use Rattle.art_index.specs.Records.{KeyRecord, KeyFits, Records, no_records, own, with_own}
 use Rattle.art_index.specs.Replies.{reply_to, records_after, dump_of}
 use Rattle.art_index.specs.Refusals.{LineMayRefuse}

@@ -5,11 +5,16 @@ use Rattle.std.specs.declared.cmp.Ordering.{Ordering}
 use Rattle.std.specs.declared.cmp.Ordering.TheVariants.{Less, Equal, Greater}
 use Rattle.std.specs.Ordering.{nat_cmp, is_lt, ordering_then}
 use Rattle.std.specs.Cmp.Lexicographic.{slice_cmp, pointwise}
-use Rattle.std.proofs.lemmas.Bool.{eq-eqb, ne_eqb, eqb-true, lt-ltb, le-ltb, cases_lt, true≢false}
+use Rattle.std.proofs.lemmas.Bool.{eq-eqb, ne_eqb, eqb-true, lt-ltb, le-ltb, cases_lt, true≢false, and_parts}
 use Rattle.std.specs.Int.{from_be_bytes, w32}
 use Rattle.std.proofs.lemmas.List.{length-take-le}
 use Rattle.std.proofs.lemmas.Nat.{be_bytes_4}
-use Rattle.art_index.specs.Keys.{is_proper_front, full_key}
+use Rattle.art_bytes.specs.Keys.{is_proper_front, conflicts, IsBefore}
+use Rattle.art_bytes.proofs.Order.{cmp_before}
+use Rattle.art_bytes.proofs.Conflicts.{conflict_told}
+use Rattle.art_index.specs.Records.{KeyRecord, KeyComesBefore}
+use Rattle.art_index.proofs.Standing.{cmp_less}
+use Rattle.art_index.specs.Keys.{full_key}
 use Rattle.art_index.specs.Laws.{FullKeysKeepOrder, FullKeysKeepConflicts}
 
 cmp_low : (t u : ℕ) → t < u → nat_cmp t u ≡ Less
@@ -18,8 +23,8 @@ cmp_low t u h = rw (lt-ltb t u h) refl
 cmp_high : (t u : ℕ) → u < t → nat_cmp t u ≡ Greater
 cmp_high t u h = let ge : u ≤ t = omega arith in rw (le-ltb t u ge, ne_eqb t u (λ e. omega arith)) refl
 
-cmp_equal : (t : ℕ) → nat_cmp t t ≡ Equal
-cmp_equal t = let ge : t ≤ t = omega arith in rw (le-ltb t t ge, eq-eqb t t refl) refl
+pub cmp_itself : (t : ℕ) → nat_cmp t t ≡ Equal
+cmp_itself t = let ge : t ≤ t = omega arith in rw (le-ltb t t ge, eq-eqb t t refl) refl
 
 -- numbers compare by all digits but the last, and then by the last
 cmp_digits : (a b x y : ℕ) → x < 256 → y < 256 → nat_cmp (a * 256 + x) (b * 256 + y) ≡ ordering_then (nat_cmp a b) (nat_cmp x y)
@@ -31,13 +36,13 @@ cmp_digits a b x y hx hy = elim (cases_lt a b) [
         let same : a ≡ b = omega arith in
         subst (λ c. nat_cmp (a * 256 + x) (c * 256 + y) ≡ ordering_then (nat_cmp a c) (nat_cmp x y)) same
         (elim (cases_lt x y) [
-          | inl low ↦ cmp_low (a * 256 + x) (a * 256 + y) (omega arith) ∙ sym (ap (λ o. ordering_then o (nat_cmp x y)) (cmp_equal a) ∙ cmp_low x y low)
+          | inl low ↦ cmp_low (a * 256 + x) (a * 256 + y) (omega arith) ∙ sym (ap (λ o. ordering_then o (nat_cmp x y)) (cmp_itself a) ∙ cmp_low x y low)
           | inr xge ↦ elim (cases_lt y x) [
-            | inl high ↦ cmp_high (a * 256 + x) (a * 256 + y) (omega arith) ∙ sym (ap (λ o. ordering_then o (nat_cmp x y)) (cmp_equal a) ∙ cmp_high x y high)
+            | inl high ↦ cmp_high (a * 256 + x) (a * 256 + y) (omega arith) ∙ sym (ap (λ o. ordering_then o (nat_cmp x y)) (cmp_itself a) ∙ cmp_high x y high)
             | inr xle ↦
                 let e : x ≡ y = omega arith in
                 subst (λ z. nat_cmp (a * 256 + x) (a * 256 + z) ≡ ordering_then (nat_cmp a a) (nat_cmp x z)) e
-                (cmp_equal (a * 256 + x) ∙ sym (ap (λ o. ordering_then o (nat_cmp x x)) (cmp_equal a) ∙ cmp_equal x))
+                (cmp_itself (a * 256 + x) ∙ sym (ap (λ o. ordering_then o (nat_cmp x x)) (cmp_itself a) ∙ cmp_itself x))
           ]
         ])
   ]
@@ -127,15 +132,37 @@ full_keys_keep_conflicts t u k j ht hu =
     go true false e f = let same = eqb-true t u e in absurd (true≢false (sym (eq-eqb u t (sym same)) ∙ f))
     go false true e f = let same = eqb-true u t f in absurd (true≢false (sym (eq-eqb t u (sym same)) ∙ e))
 
+-- full keys of records in order are in order, and neither is a front of the other
+pub full_before : (r s : KeyRecord) → r.tenant < 2 ^ 32 → s.tenant < 2 ^ 32 → KeyComesBefore r s → IsBefore (full_key r.tenant r.key) (full_key s.tenant s.key)
+full_before r s rs ss before =
+    let a = full_key r.tenant r.key in
+    let b = full_key s.tenant s.key in
+    cmp_before a b (cmp-full_key r.tenant s.tenant r.key s.key rs ss ∙ less before)
+    (λ c. free before (sym (full_keys_keep_conflicts r.tenant s.tenant r.key s.key rs ss) ∙ conflict_told a b c))
+  where
+    less : KeyComesBefore r s → ordering_then (nat_cmp r.tenant s.tenant) (slice_cmp nat_cmp r.key s.key) ≡ Less
+    less (inl low) = rw (cmp_low r.tenant s.tenant low) refl
+    less (inr up) = ap (λ u. ordering_then (nat_cmp r.tenant u) (slice_cmp nat_cmp r.key s.key)) (sym up.0) ∙ rw (cmp_itself r.tenant) (cmp_less r.key s.key up.1)
+
+    free : KeyComesBefore r s → ((r.tenant == s.tenant) && conflicts r.key s.key) ≡ true → ⊥
+    free (inl low) h = true≢false (sym h ∙ rw (ne_eqb r.tenant s.tenant (λ e. omega arith)) refl)
+    free (inr up) h = true≢false (sym (and_parts _ _ h).1 ∙ up.2)
+
+front_small : (n : ℕ) (xs : List ℕ) → ((i : ℕ) → get_or xs i 0 < 256) → (i : ℕ) → get_or (take n xs) i 0 < 256
+front_small zero xs h i = omega arith
+front_small (suc n) [] h i = omega arith
+front_small (suc n) (x ∷ xs) h zero = h zero
+front_small (suc n) (x ∷ xs) h (suc i) = front_small n xs (λ j. h (suc j)) i
+
 -- bytes are the full key of the tenant that stands at their front, and of what stands behind it
 pub full_key_again : (xs : List ℕ) → 4 ≤ length xs → ((i : ℕ) → get_or xs i 0 < 256) → xs ≡ full_key (from_be_bytes w32 (take 4 xs)) (drop 4 xs)
 full_key_again xs long small =
     let four_long : length (take 4 xs) ≡ 4 = length-take-le 4 xs long in
     let bytes : (i : ℕ) → get_or (take 4 xs) i 0 < 256 = front_small 4 xs small in
     sym (ap (λ t. t ++ drop 4 xs) (be_bytes_4 (take 4 xs) (from_be_bytes w32 (take 4 xs)) four_long bytes refl) ∙ take-append-drop 4 xs)
-  where
-    front_small : (n : ℕ) (ys : List ℕ) → ((i : ℕ) → get_or ys i 0 < 256) → (i : ℕ) → get_or (take n ys) i 0 < 256
-    front_small zero ys h i = omega arith
-    front_small (suc n) [] h i = omega arith
-    front_small (suc n) (y ∷ ys) h zero = h zero
-    front_small (suc n) (y ∷ ys) h (suc i) = front_small n ys (λ j. h (suc j)) i
+
+-- four bytes are a tenant
+pub tenant_small : (xs : List ℕ) → ((i : ℕ) → get_or xs i 0 < 256) → from_be_bytes w32 (take 4 xs) < 2 ^ 32
+tenant_small xs small =
+    let a = front_small 4 xs small 0 in let b = front_small 4 xs small 1 in let c = front_small 4 xs small 2 in let d = front_small 4 xs small 3 in
+    omega arith

@@ -1,56 +1,175 @@
--- How a put is answered, at the place that was found for its key.
-use Rattle.std.proofs.Common.{◌≡◌, ℕ, zero, suc, ◌+◌, ◌<◌, ◌^◌, List, [], ◌∷◌, ◌++◌, length, take, drop, set, get_or, refl, ap, sym, ◌∙◌, subst, Bool, true, false, arith, Option, Some, None}
-use Rattle.std.specs.Prelude.{map, if◌then◌else◌, codes, Result, Ok, Err, is_ok, is_err}
-use Rattle.std.proofs.lemmas.Bool.{true≢false}
-use Rattle.std.specs.List.{AllByRecursion, HoldsAt, insert}
+-- How a look-up and a put are answered, and what a put leaves, from what the map says of its pairs.
+use Rattle.std.proofs.Common.{◌≡◌, ℕ, ◌<◌, ◌^◌, List, [], ◌∷◌, ◌++◌, map, take, drop, refl, ap, sym, ◌∙◌, subst, Bool, true, false, cond, Option, Some, None, bytes_eq}
+use Rattle.std.specs.Prelude.{if◌then◌else◌, option_map}
+use Rattle.std.specs.Global.{Vec}
+use Rattle.std.specs.List.{AllByRecursion}
+use Rattle.std.specs.Map.{lookup}
 use Rattle.std.specs.Int.{to_be_bytes, from_be_bytes, w32}
+use Rattle.std.specs.declared.cmp.Ordering.{Ordering}
 use Rattle.std.specs.declared.cmp.Ordering.TheVariants.{Less, Equal, Greater}
-use Rattle.std.proofs.lemmas.List.{take-append-drop, map-append}
-use Rattle.art_index.specs.Words.{name, bytes}
+use Rattle.std.proofs.lemmas.List.{map-append}
 use Rattle.std.proofs.lemmas.Nat.{from_be_bytes-to_be_bytes_4}
 use Rattle.std.proofs.Math.Seq.{take-append_seam, drop-append_seam}
-use Rattle.art_index.specs.declared.entry.Entry.{Entry}
-use Rattle.art_index.specs.declared.entry.Placed.TheVariants as placed
-use Rattle.art_index.specs.Keys.{full_key}
+use Rattle.art_bytes.specs.Keys.{IsBefore}
+use Rattle.art_arena.specs.tree.Changes.{put}
+use Rattle.art_arena.specs.tree.Order.{IsAscending}
+use Rattle.art_arena.proofs.shapes.Finding.{same_key, other_key}
+use Rattle.art_operations.specs.KeyedLists.{without_key, IsBlocked}
+use Rattle.art_operations.proofs.KeyedLists.{put_new, put_replaced}
+use Rattle.art_index.specs.declared.placed.Placed.TheVariants as placed
+use Rattle.art_index.specs.Keys.{full_key, full_pair}
+use Rattle.art_index.specs.Words.{name, bytes}
 use Rattle.art_index.specs.Records.{Own, KeyRecord, Records, own, with_own, InOrder, KeyComesBefore, KeyFits}
 use Rattle.art_index.specs.Replies.{value_at, has_conflict, with_pair, put_reply, puts, with_changed}
-use Rattle.art_index.specs.Stored.{record_of, records_of, IsFull, AreEntries, stands_to, IsGapAt, IsFoundAt, IsPlaced, placed_words}
-use Rattle.art_index.proofs.Filters.{All-at, All-left, All-right, take-map, drop-map, length-map}
+use Rattle.art_index.specs.Stored.{Pair, record_of, records_of, IsFull, ArePairs, IsPlaced, placed_words}
+use Rattle.art_index.proofs.Conflicts.{bytes_of, blocked_told, free_told}
+use Rattle.art_index.proofs.Filters.{All-left, All-right}
+use Rattle.art_index.proofs.FullKeys.{full_before, cmp_itself}
 use Rattle.art_index.proofs.OwnLaws.{key_made}
-use Rattle.art_index.proofs.Standing.{standing, before_found, behind_found}
+use Rattle.art_index.proofs.Standing.{AllBefore, AllBehind, stands_to, standing, cmp_same, Parted, absent, present, parted}
 use Rattle.art_index.proofs.Putting.{pairs_of, value_in_gap, value_there, no_conflict_with, new_behind, new_before, same_behind, same_before, FitsBetween, put_keeps, put_records, InOrder-before, InOrder-behind}
 
 -- the record of a full key
-full_record : (t : ℕ) (k v : List ℕ) (e : Entry) → t < 2 ^ 32 → e.key.items ≡ full_key t k → e.value.items ≡ v → record_of e ≡ key_made t (k, v)
-full_record t k v e small full value =
+full_record : (t : ℕ) (k v : List ℕ) (p : Pair) → t < 2 ^ 32 → bytes_of p ≡ full_key t k → p.1.items ≡ v → record_of p ≡ key_made t (k, v)
+full_record t k v p small full value =
     let front : take 4 (to_be_bytes w32 t ++ k) ≡ to_be_bytes w32 t = take-append_seam (to_be_bytes w32 t) k in
     let rest : drop 4 (to_be_bytes w32 t ++ k) ≡ k = drop-append_seam (to_be_bytes w32 t) k in
-    let tenant : from_be_bytes w32 (take 4 e.key.items) ≡ t = ap (λ b. from_be_bytes w32 (take 4 b)) full ∙ ap (from_be_bytes w32) front ∙ from_be_bytes-to_be_bytes_4 t small in
-    let key : drop 4 e.key.items ≡ k = ap (drop 4) full ∙ rest in
+    let tenant : from_be_bytes w32 (take 4 p.0.items) ≡ t = ap (λ b. from_be_bytes w32 (take 4 b)) full ∙ ap (from_be_bytes w32) front ∙ from_be_bytes-to_be_bytes_4 t small in
+    let key : drop 4 p.0.items ≡ k = ap (drop 4) full ∙ rest in
     rw (tenant, key, value) refl
 
-full_is : (t : ℕ) (k v : List ℕ) (e : Entry) → e.key.items ≡ full_key t k → record_of e ≡ key_made t (k, v) → IsFull e
-full_is t k v e full is = full ∙ sym (ap (λ (r : KeyRecord). full_key r.tenant r.key) is)
+full_is : (t : ℕ) (k v : List ℕ) (p : Pair) → bytes_of p ≡ full_key t k → record_of p ≡ key_made t (k, v) → IsFull p
+full_is t k v p full is = full ∙ sym (ap (λ (r : KeyRecord). full_key r.tenant r.key) is)
 
--- a list around one of its elements
-around : {X : Type 0} (xs : List X) (i : ℕ) (x : X) → i < length xs → x ≡ get_or xs i x → xs ≡ take i xs ++ (x ∷ [] ++ drop (i + 1) xs)
-around [] i x within is = absurd (omega arith)
-around (y ∷ xs) zero x within is = ap (λ z. z ∷ xs) (sym is)
-around (y ∷ xs) (suc i) x within is =
-    let more : suc i + 1 ≡ suc (i + 1) = omega arith in rw more (ap (λ l. y ∷ l) (around xs i x (omega arith) is))
+-- pairs that an index holds ascend by their full keys
+ascend_behind : (p : Pair) (qs : List Pair) → IsFull p → KeyFits (record_of p) → AllByRecursion IsFull qs → AllByRecursion (KeyComesBefore (record_of p)) (map record_of qs)
+    → AllByRecursion KeyFits (map record_of qs) → AllByRecursion (λ q. IsBefore (bytes_of p) (bytes_of q)) qs
+ascend_behind p [] full fits fulls order fit = tt
+ascend_behind p (q ∷ qs) full fits fulls order fit =
+    let r = record_of p in
+    let s = record_of q in
+    (subst (λ a. IsBefore a (bytes_of q)) (sym full) (subst (IsBefore (full_key r.tenant r.key)) (sym fulls.0) (full_before r s fits.tenant_fits fit.0.tenant_fits order.0)),
+      ascend_behind p qs full fits fulls.1 order.1 fit.1)
 
-set_around : {X : Type 0} (xs : List X) (i : ℕ) (x : X) → i < length xs → set xs i x ≡ take i xs ++ x ∷ drop (i + 1) xs
-set_around [] i x within = absurd (omega arith)
-set_around (y ∷ xs) zero x within = refl
-set_around (y ∷ xs) (suc i) x within =
-    let more : suc i + 1 ≡ suc (i + 1) = omega arith in rw more (ap (λ l. y ∷ l) (set_around xs i x (omega arith)))
+ascend : (ps : List Pair) → AllByRecursion IsFull ps → InOrder KeyComesBefore (map record_of ps) → AllByRecursion KeyFits (map record_of ps) → IsAscending bytes_of ps
+ascend [] full order fit = tt
+ascend (p ∷ ps) full order fit = (ascend_behind p ps full.0 fit.0 full.1 order.0 fit.1, ascend ps full.1 order.1 fit.1)
 
--- what an insertion that was not refused leaves
-pub inserted : {X T E : Type 0} (xs : List X) (i : ℕ) (x : X) (r : Result T E) (b : Bool) (new : List X)
-    → new ≡ (if is_ok r then insert xs i x else xs) → b ≡ is_err r → b ≡ false → new ≡ insert xs i x
-inserted xs i x (Ok y) b new is e f = is
-inserted xs i x (Err y) b new is e f = absurd (true≢false (sym e ∙ f))
+pub pairs_ascend : (ps : List Pair) → ArePairs ps → IsAscending bytes_of ps
+pairs_ascend ps are = ascend ps are.full are.records.keys_in_order are.records.keys_fit
 
+-- pairs are their records, each value under its full key
+pub pairs_are : (ps : List Pair) → AllByRecursion IsFull ps → map (λ p. (p.0.items, p.1.items)) ps ≡ map full_pair (map record_of ps)
+pairs_are [] full = refl
+pairs_are (p ∷ ps) full = rw (sym full.0) (ap (λ l. (p.0.items, p.1.items) ∷ l) (pairs_are ps full.1))
+
+-- the test that a key is the full one
+abbrev pub is_full_key : ℕ → List ℕ → Vec ℕ → Bool
+is_full_key t k j = bytes_eq j.items (full_key t k)
+
+-- what is found by a full key
+module _ (t : ℕ) (k : List ℕ) (small : t < 2 ^ 32) where
+  not_there : (p : Pair) (o : Ordering) → stands_to t k (record_of p) ≡ o → (Equal ≡ o → ⊥) → is_full_key t k p.0 ≡ false
+  not_there p o e apart =
+      let at : stands_to t k (key_made t (k, p.1.items)) ≡ Equal = rw (cmp_itself t) (cmp_same k) in
+      other_key (bytes_of p) (full_key t k) (λ same. apart (sym at ∙ sym (ap (stands_to t k) (full_record t k p.1.items p small same refl)) ∙ e))
+
+  full_there : (m : Pair) → IsFull m → stands_to t k (record_of m) ≡ Equal → bytes_of m ≡ full_key t k
+  full_there m full here =
+      let said = standing t k (record_of m) Equal here in
+      full ∙ ap (λ u. full_key u (record_of m).key) said.0 ∙ ap (full_key t) said.1
+
+  skips : (fs bs : List Pair) → AllBefore t k (map record_of fs) → lookup (is_full_key t k) (fs ++ bs) ≡ lookup (is_full_key t k) bs
+  skips [] bs low = refl
+  skips (p ∷ fs) bs low = rw (not_there p Less low.0 (λ e. cc)) (skips fs bs low.1)
+
+  none : (bs : List Pair) → AllBehind t k (map record_of bs) → lookup (is_full_key t k) bs ≡ None
+  none [] high = refl
+  none (p ∷ bs) high = rw (not_there p Greater high.0 (λ e. cc)) (none bs high.1)
+
+  found_in : (ps : List Pair) → AllByRecursion IsFull ps → Parted t k ps → option_map (λ v. v.items) (lookup (is_full_key t k) ps) ≡ value_at k (own t (records_of ps)).keys
+  found_in ps full (absent fs bs e low high) =
+      let split : map record_of ps ≡ map record_of fs ++ map record_of bs = ap (map record_of) e ∙ map-append record_of fs bs in
+      ap (λ l. option_map (λ v. v.items) (lookup (is_full_key t k) l)) e ∙ ap (option_map (λ v. v.items)) (skips fs bs low ∙ none bs high)
+      ∙ sym (ap (λ l. value_at k (pairs_of t l)) split ∙ value_in_gap t k (map record_of fs) (map record_of bs) low high)
+  found_in ps full (present fs m bs e low here high) =
+      let split : map record_of ps ≡ map record_of fs ++ record_of m ∷ map record_of bs = ap (map record_of) e ∙ map-append record_of fs (m ∷ bs) in
+      let is = full_there m (All-right IsFull fs (m ∷ bs) (subst (AllByRecursion IsFull) e full)).0 here in
+      let hit : lookup (is_full_key t k) (m ∷ bs) ≡ Some m.1 = rw (same_key (bytes_of m) (full_key t k) is) refl in
+      ap (λ l. option_map (λ v. v.items) (lookup (is_full_key t k) l)) e ∙ ap (option_map (λ v. v.items)) (skips fs (m ∷ bs) low ∙ hit)
+      ∙ sym (ap (λ l. value_at k (pairs_of t l)) split ∙ value_there t k (map record_of fs) (map record_of bs) (record_of m) low here)
+
+  -- the value under a full key is that at the tenant's key
+  pub found : (ps : List Pair) → ArePairs ps → option_map (λ v. v.items) (lookup (is_full_key t k) ps) ≡ value_at k (own t (records_of ps)).keys
+  found ps are = found_in ps are.full (parted t k ps are.records.keys_in_order)
+
+-- what a tenant holds with a value put at a key
+abbrev with_mine : List ℕ → List ℕ → Own → Own
+with_mine k v mine = record { keys = with_pair k v mine.keys; numbers = mine.numbers }
+
+-- Among some pairs one was put: they are as an index holds them, and their records are those with the tenant's key put.
+pub record IsPutAmong (t : ℕ) (k v : List ℕ) (old new : List Pair) : Type 0 where
+  pub keeps : ArePairs new
+  pub records_are : records_of new ≡ with_own t (with_mine k v (own t (records_of old))) (records_of old)
+
+-- the new list is what the map says it is
+abbrev IsNewList : Pair → List Pair → List Pair → Type 0
+IsNewList e old new = new ≡ put bytes_of e (without_key bytes_of (bytes_of e) old)
+
+module _ (t : ℕ) (k v : List ℕ) (e : Pair) (fits : KeyFits (key_made t (k, v))) (full : bytes_of e ≡ full_key t k) (value : e.1.items ≡ v) where
+  is_made : record_of e ≡ key_made t (k, v)
+  is_made = full_record t k v e fits.tenant_fits full value
+
+  put_absent : (fs bs : List Pair) → ArePairs (fs ++ bs) → AllBefore t k (map record_of fs) → AllBehind t k (map record_of bs)
+      → (IsBlocked bytes_of (full_key t k) (fs ++ bs) → ⊥) → IsPutAmong t k v (fs ++ bs) (fs ++ e ∷ bs) × IsNewList e (fs ++ bs) (fs ++ e ∷ bs)
+  put_absent fs bs are low high free =
+      let apart = no_conflict_with t k (map record_of (fs ++ bs)) (free_told t k fits.tenant_fits (fs ++ bs) are.full are.records.keys_fit free) in
+      let parts = subst (AllByRecursion _) (map-append record_of fs bs) apart in
+      let between : FitsBetween t k v fs [] bs e = record {
+        low = low;
+        here = tt;
+        high = high;
+        is = is_made;
+        full = full_is t k v e full is_made;
+        fits = fits;
+        before = new_behind t k v (map record_of fs) low (All-left _ (map record_of fs) (map record_of bs) parts);
+        behind = new_before t k v (map record_of bs) high (All-right _ (map record_of fs) (map record_of bs) parts);
+      } in
+      let keeps = put_keeps t k v fs [] bs e are between in
+      (record { keeps = keeps; records_are = put_records t k v fs [] bs e are between }, (put_new bytes_of e fs bs (pairs_ascend (fs ++ e ∷ bs) keeps)).new_is)
+
+  put_present : (fs : List Pair) (m : Pair) (bs : List Pair) → ArePairs (fs ++ m ∷ bs) → AllBefore t k (map record_of fs) → stands_to t k (record_of m) ≡ Equal
+      → AllBehind t k (map record_of bs) → IsPutAmong t k v (fs ++ m ∷ bs) (fs ++ e ∷ bs) × IsNewList e (fs ++ m ∷ bs) (fs ++ e ∷ bs)
+  put_present fs m bs are low here high =
+      let order = subst (InOrder KeyComesBefore) (map-append record_of fs (m ∷ bs)) are.records.keys_in_order in
+      let same = full_there t k fits.tenant_fits m (All-right IsFull fs (m ∷ bs) are.full).0 here ∙ sym full in
+      let between : FitsBetween t k v fs (m ∷ []) bs e = record {
+        low = low;
+        here = (here, tt);
+        high = high;
+        is = is_made;
+        full = full_is t k v e full is_made;
+        fits = fits;
+        before = same_behind t k v (map record_of fs) (record_of m) here (InOrder-before KeyComesBefore (map record_of fs) (map record_of bs) (record_of m) order);
+        behind = same_before t k v (map record_of bs) (record_of m) here (InOrder-behind KeyComesBefore (map record_of fs) (map record_of bs) (record_of m) order);
+      } in
+      let keeps = put_keeps t k v fs (m ∷ []) bs e are between in
+      (record { keeps = keeps; records_are = put_records t k v fs (m ∷ []) bs e are between }, (put_replaced bytes_of e fs m bs same (pairs_ascend (fs ++ e ∷ bs) keeps)).new_is)
+
+  put_parted : (ps new : List Pair) → ArePairs ps → (IsBlocked bytes_of (full_key t k) ps → ⊥) → IsNewList e ps new → Parted t k ps → IsPutAmong t k v ps new
+  put_parted ps new are free is (absent fs bs parts low high) =
+      let done = put_absent fs bs (subst ArePairs parts are) low high (subst (λ l. IsBlocked bytes_of (full_key t k) l → ⊥) parts free) in
+      let same : new ≡ fs ++ e ∷ bs = is ∙ ap (λ l. put bytes_of e (without_key bytes_of (bytes_of e) l)) parts ∙ sym done.1 in
+      subst (λ l. IsPutAmong t k v l new) (sym parts) (subst (IsPutAmong t k v (fs ++ bs)) (sym same) done.0)
+  put_parted ps new are free is (present fs m bs parts low here high) =
+      let done = put_present fs m bs (subst ArePairs parts are) low here high in
+      let same : new ≡ fs ++ e ∷ bs = is ∙ ap (λ l. put bytes_of e (without_key bytes_of (bytes_of e) l)) parts ∙ sym done.1 in
+      subst (λ l. IsPutAmong t k v l new) (sym parts) (subst (IsPutAmong t k v (fs ++ m ∷ bs)) (sym same) done.0)
+
+  pub put_among : (ps new : List Pair) → ArePairs ps → (IsBlocked bytes_of (full_key t k) ps → ⊥) → IsNewList e ps new → IsPutAmong t k v ps new
+  put_among ps new are free is = put_parted ps new are free is (parted t k ps are.records.keys_in_order)
+
+-- how it is answered
 conflict_words : (o : Option (List ℕ)) (c : Bool) → o ≡ None → c ≡ true → placed_words placed.Conflict ∷ [] ≡ put_reply o c ∷ []
 conflict_words o c e f = rw (e, f) refl
 
@@ -63,121 +182,53 @@ new_words o c e f = rw (e, f) refl
 new_left : (t : ℕ) (mine : Own) (r : Records) (o : Option (List ℕ)) (c : Bool) → o ≡ None → c ≡ false → with_own t mine r ≡ with_changed t (if puts o c then Some mine else None) r
 new_left t mine r o c e f = rw (e, f) refl
 
+old_words : (v : Vec ℕ) (o : Option (List ℕ)) (c : Bool) → o ≡ Some v.items → placed_words (placed.Old v) ∷ [] ≡ put_reply o c ∷ []
+old_words v o c e = rw e refl
+
 old_left : (t : ℕ) (mine : Own) (r : Records) (o : Option (List ℕ)) (c : Bool) (v : List ℕ) → o ≡ Some v → with_own t mine r ≡ with_changed t (if puts o c then Some mine else None) r
 old_left t mine r o c v e = rw e refl
 
-module _ (es : List Entry) (t : ℕ) (k v : List ℕ) (at : ℕ) where
-  abbrev rs : List KeyRecord
-  rs = map record_of es
+module _ (ps : List Pair) (t : ℕ) (k v : List ℕ) (are : ArePairs ps) (fits : KeyFits (key_made t (k, v))) where
+  -- the tenant's value at the key, and whether the key conflicts with one of the tenant's
+  abbrev at_key : Option (List ℕ)
+  at_key = value_at k (own t (records_of ps)).keys
 
-  gap_value : IsGapAt t k rs at → value_at k (pairs_of t rs) ≡ None
-  gap_value gap = subst (λ l. value_at k (pairs_of t l) ≡ None) (take-append-drop at rs) (value_in_gap t k (take at rs) (drop at rs) gap.before gap.behind)
+  abbrev in_conflict : Bool
+  in_conflict = has_conflict k (own t (records_of ps)).keys
 
-  pub absent_value : IsGapAt t k rs at → None ≡ value_at k (own t (records_of es)).keys
-  absent_value gap = sym (gap_value gap)
+  -- a key that is there is in conflict with none
+  blocked_absent : IsBlocked bytes_of (full_key t k) ps → at_key ≡ None
+  blocked_absent blocked = go (parted t k ps are.records.keys_in_order)
+    where
+      go : Parted t k ps → at_key ≡ None
+      go (absent fs bs e low high) =
+          ap (λ l. value_at k (pairs_of t l)) (ap (map record_of) e ∙ map-append record_of fs bs) ∙ value_in_gap t k (map record_of fs) (map record_of bs) low high
+      go (present fs m bs e low here high) =
+          let held = subst ArePairs e are in
+          let same = full_there t k fits.tenant_fits m (All-right IsFull fs (m ∷ bs) held.full).0 here in
+          absurd ((put_replaced bytes_of m fs m bs refl (pairs_ascend (fs ++ m ∷ bs) held)).free (subst (λ j. IsBlocked bytes_of j (fs ++ m ∷ bs)) (sym same) (subst (IsBlocked bytes_of (full_key t k)) e blocked)))
 
-  pub conflict_placed : IsGapAt t k rs at → has_conflict k (own t (records_of es)).keys ≡ true → IsPlaced placed.Conflict (records_of es) t k v (records_of es)
-  conflict_placed gap conflict = (
-    conflict_words (value_at k (pairs_of t rs)) (has_conflict k (pairs_of t rs)) (gap_value gap) conflict,
-    conflict_left t (record { keys = with_pair k v (pairs_of t rs); numbers = [] }) (records_of es) (value_at k (pairs_of t rs)) (has_conflict k (pairs_of t rs)) (gap_value gap) conflict,
-  )
+  pub conflict_placed : IsBlocked bytes_of (full_key t k) ps → IsPlaced placed.Conflict (records_of ps) t k v (records_of ps)
+  conflict_placed blocked =
+      let told = blocked_told t k fits.tenant_fits ps are.full are.records.keys_fit blocked in
+      let there = blocked_absent blocked in
+      (conflict_words at_key in_conflict there told, conflict_left t (with_mine k v (own t (records_of ps))) (records_of ps) at_key in_conflict there told)
 
-  module _ (e : Entry) (are : AreEntries es) (fits : KeyFits (key_made t (k, v))) (gap : IsGapAt t k rs at)
-      (free : has_conflict k (own t (records_of es)).keys ≡ false) (full : e.key.items ≡ full_key t k) (value : e.value.items ≡ v) where
-    parted : es ≡ take at es ++ ([] ++ drop at es)
-    parted = sym (take-append-drop at es)
+  module _ (e : Pair) (new : List Pair) (full : bytes_of e ≡ full_key t k) (value : e.1.items ≡ v) (free : IsBlocked bytes_of (full_key t k) ps → ⊥)
+      (is : IsNewList e ps new) where
+    done : IsPutAmong t k v ps new
+    done = put_among t k v e fits full value ps new are free is
 
-    between : FitsBetween t k v (take at es) [] (drop at es) e
-    between =
-        let low : AllByRecursion (λ r. stands_to t k r ≡ Less) (map record_of (take at es)) = subst (AllByRecursion (λ r. stands_to t k r ≡ Less)) (take-map record_of at es) gap.before in
-        let high : AllByRecursion (λ r. stands_to t k r ≡ Greater) (map record_of (drop at es)) = subst (AllByRecursion (λ r. stands_to t k r ≡ Greater)) (drop-map record_of at es) gap.behind in
-        let all = subst (AllByRecursion (λ r. r.tenant ≡ t → _)) (sym (take-append-drop at rs)) (no_conflict_with t k rs free) in
-        let is = full_record t k v e fits.tenant_fits full value in
-        record {
-          low = low;
-          here = tt;
-          high = high;
-          is = is;
-          full = full_is t k v e full is;
-          fits = fits;
-          before = new_behind t k v (map record_of (take at es)) low (subst (AllByRecursion _) (take-map record_of at es) (All-left _ (take at rs) (drop at rs) all));
-          behind = new_before t k v (map record_of (drop at es)) high (subst (AllByRecursion _) (drop-map record_of at es) (All-right _ (take at rs) (drop at rs) all));
-        }
+    pub put_keeps_order : ArePairs new
+    put_keeps_order = done.keeps
 
-    pub new_keeps : AreEntries (insert es at e)
-    new_keeps = put_keeps t k v (take at es) [] (drop at es) e (subst AreEntries parted are) between
+    pub new_placed : None ≡ lookup (is_full_key t k) ps → IsPlaced placed.New (records_of ps) t k v (records_of new)
+    new_placed none =
+        let there : at_key ≡ None = sym (ap (option_map (λ (w : Vec ℕ). w.items)) none ∙ found t k fits.tenant_fits ps are) in
+        let told = free_told t k fits.tenant_fits ps are.full are.records.keys_fit free in
+        (new_words at_key in_conflict there told, done.records_are ∙ new_left t (with_mine k v (own t (records_of ps))) (records_of ps) at_key in_conflict there told)
 
-    pub new_placed : IsPlaced placed.New (records_of es) t k v (records_of (insert es at e))
-    new_placed =
-        let mine : Records → Own = λ r. record { keys = with_pair k v (own t r).keys; numbers = (own t r).numbers } in
-        let left : records_of (insert es at e) ≡ with_own t (mine (records_of es)) (records_of es) =
-        subst (λ l. records_of (insert es at e) ≡ with_own t (mine (records_of l)) (records_of l)) (sym parted) (put_records t k v (take at es) [] (drop at es) e (subst AreEntries parted are) between) in (
-          new_words (value_at k (pairs_of t rs)) (has_conflict k (pairs_of t rs)) (gap_value gap) free,
-          left ∙ new_left t (mine (records_of es)) (records_of es) (value_at k (pairs_of t rs)) (has_conflict k (pairs_of t rs)) (gap_value gap) free,
-        )
-
-  module _ (m : Entry) (are : AreEntries es) (found : IsFoundAt t k rs at) (is : m ≡ get_or es at m) where
-    within : at < length es
-    within = let w = found.within in let same = length-map record_of es in omega arith
-
-    here : stands_to t k (record_of m) ≡ Equal
-    here = holds es at m within is found.found
-      where
-        holds : (xs : List Entry) (i : ℕ) (x : Entry) → i < length xs → x ≡ get_or xs i x → HoldsAt (λ r. stands_to t k r ≡ Equal) (map record_of xs) i → stands_to t k (record_of x) ≡ Equal
-        holds [] i x w e h = absurd (omega arith)
-        holds (y ∷ xs) zero x w e h = let same : y ≡ x = sym e in subst (λ z. stands_to t k (record_of z) ≡ Equal) same (h (record_of y))
-        holds (y ∷ xs) (suc i) x w e h = holds xs i x (omega arith) e h
-
-    low : AllByRecursion (λ r. stands_to t k r ≡ Less) (map record_of (take at es))
-    low = subst (AllByRecursion (λ r. stands_to t k r ≡ Less)) (take-map record_of at es) (before_found t k rs at are.records.keys_in_order found.within found.found)
-
-    high : AllByRecursion (λ r. stands_to t k r ≡ Greater) (map record_of (drop (at + 1) es))
-    high = subst (AllByRecursion (λ r. stands_to t k r ≡ Greater)) (drop-map record_of (at + 1) es) (behind_found t k rs at are.records.keys_in_order found.within found.found)
-
-    parts : es ≡ take at es ++ (m ∷ [] ++ drop (at + 1) es)
-    parts = around es at m within is
-
-    there : value_at k (pairs_of t rs) ≡ Some m.value.items
-    there =
-        let split : rs ≡ map record_of (take at es) ++ record_of m ∷ map record_of (drop (at + 1) es) = ap (map record_of) parts ∙ map-append record_of (take at es) (m ∷ drop (at + 1) es) in
-        ap (λ l. value_at k (pairs_of t l)) split ∙ value_there t k (map record_of (take at es)) (map record_of (drop (at + 1) es)) (record_of m) low here
-
-    pub present_value : Some m.value.items ≡ value_at k (own t (records_of es)).keys
-    present_value = sym there
-
-    module _ (e : Entry) (fits : KeyFits (key_made t (k, v))) (key : e.key.items ≡ m.key.items) (value : e.value.items ≡ v) where
-      old_full : e.key.items ≡ full_key t k
-      old_full =
-          let said = standing t k (record_of m) Equal here in
-          let full = All-at IsFull es at m are.full within in
-          let m_full : IsFull m = subst IsFull (sym is) full in
-          key ∙ m_full ∙ ap (λ t. full_key t (record_of m).key) said.0 ∙ ap (full_key t) said.1
-
-      old_between : FitsBetween t k v (take at es) (m ∷ []) (drop (at + 1) es) e
-      old_between =
-          let r = full_record t k v e fits.tenant_fits old_full value in
-          let order = subst (InOrder KeyComesBefore) (ap (map record_of) parts ∙ map-append record_of (take at es) (m ∷ drop (at + 1) es)) are.records.keys_in_order in
-          record {
-            low = low;
-            here = (here, tt);
-            high = high;
-            is = r;
-            full = full_is t k v e old_full r;
-            fits = fits;
-            before = same_behind t k v (map record_of (take at es)) (record_of m) here (InOrder-before KeyComesBefore (map record_of (take at es)) (map record_of (drop (at + 1) es)) (record_of m) order);
-            behind = same_before t k v (map record_of (drop (at + 1) es)) (record_of m) here (InOrder-behind KeyComesBefore (map record_of (take at es)) (map record_of (drop (at + 1) es)) (record_of m) order);
-          }
-
-      pub old_keeps : AreEntries (set es at e)
-      old_keeps = subst AreEntries (sym (set_around es at e within)) (put_keeps t k v (take at es) (m ∷ []) (drop (at + 1) es) e (subst AreEntries parts are) old_between)
-
-      pub old_placed : (old : List ℕ) → old ≡ m.value.items
-          → (name (codes "old") ∷ bytes old ∷ []) ∷ [] ≡ put_reply (value_at k (pairs_of t rs)) (has_conflict k (pairs_of t rs)) ∷ []
-      old_placed old same = rw (there, same) refl
-
-      pub old_changes : records_of (set es at e) ≡ with_changed t (if puts (value_at k (pairs_of t rs)) (has_conflict k (pairs_of t rs)) then Some (record { keys = with_pair k v (pairs_of t rs); numbers = [] }) else None) (records_of es)
-      old_changes =
-          let mine : Records → Own = λ r. record { keys = with_pair k v (own t r).keys; numbers = (own t r).numbers } in
-          let left : records_of (take at es ++ e ∷ drop (at + 1) es) ≡ with_own t (mine (records_of es)) (records_of es) =
-          subst (λ l. records_of (take at es ++ e ∷ drop (at + 1) es) ≡ with_own t (mine (records_of l)) (records_of l)) (sym parts) (put_records t k v (take at es) (m ∷ []) (drop (at + 1) es) e (subst AreEntries parts are) old_between) in
-          ap records_of (set_around es at e within) ∙ left ∙ old_left t (mine (records_of es)) (records_of es) (value_at k (pairs_of t rs)) (has_conflict k (pairs_of t rs)) m.value.items there
+    pub old_placed : (old : Vec ℕ) → Some old ≡ lookup (is_full_key t k) ps → IsPlaced (placed.Old old) (records_of ps) t k v (records_of new)
+    old_placed old some =
+        let there : at_key ≡ Some old.items = sym (ap (option_map (λ (w : Vec ℕ). w.items)) some ∙ found t k fits.tenant_fits ps are) in
+        (old_words old at_key in_conflict there, done.records_are ∙ old_left t (with_mine k v (own t (records_of ps))) (records_of ps) at_key in_conflict old.items there)

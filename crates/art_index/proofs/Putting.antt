@@ -1,4 +1,4 @@
--- What a put does to the records, where the entries around its place are known.
+-- What a put does to the records, where the pairs around its place are known.
 use Rattle.std.proofs.Common.{◌≡◌, ℕ, ◌≤◌, List, [], ◌∷◌, ◌++◌, refl, ap, sym, ◌∙◌, subst, Bool, true, false, cond, arith, append-nil, append_assoc, inl, inr, Some, None}
 use Rattle.std.specs.Prelude.{◌==◌, ◌||◌, nat_lt, map, filter, option_map, IsTrue}
 use Rattle.std.specs.List.{AllByRecursion, find}
@@ -8,14 +8,13 @@ use Rattle.std.proofs.lemmas.Bool.{eq-eqb, eqb-true, le-ltb, true≢false}
 use Rattle.std.proofs.lemmas.List.{map-append}
 use Rattle.std.proofs.lemmas.List.Elements.{filter-append}
 use Rattle.std.proofs.lemmas.Slice.Eq.{bytes_eq-Decides}
-use Rattle.art_index.specs.declared.entry.Entry.{Entry}
-use Rattle.art_index.specs.Keys.{is_below, is_proper_front, conflicts}
+use Rattle.art_bytes.specs.Keys.{is_below, is_proper_front, conflicts}
 use Rattle.art_index.specs.Records.{KeyRecord, own, with_own, InOrder, KeyComesBefore, KeyFits}
 use Rattle.art_index.specs.Replies.{value_at, has_conflict, with_pair}
-use Rattle.art_index.specs.Stored.{record_of, records_of, IsFull, AreEntries, stands_to}
+use Rattle.art_index.specs.Stored.{Pair, record_of, records_of, IsFull, ArePairs}
 use Rattle.art_index.proofs.Filters.{filter-all, filter-none, All-map, All-append, All-left, All-right}
 use Rattle.art_index.proofs.OwnLaws.{key_part, key_made, key_ascends, made_from_mine, three_parts, records_from_lists}
-use Rattle.art_index.proofs.Standing.{AllBefore, AllBehind, standing, not_below_itself, not_both_below}
+use Rattle.art_index.proofs.Standing.{AllBefore, AllBehind, stands_to, standing, not_below_itself, not_both_below}
 
 -- a tenant's pairs among some records
 abbrev pub pairs_of : ℕ → List KeyRecord → List (List ℕ × List ℕ)
@@ -239,8 +238,8 @@ module _ (t : ℕ) (k v : List ℕ) where
       step r m e f (inl lt) = inl (omega arith)
       step r m e f (inr up) = inr (sym e ∙ up.0, subst (λ x. IsTrue (is_below x r.key)) f up.1, subst (λ x. conflicts x r.key ≡ false) f up.2)
 
--- what is to be known of an entry that is put in the place of some others
-pub record FitsBetween (t : ℕ) (k v : List ℕ) (fs ms bs : List Entry) (e : Entry) : Type 0 where
+-- what is to be known of a pair that is put in the place of some others
+pub record FitsBetween (t : ℕ) (k v : List ℕ) (fs ms bs : List Pair) (e : Pair) : Type 0 where
   pub low : AllBefore t k (map record_of fs)
   pub here : AllByRecursion (λ r. stands_to t k r ≡ Equal) (map record_of ms)
   pub high : AllBehind t k (map record_of bs)
@@ -250,10 +249,10 @@ pub record FitsBetween (t : ℕ) (k v : List ℕ) (fs ms bs : List Entry) (e : E
   pub before : AllByRecursion (λ r. KeyComesBefore r (key_made t (k, v))) (map record_of fs)
   pub behind : AllByRecursion (λ r. KeyComesBefore (key_made t (k, v)) r) (map record_of bs)
 
-three_lists : (fs ms bs : List Entry) → map record_of (fs ++ (ms ++ bs)) ≡ map record_of fs ++ (map record_of ms ++ map record_of bs)
+three_lists : (fs ms bs : List Pair) → map record_of (fs ++ (ms ++ bs)) ≡ map record_of fs ++ (map record_of ms ++ map record_of bs)
 three_lists fs ms bs = map-append record_of fs (ms ++ bs) ∙ ap (λ l. map record_of fs ++ l) (map-append record_of ms bs)
 
-module _ (t : ℕ) (k v : List ℕ) (fs ms bs : List Entry) (e : Entry) (are : AreEntries (fs ++ (ms ++ bs))) (f : FitsBetween t k v fs ms bs e) where
+module _ (t : ℕ) (k v : List ℕ) (fs ms bs : List Pair) (e : Pair) (are : ArePairs (fs ++ (ms ++ bs))) (f : FitsBetween t k v fs ms bs e) where
   abbrev F : List KeyRecord
   F = map record_of fs
 
@@ -272,7 +271,7 @@ module _ (t : ℕ) (k v : List ℕ) (fs ms bs : List Entry) (e : Entry) (are : A
   new_list : map record_of (fs ++ e ∷ bs) ≡ F ++ key_made t (k, v) ∷ B
   new_list = map-append record_of fs (e ∷ bs) ∙ ap (λ r. F ++ r ∷ B) f.is
 
-  pub put_keeps : AreEntries (fs ++ e ∷ bs)
+  pub put_keeps : ArePairs (fs ++ e ∷ bs)
   put_keeps = record {
     full = All-append IsFull fs (e ∷ bs) (All-left IsFull fs (ms ++ bs) are.full) (f.full, All-right IsFull ms bs (All-right IsFull fs (ms ++ bs) are.full));
     records = record {

@@ -7,10 +7,9 @@ use Rattle.art_index.specs.Reading.{command_of}
 use Rattle.art_index.specs.Records.{Records}
 use Rattle.art_index.specs.Replies.{reply_to, records_after, command_reply, command_after}
 use Rattle.art_index.specs.Outcome.{answer, left_by}
-use Rattle.art_index.specs.Stored.{IsPlaced, IsDone, placed_words, found_no_memory, records_of}
-use Rattle.art_index.specs.declared.entry.Entry.{Entry}
-use Rattle.art_index.specs.declared.entry.Placed.{Placed}
-use Rattle.art_index.specs.declared.entry.Placed.TheVariants as placed
+use Rattle.art_index.specs.Stored.{IsPlaced, IsDone, placed_words, found_no_memory, Pair, records_of}
+use Rattle.art_index.specs.declared.placed.Placed.{Placed}
+use Rattle.art_index.specs.declared.placed.Placed.TheVariants as placed
 
 reply_is : (o : Option Command) (r : Records) (line : List ℕ) → o ≡ command_of line → flat_map line_of (command_reply o r) ≡ reply_to r line
 unfolding reply_to
@@ -51,10 +50,10 @@ put_done (placed.Old o) old new t k v h = h
 put_done placed.New old new t k v h = h
 put_done placed.Conflict old new t k v h = h
 
--- what is written of the entries, where these stand for the records
-pub told_of : (held es : List Entry) (r : Records) (c : Command) (line : List ℕ) → Some c ≡ command_of line → es ≡ held → records_of held ≡ r
-    → flat_map line_of (command_reply (Some c) (records_of es)) ≡ reply_to r line
-told_of held es r c line e all view = ap (λ x. flat_map line_of (command_reply (Some c) x)) (ap records_of all ∙ view) ∙ reply_is (Some c) r line e
+-- what is written of some pairs, where these stand for the records
+pub told_of : (ps : List Pair) (r : Records) (c : Command) (line : List ℕ) → Some c ≡ command_of line → records_of ps ≡ r
+    → flat_map line_of (command_reply (Some c) (records_of ps)) ≡ reply_to r line
+told_of ps r c line e view = ap (λ x. flat_map line_of (command_reply (Some c) x)) view ∙ reply_is (Some c) r line e
 
 pub bad_told : (r : Records) (line : List ℕ) → None ≡ command_of line → line_of (name (codes "bad") ∷ []) ≡ reply_to r line
 bad_told r line e = told_once (name (codes "bad") ∷ []) None r line e refl

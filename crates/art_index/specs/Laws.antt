@@ -2,7 +2,8 @@
 use Rattle.std.specs.Prelude.{◌≡◌, ◌≢◌, ℕ, ◌^◌, ◌<◌, ◌==◌, ◌||◌, ◌&&◌, ◌↔◌, nat_lt, List, Some}
 use Rattle.art_index.specs.Commands.{Command, Spells}
 use Rattle.art_index.specs.Reading.{command_of}
-use Rattle.art_index.specs.Keys.{is_below, conflicts, full_key}
+use Rattle.art_bytes.specs.Keys.{is_below, conflicts}
+use Rattle.art_index.specs.Keys.{full_key}
 use Rattle.art_index.specs.Records.{Own, Records, AreRecords, own, with_own}
 
 -- what is put in place for a tenant is what it holds then

@@ -6,7 +6,7 @@ use Rattle.std.specs.List.{AllByRecursion}
 use Rattle.hex.specs.Hex.{IsBytes}
 use Rattle.art_index.specs.Words.{text_of}
 use Rattle.art_index.specs.Commands.{put_words, nput_words}
-use Rattle.art_index.specs.Keys.{is_below, conflicts}
+use Rattle.art_bytes.specs.Keys.{is_below, conflicts}
 
 -- what one tenant holds: values under keys, and values under numbers, both ascending
 pub record Own : Type 0 where

@@ -6,7 +6,7 @@ use Rattle.std.specs.Str.{bytes_eq}
 use Rattle.art_index.specs.Words.{Word, name, natural, bytes, line_of}
 use Rattle.art_index.specs.Commands.{Request, put, get, Command, of_tenant, dump, put_words, nput_words}
 use Rattle.art_index.specs.Reading.{command_of}
-use Rattle.art_index.specs.Keys.{is_below, conflicts}
+use Rattle.art_bytes.specs.Keys.{is_below, conflicts}
 use Rattle.art_index.specs.Records.{Own, Records, own, with_own}
 
 -- the value at a key

@@ -1,61 +1,45 @@
--- What the entries of an index stand for, and what its parts say of them.
-use Rattle.std.specs.Prelude.{◌≡◌, ℕ, ◌<◌, ◌≤◌, ◌==◌, ◌&&◌, Bool, true, false, List, [], ◌∷◌}
-use Rattle.std.specs.Prelude.{length, map, take, drop, codes, Some}
+-- What the map of an index stands for, and what the parts of an index say of it.
+use Rattle.std.specs.Prelude.{◌≡◌, ℕ, Bool, true, false, List, [], ◌∷◌, map, take, drop, codes, Some}
+use Rattle.std.specs.Global.{Vec}
 use Rattle.std.specs.Int.{from_be_bytes, w32}
-use Rattle.std.specs.List.{AllByRecursion, HoldsAt}
-use Rattle.std.specs.declared.cmp.Ordering.{Ordering}
-use Rattle.std.specs.declared.cmp.Ordering.TheVariants.{Less, Equal, Greater}
-use Rattle.std.specs.Ordering.{nat_cmp, ordering_then}
-use Rattle.std.specs.Cmp.Lexicographic.{slice_cmp}
-use Rattle.art_index.specs.declared.entry.Entry.{Entry}
-use Rattle.art_index.specs.declared.entry.Placed.{Placed}
-use Rattle.art_index.specs.declared.entry.Placed.TheVariants as placed
+use Rattle.std.specs.List.{AllByRecursion}
+use Rattle.art_index.specs.declared.placed.Placed.{Placed}
+use Rattle.art_index.specs.declared.placed.Placed.TheVariants as placed
 use Rattle.art_index.specs.Words.{Word, name, bytes}
 use Rattle.art_index.specs.Commands.{put, Command}
-use Rattle.art_index.specs.Keys.{conflicts, full_key}
+use Rattle.art_index.specs.Keys.{full_key}
 use Rattle.art_index.specs.Records.{KeyRecord, Records, AreRecords, own}
 use Rattle.art_index.specs.Replies.{own_reply, own_after, with_changed, command_reply, command_after}
 
--- the record of an entry: its tenant is the first four bytes of the full key, its key the others
-abbrev pub record_of : Entry → KeyRecord
-record_of e = record {
-  tenant = from_be_bytes w32 (take 4 e.key.items);
-  key = drop 4 e.key.items;
-  value = e.value.items;
+-- a value under a full key
+abbrev pub Pair : Type 0
+Pair = Vec ℕ × Vec ℕ
+
+-- the record of a pair: its tenant is the first four bytes of the full key, its key the others
+abbrev pub record_of : Pair → KeyRecord
+record_of p = record {
+  tenant = from_be_bytes w32 (take 4 p.0.items);
+  key = drop 4 p.0.items;
+  value = p.1.items;
 }
 
--- the records of some entries
-abbrev pub records_of : List Entry → Records
-records_of es = record { keys = map record_of es; numbers = [] }
+-- the records of some pairs
+abbrev pub records_of : List Pair → Records
+records_of ps = record { keys = map record_of ps; numbers = [] }
 
--- an entry's key is the full key of its record
-abbrev pub IsFull : Entry → Type 0
-IsFull e = e.key.items ≡ full_key (record_of e).tenant (record_of e).key
+-- bytes are the full key of the tenant of their first four, and of the others
+abbrev pub IsFullKey : List ℕ → Type 0
+IsFullKey full = full ≡ full_key (from_be_bytes w32 (take 4 full)) (drop 4 full)
 
--- Entries as an index holds them: under full keys, and their records in order, without conflicts, each of bytes and no
+-- a pair stands under the full key of its record
+abbrev pub IsFull : Pair → Type 0
+IsFull p = IsFullKey p.0.items
+
+-- Pairs as an index holds them: under full keys, and their records in order, without conflicts, each of bytes and no
 -- longer than a line.
-pub record AreEntries (es : List Entry) : Type 0 where
-  pub full : AllByRecursion IsFull es
-  pub records : AreRecords (records_of es)
-
--- how a record stands to a tenant's key: tenants compare first, then keys
-abbrev pub stands_to : ℕ → List ℕ → KeyRecord → Ordering
-stands_to tenant key r = ordering_then (nat_cmp r.tenant tenant) (slice_cmp nat_cmp r.key key)
-
--- whether a record is the tenant's, and its key conflicts with a key
-abbrev pub stands_against : KeyRecord → ℕ → List ℕ → Bool
-stands_against r tenant key = (r.tenant == tenant) && conflicts key r.key
-
--- At a place is a record at a tenant's key.
-pub record IsFoundAt (tenant : ℕ) (key : List ℕ) (rs : List KeyRecord) (at : ℕ) : Type 0 where
-  pub within : at < length rs
-  pub found : HoldsAt (λ r. stands_to tenant key r ≡ Equal) rs at
-
--- The records before a place stand before a tenant's key, and the others behind it.
-pub record IsGapAt (tenant : ℕ) (key : List ℕ) (rs : List KeyRecord) (at : ℕ) : Type 0 where
-  pub within : at ≤ length rs
-  pub before : AllByRecursion (λ r. stands_to tenant key r ≡ Less) (take at rs)
-  pub behind : AllByRecursion (λ r. stands_to tenant key r ≡ Greater) (drop at rs)
+pub record ArePairs (ps : List Pair) : Type 0 where
+  pub full : AllByRecursion IsFull ps
+  pub records : AreRecords (records_of ps)
 
 -- the words that tell how a put went
 abbrev pub placed_words : Placed → List Word

@@ -5,72 +5,66 @@ ghost use Rattle.art_index.specs.Commands.{Spells};
 ghost use Rattle.art_index.specs.Replies.{command_reply};
 ghost use Rattle.art_index.specs.Faults.{Writes};
 ghost use Rattle.art_index.specs.Parsed.{looks_up, changes, asks_all};
-ghost use Rattle.art_index.specs.Stored.{records_of, AreEntries, IsDone};
+ghost use Rattle.art_index.specs.Stored.{records_of, ArePairs, IsDone};
 
 use crate::command::fields::Fields;
 use crate::command::word::{Change, LookUp, Whole};
-use crate::entries::{put_entry, value_of, write_entries};
-use crate::entry::{Entry, Placed};
+use crate::placed::Placed;
+use crate::records::{put_value, value_of, write_records};
 use crate::reply::write_value;
 use crate::stream::{Sink, WriteFailed};
+use art_map::TreeMap;
 use std::alloc::Global;
 
 /// Answers a look-up, which changes nothing.
-pub(crate) fn look_up<W: Sink>(
-    entries: &[Entry],
+pub(crate) fn look_up<W: Sink, const PREFIX_LEN: usize>(
+    records: &TreeMap<Vec<u8>, Vec<u8>, PREFIX_LEN>,
     word: LookUp,
     fields: &Fields,
     sink: &mut W,
 ) -> Result<(), WriteFailed>
     requires open { W.has_failed sink.old ≡ false }
-    requires ordered { AreEntries entries.now }
+    requires held { ArePairs records.now.pairs }
     ensures { Writes result (W.taken sink.old) (W.taken sink.new)
-        (flat_map line_of (command_reply (Some (looks_up word fields.now)) (records_of entries.now)))
+        (flat_map line_of (command_reply (Some (looks_up word fields.now)) (records_of records.now.pairs)))
         (W.has_failed sink.new) }
 {
     match word {
-        LookUp::Get => write_value(sink, value_of(entries, fields.tenant(), fields.key())),
+        LookUp::Get => write_value(sink, value_of(records, fields)),
     }
 }
 
 /// Makes a change, and answers how it went. Where that was for want of memory, nothing is changed.
-pub(crate) fn change(
+pub(crate) fn change<const PREFIX_LEN: usize>(
     alloc: Global,
-    entries: &mut Vec<Entry>,
+    records: &mut TreeMap<Vec<u8>, Vec<u8>, PREFIX_LEN>,
     word: Change,
     fields: &Fields,
 ) -> Placed
-    requires ordered { AreEntries entries.old.items }
+    requires held { ArePairs records.old.pairs }
     requires spelled { (line : List ℕ) × Spells line (changes word fields.now) }
-    ensures ordered { AreEntries entries.new.items }
-    ensures done { IsDone result (changes word fields.now) (records_of entries.old.items)
-        (records_of entries.new.items) }
+    ensures held { ArePairs records.new.pairs }
+    ensures done { IsDone result (changes word fields.now) (records_of records.old.pairs)
+        (records_of records.new.pairs) }
 {
     match word {
-        Change::Put => put_entry(
-            alloc,
-            entries,
-            fields.tenant(),
-            fields.key(),
-            fields.full_key(),
-            fields.value(),
-        ),
+        Change::Put => put_value(alloc, records, fields),
     }
 }
 
 /// Answers what is asked of all records.
-pub(crate) fn tell_all<W: Sink>(
-    entries: &[Entry],
+pub(crate) fn tell_all<W: Sink, const PREFIX_LEN: usize>(
+    records: &TreeMap<Vec<u8>, Vec<u8>, PREFIX_LEN>,
     word: Whole,
     sink: &mut W,
 ) -> Result<(), WriteFailed>
     requires open { W.has_failed sink.old ≡ false }
-    requires ordered { AreEntries entries.now }
+    requires held { ArePairs records.now.pairs }
     ensures { Writes result (W.taken sink.old) (W.taken sink.new)
-        (flat_map line_of (command_reply (Some (asks_all word)) (records_of entries.now)))
+        (flat_map line_of (command_reply (Some (asks_all word)) (records_of records.now.pairs)))
         (W.has_failed sink.new) }
 {
     match word {
-        Whole::Dump => write_entries(entries, sink),
+        Whole::Dump => write_records(records, sink),
     }
 }

@@ -1,15 +1,15 @@
 //! An index, and what a line does to it.
-ghost use Rattle.std.specs.Prelude.{◌≡◌, ◌+◌, ◌<◌, ◌++◌, take, OnErr, IfOk, IfErr, is_err, true, false, Some};
+ghost use Rattle.std.specs.Prelude.{◌≡◌, ◌+◌, ◌<◌, ◌++◌, map, take, OnErr, IfOk, IfErr, is_err, true, false, Some};
 ghost use Rattle.std.specs.Prelude.{None};
 
 use crate::carry::{change, look_up, tell_all};
 use crate::command::fields::Fields;
 use crate::command::read_line;
 use crate::command::word::Word;
-use crate::entries::write_placed;
-use crate::entry::Entry;
+use crate::records::write_placed;
 use crate::reply::write_piece;
 use crate::stream::{Sink, WriteFailed};
+use art_map::TreeMap;
 use std::alloc::Global;
 use std::marker::Model;
 use thiserror::Error;
@@ -41,7 +41,7 @@ impl From<WriteFailed> for RunFault {
 pub struct Handled {
     /// Whether the reply was `memory`.
     pub memory: bool,
-    /// The number of nodes read. The records stand in no nodes yet, so it is 0.
+    /// The number of nodes read. They are not counted yet, so it is 0.
     pub visits: u64,
 }
 
@@ -49,7 +49,7 @@ pub struct Handled {
 #[derive(Drop)]
 pub struct Index<const PREFIX_LEN: usize> {
     alloc: Global,
-    entries: Vec<Entry>,
+    records: TreeMap<Vec<u8>, Vec<u8>, PREFIX_LEN>,
     fields: Fields,
 }
 
@@ -58,16 +58,17 @@ impl<const PREFIX_LEN: usize> Model for Index<PREFIX_LEN> {
 
     ghost Value = { Records };
 
-    ghost use Rattle.art_index.specs.Stored.{records_of, AreEntries};
+    ghost use Rattle.art_index.specs.Stored.{records_of, ArePairs};
 
-    ghost view = { λ s. records_of s.entries.items };
+    ghost view = { λ s. records_of s.records.pairs };
 
-    ghost invariant = { λ s. AreEntries s.entries.items };
+    ghost invariant = { λ s. ArePairs s.records.pairs };
 }
 
 impl<const PREFIX_LEN: usize> Index<PREFIX_LEN> {
     ghost use Rattle.art_index.specs.Words.{line_of};
     ghost use Rattle.art_index.specs.Commands.{put, get};
+    ghost use Rattle.art_index.specs.Keys.{full_pair};
     ghost use Rattle.art_index.specs.Records.{AreRecords, no_records, KeyFits, own};
     ghost use Rattle.art_index.specs.Replies.{own_reply};
     ghost use Rattle.art_index.specs.Refusals.{LineMayRefuse};
@@ -81,7 +82,7 @@ impl<const PREFIX_LEN: usize> Index<PREFIX_LEN> {
     {
         Index {
             alloc,
-            entries: Vec::new(alloc),
+            records: TreeMap::with_prefix_len(alloc),
             fields: Fields::new(),
         }
     }
@@ -91,7 +92,14 @@ impl<const PREFIX_LEN: usize> Index<PREFIX_LEN> {
     pub fn holds_records(&self)
         ensures { AreRecords self.now }
     {
-        let _entries = &self.entries;
+        let _records = &self.records;
+    }
+
+    /// The records, each value under its full key: four bytes of the tenant, the highest first, and then its key.
+    pub fn byte_map(&self) -> &TreeMap<Vec<u8>, Vec<u8>, PREFIX_LEN>
+        ensures { map (λ p. (p.0.items, p.1.items)) result.now.pairs ≡ map full_pair self.now.keys }
+    {
+        &self.records
     }
 
     /// Carries out one line, without its newline, and writes its whole reply.
@@ -110,13 +118,13 @@ impl<const PREFIX_LEN: usize> Index<PREFIX_LEN> {
     {
         let mut memory = false;
         match read_line(line, &mut self.fields) {
-            Some(Word::LookUp(word)) => look_up(&self.entries, word, &self.fields, sink)?,
+            Some(Word::LookUp(word)) => look_up(&self.records, word, &self.fields, sink)?,
             Some(Word::Change(word)) => {
-                let done = change(self.alloc, &mut self.entries, word, &self.fields);
+                let done = change(self.alloc, &mut self.records, word, &self.fields);
                 memory = done.is_memory();
                 write_placed(sink, &done)?;
             }
-            Some(Word::Whole(word)) => tell_all(&self.entries, word, sink)?,
+            Some(Word::Whole(word)) => tell_all(&self.records, word, sink)?,
             None => write_piece(sink, b"bad\n")?,
         }
         Ok(Handled { memory, visits: 0 })

@@ -12,12 +12,12 @@
 mod buffered;
 mod carry;
 mod command;
-mod entries;
-mod entry;
 mod from_reader;
 mod history;
 mod index;
 mod laws;
+mod placed;
+mod records;
 mod reply;
 mod running;
 mod stream;

@@ -6,7 +6,7 @@ use crate::laws;
 use crate::running::run;
 use crate::stream::{Sink, Source};
 use crate::to_writer::ToWriter;
-use std::alloc::Global;
+use std::alloc::{AllocError, Global};
 use std::io;
 use std::io::{Read, Write};
 use std::process::Abort;
@@ -89,6 +89,7 @@ fn is_answered<const PREFIX_LEN: usize>(
     text: &[u8],
     wanted: &[u8],
 ) {
+    assert!(rt; PREFIX_LEN <= 16);
     for first in 1..text.len().max(1) {
         let mut index: Index<PREFIX_LEN> = Index::new(alloc);
         let mut out = make_kept(alloc, usize::MAX);
@@ -162,6 +163,47 @@ fn answers_a_long_line_once(rt: HostRuntime) -> Result<(), Fail> {
     }
     text.extend_from_slice(b"get 1 00\n")?;
     is_answered::<16>(&rt, rt.alloc(), text.as_slice(), b"new\nbad\nnone\n");
+    Ok(())
+}
+
+/// Adds a word, then runs of digits, each a pair of digits so many times, and then an end.
+fn add_line(
+    text: &mut Vec<u8>,
+    word: &[u8],
+    runs: [(usize, &[u8]); 4],
+    end: &[u8],
+) -> Result<(), AllocError> {
+    text.extend_from_slice(word)?;
+    for (count, digits) in runs {
+        for _ in 0..count {
+            text.extend_from_slice(digits)?;
+        }
+    }
+    text.extend_from_slice(end)
+}
+
+#[test]
+fn keys_have_long_fronts_in_common(rt: HostRuntime) -> Result<(), Fail> {
+    let keys: [[(usize, &[u8]); 4]; 5] = [
+        [(40, b"aa"), (1, b"01"), (0, b""), (0, b"")],
+        [(40, b"aa"), (1, b"02"), (0, b""), (0, b"")],
+        [(20, b"aa"), (1, b"bb"), (0, b""), (0, b"")],
+        [(25, b"aa"), (1, b"cc"), (14, b"aa"), (1, b"01")],
+        [(20, b"aa"), (1, b"cc"), (19, b"aa"), (1, b"01")],
+    ];
+    let mut text = Vec::new(rt.alloc());
+    for key in &keys[..3] {
+        add_line(&mut text, b"put 1 ", *key, b" 61\n")?;
+    }
+    for key in keys {
+        add_line(&mut text, b"get 1 ", key, b"\n")?;
+    }
+    is_answered_by_all(
+        &rt,
+        rt.alloc(),
+        text.as_slice(),
+        b"new\nnew\nnew\nis 61\nis 61\nis 61\nnone\nnone\n",
+    );
     Ok(())
 }
 
@@ -421,6 +463,7 @@ fn handles_a_line(rt: HostRuntime) -> Result<(), Fail> {
     assert!(rt; !sink.failed());
     index.holds_records();
     assert_eq!(rt; out.bytes.as_slice(), b"new\n".as_slice());
+    assert_eq!(rt; index.byte_map().len(), 1);
     laws::own_reads_back();
     laws::others_are_untouched();
     laws::own_is_in_place();

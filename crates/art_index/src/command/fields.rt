@@ -2,7 +2,7 @@
 //!
 //! A signed number is to be read here too, beside the tenant: into a field `number: i64`, by the same loop over digits
 //! behind a `-`; and the second of two bounds into the room of a value.
-ghost use Rattle.std.specs.Prelude.{◌≡◌, ◌+◌, ◌/◌, ◌<◌, ◌≤◌, length, take, drop, IsSome, true};
+ghost use Rattle.std.specs.Prelude.{◌≡◌, ◌+◌, ◌/◌, ◌^◌, ◌<◌, ◌≤◌, length, take, drop, IsSome, true};
 ghost use Rattle.std.specs.Int.{from_be_bytes, w32};
 ghost use Rattle.art_index.specs.Keys.{full_key as full_key_of};
 ghost use Rattle.art_index.specs.Reading.{tenant_in, bytes_in};
@@ -59,7 +59,8 @@ impl Fields {
 
     /// The tenant's four bytes, and then the key.
     pub(crate) fn full_key(&self) -> &[u8]
-        ensures { result.now ≡ full_key_of (tenant_of self.now) (key_of self.now) }
+        ensures value { result.now ≡ full_key_of (tenant_of self.now) (key_of self.now) }
+        ensures tenant { tenant_of self.now < 2 ^ 32 }
     {
         split_of(self.full_key.as_slice())
     }
@@ -113,6 +114,7 @@ fn split_of(full: &[u8]) -> &[u8]
     requires { 4 ≤ length full.now }
     ensures same { result.now ≡ full.now }
     ensures split { result.now ≡ full_key_of (from_be_bytes w32 (take 4 full.now)) (drop 4 full.now) }
+    ensures tenant { from_be_bytes w32 (take 4 full.now) < 2 ^ 32 }
 {
     full
 }

@@ -33,20 +33,23 @@ impl<K: AsBytes, V, const PREFIX_LEN: usize> TreeMap<K, V, PREFIX_LEN> {
     ghost use Rattle.art_map.specs.Changes.{IsTryRefused};
     ghost use Rattle.art_operations.specs.Pairs.{IsPlaced};
 
-    // Where a key goes. It is refused where the key is a front of a stored key, or a stored key is one of it.
-    fn place(&self, key: &K) -> Result<Option<InsertPoint>, PrefixConflict>
-        ensures placed { IsPlaced K.bytes PREFIX_LEN self.now.nodes (K.bytes key.now) self.now.pairs result }
-        ensures stored { HasKey (key_of K.bytes) (K.bytes key.now) self.now.pairs → IsOk result }
+    /// Finds where a key with the query's bytes goes, for `put_at`. It is refused where the key is a front of a stored
+    /// key, or a stored key is one of it. It takes no memory.
+    pub fn place<Q: AsBytes>(&self, key: &Q) -> Result<Option<InsertPoint>, PrefixConflict>
+        ensures placed { IsPlaced K.bytes PREFIX_LEN self.now.nodes (Q.bytes key.now) self.now.pairs result }
+        ensures stored { HasKey (key_of K.bytes) (Q.bytes key.now) self.now.pairs → IsOk result }
         ensures keys { AllByRecursion (λ p. K.is_key p.0) self.now.pairs }
-        ensures key { K.is_key key.now }
+        ensures key { Q.is_key key.now }
     {
         // By value an option of a name counts as moved, so a copy goes in.
         let root = self.root;
         find_place(&self.arena, root, key.as_bytes())
     }
 
-    // Puts a pair in at the place of its key, and answers the value that the key had.
-    fn put_at(
+    /// Puts a pair in at the place that was found for its key, in the place of the one whose key has the same bytes if
+    /// there is one, and answers the value of that one. It is refused only where there is no memory. The pair is then
+    /// handed back, and the map is as it was. A key that is stored is never refused.
+    pub fn put_at(
         &mut self,
         place: Option<InsertPoint>,
         key: K,

@@ -1,4 +1,4 @@
-use Rattle.std.proofs.Common.{◌≡◌, ◌++◌, ap, sym, ◌∙◌, false}
+use Rattle.std.proofs.Common.{rules, ◌≡◌, ◌++◌, ap, sym, ◌∙◌, false}
 use Rattle.std.proofs.lemmas.Bool.{false≢true}
 use Rattle.std.specs.Prelude.{Some}
 use Rattle.art_index.specs.Reading.{command_of}
@@ -15,7 +15,7 @@ pub returns-in_ok-look_up-in-Some-LookUp-clause-told : goal.returns-in_ok-look_u
 returns-in_ok-look_up-in-Some-LookUp-clause-told g c =
     let F = c.read_line.new.fields in let w = c.in-Some-LookUp.word in
     let meant : Some (looks_up w F) ≡ command_of c.args.line.now = ap (λ x. Some (command_with x F)) (sym c.in-Some-LookUp.field-0-is) ∙ c.in-Some-LookUp.ensures in
-    c.in_ok-look_up-in-Some-LookUp.ensures.ok ∙ ap (λ t. g.W.Sink.taken c.args.sink.now ++ t) (told_of _ _ c.args.self.now (looks_up w F) c.args.line.now meant c.deref.ensures.value c.self.view_is)
+    c.in_ok-look_up-in-Some-LookUp.ensures.ok ∙ ap (λ t. g.W.Sink.taken c.args.sink.now ++ t) (told_of _ c.args.self.now (looks_up w F) c.args.line.now meant c.self.view_is)
 
 pub returns-in_ok-look_up-in-Some-LookUp-clause-left : goal.returns-in_ok-look_up-in-Some-LookUp-clause-left
 returns-in_ok-look_up-in-Some-LookUp-clause-left g c =
@@ -27,7 +27,7 @@ pub returns-in_err-look_up-in-Some-LookUp-clause-cut : goal.returns-in_err-look_
 returns-in_err-look_up-in-Some-LookUp-clause-cut g c =
     let F = c.read_line.new.fields in let w = c.in-Some-LookUp.word in
     let meant : Some (looks_up w F) ≡ command_of c.args.line.now = ap (λ x. Some (command_with x F)) (sym c.in-Some-LookUp.field-0-is) ∙ c.in-Some-LookUp.ensures in
-    let told = told_of _ _ c.args.self.now (looks_up w F) c.args.line.now meant c.deref.ensures.value c.self.view_is in
+    let told = told_of _ c.args.self.now (looks_up w F) c.args.line.now meant c.self.view_is in
     let left = c.self.view_is ∙ same_left c.args.self.now (looks_up w F) c.args.line.now meant (look_leaves F w c.args.self.now) in
     when_err _ (cut_line false _ _ _ _ _ _ told c.in_err-look_up-in-Some-LookUp.ensures.cut left (λ e. absurd (false≢true e)))
 
@@ -35,7 +35,7 @@ pub returns-in_ok-tell_all-in-Some-Whole-clause-told : goal.returns-in_ok-tell_a
 returns-in_ok-tell_all-in-Some-Whole-clause-told g c =
     let F = c.read_line.new.fields in let w = c.in-Some-Whole.word in
     let meant : Some (asks_all w) ≡ command_of c.args.line.now = ap (λ x. Some (command_with x F)) (sym c.in-Some-Whole.field-0-is) ∙ c.in-Some-Whole.ensures in
-    c.in_ok-tell_all-in-Some-Whole.ensures.ok ∙ ap (λ t. g.W.Sink.taken c.args.sink.now ++ t) (told_of _ _ c.args.self.now (asks_all w) c.args.line.now meant c.deref-in-Some-Whole.ensures.value c.self.view_is)
+    c.in_ok-tell_all-in-Some-Whole.ensures.ok ∙ ap (λ t. g.W.Sink.taken c.args.sink.now ++ t) (told_of _ c.args.self.now (asks_all w) c.args.line.now meant c.self.view_is)
 
 pub returns-in_ok-tell_all-in-Some-Whole-clause-left : goal.returns-in_ok-tell_all-in-Some-Whole-clause-left
 returns-in_ok-tell_all-in-Some-Whole-clause-left g c =
@@ -47,27 +47,27 @@ pub returns-in_err-tell_all-in-Some-Whole-clause-cut : goal.returns-in_err-tell_
 returns-in_err-tell_all-in-Some-Whole-clause-cut g c =
     let F = c.read_line.new.fields in let w = c.in-Some-Whole.word in
     let meant : Some (asks_all w) ≡ command_of c.args.line.now = ap (λ x. Some (command_with x F)) (sym c.in-Some-Whole.field-0-is) ∙ c.in-Some-Whole.ensures in
-    let told = told_of _ _ c.args.self.now (asks_all w) c.args.line.now meant c.deref-in-Some-Whole.ensures.value c.self.view_is in
+    let told = told_of _ c.args.self.now (asks_all w) c.args.line.now meant c.self.view_is in
     let left = c.self.view_is ∙ same_left c.args.self.now (asks_all w) c.args.line.now meant (all_leaves w c.args.self.now) in
     when_err _ (cut_line false _ _ _ _ _ _ told c.in_err-tell_all-in-Some-Whole.ensures.cut left (λ e. absurd (false≢true e)))
 
-pub change-done-requires-clause-spelled : goal.change-done-requires-clause-spelled
-change-done-requires-clause-spelled g c =
+pub change-done-requires : goal.change-done-requires
+change-done-requires g c =
     let F = c.read_line.new.fields in let w = c.in-Some-Change.word in
     let meant : Some (changes w F) ≡ command_of c.args.line.now = ap (λ x. Some (command_with x F)) (sym c.in-Some-Change.field-0-is) ∙ c.in-Some-Change.ensures in
-    (c.args.line.now, spells c.args.line.now (changes w F) (sym meant))
+    (search rules, (c.self.invariant, (c.args.line.now, spells c.args.line.now (changes w F) (sym meant))))
 
 pub returns-in_ok-write_placed-in-Some-Change-clause-told : goal.returns-in_ok-write_placed-in-Some-Change-clause-told
 returns-in_ok-write_placed-in-Some-Change-clause-told g c =
     let F = c.read_line.new.fields in let w = c.in-Some-Change.word in
     let meant : Some (changes w F) ≡ command_of c.args.line.now = ap (λ x. Some (command_with x F)) (sym c.in-Some-Change.field-0-is) ∙ c.in-Some-Change.ensures in
-    c.in_ok-write_placed-in-Some-Change.ensures.ok ∙ ap (λ t. g.W.Sink.taken c.args.sink.now ++ t) (done_told c.change-done.result c.is_memory-memory.result (changes w F) _ _ (records_of c.change-done.new.entries.items) c.args.line.now c.is_memory-memory.ensures c.self.view_is meant c.change-done.ensures.done)
+    c.in_ok-write_placed-in-Some-Change.ensures.ok ∙ ap (λ t. g.W.Sink.taken c.args.sink.now ++ t) (done_told c.change-done.result c.is_memory-memory.result (changes w F) _ _ (records_of c.change-done.new.records.pairs) c.args.line.now c.is_memory-memory.ensures c.self.view_is meant c.change-done.ensures.done)
 
 pub returns-in_ok-write_placed-in-Some-Change-clause-left : goal.returns-in_ok-write_placed-in-Some-Change-clause-left
 returns-in_ok-write_placed-in-Some-Change-clause-left g c =
     let F = c.read_line.new.fields in let w = c.in-Some-Change.word in
     let meant : Some (changes w F) ≡ command_of c.args.line.now = ap (λ x. Some (command_with x F)) (sym c.in-Some-Change.field-0-is) ∙ c.in-Some-Change.ensures in
-    let left = done_left c.change-done.result c.is_memory-memory.result (changes w F) _ _ (records_of c.change-done.new.entries.items) c.args.line.now c.is_memory-memory.ensures c.self.view_is meant c.change-done.ensures.done in
+    let left = done_left c.change-done.result c.is_memory-memory.result (changes w F) _ _ (records_of c.change-done.new.records.pairs) c.args.line.now c.is_memory-memory.ensures c.self.view_is meant c.change-done.ensures.done in
     elim c.match-done-2.branch [ in-Old-2 w ↦ w.self-is ∙ left | in-New-2 w ↦ w.self-is ∙ left ]
 
 pub returns-in_ok-write_placed-in-Some-Change-clause-lawful : goal.returns-in_ok-write_placed-in-Some-Change-clause-lawful
@@ -80,8 +80,8 @@ pub returns-in_err-write_placed-in-Some-Change-clause-cut : goal.returns-in_err-
 returns-in_err-write_placed-in-Some-Change-clause-cut g c =
     let F = c.read_line.new.fields in let w = c.in-Some-Change.word in
     let meant : Some (changes w F) ≡ command_of c.args.line.now = ap (λ x. Some (command_with x F)) (sym c.in-Some-Change.field-0-is) ∙ c.in-Some-Change.ensures in
-    let told = done_told c.change-done.result c.is_memory-memory.result (changes w F) _ _ (records_of c.change-done.new.entries.items) c.args.line.now c.is_memory-memory.ensures c.self.view_is meant c.change-done.ensures.done in
-    let left = done_left c.change-done.result c.is_memory-memory.result (changes w F) _ _ (records_of c.change-done.new.entries.items) c.args.line.now c.is_memory-memory.ensures c.self.view_is meant c.change-done.ensures.done in
+    let told = done_told c.change-done.result c.is_memory-memory.result (changes w F) _ _ (records_of c.change-done.new.records.pairs) c.args.line.now c.is_memory-memory.ensures c.self.view_is meant c.change-done.ensures.done in
+    let left = done_left c.change-done.result c.is_memory-memory.result (changes w F) _ _ (records_of c.change-done.new.records.pairs) c.args.line.now c.is_memory-memory.ensures c.self.view_is meant c.change-done.ensures.done in
     when_err _ (cut_line c.is_memory-memory.result _ _ _ _ _ _ told c.in_err-write_placed-in-Some-Change.ensures.cut left
     (λ _. (changes w F, spells c.args.line.now (changes w F) (sym meant), change_may F w c.args.self.now)))
 

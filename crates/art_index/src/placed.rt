@@ -1,11 +1,4 @@
-//! What the sorted vector holds, and how a put into it went.
-
-/// A record under its full key: four bytes of the tenant, the highest first, then the tenant's key.
-#[derive(Drop)]
-pub(crate) struct Entry {
-    pub(crate) key: Vec<u8>,
-    pub(crate) value: Vec<u8>,
-}
+//! How a put went.
 
 /// How a put went.
 #[derive(Drop)]
