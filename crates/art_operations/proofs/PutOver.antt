@@ -35,6 +35,11 @@ how_many {K = K} {V = V} gone result removed = number result.insert_result.exist
     number None e = e
     number (Some was) e = sym (ap length e.1)
 
+-- where there was no pair, none is removed
+pub none-removed : {K V : Type 0} (old : Option (LeafNode K V)) → pair_in old ≡ [] → AreRemoved [] old 0
+none-removed None e = refl
+none-removed (Some leaf) e = absurd (cc)
+
 module _ {K V : Type 0} (bytes : K → List ℕ) (P : ℕ) where
   pair_overlap : (key : List ℕ) (ls : List (LeafAt K V)) → AllByRecursion (λ l. overlaps key (bytes l.key) ≡ true) ls → AllByRecursion (λ p. overlaps key (key_of bytes p) ≡ true) (pairs_of ls)
   pair_overlap key [] h = tt

@@ -32,7 +32,8 @@ module _ {K V : Type 0} (bytes : K → List ℕ) (key : List ℕ) where
   IsWay path s (way.Point kind) = MeetsAt bytes key path s kind × NoConflict bytes key (leaves s)
   IsWay path s way.Conflict = AllConflict bytes key (leaves s)
 
-module _ {K V : Type 0} (bytes : K → List ℕ) (P : ℕ) (at : Name → Option (Cell K V)) (key : List ℕ) (s : Shape K V) where
+module _ {K V : Type 0} (bytes : K → List ℕ) (P : ℕ) (at : Name → Option (Cell K V)) (key : List ℕ)
+    (s : Shape K V) where
   -- on the way to the key's place
   pub record OnWayTo (current : Name) (last : List Step) (depth : ℕ) : Type 0 where
     pub ctx : List (Frame K V)

@@ -1,8 +1,8 @@
-use Rattle.std.proofs.Common.{◌+◌, subst, arith}
+use Rattle.std.proofs.Common.{[], ◌+◌, subst, arith}
 use Rattle.art_operations.specs.Overwrites.{steps_at}
 use Rattle.art_operations.specs.Pairs.{CanPutOver, HasPrefixPoint}
 use Rattle.art_operations.proofs.NewNodes.{fewer}
-use Rattle.art_operations.proofs.PutOver.{put-over-at, stored-over}
+use Rattle.art_operations.proofs.PutOver.{none-removed, put-over-at, stored-over}
 use Rattle.art_operations.proofs.Results.{map_ok}
 use Rattle.art_operations.proofs.pairs.put_over.Goals as goal
 
@@ -26,3 +26,9 @@ returns-in-Some-clause-stored g c = λ pairs can stored.
 
 pub returns-in_ok-put_first-in-None-clause-room : goal.returns-in_ok-put_first-in-None-clause-room
 returns-in_ok-put_first-in-None-clause-room g c = λ n room. c.put_first.ensures.room n (fewer c.args.arena.now (n + 1) (n + 2) (omega arith) room)
+
+pub returns-in_ok-put_first-in-None-clause-ok : goal.returns-in_ok-put_first-in-None-clause-ok
+returns-in_ok-put_first-in-None-clause-ok g c = λ pairs can.
+    let none = rw c.in-None.is at can in
+    let put = c.in_ok-put_first-in-None.ensures.ok [] none.1 in
+    rw none.0 (record { has = put.has; removed = none-removed _ put.old; leaf = put.leaf })
