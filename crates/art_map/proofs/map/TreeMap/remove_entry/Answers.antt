@@ -1,4 +1,4 @@
-use Rattle.std.proofs.Common.{sym, subst, ap₂, Some, ◌∙◌}
+use Rattle.std.proofs.Common.{[], sym, subst, ap₂, Some, ◌∙◌}
 use Rattle.art_operations.specs.Pairs.{HasTaken}
 use Rattle.art_map.proofs.Maps.{taken-map, taken-pairs, taken-entry, none-map, none-pairs, none-entry, same-map, same-pairs}
 use Rattle.art_map.proofs.map.TreeMap.remove_entry.Goals as goal
@@ -6,12 +6,12 @@ use Rattle.art_map.proofs.map.TreeMap.remove_entry.Goals as goal
 pub invariant_of-self : goal.invariant_of-self
 invariant_of-self g c =
     taken-map g.K.AsBytes.bytes g.K.AsBytes.is_key g.row.PREFIX_LEN c.self.inside.arena c.self.inside.root c.self.invariant c.take_pair.new.arena c.as_bytes.result.now c.in-Ok-Some.deleted
-    (subst (HasTaken g.K.AsBytes.bytes g.row.PREFIX_LEN c.take_pair.new.arena c.self.inside.root c.as_bytes.result.now _) c.in-Ok-Some.field-0-is (c.in-Ok-Some.ensures.ok _ c.self.invariant.has))
+    (subst (HasTaken g.K.AsBytes.bytes g.row.PREFIX_LEN c.take_pair.new.arena c.self.inside.root c.as_bytes.result.now _) c.in-Ok-Some.field-0-is (c.in-Ok-Some.ensures.ok _ [] c.self.invariant.has))
 
 pub invariant_of-self-in-Ok-None : goal.invariant_of-self-in-Ok-None
 invariant_of-self-in-Ok-None g c =
     none-map g.K.AsBytes.bytes g.K.AsBytes.is_key g.row.PREFIX_LEN c.self.inside.arena c.self.inside.root c.self.invariant c.take_pair.new.arena c.as_bytes.result.now
-    (subst (HasTaken g.K.AsBytes.bytes g.row.PREFIX_LEN c.take_pair.new.arena c.self.inside.root c.as_bytes.result.now _) c.in-Ok-None.field-0-is (c.in-Ok-None.ensures.ok _ c.self.invariant.has))
+    (subst (HasTaken g.K.AsBytes.bytes g.row.PREFIX_LEN c.take_pair.new.arena c.self.inside.root c.as_bytes.result.now _) c.in-Ok-None.field-0-is (c.in-Ok-None.ensures.ok _ [] c.self.invariant.has))
 
 pub invariant_of-self-in-Err : goal.invariant_of-self-in-Err
 invariant_of-self-in-Err g c = same-map g.K.AsBytes.bytes g.K.AsBytes.is_key g.row.PREFIX_LEN c.self.inside.arena c.self.inside.root c.self.invariant c.take_pair.new.arena c.in-Err.ensures.err
@@ -21,25 +21,25 @@ returns-in-Ok-Some-clause-value g c =
     rw (← c.as_bytes.ensures.value, ← c.self.view_is)
     (ap₂ (λ k v. Some (k, v)) c.into_entry.ensures.key c.into_entry.ensures.value
     ∙ sym (taken-entry g.K.AsBytes.bytes g.K.AsBytes.is_key g.row.PREFIX_LEN c.self.inside.arena c.self.inside.root c.self.invariant c.take_pair.new.arena c.as_bytes.result.now c.in-Ok-Some.deleted
-    (subst (HasTaken g.K.AsBytes.bytes g.row.PREFIX_LEN c.take_pair.new.arena c.self.inside.root c.as_bytes.result.now _) c.in-Ok-Some.field-0-is (c.in-Ok-Some.ensures.ok _ c.self.invariant.has))))
+    (subst (HasTaken g.K.AsBytes.bytes g.row.PREFIX_LEN c.take_pair.new.arena c.self.inside.root c.as_bytes.result.now _) c.in-Ok-Some.field-0-is (c.in-Ok-Some.ensures.ok _ [] c.self.invariant.has))))
 
 pub returns-in-Ok-Some-clause-pairs : goal.returns-in-Ok-Some-clause-pairs
 returns-in-Ok-Some-clause-pairs g c =
     rw (← c.as_bytes.ensures.value, ← c.self.view_is)
     (taken-pairs g.K.AsBytes.bytes g.K.AsBytes.is_key g.row.PREFIX_LEN c.self.inside.arena c.self.inside.root c.self.invariant c.take_pair.new.arena c.as_bytes.result.now c.in-Ok-Some.deleted
-    (subst (HasTaken g.K.AsBytes.bytes g.row.PREFIX_LEN c.take_pair.new.arena c.self.inside.root c.as_bytes.result.now _) c.in-Ok-Some.field-0-is (c.in-Ok-Some.ensures.ok _ c.self.invariant.has)))
+    (subst (HasTaken g.K.AsBytes.bytes g.row.PREFIX_LEN c.take_pair.new.arena c.self.inside.root c.as_bytes.result.now _) c.in-Ok-Some.field-0-is (c.in-Ok-Some.ensures.ok _ [] c.self.invariant.has)))
 
 pub returns-in-Ok-None-clause-value : goal.returns-in-Ok-None-clause-value
 returns-in-Ok-None-clause-value g c =
     rw (← c.as_bytes.ensures.value, ← c.self.view_is)
     (sym (none-entry g.K.AsBytes.bytes g.K.AsBytes.is_key g.row.PREFIX_LEN c.self.inside.arena c.self.inside.root c.self.invariant c.take_pair.new.arena c.as_bytes.result.now
-    (subst (HasTaken g.K.AsBytes.bytes g.row.PREFIX_LEN c.take_pair.new.arena c.self.inside.root c.as_bytes.result.now _) c.in-Ok-None.field-0-is (c.in-Ok-None.ensures.ok _ c.self.invariant.has))))
+    (subst (HasTaken g.K.AsBytes.bytes g.row.PREFIX_LEN c.take_pair.new.arena c.self.inside.root c.as_bytes.result.now _) c.in-Ok-None.field-0-is (c.in-Ok-None.ensures.ok _ [] c.self.invariant.has))))
 
 pub returns-in-Ok-None-clause-pairs : goal.returns-in-Ok-None-clause-pairs
 returns-in-Ok-None-clause-pairs g c =
     rw (← c.as_bytes.ensures.value, ← c.self.view_is)
     (none-pairs g.K.AsBytes.bytes g.K.AsBytes.is_key g.row.PREFIX_LEN c.self.inside.arena c.self.inside.root c.self.invariant c.take_pair.new.arena c.as_bytes.result.now
-    (subst (HasTaken g.K.AsBytes.bytes g.row.PREFIX_LEN c.take_pair.new.arena c.self.inside.root c.as_bytes.result.now _) c.in-Ok-None.field-0-is (c.in-Ok-None.ensures.ok _ c.self.invariant.has)))
+    (subst (HasTaken g.K.AsBytes.bytes g.row.PREFIX_LEN c.take_pair.new.arena c.self.inside.root c.as_bytes.result.now _) c.in-Ok-None.field-0-is (c.in-Ok-None.ensures.ok _ [] c.self.invariant.has)))
 
 pub returns-in-Err-clause-err : goal.returns-in-Err-clause-err
 returns-in-Err-clause-err g c =
@@ -47,4 +47,4 @@ returns-in-Err-clause-err g c =
 
 pub returns-in-Err-clause-shrinks : goal.returns-in-Err-clause-shrinks
 returns-in-Err-clause-shrinks g c =
-    rw (← c.as_bytes.ensures.value, ← c.self.view_is) (c.in-Err.ensures.shrinks _ c.self.invariant.has)
+    rw (← c.as_bytes.ensures.value, ← c.self.view_is) (c.in-Err.ensures.shrinks _ [] c.self.invariant.has)
