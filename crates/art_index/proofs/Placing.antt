@@ -47,9 +47,10 @@ ascend_behind : (p : Pair) (qs : List Pair) → IsFull p → KeyFits (record_of 
 ascend_behind p [] full fits fulls order fit = tt
 ascend_behind p (q ∷ qs) full fits fulls order fit =
     let r = record_of p in
-    let s = record_of q in
-    (subst (λ a. IsBefore a (bytes_of q)) (sym full) (subst (IsBefore (full_key r.tenant r.key)) (sym fulls.0) (full_before r s fits.tenant_fits fit.0.tenant_fits order.0)),
-      ascend_behind p qs full fits fulls.1 order.1 fit.1)
+    let s = record_of q in (
+      subst (λ a. IsBefore a (bytes_of q)) (sym full) (subst (IsBefore (full_key r.tenant r.key)) (sym fulls.0) (full_before r s fits.tenant_fits fit.0.tenant_fits order.0)),
+      ascend_behind p qs full fits fulls.1 order.1 fit.1,
+    )
 
 ascend : (ps : List Pair) → AllByRecursion IsFull ps → InOrder KeyComesBefore (map record_of ps) → AllByRecursion KeyFits (map record_of ps) → IsAscending bytes_of ps
 ascend [] full order fit = tt

@@ -50,9 +50,9 @@ pub(crate) fn put_value<const PREFIX_LEN: usize>(
 ) -> Placed
     requires held { ArePairs records.old.pairs }
     requires fits { KeyFits (record {
-        tenant = tenant_of fields.now;
-        key = key_of fields.now;
-        value = fields.now.value.items;
+      tenant = tenant_of fields.now;
+      key = key_of fields.now;
+      value = fields.now.value.items;
     }) }
     ensures held { ArePairs records.new.pairs }
     ensures placed { IsPlaced result (records_of records.old.pairs) (tenant_of fields.now) (key_of fields.now)

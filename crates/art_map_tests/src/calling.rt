@@ -5,7 +5,10 @@ use art_map::{TreeMap, TryInsertError};
 use std::alloc::{AllocError, Global};
 
 /// A table of address blocks, of which none holds another: each goes by the front of its addresses.
-pub fn block_of<'a>(blocks: &'a TreeMap<SliceKey<'_>, u32, 16>, address: &[u8; 4]) -> Option<&'a u32> {
+pub fn block_of<'a>(
+    blocks: &'a TreeMap<SliceKey<'_>, u32, 16>,
+    address: &[u8; 4],
+) -> Option<&'a u32> {
     blocks.prefix_get(address)
 }
 

@@ -77,7 +77,8 @@ pub fn count_agreeing(prefix: &[u8], rest: &[u8]) -> usize
     let mut at = 0;
     'words: while at + WORD <= prefix.len()
         && at + WORD <= rest.len()
-        && prefix[at..at + WORD] == rest[at..at + WORD] {
+        && prefix[at..at + WORD] == rest[at..at + WORD]
+    {
         at += WORD;
     }
     'bytes: while at < prefix.len() && at < rest.len() && prefix[at] == rest[at] {

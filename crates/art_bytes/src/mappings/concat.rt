@@ -67,9 +67,7 @@ fn push_pair<M: Parts<X>, X: Ord + Drop, A: Parts<Y>, Y: Ord + Drop>(
 }
 
 // The first parts and the last that have these bytes, or None where there are none.
-fn read_pair<M: Parts<X>, X: Ord + Drop, A: Parts<Y>, Y: Ord>(
-    bytes: &[u8],
-) -> Option<(X, Y)>
+fn read_pair<M: Parts<X>, X: Ord + Drop, A: Parts<Y>, Y: Ord>(bytes: &[u8]) -> Option<(X, Y)>
     ensures { MatchOption result
         (¬ ((x : X) × (y : Y) × M.is_value x × A.is_value y × (M.parts_bytes x ++ A.parts_bytes y ≡ bytes.now)))
         (λ p. M.is_value p.0 × A.is_value p.1 × (M.parts_bytes p.0 ++ A.parts_bytes p.1 ≡ bytes.now)) }
@@ -139,8 +137,7 @@ impl<M: Parts<D>, D: Ord + Drop> OrderedMapping<D> for ConcatTuple<M> {
     ghost ordered = { λ v w b c h k. M.have_bytes.ordered v w h.0 k.0 };
 }
 
-impl<A: Parts<U>, B: Parts<V>, U: Ord + Drop, V: Ord + Drop> Parts<(U, V)>
-    for (A, B) {
+impl<A: Parts<U>, B: Parts<V>, U: Ord + Drop, V: Ord + Drop> Parts<(U, V)> for (A, B) {
     ghost WIDTH = { A.WIDTH + B.WIDTH };
 
     ghost is_value = { λ v. A.is_value v.0 × B.is_value v.1 };
@@ -162,14 +159,9 @@ impl<A: Parts<U>, B: Parts<V>, U: Ord + Drop, V: Ord + Drop> Parts<(U, V)>
     }
 }
 
-impl<
-    A: Parts<U>,
-    B: Parts<V>,
-    C: Parts<W>,
-    U: Ord + Drop,
-    V: Ord + Drop,
-    W: Ord + Drop,
-> Parts<(U, V, W)> for (A, B, C) {
+impl<A: Parts<U>, B: Parts<V>, C: Parts<W>, U: Ord + Drop, V: Ord + Drop, W: Ord + Drop> Parts<
+    (U, V, W),
+> for (A, B, C) {
     ghost WIDTH = { (A.WIDTH + B.WIDTH) + C.WIDTH };
 
     ghost is_value = { λ v. (A.is_value v.0 × B.is_value v.1) × C.is_value v.2 };

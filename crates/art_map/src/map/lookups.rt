@@ -8,7 +8,9 @@ ghost use Rattle.std.specs.Map.Iter.{deref_pair, deref_pair_mut};
 use crate::map::TreeMap;
 use art_arena::LeafPtr;
 use art_bytes::AsBytes;
-use art_operations::{maximum_unchecked, minimum_unchecked, prefix_search_unchecked, search_unchecked};
+use art_operations::{
+    maximum_unchecked, minimum_unchecked, prefix_search_unchecked, search_unchecked,
+};
 use std::ops::Index;
 
 impl<K: AsBytes, V, const PREFIX_LEN: usize> TreeMap<K, V, PREFIX_LEN> {

@@ -4,9 +4,11 @@ use Rattle.art_walks.proofs.Counted.{took-last, held-there, fewer-left, pair-rea
 use Rattle.art_walks.proofs.iter.IterDoubleEndedIterator.next_back.Goals as goal
 
 pub as_key_value_ref-requires : goal.as_key_value_ref-requires
-as_key_value_ref-requires g c =
-    (omega arith, held-there c.self.inside.arena.now c.self.inside.leaves c.next_back.new.self c.self.inside.len c.in-Some.leaf (λ p ps. ps ++ p ∷ [])
-    (took-last c.self.inside.arena.now c.self.inside.leaves c.next_back.new.self c.self.inside.len c.self.invariant c.in-Some.leaf c.in-Some.ensures.last c.in-Some.ensures.end))
+as_key_value_ref-requires g c = (
+  omega arith,
+  held-there c.self.inside.arena.now c.self.inside.leaves c.next_back.new.self c.self.inside.len c.in-Some.leaf (λ p ps. ps ++ p ∷ [])
+      (took-last c.self.inside.arena.now c.self.inside.leaves c.next_back.new.self c.self.inside.len c.self.invariant c.in-Some.leaf c.in-Some.ensures.last c.in-Some.ensures.end),
+)
 
 pub invariant_of-self : goal.invariant_of-self
 invariant_of-self g c = (took-last c.self.inside.arena.now c.self.inside.leaves c.next_back.new.self c.self.inside.len c.self.invariant c.in-Some.leaf c.in-Some.ensures.last c.in-Some.ensures.end).rest
@@ -29,8 +31,8 @@ returns-in-Some-clause-goes g c = record {
     tt,
     tt,
     rw (← c.self.view_is)
-    (fewer-left c.self.inside.arena.now c.self.inside.leaves c.next_back.new.self c.self.inside.len c.in-Some.leaf (λ p ps. ps ++ p ∷ [])
-    (took-last c.self.inside.arena.now c.self.inside.leaves c.next_back.new.self c.self.inside.len c.self.invariant c.in-Some.leaf c.in-Some.ensures.last c.in-Some.ensures.end) c.self.invariant),
+        (fewer-left c.self.inside.arena.now c.self.inside.leaves c.next_back.new.self c.self.inside.len c.in-Some.leaf (λ p ps. ps ++ p ∷ [])
+        (took-last c.self.inside.arena.now c.self.inside.leaves c.next_back.new.self c.self.inside.len c.self.invariant c.in-Some.leaf c.in-Some.ensures.last c.in-Some.ensures.end) c.self.invariant),
   );
   keeps = tt;
   rests = λ fin. tt;

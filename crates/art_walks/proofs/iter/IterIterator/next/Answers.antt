@@ -4,9 +4,11 @@ use Rattle.art_walks.proofs.Counted.{took-first, held-there, fewer-left, pair-re
 use Rattle.art_walks.proofs.iter.IterIterator.next.Goals as goal
 
 pub as_key_value_ref-requires : goal.as_key_value_ref-requires
-as_key_value_ref-requires g c =
-    (omega arith, held-there c.self.inside.arena.now c.self.inside.leaves c.next.new.self c.self.inside.len c.in-Some.leaf (λ p ps. p ∷ ps)
-    (took-first c.self.inside.arena.now c.self.inside.leaves c.next.new.self c.self.inside.len c.self.invariant c.in-Some.leaf c.in-Some.ensures.first c.in-Some.ensures.end))
+as_key_value_ref-requires g c = (
+  omega arith,
+  held-there c.self.inside.arena.now c.self.inside.leaves c.next.new.self c.self.inside.len c.in-Some.leaf (λ p ps. p ∷ ps)
+      (took-first c.self.inside.arena.now c.self.inside.leaves c.next.new.self c.self.inside.len c.self.invariant c.in-Some.leaf c.in-Some.ensures.first c.in-Some.ensures.end),
+)
 
 pub invariant_of-self : goal.invariant_of-self
 invariant_of-self g c = (took-first c.self.inside.arena.now c.self.inside.leaves c.next.new.self c.self.inside.len c.self.invariant c.in-Some.leaf c.in-Some.ensures.first c.in-Some.ensures.end).rest
@@ -24,8 +26,8 @@ returns-in-Some-clause-goes g c = record {
     tt,
     tt,
     rw (← c.self.view_is)
-    (fewer-left c.self.inside.arena.now c.self.inside.leaves c.next.new.self c.self.inside.len c.in-Some.leaf (λ p ps. p ∷ ps)
-    (took-first c.self.inside.arena.now c.self.inside.leaves c.next.new.self c.self.inside.len c.self.invariant c.in-Some.leaf c.in-Some.ensures.first c.in-Some.ensures.end) c.self.invariant),
+        (fewer-left c.self.inside.arena.now c.self.inside.leaves c.next.new.self c.self.inside.len c.in-Some.leaf (λ p ps. p ∷ ps)
+        (took-first c.self.inside.arena.now c.self.inside.leaves c.next.new.self c.self.inside.len c.self.invariant c.in-Some.leaf c.in-Some.ensures.first c.in-Some.ensures.end) c.self.invariant),
   );
   keeps = tt;
   rests = λ fin. tt;
