@@ -1,34 +1,34 @@
 -- A leaf in the place of a part of a tree, step by step: it is stored, linked, pointed at, and the part is freed.
-use Rattle.std.proofs.Common.{◌≡◌, ℕ, ◌≤◌, true, cond, List, [], ◌∷◌, ◌++◌, Option, Some, None, is_some, refl, sym, ap, ap₂, subst, ◌∙◌, arith, append_assoc}
+use Rattle.std.proofs.Common.{◌≡◌, ℕ, ◌+◌, ◌≤◌, true, cond, List, [], ◌∷◌, ◌++◌, Option, Some, None, is_some, refl, sym, ap, ap₂, subst, ◌∙◌, arith, append_assoc}
 use Rattle.art_nodes.specs.Name.{Name}
 use Rattle.art_nodes.specs.declared.kind.NodeType.TheVariants.{Leaf}
 use Rattle.art_nodes.specs.declared.leaf.LeafNode.{LeafNode}
-use Rattle.art_arena.specs.arena.Arena.{Arena, cell_of, links_of, held_at, node_at, links_at, Allocates, SameCells}
+use Rattle.art_arena.specs.arena.Arena.{Arena, cell_of, links_of, held_at, node_at, links_at, Allocates, KeepsNodes, SameCells}
 use Rattle.art_arena.specs.arena.Cells.{Cell, pair, leaf_name, copies, AreHeld, Holds, UpdatesAt}
 use Rattle.art_arena.specs.arena.Context.{Frame, plug, path_to, root_of, leaves_before, leaves_after, cells_before, cells_after}
-use Rattle.art_arena.specs.arena.Linked.{Links, AreLinked, IsBeside, times}
-use Rattle.art_arena.specs.arena.Meaning.{IsNodes, IsSubtree, IsTree}
+use Rattle.art_arena.specs.arena.Linked.{Links, AreLinked, IsBeside, KeepsLinksOutside, times}
+use Rattle.art_arena.specs.arena.Meaning.{IsNodesBeside, IsSubtree, IsTreeBeside}
 use Rattle.art_arena.specs.arena.Places.{IsPlace}
 use Rattle.art_arena.specs.arena.Shapes.{Shape, leaf_at, inner_at, LeafAt, name_of, leaves, pairs_of, cells, width, IsUnder}
 use Rattle.art_arena.specs.arena.Steps.{Step}
-use Rattle.art_arena.proofs.tree.Order.{all_weaker}
-use Rattle.art_arena.proofs.shapes.CellLists.{copies-append, Holds-add, Holds-remove, Holds-same}
+use Rattle.art_arena.proofs.tree.Order.{all_left, all_weaker}
+use Rattle.art_arena.proofs.shapes.Besides.{keeps-held}
+use Rattle.art_arena.proofs.shapes.CellLists.{copies-append, Holds-add, Holds-remove, Holds-same, Holds-turn}
 use Rattle.art_arena.proofs.shapes.Contexts.{cells-plug, leaves-plug, name_of-plug, IsUnder-plug}
-use Rattle.art_arena.proofs.shapes.LinkedLists.{eqb-self}
+use Rattle.art_arena.proofs.shapes.LinkedLists.{eqb-self, outside-apart}
 use Rattle.art_arena.proofs.shapes.Meanings.{nodes-part}
 use Rattle.art_arena.proofs.shapes.Places.{held-below}
-use Rattle.art_arena.proofs.shapes.Repoint.{IsNodes-plug}
+use Rattle.art_arena.proofs.shapes.Repoint.{IsNodesBeside-plug, unplugged}
 use Rattle.art_arena.proofs.shapes.Surroundings.{new-beside, times-leaves}
 use Rattle.art_arena.proofs.shapes.Updates.{nodes-update, links-update}
 use Rattle.art_operations.specs.Frees.{HoldsBeside, KeepsAllBut}
-use Rattle.art_operations.specs.Insertions.{IsInserted, IsPutOrReplaced}
+use Rattle.art_operations.specs.Insertions.{IsInsertedBeside, IsPutOrReplaced}
 use Rattle.art_operations.specs.KeyedLists.{overlaps}
-use Rattle.art_operations.specs.Overwrites.{AreRemoved, IsOverwritten}
+use Rattle.art_operations.specs.Overwrites.{AreRemoved, IsOverwrittenBeside}
 use Rattle.art_operations.specs.Points.{IsInTheWay}
 use Rattle.art_operations.specs.inner.Edits.{StandsAround, lone_leaf}
 use Rattle.art_operations.specs.declared.insert.result.InsertResult.{InsertResult}
 use Rattle.art_operations.specs.declared.insert.result.InsertParentNodeChange.TheVariants.{NoChange}
-use Rattle.art_arena.proofs.shapes.CellLists.{Holds-turn}
 use Rattle.art_operations.proofs.Lengthened.{kind_not_leaf}
 use Rattle.art_operations.proofs.Overlaps.{overlaps_same, overlaps_conflict}
 
@@ -57,11 +57,11 @@ module _ {K V : Type 0} (bytes : K → List ℕ) (P : ℕ) where
       absurd (kind_not_leaf n (width kids) under.0 (ap (λ (m : Name). m.kind) (holds.named ∙ is)))
 
   -- what stands at a place of a tree is a tree of its own
-  pub place-subtree : (at : Name → Option (Cell K V)) (root : Name) (s : Shape K V) (ctx : List (Frame K V)) (part : Shape K V) → IsNodes bytes P at root s → IsPlace bytes s ctx part → IsSubtree bytes P at (name_of part) (path_to ctx) part
+  pub place-subtree : {rest : List (Name × Cell K V)} (at : Name → Option (Cell K V)) (root : Name) (s : Shape K V) (ctx : List (Frame K V)) (part : Shape K V) → IsNodesBeside bytes P at root rest s → IsPlace bytes s ctx part → IsSubtree bytes P at (name_of part) (path_to ctx) part
   place-subtree at root s ctx part nodes place = record {
     part = record {
       named = refl;
-      held = held-below P at ctx part (subst (λ w. AreHeld at (cells P w)) place.is nodes.holds.held);
+      held = held-below P at ctx part (subst (λ w. AreHeld at (cells P w)) place.is (nodes-part bytes P at root s nodes).held);
       once = λ n.
           let whole = (nodes-part bytes P at root s nodes).once n in
           let counted = ap (copies n) (ap (cells P) place.is ∙ cells-plug P ctx part) ∙ copies-append n (cells_before P ctx (name_of part)) (cells P part ++ cells_after P ctx) in
@@ -70,7 +70,7 @@ module _ {K V : Type 0} (bytes : K → List ℕ) (P : ℕ) where
     under = place.under;
   }
 
-  module _ (start : Arena K V) (root : Name) (s : Shape K V) (tree : IsTree bytes P (node_at start) root (links_at start) s) (key : K) (value : V) (name : Name) (last : List Step) (way : IsInTheWay bytes (bytes key) s root name last) where
+  module _ {rest : List (Name × Cell K V)} (start : Arena K V) (root : Name) (s : Shape K V) (tree : IsTreeBeside bytes P (node_at start) root (links_at start) rest s) (key : K) (value : V) (name : Name) (last : List Step) (way : IsInTheWay bytes (bytes key) s root name last) where
     pub part_stands : IsSubtree bytes P (node_at start) name (path_to way.ctx) way.part
     part_stands = subst (λ n. IsSubtree bytes P (node_at start) n (path_to way.ctx) way.part) way.here (place-subtree (node_at start) root s way.ctx way.part tree.nodes way.toward.place)
 
@@ -83,7 +83,7 @@ module _ {K V : Type 0} (bytes : K → List ℕ) (P : ℕ) where
     module _ (leaf : ℕ) where
       -- the cells behind those of the part
       abbrev behind : List (Name × Cell K V)
-      behind = (leaf_name leaf, pair key value) ∷ cells_after P way.ctx
+      behind = (leaf_name leaf, pair key value) ∷ (cells_after P way.ctx ++ rest)
 
       -- the cells around the new leaf, its own among them
       abbrev pub around : List (Name × Cell K V)
@@ -96,11 +96,12 @@ module _ {K V : Type 0} (bytes : K → List ℕ) (P : ℕ) where
         holds_made : Holds (node_at made) (cells_before P way.ctx name ++ (cells P way.part ++ behind))
         holds_made =
             let before = cells_before P way.ctx name in
-            let cells_are : cells P s ≡ before ++ (cells P way.part ++ cells_after P way.ctx) =
-            ap (cells P) way.toward.place.is ∙ cells-plug P way.ctx way.part ∙ ap (λ n. cells_before P way.ctx n ++ (cells P way.part ++ cells_after P way.ctx)) way.here in
-            let was : Holds (node_at start) ((before ++ cells P way.part) ++ cells_after P way.ctx) = subst (Holds (node_at start)) (cells_are ∙ sym (append_assoc before (cells P way.part) (cells_after P way.ctx))) tree.nodes.holds in
+            let after = cells_after P way.ctx ++ rest in
+            let apart = unplugged P (node_at start) rest way.ctx way.part (subst (λ w. Holds (node_at start) (rest ++ cells P w)) way.toward.place.is tree.nodes.holds) in
+            let was : Holds (node_at start) ((before ++ cells P way.part) ++ after) =
+            subst (Holds (node_at start)) (ap (λ n. cells_before P way.ctx n ++ (cells P way.part ++ after)) way.here ∙ sym (append_assoc before (cells P way.part) after)) apart in
             subst (Holds (node_at made)) (append_assoc before (cells P way.part) behind)
-            (Holds-add (node_at start) (node_at made) (leaf_name leaf) (pair key value) (before ++ cells P way.part) (cells_after P way.ctx)
+            (Holds-add (node_at start) (node_at made) (leaf_name leaf) (pair key value) (before ++ cells P way.part) after
             (nodes-update start made (leaf_name leaf) (Some (lone_leaf key value)) stored.updates) (ap cell_of stored.vacant) was)
 
         -- the leaf stands beside the list of leaves
@@ -123,8 +124,20 @@ module _ {K V : Type 0} (bytes : K → List ℕ) (P : ℕ) where
         pub part_apart : HoldsBeside P moved name way.part around
         part_apart = record { named = way.here; holds = Holds-turn (node_at moved) [] (cells_before P way.ctx (leaf_name leaf)) (cells P way.part) behind there }
 
+        at_most : (o : Option (Cell K V)) (m : ℕ) → m ≡ cond (is_some o) 1 0 → m ≤ 1
+        at_most None m e = omega arith
+        at_most (Some c) m e = omega arith
+
         under : IsUnder bytes [] (plug way.ctx (leaf_at leaf key value))
         under = IsUnder-plug bytes way.ctx (leaf_at leaf key value) way.toward.place.around way.toward.begins
+
+        -- how often a name stands in the cells around the part
+        whole : (n : Name) → copies n (cells P way.part ++ around) ≡ copies n (cells P way.part) + (copies n (cells_before P way.ctx (leaf_name leaf) ++ (leaf_name leaf, pair key value) ∷ cells_after P way.ctx) + copies n rest)
+        whole n =
+            let before = cells_before P way.ctx (leaf_name leaf) in
+            let after = cells_after P way.ctx in
+            let cell : Name × Cell K V = (leaf_name leaf, pair key value) in
+            omega (arith, copies-append n (cells P way.part) around, copies-append n before behind, copies-append n before (cell ∷ after), copies-append n (cell ∷ after) rest)
 
         -- the leaves of the tree keep their links when the part is freed
         links_stay : (new : Arena K V) → KeepsAllBut (cells P way.part) moved new → (n : ℕ) → 1 ≤ times n (leaves_before way.ctx ++ new_leaf ∷ leaves_after way.ctx) → links_at new n ≡ links_at moved n
@@ -133,22 +146,18 @@ module _ {K V : Type 0} (bytes : K → List ℕ) (P : ℕ) where
             let held = cells-plug P way.ctx (leaf_at leaf key value) in
             let counted = sym (ap (times n) all) ∙ times-leaves bytes P n [] (plug way.ctx (leaf_at leaf key value)) under ∙ ap (copies (leaf_name n)) held in
             let once = at_most (node_at moved (leaf_name n)) _ (part_apart.holds.once (leaf_name n)) in
-            ap links_of (kept (leaf_name n) (omega (arith, among, counted, once, copies-append (leaf_name n) (cells P way.part) around)))
-          where
-            at_most : (o : Option (Cell K V)) (m : ℕ) → m ≡ cond (is_some o) 1 0 → m ≤ 1
-            at_most None m e = omega arith
-            at_most (Some c) m e = omega arith
+            ap links_of (kept (leaf_name n) (omega (arith, among, counted, once, whole (leaf_name n))))
 
         pub overwritten : (linked new : Arena K V) (new_root : Name) (was : Option (LeafNode K V)) (count : ℕ) → root_of way.ctx (leaf_name leaf) ≡ new_root
             → AreLinked (links_at linked) None (leaves_before way.ctx ++ new_leaf ∷ leaves_after way.ctx) None → ((n : ℕ) → links_at moved n ≡ links_at linked n)
             → Holds (node_at new) around → KeepsAllBut (cells P way.part) moved new → AreRemoved (pairs_of (leaves way.part)) was count
-            → IsOverwritten bytes P new s last key value
+            → IsOverwrittenBeside bytes P new rest s last key value
             (record { insert_result = record { leaf_node_ptr = leaf; existing_leaf = was; new_root = new_root; parent_node_change = NoChange }; leafs_removed = count })
         overwritten linked new new_root was count named in_order same holds kept removed = record {
           shape = plug way.ctx (leaf_at leaf key value);
           is_tree = record {
-            nodes = subst (λ r. IsNodes bytes P (node_at new) r (plug way.ctx (leaf_at leaf key value))) named
-                (IsNodes-plug bytes P (node_at new) way.ctx (leaf_at leaf key value) holds way.toward.place.around way.toward.begins);
+            nodes = subst (λ r. IsNodesBeside bytes P (node_at new) r rest (plug way.ctx (leaf_at leaf key value))) named
+                (IsNodesBeside-plug bytes P (node_at new) rest way.ctx (leaf_at leaf key value) holds way.toward.place.around way.toward.begins);
             linked = subst (λ ls. AreLinked (links_at new) None ls None) (sym (leaves-plug way.ctx (leaf_at leaf key value)))
                 (AreLinked-kept (links_at linked) (links_at new) None (leaves_before way.ctx ++ new_leaf ∷ leaves_after way.ctx) None (λ n among. links_stay new kept n among ∙ same n) in_order);
           };
@@ -168,13 +177,29 @@ module _ {K V : Type 0} (bytes : K → List ℕ) (P : ℕ) where
           };
         }
 
+        -- what stands beside the tree is kept, where the leaves of the new tree alone changed their links before
+        pub others_stay : (made linked new : Arena K V) → Allocates start made (leaf_name leaf) (lone_leaf key value) → KeepsLinksOutside (links_at made) (links_at linked) (leaves_before way.ctx ++ new_leaf ∷ leaves_after way.ctx)
+            → ((n : ℕ) → links_at moved n ≡ links_at linked n) → Holds (node_at new) around → KeepsAllBut (cells P way.part) moved new → KeepsNodes rest start new
+        others_stay made linked new stored outside same holds kept =
+            let held_of = λ (c : Name × Cell K V). node_at new c.0 ≡ Some c.1 in
+            let tree_holds = IsNodesBeside-plug bytes P (node_at new) rest way.ctx (leaf_at leaf key value) holds way.toward.place.around way.toward.begins in
+            keeps-held start new rest (all_left (λ (c : Name × Cell K V). node_at start c.0 ≡ Some c.1) rest (cells P s) tree.nodes.holds.held)
+            (all_left held_of rest (cells P (plug way.ctx (leaf_at leaf key value))) tree_holds.holds.held)
+            (λ n some.
+            let counted = times-leaves bytes P n [] (plug way.ctx (leaf_at leaf key value)) under ∙ ap (copies (leaf_name n)) (cells-plug P way.ctx (leaf_at leaf key value)) in
+            let once = at_most (node_at moved (leaf_name n)) _ (part_apart.holds.once (leaf_name n)) in
+            let listed = ap (times n) (leaves-plug way.ctx (leaf_at leaf key value)) in
+            let absent : times n (leaves_before way.ctx ++ new_leaf ∷ leaves_after way.ctx) ≡ 0 = omega (arith, some, counted, once, listed, whole (leaf_name n)) in
+            let freed = kept (leaf_name n) (omega (arith, some, once, whole (leaf_name n))) in
+            ap links_of freed ∙ same n ∙ outside n absent ∙ (links-update start made leaf _ stored.updates).others n (outside-apart n (leaves_before way.ctx) new_leaf (leaves_after way.ctx) absent))
+
   -- an insertion in which no part gives way
-  pub inserted : (new : Arena K V) (s : Shape K V) (last : List Step) (key : K) (value : V) (result : InsertResult K V) → IsInserted bytes P new s last key value result
-      → IsOverwritten bytes P new s last key value (record { insert_result = result; leafs_removed = 0 })
-  inserted new s last key value result is = stored result.existing_leaf is.stored
+  pub inserted : {rest : List (Name × Cell K V)} (new : Arena K V) (s : Shape K V) (last : List Step) (key : K) (value : V) (result : InsertResult K V) → IsInsertedBeside bytes P new rest s last key value result
+      → IsOverwrittenBeside bytes P new rest s last key value (record { insert_result = result; leafs_removed = 0 })
+  inserted {rest} new s last key value result is = stored result.existing_leaf is.stored
     where
       stored : (was : Option (LeafNode K V)) → IsPutOrReplaced bytes (record { slot = result.leaf_node_ptr; key = key; value = value }) was (leaves s) (leaves is.shape)
-          → IsOverwritten bytes P new s last key value (record { insert_result = record result { existing_leaf = was }; leafs_removed = 0 })
+          → IsOverwrittenBeside bytes P new rest s last key value (record { insert_result = record result { existing_leaf = was }; leafs_removed = 0 })
       stored None (front, back, old_is, new_is) = record {
         shape = is.shape;
         is_tree = is.is_tree;

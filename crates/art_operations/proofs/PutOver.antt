@@ -6,15 +6,16 @@ use Rattle.art_nodes.specs.Name.{Name}
 use Rattle.art_nodes.specs.declared.leaf.LeafNode.{LeafNode}
 use Rattle.art_arena.specs.tree.Changes.{IsIn}
 use Rattle.art_arena.specs.arena.Arena.{Arena, node_at, links_at}
-use Rattle.art_arena.specs.arena.Meaning.{IsSubtree, IsTree}
+use Rattle.art_arena.specs.arena.Cells.{Cell}
+use Rattle.art_arena.specs.arena.Meaning.{IsSubtree, IsTreeBeside}
 use Rattle.art_arena.specs.arena.Shapes.{Shape, LeafAt, name_of, leaves, pairs_of, key_of}
 use Rattle.art_arena.specs.arena.Steps.{Step, steps_of}
-use Rattle.art_arena.proofs.shapes.Meanings.{nodes-subtree}
+use Rattle.art_arena.proofs.shapes.Meanings.{nodes-part, nodes-subtree}
 use Rattle.art_arena.proofs.tree.Exists.{in_middle}
 use Rattle.art_arena.proofs.tree.Insert.{all_at}
 use Rattle.art_operations.specs.KeyedLists.{HasKey, overlaps, overlapping}
-use Rattle.art_operations.specs.Overwrites.{AreRemoved, IsExact, IsOverwritten, IsPrefixPoint, root_at, removed_by}
-use Rattle.art_operations.specs.Pairs.{HasPairs, HasPoint, HasPrefixPoint, HasPut, HasPutOver, pair_in}
+use Rattle.art_operations.specs.Overwrites.{AreRemoved, IsExact, IsOverwrittenBeside, IsPrefixPoint, root_at, removed_by}
+use Rattle.art_operations.specs.Pairs.{HasPairsBeside, HasPointBeside, HasPrefixPointBeside, HasPutBeside, HasPutOver, HasPutOverBeside, pair_in}
 use Rattle.art_operations.specs.declared.insert.result.InsertResult.{InsertResult}
 use Rattle.art_operations.specs.declared.prefix_insert.point.PrefixInsertPoint.{PrefixInsertPoint}
 use Rattle.art_operations.specs.declared.prefix_insert.point.PrefixInsertPoint.TheVariants as at
@@ -46,8 +47,8 @@ module _ {K V : Type 0} (bytes : K → List ℕ) (P : ℕ) where
   pair_overlap key (l ∷ ls) h = (h.0, pair_overlap key ls h.1)
 
   -- a pair that took the place of others at a point
-  pub put-over-at : (old new : Arena K V) (point : PrefixInsertPoint) (key : K) (value : V) (pairs : List (K × V)) (has : HasPrefixPoint bytes P old point (bytes key) pairs) (last : List Step) (result : PrefixInsertResult K V)
-      → IsOverwritten bytes P new has.shape last key value result → HasPutOver bytes P new pairs key value result
+  pub put-over-at : {rest : List (Name × Cell K V)} (old new : Arena K V) (point : PrefixInsertPoint) (key : K) (value : V) (pairs : List (K × V)) (has : HasPrefixPointBeside bytes P old rest point (bytes key) pairs) (last : List Step) (result : PrefixInsertResult K V)
+      → IsOverwrittenBeside bytes P new rest has.shape last key value result → HasPutOverBeside bytes P new rest pairs key value result
   put-over-at old new point key value pairs has last result is =
       let leaf : LeafAt K V = record { slot = result.insert_result.leaf_node_ptr; key = key; value = value } in
       let new_is : pairs_of (leaves is.shape) ≡ pairs_of is.front ++ (key, value) ∷ pairs_of is.back = ap pairs_of is.are ∙ map-append pair_of is.front (leaf ∷ is.back) in
@@ -59,11 +60,11 @@ module _ {K V : Type 0} (bytes : K → List ℕ) (P : ℕ) where
       record {
         has = (is.shape, is.is_tree, new_is ∙ told.new_is);
         removed = subst (λ gone. AreRemoved gone result.insert_result.existing_leaf result.leafs_removed) told.were is.removed;
-        leaf = held_leaf P (node_at new) is.shape leaf (subst (IsIn leaf) (sym is.are) (in_middle (λ (m : LeafAt K V). bytes m.key) is.front leaf is.back)) is.is_tree.nodes.holds.held;
+        leaf = held_leaf P (node_at new) is.shape leaf (subst (IsIn leaf) (sym is.are) (in_middle (λ (m : LeafAt K V). bytes m.key) is.front leaf is.back)) (nodes-part bytes P (node_at new) result.insert_result.new_root is.shape is.is_tree.nodes).held;
       }
 
   -- the first pair takes the place of none
-  pub put-first-over : (new : Arena K V) (key : K) (value : V) (result : InsertResult K V) → HasPut bytes P new [] key value result → HasPutOver bytes P new [] key value (record { insert_result = result; leafs_removed = 0 })
+  pub put-first-over : {rest : List (Name × Cell K V)} (new : Arena K V) (key : K) (value : V) (result : InsertResult K V) → HasPutBeside bytes P new rest [] key value result → HasPutOverBeside bytes P new rest [] key value (record { insert_result = result; leafs_removed = 0 })
   put-first-over new key value result put = record { has = put.has; removed = none result.existing_leaf put.old; leaf = put.leaf }
     where
       none : (was : Option (LeafNode K V)) → pair_in was ≡ [] → AreRemoved {K = K} {V = V} [] was 0
@@ -71,9 +72,9 @@ module _ {K V : Type 0} (bytes : K → List ℕ) (P : ℕ) where
       none (Some was) e = absurd (cc)
 
   -- where a pair has the key, the point is its leaf
-  pub stored-over : (old : Arena K V) (point : PrefixInsertPoint) (key : List ℕ) (pairs : List (K × V)) → HasPrefixPoint bytes P old point key pairs → HasKey (key_of bytes) key pairs → IsExact point
-  stored-over old (at.InsertPoint point) key pairs has stored =
-      let here : HasPoint bytes P old point key pairs = record { shape = has.shape; is_tree = has.is_tree; place = has.place; pairs_are = has.pairs_are } in
+  pub stored-over : {rest : List (Name × Cell K V)} (old : Arena K V) (point : PrefixInsertPoint) (key : List ℕ) (pairs : List (K × V)) → HasPrefixPointBeside bytes P old rest point key pairs → HasKey (key_of bytes) key pairs → IsExact point
+  stored-over {rest} old (at.InsertPoint point) key pairs has stored =
+      let here : HasPointBeside bytes P old rest point key pairs = record { shape = has.shape; is_tree = has.is_tree; place = has.place; pairs_are = has.pairs_are } in
       stored-exact bytes P old point key pairs here stored
   stored-over old (at.OverwritePoint point) key pairs has (x, i, same) =
       let back = in_unmap pair_of (key_of bytes) x (leaves has.shape) (subst (IsIn x) (sym has.pairs_are) i) in
@@ -85,14 +86,14 @@ module _ {K V : Type 0} (bytes : K → List ℕ) (P : ℕ) where
   named-root key s (at.OverwritePoint point) is = is.named
 
   -- the point that was found is one for this key
-  pub placed-over : (old : Arena K V) (root : Option Name) (top : Name) (key : List ℕ) (pairs : List (K × V)) (point : PrefixInsertPoint) → root ≡ Some top → HasPairs bytes P old root pairs
-      → ((s : Shape K V) → IsSubtree bytes P (node_at old) top [] s → IsPrefixPoint bytes key s point) → HasPrefixPoint bytes P old point key pairs
-  placed-over old root top key pairs point is has found =
-      let below : HasPairs bytes P old (Some top) pairs = subst (λ r. HasPairs bytes P old r pairs) is has in
+  pub placed-over : (old : Arena K V) (rest : List (Name × Cell K V)) (root : Option Name) (top : Name) (key : List ℕ) (pairs : List (K × V)) (point : PrefixInsertPoint) → root ≡ Some top → HasPairsBeside bytes P old rest root pairs
+      → ((s : Shape K V) → IsSubtree bytes P (node_at old) top [] s → IsPrefixPoint bytes key s point) → HasPrefixPointBeside bytes P old rest point key pairs
+  placed-over old rest root top key pairs point is has found =
+      let below : HasPairsBeside bytes P old rest (Some top) pairs = subst (λ r. HasPairsBeside bytes P old rest r pairs) is has in
       let here = found below.0 (nodes-subtree bytes P (node_at old) top below.0 below.1.nodes) in
       record {
         shape = below.0;
-        is_tree = subst (λ n. IsTree bytes P (node_at old) n (links_at old) below.0) (sym below.1.nodes.named ∙ named-root key below.0 point here) below.1;
+        is_tree = subst (λ n. IsTreeBeside bytes P (node_at old) n (links_at old) rest below.0) (sym below.1.nodes.named ∙ named-root key below.0 point here) below.1;
         place = here;
         pairs_are = below.2;
       }

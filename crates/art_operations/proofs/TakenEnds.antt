@@ -2,12 +2,12 @@
 use Rattle.std.proofs.Common.{◌≡◌, ℕ, suc, ◌+◌, ◌≤◌, cond, eqb, List, [], ◌∷◌, ◌++◌, Option, Some, None, refl, sym, ap, ap₂, subst, ◌∙◌, arith}
 use Rattle.std.proofs.lemmas.List.{append-nil, map-append}
 use Rattle.art_nodes.specs.Name.{Name}
-use Rattle.art_arena.specs.arena.Arena.{Arena, node_at, links_at}
+use Rattle.art_arena.specs.arena.Arena.{Arena, node_at, links_at, KeepsNodes}
 use Rattle.art_arena.specs.arena.EndLeaves.{end_slot}
 use Rattle.art_arena.specs.arena.Linked.{first_slot, last_slot, times}
 use Rattle.art_arena.specs.arena.Shapes.{Shape, LeafAt, leaves, pairs_of, key_of}
 use Rattle.art_arena.specs.arena.Steps.{Step}
-use Rattle.art_arena.specs.arena.Stores.{Stores, StoresBeside, StoresOnly}
+use Rattle.art_arena.specs.arena.Stores.{Stores, StoresBeside}
 use Rattle.art_arena.specs.arena.Cells.{Cell}
 use Rattle.art_arena.specs.declared.ends.End.{End}
 use Rattle.art_arena.specs.declared.ends.End.TheVariants.{First, Last}
@@ -18,8 +18,8 @@ use Rattle.art_arena.proofs.shapes.LinkedLists.{eqb-self, ends_with-first, times
 use Rattle.art_arena.proofs.shapes.Meanings.{nodes-subtree}
 use Rattle.art_arena.proofs.shapes.Surroundings.{tree-list}
 use Rattle.art_operations.specs.DeletePoints.{IsLeafPlace}
-use Rattle.art_operations.specs.Deletions.{HasLeaves, IsDeleted}
-use Rattle.art_operations.specs.Pairs.{HasPairs, HasTakenEnd, IsAtEnd, ShrinksAtEnd}
+use Rattle.art_operations.specs.Deletions.{IsDeletedBeside}
+use Rattle.art_operations.specs.Pairs.{HasPairsBeside, HasTakenEndBeside, IsAtEnd, ShrinksAtEnd}
 use Rattle.art_operations.specs.declared.delete.result.DeleteResult.{DeleteResult}
 use Rattle.art_operations.proofs.HeldPairs.{leaves-pairs}
 use Rattle.art_operations.proofs.LeafPairs.{pair_of, shrinks-map}
@@ -48,16 +48,16 @@ module _ {K V : Type 0} where
           later before [] = refl
           later before (g ∷ gs) = later (Some g.slot) gs
 
-module _ {K V : Type 0} (bytes : K → List ℕ) (P : ℕ) (old : Arena K V) (root : Option Name) (top : Name) (is : root ≡ Some top) (pairs : List (K × V)) (has : HasPairs bytes P old root pairs) (end : End) (slot : ℕ) (last : List Step)
+module _ {K V : Type 0} (bytes : K → List ℕ) (P : ℕ) (old : Arena K V) (rest : List (Name × Cell K V)) (root : Option Name) (top : Name) (is : root ≡ Some top) (pairs : List (K × V)) (has : HasPairsBeside bytes P old rest root pairs) (end : End) (slot : ℕ) (last : List Step)
     (value : (s : Shape K V) → Stores bytes P old top s → end_slot end (leaves s) ≡ Some slot) (place : (s : Shape K V) → Stores bytes P old top s → IsLeafPlace bytes s slot last) where
-  abbrev below : HasPairs bytes P old (Some top) pairs
-  below = subst (λ r. HasPairs bytes P old r pairs) is has
+  abbrev below : HasPairsBeside bytes P old rest (Some top) pairs
+  below = subst (λ r. HasPairsBeside bytes P old rest r pairs) is has
 
   stored : Stores bytes P old top below.0
   stored = nodes-subtree bytes P (node_at old) top below.0 below.1.nodes
 
-  pub the-place : (s : Shape K V) × (rest : List (Name × Cell K V)) × StoresBeside bytes P old top rest s × IsLeafPlace bytes s slot last
-  the-place = (below.0, [], below.1, place below.0 stored)
+  pub the-place : (s : Shape K V) × (others : List (Name × Cell K V)) × StoresBeside bytes P old top others s × IsLeafPlace bytes s slot last
+  the-place = (below.0, rest, below.1, place below.0 stored)
 
   parts : (front : List (LeafAt K V)) (l : LeafAt K V) (back : List (LeafAt K V)) → pairs_of (front ++ l ∷ back) ≡ pairs_of front ++ pair_of l ∷ pairs_of back
   parts front l back = map-append pair_of front (l ∷ back)
@@ -81,13 +81,17 @@ module _ {K V : Type 0} (bytes : K → List ℕ) (P : ℕ) (old : Arena K V) (ro
           whole ∙ ap (λ xs. pairs_of front ++ pair_of l ∷ pairs_of xs) none ∙ ap (λ xs. xs ++ pair_of l ∷ []) (sym (map-append pair_of front [] ∙ append-nil (pairs_of front)) ∙ ap (λ xs. pairs_of (front ++ xs)) (sym none))
 
   -- it was taken out
-  pub taken-end : (new : Arena K V) (deleted : DeleteResult K V) → ((s : Shape K V) → StoresOnly bytes P old top s → IsLeafPlace bytes s slot last → IsDeleted bytes P new s slot deleted) → HasTakenEnd bytes P new root end pairs (Some deleted)
+  pub taken-end : (new : Arena K V) (deleted : DeleteResult K V) → ((s : Shape K V) → StoresBeside bytes P old top rest s → IsLeafPlace bytes s slot last → IsDeletedBeside bytes P new rest s slot deleted) → HasTakenEndBeside bytes P new rest root end pairs (Some deleted)
   taken-end new deleted result =
       let it = result below.0 below.1 (place below.0 stored) in
-      (pairs_of (it.front ++ it.back), end-pair it.front _ it.back refl it.was, leaves-pairs bytes P new [] deleted.new_root (it.front ++ it.back) _ refl it.left)
+      (pairs_of (it.front ++ it.back), end-pair it.front _ it.back refl it.was, leaves-pairs bytes P new rest deleted.new_root (it.front ++ it.back) _ refl it.left)
+
+  -- and what stood beside the tree is kept
+  pub end-keeps : (new : Arena K V) → ((s : Shape K V) → StoresBeside bytes P old top rest s → IsLeafPlace bytes s slot last → KeepsNodes rest old new) → KeepsNodes rest old new
+  end-keeps new keeps = keeps below.0 below.1 (place below.0 stored)
 
   -- or it would make a node smaller
-  pub shrinks-end : ((s : Shape K V) → StoresOnly bytes P old top s → (leaf : IsLeafPlace bytes s slot last) → Shrinks (λ l. bytes l.key) (leaves s) (bytes leaf.key)) → ShrinksAtEnd bytes end pairs
+  pub shrinks-end : ((s : Shape K V) → StoresBeside bytes P old top rest s → (leaf : IsLeafPlace bytes s slot last) → Shrinks (λ l. bytes l.key) (leaves s) (bytes leaf.key)) → ShrinksAtEnd bytes end pairs
   shrinks-end shrinks =
       let at = place below.0 stored in (
         (at.key, at.value),

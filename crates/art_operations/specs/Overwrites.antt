@@ -4,9 +4,10 @@ use Rattle.std.specs.List.{AllByRecursion}
 use Rattle.art_nodes.specs.declared.leaf.LeafNode.{LeafNode}
 use Rattle.art_nodes.specs.Name.{Name}
 use Rattle.art_arena.specs.arena.Arena.{Arena}
+use Rattle.art_arena.specs.arena.Cells.{Cell}
 use Rattle.art_arena.specs.arena.Shapes.{Shape, LeafAt, leaves, pairs_of}
 use Rattle.art_arena.specs.arena.Steps.{Step, steps_of}
-use Rattle.art_arena.specs.arena.Stores.{StoresOnly}
+use Rattle.art_arena.specs.arena.Stores.{StoresBeside}
 use Rattle.art_operations.specs.DeletePoints.{IsLeafPlace}
 use Rattle.art_operations.specs.Insertions.{steps_after}
 use Rattle.art_operations.specs.KeyedLists.{overlaps}
@@ -52,12 +53,12 @@ module _ {K V : Type 0} (bytes : K → List ℕ) where
   TellsConflict key ls (at.InsertPoint point) = NoConflict bytes key ls
   TellsConflict key ls (at.OverwritePoint point) = HasConflict bytes key ls
 
-  -- The arena holds nothing but the tree of these leaves with the new one in the place of those whose keys overlap its
-  -- key. It stands where the answer says.
-  pub record IsOverwritten (P : ℕ) (arena : Arena K V) (s : Shape K V) (last : List Step) (key : K) (value : V)
-      (result : PrefixInsertResult K V) : Type 0 where
+  -- Beside these nodes the arena holds nothing but the tree of these leaves with the new one in the place of those
+  -- whose keys overlap its key. It stands where the answer says.
+  pub record IsOverwrittenBeside (P : ℕ) (arena : Arena K V) (rest : List (Name × Cell K V)) (s : Shape K V)
+      (last : List Step) (key : K) (value : V) (result : PrefixInsertResult K V) : Type 0 where
     pub shape : Shape K V
-    pub is_tree : StoresOnly bytes P arena result.insert_result.new_root shape
+    pub is_tree : StoresBeside bytes P arena result.insert_result.new_root rest shape
     pub front : List (LeafAt K V)
     pub block : List (LeafAt K V)
     pub back : List (LeafAt K V)
@@ -68,3 +69,6 @@ module _ {K V : Type 0} (bytes : K → List ℕ) where
     pub removed : AreRemoved (pairs_of block) result.insert_result.existing_leaf result.leafs_removed
     pub place : IsLeafPlace bytes shape result.insert_result.leaf_node_ptr
         (steps_after result.insert_result.parent_node_change last)
+
+  abbrev pub IsOverwritten : ℕ → Arena K V → Shape K V → List Step → K → V → PrefixInsertResult K V → Type 0
+  IsOverwritten P arena s last key value result = IsOverwrittenBeside P arena [] s last key value result

@@ -13,7 +13,7 @@ use Rattle.art_arena.specs.arena.Shapes.{Shape, leaves, pairs_of, key_of}
 use Rattle.art_operations.specs.KeyedLists.{IsBlocked, with_key, without_key, overlapping, without_overlapping}
 use Rattle.art_operations.specs.Overwrites.{AreRemoved, IsPrefixPoint, root_at}
 use Rattle.art_operations.specs.Points.{IsPoint}
-use Rattle.art_arena.specs.arena.Stores.{StoresBeside, StoresOnly}
+use Rattle.art_arena.specs.arena.Stores.{StoresBeside}
 use Rattle.art_operations.specs.declared.delete.result.DeleteResult.{DeleteResult}
 use Rattle.art_operations.specs.declared.insert.point.InsertPoint.{InsertPoint}
 use Rattle.art_operations.specs.declared.insert.result.InsertResult.{InsertResult}
@@ -82,6 +82,35 @@ module _ {K V : Type 0} (bytes : K → List ℕ) (P : ℕ) (arena : Arena K V) (
       (with_key (key_of bytes) key pairs ≡ pair_in (Some deleted.deleted_leaf))
       × HasPairsBeside deleted.new_root (without_key (key_of bytes) key pairs)
 
+  -- it has the pairs without the one at this end, which is answered; or there was none
+  abbrev pub HasTakenEndBeside : Option Name → End → List (K × V) → Option (DeleteResult K V) → Type 0
+  HasTakenEndBeside root end pairs None = (pairs ≡ []) × HasPairsBeside root pairs
+  HasTakenEndBeside root end pairs (Some deleted) =
+      (others : List (K × V))
+      × IsAtEnd end (deleted.deleted_leaf.key, deleted.deleted_leaf.value) others pairs
+      × HasPairsBeside deleted.new_root others
+
+  -- it has these pairs, and this is where the key goes in their tree, whichever keys it is in conflict with
+  pub record HasPrefixPointBeside (point : PrefixInsertPoint) (key : List ℕ) (pairs : List (K × V)) : Type 0 where
+    pub shape : Shape K V
+    pub is_tree : StoresBeside bytes P arena (root_at point) rest shape
+    pub place : IsPrefixPoint bytes key shape point
+    pub pairs_are : pairs_of (leaves shape) ≡ pairs
+
+  -- so it has, or there is no pair
+  abbrev pub CanPutOverBeside : Option PrefixInsertPoint → List ℕ → List (K × V) → Type 0
+  CanPutOverBeside None key pairs = HasPairsBeside None pairs
+  CanPutOverBeside (Some point) key pairs = HasPrefixPointBeside point key pairs
+
+  -- it has the pairs with this one, in the leaf that is answered, in the place of those whose keys overlap its key, and
+  -- these are told
+  pub record HasPutOverBeside (pairs : List (K × V)) (key : K) (value : V) (result : PrefixInsertResult K V)
+      : Type 0 where
+    pub has : HasPairsBeside (Some result.insert_result.new_root) (with_pair_over bytes key value pairs)
+    pub removed : AreRemoved (overlapping (key_of bytes) (bytes key) pairs)
+        result.insert_result.existing_leaf result.leafs_removed
+    pub leaf : node_at arena (leaf_name result.insert_result.leaf_node_ptr) ≡ Some (pair key value)
+
 -- the same with nothing beside
 module _ {K V : Type 0} (bytes : K → List ℕ) (P : ℕ) (arena : Arena K V) where
   abbrev pub HasPairs : Option Name → List (K × V) → Type 0
@@ -102,29 +131,11 @@ module _ {K V : Type 0} (bytes : K → List ℕ) (P : ℕ) (arena : Arena K V) w
   abbrev pub HasTaken : Option Name → List ℕ → List (K × V) → Option (DeleteResult K V) → Type 0
   HasTaken root key pairs result = HasTakenBeside bytes P arena [] root key pairs result
 
-  -- it has the pairs without the one at this end, which is answered; or there was none
   abbrev pub HasTakenEnd : Option Name → End → List (K × V) → Option (DeleteResult K V) → Type 0
-  HasTakenEnd root end pairs None = (pairs ≡ []) × HasPairs root pairs
-  HasTakenEnd root end pairs (Some deleted) =
-      (rest : List (K × V)) × IsAtEnd end (deleted.deleted_leaf.key, deleted.deleted_leaf.value) rest pairs
-      × HasPairs deleted.new_root rest
+  HasTakenEnd root end pairs result = HasTakenEndBeside bytes P arena [] root end pairs result
 
-  -- it has these pairs, and this is where the key goes in their tree, whichever keys it is in conflict with
-  pub record HasPrefixPoint (point : PrefixInsertPoint) (key : List ℕ) (pairs : List (K × V)) : Type 0 where
-    pub shape : Shape K V
-    pub is_tree : StoresOnly bytes P arena (root_at point) shape
-    pub place : IsPrefixPoint bytes key shape point
-    pub pairs_are : pairs_of (leaves shape) ≡ pairs
-
-  -- so it has, or there is no pair
   abbrev pub CanPutOver : Option PrefixInsertPoint → List ℕ → List (K × V) → Type 0
-  CanPutOver None key pairs = HasPairs None pairs
-  CanPutOver (Some point) key pairs = HasPrefixPoint point key pairs
+  CanPutOver place key pairs = CanPutOverBeside bytes P arena [] place key pairs
 
-  -- it has the pairs with this one, in the leaf that is answered, in the place of those whose keys overlap its key, and
-  -- these are told
-  pub record HasPutOver (pairs : List (K × V)) (key : K) (value : V) (result : PrefixInsertResult K V) : Type 0 where
-    pub has : HasPairs (Some result.insert_result.new_root) (with_pair_over bytes key value pairs)
-    pub removed : AreRemoved (overlapping (key_of bytes) (bytes key) pairs)
-        result.insert_result.existing_leaf result.leafs_removed
-    pub leaf : node_at arena (leaf_name result.insert_result.leaf_node_ptr) ≡ Some (pair key value)
+  abbrev pub HasPutOver : List (K × V) → K → V → PrefixInsertResult K V → Type 0
+  HasPutOver pairs key value result = HasPutOverBeside bytes P arena [] pairs key value result

@@ -10,9 +10,9 @@ ghost use Rattle.art_arena.specs.arena.Stores.{Stores};
 ghost use Rattle.art_arena.specs.tree.Shrinks.{Shrinks};
 ghost use Rattle.art_operations.specs.DeletePoints.{IsLeafPlace};
 ghost use Rattle.art_operations.specs.KeyedLists.{HasKey};
-ghost use Rattle.art_operations.specs.Pairs.{CanPutBeside, HasPairs, HasPairsBeside, HasPutBeside, HasTakenBeside};
-ghost use Rattle.art_operations.specs.Pairs.{HasTakenEnd, IsPlacedBeside, ShrinksAtEnd};
-ghost use Rattle.art_operations.specs.Pairs.{CanPutOver, HasPutOver};
+ghost use Rattle.art_operations.specs.Pairs.{CanPutBeside, CanPutOverBeside, HasPairsBeside, HasPutBeside};
+ghost use Rattle.art_operations.specs.Pairs.{HasPutOverBeside, HasTakenBeside, HasTakenEndBeside, IsPlacedBeside};
+ghost use Rattle.art_operations.specs.Pairs.{ShrinksAtEnd};
 
 use crate::delete::point::{
     DeletePoint, find_maximum_to_delete, find_minimum_to_delete, search_for_delete_point,
@@ -112,9 +112,11 @@ pub fn find_place_over<K: AsBytes, V, const PREFIX_LEN: usize>(
     root: Option<OpaqueNodePtr>,
     key: &[u8],
 ) -> Option<PrefixInsertPoint>
-    requires { (pairs : List (K × V)) × HasPairs K.bytes PREFIX_LEN arena.now root pairs }
-    ensures { (pairs : List (K × V)) → HasPairs K.bytes PREFIX_LEN arena.now root pairs
-        → CanPutOver K.bytes PREFIX_LEN arena.now result key.now pairs }
+    requires { (pairs : List (K × V)) × (rest : List (Name × Cell K V))
+        × HasPairsBeside K.bytes PREFIX_LEN arena.now rest root pairs }
+    ensures { (pairs : List (K × V)) (rest : List (Name × Cell K V))
+        → HasPairsBeside K.bytes PREFIX_LEN arena.now rest root pairs
+        → CanPutOverBeside K.bytes PREFIX_LEN arena.now rest result key.now pairs }
 {
     match root {
         Some(top) => Some(search_for_prefix_insert_point(arena, top, key)),
@@ -125,18 +127,23 @@ pub fn find_place_over<K: AsBytes, V, const PREFIX_LEN: usize>(
 /// Puts a key and its value in at the place that was found for the key by `find_place_over`: the pairs whose keys
 /// overlap it go, and their number is `pairs_removed` of the answer. Where a pair has the key already, this one takes
 /// its leaf: that is never refused. Where there is no memory, the key and the value are handed back, and nothing
-/// changed.
+/// changed. Whatever stands beside the tree stays as it is.
 pub fn put_over<K: AsBytes + Drop, V: Drop, const PREFIX_LEN: usize>(
     arena: &mut NodeArena<K, V, PREFIX_LEN>,
     place: Option<PrefixInsertPoint>,
     key: K,
     value: V,
 ) -> Result<PrefixInsertResult<K, V>, InsertRefused<K, V>>
-    requires { (pairs : List (K × V)) × CanPutOver K.bytes PREFIX_LEN arena.old place (K.bytes key) pairs }
-    ensures ok { IfOk result (λ put. (pairs : List (K × V))
-        → CanPutOver K.bytes PREFIX_LEN arena.old place (K.bytes key) pairs
-        → HasPutOver K.bytes PREFIX_LEN arena.new pairs key value put) }
-    ensures stored { (pairs : List (K × V)) → CanPutOver K.bytes PREFIX_LEN arena.old place (K.bytes key) pairs
+    requires { (pairs : List (K × V)) × (rest : List (Name × Cell K V))
+        × CanPutOverBeside K.bytes PREFIX_LEN arena.old rest place (K.bytes key) pairs }
+    ensures ok { IfOk result (λ put. (pairs : List (K × V)) (rest : List (Name × Cell K V))
+        → CanPutOverBeside K.bytes PREFIX_LEN arena.old rest place (K.bytes key) pairs
+        → HasPutOverBeside K.bytes PREFIX_LEN arena.new rest pairs key value put) }
+    ensures others { IfOk result (λ put. (pairs : List (K × V)) (rest : List (Name × Cell K V))
+        → CanPutOverBeside K.bytes PREFIX_LEN arena.old rest place (K.bytes key) pairs
+        → KeepsNodes rest arena.old arena.new) }
+    ensures stored { (pairs : List (K × V)) (rest : List (Name × Cell K V))
+        → CanPutOverBeside K.bytes PREFIX_LEN arena.old rest place (K.bytes key) pairs
         → HasKey (key_of K.bytes) (K.bytes key) pairs → IsOk result }
     ensures err { OnErr result (SameNodes arena.old arena.new) }
     ensures handed_back { IfErr result (λ refused. (refused.key ≡ key) × (refused.value ≡ value)) }
@@ -188,18 +195,22 @@ pub fn take_pair<K: AsBytes, V, const PREFIX_LEN: usize>(
 
 /// Takes the pair at an end out, and answers its leaf; or nothing where there is no pair. It is refused only where the
 /// loss of the leaf makes a node one of the next smaller kind, and there is no memory for that one: nothing changed
-/// then.
+/// then. Whatever stands beside the tree stays as it is.
 pub fn take_end<K: AsBytes, V, const PREFIX_LEN: usize>(
     arena: &mut NodeArena<K, V, PREFIX_LEN>,
     root: Option<OpaqueNodePtr>,
     end: End,
 ) -> Result<Option<DeleteResult<K, V>>, AllocError>
-    requires { (pairs : List (K × V)) × HasPairs K.bytes PREFIX_LEN arena.old root pairs }
-    ensures ok { IfOk result (λ taken. (pairs : List (K × V)) → HasPairs K.bytes PREFIX_LEN arena.old root pairs
-        → HasTakenEnd K.bytes PREFIX_LEN arena.new root end pairs taken) }
+    requires { (pairs : List (K × V)) × (rest : List (Name × Cell K V))
+        × HasPairsBeside K.bytes PREFIX_LEN arena.old rest root pairs }
+    ensures ok { IfOk result (λ taken. (pairs : List (K × V)) (rest : List (Name × Cell K V))
+        → HasPairsBeside K.bytes PREFIX_LEN arena.old rest root pairs
+        → HasTakenEndBeside K.bytes PREFIX_LEN arena.new rest root end pairs taken) }
+    ensures others { IfOk result (λ taken. (pairs : List (K × V)) (rest : List (Name × Cell K V))
+        → HasPairsBeside K.bytes PREFIX_LEN arena.old rest root pairs → KeepsNodes rest arena.old arena.new) }
     ensures err { OnErr result (SameNodes arena.old arena.new) }
-    ensures shrinks { OnErr result ((pairs : List (K × V)) → HasPairs K.bytes PREFIX_LEN arena.old root pairs
-        → ShrinksAtEnd K.bytes end pairs) }
+    ensures shrinks { OnErr result ((pairs : List (K × V)) (rest : List (Name × Cell K V))
+        → HasPairsBeside K.bytes PREFIX_LEN arena.old rest root pairs → ShrinksAtEnd K.bytes end pairs) }
     ensures succeeds { HasRoom arena.old 1 → IsOk result }
     ensures room { UsesRoom 1 arena.old arena.new }
 {

@@ -48,11 +48,11 @@ module _ {K V : Type 0} where
   keeps-same old new same (c ∷ rest) = (same c.0, keeps-same old new same rest)
 
   -- cells that are held before and after are kept, where their leaves keep their links
-  keeps : (old new : Arena K V) (rest : List (Name × Cell K V)) → AreHeld (node_at old) rest → AreHeld (node_at new) rest → ((n : ℕ) → 1 ≤ copies (leaf_name n) rest → links_at new n ≡ links_at old n) → KeepsNodes rest old new
-  keeps old new [] before after links = tt
-  keeps old new (c ∷ rest) before after links = (
+  pub keeps-held : (old new : Arena K V) (rest : List (Name × Cell K V)) → AreHeld (node_at old) rest → AreHeld (node_at new) rest → ((n : ℕ) → 1 ≤ copies (leaf_name n) rest → links_at new n ≡ links_at old n) → KeepsNodes rest old new
+  keeps-held old new [] before after links = tt
+  keeps-held old new (c ∷ rest) before after links = (
     same_as old new c.0.kind c.0.slot (after.0 ∙ sym before.0) (λ e. links c.0.slot (first c e)),
-    keeps old new rest before.1 after.1 (λ n more. links n (omega (arith, more))),
+    keeps-held old new rest before.1 after.1 (λ n more. links n (omega (arith, more))),
   )
     where
       first : (c : Name × Cell K V) → c.0.kind ≡ Leaf → 1 ≤ copies (leaf_name c.0.slot) (c ∷ rest)
@@ -73,4 +73,4 @@ module _ {K V : Type 0} (bytes : K → List ℕ) (P : ℕ) where
   -- so it is kept where the leaves of the tree alone change their links
   pub keeps-beside : (old new : Arena K V) (at : Name → Option (Cell K V)) (rest : List (Name × Cell K V)) (s : Shape K V) → AreHeld (node_at old) rest → AreHeld (node_at new) rest
       → Holds at (rest ++ cells P s) → IsUnder bytes [] s → KeepsLinksOutside (links_at old) (links_at new) (leaves s) → KeepsNodes rest old new
-  keeps-beside old new at rest s before after holds under links = keeps old new rest before after (λ n some. links n (outside at rest s holds under n some))
+  keeps-beside old new at rest s before after holds under links = keeps-held old new rest before after (λ n some. links n (outside at rest s holds under n some))

@@ -309,6 +309,12 @@ module _ {K V : Type 0} (links : ℕ → Option Links) (xs run ys : List (LeafAt
       let whole : xs ++ (run ++ ys) ≡ (xs ++ e.0) ++ e.1 ∷ ys = ap (λ ms. xs ++ (ms ++ ys)) e.2 ∙ ap (λ ms. xs ++ ms) (append_assoc e.0 (e.1 ∷ []) ys) ∙ sym (append_assoc xs e.0 (e.1 ∷ ys)) in
       (_, link_there links (xs ++ e.0) e.1 ys p (subst (λ ls. AreLinked links None ls None) whole linked) e.3)
 
+-- so the leaves outside keep their links where a leaf takes its place
+pub kept-run : {K V : Type 0} (old new : ℕ → Option Links) (xs run ys : List (LeafAt K V)) (m : LeafAt K V) (first last : ℕ) → AreLinked old None (xs ++ (run ++ ys)) None → first_slot run None ≡ Some first → last_slot None run ≡ Some last
+    → ((start end : Links) → old first ≡ Some start → old last ≡ Some end → KeepsOtherLinks old new start.previous m.slot end.next) → KeepsLinksOutside old new (xs ++ m ∷ ys)
+kept-run old new xs run ys m first last linked starts ends kept =
+    kept-between old new xs ys m (kept _ _ (run_start old xs run ys linked first starts).1 (run_end old xs run ys linked last ends).1)
+
 -- a new leaf goes in its place
 pub can_take_run : {K V : Type 0} (links : ℕ → Option Links) (xs run ys : List (LeafAt K V)) (leaf name first last : ℕ) (p n : Option ℕ) → leaf ≡ name → IsBeside links (xs ++ (run ++ ys)) leaf
     → first_slot run None ≡ Some first → last_slot None run ≡ Some last → ((was : Links) → links first ≡ Some was → p ≡ was.previous) → ((was : Links) → links last ≡ Some was → n ≡ was.next)

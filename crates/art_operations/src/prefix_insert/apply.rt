@@ -1,13 +1,14 @@
 //! The change of a tree that puts a new key in the place of those with which it is in conflict.
 ghost use Rattle.std.specs.Prelude.{◌≡◌, ◌++◌, ℕ, List, IfOk, OnErr, IfErr, IsOk};
 ghost use Rattle.art_nodes.specs.Name.{Name};
-ghost use Rattle.art_arena.specs.arena.Arena.{node_at, HasRoom, KeepsRoom, SameNodes, UsesRoom};
+ghost use Rattle.art_arena.specs.arena.Arena.{node_at, HasRoom, KeepsNodes, KeepsRoom, SameNodes, UsesRoom};
 ghost use Rattle.art_arena.specs.arena.Cells.{Cell, Holds};
 ghost use Rattle.art_arena.specs.arena.Shapes.{Shape, IsUnder, cells, leaves, pairs_of};
 ghost use Rattle.art_arena.specs.arena.Steps.{steps_of};
-ghost use Rattle.art_arena.specs.arena.Stores.{StoresOnly};
+ghost use Rattle.art_arena.specs.arena.Stores.{StoresBeside};
 ghost use Rattle.art_operations.specs.Frees.{HoldsBeside, KeepsAllBut};
-ghost use Rattle.art_operations.specs.Overwrites.{AreRemoved, IsExact, IsOverwritten, IsPrefixPoint, root_at, steps_at};
+ghost use Rattle.art_operations.specs.Overwrites.{AreRemoved, IsExact, IsOverwrittenBeside, IsPrefixPoint};
+ghost use Rattle.art_operations.specs.Overwrites.{root_at, steps_at};
 ghost use Rattle.art_operations.specs.Points.{IsInTheWay};
 
 use crate::deallocate::deallocate_tree;
@@ -62,7 +63,8 @@ fn remove_part<K: AsBytes + Drop, V: Drop, const PREFIX_LEN: usize>(
 
 impl OverwritePoint {
     /// Puts a key and its value in the place of the part that is in its way, which was found by
-    /// `search_for_prefix_insert_point` in this tree, and frees that part.
+    /// `search_for_prefix_insert_point` in this tree, and frees that part. Whatever stands beside the tree stays as it
+    /// is.
     ///
     /// Only the new leaf needs memory. Where there is none for it, the key and the value are handed back, and the tree
     /// is as it was.
@@ -72,11 +74,17 @@ impl OverwritePoint {
         key: K,
         value: V,
     ) -> Result<PrefixInsertResult<K, V>, InsertRefused<K, V>>
-        requires { (s : Shape K V) × StoresOnly K.bytes PREFIX_LEN arena.old self.root s
+        requires { (s : Shape K V) × (rest : List (Name × Cell K V))
+            × StoresBeside K.bytes PREFIX_LEN arena.old self.root rest s
             × IsInTheWay K.bytes (K.bytes key) s self.root self.overwrite_point (steps_of self.path) }
-        ensures ok { IfOk result (λ put. (s : Shape K V) → StoresOnly K.bytes PREFIX_LEN arena.old self.root s
+        ensures ok { IfOk result (λ put. (s : Shape K V) (rest : List (Name × Cell K V))
+            → StoresBeside K.bytes PREFIX_LEN arena.old self.root rest s
             → IsInTheWay K.bytes (K.bytes key) s self.root self.overwrite_point (steps_of self.path)
-            → IsOverwritten K.bytes PREFIX_LEN arena.new s (steps_of self.path) key value put) }
+            → IsOverwrittenBeside K.bytes PREFIX_LEN arena.new rest s (steps_of self.path) key value put) }
+        ensures others { IfOk result (λ put. (s : Shape K V) (rest : List (Name × Cell K V))
+            → StoresBeside K.bytes PREFIX_LEN arena.old self.root rest s
+            → IsInTheWay K.bytes (K.bytes key) s self.root self.overwrite_point (steps_of self.path)
+            → KeepsNodes rest arena.old arena.new) }
         ensures err { OnErr result (SameNodes arena.old arena.new) }
         ensures handed_back { IfErr result (λ refused. (refused.key ≡ key) × (refused.value ≡ value)) }
         ensures succeeds { HasRoom arena.old 1 → IsOk result }
@@ -103,7 +111,8 @@ impl OverwritePoint {
 
 impl PrefixInsertPoint {
     /// Puts a key and its value in at its place, which was found by `search_for_prefix_insert_point` in this tree. The
-    /// leaf that has the key, or those that are in conflict with it, give way.
+    /// leaf that has the key, or those that are in conflict with it, give way. Whatever stands beside the tree stays as
+    /// it is.
     ///
     /// A leaf with the key takes the new pair, which is never refused. Otherwise a leaf is made, and where none gives
     /// way at most one inner node. Where there is no memory for them, the key and the value are handed back, and the
@@ -114,11 +123,16 @@ impl PrefixInsertPoint {
         key: K,
         value: V,
     ) -> Result<PrefixInsertResult<K, V>, InsertRefused<K, V>>
-        requires { (s : Shape K V) × StoresOnly K.bytes PREFIX_LEN arena.old (root_at self) s
+        requires { (s : Shape K V) × (rest : List (Name × Cell K V))
+            × StoresBeside K.bytes PREFIX_LEN arena.old (root_at self) rest s
             × IsPrefixPoint K.bytes (K.bytes key) s self }
-        ensures ok { IfOk result (λ put. (s : Shape K V) → StoresOnly K.bytes PREFIX_LEN arena.old (root_at self) s
+        ensures ok { IfOk result (λ put. (s : Shape K V) (rest : List (Name × Cell K V))
+            → StoresBeside K.bytes PREFIX_LEN arena.old (root_at self) rest s
             → IsPrefixPoint K.bytes (K.bytes key) s self
-            → IsOverwritten K.bytes PREFIX_LEN arena.new s (steps_at self) key value put) }
+            → IsOverwrittenBeside K.bytes PREFIX_LEN arena.new rest s (steps_at self) key value put) }
+        ensures others { IfOk result (λ put. (s : Shape K V) (rest : List (Name × Cell K V))
+            → StoresBeside K.bytes PREFIX_LEN arena.old (root_at self) rest s
+            → IsPrefixPoint K.bytes (K.bytes key) s self → KeepsNodes rest arena.old arena.new) }
         ensures err { OnErr result (SameNodes arena.old arena.new) }
         ensures handed_back { IfErr result (λ refused. (refused.key ≡ key) × (refused.value ≡ value)) }
         ensures exact { IsExact self → IsOk result }

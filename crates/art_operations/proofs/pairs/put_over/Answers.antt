@@ -1,6 +1,6 @@
-use Rattle.std.proofs.Common.{[], ◌+◌, subst, arith}
+use Rattle.std.proofs.Common.{◌+◌, subst, arith}
 use Rattle.art_operations.specs.Overwrites.{steps_at}
-use Rattle.art_operations.specs.Pairs.{CanPutOver, HasPrefixPoint}
+use Rattle.art_operations.specs.Pairs.{CanPutOverBeside, HasPrefixPointBeside}
 use Rattle.art_operations.proofs.NewNodes.{fewer}
 use Rattle.art_operations.proofs.PutOver.{none-removed, put-over-at, stored-over}
 use Rattle.art_operations.proofs.Results.{map_ok}
@@ -9,26 +9,35 @@ use Rattle.art_operations.proofs.pairs.put_over.Goals as goal
 pub apply-requires : goal.apply-requires
 apply-requires g c =
     let bytes = g.K.AsBytes.bytes in
-    let has : HasPrefixPoint bytes g.row.PREFIX_LEN c.args.arena.now c.in-Some.over (bytes c.args.key) c.requires.0 = subst (λ p. CanPutOver bytes g.row.PREFIX_LEN c.args.arena.now p (bytes c.args.key) c.requires.0) c.in-Some.is c.requires.1 in
-    (omega arith, (has.shape, has.is_tree, has.place))
+    let has : HasPrefixPointBeside bytes g.row.PREFIX_LEN c.args.arena.now c.requires.1 c.in-Some.over (bytes c.args.key) c.requires.0 = subst (λ p. CanPutOverBeside bytes g.row.PREFIX_LEN c.args.arena.now c.requires.1 p (bytes c.args.key) c.requires.0) c.in-Some.is c.requires.2 in
+    (omega arith, (has.shape, c.requires.1, has.is_tree, has.place))
 
 pub returns-in-Some-clause-ok : goal.returns-in-Some-clause-ok
-returns-in-Some-clause-ok g c = map_ok c.apply.result _ _ c.apply.ensures.ok (λ put done. λ pairs can.
+returns-in-Some-clause-ok g c = map_ok c.apply.result _ _ c.apply.ensures.ok (λ put done. λ pairs rest can.
     let bytes = g.K.AsBytes.bytes in
-    let has : HasPrefixPoint bytes g.row.PREFIX_LEN c.args.arena.now c.in-Some.over (bytes c.args.key) pairs = subst (λ p. CanPutOver bytes g.row.PREFIX_LEN c.args.arena.now p (bytes c.args.key) pairs) c.in-Some.is can in
-    put-over-at bytes g.row.PREFIX_LEN c.args.arena.now c.apply.new.arena c.in-Some.over c.args.key c.args.value pairs has (steps_at c.in-Some.over) put (done has.shape has.is_tree has.place))
+    let has : HasPrefixPointBeside bytes g.row.PREFIX_LEN c.args.arena.now rest c.in-Some.over (bytes c.args.key) pairs = subst (λ p. CanPutOverBeside bytes g.row.PREFIX_LEN c.args.arena.now rest p (bytes c.args.key) pairs) c.in-Some.is can in
+    put-over-at bytes g.row.PREFIX_LEN c.args.arena.now c.apply.new.arena c.in-Some.over c.args.key c.args.value pairs has (steps_at c.in-Some.over) put (done has.shape rest has.is_tree has.place))
+
+pub returns-in-Some-clause-others : goal.returns-in-Some-clause-others
+returns-in-Some-clause-others g c = map_ok c.apply.result _ _ c.apply.ensures.others (λ put kept. λ pairs rest can.
+    let bytes = g.K.AsBytes.bytes in
+    let has : HasPrefixPointBeside bytes g.row.PREFIX_LEN c.args.arena.now rest c.in-Some.over (bytes c.args.key) pairs = subst (λ p. CanPutOverBeside bytes g.row.PREFIX_LEN c.args.arena.now rest p (bytes c.args.key) pairs) c.in-Some.is can in
+    kept has.shape rest has.is_tree has.place)
+
+pub returns-in_ok-put_first-in-None-clause-others : goal.returns-in_ok-put_first-in-None-clause-others
+returns-in_ok-put_first-in-None-clause-others g c = λ pairs rest can. let none = rw c.in-None.is at can in c.in_ok-put_first-in-None.ensures.others rest none.1
 
 pub returns-in-Some-clause-stored : goal.returns-in-Some-clause-stored
-returns-in-Some-clause-stored g c = λ pairs can stored.
+returns-in-Some-clause-stored g c = λ pairs rest can stored.
     let bytes = g.K.AsBytes.bytes in
-    let has : HasPrefixPoint bytes g.row.PREFIX_LEN c.args.arena.now c.in-Some.over (bytes c.args.key) pairs = subst (λ p. CanPutOver bytes g.row.PREFIX_LEN c.args.arena.now p (bytes c.args.key) pairs) c.in-Some.is can in
+    let has : HasPrefixPointBeside bytes g.row.PREFIX_LEN c.args.arena.now rest c.in-Some.over (bytes c.args.key) pairs = subst (λ p. CanPutOverBeside bytes g.row.PREFIX_LEN c.args.arena.now rest p (bytes c.args.key) pairs) c.in-Some.is can in
     c.apply.ensures.exact (stored-over bytes g.row.PREFIX_LEN c.args.arena.now c.in-Some.over (bytes c.args.key) pairs has stored)
 
 pub returns-in_ok-put_first-in-None-clause-room : goal.returns-in_ok-put_first-in-None-clause-room
 returns-in_ok-put_first-in-None-clause-room g c = λ n room. c.put_first.ensures.room n (fewer c.args.arena.now (n + 1) (n + 2) (omega arith) room)
 
 pub returns-in_ok-put_first-in-None-clause-ok : goal.returns-in_ok-put_first-in-None-clause-ok
-returns-in_ok-put_first-in-None-clause-ok g c = λ pairs can.
+returns-in_ok-put_first-in-None-clause-ok g c = λ pairs rest can.
     let none = rw c.in-None.is at can in
-    let put = c.in_ok-put_first-in-None.ensures.ok [] none.1 in
+    let put = c.in_ok-put_first-in-None.ensures.ok rest none.1 in
     rw none.0 (record { has = put.has; removed = none-removed _ put.old; leaf = put.leaf })

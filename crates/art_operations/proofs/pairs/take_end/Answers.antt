@@ -1,25 +1,34 @@
-use Rattle.std.proofs.Common.{arith, []}
+use Rattle.std.proofs.Common.{[], refl, arith}
 use Rattle.art_arena.specs.arena.Steps.{steps_of}
+use Rattle.art_arena.proofs.shapes.Besides.{keeps-same}
 use Rattle.art_operations.proofs.HeldPairs.{some-tree}
-use Rattle.art_operations.proofs.TakenEnds.{the-place, taken-end, shrinks-end}
+use Rattle.art_operations.proofs.TakenEnds.{the-place, taken-end, end-keeps, shrinks-end}
 use Rattle.art_operations.proofs.pairs.take_end.Goals as goal
 
 pub end_point-point-requires : goal.end_point-point-requires
-end_point-point-requires g c = (omega arith, some-tree g.K.AsBytes.bytes g.row.PREFIX_LEN c.args.arena.now [] c.args.root c.in-Some.top c.in-Some.is [] c.requires.0 c.requires.1)
+end_point-point-requires g c = (omega arith, some-tree g.K.AsBytes.bytes g.row.PREFIX_LEN c.args.arena.now c.requires.1 c.args.root c.in-Some.top c.in-Some.is [] c.requires.0 c.requires.2)
 
 pub apply-requires : goal.apply-requires
 apply-requires g c = (
   omega arith,
-  the-place g.K.AsBytes.bytes g.row.PREFIX_LEN c.args.arena.now c.args.root c.in-Some.top c.in-Some.is c.requires.0 c.requires.1 c.args.end
+  the-place g.K.AsBytes.bytes g.row.PREFIX_LEN c.args.arena.now c.requires.1 c.args.root c.in-Some.top c.in-Some.is c.requires.0 c.requires.2 c.args.end
       c.end_point-point.result.leaf_node_ptr (steps_of c.end_point-point.result.path) c.end_point-point.ensures.value c.end_point-point.ensures.place,
 )
 
 pub returns-in-Ok-clause-ok : goal.returns-in-Ok-clause-ok
-returns-in-Ok-clause-ok g c = λ pairs has.
-    taken-end g.K.AsBytes.bytes g.row.PREFIX_LEN c.args.arena.now c.args.root c.in-Some.top c.in-Some.is pairs has c.args.end
-    c.end_point-point.result.leaf_node_ptr (steps_of c.end_point-point.result.path) c.end_point-point.ensures.value c.end_point-point.ensures.place c.apply.new.arena c.in-Ok.deleted (λ s tree leaf. c.in-Ok.ensures.ok s [] tree leaf)
+returns-in-Ok-clause-ok g c = λ pairs rest has.
+    taken-end g.K.AsBytes.bytes g.row.PREFIX_LEN c.args.arena.now rest c.args.root c.in-Some.top c.in-Some.is pairs has c.args.end
+    c.end_point-point.result.leaf_node_ptr (steps_of c.end_point-point.result.path) c.end_point-point.ensures.value c.end_point-point.ensures.place c.apply.new.arena c.in-Ok.deleted (λ s tree leaf. c.in-Ok.ensures.ok s rest tree leaf)
+
+pub returns-in-Ok-clause-others : goal.returns-in-Ok-clause-others
+returns-in-Ok-clause-others g c = λ pairs rest has.
+    end-keeps g.K.AsBytes.bytes g.row.PREFIX_LEN c.args.arena.now rest c.args.root c.in-Some.top c.in-Some.is pairs has c.args.end
+    c.end_point-point.result.leaf_node_ptr (steps_of c.end_point-point.result.path) c.end_point-point.ensures.value c.end_point-point.ensures.place c.apply.new.arena (λ s tree leaf. c.in-Ok.ensures.others s rest tree leaf)
+
+pub returns-in_default-clause-others : goal.returns-in_default-clause-others
+returns-in_default-clause-others g c = λ pairs rest has. keeps-same c.args.arena.now c.args.arena.now (λ n. refl) rest
 
 pub returns-in-Err-clause-shrinks : goal.returns-in-Err-clause-shrinks
-returns-in-Err-clause-shrinks g c = λ pairs has.
-    shrinks-end g.K.AsBytes.bytes g.row.PREFIX_LEN c.args.arena.now c.args.root c.in-Some.top c.in-Some.is pairs has c.args.end
-    c.end_point-point.result.leaf_node_ptr (steps_of c.end_point-point.result.path) c.end_point-point.ensures.value c.end_point-point.ensures.place (λ s tree leaf. c.in-Err.ensures.shrinks s [] tree leaf)
+returns-in-Err-clause-shrinks g c = λ pairs rest has.
+    shrinks-end g.K.AsBytes.bytes g.row.PREFIX_LEN c.args.arena.now rest c.args.root c.in-Some.top c.in-Some.is pairs has c.args.end
+    c.end_point-point.result.leaf_node_ptr (steps_of c.end_point-point.result.path) c.end_point-point.ensures.value c.end_point-point.ensures.place (λ s tree leaf. c.in-Err.ensures.shrinks s rest tree leaf)

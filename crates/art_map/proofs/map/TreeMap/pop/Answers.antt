@@ -1,4 +1,4 @@
-use Rattle.std.proofs.Common.{subst}
+use Rattle.std.proofs.Common.{[], subst}
 use Rattle.art_operations.specs.Pairs.{HasTakenEnd}
 use Rattle.art_map.proofs.Maps.{end-map, end-pairs, end-none-map, end-none-pairs, same-map, same-pairs}
 use Rattle.art_map.proofs.map.TreeMap.pop.Goals as goal
@@ -6,12 +6,12 @@ use Rattle.art_map.proofs.map.TreeMap.pop.Goals as goal
 pub invariant_of-self : goal.invariant_of-self
 invariant_of-self g c =
     end-map g.K.AsBytes.bytes g.K.AsBytes.is_key g.row.PREFIX_LEN c.self.inside.arena c.self.inside.root c.self.invariant c.take_end.new.arena c.args.end c.in-Ok-Some.deleted
-    (subst (HasTakenEnd g.K.AsBytes.bytes g.row.PREFIX_LEN c.take_end.new.arena c.self.inside.root c.args.end _) c.in-Ok-Some.field-0-is (c.in-Ok-Some.ensures.ok _ c.self.invariant.has))
+    (subst (HasTakenEnd g.K.AsBytes.bytes g.row.PREFIX_LEN c.take_end.new.arena c.self.inside.root c.args.end _) c.in-Ok-Some.field-0-is (c.in-Ok-Some.ensures.ok _ [] c.self.invariant.has))
 
 pub invariant_of-self-in-Ok-None : goal.invariant_of-self-in-Ok-None
 invariant_of-self-in-Ok-None g c =
     end-none-map g.K.AsBytes.bytes g.K.AsBytes.is_key g.row.PREFIX_LEN c.self.inside.arena c.self.inside.root c.self.invariant c.take_end.new.arena c.args.end
-    (subst (HasTakenEnd g.K.AsBytes.bytes g.row.PREFIX_LEN c.take_end.new.arena c.self.inside.root c.args.end _) c.in-Ok-None.field-0-is (c.in-Ok-None.ensures.ok _ c.self.invariant.has))
+    (subst (HasTakenEnd g.K.AsBytes.bytes g.row.PREFIX_LEN c.take_end.new.arena c.self.inside.root c.args.end _) c.in-Ok-None.field-0-is (c.in-Ok-None.ensures.ok _ [] c.self.invariant.has))
 
 pub invariant_of-self-in-Err : goal.invariant_of-self-in-Err
 invariant_of-self-in-Err g c = same-map g.K.AsBytes.bytes g.K.AsBytes.is_key g.row.PREFIX_LEN c.self.inside.arena c.self.inside.root c.self.invariant c.take_end.new.arena c.in-Err.ensures.err
@@ -20,13 +20,16 @@ pub returns-in-Ok-Some-clause-value : goal.returns-in-Ok-Some-clause-value
 returns-in-Ok-Some-clause-value g c =
     rw (← c.self.view_is)
     (end-pairs g.K.AsBytes.bytes g.K.AsBytes.is_key g.row.PREFIX_LEN c.self.inside.arena c.self.inside.root c.self.invariant c.take_end.new.arena c.args.end c.in-Ok-Some.deleted
-    (subst (HasTakenEnd g.K.AsBytes.bytes g.row.PREFIX_LEN c.take_end.new.arena c.self.inside.root c.args.end _) c.in-Ok-Some.field-0-is (c.in-Ok-Some.ensures.ok _ c.self.invariant.has))
+    (subst (HasTakenEnd g.K.AsBytes.bytes g.row.PREFIX_LEN c.take_end.new.arena c.self.inside.root c.args.end _) c.in-Ok-Some.field-0-is (c.in-Ok-Some.ensures.ok _ [] c.self.invariant.has))
     c.into_entry.result.0 c.into_entry.result.1 c.into_entry.ensures.key c.into_entry.ensures.value)
 
 pub returns-in-Ok-None-clause-none : goal.returns-in-Ok-None-clause-none
 returns-in-Ok-None-clause-none g c =
     end-none-pairs g.K.AsBytes.bytes g.K.AsBytes.is_key g.row.PREFIX_LEN c.self.inside.arena c.self.inside.root c.self.invariant c.take_end.new.arena c.args.end
-    (subst (HasTakenEnd g.K.AsBytes.bytes g.row.PREFIX_LEN c.take_end.new.arena c.self.inside.root c.args.end _) c.in-Ok-None.field-0-is (c.in-Ok-None.ensures.ok _ c.self.invariant.has))
+    (subst (HasTakenEnd g.K.AsBytes.bytes g.row.PREFIX_LEN c.take_end.new.arena c.self.inside.root c.args.end _) c.in-Ok-None.field-0-is (c.in-Ok-None.ensures.ok _ [] c.self.invariant.has))
 
 pub returns-in-Err-clause-err : goal.returns-in-Err-clause-err
 returns-in-Err-clause-err g c = rw (← c.self.view_is) (same-pairs g.K.AsBytes.bytes g.K.AsBytes.is_key g.row.PREFIX_LEN c.self.inside.arena c.self.inside.root c.self.invariant c.take_end.new.arena c.in-Err.ensures.err)
+
+pub returns-in-Err-clause-shrinks : goal.returns-in-Err-clause-shrinks
+returns-in-Err-clause-shrinks g c = rw (← c.self.view_is) (c.in-Err.ensures.shrinks _ [] c.self.invariant.has)
