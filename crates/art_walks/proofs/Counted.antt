@@ -1,6 +1,5 @@
 -- A walk whose leaves are counted: the pairs that are seen, and a step at either end.
-use Rattle.std.proofs.Common.{◌≡◌, ℕ, zero, suc, ◌+◌, ◌-◌, ◌<◌, ◌≤◌, List, [], ◌∷◌, ◌++◌, length, map, Option, Some, None, IsSome, is_some, refl, sym, ap, ap₂, subst, ◌∙◌, arith, length-append}
-use Rattle.std.specs.List.{AllByRecursion}
+use Rattle.std.proofs.Common.{◌≡◌, ℕ, ◌-◌, ◌<◌, ◌≤◌, List, [], ◌∷◌, ◌++◌, length, Option, Some, None, IsSome, refl, sym, ap, ap₂, subst, ◌∙◌, arith, length-append}
 use Rattle.std.proofs.lemmas.List.{length-map, map-append}
 use Rattle.art_nodes.specs.declared.leaf.LeafNode.{LeafNode}
 use Rattle.art_arena.specs.arena.Arena.{Arena, Held, leaf_held, held_at, cell_of, node_at, links_of, links_at}
@@ -9,7 +8,7 @@ use Rattle.art_arena.specs.arena.Linked.{Links, first_slot, last_slot, AreLinked
 use Rattle.art_arena.specs.arena.Shapes.{LeafAt, pairs_of}
 use Rattle.art_arena.proofs.tree.Order.{all_left, all_right}
 use Rattle.art_arena.proofs.shapes.LinkedLists.{AreLinked-right}
-use Rattle.art_arena.proofs.shapes.Subtrees.{HoldsPair, pair_of}
+use Rattle.art_arena.proofs.shapes.Subtrees.{pair_of}
 use Rattle.art_walks.specs.Runs.{Ends, HasEnds, IsWalk}
 use Rattle.art_walks.specs.Walked.{start_of, pairs_with, pairs_along, AreStored, IsCounted}
 

@@ -1,5 +1,5 @@
 -- The walk along the leaves that were met: they are linked if those that are left are, behind the last one.
-use Rattle.std.proofs.Common.{◌≡◌, ℕ, List, [], ◌∷◌, Option, Some, None, refl, sym, ap, ap₂, ◌∙◌}
+use Rattle.std.proofs.Common.{◌≡◌, ℕ, List, [], ◌∷◌, Option, Some, None, sym, ap, ap₂, ◌∙◌}
 use Rattle.art_arena.specs.arena.Linked.{Links}
 use Rattle.art_walks.specs.declared.checker.links.Last.{Last}
 use Rattle.art_walks.specs.inner.Slots.{AreLinkedSlots, IsBehind}

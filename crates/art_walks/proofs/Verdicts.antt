@@ -1,5 +1,5 @@
 -- What a check may say: with the names that it met, each once, as a skeleton; of nodes that fit or not; of leaves that are linked or not.
-use Rattle.std.proofs.Common.{◌≡◌, ◌≢◌, ℕ, suc, ◌+◌, ◌≤◌, cond, List, [], ◌∷◌, ◌++◌, length, map, Option, Some, None, IsSome, Result, Ok, Err, IfErr, refl, sym, ap, subst, ◌∙◌, arith}
+use Rattle.std.proofs.Common.{◌≡◌, ◌≢◌, ℕ, suc, ◌+◌, List, [], ◌∷◌, ◌++◌, length, Option, Some, None, IsSome, Result, Ok, Err, IfErr, refl, sym, ap, subst, ◌∙◌, arith}
 use Rattle.std.specs.List.{AllByRecursion}
 use Rattle.std.specs.Result.{IsErrAnd}
 use Rattle.art_walks.specs.declared.malformed.MalformedTreeError.{MalformedTreeError}
@@ -8,7 +8,7 @@ use Rattle.art_nodes.specs.declared.kind.NodeType.{NodeType}
 use Rattle.art_nodes.specs.declared.kind.NodeType.TheVariants.{Leaf}
 use Rattle.art_nodes.specs.Name.{Name}
 use Rattle.art_nodes.specs.InnerNode.{InnerNode, child_at}
-use Rattle.art_arena.specs.arena.Cells.{Cell, pair, branches, copies, same_name, AreHeld}
+use Rattle.art_arena.specs.arena.Cells.{Cell, pair, branches, AreHeld}
 use Rattle.art_arena.specs.tree.Kinds.{IsKindOf}
 use Rattle.art_arena.specs.tree.Trees.{Tree, items, nodes_with}
 use Rattle.art_arena.specs.arena.Shapes.{LeafAt, pairs_of, Shape, Branches, leaf_at, inner_at, no_branch, branch, name_of, children_at, join, leaves, erase, cells, cells_in, width, node_of, IsUnder, AreUnder}

@@ -1,5 +1,6 @@
 pub mod Runs
 pub mod Stats
 pub mod Faults
+pub mod Visits
 pub mod inner
 pub mod Walked

@@ -9,9 +9,11 @@ pub mod laws;
 mod malformed;
 mod raw_iterator;
 mod stats;
+mod visitor;
 
 pub use checker::WellFormedChecker;
 pub use iter::{Iter, Keys, Values};
 pub use malformed::MalformedTreeError;
 pub use raw_iterator::RawIterator;
 pub use stats::WellFormedTreeStats;
+pub use visitor::{Visitable, Visitor};

@@ -23,7 +23,7 @@ fn checked_4<K: CloneBytes, V: Clone>(
 }
 
 // Insertions of all keys of three bytes, of which the first is one of 4, the second of 3, the third of 2.
-fn insertions(alloc: Global) -> Result<Vec<Command<[u8; 3], u8>>, AllocError> {
+pub(crate) fn insertions(alloc: Global) -> Result<Vec<Command<[u8; 3], u8>>, AllocError> {
     let mut commands = Vec::new(alloc);
     for first in 0..4u8 {
         for second in 0..3u8 {

@@ -11,4 +11,6 @@ mod checks;
 #[cfg(test)]
 mod stats;
 #[cfg(test)]
+mod visits;
+#[cfg(test)]
 mod walks;

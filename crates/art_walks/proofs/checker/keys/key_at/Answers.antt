@@ -1,4 +1,4 @@
-use Rattle.std.proofs.Common.{IsSome, refl, sym, ap, ◌∙◌, arith}
+use Rattle.std.proofs.Common.{refl, ap, ◌∙◌, arith}
 use Rattle.art_walks.proofs.KeyWalks.{leaf_held_at}
 use Rattle.art_walks.proofs.checker.keys.key_at.Goals as goal
 

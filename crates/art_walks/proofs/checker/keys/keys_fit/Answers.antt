@@ -1,4 +1,4 @@
-use Rattle.std.proofs.Common.{◌≡◌, ◌-◌, ◌∷◌, ◌++◌, List, [], take, refl, sym, ap, ◌∙◌, arith}
+use Rattle.std.proofs.Common.{◌≡◌, ◌-◌, ◌∷◌, ◌++◌, [], take, refl, ap, ◌∙◌, arith}
 use Rattle.art_arena.specs.arena.Arena.{node_at}
 use Rattle.art_walks.specs.declared.checker.keys.Place.{Place}
 use Rattle.art_walks.proofs.KeyWalks.{left-start, left-end, left-leaf, left-inner, left-unfit, stands-here, fewer-leaf, fewer-inner, yes_of, no_of}

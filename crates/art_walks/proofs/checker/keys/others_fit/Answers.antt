@@ -1,6 +1,5 @@
-use Rattle.std.proofs.Common.{◌≡◌, ◌++◌, ◌∷◌, ◌+◌, ℕ, List, [], take, length, refl, sym, ap, subst, ◌∙◌, arith, append_assoc}
+use Rattle.std.proofs.Common.{◌≡◌, ◌++◌, ◌∷◌, ◌+◌, [], take, length, refl, sym, ap, subst, ◌∙◌, arith, append_assoc}
 use Rattle.std.specs.List.{AllByRecursion}
-use Rattle.art_nodes.specs.Name.{Name}
 use Rattle.art_arena.specs.arena.Arena.{node_at}
 use Rattle.art_walks.specs.declared.checker.keys.Place.{Place}
 use Rattle.art_walks.specs.inner.Fillings.{HasShape, ChildFits, first_key}

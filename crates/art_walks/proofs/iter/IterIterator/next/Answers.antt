@@ -1,4 +1,4 @@
-use Rattle.std.proofs.Common.{ap, ◌∷◌, ◌++◌, [], arith}
+use Rattle.std.proofs.Common.{ap, ◌∷◌, arith}
 use Rattle.art_walks.specs.Walked.{pairs_along, start_of}
 use Rattle.art_walks.proofs.Counted.{took-first, held-there, fewer-left, pair-read, none-first}
 use Rattle.art_walks.proofs.iter.IterIterator.next.Goals as goal
