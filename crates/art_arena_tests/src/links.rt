@@ -5,7 +5,7 @@ ghost use Rattle.art_arena.specs.arena.Cells.{leaf_name};
 ghost use Rattle.art_arena.specs.arena.Shapes.{LeafAt};
 ghost use Rattle.art_arena.specs.arena.Linked.{IsList, IsBeside};
 
-use art_arena::links::{insert_after, insert_before, remove_self, replace};
+use art_arena::links::{insert_after, insert_before, remove_self, replace, replace_run};
 use art_arena::{LeafPtr, NodeArena};
 use art_nodes::LeafNode;
 
@@ -88,6 +88,7 @@ enum Edit {
     InsertBefore,
     InsertAfter,
     Replace,
+    ReplaceRun,
     Remove,
 }
 
@@ -116,6 +117,10 @@ fn edits<K: Drop, V: Drop>(
             insert_after(arena, third, second);
             are_linked(arena, &[first, second, third])
         }
+        Edit::ReplaceRun => {
+            replace_run(arena, third, first, second);
+            are_linked(arena, &[third])
+        }
         _ => {
             replace(arena, third, first);
             are_linked(arena, &[third, second])
@@ -130,6 +135,7 @@ fn edits_of_the_list(rt: HostRuntime) {
         Edit::InsertBefore,
         Edit::InsertAfter,
         Edit::Replace,
+        Edit::ReplaceRun,
         Edit::Remove,
     ] {
         let done = edits(&mut arena, edit, [(1, 10), (2, 20), (3, 30)]);

@@ -1,10 +1,11 @@
 //! Nodes of each kind are stored, and what needs memory can be made again where it was refused.
 
 use crate::calling::store;
+use crate::links::lone_leaf;
 use art_arena::{LeafPtr, NodeArena, Stored};
 use art_nodes::{
     InnerNode4, InnerNode16, InnerNode48, InnerNode256, InnerNodeCommon, InnerNodeInit, LeafNode,
-    NodePtr,
+    NodePtr, OpaqueNodePtr,
 };
 use std::alloc::AllocError;
 use std::test::Fail;
@@ -106,4 +107,95 @@ fn what_was_reserved_for_takes_no_memory(rt: HostRuntime) -> Result<(), Fail> {
     let forty_eight = fits::<InnerNode48<u8, u8, 4>>(&mut arena);
     let largest = fits::<InnerNode256<u8, u8, 4>>(&mut arena);
     came(&rt, four && sixteen && forty_eight && largest)
+}
+
+// Clones an arena, in a window; where there was no memory, once more outside it.
+fn cloned<K: Clone + Drop, V: Clone + Drop>(
+    rt: &HostRuntime,
+    arena: &NodeArena<K, V, 4>,
+) -> Result<NodeArena<K, V, 4>, Fail> {
+    eprintln!(rt; "refuse")?;
+    let answer = arena.try_clone(rt.alloc());
+    came(rt, answer.is_ok())?;
+    match answer {
+        Ok(copy) => Ok(copy),
+        Err(_) => Ok(arena.try_clone(rt.alloc())?),
+    }
+}
+
+// The names of two leaves, of which the first is free again, and of an inner node.
+#[derive(Clone, Copy)]
+struct Names {
+    gone: LeafPtr,
+    leaf: LeafPtr,
+    inner: OpaqueNodePtr,
+}
+
+// Stores these nodes.
+fn with_a_gap<K: Drop, V: Drop>(
+    arena: &mut NodeArena<K, V, 4>,
+    gone: (K, V),
+    kept: (K, V),
+) -> Option<Names> {
+    let gone = lone_leaf(arena, gone)?;
+    let leaf = lone_leaf(arena, kept)?;
+    let node: InnerNode4<K, V, 4> = InnerNode4::from_prefix(b"ab", 2);
+    let inner = match arena.allocate_node_ptr(node) {
+        Ok(inner) => inner.to_opaque(),
+        Err(_refused) => return None,
+    };
+    if !arena.holds(gone.to_opaque()) {
+        return None;
+    }
+    let _freed: LeafNode<K, V> = arena.deallocate_node_ptr(gone);
+    Some(Names { gone, leaf, inner })
+}
+
+// Whether an arena holds the two nodes, and no leaf in the gap.
+fn has_gap<K, V>(arena: &NodeArena<K, V, 4>, names: &Names) -> bool {
+    !arena.holds(names.gone.to_opaque())
+        && arena.holds(names.leaf.to_opaque())
+        && arena.holds(names.inner)
+}
+
+// Whether a clone has the original's leaf, and the original doesn't change when another value is written into the
+// clone.
+fn is_apart<K, V: PartialEq + Drop>(
+    arena: &NodeArena<K, V, 4>,
+    copy: &mut NodeArena<K, V, 4>,
+    leaf: LeafPtr,
+    other: V,
+) -> bool {
+    if !arena.holds(leaf.to_opaque()) || !copy.holds(leaf.to_opaque()) {
+        return false;
+    }
+    let is_same = copy.as_value_ref(leaf) == arena.as_value_ref(leaf);
+    *copy.as_value_mut(leaf) = other;
+    if !copy.holds(leaf.to_opaque()) {
+        return false;
+    }
+    is_same && copy.as_value_ref(leaf) != arena.as_value_ref(leaf)
+}
+
+// Clones an arena with such nodes.
+fn clones<K: Clone + Drop, V: Clone + PartialEq + Drop>(
+    rt: &HostRuntime,
+    gone: (K, V),
+    kept: (K, V),
+    other: V,
+) -> Result<bool, Fail> {
+    let mut arena: NodeArena<K, V, 4> = NodeArena::new(rt.alloc());
+    let names = match with_a_gap(&mut arena, gone, kept) {
+        Some(names) => names,
+        None => return Ok(false),
+    };
+    let mut copy = cloned(rt, &arena)?;
+    let have_gaps = has_gap(&arena, &names) && has_gap(&copy, &names);
+    Ok(have_gaps && is_apart(&arena, &mut copy, names.leaf, other))
+}
+
+#[test]
+fn a_clone_has_nodes_of_its_own(rt: HostRuntime) -> Result<(), Fail> {
+    assert!(rt; clones(&rt, (1u8, 10u8), (2, 20), 21)?);
+    Ok(())
 }

@@ -45,3 +45,4 @@ pub mod FreedParts
 pub mod WrittenValues
 pub mod TakenEnds
 pub mod ClonedTrees
+pub mod RepeatedClones

@@ -1,10 +1,10 @@
 -- What commands leave and answer, as the checker computes it.
 use Rattle.std.proofs.Common.{◌≡◌, ℕ, List, [], ◌∷◌, refl, inl}
-use Rattle.art_operations.specs.Commands.{IsAnswered, pairs_after}
+use Rattle.art_operations.specs.Commands.{IsAnswered, pairs_after, clones_in}
 use Rattle.art_operations.specs.declared.running.Answer.{Answer}
 use Rattle.art_operations.specs.declared.running.Answer.TheVariants.{Done, Prefix, Memory}
 use Rattle.art_operations.specs.declared.running.Command.{Command}
-use Rattle.art_operations.specs.declared.running.Command.TheVariants.{Insert, PrefixInsert, Delete}
+use Rattle.art_operations.specs.declared.running.Command.TheVariants.{Insert, PrefixInsert, Delete, Clone}
 
 -- each key is its own bytes
 abbrev itself : List ℕ → List ℕ
@@ -12,6 +12,9 @@ itself k = k
 
 abbrev left_by : List (Command (List ℕ) ℕ) → List Answer → List (List ℕ × ℕ)
 left_by commands answers = pairs_after itself commands answers []
+
+abbrev clones_among : List (Command (List ℕ) ℕ) → ℕ
+clones_among commands = clones_in commands
 
 abbrev AnswersOn : List (List ℕ × ℕ) → Command (List ℕ) ℕ → Answer → Type 0
 AnswersOn pairs command answer = IsAnswered itself pairs command answer
@@ -63,3 +66,10 @@ deleted_none = refl
 -- the last pair goes, and none is left
 emptied : left_by (Insert (1 ∷ []) 5 ∷ Delete (1 ∷ []) ∷ []) (Done 0 ∷ Done 1 ∷ []) ≡ []
 emptied = refl
+
+-- a clone has the same pairs, whether it takes the tree's place or is refused
+cloned : left_by (Insert (1 ∷ []) 5 ∷ Clone ∷ Clone ∷ Insert (2 ∷ []) 6 ∷ []) (Done 0 ∷ Done 0 ∷ Memory ∷ Done 0 ∷ []) ≡ (1 ∷ [], 5) ∷ (2 ∷ [], 6) ∷ []
+cloned = refl
+
+cloned_twice : clones_among (Insert (1 ∷ []) 5 ∷ Clone ∷ Delete (1 ∷ []) ∷ Clone ∷ []) ≡ 2
+cloned_twice = refl

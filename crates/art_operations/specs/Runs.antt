@@ -1,5 +1,5 @@
 -- What a run leaves: an arena that holds the tree of clones of the pairs, and nothing else.
-use Rattle.std.specs.Prelude.{◌≡◌, ℕ, List, [], Option, Some, None}
+use Rattle.std.specs.Prelude.{◌≡◌, ◌⊎◌, ℕ, zero, suc, List, [], Option, Some, None}
 use Rattle.std.specs.List.{AllZip}
 use Rattle.art_nodes.specs.Name.{Name}
 use Rattle.art_arena.specs.arena.Arena.{Arena, node_at, links_at}
@@ -7,6 +7,12 @@ use Rattle.art_arena.specs.arena.Meaning.{MeansAll}
 use Rattle.art_arena.specs.arena.Shapes.{key_of}
 use Rattle.art_arena.specs.tree.TreeOf.{tree_of}
 use Rattle.art_arena.specs.tree.Trees.{Tree}
+
+-- it is a clone of this, or a clone of a clone of it, with at most so many clones between
+abbrev pub IsCloned : {X : Type 0} → (X → X → Type 0) → ℕ → X → X → Type 0
+IsCloned IsClone zero x y = IsClone x y
+IsCloned {X} IsClone (suc n) x y =
+    IsCloned IsClone n x y ⊎ ((between : X) × IsCloned IsClone n x between × IsClone between y)
 
 module _ {K V : Type 0} (KeyClone : K → K → Type 0) (ValueClone : V → V → Type 0) where
   -- these are clones of the pairs, in the same order

@@ -1,13 +1,14 @@
 //! Lists of commands on a tree, from no pair on.
-ghost use Rattle.std.specs.Prelude.{◌≡◌, List, [], Some, IfOk};
+ghost use Rattle.std.specs.Prelude.{◌≡◌, ℕ, suc, List, [], Some, IfOk};
 ghost use Rattle.art_arena.specs.arena.Shapes.{key_of};
-ghost use Rattle.art_operations.specs.Commands.{AreAnswered, pairs_after};
+ghost use Rattle.art_operations.specs.Commands.{AreAnswered, clones_in, pairs_after, with_clone};
 ghost use Rattle.art_operations.specs.KeyedLists.{IsBlocked};
 ghost use Rattle.art_operations.specs.Overwrites.{removed_by};
 ghost use Rattle.art_operations.specs.Pairs.{CanPut, HasPairs};
-ghost use Rattle.art_operations.specs.Runs.{HoldsClonesOf};
+ghost use Rattle.art_operations.specs.Runs.{HoldsClonesOf, IsCloned};
 ghost use Rattle.art_operations.specs.inner.Runs.{HasClones, IsCarriedOut, IsDone};
 
+use crate::clone::clone_unchecked;
 use crate::insert::point::InsertPoint;
 use crate::pairs::{find_place, find_place_over, put_over, put_pair, take_pair};
 use crate::prefix_insert::result::PrefixInsertResult;
@@ -25,6 +26,8 @@ pub enum Command<K, V> {
     PrefixInsert(K, V),
     /// Removes the pair with a key.
     Delete(K),
+    /// Lets a clone of the tree take its place.
+    Clone,
 }
 
 /// What a command answers.
@@ -105,10 +108,11 @@ fn insert<K: AsBytes + Clone, V: Clone, const PREFIX_LEN: usize>(
     value: &V,
 ) -> Change
     requires keys { (k c : K) → K.is_clone k c → K.bytes c ≡ K.bytes k }
-    requires pairs { (pairs : List (K × V))
-        × HasClones K.bytes PREFIX_LEN arena.old K.is_clone V.is_clone root pairs }
-    ensures { (pairs : List (K × V)) → HasClones K.bytes PREFIX_LEN arena.old K.is_clone V.is_clone root pairs
-        → IsCarriedOut K.bytes PREFIX_LEN arena.new K.is_clone V.is_clone pairs
+    requires pairs { (n : ℕ) × (pairs : List (K × V))
+        × HasClones K.bytes PREFIX_LEN arena.old (IsCloned K.is_clone n) (IsCloned V.is_clone n) root pairs }
+    ensures { (n : ℕ) (pairs : List (K × V))
+        → HasClones K.bytes PREFIX_LEN arena.old (IsCloned K.is_clone n) (IsCloned V.is_clone n) root pairs
+        → IsCarriedOut K.bytes PREFIX_LEN arena.new (IsCloned K.is_clone n) (IsCloned V.is_clone n) pairs
         (Command.Insert key.now value.now) result }
 {
     // By value an option of a name counts as moved, so a copy goes in.
@@ -173,10 +177,11 @@ fn prefix_insert<K: AsBytes + Clone, V: Clone, const PREFIX_LEN: usize>(
     value: &V,
 ) -> Change
     requires keys { (k c : K) → K.is_clone k c → K.bytes c ≡ K.bytes k }
-    requires pairs { (pairs : List (K × V))
-        × HasClones K.bytes PREFIX_LEN arena.old K.is_clone V.is_clone root pairs }
-    ensures { (pairs : List (K × V)) → HasClones K.bytes PREFIX_LEN arena.old K.is_clone V.is_clone root pairs
-        → IsCarriedOut K.bytes PREFIX_LEN arena.new K.is_clone V.is_clone pairs
+    requires pairs { (n : ℕ) × (pairs : List (K × V))
+        × HasClones K.bytes PREFIX_LEN arena.old (IsCloned K.is_clone n) (IsCloned V.is_clone n) root pairs }
+    ensures { (n : ℕ) (pairs : List (K × V))
+        → HasClones K.bytes PREFIX_LEN arena.old (IsCloned K.is_clone n) (IsCloned V.is_clone n) root pairs
+        → IsCarriedOut K.bytes PREFIX_LEN arena.new (IsCloned K.is_clone n) (IsCloned V.is_clone n) pairs
         (Command.PrefixInsert key.now value.now) result }
 {
     match cloned(key, value) {
@@ -216,44 +221,88 @@ fn delete<K: AsBytes + Drop, V: Drop, const PREFIX_LEN: usize>(
     }
 }
 
+// Lets a clone of the tree take its place. Where no memory holds an inner node, none is cloned.
+fn clone_tree<K: AsBytes + Clone, V: Clone, const PREFIX_LEN: usize>(
+    alloc: Global,
+    arena: &mut NodeArena<K, V, PREFIX_LEN>,
+    root: Option<OpaqueNodePtr>,
+) -> Change
+    requires keys { (k c : K) → K.is_clone k c → K.bytes c ≡ K.bytes k }
+    requires pairs { (pairs : List (K × V)) × HasPairs K.bytes PREFIX_LEN arena.old root pairs }
+    ensures { (n : ℕ) (pairs : List (K × V))
+        → HasClones K.bytes PREFIX_LEN arena.old (IsCloned K.is_clone n) (IsCloned V.is_clone n) root pairs
+        → IsCarriedOut K.bytes PREFIX_LEN arena.new (IsCloned K.is_clone (suc n)) (IsCloned V.is_clone (suc n)) pairs
+        Command.Clone result }
+{
+    let answer = Answer::Done(0);
+    let Some(top) = root else {
+        return Change { root, answer };
+    };
+    if !arena.fits_in_memory() {
+        return Change {
+            root,
+            answer: Answer::Memory,
+        };
+    }
+    match clone_unchecked(alloc, arena, top) {
+        Ok(cloned) => {
+            let new_root = cloned.root;
+            *arena = cloned.arena;
+            Change {
+                root: Some(new_root),
+                answer,
+            }
+        }
+        Err(_) => Change {
+            root,
+            answer: Answer::Memory,
+        },
+    }
+}
+
 // Carries out one command.
 fn carry_out<K: AsBytes + Clone, V: Clone, const PREFIX_LEN: usize>(
+    alloc: Global,
     arena: &mut NodeArena<K, V, PREFIX_LEN>,
     root: Option<OpaqueNodePtr>,
     command: &Command<K, V>,
 ) -> Change
     requires keys { (k c : K) → K.is_clone k c → K.bytes c ≡ K.bytes k }
-    requires pairs { (pairs : List (K × V))
-        × HasClones K.bytes PREFIX_LEN arena.old K.is_clone V.is_clone root pairs }
-    ensures { (pairs : List (K × V)) → HasClones K.bytes PREFIX_LEN arena.old K.is_clone V.is_clone root pairs
-        → IsCarriedOut K.bytes PREFIX_LEN arena.new K.is_clone V.is_clone pairs command.now result }
+    requires pairs { (n : ℕ) × (pairs : List (K × V))
+        × HasClones K.bytes PREFIX_LEN arena.old (IsCloned K.is_clone n) (IsCloned V.is_clone n) root pairs }
+    ensures { (n : ℕ) (pairs : List (K × V))
+        → HasClones K.bytes PREFIX_LEN arena.old (IsCloned K.is_clone n) (IsCloned V.is_clone n) root pairs
+        → IsCarriedOut K.bytes PREFIX_LEN arena.new (IsCloned K.is_clone (with_clone command.now n))
+        (IsCloned V.is_clone (with_clone command.now n)) pairs command.now result }
 {
     match command {
         Command::Insert(key, value) => insert(arena, root, key, value),
         Command::PrefixInsert(key, value) => prefix_insert(arena, root, key, value),
         Command::Delete(key) => delete(arena, root, key),
+        Command::Clone => clone_tree(alloc, arena, root),
     }
 }
 
 /// Carries out the commands one after the other, from no pair on, and answers each in turn. An insertion is answered
 /// `Prefix` exactly where its key is in conflict with a stored one, which takes no memory. A command whose key or value
 /// can't be cloned, or for whose nodes there is no memory, is refused and changes nothing; where the key is stored
-/// already, an insertion of either kind needs clones alone. The run itself is refused only where there is no memory for
-/// the answers, before the first command.
+/// already, an insertion of either kind needs clones alone. With each `Clone` the tree may be a clone of a clone once
+/// more. The run itself is refused only where there is no memory for the answers, before the first command.
 pub fn run<K: AsBytes + Clone, V: Clone, const PREFIX_LEN: usize>(
     alloc: Global,
     commands: &[Command<K, V>],
 ) -> Result<RunResult<K, V, PREFIX_LEN>, AllocError>
     requires { (k c : K) → K.is_clone k c → K.bytes c ≡ K.bytes k }
     ensures answers { IfOk result (λ ran. AreAnswered K.bytes [] commands.now ran.answers.items) }
-    ensures tree { IfOk result (λ ran. HoldsClonesOf K.bytes PREFIX_LEN ran.arena K.is_clone V.is_clone ran.root
+    ensures tree { IfOk result (λ ran. HoldsClonesOf K.bytes PREFIX_LEN ran.arena
+        (IsCloned K.is_clone (clones_in commands.now)) (IsCloned V.is_clone (clones_in commands.now)) ran.root
         (pairs_after K.bytes commands.now ran.answers.items [])) }
 {
     let mut answers = Vec::with_capacity(alloc, commands.len())?;
     let mut arena = NodeArena::new(alloc);
     let mut root = None;
     for command in commands {
-        let change = carry_out(&mut arena, root, command);
+        let change = carry_out(alloc, &mut arena, root, command);
         root = change.root;
         answers.push_reserved(change.answer);
     }

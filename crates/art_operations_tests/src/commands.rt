@@ -1,6 +1,6 @@
 //! Commands run at concrete types, for several `PREFIX_LEN`.
-ghost use Rattle.std.specs.Prelude.{List, ◌<◌};
-ghost use Rattle.art_operations.specs.Runs.{HoldsClonesOf};
+ghost use Rattle.std.specs.Prelude.{ℕ, List, ◌<◌};
+ghost use Rattle.art_operations.specs.Runs.{HoldsClonesOf, IsCloned};
 
 use art_arena::NodeArena;
 use art_bytes::{AsBytes, CloneBytes};
@@ -16,8 +16,9 @@ fn has_left<K: CloneBytes, V: Clone, const PREFIX_LEN: usize>(
     stored: &[K],
     missing: &[K],
 ) -> bool
-    requires { (pairs : List (K × V))
-        × HoldsClonesOf K.bytes PREFIX_LEN ran.now.arena K.is_clone V.is_clone ran.now.root pairs }
+    requires { (n : ℕ) × (pairs : List (K × V))
+        × HoldsClonesOf K.bytes PREFIX_LEN ran.now.arena (IsCloned K.is_clone n) (IsCloned V.is_clone n)
+        ran.now.root pairs }
 {
     let root = match ran.root {
         Some(root) => root,
@@ -108,20 +109,24 @@ fn held<K, V, N: NodeKind>(arena: &NodeArena<K, V, 4>) -> usize {
         .count()
 }
 
-// How many nodes of each kind commands leave: inner nodes from the smallest kind to the largest, and leaves.
-fn nodes_left<K: CloneBytes, V: Clone>(
-    alloc: Global,
-    commands: &[Command<K, V>],
-) -> Result<[usize; 5], AllocError> {
-    let ran: RunResult<K, V, 4> = run(alloc, commands)?;
-    let arena = &ran.arena;
-    Ok([
+/// How many nodes of each kind an arena holds: inner nodes from the smallest kind to the largest, and leaves.
+pub(crate) fn nodes_in<K, V>(arena: &NodeArena<K, V, 4>) -> [usize; 5] {
+    [
         held::<K, V, Kind4>(arena),
         held::<K, V, Kind16>(arena),
         held::<K, V, Kind48>(arena),
         held::<K, V, Kind256>(arena),
         held::<K, V, KindLeaf>(arena),
-    ])
+    ]
+}
+
+// How many of them commands leave.
+fn nodes_left<K: CloneBytes, V: Clone>(
+    alloc: Global,
+    commands: &[Command<K, V>],
+) -> Result<[usize; 5], AllocError> {
+    let ran: RunResult<K, V, 4> = run(alloc, commands)?;
+    Ok(nodes_in(&ran.arena))
 }
 
 // The keys of three bytes below six, in order.
@@ -359,5 +364,48 @@ fn puts_keys_in_over_others(rt: HostRuntime) -> Result<(), AllocError> {
     // All give way to the empty key.
     commands.push(Command::PrefixInsert(Vec::new(alloc), 7))?;
     assert_eq!(rt; nodes_left(alloc, commands.as_slice())?, [0, 0, 0, 0, 1]);
+    Ok(())
+}
+
+#[test]
+fn goes_on_with_clones(rt: HostRuntime) -> Result<(), AllocError> {
+    let alloc = rt.alloc();
+    let mut commands = Vec::new(alloc);
+    commands.push(Command::Clone)?;
+    commands.push(Command::Insert(Vec::from_slice(alloc, b"ab")?, 1u8))?;
+    commands.push(Command::Clone)?;
+    commands.push(Command::Insert(Vec::from_slice(alloc, b"b")?, 2))?;
+    commands.push(Command::Insert(Vec::from_slice(alloc, b"ac")?, 3))?;
+    commands.push(Command::Clone)?;
+    commands.push(Command::Clone)?;
+    commands.push(Command::Delete(Vec::from_slice(alloc, b"ab")?))?;
+    commands.push(Command::Clone)?;
+    let wanted = [
+        Answer::Done(0),
+        Answer::Done(0),
+        Answer::Done(0),
+        Answer::Done(0),
+        Answer::Done(0),
+        Answer::Done(0),
+        Answer::Done(0),
+        Answer::Done(1),
+        Answer::Done(0),
+    ];
+    assert!(rt; answers(alloc, commands.as_slice(), wanted.as_slice())?);
+    let mut stored = Vec::new(alloc);
+    stored.push(Vec::from_slice(alloc, b"ac")?)?;
+    stored.push(Vec::from_slice(alloc, b"b")?)?;
+    let mut missing = Vec::new(alloc);
+    missing.push(Vec::from_slice(alloc, b"ab")?)?;
+    assert!(rt;
+        leaves_anyway(
+            alloc,
+            commands.as_slice(),
+            stored.as_slice(),
+            missing.as_slice()
+        )?
+    );
+    // The clone has no nodes but its own.
+    assert_eq!(rt; nodes_left(alloc, commands.as_slice())?, [1, 0, 0, 0, 2]);
     Ok(())
 }

@@ -13,8 +13,8 @@ use art_operations::{Command, put_pair, search_unchecked, take_pair};
 use std::alloc::Global;
 use std::test::Fail;
 
-// Stores a pair as a tree of its own beside another tree, and answers its root.
-fn put_beside<K: AsBytes + Drop, V: Drop>(
+/// Stores a pair as a tree of its own beside another tree, and answers its root.
+pub(crate) fn put_beside<K: AsBytes + Drop, V: Drop>(
     arena: &mut NodeArena<K, V, 4>,
     root: OpaqueNodePtr,
     key: K,

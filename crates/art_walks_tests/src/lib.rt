@@ -9,6 +9,8 @@ mod calling;
 #[cfg(test)]
 mod checks;
 #[cfg(test)]
+mod replay;
+#[cfg(test)]
 mod stats;
 #[cfg(test)]
 mod visits;

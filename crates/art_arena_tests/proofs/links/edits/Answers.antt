@@ -1,4 +1,4 @@
-use Rattle.std.proofs.Common.{[], ◌∷◌, lit<}
+use Rattle.std.proofs.Common.{[], ◌∷◌, Some, ap, lit<}
 use Rattle.art_arena_tests.proofs.links.edits.Goals as goal
 
 pub remove_self-requires : goal.remove_self-requires
@@ -12,3 +12,8 @@ insert_after-requires g c = let (x, y, beside, first, second) = c.in_ok-first.en
 
 pub replace-requires : goal.replace-requires
 replace-requires g c = let (x, y, beside, first, second) = c.in_ok-first.ensures in (lit< tt, ([], x, y ∷ [], beside, first))
+
+pub replace_run-requires : goal.replace_run-requires
+replace_run-requires g c =
+    let (x, y, beside, first, second) = c.in_ok-first.ensures in
+    (lit< tt, ([], x ∷ y ∷ [], [], beside, ap Some first, ap Some second))

@@ -1,7 +1,7 @@
 use Rattle.std.proofs.Common.{◌≡◌, ◌+◌, ◌∙◌, [], ◌∷◌, ◌++◌, take, ap, sym, subst, rules, arith}
 use Rattle.std.proofs.lemmas.List.{take_more, take_all}
-use Rattle.art_operations.specs.Commands.{pairs_after}
-use Rattle.art_operations.specs.Runs.{HoldsClonesOf}
+use Rattle.art_operations.specs.Commands.{clones_in, pairs_after}
+use Rattle.art_operations.specs.Runs.{HoldsClonesOf, IsCloned}
 use Rattle.art_operations.proofs.CommandLists.{as-many, run-one-more}
 use Rattle.art_operations.proofs.HeldPairs.{pairs-tree}
 use Rattle.art_operations.proofs.running.run.Goals as goal
@@ -32,5 +32,5 @@ returns-clause-tree g c =
     let commands = c.args.commands.now in
     let inv = c.loop-command.invariant in
     let all : take c.loop-command.command-index commands ≡ commands = take_all c.loop-command.command-index commands c.loop-command-test.false in
-    subst (λ done. HoldsClonesOf g.K.AsBytes.bytes g.row.PREFIX_LEN c.loop-command.arena g.K.Clone.is_clone g.V.Clone.is_clone c.loop-command.root (pairs_after g.K.AsBytes.bytes done c.loop-command.answers.items [])) all
+    subst (λ done. HoldsClonesOf g.K.AsBytes.bytes g.row.PREFIX_LEN c.loop-command.arena (IsCloned g.K.Clone.is_clone (clones_in done)) (IsCloned g.V.Clone.is_clone (clones_in done)) c.loop-command.root (pairs_after g.K.AsBytes.bytes done c.loop-command.answers.items [])) all
     (inv.0.1.0, inv.0.1.1, pairs-tree g.K.AsBytes.bytes g.row.PREFIX_LEN c.loop-command.arena c.loop-command.root inv.0.1.0 inv.0.1.2)
