@@ -6,7 +6,6 @@ ghost use Rattle.art_arena.specs.arena.Arena.{held_at, inner_held, node_at};
 ghost use Rattle.art_arena.specs.arena.Descents.{GoesNoFurther, GoesOn, HasNoFront, Lands, LandsAt, OnWayTo, Stops};
 ghost use Rattle.art_arena.specs.arena.Prefixes.{prefix_of};
 ghost use Rattle.art_arena.specs.arena.Shapes.{Shape, erase};
-ghost use Rattle.art_arena.specs.arena.Steps.{steps_of};
 ghost use Rattle.art_arena.specs.arena.Stores.{Stores, StoresAt};
 ghost use Rattle.art_arena.specs.arena.Visited.{arena_of, count_of};
 ghost use Rattle.art_arena.specs.tree.Paths.{path_of};
@@ -37,8 +36,6 @@ pub struct Stop<'a, K, V> {
     pub node: OpaqueNodePtr,
     /// The node itself, which was read, where it is a leaf.
     pub leaf: Option<&'a LeafNode<K, V>>,
-    /// The inner nodes just above it.
-    pub path: TreePath,
     /// How many bytes of the key lead there.
     pub depth: usize,
 }
@@ -88,32 +85,32 @@ fn step_at<K: AsBytes, V, const PREFIX_LEN: usize>(
 
 /// Goes down for a key in the canonical tree below a name, as far as it goes: to a leaf, to a node where the key ends
 /// or has no child, or to one whose prefix it doesn't pass. Each node is read once, but for the leaves that lend
-/// prefixes; nothing is copied, and no memory is taken.
+/// prefixes; nothing is copied, and no memory is taken. The last steps of the way are left in `search`.
 #[inline(always)]
 pub fn descend<'a, K: AsBytes, V, const PREFIX_LEN: usize>(
     reader: &mut ArenaReader<'a, K, V, PREFIX_LEN>,
+    search: &mut TreePathSearch,
     root: OpaqueNodePtr,
     key: &[u8],
     passing: Passing,
 ) -> Stop<'a, K, V>
-    requires { (s : Shape K V) × Stores K.bytes PREFIX_LEN (arena_of reader.old) root s }
+    requires tree { (s : Shape K V) × Stores K.bytes PREFIX_LEN (arena_of reader.old) root s }
+    requires fresh { search.old ≡ [] }
     ensures lands { passing ≡ Passing.ByLength → (s : Shape K V)
         → Stores K.bytes PREFIX_LEN (arena_of reader.old) root s
         → MatchOption result.leaf (HasNoFront K.bytes key.now s)
-        (λ leaf. LandsAt K.bytes key.now s result.node.slot leaf.now (steps_of result.path)) }
+        (λ leaf. LandsAt K.bytes key.now s result.node.slot leaf.now search.new) }
     ensures counts { passing ≡ Passing.ByLength → (s : Shape K V)
         → Stores K.bytes PREFIX_LEN (arena_of reader.old) root s
         → count_of reader.new ≡ min (count_of reader.old + length (path_of (erase s) key.now)) (2 ^ 64 - 1) }
     ensures way { passing ≡ Passing.ByBytes → (s : Shape K V)
         → Stores K.bytes PREFIX_LEN (arena_of reader.old) root s
-        → OnWayTo K.bytes PREFIX_LEN (node_at (arena_of reader.old)) key.now s result.node (steps_of result.path)
-        result.depth }
+        → OnWayTo K.bytes PREFIX_LEN (node_at (arena_of reader.old)) key.now s result.node search.new result.depth }
     ensures stops { passing ≡ Passing.ByBytes → (path : List ℕ) (s : Shape K V)
         → StoresAt K.bytes PREFIX_LEN (arena_of reader.old) result.node result.depth path s
         → BeginsWith path key.now → Stops K.bytes key.now path s }
     ensures kept { arena_of reader.new ≡ arena_of reader.old }
 {
-    let mut search = TreePathSearch::default();
     let mut current = root;
     let mut depth = 0;
     'down: loop {
@@ -122,7 +119,6 @@ pub fn descend<'a, K: AsBytes, V, const PREFIX_LEN: usize>(
                 return Stop {
                     node: current,
                     leaf: Some(leaf),
-                    path: search.finish(),
                     depth,
                 };
             }
@@ -131,7 +127,6 @@ pub fn descend<'a, K: AsBytes, V, const PREFIX_LEN: usize>(
                     return Stop {
                         node: current,
                         leaf: None,
-                        path: search.finish(),
                         depth,
                     };
                 }
@@ -161,12 +156,13 @@ pub fn land<'a, K: AsBytes, V, const PREFIX_LEN: usize>(
     ensures counts { (s : Shape K V) → Stores K.bytes PREFIX_LEN (arena_of reader.old) root s
         → count_of reader.new ≡ min (count_of reader.old + length (path_of (erase s) key.now)) (2 ^ 64 - 1) }
 {
-    let stop = descend(reader, root, key, Passing::ByLength);
+    let mut search = TreePathSearch::default();
+    let stop = descend(reader, &mut search, root, key, Passing::ByLength);
     match stop.leaf {
         Some(leaf) => Some(Landed {
             name: NodePtr::from_slot(stop.node.slot()),
             leaf,
-            path: stop.path,
+            path: search.finish(),
         }),
         None => None,
     }

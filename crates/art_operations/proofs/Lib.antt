@@ -1,4 +1,3 @@
-pub mod LastSteps
 pub mod Meetings
 pub mod Points
 pub mod NewNodes

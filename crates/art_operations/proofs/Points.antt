@@ -18,7 +18,7 @@ use Rattle.art_arena.proofs.tree.Order.{all_append, all_weaker}
 use Rattle.art_arena.proofs.tree.Fronts.{begins_trans, one_byte}
 use Rattle.art_arena.proofs.shapes.Places.{leaves-begin, step-down, at-root}
 use Rattle.art_operations.specs.Meetings.{PartAt}
-use Rattle.art_operations.proofs.LastSteps.{last_two}
+use Rattle.art_arena.proofs.shapes.LastSteps.{last_two}
 use Rattle.art_operations.specs.declared.meeting.Parted.{Parted}
 use Rattle.art_operations.specs.Points.{AllConflict, HasConflict, NoConflict}
 use Rattle.art_arena.specs.arena.Descents.{OnWayTo}

@@ -18,6 +18,7 @@ use Rattle.art_arena.specs.arena.Found.{located, located_in}
 use Rattle.art_arena.specs.arena.Descents.{GoesOn, GoesNoFurther, TakesFronts, located_where, LandsAt, HasNoFront, OnWayTo}
 use Rattle.art_nodes.specs.declared.leaf.LeafNode.{LeafNode}
 use Rattle.art_arena.specs.arena.Arena.{Arena, Held, leaf_held, inner_held, held_at, cell_of, node_at}
+use Rattle.art_arena.proofs.shapes.LastSteps.{last_two}
 use Rattle.art_arena.proofs.shapes.CellLists.{copies-append}
 use Rattle.art_arena.proofs.shapes.Contexts.{cells-plug}
 use Rattle.art_arena.proofs.shapes.Places.{held-below, leaf-there, inner-there, step-down, at-root}
@@ -26,10 +27,6 @@ use Rattle.art_arena.proofs.shapes.Finding.{NoneFits, dropped, counted_more, loc
 -- how many nodes are counted after so many more
 abbrev pub counted : ℕ → ℕ → ℕ
 counted start n = min (start + n) (2 ^ 64 - 1)
-
-last_two : (step : Step) (xs : List Step) → take 2 (step ∷ xs) ≡ take 2 (step ∷ take 2 xs)
-last_two step [] = refl
-last_two step (x ∷ xs) = refl
 
 -- what stands at a place of a tree is a tree of its own
 pub place-subtree : {K V : Type 0} (bytes : K → List ℕ) (P : ℕ) (at : Name → Option (Cell K V)) (root : Name) (s : Shape K V) (ctx : List (Frame K V)) (part : Shape K V) → IsSubtree bytes P at root [] s → IsPlace bytes s ctx part → IsSubtree bytes P at (name_of part) (path_to ctx) part

@@ -11,7 +11,9 @@ ghost use Rattle.art_operations.specs.inner.Ways.{IsWay};
 ghost use Rattle.art_arena.specs.arena.Stores.{Stores, StoresAt};
 
 use crate::meeting::{Meeting, Parted, meet};
-use art_arena::{ArenaReader, LeafPtr, NodeArena, Passing, TreePath, descend, read_full_prefix};
+use art_arena::{
+    ArenaReader, LeafPtr, NodeArena, Passing, TreePath, TreePathSearch, descend, read_full_prefix,
+};
 use art_bytes::AsBytes;
 use art_nodes::{KindLeaf, NodeType, OpaqueNodePtr};
 use std::alloc::{AllocError, Global};
@@ -238,10 +240,11 @@ fn stop_of<K: AsBytes, V, const PREFIX_LEN: usize>(
         → BeginsWith path key.now → Stops K.bytes key.now path s }
 {
     let mut reader = ArenaReader::new(arena);
-    let stop = descend(&mut reader, root, key, Passing::ByBytes);
+    let mut search = TreePathSearch::default();
+    let stop = descend(&mut reader, &mut search, root, key, Passing::ByBytes);
     Stop {
         node: stop.node,
-        path: stop.path,
+        path: search.finish(),
         depth: stop.depth,
     }
 }

@@ -12,13 +12,13 @@ pub down-init : goal.down-init
 down-init g c = record {
   room = omega arith;
   kept = refl;
-  way = λ s tree. rw c.default-search.ensures (way-starts g.K.AsBytes.bytes c.args.key.now s c.args.reader.now.count g.row.PREFIX_LEN (node_at c.args.reader.now.arena.now) c.args.root tree _);
+  way = λ s tree. rw c.requires.fresh (way-starts g.K.AsBytes.bytes c.args.key.now s c.args.reader.now.count g.row.PREFIX_LEN (node_at c.args.reader.now.arena.now) c.args.root tree _);
 }
 
 pub visit-requires : goal.visit-requires
 visit-requires g c =
-    let way = (c.down.invariant.way c.requires.0 c.requires.1).0 in
-    let there = way-there g.K.AsBytes.bytes c.args.key.now c.requires.0 c.args.reader.now.count g.row.PREFIX_LEN (node_at c.args.reader.now.arena.now) c.args.root c.requires.1
+    let way = (c.down.invariant.way c.requires.tree.0 c.requires.tree.1).0 in
+    let there = way-there g.K.AsBytes.bytes c.args.key.now c.requires.tree.0 c.args.reader.now.count g.row.PREFIX_LEN (node_at c.args.reader.now.arena.now) c.args.root c.requires.tree.1
     c.down.current c.down.search c.down.depth c.down.reader.count way in
     (lit< tt, (lit< tt, node-there c.args.reader.now.arena.now c.down.reader.arena.now c.down.current c.down.invariant.kept there))
 
@@ -26,9 +26,8 @@ pub returns-in-Ok-clause-lands : goal.returns-in-Ok-clause-lands
 returns-in-Ok-clause-lands g c = λ mode s tree.
     let way = (c.down.invariant.way s tree).0 in
     let there = lent-leaf c.args.reader.now.arena.now c.down.reader.arena.now c.down.current (held_of c.visit.result) c.in-Ok.leaf.now c.down.invariant.kept c.visit.ensures.value c.in-Ok.ensures in
-    rw c.finish.ensures
-    (way-lands g.K.AsBytes.bytes c.args.key.now s c.args.reader.now.count g.row.PREFIX_LEN (node_at c.args.reader.now.arena.now) c.args.root tree
-    c.down.current c.down.search c.down.depth c.down.reader.count way c.in-Ok.leaf.now.key c.in-Ok.leaf.now.value there c.in-Ok.leaf.now refl refl)
+    way-lands g.K.AsBytes.bytes c.args.key.now s c.args.reader.now.count g.row.PREFIX_LEN (node_at c.args.reader.now.arena.now) c.args.root tree
+    c.down.current c.down.search c.down.depth c.down.reader.count way c.in-Ok.leaf.now.key c.in-Ok.leaf.now.value there c.in-Ok.leaf.now refl refl
 
 pub returns-in-Ok-clause-counts : goal.returns-in-Ok-clause-counts
 returns-in-Ok-clause-counts g c = λ mode s tree.
@@ -41,7 +40,7 @@ pub returns-in-Ok-clause-way : goal.returns-in-Ok-clause-way
 returns-in-Ok-clause-way g c = λ mode s tree.
     let way = c.down.invariant.way s tree in
     on-way-to g.K.AsBytes.bytes c.args.key.now s c.args.reader.now.count g.row.PREFIX_LEN (node_at c.args.reader.now.arena.now) c.args.root tree
-    c.down.current c.down.search c.down.depth c.down.reader.count way.0 _ c.finish.ensures (way.1 mode)
+    c.down.current c.down.search c.down.depth c.down.reader.count way.0 _ refl (way.1 mode)
 
 pub returns-in-Ok-clause-stops : goal.returns-in-Ok-clause-stops
 returns-in-Ok-clause-stops g c = λ mode path s at begins.
@@ -50,10 +49,10 @@ returns-in-Ok-clause-stops g c = λ mode path s at begins.
 
 pub step_at-requires : goal.step_at-requires
 step_at-requires g c =
-    let way = (c.down.invariant.way c.requires.0 c.requires.1).0 in
+    let way = (c.down.invariant.way c.requires.tree.0 c.requires.tree.1).0 in
     let arena_is : c.arena.result.now ≡ c.down.reader.arena.now = c.arena.ensures ∙ c.visit.ensures.kept in
     let other : c.down.current.kind ≢ Leaf = λ e. c.in-Err.ensures.2 (sym c.in-Err.ensures.1 ∙ c.visit.ensures.kind ∙ e) in
-    let sub = way-subtree g.K.AsBytes.bytes c.args.key.now c.requires.0 c.args.reader.now.count g.row.PREFIX_LEN (node_at c.args.reader.now.arena.now) c.args.root c.requires.1
+    let sub = way-subtree g.K.AsBytes.bytes c.args.key.now c.requires.tree.0 c.args.reader.now.count g.row.PREFIX_LEN (node_at c.args.reader.now.arena.now) c.args.root c.requires.tree.1
     c.down.current c.down.search c.down.depth c.down.reader.count way in
     let at = subst (λ a. IsAtDepth g.K.AsBytes.bytes g.row.PREFIX_LEN (node_at a) c.down.current c.down.depth (path_to way.ctx) way.part) (sym (arena_is ∙ c.down.invariant.kept)) (record { subtree = sub; behind = way.depth_is }) in
     (lit< tt, (lit< tt, ((path_to way.ctx, way.part, at), (ap (λ a. held_at a c.down.current) arena_is ∙ c.visit.ensures.value ∙ ap Some c.in-Err.ensures.0, (other, c.down.invariant.room)))))
@@ -76,7 +75,7 @@ pub returns-in-None-clause-way : goal.returns-in-None-clause-way
 returns-in-None-clause-way g c = λ mode s tree.
     let way = c.down.invariant.way s tree in
     on-way-to g.K.AsBytes.bytes c.args.key.now s c.args.reader.now.count g.row.PREFIX_LEN (node_at c.args.reader.now.arena.now) c.args.root tree
-    c.down.current c.down.search c.down.depth c.down.reader.count way.0 _ c.finish-in-None.ensures (way.1 mode)
+    c.down.current c.down.search c.down.depth c.down.reader.count way.0 _ refl (way.1 mode)
 
 pub returns-in-None-clause-stops : goal.returns-in-None-clause-stops
 returns-in-None-clause-stops g c = λ mode path s at begins.

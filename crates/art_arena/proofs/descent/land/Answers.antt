@@ -5,4 +5,4 @@ pub returns-in-Some-clause-lands : goal.returns-in-Some-clause-lands
 returns-in-Some-clause-lands g c = λ s tree.
     let lands = rw c.in-Some.is at (c.descend-stop.ensures.lands refl s tree) in
     let slots : c.descend-stop.result.node.slot ≡ c.from_slot.result = sym c.slot.ensures ∙ sym c.from_slot.ensures in
-    rw slots at lands
+    rw c.finish.ensures (rw slots at lands)
