@@ -1,4 +1,3 @@
-pub mod LastSteps
 pub mod Meetings
 pub mod Nearest
 pub mod Segments
