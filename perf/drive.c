@@ -1,15 +1,40 @@
 /* drive LIB.so SET COUNT REPEATS: times the map behind LIB.so's one call over COUNT keys of a set (dense, rand8, rand16,
  * url), and prints the least of the repeats, in nanoseconds of processor time: an insertion, a look-up that hits, one that
- * misses. For callgrind: with REPEATS 0 it inserts once, with -1 it also looks each key up once.
+ * misses; and the bytes that a pair takes. For callgrind: with REPEATS 0 it inserts once, with -1 it also looks each key up once; what the clock doesn't
+ * count isn't collected either, given --collect-atstart=no.
  *
  * The call: strings end to end and where each ends, for keys and for queries; the value of key i is i. Steps: 1 inserts
  * all keys, 2 looks all queries up. It answers the sum of what it found, and nanos[i] is what step i took. */
 #define _GNU_SOURCE
 #include <dlfcn.h>
+#include <malloc.h>
 #include <stdint.h>
 #include <stdio.h>
 #include <stdlib.h>
 #include <string.h>
+#include <sys/syscall.h>
+#include <time.h>
+#include <unistd.h>
+
+#if __has_include(<valgrind/callgrind.h>)
+#include <valgrind/callgrind.h>
+#else
+#define CALLGRIND_TOGGLE_COLLECT
+#endif
+
+/* Bytes that malloc had given out at the readings of the clock round a step, where they are asked for. */
+static size_t in_use[2];
+static int is_weighing, readings;
+
+/* Stands before the C library's, so that callgrind collects between the two readings round a step alone. */
+int clock_gettime(clockid_t clock, struct timespec *read) {
+    CALLGRIND_TOGGLE_COLLECT;
+    if (is_weighing && readings < 2) {
+        struct mallinfo2 now = mallinfo2();
+        in_use[readings++] = now.uordblks + now.hblkhd;
+    }
+    return (int)syscall(SYS_clock_gettime, clock, read);
+}
 
 typedef uint64_t (*run_t)(const uint8_t *keys, size_t keys_len, const uint64_t *ends, size_t count, const uint8_t *queries,
                           size_t queries_len, const uint64_t *query_ends, size_t query_count, const uint8_t *steps,
@@ -101,6 +126,9 @@ int main(int count_of_words, char **words) {
     for (long i = 0; i < repeats; i++)
         if (once(run, keys, hits, count, steps, 2, 1) != count || once(run, keys, misses, count, steps, 2, 2) > count)
             return 1;
-    printf("%.1f %.1f %.1f\n", (double)least[0] / count, (double)least[1] / count, (double)least[2] / count);
+    is_weighing = 1;
+    once(run, keys, hits, count, steps, 1, 0);
+    printf("%.1f %.1f %.1f %.1f\n", (double)least[0] / count, (double)least[1] / count, (double)least[2] / count,
+           (double)(in_use[1] - in_use[0]) / count);
     return 0;
 }

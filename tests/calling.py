@@ -4,6 +4,8 @@
     tests/calling.py      at the top of the repository
 The Rust blocks of crates/NAME/CALLING.md, one after another, are letter for letter the text of
 crates/NAME_tests/src/calling.rt behind its first comment. Only #![tactic(auto)], which a root file has, is passed over.
+uses/README.md has a section for each program crates/use_NAME: its Rust block is a part of src/main.rt, letter for letter,
+and its text blocks are stdin and stdout.
 """
 import re
 import sys
@@ -45,8 +47,25 @@ def fault(name):
     return None
 
 
+def use_fault(name, page):
+    """Says where the section of a program parts from its files, or nothing."""
+    at = page.find(f"../crates/{name}/src/main.rt")
+    section = page[at:].split("\n## ")[0] if at >= 0 else ""
+    blocks = dict.fromkeys(("rust", "text"))
+    for kind in blocks:
+        blocks[kind] = re.findall(rf"^```{kind}\n(.*?)^```$", section, re.MULTILINE | re.DOTALL)
+    given, told, source = (read(f"crates/{name}/{it}") for it in ("stdin", "stdout", "src/main.rt"))
+    if not blocks["rust"] or any(it not in source for it in blocks["rust"]):
+        return "uses/README.md shows what src/main.rt hasn't"
+    if blocks["text"] != [given, told]:
+        return "uses/README.md shows another input or output"
+    return None
+
+
 paths = glob("crates/*/CALLING.md") + glob("crates/*_tests/src/calling.rt")
 faults = {name: fault(name) for name in sorted({it.split("/")[1].removesuffix("_tests") for it in paths})}
+uses = sorted(it.split("/")[1] for it in glob("crates/use_*/src/main.rt"))
+faults.update({name: use_fault(name, read("uses/README.md") or "") for name in uses})
 for name, why in faults.items():
     print(f"{name}: FAILED: {why}" if why else f"{name}: ok")
 failed = sum(why is not None for why in faults.values())

@@ -6,6 +6,10 @@ pub mod Contexts
 pub mod Places
 -- The way of a key: what one step down finds, and where it ends.
 pub mod Finding
+-- How a key passes over the prefix of an inner node by its bytes, and where it goes no further.
+pub mod Passing
+-- The last two steps of a way, with one more.
+pub mod LastSteps
 -- The walk of a descent from the root to a leaf.
 pub mod Walking
 -- What the leaf at which a descent ended tells of the leaves with the key, and of those whose keys are a front of it.

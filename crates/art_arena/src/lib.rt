@@ -18,7 +18,7 @@ mod reader;
 mod stored;
 
 pub use arena::{LeafPtr, NodeArena, NodeRefused};
-pub use descent::{Landed, land};
+pub use descent::{Landed, Passing, Stop, descend, land};
 pub use ends::{End, end_leaf, first_leaf, last_leaf};
 pub use find::{FoundLeaf, find_leaf};
 pub use inner_ref::InnerRef;

@@ -77,6 +77,14 @@ impl<'a, T> Reader<'a, T> {
         self.count
     }
 
+    // What is read, for what is not counted.
+    #[inline(always)]
+    pub(crate) fn arena(&self) -> &'a T
+        ensures { result.now ≡ arena_of self.now }
+    {
+        self.arena
+    }
+
     // One step.
     #[inline(always)]
     fn step(&mut self) -> &'a T

@@ -1,5 +1,5 @@
 -- What a map's nodes have, before and after a call.
-use Rattle.std.proofs.Common.{◌≡◌, ℕ, Bool, true, false, cond, not, bytes_eq, List, [], ◌∷◌, ◌++◌, length, Option, Some, None, IsSome, Ok, Err, IsOk, Result, refl, sym, ap, subst, ◌∙◌, arith, ◌≤◌, inl, inr}
+use Rattle.std.proofs.Common.{◌≡◌, ℕ, Bool, true, false, cond, not, bytes_eq, filter, List, [], ◌∷◌, ◌++◌, length, Option, Some, None, IsSome, Ok, Err, IsOk, Result, refl, sym, ap, subst, ◌∙◌, arith, ◌≤◌, inl, inr}
 use Rattle.std.specs.List.{AllByRecursion}
 use Rattle.std.specs.Map.{lookup, lookup_entry, set_value}
 use Rattle.std.proofs.lemmas.List.{append-nil, length-map, map-append}
@@ -23,14 +23,17 @@ use Rattle.art_arena.proofs.shapes.Meanings.{nodes-subtree}
 use Rattle.art_arena.proofs.tree.Exists.{in_middle}
 use Rattle.art_arena.proofs.tree.Insert.{all_at}
 use Rattle.art_arena.proofs.tree.Order.{all_append, all_left, all_right}
-use Rattle.art_operations.specs.KeyedLists.{HasKey, IsBlocked, without_key}
-use Rattle.art_operations.specs.Pairs.{HasPairs, HasPut, HasTaken, HasTakenEnd, IsAtEnd, IsPlaced, with_pair, pair_in}
+use Rattle.art_operations.specs.KeyedLists.{HasKey, IsBlocked, without_key, overlapping, overlaps}
+use Rattle.art_operations.specs.Overwrites.{removed_by}
+use Rattle.art_operations.specs.Pairs.{HasPairs, HasPut, HasPutOver, HasTaken, HasTakenEnd, IsAtEnd, IsPlaced, with_pair, with_pair_over, pair_in}
 use Rattle.art_operations.specs.declared.insert.point.InsertPoint.{InsertPoint}
 use Rattle.art_operations.specs.declared.delete.result.DeleteResult.{DeleteResult}
 use Rattle.art_operations.specs.declared.insert.result.InsertResult.{InsertResult}
+use Rattle.art_operations.specs.declared.prefix_insert.result.PrefixInsertResult.{PrefixInsertResult}
 use Rattle.art_operations.proofs.HeldPairs.{pairs-same}
 use Rattle.art_operations.proofs.KeyedLists.{nothing_taken}
 use Rattle.art_operations.proofs.LeafPairs.{pair_of, pairs_ascend, held_leaf}
+use Rattle.art_operations.proofs.PutOver.{how_many}
 use Rattle.art_operations.proofs.WrittenValues.{written}
 use Rattle.art_map.specs.Contents.{contents, pairs_from, IsMap, has_bytes, first_of, last_of, option_value, value_in}
 use Rattle.art_map.specs.Found.{IsAt, IsFound}
@@ -69,12 +72,15 @@ module _ {K V : Type 0} (is_key : K → Type 0) where
     | false ↦ (all.0, keys-put key p qs one all.1)
   ]
 
-  pub keys-without : (key : K × V → List ℕ) (k : List ℕ) (pairs : List (K × V)) → AreKeys pairs → AreKeys (without_key key k pairs)
-  keys-without key k [] all = tt
-  keys-without key k (q ∷ qs) all = elim (bytes_eq (key q) k) as (λ b. AreKeys (cond (not b) (q ∷ without_key key k qs) (without_key key k qs))) [
-    | true ↦ keys-without key k qs all.1
-    | false ↦ (all.0, keys-without key k qs all.1)
+  pub keys-filter : (keep : K × V → Bool) (pairs : List (K × V)) → AreKeys pairs → AreKeys (filter keep pairs)
+  keys-filter keep [] all = tt
+  keys-filter keep (q ∷ qs) all = elim (keep q) as (λ b. AreKeys (cond b (q ∷ filter keep qs) (filter keep qs))) [
+    | true ↦ (all.0, keys-filter keep qs all.1)
+    | false ↦ keys-filter keep qs all.1
   ]
+
+  pub keys-without : (key : K × V → List ℕ) (k : List ℕ) (pairs : List (K × V)) → AreKeys pairs → AreKeys (without_key key k pairs)
+  keys-without key k pairs all = keys-filter (λ q. not (bytes_eq (key q) k)) pairs all
 
   pub keys-end : (end : End) (p : K × V) (rest pairs : List (K × V)) → IsAtEnd end p rest pairs → AreKeys pairs → AreKeys rest
   keys-end First p rest pairs at all = (subst AreKeys at all).1
@@ -151,6 +157,18 @@ module _ {K V : Type 0} (bytes : K → List ℕ) (is_key : K → Type 0) (P : �
 
     pub put-pairs : (new : Arena K V) (key : K) (value : V) (result : InsertResult K V) → HasPut bytes P new the_pairs key value result → pairs_from new (Some result.new_root) ≡ with_pair bytes key value the_pairs
     put-pairs new key value result has = has-seen bytes P new (Some result.new_root) _ has.has
+
+    -- with a pair in the place of those whose keys overlap its key
+    pub over-map : (new : Arena K V) (key : K) (value : V) (result : PrefixInsertResult K V) → is_key key → HasPutOver bytes P new the_pairs key value result → IsMap bytes is_key P new (Some result.insert_result.new_root)
+    over-map new key value result one has =
+        make new (Some result.insert_result.new_root) (with_pair_over bytes key value the_pairs) has.has
+        (keys-put is_key (key_of bytes) (key, value) _ one (keys-filter is_key (λ q. not (overlaps (bytes key) (key_of bytes q))) the_pairs map.keys))
+
+    pub over-pairs : (new : Arena K V) (key : K) (value : V) (result : PrefixInsertResult K V) → HasPutOver bytes P new the_pairs key value result → pairs_from new (Some result.insert_result.new_root) ≡ with_pair_over bytes key value the_pairs
+    over-pairs new key value result has = has-seen bytes P new (Some result.insert_result.new_root) _ has.has
+
+    pub over-count : (new : Arena K V) (key : K) (value : V) (result : PrefixInsertResult K V) → HasPutOver bytes P new the_pairs key value result → removed_by result ≡ length (overlapping (key_of bytes) (bytes key) the_pairs)
+    over-count new key value result has = how_many (overlapping (key_of bytes) (bytes key) the_pairs) result has.removed
 
     -- with a pair less
     pub taken-map : (new : Arena K V) (key : List ℕ) (deleted : DeleteResult K V) → HasTaken bytes P new root key the_pairs (Some deleted) → IsMap bytes is_key P new deleted.new_root

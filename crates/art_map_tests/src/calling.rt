@@ -1,7 +1,8 @@
-//! The caller that `CALLING.md` of art_map shows, letter for letter.
+//! The callers that `CALLING.md` of art_map shows, letter for letter; tests in `rows.rt` run them.
 
 use art_bytes::{SliceKey, StrKey};
 use art_map::{TreeMap, TryInsertError};
+use art_operations::InsertRefused;
 use std::alloc::{AllocError, Global};
 
 /// A table of address blocks, of which none holds another: each goes by the front of its addresses.
@@ -10,6 +11,44 @@ pub fn block_of<'a>(
     address: &[u8; 4],
 ) -> Option<&'a u32> {
     blocks.prefix_get(address)
+}
+
+/// Gives a block to an owner, and takes from others what it overlaps: how many blocks that were.
+pub fn give<'a>(
+    blocks: &mut TreeMap<SliceKey<'a>, u32, 16>,
+    front: &'a [u8],
+    owner: u32,
+) -> Result<usize, InsertRefused<SliceKey<'a>, u32>> {
+    blocks.prefix_insert(SliceKey(front), owner)
+}
+
+/// Counts a word of four bytes once more.
+pub fn count(
+    counts: &mut TreeMap<[u8; 4], u32, 16>,
+    word: [u8; 4],
+) -> Result<(), InsertRefused<[u8; 4], u32>> {
+    if let Some(count) = counts.get_mut(&word) {
+        *count = count.saturating_add(1);
+        return Ok(());
+    }
+    counts.insert(word, 1)?;
+    Ok(())
+}
+
+/// How far the counts of the first word and of the last are apart, if there are two.
+pub fn spread(counts: &TreeMap<[u8; 4], u32, 16>) -> Option<u32> {
+    let mut values = counts.values();
+    let first = values.next()?;
+    let last = values.next_back()?;
+    Some(last.abs_diff(*first))
+}
+
+/// Takes the first words out until so many are left.
+pub fn keep_last(counts: &mut TreeMap<[u8; 4], u32, 16>, number: usize) -> Result<(), AllocError> {
+    for _ in number..counts.len() {
+        counts.pop_first()?;
+    }
+    Ok(())
 }
 
 /// A film is stored, seen, and taken out again.

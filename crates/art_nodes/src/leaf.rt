@@ -11,13 +11,14 @@ use art_bytes::AsBytes;
 use std::alloc::AllocError;
 use std::marker::Model;
 
-/// A leaf: a key with its value, and the names of the leaves before and after it in the order of keys.
+/// A leaf: a key with its value, and the names of the leaves before and after it in the order of keys. The names come
+/// first, so that they stand beside the slab's tag: an insertion reads these of its neighbours, and no more.
 #[derive(Debug, Drop)]
 pub struct LeafNode<K, V> {
-    key: K,
-    value: V,
     previous: Link,
     next: Link,
+    key: K,
+    value: V,
 }
 
 // The leaf beside a leaf, if there is one. It has a model of its own, since the check fails of a caller that moves a

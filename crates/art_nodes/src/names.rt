@@ -7,11 +7,12 @@ use std::alloc::AllocError;
 use std::fmt;
 use std::marker::{Model, PhantomData};
 
-/// The name of a node of any kind. It takes nine bytes, so that nodes of many children stay small.
+/// The name of a node of any kind. It takes nine bytes, so that nodes of many children stay small. The slab key comes
+/// first: a copy of nine bytes moves eight and then one, so a name that was just written is read in the same pieces.
 #[derive(Clone, Copy, PartialEq, Eq, Hash, Debug)]
 pub struct OpaqueNodePtr {
-    kind: NodeType,
     slot: Slot,
+    kind: NodeType,
 }
 
 impl Model for OpaqueNodePtr {
@@ -29,8 +30,8 @@ impl OpaqueNodePtr {
         ensures { result ≡ record { kind = kind; slot = slot } }
     {
         OpaqueNodePtr {
-            kind,
             slot: Slot::new(slot),
+            kind,
         }
     }
 

@@ -31,7 +31,7 @@ use Rattle.art_arena.specs.arena.Steps.{steps_of}
 use Rattle.art_arena.proofs.shapes.Places.{held-below}
 use Rattle.art_arena.proofs.tree.Order.{all_left}
 use Rattle.art_arena.proofs.shapes.Subtrees.{pair_of, HoldsPair}
-use Rattle.art_operations.proofs.LastSteps.{last_two}
+use Rattle.art_arena.proofs.shapes.LastSteps.{last_two}
 
 module _ {K V : Type 0} where
   -- links that answer alike link the same lists

@@ -25,7 +25,7 @@ use Rattle.art_operations.specs.declared.insert.point.InsertPoint.{InsertPoint}
 use Rattle.art_operations.specs.declared.insert.point.InsertKind.TheVariants.{IntoExisting}
 use Rattle.art_operations.specs.declared.insert.result.InsertParentNodeChange.TheVariants.{NewParent}
 use Rattle.art_operations.specs.inner.Waiting.{AwaitsLeaf}
-use Rattle.art_operations.proofs.LastSteps.{last_two}
+use Rattle.art_arena.proofs.shapes.LastSteps.{last_two}
 use Rattle.art_operations.proofs.Waiting.{open_node, regroup_front}
 
 regroup : {X : Type 0} (xs bs ts cs : List X) → xs ++ ((bs ++ ts) ++ cs) ≡ (xs ++ bs) ++ (ts ++ cs)

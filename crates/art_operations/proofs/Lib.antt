@@ -1,5 +1,6 @@
-pub mod LastSteps
 pub mod Meetings
+pub mod Nearest
+pub mod Segments
 pub mod Points
 pub mod NewNodes
 pub mod Edits

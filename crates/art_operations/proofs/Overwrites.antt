@@ -16,10 +16,11 @@ use Rattle.art_arena.proofs.shapes.Besides.{keeps-held}
 use Rattle.art_arena.proofs.shapes.CellLists.{copies-append, Holds-add, Holds-remove, Holds-same, Holds-turn}
 use Rattle.art_arena.proofs.shapes.Contexts.{cells-plug, leaves-plug, name_of-plug, IsUnder-plug}
 use Rattle.art_arena.proofs.shapes.LinkedLists.{eqb-self, outside-apart}
-use Rattle.art_arena.proofs.shapes.Meanings.{nodes-part}
+use Rattle.art_arena.proofs.shapes.Meanings.{nodes-subtree}
 use Rattle.art_arena.proofs.shapes.Places.{held-below}
 use Rattle.art_arena.proofs.shapes.Repoint.{IsNodesBeside-plug, unplugged}
 use Rattle.art_arena.proofs.shapes.Surroundings.{new-beside, times-leaves}
+use Rattle.art_arena.proofs.shapes.Walking.{place-subtree}
 use Rattle.art_arena.proofs.shapes.Updates.{nodes-update, links-update}
 use Rattle.art_operations.specs.Frees.{HoldsBeside, KeepsAllBut}
 use Rattle.art_operations.specs.Insertions.{IsInsertedBeside, IsPutOrReplaced}
@@ -56,23 +57,9 @@ module _ {K V : Type 0} (bytes : K → List ℕ) (P : ℕ) where
   freed_leaf old new part slot path (inner_at n prefix kids) rest under holds is update =
       absurd (kind_not_leaf n (width kids) under.0 (ap (λ (m : Name). m.kind) (holds.named ∙ is)))
 
-  -- what stands at a place of a tree is a tree of its own
-  pub place-subtree : {rest : List (Name × Cell K V)} (at : Name → Option (Cell K V)) (root : Name) (s : Shape K V) (ctx : List (Frame K V)) (part : Shape K V) → IsNodesBeside bytes P at root rest s → IsPlace bytes s ctx part → IsSubtree bytes P at (name_of part) (path_to ctx) part
-  place-subtree at root s ctx part nodes place = record {
-    part = record {
-      named = refl;
-      held = held-below P at ctx part (subst (λ w. AreHeld at (cells P w)) place.is (nodes-part bytes P at root s nodes).held);
-      once = λ n.
-          let whole = (nodes-part bytes P at root s nodes).once n in
-          let counted = ap (copies n) (ap (cells P) place.is ∙ cells-plug P ctx part) ∙ copies-append n (cells_before P ctx (name_of part)) (cells P part ++ cells_after P ctx) in
-          omega (arith, whole, counted, copies-append n (cells P part) (cells_after P ctx));
-    };
-    under = place.under;
-  }
-
   module _ {rest : List (Name × Cell K V)} (start : Arena K V) (root : Name) (s : Shape K V) (tree : IsTreeBeside bytes P (node_at start) root (links_at start) rest s) (key : K) (value : V) (name : Name) (last : List Step) (way : IsInTheWay bytes (bytes key) s root name last) where
     pub part_stands : IsSubtree bytes P (node_at start) name (path_to way.ctx) way.part
-    part_stands = subst (λ n. IsSubtree bytes P (node_at start) n (path_to way.ctx) way.part) way.here (place-subtree (node_at start) root s way.ctx way.part tree.nodes way.toward.place)
+    part_stands = subst (λ n. IsSubtree bytes P (node_at start) n (path_to way.ctx) way.part) way.here (place-subtree bytes P (node_at start) root s way.ctx way.part (nodes-subtree bytes P (node_at start) root s tree.nodes) way.toward.place)
 
     leaves_are : leaves s ≡ leaves_before way.ctx ++ (leaves way.part ++ leaves_after way.ctx)
     leaves_are = ap leaves way.toward.place.is ∙ leaves-plug way.ctx way.part

@@ -18,19 +18,13 @@ use Rattle.art_arena.proofs.tree.Order.{all_append, all_weaker}
 use Rattle.art_arena.proofs.tree.Fronts.{begins_trans, one_byte}
 use Rattle.art_arena.proofs.shapes.Places.{leaves-begin, step-down, at-root}
 use Rattle.art_operations.specs.Meetings.{PartAt}
-use Rattle.art_operations.proofs.LastSteps.{last_two}
+use Rattle.art_arena.proofs.shapes.LastSteps.{last_two}
 use Rattle.art_operations.specs.declared.meeting.Parted.{Parted}
 use Rattle.art_operations.specs.Points.{AllConflict, HasConflict, NoConflict}
-use Rattle.art_operations.specs.inner.Ways.{OnWayTo}
-use Rattle.art_arena.proofs.shapes.Prefixes.{drop-front}
+use Rattle.art_arena.specs.arena.Descents.{OnWayTo}
+use Rattle.art_arena.proofs.shapes.Passing.{behind, byte_behind}
 use Rattle.art_arena.proofs.shapes.Subtrees.{pair_of, leaves_begin_prefix, some_leaf, subtree-leaf, subtree-inner, subtree-branch, root_held}
 use Rattle.art_bytes.proofs.Order.{begins_step, begins_from_step, conflict_first, conflict_second}
-
--- the key behind the path to it
-pub behind : (path key : List ℕ) (depth : ℕ) → length path ≡ depth → BeginsWith path key → key ≡ path ++ drop depth key
-behind path key depth len (rest, e) =
-    let same : drop depth key ≡ rest = ap (λ d. drop d key) (sym len) ∙ ap (drop (length path)) e ∙ drop-front path rest in
-    e ∙ ap (λ r. path ++ r) (sym same)
 
 -- keys that go on behind a front by different bytes are not in conflict
 apart_free : (q k l : List ℕ) (a b : ℕ) → BeginsWith (q ++ a ∷ []) k → BeginsWith (q ++ b ∷ []) l → a ≢ b → Conflict k l → ⊥
@@ -40,21 +34,6 @@ apart_free q k l a b ka lb differs (n, inr lk) = differs (one_byte q a b k ka (b
 goes_on : (k x : List ℕ) (c : ℕ) (r l : List ℕ) → l ≡ k ++ (x ++ c ∷ r) → IsProperFront k l
 goes_on k [] c r l e = (c, r, e)
 goes_on k (y ∷ x) c r l e = (y, x ++ c ∷ r, e)
-
-byte_behind : (q more : List ℕ) (c : ℕ) → get_or (q ++ c ∷ more) (length q) 0 ≡ c
-byte_behind [] more c = refl
-byte_behind (y ∷ q) more c = byte_behind q more c
-
--- the key's byte behind a prefix
-pub next_byte : (path prefix key : List ℕ) (depth b : ℕ) → length path ≡ depth → BeginsWith ((path ++ prefix) ++ b ∷ []) key → (r : List ℕ) × (drop depth key ≡ prefix ++ b ∷ r)
-next_byte path prefix key depth b len (r, e) =
-    let spelled : key ≡ path ++ (prefix ++ b ∷ r) = e ∙ append_assoc (path ++ prefix) (b ∷ []) r ∙ append_assoc path prefix (b ∷ r) in
-    (r, ap (λ d. drop d key) (sym len) ∙ ap (drop (length path)) spelled ∙ drop-front path (prefix ++ b ∷ r))
-
--- a list that is longer than its front has a byte behind it
-pub byte_follows : (front list more : List ℕ) → list ≡ front ++ more → length front < length list → (b : ℕ) × (r : List ℕ) × (list ≡ front ++ b ∷ r)
-byte_follows front list [] e longer = absurd (omega (arith, longer, ap length e, length-append front []))
-byte_follows front list (b ∷ r) e longer = (b, r, e)
 
 -- the front up to the byte in which a list parts from another
 pub part_new : (path rest key old : List ℕ) (p : Parted) → key ≡ path ++ rest → (part : PartAt old rest p) → BeginsWith ((path ++ part.front) ++ p.new_byte ∷ []) key
@@ -177,52 +156,6 @@ some_conflict bytes key path s under all =
     let l = some_leaf bytes path s under in
     (l.0, subst (IsIn l.0) (sym l.2) (inl refl), (subst (AllConflict bytes key) l.2 all).0)
 
-module _ {K V : Type 0} (bytes : K → List ℕ) (P : ℕ) (at : Name → Option (Cell K V)) (key : List ℕ) (s : Shape K V) where
-  pub way_start : (root : Name) → IsSubtree bytes P at root [] s → OnWayTo bytes P at key s root [] 0
-  way_start root tree = record {
-    ctx = [];
-    part = s;
-    toward = record { place = at-root bytes s tree.under; steps = refl; depth_is = refl; begins = (key, refl) };
-    subtree = tree;
-  }
-
-  pub way_step : (current : Name) (last : List Step) (depth : ℕ) (way : OnWayTo bytes P at key s current last depth) (n : Name) (prefix : List ℕ) (kids : Branches K V) (b : ℕ) (child : Name) (next : ℕ) (later : List Step)
-      → way.part ≡ inner_at n prefix kids → child_at (children_at kids) b ≡ Some child → BeginsWith ((path_to way.ctx ++ prefix) ++ b ∷ []) key → next ≡ length (path_to way.ctx) + length prefix + 1
-      → later ≡ take 2 (record { node = current; byte = b } ∷ last) → OnWayTo bytes P at key s child later next
-  way_step current last depth way n prefix kids b child next later is found begins next_is later_is =
-      let sub : IsSubtree bytes P at current (path_to way.ctx) (inner_at n prefix kids) = subst (IsSubtree bytes P at current (path_to way.ctx)) is way.subtree in
-      let same : n ≡ current = sub.part.named in
-      let place = subst (IsPlace bytes s way.ctx) is way.toward.place in
-      let sd = step-down bytes s way.ctx n prefix kids b child place found in
-      let here = subst (λ m. IsSubtree bytes P at m (path_to way.ctx) (inner_at m prefix kids)) (sym same) (subst (λ m. IsSubtree bytes P at current (path_to way.ctx) (inner_at m prefix kids)) same sub) in
-      let below = subtree-branch bytes P at n (path_to way.ctx) prefix kids sd.before b sd.here sd.after here sd.kids_are in
-      record {
-        ctx = record { name = n; prefix = prefix; before = sd.before; byte = b; after = sd.after } ∷ way.ctx;
-        part = sd.here;
-        toward = record {
-          place = sd.place;
-          steps = last_two (record { node = n; byte = b }) (steps_to way.ctx) ∙ ap₂ (λ m xs. take 2 (record { node = m; byte = b } ∷ xs)) same way.toward.steps ∙ sym later_is;
-          depth_is = omega (arith, length-append (path_to way.ctx ++ prefix) (b ∷ []), length-append (path_to way.ctx) prefix, next_is);
-          begins = begins;
-        };
-        subtree = subst (λ m. IsSubtree bytes P at m ((path_to way.ctx ++ prefix) ++ b ∷ []) sd.here) sd.named below.subtree;
-      }
-
-  -- where the way goes on, an inner node stands
-  pub way_inner : (current : Name) (last : List Step) (depth : ℕ) (way : OnWayTo bytes P at key s current last depth) (n : Name) (prefix : List ℕ) (kids : Branches K V) → way.part ≡ inner_at n prefix kids → current.kind ≢ Leaf
-  way_inner current last depth way n prefix kids is e =
-      let leaf = subtree-leaf bytes P at current (path_to way.ctx) way.part way.subtree e in
-      let same = sym leaf.2 ∙ is in cc
-
-  pub way_at_depth : (current : Name) (last : List Step) (depth : ℕ) (way : OnWayTo bytes P at key s current last depth) → IsAtDepth bytes P at current depth (path_to way.ctx) way.part
-  way_at_depth current last depth way = record { subtree = way.subtree; behind = way.toward.depth_is }
-
-  pub way_room : (current : Name) (last : List Step) (depth : ℕ) (way : OnWayTo bytes P at key s current last depth) (prefix : List ℕ) (b next : ℕ) → BeginsWith ((path_to way.ctx ++ prefix) ++ b ∷ []) key → next ≡ length (path_to way.ctx) + length prefix + 1 → (depth < next) × (next ≤ length key)
-  way_room current last depth way prefix b next begins next_is =
-      let long : length key ≡ length ((path_to way.ctx ++ prefix) ++ b ∷ []) + length begins.0 = ap length begins.1 ∙ length-append ((path_to way.ctx ++ prefix) ++ b ∷ []) begins.0 in
-      let d = way.toward.depth_is in
-      (omega (arith, next_is, d), omega (arith, long, next_is, length-append (path_to way.ctx ++ prefix) (b ∷ []), length-append (path_to way.ctx) prefix))
-
 module _ {K V : Type 0} (bytes : K → List ℕ) (P : ℕ) (arena : Arena K V) where
   -- the inner node that a search has come to
   pub record InnerAt (n : Name) (path : List ℕ) (s : Shape K V) : Type 0 where
@@ -247,3 +180,8 @@ module _ {K V : Type 0} (bytes : K → List ℕ) (P : ℕ) (arena : Arena K V) w
         there = root_held bytes P arena n path i.0 i.1 here;
         children = refl;
       }
+
+-- a part on the way stands behind so many bytes
+pub way_at_depth : {K V : Type 0} (bytes : K → List ℕ) (P : ℕ) (at : Name → Option (Cell K V)) (key : List ℕ) (s : Shape K V) (current : Name) (last : List Step) (depth : ℕ) (way : OnWayTo bytes P at key s current last depth)
+    → IsAtDepth bytes P at current depth (path_to way.ctx) way.part
+way_at_depth bytes P at key s current last depth way = record { subtree = way.subtree; behind = way.toward.depth_is }

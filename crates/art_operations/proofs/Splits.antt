@@ -18,7 +18,8 @@ use Rattle.art_operations.specs.declared.insert.point.InsertPoint.{InsertPoint}
 use Rattle.art_operations.specs.declared.insert.point.InsertKind.{InsertKind}
 use Rattle.art_operations.specs.declared.insert.point.InsertKind.TheVariants as kind
 use Rattle.art_operations.specs.declared.meeting.Parted.{Parted}
-use Rattle.art_operations.proofs.Points.{behind, part_new, part_old}
+use Rattle.art_arena.proofs.shapes.Passing.{behind}
+use Rattle.art_operations.proofs.Points.{part_new, part_old}
 
 take_front : (xs ys : List ℕ) → take (length xs) (xs ++ ys) ≡ xs
 take_front [] ys = refl

@@ -3,6 +3,7 @@ pub mod Lookups
 pub mod Meetings
 pub mod Points
 pub mod DeletePoints
+pub mod Bounds
 pub mod Insertions
 pub mod Deletions
 pub mod KeyedLists

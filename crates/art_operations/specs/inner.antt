@@ -7,3 +7,4 @@ pub mod Removals
 pub mod Detached
 pub mod Runs
 pub mod Freeing
+pub mod Nearest

@@ -3,6 +3,7 @@
 //! The definitions stand in `specs/`.
 #![tactic(auto)]
 
+pub mod bounds;
 pub mod clone;
 pub mod deallocate;
 pub mod delete;
@@ -15,6 +16,7 @@ mod parent;
 pub mod prefix_insert;
 pub mod running;
 
+pub use bounds::{find_leaf_pointer_for_bound, find_prefix_segment};
 pub use clone::{CloneResult, clone_unchecked};
 pub use deallocate::{deallocate_leaves, deallocate_tree, deallocate_tree_non_leaves};
 pub use delete::point::{

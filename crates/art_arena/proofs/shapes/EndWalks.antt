@@ -10,6 +10,7 @@ use Rattle.art_arena.specs.arena.Context.{Frame, plug, path_to, AreBelow}
 use Rattle.art_arena.specs.arena.Meaning.{IsSubtree}
 use Rattle.art_arena.specs.arena.Places.{IsPlace}
 use Rattle.art_arena.specs.arena.Steps.{Step, steps_to}
+use Rattle.art_arena.proofs.shapes.LastSteps.{last_two}
 use Rattle.art_arena.proofs.shapes.Contexts.{width-join}
 use Rattle.art_arena.proofs.shapes.Places.{at-root}
 use Rattle.art_arena.specs.arena.EndLeaves.{end_slot, end_child}
@@ -54,10 +55,6 @@ module _ {K V : Type 0} (bytes : K → List ℕ) where
         around = (subst (IsKindOf n.kind) wide place.under.0, a.before_under, a.below, a.after_under, place.around);
         under = a.here_under;
       }
-
-last_two : (step : Step) (xs : List Step) → take 2 (step ∷ xs) ≡ take 2 (step ∷ take 2 xs)
-last_two step [] = refl
-last_two step (x ∷ xs) = refl
 
 module _ {K V : Type 0} (bytes : K → List ℕ) (P : ℕ) (arena : Arena K V) (end : End) (path : List ℕ) (s : Shape K V) where
   -- below this name, to which these last steps lead, stands a part with the same end; below the root of a whole tree it has a place

@@ -6,16 +6,21 @@ use Rattle.std.proofs.lemmas.List.{drop-drop}
 use Rattle.art_nodes.specs.Name.{Name}
 use Rattle.art_nodes.specs.InnerNode.{InnerNode, child_at}
 use Rattle.art_arena.specs.tree.Paths.{path_of, path_in}
-use Rattle.art_arena.specs.arena.Cells.{Cell, pair, branches, AreHeld}
+use Rattle.art_arena.specs.arena.Cells.{Cell, pair, branches, copies, AreHeld}
+use Rattle.art_bytes.specs.Keys.{BeginsWith}
 use Rattle.art_arena.specs.arena.Shapes.{Shape, Branches, leaf_at, inner_at, name_of, children_at, cells, erase, erase_in, leaves_in}
-use Rattle.art_arena.specs.arena.Context.{Frame, path_to}
+use Rattle.art_arena.specs.arena.Context.{Frame, path_to, cells_before, cells_after}
 use Rattle.art_arena.specs.arena.Meaning.{IsSubtree}
 use Rattle.art_arena.specs.arena.Steps.{Step, steps_to}
 use Rattle.art_arena.specs.arena.Places.{IsPlace}
+use Rattle.art_arena.specs.arena.Prefixes.{prefix_of}
 use Rattle.art_arena.specs.arena.Found.{located, located_in}
-use Rattle.art_arena.specs.arena.Descents.{GoesOn, GoesNoFurther, TakesFronts, located_where, LandsAt, HasNoFront}
+use Rattle.art_arena.specs.arena.Descents.{GoesOn, GoesNoFurther, TakesFronts, located_where, LandsAt, HasNoFront, OnWayTo}
 use Rattle.art_nodes.specs.declared.leaf.LeafNode.{LeafNode}
 use Rattle.art_arena.specs.arena.Arena.{Arena, Held, leaf_held, inner_held, held_at, cell_of, node_at}
+use Rattle.art_arena.proofs.shapes.LastSteps.{last_two}
+use Rattle.art_arena.proofs.shapes.CellLists.{copies-append}
+use Rattle.art_arena.proofs.shapes.Contexts.{cells-plug}
 use Rattle.art_arena.proofs.shapes.Places.{held-below, leaf-there, inner-there, step-down, at-root}
 use Rattle.art_arena.proofs.shapes.Finding.{NoneFits, dropped, counted_more, located-step, none-located_in, none-avoid, none-short, avoid-missing, path_in-step, path_in-missing, path_in-ended}
 
@@ -23,9 +28,18 @@ use Rattle.art_arena.proofs.shapes.Finding.{NoneFits, dropped, counted_more, loc
 abbrev pub counted : ℕ → ℕ → ℕ
 counted start n = min (start + n) (2 ^ 64 - 1)
 
-last_two : (step : Step) (xs : List Step) → take 2 (step ∷ xs) ≡ take 2 (step ∷ take 2 xs)
-last_two step [] = refl
-last_two step (x ∷ xs) = refl
+-- what stands at a place of a tree is a tree of its own
+pub place-subtree : {K V : Type 0} (bytes : K → List ℕ) (P : ℕ) (at : Name → Option (Cell K V)) (root : Name) (s : Shape K V) (ctx : List (Frame K V)) (part : Shape K V) → IsSubtree bytes P at root [] s → IsPlace bytes s ctx part → IsSubtree bytes P at (name_of part) (path_to ctx) part
+place-subtree bytes P at root s ctx part tree place = record {
+  part = record {
+    named = refl;
+    held = held-below P at ctx part (subst (λ w. AreHeld at (cells P w)) place.is tree.part.held);
+    once = λ n.
+        let counted = ap (copies n) (ap (cells P) place.is ∙ cells-plug P ctx part) ∙ copies-append n (cells_before P ctx (name_of part)) (cells P part ++ cells_after P ctx) in
+        omega (arith, tree.part.once n, counted, copies-append n (cells P part) (cells_after P ctx));
+  };
+  under = place.under;
+}
 
 module _ {K V : Type 0} (bytes : K → List ℕ) (key : List ℕ) (whole : Shape K V) (start : ℕ) where
   -- on the way to the key: `depth` bytes of it, and these last steps, lead to the node with this name; each node above it was read, and one more makes this count
@@ -39,6 +53,10 @@ module _ {K V : Type 0} (bytes : K → List ℕ) (key : List ℕ) (whole : Shape
     pub finds : (test : List ℕ → Bool) → TakesFronts key test → located_where bytes test (located [] whole) ≡ located_where bytes test (located (steps_to ctx) part)
     pub long : length (path_of (erase whole) key) ≡ length ctx + length (path_of (erase part) (drop depth key))
     pub reads : min (count + 1) (2 ^ 64 - 1) ≡ counted start (suc (length ctx))
+
+  -- and where so, the way is a front of the key
+  abbrev pub IsOnWayIf : Type 0 → Name → List Step → ℕ → ℕ → Type 0
+  IsOnWayIf so current last depth count = (on : IsOnWay current last depth count) × (so → BeginsWith (path_to on.ctx) key)
 
   -- each node of the key's path was read
   abbrev pub ReadsPath : ℕ → Type 0
@@ -58,6 +76,10 @@ module _ {K V : Type 0} (bytes : K → List ℕ) (key : List ℕ) (whole : Shape
       reads = omega arith;
     }
 
+    pub way-starts : (so : Type 0) → IsOnWayIf so root [] 0 start
+    unfolding way-start
+    way-starts so = (way-start, λ h. (key, refl))
+
     module _ (current : Name) (last : List Step) (depth count : ℕ) (way : IsOnWay current last depth count) where
       pub part-held : AreHeld at (cells P way.part)
       part-held = held-below P at way.ctx way.part (subst (λ s. AreHeld at (cells P s)) way.place.is tree.part.held)
@@ -69,6 +91,18 @@ module _ {K V : Type 0} (bytes : K → List ℕ) (key : List ℕ) (whole : Shape
           top : (s : Shape K V) → AreHeld at (cells P s) → IsSome (at (name_of s))
           top (leaf_at slot k v) held = rw held.0 refl
           top (inner_at n prefix kids) held = rw held.0 refl
+
+      pub way-subtree : IsSubtree bytes P at current (path_to way.ctx) way.part
+      way-subtree = subst (λ n. IsSubtree bytes P at n (path_to way.ctx) way.part) way.named (place-subtree bytes P at root whole way.ctx way.part tree way.place)
+
+      -- where the way is a front of the key
+      pub on-way-to : (later : List Step) → later ≡ last → BeginsWith (path_to way.ctx) key → OnWayTo bytes P at key whole current later depth
+      on-way-to later same begins = record {
+        ctx = way.ctx;
+        part = way.part;
+        toward = record { place = way.place; steps = way.steps ∙ sym same; depth_is = way.depth_is; begins = begins };
+        subtree = way-subtree;
+      }
 
       -- at a leaf
       module _ (k : K) (v : V) (there : at current ≡ Some (pair k v)) where
@@ -143,6 +177,13 @@ module _ {K V : Type 0} (bytes : K → List ℕ) (key : List ℕ) (whole : Shape
               long = omega (arith, way.long, part-path, ap length inner_path);
               reads = ap (λ c. min (c + 1) (2 ^ 64 - 1)) way.reads ∙ counted_more start (suc (length way.ctx)) (2 ^ 64 - 1);
             }
+
+        -- by its bytes too
+        pub way-steps : (so : Type 0) (b : ℕ) (child : Name) (next : ℕ) → GoesOn key depth node b child next → (so → BeginsWith ((path_to way.ctx ++ prefix_of way.part) ++ b ∷ []) key)
+            → IsOnWayIf so child (take 2 (record { node = current; byte = b } ∷ last)) next (min (count + 1) (2 ^ 64 - 1))
+        unfolding way-step
+        way-steps so b child next goes begins =
+            (way-step b child next goes, λ h. subst (λ p. BeginsWith ((path_to way.ctx ++ p) ++ b ∷ []) key) (ap prefix_of here.is) (begins h))
 
         -- where no leaf below can be meant, and the path has no further node, it ends
         pub record HasEnded (total : ℕ) : Type 0 where

@@ -1,14 +1,16 @@
 -- The way of a key down a tree: where it turns at a node, and the one leaf at which it can end.
-use Rattle.std.specs.Prelude.{◌≡◌, ℕ, ◌+◌, ◌≤◌, ◌⊎◌, Bool, true, List, [], ◌∷◌, length, take, filter, get_or, Option}
-use Rattle.std.specs.Prelude.{Some, None}
+use Rattle.std.specs.Prelude.{◌≡◌, ℕ, ◌+◌, ◌≤◌, ◌⊎◌, Bool, true, List, [], ◌∷◌, ◌++◌, length, take, filter, get_or}
+use Rattle.std.specs.Prelude.{Option, Some, None}
 use Rattle.art_bytes.specs.Keys.{BeginsWith}
 use Rattle.art_nodes.specs.Name.{Name}
 use Rattle.art_nodes.specs.InnerNode.{InnerNode, child_at}
 use Rattle.art_nodes.specs.declared.leaf.LeafNode.{LeafNode}
-use Rattle.art_arena.specs.arena.Shapes.{Shape, leaf_at, LeafAt}
+use Rattle.art_arena.specs.arena.Cells.{Cell}
+use Rattle.art_arena.specs.arena.Shapes.{Shape, Branches, leaf_at, inner_at, children_at, LeafAt}
 use Rattle.art_arena.specs.arena.Linked.{first_slot}
-use Rattle.art_arena.specs.arena.Context.{Frame}
-use Rattle.art_arena.specs.arena.Places.{IsPlace}
+use Rattle.art_arena.specs.arena.Context.{Frame, path_to}
+use Rattle.art_arena.specs.arena.Meaning.{IsSubtree}
+use Rattle.art_arena.specs.arena.Places.{IsPlace, IsToward}
 use Rattle.art_arena.specs.arena.Steps.{Step, steps_to, steps_of}
 use Rattle.art_arena.specs.arena.Found.{Located, located}
 use Rattle.art_arena.specs.declared.descent.Landed.{Landed}
@@ -63,3 +65,19 @@ module _ {K V : Type 0} (bytes : K → List ℕ) where
   abbrev pub Lands : List ℕ → Shape K V → Option (Landed K V) → Type 0
   Lands key s None = HasNoFront key s
   Lands key s (Some landed) = LandsAt key s landed.name landed.leaf.now (steps_of landed.path)
+
+  -- the key goes no further from the part behind this path: it leaves the prefix, ends within it, or no child has its
+  -- next byte
+  abbrev pub Stops : List ℕ → List ℕ → Shape K V → Type 0
+  Stops key path s =
+      (n : Name) (prefix : List ℕ) (kids : Branches K V) → s ≡ inner_at n prefix kids
+      → (byte : ℕ) → BeginsWith ((path ++ prefix) ++ byte ∷ []) key → child_at (children_at kids) byte ≡ None
+
+module _ {K V : Type 0} (bytes : K → List ℕ) (P : ℕ) (at : Name → Option (Cell K V)) (key : List ℕ)
+    (s : Shape K V) where
+  -- the way to this name, which these last steps end, is a front of the key of so many bytes
+  pub record OnWayTo (current : Name) (last : List Step) (depth : ℕ) : Type 0 where
+    pub ctx : List (Frame K V)
+    pub part : Shape K V
+    pub toward : IsToward bytes key s ctx part last depth
+    pub subtree : IsSubtree bytes P at current (path_to ctx) part

@@ -1,18 +1,20 @@
 //! Pairs are put in.
-ghost use Rattle.std.specs.Prelude.{◌≡◌, IfOk, IfErr, IsOk, OnErr, OnOk};
+ghost use Rattle.std.specs.Prelude.{◌≡◌, length, IfOk, IfErr, IsOk, OnErr, OnOk};
 ghost use Rattle.std.specs.List.{AllByRecursion};
 ghost use Rattle.std.specs.Map.{lookup};
 ghost use Rattle.art_arena.specs.arena.Shapes.{key_of};
-ghost use Rattle.art_operations.specs.KeyedLists.{HasKey, IsBlocked};
-ghost use Rattle.art_operations.specs.Pairs.{CanPut, with_pair};
+ghost use Rattle.art_operations.specs.KeyedLists.{HasKey, IsBlocked, overlapping};
+ghost use Rattle.art_operations.specs.Overwrites.{removed_by};
+ghost use Rattle.art_operations.specs.Pairs.{CanPut, with_pair, with_pair_over};
 ghost use Rattle.art_map.specs.Contents.{value_in};
 
 use crate::map::TreeMap;
 use crate::map::refused::TryInsertError;
 use art_bytes::{AsBytes, NoPrefixesBytes};
-use art_nodes::LeafNode;
+use art_nodes::{LeafNode, OpaqueNodePtr};
 use art_operations::{
-    InsertPoint, InsertPrefixError, InsertRefused, KeyPrefix, PrefixConflict, find_place, put_pair,
+    InsertPoint, InsertPrefixError, InsertRefused, KeyPrefix, PrefixConflict, PrefixInsertResult,
+    find_place, find_place_over, put_over, put_pair,
 };
 
 // The value of a leaf, whose key is let go.
@@ -26,6 +28,22 @@ fn value_of<K: Drop, V>(leaf: Option<LeafNode<K, V>>) -> Option<V>
         }
         None => None,
     }
+}
+
+// What a prefix insertion answers: the new root, and how many pairs are no more.
+fn answer_in<K, V>(put: &PrefixInsertResult<K, V>) -> (OpaqueNodePtr, usize)
+    ensures root { result.0 ≡ put.now.insert_result.new_root }
+    ensures count { result.1 ≡ removed_by put.now }
+{
+    (put.insert_result.new_root, put.pairs_removed())
+}
+
+// The same, and the pair that it may hold is let go.
+fn told_of<K: Drop, V: Drop>(put: PrefixInsertResult<K, V>) -> (OpaqueNodePtr, usize)
+    ensures root { result.0 ≡ put.insert_result.new_root }
+    ensures count { result.1 ≡ removed_by put }
+{
+    answer_in(&put)
 }
 
 impl<K: AsBytes, V, const PREFIX_LEN: usize> TreeMap<K, V, PREFIX_LEN> {
@@ -106,6 +124,34 @@ impl<K: AsBytes, V, const PREFIX_LEN: usize> TreeMap<K, V, PREFIX_LEN> {
                 }),
                 Err(_) => Err(TryInsertError::Memory { key, value }),
             },
+        }
+    }
+
+    /// Puts a pair in, in the place of all whose keys overlap its key: those with the same bytes, a front of them, or
+    /// these as a front. It answers how many they were.
+    ///
+    /// It is refused only where there is no memory. The pair is handed back, and the map is as it was. A key that is
+    /// stored is never refused.
+    pub fn prefix_insert(&mut self, key: K, value: V) -> Result<usize, InsertRefused<K, V>>
+    where
+        K: Drop,
+        V: Drop,
+        ensures count { IfOk result (λ n. n ≡ length (overlapping (key_of K.bytes) (K.bytes key) self.old.pairs)) }
+        ensures pairs { OnOk result (self.new.pairs ≡ with_pair_over K.bytes key value self.old.pairs) }
+        ensures stored { HasKey (key_of K.bytes) (K.bytes key) self.old.pairs → IsOk result }
+        ensures err { OnErr result (self.new.pairs ≡ self.old.pairs) }
+        ensures handed_back { IfErr result (λ refused. (refused.key ≡ key) × (refused.value ≡ value)) }
+    {
+        // By value an option of a name counts as moved, so a copy goes in.
+        let root = self.root;
+        let place = find_place_over(&self.arena, root, key.as_bytes());
+        match put_over(&mut self.arena, place, key, value) {
+            Ok(put) => {
+                let (new_root, count) = told_of(put);
+                self.root = Some(new_root);
+                Ok(count)
+            }
+            Err(refused) => Err(refused),
         }
     }
 }

@@ -25,6 +25,7 @@ impl InsertPoint {
     /// Where a leaf has the key already, it takes the new key and value, and the answer has what it had: this takes no
     /// memory and is never refused. Otherwise a leaf is made, and at most one inner node. Where there is no memory for
     /// them, the key and the value are handed back, and the tree is as it was.
+    #[inline(always)]
     pub fn apply<K: AsBytes, V, const PREFIX_LEN: usize>(
         self,
         arena: &mut NodeArena<K, V, PREFIX_LEN>,

@@ -1,17 +1,19 @@
 //! The place of a new key.
 ghost use Rattle.std.specs.Prelude.{◌≡◌, ◌≢◌, ℕ, List, IfOk, IfErr};
-ghost use Rattle.std.specs.Prelude.{MatchOption};
 ghost use Rattle.art_bytes.specs.Keys.{BeginsWith};
 ghost use Rattle.art_arena.specs.arena.Cells.{leaf_name};
 ghost use Rattle.art_arena.specs.arena.Shapes.{Shape};
 ghost use Rattle.art_operations.specs.Points.{IsInTheWay, IsPlaceOrConflict, Refuses};
 ghost use Rattle.art_arena.specs.arena.Arena.{node_at};
 ghost use Rattle.art_arena.specs.arena.Steps.{steps_of};
-ghost use Rattle.art_operations.specs.inner.Ways.{GoesDown, IsWay, OnWayTo, Stops};
+ghost use Rattle.art_arena.specs.arena.Descents.{OnWayTo, Stops};
+ghost use Rattle.art_operations.specs.inner.Ways.{IsWay};
 ghost use Rattle.art_arena.specs.arena.Stores.{Stores, StoresAt};
 
 use crate::meeting::{Meeting, Parted, meet};
-use art_arena::{LeafPtr, NodeArena, TreePath, TreePathSearch, read_full_prefix};
+use art_arena::{
+    ArenaReader, LeafPtr, NodeArena, Passing, TreePath, TreePathSearch, descend, read_full_prefix,
+};
 use art_bytes::AsBytes;
 use art_nodes::{KindLeaf, NodeType, OpaqueNodePtr};
 use std::alloc::{AllocError, Global};
@@ -142,14 +144,6 @@ enum Way {
     Conflict,
 }
 
-// From an inner node to a child: the byte, the child, and how many bytes of the key lead there.
-#[derive(Clone, Copy)]
-struct Step {
-    byte: u8,
-    child: OpaqueNodePtr,
-    depth: usize,
-}
-
 // Where the search ends at a leaf.
 #[inline(always)]
 fn way_at_leaf<K: AsBytes, V, const PREFIX_LEN: usize>(
@@ -175,44 +169,6 @@ fn way_at_leaf<K: AsBytes, V, const PREFIX_LEN: usize>(
             parted,
         }),
     }
-}
-
-// The child to which the key goes on from a node: behind its whole prefix, under the key's next byte.
-#[inline(always)]
-fn step_at<K: AsBytes, V, const PREFIX_LEN: usize>(
-    arena: &NodeArena<K, V, PREFIX_LEN>,
-    node: OpaqueNodePtr,
-    key: &[u8],
-    depth: usize,
-) -> Option<Step>
-    requires { (path : List ℕ) × (s : Shape K V) × StoresAt K.bytes PREFIX_LEN arena.now node depth path s
-        × BeginsWith path key.now }
-    ensures { MatchOption result
-        ((path : List ℕ) (s : Shape K V) → StoresAt K.bytes PREFIX_LEN arena.now node depth path s
-        → BeginsWith path key.now → Stops K.bytes key.now path s)
-        (λ step. (path : List ℕ) (s : Shape K V) → StoresAt K.bytes PREFIX_LEN arena.now node depth path s
-        → BeginsWith path key.now → GoesDown K.bytes key.now path s step.byte step.child step.depth) }
-{
-    if node.is::<KindLeaf>() {
-        return None;
-    }
-    let prefix = read_full_prefix(arena, node, depth).prefix;
-    let rest = &key[depth..];
-    if rest.len() <= prefix.len() {
-        return None;
-    }
-    if rest.starts_with(prefix) {
-        let byte = rest[prefix.len()];
-        return match arena.inner(node).lookup_child(byte) {
-            Some(child) => Some(Step {
-                byte,
-                child,
-                depth: depth + prefix.len() + 1,
-            }),
-            None => None,
-        };
-    }
-    None
 }
 
 // Where the search ends at an inner node, from which the key goes no further.
@@ -271,7 +227,7 @@ fn way_at<K: AsBytes, V, const PREFIX_LEN: usize>(
 // Goes down for a key by whole prefixes, as far as it goes. It is a function of its own, and isn't inlined, so that the
 // loop keeps names in registers: next to an enum that holds names it takes them apart into bytes.
 #[inline(never)]
-fn descend<K: AsBytes, V, const PREFIX_LEN: usize>(
+fn stop_of<K: AsBytes, V, const PREFIX_LEN: usize>(
     arena: &NodeArena<K, V, PREFIX_LEN>,
     root: OpaqueNodePtr,
     key: &[u8],
@@ -283,22 +239,13 @@ fn descend<K: AsBytes, V, const PREFIX_LEN: usize>(
         → StoresAt K.bytes PREFIX_LEN arena.now result.node result.depth path s
         → BeginsWith path key.now → Stops K.bytes key.now path s }
 {
+    let mut reader = ArenaReader::new(arena);
     let mut search = TreePathSearch::default();
-    let mut current = root;
-    let mut depth = 0;
-    'down: loop {
-        match step_at(arena, current, key, depth) {
-            Some(step) => {
-                search.go_down(current, step.byte);
-                current = step.child;
-                depth = step.depth;
-            }
-            None => return Stop {
-                node: current,
-                path: search.finish(),
-                depth,
-            },
-        }
+    let stop = descend(&mut reader, &mut search, root, key, Passing::ByBytes);
+    Stop {
+        node: stop.node,
+        path: search.finish(),
+        depth: stop.depth,
     }
 }
 
@@ -316,7 +263,7 @@ pub fn find_insert_point<K: AsBytes, V, const PREFIX_LEN: usize>(
     ensures part { IfErr result (λ e. (s : Shape K V) → Stores K.bytes PREFIX_LEN arena.now root s
         → IsInTheWay K.bytes key.now s e.root e.part (steps_of e.path)) }
 {
-    let stop = descend(arena, root, key);
+    let stop = stop_of(arena, root, key);
     match way_at(arena, stop.node, key, stop.depth) {
         Way::Conflict => Err(PrefixConflict {
             root,

@@ -1,17 +1,23 @@
 use Rattle.std.proofs.Common.{◌≡◌, ◌||◌, ◌&&◌, not, ℕ, Bool, true, false, cond, nat_eq, List, [], ◌∷◌, refl, sym, ap, ap₂, ◌∙◌, inl, inr}
 use Rattle.std.specs.List.{list_any}
 use Rattle.art_walks.specs.inner.Names.{has_name}
-use Rattle.art_arena.specs.arena.Cells.{same_name}
-use Rattle.art_arena.proofs.shapes.CellLists.{same_name_tells}
+use Rattle.art_arena.specs.arena.Cells.{same_kind, same_name}
+use Rattle.art_arena.proofs.shapes.CellLists.{same_name_tells, same_name-self}
 use Rattle.art_nodes.specs.Name.{Name}
 use Rattle.art_nodes.specs.declared.kind.NodeType.{NodeType}
 use Rattle.art_walks.proofs.KindTests.{kinds_told}
 use Rattle.art_nodes.specs.contracts.names.OpaqueNodePtrPartialEq.TheImpl.{eq-value}
 use Rattle.art_walks.proofs.checker.names.note.Goals as goal
 
--- the equality of names tells them apart
+turned : (a b : Bool) → (a && b) ≡ (b && a)
+turned true true = refl
+turned true false = refl
+turned false true = refl
+turned false false = refl
+
+-- the equality of names tells them apart: it looks at the slab keys first
 same : (k l : NodeType) (x y : ℕ) → eq-value.it (record { kind = k; slot = x }) (record { kind = l; slot = y }) ≡ same_name (record { kind = k; slot = x }) (record { kind = l; slot = y })
-same k l x y = ap (λ b. b && nat_eq x y) (kinds_told k l)
+same k l x y = ap (λ b. nat_eq x y && b) (kinds_told k l) ∙ turned (nat_eq x y) (same_kind k l)
 
 swapped : (a b : Name) → same_name a b ≡ same_name b a
 swapped a b = elim (same_name_tells a b) [

@@ -1,0 +1,400 @@
+-- The leaf beside the place of a key: where a bound's leaves begin or end.
+use Rattle.std.proofs.Common.{◌≡◌, ℕ, ◌+◌, ◌<◌, ◌≤◌, Bool, true, false, not, List, [], ◌∷◌, ◌++◌, length, drop, Option, Some, None, IsSome, refl, sym, ap, subst, ◌∙◌, inl, inr, arith, append_assoc, append-nil}
+use Rattle.std.specs.List.{AllByRecursion}
+use Rattle.std.specs.BTreeMap.Range.{is_from_start, is_past_end}
+use Rattle.std.specs.Ordering.{ordering_reverse, is_ge, is_gt, is_le, is_lt}
+use Rattle.std.specs.declared.cmp.Ordering.{Ordering}
+use Rattle.std.specs.declared.cmp.Ordering.TheVariants.{Less, Equal, Greater}
+use Rattle.std.proofs.lemmas.Bool.{cases_order}
+use Rattle.std.proofs.lemmas.Cmp.{nat_cmp_total, nat_list_cmp_total, tied_itself}
+use Rattle.std.proofs.lemmas.List.Elements.{filter-append}
+use Rattle.art_bytes.specs.Keys.{BeginsWith, Conflict, IsBefore, bytes_cmp}
+use Rattle.art_bytes.proofs.Order.{before_at, before_cmp, begins_step, front_not_after}
+use Rattle.art_nodes.specs.InnerNode.{child_at, children_between, first_child}
+use Rattle.art_nodes.specs.declared.leaf.LeafNode.{LeafNode}
+use Rattle.art_nodes.specs.Name.{Name}
+use Rattle.art_arena.specs.arena.Arena.{Arena, Held, leaf_held, held_at, links_of, links_at, node_at}
+use Rattle.art_arena.specs.arena.Cells.{pair, leaf_name, copies, AreHeld}
+use Rattle.art_arena.specs.arena.Context.{Frame, path_to, leaves_before, leaves_after, cells_before, cells_after}
+use Rattle.art_arena.specs.arena.Descents.{leaf_where, passing}
+use Rattle.art_arena.specs.arena.Linked.{Links, AreLinked, first_slot, last_slot}
+use Rattle.art_arena.specs.arena.Meaning.{IsSubtree}
+use Rattle.art_arena.specs.arena.Places.{IsPlace}
+use Rattle.art_arena.specs.arena.Shapes.{Shape, Branches, leaf_at, inner_at, no_branch, branch, LeafAt, name_of, children_at, join, leaves, leaves_in, pairs_of, erase, cells, IsUnder, AreUnder, key_of}
+use Rattle.art_arena.proofs.tree.Order.{all_append, all_left, all_right, all_weaker}
+use Rattle.art_arena.specs.tree.Order.{IsAscending}
+use Rattle.art_arena.proofs.tree.Canonical.{ascending}
+use Rattle.art_arena.proofs.shapes.CellLists.{copies-append}
+use Rattle.art_arena.proofs.shapes.Contexts.{cells-plug, leaves-plug, leaves_in-join}
+use Rattle.art_arena.proofs.shapes.Erased.{items-erase, canonical-erase}
+use Rattle.art_arena.proofs.shapes.Openings.{opening}
+use Rattle.art_arena.proofs.shapes.Places.{held-below}
+use Rattle.art_arena.proofs.shapes.Prefixes.{leaves_held}
+use Rattle.art_arena.proofs.shapes.Subtrees.{branch-first, leaves_begin_prefix, pair_of, some_leaf, subtree-branch}
+use Rattle.art_arena.proofs.shapes.LinkedLists.{ends_with-first, last_slot-append, link_there}
+use Rattle.art_arena.proofs.shapes.Surroundings.{AreAfter, AreBefore, branches-after, branches-before, ctx-after, ctx-before}
+use Rattle.std.specs.declared.ops.Bound.TheVariants.{Included, Excluded, Unbounded}
+use Rattle.art_operations.specs.Meetings.{PartAt}
+use Rattle.art_operations.specs.Points.{AllConflict, IsPoint}
+use Rattle.art_operations.specs.declared.insert.point.InsertPoint.{InsertPoint}
+use Rattle.art_operations.specs.declared.meeting.Parted.{Parted}
+use Rattle.art_operations.specs.inner.Nearest.{Compare, IsNearest}
+use Rattle.art_operations.proofs.Points.{behind, leaf_there, part_new, part_old}
+use Rattle.art_operations.proofs.Waiting.{children_behind}
+
+-- the other way round, the order is turned
+pub turned : (k l : List ℕ) (o : Ordering) → bytes_cmp k l ≡ o → bytes_cmp l k ≡ ordering_reverse o
+turned k l o e = nat_list_cmp_total.antisymm l k ∙ ap ordering_reverse e
+
+pub before_greater : (k l : List ℕ) → IsBefore k l → bytes_cmp l k ≡ Greater
+before_greater k l h = turned k l Less (before_cmp k l h)
+
+-- what comes behind a key that isn't below another is above that one
+above_too : (key f r : List ℕ) → bytes_cmp f key ≡ Greater → IsBefore f r → bytes_cmp r key ≡ Greater
+above_too key f r e h = turned key r Less (nat_list_cmp_total.trans key f r (turned f key Greater e) (before_cmp f r h))
+
+above_same : (key f r : List ℕ) → bytes_cmp f key ≡ Equal → IsBefore f r → bytes_cmp r key ≡ Greater
+above_same key f r e h = turned key r Less (sym (nat_list_cmp_total.congr f key r e) ∙ before_cmp f r h)
+
+-- a key that begins with another goes on before what comes behind that one
+front_before : (f key r : List ℕ) → BeginsWith f key → IsBefore f r → IsBefore key r
+front_before [] key r b h = absurd h
+front_before (a ∷ f) [] r b h = let e = b.1 in absurd (cc)
+front_before (a ∷ f) (c ∷ key) [] b h = absurd h
+front_before (a ∷ f) (c ∷ key) (d ∷ r) (x, e) (inl less) = let same : c ≡ a = cc in inl (omega (arith, less, same))
+front_before (a ∷ f) (c ∷ key) (d ∷ r) (x, e) (inr h) =
+    let same : c ≡ a = cc in
+    let rest : key ≡ f ++ x = cc in
+    inr (same ∙ h.0, front_before f key r (x, rest) h.1)
+
+-- what begins with a key isn't below it
+longer_not_below : (k x : List ℕ) → bytes_cmp (k ++ x) k ≡ Less → ⊥
+longer_not_below [] [] e = cc
+longer_not_below [] (b ∷ x) e = cc
+longer_not_below (a ∷ k) x e =
+    let same = tied_itself nat_cmp_total a in
+    let rest : bytes_cmp (k ++ x) k ≡ Less = rw same at e in
+    longer_not_below k x rest
+
+module _ {K V : Type 0} (bytes : K → List ℕ) (key : List ℕ) where
+  pub below_before : (ls : List (LeafAt K V)) → AreBefore bytes key ls → Compare bytes key Less ls
+  below_before ls h = all_weaker _ _ (λ l b. before_cmp (bytes l.key) key b) ls h
+
+  pub above_after : (ls : List (LeafAt K V)) → AreAfter bytes key ls → Compare bytes key Greater ls
+  above_after ls h = all_weaker _ _ (λ l b. before_greater key (bytes l.key) b) ls h
+
+  -- the first leaf of a run that is above the key, behind leaves that are below it
+  pub nearest_first : (xs run ys : List (LeafAt K V)) (slot : ℕ) → first_slot run None ≡ Some slot → Compare bytes key Less xs → Compare bytes key Greater run → Compare bytes key Greater ys → IsNearest bytes key (xs ++ (run ++ ys)) slot Greater
+  nearest_first xs [] ys slot e below here above = absurd (cc)
+  nearest_first xs (l ∷ run) ys slot e below here above = record {
+    before = xs;
+    leaf = l;
+    after = run ++ ys;
+    parts = refl;
+    is = cc;
+    below = below;
+    compares = here.0;
+    above = all_append _ run ys here.1 above;
+  }
+
+  -- the last leaf of a run that is below it, before leaves that are above it
+  pub nearest_last : (xs run ys : List (LeafAt K V)) (slot : ℕ) → last_slot None run ≡ Some slot → Compare bytes key Less xs → Compare bytes key Less run → Compare bytes key Greater ys → IsNearest bytes key (xs ++ (run ++ ys)) slot Less
+  nearest_last xs run ys slot e below here above =
+      let end = ends_with-first run slot e in
+      let all = subst (Compare bytes key Less) end.2 here in
+      record {
+        before = xs ++ end.0;
+        leaf = end.1;
+        after = ys;
+        parts = ap (λ zs. xs ++ (zs ++ ys)) end.2 ∙ ap (λ zs. xs ++ zs) (append_assoc end.0 (end.1 ∷ []) ys) ∙ sym (append_assoc xs end.0 (end.1 ∷ ys));
+        is = end.3;
+        below = all_append _ xs end.0 below (all_left _ end.0 (end.1 ∷ []) all);
+        compares = (all_right _ end.0 (end.1 ∷ []) all).0;
+        above = above;
+      }
+
+  -- a part's own nearest leaf is the whole tree's
+  pub nearest_around : (xs run ys : List (LeafAt K V)) (slot : ℕ) (o : Ordering) → Compare bytes key Less xs → IsNearest bytes key run slot o → Compare bytes key Greater ys → IsNearest bytes key (xs ++ (run ++ ys)) slot o
+  nearest_around xs run ys slot o below near above = record {
+    before = xs ++ near.before;
+    leaf = near.leaf;
+    after = near.after ++ ys;
+    parts = ap (λ zs. xs ++ (zs ++ ys)) near.parts ∙ ap (λ zs. xs ++ zs) (append_assoc near.before (near.leaf ∷ near.after) ys) ∙ sym (append_assoc xs near.before (near.leaf ∷ (near.after ++ ys)));
+    is = near.is;
+    below = all_append _ xs near.before below near.below;
+    compares = near.compares;
+    above = all_append _ near.after ys near.above above;
+  }
+
+  pub nearest_in : (whole part : Shape K V) (ctx : List (Frame K V)) (slot : ℕ) (o : Ordering) → IsPlace bytes whole ctx part → BeginsWith (path_to ctx) key → IsNearest bytes key (leaves part) slot o → IsNearest bytes key (leaves whole) slot o
+  nearest_in whole part ctx slot o place begins near =
+      subst (λ ls. IsNearest bytes key ls slot o) (sym (ap leaves place.is ∙ leaves-plug ctx part))
+      (nearest_around (leaves_before ctx) (leaves part) (leaves_after ctx) slot o (below_before (leaves_before ctx) (ctx-before bytes key ctx place.around begins)) near (above_after (leaves_after ctx) (ctx-after bytes key ctx place.around begins)))
+
+  -- a lone leaf
+  pub nearest_alone : (l : LeafAt K V) (slot : ℕ) (o : Ordering) → l.slot ≡ slot → bytes_cmp (bytes l.key) key ≡ o → IsNearest bytes key (l ∷ []) slot o
+  nearest_alone l slot o is compares = record { before = []; leaf = l; after = []; parts = refl; is = is; below = tt; compares = compares; above = tt }
+
+  -- the first of leaves that are all in conflict with the key
+  pub nearest_conflict : (l : LeafAt K V) (ls : List (LeafAt K V)) (slot : ℕ) (o : Ordering) → l.slot ≡ slot → bytes_cmp (bytes l.key) key ≡ o → Conflict key (bytes l.key)
+      → AllByRecursion (λ r. IsBefore (bytes l.key) (bytes r.key)) ls → IsNearest bytes key (l ∷ ls) slot o
+  nearest_conflict l ls slot o is compares conflict behind =
+      record { before = []; leaf = l; after = ls; parts = refl; is = is; below = tt; compares = compares; above = all_weaker _ _ (λ r b. over o compares (bytes r.key) b) ls behind }
+    where
+      over : (o : Ordering) → bytes_cmp (bytes l.key) key ≡ o → (r : List ℕ) → IsBefore (bytes l.key) r → bytes_cmp r key ≡ Greater
+      over Greater e r b = above_too key (bytes l.key) r e b
+      over Equal e r b = above_same key (bytes l.key) r e b
+      over Less e r b = elim conflict.1 [
+        | inl h ↦ absurd (longer_not_below key h.0 (subst (λ k. bytes_cmp k key ≡ Less) h.1 e))
+        | inr h ↦ before_greater key r (front_before (bytes l.key) key r h b)
+      ]
+
+le_turned : (o : Ordering) → is_le (ordering_reverse o) ≡ is_ge o
+le_turned Less = refl
+le_turned Equal = refl
+le_turned Greater = refl
+
+lt_turned : (o : Ordering) → is_lt (ordering_reverse o) ≡ is_gt o
+lt_turned Less = refl
+lt_turned Equal = refl
+lt_turned Greater = refl
+
+not_lt_turned : (o : Ordering) → not (is_lt (ordering_reverse o)) ≡ is_le o
+not_lt_turned Less = refl
+not_lt_turned Equal = refl
+not_lt_turned Greater = refl
+
+not_le_turned : (o : Ordering) → not (is_le (ordering_reverse o)) ≡ is_lt o
+not_le_turned Less = refl
+not_le_turned Equal = refl
+not_le_turned Greater = refl
+
+-- the test of a bound, by how a key compares with the bound's
+pub start_included : (key k : List ℕ) (o : Ordering) → bytes_cmp k key ≡ o → is_from_start bytes_cmp (Included key) k ≡ is_ge o
+start_included key k o e = ap is_le (turned k key o e) ∙ le_turned o
+
+pub start_excluded : (key k : List ℕ) (o : Ordering) → bytes_cmp k key ≡ o → is_from_start bytes_cmp (Excluded key) k ≡ is_gt o
+start_excluded key k o e = ap is_lt (turned k key o e) ∙ lt_turned o
+
+pub end_included : (key k : List ℕ) (o : Ordering) → bytes_cmp k key ≡ o → not (is_past_end bytes_cmp (Included key) k) ≡ is_le o
+end_included key k o e = ap (λ p. not (is_lt p)) (turned k key o e) ∙ not_lt_turned o
+
+pub end_excluded : (key k : List ℕ) (o : Ordering) → bytes_cmp k key ≡ o → not (is_past_end bytes_cmp (Excluded key) k) ≡ is_lt o
+end_excluded key k o e = ap (λ p. not (is_le p)) (turned k key o e) ∙ not_le_turned o
+
+pub every_passes : {K V : Type 0} (bytes : K → List ℕ) (ls : List (LeafAt K V)) → passing bytes (λ k. true) ls ≡ ls
+every_passes bytes [] = refl
+every_passes bytes (l ∷ ls) = ap (λ xs. l ∷ xs) (every_passes bytes ls)
+
+-- tests that the keys on one side of the key pass
+
+module _ {K V : Type 0} (bytes : K → List ℕ) (key : List ℕ) (test : List ℕ → Bool) where
+  all_pass : (o : Ordering) → ((k : List ℕ) → bytes_cmp k key ≡ o → test k ≡ true) → (ls : List (LeafAt K V)) → Compare bytes key o ls → passing bytes test ls ≡ ls
+  all_pass o passes [] h = refl
+  all_pass o passes (l ∷ ls) h = rw (passes (bytes l.key) h.0) (ap (λ xs. l ∷ xs) (all_pass o passes ls h.1))
+
+  none_passes : (o : Ordering) → ((k : List ℕ) → bytes_cmp k key ≡ o → test k ≡ false) → (ls : List (LeafAt K V)) → Compare bytes key o ls → passing bytes test ls ≡ []
+  none_passes o fails [] h = refl
+  none_passes o fails (l ∷ ls) h = rw (fails (bytes l.key) h.0) (none_passes o fails ls h.1)
+
+  module _ (ls : List (LeafAt K V)) (slot : ℕ) (o : Ordering) (near : IsNearest bytes key ls slot o) (passes : Bool) (own : (k : List ℕ) → bytes_cmp k key ≡ o → test k ≡ passes) where
+    parted : passing bytes test ls ≡ passing bytes test near.before ++ passing bytes test (near.leaf ∷ near.after)
+    parted = ap (passing bytes test) near.parts ∙ filter-append (λ l. test (bytes l.key)) near.before (near.leaf ∷ near.after)
+
+    module _ (fails : (k : List ℕ) → bytes_cmp k key ≡ Less → test k ≡ false) (holds : (k : List ℕ) → bytes_cmp k key ≡ Greater → test k ≡ true) where
+      from : passing bytes test ls ≡ passing bytes test (near.leaf ∷ near.after)
+      from = parted ∙ ap (λ xs. xs ++ passing bytes test (near.leaf ∷ near.after)) (none_passes Less fails near.before near.below)
+
+      pub first_here : passes ≡ true → leaf_where bytes test ls ≡ Some slot
+      first_here e = ap (λ xs. first_slot xs None) from ∙ rw (own (bytes near.leaf.key) near.compares ∙ e) (ap Some near.is)
+
+      pub first_next : passes ≡ false → leaf_where bytes test ls ≡ first_slot near.after None
+      first_next e = ap (λ xs. first_slot xs None) from ∙ rw (own (bytes near.leaf.key) near.compares ∙ e) (ap (λ xs. first_slot xs None) (all_pass Greater holds near.after near.above))
+
+    module _ (holds : (k : List ℕ) → bytes_cmp k key ≡ Less → test k ≡ true) (fails : (k : List ℕ) → bytes_cmp k key ≡ Greater → test k ≡ false) where
+      pub last_here : passes ≡ true → last_slot None (passing bytes test ls) ≡ Some slot
+      last_here e =
+          ap (last_slot None) parted
+          ∙ rw (own (bytes near.leaf.key) near.compares ∙ e, none_passes Greater fails near.after near.above) (last_slot-append None (passing bytes test near.before) (near.leaf ∷ []) ∙ ap Some near.is)
+
+      pub last_previous : passes ≡ false → last_slot None (passing bytes test ls) ≡ last_slot None near.before
+      last_previous e =
+          ap (last_slot None) parted
+          ∙ rw (own (bytes near.leaf.key) near.compares ∙ e, none_passes Greater fails near.after near.above) (ap (last_slot None) (append-nil (passing bytes test near.before) ∙ all_pass Less holds near.before near.below))
+
+-- where the key's place is an inner node, between two of its children or on one side of them all
+
+-- of two keys that go on behind a front by different bytes, the one with the smaller byte comes first
+goes_before : (q : List ℕ) (a b : ℕ) (k l : List ℕ) → a < b → BeginsWith (q ++ a ∷ []) k → BeginsWith (q ++ b ∷ []) l → IsBefore k l
+goes_before q a b k l less h i =
+    let s = begins_step q a k h in
+    let t = begins_step q b l i in
+    subst (λ x. IsBefore x l) (sym s.1) (subst (IsBefore (q ++ a ∷ s.0)) (sym t.1) (before_at q a b s.0 t.0 less))
+
+module _ {K V : Type 0} (bytes : K → List ℕ) (key path prefix : List ℕ) (kids : Branches K V) where
+  module _ (p : Parted) (on : BeginsWith path key) (n : Name) (under : IsUnder bytes path (inner_at n prefix kids)) (part : PartAt prefix (drop (length path) key) p) where
+    here : BeginsWith ((path ++ part.front) ++ p.new_byte ∷ []) key
+    here = part_new path (drop (length path) key) key prefix p (behind path key (length path) refl on) part
+
+    there : (k : List ℕ) → BeginsWith (path ++ prefix) k → BeginsWith ((path ++ part.front) ++ p.old_byte ∷ []) k
+    there k st = part_old path (drop (length path) key) prefix k st.0 p st.1 part
+
+    pub parted_after : (slot : ℕ) → p.new_byte < p.old_byte → first_slot (leaves_in kids) None ≡ Some slot → IsNearest bytes key (leaves_in kids) slot Greater
+    parted_after slot less first =
+        let all = all_weaker _ _ (λ l st. before_greater key (bytes l.key) (goes_before (path ++ part.front) p.new_byte p.old_byte key (bytes l.key) less here (there (bytes l.key) st))) (leaves_in kids) (leaves_begin_prefix bytes path (inner_at n prefix kids) under) in
+        subst (λ ls. IsNearest bytes key ls slot Greater) (append-nil (leaves_in kids)) (nearest_first bytes key [] (leaves_in kids) [] slot first tt all tt)
+
+    pub parted_before : (slot : ℕ) → p.old_byte ≤ p.new_byte → last_slot None (leaves_in kids) ≡ Some slot → IsNearest bytes key (leaves_in kids) slot Less
+    parted_before slot upto last =
+        let less : p.old_byte < p.new_byte = smaller p.old_byte p.new_byte upto part.differs in
+        let all = all_weaker _ _ (λ l st. before_cmp (bytes l.key) key (goes_before (path ++ part.front) p.old_byte p.new_byte (bytes l.key) key less (there (bytes l.key) st) here)) (leaves_in kids) (leaves_begin_prefix bytes path (inner_at n prefix kids) under) in
+        subst (λ ls. IsNearest bytes key ls slot Less) (append-nil (leaves_in kids)) (nearest_last bytes key [] (leaves_in kids) [] slot last tt all tt)
+      where
+        smaller : (a b : ℕ) → a ≤ b → (a ≡ b → ⊥) → a < b
+        smaller a b le ne = elim (cases_order a b) [ inl e ↦ absurd (ne e) | inr (inl h) ↦ h | inr (inr h) ↦ absurd (omega (arith, le, h)) ]
+
+  module _ (byte : ℕ) (under : AreUnder bytes (path ++ prefix) 0 kids) (missing : child_at (children_at kids) byte ≡ None) where
+    -- the first child behind the place of the byte
+    pub record IsChildAfter (c : ℕ × Name) : Type 0 where
+      pub before : Branches K V
+      pub here : Shape K V
+      pub after : Branches K V
+      pub whole : kids ≡ join before (branch c.0 here after)
+      pub named : name_of here ≡ c.1
+      pub nearest : BeginsWith ((path ++ prefix) ++ byte ∷ []) key → (slot : ℕ) → first_slot (leaves here) None ≡ Some slot → IsNearest bytes key (leaves_in kids) slot Greater
+
+    pub child_after : (c : ℕ × Name) → first_child (children_between (Excluded byte) Unbounded (children_at kids)) ≡ Some c → IsChildAfter c
+    child_after c found =
+        let o = opening bytes kids byte (path ++ prefix) 0 under missing in
+        let later : first_child (children_at o.after) ≡ Some c =
+        ap first_child (sym (children_behind bytes (path ++ prefix) byte o.before o.after o.below o.after_under)) ∙ ap (λ ks. first_child (children_between (Excluded byte) Unbounded (children_at ks))) (sym o.kids_are) ∙ found in
+        let b = branch-first o.after c later in
+        let whole : kids ≡ join o.before (branch c.0 b.0 b.1) = o.kids_are ∙ ap (join o.before) b.2 in
+        record {
+          before = o.before;
+          here = b.0;
+          after = b.1;
+          whole = whole;
+          named = b.3;
+          nearest = λ on slot first.
+              let below = below_before bytes key (leaves_in o.before) (branches-before bytes key (path ++ prefix) byte 0 o.before o.before_under o.below on) in
+              let above = above_after bytes key (leaves_in o.after) (branches-after bytes key (path ++ prefix) byte (byte + 1) o.after o.after_under (omega arith) on) in
+              let split = subst (λ f. Compare bytes key Greater (leaves_in f)) b.2 above in
+              subst (λ ls. IsNearest bytes key ls slot Greater) (sym (ap leaves_in whole ∙ leaves_in-join o.before (branch c.0 b.0 b.1)))
+              (nearest_first bytes key (leaves_in o.before) (leaves b.0) (leaves_in b.1) slot first below (all_left _ (leaves b.0) (leaves_in b.1) split) (all_right _ (leaves b.0) (leaves_in b.1) split));
+        }
+
+    -- there is none
+    pub no_child_after : first_child (children_between (Excluded byte) Unbounded (children_at kids)) ≡ None → BeginsWith ((path ++ prefix) ++ byte ∷ []) key → (slot : ℕ)
+        → last_slot None (leaves_in kids) ≡ Some slot → IsNearest bytes key (leaves_in kids) slot Less
+    no_child_after missed on slot last =
+        let o = opening bytes kids byte (path ++ prefix) 0 under missing in
+        let none : first_child (children_at o.after) ≡ None =
+        ap first_child (sym (children_behind bytes (path ++ prefix) byte o.before o.after o.below o.after_under)) ∙ ap (λ ks. first_child (children_between (Excluded byte) Unbounded (children_at ks))) (sym o.kids_are) ∙ missed in
+        let all : leaves_in kids ≡ leaves_in o.before = ap leaves_in o.kids_are ∙ leaves_in-join o.before o.after ∙ ap (λ ls. leaves_in o.before ++ ls) (empty o.after none) ∙ append-nil (leaves_in o.before) in
+        let below = subst (Compare bytes key Less) (sym all) (below_before bytes key (leaves_in o.before) (branches-before bytes key (path ++ prefix) byte 0 o.before o.before_under o.below on)) in
+        subst (λ ls. IsNearest bytes key ls slot Less) (append-nil (leaves_in kids)) (nearest_last bytes key [] (leaves_in kids) [] slot last tt below tt)
+      where
+        empty : (f : Branches K V) → first_child (children_at f) ≡ None → leaves_in f ≡ []
+        empty no_branch e = refl
+        empty (branch b s rest) e = absurd (cc)
+
+-- what stands in an arena
+
+abbrev next_of : Option Links → Option ℕ
+next_of None = None
+next_of (Some l) = l.next
+
+abbrev previous_of : Option Links → Option ℕ
+previous_of None = None
+previous_of (Some l) = l.previous
+
+module _ {K V : Type 0} (bytes : K → List ℕ) (key : List ℕ) (arena : Arena K V) (ls : List (LeafAt K V)) (slot : ℕ) (o : Ordering) (near : IsNearest bytes key ls slot o) (linked : AreLinked (links_at arena) None ls None) where
+  links : links_at arena slot ≡ Some (record { previous = last_slot None near.before; next = first_slot near.after None })
+  links = link_there (links_at arena) near.before near.leaf near.after slot (subst (λ xs. AreLinked (links_at arena) None xs None) near.parts linked) near.is
+
+  pub nearest_held : IsSome (held_at arena (leaf_name slot))
+  nearest_held = some (held_at arena (leaf_name slot)) links
+    where
+      some : {L : Links} (held : Option (Held K V)) → links_of held ≡ Some L → IsSome held
+      some None e = absurd (cc)
+      some (Some h) e = refl
+
+  pub next_is : (leaf : LeafNode K V) → held_at arena (leaf_name slot) ≡ Some (leaf_held leaf) → leaf.next ≡ first_slot near.after None
+  next_is leaf held = ap (λ h. next_of (links_of h)) (sym held) ∙ ap next_of links
+
+  pub previous_is : (leaf : LeafNode K V) → held_at arena (leaf_name slot) ≡ Some (leaf_held leaf) → leaf.previous ≡ last_slot None near.before
+  previous_is leaf held = ap (λ h. previous_of (links_of h)) (sym held) ∙ ap previous_of links
+
+module _ {K V : Type 0} (bytes : K → List ℕ) (P : ℕ) (arena : Arena K V) where
+  -- the part at a place of the tree below a name
+  pub place_subtree : (root : Name) (whole part : Shape K V) (ctx : List (Frame K V)) → IsSubtree bytes P (node_at arena) root [] whole → IsPlace bytes whole ctx part
+      → IsSubtree bytes P (node_at arena) (name_of part) (path_to ctx) part
+  place_subtree root whole part ctx sub place = record {
+    part = record {
+      named = refl;
+      held = held-below P (node_at arena) ctx part (subst (λ w. AreHeld (node_at arena) (cells P w)) place.is sub.part.held);
+      once = λ n.
+          let few = sub.part.once n in
+          let parts : copies n (cells P whole) ≡ copies n (cells_before P ctx (name_of part)) + (copies n (cells P part) + copies n (cells_after P ctx)) =
+          ap (λ w. copies n (cells P w)) place.is ∙ ap (copies n) (cells-plug P ctx part) ∙ copies-append n (cells_before P ctx (name_of part)) (cells P part ++ cells_after P ctx)
+          ∙ ap (λ m. copies n (cells_before P ctx (name_of part)) + m) (copies-append n (cells P part) (cells_after P ctx)) in
+          omega (arith, few, parts);
+    };
+    under = place.under;
+  }
+
+  -- how a key compares with that of the leaf under a name
+  abbrev pub Told : List ℕ → ℕ → Ordering → Type 0
+  Told key slot o = (l : LeafNode K V) → held_at arena (leaf_name slot) ≡ Some (leaf_held l) → o ≡ bytes_cmp (bytes l.key) key
+
+  pub leaf_held_there : (slot : ℕ) (path : List ℕ) (part : Shape K V) → IsSubtree bytes P (node_at arena) (leaf_name slot) path part → IsSome (held_at arena (leaf_name slot))
+  leaf_held_there slot path part sub = let at = leaf_there bytes P arena slot path part sub in rw at.there refl
+
+  pub nearest_lone : (key : List ℕ) (slot : ℕ) (o : Ordering) (path : List ℕ) (part : Shape K V) → IsSubtree bytes P (node_at arena) (leaf_name slot) path part → Told key slot o → IsNearest bytes key (leaves part) slot o
+  nearest_lone key slot o path part sub told =
+      let at = leaf_there bytes P arena slot path part sub in
+      subst (λ t. IsNearest bytes key (leaves t) slot o) (sym at.is) (nearest_alone bytes key _ slot o refl (sym (told at.leaf at.there)))
+
+  behind_first : (l : LeafAt K V) (ls : List (LeafAt K V)) → IsAscending (key_of bytes) (pairs_of (l ∷ ls)) → AllByRecursion (λ r. IsBefore (bytes l.key) (bytes r.key)) ls
+  behind_first l ls h = unmapped ls h.0
+    where
+      unmapped : (ls : List (LeafAt K V)) → AllByRecursion (λ y. IsBefore (bytes l.key) (key_of bytes y)) (pairs_of ls) → AllByRecursion (λ r. IsBefore (bytes l.key) (bytes r.key)) ls
+      unmapped [] h = tt
+      unmapped (r ∷ rs) h = (h.0, unmapped rs h.1)
+
+  -- the first leaf of a part
+  pub record FirstOf (path : List ℕ) (part : Shape K V) (slot : ℕ) : Type 0 where
+    pub first : LeafAt K V
+    pub others : List (LeafAt K V)
+    pub are : leaves part ≡ first ∷ others
+    pub is : first.slot ≡ slot
+    pub node : LeafNode K V
+    pub there : held_at arena (leaf_name slot) ≡ Some (leaf_held node)
+    pub key_is : node.key ≡ first.key
+    pub before : AllByRecursion (λ r. IsBefore (bytes first.key) (bytes r.key)) others
+
+  pub first_of : (name : Name) (path : List ℕ) (part : Shape K V) (slot : ℕ) → IsSubtree bytes P (node_at arena) name path part → first_slot (leaves part) None ≡ Some slot → FirstOf path part slot
+  first_of name path part slot sub first = made (some_leaf bytes path part sub.under)
+    where
+      made : (l : LeafAt K V) × (ls : List (LeafAt K V)) × (leaves part ≡ l ∷ ls) → FirstOf path part slot
+      made (l, ls, e) =
+          let same : l.slot ≡ slot = let f : Some l.slot ≡ Some slot = sym (ap (λ xs. first_slot xs None) e) ∙ first in cc in
+          let h = subst (AllByRecursion (λ l. node_at arena (leaf_name l.slot) ≡ Some (pair l.key l.value))) e (leaves_held bytes P arena part sub.part.held) in
+          let p = pair_of (held_at arena (leaf_name slot)) l.key l.value (ap (λ m. node_at arena (leaf_name m)) (sym same) ∙ h.0) in
+          let up = subst (λ xs. IsAscending (key_of bytes) (pairs_of xs)) e (subst (IsAscending (key_of bytes)) (items-erase part) (ascending (key_of bytes) path (erase part) (canonical-erase bytes path part sub.under))) in
+          record { first = l; others = ls; are = e; is = same; node = p.leaf; there = p.is; key_is = p.key; before = behind_first l ls up }
+
+  -- the first of leaves that are all in conflict with a key
+  pub nearest_of_conflicts : (key : List ℕ) (name : Name) (slot : ℕ) (o : Ordering) (path : List ℕ) (part : Shape K V) → IsSubtree bytes P (node_at arena) name path part → first_slot (leaves part) None ≡ Some slot
+      → AllConflict bytes key (leaves part) → Told key slot o → IsNearest bytes key (leaves part) slot o
+  nearest_of_conflicts key name slot o path part sub first conflicts told =
+      let f = first_of name path part slot sub first in
+      let c = subst (AllConflict bytes key) f.are conflicts in
+      subst (λ ls. IsNearest bytes key ls slot o) (sym f.are)
+      (nearest_conflict bytes key f.first f.others slot o f.is (sym (told f.node f.there ∙ ap (λ k. bytes_cmp (bytes k) key) f.key_is)) c.0 f.before)
+
+  -- the part at a point, under the name that it has there
+  pub point_subtree : (key : List ℕ) (root n : Name) (s : Shape K V) (point : InsertPoint) → IsSubtree bytes P (node_at arena) root [] s → (at : IsPoint bytes key s point) → name_of at.part ≡ n
+      → IsSubtree bytes P (node_at arena) n (path_to at.ctx) at.part
+  point_subtree key root n s point sub at e = subst (λ m. IsSubtree bytes P (node_at arena) m (path_to at.ctx) at.part) e (place_subtree root s at.part at.ctx sub at.toward.place)

@@ -1,0 +1,284 @@
+//! The leaves that a bound or a prefix takes.
+ghost use Rattle.std.specs.Prelude.{◌≡◌, ℕ, ◌++◌, ◌∷◌, [], Bool, true, false, List, None, Some, IsSome, MatchOption, drop, length};
+ghost use Rattle.std.specs.Range.Bound.{bound_map};
+ghost use Rattle.std.specs.declared.cmp.Ordering.TheVariants.{Less, Greater};
+ghost use Rattle.art_bytes.specs.Keys.{BeginsWith, bytes_cmp};
+ghost use Rattle.art_nodes.specs.InnerNode.{child_at};
+ghost use Rattle.art_nodes.specs.Name.{Name};
+ghost use Rattle.art_arena.specs.arena.Arena.{held_at, leaf_held, links_at};
+ghost use Rattle.art_arena.specs.arena.Cells.{leaf_name};
+ghost use Rattle.art_arena.specs.arena.Descents.{leaf_where, passing};
+ghost use Rattle.art_arena.specs.arena.Linked.{AreLinked, last_slot};
+ghost use Rattle.art_arena.specs.arena.Shapes.{Branches, LeafAt, Shape, children_at, inner_at, leaves, leaves_in};
+ghost use Rattle.art_arena.specs.arena.Stores.{Stores, StoresBelow};
+ghost use Rattle.art_arena.specs.tree.Tenants.{begins_with};
+ghost use Rattle.art_operations.specs.Bounds.{AreEndsWhere, slot_inside};
+ghost use Rattle.art_operations.specs.Meetings.{PartAt};
+ghost use Rattle.art_operations.specs.Points.{AllConflict, IsPoint};
+ghost use Rattle.art_operations.specs.declared.insert.point.InsertKind.TheVariants as kind;
+ghost use Rattle.art_operations.specs.inner.Nearest.{IsNearest};
+
+use crate::insert::point::{InsertKind, InsertPoint, find_insert_point};
+use crate::meeting::Parted;
+use art_arena::{LeafPtr, NodeArena, first_leaf, last_leaf};
+use art_bytes::AsBytes;
+use art_nodes::{LeafNode, OpaqueNodePtr};
+use std::cmp::Ordering;
+use std::ops::Bound;
+
+// A leaf beside the place of a key: before it are smaller keys, behind it greater ones. How its own compares.
+#[derive(Clone, Copy)]
+struct Nearest {
+    leaf: LeafPtr,
+    order: Ordering,
+}
+
+/// The first leaf whose key is inside a bound as a start, or the last whose key is inside it as an end, in the tree
+/// below a name; `None` where there is none. The keys need not have the bound's key among them.
+///
+/// It takes no memory: it finds the place of the bound's key, and a leaf beside it.
+pub fn find_leaf_pointer_for_bound<K: AsBytes, V, const PREFIX_LEN: usize>(
+    arena: &NodeArena<K, V, PREFIX_LEN>,
+    root: OpaqueNodePtr,
+    bound: Bound<&[u8]>,
+    is_start: bool,
+) -> Option<LeafPtr>
+    requires { (s : Shape K V) × Stores K.bytes PREFIX_LEN arena.now root s
+        × AreLinked (links_at arena.now) None (leaves s) None }
+    ensures { (s : Shape K V) → Stores K.bytes PREFIX_LEN arena.now root s
+        → AreLinked (links_at arena.now) None (leaves s) None
+        → result ≡ slot_inside K.bytes is_start (bound_map (λ key. key.now) bound.entry) (leaves s) }
+{
+    match bound {
+        Bound::Unbounded => {
+            if is_start {
+                return Some(first_leaf(arena, root));
+            }
+            Some(last_leaf(arena, root))
+        }
+        Bound::Included(key) => {
+            let nearest = nearest_leaf(arena, root, key);
+            if is_start {
+                return first_from(arena, nearest, nearest.order.is_ge());
+            }
+            last_to(arena, nearest, nearest.order.is_le())
+        }
+        Bound::Excluded(key) => {
+            let nearest = nearest_leaf(arena, root, key);
+            if is_start {
+                return first_from(arena, nearest, nearest.order.is_gt());
+            }
+            last_to(arena, nearest, nearest.order.is_lt())
+        }
+    }
+}
+
+// The first leaf that passes a test which greater keys pass and smaller ones don't: the one beside the key or the next.
+fn first_from<K: AsBytes, V, const PREFIX_LEN: usize>(
+    arena: &NodeArena<K, V, PREFIX_LEN>,
+    nearest: Nearest,
+    passes: bool,
+) -> Option<LeafPtr>
+    requires { (key : List ℕ) × (ls : List (LeafAt K V)) × AreLinked (links_at arena.now) None ls None
+        × IsNearest K.bytes key ls nearest.leaf nearest.order }
+    ensures { (key : List ℕ) (ls : List (LeafAt K V)) (test : List ℕ → Bool)
+        → AreLinked (links_at arena.now) None ls None → IsNearest K.bytes key ls nearest.leaf nearest.order
+        → ((k : List ℕ) → bytes_cmp k key ≡ Less → test k ≡ false)
+        → ((k : List ℕ) → bytes_cmp k key ≡ Greater → test k ≡ true)
+        → ((k : List ℕ) → bytes_cmp k key ≡ nearest.order → test k ≡ passes)
+        → result ≡ leaf_where K.bytes test ls }
+{
+    let leaf = arena.as_ref::<LeafNode<K, V>>(nearest.leaf);
+    if passes {
+        return Some(nearest.leaf);
+    }
+    leaf.next()
+}
+
+// The last leaf that passes a test which smaller keys pass and greater ones don't: the one beside the key or the one
+// before it.
+fn last_to<K: AsBytes, V, const PREFIX_LEN: usize>(
+    arena: &NodeArena<K, V, PREFIX_LEN>,
+    nearest: Nearest,
+    passes: bool,
+) -> Option<LeafPtr>
+    requires { (key : List ℕ) × (ls : List (LeafAt K V)) × AreLinked (links_at arena.now) None ls None
+        × IsNearest K.bytes key ls nearest.leaf nearest.order }
+    ensures { (key : List ℕ) (ls : List (LeafAt K V)) (test : List ℕ → Bool)
+        → AreLinked (links_at arena.now) None ls None → IsNearest K.bytes key ls nearest.leaf nearest.order
+        → ((k : List ℕ) → bytes_cmp k key ≡ Less → test k ≡ true)
+        → ((k : List ℕ) → bytes_cmp k key ≡ Greater → test k ≡ false)
+        → ((k : List ℕ) → bytes_cmp k key ≡ nearest.order → test k ≡ passes)
+        → result ≡ last_slot None (passing K.bytes test ls) }
+{
+    let leaf = arena.as_ref::<LeafNode<K, V>>(nearest.leaf);
+    if passes {
+        return Some(nearest.leaf);
+    }
+    leaf.previous()
+}
+
+// A leaf beside the place of a key.
+fn nearest_leaf<K: AsBytes, V, const PREFIX_LEN: usize>(
+    arena: &NodeArena<K, V, PREFIX_LEN>,
+    root: OpaqueNodePtr,
+    key: &[u8],
+) -> Nearest
+    requires { (s : Shape K V) × Stores K.bytes PREFIX_LEN arena.now root s }
+    ensures { (s : Shape K V) → Stores K.bytes PREFIX_LEN arena.now root s
+        → IsNearest K.bytes key.now (leaves s) result.leaf result.order }
+{
+    match find_insert_point(arena, root, key) {
+        Err(conflict) => compared(arena, first_leaf(arena, conflict.part), key),
+        Ok(point) => nearest_at(arena, root, point, key),
+    }
+}
+
+// A leaf beside the place of a key, which is no other stored key's front, nor has one.
+fn nearest_at<K: AsBytes, V, const PREFIX_LEN: usize>(
+    arena: &NodeArena<K, V, PREFIX_LEN>,
+    root: OpaqueNodePtr,
+    point: InsertPoint,
+    key: &[u8],
+) -> Nearest
+    requires { (s : Shape K V) × Stores K.bytes PREFIX_LEN arena.now root s × IsPoint K.bytes key.now s point }
+    ensures { (s : Shape K V) → Stores K.bytes PREFIX_LEN arena.now root s → IsPoint K.bytes key.now s point
+        → IsNearest K.bytes key.now (leaves s) result.leaf result.order }
+{
+    let kind = point.insert_kind;
+    match kind {
+        InsertKind::Exact { leaf_node_ptr } => compared(arena, leaf_node_ptr, key),
+        InsertKind::SplitLeaf {
+            leaf_node_ptr,
+            parted: _,
+        } => compared(arena, leaf_node_ptr, key),
+        InsertKind::MismatchPrefix {
+            inner_node_ptr,
+            parted,
+        } => nearest_parted(arena, inner_node_ptr, parted),
+        InsertKind::IntoExisting {
+            inner_node_ptr,
+            key_byte,
+        } => nearest_child(arena, inner_node_ptr, key_byte),
+    }
+}
+
+// A leaf, and how its key compares with this one.
+fn compared<K: AsBytes, V, const PREFIX_LEN: usize>(
+    arena: &NodeArena<K, V, PREFIX_LEN>,
+    leaf: LeafPtr,
+    key: &[u8],
+) -> Nearest
+    requires { IsSome (held_at arena.now (leaf_name leaf)) }
+    ensures leaf { result.leaf ≡ leaf }
+    ensures order { (l : _) → held_at arena.now (leaf_name leaf) ≡ Some (leaf_held l)
+        → result.order ≡ bytes_cmp (K.bytes l.key) key.now }
+{
+    Nearest {
+        leaf,
+        order: arena.as_key_ref(leaf).as_bytes().cmp(key),
+    }
+}
+
+// The leaf beside a key that has another byte within the prefix of a node.
+fn nearest_parted<K: AsBytes, V, const PREFIX_LEN: usize>(
+    arena: &NodeArena<K, V, PREFIX_LEN>,
+    node: OpaqueNodePtr,
+    parted: Parted,
+) -> Nearest
+    requires { (path : List ℕ) × (prefix : List ℕ) × (kids : Branches K V)
+        × StoresBelow K.bytes PREFIX_LEN arena.now node path (inner_at node prefix kids) }
+    ensures { (key path : List ℕ) (prefix : List ℕ) (kids : Branches K V)
+        → StoresBelow K.bytes PREFIX_LEN arena.now node path (inner_at node prefix kids)
+        → BeginsWith path key → PartAt prefix (drop (length path) key) parted
+        → IsNearest K.bytes key (leaves_in kids) result.leaf result.order }
+{
+    if parted.new_byte < parted.old_byte {
+        return Nearest {
+            leaf: first_leaf(arena, node),
+            order: Ordering::Greater,
+        };
+    }
+    Nearest {
+        leaf: last_leaf(arena, node),
+        order: Ordering::Less,
+    }
+}
+
+// The leaf beside the place of a byte under which an inner node has no child.
+fn nearest_child<K: AsBytes, V, const PREFIX_LEN: usize>(
+    arena: &NodeArena<K, V, PREFIX_LEN>,
+    node: OpaqueNodePtr,
+    byte: u8,
+) -> Nearest
+    requires { (path : List ℕ) × (prefix : List ℕ) × (kids : Branches K V)
+        × StoresBelow K.bytes PREFIX_LEN arena.now node path (inner_at node prefix kids)
+        × (child_at (children_at kids) byte ≡ None) }
+    ensures { (key path : List ℕ) (prefix : List ℕ) (kids : Branches K V)
+        → StoresBelow K.bytes PREFIX_LEN arena.now node path (inner_at node prefix kids)
+        → child_at (children_at kids) byte ≡ None → BeginsWith ((path ++ prefix) ++ byte ∷ []) key
+        → IsNearest K.bytes key (leaves_in kids) result.leaf result.order }
+{
+    match arena.inner(node).child_after(byte) {
+        Some(next) => Nearest {
+            leaf: first_leaf(arena, next.1),
+            order: Ordering::Greater,
+        },
+        None => Nearest {
+            leaf: last_leaf(arena, node),
+            order: Ordering::Less,
+        },
+    }
+}
+
+/// The first and the last of the leaves whose keys begin with a prefix, in the tree below a name, or `None` where there
+/// is none. The prefix need not end where a node's does.
+///
+/// It takes no memory: it finds the place of the prefix, and both ends of the part there.
+pub fn find_prefix_segment<K: AsBytes, V, const PREFIX_LEN: usize>(
+    arena: &NodeArena<K, V, PREFIX_LEN>,
+    root: OpaqueNodePtr,
+    prefix: &[u8],
+) -> Option<(LeafPtr, LeafPtr)>
+    requires { (s : Shape K V) × Stores K.bytes PREFIX_LEN arena.now root s }
+    ensures { (s : Shape K V) → Stores K.bytes PREFIX_LEN arena.now root s
+        → AreEndsWhere K.bytes (λ k. begins_with prefix.now k) (leaves s) result }
+{
+    match find_insert_point(arena, root, prefix) {
+        Err(conflict) => segment_at(arena, conflict.part, prefix),
+        Ok(point) => match exact_leaf(point) {
+            Some(leaf) => Some((leaf, leaf)),
+            None => None,
+        },
+    }
+}
+
+// The ends of a part whose leaves are all in conflict with a prefix, where they begin with it.
+fn segment_at<K: AsBytes, V, const PREFIX_LEN: usize>(
+    arena: &NodeArena<K, V, PREFIX_LEN>,
+    part: OpaqueNodePtr,
+    prefix: &[u8],
+) -> Option<(LeafPtr, LeafPtr)>
+    requires { (path : List ℕ) × (s : Shape K V) × StoresBelow K.bytes PREFIX_LEN arena.now part path s }
+    ensures { (path : List ℕ) (s : Shape K V) → StoresBelow K.bytes PREFIX_LEN arena.now part path s
+        → AllConflict K.bytes prefix.now (leaves s)
+        → AreEndsWhere K.bytes (λ k. begins_with prefix.now k) (leaves s) result }
+{
+    let first = first_leaf(arena, part);
+    if arena.as_key_ref(first).as_bytes().starts_with(prefix) {
+        return Some((first, last_leaf(arena, part)));
+    }
+    None
+}
+
+// The leaf that has the key, where the place tells one.
+fn exact_leaf(point: InsertPoint) -> Option<LeafPtr>
+    ensures { MatchOption result ((slot : ℕ) → point.insert_kind ≡ kind.Exact slot → ⊥)
+        (λ slot. point.insert_kind ≡ kind.Exact slot) }
+{
+    let kind = point.insert_kind;
+    match kind {
+        InsertKind::Exact { leaf_node_ptr } => Some(leaf_node_ptr),
+        _ => None,
+    }
+}
