@@ -39,7 +39,8 @@ use Rattle.art_operations.specs.Points.{AllConflict, IsPoint}
 use Rattle.art_operations.specs.declared.insert.point.InsertPoint.{InsertPoint}
 use Rattle.art_operations.specs.declared.meeting.Parted.{Parted}
 use Rattle.art_operations.specs.inner.Nearest.{Compare, IsNearest}
-use Rattle.art_operations.proofs.Points.{behind, leaf_there, part_new, part_old}
+use Rattle.art_arena.proofs.shapes.Passing.{behind}
+use Rattle.art_operations.proofs.Points.{leaf_there, part_new, part_old}
 use Rattle.art_operations.proofs.Waiting.{children_behind}
 
 -- the other way round, the order is turned

@@ -1,5 +1,6 @@
 //! The leaves that a bound or a prefix takes.
-ghost use Rattle.std.specs.Prelude.{◌≡◌, ℕ, ◌++◌, ◌∷◌, [], Bool, true, false, List, None, Some, IsSome, MatchOption, drop, length};
+ghost use Rattle.std.specs.Prelude.{◌≡◌, ℕ, ◌++◌, ◌∷◌, [], Bool, true, false, List, drop, length};
+ghost use Rattle.std.specs.Prelude.{None, Some, IsSome, MatchOption};
 ghost use Rattle.std.specs.Range.Bound.{bound_map};
 ghost use Rattle.std.specs.declared.cmp.Ordering.TheVariants.{Less, Greater};
 ghost use Rattle.art_bytes.specs.Keys.{BeginsWith, bytes_cmp};
