@@ -1,7 +1,6 @@
 //! Tests of art_operations: each public call at concrete types, lists of commands, want of memory, and the caller of
-//! its CALLING.md; and `Grown`, on which tests of the layers above stand. In a window, between a line `refuse` on the
-//! standard error and the line that tells the outcome, tests/refusals.py refuses each request for memory in turn. Nodes
-//! are made and moved by generic functions alone.
+//! its CALLING.md. In a window, between a line `refuse` on the standard error and the line that tells the outcome,
+//! tests/refusals.py refuses each request for memory in turn. Nodes are made and moved by generic functions alone.
 #![tactic(auto)]
 
 #[cfg(test)]
@@ -12,7 +11,6 @@ mod clones;
 mod commands;
 #[cfg(test)]
 mod frees;
-pub mod grown;
 #[cfg(test)]
 mod lookups;
 #[cfg(test)]

@@ -9,8 +9,6 @@ mod calling;
 #[cfg(test)]
 mod checks;
 #[cfg(test)]
-mod replay;
-#[cfg(test)]
 mod stats;
 #[cfg(test)]
 mod visits;

@@ -3,8 +3,6 @@
 // those two lines. With no word, every scenario is run.
 #![tactic(auto)]
 
-mod operations;
-
 use art_bytes::{
     AsBytes, BytesMapping, ConcatTuple, Mapped, ToIBE, ToOctets, ToUBE, ZeroEnded, ZeroEndedError,
     laws,
@@ -231,7 +229,7 @@ fn run(rt: &(impl Print + Eprint + AllocGlobal), name: &str) -> io::Result<()> {
         "zero_ended_of_a_zero_takes_no_memory" => zero_ended_of_a_zero(rt),
         "zero_ended_clone" => zero_ended_clone(rt),
         "zero_ended_to_bytes_takes_no_memory" => zero_ended_to_bytes(rt),
-        other => operations::run(rt, other),
+        _ => println!(rt; "unknown"),
     }
 }
 
@@ -266,9 +264,6 @@ fn main(rt: HostRuntime) -> io::Result<()> {
             "zero_ended_clone",
             "zero_ended_to_bytes_takes_no_memory",
         ] {
-            run(&rt, name)?;
-        }
-        for name in operations::SCENARIOS {
             run(&rt, name)?;
         }
     }
