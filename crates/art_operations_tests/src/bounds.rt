@@ -22,8 +22,7 @@ fn leaf_of<K: CloneBytes, V: Clone, const PREFIX_LEN: usize>(
         Some(root) => root,
         None => return None,
     };
-    let found = search_unchecked(&ran.arena, root, key);
-    found
+    search_unchecked(&ran.arena, root, key)
 }
 
 // Whether a bound takes the leaf of this key, or none.
