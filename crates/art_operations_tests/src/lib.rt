@@ -8,8 +8,6 @@ mod bounds;
 #[cfg(test)]
 mod calling;
 #[cfg(test)]
-mod clones;
-#[cfg(test)]
 mod commands;
 #[cfg(test)]
 mod frees;
