@@ -42,18 +42,18 @@ enum Call {
     LookUps(u8),
 }
 
-// The keys from 200 on leave the front of the others.
+// Below 100 they part at the last byte. From 100 on they stand together two by two, up to 179 in front of the former.
 fn key_of(n: u8) -> [u8; 5] {
-    if n < 200 {
-        [1, 2, 3, 4, n]
+    if n < 100 {
+        [1, 2, 90, 4, n]
     } else {
-        [1, 2, n, 4, 5]
+        [1, 2, n / 2, 4, n % 2]
     }
 }
 
-// Puts the first keys in, so many of them.
-fn fill(map: &mut Map, pairs: u8) {
-    for n in 0..pairs {
+// Puts keys in, from a number on and up to another.
+fn fill(map: &mut Map, from: u8, to: u8) {
+    for n in from..to {
         let _ = map.insert(key_of(n), u64::from(n));
     }
 }
@@ -158,7 +158,15 @@ fn makes(rt: &(impl Print + Eprint + AllocGlobal), map: &mut Map, call: Call) ->
 // A call of a map of so many pairs.
 fn calls(rt: &(impl Print + Eprint + AllocGlobal), pairs: u8, call: Call) -> io::Result<()> {
     let mut map = Map::with_prefix_len(rt.alloc());
-    fill(&mut map, pairs);
+    fill(&mut map, 0, pairs);
+    makes(rt, &mut map, call)
+}
+
+// A call that shrinks a node of five children, where six other keys leave no room for a node of four.
+fn shrinks(rt: &(impl Print + Eprint + AllocGlobal), others: u8, call: Call) -> io::Result<()> {
+    let mut map = Map::with_prefix_len(rt.alloc());
+    fill(&mut map, 0, 5);
+    fill(&mut map, others, others.saturating_add(6));
     makes(rt, &mut map, call)
 }
 
@@ -167,17 +175,17 @@ pub fn run(rt: &(impl Print + Eprint + AllocGlobal), name: &str) -> io::Result<(
     match name {
         "map_insert_into_none" => calls(rt, 0, Call::Insert(0)),
         "map_insert_splits" => calls(rt, 1, Call::Insert(1)),
-        "map_insert_splits_a_prefix" => calls(rt, 3, Call::Insert(200)),
+        "map_insert_splits_a_prefix" => calls(rt, 4, Call::Insert(200)),
         "map_insert_grows" => calls(rt, 4, Call::Insert(4)),
         "map_insert_over_takes_no_memory" => calls(rt, 3, Call::Insert(1)),
         "map_try_insert_grows" => calls(rt, 16, Call::TryInsert(16)),
-        "map_prefix_insert_splits_a_prefix" => calls(rt, 3, Call::PrefixInsert(200)),
-        "map_remove_shrinks" => calls(rt, 5, Call::Remove(2)),
+        "map_prefix_insert_splits_a_prefix" => calls(rt, 4, Call::PrefixInsert(200)),
+        "map_remove_shrinks" => shrinks(rt, 200, Call::Remove(2)),
         "map_remove_takes_no_memory" => calls(rt, 4, Call::Remove(2)),
-        "map_remove_entry_shrinks" => calls(rt, 17, Call::RemoveEntry(3)),
+        "map_remove_entry_shrinks" => shrinks(rt, 200, Call::RemoveEntry(3)),
         "map_remove_of_none_takes_no_memory" => calls(rt, 5, Call::Remove(9)),
-        "map_pop_first_shrinks" => calls(rt, 5, Call::PopFirst),
-        "map_pop_last_shrinks" => calls(rt, 5, Call::PopLast),
+        "map_pop_first_shrinks" => shrinks(rt, 200, Call::PopFirst),
+        "map_pop_last_shrinks" => shrinks(rt, 100, Call::PopLast),
         "map_pop_last_takes_no_memory" => calls(rt, 4, Call::PopLast),
         "map_clear_takes_no_memory" => calls(rt, 7, Call::Clear),
         "map_look_ups_takes_no_memory" => calls(rt, 6, Call::LookUps(3)),
