@@ -3,6 +3,8 @@
 // those two lines. With no word, every scenario is run.
 #![tactic(auto)]
 
+mod map;
+
 use art_bytes::{
     AsBytes, BytesMapping, ConcatTuple, Mapped, ToIBE, ToOctets, ToUBE, ZeroEnded, ZeroEndedError,
     laws,
@@ -229,7 +231,7 @@ fn run(rt: &(impl Print + Eprint + AllocGlobal), name: &str) -> io::Result<()> {
         "zero_ended_of_a_zero_takes_no_memory" => zero_ended_of_a_zero(rt),
         "zero_ended_clone" => zero_ended_clone(rt),
         "zero_ended_to_bytes_takes_no_memory" => zero_ended_to_bytes(rt),
-        _ => println!(rt; "unknown"),
+        _ => map::run(rt, name),
     }
 }
 
@@ -264,6 +266,9 @@ fn main(rt: HostRuntime) -> io::Result<()> {
             "zero_ended_clone",
             "zero_ended_to_bytes_takes_no_memory",
         ] {
+            run(&rt, name)?;
+        }
+        for name in map::NAMES {
             run(&rt, name)?;
         }
     }

@@ -1,0 +1,194 @@
+//! The calls of the map. A scenario prints the pairs, what the checker counts of the nodes, and what the call answered.
+//! A map is made and dropped in one function, and lent to all others.
+
+use art_map::TreeMap;
+use art_walks::WellFormedChecker;
+use std::io;
+
+/// The scenarios.
+pub const NAMES: [&str; 16] = [
+    "map_insert_into_none",
+    "map_insert_splits",
+    "map_insert_splits_a_prefix",
+    "map_insert_grows",
+    "map_insert_over_takes_no_memory",
+    "map_try_insert_grows",
+    "map_prefix_insert_splits_a_prefix",
+    "map_remove_shrinks",
+    "map_remove_takes_no_memory",
+    "map_remove_entry_shrinks",
+    "map_remove_of_none_takes_no_memory",
+    "map_pop_first_shrinks",
+    "map_pop_last_shrinks",
+    "map_pop_last_takes_no_memory",
+    "map_clear_takes_no_memory",
+    "map_look_ups_takes_no_memory",
+];
+
+/// Keys of one length, which share a front that a node stores only in part.
+type Map = TreeMap<[u8; 5], u64, 1>;
+
+/// A call of the map, of the key with a number.
+#[derive(Clone, Copy)]
+enum Call {
+    Insert(u8),
+    TryInsert(u8),
+    PrefixInsert(u8),
+    Remove(u8),
+    RemoveEntry(u8),
+    PopFirst,
+    PopLast,
+    Clear,
+    LookUps(u8),
+}
+
+// Below 100 they part at the last byte. From 100 on they stand together two by two, up to 179 in front of the former.
+fn key_of(n: u8) -> [u8; 5] {
+    if n < 100 {
+        [1, 2, 90, 4, n]
+    } else {
+        [1, 2, n / 2, 4, n % 2]
+    }
+}
+
+// Puts keys in, from a number on and up to another.
+fn fill(map: &mut Map, from: u8, to: u8) {
+    for n in from..to {
+        let _ = map.insert(key_of(n), u64::from(n));
+    }
+}
+
+fn show_pairs(rt: &impl Print, when: &str, map: &Map) -> io::Result<()> {
+    for (key, value) in map.iter() {
+        println!(rt; "{when} {key:?} {value}")?;
+    }
+    Ok(())
+}
+
+// How many nodes of each kind the checker counts, or its fault.
+fn show_nodes(rt: &(impl Print + AllocGlobal), when: &str, map: &Map) -> io::Result<()> {
+    let (arena, root) = map.nodes();
+    match WellFormedChecker::check(rt.alloc(), arena, root, map.len()) {
+        Ok(stats) => println!(rt;
+            "{when} {} leaves, nodes {} {} {} {}",
+            stats.num_leaf, stats.num_node4, stats.num_node16, stats.num_node48, stats.num_node256
+        ),
+        Err(fault) => println!(rt; "{when} {fault}"),
+    }
+}
+
+// The pairs and the nodes, and what a call answered: no value, a value, or nothing where it was refused.
+fn show(
+    rt: &(impl Print + AllocGlobal),
+    when: &str,
+    map: &Map,
+    answer: Option<Option<u64>>,
+) -> io::Result<()> {
+    show_pairs(rt, when, map)?;
+    show_nodes(rt, when, map)?;
+    match answer {
+        Some(Some(value)) => println!(rt; "{when} answered {value}"),
+        Some(None) => println!(rt; "{when} answered no value"),
+        None => println!(rt; "{when} no answer"),
+    }
+}
+
+// Whether the look-ups that lend nothing for writing find a key.
+fn is_known(map: &Map, key: &[u8; 5]) -> bool {
+    map.contains_key(key)
+        && map.get_key_value(key).is_some()
+        && map.prefix_get(key).is_some()
+        && map.first_key_value().is_some()
+        && map.last_key_value().is_some()
+        && !map.is_empty()
+}
+
+// The value of a key that each look-up finds.
+fn look_ups(map: &mut Map, key: &[u8; 5]) -> Option<u64> {
+    if is_known(map, key) && map.get_mut(key).is_some() && map.prefix_get_mut(key).is_some() {
+        map.get(key).copied()
+    } else {
+        None
+    }
+}
+
+// The value of a pair.
+fn value_of(pair: Option<([u8; 5], u64)>) -> Option<u64> {
+    match pair {
+        Some((_, value)) => Some(value),
+        None => None,
+    }
+}
+
+// What a call answers of a value, or nothing where it finds no memory.
+fn answer_of(map: &mut Map, call: Call) -> Option<Option<u64>> {
+    match call {
+        Call::Insert(n) => map.insert(key_of(n), 1000).ok(),
+        Call::TryInsert(n) => map.try_insert(key_of(n), 1000).ok(),
+        Call::PrefixInsert(n) => match map.prefix_insert(key_of(n), 1000) {
+            Ok(count) => Some(Some(count as u64)),
+            Err(_) => None,
+        },
+        Call::Remove(n) => map.remove(&key_of(n)).ok(),
+        Call::RemoveEntry(n) => map.remove_entry(&key_of(n)).ok().map(value_of),
+        Call::PopFirst => map.pop_first().ok().map(value_of),
+        Call::PopLast => map.pop_last().ok().map(value_of),
+        Call::Clear => {
+            map.clear();
+            Some(None)
+        }
+        Call::LookUps(n) => Some(look_ups(map, &key_of(n))),
+    }
+}
+
+// A call in the window; where there was no memory, once more behind it.
+fn makes(rt: &(impl Print + Eprint + AllocGlobal), map: &mut Map, call: Call) -> io::Result<()> {
+    show(rt, "before", map, None)?;
+    eprintln!(rt; "refuse")?;
+    let answer = answer_of(map, call);
+    eprintln!(rt; "{}", if answer.is_some() { "ok" } else { "refused" })?;
+    show(rt, "after", map, answer)?;
+    if answer.is_none() {
+        let answer = answer_of(map, call);
+        show(rt, "again", map, answer)?;
+    }
+    Ok(())
+}
+
+// A call of a map of so many pairs.
+fn calls(rt: &(impl Print + Eprint + AllocGlobal), pairs: u8, call: Call) -> io::Result<()> {
+    let mut map = Map::with_prefix_len(rt.alloc());
+    fill(&mut map, 0, pairs);
+    makes(rt, &mut map, call)
+}
+
+// A call that shrinks a node of five children, where six other keys leave no room for a node of four.
+fn shrinks(rt: &(impl Print + Eprint + AllocGlobal), others: u8, call: Call) -> io::Result<()> {
+    let mut map = Map::with_prefix_len(rt.alloc());
+    fill(&mut map, 0, 5);
+    fill(&mut map, others, others.saturating_add(6));
+    makes(rt, &mut map, call)
+}
+
+/// Runs a scenario.
+pub fn run(rt: &(impl Print + Eprint + AllocGlobal), name: &str) -> io::Result<()> {
+    match name {
+        "map_insert_into_none" => calls(rt, 0, Call::Insert(0)),
+        "map_insert_splits" => calls(rt, 1, Call::Insert(1)),
+        "map_insert_splits_a_prefix" => calls(rt, 4, Call::Insert(200)),
+        "map_insert_grows" => calls(rt, 4, Call::Insert(4)),
+        "map_insert_over_takes_no_memory" => calls(rt, 3, Call::Insert(1)),
+        "map_try_insert_grows" => calls(rt, 16, Call::TryInsert(16)),
+        "map_prefix_insert_splits_a_prefix" => calls(rt, 4, Call::PrefixInsert(200)),
+        "map_remove_shrinks" => shrinks(rt, 200, Call::Remove(2)),
+        "map_remove_takes_no_memory" => calls(rt, 4, Call::Remove(2)),
+        "map_remove_entry_shrinks" => shrinks(rt, 200, Call::RemoveEntry(3)),
+        "map_remove_of_none_takes_no_memory" => calls(rt, 5, Call::Remove(9)),
+        "map_pop_first_shrinks" => shrinks(rt, 200, Call::PopFirst),
+        "map_pop_last_shrinks" => shrinks(rt, 100, Call::PopLast),
+        "map_pop_last_takes_no_memory" => calls(rt, 4, Call::PopLast),
+        "map_clear_takes_no_memory" => calls(rt, 7, Call::Clear),
+        "map_look_ups_takes_no_memory" => calls(rt, 6, Call::LookUps(3)),
+        _ => println!(rt; "unknown"),
+    }
+}
