@@ -1,6 +1,6 @@
 //! The leaves that bounds and prefixes take, in a tree of keys with a common front, for several `PREFIX_LEN`.
-ghost use Rattle.std.specs.Prelude.{List};
-ghost use Rattle.art_operations.specs.Runs.{HoldsClonesOf};
+ghost use Rattle.std.specs.Prelude.{ℕ, List};
+ghost use Rattle.art_operations.specs.Runs.{HoldsClonesOf, IsCloned};
 
 use art_arena::LeafPtr;
 use art_bytes::CloneBytes;
@@ -15,8 +15,9 @@ fn leaf_of<K: CloneBytes, V: Clone, const PREFIX_LEN: usize>(
     ran: &RunResult<K, V, PREFIX_LEN>,
     key: &[u8],
 ) -> Option<LeafPtr>
-    requires { (pairs : List (K × V))
-        × HoldsClonesOf K.bytes PREFIX_LEN ran.now.arena K.is_clone V.is_clone ran.now.root pairs }
+    requires { (n : ℕ) × (pairs : List (K × V))
+        × HoldsClonesOf K.bytes PREFIX_LEN ran.now.arena (IsCloned K.is_clone n) (IsCloned V.is_clone n)
+        ran.now.root pairs }
 {
     let root = match ran.root {
         Some(root) => root,
@@ -32,8 +33,9 @@ fn takes<K: CloneBytes, V: Clone, const PREFIX_LEN: usize>(
     is_start: bool,
     wanted: Option<&[u8]>,
 ) -> bool
-    requires { (pairs : List (K × V))
-        × HoldsClonesOf K.bytes PREFIX_LEN ran.now.arena K.is_clone V.is_clone ran.now.root pairs }
+    requires { (n : ℕ) × (pairs : List (K × V))
+        × HoldsClonesOf K.bytes PREFIX_LEN ran.now.arena (IsCloned K.is_clone n) (IsCloned V.is_clone n)
+        ran.now.root pairs }
 {
     let root = match ran.root {
         Some(root) => root,
@@ -52,8 +54,9 @@ fn spans<K: CloneBytes, V: Clone, const PREFIX_LEN: usize>(
     prefix: &[u8],
     wanted: Option<(&[u8], &[u8])>,
 ) -> bool
-    requires { (pairs : List (K × V))
-        × HoldsClonesOf K.bytes PREFIX_LEN ran.now.arena K.is_clone V.is_clone ran.now.root pairs }
+    requires { (n : ℕ) × (pairs : List (K × V))
+        × HoldsClonesOf K.bytes PREFIX_LEN ran.now.arena (IsCloned K.is_clone n) (IsCloned V.is_clone n)
+        ran.now.root pairs }
 {
     let root = match ran.root {
         Some(root) => root,
@@ -84,8 +87,9 @@ const HIGH: &[u8] = &[127, 127, 255];
 fn bounds_stand<K: CloneBytes, V: Clone, const PREFIX_LEN: usize>(
     ran: &RunResult<K, V, PREFIX_LEN>,
 ) -> bool
-    requires { (pairs : List (K × V))
-        × HoldsClonesOf K.bytes PREFIX_LEN ran.now.arena K.is_clone V.is_clone ran.now.root pairs }
+    requires { (n : ℕ) × (pairs : List (K × V))
+        × HoldsClonesOf K.bytes PREFIX_LEN ran.now.arena (IsCloned K.is_clone n) (IsCloned V.is_clone n)
+        ran.now.root pairs }
 {
     let rows: [(Bound<&[u8]>, bool, Option<&[u8]>); 20] = [
         (Bound::Unbounded, true, Some(LOW)),
@@ -121,8 +125,9 @@ fn bounds_stand<K: CloneBytes, V: Clone, const PREFIX_LEN: usize>(
 fn prefixes_stand<K: CloneBytes, V: Clone, const PREFIX_LEN: usize>(
     ran: &RunResult<K, V, PREFIX_LEN>,
 ) -> bool
-    requires { (pairs : List (K × V))
-        × HoldsClonesOf K.bytes PREFIX_LEN ran.now.arena K.is_clone V.is_clone ran.now.root pairs }
+    requires { (n : ℕ) × (pairs : List (K × V))
+        × HoldsClonesOf K.bytes PREFIX_LEN ran.now.arena (IsCloned K.is_clone n) (IsCloned V.is_clone n)
+        ran.now.root pairs }
 {
     let rows: [(&[u8], Option<(&[u8], &[u8])>); 8] = [
         (&[127], Some((FIRST, HIGH))),
