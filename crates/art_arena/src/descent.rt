@@ -84,8 +84,9 @@ fn step_at<K: AsBytes, V, const PREFIX_LEN: usize>(
 }
 
 /// Goes down for a key in the canonical tree below a name, as far as it goes: to a leaf, to a node where the key ends
-/// or has no child, or to one whose prefix it doesn't pass. Each node is read once, but for the leaves that lend
-/// prefixes; nothing is copied, and no memory is taken. The last steps of the way are left in `search`.
+/// or has no child, or to one whose prefix it doesn't pass. Each node of the way is read once; by bytes also the nodes
+/// from there down to a first leaf, for each prefix that isn't wholly stored. Nothing is copied, and no memory is
+/// taken. The last steps of the way are left in `search`.
 #[inline(always)]
 pub fn descend<'a, K: AsBytes, V, const PREFIX_LEN: usize>(
     reader: &mut ArenaReader<'a, K, V, PREFIX_LEN>,
