@@ -5,7 +5,7 @@
 On standard error stands a line at each change of state, and one a minute at least. The table has for each crate
 seconds of processor time: of its proof, of its tests (their proof, and the runs of tests and programs) and of its
 must-fail edits; and the memory held at most (PSS, in which shared memory counts once). Only this run's processes are
-looked at, four times a second, and each second for memory. The row 'all' is what the system counted of the whole run;
+looked at, twice a second, and each ten seconds for memory. The row 'all' is what the system counted of the whole run;
 what stands in no crate's row is rt itself, and what processes used behind the last look at them.
 """
 import glob
@@ -93,11 +93,16 @@ class Cost:
     """The processor time and the memory of the run's processes, by crate and kind of work."""
 
     def __init__(self, state):
-        self.state, self.used, self.peak, self.most, self.looks, self.labels = state, {}, {}, 0, 0, {}
+        self.state, self.used, self.peak, self.most, self.looks = state, {}, {}, 0, 0
+        self.labels, self.seen = {}, {}
 
     def label(self, it, every):
         """The crate and the kind of work of a process, or those of what started it, or None."""
         key = it.pid, it.start
+        self.seen[key] = self.seen.get(key, 0) + 1
+        # (a process may still become another's program; after some looks it is what it is)
+        if self.seen[key] > 4 and self.labels.get(key):
+            return self.labels[key]
         folder, words = it.text("cwd"), it.text("cmdline")
         made = re.search(r"/rt-run-[^/\0]*/bin/(\w+)", words)
         name = made and (made[1] if made[1] in self.state.crates else re.sub("_tests$", "", made[1]))
@@ -128,7 +133,7 @@ class Cost:
                 sums[key] = sums.get(key, 0) + every[pid].own + every[pid].waited
                 room = re.search(r"/rt-edit-[^/]*", every[pid].text("cwd"))
                 rooms.update({room[0]: label[0]} if room else {})
-            if self.looks % 4 == 0:
+            if self.looks % 20 == 0:
                 share = re.search(r"(?m)^Pss:\s+(\d+)", every[pid].text("smaps_rollup"))
                 held[label] = held.get(label, 0) + (int(share[1]) * 1024 if share else 0)
         self.used.update(sums)
@@ -167,7 +172,7 @@ def main():
     cost, ended = Cost(state), threading.Event()
 
     def keep_looking():
-        while not ended.wait(0.25):
+        while not ended.wait(0.5):
             cost.look()
 
     looker = threading.Thread(target=keep_looking, daemon=True)

@@ -12,6 +12,8 @@ import time
 
 MARK = "ART_RUN"
 TICKS = os.sysconf("SC_CLK_TCK")
+# (Linux's PF_KTHREAD, among the flags of a process)
+KERNEL_THREAD = 0x0020_0000
 
 
 def begin():
@@ -35,6 +37,7 @@ class Process:
     def __init__(self, pid):
         fields = read(pid, "stat").rpartition(b")")[2].split()
         self.pid, self.parent, self.state, self.start = int(pid), int(fields[1]), fields[0], fields[19]
+        self.of_kernel = bool(int(fields[6]) & KERNEL_THREAD)
         self.own, self.waited = (sum(map(int, fields[at : at + 2])) / TICKS for at in (11, 13))
 
     def text(self, name):
@@ -59,7 +62,9 @@ def of_run():
         above.add(at)
         at = every[at].parent
     for pid, it in every.items():
-        if pid not in above and it.state != b"Z" and mark in it.text("environ").split("\0"):
+        if pid in above or it.of_kernel or it.state == b"Z":
+            continue
+        if mark in it.text("environ").split("\0"):
             found[pid] = it
     # (what a program was given a new environment still stands under one that is marked)
     changed = True
