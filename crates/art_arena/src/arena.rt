@@ -59,7 +59,7 @@ impl<K, V, const PREFIX_LEN: usize> NodeArena<K, V, PREFIX_LEN> {
     ghost use Rattle.art_nodes.specs.Name.{Name};
     ghost use Rattle.art_arena.specs.arena.Cells.{UpdatesAt, leaf_name};
     ghost use Rattle.std.specs.Borrow.{sem};
-    ghost use Rattle.art_arena.specs.arena.Lends.{lends_node, lends_value};
+    ghost use Rattle.art_arena.specs.arena.Lends.{lends_node, lends_leaf_value};
     ghost use Rattle.art_arena.specs.contracts.arena.NodeArena.{the_row};
     ghost use Rattle.art_arena.specs.arena.Arena.{leaf_held, held_at, links_at, node_at, Allocates, WritesLinks};
     ghost use Rattle.art_arena.specs.arena.Arena.{HasRoom, SameNodes, leaves_held};
@@ -271,7 +271,7 @@ impl<K, V, const PREFIX_LEN: usize> NodeArena<K, V, PREFIX_LEN> {
     /// The value of a leaf, for writing.
     pub fn as_value_mut(&mut self, leaf: LeafPtr) -> &mut V
         requires { IsSome (held_at self.old (leaf_name leaf)) }
-        ensures* writes_back { sem 𝓛 (lends_value K.row V.row PREFIX_LEN.row self.entry leaf result) }
+        ensures* writes_back { sem 𝓛 (lends_leaf_value K.row V.row PREFIX_LEN.row self.entry leaf result) }
         ensures value { (l : _) → held_at self.old (leaf_name leaf) ≡ Some (leaf_held l) → result.now ≡ l.value }
     {
         let (_key, value) = self.as_key_ref_value_mut(leaf);
@@ -281,7 +281,7 @@ impl<K, V, const PREFIX_LEN: usize> NodeArena<K, V, PREFIX_LEN> {
     /// The key of a leaf, and its value for writing.
     pub fn as_key_ref_value_mut(&mut self, leaf: LeafPtr) -> (&K, &mut V)
         requires { IsSome (held_at self.old (leaf_name leaf)) }
-        ensures* writes_back { sem 𝓛 (lends_value K.row V.row PREFIX_LEN.row self.entry leaf result.1) }
+        ensures* writes_back { sem 𝓛 (lends_leaf_value K.row V.row PREFIX_LEN.row self.entry leaf result.1) }
         ensures key { (l : _) → held_at self.old (leaf_name leaf) ≡ Some (leaf_held l) → result.0.now ≡ l.key }
         ensures value { (l : _) → held_at self.old (leaf_name leaf) ≡ Some (leaf_held l) → result.1.now ≡ l.value }
     {

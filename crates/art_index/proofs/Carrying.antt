@@ -21,15 +21,15 @@ unfolding whole_lines_of unfinished_line_of
 carried_none start before = record { refused = []; written = []; ran = Ran-none start; told = sym (append-nil before); rest = refl }
 
 -- A line that stands for another: as long as a command may be it is that line, and both spell nothing otherwise.
-pub record StandsFor (held line : List ℕ) : Type 0 where
+pub record IsReadAs (held line : List ℕ) : Type 0 where
   pub command : command_of held ≡ command_of line
   pub spelled : (c : Command) → Spells held c → Spells line c
 
-pub itself : (line held : List ℕ) → held ≡ line → StandsFor held line
+pub itself : (line held : List ℕ) → held ≡ line → IsReadAs held line
 itself line held e = record { command = ap command_of e; spelled = λ c h. subst (λ l. Spells l c) e h }
 
 -- a line past the limit spells nothing, and neither does its front past the limit
-pub cut : (line held : List ℕ) → held ≡ take 4097 line → StandsFor held line
+pub cut : (line held : List ℕ) → held ≡ take 4097 line → IsReadAs held line
 unfolding command_of
 cut line held e = elim (cases_lt (length line) 4097) [
   | inl short ↦ let all : length line ≤ 4097 = omega arith in itself line held (e ∙ take_all 4097 line all)
@@ -43,21 +43,21 @@ cut line held e = elim (cases_lt (length line) 4097) [
       }
 ]
 
-same_answer : (memory : Bool) (now : Records) (held line : List ℕ) → StandsFor held line → answer memory now held ≡ answer memory now line
+same_answer : (memory : Bool) (now : Records) (held line : List ℕ) → IsReadAs held line → answer memory now held ≡ answer memory now line
 unfolding reply_to
 same_answer true now held line s = refl
 same_answer false now held line s = rw s.command refl
 
-same_left : (memory : Bool) (now : Records) (held line : List ℕ) → StandsFor held line → left_by memory now held ≡ left_by memory now line
+same_left : (memory : Bool) (now : Records) (held line : List ℕ) → IsReadAs held line → left_by memory now held ≡ left_by memory now line
 unfolding records_after
 same_left true now held line s = refl
 same_left false now held line s = rw s.command refl
 
-same_refusal : (now : Records) (held line : List ℕ) → StandsFor held line → LineMayRefuse now held → LineMayRefuse now line
+same_refusal : (now : Records) (held line : List ℕ) → IsReadAs held line → LineMayRefuse now held → LineMayRefuse now line
 same_refusal now held line s may = (may.0, s.spelled may.0 may.1, may.2)
 
 -- a run that goes on by a line
-pub goes_on : (start now : Records) (text held before taken line handled : List ℕ) (c : Carried start now text held before taken) → StandsFor handled line
+pub goes_on : (start now : Records) (text held before taken line handled : List ℕ) (c : Carried start now text held before taken) → IsReadAs handled line
     → (memory : Bool) → (memory ≡ true → LineMayRefuse now handled)
     → Ran start (whole_lines_of text ++ line ∷ []) (with_place memory c.refused (length (whole_lines_of text))) (c.written ++ answer memory now handled) (left_by memory now handled)
 goes_on start now text held before taken line handled c s memory lawful =
@@ -65,7 +65,7 @@ goes_on start now text held before taken line handled c s memory lawful =
     (Ran-more start (whole_lines_of text) c.refused c.written now memory line c.ran (λ yes. same_refusal now handled line s (lawful yes)))
 
 pub carried_line : (start now now' : Records) (text part handled held held' before taken taken' : List ℕ) (memory : Bool)
-    → Carried start now text held before taken → NoNewline part → StandsFor handled (unfinished_line_of text ++ part)
+    → Carried start now text held before taken → NoNewline part → IsReadAs handled (unfinished_line_of text ++ part)
     → (memory ≡ true → LineMayRefuse now handled)
     → taken' ≡ taken ++ answer memory now handled → now' ≡ left_by memory now handled → held' ≡ []
     → Carried start now' (text ++ part ++ 10 ∷ []) held' before taken'
@@ -103,13 +103,13 @@ nothing_held (x ∷ xs) e = let cut = ap length e in let all : length (take 4097
 
 -- where nothing is held, a line that lies whole in the piece is the whole line
 pub whole_in_piece : (start now : Records) (text held before taken part handled : List ℕ) → Carried start now text held before taken
-    → held ≡ [] → handled ≡ part → StandsFor handled (unfinished_line_of text ++ part)
+    → held ≡ [] → handled ≡ part → IsReadAs handled (unfinished_line_of text ++ part)
 whole_in_piece start now text held before taken part handled c empty same =
     itself (unfinished_line_of text ++ part) handled (same ∙ ap (λ l. l ++ part) (sym (nothing_held (unfinished_line_of text) (sym c.rest ∙ empty))))
 
 -- where a part is held, the line is put together
 pub put_together : (start now : Records) (text held before taken part handled : List ℕ) → Carried start now text held before taken
-    → handled ≡ take 4097 (held ++ part) → StandsFor handled (unfinished_line_of text ++ part)
+    → handled ≡ take 4097 (held ++ part) → IsReadAs handled (unfinished_line_of text ++ part)
 put_together start now text held before taken part handled c same =
     cut (unfinished_line_of text ++ part) handled (same ∙ ap (λ t. take 4097 (t ++ part)) c.rest ∙ take-take 4097 (unfinished_line_of text) part)
 

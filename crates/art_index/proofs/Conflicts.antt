@@ -13,7 +13,7 @@ use Rattle.art_index.specs.Replies.{has_conflict}
 use Rattle.art_index.specs.Stored.{Pair, record_of, IsFull}
 use Rattle.art_index.proofs.FullKeys.{full_keys_keep_conflicts}
 use Rattle.art_index.proofs.OwnLaws.{key_part}
-use Rattle.art_index.proofs.Putting.{pairs_of}
+use Rattle.art_index.proofs.Putting.{pairs_of_tenant}
 
 -- the bytes of a pair's key
 abbrev pub bytes_of : Pair → List ℕ
@@ -23,10 +23,10 @@ bytes_of p = p.0.items
 abbrev stands_against : ℕ → List ℕ → KeyRecord → Bool
 stands_against t k r = (r.tenant == t) && conflicts k r.key
 
-has_conflict-cons : (t : ℕ) (k : List ℕ) (r : KeyRecord) (rs : List KeyRecord) → has_conflict k (pairs_of t (r ∷ rs)) ≡ (stands_against t k r || has_conflict k (pairs_of t rs))
+has_conflict-cons : (t : ℕ) (k : List ℕ) (r : KeyRecord) (rs : List KeyRecord) → has_conflict k (pairs_of_tenant t (r ∷ rs)) ≡ (stands_against t k r || has_conflict k (pairs_of_tenant t rs))
 has_conflict-cons t k r rs = go (r.tenant == t)
   where
-    go : (b : Bool) → has_conflict k (map key_part (cond b (r ∷ filter (λ s. s.tenant == t) rs) (filter (λ s. s.tenant == t) rs))) ≡ ((b && conflicts k r.key) || has_conflict k (pairs_of t rs))
+    go : (b : Bool) → has_conflict k (map key_part (cond b (r ∷ filter (λ s. s.tenant == t) rs) (filter (λ s. s.tenant == t) rs))) ≡ ((b && conflicts k r.key) || has_conflict k (pairs_of_tenant t rs))
     go true = refl
     go false = refl
 
@@ -46,14 +46,14 @@ module _ (t : ℕ) (k : List ℕ) (small : t < 2 ^ 32) where
       subst (Conflict (full_key t k)) (sym full) (told_conflict (full_key t k) (full_key r.tenant r.key) whole)
 
   pub blocked_told : (ps : List Pair) → AllByRecursion IsFull ps → AllByRecursion KeyFits (map record_of ps) → IsBlocked bytes_of (full_key t k) ps
-      → has_conflict k (pairs_of t (map record_of ps)) ≡ true
+      → has_conflict k (pairs_of_tenant t (map record_of ps)) ≡ true
   blocked_told [] full fits (x, i, c) = absurd i
   blocked_told (p ∷ ps) full fits (x, inl same, c) =
       has_conflict-cons t k (record_of p) (map record_of ps) ∙ or_left _ _ (against p full.0 fits.0 (subst (λ q. Conflict (full_key t k) (bytes_of q)) (sym same) c))
   blocked_told (p ∷ ps) full fits (x, inr i, c) =
       has_conflict-cons t k (record_of p) (map record_of ps) ∙ or_right _ _ (blocked_told ps full.1 fits.1 (x, i, c))
 
-  told_blocked : (ps : List Pair) → AllByRecursion IsFull ps → AllByRecursion KeyFits (map record_of ps) → has_conflict k (pairs_of t (map record_of ps)) ≡ true
+  told_blocked : (ps : List Pair) → AllByRecursion IsFull ps → AllByRecursion KeyFits (map record_of ps) → has_conflict k (pairs_of_tenant t (map record_of ps)) ≡ true
       → IsBlocked bytes_of (full_key t k) ps
   told_blocked [] full fits h = absurd (cc)
   told_blocked (p ∷ ps) full fits h =
@@ -63,9 +63,9 @@ module _ (t : ℕ) (k : List ℕ) (small : t < 2 ^ 32) where
       ]
 
   pub free_told : (ps : List Pair) → AllByRecursion IsFull ps → AllByRecursion KeyFits (map record_of ps) → (IsBlocked bytes_of (full_key t k) ps → ⊥)
-      → has_conflict k (pairs_of t (map record_of ps)) ≡ false
-  free_told ps full fits free = go (has_conflict k (pairs_of t (map record_of ps))) refl
+      → has_conflict k (pairs_of_tenant t (map record_of ps)) ≡ false
+  free_told ps full fits free = go (has_conflict k (pairs_of_tenant t (map record_of ps))) refl
     where
-      go : (b : Bool) → has_conflict k (pairs_of t (map record_of ps)) ≡ b → b ≡ false
+      go : (b : Bool) → has_conflict k (pairs_of_tenant t (map record_of ps)) ≡ b → b ≡ false
       go true e = absurd (free (told_blocked ps full fits e))
       go false e = refl

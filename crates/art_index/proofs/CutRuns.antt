@@ -8,7 +8,7 @@ use Rattle.art_index.specs.Faults.{IsCutLine, AfterWriteFault}
 use Rattle.art_index.specs.Progress.{Carried, IsCutRun, NoNewline}
 use Rattle.art_index.proofs.LineLemmas.{whole_lines_of-line, whole_lines_of-more}
 use Rattle.art_index.proofs.RunLemmas.{with_place, outcome-with_place}
-use Rattle.art_index.proofs.Carrying.{StandsFor, goes_on, closed, cut}
+use Rattle.art_index.proofs.Carrying.{IsReadAs, goes_on, closed, cut}
 
 -- other lines behind do not matter
 fault_more : (start : Records) (ls others : List (List ℕ)) (written : List ℕ) (now : Records) → AfterWriteFault start ls written now → AfterWriteFault start (ls ++ others) written now
@@ -40,7 +40,7 @@ cut_run-more start now text more all before taken e r =
     }
 
 -- the line after those that are carried out
-cut_next : (start now new : Records) (text held before taken taken' line handled : List ℕ) → Carried start now text held before taken → StandsFor handled line
+cut_next : (start now new : Records) (text held before taken taken' line handled : List ℕ) → Carried start now text held before taken → IsReadAs handled line
     → IsCutLine now handled taken taken' new → IsCutRun start new (whole_lines_of text ++ line ∷ []) before taken'
 cut_next start now new text held before taken taken' line handled c s l =
     let ls : List (List ℕ) = whole_lines_of text in let n : ℕ = length ls in
@@ -69,7 +69,7 @@ cut_next start now new text held before taken taken' line handled c s l =
 
 -- a line that a newline ends
 pub cut_run-line : (start now new : Records) (text part handled held before taken taken' : List ℕ) → Carried start now text held before taken → NoNewline part
-    → StandsFor handled (unfinished_line_of text ++ part) → IsCutLine now handled taken taken' new → IsCutRun start new (whole_lines_of (text ++ part ++ 10 ∷ [])) before taken'
+    → IsReadAs handled (unfinished_line_of text ++ part) → IsCutLine now handled taken taken' new → IsCutRun start new (whole_lines_of (text ++ part ++ 10 ∷ [])) before taken'
 cut_run-line start now new text part handled held before taken taken' c none s l =
     subst (λ ls. IsCutRun start new ls before taken') (sym (whole_lines_of-line text part none)) (cut_next start now new text held before taken taken' (unfinished_line_of text ++ part) handled c s l)
 

@@ -39,21 +39,21 @@ when_err (Ok x) p = tt
 when_err (Err e) p = p
 
 -- Of a text, a part was taken and a rest is left.
-pub record IsTaken (before now rest text : List ℕ) : Type 0 where
+pub record IsPartTaken (before now rest text : List ℕ) : Type 0 where
   pub begun : List ℕ
   pub parts : begun ++ rest ≡ text
   pub told : now ≡ before ++ begun
 
 -- at first nothing is taken
-pub taken_none : (before rest text : List ℕ) → rest ≡ text → IsTaken before before rest text
+pub taken_none : (before rest text : List ℕ) → rest ≡ text → IsPartTaken before before rest text
 taken_none before rest text e = record { begun = []; parts = e; told = sym (append-nil before) }
 
 -- the rest in another way
-pub taken_from : (before now rest rest' text : List ℕ) → rest ≡ rest' → IsTaken before now rest text → IsTaken before now rest' text
-taken_from before now rest rest' text e t = subst (λ r. IsTaken before now r text) e t
+pub taken_from : (before now rest rest' text : List ℕ) → rest ≡ rest' → IsPartTaken before now rest text → IsPartTaken before now rest' text
+taken_from before now rest rest' text e t = subst (λ r. IsPartTaken before now r text) e t
 
 -- one part more is taken
-pub taken_more : (before now now' part rest text : List ℕ) → IsTaken before now (part ++ rest) text → now' ≡ now ++ part → IsTaken before now' rest text
+pub taken_more : (before now now' part rest text : List ℕ) → IsPartTaken before now (part ++ rest) text → now' ≡ now ++ part → IsPartTaken before now' rest text
 taken_more before now now' part rest text t more = record {
   begun = t.begun ++ part;
   parts = append_assoc t.begun part rest ∙ t.parts;
@@ -61,11 +61,11 @@ taken_more before now now' part rest text t more = record {
 }
 
 -- where nothing is left, all is taken
-pub taken_all : (before now text : List ℕ) → IsTaken before now [] text → now ≡ before ++ text
+pub taken_all : (before now text : List ℕ) → IsPartTaken before now [] text → now ≡ before ++ text
 taken_all before now text t = t.told ∙ ap (λ b. before ++ b) (sym (append-nil t.begun) ∙ t.parts)
 
 -- a cut of the next part is a cut of the whole
-pub taken_cut : (before now after part rest text : List ℕ) → IsTaken before now (part ++ rest) text → IsCut now after part → IsCut before after text
+pub taken_cut : (before now after part rest text : List ℕ) → IsPartTaken before now (part ++ rest) text → IsCut now after part → IsCut before after text
 taken_cut before now after part rest text t c =
     let whole = cut_behind before now after t.begun (part ++ rest) t.told (cut_before now after part rest c) in
     record { begun = whole.begun; missing = whole.missing; is_cut = whole.is_cut; parts = whole.parts ∙ t.parts; told = whole.told }

@@ -12,7 +12,7 @@ use Rattle.art_index.specs.Commands.{Spells}
 use Rattle.art_index.specs.Records.{Records, KeyFits}
 use Rattle.art_index.specs.Replies.{command_after}
 use Rattle.art_index.specs.Refusals.{MayRefuse}
-use Rattle.art_index.specs.Parsed.{tenant_of, key_of, looks_up, changes, asks_all}
+use Rattle.art_index.specs.Parsed.{tenant_in_place, key_in_place, looks_up, changes, asks_all}
 use Rattle.art_index.proofs.FieldLengths.{put_fits}
 
 pub all_leaves : (w : Whole) (r : Records) → command_after (Some (asks_all w)) r ≡ r
@@ -26,5 +26,5 @@ module _ (f : Fields) where
   change_may change.Put r = tt
 
   -- what a line changes fits
-  pub change_fits : (w : Change) (line : List ℕ) → Spells line (changes w f) → KeyFits (record { tenant = tenant_of f; key = key_of f; value = f.value.items })
-  change_fits change.Put line h = put_fits line (tenant_of f) (key_of f) f.value.items h
+  pub change_fits : (w : Change) (line : List ℕ) → Spells line (changes w f) → KeyFits (record { tenant = tenant_in_place f; key = key_in_place f; value = f.value.items })
+  change_fits change.Put line h = put_fits line (tenant_in_place f) (key_in_place f) f.value.items h

@@ -6,7 +6,7 @@ use Rattle.std.specs.Prelude.{◌==◌}
 use Rattle.art_index.specs.Progress.{NoNewline}
 use Rattle.std.proofs.lemmas.Bool.{eqb-true}
 use Rattle.std.specs.List.{onto_first}
-use Rattle.art_index.specs.Lines.{pieces_of, last_of, all_but_last, whole_lines_of, unfinished_line_of}
+use Rattle.art_index.specs.Lines.{pieces_of, last_piece, all_but_last, whole_lines_of, unfinished_line_of}
 
 -- the pieces with a byte behind the last
 abbrev onto_last : List (List ℕ) → ℕ → List (List ℕ)
@@ -58,17 +58,17 @@ pieces_of-byte (x ∷ xs) b other =
       | false ↦ ap (onto_first x) (pieces_of-byte xs b other) ∙ sym (onto_both x b (pieces_of xs) (some_pieces xs))
     ]
 
-last_of-append : (ps : List (List ℕ)) → last_of (ps ++ [] ∷ []) ≡ []
+last_of-append : (ps : List (List ℕ)) → last_piece (ps ++ [] ∷ []) ≡ []
 last_of-append [] = refl
 last_of-append (p ∷ []) = refl
 last_of-append (p ∷ q ∷ ps) = last_of-append (q ∷ ps)
 
-all_but_last-append : (ps : List (List ℕ)) → SomePieces ps → all_but_last (ps ++ [] ∷ []) ≡ all_but_last ps ++ last_of ps ∷ []
+all_but_last-append : (ps : List (List ℕ)) → SomePieces ps → all_but_last (ps ++ [] ∷ []) ≡ all_but_last ps ++ last_piece ps ∷ []
 all_but_last-append [] h = elim h [ ]
 all_but_last-append (p ∷ []) some = refl
 all_but_last-append (p ∷ q ∷ ps) some = ap (λ qs. p ∷ qs) (all_but_last-append (q ∷ ps) some)
 
-last_of-onto : (ps : List (List ℕ)) (b : ℕ) → SomePieces ps → last_of (onto_last ps b) ≡ last_of ps ++ b ∷ []
+last_of-onto : (ps : List (List ℕ)) (b : ℕ) → SomePieces ps → last_piece (onto_last ps b) ≡ last_piece ps ++ b ∷ []
 last_of-onto [] b h = elim h [ ]
 last_of-onto (p ∷ []) b some = refl
 last_of-onto (p ∷ q ∷ []) b some = refl
@@ -86,7 +86,7 @@ whole_lines_of-newline text = ap all_but_last (pieces_of-newline text) ∙ all_b
 
 pub unfinished_line_of-newline : (text : List ℕ) → unfinished_line_of (text ++ 10 ∷ []) ≡ []
 unfolding unfinished_line_of
-unfinished_line_of-newline text = ap last_of (pieces_of-newline text) ∙ last_of-append (pieces_of text)
+unfinished_line_of-newline text = ap last_piece (pieces_of-newline text) ∙ last_of-append (pieces_of text)
 
 pub whole_lines_of-byte : (text : List ℕ) (b : ℕ) → (b == 10) ≡ false → whole_lines_of (text ++ b ∷ []) ≡ whole_lines_of text
 unfolding whole_lines_of
@@ -94,21 +94,21 @@ whole_lines_of-byte text b other = ap all_but_last (pieces_of-byte text b other)
 
 pub unfinished_line_of-byte : (text : List ℕ) (b : ℕ) → (b == 10) ≡ false → unfinished_line_of (text ++ b ∷ []) ≡ unfinished_line_of text ++ b ∷ []
 unfolding unfinished_line_of
-unfinished_line_of-byte text b other = ap last_of (pieces_of-byte text b other) ∙ last_of-onto (pieces_of text) b (some_pieces text)
+unfinished_line_of-byte text b other = ap last_piece (pieces_of-byte text b other) ∙ last_of-onto (pieces_of text) b (some_pieces text)
 
 -- more bytes with no newline, one by one
-shifted : (text : List ℕ) (b : ℕ) (part : List ℕ) → text ++ b ∷ part ≡ (text ++ b ∷ []) ++ part
-shifted text b part = sym (append_assoc text (b ∷ []) part)
+moved_on : (text : List ℕ) (b : ℕ) (part : List ℕ) → text ++ b ∷ part ≡ (text ++ b ∷ []) ++ part
+moved_on text b part = sym (append_assoc text (b ∷ []) part)
 
 pub whole_lines_of-part : (text part : List ℕ) → NoNewline part → whole_lines_of (text ++ part) ≡ whole_lines_of text
 whole_lines_of-part text [] none = ap whole_lines_of (append-nil text)
-whole_lines_of-part text (b ∷ part) none = ap whole_lines_of (shifted text b part) ∙ whole_lines_of-part (text ++ b ∷ []) part none.1 ∙ whole_lines_of-byte text b none.0
+whole_lines_of-part text (b ∷ part) none = ap whole_lines_of (moved_on text b part) ∙ whole_lines_of-part (text ++ b ∷ []) part none.1 ∙ whole_lines_of-byte text b none.0
 
 pub unfinished_line_of-part : (text part : List ℕ) → NoNewline part → unfinished_line_of (text ++ part) ≡ unfinished_line_of text ++ part
 unfinished_line_of-part text [] none = ap unfinished_line_of (append-nil text) ∙ sym (append-nil (unfinished_line_of text))
 unfinished_line_of-part text (b ∷ part) none =
-    ap unfinished_line_of (shifted text b part) ∙ unfinished_line_of-part (text ++ b ∷ []) part none.1
-    ∙ ap (λ t. t ++ part) (unfinished_line_of-byte text b none.0) ∙ sym (shifted (unfinished_line_of text) b part)
+    ap unfinished_line_of (moved_on text b part) ∙ unfinished_line_of-part (text ++ b ∷ []) part none.1
+    ∙ ap (λ t. t ++ part) (unfinished_line_of-byte text b none.0) ∙ sym (moved_on (unfinished_line_of text) b part)
 
 -- a line that its newline ends
 pub whole_lines_of-line : (text part : List ℕ) → NoNewline part → whole_lines_of (text ++ part ++ 10 ∷ []) ≡ whole_lines_of text ++ (unfinished_line_of text ++ part) ∷ []
@@ -126,7 +126,7 @@ whole_lines_of-more text [] = ([], ap whole_lines_of (append-nil text) ∙ sym (
 whole_lines_of-more text (b ∷ more) =
     let again = whole_lines_of-more (text ++ b ∷ []) more in let next = next_line text b (b == 10) refl in (
       next.0 ++ again.0,
-      ap whole_lines_of (shifted text b more) ∙ again.1 ∙ ap (λ ls. ls ++ again.0) next.1 ∙ append_assoc (whole_lines_of text) next.0 again.0,
+      ap whole_lines_of (moved_on text b more) ∙ again.1 ∙ ap (λ ls. ls ++ again.0) next.1 ∙ append_assoc (whole_lines_of text) next.0 again.0,
     )
 
 -- the bytes before the first newline

@@ -11,8 +11,8 @@ use Rattle.std.proofs.lemmas.List.{map-append}
 use Rattle.std.proofs.lemmas.Nat.{from_be_bytes-to_be_bytes_4}
 use Rattle.std.proofs.Math.Seq.{take-append_seam, drop-append_seam}
 use Rattle.art_bytes.specs.Keys.{IsBefore}
-use Rattle.art_arena.specs.tree.Changes.{put}
-use Rattle.art_arena.specs.tree.Order.{IsAscending}
+use Rattle.art_arena.specs.tree.Changes.{put_in_order}
+use Rattle.art_arena.specs.tree.Order.{AscendsByKey}
 use Rattle.art_arena.proofs.shapes.Finding.{same_key, other_key}
 use Rattle.art_operations.specs.KeyedLists.{without_key, IsBlocked}
 use Rattle.art_operations.proofs.KeyedLists.{put_new, put_replaced}
@@ -20,14 +20,14 @@ use Rattle.art_index.specs.declared.placed.Placed.TheVariants as placed
 use Rattle.art_index.specs.Keys.{full_key, full_pair}
 use Rattle.art_index.specs.Words.{name, bytes}
 use Rattle.art_index.specs.Records.{Own, KeyRecord, Records, own, with_own, InOrder, KeyComesBefore, KeyFits}
-use Rattle.art_index.specs.Replies.{value_at, has_conflict, with_pair, put_reply, puts, with_changed}
-use Rattle.art_index.specs.Stored.{Pair, record_of, records_of, IsFull, ArePairs, IsPlaced, placed_words}
+use Rattle.art_index.specs.Replies.{value_at, has_conflict, with_value_under, put_reply, puts, with_changed}
+use Rattle.art_index.specs.Stored.{Pair, record_of, records_of, IsFull, ArePairs, IsPutDone, placed_words}
 use Rattle.art_index.proofs.Conflicts.{bytes_of, blocked_told, free_told}
 use Rattle.art_index.proofs.Filters.{All-left, All-right}
 use Rattle.art_index.proofs.FullKeys.{full_before, cmp_itself}
 use Rattle.art_index.proofs.OwnLaws.{key_made}
 use Rattle.art_index.proofs.Standing.{AllBefore, AllBehind, stands_to, standing, cmp_same, Parted, absent, present, parted}
-use Rattle.art_index.proofs.Putting.{pairs_of, value_in_gap, value_there, no_conflict_with, new_behind, new_before, same_behind, same_before, FitsBetween, put_keeps, put_records, InOrder-before, InOrder-behind}
+use Rattle.art_index.proofs.Putting.{pairs_of_tenant, value_in_gap, value_there, no_conflict_with, new_behind, new_before, same_behind, same_before, FitsBetween, put_keeps, put_records, InOrder-before, InOrder-behind}
 
 -- the record of a full key
 full_record : (t : ℕ) (k v : List ℕ) (p : Pair) → t < 2 ^ 32 → bytes_of p ≡ full_key t k → p.1.items ≡ v → record_of p ≡ key_made t (k, v)
@@ -52,11 +52,11 @@ ascend_behind p (q ∷ qs) full fits fulls order fit =
       ascend_behind p qs full fits fulls.1 order.1 fit.1,
     )
 
-ascend : (ps : List Pair) → AllByRecursion IsFull ps → InOrder KeyComesBefore (map record_of ps) → AllByRecursion KeyFits (map record_of ps) → IsAscending bytes_of ps
+ascend : (ps : List Pair) → AllByRecursion IsFull ps → InOrder KeyComesBefore (map record_of ps) → AllByRecursion KeyFits (map record_of ps) → AscendsByKey bytes_of ps
 ascend [] full order fit = tt
 ascend (p ∷ ps) full order fit = (ascend_behind p ps full.0 fit.0 full.1 order.0 fit.1, ascend ps full.1 order.1 fit.1)
 
-pub pairs_ascend : (ps : List Pair) → ArePairs ps → IsAscending bytes_of ps
+pub pairs_ascend : (ps : List Pair) → ArePairs ps → AscendsByKey bytes_of ps
 pairs_ascend ps are = ascend ps are.full are.records.keys_in_order are.records.keys_fit
 
 -- pairs are their records, each value under its full key
@@ -88,25 +88,25 @@ module _ (t : ℕ) (k : List ℕ) (small : t < 2 ^ 32) where
   none [] high = refl
   none (p ∷ bs) high = rw (not_there p Greater high.0 (λ e. cc)) (none bs high.1)
 
-  found_in : (ps : List Pair) → AllByRecursion IsFull ps → Parted t k ps → option_map (λ v. v.items) (lookup (is_full_key t k) ps) ≡ value_at k (own t (records_of ps)).keys
-  found_in ps full (absent fs bs e low high) =
+  found_among : (ps : List Pair) → AllByRecursion IsFull ps → Parted t k ps → option_map (λ v. v.items) (lookup (is_full_key t k) ps) ≡ value_at k (own t (records_of ps)).keys
+  found_among ps full (absent fs bs e low high) =
       let split : map record_of ps ≡ map record_of fs ++ map record_of bs = ap (map record_of) e ∙ map-append record_of fs bs in
       ap (λ l. option_map (λ v. v.items) (lookup (is_full_key t k) l)) e ∙ ap (option_map (λ v. v.items)) (skips fs bs low ∙ none bs high)
-      ∙ sym (ap (λ l. value_at k (pairs_of t l)) split ∙ value_in_gap t k (map record_of fs) (map record_of bs) low high)
-  found_in ps full (present fs m bs e low here high) =
+      ∙ sym (ap (λ l. value_at k (pairs_of_tenant t l)) split ∙ value_in_gap t k (map record_of fs) (map record_of bs) low high)
+  found_among ps full (present fs m bs e low here high) =
       let split : map record_of ps ≡ map record_of fs ++ record_of m ∷ map record_of bs = ap (map record_of) e ∙ map-append record_of fs (m ∷ bs) in
       let is = full_there m (All-right IsFull fs (m ∷ bs) (subst (AllByRecursion IsFull) e full)).0 here in
       let hit : lookup (is_full_key t k) (m ∷ bs) ≡ Some m.1 = rw (same_key (bytes_of m) (full_key t k) is) refl in
       ap (λ l. option_map (λ v. v.items) (lookup (is_full_key t k) l)) e ∙ ap (option_map (λ v. v.items)) (skips fs (m ∷ bs) low ∙ hit)
-      ∙ sym (ap (λ l. value_at k (pairs_of t l)) split ∙ value_there t k (map record_of fs) (map record_of bs) (record_of m) low here)
+      ∙ sym (ap (λ l. value_at k (pairs_of_tenant t l)) split ∙ value_there t k (map record_of fs) (map record_of bs) (record_of m) low here)
 
   -- the value under a full key is that at the tenant's key
   pub found : (ps : List Pair) → ArePairs ps → option_map (λ v. v.items) (lookup (is_full_key t k) ps) ≡ value_at k (own t (records_of ps)).keys
-  found ps are = found_in ps are.full (parted t k ps are.records.keys_in_order)
+  found ps are = found_among ps are.full (parted t k ps are.records.keys_in_order)
 
 -- what a tenant holds with a value put at a key
 abbrev with_mine : List ℕ → List ℕ → Own → Own
-with_mine k v mine = record { keys = with_pair k v mine.keys; numbers = mine.numbers }
+with_mine k v mine = record { keys = with_value_under k v mine.keys; numbers = mine.numbers }
 
 -- Among some pairs one was put: they are as an index holds them, and their records are those with the tenant's key put.
 pub record IsPutAmong (t : ℕ) (k v : List ℕ) (old new : List Pair) : Type 0 where
@@ -115,7 +115,7 @@ pub record IsPutAmong (t : ℕ) (k v : List ℕ) (old new : List Pair) : Type 0 
 
 -- the new list is what the map says it is
 abbrev IsNewList : Pair → List Pair → List Pair → Type 0
-IsNewList e old new = new ≡ put bytes_of e (without_key bytes_of (bytes_of e) old)
+IsNewList e old new = new ≡ put_in_order bytes_of e (without_key bytes_of (bytes_of e) old)
 
 module _ (t : ℕ) (k v : List ℕ) (e : Pair) (fits : KeyFits (key_made t (k, v))) (full : bytes_of e ≡ full_key t k) (value : e.1.items ≡ v) where
   is_made : record_of e ≡ key_made t (k, v)
@@ -160,11 +160,11 @@ module _ (t : ℕ) (k v : List ℕ) (e : Pair) (fits : KeyFits (key_made t (k, v
   put_parted : (ps new : List Pair) → ArePairs ps → (IsBlocked bytes_of (full_key t k) ps → ⊥) → IsNewList e ps new → Parted t k ps → IsPutAmong t k v ps new
   put_parted ps new are free is (absent fs bs parts low high) =
       let done = put_absent fs bs (subst ArePairs parts are) low high (subst (λ l. IsBlocked bytes_of (full_key t k) l → ⊥) parts free) in
-      let same : new ≡ fs ++ e ∷ bs = is ∙ ap (λ l. put bytes_of e (without_key bytes_of (bytes_of e) l)) parts ∙ sym done.1 in
+      let same : new ≡ fs ++ e ∷ bs = is ∙ ap (λ l. put_in_order bytes_of e (without_key bytes_of (bytes_of e) l)) parts ∙ sym done.1 in
       subst (λ l. IsPutAmong t k v l new) (sym parts) (subst (IsPutAmong t k v (fs ++ bs)) (sym same) done.0)
   put_parted ps new are free is (present fs m bs parts low here high) =
       let done = put_present fs m bs (subst ArePairs parts are) low here high in
-      let same : new ≡ fs ++ e ∷ bs = is ∙ ap (λ l. put bytes_of e (without_key bytes_of (bytes_of e) l)) parts ∙ sym done.1 in
+      let same : new ≡ fs ++ e ∷ bs = is ∙ ap (λ l. put_in_order bytes_of e (without_key bytes_of (bytes_of e) l)) parts ∙ sym done.1 in
       subst (λ l. IsPutAmong t k v l new) (sym parts) (subst (IsPutAmong t k v (fs ++ m ∷ bs)) (sym same) done.0)
 
   pub put_among : (ps new : List Pair) → ArePairs ps → (IsBlocked bytes_of (full_key t k) ps → ⊥) → IsNewList e ps new → IsPutAmong t k v ps new
@@ -203,13 +203,13 @@ module _ (ps : List Pair) (t : ℕ) (k v : List ℕ) (are : ArePairs ps) (fits :
     where
       go : Parted t k ps → at_key ≡ None
       go (absent fs bs e low high) =
-          ap (λ l. value_at k (pairs_of t l)) (ap (map record_of) e ∙ map-append record_of fs bs) ∙ value_in_gap t k (map record_of fs) (map record_of bs) low high
+          ap (λ l. value_at k (pairs_of_tenant t l)) (ap (map record_of) e ∙ map-append record_of fs bs) ∙ value_in_gap t k (map record_of fs) (map record_of bs) low high
       go (present fs m bs e low here high) =
           let held = subst ArePairs e are in
           let same = full_there t k fits.tenant_fits m (All-right IsFull fs (m ∷ bs) held.full).0 here in
           absurd ((put_replaced bytes_of m fs m bs refl (pairs_ascend (fs ++ m ∷ bs) held)).free (subst (λ j. IsBlocked bytes_of j (fs ++ m ∷ bs)) (sym same) (subst (IsBlocked bytes_of (full_key t k)) e blocked)))
 
-  pub conflict_placed : IsBlocked bytes_of (full_key t k) ps → IsPlaced placed.Conflict (records_of ps) t k v (records_of ps)
+  pub conflict_placed : IsBlocked bytes_of (full_key t k) ps → IsPutDone placed.Conflict (records_of ps) t k v (records_of ps)
   conflict_placed blocked =
       let told = blocked_told t k fits.tenant_fits ps are.full are.records.keys_fit blocked in
       let there = blocked_absent blocked in
@@ -223,13 +223,13 @@ module _ (ps : List Pair) (t : ℕ) (k v : List ℕ) (are : ArePairs ps) (fits :
     pub put_keeps_order : ArePairs new
     put_keeps_order = done.keeps
 
-    pub new_placed : None ≡ lookup (is_full_key t k) ps → IsPlaced placed.New (records_of ps) t k v (records_of new)
+    pub new_placed : None ≡ lookup (is_full_key t k) ps → IsPutDone placed.New (records_of ps) t k v (records_of new)
     new_placed none =
         let there : at_key ≡ None = sym (ap (option_map (λ (w : Vec ℕ). w.items)) none ∙ found t k fits.tenant_fits ps are) in
         let told = free_told t k fits.tenant_fits ps are.full are.records.keys_fit free in
         (new_words at_key in_conflict there told, done.records_are ∙ new_left t (with_mine k v (own t (records_of ps))) (records_of ps) at_key in_conflict there told)
 
-    pub old_placed : (old : Vec ℕ) → Some old ≡ lookup (is_full_key t k) ps → IsPlaced (placed.Old old) (records_of ps) t k v (records_of new)
+    pub old_placed : (old : Vec ℕ) → Some old ≡ lookup (is_full_key t k) ps → IsPutDone (placed.Old old) (records_of ps) t k v (records_of new)
     old_placed old some =
         let there : at_key ≡ Some old.items = sym (ap (option_map (λ (w : Vec ℕ). w.items)) some ∙ found t k fits.tenant_fits ps are) in
         (old_words old at_key in_conflict there, done.records_are ∙ old_left t (with_mine k v (own t (records_of ps))) (records_of ps) at_key in_conflict old.items there)

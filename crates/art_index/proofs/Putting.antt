@@ -10,15 +10,15 @@ use Rattle.std.proofs.lemmas.List.Elements.{filter-append}
 use Rattle.std.proofs.lemmas.Slice.Eq.{bytes_eq-Decides}
 use Rattle.art_bytes.specs.Keys.{is_below, is_proper_front, conflicts}
 use Rattle.art_index.specs.Records.{KeyRecord, own, with_own, InOrder, KeyComesBefore, KeyFits}
-use Rattle.art_index.specs.Replies.{value_at, has_conflict, with_pair}
+use Rattle.art_index.specs.Replies.{value_at, has_conflict, with_value_under}
 use Rattle.art_index.specs.Stored.{Pair, record_of, records_of, IsFull, ArePairs}
 use Rattle.art_index.proofs.Filters.{filter-all, filter-none, All-map, All-append, All-left, All-right}
 use Rattle.art_index.proofs.OwnLaws.{key_part, key_made, key_ascends, made_from_mine, three_parts, records_from_lists}
 use Rattle.art_index.proofs.Standing.{AllBefore, AllBehind, stands_to, standing, not_below_itself, not_both_below}
 
 -- a tenant's pairs among some records
-abbrev pub pairs_of : ℕ → List KeyRecord → List (List ℕ × List ℕ)
-pairs_of t rs = map key_part (filter (λ r. r.tenant == t) rs)
+abbrev pub pairs_of_tenant : ℕ → List KeyRecord → List (List ℕ × List ℕ)
+pairs_of_tenant t rs = map key_part (filter (λ r. r.tenant == t) rs)
 
 abbrev AllAt : ℕ → List ℕ → List KeyRecord → Type 0
 AllAt t k rs = AllByRecursion (λ r. stands_to t k r ≡ Equal) rs
@@ -61,11 +61,11 @@ module _ {X : Type 0} where
   InOrder-behind B (a ∷ fs) bs m h = InOrder-behind B fs bs m h.1
 
 -- a fact of the keys of a tenant's pairs, from its records
-pairs_all : (P : List ℕ → Type 0) (t : ℕ) (rs : List KeyRecord) → AllByRecursion (λ r. r.tenant ≡ t → P r.key) rs → AllByRecursion (λ p. P p.0) (pairs_of t rs)
+pairs_all : (P : List ℕ → Type 0) (t : ℕ) (rs : List KeyRecord) → AllByRecursion (λ r. r.tenant ≡ t → P r.key) rs → AllByRecursion (λ p. P p.0) (pairs_of_tenant t rs)
 pairs_all P t [] h = tt
 pairs_all P t (r ∷ rs) h = go (r.tenant == t) refl (pairs_all P t rs h.1)
   where
-    go : (b : Bool) → (r.tenant == t) ≡ b → AllByRecursion (λ p. P p.0) (pairs_of t rs) → AllByRecursion (λ p. P p.0) (map key_part (cond b (r ∷ filter (λ s. s.tenant == t) rs) (filter (λ s. s.tenant == t) rs)))
+    go : (b : Bool) → (r.tenant == t) ≡ b → AllByRecursion (λ p. P p.0) (pairs_of_tenant t rs) → AllByRecursion (λ p. P p.0) (map key_part (cond b (r ∷ filter (λ s. s.tenant == t) rs) (filter (λ s. s.tenant == t) rs)))
     go true e ih = (h.0 (eqb-true r.tenant t e), ih)
     go false e ih = ih
 
@@ -82,16 +82,16 @@ module _ (t : ℕ) (k : List ℕ) where
   behind_tenant : (r : KeyRecord) → stands_to t k r ≡ Greater → t ≤ r.tenant
   behind_tenant r e = elim (standing t k r Greater e) [ inl low ↦ omega arith | inr up ↦ let s = up.0 in omega arith ]
 
-  pairs_before : (rs : List KeyRecord) → AllBefore t k rs → AllByRecursion (λ p. IsTrue (is_below p.0 k)) (pairs_of t rs)
+  pairs_before : (rs : List KeyRecord) → AllBefore t k rs → AllByRecursion (λ p. IsTrue (is_below p.0 k)) (pairs_of_tenant t rs)
   pairs_before rs h = pairs_all (λ j. IsTrue (is_below j k)) t rs (All-map (λ r. stands_to t k r ≡ Less) (λ r. r.tenant ≡ t → IsTrue (is_below r.key k)) before_key rs h)
 
-  pairs_behind : (rs : List KeyRecord) → AllBehind t k rs → AllByRecursion (λ p. IsTrue (is_below k p.0)) (pairs_of t rs)
+  pairs_behind : (rs : List KeyRecord) → AllBehind t k rs → AllByRecursion (λ p. IsTrue (is_below k p.0)) (pairs_of_tenant t rs)
   pairs_behind rs h = pairs_all (λ j. IsTrue (is_below k j)) t rs (All-map (λ r. stands_to t k r ≡ Greater) (λ r. r.tenant ≡ t → IsTrue (is_below k r.key)) behind_key rs h)
 
-  pairs_at : (rs : List KeyRecord) → AllAt t k rs → AllByRecursion (λ p. p.0 ≡ k) (pairs_of t rs)
+  pairs_at : (rs : List KeyRecord) → AllAt t k rs → AllByRecursion (λ p. p.0 ≡ k) (pairs_of_tenant t rs)
   pairs_at rs h = pairs_all (λ j. j ≡ k) t rs (All-map (λ r. stands_to t k r ≡ Equal) (λ r. r.tenant ≡ t → r.key ≡ k) (λ r e same. (standing t k r Equal e).1) rs h)
 
-  pairs_append : (fs bs : List KeyRecord) → pairs_of t (fs ++ bs) ≡ pairs_of t fs ++ pairs_of t bs
+  pairs_append : (fs bs : List KeyRecord) → pairs_of_tenant t (fs ++ bs) ≡ pairs_of_tenant t fs ++ pairs_of_tenant t bs
   pairs_append fs bs = ap (map key_part) (filter-append (λ r. r.tenant == t) fs bs) ∙ map-append key_part (filter (λ r. r.tenant == t) fs) (filter (λ r. r.tenant == t) bs)
 
   below_other : (j : List ℕ) → IsTrue (is_below j k) → bytes_eq j k ≡ false
@@ -109,18 +109,18 @@ module _ (t : ℕ) (k : List ℕ) where
       go true e = let same = (bytes_eq-Decides j k).0 e in let no = not_below_itself k in absurd (true≢false (sym (subst (λ x. IsTrue (is_below k x)) same h) ∙ no))
 
   -- the value at a key that is in a gap, and at one that is there
-  pub value_in_gap : (fs bs : List KeyRecord) → AllBefore t k fs → AllBehind t k bs → value_at k (pairs_of t (fs ++ bs)) ≡ None
+  pub value_in_gap : (fs bs : List KeyRecord) → AllBefore t k fs → AllBehind t k bs → value_at k (pairs_of_tenant t (fs ++ bs)) ≡ None
   value_in_gap fs bs low high = ap (λ ps. value_at k ps) (pairs_append fs bs) ∙ ap (option_map (λ p. p.1))
-      (find-skips (λ p. bytes_eq p.0 k) (pairs_of t fs) (pairs_of t bs) (All-map (λ p. IsTrue (is_below p.0 k)) (λ p. bytes_eq p.0 k ≡ false) (λ p. below_other p.0) (pairs_of t fs) (pairs_before fs low))
-      ∙ find-none (λ p. bytes_eq p.0 k) (pairs_of t bs) (All-map (λ p. IsTrue (is_below k p.0)) (λ p. bytes_eq p.0 k ≡ false) (λ p. above_other p.0) (pairs_of t bs) (pairs_behind bs high)))
+      (find-skips (λ p. bytes_eq p.0 k) (pairs_of_tenant t fs) (pairs_of_tenant t bs) (All-map (λ p. IsTrue (is_below p.0 k)) (λ p. bytes_eq p.0 k ≡ false) (λ p. below_other p.0) (pairs_of_tenant t fs) (pairs_before fs low))
+      ∙ find-none (λ p. bytes_eq p.0 k) (pairs_of_tenant t bs) (All-map (λ p. IsTrue (is_below k p.0)) (λ p. bytes_eq p.0 k ≡ false) (λ p. above_other p.0) (pairs_of_tenant t bs) (pairs_behind bs high)))
 
-  pub value_there : (fs bs : List KeyRecord) (r : KeyRecord) → AllBefore t k fs → stands_to t k r ≡ Equal → value_at k (pairs_of t (fs ++ r ∷ bs)) ≡ Some r.value
+  pub value_there : (fs bs : List KeyRecord) (r : KeyRecord) → AllBefore t k fs → stands_to t k r ≡ Equal → value_at k (pairs_of_tenant t (fs ++ r ∷ bs)) ≡ Some r.value
   value_there fs bs r low here =
       let is = standing t k r Equal here in
       let mine : (r.tenant == t) ≡ true = eq-eqb r.tenant t is.0 in
       let same : bytes_eq r.key k ≡ true = (bytes_eq-Decides r.key k).1 is.1 in
       ap (λ ps. value_at k ps) (pairs_append fs (r ∷ bs)) ∙ ap (option_map (λ p. p.1))
-      (find-skips (λ p. bytes_eq p.0 k) (pairs_of t fs) (pairs_of t (r ∷ bs)) (All-map (λ p. IsTrue (is_below p.0 k)) (λ p. bytes_eq p.0 k ≡ false) (λ p. below_other p.0) (pairs_of t fs) (pairs_before fs low)))
+      (find-skips (λ p. bytes_eq p.0 k) (pairs_of_tenant t fs) (pairs_of_tenant t (r ∷ bs)) (All-map (λ p. IsTrue (is_below p.0 k)) (λ p. bytes_eq p.0 k ≡ false) (λ p. below_other p.0) (pairs_of_tenant t fs) (pairs_before fs low)))
       ∙ rw (mine, same) refl
 
   below_itself_not : (p : List ℕ × List ℕ) → p.0 ≡ k → is_below p.0 k ≡ false
@@ -131,10 +131,10 @@ module _ (t : ℕ) (k : List ℕ) where
 
   -- the tenant's pairs with the key's value put in place
   pairs_put : (v : List ℕ) (fs ms bs : List KeyRecord) → AllBefore t k fs → AllAt t k ms → AllBehind t k bs
-      → with_pair k v (pairs_of t (fs ++ (ms ++ bs))) ≡ pairs_of t fs ++ (k, v) ∷ pairs_of t bs
+      → with_value_under k v (pairs_of_tenant t (fs ++ (ms ++ bs))) ≡ pairs_of_tenant t fs ++ (k, v) ∷ pairs_of_tenant t bs
   pairs_put v fs ms bs low here high =
-      let A = pairs_of t fs in let M = pairs_of t ms in let B = pairs_of t bs in
-      let parts : pairs_of t (fs ++ (ms ++ bs)) ≡ A ++ (M ++ B) = pairs_append fs (ms ++ bs) ∙ ap (λ l. A ++ l) (pairs_append ms bs) in
+      let A = pairs_of_tenant t fs in let M = pairs_of_tenant t ms in let B = pairs_of_tenant t bs in
+      let parts : pairs_of_tenant t (fs ++ (ms ++ bs)) ≡ A ++ (M ++ B) = pairs_append fs (ms ++ bs) ∙ ap (λ l. A ++ l) (pairs_append ms bs) in
       let lower : filter (λ p. is_below p.0 k) (A ++ (M ++ B)) ≡ A =
       filter-append (λ p. is_below p.0 k) A (M ++ B) ∙ ap (λ l. filter (λ p. is_below p.0 k) A ++ l) (filter-append (λ p. is_below p.0 k) M B)
       ∙ rw (
@@ -149,11 +149,11 @@ module _ (t : ℕ) (k : List ℕ) where
         filter-none (λ p. is_below k p.0) M (All-map (λ p. p.0 ≡ k) (λ p. is_below k p.0 ≡ false) above_itself_not M (pairs_at ms here)),
         filter-all (λ p. is_below k p.0) B (pairs_behind bs high),
       ) refl in
-      ap (with_pair k v) parts ∙ rw (lower, upper) refl
+      ap (with_value_under k v) parts ∙ rw (lower, upper) refl
 
   -- and all records with the tenant's put back
   pub records_put : (v : List ℕ) (fs ms bs : List KeyRecord) → InOrder KeyComesBefore (fs ++ (ms ++ bs)) → AllBefore t k fs → AllAt t k ms → AllBehind t k bs
-      → filter (λ r. nat_lt r.tenant t) (fs ++ (ms ++ bs)) ++ map (key_made t) (with_pair k v (pairs_of t (fs ++ (ms ++ bs)))) ++ filter (λ r. nat_lt t r.tenant) (fs ++ (ms ++ bs))
+      → filter (λ r. nat_lt r.tenant t) (fs ++ (ms ++ bs)) ++ map (key_made t) (with_value_under k v (pairs_of_tenant t (fs ++ (ms ++ bs)))) ++ filter (λ r. nat_lt t r.tenant) (fs ++ (ms ++ bs))
       ≡ fs ++ key_made t (k, v) ∷ bs
   records_put v fs ms bs order low here high =
       let lt : KeyRecord → Bool = λ r. nat_lt r.tenant t in let gt : KeyRecord → Bool = λ r. nat_lt t r.tenant in let eq : KeyRecord → Bool = λ r. r.tenant == t in
@@ -165,10 +165,10 @@ module _ (t : ℕ) (k : List ℕ) where
       filter-append lt fs (ms ++ bs) ∙ ap (λ l. filter lt fs ++ l) (filter-append lt ms bs) ∙ rw (no_lt_ms, no_lt_bs) (append-nil (filter lt fs)) in
       let highs : filter gt (fs ++ (ms ++ bs)) ≡ filter gt bs =
       filter-append gt fs (ms ++ bs) ∙ ap (λ l. filter gt fs ++ l) (filter-append gt ms bs) ∙ rw (no_gt_ms, no_gt_fs) refl in
-      let from_mine : (xs : List KeyRecord) → map (key_made t) (pairs_of t xs) ≡ filter eq xs =
+      let from_mine : (xs : List KeyRecord) → map (key_made t) (pairs_of_tenant t xs) ≡ filter eq xs =
       λ xs. made_from_mine (λ (x : KeyRecord). x.tenant) key_part key_made (λ t p. refl) (λ t p. refl) (λ x. refl) t xs in
-      let mines : map (key_made t) (with_pair k v (pairs_of t (fs ++ (ms ++ bs)))) ≡ filter eq fs ++ key_made t (k, v) ∷ filter eq bs =
-      ap (map (key_made t)) (pairs_put v fs ms bs low here high) ∙ map-append (key_made t) (pairs_of t fs) ((k, v) ∷ pairs_of t bs)
+      let mines : map (key_made t) (with_value_under k v (pairs_of_tenant t (fs ++ (ms ++ bs)))) ≡ filter eq fs ++ key_made t (k, v) ∷ filter eq bs =
+      ap (map (key_made t)) (pairs_put v fs ms bs low here high) ∙ map-append (key_made t) (pairs_of_tenant t fs) ((k, v) ∷ pairs_of_tenant t bs)
       ∙ rw (from_mine fs, from_mine bs) refl in
       let all_fs : filter lt fs ++ filter eq fs ≡ fs =
       let parts = three_parts (λ (x : KeyRecord). x.tenant) key_part key_made (λ t p. refl) (λ t p. refl) (λ x. refl) t fs (key_ascends fs (InOrder-left KeyComesBefore fs (ms ++ bs) order)) in
@@ -183,7 +183,7 @@ module _ (t : ℕ) (k : List ℕ) where
       ∙ ap (λ l. fs ++ key_made t (k, v) ∷ l) all_bs)
 
 -- no conflict among a tenant's pairs is none with its records
-pub no_conflict_with : (t : ℕ) (k : List ℕ) (rs : List KeyRecord) → has_conflict k (pairs_of t rs) ≡ false → AllByRecursion (λ r. r.tenant ≡ t → conflicts k r.key ≡ false) rs
+pub no_conflict_with : (t : ℕ) (k : List ℕ) (rs : List KeyRecord) → has_conflict k (pairs_of_tenant t rs) ≡ false → AllByRecursion (λ r. r.tenant ≡ t → conflicts k r.key ≡ false) rs
 no_conflict_with t k [] h = tt
 no_conflict_with t k (r ∷ rs) h = go (r.tenant == t) refl h (no_conflict_with t k rs)
   where
@@ -192,9 +192,9 @@ no_conflict_with t k (r ∷ rs) h = go (r.tenant == t) refl h (no_conflict_with 
     parts false b e = (refl, e)
 
     go : (b : Bool) → (r.tenant == t) ≡ b → has_conflict k (map key_part (cond b (r ∷ filter (λ s. s.tenant == t) rs) (filter (λ s. s.tenant == t) rs))) ≡ false
-        → (has_conflict k (pairs_of t rs) ≡ false → AllByRecursion (λ r. r.tenant ≡ t → conflicts k r.key ≡ false) rs)
+        → (has_conflict k (pairs_of_tenant t rs) ≡ false → AllByRecursion (λ r. r.tenant ≡ t → conflicts k r.key ≡ false) rs)
         → AllByRecursion (λ r. r.tenant ≡ t → conflicts k r.key ≡ false) (r ∷ rs)
-    go true e f ih = let both = parts (conflicts k r.key) (has_conflict k (pairs_of t rs)) f in (λ _. both.0, ih both.1)
+    go true e f ih = let both = parts (conflicts k r.key) (has_conflict k (pairs_of_tenant t rs)) f in (λ _. both.0, ih both.1)
     go false e f ih = (λ same. absurd (true≢false (sym (eq-eqb r.tenant t same) ∙ e)), ih f)
 
 conflicts_back : (a b : List ℕ) → conflicts a b ≡ false → conflicts b a ≡ false
@@ -283,8 +283,8 @@ module _ (t : ℕ) (k v : List ℕ) (fs ms bs : List Pair) (e : Pair) (are : Are
     };
   }
 
-  pub put_records : records_of (fs ++ e ∷ bs) ≡ with_own t (record { keys = with_pair k v (own t (records_of (fs ++ (ms ++ bs)))).keys; numbers = (own t (records_of (fs ++ (ms ++ bs)))).numbers }) (records_of (fs ++ (ms ++ bs)))
+  pub put_records : records_of (fs ++ e ∷ bs) ≡ with_own t (record { keys = with_value_under k v (own t (records_of (fs ++ (ms ++ bs)))).keys; numbers = (own t (records_of (fs ++ (ms ++ bs)))).numbers }) (records_of (fs ++ (ms ++ bs)))
   put_records =
       let all : F ++ (M ++ B) ≡ map record_of (fs ++ (ms ++ bs)) = sym (three_lists fs ms bs) in
-      let P : List KeyRecord → Type 0 = λ rs. filter (λ r. nat_lt r.tenant t) rs ++ map (key_made t) (with_pair k v (pairs_of t rs)) ++ filter (λ r. nat_lt t r.tenant) rs ≡ F ++ key_made t (k, v) ∷ B in
+      let P : List KeyRecord → Type 0 = λ rs. filter (λ r. nat_lt r.tenant t) rs ++ map (key_made t) (with_value_under k v (pairs_of_tenant t rs)) ++ filter (λ r. nat_lt t r.tenant) rs ≡ F ++ key_made t (k, v) ∷ B in
       records_from_lists _ _ _ _ (new_list ∙ sym (subst P all (records_put t k v F M B order f.low f.here f.high))) refl

@@ -7,7 +7,7 @@ use Rattle.art_index.specs.Reading.{command_of}
 use Rattle.art_index.specs.Records.{Records}
 use Rattle.art_index.specs.Replies.{reply_to, records_after, command_reply, command_after}
 use Rattle.art_index.specs.Outcome.{answer, left_by}
-use Rattle.art_index.specs.Stored.{IsPlaced, IsDone, placed_words, found_no_memory, Pair, records_of}
+use Rattle.art_index.specs.Stored.{IsPutDone, IsChangeDone, placed_words, found_no_memory, Pair, records_of}
 use Rattle.art_index.specs.declared.placed.Placed.{Placed}
 use Rattle.art_index.specs.declared.placed.Placed.TheVariants as placed
 
@@ -23,20 +23,20 @@ told_once : (ws : List Word) (o : Option Command) (r : Records) (line : List ℕ
 told_once ws o r line e h = sym (append-nil (line_of ws)) ∙ ap (flat_map line_of) h ∙ reply_is o r line e
 
 -- what a change is answered by, and what it leaves
-done_reply : (p : Placed) (c : Command) (old new : Records) (line : List ℕ) → Some c ≡ command_of line → IsDone p c old new → line_of (placed_words p) ≡ answer (found_no_memory p) old line
+done_reply : (p : Placed) (c : Command) (old new : Records) (line : List ℕ) → Some c ≡ command_of line → IsChangeDone p c old new → line_of (placed_words p) ≡ answer (found_no_memory p) old line
 done_reply placed.Memory c old new line e h = refl
 done_reply (placed.Old o) c old new line e h = told_once (placed_words (placed.Old o)) (Some c) old line e h.0
 done_reply placed.New c old new line e h = told_once (placed_words placed.New) (Some c) old line e h.0
 done_reply placed.Conflict c old new line e h = told_once (placed_words placed.Conflict) (Some c) old line e h.0
 
-done_after : (p : Placed) (c : Command) (old new : Records) (line : List ℕ) → Some c ≡ command_of line → IsDone p c old new → new ≡ left_by (found_no_memory p) old line
+done_after : (p : Placed) (c : Command) (old new : Records) (line : List ℕ) → Some c ≡ command_of line → IsChangeDone p c old new → new ≡ left_by (found_no_memory p) old line
 done_after placed.Memory c old new line e h = h
 done_after (placed.Old o) c old new line e h = h.1 ∙ after_is (Some c) old line e
 done_after placed.New c old new line e h = h.1 ∙ after_is (Some c) old line e
 done_after placed.Conflict c old new line e h = h.1 ∙ after_is (Some c) old line e
 
 module _ (p : Placed) (memory : Bool) (c : Command) (held old new : Records) (line : List ℕ) (found : memory ≡ found_no_memory p) (same : held ≡ old)
-    (e : Some c ≡ command_of line) (h : IsDone p c held new) where
+    (e : Some c ≡ command_of line) (h : IsChangeDone p c held new) where
   pub done_told : line_of (placed_words p) ≡ answer memory old line
   done_told = done_reply p c held new line e h ∙ ap (λ b. answer b held line) (sym found) ∙ ap (λ r. answer memory r line) same
 
@@ -44,7 +44,7 @@ module _ (p : Placed) (memory : Bool) (c : Command) (held old new : Records) (li
   done_left = done_after p c held new line e h ∙ ap (λ b. left_by b held line) (sym found) ∙ ap (λ r. left_by memory r line) same
 
 -- a put is a change
-pub put_done : (p : Placed) (old new : Records) (t : ℕ) (k v : List ℕ) → IsPlaced p old t k v new → IsDone p (of_tenant t (put k v)) old new
+pub put_done : (p : Placed) (old new : Records) (t : ℕ) (k v : List ℕ) → IsPutDone p old t k v new → IsChangeDone p (of_tenant t (put k v)) old new
 put_done placed.Memory old new t k v h = h
 put_done (placed.Old o) old new t k v h = h
 put_done placed.New old new t k v h = h

@@ -12,7 +12,7 @@ use Rattle.art_index.specs.declared.command.word.Shape.TheVariants.{Key, KeyAndV
 use Rattle.art_index.specs.Commands.{put, get, Command, of_tenant, dump, fields_of}
 use Rattle.art_index.specs.Reading.{tenant_in, bytes_in, key_in, key_and_value_in, nothing_in, ◌>>=◌}
 use Rattle.art_index.specs.InPlace.{fields_behind, IsRead}
-use Rattle.art_index.specs.Parsed.{tenant_of, key_of, shape_of, command_with}
+use Rattle.art_index.specs.Parsed.{tenant_in_place, key_in_place, shape_of, command_with}
 use Rattle.art_index.proofs.LastField.{one_or_more, no_bytes}
 use Rattle.art_index.proofs.Parsing.{command_by}
 
@@ -125,15 +125,15 @@ made true x o make h = ap (option_map make) h
 made false x o make h = ap (option_map make) h
 
 module _ (f : Fields) (b : Bool) (rest : List (List ℕ)) where
-  pub by_key : (w : Word) → shape_of w ≡ Key → IsRead b (tenant_of f, key_of f) (key_in rest) → IsRead b (command_with w f) (command_by w rest)
-  by_key (LookUp look_up.Get) e h = made b (tenant_of f, key_of f) (key_in rest) (λ p. of_tenant p.0 (get p.1)) h
+  pub by_key : (w : Word) → shape_of w ≡ Key → IsRead b (tenant_in_place f, key_in_place f) (key_in rest) → IsRead b (command_with w f) (command_by w rest)
+  by_key (LookUp look_up.Get) e h = made b (tenant_in_place f, key_in_place f) (key_in rest) (λ p. of_tenant p.0 (get p.1)) h
   by_key (Change change.Put) e h = cc
   by_key (Whole whole.Dump) e h = cc
 
-  pub by_key_and_value : (w : Word) → shape_of w ≡ KeyAndValue → IsRead b (tenant_of f, key_of f, f.value.items) (key_and_value_in rest)
+  pub by_key_and_value : (w : Word) → shape_of w ≡ KeyAndValue → IsRead b (tenant_in_place f, key_in_place f, f.value.items) (key_and_value_in rest)
       → IsRead b (command_with w f) (command_by w rest)
   by_key_and_value (LookUp look_up.Get) e h = cc
-  by_key_and_value (Change change.Put) e h = made b (tenant_of f, key_of f, f.value.items) (key_and_value_in rest) (λ p. of_tenant p.0 (put p.1 p.2)) h
+  by_key_and_value (Change change.Put) e h = made b (tenant_in_place f, key_in_place f, f.value.items) (key_and_value_in rest) (λ p. of_tenant p.0 (put p.1 p.2)) h
   by_key_and_value (Whole whole.Dump) e h = cc
 
   pub by_nothing : (w : Word) → shape_of w ≡ Nothing → IsRead b tt (nothing_in rest) → IsRead b (command_with w f) (command_by w rest)

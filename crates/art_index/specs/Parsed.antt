@@ -23,11 +23,11 @@ meaning (Get tenant key) = said.of_tenant tenant (said.get key.items)
 meaning Dump = said.dump
 
 -- the tenant and the key that were read in place
-abbrev pub tenant_of : Fields → ℕ
-tenant_of f = from_be_bytes w32 (take 4 f.full_key.items)
+abbrev pub tenant_in_place : Fields → ℕ
+tenant_in_place f = from_be_bytes w32 (take 4 f.full_key.items)
 
-abbrev pub key_of : Fields → List ℕ
-key_of f = drop 4 f.full_key.items
+abbrev pub key_in_place : Fields → List ℕ
+key_in_place f = drop 4 f.full_key.items
 
 -- the word that a field is
 abbrev pub word_in : List ℕ → Option Word
@@ -45,10 +45,10 @@ shape_of (Whole whole.Dump) = Nothing
 
 -- the command of a word, by its family, and of what was read behind it
 abbrev pub looks_up : LookUpWord → Fields → said.Command
-looks_up look_up.Get f = said.of_tenant (tenant_of f) (said.get (key_of f))
+looks_up look_up.Get f = said.of_tenant (tenant_in_place f) (said.get (key_in_place f))
 
 abbrev pub changes : ChangeWord → Fields → said.Command
-changes change.Put f = said.of_tenant (tenant_of f) (said.put (key_of f) f.value.items)
+changes change.Put f = said.of_tenant (tenant_in_place f) (said.put (key_in_place f) f.value.items)
 
 abbrev pub asks_all : WholeWord → said.Command
 asks_all whole.Dump = said.dump

@@ -56,14 +56,14 @@ found_no_memory placed.New = false
 found_no_memory placed.Conflict = false
 
 -- A put was done as it is answered; where it found no memory, nothing is changed.
-abbrev pub IsPlaced : Placed → Records → ℕ → List ℕ → List ℕ → Records → Type 0
-IsPlaced placed.Memory old tenant key value new = new ≡ old
-IsPlaced p old tenant key value new =
+abbrev pub IsPutDone : Placed → Records → ℕ → List ℕ → List ℕ → Records → Type 0
+IsPutDone placed.Memory old tenant key value new = new ≡ old
+IsPutDone p old tenant key value new =
     (placed_words p ∷ [] ≡ own_reply (put key value) (own tenant old))
     × (new ≡ with_changed tenant (own_after (put key value) (own tenant old)) old)
 
 -- A change was done as it is answered; where it found no memory, nothing is changed.
-abbrev pub IsDone : Placed → Command → Records → Records → Type 0
-IsDone placed.Memory command old new = new ≡ old
-IsDone p command old new =
+abbrev pub IsChangeDone : Placed → Command → Records → Records → Type 0
+IsChangeDone placed.Memory command old new = new ≡ old
+IsChangeDone p command old new =
     (placed_words p ∷ [] ≡ command_reply (Some command) old) × (new ≡ command_after (Some command) old)

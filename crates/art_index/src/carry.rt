@@ -5,7 +5,7 @@ ghost use Rattle.art_index.specs.Commands.{Spells};
 ghost use Rattle.art_index.specs.Replies.{command_reply};
 ghost use Rattle.art_index.specs.Faults.{Writes};
 ghost use Rattle.art_index.specs.Parsed.{looks_up, changes, asks_all};
-ghost use Rattle.art_index.specs.Stored.{records_of, ArePairs, IsDone};
+ghost use Rattle.art_index.specs.Stored.{records_of, ArePairs, IsChangeDone};
 
 use crate::command::fields::Fields;
 use crate::command::word::{Change, LookUp, Whole};
@@ -44,7 +44,7 @@ pub(crate) fn change<const PREFIX_LEN: usize>(
     requires held { ArePairs records.old.pairs }
     requires spelled { (line : List ℕ) × Spells line (changes word fields.now) }
     ensures held { ArePairs records.new.pairs }
-    ensures done { IsDone result (changes word fields.now) (records_of records.old.pairs)
+    ensures done { IsChangeDone result (changes word fields.now) (records_of records.old.pairs)
         (records_of records.new.pairs) }
 {
     match word {

@@ -74,7 +74,7 @@ impl<const PREFIX_LEN: usize> Index<PREFIX_LEN> {
     ghost use Rattle.art_index.specs.Refusals.{LineMayRefuse};
     ghost use Rattle.art_index.specs.Outcome.{answer, left_by};
     ghost use Rattle.art_index.specs.Faults.{IsCutLine};
-    ghost use Rattle.art_index.specs.Stored.{IsPlaced};
+    ghost use Rattle.art_index.specs.Stored.{IsPutDone};
 
     /// An index that holds nothing. It takes no memory.
     pub fn new(alloc: Global) -> Self

@@ -5,8 +5,8 @@ ghost use Rattle.art_index.specs.Words.{line_of};
 ghost use Rattle.art_index.specs.Records.{KeyFits, own};
 ghost use Rattle.art_index.specs.Replies.{dump_of, value_at};
 ghost use Rattle.art_index.specs.Faults.{Writes};
-ghost use Rattle.art_index.specs.Parsed.{tenant_of, key_of};
-ghost use Rattle.art_index.specs.Stored.{records_of, ArePairs, IsFullKey, IsPlaced, placed_words};
+ghost use Rattle.art_index.specs.Parsed.{tenant_in_place, key_in_place};
+ghost use Rattle.art_index.specs.Stored.{records_of, ArePairs, IsFullKey, IsPutDone, placed_words};
 
 use crate::command::fields::Fields;
 use crate::placed::Placed;
@@ -33,7 +33,7 @@ pub(crate) fn value_of<'a, const PREFIX_LEN: usize>(
 ) -> Option<&'a [u8]>
     requires { ArePairs records.now.pairs }
     ensures { option_map (λ v. v.now) result
-        ≡ value_at (key_of fields.now) (own (tenant_of fields.now) (records_of records.now.pairs)).keys }
+        ≡ value_at (key_in_place fields.now) (own (tenant_in_place fields.now) (records_of records.now.pairs)).keys }
 {
     match records.get(&SliceKey(fields.full_key())) {
         Some(value) => Some(value.as_slice()),
@@ -50,13 +50,13 @@ pub(crate) fn put_value<const PREFIX_LEN: usize>(
 ) -> Placed
     requires held { ArePairs records.old.pairs }
     requires fits { KeyFits (record {
-      tenant = tenant_of fields.now;
-      key = key_of fields.now;
+      tenant = tenant_in_place fields.now;
+      key = key_in_place fields.now;
       value = fields.now.value.items;
     }) }
     ensures held { ArePairs records.new.pairs }
-    ensures placed { IsPlaced result (records_of records.old.pairs) (tenant_of fields.now) (key_of fields.now)
-        fields.now.value.items (records_of records.new.pairs) }
+    ensures placed { IsPutDone result (records_of records.old.pairs) (tenant_in_place fields.now)
+        (key_in_place fields.now) fields.now.value.items (records_of records.new.pairs) }
 {
     let full = fields.full_key();
     let Ok(place) = records.place(&SliceKey(full)) else {

@@ -10,7 +10,7 @@ use Rattle.art_arena.proofs.tree.Order.{all_left, all_right}
 use Rattle.art_arena.proofs.shapes.Measures.{slots_of, cells_few}
 use Rattle.art_arena.proofs.shapes.Meanings.{nodes-part}
 use Rattle.art_operations.specs.Pairs.{HasPairs}
-use Rattle.art_operations.proofs.LeafPairs.{pair_of}
+use Rattle.art_operations.proofs.LeafPairs.{leaf_pair}
 use Rattle.art_map.specs.Contents.{pairs_under, pairs_in, pairs_below, pairs_from}
 
 module _ {K V : Type 0} (P : ℕ) (at : Name → Option (Cell K V)) where
@@ -30,7 +30,7 @@ module _ {K V : Type 0} (P : ℕ) (at : Name → Option (Cell K V)) where
         ap₂ (λ xs ys. xs ++ ys)
         (below-held steps s (all_left Q (cells P s) (cells_in P rest) held) (omega (arith, low, wide)))
         (under-held steps rest (all_right Q (cells P s) (cells_in P rest) held) (omega (arith, low, wide)))
-        ∙ sym (map-append pair_of (leaves s) (leaves_in rest))
+        ∙ sym (map-append leaf_pair (leaves s) (leaves_in rest))
 
 module _ {K V : Type 0} (bytes : K → List ℕ) (P : ℕ) (arena : Arena K V) where
   pub tree-pairs : (root : Name) (s : Shape K V) → StoresOnly bytes P arena root s → pairs_from arena (Some root) ≡ pairs_of (leaves s)

@@ -13,7 +13,7 @@ use Rattle.art_map.specs.Contents.{Contents, first_of, last_of, has_bytes, optio
 use Rattle.art_map.specs.Found.{HasPairAt, IsFound}
 use Rattle.art_arena.proofs.shapes.LinkedLists.{eqb-self, ends_with-first, times-here}
 use Rattle.art_arena.proofs.tree.Exists.{in_middle}
-use Rattle.art_operations.proofs.LeafPairs.{pair_of}
+use Rattle.art_operations.proofs.LeafPairs.{leaf_pair}
 
 -- the test of a key, by its bytes
 abbrev pub key_test : {K : Type 0} → (K → List ℕ) → (List ℕ → Bool) → K → Bool
@@ -105,7 +105,7 @@ module _ {K V : Type 0} where
         leaf = ends.1;
         among = subst (IsIn ends.1) (sym ends.2) (in_middle (λ (m : LeafAt K V). []) ends.0 ends.1 []);
         slot_is = ends.3;
-        wanted_is = ap (λ xs. last_of (pairs_of xs)) ends.2 ∙ ap last_of (map-append pair_of ends.0 (ends.1 ∷ [])) ∙ last-pair (pairs_of ends.0) (ends.1.key, ends.1.value);
+        wanted_is = ap (λ xs. last_of (pairs_of xs)) ends.2 ∙ ap last_of (map-append leaf_pair ends.0 (ends.1 ∷ [])) ∙ last-pair (pairs_of ends.0) (ends.1.key, ends.1.value);
       }
 
   -- the value of an entry

@@ -16,8 +16,8 @@ use Rattle.art_arena.specs.arena.Shapes.{Shape, LeafAt, leaves, pairs_of, key_of
 use Rattle.art_arena.specs.declared.ends.End.{End}
 use Rattle.art_arena.specs.declared.ends.End.TheVariants.{First, Last}
 use Rattle.art_arena.specs.arena.Stores.{Stores, StoresBelow, StoresOnly}
-use Rattle.art_arena.specs.tree.Changes.{IsIn, is_before, put}
-use Rattle.art_arena.specs.tree.Order.{IsAscending}
+use Rattle.art_arena.specs.tree.Changes.{IsIn, is_before, put_in_order}
+use Rattle.art_arena.specs.tree.Order.{AscendsByKey}
 use Rattle.art_arena.proofs.shapes.LeafValues.{cell-some}
 use Rattle.art_arena.proofs.shapes.Meanings.{nodes-subtree}
 use Rattle.art_arena.proofs.tree.Exists.{in_middle}
@@ -32,7 +32,7 @@ use Rattle.art_operations.specs.declared.insert.result.InsertResult.{InsertResul
 use Rattle.art_operations.specs.declared.prefix_insert.result.PrefixInsertResult.{PrefixInsertResult}
 use Rattle.art_operations.proofs.HeldPairs.{pairs-same}
 use Rattle.art_operations.proofs.KeyedLists.{nothing_taken}
-use Rattle.art_operations.proofs.LeafPairs.{pair_of, pairs_ascend, held_leaf}
+use Rattle.art_operations.proofs.LeafPairs.{leaf_pair, pairs_ascend, held_leaf, pairs-parts}
 use Rattle.art_operations.proofs.PutOver.{how_many}
 use Rattle.art_operations.proofs.WrittenValues.{written}
 use Rattle.art_map.specs.Contents.{contents, pairs_from, IsMap, has_bytes, first_of, last_of, option_value, value_in}
@@ -65,9 +65,9 @@ module _ {K V : Type 0} (is_key : K → Type 0) where
   abbrev pub AreKeys : List (K × V) → Type 0
   AreKeys pairs = AllByRecursion (λ p. is_key p.0) pairs
 
-  pub keys-put : (key : K × V → List ℕ) (p : K × V) (pairs : List (K × V)) → is_key p.0 → AreKeys pairs → AreKeys (put key p pairs)
+  pub keys-put : (key : K × V → List ℕ) (p : K × V) (pairs : List (K × V)) → is_key p.0 → AreKeys pairs → AreKeys (put_in_order key p pairs)
   keys-put key p [] one all = (one, tt)
-  keys-put key p (q ∷ qs) one all = elim (is_before (key p) (key q)) as (λ b. AreKeys (cond b (p ∷ q ∷ qs) (q ∷ put key p qs))) [
+  keys-put key p (q ∷ qs) one all = elim (is_before (key p) (key q)) as (λ b. AreKeys (cond b (p ∷ q ∷ qs) (q ∷ put_in_order key p qs))) [
     | true ↦ (one, all)
     | false ↦ (all.0, keys-put key p qs one all.1)
   ]
@@ -102,7 +102,7 @@ module _ {K V : Type 0} (bytes : K → List ℕ) where
       ]
 
   -- of two pairs in ascending order none is in conflict with the other
-  apart : (pairs : List (K × V)) → IsAscending (key_of bytes) pairs → (p q : K × V) → IsIn p pairs → IsIn q pairs → Conflict (bytes p.0) (bytes q.0) → ⊥
+  apart : (pairs : List (K × V)) → AscendsByKey (key_of bytes) pairs → (p q : K × V) → IsIn p pairs → IsIn q pairs → Conflict (bytes p.0) (bytes q.0) → ⊥
   apart [] up p q i j c = i
   apart (r ∷ rs) up p q (inl e) (inl f) c = c.0 (ap (key_of bytes) (sym e ∙ f))
   apart (r ∷ rs) up p q (inl e) (inr j) c =
@@ -112,11 +112,11 @@ module _ {K V : Type 0} (bytes : K → List ℕ) where
   apart (r ∷ rs) up p q (inr i) (inr j) c = apart rs up.1 p q i j c
 
   -- so no pair blocks a key that another has
-  pub stored-free : (pairs : List (K × V)) → IsAscending (key_of bytes) pairs → (key : List ℕ) → HasKey (key_of bytes) key pairs → IsBlocked (key_of bytes) key pairs → ⊥
+  pub stored-free : (pairs : List (K × V)) → AscendsByKey (key_of bytes) pairs → (key : List ℕ) → HasKey (key_of bytes) key pairs → IsBlocked (key_of bytes) key pairs → ⊥
   stored-free pairs up key (p, i, same) (q, j, c) = apart pairs up p q i j (subst (λ k. Conflict k (bytes q.0)) (sym same) c)
 
   -- a place is found for it
-  pub stored-placed : {E : Type 0} (P : ℕ) (arena : Arena K V) (pairs : List (K × V)) → IsAscending (key_of bytes) pairs → (key : List ℕ) (result : Result (Option InsertPoint) E) → IsPlaced bytes P arena key pairs result → HasKey (key_of bytes) key pairs → IsOk result
+  pub stored-placed : {E : Type 0} (P : ℕ) (arena : Arena K V) (pairs : List (K × V)) → AscendsByKey (key_of bytes) pairs → (key : List ℕ) (result : Result (Option InsertPoint) E) → IsPlaced bytes P arena key pairs result → HasKey (key_of bytes) key pairs → IsOk result
   stored-placed P arena pairs up key (Ok place) placed has = refl
   stored-placed P arena pairs up key (Err e) blocked has = absurd (stored-free pairs up key has blocked)
 
@@ -205,15 +205,12 @@ module _ {K V : Type 0} (bytes : K → List ℕ) (is_key : K → Type 0) (P : �
     none-entry new key has = entry-first bytes key the_pairs ∙ ap first_of has.0
 
     -- its keys ascend
-    pub ascending-map : IsAscending (key_of bytes) the_pairs
+    pub ascending-map : AscendsByKey (key_of bytes) the_pairs
     ascending-map = go root map.has
       where
-        go : (r : Option Name) → HasPairs bytes P old r the_pairs → IsAscending (key_of bytes) the_pairs
+        go : (r : Option Name) → HasPairs bytes P old r the_pairs → AscendsByKey (key_of bytes) the_pairs
         go None has = rw has.0 tt
-        go (Some top) (s, tree, e) = subst (IsAscending (key_of bytes)) e (pairs_ascend bytes s tree.nodes.under)
-
-  pairs-parts : (front : List (LeafAt K V)) (l : LeafAt K V) (back : List (LeafAt K V)) → pairs_of (front ++ l ∷ back) ≡ pairs_of front ++ pair_of l ∷ pairs_of back
-  pairs-parts front l back = map-append pair_of front (l ∷ back)
+        go (Some top) (s, tree, e) = subst (AscendsByKey (key_of bytes)) e (pairs_ascend bytes s tree.nodes.under)
 
   module _ (old : Arena K V) where
     -- with another value in a leaf it is a map
@@ -223,10 +220,10 @@ module _ {K V : Type 0} (bytes : K → List ℕ) (is_key : K → Type 0) (P : �
         let s = map.has.0 in
         let tree = map.has.1 in
         let is = written bytes P old root s tree slot there w in
-        let was : pairs_from old (Some root) ≡ pairs_of is.front ++ (is.key, is.value) ∷ pairs_of is.back = sym map.has.2 ∙ ap pairs_of is.had ∙ pairs-parts is.front _ is.back in
+        let was : pairs_from old (Some root) ≡ pairs_of is.front ++ (is.key, is.value) ∷ pairs_of is.back = sym map.has.2 ∙ ap pairs_of is.had ∙ pairs-parts bytes is.front _ is.back in
         let keys = subst (AreKeys is_key) was map.keys in
         let parts = all_right (λ p. is_key p.0) (pairs_of is.front) ((is.key, is.value) ∷ pairs_of is.back) keys in
-        make (with_leaf_value old slot w) (Some root) (pairs_of is.front ++ (is.key, w) ∷ pairs_of is.back) (is.shape, is.is_tree, ap pairs_of is.has ∙ pairs-parts is.front _ is.back)
+        make (with_leaf_value old slot w) (Some root) (pairs_of is.front ++ (is.key, w) ∷ pairs_of is.back) (is.shape, is.is_tree, ap pairs_of is.has ∙ pairs-parts bytes is.front _ is.back)
         (all_append (λ p. is_key p.0) (pairs_of is.front) ((is.key, w) ∷ pairs_of is.back) (all_left (λ p. is_key p.0) (pairs_of is.front) ((is.key, is.value) ∷ pairs_of is.back) keys) (parts.0, parts.1))
 
     module _ (root : Name) (test : List ℕ → Bool) (s : Shape K V) (tree : StoresOnly bytes P old root s) where
@@ -304,7 +301,7 @@ module _ {K V : Type 0} (bytes : K → List ℕ) (is_key : K → Type 0) (P : �
               leaves = leaves s;
               walk = record { xs = []; zs = []; list = subst (IsList (links_at old)) (sym (append-nil (leaves s))) (tree-list bytes P (node_at old) top (links_at old) s tree); ends_are = (first [] s below, last [] s below) };
               stored = all_in (λ (l : LeafAt K V). node_at old (leaf_name l.slot) ≡ Some (pair l.key l.value)) (leaves s) (λ l i. held_leaf P (node_at old) s l i tree.nodes.holds.held);
-              len_is = ap length (sym has_top.2) ∙ length-map (leaves s) pair_of;
+              len_is = ap length (sym has_top.2) ∙ length-map (leaves s) leaf_pair;
             };
             pairs_are = has_top.2;
           }

@@ -70,8 +70,8 @@ module _ {K V : Type 0} where
   contents arena root = record { pairs = pairs_from arena root; nodes = arena; root = root }
 
   -- a leaf stands under this slab key
-  abbrev pub HasLeaf : Contents K V → ℕ → Type 0
-  HasLeaf m slot = IsSome (held_at m.nodes (leaf_name slot))
+  abbrev pub HasLeafAt : Contents K V → ℕ → Type 0
+  HasLeafAt m slot = IsSome (held_at m.nodes (leaf_name slot))
 
 module _ {K V : Type 0} (bytes : K → List ℕ) (is_key : K → Type 0) (P : ℕ) where
   -- the arena has the tree of these pairs and nothing else, and each key is one

@@ -1,7 +1,7 @@
 //! `TreeMap`.
 ghost use Rattle.std.specs.Prelude.{◌≡◌, ◌==◌, [], length};
 ghost use Rattle.art_arena.specs.arena.Shapes.{key_of};
-ghost use Rattle.art_arena.specs.tree.Order.{IsAscending};
+ghost use Rattle.art_arena.specs.tree.Order.{AscendsByKey};
 ghost use Rattle.art_operations.specs.Runs.{HoldsTreeOf};
 
 mod changes;
@@ -85,7 +85,7 @@ impl<K: AsBytes, V, const PREFIX_LEN: usize> TreeMap<K, V, PREFIX_LEN> {
     pub fn nodes(&self) -> (&NodeArena<K, V, PREFIX_LEN>, Option<OpaqueNodePtr>)
         ensures tree { HoldsTreeOf K.bytes PREFIX_LEN result.0.now result.1 self.now.pairs }
         ensures same { (result.0.now ≡ self.now.nodes) × (result.1 ≡ self.now.root) }
-        ensures ordered { IsAscending (key_of K.bytes) self.now.pairs }
+        ensures ordered { AscendsByKey (key_of K.bytes) self.now.pairs }
     {
         (&self.arena, self.root)
     }

@@ -68,12 +68,12 @@ module _ {N : Type 0} where
   ]
 
   -- what the map says of a byte that stands among the bytes
-  pub record Held (keys : List ℕ) (names : List N) (byte : ℕ) : Type 0 where
+  pub record StandsAmong (keys : List ℕ) (names : List N) (byte : ℕ) : Type 0 where
     pub found : child_at (zip keys names) byte ≡ slice_get names (place keys byte)
     pub written : (name : N) → with_child (zip keys names) byte name ≡ zip keys (slice_set names (place keys byte) name)
     pub removed : without_child (zip keys names) byte ≡ zip (remove keys (place keys byte)) (remove names (place keys byte))
 
-  pub held : (low : ℕ) (keys : List ℕ) (names : List N) (byte : ℕ) → length keys ≡ length names → IsAscendingFrom low (zip keys names) → place keys byte < length keys → slice_index keys (place keys byte) ≡ byte → Held keys names byte
+  pub held : (low : ℕ) (keys : List ℕ) (names : List N) (byte : ℕ) → length keys ≡ length names → IsAscendingFrom low (zip keys names) → place keys byte < length keys → slice_index keys (place keys byte) ≡ byte → StandsAmong keys names byte
   held low [] names byte same rises within here = absurd (omega (arith, within))
   held low (k ∷ keys) [] byte same rises within here = absurd (omega arith)
   held low (k ∷ keys) (n ∷ names) byte same rises within here = elim (leb_tells (suc k) byte) [

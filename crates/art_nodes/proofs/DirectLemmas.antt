@@ -109,7 +109,7 @@ pub IsInnerNode-table : (prefix_room room : ℕ) (header : Header) (slots : List
 IsInnerNode-table prefix_room room header slots whole is_header counts fits = record { header = is_header; counts = counts; ascending = ascending-table slots whole; fits = omega (arith, counts, fits) }
 
 -- a node whose table was edited means the edited children
-pub edited : (old : Header) (count : ℕ) (slots edit : List (Option Name)) (children : List (ℕ × Name)) → children_from 0 edit ≡ children → count ≡ length (children_from 0 edit) → table_node (record old { num_children = count }) edit ≡ with_children (table_node old slots) children
-edited old count slots edit children same counts = rw (counts, same) refl
+pub edited_table : (old : Header) (count : ℕ) (slots edit : List (Option Name)) (children : List (ℕ × Name)) → children_from 0 edit ≡ children → count ≡ length (children_from 0 edit) → table_node (record old { num_children = count }) edit ≡ with_children (table_node old slots) children
+edited_table old count slots edit children same counts = rw (counts, same) refl
 
 pub ruleset holds = (entry_at-index)

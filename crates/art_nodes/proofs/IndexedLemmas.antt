@@ -11,7 +11,7 @@ use Rattle.art_nodes.specs.InnerNode.{InnerNode, with_children, child_at, with_c
 use Rattle.art_nodes.specs.inner.Table.{children_from, names_at, entry_at}
 use Rattle.art_nodes.specs.inner.Indirect.{place_at, shifted_place, shifted, IsIndexed}
 use Rattle.art_nodes.proofs.TableLemmas.{length-names_at}
-use Rattle.art_nodes.proofs.DirectLemmas.{lookup-table, write-table, remove-table, counts-new, counts-held, counts-removed, unchanged-table, table_node, edited}
+use Rattle.art_nodes.proofs.DirectLemmas.{lookup-table, write-table, remove-table, counts-new, counts-held, counts-removed, unchanged-table, table_node, edited_table}
 use Rattle.art_nodes.proofs.IndirectLemmas.{entry_at-names_at, names_at-edit, slice_get-push_last, slice_get-push_before, slice_get-set_here, slice_get-set_other, slice_get-remove_before, slice_get-remove_after, place_at-shifted, length-shifted, shifted-nowhere, moved}
 
 abbrev pub indexed_node : Header → List ℕ → List Name → InnerNode
@@ -74,7 +74,7 @@ module _ (room : ℕ) (header : Header) (index : List ℕ) (names : List Name) (
   pub unchanged-indexed : length names ≤ place_at index byte → indexed_node header index names ≡ with_children (indexed_node header index names) (without_child (children_from 0 (names_at names index)) byte)
   unchanged-indexed past =
       let none = at_byte ∙ slice_get_past names (place_at index byte) past in
-      edited header header.num_children (names_at names index) (names_at names index) _ (sym (unchanged-table (names_at names index) byte whole none)) ix.children
+      edited_table header header.num_children (names_at names index) (names_at names index) _ (sym (unchanged-table (names_at names index) byte whole none)) ix.children
 
   old_there : place_at index byte < length names → (old : Name) × (entry_at (names_at names index) byte ≡ Some old)
   old_there known = elim ((slice_get_cases names (place_at index byte)).1) [
@@ -103,7 +103,7 @@ module _ (room : ℕ) (header : Header) (index : List ℕ) (names : List Name) (
           children = count;
           fits = rw long ix.fits;
         };
-        view = edited header header.num_children (names_at names index) (names_at new index) _ (ap (λ (os : List (Option Name)). children_from 0 os) table ∙ write-table (names_at names index) byte name whole fits) count;
+        view = edited_table header header.num_children (names_at names index) (names_at new index) _ (ap (λ (os : List (Option Name)). children_from 0 os) table ∙ write-table (names_at names index) byte name whole fits) count;
       }
 
   -- a new name behind the others
@@ -156,7 +156,7 @@ module _ (room : ℕ) (header : Header) (index : List ℕ) (names : List Name) (
           children = count;
           fits = rw long (omega arith);
         };
-        view = edited header (header.num_children + 1) (names_at names index) (names_at new index') _ (ap (λ (os : List (Option Name)). children_from 0 os) table ∙ write-table (names_at names index) byte name whole fits) count;
+        view = edited_table header (header.num_children + 1) (names_at names index) (names_at new index') _ (ap (λ (os : List (Option Name)). children_from 0 os) table ∙ write-table (names_at names index) byte name whole fits) count;
       }
 
   -- a name taken out, and the places behind it moved down
@@ -214,7 +214,7 @@ module _ (room : ℕ) (header : Header) (index : List ℕ) (names : List Name) (
           children = count;
           fits = omega (arith, long, ix.fits);
         };
-        view = edited header (header.num_children - 1) (names_at names index) (names_at new index') _ (ap (λ (os : List (Option Name)). children_from 0 os) table ∙ remove-table (names_at names index) byte whole fits) count;
+        view = edited_table header (header.num_children - 1) (names_at names index) (names_at new index') _ (ap (λ (os : List (Option Name)). children_from 0 os) table ∙ remove-table (names_at names index) byte whole fits) count;
       }
 
   -- where a child may be written and none stands, there is room for one more

@@ -8,6 +8,7 @@ use Rattle.std.proofs.lemmas.Bool.Decides.{leb_tells, nat_tests}
 use Rattle.art_nodes.specs.InnerNode.{IsAscendingFrom, is_from, is_to, children_between, AreValidBounds}
 use Rattle.art_nodes.specs.inner.Place.{place, children_within}
 use Rattle.art_nodes.specs.inner.Table.{children_from}
+use Rattle.art_nodes.proofs.ChildLemmas.{IsAscendingFrom-lower}
 
 place-drop : (ks : List ℕ) (from to : ℕ) → from ≤ to → place (drop (place ks from) ks) to ≡ place ks to - place ks from
 place-drop [] from to h = refl
@@ -139,10 +140,6 @@ module _ {N : Type 0} where
     | inr above ↦ rw above.0 (sorted_none_to (k + 1) to ks ns (omega (arith, above.1)) rises.2)
   ]
 
-  pub IsAscendingFrom-weaken : (low more : ℕ) (cs : List (ℕ × N)) → low ≤ more → IsAscendingFrom more cs → IsAscendingFrom low cs
-  IsAscendingFrom-weaken low more [] h rises = tt
-  IsAscendingFrom-weaken low more (c ∷ cs) h rises = (omega (arith, rises.0), rises.1, rises.2)
-
   rises-drop : (low i : ℕ) (ks : List ℕ) (ns : List N) → IsAscendingFrom low (zip ks ns) → IsAscendingFrom low (zip (drop i ks) (drop i ns))
   rises-drop low zero ks ns rises = rises
   rises-drop low (suc i) [] ns rises = tt
@@ -151,7 +148,7 @@ module _ {N : Type 0} where
       nothing : (xs : List ℕ) → IsAscendingFrom low (zip {K = ℕ} {X = N} xs [])
       nothing [] = tt
       nothing (x ∷ xs) = tt
-  rises-drop low (suc i) (k ∷ ks) (n ∷ ns) rises = rises-drop low i ks ns (IsAscendingFrom-weaken low (k + 1) (zip ks ns) (omega (arith, rises.0)) rises.2)
+  rises-drop low (suc i) (k ∷ ks) (n ∷ ns) rises = rises-drop low i ks ns (IsAscendingFrom-lower low (k + 1) (zip ks ns) (omega (arith, rises.0)) rises.2)
 
   -- the children of bytes and names side by side within bounds are a part of both
   pub within-zip : (from to : ℕ) (ks : List ℕ) (ns : List N) → length ks ≡ length ns → from ≤ to → IsAscendingFrom 0 (zip ks ns) → zip (take (place ks to - place ks from) (drop (place ks from) ks)) (take (place ks to - place ks from) (drop (place ks from) ns)) ≡ children_within from to (zip ks ns)

@@ -1,48 +1,44 @@
 -- Lemmas on a replay: a full node without a child under a byte isn't of the largest kind, and answers go on one by one.
-use Rattle.std.proofs.Common.{◌≡◌, ◌≢◌, ℕ, suc, ◌+◌, ◌<◌, ◌≤◌, Option, None, lit<, true≢false, List, [], ◌∷◌, ◌++◌, length, IsSome, take, refl, ap, sym, ◌∙◌, subst, inl, inr, arith}
-use Rattle.std.proofs.lemmas.Bool.Decides.{eqb_tells, leb_tells}
+use Rattle.std.proofs.Common.{◌≡◌, ◌≢◌, ℕ, ◌+◌, ◌<◌, ◌≤◌, Option, None, lit<, true≢false, List, [], ◌∷◌, ◌++◌, length, IsSome, take, refl, ap, sym, ◌∙◌, subst, inl, inr, arith}
+use Rattle.std.proofs.lemmas.Bool.Decides.{eqb_tells}
 use Rattle.art_nodes.specs.Name.{Name}
 use Rattle.art_nodes.specs.InnerNode.{IsAscending, IsAscendingFrom, child_at}
 use Rattle.art_nodes.specs.Kind.{row_of, grown_kind}
 use Rattle.art_nodes.specs.declared.kind.NodeType.{NodeType}
-use Rattle.art_nodes.specs.declared.kind.NodeType.TheVariants.{Node4, Node16, Node48, Node256, Leaf}
+use Rattle.art_nodes.specs.declared.kind.NodeType.TheVariants.{Node256, Leaf}
 use Rattle.art_nodes.specs.declared.replaying.ChildCommand.{ChildCommand}
 use Rattle.art_nodes.specs.declared.replaying.ChildAnswer.{ChildAnswer}
 use Rattle.art_nodes.specs.Replay.{IsChildAnswer, AreChildAnswers, children_after}
 
 -- ascending bytes from `low` on are at most as many as there are such bytes
-as_many : (low : ℕ) (children : List (ℕ × Name)) → low ≤ 256 → IsAscendingFrom low children → low + length children ≤ 256
-as_many low [] fits rises = omega (arith, fits)
-as_many low (c ∷ children) fits rises = omega (arith, rises.0, as_many (c.0 + 1) children (omega (arith, rises.1)) rises.2)
+pub at_most_256 : (low : ℕ) (children : List (ℕ × Name)) → low ≤ 256 → IsAscendingFrom low children → low + length children ≤ 256
+at_most_256 low [] fits rises = omega (arith, fits)
+at_most_256 low (c ∷ children) fits rises = omega (arith, rises.0, at_most_256 (c.0 + 1) children (omega (arith, rises.1)) rises.2)
 
 -- where they are as many, each such byte has a child
-each_held : (low byte : ℕ) (children : List (ℕ × Name)) → IsAscendingFrom low children → low + length children ≡ 256 → low ≤ byte → byte < 256 → IsSome (child_at children byte)
-each_held low byte [] rises count from fits = absurd (omega (arith, count, from, fits))
-each_held low byte (c ∷ children) rises count from fits =
-    let rest = as_many (c.0 + 1) children (omega (arith, rises.1)) rises.2 in
+pub each_byte_held : (low byte : ℕ) (children : List (ℕ × Name)) → IsAscendingFrom low children → low + length children ≡ 256 → low ≤ byte → byte < 256 → IsSome (child_at children byte)
+each_byte_held low byte [] rises count from fits = absurd (omega (arith, count, from, fits))
+each_byte_held low byte (c ∷ children) rises count from fits =
+    let rest = at_most_256 (c.0 + 1) children (omega (arith, rises.1)) rises.2 in
     elim (eqb_tells c.0 byte) [
       | inl here ↦ rw here.0 refl
-      | inr away ↦ rw away.0 (each_held (c.0 + 1) byte children rises.2 (omega (arith, rises.0, count, rest)) (omega (arith, rises.0, count, rest, from, away.1)) fits)
+      | inr away ↦ rw away.0 (each_byte_held (c.0 + 1) byte children rises.2 (omega (arith, rises.0, count, rest)) (omega (arith, rises.0, count, rest, from, away.1)) fits)
     ]
 
 -- a full node of an inner kind that has no child under a byte isn't of the largest kind
 pub isn't_largest : (kind : NodeType) (byte : ℕ) (children : List (ℕ × Name)) → kind ≢ Leaf → IsAscending children → byte < 256
     → child_at children byte ≡ None → length children ≡ (row_of kind).most → IsSome (row_of kind).larger
-isn't_largest Node4 byte children inner rises fits vacant full = refl
-isn't_largest Node16 byte children inner rises fits vacant full = refl
-isn't_largest Node48 byte children inner rises fits vacant full = refl
 isn't_largest Node256 byte children inner rises fits vacant full =
-    let held = each_held 0 byte children rises (omega (arith, full)) (omega arith) fits in
+    let held = each_byte_held 0 byte children rises (omega (arith, full)) (omega arith) fits in
     absurd (true≢false (sym (subst (λ (child : Option Name). IsSome child) vacant held)))
 isn't_largest Leaf byte children inner rises fits vacant full = absurd (inner refl)
+isn't_largest kind byte children inner rises fits vacant full = refl
 
 -- a larger kind has room for one child more than a full node
 pub room_when_grown : (kind : NodeType) → IsSome (row_of kind).larger → (row_of kind).most < (row_of (grown_kind kind)).most
-room_when_grown Node4 larger = lit< tt
-room_when_grown Node16 larger = lit< tt
-room_when_grown Node48 larger = lit< tt
 room_when_grown Node256 larger = absurd (true≢false (sym larger))
 room_when_grown Leaf larger = absurd (true≢false (sym larger))
+room_when_grown kind larger = lit< tt
 
 -- the children after these commands
 abbrev pub children_after_all : List (ℕ × Name) → List ChildCommand → List (ℕ × Name)

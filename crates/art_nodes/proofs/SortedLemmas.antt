@@ -11,13 +11,13 @@ use Rattle.art_nodes.specs.Name.{Name}
 use Rattle.art_nodes.specs.inner.Place.{StandsAt, BelongsAt}
 use Rattle.art_nodes.specs.inner.Sorted.{IsSideBySide}
 use Rattle.art_nodes.proofs.PlaceLemmas.{place-within}
-use Rattle.art_nodes.proofs.ChildLemmas.{Held, held, Absent, absent, length-zip_same, length-ascending, IsAscendingFrom-with_child, IsAscendingFrom-without_child}
+use Rattle.art_nodes.proofs.ChildLemmas.{StandsAmong, held, Absent, absent, length-zip_same, length-ascending, IsAscendingFrom-with_child, IsAscendingFrom-without_child}
 
-abbrev pub node_of : Header → List ℕ → List Name → InnerNode
-node_of header keys names = record { header = header; children = zip keys names }
+abbrev pub sorted_node : Header → List ℕ → List Name → InnerNode
+sorted_node header keys names = record { header = header; children = zip keys names }
 
 -- such a node is an inner node
-pub IsInnerNode-sorted : (prefix_room room : ℕ) (header : Header) (keys : List ℕ) (names : List Name) → IsHeader prefix_room header → IsSideBySide room header keys names → IsInnerNode prefix_room room (node_of header keys names)
+pub IsInnerNode-sorted : (prefix_room room : ℕ) (header : Header) (keys : List ℕ) (names : List Name) → IsHeader prefix_room header → IsSideBySide room header keys names → IsInnerNode prefix_room room (sorted_node header keys names)
 IsInnerNode-sorted prefix_room room header keys names is_header side =
     let long = length-zip_same keys names side.same_length in
     record { header = is_header; counts = side.counts ∙ sym long; ascending = side.ascending; fits = rw long side.fits }
@@ -25,7 +25,7 @@ IsInnerNode-sorted prefix_room room header keys names is_header side =
 -- a node after an edit: it is held as it should be, and means the edited children
 pub record Becomes (room : ℕ) (header : Header) (keys : List ℕ) (names : List Name) (node : InnerNode) (children : List (ℕ × Name)) : Type 0 where
   pub side : IsSideBySide room header keys names
-  pub view : node_of header keys names ≡ with_children node children
+  pub view : sorted_node header keys names ≡ with_children node children
 
 -- a byte that stands among the bytes is a byte
 bound : (low : ℕ) (keys : List ℕ) (names : List Name) → length keys ≡ length names → IsAscendingFrom low (zip keys names) → (at : ℕ) {byte : ℕ} → at < length keys → slice_index keys at ≡ byte → byte < 256
@@ -69,7 +69,7 @@ found-nowhere keys names byte same is = elim (leb_tells (suc (position_or_len (�
 ]
 
 module _ (room : ℕ) (header : Header) (keys : List ℕ) (names : List Name) (byte at : ℕ) (side : IsSideBySide room header keys names) where
-  here : StandsAt keys byte at → Held keys names byte
+  here : StandsAt keys byte at → StandsAmong keys names byte
   here stands = held 0 keys names byte side.same_length side.ascending (rw stands.is_place at stands.within) (rw stands.is_place at stands.here)
 
   away : BelongsAt keys byte at → Absent keys names byte
@@ -82,11 +82,11 @@ module _ (room : ℕ) (header : Header) (keys : List ℕ) (names : List Name) (b
   pub found_nowhere : BelongsAt keys byte at → None ≡ child_at (zip keys names) byte
   found_nowhere belongs = sym ((away belongs).found)
 
-  pub unchanged : BelongsAt keys byte at → node_of header keys names ≡ with_children (node_of header keys names) (without_child (zip keys names) byte)
-  unchanged belongs = rw (away belongs).removed ((counted room header keys names (node_of header keys names) (zip keys names) side refl refl).view)
+  pub unchanged : BelongsAt keys byte at → sorted_node header keys names ≡ with_children (sorted_node header keys names) (without_child (zip keys names) byte)
+  unchanged belongs = rw (away belongs).removed ((counted room header keys names (sorted_node header keys names) (zip keys names) side refl refl).view)
 
   -- a child in place of another
-  pub replaced : (name : Name) → StandsAt keys byte at → Becomes room header keys (slice_set names at name) (node_of header keys names) (with_child (zip keys names) byte name)
+  pub replaced : (name : Name) → StandsAt keys byte at → Becomes room header keys (slice_set names at name) (sorted_node header keys names) (with_child (zip keys names) byte name)
   replaced name stands =
       let zips : zip keys (slice_set names at name) ≡ with_child (zip keys names) byte name = rw stands.is_place (sym ((here stands).written name)) in
       let fits : byte < 256 = bound 0 keys names side.same_length side.ascending at stands.within stands.here in
@@ -96,10 +96,10 @@ module _ (room : ℕ) (header : Header) (keys : List ℕ) (names : List Name) (b
         ascending = rw zips (IsAscendingFrom-with_child 0 (zip keys names) byte name zero-le fits side.ascending);
         fits = side.fits;
       } in
-      counted room header keys (slice_set names at name) (node_of header keys names) (with_child (zip keys names) byte name) new zips refl
+      counted room header keys (slice_set names at name) (sorted_node header keys names) (with_child (zip keys names) byte name) new zips refl
 
   -- a new child
-  pub added : (name : Name) → BelongsAt keys byte at → at ≤ length keys → byte < 256 → length keys < room → Becomes room (record header { num_children = header.num_children + 1 }) (insert keys at byte) (insert names at name) (node_of header keys names) (with_child (zip keys names) byte name)
+  pub added : (name : Name) → BelongsAt keys byte at → at ≤ length keys → byte < 256 → length keys < room → Becomes room (record header { num_children = header.num_children + 1 }) (insert keys at byte) (insert names at name) (sorted_node header keys names) (with_child (zip keys names) byte name)
   added name belongs within fits less =
       let zips : zip (insert keys at byte) (insert names at name) ≡ with_child (zip keys names) byte name = rw belongs.is_place (sym ((away belongs).written name)) in
       let within_names : at ≤ length names = omega (arith, side.same_length) in
@@ -109,10 +109,10 @@ module _ (room : ℕ) (header : Header) (keys : List ℕ) (names : List Name) (b
         ascending = rw zips (IsAscendingFrom-with_child 0 (zip keys names) byte name zero-le fits side.ascending);
         fits = rw (length-insert keys at byte within) (omega arith);
       } in
-      counted room (record header { num_children = header.num_children + 1 }) (insert keys at byte) (insert names at name) (node_of header keys names) (with_child (zip keys names) byte name) new zips refl
+      counted room (record header { num_children = header.num_children + 1 }) (insert keys at byte) (insert names at name) (sorted_node header keys names) (with_child (zip keys names) byte name) new zips refl
 
   -- a child less
-  pub removed : StandsAt keys byte at → Becomes room (record header { num_children = header.num_children - 1 }) (remove keys at) (remove names at) (node_of header keys names) (without_child (zip keys names) byte)
+  pub removed : StandsAt keys byte at → Becomes room (record header { num_children = header.num_children - 1 }) (remove keys at) (remove names at) (sorted_node header keys names) (without_child (zip keys names) byte)
   removed stands =
       let zips : zip (remove keys at) (remove names at) ≡ without_child (zip keys names) byte = rw stands.is_place (sym ((here stands).removed)) in
       let within_names : at < length names = omega (arith, stands.within, side.same_length) in
@@ -124,7 +124,7 @@ module _ (room : ℕ) (header : Header) (keys : List ℕ) (names : List Name) (b
         ascending = rw zips (IsAscendingFrom-without_child 0 (zip keys names) byte side.ascending);
         fits = omega (arith, fewer, side.fits);
       } in
-      counted room (record header { num_children = header.num_children - 1 }) (remove keys at) (remove names at) (node_of header keys names) (without_child (zip keys names) byte) new zips refl
+      counted room (record header { num_children = header.num_children - 1 }) (remove keys at) (remove names at) (sorted_node header keys names) (without_child (zip keys names) byte) new zips refl
 
   -- where a child may be written and none stands, there is room for one more
   pub room_there : BelongsAt keys byte at → ((length (zip keys names) < room) ⊎ IsSome (child_at (zip keys names) byte)) → length keys < room

@@ -1,44 +1,37 @@
 -- A clone of an arena holds a clone of its tree.
-use Rattle.std.proofs.Common.{◌≡◌, ℕ, ◌+◌, cond, List, [], ◌∷◌, ◌++◌, map, length, take, Option, Some, None, is_some, refl, sym, ap, ap₂, subst, ◌∙◌, arith}
+use Rattle.std.proofs.Common.{◌≡◌, ℕ, ◌+◌, cond, List, [], ◌∷◌, ◌++◌, length, take, Option, Some, None, is_some, refl, sym, ap, ap₂, subst, ◌∙◌, arith}
 use Rattle.art_bytes.specs.Keys.{BeginsWith}
-use Rattle.art_nodes.specs.Leaf.{IsLeafClone}
 use Rattle.art_nodes.specs.Name.{Name}
 use Rattle.art_nodes.specs.InnerNode.{InnerNode}
-use Rattle.art_nodes.specs.declared.leaf.LeafNode.{LeafNode}
 use Rattle.art_arena.specs.tree.Kinds.{IsKindOf}
 use Rattle.art_arena.specs.arena.Arena.{Arena, Held, leaf_held, inner_held, held_at, cell_of, links_of, node_at, links_at}
 use Rattle.art_arena.specs.arena.ArenaClones.{IsHeldClone, IsArenaClone}
-use Rattle.art_arena.specs.arena.Cells.{Cell, pair, branches, leaf_name, copies, AreHeld, Holds}
+use Rattle.art_arena.specs.arena.Cells.{Cell, leaf_name, copies, AreHeld}
 use Rattle.art_arena.specs.arena.Linked.{Links, AreLinked, first_slot}
 use Rattle.art_arena.specs.arena.Shapes.{Shape, Branches, leaf_at, inner_at, no_branch, branch, LeafAt, name_of, width, children_at, node_of, leaves, leaves_in, cells, cells_in, IsUnder, AreUnder}
 use Rattle.art_arena.specs.arena.Stores.{StoresOnly}
 use Rattle.art_arena.proofs.tree.Order.{all_append, all_left, all_right}
 use Rattle.art_arena.proofs.shapes.CellLists.{copies-append}
-use Rattle.art_arena.proofs.shapes.Subtrees.{inner_of, pair_of, HoldsPair}
+use Rattle.art_arena.proofs.shapes.Subtrees.{inner_of, holds_pair, HoldsPair}
 use Rattle.art_operations.specs.Clones.{IsShapeClone, AreBranchClones}
+use Rattle.art_arena.proofs.shapes.LinkedLists.{slot_list}
+use Rattle.std.proofs.lemmas.List.{map-append}
 
 module _ {K V : Type 0} where
-  abbrev slots_of : List (LeafAt K V) → List ℕ
-  slots_of ls = map (λ l. l.slot) ls
-
-  slots_of-append : (xs ys : List (LeafAt K V)) → slots_of (xs ++ ys) ≡ slots_of xs ++ slots_of ys
-  slots_of-append [] ys = refl
-  slots_of-append (x ∷ xs) ys = ap (λ ns. x.slot ∷ ns) (slots_of-append xs ys)
-
-  first-same : (xs ys : List (LeafAt K V)) (after : Option ℕ) → slots_of ys ≡ slots_of xs → first_slot ys after ≡ first_slot xs after
+  first-same : (xs ys : List (LeafAt K V)) (after : Option ℕ) → slot_list ys ≡ slot_list xs → first_slot ys after ≡ first_slot xs after
   first-same [] [] after e = refl
   first-same [] (y ∷ ys) after e = absurd (cc)
   first-same (x ∷ xs) [] after e = absurd (cc)
   first-same (x ∷ xs) (y ∷ ys) after e = let same : y.slot ≡ x.slot = cc in ap Some same
 
   -- leaves with the same slab keys and links are linked alike
-  linked-same : (old new : ℕ → Option Links) → ((n : ℕ) → new n ≡ old n) → (before : Option ℕ) (xs ys : List (LeafAt K V)) (after : Option ℕ) → slots_of ys ≡ slots_of xs → AreLinked old before xs after → AreLinked new before ys after
+  linked-same : (old new : ℕ → Option Links) → ((n : ℕ) → new n ≡ old n) → (before : Option ℕ) (xs ys : List (LeafAt K V)) (after : Option ℕ) → slot_list ys ≡ slot_list xs → AreLinked old before xs after → AreLinked new before ys after
   linked-same old new links before [] [] after e linked = tt
   linked-same old new links before [] (y ∷ ys) after e linked = absurd (cc)
   linked-same old new links before (x ∷ xs) [] after e linked = absurd (cc)
   linked-same old new links before (x ∷ xs) (y ∷ ys) after e linked =
       let same : y.slot ≡ x.slot = cc in
-      let rest : slots_of ys ≡ slots_of xs = cc in (
+      let rest : slot_list ys ≡ slot_list xs = cc in (
         links y.slot ∙ ap old same ∙ linked.0 ∙ ap (λ n. Some (record { previous = before; next = n })) (sym (first-same xs ys after rest)),
         linked-same old new links (Some y.slot) xs ys after rest (subst (λ n. AreLinked old (Some n) xs after) (sym same) linked.1),
       )
@@ -64,7 +57,7 @@ module _ {K V : Type 0} (KeyClone : K → K → Type 0) (ValueClone : V → V �
     pub named : name_of twin ≡ name_of s
     pub held : AreHeld (node_at copy) (cells P twin)
     pub names : (n : Name) → copies n (cells P twin) ≡ copies n (cells P s)
-    pub slots : slots_of (leaves twin) ≡ slots_of (leaves s)
+    pub slots : slot_list (leaves twin) ≡ slot_list (leaves s)
     pub under : (path : List ℕ) → IsUnder bytes path s → IsUnder bytes path twin
 
   record ClonedIn (f : Branches K V) : Type 0 where
@@ -74,7 +67,7 @@ module _ {K V : Type 0} (KeyClone : K → K → Type 0) (ValueClone : V → V �
     pub wide : width twins ≡ width f
     pub held : AreHeld (node_at copy) (cells_in P twins)
     pub names : (n : Name) → copies n (cells_in P twins) ≡ copies n (cells_in P f)
-    pub slots : slots_of (leaves_in twins) ≡ slots_of (leaves_in f)
+    pub slots : slot_list (leaves_in twins) ≡ slot_list (leaves_in f)
     pub under : (path : List ℕ) (low : ℕ) → AreUnder bytes path low f → AreUnder bytes path low twins
 
   cloned-leaf : (slot : ℕ) (k : K) (v : V) → HoldsPair (held_at arena (leaf_name slot)) k v → Cloned (leaf_at slot k v)
@@ -113,13 +106,13 @@ module _ {K V : Type 0} (KeyClone : K → K → Type 0) (ValueClone : V → V �
     wide = (let w = later.wide in omega (arith, w));
     held = all_append (λ (c : Name × Cell K V). node_at copy c.0 ≡ Some c.1) (cells P here.twin) (cells_in P later.twins) here.held later.held;
     names = λ n. omega (arith, here.names n, later.names n, copies-append n (cells P here.twin) (cells_in P later.twins), copies-append n (cells P s) (cells_in P rest));
-    slots = slots_of-append (leaves here.twin) (leaves_in later.twins) ∙ ap₂ (λ xs ys. xs ++ ys) here.slots later.slots ∙ sym (slots_of-append (leaves s) (leaves_in rest));
+    slots = map-append (λ l. l.slot) (leaves here.twin) (leaves_in later.twins) ∙ ap₂ (λ xs ys. xs ++ ys) here.slots later.slots ∙ sym (map-append (λ l. l.slot) (leaves s) (leaves_in rest));
     under = λ path low under. (under.0, here.under (path ++ b ∷ []) under.1, later.under path (b + 1) under.2);
   }
 
   mutual
     cloned : (s : Shape K V) → AreHeld (node_at arena) (cells P s) → Cloned s
-    cloned (leaf_at slot k v) held = cloned-leaf slot k v (pair_of (held_at arena (leaf_name slot)) k v held.0)
+    cloned (leaf_at slot k v) held = cloned-leaf slot k v (holds_pair (held_at arena (leaf_name slot)) k v held.0)
     cloned (inner_at n prefix kids) held = cloned-inner n prefix kids held.0 (cloned-in kids held.1)
 
     cloned-in : (f : Branches K V) → AreHeld (node_at arena) (cells_in P f) → ClonedIn f

@@ -3,10 +3,10 @@ use Rattle.std.proofs.Common.{◌≡◌, ℕ, suc, not, Bool, true, false, cond,
 use Rattle.std.specs.List.{AllZip}
 use Rattle.art_nodes.specs.Name.{Name}
 use Rattle.art_arena.specs.arena.Arena.{Arena}
-use Rattle.art_arena.specs.tree.Changes.{IsIn, is_before, put}
+use Rattle.art_arena.specs.tree.Changes.{IsIn, is_before, put_in_order}
 use Rattle.art_arena.specs.arena.Shapes.{key_of}
 use Rattle.art_arena.specs.tree.Shrinks.{Shrinks}
-use Rattle.art_arena.proofs.tree.Paths.{in_map}
+use Rattle.art_arena.proofs.tree.Paths.{in_map, in_unmap}
 use Rattle.art_operations.specs.Commands.{IsAnswered, after}
 use Rattle.art_operations.specs.KeyedLists.{without_key, overlaps, without_overlapping, HasKey, IsBlocked}
 use Rattle.art_operations.specs.Pairs.{HasPairs}
@@ -16,7 +16,7 @@ use Rattle.art_operations.specs.declared.running.Answer.{Answer}
 use Rattle.art_operations.specs.declared.running.Answer.TheVariants.{Done, Prefix, Memory}
 use Rattle.art_operations.specs.declared.running.Change.{Change}
 use Rattle.art_operations.specs.declared.running.Command.TheVariants.{Insert, PrefixInsert, Delete}
-use Rattle.art_operations.proofs.LeafPairs.{in_unmap, shrinks-map, shrinks-unmap}
+use Rattle.art_operations.proofs.LeafPairs.{shrinks-map, shrinks-unmap}
 
 abbrev bytes_of : List ℕ → List ℕ
 bytes_of k = k
@@ -24,7 +24,7 @@ bytes_of k = k
 -- two lists of items with the same keys
 module _ {X : Type 0} (key : X → List ℕ) (xs ys : List X) (same : map key xs ≡ map key ys) where
   in_other : (x : X) → IsIn x xs → (y : X) × IsIn y ys × (key y ≡ key x)
-  in_other x i = in_unmap key bytes_of (key x) ys (subst (IsIn (key x)) same (in_map key x xs i))
+  in_other x i = in_unmap key (key x) ys (subst (IsIn (key x)) same (in_map key x xs i))
 
   blocked_other : (k : List ℕ) → IsBlocked key k xs → IsBlocked key k ys
   blocked_other k (x, i, c) = let other = in_other x i in (other.0, other.1, rw other.2 c)
@@ -64,13 +64,13 @@ module _ {X : Type 0} (R : X → X → Type 0) (key : X → List ℕ) (same : (x
   many_both : (test : List ℕ → Bool) (xs ys : List X) → AllZip R xs ys → length (filter (λ x. test (key x)) ys) ≡ length (filter (λ x. test (key x)) xs)
   many_both test xs ys h = as_many (filter (λ x. test (key x)) xs) (filter (λ x. test (key x)) ys) (filter_both test xs ys h)
 
-  put_both : (x y : X) → R x y → (xs ys : List X) → AllZip R xs ys → AllZip R (put key x xs) (put key y ys)
+  put_both : (x y : X) → R x y → (xs ys : List X) → AllZip R xs ys → AllZip R (put_in_order key x xs) (put_in_order key y ys)
   put_both x y r [] [] h = (r, tt)
   put_both x y r [] (b ∷ ys) h = absurd h
   put_both x y r (a ∷ xs) [] h = absurd h
   put_both x y r (a ∷ xs) (b ∷ ys) h = rw (same x y r, same a b h.0) (step (is_before (key x) (key a)) (put_both x y r xs ys h.1))
     where
-      step : (t : Bool) → AllZip R (put key x xs) (put key y ys) → AllZip R (cond t (x ∷ a ∷ xs) (a ∷ put key x xs)) (cond t (y ∷ b ∷ ys) (b ∷ put key y ys))
+      step : (t : Bool) → AllZip R (put_in_order key x xs) (put_in_order key y ys) → AllZip R (cond t (x ∷ a ∷ xs) (a ∷ put_in_order key x xs)) (cond t (y ∷ b ∷ ys) (b ∷ put_in_order key y ys))
       step true both = (r, h)
       step false both = (h.0, both)
 

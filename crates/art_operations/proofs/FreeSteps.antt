@@ -1,26 +1,20 @@
 -- What each step of a free leaves.
-use Rattle.std.proofs.Common.{◌≡◌, ◌≢◌, ℕ, suc, ◌+◌, ◌<◌, ◌≤◌, Bool, true, false, cond, List, [], ◌∷◌, ◌++◌, length, take, Option, Some, None, IsSome, refl, sym, ap, subst, ◌∙◌, inl, inr, arith, append_assoc, length-append}
-use Rattle.std.proofs.lemmas.List.{append-nil}
+use Rattle.std.proofs.Common.{◌≡◌, ◌≢◌, ℕ, suc, ◌+◌, ◌<◌, Bool, List, [], ◌∷◌, ◌++◌, length, take, Option, Some, None, refl, sym, ap, subst, ◌∙◌, arith, append_assoc, length-append}
 use Rattle.art_nodes.specs.declared.kind.NodeType.TheVariants.{Leaf}
-use Rattle.art_nodes.specs.InnerNode.{InnerNode, IsAscending, child_at, without_child, with_child, with_children, first_child, last_child}
+use Rattle.art_nodes.specs.InnerNode.{InnerNode, first_child}
 use Rattle.art_nodes.specs.Name.{Name}
 use Rattle.art_arena.specs.arena.Arena.{Arena, inner_held, held_at, node_at}
-use Rattle.art_arena.specs.arena.Cells.{Cell, branches, leaf_name, copies, UpdatesAt, AreHeld, Holds}
-use Rattle.art_arena.specs.arena.Context.{Frame, fill, plug, root_of, frame_cell, cells_before, cells_after, AreBelow}
-use Rattle.art_arena.specs.arena.Shapes.{Shape, Branches, leaf_at, inner_at, no_branch, branch, name_of, children_at, join, node_of, cells, cells_in}
-use Rattle.art_arena.specs.arena.Steps.{Step, steps_to}
-use Rattle.art_arena.proofs.tree.Order.{all_append, all_left, all_right}
-use Rattle.art_arena.proofs.shapes.CellLists.{same_name_tells, copies-append, Holds-write}
-use Rattle.art_arena.proofs.shapes.Contexts.{children_at-join, cells_in-join, cells-plug, name_of-plug}
+use Rattle.art_arena.specs.arena.Cells.{Cell, branches, Holds}
+use Rattle.art_arena.specs.arena.Context.{Frame, plug, cells_before}
+use Rattle.art_arena.specs.arena.Shapes.{Shape, Branches, leaf_at, inner_at, no_branch, branch, name_of, children_at, cells, cells_in}
+use Rattle.art_arena.specs.arena.Steps.{steps_to}
 use Rattle.art_arena.proofs.shapes.HeldLeaves.{no_inner}
-use Rattle.art_arena.proofs.shapes.Repoint.{repointed, frame_node, frame-there, frame-child, repoint}
-use Rattle.art_arena.proofs.shapes.Subtrees.{inner_of, branch-last, branch-first}
-use Rattle.art_arena.proofs.shapes.Updates.{nodes-update}
-use Rattle.art_operations.specs.Frees.{cells_with, cells_with_in, KeepsAllBut}
+use Rattle.art_arena.proofs.shapes.Subtrees.{inner_of, branch-first}
+use Rattle.art_operations.specs.Frees.{cells_with}
 use Rattle.art_operations.specs.declared.deallocate.Bottom.{Bottom}
-use Rattle.art_operations.specs.inner.Freeing.{step_in, IsChildless, AreFirst, IsBottom, FreesRoot, HoldsPart, HoldsBoth, HoldsOneLess}
+use Rattle.art_operations.specs.inner.Freeing.{step_in, IsChildless, AreFirst, IsBottom, HoldsPart}
 use Rattle.art_arena.proofs.shapes.CellLists.{Holds-turn}
-use Rattle.art_operations.proofs.Freeing.{without-last, with-join, after_with, with-plug, root_cells, below_root, with-root, childless-cells, childless-one, freed_root, apart-from, kept_root}
+use Rattle.art_operations.proofs.Freeing.{after_with, with-plug}
 use Rattle.art_operations.proofs.FreedSizes.{size_of, size-part}
 
 module _ {K V : Type 0} (P : ℕ) (w : Bool) (arena : Arena K V) where

@@ -1,10 +1,9 @@
 -- The nodes of a tree are freed one after the other: what is left meanwhile, and in the end.
-use Rattle.std.proofs.Common.{◌≡◌, ℕ, suc, ◌+◌, ◌<◌, ◌≤◌, Bool, true, false, List, [], ◌∷◌, ◌++◌, length, Option, Some, None, refl, sym, ap, subst, ◌∙◌, arith}
+use Rattle.std.proofs.Common.{◌≡◌, ℕ, ◌+◌, ◌<◌, ◌≤◌, Bool, true, false, List, ◌∷◌, ◌++◌, length, refl, sym, ap, subst, ◌∙◌, arith}
 use Rattle.art_nodes.specs.Name.{Name}
-use Rattle.art_arena.specs.arena.Arena.{Arena, held_at, node_at, leaves_held}
+use Rattle.art_arena.specs.arena.Arena.{Arena, node_at, leaves_held}
 use Rattle.art_arena.specs.arena.Cells.{Cell, copies, Holds}
 use Rattle.art_arena.specs.arena.Shapes.{Shape, Branches, leaf_at, inner_at, no_branch, branch, leaves, children_at, node_of, cells, cells_in}
-use Rattle.art_nodes.specs.declared.kind.NodeType.TheVariants.{Leaf}
 use Rattle.art_arena.proofs.shapes.HeldLeaves.{leaves_beside, leaves_counted}
 use Rattle.art_operations.specs.Frees.{cells_with, cells_with_in, KeepsAllBut, HoldsBeside, HoldsInnerBeside}
 use Rattle.art_operations.specs.inner.Freeing.{HoldsPart, HoldsOneLess}

@@ -1,20 +1,20 @@
 -- One node of a tree is freed: what is left under which name.
-use Rattle.std.proofs.Common.{◌≡◌, ◌≢◌, ℕ, suc, ◌+◌, ◌≤◌, Bool, List, [], ◌∷◌, ◌++◌, length, Option, Some, None, refl, sym, ap, subst, ◌∙◌, arith, append_assoc, length-append}
+use Rattle.std.proofs.Common.{◌≡◌, ℕ, suc, ◌+◌, Bool, List, [], ◌∷◌, ◌++◌, length, Some, None, refl, sym, ap, subst, ◌∙◌, arith, append_assoc, length-append}
 use Rattle.std.proofs.lemmas.List.{append-nil}
 use Rattle.art_nodes.specs.declared.kind.NodeType.TheVariants.{Leaf}
 use Rattle.art_nodes.specs.InnerNode.{InnerNode, IsAscending, without_child, with_children, last_child}
 use Rattle.art_nodes.specs.Name.{Name}
 use Rattle.art_arena.specs.arena.Arena.{Arena, inner_held, held_at, node_at}
-use Rattle.art_arena.specs.arena.Cells.{Cell, branches, copies, UpdatesAt, Holds}
-use Rattle.art_arena.specs.arena.Shapes.{Shape, Branches, leaf_at, inner_at, no_branch, branch, name_of, children_at, join, node_of, cells, cells_in}
+use Rattle.art_arena.specs.arena.Cells.{Cell, copies, UpdatesAt, Holds}
+use Rattle.art_arena.specs.arena.Shapes.{Shape, Branches, inner_at, no_branch, branch, name_of, children_at, join, node_of, cells, cells_in}
 use Rattle.art_arena.proofs.shapes.CellLists.{copies-append, Holds-write}
 use Rattle.art_arena.proofs.shapes.Contexts.{children_at-join, cells_in-join}
 use Rattle.art_arena.proofs.shapes.Subtrees.{branch-last}
 use Rattle.art_arena.proofs.shapes.Updates.{nodes-update}
 use Rattle.art_operations.specs.Frees.{cells_with, cells_with_in, KeepsAllBut}
 use Rattle.art_operations.specs.inner.Freeing.{IsChildless, FreesRoot, HoldsPart, HoldsBoth, HoldsOneLess}
-use Rattle.art_operations.proofs.Freeing.{without-last, with-join, root_cells, childless-cells, freed_root, apart-from, kept_root}
-use Rattle.art_operations.proofs.FreeSteps.{part-leaf, node_in, HasInnerPart, part-inner}
+use Rattle.art_operations.proofs.Freeing.{without-last, with-join, childless-cells, freed_root, apart-from, kept_root}
+use Rattle.art_operations.proofs.FreeSteps.{part-leaf, node_in, HasInnerPart}
 
 module _ {K V : Type 0} (P : ℕ) (w : Bool) (old : Arena K V) (n : Name) (s : Shape K V) (rest : List (Name × Cell K V)) (part : HoldsPart P w old n s rest) where
   -- a leaf, and an inner node without children, have nothing below them

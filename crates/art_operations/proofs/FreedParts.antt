@@ -1,5 +1,5 @@
 -- A tree that an arena holds alone may be freed: as a whole, its leaves as a run, and its inner nodes then.
-use Rattle.std.proofs.Common.{◌≡◌, ℕ, ◌+◌, false, cond, List, [], ◌∷◌, ◌++◌, Option, Some, None, is_some, refl, sym, ap, subst, ◌∙◌, arith}
+use Rattle.std.proofs.Common.{◌≡◌, ℕ, ◌+◌, false, List, [], ◌∷◌, ◌++◌, Option, Some, None, refl, sym, ap, subst, ◌∙◌, arith}
 use Rattle.std.proofs.lemmas.List.{append-nil}
 use Rattle.art_nodes.specs.Name.{Name}
 use Rattle.art_arena.specs.arena.Arena.{Arena, node_at}
@@ -9,7 +9,7 @@ use Rattle.art_arena.specs.arena.Shapes.{Shape, Branches, leaf_at, inner_at, no_
 use Rattle.art_arena.specs.arena.Stores.{StoresOnly}
 use Rattle.art_arena.proofs.tree.Order.{all_append, all_left, all_right}
 use Rattle.art_arena.proofs.shapes.CellLists.{copies-append}
-use Rattle.art_operations.specs.Frees.{leaf_cells, cells_with, cells_with_in, inner_cells, HoldsBeside, HoldsInnerBeside, HoldsRun}
+use Rattle.art_operations.specs.Frees.{leaf_cells, cells_with_in, inner_cells, HoldsBeside, HoldsInnerBeside, HoldsRun}
 
 module _ {K V : Type 0} where
   leaf_cells-append : (xs ys : List (LeafAt K V)) → leaf_cells (xs ++ ys) ≡ leaf_cells xs ++ leaf_cells ys
@@ -29,8 +29,8 @@ module _ {K V : Type 0} (P : ℕ) where
         omega (arith, parts-copies n s, parts-copies-in n rest, copies-append n (cells P s) (cells_in P rest), copies-append n (inner_cells P s) (cells_with_in P false rest), copies-append n (leaf_cells (leaves s)) (leaf_cells (leaves_in rest)), ap (copies n) (leaf_cells-append (leaves s) (leaves_in rest)))
 
   module _ (at : Name → Option (Cell K V)) where
-    abbrev Stands : Name × Cell K V → Type 0
-    Stands c = at c.0 ≡ Some c.1
+    abbrev IsThere : Name × Cell K V → Type 0
+    IsThere c = at c.0 ≡ Some c.1
 
     mutual
       leaves-held : (s : Shape K V) → AreHeld at (cells P s) → AreHeld at (leaf_cells (leaves s))
@@ -41,7 +41,7 @@ module _ {K V : Type 0} (P : ℕ) where
       leaves-held-in no_branch held = tt
       leaves-held-in (branch byte s rest) held =
           subst (AreHeld at) (sym (leaf_cells-append (leaves s) (leaves_in rest)))
-          (all_append Stands (leaf_cells (leaves s)) (leaf_cells (leaves_in rest)) (leaves-held s (all_left Stands (cells P s) (cells_in P rest) held)) (leaves-held-in rest (all_right Stands (cells P s) (cells_in P rest) held)))
+          (all_append IsThere (leaf_cells (leaves s)) (leaf_cells (leaves_in rest)) (leaves-held s (all_left IsThere (cells P s) (cells_in P rest) held)) (leaves-held-in rest (all_right IsThere (cells P s) (cells_in P rest) held)))
 
     mutual
       inner-held : (s : Shape K V) → AreHeld at (cells P s) → AreHeld at (inner_cells P s)
@@ -51,11 +51,11 @@ module _ {K V : Type 0} (P : ℕ) where
       inner-held-in : (f : Branches K V) → AreHeld at (cells_in P f) → AreHeld at (cells_with_in P false f)
       inner-held-in no_branch held = tt
       inner-held-in (branch byte s rest) held =
-          all_append Stands (inner_cells P s) (cells_with_in P false rest) (inner-held s (all_left Stands (cells P s) (cells_in P rest) held)) (inner-held-in rest (all_right Stands (cells P s) (cells_in P rest) held))
+          all_append IsThere (inner_cells P s) (cells_with_in P false rest) (inner-held s (all_left IsThere (cells P s) (cells_in P rest) held)) (inner-held-in rest (all_right IsThere (cells P s) (cells_in P rest) held))
 
     parts-hold : (s : Shape K V) → Holds at (cells P s) → Holds at (leaf_cells (leaves s) ++ inner_cells P s)
     parts-hold s holds = record {
-      held = all_append Stands (leaf_cells (leaves s)) (inner_cells P s) (leaves-held s holds.held) (inner-held s holds.held);
+      held = all_append IsThere (leaf_cells (leaves s)) (inner_cells P s) (leaves-held s holds.held) (inner-held s holds.held);
       once = λ n.
           let same : copies n (leaf_cells (leaves s) ++ inner_cells P s) ≡ copies n (cells P s) = omega (arith, parts-copies n s, copies-append n (leaf_cells (leaves s)) (inner_cells P s)) in
           same ∙ holds.once n;

@@ -1,5 +1,5 @@
 -- The leaves of a linked run are freed from its first to its last.
-use Rattle.std.proofs.Common.{◌≡◌, ◌≢◌, ℕ, suc, ◌+◌, ◌<◌, ◌≤◌, List, [], ◌∷◌, ◌++◌, length, Option, Some, None, IsSome, cond, nat_eq, if◌then◌else◌, refl, sym, ap, subst, ◌∙◌, arith}
+use Rattle.std.proofs.Common.{◌≡◌, ◌≢◌, ℕ, ◌+◌, ◌<◌, ◌≤◌, List, [], ◌∷◌, ◌++◌, length, Option, Some, None, IsSome, nat_eq, if◌then◌else◌, refl, sym, ap, subst, ◌∙◌, arith}
 use Rattle.art_nodes.specs.declared.kind.NodeType.TheVariants.{Leaf}
 use Rattle.art_nodes.specs.declared.leaf.LeafNode.{LeafNode}
 use Rattle.art_nodes.specs.Name.{Name}
@@ -14,6 +14,7 @@ use Rattle.art_arena.proofs.shapes.Measures.{slots_as}
 use Rattle.art_arena.proofs.shapes.Updates.{nodes-update, links-update}
 use Rattle.art_operations.specs.Frees.{leaf_cells, HoldsRun, KeepsAllBut}
 use Rattle.art_operations.proofs.Freeing.{apart-from}
+use Rattle.art_arena.proofs.shapes.Subtrees.{cell_held}
 
 module _ {K V : Type 0} where
   -- these leaves of the run are left
@@ -47,12 +48,8 @@ module _ {K V : Type 0} where
         there = ap (λ n. node_at now (leaf_name n)) (sym same) ∙ run.holds.held.0;
       }
 
-  held_of : (o : Option (Held K V)) (c : Cell K V) → cell_of o ≡ Some c → IsSome o
-  held_of None c e = absurd (cc)
-  held_of (Some h) c e = refl
-
   pub run-held : (now : Arena K V) (first last : ℕ) (ls : List (LeafAt K V)) (rest : List (Name × Cell K V)) → HoldsRun now first last ls rest → IsSome (held_at now (leaf_name first))
-  run-held now first last ls rest run = let of = run-first now first last ls rest run in held_of (held_at now (leaf_name first)) (pair of.key of.value) of.there
+  run-held now first last ls rest run = let of = run-first now first last ls rest run in cell_held (held_at now (leaf_name first)) (pair of.key of.value) of.there
 
   -- the last leaf of a list stands in it
   last-in : (f m : ℕ) (l : LeafAt K V) (ls : List (LeafAt K V)) → last_slot (Some m) (l ∷ ls) ≡ Some f → 1 ≤ copies (leaf_name f) (leaf_cells (l ∷ ls))
@@ -97,8 +94,8 @@ module _ {K V : Type 0} where
     apart : copies (leaf_name first) (leaf_cells of.more) ≡ 0
     apart = omega (arith, copies-vacant (node_at new) (leaf_cells of.more ++ rest) (leaf_name first) holds_more (ap cell_of updates.changed), copies-append (leaf_name first) (leaf_cells of.more) rest)
 
-    last_of : last_slot (Some first) of.more ≡ Some last
-    last_of = ap (last_slot None) (sym of.is) ∙ run.last_is
+    last_of_more : last_slot (Some first) of.more ≡ Some last
+    last_of_more = ap (last_slot None) (sym of.is) ∙ run.last_is
 
     links_of_first : AreLinked (links_at now) run.before (record { slot = first; key = of.key; value = of.value } ∷ of.more) run.after
     links_of_first = subst (λ xs. AreLinked (links_at now) run.before xs run.after) of.is run.linked
@@ -108,7 +105,7 @@ module _ {K V : Type 0} where
 
     -- where the leaf was the last one nothing of the run is left
     pub run-over : first ≡ last → Holds (node_at new) rest
-    run-over same = subst (λ xs. Holds (node_at new) (leaf_cells xs ++ rest)) (none of.more apart last_of) holds_more
+    run-over same = subst (λ xs. Holds (node_at new) (leaf_cells xs ++ rest)) (none of.more apart last_of_more) holds_more
       where
         none : (more : List (LeafAt K V)) → copies (leaf_name first) (leaf_cells more) ≡ 0 → last_slot (Some first) more ≡ Some last → more ≡ []
         none [] absent e = refl
@@ -120,7 +117,7 @@ module _ {K V : Type 0} where
     run-next ls0 old other names kept next is = with_more of.more refl
       where
         with_more : (more : List (LeafAt K V)) → of.more ≡ more → IsRunLeft old new ls0 next last rest
-        with_more [] e = absurd (other (let f = ap (last_slot (Some first)) (sym e) ∙ last_of in cc))
+        with_more [] e = absurd (other (let f = ap (last_slot (Some first)) (sym e) ∙ last_of_more in cc))
         with_more (l ∷ more) e = record {
           left = l ∷ more;
           run = record {
@@ -130,7 +127,7 @@ module _ {K V : Type 0} where
                 (times-copies first (l ∷ more) ∙ ap (λ xs. copies (leaf_name first) (leaf_cells xs)) (sym e) ∙ apart)
                 (subst (λ xs. AreLinked (links_at now) (Some first) xs run.after) e links_of_first.1);
             first_is = sym (ap (λ xs. first_slot xs run.after) e) ∙ sym next_is ∙ is;
-            last_is = ap (last_slot (Some first)) (sym e) ∙ last_of;
+            last_is = ap (last_slot (Some first)) (sym e) ∙ last_of_more;
             holds = subst (λ xs. Holds (node_at new) (leaf_cells xs ++ rest)) e holds_more;
           };
           names = λ n. omega (arith, names n, ap (copies n) cells_are, ap (λ xs. copies n (leaf_cells xs)) e);
@@ -142,7 +139,7 @@ module _ {K V : Type 0} where
     run-goes-on other none = with_more of.more refl
       where
         with_more : (more : List (LeafAt K V)) → of.more ≡ more → ⊥
-        with_more [] e = other (let f = ap (last_slot (Some first)) (sym e) ∙ last_of in cc)
+        with_more [] e = other (let f = ap (last_slot (Some first)) (sym e) ∙ last_of_more in cc)
         with_more (l ∷ more) e = let f = sym none ∙ next_is ∙ ap (λ xs. first_slot xs run.after) e in cc
 
     pub run-end : (ls0 : List (LeafAt K V)) (old : Arena K V) → ((n : Name) → copies n (leaf_cells ls) ≤ copies n (leaf_cells ls0)) → KeepsAllBut (leaf_cells ls0) old now → KeepsAllBut (leaf_cells ls0) old new

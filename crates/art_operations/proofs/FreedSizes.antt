@@ -1,32 +1,28 @@
 -- How many nodes a shape has, told by the arena alone, whether its leaves are held or not: the measure of a walk, and
 -- of frees.
-use Rattle.std.proofs.Common.{◌≡◌, ◌≢◌, ℕ, zero, suc, ◌+◌, ◌<◌, ◌≤◌, Bool, true, false, cond, List, [], ◌∷◌, ◌++◌, length, Option, Some, None, is_some, refl, sym, ap, ◌∙◌, arith, length-append}
+use Rattle.std.proofs.Common.{◌≡◌, ℕ, zero, suc, ◌≤◌, Bool, cond, List, length, Option, Some, None, is_some, refl, sym, ap, ◌∙◌, arith, length-append}
 use Rattle.art_nodes.specs.Name.{Name}
 use Rattle.art_arena.specs.arena.Arena.{Arena, node_at}
-use Rattle.art_arena.specs.arena.Cells.{Cell, pair, branches, leaf_name, copies, AreHeld, Holds}
+use Rattle.art_arena.specs.arena.Cells.{Cell, pair, branches, leaf_name, AreHeld}
 use Rattle.art_arena.specs.arena.Shapes.{Shape, Branches, leaf_at, inner_at, no_branch, branch, name_of, children_at, cells, cells_in}
 use Rattle.art_arena.proofs.tree.Order.{all_left, all_right}
 use Rattle.art_arena.proofs.shapes.CellLists.{copies-append}
 use Rattle.art_arena.proofs.shapes.HeldLeaves.{no_inner}
-use Rattle.art_arena.proofs.shapes.Measures.{slots_of, held_few}
+use Rattle.art_arena.proofs.shapes.Measures.{slots_of, held_few, total}
 use Rattle.art_operations.specs.Frees.{cells_with, cells_with_in}
 use Rattle.art_operations.specs.inner.Freeing.{HoldsPart}
 
-abbrev sum_over : (Name → ℕ) → List (ℕ × Name) → ℕ
-sum_over f [] = 0
-sum_over f (c ∷ rest) = f c.1 + sum_over f rest
-
 module _ {K V : Type 0} where
-  abbrev size_at : (Name → ℕ) → Option (Cell K V) → ℕ
-  size_at f None = 1
-  size_at f (Some (pair k v)) = 1
-  size_at f (Some (branches node)) = suc (sum_over f node.children)
+  abbrev size_of_held : (Name → ℕ) → Option (Cell K V) → ℕ
+  size_of_held f None = 1
+  size_of_held f (Some (pair k v)) = 1
+  size_of_held f (Some (branches node)) = suc (total f node.children)
 
   -- the number of nodes below a name, itself included, as far as this many steps down show it; what isn't held counts
   -- as a leaf
   abbrev size_below : ℕ → (Name → Option (Cell K V)) → Name → ℕ
   size_below zero at n = 1
-  size_below (suc fuel) at n = size_at (size_below fuel at) (at n)
+  size_below (suc fuel) at n = size_of_held (size_below fuel at) (at n)
 
   -- so many nodes a shape has whose root has this name
   abbrev pub size_of : Arena K V → Name → ℕ
@@ -37,9 +33,9 @@ module _ {K V : Type 0} where
     size-leaf zero slot = refl
     size-leaf (suc fuel) slot = here (node_at arena (leaf_name slot)) refl
       where
-        here : (o : Option (Cell K V)) → node_at arena (leaf_name slot) ≡ o → size_at (size_below fuel (node_at arena)) (node_at arena (leaf_name slot)) ≡ 1
-        here None e = ap (size_at (size_below fuel (node_at arena))) e
-        here (Some (pair k v)) e = ap (size_at (size_below fuel (node_at arena))) e
+        here : (o : Option (Cell K V)) → node_at arena (leaf_name slot) ≡ o → size_of_held (size_below fuel (node_at arena)) (node_at arena (leaf_name slot)) ≡ 1
+        here None e = ap (size_of_held (size_below fuel (node_at arena))) e
+        here (Some (pair k v)) e = ap (size_of_held (size_below fuel (node_at arena))) e
         here (Some (branches node)) e = absurd (no_inner arena (leaf_name slot) node refl e)
 
     mutual
@@ -47,10 +43,10 @@ module _ {K V : Type 0} where
       size-held fuel (leaf_at slot k v) held low = size-leaf fuel slot
       size-held zero (inner_at n prefix kids) held low = absurd (omega (arith, low))
       size-held (suc fuel) (inner_at n prefix kids) held low =
-          ap (size_at (size_below fuel (node_at arena))) held.0 ∙ ap suc (sizes-held fuel kids held.1 (omega (arith, low)))
+          ap (size_of_held (size_below fuel (node_at arena))) held.0 ∙ ap suc (sizes-held fuel kids held.1 (omega (arith, low)))
 
       sizes-held : (fuel : ℕ) (f : Branches K V) → AreHeld (node_at arena) (cells_with_in P w f) → length (cells_with_in P w f) ≤ fuel
-          → sum_over (size_below fuel (node_at arena)) (children_at f) ≡ length (cells_in P f)
+          → total (size_below fuel (node_at arena)) (children_at f) ≡ length (cells_in P f)
       sizes-held fuel no_branch held low = refl
       sizes-held fuel (branch byte s rest) held low =
           let Q = λ (c : Name × Cell K V). node_at arena c.0 ≡ Some c.1 in

@@ -1,25 +1,17 @@
 -- The nodes of a shape are freed one at a time: what the arena holds after each step.
-use Rattle.std.proofs.Common.{◌≡◌, ◌≢◌, ℕ, suc, ◌+◌, ◌≤◌, Bool, true, false, cond, List, [], ◌∷◌, ◌++◌, length, take, Option, Some, None, IsSome, refl, sym, ap, subst, ◌∙◌, inl, inr, arith, append_assoc, length-append}
+use Rattle.std.proofs.Common.{◌≡◌, ◌≢◌, ℕ, ◌+◌, ◌≤◌, Bool, true, false, cond, List, [], ◌∷◌, ◌++◌, length, None, refl, sym, ap, ◌∙◌, inl, inr, arith, append_assoc}
 use Rattle.std.proofs.lemmas.Bool.Decides.{eqb_tells}
 use Rattle.std.proofs.lemmas.List.{append-nil}
-use Rattle.art_nodes.specs.declared.kind.NodeType.TheVariants.{Leaf}
-use Rattle.art_nodes.specs.InnerNode.{InnerNode, IsAscendingFrom, without_child, with_children, first_child, last_child}
+use Rattle.art_nodes.specs.InnerNode.{IsAscendingFrom, without_child}
 use Rattle.art_nodes.specs.Name.{Name}
-use Rattle.art_arena.specs.arena.Arena.{Arena, inner_held, held_at, node_at, SameNodes}
-use Rattle.art_arena.specs.arena.Cells.{Cell, pair, branches, leaf_name, copies, UpdatesAt, AreHeld, Holds}
-use Rattle.art_arena.specs.arena.Context.{Frame, fill, plug, root_of, frame_cell, cells_before, cells_after, AreBelow}
+use Rattle.art_arena.specs.arena.Arena.{Arena, node_at}
+use Rattle.art_arena.specs.arena.Cells.{Cell, pair, leaf_name, copies, Holds}
+use Rattle.art_arena.specs.arena.Context.{Frame, fill, plug, frame_cell, cells_before}
 use Rattle.art_arena.specs.arena.Shapes.{Shape, Branches, leaf_at, inner_at, no_branch, branch, name_of, children_at, join, node_of, cells, cells_in}
-use Rattle.art_arena.specs.arena.Steps.{Step, steps_to}
-use Rattle.art_arena.proofs.tree.Order.{all_append, all_left, all_right}
-use Rattle.art_arena.proofs.shapes.CellLists.{same_name_tells, copies-append, Holds-remove, Holds-same, Holds-write}
-use Rattle.art_arena.proofs.shapes.Contexts.{children_at-join, cells_in-join, cells-plug, name_of-plug}
-use Rattle.art_arena.proofs.shapes.HeldLeaves.{no_inner}
-use Rattle.art_arena.proofs.shapes.Repoint.{repointed, frame_node, frame-there, frame-child, repoint}
-use Rattle.art_arena.proofs.shapes.Subtrees.{inner_of, branch-last}
+use Rattle.art_arena.proofs.shapes.CellLists.{same_name_tells, Holds-remove, Holds-same}
 use Rattle.art_arena.proofs.shapes.Updates.{nodes-update, nodes-same}
 use Rattle.art_operations.specs.Frees.{cells_with, cells_with_in, KeepsAllBut}
-use Rattle.art_operations.specs.declared.deallocate.Bottom.{Bottom}
-use Rattle.art_operations.specs.inner.Freeing.{step_in, IsChildless, AreFirst, IsBottom, FreesRoot, HoldsPart, HoldsBoth, HoldsOneLess}
+use Rattle.art_operations.specs.inner.Freeing.{IsChildless, AreFirst, FreesRoot}
 
 -- of children by ascending byte the last one is taken out
 pub without-last : {N : Type 0} (low : ℕ) (xs : List (ℕ × N)) (b : ℕ) (m : N) → IsAscendingFrom low (xs ++ (b, m) ∷ []) → (low ≤ b) × (without_child (xs ++ (b, m) ∷ []) b ≡ xs)
@@ -101,10 +93,10 @@ apart-from n m c xs none e = elim (same_name_tells n m) [
   | inr other ↦ other.1 e
 ]
 
-kept_leaf : {K V : Type 0} (P : ℕ) (w : Bool) (old new : Arena K V) (slot : ℕ) (k : K) (v : V) → FreesRoot w old new (leaf_at slot k v) → KeepsAllBut (root_cells P w (leaf_at slot k v)) old new
-kept_leaf P true old new slot k v frees n none = frees.others n (apart-from n (leaf_name slot) (pair k v) [] none)
-kept_leaf P false old new slot k v frees n none = frees n
+kept_lone_leaf : {K V : Type 0} (P : ℕ) (w : Bool) (old new : Arena K V) (slot : ℕ) (k : K) (v : V) → FreesRoot w old new (leaf_at slot k v) → KeepsAllBut (root_cells P w (leaf_at slot k v)) old new
+kept_lone_leaf P true old new slot k v frees n none = frees.others n (apart-from n (leaf_name slot) (pair k v) [] none)
+kept_lone_leaf P false old new slot k v frees n none = frees n
 
 pub kept_root : {K V : Type 0} (P : ℕ) (w : Bool) (old new : Arena K V) (s : Shape K V) → FreesRoot w old new s → KeepsAllBut (root_cells P w s) old new
-kept_root {K} {V} P w old new (leaf_at slot k v) frees = kept_leaf P w old new slot k v frees
+kept_root {K} {V} P w old new (leaf_at slot k v) frees = kept_lone_leaf P w old new slot k v frees
 kept_root {K} {V} P w old new (inner_at n prefix kids) frees = λ m none. frees.others m (apart-from m n (node_of {K = K} {V = V} P prefix (children_at kids)) [] none)

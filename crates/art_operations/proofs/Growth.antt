@@ -19,20 +19,15 @@ use Rattle.art_operations.specs.inner.Waiting.{AwaitsLeaf}
 use Rattle.art_operations.proofs.NewLeaves.{beside-same}
 use Rattle.art_operations.proofs.Waiting.{open_node, inner-kind, node-inner}
 
+-- what holds of one kind holds of the same
+of_next : {a b : NodeType} {n : ℕ} → Some a ≡ Some b → IsKindOf a n → IsKindOf b n
+of_next {a} {b} {n} e is = let same : a ≡ b = cc in subst (λ k. IsKindOf k n) same is
+
 -- a full node's children and one more are of the next larger kind
 pub next-kind : (kind next : NodeType) (n : ℕ) → (row_of kind).larger ≡ Some next → n ≡ (row_of kind).most → IsKindOf next (suc n)
-next-kind Node4 next n larger full = subst (λ k. IsKindOf k (suc n)) (the_kind Node16 next larger) (record { two = omega (arith, full); fewest = omega (arith, full); most = omega (arith, full) })
-  where
-    the_kind : (a b : NodeType) → Some a ≡ Some b → a ≡ b
-    the_kind a b e = cc
-next-kind Node16 next n larger full = subst (λ k. IsKindOf k (suc n)) (the_kind Node48 next larger) (record { two = omega (arith, full); fewest = omega (arith, full); most = omega (arith, full) })
-  where
-    the_kind : (a b : NodeType) → Some a ≡ Some b → a ≡ b
-    the_kind a b e = cc
-next-kind Node48 next n larger full = subst (λ k. IsKindOf k (suc n)) (the_kind Node256 next larger) (record { two = omega (arith, full); fewest = omega (arith, full); most = omega (arith, full) })
-  where
-    the_kind : (a b : NodeType) → Some a ≡ Some b → a ≡ b
-    the_kind a b e = cc
+next-kind Node4 next n larger full = of_next larger (record { two = omega (arith, full); fewest = omega (arith, full); most = omega (arith, full) })
+next-kind Node16 next n larger full = of_next larger (record { two = omega (arith, full); fewest = omega (arith, full); most = omega (arith, full) })
+next-kind Node48 next n larger full = of_next larger (record { two = omega (arith, full); fewest = omega (arith, full); most = omega (arith, full) })
 next-kind Node256 next n larger full = absurd (cc)
 next-kind Leaf next n larger full = absurd (cc)
 

@@ -1,12 +1,12 @@
 -- A shape stands in the place of the first childless node below another one, which was freed.
-use Rattle.std.proofs.Common.{◌≡◌, ◌≢◌, ℕ, suc, ◌+◌, ◌≤◌, Bool, List, [], ◌∷◌, ◌++◌, length, take, Option, Some, None, IsSome, refl, sym, ap, subst, ◌∙◌, arith, append_assoc, length-append}
+use Rattle.std.proofs.Common.{◌≡◌, ◌≢◌, ℕ, ◌+◌, Bool, List, [], ◌∷◌, ◌++◌, length, Some, None, IsSome, refl, sym, ap, subst, ◌∙◌, arith, append_assoc, length-append}
 use Rattle.art_nodes.specs.declared.kind.NodeType.TheVariants.{Leaf}
 use Rattle.art_nodes.specs.InnerNode.{InnerNode, child_at, with_child, with_children}
 use Rattle.art_nodes.specs.Name.{Name}
 use Rattle.art_arena.specs.arena.Arena.{Arena, inner_held, held_at, node_at}
 use Rattle.art_arena.specs.arena.Cells.{Cell, branches, copies, UpdatesAt, Holds}
 use Rattle.art_arena.specs.arena.Context.{Frame, plug, frame_cell, cells_before, cells_after, AreBelow}
-use Rattle.art_arena.specs.arena.Shapes.{Shape, no_branch, name_of, cells, cells_in}
+use Rattle.art_arena.specs.arena.Shapes.{Shape, name_of, cells, cells_in}
 use Rattle.art_arena.proofs.shapes.CellLists.{copies-append}
 use Rattle.art_arena.proofs.shapes.Contexts.{cells-plug, name_of-plug}
 use Rattle.art_arena.proofs.shapes.HeldLeaves.{no_inner}
@@ -17,7 +17,7 @@ use Rattle.art_operations.specs.Frees.{cells_with, KeepsAllBut}
 use Rattle.art_operations.specs.declared.deallocate.Bottom.{Bottom}
 use Rattle.art_operations.specs.inner.Freeing.{step_in, AreFirst, IsBottom, FreesRoot, HoldsPart, HoldsBoth, HoldsOneLess}
 use Rattle.art_arena.proofs.shapes.CellLists.{Holds-turn}
-use Rattle.art_operations.proofs.Freeing.{after_with, with-plug, root_cells, childless-cells, childless-one, freed_root, apart-from, kept_root}
+use Rattle.art_operations.proofs.Freeing.{after_with, with-plug, childless-cells, childless-one, freed_root, apart-from, kept_root}
 use Rattle.art_operations.proofs.FreeSteps.{part-there}
 
 module _ {K V : Type 0} (P : ℕ) where

@@ -1,11 +1,10 @@
 -- An arena that has pairs, before and after a command.
-use Rattle.std.proofs.Common.{◌≡◌, ◌≢◌, ℕ, List, [], ◌∷◌, ◌++◌, Option, Some, None, refl, sym, ap, subst, ◌∙◌, inl, inr}
+use Rattle.std.proofs.Common.{◌≡◌, ◌≢◌, ℕ, List, [], ◌++◌, Option, Some, None, refl, sym, ap, subst, ◌∙◌, inl, inr}
 use Rattle.std.proofs.lemmas.List.{append-nil}
 use Rattle.art_nodes.specs.Name.{Name}
 use Rattle.art_nodes.specs.declared.leaf.LeafNode.{LeafNode}
 use Rattle.art_arena.specs.arena.Arena.{Arena, leaf_held, cell_of, node_at, links_at, Allocates, KeepsNodes, SameNodes}
 use Rattle.art_arena.specs.arena.Cells.{Cell, leaf_name, Holds, HoldsOnly}
-use Rattle.art_arena.specs.arena.Linked.{Links, AreLinked}
 use Rattle.art_arena.specs.tree.Changes.{IsIn}
 use Rattle.art_arena.specs.arena.Found.{found_in, IsAtKey}
 use Rattle.art_arena.specs.arena.Meaning.{IsTreeBeside, IsSubtree}
@@ -17,9 +16,9 @@ use Rattle.art_arena.proofs.shapes.Besides.{keeps-beside}
 use Rattle.art_arena.proofs.shapes.CellLists.{Holds-add, Holds-same, only-holds}
 use Rattle.art_arena.proofs.shapes.Erased.{shape_means}
 use Rattle.art_arena.proofs.shapes.Meanings.{nodes-part, nodes-subtree, all-subtree}
-use Rattle.art_arena.proofs.shapes.LinkedLists.{outside-apart}
+use Rattle.art_arena.proofs.shapes.LinkedLists.{outside-apart, AreLinked-same}
 use Rattle.art_arena.proofs.tree.Order.{all_left}
-use Rattle.art_arena.proofs.tree.Paths.{in_map}
+use Rattle.art_arena.proofs.tree.Paths.{in_map, in_unmap}
 use Rattle.art_arena.proofs.tree.Exists.{in_middle}
 use Rattle.art_arena.proofs.tree.Insert.{all_at}
 use Rattle.art_arena.proofs.shapes.Updates.{nodes-update, links-update, nodes-same, links-same}
@@ -36,18 +35,14 @@ use Rattle.art_operations.specs.Runs.{HoldsTreeOf}
 use Rattle.art_operations.specs.declared.insert.point.InsertKind.TheVariants as kind
 use Rattle.art_operations.specs.declared.insert.result.InsertParentNodeChange.TheVariants.{NoChange}
 use Rattle.art_operations.proofs.NotStored.{not-stored, which}
-use Rattle.art_operations.proofs.LeafPairs.{pair_of, pairs_ascend, blocked_pair, free_pairs, none_found, stored_in, stored_pair, taken_pair, shrinks-map, same_leaf, found_leaf, held_leaf, in_unmap}
+use Rattle.art_operations.proofs.LeafPairs.{leaf_pair, pairs_ascend, blocked_pair, free_pairs, none_found, stored_in, stored_pair, taken_pair, shrinks-map, same_leaf, found_leaf, held_leaf}
 
 module _ {K V : Type 0} (bytes : K → List ℕ) (P : ℕ) where
-  linked-same : (old new : ℕ → Option Links) → ((n : ℕ) → new n ≡ old n) → (before : Option ℕ) (ls : List (LeafAt K V)) (after : Option ℕ) → AreLinked old before ls after → AreLinked new before ls after
-  linked-same old new same before [] after linked = tt
-  linked-same old new same before (l ∷ ls) after linked = (same l.slot ∙ linked.0, linked-same old new same (Some l.slot) ls after linked.1)
-
   -- an arena with the same nodes has the same tree
   pub tree-same : {rest : List (Name × Cell K V)} (old new : Arena K V) → SameNodes old new → (root : Name) (s : Shape K V) → IsTreeBeside bytes P (node_at old) root (links_at old) rest s → IsTreeBeside bytes P (node_at new) root (links_at new) rest s
   tree-same {rest} old new same root s tree = record {
     nodes = record { named = tree.nodes.named; holds = Holds-same (node_at old) (node_at new) (nodes-same old new same) (rest ++ cells P s) tree.nodes.holds; under = tree.nodes.under };
-    linked = linked-same (links_at old) (links_at new) (links-same old new same) None (leaves s) None tree.linked;
+    linked = AreLinked-same (links_at old) (links_at new) (links-same old new same) None (leaves s) None tree.linked;
   }
 
   -- and the same pairs
@@ -106,7 +101,7 @@ module _ {K V : Type 0} (bytes : K → List ℕ) (P : ℕ) where
   stored-exact old point key pairs has (x, i, same) = elim (which point.insert_kind) [
     | inl exact ↦ exact
     | inr differs ↦
-        let back = in_unmap pair_of (key_of bytes) x (leaves has.shape) (subst (IsIn x) (sym has.pairs_are) i) in
+        let back = in_unmap leaf_pair x (leaves has.shape) (subst (IsIn x) (sym has.pairs_are) i) in
         let others = not-stored bytes key has.shape point has.place differs in
         absurd (all_at (λ (l : LeafAt K V). bytes l.key ≢ key) back.0 (leaves has.shape) others back.1 (ap (key_of bytes) back.2 ∙ same))
   ]
@@ -138,9 +133,9 @@ module _ {K V : Type 0} (bytes : K → List ℕ) (P : ℕ) where
     some-tree = (below.0, subtree)
 
     -- the place that was found is one for this key, and no pair blocks it
-    pub placed : (point : InsertPoint) → ((s : Shape K V) → IsSubtree bytes P (node_at old) top [] s → IsPoint bytes key s point × NoConflict bytes key (leaves s))
+    pub place_is_free : (point : InsertPoint) → ((s : Shape K V) → IsSubtree bytes P (node_at old) top [] s → IsPoint bytes key s point × NoConflict bytes key (leaves s))
         → HasPointBeside bytes P old rest point key pairs × (IsBlocked (key_of bytes) key pairs → ⊥)
-    placed point found =
+    place_is_free point found =
         let is = found below.0 subtree in (
           record {
             shape = below.0;
@@ -194,6 +189,6 @@ module _ {K V : Type 0} (bytes : K → List ℕ) (P : ℕ) where
           → HasKey (key_of bytes) key pairs × Shrinks (key_of bytes) pairs key
       shrinks-pair shrinks =
           let smaller = shrinks below.0 below.1 (record { ctx = there.ctx; key = there.leaf_key; value = there.value; place = there.place; steps = there.steps }) in (
-            subst (HasKey (key_of bytes) key) below.2 ((there.leaf_key, there.value), in_map pair_of _ (leaves below.0) among, there.same),
-            subst (λ ps. Shrinks (key_of bytes) ps key) below.2 (shrinks-map pair_of (key_of bytes) (leaves below.0) key (rw there.same at smaller)),
+            subst (HasKey (key_of bytes) key) below.2 ((there.leaf_key, there.value), in_map leaf_pair _ (leaves below.0) among, there.same),
+            subst (λ ps. Shrinks (key_of bytes) ps key) below.2 (shrinks-map leaf_pair (key_of bytes) (leaves below.0) key (rw there.same at smaller)),
           )

@@ -1,5 +1,5 @@
 -- The tree that an insertion leaves, from the cells and the links of an arena.
-use Rattle.std.proofs.Common.{◌≡◌, ◌≢◌, ℕ, List, [], ◌∷◌, ◌++◌, take, Option, Some, None, refl, sym, ap, ap₂, subst, ◌∙◌, inl, inr, arith}
+use Rattle.std.proofs.Common.{◌≡◌, ◌≢◌, ℕ, List, ◌∷◌, ◌++◌, take, Option, Some, None, refl, sym, ap, ap₂, subst, ◌∙◌, inl, inr, arith}
 use Rattle.art_bytes.specs.Keys.{BeginsWith}
 use Rattle.art_nodes.specs.Concrete.{inner_name_of}
 use Rattle.art_nodes.specs.declared.concrete.ConcreteInnerNodePtr.{ConcreteInnerNodePtr}
@@ -16,7 +16,7 @@ use Rattle.art_arena.specs.arena.Steps.{Step, steps_to}
 use Rattle.art_arena.proofs.shapes.Besides.{keeps-beside}
 use Rattle.art_arena.proofs.shapes.CellLists.{Holds-write}
 use Rattle.art_arena.proofs.shapes.Contexts.{leaves-plug, name_of-plug}
-use Rattle.art_arena.proofs.shapes.LinkedLists.{AreLinked-left, AreLinked-right, AreLinked-join, outside-apart, times-append}
+use Rattle.art_arena.proofs.shapes.LinkedLists.{AreLinked-left, AreLinked-right, AreLinked-join, outside-apart, times-append, AreLinked-same}
 use Rattle.art_arena.proofs.shapes.Meanings.{nodes-part}
 use Rattle.art_arena.proofs.shapes.Repoint.{IsNodesBeside-plug, unplugged}
 use Rattle.art_arena.proofs.shapes.Updates.{nodes-update, links-update}
@@ -30,15 +30,10 @@ use Rattle.art_operations.specs.declared.insert.result.InsertParentNodeChange.{I
 use Rattle.art_arena.specs.arena.Steps.{steps_of}
 use Rattle.art_arena.proofs.shapes.Places.{held-below}
 use Rattle.art_arena.proofs.tree.Order.{all_left}
-use Rattle.art_arena.proofs.shapes.Subtrees.{pair_of, HoldsPair}
+use Rattle.art_arena.proofs.shapes.Subtrees.{holds_pair, HoldsPair}
 use Rattle.art_arena.proofs.shapes.LastSteps.{last_two}
 
 module _ {K V : Type 0} where
-  -- links that answer alike link the same lists
-  pub AreLinked-same : (old new : ℕ → Option Links) → ((n : ℕ) → new n ≡ old n) → (before : Option ℕ) (xs : List (LeafAt K V)) (after : Option ℕ) → AreLinked old before xs after → AreLinked new before xs after
-  AreLinked-same old new same before [] after linked = tt
-  AreLinked-same old new same before (x ∷ xs) after linked = (same x.slot ∙ linked.0, AreLinked-same old new same (Some x.slot) xs after linked.1)
-
   -- a leaf of a list may have another key and another value
   pub AreLinked-pair : (links : ℕ → Option Links) (xs ys : List (LeafAt K V)) (slot : ℕ) (k l : K) (v w : V) → AreLinked links None (xs ++ record { slot = slot; key = k; value = v } ∷ ys) None → AreLinked links None (xs ++ record { slot = slot; key = l; value = w } ∷ ys) None
   AreLinked-pair links xs ys slot k l v w linked =
@@ -127,7 +122,7 @@ module _ {K V : Type 0} (bytes : K → List ℕ) (P : ℕ) where
   module _ {rest : List (Name × Cell K V)} (old : Arena K V) (root : Name) (s : Shape K V) (tree : IsTreeBeside bytes P (node_at old) root (links_at old) rest s) (leaf : ℕ) where
     pub exact_there : (key : List ℕ) (last : List Step) (at : IsExactPlace key s leaf last) → HoldsPair (held_at old (leaf_name leaf)) at.k at.v
     exact_there key last at =
-        pair_of (held_at old (leaf_name leaf)) at.k at.v (held-below P (node_at old) at.ctx (leaf_at leaf at.k at.v) (subst (λ t. AreHeld (node_at old) (cells P t)) at.place.is (nodes-part bytes P (node_at old) root s tree.nodes).held)).0
+        holds_pair (held_at old (leaf_name leaf)) at.k at.v (held-below P (node_at old) at.ctx (leaf_at leaf at.k at.v) (subst (λ t. AreHeld (node_at old) (cells P t)) at.place.is (nodes-part bytes P (node_at old) root s tree.nodes).held)).0
 
     -- a leaf without its links
     abbrev pub lone : LeafNode K V → LeafNode K V

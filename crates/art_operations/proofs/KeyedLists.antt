@@ -3,8 +3,8 @@ use Rattle.std.proofs.Common.{◌≡◌, ◌≢◌, ℕ, not, true, false, Bool,
 use Rattle.std.specs.List.{AllByRecursion}
 use Rattle.std.proofs.lemmas.List.Elements.{filter-append}
 use Rattle.art_bytes.specs.Keys.{Conflict, IsBefore}
-use Rattle.art_arena.specs.tree.Order.{IsAscending}
-use Rattle.art_arena.specs.tree.Changes.{put}
+use Rattle.art_arena.specs.tree.Order.{AscendsByKey}
+use Rattle.art_arena.specs.tree.Changes.{put_in_order}
 use Rattle.art_arena.proofs.tree.Order.{all_append, all_weaker}
 use Rattle.art_arena.proofs.tree.Insert.{all_at}
 use Rattle.art_arena.proofs.tree.Exists.{in_middle, put_is}
@@ -15,7 +15,7 @@ use Rattle.art_bytes.proofs.Order.{before_not_self, conflict_not_before, conflic
 module _ {X : Type 0} (key : X → List ℕ) where
   -- new is old with x in the place of those that had its key, which were these; none is in conflict with it
   pub record IsPut (x : X) (old new was : List X) : Type 0 where
-    pub new_is : new ≡ put key x (without_key key (key x) old)
+    pub new_is : new ≡ put_in_order key x (without_key key (key x) old)
     pub were : was ≡ with_key key (key x) old
     pub free : IsBlocked key (key x) old → ⊥
 
@@ -64,46 +64,46 @@ module _ {X : Type 0} (key : X → List ℕ) where
     not_blocked xs free (x, i, c) = all_at (λ y. Conflict k (key y) → ⊥) x xs free i c
 
   module _ (x : X) where
-    pub before : (front back : List X) → IsAscending key (front ++ x ∷ back) → AllByRecursion (λ y. IsBefore (key y) (key x)) front
+    pub before : (front back : List X) → AscendsByKey key (front ++ x ∷ back) → AllByRecursion (λ y. IsBefore (key y) (key x)) front
     before [] back h = tt
     before (z ∷ front) back h = (all_at (λ y. IsBefore (key z) (key y)) x (front ++ x ∷ back) h.0 (in_middle key front x back), before front back h.1)
 
-    pub behind : (front back : List X) → IsAscending key (front ++ x ∷ back) → AllByRecursion (λ y. IsBefore (key x) (key y)) back
+    pub behind : (front back : List X) → AscendsByKey key (front ++ x ∷ back) → AllByRecursion (λ y. IsBefore (key x) (key y)) back
     behind [] back h = h.0
     behind (z ∷ front) back h = behind front back h.1
 
-    others_before : (front back : List X) → IsAscending key (front ++ x ∷ back) → AreOthers (key x) front
+    others_before : (front back : List X) → AscendsByKey key (front ++ x ∷ back) → AreOthers (key x) front
     others_before front back h = all_weaker _ _ (λ y b e. before_not_self (key x) (subst (λ k. IsBefore k (key x)) e b)) front (before front back h)
 
-    others_behind : (front back : List X) → IsAscending key (front ++ x ∷ back) → AreOthers (key x) back
+    others_behind : (front back : List X) → AscendsByKey key (front ++ x ∷ back) → AreOthers (key x) back
     others_behind front back h = all_weaker _ _ (λ y b e. before_not_self (key x) (subst (λ k. IsBefore (key x) k) e b)) back (behind front back h)
 
-    free_before : (front back : List X) → IsAscending key (front ++ x ∷ back) → AreFree (key x) front
+    free_before : (front back : List X) → AscendsByKey key (front ++ x ∷ back) → AreFree (key x) front
     free_before front back h = all_weaker _ _ (λ y b c. conflict_not_before (key y) (key x) (conflict_turned (key x) (key y) c) b) front (before front back h)
 
-    free_behind : (front back : List X) → IsAscending key (front ++ x ∷ back) → AreFree (key x) back
+    free_behind : (front back : List X) → AscendsByKey key (front ++ x ∷ back) → AreFree (key x) back
     free_behind front back h = all_weaker _ _ (λ y b c. conflict_not_before (key x) (key y) c b) back (behind front back h)
 
     -- an item that was put in is put at the place of its key
-    pub put_new : (front back : List X) → IsAscending key (front ++ x ∷ back) → IsPut x (front ++ back) (front ++ x ∷ back) []
+    pub put_new : (front back : List X) → AscendsByKey key (front ++ x ∷ back) → IsPut x (front ++ back) (front ++ x ∷ back) []
     put_new front back h =
         let others = all_append _ front back (others_before front back h) (others_behind front back h) in
         record {
-          new_is = sym (put_is key x front back h) ∙ ap (put key x) (sym (without_none (key x) (front ++ back) others));
+          new_is = sym (put_is key x front back h) ∙ ap (put_in_order key x) (sym (without_none (key x) (front ++ back) others));
           were = sym (with_none (key x) (front ++ back) others);
           free = not_blocked (key x) (front ++ back) (all_append _ front back (free_before front back h) (free_behind front back h));
         }
 
     -- and so is one that took the place of an item with its key
-    pub put_replaced : (front : List X) (was : X) (back : List X) → key was ≡ key x → IsAscending key (front ++ x ∷ back) → IsPut x (front ++ was ∷ back) (front ++ x ∷ back) (was ∷ [])
+    pub put_replaced : (front : List X) (was : X) (back : List X) → key was ≡ key x → AscendsByKey key (front ++ x ∷ back) → IsPut x (front ++ was ∷ back) (front ++ x ∷ back) (was ∷ [])
     put_replaced front was back same h = record {
-      new_is = sym (put_is key x front back h) ∙ ap (put key x) (sym (without_one (key x) front was back same (others_before front back h) (others_behind front back h)));
+      new_is = sym (put_is key x front back h) ∙ ap (put_in_order key x) (sym (without_one (key x) front was back same (others_before front back h) (others_behind front back h)));
       were = sym (with_one (key x) front was back same (others_before front back h) (others_behind front back h));
       free = not_blocked (key x) (front ++ was ∷ back) (all_append _ front (was ∷ back) (free_before front back h) ((λ c. c.0 (sym same)), free_behind front back h));
     }
 
     -- an item that was taken out had its key alone
-    pub taken : (front back : List X) → IsAscending key (front ++ x ∷ back) → IsTaken (key x) x (front ++ x ∷ back) (front ++ back)
+    pub taken : (front back : List X) → AscendsByKey key (front ++ x ∷ back) → IsTaken (key x) x (front ++ x ∷ back) (front ++ back)
     taken front back h = record {
       new_is = sym (without_one (key x) front x back refl (others_before front back h) (others_behind front back h));
       had = with_one (key x) front x back refl (others_before front back h) (others_behind front back h);

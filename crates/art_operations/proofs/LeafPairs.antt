@@ -5,7 +5,7 @@ use Rattle.std.proofs.lemmas.List.{map-append}
 use Rattle.art_bytes.specs.Keys.{Conflict, common_prefix}
 use Rattle.art_nodes.specs.Name.{Name}
 use Rattle.art_nodes.specs.declared.leaf.LeafNode.{LeafNode}
-use Rattle.art_arena.specs.tree.Order.{IsAscending}
+use Rattle.art_arena.specs.tree.Order.{AscendsByKey}
 use Rattle.art_arena.specs.tree.Changes.{IsIn, IsPutIn}
 use Rattle.art_arena.specs.arena.Cells.{Cell, pair, leaf_name, AreHeld}
 use Rattle.art_arena.specs.arena.Context.{leaves_before, leaves_after}
@@ -23,7 +23,7 @@ use Rattle.art_arena.proofs.shapes.Finding.{pairs-with_key, pair_at}
 use Rattle.art_arena.proofs.tree.Exists.{in_middle}
 use Rattle.art_arena.proofs.tree.Insert.{all_at, in_right}
 use Rattle.art_arena.proofs.shapes.Contexts.{leaves-plug}
-use Rattle.art_arena.proofs.tree.Paths.{in_cases, in_map}
+use Rattle.art_arena.proofs.tree.Paths.{in_cases, in_map, in_unmap}
 use Rattle.art_operations.specs.Insertions.{IsReplaced, IsPutOrReplaced}
 use Rattle.art_operations.specs.KeyedLists.{with_key, IsBlocked}
 use Rattle.art_operations.specs.Pairs.{pair_in}
@@ -31,16 +31,11 @@ use Rattle.art_operations.specs.Points.{HasConflict, NoConflict}
 use Rattle.art_operations.proofs.KeyedLists.{IsPut, IsTaken, put_new, put_replaced, taken}
 
 -- the pair of a leaf
-abbrev pub pair_of : {K V : Type 0} → LeafAt K V → K × V
-pair_of l = (l.key, l.value)
+abbrev pub leaf_pair : {K V : Type 0} → LeafAt K V → K × V
+leaf_pair l = (l.key, l.value)
 
 -- a front is as wide, and a removal shrinks as much, whether items or what they are mapped to have the keys
 module _ {X Y : Type 0} (f : X → Y) (key : Y → List ℕ) where
-  pub in_unmap : (z : Y) (xs : List X) → IsIn z (map f xs) → (x : X) × IsIn x xs × (f x ≡ z)
-  in_unmap z [] i = absurd i
-  in_unmap z (x ∷ xs) (inl e) = (x, inl refl, e)
-  in_unmap z (x ∷ xs) (inr i) = let later = in_unmap z xs i in (later.0, inr later.1, later.2)
-
   bytes_after-map : (front : List ℕ) (xs : List X) → bytes_after key front (map f xs) ≡ bytes_after (λ x. key (f x)) front xs
   bytes_after-map front [] = refl
   bytes_after-map front (x ∷ xs) = ap (cons_option (byte_after front (key (f x)))) (bytes_after-map front xs)
@@ -51,13 +46,13 @@ module _ {X Y : Type 0} (f : X → Y) (key : Y → List ℕ) where
   pub shrinks-map : (xs : List X) (k : List ℕ) → Shrinks (λ x. key (f x)) xs k → Shrinks key (map f xs) k
   shrinks-map xs k (m, ((y, i, differs, meets), longest), limit) = (
     m,
-    ((f y, in_map f y xs i, differs, meets), λ z j other. let back = in_unmap z xs j in subst (λ w. length (common_prefix k (key w)) ≤ length m) back.2 (longest back.0 back.1 (subst (λ w. key w ≢ k) (sym back.2) other))),
+    ((f y, in_map f y xs i, differs, meets), λ z j other. let back = in_unmap f z xs j in subst (λ w. length (common_prefix k (key w)) ≤ length m) back.2 (longest back.0 back.1 (subst (λ w. key w ≢ k) (sym back.2) other))),
     subst IsLimit (sym (width_of-map m xs)) limit,
   )
 
   pub shrinks-unmap : (xs : List X) (k : List ℕ) → Shrinks key (map f xs) k → Shrinks (λ x. key (f x)) xs k
   shrinks-unmap xs k (m, ((z, i, differs, meets), longest), limit) =
-      let back = in_unmap z xs i in (
+      let back = in_unmap f z xs i in (
         m,
         ((back.0, back.1, subst (λ w. key w ≢ k) (sym back.2) differs, ap (λ w. common_prefix k (key w)) back.2 ∙ meets), λ w j other. longest (f w) (in_map f w xs j) other),
         subst IsLimit (width_of-map m xs) limit,
@@ -65,30 +60,30 @@ module _ {X Y : Type 0} (f : X → Y) (key : Y → List ℕ) where
 
 module _ {K V : Type 0} (bytes : K → List ℕ) where
   -- the pairs of a tree ascend
-  pub pairs_ascend : (s : Shape K V) → IsUnder bytes [] s → IsAscending (key_of bytes) (pairs_of (leaves s))
-  pairs_ascend s under = subst (IsAscending (key_of bytes)) (items-erase s) (ascending (key_of bytes) [] (erase s) (canonical-erase bytes [] s under))
+  pub pairs_ascend : (s : Shape K V) → IsUnder bytes [] s → AscendsByKey (key_of bytes) (pairs_of (leaves s))
+  pairs_ascend s under = subst (AscendsByKey (key_of bytes)) (items-erase s) (ascending (key_of bytes) [] (erase s) (canonical-erase bytes [] s under))
 
-  parts : (front : List (LeafAt K V)) (l : LeafAt K V) (back : List (LeafAt K V)) → pairs_of (front ++ l ∷ back) ≡ pairs_of front ++ pair_of l ∷ pairs_of back
-  parts front l back = map-append pair_of front (l ∷ back)
+  pub pairs-parts : (front : List (LeafAt K V)) (l : LeafAt K V) (back : List (LeafAt K V)) → pairs_of (front ++ l ∷ back) ≡ pairs_of front ++ leaf_pair l ∷ pairs_of back
+  pairs-parts front l back = map-append leaf_pair front (l ∷ back)
 
   -- a leaf that was put in has its pair put in
-  new_pair : (l : LeafAt K V) (old new : List (LeafAt K V)) → IsAscending (key_of bytes) (pairs_of new) → IsPutIn l old new → IsPut (key_of bytes) (pair_of l) (pairs_of old) (pairs_of new) []
+  new_pair : (l : LeafAt K V) (old new : List (LeafAt K V)) → AscendsByKey (key_of bytes) (pairs_of new) → IsPutIn l old new → IsPut (key_of bytes) (leaf_pair l) (pairs_of old) (pairs_of new) []
   new_pair l old new h (front, back, e, f) =
-      let new_is : pairs_of new ≡ pairs_of front ++ pair_of l ∷ pairs_of back = ap pairs_of f ∙ parts front l back in
-      let old_is : pairs_of old ≡ pairs_of front ++ pairs_of back = ap pairs_of e ∙ map-append pair_of front back in
-      rw (new_is, old_is) (put_new (key_of bytes) (pair_of l) (pairs_of front) (pairs_of back) (subst (IsAscending (key_of bytes)) new_is h))
+      let new_is : pairs_of new ≡ pairs_of front ++ leaf_pair l ∷ pairs_of back = ap pairs_of f ∙ pairs-parts front l back in
+      let old_is : pairs_of old ≡ pairs_of front ++ pairs_of back = ap pairs_of e ∙ map-append leaf_pair front back in
+      rw (new_is, old_is) (put_new (key_of bytes) (leaf_pair l) (pairs_of front) (pairs_of back) (subst (AscendsByKey (key_of bytes)) new_is h))
 
   -- a leaf that took the place of one with its key has its pair in the place of that one's
-  replaced_pair : (l was : LeafAt K V) (old new : List (LeafAt K V)) → bytes was.key ≡ bytes l.key → IsAscending (key_of bytes) (pairs_of new) → IsReplaced was l old new
-      → IsPut (key_of bytes) (pair_of l) (pairs_of old) (pairs_of new) (pair_of was ∷ [])
+  replaced_pair : (l was : LeafAt K V) (old new : List (LeafAt K V)) → bytes was.key ≡ bytes l.key → AscendsByKey (key_of bytes) (pairs_of new) → IsReplaced was l old new
+      → IsPut (key_of bytes) (leaf_pair l) (pairs_of old) (pairs_of new) (leaf_pair was ∷ [])
   replaced_pair l was old new same h (front, back, e, f) =
-      let new_is : pairs_of new ≡ pairs_of front ++ pair_of l ∷ pairs_of back = ap pairs_of f ∙ parts front l back in
-      let old_is : pairs_of old ≡ pairs_of front ++ pair_of was ∷ pairs_of back = ap pairs_of e ∙ parts front was back in
-      rw (new_is, old_is) (put_replaced (key_of bytes) (pair_of l) (pairs_of front) (pair_of was) (pairs_of back) same (subst (IsAscending (key_of bytes)) new_is h))
+      let new_is : pairs_of new ≡ pairs_of front ++ leaf_pair l ∷ pairs_of back = ap pairs_of f ∙ pairs-parts front l back in
+      let old_is : pairs_of old ≡ pairs_of front ++ leaf_pair was ∷ pairs_of back = ap pairs_of e ∙ pairs-parts front was back in
+      rw (new_is, old_is) (put_replaced (key_of bytes) (leaf_pair l) (pairs_of front) (leaf_pair was) (pairs_of back) same (subst (AscendsByKey (key_of bytes)) new_is h))
 
   -- an insertion does the one or the other, and tells the pair whose place was taken
-  pub stored_pair : (l : LeafAt K V) (was : Option (LeafNode K V)) (old new : List (LeafAt K V)) → IsAscending (key_of bytes) (pairs_of new) → IsPutOrReplaced bytes l was old new
-      → IsPut (key_of bytes) (pair_of l) (pairs_of old) (pairs_of new) (pair_in was)
+  pub stored_pair : (l : LeafAt K V) (was : Option (LeafNode K V)) (old new : List (LeafAt K V)) → AscendsByKey (key_of bytes) (pairs_of new) → IsPutOrReplaced bytes l was old new
+      → IsPut (key_of bytes) (leaf_pair l) (pairs_of old) (pairs_of new) (pair_in was)
   stored_pair l None old new h stored = new_pair l old new h stored
   stored_pair l (Some was) old new h stored = replaced_pair l (record { slot = l.slot; key = was.key; value = was.value }) old new stored.0 h stored.1
 
@@ -98,20 +93,20 @@ module _ {K V : Type 0} (bytes : K → List ℕ) where
   stored_in l (Some was) old new stored = subst (IsIn l) (sym stored.1.3) (in_middle (λ (m : LeafAt K V). bytes m.key) stored.1.0 l stored.1.1)
 
   -- a leaf that was taken out has its pair taken out
-  pub taken_pair : (front : List (LeafAt K V)) (l : LeafAt K V) (back : List (LeafAt K V)) (old : List (LeafAt K V)) → IsAscending (key_of bytes) (pairs_of old) → old ≡ front ++ l ∷ back
-      → IsTaken (key_of bytes) (bytes l.key) (pair_of l) (pairs_of old) (pairs_of (front ++ back))
+  pub taken_pair : (front : List (LeafAt K V)) (l : LeafAt K V) (back : List (LeafAt K V)) (old : List (LeafAt K V)) → AscendsByKey (key_of bytes) (pairs_of old) → old ≡ front ++ l ∷ back
+      → IsTaken (key_of bytes) (bytes l.key) (leaf_pair l) (pairs_of old) (pairs_of (front ++ back))
   taken_pair front l back old h e =
-      let old_is : pairs_of old ≡ pairs_of front ++ pair_of l ∷ pairs_of back = ap pairs_of e ∙ parts front l back in
-      rw (old_is, map-append pair_of front back) (taken (key_of bytes) (pair_of l) (pairs_of front) (pairs_of back) (subst (IsAscending (key_of bytes)) old_is h))
+      let old_is : pairs_of old ≡ pairs_of front ++ leaf_pair l ∷ pairs_of back = ap pairs_of e ∙ pairs-parts front l back in
+      rw (old_is, map-append leaf_pair front back) (taken (key_of bytes) (leaf_pair l) (pairs_of front) (pairs_of back) (subst (AscendsByKey (key_of bytes)) old_is h))
 
   -- a leaf in conflict with a key has a pair that blocks it
   pub blocked_pair : (key : List ℕ) (ls : List (LeafAt K V)) → HasConflict bytes key ls → IsBlocked (key_of bytes) key (pairs_of ls)
-  blocked_pair key ls (l, i, c) = (pair_of l, in_map pair_of l ls i, c)
+  blocked_pair key ls (l, i, c) = (leaf_pair l, in_map leaf_pair l ls i, c)
 
   -- where no leaf is in conflict with a key, no pair blocks it
   pub free_pairs : (key : List ℕ) (ls : List (LeafAt K V)) → NoConflict bytes key ls → IsBlocked (key_of bytes) key (pairs_of ls) → ⊥
   free_pairs key ls free (x, i, c) =
-      let back = in_unmap pair_of (key_of bytes) x ls i in
+      let back = in_unmap leaf_pair x ls i in
       all_at (λ (l : LeafAt K V). Conflict key (bytes l.key) → ⊥) back.0 ls free back.1 (subst (λ p. Conflict key (key_of bytes p)) (sym back.2) c)
 
   -- where the search finds no leaf with the key, no pair has it

@@ -56,11 +56,11 @@ agreeing-within (x ∷ xs) (y ∷ ys) = elim (eqb_tells x y) [
 ]
 
 -- all of the second list agrees
-pub ends : (xs ys : List ℕ) → agreeing xs ys ≡ length ys → xs ≡ ys ++ drop (length ys) xs
-ends xs [] e = refl
-ends [] (y ∷ ys) e = absurd (omega (arith, e))
-ends (x ∷ xs) (y ∷ ys) e = elim (eqb_tells x y) [
-  | inl same ↦ let later = ends xs ys (let f : suc (agreeing xs ys) ≡ suc (length ys) = rw same.0 at e in omega arith) in let f = same.1 in cc
+pub second_agrees : (xs ys : List ℕ) → agreeing xs ys ≡ length ys → xs ≡ ys ++ drop (length ys) xs
+second_agrees xs [] e = refl
+second_agrees [] (y ∷ ys) e = absurd (omega (arith, e))
+second_agrees (x ∷ xs) (y ∷ ys) e = elim (eqb_tells x y) [
+  | inl same ↦ let later = second_agrees xs ys (let f : suc (agreeing xs ys) ≡ suc (length ys) = rw same.0 at e in omega arith) in let f = same.1 in cc
   | inr other ↦ absurd (let f : 0 ≡ suc (length ys) = rw other.0 at e in omega arith)
 ]
 
@@ -72,7 +72,7 @@ pub first_ends : (xs ys : List ℕ) → agreeing xs ys ≡ length xs → agreein
 first_ends xs ys e more = longer xs ys (drop (length xs) ys) (through xs ys e) (omega (arith, (agreeing-within xs ys).1))
 
 pub second_ends : (xs ys : List ℕ) → agreeing xs ys ≡ length ys → agreeing xs ys ≢ length xs → IsProperFront ys xs
-second_ends xs ys e more = longer ys xs (drop (length ys) xs) (ends xs ys e) (omega (arith, (agreeing-within xs ys).0))
+second_ends xs ys e more = longer ys xs (drop (length ys) xs) (second_agrees xs ys e) (omega (arith, (agreeing-within xs ys).0))
 
 pub both_end : (xs ys : List ℕ) → agreeing xs ys ≡ length xs → agreeing xs ys ≡ length ys → xs ≡ ys
 both_end xs ys e f = go (drop (length xs) ys) (through xs ys e)

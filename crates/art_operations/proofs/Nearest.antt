@@ -9,30 +9,28 @@ use Rattle.std.proofs.lemmas.Bool.{cases_order}
 use Rattle.std.proofs.lemmas.Cmp.{nat_cmp_total, nat_list_cmp_total, tied_itself}
 use Rattle.std.proofs.lemmas.List.Elements.{filter-append}
 use Rattle.art_bytes.specs.Keys.{BeginsWith, Conflict, IsBefore, bytes_cmp}
-use Rattle.art_bytes.proofs.Order.{before_at, before_cmp, begins_step, front_not_after}
+use Rattle.art_bytes.proofs.Order.{before_cmp}
 use Rattle.art_nodes.specs.InnerNode.{child_at, children_between, first_child}
 use Rattle.art_nodes.specs.declared.leaf.LeafNode.{LeafNode}
 use Rattle.art_nodes.specs.Name.{Name}
 use Rattle.art_arena.specs.arena.Arena.{Arena, Held, leaf_held, held_at, links_of, links_at, node_at}
-use Rattle.art_arena.specs.arena.Cells.{pair, leaf_name, copies, AreHeld}
-use Rattle.art_arena.specs.arena.Context.{Frame, path_to, leaves_before, leaves_after, cells_before, cells_after}
+use Rattle.art_arena.specs.arena.Cells.{pair, leaf_name}
+use Rattle.art_arena.specs.arena.Context.{Frame, path_to, leaves_before, leaves_after}
 use Rattle.art_arena.specs.arena.Descents.{leaf_where, passing}
 use Rattle.art_arena.specs.arena.Linked.{Links, AreLinked, first_slot, last_slot}
 use Rattle.art_arena.specs.arena.Meaning.{IsSubtree}
 use Rattle.art_arena.specs.arena.Places.{IsPlace}
-use Rattle.art_arena.specs.arena.Shapes.{Shape, Branches, leaf_at, inner_at, no_branch, branch, LeafAt, name_of, children_at, join, leaves, leaves_in, pairs_of, erase, cells, IsUnder, AreUnder, key_of}
+use Rattle.art_arena.specs.arena.Shapes.{Shape, Branches, inner_at, no_branch, branch, LeafAt, name_of, children_at, join, leaves, leaves_in, pairs_of, erase, IsUnder, AreUnder, key_of}
 use Rattle.art_arena.proofs.tree.Order.{all_append, all_left, all_right, all_weaker}
-use Rattle.art_arena.specs.tree.Order.{IsAscending}
+use Rattle.art_arena.specs.tree.Order.{AscendsByKey}
 use Rattle.art_arena.proofs.tree.Canonical.{ascending}
-use Rattle.art_arena.proofs.shapes.CellLists.{copies-append}
-use Rattle.art_arena.proofs.shapes.Contexts.{cells-plug, leaves-plug, leaves_in-join}
+use Rattle.art_arena.proofs.shapes.Contexts.{leaves-plug, leaves_in-join}
 use Rattle.art_arena.proofs.shapes.Erased.{items-erase, canonical-erase}
 use Rattle.art_arena.proofs.shapes.Openings.{opening}
-use Rattle.art_arena.proofs.shapes.Places.{held-below}
-use Rattle.art_arena.proofs.shapes.Prefixes.{leaves_held}
-use Rattle.art_arena.proofs.shapes.Subtrees.{branch-first, leaves_begin_prefix, pair_of, some_leaf, subtree-branch}
+use Rattle.art_arena.proofs.shapes.Prefixes.{leaves_are_held}
+use Rattle.art_arena.proofs.shapes.Subtrees.{branch-first, leaves_begin_prefix, holds_pair, some_leaf}
 use Rattle.art_arena.proofs.shapes.LinkedLists.{ends_with-first, last_slot-append, link_there}
-use Rattle.art_arena.proofs.shapes.Surroundings.{AreAfter, AreBefore, branches-after, branches-before, ctx-after, ctx-before}
+use Rattle.art_arena.proofs.shapes.Surroundings.{AreAfter, AreBefore, branches-after, branches-before, ctx-after, ctx-before, smaller_byte_first}
 use Rattle.std.specs.declared.ops.Bound.TheVariants.{Included, Excluded, Unbounded}
 use Rattle.art_operations.specs.Meetings.{PartAt}
 use Rattle.art_operations.specs.Points.{AllConflict, IsPoint}
@@ -42,6 +40,7 @@ use Rattle.art_operations.specs.inner.Nearest.{Compare, IsNearest}
 use Rattle.art_arena.proofs.shapes.Passing.{behind}
 use Rattle.art_operations.proofs.Points.{leaf_there, part_new, part_old}
 use Rattle.art_operations.proofs.Waiting.{children_behind}
+use Rattle.art_arena.proofs.shapes.Walking.{place-subtree}
 
 -- the other way round, the order is turned
 pub turned : (k l : List ℕ) (o : Ordering) → bytes_cmp k l ≡ o → bytes_cmp l k ≡ ordering_reverse o
@@ -225,13 +224,6 @@ module _ {K V : Type 0} (bytes : K → List ℕ) (key : List ℕ) (test : List �
 
 -- where the key's place is an inner node, between two of its children or on one side of them all
 
--- of two keys that go on behind a front by different bytes, the one with the smaller byte comes first
-goes_before : (q : List ℕ) (a b : ℕ) (k l : List ℕ) → a < b → BeginsWith (q ++ a ∷ []) k → BeginsWith (q ++ b ∷ []) l → IsBefore k l
-goes_before q a b k l less h i =
-    let s = begins_step q a k h in
-    let t = begins_step q b l i in
-    subst (λ x. IsBefore x l) (sym s.1) (subst (IsBefore (q ++ a ∷ s.0)) (sym t.1) (before_at q a b s.0 t.0 less))
-
 module _ {K V : Type 0} (bytes : K → List ℕ) (key path prefix : List ℕ) (kids : Branches K V) where
   module _ (p : Parted) (on : BeginsWith path key) (n : Name) (under : IsUnder bytes path (inner_at n prefix kids)) (part : PartAt prefix (drop (length path) key) p) where
     here : BeginsWith ((path ++ part.front) ++ p.new_byte ∷ []) key
@@ -242,13 +234,13 @@ module _ {K V : Type 0} (bytes : K → List ℕ) (key path prefix : List ℕ) (k
 
     pub parted_after : (slot : ℕ) → p.new_byte < p.old_byte → first_slot (leaves_in kids) None ≡ Some slot → IsNearest bytes key (leaves_in kids) slot Greater
     parted_after slot less first =
-        let all = all_weaker _ _ (λ l st. before_greater key (bytes l.key) (goes_before (path ++ part.front) p.new_byte p.old_byte key (bytes l.key) less here (there (bytes l.key) st))) (leaves_in kids) (leaves_begin_prefix bytes path (inner_at n prefix kids) under) in
+        let all = all_weaker _ _ (λ l st. before_greater key (bytes l.key) (smaller_byte_first (path ++ part.front) p.new_byte p.old_byte key (bytes l.key) less here (there (bytes l.key) st))) (leaves_in kids) (leaves_begin_prefix bytes path (inner_at n prefix kids) under) in
         subst (λ ls. IsNearest bytes key ls slot Greater) (append-nil (leaves_in kids)) (nearest_first bytes key [] (leaves_in kids) [] slot first tt all tt)
 
     pub parted_before : (slot : ℕ) → p.old_byte ≤ p.new_byte → last_slot None (leaves_in kids) ≡ Some slot → IsNearest bytes key (leaves_in kids) slot Less
     parted_before slot upto last =
         let less : p.old_byte < p.new_byte = smaller p.old_byte p.new_byte upto part.differs in
-        let all = all_weaker _ _ (λ l st. before_cmp (bytes l.key) key (goes_before (path ++ part.front) p.old_byte p.new_byte (bytes l.key) key less (there (bytes l.key) st) here)) (leaves_in kids) (leaves_begin_prefix bytes path (inner_at n prefix kids) under) in
+        let all = all_weaker _ _ (λ l st. before_cmp (bytes l.key) key (smaller_byte_first (path ++ part.front) p.old_byte p.new_byte (bytes l.key) key less (there (bytes l.key) st) here)) (leaves_in kids) (leaves_begin_prefix bytes path (inner_at n prefix kids) under) in
         subst (λ ls. IsNearest bytes key ls slot Less) (append-nil (leaves_in kids)) (nearest_last bytes key [] (leaves_in kids) [] slot last tt all tt)
       where
         smaller : (a b : ℕ) → a ≤ b → (a ≡ b → ⊥) → a < b
@@ -328,23 +320,6 @@ module _ {K V : Type 0} (bytes : K → List ℕ) (key : List ℕ) (arena : Arena
   previous_is leaf held = ap (λ h. previous_of (links_of h)) (sym held) ∙ ap previous_of links
 
 module _ {K V : Type 0} (bytes : K → List ℕ) (P : ℕ) (arena : Arena K V) where
-  -- the part at a place of the tree below a name
-  pub place_subtree : (root : Name) (whole part : Shape K V) (ctx : List (Frame K V)) → IsSubtree bytes P (node_at arena) root [] whole → IsPlace bytes whole ctx part
-      → IsSubtree bytes P (node_at arena) (name_of part) (path_to ctx) part
-  place_subtree root whole part ctx sub place = record {
-    part = record {
-      named = refl;
-      held = held-below P (node_at arena) ctx part (subst (λ w. AreHeld (node_at arena) (cells P w)) place.is sub.part.held);
-      once = λ n.
-          let few = sub.part.once n in
-          let parts : copies n (cells P whole) ≡ copies n (cells_before P ctx (name_of part)) + (copies n (cells P part) + copies n (cells_after P ctx)) =
-          ap (λ w. copies n (cells P w)) place.is ∙ ap (copies n) (cells-plug P ctx part) ∙ copies-append n (cells_before P ctx (name_of part)) (cells P part ++ cells_after P ctx)
-          ∙ ap (λ m. copies n (cells_before P ctx (name_of part)) + m) (copies-append n (cells P part) (cells_after P ctx)) in
-          omega (arith, few, parts);
-    };
-    under = place.under;
-  }
-
   -- how a key compares with that of the leaf under a name
   abbrev pub Told : List ℕ → ℕ → Ordering → Type 0
   Told key slot o = (l : LeafNode K V) → held_at arena (leaf_name slot) ≡ Some (leaf_held l) → o ≡ bytes_cmp (bytes l.key) key
@@ -357,7 +332,7 @@ module _ {K V : Type 0} (bytes : K → List ℕ) (P : ℕ) (arena : Arena K V) w
       let at = leaf_there bytes P arena slot path part sub in
       subst (λ t. IsNearest bytes key (leaves t) slot o) (sym at.is) (nearest_alone bytes key _ slot o refl (sym (told at.leaf at.there)))
 
-  behind_first : (l : LeafAt K V) (ls : List (LeafAt K V)) → IsAscending (key_of bytes) (pairs_of (l ∷ ls)) → AllByRecursion (λ r. IsBefore (bytes l.key) (bytes r.key)) ls
+  behind_first : (l : LeafAt K V) (ls : List (LeafAt K V)) → AscendsByKey (key_of bytes) (pairs_of (l ∷ ls)) → AllByRecursion (λ r. IsBefore (bytes l.key) (bytes r.key)) ls
   behind_first l ls h = unmapped ls h.0
     where
       unmapped : (ls : List (LeafAt K V)) → AllByRecursion (λ y. IsBefore (bytes l.key) (key_of bytes y)) (pairs_of ls) → AllByRecursion (λ r. IsBefore (bytes l.key) (bytes r.key)) ls
@@ -375,22 +350,22 @@ module _ {K V : Type 0} (bytes : K → List ℕ) (P : ℕ) (arena : Arena K V) w
     pub key_is : node.key ≡ first.key
     pub before : AllByRecursion (λ r. IsBefore (bytes first.key) (bytes r.key)) others
 
-  pub first_of : (name : Name) (path : List ℕ) (part : Shape K V) (slot : ℕ) → IsSubtree bytes P (node_at arena) name path part → first_slot (leaves part) None ≡ Some slot → FirstOf path part slot
-  first_of name path part slot sub first = made (some_leaf bytes path part sub.under)
+  pub first_of_part : (name : Name) (path : List ℕ) (part : Shape K V) (slot : ℕ) → IsSubtree bytes P (node_at arena) name path part → first_slot (leaves part) None ≡ Some slot → FirstOf path part slot
+  first_of_part name path part slot sub first = made (some_leaf bytes path part sub.under)
     where
       made : (l : LeafAt K V) × (ls : List (LeafAt K V)) × (leaves part ≡ l ∷ ls) → FirstOf path part slot
       made (l, ls, e) =
           let same : l.slot ≡ slot = let f : Some l.slot ≡ Some slot = sym (ap (λ xs. first_slot xs None) e) ∙ first in cc in
-          let h = subst (AllByRecursion (λ l. node_at arena (leaf_name l.slot) ≡ Some (pair l.key l.value))) e (leaves_held bytes P arena part sub.part.held) in
-          let p = pair_of (held_at arena (leaf_name slot)) l.key l.value (ap (λ m. node_at arena (leaf_name m)) (sym same) ∙ h.0) in
-          let up = subst (λ xs. IsAscending (key_of bytes) (pairs_of xs)) e (subst (IsAscending (key_of bytes)) (items-erase part) (ascending (key_of bytes) path (erase part) (canonical-erase bytes path part sub.under))) in
+          let h = subst (AllByRecursion (λ l. node_at arena (leaf_name l.slot) ≡ Some (pair l.key l.value))) e (leaves_are_held bytes P arena part sub.part.held) in
+          let p = holds_pair (held_at arena (leaf_name slot)) l.key l.value (ap (λ m. node_at arena (leaf_name m)) (sym same) ∙ h.0) in
+          let up = subst (λ xs. AscendsByKey (key_of bytes) (pairs_of xs)) e (subst (AscendsByKey (key_of bytes)) (items-erase part) (ascending (key_of bytes) path (erase part) (canonical-erase bytes path part sub.under))) in
           record { first = l; others = ls; are = e; is = same; node = p.leaf; there = p.is; key_is = p.key; before = behind_first l ls up }
 
   -- the first of leaves that are all in conflict with a key
   pub nearest_of_conflicts : (key : List ℕ) (name : Name) (slot : ℕ) (o : Ordering) (path : List ℕ) (part : Shape K V) → IsSubtree bytes P (node_at arena) name path part → first_slot (leaves part) None ≡ Some slot
       → AllConflict bytes key (leaves part) → Told key slot o → IsNearest bytes key (leaves part) slot o
   nearest_of_conflicts key name slot o path part sub first conflicts told =
-      let f = first_of name path part slot sub first in
+      let f = first_of_part name path part slot sub first in
       let c = subst (AllConflict bytes key) f.are conflicts in
       subst (λ ls. IsNearest bytes key ls slot o) (sym f.are)
       (nearest_conflict bytes key f.first f.others slot o f.is (sym (told f.node f.there ∙ ap (λ k. bytes_cmp (bytes k) key) f.key_is)) c.0 f.before)
@@ -398,4 +373,4 @@ module _ {K V : Type 0} (bytes : K → List ℕ) (P : ℕ) (arena : Arena K V) w
   -- the part at a point, under the name that it has there
   pub point_subtree : (key : List ℕ) (root n : Name) (s : Shape K V) (point : InsertPoint) → IsSubtree bytes P (node_at arena) root [] s → (at : IsPoint bytes key s point) → name_of at.part ≡ n
       → IsSubtree bytes P (node_at arena) n (path_to at.ctx) at.part
-  point_subtree key root n s point sub at e = subst (λ m. IsSubtree bytes P (node_at arena) m (path_to at.ctx) at.part) e (place_subtree root s at.part at.ctx sub at.toward.place)
+  point_subtree key root n s point sub at e = subst (λ m. IsSubtree bytes P (node_at arena) m (path_to at.ctx) at.part) e (place-subtree bytes P (node_at arena) root s at.ctx at.part sub at.toward.place)

@@ -2,9 +2,8 @@
 use Rattle.std.proofs.Common.{◌≡◌, ℕ, Bool, true, false, List, [], ◌∷◌, ◌++◌, Option, Some, None, IsSome, refl, sym, subst, ◌∙◌, append_assoc}
 use Rattle.art_arena.specs.arena.Linked.{Links, first_slot, last_slot, IsBeside}
 use Rattle.art_arena.specs.arena.Shapes.{LeafAt}
-use Rattle.art_arena.proofs.shapes.LinkedLists.{ends_with-first, last_slot-append}
+use Rattle.art_arena.proofs.shapes.LinkedLists.{ends_with-first, last_slot-append, AreLinked-same}
 use Rattle.art_operations.specs.inner.Splits.{IsBetween}
-use Rattle.art_operations.proofs.Inserted.{AreLinked-same}
 
 module _ {K V : Type 0} where
   -- the list behind the place begins with the leaf before which the new one goes
@@ -42,13 +41,13 @@ module _ {K V : Type 0} where
   }
 
   -- the end of a list is that of a longer one
-  pub first_of : (xs ys : List (LeafAt K V)) (slot : ℕ) → first_slot xs None ≡ Some slot → first_slot (xs ++ ys) None ≡ Some slot
-  first_of [] ys slot e = absurd (cc)
-  first_of (x ∷ xs) ys slot e = e
+  pub first_of_longer : (xs ys : List (LeafAt K V)) (slot : ℕ) → first_slot xs None ≡ Some slot → first_slot (xs ++ ys) None ≡ Some slot
+  first_of_longer [] ys slot e = absurd (cc)
+  first_of_longer (x ∷ xs) ys slot e = e
 
   last_from : (before : Option ℕ) (xs : List (LeafAt K V)) (slot : ℕ) → last_slot None xs ≡ Some slot → last_slot before xs ≡ Some slot
   last_from before [] slot e = absurd (cc)
   last_from before (x ∷ xs) slot e = e
 
-  pub last_of : (xs ys : List (LeafAt K V)) (slot : ℕ) → last_slot None ys ≡ Some slot → last_slot None (xs ++ ys) ≡ Some slot
-  last_of xs ys slot e = last_slot-append None xs ys ∙ last_from (last_slot None xs) ys slot e
+  pub last_of_longer : (xs ys : List (LeafAt K V)) (slot : ℕ) → last_slot None ys ≡ Some slot → last_slot None (xs ++ ys) ≡ Some slot
+  last_of_longer xs ys slot e = last_slot-append None xs ys ∙ last_from (last_slot None xs) ys slot e

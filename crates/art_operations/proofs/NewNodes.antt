@@ -3,7 +3,7 @@ use Rattle.std.proofs.Common.{◌≡◌, ◌≢◌, ℕ, ◌≤◌, None, Some, 
 use Rattle.art_nodes.specs.Name.{Name}
 use Rattle.art_nodes.specs.InnerNode.{InnerNode}
 use Rattle.art_nodes.specs.declared.kind.NodeType.{NodeType}
-use Rattle.art_nodes.specs.declared.kind.NodeType.TheVariants.{Node4, Node16, Node48, Node256, Leaf}
+use Rattle.art_nodes.specs.declared.kind.NodeType.TheVariants.{Leaf}
 use Rattle.art_arena.specs.arena.Arena.{Arena, Held, inner_held, as_inner, held_as, held_at, Allocates, SameNodes, HasRoom}
 use Rattle.art_arena.specs.arena.Cells.{UpdatesAt}
 use Rattle.art_arena.proofs.shapes.CellLists.{same_name_tells}
@@ -27,11 +27,8 @@ module _ {K V : Type 0} where
   of_inner (Some n) there = (n, refl)
 
   held_of_kind : (arena : Arena K V) (kind : NodeType) (slot : ℕ) → IsSome (held_as arena kind slot) → kind ≢ Leaf → (n : InnerNode) × (held_as arena kind slot ≡ Some (inner_held n))
-  held_of_kind arena Node4 slot there other = of_inner _ there
-  held_of_kind arena Node16 slot there other = of_inner _ there
-  held_of_kind arena Node48 slot there other = of_inner _ there
-  held_of_kind arena Node256 slot there other = of_inner _ there
   held_of_kind arena Leaf slot there other = absurd (other refl)
+  held_of_kind arena kind slot there other = of_inner _ there
 
   -- under the name of an inner node that is held stands an inner node
   pub held_inner : (arena : Arena K V) (name : Name) → IsSome (held_at arena name) → name.kind ≢ Leaf → (n : InnerNode) × (held_at arena name ≡ Some (inner_held n))

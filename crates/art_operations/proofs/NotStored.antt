@@ -38,14 +38,14 @@ module _ {K V : Type 0} (bytes : K → List ℕ) (key : List ℕ) where
   abbrev pub HaveOthers : List (LeafAt K V) → Type 0
   HaveOthers ls = AllByRecursion (λ l. bytes l.key ≢ key) ls
 
-  no_child : (path : List ℕ) (b low : ℕ) (f : Branches K V) → BeginsWith (path ++ b ∷ []) key → AreUnder bytes path low f → child_at (children_at f) b ≡ None → HaveOthers (leaves_in f)
-  no_child path b low no_branch on under none = tt
-  no_child path b low (branch c t rest) on under none = elim (eqb_tells c b) [
+  none_below_child : (path : List ℕ) (b low : ℕ) (f : Branches K V) → BeginsWith (path ++ b ∷ []) key → AreUnder bytes path low f → child_at (children_at f) b ≡ None → HaveOthers (leaves_in f)
+  none_below_child path b low no_branch on under none = tt
+  none_below_child path b low (branch c t rest) on under none = elim (eqb_tells c b) [
     | inl same ↦ absurd (let f = rw same.0 at none in cc)
     | inr differs ↦
         all_append _ (leaves t) (leaves_in rest)
         (all_weaker _ _ (λ l st. other key path b c (bytes l.key) on st (λ same. differs.1 (sym same))) (leaves t) (leaves-begin bytes (path ++ c ∷ []) t under.1))
-        (no_child path b (c + 1) rest on under.2 (rw differs.0 at none))
+        (none_below_child path b (c + 1) rest on under.2 (rw differs.0 at none))
   ]
 
   -- below the place
@@ -67,7 +67,7 @@ module _ {K V : Type 0} (bytes : K → List ℕ) (key : List ℕ) where
       )
   met path s (kind.IntoExisting name b) under begins (prefix, kids, is, none, on) unmet =
       let here : IsUnder bytes path (inner_at name prefix kids) = subst (IsUnder bytes path) is under in
-      subst (λ t. HaveOthers (leaves t)) (sym is) (no_child (path ++ prefix) b 0 kids on here.1 none)
+      subst (λ t. HaveOthers (leaves t)) (sym is) (none_below_child (path ++ prefix) b 0 kids on here.1 none)
   met path s (kind.Exact slot) under begins m unmet = absurd (unmet slot refl)
 
   -- in the whole tree

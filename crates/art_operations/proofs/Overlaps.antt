@@ -5,8 +5,8 @@ use Rattle.std.proofs.lemmas.Bool.{or_left, or_right}
 use Rattle.std.proofs.lemmas.List.Elements.{filter-append}
 use Rattle.art_bytes.specs.Keys.{Conflict, IsBefore}
 use Rattle.art_bytes.proofs.Order.{front_not_before, front_not_after}
-use Rattle.art_arena.specs.tree.Changes.{put}
-use Rattle.art_arena.specs.tree.Order.{IsAscending}
+use Rattle.art_arena.specs.tree.Changes.{put_in_order}
+use Rattle.art_arena.specs.tree.Order.{AscendsByKey}
 use Rattle.art_arena.specs.tree.Tenants.{begins_with}
 use Rattle.art_arena.proofs.tree.Exists.{put_is}
 use Rattle.art_arena.proofs.tree.Order.{all_weaker}
@@ -67,14 +67,14 @@ module _ {X : Type 0} (key : X → List ℕ) (k : List ℕ) where
 module _ {X : Type 0} (key : X → List ℕ) (x : X) where
   -- new is old with x in the place of those whose keys overlap its key, which were these
   pub record IsPutOver (old new gone : List X) : Type 0 where
-    pub new_is : new ≡ put key x (without_overlapping key (key x) old)
+    pub new_is : new ≡ put_in_order key x (without_overlapping key (key x) old)
     pub were : gone ≡ overlapping key (key x) old
 
-  pub put_over : (front block back : List X) → IsAscending key (front ++ x ∷ back) → AllOverlap key (key x) block → IsPutOver (front ++ (block ++ back)) (front ++ x ∷ back) block
+  pub put_over : (front block back : List X) → AscendsByKey key (front ++ x ∷ back) → AllOverlap key (key x) block → IsPutOver (front ++ (block ++ back)) (front ++ x ∷ back) block
   put_over front block back h all =
       let left = all_weaker _ (λ y. overlaps (key x) (key y) ≡ false) (λ y b. behind_no_overlap (key x) (key y) b) front (before key x front back h) in
       let right = all_weaker _ (λ y. overlaps (key x) (key y) ≡ false) (λ y b. before_no_overlap (key x) (key y) b) back (behind key x front back h) in
       record {
-        new_is = sym (put_is key x front back h) ∙ ap (put key x) (sym (block_gone key (key x) front block back left all right));
+        new_is = sym (put_is key x front back h) ∙ ap (put_in_order key x) (sym (block_gone key (key x) front block back left all right));
         were = sym (block_kept key (key x) front block back left all right);
       }

@@ -4,20 +4,18 @@ use Rattle.art_nodes.specs.Name.{Name}
 use Rattle.art_nodes.specs.declared.kind.NodeType.TheVariants.{Leaf}
 use Rattle.art_nodes.specs.declared.leaf.LeafNode.{LeafNode}
 use Rattle.art_arena.specs.arena.Arena.{Arena, cell_of, links_of, held_at, node_at, links_at, Allocates, KeepsNodes, SameCells}
-use Rattle.art_arena.specs.arena.Cells.{Cell, pair, leaf_name, copies, AreHeld, Holds, UpdatesAt}
-use Rattle.art_arena.specs.arena.Context.{Frame, plug, path_to, root_of, leaves_before, leaves_after, cells_before, cells_after}
-use Rattle.art_arena.specs.arena.Linked.{Links, AreLinked, IsBeside, KeepsLinksOutside, times}
+use Rattle.art_arena.specs.arena.Cells.{Cell, pair, leaf_name, copies, Holds, UpdatesAt}
+use Rattle.art_arena.specs.arena.Context.{plug, path_to, root_of, leaves_before, leaves_after, cells_before, cells_after}
+use Rattle.art_arena.specs.arena.Linked.{AreLinked, IsBeside, KeepsLinksOutside, times}
 use Rattle.art_arena.specs.arena.Meaning.{IsNodesBeside, IsSubtree, IsTreeBeside}
-use Rattle.art_arena.specs.arena.Places.{IsPlace}
 use Rattle.art_arena.specs.arena.Shapes.{Shape, leaf_at, inner_at, LeafAt, name_of, leaves, pairs_of, cells, width, IsUnder}
 use Rattle.art_arena.specs.arena.Steps.{Step}
 use Rattle.art_arena.proofs.tree.Order.{all_left, all_weaker}
 use Rattle.art_arena.proofs.shapes.Besides.{keeps-held}
 use Rattle.art_arena.proofs.shapes.CellLists.{copies-append, Holds-add, Holds-remove, Holds-same, Holds-turn}
 use Rattle.art_arena.proofs.shapes.Contexts.{cells-plug, leaves-plug, name_of-plug, IsUnder-plug}
-use Rattle.art_arena.proofs.shapes.LinkedLists.{eqb-self, outside-apart}
+use Rattle.art_arena.proofs.shapes.LinkedLists.{outside-apart, AreLinked-kept}
 use Rattle.art_arena.proofs.shapes.Meanings.{nodes-subtree}
-use Rattle.art_arena.proofs.shapes.Places.{held-below}
 use Rattle.art_arena.proofs.shapes.Repoint.{IsNodesBeside-plug, unplugged}
 use Rattle.art_arena.proofs.shapes.Surroundings.{new-beside, times-leaves}
 use Rattle.art_arena.proofs.shapes.Walking.{place-subtree}
@@ -36,15 +34,6 @@ use Rattle.art_operations.proofs.Overlaps.{overlaps_same, overlaps_conflict}
 -- the name of a leaf, from its kind and its slot
 pub leaf_named : (n : Name) (slot : ℕ) → n.kind ≡ Leaf → slot ≡ n.slot → n ≡ leaf_name slot
 leaf_named n slot kind same = ap₂ (λ k m. record { kind = k; slot = m }) kind (sym same)
-
-module _ {K V : Type 0} where
-  -- links that answer alike of the leaves of a list link it alike
-  pub AreLinked-kept : (old new : ℕ → Option Links) (before : Option ℕ) (xs : List (LeafAt K V)) (after : Option ℕ) → ((n : ℕ) → 1 ≤ times n xs → new n ≡ old n) → AreLinked old before xs after → AreLinked new before xs after
-  AreLinked-kept old new before [] after same linked = tt
-  AreLinked-kept old new before (x ∷ xs) after same linked = (
-    same x.slot (omega (arith, ap {B = ℕ} (λ b. cond b 1 0) (eqb-self x.slot))) ∙ linked.0,
-    AreLinked-kept old new (Some x.slot) xs after (λ n here. same n (omega (arith, here))) linked.1,
-  )
 
 module _ {K V : Type 0} (bytes : K → List ℕ) (P : ℕ) where
   -- a leaf is taken out from beside other nodes

@@ -1,5 +1,5 @@
 -- The node above a leaf, and the leaf taken out of it.
-use Rattle.std.proofs.Common.{◌≡◌, ◌≢◌, ℕ, suc, ◌+◌, List, ◌∷◌, length, Some, refl, sym, ap, ◌∙◌, arith, length-append}
+use Rattle.std.proofs.Common.{◌≡◌, ◌≢◌, ℕ, suc, ◌+◌, List, ◌∷◌, length, Some, sym, ap, ◌∙◌, arith, length-append}
 use Rattle.art_nodes.specs.Name.{Name}
 use Rattle.art_nodes.specs.InnerNode.{InnerNode, with_child, without_child, with_children}
 use Rattle.art_nodes.specs.declared.kind.NodeType.TheVariants.{Leaf}
@@ -7,8 +7,8 @@ use Rattle.art_arena.specs.arena.Arena.{Arena, inner_held, held_at, links_of, li
 use Rattle.art_arena.specs.arena.Cells.{Cell, leaf_name}
 use Rattle.art_arena.specs.arena.Context.{Frame}
 use Rattle.art_arena.specs.arena.Meaning.{IsSubtree}
-use Rattle.art_arena.specs.arena.Shapes.{Shape, Branches, leaf_at, inner_at, no_branch, branch, LeafAt, children_at, join, width}
-use Rattle.art_arena.proofs.shapes.Contexts.{children_at-join}
+use Rattle.art_arena.specs.arena.Shapes.{Shape, leaf_at, inner_at, LeafAt, children_at, join, width}
+use Rattle.art_arena.proofs.shapes.Contexts.{children_at-join, length-children}
 use Rattle.art_arena.proofs.shapes.Openings.{with_child-opening, without_child-frame}
 use Rattle.art_arena.proofs.shapes.Repoint.{frame_node, frame-there, unplugged}
 use Rattle.art_arena.proofs.shapes.Subtrees.{inner_of}
@@ -17,11 +17,6 @@ use Rattle.art_operations.specs.inner.Removals.{Moves, PutsBack, Lengthens}
 use Rattle.art_operations.proofs.Lengthened.{kind_not_leaf, others_kept}
 
 module _ {K V : Type 0} where
-  -- a node has as many children as branches
-  pub length-children : (f : Branches K V) → length (children_at f) ≡ width f
-  length-children no_branch = refl
-  length-children (branch b s rest) = ap suc (length-children rest)
-
   -- a move of an inner node leaves all links
   pub moves_links : (old new : Arena K V) (place other : Name) (node : InnerNode) → Moves old new place other (inner_held node) → place.kind ≢ Leaf → other.kind ≢ Leaf → (slot : ℕ) → links_at new slot ≡ links_at old slot
   moves_links old new place other node moves inner also slot =

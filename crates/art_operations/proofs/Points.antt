@@ -1,5 +1,5 @@
 -- The way to the place of a new key, one node at a time, and where it ends.
-use Rattle.std.proofs.Common.{◌≡◌, ◌≢◌, ℕ, ◌+◌, ◌<◌, ◌≤◌, List, [], ◌∷◌, ◌++◌, length, take, drop, get_or, Option, Some, None, refl, sym, ap, ap₂, subst, ◌∙◌, inl, inr, arith, append_assoc, append-nil, length-append}
+use Rattle.std.proofs.Common.{◌≡◌, ◌≢◌, ℕ, ◌+◌, List, [], ◌∷◌, ◌++◌, length, drop, get_or, Option, Some, None, refl, sym, ap, subst, ◌∙◌, inl, inr, append_assoc, append-nil}
 use Rattle.std.proofs.lemmas.Bool.Decides.{eqb_tells}
 use Rattle.art_bytes.specs.Keys.{BeginsWith, Conflict, IsProperFront}
 use Rattle.art_nodes.specs.declared.kind.NodeType.TheVariants.{Leaf}
@@ -10,20 +10,18 @@ use Rattle.art_arena.specs.tree.Changes.{IsIn}
 use Rattle.art_arena.specs.arena.Cells.{Cell, leaf_name}
 use Rattle.art_arena.specs.arena.Arena.{Arena, leaf_held, inner_held, held_at, node_at}
 use Rattle.art_arena.specs.arena.Shapes.{Shape, Branches, leaf_at, inner_at, no_branch, branch, children_at, leaves, leaves_in, IsUnder, AreUnder}
-use Rattle.art_arena.specs.arena.Context.{Frame, path_to}
+use Rattle.art_arena.specs.arena.Context.{path_to}
 use Rattle.art_arena.specs.arena.Meaning.{IsAtDepth, IsSubtree}
-use Rattle.art_arena.specs.arena.Places.{IsPlace, IsToward}
-use Rattle.art_arena.specs.arena.Steps.{Step, steps_to}
+use Rattle.art_arena.specs.arena.Steps.{Step}
 use Rattle.art_arena.proofs.tree.Order.{all_append, all_weaker}
 use Rattle.art_arena.proofs.tree.Fronts.{begins_trans, one_byte}
-use Rattle.art_arena.proofs.shapes.Places.{leaves-begin, step-down, at-root}
+use Rattle.art_arena.proofs.shapes.Places.{leaves-begin}
 use Rattle.art_operations.specs.Meetings.{PartAt}
-use Rattle.art_arena.proofs.shapes.LastSteps.{last_two}
 use Rattle.art_operations.specs.declared.meeting.Parted.{Parted}
 use Rattle.art_operations.specs.Points.{AllConflict, HasConflict, NoConflict}
 use Rattle.art_arena.specs.arena.Descents.{OnWayTo}
 use Rattle.art_arena.proofs.shapes.Passing.{behind, byte_behind}
-use Rattle.art_arena.proofs.shapes.Subtrees.{pair_of, leaves_begin_prefix, some_leaf, subtree-leaf, subtree-inner, subtree-branch, root_held}
+use Rattle.art_arena.proofs.shapes.Subtrees.{holds_pair, leaves_begin_prefix, some_leaf, subtree-leaf, subtree-inner, root_held}
 use Rattle.art_bytes.proofs.Order.{begins_step, begins_from_step, conflict_first, conflict_second}
 
 -- keys that go on behind a front by different bytes are not in conflict
@@ -46,23 +44,23 @@ part_old path rest old key more p e part =
 
 module _ {K V : Type 0} (bytes : K → List ℕ) (P : ℕ) (arena : Arena K V) where
   -- the leaf that a search has come to
-  pub record LeafThere (slot : ℕ) (path : List ℕ) (s : Shape K V) : Type 0 where
+  pub record ReachedLeaf (slot : ℕ) (path : List ℕ) (s : Shape K V) : Type 0 where
     pub leaf : LeafNode K V
     pub value : V
     pub there : held_at arena (leaf_name slot) ≡ Some (leaf_held leaf)
     pub is : s ≡ leaf_at slot leaf.key value
     pub begins : BeginsWith path (bytes leaf.key)
 
-  pub leaf_there : (slot : ℕ) (path : List ℕ) (s : Shape K V) → IsSubtree bytes P (node_at arena) (leaf_name slot) path s → LeafThere slot path s
+  pub leaf_there : (slot : ℕ) (path : List ℕ) (s : Shape K V) → IsSubtree bytes P (node_at arena) (leaf_name slot) path s → ReachedLeaf slot path s
   leaf_there slot path s sub = at_leaf is.0 is.1 is.2
     where
       is : (k : K) × (v : V) × (s ≡ leaf_at slot k v)
       is = subtree-leaf bytes P (node_at arena) (leaf_name slot) path s sub refl
 
-      at_leaf : (k : K) (v : V) → s ≡ leaf_at slot k v → LeafThere slot path s
+      at_leaf : (k : K) (v : V) → s ≡ leaf_at slot k v → ReachedLeaf slot path s
       at_leaf k v e =
           let here : IsSubtree bytes P (node_at arena) (leaf_name slot) path (leaf_at slot k v) = subst (IsSubtree bytes P (node_at arena) (leaf_name slot) path) e sub in
-          let p = pair_of (held_at arena (leaf_name slot)) k v here.part.held.0 in
+          let p = holds_pair (held_at arena (leaf_name slot)) k v here.part.held.0 in
           record { leaf = p.leaf; value = v; there = p.is; is = e ∙ ap (λ x. leaf_at slot x v) (sym p.key); begins = subst (λ x. BeginsWith path (bytes x)) (sym p.key) here.under }
 
 module _ {K V : Type 0} (bytes : K → List ℕ) (key path : List ℕ) (depth : ℕ) (len : length path ≡ depth) (begins : BeginsWith path key) where

@@ -24,9 +24,10 @@ use Rattle.art_operations.specs.declared.running.Answer.TheVariants.{Done}
 use Rattle.art_operations.specs.declared.running.Command.TheVariants.{PrefixInsert}
 use Rattle.art_operations.specs.inner.Runs.{IsDone}
 use Rattle.art_operations.proofs.HeldPairs.{stored-exact}
-use Rattle.art_operations.proofs.LeafPairs.{pair_of, pairs_ascend, in_unmap, held_leaf}
+use Rattle.art_operations.proofs.LeafPairs.{leaf_pair, pairs_ascend, held_leaf}
 use Rattle.art_operations.proofs.NotStored.{not-in-way}
 use Rattle.art_operations.proofs.Overlaps.{put_over}
+use Rattle.art_arena.proofs.tree.Paths.{in_unmap}
 
 -- how many pairs are no more
 pub how_many : {K V : Type 0} (gone : List (K × V)) (result : PrefixInsertResult K V) → AreRemoved gone result.insert_result.existing_leaf result.leafs_removed → removed_by result ≡ length gone
@@ -51,9 +52,9 @@ module _ {K V : Type 0} (bytes : K → List ℕ) (P : ℕ) where
       → IsOverwrittenBeside bytes P new rest has.shape last key value result → HasPutOverBeside bytes P new rest pairs key value result
   put-over-at old new point key value pairs has last result is =
       let leaf : LeafAt K V = record { slot = result.insert_result.leaf_node_ptr; key = key; value = value } in
-      let new_is : pairs_of (leaves is.shape) ≡ pairs_of is.front ++ (key, value) ∷ pairs_of is.back = ap pairs_of is.are ∙ map-append pair_of is.front (leaf ∷ is.back) in
+      let new_is : pairs_of (leaves is.shape) ≡ pairs_of is.front ++ (key, value) ∷ pairs_of is.back = ap pairs_of is.are ∙ map-append leaf_pair is.front (leaf ∷ is.back) in
       let old_is : pairs ≡ pairs_of is.front ++ (pairs_of is.block ++ pairs_of is.back) =
-      sym has.pairs_are ∙ ap pairs_of is.were ∙ map-append pair_of is.front (is.block ++ is.back) ∙ ap (λ ps. pairs_of is.front ++ ps) (map-append pair_of is.block is.back) in
+      sym has.pairs_are ∙ ap pairs_of is.were ∙ map-append leaf_pair is.front (is.block ++ is.back) ∙ ap (λ ps. pairs_of is.front ++ ps) (map-append leaf_pair is.block is.back) in
       let h = rw new_is at (pairs_ascend bytes is.shape is.is_tree.nodes.under) in
       let put = put_over (key_of bytes) (key, value) (pairs_of is.front) (pairs_of is.block) (pairs_of is.back) h (pair_overlap (bytes key) is.block is.overlap) in
       let told = rw (sym old_is) at put in
@@ -77,7 +78,7 @@ module _ {K V : Type 0} (bytes : K → List ℕ) (P : ℕ) where
       let here : HasPointBeside bytes P old rest point key pairs = record { shape = has.shape; is_tree = has.is_tree; place = has.place; pairs_are = has.pairs_are } in
       stored-exact bytes P old point key pairs here stored
   stored-over old (at.OverwritePoint point) key pairs has (x, i, same) =
-      let back = in_unmap pair_of (key_of bytes) x (leaves has.shape) (subst (IsIn x) (sym has.pairs_are) i) in
+      let back = in_unmap leaf_pair x (leaves has.shape) (subst (IsIn x) (sym has.pairs_are) i) in
       let others = not-in-way bytes key has.shape point.root point.overwrite_point (steps_of point.path) has.place in
       absurd (all_at (λ (l : LeafAt K V). bytes l.key ≢ key) back.0 (leaves has.shape) others back.1 (ap (key_of bytes) back.2 ∙ same))
 

@@ -1,14 +1,12 @@
 -- A leaf whose loss changes the kind of the node above it, by the keys alone.
-use Rattle.std.proofs.Common.{◌≡◌, ℕ, suc, ◌+◌, List, [], ◌∷◌, ◌++◌, length, drop, map, refl, sym, ap, ap₂, subst, ◌∙◌, inl, inr, arith, append_assoc, drop_at}
-use Rattle.std.specs.List.{filter_map, cons_option}
-use Rattle.std.specs.Prelude.{Option, nat_eq}
+use Rattle.std.proofs.Common.{◌≡◌, ℕ, suc, ◌+◌, List, [], ◌∷◌, ◌++◌, length, drop, refl, sym, ap, ap₂, subst, ◌∙◌, inl, inr, arith, append_assoc, drop_at}
 use Rattle.std.proofs.lemmas.Bool.Decides.{eqb_tells}
 use Rattle.art_nodes.specs.Name.{Name}
 use Rattle.art_arena.specs.arena.Arena.{Arena, node_at}
 use Rattle.art_arena.specs.arena.Cells.{Cell}
 use Rattle.art_arena.specs.tree.Changes.{IsIn}
 use Rattle.art_arena.specs.arena.Context.{Frame, fill, plug, path_to, leaves_before, leaves_after, AreBelow, AreAround}
-use Rattle.art_arena.specs.tree.Fronts.{byte_after, width_of, distinct}
+use Rattle.art_arena.specs.tree.Fronts.{width_of}
 use Rattle.art_arena.specs.tree.Kinds.{ChangesKind}
 use Rattle.art_arena.specs.arena.Meaning.{IsNodesBeside}
 use Rattle.art_arena.specs.arena.Shapes.{Shape, Branches, leaf_at, no_branch, branch, join, leaves, width, erase, erase_in, key_of, IsUnder}
@@ -21,31 +19,10 @@ use Rattle.art_arena.proofs.shapes.Erased.{items-erase, count-erase, canonical-e
 use Rattle.art_arena.proofs.tree.Fronts.{widths}
 use Rattle.art_arena.proofs.tree.Insert.{in_right}
 use Rattle.art_arena.proofs.tree.Paths.{in_map}
-use Rattle.art_arena.proofs.tree.Shrinks.{TreeMeets, meets, shrinks_is_kind_change}
+use Rattle.art_arena.proofs.tree.Shrinks.{TreeMeets, tree_meets, shrinks_is_kind_change}
 use Rattle.art_operations.specs.DeletePoints.{IsLeafPlace}
 use Rattle.art_operations.proofs.Detaching.{the_parent, the_leaf, whole_is, held_at_place}
-use Rattle.art_bytes.specs.Keys.{common_prefix}
-
--- of pairs, or of the leaves that they are of
-
-module _ {X Y : Type 0} (f : X → Y) where
-  from_map : (y : Y) (xs : List X) → IsIn y (map f xs) → (x : X) × IsIn x xs × (f x ≡ y)
-  from_map y [] i = absurd i
-  from_map y (x ∷ xs) (inl e) = (x, inl refl, e)
-  from_map y (x ∷ xs) (inr i) = let r = from_map y xs i in (r.0, inr r.1, r.2)
-
-  filtered : (g : Y → Option ℕ) (xs : List X) → filter_map g (map f xs) ≡ filter_map (λ x. g (f x)) xs
-  filtered g [] = refl
-  filtered g (x ∷ xs) = ap (cons_option (g (f x))) (filtered g xs)
-
-  shrinks_of_map : (key : Y → List ℕ) (xs : List X) (k : List ℕ) → Shrinks key (map f xs) k → Shrinks (λ x. key (f x)) xs k
-  shrinks_of_map key xs k (m, ((y, i, apart, meets), longest), limit) =
-      let x = from_map y xs i in
-      let same : width_of key (map f xs) m ≡ width_of (λ x. key (f x)) xs m = ap (λ bs. length (distinct nat_eq bs)) (filtered (λ y. byte_after m (key y)) xs) in (
-        m,
-        ((x.0, x.1, λ e. apart (ap key (sym x.2) ∙ e), ap (λ y. common_prefix k (key y)) x.2 ∙ meets), λ z j other. longest (f z) (in_map f z xs j) other),
-        rw (← same) limit,
-      )
+use Rattle.art_operations.proofs.LeafPairs.{shrinks-unmap}
 
 -- down to the node above a place
 
@@ -76,7 +53,7 @@ module _ {K V : Type 0} where
 module _ {K V : Type 0} (bytes : K → List ℕ) where
   -- the node above a key's leaf has as many children as bytes follow the longest front that the key shares
   shrinks_at : (s : Shape K V) → IsUnder bytes [] s → (k : K × V) → IsIn k (items (erase s)) → (n : ℕ) → ((m : ℕ) → last_count m (erase s) (key_of bytes k) ≡ suc n) → ChangesKind (suc n) → Shrinks (key_of bytes) (items (erase s)) (key_of bytes k)
-  shrinks_at s under k stored n counted changes = go (meets (key_of bytes) (key_of bytes k) [] (erase s) canonical (key_of bytes k) refl (k, stored, refl))
+  shrinks_at s under k stored n counted changes = go (tree_meets (key_of bytes) (key_of bytes k) [] (erase s) canonical (key_of bytes k) refl (k, stored, refl))
     where
       canonical : IsCanonical (key_of bytes) [] (erase s)
       canonical = canonical-erase bytes [] s under
@@ -101,5 +78,5 @@ module _ {K V : Type 0} (bytes : K → List ℕ) (P : ℕ) {rest : List (Name ×
       let leaf = the_leaf bytes P arena root s slot last step more some parent node nodes place in
       let there : IsIn leaf (leaves s) = subst (IsIn leaf) (sym (ap leaves is ∙ leaves-plug (hp.frame ∷ hp.outer) (leaf_at slot place.key place.value))) (in_right leaf (leaves_before (hp.frame ∷ hp.outer)) (leaf ∷ leaves_after (hp.frame ∷ hp.outer)) (inl refl)) in
       let stored : IsIn (place.key, place.value) (items (erase s)) = subst (IsIn (place.key, place.value)) (sym (items-erase s)) (in_map (λ l. (l.key, l.value)) leaf (leaves s) there) in
-      shrinks_of_map (λ l. (l.key, l.value)) (key_of bytes) (leaves s) (bytes place.key)
+      shrinks-unmap (λ l. (l.key, l.value)) (key_of bytes) (leaves s) (bytes place.key)
       (subst (λ xs. Shrinks (key_of bytes) xs (bytes place.key)) (items-erase s) (shrinks_at bytes s nodes.under (place.key, place.value) stored _ counted changes))

@@ -6,17 +6,16 @@ use Rattle.art_nodes.specs.Name.{Name}
 use Rattle.art_nodes.specs.declared.kind.NodeType.TheVariants.{Leaf, Node4}
 use Rattle.art_nodes.specs.declared.concrete.ConcreteInnerNodePtr.TheVariants as inner
 use Rattle.art_arena.specs.arena.Arena.{Arena, inner_held, cell_of, held_at, node_at, links_at}
-use Rattle.art_arena.specs.arena.Cells.{Cell, pair, branches, leaf_name, copies, AreHeld, Holds, UpdatesAt}
+use Rattle.art_arena.specs.arena.Cells.{Cell, pair, branches, leaf_name, Holds, UpdatesAt}
 use Rattle.art_arena.specs.arena.Context.{Frame, path_to, root_of, frame_cell, leaves_before, leaves_after, cells_before, cells_after, AreAround}
 use Rattle.art_arena.specs.arena.Linked.{AreLinked, IsBeside}
 use Rattle.art_arena.specs.arena.Meaning.{IsAtDepth, IsSubtree, IsTreeBeside}
 use Rattle.art_arena.specs.arena.Shapes.{Shape, no_branch, branch, name_of, leaves, cells, node_of}
 use Rattle.art_arena.specs.arena.Steps.{Step}
 use Rattle.art_arena.proofs.tree.Order.{all_right}
-use Rattle.art_arena.proofs.shapes.CellLists.{copies-append, Holds-add, Holds-write, Holds-same, Holds-turn}
-use Rattle.art_arena.proofs.shapes.Contexts.{cells-plug, leaves-plug, name_of-plug}
-use Rattle.art_arena.proofs.shapes.Meanings.{nodes-part}
-use Rattle.art_arena.proofs.shapes.Places.{held-below}
+use Rattle.art_arena.proofs.shapes.CellLists.{Holds-add, Holds-write, Holds-same, Holds-turn}
+use Rattle.art_arena.proofs.shapes.Contexts.{leaves-plug, name_of-plug}
+use Rattle.art_arena.proofs.shapes.Meanings.{nodes-subtree}
 use Rattle.art_arena.proofs.shapes.Repoint.{unplugged}
 use Rattle.art_arena.proofs.shapes.Surroundings.{new-beside}
 use Rattle.art_arena.proofs.shapes.Updates.{nodes-update, links-update, links-kept}
@@ -25,9 +24,12 @@ use Rattle.art_operations.specs.inner.Splits.{trimmed, root_cell, IsEnd, IsBetwe
 use Rattle.art_operations.specs.Insertions.{IsInsertedBeside}
 use Rattle.art_operations.specs.declared.insert.result.InsertParentNodeChange.TheVariants.{NewParent}
 use Rattle.art_operations.specs.declared.meeting.Parted.{Parted}
-use Rattle.art_operations.proofs.Splits.{SplitPlace, below_root, cells-root, below-trimmed, name_of-trimmed, leaves-trimmed, held_there}
-use Rattle.art_operations.proofs.Inserted.{AreLinked-same, inserted_below}
-use Rattle.art_operations.proofs.NewLeaves.{first_of, last_of, beside-same}
+use Rattle.art_operations.proofs.Splits.{SplitPlace, below_root, cells-root, below-trimmed, name_of-trimmed, leaves-trimmed}
+use Rattle.art_operations.proofs.Inserted.{inserted_below}
+use Rattle.art_operations.proofs.NewLeaves.{first_of_longer, last_of_longer, beside-same}
+use Rattle.art_arena.proofs.shapes.Subtrees.{cell_held}
+use Rattle.art_arena.proofs.shapes.Walking.{place-subtree}
+use Rattle.art_arena.proofs.shapes.LinkedLists.{AreLinked-same}
 
 -- the order of two bytes
 before_is : (a b : ℕ) → true ≡ ltb a b → a < b
@@ -88,10 +90,10 @@ module _ {K V : Type 0} (bytes : K → List ℕ) (P : ℕ) (s : Shape K V) (old 
       → IsBetween is_before neighbour (leaves_before (split_frame is_before slot ∷ at.ctx)) (leaves_after (split_frame is_before slot ∷ at.ctx))
   end_between true slot neighbour end =
       let same = leaves-trimmed (parted.matched + 1) at.part in
-      first_of (leaves lower ++ []) (leaves_after at.ctx) neighbour (first_of (leaves lower) [] neighbour (subst (IsEnd true neighbour) (sym same) end))
+      first_of_longer (leaves lower ++ []) (leaves_after at.ctx) neighbour (first_of_longer (leaves lower) [] neighbour (subst (IsEnd true neighbour) (sym same) end))
   end_between false slot neighbour end =
       let same = leaves-trimmed (parted.matched + 1) at.part in
-      last_of (leaves_before at.ctx) (leaves lower ++ []) neighbour (subst (IsEnd false neighbour) (sym (append-nil (leaves lower))) (subst (IsEnd false neighbour) (sym same) end))
+      last_of_longer (leaves_before at.ctx) (leaves lower ++ []) neighbour (subst (IsEnd false neighbour) (sym (append-nil (leaves lower))) (subst (IsEnd false neighbour) (sym same) end))
 
   module _ {rest : List (Name × Cell K V)} (root : Name) (start : Arena K V) (tree : IsTreeBeside bytes P (node_at start) root (links_at start) rest s) where
     abbrev left : List (Name × Cell K V)
@@ -110,17 +112,7 @@ module _ {K V : Type 0} (bytes : K → List ℕ) (P : ℕ) (s : Shape K V) (old 
 
     -- the part is a tree of its own
     pub part_subtree : IsSubtree bytes P (node_at start) old (path_to at.ctx) at.part
-    part_subtree = record {
-      part = record {
-        named = at.named;
-        held = held-below P (node_at start) at.ctx at.part (subst (λ w. AreHeld (node_at start) (cells P w)) at.place.is (nodes-part bytes P (node_at start) root s tree.nodes).held);
-        once = λ n.
-            let whole = (nodes-part bytes P (node_at start) root s tree.nodes).once n in
-            let counted = ap (copies n) (ap (cells P) at.place.is ∙ cells-plug P at.ctx at.part) ∙ copies-append n (cells_before P at.ctx (name_of at.part)) (cells P at.part ++ cells_after P at.ctx) in
-            omega (arith, whole, counted, copies-append n (cells P at.part) (cells_after P at.ctx));
-      };
-      under = at.place.under;
-    }
+    part_subtree = subst (λ n. IsSubtree bytes P (node_at start) n (path_to at.ctx) at.part) at.named (place-subtree bytes P (node_at start) root s at.ctx at.part (nodes-subtree bytes P (node_at start) root s tree.nodes) at.place)
 
     pub part_at_depth : IsAtDepth bytes P (node_at start) old depth (path_to at.ctx) at.part
     part_at_depth = record { subtree = part_subtree; behind = at.depth_is }
@@ -129,15 +121,15 @@ module _ {K V : Type 0} (bytes : K → List ℕ) (P : ℕ) (s : Shape K V) (old 
     root_named = ap (root_of at.ctx) (sym at.named) ∙ sym (name_of-plug at.ctx at.part) ∙ sym (ap name_of at.place.is) ∙ tree.nodes.named
 
     module _ (leaf slot : ℕ) where
-      abbrev leaf_cell : Name × Cell K V
-      leaf_cell = (leaf_name leaf, pair key value)
+      abbrev new_leaf_cell : Name × Cell K V
+      new_leaf_cell = (leaf_name leaf, pair key value)
 
       abbrev split_cell : Name × Cell K V
       split_cell = (split_name slot, branches (split_node P (take parted.matched (drop depth (bytes key))) parted.old_byte old parted.new_byte (leaf_name leaf)))
 
       -- what stands in the place and behind it, once the old part is trimmed
       abbrev pub split_cells : List (Name × Cell K V)
-      split_cells = split_cell ∷ ((old, root_cell P lower) ∷ (below ++ leaf_cell ∷ right))
+      split_cells = split_cell ∷ ((old, root_cell P lower) ∷ (below ++ new_leaf_cell ∷ right))
 
       frame_cell_is : (is_before : Bool) → is_before ≡ ltb parted.new_byte parted.old_byte → frame_cell P (split_frame is_before slot) (leaf_name leaf) ≡ split_cell
       frame_cell_is true order =
@@ -155,44 +147,44 @@ module _ {K V : Type 0} (bytes : K → List ℕ) (P : ℕ) (s : Shape K V) (old 
       lower_cells = cells-root P lower ∙ ap₂ (λ n cs. (n, root_cell P lower) ∷ cs) (name_of-trimmed (parted.matched + 1) at.part ∙ at.named) (below-trimmed P (parted.matched + 1) at.part)
 
       -- the same cells as those around the new leaf
-      placed : (is_before : Bool) → is_before ≡ ltb parted.new_byte parted.old_byte → (map : Name → Option (Cell K V)) → Holds map (cells_before P at.ctx (split_name slot) ++ split_cells)
-          → Holds map (cells_before P (split_frame is_before slot ∷ at.ctx) (leaf_name leaf) ++ leaf_cell ∷ (cells_after P (split_frame is_before slot ∷ at.ctx) ++ rest))
-      placed true order map holds =
+      around_leaf : (is_before : Bool) → is_before ≡ ltb parted.new_byte parted.old_byte → (map : Name → Option (Cell K V)) → Holds map (cells_before P at.ctx (split_name slot) ++ split_cells)
+          → Holds map (cells_before P (split_frame is_before slot ∷ at.ctx) (leaf_name leaf) ++ new_leaf_cell ∷ (cells_after P (split_frame is_before slot ∷ at.ctx) ++ rest))
+      around_leaf true order map holds =
           let xs = cells_before P at.ctx (split_name slot) in
-          let here : Holds map ((xs ++ split_cell ∷ []) ++ (cells P lower ++ ((leaf_cell ∷ []) ++ right))) =
-          subst (Holds map) (ap (λ cs. xs ++ split_cell ∷ (cs ++ leaf_cell ∷ right)) (sym lower_cells) ∙ sym (append_assoc xs (split_cell ∷ []) (cells P lower ++ ((leaf_cell ∷ []) ++ right)))) holds in
-          let turned = Holds-turn map (xs ++ split_cell ∷ []) (cells P lower) (leaf_cell ∷ []) right here in
-          subst (Holds map) (ap₂ (λ c cs. (xs ++ c ∷ []) ++ leaf_cell ∷ (cs ++ right)) (sym (frame_cell_is true order)) (sym (append-nil (cells P lower)))
-          ∙ ap (λ zs. (xs ++ frame_cell P (split_frame true slot) (leaf_name leaf) ∷ []) ++ leaf_cell ∷ zs) (sym (append_assoc (cells P lower ++ []) (cells_after P at.ctx) rest))) turned
-      placed false order map holds =
+          let here : Holds map ((xs ++ split_cell ∷ []) ++ (cells P lower ++ ((new_leaf_cell ∷ []) ++ right))) =
+          subst (Holds map) (ap (λ cs. xs ++ split_cell ∷ (cs ++ new_leaf_cell ∷ right)) (sym lower_cells) ∙ sym (append_assoc xs (split_cell ∷ []) (cells P lower ++ ((new_leaf_cell ∷ []) ++ right)))) holds in
+          let turned = Holds-turn map (xs ++ split_cell ∷ []) (cells P lower) (new_leaf_cell ∷ []) right here in
+          subst (Holds map) (ap₂ (λ c cs. (xs ++ c ∷ []) ++ new_leaf_cell ∷ (cs ++ right)) (sym (frame_cell_is true order)) (sym (append-nil (cells P lower)))
+          ∙ ap (λ zs. (xs ++ frame_cell P (split_frame true slot) (leaf_name leaf) ∷ []) ++ new_leaf_cell ∷ zs) (sym (append_assoc (cells P lower ++ []) (cells_after P at.ctx) rest))) turned
+      around_leaf false order map holds =
           let xs = cells_before P at.ctx (split_name slot) in
-          let moved : xs ++ split_cell ∷ (cells P lower ++ leaf_cell ∷ right) ≡ (xs ++ split_cell ∷ cells P lower) ++ leaf_cell ∷ right = sym (append_assoc xs (split_cell ∷ cells P lower) (leaf_cell ∷ right)) in
-          subst (Holds map) (ap (λ cs. xs ++ split_cell ∷ (cs ++ leaf_cell ∷ right)) (sym lower_cells) ∙ moved
-          ∙ ap₂ (λ c cs. (xs ++ c ∷ cs) ++ leaf_cell ∷ right) (sym (frame_cell_is false order)) (sym (append-nil (cells P lower)))) holds
+          let moved : xs ++ split_cell ∷ (cells P lower ++ new_leaf_cell ∷ right) ≡ (xs ++ split_cell ∷ cells P lower) ++ new_leaf_cell ∷ right = sym (append_assoc xs (split_cell ∷ cells P lower) (new_leaf_cell ∷ right)) in
+          subst (Holds map) (ap (λ cs. xs ++ split_cell ∷ (cs ++ new_leaf_cell ∷ right)) (sym lower_cells) ∙ moved
+          ∙ ap₂ (λ c cs. (xs ++ c ∷ cs) ++ new_leaf_cell ∷ right) (sym (frame_cell_is false order)) (sym (append-nil (cells P lower)))) holds
 
       module _ (made : Arena K V) (both : AllocatesBoth start made (leaf_name leaf) (lone_leaf key value) (split_name slot) (inner_held (split_node P (take parted.matched (drop depth (bytes key))) parted.old_byte old parted.new_byte (leaf_name leaf)))) where
-        holds_made : Holds (node_at made) (left ++ split_cell ∷ ((old, root_cell P at.part) ∷ (below ++ leaf_cell ∷ right)))
+        holds_made : Holds (node_at made) (left ++ split_cell ∷ ((old, root_cell P at.part) ∷ (below ++ new_leaf_cell ∷ right)))
         holds_made =
             let part = (old, root_cell P at.part) ∷ below in
             let was : Holds (node_at start) ((left ++ part) ++ right) = subst (Holds (node_at start)) (sym (append_assoc left part right)) holds_start in
             let with_leaf = Holds-add (node_at start) (node_at both.between) (leaf_name leaf) (pair key value) (left ++ part) right
             (nodes-update start both.between (leaf_name leaf) (Some (lone_leaf key value)) both.first.updates) (ap cell_of both.first.vacant) was in
-            Holds-add (node_at both.between) (node_at made) (split_name slot) _ left (part ++ leaf_cell ∷ right)
-            (nodes-update both.between made (split_name slot) _ both.second.updates) (ap cell_of both.second.vacant) (subst (Holds (node_at both.between)) (append_assoc left part (leaf_cell ∷ right)) with_leaf)
+            Holds-add (node_at both.between) (node_at made) (split_name slot) _ left (part ++ new_leaf_cell ∷ right)
+            (nodes-update both.between made (split_name slot) _ both.second.updates) (ap cell_of both.second.vacant) (subst (Holds (node_at both.between)) (append_assoc left part (new_leaf_cell ∷ right)) with_leaf)
 
         -- the old part's root is held
         pub part_cell : node_at made old ≡ Some (root_cell P at.part)
         part_cell =
             let Q = λ (c : Name × Cell K V). node_at made c.0 ≡ Some c.1 in
-            (all_right Q left (split_cell ∷ ((old, root_cell P at.part) ∷ (below ++ leaf_cell ∷ right))) holds_made.held).1.0
+            (all_right Q left (split_cell ∷ ((old, root_cell P at.part) ∷ (below ++ new_leaf_cell ∷ right))) holds_made.held).1.0
 
         pub part_held : IsSome (held_at made old)
-        part_held = held_there (held_at made old) (root_cell P at.part) part_cell
+        part_held = cell_held (held_at made old) (root_cell P at.part) part_cell
 
         module _ (cut : Arena K V) (cell : UpdatesAt (node_at made) (node_at cut) old (Some (root_cell P lower))) (links : (n : ℕ) → links_at cut n ≡ links_at made n) where
           holds_cut : Holds (node_at cut) (left ++ split_cells)
           holds_cut =
-              let more = below ++ leaf_cell ∷ right in
+              let more = below ++ new_leaf_cell ∷ right in
               subst (Holds (node_at cut)) (append_assoc left (split_cell ∷ []) ((old, root_cell P lower) ∷ more))
               (Holds-write (node_at made) (node_at cut) old (root_cell P at.part) (root_cell P lower) (left ++ split_cell ∷ []) more cell
               (subst (Holds (node_at made)) (sym (append_assoc left (split_cell ∷ []) ((old, root_cell P at.part) ∷ more))) holds_made))
@@ -219,8 +211,8 @@ module _ {K V : Type 0} (bytes : K → List ℕ) (P : ℕ) (s : Shape K V) (old 
           → AreLinked (links_at linked) None (leaves_before (split_frame is_before slot ∷ at.ctx) ++ record { slot = leaf; key = key; value = value } ∷ leaves_after (split_frame is_before slot ∷ at.ctx)) None
           → IsInsertedBeside bytes P new rest s last key value (record { leaf_node_ptr = leaf; existing_leaf = None; new_root = new_root; parent_node_change = NewParent (inner.Node4 slot) parted.new_byte })
       split true order linked new new_root holds root_is links in_order =
-          inserted_below bytes P s new new_root (split_frame true slot) at.ctx leaf key value last (inner.Node4 slot) (placed true order (node_at new) holds) (around_split true order slot) at.begins root_is
+          inserted_below bytes P s new new_root (split_frame true slot) at.ctx leaf key value last (inner.Node4 slot) (around_leaf true order (node_at new) holds) (around_split true order slot) at.begins root_is
           (AreLinked-same (links_at linked) (links_at new) links None _ None in_order) (split_leaves true slot) refl at.steps
       split false order linked new new_root holds root_is links in_order =
-          inserted_below bytes P s new new_root (split_frame false slot) at.ctx leaf key value last (inner.Node4 slot) (placed false order (node_at new) holds) (around_split false order slot) at.begins root_is
+          inserted_below bytes P s new new_root (split_frame false slot) at.ctx leaf key value last (inner.Node4 slot) (around_leaf false order (node_at new) holds) (around_split false order slot) at.begins root_is
           (AreLinked-same (links_at linked) (links_at new) links None _ None in_order) (split_leaves false slot) refl at.steps

@@ -1,16 +1,15 @@
 -- A split in the place of a part of a tree: its cells, its leaves and their links.
-use Rattle.std.proofs.Common.{◌≡◌, ◌≢◌, ℕ, ◌+◌, ◌≤◌, List, [], ◌∷◌, ◌++◌, length, take, drop, Option, Some, None, IsSome, refl, sym, ap, ap₂, subst, ◌∙◌, arith, append_assoc, append-nil, length-append}
+use Rattle.std.proofs.Common.{◌≡◌, ◌≢◌, ℕ, ◌+◌, ◌≤◌, List, [], ◌∷◌, ◌++◌, length, take, drop, refl, sym, ap, ap₂, subst, ◌∙◌, arith, append_assoc, append-nil, length-append}
 use Rattle.art_bytes.specs.Keys.{BeginsWith}
 use Rattle.art_nodes.specs.Name.{Name}
 use Rattle.art_nodes.specs.declared.kind.NodeType.TheVariants.{Leaf}
-use Rattle.art_arena.specs.arena.Arena.{Held, cell_of}
 use Rattle.art_arena.specs.arena.Cells.{Cell, leaf_name}
 use Rattle.art_arena.specs.arena.Context.{Frame, path_to}
 use Rattle.art_arena.specs.arena.Places.{IsPlace}
 use Rattle.art_arena.specs.arena.Prefixes.{prefix_of}
 use Rattle.art_arena.specs.arena.Shapes.{Shape, Branches, leaf_at, inner_at, name_of, leaves, cells, cells_in, IsUnder, AreUnder}
 use Rattle.art_arena.specs.arena.Steps.{Step, steps_to, steps_of}
-use Rattle.art_arena.proofs.shapes.Prefixes.{drop-front}
+use Rattle.art_arena.proofs.shapes.Prefixes.{drop-front, take-front}
 use Rattle.art_operations.specs.inner.Splits.{PartsFrom, trimmed, root_cell}
 use Rattle.art_operations.specs.Meetings.{PartAt}
 use Rattle.art_operations.specs.Points.{IsPoint, MeetsAt}
@@ -20,10 +19,6 @@ use Rattle.art_operations.specs.declared.insert.point.InsertKind.TheVariants as 
 use Rattle.art_operations.specs.declared.meeting.Parted.{Parted}
 use Rattle.art_arena.proofs.shapes.Passing.{behind}
 use Rattle.art_operations.proofs.Points.{part_new, part_old}
-
-take_front : (xs ys : List ℕ) → take (length xs) (xs ++ ys) ≡ xs
-take_front [] ys = refl
-take_front (x ∷ xs) ys = ap (λ zs. x ∷ zs) (take_front xs ys)
 
 module _ {K V : Type 0} where
   -- what a part has below its root
@@ -47,15 +42,10 @@ module _ {K V : Type 0} where
   leaves-trimmed n (leaf_at slot k v) = refl
   leaves-trimmed n (inner_at name prefix kids) = refl
 
-  -- what is held where a cell stands
-  pub held_there : (o : Option (Held K V)) (c : Cell K V) → cell_of o ≡ Some c → IsSome o
-  held_there None c e = absurd (cc)
-  held_there (Some h) c e = refl
-
 -- what a list that parts from the rest of a key has
 module _ (key : List ℕ) (path : List ℕ) (depth : ℕ) (len : length path ≡ depth) (begins : BeginsWith path key) (stored : List ℕ) (p : Parted) (part : PartAt stored (drop depth key) p) where
   front_taken : take p.matched (drop depth key) ≡ part.front
-  front_taken = ap (take p.matched) part.new_is ∙ ap (λ n. take n (part.front ++ p.new_byte ∷ part.new_rest)) (sym part.len) ∙ take_front part.front (p.new_byte ∷ part.new_rest)
+  front_taken = ap (take p.matched) part.new_is ∙ ap (λ n. take n (part.front ++ p.new_byte ∷ part.new_rest)) (sym part.len) ∙ take-front part.front (p.new_byte ∷ part.new_rest)
 
   front_within : depth + p.matched ≤ length key
   front_within =
@@ -99,43 +89,34 @@ module _ {K V : Type 0} (bytes : K → List ℕ) where
     pub inside : old.kind ≢ Leaf → parted.matched + 1 ≤ length (prefix_of part)
 
   module _ (key : List ℕ) (s : Shape K V) (ctx : List (Frame K V)) (depth : ℕ) (last : List Step) (steps : take 2 (steps_to ctx) ≡ last) (len : length (path_to ctx) ≡ depth) (begins : BeginsWith (path_to ctx) key) (p : Parted) where
+    split_at : (t : Shape K V) (stored : List ℕ) → IsPlace bytes s ctx t → (part : PartAt stored (drop depth key) p) → IsUnder bytes ((path_to ctx ++ part.front) ++ p.old_byte ∷ []) (trimmed (p.matched + 1) t)
+        → ((name_of t).kind ≢ Leaf → p.matched + 1 ≤ length (prefix_of t)) → SplitPlace key s (name_of t) p depth last
+    split_at t stored place part lower inside = record {
+      ctx = ctx;
+      part = t;
+      place = place;
+      steps = steps;
+      depth_is = len;
+      named = refl;
+      front = part.front;
+      front_is = front_taken key (path_to ctx) depth len begins stored p part;
+      within = front_within key (path_to ctx) depth len begins stored p part;
+      begins = part_new (path_to ctx) (drop depth key) key stored p (behind (path_to ctx) key depth len begins) part;
+      differs = part.differs;
+      lower = lower;
+      inside = inside;
+    }
+
     split_at_leaf : (slot : ℕ) (k : K) (v : V) → IsPlace bytes s ctx (leaf_at slot k v) → PartAt (drop depth (bytes k)) (drop depth key) p → SplitPlace key s (leaf_name slot) p depth last
     split_at_leaf slot k v place part =
-        let path = path_to ctx in
-        record {
-          ctx = ctx;
-          part = leaf_at slot k v;
-          place = place;
-          steps = steps;
-          depth_is = len;
-          named = refl;
-          front = part.front;
-          front_is = front_taken key path depth len begins (drop depth (bytes k)) p part;
-          within = front_within key path depth len begins (drop depth (bytes k)) p part;
-          begins = part_new path (drop depth key) key (drop depth (bytes k)) p (behind path key depth len begins) part;
-          differs = part.differs;
-          lower = part_old path (drop depth key) (drop depth (bytes k)) (bytes k) [] p (behind path (bytes k) depth len place.under ∙ sym (append-nil (path ++ drop depth (bytes k)))) part;
-          inside = λ other. absurd (other refl);
-        }
+        let stored = drop depth (bytes k) in
+        let whole = behind (path_to ctx) (bytes k) depth len place.under ∙ sym (append-nil (path_to ctx ++ stored)) in
+        split_at (leaf_at slot k v) stored place part (part_old (path_to ctx) (drop depth key) stored (bytes k) [] p whole part) (λ other. absurd (other refl))
 
     split_at_inner : (n : Name) (prefix : List ℕ) (kids : Branches K V) → IsPlace bytes s ctx (inner_at n prefix kids) → PartAt prefix (drop depth key) p → SplitPlace key s n p depth last
     split_at_inner n prefix kids place part =
-        let path = path_to ctx in
-        record {
-          ctx = ctx;
-          part = inner_at n prefix kids;
-          place = place;
-          steps = steps;
-          depth_is = len;
-          named = refl;
-          front = part.front;
-          front_is = front_taken key path depth len begins prefix p part;
-          within = front_within key path depth len begins prefix p part;
-          begins = part_new path (drop depth key) key prefix p (behind path key depth len begins) part;
-          differs = part.differs;
-          lower = (place.under.0, subst (λ q. AreUnder bytes q 0 kids) (prefix_regrouped key path depth len begins prefix p part) place.under.1);
-          inside = λ other. prefix_inside key path depth len begins prefix p part;
-        }
+        let regrouped = prefix_regrouped key (path_to ctx) depth len begins prefix p part in
+        split_at (inner_at n prefix kids) prefix place part (place.under.0, subst (λ q. AreUnder bytes q 0 kids) regrouped place.under.1) (λ other. prefix_inside key (path_to ctx) depth len begins prefix p part)
 
   -- the place at which a point splits
   pub split_place : (key : List ℕ) (s : Shape K V) (point : InsertPoint) (old : Name) (parted : Parted) → IsPoint bytes key s point → PartsFrom point.insert_kind old parted → SplitPlace key s old parted point.key_bytes_used (steps_of point.path)

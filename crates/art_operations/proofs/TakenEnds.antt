@@ -1,5 +1,5 @@
 -- The pair at an end, taken out.
-use Rattle.std.proofs.Common.{◌≡◌, ℕ, suc, ◌+◌, ◌≤◌, cond, eqb, List, [], ◌∷◌, ◌++◌, Option, Some, None, refl, sym, ap, ap₂, subst, ◌∙◌, arith}
+use Rattle.std.proofs.Common.{◌≡◌, ℕ, ◌+◌, ◌≤◌, cond, List, [], ◌∷◌, ◌++◌, Option, Some, None, refl, sym, ap, subst, ◌∙◌, arith}
 use Rattle.std.proofs.lemmas.List.{append-nil, map-append}
 use Rattle.art_nodes.specs.Name.{Name}
 use Rattle.art_arena.specs.arena.Arena.{Arena, node_at, links_at, KeepsNodes}
@@ -11,7 +11,6 @@ use Rattle.art_arena.specs.arena.Stores.{Stores, StoresBeside}
 use Rattle.art_arena.specs.arena.Cells.{Cell}
 use Rattle.art_arena.specs.declared.ends.End.{End}
 use Rattle.art_arena.specs.declared.ends.End.TheVariants.{First, Last}
-use Rattle.art_arena.specs.tree.Changes.{IsIn}
 use Rattle.art_arena.specs.tree.Shrinks.{Shrinks}
 use Rattle.art_arena.proofs.shapes.Contexts.{leaves-plug}
 use Rattle.art_arena.proofs.shapes.LinkedLists.{eqb-self, ends_with-first, times-append, times-here}
@@ -22,7 +21,7 @@ use Rattle.art_operations.specs.Deletions.{IsDeletedBeside}
 use Rattle.art_operations.specs.Pairs.{HasPairsBeside, HasTakenEndBeside, IsAtEnd, ShrinksAtEnd}
 use Rattle.art_operations.specs.declared.delete.result.DeleteResult.{DeleteResult}
 use Rattle.art_operations.proofs.HeldPairs.{leaves-pairs}
-use Rattle.art_operations.proofs.LeafPairs.{pair_of, shrinks-map}
+use Rattle.art_operations.proofs.LeafPairs.{leaf_pair, shrinks-map, pairs-parts}
 
 module _ {K V : Type 0} where
   twice : (l : LeafAt K V) (xs ys : List (LeafAt K V)) (m : LeafAt K V) → l.slot ≡ m.slot → times l.slot (l ∷ xs ++ m ∷ ys) ≤ 1 → ⊥
@@ -59,26 +58,23 @@ module _ {K V : Type 0} (bytes : K → List ℕ) (P : ℕ) (old : Arena K V) (re
   pub the-place : (s : Shape K V) × (others : List (Name × Cell K V)) × StoresBeside bytes P old top others s × IsLeafPlace bytes s slot last
   the-place = (below.0, rest, below.1, place below.0 stored)
 
-  parts : (front : List (LeafAt K V)) (l : LeafAt K V) (back : List (LeafAt K V)) → pairs_of (front ++ l ∷ back) ≡ pairs_of front ++ pair_of l ∷ pairs_of back
-  parts front l back = map-append pair_of front (l ∷ back)
-
   -- the leaf at the end has the pair at the end
-  end-pair : (front : List (LeafAt K V)) (l : LeafAt K V) (back : List (LeafAt K V)) → l.slot ≡ slot → leaves below.0 ≡ front ++ l ∷ back → IsAtEnd end (pair_of l) (pairs_of (front ++ back)) pairs
+  end-pair : (front : List (LeafAt K V)) (l : LeafAt K V) (back : List (LeafAt K V)) → l.slot ≡ slot → leaves below.0 ≡ front ++ l ∷ back → IsAtEnd end (leaf_pair l) (pairs_of (front ++ back)) pairs
   end-pair front l back same e = at end (value below.0 stored)
     where
       once : times l.slot (front ++ l ∷ back) ≤ 1
       once = subst (λ ls. times l.slot ls ≤ 1) e ((tree-list bytes P (node_at old) top (links_at old) below.0 below.1).once l.slot)
 
-      whole : pairs ≡ pairs_of front ++ pair_of l ∷ pairs_of back
-      whole = sym below.2 ∙ ap pairs_of e ∙ parts front l back
+      whole : pairs ≡ pairs_of front ++ leaf_pair l ∷ pairs_of back
+      whole = sym below.2 ∙ ap pairs_of e ∙ pairs-parts bytes front l back
 
-      at : (end : End) → end_slot end (leaves below.0) ≡ Some slot → IsAtEnd end (pair_of l) (pairs_of (front ++ back)) pairs
+      at : (end : End) → end_slot end (leaves below.0) ≡ Some slot → IsAtEnd end (leaf_pair l) (pairs_of (front ++ back)) pairs
       at First f =
           let none = at-first front l back (sym (ap (λ ls. first_slot ls None) e) ∙ f ∙ ap Some (sym same)) once in
-          whole ∙ ap (λ xs. pairs_of xs ++ pair_of l ∷ pairs_of back) none ∙ ap (λ xs. pair_of l ∷ pairs_of (xs ++ back)) (sym none)
+          whole ∙ ap (λ xs. pairs_of xs ++ leaf_pair l ∷ pairs_of back) none ∙ ap (λ xs. leaf_pair l ∷ pairs_of (xs ++ back)) (sym none)
       at Last f =
           let none = at-last front l back (sym (ap (last_slot None) e) ∙ f ∙ ap Some (sym same)) once in
-          whole ∙ ap (λ xs. pairs_of front ++ pair_of l ∷ pairs_of xs) none ∙ ap (λ xs. xs ++ pair_of l ∷ []) (sym (map-append pair_of front [] ∙ append-nil (pairs_of front)) ∙ ap (λ xs. pairs_of (front ++ xs)) (sym none))
+          whole ∙ ap (λ xs. pairs_of front ++ leaf_pair l ∷ pairs_of xs) none ∙ ap (λ xs. xs ++ leaf_pair l ∷ []) (sym (map-append leaf_pair front [] ∙ append-nil (pairs_of front)) ∙ ap (λ xs. pairs_of (front ++ xs)) (sym none))
 
   -- it was taken out
   pub taken-end : (new : Arena K V) (deleted : DeleteResult K V) → ((s : Shape K V) → StoresBeside bytes P old top rest s → IsLeafPlace bytes s slot last → IsDeletedBeside bytes P new rest s slot deleted) → HasTakenEndBeside bytes P new rest root end pairs (Some deleted)
@@ -97,5 +93,5 @@ module _ {K V : Type 0} (bytes : K → List ℕ) (P : ℕ) (old : Arena K V) (re
         (at.key, at.value),
         _,
         end-pair _ (record { slot = slot; key = at.key; value = at.value }) _ refl (ap leaves at.place.is ∙ leaves-plug at.ctx _),
-        subst (λ ps. Shrinks (key_of bytes) ps (bytes at.key)) below.2 (shrinks-map pair_of (key_of bytes) (leaves below.0) (bytes at.key) (shrinks below.0 below.1 at)),
+        subst (λ ps. Shrinks (key_of bytes) ps (bytes at.key)) below.2 (shrinks-map leaf_pair (key_of bytes) (leaves below.0) (bytes at.key) (shrinks below.0 below.1 at)),
       )

@@ -58,8 +58,8 @@ module _ {K V : Type 0} (bytes : K → List ℕ) (P : ℕ) {rest : List (Name ×
       subst (λ b. PutsBack node b (leaf_name slot)) there.under
       (subst (λ l. PutsBack node there.frame.byte (leaf_name l)) there.slot_is (puts_back bytes P old there.frame there.outer there.leaf there.held))
 
-  pub has_room : length (without_child node.children byte) < (row_of parent.kind).most
-  has_room = omega (arith, rest_length, node_kind.most)
+  pub has_room_for_leaf : length (without_child node.children byte) < (row_of parent.kind).most
+  has_room_for_leaf = omega (arith, rest_length, node_kind.most)
 
   -- where the leaf was taken out of a node of three children or more
   module _ (new : Arena K V) (other : Name) (moves : Moves old new parent other (inner_held (with_children node (without_child node.children byte))))

@@ -16,15 +16,14 @@ use Rattle.art_arena.specs.arena.Meaning.{IsPart, IsSubtree, IsNodesBeside, IsTr
 use Rattle.art_arena.specs.arena.Shapes.{Shape, Branches, leaf_at, no_branch, branch, LeafAt, name_of, children_at, join, width, leaves, leaves_in, cells, cells_in, AreUnder}
 use Rattle.art_arena.proofs.tree.Order.{all_left, all_right}
 use Rattle.art_arena.proofs.shapes.CellLists.{copies-append, Holds-same, Holds-write}
-use Rattle.art_arena.proofs.shapes.Contexts.{leaves_in-join, cells_in-join, width-join, leaves-plug}
+use Rattle.art_arena.proofs.shapes.Contexts.{leaves_in-join, cells_in-join, width-join, leaves-plug, length-children}
 use Rattle.art_arena.proofs.shapes.Openings.{with_child-opening}
 use Rattle.art_arena.proofs.shapes.Repoint.{IsNodesBeside-plug}
 use Rattle.art_arena.proofs.shapes.Subtrees.{inner_of, branch-first, branch-last, has_last, AreUnder-here}
 use Rattle.art_arena.proofs.shapes.Updates.{nodes-update, links-kept}
 use Rattle.art_operations.specs.inner.Waiting.{AwaitsLeaf}
-use Rattle.art_operations.proofs.Inserted.{AreLinked-same}
-use Rattle.art_operations.proofs.NewLeaves.{first_of, last_of}
-use Rattle.art_operations.proofs.Parents.{length-children}
+use Rattle.art_operations.proofs.NewLeaves.{first_of_longer, last_of_longer}
+use Rattle.art_arena.proofs.shapes.LinkedLists.{AreLinked-same}
 
 -- appended lists, grouped in another way
 regroup_behind : {X : Type 0} (xs bs ts rs cs ds : List X) (n l : X) → xs ++ (n ∷ (bs ++ (l ∷ (((ts ++ rs) ++ cs) ++ ds)))) ≡ (xs ++ (n ∷ (bs ++ (l ∷ [])))) ++ (ts ++ (rs ++ (cs ++ ds)))
@@ -114,8 +113,8 @@ module _ {K V : Type 0} (bytes : K → List ℕ) (P : ℕ) {rest : List (Name ×
   pub node-inner : node.kind ≢ Leaf
   node-inner = inner-kind arena node (open_node P f) node-held
 
-  pub no_child : child_at (open_node P f).children byte ≡ None
-  no_child = subst (λ b. child_at (children_at (join f.before f.after)) b ≡ None) awaits.byte_is (child_at-opening bytes (path_to outer ++ f.prefix) f.byte f.before f.after awaits.below awaits.after_under)
+  pub none_under_byte : child_at (open_node P f).children byte ≡ None
+  none_under_byte = subst (λ b. child_at (children_at (join f.before f.after)) b ≡ None) awaits.byte_is (child_at-opening bytes (path_to outer ++ f.prefix) f.byte f.before f.after awaits.below awaits.after_under)
 
   pub as_many : length (open_node P f).children ≡ width f.before + width f.after
   as_many = length-children (join f.before f.after) ∙ width-join f.before f.after
@@ -123,7 +122,7 @@ module _ {K V : Type 0} (bytes : K → List ℕ) (P : ℕ) {rest : List (Name ×
   -- where a child may be written under the byte, there is room for one
   pub has_few : (most : ℕ) → (length (open_node P f).children < most) ⊎ IsSome (child_at (open_node P f).children byte) → width f.before + width f.after < most
   has_few most (inl few) = omega (arith, few, as_many)
-  has_few most (inr some) = let none = rw no_child at some in absurd (cc)
+  has_few most (inr some) = let none = rw none_under_byte at some in absurd (cc)
 
   behind : children_between (Excluded byte) Unbounded (open_node P f).children ≡ children_at f.after
   behind = subst (λ b. children_between (Excluded b) Unbounded (children_at (join f.before f.after)) ≡ children_at f.after) awaits.byte_is (children_behind bytes (path_to outer ++ f.prefix) f.byte f.before f.after awaits.below awaits.after_under)
@@ -148,7 +147,7 @@ module _ {K V : Type 0} (bytes : K → List ℕ) (P : ℕ) {rest : List (Name ×
         part = b.0;
         subtree = subst (λ n. IsSubtree bytes P (node_at arena) n ((path_to outer ++ f.prefix) ++ c.0 ∷ []) b.0) b.3 (record { part = part; under = under.1 });
         first = λ p h. subst (λ ls. first_slot (ls ++ leaves_after outer) None ≡ Some p) (sym (ap leaves_in b.2))
-            (first_of (leaves b.0 ++ leaves_in b.1) (leaves_after outer) p (first_of (leaves b.0) (leaves_in b.1) p h));
+            (first_of_longer (leaves b.0 ++ leaves_in b.1) (leaves_after outer) p (first_of_longer (leaves b.0) (leaves_in b.1) p h));
       }
 
   pub record IsPrevious (child : Name) : Type 0 where
@@ -172,7 +171,7 @@ module _ {K V : Type 0} (bytes : K → List ℕ) (P : ℕ) {rest : List (Name ×
         part = b.1;
         subtree = subst (λ n. IsSubtree bytes P (node_at arena) n ((path_to outer ++ f.prefix) ++ c.0 ∷ []) b.1) b.3 (record { part = part; under = under });
         last = λ p h. subst (λ ls. last_slot None (leaves_before outer ++ ls) ≡ Some p) (sym leaves_are)
-            (last_of (leaves_before outer) (leaves_in b.0 ++ leaves b.1) p (last_of (leaves_in b.0) (leaves b.1) p h));
+            (last_of_longer (leaves_before outer) (leaves_in b.0 ++ leaves b.1) p (last_of_longer (leaves_in b.0) (leaves b.1) p h));
       }
 
   -- there is a child on one side
@@ -180,11 +179,11 @@ module _ {K V : Type 0} (bytes : K → List ℕ) (P : ℕ) {rest : List (Name ×
   some_child e = let wide = awaits.two in let some = rw e at (has_last (join f.before f.after) (omega (arith, wide, width-join f.before f.after))) in absurd (cc)
 
   -- once the leaf is linked in and the node has it under the byte, it stands in the tree
-  pub put : (linked new : Arena K V) → ((n : Name) → node_at linked n ≡ node_at arena n) → AreLinked (links_at linked) None (leaves_before (f ∷ outer) ++ (l ∷ leaves_after (f ∷ outer))) None
+  pub child_was_put : (linked new : Arena K V) → ((n : Name) → node_at linked n ≡ node_at arena n) → AreLinked (links_at linked) None (leaves_before (f ∷ outer) ++ (l ∷ leaves_after (f ∷ outer))) None
       → UpdatesAt (held_at linked) (held_at new) node (Some (inner_held (with_children (open_node P f) (with_child (open_node P f).children byte (leaf_name leaf)))))
       → IsKindOf node.kind (suc (width f.before + width f.after))
       → IsTreeBeside bytes P (node_at new) root (links_at new) rest (plug (f ∷ outer) (leaf_at l.slot l.key l.value))
-  put linked new same list update kind =
+  child_was_put linked new same list update kind =
       let kids : with_child (open_node P f).children byte (leaf_name leaf) ≡ children_at f.before ++ (f.byte, leaf_name l.slot) ∷ children_at f.after =
       ap₂ (λ b s. with_child (open_node P f).children b (leaf_name s)) (sym awaits.byte_is) (sym awaits.leaf_is)
       ∙ with_child-opening bytes f.byte (leaf_name l.slot) f.before f.after (path_to outer ++ f.prefix) awaits.below awaits.after_under in

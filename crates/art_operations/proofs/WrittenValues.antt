@@ -9,7 +9,7 @@ use Rattle.art_arena.specs.arena.Linked.{times}
 use Rattle.art_arena.specs.arena.Shapes.{Shape, LeafAt, leaves}
 use Rattle.art_arena.specs.arena.Stores.{StoresOnly}
 use Rattle.art_arena.proofs.shapes.LeafValues.{LeafThere, leaf-there, cell-some}
-use Rattle.art_arena.proofs.shapes.LeafPlaces.{Stands, leaf-stands}
+use Rattle.art_arena.proofs.shapes.LeafPlaces.{HasPlace, leaf-stands}
 use Rattle.art_arena.proofs.shapes.Surroundings.{times-leaves}
 use Rattle.art_operations.specs.Insertions.{IsInserted}
 use Rattle.art_operations.specs.declared.insert.result.InsertParentNodeChange.TheVariants.{NoChange}
@@ -22,7 +22,7 @@ module _ {K V : Type 0} (bytes : K → List ℕ) (P : ℕ) (old : Arena K V) (ro
   once : times slot (leaves s) ≡ 1
   once = times-leaves bytes P slot [] s tree.nodes.under ∙ tree.nodes.holds.once (leaf_name slot) ∙ ap {B = ℕ} (λ b. cond b 1 0) (cell-some (held_at old (leaf_name slot)) there)
 
-  abbrev stands : Stands bytes s slot
+  abbrev stands : HasPlace bytes s slot
   stands = leaf-stands bytes s slot tree.nodes.under (omega (arith, once))
 
   abbrev loose : IsExactPlace bytes P (bytes stands.place.key) s slot stands.last

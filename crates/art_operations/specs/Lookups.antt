@@ -1,13 +1,11 @@
 -- What a look-up answers.
-pub use Rattle.art_arena.specs.arena.Descents.{leaf_where}
-use Rattle.std.specs.Prelude.{◌≡◌, ℕ, ◌+◌, ◌-◌, ◌^◌, ◌<◌, ◌≤◌, nat_le, min, List, length, drop, Ok, Err, if◌then◌else◌}
+pub use Rattle.art_arena.specs.arena.Descents.{leaf_where, ReadsPath}
+use Rattle.std.specs.Prelude.{◌≡◌, ℕ, ◌<◌, ◌≤◌, nat_le, List, length, drop, Ok, Err, if◌then◌else◌}
 use Rattle.std.specs.declared.result.Result.{Result}
 use Rattle.art_nodes.specs.Header.{Header}
 use Rattle.art_nodes.specs.PrefixMatch.{agreeing}
 use Rattle.art_nodes.specs.declared.prefix_match.PrefixMatch.{PrefixMatch}
 use Rattle.art_nodes.specs.declared.prefix_match.PessimisticMismatch.{PessimisticMismatch}
-use Rattle.art_arena.specs.tree.Paths.{path_of}
-use Rattle.art_arena.specs.arena.Shapes.{Shape, erase}
 use Rattle.art_operations.specs.declared.lookup.PrefixMatchBehavior.{PrefixMatchBehavior}
 use Rattle.art_operations.specs.declared.lookup.PrefixMatchBehavior.TheVariants.{Pessimistic, Optimistic}
 
@@ -34,7 +32,3 @@ IsMatchedByLength header rest (Err mismatch) =
 abbrev pub seen_by : PrefixMatchBehavior → ℕ → List ℕ → List ℕ
 seen_by Optimistic depth key = key
 seen_by Pessimistic depth key = drop depth key
-
--- so many nodes were read as the key's path has; the greatest count stays
-abbrev pub ReadsPath : {K V : Type 0} → List ℕ → Shape K V → ℕ → ℕ → Type 0
-ReadsPath key s old new = new ≡ min (old + length (path_of (erase s) key)) (2 ^ 64 - 1)

@@ -5,7 +5,7 @@ use Rattle.art_nodes.specs.Name.{Name}
 use Rattle.art_nodes.specs.declared.leaf.LeafNode.{LeafNode}
 use Rattle.art_arena.specs.arena.Arena.{Arena, node_at}
 use Rattle.art_arena.specs.arena.Cells.{Cell, leaf_name, pair, HoldsOnly}
-use Rattle.art_arena.specs.tree.Changes.{put}
+use Rattle.art_arena.specs.tree.Changes.{put_in_order}
 use Rattle.art_arena.specs.tree.Shrinks.{Shrinks}
 use Rattle.art_arena.specs.declared.ends.End.{End}
 use Rattle.art_arena.specs.declared.ends.End.TheVariants.{First, Last}
@@ -38,11 +38,11 @@ module _ {K V : Type 0} (bytes : K → List ℕ) where
 
   -- the pairs with this one at the place of its key, where no other stands then
   abbrev pub with_pair : K → V → List (K × V) → List (K × V)
-  with_pair k v pairs = put (key_of bytes) (k, v) (without_key (key_of bytes) (bytes k) pairs)
+  with_pair k v pairs = put_in_order (key_of bytes) (k, v) (without_key (key_of bytes) (bytes k) pairs)
 
   -- the pairs with this one at the place of its key, where no other stands then whose key overlaps its key
   abbrev pub with_pair_over : K → V → List (K × V) → List (K × V)
-  with_pair_over k v pairs = put (key_of bytes) (k, v) (without_overlapping (key_of bytes) (bytes k) pairs)
+  with_pair_over k v pairs = put_in_order (key_of bytes) (k, v) (without_overlapping (key_of bytes) (bytes k) pairs)
 
 module _ {K V : Type 0} (bytes : K → List ℕ) (P : ℕ) (arena : Arena K V) (rest : List (Name × Cell K V)) where
   -- Beside these nodes the arena holds nothing but the tree of these pairs, and its leaves are linked in order. Where

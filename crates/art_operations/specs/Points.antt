@@ -1,11 +1,11 @@
 -- Where a new key goes in a tree.
+pub use Rattle.art_arena.specs.arena.Descents.{HasConflict, NoConflict}
 use Rattle.std.specs.Prelude.{◌≡◌, ℕ, List, [], ◌∷◌, ◌++◌, length, drop, None, Ok, Err}
 use Rattle.std.specs.List.{AllByRecursion}
 use Rattle.std.specs.declared.result.Result.{Result}
 use Rattle.art_bytes.specs.Keys.{BeginsWith, Conflict}
 use Rattle.art_nodes.specs.InnerNode.{child_at}
 use Rattle.art_nodes.specs.Name.{Name}
-use Rattle.art_arena.specs.tree.Changes.{IsIn}
 use Rattle.art_arena.specs.arena.Shapes.{Shape, Branches, leaf_at, inner_at, LeafAt, name_of, children_at, leaves}
 use Rattle.art_arena.specs.arena.Context.{Frame, path_to}
 use Rattle.art_arena.specs.arena.Places.{IsToward}
@@ -23,13 +23,7 @@ Refuses key (error.Prefix e) = e.byte_repr ≡ key
 Refuses key error.Memory = Unit {0}
 
 module _ {K V : Type 0} (bytes : K → List ℕ) (key : List ℕ) where
-  -- a leaf's key is a front of this one, or this one of it
-  abbrev pub HasConflict : List (LeafAt K V) → Type 0
-  HasConflict ls = (l : LeafAt K V) × IsIn l ls × Conflict key (bytes l.key)
-
-  abbrev pub NoConflict : List (LeafAt K V) → Type 0
-  NoConflict ls = AllByRecursion (λ l. Conflict key (bytes l.key) → ⊥) ls
-
+  -- each of these leaves has a key in conflict with this one
   abbrev pub AllConflict : List (LeafAt K V) → Type 0
   AllConflict ls = AllByRecursion (λ l. Conflict key (bytes l.key)) ls
 
@@ -66,5 +60,5 @@ module _ {K V : Type 0} (bytes : K → List ℕ) (key : List ℕ) where
 
   -- a place and no conflict, or a conflict
   abbrev pub IsPlaceOrConflict : {E : Type 0} → Shape K V → Result InsertPoint E → Type 0
-  IsPlaceOrConflict s (Ok point) = IsPoint s point × NoConflict (leaves s)
-  IsPlaceOrConflict s (Err e) = HasConflict (leaves s)
+  IsPlaceOrConflict s (Ok point) = IsPoint s point × NoConflict bytes key (leaves s)
+  IsPlaceOrConflict s (Err e) = HasConflict bytes key (leaves s)

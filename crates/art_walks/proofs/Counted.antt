@@ -2,13 +2,13 @@
 use Rattle.std.proofs.Common.{◌≡◌, ℕ, ◌-◌, ◌<◌, ◌≤◌, List, [], ◌∷◌, ◌++◌, length, Option, Some, None, IsSome, refl, sym, ap, ap₂, subst, ◌∙◌, arith, length-append}
 use Rattle.std.proofs.lemmas.List.{length-map, map-append}
 use Rattle.art_nodes.specs.declared.leaf.LeafNode.{LeafNode}
-use Rattle.art_arena.specs.arena.Arena.{Arena, Held, leaf_held, held_at, cell_of, node_at, links_of, links_at}
-use Rattle.art_arena.specs.arena.Cells.{Cell, pair, leaf_name}
+use Rattle.art_arena.specs.arena.Arena.{Arena, Held, leaf_held, held_at, node_at, links_of, links_at}
+use Rattle.art_arena.specs.arena.Cells.{pair, leaf_name}
 use Rattle.art_arena.specs.arena.Linked.{Links, first_slot, last_slot, AreLinked}
 use Rattle.art_arena.specs.arena.Shapes.{LeafAt, pairs_of}
 use Rattle.art_arena.proofs.tree.Order.{all_left, all_right}
 use Rattle.art_arena.proofs.shapes.LinkedLists.{AreLinked-right}
-use Rattle.art_arena.proofs.shapes.Subtrees.{pair_of}
+use Rattle.art_arena.proofs.shapes.Subtrees.{holds_pair, cell_held}
 use Rattle.art_walks.specs.Runs.{Ends, HasEnds, IsWalk}
 use Rattle.art_walks.specs.Walked.{start_of, pairs_with, pairs_along, AreStored, IsCounted}
 
@@ -25,7 +25,7 @@ module _ {K V : Type 0} (arena : Arena K V) where
   along : (before : Option ℕ) (ys zs : List (LeafAt K V)) → AreLinked (links_at arena) before (ys ++ zs) None → AreStored arena ys → pairs_along (length ys) arena (first_slot (ys ++ zs) None) ≡ pairs_of ys
   along before [] zs linked stored = refl
   along before (y ∷ ys) zs linked stored =
-      let holds = pair_of (held_at arena (leaf_name y.slot)) y.key y.value stored.0 in
+      let holds = holds_pair (held_at arena (leaf_name y.slot)) y.key y.value stored.0 in
       let next : holds.leaf.next ≡ first_slot (ys ++ zs) None = links-next (held_at arena (leaf_name y.slot)) holds.leaf _ holds.is linked.0 in
       ap (pairs_with (pairs_along (length ys) arena)) holds.is
       ∙ ap₂ (λ p ps. p ∷ ps) (ap₂ (λ k v. (k, v)) holds.key holds.value) (ap (pairs_along (length ys) arena) next ∙ along (Some y.slot) ys zs linked.1 stored.1)
@@ -59,14 +59,10 @@ module _ {K V : Type 0} (arena : Arena K V) where
     pub rest : IsCounted arena new (len - 1)
     pub parts : pairs_along len arena (start_of old) ≡ order (leaf.key, leaf.value) (pairs_along (len - 1) arena (start_of new))
 
-  took-held : (o : Option (Held K V)) (c : Cell K V) → cell_of o ≡ Some c → IsSome o
-  took-held None c e = absurd (cc)
-  took-held (Some h) c e = refl
-
   module _ (old new : Ends) (len slot : ℕ) (order : K × V → List (K × V) → List (K × V)) (took : Took old new len slot order) where
     -- the leaf is held
     pub held-there : IsSome (held_at arena (leaf_name slot))
-    held-there = took-held (held_at arena (leaf_name slot)) _ took.here
+    held-there = cell_held (held_at arena (leaf_name slot)) _ took.here
 
     -- fewer are left than were
     pub fewer-left : IsCounted arena old len → length (pairs_along (len - 1) arena (start_of new)) < length (pairs_along len arena (start_of old))
@@ -76,12 +72,12 @@ module _ {K V : Type 0} (arena : Arena K V) where
     pub pair-read : (k : K) (v : V) → ((l : LeafNode K V) → held_at arena (leaf_name slot) ≡ Some (leaf_held l) → k ≡ l.key) → ((l : LeafNode K V) → held_at arena (leaf_name slot) ≡ Some (leaf_held l) → v ≡ l.value)
         → pairs_along len arena (start_of old) ≡ order (k, v) (pairs_along (len - 1) arena (start_of new))
     pair-read k v key value =
-        let holds = pair_of (held_at arena (leaf_name slot)) took.leaf.key took.leaf.value took.here in
+        let holds = holds_pair (held_at arena (leaf_name slot)) took.leaf.key took.leaf.value took.here in
         took.parts ∙ ap₂ (λ a b. order (a, b) (pairs_along (len - 1) arena (start_of new))) (sym (key holds.leaf holds.is ∙ holds.key)) (sym (value holds.leaf holds.is ∙ holds.value))
 
   -- the answer of a step where none is left
-  abbrev pub IsEnd : Ends → Ends → Option ℕ → Type 0
-  IsEnd old new result = old ≡ None → (result ≡ None) × (new ≡ None)
+  abbrev pub EndsWalk : Ends → Ends → Option ℕ → Type 0
+  EndsWalk old new result = old ≡ None → (result ≡ None) × (new ≡ None)
 
   module _ (old new : Ends) (len : ℕ) (run : IsCounted arena old len) where
     -- at the front
@@ -92,7 +88,7 @@ module _ {K V : Type 0} (arena : Arena K V) where
     abbrev pub AnswersLast : Option ℕ → Type 0
     AnswersLast result = (l : LeafAt K V) (ys : List (LeafAt K V)) → IsWalk (links_at arena) old (ys ++ l ∷ []) → (result ≡ Some l.slot) × IsWalk (links_at arena) new ys
 
-    pub took-first : (slot : ℕ) → AnswersFirst (Some slot) → IsEnd old new (Some slot) → Took old new len slot (λ p ps. p ∷ ps)
+    pub took-first : (slot : ℕ) → AnswersFirst (Some slot) → EndsWalk old new (Some slot) → Took old new len slot (λ p ps. p ∷ ps)
     took-first slot answer end = go run.leaves run.walk run.stored run.len_is
       where
         go : (ls : List (LeafAt K V)) → IsWalk (links_at arena) old ls → AreStored arena ls → len ≡ length ls → Took old new len slot (λ p ps. p ∷ ps)
@@ -110,7 +106,7 @@ module _ {K V : Type 0} (arena : Arena K V) where
                   ∙ ap (λ ps. (l.key, l.value) ∷ ps) (sym (ap (λ n. pairs_along n arena (start_of new)) fewer ∙ walked-pairs new ls step.1 stored.1));
             }
 
-    pub took-last : (slot : ℕ) → AnswersLast (Some slot) → IsEnd old new (Some slot) → Took old new len slot (λ p ps. ps ++ p ∷ [])
+    pub took-last : (slot : ℕ) → AnswersLast (Some slot) → EndsWalk old new (Some slot) → Took old new len slot (λ p ps. ps ++ p ∷ [])
     took-last slot answer end = go run.leaves run.walk run.stored run.len_is
       where
         ended : (ls : List (LeafAt K V)) (zs : List (LeafAt K V)) (z : LeafAt K V) → ls ≡ zs ++ z ∷ [] → IsWalk (links_at arena) old ls → AreStored arena ls → len ≡ length ls → Took old new len slot (λ p ps. ps ++ p ∷ [])
@@ -153,7 +149,7 @@ module _ {K V : Type 0} (arena : Arena K V) where
             let f = (answer e.1 e.0 (subst (IsWalk (links_at arena) old) e.2 walk)).0 in absurd (cc)
 
     -- then the walk stands where it stood, with none to come
-    pub none-stays : len ≡ 0 → old ≡ None → IsEnd old new None → IsCounted arena new len
+    pub none-stays : len ≡ 0 → old ≡ None → EndsWalk old new None → IsCounted arena new len
     none-stays zero_is none end = subst (λ e. IsCounted arena e len) (none ∙ sym (end none).1) run
 
     pub none-ends : len ≡ 0 → old ≡ None

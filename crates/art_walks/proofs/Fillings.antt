@@ -12,6 +12,17 @@ use Rattle.art_arena.specs.arena.Meaning.{IsPart, IsSubtree}
 use Rattle.art_arena.proofs.tree.Order.{all_left, all_right}
 use Rattle.art_bytes.proofs.Order.{begins_append}
 use Rattle.art_walks.specs.inner.Fillings.{first_key, first_key_in, Fits, FitIn}
+use Rattle.art_arena.proofs.shapes.CellLists.{cell_children, same_cell}
+use Rattle.art_arena.proofs.shapes.Contexts.{length-children}
+
+-- what the header of a cell tells
+abbrev pub prefix_len_of : {K V : Type 0} → Cell K V → ℕ
+prefix_len_of (pair k v) = 0
+prefix_len_of (branches node) = node.header.prefix_len
+
+abbrev pub stored_of : {K V : Type 0} → Cell K V → List ℕ
+stored_of (pair k v) = []
+stored_of (branches node) = node.header.stored
 
 module _ {K V : Type 0} (bytes : K → List ℕ) where
   -- the shape behind so many bytes, its prefixes read from first keys
@@ -115,28 +126,13 @@ module _ {K V : Type 0} (bytes : K → List ℕ) where
       abbrev held_cell : Name × Cell K V → Type 0
       held_cell c = at c.0 ≡ Some c.1
 
-      one_cell : (m n : Name) (c d : Cell K V) → m ≡ n → at m ≡ Some c → at n ≡ Some d → c ≡ d
-      one_cell m n c d e f g = let h : Some c ≡ Some d = sym f ∙ ap at e ∙ g in cc
-
-      abbrev children_of : Cell K V → List (ℕ × Name)
-      children_of (pair k v) = []
-      children_of (branches node) = node.children
-
-      abbrev prefix_len_of : Cell K V → ℕ
-      prefix_len_of (pair k v) = 0
-      prefix_len_of (branches node) = node.header.prefix_len
-
-      abbrev stored_of : Cell K V → List ℕ
-      stored_of (pair k v) = []
-      stored_of (branches node) = node.header.stored
-
       mutual
         pub first_key-same : (s t : Shape K V) → AreHeld at (cells P s) → AreHeld at (cells P t) → name_of s ≡ name_of t → first_key bytes s ≡ first_key bytes t
-        first_key-same (leaf_at m j u) (leaf_at n k v) h i e = let same = one_cell _ _ _ _ e h.0 i.0 in let keys : j ≡ k = cc in ap bytes keys
-        first_key-same (leaf_at m j u) (inner_at n prefix kids) h i e = let same = one_cell _ _ _ _ e h.0 i.0 in absurd (cc)
-        first_key-same (inner_at m prefix kids) (leaf_at n k v) h i e = let same = one_cell _ _ _ _ e h.0 i.0 in absurd (cc)
+        first_key-same (leaf_at m j u) (leaf_at n k v) h i e = let same = same_cell at _ _ _ _ e h.0 i.0 in let keys : j ≡ k = cc in ap bytes keys
+        first_key-same (leaf_at m j u) (inner_at n prefix kids) h i e = let same = same_cell at _ _ _ _ e h.0 i.0 in absurd (cc)
+        first_key-same (inner_at m prefix kids) (leaf_at n k v) h i e = let same = same_cell at _ _ _ _ e h.0 i.0 in absurd (cc)
         first_key-same (inner_at m a cs) (inner_at n b ds) h i e =
-            let same = one_cell _ _ (node_of P a (children_at cs)) (node_of P b (children_at ds)) e h.0 i.0 in first_key-same_in cs ds h.1 i.1 (ap children_of same)
+            let same = same_cell at _ _ (node_of P a (children_at cs)) (node_of P b (children_at ds)) e h.0 i.0 in first_key-same_in cs ds h.1 i.1 (ap cell_children same)
 
         first_key-same_in : (cs ds : Branches K V) → AreHeld at (cells_in P cs) → AreHeld at (cells_in P ds) → children_at cs ≡ children_at ds → first_key_in bytes cs ≡ first_key_in bytes ds
         first_key-same_in no_branch no_branch h i e = refl
@@ -146,10 +142,6 @@ module _ {K V : Type 0} (bytes : K → List ℕ) where
             let first : ◌≡◌ {A = ℕ × Name} (b, name_of s) (c, name_of t) = cc in
             first_key-same s t (all_left held_cell (cells P s) (cells_in P cs) h) (all_left held_cell (cells P t) (cells_in P ds) i) (ap (λ (z : ℕ × Name). z.1) first)
 
-      width-children : (kids : Branches K V) → length (children_at kids) ≡ width kids
-      width-children no_branch = refl
-      width-children (branch b s rest) = omega (arith, width-children rest)
-
       fit-parts : (d x y : ℕ) (p q j k : List ℕ) (w : Branches K V) → x ≡ y → p ≡ q → j ≡ k
           → (d + y ≤ length k) × (q ≡ take P (take y (drop d k))) × FitIn bytes P (d + y) k 0 w → (d + x ≤ length j) × (p ≡ take P (take x (drop d j))) × FitIn bytes P (d + x) j 0 w
       fit-parts d x y p q j k w e f g h = rw (e, f, g) h
@@ -157,13 +149,13 @@ module _ {K V : Type 0} (bytes : K → List ℕ) where
       mutual
         pub fits-same : (d : ℕ) (s t : Shape K V) → AreHeld at (cells P s) → AreHeld at (cells P t) → name_of s ≡ name_of t → Fits bytes P d t → Fits bytes P d s
         fits-same d (leaf_at m j u) (leaf_at n k v) h i e fits =
-            let same = one_cell _ _ _ _ e h.0 i.0 in let keys : j ≡ k = cc in subst (λ x. d ≤ length (bytes x)) (sym keys) fits
-        fits-same d (leaf_at m j u) (inner_at n prefix kids) h i e fits = let same = one_cell _ _ _ _ e h.0 i.0 in absurd (cc)
-        fits-same d (inner_at m prefix kids) (leaf_at n k v) h i e fits = let same = one_cell _ _ _ _ e h.0 i.0 in absurd (cc)
+            let same = same_cell at _ _ _ _ e h.0 i.0 in let keys : j ≡ k = cc in subst (λ x. d ≤ length (bytes x)) (sym keys) fits
+        fits-same d (leaf_at m j u) (inner_at n prefix kids) h i e fits = let same = same_cell at _ _ _ _ e h.0 i.0 in absurd (cc)
+        fits-same d (inner_at m prefix kids) (leaf_at n k v) h i e fits = let same = same_cell at _ _ _ _ e h.0 i.0 in absurd (cc)
         fits-same d (inner_at m a cs) (inner_at n b ds) h i e fits =
-            let same = one_cell _ _ (node_of P a (children_at cs)) (node_of P b (children_at ds)) e h.0 i.0 in
-            let children : children_at cs ≡ children_at ds = ap children_of same in
-            let widths : width cs ≡ width ds = sym (width-children cs) ∙ ap length children ∙ width-children ds in
+            let same = same_cell at _ _ (node_of P a (children_at cs)) (node_of P b (children_at ds)) e h.0 i.0 in
+            let children : children_at cs ≡ children_at ds = ap cell_children same in
+            let widths : width cs ≡ width ds = sym (length-children cs) ∙ ap length children ∙ length-children ds in
             let kind : IsKindOf m.kind (width cs) = subst (λ w. IsKindOf m.kind w) (sym widths) (subst (λ (x : Name). IsKindOf x.kind (width ds)) (sym e) fits.0) in
             let keys = first_key-same_in cs ds h.1 i.1 children in
             let rest = fit-parts d (length a) (length b) (take P a) (take P b) (first_key_in bytes cs) (first_key_in bytes ds) cs (ap prefix_len_of same) (ap stored_of same) keys

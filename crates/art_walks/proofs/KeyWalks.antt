@@ -13,17 +13,13 @@ use Rattle.art_arena.specs.arena.Cells.{Cell, pair, branches, leaf_name, copies,
 use Rattle.art_arena.specs.arena.Meaning.{IsPart}
 use Rattle.art_arena.specs.arena.Shapes.{Shape, Branches, leaf_at, inner_at, no_branch, branch, name_of, children_at, width, cells, cells_in, node_of}
 use Rattle.art_arena.specs.tree.Kinds.{IsKindOf}
-use Rattle.art_arena.proofs.shapes.CellLists.{copies-append}
+use Rattle.art_arena.proofs.shapes.CellLists.{copies-append, cell_children, same_cell}
 use Rattle.art_arena.proofs.shapes.Measures.{cells_few, nodes_below, nodes_below-held, slots_of, total}
-use Rattle.art_arena.proofs.tree.Order.{all_left, all_right}
+use Rattle.art_arena.proofs.tree.Order.{all_left, all_right, all_append}
 use Rattle.art_walks.specs.declared.checker.keys.Place.{Place}
 use Rattle.art_walks.specs.inner.Skeletons.{HasKinds, HaveKinds}
-use Rattle.art_walks.specs.inner.Fillings.{placed, first_key, first_key_in, Fits, FitIn, HasShape, HasKey, StandsAt, FitBelow, FitAt, ChildFits, Await, Opens}
-use Rattle.art_walks.proofs.Fillings.{first_key-same, fits-same}
-
-all_join : {A : Type 0} (Q : A → Type 0) (xs ys : List A) → AllByRecursion Q xs → AllByRecursion Q ys → AllByRecursion Q (xs ++ ys)
-all_join Q [] ys h i = i
-all_join Q (x ∷ xs) ys h i = (h.0, all_join Q xs ys h.1 i)
+use Rattle.art_walks.specs.inner.Fillings.{placed, first_key, first_key_in, Fits, FitIn, HasShape, LeafHasKey, StandsAsTold, FitBelow, FitAt, ChildFits, Await, Opens}
+use Rattle.art_walks.proofs.Fillings.{first_key-same, fits-same, prefix_len_of, stored_of}
 
 -- two sides of an answer, each said in other words
 pub other_words : {E : Type 0} (r : Result Bool E) (A B C D : Type 0) → (A → C) → (B → D) → IfOk r (λ fit. MatchBool fit A B) → IfOk r (λ fit. MatchBool fit C D)
@@ -97,13 +93,6 @@ module _ {K V : Type 0} (bytes : K → List ℕ) (P : ℕ) (at : Name → Option
   inner_shape (leaf_at slot k v) other = absurd (other refl)
   inner_shape (inner_at n prefix kids) other = (prefix, kids, refl)
 
-  abbrev children_of : Cell K V → List (ℕ × Name)
-  children_of (pair k v) = []
-  children_of (branches node) = node.children
-
-  same_node : (n : Name) (c d : Cell K V) → at n ≡ Some c → at n ≡ Some d → c ≡ d
-  same_node n c d e f = let h : Some c ≡ Some d = sym e ∙ f in cc
-
   -- all that fits at one shape below a name fits at each
   pub fits-below : (d : ℕ) (n : Name) (s : Shape K V) → IsPart P at n s → Fits bytes P d s → FitBelow bytes P at d n
   fits-below d n s part fits t other = fits-same bytes P at d t s other.held part.held (other.named ∙ sym part.named) fits
@@ -112,7 +101,7 @@ module _ {K V : Type 0} (bytes : K → List ℕ) (P : ℕ) (at : Name → Option
   key-below n s t one other = first_key-same bytes P at s t one.held other.held (one.named ∙ sym other.named)
 
   -- at a leaf: its key
-  pub leaf-key : (n : Name) (below : HasShape bytes P at n) → n.kind ≡ Leaf → HasKey bytes P at n.slot (first_key bytes below.shape)
+  pub leaf-key : (n : Name) (below : HasShape bytes P at n) → n.kind ≡ Leaf → LeafHasKey bytes P at n.slot (first_key bytes below.shape)
   leaf-key n below kind =
       let is = leaf_shape below.shape below.kinds (ap (λ (m : Name). m.kind) below.part.named ∙ kind) in
       let named : leaf_name is.0 ≡ n = sym (ap name_of is.3) ∙ below.part.named in
@@ -136,13 +125,13 @@ module _ {K V : Type 0} (bytes : K → List ℕ) (P : ℕ) (at : Name → Option
       let is = inner_shape below.shape (λ e. other (sym (ap (λ (m : Name). m.kind) named) ∙ e)) in
       let part : IsPart P at n (inner_at (name_of below.shape) is.0 is.1) = subst (IsPart P at n) is.2 below.part in
       let held : at (name_of below.shape) ≡ Some (node_of P is.0 (children_at is.1)) = part.held.0 in
-      let node_is : branches node ≡ node_of P is.0 (children_at is.1) = same_node n (branches node) (node_of P is.0 (children_at is.1)) there (ap at (sym named) ∙ held) in
+      let node_is : branches node ≡ node_of P is.0 (children_at is.1) = same_cell at n n (branches node) (node_of P is.0 (children_at is.1)) refl there (ap at (sym named) ∙ held) in
       record {
         prefix = is.0;
         kids = is.1;
         is = is.2;
         node_is = node_is;
-        children_are = sym (ap children_of node_is);
+        children_are = sym (ap cell_children node_is);
         parts = below_part n (name_of below.shape) is.0 is.1 part;
         kinds = subst HasKinds is.2 below.kinds;
       }
@@ -200,13 +189,13 @@ module _ {K V : Type 0} (bytes : K → List ℕ) (P : ℕ) (at : Name → Option
 
     pub await-join : (cs ds : List (ℕ × Name)) (ps qs : List Place) → Await bytes P at e key cs ps → Await bytes P at e key ds qs → Await bytes P at e key (cs ++ ds) (ps ++ qs)
     await-join cs ds ps qs one two = record {
-      stand = all_join (StandsAt bytes P at) ps qs one.stand two.stand;
+      stand = all_append (StandsAsTold bytes P at) ps qs one.stand two.stand;
       names = placed-append ps qs ∙ ap₂ (λ xs ys. xs ++ ys) one.names two.names ∙ sym (names-append cs ds);
-      enough = λ h. all_join (ChildFits bytes P at e key) cs ds (one.enough (all_left (FitAt bytes P at) ps qs h)) (two.enough (all_right (FitAt bytes P at) ps qs h));
-      needed = λ h. all_join (FitAt bytes P at) ps qs (one.needed (all_left (ChildFits bytes P at e key) cs ds h)) (two.needed (all_right (ChildFits bytes P at e key) cs ds h));
+      enough = λ h. all_append (ChildFits bytes P at e key) cs ds (one.enough (all_left (FitAt bytes P at) ps qs h)) (two.enough (all_right (FitAt bytes P at) ps qs h));
+      needed = λ h. all_append (FitAt bytes P at) ps qs (one.needed (all_left (ChildFits bytes P at e key) cs ds h)) (two.needed (all_right (ChildFits bytes P at e key) cs ds h));
     }
 
-    pub await-one : (c : ℕ × Name) (first : ℕ) (below : HasShape bytes P at c.1) → HasKey bytes P at first (first_key bytes below.shape)
+    pub await-one : (c : ℕ × Name) (first : ℕ) (below : HasShape bytes P at c.1) → LeafHasKey bytes P at first (first_key bytes below.shape)
         → take (e + 1) (first_key bytes below.shape) ≡ take e key ++ c.0 ∷ [] → e < length (first_key bytes below.shape)
         → Await bytes P at e key (c ∷ []) (record { name = c.1; depth = e + 1; first = first } ∷ [])
     await-one c first below has goes_on deep = record {
@@ -240,14 +229,6 @@ module _ {K V : Type 0} (bytes : K → List ℕ) (P : ℕ) (at : Name → Option
   of_one Q children done left rest c e f all =
       (all_right Q done (c ∷ rest) (subst (AllByRecursion Q) (e ∙ ap (λ xs. done ++ xs) f) all)).0
 
-  abbrev prefix_len_of : Cell K V → ℕ
-  prefix_len_of (pair k v) = 0
-  prefix_len_of (branches node) = node.header.prefix_len
-
-  abbrev stored_of : Cell K V → List ℕ
-  stored_of (pair k v) = []
-  stored_of (branches node) = node.header.stored
-
   -- the stored front of a prefix against a key
   front-stored : (prefix rest : List ℕ) → length prefix ≤ length rest → take P (take (length prefix) rest) ≡ take (length (take P prefix)) rest
   front-stored prefix rest long = elim (leb_tells P (length prefix)) [
@@ -259,7 +240,7 @@ module _ {K V : Type 0} (bytes : K → List ℕ) (P : ℕ) (at : Name → Option
   ]
 
   -- what the code reads of a node at a place, and what it tells
-  module _ (place : Place) (stands : StandsAt bytes P at place) (other : place.name.kind ≢ Leaf) (node : InnerNode) (there : at place.name ≡ Some (branches node))
+  module _ (place : Place) (stands : StandsAsTold bytes P at place) (other : place.name.kind ≢ Leaf) (node : InnerNode) (there : at place.name ≡ Some (branches node))
       (key : List ℕ) (is_key : key ≡ first_key bytes stands.below.shape) where
     abbrev root : Root stands.below.shape node
     root = root-is place.name stands.below other node there
@@ -343,7 +324,7 @@ module _ {K V : Type 0} (bytes : K → List ℕ) (P : ℕ) (at : Name → Option
             )
 
   -- where a leaf stands, all fits
-  leaf-fits : (place : Place) (stands : StandsAt bytes P at place) → place.name.kind ≡ Leaf → FitAt bytes P at place
+  leaf-fits : (place : Place) (stands : StandsAsTold bytes P at place) → place.name.kind ≡ Leaf → FitAt bytes P at place
   leaf-fits place stands kind =
       let below = stands.below in
       let is = leaf_shape below.shape below.kinds (ap (λ (m : Name). m.kind) below.part.named ∙ kind) in
@@ -351,31 +332,31 @@ module _ {K V : Type 0} (bytes : K → List ℕ) (P : ℕ) (at : Name → Option
       fits-below place.depth place.name below.shape below.part (subst (Fits bytes P place.depth) (sym is.3) deep)
 
   -- All below the root fits if it does at what waits, and only then.
-  pub record IsLeft (root : Name) (waiting : List Place) : Type 0 where
-    pub stand : AllByRecursion (StandsAt bytes P at) waiting
+  pub record RestsOn (root : Name) (waiting : List Place) : Type 0 where
+    pub stand : AllByRecursion (StandsAsTold bytes P at) waiting
     enough : AllByRecursion (FitAt bytes P at) waiting → FitBelow bytes P at 0 root
     needed : FitBelow bytes P at 0 root → AllByRecursion (FitAt bytes P at) waiting
 
-  pub left-start : (top : Name) (waiting : List Place) (first : ℕ) (below : HasShape bytes P at top) → HasKey bytes P at first (first_key bytes below.shape)
-      → waiting ≡ record { name = top; depth = 0; first = first } ∷ [] → IsLeft top waiting
-  left-start top waiting first below has e = subst (IsLeft top) (sym e) (record {
+  pub left-start : (top : Name) (waiting : List Place) (first : ℕ) (below : HasShape bytes P at top) → LeafHasKey bytes P at first (first_key bytes below.shape)
+      → waiting ≡ record { name = top; depth = 0; first = first } ∷ [] → RestsOn top waiting
+  left-start top waiting first below has e = subst (RestsOn top) (sym e) (record {
     stand = (record { below = below; first = has; deep = omega arith }, tt);
     enough = λ h. h.0;
     needed = λ f. (f, tt);
   })
 
-  pub left-end : (top : Name) (waiting : List Place) → IsLeft top waiting → waiting ≡ [] → FitBelow bytes P at 0 top
+  pub left-end : (top : Name) (waiting : List Place) → RestsOn top waiting → waiting ≡ [] → FitBelow bytes P at 0 top
   left-end top waiting left e = left.enough (subst (AllByRecursion (FitAt bytes P at)) (sym e) tt)
 
-  module _ (root : Name) (waiting rest : List Place) (place : Place) (left : IsLeft root waiting) (top : waiting ≡ rest ++ place ∷ []) where
-    all_stand : AllByRecursion (StandsAt bytes P at) (rest ++ place ∷ [])
-    all_stand = subst (AllByRecursion (StandsAt bytes P at)) top left.stand
+  module _ (root : Name) (waiting rest : List Place) (place : Place) (left : RestsOn root waiting) (top : waiting ≡ rest ++ place ∷ []) where
+    all_stand : AllByRecursion (StandsAsTold bytes P at) (rest ++ place ∷ [])
+    all_stand = subst (AllByRecursion (StandsAsTold bytes P at)) top left.stand
 
-    pub stands-here : StandsAt bytes P at place
-    stands-here = (all_right (StandsAt bytes P at) rest (place ∷ []) all_stand).0
+    pub stands-here : StandsAsTold bytes P at place
+    stands-here = (all_right (StandsAsTold bytes P at) rest (place ∷ []) all_stand).0
 
     enough-here : AllByRecursion (FitAt bytes P at) rest → FitAt bytes P at place → FitBelow bytes P at 0 root
-    enough-here h f = left.enough (subst (AllByRecursion (FitAt bytes P at)) (sym top) (all_join (FitAt bytes P at) rest (place ∷ []) h (f, tt)))
+    enough-here h f = left.enough (subst (AllByRecursion (FitAt bytes P at)) (sym top) (all_append (FitAt bytes P at) rest (place ∷ []) h (f, tt)))
 
     needed-here : FitBelow bytes P at 0 root → AllByRecursion (FitAt bytes P at) (rest ++ place ∷ [])
     needed-here fit = subst (AllByRecursion (FitAt bytes P at)) top (left.needed fit)
@@ -383,20 +364,20 @@ module _ {K V : Type 0} (bytes : K → List ℕ) (P : ℕ) (at : Name → Option
     pub left-unfit : (FitAt bytes P at place → ⊥) → FitBelow bytes P at 0 root → ⊥
     left-unfit unfit fit = unfit (all_right (FitAt bytes P at) rest (place ∷ []) (needed-here fit)).0
 
-    pub left-leaf : place.name.kind ≡ Leaf → IsLeft root rest
+    pub left-leaf : place.name.kind ≡ Leaf → RestsOn root rest
     left-leaf kind = record {
-      stand = all_left (StandsAt bytes P at) rest (place ∷ []) all_stand;
+      stand = all_left (StandsAsTold bytes P at) rest (place ∷ []) all_stand;
       enough = λ h. enough-here h (leaf-fits place stands-here kind);
       needed = λ fit. all_left (FitAt bytes P at) rest (place ∷ []) (needed-here fit);
     }
 
-    pub left-inner : (new : List Place) → Opens bytes P at place rest new → IsLeft root new
-    left-inner new opened = subst (IsLeft root) (sym opened.wait) (record {
-      stand = all_join (StandsAt bytes P at) rest opened.places (all_left (StandsAt bytes P at) rest (place ∷ []) all_stand) opened.stand;
+    pub left-inner : (new : List Place) → Opens bytes P at place rest new → RestsOn root new
+    left-inner new opened = subst (RestsOn root) (sym opened.wait) (record {
+      stand = all_append (StandsAsTold bytes P at) rest opened.places (all_left (StandsAsTold bytes P at) rest (place ∷ []) all_stand) opened.stand;
       enough = λ h. enough-here (all_left (FitAt bytes P at) rest opened.places h) (opened.enough (all_right (FitAt bytes P at) rest opened.places h));
       needed = λ fit.
           let all = needed-here fit in
-          all_join (FitAt bytes P at) rest opened.places (all_left (FitAt bytes P at) rest (place ∷ []) all) (opened.needed (all_right (FitAt bytes P at) rest (place ∷ []) all).0);
+          all_append (FitAt bytes P at) rest opened.places (all_left (FitAt bytes P at) rest (place ∷ []) all) (opened.needed (all_right (FitAt bytes P at) rest (place ∷ []) all).0);
     })
 
 module _ {K V : Type 0} (bytes : K → List ℕ) (P : ℕ) (arena : Arena K V) where
@@ -407,13 +388,13 @@ module _ {K V : Type 0} (bytes : K → List ℕ) (P : ℕ) (arena : Arena K V) w
       ap (nodes_below (slots_of arena) (node_at arena)) (sym part.named) ∙ nodes_below-held P (node_at arena) (slots_of arena) below.shape part.held (cells_few P arena n below.shape part)
 
   -- from an inner node to its first child
-  pub record Step (n : Name) (below : HasShape bytes P (node_at arena) n) (child : ℕ × Name) : Type 0 where
+  pub record StepToFirst (n : Name) (below : HasShape bytes P (node_at arena) n) (child : ℕ × Name) : Type 0 where
     pub next : HasShape bytes P (node_at arena) child.1
     pub same_key : first_key bytes next.shape ≡ first_key bytes below.shape
     pub nearer : nodes_below (slots_of arena) (node_at arena) child.1 < nodes_below (slots_of arena) (node_at arena) n
 
   pub step : (n : Name) (below : HasShape bytes P (node_at arena) n) → n.kind ≢ Leaf → (node : InnerNode) → node_at arena n ≡ Some (branches node)
-      → (child : ℕ × Name) → first_child node.children ≡ Some child → Step n below child
+      → (child : ℕ × Name) → first_child node.children ≡ Some child → StepToFirst n below child
   step n below other node there child e =
       let f = first-child bytes P (node_at arena) n below other node there in
       let h : Some f.child ≡ Some child = sym (ap first_child f.is) ∙ e in
@@ -421,7 +402,7 @@ module _ {K V : Type 0} (bytes : K → List ℕ) (P : ℕ) (arena : Arena K V) w
       let fewer = f.fewer in
       let here = below-size n below in
       let later = below-size f.child.1 f.next in
-      subst (λ c. Step n below c) same (record { next = f.next; same_key = f.same_key; nearer = omega (arith, fewer, here, later) })
+      subst (λ c. StepToFirst n below c) same (record { next = f.next; same_key = f.same_key; nearer = omega (arith, fewer, here, later) })
 
   pub no-child : (n : Name) (below : HasShape bytes P (node_at arena) n) → n.kind ≢ Leaf → (node : InnerNode) → node_at arena n ≡ Some (branches node) → first_child node.children ≡ None → ⊥
   no-child n below other node there e =
@@ -446,7 +427,7 @@ module _ {K V : Type 0} (bytes : K → List ℕ) (P : ℕ) (arena : Arena K V) w
       in_all f (Some (branches node)) = suc (total f node.children)
 
   -- the leaf of a key
-  pub leaf_held_at : (slot : ℕ) (key : List ℕ) (has : HasKey bytes P (node_at arena) slot key) → (l : LeafNode K V) × (held_at arena (leaf_name slot) ≡ Some (leaf_held l)) × (bytes l.key ≡ key)
+  pub leaf_held_at : (slot : ℕ) (key : List ℕ) (has : LeafHasKey bytes P (node_at arena) slot key) → (l : LeafNode K V) × (held_at arena (leaf_name slot) ≡ Some (leaf_held l)) × (bytes l.key ≡ key)
   leaf_held_at slot key has =
       let there = a_leaf (held_at arena (leaf_name slot)) has.0 has.1 has.2 in (there.0, there.1, ap bytes there.2 ∙ has.3)
     where
@@ -469,13 +450,13 @@ module _ {K V : Type 0} (bytes : K → List ℕ) (P : ℕ) (arena : Arena K V) w
   some-cells (leaf_at slot k v) = omega arith
   some-cells (inner_at n prefix kids) = omega arith
 
-  pub fewer-leaf : (waiting rest : List Place) (place : Place) → waiting ≡ rest ++ place ∷ [] → StandsAt bytes P (node_at arena) place → nodes_waiting rest < nodes_waiting waiting
+  pub fewer-leaf : (waiting rest : List Place) (place : Place) → waiting ≡ rest ++ place ∷ [] → StandsAsTold bytes P (node_at arena) place → nodes_waiting rest < nodes_waiting waiting
   fewer-leaf waiting rest place top stands =
       let t = waiting-top waiting rest place top in
       let here = below-size place.name stands.below in
       omega (arith, t, here, some-cells stands.below.shape)
 
-  pub fewer-inner : (waiting rest new : List Place) (place : Place) → waiting ≡ rest ++ place ∷ [] → StandsAt bytes P (node_at arena) place → Opens bytes P (node_at arena) place rest new → nodes_waiting new < nodes_waiting waiting
+  pub fewer-inner : (waiting rest new : List Place) (place : Place) → waiting ≡ rest ++ place ∷ [] → StandsAsTold bytes P (node_at arena) place → Opens bytes P (node_at arena) place rest new → nodes_waiting new < nodes_waiting waiting
   fewer-inner waiting rest new place top stands opened =
       let f = nodes_below (slots_of arena) (node_at arena) in
       let t = waiting-top waiting rest place top in

@@ -7,27 +7,12 @@ use Rattle.art_arena.specs.arena.Cells.{same_kind}
 
 pub kinds_told : (k l : NodeType) → eq-value.it k l ≡ same_kind k l
 kinds_told Node4 Node4 = refl
-kinds_told Node4 Node16 = refl
-kinds_told Node4 Node48 = refl
-kinds_told Node4 Node256 = refl
-kinds_told Node4 Leaf = refl
-kinds_told Node16 Node4 = refl
+kinds_told Node4 l = refl
 kinds_told Node16 Node16 = refl
-kinds_told Node16 Node48 = refl
-kinds_told Node16 Node256 = refl
-kinds_told Node16 Leaf = refl
-kinds_told Node48 Node4 = refl
-kinds_told Node48 Node16 = refl
+kinds_told Node16 l = refl
 kinds_told Node48 Node48 = refl
-kinds_told Node48 Node256 = refl
-kinds_told Node48 Leaf = refl
-kinds_told Node256 Node4 = refl
-kinds_told Node256 Node16 = refl
-kinds_told Node256 Node48 = refl
+kinds_told Node48 l = refl
 kinds_told Node256 Node256 = refl
-kinds_told Node256 Leaf = refl
-kinds_told Leaf Node4 = refl
-kinds_told Leaf Node16 = refl
-kinds_told Leaf Node48 = refl
-kinds_told Leaf Node256 = refl
+kinds_told Node256 l = refl
 kinds_told Leaf Leaf = refl
+kinds_told Leaf l = refl

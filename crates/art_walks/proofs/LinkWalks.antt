@@ -4,14 +4,14 @@ use Rattle.art_arena.specs.arena.Linked.{Links}
 use Rattle.art_walks.specs.declared.checker.links.Last.{Last}
 use Rattle.art_walks.specs.inner.Slots.{AreLinkedSlots, IsBehind}
 
-abbrev pub first_of : List ℕ → Option ℕ
-first_of [] = None
-first_of (slot ∷ rest) = Some slot
+abbrev pub first_number : List ℕ → Option ℕ
+first_number [] = None
+first_number (slot ∷ rest) = Some slot
 
 -- these leaves are linked behind the last one, to whose link they answer
 abbrev pub IsLinkedFrom : (ℕ → Option Links) → Option Last → List ℕ → Type 0
 IsLinkedFrom links None slots = AreLinkedSlots links None slots None
-IsLinkedFrom links (Some last) slots = (last.next ≡ first_of slots) × AreLinkedSlots links (Some last.leaf) slots None
+IsLinkedFrom links (Some last) slots = (last.next ≡ first_number slots) × AreLinkedSlots links (Some last.leaf) slots None
 
 module _ (links : ℕ → Option Links) (slot : ℕ) (rest : List ℕ) (previous next : Option ℕ) (there : links slot ≡ Some (record { previous = previous; next = next })) where
   both : (before : Option ℕ) (after : Option ℕ) → links slot ≡ Some (record { previous = before; next = after }) → (previous ≡ before) × (next ≡ after)
@@ -27,14 +27,14 @@ module _ (links : ℕ → Option Links) (slot : ℕ) (rest : List ℕ) (previous
       next_of None = None
       next_of (Some l) = l.next
 
-  after : (more : List ℕ) (before : Option ℕ) → AreLinkedSlots links before (slot ∷ more) None → (previous ≡ before) × ((next ≡ first_of more) × AreLinkedSlots links (Some slot) more None)
+  after : (more : List ℕ) (before : Option ℕ) → AreLinkedSlots links before (slot ∷ more) None → (previous ≡ before) × ((next ≡ first_number more) × AreLinkedSlots links (Some slot) more None)
   after [] before l = let e = both before None l.0 in (e.0, (e.1, l.1))
   after (x ∷ more) before l = let e = both before (Some x) l.0 in (e.0, (e.1, l.1))
 
   there_is : (before after : Option ℕ) → previous ≡ before → next ≡ after → links slot ≡ Some (record { previous = before; next = after })
   there_is before after e f = there ∙ ap₂ (λ p n. Some (record { previous = p; next = n })) e f
 
-  behind : (more : List ℕ) (before : Option ℕ) → previous ≡ before → next ≡ first_of more → AreLinkedSlots links (Some slot) more None → AreLinkedSlots links before (slot ∷ more) None
+  behind : (more : List ℕ) (before : Option ℕ) → previous ≡ before → next ≡ first_number more → AreLinkedSlots links (Some slot) more None → AreLinkedSlots links before (slot ∷ more) None
   behind [] before e f l = (there_is before None e f, l)
   behind (x ∷ more) before e f l = (there_is before (Some x) e f, l)
 

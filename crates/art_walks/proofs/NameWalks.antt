@@ -15,7 +15,7 @@ use Rattle.art_arena.proofs.shapes.LinkedLists.{some_of}
 use Rattle.art_arena.proofs.shapes.Measures.{held_few, slots_of}
 use Rattle.art_walks.specs.Faults.{child_in, led_to, HasDeadName, HasLoop, HasWrongCount}
 use Rattle.art_walks.specs.inner.Names.{has_name, meets, AreOnce, IsOpened, IsMiscounted}
-use Rattle.art_walks.specs.inner.Skeletons.{named, IsSkeleton}
+use Rattle.art_walks.specs.inner.Skeletons.{cell_names, IsSkeleton}
 use Rattle.art_walks.proofs.Skeletons.{Completes, completes-start, completes-end, completes-leaf, completes-inner}
 use Rattle.art_walks.proofs.Ways.{led_to-edge, loop_of_edges, loop_of_root}
 
@@ -66,7 +66,7 @@ meets-self : (n : Name) (xs : List Name) → meets n (n ∷ xs) ≡ 1 + meets n 
 meets-self n xs = ap (λ b. cond b 1 0 + meets n xs) (same_name-self n)
 
 -- a child that stands among those of a node stands under some byte
-record Found (q : Name) (low : ℕ) (cs : List (ℕ × Name)) : Type 0 where
+record FoundUnder (q : Name) (low : ℕ) (cs : List (ℕ × Name)) : Type 0 where
   byte : ℕ
   above : low ≤ byte
   there : child_at cs byte ≡ Some q
@@ -84,7 +84,7 @@ later_byte c cs byte above = elim (eqb_tells c.0 byte) [ inl same ↦ absurd (om
 here_byte : (c : ℕ × Name) (cs : List (ℕ × Name)) → child_at (c ∷ cs) c.0 ≡ Some c.1
 here_byte c cs = elim (eqb_tells c.0 c.0) [ inl same ↦ rw same.0 refl | inr other ↦ absurd (other.1 refl) ]
 
-found : (q : Name) (low : ℕ) (cs : List (ℕ × Name)) → IsAscendingFrom low cs → 1 ≤ meets q (names_of cs) → Found q low cs
+found : (q : Name) (low : ℕ) (cs : List (ℕ × Name)) → IsAscendingFrom low cs → 1 ≤ meets q (names_of cs) → FoundUnder q low cs
 found q low [] rises h = absurd (omega (arith, h))
 found q low (c ∷ cs) rises h = elim (same_name_tells q c.1) [
   | inl same ↦ record { byte = c.0; above = rises.0; there = here_byte c cs ∙ ap Some (sym same.1) }
@@ -129,20 +129,20 @@ length-pad zero = refl
 length-pad (suc n) = ap suc (length-pad n)
 
 module _ {K V : Type 0} where
-  pub copies-named : (n : Name) (cs : List (Name × Cell K V)) → copies n cs ≡ meets n (named cs)
+  pub copies-named : (n : Name) (cs : List (Name × Cell K V)) → copies n cs ≡ meets n (cell_names cs)
   copies-named n [] = refl
   copies-named n (c ∷ cs) = ap (λ m. cond (same_name n c.0) 1 0 + m) (copies-named n cs)
 
-  length-named : (cs : List (Name × Cell K V)) → length (named cs) ≡ length cs
+  length-named : (cs : List (Name × Cell K V)) → length (cell_names cs) ≡ length cs
   length-named [] = refl
   length-named (c ∷ cs) = ap suc (length-named cs)
 
-  abbrev children_in : Option (Cell K V) → List (ℕ × Name)
-  children_in None = []
-  children_in (Some (pair k v)) = []
-  children_in (Some (branches node)) = node.children
+  abbrev children_there : Option (Cell K V) → List (ℕ × Name)
+  children_there None = []
+  children_there (Some (pair k v)) = []
+  children_there (Some (branches node)) = node.children
 
-  child_in-children : (o : Option (Cell K V)) (byte : ℕ) → child_in o byte ≡ child_at (children_in o) byte
+  child_in-children : (o : Option (Cell K V)) (byte : ℕ) → child_in o byte ≡ child_at (children_there o) byte
   child_in-children None byte = refl
   child_in-children (Some (pair k v)) byte = refl
   child_in-children (Some (branches node)) byte = refl
@@ -179,7 +179,7 @@ module _ {K V : Type 0} where
 
   module _ (at : Name → Option (Cell K V)) where
     abbrev children : Name → List (ℕ × Name)
-    children n = children_in (at n)
+    children n = children_there (at n)
 
     abbrev AreAscending : List Name → Type 0
     AreAscending met = AllByRecursion (λ n. IsAscending (children n)) met
@@ -254,7 +254,7 @@ module _ {K V : Type 0} where
         leads : led_to at root way ≡ Some q
 
       -- These names were met and opened, each once, and those wait, the next at the end; what stands below the root is made of both.
-      pub record IsWalk (met waiting : List Name) : Type 0 where
+      pub record IsNameWalk (met waiting : List Name) : Type 0 where
         pub complete : Completes P at root met (reverse waiting)
         pub once : AreOnce met
         rises : AreAscending met
@@ -262,7 +262,7 @@ module _ {K V : Type 0} where
         led : (q : Name) → 1 ≤ meets q met + meets q waiting → IsLedTo q
         counted : (q : Name) → meets q met + meets q waiting ≡ cond (same_name q root) 1 0 + edges q met
 
-      walk-start : IsWalk [] (root ∷ [])
+      walk-start : IsNameWalk [] (root ∷ [])
       walk-start = record {
         complete = completes-start P at root;
         once = λ n. omega arith;
@@ -275,13 +275,13 @@ module _ {K V : Type 0} where
         counted = λ q. omega arith;
       }
 
-      pub walk-begin : (met waiting : List Name) → met ≡ [] → waiting ≡ root ∷ [] → IsWalk met waiting
-      walk-begin met waiting e f = subst (λ m. IsWalk m waiting) (sym e) (subst (IsWalk []) (sym f) walk-start)
+      pub walk-begin : (met waiting : List Name) → met ≡ [] → waiting ≡ root ∷ [] → IsNameWalk met waiting
+      walk-begin met waiting e f = subst (λ m. IsNameWalk m waiting) (sym e) (subst (IsNameWalk []) (sym f) walk-start)
 
-      pub walk-end : (met waiting : List Name) → IsWalk met waiting → waiting ≡ [] → IsSkeleton P at root met
+      pub walk-end : (met waiting : List Name) → IsNameWalk met waiting → waiting ≡ [] → IsSkeleton P at root met
       walk-end met waiting walk none = completes-end P at root met (subst (λ w. Completes P at root met (reverse w)) none walk.complete)
 
-      module _ (met waiting rest : List Name) (q : Name) (walk : IsWalk met waiting) (top : waiting ≡ rest ++ q ∷ []) where
+      module _ (met waiting rest : List Name) (q : Name) (walk : IsNameWalk met waiting) (top : waiting ≡ rest ++ q ∷ []) where
         split : (n : Name) → meets n waiting ≡ meets n rest + meets n (q ∷ [])
         split n = ap (meets n) top ∙ meets-append n rest (q ∷ [])
 
@@ -376,10 +376,10 @@ module _ {K V : Type 0} where
               let was = walk.counted n in
               omega (arith, parts, later, s, c, e, was)
 
-          pub walk-leaf : (k : K) (v : V) → at q ≡ Some (pair k v) → q.kind ≡ Leaf → IsWalk (met ++ q ∷ []) rest
+          pub walk-leaf : (k : K) (v : V) → at q ≡ Some (pair k v) → q.kind ≡ Leaf → IsNameWalk (met ++ q ∷ []) rest
           walk-leaf k v there kind =
               let named_so : q ≡ leaf_name q.slot = ap (λ x. record { kind = x; slot = q.slot }) kind in
-              let childless : children q ≡ [] = ap children_in there in
+              let childless : children q ≡ [] = ap children_there there in
               let rising : IsAscending (children q) = subst IsAscending (sym childless) tt in
               let none : (n : Name) → meets n [] ≡ meets n (names_of (children q)) = λ n. sym (ap (λ cs. meets n (names_of cs)) childless) in
               let plain : rest ++ [] ≡ rest = nothing rest in
@@ -400,17 +400,17 @@ module _ {K V : Type 0} where
               there_some : at q ≡ Some (pair k v) → IsSome (at q)
               there_some e = rw e refl
 
-          pub walk-inner : (new_waiting : List Name) → IsOpened at q P rest new_waiting → IsWalk (met ++ q ∷ []) new_waiting
+          pub walk-inner : (new_waiting : List Name) → IsOpened at q P rest new_waiting → IsNameWalk (met ++ q ∷ []) new_waiting
           walk-inner new_waiting opened =
               let node = opened.node in
-              let inside : children q ≡ node.children = ap children_in opened.held in
+              let inside : children q ≡ node.children = ap children_there opened.held in
               let rising : IsAscending (children q) = subst IsAscending (sym inside) opened.is_inner.ascending in
               let same : (n : Name) → meets n (reverse (names_of node.children)) ≡ meets n (names_of (children q)) =
               λ n. meets-reverse n (names_of node.children) ∙ sym (ap (λ cs. meets n (names_of cs)) inside) in
               let prefixed = has_prefix P _ node opened.is_inner in
               let back : reverse (rest ++ reverse (names_of node.children)) ≡ names_of node.children ++ reverse rest =
               reverse-append rest (reverse (names_of node.children)) ∙ ap (λ xs. xs ++ reverse rest) (reverse-reverse (names_of node.children)) in
-              subst (IsWalk (met ++ q ∷ [])) (sym opened.wait)
+              subst (IsNameWalk (met ++ q ∷ [])) (sym opened.wait)
               (record {
                 complete = subst (Completes P at root (met ++ q ∷ [])) (sym back)
                     (completes-inner P at root met (reverse rest) q prefixed.0 node.children (opened.held ∙ ap Some prefixed.1) opened.kind complete_here);
@@ -425,7 +425,7 @@ module _ {K V : Type 0} where
   module _ (arena : Arena K V) where
     record Cells (met : List Name) : Type 0 where
       list : List (Name × Cell K V)
-      names_are : named list ≡ met
+      names_are : cell_names list ≡ met
       held : AreHeld (node_at arena) list
 
     cells_of : (met : List Name) → AllByRecursion (λ n. IsSome (node_at arena n)) met → Cells met
@@ -442,5 +442,5 @@ module _ {K V : Type 0} where
         let long = sym (length-named c.list) ∙ ap length c.names_are in omega (arith, few, long)
 
     module _ (P : ℕ) (root : Name) where
-      pub walk-few : (met waiting : List Name) → IsWalk (node_at arena) P root met waiting → length met ≤ slots_of arena
+      pub walk-few : (met waiting : List Name) → IsNameWalk (node_at arena) P root met waiting → length met ≤ slots_of arena
       walk-few met waiting walk = met_few met walk.held walk.once

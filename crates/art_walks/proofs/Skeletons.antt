@@ -1,12 +1,14 @@
 -- From an arena to a shape: what a check has met so far, as a shape whose last parts are still to come. Prefixes play no part here.
-use Rattle.std.proofs.Common.{◌≡◌, ℕ, List, [], ◌∷◌, ◌++◌, length, Option, Some, refl, sym, ap, ap₂, subst, ◌∙◌, arith, append_assoc}
+use Rattle.std.proofs.Common.{◌≡◌, ℕ, List, [], ◌∷◌, ◌++◌, length, Option, Some, refl, sym, ap, ap₂, subst, ◌∙◌, append_assoc}
 use Rattle.art_nodes.specs.Name.{Name}
 use Rattle.art_nodes.specs.InnerNode.{names_of}
-use Rattle.art_arena.specs.arena.Cells.{Cell, pair, branches, leaf_name, AreHeld}
+use Rattle.art_arena.specs.arena.Cells.{Cell, pair, leaf_name, AreHeld}
 use Rattle.art_arena.specs.tree.Kinds.{IsKindOf}
 use Rattle.art_arena.specs.arena.Shapes.{Shape, Branches, leaf_at, inner_at, no_branch, branch, name_of, children_at, width, cells, cells_in, node_of}
 use Rattle.art_arena.proofs.tree.Order.{all_left, all_right}
-use Rattle.art_walks.specs.inner.Skeletons.{HasKinds, HaveKinds, named, IsSkeleton}
+use Rattle.art_walks.specs.inner.Skeletons.{HasKinds, HaveKinds, cell_names, IsSkeleton}
+use Rattle.art_arena.proofs.shapes.CellLists.{cell_children, same_cell}
+use Rattle.art_arena.proofs.shapes.Contexts.{length-children}
 
 module _ {K V : Type 0} where
   -- the names of some shapes, and their kinds
@@ -18,9 +20,9 @@ module _ {K V : Type 0} where
   AllHaveKinds [] = Unit {0}
   AllHaveKinds (s ∷ more) = HasKinds s × AllHaveKinds more
 
-  pub named-append : (xs ys : List (Name × Cell K V)) → named (xs ++ ys) ≡ named xs ++ named ys
-  named-append [] ys = refl
-  named-append (x ∷ xs) ys = ap (λ rest. x.0 ∷ rest) (named-append xs ys)
+  pub cell_names-append : (xs ys : List (Name × Cell K V)) → cell_names (xs ++ ys) ≡ cell_names xs ++ cell_names ys
+  cell_names-append [] ys = refl
+  cell_names-append (x ∷ xs) ys = ap (λ rest. x.0 ∷ rest) (cell_names-append xs ys)
 
   module _ (P : ℕ) where
     -- the cells of some shapes, in order
@@ -29,7 +31,7 @@ module _ {K V : Type 0} where
     cells_all (s ∷ more) = cells P s ++ cells_all more
 
     -- shapes below the children of a node, one for each, and what stands behind them
-    pub record AreBelow (at : Name → Option (Cell K V)) (children : List (ℕ × Name)) (all rest : List (Shape K V)) : Type 0 where
+    pub record StandBelow (at : Name → Option (Cell K V)) (children : List (ℕ × Name)) (all rest : List (Shape K V)) : Type 0 where
       pub kids : Branches K V
       pub children_are : children_at kids ≡ children
       pub cells_are : cells_all all ≡ cells_in P kids ++ cells_all rest
@@ -37,7 +39,7 @@ module _ {K V : Type 0} where
 
     -- the shapes below these names begin with those below the children of a node
     pub split_at : (at : Name → Option (Cell K V)) (children : List (ℕ × Name)) (names : List Name) (all : List (Shape K V)) → roots_of all ≡ names_of children ++ names → AllHaveKinds all
-        → (rest : List (Shape K V)) × (roots_of rest ≡ names) × AllHaveKinds rest × AreBelow at children all rest
+        → (rest : List (Shape K V)) × (roots_of rest ≡ names) × AllHaveKinds rest × StandBelow at children all rest
     split_at at [] names all e kinds = (all, e, kinds, record { kids = no_branch; children_are = refl; cells_are = refl; kinds = tt })
     split_at at (c ∷ children) names [] e kinds = absurd (cc)
     split_at at (c ∷ children) names (s ∷ all) e kinds =
@@ -59,7 +61,7 @@ module _ {K V : Type 0} where
     -- Whatever stands below the names that wait, it makes a shape below the root with the names that were met.
     abbrev pub Completes : List Name → List Name → Type 0
     Completes met waiting =
-        (all : List (Shape K V)) → roots_of all ≡ waiting → AreHeld at (cells_all P all) → AllHaveKinds all → IsSkeleton P at root (met ++ named (cells_all P all))
+        (all : List (Shape K V)) → roots_of all ≡ waiting → AreHeld at (cells_all P all) → AllHaveKinds all → IsSkeleton P at root (met ++ cell_names (cells_all P all))
 
     -- At the start nothing was met.
     pub completes-start : Completes [] (root ∷ [])
@@ -70,7 +72,7 @@ module _ {K V : Type 0} where
       root_is = (cc);
       held = all_left (λ (c : Name × Cell K V). at c.0 ≡ Some c.1) (cells P s) [] held;
       kinds = kinds.0;
-      names_are = sym (named-append (cells P s) [] ∙ nothing (named (cells P s)));
+      names_are = sym (cell_names-append (cells P s) [] ∙ nothing (cell_names (cells P s)));
     }
       where
         nothing : (xs : List Name) → xs ++ [] ≡ xs
@@ -88,7 +90,7 @@ module _ {K V : Type 0} where
     -- A leaf is met.
     pub completes-leaf : (met waiting : List Name) (slot : ℕ) (k : K) (v : V) → at (leaf_name slot) ≡ Some (pair k v) → Completes met (leaf_name slot ∷ waiting) → Completes (met ++ leaf_name slot ∷ []) waiting
     completes-leaf met waiting slot k v there complete all e held kinds =
-        subst (IsSkeleton P at root) (sym (append_assoc met (leaf_name slot ∷ []) (named (cells_all P all))))
+        subst (IsSkeleton P at root) (sym (append_assoc met (leaf_name slot ∷ []) (cell_names (cells_all P all))))
         (complete (leaf_at slot k v ∷ all) (ap (λ ns. leaf_name slot ∷ ns) e) (there, held) (tt, kinds))
 
     -- An inner node is met, whose children then wait. Its whole prefix may be any that the header doesn't contradict.
@@ -97,35 +99,24 @@ module _ {K V : Type 0} where
     completes-inner met waiting n prefix children there kind complete all e held kinds =
         let parts = split_at P at children waiting all e kinds in
         let below = parts.3 in
-        let names : named (cells_all P all) ≡ named (cells_in P below.kids ++ cells_all P parts.0) = ap named below.cells_are in
+        let names : cell_names (cells_all P all) ≡ cell_names (cells_in P below.kids ++ cells_all P parts.0) = ap cell_names below.cells_are in
         let children_held : at n ≡ Some (node_of P prefix (children_at below.kids)) = there ∙ ap (λ cs. Some (node_of P prefix cs)) (sym below.children_are) in
         let many : IsKindOf n.kind (width below.kids) = subst (IsKindOf n.kind) (sym (ap length below.children_are) ∙ length-children below.kids) kind in
-        subst (IsSkeleton P at root) (ap (λ ns. met ++ n ∷ ns) (sym names) ∙ sym (append_assoc met (n ∷ []) (named (cells_all P all))))
+        subst (IsSkeleton P at root) (ap (λ ns. met ++ n ∷ ns) (sym names) ∙ sym (append_assoc met (n ∷ []) (cell_names (cells_all P all))))
         (complete (inner_at n prefix below.kids ∷ parts.0) (ap (λ ns. n ∷ ns) parts.1) (children_held, subst (AreHeld at) below.cells_are held) ((many, below.kinds), parts.2))
-      where
-        length-children : (kids : Branches K V) → length (children_at kids) ≡ width kids
-        length-children no_branch = refl
-        length-children (branch b s rest) = omega (arith, length-children rest)
 
   -- Two shapes that an arena has below one name have the same cells.
   module _ (P : ℕ) (at : Name → Option (Cell K V)) where
-    one_cell : (m n : Name) (c d : Cell K V) → m ≡ n → at m ≡ Some c → at n ≡ Some d → c ≡ d
-    one_cell m n c d e f g = let h : Some c ≡ Some d = sym f ∙ ap at e ∙ g in cc
-
     mutual
       pub same_cells : (s t : Shape K V) → AreHeld at (cells P s) → AreHeld at (cells P t) → name_of s ≡ name_of t → cells P s ≡ cells P t
       same_cells (leaf_at m j u) (leaf_at n k v) h i e =
-          let same = one_cell _ _ _ _ e h.0 i.0 in ap₂ (λ (x : Name) c. (x, c) ∷ []) e same
-      same_cells (leaf_at m j u) (inner_at n prefix kids) h i e = let same = one_cell _ _ _ _ e h.0 i.0 in absurd (cc)
-      same_cells (inner_at m prefix kids) (leaf_at n k v) h i e = let same = one_cell _ _ _ _ e h.0 i.0 in absurd (cc)
+          let same = same_cell at _ _ _ _ e h.0 i.0 in ap₂ (λ (x : Name) c. (x, c) ∷ []) e same
+      same_cells (leaf_at m j u) (inner_at n prefix kids) h i e = let same = same_cell at _ _ _ _ e h.0 i.0 in absurd (cc)
+      same_cells (inner_at m prefix kids) (leaf_at n k v) h i e = let same = same_cell at _ _ _ _ e h.0 i.0 in absurd (cc)
       same_cells (inner_at m a cs) (inner_at n b ds) h i e =
-          let same = one_cell _ _ (node_of P a (children_at cs)) (node_of P b (children_at ds)) e h.0 i.0 in
-          let rest = same_cells_in cs ds h.1 i.1 (ap children_of same) in
+          let same = same_cell at _ _ (node_of P a (children_at cs)) (node_of P b (children_at ds)) e h.0 i.0 in
+          let rest = same_cells_in cs ds h.1 i.1 (ap cell_children same) in
           ap₂ (λ (x : Name) c. (x, c) ∷ cells_in P cs) e same ∙ ap (λ xs. (n, node_of P b (children_at ds)) ∷ xs) rest
-        where
-          children_of : Cell K V → List (ℕ × Name)
-          children_of (pair k v) = []
-          children_of (branches node) = node.children
 
       same_cells_in : (cs ds : Branches K V) → AreHeld at (cells_in P cs) → AreHeld at (cells_in P ds) → children_at cs ≡ children_at ds → cells_in P cs ≡ cells_in P ds
       same_cells_in no_branch no_branch h i e = refl

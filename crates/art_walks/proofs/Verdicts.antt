@@ -3,7 +3,7 @@ use Rattle.std.proofs.Common.{◌≡◌, ◌≢◌, ℕ, suc, ◌+◌, List, [],
 use Rattle.std.specs.List.{AllByRecursion}
 use Rattle.std.specs.Result.{IsErrAnd}
 use Rattle.art_walks.specs.declared.malformed.MalformedTreeError.{MalformedTreeError}
-use Rattle.art_arena.specs.arena.Arena.{Arena, Held, held_at, cell_of, node_at}
+use Rattle.art_arena.specs.arena.Arena.{Arena, held_at, node_at}
 use Rattle.art_nodes.specs.declared.kind.NodeType.{NodeType}
 use Rattle.art_nodes.specs.declared.kind.NodeType.TheVariants.{Leaf}
 use Rattle.art_nodes.specs.Name.{Name}
@@ -11,25 +11,28 @@ use Rattle.art_nodes.specs.InnerNode.{InnerNode, child_at}
 use Rattle.art_arena.specs.arena.Cells.{Cell, pair, branches, AreHeld}
 use Rattle.art_arena.specs.tree.Kinds.{IsKindOf}
 use Rattle.art_arena.specs.tree.Trees.{Tree, items, nodes_with}
-use Rattle.art_arena.specs.arena.Shapes.{LeafAt, pairs_of, Shape, Branches, leaf_at, inner_at, no_branch, branch, name_of, children_at, join, leaves, erase, cells, cells_in, width, node_of, IsUnder, AreUnder}
+use Rattle.art_arena.specs.arena.Shapes.{LeafAt, pairs_of, Shape, Branches, leaf_at, inner_at, no_branch, branch, name_of, children_at, join, leaves, erase, cells, cells_in, node_of, IsUnder, AreUnder}
 use Rattle.art_arena.specs.arena.Linked.{Links, AreLinked}
 use Rattle.art_arena.specs.arena.Meaning.{IsPart, Means}
-use Rattle.art_arena.proofs.shapes.Contexts.{cells_in-join}
+use Rattle.art_arena.proofs.shapes.Contexts.{cells_in-join, length-children}
 use Rattle.art_arena.proofs.shapes.Erased.{items-erase}
 use Rattle.art_arena.proofs.tree.Order.{all_left, all_right}
 use Rattle.art_walks.specs.Faults.{child_in, led_to, HasOtherKeys, HasOtherLinks}
 use Rattle.art_walks.proofs.NameWalks.{copies-named}
 use Rattle.art_walks.proofs.Ways.{onward-some, branch_of}
 use Rattle.art_walks.specs.inner.Names.{meets, AreOnce}
-use Rattle.art_walks.specs.inner.Skeletons.{HasKinds, HaveKinds, named, IsSkeleton}
+use Rattle.art_walks.specs.inner.Skeletons.{HasKinds, HaveKinds, cell_names, IsSkeleton}
 use Rattle.art_walks.proofs.Skeletons.{same_cells}
 use Rattle.art_walks.specs.inner.Fillings.{Fits}
 use Rattle.art_walks.proofs.Fillings.{fill, fill_in, width-fill, cells-fill, filled-subtree, unfit-none}
 use Rattle.art_walks.specs.inner.Slots.{AreLinkedSlots, leaf_slots}
-use Rattle.art_walks.proofs.LeafSlots.{slots_of, slots-named, linked-slots, slots-linked, leaves-fill}
+use Rattle.art_walks.proofs.LeafSlots.{slots-named, linked-slots, slots-linked, leaves-fill}
 use Rattle.art_walks.specs.Stats.{in_range}
 use Rattle.art_walks.specs.inner.Names.{count_kind}
 use Rattle.art_walks.proofs.KindCounts.{count-leaves, count-nodes}
+use Rattle.art_arena.proofs.shapes.CellLists.{cell_children}
+use Rattle.art_arena.proofs.shapes.Subtrees.{cell_held}
+use Rattle.art_arena.proofs.shapes.LinkedLists.{slot_list}
 
 -- a fault that is passed on stands as it did
 pub passed : {T : Type 0} (r : Result T MalformedTreeError) (e : MalformedTreeError) (Q : MalformedTreeError → Type 0) → IsErrAnd r (λ x. x ≡ e) → Q e → IfErr r Q
@@ -41,17 +44,9 @@ module _ {K V : Type 0} where
   pub names-held : (arena : Arena K V) (P : ℕ) (root : Name) (names : List Name) → IsSkeleton P (node_at arena) root names → AllByRecursion (λ n. IsSome (held_at arena n)) names
   names-held arena P root names s = subst (AllByRecursion (λ n. IsSome (held_at arena n))) s.names_are (all (cells P s.shape) s.held)
     where
-      there : (o : Option (Held K V)) (c : Cell K V) → cell_of o ≡ Some c → IsSome o
-      there None c e = absurd (cc)
-      there (Some held) c e = refl
-
-      all : (cs : List (Name × Cell K V)) → AreHeld (node_at arena) cs → AllByRecursion (λ n. IsSome (held_at arena n)) (named cs)
+      all : (cs : List (Name × Cell K V)) → AreHeld (node_at arena) cs → AllByRecursion (λ n. IsSome (held_at arena n)) (cell_names cs)
       all [] h = tt
-      all (c ∷ cs) h = (there (held_at arena c.0) c.1 h.0, all cs h.1)
-
-  width-children : (kids : Branches K V) → length (children_at kids) ≡ width kids
-  width-children no_branch = refl
-  width-children (branch b s rest) = omega (arith, width-children rest)
+      all (c ∷ cs) h = (cell_held (held_at arena c.0) c.1 h.0, all cs h.1)
 
   kind_of-branch : (before : Branches K V) (b : ℕ) (t : Shape K V) (after : Branches K V) → HaveKinds (join before (branch b t after)) → HasKinds t
   kind_of-branch no_branch b t after kinds = kinds.0
@@ -104,13 +99,9 @@ module _ {K V : Type 0} where
         let both : Some (pair k v) ≡ Some (branches node) = sym (ap at (sym is) ∙ held.0) ∙ e in absurd (cc)
     right_count m (inner_at n prefix kids) is held kinds node e =
         let both : Some (node_of P prefix (children_at kids)) ≡ Some (branches node) = sym (ap at (sym is) ∙ held.0) ∙ e in
-        let one : node_of P prefix (children_at kids) ≡ branches node = cc in
-        let same : children_at kids ≡ node.children = ap children_of one in
-        subst (λ (x : Name). IsKindOf x.kind (length node.children)) is (subst (IsKindOf n.kind) (sym (width-children kids) ∙ ap length same) kinds.0)
-      where
-        children_of : Cell K V → List (ℕ × Name)
-        children_of (pair k v) = []
-        children_of (branches node) = node.children
+        let one : ◌≡◌ {A = Cell K V} (node_of P prefix (children_at kids)) (branches node) = cc in
+        let same : children_at kids ≡ node.children = ap cell_children one in
+        subst (λ (x : Name). IsKindOf x.kind (length node.children)) is (subst (IsKindOf n.kind) (sym (length-children kids) ∙ ap length same) kinds.0)
 
   module _ (bytes : K → List ℕ) (P : ℕ) (at : Name → Option (Cell K V)) (links : ℕ → Option Links) (root : Name) (names : List Name) (s : IsSkeleton P at root names) (once : AreOnce names) where
     -- the names that were met make a shape in which none stands twice
@@ -121,7 +112,7 @@ module _ {K V : Type 0} where
       once = λ n. let o = once n in let e = copies-named n (cells P s.shape) ∙ ap (meets n) s.names_are in omega (arith, o, e);
     }
 
-    slots-are : slots_of (leaves s.shape) ≡ leaf_slots names
+    slots-are : slot_list (leaves s.shape) ≡ leaf_slots names
     slots-are = slots-named P s.shape s.kinds ∙ ap leaf_slots s.names_are
 
     -- some node doesn't fit: a fault of keys
@@ -143,7 +134,7 @@ module _ {K V : Type 0} where
         subtree = filled-subtree bytes P at root s.shape skeleton-part fits;
         none = λ t sub linked.
             let same : cells P t ≡ cells P s.shape = same_cells P at t s.shape sub.part.held s.held (sub.part.named ∙ sym s.root_is) in
-            let slots : slots_of (leaves t) ≡ leaf_slots names = slots-named P t (kinds-under bytes [] t sub.under) ∙ ap (λ cs. leaf_slots (named cs)) same ∙ ap leaf_slots s.names_are in
+            let slots : slot_list (leaves t) ≡ leaf_slots names = slots-named P t (kinds-under bytes [] t sub.under) ∙ ap (λ cs. leaf_slots (cell_names cs)) same ∙ ap leaf_slots s.names_are in
             unlinked (subst (λ ss. AreLinkedSlots links None ss None) slots (slots-linked links None (leaves t) None linked));
       }
 
@@ -162,7 +153,7 @@ module _ {K V : Type 0} where
       canonical linked =
           let sub = filled-subtree bytes P at root s.shape skeleton-part fits in
           let kinds = kinds-fill bytes 0 s.shape s.kinds in
-          let met : names ≡ named (cells P (fill bytes 0 s.shape)) = sym s.names_are ∙ ap named (sym (cells-fill bytes P 0 s.shape fits)) in
+          let met : names ≡ cell_names (cells P (fill bytes 0 s.shape)) = sym s.names_are ∙ ap cell_names (sym (cells-fill bytes P 0 s.shape fits)) in
           let along : AreLinked links None (leaves s.shape) None = linked-slots links None (leaves s.shape) None (subst (λ ss. AreLinkedSlots links None ss None) (sym slots-are) linked) in
           record {
             tree = erase (fill bytes 0 s.shape);

@@ -6,11 +6,11 @@ use Rattle.art_nodes.specs.InnerNode.{InnerNode, child_at}
 use Rattle.art_arena.specs.arena.Cells.{Cell, pair, branches, copies, same_name, leaf_name}
 use Rattle.art_arena.specs.tree.Kinds.{IsKindOf}
 use Rattle.art_arena.specs.tree.Trees.{Tree}
-use Rattle.art_arena.specs.arena.Shapes.{Shape, Branches, leaf_at, inner_at, no_branch, branch, name_of, children_at, width, join, cells, cells_in, node_of}
+use Rattle.art_arena.specs.arena.Shapes.{Shape, Branches, leaf_at, inner_at, no_branch, branch, name_of, children_at, join, cells, cells_in, node_of}
 use Rattle.art_arena.specs.arena.Linked.{Links}
 use Rattle.art_arena.specs.arena.Meaning.{IsSubtree, Means}
 use Rattle.art_arena.proofs.shapes.CellLists.{copies-append, same_name-self}
-use Rattle.art_arena.proofs.shapes.Contexts.{cells_in-join}
+use Rattle.art_arena.proofs.shapes.Contexts.{cells_in-join, length-children}
 use Rattle.art_arena.proofs.shapes.Measures.{nodes_below, nodes_below-held}
 use Rattle.art_arena.proofs.shapes.Meanings.{means-subtree}
 use Rattle.art_arena.proofs.shapes.Subtrees.{subtree-branch}
@@ -44,10 +44,6 @@ module _ {K V : Type 0} where
 
   same_kids : (n : Name) (p q : List ℕ) (f g : Branches K V) → inner_at n p f ≡ inner_at n q g → f ≡ g
   same_kids n p q f g e = cc
-
-  width-children : (kids : Branches K V) → length (children_at kids) ≡ width kids
-  width-children no_branch = refl
-  width-children (branch b s rest) = omega (arith, width-children rest)
 
   module _ (P : ℕ) (m : Name) where
     pub one_part : (f before : Branches K V) (b : ℕ) (t : Shape K V) (after : Branches K V) → f ≡ join before (branch b t after) → copies m (cells P t) ≤ copies m (cells_in P f)
@@ -86,7 +82,7 @@ module _ {K V : Type 0} where
 
 module _ {K V : Type 0} (bytes : K → List ℕ) (P : ℕ) (at : Name → Option (Cell K V)) where
   -- the root of a subtree goes on by this byte to this child
-  pub record GoesOn (n : Name) (path : List ℕ) (s : Shape K V) (byte : ℕ) (c : Name) : Type 0 where
+  pub record LeadsOn (n : Name) (path : List ℕ) (s : Shape K V) (byte : ℕ) (c : Name) : Type 0 where
     pub prefix : List ℕ
     pub kids : Branches K V
     pub is : s ≡ inner_at n prefix kids
@@ -94,7 +90,7 @@ module _ {K V : Type 0} (bytes : K → List ℕ) (P : ℕ) (at : Name → Option
     pub below : IsSubtree bytes P at c ((path ++ prefix) ++ byte ∷ []) has.child
     pub fewer : length (cells P has.child) < length (cells P s)
 
-  goes_on : (n : Name) (path : List ℕ) (s : Shape K V) → IsSubtree bytes P at n path s → (byte : ℕ) (c : Name) → child_in (at n) byte ≡ Some c → GoesOn n path s byte c
+  goes_on : (n : Name) (path : List ℕ) (s : Shape K V) → IsSubtree bytes P at n path s → (byte : ℕ) (c : Name) → child_in (at n) byte ≡ Some c → LeadsOn n path s byte c
   goes_on n path (leaf_at slot k v) sub byte c e =
       let there : at n ≡ Some (pair k v) = ap at (sym sub.part.named) ∙ sub.part.held.0 in
       let none : None ≡ Some c = sym (ap (λ o. child_in o byte) there) ∙ e in absurd (cc)
@@ -120,7 +116,7 @@ module _ {K V : Type 0} (bytes : K → List ℕ) (P : ℕ) (at : Name → Option
     pub within : length (cells P part) ≤ length (cells P s)
     pub counted : (q : Name) → copies q (cells P part) ≤ copies q (cells P s)
 
-  counted_below : (n : Name) (path : List ℕ) (s : Shape K V) (byte : ℕ) (c : Name) (on : GoesOn n path s byte c) (q : Name) → copies q (cells P on.has.child) ≤ copies q (cells P s)
+  counted_below : (n : Name) (path : List ℕ) (s : Shape K V) (byte : ℕ) (c : Name) (on : LeadsOn n path s byte c) (q : Name) → copies q (cells P on.has.child) ≤ copies q (cells P s)
   counted_below n path s byte c on q =
       let one = one_part P q on.kids on.has.before byte on.has.child on.has.after on.has.whole in
       let all : copies q (cells P s) ≡ copies q (cells P (inner_at n on.prefix on.kids)) = ap (λ z. copies q (cells P z)) on.is in
@@ -179,7 +175,7 @@ module _ {K V : Type 0} (bytes : K → List ℕ) (P : ℕ) (at : Name → Option
       ]
     where
       -- one name below two different children
-      elsewhere : (n : Name) (path : List ℕ) (s : Shape K V) → IsSubtree bytes P at n path s → (m : Name) (a b : ℕ) (c d : Name) → GoesOn n path s a c → GoesOn n path s b d → a ≢ b
+      elsewhere : (n : Name) (path : List ℕ) (s : Shape K V) → IsSubtree bytes P at n path s → (m : Name) (a b : ℕ) (c d : Name) → LeadsOn n path s a c → LeadsOn n path s b d → a ≢ b
           → ((path : List ℕ) (t : Shape K V) → IsSubtree bytes P at c path t → IsLed t m) → ((path : List ℕ) (t : Shape K V) → IsSubtree bytes P at d path t → IsLed t m) → ⊥
       elsewhere n path s sub m a b c d on on' apart lead lead' =
           let l = lead _ on.has.child on.below in
@@ -200,7 +196,7 @@ module _ {K V : Type 0} (bytes : K → List ℕ) (P : ℕ) (at : Name → Option
       let both : Some (node_of P prefix (children_at kids)) ≡ Some (branches node) = sym there ∙ e in
       let cells_same : node_of P prefix (children_at kids) ≡ branches node = cc in
       let same : children_at kids ≡ node.children = ap children_in cells_same in
-      subst (λ (x : Name). IsKindOf x.kind (length node.children)) sub.part.named (subst (IsKindOf m.kind) (sym (width-children kids) ∙ ap length same) sub.under.0)
+      subst (λ (x : Name). IsKindOf x.kind (length node.children)) sub.part.named (subst (IsKindOf m.kind) (sym (length-children kids) ∙ ap length same) sub.under.0)
     where
       children_in : Cell K V → List (ℕ × Name)
       children_in (pair k v) = []

@@ -1,13 +1,12 @@
 -- Of the blocks of an ascending table at most one holds an address.
-use Rattle.std.proofs.Common.{◌≡◌, ℕ, ◌<◌, Bool, true, false, cond, List, [], ◌∷◌, ◌++◌, Option, Some, None, refl, sym, ap}
+use Rattle.std.proofs.Common.{◌≡◌, ℕ, Bool, true, false, cond, List, [], ◌∷◌, ◌++◌, Option, Some, None, refl, sym}
 use Rattle.std.proofs.Common.{◌∙◌, subst, inl, inr, arith}
-use Rattle.std.proofs.lemmas.Bool.{cases_Bool, cond-true, cond-false}
+use Rattle.std.proofs.lemmas.Bool.{cond-true, cond-false}
 use Rattle.std.specs.Global.{Vec}
-use Rattle.std.specs.List.{AllByRecursion}
 use Rattle.std.specs.Map.{lookup_entry}
 use Rattle.art_bytes.specs.Keys.{BeginsWith, IsBefore}
-use Rattle.art_arena.specs.tree.Changes.{IsIn, put, is_before}
-use Rattle.art_arena.specs.tree.Order.{IsAscending}
+use Rattle.art_arena.specs.tree.Changes.{IsIn, put_in_order, is_before}
+use Rattle.art_arena.specs.tree.Order.{AscendsByKey}
 use Rattle.art_arena.specs.tree.Tenants.{begins_with}
 use Rattle.art_arena.proofs.tree.Tenants.{begins_true, begins_false}
 use Rattle.art_arena.proofs.tree.Insert.{all_at}
@@ -17,7 +16,7 @@ use Rattle.art_operations.specs.declared.insert.point.InsertPrefixError.{InsertP
 use Rattle.art_map.specs.declared.map.refused.TryInsertError.{TryInsertError}
 use Rattle.art_map.specs.declared.map.refused.TryInsertError.TheVariants.{Prefix}
 use Rattle.art_map.specs.Changes.{IsTryRefused}
-use Rattle.use_address_blocks.specs.Blocks.{Holds, IsBlockOf}
+use Rattle.use_address_blocks.specs.Blocks.{Covers, IsBlockOf}
 
 -- two keys that diverge are not both fronts of one address
 two_fronts : (k l a : List ℕ) → IsBefore k l → BeginsWith k a → BeginsWith l a → ⊥
@@ -33,17 +32,17 @@ octets block = block.0.items
 
 module _ {Owner : Type 0} where
   -- a block that is put in stands there
-  put_in : (x : Vec ℕ × Owner) (xs : List (Vec ℕ × Owner)) → IsIn x (put octets x xs)
-  put_in x [] = inl refl
-  put_in x (y ∷ ys) = by_place (is_before (octets x) (octets y)) (put_in x ys)
+  is_put_in : (x : Vec ℕ × Owner) (xs : List (Vec ℕ × Owner)) → IsIn x (put_in_order octets x xs)
+  is_put_in x [] = inl refl
+  is_put_in x (y ∷ ys) = by_place (is_before (octets x) (octets y)) (is_put_in x ys)
     where
-      by_place : (b : Bool) → IsIn x (put octets x ys) → IsIn x (cond b (x ∷ y ∷ ys) (y ∷ put octets x ys))
+      by_place : (b : Bool) → IsIn x (put_in_order octets x ys) → IsIn x (cond b (x ∷ y ∷ ys) (y ∷ put_in_order octets x ys))
       by_place true h = inl refl
       by_place false h = inr h
 
   -- in an ascending table two blocks that hold an address are one
-  one_holds : (blocks : List (Vec ℕ × Owner)) → IsAscending octets blocks → (a : List ℕ) (x y : Vec ℕ × Owner) → IsIn x blocks
-      → IsIn y blocks → Holds x a → Holds y a → x ≡ y
+  one_holds : (blocks : List (Vec ℕ × Owner)) → AscendsByKey octets blocks → (a : List ℕ) (x y : Vec ℕ × Owner) → IsIn x blocks
+      → IsIn y blocks → Covers x a → Covers y a → x ≡ y
   one_holds [] asc a x y i j h k = absurd i
   one_holds (b ∷ bs) asc a x y (inl e) (inl f) h k = sym e ∙ f
   one_holds (b ∷ bs) asc a x y (inl e) (inr j) h k =
@@ -56,32 +55,32 @@ module _ {Owner : Type 0} where
 
   -- what a look-up of an address finds stands in the table and holds it
   stands : (a : List ℕ) (bs : List (Vec ℕ × Owner)) (found : Vec ℕ × Owner)
-      → lookup_entry (λ k. begins_with k.items a) bs ≡ Some found → IsIn found bs × Holds found a
+      → lookup_entry (λ k. begins_with k.items a) bs ≡ Some found → IsIn found bs × Covers found a
   stands a [] found e = absurd (cc)
   stands a (b ∷ bs) found e = by_test (begins_with (octets b) a) refl (stands a bs found)
     where
       by_test : (t : Bool) → begins_with (octets b) a ≡ t
-          → (lookup_entry (λ k. begins_with k.items a) bs ≡ Some found → IsIn found bs × Holds found a)
-          → IsIn found (b ∷ bs) × Holds found a
+          → (lookup_entry (λ k. begins_with k.items a) bs ≡ Some found → IsIn found bs × Covers found a)
+          → IsIn found (b ∷ bs) × Covers found a
       by_test true at later =
           let same : b ≡ found = (let f : Some b ≡ Some found = sym (cond-true _ _ _ at) ∙ e in cc) in
-          (inl same, subst (λ z. Holds z a) same (begins_true _ _ at))
+          (inl same, subst (λ z. Covers z a) same (begins_true _ _ at))
       by_test false at later = let h = later (sym (cond-false _ _ _ at) ∙ e) in (inr h.0, h.1)
 
   -- where it finds none, none holds it
   none_holds : (a : List ℕ) (bs : List (Vec ℕ × Owner)) → lookup_entry (λ k. begins_with k.items a) bs ≡ None
-      → (x : Vec ℕ × Owner) → IsIn x bs → Holds x a → ⊥
+      → (x : Vec ℕ × Owner) → IsIn x bs → Covers x a → ⊥
   none_holds a [] e x i h = i
   none_holds a (b ∷ bs) e x i h = by_test (begins_with (octets b) a) refl i (λ f j. none_holds a bs f x j h)
     where
       by_test : (t : Bool) → begins_with (octets b) a ≡ t → IsIn x (b ∷ bs)
           → (lookup_entry (λ k. begins_with k.items a) bs ≡ None → IsIn x bs → ⊥) → ⊥
       by_test true at j later = let f : Some b ≡ None = sym (cond-true _ _ _ at) ∙ e in absurd (cc)
-      by_test false at (inl same) later = begins_false _ _ at (subst (λ z. Holds z a) (sym same) h)
+      by_test false at (inl same) later = begins_false _ _ at (subst (λ z. Covers z a) (sym same) h)
       by_test false at (inr j) later = later (sym (cond-false _ _ _ at) ∙ e) j
 
   -- what a look-up of an address finds is its block
-  pub found_is_block : (blocks : List (Vec ℕ × Owner)) → IsAscending octets blocks → (a : List ℕ)
+  pub found_is_block : (blocks : List (Vec ℕ × Owner)) → AscendsByKey octets blocks → (a : List ℕ)
       → IsBlockOf a blocks (lookup_entry (λ k. begins_with k.items a) blocks)
   found_is_block blocks asc a = told (lookup_entry (λ k. begins_with k.items a) blocks) refl
     where
@@ -91,10 +90,10 @@ module _ {Owner : Type 0} where
           let s = stands a blocks found e in (s.0, s.1, λ x i h. one_holds blocks asc a x found i s.0 h s.1)
 
   -- a block that was put in is its addresses' own
-  pub put_is_block : (x : Vec ℕ × Owner) (rest blocks : List (Vec ℕ × Owner)) → blocks ≡ put octets x rest
-      → IsAscending octets blocks → (a : List ℕ) → Holds x a → IsBlockOf a blocks (Some x)
+  pub put_is_block : (x : Vec ℕ × Owner) (rest blocks : List (Vec ℕ × Owner)) → blocks ≡ put_in_order octets x rest
+      → AscendsByKey octets blocks → (a : List ℕ) → Covers x a → IsBlockOf a blocks (Some x)
   put_is_block x rest blocks e asc a h =
-      let there : IsIn x blocks = subst (IsIn x) (sym e) (put_in x rest) in
+      let there : IsIn x blocks = subst (IsIn x) (sym e) (is_put_in x rest) in
       (there, h, λ y i k. one_holds blocks asc a y x i there k h)
 
 -- what a refusal tells of the blocks

@@ -7,19 +7,19 @@ use Rattle.art_arena.specs.tree.Changes.{IsIn}
 -- a block by its first octets, and its owner
 module _ {Owner : Type 0} where
   -- the address begins with the block's octets
-  abbrev pub Holds : Vec ℕ × Owner → List ℕ → Type 0
-  Holds block address = BeginsWith block.0.items address
+  abbrev pub Covers : Vec ℕ × Owner → List ℕ → Type 0
+  Covers block address = BeginsWith block.0.items address
 
   -- no block of the table holds the address, or this one does and no other
   abbrev pub IsBlockOf : List ℕ → List (Vec ℕ × Owner) → Option (Vec ℕ × Owner) → Type 0
-  IsBlockOf address blocks None = (block : Vec ℕ × Owner) → IsIn block blocks → Holds block address → ⊥
+  IsBlockOf address blocks None = (block : Vec ℕ × Owner) → IsIn block blocks → Covers block address → ⊥
   IsBlockOf address blocks (Some found) =
-      IsIn found blocks × Holds found address
-      × ((block : Vec ℕ × Owner) → IsIn block blocks → Holds block address → block ≡ found)
+      IsIn found blocks × Covers found address
+      × ((block : Vec ℕ × Owner) → IsIn block blocks → Covers block address → block ≡ found)
 
   -- The block was added, and each address that it holds is its own; or nothing was changed, since a block of the table
   -- holds it, or it holds one.
-  abbrev pub IsAdded : Bool → Vec ℕ × Owner → List (Vec ℕ × Owner) → List (Vec ℕ × Owner) → Type 0
-  IsAdded true block old new = (address : List ℕ) → Holds block address → IsBlockOf address new (Some block)
-  IsAdded false block old new =
+  abbrev pub IsBlockAdded : Bool → Vec ℕ × Owner → List (Vec ℕ × Owner) → List (Vec ℕ × Owner) → Type 0
+  IsBlockAdded true block old new = (address : List ℕ) → Covers block address → IsBlockOf address new (Some block)
+  IsBlockAdded false block old new =
       (new ≡ old) × (other : Vec ℕ × Owner) × IsIn other old × Conflict block.0.items other.0.items

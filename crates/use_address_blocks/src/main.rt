@@ -5,7 +5,7 @@
 ghost use Rattle.std.specs.Prelude.{◌≡◌, Some, true, false, option_map, IfOk, OnErr};
 ghost use Rattle.std.specs.Map.Iter.{deref_pair};
 ghost use Rattle.art_bytes.specs.Keys.{BeginsWith};
-ghost use Rattle.use_address_blocks.specs.Blocks.{IsBlockOf, IsAdded};
+ghost use Rattle.use_address_blocks.specs.Blocks.{IsBlockOf, IsBlockAdded};
 
 use art_bytes::SliceKey;
 use art_map::{TreeMap, TryInsertError};
@@ -27,7 +27,7 @@ fn block_of<'a>(blocks: &'a Blocks, address: &[u8]) -> Option<(&'a Vec<u8>, &'a 
 /// Puts a block in the table, unless it holds another block of the table or another holds it. From then on each of its
 /// addresses is found to be its owner's.
 fn add(blocks: &mut Blocks, octets: Vec<u8>, owner: String) -> Result<bool, AllocError>
-    ensures added { IfOk result (λ added. IsAdded added (octets, owner) blocks.old.pairs blocks.new.pairs) }
+    ensures added { IfOk result (λ added. IsBlockAdded added (octets, owner) blocks.old.pairs blocks.new.pairs) }
     ensures err { OnErr result (blocks.new.pairs ≡ blocks.old.pairs) }
 {
     match blocks.try_insert(octets, owner) {

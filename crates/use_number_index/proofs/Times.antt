@@ -1,5 +1,5 @@
 -- The order of the keys is that of the times; what is added to an index and what is its first.
-use Rattle.std.proofs.Common.{◌≡◌, ◌≢◌, ℕ, ◌<◌, ◌≤◌, ◌^◌, ◌⊎◌, Bool, true, false, cond, not, List, [], ◌∷◌, ◌++◌, bytes_eq}
+use Rattle.std.proofs.Common.{◌≡◌, ◌≢◌, ℕ, ◌<◌, ◌≤◌, ◌^◌, ◌⊎◌, Bool, true, false, cond, not, List, [], ◌∷◌, bytes_eq}
 use Rattle.std.proofs.Common.{lit<, refl, sym, ap, ◌∙◌, subst, inl, inr, arith, rules, le-ltb, ne_eqb}
 use Rattle.std.specs.Prelude.{option_map}
 use Rattle.std.specs.List.{AllByRecursion}
@@ -12,13 +12,13 @@ use Rattle.art_bytes.specs.Numbers.{big_endian}
 use Rattle.art_bytes.specs.Mappings.{HaveFixedBytes}
 use Rattle.art_bytes.specs.inner.FixedLaws.{unsigned_bytes}
 use Rattle.art_bytes.proofs.Order.{before_cmp}
-use Rattle.art_arena.specs.tree.Changes.{IsIn, put, is_before}
-use Rattle.art_arena.specs.tree.Order.{IsAscending}
+use Rattle.art_arena.specs.tree.Changes.{IsIn, put_in_order, is_before}
+use Rattle.art_arena.specs.tree.Order.{AscendsByKey}
 use Rattle.art_arena.proofs.tree.Distinct.{bytes_from_same}
 use Rattle.art_operations.specs.KeyedLists.{without_key}
 use Rattle.art_map.specs.Contents.{first_of}
 use Rattle.use_number_index.specs.declared.Entry.{Entry}
-use Rattle.use_number_index.specs.Entries.{IsKeyed, AreEntries, IsEarliest, IsAdded}
+use Rattle.use_number_index.specs.Entries.{IsKeyed, AreEntries, IsEarliest, IsEntryAdded}
 
 -- the key of a pair of the index
 abbrev pub bytes_of : List ℕ × Entry → List ℕ
@@ -53,7 +53,7 @@ all_later p (q ∷ qs) k ks bs o (inl e) = subst (λ (z : Entry). p.1.time ≤ z
 all_later p (q ∷ qs) k ks bs o (inr i) = all_later p qs k ks.1 bs.1 o i
 
 -- the first of an index is the earliest
-pub first_is_earliest : (ps : List (List ℕ × Entry)) → AreEntries ps → IsAscending bytes_of ps
+pub first_is_earliest : (ps : List (List ℕ × Entry)) → AreEntries ps → AscendsByKey bytes_of ps
     → IsEarliest (values_of ps) (option_map (λ p. p.1) (first_of ps))
 first_is_earliest [] k asc = λ o i. i
 first_is_earliest (p ∷ ps) k asc = (inl refl, λ o i. by_place o i)
@@ -64,31 +64,31 @@ first_is_earliest (p ∷ ps) k asc = (inl refl, λ o i. by_place o i)
 
 -- putting in
 
-put_self : (p : List ℕ × Entry) (ps : List (List ℕ × Entry)) → IsIn p.1 (values_of (put bytes_of p ps))
+put_self : (p : List ℕ × Entry) (ps : List (List ℕ × Entry)) → IsIn p.1 (values_of (put_in_order bytes_of p ps))
 put_self p [] = inl refl
 put_self p (x ∷ xs) = by_place (is_before (bytes_of p) (bytes_of x)) (put_self p xs)
   where
-    by_place : (b : Bool) → IsIn p.1 (values_of (put bytes_of p xs)) → IsIn p.1 (values_of (cond b (p ∷ x ∷ xs) (x ∷ put bytes_of p xs)))
+    by_place : (b : Bool) → IsIn p.1 (values_of (put_in_order bytes_of p xs)) → IsIn p.1 (values_of (cond b (p ∷ x ∷ xs) (x ∷ put_in_order bytes_of p xs)))
     by_place true h = inl refl
     by_place false h = inr h
 
-put_keeps : (p : List ℕ × Entry) (ps : List (List ℕ × Entry)) (o : Entry) → IsIn o (values_of ps) → IsIn o (values_of (put bytes_of p ps))
+put_keeps : (p : List ℕ × Entry) (ps : List (List ℕ × Entry)) (o : Entry) → IsIn o (values_of ps) → IsIn o (values_of (put_in_order bytes_of p ps))
 put_keeps p [] o i = absurd i
 put_keeps p (x ∷ xs) o i = by_place (is_before (bytes_of p) (bytes_of x)) i (put_keeps p xs o)
   where
-    by_place : (b : Bool) → IsIn o (values_of (x ∷ xs)) → (IsIn o (values_of xs) → IsIn o (values_of (put bytes_of p xs)))
-        → IsIn o (values_of (cond b (p ∷ x ∷ xs) (x ∷ put bytes_of p xs)))
+    by_place : (b : Bool) → IsIn o (values_of (x ∷ xs)) → (IsIn o (values_of xs) → IsIn o (values_of (put_in_order bytes_of p xs)))
+        → IsIn o (values_of (cond b (p ∷ x ∷ xs) (x ∷ put_in_order bytes_of p xs)))
     by_place true i later = inr i
     by_place false (inl e) later = inl e
     by_place false (inr j) later = inr (later j)
 
-put_adds : (p : List ℕ × Entry) (ps : List (List ℕ × Entry)) (o : Entry) → IsIn o (values_of (put bytes_of p ps)) → (o ≡ p.1) ⊎ IsIn o (values_of ps)
+put_adds : (p : List ℕ × Entry) (ps : List (List ℕ × Entry)) (o : Entry) → IsIn o (values_of (put_in_order bytes_of p ps)) → (o ≡ p.1) ⊎ IsIn o (values_of ps)
 put_adds p [] o (inl e) = inl (sym e)
 put_adds p [] o (inr i) = absurd i
 put_adds p (x ∷ xs) o i = by_place (is_before (bytes_of p) (bytes_of x)) i (put_adds p xs o)
   where
-    by_place : (b : Bool) → IsIn o (values_of (cond b (p ∷ x ∷ xs) (x ∷ put bytes_of p xs)))
-        → (IsIn o (values_of (put bytes_of p xs)) → (o ≡ p.1) ⊎ IsIn o (values_of xs)) → (o ≡ p.1) ⊎ IsIn o (values_of (x ∷ xs))
+    by_place : (b : Bool) → IsIn o (values_of (cond b (p ∷ x ∷ xs) (x ∷ put_in_order bytes_of p xs)))
+        → (IsIn o (values_of (put_in_order bytes_of p xs)) → (o ≡ p.1) ⊎ IsIn o (values_of xs)) → (o ≡ p.1) ⊎ IsIn o (values_of (x ∷ xs))
     by_place true (inl e) later = inl (sym e)
     by_place true (inr i) later = inr i
     by_place false (inl e) later = inr (inl e)
@@ -97,11 +97,11 @@ put_adds p (x ∷ xs) o i = by_place (is_before (bytes_of p) (bytes_of x)) i (pu
       | inr j ↦ inr (inr j)
     ]
 
-put_keyed : (p : List ℕ × Entry) (ps : List (List ℕ × Entry)) → IsKeyed p → AreEntries ps → AreEntries (put bytes_of p ps)
+put_keyed : (p : List ℕ × Entry) (ps : List (List ℕ × Entry)) → IsKeyed p → AreEntries ps → AreEntries (put_in_order bytes_of p ps)
 put_keyed p [] k ks = (k, tt)
 put_keyed p (x ∷ xs) k ks = by_place (is_before (bytes_of p) (bytes_of x)) (put_keyed p xs k ks.1)
   where
-    by_place : (b : Bool) → AreEntries (put bytes_of p xs) → AreEntries (cond b (p ∷ x ∷ xs) (x ∷ put bytes_of p xs))
+    by_place : (b : Bool) → AreEntries (put_in_order bytes_of p xs) → AreEntries (cond b (p ∷ x ∷ xs) (x ∷ put_in_order bytes_of p xs))
     by_place true later = (k, ks)
     by_place false later = (ks.0, later)
 
@@ -149,12 +149,12 @@ without_others n time (x ∷ xs) k o differs i =
 module _ (key : List ℕ) (n : Entry) (ps : List (List ℕ × Entry)) (k : IsKeyed (key, n)) (ks : AreEntries ps) where
   -- what is put in under its key in the place of what had that key
   abbrev with_entry : List (List ℕ × Entry)
-  with_entry = put bytes_of (key, n) (without_key bytes_of key ps)
+  with_entry = put_in_order bytes_of (key, n) (without_key bytes_of key ps)
 
   pub added_keyed : AreEntries with_entry
   added_keyed = put_keyed (key, n) (without_key bytes_of key ps) k (without_keyed key ps ks)
 
-  pub added : IsAdded n (values_of ps) (values_of with_entry)
+  pub added : IsEntryAdded n (values_of ps) (values_of with_entry)
   added = (put_self (key, n) (without_key bytes_of key ps), (λ o differs i. kept o differs i), (λ o i. old o (put_adds (key, n) (without_key bytes_of key ps) o i)))
     where
       kept : (o : Entry) → o.time ≢ n.time → IsIn o (values_of ps) → IsIn o (values_of with_entry)

@@ -20,8 +20,8 @@ IsEarliest entries (Some first) =
     IsIn first entries × ((other : Entry) → IsIn other entries → first.time ≤ other.time)
 
 -- the entry is there, each of another time is there as before, and there are no others
-abbrev pub IsAdded : Entry → List Entry → List Entry → Type 0
-IsAdded entry old new =
+abbrev pub IsEntryAdded : Entry → List Entry → List Entry → Type 0
+IsEntryAdded entry old new =
     IsIn entry new
     × ((other : Entry) → other.time ≢ entry.time → IsIn other old → IsIn other new)
     × ((other : Entry) → IsIn other new → (other ≡ entry) ⊎ IsIn other old)

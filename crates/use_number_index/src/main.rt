@@ -43,7 +43,7 @@ impl Model for ByTime {
 }
 
 impl ByTime {
-    ghost use Rattle.use_number_index.specs.Entries.{IsAdded, IsEarliest};
+    ghost use Rattle.use_number_index.specs.Entries.{IsEntryAdded, IsEarliest};
 
     /// An index of nothing.
     pub fn new(alloc: Global) -> Self
@@ -67,7 +67,7 @@ impl ByTime {
 
     /// Adds an entry, in the place of the one of its time if there is one. All of other times stay.
     pub fn add(&mut self, alloc: Global, entry: Entry) -> Result<(), AllocError>
-        ensures added { OnOk result (IsAdded entry self.old self.new) }
+        ensures added { OnOk result (IsEntryAdded entry self.old self.new) }
         ensures err { OnErr result (self.new ≡ self.old) }
     {
         let key = Mapped::new(alloc, entry.time)?;

@@ -8,7 +8,7 @@ use Rattle.std.specs.declared.result.Result.{Result}
 use Rattle.std.proofs.lemmas.Bool.{cond-true, cond-false}
 use Rattle.art_bytes.specs.inner.KeyLaws.{before_zero}
 use Rattle.art_arena.specs.arena.Shapes.{key_of}
-use Rattle.art_arena.specs.tree.Changes.{put, is_before}
+use Rattle.art_arena.specs.tree.Changes.{put_in_order, is_before}
 use Rattle.art_arena.proofs.shapes.Finding.{same_key, other_key}
 use Rattle.art_arena.proofs.tree.Distinct.{bytes_from_same}
 use Rattle.art_operations.specs.KeyedLists.{without_key}
@@ -27,23 +27,23 @@ module _ {K V : Type 0} (bytes : K → List ℕ) (q : List ℕ) where
 
   -- a pair that is put in is found by its bytes, where no other has them
   put_found : (p : K × V) → has_bytes bytes q p.0 ≡ true → (ps : List (K × V)) → AllFail ps
-      → lookup (has_bytes bytes q) (put (key_of bytes) p ps) ≡ Some p.1
+      → lookup (has_bytes bytes q) (put_in_order (key_of bytes) p ps) ≡ Some p.1
   put_found p e [] h = cond-true _ _ _ e
   put_found p e (x ∷ xs) h = by_place (is_before (bytes p.0) (bytes x.0)) (put_found p e xs h.1)
     where
-      by_place : (b : Bool) → lookup (has_bytes bytes q) (put (key_of bytes) p xs) ≡ Some p.1
-          → lookup (has_bytes bytes q) (cond b (p ∷ x ∷ xs) (x ∷ put (key_of bytes) p xs)) ≡ Some p.1
+      by_place : (b : Bool) → lookup (has_bytes bytes q) (put_in_order (key_of bytes) p xs) ≡ Some p.1
+          → lookup (has_bytes bytes q) (cond b (p ∷ x ∷ xs) (x ∷ put_in_order (key_of bytes) p xs)) ≡ Some p.1
       by_place true later = cond-true _ _ _ e
       by_place false later = cond-false _ _ _ h.0 ∙ later
 
   -- and changes nothing for other bytes
   put_other : (p : K × V) → has_bytes bytes q p.0 ≡ false → (ps : List (K × V))
-      → lookup (has_bytes bytes q) (put (key_of bytes) p ps) ≡ lookup (has_bytes bytes q) ps
+      → lookup (has_bytes bytes q) (put_in_order (key_of bytes) p ps) ≡ lookup (has_bytes bytes q) ps
   put_other p f [] = cond-false _ _ _ f
   put_other p f (x ∷ xs) = by_place (is_before (bytes p.0) (bytes x.0)) (put_other p f xs)
     where
-      by_place : (b : Bool) → lookup (has_bytes bytes q) (put (key_of bytes) p xs) ≡ lookup (has_bytes bytes q) xs
-          → lookup (has_bytes bytes q) (cond b (p ∷ x ∷ xs) (x ∷ put (key_of bytes) p xs))
+      by_place : (b : Bool) → lookup (has_bytes bytes q) (put_in_order (key_of bytes) p xs) ≡ lookup (has_bytes bytes q) xs
+          → lookup (has_bytes bytes q) (cond b (p ∷ x ∷ xs) (x ∷ put_in_order (key_of bytes) p xs))
           ≡ lookup (has_bytes bytes q) (x ∷ xs)
       by_place true later = cond-false _ _ _ f
       by_place false later = ap (λ r. cond (has_bytes bytes q x.0) (Some x.1) r) later

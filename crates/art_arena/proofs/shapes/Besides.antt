@@ -3,7 +3,7 @@ use Rattle.std.proofs.Common.{◌≡◌, ℕ, ◌≤◌, true, cond, List, [], �
 use Rattle.art_nodes.specs.InnerNode.{InnerNode}
 use Rattle.art_nodes.specs.Name.{Name}
 use Rattle.art_nodes.specs.declared.kind.NodeType.{NodeType}
-use Rattle.art_nodes.specs.declared.kind.NodeType.TheVariants.{Node4, Node16, Node48, Node256, Leaf}
+use Rattle.art_nodes.specs.declared.kind.NodeType.TheVariants.{Leaf}
 use Rattle.art_arena.specs.arena.Arena.{Arena, Held, leaf_held, inner_held, as_inner, held_as, cell_of, links_of, node_at, links_at, KeepsNodes, SameNodes}
 use Rattle.art_arena.specs.arena.Cells.{Cell, leaf_name, same_name, copies, AreHeld, Holds}
 use Rattle.art_arena.specs.arena.Linked.{Links, times, KeepsLinksOutside}
@@ -37,10 +37,7 @@ module _ {K V : Type 0} where
 
   same_as : (old new : Arena K V) (kind : NodeType) (slot : ℕ) → cell_of (held_as new kind slot) ≡ cell_of (held_as old kind slot) → (kind ≡ Leaf → links_at new slot ≡ links_at old slot) → held_as new kind slot ≡ held_as old kind slot
   same_as old new Leaf slot cell links = same_held _ _ cell (links refl)
-  same_as old new Node4 slot cell links = same_held _ _ cell (no_links K V _ ∙ sym (no_links K V _))
-  same_as old new Node16 slot cell links = same_held _ _ cell (no_links K V _ ∙ sym (no_links K V _))
-  same_as old new Node48 slot cell links = same_held _ _ cell (no_links K V _ ∙ sym (no_links K V _))
-  same_as old new Node256 slot cell links = same_held _ _ cell (no_links K V _ ∙ sym (no_links K V _))
+  same_as old new kind slot cell links = same_held _ _ cell (no_links K V _ ∙ sym (no_links K V _))
 
   -- where every name has what it had, so have these
   pub keeps-same : (old new : Arena K V) → SameNodes old new → (rest : List (Name × Cell K V)) → KeepsNodes rest old new

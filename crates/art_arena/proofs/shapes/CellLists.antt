@@ -4,8 +4,17 @@ use Rattle.std.proofs.lemmas.Bool.Decides.{eqb_tells}
 use Rattle.art_nodes.specs.declared.kind.NodeType.{NodeType}
 use Rattle.art_nodes.specs.declared.kind.NodeType.TheVariants.{Node4, Node16, Node48, Node256, Leaf}
 use Rattle.art_nodes.specs.Name.{Name}
-use Rattle.art_arena.specs.arena.Cells.{UpdatesAt, same_kind, same_name, copies, AreHeld, Holds, HoldsOnly}
+use Rattle.art_arena.specs.arena.Cells.{Cell, pair, branches, UpdatesAt, same_kind, same_name, copies, AreHeld, Holds, HoldsOnly}
 use Rattle.art_arena.proofs.tree.Order.{all_append, all_left, all_right}
+
+-- the children of a cell
+abbrev pub cell_children : {K V : Type 0} → Cell K V → List (ℕ × Name)
+cell_children (pair k v) = []
+cell_children (branches node) = node.children
+
+-- under one name stands one cell
+pub same_cell : {K V : Type 0} (at : Name → Option (Cell K V)) (m n : Name) (c d : Cell K V) → m ≡ n → at m ≡ Some c → at n ≡ Some d → c ≡ d
+same_cell at m n c d e f g = let h : Some c ≡ Some d = sym f ∙ ap at e ∙ g in cc
 
 -- the test tells names apart
 

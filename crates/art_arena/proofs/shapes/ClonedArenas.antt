@@ -3,7 +3,6 @@ use Rattle.std.proofs.Common.{◌≡◌, ℕ, zero, suc, List, [], ◌∷◌, Op
 use Rattle.std.specs.List.{AllZip}
 use Rattle.slab.specs.Slab.{Slab, get, IsSlotClone}
 use Rattle.art_nodes.specs.Leaf.{IsLeafClone}
-use Rattle.art_nodes.specs.Name.{Name}
 use Rattle.art_nodes.specs.InnerNode.{InnerNode}
 use Rattle.art_nodes.specs.declared.leaf.LeafNode.{LeafNode}
 use Rattle.art_nodes.specs.declared.kind.NodeType.{NodeType}

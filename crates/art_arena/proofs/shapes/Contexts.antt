@@ -1,5 +1,5 @@
 -- A shape with a place: what stands around the place depends on the name there alone.
-use Rattle.std.proofs.Common.{◌≡◌, ℕ, suc, ◌+◌, ◌≤◌, List, [], ◌∷◌, ◌++◌, refl, sym, ap, subst, ◌∙◌, arith, append_assoc, zero-le}
+use Rattle.std.proofs.Common.{◌≡◌, ℕ, suc, ◌+◌, ◌≤◌, List, [], ◌∷◌, ◌++◌, length, refl, sym, ap, subst, ◌∙◌, arith, append_assoc, zero-le}
 use Rattle.std.proofs.lemmas.List.{append-nil}
 use Rattle.art_arena.specs.tree.Kinds.{IsKindOf}
 use Rattle.art_arena.specs.arena.Shapes.{Shape, Branches, no_branch, branch, name_of, children_at, join, width, leaves, leaves_in, cells, cells_in, IsUnder, AreUnder}
@@ -9,6 +9,11 @@ module _ {K V : Type 0} where
   pub children_at-join : (f g : Branches K V) → children_at (join f g) ≡ children_at f ++ children_at g
   children_at-join no_branch g = refl
   children_at-join (branch b s f) g = ap (λ xs. (b, name_of s) ∷ xs) (children_at-join f g)
+
+  -- a node has as many children as branches
+  pub length-children : (f : Branches K V) → length (children_at f) ≡ width f
+  length-children no_branch = refl
+  length-children (branch b s rest) = ap suc (length-children rest)
 
   pub leaves_in-join : (f g : Branches K V) → leaves_in (join f g) ≡ leaves_in f ++ leaves_in g
   leaves_in-join no_branch g = refl

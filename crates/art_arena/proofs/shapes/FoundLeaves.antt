@@ -65,11 +65,11 @@ module _ {K V : Type 0} (bytes : K → List ℕ) where
       pub located-fails : (test : List ℕ → Bool) → TakesFronts key test → test (bytes leaf.key) ≡ false → located_where bytes test (located [] s) ≡ []
       located-fails test takes failed = lands.only test takes ∙ rw failed refl
 
-      pub passes : (test : List ℕ → Bool) → TakesFronts key test → test (bytes leaf.key) ≡ true → Some slot ≡ leaf_where bytes test (leaves s)
-      passes test takes passed = sym (ap (λ ls. first_slot ls None) (passing-located test s ∙ ap leaves_of (located-passes test takes passed)))
+      pub leaf_passes : (test : List ℕ → Bool) → TakesFronts key test → test (bytes leaf.key) ≡ true → Some slot ≡ leaf_where bytes test (leaves s)
+      leaf_passes test takes passed = sym (ap (λ ls. first_slot ls None) (passing-located test s ∙ ap leaves_of (located-passes test takes passed)))
 
-      pub fails : (test : List ℕ → Bool) → TakesFronts key test → test (bytes leaf.key) ≡ false → None ≡ leaf_where bytes test (leaves s)
-      fails test takes failed = sym (ap (λ ls. first_slot ls None) (passing-located test s ∙ ap leaves_of (located-fails test takes failed)))
+      pub leaf_fails : (test : List ℕ → Bool) → TakesFronts key test → test (bytes leaf.key) ≡ false → None ≡ leaf_where bytes test (leaves s)
+      leaf_fails test takes failed = sym (ap (λ ls. first_slot ls None) (passing-located test s ∙ ap leaves_of (located-fails test takes failed)))
 
       pub key-same : bytes leaf.key ≡ key → located_with_key bytes key s ≡ the_leaf ∷ []
       key-same same = located-passes (λ k. bytes_eq k key) (takes_equal key) (same_key (bytes leaf.key) key same)

@@ -1,28 +1,28 @@
 -- The leaves that an arena has are those of the cells that it holds.
-use Rattle.std.proofs.Common.{◌≡◌, ◌≢◌, ℕ, zero, suc, ◌+◌, ◌<◌, ◌≤◌, true, false, cond, eqb, leb, List, [], ◌∷◌, ◌++◌, length, Option, Some, None, is_some, count_by, slice_index_or, refl, sym, ap, ◌∙◌, inl, inr, arith, length-append}
+use Rattle.std.proofs.Common.{◌≡◌, ◌≢◌, ℕ, zero, suc, ◌+◌, ◌≤◌, cond, leb, List, [], ◌∷◌, ◌++◌, length, Option, Some, None, is_some, count_by, slice_index_or, refl, sym, ap, ◌∙◌, inl, inr, arith, length-append}
 use Rattle.std.proofs.lemmas.Bool.Decides.{eqb_tells, leb_tells}
 use Rattle.std.proofs.lemmas.List.Sums.{sum_by-cons}
-use Rattle.slab.specs.Slab.{Slab, get}
+use Rattle.slab.specs.Slab.{get}
 use Rattle.art_nodes.specs.declared.kind.NodeType.TheVariants.{Leaf}
 use Rattle.art_nodes.specs.declared.leaf.LeafNode.{LeafNode}
 use Rattle.art_nodes.specs.InnerNode.{InnerNode}
 use Rattle.art_nodes.specs.Name.{Name}
 use Rattle.art_arena.specs.arena.Cells.{Cell, branches, leaf_name, AreHeld, Holds}
-use Rattle.art_arena.specs.arena.Arena.{Arena, as_leaf, cell_of, held_as, node_at, leaves_held}
+use Rattle.art_arena.specs.arena.Arena.{Arena, as_leaf, cell_of, node_at, leaves_held}
 use Rattle.art_arena.specs.arena.Stores.{StoresOnly}
 use Rattle.art_arena.specs.arena.Shapes.{Shape, Branches, leaf_at, inner_at, no_branch, branch, leaves, leaves_in, cells, cells_in}
 use Rattle.art_arena.proofs.tree.Order.{all_left, all_right}
 use Rattle.art_arena.proofs.shapes.CellLists.{same_kind_tells}
-use Rattle.art_arena.proofs.shapes.Measures.{count, without, length-without, slots_as, count-slots_as, length-slots_as}
+use Rattle.art_arena.proofs.shapes.Measures.{occurrences, without, length-without, slots_as, count-slots_as, length-slots_as}
 
-count-self : (n : ℕ) (xs : List ℕ) → count n (without n xs) ≡ 0
+count-self : (n : ℕ) (xs : List ℕ) → occurrences n (without n xs) ≡ 0
 count-self n [] = refl
 count-self n (x ∷ xs) = elim (eqb_tells n x) [
   | inl same ↦ rw same.0 (count-self n xs)
   | inr other ↦ rw other.0 (let later = count-self n xs in rw other.0 (omega (arith, later)))
 ]
 
-count-other : (m n : ℕ) (xs : List ℕ) → m ≢ n → count m (without n xs) ≡ count m xs
+count-other : (m n : ℕ) (xs : List ℕ) → m ≢ n → occurrences m (without n xs) ≡ occurrences m xs
 count-other m n [] apart = refl
 count-other m n (x ∷ xs) apart = elim (eqb_tells n x) [
   | inl same ↦ elim (eqb_tells m x) [
@@ -38,7 +38,7 @@ sum_below f zero = 0
 sum_below f (suc n) = sum_below f n + f n
 
 -- numbers that stand in a list as often as a function says are as many as its sum
-counted : (f : ℕ → ℕ) (n : ℕ) (xs : List ℕ) → ((m : ℕ) → count m xs ≡ cond (leb (suc m) n) (f m) 0) → length xs ≡ sum_below f n
+counted : (f : ℕ → ℕ) (n : ℕ) (xs : List ℕ) → ((m : ℕ) → occurrences m xs ≡ cond (leb (suc m) n) (f m) 0) → length xs ≡ sum_below f n
 counted f zero [] each = refl
 counted f zero (x ∷ xs) each = elim (eqb_tells x x) [
   | inl same ↦ elim (leb_tells (suc x) 0) [
@@ -64,7 +64,7 @@ counted f (suc n) xs each =
         ]
       ]
     ]) in
-    let here : count n xs ≡ f n = each n ∙ elim (leb_tells (suc n) (suc n)) [ inl wide ↦ rw wide.0 refl | inr past ↦ absurd (omega (arith, past.1)) ] in
+    let here : occurrences n xs ≡ f n = each n ∙ elim (leb_tells (suc n) (suc n)) [ inl wide ↦ rw wide.0 refl | inr past ↦ absurd (omega (arith, past.1)) ] in
     omega (arith, length-without n xs, rest, here)
 
 module _ {T : Type 0} where
@@ -95,8 +95,8 @@ module _ {K V : Type 0} where
   pub leaves_counted : (arena : Arena K V) (cs : List (Name × Cell K V)) → Holds (node_at arena) cs → leaves_held arena ≡ length (slots_as Leaf cs)
   leaves_counted arena cs holds =
       let f = filled arena.leaves.slots in
-      let once : (m : ℕ) → count m (slots_as Leaf cs) ≡ f m = λ m. count-slots_as Leaf m cs ∙ holds.once (leaf_name m) ∙ leaf_filled (get arena.leaves m) in
-      let each : (m : ℕ) → count m (slots_as Leaf cs) ≡ cond (leb (suc m) (length arena.leaves.slots)) (f m) 0 =
+      let once : (m : ℕ) → occurrences m (slots_as Leaf cs) ≡ f m = λ m. count-slots_as Leaf m cs ∙ holds.once (leaf_name m) ∙ leaf_filled (get arena.leaves m) in
+      let each : (m : ℕ) → occurrences m (slots_as Leaf cs) ≡ cond (leb (suc m) (length arena.leaves.slots)) (f m) 0 =
       λ m. elim (leb_tells (suc m) (length arena.leaves.slots)) [
         | inl less ↦ rw less.0 (once m)
         | inr more ↦ rw more.0 (once m ∙ past-end arena.leaves.slots m (omega (arith, more.1)))
@@ -119,31 +119,31 @@ module _ {K V : Type 0} where
   -- so a shape that is held has as many of them as it has leaves
   module _ (P : ℕ) (arena : Arena K V) where
     mutual
-      leaf_slots : (s : Shape K V) → AreHeld (node_at arena) (cells P s) → length (slots_as Leaf (cells P s)) ≡ length (leaves s)
-      leaf_slots (leaf_at slot k v) held = refl
-      leaf_slots (inner_at n prefix kids) held = elim (same_kind_tells Leaf n.kind) [
+      slots_of_cells : (s : Shape K V) → AreHeld (node_at arena) (cells P s) → length (slots_as Leaf (cells P s)) ≡ length (leaves s)
+      slots_of_cells (leaf_at slot k v) held = refl
+      slots_of_cells (inner_at n prefix kids) held = elim (same_kind_tells Leaf n.kind) [
         | inl same ↦ absurd (no_inner arena n _ (sym same.1) held.0)
-        | inr other ↦ rw other.0 (leaf_slots_in kids held.1)
+        | inr other ↦ rw other.0 (slots_of_cells_in kids held.1)
       ]
 
-      leaf_slots_in : (f : Branches K V) → AreHeld (node_at arena) (cells_in P f) → length (slots_as Leaf (cells_in P f)) ≡ length (leaves_in f)
-      leaf_slots_in no_branch held = refl
-      leaf_slots_in (branch byte s rest) held =
+      slots_of_cells_in : (f : Branches K V) → AreHeld (node_at arena) (cells_in P f) → length (slots_as Leaf (cells_in P f)) ≡ length (leaves_in f)
+      slots_of_cells_in no_branch held = refl
+      slots_of_cells_in (branch byte s rest) held =
           let Q = λ (c : Name × Cell K V). node_at arena c.0 ≡ Some c.1 in
-          let here = leaf_slots s (all_left Q (cells P s) (cells_in P rest) held) in
-          let later = leaf_slots_in rest (all_right Q (cells P s) (cells_in P rest) held) in
+          let here = slots_of_cells s (all_left Q (cells P s) (cells_in P rest) held) in
+          let later = slots_of_cells_in rest (all_right Q (cells P s) (cells_in P rest) held) in
           omega (arith, slots-append (cells P s) (cells_in P rest), length-append (leaves s) (leaves_in rest), here, later)
 
     -- an arena that holds a shape, and these cells beside it, has so many leaves more than they are
     pub leaves_beside : (s : Shape K V) (rest : List (Name × Cell K V)) → Holds (node_at arena) (cells P s ++ rest)
         → leaves_held arena ≡ length (leaves s) + length (slots_as Leaf rest)
     leaves_beside s rest holds =
-        let held = leaf_slots s (all_left (λ (c : Name × Cell K V). node_at arena c.0 ≡ Some c.1) (cells P s) rest holds.held) in
+        let held = slots_of_cells s (all_left (λ (c : Name × Cell K V). node_at arena c.0 ≡ Some c.1) (cells P s) rest holds.held) in
         omega (arith, leaves_counted arena (cells P s ++ rest) holds, slots-append (cells P s) rest, held)
 
   -- as many as the tree has that the arena holds alone
   pub leaves_of_tree : (bytes : K → List ℕ) (P : ℕ) (arena : Arena K V) (root : Name) (s : Shape K V) → StoresOnly bytes P arena root s → leaves_held arena ≡ length (leaves s)
-  leaves_of_tree bytes P arena root s tree = leaves_counted arena (cells P s) tree.nodes.holds ∙ leaf_slots P arena s tree.nodes.holds.held
+  leaves_of_tree bytes P arena root s tree = leaves_counted arena (cells P s) tree.nodes.holds ∙ slots_of_cells P arena s tree.nodes.holds.held
 
   -- and none where it holds nothing
   pub leaves_of_none : (arena : Arena K V) → ((n : Name) → node_at arena n ≡ None) → leaves_held arena ≡ 0

@@ -1,14 +1,14 @@
 -- Another tree of an arena: where its nodes are kept, its root means what it meant.
-use Rattle.std.proofs.Common.{◌≡◌, ℕ, ◌+◌, ◌≤◌, cond, List, [], ◌∷◌, Option, Some, None, refl, sym, ap, subst, ◌∙◌, inl, inr, arith}
+use Rattle.std.proofs.Common.{◌≡◌, ℕ, ◌≤◌, List, [], ◌∷◌, None, sym, ap, subst, inl, inr, arith}
 use Rattle.art_nodes.specs.Name.{Name}
 use Rattle.art_arena.specs.arena.Arena.{Arena, cell_of, links_of, held_at, node_at, links_at, KeepsNodes}
-use Rattle.art_arena.specs.arena.Cells.{Cell, leaf_name, copies, AreHeld}
-use Rattle.art_arena.specs.arena.Linked.{Links, AreLinked, times}
+use Rattle.art_arena.specs.arena.Cells.{Cell, leaf_name, copies}
+use Rattle.art_arena.specs.arena.Linked.{AreLinked}
 use Rattle.art_arena.specs.arena.Meaning.{IsSubtree, IsTreeBeside, Means}
-use Rattle.art_arena.specs.arena.Shapes.{Shape, LeafAt, leaves, cells, IsUnder}
+use Rattle.art_arena.specs.arena.Shapes.{Shape, leaves, cells, IsUnder}
 use Rattle.art_arena.specs.tree.Trees.{Tree}
 use Rattle.art_arena.proofs.shapes.CellLists.{same_name_tells, AreHeld-kept, Holds-swap}
-use Rattle.art_arena.proofs.shapes.LinkedLists.{eqb-self}
+use Rattle.art_arena.proofs.shapes.LinkedLists.{AreLinked-kept}
 use Rattle.art_arena.proofs.shapes.Surroundings.{times-leaves}
 
 module _ {K V : Type 0} where
@@ -19,14 +19,6 @@ module _ {K V : Type 0} where
     | inl same ↦ subst (λ m. held_at new m ≡ held_at old m) (sym same.1) kept.0
     | inr other ↦ kept-name old new rest kept.1 n (omega (arith, rw other.0 at some))
   ]
-
-  -- a list whose leaves keep their links is linked still
-  AreLinked-kept : (old new : ℕ → Option Links) (before : Option ℕ) (xs : List (LeafAt K V)) (after : Option ℕ) → ((n : ℕ) → 1 ≤ times n xs → new n ≡ old n) → AreLinked old before xs after → AreLinked new before xs after
-  AreLinked-kept old new before [] after same linked = tt
-  AreLinked-kept old new before (x ∷ xs) after same linked = (
-    same x.slot (omega (arith, ap {B = ℕ} (λ b. cond b 1 0) (eqb-self x.slot))) ∙ linked.0,
-    AreLinked-kept old new (Some x.slot) xs after (λ n more. same n (omega (arith, more))) linked.1,
-  )
 
   module _ (bytes : K → List ℕ) (P : ℕ) (old new : Arena K V) where
     -- a canonical part whose nodes are kept stands there still

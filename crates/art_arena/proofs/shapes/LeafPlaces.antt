@@ -1,5 +1,5 @@
 -- Each leaf of a tree stands at a place.
-use Rattle.std.proofs.Common.{◌≡◌, ℕ, zero, suc, ◌+◌, ◌≤◌, ◌⊎◌, inl, inr, List, [], ◌∷◌, take, refl, sym, ap, subst, arith}
+use Rattle.std.proofs.Common.{◌≡◌, ℕ, zero, suc, ◌+◌, ◌≤◌, ◌⊎◌, inl, inr, List, [], take, refl, sym, ap, subst, arith}
 use Rattle.std.proofs.lemmas.Bool.Decides.{eqb_tells}
 use Rattle.art_nodes.specs.Name.{Name}
 use Rattle.art_arena.specs.arena.Context.{Frame}
@@ -22,12 +22,12 @@ one-of (suc m) n some = inl (omega arith)
 
 module _ {K V : Type 0} (bytes : K → List ℕ) (whole : Shape K V) (slot : ℕ) where
   -- the leaf with this slab key stands somewhere
-  pub record Stands : Type 0 where
+  pub record HasPlace : Type 0 where
     pub last : List Step
     pub place : IsLeafPlace bytes whole slot last
 
   mutual
-    stands-below : (ctx : List (Frame K V)) (part : Shape K V) → IsPlace bytes whole ctx part → 1 ≤ times slot (leaves part) → Stands
+    stands-below : (ctx : List (Frame K V)) (part : Shape K V) → IsPlace bytes whole ctx part → 1 ≤ times slot (leaves part) → HasPlace
     stands-below ctx (leaf_at n k v) place some = elim (eqb_tells slot n) [
       | inl same ↦
           record { last = take 2 (steps_to ctx); place = record { ctx = ctx; key = k; value = v; place = subst (λ m. IsPlace bytes whole ctx (leaf_at m k v)) (sym same.1) place; steps = refl } }
@@ -35,7 +35,7 @@ module _ {K V : Type 0} (bytes : K → List ℕ) (whole : Shape K V) (slot : ℕ
     ]
     stands-below ctx (inner_at n prefix kids) place some = stands-in ctx n prefix no_branch kids place some
 
-    stands-in : (ctx : List (Frame K V)) (n : Name) (prefix : List ℕ) (before rest : Branches K V) → IsPlace bytes whole ctx (inner_at n prefix (join before rest)) → 1 ≤ times slot (leaves_in rest) → Stands
+    stands-in : (ctx : List (Frame K V)) (n : Name) (prefix : List ℕ) (before rest : Branches K V) → IsPlace bytes whole ctx (inner_at n prefix (join before rest)) → 1 ≤ times slot (leaves_in rest) → HasPlace
     stands-in ctx n prefix before no_branch place some = absurd (omega (arith, some))
     stands-in ctx n prefix before (branch b t rest) place some = elim (one-of (times slot (leaves t)) (times slot (leaves_in rest)) (omega (arith, some, times-append slot (leaves t) (leaves_in rest)))) [
       | inl here ↦ stands-below _ t (place_below bytes whole ctx n prefix (join before (branch b t rest)) before b t rest place refl) here
@@ -43,5 +43,5 @@ module _ {K V : Type 0} (bytes : K → List ℕ) (whole : Shape K V) (slot : ℕ
     ]
 
   -- a leaf of the whole stands at a place of it
-  pub leaf-stands : IsUnder bytes [] whole → 1 ≤ times slot (leaves whole) → Stands
+  pub leaf-stands : IsUnder bytes [] whole → 1 ≤ times slot (leaves whole) → HasPlace
   leaf-stands under some = stands-below [] whole (at-root bytes whole under) some

@@ -1,5 +1,5 @@
 -- The leaves as a linked list: a list in two parts, and what a write of one leaf's links leaves.
-use Rattle.std.proofs.Common.{◌≡◌, ◌≢◌, ℕ, ◌+◌, ◌≤◌, true, cond, eqb, List, [], ◌∷◌, ◌++◌, Option, Some, None, IsSome, refl, sym, ap, ◌∙◌, inl, inr, arith, ap₂, subst, append_assoc}
+use Rattle.std.proofs.Common.{◌≡◌, ◌≢◌, ℕ, ◌+◌, ◌≤◌, true, cond, eqb, List, [], ◌∷◌, ◌++◌, map, Option, Some, None, IsSome, refl, sym, ap, ◌∙◌, inl, inr, arith, ap₂, subst, append_assoc}
 use Rattle.std.proofs.lemmas.Bool.Decides.{eqb_tells}
 use Rattle.art_arena.specs.arena.Cells.{UpdatesAt}
 use Rattle.art_arena.specs.arena.Shapes.{LeafAt}
@@ -13,9 +13,24 @@ some_of None h = absurd (cc)
 some_of (Some x) h = (x, refl)
 
 module _ {K V : Type 0} where
+  -- the slab keys of leaves
+  abbrev pub slot_list : List (LeafAt K V) → List ℕ
+  slot_list ls = map (λ l. l.slot) ls
+
   pub times-append : (n : ℕ) (xs ys : List (LeafAt K V)) → times n (xs ++ ys) ≡ times n xs + times n ys
   times-append n [] ys = omega arith
   times-append n (x ∷ xs) ys = omega (arith, times-append n xs ys)
+
+  -- a list whose leaves keep their links is linked still
+  pub AreLinked-kept : (old new : ℕ → Option Links) (before : Option ℕ) (xs : List (LeafAt K V)) (after : Option ℕ) → ((n : ℕ) → 1 ≤ times n xs → new n ≡ old n) → AreLinked old before xs after → AreLinked new before xs after
+  AreLinked-kept old new before [] after same linked = tt
+  AreLinked-kept old new before (x ∷ xs) after same linked = (
+    same x.slot (omega (arith, ap {B = ℕ} (λ b. cond b 1 0) (eqb-self x.slot))) ∙ linked.0,
+    AreLinked-kept old new (Some x.slot) xs after (λ n more. same n (omega (arith, more))) linked.1,
+  )
+
+  pub AreLinked-same : (old new : ℕ → Option Links) → ((n : ℕ) → new n ≡ old n) → (before : Option ℕ) (xs : List (LeafAt K V)) (after : Option ℕ) → AreLinked old before xs after → AreLinked new before xs after
+  AreLinked-same old new same before xs after linked = AreLinked-kept old new before xs after (λ n some. same n) linked
 
   pub first_slot-append : (xs ys : List (LeafAt K V)) (after : Option ℕ) → first_slot (xs ++ ys) after ≡ first_slot xs (first_slot ys after)
   first_slot-append [] ys after = refl

@@ -1,5 +1,5 @@
 -- How many nodes stand below a name, told by the arena alone: the measure of a walk down.
-use Rattle.std.proofs.Common.{◌≡◌, ℕ, zero, suc, ◌+◌, ◌<◌, ◌≤◌, Bool, true, false, cond, eqb, List, [], ◌∷◌, length, Option, Some, None, IsSome, refl, sym, ap, subst, ◌∙◌, inl, inr, arith, length-append}
+use Rattle.std.proofs.Common.{true≢false, ◌≡◌, ℕ, zero, suc, ◌+◌, ◌<◌, ◌≤◌, Bool, true, false, cond, eqb, List, [], ◌∷◌, length, Option, Some, None, IsSome, refl, sym, ap, subst, ◌∙◌, inl, inr, arith, length-append}
 use Rattle.std.specs.List.{AllByRecursion}
 use Rattle.std.proofs.lemmas.Bool.Decides.{eqb_tells}
 use Rattle.slab.specs.Slab.{get}
@@ -14,27 +14,28 @@ use Rattle.art_arena.specs.arena.Arena.{Arena, Held, as_leaf, as_inner, held_as,
 use Rattle.art_arena.specs.arena.Shapes.{Shape, Branches, leaf_at, inner_at, no_branch, branch, name_of, children_at, cells, cells_in}
 use Rattle.art_arena.specs.arena.Meaning.{IsPart}
 use Rattle.art_arena.proofs.tree.Order.{all_left, all_right}
+use Rattle.art_arena.proofs.shapes.CellLists.{same_kind_tells}
 
 -- how often a number stands in a list
-abbrev pub count : ℕ → List ℕ → ℕ
-count n [] = 0
-count n (x ∷ xs) = cond (eqb n x) 1 0 + count n xs
+abbrev pub occurrences : ℕ → List ℕ → ℕ
+occurrences n [] = 0
+occurrences n (x ∷ xs) = cond (eqb n x) 1 0 + occurrences n xs
 
 -- the list without a number
 abbrev pub without : ℕ → List ℕ → List ℕ
 without n [] = []
 without n (x ∷ xs) = cond (eqb n x) (without n xs) (x ∷ without n xs)
 
-pub length-without : (n : ℕ) (xs : List ℕ) → length xs ≡ length (without n xs) + count n xs
+pub length-without : (n : ℕ) (xs : List ℕ) → length xs ≡ length (without n xs) + occurrences n xs
 length-without n [] = refl
-length-without n (x ∷ xs) = elim (eqb n x) as (λ b. suc (length xs) ≡ length (cond b (without n xs) (x ∷ without n xs)) + (cond b 1 0 + count n xs)) [
+length-without n (x ∷ xs) = elim (eqb n x) as (λ b. suc (length xs) ≡ length (cond b (without n xs) (x ∷ without n xs)) + (cond b 1 0 + occurrences n xs)) [
   | true ↦ omega (arith, length-without n xs)
   | false ↦ omega (arith, length-without n xs)
 ]
 
-count-without : (m n : ℕ) (xs : List ℕ) → count m (without n xs) ≤ count m xs
+count-without : (m n : ℕ) (xs : List ℕ) → occurrences m (without n xs) ≤ occurrences m xs
 count-without m n [] = omega arith
-count-without m n (x ∷ xs) = elim (eqb n x) as (λ b. count m (cond b (without n xs) (x ∷ without n xs)) ≤ cond (eqb m x) 1 0 + count m xs) [
+count-without m n (x ∷ xs) = elim (eqb n x) as (λ b. occurrences m (cond b (without n xs) (x ∷ without n xs)) ≤ cond (eqb m x) 1 0 + occurrences m xs) [
   | true ↦ omega (arith, count-without m n xs)
   | false ↦ omega (arith, count-without m n xs)
 ]
@@ -47,7 +48,7 @@ below-without n (x ∷ xs) h = elim (eqb_tells n x) [
 ]
 
 -- numbers below n that are met once each are no more than n
-pub few : (n : ℕ) (xs : List ℕ) → AllByRecursion (λ x. x < n) xs → ((m : ℕ) → count m xs ≤ 1) → length xs ≤ n
+pub few : (n : ℕ) (xs : List ℕ) → AllByRecursion (λ x. x < n) xs → ((m : ℕ) → occurrences m xs ≤ 1) → length xs ≤ n
 few zero [] h once = omega arith
 few zero (x ∷ xs) h once = absurd (omega (arith, h.0))
 few (suc n) xs h once =
@@ -55,23 +56,11 @@ few (suc n) xs h once =
     omega (arith, rest, once n, length-without n xs)
 
 kind_tells : (a b : NodeType) → same_kind a b ≡ true → a ≡ b
-kind_tells Node4 Node4 e = refl
-kind_tells Node4 b e = absurd (cc)
-kind_tells Node16 Node16 e = refl
-kind_tells Node16 b e = absurd (cc)
-kind_tells Node48 Node48 e = refl
-kind_tells Node48 b e = absurd (cc)
-kind_tells Node256 Node256 e = refl
-kind_tells Node256 b e = absurd (cc)
-kind_tells Leaf Leaf e = refl
-kind_tells Leaf b e = absurd (cc)
+kind_tells a b e = elim (same_kind_tells a b) [ inl same ↦ same.1 | inr other ↦ absurd (true≢false (sym e ∙ other.0)) ]
 
 one_kind : (kind : NodeType) → cond (same_kind Leaf kind) 1 0 + (cond (same_kind Node4 kind) 1 0 + (cond (same_kind Node16 kind) 1 0 + (cond (same_kind Node48 kind) 1 0 + cond (same_kind Node256 kind) 1 0))) ≡ 1
-one_kind Node4 = refl
-one_kind Node16 = refl
-one_kind Node48 = refl
-one_kind Node256 = refl
 one_kind Leaf = refl
+one_kind kind = refl
 
 -- a number for each child, in sum
 abbrev pub total : (Name → ℕ) → List (ℕ × Name) → ℕ
@@ -84,11 +73,11 @@ module _ {C : Type 0} where
   slots_as kind [] = []
   slots_as kind (c ∷ rest) = cond (same_kind kind c.0.kind) (c.0.slot ∷ slots_as kind rest) (slots_as kind rest)
 
-  pub count-slots_as : (kind : NodeType) (n : ℕ) (xs : List (Name × C)) → count n (slots_as kind xs) ≡ copies (record { kind = kind; slot = n }) xs
+  pub count-slots_as : (kind : NodeType) (n : ℕ) (xs : List (Name × C)) → occurrences n (slots_as kind xs) ≡ copies (record { kind = kind; slot = n }) xs
   count-slots_as kind n [] = refl
   count-slots_as kind n (c ∷ xs) = here (same_kind kind c.0.kind) refl (count-slots_as kind n xs)
     where
-      here : (b : Bool) → same_kind kind c.0.kind ≡ b → count n (slots_as kind xs) ≡ copies (record { kind = kind; slot = n }) xs → count n (slots_as kind (c ∷ xs)) ≡ copies (record { kind = kind; slot = n }) (c ∷ xs)
+      here : (b : Bool) → same_kind kind c.0.kind ≡ b → occurrences n (slots_as kind xs) ≡ copies (record { kind = kind; slot = n }) xs → occurrences n (slots_as kind (c ∷ xs)) ≡ copies (record { kind = kind; slot = n }) (c ∷ xs)
       here true e later = rw e (omega (arith, later))
       here false e later = rw e (omega (arith, later))
 

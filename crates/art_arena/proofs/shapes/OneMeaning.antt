@@ -8,15 +8,13 @@ use Rattle.art_arena.specs.arena.Shapes.{Shape, Branches, leaf_at, inner_at, no_
 use Rattle.art_arena.specs.Laws.{OneMeaning}
 use Rattle.art_arena.proofs.tree.Order.{all_left, all_right}
 use Rattle.art_arena.proofs.tree.Canonical.{begin_in, some_item_in}
-use Rattle.art_arena.proofs.tree.Fronts.{cancel}
+use Rattle.art_arena.proofs.tree.Fronts.{cancel_front}
 use Rattle.art_arena.proofs.tree.Shrinks.{same_front}
 use Rattle.art_arena.proofs.shapes.Erased.{count-erase, canonical_in-erase}
 use Rattle.art_bytes.proofs.Order.{begins_append}
+use Rattle.art_arena.proofs.shapes.CellLists.{cell_children, same_cell}
 
 module _ {K V : Type 0} (bytes : K → List ℕ) (P : ℕ) (at : Name → Option (Cell K V)) where
-  same_cell : (m n : Name) (c d : Cell K V) → m ≡ n → at m ≡ Some c → at n ≡ Some d → c ≡ d
-  same_cell m n c d e f g = let h : Some c ≡ Some d = sym f ∙ ap at e ∙ g in cc
-
   -- two prefixes of one length, behind paths of one length, under which the same keys stand
   same_prefix : (p q a b : List ℕ) → length p ≡ length q → length a ≡ length b → (kids : Branches K V) → 1 ≤ width kids
       → AreUnder bytes (p ++ a) 0 kids → AreUnder bytes (q ++ b) 0 kids → a ≡ b
@@ -29,22 +27,22 @@ module _ {K V : Type 0} (bytes : K → List ℕ) (P : ℕ) (at : Name → Option
       let in_q : BeginsWith (q ++ b) (key x.0) = (subst (AllByRecursion (λ y. BeginsWith (q ++ b) (key y))) x.2 (begin_in key (q ++ b) (erase_in kids) is_q)).0 in
       let paths : p ≡ q = same_front p q (key x.0) (begins_append p a (key x.0) in_p) (begins_append q b (key x.0) in_q) same_path in
       let wholes : p ++ a ≡ q ++ b = same_front (p ++ a) (q ++ b) (key x.0) in_p in_q (omega (arith, length-append p a, length-append q b)) in
-      cancel p a b (wholes ∙ ap (λ r. r ++ b) (sym paths))
+      cancel_front p a b (wholes ∙ ap (λ r. r ++ b) (sym paths))
 
   mutual
     same_shape : (p q : List ℕ) (s t : Shape K V) → length p ≡ length q → IsUnder bytes p s → IsUnder bytes q t → AreHeld at (cells P s) → AreHeld at (cells P t) → name_of s ≡ name_of t → s ≡ t
     same_shape p q (leaf_at m j u) (leaf_at n k v) len a b h i e =
-        let same = same_cell _ _ _ _ e h.0 i.0 in
+        let same = same_cell at _ _ _ _ e h.0 i.0 in
         let slots : m ≡ n = ap (λ (x : Name). x.slot) e in
         let keys : j ≡ k = cc in
         let values : u ≡ v = cc in
         ap (λ x. leaf_at x j u) slots ∙ ap₂ (leaf_at n) keys values
-    same_shape p q (leaf_at m j u) (inner_at n prefix kids) len a b h i e = let same = same_cell _ _ _ _ e h.0 i.0 in absurd (cc)
-    same_shape p q (inner_at m prefix kids) (leaf_at n k v) len a b h i e = let same = same_cell _ _ _ _ e h.0 i.0 in absurd (cc)
+    same_shape p q (leaf_at m j u) (inner_at n prefix kids) len a b h i e = let same = same_cell at _ _ _ _ e h.0 i.0 in absurd (cc)
+    same_shape p q (inner_at m prefix kids) (leaf_at n k v) len a b h i e = let same = same_cell at _ _ _ _ e h.0 i.0 in absurd (cc)
     same_shape p q (inner_at m a cs) (inner_at n b ds) len x y h i e =
-        let same = same_cell _ _ (node_of P a (children_at cs)) (node_of P b (children_at ds)) e h.0 i.0 in
+        let same = same_cell at _ _ (node_of P a (children_at cs)) (node_of P b (children_at ds)) e h.0 i.0 in
         let lengths : length a ≡ length b = ap prefix_len same in
-        let children : children_at cs ≡ children_at ds = ap children_of same in
+        let children : children_at cs ≡ children_at ds = ap cell_children same in
         let kids = same_branches (p ++ a) (q ++ b) 0 0 cs ds (omega (arith, length-append p a, length-append q b)) x.1 y.1 h.1 i.1 children in
         let prefixes = same_prefix p q a b len lengths cs (omega (arith, x.0.two)) x.1 (subst (AreUnder bytes (q ++ b) 0) (sym kids) y.1) in
         ap (λ w. inner_at w a cs) e ∙ ap₂ (inner_at n) prefixes kids
@@ -52,10 +50,6 @@ module _ {K V : Type 0} (bytes : K → List ℕ) (P : ℕ) (at : Name → Option
         prefix_len : Cell K V → ℕ
         prefix_len (pair k v) = 0
         prefix_len (branches node) = node.header.prefix_len
-
-        children_of : Cell K V → List (ℕ × Name)
-        children_of (pair k v) = []
-        children_of (branches node) = node.children
 
     same_branches : (p q : List ℕ) (low high : ℕ) (cs ds : Branches K V) → length p ≡ length q → AreUnder bytes p low cs → AreUnder bytes q high ds → AreHeld at (cells_in P cs) → AreHeld at (cells_in P ds) → children_at cs ≡ children_at ds → cs ≡ ds
     same_branches p q low high no_branch no_branch len a b h i e = refl

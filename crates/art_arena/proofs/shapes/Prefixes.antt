@@ -23,13 +23,13 @@ use Rattle.art_arena.specs.arena.Linked.{first_slot}
 use Rattle.art_arena.proofs.tree.Order.{all_append, all_left, all_right, all_weaker}
 use Rattle.art_arena.specs.arena.Meaning.{IsSubtree}
 use Rattle.art_arena.specs.arena.Prefixes.{prefix_of, Mismatches}
-use Rattle.art_arena.proofs.shapes.Subtrees.{inner_of, pair_of, leaves_begin_prefix}
+use Rattle.art_arena.proofs.shapes.Subtrees.{inner_of, holds_pair, leaves_begin_prefix}
 
 pub drop-front : (xs ys : List ℕ) → drop (length xs) (xs ++ ys) ≡ ys
 drop-front [] ys = refl
 drop-front (x ∷ xs) ys = drop-front xs ys
 
-take-front : (xs ys : List ℕ) → take (length xs) (xs ++ ys) ≡ xs
+pub take-front : (xs ys : List ℕ) → take (length xs) (xs ++ ys) ≡ xs
 take-front [] ys = refl
 take-front (x ∷ xs) ys = ap (λ zs. x ∷ zs) (take-front xs ys)
 
@@ -89,9 +89,9 @@ module _ {K V : Type 0} (bytes : K → List ℕ) (P : ℕ) (arena : Arena K V) (
     pub len : node.header.prefix_len ≡ length (prefix_of s)
     pub stored : node.header.stored ≡ take P (prefix_of s)
 
-  pub header_of : (path : List ℕ) (s : Shape K V) → IsSubtree bytes P (node_at arena) n path s → n.kind ≢ Leaf → HeaderOf s
-  header_of path (leaf_at slot k v) sub other = absurd (other (ap (λ (m : Name). m.kind) (sym sub.part.named)))
-  header_of path (inner_at m prefix kids) sub other = record {
+  pub header_there : (path : List ℕ) (s : Shape K V) → IsSubtree bytes P (node_at arena) n path s → n.kind ≢ Leaf → HeaderOf s
+  header_there path (leaf_at slot k v) sub other = absurd (other (ap (λ (m : Name). m.kind) (sym sub.part.named)))
+  header_there path (inner_at m prefix kids) sub other = record {
     node = _;
     there = inner_of (held_at arena n) _ (ap (node_at arena) (sym sub.part.named) ∙ sub.part.held.0);
     len = refl;
@@ -103,16 +103,16 @@ module _ {K V : Type 0} (bytes : K → List ℕ) (P : ℕ) (arena : Arena K V) w
   IsHeld l = node_at arena (leaf_name l.slot) ≡ Some (pair l.key l.value)
 
   mutual
-    pub leaves_held : (s : Shape K V) → AreHeld (node_at arena) (cells P s) → AllByRecursion IsHeld (leaves s)
-    leaves_held (leaf_at slot k v) held = held
-    leaves_held (inner_at n prefix kids) held = leaves_in_held kids held.1
+    pub leaves_are_held : (s : Shape K V) → AreHeld (node_at arena) (cells P s) → AllByRecursion IsHeld (leaves s)
+    leaves_are_held (leaf_at slot k v) held = held
+    leaves_are_held (inner_at n prefix kids) held = leaves_in_held kids held.1
 
     leaves_in_held : (kids : Branches K V) → AreHeld (node_at arena) (cells_in P kids) → AllByRecursion IsHeld (leaves_in kids)
     leaves_in_held no_branch held = tt
     leaves_in_held (branch b t rest) held =
         let P_at = λ (c : Name × Cell K V). node_at arena c.0 ≡ Some c.1 in
         all_append IsHeld (leaves t) (leaves_in rest)
-        (leaves_held t (all_left P_at (cells P t) (cells_in P rest) held))
+        (leaves_are_held t (all_left P_at (cells P t) (cells_in P rest) held))
         (leaves_in_held rest (all_right P_at (cells P t) (cells_in P rest) held))
 
   -- the first leaf, as the arena has it
@@ -122,13 +122,13 @@ module _ {K V : Type 0} (bytes : K → List ℕ) (P : ℕ) (arena : Arena K V) w
     pub begins : BeginsWith (path ++ prefix) (bytes leaf.key)
 
   pub first_leaf : (n : Name) (path : List ℕ) (s : Shape K V) (slot : ℕ) → IsSubtree bytes P (node_at arena) n path s → first_slot (leaves s) None ≡ Some slot → FirstLeaf path (prefix_of s) slot
-  first_leaf n path s slot sub first = head (leaves s) (leaves_held s sub.part.held) (leaves_begin_prefix bytes path s sub.under) first
+  first_leaf n path s slot sub first = head (leaves s) (leaves_are_held s sub.part.held) (leaves_begin_prefix bytes path s sub.under) first
     where
       head : (ls : List (LeafAt K V)) → AllByRecursion IsHeld ls → AllByRecursion (λ l. BeginsWith (path ++ prefix_of s) (bytes l.key)) ls → first_slot ls None ≡ Some slot → FirstLeaf path (prefix_of s) slot
       head [] h b e = absurd (cc)
       head (l ∷ ls) h b e =
           let same : l.slot ≡ slot = cc in
-          let p = pair_of (held_at arena (leaf_name slot)) l.key l.value (ap (λ m. node_at arena (leaf_name m)) (sym same) ∙ h.0) in
+          let p = holds_pair (held_at arena (leaf_name slot)) l.key l.value (ap (λ m. node_at arena (leaf_name m)) (sym same) ∙ h.0) in
           record { leaf = p.leaf; there = p.is; begins = subst (λ k. BeginsWith (path ++ prefix_of s) (bytes k)) (sym p.key) b.0 }
 
 -- how a key meets a prefix that it doesn't begin with

@@ -27,16 +27,21 @@ module _ {K V : Type 0} where
   inner_of (Some (leaf_held leaf)) node e = absurd (cc)
   inner_of (Some (inner_held m)) node e = cc
 
+  -- and that something is held there
+  pub cell_held : (o : Option (Held K V)) (c : Cell K V) → cell_of o ≡ Some c → IsSome o
+  cell_held None c e = absurd (cc)
+  cell_held (Some h) c e = refl
+
   pub record HoldsPair (o : Option (Held K V)) (k : K) (v : V) : Type 0 where
     pub leaf : LeafNode K V
     pub is : o ≡ Some (leaf_held leaf)
     pub key : leaf.key ≡ k
     pub value : leaf.value ≡ v
 
-  pub pair_of : (o : Option (Held K V)) (k : K) (v : V) → cell_of o ≡ Some (pair k v) → HoldsPair o k v
-  pair_of None k v e = absurd (cc)
-  pair_of (Some (leaf_held leaf)) k v e = record { leaf = leaf; is = refl; key = (cc); value = (cc) }
-  pair_of (Some (inner_held m)) k v e = absurd (cc)
+  pub holds_pair : (o : Option (Held K V)) (k : K) (v : V) → cell_of o ≡ Some (pair k v) → HoldsPair o k v
+  holds_pair None k v e = absurd (cc)
+  holds_pair (Some (leaf_held leaf)) k v e = record { leaf = leaf; is = refl; key = (cc); value = (cc) }
+  holds_pair (Some (inner_held m)) k v e = absurd (cc)
 
   -- the branches before one and those after it
 
@@ -93,13 +98,13 @@ module _ {K V : Type 0} (bytes : K → List ℕ) where
     subtree-inner n path (inner_at m prefix kids) sub other = (prefix, kids, ap (λ m. inner_at m prefix kids) sub.part.named)
 
     -- what stands below a branch of a subtree is a subtree of fewer nodes
-    pub record IsBelow (path : List ℕ) (t : Shape K V) (more : ℕ) : Type 0 where
+    pub record IsSmallerSubtree (path : List ℕ) (t : Shape K V) (more : ℕ) : Type 0 where
       pub subtree : IsSubtree bytes P at (name_of t) path t
       pub fewer : length (cells P t) < more
 
     pub subtree-branch : (n : Name) (path prefix : List ℕ) (kids before : Branches K V) (b : ℕ) (t : Shape K V) (after : Branches K V)
         → IsSubtree bytes P at n path (inner_at n prefix kids) → kids ≡ join before (branch b t after)
-        → IsBelow ((path ++ prefix) ++ b ∷ []) t (length (cells P (inner_at n prefix kids)))
+        → IsSmallerSubtree ((path ++ prefix) ++ b ∷ []) t (length (cells P (inner_at n prefix kids)))
     subtree-branch n path prefix kids before b t after sub whole =
         let P_at = λ (c : Name × Cell K V). at c.0 ≡ Some c.1 in
         let parts : cells_in P kids ≡ cells_in P before ++ (cells P t ++ cells_in P after) = ap (cells_in P) whole ∙ cells_in-join P before (branch b t after) in

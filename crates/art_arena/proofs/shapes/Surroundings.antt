@@ -20,10 +20,11 @@ use Rattle.art_arena.proofs.shapes.Contexts.{leaves-plug}
 use Rattle.art_arena.proofs.shapes.Meanings.{nodes-part}
 use Rattle.art_arena.proofs.shapes.Places.{leaves-begin}
 use Rattle.art_bytes.proofs.Order.{before_at, begins_append, begins_step, conflict_not_before, conflict_turned}
+use Rattle.art_arena.specs.arena.Descents.{HasConflict, NoConflict}
 
 -- of two keys that go on behind a path by different bytes, the one with the smaller byte comes first
-goes_before : (path : List ℕ) (b c : ℕ) (k l : List ℕ) → b < c → BeginsWith (path ++ b ∷ []) k → BeginsWith (path ++ c ∷ []) l → IsBefore k l
-goes_before path b c k l less h i =
+pub smaller_byte_first : (path : List ℕ) (b c : ℕ) (k l : List ℕ) → b < c → BeginsWith (path ++ b ∷ []) k → BeginsWith (path ++ c ∷ []) l → IsBefore k l
+smaller_byte_first path b c k l less h i =
     let s = begins_step path b k h in
     let t = begins_step path c l i in
     subst (λ x. IsBefore x l) (sym s.1) (subst (IsBefore (path ++ b ∷ s.0)) (sym t.1) (before_at path b c s.0 t.0 less))
@@ -41,14 +42,14 @@ module _ {K V : Type 0} (bytes : K → List ℕ) (key : List ℕ) where
   branches-before path b low no_branch under below begins = tt
   branches-before path b low (branch c s rest) under below begins =
       all_append (λ l. IsBefore (bytes l.key) key) (leaves s) (leaves_in rest)
-      (all_weaker _ (λ l. IsBefore (bytes l.key) key) (λ l h. goes_before path c b (bytes l.key) key below.0 h begins) (leaves s) (leaves-begin bytes (path ++ c ∷ []) s under.1))
+      (all_weaker _ (λ l. IsBefore (bytes l.key) key) (λ l h. smaller_byte_first path c b (bytes l.key) key below.0 h begins) (leaves s) (leaves-begin bytes (path ++ c ∷ []) s under.1))
       (branches-before path b (c + 1) rest under.2 below.1 begins)
 
   pub branches-after : (path : List ℕ) (b low : ℕ) (f : Branches K V) → AreUnder bytes path low f → b < low → BeginsWith (path ++ b ∷ []) key → AreAfter (leaves_in f)
   branches-after path b low no_branch under less begins = tt
   branches-after path b low (branch c s rest) under less begins =
       all_append (λ l. IsBefore key (bytes l.key)) (leaves s) (leaves_in rest)
-      (all_weaker _ (λ l. IsBefore key (bytes l.key)) (λ l h. goes_before path b c key (bytes l.key) (omega (arith, under.0)) begins h) (leaves s) (leaves-begin bytes (path ++ c ∷ []) s under.1))
+      (all_weaker _ (λ l. IsBefore key (bytes l.key)) (λ l h. smaller_byte_first path b c key (bytes l.key) (omega (arith, under.0)) begins h) (leaves s) (leaves-begin bytes (path ++ c ∷ []) s under.1))
       (branches-after path b (c + 1) rest under.2 (omega (arith, under.0)) begins)
 
   out_of : (f : Frame K V) (outer : List (Frame K V)) → BeginsWith (path_to (f ∷ outer)) key → BeginsWith (path_to outer) key
@@ -71,29 +72,23 @@ module _ {K V : Type 0} (bytes : K → List ℕ) (key : List ℕ) where
       (ctx-after outer around.4 (out_of f outer begins))
 
   -- none of these is in conflict with the key
-  abbrev pub NoConflict : List (LeafAt K V) → Type 0
-  NoConflict ls = AllByRecursion (λ l. Conflict key (bytes l.key) → ⊥) ls
-
-  abbrev pub HasConflict : List (LeafAt K V) → Type 0
-  HasConflict ls = (l : LeafAt K V) × IsIn l ls × Conflict key (bytes l.key)
-
-  pub free-before : (ls : List (LeafAt K V)) → AreBefore ls → NoConflict ls
+  pub free-before : (ls : List (LeafAt K V)) → AreBefore ls → NoConflict bytes key ls
   free-before ls h = all_weaker _ (λ l. Conflict key (bytes l.key) → ⊥) (λ l b c. conflict_not_before (bytes l.key) key (conflict_turned key (bytes l.key) c) b) ls h
 
-  pub free-after : (ls : List (LeafAt K V)) → AreAfter ls → NoConflict ls
+  pub free-after : (ls : List (LeafAt K V)) → AreAfter ls → NoConflict bytes key ls
   free-after ls h = all_weaker _ (λ l. Conflict key (bytes l.key) → ⊥) (λ l b c. conflict_not_before key (bytes l.key) c b) ls h
 
   module _ (whole : Shape K V) (ctx : List (Frame K V)) (part : Shape K V) (place : IsPlace bytes whole ctx part) (begins : BeginsWith (path_to ctx) key) where
     -- where no leaf below the place is in conflict with the key, none is
-    pub free : NoConflict (leaves part) → NoConflict (leaves whole)
+    pub free : NoConflict bytes key (leaves part) → NoConflict bytes key (leaves whole)
     free below =
         let Q = λ (l : LeafAt K V). Conflict key (bytes l.key) → ⊥ in
-        subst NoConflict (sym (ap leaves place.is ∙ leaves-plug ctx part))
+        subst (NoConflict bytes key) (sym (ap leaves place.is ∙ leaves-plug ctx part))
         (all_append Q (leaves_before ctx) (leaves part ++ leaves_after ctx) (free-before (leaves_before ctx) (ctx-before ctx place.around begins))
         (all_append Q (leaves part) (leaves_after ctx) below (free-after (leaves_after ctx) (ctx-after ctx place.around begins))))
 
     -- a conflict below the place is one
-    pub conflict : HasConflict (leaves part) → HasConflict (leaves whole)
+    pub conflict : HasConflict bytes key (leaves part) → HasConflict bytes key (leaves whole)
     conflict (l, i, h) = (l, subst (IsIn l) (sym (ap leaves place.is ∙ leaves-plug ctx part)) (in_right l (leaves_before ctx) (leaves part ++ leaves_after ctx) (in_left l (leaves part) (leaves_after ctx) i)), h)
 
 -- the name of an inner node is no leaf's

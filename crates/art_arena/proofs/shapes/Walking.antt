@@ -15,7 +15,7 @@ use Rattle.art_arena.specs.arena.Steps.{Step, steps_to}
 use Rattle.art_arena.specs.arena.Places.{IsPlace}
 use Rattle.art_arena.specs.arena.Prefixes.{prefix_of}
 use Rattle.art_arena.specs.arena.Found.{located, located_in}
-use Rattle.art_arena.specs.arena.Descents.{GoesOn, GoesNoFurther, TakesFronts, located_where, LandsAt, HasNoFront, OnWayTo}
+use Rattle.art_arena.specs.arena.Descents.{GoesOn, GoesNoFurther, TakesFronts, located_where, LandsAt, HasNoFront, OnWayTo, ReadsPath}
 use Rattle.art_nodes.specs.declared.leaf.LeafNode.{LeafNode}
 use Rattle.art_arena.specs.arena.Arena.{Arena, Held, leaf_held, inner_held, held_at, cell_of, node_at}
 use Rattle.art_arena.proofs.shapes.LastSteps.{last_two}
@@ -57,10 +57,6 @@ module _ {K V : Type 0} (bytes : K → List ℕ) (key : List ℕ) (whole : Shape
   -- and where so, the way is a front of the key
   abbrev pub IsOnWayIf : Type 0 → Name → List Step → ℕ → ℕ → Type 0
   IsOnWayIf so current last depth count = (on : IsOnWay current last depth count) × (so → BeginsWith (path_to on.ctx) key)
-
-  -- each node of the key's path was read
-  abbrev pub ReadsPath : ℕ → Type 0
-  ReadsPath count = count ≡ counted start (length (path_of (erase whole) key))
 
   module _ (P : ℕ) (at : Name → Option (Cell K V)) (root : Name) (tree : IsSubtree bytes P at root [] whole) where
     pub way-start : IsOnWay root [] 0 start
@@ -120,7 +116,7 @@ module _ {K V : Type 0} (bytes : K → List ℕ) (key : List ℕ) (whole : Shape
           only = λ test takes. rw (key_is, value_is) (way.finds test takes ∙ ap (λ s. located_where bytes test (located (steps_to way.ctx) s)) the_leaf);
         }
 
-        pub reads-leaf : ReadsPath (min (count + 1) (2 ^ 64 - 1))
+        pub reads-leaf : ReadsPath key whole start (min (count + 1) (2 ^ 64 - 1))
         reads-leaf = way.reads ∙ ap (counted start) (omega (arith, way.long, ap (λ s. length (path_of (erase s) (drop depth key))) the_leaf))
 
       -- at an inner node
@@ -188,7 +184,7 @@ module _ {K V : Type 0} (bytes : K → List ℕ) (key : List ℕ) (whole : Shape
         -- where no leaf below can be meant, and the path has no further node, it ends
         pub record HasEnded (total : ℕ) : Type 0 where
           pub none : HasNoFront bytes key whole
-          pub reads : ReadsPath total
+          pub reads : ReadsPath key whole start total
 
         ended : NoneFits bytes key (leaves_in here.kids) → path_in (erase_in here.kids) (drop (depth + node.header.prefix_len) key) ≡ [] → HasEnded (min (count + 1) (2 ^ 64 - 1))
         ended none no_more = record {

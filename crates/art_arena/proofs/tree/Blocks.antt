@@ -3,7 +3,7 @@ use Rattle.std.proofs.Common.{◌≡◌, ℕ, ◌<◌, ◌⊎◌, List, [], ◌�
 use Rattle.std.specs.List.{AllByRecursion}
 use Rattle.std.proofs.lemmas.Bool.{cond-true, cond-false, cases_Bool}
 use Rattle.art_bytes.specs.Keys.{BeginsWith, IsBefore}
-use Rattle.art_arena.specs.tree.Order.{IsAscending}
+use Rattle.art_arena.specs.tree.Order.{AscendsByKey}
 use Rattle.art_arena.specs.tree.Tenants.{begins_with, with_front}
 use Rattle.art_arena.specs.Laws.{FrontIsBlock}
 use Rattle.art_arena.proofs.tree.Tenants.{begins_true}
@@ -47,7 +47,7 @@ module _ {X : Type 0} (key : X → List ℕ) (test : List ℕ → Bool) (convex 
         | inr f ↦ cond-false _ (z ∷ Kept zs) (Kept zs) f ∙ r
       ]
 
-  kept_after : (x : X) (xs : List X) → test (key x) ≡ true → IsAscending key (x ∷ xs) → (after : List X) × (xs ≡ Kept xs ++ after)
+  kept_after : (x : X) (xs : List X) → test (key x) ≡ true → AscendsByKey key (x ∷ xs) → (after : List X) × (xs ≡ Kept xs ++ after)
   kept_after x [] h a = ([], refl)
   kept_after x (y ∷ ys) h a =
       let later = λ (t : test (key y) ≡ true). kept_after y ys t a.1 in
@@ -56,7 +56,7 @@ module _ {X : Type 0} (key : X → List ℕ) (test : List ℕ → Bool) (convex 
         | inr f ↦ (y ∷ ys, sym (ap (λ l. l ++ y ∷ ys) (cond-false _ (y ∷ Kept ys) (Kept ys) f ∙ past x y h a.0.0 f ys a.1.0)))
       ]
 
-  pub kept_block : (xs : List X) → IsAscending key xs → (before : List X) × (after : List X) × (xs ≡ before ++ (Kept xs ++ after))
+  pub kept_block : (xs : List X) → AscendsByKey key xs → (before : List X) × (after : List X) × (xs ≡ before ++ (Kept xs ++ after))
   kept_block [] h = ([], [], refl)
   kept_block (x ∷ xs) h =
       let r = kept_block xs h.1 in
@@ -76,13 +76,13 @@ module _ {X : Type 0} (key : X → List ℕ) where
         | inr f ↦ subst (AllByRecursion P) (sym (cond-false _ (x ∷ with_front key front xs) (with_front key front xs) f)) r
       ]
 
-  own_ascending : (front : List ℕ) (xs : List X) → IsAscending key xs → IsAscending key (with_front key front xs)
+  own_ascending : (front : List ℕ) (xs : List X) → AscendsByKey key xs → AscendsByKey key (with_front key front xs)
   own_ascending front [] h = tt
   own_ascending front (x ∷ xs) h =
       let r = own_ascending front xs h.1 in
       elim (cases_Bool (begins_with front (key x))) [
-        | inl t ↦ subst (IsAscending key) (sym (cond-true _ (x ∷ with_front key front xs) (with_front key front xs) t)) (own_all (λ y. IsBefore (key x) (key y)) front xs h.0, r)
-        | inr f ↦ subst (IsAscending key) (sym (cond-false _ (x ∷ with_front key front xs) (with_front key front xs) f)) r
+        | inl t ↦ subst (AscendsByKey key) (sym (cond-true _ (x ∷ with_front key front xs) (with_front key front xs) t)) (own_all (λ y. IsBefore (key x) (key y)) front xs h.0, r)
+        | inr f ↦ subst (AscendsByKey key) (sym (cond-false _ (x ∷ with_front key front xs) (with_front key front xs) f)) r
       ]
 
 module _ (X : Type 0) where

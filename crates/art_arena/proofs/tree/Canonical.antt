@@ -2,7 +2,7 @@
 use Rattle.std.proofs.Common.{◌≡◌, ℕ, ◌≤◌, List, [], ◌∷◌, ◌++◌, refl, ap, arith}
 use Rattle.std.specs.List.{AllByRecursion}
 use Rattle.art_bytes.specs.Keys.{BeginsWith, IsBefore}
-use Rattle.art_arena.specs.tree.Order.{IsAscending}
+use Rattle.art_arena.specs.tree.Order.{AscendsByKey}
 use Rattle.art_arena.specs.tree.Trees.{Tree, Forest, leaf, inner, no_child, child, items, items_in, count, IsBelow, IsCanonical, AreCanonical}
 use Rattle.art_arena.proofs.tree.Order.{all_append, all_weaker, all_before_at, ascending_append}
 use Rattle.art_bytes.proofs.Order.{begins_append}
@@ -39,11 +39,11 @@ module _ {X : Type 0} (key : X → List ℕ) where
       all_append _ (items t) (items_in cs) (all_before_at key path b c low.0 x (items t) s (begin (path ++ c ∷ []) t h.0)) (all_before_in path b x cs s low.1 h.2)
 
   mutual
-    pub ascending : (path : List ℕ) (t : Tree X) → IsCanonical key path t → IsAscending key (items t)
+    pub ascending : (path : List ℕ) (t : Tree X) → IsCanonical key path t → AscendsByKey key (items t)
     ascending path (leaf x) h = (tt, tt)
     ascending path (inner prefix cs) h = ascending_in (path ++ prefix) cs h.1
 
-    pub ascending_in : (path : List ℕ) (cs : Forest X) → AreCanonical key path cs → IsAscending key (items_in cs)
+    pub ascending_in : (path : List ℕ) (cs : Forest X) → AreCanonical key path cs → AscendsByKey key (items_in cs)
     ascending_in path no_child h = tt
     ascending_in path (child b t cs) h =
         ascending_append key (items t) (items_in cs) (ascending (path ++ b ∷ []) t h.0) (ascending_in path cs h.2)

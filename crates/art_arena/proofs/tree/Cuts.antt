@@ -17,7 +17,7 @@ use Rattle.art_arena.proofs.tree.Delete.{settled, settled_canonical, settled_ite
 use Rattle.art_arena.proofs.tree.Fronts.{Widths, WidthsIn, not_among_others, begins_trans, widths, common_left}
 use Rattle.art_arena.proofs.tree.Paths.{in_cases}
 use Rattle.art_arena.proofs.tree.Shrinks.{same_front, same_tree}
-use Rattle.art_arena.proofs.tree.Landing.{Passed, end, other, on, passing}
+use Rattle.art_arena.proofs.tree.Landing.{Passed, end, other, on, pass_says}
 use Rattle.art_arena.proofs.tree.Parts.{own_all, own_none, own_append, elsewhere, begins_same, begins_not}
 use Rattle.art_bytes.proofs.Order.{begins_step, begins_from_step, common_apart}
 
@@ -220,7 +220,7 @@ module _ {X : Type 0} (key : X → List ℕ) (front : List ℕ) where
         not_begins : begins_with front (key x) ≡ false → BeginsWith front (key x) → ⊥
         not_begins f = Rattle.art_arena.proofs.tree.Tenants.begins_false front (key x) f
     cuts p (inner prefix cs) h rest e =
-        at_prefix p prefix cs h rest e (λ b r g. cuts_in (p ++ prefix) cs h.1 b r (e ∙ ap (λ m. p ++ m) g ∙ sym (append_assoc p prefix (b ∷ r)))) (passing prefix rest)
+        at_prefix p prefix cs h rest e (λ b r g. cuts_in (p ++ prefix) cs h.1 b r (e ∙ ap (λ m. p ++ m) g ∙ sym (append_assoc p prefix (b ∷ r)))) (pass_says prefix rest)
 
     cuts_in : (q : List ℕ) (cs : Forest X) → AreCanonical key q cs → (b : ℕ) (r : List ℕ) → front ≡ q ++ b ∷ r → CutIn q b r cs
     cuts_in q no_child h b r e = untouched_in tt

@@ -8,6 +8,8 @@ use Rattle.art_arena.specs.tree.Shrinks.{one_if, one_fewer}
 use Rattle.art_arena.proofs.tree.Canonical.{begin}
 use Rattle.art_arena.proofs.tree.Insert.{all_at, put_left, put_right, put_first}
 use Rattle.art_bytes.proofs.Order.{begins_append, begins_step}
+use Rattle.art_arena.proofs.tree.Fronts.{cancel_front}
+use Rattle.art_arena.proofs.tree.Paths.{in_cases}
 
 -- A child that is left alone takes the node's place: its prefix becomes the node's, the byte, and its own.
 abbrev pub merged : {X : Type 0} → List ℕ → ℕ → Tree X → Tree X
@@ -44,12 +46,12 @@ list_cases (a ∷ k) (b ∷ l) =
     elim (cases_eq a b) [ inl e ↦ elim rest [ inl f ↦ inl cc | inr g ↦ inr (λ f. let h : k ≡ l = cc in g h) ] | inr g ↦ inr (λ f. let h : a ≡ b = cc in g h) ]
 
 -- whether k goes on behind the prefix
-pub passes : (prefix k : List ℕ) → ((b : ℕ) × (r : List ℕ) × (k ≡ prefix ++ b ∷ r)) ⊎ ((b : ℕ) (r : List ℕ) → k ≡ prefix ++ b ∷ r → ⊥)
-passes [] [] = inr (λ b r e. cc)
-passes [] (b ∷ k) = inl (b, k, refl)
-passes (a ∷ p) [] = inr (λ b r e. cc)
-passes (a ∷ p) (c ∷ k) =
-    let rest = passes p k in
+pub goes_behind : (prefix k : List ℕ) → ((b : ℕ) × (r : List ℕ) × (k ≡ prefix ++ b ∷ r)) ⊎ ((b : ℕ) (r : List ℕ) → k ≡ prefix ++ b ∷ r → ⊥)
+goes_behind [] [] = inr (λ b r e. cc)
+goes_behind [] (b ∷ k) = inl (b, k, refl)
+goes_behind (a ∷ p) [] = inr (λ b r e. cc)
+goes_behind (a ∷ p) (c ∷ k) =
+    let rest = goes_behind p k in
     elim (cases_eq c a) [
       | inl e ↦ elim rest [ inl f ↦ inl (f.0, f.1, ap₂ (λ x l. x ∷ l) e f.2) | inr g ↦ inr (λ b r f. let h : k ≡ p ++ b ∷ r = cc in g b r h) ]
       | inr g ↦ inr (λ b r f. let h : c ≡ a = cc in g h)
@@ -103,18 +105,9 @@ module _ {X : Type 0} (key : X → List ℕ) where
     changed_in : (y : X) → key y ≡ k → (ds : Forest X) → AreCanonical key path ds → count cs ≡ count ds → ((a : ℕ) → IsBelow a cs → IsBelow a ds)
         → IsPutIn y (items_in ds) (items_in cs) → ((test : ℕ → Bool) (n : ℕ) → Loses test (nodes_in test cs) (nodes_in test ds) (last_in n cs (b ∷ r))) → RemovalIn path k b r cs
 
-  in_cases : (y : X) (xs ys : List X) → IsIn y (xs ++ ys) → IsIn y xs ⊎ IsIn y ys
-  in_cases y [] ys i = inr i
-  in_cases y (x ∷ xs) ys (inl e) = inl (inl e)
-  in_cases y (x ∷ xs) ys (inr i) = elim (in_cases y xs ys i) [ inl j ↦ inl (inr j) | inr j ↦ inr j ]
-
   -- a key that doesn't go on by the byte isn't below the child
   apart_from : (q : List ℕ) (b : ℕ) (t : Tree X) → IsCanonical key (q ++ b ∷ []) t → (k : List ℕ) → ((r : List ℕ) → k ≡ q ++ b ∷ r → ⊥) → IsAbsent k (items t)
   apart_from q b t h k never y i e = let s = begins_step q b (key y) (all_at _ y (items t) (begin key (q ++ b ∷ []) t h) i) in never s.0 (sym e ∙ s.1)
-
-  cancel : (q k l : List ℕ) → q ++ k ≡ q ++ l → k ≡ l
-  cancel [] k l e = e
-  cancel (a ∷ q) k l e = let f : q ++ k ≡ q ++ l = cc in cancel q k l f
 
   up : (path prefix k : List ℕ) (b : ℕ) (r rest : List ℕ) (cs : Forest X) → rest ≡ prefix ++ b ∷ r → 2 ≤ count cs → RemovalIn (path ++ prefix) k b r cs → Removal path k rest (inner prefix cs)
   up path prefix k b r rest cs f n (absent_in never) = absent never
@@ -168,7 +161,7 @@ module _ {X : Type 0} (key : X → List ℕ) where
   absent_above q b r k no_child e low h y i f = absurd i
   absent_above q b r k (child c t cs) e low h y i f =
       elim (in_cases y (items t) (items_in cs) i) [
-        | inl j ↦ apart_from q c t h.0 k (λ s g. let m : b ∷ r ≡ c ∷ s = cancel q (b ∷ r) (c ∷ s) (sym e ∙ g) in let n : b ≡ c = cc in let l = low.0 in omega arith) y j f
+        | inl j ↦ apart_from q c t h.0 k (λ s g. let m : b ∷ r ≡ c ∷ s = cancel_front q (b ∷ r) (c ∷ s) (sym e ∙ g) in let n : b ≡ c = cc in let l = low.0 in omega arith) y j f
         | inr j ↦ absent_above q b r k cs e low.1 h.2 y j f
       ]
 
@@ -177,7 +170,7 @@ module _ {X : Type 0} (key : X → List ℕ) where
   at_leaf path y s k rest f e (inr g) = absent other
     where
       other : IsAbsent k (y ∷ [])
-      other z (inl h) i = g (sym (cancel path s rest (sym f ∙ ap key h ∙ i ∙ e)))
+      other z (inl h) i = g (sym (cancel_front path s rest (sym f ∙ ap key h ∙ i ∙ e)))
       other z (inr h) i = h
 
   -- each key below goes on behind the path
@@ -193,10 +186,10 @@ module _ {X : Type 0} (key : X → List ℕ) where
     pub delete : (path : List ℕ) (t : Tree X) → IsCanonical key path t → (k rest : List ℕ) → k ≡ path ++ rest → Removal path k rest t
     delete path (leaf y) h k rest e = at_leaf path y h.0 k rest h.1 e (list_cases rest h.0)
     delete path (inner prefix cs) h k rest e =
-        elim (passes prefix rest) [
+        elim (goes_behind prefix rest) [
           | inl s ↦ up path prefix k s.0 s.1 rest cs s.2 h.0 (delete_in (path ++ prefix) cs h.1 k s.0 s.1 (e ∙ ap (λ m. path ++ m) s.2 ∙ sym (append_assoc path prefix (s.0 ∷ s.1))))
           | inr never ↦ absent (λ y i f. let d = deeper (path ++ prefix) cs h.1 y i in
-              never d.0 d.1 (cancel path rest (prefix ++ d.0 ∷ d.1) (sym e ∙ sym f ∙ d.2 ∙ append_assoc path prefix (d.0 ∷ d.1))))
+              never d.0 d.1 (cancel_front path rest (prefix ++ d.0 ∷ d.1) (sym e ∙ sym f ∙ d.2 ∙ append_assoc path prefix (d.0 ∷ d.1))))
         ]
 
     pub delete_in : (q : List ℕ) (cs : Forest X) → AreCanonical key q cs → (k : List ℕ) (b : ℕ) (r : List ℕ) → k ≡ q ++ b ∷ r → RemovalIn q k b r cs
@@ -207,5 +200,5 @@ module _ {X : Type 0} (key : X → List ℕ) where
         let later = delete_in q cs h.2 k b r e in
         elim (cases_eq b c) [
           | inl f ↦ here f
-          | inr g ↦ from_others q k b r c t cs g h (apart_from q c t h.0 k (λ s f. let m : b ∷ r ≡ c ∷ s = cancel q (b ∷ r) (c ∷ s) (sym e ∙ f) in let n : b ≡ c = cc in g n)) later
+          | inr g ↦ from_others q k b r c t cs g h (apart_from q c t h.0 k (λ s f. let m : b ∷ r ≡ c ∷ s = cancel_front q (b ∷ r) (c ∷ s) (sym e ∙ f) in let n : b ≡ c = cc in g n)) later
         ]

@@ -2,34 +2,34 @@
 use Rattle.std.proofs.Common.{◌≡◌, ◌≢◌, ℕ, ◌⊎◌, List, [], ◌∷◌, ◌++◌, refl, sym, ap, ◌∙◌, subst, inl, inr}
 use Rattle.std.proofs.lemmas.Bool.{cond-true, cond-false, cases_Bool}
 use Rattle.art_bytes.specs.Keys.{Conflict, IsBefore}
-use Rattle.art_arena.specs.tree.Order.{IsAscending}
-use Rattle.art_arena.specs.tree.Changes.{IsIn, IsPutIn, is_before, put}
+use Rattle.art_arena.specs.tree.Order.{AscendsByKey}
+use Rattle.art_arena.specs.tree.Changes.{IsIn, IsPutIn, is_before, put_in_order}
 use Rattle.art_arena.specs.tree.Trees.{Tree, leaf, items, IsCanonical}
 use Rattle.art_arena.specs.Laws.{Insertion, InsertionIsFree, Deletion}
 use Rattle.art_arena.proofs.tree.Canonical.{ascending}
-use Rattle.art_arena.proofs.tree.Insert.{all_at, in_right, Outcome, grown, found, blocked, insert}
+use Rattle.art_arena.proofs.tree.Insert.{all_at, in_right, Inserting, grown, found, blocked, insert}
 use Rattle.art_arena.proofs.tree.Exists.{put_is}
 use Rattle.art_arena.proofs.tree.Delete.{Removal, absent, whole, removed, delete}
 use Rattle.art_arena.proofs.tree.Paths.{in_cases}
 use Rattle.art_bytes.proofs.Order.{before_not_self, conflict_turned, conflict_not_before}
 
 module _ {X : Type 0} (key : X → List ℕ) where
-  put_in : (x : X) (xs : List X) → IsPutIn x xs (put key x xs)
-  put_in x [] = ([], [], refl, refl)
-  put_in x (y ∷ ys) =
-      let r = put_in x ys in
+  is_put_in : (x : X) (xs : List X) → IsPutIn x xs (put_in_order key x xs)
+  is_put_in x [] = ([], [], refl, refl)
+  is_put_in x (y ∷ ys) =
+      let r = is_put_in x ys in
       elim (cases_Bool (is_before (key x) (key y))) [
-        | inl e ↦ ([], y ∷ ys, refl, cond-true _ (x ∷ y ∷ ys) (y ∷ put key x ys) e)
-        | inr e ↦ (y ∷ r.0, r.1, ap (λ l. y ∷ l) r.2, cond-false _ (x ∷ y ∷ ys) (y ∷ put key x ys) e ∙ ap (λ l. y ∷ l) r.3)
+        | inl e ↦ ([], y ∷ ys, refl, cond-true _ (x ∷ y ∷ ys) (y ∷ put_in_order key x ys) e)
+        | inr e ↦ (y ∷ r.0, r.1, ap (λ l. y ∷ l) r.2, cond-false _ (x ∷ y ∷ ys) (y ∷ put_in_order key x ys) e ∙ ap (λ l. y ∷ l) r.3)
       ]
 
-  before_it : (front : List X) (x : X) (back : List X) → IsAscending key (front ++ x ∷ back) → (y : X) → IsIn y front → IsBefore (key y) (key x)
+  before_it : (front : List X) (x : X) (back : List X) → AscendsByKey key (front ++ x ∷ back) → (y : X) → IsIn y front → IsBefore (key y) (key x)
   before_it [] x back h y i = absurd i
   before_it (z ∷ front) x back h y (inl e) =
       subst (λ v. IsBefore (key v) (key x)) e (all_at (λ w. IsBefore (key z) (key w)) x (front ++ x ∷ back) h.0 (in_right x front (x ∷ back) (inl refl)))
   before_it (z ∷ front) x back h y (inr i) = before_it front x back h.1 y i
 
-  after_it : (front : List X) (x : X) (back : List X) → IsAscending key (front ++ x ∷ back) → (y : X) → IsIn y back → IsBefore (key x) (key y)
+  after_it : (front : List X) (x : X) (back : List X) → AscendsByKey key (front ++ x ∷ back) → (y : X) → IsIn y back → IsBefore (key x) (key y)
   after_it [] x back h y i = all_at (λ w. IsBefore (key x) (key w)) y back h.0 i
   after_it (z ∷ front) x back h y i = after_it front x back h.1 y i
 
@@ -37,7 +37,7 @@ module _ {X : Type 0} (key : X → List ℕ) where
   apart x y (inl b) = (λ e. before_not_self (key x) (subst (IsBefore (key x)) (sym e) b), λ c. conflict_not_before (key x) (key y) c b)
   apart x y (inr b) = (λ e. before_not_self (key y) (subst (IsBefore (key y)) e b), λ c. conflict_not_before (key y) (key x) (conflict_turned (key x) (key y) c) b)
 
-  same_item : (xs : List X) → IsAscending key xs → (x y : X) → IsIn x xs → IsIn y xs → key x ≡ key y → x ≡ y
+  same_item : (xs : List X) → AscendsByKey key xs → (x y : X) → IsIn x xs → IsIn y xs → key x ≡ key y → x ≡ y
   same_item [] h x y i j e = absurd i
   same_item (z ∷ zs) h x y (inl f) (inl g) e = sym f ∙ g
   same_item (z ∷ zs) h x y (inl f) (inr j) e =
@@ -50,17 +50,17 @@ module _ (X : Type 0) where
   pub insertion : Insertion X
   insertion key t h x = go (insert key [] t h x (key x) refl)
     where
-      go : Outcome key [] x t → ((u : Tree X) × IsCanonical key [] u × (items u ≡ put key x (items t)))
+      go : Inserting key [] x t → ((u : Tree X) × IsCanonical key [] u × (items u ≡ put_in_order key x (items t)))
           ⊎ (((y : X) × IsIn y (items t) × (key x ≡ key y)) ⊎ ((y : X) × IsIn y (items t) × Conflict (key x) (key y)))
       go (grown u k (front, back, e, f)) =
-          inl (u, k, f ∙ sym (put_is key x front back (subst (IsAscending key) f (ascending key [] u k))) ∙ ap (put key x) (sym e))
+          inl (u, k, f ∙ sym (put_is key x front back (subst (AscendsByKey key) f (ascending key [] u k))) ∙ ap (put_in_order key x) (sym e))
       go (found y i e) = inr (inl (y, i, e))
       go (blocked y i e) = inr (inr (y, i, e))
 
   pub insertion_is_free : InsertionIsFree X
   insertion_is_free key t u h x e y i =
-      let p = put_in key x (items t) in
-      let asc = subst (IsAscending key) (e ∙ p.3) (ascending key [] u h) in
+      let p = is_put_in key x (items t) in
+      let asc = subst (AscendsByKey key) (e ∙ p.3) (ascending key [] u h) in
       apart key x y (elim (in_cases y p.0 p.1 (subst (IsIn y) p.2 i)) [
         | inl j ↦ inr (before_it key p.0 x p.1 asc y j)
         | inr j ↦ inl (after_it key p.0 x p.1 asc y j)

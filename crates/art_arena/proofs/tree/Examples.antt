@@ -4,7 +4,7 @@ use Rattle.art_arena.specs.tree.Trees.{Tree, leaf, inner, no_child, child, items
 use Rattle.art_arena.specs.tree.TreeOf.{tree_of}
 use Rattle.art_arena.specs.tree.Kinds.{IsLimit, ChangesKind}
 use Rattle.art_arena.specs.tree.Paths.{path_of}
-use Rattle.art_arena.specs.tree.Landing.{Landing, on_leaf, is_front, splits_prefix, lacks_child, landing}
+use Rattle.art_arena.specs.tree.Landing.{Landing, on_leaf, begins_all, splits_prefix, lacks_child, landing}
 use Rattle.art_arena.specs.tree.Fronts.{fronts_of, fronts_with, width_of}
 use Rattle.art_arena.specs.tree.Tenants.{with_front, crossings}
 use Rattle.art_nodes.specs.declared.kind.NodeType.TheVariants.{Node4, Node16, Node256}
@@ -91,7 +91,7 @@ cube_path : steps (tree_of itself cube) (3 ∷ 2 ∷ 1 ∷ []) ≡ 4
 cube_path = refl
 
 -- where keys land that aren't stored
-cube_lands : (lands (tree_of itself cube) (3 ∷ 2 ∷ []) ≡ Some is_front)
+cube_lands : (lands (tree_of itself cube) (3 ∷ 2 ∷ []) ≡ Some begins_all)
     × ((lands (tree_of itself cube) (3 ∷ 7 ∷ []) ≡ Some (lacks_child 7))
     × (lands (tree_of itself cube) (3 ∷ 2 ∷ 1 ∷ 0 ∷ []) ≡ Some (on_leaf (3 ∷ 2 ∷ 1 ∷ []))))
 cube_lands = (refl, (refl, refl))
@@ -141,19 +141,19 @@ two_steps : (steps (tree_of itself two_tenants) (tenant_1 (170 ∷ [])) ≡ 3)
 two_steps = (refl, (refl, refl))
 
 -- forty bytes aa and then 01, the same and then 02, twenty bytes aa and then bb: no stored prefix is as long as these fronts
-abbrev times : ℕ → ℕ → List ℕ → List ℕ
-times zero byte key = key
-times (suc n) byte key = byte ∷ times n byte key
+abbrev behind_many : ℕ → ℕ → List ℕ → List ℕ
+behind_many zero byte key = key
+behind_many (suc n) byte key = byte ∷ behind_many n byte key
 
 abbrev long_keys : List (List ℕ)
-long_keys = tenant_1 (times 40 170 (1 ∷ [])) ∷ tenant_1 (times 40 170 (2 ∷ [])) ∷ tenant_1 (times 20 170 (187 ∷ [])) ∷ []
+long_keys = tenant_1 (behind_many 40 170 (1 ∷ [])) ∷ tenant_1 (behind_many 40 170 (2 ∷ [])) ∷ tenant_1 (behind_many 20 170 (187 ∷ [])) ∷ []
 
 long_audit : (leaves long_keys ≡ 3) × ((inner_nodes (from 2 4) long_keys ≡ 2) × (inner_nodes any long_keys ≡ 2))
 long_audit = (refl, (refl, refl))
 
 -- keys that differ from stored ones within a front only
-long_lands : (lands (tree_of itself long_keys) (tenant_1 (times 25 170 (204 ∷ times 14 170 (1 ∷ [])))) ≡ Some splits_prefix)
-    × (lands (tree_of itself long_keys) (tenant_1 (times 20 170 (204 ∷ times 19 170 (1 ∷ [])))) ≡ Some (lacks_child 204))
+long_lands : (lands (tree_of itself long_keys) (tenant_1 (behind_many 25 170 (204 ∷ behind_many 14 170 (1 ∷ [])))) ≡ Some splits_prefix)
+    × (lands (tree_of itself long_keys) (tenant_1 (behind_many 20 170 (204 ∷ behind_many 19 170 (1 ∷ [])))) ≡ Some (lacks_child 204))
 long_lands = (refl, refl)
 
 -- all 256 bytes

@@ -12,7 +12,7 @@ use Rattle.art_arena.specs.tree.Shrinks.{IsMeeting, Shrinks}
 use Rattle.art_arena.proofs.tree.Fronts.{begins_trans, none_after, common_left}
 use Rattle.art_arena.proofs.tree.Paths.{deeper}
 use Rattle.art_arena.proofs.tree.Tenants.{begins_true, begins_false, common_right, own_in}
-use Rattle.art_arena.proofs.tree.Shrinks.{TreeMeets, meets, another}
+use Rattle.art_arena.proofs.tree.Shrinks.{TreeMeets, tree_meets, another}
 use Rattle.art_arena.proofs.tree.Parts.{begins_same}
 
 pub front_le : (p q k : List ℕ) → BeginsWith p k → BeginsWith q k → length p ≤ length q → BeginsWith p q
@@ -97,7 +97,7 @@ module _ {X : Type 0} (key : X → List ℕ) where
 
   -- a key in a tree of two leaves and more shares a longest front with another
   pub meeting_exists : (prefix : List ℕ) (cs : Forest X) → IsCanonical key [] (inner prefix cs) → (x : X) → IsIn x (items (inner prefix cs)) → (m : List ℕ) × IsMeeting key (items (inner prefix cs)) (key x) m
-  meeting_exists prefix cs h x i = go (meets key (key x) [] (inner prefix cs) h (key x) refl (x, i, refl))
+  meeting_exists prefix cs h x i = go (tree_meets key (key x) [] (inner prefix cs) h (key x) refl (x, i, refl))
     where
       go : TreeMeets key (key x) [] (inner prefix cs) (key x) → (m : List ℕ) × IsMeeting key (items (inner prefix cs)) (key x) m
       go (inr s) = (s.0, s.1)

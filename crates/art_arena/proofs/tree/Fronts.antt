@@ -15,9 +15,9 @@ use Rattle.art_bytes.proofs.Order.{begins_append, begins_step, common_begins, co
 
 -- fronts of fronts
 
-pub cancel : (q k l : List ℕ) → q ++ k ≡ q ++ l → k ≡ l
-cancel [] k l e = e
-cancel (a ∷ q) k l e = let f : q ++ k ≡ q ++ l = cc in cancel q k l f
+pub cancel_front : (q k l : List ℕ) → q ++ k ≡ q ++ l → k ≡ l
+cancel_front [] k l e = e
+cancel_front (a ∷ q) k l e = let f : q ++ k ≡ q ++ l = cc in cancel_front q k l f
 
 pub begins_trans : (p q k : List ℕ) → BeginsWith p q → BeginsWith q k → BeginsWith p k
 begins_trans p q k (r, e) (s, f) = (r ++ s, f ∙ ap (λ m. m ++ s) e ∙ append_assoc p r s)
@@ -35,10 +35,10 @@ pub one_byte : (q : List ℕ) (b c : ℕ) (k : List ℕ) → BeginsWith (q ++ b 
 one_byte q b c k h j =
     let s = begins_step q b k h in
     let t = begins_step q c k j in
-    let e : b ∷ s.0 ≡ c ∷ t.0 = cancel q (b ∷ s.0) (c ∷ t.0) (sym s.1 ∙ t.1) in cc
+    let e : b ∷ s.0 ≡ c ∷ t.0 = cancel_front q (b ∷ s.0) (c ∷ t.0) (sym s.1 ∙ t.1) in cc
 
 pub not_longer : (q : List ℕ) (b : ℕ) → BeginsWith (q ++ b ∷ []) q → ⊥
-not_longer q b h = let s = begins_step q b q h in let e : [] ≡ b ∷ s.0 = cancel q [] (b ∷ s.0) (append-nil q ∙ s.1) in cc
+not_longer q b h = let s = begins_step q b q h in let e : [] ≡ b ∷ s.0 = cancel_front q [] (b ∷ s.0) (append-nil q ∙ s.1) in cc
 
 -- the byte behind a front
 

@@ -86,36 +86,36 @@ module _ {X : Type 0} (key : X → List ℕ) where
       (h.0, subst (λ q. AreCanonical key q cs) e h.1)
 
   -- what comes of an insertion
-  pub data Outcome (path : List ℕ) (x : X) (t : Tree X) : Type 0 where
-    grown : (u : Tree X) → IsCanonical key path u → IsPutIn x (items t) (items u) → Outcome path x t
-    found : (y : X) → IsIn y (items t) → key x ≡ key y → Outcome path x t
-    blocked : (y : X) → IsIn y (items t) → Conflict (key x) (key y) → Outcome path x t
+  pub data Inserting (path : List ℕ) (x : X) (t : Tree X) : Type 0 where
+    grown : (u : Tree X) → IsCanonical key path u → IsPutIn x (items t) (items u) → Inserting path x t
+    found : (y : X) → IsIn y (items t) → key x ≡ key y → Inserting path x t
+    blocked : (y : X) → IsIn y (items t) → Conflict (key x) (key y) → Inserting path x t
 
-  pub data OutcomeIn (path : List ℕ) (x : X) (byte : ℕ) (cs : Forest X) : Type 0 where
+  pub data InsertingIn (path : List ℕ) (x : X) (byte : ℕ) (cs : Forest X) : Type 0 where
     grown_in : (ds : Forest X) → AreCanonical key path ds → count cs ≤ count ds → ((a : ℕ) → a < byte → IsBelow a cs → IsBelow a ds)
-        → IsPutIn x (items_in cs) (items_in ds) → OutcomeIn path x byte cs
-    found_in : (y : X) → IsIn y (items_in cs) → key x ≡ key y → OutcomeIn path x byte cs
-    blocked_in : (y : X) → IsIn y (items_in cs) → Conflict (key x) (key y) → OutcomeIn path x byte cs
+        → IsPutIn x (items_in cs) (items_in ds) → InsertingIn path x byte cs
+    found_below : (y : X) → IsIn y (items_in cs) → key x ≡ key y → InsertingIn path x byte cs
+    blocked_in : (y : X) → IsIn y (items_in cs) → Conflict (key x) (key y) → InsertingIn path x byte cs
 
   -- one step up
 
-  into : (path prefix : List ℕ) (x : X) (b : ℕ) (cs : Forest X) → 2 ≤ count cs → OutcomeIn (path ++ prefix) x b cs → Outcome path x (inner prefix cs)
+  into : (path prefix : List ℕ) (x : X) (b : ℕ) (cs : Forest X) → 2 ≤ count cs → InsertingIn (path ++ prefix) x b cs → Inserting path x (inner prefix cs)
   into path prefix x b cs n (grown_in ds h m low put) = grown (inner prefix ds) (omega arith, h) put
-  into path prefix x b cs n (found_in y i e) = found y i e
+  into path prefix x b cs n (found_below y i e) = found y i e
   into path prefix x b cs n (blocked_in y i e) = blocked y i e
 
   in_first : (q : List ℕ) (x : X) (b : ℕ) (c : ℕ) (t : Tree X) (cs : Forest X) → IsBelow c cs → AreCanonical key q cs → b ≡ c
-      → Outcome (q ++ c ∷ []) x t → OutcomeIn q x b (child c t cs)
+      → Inserting (q ++ c ∷ []) x t → InsertingIn q x b (child c t cs)
   in_first q x b c t cs low h e (grown u k put) =
       grown_in (child c u cs) (k, low, h) (omega arith) (λ a l i. i) (put_left x (items t) (items u) (items_in cs) put)
-  in_first q x b c t cs low h e (found y i f) = found_in y (in_left y (items t) (items_in cs) i) f
+  in_first q x b c t cs low h e (found y i f) = found_below y (in_left y (items t) (items_in cs) i) f
   in_first q x b c t cs low h e (blocked y i f) = blocked_in y (in_left y (items t) (items_in cs) i) f
 
   in_others : (q : List ℕ) (x : X) (b : ℕ) (c : ℕ) (t : Tree X) (cs : Forest X) → IsCanonical key (q ++ c ∷ []) t → IsBelow c cs → c < b
-      → OutcomeIn q x b cs → OutcomeIn q x b (child c t cs)
+      → InsertingIn q x b cs → InsertingIn q x b (child c t cs)
   in_others q x b c t cs h low l (grown_in ds k m lows put) =
       grown_in (child c t ds) (h, lows c l low, k) (omega arith) (λ a j i. (i.0, lows a j i.1)) (put_right x (items_in cs) (items_in ds) (items t) put)
-  in_others q x b c t cs h low l (found_in y i f) = found_in y (in_right y (items t) (items_in cs) i) f
+  in_others q x b c t cs h low l (found_below y i f) = found_below y (in_right y (items t) (items_in cs) i) f
   in_others q x b c t cs h low l (blocked_in y i f) = blocked_in y (in_right y (items t) (items_in cs) i) f
 
   below_more : (b c : ℕ) (cs : Forest X) → b < c → IsBelow c cs → IsBelow b cs
@@ -136,7 +136,7 @@ module _ {X : Type 0} (key : X → List ℕ) where
       goes_on [] b u k l f = (b, u, f)
       goes_on (c ∷ r) b u k l f = (c, r ++ b ∷ u, f)
 
-  at_leaf : (path : List ℕ) (y : X) (s : List ℕ) (x : X) (rest : List ℕ) → key y ≡ path ++ s → key x ≡ path ++ rest → Meeting rest s → Outcome path x (leaf y)
+  at_leaf : (path : List ℕ) (y : X) (s : List ℕ) (x : X) (rest : List ℕ) → key y ≡ path ++ s → key x ≡ path ++ rest → Meeting rest s → Inserting path x (leaf y)
   at_leaf path y s x rest f e (same g) = found y (inl refl) (e ∙ ap (λ m. path ++ m) g ∙ sym f)
   at_leaf path y s x rest f e (first_ends b r g) =
       blocked y (inl refl) (conflict_first (key x) (key y) (b, r, f ∙ ap (λ m. path ++ m) g ∙ sym (append_assoc path rest (b ∷ r)) ∙ ap (λ m. m ++ b ∷ r) (sym e)))
@@ -153,7 +153,7 @@ module _ {X : Type 0} (key : X → List ℕ) where
 
   -- within a prefix, where it isn't passed
   at_prefix : (path prefix : List ℕ) (cs : Forest X) → IsCanonical key path (inner prefix cs) → (x : X) (rest : List ℕ) → key x ≡ path ++ rest
-      → ((b : ℕ) (r : List ℕ) → rest ≡ prefix ++ b ∷ r → OutcomeIn (path ++ prefix) x b cs) → Meeting rest prefix → Outcome path x (inner prefix cs)
+      → ((b : ℕ) (r : List ℕ) → rest ≡ prefix ++ b ∷ r → InsertingIn (path ++ prefix) x b cs) → Meeting rest prefix → Inserting path x (inner prefix cs)
   at_prefix path prefix cs h x rest e down (same g) =
       let f = front_of_all (path ++ prefix) x cs (let n = h.0 in omega arith) h.1 ([], ap (λ m. path ++ m) (sym g) ∙ sym e ∙ sym (append-nil (key x))) in
       blocked f.0 f.1 f.2
@@ -172,13 +172,13 @@ module _ {X : Type 0} (key : X → List ℕ) where
       (put_last x (items_in cs))
 
   mutual
-    pub insert : (path : List ℕ) (t : Tree X) → IsCanonical key path t → (x : X) (rest : List ℕ) → key x ≡ path ++ rest → Outcome path x t
+    pub insert : (path : List ℕ) (t : Tree X) → IsCanonical key path t → (x : X) (rest : List ℕ) → key x ≡ path ++ rest → Inserting path x t
     insert path (leaf y) h x rest e = at_leaf path y h.0 x rest h.1 e (meet rest h.0)
     insert path (inner prefix cs) h x rest e =
         at_prefix path prefix cs h x rest e
         (λ b r g. insert_in (path ++ prefix) cs h.1 x b r (e ∙ ap (λ m. path ++ m) g ∙ sym (append_assoc path prefix (b ∷ r)))) (meet rest prefix)
 
-    pub insert_in : (q : List ℕ) (cs : Forest X) → AreCanonical key q cs → (x : X) (b : ℕ) (r : List ℕ) → key x ≡ q ++ b ∷ r → OutcomeIn q x b cs
+    pub insert_in : (q : List ℕ) (cs : Forest X) → AreCanonical key q cs → (x : X) (b : ℕ) (r : List ℕ) → key x ≡ q ++ b ∷ r → InsertingIn q x b cs
     insert_in q no_child h x b r e =
         grown_in (child b (leaf x) no_child) (begins_from_step q b r (key x) e, tt, tt) (omega arith) (λ a l i. (l, tt)) (put_first x [])
     insert_in q (child c t cs) h x b r e =

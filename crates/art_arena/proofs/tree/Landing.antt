@@ -5,10 +5,10 @@ use Rattle.art_bytes.specs.Keys.{BeginsWith, Conflict, IsProperFront}
 use Rattle.art_arena.specs.tree.Changes.{IsIn}
 use Rattle.art_arena.specs.tree.Trees.{Tree, Forest, leaf, inner, no_child, child, items, items_in, IsCanonical, AreCanonical}
 use Rattle.art_arena.specs.tree.Paths.{last_leaf, path_of, path_in}
-use Rattle.art_arena.specs.tree.Landing.{ends, differs, passes, pass, Landing, on_leaf, is_front, splits_prefix, lacks_child, landing, landing_in, EndsInConflict}
+use Rattle.art_arena.specs.tree.Landing.{ends, differs, passes, pass, Landing, on_leaf, begins_all, splits_prefix, lacks_child, landing, landing_in, EndsInConflict}
 use Rattle.art_arena.proofs.tree.Canonical.{begin, some_item_in}
 use Rattle.art_arena.proofs.tree.Insert.{all_at, in_left, in_right}
-use Rattle.art_arena.proofs.tree.Fronts.{cancel, one_byte, not_among_others, begins_trans}
+use Rattle.art_arena.proofs.tree.Fronts.{cancel_front, one_byte, not_among_others, begins_trans}
 use Rattle.art_arena.proofs.tree.Paths.{in_cases, deeper}
 use Rattle.art_bytes.proofs.Order.{begins_step, begins_from_step, before_at, conflict_first, conflict_turned, conflict_not_before}
 
@@ -24,12 +24,12 @@ one_byte_more a b prefix k e (other p z c r d s f g apart) =
     other (cond-true _ _ _ (eq-eqb a b e) ∙ p) (b ∷ z) c r d s (ap (λ m. b ∷ m) f) (cc) apart
 one_byte_more a b prefix k e (on c r p f) = on c r (cond-true _ _ _ (eq-eqb a b e) ∙ p) (cc)
 
-pub passing : (prefix k : List ℕ) → Passed prefix k
-passing [] [] = end refl [] refl
-passing [] (b ∷ k) = on b k refl refl
-passing (a ∷ prefix) [] = end refl (a ∷ prefix) refl
-passing (a ∷ prefix) (b ∷ k) =
-    let rest = passing prefix k in
+pub pass_says : (prefix k : List ℕ) → Passed prefix k
+pass_says [] [] = end refl [] refl
+pass_says [] (b ∷ k) = on b k refl refl
+pass_says (a ∷ prefix) [] = end refl (a ∷ prefix) refl
+pass_says (a ∷ prefix) (b ∷ k) =
+    let rest = pass_says prefix k in
     elim (cases_eq a b) [
       | inl e ↦ one_byte_more a b prefix k e rest
       | inr n ↦ other (cond-false (eqb a b) (pass prefix k) differs (ne_eqb a b n)) [] b k a prefix refl refl (λ e. n (sym e))
@@ -47,11 +47,11 @@ apart_no_conflict q a r b s n c =
 module _ {X : Type 0} (key : X → List ℕ) (k : List ℕ) where
   -- R can't hold of keys that differ from k at a byte
   module _ (R : List ℕ → Type 0) (no_apart : (q : List ℕ) (a : ℕ) (r : List ℕ) (b : ℕ) (s l : List ℕ) → k ≡ q ++ a ∷ r → l ≡ q ++ b ∷ s → a ≢ b → R l → ⊥) where
-    abbrev Lands : X → Landing X → Type 0
-    Lands y (on_leaf x) = x ≡ y
-    Lands y is_front = IsProperFront k (key y)
-    Lands y splits_prefix = ⊥
-    Lands y (lacks_child b) = ⊥
+    abbrev LandsOn : X → Landing X → Type 0
+    LandsOn y (on_leaf x) = x ≡ y
+    LandsOn y begins_all = IsProperFront k (key y)
+    LandsOn y splits_prefix = ⊥
+    LandsOn y (lacks_child b) = ⊥
 
     proper : (q rest s : List ℕ) (c : ℕ) (u : List ℕ) (l : List ℕ) → k ≡ q ++ rest → l ≡ (q ++ (rest ++ s)) ++ c ∷ u → IsProperFront k l
     proper q rest [] c u l e f = (c, u, f ∙ ap (λ m. (q ++ m) ++ c ∷ u) (append-nil rest) ∙ ap (λ m. m ++ c ∷ u) (sym e))
@@ -63,32 +63,32 @@ module _ {X : Type 0} (key : X → List ℕ) (k : List ℕ) where
     below q cs h y i = deeper key (key y) q cs h (y, i, refl)
 
     at_prefix : (p prefix : List ℕ) (cs : Forest X) → IsCanonical key p (inner prefix cs) → (rest : List ℕ) → k ≡ p ++ rest → (y : X) → IsIn y (items_in cs) → R (key y)
-        → ((b : ℕ) (r : List ℕ) → rest ≡ prefix ++ b ∷ r → Lands y (landing_in cs b r)) → Passed prefix rest → Lands y (landing (inner prefix cs) rest)
+        → ((b : ℕ) (r : List ℕ) → rest ≡ prefix ++ b ∷ r → LandsOn y (landing_in cs b r)) → Passed prefix rest → LandsOn y (landing (inner prefix cs) rest)
     at_prefix p prefix cs h rest e y i R-y down (end f s g) =
         let b = below (p ++ prefix) cs h.1 y i in
-        subst (λ v. Lands y (elim v as (λ _. Landing X) [ ends ↦ is_front | differs ↦ splits_prefix | passes c r ↦ landing_in cs c r ])) (sym f)
+        subst (λ v. LandsOn y (elim v as (λ _. Landing X) [ ends ↦ begins_all | differs ↦ splits_prefix | passes c r ↦ landing_in cs c r ])) (sym f)
         (proper p rest s b.0 b.1 (key y) e (b.2 ∙ ap (λ m. (p ++ m) ++ b.0 ∷ b.1) g))
     at_prefix p prefix cs h rest e y i R-y down (other f z a r b s g j apart) =
         let d = below (p ++ prefix) cs h.1 y i in
         absurd (no_apart (p ++ z) a r b (s ++ d.0 ∷ d.1) (key y) (e ∙ ap (λ m. p ++ m) g ∙ sym (append_assoc p z (a ∷ r)))
         (d.2 ∙ ap (λ m. (p ++ m) ++ d.0 ∷ d.1) j ∙ ap (λ m. m ++ d.0 ∷ d.1) (sym (append_assoc p z (b ∷ s))) ∙ append_assoc (p ++ z) (b ∷ s) (d.0 ∷ d.1)) apart R-y)
     at_prefix p prefix cs h rest e y i R-y down (on b r f g) =
-        subst (λ v. Lands y (elim v as (λ _. Landing X) [ ends ↦ is_front | differs ↦ splits_prefix | passes c s ↦ landing_in cs c s ])) (sym f) (down b r g)
+        subst (λ v. LandsOn y (elim v as (λ _. Landing X) [ ends ↦ begins_all | differs ↦ splits_prefix | passes c s ↦ landing_in cs c s ])) (sym f) (down b r g)
 
     mutual
-      lands : (p : List ℕ) (t : Tree X) → IsCanonical key p t → (rest : List ℕ) → k ≡ p ++ rest → (y : X) → IsIn y (items t) → R (key y) → Lands y (landing t rest)
+      lands : (p : List ℕ) (t : Tree X) → IsCanonical key p t → (rest : List ℕ) → k ≡ p ++ rest → (y : X) → IsIn y (items t) → R (key y) → LandsOn y (landing t rest)
       lands p (leaf x) h rest e y (inl i) R-y = i
       lands p (leaf x) h rest e y (inr i) R-y = absurd i
       lands p (inner prefix cs) h rest e y i R-y =
           at_prefix p prefix cs h rest e y i R-y
-          (λ b r g. lands_in (p ++ prefix) cs h.1 b r (e ∙ ap (λ m. p ++ m) g ∙ sym (append_assoc p prefix (b ∷ r))) y i R-y) (passing prefix rest)
+          (λ b r g. lands_in (p ++ prefix) cs h.1 b r (e ∙ ap (λ m. p ++ m) g ∙ sym (append_assoc p prefix (b ∷ r))) y i R-y) (pass_says prefix rest)
 
-      lands_in : (q : List ℕ) (cs : Forest X) → AreCanonical key q cs → (b : ℕ) (r : List ℕ) → k ≡ q ++ b ∷ r → (y : X) → IsIn y (items_in cs) → R (key y) → Lands y (landing_in cs b r)
+      lands_in : (q : List ℕ) (cs : Forest X) → AreCanonical key q cs → (b : ℕ) (r : List ℕ) → k ≡ q ++ b ∷ r → (y : X) → IsIn y (items_in cs) → R (key y) → LandsOn y (landing_in cs b r)
       lands_in q no_child h b r e y i R-y = absurd i
       lands_in q (child c t cs) h b r e y i R-y =
-          let here = λ (f : b ≡ c) (j : IsIn y (items t)). subst (Lands y) (sym (cond-true (eqb b c) (landing t r) (landing_in cs b r) (eq-eqb b c f)))
+          let here = λ (f : b ≡ c) (j : IsIn y (items t)). subst (LandsOn y) (sym (cond-true (eqb b c) (landing t r) (landing_in cs b r) (eq-eqb b c f)))
           (lands (q ++ c ∷ []) t h.0 r (e ∙ ap (λ a. q ++ a ∷ r) f ∙ sym (append_assoc q (c ∷ []) r)) y j R-y) in
-          let there = λ (n : b ≡ c → ⊥) (j : IsIn y (items_in cs)). subst (Lands y) (sym (cond-false (eqb b c) (landing t r) (landing_in cs b r) (ne_eqb b c n)))
+          let there = λ (n : b ≡ c → ⊥) (j : IsIn y (items_in cs)). subst (LandsOn y) (sym (cond-false (eqb b c) (landing t r) (landing_in cs b r) (ne_eqb b c n)))
           (lands_in q cs h.2 b r e y j R-y) in
           elim (in_cases y (items t) (items_in cs) i) [
             | inl j ↦ elim (cases_eq b c) [
@@ -109,24 +109,24 @@ module _ {X : Type 0} (key : X → List ℕ) (k : List ℕ) where
   -- what stands where the descent ends
   abbrev IsThere : List X → Landing X → Type 0
   IsThere xs (on_leaf x) = IsIn x xs
-  IsThere xs is_front = (y : X) × IsIn y xs × IsProperFront k (key y)
+  IsThere xs begins_all = (y : X) × IsIn y xs × IsProperFront k (key y)
   IsThere xs splits_prefix = Unit {0}
   IsThere xs (lacks_child b) = Unit {0}
 
   there_left : (xs ys : List X) (l : Landing X) → IsThere xs l → IsThere (xs ++ ys) l
   there_left xs ys (on_leaf x) h = in_left x xs ys h
-  there_left xs ys is_front h = (h.0, in_left h.0 xs ys h.1, h.2)
+  there_left xs ys begins_all h = (h.0, in_left h.0 xs ys h.1, h.2)
   there_left xs ys splits_prefix h = tt
   there_left xs ys (lacks_child b) h = tt
 
   there_right : (xs ys : List X) (l : Landing X) → IsThere ys l → IsThere (xs ++ ys) l
   there_right xs ys (on_leaf x) h = in_right x xs ys h
-  there_right xs ys is_front h = (h.0, in_right h.0 xs ys h.1, h.2)
+  there_right xs ys begins_all h = (h.0, in_right h.0 xs ys h.1, h.2)
   there_right xs ys splits_prefix h = tt
   there_right xs ys (lacks_child b) h = tt
 
   proper_front : (q rest s : List ℕ) (c : ℕ) (u : List ℕ) (l : List ℕ) → k ≡ q ++ rest → l ≡ (q ++ (rest ++ s)) ++ c ∷ u → IsProperFront k l
-  proper_front = proper (λ l. k ≡ l) (λ q a r b s l e f n g. let h : q ++ a ∷ r ≡ q ++ b ∷ s = sym e ∙ g ∙ f in let i : a ∷ r ≡ b ∷ s = cancel q (a ∷ r) (b ∷ s) h in n cc)
+  proper_front = proper (λ l. k ≡ l) (λ q a r b s l e f n g. let h : q ++ a ∷ r ≡ q ++ b ∷ s = sym e ∙ g ∙ f in let i : a ∷ r ≡ b ∷ s = cancel_front q (a ∷ r) (b ∷ s) h in n cc)
 
   there_at : (p prefix : List ℕ) (cs : Forest X) → IsCanonical key p (inner prefix cs) → (rest : List ℕ) → k ≡ p ++ rest
       → ((b : ℕ) (r : List ℕ) → rest ≡ prefix ++ b ∷ r → IsThere (items_in cs) (landing_in cs b r)) → Passed prefix rest → IsThere (items_in cs) (landing (inner prefix cs) rest)
@@ -134,18 +134,18 @@ module _ {X : Type 0} (key : X → List ℕ) (k : List ℕ) where
       let v = some_item_in key (p ++ prefix) cs (let n = h.0 in omega arith) h.1 in
       let i : IsIn v.0 (items_in cs) = subst (IsIn v.0) (sym v.2) (inl refl) in
       let b = deeper key (key v.0) (p ++ prefix) cs h.1 (v.0, i, refl) in
-      subst (λ w. IsThere (items_in cs) (elim w as (λ _. Landing X) [ ends ↦ is_front | differs ↦ splits_prefix | passes c r ↦ landing_in cs c r ])) (sym f)
+      subst (λ w. IsThere (items_in cs) (elim w as (λ _. Landing X) [ ends ↦ begins_all | differs ↦ splits_prefix | passes c r ↦ landing_in cs c r ])) (sym f)
       (v.0, i, proper_front p rest s b.0 b.1 (key v.0) e (b.2 ∙ ap (λ m. (p ++ m) ++ b.0 ∷ b.1) g))
   there_at p prefix cs h rest e down (other f z a r b s g j apart) =
-      subst (λ w. IsThere (items_in cs) (elim w as (λ _. Landing X) [ ends ↦ is_front | differs ↦ splits_prefix | passes c r ↦ landing_in cs c r ])) (sym f) tt
+      subst (λ w. IsThere (items_in cs) (elim w as (λ _. Landing X) [ ends ↦ begins_all | differs ↦ splits_prefix | passes c r ↦ landing_in cs c r ])) (sym f) tt
   there_at p prefix cs h rest e down (on b r f g) =
-      subst (λ w. IsThere (items_in cs) (elim w as (λ _. Landing X) [ ends ↦ is_front | differs ↦ splits_prefix | passes c s ↦ landing_in cs c s ])) (sym f) (down b r g)
+      subst (λ w. IsThere (items_in cs) (elim w as (λ _. Landing X) [ ends ↦ begins_all | differs ↦ splits_prefix | passes c s ↦ landing_in cs c s ])) (sym f) (down b r g)
 
   mutual
     there : (p : List ℕ) (t : Tree X) → IsCanonical key p t → (rest : List ℕ) → k ≡ p ++ rest → IsThere (items t) (landing t rest)
     there p (leaf x) h rest e = inl refl
     there p (inner prefix cs) h rest e =
-        there_at p prefix cs h rest e (λ b r g. there_in (p ++ prefix) cs h.1 b r (e ∙ ap (λ m. p ++ m) g ∙ sym (append_assoc p prefix (b ∷ r)))) (passing prefix rest)
+        there_at p prefix cs h rest e (λ b r g. there_in (p ++ prefix) cs h.1 b r (e ∙ ap (λ m. p ++ m) g ∙ sym (append_assoc p prefix (b ∷ r)))) (pass_says prefix rest)
 
     there_in : (q : List ℕ) (cs : Forest X) → AreCanonical key q cs → (b : ℕ) (r : List ℕ) → k ≡ q ++ b ∷ r → IsThere (items_in cs) (landing_in cs b r)
     there_in q no_child h b r e = tt
@@ -163,13 +163,13 @@ module _ {X : Type 0} (key : X → List ℕ) (k : List ℕ) where
     where
       apart : (q : List ℕ) (a : ℕ) (r : List ℕ) (b : ℕ) (u l : List ℕ) → k ≡ q ++ a ∷ r → l ≡ q ++ b ∷ u → a ≢ b → BeginsWith l k → ⊥
       apart q a r b u l e f n (w, g) =
-          let i : a ∷ r ≡ b ∷ (u ++ w) = cancel q (a ∷ r) (b ∷ (u ++ w)) (sym e ∙ g ∙ ap (λ m. m ++ w) f ∙ append_assoc q (b ∷ u) w) in n cc
+          let i : a ∷ r ≡ b ∷ (u ++ w) = cancel_front q (a ∷ r) (b ∷ (u ++ w)) (sym e ∙ g ∙ ap (λ m. m ++ w) f ∙ append_assoc q (b ∷ u) w) in n cc
 
-      go : (l : Landing X) → Lands (λ l. BeginsWith l k) apart y l → l ≡ on_leaf y
+      go : (l : Landing X) → LandsOn (λ l. BeginsWith l k) apart y l → l ≡ on_leaf y
       go (on_leaf x) f = ap on_leaf f
-      go is_front (b, r, f) =
+      go begins_all (b, r, f) =
           let g : k ++ [] ≡ k ++ (b ∷ r ++ s.0) = append-nil k ∙ s.1 ∙ ap (λ m. m ++ s.0) f ∙ append_assoc k (b ∷ r) s.0 in
-          let i : [] ≡ b ∷ (r ++ s.0) = cancel k [] (b ∷ (r ++ s.0)) g in absurd (cc)
+          let i : [] ≡ b ∷ (r ++ s.0) = cancel_front k [] (b ∷ (r ++ s.0)) g in absurd (cc)
       go splits_prefix f = absurd f
       go (lacks_child b) f = absurd f
 
@@ -180,9 +180,9 @@ module _ {X : Type 0} (key : X → List ℕ) (k : List ℕ) where
       apart : (q : List ℕ) (a : ℕ) (r : List ℕ) (b : ℕ) (s l : List ℕ) → k ≡ q ++ a ∷ r → l ≡ q ++ b ∷ s → a ≢ b → Conflict k l → ⊥
       apart q a r b s l e f n g = apart_no_conflict q a r b s n (subst (λ m. Conflict m (q ++ b ∷ s)) e (subst (Conflict k) f g))
 
-      go : (l : Landing X) → Lands (Conflict k) apart y l → EndsInConflict key k l
+      go : (l : Landing X) → LandsOn (Conflict k) apart y l → EndsInConflict key k l
       go (on_leaf x) f = subst (Conflict k) (sym (ap key f)) c
-      go is_front f = tt
+      go begins_all f = tt
       go splits_prefix f = f
       go (lacks_child b) f = f
 
@@ -191,7 +191,7 @@ module _ {X : Type 0} (key : X → List ℕ) (k : List ℕ) where
     where
       go : (l : Landing X) → IsThere (items t) l → EndsInConflict key k l → (y : X) × IsIn y (items t) × Conflict k (key y)
       go (on_leaf x) i c = (x, i, c)
-      go is_front i c = (i.0, i.1, conflict_first k (key i.0) i.2)
+      go begins_all i c = (i.0, i.1, conflict_first k (key i.0) i.2)
       go splits_prefix i c = absurd c
       go (lacks_child b) i c = absurd c
 
@@ -216,7 +216,7 @@ module _ {X : Type 0} (key : X → List ℕ) where
     finds k p (inner prefix cs) h y i s rest e =
         let d = deeper key (key y) (p ++ prefix) cs h.1 (y, i, refl) in
         let g : k ≡ (p ++ prefix) ++ d.0 ∷ (d.1 ++ s.0) = s.1 ∙ ap (λ m. m ++ s.0) d.2 ∙ append_assoc (p ++ prefix) (d.0 ∷ d.1) s.0 in
-        let f : rest ≡ prefix ++ d.0 ∷ (d.1 ++ s.0) = cancel p rest (prefix ++ d.0 ∷ (d.1 ++ s.0)) (sym e ∙ g ∙ append_assoc p prefix (d.0 ∷ (d.1 ++ s.0))) in
+        let f : rest ≡ prefix ++ d.0 ∷ (d.1 ++ s.0) = cancel_front p rest (prefix ++ d.0 ∷ (d.1 ++ s.0)) (sym e ∙ g ∙ append_assoc p prefix (d.0 ∷ (d.1 ++ s.0))) in
         last_into prefix cs y (path_in cs (drop (length prefix) rest))
         (ap (λ l. last_leaf (path_in cs l)) (ap (drop (length prefix)) f ∙ drop_at prefix (d.0 ∷ (d.1 ++ s.0)) (length prefix) refl)
         ∙ finds_in k (p ++ prefix) cs h.1 y i s d.0 (d.1 ++ s.0) g)
@@ -248,7 +248,7 @@ module _ {X : Type 0} (key : X → List ℕ) where
     same_way k p (leaf x) h y i s rest e = refl
     same_way k p (inner prefix cs) h y i s rest e =
         let d = deeper key (key y) (p ++ prefix) cs h.1 (y, i, refl) in
-        let f : rest ≡ prefix ++ d.0 ∷ d.1 = cancel p rest (prefix ++ d.0 ∷ d.1) (sym e ∙ d.2 ∙ append_assoc p prefix (d.0 ∷ d.1)) in
+        let f : rest ≡ prefix ++ d.0 ∷ d.1 = cancel_front p rest (prefix ++ d.0 ∷ d.1) (sym e ∙ d.2 ∙ append_assoc p prefix (d.0 ∷ d.1)) in
         let a = ap (λ l. drop (length prefix) (l ++ s.0)) f ∙ ap (drop (length prefix)) (append_assoc prefix (d.0 ∷ d.1) s.0) ∙ drop_at prefix (d.0 ∷ (d.1 ++ s.0)) (length prefix) refl in
         let b = ap (drop (length prefix)) f ∙ drop_at prefix (d.0 ∷ d.1) (length prefix) refl in
         ap (λ nodes. inner prefix cs ∷ nodes) (ap (path_in cs) a ∙ same_way_in k (p ++ prefix) cs h.1 y i s d.0 d.1 d.2 ∙ sym (ap (path_in cs) b))

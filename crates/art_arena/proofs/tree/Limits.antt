@@ -53,10 +53,8 @@ changed_at n kind other a b apart =
 -- there is a smaller kind, where one less is of a kind at all
 has_smaller : (n : ℕ) (kind : NodeType) → IsKindOf kind n → 3 ≤ n → n ≡ (row_of kind).fewest → IsSome (row_of kind).smaller
 has_smaller n Node4 a three is = absurd (omega (arith, is))
-has_smaller n Node16 a three is = refl
-has_smaller n Node48 a three is = refl
-has_smaller n Node256 a three is = refl
 has_smaller n Leaf a three is = absurd (omega (arith, is))
+has_smaller n kind a three is = refl
 
 changes_limit : (n : ℕ) → ChangesKind n → IsLimit n
 changes_limit n (kind, other, a, b, apart) =

@@ -3,7 +3,7 @@ use Rattle.std.proofs.Common.{ℕ, ◌<◌, List, [], ◌∷◌, ◌++◌, sym, 
 use Rattle.std.specs.List.{AllByRecursion}
 use Rattle.art_bytes.specs.Keys.{BeginsWith, IsBefore}
 use Rattle.art_bytes.proofs.Order.{before_at, before_trans, begins_step}
-use Rattle.art_arena.specs.tree.Order.{IsAscending, AreInOrder}
+use Rattle.art_arena.specs.tree.Order.{AscendsByKey, AreInOrder}
 
 -- all of a list
 
@@ -25,8 +25,8 @@ all_weaker P Q f (x ∷ xs) h = (f x h.0, all_weaker P Q f xs h.1)
 
 module _ {X : Type 0} (key : X → List ℕ) where
   -- each of xs is before each of ys
-  pub ascending_append : (xs ys : List X) → IsAscending key xs → IsAscending key ys
-      → AllByRecursion (λ x. AllByRecursion (λ y. IsBefore (key x) (key y)) ys) xs → IsAscending key (xs ++ ys)
+  pub ascending_append : (xs ys : List X) → AscendsByKey key xs → AscendsByKey key ys
+      → AllByRecursion (λ x. AllByRecursion (λ y. IsBefore (key x) (key y)) ys) xs → AscendsByKey key (xs ++ ys)
   ascending_append [] ys h k _ = k
   ascending_append (x ∷ xs) ys h k apart = (all_append (λ y. IsBefore (key x) (key y)) xs ys h.0 apart.0, ascending_append xs ys h.1 k apart.1)
 
@@ -42,12 +42,12 @@ module _ {X : Type 0} (key : X → List ℕ) where
 
   -- it is enough that neighbours are in order
 
-  pub to_order : (xs : List X) → IsAscending key xs → AreInOrder key xs
+  pub to_order : (xs : List X) → AscendsByKey key xs → AreInOrder key xs
   to_order [] h = tt
   to_order (x ∷ []) h = tt
   to_order (x ∷ y ∷ ys) h = (h.0.0, to_order (y ∷ ys) h.1)
 
-  pub from_order : (xs : List X) → AreInOrder key xs → IsAscending key xs
+  pub from_order : (xs : List X) → AreInOrder key xs → AscendsByKey key xs
   from_order [] h = tt
   from_order (x ∷ []) h = (tt, tt)
   from_order (x ∷ y ∷ ys) h =

@@ -12,7 +12,7 @@ use Rattle.art_arena.proofs.tree.Order.{all_weaker}
 use Rattle.art_arena.proofs.tree.Canonical.{begin, begin_in}
 use Rattle.art_arena.proofs.tree.Fronts.{one_byte, not_among_others, begins_trans}
 use Rattle.art_arena.proofs.tree.Tenants.{begins_true, begins_false}
-use Rattle.art_arena.proofs.tree.Landing.{Passed, end, other, on, passing}
+use Rattle.art_arena.proofs.tree.Landing.{Passed, end, other, on, pass_says}
 use Rattle.art_bytes.proofs.Order.{begins_from_step}
 
 pub begins_same : (front k : List ℕ) → BeginsWith front k → begins_with front k ≡ true
@@ -58,7 +58,7 @@ module _ {X : Type 0} (key : X → List ℕ) (front : List ℕ) where
           | inr f ↦ cond-false _ (x ∷ []) [] f ∙ sym (ap items_of (cond-false _ (Some (leaf x)) None f))
         ]
     part_is p (inner prefix cs) h rest e =
-        at_prefix p prefix cs h rest e (λ b r g. part_in_is (p ++ prefix) cs h.1 b r (e ∙ ap (λ m. p ++ m) g ∙ sym (append_assoc p prefix (b ∷ r)))) (passing prefix rest)
+        at_prefix p prefix cs h rest e (λ b r g. part_in_is (p ++ prefix) cs h.1 b r (e ∙ ap (λ m. p ++ m) g ∙ sym (append_assoc p prefix (b ∷ r)))) (pass_says prefix rest)
 
     part_in_is : (q : List ℕ) (cs : Forest X) → AreCanonical key q cs → (b : ℕ) (r : List ℕ) → front ≡ q ++ b ∷ r → with_front key front (items_in cs) ≡ items_of (part_in key front cs b r)
     part_in_is q no_child h b r e = refl

@@ -1,8 +1,8 @@
 -- The node above a leaf, by the keys alone.
-use Rattle.std.proofs.Common.{◌≡◌, ◌≢◌, ℕ, ◌<◌, ◌≤◌, ◌⊎◌, List, [], ◌∷◌, ◌++◌, length, drop, drop_at, map, refl, sym, ap, ap₂, ◌∙◌, subst, inl, inr, append_assoc, append-nil, arith, length-append, Bool, eqb, eq-eqb, ne_eqb, Some}
+use Rattle.std.proofs.Common.{◌≡◌, ◌≢◌, ℕ, ◌<◌, ◌≤◌, ◌⊎◌, List, [], ◌∷◌, ◌++◌, length, drop, drop_at, refl, sym, ap, ap₂, ◌∙◌, subst, inl, inr, append_assoc, append-nil, arith, length-append, Bool, eqb, eq-eqb, ne_eqb, Some}
 use Rattle.std.proofs.lemmas.Bool.{cond-true, cond-false}
 use Rattle.art_bytes.specs.Keys.{BeginsWith, IsBefore, common_prefix}
-use Rattle.art_arena.specs.tree.Order.{IsAscending}
+use Rattle.art_arena.specs.tree.Order.{AscendsByKey}
 use Rattle.art_arena.specs.tree.Changes.{IsIn, IsPutIn}
 use Rattle.art_arena.specs.tree.Trees.{Tree, Forest, leaf, inner, no_child, child, items, items_in, count, IsBelow, IsCanonical, AreCanonical, nodes_with}
 use Rattle.art_arena.specs.tree.TreeOf.{tree_of}
@@ -14,15 +14,10 @@ use Rattle.art_arena.proofs.tree.Canonical.{begin, ascending}
 use Rattle.art_arena.proofs.tree.Unique.{tree_of_items}
 use Rattle.art_arena.proofs.tree.Insert.{all_at, in_left, in_right}
 use Rattle.art_arena.proofs.tree.Delete.{last_count, last_in, Loses, Removal, absent, whole, removed, delete}
-use Rattle.art_arena.proofs.tree.Fronts.{Widths, WidthsIn, cancel, one_byte, not_among_others, widths, common_left}
-use Rattle.art_arena.proofs.tree.Paths.{in_cases, in_map, Stored, meets_apart, meets_above, off_path, deeper, goes_on}
+use Rattle.art_arena.proofs.tree.Fronts.{Widths, WidthsIn, cancel_front, one_byte, not_among_others, widths, common_left}
+use Rattle.art_arena.proofs.tree.Paths.{in_cases, in_map, Stored, meets_apart, meets_above, off_path, deeper, goes_on, in_unmap}
 use Rattle.art_arena.proofs.tree.Limits.{limits_are_kinds}
 use Rattle.art_bytes.proofs.Order.{before_not_self}
-
-from_map : {X Y : Type 0} (f : X → Y) (y : Y) (xs : List X) → IsIn y (map f xs) → (x : X) × IsIn x xs × (f x ≡ y)
-from_map f y [] i = absurd i
-from_map f y (x ∷ xs) (inl e) = (x, inl refl, e)
-from_map f y (x ∷ xs) (inr i) = let r = from_map f y xs i in (r.0, inr r.1, r.2)
 
 common_itself : (k : List ℕ) → common_prefix k k ≡ k
 common_itself [] = refl
@@ -116,8 +111,8 @@ module _ {X : Type 0} (key : X → List ℕ) where
     another q b r e no_child h n = absurd (omega arith)
     another q b r e (child c t no_child) h n = absurd (omega arith)
     another q b r e (child c t (child d u cs)) h n =
-        let s = from_map (λ x. common_prefix k (key x)) q (items_in (child c t (child d u cs))) (off_path key k q b r e c t d u cs h) in
-        (s.0, s.1, λ f. let g : q ++ [] ≡ q ++ b ∷ r = append-nil q ∙ sym s.2 ∙ ap (common_prefix k) f ∙ common_itself k ∙ e in let i : [] ≡ b ∷ r = cancel q [] (b ∷ r) g in cc, s.2)
+        let s = in_unmap (λ x. common_prefix k (key x)) q (items_in (child c t (child d u cs))) (off_path key k q b r e c t d u cs h) in
+        (s.0, s.1, λ f. let g : q ++ [] ≡ q ++ b ∷ r = append-nil q ∙ sym s.2 ∙ ap (common_prefix k) f ∙ common_itself k ∙ e in let i : [] ≡ b ∷ r = cancel_front q [] (b ∷ r) g in cc, s.2)
 
     up : (p prefix : List ℕ) (b : ℕ) (r rest : List ℕ) (cs : Forest X) → rest ≡ prefix ++ b ∷ r → k ≡ (p ++ prefix) ++ b ∷ r → IsCanonical key p (inner prefix cs)
         → ForestMeets (p ++ prefix) b r cs → TreeMeets p (inner prefix cs) rest
@@ -134,8 +129,8 @@ module _ {X : Type 0} (key : X → List ℕ) where
         inr (m, meet, omega (arith, length-append p prefix), λ x n v. w x (count cs) v.1 ∙ sym (ap (last_in (count cs) cs) d))
 
     mutual
-      pub meets : (p : List ℕ) (t : Tree X) → IsCanonical key p t → (rest : List ℕ) → k ≡ p ++ rest → Stored key k (items t) → TreeMeets p t rest
-      meets p (leaf x) h rest e (y, i, f) = inl (λ n. refl, λ z j a. a (only z j))
+      pub tree_meets : (p : List ℕ) (t : Tree X) → IsCanonical key p t → (rest : List ℕ) → k ≡ p ++ rest → Stored key k (items t) → TreeMeets p t rest
+      tree_meets p (leaf x) h rest e (y, i, f) = inl (λ n. refl, λ z j a. a (only z j))
         where
           only : (z : X) → IsIn z (x ∷ []) → key z ≡ k
           only z (inl g) = ap key (sym g) ∙ there y i f
@@ -144,17 +139,17 @@ module _ {X : Type 0} (key : X → List ℕ) where
               there y (inl j) f = ap key j ∙ f
               there y (inr j) f = absurd j
           only z (inr g) = absurd g
-      meets p (inner prefix cs) h rest e s =
+      tree_meets p (inner prefix cs) h rest e s =
           let d = deeper key k (p ++ prefix) cs h.1 s in
-          let f : rest ≡ prefix ++ d.0 ∷ d.1 = cancel p rest (prefix ++ d.0 ∷ d.1) (sym e ∙ d.2 ∙ append_assoc p prefix (d.0 ∷ d.1)) in
-          up p prefix d.0 d.1 rest cs f d.2 h (meets_in (p ++ prefix) cs h.1 d.0 d.1 d.2 s)
+          let f : rest ≡ prefix ++ d.0 ∷ d.1 = cancel_front p rest (prefix ++ d.0 ∷ d.1) (sym e ∙ d.2 ∙ append_assoc p prefix (d.0 ∷ d.1)) in
+          up p prefix d.0 d.1 rest cs f d.2 h (forest_meets (p ++ prefix) cs h.1 d.0 d.1 d.2 s)
 
-      pub meets_in : (q : List ℕ) (cs : Forest X) → AreCanonical key q cs → (b : ℕ) (r : List ℕ) → k ≡ q ++ b ∷ r → Stored key k (items_in cs) → ForestMeets q b r cs
-      meets_in q no_child h b r e s = absurd s.1
-      meets_in q (child c t cs) h b r e s =
+      pub forest_meets : (q : List ℕ) (cs : Forest X) → AreCanonical key q cs → (b : ℕ) (r : List ℕ) → k ≡ q ++ b ∷ r → Stored key k (items_in cs) → ForestMeets q b r cs
+      forest_meets q no_child h b r e s = absurd s.1
+      forest_meets q (child c t cs) h b r e s =
           let here = λ (f : b ≡ c) (i : IsIn s.0 (items t)). subst (λ a. ForestMeets q a r (child c t cs)) (sym f)
-          (on_child q c r (e ∙ ap (λ a. q ++ a ∷ r) f) t cs h (meets (q ++ c ∷ []) t h.0 r (e ∙ ap (λ a. q ++ a ∷ r) f ∙ sym (append_assoc q (c ∷ []) r)) (s.0, i, s.2))) in
-          let there = λ (i : IsIn s.0 (items_in cs)) (f : b ≡ c → ⊥). past_child q b r e c f t cs h (meets_in q cs h.2 b r e (s.0, i, s.2)) in
+          (on_child q c r (e ∙ ap (λ a. q ++ a ∷ r) f) t cs h (tree_meets (q ++ c ∷ []) t h.0 r (e ∙ ap (λ a. q ++ a ∷ r) f ∙ sym (append_assoc q (c ∷ []) r)) (s.0, i, s.2))) in
+          let there = λ (i : IsIn s.0 (items_in cs)) (f : b ≡ c → ⊥). past_child q b r e c f t cs h (forest_meets q cs h.2 b r e (s.0, i, s.2)) in
           elim (in_cases s.0 (items t) (items_in cs) s.1) [
             | inl i ↦ here (one_byte q b c k (goes_on key k q b r e) (subst (BeginsWith (q ++ c ∷ [])) s.2 (all_at (λ x. BeginsWith (q ++ c ∷ []) (key x)) s.0 (items t) (begin key (q ++ c ∷ []) t h.0) i))) i
             | inr i ↦ there i (λ f. all_at (λ x. BeginsWith (q ++ c ∷ []) (key x) → ⊥) s.0 (items_in cs) (not_among_others key q c cs h.1 h.2) i
@@ -163,7 +158,7 @@ module _ {X : Type 0} (key : X → List ℕ) where
 
   -- the width of the longest front that k shares is the number of children of the node above k's leaf
   pub above_is_width : (t : Tree X) → IsCanonical key [] t → (k m : List ℕ) → Stored key k (items t) → IsMeeting key (items t) k m → (n : ℕ) → width_of key (items t) m ≡ last_count n t k
-  above_is_width t h k m s meet n = go (meets k [] t h k refl s)
+  above_is_width t h k m s meet n = go (tree_meets k [] t h k refl s)
     where
       go : TreeMeets k [] t k → width_of key (items t) m ≡ last_count n t k
       go (inl a) = absurd (a.1 meet.0.0 meet.0.1 meet.0.2)
@@ -176,7 +171,7 @@ module _ {X : Type 0} (key : X → List ℕ) where
   in_middle front x back = in_right x front (x ∷ back) (inl refl)
 
   -- without the one item of a key, an ascending list is one list
-  same_rest : (x y : X) → key y ≡ key x → (front back front' back' : List X) → IsAscending key (front ++ x ∷ back) → front ++ x ∷ back ≡ front' ++ y ∷ back' → front ++ back ≡ front' ++ back'
+  same_rest : (x y : X) → key y ≡ key x → (front back front' back' : List X) → AscendsByKey key (front ++ x ∷ back) → front ++ x ∷ back ≡ front' ++ y ∷ back' → front ++ back ≡ front' ++ back'
   same_rest x y e [] back [] back' h f = cc
   same_rest x y e [] back (z ∷ front') back' h f =
       let a : x ≡ z = cc in
@@ -208,7 +203,7 @@ module _ {X : Type 0} (key : X → List ℕ) where
           only z (inl g) = ap key (sym g) ∙ f
           only z (inr g) = absurd g
       go (removed y e v k put nodes) =
-          let same : items u ≡ items v = a ∙ same_rest x y e front back put.0 put.1 (subst (IsAscending key) b (ascending key [] t h)) (sym b ∙ put.3) ∙ sym put.2 in
+          let same : items u ≡ items v = a ∙ same_rest x y e front back put.0 put.1 (subst (AscendsByKey key) b (ascending key [] t h)) (sym b ∙ put.3) ∙ sym put.2 in
           let tree = same_tree u v j k same in
           let w = above_is_width t h (key x) m (x, stored, refl) meet 0 in
           subst (λ n. Loses test (nodes_with test t) (nodes_with test u) n) (sym w)

@@ -1,12 +1,15 @@
 -- The way of a key down a tree: where it turns at a node, and the one leaf at which it can end.
-use Rattle.std.specs.Prelude.{◌≡◌, ℕ, ◌+◌, ◌≤◌, ◌⊎◌, Bool, true, List, [], ◌∷◌, ◌++◌, length, take, filter, get_or}
-use Rattle.std.specs.Prelude.{Option, Some, None}
-use Rattle.art_bytes.specs.Keys.{BeginsWith}
+use Rattle.std.specs.Prelude.{◌≡◌, ℕ, ◌+◌, ◌-◌, ◌^◌, ◌≤◌, ◌⊎◌, min, Bool, true, List, [], ◌∷◌, ◌++◌, length}
+use Rattle.std.specs.Prelude.{take, filter, get_or, Option, Some, None}
+use Rattle.std.specs.List.{AllByRecursion}
+use Rattle.art_bytes.specs.Keys.{BeginsWith, Conflict}
 use Rattle.art_nodes.specs.Name.{Name}
 use Rattle.art_nodes.specs.InnerNode.{InnerNode, child_at}
 use Rattle.art_nodes.specs.declared.leaf.LeafNode.{LeafNode}
+use Rattle.art_arena.specs.tree.Changes.{IsIn}
+use Rattle.art_arena.specs.tree.Paths.{path_of}
 use Rattle.art_arena.specs.arena.Cells.{Cell}
-use Rattle.art_arena.specs.arena.Shapes.{Shape, Branches, leaf_at, inner_at, children_at, LeafAt}
+use Rattle.art_arena.specs.arena.Shapes.{Shape, Branches, leaf_at, inner_at, children_at, erase, LeafAt}
 use Rattle.art_arena.specs.arena.Linked.{first_slot}
 use Rattle.art_arena.specs.arena.Context.{Frame, path_to}
 use Rattle.art_arena.specs.arena.Meaning.{IsSubtree}
@@ -29,6 +32,10 @@ GoesNoFurther key depth node =
     (length key ≤ depth + node.header.prefix_len)
     ⊎ (child_at node.children (get_or key (depth + node.header.prefix_len) 0) ≡ None)
 
+-- so many nodes were read as the key's path has; the greatest count stays
+abbrev pub ReadsPath : {K V : Type 0} → List ℕ → Shape K V → ℕ → ℕ → Type 0
+ReadsPath key s old new = new ≡ min (old + length (path_of (erase s) key)) (2 ^ 64 - 1)
+
 -- only fronts of the key pass the test
 abbrev pub TakesFronts : List ℕ → (List ℕ → Bool) → Type 0
 TakesFronts key test = (k : List ℕ) → test k ≡ true → BeginsWith k key
@@ -41,6 +48,13 @@ module _ {K V : Type 0} (bytes : K → List ℕ) where
   -- the slab key of the first of them
   abbrev pub leaf_where : (List ℕ → Bool) → List (LeafAt K V) → Option ℕ
   leaf_where test ls = first_slot (passing test ls) None
+
+  -- a leaf's key is a front of this one, or this one of it
+  abbrev pub HasConflict : List ℕ → List (LeafAt K V) → Type 0
+  HasConflict key ls = (l : LeafAt K V) × IsIn l ls × Conflict key (bytes l.key)
+
+  abbrev pub NoConflict : List ℕ → List (LeafAt K V) → Type 0
+  NoConflict key ls = AllByRecursion (λ l. Conflict key (bytes l.key) → ⊥) ls
 
   -- these leaves, each with the steps to it
   abbrev pub located_where : (List ℕ → Bool) → List (Located K V) → List (Located K V)

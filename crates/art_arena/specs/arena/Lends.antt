@@ -22,5 +22,5 @@ with_leaf_value arena slot value = with_value_in arena slot (get arena.leaves sl
 
 module _ (K V P : RattleType) (arena : MutBor (Arena K.Denot V.Denot)) (slot : ℕ) where
   -- once the borrow r ends, the leaf has the last value written through r
-  abbrev pub lends_value : MutBor V.Denot → Fml
-  lends_value r = Lends (the_row K V P) V arena r (with_leaf_value arena.now slot)
+  abbrev pub lends_leaf_value : MutBor V.Denot → Fml
+  lends_leaf_value r = Lends (the_row K V P) V arena r (with_leaf_value arena.now slot)

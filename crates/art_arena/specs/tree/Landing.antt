@@ -21,7 +21,7 @@ pass (a ∷ prefix) (b ∷ k) = if a == b then pass prefix k else differs
 -- no child for its byte
 pub data Landing (X : Type 0) : Type 0 where
   on_leaf : X → Landing X
-  is_front : Landing X
+  begins_all : Landing X
   splits_prefix : Landing X
   lacks_child : ℕ → Landing X
 
@@ -30,7 +30,7 @@ abbrev mutual
   pub landing : {X : Type 0} → Tree X → List ℕ → Landing X
   landing (leaf x) k = on_leaf x
   landing (inner prefix children) k =
-      elim (pass prefix k) [ ends ↦ is_front | differs ↦ splits_prefix | passes b rest ↦ landing_in children b rest ]
+      elim (pass prefix k) [ ends ↦ begins_all | differs ↦ splits_prefix | passes b rest ↦ landing_in children b rest ]
 
   pub landing_in : {X : Type 0} → Forest X → ℕ → List ℕ → Landing X
   landing_in no_child b k = lacks_child b
@@ -39,6 +39,6 @@ abbrev mutual
 -- the key is a front of a stored one, or that of the key
 abbrev pub EndsInConflict : {X : Type 0} → (X → List ℕ) → List ℕ → Landing X → Type 0
 EndsInConflict key k (on_leaf x) = Conflict k (key x)
-EndsInConflict key k is_front = Unit {0}
+EndsInConflict key k begins_all = Unit {0}
 EndsInConflict key k splits_prefix = ⊥
 EndsInConflict key k (lacks_child b) = ⊥

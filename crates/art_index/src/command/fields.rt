@@ -31,7 +31,7 @@ pub(crate) struct Fields {
 }
 
 impl Fields {
-    ghost use Rattle.art_index.specs.Parsed.{tenant_of, key_of};
+    ghost use Rattle.art_index.specs.Parsed.{tenant_in_place, key_in_place};
 
     /// Room for fields. What stands in it does not matter.
     pub(crate) fn new() -> Fields {
@@ -44,14 +44,14 @@ impl Fields {
     }
 
     pub(crate) fn tenant(&self) -> u32
-        ensures { result ≡ tenant_of self.now }
+        ensures { result ≡ tenant_in_place self.now }
     {
         let full = self.full_key.as_slice();
         u32::from_be_bytes([full[0], full[1], full[2], full[3]])
     }
 
     pub(crate) fn key(&self) -> &[u8]
-        ensures value { result.now ≡ key_of self.now }
+        ensures value { result.now ≡ key_in_place self.now }
         ensures short { length result.now ≤ 2045 }
     {
         &self.full_key.as_slice()[FRONT..]
@@ -59,8 +59,8 @@ impl Fields {
 
     /// The tenant's four bytes, and then the key.
     pub(crate) fn full_key(&self) -> &[u8]
-        ensures value { result.now ≡ full_key_of (tenant_of self.now) (key_of self.now) }
-        ensures tenant { tenant_of self.now < 2 ^ 32 }
+        ensures value { result.now ≡ full_key_of (tenant_in_place self.now) (key_in_place self.now) }
+        ensures tenant { tenant_in_place self.now < 2 ^ 32 }
     {
         split_of(self.full_key.as_slice())
     }
@@ -74,7 +74,7 @@ impl Fields {
 
     /// Reads the tenant: false where the field is read as none.
     pub(crate) fn read_tenant(&mut self, field: &[u8]) -> bool
-        ensures read { IsRead result (tenant_of self.new) (tenant_in field.now) }
+        ensures read { IsRead result (tenant_in_place self.new) (tenant_in field.now) }
         ensures some { result ≡ true → 0 < length field.now }
     {
         let Some(tenant) = parse_tenant(field) else {
@@ -92,8 +92,8 @@ impl Fields {
     /// Reads the key, behind the tenant that is there: false where the field is read as no bytes.
     pub(crate) fn read_key(&mut self, field: &[u8]) -> bool
         requires { length field.now ≤ 4090 }
-        ensures read { IsRead result (key_of self.new) (bytes_in field.now) }
-        ensures tenant { tenant_of self.new ≡ tenant_of self.old }
+        ensures read { IsRead result (key_in_place self.new) (bytes_in field.now) }
+        ensures tenant { tenant_in_place self.new ≡ tenant_in_place self.old }
     {
         decode_bytes(field, &mut self.full_key, FRONT)
     }
@@ -102,8 +102,8 @@ impl Fields {
     pub(crate) fn read_value(&mut self, field: &[u8]) -> bool
         requires { length field.now ≤ 4090 }
         ensures read { IsRead result self.new.value.items (bytes_in field.now) }
-        ensures tenant { tenant_of self.new ≡ tenant_of self.old }
-        ensures key { key_of self.new ≡ key_of self.old }
+        ensures tenant { tenant_in_place self.new ≡ tenant_in_place self.old }
+        ensures key { key_in_place self.new ≡ key_in_place self.old }
     {
         decode_bytes(field, &mut self.value, 0)
     }

@@ -6,7 +6,7 @@ ghost use Rattle.std.specs.Prelude.{◌≡◌, ◌+◌, ◌≤◌, ◌∷◌, le
 ghost use Rattle.art_index.specs.Commands.{fields_of};
 ghost use Rattle.art_index.specs.Reading.{key_in, key_and_value_in};
 ghost use Rattle.art_index.specs.InPlace.{fields_behind, IsRead};
-ghost use Rattle.art_index.specs.Parsed.{tenant_of, key_of};
+ghost use Rattle.art_index.specs.Parsed.{tenant_in_place, key_in_place};
 
 use crate::command::fields::Fields;
 use memchr::memchr;
@@ -14,7 +14,7 @@ use memchr::memchr;
 /// Reads a tenant and a key. The key is not looked through for a space, which is no digit.
 pub(crate) fn read_key(rest: Option<&[u8]>, fields: &mut Fields) -> bool
     requires { IfSome rest (λ text. length text.now ≤ 4092) }
-    ensures { IsRead result (tenant_of fields.new, key_of fields.new)
+    ensures { IsRead result (tenant_in_place fields.new, key_in_place fields.new)
         (key_in (fields_behind (option_copied rest.entry))) }
 {
     let Some(text) = rest else {
@@ -33,7 +33,7 @@ pub(crate) fn read_key(rest: Option<&[u8]>, fields: &mut Fields) -> bool
 /// Reads a tenant, a key and a value. The value is not looked through for a space, which is no digit.
 pub(crate) fn read_key_and_value(rest: Option<&[u8]>, fields: &mut Fields) -> bool
     requires { IfSome rest (λ text. length text.now ≤ 4092) }
-    ensures { IsRead result (tenant_of fields.new, key_of fields.new, fields.new.value.items)
+    ensures { IsRead result (tenant_in_place fields.new, key_in_place fields.new, fields.new.value.items)
         (key_and_value_in (fields_behind (option_copied rest.entry))) }
 {
     let Some(text) = rest else {

@@ -14,7 +14,7 @@ use art_operations::{
 use std::ops::Index;
 
 impl<K: AsBytes, V, const PREFIX_LEN: usize> TreeMap<K, V, PREFIX_LEN> {
-    ghost use Rattle.art_map.specs.Contents.{first_of, has_bytes, HasLeaf, is_front, last_of};
+    ghost use Rattle.art_map.specs.Contents.{first_of, has_bytes, HasLeafAt, is_front, last_of};
     ghost use Rattle.art_map.specs.Found.{IsAt, IsFound, HasPairAt};
     ghost use Rattle.art_map.specs.Lends.{lends_get, lends_value_at};
 
@@ -60,7 +60,7 @@ impl<K: AsBytes, V, const PREFIX_LEN: usize> TreeMap<K, V, PREFIX_LEN> {
 
     // The pair of a leaf.
     fn pair_at(&self, leaf: LeafPtr) -> (&K, &V)
-        requires { HasLeaf self.now leaf }
+        requires { HasLeafAt self.now leaf }
         ensures { HasPairAt self.now leaf (deref_pair result) }
     {
         self.arena.as_key_value_ref(leaf)
@@ -68,7 +68,7 @@ impl<K: AsBytes, V, const PREFIX_LEN: usize> TreeMap<K, V, PREFIX_LEN> {
 
     // The key of a leaf, and its value for writing.
     fn pair_mut_at(&mut self, leaf: LeafPtr) -> (&K, &mut V)
-        requires { HasLeaf self.old leaf }
+        requires { HasLeafAt self.old leaf }
         ensures* writes_back { sem 𝓛 (lends_value_at K.row V.row PREFIX_LEN.row K.AsBytes self.entry leaf result.1) }
         ensures value { HasPairAt self.old leaf (deref_pair_mut result) }
     {

@@ -2,7 +2,7 @@
 ghost use Rattle.std.specs.Prelude.{◌≡◌, length};
 ghost use Rattle.std.specs.Map.{keys_of, values_of};
 ghost use Rattle.art_arena.specs.arena.Shapes.{key_of};
-ghost use Rattle.art_arena.specs.tree.Order.{IsAscending};
+ghost use Rattle.art_arena.specs.tree.Order.{AscendsByKey};
 ghost use Rattle.art_map.specs.Walked.{IsWalkOf};
 
 use crate::map::TreeMap;
@@ -27,7 +27,7 @@ impl<K: AsBytes, V, const PREFIX_LEN: usize> TreeMap<K, V, PREFIX_LEN> {
     /// The pairs, ascending by the bytes of their keys, from either end.
     pub fn iter(&self) -> Iter<'_, K, V, PREFIX_LEN>
         ensures rest { result ≡ self.now.pairs }
-        ensures ordered { IsAscending (key_of K.bytes) self.now.pairs }
+        ensures ordered { AscendsByKey (key_of K.bytes) self.now.pairs }
     {
         let walk = self.walk();
         let len = self.len();

@@ -1,5 +1,5 @@
 -- What the laws of the kinds stand on. Nothing here is a definition.
-use Rattle.std.proofs.Common.{◌≢◌, ◌<◌, ap, subst, arith}
+use Rattle.std.proofs.Common.{◌≢◌, ◌<◌, subst, arith}
 use Rattle.art_nodes.specs.declared.kind.NodeType.{NodeType}
 use Rattle.art_nodes.specs.declared.kind.NodeType.TheVariants.{Leaf}
 use Rattle.art_nodes.specs.Kind.{row_of}

@@ -49,13 +49,13 @@ module _ {K V : Type 0} (bytes : K → List ℕ) where
         pub kinds : HasKinds shape
 
       -- a leaf with this slab key has a key of these bytes
-      abbrev pub HasKey : ℕ → List ℕ → Type 0
-      HasKey slot key = (k : K) × (v : V) × (at (leaf_name slot) ≡ Some (pair k v)) × (bytes k ≡ key)
+      abbrev pub LeafHasKey : ℕ → List ℕ → Type 0
+      LeafHasKey slot key = (k : K) × (v : V) × (at (leaf_name slot) ≡ Some (pair k v)) × (bytes k ≡ key)
 
       -- a shape stands at the place, and the first leaf below is as told
-      pub record StandsAt (place : Place) : Type 0 where
+      pub record StandsAsTold (place : Place) : Type 0 where
         pub below : HasShape place.name
-        pub first : HasKey place.first (first_key below.shape)
+        pub first : LeafHasKey place.first (first_key below.shape)
         pub deep : place.depth ≤ length (first_key below.shape)
 
       -- each node below the name fits, where so many bytes lead there
@@ -72,7 +72,7 @@ module _ {K V : Type 0} (bytes : K → List ℕ) where
 
       -- what is left to be seen is whether all fits at these places, which are those of the children
       pub record Await (e : ℕ) (key : List ℕ) (children : List (ℕ × Name)) (places : List Place) : Type 0 where
-        pub stand : AllByRecursion StandsAt places
+        pub stand : AllByRecursion StandsAsTold places
         pub names : placed places ≡ names_of children
         pub enough : AllByRecursion FitAt places → AllByRecursion (ChildFits e key) children
         pub needed : AllByRecursion (ChildFits e key) children → AllByRecursion FitAt places
@@ -83,7 +83,7 @@ module _ {K V : Type 0} (bytes : K → List ℕ) where
         pub held : at place.name ≡ Some (branches node)
         pub places : List Place
         pub wait : new ≡ old ++ places
-        pub stand : AllByRecursion StandsAt places
+        pub stand : AllByRecursion StandsAsTold places
         pub names : placed places ≡ names_of node.children
         pub enough : AllByRecursion FitAt places → FitAt place
         pub needed : FitAt place → AllByRecursion FitAt places

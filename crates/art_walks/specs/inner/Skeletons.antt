@@ -17,9 +17,9 @@ module _ {K V : Type 0} where
     HaveKinds (branch byte s rest) = HasKinds s × HaveKinds rest
 
   -- the names of cells
-  abbrev pub named : List (Name × Cell K V) → List Name
-  named [] = []
-  named (c ∷ rest) = c.0 ∷ named rest
+  abbrev pub cell_names : List (Name × Cell K V) → List Name
+  cell_names [] = []
+  cell_names (c ∷ rest) = c.0 ∷ cell_names rest
 
   -- a shape that stands below the root, whose cells have these names in order
   pub record IsSkeleton (P : ℕ) (at : Name → Option (Cell K V)) (root : Name) (names : List Name) : Type 0 where
@@ -27,4 +27,4 @@ module _ {K V : Type 0} where
     pub root_is : name_of shape ≡ root
     pub held : AreHeld at (cells P shape)
     pub kinds : HasKinds shape
-    pub names_are : named (cells P shape) ≡ names
+    pub names_are : cell_names (cells P shape) ≡ names

@@ -1,7 +1,7 @@
 -- The leaves among the names that a check met, by their slab keys, and how they are linked.
 use Rattle.std.specs.Prelude.{◌≡◌, ℕ, List, [], ◌∷◌, Option, Some, None}
 use Rattle.art_nodes.specs.declared.kind.NodeType.{NodeType}
-use Rattle.art_nodes.specs.declared.kind.NodeType.TheVariants.{Node4, Node16, Node48, Node256, Leaf}
+use Rattle.art_nodes.specs.declared.kind.NodeType.TheVariants.{Leaf}
 use Rattle.art_nodes.specs.Name.{Name}
 use Rattle.art_arena.specs.arena.Linked.{Links}
 use Rattle.art_walks.specs.declared.checker.links.Last.{Last}
@@ -9,10 +9,7 @@ use Rattle.art_walks.specs.declared.checker.links.Last.{Last}
 -- the slab key of a leaf, before those of others
 abbrev pub with_slot : NodeType → ℕ → List ℕ → List ℕ
 with_slot Leaf slot slots = slot ∷ slots
-with_slot Node4 slot slots = slots
-with_slot Node16 slot slots = slots
-with_slot Node48 slot slots = slots
-with_slot Node256 slot slots = slots
+with_slot kind slot slots = slots
 
 -- the slab keys of the leaves among some names
 abbrev pub leaf_slots : List Name → List ℕ

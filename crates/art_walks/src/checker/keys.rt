@@ -7,8 +7,8 @@ ghost use Rattle.std.specs.List.{AllByRecursion};
 ghost use Rattle.art_arena.specs.arena.Arena.{node_at};
 ghost use Rattle.art_arena.specs.arena.Meaning.{IsPart};
 ghost use Rattle.art_arena.specs.arena.Shapes.{Shape};
-ghost use Rattle.art_walks.specs.inner.Fillings.{Await, ChildFits, FitAt, FitBelow, first_key, HasKey, HasShape, Opens};
-ghost use Rattle.art_walks.specs.inner.Fillings.{StandsAt};
+ghost use Rattle.art_walks.specs.inner.Fillings.{Await, ChildFits, FitAt, FitBelow, first_key, HasShape, LeafHasKey};
+ghost use Rattle.art_walks.specs.inner.Fillings.{Opens, StandsAsTold};
 
 use art_arena::{LeafPtr, NodeArena};
 use art_bytes::AsBytes;
@@ -58,7 +58,7 @@ fn first_below<K: AsBytes, V, const PREFIX_LEN: usize>(
 ) -> LeafPtr
     requires { HasShape K.bytes PREFIX_LEN (node_at arena.now) name }
     ensures { (s : Shape K V) → IsPart PREFIX_LEN (node_at arena.now) name s
-        → HasKey K.bytes PREFIX_LEN (node_at arena.now) result (first_key K.bytes s) }
+        → LeafHasKey K.bytes PREFIX_LEN (node_at arena.now) result (first_key K.bytes s) }
 {
     let mut current = name;
     'down: loop {
@@ -78,7 +78,7 @@ fn node_fits<K: AsBytes, V, const PREFIX_LEN: usize>(
     place: Place,
     waiting: &mut Vec<Place>,
 ) -> Result<bool, AllocError>
-    requires stands { StandsAt K.bytes PREFIX_LEN (node_at arena.now) place }
+    requires stands { StandsAsTold K.bytes PREFIX_LEN (node_at arena.now) place }
     requires inner { place.name.kind ≢ NodeType.Leaf }
     ensures { IfOk result (λ fits. MatchBool fits
         (Opens K.bytes PREFIX_LEN (node_at arena.now) place waiting.old.items waiting.new.items)
@@ -102,8 +102,8 @@ fn key_at<K: AsBytes, V, const PREFIX_LEN: usize>(
     arena: &NodeArena<K, V, PREFIX_LEN>,
     leaf: LeafPtr,
 ) -> &[u8]
-    requires { (key : List ℕ) × HasKey K.bytes PREFIX_LEN (node_at arena.now) leaf key }
-    ensures { (key : List ℕ) → HasKey K.bytes PREFIX_LEN (node_at arena.now) leaf key → result.now ≡ key }
+    requires { (key : List ℕ) × LeafHasKey K.bytes PREFIX_LEN (node_at arena.now) leaf key }
+    ensures { (key : List ℕ) → LeafHasKey K.bytes PREFIX_LEN (node_at arena.now) leaf key → result.now ≡ key }
 {
     arena.as_key_ref(leaf).as_bytes()
 }
@@ -120,7 +120,7 @@ fn children_fit<K: AsBytes, V, const PREFIX_LEN: usize>(
 ) -> Result<bool, AllocError>
     requires stand { AllByRecursion (λ c. HasShape K.bytes PREFIX_LEN (node_at arena.now) c.1) children }
     requires within { end ≤ length key.now }
-    requires is_key { HasKey K.bytes PREFIX_LEN (node_at arena.now) first key.now }
+    requires is_key { LeafHasKey K.bytes PREFIX_LEN (node_at arena.now) first key.now }
     requires is_first { (c : ℕ × Name) (rest : List (ℕ × Name)) (s : Shape K V) → children ≡ c ∷ rest
         → IsPart PREFIX_LEN (node_at arena.now) c.1 s → first_key K.bytes s ≡ key.now }
     ensures { IfOk result (λ fit. MatchBool fit

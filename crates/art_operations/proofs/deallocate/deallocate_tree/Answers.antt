@@ -1,4 +1,4 @@
-use Rattle.std.proofs.Common.{◌≡◌, ◌+◌, ◌∙◌, sym, ap, lit<, arith}
+use Rattle.std.proofs.Common.{lit<, arith}
 use Rattle.art_operations.proofs.FreedAll.{all-part, all-kept, leaves-gone}
 use Rattle.art_operations.proofs.deallocate.deallocate_tree.Goals as goal
 

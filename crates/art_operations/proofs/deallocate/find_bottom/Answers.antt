@@ -1,8 +1,8 @@
-use Rattle.std.proofs.Common.{◌≡◌, ◌≢◌, ap, sym, ◌∙◌, refl, lit<}
+use Rattle.std.proofs.Common.{◌≢◌, sym, ◌∙◌, refl, lit<}
 use Rattle.art_nodes.specs.declared.kind.NodeType.TheVariants.{Leaf}
-use Rattle.art_nodes.specs.InnerNode.{InnerNode, first_child}
+use Rattle.art_nodes.specs.InnerNode.{first_child}
 use Rattle.art_operations.proofs.Door.{read_at}
-use Rattle.art_operations.proofs.FreeSteps.{first-start, first-step, first-leaf}
+use Rattle.art_operations.proofs.FreeSteps.{first-start, first-step}
 use Rattle.art_operations.proofs.deallocate.find_bottom.Goals as goal
 
 pub down-init : goal.down-init

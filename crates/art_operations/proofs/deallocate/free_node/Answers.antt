@@ -1,4 +1,4 @@
-use Rattle.std.proofs.Common.{◌≡◌, ◌≢◌, lit<}
+use Rattle.std.proofs.Common.{◌≢◌, lit<}
 use Rattle.art_nodes.specs.declared.kind.NodeType.TheVariants.{Leaf}
 use Rattle.art_operations.proofs.FreeSteps.{part-inner, node_in}
 use Rattle.art_operations.proofs.deallocate.free_node.Goals as goal

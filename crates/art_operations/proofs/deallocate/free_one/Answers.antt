@@ -1,4 +1,4 @@
-use Rattle.std.proofs.Common.{◌≡◌, ◌≢◌, ap, sym, subst, ◌∙◌, length, lit<}
+use Rattle.std.proofs.Common.{◌≢◌, ap, sym, subst, ◌∙◌, length, lit<}
 use Rattle.art_nodes.specs.declared.kind.NodeType.TheVariants.{Leaf}
 use Rattle.art_nodes.specs.InnerNode.{InnerNode, IsAscending, last_child}
 use Rattle.art_operations.proofs.Door.{read_at}

@@ -1,6 +1,6 @@
-use Rattle.std.proofs.Common.{◌≡◌, sym, ◌∙◌, lit<}
+use Rattle.std.proofs.Common.{sym, ◌∙◌, lit<}
 use Rattle.art_nodes.proofs.ChildLemmas.{is_true-eq}
-use Rattle.art_operations.proofs.FreedRuns.{run-start, run-held, run-less, run-kept, run-over, run-next, run-goes-on, run-end}
+use Rattle.art_operations.proofs.FreedRuns.{run-start, run-held, run-less, run-over, run-next, run-goes-on, run-end}
 use Rattle.art_operations.proofs.deallocate.free_run.Goals as goal
 
 pub run-init : goal.run-init

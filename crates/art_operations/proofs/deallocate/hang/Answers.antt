@@ -1,4 +1,4 @@
-use Rattle.std.proofs.Common.{◌≡◌, ◌++◌, inr, refl, sym, lit<}
+use Rattle.std.proofs.Common.{◌++◌, inr, lit<}
 use Rattle.art_operations.specs.Frees.{cells_with}
 use Rattle.art_operations.proofs.Hanging.{both-other, bottom-part, hung-alone, kept-alone, above_node, above_there, above_child, above_inner, hung-below, kept-below}
 use Rattle.art_operations.proofs.deallocate.hang.Goals as goal

@@ -1,7 +1,7 @@
 use Rattle.std.proofs.Common.{ap, refl, ◌∙◌}
 use Rattle.std.proofs.lemmas.Bool.{false_from_ne_true}
 use Rattle.art_arena.specs.tree.Tenants.{begins_with}
-use Rattle.art_arena.proofs.shapes.FoundLeaves.{takes_front, passes, fails, misses}
+use Rattle.art_arena.proofs.shapes.FoundLeaves.{takes_front, leaf_passes, leaf_fails, misses}
 use Rattle.art_arena.proofs.tree.Parts.{begins_same}
 use Rattle.art_arena.proofs.shapes.Prefixes.{begins_of, begins_not}
 use Rattle.art_arena.proofs.tree.Tenants.{begins_true}
@@ -11,14 +11,14 @@ pub returns-then-starts_with-clause-value : goal.returns-then-starts_with-clause
 returns-then-starts_with-clause-value g c = λ s tree.
     let stored = g.K.AsBytes.bytes c.in-Some.landed.leaf.now.key in
     let front = c.as_bytes.ensures.value ∙ ap g.K.AsBytes.bytes c.key_ref.ensures in
-    passes g.K.AsBytes.bytes c.args.key.now s _ _ _ (c.in-Some.ensures.lands s tree) _ (takes_front c.args.key.now)
+    leaf_passes g.K.AsBytes.bytes c.args.key.now s _ _ _ (c.in-Some.ensures.lands s tree) _ (takes_front c.args.key.now)
     (begins_same stored c.args.key.now (begins_of c.starts_with.result _ c.args.key.now _ stored refl front c.starts_with.ensures.value c.if-starts_with.true))
 
 pub returns-else-starts_with-clause-value : goal.returns-else-starts_with-clause-value
 returns-else-starts_with-clause-value g c = λ s tree.
     let stored = g.K.AsBytes.bytes c.in-Some.landed.leaf.now.key in
     let front = c.as_bytes.ensures.value ∙ ap g.K.AsBytes.bytes c.key_ref.ensures in
-    fails g.K.AsBytes.bytes c.args.key.now s _ _ _ (c.in-Some.ensures.lands s tree) _ (takes_front c.args.key.now)
+    leaf_fails g.K.AsBytes.bytes c.args.key.now s _ _ _ (c.in-Some.ensures.lands s tree) _ (takes_front c.args.key.now)
     (false_from_ne_true (begins_with stored c.args.key.now) (λ passed. begins_not c.starts_with.result _ c.args.key.now _ stored refl front c.starts_with.ensures.value c.if-starts_with.false (begins_true stored c.args.key.now passed)))
 
 pub returns-in-None-clause-value : goal.returns-in-None-clause-value

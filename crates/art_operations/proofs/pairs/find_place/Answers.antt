@@ -1,5 +1,5 @@
 use Rattle.std.proofs.Common.{arith}
-use Rattle.art_operations.proofs.HeldPairs.{some-tree, placed, blocked-key}
+use Rattle.art_operations.proofs.HeldPairs.{some-tree, place_is_free, blocked-key}
 use Rattle.art_operations.proofs.pairs.find_place.Goals as goal
 
 pub find_insert_point-requires : goal.find_insert_point-requires
@@ -8,7 +8,7 @@ find_insert_point-requires g c =
 
 pub returns-in-Ok : goal.returns-in-Ok
 returns-in-Ok g c pairs rest has =
-    placed g.K.AsBytes.bytes g.row.PREFIX_LEN c.args.arena.now rest c.args.root c.in-Some.top c.in-Some.is c.args.key.now pairs has c.in-Ok.point c.in-Ok.ensures.answer
+    place_is_free g.K.AsBytes.bytes g.row.PREFIX_LEN c.args.arena.now rest c.args.root c.in-Some.top c.in-Some.is c.args.key.now pairs has c.in-Ok.point c.in-Ok.ensures.answer
 
 pub returns-in-Err : goal.returns-in-Err
 returns-in-Err g c pairs rest has =

@@ -9,7 +9,7 @@ use Rattle.art_operations.proofs.Door.{read_at}
 use Rattle.art_operations.proofs.Merges.{other_path, other_subtree, other_apart}
 use Rattle.art_operations.proofs.Results.{both_ok, from_err, either_way}
 use Rattle.art_operations.proofs.NewNodes.{fewer}
-use Rattle.art_operations.proofs.TakenOut.{node, others, node_there, node_inner, node_count, puts_leaf_back, has_room, taken_out, taken_links, limit_kind, one, one_other, shorter, merged_out, merged_links}
+use Rattle.art_operations.proofs.TakenOut.{node, others, node_there, node_inner, node_count, puts_leaf_back, has_room_for_leaf, taken_out, taken_links, limit_kind, one, one_other, shorter, merged_out, merged_links}
 use Rattle.art_operations.proofs.delete.detach.take_out.Goals as goal
 use Rattle.art_operations.proofs.delete.detach.take_out.Goals.{After-num_children}
 
@@ -64,7 +64,7 @@ returns-then-num_children-eq2-clause-room g c = λ n room. c.merge.ensures.room 
 pub take_child-requires : goal.take_child-requires
 take_child-requires g c =
     let t = c.requires.1 in
-    (lit< tt, (node_inner g.K.AsBytes.bytes g.row.PREFIX_LEN c.args.arena.now c.args.parent c.args.byte c.args.leaf t, (node g.K.AsBytes.bytes g.row.PREFIX_LEN c.args.arena.now c.args.parent c.args.byte c.args.leaf t, node_there g.K.AsBytes.bytes g.row.PREFIX_LEN c.args.arena.now c.args.parent c.args.byte c.args.leaf t, rw c.to_opaque.ensures (puts_leaf_back g.K.AsBytes.bytes g.row.PREFIX_LEN c.args.arena.now c.args.parent c.args.byte c.args.leaf t), has_room g.K.AsBytes.bytes g.row.PREFIX_LEN c.args.arena.now c.args.parent c.args.byte c.args.leaf t)))
+    (lit< tt, (node_inner g.K.AsBytes.bytes g.row.PREFIX_LEN c.args.arena.now c.args.parent c.args.byte c.args.leaf t, (node g.K.AsBytes.bytes g.row.PREFIX_LEN c.args.arena.now c.args.parent c.args.byte c.args.leaf t, node_there g.K.AsBytes.bytes g.row.PREFIX_LEN c.args.arena.now c.args.parent c.args.byte c.args.leaf t, rw c.to_opaque.ensures (puts_leaf_back g.K.AsBytes.bytes g.row.PREFIX_LEN c.args.arena.now c.args.parent c.args.byte c.args.leaf t), has_room_for_leaf g.K.AsBytes.bytes g.row.PREFIX_LEN c.args.arena.now c.args.parent c.args.byte c.args.leaf t)))
 
 pub returns-clause-ok : goal.returns-clause-ok
 returns-clause-ok g c =

@@ -1,7 +1,7 @@
 use Rattle.std.proofs.Common.{◌≡◌, ◌+◌, ◌≤◌, length, refl, ap, ◌∙◌, arith, lit<}
 use Rattle.art_nodes.specs.InnerNode.{InnerNode}
 use Rattle.art_arena.specs.arena.Prefixes.{prefix_of}
-use Rattle.art_arena.proofs.shapes.Prefixes.{header_of, first_leaf, read}
+use Rattle.art_arena.proofs.shapes.Prefixes.{header_there, first_leaf, read}
 use Rattle.art_operations.proofs.PutBack.{same_inner}
 use Rattle.art_operations.proofs.delete.merge.prefixes_fit.Goals as goal
 
@@ -14,7 +14,7 @@ as_key_ref-requires g c =
 pub returns : goal.returns
 returns g c = λ n there.
     let r = c.requires.behind in
-    let h = header_of g.K.AsBytes.bytes g.row.PREFIX_LEN c.args.arena.now c.args.child r.0 r.1 r.2 c.requires.inner in
+    let h = header_there g.K.AsBytes.bytes g.row.PREFIX_LEN c.args.arena.now c.args.child r.0 r.1 r.2 c.requires.inner in
     let first = first_leaf g.K.AsBytes.bytes g.row.PREFIX_LEN c.args.arena.now c.args.child r.0 r.1 c.first_leaf-leaf.result r.2 (c.first_leaf-leaf.ensures r.0 r.1 r.2) in
     let len : n.header.prefix_len ≡ length (prefix_of r.1) = ap (λ (m : InnerNode). m.header.prefix_len) (same_inner _ n h.node there h.there) ∙ h.len in
     let key : c.as_bytes-key.result.now ≡ g.K.AsBytes.bytes first.leaf.key = c.as_bytes-key.ensures.value ∙ ap g.K.AsBytes.bytes (c.as_key_ref.ensures first.leaf first.there) in

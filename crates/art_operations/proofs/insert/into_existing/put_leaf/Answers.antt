@@ -7,7 +7,7 @@ use Rattle.art_arena.specs.arena.Context.{leaves_before, leaves_after}
 use Rattle.art_arena.specs.arena.Linked.{IsBeside}
 use Rattle.art_arena.proofs.shapes.Subtrees.{inner_of}
 use Rattle.art_arena.proofs.shapes.Updates.{links-kept}
-use Rattle.art_operations.proofs.Waiting.{open_node, node-held, node-inner, as_many, put}
+use Rattle.art_operations.proofs.Waiting.{open_node, node-held, node-inner, as_many, child_was_put}
 use Rattle.art_operations.proofs.insert.into_existing.put_leaf.Goals as goal
 
 pub neighbour_at-neighbour-requires : goal.neighbour_at-neighbour-requires
@@ -44,7 +44,7 @@ returns-clause-put g c = λ root f outer l rest awaits kind.
     c.to_opaque.ensures (c.edit_inner.ensures.updates _ there) in
     let beside = subst (IsBeside (links_at c.args.arena.now) (leaves_before (f ∷ outer) ++ leaves_after (f ∷ outer))) awaits.leaf_is awaits.beside in
     let list = c.link_between.ensures.linked (leaves_before (f ∷ outer)) (leaves_after (f ∷ outer)) l beside (c.neighbour_at-neighbour.ensures _ _ _ _ _ _ awaits) awaits.leaf_is in
-    put _ _ _ _ _ _ _ _ _ _ awaits c.link_between.new.arena c.edit_inner.new.self c.link_between.ensures.nodes list update kind
+    child_was_put _ _ _ _ _ _ _ _ _ _ awaits c.link_between.new.arena c.edit_inner.new.self c.link_between.ensures.nodes list update kind
 
 pub returns-clause-others : goal.returns-clause-others
 returns-clause-others g c = λ root f outer l rest awaits n none.

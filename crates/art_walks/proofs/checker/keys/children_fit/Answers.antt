@@ -3,7 +3,7 @@ use Rattle.std.specs.List.{AllByRecursion}
 use Rattle.art_nodes.specs.Name.{Name}
 use Rattle.art_arena.specs.arena.Arena.{node_at}
 use Rattle.art_walks.specs.declared.checker.keys.Place.{Place}
-use Rattle.art_walks.specs.inner.Fillings.{HasShape, HasKey, ChildFits, Await, first_key}
+use Rattle.art_walks.specs.inner.Fillings.{HasShape, LeafHasKey, ChildFits, Await, first_key}
 use Rattle.art_walks.proofs.KeyWalks.{await-join, await-one, other_words}
 use Rattle.art_walks.proofs.checker.keys.children_fit.Goals as goal
 
@@ -19,7 +19,7 @@ returns-in_ok-push-in-Some g c =
     let deep = told.within refl in
     let same = ap length is_key in
     let place : Place = record { name = c.in-Some.child.1; depth = c.args.end + 1; first = c.args.first } in
-    let one = await-one bytes g.row.PREFIX_LEN at c.args.end c.args.key.now child c.args.first below (subst (HasKey bytes g.row.PREFIX_LEN at c.args.first) (sym is_key) c.requires.is_key)
+    let one = await-one bytes g.row.PREFIX_LEN at c.args.end c.args.key.now child c.args.first below (subst (LeafHasKey bytes g.row.PREFIX_LEN at c.args.first) (sym is_key) c.requires.is_key)
     (ap (take (c.args.end + 1)) is_key ∙ told.value.0 refl) (omega (arith, deep, same)) in
     other_words c.others_fit.result _ _ _ _
     (λ w. (

@@ -3,7 +3,7 @@ use Rattle.std.specs.List.{AllByRecursion}
 use Rattle.art_nodes.specs.Name.{Name}
 use Rattle.art_nodes.specs.InnerNode.{IsAscending}
 use Rattle.art_arena.specs.arena.Arena.{cell_of, node_at}
-use Rattle.art_walks.specs.inner.Fillings.{Await, ChildFits, first_key, HasKey, HasShape}
+use Rattle.art_walks.specs.inner.Fillings.{Await, ChildFits, first_key, LeafHasKey, HasShape}
 use Rattle.art_walks.proofs.KeyWalks.{children-stand, first-child-key, opens, unfit-short, unfit-stored, unfit-children, other_words}
 use Rattle.art_walks.proofs.checker.keys.node_fits.Goals as goal
 
@@ -51,7 +51,7 @@ children_fit-requires g c =
         (
           omega (arith, same, deep, short),
           (
-            subst (HasKey bytes g.row.PREFIX_LEN at c.args.place.first) (sym is_key) st.first,
+            subst (LeafHasKey bytes g.row.PREFIX_LEN at c.args.place.first) (sym is_key) st.first,
             λ x rest s e part. first-child-key bytes g.row.PREFIX_LEN at c.args.place.name st.below c.requires.inner c.inner-inner.result.node there x rest s (sym are ∙ e) part ∙ sym is_key,
           ),
         ),

@@ -4,7 +4,7 @@ use Rattle.art_arena.proofs.shapes.Measures.{slots_of, pair_there, nothing_there
 use Rattle.art_walks.specs.declared.malformed.MalformedTreeError.{MalformedTreeError}
 use Rattle.art_walks.specs.declared.malformed.MalformedTreeError.TheVariants.{WrongChildrenCount, Memory}
 use Rattle.art_walks.specs.Faults.{HasWrongCount, Stands}
-use Rattle.art_walks.proofs.NameWalks.{seen-more, seen-first, nearer, walk-begin, walk-end, walk-dead, walk-loop, walk-miscounted, walk-leaf, walk-inner, walk-few, IsWalk}
+use Rattle.art_walks.proofs.NameWalks.{seen-more, seen-first, nearer, walk-begin, walk-end, walk-dead, walk-loop, walk-miscounted, walk-leaf, walk-inner, walk-few, IsNameWalk}
 use Rattle.art_walks.proofs.Verdicts.{passed}
 use Rattle.art_walks.proofs.checker.names.names_below.Goals as goal
 
@@ -35,7 +35,7 @@ returns-then-not-branch-clause-err g c = λ bytes.
 pub loop-name-preserved-in_ok-open : goal.loop-name-preserved-in_ok-open
 loop-name-preserved-in_ok-open g c =
     let new = sym (c.loop-name.invariant.1 c.in-Some.name) ∙ unseen _ _ c.in_ok-note.ensures.new c.if-not-branch.false in (
-      subst (λ met. IsWalk (node_at c.args.arena.now) g.row.PREFIX_LEN c.args.root met c.open.new.waiting.items) (sym c.in_ok-push-2.ensures.items)
+      subst (λ met. IsNameWalk (node_at c.args.arena.now) g.row.PREFIX_LEN c.args.root met c.open.new.waiting.items) (sym c.in_ok-push-2.ensures.items)
           (walk-inner _ _ _ _ _ _ _ c.loop-name.invariant.0 c.in-Some.ensures.items new c.open.new.waiting.items c.in_ok-open.ensures.ok),
       seen-more _ _ _ _ _ c.in_ok-push-2.ensures.items c.loop-name.invariant.1 c.in_ok-note.ensures.noted,
     )
@@ -66,7 +66,7 @@ loop-name-preserved g c =
     let new = sym (c.loop-name.invariant.1 c.in-Some.name) ∙ unseen _ _ c.in_ok-note.ensures.new c.if-not-branch.false in
     let kind = c.if-not-is.ensures.0 refl in
     let there = pair_there c.args.arena.now c.in-Some.name (c.holds.ensures.0 c.if-not-holds.false) kind in (
-      subst (λ met. IsWalk (node_at c.args.arena.now) g.row.PREFIX_LEN c.args.root met c.pop.new.self.items) (sym c.in_ok-push-2.ensures.items)
+      subst (λ met. IsNameWalk (node_at c.args.arena.now) g.row.PREFIX_LEN c.args.root met c.pop.new.self.items) (sym c.in_ok-push-2.ensures.items)
           (walk-leaf _ _ _ _ _ _ _ c.loop-name.invariant.0 c.in-Some.ensures.items new there.0 there.1 there.2 kind),
       seen-more _ _ _ _ _ c.in_ok-push-2.ensures.items c.loop-name.invariant.1 c.in_ok-note.ensures.noted,
     )

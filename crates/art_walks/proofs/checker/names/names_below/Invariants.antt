@@ -3,12 +3,12 @@ use Rattle.art_nodes.specs.Name.{Name}
 use Rattle.art_arena.specs.arena.Arena.{node_at}
 use Rattle.art_arena.proofs.shapes.Measures.{slots_of}
 use Rattle.art_walks.specs.inner.Names.{has_name}
-use Rattle.art_walks.proofs.NameWalks.{IsWalk}
+use Rattle.art_walks.proofs.NameWalks.{IsNameWalk}
 use Rattle.art_walks.proofs.checker.names.names_below.Given as goal
 
 abbrev pub invariant-loop-name : goal.invariant-loop-name
 invariant-loop-name g l =
-    IsWalk (node_at l.arena) g.row.PREFIX_LEN l.fn.root l.met.items l.waiting.items × ((n : Name) → has_name n l.seen.keys ≡ has_name n l.met.items)
+    IsNameWalk (node_at l.arena) g.row.PREFIX_LEN l.fn.root l.met.items l.waiting.items × ((n : Name) → has_name n l.seen.keys ≡ has_name n l.met.items)
 
 abbrev pub decreases-loop-name : goal.decreases-loop-name
 decreases-loop-name g l = slots_of l.arena - length l.met.items

@@ -2,7 +2,7 @@ use Rattle.std.proofs.Common.{◌≡◌, ◌||◌, ◌&&◌, not, ℕ, Bool, tru
 use Rattle.std.specs.List.{list_any}
 use Rattle.art_walks.specs.inner.Names.{has_name}
 use Rattle.art_arena.specs.arena.Cells.{same_kind, same_name}
-use Rattle.art_arena.proofs.shapes.CellLists.{same_name_tells, same_name-self}
+use Rattle.art_arena.proofs.shapes.CellLists.{same_name_tells}
 use Rattle.art_nodes.specs.Name.{Name}
 use Rattle.art_nodes.specs.declared.kind.NodeType.{NodeType}
 use Rattle.art_walks.proofs.KindTests.{kinds_told}

@@ -1,7 +1,7 @@
 use Rattle.std.proofs.Common.{ℕ, refl, lit<}
 use Rattle.art_operations.proofs.delete.point.DeletePoint.apply.Given.{Over}
 use Rattle.art_arena.specs.arena.Shapes.{LeafAt}
-use Rattle.art_operations.proofs.Deleted.{front_of, back_of, still_listed, held_leaf, deleted, kept_beside}
+use Rattle.art_operations.proofs.Deleted.{leaves_in_front, leaves_at_back, still_listed, held_leaf, deleted, kept_beside}
 use Rattle.art_operations.proofs.Results.{always_err}
 use Rattle.art_operations.proofs.delete.point.DeletePoint.apply.Goals as goal
 
@@ -20,7 +20,7 @@ remove_self-requires g c =
     let r = c.requires in
     let leaf = leaf_of g c.args.self.leaf_node_ptr r.3.key r.3.value in
     let apart = c.in_ok-new_root.ensures.ok r.0 r.1 r.2.nodes r.3 in
-    (lit< tt, (front_of g.K.AsBytes.bytes g.row.PREFIX_LEN c.detach.new.arena r.1 r.0 leaf c.in_ok-new_root.new_root apart, leaf, back_of g.K.AsBytes.bytes g.row.PREFIX_LEN c.detach.new.arena r.1 r.0 leaf c.in_ok-new_root.new_root apart, still_listed g.K.AsBytes.bytes g.row.PREFIX_LEN c.detach.new.arena r.1 r.0 leaf c.args.arena.now c.args.root r.2 c.in_ok-new_root.ensures.links c.in_ok-new_root.new_root apart, refl))
+    (lit< tt, (leaves_in_front g.K.AsBytes.bytes g.row.PREFIX_LEN c.detach.new.arena r.1 r.0 leaf c.in_ok-new_root.new_root apart, leaf, leaves_at_back g.K.AsBytes.bytes g.row.PREFIX_LEN c.detach.new.arena r.1 r.0 leaf c.in_ok-new_root.new_root apart, still_listed g.K.AsBytes.bytes g.row.PREFIX_LEN c.detach.new.arena r.1 r.0 leaf c.args.arena.now c.args.root r.2 c.in_ok-new_root.ensures.links c.in_ok-new_root.new_root apart, refl))
 
 pub deallocate_node_ptr-deleted_leaf-requires : goal.deallocate_node_ptr-deleted_leaf-requires
 deallocate_node_ptr-deleted_leaf-requires g c =
@@ -32,7 +32,7 @@ pub returns-clause-ok : goal.returns-clause-ok
 returns-clause-ok g c = λ s rest tree place.
     let leaf = leaf_of g c.args.self.leaf_node_ptr place.key place.value in
     let apart = c.in_ok-new_root.ensures.ok s rest tree.nodes place in
-    let linked = c.remove_self.ensures.linked (front_of g.K.AsBytes.bytes g.row.PREFIX_LEN c.detach.new.arena rest s leaf c.in_ok-new_root.new_root apart) leaf (back_of g.K.AsBytes.bytes g.row.PREFIX_LEN c.detach.new.arena rest s leaf c.in_ok-new_root.new_root apart) (still_listed g.K.AsBytes.bytes g.row.PREFIX_LEN c.detach.new.arena rest s leaf c.args.arena.now c.args.root tree c.in_ok-new_root.ensures.links c.in_ok-new_root.new_root apart) refl in
+    let linked = c.remove_self.ensures.linked (leaves_in_front g.K.AsBytes.bytes g.row.PREFIX_LEN c.detach.new.arena rest s leaf c.in_ok-new_root.new_root apart) leaf (leaves_at_back g.K.AsBytes.bytes g.row.PREFIX_LEN c.detach.new.arena rest s leaf c.in_ok-new_root.new_root apart) (still_listed g.K.AsBytes.bytes g.row.PREFIX_LEN c.detach.new.arena rest s leaf c.args.arena.now c.args.root tree c.in_ok-new_root.ensures.links c.in_ok-new_root.new_root apart) refl in
     deleted g.K.AsBytes.bytes g.row.PREFIX_LEN c.detach.new.arena c.remove_self.new.arena c.deallocate_node_ptr-deleted_leaf.new.self s leaf c.args.arena.now c.args.root tree c.in_ok-new_root.ensures.links c.remove_self.ensures.nodes c.deallocate_node_ptr-deleted_leaf.result
     c.deallocate_node_ptr-deleted_leaf.ensures.value c.deallocate_node_ptr-deleted_leaf.ensures.updates c.in_ok-new_root.new_root apart linked
 
@@ -40,6 +40,6 @@ pub returns-clause-others : goal.returns-clause-others
 returns-clause-others g c = λ s rest tree place.
     let leaf = leaf_of g c.args.self.leaf_node_ptr place.key place.value in
     let apart = c.in_ok-new_root.ensures.ok s rest tree.nodes place in
-    let linked = c.remove_self.ensures.linked (front_of g.K.AsBytes.bytes g.row.PREFIX_LEN c.detach.new.arena rest s leaf c.in_ok-new_root.new_root apart) leaf (back_of g.K.AsBytes.bytes g.row.PREFIX_LEN c.detach.new.arena rest s leaf c.in_ok-new_root.new_root apart) (still_listed g.K.AsBytes.bytes g.row.PREFIX_LEN c.detach.new.arena rest s leaf c.args.arena.now c.args.root tree c.in_ok-new_root.ensures.links c.in_ok-new_root.new_root apart) refl in
+    let linked = c.remove_self.ensures.linked (leaves_in_front g.K.AsBytes.bytes g.row.PREFIX_LEN c.detach.new.arena rest s leaf c.in_ok-new_root.new_root apart) leaf (leaves_at_back g.K.AsBytes.bytes g.row.PREFIX_LEN c.detach.new.arena rest s leaf c.in_ok-new_root.new_root apart) (still_listed g.K.AsBytes.bytes g.row.PREFIX_LEN c.detach.new.arena rest s leaf c.args.arena.now c.args.root tree c.in_ok-new_root.ensures.links c.in_ok-new_root.new_root apart) refl in
     kept_beside g.K.AsBytes.bytes g.row.PREFIX_LEN c.detach.new.arena c.remove_self.new.arena c.deallocate_node_ptr-deleted_leaf.new.self s leaf c.args.arena.now c.args.root tree c.in_ok-new_root.ensures.links c.remove_self.ensures.nodes c.deallocate_node_ptr-deleted_leaf.result
     c.deallocate_node_ptr-deleted_leaf.ensures.value c.deallocate_node_ptr-deleted_leaf.ensures.updates c.in_ok-new_root.new_root apart linked c.remove_self.ensures.others
