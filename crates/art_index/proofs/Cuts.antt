@@ -4,6 +4,7 @@ use Rattle.art_index.specs.Records.{Records}
 use Rattle.art_index.specs.Refusals.{LineMayRefuse}
 use Rattle.art_index.specs.Outcome.{answer, left_by}
 use Rattle.art_index.specs.Faults.{IsCut, IsCutLine}
+use Rattle.art_index.specs.Gathered.{IsPartTaken}
 
 not_empty : (missing rest : List ℕ) → missing ≢ [] → missing ++ rest ≢ []
 not_empty [] rest some = absurd (some refl)
@@ -38,12 +39,6 @@ pub when_err : {T E P : Type 0} (r : Result T E) → P → OnErr r P
 when_err (Ok x) p = tt
 when_err (Err e) p = p
 
--- Of a text, a part was taken and a rest is left.
-pub record IsPartTaken (before now rest text : List ℕ) : Type 0 where
-  pub begun : List ℕ
-  pub parts : begun ++ rest ≡ text
-  pub told : now ≡ before ++ begun
-
 -- at first nothing is taken
 pub taken_none : (before rest text : List ℕ) → rest ≡ text → IsPartTaken before before rest text
 taken_none before rest text e = record { begun = []; parts = e; told = sym (append-nil before) }
@@ -58,6 +53,15 @@ taken_more before now now' part rest text t more = record {
   begun = t.begun ++ part;
   parts = append_assoc t.begun part rest ∙ t.parts;
   told = more ∙ ap (λ n. n ++ part) t.told ∙ append_assoc before t.begun part;
+}
+
+-- of a part that was left, some is taken and some is left
+pub taken_through : (before now now' part left rest text : List ℕ) → IsPartTaken before now (part ++ rest) text → IsPartTaken now now' left part → IsPartTaken before now' (left ++ rest) text
+taken_through before now now' part left rest text t more = record {
+  begun = t.begun ++ more.begun;
+  parts = append_assoc t.begun more.begun (left ++ rest) ∙ ap (λ p. t.begun ++ p) (sym (append_assoc more.begun left rest))
+      ∙ ap (λ p. t.begun ++ (p ++ rest)) more.parts ∙ t.parts;
+  told = more.told ∙ ap (λ n. n ++ more.begun) t.told ∙ append_assoc before t.begun more.begun;
 }
 
 -- where nothing is left, all is taken

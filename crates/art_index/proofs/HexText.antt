@@ -15,6 +15,11 @@ encode_lower-parts n bs front back first rest =
     ap encode_lower (sym (take-append-drop n bs)) ∙ encode_with-append lower_digits (take n bs) (drop n bs)
     ∙ ap (λ t. encode_lower t ++ encode_lower (drop n bs)) (sym first) ∙ ap (λ t. encode_lower front ++ encode_lower t) (sym rest)
 
+-- the digits of one byte more
+pub encode_lower-more : (bs : List ℕ) (b : ℕ) → encode_lower (bs ++ b ∷ []) ≡ encode_lower bs ++ slice_index lower_digits (b / 16) ∷ slice_index lower_digits (b % 16) ∷ []
+unfolding encode_with
+encode_lower-more bs b = encode_with-append lower_digits bs (b ∷ [])
+
 pub encode_lower-nil : encode_lower [] ≡ []
 unfolding encode_with
 encode_lower-nil = refl

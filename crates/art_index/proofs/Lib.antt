@@ -4,6 +4,7 @@ pub mod LineLemmas
 pub mod RunLemmas
 pub mod HexText
 pub mod Cuts
+pub mod Gathering
 pub mod Carrying
 pub mod CutRuns
 pub mod Replies

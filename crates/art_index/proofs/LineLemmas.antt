@@ -6,7 +6,7 @@ use Rattle.std.specs.Prelude.{◌==◌}
 use Rattle.art_index.specs.Progress.{NoNewline}
 use Rattle.std.proofs.lemmas.Bool.{eqb-true}
 use Rattle.std.specs.List.{onto_first}
-use Rattle.art_index.specs.Lines.{pieces_of, last_piece, all_but_last, whole_lines_of, unfinished_line_of}
+use Rattle.art_index.specs.Lines.{pieces_of, last_of, all_but_last, whole_lines_of, unfinished_line_of}
 
 -- the pieces with a byte behind the last
 abbrev onto_last : List (List ℕ) → ℕ → List (List ℕ)
@@ -58,17 +58,17 @@ pieces_of-byte (x ∷ xs) b other =
       | false ↦ ap (onto_first x) (pieces_of-byte xs b other) ∙ sym (onto_both x b (pieces_of xs) (some_pieces xs))
     ]
 
-last_of-append : (ps : List (List ℕ)) → last_piece (ps ++ [] ∷ []) ≡ []
+last_of-append : (ps : List (List ℕ)) → last_of (ps ++ [] ∷ []) ≡ []
 last_of-append [] = refl
 last_of-append (p ∷ []) = refl
 last_of-append (p ∷ q ∷ ps) = last_of-append (q ∷ ps)
 
-all_but_last-append : (ps : List (List ℕ)) → SomePieces ps → all_but_last (ps ++ [] ∷ []) ≡ all_but_last ps ++ last_piece ps ∷ []
+all_but_last-append : (ps : List (List ℕ)) → SomePieces ps → all_but_last (ps ++ [] ∷ []) ≡ all_but_last ps ++ last_of ps ∷ []
 all_but_last-append [] h = elim h [ ]
 all_but_last-append (p ∷ []) some = refl
 all_but_last-append (p ∷ q ∷ ps) some = ap (λ qs. p ∷ qs) (all_but_last-append (q ∷ ps) some)
 
-last_of-onto : (ps : List (List ℕ)) (b : ℕ) → SomePieces ps → last_piece (onto_last ps b) ≡ last_piece ps ++ b ∷ []
+last_of-onto : (ps : List (List ℕ)) (b : ℕ) → SomePieces ps → last_of (onto_last ps b) ≡ last_of ps ++ b ∷ []
 last_of-onto [] b h = elim h [ ]
 last_of-onto (p ∷ []) b some = refl
 last_of-onto (p ∷ q ∷ []) b some = refl
@@ -86,7 +86,7 @@ whole_lines_of-newline text = ap all_but_last (pieces_of-newline text) ∙ all_b
 
 pub unfinished_line_of-newline : (text : List ℕ) → unfinished_line_of (text ++ 10 ∷ []) ≡ []
 unfolding unfinished_line_of
-unfinished_line_of-newline text = ap last_piece (pieces_of-newline text) ∙ last_of-append (pieces_of text)
+unfinished_line_of-newline text = ap last_of (pieces_of-newline text) ∙ last_of-append (pieces_of text)
 
 pub whole_lines_of-byte : (text : List ℕ) (b : ℕ) → (b == 10) ≡ false → whole_lines_of (text ++ b ∷ []) ≡ whole_lines_of text
 unfolding whole_lines_of
@@ -94,7 +94,7 @@ whole_lines_of-byte text b other = ap all_but_last (pieces_of-byte text b other)
 
 pub unfinished_line_of-byte : (text : List ℕ) (b : ℕ) → (b == 10) ≡ false → unfinished_line_of (text ++ b ∷ []) ≡ unfinished_line_of text ++ b ∷ []
 unfolding unfinished_line_of
-unfinished_line_of-byte text b other = ap last_piece (pieces_of-byte text b other) ∙ last_of-onto (pieces_of text) b (some_pieces text)
+unfinished_line_of-byte text b other = ap last_of (pieces_of-byte text b other) ∙ last_of-onto (pieces_of text) b (some_pieces text)
 
 -- more bytes with no newline, one by one
 moved_on : (text : List ℕ) (b : ℕ) (part : List ℕ) → text ++ b ∷ part ≡ (text ++ b ∷ []) ++ part

@@ -20,7 +20,7 @@ use Rattle.art_index.specs.declared.placed.Placed.TheVariants as placed
 use Rattle.art_index.specs.Keys.{full_key, full_pair}
 use Rattle.art_index.specs.Words.{name, bytes}
 use Rattle.art_index.specs.Records.{Own, KeyRecord, Records, own, with_own, InOrder, KeyComesBefore, KeyFits}
-use Rattle.art_index.specs.Replies.{value_at, has_conflict, with_value_under, put_reply, puts, with_changed}
+use Rattle.art_index.specs.Replies.{value_at, has_conflict, with_pair, put_reply, puts, with_changed}
 use Rattle.art_index.specs.Stored.{Pair, record_of, records_of, IsFull, ArePairs, IsPutDone, placed_words}
 use Rattle.art_index.proofs.Conflicts.{bytes_of, blocked_told, free_told}
 use Rattle.art_index.proofs.Filters.{All-left, All-right}
@@ -106,7 +106,7 @@ module _ (t : ℕ) (k : List ℕ) (small : t < 2 ^ 32) where
 
 -- what a tenant holds with a value put at a key
 abbrev with_mine : List ℕ → List ℕ → Own → Own
-with_mine k v mine = record { keys = with_value_under k v mine.keys; numbers = mine.numbers }
+with_mine k v mine = record { keys = with_pair k v mine.keys; numbers = mine.numbers }
 
 -- Among some pairs one was put: they are as an index holds them, and their records are those with the tenant's key put.
 pub record IsPutAmong (t : ℕ) (k v : List ℕ) (old new : List Pair) : Type 0 where

@@ -13,3 +13,4 @@ pub mod InPlace
 pub mod Parsed
 pub mod Stored
 pub mod Progress
+pub mod Gathered

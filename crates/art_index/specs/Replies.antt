@@ -18,9 +18,8 @@ abbrev pub has_conflict : List ℕ → List (List ℕ × List ℕ) → Bool
 has_conflict key pairs = list_any (λ p. conflicts key p.0) pairs
 
 -- the pairs with a value at a key, which stands at its place in the order, and no other value at it
-abbrev pub with_value_under : List ℕ → List ℕ → List (List ℕ × List ℕ) → List (List ℕ × List ℕ)
-with_value_under key value pairs =
-    filter (λ p. is_below p.0 key) pairs ++ (key, value) ∷ filter (λ p. is_below key p.0) pairs
+abbrev pub with_pair : List ℕ → List ℕ → List (List ℕ × List ℕ) → List (List ℕ × List ℕ)
+with_pair key value pairs = filter (λ p. is_below p.0 key) pairs ++ (key, value) ∷ filter (λ p. is_below key p.0) pairs
 
 -- the word for what was found and its bytes, or the word for nothing
 abbrev pub found_or : Option (List ℕ) → List ℕ → List ℕ → List Word
@@ -47,7 +46,7 @@ own_reply (get key) mine = found_or (value_at key mine.keys) (codes "is") (codes
 abbrev pub own_after : Request → Own → Option Own
 own_after (put key value) mine =
     if puts (value_at key mine.keys) (has_conflict key mine.keys)
-    then Some (record { keys = with_value_under key value mine.keys; numbers = mine.numbers })
+    then Some (record { keys = with_pair key value mine.keys; numbers = mine.numbers })
     else None
 own_after (get key) mine = None
 

@@ -19,6 +19,7 @@ mod laws;
 mod placed;
 mod records;
 mod reply;
+mod room;
 mod running;
 mod stream;
 #[cfg(test)]

@@ -1,20 +1,29 @@
 //! The records of all tenants: a map of values under full keys.
-ghost use Rattle.std.specs.Prelude.{◌≡◌, List, ℕ, flat_map, false, option_map, take, drop};
+ghost use Rattle.std.specs.Prelude.{◌≡◌, List, ℕ, ◌≤◌, flat_map, false, option_map, length, take, drop, is_err};
+ghost use Rattle.std.specs.Prelude.{IfOk, OnErr};
 ghost use Rattle.std.specs.Int.{from_be_bytes, w32};
 ghost use Rattle.art_index.specs.Words.{line_of};
 ghost use Rattle.art_index.specs.Records.{KeyFits, own};
 ghost use Rattle.art_index.specs.Replies.{dump_of, value_at};
-ghost use Rattle.art_index.specs.Faults.{Writes};
+ghost use Rattle.art_index.specs.Faults.{IsCut, Writes};
+ghost use Rattle.art_index.specs.Gathered.{IsPartTaken};
 ghost use Rattle.art_index.specs.Parsed.{tenant_in_place, key_in_place};
 ghost use Rattle.art_index.specs.Stored.{records_of, ArePairs, IsFullKey, IsPutDone, placed_words};
 
 use crate::command::fields::Fields;
 use crate::placed::Placed;
-use crate::reply::{write_end, write_found, write_piece, write_record};
+use crate::reply::{write_end, write_found, write_piece};
+use crate::room::put_record;
 use crate::stream::{Sink, WriteFailed};
 use art_bytes::SliceKey;
 use art_map::TreeMap;
 use std::alloc::Global;
+
+/// The bytes of lines that are gathered before they are written, at most.
+const ROOM: usize = 8192;
+
+/// The longest line of a record, with its newline.
+const LINE: usize = 4097;
 
 /// The tenant and the key of a full key.
 fn parts_of(full: &[u8]) -> (u32, &[u8])
@@ -90,7 +99,26 @@ pub(crate) fn write_placed<W: Sink>(sink: &mut W, placed: &Placed) -> Result<(),
     }
 }
 
-/// Writes every record.
+/// Writes what is gathered where no line fits behind it, and tells how much is gathered then.
+#[inline]
+fn make_room<W: Sink>(sink: &mut W, room: &[u8], held: usize) -> Result<usize, WriteFailed>
+    requires open { W.has_failed sink.old ≡ false }
+    requires held { held ≤ length room.now }
+    ensures fits { IfOk result (λ left. left ≤ 4095) }
+    ensures taken { IfOk result (λ left.
+        IsPartTaken (W.taken sink.old) (W.taken sink.new) (take left room.now) (take held room.now)) }
+    ensures cut { OnErr result (IsCut (W.taken sink.old) (W.taken sink.new) (take held room.now)) }
+    ensures failed { is_err result ≡ W.has_failed sink.new }
+{
+    if held <= ROOM - LINE {
+        return Ok(held);
+    }
+    write_piece(sink, &room[..held])?;
+    Ok(0)
+}
+
+/// Writes every record. The lines are gathered, and leave in few pieces.
+#[inline(never)]
 pub(crate) fn write_records<W: Sink, const PREFIX_LEN: usize>(
     records: &TreeMap<Vec<u8>, Vec<u8>, PREFIX_LEN>,
     sink: &mut W,
@@ -101,9 +129,13 @@ pub(crate) fn write_records<W: Sink, const PREFIX_LEN: usize>(
         (flat_map line_of (dump_of (records_of records.now.pairs)))
         (W.has_failed sink.new) }
 {
+    let mut room = [0; ROOM];
+    let mut held = 0;
     for (full, value) in records.iter() {
         let (tenant, key) = parts_of(full.as_slice());
-        write_record(sink, tenant, key, value.as_slice())?;
+        let at = make_room(sink, &room, held)?;
+        held = put_record(&mut room, at, tenant, key, value.as_slice());
     }
+    write_piece(sink, &room[..held])?;
     write_end(sink, records.len())
 }

@@ -2,15 +2,18 @@
 ghost use Rattle.std.specs.Prelude.{◌≡◌, ◌<◌, ◌≤◌, ◌∷◌, [], length, false, codes, decimal, option_map};
 ghost use Rattle.hex.specs.Hex.{encode_lower};
 ghost use Rattle.art_index.specs.Words.{shown, line_of, name, natural, bytes};
-ghost use Rattle.art_index.specs.Commands.{put_words};
 ghost use Rattle.art_index.specs.Replies.{found_or};
 ghost use Rattle.art_index.specs.Faults.{Writes};
 
+use crate::room::put_found;
 use crate::stream::{Sink, WriteFailed};
 use itoa::Buffer;
 
 /// The bytes that are encoded at a time.
 const PART: usize = 64;
+
+/// Room for the line of a word of three letters and so many bytes.
+const SHORT: usize = 136;
 
 /// Writes the whole piece, by as many writes as it takes.
 pub(crate) fn write_piece<W: Sink>(sink: &mut W, piece: &[u8]) -> Result<(), WriteFailed>
@@ -63,12 +66,28 @@ pub(crate) fn write_number<W: Sink>(sink: &mut W, number: u64) -> Result<(), Wri
     write_piece(sink, digits.format(number).as_bytes())
 }
 
-/// A line of a word and bytes.
+/// A line of a word and bytes, which leaves in one piece where the bytes are few.
 pub(crate) fn write_found<W: Sink>(
     sink: &mut W,
     word: &[u8],
     value: &[u8],
 ) -> Result<(), WriteFailed>
+    requires open { W.has_failed sink.old ≡ false }
+    requires short { length word.now ≤ 3 }
+    ensures { Writes result (W.taken sink.old) (W.taken sink.new)
+        (line_of (name word.now ∷ bytes value.now ∷ []))
+        (W.has_failed sink.new) }
+{
+    if value.len() > PART {
+        return write_long(sink, word, value);
+    }
+    let mut room = [0; SHORT];
+    let len = put_found(&mut room, 0, word, value);
+    write_piece(sink, &room[..len])
+}
+
+/// The same, in pieces.
+fn write_long<W: Sink>(sink: &mut W, word: &[u8], value: &[u8]) -> Result<(), WriteFailed>
     requires { W.has_failed sink.old ≡ false }
     ensures { Writes result (W.taken sink.old) (W.taken sink.new)
         (line_of (name word.now ∷ bytes value.now ∷ []))
@@ -91,27 +110,6 @@ pub(crate) fn write_value<W: Sink>(sink: &mut W, value: Option<&[u8]>) -> Result
         Some(value) => write_found(sink, b"is", value),
         None => write_piece(sink, b"none\n"),
     }
-}
-
-/// The line that makes a record.
-pub(crate) fn write_record<W: Sink>(
-    sink: &mut W,
-    tenant: u32,
-    key: &[u8],
-    value: &[u8],
-) -> Result<(), WriteFailed>
-    requires { W.has_failed sink.old ≡ false }
-    ensures { Writes result (W.taken sink.old) (W.taken sink.new)
-        (line_of (put_words tenant key.now value.now))
-        (W.has_failed sink.new) }
-{
-    write_piece(sink, b"put ")?;
-    write_number(sink, u64::from(tenant))?;
-    write_piece(sink, b" ")?;
-    write_bytes(sink, key)?;
-    write_piece(sink, b" ")?;
-    write_bytes(sink, value)?;
-    write_piece(sink, b"\n")
 }
 
 /// The line that ends a list.

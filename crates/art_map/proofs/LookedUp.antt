@@ -9,7 +9,7 @@ use Rattle.art_arena.specs.arena.Shapes.{LeafAt, pairs_of}
 use Rattle.art_arena.specs.arena.Shapes.{key_of}
 use Rattle.art_arena.specs.tree.Changes.{IsIn}
 use Rattle.art_operations.specs.KeyedLists.{with_key}
-use Rattle.art_map.specs.Contents.{Contents, first_of, last_of, has_bytes, option_value}
+use Rattle.art_map.specs.Contents.{Contents, first_item, last_item, has_bytes, option_value}
 use Rattle.art_map.specs.Found.{HasPairAt, IsFound}
 use Rattle.art_arena.proofs.shapes.LinkedLists.{eqb-self, ends_with-first, times-here}
 use Rattle.art_arena.proofs.tree.Exists.{in_middle}
@@ -65,9 +65,9 @@ module _ {K V : Type 0} (bytes : K → List ℕ) (test : List ℕ → Bool) wher
 
 module _ {K V : Type 0} where
   -- the first pair that passes is the first of those that do
-  pub entry-first : (bytes : K → List ℕ) (key : List ℕ) (pairs : List (K × V)) → lookup_entry (has_bytes bytes key) pairs ≡ first_of (with_key (key_of bytes) key pairs)
+  pub entry-first : (bytes : K → List ℕ) (key : List ℕ) (pairs : List (K × V)) → lookup_entry (has_bytes bytes key) pairs ≡ first_item (with_key (key_of bytes) key pairs)
   entry-first bytes key [] = refl
-  entry-first bytes key (p ∷ ps) = elim (bytes_eq (bytes p.0) key) as (λ b. cond b (Some p) (lookup_entry (has_bytes bytes key) ps) ≡ first_of (cond b (p ∷ with_key (key_of bytes) key ps) (with_key (key_of bytes) key ps))) [
+  entry-first bytes key (p ∷ ps) = elim (bytes_eq (bytes p.0) key) as (λ b. cond b (Some p) (lookup_entry (has_bytes bytes key) ps) ≡ first_item (cond b (p ∷ with_key (key_of bytes) key ps) (with_key (key_of bytes) key ps))) [
     | true ↦ refl
     | false ↦ entry-first bytes key ps
   ]
@@ -82,7 +82,7 @@ module _ {K V : Type 0} where
       here false t none rest = rw t (ap (λ xs. p ∷ xs) (rest none))
 
   -- the last of pairs that end with one
-  last-pair : (pairs : List (K × V)) (p : K × V) → last_of (pairs ++ p ∷ []) ≡ Some p
+  last-pair : (pairs : List (K × V)) (p : K × V) → last_item (pairs ++ p ∷ []) ≡ Some p
   last-pair [] p = refl
   last-pair (q ∷ []) p = refl
   last-pair (q ∷ r ∷ pairs) p = last-pair (r ∷ pairs) p
@@ -94,18 +94,18 @@ module _ {K V : Type 0} where
     pub slot_is : leaf.slot ≡ slot
     pub wanted_is : wanted ≡ Some (leaf.key, leaf.value)
 
-  pub first-end : (ls : List (LeafAt K V)) (slot : ℕ) → first_slot ls None ≡ Some slot → EndAt (first_of (pairs_of ls)) ls slot
+  pub first-end : (ls : List (LeafAt K V)) (slot : ℕ) → first_slot ls None ≡ Some slot → EndAt (first_item (pairs_of ls)) ls slot
   first-end [] slot e = absurd (cc)
   first-end (l ∷ ls) slot e = record { leaf = l; among = inl refl; slot_is = (cc); wanted_is = refl }
 
-  pub last-end : (ls : List (LeafAt K V)) (slot : ℕ) → last_slot None ls ≡ Some slot → EndAt (last_of (pairs_of ls)) ls slot
+  pub last-end : (ls : List (LeafAt K V)) (slot : ℕ) → last_slot None ls ≡ Some slot → EndAt (last_item (pairs_of ls)) ls slot
   last-end ls slot e =
       let ends = ends_with-first ls slot e in
       record {
         leaf = ends.1;
         among = subst (IsIn ends.1) (sym ends.2) (in_middle (λ (m : LeafAt K V). []) ends.0 ends.1 []);
         slot_is = ends.3;
-        wanted_is = ap (λ xs. last_of (pairs_of xs)) ends.2 ∙ ap last_of (map-append leaf_pair ends.0 (ends.1 ∷ [])) ∙ last-pair (pairs_of ends.0) (ends.1.key, ends.1.value);
+        wanted_is = ap (λ xs. last_item (pairs_of xs)) ends.2 ∙ ap last_item (map-append leaf_pair ends.0 (ends.1 ∷ [])) ∙ last-pair (pairs_of ends.0) (ends.1.key, ends.1.value);
       }
 
   -- the value of an entry

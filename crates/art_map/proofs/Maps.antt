@@ -25,7 +25,7 @@ use Rattle.art_arena.proofs.tree.Insert.{all_at}
 use Rattle.art_arena.proofs.tree.Order.{all_append, all_left, all_right}
 use Rattle.art_operations.specs.KeyedLists.{HasKey, IsBlocked, without_key, overlapping, overlaps}
 use Rattle.art_operations.specs.Overwrites.{removed_by}
-use Rattle.art_operations.specs.Pairs.{HasPairs, HasPut, HasPutOver, HasTaken, HasTakenEnd, IsAtEnd, IsPlaced, with_pair, with_pair_over, pair_in}
+use Rattle.art_operations.specs.Pairs.{HasPairs, HasPut, HasPutOver, HasTaken, HasTakenEnd, IsAtEnd, IsPlaced, with_pair_put, with_pair_over, pair_in}
 use Rattle.art_operations.specs.declared.insert.point.InsertPoint.{InsertPoint}
 use Rattle.art_operations.specs.declared.delete.result.DeleteResult.{DeleteResult}
 use Rattle.art_operations.specs.declared.insert.result.InsertResult.{InsertResult}
@@ -35,7 +35,7 @@ use Rattle.art_operations.proofs.KeyedLists.{nothing_taken}
 use Rattle.art_operations.proofs.LeafPairs.{leaf_pair, pairs_ascend, held_leaf, pairs-parts}
 use Rattle.art_operations.proofs.PutOver.{how_many}
 use Rattle.art_operations.proofs.WrittenValues.{written}
-use Rattle.art_map.specs.Contents.{contents, pairs_from, IsMap, has_bytes, first_of, last_of, option_value, value_in}
+use Rattle.art_map.specs.Contents.{contents, pairs_from, IsMap, has_bytes, first_item, last_item, option_value, value_in}
 use Rattle.art_map.specs.Found.{IsAt, IsFound}
 use Rattle.art_walks.specs.Runs.{Ends}
 use Rattle.art_walks.specs.Walked.{IsCounted}
@@ -120,7 +120,7 @@ module _ {K V : Type 0} (bytes : K → List ℕ) where
   stored-placed P arena pairs up key (Ok place) placed has = refl
   stored-placed P arena pairs up key (Err e) blocked has = absurd (stored-free pairs up key has blocked)
 
-leaf-value : {K V : Type 0} (o : Option (LeafNode K V)) → value_in o ≡ option_value (first_of (pair_in o))
+leaf-value : {K V : Type 0} (o : Option (LeafNode K V)) → value_in o ≡ option_value (first_item (pair_in o))
 leaf-value None = refl
 leaf-value (Some leaf) = refl
 
@@ -146,16 +146,16 @@ module _ {K V : Type 0} (bytes : K → List ℕ) (is_key : K → Type 0) (P : �
     -- with a pair more
     pub put-map : (new : Arena K V) (key : K) (value : V) (result : InsertResult K V) → is_key key → HasPut bytes P new the_pairs key value result → IsMap bytes is_key P new (Some result.new_root)
     put-map new key value result one has =
-        make new (Some result.new_root) (with_pair bytes key value the_pairs) has.has (keys-put is_key (key_of bytes) (key, value) _ one (keys-without is_key (key_of bytes) (bytes key) the_pairs map.keys))
+        make new (Some result.new_root) (with_pair_put bytes key value the_pairs) has.has (keys-put is_key (key_of bytes) (key, value) _ one (keys-without is_key (key_of bytes) (bytes key) the_pairs map.keys))
 
     -- the pair that was there
-    pub put-old : (new : Arena K V) (key : K) (value : V) (result : InsertResult K V) → HasPut bytes P new the_pairs key value result → lookup_entry (has_bytes bytes (bytes key)) the_pairs ≡ first_of (pair_in result.existing_leaf)
-    put-old new key value result has = entry-first bytes (bytes key) the_pairs ∙ ap first_of (sym has.old)
+    pub put-old : (new : Arena K V) (key : K) (value : V) (result : InsertResult K V) → HasPut bytes P new the_pairs key value result → lookup_entry (has_bytes bytes (bytes key)) the_pairs ≡ first_item (pair_in result.existing_leaf)
+    put-old new key value result has = entry-first bytes (bytes key) the_pairs ∙ ap first_item (sym has.old)
 
     pub put-value : (new : Arena K V) (key : K) (value : V) (result : InsertResult K V) → HasPut bytes P new the_pairs key value result → value_in result.existing_leaf ≡ lookup (has_bytes bytes (bytes key)) the_pairs
-    put-value new key value result has = leaf-value result.existing_leaf ∙ sym (lookup-value (has_bytes bytes (bytes key)) the_pairs (first_of (pair_in result.existing_leaf)) (put-old new key value result has))
+    put-value new key value result has = leaf-value result.existing_leaf ∙ sym (lookup-value (has_bytes bytes (bytes key)) the_pairs (first_item (pair_in result.existing_leaf)) (put-old new key value result has))
 
-    pub put-pairs : (new : Arena K V) (key : K) (value : V) (result : InsertResult K V) → HasPut bytes P new the_pairs key value result → pairs_from new (Some result.new_root) ≡ with_pair bytes key value the_pairs
+    pub put-pairs : (new : Arena K V) (key : K) (value : V) (result : InsertResult K V) → HasPut bytes P new the_pairs key value result → pairs_from new (Some result.new_root) ≡ with_pair_put bytes key value the_pairs
     put-pairs new key value result has = has-seen bytes P new (Some result.new_root) _ has.has
 
     -- with a pair in the place of those whose keys overlap its key
@@ -178,7 +178,7 @@ module _ {K V : Type 0} (bytes : K → List ℕ) (is_key : K → Type 0) (P : �
     taken-pairs new key deleted has = has-seen bytes P new deleted.new_root _ has.1
 
     pub taken-entry : (new : Arena K V) (key : List ℕ) (deleted : DeleteResult K V) → HasTaken bytes P new root key the_pairs (Some deleted) → lookup_entry (has_bytes bytes key) the_pairs ≡ Some (deleted.deleted_leaf.key, deleted.deleted_leaf.value)
-    taken-entry new key deleted has = entry-first bytes key the_pairs ∙ ap first_of has.0
+    taken-entry new key deleted has = entry-first bytes key the_pairs ∙ ap first_item has.0
 
     -- with the pair at an end less
     pub end-map : (new : Arena K V) (end : End) (deleted : DeleteResult K V) → HasTakenEnd bytes P new root end the_pairs (Some deleted) → IsMap bytes is_key P new deleted.new_root
@@ -202,7 +202,7 @@ module _ {K V : Type 0} (bytes : K → List ℕ) (is_key : K → Type 0) (P : �
     none-pairs new key has = has-seen bytes P new root the_pairs has.1 ∙ sym (nothing_taken (key_of bytes) key the_pairs has.0)
 
     pub none-entry : (new : Arena K V) (key : List ℕ) → HasTaken bytes P new root key the_pairs None → lookup_entry (has_bytes bytes key) the_pairs ≡ None
-    none-entry new key has = entry-first bytes key the_pairs ∙ ap first_of has.0
+    none-entry new key has = entry-first bytes key the_pairs ∙ ap first_item has.0
 
     -- its keys ascend
     pub ascending-map : AscendsByKey (key_of bytes) the_pairs
@@ -279,15 +279,15 @@ module _ {K V : Type 0} (bytes : K → List ℕ) (is_key : K → Type 0) (P : �
       has_top : HasPairs bytes P old (Some top) (pairs_from old root)
       has_top = subst (λ r. HasPairs bytes P old r (pairs_from old root)) is map.has
 
-      pub first-found : ((path : List ℕ) (s : Shape K V) → StoresBelow bytes P old top path s → first_slot (leaves s) None ≡ Some slot) → IsAt (first_of (pairs_from old root)) (contents old root) (Some slot)
+      pub first-found : ((path : List ℕ) (s : Shape K V) → StoresBelow bytes P old top path s → first_slot (leaves s) None ≡ Some slot) → IsAt (first_item (pairs_from old root)) (contents old root) (Some slot)
       first-found answer =
-          subst (λ r. IsAt (first_of (pairs_from old r)) (contents old r) (Some slot)) (sym is)
-          (at-end top has_top.0 has_top.1 first_of slot (first-end (leaves has_top.0) slot (answer [] has_top.0 (nodes-subtree bytes P (node_at old) top has_top.0 has_top.1.nodes))))
+          subst (λ r. IsAt (first_item (pairs_from old r)) (contents old r) (Some slot)) (sym is)
+          (at-end top has_top.0 has_top.1 first_item slot (first-end (leaves has_top.0) slot (answer [] has_top.0 (nodes-subtree bytes P (node_at old) top has_top.0 has_top.1.nodes))))
 
-      pub last-found : ((path : List ℕ) (s : Shape K V) → StoresBelow bytes P old top path s → last_slot None (leaves s) ≡ Some slot) → IsAt (last_of (pairs_from old root)) (contents old root) (Some slot)
+      pub last-found : ((path : List ℕ) (s : Shape K V) → StoresBelow bytes P old top path s → last_slot None (leaves s) ≡ Some slot) → IsAt (last_item (pairs_from old root)) (contents old root) (Some slot)
       last-found answer =
-          subst (λ r. IsAt (last_of (pairs_from old r)) (contents old r) (Some slot)) (sym is)
-          (at-end top has_top.0 has_top.1 last_of slot (last-end (leaves has_top.0) slot (answer [] has_top.0 (nodes-subtree bytes P (node_at old) top has_top.0 has_top.1.nodes))))
+          subst (λ r. IsAt (last_item (pairs_from old r)) (contents old r) (Some slot)) (sym is)
+          (at-end top has_top.0 has_top.1 last_item slot (last-end (leaves has_top.0) slot (answer [] has_top.0 (nodes-subtree bytes P (node_at old) top has_top.0 has_top.1.nodes))))
 
       -- and the walk over all
       pub walk-found : (least most : ℕ) → ((path : List ℕ) (s : Shape K V) → StoresBelow bytes P old top path s → first_slot (leaves s) None ≡ Some least) → ((path : List ℕ) (s : Shape K V) → StoresBelow bytes P old top path s → last_slot None (leaves s) ≡ Some most)

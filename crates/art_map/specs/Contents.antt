@@ -34,14 +34,14 @@ value_in None = None
 value_in (Some leaf) = Some leaf.value
 
 -- the first item, and the last
-abbrev pub first_of : {X : Type 0} → List X → Option X
-first_of [] = None
-first_of (x ∷ xs) = Some x
+abbrev pub first_item : {X : Type 0} → List X → Option X
+first_item [] = None
+first_item (x ∷ xs) = Some x
 
-abbrev pub last_of : {X : Type 0} → List X → Option X
-last_of [] = None
-last_of (x ∷ []) = Some x
-last_of (x ∷ y ∷ xs) = last_of (y ∷ xs)
+abbrev pub last_item : {X : Type 0} → List X → Option X
+last_item [] = None
+last_item (x ∷ []) = Some x
+last_item (x ∷ y ∷ xs) = last_item (y ∷ xs)
 
 module _ {K V : Type 0} where
   -- the pairs below each of these children

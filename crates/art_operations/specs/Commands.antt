@@ -3,7 +3,7 @@ use Rattle.std.specs.Prelude.{◌≡◌, ℕ, zero, suc, List, [], ◌∷◌, le
 use Rattle.art_arena.specs.arena.Shapes.{key_of}
 use Rattle.art_arena.specs.tree.Shrinks.{Shrinks}
 use Rattle.art_operations.specs.KeyedLists.{HasKey, IsBlocked, with_key, without_key, overlapping}
-use Rattle.art_operations.specs.Pairs.{with_pair, with_pair_over}
+use Rattle.art_operations.specs.Pairs.{with_pair_put, with_pair_over}
 use Rattle.art_operations.specs.declared.running.Command.{Command}
 use Rattle.art_operations.specs.declared.running.Command.TheVariants.{Insert, PrefixInsert, Delete, Clone}
 use Rattle.art_operations.specs.declared.running.Answer.{Answer}
@@ -26,7 +26,7 @@ module _ {K V : Type 0} (bytes : K → List ℕ) where
   -- the pairs after a command that was done: a pair is put in at the place of its key, where no other stands then; or
   -- in the place of all whose keys overlap its key; the pairs with a key are taken out; a clone takes the tree's place
   abbrev pub done : Command K V → List (K × V) → List (K × V)
-  done (Insert k v) pairs = with_pair bytes k v pairs
+  done (Insert k v) pairs = with_pair_put bytes k v pairs
   done (PrefixInsert k v) pairs = with_pair_over bytes k v pairs
   done (Delete k) pairs = without_key (key_of bytes) (bytes k) pairs
   done Clone pairs = pairs

@@ -37,8 +37,8 @@ module _ {K V : Type 0} (bytes : K → List ℕ) where
       (p : K × V) × (rest : List (K × V)) × IsAtEnd end p rest pairs × Shrinks (key_of bytes) pairs (key_of bytes p)
 
   -- the pairs with this one at the place of its key, where no other stands then
-  abbrev pub with_pair : K → V → List (K × V) → List (K × V)
-  with_pair k v pairs = put_in_order (key_of bytes) (k, v) (without_key (key_of bytes) (bytes k) pairs)
+  abbrev pub with_pair_put : K → V → List (K × V) → List (K × V)
+  with_pair_put k v pairs = put_in_order (key_of bytes) (k, v) (without_key (key_of bytes) (bytes k) pairs)
 
   -- the pairs with this one at the place of its key, where no other stands then whose key overlaps its key
   abbrev pub with_pair_over : K → V → List (K × V) → List (K × V)
@@ -71,7 +71,7 @@ module _ {K V : Type 0} (bytes : K → List ℕ) (P : ℕ) (arena : Arena K V) (
 
   -- it has the pairs with this one, in the leaf that is answered, and the pair that had the key is answered
   pub record HasPutBeside (pairs : List (K × V)) (key : K) (value : V) (result : InsertResult K V) : Type 0 where
-    pub has : HasPairsBeside (Some result.new_root) (with_pair bytes key value pairs)
+    pub has : HasPairsBeside (Some result.new_root) (with_pair_put bytes key value pairs)
     pub old : pair_in result.existing_leaf ≡ with_key (key_of bytes) (bytes key) pairs
     pub leaf : node_at arena (leaf_name result.leaf_node_ptr) ≡ Some (pair key value)
 

@@ -16,7 +16,7 @@ use Rattle.art_arena.specs.tree.Changes.{IsIn, put_in_order, is_before}
 use Rattle.art_arena.specs.tree.Order.{AscendsByKey}
 use Rattle.art_arena.proofs.tree.Distinct.{bytes_from_same}
 use Rattle.art_operations.specs.KeyedLists.{without_key}
-use Rattle.art_map.specs.Contents.{first_of}
+use Rattle.art_map.specs.Contents.{first_item}
 use Rattle.use_number_index.specs.declared.Entry.{Entry}
 use Rattle.use_number_index.specs.Entries.{IsKeyed, AreEntries, IsEarliest, IsEntryAdded}
 
@@ -54,7 +54,7 @@ all_later p (q ∷ qs) k ks bs o (inr i) = all_later p qs k ks.1 bs.1 o i
 
 -- the first of an index is the earliest
 pub first_is_earliest : (ps : List (List ℕ × Entry)) → AreEntries ps → AscendsByKey bytes_of ps
-    → IsEarliest (values_of ps) (option_map (λ p. p.1) (first_of ps))
+    → IsEarliest (values_of ps) (option_map (λ p. p.1) (first_item ps))
 first_is_earliest [] k asc = λ o i. i
 first_is_earliest (p ∷ ps) k asc = (inl refl, λ o i. by_place o i)
   where

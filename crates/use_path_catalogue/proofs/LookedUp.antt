@@ -12,7 +12,7 @@ use Rattle.art_arena.specs.tree.Changes.{put_in_order, is_before}
 use Rattle.art_arena.proofs.shapes.Finding.{same_key, other_key}
 use Rattle.art_arena.proofs.tree.Distinct.{bytes_from_same}
 use Rattle.art_operations.specs.KeyedLists.{without_key}
-use Rattle.art_operations.specs.Pairs.{with_pair}
+use Rattle.art_operations.specs.Pairs.{with_pair_put}
 use Rattle.art_map.specs.Contents.{has_bytes}
 use Rattle.use_path_catalogue.specs.Catalogue.{size_at}
 
@@ -73,11 +73,11 @@ module _ {K V : Type 0} (bytes : K → List ℕ) (q : List ℕ) where
           later ∙ sym (cond-false _ _ _ fails)
       by_test false at later = ap (λ r. cond (has_bytes bytes q x.0) (Some x.1) r) later
 
-  pub with_pair_found : (k : K) (v : V) (ps : List (K × V)) → lookup (has_bytes bytes q) (with_pair bytes k v ps)
+  pub with_pair_found : (k : K) (v : V) (ps : List (K × V)) → lookup (has_bytes bytes q) (with_pair_put bytes k v ps)
       ≡ cond (bytes_eq (bytes k) q) (Some v) (lookup (has_bytes bytes q) ps)
   with_pair_found k v ps = by_test (bytes_eq (bytes k) q) refl
     where
-      by_test : (c : Bool) → bytes_eq (bytes k) q ≡ c → lookup (has_bytes bytes q) (with_pair bytes k v ps)
+      by_test : (c : Bool) → bytes_eq (bytes k) q ≡ c → lookup (has_bytes bytes q) (with_pair_put bytes k v ps)
           ≡ cond c (Some v) (lookup (has_bytes bytes q) ps)
       by_test true at = put_found (k, v) at _ (without_fails (bytes k) (bytes_from_same _ _ at) ps)
       by_test false at = put_other (k, v) at _ ∙ without_other (bytes k) at ps
@@ -119,11 +119,11 @@ old_size (Err e) q ps h = tt
 
 -- what is found behind a call that files a size, and behind one that takes a path out
 pub found_after : (path : List ℕ) (size : ℕ) (old new : List (List ℕ × ℕ))
-    → new ≡ with_pair (λ k. k ++ 0 ∷ []) path size old
+    → new ≡ with_pair_put (λ k. k ++ 0 ∷ []) path size old
     → (other : List ℕ) → size_at other new ≡ cond (bytes_eq path other) (Some size) (size_at other old)
 found_after path size old new e other =
     ap (size_at other) e
-    ∙ sym (size_with_mark other (with_pair (λ k. k ++ 0 ∷ []) path size old))
+    ∙ sym (size_with_mark other (with_pair_put (λ k. k ++ 0 ∷ []) path size old))
     ∙ with_pair_found (λ (k : List ℕ). k ++ 0 ∷ []) (other ++ 0 ∷ []) path size old
     ∙ ap (λ t. cond t (Some size) (lookup (has_bytes (λ k. k ++ 0 ∷ []) (other ++ 0 ∷ [])) old)) (marked path other)
     ∙ ap (λ r. cond (bytes_eq path other) (Some size) r) (size_with_mark other old)

@@ -5,7 +5,7 @@ ghost use Rattle.std.specs.Map.{lookup};
 ghost use Rattle.art_arena.specs.arena.Shapes.{key_of};
 ghost use Rattle.art_operations.specs.KeyedLists.{HasKey, IsBlocked, overlapping};
 ghost use Rattle.art_operations.specs.Overwrites.{removed_by};
-ghost use Rattle.art_operations.specs.Pairs.{CanPut, with_pair, with_pair_over};
+ghost use Rattle.art_operations.specs.Pairs.{CanPut, with_pair_put, with_pair_over};
 ghost use Rattle.art_map.specs.Contents.{value_in};
 
 use crate::map::TreeMap;
@@ -77,7 +77,7 @@ impl<K: AsBytes, V, const PREFIX_LEN: usize> TreeMap<K, V, PREFIX_LEN> {
         K: Drop,
         requires { CanPut K.bytes PREFIX_LEN self.old.nodes place (K.bytes key) self.old.pairs }
         ensures value { IfOk result (λ old. old ≡ lookup (has_bytes K.bytes (K.bytes key)) self.old.pairs) }
-        ensures pairs { OnOk result (self.new.pairs ≡ with_pair K.bytes key value self.old.pairs) }
+        ensures pairs { OnOk result (self.new.pairs ≡ with_pair_put K.bytes key value self.old.pairs) }
         ensures stored { HasKey (key_of K.bytes) (K.bytes key) self.old.pairs → IsOk result }
         ensures err { OnErr result (self.new.pairs ≡ self.old.pairs) }
         ensures handed_back { IfErr result (λ refused. (refused.key ≡ key) × (refused.value ≡ value)) }
@@ -102,7 +102,7 @@ impl<K: AsBytes, V, const PREFIX_LEN: usize> TreeMap<K, V, PREFIX_LEN> {
     where
         K: Drop,
         ensures value { IfOk result (λ old. old ≡ lookup (has_bytes K.bytes (K.bytes key)) self.old.pairs) }
-        ensures pairs { OnOk result (self.new.pairs ≡ with_pair K.bytes key value self.old.pairs) }
+        ensures pairs { OnOk result (self.new.pairs ≡ with_pair_put K.bytes key value self.old.pairs) }
         ensures free { OnOk result (IsBlocked (key_of K.bytes) (K.bytes key) self.old.pairs → ⊥) }
         ensures stored { HasKey (key_of K.bytes) (K.bytes key) self.old.pairs → IsOk result }
         ensures err { OnErr result (self.new.pairs ≡ self.old.pairs) }
@@ -178,7 +178,7 @@ impl<K: NoPrefixesBytes, V, const PREFIX_LEN: usize> TreeMap<K, V, PREFIX_LEN> {
     where
         K: Drop,
         ensures value { IfOk result (λ old. old ≡ lookup (has_bytes K.bytes (K.bytes key)) self.old.pairs) }
-        ensures pairs { OnOk result (self.new.pairs ≡ with_pair K.bytes key value self.old.pairs) }
+        ensures pairs { OnOk result (self.new.pairs ≡ with_pair_put K.bytes key value self.old.pairs) }
         ensures stored { HasKey (key_of K.bytes) (K.bytes key) self.old.pairs → IsOk result }
         ensures err { OnErr result (self.new.pairs ≡ self.old.pairs) }
         ensures handed_back { IfErr result (λ refused. (refused.key ≡ key) × (refused.value ≡ value)) }

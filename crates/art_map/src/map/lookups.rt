@@ -14,7 +14,7 @@ use art_operations::{
 use std::ops::Index;
 
 impl<K: AsBytes, V, const PREFIX_LEN: usize> TreeMap<K, V, PREFIX_LEN> {
-    ghost use Rattle.art_map.specs.Contents.{first_of, has_bytes, HasLeafAt, is_front, last_of};
+    ghost use Rattle.art_map.specs.Contents.{first_item, has_bytes, HasLeafAt, is_front, last_item};
     ghost use Rattle.art_map.specs.Found.{IsAt, IsFound, HasPairAt};
     ghost use Rattle.art_map.specs.Lends.{lends_get, lends_value_at};
 
@@ -40,7 +40,7 @@ impl<K: AsBytes, V, const PREFIX_LEN: usize> TreeMap<K, V, PREFIX_LEN> {
 
     // The leaf of the first pair.
     fn first(&self) -> Option<LeafPtr>
-        ensures { IsAt (first_of self.now.pairs) self.now result }
+        ensures { IsAt (first_item self.now.pairs) self.now result }
     {
         match self.root {
             Some(root) => Some(minimum_unchecked(&self.arena, root)),
@@ -50,7 +50,7 @@ impl<K: AsBytes, V, const PREFIX_LEN: usize> TreeMap<K, V, PREFIX_LEN> {
 
     // The leaf of the last pair.
     fn last(&self) -> Option<LeafPtr>
-        ensures { IsAt (last_of self.now.pairs) self.now result }
+        ensures { IsAt (last_item self.now.pairs) self.now result }
     {
         match self.root {
             Some(root) => Some(maximum_unchecked(&self.arena, root)),
@@ -155,7 +155,7 @@ impl<K: AsBytes, V, const PREFIX_LEN: usize> TreeMap<K, V, PREFIX_LEN> {
 
     /// The first pair, whose key is the least, if there is one.
     pub fn first_key_value(&self) -> Option<(&K, &V)>
-        ensures { option_map deref_pair result ≡ first_of self.now.pairs }
+        ensures { option_map deref_pair result ≡ first_item self.now.pairs }
     {
         match self.first() {
             Some(leaf) => Some(self.pair_at(leaf)),
@@ -165,7 +165,7 @@ impl<K: AsBytes, V, const PREFIX_LEN: usize> TreeMap<K, V, PREFIX_LEN> {
 
     /// The last pair, whose key is the greatest, if there is one.
     pub fn last_key_value(&self) -> Option<(&K, &V)>
-        ensures { option_map deref_pair result ≡ last_of self.now.pairs }
+        ensures { option_map deref_pair result ≡ last_item self.now.pairs }
     {
         match self.last() {
             Some(leaf) => Some(self.pair_at(leaf)),

@@ -1,0 +1,94 @@
+//! Text that is gathered in a room before it goes to a sink, so that many lines leave in one piece. Each call puts a
+//! text at a place, leaves what stands before it, and tells the place behind it.
+ghost use Rattle.std.specs.Prelude.{◌+◌, ◌*◌, ◌≤◌, ◌∷◌, [], length, decimal};
+ghost use Rattle.hex.specs.Hex.{encode_lower};
+ghost use Rattle.art_index.specs.Words.{shown, name, bytes, line_of};
+ghost use Rattle.art_index.specs.Commands.{put_words};
+ghost use Rattle.art_index.specs.Gathered.{Puts};
+
+use itoa::Buffer;
+
+/// The two digits of each byte, one pair behind another.
+static PAIRS: [u8; 512] = *b"\
+    000102030405060708090a0b0c0d0e0f101112131415161718191a1b1c1d1e1f202122232425262728292a2b2c2d2e2f30313233\
+    3435363738393a3b3c3d3e3f404142434445464748494a4b4c4d4e4f505152535455565758595a5b5c5d5e5f6061626364656667\
+    68696a6b6c6d6e6f707172737475767778797a7b7c7d7e7f808182838485868788898a8b8c8d8e8f909192939495969798999a9b\
+    9c9d9e9fa0a1a2a3a4a5a6a7a8a9aaabacadaeafb0b1b2b3b4b5b6b7b8b9babbbcbdbebfc0c1c2c3c4c5c6c7c8c9cacbcccdcecf\
+    d0d1d2d3d4d5d6d7d8d9dadbdcdddedfe0e1e2e3e4e5e6e7e8e9eaebecedeeeff0f1f2f3f4f5f6f7f8f9fafbfcfdfeff";
+
+/// Puts a text.
+#[inline]
+fn put_text(room: &mut [u8], at: usize, text: &[u8]) -> usize
+    requires { at + length text.now ≤ length room.old }
+    ensures { Puts result at text.now room.old room.new }
+{
+    let next = at + text.len();
+    room[at..next].copy_from_slice(text);
+    next
+}
+
+/// Puts bytes as lower case digits.
+#[inline]
+fn put_digits(room: &mut [u8], at: usize, value: &[u8]) -> usize
+    requires { at + 2 * length value.now ≤ length room.old }
+    ensures { Puts result at (encode_lower value.now) room.old room.new }
+{
+    let mut next = at;
+    for byte in value {
+        let from = 2 * usize::from(*byte);
+        let (high, low) = (PAIRS[from], PAIRS[from + 1]);
+        room[next] = high;
+        room[next + 1] = low;
+        next += 2;
+    }
+    next
+}
+
+/// Puts bytes as lower case digits, or `-` for none.
+#[inline]
+fn put_bytes(room: &mut [u8], at: usize, value: &[u8]) -> usize
+    requires { at + length (shown (bytes value.now)) ≤ length room.old }
+    ensures { Puts result at (shown (bytes value.now)) room.old room.new }
+{
+    if value.is_empty() {
+        return put_text(room, at, b"-");
+    }
+    put_digits(room, at, value)
+}
+
+/// Puts a number in digits.
+#[inline]
+fn put_number(room: &mut [u8], at: usize, number: u64) -> usize
+    requires { at + length (decimal number) ≤ length room.old }
+    ensures { Puts result at (decimal number) room.old room.new }
+{
+    let mut digits = Buffer::new();
+    put_text(room, at, digits.format(number).as_bytes())
+}
+
+/// Puts the line that makes a record.
+#[inline]
+pub(crate) fn put_record(room: &mut [u8], at: usize, tenant: u32, key: &[u8], value: &[u8]) -> usize
+    requires { at + length (line_of (put_words tenant key.now value.now)) ≤ length room.old }
+    ensures { Puts result at (line_of (put_words tenant key.now value.now)) room.old room.new }
+{
+    let number = put_text(room, at, b"put ");
+    let space = put_number(room, number, u64::from(tenant));
+    let digits = put_text(room, space, b" ");
+    let space = put_bytes(room, digits, key);
+    let digits = put_text(room, space, b" ");
+    let newline = put_bytes(room, digits, value);
+    put_text(room, newline, b"\n")
+}
+
+/// Puts a line of a word and bytes.
+#[inline]
+pub(crate) fn put_found(room: &mut [u8], at: usize, word: &[u8], value: &[u8]) -> usize
+    requires { at + length (line_of (name word.now ∷ bytes value.now ∷ [])) ≤ length room.old }
+    ensures { Puts result at (line_of (name word.now ∷ bytes value.now ∷ [])) room.old room.new }
+{
+    let space = put_text(room, at, word);
+    let digits = put_text(room, space, b" ");
+    let newline = put_bytes(room, digits, value);
+    put_text(room, newline, b"\n")
+}
