@@ -1,12 +1,13 @@
 #!/usr/bin/env python3
-"""./bench: times the tree beside the kit's BTreeMap, both proved, and prints a table with ratios.
+"""./bench: times the tree and the map beside the kit's BTreeMap, all proved, and prints tables with ratios.
 
-    ./bench [--sizes 10000,100000] [--sets dense,rand8,rand16,url] [--repeats 5] [--instr] [--perf FOLDER]
-It proves and builds the two libraries where they are not built, and needs nothing but rt and cc. --instr counts
+    ./bench [--sizes 10000,100000] [--sets dense,rand8,rand16,url] [--repeats 5] [--instr] [--walks SIZE] [--perf FOLDER]
+It proves and builds the libraries where they are not built, and needs nothing but rt and cc. --walks SIZE times walks
+over so many pairs, from the front and from both ends, the check of a tree, its clone and its free. --instr counts
 instructions and cache misses by callgrind (no noise, whatever else runs), at --instr-size keys (10000). --perf FOLDER: a
 folder of yardsticks with build.sh, libbench and peers (cargo, valgrind and Debian's libjudy-dev, libabsl-dev): its table
-follows, with unproved peers, and two of them are counted too. Standard error tells how far it is. Times are processor
-time; take ratios from one run alone.
+follows, with unproved peers, and three of them stand in all tables. --sizes '' leaves look-ups and insertions out.
+Standard error tells how far it is. Times are processor time; take ratios from one run alone.
 """
 import argparse
 import os
@@ -18,8 +19,14 @@ import tempfile
 import time
 from glob import glob
 
-MAPS = {"tree": "bench_tree", "BTreeMap": "bench_btree"}
+MAPS = {"tree": "bench_tree", "map": "bench_map", "BTreeMap": "bench_btree"}
+PEERS = {"art-vec": [], "art-list": ["--features", "list"], "btree": ["--features", "btree"]}
 OPERATIONS = ("insertion, ns", "look-up, ns", "miss, ns", "bytes")
+# Steps of perf/drive.c: what is timed of each map that has it, and what of the map here alone.
+WALKS = {"from the front": 4, "from both ends": 8, "clone": 7, "let go": 11}
+NODES = {"check_tree": 9, "clone_unchecked": 7, "deallocate_tree": 10}
+NO_WALKS = {"tree"}
+NO_LINKS = {"art-vec"}
 PARTS = ("src", "specs", "proofs")
 START = time.monotonic()
 
@@ -42,7 +49,7 @@ def workspace():
     top = "out/bench"
     os.makedirs(f"{top}/crates", exist_ok=True)
     lines = open("crates.txt").read().split("\n")
-    wanted = re.search(r"(?m)^bench_tree [^:]*: (.*)$", open("perf/crates.lines").read())[1].split()
+    wanted = [it for line in open("perf/crates.lines") if not line.startswith("#") for it in line.split(":")[1].split()]
     kept = [it for it in lines if it.split(":")[0] in wanted]
     with open(f"{top}/crates.txt", "w") as file:
         file.write("\n".join(kept) + "\n" + open("perf/crates.lines").read())
@@ -89,34 +96,110 @@ def times(folder, made, key_set, size, repeats):
     return least
 
 
-def counted(folder, path, key_set, size, mode):
-    """Instructions, misses of the first cache and of a second one of 1 MB, a key: of the insertions (mode 0), or of them
-    and a look-up each (mode -1)."""
+def counted(folder, path, key_set, size, steps):
+    """Instructions, misses of the first cache and of a second one of 1 MB, in all: of these steps."""
     words = ["valgrind", "--tool=callgrind", f"--callgrind-out-file={folder}/callgrind", "--collect-atstart=no"]
-    words += ["--cache-sim=yes", "--LL=1048576,16,64", f"{folder}/drive", path, key_set, str(size), mode]
+    words += ["--cache-sim=yes", "--LL=1048576,16,64", f"{folder}/drive", path, key_set, str(size), "0", steps]
     ran = subprocess.run(words, check=True, capture_output=True, text=True)
     seen = list(map(int, re.search(r"Collected : ([\d ]+)", ran.stderr)[1].split()))
-    return [it / size for it in (seen[0], seen[4] + seen[5], seen[7] + seen[8])]
+    return [seen[0], seen[4] + seen[5], seen[7] + seen[8]]
+
+
+def more_than(folder, path, key_set, size, before, step, number):
+    """What a step counts behind the insertions, which count `before`, for each of so many."""
+    both = counted(folder, path, key_set, size, f"1,{step}")
+    return [(more - less) / number for more, less in zip(both, before)]
+
+
+def cells(counts):
+    """Instructions and misses of two caches, as cells of a table."""
+    return f"{counts[0]:.0f} | {counts[1]:.1f} | {counts[2]:.1f}"
 
 
 def instructions(folder, made, key_set, size):
     """A row of a table for each map: instructions and misses of an insertion, with the copy of its key, and of a look-up."""
     for name, path in made.items():
-        insertion, both = (counted(folder, path, key_set, size, mode) for mode in ("0", "-1"))
-        look_up = [more - less for more, less in zip(both, insertion)]
-        shown = " | ".join(f"{it[0]:.0f} | {it[1]:.1f} | {it[2]:.1f}" for it in (insertion, look_up))
-        print(f"| {key_set} | {name} | {shown} |", flush=True)
+        before = counted(folder, path, key_set, size, "1")
+        look_up = more_than(folder, path, key_set, size, before, 2, size)
+        print(f"| {key_set} | {name} | {cells([it / size for it in before])} | {cells(look_up)} |", flush=True)
+
+
+def stepped(folder, made, key_set, size, repeats):
+    """Nanoseconds of each step behind the insertions, by map: the least of the repeats, the maps in turn."""
+    steps, least = {}, {}
+    for name in made:
+        asked = [*WALKS.values(), *NODES.values()] if name == "map" else [*WALKS.values()]
+        # (the clone of both is one step, and what lets the map go comes last)
+        steps[name] = [1, *sorted(set(asked) - {11}), 11]
+        least[name] = [float("inf")] * len(steps[name])
+    for _ in range(repeats):
+        for name, path in made.items():
+            told = called([f"{folder}/drive", path, key_set, str(size), "1", ",".join(map(str, steps[name]))]).split()
+            least[name] = [min(pair) for pair in zip(least[name], map(int, told[:-1]))]
+    return {name: dict(zip(steps[name], least[name])) for name in made}
+
+
+def answer(folder, path, key_set, size, step):
+    """What a call with this step behind the insertions answers."""
+    return int(called([f"{folder}/drive", path, key_set, str(size), "1", f"1,{step}"]).split()[-1])
+
+
+def has(name, step):
+    """Whether a map has a step."""
+    return name not in NO_WALKS and not (name in NO_LINKS and step == 8)
+
+
+def walks(folder, made, asked):
+    """Two tables: of all maps, nanoseconds a pair; of the nodes of the map here, nanoseconds a node."""
+    size, made, rows = asked.walks, {name: path for name, path in made.items() if name not in NO_WALKS}, []
+    print(f"\n{size} pairs, nanoseconds a pair:\n")
+    print(f"| Keys | Map | {' | '.join(WALKS)} |\n|---|---|{'---:|' * len(WALKS)}", flush=True)
+    for key_set in asked.sets.split(","):
+        tell(f"{key_set}, walks over {size} pairs")
+        sums = {answer(folder, path, key_set, size, step) for name, path in made.items() for step in (4, 8) if has(name, step)}
+        assert len(sums) == 1, f"walks give {sums}"
+        found = stepped(folder, made, key_set, size, asked.repeats)
+        for name, took in found.items():
+            shown = [f"{took[step] / size:.0f}" if has(name, step) else "-" for step in WALKS.values()]
+            print(f"| {key_set} | {name} | {' | '.join(shown)} |", flush=True)
+        nodes = answer(folder, made["map"], key_set, size, 9)
+        shown = " | ".join(f"{found['map'][step] / nodes:.0f}" for step in NODES.values())
+        rows.append(f"| {key_set} | {nodes} | {shown} |")
+    print(f"\n{size} pairs, nanoseconds a node:\n")
+    print("\n".join([f"| Keys | nodes | {' | '.join(NODES)} |", f"|---|---:|{'---:|' * len(NODES)}", *rows]), flush=True)
+
+
+def walk_instructions(folder, made, asked):
+    """The same two tables in instructions and misses, at the size of --instr."""
+    size, made, rows = asked.instr_size, {name: path for name, path in made.items() if name not in NO_WALKS}, []
+    print(f"\n{size} pairs, instructions and misses of L1 and of L2 a pair:\n")
+    print(f"| Keys | Map |{''.join(f' {it} | L1 | L2 |' for it in WALKS)}\n|---|---|{'---:|' * 3 * len(WALKS)}", flush=True)
+    for key_set in asked.sets.split(","):
+        for name, path in made.items():
+            tell(f"{key_set}, instructions of the walks of {name}")
+            before, shown = counted(folder, path, key_set, size, "1"), []
+            for step in WALKS.values():
+                it = more_than(folder, path, key_set, size, before, step, size) if has(name, step) else None
+                shown.append(cells(it) if it else "- | - | -")
+            print(f"| {key_set} | {name} | {' | '.join(shown)} |", flush=True)
+            if name == "map":
+                nodes = answer(folder, path, key_set, size, 9)
+                shown = [cells(more_than(folder, path, key_set, size, before, it, nodes)) for it in NODES.values()]
+                rows.append(f"| {key_set} | {nodes} | {' | '.join(shown)} |")
+    print(f"\n{size} pairs, instructions and misses of L1 and of L2 a node:\n")
+    print(f"| Keys | nodes |{''.join(f' {it} | L1 | L2 |' for it in NODES)}\n|---|---:|{'---:|' * 3 * len(NODES)}")
+    print("\n".join(rows), flush=True)
 
 
 def yardsticks(folder, given):
-    """Builds the yardsticks in a copy, and answers the two trees among them that callgrind can count, by map."""
+    """Builds the yardsticks in a copy, and answers those among them that stand behind the same call, by map."""
     top = f"{folder}/perf"
     called(["cp", "-r", given, top])
     called(["chmod", "-R", "u+w", top])
     called([f"{top}/build.sh"], cwd=top, env={**os.environ, "PERF_BIN": f"{folder}/bin"})
     shutil.copytree("perf/peer", f"{top}/peer")
     made = {}
-    for name, flags in {"art-vec": [], "art-list": ["--features", "list"]}.items():
+    for name, flags in PEERS.items():
         how = {**os.environ, "CARGO_TARGET_DIR": f"{folder}/{name}", "RUSTFLAGS": "-C target-cpu=x86-64-v2"}
         called(["cargo", "build", "-q", "--release", "--offline", *flags], cwd=f"{top}/peer", env=how)
         made[name] = f"{folder}/{name}/release/libpeer.so"
@@ -124,16 +207,33 @@ def yardsticks(folder, given):
 
 
 def ratios(told):
-    """Prints from the tables of the yardsticks what the tree takes, and its ratios to the peers that it is held against."""
-    print("| Keys | Number | look-up, ns | to art-vec | to btree | insertion, ns | to art-list | to btree |")
-    print("|---|---:|---:|---:|---:|---:|---:|---:|")
+    """Prints from the tables of the yardsticks what tree and map take, and their ratios to the peers that they are held
+    against."""
+    print("| Keys | Number | Of | look-up, ns | to art-vec | to btree | insertion, ns | to art-list | to btree |")
+    print("|---|---:|---|---:|---:|---:|---:|---:|---:|")
     for key_set, size, table in re.findall(r"(?s)\n(\w+), N = (\d+):.*?\|---.*?\n(.*?)\n(?=\n|$)", told):
         seen = {it.split("|")[1].strip(): it.split("|")[2:4] for it in table.split("\n")}
         insertion, look_up = ({name: float(it[at]) for name, it in seen.items()} for at in (0, 1))
-        row = [look_up["tree"], *(look_up["tree"] / look_up[it] for it in ("art-vec", "btree"))]
-        row += [insertion["tree"], *(insertion["tree"] / insertion[it] for it in ("art-list", "btree"))]
-        shown = " | ".join(f"{it:.0f}" if at % 3 == 0 else f"{it:.2f}" for at, it in enumerate(row))
-        print(f"| {key_set} | {size} | {shown} |")
+        for name in ("tree", "map"):
+            row = [look_up[name], *(look_up[name] / look_up[it] for it in ("art-vec", "btree"))]
+            row += [insertion[name], *(insertion[name] / insertion[it] for it in ("art-list", "btree"))]
+            shown = " | ".join(f"{it:.0f}" if at % 3 == 0 else f"{it:.2f}" for at, it in enumerate(row))
+            print(f"| {key_set} | {size} | {name} | {shown} |")
+
+
+def look_ups(folder, made, asked, sizes):
+    """Nanoseconds of an insertion, a look-up and a miss, and bytes of a pair, with the ratios of tree and map to BTreeMap."""
+    print(f"| Keys | Number | Operation | {' | '.join(made)} | tree to BTreeMap | map to BTreeMap |")
+    print(f"|---|---:|---|{'---:|' * (len(made) + 2)}", flush=True)
+    for size in sizes:
+        for key_set in asked.sets.split(","):
+            tell(f"{key_set}, {size} keys")
+            found = times(folder, made, key_set, size, asked.repeats)
+            for at, operation in enumerate(OPERATIONS):
+                row = {name: it[at] for name, it in found.items()}
+                shown = [f"{it:.0f}" for it in row.values()]
+                shown += [f"{row[name] / row['BTreeMap']:.2f}" for name in ("tree", "map")]
+                print(f"| {key_set} | {size} | {operation} | {' | '.join(shown)} |", flush=True)
 
 
 def main():
@@ -141,33 +241,31 @@ def main():
     parser.add_argument("--sizes", default="10000,100000")
     parser.add_argument("--sets", default="dense,rand8,rand16,url")
     parser.add_argument("--repeats", type=int, default=5)
+    parser.add_argument("--walks", type=int, default=0)
     parser.add_argument("--instr", action="store_true")
     parser.add_argument("--instr-size", type=int, default=10000)
     parser.add_argument("--perf")
     asked = parser.parse_args()
+    sizes = [int(it) for it in asked.sizes.split(",") if it]
     with tempfile.TemporaryDirectory() as folder:
-        made = build(folder)
-        print(f"| Keys | Number | Operation | {' | '.join(made)} | ratio |")
-        print(f"|---|---:|---|{'---:|' * len(made)}---:|")
-        for size in map(int, asked.sizes.split(",")):
-            for key_set in asked.sets.split(","):
-                tell(f"{key_set}, {size} keys")
-                found = times(folder, made, key_set, size, asked.repeats)
-                for at, operation in enumerate(OPERATIONS):
-                    row = [it[at] for it in found.values()]
-                    shown = " | ".join(f"{it:.0f}" for it in row)
-                    print(f"| {key_set} | {size} | {operation} | {shown} | {row[0] / row[1]:.2f} |", flush=True)
-        peers = {}
+        made, peers = build(folder), {}
         if asked.perf:
             tell("building the yardsticks and their peers")
             peers = yardsticks(folder, asked.perf)
+        every = {**made, **peers}
+        if sizes:
+            look_ups(folder, every, asked, sizes)
+        if asked.walks:
+            walks(folder, every, asked)
         if asked.instr:
             print(f"\nOf an insertion and of a look-up, {asked.instr_size} keys: instructions, misses of L1 and of L2:\n")
             print("| Keys | Map | insertion | L1 | L2 | look-up | L1 | L2 |\n|---|---|---:|---:|---:|---:|---:|---:|")
             for key_set in asked.sets.split(","):
                 tell(f"{key_set}, instructions")
-                instructions(folder, {**made, **peers}, key_set, asked.instr_size)
-        if asked.perf:
+                instructions(folder, every, key_set, asked.instr_size)
+            if asked.walks:
+                walk_instructions(folder, every, asked)
+        if asked.perf and sizes:
             words = [f"{folder}/bin/libbench", "--n", asked.sizes, "--keys", asked.sets]
             words += ["--repeats", str(asked.repeats)]
             words += [f"{name}={path}" for name, path in made.items()]
@@ -177,4 +275,5 @@ def main():
             ratios(told)
 
 
-main()
+if __name__ == "__main__":
+    main()

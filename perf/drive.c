@@ -1,10 +1,14 @@
-/* drive LIB.so SET COUNT REPEATS: times the map behind LIB.so's one call over COUNT keys of a set (dense, rand8, rand16,
- * url), and prints the least of the repeats, in nanoseconds of processor time: an insertion, a look-up that hits, one that
- * misses; and the bytes that a pair takes. For callgrind: with REPEATS 0 it inserts once, with -1 it also looks each key up once; what the clock doesn't
- * count isn't collected either, given --collect-atstart=no.
+/* drive LIB.so SET COUNT REPEATS [STEPS]: times the map behind LIB.so's one call over COUNT keys of a set (dense,
+ * rand8, rand16, url), and prints the least of the repeats, in nanoseconds of processor time: an insertion, a look-up
+ * that hits, one that misses; and the bytes that a pair takes. With STEPS, numbers parted by commas, it prints instead
+ * for each of these, carried out in turn in one call, the least nanoseconds in all, and at last what the call answered.
+ * For callgrind: with REPEATS 0 it carries the steps out once and prints nothing; what the clock doesn't count isn't
+ * collected either, given --collect-atstart=no.
  *
  * The call: strings end to end and where each ends, for keys and for queries; the value of key i is i. Steps: 1 inserts
- * all keys, 2 looks all queries up. It answers the sum of what it found, and nanos[i] is what step i took. */
+ * all keys, 2 looks all queries up, 3 removes them, 4 walks from the front, 7 clones, 8 walks from both ends in turn, 9
+ * checks the tree, 10 frees the tree of a clone, 11 lets the map go. It answers the sum of what it found, and nanos[i]
+ * is what step i took. */
 #define _GNU_SOURCE
 #include <dlfcn.h>
 #include <malloc.h>
@@ -40,7 +44,7 @@ typedef uint64_t (*run_t)(const uint8_t *keys, size_t keys_len, const uint64_t *
                           size_t queries_len, const uint64_t *query_ends, size_t query_count, const uint8_t *steps,
                           size_t step_count, uint64_t *nanos, size_t nanos_count);
 
-enum { LONGEST = 96 };
+enum { LONGEST = 96, MOST = 16 };
 
 static uint64_t state;
 static uint64_t next(void) {
@@ -92,22 +96,58 @@ static struct strings strings_of(const char *set, size_t count, int is_miss) {
     return all;
 }
 
-static uint64_t least[3] = {UINT64_MAX, UINT64_MAX, UINT64_MAX};
-
-static uint64_t once(run_t run, struct strings keys, struct strings queries, size_t count, const uint8_t *steps, size_t step_count,
-                     int at) {
-    uint64_t nanos[3] = {0, 0, 0};
-    uint64_t found = run(keys.bytes, keys.len, keys.ends, count, queries.bytes, queries.len, queries.ends, count, steps, step_count,
-                         nanos, step_count);
-    if (nanos[0] < least[0])
-        least[0] = nanos[0];
-    if (at && nanos[1] < least[at])
-        least[at] = nanos[1];
+/* Carries the steps out, and keeps in least what each took where that is less. */
+static uint64_t once(run_t run, struct strings keys, struct strings queries, size_t count, const uint8_t *steps,
+                     size_t step_count, uint64_t *least) {
+    uint64_t nanos[MOST] = {0};
+    uint64_t found = run(keys.bytes, keys.len, keys.ends, count, queries.bytes, queries.len, queries.ends, count, steps,
+                         step_count, nanos, step_count);
+    for (size_t i = 0; i < step_count; i++)
+        if (nanos[i] < least[i])
+            least[i] = nanos[i];
     return found;
 }
 
+/* An insertion, a look-up, a miss, and the bytes of a pair. */
+static int pairs(run_t run, struct strings keys, struct strings hits, struct strings misses, size_t count,
+                 long repeats) {
+    const uint8_t steps[2] = {1, 2};
+    uint64_t hit[2] = {UINT64_MAX, UINT64_MAX}, miss[2] = {UINT64_MAX, UINT64_MAX};
+    for (long i = 0; i < repeats; i++)
+        if (once(run, keys, hits, count, steps, 2, hit) != count || once(run, keys, misses, count, steps, 2, miss) > count)
+            return 1;
+    uint64_t weighed[1] = {UINT64_MAX};
+    is_weighing = 1;
+    once(run, keys, hits, count, steps, 1, weighed);
+    double insertion = hit[0] < miss[0] ? hit[0] : miss[0];
+    printf("%.1f %.1f %.1f %.1f\n", insertion / count, (double)hit[1] / count, (double)miss[1] / count,
+           (double)(in_use[1] - in_use[0]) / count);
+    return 0;
+}
+
+/* The steps that are asked for. */
+static int each_step(run_t run, struct strings keys, struct strings hits, size_t count, long repeats, char *asked) {
+    uint8_t steps[MOST];
+    uint64_t least[MOST], answer = 0;
+    size_t step_count = 0;
+    for (char *word = strtok(asked, ","); word && step_count < MOST; word = strtok(NULL, ","), step_count++) {
+        steps[step_count] = (uint8_t)strtoul(word, NULL, 10);
+        least[step_count] = UINT64_MAX;
+    }
+    if (!repeats) {
+        once(run, keys, hits, count, steps, step_count, least);
+        return 0;
+    }
+    for (long i = 0; i < repeats; i++)
+        answer = once(run, keys, hits, count, steps, step_count, least);
+    for (size_t i = 0; i < step_count; i++)
+        printf("%llu ", (unsigned long long)least[i]);
+    printf("%llu\n", (unsigned long long)answer);
+    return 0;
+}
+
 int main(int count_of_words, char **words) {
-    if (count_of_words != 5)
+    if (count_of_words != 5 && count_of_words != 6)
         return 2;
     void *library = dlopen(words[1], RTLD_NOW);
     run_t run = library ? (run_t)dlsym(library, "art_bench_run") : NULL;
@@ -119,16 +159,9 @@ int main(int count_of_words, char **words) {
     size_t count = strtoull(words[3], NULL, 10);
     long repeats = strtol(words[4], NULL, 10);
     state = 88172645463325252u;
-    struct strings keys = strings_of(set, count, 0), hits = strings_of(set, count, 0), misses = strings_of(set, count, 1);
-    const uint8_t steps[2] = {1, 2};
-    if (repeats <= 0)
-        return once(run, keys, hits, count, steps, 1 - repeats, 0) != (repeats ? count : 0);
-    for (long i = 0; i < repeats; i++)
-        if (once(run, keys, hits, count, steps, 2, 1) != count || once(run, keys, misses, count, steps, 2, 2) > count)
-            return 1;
-    is_weighing = 1;
-    once(run, keys, hits, count, steps, 1, 0);
-    printf("%.1f %.1f %.1f %.1f\n", (double)least[0] / count, (double)least[1] / count, (double)least[2] / count,
-           (double)(in_use[1] - in_use[0]) / count);
-    return 0;
+    struct strings keys = strings_of(set, count, 0), hits = strings_of(set, count, 0);
+    struct strings misses = strings_of(set, count, 1);
+    if (count_of_words == 6)
+        return each_step(run, keys, hits, count, repeats, words[5]);
+    return pairs(run, keys, hits, misses, count, repeats);
 }

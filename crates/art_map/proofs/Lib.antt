@@ -1,3 +1,4 @@
 pub mod Below
 pub mod LookedUp
 pub mod Maps
+pub mod Ranges

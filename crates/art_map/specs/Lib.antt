@@ -3,3 +3,4 @@ pub mod Changes
 pub mod Lends
 pub mod Found
 pub mod Walked
+pub mod Ranges

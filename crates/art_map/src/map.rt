@@ -6,6 +6,7 @@ ghost use Rattle.art_operations.specs.Runs.{HoldsTreeOf};
 
 mod changes;
 mod lookups;
+mod ranges;
 pub mod refused;
 mod removals;
 mod walks;

@@ -1,6 +1,8 @@
 pub mod Meetings
 pub mod Nearest
 pub mod Segments
+pub mod Stretches
+pub mod RangeEnds
 pub mod Points
 pub mod NewNodes
 pub mod Edits

@@ -1,6 +1,7 @@
 //! The leaves that a bound or a prefix takes.
 ghost use Rattle.std.specs.Prelude.{◌≡◌, ℕ, ◌++◌, ◌∷◌, [], Bool, true, false, List, drop, length};
 ghost use Rattle.std.specs.Prelude.{None, Some, IsSome, MatchOption};
+ghost use Rattle.std.specs.BTreeMap.Range.{is_past_end, range_contains};
 ghost use Rattle.std.specs.Range.Bound.{bound_map};
 ghost use Rattle.std.specs.declared.cmp.Ordering.TheVariants.{Less, Greater};
 ghost use Rattle.art_bytes.specs.Keys.{BeginsWith, bytes_cmp};
@@ -229,6 +230,48 @@ fn nearest_child<K: AsBytes, V, const PREFIX_LEN: usize>(
             leaf: last_leaf(arena, node),
             order: Ordering::Less,
         },
+    }
+}
+
+// Whether a key is outside a bound as an end.
+fn is_past(end: Bound<&[u8]>, key: &[u8]) -> bool
+    ensures { result ≡ is_past_end bytes_cmp (bound_map (λ last. last.now) end.entry) key.now }
+{
+    match end {
+        Bound::Included(last) => last.cmp(key).is_lt(),
+        Bound::Excluded(last) => last.cmp(key).is_le(),
+        Bound::Unbounded => false,
+    }
+}
+
+/// The first and the last of the leaves whose keys are between two bounds, in the tree below a name, or `None` where
+/// there is none, as where the start is above the end.
+///
+/// It takes no memory: it finds the first leaf from the start on and, unless that is past the end, the last leaf up to
+/// the end.
+pub fn find_range_segment<K: AsBytes, V, const PREFIX_LEN: usize>(
+    arena: &NodeArena<K, V, PREFIX_LEN>,
+    root: OpaqueNodePtr,
+    start: Bound<&[u8]>,
+    end: Bound<&[u8]>,
+) -> Option<(LeafPtr, LeafPtr)>
+    requires { (s : Shape K V) × Stores K.bytes PREFIX_LEN arena.now root s
+        × AreLinked (links_at arena.now) None (leaves s) None }
+    ensures { (s : Shape K V) → Stores K.bytes PREFIX_LEN arena.now root s
+        → AreLinked (links_at arena.now) None (leaves s) None
+        → AreEndsWhere K.bytes (λ k. range_contains bytes_cmp (bound_map (λ key. key.now) start.entry)
+        (bound_map (λ key. key.now) end.entry) k) (leaves s) result }
+{
+    let first = match find_leaf_pointer_for_bound(arena, root, start, true) {
+        Some(first) => first,
+        None => return None,
+    };
+    if is_past(end, arena.as_key_ref(first).as_bytes()) {
+        return None;
+    }
+    match find_leaf_pointer_for_bound(arena, root, end, false) {
+        Some(last) => Some((first, last)),
+        None => None,
     }
 }
 

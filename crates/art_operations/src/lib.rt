@@ -16,7 +16,7 @@ mod parent;
 pub mod prefix_insert;
 pub mod running;
 
-pub use bounds::{find_leaf_pointer_for_bound, find_prefix_segment};
+pub use bounds::{find_leaf_pointer_for_bound, find_prefix_segment, find_range_segment};
 pub use clone::{CloneResult, clone_unchecked};
 pub use deallocate::{deallocate_leaves, deallocate_tree, deallocate_tree_non_leaves};
 pub use delete::point::{

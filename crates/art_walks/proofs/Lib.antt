@@ -10,3 +10,4 @@ pub mod KeyWalks
 pub mod LinkWalks
 pub mod Verdicts
 pub mod Counted
+pub mod RunLengths

@@ -33,7 +33,7 @@ module _ {K V : Type 0} where
       ap (λ (x : Links). x.previous) same
 
   -- a leaf that ends a list stands in it
-  ends_there : (ys : List (LeafAt K V)) (b : ℕ) → last_slot None ys ≡ Some b → 1 ≤ times b ys
+  pub ends_there : (ys : List (LeafAt K V)) (b : ℕ) → last_slot None ys ≡ Some b → 1 ≤ times b ys
   ends_there ys b last =
       let e = ends_with-first ys b last in
       let here = times-here e.0 [] e.1 in
@@ -48,7 +48,7 @@ module _ {K V : Type 0} where
       let one : cond (eqb l.slot l.slot) 1 0 ≡ 1 = ap {B = ℕ} (λ b. cond b 1 0) (eqb-self l.slot) in
       absurd (omega (arith, more, one, once))
 
-  once_in : (links : ℕ → Option Links) (xs ys zs : List (LeafAt K V)) → IsList links (xs ++ (ys ++ zs)) → (n : ℕ) → times n ys ≤ 1
+  pub once_in : (links : ℕ → Option Links) (xs ys zs : List (LeafAt K V)) → IsList links (xs ++ (ys ++ zs)) → (n : ℕ) → times n ys ≤ 1
   once_in links xs ys zs list n = let o = list.once n in omega (arith, o, times-append n xs (ys ++ zs), times-append n ys zs)
 
   module _ (links : ℕ → Option Links) (a b : ℕ) (l : LeafAt K V) (ys : List (LeafAt K V)) where

@@ -4,3 +4,4 @@ pub mod Faults
 pub mod Visits
 pub mod inner
 pub mod Walked
+pub mod Bounds

@@ -1,8 +1,10 @@
 -- The pairs along linked leaves.
-use Rattle.std.specs.Prelude.{◌≡◌, ℕ, zero, suc, List, [], ◌∷◌, length, Option, Some, None}
+use Rattle.std.specs.Prelude.{◌≡◌, ◌==◌, ℕ, zero, suc, List, [], ◌∷◌, length, Option, Some, None, option_map}
+use Rattle.std.specs.Prelude.{if◌then◌else◌}
 use Rattle.std.specs.List.{AllByRecursion}
 use Rattle.art_arena.specs.arena.Arena.{Arena, Held, leaf_held, inner_held, held_at, node_at, links_at}
 use Rattle.art_arena.specs.arena.Cells.{pair, leaf_name}
+use Rattle.art_arena.specs.arena.Linked.{Links}
 use Rattle.art_arena.specs.arena.Shapes.{LeafAt}
 use Rattle.art_walks.specs.Runs.{Ends, IsWalk}
 
@@ -10,6 +12,11 @@ use Rattle.art_walks.specs.Runs.{Ends, IsWalk}
 abbrev pub start_of : Ends → Option ℕ
 start_of None = None
 start_of (Some ends) = Some ends.0
+
+-- what is left of a run behind its first leaf, which has these links, up to its last
+abbrev pub ends_behind : Option Links → ℕ → Ends
+ends_behind None last = None
+ends_behind (Some links) last = option_map (λ next. (next, last)) links.next
 
 module _ {K V : Type 0} where
   -- the pair of a leaf, and then those from the next one on
@@ -34,3 +41,10 @@ module _ {K V : Type 0} where
     pub walk : IsWalk (links_at arena) ends leaves
     pub stored : AreStored arena leaves
     pub len_is : len ≡ length leaves
+
+  -- how many leaves a run has, as far as this many show it
+  abbrev pub run_length : ℕ → Arena K V → Ends → ℕ
+  run_length zero arena ends = 0
+  run_length (suc n) arena None = 0
+  run_length (suc n) arena (Some ends) =
+      suc (if ends.0 == ends.1 then 0 else run_length n arena (ends_behind (links_at arena ends.0) ends.1))

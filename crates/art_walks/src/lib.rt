@@ -3,17 +3,21 @@
 //! The definitions stand in `specs/`.
 #![tactic(auto)]
 
+mod bounds;
 mod checker;
 mod iter;
 pub mod laws;
 mod malformed;
+mod range;
 mod raw_iterator;
 mod stats;
 mod visitor;
 
+pub use bounds::bounds_are_valid;
 pub use checker::WellFormedChecker;
 pub use iter::{Iter, Keys, Values};
 pub use malformed::MalformedTreeError;
+pub use range::{Prefix, Range};
 pub use raw_iterator::RawIterator;
 pub use stats::WellFormedTreeStats;
 pub use visitor::{Visitable, Visitor};

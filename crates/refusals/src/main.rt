@@ -4,6 +4,7 @@
 #![tactic(auto)]
 
 mod map;
+mod operations;
 
 use art_bytes::{
     AsBytes, BytesMapping, ConcatTuple, Mapped, ToIBE, ToOctets, ToUBE, ZeroEnded, ZeroEndedError,
@@ -269,6 +270,9 @@ fn main(rt: HostRuntime) -> io::Result<()> {
             run(&rt, name)?;
         }
         for name in map::NAMES {
+            run(&rt, name)?;
+        }
+        for name in operations::NAMES {
             run(&rt, name)?;
         }
     }

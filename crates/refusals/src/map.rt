@@ -1,19 +1,26 @@
 //! The calls of the map. A scenario prints the pairs, what the checker counts of the nodes, and what the call answered.
 //! A map is made and dropped in one function, and lent to all others.
 
+use crate::operations;
+use art_arena::NodeArena;
+use art_bytes::AsBytes;
 use art_map::TreeMap;
+use art_nodes::OpaqueNodePtr;
 use art_walks::WellFormedChecker;
 use std::io;
 
 /// The scenarios.
-pub const NAMES: [&str; 16] = [
+pub const NAMES: [&str; 19] = [
     "map_insert_into_none",
     "map_insert_splits",
     "map_insert_splits_a_prefix",
     "map_insert_grows",
     "map_insert_over_takes_no_memory",
     "map_try_insert_grows",
+    "map_prefix_insert_into_none",
     "map_prefix_insert_splits_a_prefix",
+    "map_prefix_insert_grows",
+    "map_prefix_insert_of_a_stored_key_takes_no_memory",
     "map_remove_shrinks",
     "map_remove_takes_no_memory",
     "map_remove_entry_shrinks",
@@ -42,8 +49,9 @@ enum Call {
     LookUps(u8),
 }
 
-// Below 100 they part at the last byte. From 100 on they stand together two by two, up to 179 in front of the former.
-fn key_of(n: u8) -> [u8; 5] {
+/// The key with a number. Below 100 they part at the last byte. From 100 on they stand together two by two, up to 179
+/// in front of the former.
+pub fn key_of(n: u8) -> [u8; 5] {
     if n < 100 {
         [1, 2, 90, 4, n]
     } else {
@@ -58,17 +66,22 @@ fn fill(map: &mut Map, from: u8, to: u8) {
     }
 }
 
-fn show_pairs(rt: &impl Print, when: &str, map: &Map) -> io::Result<()> {
+fn show_pairs<K: AsBytes>(rt: &impl Print, when: &str, map: &TreeMap<K, u64, 1>) -> io::Result<()> {
     for (key, value) in map.iter() {
-        println!(rt; "{when} {key:?} {value}")?;
+        println!(rt; "{when} {:?} {value}", key.as_bytes())?;
     }
     Ok(())
 }
 
-// How many nodes of each kind the checker counts, or its fault.
-fn show_nodes(rt: &(impl Print + AllocGlobal), when: &str, map: &Map) -> io::Result<()> {
-    let (arena, root) = map.nodes();
-    match WellFormedChecker::check(rt.alloc(), arena, root, map.len()) {
+/// How many nodes of each kind the checker counts, or its fault.
+pub fn show_nodes<K: AsBytes>(
+    rt: &(impl Print + AllocGlobal),
+    when: &str,
+    arena: &NodeArena<K, u64, 1>,
+    root: Option<OpaqueNodePtr>,
+    len: usize,
+) -> io::Result<()> {
+    match WellFormedChecker::check(rt.alloc(), arena, root, len) {
         Ok(stats) => println!(rt;
             "{when} {} leaves, nodes {} {} {} {}",
             stats.num_leaf, stats.num_node4, stats.num_node16, stats.num_node48, stats.num_node256
@@ -77,15 +90,16 @@ fn show_nodes(rt: &(impl Print + AllocGlobal), when: &str, map: &Map) -> io::Res
     }
 }
 
-// The pairs and the nodes, and what a call answered: no value, a value, or nothing where it was refused.
-fn show(
+/// The pairs and the nodes, and what a call answered: no value, a value, or nothing where it was refused.
+pub fn show<K: AsBytes>(
     rt: &(impl Print + AllocGlobal),
     when: &str,
-    map: &Map,
+    map: &TreeMap<K, u64, 1>,
     answer: Option<Option<u64>>,
 ) -> io::Result<()> {
     show_pairs(rt, when, map)?;
-    show_nodes(rt, when, map)?;
+    let (arena, root) = map.nodes();
+    show_nodes(rt, when, arena, root, map.len())?;
     match answer {
         Some(Some(value)) => println!(rt; "{when} answered {value}"),
         Some(None) => println!(rt; "{when} answered no value"),
@@ -179,7 +193,10 @@ pub fn run(rt: &(impl Print + Eprint + AllocGlobal), name: &str) -> io::Result<(
         "map_insert_grows" => calls(rt, 4, Call::Insert(4)),
         "map_insert_over_takes_no_memory" => calls(rt, 3, Call::Insert(1)),
         "map_try_insert_grows" => calls(rt, 16, Call::TryInsert(16)),
+        "map_prefix_insert_into_none" => calls(rt, 0, Call::PrefixInsert(0)),
         "map_prefix_insert_splits_a_prefix" => calls(rt, 4, Call::PrefixInsert(200)),
+        "map_prefix_insert_grows" => calls(rt, 16, Call::PrefixInsert(16)),
+        "map_prefix_insert_of_a_stored_key_takes_no_memory" => calls(rt, 3, Call::PrefixInsert(1)),
         "map_remove_shrinks" => shrinks(rt, 200, Call::Remove(2)),
         "map_remove_takes_no_memory" => calls(rt, 4, Call::Remove(2)),
         "map_remove_entry_shrinks" => shrinks(rt, 200, Call::RemoveEntry(3)),
@@ -189,6 +206,6 @@ pub fn run(rt: &(impl Print + Eprint + AllocGlobal), name: &str) -> io::Result<(
         "map_pop_last_takes_no_memory" => calls(rt, 4, Call::PopLast),
         "map_clear_takes_no_memory" => calls(rt, 7, Call::Clear),
         "map_look_ups_takes_no_memory" => calls(rt, 6, Call::LookUps(3)),
-        _ => println!(rt; "unknown"),
+        _ => operations::run(rt, name),
     }
 }

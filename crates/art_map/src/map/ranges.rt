@@ -1,0 +1,84 @@
+//! Walks over the pairs between two bounds, and over those whose keys begin with a prefix.
+ghost use Rattle.std.specs.Prelude.{◌≡◌, ◌⊎◌, []};
+ghost use Rattle.std.specs.Range.Bound.{bound_map};
+ghost use Rattle.art_arena.specs.arena.Shapes.{key_of};
+ghost use Rattle.art_arena.specs.tree.Order.{AscendsByKey};
+ghost use Rattle.art_arena.specs.tree.Tenants.{with_front};
+ghost use Rattle.art_walks.specs.Bounds.{AreValidKeyBounds};
+ghost use Rattle.art_map.specs.Ranges.{pairs_between};
+ghost use Rattle.art_map.specs.Walked.{IsWalkOf};
+
+use crate::map::TreeMap;
+use art_arena::LeafPtr;
+use art_bytes::AsBytes;
+use art_operations::{find_prefix_segment, find_range_segment};
+use art_walks::{Prefix, Range, RawIterator};
+use std::ops::Bound;
+
+// A bound of bytes: those of its key.
+fn bytes_of<Q: AsBytes>(bound: Bound<&Q>) -> Bound<&[u8]>
+    ensures { bound_map (λ bytes. bytes.now) result ≡ bound_map (λ key. Q.bytes key.now) bound.entry }
+{
+    match bound {
+        Bound::Included(key) => Bound::Included(key.as_bytes()),
+        Bound::Excluded(key) => Bound::Excluded(key.as_bytes()),
+        Bound::Unbounded => Bound::Unbounded,
+    }
+}
+
+// The run between two leaves.
+fn walk_of(ends: Option<(LeafPtr, LeafPtr)>) -> RawIterator
+    ensures { result ≡ ends }
+{
+    match ends {
+        Some((first, last)) => RawIterator::new(first, last),
+        None => RawIterator::empty(),
+    }
+}
+
+impl<K: AsBytes, V, const PREFIX_LEN: usize> TreeMap<K, V, PREFIX_LEN> {
+    // The run of the leaves between two bounds.
+    fn walk_between(&self, start: Bound<&[u8]>, end: Bound<&[u8]>) -> RawIterator
+        ensures { IsWalkOf self.now.nodes result (pairs_between K.bytes (bound_map (λ key. key.now) start.entry)
+            (bound_map (λ key. key.now) end.entry) self.now.pairs) }
+    {
+        match self.root {
+            Some(root) => walk_of(find_range_segment(&self.arena, root, start, end)),
+            None => RawIterator::empty(),
+        }
+    }
+
+    // The run of the leaves whose keys begin with these bytes.
+    fn walk_behind(&self, prefix: &[u8]) -> RawIterator
+        ensures { IsWalkOf self.now.nodes result (with_front (key_of K.bytes) prefix.now self.now.pairs) }
+    {
+        match self.root {
+            Some(root) => walk_of(find_prefix_segment(&self.arena, root, prefix)),
+            None => RawIterator::empty(),
+        }
+    }
+
+    /// The pairs whose keys are between two bounds, by their bytes, ascending, from either end. The bounds' keys need
+    /// not be stored.
+    ///
+    /// Where the map has a pair, the bounds have to be valid, as `bounds_are_valid` tells. It takes no memory.
+    pub fn range<Q: AsBytes>(&self, start: Bound<&Q>, end: Bound<&Q>) -> Range<'_, K, V, PREFIX_LEN>
+        requires { (self.now.pairs ≡ []) ⊎ AreValidKeyBounds (bound_map (λ key. Q.bytes key.now) start)
+            (bound_map (λ key. Q.bytes key.now) end) }
+        ensures rest { result ≡ pairs_between K.bytes (bound_map (λ key. Q.bytes key.now) start.entry)
+            (bound_map (λ key. Q.bytes key.now) end.entry) self.now.pairs }
+        ensures ordered { AscendsByKey (key_of K.bytes) self.now.pairs }
+    {
+        let walk = self.walk_between(bytes_of(start), bytes_of(end));
+        Range::new(&self.arena, walk)
+    }
+
+    /// The pairs whose keys begin with a prefix's bytes, ascending, from either end. It takes no memory.
+    pub fn prefix<Q: AsBytes>(&self, prefix: &Q) -> Prefix<'_, K, V, PREFIX_LEN>
+        ensures rest { result ≡ with_front (key_of K.bytes) (Q.bytes prefix.now) self.now.pairs }
+        ensures ordered { AscendsByKey (key_of K.bytes) self.now.pairs }
+    {
+        let walk = self.walk_behind(prefix.as_bytes());
+        Prefix::new(&self.arena, walk)
+    }
+}

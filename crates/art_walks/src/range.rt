@@ -1,0 +1,161 @@
+//! Walks that lend the pairs of a run of leaves, which need not be counted.
+ghost use Rattle.std.specs.Prelude.{◌≡◌, ℕ, length, ⊤};
+ghost use Rattle.std.specs.Iterator.{at_most};
+ghost use Rattle.std.specs.Map.Iter.{TakesFirst, TakesLast, deref_pair};
+ghost use Rattle.art_arena.specs.arena.Shapes.{pairs_of};
+ghost use Rattle.art_walks.specs.Walked.{IsCounted};
+
+use crate::raw_iterator::RawIterator;
+use art_arena::NodeArena;
+use std::alloc::AllocError;
+use std::iter::FusedIterator;
+use std::marker::{Model, PhantomData};
+
+/// The pairs of a run of leaves in order, from either end. It is seen as the list of those still to come, and does not
+/// know how many they are.
+///
+/// The last parameter is never written: it tells the borrow check that the arena lives as long as it is lent.
+#[derive(Drop)]
+pub struct Range<'a, K, V, const PREFIX_LEN: usize, M: 'a = NodeArena<K, V, PREFIX_LEN>> {
+    arena: &'a NodeArena<K, V, PREFIX_LEN>,
+    leaves: RawIterator,
+    mark: PhantomData<M>,
+}
+
+impl<'a, K, V, const PREFIX_LEN: usize, M: 'a> Model for Range<'a, K, V, PREFIX_LEN, M> {
+    ghost use Rattle.std.specs.Prelude.{List};
+    ghost use Rattle.art_arena.proofs.shapes.Measures.{slots_of};
+    ghost use Rattle.art_walks.specs.Walked.{IsCounted, pairs_along, run_length, start_of};
+
+    ghost Value = { List (K × V) };
+
+    ghost view = { λ it. pairs_along (run_length (slots_of it.arena.now) it.arena.now it.leaves) it.arena.now
+        (start_of it.leaves) };
+
+    ghost invariant = { λ it. IsCounted it.arena.now it.leaves
+        (run_length (slots_of it.arena.now) it.arena.now it.leaves) };
+}
+
+impl<'a, K, V, const PREFIX_LEN: usize> Range<'a, K, V, PREFIX_LEN> {
+    /// The pairs of a run of leaves.
+    pub fn new(arena: &'a NodeArena<K, V, PREFIX_LEN>, leaves: RawIterator) -> Self
+        requires { (n : ℕ) × IsCounted arena.now leaves n }
+        ensures { (n : ℕ) (run : IsCounted arena.now leaves n) → result ≡ pairs_of run.leaves }
+    {
+        Range {
+            arena,
+            leaves,
+            mark: PhantomData,
+        }
+    }
+}
+
+impl<'a, K, V, const PREFIX_LEN: usize> Clone for Range<'a, K, V, PREFIX_LEN> {
+    ghost is_clone = { λ original copy. copy ≡ original };
+
+    ghost is_infallible = { λ _. ⊤ };
+
+    fn clone(&self) -> Result<Self, AllocError> {
+        Ok(Range {
+            arena: self.arena,
+            leaves: self.leaves,
+            mark: PhantomData,
+        })
+    }
+}
+
+impl<'a, K, V, const PREFIX_LEN: usize> Iterator for Range<'a, K, V, PREFIX_LEN> {
+    type Item = (&'a K, &'a V);
+
+    ghost next_gives = { TakesFirst deref_pair };
+
+    ghost remaining = { λ rest. at_most (length rest) };
+
+    #[inline]
+    fn next(&mut self) -> Option<(&'a K, &'a V)> {
+        let arena = self.arena;
+        let leaf = match self.leaves.next(arena) {
+            Some(leaf) => leaf,
+            None => return None,
+        };
+        Some(arena.as_key_value_ref(leaf))
+    }
+}
+
+impl<'a, K, V, const PREFIX_LEN: usize> FusedIterator for Range<'a, K, V, PREFIX_LEN> {}
+
+impl<'a, K, V, const PREFIX_LEN: usize> DoubleEndedIterator for Range<'a, K, V, PREFIX_LEN> {
+    ghost next_back_gives = { TakesLast deref_pair };
+
+    #[inline]
+    fn next_back(&mut self) -> Option<(&'a K, &'a V)> {
+        let arena = self.arena;
+        let leaf = match self.leaves.next_back(arena) {
+            Some(leaf) => leaf,
+            None => return None,
+        };
+        Some(arena.as_key_value_ref(leaf))
+    }
+}
+
+/// The pairs of the leaves behind a prefix in order, from either end. It is seen as the list of those still to come.
+#[derive(Drop)]
+pub struct Prefix<'a, K, V, const PREFIX_LEN: usize, M: 'a = NodeArena<K, V, PREFIX_LEN>> {
+    inner: Range<'a, K, V, PREFIX_LEN, M>,
+}
+
+impl<'a, K, V, const PREFIX_LEN: usize, M: 'a> Model for Prefix<'a, K, V, PREFIX_LEN, M> {
+    ghost use Rattle.std.specs.Prelude.{List};
+
+    ghost Value = { List (K × V) };
+
+    ghost view = { λ it. it.inner };
+}
+
+impl<'a, K, V, const PREFIX_LEN: usize> Prefix<'a, K, V, PREFIX_LEN> {
+    /// The pairs of a run of leaves.
+    pub fn new(arena: &'a NodeArena<K, V, PREFIX_LEN>, leaves: RawIterator) -> Self
+        requires { (n : ℕ) × IsCounted arena.now leaves n }
+        ensures { (n : ℕ) (run : IsCounted arena.now leaves n) → result ≡ pairs_of run.leaves }
+    {
+        Prefix {
+            inner: Range::new(arena, leaves),
+        }
+    }
+}
+
+impl<'a, K, V, const PREFIX_LEN: usize> Clone for Prefix<'a, K, V, PREFIX_LEN> {
+    ghost is_clone = { λ original copy. copy ≡ original };
+
+    ghost is_infallible = { λ _. ⊤ };
+
+    fn clone(&self) -> Result<Self, AllocError> {
+        Ok(Prefix {
+            inner: self.inner.clone()?,
+        })
+    }
+}
+
+impl<'a, K, V, const PREFIX_LEN: usize> Iterator for Prefix<'a, K, V, PREFIX_LEN> {
+    type Item = (&'a K, &'a V);
+
+    ghost next_gives = { TakesFirst deref_pair };
+
+    ghost remaining = { λ rest. at_most (length rest) };
+
+    #[inline]
+    fn next(&mut self) -> Option<(&'a K, &'a V)> {
+        self.inner.next()
+    }
+}
+
+impl<'a, K, V, const PREFIX_LEN: usize> FusedIterator for Prefix<'a, K, V, PREFIX_LEN> {}
+
+impl<'a, K, V, const PREFIX_LEN: usize> DoubleEndedIterator for Prefix<'a, K, V, PREFIX_LEN> {
+    ghost next_back_gives = { TakesLast deref_pair };
+
+    #[inline]
+    fn next_back(&mut self) -> Option<(&'a K, &'a V)> {
+        self.inner.next_back()
+    }
+}
