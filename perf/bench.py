@@ -129,8 +129,8 @@ def stepped(folder, made, key_set, size, repeats):
     steps, least = {}, {}
     for name in made:
         asked = [*WALKS.values(), *NODES.values()] if name == "map" else [*WALKS.values()]
-        # (the clone of both is one step, and what lets the map go comes last)
-        steps[name] = [1, *sorted(set(asked) - {11}), 11]
+        # (a first walk warms the caches for those that count; a clone is one step; what lets the map go comes last)
+        steps[name] = [1, 4, 4, 8, *sorted(set(asked) - {4, 8, 11}), 11]
         least[name] = [float("inf")] * len(steps[name])
     for _ in range(repeats):
         for name, path in made.items():
@@ -156,7 +156,8 @@ def walks(folder, made, asked):
     print(f"| Keys | Map | {' | '.join(WALKS)} |\n|---|---|{'---:|' * len(WALKS)}", flush=True)
     for key_set in asked.sets.split(","):
         tell(f"{key_set}, walks over {size} pairs")
-        sums = {answer(folder, path, key_set, size, step) for name, path in made.items() for step in (4, 8) if has(name, step)}
+        few = max(size // 100, 100)
+        sums = {answer(folder, path, key_set, few, it) for name, path in made.items() for it in (4, 8) if has(name, it)}
         assert len(sums) == 1, f"walks give {sums}"
         found = stepped(folder, made, key_set, size, asked.repeats)
         for name, took in found.items():

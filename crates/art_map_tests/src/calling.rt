@@ -3,7 +3,9 @@
 use art_bytes::{SliceKey, StrKey};
 use art_map::{TreeMap, TryInsertError};
 use art_operations::InsertRefused;
+use art_walks::bounds_are_valid;
 use std::alloc::{AllocError, Global};
+use std::ops::Bound;
 
 /// A table of address blocks, of which none holds another: each goes by the front of its addresses.
 pub fn block_of<'a>(
@@ -41,6 +43,30 @@ pub fn spread(counts: &TreeMap<[u8; 4], u32, 16>) -> Option<u32> {
     let first = values.next()?;
     let last = values.next_back()?;
     Some(last.abs_diff(*first))
+}
+
+/// The counts of the words from one on, up to another that is left out, in sum.
+pub fn count_between(counts: &TreeMap<[u8; 4], u32, 16>, first: &[u8; 4], end: &[u8; 4]) -> u32 {
+    let [start, end] = [Bound::Included(first), Bound::Excluded(end)];
+    if !bounds_are_valid(start, end) {
+        return 0;
+    }
+    let mut sum = 0u32;
+    for (_, count) in counts.range(start, end) {
+        sum = sum.saturating_add(*count);
+    }
+    sum
+}
+
+/// The first block within a larger one, and the last.
+pub fn blocks_within<'a>(
+    blocks: &'a TreeMap<SliceKey<'_>, u32, 16>,
+    front: &[u8],
+) -> (Option<&'a u32>, Option<&'a u32>) {
+    let query = SliceKey(front);
+    let first = blocks.prefix(&query).next();
+    let last = blocks.prefix(&query).next_back();
+    (first.map(|pair| pair.1), last.map(|pair| pair.1))
 }
 
 /// Takes the first words out until so many are left.

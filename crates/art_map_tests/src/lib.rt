@@ -7,6 +7,8 @@ mod calling;
 #[cfg(test)]
 mod calls;
 #[cfg(test)]
+mod ranges;
+#[cfg(test)]
 mod replay;
 #[cfg(test)]
 mod rows;

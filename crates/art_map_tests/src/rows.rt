@@ -1,5 +1,7 @@
 //! Rows from outside: what calls answer one after the other.
-use crate::calling::{block_of, count, films, give, keep_last, spread};
+use crate::calling::{
+    block_of, blocks_within, count, count_between, films, give, keep_last, spread,
+};
 use art_bytes::{AsBytes, SliceKey, StrKey};
 use art_map::{TreeMap, TryInsertError};
 use std::test::Fail;
@@ -109,7 +111,10 @@ fn a_caller_finds_a_block(rt: HostRuntime) {
     assert!(rt; is_put(&mut blocks, SliceKey(&[10, 1]), 7, None));
     assert!(rt; block_of(&blocks, &[10, 1, 2, 3]) == Some(&7));
     assert!(rt; block_of(&blocks, &[10, 2, 2, 3]).is_none());
-    assert!(rt; matches!(give(&mut blocks, &[10], 8), Ok(1)));
+    assert!(rt; is_put(&mut blocks, SliceKey(&[10, 3, 1]), 9, None));
+    assert!(rt; blocks_within(&blocks, &[10]) == (Some(&7), Some(&9)));
+    assert!(rt; blocks_within(&blocks, &[11]) == (None, None));
+    assert!(rt; matches!(give(&mut blocks, &[10], 8), Ok(2)));
     assert!(rt; block_of(&blocks, &[10, 2, 2, 3]) == Some(&8));
 }
 
@@ -121,6 +126,9 @@ fn a_caller_counts_words(rt: HostRuntime) {
     assert!(rt; count(&mut counts, *b"leaf").is_ok());
     assert!(rt; count(&mut counts, *b"tree").is_ok());
     assert!(rt; spread(&counts) == Some(1));
+    assert!(rt; count_between(&counts, b"leaf", b"tree") == 1);
+    assert!(rt; count_between(&counts, b"m...", b"z...") == 2);
+    assert!(rt; count_between(&counts, b"tree", b"leaf") == 0);
     assert!(rt; keep_last(&mut counts, 1).is_ok());
     assert!(rt; counts.len() == 1 && counts.contains_key(b"tree"));
 }

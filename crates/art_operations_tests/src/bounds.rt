@@ -5,7 +5,8 @@ ghost use Rattle.art_operations.specs.Runs.{HoldsClonesOf, IsCloned};
 use art_arena::LeafPtr;
 use art_bytes::CloneBytes;
 use art_operations::{
-    Command, RunResult, find_leaf_pointer_for_bound, find_prefix_segment, run, search_unchecked,
+    Command, RunResult, find_leaf_pointer_for_bound, find_prefix_segment, find_range_segment, run,
+    search_unchecked,
 };
 use std::alloc::{AllocError, Global};
 use std::ops::Bound;
@@ -63,6 +64,33 @@ fn spans<K: CloneBytes, V: Clone, const PREFIX_LEN: usize>(
         None => return false,
     };
     let found = find_prefix_segment(&ran.arena, root, prefix);
+    match found {
+        Some((first, last)) => match wanted {
+            Some((low, high)) => {
+                leaf_of(ran, low) == Some(first) && leaf_of(ran, high) == Some(last)
+            }
+            None => false,
+        },
+        None => wanted.is_none(),
+    }
+}
+
+// Whether the leaves between two bounds go from this key's to that one's, or there is none.
+fn lies_between<K: CloneBytes, V: Clone, const PREFIX_LEN: usize>(
+    ran: &RunResult<K, V, PREFIX_LEN>,
+    start: Bound<&[u8]>,
+    end: Bound<&[u8]>,
+    wanted: Option<(&[u8], &[u8])>,
+) -> bool
+    requires { (n : ℕ) × (pairs : List (K × V))
+        × HoldsClonesOf K.bytes PREFIX_LEN ran.now.arena (IsCloned K.is_clone n) (IsCloned V.is_clone n)
+        ran.now.root pairs }
+{
+    let root = match ran.root {
+        Some(root) => root,
+        None => return false,
+    };
+    let found = find_range_segment(&ran.arena, root, start, end);
     match found {
         Some((first, last)) => match wanted {
             Some((low, high)) => {
@@ -147,13 +175,51 @@ fn prefixes_stand<K: CloneBytes, V: Clone, const PREFIX_LEN: usize>(
     true
 }
 
+// Whether each range has its leaves: several, one, or none, where the bounds part, meet or cross.
+fn ranges_stand<K: CloneBytes, V: Clone, const PREFIX_LEN: usize>(
+    ran: &RunResult<K, V, PREFIX_LEN>,
+) -> bool
+    requires { (n : ℕ) × (pairs : List (K × V))
+        × HoldsClonesOf K.bytes PREFIX_LEN ran.now.arena (IsCloned K.is_clone n) (IsCloned V.is_clone n)
+        ran.now.root pairs }
+{
+    let rows: [(Bound<&[u8]>, Bound<&[u8]>, Option<(&[u8], &[u8])>); 8] = [
+        (Bound::Unbounded, Bound::Unbounded, Some((LOW, HIGH))),
+        (
+            Bound::Excluded(LOW),
+            Bound::Excluded(HIGH),
+            Some((FIRST, MIDDLE)),
+        ),
+        (Bound::Included(LOW), Bound::Included(LOW), Some((LOW, LOW))),
+        (Bound::Included(LOW), Bound::Excluded(LOW), None),
+        (Bound::Excluded(LOW), Bound::Excluded(FIRST), None),
+        (
+            Bound::Included(&[127]),
+            Bound::Unbounded,
+            Some((FIRST, HIGH)),
+        ),
+        (
+            Bound::Unbounded,
+            Bound::Excluded(&[127, 127, 127, 5]),
+            Some((LOW, MIDDLE)),
+        ),
+        (Bound::Included(HIGH), Bound::Included(LOW), None),
+    ];
+    for (start, end, wanted) in rows {
+        if !lies_between(ran, start, end, wanted) {
+            return false;
+        }
+    }
+    true
+}
+
 // Whether all of them stand in what the commands leave, where a header stores no byte of a prefix.
 fn all_stand_0<K: CloneBytes, V: Clone>(
     alloc: Global,
     commands: &[Command<K, V>],
 ) -> Result<bool, AllocError> {
     let ran: RunResult<K, V, 0> = run(alloc, commands)?;
-    Ok(bounds_stand(&ran) && prefixes_stand(&ran))
+    Ok(bounds_stand(&ran) && prefixes_stand(&ran) && ranges_stand(&ran))
 }
 
 // Where it stores four.
@@ -162,7 +228,7 @@ fn all_stand_4<K: CloneBytes, V: Clone>(
     commands: &[Command<K, V>],
 ) -> Result<bool, AllocError> {
     let ran: RunResult<K, V, 4> = run(alloc, commands)?;
-    Ok(bounds_stand(&ran) && prefixes_stand(&ran))
+    Ok(bounds_stand(&ran) && prefixes_stand(&ran) && ranges_stand(&ran))
 }
 
 // Where it stores sixteen.
@@ -171,7 +237,7 @@ fn all_stand_16<K: CloneBytes, V: Clone>(
     commands: &[Command<K, V>],
 ) -> Result<bool, AllocError> {
     let ran: RunResult<K, V, 16> = run(alloc, commands)?;
-    Ok(bounds_stand(&ran) && prefixes_stand(&ran))
+    Ok(bounds_stand(&ran) && prefixes_stand(&ran) && ranges_stand(&ran))
 }
 
 #[test]

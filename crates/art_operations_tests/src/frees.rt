@@ -9,7 +9,7 @@ use crate::commands::nodes_in;
 use crate::memory::tree_of;
 use crate::trees::put_beside;
 use art_arena::NodeArena;
-use art_bytes::{AsBytes, CloneBytes};
+use art_bytes::{AsBytes, CloneBytes, SliceKey};
 use art_nodes::OpaqueNodePtr;
 use art_operations::{
     Command, deallocate_leaves, deallocate_tree, deallocate_tree_non_leaves, maximum_unchecked,
@@ -18,11 +18,11 @@ use art_operations::{
 use std::alloc::{AllocError, Global};
 use std::test::Fail;
 
-// What a free leaves: how many nodes of each kind, and how many leaves it told.
-type Left = ([usize; 5], usize);
+/// What a free leaves: how many nodes of each kind, and how many leaves it told.
+pub(crate) type Left = ([usize; 5], usize);
 
-// Frees the tree that an arena holds.
-fn frees_all<K: AsBytes + Drop, V: Drop>(
+/// Frees the tree that an arena holds.
+pub(crate) fn frees_all<K: AsBytes + Drop, V: Drop>(
     arena: &mut NodeArena<K, V, 4>,
     root: OpaqueNodePtr,
 ) -> Left
@@ -105,8 +105,8 @@ fn frees_none<K: CloneBytes + Drop, V: Clone + Drop>(
     Some(nodes_in(&tree.0))
 }
 
-// Insertions that make inner nodes of all four kinds one below the other, and 70 leaves.
-fn all_kinds(alloc: Global) -> Result<Vec<Command<[u8; 4], u8>>, AllocError> {
+/// Insertions that make inner nodes of all four kinds one below the other, and 70 leaves.
+pub(crate) fn all_kinds(alloc: Global) -> Result<Vec<Command<[u8; 4], u8>>, AllocError> {
     let mut commands = Vec::new(alloc);
     for byte in 0..49u8 {
         commands.push(Command::Insert([byte, 0, 0, 0], byte))?;
@@ -152,5 +152,27 @@ fn a_free_leaves_what_stands_beside(rt: HostRuntime) -> Result<(), Fail> {
         &[7, 9, 3, 1],
     );
     assert!(rt; left == Some(([0, 0, 0, 0, 1], 70)));
+    Ok(())
+}
+
+// Insertions of keys of 0, 1, 2, .. zeros and a one, whose tree has a branch at each byte.
+fn stairs(alloc: Global, bytes: &[u8]) -> Result<Vec<Command<SliceKey<'_>, usize>>, AllocError> {
+    let mut commands = Vec::new(alloc);
+    for zeros in 0..bytes.len() {
+        match bytes.get(bytes.len() - 1 - zeros..) {
+            Some(key) => commands.push(Command::Insert(SliceKey(key), zeros))?,
+            None => {}
+        }
+    }
+    Ok(commands)
+}
+
+#[test]
+fn a_deep_tree_is_freed(rt: HostRuntime) -> Result<(), Fail> {
+    let mut bytes = Vec::from_elem(rt.alloc(), 0u8, 3_000)?;
+    bytes.push(1)?;
+    let commands = stairs(rt.alloc(), bytes.as_slice())?;
+    let left = left_of(rt.alloc(), commands.as_slice());
+    assert!(rt; left == Some(([0, 0, 0, 0, 0], 3_001)));
     Ok(())
 }

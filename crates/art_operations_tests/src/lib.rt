@@ -8,6 +8,8 @@ mod bounds;
 #[cfg(test)]
 mod calling;
 #[cfg(test)]
+mod clones;
+#[cfg(test)]
 mod commands;
 #[cfg(test)]
 mod frees;

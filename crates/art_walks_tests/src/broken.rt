@@ -1,6 +1,6 @@
 //! What a check answers of arenas made by public calls: canonical trees, and one of each fault.
 use art_arena::{LeafPtr, NodeArena, Stored};
-use art_bytes::AsBytes;
+use art_bytes::{AsBytes, SliceKey};
 use art_nodes::{
     InnerNode4, InnerNode16, InnerNodeCommon, InnerNodeInit, Kind4, LeafNode, NodePtr,
     OpaqueNodePtr,
@@ -10,8 +10,11 @@ use std::alloc::Global;
 
 type Answer = Option<Result<WellFormedTreeStats, MalformedTreeError>>;
 
-// Stores a leaf without neighbours.
-fn leaf<K: Drop, V: Drop>(arena: &mut NodeArena<K, V, 16>, entry: (K, V)) -> Option<LeafPtr> {
+/// Stores a leaf without neighbours.
+pub(crate) fn leaf<K: Drop, V: Drop>(
+    arena: &mut NodeArena<K, V, 16>,
+    entry: (K, V),
+) -> Option<LeafPtr> {
     let (key, value) = entry;
     match arena.allocate_node_ptr(LeafNode::with_no_siblings(key, value)) {
         Ok(leaf) => Some(leaf),
@@ -33,8 +36,8 @@ fn link<K, V>(
     }
 }
 
-// Stores an inner node with this prefix and these children, as far as it has room.
-fn inner<N, K, V>(
+/// Stores an inner node with this prefix and these children, as far as it has room.
+pub(crate) fn inner<N, K, V>(
     arena: &mut NodeArena<K, V, 16>,
     prefix: &[u8],
     children: &[(u8, OpaqueNodePtr)],
@@ -104,6 +107,23 @@ fn second_is_freed<K: AsBytes + Drop, V: Drop>(alloc: Global, entries: [(K, V); 
     told(alloc, &arena, root)
 }
 
+// A leaf under two bytes.
+fn shares_a_leaf<K: AsBytes + Drop, V: Drop>(alloc: Global, entry: (K, V)) -> Answer {
+    let mut arena: NodeArena<K, V, 16> = NodeArena::new(alloc);
+    let only = leaf(&mut arena, entry)?;
+    let children = [(0, only.to_opaque()), (1, only.to_opaque())];
+    let root = inner::<InnerNode4<K, V, 16>, K, V>(&mut arena, b"", &children)?;
+    told(alloc, &arena, root)
+}
+
+// Of the first names of two kinds one is held.
+fn is_of_another_kind<K: AsBytes + Drop, V: Drop>(alloc: Global, entry: (K, V)) -> Answer {
+    let mut arena: NodeArena<K, V, 16> = NodeArena::new(alloc);
+    let _only = leaf(&mut arena, entry)?;
+    let other: NodePtr<Kind4> = NodePtr::from_slot(0);
+    told(alloc, &arena, other.to_opaque())
+}
+
 fn one_child<K: AsBytes + Drop, V: Drop>(alloc: Global, entry: (K, V)) -> Answer {
     let mut arena: NodeArena<K, V, 16> = NodeArena::new(alloc);
     let only = leaf(&mut arena, entry)?;
@@ -147,6 +167,14 @@ fn linked_backwards<K: AsBytes + Drop, V: Drop>(alloc: Global, entries: [(K, V);
     let (root, first, second) = pair(&mut arena, b"", entries)?;
     link(&mut arena, first, Some(second), None);
     link(&mut arena, second, None, Some(first));
+    told(alloc, &arena, root)
+}
+
+fn linked_in_a_ring<K: AsBytes + Drop, V: Drop>(alloc: Global, entries: [(K, V); 2]) -> Answer {
+    let mut arena: NodeArena<K, V, 16> = NodeArena::new(alloc);
+    let (root, first, second) = pair(&mut arena, b"", entries)?;
+    link(&mut arena, first, Some(second), Some(second));
+    link(&mut arena, second, Some(first), Some(first));
     told(alloc, &arena, root)
 }
 
@@ -194,11 +222,15 @@ fn is_ok(answer: Answer, num_node4: usize, num_leaf: usize) -> bool {
 fn a_loop_is_found(rt: HostRuntime) {
     let answer = names_itself(rt.alloc(), ([0u8], 1u8));
     assert!(rt; is_fault(answer, MalformedTreeError::LoopFound));
+    let answer = shares_a_leaf(rt.alloc(), ([0u8], 1u8));
+    assert!(rt; is_fault(answer, MalformedTreeError::LoopFound));
 }
 
 #[test]
 fn a_dead_name_is_found(rt: HostRuntime) {
     let answer = second_is_freed(rt.alloc(), [([0u8], 1u8), ([1], 2)]);
+    assert!(rt; is_fault(answer, MalformedTreeError::DeadName));
+    let answer = is_of_another_kind(rt.alloc(), ([0u8], 1u8));
     assert!(rt; is_fault(answer, MalformedTreeError::DeadName));
 }
 
@@ -219,8 +251,19 @@ fn a_wrong_prefix_is_found(rt: HostRuntime) {
 }
 
 #[test]
+fn a_key_that_stands_elsewhere_is_found(rt: HostRuntime) {
+    let answer = two_below(rt.alloc(), b"", [([0u8], 1u8), ([2], 2)]);
+    assert!(rt; is_fault(answer, MalformedTreeError::PrefixMismatch));
+    let short = SliceKey(&[8]);
+    let answer = two_below(rt.alloc(), b"\x08", [(short, 1u8), (SliceKey(&[8, 1]), 2)]);
+    assert!(rt; is_fault(answer, MalformedTreeError::PrefixMismatch));
+}
+
+#[test]
 fn wrong_links_are_found(rt: HostRuntime) {
     let answer = linked_backwards(rt.alloc(), [([0u8], 1u8), ([1], 2)]);
+    assert!(rt; is_fault(answer, MalformedTreeError::WrongSiblingLinks));
+    let answer = linked_in_a_ring(rt.alloc(), [([0u8], 1u8), ([1], 2)]);
     assert!(rt; is_fault(answer, MalformedTreeError::WrongSiblingLinks));
     let answer = unlinked(rt.alloc(), [([0u8], 1u8), ([1], 2)]);
     assert!(rt; is_fault(answer, MalformedTreeError::WrongSiblingLinks));

@@ -3,11 +3,22 @@
 #![tactic(auto)]
 
 #[cfg(test)]
+mod bounds;
+#[cfg(test)]
 mod broken;
 #[cfg(test)]
 mod calling;
 #[cfg(test)]
 mod checks;
+#[cfg(test)]
+mod deep;
+#[cfg(test)]
+mod one_tree;
+#[cfg(test)]
+mod refused;
+#[cfg(test)]
+mod replay;
+pub mod sorted;
 #[cfg(test)]
 mod stats;
 #[cfg(test)]

@@ -1,6 +1,5 @@
-use Rattle.std.proofs.Common.{arith}
 use Rattle.art_index.proofs.ReplyLines.{found_parts}
-use Rattle.art_index.proofs.Gathering.{length-found, puts_then, puts_same}
+use Rattle.art_index.proofs.Gathering.{puts_then, puts_same}
 use Rattle.art_index.proofs.room.put_found.Goals as goal
 
 pub returns : goal.returns
