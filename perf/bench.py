@@ -1,12 +1,15 @@
 #!/usr/bin/env python3
 """./bench: times the tree and the map beside the kit's BTreeMap, all proved, and prints tables with ratios.
 
-    ./bench [--sizes 10000,100000] [--sets dense,rand8,rand16,url] [--repeats 5] [--instr] [--walks SIZE] [--perf FOLDER]
+    ./bench [--sizes 10000,100000] [--sets dense,rand8,rand16,url] [--repeats 5] [--instr] [--walks SIZE]
+        [--ranges SIZE] [--program SIZES] [--perf FOLDER]
 It proves and builds the libraries where they are not built, and needs nothing but rt and cc. --walks SIZE times walks
-over so many pairs, from the front and from both ends, the check of a tree, its clone and its free. --instr counts
+over so many pairs, from the front and from both ends, the check of a tree, its clone and its free. --ranges SIZE times
+ranges of 100 pairs and of one, and walks of the pairs behind a prefix, in maps of so many pairs. --instr counts
 instructions and cache misses by callgrind (no noise, whatever else runs), at --instr-size keys (10000). --perf FOLDER: a
 folder of yardsticks with build.sh, libbench and peers (cargo, valgrind and Debian's libjudy-dev, libabsl-dev): its table
-follows, with unproved peers, and three of them stand in all tables. --sizes '' leaves look-ups and insertions out.
+follows, with unproved peers, and three of them stand in all tables. --program SIZES, which needs it, times lines of the
+program beside its peers: loads, `get` lines, misses and dumps. --sizes '' leaves look-ups and insertions out.
 Standard error tells how far it is. Times are processor time; take ratios from one run alone.
 """
 import argparse
@@ -25,6 +28,17 @@ OPERATIONS = ("insertion, ns", "look-up, ns", "miss, ns", "bytes")
 # Steps of perf/drive.c: what is timed of each map that has it, and what of the map here alone.
 WALKS = {"from the front": 4, "from both ends": 8, "clone": 7, "let go": 11}
 NODES = {"check_tree": 9, "clone_unchecked": 7, "deallocate_tree": 10}
+# Of ranges: the step, how many pairs each walk has, or about as many, and whether the time is told of a pair or a walk.
+RANGES = {
+    "range of 100, a pair": (6, 100, True),
+    "behind a prefix, a pair": (5, 100, True),
+    "range of one pair": (6, 1, False),
+}
+NO_RANGES = {"tree", "BTreeMap"}
+# Of the program: the words of yardsticks/gen, and how many lines or records one tells the cost of, as a part of all.
+LINES = {"load": 1, "get": 1, "miss": 1, "dump": 2}
+LINE_PEERS = ("btree", "map", "art")
+LINE_SETS = "dense,rand8,rand16,url,tenants"
 NO_WALKS = {"tree"}
 NO_LINKS = {"art-vec"}
 PARTS = ("src", "specs", "proofs")
@@ -170,6 +184,84 @@ def walks(folder, made, asked):
     print("\n".join([f"| Keys | nodes | {' | '.join(NODES)} |", f"|---|---:|{'---:|' * len(NODES)}", *rows]), flush=True)
 
 
+def ranged(folder, made, key_set, size, repeats):
+    """By map, nanoseconds of each kind of range, the least of the repeats, the maps in turn; and how many pairs stand
+    behind a prefix."""
+    least, behind = {name: [float("inf")] * len(RANGES) for name in made}, 0
+    for at, (step, span, is_of_pair) in enumerate(RANGES.values()):
+        sums = set()
+        for _ in range(repeats):
+            for name, path in made.items():
+                words = [f"{folder}/drive", path, key_set, str(size), "1", f"1,{step}", str(span)]
+                _, took, answered, met = map(int, called(words).split())
+                sums.add(answered)
+                walks = size // 100
+                least[name][at] = min(least[name][at], took / (met if is_of_pair else walks))
+                behind = met / walks if step == 5 else behind
+        assert len(sums) == 1, f"ranges give {sums}"
+    return least, behind
+
+
+def ranges(folder, made, asked):
+    """Nanoseconds of ranges and of walks behind a prefix, and the ratios of the map here to its peers."""
+    size, made = asked.ranges, {name: path for name, path in made.items() if name not in NO_RANGES}
+    print(f"\nRanges among {size} pairs, nanoseconds:\n")
+    print(f"| Keys | Pairs behind a prefix | Map | {' | '.join(RANGES)} |")
+    print(f"|---|---:|---|{'---:|' * len(RANGES)}", flush=True)
+    for key_set in asked.sets.split(","):
+        tell(f"{key_set}, ranges among {size} pairs")
+        found, behind = ranged(folder, made, key_set, size, asked.repeats)
+        rows = {name: [f"{it:.1f}" for it in took] for name, took in found.items()}
+        for peer in ("art-list", "btree"):
+            if peer in found:
+                rows[f"map to {peer}"] = [f"{here / there:.2f}" for here, there in zip(found["map"], found[peer])]
+        for name, cells in rows.items():
+            print(f"| {key_set} | {behind:.0f} | {name} | {' | '.join(cells)} |", flush=True)
+
+
+def line_costs(folder, programs, key_set, size, repeats):
+    """By program, nanoseconds of each kind of line and bytes a record: the least of the repeats, the programs in turn."""
+    scripts = {it: f"{folder}/{it}" for it in ("none", *LINES)}
+    for it, path in scripts.items():
+        with open(path, "wb") as file:
+            words = [f"{folder}/bin/gen", f"{key_set}/{it}", str(size), "1"]
+            file.write(subprocess.run(words, check=True, capture_output=True).stdout if it != "none" else b"")
+    least, names = {(it, name): float("inf") for it in (*LINES, "bytes") for name in programs}, [*programs]
+    for turn in range(repeats):
+        for it in LINES:
+            if it == "load":
+                continue
+            for name in names[turn % len(names) :] + names[: turn % len(names)]:
+                meas = [f"{folder}/bin/meas", scripts["load"], scripts[it], "/dev/null", programs[name]]
+                empty = [f"{folder}/bin/meas", scripts["none"], scripts["none"], "/dev/null", programs[name]]
+                told = [float(word) for word in called(meas).split()]
+                idle = float(called(empty).split()[5])
+                found = {"load": told[0] * 1e9 / size, it: told[2] * 1e9 / size / LINES[it]}
+                found["bytes"] = (told[5] - idle) * 1024 / size
+                for what, cost in found.items():
+                    least[what, name] = min(least[what, name], cost)
+    return least
+
+
+def program(folder, asked):
+    """The program beside its peers: nanoseconds of a line, or of a record dumped, and bytes of peak memory a record."""
+    tell("proving and building art_index, where it is not built")
+    called([os.environ.get("RT", "rt"), "run"], cwd="crates/art_index", stdin=subprocess.DEVNULL)
+    programs = {name: f"{folder}/bin/peer_{name}" for name in LINE_PEERS}
+    programs["here"] = os.path.abspath("crates/art_index/out/art_index")
+    for size in map(int, asked.program.split(",")):
+        print(f"\n{size} records, nanoseconds a line (a record of a dump), bytes a record:\n")
+        print(f"| Keys | | {' | '.join(programs)} | to btree | to art |\n|---|---|{'---:|' * (len(programs) + 2)}")
+        for key_set in LINE_SETS.split(","):
+            tell(f"{key_set}, {size} records of the program")
+            least = line_costs(folder, programs, key_set, size, asked.repeats)
+            for it in (*LINES, "bytes"):
+                row = {name: least[it, name] for name in programs}
+                shown = [f"{cost:.0f}" for cost in row.values()]
+                shown += [f"{row['here'] / row[peer]:.2f}" for peer in ("btree", "art")]
+                print(f"| {key_set} | {it} | {' | '.join(shown)} |", flush=True)
+
+
 def walk_instructions(folder, made, asked):
     """The same two tables in instructions and misses, at the size of --instr."""
     size, made, rows = asked.instr_size, {name: path for name, path in made.items() if name not in NO_WALKS}, []
@@ -243,21 +335,27 @@ def main():
     parser.add_argument("--sets", default="dense,rand8,rand16,url")
     parser.add_argument("--repeats", type=int, default=5)
     parser.add_argument("--walks", type=int, default=0)
+    parser.add_argument("--ranges", type=int, default=0)
+    parser.add_argument("--program", default="")
     parser.add_argument("--instr", action="store_true")
     parser.add_argument("--instr-size", type=int, default=10000)
     parser.add_argument("--perf")
     asked = parser.parse_args()
     sizes = [int(it) for it in asked.sizes.split(",") if it]
     with tempfile.TemporaryDirectory() as folder:
-        made, peers = build(folder), {}
+        made, peers = build(folder) if sizes or asked.walks or asked.ranges or asked.instr else {}, {}
         if asked.perf:
             tell("building the yardsticks and their peers")
             peers = yardsticks(folder, asked.perf)
+        if asked.program:
+            program(folder, asked)
         every = {**made, **peers}
         if sizes:
             look_ups(folder, every, asked, sizes)
         if asked.walks:
             walks(folder, every, asked)
+        if asked.ranges:
+            ranges(folder, every, asked)
         if asked.instr:
             print(f"\nOf an insertion and of a look-up, {asked.instr_size} keys: instructions, misses of L1 and of L2:\n")
             print("| Keys | Map | insertion | L1 | L2 | look-up | L1 | L2 |\n|---|---|---:|---:|---:|---:|---:|---:|")

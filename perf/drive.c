@@ -1,12 +1,15 @@
-/* drive LIB.so SET COUNT REPEATS [STEPS]: times the map behind LIB.so's one call over COUNT keys of a set (dense,
- * rand8, rand16, url), and prints the least of the repeats, in nanoseconds of processor time: an insertion, a look-up
- * that hits, one that misses; and the bytes that a pair takes. With STEPS, numbers parted by commas, it prints instead
+/* drive LIB.so SET COUNT REPEATS [STEPS [SPAN]]: times the map behind LIB.so's one call over COUNT keys of a set
+ * (dense, rand8, rand16, url), and prints the least of the repeats, in nanoseconds of processor time: an insertion, a
+ * look-up that hits, one that misses; and the bytes that a pair takes. With STEPS, numbers parted by commas, it prints instead
  * for each of these, carried out in turn in one call, the least nanoseconds in all, and at last what the call answered.
+ * With SPAN the queries are one for each hundred keys: for step 6 bounds, lower and upper in turn, with so many pairs
+ * between them, and else fronts with about so many pairs behind them; how many pairs those are in all is printed last.
  * For callgrind: with REPEATS 0 it carries the steps out once and prints nothing; what the clock doesn't count isn't
  * collected either, given --collect-atstart=no.
  *
  * The call: strings end to end and where each ends, for keys and for queries; the value of key i is i. Steps: 1 inserts
- * all keys, 2 looks all queries up, 3 removes them, 4 walks from the front, 7 clones, 8 walks from both ends in turn, 9
+ * all keys, 2 looks all queries up, 3 removes them, 4 walks from the front, 5 walks the pairs behind each query, 6
+ * those from each query to below the next, two queries a walk, 7 clones, 8 walks from both ends in turn, 9
  * checks the tree, 10 frees the tree of a clone, 11 lets the map go. It answers the sum of what it found, and nanos[i]
  * is what step i took. */
 #define _GNU_SOURCE
@@ -96,12 +99,84 @@ static struct strings strings_of(const char *set, size_t count, int is_miss) {
     return all;
 }
 
+struct key {
+    const uint8_t *bytes;
+    size_t len;
+};
+
+static int by_bytes(const void *one, const void *other) {
+    const struct key *a = one, *b = other;
+    int order = memcmp(a->bytes, b->bytes, a->len < b->len ? a->len : b->len);
+    return order ? order : (a->len > b->len) - (a->len < b->len);
+}
+
+static void add(struct strings *all, size_t i, struct key key) {
+    memcpy(all->bytes + all->len, key.bytes, key.len);
+    all->ends[i] = all->len += key.len;
+}
+
+/* Where the keys with these first bytes begin, or end, among ascending keys of which key `at` is one. */
+static size_t edge(const struct key *keys, size_t count, size_t at, size_t len, int is_end) {
+    size_t low = is_end ? at : 0, high = is_end ? count : at;
+    while (low < high) {
+        size_t middle = (low + high) / 2;
+        int is_in = keys[middle].len >= len && !memcmp(keys[middle].bytes, keys[at].bytes, len);
+        if (is_in == is_end)
+            low = middle + 1;
+        else
+            high = middle;
+    }
+    return low;
+}
+
+/* How many times one number is the other. */
+static double far(double one, double other) {
+    return one > other ? one / other : other / one;
+}
+
+/* Bounds with so many keys between them, or fronts of the keys for which that is nearest: one walk for each hundred
+ * keys, at random places. How many keys are met in all is told too. */
+static struct strings walks_over(struct strings keys, size_t count, size_t span, int is_bounds, size_t *walks,
+                                 uint64_t *met) {
+    struct key *sorted = malloc(count * sizeof *sorted);
+    for (size_t i = 0; i < count; i++) {
+        size_t start = i ? keys.ends[i - 1] : 0;
+        sorted[i] = (struct key){keys.bytes + start, keys.ends[i] - start};
+    }
+    qsort(sorted, count, sizeof *sorted, by_bytes);
+    size_t number = count > span ? count / 100 : 0;
+    struct strings all = {malloc(2 * number * LONGEST + 1), malloc(2 * number * 8 + 8), 0};
+    *met = 0;
+    for (size_t i = 0; i < number; i++) {
+        size_t at = next() % (count - span);
+        if (is_bounds) {
+            add(&all, 2 * i, sorted[at]);
+            add(&all, 2 * i + 1, sorted[at + span]);
+            *met += span;
+            continue;
+        }
+        size_t best = 0, best_met = count;
+        for (size_t len = 1; len <= sorted[at].len; len++) {
+            size_t here = edge(sorted, count, at, len, 1) - edge(sorted, count, at, len, 0);
+            if (far(here, span) < far(best_met, span)) {
+                best = len;
+                best_met = here;
+            }
+        }
+        add(&all, i, (struct key){sorted[at].bytes, best});
+        *met += best_met;
+    }
+    *walks = is_bounds ? 2 * number : number;
+    free(sorted);
+    return all;
+}
+
 /* Carries the steps out, and keeps in least what each took where that is less. */
-static uint64_t once(run_t run, struct strings keys, struct strings queries, size_t count, const uint8_t *steps,
-                     size_t step_count, uint64_t *least) {
+static uint64_t once(run_t run, struct strings keys, struct strings queries, size_t count, size_t query_count,
+                     const uint8_t *steps, size_t step_count, uint64_t *least) {
     uint64_t nanos[MOST] = {0};
-    uint64_t found = run(keys.bytes, keys.len, keys.ends, count, queries.bytes, queries.len, queries.ends, count, steps,
-                         step_count, nanos, step_count);
+    uint64_t found = run(keys.bytes, keys.len, keys.ends, count, queries.bytes, queries.len, queries.ends, query_count,
+                         steps, step_count, nanos, step_count);
     for (size_t i = 0; i < step_count; i++)
         if (nanos[i] < least[i])
             least[i] = nanos[i];
@@ -114,11 +189,12 @@ static int pairs(run_t run, struct strings keys, struct strings hits, struct str
     const uint8_t steps[2] = {1, 2};
     uint64_t hit[2] = {UINT64_MAX, UINT64_MAX}, miss[2] = {UINT64_MAX, UINT64_MAX};
     for (long i = 0; i < repeats; i++)
-        if (once(run, keys, hits, count, steps, 2, hit) != count || once(run, keys, misses, count, steps, 2, miss) > count)
+        if (once(run, keys, hits, count, count, steps, 2, hit) != count
+            || once(run, keys, misses, count, count, steps, 2, miss) > count)
             return 1;
     uint64_t weighed[1] = {UINT64_MAX};
     is_weighing = 1;
-    once(run, keys, hits, count, steps, 1, weighed);
+    once(run, keys, hits, count, count, steps, 1, weighed);
     double insertion = hit[0] < miss[0] ? hit[0] : miss[0];
     printf("%.1f %.1f %.1f %.1f\n", insertion / count, (double)hit[1] / count, (double)miss[1] / count,
            (double)(in_use[1] - in_use[0]) / count);
@@ -126,7 +202,8 @@ static int pairs(run_t run, struct strings keys, struct strings hits, struct str
 }
 
 /* The steps that are asked for. */
-static int each_step(run_t run, struct strings keys, struct strings hits, size_t count, long repeats, char *asked) {
+static int each_step(run_t run, struct strings keys, struct strings hits, size_t count, long repeats, char *asked,
+                     size_t span) {
     uint8_t steps[MOST];
     uint64_t least[MOST], answer = 0;
     size_t step_count = 0;
@@ -134,20 +211,27 @@ static int each_step(run_t run, struct strings keys, struct strings hits, size_t
         steps[step_count] = (uint8_t)strtoul(word, NULL, 10);
         least[step_count] = UINT64_MAX;
     }
+    size_t query_count = count;
+    uint64_t met = 0;
+    if (span)
+        hits = walks_over(keys, count, span, step_count && steps[step_count - 1] == 6, &query_count, &met);
     if (!repeats) {
-        once(run, keys, hits, count, steps, step_count, least);
+        once(run, keys, hits, count, query_count, steps, step_count, least);
         return 0;
     }
     for (long i = 0; i < repeats; i++)
-        answer = once(run, keys, hits, count, steps, step_count, least);
+        answer = once(run, keys, hits, count, query_count, steps, step_count, least);
     for (size_t i = 0; i < step_count; i++)
         printf("%llu ", (unsigned long long)least[i]);
-    printf("%llu\n", (unsigned long long)answer);
+    printf("%llu", (unsigned long long)answer);
+    if (span)
+        printf(" %llu", (unsigned long long)met);
+    printf("\n");
     return 0;
 }
 
 int main(int count_of_words, char **words) {
-    if (count_of_words != 5 && count_of_words != 6)
+    if (count_of_words < 5 || count_of_words > 7)
         return 2;
     void *library = dlopen(words[1], RTLD_NOW);
     run_t run = library ? (run_t)dlsym(library, "art_bench_run") : NULL;
@@ -161,7 +245,8 @@ int main(int count_of_words, char **words) {
     state = 88172645463325252u;
     struct strings keys = strings_of(set, count, 0), hits = strings_of(set, count, 0);
     struct strings misses = strings_of(set, count, 1);
-    if (count_of_words == 6)
-        return each_step(run, keys, hits, count, repeats, words[5]);
+    size_t span = count_of_words == 7 ? strtoull(words[6], NULL, 10) : 0;
+    if (count_of_words > 5)
+        return each_step(run, keys, hits, count, repeats, words[5], span);
     return pairs(run, keys, hits, misses, count, repeats);
 }

@@ -11,7 +11,7 @@ import re
 import sys
 from glob import glob
 
-AT_MOST, MORE = 8, {"art_index": 14}
+AT_MOST = 8
 
 
 def changed(crate, edit):
@@ -71,9 +71,8 @@ def main():
                 if why:
                     print(f"{edit}: FAILED: {why}")
         faults = [f"two edits are named {it}" for it in sorted({*names}) if names.count(it) > 1]
-        most = MORE.get(name, AT_MOST)
-        if counts[0] > most:
-            faults.append(f"{counts[0]} edits in must-fail/, and {most} at most should stand there")
+        if counts[0] > AT_MOST:
+            faults.append(f"{counts[0]} edits in must-fail/, and {AT_MOST} at most should stand there")
         for why in faults:
             failed += 1
             print(f"crates/{name}: FAILED: {why}")

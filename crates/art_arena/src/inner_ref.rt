@@ -32,11 +32,11 @@ pub struct InnerRef<'a, K, V, const PREFIX_LEN: usize> {
 
 impl<'a, K, V, const PREFIX_LEN: usize> Model for InnerRef<'a, K, V, PREFIX_LEN> {
     ghost use Rattle.std.specs.Prelude.{◌<◌, ◌^◌};
-    ghost use Rattle.art_arena.specs.arena.InnerRef.{Inner, arm_kind, arm_node};
+    ghost use Rattle.art_arena.specs.arena.InnerRef.{Inner, arm_inner};
 
     ghost Value = { Inner };
 
-    ghost view = { λ a. record { kind = arm_kind a.arm; node = arm_node a.arm } };
+    ghost view = { λ a. arm_inner a.arm };
 
     ghost invariant = { λ a. PREFIX_LEN < 2 ^ 62 };
 }

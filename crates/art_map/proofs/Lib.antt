@@ -1,4 +1,14 @@
 pub mod Below
+pub mod Entries
+pub mod LentRuns
+pub mod LentWalks
+pub mod LentIters
+pub mod Written
 pub mod LookedUp
 pub mod Maps
+pub mod MapLeaves
+pub mod WrittenRuns
+pub mod Overlapped
+pub mod Overwritten
+pub mod Extractions
 pub mod Ranges

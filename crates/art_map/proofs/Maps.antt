@@ -2,7 +2,7 @@
 use Rattle.std.proofs.Common.{◌≡◌, ℕ, Bool, true, false, cond, not, bytes_eq, filter, List, [], ◌∷◌, ◌++◌, length, Option, Some, None, IsSome, Ok, Err, IsOk, Result, refl, sym, ap, subst, ◌∙◌, arith, ◌≤◌, inl, inr}
 use Rattle.std.specs.List.{AllByRecursion}
 use Rattle.std.specs.Map.{lookup, lookup_entry, set_value}
-use Rattle.std.proofs.lemmas.List.{append-nil, length-map, map-append}
+use Rattle.std.proofs.lemmas.List.{append-nil, length-map}
 use Rattle.art_bytes.specs.Keys.{BeginsWith, Conflict, IsBefore}
 use Rattle.art_bytes.proofs.Order.{conflict_not_before, conflict_turned}
 use Rattle.art_nodes.specs.Name.{Name}

@@ -17,9 +17,11 @@ use Rattle.art_operations.specs.Pairs.{HasPairs}
 use Rattle.art_operations.proofs.LeafPairs.{leaf_pair}
 use Rattle.art_operations.proofs.RangeEnds.{tree_ascends}
 use Rattle.art_operations.proofs.Stretches.{IsConvex, stretch}
-use Rattle.art_map.specs.Contents.{IsMap, pairs_from}
+use Rattle.art_map.specs.Contents.{contents, IsMap, pairs_from}
+use Rattle.art_map.specs.Leaves.{IsRun}
 use Rattle.art_map.specs.Walked.{IsWalkOf}
 use Rattle.art_walks.specs.Runs.{Ends, HasEnds}
+use Rattle.art_map.proofs.MapLeaves.{map-leaves}
 
 module _ {K V : Type 0} (bytes : K → List ℕ) (test : List ℕ → Bool) where
   -- the pairs that pass are those of the leaves that pass
@@ -65,6 +67,18 @@ module _ {K V : Type 0} (bytes : K → List ℕ) (is_key : K → Type 0) (P : �
         pairs_are = pairs_are;
       }
 
+  -- and they are neighbours among the leaves of the map
+  run-in : (top : Name) (s : Shape K V) → StoresOnly bytes P arena top s → (test : List ℕ → Bool) → IsConvex test → (ends : Ends) → AreEndsWhere bytes test (leaves s) ends → IsRun bytes P (contents arena (Some top)) ends
+  run-in top s tree test convex ends answer =
+      let run = stretch bytes test convex (leaves s) (tree_ascends bytes P arena top s (nodes-subtree bytes P (node_at arena) top s tree.nodes)) in
+      record {
+        front = run.front;
+        run = passing bytes test (leaves s);
+        back = run.back;
+        leaves = map-leaves bytes P arena (Some top) _ (s, tree, run.parts);
+        ends_are = ends-walk bytes test (leaves s) ends answer;
+      }
+
   module _ (root : Option Name) (top : Name) (is : root ≡ Some top) (map : IsMap bytes is_key P arena root) where
     has_top : HasPairs bytes P arena (Some top) (pairs_from arena root)
     has_top = subst (λ r. HasPairs bytes P arena r (pairs_from arena root)) is map.has
@@ -81,7 +95,18 @@ module _ {K V : Type 0} (bytes : K → List ℕ) (is_key : K → Type 0) (P : �
     walk-where test convex ends answer =
         walk-in top has_top.0 (pairs_from arena root) has_top.1 has_top.2 test convex ends (answer has_top.0 (nodes-subtree bytes P (node_at arena) top has_top.0 has_top.1.nodes) has_top.1.linked)
 
+    pub run-where : (test : List ℕ → Bool) → IsConvex test → (ends : Ends) → ((s : Shape K V) → Stores bytes P arena top s → AreLinked (links_at arena) None (leaves s) None → AreEndsWhere bytes test (leaves s) ends)
+        → IsRun bytes P (contents arena root) ends
+    run-where test convex ends answer =
+        subst (λ r. IsRun bytes P (contents arena r) ends) (sym is)
+        (run-in top has_top.0 has_top.1 test convex ends (answer has_top.0 (nodes-subtree bytes P (node_at arena) top has_top.0 has_top.1.nodes) has_top.1.linked))
+
   -- of an empty map
+  pub run-nowhere : (root : Option Name) → root ≡ None → IsMap bytes is_key P arena root → IsRun bytes P (contents arena root) None
+  run-nowhere root is map =
+      let none : HasPairs bytes P arena None (pairs_from arena root) = subst (λ r. HasPairs bytes P arena r (pairs_from arena root)) is map.has in
+      subst (λ r. IsRun bytes P (contents arena r) None) (sym is) (record { front = []; run = []; back = []; leaves = map-leaves bytes P arena None [] (refl, none.1); ends_are = refl })
+
   pub walk-nowhere : (root : Option Name) (keep : K × V → Bool) → root ≡ None → IsMap bytes is_key P arena root → IsWalkOf arena None (filter keep (pairs_from arena root))
   walk-nowhere root keep is map =
       subst (λ r. IsWalkOf arena None (filter keep (pairs_from arena r))) (sym is) (record {

@@ -1,9 +1,10 @@
 -- The leaf that a look-up finds in a map.
-use Rattle.std.specs.Prelude.{◌≡◌, ℕ, Bool, Option, Some, None}
+use Rattle.std.specs.Prelude.{◌≡◌, ℕ, Bool, Option, Some, None, IsSome, refl}
 use Rattle.std.specs.Map.{lookup_entry, set_value}
-use Rattle.art_arena.specs.arena.Arena.{node_at}
-use Rattle.art_arena.specs.arena.Cells.{leaf_name, pair}
-use Rattle.art_map.specs.Contents.{Contents}
+use Rattle.art_arena.specs.arena.Arena.{Held, cell_of, held_at, node_at}
+use Rattle.art_arena.specs.arena.Cells.{Cell, leaf_name, pair, branches}
+use Rattle.art_arena.proofs.shapes.LeafValues.{leaf-there}
+use Rattle.art_map.specs.Contents.{Contents, HasLeafAt}
 use Rattle.art_map.specs.Lends.{with_value_at}
 
 module _ {K V : Type 0} where
@@ -22,3 +23,29 @@ module _ {K V : Type 0} where
   IsFound test m (Some slot) =
       (p : K × V) × HasPairAt m slot p × (lookup_entry test m.pairs ≡ Some p)
       × ((w : V) → (with_value_at m slot w).pairs ≡ set_value test m.pairs w)
+
+  -- the pair of a leaf
+  abbrev pub leaf_pair : Option (Cell K V) → Option (K × V)
+  leaf_pair None = None
+  leaf_pair (Some (pair k v)) = Some (k, v)
+  leaf_pair (Some (branches node)) = None
+
+  -- the pair of the leaf under this slab key, if there is one
+  abbrev pub pair_under : Contents K V → ℕ → Option (K × V)
+  pair_under m slot = leaf_pair (node_at m.nodes (leaf_name slot))
+
+  abbrev pub HasPairUnder : Contents K V → ℕ → Type 0
+  HasPairUnder m slot = IsSome (pair_under m slot)
+
+  -- where a leaf has a pair, it is there
+  pub has_leaf : (m : Contents K V) (slot : ℕ) → HasPairUnder m slot → HasLeafAt m slot
+  has_leaf m slot has = go (held_at m.nodes (leaf_name slot)) has
+    where
+      go : (o : Option (Held K V)) → IsSome (leaf_pair (cell_of o)) → IsSome o
+      go None h = absurd (cc)
+      go (Some held) h = refl
+
+  -- and where it is written, it still has one
+  pub still_held : (m : Contents K V) (slot : ℕ) (w : V) → HasPairUnder m slot
+      → HasPairUnder (with_value_at m slot w) slot
+  still_held m slot w has = rw ((leaf-there m.nodes slot (has_leaf m slot has)).written w).changed refl

@@ -2,5 +2,14 @@ pub mod Contents
 pub mod Changes
 pub mod Lends
 pub mod Found
+pub mod Overlapped
+pub mod PrefixEntries
 pub mod Walked
 pub mod Ranges
+pub mod Leaves
+pub mod Entries
+pub mod Extractions
+pub mod LentRuns
+pub mod LentWalks
+pub mod LentIters
+pub mod inner

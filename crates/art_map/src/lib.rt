@@ -6,4 +6,9 @@
 mod map;
 
 pub use map::TreeMap;
-pub use map::refused::TryInsertError;
+pub use map::entry::{Entry, OccupiedEntry, VacantEntry};
+pub use map::extraction::Extraction;
+pub use map::iter_mut::{IterMut, ValuesMut};
+pub use map::prefix_entry::{InnerOccupiedEntry, PrefixEntry, PrefixOccupied};
+pub use map::refused::{TryInsertError, TryKeyError};
+pub use map::walks_mut::{PrefixMut, RangeMut};

@@ -5,11 +5,17 @@ ghost use Rattle.art_arena.specs.tree.Order.{AscendsByKey};
 ghost use Rattle.art_operations.specs.Runs.{HoldsTreeOf};
 
 mod changes;
+pub mod entry;
+pub mod extraction;
+mod into_walks;
+pub mod iter_mut;
 mod lookups;
+pub mod prefix_entry;
 mod ranges;
 pub mod refused;
 mod removals;
 mod walks;
+pub mod walks_mut;
 
 use art_arena::NodeArena;
 use art_bytes::AsBytes;

@@ -1,4 +1,4 @@
-//! The callers that `CALLING.md` of art_map shows, letter for letter; tests in `rows.rt` run them.
+//! The callers that `CALLING.md` of art_map shows, letter for letter; tests in `rows.rt` and `into_walks.rt` run them.
 
 use art_bytes::{SliceKey, StrKey};
 use art_map::{TreeMap, TryInsertError};
@@ -24,6 +24,17 @@ pub fn give<'a>(
     blocks.prefix_insert(SliceKey(front), owner)
 }
 
+/// The owner of a block, or where it has none this one, to whom it is given. What it overlaps is then taken from
+/// others.
+pub fn owner_of<'a>(
+    blocks: &mut TreeMap<SliceKey<'a>, u32, 16>,
+    front: &'a [u8],
+    owner: u32,
+) -> Result<u32, InsertRefused<SliceKey<'a>, u32>> {
+    let known = blocks.prefix_entry(SliceKey(front)).or_insert(owner)?;
+    Ok(*known)
+}
+
 /// Counts a word of four bytes once more.
 pub fn count(
     counts: &mut TreeMap<[u8; 4], u32, 16>,
@@ -35,6 +46,18 @@ pub fn count(
     }
     counts.insert(word, 1)?;
     Ok(())
+}
+
+/// Counts a word of four bytes once more by its entry, and tells how often it was seen.
+pub fn tally(
+    counts: &mut TreeMap<[u8; 4], u32, 16>,
+    word: [u8; 4],
+) -> Result<u32, InsertRefused<[u8; 4], u32>> {
+    let entry = counts
+        .entry(word)
+        .and_modify(|count| *count = count.saturating_add(1));
+    let count = entry.or_insert(1)?;
+    Ok(*count)
 }
 
 /// How far the counts of the first word and of the last are apart, if there are two.
@@ -58,6 +81,27 @@ pub fn count_between(counts: &TreeMap<[u8; 4], u32, 16>, first: &[u8; 4], end: &
     sum
 }
 
+/// Raises the counts of the words from one on, up to another that is left out: how many those were.
+pub fn raise_between(
+    counts: &mut TreeMap<[u8; 4], u32, 16>,
+    first: &[u8; 4],
+    end: &[u8; 4],
+) -> usize {
+    let [start, end] = [Bound::Included(first), Bound::Excluded(end)];
+    if !bounds_are_valid(start, end) {
+        return 0;
+    }
+    let most = counts.len();
+    let mut walk = counts.range_mut(start, end);
+    for raised in 0..most {
+        match walk.next() {
+            Some(count) => *count = count.saturating_add(1),
+            None => return raised,
+        }
+    }
+    most
+}
+
 /// The first block within a larger one, and the last.
 pub fn blocks_within<'a>(
     blocks: &'a TreeMap<SliceKey<'_>, u32, 16>,
@@ -75,6 +119,23 @@ pub fn keep_last(counts: &mut TreeMap<[u8; 4], u32, 16>, number: usize) -> Resul
         counts.pop_first()?;
     }
     Ok(())
+}
+
+/// The words and their counts in order, which leave the map one by one.
+pub fn into_list(
+    alloc: Global,
+    counts: TreeMap<[u8; 4], u32, 16>,
+) -> Result<Vec<([u8; 4], u32)>, AllocError> {
+    let mut list = Vec::with_capacity(alloc, counts.len())?;
+    for pair in counts {
+        list.push(pair)?;
+    }
+    Ok(list)
+}
+
+/// The last word in order; the others are dropped.
+pub fn last_word(counts: TreeMap<[u8; 4], u32, 16>) -> Option<[u8; 4]> {
+    counts.into_keys().next_back()
 }
 
 /// A film is stored, seen, and taken out again.

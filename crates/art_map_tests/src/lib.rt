@@ -1,5 +1,5 @@
-//! Tests of art_map: each public call once, rows from outside, a replay against a sorted vector, and the callers of its
-//! CALLING.md.
+//! Tests of art_map: each public call once, rows from outside, a replay against the sorted vector of art_walks_tests,
+//! and the callers of its CALLING.md.
 #![tactic(auto)]
 
 #[cfg(test)]
@@ -7,10 +7,20 @@ mod calling;
 #[cfg(test)]
 mod calls;
 #[cfg(test)]
+mod entries;
+#[cfg(test)]
+mod entries_refused;
+#[cfg(test)]
+mod extraction;
+#[cfg(test)]
+mod into_walks;
+#[cfg(test)]
+mod prefix_entries;
+#[cfg(test)]
 mod ranges;
 #[cfg(test)]
 mod replay;
 #[cfg(test)]
 mod rows;
 #[cfg(test)]
-mod sorted;
+mod walks_mut;

@@ -150,7 +150,7 @@ fn an_empty_map_has_ranges_of_any_bounds(rt: HostRuntime) {
 }
 
 // All keys of two bytes over three letters, in order.
-const KEYS: [[u8; 2]; 9] = [
+pub(crate) const KEYS: [[u8; 2]; 9] = [
     [1, 1],
     [1, 3],
     [1, 5],
@@ -163,7 +163,7 @@ const KEYS: [[u8; 2]; 9] = [
 ];
 
 // What bounds and prefixes are made of: no letter, one or two of these letters, one between them, one more byte.
-const WORDS: [&[u8]; 19] = [
+pub(crate) const WORDS: [&[u8]; 19] = [
     &[],
     &[1],
     &[2],
@@ -186,7 +186,7 @@ const WORDS: [&[u8]; 19] = [
 ];
 
 // The bound of a number: each word included, each excluded, and last none.
-fn bound_at<'a>(words: &'a [SliceKey<'a>], number: usize) -> Bound<&'a SliceKey<'a>> {
+pub(crate) fn bound_at<'a>(words: &'a [SliceKey<'a>], number: usize) -> Bound<&'a SliceKey<'a>> {
     match words.get(number / 2) {
         Some(word) if number % 2 == 0 => Bound::Included(word),
         Some(word) => Bound::Excluded(word),
@@ -195,7 +195,11 @@ fn bound_at<'a>(words: &'a [SliceKey<'a>], number: usize) -> Bound<&'a SliceKey<
 }
 
 // Whether a key is between two bounds.
-fn is_between(key: &[u8], start: Bound<&SliceKey<'_>>, end: Bound<&SliceKey<'_>>) -> bool {
+pub(crate) fn is_between(
+    key: &[u8],
+    start: Bound<&SliceKey<'_>>,
+    end: Bound<&SliceKey<'_>>,
+) -> bool {
     let is_from_start = match start {
         Bound::Included(word) => key.cmp(word.0).is_ge(),
         Bound::Excluded(word) => key.cmp(word.0).is_gt(),
@@ -211,7 +215,7 @@ fn is_between(key: &[u8], start: Bound<&SliceKey<'_>>, end: Bound<&SliceKey<'_>>
 
 // Up to where six steps are numbered, by how many pairs there are: a bit for each of so many steps says whether it is
 // at the back. Those behind them are at the front, but the sixth.
-const MIXTURES: [u32; 5] = [33, 34, 36, 40, 48];
+pub(crate) const MIXTURES: [u32; 5] = [33, 34, 36, 40, 48];
 
 // Whether a range has these keys, however it is taken from its ends.
 fn range_agrees<const PREFIX_LEN: usize>(

@@ -1,8 +1,8 @@
 //! A replay: random calls of the map against a sorted vector of pairs, with the checker looking on.
-use crate::sorted::{Numbers, Sorted, random_keys};
 use art_bytes::SliceKey;
 use art_map::{TreeMap, TryInsertError};
 use art_walks::WellFormedChecker;
+use art_walks_tests::sorted::{Numbers, Sorted, random_keys};
 use std::alloc::{AllocError, Global};
 use std::test::Fail;
 

@@ -1,6 +1,7 @@
 //! Rows from outside: what calls answer one after the other.
 use crate::calling::{
-    block_of, blocks_within, count, count_between, films, give, keep_last, spread,
+    block_of, blocks_within, count, count_between, films, give, keep_last, raise_between, spread,
+    tally,
 };
 use art_bytes::{AsBytes, SliceKey, StrKey};
 use art_map::{TreeMap, TryInsertError};
@@ -126,9 +127,15 @@ fn a_caller_counts_words(rt: HostRuntime) {
     assert!(rt; count(&mut counts, *b"leaf").is_ok());
     assert!(rt; count(&mut counts, *b"tree").is_ok());
     assert!(rt; spread(&counts) == Some(1));
+    assert!(rt; matches!(tally(&mut counts, *b"tree"), Ok(3)));
+    assert!(rt; matches!(tally(&mut counts, *b"root"), Ok(1)));
+    assert!(rt; matches!(counts.remove(b"root"), Ok(Some(1))));
     assert!(rt; count_between(&counts, b"leaf", b"tree") == 1);
-    assert!(rt; count_between(&counts, b"m...", b"z...") == 2);
+    assert!(rt; count_between(&counts, b"m...", b"z...") == 3);
     assert!(rt; count_between(&counts, b"tree", b"leaf") == 0);
+    assert!(rt; raise_between(&mut counts, b"tree", b"leaf") == 0);
+    assert!(rt; raise_between(&mut counts, b"m...", b"z...") == 1);
+    assert!(rt; counts.get(b"tree") == Some(&4) && counts.get(b"leaf") == Some(&1));
     assert!(rt; keep_last(&mut counts, 1).is_ok());
     assert!(rt; counts.len() == 1 && counts.contains_key(b"tree"));
 }

@@ -18,10 +18,7 @@ child_under byte (Some name) = Some (byte, name)
 abbrev pub children_after : List (ℕ × Name) → ChildCommand → List (ℕ × Name)
 children_after children (Write byte name) = with_child children byte name
 children_after children (Remove byte) = without_child children byte
-children_after children (Lookup byte) = children
-children_after children Min = children
-children_after children Max = children
-children_after children (Range start end) = children
+children_after children command = children
 
 -- what a range answers: the children between bounds that may be asked for, and for others that they are none
 abbrev pub IsRangeAnswer : List (ℕ × Name) → Bound ℕ → Bound ℕ → ChildAnswer → Type 0
@@ -42,8 +39,7 @@ IsChildAnswer children (Range start end) answer = IsRangeAnswer children start e
 -- an answer for each command in turn, each on the children that the ones before it left
 abbrev pub AreChildAnswers : List (ℕ × Name) → List ChildCommand → List ChildAnswer → Type 0
 AreChildAnswers children [] [] = Unit {0}
-AreChildAnswers children [] (answer ∷ answers) = ⊥
-AreChildAnswers children (command ∷ commands) [] = ⊥
 AreChildAnswers children (command ∷ commands) (answer ∷ answers) =
     IsChildAnswer children command answer
     × AreChildAnswers (children_after children command) commands answers
+AreChildAnswers children commands answers = ⊥

@@ -1,8 +1,8 @@
 -- The nodes of a shape are freed one at a time: what the arena holds after each step.
-use Rattle.std.proofs.Common.{◌≡◌, ◌≢◌, ℕ, ◌+◌, ◌≤◌, Bool, true, false, cond, List, [], ◌∷◌, ◌++◌, length, None, refl, sym, ap, ◌∙◌, inl, inr, arith, append_assoc}
+use Rattle.std.proofs.Common.{◌≡◌, ◌≢◌, ℕ, ◌+◌, ◌≤◌, Bool, true, false, cond, List, [], ◌∷◌, ◌++◌, filter, length, Option, Some, None, refl, sym, ap, ◌∙◌, inl, inr, arith, append_assoc}
 use Rattle.std.proofs.lemmas.Bool.Decides.{eqb_tells}
 use Rattle.std.proofs.lemmas.List.{append-nil}
-use Rattle.art_nodes.specs.InnerNode.{IsAscendingFrom, without_child}
+use Rattle.art_nodes.specs.InnerNode.{IsAscendingFrom, last_child, without_child}
 use Rattle.art_nodes.specs.Name.{Name}
 use Rattle.art_arena.specs.arena.Arena.{Arena, node_at}
 use Rattle.art_arena.specs.arena.Cells.{Cell, pair, leaf_name, copies, Holds}
@@ -11,20 +11,58 @@ use Rattle.art_arena.specs.arena.Shapes.{Shape, Branches, leaf_at, inner_at, no_
 use Rattle.art_arena.proofs.shapes.CellLists.{same_name_tells, Holds-remove, Holds-same}
 use Rattle.art_arena.proofs.shapes.Updates.{nodes-update, nodes-same}
 use Rattle.art_operations.specs.Frees.{cells_with, cells_with_in, KeepsAllBut}
-use Rattle.art_operations.specs.inner.Freeing.{IsChildless, AreFirst, FreesRoot}
+use Rattle.art_operations.specs.inner.Freeing.{IsChildIn, IsChildless, AreFirst, FreesRoot}
 
--- of children by ascending byte the last one is taken out
-pub without-last : {N : Type 0} (low : ℕ) (xs : List (ℕ × N)) (b : ℕ) (m : N) → IsAscendingFrom low (xs ++ (b, m) ∷ []) → (low ≤ b) × (without_child (xs ++ (b, m) ∷ []) b ≡ xs)
-without-last low [] b m up = (up.0, elim (eqb_tells b b) [ inl same ↦ rw same.0 refl | inr other ↦ absurd (other.1 refl) ])
-without-last low (x ∷ xs) b m up =
-    let later = without-last (x.0 + 1) xs b m up.2 in
+-- one of the children that pass a test is one of all, and so is the last of all
+pub among-passing : {A : Type 0} (test : A → Bool) (xs ys : List A) (c : A) → filter test xs ≡ ys ++ c ∷ [] → (before : List A) × (after : List A) × (xs ≡ before ++ c ∷ after)
+among-passing test [] [] c e = absurd (cc)
+among-passing test [] (y ∷ ys) c e = absurd (cc)
+among-passing {A} test (x ∷ xs) ys c e = here (λ zs rest. among-passing test xs zs c rest) (test x) refl
+  where
+    later : ((before : List A) × (after : List A) × (xs ≡ before ++ c ∷ after)) → (before : List A) × (after : List A) × (x ∷ xs ≡ before ++ c ∷ after)
+    later found = (x ∷ found.0, found.1, ap (λ ws. x ∷ ws) found.2)
+
+    first : ((zs : List A) → filter test xs ≡ zs ++ c ∷ [] → (before : List A) × (after : List A) × (xs ≡ before ++ c ∷ after)) → (zs : List A) → x ∷ filter test xs ≡ zs ++ c ∷ [] → (before : List A) × (after : List A) × (x ∷ xs ≡ before ++ c ∷ after)
+    first again [] whole = let same : x ≡ c = cc in ([], xs, ap (λ y. y ∷ xs) same)
+    first again (z ∷ zs) whole = later (again zs (cc))
+
+    here : ((zs : List A) → filter test xs ≡ zs ++ c ∷ [] → (before : List A) × (after : List A) × (xs ≡ before ++ c ∷ after)) → (b : Bool) → test x ≡ b → (before : List A) × (after : List A) × (x ∷ xs ≡ before ++ c ∷ after)
+    here again true passes = first again ys (rw passes at e)
+    here again false fails = later (again ys (rw fails at e))
+
+pub among-last : (xs : List (ℕ × Name)) (last : Option (ℕ × Name)) → last ≡ last_child xs → IsChildIn xs last
+among-last [] last e = rw e refl
+among-last (x ∷ []) last e = rw e ([], [], refl)
+among-last (x ∷ y ∷ xs) last e = onto last (among-last (y ∷ xs) last e)
+  where
+    onto : (l : Option (ℕ × Name)) → IsChildIn (y ∷ xs) l → IsChildIn (x ∷ y ∷ xs) l
+    onto None none = absurd (cc)
+    onto (Some c) found = (x ∷ found.0, found.1, ap (λ ws. x ∷ ws) found.2)
+
+-- of children by ascending byte one is taken out
+pub without-among : {N : Type 0} (low : ℕ) (xs : List (ℕ × N)) (b : ℕ) (m : N) (ys : List (ℕ × N)) → IsAscendingFrom low (xs ++ (b, m) ∷ ys) → (low ≤ b) × (without_child (xs ++ (b, m) ∷ ys) b ≡ xs ++ ys)
+without-among low [] b m ys up = (up.0, elim (eqb_tells b b) [ inl same ↦ rw same.0 refl | inr other ↦ absurd (other.1 refl) ])
+without-among low (x ∷ xs) b m ys up =
+    let later = without-among (x.0 + 1) xs b m ys up.2 in
     let above = later.0 in (
       omega (arith, up.0, above),
       elim (eqb_tells x.0 b) [
         | inl same ↦ absurd (omega (arith, same.1, above))
-        | inr other ↦ rw other.0 (ap (λ ys. x ∷ ys) later.1)
+        | inr other ↦ rw other.0 (ap (λ zs. x ∷ zs) later.1)
       ],
     )
+
+-- the branch of a child, and those beside it
+pub branch-among : {K V : Type 0} (kids : Branches K V) (before : List (ℕ × Name)) (c : ℕ × Name) (after : List (ℕ × Name)) → children_at kids ≡ before ++ c ∷ after
+    → (f : Branches K V) × (t : Shape K V) × (g : Branches K V) × (kids ≡ join f (branch c.0 t g)) × (name_of t ≡ c.1)
+branch-among no_branch [] c after e = absurd (cc)
+branch-among no_branch (x ∷ before) c after e = absurd (cc)
+branch-among (branch b t rest) [] c after e =
+    let same : (b, name_of t) ≡ c = cc in
+    (no_branch, t, rest, ap (λ (p : ℕ × Name). branch p.0 t rest) same, ap (λ (p : ℕ × Name). p.1) same)
+branch-among (branch b t rest) (x ∷ before) c after e =
+    let later = branch-among rest before c after (cc) in
+    (branch b t later.0, later.1, later.2, ap (λ g. branch b t g) later.3, later.4)
 
 module _ {K V : Type 0} (P : ℕ) (w : Bool) where
   pub with-join : (f g : Branches K V) → cells_with_in P w (join f g) ≡ cells_with_in P w f ++ cells_with_in P w g

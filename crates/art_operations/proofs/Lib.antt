@@ -28,6 +28,7 @@ pub mod Shrinking
 pub mod Deleted
 pub mod KeyedLists
 pub mod LeafPairs
+pub mod NamedLeaves
 pub mod NotStored
 pub mod HeldPairs
 pub mod Overlaps

@@ -12,10 +12,8 @@ use Rattle.art_operations.specs.declared.running.Answer.TheVariants.{Done, Prefi
 module _ {K V : Type 0} where
   -- one more, if the command clones the tree
   abbrev pub with_clone : Command K V → ℕ → ℕ
-  with_clone (Insert k v) n = n
-  with_clone (PrefixInsert k v) n = n
-  with_clone (Delete k) n = n
   with_clone Clone n = suc n
+  with_clone command n = n
 
   -- how many of the commands clone the tree
   abbrev pub clones_in : List (Command K V) → ℕ
@@ -34,8 +32,7 @@ module _ {K V : Type 0} (bytes : K → List ℕ) where
   -- the pairs after a command with this answer: it counts if it was done
   abbrev pub after : Command K V → Answer → List (K × V) → List (K × V)
   after command (Done n) pairs = done command pairs
-  after command Prefix pairs = pairs
-  after command Memory pairs = pairs
+  after command refused pairs = pairs
 
   -- the pairs after commands with these answers
   abbrev pub pairs_after : List (Command K V) → List Answer → List (K × V) → List (K × V)
@@ -49,25 +46,19 @@ module _ {K V : Type 0} (bytes : K → List ℕ) where
   -- clone replaces no pair.
   abbrev pub IsAnswered : List (K × V) → Command K V → Answer → Type 0
   IsAnswered pairs (Insert k v) (Done n) =
-      (n ≡ length (with_key (key_of bytes) (bytes k) pairs))
-      × (IsBlocked (key_of bytes) (bytes k) pairs → ⊥)
+      (n ≡ length (with_key (key_of bytes) (bytes k) pairs)) × (IsBlocked (key_of bytes) (bytes k) pairs → ⊥)
   IsAnswered pairs (Insert k v) Prefix = IsBlocked (key_of bytes) (bytes k) pairs
   IsAnswered pairs (Insert k v) Memory = IsBlocked (key_of bytes) (bytes k) pairs → ⊥
   IsAnswered pairs (PrefixInsert k v) (Done n) = n ≡ length (overlapping (key_of bytes) (bytes k) pairs)
-  IsAnswered pairs (PrefixInsert k v) Prefix = ⊥
-  IsAnswered pairs (PrefixInsert k v) Memory = Unit {0}
   IsAnswered pairs (Delete k) (Done n) = n ≡ length (with_key (key_of bytes) (bytes k) pairs)
-  IsAnswered pairs (Delete k) Prefix = ⊥
   IsAnswered pairs (Delete k) Memory = HasKey (key_of bytes) (bytes k) pairs × Shrinks (key_of bytes) pairs (bytes k)
   IsAnswered pairs Clone (Done n) = n ≡ 0
-  IsAnswered pairs Clone Prefix = ⊥
-  IsAnswered pairs Clone Memory = Unit {0}
+  IsAnswered pairs command Prefix = ⊥
+  IsAnswered pairs command Memory = Unit {0}
 
   -- an answer for each command in turn, each on the pairs that the ones before it left
   abbrev pub AreAnswered : List (K × V) → List (Command K V) → List Answer → Type 0
   AreAnswered pairs [] [] = Unit {0}
-  AreAnswered pairs [] (answer ∷ answers) = ⊥
-  AreAnswered pairs (command ∷ commands) [] = ⊥
   AreAnswered pairs (command ∷ commands) (answer ∷ answers) =
-      IsAnswered pairs command answer
-      × AreAnswered (after command answer pairs) commands answers
+      IsAnswered pairs command answer × AreAnswered (after command answer pairs) commands answers
+  AreAnswered pairs commands answers = ⊥

@@ -7,6 +7,14 @@ use Rattle.art_arena.specs.arena.Cells.{Cell, HoldsOnly}
 use Rattle.art_arena.specs.arena.Stores.{StoresBeside}
 use Rattle.art_operations.specs.declared.delete.result.DeleteResult.{DeleteResult}
 
+-- the leaf with this slab key is one of these
+pub record IsAmong {K V : Type 0} (slot : ℕ) (ls : List (LeafAt K V)) : Type 0 where
+  pub front : List (LeafAt K V)
+  pub leaf : LeafAt K V
+  pub back : List (LeafAt K V)
+  pub is : ls ≡ front ++ leaf ∷ back
+  pub slot_is : leaf.slot ≡ slot
+
 module _ {K V : Type 0} (bytes : K → List ℕ) (P : ℕ) (arena : Arena K V) where
   -- beside these nodes the arena holds nothing but the tree of these leaves, or nothing where there are none
   abbrev pub HasLeavesBeside : List (Name × Cell K V) → Option Name → List (LeafAt K V) → Type 0

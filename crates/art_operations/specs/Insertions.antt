@@ -1,5 +1,6 @@
 -- What an insertion leaves.
-use Rattle.std.specs.Prelude.{◌≡◌, ℕ, List, [], ◌∷◌, ◌++◌, take, Option, Some, None}
+use Rattle.std.specs.Prelude.{◌≡◌, ℕ, List, [], ◌∷◌, ◌++◌, take, Option, Some, None, IfErr}
+use Rattle.std.specs.declared.result.Result.{Result}
 use Rattle.art_nodes.specs.Name.{Name}
 use Rattle.art_nodes.specs.Concrete.{inner_name_of}
 use Rattle.art_nodes.specs.declared.leaf.LeafNode.{LeafNode}
@@ -10,9 +11,14 @@ use Rattle.art_arena.specs.arena.Shapes.{Shape, LeafAt, leaves}
 use Rattle.art_arena.specs.arena.Steps.{Step}
 use Rattle.art_operations.specs.DeletePoints.{IsLeafPlace}
 use Rattle.art_arena.specs.arena.Stores.{StoresBeside}
+use Rattle.art_operations.specs.declared.insert.result.InsertRefused.{InsertRefused}
 use Rattle.art_operations.specs.declared.insert.result.InsertResult.{InsertResult}
 use Rattle.art_operations.specs.declared.insert.result.InsertParentNodeChange.{InsertParentNodeChange}
 use Rattle.art_operations.specs.declared.insert.result.InsertParentNodeChange.TheVariants.{NewParent, NoChange}
+
+-- a refusal hands this key and this value back
+abbrev pub HandsPairBack : {K V A : Type 0} → K → V → Result A (InsertRefused K V) → Type 0
+HandsPairBack key value result = IfErr result (λ refused. (refused.key ≡ key) × (refused.value ≡ value))
 
 -- the last steps to the leaf, where these led to what its key met
 abbrev pub steps_after : InsertParentNodeChange → List Step → List Step

@@ -1,4 +1,5 @@
 pub mod Held
+pub mod Whichever
 pub mod Lookups
 pub mod Meetings
 pub mod Points

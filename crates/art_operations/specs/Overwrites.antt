@@ -10,8 +10,8 @@ use Rattle.art_arena.specs.arena.Steps.{Step, steps_of}
 use Rattle.art_arena.specs.arena.Stores.{StoresBeside}
 use Rattle.art_operations.specs.DeletePoints.{IsLeafPlace}
 use Rattle.art_operations.specs.Insertions.{steps_after}
-use Rattle.art_operations.specs.KeyedLists.{overlaps}
-use Rattle.art_operations.specs.Points.{IsPoint, IsInTheWay, HasConflict, NoConflict}
+use Rattle.art_operations.specs.KeyedLists.{IsBlocked, overlaps}
+use Rattle.art_operations.specs.Points.{IsPoint, IsInTheWay, NoConflict}
 use Rattle.art_operations.specs.declared.insert.point.InsertKind.TheVariants as kind
 use Rattle.art_operations.specs.declared.prefix_insert.point.PrefixInsertPoint.{PrefixInsertPoint}
 use Rattle.art_operations.specs.declared.prefix_insert.point.PrefixInsertPoint.TheVariants as at
@@ -51,7 +51,7 @@ module _ {K V : Type 0} (bytes : K → List ℕ) where
   -- whether a leaf's key is in conflict with this one
   abbrev pub TellsConflict : List ℕ → List (LeafAt K V) → PrefixInsertPoint → Type 0
   TellsConflict key ls (at.InsertPoint point) = NoConflict bytes key ls
-  TellsConflict key ls (at.OverwritePoint point) = HasConflict bytes key ls
+  TellsConflict key ls (at.OverwritePoint point) = IsBlocked (λ l. bytes l.key) key ls
 
   -- Beside these nodes the arena holds nothing but the tree of these leaves with the new one in the place of those
   -- whose keys overlap its key. It stands where the answer says.

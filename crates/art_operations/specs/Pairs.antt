@@ -52,17 +52,24 @@ module _ {K V : Type 0} (bytes : K → List ℕ) (P : ℕ) (arena : Arena K V) (
   HasPairsBeside (Some root) pairs =
       (s : Shape K V) × StoresBeside bytes P arena root rest s × (pairs_of (leaves s) ≡ pairs)
 
-  -- it has these pairs, and the point is the key's place in their tree
-  pub record HasPointBeside (point : InsertPoint) (key : List ℕ) (pairs : List (K × V)) : Type 0 where
+  -- it has these pairs, and this is so of their tree: where a key goes in it
+  pub record HasPlaceBeside (root : Name) (IsAt : Shape K V → Type 0) (pairs : List (K × V)) : Type 0 where
     pub shape : Shape K V
-    pub is_tree : StoresBeside bytes P arena point.root rest shape
-    pub place : IsPoint bytes key shape point
+    pub is_tree : StoresBeside bytes P arena root rest shape
+    pub place : IsAt shape
     pub pairs_are : pairs_of (leaves shape) ≡ pairs
 
   -- it has these pairs, and the key's place among them is known: it is a point, or nowhere where there is no pair
   abbrev pub CanPutBeside : Option InsertPoint → List ℕ → List (K × V) → Type 0
   CanPutBeside None key pairs = HasPairsBeside None pairs
-  CanPutBeside (Some point) key pairs = HasPointBeside point key pairs
+  CanPutBeside (Some point) key pairs = HasPlaceBeside point.root (λ s. IsPoint bytes key s point) pairs
+
+  -- the same of one point
+  abbrev pub HasPointBeside : InsertPoint → List ℕ → List (K × V) → Type 0
+  HasPointBeside point key pairs = HasPlaceBeside point.root (λ s. IsPoint bytes key s point) pairs
+
+  abbrev pub HasPrefixPointBeside : PrefixInsertPoint → List ℕ → List (K × V) → Type 0
+  HasPrefixPointBeside point key pairs = HasPlaceBeside (root_at point) (λ s. IsPrefixPoint bytes key s point) pairs
 
   -- a place for a key with which no pair is in conflict, or a conflict
   abbrev pub IsPlacedBeside : {E : Type 0} → List ℕ → List (K × V) → Result (Option InsertPoint) E → Type 0
@@ -86,21 +93,13 @@ module _ {K V : Type 0} (bytes : K → List ℕ) (P : ℕ) (arena : Arena K V) (
   abbrev pub HasTakenEndBeside : Option Name → End → List (K × V) → Option (DeleteResult K V) → Type 0
   HasTakenEndBeside root end pairs None = (pairs ≡ []) × HasPairsBeside root pairs
   HasTakenEndBeside root end pairs (Some deleted) =
-      (others : List (K × V))
-      × IsAtEnd end (deleted.deleted_leaf.key, deleted.deleted_leaf.value) others pairs
+      (others : List (K × V)) × IsAtEnd end (deleted.deleted_leaf.key, deleted.deleted_leaf.value) others pairs
       × HasPairsBeside deleted.new_root others
 
-  -- it has these pairs, and this is where the key goes in their tree, whichever keys it is in conflict with
-  pub record HasPrefixPointBeside (point : PrefixInsertPoint) (key : List ℕ) (pairs : List (K × V)) : Type 0 where
-    pub shape : Shape K V
-    pub is_tree : StoresBeside bytes P arena (root_at point) rest shape
-    pub place : IsPrefixPoint bytes key shape point
-    pub pairs_are : pairs_of (leaves shape) ≡ pairs
-
-  -- so it has, or there is no pair
+  -- the same of where the key goes whichever keys it is in conflict with
   abbrev pub CanPutOverBeside : Option PrefixInsertPoint → List ℕ → List (K × V) → Type 0
   CanPutOverBeside None key pairs = HasPairsBeside None pairs
-  CanPutOverBeside (Some point) key pairs = HasPrefixPointBeside point key pairs
+  CanPutOverBeside (Some point) key pairs = HasPlaceBeside (root_at point) (λ s. IsPrefixPoint bytes key s point) pairs
 
   -- it has the pairs with this one, in the leaf that is answered, in the place of those whose keys overlap its key, and
   -- these are told
@@ -111,8 +110,12 @@ module _ {K V : Type 0} (bytes : K → List ℕ) (P : ℕ) (arena : Arena K V) (
         result.insert_result.existing_leaf result.leafs_removed
     pub leaf : node_at arena (leaf_name result.insert_result.leaf_node_ptr) ≡ Some (pair key value)
 
--- the same with nothing beside
 module _ {K V : Type 0} (bytes : K → List ℕ) (P : ℕ) (arena : Arena K V) where
+  -- it has these pairs, with these nodes beside them
+  abbrev pub HasPairsAt : Option Name → List (K × V) → List (Name × Cell K V) → Type 0
+  HasPairsAt root pairs rest = HasPairsBeside bytes P arena rest root pairs
+
+  -- the same with nothing beside
   abbrev pub HasPairs : Option Name → List (K × V) → Type 0
   HasPairs root pairs = HasPairsBeside bytes P arena [] root pairs
 

@@ -10,6 +10,7 @@ use Rattle.art_arena.specs.arena.Shapes.{Shape, Branches, leaf_at, inner_at, Lea
 use Rattle.art_arena.specs.arena.Context.{Frame, path_to}
 use Rattle.art_arena.specs.arena.Places.{IsToward}
 use Rattle.art_arena.specs.arena.Steps.{Step, steps_of}
+use Rattle.art_operations.specs.KeyedLists.{IsBlocked}
 use Rattle.art_operations.specs.Meetings.{PartAt}
 use Rattle.art_operations.specs.declared.insert.point.InsertPoint.{InsertPoint}
 use Rattle.art_operations.specs.declared.insert.point.InsertSearchError.{InsertSearchError}
@@ -61,4 +62,4 @@ module _ {K V : Type 0} (bytes : K → List ℕ) (key : List ℕ) where
   -- a place and no conflict, or a conflict
   abbrev pub IsPlaceOrConflict : {E : Type 0} → Shape K V → Result InsertPoint E → Type 0
   IsPlaceOrConflict s (Ok point) = IsPoint s point × NoConflict bytes key (leaves s)
-  IsPlaceOrConflict s (Err e) = HasConflict bytes key (leaves s)
+  IsPlaceOrConflict s (Err e) = IsBlocked (λ l. bytes l.key) key (leaves s)

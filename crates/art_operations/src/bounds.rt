@@ -6,7 +6,6 @@ ghost use Rattle.std.specs.Range.Bound.{bound_map};
 ghost use Rattle.std.specs.declared.cmp.Ordering.TheVariants.{Less, Greater};
 ghost use Rattle.art_bytes.specs.Keys.{BeginsWith, bytes_cmp};
 ghost use Rattle.art_nodes.specs.InnerNode.{child_at};
-ghost use Rattle.art_nodes.specs.Name.{Name};
 ghost use Rattle.art_arena.specs.arena.Arena.{held_at, leaf_held, links_at};
 ghost use Rattle.art_arena.specs.arena.Cells.{leaf_name};
 ghost use Rattle.art_arena.specs.arena.Descents.{leaf_where, passing};
@@ -19,6 +18,7 @@ ghost use Rattle.art_operations.specs.Meetings.{PartAt};
 ghost use Rattle.art_operations.specs.Points.{AllConflict, IsPoint};
 ghost use Rattle.art_operations.specs.declared.insert.point.InsertKind.TheVariants as kind;
 ghost use Rattle.art_operations.specs.inner.Nearest.{IsNearest};
+ghost use Rattle.art_operations.specs.Whichever.{HasSome, HasTree, OfEach, OfTree};
 
 use crate::insert::point::{InsertKind, InsertPoint, find_insert_point};
 use crate::meeting::Parted;
@@ -47,9 +47,8 @@ pub fn find_leaf_pointer_for_bound<K: AsBytes, V, const PREFIX_LEN: usize>(
 ) -> Option<LeafPtr>
     requires { (s : Shape K V) × Stores K.bytes PREFIX_LEN arena.now root s
         × AreLinked (links_at arena.now) None (leaves s) None }
-    ensures { (s : Shape K V) → Stores K.bytes PREFIX_LEN arena.now root s
-        → AreLinked (links_at arena.now) None (leaves s) None
-        → result ≡ slot_inside K.bytes is_start (bound_map (λ key. key.now) bound.entry) (leaves s) }
+    ensures { OfTree K.bytes PREFIX_LEN arena.now root (λ s. AreLinked (links_at arena.now) None (leaves s) None
+        → result ≡ slot_inside K.bytes is_start (bound_map (λ key. key.now) bound.entry) (leaves s)) }
 {
     match bound {
         Bound::Unbounded => {
@@ -126,9 +125,9 @@ fn nearest_leaf<K: AsBytes, V, const PREFIX_LEN: usize>(
     root: OpaqueNodePtr,
     key: &[u8],
 ) -> Nearest
-    requires { (s : Shape K V) × Stores K.bytes PREFIX_LEN arena.now root s }
-    ensures { (s : Shape K V) → Stores K.bytes PREFIX_LEN arena.now root s
-        → IsNearest K.bytes key.now (leaves s) result.leaf result.order }
+    requires { HasTree K.bytes PREFIX_LEN arena.now root }
+    ensures { OfTree K.bytes PREFIX_LEN arena.now root
+        (λ s. IsNearest K.bytes key.now (leaves s) result.leaf result.order) }
 {
     match find_insert_point(arena, root, key) {
         Err(conflict) => compared(arena, first_leaf(arena, conflict.part), key),
@@ -144,8 +143,8 @@ fn nearest_at<K: AsBytes, V, const PREFIX_LEN: usize>(
     key: &[u8],
 ) -> Nearest
     requires { (s : Shape K V) × Stores K.bytes PREFIX_LEN arena.now root s × IsPoint K.bytes key.now s point }
-    ensures { (s : Shape K V) → Stores K.bytes PREFIX_LEN arena.now root s → IsPoint K.bytes key.now s point
-        → IsNearest K.bytes key.now (leaves s) result.leaf result.order }
+    ensures { OfTree K.bytes PREFIX_LEN arena.now root (λ s. IsPoint K.bytes key.now s point
+        → IsNearest K.bytes key.now (leaves s) result.leaf result.order) }
 {
     let kind = point.insert_kind;
     match kind {
@@ -257,10 +256,9 @@ pub fn find_range_segment<K: AsBytes, V, const PREFIX_LEN: usize>(
 ) -> Option<(LeafPtr, LeafPtr)>
     requires { (s : Shape K V) × Stores K.bytes PREFIX_LEN arena.now root s
         × AreLinked (links_at arena.now) None (leaves s) None }
-    ensures { (s : Shape K V) → Stores K.bytes PREFIX_LEN arena.now root s
-        → AreLinked (links_at arena.now) None (leaves s) None
+    ensures { OfTree K.bytes PREFIX_LEN arena.now root (λ s. AreLinked (links_at arena.now) None (leaves s) None
         → AreEndsWhere K.bytes (λ k. range_contains bytes_cmp (bound_map (λ key. key.now) start.entry)
-        (bound_map (λ key. key.now) end.entry) k) (leaves s) result }
+        (bound_map (λ key. key.now) end.entry) k) (leaves s) result) }
 {
     let first = match find_leaf_pointer_for_bound(arena, root, start, true) {
         Some(first) => first,
@@ -284,9 +282,9 @@ pub fn find_prefix_segment<K: AsBytes, V, const PREFIX_LEN: usize>(
     root: OpaqueNodePtr,
     prefix: &[u8],
 ) -> Option<(LeafPtr, LeafPtr)>
-    requires { (s : Shape K V) × Stores K.bytes PREFIX_LEN arena.now root s }
-    ensures { (s : Shape K V) → Stores K.bytes PREFIX_LEN arena.now root s
-        → AreEndsWhere K.bytes (λ k. begins_with prefix.now k) (leaves s) result }
+    requires { HasTree K.bytes PREFIX_LEN arena.now root }
+    ensures { OfTree K.bytes PREFIX_LEN arena.now root
+        (λ s. AreEndsWhere K.bytes (λ k. begins_with prefix.now k) (leaves s) result) }
 {
     match find_insert_point(arena, root, prefix) {
         Err(conflict) => segment_at(arena, conflict.part, prefix),
@@ -303,10 +301,10 @@ fn segment_at<K: AsBytes, V, const PREFIX_LEN: usize>(
     part: OpaqueNodePtr,
     prefix: &[u8],
 ) -> Option<(LeafPtr, LeafPtr)>
-    requires { (path : List ℕ) × (s : Shape K V) × StoresBelow K.bytes PREFIX_LEN arena.now part path s }
-    ensures { (path : List ℕ) (s : Shape K V) → StoresBelow K.bytes PREFIX_LEN arena.now part path s
-        → AllConflict K.bytes prefix.now (leaves s)
-        → AreEndsWhere K.bytes (λ k. begins_with prefix.now k) (leaves s) result }
+    requires { HasSome (StoresBelow K.bytes PREFIX_LEN arena.now part) }
+    ensures { OfEach (StoresBelow K.bytes PREFIX_LEN arena.now part)
+        (λ path s. AllConflict K.bytes prefix.now (leaves s)
+        → AreEndsWhere K.bytes (λ k. begins_with prefix.now k) (leaves s) result) }
 {
     let first = first_leaf(arena, part);
     if arena.as_key_ref(first).as_bytes().starts_with(prefix) {

@@ -8,14 +8,16 @@ ghost use Rattle.std.specs.Prelude.{◌≡◌, ◌++◌, Bool, List, IfSome, IfN
 ghost use Rattle.art_nodes.specs.Name.{Name};
 ghost use Rattle.art_arena.specs.arena.Arena.{node_at, KeepsRoom, SameNodes};
 ghost use Rattle.art_arena.specs.arena.Cells.{Cell, Holds};
-ghost use Rattle.art_arena.specs.arena.Shapes.{Shape, LeafAt, cells, leaves};
+ghost use Rattle.art_arena.specs.arena.Shapes.{Shape, cells, leaves};
 ghost use Rattle.art_operations.specs.Frees.{cells_with, inner_cells, leaf_cells, HoldsBeside, HoldsInnerBeside};
 ghost use Rattle.art_operations.specs.Frees.{HoldsRun, KeepsAllBut};
 ghost use Rattle.art_operations.specs.inner.Freeing.{FreesRoot, HasFreedOne, HoldsBoth, HoldsOneLess, HoldsPart};
-ghost use Rattle.art_operations.specs.inner.Freeing.{IsBottom};
+ghost use Rattle.art_operations.specs.inner.Freeing.{IsBottom, IsChildIn};
+ghost use Rattle.art_operations.specs.Whichever.{HasSome, OfEach};
 
-use art_arena::{LeafPtr, NodeArena, NodeEdit};
+use art_arena::{InnerRef, LeafPtr, NodeArena, NodeEdit};
 use art_nodes::{KindLeaf, LeafNode, OpaqueNodePtr};
+use std::ops::Bound;
 
 // The first node without a child below a node, and the byte of a parent under which it stands. There is none where it
 // is that node itself.
@@ -25,6 +27,13 @@ struct Bottom {
     place: Option<(OpaqueNodePtr, u8)>,
 }
 
+// What is left of a tree: its root, and a byte below which to look for a child of it first.
+#[derive(Clone, Copy)]
+struct Left {
+    root: OpaqueNodePtr,
+    below: u8,
+}
+
 // Goes down from a node by first children.
 fn find_bottom<K, V, const PREFIX_LEN: usize>(
     arena: &NodeArena<K, V, PREFIX_LEN>,
@@ -32,8 +41,8 @@ fn find_bottom<K, V, const PREFIX_LEN: usize>(
 ) -> Bottom
     requires { (with_leaves : Bool) × (s : Shape K V) × (rest : List (Name × Cell K V))
         × HoldsPart PREFIX_LEN with_leaves arena.now root s rest }
-    ensures { (with_leaves : Bool) (s : Shape K V) (rest : List (Name × Cell K V))
-        → HoldsPart PREFIX_LEN with_leaves arena.now root s rest → IsBottom s result }
+    ensures { (with_leaves : Bool) → OfEach (HoldsPart PREFIX_LEN with_leaves arena.now root)
+        (λ s rest. IsBottom s result) }
 {
     let mut node = root;
     let mut place = None;
@@ -57,10 +66,9 @@ fn free_node<K: Drop, V: Drop, const PREFIX_LEN: usize>(
     node: OpaqueNodePtr,
     with_leaves: bool,
 )
-    requires { (s : Shape K V) × (rest : List (Name × Cell K V))
-        × HoldsPart PREFIX_LEN with_leaves arena.old node s rest }
-    ensures freed { (s : Shape K V) (rest : List (Name × Cell K V))
-        → HoldsPart PREFIX_LEN with_leaves arena.old node s rest → FreesRoot with_leaves arena.old arena.new s }
+    requires { HasSome (HoldsPart PREFIX_LEN with_leaves arena.old node) }
+    ensures freed { OfEach (HoldsPart PREFIX_LEN with_leaves arena.old node)
+        (λ s rest. FreesRoot with_leaves arena.old arena.new s) }
     ensures room { KeepsRoom arena.old arena.new }
 {
     if let Some(leaf) = node.cast::<KindLeaf>() {
@@ -107,20 +115,38 @@ fn hang<K: Drop, V: Drop, const PREFIX_LEN: usize>(
     }
 }
 
+// A child of a node: the last one below this byte, or else the last of all. Where the children at this byte and above
+// it are gone, no place of theirs is read again, of which a wide node has one for each byte.
+fn child_below<K, V, const PREFIX_LEN: usize>(
+    inner: &InnerRef<'_, K, V, PREFIX_LEN>,
+    byte: u8,
+) -> Option<(u8, OpaqueNodePtr)>
+    ensures { IsChildIn inner.now.node.children result }
+{
+    let mut below = inner.range(Bound::Unbounded, Bound::Excluded(byte));
+    match below.next_back() {
+        Some(child) => Some(child),
+        None => inner.last_child(),
+    }
+}
+
+// Where to look for the next child of a root: below the one that was taken out, if the root is the same.
+fn below_which(left: OpaqueNodePtr, root: OpaqueNodePtr, taken: u8) -> u8 {
+    if left == root { taken } else { u8::MAX }
+}
+
 // Frees one node of a tree, and answers the root of what is left of it, if anything is.
 fn free_one<K: Drop, V: Drop, const PREFIX_LEN: usize>(
     arena: &mut NodeArena<K, V, PREFIX_LEN>,
     root: OpaqueNodePtr,
+    below: u8,
     with_leaves: bool,
-) -> Option<OpaqueNodePtr>
-    requires { (s : Shape K V) × (rest : List (Name × Cell K V))
-        × HoldsPart PREFIX_LEN with_leaves arena.old root s rest }
-    ensures freed { (s : Shape K V) (rest : List (Name × Cell K V))
-        → HoldsPart PREFIX_LEN with_leaves arena.old root s rest
-        → HasFreedOne PREFIX_LEN with_leaves arena.new result s rest }
-    ensures kept { (s : Shape K V) (rest : List (Name × Cell K V))
-        → HoldsPart PREFIX_LEN with_leaves arena.old root s rest
-        → KeepsAllBut (cells_with PREFIX_LEN with_leaves s) arena.old arena.new }
+) -> Option<Left>
+    requires { HasSome (HoldsPart PREFIX_LEN with_leaves arena.old root) }
+    ensures freed { OfEach (HoldsPart PREFIX_LEN with_leaves arena.old root)
+        (λ s rest. HasFreedOne PREFIX_LEN with_leaves arena.new result s rest) }
+    ensures kept { OfEach (HoldsPart PREFIX_LEN with_leaves arena.old root)
+        (λ s rest. KeepsAllBut (cells_with PREFIX_LEN with_leaves s) arena.old arena.new) }
     ensures room { KeepsRoom arena.old arena.new }
 {
     if root.is::<KindLeaf>() {
@@ -128,19 +154,28 @@ fn free_one<K: Drop, V: Drop, const PREFIX_LEN: usize>(
         return None;
     }
     let inner = arena.inner(root);
-    let count = inner.children().len();
-    match inner.last_child() {
+    // It isn't read: it tells that the children ascend, so that a byte has no second child.
+    let _children = inner.children();
+    let count = inner.num_children();
+    match child_below(&inner, below) {
         None => {
             free_node(arena, root, with_leaves);
             None
         }
-        Some(last) => {
+        Some(child) => {
             if count == 1 {
                 free_node(arena, root, with_leaves);
-                return Some(last.1);
+                return Some(Left {
+                    root: child.1,
+                    below: u8::MAX,
+                });
             }
-            arena.edit_inner(root, &NodeEdit::Remove { byte: last.0 });
-            Some(hang(arena, root, last.1, with_leaves))
+            arena.edit_inner(root, &NodeEdit::Remove { byte: child.0 });
+            let left = hang(arena, root, child.1, with_leaves);
+            Some(Left {
+                root: left,
+                below: below_which(left, root, child.0),
+            })
         }
     }
 }
@@ -151,19 +186,21 @@ fn free_nodes<K: Drop, V: Drop, const PREFIX_LEN: usize>(
     root: OpaqueNodePtr,
     with_leaves: bool,
 )
-    requires { (s : Shape K V) × (rest : List (Name × Cell K V))
-        × HoldsPart PREFIX_LEN with_leaves arena.old root s rest }
-    ensures freed { (s : Shape K V) (rest : List (Name × Cell K V))
-        → HoldsPart PREFIX_LEN with_leaves arena.old root s rest → Holds (node_at arena.new) rest }
-    ensures kept { (s : Shape K V) (rest : List (Name × Cell K V))
-        → HoldsPart PREFIX_LEN with_leaves arena.old root s rest
-        → KeepsAllBut (cells_with PREFIX_LEN with_leaves s) arena.old arena.new }
+    requires { HasSome (HoldsPart PREFIX_LEN with_leaves arena.old root) }
+    ensures freed { OfEach (HoldsPart PREFIX_LEN with_leaves arena.old root)
+        (λ s rest. Holds (node_at arena.new) rest) }
+    ensures kept { OfEach (HoldsPart PREFIX_LEN with_leaves arena.old root)
+        (λ s rest. KeepsAllBut (cells_with PREFIX_LEN with_leaves s) arena.old arena.new) }
     ensures room { KeepsRoom arena.old arena.new }
 {
     let mut current = root;
+    let mut below = u8::MAX;
     'free: loop {
-        match free_one(arena, current, with_leaves) {
-            Some(left) => current = left,
+        match free_one(arena, current, below, with_leaves) {
+            Some(left) => {
+                current = left.root;
+                below = left.below;
+            }
             None => return,
         }
     }
@@ -176,13 +213,11 @@ pub fn deallocate_tree<K: Drop, V: Drop, const PREFIX_LEN: usize>(
     arena: &mut NodeArena<K, V, PREFIX_LEN>,
     root: OpaqueNodePtr,
 ) -> usize
-    requires { (s : Shape K V) × (rest : List (Name × Cell K V)) × HoldsBeside PREFIX_LEN arena.old root s rest }
-    ensures freed { (s : Shape K V) (rest : List (Name × Cell K V)) → HoldsBeside PREFIX_LEN arena.old root s rest
-        → Holds (node_at arena.new) rest }
-    ensures value { (s : Shape K V) (rest : List (Name × Cell K V)) → HoldsBeside PREFIX_LEN arena.old root s rest
-        → result ≡ length (leaves s) }
-    ensures kept { (s : Shape K V) (rest : List (Name × Cell K V)) → HoldsBeside PREFIX_LEN arena.old root s rest
-        → KeepsAllBut (cells PREFIX_LEN s) arena.old arena.new }
+    requires { HasSome (HoldsBeside PREFIX_LEN arena.old root) }
+    ensures freed { OfEach (HoldsBeside PREFIX_LEN arena.old root) (λ s rest. Holds (node_at arena.new) rest) }
+    ensures value { OfEach (HoldsBeside PREFIX_LEN arena.old root) (λ s rest. result ≡ length (leaves s)) }
+    ensures kept { OfEach (HoldsBeside PREFIX_LEN arena.old root)
+        (λ s rest. KeepsAllBut (cells PREFIX_LEN s) arena.old arena.new) }
     ensures room { KeepsRoom arena.old arena.new }
 {
     let before = arena.leaf_count();
@@ -196,11 +231,10 @@ pub fn deallocate_tree_non_leaves<K: Drop, V: Drop, const PREFIX_LEN: usize>(
     arena: &mut NodeArena<K, V, PREFIX_LEN>,
     root: OpaqueNodePtr,
 )
-    requires { (s : Shape K V) × (rest : List (Name × Cell K V)) × HoldsInnerBeside PREFIX_LEN arena.old root s rest }
-    ensures freed { (s : Shape K V) (rest : List (Name × Cell K V)) → HoldsInnerBeside PREFIX_LEN arena.old root s rest
-        → Holds (node_at arena.new) rest }
-    ensures kept { (s : Shape K V) (rest : List (Name × Cell K V)) → HoldsInnerBeside PREFIX_LEN arena.old root s rest
-        → KeepsAllBut (inner_cells PREFIX_LEN s) arena.old arena.new }
+    requires { HasSome (HoldsInnerBeside PREFIX_LEN arena.old root) }
+    ensures freed { OfEach (HoldsInnerBeside PREFIX_LEN arena.old root) (λ s rest. Holds (node_at arena.new) rest) }
+    ensures kept { OfEach (HoldsInnerBeside PREFIX_LEN arena.old root)
+        (λ s rest. KeepsAllBut (inner_cells PREFIX_LEN s) arena.old arena.new) }
     ensures room { KeepsRoom arena.old arena.new }
 {
     free_nodes(arena, root, false);
@@ -212,11 +246,9 @@ fn free_run<K: Drop, V: Drop, const PREFIX_LEN: usize>(
     first: LeafPtr,
     last: LeafPtr,
 )
-    requires { (ls : List (LeafAt K V)) × (rest : List (Name × Cell K V)) × HoldsRun arena.old first last ls rest }
-    ensures freed { (ls : List (LeafAt K V)) (rest : List (Name × Cell K V))
-        → HoldsRun arena.old first last ls rest → Holds (node_at arena.new) rest }
-    ensures kept { (ls : List (LeafAt K V)) (rest : List (Name × Cell K V))
-        → HoldsRun arena.old first last ls rest → KeepsAllBut (leaf_cells ls) arena.old arena.new }
+    requires { HasSome (HoldsRun arena.old first last) }
+    ensures freed { OfEach (HoldsRun arena.old first last) (λ ls rest. Holds (node_at arena.new) rest) }
+    ensures kept { OfEach (HoldsRun arena.old first last) (λ ls rest. KeepsAllBut (leaf_cells ls) arena.old arena.new) }
     ensures room { KeepsRoom arena.old arena.new }
 {
     let mut current = first;
@@ -238,12 +270,11 @@ pub fn deallocate_leaves<K: Drop, V: Drop, const PREFIX_LEN: usize>(
     arena: &mut NodeArena<K, V, PREFIX_LEN>,
     run: Option<(LeafPtr, LeafPtr)>,
 )
-    requires { IfSome run (λ ends. (ls : List (LeafAt K V)) × (rest : List (Name × Cell K V))
-        × HoldsRun arena.old ends.0 ends.1 ls rest) }
-    ensures freed { IfSome run (λ ends. (ls : List (LeafAt K V)) (rest : List (Name × Cell K V))
-        → HoldsRun arena.old ends.0 ends.1 ls rest → Holds (node_at arena.new) rest) }
-    ensures kept { IfSome run (λ ends. (ls : List (LeafAt K V)) (rest : List (Name × Cell K V))
-        → HoldsRun arena.old ends.0 ends.1 ls rest → KeepsAllBut (leaf_cells ls) arena.old arena.new) }
+    requires { IfSome run (λ ends. HasSome (HoldsRun arena.old ends.0 ends.1)) }
+    ensures freed { IfSome run (λ ends. OfEach (HoldsRun arena.old ends.0 ends.1)
+        (λ ls rest. Holds (node_at arena.new) rest)) }
+    ensures kept { IfSome run (λ ends. OfEach (HoldsRun arena.old ends.0 ends.1)
+        (λ ls rest. KeepsAllBut (leaf_cells ls) arena.old arena.new)) }
     ensures none { IfNone run (SameNodes arena.old arena.new) }
     ensures room { KeepsRoom arena.old arena.new }
 {

@@ -2,6 +2,7 @@
 
 mod apply;
 mod detach;
+pub mod leaf;
 mod merge;
 pub mod point;
 pub mod result;

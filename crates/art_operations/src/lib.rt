@@ -19,6 +19,7 @@ pub mod running;
 pub use bounds::{find_leaf_pointer_for_bound, find_prefix_segment, find_range_segment};
 pub use clone::{CloneResult, clone_unchecked};
 pub use deallocate::{deallocate_leaves, deallocate_tree, deallocate_tree_non_leaves};
+pub use delete::leaf::take_leaf;
 pub use delete::point::{
     DeletePoint, find_maximum_to_delete, find_minimum_to_delete, search_for_delete_point,
 };

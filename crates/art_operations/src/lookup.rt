@@ -3,10 +3,9 @@ ghost use Rattle.std.specs.Prelude.{◌≡◌, ◌<◌, ◌≤◌, ◌⊎◌, �
 ghost use Rattle.std.specs.Str.{bytes_eq};
 ghost use Rattle.art_bytes.specs.Keys.{BeginsWith};
 ghost use Rattle.art_arena.specs.tree.Tenants.{begins_with};
-ghost use Rattle.art_arena.specs.arena.Shapes.{Shape, leaves};
-ghost use Rattle.art_operations.specs.Lookups.{behavior_after, leaf_where, seen_by};
+ghost use Rattle.art_operations.specs.Lookups.{behavior_after, seen_by};
 ghost use Rattle.art_operations.specs.Lookups.{IsMatchedByBytes, IsMatchedByLength, ReadsPath};
-ghost use Rattle.art_arena.specs.arena.Stores.{Stores};
+ghost use Rattle.art_operations.specs.Whichever.{FindsLeaf, HasTree, OfTree};
 
 use art_arena::{ArenaReader, LeafPtr, NodeArena, land};
 use art_bytes::AsBytes;
@@ -114,9 +113,8 @@ pub fn search_unchecked<K: AsBytes, V, const PREFIX_LEN: usize>(
     root: OpaqueNodePtr,
     key: &[u8],
 ) -> Option<LeafPtr>
-    requires { (s : Shape K V) × Stores K.bytes PREFIX_LEN arena.now root s }
-    ensures { (s : Shape K V) → Stores K.bytes PREFIX_LEN arena.now root s
-        → result ≡ leaf_where K.bytes (λ k. bytes_eq k key.now) (leaves s) }
+    requires { HasTree K.bytes PREFIX_LEN arena.now root }
+    ensures { FindsLeaf K.bytes PREFIX_LEN arena.now root (λ k. bytes_eq k key.now) result }
 {
     let mut reader = ArenaReader::new(arena);
     search_with(&mut reader, root, key)
@@ -130,9 +128,8 @@ pub fn prefix_search_unchecked<K: AsBytes, V, const PREFIX_LEN: usize>(
     root: OpaqueNodePtr,
     key: &[u8],
 ) -> Option<LeafPtr>
-    requires { (s : Shape K V) × Stores K.bytes PREFIX_LEN arena.now root s }
-    ensures { (s : Shape K V) → Stores K.bytes PREFIX_LEN arena.now root s
-        → result ≡ leaf_where K.bytes (λ k. begins_with k key.now) (leaves s) }
+    requires { HasTree K.bytes PREFIX_LEN arena.now root }
+    ensures { FindsLeaf K.bytes PREFIX_LEN arena.now root (λ k. begins_with k key.now) result }
 {
     let mut counted = ArenaReader::new(arena);
     prefix_search_with(&mut counted, root, key)
@@ -145,12 +142,11 @@ pub fn search_with<K: AsBytes, V, const PREFIX_LEN: usize>(
     root: OpaqueNodePtr,
     key: &[u8],
 ) -> Option<LeafPtr>
-    requires { (s : Shape K V) × Stores K.bytes PREFIX_LEN reader.old.arena.now root s }
-    ensures value { (s : Shape K V) → Stores K.bytes PREFIX_LEN reader.old.arena.now root s
-        → result ≡ leaf_where K.bytes (λ k. bytes_eq k key.now) (leaves s) }
+    requires { HasTree K.bytes PREFIX_LEN reader.old.arena.now root }
+    ensures value { FindsLeaf K.bytes PREFIX_LEN reader.old.arena.now root (λ k. bytes_eq k key.now) result }
     ensures kept { reader.new.arena.now ≡ reader.old.arena.now }
-    ensures counts { (s : Shape K V) → Stores K.bytes PREFIX_LEN reader.old.arena.now root s
-        → ReadsPath key.now s reader.old.count reader.new.count }
+    ensures counts { OfTree K.bytes PREFIX_LEN reader.old.arena.now root
+        (λ s. ReadsPath key.now s reader.old.count reader.new.count) }
 {
     match land(reader, root, key) {
         Some(landed) => {
@@ -170,12 +166,11 @@ pub fn prefix_search_with<K: AsBytes, V, const PREFIX_LEN: usize>(
     root: OpaqueNodePtr,
     key: &[u8],
 ) -> Option<LeafPtr>
-    requires { (s : Shape K V) × Stores K.bytes PREFIX_LEN reader.old.arena.now root s }
-    ensures value { (s : Shape K V) → Stores K.bytes PREFIX_LEN reader.old.arena.now root s
-        → result ≡ leaf_where K.bytes (λ k. begins_with k key.now) (leaves s) }
+    requires { HasTree K.bytes PREFIX_LEN reader.old.arena.now root }
+    ensures value { FindsLeaf K.bytes PREFIX_LEN reader.old.arena.now root (λ k. begins_with k key.now) result }
     ensures kept { reader.new.arena.now ≡ reader.old.arena.now }
-    ensures counts { (s : Shape K V) → Stores K.bytes PREFIX_LEN reader.old.arena.now root s
-        → ReadsPath key.now s reader.old.count reader.new.count }
+    ensures counts { OfTree K.bytes PREFIX_LEN reader.old.arena.now root
+        (λ s. ReadsPath key.now s reader.old.count reader.new.count) }
 {
     match land(reader, root, key) {
         Some(landed) => {

@@ -1,8 +1,9 @@
 //! The first and the last leaf below a node.
-ghost use Rattle.std.specs.Prelude.{◌≡◌, ℕ, List, Some, None};
-ghost use Rattle.art_arena.specs.arena.Shapes.{Shape, leaves};
+ghost use Rattle.std.specs.Prelude.{◌≡◌, Some, None};
+ghost use Rattle.art_arena.specs.arena.Shapes.{leaves};
 ghost use Rattle.art_arena.specs.arena.Linked.{first_slot, last_slot};
 ghost use Rattle.art_arena.specs.arena.Stores.{StoresBelow};
+ghost use Rattle.art_operations.specs.Whichever.{HasSome, OfEach};
 
 use art_arena::{LeafPtr, NodeArena, first_leaf, last_leaf};
 use art_bytes::AsBytes;
@@ -13,9 +14,9 @@ pub fn minimum_unchecked<K: AsBytes, V, const PREFIX_LEN: usize>(
     arena: &NodeArena<K, V, PREFIX_LEN>,
     root: OpaqueNodePtr,
 ) -> LeafPtr
-    requires { (path : List ℕ) × (s : Shape K V) × StoresBelow K.bytes PREFIX_LEN arena.now root path s }
-    ensures { (path : List ℕ) (s : Shape K V) → StoresBelow K.bytes PREFIX_LEN arena.now root path s
-        → first_slot (leaves s) None ≡ Some result }
+    requires { HasSome (StoresBelow K.bytes PREFIX_LEN arena.now root) }
+    ensures { OfEach (StoresBelow K.bytes PREFIX_LEN arena.now root)
+        (λ path s. first_slot (leaves s) None ≡ Some result) }
 {
     first_leaf(arena, root)
 }
@@ -25,9 +26,9 @@ pub fn maximum_unchecked<K: AsBytes, V, const PREFIX_LEN: usize>(
     arena: &NodeArena<K, V, PREFIX_LEN>,
     root: OpaqueNodePtr,
 ) -> LeafPtr
-    requires { (path : List ℕ) × (s : Shape K V) × StoresBelow K.bytes PREFIX_LEN arena.now root path s }
-    ensures { (path : List ℕ) (s : Shape K V) → StoresBelow K.bytes PREFIX_LEN arena.now root path s
-        → last_slot None (leaves s) ≡ Some result }
+    requires { HasSome (StoresBelow K.bytes PREFIX_LEN arena.now root) }
+    ensures { OfEach (StoresBelow K.bytes PREFIX_LEN arena.now root)
+        (λ path s. last_slot None (leaves s) ≡ Some result) }
 {
     last_leaf(arena, root)
 }

@@ -1,18 +1,19 @@
 //! Insertion and deletion, told by the pairs that an arena has: commands and maps stand on these.
-ghost use Rattle.std.specs.Prelude.{◌≡◌, ◌+◌, List, [], Some, None, IfOk, IfErr, IsOk, OnErr};
+ghost use Rattle.std.specs.Prelude.{◌≡◌, ◌+◌, List, [], Some, None, IfOk, IsOk, OnErr};
 ghost use Rattle.art_nodes.specs.Name.{Name};
 ghost use Rattle.art_arena.specs.arena.Arena.{node_at, HasRoom, KeepsNodes, SameNodes, UsesRoom};
 ghost use Rattle.art_arena.specs.arena.Cells.{Cell, HoldsOnly};
 ghost use Rattle.art_arena.specs.arena.EndLeaves.{end_slot};
-ghost use Rattle.art_arena.specs.arena.Shapes.{Shape, key_of, leaves};
+ghost use Rattle.art_arena.specs.arena.Shapes.{key_of, leaves};
 ghost use Rattle.art_arena.specs.arena.Steps.{steps_of};
-ghost use Rattle.art_arena.specs.arena.Stores.{Stores};
 ghost use Rattle.art_arena.specs.tree.Shrinks.{Shrinks};
 ghost use Rattle.art_operations.specs.DeletePoints.{IsLeafPlace};
+ghost use Rattle.art_operations.specs.Insertions.{HandsPairBack};
 ghost use Rattle.art_operations.specs.KeyedLists.{HasKey};
-ghost use Rattle.art_operations.specs.Pairs.{CanPutBeside, CanPutOverBeside, HasPairsBeside, HasPutBeside};
+ghost use Rattle.art_operations.specs.Pairs.{CanPutBeside, CanPutOverBeside, HasPairsAt, HasPutBeside};
 ghost use Rattle.art_operations.specs.Pairs.{HasPutOverBeside, HasTakenBeside, HasTakenEndBeside, IsPlacedBeside};
 ghost use Rattle.art_operations.specs.Pairs.{ShrinksAtEnd};
+ghost use Rattle.art_operations.specs.Whichever.{HasSome, HasTree, OfEach, OfTree};
 
 use crate::delete::point::{
     DeletePoint, find_maximum_to_delete, find_minimum_to_delete, search_for_delete_point,
@@ -35,11 +36,9 @@ pub fn find_place<K: AsBytes, V, const PREFIX_LEN: usize>(
     root: Option<OpaqueNodePtr>,
     key: &[u8],
 ) -> Result<Option<InsertPoint>, PrefixConflict>
-    requires { (pairs : List (K × V)) × (rest : List (Name × Cell K V))
-        × HasPairsBeside K.bytes PREFIX_LEN arena.now rest root pairs }
-    ensures { (pairs : List (K × V)) (rest : List (Name × Cell K V))
-        → HasPairsBeside K.bytes PREFIX_LEN arena.now rest root pairs
-        → IsPlacedBeside K.bytes PREFIX_LEN arena.now rest key.now pairs result }
+    requires { HasSome (HasPairsAt K.bytes PREFIX_LEN arena.now root) }
+    ensures { OfEach (HasPairsAt K.bytes PREFIX_LEN arena.now root)
+        (λ pairs rest. IsPlacedBeside K.bytes PREFIX_LEN arena.now rest key.now pairs result) }
 {
     match root {
         Some(top) => match find_insert_point(arena, top, key) {
@@ -61,7 +60,7 @@ fn put_first<K: AsBytes, V, const PREFIX_LEN: usize>(
     ensures others { IfOk result (λ put. (rest : List (Name × Cell K V)) → HoldsOnly (node_at arena.old) rest
         → KeepsNodes rest arena.old arena.new) }
     ensures err { OnErr result (SameNodes arena.old arena.new) }
-    ensures handed_back { IfErr result (λ refused. (refused.key ≡ key) × (refused.value ≡ value)) }
+    ensures handed_back { HandsPairBack key value result }
     ensures succeeds { HasRoom arena.old 1 → IsOk result }
     ensures room { UsesRoom 1 arena.old arena.new }
 {
@@ -83,19 +82,17 @@ pub fn put_pair<K: AsBytes, V, const PREFIX_LEN: usize>(
     key: K,
     value: V,
 ) -> Result<InsertResult<K, V>, InsertRefused<K, V>>
-    requires { (pairs : List (K × V)) × (rest : List (Name × Cell K V))
-        × CanPutBeside K.bytes PREFIX_LEN arena.old rest place (K.bytes key) pairs }
-    ensures ok { IfOk result (λ put. (pairs : List (K × V)) (rest : List (Name × Cell K V))
-        → CanPutBeside K.bytes PREFIX_LEN arena.old rest place (K.bytes key) pairs
-        → HasPutBeside K.bytes PREFIX_LEN arena.new rest pairs key value put) }
-    ensures others { IfOk result (λ put. (pairs : List (K × V)) (rest : List (Name × Cell K V))
-        → CanPutBeside K.bytes PREFIX_LEN arena.old rest place (K.bytes key) pairs
-        → KeepsNodes rest arena.old arena.new) }
-    ensures stored { (pairs : List (K × V)) (rest : List (Name × Cell K V))
-        → CanPutBeside K.bytes PREFIX_LEN arena.old rest place (K.bytes key) pairs
-        → HasKey (key_of K.bytes) (K.bytes key) pairs → IsOk result }
+    requires { HasSome (λ pairs rest. CanPutBeside K.bytes PREFIX_LEN arena.old rest place (K.bytes key) pairs) }
+    ensures ok { IfOk result (λ put. OfEach
+        (λ pairs rest. CanPutBeside K.bytes PREFIX_LEN arena.old rest place (K.bytes key) pairs)
+        (λ pairs rest. HasPutBeside K.bytes PREFIX_LEN arena.new rest pairs key value put)) }
+    ensures others { IfOk result (λ put. OfEach
+        (λ pairs rest. CanPutBeside K.bytes PREFIX_LEN arena.old rest place (K.bytes key) pairs)
+        (λ pairs rest. KeepsNodes rest arena.old arena.new)) }
+    ensures stored { OfEach (λ pairs rest. CanPutBeside K.bytes PREFIX_LEN arena.old rest place (K.bytes key) pairs)
+        (λ pairs rest. HasKey (key_of K.bytes) (K.bytes key) pairs → IsOk result) }
     ensures err { OnErr result (SameNodes arena.old arena.new) }
-    ensures handed_back { IfErr result (λ refused. (refused.key ≡ key) × (refused.value ≡ value)) }
+    ensures handed_back { HandsPairBack key value result }
     ensures succeeds { HasRoom arena.old 2 → IsOk result }
     ensures room { UsesRoom 2 arena.old arena.new }
 {
@@ -112,11 +109,9 @@ pub fn find_place_over<K: AsBytes, V, const PREFIX_LEN: usize>(
     root: Option<OpaqueNodePtr>,
     key: &[u8],
 ) -> Option<PrefixInsertPoint>
-    requires { (pairs : List (K × V)) × (rest : List (Name × Cell K V))
-        × HasPairsBeside K.bytes PREFIX_LEN arena.now rest root pairs }
-    ensures { (pairs : List (K × V)) (rest : List (Name × Cell K V))
-        → HasPairsBeside K.bytes PREFIX_LEN arena.now rest root pairs
-        → CanPutOverBeside K.bytes PREFIX_LEN arena.now rest result key.now pairs }
+    requires { HasSome (HasPairsAt K.bytes PREFIX_LEN arena.now root) }
+    ensures { OfEach (HasPairsAt K.bytes PREFIX_LEN arena.now root)
+        (λ pairs rest. CanPutOverBeside K.bytes PREFIX_LEN arena.now rest result key.now pairs) }
 {
     match root {
         Some(top) => Some(search_for_prefix_insert_point(arena, top, key)),
@@ -134,19 +129,17 @@ pub fn put_over<K: AsBytes + Drop, V: Drop, const PREFIX_LEN: usize>(
     key: K,
     value: V,
 ) -> Result<PrefixInsertResult<K, V>, InsertRefused<K, V>>
-    requires { (pairs : List (K × V)) × (rest : List (Name × Cell K V))
-        × CanPutOverBeside K.bytes PREFIX_LEN arena.old rest place (K.bytes key) pairs }
-    ensures ok { IfOk result (λ put. (pairs : List (K × V)) (rest : List (Name × Cell K V))
-        → CanPutOverBeside K.bytes PREFIX_LEN arena.old rest place (K.bytes key) pairs
-        → HasPutOverBeside K.bytes PREFIX_LEN arena.new rest pairs key value put) }
-    ensures others { IfOk result (λ put. (pairs : List (K × V)) (rest : List (Name × Cell K V))
-        → CanPutOverBeside K.bytes PREFIX_LEN arena.old rest place (K.bytes key) pairs
-        → KeepsNodes rest arena.old arena.new) }
-    ensures stored { (pairs : List (K × V)) (rest : List (Name × Cell K V))
-        → CanPutOverBeside K.bytes PREFIX_LEN arena.old rest place (K.bytes key) pairs
-        → HasKey (key_of K.bytes) (K.bytes key) pairs → IsOk result }
+    requires { HasSome (λ pairs rest. CanPutOverBeside K.bytes PREFIX_LEN arena.old rest place (K.bytes key) pairs) }
+    ensures ok { IfOk result (λ put. OfEach
+        (λ pairs rest. CanPutOverBeside K.bytes PREFIX_LEN arena.old rest place (K.bytes key) pairs)
+        (λ pairs rest. HasPutOverBeside K.bytes PREFIX_LEN arena.new rest pairs key value put)) }
+    ensures others { IfOk result (λ put. OfEach
+        (λ pairs rest. CanPutOverBeside K.bytes PREFIX_LEN arena.old rest place (K.bytes key) pairs)
+        (λ pairs rest. KeepsNodes rest arena.old arena.new)) }
+    ensures stored { OfEach (λ pairs rest. CanPutOverBeside K.bytes PREFIX_LEN arena.old rest place (K.bytes key) pairs)
+        (λ pairs rest. HasKey (key_of K.bytes) (K.bytes key) pairs → IsOk result) }
     ensures err { OnErr result (SameNodes arena.old arena.new) }
-    ensures handed_back { IfErr result (λ refused. (refused.key ≡ key) × (refused.value ≡ value)) }
+    ensures handed_back { HandsPairBack key value result }
     ensures succeeds { HasRoom arena.old 2 → IsOk result }
     ensures room { UsesRoom 2 arena.old arena.new }
 {
@@ -167,17 +160,14 @@ pub fn take_pair<K: AsBytes, V, const PREFIX_LEN: usize>(
     root: Option<OpaqueNodePtr>,
     key: &[u8],
 ) -> Result<Option<DeleteResult<K, V>>, AllocError>
-    requires { (pairs : List (K × V)) × (rest : List (Name × Cell K V))
-        × HasPairsBeside K.bytes PREFIX_LEN arena.old rest root pairs }
-    ensures ok { IfOk result (λ taken. (pairs : List (K × V)) (rest : List (Name × Cell K V))
-        → HasPairsBeside K.bytes PREFIX_LEN arena.old rest root pairs
-        → HasTakenBeside K.bytes PREFIX_LEN arena.new rest root key.now pairs taken) }
-    ensures others { IfOk result (λ taken. (pairs : List (K × V)) (rest : List (Name × Cell K V))
-        → HasPairsBeside K.bytes PREFIX_LEN arena.old rest root pairs → KeepsNodes rest arena.old arena.new) }
+    requires { HasSome (HasPairsAt K.bytes PREFIX_LEN arena.old root) }
+    ensures ok { IfOk result (λ taken. OfEach (HasPairsAt K.bytes PREFIX_LEN arena.old root)
+        (λ pairs rest. HasTakenBeside K.bytes PREFIX_LEN arena.new rest root key.now pairs taken)) }
+    ensures others { IfOk result (λ taken. OfEach (HasPairsAt K.bytes PREFIX_LEN arena.old root)
+        (λ pairs rest. KeepsNodes rest arena.old arena.new)) }
     ensures err { OnErr result (SameNodes arena.old arena.new) }
-    ensures shrinks { OnErr result ((pairs : List (K × V)) (rest : List (Name × Cell K V))
-        → HasPairsBeside K.bytes PREFIX_LEN arena.old rest root pairs
-        → HasKey (key_of K.bytes) key.now pairs × Shrinks (key_of K.bytes) pairs key.now) }
+    ensures shrinks { OnErr result (OfEach (HasPairsAt K.bytes PREFIX_LEN arena.old root)
+        (λ pairs rest. HasKey (key_of K.bytes) key.now pairs × Shrinks (key_of K.bytes) pairs key.now)) }
     ensures succeeds { HasRoom arena.old 1 → IsOk result }
     ensures room { UsesRoom 1 arena.old arena.new }
 {
@@ -201,16 +191,14 @@ pub fn take_end<K: AsBytes, V, const PREFIX_LEN: usize>(
     root: Option<OpaqueNodePtr>,
     end: End,
 ) -> Result<Option<DeleteResult<K, V>>, AllocError>
-    requires { (pairs : List (K × V)) × (rest : List (Name × Cell K V))
-        × HasPairsBeside K.bytes PREFIX_LEN arena.old rest root pairs }
-    ensures ok { IfOk result (λ taken. (pairs : List (K × V)) (rest : List (Name × Cell K V))
-        → HasPairsBeside K.bytes PREFIX_LEN arena.old rest root pairs
-        → HasTakenEndBeside K.bytes PREFIX_LEN arena.new rest root end pairs taken) }
-    ensures others { IfOk result (λ taken. (pairs : List (K × V)) (rest : List (Name × Cell K V))
-        → HasPairsBeside K.bytes PREFIX_LEN arena.old rest root pairs → KeepsNodes rest arena.old arena.new) }
+    requires { HasSome (HasPairsAt K.bytes PREFIX_LEN arena.old root) }
+    ensures ok { IfOk result (λ taken. OfEach (HasPairsAt K.bytes PREFIX_LEN arena.old root)
+        (λ pairs rest. HasTakenEndBeside K.bytes PREFIX_LEN arena.new rest root end pairs taken)) }
+    ensures others { IfOk result (λ taken. OfEach (HasPairsAt K.bytes PREFIX_LEN arena.old root)
+        (λ pairs rest. KeepsNodes rest arena.old arena.new)) }
     ensures err { OnErr result (SameNodes arena.old arena.new) }
-    ensures shrinks { OnErr result ((pairs : List (K × V)) (rest : List (Name × Cell K V))
-        → HasPairsBeside K.bytes PREFIX_LEN arena.old rest root pairs → ShrinksAtEnd K.bytes end pairs) }
+    ensures shrinks { OnErr result (OfEach (HasPairsAt K.bytes PREFIX_LEN arena.old root)
+        (λ pairs rest. ShrinksAtEnd K.bytes end pairs)) }
     ensures succeeds { HasRoom arena.old 1 → IsOk result }
     ensures room { UsesRoom 1 arena.old arena.new }
 {
@@ -230,11 +218,11 @@ fn end_point<K: AsBytes, V, const PREFIX_LEN: usize>(
     root: OpaqueNodePtr,
     end: End,
 ) -> DeletePoint
-    requires { (s : Shape K V) × Stores K.bytes PREFIX_LEN arena.now root s }
-    ensures value { (s : Shape K V) → Stores K.bytes PREFIX_LEN arena.now root s
-        → end_slot end (leaves s) ≡ Some result.leaf_node_ptr }
-    ensures place { (s : Shape K V) → Stores K.bytes PREFIX_LEN arena.now root s
-        → IsLeafPlace K.bytes s result.leaf_node_ptr (steps_of result.path) }
+    requires { HasTree K.bytes PREFIX_LEN arena.now root }
+    ensures value { OfTree K.bytes PREFIX_LEN arena.now root
+        (λ s. end_slot end (leaves s) ≡ Some result.leaf_node_ptr) }
+    ensures place { OfTree K.bytes PREFIX_LEN arena.now root
+        (λ s. IsLeafPlace K.bytes s result.leaf_node_ptr (steps_of result.path)) }
 {
     match end {
         End::First => find_minimum_to_delete(arena, root),

@@ -2,13 +2,14 @@
 ghost use Rattle.std.specs.Prelude.{ℕ, List};
 ghost use Rattle.art_operations.specs.Runs.{HoldsClonesOf, IsCloned};
 
+use crate::commands::{Look, shows_anyway};
 use art_arena::LeafPtr;
 use art_bytes::CloneBytes;
 use art_operations::{
-    Command, RunResult, find_leaf_pointer_for_bound, find_prefix_segment, find_range_segment, run,
+    Command, RunResult, find_leaf_pointer_for_bound, find_prefix_segment, find_range_segment,
     search_unchecked,
 };
-use std::alloc::{AllocError, Global};
+use std::alloc::AllocError;
 use std::ops::Bound;
 
 // The leaf of a key, in what a run left.
@@ -213,31 +214,15 @@ fn ranges_stand<K: CloneBytes, V: Clone, const PREFIX_LEN: usize>(
     true
 }
 
-// Whether all of them stand in what the commands leave, where a header stores no byte of a prefix.
-fn all_stand_0<K: CloneBytes, V: Clone>(
-    alloc: Global,
-    commands: &[Command<K, V>],
-) -> Result<bool, AllocError> {
-    let ran: RunResult<K, V, 0> = run(alloc, commands)?;
-    Ok(bounds_stand(&ran) && prefixes_stand(&ran) && ranges_stand(&ran))
-}
-
-// Where it stores four.
-fn all_stand_4<K: CloneBytes, V: Clone>(
-    alloc: Global,
-    commands: &[Command<K, V>],
-) -> Result<bool, AllocError> {
-    let ran: RunResult<K, V, 4> = run(alloc, commands)?;
-    Ok(bounds_stand(&ran) && prefixes_stand(&ran) && ranges_stand(&ran))
-}
-
-// Where it stores sixteen.
-fn all_stand_16<K: CloneBytes, V: Clone>(
-    alloc: Global,
-    commands: &[Command<K, V>],
-) -> Result<bool, AllocError> {
-    let ran: RunResult<K, V, 16> = run(alloc, commands)?;
-    Ok(bounds_stand(&ran) && prefixes_stand(&ran) && ranges_stand(&ran))
+/// Whether all of them stand in what a run left.
+pub(crate) fn all_stand<K: CloneBytes, V: Clone, const PREFIX_LEN: usize>(
+    ran: &RunResult<K, V, PREFIX_LEN>,
+) -> bool
+    requires { (n : ℕ) × (pairs : List (K × V))
+        × HoldsClonesOf K.bytes PREFIX_LEN ran.now.arena (IsCloned K.is_clone n) (IsCloned V.is_clone n)
+        ran.now.root pairs }
+{
+    bounds_stand(ran) && prefixes_stand(ran) && ranges_stand(ran)
 }
 
 #[test]
@@ -248,8 +233,6 @@ fn bounds_and_prefixes_take_their_leaves(rt: HostRuntime) -> Result<(), AllocErr
         Command::Insert([127, 127, 255], 4),
         Command::Insert([127, 127, 0], 2),
     ];
-    assert!(rt; all_stand_0(rt.alloc(), &commands)?);
-    assert!(rt; all_stand_4(rt.alloc(), &commands)?);
-    assert!(rt; all_stand_16(rt.alloc(), &commands)?);
+    assert!(rt; shows_anyway(rt.alloc(), &commands, &Look::Bounds)?);
     Ok(())
 }

@@ -2,8 +2,9 @@
 ghost use Rattle.std.specs.Prelude.{ℕ, List, ◌<◌};
 ghost use Rattle.art_operations.specs.Runs.{HoldsClonesOf, IsCloned};
 
+use crate::bounds::all_stand;
 use art_arena::NodeArena;
-use art_bytes::{AsBytes, CloneBytes};
+use art_bytes::{AsBytes, CloneBytes, SliceKey};
 use art_nodes::{Kind4, Kind16, Kind48, Kind256, KindLeaf, NodeKind, NodePtr};
 use art_operations::{
     Answer, Command, RunResult, maximum_unchecked, minimum_unchecked, run, search_unchecked,
@@ -45,50 +46,81 @@ fn has_left<K: CloneBytes, V: Clone, const PREFIX_LEN: usize>(
     last == Some(greatest)
 }
 
-// The same of the run of some commands, where a header stores no byte of a prefix.
-fn leaves_0<K: CloneBytes, V: Clone>(
+/// What is looked at in what a run left.
+#[derive(Drop)]
+pub(crate) enum Look<'a, K> {
+    /// Whether it has these keys and none of those.
+    Keys { stored: &'a [K], missing: &'a [K] },
+    /// Whether each bound, prefix and range takes its leaves.
+    Bounds,
+}
+
+// Whether a run left what is looked for.
+fn shows<K: CloneBytes, V: Clone, const PREFIX_LEN: usize>(
+    ran: &RunResult<K, V, PREFIX_LEN>,
+    look: &Look<'_, K>,
+) -> bool
+    requires { (n : ℕ) × (pairs : List (K × V))
+        × HoldsClonesOf K.bytes PREFIX_LEN ran.now.arena (IsCloned K.is_clone n) (IsCloned V.is_clone n)
+        ran.now.root pairs }
+{
+    match look {
+        Look::Keys { stored, missing } => has_left(ran, stored, missing),
+        Look::Bounds => all_stand(ran),
+    }
+}
+
+// The same of the run of some commands, where a header stores no byte of a prefix. (What owns a run names its
+// `PREFIX_LEN`: where that is any, it isn't known that the nodes to be let go fit in memory.)
+fn shows_0<K: CloneBytes, V: Clone>(
     alloc: Global,
     commands: &[Command<K, V>],
-    stored: &[K],
-    missing: &[K],
+    look: &Look<'_, K>,
 ) -> Result<bool, AllocError> {
     let ran: RunResult<K, V, 0> = run(alloc, commands)?;
-    Ok(has_left(&ran, stored, missing))
+    Ok(shows(&ran, look))
 }
 
 // Where it stores four.
-fn leaves_4<K: CloneBytes, V: Clone>(
+fn shows_4<K: CloneBytes, V: Clone>(
     alloc: Global,
     commands: &[Command<K, V>],
-    stored: &[K],
-    missing: &[K],
+    look: &Look<'_, K>,
 ) -> Result<bool, AllocError> {
     let ran: RunResult<K, V, 4> = run(alloc, commands)?;
-    Ok(has_left(&ran, stored, missing))
+    Ok(shows(&ran, look))
 }
 
 // Where it stores sixteen.
-fn leaves_16<K: CloneBytes, V: Clone>(
+fn shows_16<K: CloneBytes, V: Clone>(
     alloc: Global,
     commands: &[Command<K, V>],
-    stored: &[K],
-    missing: &[K],
+    look: &Look<'_, K>,
 ) -> Result<bool, AllocError> {
     let ran: RunResult<K, V, 16> = run(alloc, commands)?;
-    Ok(has_left(&ran, stored, missing))
+    Ok(shows(&ran, look))
 }
 
-// Where it stores any of these.
+/// Whether the run of some commands leaves what is looked for, where a header stores any of these.
+pub(crate) fn shows_anyway<K: CloneBytes, V: Clone>(
+    alloc: Global,
+    commands: &[Command<K, V>],
+    look: &Look<'_, K>,
+) -> Result<bool, AllocError> {
+    let in_0 = shows_0(alloc, commands, look)?;
+    let in_4 = shows_4(alloc, commands, look)?;
+    let in_16 = shows_16(alloc, commands, look)?;
+    Ok(in_0 && in_4 && in_16)
+}
+
+// Whether it leaves these keys and none of those.
 fn leaves_anyway<K: CloneBytes, V: Clone>(
     alloc: Global,
     commands: &[Command<K, V>],
     stored: &[K],
     missing: &[K],
 ) -> Result<bool, AllocError> {
-    let in_0 = leaves_0(alloc, commands, stored, missing)?;
-    let in_4 = leaves_4(alloc, commands, stored, missing)?;
-    let in_16 = leaves_16(alloc, commands, stored, missing)?;
-    Ok(in_0 && in_4 && in_16)
+    shows_anyway(alloc, commands, &Look::Keys { stored, missing })
 }
 
 // Whether the commands are answered so.
@@ -103,10 +135,13 @@ fn answers<K: CloneBytes, V: Clone>(
 
 // How many nodes of a kind an arena holds, of those that have the first names.
 fn held<K, V, N: NodeKind>(arena: &NodeArena<K, V, 4>) -> usize {
-    let names = 0..512usize;
-    names
-        .filter(|slot| arena.holds(NodePtr::<N>::from_slot(*slot).to_opaque()))
-        .count()
+    let mut count = 0usize;
+    for slot in 0..512usize {
+        if arena.holds(NodePtr::<N>::from_slot(slot).to_opaque()) {
+            count = count.wrapping_add(1);
+        }
+    }
+    count
 }
 
 /// How many nodes of each kind an arena holds: inner nodes from the smallest kind to the largest, and leaves.
@@ -296,18 +331,24 @@ fn grows_and_shrinks_through_every_kind(rt: HostRuntime) -> Result<(), AllocErro
 
 #[test]
 fn answers_each_command(rt: HostRuntime) -> Result<(), AllocError> {
-    let alloc = rt.alloc();
-    let mut commands = Vec::new(alloc);
-    commands.push(Command::Delete(Vec::from_slice(alloc, b"ab")?))?;
-    commands.push(Command::Insert(Vec::from_slice(alloc, b"ab")?, 1u8))?;
-    commands.push(Command::Insert(Vec::from_slice(alloc, b"a")?, 2))?;
-    commands.push(Command::Insert(Vec::from_slice(alloc, b"abc")?, 3))?;
-    commands.push(Command::Insert(Vec::from_slice(alloc, b"b")?, 4))?;
-    commands.push(Command::Insert(Vec::from_slice(alloc, b"ab")?, 5))?;
-    commands.push(Command::Delete(Vec::from_slice(alloc, b"abc")?))?;
-    commands.push(Command::Delete(Vec::from_slice(alloc, b"ab")?))?;
-    commands.push(Command::Delete(Vec::from_slice(alloc, b"ab")?))?;
-    commands.push(Command::Delete(Vec::from_slice(alloc, b"b")?))?;
+    let [front, key, longer, other] = [
+        SliceKey(b"a"),
+        SliceKey(b"ab"),
+        SliceKey(b"abc"),
+        SliceKey(b"b"),
+    ];
+    let commands = [
+        Command::Delete(key),
+        Command::Insert(key, 1u8),
+        Command::Insert(front, 2),
+        Command::Insert(longer, 3),
+        Command::Insert(other, 4),
+        Command::Insert(key, 5),
+        Command::Delete(longer),
+        Command::Delete(key),
+        Command::Delete(key),
+        Command::Delete(other),
+    ];
     let wanted = [
         Answer::Done(0),
         Answer::Done(0),
@@ -320,21 +361,23 @@ fn answers_each_command(rt: HostRuntime) -> Result<(), AllocError> {
         Answer::Done(0),
         Answer::Done(1),
     ];
-    assert!(rt; answers(alloc, commands.as_slice(), wanted.as_slice())?);
-    assert!(rt; leaves_anyway(alloc, commands.as_slice(), &[], &[])?);
+    assert!(rt; answers(rt.alloc(), &commands, &wanted)?);
+    assert!(rt; leaves_anyway(rt.alloc(), &commands, &[], &[])?);
     Ok(())
 }
 
 #[test]
 fn puts_keys_in_over_others(rt: HostRuntime) -> Result<(), AllocError> {
-    let alloc = rt.alloc();
-    let mut commands = Vec::new(alloc);
-    commands.push(Command::PrefixInsert(Vec::from_slice(alloc, &[1, 2, 3])?, 1u8))?;
-    commands.push(Command::PrefixInsert(Vec::from_slice(alloc, &[2, 3, 4, 5])?, 2))?;
-    commands.push(Command::PrefixInsert(Vec::from_slice(alloc, &[2, 3, 4, 6])?, 3))?;
-    commands.push(Command::PrefixInsert(Vec::from_slice(alloc, &[2, 3, 4])?, 4))?;
-    commands.push(Command::PrefixInsert(Vec::from_slice(alloc, &[1, 2])?, 5))?;
-    commands.push(Command::PrefixInsert(Vec::from_slice(alloc, &[1, 2])?, 6))?;
+    let commands = [
+        Command::PrefixInsert(SliceKey(&[1, 2, 3]), 1u8),
+        Command::PrefixInsert(SliceKey(&[2, 3, 4, 5]), 2),
+        Command::PrefixInsert(SliceKey(&[2, 3, 4, 6]), 3),
+        Command::PrefixInsert(SliceKey(&[2, 3, 4]), 4),
+        Command::PrefixInsert(SliceKey(&[1, 2]), 5),
+        Command::PrefixInsert(SliceKey(&[1, 2]), 6),
+        // All give way to the empty key.
+        Command::PrefixInsert(SliceKey(&[]), 7),
+    ];
     let wanted = [
         Answer::Done(0),
         Answer::Done(0),
@@ -342,28 +385,19 @@ fn puts_keys_in_over_others(rt: HostRuntime) -> Result<(), AllocError> {
         Answer::Done(2),
         Answer::Done(1),
         Answer::Done(1),
+        Answer::Done(2),
     ];
-    assert!(rt; answers(alloc, commands.as_slice(), wanted.as_slice())?);
-    let mut stored = Vec::new(alloc);
-    stored.push(Vec::from_slice(alloc, &[1, 2])?)?;
-    stored.push(Vec::from_slice(alloc, &[2, 3, 4])?)?;
-    let mut missing = Vec::new(alloc);
-    missing.push(Vec::from_slice(alloc, &[1, 2, 3])?)?;
-    missing.push(Vec::from_slice(alloc, &[2, 3, 4, 5])?)?;
-    missing.push(Vec::from_slice(alloc, &[2, 3, 4, 6])?)?;
-    assert!(rt;
-        leaves_anyway(
-            alloc,
-            commands.as_slice(),
-            stored.as_slice(),
-            missing.as_slice()
-        )?
-    );
+    assert!(rt; answers(rt.alloc(), &commands, &wanted)?);
+    let stored = [SliceKey(&[1, 2]), SliceKey(&[2, 3, 4])];
+    let missing = [
+        SliceKey(&[1, 2, 3]),
+        SliceKey(&[2, 3, 4, 5]),
+        SliceKey(&[2, 3, 4, 6]),
+    ];
+    assert!(rt; leaves_anyway(rt.alloc(), &commands[..6], &stored, &missing)?);
     // What gave way is freed.
-    assert_eq!(rt; nodes_left(alloc, commands.as_slice())?, [1, 0, 0, 0, 2]);
-    // All give way to the empty key.
-    commands.push(Command::PrefixInsert(Vec::new(alloc), 7))?;
-    assert_eq!(rt; nodes_left(alloc, commands.as_slice())?, [0, 0, 0, 0, 1]);
+    assert_eq!(rt; nodes_left(rt.alloc(), &commands[..6])?, [1, 0, 0, 0, 2]);
+    assert_eq!(rt; nodes_left(rt.alloc(), &commands)?, [0, 0, 0, 0, 1]);
     Ok(())
 }
 

@@ -2,15 +2,16 @@
 use Rattle.std.proofs.Common.{◌≡◌, ℕ, ◌-◌, ◌<◌, ◌≤◌, List, [], ◌∷◌, ◌++◌, length, Option, Some, None, IsSome, refl, sym, ap, ap₂, subst, ◌∙◌, arith, length-append}
 use Rattle.std.proofs.lemmas.List.{length-map, map-append}
 use Rattle.art_nodes.specs.declared.leaf.LeafNode.{LeafNode}
-use Rattle.art_arena.specs.arena.Arena.{Arena, Held, leaf_held, held_at, node_at, links_of, links_at}
+use Rattle.art_arena.specs.arena.Arena.{Arena, leaf_held, held_at, node_at, links_at}
 use Rattle.art_arena.specs.arena.Cells.{pair, leaf_name}
-use Rattle.art_arena.specs.arena.Linked.{Links, first_slot, last_slot, AreLinked}
+use Rattle.art_arena.specs.arena.Linked.{first_slot, last_slot, AreLinked}
 use Rattle.art_arena.specs.arena.Shapes.{LeafAt, pairs_of}
 use Rattle.art_arena.proofs.tree.Order.{all_left, all_right}
-use Rattle.art_arena.proofs.shapes.LinkedLists.{AreLinked-right}
+use Rattle.art_arena.proofs.shapes.LinkedLists.{AreLinked-left, AreLinked-right}
 use Rattle.art_arena.proofs.shapes.Subtrees.{holds_pair, cell_held}
 use Rattle.art_walks.specs.Runs.{Ends, HasEnds, IsWalk}
 use Rattle.art_walks.specs.Walked.{start_of, pairs_with, pairs_along, AreStored, IsCounted}
+use Rattle.art_walks.proofs.RunSteps.{next_of}
 
 -- a list with an item ends with one
 ending : {X : Type 0} (x : X) (xs : List X) → (ys : List X) × (y : X) × (x ∷ xs ≡ ys ++ y ∷ [])
@@ -18,27 +19,31 @@ ending x [] = ([], x, refl)
 ending x (y ∷ xs) = let e = ending y xs in (x ∷ e.0, e.1, ap (λ zs. x ∷ zs) e.2)
 
 module _ {K V : Type 0} (arena : Arena K V) where
-  links-next : (o : Option (Held K V)) (leaf : LeafNode K V) (links : Links) → o ≡ Some (leaf_held leaf) → links_of o ≡ Some links → leaf.next ≡ links.next
-  links-next o leaf links there is = let e : Some (record { previous = leaf.previous; next = leaf.next }) ≡ Some links = sym (ap links_of there) ∙ is in ap (λ (l : Links). l.next) (let f : record { previous = leaf.previous; next = leaf.next } ≡ links = cc in f)
-
   -- the pairs along these leaves
-  along : (before : Option ℕ) (ys zs : List (LeafAt K V)) → AreLinked (links_at arena) before (ys ++ zs) None → AreStored arena ys → pairs_along (length ys) arena (first_slot (ys ++ zs) None) ≡ pairs_of ys
-  along before [] zs linked stored = refl
-  along before (y ∷ ys) zs linked stored =
+  along : (before : Option ℕ) (ys : List (LeafAt K V)) (after : Option ℕ) → AreLinked (links_at arena) before ys after → AreStored arena ys → pairs_along (length ys) arena (first_slot ys after) ≡ pairs_of ys
+  along before [] after linked stored = refl
+  along before (y ∷ ys) after linked stored =
       let holds = holds_pair (held_at arena (leaf_name y.slot)) y.key y.value stored.0 in
-      let next : holds.leaf.next ≡ first_slot (ys ++ zs) None = links-next (held_at arena (leaf_name y.slot)) holds.leaf _ holds.is linked.0 in
+      let next : holds.leaf.next ≡ first_slot ys after = next_of (held_at arena (leaf_name y.slot)) holds.leaf _ linked.0 holds.is in
       ap (pairs_with (pairs_along (length ys) arena)) holds.is
-      ∙ ap₂ (λ p ps. p ∷ ps) (ap₂ (λ k v. (k, v)) holds.key holds.value) (ap (pairs_along (length ys) arena) next ∙ along (Some y.slot) ys zs linked.1 stored.1)
+      ∙ ap₂ (λ p ps. p ∷ ps) (ap₂ (λ k v. (k, v)) holds.key holds.value) (ap (pairs_along (length ys) arena) next ∙ along (Some y.slot) ys after linked.1 stored.1)
 
-  start-is : (ends : Ends) (y : LeafAt K V) (ys zs : List (LeafAt K V)) → HasEnds (y ∷ ys) ends → start_of ends ≡ first_slot ((y ∷ ys) ++ zs) None
-  start-is None y ys zs is = absurd (cc)
-  start-is (Some ends) y ys zs is = sym is.0
+  start-is : (ends : Ends) (y : LeafAt K V) (ys : List (LeafAt K V)) → HasEnds (y ∷ ys) ends → start_of ends ≡ Some y.slot
+  start-is None y ys is = absurd (cc)
+  start-is (Some ends) y ys is = sym is.0
+
+  -- they are those of the run with these ends
+  pub linked-pairs : (ends : Ends) (before : Option ℕ) (ys : List (LeafAt K V)) (after : Option ℕ) → AreLinked (links_at arena) before ys after → AreStored arena ys → HasEnds ys ends → pairs_along (length ys) arena (start_of ends) ≡ pairs_of ys
+  linked-pairs ends before [] after linked stored is = refl
+  linked-pairs ends before (y ∷ ys) after linked stored is = ap (pairs_along (length (y ∷ ys)) arena) (start-is ends y ys is) ∙ along before (y ∷ ys) after linked stored
+
+  -- the leaves of a walk are linked
+  pub walk-linked : (ends : Ends) (ys : List (LeafAt K V)) (walk : IsWalk (links_at arena) ends ys) → AreLinked (links_at arena) (last_slot None walk.xs) ys (first_slot walk.zs None)
+  walk-linked ends ys walk =
+      AreLinked-left (links_at arena) (last_slot None walk.xs) ys walk.zs None (AreLinked-right (links_at arena) None walk.xs (ys ++ walk.zs) None walk.list.linked)
 
   pub walked-pairs : (ends : Ends) (ys : List (LeafAt K V)) → IsWalk (links_at arena) ends ys → AreStored arena ys → pairs_along (length ys) arena (start_of ends) ≡ pairs_of ys
-  walked-pairs ends [] walk stored = refl
-  walked-pairs ends (y ∷ ys) walk stored =
-      ap (pairs_along (length (y ∷ ys)) arena) (start-is ends y ys walk.zs walk.ends_are)
-      ∙ along (last_slot None walk.xs) (y ∷ ys) walk.zs (AreLinked-right (links_at arena) None walk.xs ((y ∷ ys) ++ walk.zs) None walk.list.linked) stored
+  walked-pairs ends ys walk stored = linked-pairs ends (last_slot None walk.xs) ys (first_slot walk.zs None) (walk-linked ends ys walk) stored walk.ends_are
 
   pub counted-pairs : (ends : Ends) (len : ℕ) (run : IsCounted arena ends len) → pairs_along len arena (start_of ends) ≡ pairs_of run.leaves
   counted-pairs ends len run = ap (λ n. pairs_along n arena (start_of ends)) run.len_is ∙ walked-pairs ends run.leaves run.walk run.stored

@@ -11,3 +11,4 @@ pub mod LinkWalks
 pub mod Verdicts
 pub mod Counted
 pub mod RunLengths
+pub mod Rests

@@ -110,26 +110,24 @@ module _ {K V : Type 0} where
       let one : ◌≡◌ {A = ℕ} (cond (eqb l.slot y.slot) 1 0) 1 = rw same (ap {B = ℕ} (λ b. cond b 1 0) (eqb-self l.slot)) in
       absurd (omega (arith, times-here ys [] l, one, once))
 
+  -- there is a last leaf behind another
+  pub some-last : (slot : ℕ) (ys : List (LeafAt K V)) → (last : ℕ) × (last_slot (Some slot) ys ≡ Some last)
+  some-last slot [] = (slot, refl)
+  some-last slot (y ∷ ys) = some-last y.slot ys
+
   pub back-step : (links : ℕ → Option Links) (a b : ℕ) (l : LeafAt K V) (ys : List (LeafAt K V)) → IsWalk links (Some (a, b)) (ys ++ l ∷ []) → a ≢ b
       → (previous : ℕ) × (next : Option ℕ) × (links b ≡ Some (record { previous = Some previous; next = next })) × IsWalk links (Some (a, previous)) ys
   back-step links a b l [] walk apart = let first = walk.ends_are.0 in let last = walk.ends_are.1 in absurd (apart (cc))
   back-step links a b l (y ∷ ys) walk apart =
       let list = back-list links walk.xs (y ∷ ys) l walk.zs walk.list in
       let there = back-links links a b l (y ∷ ys) walk in
-      let before : last_slot None (walk.xs ++ y ∷ ys) ≡ Some (last_of y ys) = last_slot-append None walk.xs (y ∷ ys) ∙ last_is (last_slot None walk.xs) y ys in (
-        last_of y ys,
+      let last = some-last y.slot ys in
+      let before : last_slot None (walk.xs ++ y ∷ ys) ≡ Some last.0 = last_slot-append None walk.xs (y ∷ ys) ∙ last.1 in (
+        last.0,
         first_slot walk.zs None,
         there ∙ ap (λ p. Some (record { previous = p; next = first_slot walk.zs None })) before,
-        record { xs = walk.xs; zs = l ∷ walk.zs; list = list; ends_are = (walk.ends_are.0, last_is None y ys) },
+        record { xs = walk.xs; zs = l ∷ walk.zs; list = list; ends_are = (walk.ends_are.0, last.1) },
       )
-    where
-      last_of : LeafAt K V → List (LeafAt K V) → ℕ
-      last_of y [] = y.slot
-      last_of y (z ∷ zs) = last_of z zs
-
-      last_is : (before : Option ℕ) (y : LeafAt K V) (ys : List (LeafAt K V)) → last_slot before (y ∷ ys) ≡ Some (last_of y ys)
-      last_is before y [] = refl
-      last_is before y (z ∷ zs) = last_is (Some y.slot) z zs
 
   module _ (arena : Arena K V) (ends : Option (ℕ × ℕ)) (a b : ℕ) (is : ends ≡ Some (a, b)) where
     from_ends : (ys : List (LeafAt K V)) → IsWalk (links_at arena) ends ys → IsWalk (links_at arena) (Some (a, b)) ys

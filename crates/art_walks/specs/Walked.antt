@@ -1,12 +1,12 @@
 -- The pairs along linked leaves.
-use Rattle.std.specs.Prelude.{◌≡◌, ◌==◌, ℕ, zero, suc, List, [], ◌∷◌, length, Option, Some, None, option_map}
+use Rattle.std.specs.Prelude.{◌≡◌, ◌≤◌, ◌==◌, ℕ, zero, suc, List, [], ◌∷◌, length, Option, Some, None, option_map}
 use Rattle.std.specs.Prelude.{if◌then◌else◌}
 use Rattle.std.specs.List.{AllByRecursion}
 use Rattle.art_arena.specs.arena.Arena.{Arena, Held, leaf_held, inner_held, held_at, node_at, links_at}
 use Rattle.art_arena.specs.arena.Cells.{pair, leaf_name}
-use Rattle.art_arena.specs.arena.Linked.{Links}
+use Rattle.art_arena.specs.arena.Linked.{AreLinked, Links, times}
 use Rattle.art_arena.specs.arena.Shapes.{LeafAt}
-use Rattle.art_walks.specs.Runs.{Ends, IsWalk}
+use Rattle.art_walks.specs.Runs.{Ends, HasEnds, IsWalk}
 
 -- the slab key of the first leaf of a run, if it has one
 abbrev pub start_of : Ends → Option ℕ
@@ -39,6 +39,17 @@ module _ {K V : Type 0} where
   pub record IsCounted (arena : Arena K V) (ends : Ends) (len : ℕ) : Type 0 where
     pub leaves : List (LeafAt K V)
     pub walk : IsWalk (links_at arena) ends leaves
+    pub stored : AreStored arena leaves
+    pub len_is : len ≡ length leaves
+
+  -- So many leaves stand in the arena, each linked to the next, between these ends. What stood beside them may be gone.
+  pub record IsRest (arena : Arena K V) (ends : Ends) (len : ℕ) : Type 0 where
+    pub leaves : List (LeafAt K V)
+    pub before : Option ℕ
+    pub after : Option ℕ
+    pub linked : AreLinked (links_at arena) before leaves after
+    pub once : (n : ℕ) → times n leaves ≤ 1
+    pub ends_are : HasEnds leaves ends
     pub stored : AreStored arena leaves
     pub len_is : len ≡ length leaves
 

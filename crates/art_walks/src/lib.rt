@@ -5,19 +5,23 @@
 
 mod bounds;
 mod checker;
+mod into_iter;
 mod iter;
 pub mod laws;
 mod malformed;
 mod range;
 mod raw_iterator;
 mod stats;
+mod subtree;
 mod visitor;
 
 pub use bounds::bounds_are_valid;
 pub use checker::WellFormedChecker;
+pub use into_iter::{IntoIter, IntoKeys, IntoValues};
 pub use iter::{Iter, Keys, Values};
 pub use malformed::MalformedTreeError;
 pub use range::{Prefix, Range};
 pub use raw_iterator::RawIterator;
 pub use stats::WellFormedTreeStats;
+pub use subtree::SubtreeIter;
 pub use visitor::{Visitable, Visitor};

@@ -1,5 +1,5 @@
 //! A run of neighbours among linked leaves, by the names of its first and its last leaf.
-ghost use Rattle.std.specs.Prelude.{◌≡◌, ℕ, List, [], ◌∷◌, ◌++◌, Some, None};
+ghost use Rattle.std.specs.Prelude.{◌≡◌, ◌≢◌, ℕ, List, [], ◌∷◌, ◌++◌, Some, None};
 ghost use Rattle.art_arena.specs.arena.Arena.{links_at};
 ghost use Rattle.art_arena.specs.arena.Shapes.{LeafAt};
 ghost use Rattle.art_walks.specs.Runs.{IsWalk};
@@ -39,6 +39,35 @@ impl RawIterator {
     {
         RawIterator {
             ends: Some((start, end)),
+        }
+    }
+
+    // Its first leaf and its last, or `None` where the run is empty.
+    pub(crate) fn ends(self) -> Option<(LeafPtr, LeafPtr)>
+        ensures { result ≡ self }
+    {
+        self.ends
+    }
+
+    // The run from one leaf to another without the first, which links to this one.
+    pub(crate) fn behind(first: LeafPtr, last: LeafPtr, next: Option<LeafPtr>) -> Self
+        ensures alone { first ≡ last → result ≡ None }
+        ensures more { first ≢ last → (slot : ℕ) → next ≡ Some slot → result ≡ Some (slot, last) }
+    {
+        match next {
+            Some(next) if first != last => RawIterator::new(next, last),
+            _ => RawIterator::empty(),
+        }
+    }
+
+    // The run from one leaf to another without the last, which links back to this one.
+    pub(crate) fn before(first: LeafPtr, last: LeafPtr, previous: Option<LeafPtr>) -> Self
+        ensures alone { first ≡ last → result ≡ None }
+        ensures more { first ≢ last → (slot : ℕ) → previous ≡ Some slot → result ≡ Some (first, slot) }
+    {
+        match previous {
+            Some(previous) if first != last => RawIterator::new(first, previous),
+            _ => RawIterator::empty(),
         }
     }
 

@@ -72,8 +72,7 @@ fn vector_checked_from_bytes(alloc: Global) -> Result<[u8; 8], AllocError> {
 }
 
 fn vector_from_bytes(alloc: Global) -> Result<[u8; 8], AllocError> {
-    let bytes = ToUBE::to_bytes(alloc, numbers(alloc)?)?;
-    let values: Vec<u16> = ToUBE::from_bytes(alloc, bytes)?;
+    let values = laws::reads_back::<ToUBE, Vec<u16>>(alloc, numbers(alloc)?)?;
     counted(alloc, Some(values))
 }
 
@@ -102,8 +101,7 @@ fn number_from_bytes(alloc: Global) -> Result<[u8; 2], AllocError> {
 }
 
 fn address_from_bytes(alloc: Global) -> Result<[u8; 4], AllocError> {
-    let octets = ToOctets::to_bytes(alloc, Ipv4Addr::LOCALHOST)?;
-    let address: Ipv4Addr = ToOctets::from_bytes(alloc, octets)?;
+    let address = laws::reads_back::<ToOctets, Ipv4Addr>(alloc, Ipv4Addr::LOCALHOST)?;
     ToOctets::to_bytes(alloc, address)
 }
 

@@ -169,19 +169,29 @@ fn makes(rt: &(impl Print + Eprint + AllocGlobal), map: &mut Map, call: Call) ->
     Ok(())
 }
 
-// A call of a map of so many pairs.
-fn calls(rt: &(impl Print + Eprint + AllocGlobal), pairs: u8, call: Call) -> io::Result<()> {
+// A call of a map of so many pairs and, where a number is given, of the six pairs from it on.
+fn calls_beside(
+    rt: &(impl Print + Eprint + AllocGlobal),
+    pairs: u8,
+    others: Option<u8>,
+    call: Call,
+) -> io::Result<()> {
     let mut map = Map::with_prefix_len(rt.alloc());
     fill(&mut map, 0, pairs);
+    if let Some(from) = others {
+        fill(&mut map, from, from.saturating_add(6));
+    }
     makes(rt, &mut map, call)
+}
+
+// A call of a map of so many pairs.
+fn calls(rt: &(impl Print + Eprint + AllocGlobal), pairs: u8, call: Call) -> io::Result<()> {
+    calls_beside(rt, pairs, None, call)
 }
 
 // A call that shrinks a node of five children, where six other keys leave no room for a node of four.
 fn shrinks(rt: &(impl Print + Eprint + AllocGlobal), others: u8, call: Call) -> io::Result<()> {
-    let mut map = Map::with_prefix_len(rt.alloc());
-    fill(&mut map, 0, 5);
-    fill(&mut map, others, others.saturating_add(6));
-    makes(rt, &mut map, call)
+    calls_beside(rt, 5, Some(others), call)
 }
 
 /// Runs a scenario.

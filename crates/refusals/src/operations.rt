@@ -1,12 +1,14 @@
 //! Prefix insertions over keys of which one may be a front of another, and calls that read the nodes of a map: the
 //! check and the clone of its tree. A key here is a block of its own, so that a clone asks for memory pair by pair.
+//! What owns a map or a clone has one exit, since letting it go is proved at each; and all that can be said of any key
+//! is, since proofs at `Vec<u8>` look into its bytes.
 ghost use Rattle.std.specs.Prelude.{IfOk, IfSome};
 ghost use Rattle.art_arena.specs.arena.Shapes.{Shape};
 ghost use Rattle.art_arena.specs.arena.Stores.{StoresOnly};
 
 use crate::came;
 use crate::map::{key_of, show, show_nodes};
-use art_bytes::CloneBytes;
+use art_bytes::{AsBytes, CloneBytes};
 use art_map::TreeMap;
 use art_operations::{CloneResult, InsertRefused, clone_unchecked};
 use art_walks::{MalformedTreeError, WellFormedChecker};
@@ -25,70 +27,79 @@ pub const NAMES: [&str; 6] = [
 
 type Map = TreeMap<Vec<u8>, u64, 1>;
 
+/// A call of a map, or of its nodes.
+#[derive(Clone, Copy)]
+enum Call<'a> {
+    PrefixInsert(&'a [u8]),
+    Check,
+    Clone,
+}
+
+// Puts a pair in, if it can be.
+fn put<K: AsBytes + Drop>(map: &mut TreeMap<K, u64, 1>, key: K, value: u64) {
+    let _ = map.try_insert(key, value);
+}
+
 // Puts keys in, from a number on and up to another.
 fn fill(alloc: Global, map: &mut Map, from: u8, to: u8) -> Result<(), AllocError> {
     for n in from..to {
-        let _ = map.try_insert(key_of(n).to_vec(alloc)?, u64::from(n));
+        let key = key_of(n).to_vec(alloc)?;
+        put(map, key, u64::from(n));
     }
     Ok(())
 }
 
-// A map of so many keys that stand side by side, and of so many that stand together two by two.
-fn filled(alloc: Global, singles: u8, paired: u8) -> Result<Map, AllocError> {
-    let mut map = Map::with_prefix_len(alloc);
-    fill(alloc, &mut map, 0, singles)?;
-    fill(alloc, &mut map, 200, paired.saturating_add(200))?;
-    Ok(map)
-}
-
 // How many pairs a prefix insertion removed, or nothing where there was no memory.
-fn told(answer: Result<usize, InsertRefused<Vec<u8>, u64>>) -> Option<Option<u64>> {
+fn told<K: Drop>(answer: Result<usize, InsertRefused<K, u64>>) -> Option<Option<u64>> {
     match answer {
         Ok(count) => Some(Some(count as u64)),
         Err(_) => None,
     }
 }
 
-// A prefix insertion in the window over four pairs, two by two. Where there was no memory, the pair that was handed
-// back goes in behind it.
-fn overwrites(rt: &(impl Print + Eprint + AllocGlobal), key: &[u8]) -> io::Result<()> {
-    let mut map = filled(rt.alloc(), 2, 2)?;
-    let key = key.to_vec(rt.alloc())?;
-    show(rt, "before", &map, None)?;
+// A prefix insertion in the window. Where there was no memory, the pair that was handed back goes in behind it.
+fn overwrites<K: AsBytes + Drop>(
+    rt: &(impl Print + Eprint + AllocGlobal),
+    map: &mut TreeMap<K, u64, 1>,
+    key: K,
+) -> io::Result<()> {
+    show(rt, "before", map, None)?;
     eprintln!(rt; "refuse")?;
     let answer = map.prefix_insert(key, 1000);
     came(rt, &answer)?;
     match answer {
-        Ok(count) => show(rt, "after", &map, Some(Some(count as u64))),
+        Ok(count) => show(rt, "after", map, Some(Some(count as u64))),
         Err(refused) => {
-            show(rt, "after", &map, None)?;
+            show(rt, "after", map, None)?;
             let InsertRefused { key, value } = refused;
             let answer = told(map.prefix_insert(key, value));
-            show(rt, "again", &map, answer)
+            show(rt, "again", map, answer)
         }
     }
 }
 
 // How many nodes the checker counts.
-fn checked(alloc: Global, map: &Map) -> Result<u64, MalformedTreeError> {
+fn checked<K: AsBytes>(alloc: Global, map: &TreeMap<K, u64, 1>) -> Result<u64, MalformedTreeError> {
     let (arena, root) = map.nodes();
     let stats = WellFormedChecker::check(alloc, arena, root, map.len())?;
     Ok(stats.total_nodes() as u64)
 }
 
 // A check in the window; where there was no memory, once more behind it.
-fn checks(rt: &(impl Print + Eprint + AllocGlobal), singles: u8, paired: u8) -> io::Result<()> {
-    let map = filled(rt.alloc(), singles, paired)?;
-    show(rt, "before", &map, None)?;
+fn checks<K: AsBytes>(
+    rt: &(impl Print + Eprint + AllocGlobal),
+    map: &TreeMap<K, u64, 1>,
+) -> io::Result<()> {
+    show(rt, "before", map, None)?;
     eprintln!(rt; "refuse")?;
-    let answer = checked(rt.alloc(), &map);
+    let answer = checked(rt.alloc(), map);
     came(rt, &answer)?;
     match answer {
-        Ok(count) => show(rt, "after", &map, Some(Some(count))),
+        Ok(count) => show(rt, "after", map, Some(Some(count))),
         Err(_) => {
-            show(rt, "after", &map, None)?;
-            let count = checked(rt.alloc(), &map).unwrap_or(0);
-            show(rt, "again", &map, Some(Some(count)))
+            show(rt, "after", map, None)?;
+            let count = checked(rt.alloc(), map).unwrap_or(0);
+            show(rt, "again", map, Some(Some(count)))
         }
     }
 }
@@ -108,51 +119,90 @@ fn cloned<K: CloneBytes, V: Clone>(
     }
 }
 
-// The nodes of a clone.
-fn show_clone(
-    rt: &(impl Print + AllocGlobal),
+// Ends the window, where it is open, and shows the pairs and the nodes of a clone.
+fn show_clone<K: AsBytes>(
+    rt: &(impl Print + Eprint + AllocGlobal),
     when: &str,
-    copy: &Option<CloneResult<Vec<u8>, u64, 1>>,
-) -> io::Result<()> {
-    match copy {
-        Some(tree) => show_nodes(
-            rt,
-            when,
-            &tree.arena,
-            Some(tree.root),
-            tree.arena.leaf_count(),
-        ),
-        None => println!(rt; "{when} no clone"),
+    map: &TreeMap<K, u64, 1>,
+    answer: &Result<Option<CloneResult<K, u64, 1>>, AllocError>,
+) -> io::Result<bool> {
+    if when == "after" {
+        came(rt, answer)?;
     }
+    show(rt, when, map, None)?;
+    match answer {
+        Ok(Some(tree)) => {
+            let leaves = tree.arena.leaf_count();
+            show_nodes(rt, when, &tree.arena, Some(tree.root), leaves)?;
+        }
+        Ok(None) => println!(rt; "{when} no clone")?,
+        Err(_) => return Ok(false),
+    }
+    Ok(true)
+}
+
+// Makes a clone and shows it, and answers whether there was memory for it.
+fn clone_shown<K: CloneBytes + Drop>(
+    rt: &(impl Print + Eprint + AllocGlobal),
+    when: &str,
+    map: &TreeMap<K, u64, 1>,
+) -> io::Result<bool> {
+    let answer = cloned(rt.alloc(), map);
+    show_clone(rt, when, map, &answer)
 }
 
 // A clone in the window; where there was no memory, once more behind it.
-fn clones(rt: &(impl Print + Eprint + AllocGlobal), singles: u8, paired: u8) -> io::Result<()> {
-    let map = filled(rt.alloc(), singles, paired)?;
-    show(rt, "before", &map, None)?;
+fn clones<K: CloneBytes + Drop>(
+    rt: &(impl Print + Eprint + AllocGlobal),
+    map: &TreeMap<K, u64, 1>,
+) -> io::Result<()> {
+    show(rt, "before", map, None)?;
     eprintln!(rt; "refuse")?;
-    let answer = cloned(rt.alloc(), &map);
-    came(rt, &answer)?;
-    show(rt, "after", &map, None)?;
-    match answer {
-        Ok(copy) => show_clone(rt, "after", &copy),
-        Err(_) => {
-            show(rt, "again", &map, None)?;
-            let copy = cloned(rt.alloc(), &map)?;
-            show_clone(rt, "again", &copy)
-        }
+    if !clone_shown(rt, "after", map)? {
+        clone_shown(rt, "again", map)?;
     }
+    Ok(())
+}
+
+// Puts so many keys in that stand side by side, and so many that stand together two by two, and makes a call.
+fn makes(
+    rt: &(impl Print + Eprint + AllocGlobal),
+    map: &mut Map,
+    singles: u8,
+    paired: u8,
+    call: Call<'_>,
+) -> io::Result<()> {
+    fill(rt.alloc(), map, 0, singles)?;
+    fill(rt.alloc(), map, 200, paired.saturating_add(200))?;
+    match call {
+        Call::PrefixInsert(key) => overwrites(rt, map, key.to_vec(rt.alloc())?),
+        Call::Check => checks(rt, map),
+        Call::Clone => clones(rt, map),
+    }
+}
+
+// A call of a map of these keys.
+fn calls(
+    rt: &(impl Print + Eprint + AllocGlobal),
+    singles: u8,
+    paired: u8,
+    call: Call<'_>,
+) -> io::Result<()> {
+    let mut map = Map::with_prefix_len(rt.alloc());
+    makes(rt, &mut map, singles, paired, call)
 }
 
 /// Runs a scenario.
 pub fn run(rt: &(impl Print + Eprint + AllocGlobal), name: &str) -> io::Result<()> {
     match name {
-        "map_prefix_insert_over_a_leaf" => overwrites(rt, &[1, 2, 90, 4, 1, 7]),
-        "map_prefix_insert_over_a_part" => overwrites(rt, &[1, 2, 90]),
-        "map_prefix_insert_over_all" => overwrites(rt, &[]),
-        "nodes_check" => checks(rt, 17, 8),
-        "nodes_check_of_none_takes_no_memory" => checks(rt, 0, 0),
-        "nodes_clone" => clones(rt, 17, 8),
+        "map_prefix_insert_over_a_leaf" => {
+            calls(rt, 2, 2, Call::PrefixInsert(&[1, 2, 90, 4, 1, 7]))
+        }
+        "map_prefix_insert_over_a_part" => calls(rt, 2, 2, Call::PrefixInsert(&[1, 2, 90])),
+        "map_prefix_insert_over_all" => calls(rt, 2, 2, Call::PrefixInsert(&[])),
+        "nodes_check" => calls(rt, 17, 8, Call::Check),
+        "nodes_check_of_none_takes_no_memory" => calls(rt, 0, 0, Call::Check),
+        "nodes_clone" => calls(rt, 17, 8, Call::Clone),
         _ => println!(rt; "unknown"),
     }
 }

@@ -6,6 +6,7 @@ use std::slice::from_raw_parts;
 #[cfg(feature = "btree")]
 mod map {
     use std::collections::BTreeMap;
+    use std::ops::Bound;
 
     #[derive(Clone, Default)]
     pub struct Map(BTreeMap<Vec<u8>, u64>);
@@ -22,6 +23,16 @@ mod map {
         }
         pub fn walk(&self) -> u64 {
             self.0.iter().fold(0, |sum: u64, (key, value)| sum.wrapping_add(*value).wrapping_add(key.len() as u64))
+        }
+        pub fn walk_between(&self, low: &[u8], high: &[u8]) -> u64 {
+            let bounds = (Bound::Included(low), Bound::Excluded(high));
+            let pairs = self.0.range::<[u8], _>(bounds);
+            pairs.fold(0, |sum: u64, (key, value)| sum.wrapping_add(*value).wrapping_add(key.len() as u64))
+        }
+        pub fn walk_behind(&self, front: &[u8]) -> u64 {
+            let pairs = self.0.range::<[u8], _>((Bound::Included(front), Bound::Unbounded));
+            let pairs = pairs.take_while(|(key, _)| key.starts_with(front));
+            pairs.fold(0, |sum: u64, (key, value)| sum.wrapping_add(*value).wrapping_add(key.len() as u64))
         }
         pub fn ends(&self) -> (usize, usize) {
             (0, 0)
@@ -79,6 +90,20 @@ mod map {
         pub fn walk(&self) -> u64 {
             let mut sum = 0u64;
             self.0.for_each(&mut |it| sum = sum.wrapping_add(leaf::value(it)).wrapping_add(it.key().len() as u64));
+            sum
+        }
+        pub fn walk_between(&self, low: &[u8], high: &[u8]) -> u64 {
+            let mut sum = 0u64;
+            self.0.range_each(low, high, &mut |it| {
+                sum = sum.wrapping_add(leaf::value(it)).wrapping_add(it.key().len() as u64)
+            });
+            sum
+        }
+        pub fn walk_behind(&self, front: &[u8]) -> u64 {
+            let mut sum = 0u64;
+            self.0.prefix_each(front, &mut |it| {
+                sum = sum.wrapping_add(leaf::value(it)).wrapping_add(it.key().len() as u64)
+            });
             sum
         }
         /// The words of the first leaf and of the last: to find them is no part of the walk between them.
@@ -159,6 +184,19 @@ fn look_all_up(map: &Map, queries: &[u8], ends: &[u64]) -> u64 {
     (0..ends.len()).filter(|&i| map.has(string(queries, ends, i))).count() as u64
 }
 
+/// The pairs of each range, whose bounds are two queries in turn.
+#[inline(never)]
+fn walk_ranges(map: &Map, queries: &[u8], ends: &[u64]) -> u64 {
+    let one = |i| map.walk_between(string(queries, ends, 2 * i), string(queries, ends, 2 * i + 1));
+    (0..ends.len() / 2).fold(0, |sum: u64, i| sum.wrapping_add(one(i)))
+}
+
+/// The pairs behind each query.
+#[inline(never)]
+fn walk_fronts(map: &Map, queries: &[u8], ends: &[u64]) -> u64 {
+    (0..ends.len()).fold(0, |sum: u64, i| sum.wrapping_add(map.walk_behind(string(queries, ends, i))))
+}
+
 /// What a step answers, and how long it took. A clone is dropped behind the last reading of the clock.
 fn time(map: &mut Map, step: u8, keys: (&[u8], &[u64]), queries: (&[u8], &[u64])) -> (u64, u64) {
     let ends = if step == 8 { map.ends() } else { (0, 0) };
@@ -169,6 +207,8 @@ fn time(map: &mut Map, step: u8, keys: (&[u8], &[u64]), queries: (&[u8], &[u64])
         1 => (insert_all(map, keys.0, keys.1), now() - start),
         2 => (look_all_up(map, queries.0, queries.1), now() - start),
         4 => (map.walk(), now() - start),
+        5 => (walk_fronts(map, queries.0, queries.1), now() - start),
+        6 => (walk_ranges(map, queries.0, queries.1), now() - start),
         7 => {
             let _copy = map.clone();
             (count, now() - start)

@@ -52,9 +52,8 @@ module _ {K V : Type 0} where
 
   -- the links of what stands there, if it is a leaf
   abbrev pub links_of : Option (Held K V) → Option Links
-  links_of None = None
   links_of (Some (leaf_held leaf)) = Some (record { previous = leaf.previous; next = leaf.next })
-  links_of (Some (inner_held node)) = None
+  links_of held = None
 
   abbrev pub node_at : Arena K V → Name → Option (Cell K V)
   node_at arena n = cell_of (held_at arena n)

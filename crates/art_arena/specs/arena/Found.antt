@@ -2,7 +2,7 @@
 use Rattle.std.specs.Prelude.{◌≡◌, ℕ, List, [], ◌∷◌, ◌++◌, filter, map, take, Option, Some, None}
 use Rattle.std.specs.Str.{bytes_eq}
 use Rattle.art_nodes.specs.Name.{Name}
-use Rattle.art_arena.specs.arena.Cells.{Cell, pair, branches, leaf_name}
+use Rattle.art_arena.specs.arena.Cells.{Cell, pair, leaf_name}
 use Rattle.art_arena.specs.arena.Shapes.{Shape, Branches, leaf_at, inner_at, no_branch, branch, LeafAt}
 use Rattle.art_arena.specs.arena.Context.{Frame}
 use Rattle.art_arena.specs.arena.Steps.{Step, steps_to, steps_of}
@@ -28,9 +28,8 @@ module _ {K V : Type 0} where
 
   -- the key and the value of a leaf's cell
   abbrev pub pair_of : Option (Cell K V) → List (K × V)
-  pair_of None = []
   pair_of (Some (pair k v)) = (k, v) ∷ []
-  pair_of (Some (branches node)) = []
+  pair_of cell = []
 
   -- the pair of the leaf that was found, if one was
   abbrev pub pair_found : (Name → Option (Cell K V)) → Option FoundLeaf → List (K × V)

@@ -11,14 +11,8 @@ pub record Inner : Type 0 where
   pub kind : NodeType
   pub node : InnerNode
 
-abbrev pub arm_node : {K V : Type 0} {P : ℕ} → InnerArm K V P → InnerNode
-arm_node (arm.Node4 node) = node.now
-arm_node (arm.Node16 node) = node.now
-arm_node (arm.Node48 node) = node.now
-arm_node (arm.Node256 node) = node.now
-
-abbrev pub arm_kind : {K V : Type 0} {P : ℕ} → InnerArm K V P → NodeType
-arm_kind (arm.Node4 node) = kind.Node4
-arm_kind (arm.Node16 node) = kind.Node16
-arm_kind (arm.Node48 node) = kind.Node48
-arm_kind (arm.Node256 node) = kind.Node256
+abbrev pub arm_inner : {K V : Type 0} {P : ℕ} → InnerArm K V P → Inner
+arm_inner (arm.Node4 node) = record { kind = kind.Node4; node = node.now }
+arm_inner (arm.Node16 node) = record { kind = kind.Node16; node = node.now }
+arm_inner (arm.Node48 node) = record { kind = kind.Node48; node = node.now }
+arm_inner (arm.Node256 node) = record { kind = kind.Node256; node = node.now }

@@ -4,17 +4,17 @@ ghost use Rattle.std.specs.List.{AllByRecursion};
 ghost use Rattle.std.specs.Map.{lookup};
 ghost use Rattle.art_arena.specs.arena.Shapes.{key_of};
 ghost use Rattle.art_operations.specs.KeyedLists.{HasKey, IsBlocked, overlapping};
-ghost use Rattle.art_operations.specs.Overwrites.{removed_by};
 ghost use Rattle.art_operations.specs.Pairs.{CanPut, with_pair_put, with_pair_over};
 ghost use Rattle.art_map.specs.Contents.{value_in};
+ghost use Rattle.art_map.specs.Found.{HasPairAt};
 
 use crate::map::TreeMap;
 use crate::map::refused::TryInsertError;
+use art_arena::LeafPtr;
 use art_bytes::{AsBytes, NoPrefixesBytes};
-use art_nodes::{LeafNode, OpaqueNodePtr};
+use art_nodes::LeafNode;
 use art_operations::{
-    InsertPoint, InsertPrefixError, InsertRefused, KeyPrefix, PrefixConflict, PrefixInsertResult,
-    find_place, find_place_over, put_over, put_pair,
+    InsertPoint, InsertPrefixError, InsertRefused, KeyPrefix, PrefixConflict, find_place, put_pair,
 };
 
 // The value of a leaf, whose key is let go.
@@ -28,22 +28,6 @@ fn value_of<K: Drop, V>(leaf: Option<LeafNode<K, V>>) -> Option<V>
         }
         None => None,
     }
-}
-
-// What a prefix insertion answers: the new root, and how many pairs are no more.
-fn answer_in<K, V>(put: &PrefixInsertResult<K, V>) -> (OpaqueNodePtr, usize)
-    ensures root { result.0 ≡ put.now.insert_result.new_root }
-    ensures count { result.1 ≡ removed_by put.now }
-{
-    (put.insert_result.new_root, put.pairs_removed())
-}
-
-// The same, and the pair that it may hold is let go.
-fn told_of<K: Drop, V: Drop>(put: PrefixInsertResult<K, V>) -> (OpaqueNodePtr, usize)
-    ensures root { result.0 ≡ put.insert_result.new_root }
-    ensures count { result.1 ≡ removed_by put }
-{
-    answer_in(&put)
 }
 
 impl<K: AsBytes, V, const PREFIX_LEN: usize> TreeMap<K, V, PREFIX_LEN> {
@@ -82,12 +66,57 @@ impl<K: AsBytes, V, const PREFIX_LEN: usize> TreeMap<K, V, PREFIX_LEN> {
         ensures err { OnErr result (self.new.pairs ≡ self.old.pairs) }
         ensures handed_back { IfErr result (λ refused. (refused.key ≡ key) × (refused.value ≡ value)) }
     {
+        match self.put_leaf_at(place, key, value) {
+            Ok((_leaf, old)) => Ok(old),
+            Err(refused) => Err(refused),
+        }
+    }
+
+    // The same, and the leaf of the pair is answered too.
+    pub(super) fn put_leaf_at(
+        &mut self,
+        place: Option<InsertPoint>,
+        key: K,
+        value: V,
+    ) -> Result<(LeafPtr, Option<V>), InsertRefused<K, V>>
+    where
+        K: Drop,
+        requires { CanPut K.bytes PREFIX_LEN self.old.nodes place (K.bytes key) self.old.pairs }
+        ensures leaf { IfOk result (λ put. HasPairAt self.new put.0 (key, value)) }
+        ensures value { IfOk result (λ put. put.1 ≡ lookup (has_bytes K.bytes (K.bytes key)) self.old.pairs) }
+        ensures pairs { OnOk result (self.new.pairs ≡ with_pair_put K.bytes key value self.old.pairs) }
+        ensures stored { HasKey (key_of K.bytes) (K.bytes key) self.old.pairs → IsOk result }
+        ensures err { OnErr result (self.new.pairs ≡ self.old.pairs) }
+        ensures handed_back { IfErr result (λ refused. (refused.key ≡ key) × (refused.value ≡ value)) }
+    {
         let _known = key.as_bytes();
         match put_pair(&mut self.arena, place, key, value) {
             Ok(put) => {
                 self.root = Some(put.new_root);
-                Ok(value_of(put.existing_leaf))
+                let leaf = put.leaf_node_ptr;
+                Ok((leaf, value_of(put.existing_leaf)))
             }
+            Err(refused) => Err(refused),
+        }
+    }
+
+    // Puts a pair in whose key no stored key blocks, and answers its leaf.
+    pub(super) fn put_leaf(&mut self, key: K, value: V) -> Result<LeafPtr, InsertRefused<K, V>>
+    where
+        K: Drop,
+        V: Drop,
+        requires { IsBlocked (key_of K.bytes) (K.bytes key) self.old.pairs → ⊥ }
+        ensures leaf { IfOk result (λ leaf. HasPairAt self.new leaf (key, value)) }
+        ensures pairs { OnOk result (self.new.pairs ≡ with_pair_put K.bytes key value self.old.pairs) }
+        ensures err { OnErr result (self.new.pairs ≡ self.old.pairs) }
+        ensures handed_back { IfErr result (λ refused. (refused.key ≡ key) × (refused.value ≡ value)) }
+    {
+        let place = match self.place(&key) {
+            Ok(place) => place,
+            Err(_) => unreachable!(),
+        };
+        match self.put_leaf_at(place, key, value) {
+            Ok((leaf, _old)) => Ok(leaf),
             Err(refused) => Err(refused),
         }
     }
@@ -142,15 +171,8 @@ impl<K: AsBytes, V, const PREFIX_LEN: usize> TreeMap<K, V, PREFIX_LEN> {
         ensures err { OnErr result (self.new.pairs ≡ self.old.pairs) }
         ensures handed_back { IfErr result (λ refused. (refused.key ≡ key) × (refused.value ≡ value)) }
     {
-        // By value an option of a name counts as moved, so a copy goes in.
-        let root = self.root;
-        let place = find_place_over(&self.arena, root, key.as_bytes());
-        match put_over(&mut self.arena, place, key, value) {
-            Ok(put) => {
-                let (new_root, count) = told_of(put);
-                self.root = Some(new_root);
-                Ok(count)
-            }
+        match self.prefix_put(key, value) {
+            Ok(put) => Ok(put.count),
             Err(refused) => Err(refused),
         }
     }
@@ -158,6 +180,14 @@ impl<K: AsBytes, V, const PREFIX_LEN: usize> TreeMap<K, V, PREFIX_LEN> {
 
 impl<K: NoPrefixesBytes, V, const PREFIX_LEN: usize> TreeMap<K, V, PREFIX_LEN> {
     ghost use Rattle.art_map.specs.Contents.{has_bytes};
+
+    // No stored key blocks a key of its type.
+    pub(super) fn blocks_none(&self, key: &K)
+        ensures { IsBlocked (key_of K.bytes) (K.bytes key.now) self.now.pairs → ⊥ }
+    {
+        let _opened = &self.root;
+        let _known = key.as_bytes();
+    }
 
     // Where a key goes: no key of its type is a front of another.
     fn place_free(&self, key: &K) -> Option<InsertPoint>

@@ -1,11 +1,13 @@
 //! Look-ups of a key, of the key that is a front of a query, and of the ends.
-ghost use Rattle.std.specs.Prelude.{◌≡◌, Some, IsSome, is_some, option_copied, option_map};
+ghost use Rattle.std.specs.Prelude.{◌≡◌, Some, IfSome, IsSome, is_some, option_copied, option_map};
 ghost use Rattle.std.specs.Borrow.{sem};
 ghost use Rattle.std.specs.Option.{option_copied_mut};
 ghost use Rattle.std.specs.Map.{lookup, lookup_entry};
 ghost use Rattle.std.specs.Map.Iter.{deref_pair, deref_pair_mut};
+ghost use Rattle.art_operations.specs.Pairs.{with_pair_put};
 
 use crate::map::TreeMap;
+use crate::map::entry::OccupiedEntry;
 use art_arena::LeafPtr;
 use art_bytes::AsBytes;
 use art_operations::{
@@ -15,11 +17,12 @@ use std::ops::Index;
 
 impl<K: AsBytes, V, const PREFIX_LEN: usize> TreeMap<K, V, PREFIX_LEN> {
     ghost use Rattle.art_map.specs.Contents.{first_item, has_bytes, HasLeafAt, is_front, last_item};
+    ghost use Rattle.art_map.specs.Entries.{rests_if_none, IsPairOf};
     ghost use Rattle.art_map.specs.Found.{IsAt, IsFound, HasPairAt};
-    ghost use Rattle.art_map.specs.Lends.{lends_get, lends_value_at};
+    ghost use Rattle.art_map.specs.Lends.{lends_get, lends_value_at, with_value_at};
 
     // The leaf of the pair whose key has these bytes.
-    fn find(&self, key: &[u8]) -> Option<LeafPtr>
+    pub(super) fn find(&self, key: &[u8]) -> Option<LeafPtr>
         ensures { IsFound (has_bytes K.bytes key.now) self.now result }
     {
         match self.root {
@@ -59,7 +62,7 @@ impl<K: AsBytes, V, const PREFIX_LEN: usize> TreeMap<K, V, PREFIX_LEN> {
     }
 
     // The pair of a leaf.
-    fn pair_at(&self, leaf: LeafPtr) -> (&K, &V)
+    pub(super) fn pair_at(&self, leaf: LeafPtr) -> (&K, &V)
         requires { HasLeafAt self.now leaf }
         ensures { HasPairAt self.now leaf (deref_pair result) }
     {
@@ -67,12 +70,27 @@ impl<K: AsBytes, V, const PREFIX_LEN: usize> TreeMap<K, V, PREFIX_LEN> {
     }
 
     // The key of a leaf, and its value for writing.
-    fn pair_mut_at(&mut self, leaf: LeafPtr) -> (&K, &mut V)
+    pub(super) fn pair_mut_at(&mut self, leaf: LeafPtr) -> (&K, &mut V)
         requires { HasLeafAt self.old leaf }
         ensures* writes_back { sem 𝓛 (lends_value_at K.row V.row PREFIX_LEN.row K.AsBytes self.entry leaf result.1) }
         ensures value { HasPairAt self.old leaf (deref_pair_mut result) }
+        ensures pairs { (w : V) → (with_value_at self.old leaf w).pairs
+            ≡ with_pair_put K.bytes result.0.now w self.old.pairs }
     {
         self.arena.as_key_ref_value_mut(leaf)
+    }
+
+    // Replaces the value of a leaf.
+    pub(super) fn write_at(&mut self, leaf: LeafPtr, value: V)
+    where
+        V: Drop,
+        requires { HasLeafAt self.old leaf }
+        ensures now { self.new ≡ with_value_at self.old leaf value }
+        ensures pairs { (p : K × V) → HasPairAt self.old leaf p
+            → self.new.pairs ≡ with_pair_put K.bytes p.0 value self.old.pairs }
+    {
+        let (_key, old) = self.pair_mut_at(leaf);
+        *old = value;
     }
 
     /// The value of the pair whose key has the query's bytes, if there is one.
@@ -149,6 +167,23 @@ impl<K: AsBytes, V, const PREFIX_LEN: usize> TreeMap<K, V, PREFIX_LEN> {
                 let (_key, value) = self.pair_mut_at(leaf);
                 Some(value)
             }
+            None => None,
+        }
+    }
+
+    /// The entry of the one pair whose key is a front of the query's bytes, or has them all, if there is one. It shows
+    /// the pair's key, and lends its value for writing.
+    pub fn prefix_get_key_value_mut<Q: AsBytes>(
+        &mut self,
+        key: &Q,
+    ) -> Option<OccupiedEntry<'_, K, V, PREFIX_LEN>>
+        ensures* rests { sem 𝓛 (rests_if_none K.row V.row PREFIX_LEN K.AsBytes self.entry result) }
+        ensures same_map { IfSome result (λ entry.
+            (entry.map.ghost_name ≡ self.entry.ghost_name) × (entry.map.now ≡ self.old)) }
+        ensures pair { IsPairOf (lookup_entry (is_front K.bytes (Q.bytes key.now)) self.old.pairs) result }
+    {
+        match self.prefix_find(key.as_bytes()) {
+            Some(leaf) => Some(OccupiedEntry::new(self, leaf)),
             None => None,
         }
     }

@@ -16,7 +16,7 @@ use art_walks::{Prefix, Range, RawIterator};
 use std::ops::Bound;
 
 // A bound of bytes: those of its key.
-fn bytes_of<Q: AsBytes>(bound: Bound<&Q>) -> Bound<&[u8]>
+pub(super) fn bytes_of<Q: AsBytes>(bound: Bound<&Q>) -> Bound<&[u8]>
     ensures { bound_map (λ bytes. bytes.now) result ≡ bound_map (λ key. Q.bytes key.now) bound.entry }
 {
     match bound {
@@ -27,7 +27,7 @@ fn bytes_of<Q: AsBytes>(bound: Bound<&Q>) -> Bound<&[u8]>
 }
 
 // The run between two leaves.
-fn walk_of(ends: Option<(LeafPtr, LeafPtr)>) -> RawIterator
+pub(super) fn walk_of(ends: Option<(LeafPtr, LeafPtr)>) -> RawIterator
     ensures { result ≡ ends }
 {
     match ends {
@@ -37,10 +37,13 @@ fn walk_of(ends: Option<(LeafPtr, LeafPtr)>) -> RawIterator
 }
 
 impl<K: AsBytes, V, const PREFIX_LEN: usize> TreeMap<K, V, PREFIX_LEN> {
+    ghost use Rattle.art_map.specs.Leaves.{IsRun};
+
     // The run of the leaves between two bounds.
-    fn walk_between(&self, start: Bound<&[u8]>, end: Bound<&[u8]>) -> RawIterator
-        ensures { IsWalkOf self.now.nodes result (pairs_between K.bytes (bound_map (λ key. key.now) start.entry)
+    pub(super) fn walk_between(&self, start: Bound<&[u8]>, end: Bound<&[u8]>) -> RawIterator
+        ensures walk { IsWalkOf self.now.nodes result (pairs_between K.bytes (bound_map (λ key. key.now) start.entry)
             (bound_map (λ key. key.now) end.entry) self.now.pairs) }
+        ensures run { IsRun K.bytes PREFIX_LEN self.now result }
     {
         match self.root {
             Some(root) => walk_of(find_range_segment(&self.arena, root, start, end)),
@@ -49,7 +52,7 @@ impl<K: AsBytes, V, const PREFIX_LEN: usize> TreeMap<K, V, PREFIX_LEN> {
     }
 
     // The run of the leaves whose keys begin with these bytes.
-    fn walk_behind(&self, prefix: &[u8]) -> RawIterator
+    pub(super) fn walk_behind(&self, prefix: &[u8]) -> RawIterator
         ensures { IsWalkOf self.now.nodes result (with_front (key_of K.bytes) prefix.now self.now.pairs) }
     {
         match self.root {

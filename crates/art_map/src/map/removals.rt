@@ -1,16 +1,17 @@
 //! Pairs are taken out.
-ghost use Rattle.std.specs.Prelude.{◌≡◌, ◌∷◌, ◌++◌, [], IfNone, IfOk, MatchOption, OnErr, OnOk};
+ghost use Rattle.std.specs.Prelude.{◌≡◌, List, ◌∷◌, ◌++◌, [], IfNone, IfOk, MatchOption, OnErr, OnOk};
 ghost use Rattle.std.specs.Map.{lookup, lookup_entry};
-ghost use Rattle.art_arena.specs.arena.Shapes.{key_of};
+ghost use Rattle.art_arena.specs.arena.Shapes.{key_of, LeafAt};
 ghost use Rattle.art_arena.specs.tree.Shrinks.{Shrinks};
 ghost use Rattle.art_map.specs.Contents.{option_value};
+ghost use Rattle.art_operations.specs.Deletions.{IsAmong};
 ghost use Rattle.art_operations.specs.KeyedLists.{HasKey, without_key};
 ghost use Rattle.art_operations.specs.Pairs.{IsAtEnd, ShrinksAtEnd};
 
 use crate::map::TreeMap;
-use art_arena::End;
+use art_arena::{End, LeafPtr};
 use art_bytes::AsBytes;
-use art_operations::{take_end, take_pair};
+use art_operations::{take_end, take_leaf, take_pair};
 use std::alloc::AllocError;
 
 // The value of a pair, whose key is let go.
@@ -24,7 +25,9 @@ fn value_of<K: Drop, V>(pair: Option<(K, V)>) -> Option<V>
 }
 
 impl<K: AsBytes, V, const PREFIX_LEN: usize> TreeMap<K, V, PREFIX_LEN> {
-    ghost use Rattle.art_map.specs.Contents.{has_bytes};
+    ghost use Rattle.art_map.specs.Contents.{has_bytes, HasLeafAt};
+    ghost use Rattle.art_map.specs.Found.{HasPairAt};
+    ghost use Rattle.art_map.specs.Leaves.{AreLeaves};
 
     /// Takes the pair out whose key has the query's bytes, and answers its value, if there is one. It is refused as
     /// `remove_entry` is.
@@ -89,6 +92,33 @@ impl<K: AsBytes, V, const PREFIX_LEN: usize> TreeMap<K, V, PREFIX_LEN> {
         ensures shrinks { OnErr result (ShrinksAtEnd K.bytes End.Last self.old.pairs) }
     {
         self.pop(End::Last)
+    }
+
+    // Takes the pair of a leaf out, and answers it. The other leaves stay what they are, and are linked in order. It is
+    // refused as `remove_entry` is.
+    pub(crate) fn take_at(&mut self, leaf: LeafPtr) -> Result<(K, V), AllocError>
+        requires { HasLeafAt self.old leaf }
+        ensures value { IfOk result (λ pair. HasPairAt self.old leaf pair) }
+        ensures pairs { IfOk result (λ pair.
+            self.new.pairs ≡ without_key (key_of K.bytes) (K.bytes pair.0) self.old.pairs) }
+        ensures leaves { OnOk result ((ls : List (LeafAt K V)) → AreLeaves K.bytes PREFIX_LEN self.old ls
+            → (there : IsAmong leaf ls) → AreLeaves K.bytes PREFIX_LEN self.new (there.front ++ there.back)) }
+        ensures err { OnErr result (self.new.pairs ≡ self.old.pairs) }
+        ensures kept { OnErr result ((ls : List (LeafAt K V)) → AreLeaves K.bytes PREFIX_LEN self.old ls
+            → AreLeaves K.bytes PREFIX_LEN self.new ls) }
+        ensures shrinks { OnErr result ((pair : K × V) → HasPairAt self.old leaf pair
+            → Shrinks (key_of K.bytes) self.old.pairs (K.bytes pair.0)) }
+    {
+        match self.root {
+            Some(root) => match take_leaf(&mut self.arena, root, leaf) {
+                Ok(deleted) => {
+                    self.root = deleted.new_root;
+                    Ok(deleted.deleted_leaf.into_entry())
+                }
+                Err(refused) => Err(refused),
+            },
+            None => unreachable!(),
+        }
     }
 
     // Takes the pair at an end out.

@@ -12,7 +12,7 @@ use art_walks::{Iter, Keys, RawIterator, Values};
 
 impl<K: AsBytes, V, const PREFIX_LEN: usize> TreeMap<K, V, PREFIX_LEN> {
     // The run of all leaves.
-    fn walk(&self) -> RawIterator
+    pub(crate) fn walk(&self) -> RawIterator
         ensures { IsWalkOf self.now.nodes result self.now.pairs }
     {
         match self.root {

@@ -19,9 +19,9 @@ shifted gap index = map (shifted_place gap) index
 -- a place for each byte: that of one of the names, of no other byte's, or 255; the header counts the names, which fit
 pub record IsIndexed (room : ℕ) (header : Header) (index : List ℕ) (names : List Name) : Type 0 where
   pub whole : length index ≡ 256
-  pub places : (byte : ℕ) → byte < 256 → (place_at index byte < length names) ⊎ (place_at index byte ≡ 255)
-  pub apart : (byte other : ℕ) → byte < 256 → other < 256 → place_at index byte ≡ place_at index other
-      → place_at index byte < length names → byte ≡ other
+  pub places : (byte : ℕ) → byte < 256 → (slice_index index byte < length names) ⊎ (slice_index index byte ≡ 255)
+  pub apart : (byte other : ℕ) → byte < 256 → other < 256 → slice_index index byte ≡ slice_index index other
+      → slice_index index byte < length names → byte ≡ other
   pub counts : header.num_children ≡ length names
   pub children : header.num_children ≡ length (children_from 0 (names_at names index))
   pub fits : length names ≤ min room 255

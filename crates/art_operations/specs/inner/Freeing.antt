@@ -8,11 +8,18 @@ use Rattle.art_arena.specs.arena.Shapes.{Shape, leaf_at, inner_at, no_branch, br
 use Rattle.art_arena.specs.arena.Steps.{Step, steps_to}
 use Rattle.art_operations.specs.Frees.{cells_with}
 use Rattle.art_operations.specs.declared.deallocate.Bottom.{Bottom}
+use Rattle.art_operations.specs.declared.deallocate.Left.{Left}
 
 -- the last step to a place
 abbrev pub step_in : Option (Name × ℕ) → List Step
 step_in None = []
 step_in (Some place) = record { node = place.0; byte = place.1 } ∷ []
+
+-- one of the children with its byte, or none where there is none
+abbrev pub IsChildIn : List (ℕ × Name) → Option (ℕ × Name) → Type 0
+IsChildIn children None = children ≡ []
+IsChildIn children (Some child) =
+    (before : List (ℕ × Name)) × (after : List (ℕ × Name)) × (children ≡ before ++ child ∷ after)
 
 module _ {K V : Type 0} where
   -- nothing stands below its root
@@ -65,6 +72,6 @@ module _ {K V : Type 0} (P : ℕ) (leaves : Bool) (arena : Arena K V) where
     pub names : (n : Name) → copies n (cells_with P leaves left) ≤ copies n was
 
   -- what is left of the shape when one of its nodes is freed, if anything is
-  abbrev pub HasFreedOne : Option Name → Shape K V → List (Name × Cell K V) → Type 0
+  abbrev pub HasFreedOne : Option Left → Shape K V → List (Name × Cell K V) → Type 0
   HasFreedOne None s rest = Holds (node_at arena) rest
-  HasFreedOne (Some root) s rest = HoldsOneLess root (length (cells P s)) (cells_with P leaves s) rest
+  HasFreedOne (Some left) s rest = HoldsOneLess left.root (length (cells P s)) (cells_with P leaves s) rest

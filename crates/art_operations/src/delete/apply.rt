@@ -9,6 +9,7 @@ ghost use Rattle.art_arena.specs.arena.Steps.{steps_of};
 ghost use Rattle.art_operations.specs.DeletePoints.{IsLeafPlace};
 ghost use Rattle.art_operations.specs.Deletions.{IsDeletedBeside};
 ghost use Rattle.art_arena.specs.arena.Stores.{StoresBeside};
+ghost use Rattle.art_operations.specs.Whichever.{HasTreeWhere, OfTreeWhere};
 
 use crate::delete::detach::detach;
 use crate::delete::point::DeletePoint;
@@ -30,17 +31,14 @@ impl DeletePoint {
         arena: &mut NodeArena<K, V, PREFIX_LEN>,
         root: OpaqueNodePtr,
     ) -> Result<DeleteResult<K, V>, AllocError>
-        requires { (s : Shape K V) × (rest : List (Name × Cell K V))
-            × StoresBeside K.bytes PREFIX_LEN arena.old root rest s
-            × IsLeafPlace K.bytes s self.leaf_node_ptr (steps_of self.path) }
-        ensures ok { IfOk result (λ deleted. (s : Shape K V) (rest : List (Name × Cell K V))
-            → StoresBeside K.bytes PREFIX_LEN arena.old root rest s
-            → IsLeafPlace K.bytes s self.leaf_node_ptr (steps_of self.path)
-            → IsDeletedBeside K.bytes PREFIX_LEN arena.new rest s self.leaf_node_ptr deleted) }
-        ensures others { IfOk result (λ deleted. (s : Shape K V) (rest : List (Name × Cell K V))
-            → StoresBeside K.bytes PREFIX_LEN arena.old root rest s
-            → IsLeafPlace K.bytes s self.leaf_node_ptr (steps_of self.path)
-            → KeepsNodes rest arena.old arena.new) }
+        requires { HasTreeWhere K.bytes PREFIX_LEN arena.old root
+            (λ s. IsLeafPlace K.bytes s self.leaf_node_ptr (steps_of self.path)) }
+        ensures ok { IfOk result (λ deleted. OfTreeWhere K.bytes PREFIX_LEN arena.old root
+            (λ s. IsLeafPlace K.bytes s self.leaf_node_ptr (steps_of self.path))
+            (λ s rest. IsDeletedBeside K.bytes PREFIX_LEN arena.new rest s self.leaf_node_ptr deleted)) }
+        ensures others { IfOk result (λ deleted. OfTreeWhere K.bytes PREFIX_LEN arena.old root
+            (λ s. IsLeafPlace K.bytes s self.leaf_node_ptr (steps_of self.path))
+            (λ s rest. KeepsNodes rest arena.old arena.new)) }
         ensures err { OnErr result (SameNodes arena.old arena.new) }
         ensures shrinks { OnErr result ((s : Shape K V) (rest : List (Name × Cell K V))
             → StoresBeside K.bytes PREFIX_LEN arena.old root rest s

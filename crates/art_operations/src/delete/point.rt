@@ -2,10 +2,10 @@
 ghost use Rattle.std.specs.Prelude.{◌≡◌, Some, None, IfSome};
 ghost use Rattle.art_arena.specs.arena.Found.{found_in, IsAtKey};
 ghost use Rattle.art_arena.specs.arena.Linked.{first_slot, last_slot};
-ghost use Rattle.art_arena.specs.arena.Shapes.{Shape, leaves};
+ghost use Rattle.art_arena.specs.arena.Shapes.{leaves};
 ghost use Rattle.art_arena.specs.arena.Steps.{steps_of};
 ghost use Rattle.art_operations.specs.DeletePoints.{leaf_of, IsLeafPlace};
-ghost use Rattle.art_arena.specs.arena.Stores.{Stores};
+ghost use Rattle.art_operations.specs.Whichever.{HasTree, OfTree};
 
 use art_arena::{ArenaReader, End, LeafPtr, NodeArena, TreePath, end_leaf, find_leaf};
 use art_bytes::AsBytes;
@@ -26,11 +26,10 @@ pub fn search_for_delete_point<K: AsBytes, V, const PREFIX_LEN: usize>(
     root: OpaqueNodePtr,
     key: &[u8],
 ) -> Option<DeletePoint>
-    requires { (s : Shape K V) × Stores K.bytes PREFIX_LEN arena.now root s }
-    ensures value { (s : Shape K V) → Stores K.bytes PREFIX_LEN arena.now root s
-        → leaf_of result ≡ found_in K.bytes key.now s }
-    ensures place { (s : Shape K V) → Stores K.bytes PREFIX_LEN arena.now root s
-        → IfSome result (λ point. IsAtKey K.bytes key.now s point.leaf_node_ptr (steps_of point.path)) }
+    requires { HasTree K.bytes PREFIX_LEN arena.now root }
+    ensures value { OfTree K.bytes PREFIX_LEN arena.now root (λ s. leaf_of result ≡ found_in K.bytes key.now s) }
+    ensures place { OfTree K.bytes PREFIX_LEN arena.now root (λ s. IfSome result
+        (λ point. IsAtKey K.bytes key.now s point.leaf_node_ptr (steps_of point.path))) }
 {
     let mut reader = ArenaReader::new(arena);
     match find_leaf(&mut reader, root, key) {
@@ -47,11 +46,11 @@ pub fn find_minimum_to_delete<K: AsBytes, V, const PREFIX_LEN: usize>(
     arena: &NodeArena<K, V, PREFIX_LEN>,
     root: OpaqueNodePtr,
 ) -> DeletePoint
-    requires { (s : Shape K V) × Stores K.bytes PREFIX_LEN arena.now root s }
-    ensures value { (s : Shape K V) → Stores K.bytes PREFIX_LEN arena.now root s
-        → first_slot (leaves s) None ≡ Some result.leaf_node_ptr }
-    ensures place { (s : Shape K V) → Stores K.bytes PREFIX_LEN arena.now root s
-        → IsLeafPlace K.bytes s result.leaf_node_ptr (steps_of result.path) }
+    requires { HasTree K.bytes PREFIX_LEN arena.now root }
+    ensures value { OfTree K.bytes PREFIX_LEN arena.now root
+        (λ s. first_slot (leaves s) None ≡ Some result.leaf_node_ptr) }
+    ensures place { OfTree K.bytes PREFIX_LEN arena.now root
+        (λ s. IsLeafPlace K.bytes s result.leaf_node_ptr (steps_of result.path)) }
 {
     let found = end_leaf(arena, root, End::First);
     DeletePoint {
@@ -65,11 +64,11 @@ pub fn find_maximum_to_delete<K: AsBytes, V, const PREFIX_LEN: usize>(
     arena: &NodeArena<K, V, PREFIX_LEN>,
     root: OpaqueNodePtr,
 ) -> DeletePoint
-    requires { (s : Shape K V) × Stores K.bytes PREFIX_LEN arena.now root s }
-    ensures value { (s : Shape K V) → Stores K.bytes PREFIX_LEN arena.now root s
-        → last_slot None (leaves s) ≡ Some result.leaf_node_ptr }
-    ensures place { (s : Shape K V) → Stores K.bytes PREFIX_LEN arena.now root s
-        → IsLeafPlace K.bytes s result.leaf_node_ptr (steps_of result.path) }
+    requires { HasTree K.bytes PREFIX_LEN arena.now root }
+    ensures value { OfTree K.bytes PREFIX_LEN arena.now root
+        (λ s. last_slot None (leaves s) ≡ Some result.leaf_node_ptr) }
+    ensures place { OfTree K.bytes PREFIX_LEN arena.now root
+        (λ s. IsLeafPlace K.bytes s result.leaf_node_ptr (steps_of result.path)) }
 {
     let found = end_leaf(arena, root, End::Last);
     DeletePoint {

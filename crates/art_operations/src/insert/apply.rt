@@ -1,14 +1,11 @@
 //! The change of a tree that puts a new key in.
-ghost use Rattle.std.specs.Prelude.{◌≡◌, ℕ, List, IfOk, OnErr, IfErr, IsOk};
-ghost use Rattle.art_nodes.specs.Name.{Name};
+ghost use Rattle.std.specs.Prelude.{◌≡◌, ℕ, IfOk, OnErr, IsOk};
 ghost use Rattle.art_arena.specs.arena.Arena.{HasRoom, KeepsNodes, SameNodes, UsesRoom};
-ghost use Rattle.art_arena.specs.arena.Cells.{Cell};
-ghost use Rattle.art_arena.specs.arena.Shapes.{Shape};
 ghost use Rattle.art_arena.specs.arena.Steps.{steps_of};
-ghost use Rattle.art_operations.specs.Insertions.{IsInsertedBeside};
+ghost use Rattle.art_operations.specs.Insertions.{HandsPairBack, IsInsertedBeside};
 ghost use Rattle.art_operations.specs.Points.{IsPoint};
 ghost use Rattle.art_operations.specs.declared.insert.point.InsertKind.TheVariants as kind;
-ghost use Rattle.art_arena.specs.arena.Stores.{StoresBeside};
+ghost use Rattle.art_operations.specs.Whichever.{HasTreeWhere, OfTreeWhere};
 
 use crate::insert::exact::replace_pair;
 use crate::insert::into_existing::put_into_existing;
@@ -32,16 +29,14 @@ impl InsertPoint {
         key: K,
         value: V,
     ) -> Result<InsertResult<K, V>, InsertRefused<K, V>>
-        requires { (s : Shape K V) × (rest : List (Name × Cell K V))
-            × StoresBeside K.bytes PREFIX_LEN arena.old self.root rest s × IsPoint K.bytes (K.bytes key) s self }
-        ensures ok { IfOk result (λ inserted. (s : Shape K V) (rest : List (Name × Cell K V))
-            → StoresBeside K.bytes PREFIX_LEN arena.old self.root rest s → IsPoint K.bytes (K.bytes key) s self
-            → IsInsertedBeside K.bytes PREFIX_LEN arena.new rest s (steps_of self.path) key value inserted) }
-        ensures others { IfOk result (λ inserted. (s : Shape K V) (rest : List (Name × Cell K V))
-            → StoresBeside K.bytes PREFIX_LEN arena.old self.root rest s → IsPoint K.bytes (K.bytes key) s self
-            → KeepsNodes rest arena.old arena.new) }
+        requires { HasTreeWhere K.bytes PREFIX_LEN arena.old self.root (λ s. IsPoint K.bytes (K.bytes key) s self) }
+        ensures ok { IfOk result (λ inserted. OfTreeWhere K.bytes PREFIX_LEN arena.old self.root
+            (λ s. IsPoint K.bytes (K.bytes key) s self)
+            (λ s rest. IsInsertedBeside K.bytes PREFIX_LEN arena.new rest s (steps_of self.path) key value inserted)) }
+        ensures others { IfOk result (λ inserted. OfTreeWhere K.bytes PREFIX_LEN arena.old self.root
+            (λ s. IsPoint K.bytes (K.bytes key) s self) (λ s rest. KeepsNodes rest arena.old arena.new)) }
         ensures err { OnErr result (SameNodes arena.old arena.new) }
-        ensures handed_back { IfErr result (λ refused. (refused.key ≡ key) × (refused.value ≡ value)) }
+        ensures handed_back { HandsPairBack key value result }
         ensures exact { (leaf : ℕ) → self.insert_kind ≡ kind.Exact leaf → IsOk result }
         ensures succeeds { HasRoom arena.old 2 → IsOk result }
         ensures room { UsesRoom 2 arena.old arena.new }

@@ -1,14 +1,11 @@
 //! A key that the tree has already: its leaf takes the new key and the new value.
-ghost use Rattle.std.specs.Prelude.{◌≡◌, List};
-ghost use Rattle.art_nodes.specs.Name.{Name};
-ghost use Rattle.art_arena.specs.arena.Shapes.{Shape};
+ghost use Rattle.std.specs.Prelude.{◌≡◌};
 ghost use Rattle.art_arena.specs.arena.Steps.{steps_of};
 ghost use Rattle.art_operations.specs.Insertions.{IsInsertedBeside};
 ghost use Rattle.art_operations.specs.Points.{IsPoint};
 ghost use Rattle.art_operations.specs.declared.insert.point.InsertKind.TheVariants as kind;
-ghost use Rattle.art_arena.specs.arena.Stores.{StoresBeside};
 ghost use Rattle.art_arena.specs.arena.Arena.{KeepsNodes, KeepsRoom};
-ghost use Rattle.art_arena.specs.arena.Cells.{Cell};
+ghost use Rattle.art_operations.specs.Whichever.{HasTreeWhere, OfTreeWhere};
 
 use crate::insert::point::InsertPoint;
 use crate::insert::result::{InsertParentNodeChange, InsertResult};
@@ -25,15 +22,12 @@ pub(crate) fn replace_pair<K: AsBytes, V, const PREFIX_LEN: usize>(
     key: K,
     value: V,
 ) -> InsertResult<K, V>
-    requires tree { (s : Shape K V) × (rest : List (Name × Cell K V))
-        × StoresBeside K.bytes PREFIX_LEN arena.old point.root rest s × IsPoint K.bytes (K.bytes key) s point }
+    requires tree { HasTreeWhere K.bytes PREFIX_LEN arena.old point.root (λ s. IsPoint K.bytes (K.bytes key) s point) }
     requires kind { point.insert_kind ≡ kind.Exact leaf }
-    ensures inserted { (s : Shape K V) (rest : List (Name × Cell K V))
-        → StoresBeside K.bytes PREFIX_LEN arena.old point.root rest s → IsPoint K.bytes (K.bytes key) s point
-        → IsInsertedBeside K.bytes PREFIX_LEN arena.new rest s (steps_of point.path) key value result }
-    ensures others { (s : Shape K V) (rest : List (Name × Cell K V))
-        → StoresBeside K.bytes PREFIX_LEN arena.old point.root rest s → IsPoint K.bytes (K.bytes key) s point
-        → KeepsNodes rest arena.old arena.new }
+    ensures inserted { OfTreeWhere K.bytes PREFIX_LEN arena.old point.root (λ s. IsPoint K.bytes (K.bytes key) s point)
+        (λ s rest. IsInsertedBeside K.bytes PREFIX_LEN arena.new rest s (steps_of point.path) key value result) }
+    ensures others { OfTreeWhere K.bytes PREFIX_LEN arena.old point.root (λ s. IsPoint K.bytes (K.bytes key) s point)
+        (λ s rest. KeepsNodes rest arena.old arena.new) }
     ensures room { KeepsRoom arena.old arena.new }
 {
     let mut node = LeafNode::with_no_siblings(key, value);

@@ -1,25 +1,23 @@
 //! A new leaf under an inner node that is there.
-ghost use Rattle.std.specs.Prelude.{◌≡◌, ◌≢◌, ◌<◌, ◌⊎◌, ◌+◌, ℕ, suc, List, ◌∷◌, ◌++◌, length, take, Some, None, IsSome};
-ghost use Rattle.std.specs.Prelude.{IsTrue, IsFalse, IsOk, IfOk, OnErr, IfErr};
+ghost use Rattle.std.specs.Prelude.{◌≡◌, ◌<◌, ◌+◌, ℕ, suc, List, ◌∷◌, ◌++◌, take, Some, None};
+ghost use Rattle.std.specs.Prelude.{IsOk, IfOk, OnErr};
 ghost use Rattle.art_nodes.specs.Name.{Name};
 ghost use Rattle.art_nodes.specs.InnerNode as node;
-ghost use Rattle.art_nodes.specs.InnerNode.{child_at, first_child, children_between};
-ghost use Rattle.art_nodes.specs.Kind.{row_of};
-ghost use Rattle.std.specs.declared.ops.Bound.TheVariants.{Excluded, Unbounded};
 ghost use Rattle.art_arena.specs.arena.Arena.{KeepsNodes, SameNodes, HasRoom, KeepsRoom, UsesRoom, links_at};
 ghost use Rattle.art_arena.specs.arena.Cells.{Cell};
 ghost use Rattle.art_arena.specs.arena.Linked.{KeepsLinksOutside};
 ghost use Rattle.art_arena.specs.arena.Context.{Frame, plug, leaves_before, leaves_after};
 ghost use Rattle.art_arena.specs.tree.Kinds.{IsKindOf};
-ghost use Rattle.art_arena.specs.arena.Shapes.{Shape, LeafAt, leaf_at, width};
+ghost use Rattle.art_arena.specs.arena.Shapes.{LeafAt, leaf_at, width};
 ghost use Rattle.art_arena.specs.arena.Steps.{steps_to, steps_of};
 ghost use Rattle.art_operations.specs.inner.Splits.{IsBetween};
 ghost use Rattle.art_operations.specs.Points.{IsPoint};
-ghost use Rattle.art_operations.specs.Insertions.{IsInsertedBeside};
+ghost use Rattle.art_operations.specs.Insertions.{HandsPairBack, IsInsertedBeside};
 ghost use Rattle.art_operations.specs.declared.insert.point.InsertKind.TheVariants as kind;
 ghost use Rattle.art_operations.specs.inner.Waiting.{AwaitsLeaf};
 ghost use Rattle.art_arena.specs.arena.Stores.{StoresBeside};
 ghost use Rattle.art_operations.specs.Held.{SameLinks};
+ghost use Rattle.art_operations.specs.Whichever.{HasTreeWhere, OfTreeWhere};
 
 use crate::insert::leaf::{store_leaf, take_back};
 use crate::insert::point::InsertPoint;
@@ -156,17 +154,15 @@ pub(crate) fn put_into_existing<K: AsBytes, V, const PREFIX_LEN: usize>(
     key: K,
     value: V,
 ) -> Result<InsertResult<K, V>, InsertRefused<K, V>>
-    requires tree { (s : Shape K V) × (rest : List (Name × Cell K V))
-        × StoresBeside K.bytes PREFIX_LEN arena.old point.root rest s × IsPoint K.bytes (K.bytes key) s point }
+    requires tree { HasTreeWhere K.bytes PREFIX_LEN arena.old point.root (λ s. IsPoint K.bytes (K.bytes key) s point) }
     requires kind { point.insert_kind ≡ kind.IntoExisting inner byte }
-    ensures ok { IfOk result (λ inserted. (s : Shape K V) (rest : List (Name × Cell K V))
-        → StoresBeside K.bytes PREFIX_LEN arena.old point.root rest s → IsPoint K.bytes (K.bytes key) s point
-        → IsInsertedBeside K.bytes PREFIX_LEN arena.new rest s (steps_of point.path) key value inserted) }
-    ensures others { IfOk result (λ inserted. (s : Shape K V) (rest : List (Name × Cell K V))
-        → StoresBeside K.bytes PREFIX_LEN arena.old point.root rest s → IsPoint K.bytes (K.bytes key) s point
-        → KeepsNodes rest arena.old arena.new) }
+    ensures ok { IfOk result (λ inserted. OfTreeWhere K.bytes PREFIX_LEN arena.old point.root
+        (λ s. IsPoint K.bytes (K.bytes key) s point)
+        (λ s rest. IsInsertedBeside K.bytes PREFIX_LEN arena.new rest s (steps_of point.path) key value inserted)) }
+    ensures others { IfOk result (λ inserted. OfTreeWhere K.bytes PREFIX_LEN arena.old point.root
+        (λ s. IsPoint K.bytes (K.bytes key) s point) (λ s rest. KeepsNodes rest arena.old arena.new)) }
     ensures err { OnErr result (SameNodes arena.old arena.new) }
-    ensures handed_back { IfErr result (λ refused. (refused.key ≡ key) × (refused.value ≡ value)) }
+    ensures handed_back { HandsPairBack key value result }
     ensures succeeds { HasRoom arena.old 2 → IsOk result }
     ensures room { UsesRoom 2 arena.old arena.new }
 {

@@ -1,10 +1,11 @@
 //! A new leaf, before it is linked and stands under an inner node.
-ghost use Rattle.std.specs.Prelude.{◌≡◌, None, IsSome, IsOk, IfOk, OnErr, IfErr};
+ghost use Rattle.std.specs.Prelude.{◌≡◌, None, IsSome, IsOk, IfOk, OnErr};
 ghost use Rattle.art_arena.specs.arena.Arena.{held_at, Allocates, SameNodes, HasRoom, KeepsRoom, UsesRoom};
 ghost use Rattle.art_arena.specs.arena.Cells.{UpdatesAt, leaf_name};
 ghost use Rattle.art_nodes.specs.declared.leaf.LeafNode as node;
 ghost use Rattle.art_operations.specs.inner.Edits.{lone_leaf};
 ghost use Rattle.art_operations.specs.Held.{HasLeaf};
+ghost use Rattle.art_operations.specs.Insertions.{HandsPairBack};
 
 use crate::insert::result::InsertRefused;
 use art_arena::{LeafPtr, NodeArena};
@@ -18,7 +19,7 @@ pub(crate) fn store_leaf<K, V, const PREFIX_LEN: usize>(
 ) -> Result<LeafPtr, InsertRefused<K, V>>
     ensures ok { IfOk result (λ leaf. Allocates arena.old arena.new (leaf_name leaf) (lone_leaf key value)) }
     ensures err { OnErr result (SameNodes arena.old arena.new) }
-    ensures handed_back { IfErr result (λ refused. (refused.key ≡ key) × (refused.value ≡ value)) }
+    ensures handed_back { HandsPairBack key value result }
     ensures succeeds { HasRoom arena.old 1 → IsOk result }
     ensures room { UsesRoom 1 arena.old arena.new }
 {

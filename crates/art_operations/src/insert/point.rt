@@ -8,7 +8,8 @@ ghost use Rattle.art_arena.specs.arena.Arena.{node_at};
 ghost use Rattle.art_arena.specs.arena.Steps.{steps_of};
 ghost use Rattle.art_arena.specs.arena.Descents.{OnWayTo, Stops};
 ghost use Rattle.art_operations.specs.inner.Ways.{IsWay};
-ghost use Rattle.art_arena.specs.arena.Stores.{Stores, StoresAt};
+ghost use Rattle.art_arena.specs.arena.Stores.{StoresAt};
+ghost use Rattle.art_operations.specs.Whichever.{HasTree, OfTree};
 
 use crate::meeting::{Meeting, Parted, meet};
 use art_arena::{
@@ -232,9 +233,10 @@ fn stop_of<K: AsBytes, V, const PREFIX_LEN: usize>(
     root: OpaqueNodePtr,
     key: &[u8],
 ) -> Stop
-    requires { (s : Shape K V) × Stores K.bytes PREFIX_LEN arena.now root s }
-    ensures way { (s : Shape K V) → Stores K.bytes PREFIX_LEN arena.now root s
-        → OnWayTo K.bytes PREFIX_LEN (node_at arena.now) key.now s result.node (steps_of result.path) result.depth }
+    requires { HasTree K.bytes PREFIX_LEN arena.now root }
+    ensures way { OfTree K.bytes PREFIX_LEN arena.now root
+        (λ s. OnWayTo K.bytes PREFIX_LEN (node_at arena.now) key.now s result.node
+        (steps_of result.path) result.depth) }
     ensures stops { (path : List ℕ) (s : Shape K V)
         → StoresAt K.bytes PREFIX_LEN arena.now result.node result.depth path s
         → BeginsWith path key.now → Stops K.bytes key.now path s }
@@ -257,11 +259,10 @@ pub fn find_insert_point<K: AsBytes, V, const PREFIX_LEN: usize>(
     root: OpaqueNodePtr,
     key: &[u8],
 ) -> Result<InsertPoint, PrefixConflict>
-    requires { (s : Shape K V) × Stores K.bytes PREFIX_LEN arena.now root s }
-    ensures answer { (s : Shape K V) → Stores K.bytes PREFIX_LEN arena.now root s
-        → IsPlaceOrConflict K.bytes key.now s result }
-    ensures part { IfErr result (λ e. (s : Shape K V) → Stores K.bytes PREFIX_LEN arena.now root s
-        → IsInTheWay K.bytes key.now s e.root e.part (steps_of e.path)) }
+    requires { HasTree K.bytes PREFIX_LEN arena.now root }
+    ensures answer { OfTree K.bytes PREFIX_LEN arena.now root (λ s. IsPlaceOrConflict K.bytes key.now s result) }
+    ensures part { IfErr result (λ e. OfTree K.bytes PREFIX_LEN arena.now root
+        (λ s. IsInTheWay K.bytes key.now s e.root e.part (steps_of e.path))) }
 {
     let stop = stop_of(arena, root, key);
     match way_at(arena, stop.node, key, stop.depth) {
@@ -297,9 +298,8 @@ pub fn search_for_insert_point<K: AsBytes, V, const PREFIX_LEN: usize>(
     root: OpaqueNodePtr,
     key: &[u8],
 ) -> Result<InsertPoint, InsertSearchError>
-    requires { (s : Shape K V) × Stores K.bytes PREFIX_LEN arena.now root s }
-    ensures answer { (s : Shape K V) → Stores K.bytes PREFIX_LEN arena.now root s
-        → IsPlaceOrConflict K.bytes key.now s result }
+    requires { HasTree K.bytes PREFIX_LEN arena.now root }
+    ensures answer { OfTree K.bytes PREFIX_LEN arena.now root (λ s. IsPlaceOrConflict K.bytes key.now s result) }
     ensures refusal { IfErr result (λ e. Refuses key.now e) }
 {
     match find_insert_point(arena, root, key) {

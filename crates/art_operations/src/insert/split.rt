@@ -1,9 +1,8 @@
 //! A key that parts from the prefix of an inner node or from the key of a leaf: a new inner node takes that node's
 //! place, over it and over the new leaf.
 ghost use Rattle.std.specs.Prelude.{◌≡◌, ◌≢◌, ◌+◌, ◌<◌, ◌≤◌, ◌^◌, ◌∷◌, ◌++◌, ℕ, List, None, Some, length, take, drop};
-ghost use Rattle.std.specs.Prelude.{IsSome, IsOk, IfOk, OnErr, IfErr};
+ghost use Rattle.std.specs.Prelude.{IsSome, IsOk, IfOk, OnErr};
 ghost use Rattle.art_nodes.specs.declared.kind.NodeType.TheVariants.{Node4};
-ghost use Rattle.art_nodes.specs.Name.{Name};
 ghost use Rattle.art_nodes.specs.declared.leaf.LeafNode as node;
 ghost use Rattle.art_arena.specs.arena.Arena.{held_at, node_at, links_at, Allocates, SameNodes, HasRoom, KeepsRoom};
 ghost use Rattle.art_arena.specs.arena.Arena.{KeepsNodes, SameCells, UsesRoom};
@@ -15,10 +14,11 @@ ghost use Rattle.art_arena.specs.arena.Steps.{steps_of};
 ghost use Rattle.art_operations.specs.inner.Edits.{lone_leaf, AllocatesBoth};
 ghost use Rattle.art_operations.specs.inner.Splits.{PartsFrom, trimmed, root_cell, with_prefix, IsEnd, IsBetween};
 ghost use Rattle.art_operations.specs.inner.Splits.{split_held, split_node};
-ghost use Rattle.art_operations.specs.Insertions.{IsInsertedBeside};
+ghost use Rattle.art_operations.specs.Insertions.{HandsPairBack, IsInsertedBeside};
 ghost use Rattle.art_operations.specs.Points.{IsPoint};
-ghost use Rattle.art_arena.specs.arena.Stores.{StoresAt, StoresBelow, StoresBeside};
+ghost use Rattle.art_arena.specs.arena.Stores.{StoresAt, StoresBelow};
 ghost use Rattle.art_operations.specs.Held.{HasLeaf, SameLinks};
+ghost use Rattle.art_operations.specs.Whichever.{HasSome, HasTreeWhere, OfEach, OfTreeWhere};
 
 use crate::insert::leaf::{store_leaf, take_back};
 use crate::insert::point::InsertPoint;
@@ -105,7 +105,7 @@ fn store_nodes<K: AsBytes, V, const PREFIX_LEN: usize>(
         (record { kind = Node4; slot = made.inner })
         (split_held PREFIX_LEN (take parted.matched (drop depth (K.bytes key))) parted old made.leaf)) }
     ensures err { OnErr result (SameNodes arena.old arena.new) }
-    ensures handed_back { IfErr result (λ refused. (refused.key ≡ key) × (refused.value ≡ value)) }
+    ensures handed_back { HandsPairBack key value result }
     ensures succeeds { HasRoom arena.old 2 → IsOk result }
     ensures room { UsesRoom 2 arena.old arena.new }
 {
@@ -122,9 +122,8 @@ fn leaf_at_end<K: AsBytes, V, const PREFIX_LEN: usize>(
     node: OpaqueNodePtr,
     is_first: bool,
 ) -> LeafPtr
-    requires { (path : List ℕ) × (s : Shape K V) × StoresBelow K.bytes PREFIX_LEN arena.now node path s }
-    ensures { (path : List ℕ) (s : Shape K V) → StoresBelow K.bytes PREFIX_LEN arena.now node path s
-        → IsEnd is_first result (leaves s) }
+    requires { HasSome (StoresBelow K.bytes PREFIX_LEN arena.now node) }
+    ensures { OfEach (StoresBelow K.bytes PREFIX_LEN arena.now node) (λ path s. IsEnd is_first result (leaves s)) }
 {
     if is_first {
         first_leaf(arena, node)
@@ -213,17 +212,15 @@ pub(crate) fn split<K: AsBytes, V, const PREFIX_LEN: usize>(
     key: K,
     value: V,
 ) -> Result<InsertResult<K, V>, InsertRefused<K, V>>
-    requires tree { (s : Shape K V) × (rest : List (Name × Cell K V))
-        × StoresBeside K.bytes PREFIX_LEN arena.old point.root rest s × IsPoint K.bytes (K.bytes key) s point }
+    requires tree { HasTreeWhere K.bytes PREFIX_LEN arena.old point.root (λ s. IsPoint K.bytes (K.bytes key) s point) }
     requires kind { PartsFrom point.insert_kind old parted }
-    ensures ok { IfOk result (λ inserted. (s : Shape K V) (rest : List (Name × Cell K V))
-        → StoresBeside K.bytes PREFIX_LEN arena.old point.root rest s → IsPoint K.bytes (K.bytes key) s point
-        → IsInsertedBeside K.bytes PREFIX_LEN arena.new rest s (steps_of point.path) key value inserted) }
-    ensures others { IfOk result (λ inserted. (s : Shape K V) (rest : List (Name × Cell K V))
-        → StoresBeside K.bytes PREFIX_LEN arena.old point.root rest s → IsPoint K.bytes (K.bytes key) s point
-        → KeepsNodes rest arena.old arena.new) }
+    ensures ok { IfOk result (λ inserted. OfTreeWhere K.bytes PREFIX_LEN arena.old point.root
+        (λ s. IsPoint K.bytes (K.bytes key) s point)
+        (λ s rest. IsInsertedBeside K.bytes PREFIX_LEN arena.new rest s (steps_of point.path) key value inserted)) }
+    ensures others { IfOk result (λ inserted. OfTreeWhere K.bytes PREFIX_LEN arena.old point.root
+        (λ s. IsPoint K.bytes (K.bytes key) s point) (λ s rest. KeepsNodes rest arena.old arena.new)) }
     ensures err { OnErr result (SameNodes arena.old arena.new) }
-    ensures handed_back { IfErr result (λ refused. (refused.key ≡ key) × (refused.value ≡ value)) }
+    ensures handed_back { HandsPairBack key value result }
     ensures succeeds { HasRoom arena.old 2 → IsOk result }
     ensures room { UsesRoom 2 arena.old arena.new }
 {

@@ -1,15 +1,16 @@
 //! The change of a tree that puts a new key in the place of those with which it is in conflict.
-ghost use Rattle.std.specs.Prelude.{◌≡◌, ◌++◌, ℕ, List, IfOk, OnErr, IfErr, IsOk};
+ghost use Rattle.std.specs.Prelude.{ℕ, List, IfOk, OnErr, IsOk};
 ghost use Rattle.art_nodes.specs.Name.{Name};
 ghost use Rattle.art_arena.specs.arena.Arena.{node_at, HasRoom, KeepsNodes, KeepsRoom, SameNodes, UsesRoom};
 ghost use Rattle.art_arena.specs.arena.Cells.{Cell, Holds};
 ghost use Rattle.art_arena.specs.arena.Shapes.{Shape, IsUnder, cells, leaves, pairs_of};
 ghost use Rattle.art_arena.specs.arena.Steps.{steps_of};
-ghost use Rattle.art_arena.specs.arena.Stores.{StoresBeside};
 ghost use Rattle.art_operations.specs.Frees.{HoldsBeside, KeepsAllBut};
 ghost use Rattle.art_operations.specs.Overwrites.{AreRemoved, IsExact, IsOverwrittenBeside, IsPrefixPoint};
 ghost use Rattle.art_operations.specs.Overwrites.{root_at, steps_at};
 ghost use Rattle.art_operations.specs.Points.{IsInTheWay};
+ghost use Rattle.art_operations.specs.Whichever.{HasTreeWhere, OfTreeWhere};
+ghost use Rattle.art_operations.specs.Insertions.{HandsPairBack};
 
 use crate::deallocate::deallocate_tree;
 use crate::insert::leaf::store_leaf;
@@ -74,19 +75,16 @@ impl OverwritePoint {
         key: K,
         value: V,
     ) -> Result<PrefixInsertResult<K, V>, InsertRefused<K, V>>
-        requires { (s : Shape K V) × (rest : List (Name × Cell K V))
-            × StoresBeside K.bytes PREFIX_LEN arena.old self.root rest s
-            × IsInTheWay K.bytes (K.bytes key) s self.root self.overwrite_point (steps_of self.path) }
-        ensures ok { IfOk result (λ put. (s : Shape K V) (rest : List (Name × Cell K V))
-            → StoresBeside K.bytes PREFIX_LEN arena.old self.root rest s
-            → IsInTheWay K.bytes (K.bytes key) s self.root self.overwrite_point (steps_of self.path)
-            → IsOverwrittenBeside K.bytes PREFIX_LEN arena.new rest s (steps_of self.path) key value put) }
-        ensures others { IfOk result (λ put. (s : Shape K V) (rest : List (Name × Cell K V))
-            → StoresBeside K.bytes PREFIX_LEN arena.old self.root rest s
-            → IsInTheWay K.bytes (K.bytes key) s self.root self.overwrite_point (steps_of self.path)
-            → KeepsNodes rest arena.old arena.new) }
+        requires { HasTreeWhere K.bytes PREFIX_LEN arena.old self.root
+            (λ s. IsInTheWay K.bytes (K.bytes key) s self.root self.overwrite_point (steps_of self.path)) }
+        ensures ok { IfOk result (λ put. OfTreeWhere K.bytes PREFIX_LEN arena.old self.root
+            (λ s. IsInTheWay K.bytes (K.bytes key) s self.root self.overwrite_point (steps_of self.path))
+            (λ s rest. IsOverwrittenBeside K.bytes PREFIX_LEN arena.new rest s (steps_of self.path) key value put)) }
+        ensures others { IfOk result (λ put. OfTreeWhere K.bytes PREFIX_LEN arena.old self.root
+            (λ s. IsInTheWay K.bytes (K.bytes key) s self.root self.overwrite_point (steps_of self.path))
+            (λ s rest. KeepsNodes rest arena.old arena.new)) }
         ensures err { OnErr result (SameNodes arena.old arena.new) }
-        ensures handed_back { IfErr result (λ refused. (refused.key ≡ key) × (refused.value ≡ value)) }
+        ensures handed_back { HandsPairBack key value result }
         ensures succeeds { HasRoom arena.old 1 → IsOk result }
         ensures room { UsesRoom 1 arena.old arena.new }
     {
@@ -123,18 +121,15 @@ impl PrefixInsertPoint {
         key: K,
         value: V,
     ) -> Result<PrefixInsertResult<K, V>, InsertRefused<K, V>>
-        requires { (s : Shape K V) × (rest : List (Name × Cell K V))
-            × StoresBeside K.bytes PREFIX_LEN arena.old (root_at self) rest s
-            × IsPrefixPoint K.bytes (K.bytes key) s self }
-        ensures ok { IfOk result (λ put. (s : Shape K V) (rest : List (Name × Cell K V))
-            → StoresBeside K.bytes PREFIX_LEN arena.old (root_at self) rest s
-            → IsPrefixPoint K.bytes (K.bytes key) s self
-            → IsOverwrittenBeside K.bytes PREFIX_LEN arena.new rest s (steps_at self) key value put) }
-        ensures others { IfOk result (λ put. (s : Shape K V) (rest : List (Name × Cell K V))
-            → StoresBeside K.bytes PREFIX_LEN arena.old (root_at self) rest s
-            → IsPrefixPoint K.bytes (K.bytes key) s self → KeepsNodes rest arena.old arena.new) }
+        requires { HasTreeWhere K.bytes PREFIX_LEN arena.old (root_at self)
+            (λ s. IsPrefixPoint K.bytes (K.bytes key) s self) }
+        ensures ok { IfOk result (λ put. OfTreeWhere K.bytes PREFIX_LEN arena.old (root_at self)
+            (λ s. IsPrefixPoint K.bytes (K.bytes key) s self)
+            (λ s rest. IsOverwrittenBeside K.bytes PREFIX_LEN arena.new rest s (steps_at self) key value put)) }
+        ensures others { IfOk result (λ put. OfTreeWhere K.bytes PREFIX_LEN arena.old (root_at self)
+            (λ s. IsPrefixPoint K.bytes (K.bytes key) s self) (λ s rest. KeepsNodes rest arena.old arena.new)) }
         ensures err { OnErr result (SameNodes arena.old arena.new) }
-        ensures handed_back { IfErr result (λ refused. (refused.key ≡ key) × (refused.value ≡ value)) }
+        ensures handed_back { HandsPairBack key value result }
         ensures exact { IsExact self → IsOk result }
         ensures succeeds { HasRoom arena.old 2 → IsOk result }
         ensures room { UsesRoom 2 arena.old arena.new }

@@ -1,7 +1,7 @@
 //! The place of a new key that takes the place of those with which it is in conflict.
-ghost use Rattle.art_arena.specs.arena.Shapes.{Shape, leaves};
-ghost use Rattle.art_arena.specs.arena.Stores.{Stores};
+ghost use Rattle.art_arena.specs.arena.Shapes.{leaves};
 ghost use Rattle.art_operations.specs.Overwrites.{IsPrefixPoint, TellsConflict};
+ghost use Rattle.art_operations.specs.Whichever.{HasTree, OfTree};
 
 use crate::insert::point::{InsertPoint, find_insert_point};
 use art_arena::{NodeArena, TreePath};
@@ -37,11 +37,9 @@ pub fn search_for_prefix_insert_point<K: AsBytes, V, const PREFIX_LEN: usize>(
     root: OpaqueNodePtr,
     key: &[u8],
 ) -> PrefixInsertPoint
-    requires { (s : Shape K V) × Stores K.bytes PREFIX_LEN arena.now root s }
-    ensures place { (s : Shape K V) → Stores K.bytes PREFIX_LEN arena.now root s
-        → IsPrefixPoint K.bytes key.now s result }
-    ensures conflict { (s : Shape K V) → Stores K.bytes PREFIX_LEN arena.now root s
-        → TellsConflict K.bytes key.now (leaves s) result }
+    requires { HasTree K.bytes PREFIX_LEN arena.now root }
+    ensures place { OfTree K.bytes PREFIX_LEN arena.now root (λ s. IsPrefixPoint K.bytes key.now s result) }
+    ensures conflict { OfTree K.bytes PREFIX_LEN arena.now root (λ s. TellsConflict K.bytes key.now (leaves s) result) }
 {
     match find_insert_point(arena, root, key) {
         Ok(point) => PrefixInsertPoint::InsertPoint(point),

@@ -1,6 +1,7 @@
 use Rattle.std.proofs.Common.{arith, rules, ◌≡◌, ◌++◌, length, take, drop, map, append-nil, ap, sym, ◌∙◌, subst, refl}
 use Rattle.std.specs.Int.{from_be_bytes, w32}
 use Rattle.std.specs.List.{AllByRecursion}
+use Rattle.std.proofs.lemmas.List.{take-set-le}
 use Rattle.std.proofs.lemmas.Result.{on_err_weaker, on_ok_weaker}
 use Rattle.art_index.specs.Words.{line_of}
 use Rattle.art_index.specs.Commands.{put_words}
@@ -44,7 +45,9 @@ loop-full-preserved g c =
     let fits = subst (λ ps. AllByRecursion KeyFits (map record_of ps)) c.in-Some.ensures.steps c.loop-full.invariant.fit in
     let long = line_fits (record_of p) _ line fits.0 in
     let left = c.in_ok-at.ensures.fits in
-    let next = gathered_next count p c.next.new.self _ _ _ _ c.in-Some.ensures.steps line c.put_record-held.ensures.told in
+    let kept = take-set-le c.in_ok-at.at c.loop-full.room 8191 c.touched.result (omega arith) in
+    let told = c.put_record-held.ensures.told ∙ ap (λ t. t ++ line_of (put_words c.parts_of-tenant.result.0 c.parts_of-tenant.result.1.now c.as_slice-in-loop-full.result.now)) kept in
+    let next = gathered_next count p c.next.new.self _ _ _ _ c.in-Some.ensures.steps line told in
     record {
       taken = taken_from _ _ _ _ _ next (taken_through _ _ _ _ _ _ _ c.loop-full.invariant.taken c.in_ok-at.ensures.taken);
       fine = sym c.in_ok-at.ensures.failed;

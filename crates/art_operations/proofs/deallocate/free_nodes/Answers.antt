@@ -18,11 +18,11 @@ pub free-smaller : goal.free-smaller
 free-smaller g c =
     let r = c.requires in
     let left = c.free.invariant.left r.0 r.1 r.2 in
-    (left-step g.row.PREFIX_LEN c.args.with_leaves c.args.arena.now c.free.arena c.free_one.new.arena r.0 c.free.current c.in-Some.left r.1 left (c.in-Some.ensures.freed left.part r.1 left.holds) (c.free_one.ensures.kept left.part r.1 left.holds)).1
+    (left-step g.row.PREFIX_LEN c.args.with_leaves c.args.arena.now c.free.arena c.free_one.new.arena r.0 c.free.current c.in-Some.left.root r.1 left (c.in-Some.ensures.freed left.part r.1 left.holds) (c.free_one.ensures.kept left.part r.1 left.holds)).1
 
 pub free-preserved : goal.free-preserved
 free-preserved g c = record {
-  left = λ s rest part. let left = c.free.invariant.left s rest part in (left-step g.row.PREFIX_LEN c.args.with_leaves c.args.arena.now c.free.arena c.free_one.new.arena s c.free.current c.in-Some.left rest left (c.in-Some.ensures.freed left.part rest left.holds) (c.free_one.ensures.kept left.part rest left.holds)).0;
+  left = λ s rest part. let left = c.free.invariant.left s rest part in (left-step g.row.PREFIX_LEN c.args.with_leaves c.args.arena.now c.free.arena c.free_one.new.arena s c.free.current c.in-Some.left.root rest left (c.in-Some.ensures.freed left.part rest left.holds) (c.free_one.ensures.kept left.part rest left.holds)).0;
   room = λ n room. c.free_one.ensures.room n (c.free.invariant.room n room);
 }
 

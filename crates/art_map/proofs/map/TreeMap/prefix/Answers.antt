@@ -1,6 +1,4 @@
-use Rattle.std.proofs.Common.{ap, ◌∙◌, arith}
-use Rattle.art_arena.specs.arena.Shapes.{key_of}
-use Rattle.art_arena.specs.tree.Tenants.{with_front}
+use Rattle.std.proofs.Common.{◌∙◌, arith}
 use Rattle.art_map.proofs.Maps.{ascending-map}
 use Rattle.art_map.proofs.map.TreeMap.prefix.Goals as goal
 

@@ -6,12 +6,12 @@ use Rattle.art_map.proofs.map.TreeMap.range.Goals as goal
 
 pub new-requires : goal.new-requires
 new-requires g c =
-    let walk = rw (← c.self.view_is) at c.walk_between-walk.ensures in
+    let walk = rw (← c.self.view_is) at c.walk_between-walk.ensures.walk in
     (omega arith, (omega arith, (_, walk.run)))
 
 pub returns-clause-rest : goal.returns-clause-rest
 returns-clause-rest g c =
-    let walk = rw (← c.self.view_is) at c.walk_between-walk.ensures in
+    let walk = rw (← c.self.view_is) at c.walk_between-walk.ensures.walk in
     rw (← c.self.view_is)
     (c.new.ensures _ walk.run ∙ walk.pairs_are
     ∙ ap₂ (λ start end. pairs_between g.K.AsBytes.bytes start end (pairs_from c.self.inside.arena c.self.inside.root)) c.bytes_of.ensures c.bytes_of-2.ensures)

@@ -1,0 +1,53 @@
+-- A pair that took the place of those whose keys overlap its key, once its value is written.
+use Rattle.std.proofs.Common.{◌≡◌, ℕ, Bool, true, false, cond, not, bytes_eq, List, [], ◌∷◌, Some, refl, sym, ap, ◌∙◌}
+use Rattle.art_arena.specs.arena.Cells.{Cell, pair}
+use Rattle.art_arena.specs.arena.Shapes.{key_of}
+use Rattle.art_arena.specs.tree.Changes.{put_in_order}
+use Rattle.art_arena.proofs.shapes.Finding.{other_key}
+use Rattle.art_operations.specs.KeyedLists.{overlaps, without_key, without_overlapping}
+use Rattle.art_operations.specs.Pairs.{with_pair_over, with_pair_put}
+use Rattle.art_operations.proofs.Overlaps.{overlaps_same}
+use Rattle.art_map.specs.Contents.{Contents}
+use Rattle.art_bytes.specs.declared.as_bytes.AsBytes as as_bytes
+use Rattle.art_map.specs.Entries.{Occupied, entry_key, entry_value}
+use Rattle.art_map.specs.Found.{HasPairAt}
+use Rattle.art_map.specs.Lends.{with_value_at}
+use Rattle.art_map.specs.PrefixEntries.{IsInnerWritten}
+use Rattle.art_map.specs.declared.map.entry.OccupiedEntry.{OccupiedEntry}
+use Rattle.art_map.specs.declared.map.prefix_entry.InnerOccupiedEntry.{InnerOccupiedEntry}
+use Rattle.art_map.proofs.Written.{one-pair, without-put}
+
+-- where no key overlaps a key, none is it
+pub without-both : {X : Type 0} (key : X → List ℕ) (k : List ℕ) (xs : List X) → without_key key k (without_overlapping key k xs) ≡ without_overlapping key k xs
+without-both key k [] = refl
+without-both key k (x ∷ xs) = here (overlaps k (key x)) refl (without-both key k xs)
+  where
+    here : (b : Bool) → overlaps k (key x) ≡ b → without_key key k (without_overlapping key k xs) ≡ without_overlapping key k xs
+        → without_key key k (cond (not b) (x ∷ without_overlapping key k xs) (without_overlapping key k xs)) ≡ cond (not b) (x ∷ without_overlapping key k xs) (without_overlapping key k xs)
+    here true o later = later
+    here false o later = rw (other_key (key x) k (λ e. let f = overlaps_same k (key x) e in absurd (cc))) (ap (λ ys. x ∷ ys) later)
+
+module _ {K V : Type 0} (bytes : K → List ℕ) where
+  pub over-again : (k : K) (v w : V) (pairs : List (K × V)) → with_pair_put bytes k w (with_pair_over bytes k v pairs) ≡ with_pair_over bytes k w pairs
+  over-again k v w pairs =
+      ap (put_in_order (key_of bytes) (k, w))
+      (without-put (key_of bytes) (bytes k) (k, v) refl (without_overlapping (key_of bytes) (bytes k) pairs) ∙ without-both (key_of bytes) (bytes k) pairs)
+
+  -- what a map has, once the leaf of the pair that was put in is written
+  pub over-written : (m : Contents K V) (slot : ℕ) (k l : K) (v u : V) (pairs : List (K × V)) → m.pairs ≡ with_pair_over bytes k v pairs → HasPairAt m slot (k, v) → HasPairAt m slot (l, u)
+      → ((w : V) → (with_value_at m slot w).pairs ≡ with_pair_put bytes l w m.pairs) → (w : V) → (with_value_at m slot w).pairs ≡ with_pair_over bytes k w pairs
+  over-written m slot k l v u pairs is put read writes w =
+      let same : l ≡ k = (one-pair m slot (k, v) (l, u) put read).0 in
+      writes w ∙ ap (λ key. with_pair_put bytes key w m.pairs) same ∙ ap (with_pair_put bytes k w) is ∙ over-again k v w pairs
+
+module _ {K V : Type 0} {P : ℕ} {M : Type 0} {g : as_bytes.Ghosts K} where
+  -- an entry whose pair took the place of those that its key overlaps is written
+  pub over-as : (e : InnerOccupiedEntry K V P M) (m : Contents K V) (v : V) → m.pairs ≡ with_pair_over g.bytes e.key v e.map.now.pairs → (d : OccupiedEntry K V P M g) → (d.map.ghost_name ≡ e.map.ghost_name) × (d.map.now ≡ m)
+      → (entry_key (Occupied d) ≡ e.key) × (entry_value (Occupied d) ≡ Some v) → IsInnerWritten e v d
+  over-as e m v put d same shows = record {
+    same_map = same.0;
+    pairs = ap (λ n. n.pairs) same.1 ∙ put;
+    key = shows.0;
+    value = shows.1;
+    writes = λ u. rw (shows.0, same.1, put) (over-again g.bytes e.key v u e.map.now.pairs);
+  }

@@ -1,0 +1,45 @@
+use Rattle.std.proofs.Common.{[], subst, arith, ◌∙◌}
+use Rattle.art_operations.specs.Pairs.{CanPutOver}
+use Rattle.art_map.specs.Contents.{pairs_from}
+use Rattle.art_map.proofs.Maps.{over-count, over-map, over-pairs, same-map, same-pairs}
+use Rattle.art_map.proofs.map.TreeMap.prefix_put.Goals as goal
+
+pub put_over-requires : goal.put_over-requires
+put_over-requires g c =
+    (omega arith, ((pairs_from c.self.inside.arena c.self.inside.root), [], subst (λ k. CanPutOver g.K.AsBytes.bytes g.row.PREFIX_LEN c.self.inside.arena c.find_place_over-place.result k (pairs_from c.self.inside.arena c.self.inside.root)) c.as_bytes.ensures.value (c.find_place_over-place.ensures (pairs_from c.self.inside.arena c.self.inside.root) [] c.self.invariant.has)))
+
+pub invariant_of-self : goal.invariant_of-self
+invariant_of-self g c =
+    rw c.told_of-left.ensures.root
+    (over-map g.K.AsBytes.bytes g.K.AsBytes.is_key g.row.PREFIX_LEN c.self.inside.arena c.self.inside.root c.self.invariant c.put_over.new.arena c.args.key c.args.value c.in-Ok.put c.as_bytes.ensures.key
+    (c.in-Ok.ensures.ok (pairs_from c.self.inside.arena c.self.inside.root) [] (subst (λ k. CanPutOver g.K.AsBytes.bytes g.row.PREFIX_LEN c.self.inside.arena c.find_place_over-place.result k (pairs_from c.self.inside.arena c.self.inside.root)) c.as_bytes.ensures.value (c.find_place_over-place.ensures (pairs_from c.self.inside.arena c.self.inside.root) [] c.self.invariant.has))))
+
+pub invariant_of-self-in-Err : goal.invariant_of-self-in-Err
+invariant_of-self-in-Err g c = same-map g.K.AsBytes.bytes g.K.AsBytes.is_key g.row.PREFIX_LEN c.self.inside.arena c.self.inside.root c.self.invariant c.put_over.new.arena c.in-Err.ensures.err
+
+pub returns-in-Ok-clause-count : goal.returns-in-Ok-clause-count
+returns-in-Ok-clause-count g c =
+    rw (← c.self.view_is)
+    (c.told_of-left.ensures.count
+    ∙ over-count g.K.AsBytes.bytes g.K.AsBytes.is_key g.row.PREFIX_LEN c.self.inside.arena c.self.inside.root c.self.invariant c.put_over.new.arena c.args.key c.args.value c.in-Ok.put
+    (c.in-Ok.ensures.ok (pairs_from c.self.inside.arena c.self.inside.root) [] (subst (λ k. CanPutOver g.K.AsBytes.bytes g.row.PREFIX_LEN c.self.inside.arena c.find_place_over-place.result k (pairs_from c.self.inside.arena c.self.inside.root)) c.as_bytes.ensures.value (c.find_place_over-place.ensures (pairs_from c.self.inside.arena c.self.inside.root) [] c.self.invariant.has))))
+
+pub returns-in-Ok-clause-pairs : goal.returns-in-Ok-clause-pairs
+returns-in-Ok-clause-pairs g c =
+    rw (← c.self.view_is, c.told_of-left.ensures.root)
+    (over-pairs g.K.AsBytes.bytes g.K.AsBytes.is_key g.row.PREFIX_LEN c.self.inside.arena c.self.inside.root c.self.invariant c.put_over.new.arena c.args.key c.args.value c.in-Ok.put
+    (c.in-Ok.ensures.ok (pairs_from c.self.inside.arena c.self.inside.root) [] (subst (λ k. CanPutOver g.K.AsBytes.bytes g.row.PREFIX_LEN c.self.inside.arena c.find_place_over-place.result k (pairs_from c.self.inside.arena c.self.inside.root)) c.as_bytes.ensures.value (c.find_place_over-place.ensures (pairs_from c.self.inside.arena c.self.inside.root) [] c.self.invariant.has))))
+
+pub returns-in-Err-clause-stored : goal.returns-in-Err-clause-stored
+returns-in-Err-clause-stored g c =
+    rw (← c.self.view_is)
+    (c.in-Err.ensures.stored (pairs_from c.self.inside.arena c.self.inside.root) [] (subst (λ k. CanPutOver g.K.AsBytes.bytes g.row.PREFIX_LEN c.self.inside.arena c.find_place_over-place.result k (pairs_from c.self.inside.arena c.self.inside.root)) c.as_bytes.ensures.value (c.find_place_over-place.ensures (pairs_from c.self.inside.arena c.self.inside.root) [] c.self.invariant.has)))
+
+pub returns-in-Err-clause-err : goal.returns-in-Err-clause-err
+returns-in-Err-clause-err g c =
+    rw (← c.self.view_is) (same-pairs g.K.AsBytes.bytes g.K.AsBytes.is_key g.row.PREFIX_LEN c.self.inside.arena c.self.inside.root c.self.invariant c.put_over.new.arena c.in-Err.ensures.err)
+
+pub returns-in-Ok-clause-leaf : goal.returns-in-Ok-clause-leaf
+returns-in-Ok-clause-leaf g c =
+    rw c.told_of-left.ensures.leaf
+    (c.in-Ok.ensures.ok (pairs_from c.self.inside.arena c.self.inside.root) [] (subst (λ k. CanPutOver g.K.AsBytes.bytes g.row.PREFIX_LEN c.self.inside.arena c.find_place_over-place.result k (pairs_from c.self.inside.arena c.self.inside.root)) c.as_bytes.ensures.value (c.find_place_over-place.ensures (pairs_from c.self.inside.arena c.self.inside.root) [] c.self.invariant.has))).leaf

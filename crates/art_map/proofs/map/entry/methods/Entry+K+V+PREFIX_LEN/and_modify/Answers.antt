@@ -1,0 +1,12 @@
+use Rattle.std.proofs.Common.{refl, sym, ap, subst, ◌∙◌, Option}
+use Rattle.std.specs.Map.Calls.{MayWrite, ModifiesValue}
+use Rattle.art_map.specs.Entries.{entry_value}
+use Rattle.art_map.proofs.map.entry.methods.Entry+K+V+PREFIX_LEN.and_modify.Goals as goal
+
+pub returns-in-Occupied-clause-update : goal.returns-in-Occupied-clause-update
+returns-in-Occupied-clause-update g c =
+    let u = c.f.new.arg2 in
+    let old = ap entry_value c.in-Occupied.is ∙ c.get_mut.ensures.value in
+    let new = (c.get_mut.ensures.written u).value in
+    let did : MayWrite g.F.FnOnce c.args.f c.get_mut.result.now u = record { lent = c.get_mut.result; result = c.f.result; left = _; before = refl; met = c.f.ensures; after = refl } in
+    subst (λ (p : Option g.row.V.Denot × Option g.row.V.Denot). ModifiesValue g.F.FnOnce c.args.f p.0 p.1) (λ i. (sym old i, sym new i)) did

@@ -1,0 +1,32 @@
+use Rattle.std.proofs.Common.{subst}
+use base.Stored.{Coded-set, coded_list, coded×}
+use Rattle.art_arena.specs.arena.Shapes.{key_of}
+use Rattle.art_arena.specs.tree.Shrinks.{Shrinks}
+use Rattle.art_map.specs.Extractions.{left_of}
+use Rattle.art_map.proofs.Extractions.{either-some, empty-some, left-taken}
+use Rattle.art_map.proofs.map.extraction.Extraction.take.Goals as goal
+
+pub invariant_of-self : goal.invariant_of-self
+invariant_of-self g c = record {
+  run = either-some g.K.AsBytes.bytes g.row.PREFIX_LEN c.next_leaf-leaf.new.self.map.now c.take_at.new.self c.args.end c.next_leaf-leaf.result c.next_leaf-leaf.new.self.leaves c.take_at.result c.take_at.ensures.leaves c.take_at.ensures.kept c.next_leaf-leaf.ensures.step;
+}
+
+pub invariant_of-self-in-Err : goal.invariant_of-self-in-Err
+invariant_of-self-in-Err g c = record {
+  run = empty-some g.K.AsBytes.bytes g.row.PREFIX_LEN c.next_leaf-leaf.new.self.map.now c.take_at.new.self c.args.end c.next_leaf-leaf.result c.next_leaf-leaf.new.self.leaves c.in-Err.ensures.kept c.next_leaf-leaf.ensures.step c.empty-self.result c.empty-self.ensures;
+}
+
+pub returns-in-Ok-clause-left : goal.returns-in-Ok-clause-left
+returns-in-Ok-clause-left g c =
+    left-taken g.K.AsBytes.bytes g.row.PREFIX_LEN c.next_leaf-leaf.new.self.map.now c.take_at.new.self c.args.end c.next_leaf-leaf.result c.next_leaf-leaf.new.self.leaves c.in-Ok.ensures.leaves
+    (Coded-set (coded_list (coded× g.row.K.coded g.row.V.coded))) c.next_leaf-leaf.ensures.step
+    (left_of c.args.self.now) c.next_leaf-leaf.ensures.left c.in-Ok.pair c.in-Ok.ensures.value
+
+pub returns-in-Err-clause-shrinks : goal.returns-in-Err-clause-shrinks
+returns-in-Err-clause-shrinks g c =
+    let left = c.next_leaf-leaf.ensures.left in (
+      left.0,
+      left_of c.next_leaf-leaf.new.self,
+      left.2,
+      subst (λ m. Shrinks (key_of g.K.AsBytes.bytes) m.now.pairs (g.K.AsBytes.bytes left.0.0)) c.next_leaf-leaf.ensures.same (c.in-Err.ensures.shrinks left.0 left.1),
+    )

@@ -1,0 +1,137 @@
+-- What a contract says of a prefix entry. The words serve its parts too, as `occupied_key (Inner e)`.
+pub use Rattle.art_map.specs.declared.map.prefix_entry.PrefixEntry.TheVariants.{Occupied, Vacant}
+pub use Rattle.art_map.specs.declared.map.prefix_entry.PrefixOccupied.TheVariants.{Leaf, Inner}
+use Rattle.std.specs.Prelude.{◌≡◌, ℕ, List, [], Option, Some, None, option_map, Result}
+use Rattle.std.specs.Borrow.{Fml, RattleType, MutBor, LendsSo, LendsSoOk, RestsIfErr}
+use Rattle.std.specs.Map.{set_value}
+use Rattle.std.specs.Option.{OnSome}
+use denote.Param.{number}
+use mir.Syntax.{named}
+use Rattle.art_arena.specs.arena.Shapes.{key_of}
+use Rattle.art_bytes.specs.declared.as_bytes.AsBytes as as_bytes
+use Rattle.art_operations.specs.KeyedLists.{IsBlocked, overlapping}
+use Rattle.art_operations.specs.Pairs.{with_pair_over}
+use Rattle.art_map.specs.Contents.{Contents}
+use Rattle.art_map.specs.Entries as entry
+use Rattle.art_map.specs.Overlapped.{lone_item, overlaps_query}
+use Rattle.art_map.specs.declared.map.entry.OccupiedEntry.{OccupiedEntry}
+use Rattle.art_map.specs.declared.map.prefix_entry.InnerOccupiedEntry.{InnerOccupiedEntry}
+use Rattle.art_map.specs.declared.map.prefix_entry.PrefixEntry.{PrefixEntry}
+use Rattle.art_map.specs.declared.map.prefix_entry.PrefixOccupied.{PrefixOccupied}
+use Rattle.art_map.specs.contracts.map.TreeMap as map
+use Rattle.art_map.specs.contracts.map.prefix_entry.InnerOccupiedEntry as inner
+
+module _ {K V : Type 0} {P : ℕ} {M : Type 0} where
+  -- the pairs that an insertion would remove
+  abbrev pub removed_pairs : (K → List ℕ) → InnerOccupiedEntry K V P M → List (K × V)
+  removed_pairs bytes e = overlapping (key_of bytes) (bytes e.key) e.map.now.pairs
+
+  -- n is the entry e, once the map has these pairs
+  pub record IsWithPairs (e : InnerOccupiedEntry K V P M) (pairs : List (K × V)) (n : InnerOccupiedEntry K V P M)
+      : Type 0 where
+    pub same_map : n.map.ghost_name ≡ e.map.ghost_name
+    pub key : n.key ≡ e.key
+    pub pairs_are : n.map.now.pairs ≡ pairs
+
+module _ {K V : Type 0} {P : ℕ} {M : Type 0} {g : as_bytes.Ghosts K} where
+  -- the reference to the map
+  abbrev pub occupied_map : PrefixOccupied K V P M g → MutBor (Contents K V)
+  occupied_map (Leaf o) = o.map
+  occupied_map (Inner e) = e.map
+
+  abbrev pub prefix_map : PrefixEntry K V P M g → MutBor (Contents K V)
+  prefix_map (Occupied (Leaf o)) = o.map
+  prefix_map (Occupied (Inner e)) = e.map
+  prefix_map (Vacant e) = e.map
+
+  -- the stored key, or where it is not stored the one that would go in
+  abbrev pub occupied_key : PrefixOccupied K V P M g → K
+  occupied_key (Leaf o) = entry.entry_key (entry.Occupied o)
+  occupied_key (Inner e) = e.key
+
+  abbrev pub prefix_key : PrefixEntry K V P M g → K
+  prefix_key (Occupied o) = occupied_key o
+  prefix_key (Vacant e) = e.key
+
+  -- the value of the key, if it is stored
+  abbrev pub occupied_value : PrefixOccupied K V P M g → Option V
+  occupied_value (Leaf o) = entry.entry_value (entry.Occupied o)
+  occupied_value (Inner e) = None
+
+  abbrev pub prefix_value : PrefixEntry K V P M g → Option V
+  prefix_value (Occupied o) = occupied_value o
+  prefix_value (Vacant e) = None
+
+  -- the pairs of the map, once w is the value of the key
+  abbrev pub occupied_pairs_with : PrefixOccupied K V P M g → V → List (K × V)
+  occupied_pairs_with (Leaf o) w = entry.entry_pairs (entry.Occupied o) w
+  occupied_pairs_with (Inner e) w = with_pair_over g.bytes e.key w e.map.now.pairs
+
+  -- the one pair that an insertion would replace or remove, where it is one alone
+  abbrev pub lone_pair : PrefixOccupied K V P M g → Option (K × V)
+  lone_pair (Leaf o) = option_map (λ v. (entry.entry_key (entry.Occupied o), v)) (entry.entry_value (entry.Occupied o))
+  lone_pair (Inner e) = lone_item (removed_pairs g.bytes e)
+
+  -- the stored key of that pair, or the new key where no stored key overlaps it
+  abbrev pub shown_key : PrefixEntry K V P M g → Option K
+  shown_key (Occupied o) = entry.option_key (lone_pair o)
+  shown_key (Vacant e) = Some e.key
+
+  -- d is the entry e, once its key was put in with the value w
+  pub record IsInnerWritten (e : InnerOccupiedEntry K V P M) (w : V) (d : OccupiedEntry K V P M g) : Type 0 where
+    pub same_map : d.map.ghost_name ≡ e.map.ghost_name
+    pub pairs : d.map.now.pairs ≡ with_pair_over g.bytes e.key w e.map.now.pairs
+    pub key : entry.entry_key (entry.Occupied d) ≡ e.key
+    pub value : entry.entry_value (entry.Occupied d) ≡ Some w
+    pub writes : (u : V) → entry.entry_pairs (entry.Occupied d) u ≡ with_pair_over g.bytes e.key u e.map.now.pairs
+
+  -- d is the entry, once w is the value of its key
+  abbrev pub IsOccupiedWritten : PrefixOccupied K V P M g → V → OccupiedEntry K V P M g → Type 0
+  IsOccupiedWritten (Leaf o) w d = entry.IsWritten (entry.Occupied o) w (entry.Occupied d)
+  IsOccupiedWritten (Inner e) w d = IsInnerWritten e w d
+
+  abbrev pub IsPrefixWritten : PrefixEntry K V P M g → V → OccupiedEntry K V P M g → Type 0
+  IsPrefixWritten (Occupied o) w d = IsOccupiedWritten o w d
+  IsPrefixWritten (Vacant e) w d = entry.IsWritten (entry.Vacant e) w (entry.Occupied d)
+
+  -- d is the entry, as it is or, where its key was not stored, with a value that is one of these
+  abbrev pub IsPrefixFilled : PrefixEntry K V P M g → (V → Type 0) → OccupiedEntry K V P M g → Type 0
+  IsPrefixFilled (Occupied (Leaf o)) Gives d = entry.IsFilled (entry.Occupied o) Gives d
+  IsPrefixFilled (Occupied (Inner e)) Gives d = (v : V) × Gives v × IsInnerWritten e v d
+  IsPrefixFilled (Vacant e) Gives d = entry.IsFilled (entry.Vacant e) Gives d
+
+  -- the entry is that of this key in these pairs: the key is stored; or it is not, and in conflict with stored keys; or
+  -- it is not, and no stored key is in conflict with it
+  abbrev pub IsPrefixEntryOf : List (K × V) → K → PrefixEntry K V P M g → Type 0
+  IsPrefixEntryOf pairs k (Occupied (Leaf o)) = entry.IsEntryOf pairs k (entry.Occupied o)
+  IsPrefixEntryOf pairs k (Occupied (Inner e)) = (e.key ≡ k) × IsBlocked (key_of g.bytes) (g.bytes k) pairs
+  IsPrefixEntryOf pairs k (Vacant e) =
+      entry.IsEntryOf pairs k (entry.Vacant e) × (IsBlocked (key_of g.bytes) (g.bytes k) pairs → ⊥)
+
+module _ (K V : RattleType) (P : ℕ) (key : as_bytes.Ghosts K.Denot) where
+  -- the map's type, as the logic holds it
+  abbrev map_row : RattleType
+  map_row = map.the_row K V (number P) key
+
+  -- Once the borrow r ends, the only pair that an insertion would remove has the last value written through r, and at
+  -- `None` the entry is as it was. Its lifetime is the second of the signature.
+  abbrev pub lends_lone : MutBor (InnerOccupiedEntry K.Denot V.Denot P map_row.Denot) → Option (MutBor V.Denot) → Fml
+  lends_lone e r =
+      LendsSo (inner.the_row (record { mir = named 1; lft = [] }) K V (number P) map_row key) V e r
+      (λ n w. OnSome r (IsWithPairs e.now
+      (set_value (overlaps_query key.bytes (key.bytes e.now.key)) e.now.map.now.pairs w) n))
+      (λ n. IsWithPairs e.now e.now.map.now.pairs n)
+
+  -- once the borrow r ends, the map has the last value written through r under the entry's key; where there is none,
+  -- its pairs are as they were
+  abbrev pub lends_occupied : {E : Type 0} → PrefixOccupied K.Denot V.Denot P map_row.Denot key
+      → Result (MutBor V.Denot) E → Fml
+  lends_occupied o r =
+      LendsSoOk map_row V (occupied_map o) r (λ n w. n.pairs ≡ occupied_pairs_with o w)
+      (λ n. n.pairs ≡ (occupied_map o).now.pairs)
+
+  -- where r has no entry, the pairs of the map are as they were
+  abbrev pub occupied_rests : {E : Type 0} → PrefixOccupied K.Denot V.Denot P map_row.Denot key
+      → Result (OccupiedEntry K.Denot V.Denot P map_row.Denot key) E → Fml
+  occupied_rests o r =
+      RestsIfErr map_row (occupied_map o) (λ d. d.map.ghost_name) r (λ n. n.pairs ≡ (occupied_map o).now.pairs)

@@ -1,0 +1,301 @@
+//! The entry of a key, and the methods of `Entry`.
+ghost use Rattle.std.specs.Prelude.{◌≡◌, Some, None, IfErr, IfOk, IsOk, OnOk};
+ghost use Rattle.std.specs.Borrow.{sem, Bor, MutBor};
+ghost use Rattle.std.specs.Fn.{FnOnceReturnsAt};
+ghost use Rattle.std.specs.Map.{lookup};
+ghost use Rattle.std.specs.Map.Calls.{ModifiesValue};
+ghost use Rattle.std.specs.Option.{unwrap_or, UnwrapsOrElse};
+ghost use Rattle.art_arena.specs.arena.Shapes.{key_of};
+ghost use Rattle.art_operations.specs.KeyedLists.{HasKey, IsBlocked};
+
+use super::{Entry, OccupiedEntry, VacantEntry};
+use crate::map::TreeMap;
+use crate::map::refused::TryKeyError;
+use art_bytes::{AsBytes, NoPrefixesBytes};
+use art_operations::{InsertPrefixError, InsertRefused, KeyPrefix};
+use std::marker::PhantomData;
+
+impl<K: AsBytes, V, const PREFIX_LEN: usize> TreeMap<K, V, PREFIX_LEN> {
+    ghost use Rattle.art_map.specs.Changes.{IsKeyRefused};
+    ghost use Rattle.art_map.specs.Entries.{entry_map, rests_if_blocked, IsEntryOf};
+
+    /// The entry of a key. Where an equal key is stored, the one handed in is let go.
+    ///
+    /// It is refused with `Prefix` where the key is a front of a stored key, or a stored key is one of it, and with
+    /// `Memory` where there is no memory for the bytes that `Prefix` tells. The key is handed back, and the map is as
+    /// it was. A key that is stored is never refused.
+    pub fn try_entry(&mut self, key: K) -> Result<Entry<'_, K, V, PREFIX_LEN>, TryKeyError<K>>
+    where
+        K: Drop,
+        ensures* rests { sem 𝓛 (rests_if_blocked K.row V.row PREFIX_LEN K.AsBytes self.entry result) }
+        ensures same_map { IfOk result (λ entry. (entry_map entry).ghost_name ≡ self.entry.ghost_name) }
+        ensures unchanged { IfOk result (λ entry. (entry_map entry).now ≡ self.old) }
+        ensures entry { IfOk result (IsEntryOf self.old.pairs key) }
+        ensures free { OnOk result (IsBlocked (key_of K.bytes) (K.bytes key) self.old.pairs → ⊥) }
+        ensures stored { HasKey (key_of K.bytes) (K.bytes key) self.old.pairs → IsOk result }
+        ensures refused { IfErr result (IsKeyRefused K.bytes self.old.pairs key) }
+    {
+        match self.find(key.as_bytes()) {
+            Some(leaf) => Ok(Entry::Occupied(OccupiedEntry::new(self, leaf))),
+            None => match self.place(&key) {
+                Ok(_) => Ok(Entry::Vacant(VacantEntry {
+                    map: self,
+                    key,
+                    mark: PhantomData,
+                })),
+                Err(_) => match KeyPrefix::new(self.alloc, key.as_bytes()) {
+                    Ok(byte_repr) => Err(TryKeyError::Prefix {
+                        key,
+                        error: InsertPrefixError { byte_repr },
+                    }),
+                    Err(_) => Err(TryKeyError::Memory { key }),
+                },
+            },
+        }
+    }
+}
+
+impl<K: NoPrefixesBytes, V, const PREFIX_LEN: usize> TreeMap<K, V, PREFIX_LEN> {
+    ghost use Rattle.art_map.specs.Entries.{entry_map, IsEntryOf};
+
+    /// The entry of a key. Where an equal key is stored, the one handed in is let go.
+    pub fn entry(&mut self, key: K) -> Entry<'_, K, V, PREFIX_LEN>
+    where
+        K: Drop,
+        ensures same_map { (entry_map result).ghost_name ≡ self.entry.ghost_name }
+        ensures unchanged { (entry_map result).now ≡ self.old }
+        ensures entry { IsEntryOf self.old.pairs key result }
+    {
+        match self.find(key.as_bytes()) {
+            Some(leaf) => Entry::Occupied(OccupiedEntry::new(self, leaf)),
+            None => {
+                self.blocks_none(&key);
+                Entry::Vacant(VacantEntry {
+                    map: self,
+                    key,
+                    mark: PhantomData,
+                })
+            }
+        }
+    }
+}
+
+impl<'a, K: AsBytes, V, const PREFIX_LEN: usize> Entry<'a, K, V, PREFIX_LEN> {
+    ghost use Rattle.art_map.specs.Entries.{Occupied, entry_key, entry_map, entry_value, lends_entry, entry_pairs};
+    ghost use Rattle.art_map.specs.Entries.{rests_if_refused, IsFilled, IsWritten};
+
+    /// The stored key, or where none is stored the one that would go in.
+    pub fn key(&self) -> &K
+        ensures { result.now ≡ entry_key self.now }
+    {
+        match self {
+            Entry::Occupied(entry) => entry.key(),
+            Entry::Vacant(entry) => entry.key(),
+        }
+    }
+
+    /// Calls `f` on the value, if the key is stored.
+    pub fn and_modify<F: FnOnce(&mut V)>(self, f: F) -> Self
+        requires { (p : MutBor V) → entry_value self ≡ Some p.now → F.pre f p }
+        ensures same_map { (entry_map result).ghost_name ≡ (entry_map self.entry).ghost_name }
+        ensures same_key { entry_key result ≡ entry_key self.entry }
+        ensures same_writes { (w : V) → entry_pairs result w ≡ entry_pairs self.entry w }
+        ensures update { ModifiesValue F.FnOnce f (entry_value self.entry) (entry_value result) }
+    {
+        match self {
+            Entry::Occupied(mut entry) => {
+                f(entry.get_mut());
+                Entry::Occupied(entry)
+            }
+            Entry::Vacant(entry) => Entry::Vacant(entry),
+        }
+    }
+
+    /// The stored value, or where none is stored this one, which is put in. It is lent for writing as long as the map
+    /// is lent.
+    ///
+    /// It is refused only where the key is not stored and there is no memory. The pair is handed back, and the map is
+    /// as it was.
+    pub fn or_insert(self, default: V) -> Result<&'a mut V, InsertRefused<K, V>>
+    where
+        K: Drop,
+        V: Drop,
+        ensures* writes_back { sem 𝓛 (lends_entry K.row V.row PREFIX_LEN K.AsBytes self.entry result) }
+        ensures value { IfOk result (λ lent. lent.now ≡ unwrap_or (entry_value self.entry) default) }
+        ensures handed_back { IfErr result (λ refused. (entry_value self.entry ≡ None)
+            × (refused.key ≡ entry_key self.entry) × (refused.value ≡ default)) }
+    {
+        match self {
+            Entry::Occupied(entry) => Ok(entry.into_mut()),
+            Entry::Vacant(entry) => entry.insert(default),
+        }
+    }
+
+    /// As `or_insert`, with the default value of its type.
+    pub fn or_default(self) -> Result<&'a mut V, InsertRefused<K, V>>
+    where
+        K: Drop,
+        V: Drop + Default,
+        ensures* writes_back { sem 𝓛 (lends_entry K.row V.row PREFIX_LEN K.AsBytes self.entry result) }
+        ensures value { IfOk result (λ lent. UnwrapsOrElse (entry_value self.entry) V.is_default lent.now) }
+        ensures handed_back { IfErr result (λ refused. (entry_value self.entry ≡ None)
+            × (refused.key ≡ entry_key self.entry) × V.is_default refused.value) }
+    {
+        match self {
+            Entry::Occupied(entry) => Ok(entry.into_mut()),
+            Entry::Vacant(entry) => entry.insert(V::default()),
+        }
+    }
+
+    /// As `or_insert`, with a value that `default` gives. It is called only where the key is not stored.
+    pub fn or_insert_with<F: FnOnce() -> V>(
+        self,
+        default: F,
+    ) -> Result<&'a mut V, InsertRefused<K, V>>
+    where
+        K: Drop,
+        V: Drop,
+        requires { entry_value self ≡ None → F.pre default }
+        ensures* writes_back { sem 𝓛 (lends_entry K.row V.row PREFIX_LEN K.AsBytes self.entry result) }
+        ensures value { IfOk result (λ lent. UnwrapsOrElse (entry_value self.entry) (F.post default) lent.now) }
+        ensures handed_back { IfErr result (λ refused. (entry_value self.entry ≡ None)
+            × (refused.key ≡ entry_key self.entry) × F.post default refused.value) }
+    {
+        match self {
+            Entry::Occupied(entry) => Ok(entry.into_mut()),
+            Entry::Vacant(entry) => entry.insert(default()),
+        }
+    }
+
+    /// As `or_insert`, with a value that `default` gives for the key. It is called only where the key is not stored.
+    pub fn or_insert_with_key<F: FnOnce(&K) -> V>(
+        self,
+        default: F,
+    ) -> Result<&'a mut V, InsertRefused<K, V>>
+    where
+        K: Drop,
+        V: Drop,
+        requires { entry_value self ≡ None → (p : Bor K) → p.now ≡ entry_key self → F.pre default p }
+        ensures* writes_back { sem 𝓛 (lends_entry K.row V.row PREFIX_LEN K.AsBytes self.entry result) }
+        ensures value { IfOk result (λ lent. UnwrapsOrElse (entry_value self.entry)
+            (FnOnceReturnsAt F.FnOnce default (entry_key self.entry)) lent.now) }
+        ensures handed_back { IfErr result (λ refused. (entry_value self.entry ≡ None)
+            × (refused.key ≡ entry_key self.entry)
+            × FnOnceReturnsAt F.FnOnce default (entry_key self.entry) refused.value) }
+    {
+        match self {
+            Entry::Occupied(entry) => Ok(entry.into_mut()),
+            Entry::Vacant(entry) => {
+                let value = default(entry.key());
+                entry.insert(value)
+            }
+        }
+    }
+
+    /// The entry with this value, which is put in, or takes the place of the stored one. It is refused only where the
+    /// key is not stored and there is no memory. The pair is handed back, and the map is as it was.
+    pub fn insert_entry(
+        self,
+        value: V,
+    ) -> Result<OccupiedEntry<'a, K, V, PREFIX_LEN>, InsertRefused<K, V>>
+    where
+        K: Drop,
+        V: Drop,
+        ensures* rests { sem 𝓛 (rests_if_refused K.row V.row PREFIX_LEN K.AsBytes self.entry result) }
+        ensures written { IfOk result (λ entry. IsWritten self.entry value (Occupied entry)) }
+        ensures handed_back { IfErr result (λ refused. (entry_value self.entry ≡ None)
+            × (refused.key ≡ entry_key self.entry) × (refused.value ≡ value)) }
+    {
+        match self {
+            Entry::Occupied(entry) => {
+                let OccupiedEntry { map, leaf, mark: _ } = entry;
+                map.write_at(leaf, value);
+                Ok(OccupiedEntry::new(map, leaf))
+            }
+            Entry::Vacant(entry) => entry.insert_entry(value),
+        }
+    }
+
+    /// The entry, which is put in with this value where none is stored. It is refused as `or_insert` is.
+    pub fn or_insert_entry(
+        self,
+        default: V,
+    ) -> Result<OccupiedEntry<'a, K, V, PREFIX_LEN>, InsertRefused<K, V>>
+    where
+        K: Drop,
+        V: Drop,
+        ensures* rests { sem 𝓛 (rests_if_refused K.row V.row PREFIX_LEN K.AsBytes self.entry result) }
+        ensures filled { IfOk result (IsFilled self.entry (λ v. v ≡ default)) }
+        ensures handed_back { IfErr result (λ refused. (entry_value self.entry ≡ None)
+            × (refused.key ≡ entry_key self.entry) × (refused.value ≡ default)) }
+    {
+        match self {
+            Entry::Occupied(entry) => entry.as_it_is(),
+            Entry::Vacant(entry) => entry.insert_entry(default),
+        }
+    }
+
+    /// As `or_insert_entry`, with the default value of its type.
+    pub fn or_default_entry(
+        self,
+    ) -> Result<OccupiedEntry<'a, K, V, PREFIX_LEN>, InsertRefused<K, V>>
+    where
+        K: Drop,
+        V: Drop + Default,
+        ensures* rests { sem 𝓛 (rests_if_refused K.row V.row PREFIX_LEN K.AsBytes self.entry result) }
+        ensures filled { IfOk result (IsFilled self.entry V.is_default) }
+        ensures handed_back { IfErr result (λ refused. (entry_value self.entry ≡ None)
+            × (refused.key ≡ entry_key self.entry) × V.is_default refused.value) }
+    {
+        match self {
+            Entry::Occupied(entry) => entry.as_it_is(),
+            Entry::Vacant(entry) => entry.insert_entry(V::default()),
+        }
+    }
+
+    /// As `or_insert_entry`, with a value that `default` gives. It is called only where the key is not stored.
+    pub fn or_insert_with_entry<F: FnOnce() -> V>(
+        self,
+        default: F,
+    ) -> Result<OccupiedEntry<'a, K, V, PREFIX_LEN>, InsertRefused<K, V>>
+    where
+        K: Drop,
+        V: Drop,
+        requires { entry_value self ≡ None → F.pre default }
+        ensures* rests { sem 𝓛 (rests_if_refused K.row V.row PREFIX_LEN K.AsBytes self.entry result) }
+        ensures filled { IfOk result (IsFilled self.entry (F.post default)) }
+        ensures handed_back { IfErr result (λ refused. (entry_value self.entry ≡ None)
+            × (refused.key ≡ entry_key self.entry) × F.post default refused.value) }
+    {
+        match self {
+            Entry::Occupied(entry) => entry.as_it_is(),
+            Entry::Vacant(entry) => entry.insert_entry(default()),
+        }
+    }
+
+    /// As `or_insert_entry`, with a value that `default` gives for the key. It is called only where the key is not
+    /// stored.
+    pub fn or_insert_with_key_entry<F: FnOnce(&K) -> V>(
+        self,
+        default: F,
+    ) -> Result<OccupiedEntry<'a, K, V, PREFIX_LEN>, InsertRefused<K, V>>
+    where
+        K: Drop,
+        V: Drop,
+        requires { entry_value self ≡ None → (p : Bor K) → p.now ≡ entry_key self → F.pre default p }
+        ensures* rests { sem 𝓛 (rests_if_refused K.row V.row PREFIX_LEN K.AsBytes self.entry result) }
+        ensures filled { IfOk result (IsFilled self.entry
+            (FnOnceReturnsAt F.FnOnce default (entry_key self.entry))) }
+        ensures handed_back { IfErr result (λ refused. (entry_value self.entry ≡ None)
+            × (refused.key ≡ entry_key self.entry)
+            × FnOnceReturnsAt F.FnOnce default (entry_key self.entry) refused.value) }
+    {
+        match self {
+            Entry::Occupied(entry) => entry.as_it_is(),
+            Entry::Vacant(entry) => {
+                let given = default(entry.key());
+                entry.insert_entry(given)
+            }
+        }
+    }
+}

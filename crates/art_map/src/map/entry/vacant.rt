@@ -1,0 +1,66 @@
+//! The methods of `VacantEntry`.
+ghost use Rattle.std.specs.Prelude.{◌≡◌, IfErr, IfOk};
+ghost use Rattle.std.specs.Borrow.{sem};
+
+use super::{OccupiedEntry, VacantEntry};
+use art_bytes::AsBytes;
+use art_operations::InsertRefused;
+
+impl<'a, K: AsBytes, V, const PREFIX_LEN: usize> VacantEntry<'a, K, V, PREFIX_LEN> {
+    ghost use Rattle.art_map.specs.Entries.{Occupied, Vacant, entry_key, lends_entry, rests_if_refused, IsWritten};
+
+    /// The key that would go in.
+    pub fn key(&self) -> &K
+        ensures { result.now ≡ entry_key (Vacant self.now) }
+    {
+        &self.key
+    }
+
+    /// The key that would go in, which is given back.
+    pub fn into_key(self) -> K
+        ensures { result ≡ entry_key (Vacant self.entry) }
+    {
+        self.key
+    }
+
+    /// Puts the key in with this value, which is lent for writing as long as the map is lent.
+    ///
+    /// It is refused only where there is no memory. The pair is handed back, and the map is as it was.
+    pub fn insert(self, value: V) -> Result<&'a mut V, InsertRefused<K, V>>
+    where
+        K: Drop,
+        V: Drop,
+        ensures* writes_back { sem 𝓛 (lends_entry K.row V.row PREFIX_LEN K.AsBytes (Vacant self.entry) result) }
+        ensures value { IfOk result (λ lent. lent.now ≡ value) }
+        ensures handed_back { IfErr result (λ refused.
+            (refused.key ≡ entry_key (Vacant self.entry)) × (refused.value ≡ value)) }
+    {
+        let VacantEntry { map, key, mark: _ } = self;
+        let leaf = match map.put_leaf(key, value) {
+            Ok(leaf) => leaf,
+            Err(refused) => return Err(refused),
+        };
+        let (_key, value) = map.pair_mut_at(leaf);
+        Ok(value)
+    }
+
+    /// Puts the key in with this value, and answers its entry. It is refused as `insert` is.
+    pub fn insert_entry(
+        self,
+        value: V,
+    ) -> Result<OccupiedEntry<'a, K, V, PREFIX_LEN>, InsertRefused<K, V>>
+    where
+        K: Drop,
+        V: Drop,
+        ensures* rests { sem 𝓛 (rests_if_refused K.row V.row PREFIX_LEN K.AsBytes (Vacant self.entry) result) }
+        ensures written { IfOk result (λ entry. IsWritten (Vacant self.entry) value (Occupied entry)) }
+        ensures handed_back { IfErr result (λ refused.
+            (refused.key ≡ entry_key (Vacant self.entry)) × (refused.value ≡ value)) }
+    {
+        let VacantEntry { map, key, mark: _ } = self;
+        match map.put_leaf(key, value) {
+            Ok(leaf) => Ok(OccupiedEntry::new(map, leaf)),
+            Err(refused) => Err(refused),
+        }
+    }
+}

@@ -1,0 +1,133 @@
+//! Walks that lend the values of all pairs of a map for writing, one at a time.
+ghost use Rattle.std.specs.Prelude.{◌≡◌, ◌==◌, ◌<◌, length};
+ghost use Rattle.std.specs.Borrow.{sem};
+ghost use Rattle.std.specs.Map.Iter.{deref_pair_mut};
+ghost use Rattle.art_walks.proofs.RunLengths.{left_in};
+ghost use Rattle.art_map.specs.LentRuns.{IsRunIn};
+
+use crate::map::TreeMap;
+use art_bytes::AsBytes;
+use art_walks::RawIterator;
+
+/// The pairs of a map in order, from either end, their values lent for writing one at a time.
+#[derive(Drop)]
+pub struct IterMut<'a, K: AsBytes, V, const PREFIX_LEN: usize> {
+    map: &'a mut TreeMap<K, V, PREFIX_LEN>,
+    leaves: RawIterator,
+    len: usize,
+    ghost valid: { ∥ IsRunIn map.now leaves ∥₁ },
+    ghost counted: { len ≡ left_in map.now.nodes leaves },
+}
+
+/// The values of a map in the order of their keys, from either end, lent for writing one at a time.
+pub type ValuesMut<'a, K, V, const PREFIX_LEN: usize> = IterMut<'a, K, V, PREFIX_LEN>;
+
+impl<K: AsBytes, V, const PREFIX_LEN: usize> TreeMap<K, V, PREFIX_LEN> {
+    ghost use Rattle.art_map.specs.LentIters.{iter_rest};
+
+    /// The pairs, their values lent for writing one at a time, ascending by the bytes of their keys, from either end.
+    pub fn iter_mut(&mut self) -> IterMut<'_, K, V, PREFIX_LEN>
+        ensures same_map { (result.map.ghost_name ≡ self.entry.ghost_name) × (result.map.now ≡ self.old) }
+        ensures rest { iter_rest result ≡ self.old.pairs }
+    {
+        let leaves = self.walk();
+        let len = self.len();
+        IterMut {
+            map: self,
+            leaves,
+            len,
+        }
+    }
+
+    /// The values, lent for writing one at a time, ascending by the bytes of their keys, from either end.
+    pub fn values_mut(&mut self) -> ValuesMut<'_, K, V, PREFIX_LEN>
+        ensures same_map { (result.map.ghost_name ≡ self.entry.ghost_name) × (result.map.now ≡ self.old) }
+        ensures rest { iter_rest result ≡ self.old.pairs }
+    {
+        self.iter_mut()
+    }
+}
+
+impl<'a, K: AsBytes, V, const PREFIX_LEN: usize> IterMut<'a, K, V, PREFIX_LEN> {
+    ghost use Rattle.art_map.specs.LentIters.{IsIterFirst, IsIterLast, lends_if_in_iter, lends_in_iter};
+    ghost use Rattle.art_map.specs.LentWalks.{LendsValue};
+    ghost use Rattle.art_map.specs.LentIters.{iter_before, iter_behind, iter_rest};
+
+    /// Whether no pair is still to come.
+    pub fn is_empty(&self) -> bool
+        ensures { result ≡ (length (iter_rest self.now) == 0) }
+    {
+        self.len == 0
+    }
+
+    /// How many pairs are still to come.
+    pub fn len(&self) -> usize
+        ensures { result ≡ length (iter_rest self.now) }
+    {
+        self.len
+    }
+
+    /// Lends the value of the first pair still to come for writing, or `None` where none is, as it then stays.
+    pub fn next(&mut self) -> Option<&mut V>
+        ensures* writes_back { sem 𝓛 (lends_if_in_iter K.row V.row PREFIX_LEN K.AsBytes self.entry
+            (iter_behind self.old) result) }
+        ensures lent { LendsValue (IsIterFirst self.old) (iter_rest self.old) result }
+    {
+        if self.is_empty() {
+            return None;
+        }
+        let (_key, value) = self.next_pair();
+        Some(value)
+    }
+
+    /// Lends the value of the last pair still to come for writing, or `None` where none is, as it then stays.
+    pub fn next_back(&mut self) -> Option<&mut V>
+        ensures* writes_back { sem 𝓛 (lends_if_in_iter K.row V.row PREFIX_LEN K.AsBytes self.entry
+            (iter_before self.old) result) }
+        ensures lent { LendsValue (IsIterLast self.old) (iter_rest self.old) result }
+    {
+        if self.is_empty() {
+            return None;
+        }
+        let (_key, value) = self.next_back_pair();
+        Some(value)
+    }
+
+    /// Lends the first pair still to come, its value for writing.
+    ///
+    /// A pair has to be left, as `is_empty` tells.
+    pub fn next_pair(&mut self) -> (&K, &mut V)
+        requires { 0 < length (iter_rest self.old) }
+        ensures* writes_back { sem 𝓛 (lends_in_iter K.row V.row PREFIX_LEN K.AsBytes self.entry
+            (iter_behind self.old) result.1) }
+        ensures lent { IsIterFirst self.old (deref_pair_mut result) }
+    {
+        let mut leaves = self.leaves;
+        let leaf = match self.map.first_of(&mut leaves) {
+            Some(leaf) => leaf,
+            None => unreachable!(),
+        };
+        self.leaves = leaves;
+        self.len -= 1;
+        self.map.pair_mut_at(leaf)
+    }
+
+    /// Lends the last pair still to come, its value for writing.
+    ///
+    /// A pair has to be left, as `is_empty` tells.
+    pub fn next_back_pair(&mut self) -> (&K, &mut V)
+        requires { 0 < length (iter_rest self.old) }
+        ensures* writes_back { sem 𝓛 (lends_in_iter K.row V.row PREFIX_LEN K.AsBytes self.entry
+            (iter_before self.old) result.1) }
+        ensures lent { IsIterLast self.old (deref_pair_mut result) }
+    {
+        let mut leaves = self.leaves;
+        let leaf = match self.map.last_of(&mut leaves) {
+            Some(leaf) => leaf,
+            None => unreachable!(),
+        };
+        self.leaves = leaves;
+        self.len -= 1;
+        self.map.pair_mut_at(leaf)
+    }
+}

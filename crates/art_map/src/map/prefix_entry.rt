@@ -1,0 +1,57 @@
+//! A key's place among the pairs whose keys overlap it, in whose place it would be put in.
+mod inner;
+mod methods;
+mod occupied;
+mod overlapped;
+
+use crate::map::TreeMap;
+use crate::map::entry::{OccupiedEntry, VacantEntry};
+use art_bytes::AsBytes;
+use std::marker::PhantomData;
+
+/// The entry of a key that takes the place of all stored keys that overlap it.
+#[derive(Drop)]
+pub enum PrefixEntry<
+    'a,
+    K: AsBytes,
+    V,
+    const PREFIX_LEN: usize,
+    M: 'a = TreeMap<K, V, PREFIX_LEN>,
+> {
+    /// A stored key overlaps the key.
+    Occupied(PrefixOccupied<'a, K, V, PREFIX_LEN, M>),
+    /// No stored key does.
+    Vacant(VacantEntry<'a, K, V, PREFIX_LEN, M>),
+}
+
+/// The entry of a key that stored keys overlap.
+#[derive(Drop)]
+pub enum PrefixOccupied<
+    'a,
+    K: AsBytes,
+    V,
+    const PREFIX_LEN: usize,
+    M: 'a = TreeMap<K, V, PREFIX_LEN>,
+> {
+    /// The key is stored.
+    Leaf(OccupiedEntry<'a, K, V, PREFIX_LEN, M>),
+    /// It is not, but a stored key is a front of it, or it is one of stored keys.
+    Inner(InnerOccupiedEntry<'a, K, V, PREFIX_LEN, M>),
+}
+
+/// The entry of a key that is not stored, where a stored key is a front of it, or it is one of stored keys. An
+/// insertion removes the pairs of these.
+///
+/// The last parameter is never written: it tells the borrow check that the map lives as long as it is lent.
+#[derive(Drop)]
+pub struct InnerOccupiedEntry<
+    'a,
+    K: AsBytes,
+    V,
+    const PREFIX_LEN: usize,
+    M: 'a = TreeMap<K, V, PREFIX_LEN>,
+> {
+    map: &'a mut TreeMap<K, V, PREFIX_LEN>,
+    key: K,
+    mark: PhantomData<M>,
+}

@@ -1,0 +1,113 @@
+//! The methods of `InnerOccupiedEntry`.
+ghost use Rattle.std.specs.Prelude.{◌≡◌, option_copied, option_map, IfErr, IfOk};
+ghost use Rattle.std.specs.Borrow.{sem};
+ghost use Rattle.std.specs.Map.Iter.{deref_pair_mut};
+ghost use Rattle.std.specs.Option.{option_copied_mut};
+ghost use Rattle.art_map.specs.Contents.{option_value};
+ghost use Rattle.art_map.specs.Overlapped.{lone_item};
+
+use super::InnerOccupiedEntry;
+use crate::map::entry::OccupiedEntry;
+use art_bytes::AsBytes;
+use art_operations::InsertRefused;
+use art_walks::SubtreeIter;
+
+impl<'a, K: AsBytes, V, const PREFIX_LEN: usize> InnerOccupiedEntry<'a, K, V, PREFIX_LEN> {
+    ghost use Rattle.art_map.specs.Entries.{option_key};
+    ghost use Rattle.art_map.specs.PrefixEntries.{lends_lone, lends_occupied, occupied_rests, removed_pairs};
+    ghost use Rattle.art_map.specs.PrefixEntries.{Inner, IsOccupiedWritten};
+
+    /// The key that would go in.
+    pub fn key(&self) -> &K
+        ensures { result.now ≡ self.now.key }
+    {
+        &self.key
+    }
+
+    /// The value of the pair that an insertion would remove, if it is one alone.
+    pub fn get(&self) -> Option<&V>
+        ensures { option_copied result ≡ option_value (lone_item (removed_pairs K.bytes self.now)) }
+    {
+        let leaf = self.map.lone_over(self.key.as_bytes())?;
+        Some(self.map.pair_at(leaf).1)
+    }
+
+    /// The stored key of the pair that an insertion would remove, if it is one alone.
+    pub fn get_key(&self) -> Option<&K>
+        ensures { option_copied result ≡ option_key (lone_item (removed_pairs K.bytes self.now)) }
+    {
+        let leaf = self.map.lone_over(self.key.as_bytes())?;
+        Some(self.map.pair_at(leaf).0)
+    }
+
+    /// The value of the pair that an insertion would remove, for writing, if it is one alone.
+    pub fn get_mut(&mut self) -> Option<&mut V>
+        ensures* writes_back { sem 𝓛 (lends_lone K.row V.row PREFIX_LEN K.AsBytes self.entry result) }
+        ensures value { option_copied_mut result ≡ option_value (lone_item (removed_pairs K.bytes self.old)) }
+    {
+        match self.map.lone_over(self.key.as_bytes()) {
+            Some(leaf) => {
+                let (_key, value) = self.map.pair_mut_at(leaf);
+                Some(value)
+            }
+            None => None,
+        }
+    }
+
+    /// The stored key, and the value for writing, of the pair that an insertion would remove, if it is one alone.
+    pub fn get_key_value_mut(&mut self) -> Option<(&K, &mut V)>
+        ensures { option_map deref_pair_mut result ≡ lone_item (removed_pairs K.bytes self.old) }
+    {
+        match self.map.lone_over(self.key.as_bytes()) {
+            Some(leaf) => Some(self.map.pair_mut_at(leaf)),
+            None => None,
+        }
+    }
+
+    /// The pairs that an insertion would remove, ascending by the bytes of their keys, from either end.
+    pub fn iter(&self) -> SubtreeIter<'_, K, V, PREFIX_LEN>
+        ensures { result ≡ removed_pairs K.bytes self.now }
+    {
+        self.map.pairs_over(self.key.as_bytes())
+    }
+
+    /// Puts the key in with this value, and removes the pairs of `iter`.
+    ///
+    /// It is refused only where there is no memory. Key and value are then handed back, and the map is as it was.
+    pub fn insert(self, value: V) -> Result<&'a mut V, InsertRefused<K, V>>
+    where
+        K: Drop,
+        V: Drop,
+        ensures* writes_back { sem 𝓛 (lends_occupied K.row V.row PREFIX_LEN K.AsBytes (Inner self.entry) result) }
+        ensures value { IfOk result (λ lent. lent.now ≡ value) }
+        ensures handed_back { IfErr result (λ refused. (refused.key ≡ self.entry.key) × (refused.value ≡ value)) }
+    {
+        let InnerOccupiedEntry { map, key, mark: _ } = self;
+        let put = match map.prefix_put(key, value) {
+            Ok(put) => put,
+            Err(refused) => return Err(refused),
+        };
+        let (_key, stored) = map.pair_mut_at(put.leaf);
+        Ok(stored)
+    }
+
+    /// Puts the key in with this value, removes the pairs of `iter`, and answers the key's entry. It is refused as
+    /// `insert` is.
+    pub fn insert_entry(
+        self,
+        value: V,
+    ) -> Result<OccupiedEntry<'a, K, V, PREFIX_LEN>, InsertRefused<K, V>>
+    where
+        K: Drop,
+        V: Drop,
+        ensures* rests { sem 𝓛 (occupied_rests K.row V.row PREFIX_LEN K.AsBytes (Inner self.entry) result) }
+        ensures written { IfOk result (IsOccupiedWritten (Inner self.entry) value) }
+        ensures handed_back { IfErr result (λ refused. (refused.key ≡ self.entry.key) × (refused.value ≡ value)) }
+    {
+        let InnerOccupiedEntry { map, key, mark: _ } = self;
+        match map.prefix_put(key, value) {
+            Ok(put) => Ok(OccupiedEntry::new(map, put.leaf)),
+            Err(refused) => Err(refused),
+        }
+    }
+}

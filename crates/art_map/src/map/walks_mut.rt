@@ -1,0 +1,158 @@
+//! Walks that lend the values of a map's pairs for writing, one at a time.
+ghost use Rattle.std.specs.Prelude.{◌≡◌, ◌==◌, ◌<◌, ◌⊎◌, ◌∷◌, ◌++◌, [], length, IfSome};
+ghost use Rattle.std.specs.Range.Bound.{bound_map};
+ghost use Rattle.std.specs.Borrow.{sem};
+ghost use Rattle.std.specs.Map.Iter.{deref_pair_mut};
+ghost use Rattle.art_arena.specs.arena.Shapes.{key_of};
+ghost use Rattle.art_arena.specs.tree.Tenants.{with_front};
+ghost use Rattle.art_walks.specs.Bounds.{AreValidKeyBounds};
+ghost use Rattle.art_walks.specs.Walked.{start_of};
+ghost use Rattle.art_map.specs.LentRuns.{IsRunIn, end_of, left_behind, left_before, run_pairs};
+ghost use Rattle.art_map.specs.Ranges.{pairs_between};
+
+use crate::map::TreeMap;
+use crate::map::ranges::bytes_of;
+use art_arena::LeafPtr;
+use art_bytes::AsBytes;
+use art_walks::RawIterator;
+use std::ops::Bound;
+
+/// The pairs of a run of a map's leaves in order, from either end, their values lent for writing one at a time.
+#[derive(Drop)]
+pub struct RangeMut<'a, K: AsBytes, V, const PREFIX_LEN: usize> {
+    map: &'a mut TreeMap<K, V, PREFIX_LEN>,
+    leaves: RawIterator,
+    ghost valid: { ∥ IsRunIn map.now leaves ∥₁ },
+}
+
+/// The pairs of the leaves behind a prefix in order, from either end, their values lent for writing one at a time.
+pub type PrefixMut<'a, K, V, const PREFIX_LEN: usize> = RangeMut<'a, K, V, PREFIX_LEN>;
+
+impl<K: AsBytes, V, const PREFIX_LEN: usize> TreeMap<K, V, PREFIX_LEN> {
+    ghost use Rattle.art_map.specs.Contents.{HasLeafAt};
+    ghost use Rattle.art_map.specs.Found.{HasPairAt};
+    ghost use Rattle.art_map.specs.Lends.{with_value_at};
+    ghost use Rattle.art_map.specs.LentWalks.{range_rest};
+
+    // The first leaf of a run, which goes on behind it.
+    pub(super) fn first_of(&self, leaves: &mut RawIterator) -> Option<LeafPtr>
+        requires { ∥ IsRunIn self.now leaves.old ∥₁ }
+        ensures first { result ≡ start_of leaves.old }
+        ensures behind { leaves.new ≡ left_behind self.now leaves.old }
+        ensures rest { IfSome result (λ leaf. HasLeafAt self.now leaf × ((p : _) → HasPairAt self.now leaf p → (w : V)
+            → run_pairs self.now leaves.old ≡ p ∷ run_pairs (with_value_at self.now leaf w) leaves.new)) }
+    {
+        leaves.next(&self.arena)
+    }
+
+    // The last leaf of a run, which then ends before it.
+    pub(super) fn last_of(&self, leaves: &mut RawIterator) -> Option<LeafPtr>
+        requires { ∥ IsRunIn self.now leaves.old ∥₁ }
+        ensures last { result ≡ end_of leaves.old }
+        ensures before { leaves.new ≡ left_before self.now leaves.old }
+        ensures rest { IfSome result (λ leaf. HasLeafAt self.now leaf × ((p : _) → HasPairAt self.now leaf p → (w : V)
+            → run_pairs self.now leaves.old ≡ run_pairs (with_value_at self.now leaf w) leaves.new ++ p ∷ [])) }
+    {
+        leaves.next_back(&self.arena)
+    }
+
+    /// The pairs whose keys are between two bounds, by their bytes, their values lent for writing one at a time,
+    /// ascending, from either end. The bounds' keys need not be stored.
+    ///
+    /// Where the map has a pair, the bounds have to be valid, as `bounds_are_valid` tells. It takes no memory.
+    pub fn range_mut<Q: AsBytes>(
+        &mut self,
+        start: Bound<&Q>,
+        end: Bound<&Q>,
+    ) -> RangeMut<'_, K, V, PREFIX_LEN>
+        requires { (self.old.pairs ≡ []) ⊎ AreValidKeyBounds (bound_map (λ key. Q.bytes key.now) start)
+            (bound_map (λ key. Q.bytes key.now) end) }
+        ensures same_map { (result.map.ghost_name ≡ self.entry.ghost_name) × (result.map.now ≡ self.old) }
+        ensures rest { range_rest result ≡ pairs_between K.bytes (bound_map (λ key. Q.bytes key.now) start.entry)
+            (bound_map (λ key. Q.bytes key.now) end.entry) self.old.pairs }
+    {
+        let leaves = self.walk_between(bytes_of(start), bytes_of(end));
+        RangeMut { map: self, leaves }
+    }
+
+    /// The pairs whose keys begin with a prefix's bytes, their values lent for writing one at a time, ascending, from
+    /// either end. It takes no memory.
+    pub fn prefix_mut<Q: AsBytes>(&mut self, prefix: &Q) -> PrefixMut<'_, K, V, PREFIX_LEN>
+        ensures same_map { (result.map.ghost_name ≡ self.entry.ghost_name) × (result.map.now ≡ self.old) }
+        ensures rest { range_rest result ≡ with_front (key_of K.bytes) (Q.bytes prefix.now) self.old.pairs }
+    {
+        let leaves = self.walk_behind(prefix.as_bytes());
+        RangeMut { map: self, leaves }
+    }
+}
+
+impl<'a, K: AsBytes, V, const PREFIX_LEN: usize> RangeMut<'a, K, V, PREFIX_LEN> {
+    ghost use Rattle.art_map.specs.LentWalks.{IsRangeFirst, IsRangeLast, LendsValue, lends_if_in_range, lends_in_range};
+    ghost use Rattle.art_map.specs.LentWalks.{range_before, range_behind, range_rest};
+
+    /// Whether no pair is still to come.
+    pub fn is_empty(&self) -> bool
+        ensures { result ≡ (length (range_rest self.now) == 0) }
+    {
+        let mut ahead = self.leaves;
+        self.map.first_of(&mut ahead).is_none()
+    }
+
+    /// Lends the value of the first pair still to come for writing, or `None` where none is, as it then stays.
+    pub fn next(&mut self) -> Option<&mut V>
+        ensures* writes_back { sem 𝓛 (lends_if_in_range K.row V.row PREFIX_LEN K.AsBytes self.entry
+            (range_behind self.old) result) }
+        ensures lent { LendsValue (IsRangeFirst self.old) (range_rest self.old) result }
+    {
+        if self.is_empty() {
+            return None;
+        }
+        let (_key, value) = self.next_pair();
+        Some(value)
+    }
+
+    /// Lends the value of the last pair still to come for writing, or `None` where none is, as it then stays.
+    pub fn next_back(&mut self) -> Option<&mut V>
+        ensures* writes_back { sem 𝓛 (lends_if_in_range K.row V.row PREFIX_LEN K.AsBytes self.entry
+            (range_before self.old) result) }
+        ensures lent { LendsValue (IsRangeLast self.old) (range_rest self.old) result }
+    {
+        if self.is_empty() {
+            return None;
+        }
+        let (_key, value) = self.next_back_pair();
+        Some(value)
+    }
+
+    /// Lends the first pair still to come, its value for writing.
+    ///
+    /// A pair has to be left, as `is_empty` tells.
+    pub fn next_pair(&mut self) -> (&K, &mut V)
+        requires { 0 < length (range_rest self.old) }
+        ensures* writes_back { sem 𝓛 (lends_in_range K.row V.row PREFIX_LEN K.AsBytes self.entry
+            (range_behind self.old) result.1) }
+        ensures lent { IsRangeFirst self.old (deref_pair_mut result) }
+    {
+        let leaf = match self.map.first_of(&mut self.leaves) {
+            Some(leaf) => leaf,
+            None => unreachable!(),
+        };
+        self.map.pair_mut_at(leaf)
+    }
+
+    /// Lends the last pair still to come, its value for writing.
+    ///
+    /// A pair has to be left, as `is_empty` tells.
+    pub fn next_back_pair(&mut self) -> (&K, &mut V)
+        requires { 0 < length (range_rest self.old) }
+        ensures* writes_back { sem 𝓛 (lends_in_range K.row V.row PREFIX_LEN K.AsBytes self.entry
+            (range_before self.old) result.1) }
+        ensures lent { IsRangeLast self.old (deref_pair_mut result) }
+    {
+        let leaf = match self.map.last_of(&mut self.leaves) {
+            Some(leaf) => leaf,
+            None => unreachable!(),
+        };
+        self.map.pair_mut_at(leaf)
+    }
+}

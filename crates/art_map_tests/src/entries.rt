@@ -1,0 +1,359 @@
+//! Entries: each call in each of its outcomes, and rows from outside, for three numbers of stored bytes.
+use art_bytes::{AsBytes, SliceKey, ZeroEnded};
+use art_map::{Entry, TreeMap, TryKeyError};
+use art_walks::WellFormedChecker;
+use std::alloc::{AllocError, Global};
+
+// A text as a key.
+fn text(alloc: Global, bytes: &[u8]) -> Result<ZeroEnded, AllocError> {
+    match ZeroEnded::new(bytes.to_vec(alloc)?) {
+        Ok(key) => Ok(key),
+        Err(_) => Err(AllocError),
+    }
+}
+
+// Whether the map's nodes are a tree of its pairs.
+fn is_tree<K: AsBytes, const PREFIX_LEN: usize>(
+    alloc: Global,
+    map: &TreeMap<K, usize, PREFIX_LEN>,
+) -> bool {
+    let (arena, root) = map.nodes();
+    WellFormedChecker::check(alloc, arena, root, map.len()).is_ok()
+}
+
+// Whether these are the values in order.
+fn has_values<K: AsBytes, const PREFIX_LEN: usize>(
+    map: &TreeMap<K, usize, PREFIX_LEN>,
+    wanted: &[usize],
+) -> bool {
+    let mut values = map.values();
+    for value in wanted {
+        if values.next() != Some(value) {
+            return false;
+        }
+    }
+    values.next().is_none()
+}
+
+// Adds ten to the value of a key, if it is stored, and answers the value.
+fn add_ten<const PREFIX_LEN: usize>(
+    map: &mut TreeMap<[u8; 2], usize, PREFIX_LEN>,
+    key: [u8; 2],
+) -> Option<usize> {
+    map.entry(key)
+        .and_modify(|value| *value = value.wrapping_add(10));
+    map.get(&key).copied()
+}
+
+// The values that the calls of an entry lend, of six keys the first two of which are stored.
+fn lent_values<const PREFIX_LEN: usize>(
+    alloc: Global,
+    map: &mut TreeMap<ZeroEnded, usize, PREFIX_LEN>,
+) -> Result<[usize; 6], AllocError> {
+    let a = *map
+        .entry(text(alloc, b"a")?)
+        .or_insert(11)
+        .map_err(|_| AllocError)?;
+    let b = *map
+        .entry(text(alloc, b"b")?)
+        .or_insert(12)
+        .map_err(|_| AllocError)?;
+    let c = *map
+        .entry(text(alloc, b"c")?)
+        .or_insert(13)
+        .map_err(|_| AllocError)?;
+    let d = *map
+        .entry(text(alloc, b"d")?)
+        .or_default()
+        .map_err(|_| AllocError)?;
+    let e = *map
+        .entry(text(alloc, b"e")?)
+        .or_insert_with(|| 14)
+        .map_err(|_| AllocError)?;
+    let f = *map
+        .entry(text(alloc, b"f")?)
+        .or_insert_with_key(|key| key.as_bytes().len())
+        .map_err(|_| AllocError)?;
+    Ok([a, b, c, d, e, f])
+}
+
+// The same by the calls that answer an entry.
+fn entry_values<const PREFIX_LEN: usize>(
+    alloc: Global,
+    map: &mut TreeMap<ZeroEnded, usize, PREFIX_LEN>,
+) -> Result<[usize; 6], AllocError> {
+    let a = *map
+        .entry(text(alloc, b"a")?)
+        .or_insert_entry(11)
+        .map_err(|_| AllocError)?
+        .get();
+    let b = *map
+        .entry(text(alloc, b"b")?)
+        .or_insert_entry(12)
+        .map_err(|_| AllocError)?
+        .get();
+    let c = *map
+        .entry(text(alloc, b"c")?)
+        .or_insert_entry(13)
+        .map_err(|_| AllocError)?
+        .get();
+    let d = *map
+        .entry(text(alloc, b"d")?)
+        .or_default_entry()
+        .map_err(|_| AllocError)?
+        .get();
+    let e = *map
+        .entry(text(alloc, b"e")?)
+        .or_insert_with_entry(|| 14)
+        .map_err(|_| AllocError)?
+        .get();
+    let f = *map
+        .entry(text(alloc, b"f")?)
+        .or_insert_with_key_entry(|key| key.as_bytes().len())
+        .map_err(|_| AllocError)?
+        .get();
+    Ok([a, b, c, d, e, f])
+}
+
+fn put_two<const PREFIX_LEN: usize>(
+    alloc: Global,
+    map: &mut TreeMap<ZeroEnded, usize, PREFIX_LEN>,
+) -> Result<(), AllocError> {
+    map.insert(text(alloc, b"a")?, 1).map_err(|_| AllocError)?;
+    map.insert(text(alloc, b"b")?, 2).map_err(|_| AllocError)?;
+    Ok(())
+}
+
+// Whether a value is changed where a key is stored, and nothing where it is not. The keys are texts that a zero ends.
+fn modifies<const PREFIX_LEN: usize>(map: &mut TreeMap<[u8; 2], usize, PREFIX_LEN>) -> bool {
+    map.insert(*b"a\0", 1).is_ok()
+        && map.insert(*b"b\0", 2).is_ok()
+        && add_ten(map, *b"a\0") == Some(11)
+        && add_ten(map, *b"b\0") == Some(12)
+        && add_ten(map, *b"c\0").is_none()
+        && has_values(map, &[11, 12])
+}
+
+// Whether the stored values are lent, and the given ones where there was none.
+fn lends<const PREFIX_LEN: usize>(
+    alloc: Global,
+    map: &mut TreeMap<ZeroEnded, usize, PREFIX_LEN>,
+) -> Result<bool, AllocError> {
+    put_two(alloc, map)?;
+    let lent = lent_values(alloc, map)?;
+    Ok(
+        lent == [1, 2, 13, 0, 14, 2]
+            && has_values(map, &[1, 2, 13, 0, 14, 2])
+            && is_tree(alloc, map),
+    )
+}
+
+fn lends_entries<const PREFIX_LEN: usize>(
+    alloc: Global,
+    map: &mut TreeMap<ZeroEnded, usize, PREFIX_LEN>,
+) -> Result<bool, AllocError> {
+    put_two(alloc, map)?;
+    let lent = entry_values(alloc, map)?;
+    Ok(
+        lent == [1, 2, 13, 0, 14, 2]
+            && has_values(map, &[1, 2, 13, 0, 14, 2])
+            && is_tree(alloc, map),
+    )
+}
+
+#[test]
+fn a_stored_value_is_modified(rt: HostRuntime) {
+    let mut map: TreeMap<[u8; 2], usize, 0> = TreeMap::with_prefix_len(rt.alloc());
+    assert!(rt; modifies(&mut map));
+    let mut map: TreeMap<[u8; 2], usize, 4> = TreeMap::with_prefix_len(rt.alloc());
+    assert!(rt; modifies(&mut map));
+    let mut map: TreeMap<[u8; 2], usize, 16> = TreeMap::with_prefix_len(rt.alloc());
+    assert!(rt; modifies(&mut map));
+}
+
+#[test]
+fn an_entry_lends_its_value(rt: HostRuntime) {
+    let mut map: TreeMap<ZeroEnded, usize, 0> = TreeMap::with_prefix_len(rt.alloc());
+    assert!(rt; matches!(lends(rt.alloc(), &mut map), Ok(true)));
+    let mut map: TreeMap<ZeroEnded, usize, 4> = TreeMap::with_prefix_len(rt.alloc());
+    assert!(rt; matches!(lends(rt.alloc(), &mut map), Ok(true)));
+    let mut map: TreeMap<ZeroEnded, usize, 16> = TreeMap::with_prefix_len(rt.alloc());
+    assert!(rt; matches!(lends(rt.alloc(), &mut map), Ok(true)));
+}
+
+#[test]
+fn an_entry_is_put_in_where_it_is_vacant(rt: HostRuntime) {
+    let mut map: TreeMap<ZeroEnded, usize, 0> = TreeMap::with_prefix_len(rt.alloc());
+    assert!(rt; matches!(lends_entries(rt.alloc(), &mut map), Ok(true)));
+    let mut map: TreeMap<ZeroEnded, usize, 4> = TreeMap::with_prefix_len(rt.alloc());
+    assert!(rt; matches!(lends_entries(rt.alloc(), &mut map), Ok(true)));
+    let mut map: TreeMap<ZeroEnded, usize, 16> = TreeMap::with_prefix_len(rt.alloc());
+    assert!(rt; matches!(lends_entries(rt.alloc(), &mut map), Ok(true)));
+}
+
+type Pairs = TreeMap<[u8; 2], usize, 16>;
+
+// Whether a vacant entry has this key, and is put in with a value that is then lent.
+fn fills(map: &mut Pairs, wanted: [u8; 2]) -> bool {
+    match map.entry(wanted) {
+        Entry::Vacant(entry) => {
+            let shown = *entry.key() == wanted;
+            match entry.insert(1) {
+                Ok(value) => shown && *value == 1,
+                Err(_) => false,
+            }
+        }
+        Entry::Occupied(_) => false,
+    }
+}
+
+// Whether a vacant entry gives its key back, and the map stays.
+fn gives_back(map: &mut Pairs, wanted: [u8; 2]) -> bool {
+    match map.entry(wanted) {
+        Entry::Vacant(entry) => entry.into_key() == wanted,
+        Entry::Occupied(_) => false,
+    }
+}
+
+// Whether an occupied entry shows its pair, replaces the value alone, and lends it.
+fn replaces(map: &mut Pairs, wanted: [u8; 2]) -> bool {
+    match map.entry(wanted) {
+        Entry::Occupied(mut entry) => {
+            let shown = *entry.key() == wanted && *entry.get() == 1;
+            let old = entry.insert(2);
+            *entry.get_mut() += 1;
+            shown && old == 1 && *entry.into_mut() == 3
+        }
+        Entry::Vacant(_) => false,
+    }
+}
+
+// Whether an entry is taken out of the map, and its value answered.
+fn is_taken(map: &mut Pairs, wanted: [u8; 2], value: usize) -> bool {
+    match map.entry(wanted) {
+        Entry::Occupied(entry) =>
+            matches!(entry.remove_entry(), Ok(pair) if pair == (wanted, value)),
+        Entry::Vacant(_) => false,
+    }
+}
+
+#[test]
+fn each_outcome_of_an_entry(rt: HostRuntime) {
+    let mut map = Pairs::new(rt.alloc());
+    assert!(rt; fills(&mut map, [1, 2]));
+    assert!(rt; gives_back(&mut map, [3, 0]));
+    assert!(rt; map.len() == 1);
+    assert!(rt; replaces(&mut map, [1, 2]));
+    assert!(rt; has_values(&map, &[3]));
+    assert!(rt; is_taken(&mut map, [1, 2], 3));
+    assert!(rt; map.is_empty());
+}
+
+// Whether a key in conflict with a stored one is refused, and handed back with its bytes.
+fn is_refused(map: &mut TreeMap<SliceKey<'_>, usize, 16>, bytes: &'static [u8]) -> bool {
+    match map.try_entry(SliceKey(bytes)) {
+        Err(TryKeyError::Prefix { key, error }) => {
+            key.0 == bytes && error.byte_repr.bytes() == bytes
+        }
+        _ => false,
+    }
+}
+
+#[test]
+fn an_entry_in_conflict(rt: HostRuntime) {
+    let mut map: TreeMap<SliceKey<'_>, usize, 16> = TreeMap::new(rt.alloc());
+    assert!(rt; map.try_insert(SliceKey(&[1, 2]), 3).is_ok());
+    assert!(rt; is_refused(&mut map, &[1]));
+    assert!(rt; is_refused(&mut map, &[1, 2, 3]));
+    assert!(rt; has_values(&map, &[3]));
+}
+
+// Whether the entry of a key shows it, whether it is stored or not.
+fn shows_key(map: &mut TreeMap<[u8; 2], usize, 16>, key: [u8; 2]) -> bool {
+    *map.entry(key).key() == key
+}
+
+// Whether an entry with a value is put in, or takes the place of the stored one.
+fn is_set(map: &mut TreeMap<[u8; 2], usize, 16>, key: [u8; 2], value: usize) -> bool {
+    match map.entry(key).insert_entry(value) {
+        Ok(entry) => *entry.key() == key && *entry.get() == value,
+        Err(_) => false,
+    }
+}
+
+#[test]
+fn an_entry_between_others(rt: HostRuntime) {
+    let mut map: TreeMap<[u8; 2], usize, 16> = TreeMap::new(rt.alloc());
+    assert!(rt; is_set(&mut map, [0, 0], 0));
+    assert!(rt; is_set(&mut map, [1, 0], 1));
+    assert!(rt; is_set(&mut map, [3, 0], 3));
+    assert!(rt; shows_key(&mut map, [2, 0]));
+    assert!(rt; is_set(&mut map, [2, 0], 2));
+    assert!(rt; shows_key(&mut map, [2, 0]));
+    assert!(rt; has_values(&map, &[0, 1, 2, 3]));
+    assert!(rt; is_set(&mut map, [2, 0], 7));
+    assert!(rt; has_values(&map, &[0, 1, 7, 3]));
+    assert!(rt; is_tree(rt.alloc(), &map));
+}
+
+// The value that the entry of a key has once it is set, and that it then gives out.
+fn set_and_taken<const PREFIX_LEN: usize>(
+    map: &mut TreeMap<Vec<u8>, usize, PREFIX_LEN>,
+    key: Vec<u8>,
+) -> Option<usize> {
+    match map.try_entry(key) {
+        Ok(entry) => match entry.insert_entry(9) {
+            Ok(entry) => entry.remove().ok(),
+            Err(_) => None,
+        },
+        Err(_) => None,
+    }
+}
+
+// Whether a key goes in among these by its entry, and out again.
+fn goes_in_and_out<const PREFIX_LEN: usize>(
+    alloc: Global,
+    map: &mut TreeMap<Vec<u8>, usize, PREFIX_LEN>,
+    stored: &[&[u8]],
+    bytes: &[u8],
+) -> Result<bool, AllocError> {
+    for key in stored {
+        if map.try_insert(key.to_vec(alloc)?, 0).is_err() {
+            return Err(AllocError);
+        }
+    }
+    let taken = set_and_taken(map, bytes.to_vec(alloc)?);
+    Ok(taken == Some(9) && map.len() == stored.len() && is_tree(alloc, map))
+}
+
+#[test]
+fn entries_of_deep_keys(rt: HostRuntime) {
+    let mut map: TreeMap<Vec<u8>, usize, 16> = TreeMap::new(rt.alloc());
+    assert!(rt;
+        matches!(
+            goes_in_and_out(rt.alloc(), &mut map, &[&[5]], &[255]),
+            Ok(true)
+        )
+    );
+    let mut map: TreeMap<Vec<u8>, usize, 4> = TreeMap::with_prefix_len(rt.alloc());
+    let stored: [&[u8]; 2] = [&[0], &[205, 61, 255]];
+    assert!(rt;
+        matches!(
+            goes_in_and_out(rt.alloc(), &mut map, &stored, &[205, 1]),
+            Ok(true)
+        )
+    );
+    let mut map: TreeMap<Vec<u8>, usize, 0> = TreeMap::with_prefix_len(rt.alloc());
+    let stored: [&[u8]; 3] = [
+        &[5, 205, 205, 205, 235, 0, 20],
+        &[205, 210, 205, 205, 20],
+        &[205, 205, 5],
+    ];
+    let key = [205, 205, 205, 205, 36, 0];
+    assert!(rt;
+        matches!(
+            goes_in_and_out(rt.alloc(), &mut map, &stored, &key),
+            Ok(true)
+        )
+    );
+}

@@ -1,0 +1,246 @@
+//! Prefix entries: each kind of entry, what its calls lend and put in, and the pairs that an insertion removes. The
+//! keys own their bytes: the borrow checker does not cover a match on a prefix entry whose key holds a reference.
+
+use art_bytes::AsBytes;
+use art_map::{PrefixEntry, PrefixOccupied, TreeMap};
+use art_walks::{SubtreeIter, WellFormedChecker};
+use std::alloc::{AllocError, Global};
+
+// Whether the map's nodes are a tree of its pairs.
+fn is_tree<K: AsBytes, const PREFIX_LEN: usize>(
+    alloc: Global,
+    map: &TreeMap<K, usize, PREFIX_LEN>,
+) -> bool {
+    let (arena, root) = map.nodes();
+    WellFormedChecker::check(alloc, arena, root, map.len()).is_ok()
+}
+
+// Whether the values of a walk are these.
+fn walks<K, const PREFIX_LEN: usize>(
+    walk: &mut SubtreeIter<'_, K, usize, PREFIX_LEN>,
+    wanted: &[usize],
+) -> bool {
+    for value in wanted {
+        match walk.next() {
+            Some((_, found)) if *found == *value => {}
+            _ => return false,
+        }
+    }
+    walk.next().is_none() && walk.next_back().is_none()
+}
+
+// Whether the entry of a key in conflict shows what an insertion would remove.
+fn shows<const PREFIX_LEN: usize>(
+    map: &mut TreeMap<Vec<u8>, usize, PREFIX_LEN>,
+    key: Vec<u8>,
+    wanted: &[usize],
+) -> bool {
+    match map.prefix_entry(key) {
+        PrefixEntry::Occupied(PrefixOccupied::Inner(entry)) => {
+            let is_lone = wanted.len() == 1;
+            walks(&mut entry.iter(), wanted)
+                && entry.get().is_some() == is_lone
+                && entry.get_key().is_some() == is_lone
+        }
+        PrefixEntry::Occupied(PrefixOccupied::Leaf(_)) => false,
+        PrefixEntry::Vacant(_) => false,
+    }
+}
+
+// The value that is lent where a key takes the place of those that it is a front of.
+fn put_over<const PREFIX_LEN: usize>(
+    map: &mut TreeMap<Vec<u8>, usize, PREFIX_LEN>,
+    key: Vec<u8>,
+) -> Option<usize> {
+    match map.prefix_entry(key) {
+        PrefixEntry::Occupied(PrefixOccupied::Inner(entry)) => match entry.insert(7) {
+            Ok(value) => Some(*value),
+            Err(_) => None,
+        },
+        PrefixEntry::Occupied(PrefixOccupied::Leaf(_)) => None,
+        PrefixEntry::Vacant(_) => None,
+    }
+}
+
+fn bytes_give_way<const PREFIX_LEN: usize>(
+    alloc: Global,
+    map: &mut TreeMap<Vec<u8>, usize, PREFIX_LEN>,
+) -> Result<bool, AllocError> {
+    for key in [b"abc", b"abd", b"xyz"] {
+        if map.try_insert(key.to_vec(alloc)?, 1).is_err() {
+            return Err(AllocError);
+        }
+    }
+    if !shows(map, b"ab".to_vec(alloc)?, &[1, 1]) || !shows(map, b"xyza".to_vec(alloc)?, &[1]) {
+        return Ok(false);
+    }
+    let lent = put_over(map, b"ab".to_vec(alloc)?);
+    Ok(lent == Some(7) && map.len() == 2 && is_tree(alloc, map))
+}
+
+#[test]
+fn a_front_is_put_in_and_lent(rt: HostRuntime) {
+    let mut map: TreeMap<Vec<u8>, usize, 0> = TreeMap::with_prefix_len(rt.alloc());
+    assert!(rt; matches!(bytes_give_way(rt.alloc(), &mut map), Ok(true)));
+}
+
+// The values that the calls of a prefix entry lend, of six keys the first two of which are stored.
+fn lent_values<const PREFIX_LEN: usize>(
+    map: &mut TreeMap<[u8; 2], usize, PREFIX_LEN>,
+) -> Result<[usize; 6], AllocError> {
+    let a = *map
+        .prefix_entry(*b"a\0")
+        .or_insert(11)
+        .map_err(|_| AllocError)?;
+    let b = *map
+        .prefix_entry(*b"b\0")
+        .or_insert(12)
+        .map_err(|_| AllocError)?;
+    let c = *map
+        .prefix_entry(*b"c\0")
+        .or_insert(13)
+        .map_err(|_| AllocError)?;
+    let d = *map
+        .prefix_entry(*b"d\0")
+        .or_default()
+        .map_err(|_| AllocError)?;
+    let e = *map
+        .prefix_entry(*b"e\0")
+        .or_insert_with(|| 14)
+        .map_err(|_| AllocError)?;
+    let f = *map
+        .prefix_entry(*b"f\0")
+        .or_insert_with_key(|key| key.as_bytes().len())
+        .map_err(|_| AllocError)?;
+    Ok([a, b, c, d, e, f])
+}
+
+// The same by the calls that answer an entry.
+fn entry_values<const PREFIX_LEN: usize>(
+    map: &mut TreeMap<[u8; 2], usize, PREFIX_LEN>,
+) -> Result<[usize; 6], AllocError> {
+    let a = *map
+        .prefix_entry(*b"a\0")
+        .or_insert_entry(11)
+        .map_err(|_| AllocError)?
+        .get();
+    let b = *map
+        .prefix_entry(*b"b\0")
+        .or_default_entry()
+        .map_err(|_| AllocError)?
+        .get();
+    let c = *map
+        .prefix_entry(*b"c\0")
+        .or_insert_entry(13)
+        .map_err(|_| AllocError)?
+        .get();
+    let d = *map
+        .prefix_entry(*b"d\0")
+        .or_default_entry()
+        .map_err(|_| AllocError)?
+        .get();
+    let e = *map
+        .prefix_entry(*b"e\0")
+        .or_insert_with_entry(|| 14)
+        .map_err(|_| AllocError)?
+        .get();
+    let f = *map
+        .prefix_entry(*b"f\0")
+        .or_insert_with_key_entry(|key| key.as_bytes().len())
+        .map_err(|_| AllocError)?
+        .get();
+    Ok([a, b, c, d, e, f])
+}
+
+// Whether the stored values are lent, and the given ones where there was none.
+fn lends<const PREFIX_LEN: usize>(
+    alloc: Global,
+    map: &mut TreeMap<[u8; 2], usize, PREFIX_LEN>,
+) -> Result<bool, AllocError> {
+    map.insert(*b"a\0", 1).map_err(|_| AllocError)?;
+    map.insert(*b"b\0", 2).map_err(|_| AllocError)?;
+    let lent = lent_values(map)?;
+    Ok(lent == [1, 2, 13, 0, 14, 2] && map.len() == 6 && is_tree(alloc, map))
+}
+
+fn lends_entries<const PREFIX_LEN: usize>(
+    alloc: Global,
+    map: &mut TreeMap<[u8; 2], usize, PREFIX_LEN>,
+) -> Result<bool, AllocError> {
+    map.insert(*b"a\0", 1).map_err(|_| AllocError)?;
+    map.insert(*b"b\0", 2).map_err(|_| AllocError)?;
+    let lent = entry_values(map)?;
+    Ok(lent == [1, 2, 13, 0, 14, 2] && map.len() == 6 && is_tree(alloc, map))
+}
+
+#[test]
+fn a_value_is_lent_or_put_in(rt: HostRuntime) {
+    let mut map: TreeMap<[u8; 2], usize, 0> = TreeMap::with_prefix_len(rt.alloc());
+    assert!(rt; matches!(lends(rt.alloc(), &mut map), Ok(true)));
+    let mut map: TreeMap<[u8; 2], usize, 4> = TreeMap::with_prefix_len(rt.alloc());
+    assert!(rt; matches!(lends(rt.alloc(), &mut map), Ok(true)));
+    let mut map: TreeMap<[u8; 2], usize, 16> = TreeMap::with_prefix_len(rt.alloc());
+    assert!(rt; matches!(lends(rt.alloc(), &mut map), Ok(true)));
+}
+
+#[test]
+fn an_entry_is_given_or_put_in(rt: HostRuntime) {
+    let mut map: TreeMap<[u8; 2], usize, 0> = TreeMap::with_prefix_len(rt.alloc());
+    assert!(rt; matches!(lends_entries(rt.alloc(), &mut map), Ok(true)));
+    let mut map: TreeMap<[u8; 2], usize, 4> = TreeMap::with_prefix_len(rt.alloc());
+    assert!(rt; matches!(lends_entries(rt.alloc(), &mut map), Ok(true)));
+    let mut map: TreeMap<[u8; 2], usize, 16> = TreeMap::with_prefix_len(rt.alloc());
+    assert!(rt; matches!(lends_entries(rt.alloc(), &mut map), Ok(true)));
+}
+
+// Whether another key is vacant.
+fn is_vacant(map: &mut TreeMap<[u8; 2], usize, 16>, wanted: [u8; 2]) -> bool {
+    match map.prefix_entry(wanted) {
+        PrefixEntry::Vacant(entry) => *entry.key() == wanted,
+        PrefixEntry::Occupied(_) => false,
+    }
+}
+
+// Whether a stored key is a leaf, which shows its pair, and is set.
+fn a_stored_key_is_a_leaf(map: &mut TreeMap<[u8; 2], usize, 16>, wanted: [u8; 2]) -> bool {
+    match map.prefix_entry(wanted) {
+        PrefixEntry::Occupied(entry) => {
+            let shown = *entry.key() == wanted && entry.get() == Some(&1);
+            match entry.insert(5) {
+                Ok(value) => shown && *value == 5,
+                Err(_) => false,
+            }
+        }
+        PrefixEntry::Vacant(_) => false,
+    }
+}
+
+#[test]
+fn a_stored_key_is_set(rt: HostRuntime) {
+    let mut map: TreeMap<[u8; 2], usize, 16> = TreeMap::new(rt.alloc());
+    assert!(rt; map.insert([1, 2], 1).is_ok());
+    assert!(rt; a_stored_key_is_a_leaf(&mut map, [1, 2]));
+    assert!(rt; map.get(&[1, 2]) == Some(&5));
+    assert!(rt; is_vacant(&mut map, [1, 3]) && !is_vacant(&mut map, [1, 2]));
+}
+
+// Whether an occupied entry is set, by the entry that it answers.
+fn sets_occupied(map: &mut TreeMap<[u8; 2], usize, 16>, wanted: [u8; 2], value: usize) -> bool {
+    match map.prefix_entry(wanted) {
+        PrefixEntry::Occupied(entry) => match entry.insert_entry(value) {
+            Ok(set) => *set.get() == value && *set.key() == wanted,
+            Err(_) => false,
+        },
+        PrefixEntry::Vacant(_) => false,
+    }
+}
+
+#[test]
+fn an_occupied_entry_is_set(rt: HostRuntime) {
+    let mut map: TreeMap<[u8; 2], usize, 16> = TreeMap::new(rt.alloc());
+    assert!(rt; map.insert([1, 2], 1).is_ok());
+    assert!(rt; sets_occupied(&mut map, [1, 2], 2));
+    assert!(rt; map.get(&[1, 2]) == Some(&2) && map.len() == 1);
+    assert!(rt; !sets_occupied(&mut map, [1, 3], 3));
+    assert!(rt; map.len() == 1 && is_tree(rt.alloc(), &map));
+}
