@@ -55,6 +55,7 @@ impl<'a, K: AsBytes, V, const PREFIX_LEN: usize> InnerOccupiedEntry<'a, K, V, PR
     }
 
     /// The stored key, and the value for writing, of the pair that an insertion would remove, if it is one alone.
+    /// The contract says which pair that is, not what the map ends as; that of `get_mut` does.
     pub fn get_key_value_mut(&mut self) -> Option<(&K, &mut V)>
         ensures { option_map deref_pair_mut result ≡ lone_item (removed_pairs K.bytes self.old) }
     {

@@ -94,7 +94,8 @@ impl<'a, K: AsBytes, V, const PREFIX_LEN: usize> PrefixEntry<'a, K, V, PREFIX_LE
     /// The stored value, or where the key is not stored this one, which is put in in the place of the pairs that the
     /// key overlaps. It is lent for writing as long as the map is lent.
     ///
-    /// It is refused as `insert_entry` is.
+    /// It is refused as `insert_entry` is. The contract says what is lent and handed back, not what the map ends as;
+    /// those of the calls that end in `_entry` do where these are not refused.
     pub fn or_insert(self, default: V) -> Result<&'a mut V, InsertRefused<K, V>>
     where
         K: Drop,

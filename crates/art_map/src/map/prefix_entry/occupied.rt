@@ -35,6 +35,7 @@ impl<'a, K: AsBytes, V, const PREFIX_LEN: usize> PrefixOccupied<'a, K, V, PREFIX
     }
 
     /// The value of the pair that an insertion would change or remove, for writing, if it is one alone.
+    /// The contract says which value that is, not what the entry ends as.
     pub fn get_mut(&mut self) -> Option<&mut V>
         ensures { option_copied_mut result ≡ option_value (lone_pair self.old) }
     {
