@@ -2,14 +2,17 @@
 """./bench: times the tree and the map beside the kit's BTreeMap, all proved, and prints tables with ratios.
 
     ./bench [--sizes 10000,100000] [--sets dense,rand8,rand16,url] [--repeats 5] [--instr] [--walks SIZE]
-        [--ranges SIZE] [--program SIZES] [--perf FOLDER]
+        [--ranges SIZE] [--entries SIZE] [--program SIZES] [--perf FOLDER]
 It proves and builds the libraries where they are not built, and needs nothing but rt and cc. --walks SIZE times walks
 over so many pairs, from the front and from both ends, the check of a tree, its clone and its free. --ranges SIZE times
-ranges of 100 pairs and of one, and walks of the pairs behind a prefix, in maps of so many pairs. --instr counts
-instructions and cache misses by callgrind (no noise, whatever else runs), at --instr-size keys (10000). --perf FOLDER: a
-folder of yardsticks with build.sh, libbench and peers (cargo, valgrind and Debian's libjudy-dev, libabsl-dev): its table
-follows, with unproved peers, and three of them stand in all tables. --program SIZES, which needs it, times lines of the
-program beside its peers: loads, `get` lines, misses and dumps. --sizes '' leaves look-ups and insertions out.
+ranges of 100 pairs and of one, and walks of the pairs behind a prefix, in maps of so many pairs. --entries SIZE times
+`entry(..).and_modify(..).or_insert(..)` of so many keys, new ones and then stored ones, beside an insertion, and beside
+a look-up for writing with an insertion where it finds none. --instr counts instructions and cache misses by callgrind
+(no noise, whatever else runs), at --instr-size keys (10000), of walks and entries too where these are asked. --perf
+FOLDER: a folder of yardsticks with build.sh, libbench and peers (cargo, valgrind and Debian's libjudy-dev,
+libabsl-dev): its table follows, with unproved peers, and three of them stand in all tables. --program SIZES, which
+needs it, times lines of the program beside its peers: loads, `get` lines, misses and dumps. --sizes '' leaves look-ups
+and insertions out.
 Standard error tells how far it is. Times are processor time; take ratios from one run alone.
 """
 import argparse
@@ -35,6 +38,11 @@ RANGES = {
     "range of one pair": (6, 1, False),
 }
 NO_RANGES = {"tree", "BTreeMap"}
+# Of entries: steps that put all queries in, each once into an empty map and once into one that has them all.
+ENTRIES = {"insert": 12, "entry": 13, "get_mut, then insert": 14}
+NO_ENTRIES = {"tree"}
+NO_ENTRY_CALL = {"art-vec", "art-list"}
+STATES = {"new": "", "stored": "1,"}
 # Of the program: the words of yardsticks/gen, and how many lines or records one tells the cost of, as a part of all.
 LINES = {"load": 1, "get": 1, "miss": 1, "dump": 2}
 LINE_PEERS = ("btree", "map", "art")
@@ -219,6 +227,59 @@ def ranges(folder, made, asked):
             print(f"| {key_set} | {behind:.0f} | {name} | {' | '.join(cells)} |", flush=True)
 
 
+def entry_costs(made, cost):
+    """By map, what `cost` tells of each of the steps of entries, of new keys and then of stored ones; None where a map
+    has no entries."""
+    found = {name: [] for name in made}
+    for before in STATES.values():
+        for step in ENTRIES.values():
+            for name, path in made.items():
+                has_it = step != ENTRIES["entry"] or name not in NO_ENTRY_CALL
+                found[name].append(cost(name, path, before, step) if has_it else None)
+    return found
+
+
+def entry_table(title, asked, made, cost):
+    """A table of the steps of entries, with the ratio of an entry to an insertion, and of the map here to its peers."""
+    columns = [f"{state}: {it}" for state in STATES for it in ENTRIES]
+    print(f"\n{title}:\n\n| Keys | Map | {' | '.join(columns)} | new: entry to insert | stored: entry to insert |")
+    print(f"|---|---|{'---:|' * (len(columns) + 2)}", flush=True)
+    for key_set in asked.sets.split(","):
+        tell(f"{key_set}, {title}")
+        found = entry_costs(made, lambda *call: cost(key_set, *call))
+        for name, it in found.items():
+            ratios = [f"{it[at + 1] / it[at]:.2f}" if it[at + 1] else "-" for at in (0, len(ENTRIES))]
+            shown = [f"{number:.0f}" if number else "-" for number in it]
+            print(f"| {key_set} | {name} | {' | '.join(shown + ratios)} |", flush=True)
+        for peer in ("art-list", "btree"):
+            if peer in found:
+                pairs = zip(found["map"], found[peer])
+                shown = [f"{here / there:.2f}" if there else "-" for here, there in pairs]
+                print(f"| {key_set} | map to {peer} | {' | '.join(shown)} | | |", flush=True)
+
+
+def entries(folder, made, asked):
+    """Entries beside insertions: nanoseconds of a key, the least of the repeats, and instructions where they are asked."""
+    size, made = asked.entries, {name: path for name, path in made.items() if name not in NO_ENTRIES}
+
+    def nanoseconds(key_set, name, path, before, step):
+        words = [f"{folder}/drive", path, key_set, str(size), str(asked.repeats), f"{before}{step}"]
+        *took, answered = map(int, called(words).split())
+        assert answered == size, f"{name} has {answered} pairs"
+        return took[-1] / size
+
+    entry_table(f"Entries of {size} keys, nanoseconds a key", asked, made, nanoseconds)
+    if not asked.instr:
+        return
+    size = asked.instr_size
+
+    def instructions_of(key_set, name, path, before, step):
+        insertions = counted(folder, path, key_set, size, "1")[0] if before else 0
+        return (counted(folder, path, key_set, size, f"{before}{step}")[0] - insertions) / size
+
+    entry_table(f"Entries of {size} keys, instructions a key", asked, made, instructions_of)
+
+
 def line_costs(folder, programs, key_set, size, repeats):
     """By program, nanoseconds of each kind of line and bytes a record: the least of the repeats, the programs in turn."""
     scripts = {it: f"{folder}/{it}" for it in ("none", *LINES)}
@@ -336,6 +397,7 @@ def main():
     parser.add_argument("--repeats", type=int, default=5)
     parser.add_argument("--walks", type=int, default=0)
     parser.add_argument("--ranges", type=int, default=0)
+    parser.add_argument("--entries", type=int, default=0)
     parser.add_argument("--program", default="")
     parser.add_argument("--instr", action="store_true")
     parser.add_argument("--instr-size", type=int, default=10000)
@@ -343,7 +405,7 @@ def main():
     asked = parser.parse_args()
     sizes = [int(it) for it in asked.sizes.split(",") if it]
     with tempfile.TemporaryDirectory() as folder:
-        made, peers = build(folder) if sizes or asked.walks or asked.ranges or asked.instr else {}, {}
+        made, peers = build(folder) if any((sizes, asked.walks, asked.ranges, asked.entries, asked.instr)) else {}, {}
         if asked.perf:
             tell("building the yardsticks and their peers")
             peers = yardsticks(folder, asked.perf)
@@ -356,6 +418,8 @@ def main():
             walks(folder, every, asked)
         if asked.ranges:
             ranges(folder, every, asked)
+        if asked.entries:
+            entries(folder, every, asked)
         if asked.instr:
             print(f"\nOf an insertion and of a look-up, {asked.instr_size} keys: instructions, misses of L1 and of L2:\n")
             print("| Keys | Map | insertion | L1 | L2 | look-up | L1 | L2 |\n|---|---|---:|---:|---:|---:|---:|---:|")

@@ -10,8 +10,9 @@
  * The call: strings end to end and where each ends, for keys and for queries; the value of key i is i. Steps: 1 inserts
  * all keys, 2 looks all queries up, 3 removes them, 4 walks from the front, 5 walks the pairs behind each query, 6
  * those from each query to below the next, two queries a walk, 7 clones, 8 walks from both ends in turn, 9
- * checks the tree, 10 frees the tree of a clone, 11 lets the map go. It answers the sum of what it found, and nanos[i]
- * is what step i took. */
+ * checks the tree, 10 frees the tree of a clone, 11 lets the map go, 12 inserts all queries, 13 asks for the entry of
+ * each, whose value is counted once more where it is stored and which is put in else, 14 does the same by a look-up
+ * and an insertion. It answers the sum of what it found, and nanos[i] is what step i took. */
 #define _GNU_SOURCE
 #include <dlfcn.h>
 #include <malloc.h>

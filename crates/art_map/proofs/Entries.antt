@@ -1,14 +1,12 @@
 -- What an entry shows: the pair of its leaf, before and after it is written.
-use Rattle.std.proofs.Common.{◌≡◌, ℕ, Bool, true, false, cond, List, [], ◌∷◌, Option, Some, None, IsSome, Result, Ok, Err, IfOk, IfErr, OnOk, OnErr, refl, sym, ap, subst, ◌∙◌, inl, inr}
+use Rattle.std.proofs.Common.{◌≡◌, ℕ, Bool, true, false, cond, List, [], ◌∷◌, Option, Some, None, IsSome, Result, Ok, Err, IfOk, IfErr, OnOk, OnErr, refl, sym, ap, subst, ◌∙◌}
 use mathlib.Core.Bool.{Bool-set}
 use Rattle.std.proofs.lemmas.Slice.Eq.{bytes_eq-Decides}
 use Rattle.art_bytes.specs.declared.as_bytes.AsBytes as as_bytes
 use Rattle.art_arena.specs.arena.Arena.{cell_of, node_at}
 use Rattle.art_arena.specs.arena.Cells.{Cell, branches, leaf_name, pair}
 use Rattle.art_arena.specs.arena.Shapes.{key_of}
-use Rattle.art_arena.specs.tree.Changes.{IsIn}
-use Rattle.art_arena.specs.tree.Order.{AscendsByKey}
-use Rattle.art_operations.specs.KeyedLists.{IsBlocked}
+use Rattle.art_operations.specs.KeyedLists.{without_key}
 use Rattle.art_arena.proofs.shapes.LeafValues.{leaf-there}
 use Rattle.art_operations.specs.Pairs.{with_pair_put}
 use Rattle.art_map.specs.Found.{IsFound, HasPairAt, HasPairUnder, leaf_pair, pair_under, has_leaf}
@@ -16,12 +14,11 @@ use Rattle.art_map.specs.Lends.{with_value_at}
 use Rattle.std.specs.Map.{lookup_entry}
 use Rattle.std.specs.Option.{unwrap_or}
 use Rattle.art_map.specs.Contents.{Contents, has_bytes}
-use Rattle.art_map.specs.Entries.{Occupied, Vacant, the, option_key, entry_key, entry_value, entry_pairs, with_entry_value, IsEntryOf, IsSame, IsWritten}
+use Rattle.art_map.specs.Entries.{Occupied, Vacant, the, option_key, entry_key, entry_value, entry_pairs, pairs_without, with_entry_value, IsEntryOf, IsSame, IsWritten}
 use Rattle.art_map.specs.declared.map.entry.OccupiedEntry.{OccupiedEntry}
 use Rattle.art_map.specs.declared.map.entry.VacantEntry.{VacantEntry}
 use Rattle.art_map.proofs.LookedUp.{lookup-value}
-use Rattle.art_map.proofs.Maps.{stored-free}
-use Rattle.art_map.proofs.Written.{one-pair, put-again}
+use Rattle.art_map.proofs.Written.{one-pair, put-again, without-again, without-put}
 
 the-is : {X : Type 0} (o : Option X) (there : IsSome o) (x : X) → o ≡ Some x → the o there ≡ x
 the-is None there x e = absurd (cc)
@@ -49,6 +46,13 @@ module _ {K V : Type 0} {P : ℕ} {M : Type 0} {g : as_bytes.Ghosts K} where
       value = value;
       writes = λ u. rw (pairs, key) (put-again g.bytes (entry_key (Occupied o)) w u o.map.now.pairs);
     }
+
+    -- written, it leaves the same pairs where it is removed
+    pub written-without : (d : OccupiedEntry K V P M g) (w : V) → IsWritten (Occupied o) w (Occupied d) → pairs_without (Occupied d) ≡ pairs_without (Occupied o)
+    written-without d w did =
+        let k = entry_key (Occupied o) in
+        rw (did.pairs, did.key)
+        (without-put (key_of g.bytes) (g.bytes k) (k, w) refl (without_key (key_of g.bytes) (g.bytes k) o.map.now.pairs) ∙ without-again (key_of g.bytes) (g.bytes k) o.map.now.pairs)
 
     pub has-pair : HasPairAt o.map.now o.leaf (the (pair_under o.map.now o.leaf) o.held)
     has-pair = go (node_at o.map.now.nodes (leaf_name o.leaf)) o.held
@@ -108,20 +112,6 @@ module _ {K V : Type 0} where
       here : (b : Bool) → test q.0 ≡ b → cond b (Some q) (lookup_entry test qs) ≡ Some p → (lookup_entry test qs ≡ Some p → test p.0 ≡ true) → test p.0 ≡ true
       here true is e later = let same : q ≡ p = cc in subst (λ (r : K × V). test r.0 ≡ true) same is
       here false is e later = later e
-
-  -- and it is among the pairs
-  found-in : (test : K → Bool) (pairs : List (K × V)) (p : K × V) → lookup_entry test pairs ≡ Some p → IsIn p pairs
-  found-in test [] p e = absurd (cc)
-  found-in test (q ∷ qs) p e = here (test q.0) e (found-in test qs p)
-    where
-      here : (b : Bool) → cond b (Some q) (lookup_entry test qs) ≡ Some p → (lookup_entry test qs ≡ Some p → IsIn p qs) → IsIn p (q ∷ qs)
-      here true e later = inl (cc)
-      here false e later = inr (later e)
-
-  -- so no other pair blocks its key
-  pub found-free : (bytes : K → List ℕ) (m : Contents K V) → AscendsByKey (key_of bytes) m.pairs → (query key : List ℕ) → query ≡ key → (slot : ℕ) → IsFound (has_bytes bytes query) m (Some slot) → IsBlocked (key_of bytes) key m.pairs → ⊥
-  found-free bytes m up query key asked slot (p, has, entry, written) =
-      stored-free bytes m.pairs up key (p, found-in (has_bytes bytes query) m.pairs p entry, (bytes_eq-Decides (bytes p.0) query).0 (passes (has_bytes bytes query) m.pairs p entry) ∙ asked)
 
 module _ {K V : Type 0} {P : ℕ} {M : Type 0} {g : as_bytes.Ghosts K} (m : Contents K V) (key : K) (query : List ℕ) (asked : query ≡ g.bytes key) where
   -- the entry of the leaf that is found, and the entry where none is

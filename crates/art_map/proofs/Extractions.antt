@@ -7,7 +7,7 @@ use Rattle.art_nodes.specs.Name.{Name}
 use Rattle.art_arena.specs.arena.Arena.{node_at, links_at, held_at}
 use Rattle.art_arena.specs.arena.Cells.{Cell, pair, branches, leaf_name}
 use Rattle.art_arena.specs.arena.Linked.{first_slot, IsList}
-use Rattle.art_arena.specs.arena.Shapes.{LeafAt, leaves, pairs_of}
+use Rattle.art_arena.specs.arena.Shapes.{LeafAt, pairs_of}
 use Rattle.art_arena.specs.declared.ends.End.{End}
 use Rattle.art_arena.specs.declared.ends.End.TheVariants.{First, Last}
 use Rattle.art_arena.proofs.shapes.Meanings.{nodes-part}

@@ -6,9 +6,11 @@ pub mod LentIters
 pub mod Written
 pub mod LookedUp
 pub mod Maps
+pub mod Places
 pub mod MapLeaves
 pub mod WrittenRuns
 pub mod Overlapped
 pub mod Overwritten
 pub mod Extractions
+pub mod Asks
 pub mod Ranges

@@ -19,6 +19,8 @@ use Rattle.art_operations.proofs.RangeEnds.{tree_ascends}
 use Rattle.art_operations.proofs.Stretches.{IsConvex, stretch}
 use Rattle.art_map.specs.Contents.{contents, IsMap, pairs_from}
 use Rattle.art_map.specs.Leaves.{IsRun}
+use Rattle.art_map.specs.Ranges.{pairs_between}
+use Rattle.std.specs.declared.ops.Bound.TheVariants.{Unbounded}
 use Rattle.art_map.specs.Walked.{IsWalkOf}
 use Rattle.art_walks.specs.Runs.{Ends, HasEnds}
 use Rattle.art_map.proofs.MapLeaves.{map-leaves}
@@ -113,3 +115,8 @@ module _ {K V : Type 0} (bytes : K → List ℕ) (is_key : K → Type 0) (P : �
         run = record { leaves = []; walk = record { xs = []; zs = []; list = record { linked = tt; once = λ n. omega arith }; ends_are = refl }; stored = tt; len_is = refl };
         pairs_are = refl;
       })
+
+-- where neither bound is named, all are between
+pub all-between : {K V : Type 0} (bytes : K → List ℕ) (pairs : List (K × V)) → pairs_between bytes Unbounded Unbounded pairs ≡ pairs
+all-between bytes [] = refl
+all-between bytes (p ∷ pairs) = ap (λ ps. p ∷ ps) (all-between bytes pairs)

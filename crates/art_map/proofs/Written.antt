@@ -29,7 +29,7 @@ module _ {X : Type 0} (key : X → List ℕ) where
       here true later = rw (same_key (key x) k same) refl
       here false later = ap (λ zs. cond (not (bytes_eq (key y) k)) (y ∷ zs) zs) later
 
-  without-again : (k : List ℕ) (xs : List X) → without_key key k (without_key key k xs) ≡ without_key key k xs
+  pub without-again : (k : List ℕ) (xs : List X) → without_key key k (without_key key k xs) ≡ without_key key k xs
   without-again k [] = refl
   without-again k (x ∷ xs) = here (bytes_eq (key x) k) refl (without-again k xs)
     where

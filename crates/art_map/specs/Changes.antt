@@ -13,8 +13,8 @@ IsTryRefused bytes pairs key value (Prefix k v error) =
     (k ≡ key) × (v ≡ value) × (error.byte_repr ≡ bytes key) × IsBlocked (key_of bytes) (bytes key) pairs
 IsTryRefused bytes pairs key value (Memory k v) = (k ≡ key) × (v ≡ value)
 
--- the same of a key alone
+-- the key is handed back, and a stored key blocks it: its bytes are told; or no memory for them was found
 abbrev pub IsKeyRefused : {K V : Type 0} → (K → List ℕ) → List (K × V) → K → TryKeyError K → Type 0
 IsKeyRefused bytes pairs wanted (key.Prefix k error) =
     (k ≡ wanted) × (error.byte_repr ≡ bytes wanted) × IsBlocked (key_of bytes) (bytes wanted) pairs
-IsKeyRefused bytes pairs wanted (key.Memory k) = k ≡ wanted
+IsKeyRefused bytes pairs wanted (key.Memory k) = (k ≡ wanted) × IsBlocked (key_of bytes) (bytes wanted) pairs

@@ -9,6 +9,7 @@ pub mod Ranges
 pub mod Leaves
 pub mod Entries
 pub mod Extractions
+pub mod Asked
 pub mod LentRuns
 pub mod LentWalks
 pub mod LentIters

@@ -2,7 +2,7 @@
 pub use Rattle.art_map.specs.declared.map.prefix_entry.PrefixEntry.TheVariants.{Occupied, Vacant}
 pub use Rattle.art_map.specs.declared.map.prefix_entry.PrefixOccupied.TheVariants.{Leaf, Inner}
 use Rattle.std.specs.Prelude.{◌≡◌, ℕ, List, [], Option, Some, None, option_map, Result}
-use Rattle.std.specs.Borrow.{Fml, RattleType, MutBor, LendsSo, LendsSoOk, RestsIfErr}
+use Rattle.std.specs.Borrow.{Fml, RattleType, MutBor, Lends, LendsSo, LendsSoOk, RestsIfErr}
 use Rattle.std.specs.Map.{set_value}
 use Rattle.std.specs.Option.{OnSome}
 use denote.Param.{number}
@@ -121,6 +121,13 @@ module _ (K V : RattleType) (P : ℕ) (key : as_bytes.Ghosts K.Denot) where
       (λ n w. OnSome r (IsWithPairs e.now
       (set_value (overlaps_query key.bytes (key.bytes e.now.key)) e.now.map.now.pairs w) n))
       (λ n. IsWithPairs e.now e.now.map.now.pairs n)
+
+  -- once the borrow r of the map ends, the entry has the map that it leaves
+  abbrev pub lends_inner_map : MutBor (InnerOccupiedEntry K.Denot V.Denot P map_row.Denot)
+      → MutBor (Contents K.Denot V.Denot) → Fml
+  lends_inner_map e r =
+      Lends (inner.the_row (record { mir = named 1; lft = [] }) K V (number P) map_row key) map_row e r
+      (λ m. record { map = record e.now.map { now = m }; key = e.now.key; mark = e.now.mark })
 
   -- once the borrow r ends, the map has the last value written through r under the entry's key; where there is none,
   -- its pairs are as they were

@@ -6,6 +6,7 @@ ghost use Rattle.art_operations.specs.Runs.{HoldsTreeOf};
 
 mod changes;
 pub mod entry;
+pub mod extract_if;
 pub mod extraction;
 mod into_walks;
 pub mod iter_mut;

@@ -121,6 +121,60 @@ pub fn keep_last(counts: &mut TreeMap<[u8; 4], u32, 16>, number: usize) -> Resul
     Ok(())
 }
 
+/// Counts the words from one on down by one, and takes those out whose count is then none: how many those were.
+pub fn count_down(
+    counts: &mut TreeMap<[u8; 4], u32, 16>,
+    first: &[u8; 4],
+) -> Result<usize, AllocError> {
+    let all = counts.len();
+    let mut words = counts.extraction(Bound::Included(first), Bound::Unbounded);
+    for _ in 0..all {
+        let is_none = match words.front() {
+            Some(count) => {
+                *count = count.saturating_sub(1);
+                *count == 0
+            }
+            None => false,
+        };
+        if words.is_empty() {
+            break;
+        }
+        if is_none {
+            words.take_front()?;
+        } else {
+            words.pass_front();
+        }
+    }
+    Ok(all.saturating_sub(counts.len()))
+}
+
+/// Forgets the words from one on, up to another that is left out, that were seen fewer times than this: how many.
+pub fn forget_rare(
+    counts: &mut TreeMap<[u8; 4], u32, 16>,
+    first: &[u8; 4],
+    end: &[u8; 4],
+    least: u32,
+) -> Result<usize, AllocError> {
+    let [start, end] = [Bound::Included(first), Bound::Excluded(end)];
+    if !bounds_are_valid(start, end) {
+        return Ok(0);
+    }
+    let mut forgotten = 0usize;
+    for pair in counts.extract_if(start, end, |_, count| *count < least) {
+        let _pair = pair?;
+        forgotten = forgotten.saturating_add(1);
+    }
+    Ok(forgotten)
+}
+
+/// Halves all counts, and forgets the words whose count is then none.
+pub fn age(counts: &mut TreeMap<[u8; 4], u32, 16>) -> Result<(), AllocError> {
+    counts.retain(|_, count| {
+        *count /= 2;
+        *count > 0
+    })
+}
+
 /// The words and their counts in order, which leave the map one by one.
 pub fn into_list(
     alloc: Global,

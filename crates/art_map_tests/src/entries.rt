@@ -1,39 +1,8 @@
 //! Entries: each call in each of its outcomes, and rows from outside, for three numbers of stored bytes.
+use crate::seen::{has_values, is_tree, text};
 use art_bytes::{AsBytes, SliceKey, ZeroEnded};
 use art_map::{Entry, TreeMap, TryKeyError};
-use art_walks::WellFormedChecker;
 use std::alloc::{AllocError, Global};
-
-// A text as a key.
-fn text(alloc: Global, bytes: &[u8]) -> Result<ZeroEnded, AllocError> {
-    match ZeroEnded::new(bytes.to_vec(alloc)?) {
-        Ok(key) => Ok(key),
-        Err(_) => Err(AllocError),
-    }
-}
-
-// Whether the map's nodes are a tree of its pairs.
-fn is_tree<K: AsBytes, const PREFIX_LEN: usize>(
-    alloc: Global,
-    map: &TreeMap<K, usize, PREFIX_LEN>,
-) -> bool {
-    let (arena, root) = map.nodes();
-    WellFormedChecker::check(alloc, arena, root, map.len()).is_ok()
-}
-
-// Whether these are the values in order.
-fn has_values<K: AsBytes, const PREFIX_LEN: usize>(
-    map: &TreeMap<K, usize, PREFIX_LEN>,
-    wanted: &[usize],
-) -> bool {
-    let mut values = map.values();
-    for value in wanted {
-        if values.next() != Some(value) {
-            return false;
-        }
-    }
-    values.next().is_none()
-}
 
 // Adds ten to the value of a key, if it is stored, and answers the value.
 fn add_ten<const PREFIX_LEN: usize>(

@@ -1,24 +1,63 @@
-//! Entries where memory is refused: what a call answers then, and that the map is as it was. The runner refuses memory
-//! between the two lines of a window.
+//! Entries where memory is refused: what a call answers then, and that the map is as it was.
+
+use crate::refused::{CALLS, Call, Puts, is_kept};
+use crate::seen::{has_values, is_tree};
 use art_bytes::SliceKey;
 use art_map::{Entry, TreeMap, TryKeyError};
 use art_operations::InsertRefused;
-use art_walks::WellFormedChecker;
 use std::test::Fail;
 
 type Map = TreeMap<[u8; 5], usize, 1>;
 
-// A call of the entry of a key.
-#[derive(Clone, Copy)]
-enum Call {
-    InsertEntry,
-    OrInsert,
-    OrInsertEntry,
-    Remove,
+// The calls that lend the value.
+fn lends(map: &mut Map, key: [u8; 5], call: Call) -> Option<InsertRefused<[u8; 5], usize>> {
+    match call {
+        Call::OrDefault => map.entry(key).or_default().err(),
+        Call::OrInsertWith => map.entry(key).or_insert_with(|| 1000).err(),
+        Call::OrInsertWithKey => map.entry(key).or_insert_with_key(|_| 1000).err(),
+        _ => map.entry(key).or_insert(1000).err(),
+    }
 }
 
-// Keys below 100 part at the last byte; those from 100 on stand together two by two.
-fn key_of(n: u8) -> [u8; 5] {
+// Those that answer the entry.
+fn answers(map: &mut Map, key: [u8; 5], call: Call) -> Option<InsertRefused<[u8; 5], usize>> {
+    match call {
+        Call::OrInsertEntry => map.entry(key).or_insert_entry(1000).err(),
+        Call::OrDefaultEntry => map.entry(key).or_default_entry().err(),
+        Call::OrInsertWithEntry => map.entry(key).or_insert_with_entry(|| 1000).err(),
+        Call::OrInsertWithKeyEntry => map.entry(key).or_insert_with_key_entry(|_| 1000).err(),
+        _ => map.entry(key).insert_entry(1000).err(),
+    }
+}
+
+impl Puts<[u8; 5]> for Call {
+    fn put(&self, map: &mut Map, key: [u8; 5]) -> Option<InsertRefused<[u8; 5], usize>> {
+        if self.is_lending() {
+            lends(map, key, *self)
+        } else {
+            answers(map, key, *self)
+        }
+    }
+}
+
+// The two calls of a vacant entry: one lends the value, the other answers the entry.
+#[derive(Clone, Copy)]
+struct Vacant {
+    is_entry: bool,
+}
+
+impl Puts<[u8; 5]> for Vacant {
+    fn put(&self, map: &mut Map, key: [u8; 5]) -> Option<InsertRefused<[u8; 5], usize>> {
+        match map.entry(key) {
+            Entry::Vacant(entry) if self.is_entry => entry.insert_entry(1000).err(),
+            Entry::Vacant(entry) => entry.insert(1000).err(),
+            Entry::Occupied(_) => None,
+        }
+    }
+}
+
+/// Keys below 100 part at the last byte; those from 100 on stand together two by two, up to 179 in front of the former.
+pub(crate) fn key_of(n: u8) -> [u8; 5] {
     if n < 100 {
         [1, 2, 90, 4, n]
     } else {
@@ -26,89 +65,87 @@ fn key_of(n: u8) -> [u8; 5] {
     }
 }
 
-fn fill(map: &mut Map, from: u8, to: u8) {
+pub(crate) fn fill(map: &mut Map, from: u8, to: u8) {
     for n in from..to {
         let _ = map.insert(key_of(n), usize::from(n));
     }
 }
 
-// Whether an insertion was refused, and handed this pair back.
-fn is_back(refused: Option<InsertRefused<[u8; 5], usize>>, key: [u8; 5]) -> bool {
-    match refused {
-        Some(refused) => refused.key == key && refused.value == 1000,
-        None => false,
-    }
-}
-
-// Whether a call is refused. An insertion then hands its pair back.
-fn is_refused(map: &mut Map, key: [u8; 5], call: Call) -> bool {
-    match call {
-        Call::InsertEntry => is_back(map.entry(key).insert_entry(1000).err(), key),
-        Call::OrInsert => is_back(map.entry(key).or_insert(1000).err(), key),
-        Call::OrInsertEntry => is_back(map.entry(key).or_insert_entry(1000).err(), key),
-        Call::Remove => match map.entry(key) {
-            Entry::Occupied(entry) => entry.remove().is_err(),
-            Entry::Vacant(_) => false,
-        },
-    }
-}
-
-// Whether the map has so many pairs, this value under the key, and a tree of them.
-fn has(rt: &HostRuntime, map: &Map, pairs: usize, key: [u8; 5], value: Option<usize>) -> bool {
-    let (arena, root) = map.nodes();
-    map.len() == pairs
-        && map.get(&key).copied() == value
-        && WellFormedChecker::check(rt.alloc(), arena, root, pairs).is_ok()
-}
-
-// Whether a call in a window leaves the map as it was where it is refused, and is not refused where it is made again.
-fn keeps(rt: &HostRuntime, map: &mut Map, key: [u8; 5], call: Call) -> Result<bool, Fail> {
-    let pairs = map.len();
-    let old = map.get(&key).copied();
-    eprintln!(rt; "refuse")?;
-    let refused = is_refused(map, key, call);
-    eprintln!(rt; "{}", if refused { "refused" } else { "ok" })?;
-    Ok(!refused || (has(rt, map, pairs, key, old) && !is_refused(map, key, call)))
-}
-
 // A call of the fifth key of a node of four.
-fn grows(rt: &HostRuntime, map: &mut Map, call: Call) -> Result<bool, Fail> {
+fn grows<C: Puts<[u8; 5]>>(
+    rt: &HostRuntime,
+    map: &mut Map,
+    call: &C,
+    value: usize,
+) -> Result<bool, Fail> {
     fill(map, 0, 4);
-    Ok(keeps(rt, map, key_of(4), call)? && has(rt, map, 5, key_of(4), Some(1000)))
+    let key = key_of(4);
+    let is_as_it_should_be = is_kept(rt, map, call, key, &key, &[0, 1, 2, 3])?;
+    Ok(is_as_it_should_be && has_values(map, &[0, 1, 2, 3, value]) && is_tree(rt.alloc(), map))
+}
+
+// The same of a new map.
+fn makes_grow<C: Puts<[u8; 5]>>(rt: &HostRuntime, call: &C, value: usize) -> Result<bool, Fail> {
+    let mut map = Map::with_prefix_len(rt.alloc());
+    grows(rt, &mut map, call, value)
 }
 
 #[test]
-fn an_entry_that_is_put_in(rt: HostRuntime) -> Result<(), Fail> {
-    let mut map = Map::with_prefix_len(rt.alloc());
-    assert!(rt; grows(&rt, &mut map, Call::OrInsert)?);
+fn entries_that_are_put_in(rt: HostRuntime) -> Result<(), Fail> {
+    for call in CALLS {
+        assert!(rt; makes_grow(&rt, &call, call.value())?);
+    }
     Ok(())
 }
 
 #[test]
-fn an_entry_that_is_answered(rt: HostRuntime) -> Result<(), Fail> {
-    let mut map = Map::with_prefix_len(rt.alloc());
-    assert!(rt; grows(&rt, &mut map, Call::OrInsertEntry)?);
+fn vacant_entries_that_are_put_in(rt: HostRuntime) -> Result<(), Fail> {
+    for is_entry in [false, true] {
+        assert!(rt; makes_grow(&rt, &Vacant { is_entry }, 1000)?);
+    }
     Ok(())
 }
 
-#[test]
-fn an_entry_that_is_set(rt: HostRuntime) -> Result<(), Fail> {
-    let mut map = Map::with_prefix_len(rt.alloc());
-    assert!(rt; grows(&rt, &mut map, Call::InsertEntry)?);
-    Ok(())
+// Whether a removal of a stored key is refused: that of the pair, or that of the value alone.
+fn is_refused(map: &mut Map, key: [u8; 5], is_pair: bool) -> bool {
+    match map.entry(key) {
+        Entry::Occupied(entry) if is_pair => entry.remove_entry().is_err(),
+        Entry::Occupied(entry) => entry.remove().is_err(),
+        Entry::Vacant(_) => true,
+    }
 }
 
 // The removal of one of five keys of a node, where six other keys leave no room for a node of four.
-fn shrinks(rt: &HostRuntime, map: &mut Map) -> Result<bool, Fail> {
+fn shrinks(rt: &HostRuntime, map: &mut Map, is_pair: bool) -> Result<bool, Fail> {
     fill(map, 0, 5);
     fill(map, 200, 206);
-    Ok(keeps(rt, map, key_of(2), Call::Remove)? && has(rt, map, 10, key_of(2), None))
+    eprintln!(rt; "refuse")?;
+    let refused = is_refused(map, key_of(2), is_pair);
+    eprintln!(rt; "{}", if refused { "refused" } else { "ok" })?;
+    if refused {
+        let all = [0, 1, 2, 3, 4, 200, 201, 202, 203, 204, 205];
+        if !has_values(map, &all)
+            || !is_tree(rt.alloc(), map)
+            || is_refused(map, key_of(2), is_pair)
+        {
+            return Ok(false);
+        }
+    }
+    let rest = [0, 1, 3, 4, 200, 201, 202, 203, 204, 205];
+    Ok(has_values(map, &rest) && is_tree(rt.alloc(), map))
+}
+
+#[test]
+fn an_entry_whose_value_is_removed(rt: HostRuntime) -> Result<(), Fail> {
+    let mut map = Map::with_prefix_len(rt.alloc());
+    assert!(rt; shrinks(&rt, &mut map, false)?);
+    Ok(())
 }
 
 #[test]
 fn an_entry_that_is_removed(rt: HostRuntime) -> Result<(), Fail> {
     let mut map = Map::with_prefix_len(rt.alloc());
-    assert!(rt; shrinks(&rt, &mut map)?);
+    assert!(rt; shrinks(&rt, &mut map, true)?);
     Ok(())
 }
 
@@ -117,12 +154,13 @@ fn is_stored(rt: &HostRuntime, map: &mut Map) -> Result<bool, Fail> {
     fill(map, 0, 4);
     let key = key_of(1);
     eprintln!(rt; "refuse")?;
-    let refused = is_refused(map, key, Call::OrInsert)
-        || is_refused(map, key, Call::InsertEntry)
-        || is_refused(map, key, Call::OrInsertEntry)
-        || is_refused(map, key, Call::Remove);
+    let mut refused = false;
+    for call in CALLS {
+        refused = refused || call.put(map, key).is_some();
+    }
+    refused = refused || is_refused(map, key, false);
     eprintln!(rt; "{}", if refused { "refused" } else { "ok" })?;
-    Ok(has(rt, map, 3, key, None))
+    Ok(has_values(map, &[0, 2, 3]) && is_tree(rt.alloc(), map))
 }
 
 #[test]

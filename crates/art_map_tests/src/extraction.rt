@@ -1,6 +1,9 @@
-//! Extraction: each mixture of ends and decisions over small maps, against a list.
+//! Extraction: each mixture of ends and decisions, against a list.
 
+use crate::small_maps::fill;
+use art_bytes::SliceKey;
 use art_map::{Extraction, TreeMap};
+use art_walks::bounds_are_valid;
 use std::alloc::{AllocError, Global};
 use std::ops::Bound;
 
@@ -42,12 +45,12 @@ fn is_among(keys: &[[u8; 2]], wanted: &[u8; 2]) -> bool {
     false
 }
 
-// Those of the seven keys that were not taken out.
-fn others(alloc: Global, taken: &[[u8; 2]]) -> Result<Vec<[u8; 2]>, AllocError> {
+// Those of a map's keys that were not taken out.
+fn others(alloc: Global, keys: &[[u8; 2]], taken: &[[u8; 2]]) -> Result<Vec<[u8; 2]>, AllocError> {
     let mut left: Vec<[u8; 2]> = Vec::new(alloc);
-    for key in KEYS {
-        if !is_among(taken, &key) {
-            left.push(key)?;
+    for key in keys {
+        if !is_among(taken, key) {
+            left.push(*key)?;
         }
     }
     Ok(left)
@@ -68,23 +71,18 @@ fn has_keys<const PREFIX_LEN: usize>(
     keys.next().is_none()
 }
 
-// Whether an extraction asks the keys in turn, each of which is at an end and taken out or not as two bits say.
-fn agrees<const PREFIX_LEN: usize>(
+// The keys that an extraction takes out, in turn, of those that it asks, each of which is at an end and taken out or
+// not as two bits of the mixture say. It is `None` where the extraction takes another key.
+fn taken_of<const PREFIX_LEN: usize>(
     alloc: Global,
-    map: &mut TreeMap<[u8; 2], u8, PREFIX_LEN>,
+    pairs: &mut Extraction<'_, [u8; 2], u8, PREFIX_LEN>,
+    asked: &[[u8; 2]],
     mixture: u32,
-) -> Result<bool, AllocError> {
-    map.clear();
-    for key in KEYS {
-        if map.insert(key, 0).is_err() {
-            return Err(AllocError);
-        }
-    }
+) -> Result<Option<Vec<[u8; 2]>>, AllocError> {
     let mut taken: Vec<[u8; 2]> = Vec::new(alloc);
-    let mut expected = ASKED.iter();
+    let mut expected = asked.iter();
     let mut rest = mixture;
-    let mut pairs = map.extraction(Bound::Excluded(&[1u8, 2]), Bound::Included(&[5u8, 1]));
-    for _ in 0..=ASKED.len() {
+    for _ in 0..=asked.len() {
         let is_back = rest & 1 == 1;
         let takes = rest & 2 == 2;
         rest >>= 2;
@@ -94,41 +92,69 @@ fn agrees<const PREFIX_LEN: usize>(
             expected.next()
         };
         if pairs.is_empty() != next.is_none() {
-            return Ok(false);
+            return Ok(None);
         }
-        if let Some(key) = ask(&mut pairs, is_back, takes)? {
+        if let Some(key) = ask(pairs, is_back, takes)? {
             if next != Some(&key) {
-                return Ok(false);
+                return Ok(None);
             }
             taken.push(key)?;
         }
     }
-    let left = others(alloc, taken.as_slice())?;
-    Ok(has_keys(map, left.as_slice()))
+    Ok(Some(taken))
 }
 
-// Whether this is so of each mixture.
-fn all_agree<const PREFIX_LEN: usize>(
+// How many mixtures there are of so many pairs that are asked, and where they are five, of one step more.
+const MIXTURES: [u32; 6] = [1, 4, 16, 64, 256, 4096];
+
+/// Whether an extraction between two bounds of a map of these keys asks those of `asked`, in each mixture, and leaves
+/// the others.
+pub(crate) fn all_mixtures_agree<const PREFIX_LEN: usize>(
     alloc: Global,
     map: &mut TreeMap<[u8; 2], u8, PREFIX_LEN>,
+    keys: &[[u8; 2]],
+    start: Bound<&SliceKey<'_>>,
+    end: Bound<&SliceKey<'_>>,
+    asked: &[[u8; 2]],
 ) -> Result<bool, AllocError> {
-    for mixture in 0u32..4096 {
-        if !agrees(alloc, map, mixture)? {
+    if !bounds_are_valid(start, end) {
+        return Ok(asked.is_empty());
+    }
+    for mixture in 0..MIXTURES[asked.len().min(5)] {
+        if !fill(map, keys) {
+            return Err(AllocError);
+        }
+        let mut pairs = map.extraction(start, end);
+        let Some(taken) = taken_of(alloc, &mut pairs, asked, mixture)? else {
+            return Ok(false);
+        };
+        let left = others(alloc, keys, taken.as_slice())?;
+        if !has_keys(map, left.as_slice()) {
             return Ok(false);
         }
     }
     Ok(true)
 }
 
+// Whether this is so of five of seven keys, a node of which gets a smaller one.
+fn seven_agree<const PREFIX_LEN: usize>(
+    alloc: Global,
+    map: &mut TreeMap<[u8; 2], u8, PREFIX_LEN>,
+) -> Result<bool, AllocError> {
+    let [start, end] = [SliceKey(&[1, 2]), SliceKey(&[5, 1])];
+    let bounds = [Bound::Excluded(&start), Bound::Included(&end)];
+    all_mixtures_agree(alloc, map, &KEYS, bounds[0], bounds[1], &ASKED)
+}
+
 #[test]
 fn every_mixture_of_ends_and_decisions(rt: HostRuntime) {
     let alloc = rt.alloc();
     let mut map: TreeMap<[u8; 2], u8, 16> = TreeMap::new(alloc);
-    assert!(rt; matches!(all_agree(alloc, &mut map), Ok(true)));
+    assert!(rt; matches!(seven_agree(alloc, &mut map), Ok(true)));
     let mut map: TreeMap<[u8; 2], u8, 4> = TreeMap::with_prefix_len(alloc);
-    assert!(rt; matches!(all_agree(alloc, &mut map), Ok(true)));
+    assert!(rt; matches!(seven_agree(alloc, &mut map), Ok(true)));
     let mut map: TreeMap<[u8; 2], u8, 0> = TreeMap::with_prefix_len(alloc);
-    assert!(rt; matches!(all_agree(alloc, &mut map), Ok(true)));
+    assert!(rt; matches!(seven_agree(alloc, &mut map), Ok(true)));
 }
 
 #[test]

@@ -1,9 +1,8 @@
-//! Walks that own their pairs: from either end in any mixture against a sorted list, and what they drop. A map is made
+//! Walks that own their pairs: from either end in any mixture against a list, and what they drop. A map is made
 //! and used up by functions of one way out, and the walk is lent to the others.
 use crate::calling::{into_list, last_word};
-use crate::ranges::{KEYS, MIXTURES};
+use crate::small_maps::{KEYS, MIXTURES, Walk, choose, has_steps, number_of};
 use art_map::TreeMap;
-use art_walks::IntoIter;
 use std::alloc::{AllocError, Global};
 use std::rc::Rc;
 use std::test::Fail;
@@ -25,25 +24,14 @@ fn fill<const PREFIX_LEN: usize>(
     true
 }
 
-// Whether a walk has the pairs of these keys, from its front where the mixture's bit for the step is 0, else from its
-// back, and tells before each step how many are still to come.
-fn steps_agree<const PREFIX_LEN: usize>(
-    walk: &mut IntoIter<[u8; 2], u8, PREFIX_LEN>,
-    keys: &[[u8; 2]],
-    mixture: u32,
-) -> bool {
-    let mut expected = keys.iter();
-    for step in 0u32..6 {
-        let len = expected.len();
-        if (*walk).len() != len || (*walk).size_hint() != (len, Some(len)) {
-            return false;
-        }
-        let (found, wanted) = if (mixture >> step) & 1 == 0 {
-            (walk.next(), expected.next())
-        } else {
-            (walk.next_back(), expected.next_back())
-        };
-        if found != wanted.map(|key| (*key, value_of(*key))) {
+// Whether a walk has these keys, each with its value.
+fn owns<W: Walk>(walk: &mut W, keys: &[[u8; 2]], mixture: u32) -> bool {
+    let mut values = [0u8; 9];
+    if !has_steps(walk, mixture, keys, &mut values) {
+        return false;
+    }
+    for key in keys {
+        if values.get(number_of(key)) != Some(&value_of(*key)) {
             return false;
         }
     }
@@ -65,7 +53,7 @@ impl Steps for Stores0 {
     fn agree(alloc: Global, keys: &[[u8; 2]], mixture: u32) -> bool {
         let mut map: TreeMap<[u8; 2], u8, 0> = TreeMap::with_prefix_len(alloc);
         let is_filled = fill(&mut map, keys);
-        is_filled && steps_agree(&mut map.into_iter(), keys, mixture)
+        is_filled && owns(&mut map.into_iter(), keys, mixture)
     }
 }
 
@@ -73,7 +61,7 @@ impl Steps for Stores4 {
     fn agree(alloc: Global, keys: &[[u8; 2]], mixture: u32) -> bool {
         let mut map: TreeMap<[u8; 2], u8, 4> = TreeMap::with_prefix_len(alloc);
         let is_filled = fill(&mut map, keys);
-        is_filled && steps_agree(&mut map.into_iter(), keys, mixture)
+        is_filled && owns(&mut map.into_iter(), keys, mixture)
     }
 }
 
@@ -81,7 +69,7 @@ impl Steps for Stores16 {
     fn agree(alloc: Global, keys: &[[u8; 2]], mixture: u32) -> bool {
         let mut map: TreeMap<[u8; 2], u8, 16> = TreeMap::with_prefix_len(alloc);
         let is_filled = fill(&mut map, keys);
-        is_filled && steps_agree(&mut map.into_iter(), keys, mixture)
+        is_filled && owns(&mut map.into_iter(), keys, mixture)
     }
 }
 
@@ -92,14 +80,7 @@ fn all_agree<S: Steps>(alloc: Global) -> Result<bool, AllocError> {
         if chosen.count_ones() > 4 {
             continue;
         }
-        keys.clear();
-        let mut rest = chosen;
-        for key in KEYS {
-            if rest & 1 == 1 {
-                keys.push(key)?;
-            }
-            rest >>= 1;
-        }
+        choose(&mut keys, chosen)?;
         for mixture in 32..MIXTURES[keys.len().min(4)] {
             if !S::agree(alloc, keys.as_slice(), mixture) {
                 return Ok(false);

@@ -1,21 +1,13 @@
 //! Prefix entries: each kind of entry, what its calls lend and put in, and the pairs that an insertion removes. The
 //! keys own their bytes: the borrow checker does not cover a match on a prefix entry whose key holds a reference.
 
-use art_bytes::AsBytes;
+use crate::seen::{has_values, is_tree};
+use art_bytes::{AsBytes, StrKey};
 use art_map::{PrefixEntry, PrefixOccupied, TreeMap};
-use art_walks::{SubtreeIter, WellFormedChecker};
+use art_walks::SubtreeIter;
 use std::alloc::{AllocError, Global};
 
-// Whether the map's nodes are a tree of its pairs.
-fn is_tree<K: AsBytes, const PREFIX_LEN: usize>(
-    alloc: Global,
-    map: &TreeMap<K, usize, PREFIX_LEN>,
-) -> bool {
-    let (arena, root) = map.nodes();
-    WellFormedChecker::check(alloc, arena, root, map.len()).is_ok()
-}
-
-// Whether the values of a walk are these.
+// Whether the values of a walk are these, from the front.
 fn walks<K, const PREFIX_LEN: usize>(
     walk: &mut SubtreeIter<'_, K, usize, PREFIX_LEN>,
     wanted: &[usize],
@@ -29,6 +21,20 @@ fn walks<K, const PREFIX_LEN: usize>(
     walk.next().is_none() && walk.next_back().is_none()
 }
 
+// Whether they are, from the back.
+fn walks_back<K, const PREFIX_LEN: usize>(
+    walk: &mut SubtreeIter<'_, K, usize, PREFIX_LEN>,
+    wanted: &[usize],
+) -> bool {
+    for value in wanted.iter().rev() {
+        match walk.next_back() {
+            Some((_, found)) if *found == *value => {}
+            _ => return false,
+        }
+    }
+    walk.next_back().is_none() && walk.next().is_none()
+}
+
 // Whether the entry of a key in conflict shows what an insertion would remove.
 fn shows<const PREFIX_LEN: usize>(
     map: &mut TreeMap<Vec<u8>, usize, PREFIX_LEN>,
@@ -39,6 +45,7 @@ fn shows<const PREFIX_LEN: usize>(
         PrefixEntry::Occupied(PrefixOccupied::Inner(entry)) => {
             let is_lone = wanted.len() == 1;
             walks(&mut entry.iter(), wanted)
+                && walks_back(&mut entry.iter(), wanted)
                 && entry.get().is_some() == is_lone
                 && entry.get_key().is_some() == is_lone
         }
@@ -62,26 +69,104 @@ fn put_over<const PREFIX_LEN: usize>(
     }
 }
 
+// Puts texts in, each with its number.
+fn put_texts<const PREFIX_LEN: usize>(
+    alloc: Global,
+    map: &mut TreeMap<Vec<u8>, usize, PREFIX_LEN>,
+    texts: &[&[u8]],
+) -> Result<(), AllocError> {
+    for (value, text) in (0usize..).zip(texts) {
+        if map.try_insert(text.to_vec(alloc)?, value).is_err() {
+            return Err(AllocError);
+        }
+    }
+    Ok(())
+}
+
 fn bytes_give_way<const PREFIX_LEN: usize>(
     alloc: Global,
     map: &mut TreeMap<Vec<u8>, usize, PREFIX_LEN>,
 ) -> Result<bool, AllocError> {
-    for key in [b"abc", b"abd", b"xyz"] {
-        if map.try_insert(key.to_vec(alloc)?, 1).is_err() {
-            return Err(AllocError);
-        }
-    }
-    if !shows(map, b"ab".to_vec(alloc)?, &[1, 1]) || !shows(map, b"xyza".to_vec(alloc)?, &[1]) {
+    put_texts(alloc, map, &[b"abc", b"abd", b"xyz"])?;
+    if !shows(map, b"ab".to_vec(alloc)?, &[0, 1]) || !shows(map, b"xyza".to_vec(alloc)?, &[2]) {
         return Ok(false);
     }
     let lent = put_over(map, b"ab".to_vec(alloc)?);
-    Ok(lent == Some(7) && map.len() == 2 && is_tree(alloc, map))
+    Ok(lent == Some(7) && has_values(map, &[7, 2]) && is_tree(alloc, map))
+}
+
+// Whether a greeting takes the place of those that go on behind it, and what stands beside them stays.
+fn greetings_give_way<const PREFIX_LEN: usize>(
+    alloc: Global,
+    map: &mut TreeMap<Vec<u8>, usize, PREFIX_LEN>,
+) -> Result<bool, AllocError> {
+    let texts: [&[u8]; 4] = [
+        b"Hello from Germany",
+        b"Hello from France",
+        b"Hello from Belgium",
+        b"Anyone on Mars?",
+    ];
+    put_texts(alloc, map, &texts)?;
+    if !shows(map, b"Hello from".to_vec(alloc)?, &[2, 1, 0]) {
+        return Ok(false);
+    }
+    let lent = put_over(map, b"Hello from".to_vec(alloc)?);
+    Ok(lent == Some(7) && map.len() == 2 && has_values(map, &[3, 7]) && is_tree(alloc, map))
 }
 
 #[test]
 fn a_front_is_put_in_and_lent(rt: HostRuntime) {
     let mut map: TreeMap<Vec<u8>, usize, 0> = TreeMap::with_prefix_len(rt.alloc());
     assert!(rt; matches!(bytes_give_way(rt.alloc(), &mut map), Ok(true)));
+    map.clear();
+    assert!(rt; matches!(greetings_give_way(rt.alloc(), &mut map), Ok(true)));
+    let mut map: TreeMap<Vec<u8>, usize, 4> = TreeMap::with_prefix_len(rt.alloc());
+    assert!(rt; matches!(greetings_give_way(rt.alloc(), &mut map), Ok(true)));
+    let mut map: TreeMap<Vec<u8>, usize, 16> = TreeMap::with_prefix_len(rt.alloc());
+    assert!(rt; matches!(greetings_give_way(rt.alloc(), &mut map), Ok(true)));
+}
+
+// The value that the entry of a key has once it is put in.
+fn put_in<const PREFIX_LEN: usize>(
+    map: &mut TreeMap<Vec<u8>, usize, PREFIX_LEN>,
+    key: Vec<u8>,
+    value: usize,
+) -> Result<usize, AllocError> {
+    Ok(
+        *map.prefix_entry(key)
+            .insert_entry(value)
+            .map_err(|_| AllocError)?
+            .get(),
+    )
+}
+
+// Whether two texts get new values, and then a front of the first takes that pair's place.
+fn texts_are_put_over<const PREFIX_LEN: usize>(
+    alloc: Global,
+    map: &mut TreeMap<Vec<u8>, usize, PREFIX_LEN>,
+) -> Result<bool, AllocError> {
+    put_texts(alloc, map, &[b"abb", b"b"])?;
+    Ok(
+        put_in(map, b"abb".to_vec(alloc)?, 11)? == 11
+            && put_in(map, b"b".to_vec(alloc)?, 22)? == 22
+            && has_values(map, &[11, 22])
+            && put_in(map, b"ab".to_vec(alloc)?, 33)? == 33
+            && map.get(&StrKey("abb")).is_none()
+            && map.get(&StrKey("b")) == Some(&22)
+            && map.get(&StrKey("ab")) == Some(&33)
+            && has_values(map, &[33, 22])
+            && is_tree(alloc, map),
+    )
+}
+
+#[test]
+fn a_front_takes_the_place_of_a_text(rt: HostRuntime) {
+    let mut map: TreeMap<Vec<u8>, usize, 0> = TreeMap::with_prefix_len(rt.alloc());
+    assert!(rt; matches!(texts_are_put_over(rt.alloc(), &mut map), Ok(true)));
+    let mut map: TreeMap<Vec<u8>, usize, 4> = TreeMap::with_prefix_len(rt.alloc());
+    assert!(rt; matches!(texts_are_put_over(rt.alloc(), &mut map), Ok(true)));
+    let mut map: TreeMap<Vec<u8>, usize, 16> = TreeMap::with_prefix_len(rt.alloc());
+    assert!(rt; matches!(texts_are_put_over(rt.alloc(), &mut map), Ok(true)));
 }
 
 // The values that the calls of a prefix entry lend, of six keys the first two of which are stored.
@@ -126,7 +211,7 @@ fn entry_values<const PREFIX_LEN: usize>(
         .get();
     let b = *map
         .prefix_entry(*b"b\0")
-        .or_default_entry()
+        .or_insert_entry(12)
         .map_err(|_| AllocError)?
         .get();
     let c = *map
@@ -160,7 +245,11 @@ fn lends<const PREFIX_LEN: usize>(
     map.insert(*b"a\0", 1).map_err(|_| AllocError)?;
     map.insert(*b"b\0", 2).map_err(|_| AllocError)?;
     let lent = lent_values(map)?;
-    Ok(lent == [1, 2, 13, 0, 14, 2] && map.len() == 6 && is_tree(alloc, map))
+    Ok(
+        lent == [1, 2, 13, 0, 14, 2]
+            && has_values(map, &[1, 2, 13, 0, 14, 2])
+            && is_tree(alloc, map),
+    )
 }
 
 fn lends_entries<const PREFIX_LEN: usize>(
@@ -170,7 +259,11 @@ fn lends_entries<const PREFIX_LEN: usize>(
     map.insert(*b"a\0", 1).map_err(|_| AllocError)?;
     map.insert(*b"b\0", 2).map_err(|_| AllocError)?;
     let lent = entry_values(map)?;
-    Ok(lent == [1, 2, 13, 0, 14, 2] && map.len() == 6 && is_tree(alloc, map))
+    Ok(
+        lent == [1, 2, 13, 0, 14, 2]
+            && has_values(map, &[1, 2, 13, 0, 14, 2])
+            && is_tree(alloc, map),
+    )
 }
 
 #[test]

@@ -1,7 +1,7 @@
 //! Rows from outside: what calls answer one after the other.
 use crate::calling::{
-    block_of, blocks_within, count, count_between, films, give, keep_last, raise_between, spread,
-    tally,
+    age, block_of, blocks_within, count, count_between, count_down, films, forget_rare, give,
+    keep_last, owner_of, raise_between, spread, tally,
 };
 use art_bytes::{AsBytes, SliceKey, StrKey};
 use art_map::{TreeMap, TryInsertError};
@@ -117,6 +117,9 @@ fn a_caller_finds_a_block(rt: HostRuntime) {
     assert!(rt; blocks_within(&blocks, &[11]) == (None, None));
     assert!(rt; matches!(give(&mut blocks, &[10], 8), Ok(2)));
     assert!(rt; block_of(&blocks, &[10, 2, 2, 3]) == Some(&8));
+    assert!(rt; matches!(owner_of(&mut blocks, &[10], 5), Ok(8)));
+    assert!(rt; matches!(owner_of(&mut blocks, &[10, 2], 6), Ok(6)));
+    assert!(rt; block_of(&blocks, &[10, 1, 2, 3]).is_none());
 }
 
 #[test]
@@ -138,6 +141,20 @@ fn a_caller_counts_words(rt: HostRuntime) {
     assert!(rt; counts.get(b"tree") == Some(&4) && counts.get(b"leaf") == Some(&1));
     assert!(rt; keep_last(&mut counts, 1).is_ok());
     assert!(rt; counts.len() == 1 && counts.contains_key(b"tree"));
+}
+
+#[test]
+fn a_caller_forgets_words(rt: HostRuntime) {
+    let mut counts: TreeMap<[u8; 4], u32, 16> = TreeMap::new(rt.alloc());
+    assert!(rt; counts.insert(*b"leaf", 1).is_ok() && counts.insert(*b"root", 2).is_ok());
+    assert!(rt; counts.insert(*b"tree", 4).is_ok() && counts.insert(*b"wood", 8).is_ok());
+    assert!(rt; matches!(forget_rare(&mut counts, b"root", b"leaf", 9), Ok(0)));
+    assert!(rt; matches!(forget_rare(&mut counts, b"a...", b"tree", 2), Ok(1)));
+    assert!(rt; matches!(count_down(&mut counts, b"s..."), Ok(0)));
+    assert!(rt; counts.values().eq([2u32, 3, 7].iter()));
+    assert!(rt; age(&mut counts).is_ok() && counts.values().eq([1u32, 1, 3].iter()));
+    assert!(rt; matches!(count_down(&mut counts, b"a..."), Ok(2)));
+    assert!(rt; counts.values().eq([2u32].iter()));
 }
 
 #[test]

@@ -8,9 +8,9 @@ ghost use Rattle.art_nodes.specs.declared.replaying.ChildAnswer.TheVariants.{Chi
 ghost use Rattle.art_nodes.specs.inner.Replayed.{replayed_children};
 
 use crate::child_iter::{ChildIter, are_valid_child_bounds};
+use crate::conversions::{InnerNode4, InnerNode16, InnerNode48, InnerNode256};
 use crate::inner_node::{InnerNode, InnerNodeCommon, InnerNodeInit};
 use crate::kind::{InnerKind, NodeKind};
-use crate::kinds::{InnerNode4, InnerNode16, InnerNode48, InnerNode256};
 use crate::names::OpaqueNodePtr;
 use std::alloc::{AllocError, Global};
 use std::ops::Bound;

@@ -31,6 +31,8 @@ pub mod LeafPairs
 pub mod NamedLeaves
 pub mod NotStored
 pub mod HeldPairs
+pub mod DecidedPoints
+pub mod KnownPlaces
 pub mod Overlaps
 pub mod Overwrites
 pub mod PutOver

@@ -13,6 +13,7 @@ use Rattle.art_arena.specs.arena.Shapes.{Shape, leaves, pairs_of, key_of}
 use Rattle.art_operations.specs.KeyedLists.{IsBlocked, with_key, without_key, overlapping, without_overlapping}
 use Rattle.art_operations.specs.Overwrites.{AreRemoved, IsPrefixPoint, root_at}
 use Rattle.art_operations.specs.Points.{IsPoint}
+use Rattle.art_operations.specs.Whichever.{OfTree}
 use Rattle.art_arena.specs.arena.Stores.{StoresBeside}
 use Rattle.art_operations.specs.declared.delete.result.DeleteResult.{DeleteResult}
 use Rattle.art_operations.specs.declared.insert.point.InsertPoint.{InsertPoint}
@@ -121,6 +122,14 @@ module _ {K V : Type 0} (bytes : K → List ℕ) (P : ℕ) (arena : Arena K V) w
 
   abbrev pub HasPoint : InsertPoint → List ℕ → List (K × V) → Type 0
   HasPoint point key pairs = HasPointBeside bytes P arena [] point key pairs
+
+  -- where this key goes below the root, whatever tree stands there; without a root it is nowhere. The word holds in one
+  -- way at most, so it can be remembered beside a loan of the arena
+  abbrev pub IsPlaceFor : Option Name → List ℕ → Option InsertPoint → Type 0
+  IsPlaceFor None key None = Unit {0}
+  IsPlaceFor None key (Some point) = ⊥
+  IsPlaceFor (Some root) key None = ⊥
+  IsPlaceFor (Some root) key (Some point) = OfTree bytes P arena root (λ s. ∥ IsPoint bytes key s point ∥₁)
 
   abbrev pub CanPut : Option InsertPoint → List ℕ → List (K × V) → Type 0
   CanPut place key pairs = CanPutBeside bytes P arena [] place key pairs

@@ -288,7 +288,7 @@ pub fn find_prefix_segment<K: AsBytes, V, const PREFIX_LEN: usize>(
 {
     match find_insert_point(arena, root, prefix) {
         Err(conflict) => segment_at(arena, conflict.part, prefix),
-        Ok(point) => match exact_leaf(point) {
+        Ok(point) => match point.stored_leaf() {
             Some(leaf) => Some((leaf, leaf)),
             None => None,
         },
@@ -311,16 +311,4 @@ fn segment_at<K: AsBytes, V, const PREFIX_LEN: usize>(
         return Some((first, last_leaf(arena, part)));
     }
     None
-}
-
-// The leaf that has the key, where the place tells one.
-fn exact_leaf(point: InsertPoint) -> Option<LeafPtr>
-    ensures { MatchOption result ((slot : ℕ) → point.insert_kind ≡ kind.Exact slot → ⊥)
-        (λ slot. point.insert_kind ≡ kind.Exact slot) }
-{
-    let kind = point.insert_kind;
-    match kind {
-        InsertKind::Exact { leaf_node_ptr } => Some(leaf_node_ptr),
-        _ => None,
-    }
 }

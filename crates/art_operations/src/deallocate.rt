@@ -154,9 +154,8 @@ fn free_one<K: Drop, V: Drop, const PREFIX_LEN: usize>(
         return None;
     }
     let inner = arena.inner(root);
-    // It isn't read: it tells that the children ascend, so that a byte has no second child.
-    let _children = inner.children();
-    let count = inner.num_children();
+    // The header also tells that the children ascend, so that a byte has no second child.
+    let count = inner.header().num_children();
     match child_below(&inner, below) {
         None => {
             free_node(arena, root, with_leaves);

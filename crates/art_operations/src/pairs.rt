@@ -1,5 +1,5 @@
 //! Insertion and deletion, told by the pairs that an arena has: commands and maps stand on these.
-ghost use Rattle.std.specs.Prelude.{◌≡◌, ◌+◌, List, [], Some, None, IfOk, IsOk, OnErr};
+ghost use Rattle.std.specs.Prelude.{◌≡◌, ◌+◌, List, [], Some, None, IfOk, IfSome, IsOk, OnErr};
 ghost use Rattle.art_nodes.specs.Name.{Name};
 ghost use Rattle.art_arena.specs.arena.Arena.{node_at, HasRoom, KeepsNodes, SameNodes, UsesRoom};
 ghost use Rattle.art_arena.specs.arena.Cells.{Cell, HoldsOnly};
@@ -12,7 +12,7 @@ ghost use Rattle.art_operations.specs.Insertions.{HandsPairBack};
 ghost use Rattle.art_operations.specs.KeyedLists.{HasKey};
 ghost use Rattle.art_operations.specs.Pairs.{CanPutBeside, CanPutOverBeside, HasPairsAt, HasPutBeside};
 ghost use Rattle.art_operations.specs.Pairs.{HasPutOverBeside, HasTakenBeside, HasTakenEndBeside, IsPlacedBeside};
-ghost use Rattle.art_operations.specs.Pairs.{ShrinksAtEnd};
+ghost use Rattle.art_operations.specs.Pairs.{IsPlaceFor, ShrinksAtEnd};
 ghost use Rattle.art_operations.specs.Whichever.{HasSome, HasTree, OfEach, OfTree};
 
 use crate::delete::point::{
@@ -37,8 +37,9 @@ pub fn find_place<K: AsBytes, V, const PREFIX_LEN: usize>(
     key: &[u8],
 ) -> Result<Option<InsertPoint>, PrefixConflict>
     requires { HasSome (HasPairsAt K.bytes PREFIX_LEN arena.now root) }
-    ensures { OfEach (HasPairsAt K.bytes PREFIX_LEN arena.now root)
+    ensures placed { OfEach (HasPairsAt K.bytes PREFIX_LEN arena.now root)
         (λ pairs rest. IsPlacedBeside K.bytes PREFIX_LEN arena.now rest key.now pairs result) }
+    ensures place { IfOk result (IsPlaceFor K.bytes PREFIX_LEN arena.now root key.now) }
 {
     match root {
         Some(top) => match find_insert_point(arena, top, key) {
@@ -152,9 +153,9 @@ pub fn put_over<K: AsBytes + Drop, V: Drop, const PREFIX_LEN: usize>(
     }
 }
 
-/// Takes the pair with a key out, and answers its leaf; or nothing where no pair has the key. It is refused only where
-/// the loss of the leaf makes a node one of the next smaller kind, and there is no memory for that one: nothing changed
-/// then. Whatever stands beside the tree stays as it is.
+/// Takes the pair with a key out, and answers its leaf, with open ends; or nothing where no pair has the key. It is
+/// refused only where the loss of the leaf makes a node one of the next smaller kind, and there is no memory for that
+/// one: nothing changed then. Whatever stands beside the tree stays as it is.
 pub fn take_pair<K: AsBytes, V, const PREFIX_LEN: usize>(
     arena: &mut NodeArena<K, V, PREFIX_LEN>,
     root: Option<OpaqueNodePtr>,
@@ -163,6 +164,8 @@ pub fn take_pair<K: AsBytes, V, const PREFIX_LEN: usize>(
     requires { HasSome (HasPairsAt K.bytes PREFIX_LEN arena.old root) }
     ensures ok { IfOk result (λ taken. OfEach (HasPairsAt K.bytes PREFIX_LEN arena.old root)
         (λ pairs rest. HasTakenBeside K.bytes PREFIX_LEN arena.new rest root key.now pairs taken)) }
+    ensures open { IfOk result (λ taken. IfSome taken (λ deleted.
+        (deleted.deleted_leaf.previous ≡ None) × (deleted.deleted_leaf.next ≡ None))) }
     ensures others { IfOk result (λ taken. OfEach (HasPairsAt K.bytes PREFIX_LEN arena.old root)
         (λ pairs rest. KeepsNodes rest arena.old arena.new)) }
     ensures err { OnErr result (SameNodes arena.old arena.new) }
@@ -183,9 +186,9 @@ pub fn take_pair<K: AsBytes, V, const PREFIX_LEN: usize>(
     }
 }
 
-/// Takes the pair at an end out, and answers its leaf; or nothing where there is no pair. It is refused only where the
-/// loss of the leaf makes a node one of the next smaller kind, and there is no memory for that one: nothing changed
-/// then. Whatever stands beside the tree stays as it is.
+/// Takes the pair at an end out, and answers its leaf, with open ends; or nothing where there is no pair. It is refused
+/// only where the loss of the leaf makes a node one of the next smaller kind, and there is no memory for that one:
+/// nothing changed then. Whatever stands beside the tree stays as it is.
 pub fn take_end<K: AsBytes, V, const PREFIX_LEN: usize>(
     arena: &mut NodeArena<K, V, PREFIX_LEN>,
     root: Option<OpaqueNodePtr>,
@@ -194,6 +197,8 @@ pub fn take_end<K: AsBytes, V, const PREFIX_LEN: usize>(
     requires { HasSome (HasPairsAt K.bytes PREFIX_LEN arena.old root) }
     ensures ok { IfOk result (λ taken. OfEach (HasPairsAt K.bytes PREFIX_LEN arena.old root)
         (λ pairs rest. HasTakenEndBeside K.bytes PREFIX_LEN arena.new rest root end pairs taken)) }
+    ensures open { IfOk result (λ taken. IfSome taken (λ deleted.
+        (deleted.deleted_leaf.previous ≡ None) × (deleted.deleted_leaf.next ≡ None))) }
     ensures others { IfOk result (λ taken. OfEach (HasPairsAt K.bytes PREFIX_LEN arena.old root)
         (λ pairs rest. KeepsNodes rest arena.old arena.new)) }
     ensures err { OnErr result (SameNodes arena.old arena.new) }

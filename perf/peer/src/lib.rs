@@ -18,6 +18,14 @@ mod map {
         pub fn has(&self, key: &[u8]) -> bool {
             self.0.contains_key(key)
         }
+        /// Counts the value once more, or puts it in.
+        pub fn enter(&mut self, key: &[u8], value: u64) {
+            self.0.entry(key.to_vec()).and_modify(|old| *old = old.wrapping_add(1)).or_insert(value);
+        }
+        /// Counts the value once more, where the key is stored.
+        pub fn raise(&mut self, key: &[u8]) -> bool {
+            self.0.get_mut(key).map(|old| *old = old.wrapping_add(1)).is_some()
+        }
         pub fn len(&self) -> usize {
             self.0.len()
         }
@@ -61,6 +69,9 @@ mod map {
         pub fn value(leaf: &Leaf) -> u64 {
             leaf.1
         }
+        pub fn value_at(leaf: &Leaf) -> *const u64 {
+            &leaf.1
+        }
     }
     #[cfg(feature = "list")]
     mod leaf {
@@ -71,6 +82,9 @@ mod map {
         }
         pub fn value(leaf: &Leaf) -> u64 {
             leaf.value
+        }
+        pub fn value_at(leaf: &Leaf) -> *const u64 {
+            &leaf.value
         }
     }
 
@@ -83,6 +97,16 @@ mod map {
         }
         pub fn has(&self, key: &[u8]) -> bool {
             self.0.get(key).is_some()
+        }
+        /// This tree has no entries.
+        pub fn enter(&mut self, _: &[u8], _: u64) {}
+        /// Counts the value once more, where the key is stored. The tree lends no value for writing, so this goes by its
+        /// address.
+        pub fn raise(&mut self, key: &[u8]) -> bool {
+            let Some(leaf) = self.0.get(key) else { return false };
+            let value = leaf::value_at(leaf) as *mut u64;
+            unsafe { value.write_volatile(value.read().wrapping_add(1)) };
+            true
         }
         pub fn len(&self) -> usize {
             self.0.len()
@@ -197,6 +221,22 @@ fn walk_fronts(map: &Map, queries: &[u8], ends: &[u64]) -> u64 {
     (0..ends.len()).fold(0, |sum: u64, i| sum.wrapping_add(map.walk_behind(string(queries, ends, i))))
 }
 
+/// How many pairs there are once each query is inserted, entered, or looked up for writing and inserted where it isn't
+/// there.
+#[inline(never)]
+fn put_all(map: &mut Map, step: u8, queries: &[u8], ends: &[u64]) -> u64 {
+    for i in 0..ends.len() {
+        let key = string(queries, ends, i);
+        match step {
+            12 => map.insert(key, i as u64),
+            13 => map.enter(key, i as u64),
+            _ if map.raise(key) => {}
+            _ => map.insert(key, i as u64),
+        }
+    }
+    map.len() as u64
+}
+
 /// What a step answers, and how long it took. A clone is dropped behind the last reading of the clock.
 fn time(map: &mut Map, step: u8, keys: (&[u8], &[u64]), queries: (&[u8], &[u64])) -> (u64, u64) {
     let ends = if step == 8 { map.ends() } else { (0, 0) };
@@ -214,6 +254,7 @@ fn time(map: &mut Map, step: u8, keys: (&[u8], &[u64]), queries: (&[u8], &[u64])
             (count, now() - start)
         }
         8 => (map.walk_from_both_ends(ends), now() - start),
+        12..=14 => (put_all(map, step, queries.0, queries.1), now() - start),
         11 => {
             drop(old);
             (count, now() - start)

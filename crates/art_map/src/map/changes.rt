@@ -1,10 +1,11 @@
 //! Pairs are put in.
-ghost use Rattle.std.specs.Prelude.{◌≡◌, length, IfOk, IfErr, IsOk, OnErr, OnOk};
+ghost use Rattle.std.specs.Prelude.{◌≡◌, ℕ, List, length, IfOk, IfErr, IsOk, OnErr, OnOk};
 ghost use Rattle.std.specs.List.{AllByRecursion};
 ghost use Rattle.std.specs.Map.{lookup};
 ghost use Rattle.art_arena.specs.arena.Shapes.{key_of};
+ghost use Rattle.art_operations.specs.Insertions.{HandsPairBack};
 ghost use Rattle.art_operations.specs.KeyedLists.{HasKey, IsBlocked, overlapping};
-ghost use Rattle.art_operations.specs.Pairs.{CanPut, with_pair_put, with_pair_over};
+ghost use Rattle.art_operations.specs.Pairs.{CanPut, IsPlaceFor, with_pair_put, with_pair_over};
 ghost use Rattle.art_map.specs.Contents.{value_in};
 ghost use Rattle.art_map.specs.Found.{HasPairAt};
 
@@ -34,11 +35,13 @@ impl<K: AsBytes, V, const PREFIX_LEN: usize> TreeMap<K, V, PREFIX_LEN> {
     ghost use Rattle.art_map.specs.Contents.{has_bytes};
     ghost use Rattle.art_map.specs.Changes.{IsTryRefused};
     ghost use Rattle.art_operations.specs.Pairs.{IsPlaced};
+    ghost use Rattle.art_map.specs.Found.{IsFound};
 
     /// Finds where a key with the query's bytes goes, for `put_at`. It is refused where the key is a front of a stored
     /// key, or a stored key is one of it. It takes no memory.
     pub fn place<Q: AsBytes>(&self, key: &Q) -> Result<Option<InsertPoint>, PrefixConflict>
         ensures placed { IsPlaced K.bytes PREFIX_LEN self.now.nodes (Q.bytes key.now) self.now.pairs result }
+        ensures place { IfOk result (IsPlaceFor K.bytes PREFIX_LEN self.now.nodes self.now.root (Q.bytes key.now)) }
         ensures stored { HasKey (key_of K.bytes) (Q.bytes key.now) self.now.pairs → IsOk result }
         ensures keys { AllByRecursion (λ p. K.is_key p.0) self.now.pairs }
         ensures key { Q.is_key key.now }
@@ -46,6 +49,18 @@ impl<K: AsBytes, V, const PREFIX_LEN: usize> TreeMap<K, V, PREFIX_LEN> {
         // By value an option of a name counts as moved, so a copy goes in.
         let root = self.root;
         find_place(&self.arena, root, key.as_bytes())
+    }
+
+    // The leaf of the pair that has a key already, if the place that was found for the key is one.
+    pub(super) fn stored_at(&self, place: &Option<InsertPoint>) -> Option<LeafPtr>
+        ensures { (key : List ℕ) → ∥ IsPlaceFor K.bytes PREFIX_LEN self.now.nodes self.now.root key place.now ∥₁
+            → IsFound (has_bytes K.bytes key) self.now result }
+    {
+        let _opened = &self.root;
+        match place {
+            Some(point) => point.stored_leaf(),
+            None => None,
+        }
     }
 
     /// Puts a pair in at the place that was found for its key, in the place of the one whose key has the same bytes if
@@ -64,7 +79,7 @@ impl<K: AsBytes, V, const PREFIX_LEN: usize> TreeMap<K, V, PREFIX_LEN> {
         ensures pairs { OnOk result (self.new.pairs ≡ with_pair_put K.bytes key value self.old.pairs) }
         ensures stored { HasKey (key_of K.bytes) (K.bytes key) self.old.pairs → IsOk result }
         ensures err { OnErr result (self.new.pairs ≡ self.old.pairs) }
-        ensures handed_back { IfErr result (λ refused. (refused.key ≡ key) × (refused.value ≡ value)) }
+        ensures handed_back { HandsPairBack key value result }
     {
         match self.put_leaf_at(place, key, value) {
             Ok((_leaf, old)) => Ok(old),
@@ -87,7 +102,7 @@ impl<K: AsBytes, V, const PREFIX_LEN: usize> TreeMap<K, V, PREFIX_LEN> {
         ensures pairs { OnOk result (self.new.pairs ≡ with_pair_put K.bytes key value self.old.pairs) }
         ensures stored { HasKey (key_of K.bytes) (K.bytes key) self.old.pairs → IsOk result }
         ensures err { OnErr result (self.new.pairs ≡ self.old.pairs) }
-        ensures handed_back { IfErr result (λ refused. (refused.key ≡ key) × (refused.value ≡ value)) }
+        ensures handed_back { HandsPairBack key value result }
     {
         let _known = key.as_bytes();
         match put_pair(&mut self.arena, place, key, value) {
@@ -100,21 +115,23 @@ impl<K: AsBytes, V, const PREFIX_LEN: usize> TreeMap<K, V, PREFIX_LEN> {
         }
     }
 
-    // Puts a pair in whose key no stored key blocks, and answers its leaf.
-    pub(super) fn put_leaf(&mut self, key: K, value: V) -> Result<LeafPtr, InsertRefused<K, V>>
+    // Puts a pair in at the place that is remembered for its key, and answers its leaf.
+    pub(super) fn put_leaf(
+        &mut self,
+        place: Option<InsertPoint>,
+        key: K,
+        value: V,
+    ) -> Result<LeafPtr, InsertRefused<K, V>>
     where
         K: Drop,
         V: Drop,
-        requires { IsBlocked (key_of K.bytes) (K.bytes key) self.old.pairs → ⊥ }
+        requires { ∥ IsPlaceFor K.bytes PREFIX_LEN self.old.nodes self.old.root (K.bytes key) place ∥₁ }
         ensures leaf { IfOk result (λ leaf. HasPairAt self.new leaf (key, value)) }
         ensures pairs { OnOk result (self.new.pairs ≡ with_pair_put K.bytes key value self.old.pairs) }
         ensures err { OnErr result (self.new.pairs ≡ self.old.pairs) }
-        ensures handed_back { IfErr result (λ refused. (refused.key ≡ key) × (refused.value ≡ value)) }
+        ensures handed_back { HandsPairBack key value result }
     {
-        let place = match self.place(&key) {
-            Ok(place) => place,
-            Err(_) => unreachable!(),
-        };
+        let _opened = &self.root;
         match self.put_leaf_at(place, key, value) {
             Ok((leaf, _old)) => Ok(leaf),
             Err(refused) => Err(refused),
@@ -169,7 +186,7 @@ impl<K: AsBytes, V, const PREFIX_LEN: usize> TreeMap<K, V, PREFIX_LEN> {
         ensures pairs { OnOk result (self.new.pairs ≡ with_pair_over K.bytes key value self.old.pairs) }
         ensures stored { HasKey (key_of K.bytes) (K.bytes key) self.old.pairs → IsOk result }
         ensures err { OnErr result (self.new.pairs ≡ self.old.pairs) }
-        ensures handed_back { IfErr result (λ refused. (refused.key ≡ key) × (refused.value ≡ value)) }
+        ensures handed_back { HandsPairBack key value result }
     {
         match self.prefix_put(key, value) {
             Ok(put) => Ok(put.count),
@@ -181,17 +198,10 @@ impl<K: AsBytes, V, const PREFIX_LEN: usize> TreeMap<K, V, PREFIX_LEN> {
 impl<K: NoPrefixesBytes, V, const PREFIX_LEN: usize> TreeMap<K, V, PREFIX_LEN> {
     ghost use Rattle.art_map.specs.Contents.{has_bytes};
 
-    // No stored key blocks a key of its type.
-    pub(super) fn blocks_none(&self, key: &K)
-        ensures { IsBlocked (key_of K.bytes) (K.bytes key.now) self.now.pairs → ⊥ }
-    {
-        let _opened = &self.root;
-        let _known = key.as_bytes();
-    }
-
     // Where a key goes: no key of its type is a front of another.
-    fn place_free(&self, key: &K) -> Option<InsertPoint>
-        ensures { CanPut K.bytes PREFIX_LEN self.now.nodes result (K.bytes key.now) self.now.pairs }
+    pub(super) fn place_free(&self, key: &K) -> Option<InsertPoint>
+        ensures placed { CanPut K.bytes PREFIX_LEN self.now.nodes result (K.bytes key.now) self.now.pairs }
+        ensures place { IsPlaceFor K.bytes PREFIX_LEN self.now.nodes self.now.root (K.bytes key.now) result }
     {
         match self.place(key) {
             Ok(place) => place,
@@ -211,7 +221,7 @@ impl<K: NoPrefixesBytes, V, const PREFIX_LEN: usize> TreeMap<K, V, PREFIX_LEN> {
         ensures pairs { OnOk result (self.new.pairs ≡ with_pair_put K.bytes key value self.old.pairs) }
         ensures stored { HasKey (key_of K.bytes) (K.bytes key) self.old.pairs → IsOk result }
         ensures err { OnErr result (self.new.pairs ≡ self.old.pairs) }
-        ensures handed_back { IfErr result (λ refused. (refused.key ≡ key) × (refused.value ≡ value)) }
+        ensures handed_back { HandsPairBack key value result }
     {
         let place = self.place_free(&key);
         self.put_at(place, key, value)

@@ -1,6 +1,6 @@
 //! The entry of a key: its pair in the map, or the place where it would go.
-ghost use Rattle.art_arena.specs.arena.Shapes.{key_of};
-ghost use Rattle.art_operations.specs.KeyedLists.{IsBlocked};
+ghost use Rattle.std.specs.Prelude.{◌≡◌};
+ghost use Rattle.art_operations.specs.Pairs.{IsPlaceFor};
 ghost use Rattle.art_map.specs.Found.{HasPairUnder};
 
 mod methods;
@@ -10,7 +10,8 @@ mod vacant;
 use crate::map::TreeMap;
 use art_arena::LeafPtr;
 use art_bytes::AsBytes;
-use std::marker::PhantomData;
+use art_operations::InsertPoint;
+use std::marker::{Model, PhantomData};
 
 /// The entry of a key.
 #[derive(Drop)]
@@ -38,6 +39,38 @@ pub struct OccupiedEntry<
     ghost held: { HasPairUnder map.now leaf },
 }
 
+// The place that was found for a key. It is a struct with a model of its own, so that who moves an entry needs to know
+// nothing of the kinds of nodes that the place names.
+#[derive(Clone, Copy)]
+pub(super) struct KnownPlace {
+    place: Option<InsertPoint>,
+}
+
+impl Model for KnownPlace {
+    ghost use Rattle.std.specs.Prelude.{Option};
+    ghost use Rattle.art_operations.specs.declared.insert.point.InsertPoint.{InsertPoint};
+
+    ghost Value = { Option InsertPoint };
+
+    ghost view = { λ p. p.place };
+
+    ghost inverse = { λ place. record { place = place } };
+}
+
+impl KnownPlace {
+    pub(super) fn new(place: Option<InsertPoint>) -> Self
+        ensures { result ≡ place }
+    {
+        KnownPlace { place }
+    }
+
+    pub(super) fn found(self) -> Option<InsertPoint>
+        ensures { result ≡ self }
+    {
+        self.place
+    }
+}
+
 /// The entry of a key that is not stored, and may be put in.
 ///
 /// The last parameter is never written: it tells the borrow check that the map lives as long as it is lent.
@@ -50,7 +83,8 @@ pub struct VacantEntry<
     M: 'a = TreeMap<K, V, PREFIX_LEN>,
 > {
     pub(super) map: &'a mut TreeMap<K, V, PREFIX_LEN>,
+    pub(super) place: KnownPlace,
     pub(super) key: K,
     pub(super) mark: PhantomData<M>,
-    ghost free: { IsBlocked (key_of K.bytes) (K.bytes key) map.now.pairs → ⊥ },
+    ghost known: { ∥ IsPlaceFor K.bytes PREFIX_LEN map.now.nodes map.now.root (K.bytes key) place ∥₁ },
 }

@@ -2,6 +2,7 @@
 ghost use Rattle.std.specs.Prelude.{◌≡◌, ◌⊎◌, ◌<◌, ◌==◌, List, [], ◌∷◌, ◌++◌, length};
 ghost use Rattle.std.specs.Prelude.{None, Some, IfOk, MatchOption, OnErr};
 ghost use Rattle.std.specs.Borrow.{sem};
+ghost use Rattle.std.specs.Map.Calls.{CalledAtPair, TakesPair};
 ghost use Rattle.std.specs.Range.Bound.{bound_map};
 ghost use Rattle.art_arena.specs.arena.Arena.{links_at};
 ghost use Rattle.art_arena.specs.arena.Shapes.{key_of, LeafAt};
@@ -52,6 +53,7 @@ fn next_of<K, V, const PREFIX_LEN: usize>(
 impl<'a, K: AsBytes, V, const PREFIX_LEN: usize> Extraction<'a, K, V, PREFIX_LEN> {
     ghost use Rattle.art_map.specs.Extractions.{map_of, left_of, lends_end, IsLentAt};
     ghost use Rattle.art_map.specs.Found.{HasPairAt};
+    ghost use Rattle.art_map.specs.inner.Asks.{asking_by, IsAsked};
 
     /// Whether no pair is left to be asked.
     pub fn is_empty(&self) -> bool
@@ -69,6 +71,23 @@ impl<'a, K: AsBytes, V, const PREFIX_LEN: usize> Extraction<'a, K, V, PREFIX_LEN
         let (arena, _root) = self.map.nodes();
         let mut leaves = self.leaves;
         next_of(&mut leaves, arena, end)
+    }
+
+    // Asks a closure of the pair at an end of those still to be asked, whose value it may change.
+    pub(super) fn ask<F: FnMut(&K, &mut V) -> bool>(&mut self, end: End, pred: &mut F) -> bool
+        requires left { 0 < length (left_of self.old) }
+        requires callable { (pair : K × V) (rest : List (K × V)) → IsAtEnd end pair rest (left_of self.old)
+            → TakesPair F.FnMut pred.old pair.0 pair.1 }
+        ensures same_map { (map_of self.new).ghost_name ≡ (map_of self.old).ghost_name }
+        ensures asked { IsAsked (CalledAtPair F.FnMut) K.bytes end (asking_by self.old pred.old) result
+            (asking_by self.new pred.new) }
+    {
+        let leaf = match self.leaf_at(end) {
+            Some(leaf) => leaf,
+            None => unreachable!(),
+        };
+        let (key, value) = self.map.pair_mut_at(leaf);
+        pred(key, value)
     }
 
     // Lends the value of the pair at an end of those still to be asked for writing, if one is left.
@@ -167,7 +186,7 @@ impl<'a, K: AsBytes, V, const PREFIX_LEN: usize> Extraction<'a, K, V, PREFIX_LEN
     }
 
     // Leaves the pair at an end in the map.
-    fn pass(&mut self, end: End)
+    pub(super) fn pass(&mut self, end: End)
         requires { 0 < length (left_of self.old) }
         ensures same { map_of self.new ≡ map_of self.old }
         ensures left { (pair : K × V) × IsAtEnd end pair (left_of self.new) (left_of self.old) }
@@ -176,7 +195,7 @@ impl<'a, K: AsBytes, V, const PREFIX_LEN: usize> Extraction<'a, K, V, PREFIX_LEN
     }
 
     // Takes the pair at an end out of the map.
-    fn take(&mut self, end: End) -> Result<(K, V), AllocError>
+    pub(super) fn take(&mut self, end: End) -> Result<(K, V), AllocError>
         requires { 0 < length (left_of self.old) }
         ensures left { IfOk result (λ pair. IsAtEnd end pair (left_of self.new) (left_of self.old)) }
         ensures pairs { IfOk result (λ pair.
@@ -201,6 +220,15 @@ impl<'a, K: AsBytes, V, const PREFIX_LEN: usize> Extraction<'a, K, V, PREFIX_LEN
 
 impl<K: AsBytes, V, const PREFIX_LEN: usize> TreeMap<K, V, PREFIX_LEN> {
     ghost use Rattle.art_map.specs.Extractions.{map_of, left_of};
+
+    // All pairs, to be taken out of the map or left in it, each for itself.
+    pub(super) fn extraction_of_all(&mut self) -> Extraction<'_, K, V, PREFIX_LEN>
+        ensures same_map { ((map_of result).ghost_name ≡ self.entry.ghost_name) × ((map_of result).now ≡ self.old) }
+        ensures left { left_of result ≡ self.old.pairs }
+    {
+        let leaves = self.walk_between(Bound::Unbounded, Bound::Unbounded);
+        Extraction { map: self, leaves }
+    }
 
     /// The pairs whose keys are between two bounds, by their bytes, to be taken out of the map or left in it, each for
     /// itself, from either end. The bounds' keys need not be stored.

@@ -28,6 +28,10 @@ pub struct RangeMut<'a, K: AsBytes, V, const PREFIX_LEN: usize> {
 /// The pairs of the leaves behind a prefix in order, from either end, their values lent for writing one at a time.
 pub type PrefixMut<'a, K, V, const PREFIX_LEN: usize> = RangeMut<'a, K, V, PREFIX_LEN>;
 
+/// The pairs of the leaves below a node in order, from either end, their values lent for writing one at a time: those
+/// behind the prefix that leads to it.
+pub type SubtreeIterMut<'a, K, V, const PREFIX_LEN: usize> = RangeMut<'a, K, V, PREFIX_LEN>;
+
 impl<K: AsBytes, V, const PREFIX_LEN: usize> TreeMap<K, V, PREFIX_LEN> {
     ghost use Rattle.art_map.specs.Contents.{HasLeafAt};
     ghost use Rattle.art_map.specs.Found.{HasPairAt};
@@ -82,6 +86,15 @@ impl<K: AsBytes, V, const PREFIX_LEN: usize> TreeMap<K, V, PREFIX_LEN> {
         ensures rest { range_rest result ≡ with_front (key_of K.bytes) (Q.bytes prefix.now) self.old.pairs }
     {
         let leaves = self.walk_behind(prefix.as_bytes());
+        RangeMut { map: self, leaves }
+    }
+
+    // The pairs of a run, their values lent for writing one at a time.
+    pub(super) fn run_mut(&mut self, leaves: RawIterator) -> RangeMut<'_, K, V, PREFIX_LEN>
+        requires { ∥ IsRunIn self.old leaves ∥₁ }
+        ensures same_map { (result.map.ghost_name ≡ self.entry.ghost_name) × (result.map.now ≡ self.old) }
+        ensures rest { range_rest result ≡ run_pairs self.old leaves }
+    {
         RangeMut { map: self, leaves }
     }
 }

@@ -1,5 +1,5 @@
 //! A leaf is taken out of a tree.
-ghost use Rattle.std.specs.Prelude.{List, IfOk, IsOk, OnErr};
+ghost use Rattle.std.specs.Prelude.{◌≡◌, List, None, IfOk, IsOk, OnErr};
 ghost use Rattle.art_nodes.specs.Name.{Name};
 ghost use Rattle.art_arena.specs.arena.Arena.{HasRoom, KeepsNodes, SameNodes, UsesRoom};
 ghost use Rattle.art_arena.specs.arena.Cells.{Cell};
@@ -21,8 +21,8 @@ use art_nodes::{LeafNode, OpaqueNodePtr};
 use std::alloc::AllocError;
 
 impl DeletePoint {
-    /// Takes its leaf out of the tree below this root, in which it was found, and answers the leaf, with the root of
-    /// what is left. Whatever stands beside the tree stays as it is.
+    /// Takes its leaf out of the tree below this root, in which it was found, and answers the leaf, with open
+    /// ends, and the root of what is left. Whatever stands beside the tree stays as it is.
     ///
     /// It is refused only where the loss of the leaf makes a node one of the next smaller kind, and there is no memory
     /// for that one. The arena is then as it was. A node that is left with one child takes no memory to go.
@@ -36,6 +36,8 @@ impl DeletePoint {
         ensures ok { IfOk result (λ deleted. OfTreeWhere K.bytes PREFIX_LEN arena.old root
             (λ s. IsLeafPlace K.bytes s self.leaf_node_ptr (steps_of self.path))
             (λ s rest. IsDeletedBeside K.bytes PREFIX_LEN arena.new rest s self.leaf_node_ptr deleted)) }
+        ensures open { IfOk result (λ deleted.
+            (deleted.deleted_leaf.previous ≡ None) × (deleted.deleted_leaf.next ≡ None)) }
         ensures others { IfOk result (λ deleted. OfTreeWhere K.bytes PREFIX_LEN arena.old root
             (λ s. IsLeafPlace K.bytes s self.leaf_node_ptr (steps_of self.path))
             (λ s rest. KeepsNodes rest arena.old arena.new)) }
@@ -53,7 +55,9 @@ impl DeletePoint {
         } = self;
         let new_root = detach(arena, root, path, leaf)?;
         remove_self(arena, leaf);
-        let deleted_leaf = arena.deallocate_node_ptr::<LeafNode<K, V>>(leaf);
+        let mut deleted_leaf = arena.deallocate_node_ptr::<LeafNode<K, V>>(leaf);
+        deleted_leaf.set_previous(None);
+        deleted_leaf.set_next(None);
         Ok(DeleteResult {
             new_root,
             deleted_leaf,

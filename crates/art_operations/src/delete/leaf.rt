@@ -1,5 +1,5 @@
 //! A leaf that is known by its name is taken out of a tree.
-ghost use Rattle.std.specs.Prelude.{◌≡◌, List, IfOk, IsOk, OnErr};
+ghost use Rattle.std.specs.Prelude.{◌≡◌, List, None, IfOk, IsOk, OnErr};
 ghost use Rattle.art_nodes.specs.Name.{Name};
 ghost use Rattle.art_arena.specs.arena.Arena.{HasRoom, KeepsNodes, SameNodes, UsesRoom};
 ghost use Rattle.art_arena.specs.arena.Cells.{Cell};
@@ -17,8 +17,8 @@ use art_bytes::AsBytes;
 use art_nodes::OpaqueNodePtr;
 use std::alloc::AllocError;
 
-/// Takes a leaf of the tree below a root out, and answers it, with the root of what is left. The way to it is found by
-/// its own key, of which no copy is made. Whatever stands beside the tree stays as it is.
+/// Takes a leaf of the tree below a root out, and answers it, with open ends, and the root of what is left. The way to
+/// it is found by its own key, of which no copy is made. Whatever stands beside the tree stays as it is.
 ///
 /// It is refused only where the loss of the leaf makes a node one of the next smaller kind, and there is no memory for
 /// that one. The arena is then as it was.
@@ -32,6 +32,8 @@ pub fn take_leaf<K: AsBytes, V, const PREFIX_LEN: usize>(
     ensures ok { IfOk result (λ deleted. (s : Shape K V) (rest : List (Name × Cell K V))
         → StoresBeside K.bytes PREFIX_LEN arena.old root rest s → IsAmong leaf (leaves s)
         → IsDeletedBeside K.bytes PREFIX_LEN arena.new rest s leaf deleted) }
+    ensures open { IfOk result (λ deleted.
+        (deleted.deleted_leaf.previous ≡ None) × (deleted.deleted_leaf.next ≡ None)) }
     ensures others { IfOk result (λ deleted. (s : Shape K V) (rest : List (Name × Cell K V))
         → StoresBeside K.bytes PREFIX_LEN arena.old root rest s → IsAmong leaf (leaves s)
         → KeepsNodes rest arena.old arena.new) }

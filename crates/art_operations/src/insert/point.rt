@@ -1,9 +1,11 @@
 //! The place of a new key.
 ghost use Rattle.std.specs.Prelude.{◌≡◌, ◌≢◌, ℕ, List, IfOk, IfErr};
+ghost use Rattle.std.specs.Prelude.{MatchOption};
 ghost use Rattle.art_bytes.specs.Keys.{BeginsWith};
 ghost use Rattle.art_arena.specs.arena.Cells.{leaf_name};
 ghost use Rattle.art_arena.specs.arena.Shapes.{Shape};
 ghost use Rattle.art_operations.specs.Points.{IsInTheWay, IsPlaceOrConflict, Refuses};
+ghost use Rattle.art_operations.specs.declared.insert.point.InsertKind.TheVariants as kind;
 ghost use Rattle.art_arena.specs.arena.Arena.{node_at};
 ghost use Rattle.art_arena.specs.arena.Steps.{steps_of};
 ghost use Rattle.art_arena.specs.arena.Descents.{OnWayTo, Stops};
@@ -126,6 +128,20 @@ pub struct InsertPoint {
     pub key_bytes_used: usize,
     /// What it meets.
     pub insert_kind: InsertKind,
+}
+
+impl InsertPoint {
+    /// The leaf that has the key already, if there is one.
+    pub fn stored_leaf(self) -> Option<LeafPtr>
+        ensures { MatchOption result ((slot : ℕ) → self.insert_kind ≡ kind.Exact slot → ⊥)
+            (λ slot. self.insert_kind ≡ kind.Exact slot) }
+    {
+        let kind = self.insert_kind;
+        match kind {
+            InsertKind::Exact { leaf_node_ptr } => Some(leaf_node_ptr),
+            _ => None,
+        }
+    }
 }
 
 // Where a descent stopped: the node, the last steps of the way to it, and how many bytes of the key lead there.

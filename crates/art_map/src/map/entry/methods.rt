@@ -8,7 +8,7 @@ ghost use Rattle.std.specs.Option.{unwrap_or, UnwrapsOrElse};
 ghost use Rattle.art_arena.specs.arena.Shapes.{key_of};
 ghost use Rattle.art_operations.specs.KeyedLists.{HasKey, IsBlocked};
 
-use super::{Entry, OccupiedEntry, VacantEntry};
+use super::{Entry, KnownPlace, OccupiedEntry, VacantEntry};
 use crate::map::TreeMap;
 use crate::map::refused::TryKeyError;
 use art_bytes::{AsBytes, NoPrefixesBytes};
@@ -35,21 +35,22 @@ impl<K: AsBytes, V, const PREFIX_LEN: usize> TreeMap<K, V, PREFIX_LEN> {
         ensures stored { HasKey (key_of K.bytes) (K.bytes key) self.old.pairs → IsOk result }
         ensures refused { IfErr result (IsKeyRefused K.bytes self.old.pairs key) }
     {
-        match self.find(key.as_bytes()) {
-            Some(leaf) => Ok(Entry::Occupied(OccupiedEntry::new(self, leaf))),
-            None => match self.place(&key) {
-                Ok(_) => Ok(Entry::Vacant(VacantEntry {
+        match self.place(&key) {
+            Ok(place) => match self.stored_at(&place) {
+                Some(leaf) => Ok(Entry::Occupied(OccupiedEntry::new(self, leaf))),
+                None => Ok(Entry::Vacant(VacantEntry {
                     map: self,
+                    place: KnownPlace::new(place),
                     key,
                     mark: PhantomData,
                 })),
-                Err(_) => match KeyPrefix::new(self.alloc, key.as_bytes()) {
-                    Ok(byte_repr) => Err(TryKeyError::Prefix {
-                        key,
-                        error: InsertPrefixError { byte_repr },
-                    }),
-                    Err(_) => Err(TryKeyError::Memory { key }),
-                },
+            },
+            Err(_) => match KeyPrefix::new(self.alloc, key.as_bytes()) {
+                Ok(byte_repr) => Err(TryKeyError::Prefix {
+                    key,
+                    error: InsertPrefixError { byte_repr },
+                }),
+                Err(_) => Err(TryKeyError::Memory { key }),
             },
         }
     }
@@ -66,23 +67,22 @@ impl<K: NoPrefixesBytes, V, const PREFIX_LEN: usize> TreeMap<K, V, PREFIX_LEN> {
         ensures unchanged { (entry_map result).now ≡ self.old }
         ensures entry { IsEntryOf self.old.pairs key result }
     {
-        match self.find(key.as_bytes()) {
+        let place = self.place_free(&key);
+        match self.stored_at(&place) {
             Some(leaf) => Entry::Occupied(OccupiedEntry::new(self, leaf)),
-            None => {
-                self.blocks_none(&key);
-                Entry::Vacant(VacantEntry {
-                    map: self,
-                    key,
-                    mark: PhantomData,
-                })
-            }
+            None => Entry::Vacant(VacantEntry {
+                map: self,
+                place: KnownPlace::new(place),
+                key,
+                mark: PhantomData,
+            }),
         }
     }
 }
 
 impl<'a, K: AsBytes, V, const PREFIX_LEN: usize> Entry<'a, K, V, PREFIX_LEN> {
     ghost use Rattle.art_map.specs.Entries.{Occupied, entry_key, entry_map, entry_value, lends_entry, entry_pairs};
-    ghost use Rattle.art_map.specs.Entries.{rests_if_refused, IsFilled, IsWritten};
+    ghost use Rattle.art_map.specs.Entries.{pairs_without, rests_if_refused, IsFilled, IsSame, IsWritten};
 
     /// The stored key, or where none is stored the one that would go in.
     pub fn key(&self) -> &K
@@ -94,12 +94,16 @@ impl<'a, K: AsBytes, V, const PREFIX_LEN: usize> Entry<'a, K, V, PREFIX_LEN> {
         }
     }
 
-    /// Calls `f` on the value, if the key is stored.
+    /// Calls `f` on the value, if the key is stored. Where it is not, the entry is as it was.
     pub fn and_modify<F: FnOnce(&mut V)>(self, f: F) -> Self
         requires { (p : MutBor V) → entry_value self ≡ Some p.now → F.pre f p }
         ensures same_map { (entry_map result).ghost_name ≡ (entry_map self.entry).ghost_name }
         ensures same_key { entry_key result ≡ entry_key self.entry }
         ensures same_writes { (w : V) → entry_pairs result w ≡ entry_pairs self.entry w }
+        ensures pairs { (w : V) → entry_value result ≡ Some w
+            → (entry_map result).now.pairs ≡ entry_pairs self.entry w }
+        ensures same_removal { pairs_without result ≡ pairs_without self.entry }
+        ensures vacant { entry_value self.entry ≡ None → IsSame self.entry result }
         ensures update { ModifiesValue F.FnOnce f (entry_value self.entry) (entry_value result) }
     {
         match self {

@@ -1,6 +1,7 @@
 //! The methods of `VacantEntry`.
-ghost use Rattle.std.specs.Prelude.{◌≡◌, IfErr, IfOk};
+ghost use Rattle.std.specs.Prelude.{◌≡◌, IfOk};
 ghost use Rattle.std.specs.Borrow.{sem};
+ghost use Rattle.art_operations.specs.Insertions.{HandsPairBack};
 
 use super::{OccupiedEntry, VacantEntry};
 use art_bytes::AsBytes;
@@ -16,9 +17,10 @@ impl<'a, K: AsBytes, V, const PREFIX_LEN: usize> VacantEntry<'a, K, V, PREFIX_LE
         &self.key
     }
 
-    /// The key that would go in, which is given back.
+    /// The key that would go in, which is given back. The map is as it was.
     pub fn into_key(self) -> K
-        ensures { result ≡ entry_key (Vacant self.entry) }
+        ensures key { result ≡ entry_key (Vacant self.entry) }
+        ensures unchanged { self.exit.0.now ≡ self.entry.map.now }
     {
         self.key
     }
@@ -32,11 +34,15 @@ impl<'a, K: AsBytes, V, const PREFIX_LEN: usize> VacantEntry<'a, K, V, PREFIX_LE
         V: Drop,
         ensures* writes_back { sem 𝓛 (lends_entry K.row V.row PREFIX_LEN K.AsBytes (Vacant self.entry) result) }
         ensures value { IfOk result (λ lent. lent.now ≡ value) }
-        ensures handed_back { IfErr result (λ refused.
-            (refused.key ≡ entry_key (Vacant self.entry)) × (refused.value ≡ value)) }
+        ensures handed_back { HandsPairBack (entry_key (Vacant self.entry)) value result }
     {
-        let VacantEntry { map, key, mark: _ } = self;
-        let leaf = match map.put_leaf(key, value) {
+        let VacantEntry {
+            map,
+            place,
+            key,
+            mark: _,
+        } = self;
+        let leaf = match map.put_leaf(place.found(), key, value) {
             Ok(leaf) => leaf,
             Err(refused) => return Err(refused),
         };
@@ -54,11 +60,15 @@ impl<'a, K: AsBytes, V, const PREFIX_LEN: usize> VacantEntry<'a, K, V, PREFIX_LE
         V: Drop,
         ensures* rests { sem 𝓛 (rests_if_refused K.row V.row PREFIX_LEN K.AsBytes (Vacant self.entry) result) }
         ensures written { IfOk result (λ entry. IsWritten (Vacant self.entry) value (Occupied entry)) }
-        ensures handed_back { IfErr result (λ refused.
-            (refused.key ≡ entry_key (Vacant self.entry)) × (refused.value ≡ value)) }
+        ensures handed_back { HandsPairBack (entry_key (Vacant self.entry)) value result }
     {
-        let VacantEntry { map, key, mark: _ } = self;
-        match map.put_leaf(key, value) {
+        let VacantEntry {
+            map,
+            place,
+            key,
+            mark: _,
+        } = self;
+        match map.put_leaf(place.found(), key, value) {
             Ok(leaf) => Ok(OccupiedEntry::new(map, leaf)),
             Err(refused) => Err(refused),
         }

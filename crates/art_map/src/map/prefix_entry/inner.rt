@@ -1,21 +1,24 @@
 //! The methods of `InnerOccupiedEntry`.
-ghost use Rattle.std.specs.Prelude.{◌≡◌, option_copied, option_map, IfErr, IfOk};
+ghost use Rattle.std.specs.Prelude.{◌≡◌, option_copied, option_map, IfOk};
 ghost use Rattle.std.specs.Borrow.{sem};
 ghost use Rattle.std.specs.Map.Iter.{deref_pair_mut};
 ghost use Rattle.std.specs.Option.{option_copied_mut};
+ghost use Rattle.art_operations.specs.Insertions.{HandsPairBack};
 ghost use Rattle.art_map.specs.Contents.{option_value};
 ghost use Rattle.art_map.specs.Overlapped.{lone_item};
 
 use super::InnerOccupiedEntry;
 use crate::map::entry::OccupiedEntry;
+use crate::map::walks_mut::SubtreeIterMut;
 use art_bytes::AsBytes;
 use art_operations::InsertRefused;
 use art_walks::SubtreeIter;
 
 impl<'a, K: AsBytes, V, const PREFIX_LEN: usize> InnerOccupiedEntry<'a, K, V, PREFIX_LEN> {
     ghost use Rattle.art_map.specs.Entries.{option_key};
+    ghost use Rattle.art_map.specs.LentWalks.{range_rest};
     ghost use Rattle.art_map.specs.PrefixEntries.{lends_lone, lends_occupied, occupied_rests, removed_pairs};
-    ghost use Rattle.art_map.specs.PrefixEntries.{Inner, IsOccupiedWritten};
+    ghost use Rattle.art_map.specs.PrefixEntries.{Inner, IsOccupiedWritten, lends_inner_map};
 
     /// The key that would go in.
     pub fn key(&self) -> &K
@@ -72,6 +75,17 @@ impl<'a, K: AsBytes, V, const PREFIX_LEN: usize> InnerOccupiedEntry<'a, K, V, PR
         self.map.pairs_over(self.key.as_bytes())
     }
 
+    /// The pairs that an insertion would remove, their values lent for writing one at a time, ascending by the bytes of
+    /// their keys, from either end.
+    pub fn iter_mut(&mut self) -> SubtreeIterMut<'_, K, V, PREFIX_LEN>
+        ensures* writes_back { sem 𝓛 (lends_inner_map K.row V.row PREFIX_LEN K.AsBytes self.entry result.map) }
+        ensures unchanged { result.map.now ≡ self.old.map.now }
+        ensures rest { range_rest result ≡ removed_pairs K.bytes self.old }
+    {
+        let leaves = self.map.walk_over(self.key.as_bytes());
+        self.map.run_mut(leaves)
+    }
+
     /// Puts the key in with this value, and removes the pairs of `iter`.
     ///
     /// It is refused only where there is no memory. Key and value are then handed back, and the map is as it was.
@@ -81,7 +95,7 @@ impl<'a, K: AsBytes, V, const PREFIX_LEN: usize> InnerOccupiedEntry<'a, K, V, PR
         V: Drop,
         ensures* writes_back { sem 𝓛 (lends_occupied K.row V.row PREFIX_LEN K.AsBytes (Inner self.entry) result) }
         ensures value { IfOk result (λ lent. lent.now ≡ value) }
-        ensures handed_back { IfErr result (λ refused. (refused.key ≡ self.entry.key) × (refused.value ≡ value)) }
+        ensures handed_back { HandsPairBack self.entry.key value result }
     {
         let InnerOccupiedEntry { map, key, mark: _ } = self;
         let put = match map.prefix_put(key, value) {
@@ -103,7 +117,7 @@ impl<'a, K: AsBytes, V, const PREFIX_LEN: usize> InnerOccupiedEntry<'a, K, V, PR
         V: Drop,
         ensures* rests { sem 𝓛 (occupied_rests K.row V.row PREFIX_LEN K.AsBytes (Inner self.entry) result) }
         ensures written { IfOk result (IsOccupiedWritten (Inner self.entry) value) }
-        ensures handed_back { IfErr result (λ refused. (refused.key ≡ self.entry.key) × (refused.value ≡ value)) }
+        ensures handed_back { HandsPairBack self.entry.key value result }
     {
         let InnerOccupiedEntry { map, key, mark: _ } = self;
         match map.prefix_put(key, value) {

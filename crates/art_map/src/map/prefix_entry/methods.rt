@@ -6,7 +6,7 @@ ghost use Rattle.std.specs.Option.{unwrap_or, UnwrapsOrElse};
 
 use super::{InnerOccupiedEntry, PrefixEntry, PrefixOccupied};
 use crate::map::TreeMap;
-use crate::map::entry::{OccupiedEntry, VacantEntry};
+use crate::map::entry::{KnownPlace, OccupiedEntry, VacantEntry};
 use art_bytes::AsBytes;
 use art_operations::InsertRefused;
 use std::marker::PhantomData;
@@ -23,22 +23,23 @@ impl<K: AsBytes, V, const PREFIX_LEN: usize> TreeMap<K, V, PREFIX_LEN> {
         ensures unchanged { (prefix_map result).now ≡ self.old }
         ensures entry { IsPrefixEntryOf self.old.pairs key result }
     {
-        match self.find(key.as_bytes()) {
-            Some(leaf) => {
-                PrefixEntry::Occupied(PrefixOccupied::Leaf(OccupiedEntry::new(self, leaf)))
-            }
-            None => match self.place(&key) {
-                Ok(_) => PrefixEntry::Vacant(VacantEntry {
+        match self.place(&key) {
+            Ok(place) => match self.stored_at(&place) {
+                Some(leaf) => {
+                    PrefixEntry::Occupied(PrefixOccupied::Leaf(OccupiedEntry::new(self, leaf)))
+                }
+                None => PrefixEntry::Vacant(VacantEntry {
                     map: self,
+                    place: KnownPlace::new(place),
                     key,
                     mark: PhantomData,
                 }),
-                Err(_) => PrefixEntry::Occupied(PrefixOccupied::Inner(InnerOccupiedEntry {
-                    map: self,
-                    key,
-                    mark: PhantomData,
-                })),
             },
+            Err(_) => PrefixEntry::Occupied(PrefixOccupied::Inner(InnerOccupiedEntry {
+                map: self,
+                key,
+                mark: PhantomData,
+            })),
         }
     }
 }

@@ -1,7 +1,8 @@
 //! The leaves of the pairs whose keys overlap a key, and the pair that is put in in their place.
-ghost use Rattle.std.specs.Prelude.{◌≡◌, length, option_map, IfErr, IfOk, IsOk, OnErr, OnOk};
+ghost use Rattle.std.specs.Prelude.{◌≡◌, length, option_map, IfOk, IsOk, OnErr, OnOk};
 ghost use Rattle.art_arena.specs.arena.Shapes.{key_of};
 ghost use Rattle.art_map.specs.Walked.{IsWalkOf};
+ghost use Rattle.art_operations.specs.Insertions.{HandsPairBack};
 ghost use Rattle.art_operations.specs.KeyedLists.{HasKey, overlapping};
 ghost use Rattle.art_operations.specs.Overwrites.{removed_by};
 ghost use Rattle.art_operations.specs.Pairs.{with_pair_over};
@@ -15,7 +16,7 @@ use art_operations::{
     InsertRefused, PrefixInsertResult, find_place_over, find_prefix_segment,
     prefix_search_unchecked, put_over,
 };
-use art_walks::SubtreeIter;
+use art_walks::{RawIterator, SubtreeIter};
 
 // What a prefix insertion leaves: the new root, the leaf of the new pair, and how many pairs are no more.
 #[derive(Clone, Copy)]
@@ -66,6 +67,13 @@ impl<K: AsBytes, V, const PREFIX_LEN: usize> TreeMap<K, V, PREFIX_LEN> {
         }
     }
 
+    // The run of the leaves of the pairs whose keys overlap these bytes.
+    pub(crate) fn walk_over(&self, key: &[u8]) -> RawIterator
+        ensures { IsWalkOf self.now.nodes result (overlapping (key_of K.bytes) key.now self.now.pairs) }
+    {
+        walk_of(self.ends_over(key))
+    }
+
     // The pairs whose keys overlap these bytes.
     pub(crate) fn pairs_over(&self, key: &[u8]) -> SubtreeIter<'_, K, V, PREFIX_LEN>
         ensures { result ≡ overlapping (key_of K.bytes) key.now self.now.pairs }
@@ -101,7 +109,7 @@ impl<K: AsBytes, V, const PREFIX_LEN: usize> TreeMap<K, V, PREFIX_LEN> {
         ensures pairs { OnOk result (self.new.pairs ≡ with_pair_over K.bytes key value self.old.pairs) }
         ensures stored { HasKey (key_of K.bytes) (K.bytes key) self.old.pairs → IsOk result }
         ensures err { OnErr result (self.new.pairs ≡ self.old.pairs) }
-        ensures handed_back { IfErr result (λ refused. (refused.key ≡ key) × (refused.value ≡ value)) }
+        ensures handed_back { HandsPairBack key value result }
     {
         // By value an option of a name counts as moved, so a copy goes in.
         let root = self.root;

@@ -1,4 +1,4 @@
-use Rattle.std.proofs.Common.{◌≢◌, refl, sym, ◌∙◌, length, lit<}
+use Rattle.std.proofs.Common.{◌≢◌, refl, sym, ap, ◌∙◌, length, lit<}
 use Rattle.art_nodes.specs.declared.kind.NodeType.TheVariants.{Leaf}
 use Rattle.art_nodes.specs.InnerNode.{IsAscending}
 use Rattle.art_operations.specs.inner.Freeing.{IsChildIn}
@@ -23,7 +23,7 @@ returns-then-count-eq1-clause-freed g c = λ s rest part.
     let other : c.args.root.kind ≢ Leaf = λ e. let h = c.is.ensures.1 e in cc in
     let inner = part-inner g.row.PREFIX_LEN c.args.with_leaves c.args.arena.now c.args.root s rest part other in
     let found = rw c.in-Some.is at (so_at (λ xs. IsChildIn xs c.child_below.result) _ _ (node_in g.row.PREFIX_LEN c.args.with_leaves c.args.arena.now inner.prefix inner.kids) c.inner-inner.ensures.value inner.there _ refl c.child_below.ensures) in
-    let one = sym (read_at (λ m. length m.children) _ (node_in g.row.PREFIX_LEN c.args.with_leaves c.args.arena.now inner.prefix inner.kids) _ inner.there c.inner-inner.ensures.value _ c.num_children-count.ensures) ∙ c.if-count-eq1.true in
+    let one = sym (read_at (λ m. length m.children) _ (node_in g.row.PREFIX_LEN c.args.with_leaves c.args.arena.now inner.prefix inner.kids) _ inner.there c.inner-inner.ensures.value _ (c.num_children-count.ensures.value ∙ ap (λ h. h.num_children) c.header.ensures.value ∙ c.header.ensures.is_inner_node.counts)) ∙ c.if-count-eq1.true in
     freed-single g.row.PREFIX_LEN c.args.with_leaves c.args.arena.now c.args.root s rest part c.free_node-then-count-eq1.new.arena inner c.in-Some.child found one (c.free_node-then-count-eq1.ensures.freed s rest part)
 
 pub hang-left-requires : goal.hang-left-requires
@@ -32,7 +32,7 @@ hang-left-requires g c =
     let other : c.args.root.kind ≢ Leaf = λ e. let h = c.is.ensures.1 e in cc in
     let inner = part-inner g.row.PREFIX_LEN c.args.with_leaves c.args.arena.now c.args.root r.0 r.1 r.2 other in
     let found = rw c.in-Some.is at (so_at (λ xs. IsChildIn xs c.child_below.result) _ _ (node_in g.row.PREFIX_LEN c.args.with_leaves c.args.arena.now inner.prefix inner.kids) c.inner-inner.ensures.value inner.there _ refl c.child_below.ensures) in
-    let up = so_at IsAscending _ _ (node_in g.row.PREFIX_LEN c.args.with_leaves c.args.arena.now inner.prefix inner.kids) c.inner-inner.ensures.value inner.there _ c.children-children.ensures.value c.children-children.ensures.ascending in
+    let up = so_at IsAscending _ _ (node_in g.row.PREFIX_LEN c.args.with_leaves c.args.arena.now inner.prefix inner.kids) c.inner-inner.ensures.value inner.there _ refl c.header.ensures.is_inner_node.ascending in
     (lit< tt, (lessened g.row.PREFIX_LEN c.args.with_leaves c.args.arena.now c.args.root r.0 r.1 r.2 c.edit_inner.new.self inner c.in-Some.child found up c.edit_inner.ensures.updates, taken g.row.PREFIX_LEN c.args.with_leaves c.args.arena.now c.args.root r.0 r.1 r.2 c.edit_inner.new.self inner c.in-Some.child found up c.edit_inner.ensures.updates, r.1, taken-out g.row.PREFIX_LEN c.args.with_leaves c.args.arena.now c.args.root r.0 r.1 r.2 c.edit_inner.new.self inner c.in-Some.child found up c.edit_inner.ensures.updates))
 
 pub returns-else-count-eq1-clause-freed : goal.returns-else-count-eq1-clause-freed
@@ -40,7 +40,7 @@ returns-else-count-eq1-clause-freed g c = λ s rest part.
     let other : c.args.root.kind ≢ Leaf = λ e. let h = c.is.ensures.1 e in cc in
     let inner = part-inner g.row.PREFIX_LEN c.args.with_leaves c.args.arena.now c.args.root s rest part other in
     let found = rw c.in-Some.is at (so_at (λ xs. IsChildIn xs c.child_below.result) _ _ (node_in g.row.PREFIX_LEN c.args.with_leaves c.args.arena.now inner.prefix inner.kids) c.inner-inner.ensures.value inner.there _ refl c.child_below.ensures) in
-    let up = so_at IsAscending _ _ (node_in g.row.PREFIX_LEN c.args.with_leaves c.args.arena.now inner.prefix inner.kids) c.inner-inner.ensures.value inner.there _ c.children-children.ensures.value c.children-children.ensures.ascending in
+    let up = so_at IsAscending _ _ (node_in g.row.PREFIX_LEN c.args.with_leaves c.args.arena.now inner.prefix inner.kids) c.inner-inner.ensures.value inner.there _ refl c.header.ensures.is_inner_node.ascending in
     freed-child g.row.PREFIX_LEN c.args.with_leaves c.args.arena.now c.args.root s rest part c.edit_inner.new.self inner c.in-Some.child found up c.edit_inner.ensures.updates c.hang-left.new.arena c.hang-left.result (c.hang-left.ensures.freed _ _ rest (taken-out g.row.PREFIX_LEN c.args.with_leaves c.args.arena.now c.args.root s rest part c.edit_inner.new.self inner c.in-Some.child found up c.edit_inner.ensures.updates))
 
 pub returns-else-count-eq1-clause-kept : goal.returns-else-count-eq1-clause-kept
@@ -48,7 +48,7 @@ returns-else-count-eq1-clause-kept g c = λ s rest part.
     let other : c.args.root.kind ≢ Leaf = λ e. let h = c.is.ensures.1 e in cc in
     let inner = part-inner g.row.PREFIX_LEN c.args.with_leaves c.args.arena.now c.args.root s rest part other in
     let found = rw c.in-Some.is at (so_at (λ xs. IsChildIn xs c.child_below.result) _ _ (node_in g.row.PREFIX_LEN c.args.with_leaves c.args.arena.now inner.prefix inner.kids) c.inner-inner.ensures.value inner.there _ refl c.child_below.ensures) in
-    let up = so_at IsAscending _ _ (node_in g.row.PREFIX_LEN c.args.with_leaves c.args.arena.now inner.prefix inner.kids) c.inner-inner.ensures.value inner.there _ c.children-children.ensures.value c.children-children.ensures.ascending in
+    let up = so_at IsAscending _ _ (node_in g.row.PREFIX_LEN c.args.with_leaves c.args.arena.now inner.prefix inner.kids) c.inner-inner.ensures.value inner.there _ refl c.header.ensures.is_inner_node.ascending in
     kept-child g.row.PREFIX_LEN c.args.with_leaves c.args.arena.now c.args.root s rest part c.edit_inner.new.self inner c.in-Some.child found up c.edit_inner.ensures.updates c.hang-left.new.arena (c.hang-left.ensures.kept _ _ rest (taken-out g.row.PREFIX_LEN c.args.with_leaves c.args.arena.now c.args.root s rest part c.edit_inner.new.self inner c.in-Some.child found up c.edit_inner.ensures.updates))
 
 pub returns-else-count-eq1-clause-room : goal.returns-else-count-eq1-clause-room

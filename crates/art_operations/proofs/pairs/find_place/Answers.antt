@@ -6,15 +6,21 @@ pub find_insert_point-requires : goal.find_insert_point-requires
 find_insert_point-requires g c =
     (omega arith, some-tree g.K.AsBytes.bytes g.row.PREFIX_LEN c.args.arena.now c.requires.1 c.args.root c.in-Some.top c.in-Some.is c.args.key.now c.requires.0 c.requires.2)
 
-pub returns-in-Ok : goal.returns-in-Ok
-returns-in-Ok g c pairs rest has =
+pub returns-in-Ok-clause-placed : goal.returns-in-Ok-clause-placed
+returns-in-Ok-clause-placed g c pairs rest has =
     place_is_free g.K.AsBytes.bytes g.row.PREFIX_LEN c.args.arena.now rest c.args.root c.in-Some.top c.in-Some.is c.args.key.now pairs has c.in-Ok.point c.in-Ok.ensures.answer
 
-pub returns-in-Err : goal.returns-in-Err
-returns-in-Err g c pairs rest has =
+pub returns-in-Err-clause-placed : goal.returns-in-Err-clause-placed
+returns-in-Err-clause-placed g c pairs rest has =
     blocked-key g.K.AsBytes.bytes g.row.PREFIX_LEN c.args.arena.now rest c.args.root c.in-Some.top c.in-Some.is c.args.key.now pairs has c.in-Err.ensures.answer
 
-pub returns-in-None : goal.returns-in-None
-returns-in-None g c pairs rest has =
+pub returns-in-None-clause-placed : goal.returns-in-None-clause-placed
+returns-in-None-clause-placed g c pairs rest has =
     let none = rw c.in-None.is at has in
     (none, λ blocked. (rw none.0 at blocked).1)
+
+pub returns-in-Ok-clause-place : goal.returns-in-Ok-clause-place
+returns-in-Ok-clause-place g c = rw c.in-Some.is (λ s tree. ∣ (c.in-Ok.ensures.answer s tree).0 ∣₁)
+
+pub returns-in-None-clause-place : goal.returns-in-None-clause-place
+returns-in-None-clause-place g c = rw c.in-None.is tt

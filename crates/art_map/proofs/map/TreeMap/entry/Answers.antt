@@ -3,7 +3,11 @@ use Rattle.art_map.proofs.Entries.{found-entry, absent-entry}
 use Rattle.art_map.proofs.map.TreeMap.entry.Goals as goal
 
 pub returns-in-Some-clause-entry : goal.returns-in-Some-clause-entry
-returns-in-Some-clause-entry g c = found-entry c.args.self.now c.args.key c.as_bytes.result.now c.as_bytes.ensures.value c.new.result c.in-Some.leaf c.in-Some.ensures c.new.ensures.pair
+returns-in-Some-clause-entry g c =
+    let known = ∣ c.place_free-place.ensures.place ∣₁ in
+    found-entry c.args.self.now c.args.key (g.K.AsBytes.bytes c.args.key) refl c.new.result c.in-Some.leaf (c.in-Some.ensures (g.K.AsBytes.bytes c.args.key) known) c.new.ensures.pair
 
 pub returns-clause-entry : goal.returns-clause-entry
-returns-clause-entry g c = absent-entry c.args.self.now c.args.key c.as_bytes.result.now c.as_bytes.ensures.value _ refl c.in-None.ensures
+returns-clause-entry g c =
+    let known = ∣ c.place_free-place.ensures.place ∣₁ in
+    absent-entry c.args.self.now c.args.key (g.K.AsBytes.bytes c.args.key) refl _ refl (c.in-None.ensures (g.K.AsBytes.bytes c.args.key) known)

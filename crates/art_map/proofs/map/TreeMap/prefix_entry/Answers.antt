@@ -3,8 +3,11 @@ use Rattle.art_map.proofs.Entries.{found-entry, absent-entry}
 use Rattle.art_map.proofs.map.TreeMap.prefix_entry.Goals as goal
 
 pub returns-in-Some-clause-entry : goal.returns-in-Some-clause-entry
-returns-in-Some-clause-entry g c = found-entry c.args.self.now c.args.key c.as_bytes.result.now c.as_bytes.ensures.value c.new.result c.in-Some.leaf c.in-Some.ensures c.new.ensures.pair
+returns-in-Some-clause-entry g c =
+    let key = g.K.AsBytes.bytes c.args.key in
+    found-entry c.args.self.now c.args.key key refl c.new.result c.in-Some.leaf (c.in-Some.ensures key ∣ c.in-Ok.ensures.place ∣₁) c.new.ensures.pair
 
 pub returns-in-Ok-clause-entry : goal.returns-in-Ok-clause-entry
 returns-in-Ok-clause-entry g c =
-    (absent-entry c.args.self.now c.args.key c.as_bytes.result.now c.as_bytes.ensures.value _ refl c.in-None.ensures, c.in-Ok.ensures.placed.1)
+    let key = g.K.AsBytes.bytes c.args.key in
+    (absent-entry c.args.self.now c.args.key key refl _ refl (c.in-None.ensures key ∣ c.in-Ok.ensures.place ∣₁), c.in-Ok.ensures.placed.1)

@@ -33,8 +33,8 @@ returns-clause-ok g c = λ s rest tree place.
     let leaf = leaf_of g c.args.self.leaf_node_ptr place.key place.value in
     let apart = c.in_ok-new_root.ensures.ok s rest tree.nodes place in
     let linked = c.remove_self.ensures.linked (leaves_in_front g.K.AsBytes.bytes g.row.PREFIX_LEN c.detach.new.arena rest s leaf c.in_ok-new_root.new_root apart) leaf (leaves_at_back g.K.AsBytes.bytes g.row.PREFIX_LEN c.detach.new.arena rest s leaf c.in_ok-new_root.new_root apart) (still_listed g.K.AsBytes.bytes g.row.PREFIX_LEN c.detach.new.arena rest s leaf c.args.arena.now c.args.root tree c.in_ok-new_root.ensures.links c.in_ok-new_root.new_root apart) refl in
-    deleted g.K.AsBytes.bytes g.row.PREFIX_LEN c.detach.new.arena c.remove_self.new.arena c.deallocate_node_ptr-deleted_leaf.new.self s leaf c.args.arena.now c.args.root tree c.in_ok-new_root.ensures.links c.remove_self.ensures.nodes c.deallocate_node_ptr-deleted_leaf.result
-    c.deallocate_node_ptr-deleted_leaf.ensures.value c.deallocate_node_ptr-deleted_leaf.ensures.updates c.in_ok-new_root.new_root apart linked
+    let d = deleted g.K.AsBytes.bytes g.row.PREFIX_LEN c.detach.new.arena c.remove_self.new.arena c.deallocate_node_ptr-deleted_leaf.new.self s leaf c.args.arena.now c.args.root tree c.in_ok-new_root.ensures.links c.remove_self.ensures.nodes c.deallocate_node_ptr-deleted_leaf.result c.deallocate_node_ptr-deleted_leaf.ensures.value c.deallocate_node_ptr-deleted_leaf.ensures.updates c.in_ok-new_root.new_root apart linked in
+    rw (c.set_next.ensures, c.set_previous.ensures) (record { front = d.front; back = d.back; was = d.was; left = d.left })
 
 pub returns-clause-others : goal.returns-clause-others
 returns-clause-others g c = λ s rest tree place.

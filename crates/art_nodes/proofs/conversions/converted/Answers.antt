@@ -2,7 +2,7 @@ use Rattle.std.proofs.Common.{◌≡◌, ◌++◌, ◌∷◌, [], ℕ, List, ap,
 use Rattle.art_nodes.specs.InnerNode.{InnerNode, IsAscendingFrom}
 use Rattle.art_nodes.specs.Name.{Name}
 use Rattle.art_nodes.proofs.ChildLemmas.{with_child-behind}
-use Rattle.art_nodes.proofs.kinds.converted.Goals as goal
+use Rattle.art_nodes.proofs.conversions.converted.Goals as goal
 
 pub loop-child-preserved : goal.loop-child-preserved
 loop-child-preserved g c =

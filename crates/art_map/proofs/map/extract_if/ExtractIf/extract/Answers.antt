@@ -1,0 +1,57 @@
+use Rattle.std.proofs.Common.{◌<◌, length, Some, None, refl, ap, ◌∙◌, arith}
+use Rattle.std.specs.Map.Calls.{CalledAtPair, TakesPair}
+use Rattle.art_map.specs.Asked.{asking}
+use Rattle.art_map.specs.inner.Asks.{asking_by}
+use Rattle.art_map.proofs.Asks.{callable-next, extracts-later, extracts-none, extracts-now, fewer-passed, fewer-taken, none-left, one-left}
+use Rattle.art_map.proofs.map.extract_if.ExtractIf.extract.Goals as goal
+
+pub ask-requires : goal.ask-requires
+ask-requires g c = (
+  omega arith,
+  (
+    one-left (asking c.loop-end.self).left c.is_empty.ensures c.loop-end-test.true,
+    callable-next (CalledAtPair g.F.FnMut) (TakesPair g.F.FnMut) c.loop-end.self.pred (asking c.loop-end.self).left c.loop-end.invariant.can c.args.end,
+  ),
+)
+
+pub returns-then-ask-clause-steps : goal.returns-then-ask-clause-steps
+returns-then-ask-clause-steps g c =
+    let taken = c.take.ensures in (
+      taken.same_map ∙ c.ask.ensures.same_map ∙ c.loop-end.invariant.same_map,
+      c.loop-end.invariant.later (Some c.take.result) (asking_by c.take.new.self c.ask.new.pred)
+          (extracts-now (CalledAtPair g.F.FnMut) g.K.AsBytes.bytes c.args.end (asking c.loop-end.self) (asking_by c.ask.new.self c.ask.new.pred) c.if-ask.ensures.asked (asking_by c.take.new.self c.ask.new.pred) refl c.take.result
+          taken.left taken.pairs taken.err taken.shrinks),
+    )
+
+pub returns-then-ask-clause-goes : goal.returns-then-ask-clause-goes
+returns-then-ask-clause-goes g c =
+    let s = asking c.loop-end.self in
+    let a = asking_by c.ask.new.self c.ask.new.pred in
+    let left = (asking_by c.take.new.self c.ask.new.pred).left in
+    let goes = fewer-taken (CalledAtPair g.F.FnMut) g.K.AsBytes.bytes c.args.end s a (TakesPair g.F.FnMut) c.loop-end.invariant.can c.if-ask.ensures.asked left c.take.result c.take.ensures.left (asking_by c.take.new.self c.ask.new.pred).pairs c.take.ensures.err in
+    let fewer = c.loop-end.invariant.fewer in
+    let less = goes.1 in
+    let fits : length left < length (asking c.args.self.now).left = omega (arith, less, fewer) in
+    record { on = λ _. (goes.0, tt, fits); keeps = goes.0; rests = λ _. tt }
+
+pub loop-end-preserved : goal.loop-end-preserved
+loop-end-preserved g c =
+    let s = asking c.loop-end.self in
+    let a = asking_by c.ask.new.self c.ask.new.pred in
+    let m = asking_by c.pass.new.self c.ask.new.pred in
+    let goes = fewer-passed (CalledAtPair g.F.FnMut) g.K.AsBytes.bytes c.args.end s a (TakesPair g.F.FnMut) c.loop-end.invariant.can c.if-ask.ensures.asked m.left c.pass.ensures.left in
+    let fewer = c.loop-end.invariant.fewer in
+    let less = goes.1 in
+    record {
+      same_map = ap (λ r. r.ghost_name) c.pass.ensures.same ∙ c.ask.ensures.same_map ∙ c.loop-end.invariant.same_map;
+      can = goes.0;
+      fewer = omega (arith, less, fewer);
+      later = λ r t e. c.loop-end.invariant.later r t (extracts-later (CalledAtPair g.F.FnMut) g.K.AsBytes.bytes c.args.end s a c.if-ask.ensures.asked m (ap (λ r. r.now.pairs) c.pass.ensures.same) refl c.pass.ensures.left r t e);
+    }
+
+pub returns-clause-steps : goal.returns-clause-steps
+returns-clause-steps g c =
+    let s = asking c.loop-end.self in (
+      c.loop-end.invariant.same_map,
+      c.loop-end.invariant.later None s (extracts-none (CalledAtPair g.F.FnMut) g.K.AsBytes.bytes c.args.end s (none-left s.left c.is_empty.ensures c.loop-end-test.false)),
+    )

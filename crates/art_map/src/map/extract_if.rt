@@ -1,0 +1,157 @@
+//! `ExtractIf`: the pairs of a range that a closure picks, which leave the map; and `retain`.
+ghost use Rattle.std.specs.Prelude.{◌≡◌, ◌⊎◌, List, [], length, OnErr, OnOk};
+ghost use Rattle.std.specs.Iterator.{at_most, MakesProgress};
+ghost use Rattle.std.specs.Map.Calls.{CallableOnEachPair, CalledAtPair, RetainsPairs, TakesPair};
+ghost use Rattle.std.specs.Range.Bound.{bound_map};
+ghost use Rattle.art_arena.specs.arena.Shapes.{key_of};
+ghost use Rattle.art_arena.specs.declared.ends.End.TheVariants.{First, Last};
+ghost use Rattle.art_arena.specs.tree.Shrinks.{Shrinks};
+ghost use Rattle.art_walks.specs.Bounds.{AreValidKeyBounds};
+ghost use Rattle.art_map.specs.Ranges.{pairs_between};
+
+use crate::map::TreeMap;
+use crate::map::extraction::Extraction;
+use art_arena::End;
+use art_bytes::AsBytes;
+use std::alloc::AllocError;
+use std::iter::FusedIterator;
+use std::ops::Bound;
+
+/// The pairs of a range of a map for which a closure says true, which leave the map one by one. The closure is asked of
+/// each pair once, in turn from the end of the call, and may change its value: so the pairs for which it says false
+/// stay.
+///
+/// Where the removal of a pair is refused, that is told once, and then nothing more comes. The pair stays, with its
+/// value as the closure left it; pairs that were taken out before are gone, and those that were not asked yet stay as
+/// they are. So do these where an `ExtractIf` is dropped.
+#[derive(Drop)]
+pub struct ExtractIf<'a, K: AsBytes, V, F, const PREFIX_LEN: usize> {
+    extraction: Extraction<'a, K, V, PREFIX_LEN>,
+    pred: F,
+}
+
+impl<'a, K: AsBytes, V, F: FnMut(&K, &mut V) -> bool, const PREFIX_LEN: usize> ExtractIf<
+    'a,
+    K,
+    V,
+    F,
+    PREFIX_LEN,
+> {
+    ghost use Rattle.art_map.specs.Asked.{asking, CanExtractIf, ExtractsIf};
+
+    // Asks the pairs in turn from an end, until the closure says true, and takes that one out.
+    fn extract(&mut self, end: End) -> Option<Result<(K, V), AllocError>>
+        requires { CanExtractIf F.FnMut self.old }
+        ensures steps { ExtractsIf F.FnMut end self.old result self.new }
+        ensures goes { MakesProgress (CanExtractIf F.FnMut) (λ walk. at_most (length (asking walk).left))
+            self.old result self.new }
+    {
+        while !self.extraction.is_empty() {
+            if self.extraction.ask(end, &mut self.pred) {
+                return Some(self.extraction.take(end));
+            }
+            self.extraction.pass(end);
+        }
+        None
+    }
+}
+
+impl<'a, K: AsBytes + Drop, V: Drop, F: FnMut(&K, &mut V) -> bool, const PREFIX_LEN: usize> Iterator
+    for ExtractIf<'a, K, V, F, PREFIX_LEN> {
+    type Item = Result<(K, V), AllocError>;
+
+    ghost use Rattle.art_map.specs.Asked.{asking, CanExtractIf, ExtractsIf};
+
+    ghost can_next = { CanExtractIf F.FnMut };
+
+    ghost next_gives = { ExtractsIf F.FnMut First };
+
+    ghost remaining = { λ walk. at_most (length (asking walk).left) };
+
+    fn next(&mut self) -> Option<Result<(K, V), AllocError>> {
+        self.extract(End::First)
+    }
+}
+
+impl<'a, K: AsBytes, V, F: Drop, const PREFIX_LEN: usize> FusedIterator
+    for ExtractIf<'a, K, V, F, PREFIX_LEN>
+where
+    ExtractIf<'a, K, V, F, PREFIX_LEN>: Iterator,
+{}
+
+impl<
+    'a,
+    K: AsBytes + Drop,
+    V: Drop,
+    F: FnMut(&K, &mut V) -> bool,
+    const PREFIX_LEN: usize,
+> DoubleEndedIterator for ExtractIf<'a, K, V, F, PREFIX_LEN> {
+    ghost use Rattle.art_map.specs.Asked.{CanExtractIf, ExtractsIf};
+
+    ghost can_next_back = { CanExtractIf F.FnMut };
+
+    ghost next_back_gives = { ExtractsIf F.FnMut Last };
+
+    fn next_back(&mut self) -> Option<Result<(K, V), AllocError>> {
+        self.extract(End::Last)
+    }
+}
+
+impl<K: AsBytes, V, const PREFIX_LEN: usize> TreeMap<K, V, PREFIX_LEN> {
+    ghost use Rattle.art_map.specs.Asked.{asking, extract_map, CallableFromEnds, CanExtractIf, StopsAt};
+
+    /// The pairs whose keys are between two bounds, by their bytes, and for which the closure says true: they leave the
+    /// map one by one as they are asked for, from either end. The bounds' keys need not be stored.
+    ///
+    /// Where the map has a pair, the bounds have to be valid, as `bounds_are_valid` tells. The closure has to be
+    /// callable on each pair of the range, in whatever state its earlier calls leave it. It takes no memory.
+    pub fn extract_if<Q: AsBytes, F: FnMut(&K, &mut V) -> bool>(
+        &mut self,
+        start: Bound<&Q>,
+        end: Bound<&Q>,
+        pred: F,
+    ) -> ExtractIf<'_, K, V, F, PREFIX_LEN>
+        requires valid { (self.old.pairs ≡ []) ⊎ AreValidKeyBounds (bound_map (λ key. Q.bytes key.now) start)
+            (bound_map (λ key. Q.bytes key.now) end) }
+        requires callable { CallableFromEnds (CalledAtPair F.FnMut) (TakesPair F.FnMut) pred (pairs_between K.bytes
+            (bound_map (λ key. Q.bytes key.now) start) (bound_map (λ key. Q.bytes key.now) end) self.old.pairs) }
+        ensures same_map { ((extract_map result).ghost_name ≡ self.entry.ghost_name)
+            × ((extract_map result).now ≡ self.old) }
+        ensures left { (asking result).left ≡ pairs_between K.bytes (bound_map (λ key. Q.bytes key.now) start.entry)
+            (bound_map (λ key. Q.bytes key.now) end.entry) self.old.pairs }
+        ensures asks { (asking result).asks ≡ pred }
+        ensures callable { CanExtractIf F.FnMut result }
+    {
+        ExtractIf {
+            extraction: self.extraction(start, end),
+            pred,
+        }
+    }
+
+    /// Keeps the pairs for which the closure says true. It is asked of each in ascending order, and may change the
+    /// value. The others are dropped.
+    ///
+    /// It is refused where the removal of a pair is, as that of `remove_entry`. That pair then stays, with its value as
+    /// the closure left it, and so do those behind it, which were not asked; what was dropped before is gone.
+    pub fn retain<F: FnMut(&K, &mut V) -> bool>(&mut self, mut keep: F) -> Result<(), AllocError>
+    where
+        K: Drop,
+        V: Drop,
+        requires { CallableOnEachPair (CalledAtPair F.FnMut) (TakesPair F.FnMut) keep self.old.pairs }
+        ensures retained { OnOk result (RetainsPairs (CalledAtPair F.FnMut) keep self.old.pairs self.new.pairs) }
+        ensures refused { OnErr result ((key : K)
+            × StopsAt (CalledAtPair F.FnMut) keep self.old.pairs key self.new.pairs
+            × Shrinks (key_of K.bytes) self.new.pairs (K.bytes key)) }
+    {
+        let (_arena, _root) = self.nodes();
+        let mut pairs = self.extraction_of_all();
+        while !pairs.is_empty() {
+            if pairs.ask(End::First, &mut keep) {
+                pairs.pass_front();
+            } else {
+                let _pair = pairs.take_front()?;
+            }
+        }
+        Ok(())
+    }
+}
