@@ -11,8 +11,9 @@ a look-up for writing with an insertion where it finds none. --instr counts inst
 (no noise, whatever else runs), at --instr-size keys (10000), of walks and entries too where these are asked. --perf
 FOLDER: a folder of yardsticks with build.sh, libbench and peers (cargo, valgrind and Debian's libjudy-dev,
 libabsl-dev): its table follows, with unproved peers, and three of them stand in all tables. --program SIZES, which
-needs it, times lines of the program beside its peers: loads, `get` lines, misses and dumps. --sizes '' leaves look-ups
-and insertions out.
+needs it, times lines of the program beside its peers (those of the yardsticks, and the unproved tree with a `Vec` for
+each key and value, without and with linked leaves): loads, `get` lines, misses and dumps. --sizes '' leaves look-ups and
+insertions out.
 Standard error tells how far it is. Times are processor time; take ratios from one run alone.
 """
 import argparse
@@ -46,6 +47,7 @@ STATES = {"new": "", "stored": "1,"}
 # Of the program: the words of yardsticks/gen, and how many lines or records one tells the cost of, as a part of all.
 LINES = {"load": 1, "get": 1, "miss": 1, "dump": 2}
 LINE_PEERS = ("btree", "map", "art")
+LINE_TREES = ("art-vec", "art-list")
 LINE_SETS = "dense,rand8,rand16,url,tenants"
 NO_WALKS = {"tree"}
 NO_LINKS = {"art-vec"}
@@ -309,17 +311,20 @@ def program(folder, asked):
     tell("proving and building art_index, where it is not built")
     called([os.environ.get("RT", "rt"), "run"], cwd="crates/art_index", stdin=subprocess.DEVNULL)
     programs = {name: f"{folder}/bin/peer_{name}" for name in LINE_PEERS}
+    programs |= {name: f"{folder}/{name}/release/lines" for name in LINE_TREES}
     programs["here"] = os.path.abspath("crates/art_index/out/art_index")
     for size in map(int, asked.program.split(",")):
         print(f"\n{size} records, nanoseconds a line (a record of a dump), bytes a record:\n")
-        print(f"| Keys | | {' | '.join(programs)} | to btree | to art |\n|---|---|{'---:|' * (len(programs) + 2)}")
+        held_to = ("btree", "art", *LINE_TREES)
+        shown = " | ".join([*programs, *(f"to {it}" for it in held_to)])
+        print(f"| Keys | | {shown} |\n|---|---|{'---:|' * (len(programs) + len(held_to))}")
         for key_set in LINE_SETS.split(","):
             tell(f"{key_set}, {size} records of the program")
             least = line_costs(folder, programs, key_set, size, asked.repeats)
             for it in (*LINES, "bytes"):
                 row = {name: least[it, name] for name in programs}
                 shown = [f"{cost:.0f}" for cost in row.values()]
-                shown += [f"{row['here'] / row[peer]:.2f}" for peer in ("btree", "art")]
+                shown += [f"{row['here'] / row[peer]:.2f}" for peer in held_to]
                 print(f"| {key_set} | {it} | {' | '.join(shown)} |", flush=True)
 
 

@@ -12,24 +12,29 @@ use std::test::Fail;
 
 type Arena = NodeArena<u8, u8, 4>;
 
-#[test]
-fn an_inner_node_is_written(rt: HostRuntime) -> Result<(), Fail> {
-    let mut arena: Arena = NodeArena::new(rt.alloc());
-    assert!(rt; arena.fits_in_memory());
+// Stores an inner node, writes a child into it, and answers whether it has that child and no other.
+fn is_written(arena: &mut Arena) -> bool {
     let child: LeafPtr = NodePtr::from_slot(0);
     let node: InnerNode4<u8, u8, 4> = InnerNode4::from_prefix(b"ab", 2);
-    let inner = match store(&mut arena, node) {
+    let inner = match store(arena, node) {
         Ok(inner) => inner,
-        Err(_refused) => return Err(Fail::from("refused")),
+        Err(_refused) => return false,
     };
-    assert!(rt; arena.holds(inner.to_opaque()));
+    if !arena.holds(inner.to_opaque()) {
+        return false;
+    }
     arena
         .as_mut::<InnerNode4<u8, u8, 4>>(inner)
         .write_child(7, child.to_opaque());
     let node = arena.as_ref::<InnerNode4<u8, u8, 4>>(inner);
-    assert!(rt; node.lookup_child(7).is_some());
-    assert!(rt; node.lookup_child(8).is_none());
-    Ok(())
+    node.lookup_child(7).is_some() && node.lookup_child(8).is_none()
+}
+
+#[test]
+fn an_inner_node_is_written(rt: HostRuntime) {
+    let mut arena: Arena = NodeArena::new(rt.alloc());
+    assert!(rt; arena.fits_in_memory());
+    assert!(rt; is_written(&mut arena));
 }
 
 // Ends a window.
@@ -39,11 +44,11 @@ fn came(rt: &HostRuntime, is_ok: bool) -> Result<(), Fail> {
 }
 
 // Stores a node, in a window. A node that was refused is handed back, and stored outside.
-fn stored<K: Drop, V: Drop, N: Stored<K, V, NodeArena<K, V, 4>> + Drop>(
+fn stored_in<K, V, N: Stored<K, V, NodeArena<K, V, 4>> + Drop>(
     rt: &HostRuntime,
+    arena: &mut NodeArena<K, V, 4>,
     node: N,
 ) -> Result<bool, Fail> {
-    let mut arena: NodeArena<K, V, 4> = NodeArena::new(rt.alloc());
     eprintln!(rt; "refuse")?;
     let answer = arena.allocate_node_ptr(node);
     came(rt, answer.is_ok())?;
@@ -54,6 +59,15 @@ fn stored<K: Drop, V: Drop, N: Stored<K, V, NodeArena<K, V, 4>> + Drop>(
             .map_err(AllocError::from)?,
     };
     Ok(arena.holds(name.to_opaque()))
+}
+
+// The same in an arena of its own.
+fn stored<K: Drop, V: Drop, N: Stored<K, V, NodeArena<K, V, 4>> + Drop>(
+    rt: &HostRuntime,
+    node: N,
+) -> Result<bool, Fail> {
+    let mut arena: NodeArena<K, V, 4> = NodeArena::new(rt.alloc());
+    stored_in(rt, &mut arena, node)
 }
 
 fn stored_inner<N: InnerNodeInit<4> + Stored<u8, u8, Arena> + Drop>(
@@ -81,32 +95,42 @@ fn stores_an_inner_node_of_each_kind(rt: HostRuntime) -> Result<(), Fail> {
     Ok(())
 }
 
-#[test]
-fn makes_room(rt: HostRuntime) -> Result<(), Fail> {
-    let mut arena: Arena = NodeArena::new(rt.alloc());
+// Makes room, in a window; where there was no memory, once more outside it.
+fn reserves(rt: &HostRuntime, arena: &mut Arena) -> Result<(), Fail> {
     eprintln!(rt; "refuse")?;
     let answer = arena.reserve(2);
-    came(&rt, answer.is_ok())?;
+    came(rt, answer.is_ok())?;
     if answer.is_err() {
         arena.reserve(2)?;
     }
     Ok(())
 }
 
+#[test]
+fn makes_room(rt: HostRuntime) -> Result<(), Fail> {
+    let mut arena: Arena = NodeArena::new(rt.alloc());
+    reserves(&rt, &mut arena)
+}
+
 fn fits<N: InnerNodeInit<4> + Stored<u8, u8, Arena> + Drop>(arena: &mut Arena) -> bool {
     arena.allocate_node_ptr(N::from_prefix(b"ab", 2)).is_ok()
+}
+
+// Makes room, and then stores a node of each kind in a window.
+fn fits_all(rt: &HostRuntime, arena: &mut Arena) -> Result<(), Fail> {
+    arena.reserve(4)?;
+    eprintln!(rt; "refuse")?;
+    let four = fits::<InnerNode4<u8, u8, 4>>(arena);
+    let sixteen = fits::<InnerNode16<u8, u8, 4>>(arena);
+    let forty_eight = fits::<InnerNode48<u8, u8, 4>>(arena);
+    let largest = fits::<InnerNode256<u8, u8, 4>>(arena);
+    came(rt, four && sixteen && forty_eight && largest)
 }
 
 #[test]
 fn what_was_reserved_for_takes_no_memory(rt: HostRuntime) -> Result<(), Fail> {
     let mut arena: Arena = NodeArena::new(rt.alloc());
-    arena.reserve(4)?;
-    eprintln!(rt; "refuse")?;
-    let four = fits::<InnerNode4<u8, u8, 4>>(&mut arena);
-    let sixteen = fits::<InnerNode16<u8, u8, 4>>(&mut arena);
-    let forty_eight = fits::<InnerNode48<u8, u8, 4>>(&mut arena);
-    let largest = fits::<InnerNode256<u8, u8, 4>>(&mut arena);
-    came(&rt, four && sixteen && forty_eight && largest)
+    fits_all(&rt, &mut arena)
 }
 
 // Clones an arena, in a window; where there was no memory, once more outside it.
@@ -178,6 +202,32 @@ fn is_apart<K, V: PartialEq + Drop>(
 }
 
 // Clones an arena with such nodes.
+fn is_cloned<K: Clone + Drop, V: Clone + PartialEq + Drop>(
+    rt: &HostRuntime,
+    arena: &NodeArena<K, V, 4>,
+    names: &Names,
+    other: V,
+) -> Result<bool, Fail> {
+    let mut copy = cloned(rt, arena)?;
+    let have_gaps = has_gap(arena, names) && has_gap(&copy, names);
+    Ok(have_gaps && is_apart(arena, &mut copy, names.leaf, other))
+}
+
+// Stores them, and clones the arena.
+fn clones_a_gap<K: Clone + Drop, V: Clone + PartialEq + Drop>(
+    rt: &HostRuntime,
+    arena: &mut NodeArena<K, V, 4>,
+    gone: (K, V),
+    kept: (K, V),
+    other: V,
+) -> Result<bool, Fail> {
+    match with_a_gap(arena, gone, kept) {
+        Some(names) => is_cloned(rt, arena, &names, other),
+        None => Ok(false),
+    }
+}
+
+// The same in an arena of its own.
 fn clones<K: Clone + Drop, V: Clone + PartialEq + Drop>(
     rt: &HostRuntime,
     gone: (K, V),
@@ -185,13 +235,7 @@ fn clones<K: Clone + Drop, V: Clone + PartialEq + Drop>(
     other: V,
 ) -> Result<bool, Fail> {
     let mut arena: NodeArena<K, V, 4> = NodeArena::new(rt.alloc());
-    let names = match with_a_gap(&mut arena, gone, kept) {
-        Some(names) => names,
-        None => return Ok(false),
-    };
-    let mut copy = cloned(rt, &arena)?;
-    let have_gaps = has_gap(&arena, &names) && has_gap(&copy, &names);
-    Ok(have_gaps && is_apart(&arena, &mut copy, names.leaf, other))
+    clones_a_gap(rt, &mut arena, gone, kept, other)
 }
 
 #[test]

@@ -11,14 +11,13 @@ use art_arena::{
     ArenaReader, LeafPtr, NodeArena, find_leaf, first_leaf, last_leaf, match_full_prefix,
     read_full_prefix,
 };
-use art_bytes::AsBytes;
+use art_bytes::{AsBytes, SliceKey};
 use art_nodes::{
     ExplicitMismatch, InnerNode4, InnerNodeCommon, InnerNodeInit, NodeType, OpaqueNodePtr,
     PrefixMatch,
 };
-use std::alloc::{AllocError, Global};
+use std::alloc::Global;
 use std::cmp::Ordering;
-use std::test::Fail;
 
 // The byte of a key behind the prefix that it begins with.
 fn byte_behind(prefix: &[u8], key: &[u8]) -> Option<u8>
@@ -133,29 +132,51 @@ fn meets<K: AsBytes + Drop, V: Drop>(
     })
 }
 
-// A leaf whose key is the prefix and one more byte.
-fn entry(alloc: Global, prefix: &[u8], last: u8) -> Result<(Vec<u8>, u8), AllocError> {
-    let mut key = prefix.to_vec(alloc)?;
-    key.push(last)?;
-    Ok((key, last))
+// The same in an arena of its own, of which nothing is left.
+fn is_read_as_stored<K: AsBytes + Drop, V: Drop>(
+    alloc: Global,
+    prefix: &[u8],
+    low: (K, V),
+    high: (K, V),
+    is_lent: bool,
+) -> Option<bool> {
+    let mut arena: NodeArena<K, V, 4> = NodeArena::new(alloc);
+    reads_as_stored(&mut arena, prefix, low, high, is_lent)
+}
+
+fn is_met<K: AsBytes + Drop, V: Drop>(
+    alloc: Global,
+    prefix: &[u8],
+    low: (K, V),
+    high: (K, V),
+    key: &[u8],
+) -> Option<Met> {
+    let mut arena: NodeArena<K, V, 4> = NodeArena::new(alloc);
+    meets(&mut arena, prefix, low, high, key)
+}
+
+// A leaf of a key.
+fn entry(key: &[u8]) -> (SliceKey<'_>, u8) {
+    (SliceKey(key), 0)
 }
 
 // The header stores four bytes of a prefix: all of the first two, a front of the others.
 #[test]
-fn a_tree_of_two_leaves(rt: HostRuntime) -> Result<(), Fail> {
-    for (prefix, is_lent) in [
-        (b"ab".as_slice(), false),
-        (b"abcd".as_slice(), false),
-        (b"abcde".as_slice(), true),
-        (b"abcdef".as_slice(), true),
+fn a_tree_of_two_leaves(rt: HostRuntime) {
+    for (prefix, low, high, is_lent) in [
+        (
+            b"ab".as_slice(),
+            b"abx".as_slice(),
+            b"aby".as_slice(),
+            false,
+        ),
+        (b"abcd", b"abcdx", b"abcdy", false),
+        (b"abcde", b"abcdex", b"abcdey", true),
+        (b"abcdef", b"abcdefx", b"abcdefy", true),
     ] {
-        let mut arena: NodeArena<Vec<u8>, u8, 4> = NodeArena::new(rt.alloc());
-        let low = entry(rt.alloc(), prefix, b'x')?;
-        let high = entry(rt.alloc(), prefix, b'y')?;
-        let done = reads_as_stored(&mut arena, prefix, low, high, is_lent);
+        let done = is_read_as_stored(rt.alloc(), prefix, entry(low), entry(high), is_lent);
         assert!(rt; done == Some(true), "{prefix:?}");
     }
-    Ok(())
 }
 
 fn whole(matched_bytes: usize) -> Result<PrefixMatch, ExplicitMismatch> {
@@ -171,9 +192,13 @@ fn mismatch(matched_bytes: usize, order: Ordering) -> Result<PrefixMatch, Explic
 }
 
 #[test]
-fn keys_in_a_tree_of_two_leaves(rt: HostRuntime) -> Result<(), Fail> {
-    let stored = b"ab".as_slice();
-    let unstored = b"abcdef".as_slice();
+fn keys_in_a_tree_of_two_leaves(rt: HostRuntime) {
+    let stored = (b"ab".as_slice(), b"abx".as_slice(), b"aby".as_slice());
+    let unstored = (
+        b"abcdef".as_slice(),
+        b"abcdefx".as_slice(),
+        b"abcdefy".as_slice(),
+    );
     let (low, high) = (Some(Side::Low), Some(Side::High));
     let (less, greater) = (Ordering::Less, Ordering::Greater);
     for (inner, key, leaf, reads, prefix) in [
@@ -212,11 +237,8 @@ fn keys_in_a_tree_of_two_leaves(rt: HostRuntime) -> Result<(), Fail> {
             reads,
             prefix,
         };
-        let mut arena: NodeArena<Vec<u8>, u8, 4> = NodeArena::new(rt.alloc());
-        let first = entry(rt.alloc(), inner, b'x')?;
-        let last = entry(rt.alloc(), inner, b'y')?;
-        let met = meets(&mut arena, inner, first, last, key);
+        let (front, first, last) = inner;
+        let met = is_met(rt.alloc(), front, entry(first), entry(last), key);
         assert!(rt; met == Some(wanted), "{key:?}");
     }
-    Ok(())
 }

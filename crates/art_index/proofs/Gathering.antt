@@ -1,8 +1,9 @@
 -- Texts that are put into a room one behind another, and the pairs of digits.
-use Rattle.std.proofs.Common.{◌≡◌, ℕ, zero, suc, ◌+◌, ◌*◌, ◌/◌, ◌%◌, ◌<◌, ◌≤◌, Bool, true, false, List, [], ◌∷◌, ◌++◌, length, take, refl, ap, sym, ◌∙◌, subst, arith, append_assoc, append-nil, length-append, length-set}
+use Rattle.std.proofs.Common.{◌≡◌, ℕ, zero, suc, ◌+◌, ◌*◌, ◌/◌, ◌%◌, ◌<◌, ◌≤◌, Bool, true, false, List, [], ◌∷◌, ◌++◌, length, take, codes, refl, ap, sym, ◌∙◌, subst, arith, append_assoc, append-nil, length-append, length-set}
 use Rattle.std.specs.Prelude.{◌==◌, ◌&&◌, slice_index, slice_set, decimal}
 use Rattle.std.proofs.lemmas.Bool.{eqb-true, and_parts}
-use Rattle.std.proofs.lemmas.List.{take_more, take_more_set, take_all}
+use Rattle.std.proofs.lemmas.List.{take_more, take_more_set, take_all, take-take, length-take-le}
+use Rattle.std.proofs.Math.Seq.{take-append-add}
 use Rattle.std.proofs.lemmas.Slice.{take-put_mid}
 use borrow.Rule.Slice.PartMut.{put_mid}
 use Rattle.hex.specs.Hex.{encode_lower, lower_digits}
@@ -10,7 +11,7 @@ use Rattle.hex.proofs.HexLemmas.{length-encode_with}
 use Rattle.art_index.specs.declared.room.TheConstants.{PAIRS}
 use Rattle.art_index.specs.Words.{shown, name, bytes, line_of}
 use Rattle.art_index.specs.Commands.{put_words}
-use Rattle.art_index.specs.Gathered.{Puts}
+use Rattle.art_index.specs.Gathered.{Puts, IsHead, head_of}
 use Rattle.art_index.proofs.HexText.{encode_lower-more, encode_lower-nil}
 use Rattle.art_index.proofs.ReplyLines.{found_parts, put_parts}
 
@@ -89,6 +90,26 @@ puts_then next mid at a b old between new p q =
 -- a text that is written in another way
 pub puts_same : (next at : ℕ) (text text' old new : List ℕ) → text ≡ text' → Puts next at text old new → Puts next at text' old new
 puts_same next at text text' old new e p = subst (λ t. Puts next at t old new) e p
+
+-- a head that was put with the bytes behind it
+pub head_put : (tenant len at behind : ℕ) (text old new : List ℕ) → at + 16 ≤ length old → IsHead tenant text len → Puts behind at text old new → Puts (at + len) at (head_of tenant) old new
+head_put tenant len at behind text old new room head put =
+    let front : List ℕ = take at old in
+    let far = length-take-le at old (omega arith) in
+    let whole = head.long in let fits = head.fits in let next = put.next_is in
+    let long = length-take-le len text (omega arith) in
+    let few = ap length head.told in
+    let shorter = take-take (at + len) behind new in
+    let seam = take-append-add front text len in
+    let here : length front + len ≡ at + len = omega arith in
+    record {
+      next_is = omega arith;
+      told = sym (shorter (omega arith)) ∙ ap (take (at + len)) put.told ∙ ap (λ n. take n (front ++ text)) (sym here) ∙ seam ∙ ap (λ t. front ++ t) head.told;
+    }
+
+-- the line of a record, by its head
+pub line_by_head : (tenant : ℕ) (key value : List ℕ) → head_of tenant ++ (shown (bytes key) ++ (32 ∷ [] ++ (shown (bytes value) ++ 10 ∷ []))) ≡ line_of (put_words tenant key value)
+line_by_head tenant key value = ap (λ t. codes "put " ++ t) (append_assoc (decimal tenant) (32 ∷ []) _) ∙ put_parts tenant tenant key value refl
 
 -- how long the line of a record is
 pub length-line : (number tenant : ℕ) (key value : List ℕ) → number ≡ tenant

@@ -9,6 +9,7 @@
 //! contract can say.
 #![tactic(auto)]
 
+mod ahead;
 mod buffered;
 mod carry;
 mod command;
@@ -38,20 +39,12 @@ use to_writer::ToWriter;
 /// The number of bytes of a prefix that an inner node stores.
 const PREFIX_LEN: usize = 16;
 
-fn main(rt: HostRuntime) -> ExitCode {
-    let bare = match env::args(&rt) {
-        Ok(args) => args.count() <= 1,
-        Err(_) => false,
-    };
-    if !bare {
-        let _ = eprintln!(rt; "art_index: takes no arguments");
-        return ExitCode::from(2);
-    }
+/// Answers standard input out of an index, and tells how it went.
+fn serve(rt: &HostRuntime, index: &mut Index<PREFIX_LEN>) -> ExitCode {
     let buffer = RefCell::new(Buffer::new(rt.stdout()));
-    let mut index: Index<PREFIX_LEN> = Index::new(rt.alloc());
     let mut source = FromReader::new(Input::new(rt.stdin(), &buffer));
     let mut sink = ToWriter::new(Output::new(&buffer));
-    let done = run(&mut index, &mut source, &mut sink);
+    let done = run(index, &mut source, &mut sink);
     let flushed = Buffer::finish(&buffer);
     match done {
         Err(RunFault::Read) => {
@@ -64,4 +57,17 @@ fn main(rt: HostRuntime) -> ExitCode {
             ExitCode::from(1)
         }
     }
+}
+
+fn main(rt: HostRuntime) -> ExitCode {
+    let bare = match env::args(&rt) {
+        Ok(args) => args.count() <= 1,
+        Err(_) => false,
+    };
+    if !bare {
+        let _ = eprintln!(rt; "art_index: takes no arguments");
+        return ExitCode::from(2);
+    }
+    let mut index: Index<PREFIX_LEN> = Index::new(rt.alloc());
+    serve(&rt, &mut index)
 }

@@ -10,10 +10,11 @@ ghost use Rattle.art_index.specs.Gathered.{IsPartTaken};
 ghost use Rattle.art_index.specs.Parsed.{tenant_in_place, key_in_place};
 ghost use Rattle.art_index.specs.Stored.{records_of, ArePairs, IsFullKey, IsPutDone, placed_words};
 
+use crate::ahead::Ahead;
 use crate::command::fields::Fields;
 use crate::placed::Placed;
 use crate::reply::{write_end, write_found, write_piece};
-use crate::room::put_record;
+use crate::room::{Head, put_record};
 use crate::stream::{Sink, WriteFailed};
 use art_bytes::SliceKey;
 use art_map::TreeMap;
@@ -117,21 +118,8 @@ fn make_room<W: Sink>(sink: &mut W, room: &[u8], held: usize) -> Result<usize, W
     Ok(0)
 }
 
-/// A byte that can't be told without a read of the key's first byte and of the value's, where there is a pair.
-#[inline]
-fn touched(pair: Option<(&Vec<u8>, &Vec<u8>)>) -> u8 {
-    let Some((key, value)) = pair else {
-        return 0;
-    };
-    match (key.first(), value.first()) {
-        (Some(of_key), Some(of_value)) => *of_key ^ *of_value,
-        _ => 0,
-    }
-}
-
-/// Writes every record. The lines are gathered, and leave in few pieces. Another walk goes two pairs ahead, so that the
-/// processor waits for a leaf and for the key and the value of the leaf before it at the same time, and formats a line
-/// meanwhile: what it reads goes to the end of the room, where no line comes, so that the reads are not left out.
+/// Writes every record. The lines are gathered, and leave in few pieces. The leaves of many records are read ahead of
+/// their lines; what that tells goes to the end of the room, where no line comes, so that the reads are not left out.
 #[inline(never)]
 pub(crate) fn write_records<W: Sink, const PREFIX_LEN: usize>(
     records: &TreeMap<Vec<u8>, Vec<u8>, PREFIX_LEN>,
@@ -145,16 +133,15 @@ pub(crate) fn write_records<W: Sink, const PREFIX_LEN: usize>(
 {
     let mut room = [0; ROOM];
     let mut held = 0;
-    let mut ahead = records.iter();
-    let _first = ahead.next();
-    let mut coming = ahead.next();
+    let (arena, root) = records.nodes();
+    let mut ahead = Ahead::new(arena, root);
+    let mut head = Head::new(0);
     for (full, value) in records.iter() {
         let (tenant, key) = parts_of(full.as_slice());
         let at = make_room(sink, &room, held)?;
-        let later = ahead.next();
-        room[ROOM - 1] = touched(coming);
-        coming = later;
-        held = put_record(&mut room, at, tenant, key, value.as_slice());
+        room[ROOM - 1] = ahead.step();
+        head.turn_to(tenant);
+        held = put_record(&mut room, at, &head, key, value.as_slice());
     }
     write_piece(sink, &room[..held])?;
     write_end(sink, records.len())

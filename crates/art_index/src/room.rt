@@ -1,10 +1,10 @@
 //! Text that is gathered in a room before it goes to a sink, so that many lines leave in one piece. Each call puts a
 //! text at a place, leaves what stands before it, and tells the place behind it.
-ghost use Rattle.std.specs.Prelude.{◌+◌, ◌*◌, ◌≤◌, ◌∷◌, [], length, decimal};
+ghost use Rattle.std.specs.Prelude.{◌≡◌, ◌+◌, ◌*◌, ◌≤◌, ◌∷◌, [], length, decimal};
 ghost use Rattle.hex.specs.Hex.{encode_lower};
 ghost use Rattle.art_index.specs.Words.{shown, name, bytes, line_of};
 ghost use Rattle.art_index.specs.Commands.{put_words};
-ghost use Rattle.art_index.specs.Gathered.{Puts};
+ghost use Rattle.art_index.specs.Gathered.{Puts, IsHead, head_of};
 
 use itoa::Buffer;
 
@@ -66,15 +66,61 @@ fn put_number(room: &mut [u8], at: usize, number: u64) -> usize
     put_text(room, at, digits.format(number).as_bytes())
 }
 
-/// Puts the line that makes a record.
+/// How many bytes a head takes at most.
+const HEAD: usize = 16;
+
+/// What the lines of a tenant's records begin with: `put`, the tenant's number and the spaces. It is made once for all
+/// lines that begin with it, and put as 16 bytes at a time, of which the line's key then takes the last ones.
+#[derive(Drop)]
+pub(crate) struct Head {
+    tenant: u32,
+    text: [u8; HEAD],
+    len: usize,
+    ghost held: { IsHead tenant text len },
+}
+
+impl Head {
+    /// That of a tenant.
+    #[inline(never)]
+    pub(crate) fn new(tenant: u32) -> Self
+        ensures { result.tenant ≡ tenant }
+    {
+        let mut text = [0; HEAD];
+        let number = put_text(&mut text, 0, b"put ");
+        let space = put_number(&mut text, number, u64::from(tenant));
+        let len = put_text(&mut text, space, b" ");
+        Head { tenant, text, len }
+    }
+
+    /// Makes it that of a tenant.
+    #[inline]
+    pub(crate) fn turn_to(&mut self, tenant: u32)
+        ensures { self.new.tenant ≡ tenant }
+    {
+        if self.tenant != tenant {
+            *self = Head::new(tenant);
+        }
+    }
+
+    /// Puts it.
+    #[inline]
+    fn put(&self, room: &mut [u8], at: usize) -> usize
+        requires { at + 16 ≤ length room.old }
+        ensures { Puts result at (head_of self.now.tenant) room.old room.new }
+    {
+        let _behind = put_text(room, at, &self.text);
+        at + self.len
+    }
+}
+
+/// Puts the line that makes a record of the tenant with this head.
 #[inline]
-pub(crate) fn put_record(room: &mut [u8], at: usize, tenant: u32, key: &[u8], value: &[u8]) -> usize
-    requires { at + length (line_of (put_words tenant key.now value.now)) ≤ length room.old }
-    ensures { Puts result at (line_of (put_words tenant key.now value.now)) room.old room.new }
+pub(crate) fn put_record(room: &mut [u8], at: usize, head: &Head, key: &[u8], value: &[u8]) -> usize
+    requires head { at + 16 ≤ length room.old }
+    requires line { at + length (line_of (put_words head.now.tenant key.now value.now)) ≤ length room.old }
+    ensures { Puts result at (line_of (put_words head.now.tenant key.now value.now)) room.old room.new }
 {
-    let number = put_text(room, at, b"put ");
-    let space = put_number(room, number, u64::from(tenant));
-    let digits = put_text(room, space, b" ");
+    let digits = head.put(room, at);
     let space = put_bytes(room, digits, key);
     let digits = put_text(room, space, b" ");
     let newline = put_bytes(room, digits, value);

@@ -1,4 +1,6 @@
 //! What no clause says: worked lines from outside, however they are cut, and both ends failing at each place.
+ghost use Rattle.std.specs.Prelude.{◌≤◌};
+
 use crate::command::{Command, parse_line};
 use crate::from_reader::FromReader;
 use crate::index::{Index, RunFault};
@@ -72,6 +74,18 @@ fn run_over<const PREFIX_LEN: usize>(
     run(index, &mut source, &mut sink)
 }
 
+/// Runs the text over a new index.
+fn run_over_none<const PREFIX_LEN: usize>(
+    alloc: Global,
+    pieces: Pieces<'_>,
+    out: &mut Kept,
+) -> Result<(), RunFault>
+    requires { PREFIX_LEN ≤ 16 }
+{
+    let mut index: Index<PREFIX_LEN> = Index::new(alloc);
+    run_over(&mut index, pieces, out)
+}
+
 /// A whole text, cut behind its first bytes.
 fn cut_text(text: &[u8], first: usize) -> Pieces<'_> {
     Pieces {
@@ -91,12 +105,10 @@ fn is_answered<const PREFIX_LEN: usize>(
 ) {
     assert!(rt; PREFIX_LEN <= 16);
     for first in 1..text.len().max(1) {
-        let mut index: Index<PREFIX_LEN> = Index::new(alloc);
         let mut out = make_kept(alloc, usize::MAX);
-        assert!(rt; run_over(&mut index, cut_text(text, first), &mut out).is_ok());
+        assert!(rt; run_over_none::<PREFIX_LEN>(alloc, cut_text(text, first), &mut out).is_ok());
         assert_eq!(rt; out.bytes.as_slice(), wanted, "cut at {first}");
     }
-    let mut index: Index<PREFIX_LEN> = Index::new(alloc);
     let mut out = make_kept(alloc, usize::MAX);
     let bytes = Pieces {
         rest: text,
@@ -104,7 +116,7 @@ fn is_answered<const PREFIX_LEN: usize>(
         more: 1,
         fails: false,
     };
-    assert!(rt; run_over(&mut index, bytes, &mut out).is_ok());
+    assert!(rt; run_over_none::<PREFIX_LEN>(alloc, bytes, &mut out).is_ok());
     assert_eq!(rt; out.bytes.as_slice(), wanted, "byte by byte");
 }
 
@@ -213,9 +225,8 @@ fn a_long_last_line_is_bad_once(rt: HostRuntime) -> Result<(), Fail> {
     for _ in 0..9000 {
         text.push(b'a')?;
     }
-    let mut index: Index<16> = Index::new(rt.alloc());
     let mut out = make_kept(rt.alloc(), usize::MAX);
-    assert!(rt; run_over(&mut index, cut_text(text.as_slice(), 4097), &mut out).is_ok());
+    assert!(rt; run_over_none::<16>(rt.alloc(), cut_text(text.as_slice(), 4097), &mut out).is_ok());
     assert_eq!(rt; out.bytes.as_slice(), b"bad\n".as_slice());
     let mut out = make_kept(rt.alloc(), usize::MAX);
     let fails = Pieces {
@@ -224,7 +235,8 @@ fn a_long_last_line_is_bad_once(rt: HostRuntime) -> Result<(), Fail> {
         more: usize::MAX,
         fails: true,
     };
-    assert!(rt; matches!(run_over(&mut index, fails, &mut out), Err(RunFault::Read)));
+    let ran = run_over_none::<16>(rt.alloc(), fails, &mut out);
+    assert!(rt; matches!(ran, Err(RunFault::Read)));
     assert_eq!(rt; out.bytes.as_slice(), b"".as_slice());
     Ok(())
 }
@@ -249,7 +261,6 @@ fn a_failed_read_leaves_the_whole_lines(rt: HostRuntime) {
         (66, 61),
     ];
     for count in 0..LINES.len() {
-        let mut index: Index<16> = Index::new(rt.alloc());
         let mut out = make_kept(rt.alloc(), usize::MAX);
         let fails = Pieces {
             rest: &LINES[..count],
@@ -257,10 +268,8 @@ fn a_failed_read_leaves_the_whole_lines(rt: HostRuntime) {
             more: 7,
             fails: true,
         };
-        assert!(rt;
-            matches!(run_over(&mut index, fails, &mut out), Err(RunFault::Read)),
-            "after {count}"
-        );
+        let ran = run_over_none::<16>(rt.alloc(), fails, &mut out);
+        assert!(rt; matches!(ran, Err(RunFault::Read)), "after {count}");
         let mut told = 0;
         for (line_end, reply_end) in ends {
             if line_end <= count {
@@ -278,20 +287,13 @@ fn a_failed_read_leaves_the_whole_lines(rt: HostRuntime) {
 #[test]
 fn a_failed_write_cuts_the_replies(rt: HostRuntime) {
     for room in 0..REPLIES.len() {
-        let mut index: Index<16> = Index::new(rt.alloc());
         let mut out = make_kept(rt.alloc(), room);
-        assert!(rt;
-            matches!(
-                run_over(&mut index, cut_text(LINES, 30), &mut out),
-                Err(RunFault::Write)
-            ),
-            "after {room}"
-        );
+        let ran = run_over_none::<16>(rt.alloc(), cut_text(LINES, 30), &mut out);
+        assert!(rt; matches!(ran, Err(RunFault::Write)), "after {room}");
         assert_eq!(rt; out.bytes.as_slice(), &REPLIES[..room]);
     }
-    let mut index: Index<16> = Index::new(rt.alloc());
     let mut out = make_kept(rt.alloc(), REPLIES.len());
-    assert!(rt; run_over(&mut index, cut_text(LINES, 30), &mut out).is_ok());
+    assert!(rt; run_over_none::<16>(rt.alloc(), cut_text(LINES, 30), &mut out).is_ok());
     assert_eq!(rt; out.bytes.as_slice(), REPLIES);
 }
 
@@ -384,7 +386,6 @@ fn reads_as_long_as_there_is_more(rt: HostRuntime) -> Result<(), Fail> {
         text.extend_from_slice(LINE)?;
         wanted.extend_from_slice(b"none\n")?;
     }
-    let mut index: Index<16> = Index::new(rt.alloc());
     let mut out = make_kept(rt.alloc(), usize::MAX);
     let bytes = Pieces {
         rest: text.as_slice(),
@@ -392,7 +393,7 @@ fn reads_as_long_as_there_is_more(rt: HostRuntime) -> Result<(), Fail> {
         more: 1,
         fails: false,
     };
-    assert!(rt; run_over(&mut index, bytes, &mut out).is_ok());
+    assert!(rt; run_over_none::<16>(rt.alloc(), bytes, &mut out).is_ok());
     assert!(rt; out.bytes == wanted);
     Ok(())
 }
@@ -452,18 +453,16 @@ fn reads_a_line_as_a_command(rt: HostRuntime) {
     assert!(rt; matches!(parse_line(b"get 0 -"), Some(Command::Get { .. })));
 }
 
-#[test]
-fn handles_a_line(rt: HostRuntime) -> Result<(), Fail> {
-    let mut index: Index<4> = Index::new(rt.alloc());
-    let mut out = make_kept(rt.alloc(), usize::MAX);
-    let mut sink = ToWriter::new(&mut out);
-    let done = index.handle(b"put 3 ab cd", &mut sink)?;
-    assert!(rt; !done.memory);
-    assert_eq!(rt; done.visits, 0);
-    assert!(rt; !sink.failed());
+/// Whether a line is handled with memory to spare and no visit, and its reply taken.
+fn is_handled(index: &mut Index<4>, line: &[u8], out: &mut Kept) -> Result<bool, RunFault> {
+    let mut sink = ToWriter::new(out);
+    let done = index.handle(line, &mut sink)?;
     index.holds_records();
-    assert_eq!(rt; out.bytes.as_slice(), b"new\n".as_slice());
-    assert_eq!(rt; index.byte_map().len(), 1);
+    Ok(!done.memory && done.visits == 0 && !sink.failed())
+}
+
+/// The laws, which do nothing.
+fn call_laws() {
     laws::own_reads_back();
     laws::others_are_untouched();
     laws::own_is_in_place();
@@ -471,7 +470,17 @@ fn handles_a_line(rt: HostRuntime) -> Result<(), Fail> {
     laws::spells_one_command();
     laws::full_keys_keep_order();
     laws::full_keys_keep_conflicts();
-    Ok(())
+}
+
+#[test]
+fn handles_a_line(rt: HostRuntime) {
+    call_laws();
+    let mut index: Index<4> = Index::new(rt.alloc());
+    let mut out = make_kept(rt.alloc(), usize::MAX);
+    let handled = is_handled(&mut index, b"put 3 ab cd", &mut out);
+    assert!(rt; matches!(handled, Ok(true)));
+    assert_eq!(rt; out.bytes.as_slice(), b"new\n".as_slice());
+    assert_eq!(rt; index.byte_map().len(), 1);
 }
 
 #[test]

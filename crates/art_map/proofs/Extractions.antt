@@ -2,7 +2,7 @@
 use Rattle.std.proofs.Common.{◌≡◌, ℕ, ◌<◌, List, [], ◌∷◌, ◌++◌, length, Option, Some, None, Result, Ok, Err, OnOk, OnErr, refl, sym, ap, ap₂, subst, ◌∙◌, append_assoc, arith}
 use Rattle.std.proofs.lemmas.List.{append-nil, map-append}
 use Rattle.std.proofs.Math.Logic.{∥∥₁_elim, ∥∥₁_map}
-use Rattle.std.specs.Prelude.{MatchOption}
+use Rattle.std.specs.Prelude.{MatchOption, option_map}
 use Rattle.art_nodes.specs.Name.{Name}
 use Rattle.art_arena.specs.arena.Arena.{node_at, links_at, held_at}
 use Rattle.art_arena.specs.arena.Cells.{Cell, pair, branches, leaf_name}
@@ -21,7 +21,7 @@ use Rattle.art_operations.proofs.NamedLeaves.{held-some}
 use Rattle.art_walks.specs.Runs.{Ends, HasEnds, IsWalk}
 use Rattle.art_walks.specs.Walked.{AreStored}
 use Rattle.art_walks.proofs.RunLengths.{run-pairs}
-use Rattle.art_map.specs.Contents.{Contents, HasLeafAt}
+use Rattle.art_map.specs.Contents.{Contents, HasLeafAt, first_item, last_item}
 use Rattle.art_map.specs.Found.{HasPairAt}
 use Rattle.art_arena.proofs.shapes.LinkedLists.{ends_with-first}
 use Rattle.art_map.specs.Leaves.{AreLeaves, IsRun, IsNextAt, slot_at, with_end, with_value_where}
@@ -375,3 +375,18 @@ module _ {K V : Type 0} (bytes : K → List ℕ) (P : ℕ) (m : Contents K V) wh
   pub same-key-at : (end : End) (k l : K) (v w : V) (rest others ps : List (K × V)) → IsAtEnd end (k, v) rest ps → IsAtEnd end (l, w) others ps → k ≡ l
   same-key-at First k l v w rest others ps e f = let same : ◌≡◌ {A = List (K × V)} ((k, v) ∷ rest) ((l, w) ∷ others) = sym e ∙ f in let head : ◌≡◌ {A = K × V} (k, v) (l, w) = cc in ap (λ (p : K × V). p.0) head
   same-key-at Last k l v w rest others ps e f = ap (λ (p : K × V). p.0) (snoc-same rest others (k, v) (l, w) (sym e ∙ f)).1
+
+-- the pair that is shown at an end is the first item, or the last
+last-is : {X : Type 0} (xs : List X) (x : X) → last_item (xs ++ x ∷ []) ≡ Some x
+last-is [] x = refl
+last-is (y ∷ []) x = refl
+last-is (y ∷ z ∷ ys) x = last-is (z ∷ ys) x
+
+module _ {X Y : Type 0} (shows : Y → X) (xs : List X) where
+  pub first-shown : (o : Option Y) → MatchOption o (xs ≡ []) (λ y. (rest : List X) × IsAtEnd First (shows y) rest xs) → option_map shows o ≡ first_item xs
+  first-shown None is = sym (ap first_item is)
+  first-shown (Some y) (rest, is) = sym (ap first_item is)
+
+  pub last-shown : (o : Option Y) → MatchOption o (xs ≡ []) (λ y. (rest : List X) × IsAtEnd Last (shows y) rest xs) → option_map shows o ≡ last_item xs
+  last-shown None is = sym (ap last_item is)
+  last-shown (Some y) (rest, is) = sym (ap last_item is ∙ last-is rest (shows y))

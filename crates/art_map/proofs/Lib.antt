@@ -14,3 +14,4 @@ pub mod Overwritten
 pub mod Extractions
 pub mod Asks
 pub mod Ranges
+pub mod PrefixEntries

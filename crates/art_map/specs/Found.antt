@@ -1,11 +1,18 @@
 -- The leaf that a look-up finds in a map.
-use Rattle.std.specs.Prelude.{◌≡◌, ℕ, Bool, Option, Some, None, IsSome, refl}
+use Rattle.std.specs.Prelude.{◌≡◌, ℕ, Bool, true, Option, Some, None, IsSome, is_some, refl}
 use Rattle.std.specs.Map.{lookup_entry, set_value}
 use Rattle.art_arena.specs.arena.Arena.{Held, cell_of, held_at, node_at}
 use Rattle.art_arena.specs.arena.Cells.{Cell, leaf_name, pair, branches}
 use Rattle.art_arena.proofs.shapes.LeafValues.{leaf-there}
 use Rattle.art_map.specs.Contents.{Contents, HasLeafAt}
 use Rattle.art_map.specs.Lends.{with_value_at}
+use Rattle.art_map.specs.declared.map.prefix_entry.Spot.{Spot}
+use Rattle.art_map.specs.declared.map.prefix_entry.Spot.TheVariants.{Stored, New}
+
+-- the leaf of a key, where it is stored
+abbrev pub stored_slot : {K : Type 0} → Spot K → Option ℕ
+stored_slot (Stored slot) = Some slot
+stored_slot (New k) = None
 
 module _ {K V : Type 0} where
   -- the leaf under this slab key has this pair
@@ -36,6 +43,11 @@ module _ {K V : Type 0} where
 
   abbrev pub HasPairUnder : Contents K V → ℕ → Type 0
   HasPairUnder m slot = IsSome (pair_under m slot)
+
+  -- where a key is stored, its leaf has a pair
+  abbrev pub is_held : Contents K V → Spot K → Bool
+  is_held m (Stored slot) = is_some (pair_under m slot)
+  is_held m (New k) = true
 
   -- where a leaf has a pair, it is there
   pub has_leaf : (m : Contents K V) (slot : ℕ) → HasPairUnder m slot → HasLeafAt m slot

@@ -1,7 +1,7 @@
--- What a contract says of a prefix entry. The words serve its parts too, as `occupied_key (Inner e)`.
+-- What a contract says of a prefix entry. The words serve its kinds too, as `occupied_key (Inner e)`.
 pub use Rattle.art_map.specs.declared.map.prefix_entry.PrefixEntry.TheVariants.{Occupied, Vacant}
-pub use Rattle.art_map.specs.declared.map.prefix_entry.PrefixOccupied.TheVariants.{Leaf, Inner}
-use Rattle.std.specs.Prelude.{◌≡◌, ℕ, List, [], Option, Some, None, option_map, Result}
+pub use Rattle.art_map.specs.declared.map.prefix_entry.PrefixOccupiedKind.TheVariants.{Leaf, Inner}
+use Rattle.std.specs.Prelude.{◌≡◌, ℕ, true, List, [], Option, Some, None, option_map, Result}
 use Rattle.std.specs.Borrow.{Fml, RattleType, MutBor, Lends, LendsSo, LendsSoOk, RestsIfErr}
 use Rattle.std.specs.Map.{set_value}
 use Rattle.std.specs.Option.{OnSome}
@@ -18,8 +18,13 @@ use Rattle.art_map.specs.declared.map.entry.OccupiedEntry.{OccupiedEntry}
 use Rattle.art_map.specs.declared.map.prefix_entry.InnerOccupiedEntry.{InnerOccupiedEntry}
 use Rattle.art_map.specs.declared.map.prefix_entry.PrefixEntry.{PrefixEntry}
 use Rattle.art_map.specs.declared.map.prefix_entry.PrefixOccupied.{PrefixOccupied}
+use Rattle.art_map.specs.declared.map.prefix_entry.PrefixOccupiedKind.{PrefixOccupiedKind}
+use Rattle.art_map.specs.declared.map.prefix_entry.Spot.{Spot}
+use Rattle.art_map.specs.declared.map.prefix_entry.Spot.TheVariants.{Stored, New}
+use Rattle.art_map.specs.Found.{is_held}
 use Rattle.art_map.specs.contracts.map.TreeMap as map
 use Rattle.art_map.specs.contracts.map.prefix_entry.InnerOccupiedEntry as inner
+use Rattle.art_map.specs.contracts.map.prefix_entry.PrefixOccupied as occupied
 
 module _ {K V : Type 0} {P : ℕ} {M : Type 0} where
   -- the pairs that an insertion would remove
@@ -34,47 +39,59 @@ module _ {K V : Type 0} {P : ℕ} {M : Type 0} where
     pub pairs_are : n.map.now.pairs ≡ pairs
 
 module _ {K V : Type 0} {P : ℕ} {M : Type 0} {g : as_bytes.Ghosts K} where
+  -- the entry of its own kind that a prefix entry is, where stored keys overlap its key
+  abbrev pub kind_at : (e : PrefixOccupied K V P M g) → (s : Spot K) → is_held e.map.now s ≡ true
+      → PrefixOccupiedKind K V P M g
+  kind_at e (Stored slot) held = Leaf (record { map = e.map; leaf = slot; mark = e.mark; held = held })
+  kind_at e (New k) held = Inner (record { map = e.map; key = k; mark = e.mark })
+
+  abbrev pub occupied_kind : PrefixOccupied K V P M g → PrefixOccupiedKind K V P M g
+  occupied_kind e = kind_at e e.spot e.held
+
   -- the reference to the map
-  abbrev pub occupied_map : PrefixOccupied K V P M g → MutBor (Contents K V)
+  abbrev pub occupied_map : PrefixOccupiedKind K V P M g → MutBor (Contents K V)
   occupied_map (Leaf o) = o.map
   occupied_map (Inner e) = e.map
 
   abbrev pub prefix_map : PrefixEntry K V P M g → MutBor (Contents K V)
-  prefix_map (Occupied (Leaf o)) = o.map
-  prefix_map (Occupied (Inner e)) = e.map
+  prefix_map (Occupied o) = o.map
   prefix_map (Vacant e) = e.map
 
   -- the stored key, or where it is not stored the one that would go in
-  abbrev pub occupied_key : PrefixOccupied K V P M g → K
+  abbrev pub occupied_key : PrefixOccupiedKind K V P M g → K
   occupied_key (Leaf o) = entry.entry_key (entry.Occupied o)
   occupied_key (Inner e) = e.key
 
   abbrev pub prefix_key : PrefixEntry K V P M g → K
-  prefix_key (Occupied o) = occupied_key o
+  prefix_key (Occupied o) = occupied_key (occupied_kind o)
   prefix_key (Vacant e) = e.key
 
   -- the value of the key, if it is stored
-  abbrev pub occupied_value : PrefixOccupied K V P M g → Option V
+  abbrev pub occupied_value : PrefixOccupiedKind K V P M g → Option V
   occupied_value (Leaf o) = entry.entry_value (entry.Occupied o)
   occupied_value (Inner e) = None
 
   abbrev pub prefix_value : PrefixEntry K V P M g → Option V
-  prefix_value (Occupied o) = occupied_value o
+  prefix_value (Occupied o) = occupied_value (occupied_kind o)
   prefix_value (Vacant e) = None
 
   -- the pairs of the map, once w is the value of the key
-  abbrev pub occupied_pairs_with : PrefixOccupied K V P M g → V → List (K × V)
+  abbrev pub occupied_pairs_with : PrefixOccupiedKind K V P M g → V → List (K × V)
   occupied_pairs_with (Leaf o) w = entry.entry_pairs (entry.Occupied o) w
   occupied_pairs_with (Inner e) w = with_pair_over g.bytes e.key w e.map.now.pairs
 
+  abbrev pub prefix_pairs_with : PrefixEntry K V P M g → V → List (K × V)
+  prefix_pairs_with (Occupied o) w = occupied_pairs_with (occupied_kind o) w
+  prefix_pairs_with (Vacant e) w = entry.entry_pairs (entry.Vacant e) w
+
   -- the one pair that an insertion would replace or remove, where it is one alone
-  abbrev pub lone_pair : PrefixOccupied K V P M g → Option (K × V)
+  abbrev pub lone_pair : PrefixOccupiedKind K V P M g → Option (K × V)
   lone_pair (Leaf o) = option_map (λ v. (entry.entry_key (entry.Occupied o), v)) (entry.entry_value (entry.Occupied o))
   lone_pair (Inner e) = lone_item (removed_pairs g.bytes e)
 
   -- the stored key of that pair, or the new key where no stored key overlaps it
   abbrev pub shown_key : PrefixEntry K V P M g → Option K
-  shown_key (Occupied o) = entry.option_key (lone_pair o)
+  shown_key (Occupied o) = entry.option_key (lone_pair (occupied_kind o))
   shown_key (Vacant e) = Some e.key
 
   -- d is the entry e, once its key was put in with the value w
@@ -86,25 +103,39 @@ module _ {K V : Type 0} {P : ℕ} {M : Type 0} {g : as_bytes.Ghosts K} where
     pub writes : (u : V) → entry.entry_pairs (entry.Occupied d) u ≡ with_pair_over g.bytes e.key u e.map.now.pairs
 
   -- d is the entry, once w is the value of its key
-  abbrev pub IsOccupiedWritten : PrefixOccupied K V P M g → V → OccupiedEntry K V P M g → Type 0
+  abbrev pub IsOccupiedWritten : PrefixOccupiedKind K V P M g → V → OccupiedEntry K V P M g → Type 0
   IsOccupiedWritten (Leaf o) w d = entry.IsWritten (entry.Occupied o) w (entry.Occupied d)
   IsOccupiedWritten (Inner e) w d = IsInnerWritten e w d
 
   abbrev pub IsPrefixWritten : PrefixEntry K V P M g → V → OccupiedEntry K V P M g → Type 0
-  IsPrefixWritten (Occupied o) w d = IsOccupiedWritten o w d
+  IsPrefixWritten (Occupied o) w d = IsOccupiedWritten (occupied_kind o) w d
   IsPrefixWritten (Vacant e) w d = entry.IsWritten (entry.Vacant e) w (entry.Occupied d)
 
+  -- n is the entry e, once w is the value of the pair that it shows
+  abbrev pub IsShownWritten : PrefixOccupiedKind K V P M g → V → PrefixOccupiedKind K V P M g → Type 0
+  IsShownWritten (Leaf o) w (Leaf n) = entry.IsWritten (entry.Occupied o) w (entry.Occupied n)
+  IsShownWritten (Inner e) w (Inner n) =
+      IsWithPairs e (set_value (overlaps_query g.bytes (g.bytes e.key)) e.map.now.pairs w) n
+  IsShownWritten (Leaf o) w (Inner n) = ⊥
+  IsShownWritten (Inner e) w (Leaf n) = ⊥
+
   -- d is the entry, as it is or, where its key was not stored, with a value that is one of these
+  abbrev pub IsOccupiedFilled : PrefixOccupiedKind K V P M g → (V → Type 0) → OccupiedEntry K V P M g → Type 0
+  IsOccupiedFilled (Leaf o) Gives d = entry.IsFilled (entry.Occupied o) Gives d
+  IsOccupiedFilled (Inner e) Gives d = (v : V) × Gives v × IsInnerWritten e v d
+
   abbrev pub IsPrefixFilled : PrefixEntry K V P M g → (V → Type 0) → OccupiedEntry K V P M g → Type 0
-  IsPrefixFilled (Occupied (Leaf o)) Gives d = entry.IsFilled (entry.Occupied o) Gives d
-  IsPrefixFilled (Occupied (Inner e)) Gives d = (v : V) × Gives v × IsInnerWritten e v d
+  IsPrefixFilled (Occupied o) Gives d = IsOccupiedFilled (occupied_kind o) Gives d
   IsPrefixFilled (Vacant e) Gives d = entry.IsFilled (entry.Vacant e) Gives d
 
   -- the entry is that of this key in these pairs: the key is stored; or it is not, and in conflict with stored keys; or
   -- it is not, and no stored key is in conflict with it
+  abbrev pub IsOccupiedOf : List (K × V) → K → PrefixOccupiedKind K V P M g → Type 0
+  IsOccupiedOf pairs k (Leaf o) = entry.IsEntryOf pairs k (entry.Occupied o)
+  IsOccupiedOf pairs k (Inner e) = (e.key ≡ k) × IsBlocked (key_of g.bytes) (g.bytes k) pairs
+
   abbrev pub IsPrefixEntryOf : List (K × V) → K → PrefixEntry K V P M g → Type 0
-  IsPrefixEntryOf pairs k (Occupied (Leaf o)) = entry.IsEntryOf pairs k (entry.Occupied o)
-  IsPrefixEntryOf pairs k (Occupied (Inner e)) = (e.key ≡ k) × IsBlocked (key_of g.bytes) (g.bytes k) pairs
+  IsPrefixEntryOf pairs k (Occupied o) = IsOccupiedOf pairs k (occupied_kind o)
   IsPrefixEntryOf pairs k (Vacant e) =
       entry.IsEntryOf pairs k (entry.Vacant e) × (IsBlocked (key_of g.bytes) (g.bytes k) pairs → ⊥)
 
@@ -122,6 +153,13 @@ module _ (K V : RattleType) (P : ℕ) (key : as_bytes.Ghosts K.Denot) where
       (set_value (overlaps_query key.bytes (key.bytes e.now.key)) e.now.map.now.pairs w) n))
       (λ n. IsWithPairs e.now e.now.map.now.pairs n)
 
+  -- the same of the only pair that a `PrefixOccupied` shows
+  abbrev pub lends_shown : MutBor (PrefixOccupied K.Denot V.Denot P map_row.Denot key) → Option (MutBor V.Denot) → Fml
+  lends_shown e r =
+      LendsSo (occupied.the_row (record { mir = named 1; lft = [] }) K V (number P) map_row key) V e r
+      (λ n w. OnSome r (IsShownWritten (occupied_kind e.now) w (occupied_kind n)))
+      (λ n. (n.map ≡ e.now.map) × (n.spot ≡ e.now.spot))
+
   -- once the borrow r of the map ends, the entry has the map that it leaves
   abbrev pub lends_inner_map : MutBor (InnerOccupiedEntry K.Denot V.Denot P map_row.Denot)
       → MutBor (Contents K.Denot V.Denot) → Fml
@@ -131,14 +169,26 @@ module _ (K V : RattleType) (P : ℕ) (key : as_bytes.Ghosts K.Denot) where
 
   -- once the borrow r ends, the map has the last value written through r under the entry's key; where there is none,
   -- its pairs are as they were
-  abbrev pub lends_occupied : {E : Type 0} → PrefixOccupied K.Denot V.Denot P map_row.Denot key
+  abbrev pub lends_prefix : {E : Type 0} → PrefixEntry K.Denot V.Denot P map_row.Denot key
       → Result (MutBor V.Denot) E → Fml
-  lends_occupied o r =
-      LendsSoOk map_row V (occupied_map o) r (λ n w. n.pairs ≡ occupied_pairs_with o w)
-      (λ n. n.pairs ≡ (occupied_map o).now.pairs)
+  lends_prefix e r =
+      LendsSoOk map_row V (prefix_map e) r (λ n w. n.pairs ≡ prefix_pairs_with e w)
+      (λ n. n.pairs ≡ (prefix_map e).now.pairs)
 
   -- where r has no entry, the pairs of the map are as they were
-  abbrev pub occupied_rests : {E : Type 0} → PrefixOccupied K.Denot V.Denot P map_row.Denot key
+  abbrev pub prefix_rests : {E : Type 0} → PrefixEntry K.Denot V.Denot P map_row.Denot key
       → Result (OccupiedEntry K.Denot V.Denot P map_row.Denot key) E → Fml
-  occupied_rests o r =
-      RestsIfErr map_row (occupied_map o) (λ d. d.map.ghost_name) r (λ n. n.pairs ≡ (occupied_map o).now.pairs)
+  prefix_rests e r =
+      RestsIfErr map_row (prefix_map e) (λ d. d.map.ghost_name) r (λ n. n.pairs ≡ (prefix_map e).now.pairs)
+
+  -- the same of an entry that an insertion of its key would remove pairs
+  abbrev pub lends_inner : {E : Type 0} → InnerOccupiedEntry K.Denot V.Denot P map_row.Denot
+      → Result (MutBor V.Denot) E → Fml
+  lends_inner e r =
+      LendsSoOk map_row V e.map r (λ n w. n.pairs ≡ with_pair_over key.bytes e.key w e.map.now.pairs)
+      (λ n. n.pairs ≡ e.map.now.pairs)
+
+  abbrev pub inner_rests : {E : Type 0} → InnerOccupiedEntry K.Denot V.Denot P map_row.Denot
+      → Result (OccupiedEntry K.Denot V.Denot P map_row.Denot key) E → Fml
+  inner_rests e r =
+      RestsIfErr map_row e.map (λ d. d.map.ghost_name) r (λ n. n.pairs ≡ e.map.now.pairs)

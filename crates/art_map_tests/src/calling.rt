@@ -193,8 +193,7 @@ pub fn last_word(counts: TreeMap<[u8; 4], u32, 16>) -> Option<[u8; 4]> {
 }
 
 /// A film is stored, seen, and taken out again.
-pub fn films(alloc: Global) -> Result<bool, AllocError> {
-    let mut films: TreeMap<StrKey<'_>, u32, 16> = TreeMap::new(alloc);
+pub fn films(films: &mut TreeMap<StrKey<'_>, u32, 16>) -> Result<bool, AllocError> {
     match films.try_insert(StrKey("Office Space"), 4) {
         Ok(None) => {}
         Ok(Some(_)) => return Ok(false),

@@ -164,13 +164,21 @@ fn a_map_drops_its_values(rt: HostRuntime) -> Result<(), Fail> {
 
 fn walks_pairs(map: &Map) -> bool {
     let mut walk = map.iter();
-    walk.len() == 3
-        && walk.next_back() == Some((&[3, 4], &34))
-        && walk.next() == Some((&[1, 2], &12))
-        && walk.len() == 1
-        && walk.next_back() == Some((&[1, 5], &15))
-        && walk.next().is_none()
-        && walk.len() == 0
+    for (left, key, value) in [(3, [3, 4], 34), (2, [1, 2], 12), (1, [1, 5], 15)] {
+        if walk.len() != left {
+            return false;
+        }
+        let pair = if left == 2 {
+            walk.next()
+        } else {
+            walk.next_back()
+        };
+        match pair {
+            Some((found, seen)) if *found == key && *seen == value => {}
+            _ => return false,
+        }
+    }
+    walk.next().is_none() && walk.len() == 0
 }
 
 fn walks_keys(map: &Map) -> bool {

@@ -1,6 +1,7 @@
 //! Entries: each call in each of its outcomes, and rows from outside, for three numbers of stored bytes.
-use crate::seen::{has_values, is_tree, text};
-use art_bytes::{AsBytes, SliceKey, ZeroEnded};
+use crate::refused::each_lends;
+use crate::seen::{has_values, is_tree};
+use art_bytes::SliceKey;
 use art_map::{Entry, TreeMap, TryKeyError};
 use std::alloc::{AllocError, Global};
 
@@ -14,85 +15,6 @@ fn add_ten<const PREFIX_LEN: usize>(
     map.get(&key).copied()
 }
 
-// The values that the calls of an entry lend, of six keys the first two of which are stored.
-fn lent_values<const PREFIX_LEN: usize>(
-    alloc: Global,
-    map: &mut TreeMap<ZeroEnded, usize, PREFIX_LEN>,
-) -> Result<[usize; 6], AllocError> {
-    let a = *map
-        .entry(text(alloc, b"a")?)
-        .or_insert(11)
-        .map_err(|_| AllocError)?;
-    let b = *map
-        .entry(text(alloc, b"b")?)
-        .or_insert(12)
-        .map_err(|_| AllocError)?;
-    let c = *map
-        .entry(text(alloc, b"c")?)
-        .or_insert(13)
-        .map_err(|_| AllocError)?;
-    let d = *map
-        .entry(text(alloc, b"d")?)
-        .or_default()
-        .map_err(|_| AllocError)?;
-    let e = *map
-        .entry(text(alloc, b"e")?)
-        .or_insert_with(|| 14)
-        .map_err(|_| AllocError)?;
-    let f = *map
-        .entry(text(alloc, b"f")?)
-        .or_insert_with_key(|key| key.as_bytes().len())
-        .map_err(|_| AllocError)?;
-    Ok([a, b, c, d, e, f])
-}
-
-// The same by the calls that answer an entry.
-fn entry_values<const PREFIX_LEN: usize>(
-    alloc: Global,
-    map: &mut TreeMap<ZeroEnded, usize, PREFIX_LEN>,
-) -> Result<[usize; 6], AllocError> {
-    let a = *map
-        .entry(text(alloc, b"a")?)
-        .or_insert_entry(11)
-        .map_err(|_| AllocError)?
-        .get();
-    let b = *map
-        .entry(text(alloc, b"b")?)
-        .or_insert_entry(12)
-        .map_err(|_| AllocError)?
-        .get();
-    let c = *map
-        .entry(text(alloc, b"c")?)
-        .or_insert_entry(13)
-        .map_err(|_| AllocError)?
-        .get();
-    let d = *map
-        .entry(text(alloc, b"d")?)
-        .or_default_entry()
-        .map_err(|_| AllocError)?
-        .get();
-    let e = *map
-        .entry(text(alloc, b"e")?)
-        .or_insert_with_entry(|| 14)
-        .map_err(|_| AllocError)?
-        .get();
-    let f = *map
-        .entry(text(alloc, b"f")?)
-        .or_insert_with_key_entry(|key| key.as_bytes().len())
-        .map_err(|_| AllocError)?
-        .get();
-    Ok([a, b, c, d, e, f])
-}
-
-fn put_two<const PREFIX_LEN: usize>(
-    alloc: Global,
-    map: &mut TreeMap<ZeroEnded, usize, PREFIX_LEN>,
-) -> Result<(), AllocError> {
-    map.insert(text(alloc, b"a")?, 1).map_err(|_| AllocError)?;
-    map.insert(text(alloc, b"b")?, 2).map_err(|_| AllocError)?;
-    Ok(())
-}
-
 // Whether a value is changed where a key is stored, and nothing where it is not. The keys are texts that a zero ends.
 fn modifies<const PREFIX_LEN: usize>(map: &mut TreeMap<[u8; 2], usize, PREFIX_LEN>) -> bool {
     map.insert(*b"a\0", 1).is_ok()
@@ -101,33 +23,6 @@ fn modifies<const PREFIX_LEN: usize>(map: &mut TreeMap<[u8; 2], usize, PREFIX_LE
         && add_ten(map, *b"b\0") == Some(12)
         && add_ten(map, *b"c\0").is_none()
         && has_values(map, &[11, 12])
-}
-
-// Whether the stored values are lent, and the given ones where there was none.
-fn lends<const PREFIX_LEN: usize>(
-    alloc: Global,
-    map: &mut TreeMap<ZeroEnded, usize, PREFIX_LEN>,
-) -> Result<bool, AllocError> {
-    put_two(alloc, map)?;
-    let lent = lent_values(alloc, map)?;
-    Ok(
-        lent == [1, 2, 13, 0, 14, 2]
-            && has_values(map, &[1, 2, 13, 0, 14, 2])
-            && is_tree(alloc, map),
-    )
-}
-
-fn lends_entries<const PREFIX_LEN: usize>(
-    alloc: Global,
-    map: &mut TreeMap<ZeroEnded, usize, PREFIX_LEN>,
-) -> Result<bool, AllocError> {
-    put_two(alloc, map)?;
-    let lent = entry_values(alloc, map)?;
-    Ok(
-        lent == [1, 2, 13, 0, 14, 2]
-            && has_values(map, &[1, 2, 13, 0, 14, 2])
-            && is_tree(alloc, map),
-    )
 }
 
 #[test]
@@ -142,22 +37,12 @@ fn a_stored_value_is_modified(rt: HostRuntime) {
 
 #[test]
 fn an_entry_lends_its_value(rt: HostRuntime) {
-    let mut map: TreeMap<ZeroEnded, usize, 0> = TreeMap::with_prefix_len(rt.alloc());
-    assert!(rt; matches!(lends(rt.alloc(), &mut map), Ok(true)));
-    let mut map: TreeMap<ZeroEnded, usize, 4> = TreeMap::with_prefix_len(rt.alloc());
-    assert!(rt; matches!(lends(rt.alloc(), &mut map), Ok(true)));
-    let mut map: TreeMap<ZeroEnded, usize, 16> = TreeMap::with_prefix_len(rt.alloc());
-    assert!(rt; matches!(lends(rt.alloc(), &mut map), Ok(true)));
-}
-
-#[test]
-fn an_entry_is_put_in_where_it_is_vacant(rt: HostRuntime) {
-    let mut map: TreeMap<ZeroEnded, usize, 0> = TreeMap::with_prefix_len(rt.alloc());
-    assert!(rt; matches!(lends_entries(rt.alloc(), &mut map), Ok(true)));
-    let mut map: TreeMap<ZeroEnded, usize, 4> = TreeMap::with_prefix_len(rt.alloc());
-    assert!(rt; matches!(lends_entries(rt.alloc(), &mut map), Ok(true)));
-    let mut map: TreeMap<ZeroEnded, usize, 16> = TreeMap::with_prefix_len(rt.alloc());
-    assert!(rt; matches!(lends_entries(rt.alloc(), &mut map), Ok(true)));
+    let mut map: TreeMap<[u8; 5], usize, 0> = TreeMap::with_prefix_len(rt.alloc());
+    assert!(rt; each_lends(rt.alloc(), &mut map));
+    let mut map: TreeMap<[u8; 5], usize, 4> = TreeMap::with_prefix_len(rt.alloc());
+    assert!(rt; each_lends(rt.alloc(), &mut map));
+    let mut map: TreeMap<[u8; 5], usize, 16> = TreeMap::with_prefix_len(rt.alloc());
+    assert!(rt; each_lends(rt.alloc(), &mut map));
 }
 
 type Pairs = TreeMap<[u8; 2], usize, 16>;

@@ -1,42 +1,16 @@
 //! Entries where memory is refused: what a call answers then, and that the map is as it was.
 
-use crate::refused::{CALLS, Call, Puts, is_kept};
+use crate::nodes::{Map, fill, key_of};
+use crate::refused::{CALLS, Call, Puts, is_kept, put};
 use crate::seen::{has_values, is_tree};
 use art_bytes::SliceKey;
 use art_map::{Entry, TreeMap, TryKeyError};
 use art_operations::InsertRefused;
 use std::test::Fail;
 
-type Map = TreeMap<[u8; 5], usize, 1>;
-
-// The calls that lend the value.
-fn lends(map: &mut Map, key: [u8; 5], call: Call) -> Option<InsertRefused<[u8; 5], usize>> {
-    match call {
-        Call::OrDefault => map.entry(key).or_default().err(),
-        Call::OrInsertWith => map.entry(key).or_insert_with(|| 1000).err(),
-        Call::OrInsertWithKey => map.entry(key).or_insert_with_key(|_| 1000).err(),
-        _ => map.entry(key).or_insert(1000).err(),
-    }
-}
-
-// Those that answer the entry.
-fn answers(map: &mut Map, key: [u8; 5], call: Call) -> Option<InsertRefused<[u8; 5], usize>> {
-    match call {
-        Call::OrInsertEntry => map.entry(key).or_insert_entry(1000).err(),
-        Call::OrDefaultEntry => map.entry(key).or_default_entry().err(),
-        Call::OrInsertWithEntry => map.entry(key).or_insert_with_entry(|| 1000).err(),
-        Call::OrInsertWithKeyEntry => map.entry(key).or_insert_with_key_entry(|_| 1000).err(),
-        _ => map.entry(key).insert_entry(1000).err(),
-    }
-}
-
 impl Puts<[u8; 5]> for Call {
     fn put(&self, map: &mut Map, key: [u8; 5]) -> Option<InsertRefused<[u8; 5], usize>> {
-        if self.is_lending() {
-            lends(map, key, *self)
-        } else {
-            answers(map, key, *self)
-        }
+        put(map, key, *self).err()
     }
 }
 
@@ -49,25 +23,15 @@ struct Vacant {
 impl Puts<[u8; 5]> for Vacant {
     fn put(&self, map: &mut Map, key: [u8; 5]) -> Option<InsertRefused<[u8; 5], usize>> {
         match map.entry(key) {
-            Entry::Vacant(entry) if self.is_entry => entry.insert_entry(1000).err(),
-            Entry::Vacant(entry) => entry.insert(1000).err(),
+            Entry::Vacant(entry) => {
+                if self.is_entry {
+                    entry.insert_entry(1000).err()
+                } else {
+                    entry.insert(1000).err()
+                }
+            }
             Entry::Occupied(_) => None,
         }
-    }
-}
-
-/// Keys below 100 part at the last byte; those from 100 on stand together two by two, up to 179 in front of the former.
-pub(crate) fn key_of(n: u8) -> [u8; 5] {
-    if n < 100 {
-        [1, 2, 90, 4, n]
-    } else {
-        [1, 2, n / 2, 4, n % 2]
-    }
-}
-
-pub(crate) fn fill(map: &mut Map, from: u8, to: u8) {
-    for n in from..to {
-        let _ = map.insert(key_of(n), usize::from(n));
     }
 }
 
@@ -93,13 +57,8 @@ fn makes_grow<C: Puts<[u8; 5]>>(rt: &HostRuntime, call: &C, value: usize) -> Res
 #[test]
 fn entries_that_are_put_in(rt: HostRuntime) -> Result<(), Fail> {
     for call in CALLS {
-        assert!(rt; makes_grow(&rt, &call, call.value())?);
+        assert!(rt; makes_grow(&rt, &call, call.value(5))?);
     }
-    Ok(())
-}
-
-#[test]
-fn vacant_entries_that_are_put_in(rt: HostRuntime) -> Result<(), Fail> {
     for is_entry in [false, true] {
         assert!(rt; makes_grow(&rt, &Vacant { is_entry }, 1000)?);
     }
@@ -109,8 +68,13 @@ fn vacant_entries_that_are_put_in(rt: HostRuntime) -> Result<(), Fail> {
 // Whether a removal of a stored key is refused: that of the pair, or that of the value alone.
 fn is_refused(map: &mut Map, key: [u8; 5], is_pair: bool) -> bool {
     match map.entry(key) {
-        Entry::Occupied(entry) if is_pair => entry.remove_entry().is_err(),
-        Entry::Occupied(entry) => entry.remove().is_err(),
+        Entry::Occupied(entry) => {
+            if is_pair {
+                entry.remove_entry().is_err()
+            } else {
+                entry.remove().is_err()
+            }
+        }
         Entry::Vacant(_) => true,
     }
 }

@@ -1,5 +1,5 @@
-//! Tests of art_map: each public call once, rows from outside, a replay against the sorted vector of art_walks_tests,
-//! and the callers of its CALLING.md.
+//! Tests of art_map: each public call once, rows from outside, each request refused in turn, and the callers of its
+//! CALLING.md. What the tests of its walks use too is the library.
 #![tactic(auto)]
 
 #[cfg(test)]
@@ -10,29 +10,13 @@ mod calls;
 mod entries;
 #[cfg(test)]
 mod entries_refused;
-#[cfg(test)]
-mod extraction;
-#[cfg(test)]
-mod extraction_refused;
-#[cfg(test)]
-mod extraction_rows;
-#[cfg(test)]
-mod into_walks;
+pub mod nodes;
 #[cfg(test)]
 mod prefix_entries;
 #[cfg(test)]
 mod prefix_entries_refused;
 #[cfg(test)]
-mod ranges;
-#[cfg(test)]
 mod refused;
 #[cfg(test)]
-mod replay;
-#[cfg(test)]
 mod rows;
-#[cfg(test)]
-mod seen;
-#[cfg(test)]
-mod small_maps;
-#[cfg(test)]
-mod walks_mut;
+pub mod seen;

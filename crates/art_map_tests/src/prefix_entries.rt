@@ -1,9 +1,10 @@
 //! Prefix entries: each kind of entry, what its calls lend and put in, and the pairs that an insertion removes. The
 //! keys own their bytes: the borrow checker does not cover a match on a prefix entry whose key holds a reference.
 
+use crate::refused::each_lends_over;
 use crate::seen::{has_values, is_tree};
-use art_bytes::{AsBytes, StrKey};
-use art_map::{PrefixEntry, PrefixOccupied, TreeMap};
+use art_bytes::StrKey;
+use art_map::{PrefixEntry, PrefixOccupiedKind, TreeMap};
 use art_walks::SubtreeIter;
 use std::alloc::{AllocError, Global};
 
@@ -42,14 +43,16 @@ fn shows<const PREFIX_LEN: usize>(
     wanted: &[usize],
 ) -> bool {
     match map.prefix_entry(key) {
-        PrefixEntry::Occupied(PrefixOccupied::Inner(entry)) => {
-            let is_lone = wanted.len() == 1;
-            walks(&mut entry.iter(), wanted)
-                && walks_back(&mut entry.iter(), wanted)
-                && entry.get().is_some() == is_lone
-                && entry.get_key().is_some() == is_lone
-        }
-        PrefixEntry::Occupied(PrefixOccupied::Leaf(_)) => false,
+        PrefixEntry::Occupied(entry) => match entry.kind() {
+            PrefixOccupiedKind::Inner(entry) => {
+                let is_lone = wanted.len() == 1;
+                walks(&mut entry.iter(), wanted)
+                    && walks_back(&mut entry.iter(), wanted)
+                    && entry.get().is_some() == is_lone
+                    && entry.get_key().is_some() == is_lone
+            }
+            PrefixOccupiedKind::Leaf(_) => false,
+        },
         PrefixEntry::Vacant(_) => false,
     }
 }
@@ -60,11 +63,13 @@ fn put_over<const PREFIX_LEN: usize>(
     key: Vec<u8>,
 ) -> Option<usize> {
     match map.prefix_entry(key) {
-        PrefixEntry::Occupied(PrefixOccupied::Inner(entry)) => match entry.insert(7) {
-            Ok(value) => Some(*value),
-            Err(_) => None,
+        PrefixEntry::Occupied(entry) => match entry.kind() {
+            PrefixOccupiedKind::Inner(entry) => match entry.insert(7) {
+                Ok(value) => Some(*value),
+                Err(_) => None,
+            },
+            PrefixOccupiedKind::Leaf(_) => None,
         },
-        PrefixEntry::Occupied(PrefixOccupied::Leaf(_)) => None,
         PrefixEntry::Vacant(_) => None,
     }
 }
@@ -75,8 +80,8 @@ fn put_texts<const PREFIX_LEN: usize>(
     map: &mut TreeMap<Vec<u8>, usize, PREFIX_LEN>,
     texts: &[&[u8]],
 ) -> Result<(), AllocError> {
-    for (value, text) in (0usize..).zip(texts) {
-        if map.try_insert(text.to_vec(alloc)?, value).is_err() {
+    for value in 0..texts.len() {
+        if map.try_insert(texts[value].to_vec(alloc)?, value).is_err() {
             return Err(AllocError);
         }
     }
@@ -169,121 +174,14 @@ fn a_front_takes_the_place_of_a_text(rt: HostRuntime) {
     assert!(rt; matches!(texts_are_put_over(rt.alloc(), &mut map), Ok(true)));
 }
 
-// The values that the calls of a prefix entry lend, of six keys the first two of which are stored.
-fn lent_values<const PREFIX_LEN: usize>(
-    map: &mut TreeMap<[u8; 2], usize, PREFIX_LEN>,
-) -> Result<[usize; 6], AllocError> {
-    let a = *map
-        .prefix_entry(*b"a\0")
-        .or_insert(11)
-        .map_err(|_| AllocError)?;
-    let b = *map
-        .prefix_entry(*b"b\0")
-        .or_insert(12)
-        .map_err(|_| AllocError)?;
-    let c = *map
-        .prefix_entry(*b"c\0")
-        .or_insert(13)
-        .map_err(|_| AllocError)?;
-    let d = *map
-        .prefix_entry(*b"d\0")
-        .or_default()
-        .map_err(|_| AllocError)?;
-    let e = *map
-        .prefix_entry(*b"e\0")
-        .or_insert_with(|| 14)
-        .map_err(|_| AllocError)?;
-    let f = *map
-        .prefix_entry(*b"f\0")
-        .or_insert_with_key(|key| key.as_bytes().len())
-        .map_err(|_| AllocError)?;
-    Ok([a, b, c, d, e, f])
-}
-
-// The same by the calls that answer an entry.
-fn entry_values<const PREFIX_LEN: usize>(
-    map: &mut TreeMap<[u8; 2], usize, PREFIX_LEN>,
-) -> Result<[usize; 6], AllocError> {
-    let a = *map
-        .prefix_entry(*b"a\0")
-        .or_insert_entry(11)
-        .map_err(|_| AllocError)?
-        .get();
-    let b = *map
-        .prefix_entry(*b"b\0")
-        .or_insert_entry(12)
-        .map_err(|_| AllocError)?
-        .get();
-    let c = *map
-        .prefix_entry(*b"c\0")
-        .or_insert_entry(13)
-        .map_err(|_| AllocError)?
-        .get();
-    let d = *map
-        .prefix_entry(*b"d\0")
-        .or_default_entry()
-        .map_err(|_| AllocError)?
-        .get();
-    let e = *map
-        .prefix_entry(*b"e\0")
-        .or_insert_with_entry(|| 14)
-        .map_err(|_| AllocError)?
-        .get();
-    let f = *map
-        .prefix_entry(*b"f\0")
-        .or_insert_with_key_entry(|key| key.as_bytes().len())
-        .map_err(|_| AllocError)?
-        .get();
-    Ok([a, b, c, d, e, f])
-}
-
-// Whether the stored values are lent, and the given ones where there was none.
-fn lends<const PREFIX_LEN: usize>(
-    alloc: Global,
-    map: &mut TreeMap<[u8; 2], usize, PREFIX_LEN>,
-) -> Result<bool, AllocError> {
-    map.insert(*b"a\0", 1).map_err(|_| AllocError)?;
-    map.insert(*b"b\0", 2).map_err(|_| AllocError)?;
-    let lent = lent_values(map)?;
-    Ok(
-        lent == [1, 2, 13, 0, 14, 2]
-            && has_values(map, &[1, 2, 13, 0, 14, 2])
-            && is_tree(alloc, map),
-    )
-}
-
-fn lends_entries<const PREFIX_LEN: usize>(
-    alloc: Global,
-    map: &mut TreeMap<[u8; 2], usize, PREFIX_LEN>,
-) -> Result<bool, AllocError> {
-    map.insert(*b"a\0", 1).map_err(|_| AllocError)?;
-    map.insert(*b"b\0", 2).map_err(|_| AllocError)?;
-    let lent = entry_values(map)?;
-    Ok(
-        lent == [1, 2, 13, 0, 14, 2]
-            && has_values(map, &[1, 2, 13, 0, 14, 2])
-            && is_tree(alloc, map),
-    )
-}
-
 #[test]
-fn a_value_is_lent_or_put_in(rt: HostRuntime) {
-    let mut map: TreeMap<[u8; 2], usize, 0> = TreeMap::with_prefix_len(rt.alloc());
-    assert!(rt; matches!(lends(rt.alloc(), &mut map), Ok(true)));
-    let mut map: TreeMap<[u8; 2], usize, 4> = TreeMap::with_prefix_len(rt.alloc());
-    assert!(rt; matches!(lends(rt.alloc(), &mut map), Ok(true)));
-    let mut map: TreeMap<[u8; 2], usize, 16> = TreeMap::with_prefix_len(rt.alloc());
-    assert!(rt; matches!(lends(rt.alloc(), &mut map), Ok(true)));
-}
-
-#[test]
-fn an_entry_is_given_or_put_in(rt: HostRuntime) {
-    let mut map: TreeMap<[u8; 2], usize, 0> = TreeMap::with_prefix_len(rt.alloc());
-    assert!(rt; matches!(lends_entries(rt.alloc(), &mut map), Ok(true)));
-    let mut map: TreeMap<[u8; 2], usize, 4> = TreeMap::with_prefix_len(rt.alloc());
-    assert!(rt; matches!(lends_entries(rt.alloc(), &mut map), Ok(true)));
-    let mut map: TreeMap<[u8; 2], usize, 16> = TreeMap::with_prefix_len(rt.alloc());
-    assert!(rt; matches!(lends_entries(rt.alloc(), &mut map), Ok(true)));
+fn a_prefix_entry_lends_its_value(rt: HostRuntime) {
+    let mut map: TreeMap<Vec<u8>, usize, 0> = TreeMap::with_prefix_len(rt.alloc());
+    assert!(rt; matches!(each_lends_over(rt.alloc(), &mut map), Ok(true)));
+    let mut map: TreeMap<Vec<u8>, usize, 4> = TreeMap::with_prefix_len(rt.alloc());
+    assert!(rt; matches!(each_lends_over(rt.alloc(), &mut map), Ok(true)));
+    let mut map: TreeMap<Vec<u8>, usize, 16> = TreeMap::with_prefix_len(rt.alloc());
+    assert!(rt; matches!(each_lends_over(rt.alloc(), &mut map), Ok(true)));
 }
 
 // Whether another key is vacant.

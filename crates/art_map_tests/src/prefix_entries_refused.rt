@@ -1,8 +1,8 @@
 //! Prefix entries where memory is refused: what a call answers then, and that the map is as it was.
 
-use crate::refused::{CALLS, Call, Puts, is_kept};
+use crate::refused::{CALLS, Call, Puts, is_kept, put_over};
 use crate::seen::{has_values, is_tree};
-use art_map::{PrefixEntry, PrefixOccupied, TreeMap};
+use art_map::{PrefixEntry, PrefixOccupiedKind, TreeMap};
 use art_operations::InsertRefused;
 use std::alloc::{AllocError, Global};
 use std::test::Fail;
@@ -13,38 +13,9 @@ type Map = TreeMap<Vec<u8>, usize, 1>;
 #[derive(Clone, Copy)]
 struct Over(Call);
 
-// The calls that lend the value.
-fn lends(map: &mut Map, key: Vec<u8>, call: Call) -> Option<InsertRefused<Vec<u8>, usize>> {
-    match call {
-        Call::OrDefault => map.prefix_entry(key).or_default().err(),
-        Call::OrInsertWith => map.prefix_entry(key).or_insert_with(|| 1000).err(),
-        Call::OrInsertWithKey => map.prefix_entry(key).or_insert_with_key(|_| 1000).err(),
-        _ => map.prefix_entry(key).or_insert(1000).err(),
-    }
-}
-
-// Those that answer the entry.
-fn answers(map: &mut Map, key: Vec<u8>, call: Call) -> Option<InsertRefused<Vec<u8>, usize>> {
-    match call {
-        Call::OrInsertEntry => map.prefix_entry(key).or_insert_entry(1000).err(),
-        Call::OrDefaultEntry => map.prefix_entry(key).or_default_entry().err(),
-        Call::OrInsertWithEntry => map.prefix_entry(key).or_insert_with_entry(|| 1000).err(),
-        Call::OrInsertWithKeyEntry => {
-            map.prefix_entry(key)
-                .or_insert_with_key_entry(|_| 1000)
-                .err()
-        }
-        _ => map.prefix_entry(key).insert_entry(1000).err(),
-    }
-}
-
 impl Puts<Vec<u8>> for Over {
     fn put(&self, map: &mut Map, key: Vec<u8>) -> Option<InsertRefused<Vec<u8>, usize>> {
-        if self.0.is_lending() {
-            lends(map, key, self.0)
-        } else {
-            answers(map, key, self.0)
-        }
+        put_over(map, key, self.0).err()
     }
 }
 
@@ -57,8 +28,13 @@ struct Occupied {
 impl Puts<Vec<u8>> for Occupied {
     fn put(&self, map: &mut Map, key: Vec<u8>) -> Option<InsertRefused<Vec<u8>, usize>> {
         match map.prefix_entry(key) {
-            PrefixEntry::Occupied(entry) if self.is_entry => entry.insert_entry(1000).err(),
-            PrefixEntry::Occupied(entry) => entry.insert(1000).err(),
+            PrefixEntry::Occupied(entry) => {
+                if self.is_entry {
+                    entry.insert_entry(1000).err()
+                } else {
+                    entry.insert(1000).err()
+                }
+            }
             PrefixEntry::Vacant(_) => None,
         }
     }
@@ -73,11 +49,16 @@ struct Inner {
 impl Puts<Vec<u8>> for Inner {
     fn put(&self, map: &mut Map, key: Vec<u8>) -> Option<InsertRefused<Vec<u8>, usize>> {
         match map.prefix_entry(key) {
-            PrefixEntry::Occupied(PrefixOccupied::Inner(entry)) if self.is_entry => {
-                entry.insert_entry(1000).err()
-            }
-            PrefixEntry::Occupied(PrefixOccupied::Inner(entry)) => entry.insert(1000).err(),
-            PrefixEntry::Occupied(PrefixOccupied::Leaf(_)) => None,
+            PrefixEntry::Occupied(entry) => match entry.kind() {
+                PrefixOccupiedKind::Inner(entry) => {
+                    if self.is_entry {
+                        entry.insert_entry(1000).err()
+                    } else {
+                        entry.insert(1000).err()
+                    }
+                }
+                PrefixOccupiedKind::Leaf(_) => None,
+            },
             PrefixEntry::Vacant(_) => None,
         }
     }
@@ -85,7 +66,7 @@ impl Puts<Vec<u8>> for Inner {
 
 // Puts four texts in, two by two.
 fn put_texts(alloc: Global, map: &mut Map) -> Result<(), AllocError> {
-    for (value, text) in (0usize..).zip([b"aba", b"abb", b"xya", b"xyb"]) {
+    for (value, text) in [(0, b"aba"), (1, b"abb"), (2, b"xya"), (3, b"xyb")] {
         if map.try_insert(text.to_vec(alloc)?, value).is_err() {
             return Err(AllocError);
         }
@@ -119,25 +100,11 @@ fn makes<C: Puts<Vec<u8>>>(
 }
 
 #[test]
-fn prefix_entries_of_a_new_key(rt: HostRuntime) -> Result<(), Fail> {
+fn prefix_entries_that_are_put_in(rt: HostRuntime) -> Result<(), Fail> {
     for call in CALLS {
-        assert!(rt; makes(&rt, &Over(call), b"m", &[0, 1, call.value(), 2, 3])?);
-    }
-    Ok(())
-}
-
-#[test]
-fn prefix_entries_of_a_front(rt: HostRuntime) -> Result<(), Fail> {
-    for call in CALLS {
-        assert!(rt; makes(&rt, &Over(call), b"ab", &[call.value(), 2, 3])?);
-    }
-    Ok(())
-}
-
-#[test]
-fn prefix_entries_behind_a_key(rt: HostRuntime) -> Result<(), Fail> {
-    for call in CALLS {
-        assert!(rt; makes(&rt, &Over(call), b"xyaz", &[0, 1, call.value(), 3])?);
+        assert!(rt; makes(&rt, &Over(call), b"m", &[0, 1, call.value(1), 2, 3])?);
+        assert!(rt; makes(&rt, &Over(call), b"ab", &[call.value(2), 2, 3])?);
+        assert!(rt; makes(&rt, &Over(call), b"xyaz", &[0, 1, call.value(4), 3])?);
     }
     Ok(())
 }

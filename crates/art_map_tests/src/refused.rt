@@ -1,10 +1,11 @@
-//! Calls that put a pair in, made where memory is refused: what they hand back then, and that the map is as it was. The
-//! runner refuses memory between the two lines of a window.
+//! The calls of entries that put a pair in: what they lend, and where memory is refused, what they hand back, and that
+//! the map is as it was. The runner refuses memory between the two lines of a window.
 
 use crate::seen::{has_values, is_tree};
 use art_bytes::AsBytes;
 use art_map::TreeMap;
 use art_operations::InsertRefused;
+use std::alloc::{AllocError, Global};
 use std::test::Fail;
 
 /// The calls of an entry that put its key in where it is vacant.
@@ -45,14 +46,185 @@ impl Call {
         }
     }
 
-    /// The value that it puts in.
-    pub(crate) fn value(self) -> usize {
+    /// The value that it puts in under a key of so many bytes.
+    pub(crate) fn value(self, len: usize) -> usize {
         match self {
             Call::OrDefault => 0,
             Call::OrDefaultEntry => 0,
+            Call::OrInsertWithKey => len,
+            Call::OrInsertWithKeyEntry => len,
             _ => 1000,
         }
     }
+
+    /// Whether it sets the value of a stored key.
+    pub(crate) fn is_setting(self) -> bool {
+        match self {
+            Call::InsertEntry => true,
+            _ => false,
+        }
+    }
+}
+
+/// What a call lends, or the entry that it answers has.
+pub(crate) type Lent<K> = Result<usize, InsertRefused<K, usize>>;
+
+// The calls of an entry that lend the value.
+fn lent<const PREFIX_LEN: usize>(
+    map: &mut TreeMap<[u8; 5], usize, PREFIX_LEN>,
+    key: [u8; 5],
+    call: Call,
+) -> Lent<[u8; 5]> {
+    let lent = match call {
+        Call::OrDefault => map.entry(key).or_default(),
+        Call::OrInsertWith => map.entry(key).or_insert_with(|| 1000),
+        Call::OrInsertWithKey => map
+            .entry(key)
+            .or_insert_with_key(|key| key.as_bytes().len()),
+        _ => map.entry(key).or_insert(1000),
+    };
+    match lent {
+        Ok(value) => Ok(*value),
+        Err(refused) => Err(refused),
+    }
+}
+
+// Those that answer the entry.
+fn answered<const PREFIX_LEN: usize>(
+    map: &mut TreeMap<[u8; 5], usize, PREFIX_LEN>,
+    key: [u8; 5],
+    call: Call,
+) -> Lent<[u8; 5]> {
+    let answered = match call {
+        Call::OrInsertEntry => map.entry(key).or_insert_entry(1000),
+        Call::OrDefaultEntry => map.entry(key).or_default_entry(),
+        Call::OrInsertWithEntry => map.entry(key).or_insert_with_entry(|| 1000),
+        Call::OrInsertWithKeyEntry => {
+            map.entry(key)
+                .or_insert_with_key_entry(|key| key.as_bytes().len())
+        }
+        _ => map.entry(key).insert_entry(1000),
+    };
+    match answered {
+        Ok(entry) => Ok(*entry.get()),
+        Err(refused) => Err(refused),
+    }
+}
+
+/// A call of the entry of a key.
+pub(crate) fn put<const PREFIX_LEN: usize>(
+    map: &mut TreeMap<[u8; 5], usize, PREFIX_LEN>,
+    key: [u8; 5],
+    call: Call,
+) -> Lent<[u8; 5]> {
+    if call.is_lending() {
+        lent(map, key, call)
+    } else {
+        answered(map, key, call)
+    }
+}
+
+// The calls of a prefix entry that lend the value.
+fn lent_over<const PREFIX_LEN: usize>(
+    map: &mut TreeMap<Vec<u8>, usize, PREFIX_LEN>,
+    key: Vec<u8>,
+    call: Call,
+) -> Lent<Vec<u8>> {
+    let lent = match call {
+        Call::OrDefault => map.prefix_entry(key).or_default(),
+        Call::OrInsertWith => map.prefix_entry(key).or_insert_with(|| 1000),
+        Call::OrInsertWithKey => map
+            .prefix_entry(key)
+            .or_insert_with_key(|key| key.as_bytes().len()),
+        _ => map.prefix_entry(key).or_insert(1000),
+    };
+    match lent {
+        Ok(value) => Ok(*value),
+        Err(refused) => Err(refused),
+    }
+}
+
+// Those that answer the entry.
+fn answered_over<const PREFIX_LEN: usize>(
+    map: &mut TreeMap<Vec<u8>, usize, PREFIX_LEN>,
+    key: Vec<u8>,
+    call: Call,
+) -> Lent<Vec<u8>> {
+    let answered = match call {
+        Call::OrInsertEntry => map.prefix_entry(key).or_insert_entry(1000),
+        Call::OrDefaultEntry => map.prefix_entry(key).or_default_entry(),
+        Call::OrInsertWithEntry => map.prefix_entry(key).or_insert_with_entry(|| 1000),
+        Call::OrInsertWithKeyEntry => {
+            map.prefix_entry(key)
+                .or_insert_with_key_entry(|key| key.as_bytes().len())
+        }
+        _ => map.prefix_entry(key).insert_entry(1000),
+    };
+    match answered {
+        Ok(entry) => Ok(*entry.get()),
+        Err(refused) => Err(refused),
+    }
+}
+
+/// A call of the prefix entry of a key.
+pub(crate) fn put_over<const PREFIX_LEN: usize>(
+    map: &mut TreeMap<Vec<u8>, usize, PREFIX_LEN>,
+    key: Vec<u8>,
+    call: Call,
+) -> Lent<Vec<u8>> {
+    if call.is_lending() {
+        lent_over(map, key, call)
+    } else {
+        answered_over(map, key, call)
+    }
+}
+
+/// Whether each call of an entry lends the value of a stored key, or sets it, and puts its own in under a new one.
+pub(crate) fn each_lends<const PREFIX_LEN: usize>(
+    alloc: Global,
+    map: &mut TreeMap<[u8; 5], usize, PREFIX_LEN>,
+) -> bool {
+    for call in CALLS {
+        map.clear();
+        if map.insert(*b"a....", 1).is_err() || map.insert(*b"b....", 2).is_err() {
+            return false;
+        }
+        let kept = if call.is_setting() { 1000 } else { 2 };
+        let new = call.value(5);
+        if put(map, *b"b....", call).ok() != Some(kept)
+            || put(map, *b"c....", call).ok() != Some(new)
+            || !has_values(map, &[1, kept, new])
+            || !is_tree(alloc, map)
+        {
+            return false;
+        }
+    }
+    true
+}
+
+/// The same of a prefix entry.
+pub(crate) fn each_lends_over<const PREFIX_LEN: usize>(
+    alloc: Global,
+    map: &mut TreeMap<Vec<u8>, usize, PREFIX_LEN>,
+) -> Result<bool, AllocError> {
+    for call in CALLS {
+        map.clear();
+        if map.try_insert(b"a.".to_vec(alloc)?, 1).is_err()
+            || map.try_insert(b"b.".to_vec(alloc)?, 2).is_err()
+        {
+            return Err(AllocError);
+        }
+        let kept = if call.is_setting() { 1000 } else { 2 };
+        let new = call.value(2);
+        if put_over(map, b"b.".to_vec(alloc)?, call).ok() != Some(kept)
+            || put_over(map, b"c.".to_vec(alloc)?, call).ok() != Some(new)
+            || !has_values(map, &[1, kept, new])
+            || !is_tree(alloc, map)
+        {
+            return Ok(false);
+        }
+    }
+    Ok(true)
 }
 
 /// A call of a key's entry.

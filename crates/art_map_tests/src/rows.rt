@@ -1,11 +1,13 @@
 //! Rows from outside: what calls answer one after the other.
 use crate::calling::{
     age, block_of, blocks_within, count, count_between, count_down, films, forget_rare, give,
-    keep_last, owner_of, raise_between, spread, tally,
+    into_list, keep_last, last_word, owner_of, raise_between, spread, tally,
 };
 use art_bytes::{AsBytes, SliceKey, StrKey};
 use art_map::{TreeMap, TryInsertError};
 use std::test::Fail;
+
+type Blocks<'a> = TreeMap<SliceKey<'a>, u32, 16>;
 
 // Whether a pair goes in, and this is the old value.
 fn is_put<K: AsBytes + Drop, const PREFIX_LEN: usize>(
@@ -34,17 +36,6 @@ fn is_refused(map: &mut TreeMap<SliceKey<'_>, u32, 16>, bytes: &'static [u8], va
     }
 }
 
-#[test]
-fn refuses_a_conflict_and_replaces_an_equal_key(rt: HostRuntime) {
-    let mut map: TreeMap<SliceKey<'_>, u32, 16> = TreeMap::new(rt.alloc());
-    assert!(rt; is_put(&mut map, SliceKey(&[1, 2, 3]), 1, None));
-    assert!(rt; is_put(&mut map, SliceKey(&[2, 3, 4]), 2, None));
-    assert!(rt; is_refused(&mut map, &[2, 3, 4, 5], 3));
-    assert!(rt; is_refused(&mut map, &[2, 3], 3));
-    assert!(rt; is_put(&mut map, SliceKey(&[2, 3, 4]), 4, Some(2)));
-    assert_eq!(rt; map.len(), 2);
-}
-
 // Whether so many pairs give way to one with this key.
 fn gives_way<'a>(
     map: &mut TreeMap<SliceKey<'a>, u32, 16>,
@@ -58,28 +49,43 @@ fn gives_way<'a>(
     }
 }
 
-#[test]
-fn overlapping_keys_give_way(rt: HostRuntime) {
-    let mut map: TreeMap<SliceKey<'_>, u32, 16> = TreeMap::new(rt.alloc());
-    assert!(rt; gives_way(&mut map, &[1, 2, 3], 1, 0));
-    assert!(rt; gives_way(&mut map, &[2, 3, 4, 5], 2, 0));
-    assert!(rt; gives_way(&mut map, &[2, 3, 4, 6], 3, 0));
-    assert!(rt; gives_way(&mut map, &[2, 3, 4], 4, 2));
-    assert!(rt; gives_way(&mut map, &[1, 2], 5, 1));
-    assert_eq!(rt; map.len(), 2);
-    assert!(rt; gives_way(&mut map, &[2, 3, 4], 6, 1));
-    assert!(rt; map.get(&SliceKey(&[1, 2])) == Some(&5));
-    assert!(rt; map.get(&SliceKey(&[2, 3, 4])) == Some(&6));
+fn conflicts_are_refused(map: &mut Blocks<'_>) -> bool {
+    is_put(map, SliceKey(&[1, 2, 3]), 1, None)
+        && is_put(map, SliceKey(&[2, 3, 4]), 2, None)
+        && is_refused(map, &[2, 3, 4, 5], 3)
+        && is_refused(map, &[2, 3], 3)
+        && is_put(map, SliceKey(&[2, 3, 4]), 4, Some(2))
+        && map.len() == 2
+}
+
+fn overlapping_keys_go(map: &mut Blocks<'_>) -> bool {
+    gives_way(map, &[1, 2, 3], 1, 0)
+        && gives_way(map, &[2, 3, 4, 5], 2, 0)
+        && gives_way(map, &[2, 3, 4, 6], 3, 0)
+        && gives_way(map, &[2, 3, 4], 4, 2)
+        && gives_way(map, &[1, 2], 5, 1)
+        && map.len() == 2
+        && gives_way(map, &[2, 3, 4], 6, 1)
+        && map.get(&SliceKey(&[1, 2])) == Some(&5)
+        && map.get(&SliceKey(&[2, 3, 4])) == Some(&6)
+}
+
+fn a_front_answers(map: &mut Blocks<'_>) -> bool {
+    is_put(map, SliceKey(&[1, 2, 3]), 1, None)
+        && map.prefix_get(&SliceKey(&[1, 2, 3, 4, 5])) == Some(&1)
+        && map.prefix_get(&SliceKey(&[1, 2, 3])) == Some(&1)
+        && map.prefix_get(&SliceKey(&[1, 2])).is_none()
+        && map.prefix_get(&SliceKey(&[2])).is_none()
 }
 
 #[test]
-fn a_front_answers_its_extensions(rt: HostRuntime) {
-    let mut map: TreeMap<SliceKey<'_>, u32, 16> = TreeMap::new(rt.alloc());
-    assert!(rt; is_put(&mut map, SliceKey(&[1, 2, 3]), 1, None));
-    assert!(rt; map.prefix_get(&SliceKey(&[1, 2, 3, 4, 5])) == Some(&1));
-    assert!(rt; map.prefix_get(&SliceKey(&[1, 2, 3])) == Some(&1));
-    assert!(rt; map.prefix_get(&SliceKey(&[1, 2])).is_none());
-    assert!(rt; map.prefix_get(&SliceKey(&[2])).is_none());
+fn conflicts_overlaps_and_fronts(rt: HostRuntime) {
+    let mut map = Blocks::new(rt.alloc());
+    assert!(rt; conflicts_are_refused(&mut map));
+    map.clear();
+    assert!(rt; overlapping_keys_go(&mut map));
+    map.clear();
+    assert!(rt; a_front_answers(&mut map));
 }
 
 // Whether the keys are these, in this order.
@@ -94,72 +100,103 @@ fn has_keys(map: &TreeMap<StrKey<'_>, u32, 16>, wanted: &[&str]) -> bool {
     keys.next().is_none()
 }
 
+fn films_are_listed(map: &mut TreeMap<StrKey<'_>, u32, 16>) -> bool {
+    is_put(map, StrKey("Office Space"), 1, None)
+        && is_put(map, StrKey("Pulp Fiction"), 2, None)
+        && is_put(map, StrKey("The Godfather"), 3, None)
+        && is_put(map, StrKey("The Blues Brothers"), 4, None)
+        && map.len() == 4
+        && matches!(map.remove(&StrKey("The Blues Brothers")), Ok(Some(4)))
+        && has_keys(map, &["Office Space", "Pulp Fiction", "The Godfather"])
+}
+
 #[test]
 fn films_are_listed_without_the_one_removed(rt: HostRuntime) {
     let mut map: TreeMap<StrKey<'_>, u32, 16> = TreeMap::new(rt.alloc());
-    assert!(rt; is_put(&mut map, StrKey("Office Space"), 1, None));
-    assert!(rt; is_put(&mut map, StrKey("Pulp Fiction"), 2, None));
-    assert!(rt; is_put(&mut map, StrKey("The Godfather"), 3, None));
-    assert!(rt; is_put(&mut map, StrKey("The Blues Brothers"), 4, None));
-    assert_eq!(rt; map.len(), 4);
-    assert!(rt; matches!(map.remove(&StrKey("The Blues Brothers")), Ok(Some(4))));
-    assert!(rt; has_keys(&map, &["Office Space", "Pulp Fiction", "The Godfather"]));
+    assert!(rt; films_are_listed(&mut map));
+    map.clear();
+    assert!(rt; matches!(films(&mut map), Ok(true)));
+}
+
+fn blocks_are_given<'a>(blocks: &mut Blocks<'a>) -> bool {
+    is_put(blocks, SliceKey(&[10, 1]), 7, None)
+        && block_of(blocks, &[10, 1, 2, 3]) == Some(&7)
+        && block_of(blocks, &[10, 2, 2, 3]).is_none()
+        && is_put(blocks, SliceKey(&[10, 3, 1]), 9, None)
+        && blocks_within(blocks, &[10]) == (Some(&7), Some(&9))
+        && blocks_within(blocks, &[11]) == (None, None)
+        && matches!(give(blocks, &[10], 8), Ok(2))
+        && block_of(blocks, &[10, 2, 2, 3]) == Some(&8)
+        && matches!(owner_of(blocks, &[10], 5), Ok(8))
+        && matches!(owner_of(blocks, &[10, 2], 6), Ok(6))
+        && block_of(blocks, &[10, 1, 2, 3]).is_none()
 }
 
 #[test]
 fn a_caller_finds_a_block(rt: HostRuntime) {
-    let mut blocks: TreeMap<SliceKey<'_>, u32, 16> = TreeMap::new(rt.alloc());
-    assert!(rt; is_put(&mut blocks, SliceKey(&[10, 1]), 7, None));
-    assert!(rt; block_of(&blocks, &[10, 1, 2, 3]) == Some(&7));
-    assert!(rt; block_of(&blocks, &[10, 2, 2, 3]).is_none());
-    assert!(rt; is_put(&mut blocks, SliceKey(&[10, 3, 1]), 9, None));
-    assert!(rt; blocks_within(&blocks, &[10]) == (Some(&7), Some(&9)));
-    assert!(rt; blocks_within(&blocks, &[11]) == (None, None));
-    assert!(rt; matches!(give(&mut blocks, &[10], 8), Ok(2)));
-    assert!(rt; block_of(&blocks, &[10, 2, 2, 3]) == Some(&8));
-    assert!(rt; matches!(owner_of(&mut blocks, &[10], 5), Ok(8)));
-    assert!(rt; matches!(owner_of(&mut blocks, &[10, 2], 6), Ok(6)));
-    assert!(rt; block_of(&blocks, &[10, 1, 2, 3]).is_none());
+    let mut blocks = Blocks::new(rt.alloc());
+    assert!(rt; blocks_are_given(&mut blocks));
+}
+
+type Counts = TreeMap<[u8; 4], u32, 16>;
+
+fn words_are_counted(counts: &mut Counts) -> bool {
+    count(counts, *b"tree").is_ok()
+        && spread(counts).is_none()
+        && count(counts, *b"leaf").is_ok()
+        && count(counts, *b"tree").is_ok()
+        && spread(counts) == Some(1)
+        && matches!(tally(counts, *b"tree"), Ok(3))
+        && matches!(tally(counts, *b"root"), Ok(1))
+        && matches!(counts.remove(b"root"), Ok(Some(1)))
+}
+
+fn counts_are_raised(counts: &mut Counts) -> bool {
+    count_between(counts, b"leaf", b"tree") == 1
+        && count_between(counts, b"m...", b"z...") == 3
+        && count_between(counts, b"tree", b"leaf") == 0
+        && raise_between(counts, b"tree", b"leaf") == 0
+        && raise_between(counts, b"m...", b"z...") == 1
+        && counts.get(b"tree") == Some(&4)
+        && counts.get(b"leaf") == Some(&1)
+        && keep_last(counts, 1).is_ok()
+        && counts.len() == 1
+        && counts.contains_key(b"tree")
+}
+
+fn words_are_forgotten(counts: &mut Counts) -> bool {
+    for (word, number) in [(*b"leaf", 1), (*b"root", 2), (*b"tree", 4), (*b"wood", 8)] {
+        if counts.insert(word, number).is_err() {
+            return false;
+        }
+    }
+    matches!(forget_rare(counts, b"root", b"leaf", 9), Ok(0))
+        && matches!(forget_rare(counts, b"a...", b"tree", 2), Ok(1))
+        && matches!(count_down(counts, b"s..."), Ok(0))
+        && counts.values().eq([2u32, 3, 7].iter())
+        && age(counts).is_ok()
+        && counts.values().eq([1u32, 1, 3].iter())
+        && matches!(count_down(counts, b"a..."), Ok(2))
+        && counts.values().eq([2u32].iter())
 }
 
 #[test]
 fn a_caller_counts_words(rt: HostRuntime) {
-    let mut counts: TreeMap<[u8; 4], u32, 16> = TreeMap::new(rt.alloc());
-    assert!(rt; count(&mut counts, *b"tree").is_ok());
-    assert!(rt; spread(&counts).is_none());
-    assert!(rt; count(&mut counts, *b"leaf").is_ok());
-    assert!(rt; count(&mut counts, *b"tree").is_ok());
-    assert!(rt; spread(&counts) == Some(1));
-    assert!(rt; matches!(tally(&mut counts, *b"tree"), Ok(3)));
-    assert!(rt; matches!(tally(&mut counts, *b"root"), Ok(1)));
-    assert!(rt; matches!(counts.remove(b"root"), Ok(Some(1))));
-    assert!(rt; count_between(&counts, b"leaf", b"tree") == 1);
-    assert!(rt; count_between(&counts, b"m...", b"z...") == 3);
-    assert!(rt; count_between(&counts, b"tree", b"leaf") == 0);
-    assert!(rt; raise_between(&mut counts, b"tree", b"leaf") == 0);
-    assert!(rt; raise_between(&mut counts, b"m...", b"z...") == 1);
-    assert!(rt; counts.get(b"tree") == Some(&4) && counts.get(b"leaf") == Some(&1));
-    assert!(rt; keep_last(&mut counts, 1).is_ok());
-    assert!(rt; counts.len() == 1 && counts.contains_key(b"tree"));
+    let mut counts = Counts::new(rt.alloc());
+    assert!(rt; words_are_counted(&mut counts) && counts_are_raised(&mut counts));
+    counts.clear();
+    assert!(rt; words_are_forgotten(&mut counts));
 }
 
 #[test]
-fn a_caller_forgets_words(rt: HostRuntime) {
-    let mut counts: TreeMap<[u8; 4], u32, 16> = TreeMap::new(rt.alloc());
-    assert!(rt; counts.insert(*b"leaf", 1).is_ok() && counts.insert(*b"root", 2).is_ok());
-    assert!(rt; counts.insert(*b"tree", 4).is_ok() && counts.insert(*b"wood", 8).is_ok());
-    assert!(rt; matches!(forget_rare(&mut counts, b"root", b"leaf", 9), Ok(0)));
-    assert!(rt; matches!(forget_rare(&mut counts, b"a...", b"tree", 2), Ok(1)));
-    assert!(rt; matches!(count_down(&mut counts, b"s..."), Ok(0)));
-    assert!(rt; counts.values().eq([2u32, 3, 7].iter()));
-    assert!(rt; age(&mut counts).is_ok() && counts.values().eq([1u32, 1, 3].iter()));
-    assert!(rt; matches!(count_down(&mut counts, b"a..."), Ok(2)));
-    assert!(rt; counts.values().eq([2u32].iter()));
-}
-
-#[test]
-fn a_caller_stores_films(rt: HostRuntime) -> Result<(), Fail> {
-    assert!(rt; films(rt.alloc())?);
+fn a_caller_takes_a_map_apart(rt: HostRuntime) -> Result<(), Fail> {
+    let mut counts = Counts::new(rt.alloc());
+    assert!(rt; counts.insert(*b"tree", 2).is_ok() && counts.insert(*b"leaf", 1).is_ok());
+    let list = into_list(rt.alloc(), counts)?;
+    assert!(rt; list.as_slice() == [(*b"leaf", 1), (*b"tree", 2)].as_slice());
+    let mut counts = Counts::new(rt.alloc());
+    assert!(rt; counts.insert(*b"tree", 2).is_ok() && counts.insert(*b"leaf", 1).is_ok());
+    assert!(rt; last_word(counts) == Some(*b"tree"));
     Ok(())
 }
 

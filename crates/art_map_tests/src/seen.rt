@@ -5,7 +5,7 @@ use art_walks::WellFormedChecker;
 use std::alloc::{AllocError, Global};
 
 /// A text as a key.
-pub(crate) fn text(alloc: Global, bytes: &[u8]) -> Result<ZeroEnded, AllocError> {
+pub fn text(alloc: Global, bytes: &[u8]) -> Result<ZeroEnded, AllocError> {
     match ZeroEnded::new(bytes.to_vec(alloc)?) {
         Ok(key) => Ok(key),
         Err(_) => Err(AllocError),
@@ -13,7 +13,7 @@ pub(crate) fn text(alloc: Global, bytes: &[u8]) -> Result<ZeroEnded, AllocError>
 }
 
 /// Whether the map's nodes are a tree of its pairs.
-pub(crate) fn is_tree<K: AsBytes, V, const PREFIX_LEN: usize>(
+pub fn is_tree<K: AsBytes, V, const PREFIX_LEN: usize>(
     alloc: Global,
     map: &TreeMap<K, V, PREFIX_LEN>,
 ) -> bool {
@@ -22,7 +22,7 @@ pub(crate) fn is_tree<K: AsBytes, V, const PREFIX_LEN: usize>(
 }
 
 /// Whether these are the values in order, from the front and from the back.
-pub(crate) fn has_values<K: AsBytes, const PREFIX_LEN: usize>(
+pub fn has_values<K: AsBytes, const PREFIX_LEN: usize>(
     map: &TreeMap<K, usize, PREFIX_LEN>,
     wanted: &[usize],
 ) -> bool {

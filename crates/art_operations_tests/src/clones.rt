@@ -1,6 +1,6 @@
 //! Clones of trees made by commands: the same names, links, prefixes and pairs, in an arena that no change of the first
 //! tree reaches, and whose changes don't reach that one.
-ghost use Rattle.std.specs.Prelude.{IfSome};
+ghost use Rattle.std.specs.Prelude.{ℕ, IfSome};
 ghost use Rattle.art_arena.specs.arena.Shapes.{Shape};
 ghost use Rattle.art_arena.specs.arena.Stores.{StoresOnly};
 
@@ -134,40 +134,127 @@ fn takes_from_one<K: AsBytes + Drop, V: Drop>(
     }
 }
 
-// Whether a clone of the tree that commands make has all that the tree has, under the same names.
-fn clones<K: CloneBytes + Drop>(alloc: Global, commands: &[Command<K, u8>]) -> Option<bool> {
-    let tree = tree_of(alloc, commands)?;
-    let twin = clone_of(alloc, &tree.0, tree.1)?;
-    let ends = ends_of(&tree.0, tree.1);
-    let is_named = twin.root == tree.1 && twin.min_leaf == ends.0 && twin.max_leaf == ends.1;
-    Some(is_named && is_twin(&tree.0, &twin.arena))
+// Whether a clone has all that the tree has, under the same names.
+fn has_all<K: AsBytes>(
+    arena: &NodeArena<K, u8, 4>,
+    root: OpaqueNodePtr,
+    twin: &CloneResult<K, u8, 4>,
+) -> bool
+    requires { (s : Shape K ℕ) × StoresOnly K.bytes 4 arena.now root s }
+{
+    let ends = ends_of(arena, root);
+    twin.root == root
+        && twin.min_leaf == ends.0
+        && twin.max_leaf == ends.1
+        && is_twin(arena, &twin.arena)
 }
 
-// Whether a key that is taken out of a clone is still in the tree, and one taken out of the tree in another clone.
-fn stands_apart<K: CloneBytes + Drop>(
+// Whether a clone of a tree has it.
+fn is_cloned<K: CloneBytes + Drop>(
     alloc: Global,
-    commands: &[Command<K, u8>],
+    arena: &NodeArena<K, u8, 4>,
+    root: OpaqueNodePtr,
+) -> bool
+    requires { (s : Shape K ℕ) × StoresOnly K.bytes 4 arena.now root s }
+{
+    match clone_of(alloc, arena, root) {
+        Some(twin) => has_all(arena, root, &twin),
+        None => false,
+    }
+}
+
+// Whether a clone of the tree that commands make has it.
+fn clones<K: CloneBytes + Drop>(alloc: Global, commands: &[Command<K, u8>]) -> bool {
+    match tree_of(alloc, commands) {
+        Some(tree) => is_cloned(alloc, &tree.0, tree.1),
+        None => false,
+    }
+}
+
+// Whether a key that is taken out of a clone is still in the tree.
+fn stays_in_tree<K: CloneBytes + Drop, V: Clone + Drop>(
+    alloc: Global,
+    arena: &NodeArena<K, V, 4>,
+    root: OpaqueNodePtr,
     key: &[u8],
-) -> Option<[bool; 2]> {
-    let mut tree = tree_of(alloc, commands)?;
-    let mut twin = clone_of(alloc, &tree.0, tree.1)?;
-    let again = clone_of(alloc, &tree.0, tree.1)?;
-    let is_in_tree = takes_from_one(&mut twin.arena, twin.root, &tree.0, tree.1, key);
-    let is_in_clone = takes_from_one(&mut tree.0, tree.1, &again.arena, again.root, key);
-    Some([is_in_tree, is_in_clone])
+) -> bool
+    requires { (s : Shape K V) × StoresOnly K.bytes 4 arena.now root s }
+{
+    match clone_of(alloc, arena, root) {
+        Some(mut twin) => takes_from_one(&mut twin.arena, twin.root, arena, root, key),
+        None => false,
+    }
+}
+
+// Whether one that is taken out of the tree is still in a clone.
+fn stays_in_clone<K: CloneBytes + Drop, V: Clone + Drop>(
+    alloc: Global,
+    arena: &mut NodeArena<K, V, 4>,
+    root: OpaqueNodePtr,
+    key: &[u8],
+) -> bool
+    requires { (s : Shape K V) × StoresOnly K.bytes 4 arena.old root s }
+{
+    match clone_of(alloc, arena, root) {
+        Some(twin) => takes_from_one(arena, root, &twin.arena, twin.root, key),
+        None => false,
+    }
+}
+
+// Both, in the tree that commands make.
+fn stands_apart<K: CloneBytes + Drop, V: Clone + Drop>(
+    alloc: Global,
+    commands: &[Command<K, V>],
+    key: &[u8],
+) -> bool {
+    match tree_of(alloc, commands) {
+        Some(mut tree) => {
+            stays_in_tree(alloc, &tree.0, tree.1, key)
+                && stays_in_clone(alloc, &mut tree.0, tree.1, key)
+        }
+        None => false,
+    }
 }
 
 // What is in a clone once the tree is freed, and once the clone is freed too.
-fn frees_both<K: CloneBytes + Drop>(
+fn frees_both<K: AsBytes + Drop, V: Drop>(
+    arena: &mut NodeArena<K, V, 4>,
+    root: OpaqueNodePtr,
+    twin: &mut NodeArena<K, V, 4>,
+    twin_root: OpaqueNodePtr,
+) -> [[usize; 5]; 2]
+    requires tree { (s : Shape K V) × StoresOnly K.bytes 4 arena.old root s }
+    requires twin { (s : Shape K V) × StoresOnly K.bytes 4 twin.old twin_root s }
+{
+    let _left = frees_all(arena, root);
+    let kept = nodes_in(twin);
+    let _left = frees_all(twin, twin_root);
+    [kept, nodes_in(twin)]
+}
+
+// The same of a tree and its clone.
+fn frees_cloned<K: CloneBytes + Drop, V: Clone + Drop>(
     alloc: Global,
-    commands: &[Command<K, u8>],
+    arena: &mut NodeArena<K, V, 4>,
+    root: OpaqueNodePtr,
+) -> Option<[[usize; 5]; 2]>
+    requires { (s : Shape K V) × StoresOnly K.bytes 4 arena.old root s }
+{
+    match clone_of(alloc, arena, root) {
+        Some(mut twin) => Some(frees_both(arena, root, &mut twin.arena, twin.root)),
+        None => None,
+    }
+}
+
+// The same of the tree that commands make.
+fn left_of_both<K: CloneBytes + Drop, V: Clone + Drop>(
+    alloc: Global,
+    commands: &[Command<K, V>],
 ) -> Option<[[usize; 5]; 2]> {
-    let mut tree = tree_of(alloc, commands)?;
-    let mut twin = clone_of(alloc, &tree.0, tree.1)?;
-    let _left = frees_all(&mut tree.0, tree.1);
-    let kept = nodes_in(&twin.arena);
-    let _left = frees_all(&mut twin.arena, twin.root);
-    Some([kept, nodes_in(&twin.arena)])
+    match tree_of(alloc, commands) {
+        Some(mut tree) => frees_cloned(alloc, &mut tree.0, tree.1),
+        None => None,
+    }
 }
 
 // Insertions of all keys of three bytes, of which the first is one of 4, the second of 3, the third of 2.
@@ -183,23 +270,22 @@ fn of_24_keys(alloc: Global) -> Result<Vec<Command<[u8; 3], u8>>, AllocError> {
 #[test]
 fn a_clone_has_the_same_names(rt: HostRuntime) -> Result<(), Fail> {
     let commands = of_24_keys(rt.alloc())?;
-    assert!(rt; clones(rt.alloc(), commands.as_slice()) == Some(true));
+    assert!(rt; clones(rt.alloc(), commands.as_slice()));
     let commands = all_kinds(rt.alloc())?;
-    assert!(rt; clones(rt.alloc(), commands.as_slice()) == Some(true));
+    assert!(rt; clones(rt.alloc(), commands.as_slice()));
     let one = [Command::Insert([1u8, 2], 7u8)];
-    assert!(rt; clones(rt.alloc(), &one) == Some(true));
+    assert!(rt; clones(rt.alloc(), &one));
     Ok(())
 }
 
 #[test]
 fn a_clone_stands_apart(rt: HostRuntime) -> Result<(), Fail> {
     let commands = of_24_keys(rt.alloc())?;
-    let apart = stands_apart(rt.alloc(), commands.as_slice(), &[2, 1, 0]);
-    assert!(rt; apart == Some([true, true]));
-    let both = frees_both(rt.alloc(), commands.as_slice());
+    assert!(rt; stands_apart(rt.alloc(), commands.as_slice(), &[2, 1, 0]));
+    let both = left_of_both(rt.alloc(), commands.as_slice());
     assert!(rt; both == Some([[17, 0, 0, 0, 24], [0, 0, 0, 0, 0]]));
     let commands = all_kinds(rt.alloc())?;
-    let both = frees_both(rt.alloc(), commands.as_slice());
+    let both = left_of_both(rt.alloc(), commands.as_slice());
     assert!(rt; both == Some([[1, 1, 1, 1, 70], [0, 0, 0, 0, 0]]));
     Ok(())
 }

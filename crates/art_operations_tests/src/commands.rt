@@ -123,8 +123,8 @@ fn leaves_anyway<K: CloneBytes, V: Clone>(
     shows_anyway(alloc, commands, &Look::Keys { stored, missing })
 }
 
-// Whether the commands are answered so.
-fn answers<K: CloneBytes, V: Clone>(
+/// Whether the commands are answered so.
+pub(crate) fn answers<K: CloneBytes, V: Clone>(
     alloc: Global,
     commands: &[Command<K, V>],
     wanted: &[Answer],
@@ -401,45 +401,84 @@ fn puts_keys_in_over_others(rt: HostRuntime) -> Result<(), AllocError> {
     Ok(())
 }
 
+// A command of a key that has a block of its own.
+fn owned(
+    alloc: Global,
+    command: &Command<SliceKey<'_>, u8>,
+) -> Result<Command<Vec<u8>, u8>, AllocError> {
+    match command {
+        Command::Insert(key, value) => Ok(Command::Insert(key.0.to_vec(alloc)?, *value)),
+        Command::PrefixInsert(key, value) => {
+            Ok(Command::PrefixInsert(key.0.to_vec(alloc)?, *value))
+        }
+        Command::Delete(key) => Ok(Command::Delete(key.0.to_vec(alloc)?)),
+        Command::Clone => Ok(Command::Clone),
+    }
+}
+
+fn all_owned(
+    alloc: Global,
+    commands: &[Command<SliceKey<'_>, u8>],
+) -> Result<Vec<Command<Vec<u8>, u8>>, AllocError> {
+    let mut all = Vec::new(alloc);
+    for command in commands {
+        all.push(owned(alloc, command)?)?;
+    }
+    Ok(all)
+}
+
+// Keys that have blocks of their own.
+fn keys_owned(alloc: Global, keys: &[&[u8]]) -> Result<Vec<Vec<u8>>, AllocError> {
+    let mut all = Vec::new(alloc);
+    for key in keys {
+        all.push(key.to_vec(alloc)?)?;
+    }
+    Ok(all)
+}
+
+// Whether commands are answered so, and leave these keys and none of those.
+fn goes_on<K: CloneBytes, V: Clone>(
+    alloc: Global,
+    commands: &[Command<K, V>],
+    wanted: &[Answer],
+    stored: &[K],
+    missing: &[K],
+) -> Result<bool, AllocError> {
+    let is_answered = answers(alloc, commands, wanted)?;
+    Ok(is_answered && leaves_anyway(alloc, commands, stored, missing)?)
+}
+
 #[test]
 fn goes_on_with_clones(rt: HostRuntime) -> Result<(), AllocError> {
-    let alloc = rt.alloc();
-    let mut commands = Vec::new(alloc);
-    commands.push(Command::Clone)?;
-    commands.push(Command::Insert(Vec::from_slice(alloc, b"ab")?, 1u8))?;
-    commands.push(Command::Clone)?;
-    commands.push(Command::Insert(Vec::from_slice(alloc, b"b")?, 2))?;
-    commands.push(Command::Insert(Vec::from_slice(alloc, b"ac")?, 3))?;
-    commands.push(Command::Clone)?;
-    commands.push(Command::Clone)?;
-    commands.push(Command::Delete(Vec::from_slice(alloc, b"ab")?))?;
-    commands.push(Command::Clone)?;
-    let wanted = [
-        Answer::Done(0),
-        Answer::Done(0),
-        Answer::Done(0),
-        Answer::Done(0),
-        Answer::Done(0),
-        Answer::Done(0),
-        Answer::Done(0),
-        Answer::Done(1),
-        Answer::Done(0),
+    let commands = [
+        Command::Clone,
+        Command::Insert(SliceKey(b"ab"), 1u8),
+        Command::Clone,
+        Command::Insert(SliceKey(b"b"), 2),
+        Command::Insert(SliceKey(b"ac"), 3),
+        Command::Clone,
+        Command::Clone,
+        Command::Delete(SliceKey(b"ab")),
+        Command::Clone,
     ];
-    assert!(rt; answers(alloc, commands.as_slice(), wanted.as_slice())?);
-    let mut stored = Vec::new(alloc);
-    stored.push(Vec::from_slice(alloc, b"ac")?)?;
-    stored.push(Vec::from_slice(alloc, b"b")?)?;
-    let mut missing = Vec::new(alloc);
-    missing.push(Vec::from_slice(alloc, b"ab")?)?;
-    assert!(rt;
-        leaves_anyway(
-            alloc,
-            commands.as_slice(),
-            stored.as_slice(),
-            missing.as_slice()
-        )?
-    );
+    let none = Answer::Done(0);
+    let wanted = [
+        none,
+        none,
+        none,
+        none,
+        none,
+        none,
+        none,
+        Answer::Done(1),
+        none,
+    ];
+    let commands = all_owned(rt.alloc(), &commands)?;
+    let stored = keys_owned(rt.alloc(), &[b"ac", b"b"])?;
+    let missing = keys_owned(rt.alloc(), &[b"ab"])?;
+    let (all, kept, gone) = (commands.as_slice(), stored.as_slice(), missing.as_slice());
+    assert!(rt; goes_on(rt.alloc(), all, &wanted, kept, gone)?);
     // The clone has no nodes but its own.
-    assert_eq!(rt; nodes_left(alloc, commands.as_slice())?, [1, 0, 0, 0, 2]);
+    assert_eq!(rt; nodes_left(rt.alloc(), all)?, [1, 0, 0, 0, 2]);
     Ok(())
 }

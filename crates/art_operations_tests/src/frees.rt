@@ -83,6 +83,20 @@ fn left_by_parts<K: CloneBytes + Drop, V: Clone + Drop>(
 }
 
 // The same beside a tree of one pair.
+fn frees_beside<K: AsBytes + Drop, V: Drop>(
+    arena: &mut NodeArena<K, V, 4>,
+    root: OpaqueNodePtr,
+    key: K,
+    value: V,
+    bytes: &[u8],
+) -> Option<Left>
+    requires { (s : Shape K V) × StoresOnly K.bytes 4 arena.old root s }
+{
+    let other = put_beside(arena, root, key, value)?;
+    frees_one(arena, root, other, bytes)
+}
+
+// What is left of the tree that commands make, beside that one.
 fn left_beside<K: CloneBytes + Drop, V: Clone + Drop>(
     alloc: Global,
     commands: &[Command<K, V>],
@@ -90,19 +104,27 @@ fn left_beside<K: CloneBytes + Drop, V: Clone + Drop>(
     value: V,
     bytes: &[u8],
 ) -> Option<Left> {
-    let mut tree = tree_of(alloc, commands)?;
-    let other = put_beside(&mut tree.0, tree.1, key, value)?;
-    frees_one(&mut tree.0, tree.1, other, bytes)
+    match tree_of(alloc, commands) {
+        Some(mut tree) => frees_beside(&mut tree.0, tree.1, key, value, bytes),
+        None => None,
+    }
 }
 
-// No leaf is freed where there is no run.
-fn frees_none<K: CloneBytes + Drop, V: Clone + Drop>(
+// Frees no leaf, where there is no run.
+fn frees_none<K: AsBytes + Drop, V: Drop>(arena: &mut NodeArena<K, V, 4>) -> [usize; 5] {
+    deallocate_leaves(arena, None);
+    nodes_in(arena)
+}
+
+// What is left of the tree then.
+fn left_by_none<K: CloneBytes + Drop, V: Clone + Drop>(
     alloc: Global,
     commands: &[Command<K, V>],
 ) -> Option<[usize; 5]> {
-    let mut tree = tree_of(alloc, commands)?;
-    deallocate_leaves(&mut tree.0, None);
-    Some(nodes_in(&tree.0))
+    match tree_of(alloc, commands) {
+        Some(mut tree) => Some(frees_none(&mut tree.0)),
+        None => None,
+    }
 }
 
 /// Insertions that make inner nodes of all four kinds one below the other, and 70 leaves.
@@ -136,7 +158,7 @@ fn leaves_and_inner_nodes_go_apart(rt: HostRuntime) -> Result<(), Fail> {
     let commands = all_kinds(rt.alloc())?;
     let left = left_by_parts(rt.alloc(), commands.as_slice());
     assert!(rt; left == Some([[1, 1, 1, 1, 0], [0, 0, 0, 0, 0]]));
-    let all = frees_none(rt.alloc(), commands.as_slice());
+    let all = left_by_none(rt.alloc(), commands.as_slice());
     assert!(rt; all == Some([1, 1, 1, 1, 70]));
     Ok(())
 }

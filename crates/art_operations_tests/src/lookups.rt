@@ -13,9 +13,8 @@ use art_operations::{
     minimum_unchecked, prefix_search_unchecked, search_for_delete_point, search_for_insert_point,
     search_unchecked,
 };
-use std::alloc::{AllocError, Global};
+use std::alloc::Global;
 use std::process::Abort;
-use std::test::Fail;
 
 // An arena that has one leaf and nothing else, and the leaf's name.
 pub(crate) fn lone_leaf<K: AsBytes + Drop, V: Drop>(
@@ -33,34 +32,56 @@ pub(crate) fn lone_leaf<K: AsBytes + Drop, V: Drop>(
 }
 
 // Looks for a key in a tree that has it alone. These are its bytes, with one byte more.
-fn looks_for_a_lone_key<K: AsBytes + Clone + Drop, V: Drop, R: Abort>(
+fn looks_for_a_lone_key<K: AsBytes, V, R: Abort>(
     rt: &R,
     alloc: Global,
-    key: K,
-    value: V,
+    arena: &NodeArena<K, V, 4>,
+    root: OpaqueNodePtr,
+    key: &K,
     longer: &[u8],
-) -> Result<(), AllocError> {
-    let wanted = key.clone()?;
-    let Some((arena, root)) = lone_leaf(alloc, key, value) else {
-        return Err(AllocError);
-    };
-    let leaf = minimum_unchecked(&arena, root);
+)
+    requires { (s : Shape K V) × IsSubtree K.bytes 4 (node_at arena.now) root [] s }
+{
+    let leaf = minimum_unchecked(arena, root);
     assert!(rt; leaf.to_opaque() == root);
-    assert!(rt; find(&arena, root, &wanted) == Some(leaf));
-    assert!(rt; search_unchecked(&arena, root, longer).is_none());
-    assert!(rt; prefix_search_unchecked(&arena, root, longer) == Some(leaf));
-    assert!(rt; maximum_unchecked(&arena, root) == leaf);
-    assert!(rt; search_for_delete_point(&arena, root, longer).is_none());
-    assert!(rt; find_minimum_to_delete(&arena, root).leaf_node_ptr == leaf);
-    assert!(rt; find_maximum_to_delete(&arena, root).leaf_node_ptr == leaf);
-    assert!(rt; search_for_insert_point(alloc, &arena, root, longer).is_err());
-    Ok(())
+    assert!(rt; find(arena, root, key) == Some(leaf));
+    assert!(rt; search_unchecked(arena, root, longer).is_none());
+    assert!(rt; prefix_search_unchecked(arena, root, longer) == Some(leaf));
+    assert!(rt; maximum_unchecked(arena, root) == leaf);
+    assert!(rt; search_for_delete_point(arena, root, longer).is_none());
+    assert!(rt; find_minimum_to_delete(arena, root).leaf_node_ptr == leaf);
+    assert!(rt; find_maximum_to_delete(arena, root).leaf_node_ptr == leaf);
+    assert!(rt; search_for_insert_point(alloc, arena, root, longer).is_err());
+}
+
+// Makes such a tree, and looks for a key of the same bytes in it.
+fn is_found_alone<K: AsBytes + Drop, V: Drop, R: Abort>(
+    rt: &R,
+    alloc: Global,
+    pair: (K, V),
+    key: &K,
+    longer: &[u8],
+) -> bool {
+    match lone_leaf(alloc, pair.0, pair.1) {
+        Some(lone) => {
+            looks_for_a_lone_key(rt, alloc, &lone.0, lone.1, key, longer);
+            true
+        }
+        None => false,
+    }
 }
 
 #[test]
-fn finds_a_lone_leaf(rt: HostRuntime) -> Result<(), Fail> {
-    looks_for_a_lone_key(&rt, rt.alloc(), [1, 2, 3], 7, &[1, 2, 3, 4])?;
-    Ok(())
+fn finds_a_lone_leaf(rt: HostRuntime) {
+    assert!(rt;
+        is_found_alone(
+            &rt,
+            rt.alloc(),
+            ([1u8, 2, 3], 7u8),
+            &[1, 2, 3],
+            &[1, 2, 3, 4]
+        )
+    );
 }
 
 #[test]

@@ -7,6 +7,7 @@ ghost use Rattle.art_arena.specs.arena.Steps.{steps_of};
 ghost use Rattle.art_operations.specs.DeletePoints.{IsLeafPlace};
 ghost use Rattle.art_operations.specs.Points.{IsPoint};
 
+use crate::commands::answers;
 use crate::lookups::lone_leaf;
 use art_arena::NodeArena;
 use art_bytes::{AsBytes, CloneBytes};
@@ -53,20 +54,32 @@ fn is_told<K: AsBytes, V>(
     }
 }
 
-// Whether a longer key than the lone one is told, in a window; where there was no memory, outside it.
+// Whether a key that can't be put in is told, in a window; where there was no memory, outside it.
+fn tells_again<K: AsBytes, V>(
+    rt: &HostRuntime,
+    arena: &NodeArena<K, V, 4>,
+    root: OpaqueNodePtr,
+    key: &[u8],
+) -> Result<bool, Fail>
+    requires { (s : Shape K V) × IsSubtree K.bytes 4 (node_at arena.now) root [] s }
+{
+    eprintln!(rt; "refuse")?;
+    let told = is_told(rt.alloc(), arena, root, key);
+    came(rt, told)?;
+    Ok(is_told(rt.alloc(), arena, root, key))
+}
+
+// The same of a longer key than a lone one.
 fn tells_a_longer_key<K: AsBytes + Drop, V: Drop>(
     rt: &HostRuntime,
     key: K,
     value: V,
     longer: &[u8],
 ) -> Result<bool, Fail> {
-    let Some((arena, root)) = lone_leaf(rt.alloc(), key, value) else {
-        return Ok(false);
-    };
-    eprintln!(rt; "refuse")?;
-    let told = is_told(rt.alloc(), &arena, root, longer);
-    came(rt, told)?;
-    Ok(is_told(rt.alloc(), &arena, root, longer))
+    match lone_leaf(rt.alloc(), key, value) {
+        Some(lone) => tells_again(rt, &lone.0, lone.1, longer),
+        None => Ok(false),
+    }
 }
 
 #[test]
@@ -333,25 +346,14 @@ fn replacing_a_pair_takes_no_memory(rt: HostRuntime) -> Result<(), Fail> {
     Ok(())
 }
 
-// Whether all of these insertions of new keys are done.
-fn all_done<K: CloneBytes, V: Clone>(alloc: Global, commands: &[Command<K, V>]) -> bool {
-    let ran: RunResult<K, V, 4> = match run(alloc, commands) {
-        Ok(ran) => ran,
-        Err(_) => return false,
-    };
-    for answer in ran.answers.as_slice() {
-        if *answer != Answer::Done(0) {
-            return false;
-        }
-    }
-    ran.answers.len() == commands.len()
-}
-
 #[test]
 fn runs_commands(rt: HostRuntime) -> Result<(), Fail> {
     let commands = children(rt.alloc(), 6)?;
+    // All of them put new keys in.
+    let wanted = [Answer::Done(0); 6];
     eprintln!(rt; "refuse")?;
-    came(&rt, all_done(rt.alloc(), commands.as_slice()))?;
-    assert!(rt; all_done(rt.alloc(), commands.as_slice()));
+    let told = answers(rt.alloc(), commands.as_slice(), &wanted);
+    came(&rt, told.unwrap_or(false))?;
+    assert!(rt; answers(rt.alloc(), commands.as_slice(), &wanted)?);
     Ok(())
 }

@@ -98,6 +98,23 @@ fn overwrite<K: AsBytes + Drop, V: Drop>(
     Ok(told(put, is_found))
 }
 
+// Puts a pair in where it goes, if there is memory.
+fn put_over<K: AsBytes + Drop, V: Drop>(
+    arena: &mut NodeArena<K, V, 4>,
+    root: OpaqueNodePtr,
+    key: K,
+    value: V,
+    bytes: &[u8],
+) -> Option<Over<V>>
+    requires { (s : Shape K V) × StoresOnly K.bytes 4 arena.old root s }
+{
+    let point = place_over(arena, root, &key);
+    match overwrite(arena, &point, key, value, bytes) {
+        Ok(over) => Some(over),
+        Err(_) => None,
+    }
+}
+
 // Puts a pair in over the tree that commands make.
 fn puts_over<K: CloneBytes + Drop, V: Clone + Drop>(
     alloc: Global,
@@ -106,30 +123,38 @@ fn puts_over<K: CloneBytes + Drop, V: Clone + Drop>(
     value: V,
     bytes: &[u8],
 ) -> Option<Over<V>> {
-    let mut tree = tree_of(alloc, commands)?;
-    let point = place_over(&tree.0, tree.1, &key);
-    match overwrite(&mut tree.0, &point, key, value, bytes) {
-        Ok(over) => Some(over),
-        Err(_) => None,
+    match tree_of(alloc, commands) {
+        Some(mut tree) => put_over(&mut tree.0, tree.1, key, value, bytes),
+        None => None,
     }
 }
 
-// Whether a key goes to the leaf that has it, in the tree that commands make.
+// Whether a key goes to the leaf that has it.
+fn is_place_of_a_leaf<K: AsBytes, V>(
+    arena: &NodeArena<K, V, 4>,
+    root: OpaqueNodePtr,
+    key: &K,
+) -> bool
+    requires { (s : Shape K V) × StoresOnly K.bytes 4 arena.now root s }
+{
+    match place_over(arena, root, key) {
+        PrefixInsertPoint::InsertPoint(point) => match point.insert_kind {
+            InsertKind::Exact { .. } => true,
+            _ => false,
+        },
+        PrefixInsertPoint::OverwritePoint(_) => false,
+    }
+}
+
+// The same in the tree that commands make.
 fn is_exact<K: CloneBytes + Drop, V: Clone + Drop>(
     alloc: Global,
     commands: &[Command<K, V>],
     key: &K,
 ) -> bool {
-    let Some((arena, root)) = tree_of(alloc, commands) else {
-        return false;
-    };
-    let point = match place_over(&arena, root, key) {
-        PrefixInsertPoint::InsertPoint(point) => point,
-        PrefixInsertPoint::OverwritePoint(_) => return false,
-    };
-    match point.insert_kind {
-        InsertKind::Exact { .. } => true,
-        _ => false,
+    match tree_of(alloc, commands) {
+        Some(tree) => is_place_of_a_leaf(&tree.0, tree.1, key),
+        None => false,
     }
 }
 

@@ -47,7 +47,23 @@ fn takes_from_one<K: AsBytes + Drop, V: Drop>(
     }
 }
 
-// Whether a key of two trees is found in the second, once it is taken out of the first.
+// Whether a key that a tree has is found in another, which has it alone, once it is taken out of the first.
+fn takes_beside<K: AsBytes + Drop, V: Drop>(
+    arena: &mut NodeArena<K, V, 4>,
+    root: OpaqueNodePtr,
+    key: K,
+    value: V,
+    bytes: &[u8],
+) -> bool
+    requires { (s : Shape K V) × StoresOnly K.bytes 4 arena.old root s }
+{
+    match put_beside(arena, root, key, value) {
+        Some(other) => takes_from_one(arena, root, other, bytes),
+        None => false,
+    }
+}
+
+// The same of the tree that commands make.
 fn stays_in_other<K: CloneBytes + Drop, V: Clone + Drop>(
     alloc: Global,
     commands: &[Command<K, V>],
@@ -55,11 +71,8 @@ fn stays_in_other<K: CloneBytes + Drop, V: Clone + Drop>(
     value: V,
     bytes: &[u8],
 ) -> bool {
-    let Some((mut arena, root)) = tree_of(alloc, commands) else {
-        return false;
-    };
-    match put_beside(&mut arena, root, key, value) {
-        Some(other) => takes_from_one(&mut arena, root, other, bytes),
+    match tree_of(alloc, commands) {
+        Some(mut tree) => takes_beside(&mut tree.0, tree.1, key, value, bytes),
         None => false,
     }
 }

@@ -83,117 +83,155 @@ fn pair<K: AsBytes + Drop, V: Drop>(
     Some((root, first, second))
 }
 
-fn told<K: AsBytes, V>(alloc: Global, arena: &NodeArena<K, V, 16>, root: OpaqueNodePtr) -> Answer {
-    Some(WellFormedChecker::check_tree(alloc, arena, root))
+// What a check tells of a tree, where there was memory to make it.
+fn told<K: AsBytes, V>(
+    alloc: Global,
+    arena: &NodeArena<K, V, 16>,
+    root: Option<OpaqueNodePtr>,
+) -> Answer {
+    Some(WellFormedChecker::check_tree(alloc, arena, root?))
 }
 
-// The first node of its kind has the first name.
-fn names_itself<K: AsBytes + Drop, V: Drop>(alloc: Global, entry: (K, V)) -> Answer {
-    let mut arena: NodeArena<K, V, 16> = NodeArena::new(alloc);
-    let only = leaf(&mut arena, entry)?;
+// What a smallest node over one leaf has below it.
+#[derive(Clone, Copy)]
+enum Children {
+    // The leaf.
+    Leaf,
+    // The leaf under two bytes.
+    LeafTwice,
+    // The leaf and the node itself: the first node of its kind has the first name.
+    LeafAndItself,
+}
+
+// Such a node.
+fn over_a_leaf<K: AsBytes + Drop, V: Drop>(
+    arena: &mut NodeArena<K, V, 16>,
+    entry: (K, V),
+    children: Children,
+) -> Option<OpaqueNodePtr> {
+    let only = leaf(arena, entry)?.to_opaque();
     let itself: NodePtr<Kind4> = NodePtr::from_slot(0);
-    let children = [(0, only.to_opaque()), (1, itself.to_opaque())];
-    let root = inner::<InnerNode4<K, V, 16>, K, V>(&mut arena, b"", &children)?;
-    told(alloc, &arena, root)
-}
-
-fn second_is_freed<K: AsBytes + Drop, V: Drop>(alloc: Global, entries: [(K, V); 2]) -> Answer {
-    let mut arena: NodeArena<K, V, 16> = NodeArena::new(alloc);
-    let (root, first, second) = pair(&mut arena, b"", entries)?;
-    link(&mut arena, first, None, None);
-    if arena.holds(second.to_opaque()) {
-        let _freed: LeafNode<K, V> = arena.deallocate_node_ptr(second);
+    match children {
+        Children::Leaf => inner::<InnerNode4<K, V, 16>, K, V>(arena, b"", &[(0, only)]),
+        Children::LeafTwice => {
+            inner::<InnerNode4<K, V, 16>, K, V>(arena, b"", &[(0, only), (1, only)])
+        }
+        Children::LeafAndItself => {
+            let children = [(0, only), (1, itself.to_opaque())];
+            inner::<InnerNode4<K, V, 16>, K, V>(arena, b"", &children)
+        }
     }
-    told(alloc, &arena, root)
 }
 
-// A leaf under two bytes.
-fn shares_a_leaf<K: AsBytes + Drop, V: Drop>(alloc: Global, entry: (K, V)) -> Answer {
+fn told_over_a_leaf<K: AsBytes + Drop, V: Drop>(
+    alloc: Global,
+    entry: (K, V),
+    children: Children,
+) -> Answer {
     let mut arena: NodeArena<K, V, 16> = NodeArena::new(alloc);
-    let only = leaf(&mut arena, entry)?;
-    let children = [(0, only.to_opaque()), (1, only.to_opaque())];
-    let root = inner::<InnerNode4<K, V, 16>, K, V>(&mut arena, b"", &children)?;
+    let root = over_a_leaf(&mut arena, entry, children);
     told(alloc, &arena, root)
 }
 
 // Of the first names of two kinds one is held.
 fn is_of_another_kind<K: AsBytes + Drop, V: Drop>(alloc: Global, entry: (K, V)) -> Answer {
     let mut arena: NodeArena<K, V, 16> = NodeArena::new(alloc);
-    let _only = leaf(&mut arena, entry)?;
+    let _only = leaf(&mut arena, entry);
     let other: NodePtr<Kind4> = NodePtr::from_slot(0);
-    told(alloc, &arena, other.to_opaque())
+    told(alloc, &arena, Some(other.to_opaque()))
 }
 
-fn one_child<K: AsBytes + Drop, V: Drop>(alloc: Global, entry: (K, V)) -> Answer {
-    let mut arena: NodeArena<K, V, 16> = NodeArena::new(alloc);
-    let only = leaf(&mut arena, entry)?;
-    let children = [(0, only.to_opaque())];
-    let root = inner::<InnerNode4<K, V, 16>, K, V>(&mut arena, b"", &children)?;
-    told(alloc, &arena, root)
-}
-
+// Below a larger node than its four leaves need.
 fn too_large<K: AsBytes + Drop, V: Drop>(
-    alloc: Global,
+    arena: &mut NodeArena<K, V, 16>,
     low: [(K, V); 2],
     high: [(K, V); 2],
-) -> Answer {
-    let mut arena: NodeArena<K, V, 16> = NodeArena::new(alloc);
-    let (first, second) = two_leaves(&mut arena, low)?;
-    let (third, fourth) = two_leaves(&mut arena, high)?;
-    link(&mut arena, second, Some(first), Some(third));
-    link(&mut arena, third, Some(second), Some(fourth));
+) -> Option<OpaqueNodePtr> {
+    let (first, second) = two_leaves(arena, low)?;
+    let (third, fourth) = two_leaves(arena, high)?;
+    link(arena, second, Some(first), Some(third));
+    link(arena, third, Some(second), Some(fourth));
     let children = [
         (0, first.to_opaque()),
         (1, second.to_opaque()),
         (2, third.to_opaque()),
         (3, fourth.to_opaque()),
     ];
-    let root = inner::<InnerNode16<K, V, 16>, K, V>(&mut arena, b"", &children)?;
+    inner::<InnerNode16<K, V, 16>, K, V>(arena, b"", &children)
+}
+
+fn told_of_too_large<K: AsBytes + Drop, V: Drop>(
+    alloc: Global,
+    low: [(K, V); 2],
+    high: [(K, V); 2],
+) -> Answer {
+    let mut arena: NodeArena<K, V, 16> = NodeArena::new(alloc);
+    let root = too_large(&mut arena, low, high);
     told(alloc, &arena, root)
 }
 
-fn two_below<K: AsBytes + Drop, V: Drop>(
+// What is done to the second of two leaves, or to the links of both.
+#[derive(Clone, Copy)]
+enum Change {
+    Nothing,
+    Free,
+    LinkBackwards,
+    LinkInARing,
+    Unlink,
+}
+
+// Two leaves below a smallest node with a prefix, changed so.
+fn changed<K: AsBytes + Drop, V: Drop>(
+    arena: &mut NodeArena<K, V, 16>,
+    prefix: &[u8],
+    entries: [(K, V); 2],
+    change: Change,
+) -> Option<OpaqueNodePtr> {
+    let (root, first, second) = pair(arena, prefix, entries)?;
+    match change {
+        Change::Nothing => {}
+        Change::Free => {
+            link(arena, first, None, None);
+            if arena.holds(second.to_opaque()) {
+                let _freed: LeafNode<K, V> = arena.deallocate_node_ptr(second);
+            }
+        }
+        Change::LinkBackwards => {
+            link(arena, first, Some(second), None);
+            link(arena, second, None, Some(first));
+        }
+        Change::LinkInARing => {
+            link(arena, first, Some(second), Some(second));
+            link(arena, second, Some(first), Some(first));
+        }
+        Change::Unlink => {
+            link(arena, first, None, None);
+            link(arena, second, None, None);
+        }
+    }
+    Some(root)
+}
+
+fn told_of_changed<K: AsBytes + Drop, V: Drop>(
     alloc: Global,
     prefix: &[u8],
     entries: [(K, V); 2],
+    change: Change,
 ) -> Answer {
     let mut arena: NodeArena<K, V, 16> = NodeArena::new(alloc);
-    let (root, _first, _second) = pair(&mut arena, prefix, entries)?;
+    let root = changed(&mut arena, prefix, entries, change);
     told(alloc, &arena, root)
 }
 
-fn linked_backwards<K: AsBytes + Drop, V: Drop>(alloc: Global, entries: [(K, V); 2]) -> Answer {
-    let mut arena: NodeArena<K, V, 16> = NodeArena::new(alloc);
-    let (root, first, second) = pair(&mut arena, b"", entries)?;
-    link(&mut arena, first, Some(second), None);
-    link(&mut arena, second, None, Some(first));
-    told(alloc, &arena, root)
-}
-
-fn linked_in_a_ring<K: AsBytes + Drop, V: Drop>(alloc: Global, entries: [(K, V); 2]) -> Answer {
-    let mut arena: NodeArena<K, V, 16> = NodeArena::new(alloc);
-    let (root, first, second) = pair(&mut arena, b"", entries)?;
-    link(&mut arena, first, Some(second), Some(second));
-    link(&mut arena, second, Some(first), Some(first));
-    told(alloc, &arena, root)
-}
-
-fn unlinked<K: AsBytes + Drop, V: Drop>(alloc: Global, entries: [(K, V); 2]) -> Answer {
-    let mut arena: NodeArena<K, V, 16> = NodeArena::new(alloc);
-    let (root, first, second) = pair(&mut arena, b"", entries)?;
-    link(&mut arena, first, None, None);
-    link(&mut arena, second, None, None);
-    told(alloc, &arena, root)
-}
-
+// Two leaves below a smallest node, beside another leaf.
 fn beside_another<K: AsBytes + Drop, V: Drop>(
     alloc: Global,
     entries: [(K, V); 2],
     other: (K, V),
 ) -> Answer {
     let mut arena: NodeArena<K, V, 16> = NodeArena::new(alloc);
-    let _other = leaf(&mut arena, other)?;
-    let (root, _first, _second) = pair(&mut arena, b"", entries)?;
+    let _other = leaf(&mut arena, other);
+    let root = changed(&mut arena, b"", entries, Change::Nothing);
     told(alloc, &arena, root)
 }
 
@@ -220,15 +258,15 @@ fn is_ok(answer: Answer, num_node4: usize, num_leaf: usize) -> bool {
 
 #[test]
 fn a_loop_is_found(rt: HostRuntime) {
-    let answer = names_itself(rt.alloc(), ([0u8], 1u8));
-    assert!(rt; is_fault(answer, MalformedTreeError::LoopFound));
-    let answer = shares_a_leaf(rt.alloc(), ([0u8], 1u8));
-    assert!(rt; is_fault(answer, MalformedTreeError::LoopFound));
+    for children in [Children::LeafAndItself, Children::LeafTwice] {
+        let answer = told_over_a_leaf(rt.alloc(), ([0u8], 1u8), children);
+        assert!(rt; is_fault(answer, MalformedTreeError::LoopFound));
+    }
 }
 
 #[test]
 fn a_dead_name_is_found(rt: HostRuntime) {
-    let answer = second_is_freed(rt.alloc(), [([0u8], 1u8), ([1], 2)]);
+    let answer = told_of_changed(rt.alloc(), b"", [([0u8], 1u8), ([1], 2)], Change::Free);
     assert!(rt; is_fault(answer, MalformedTreeError::DeadName));
     let answer = is_of_another_kind(rt.alloc(), ([0u8], 1u8));
     assert!(rt; is_fault(answer, MalformedTreeError::DeadName));
@@ -236,37 +274,38 @@ fn a_dead_name_is_found(rt: HostRuntime) {
 
 #[test]
 fn a_wrong_count_is_found(rt: HostRuntime) {
-    let answer = one_child(rt.alloc(), ([0u8], 1u8));
+    let answer = told_over_a_leaf(rt.alloc(), ([0u8], 1u8), Children::Leaf);
     assert!(rt; is_fault(answer, MalformedTreeError::WrongChildrenCount));
-    let answer = too_large(rt.alloc(), [([0u8], 1u8), ([1], 2)], [([2], 3), ([3], 4)]);
+    let (low, high) = ([([0u8], 1u8), ([1], 2)], [([2], 3), ([3], 4)]);
+    let answer = told_of_too_large(rt.alloc(), low, high);
     assert!(rt; is_fault(answer, MalformedTreeError::WrongChildrenCount));
 }
 
 #[test]
 fn a_wrong_prefix_is_found(rt: HostRuntime) {
-    let answer = two_below(rt.alloc(), b"\x09", [([8u8, 0], 1u8), ([8, 1], 2)]);
+    let entries = [([8u8, 0], 1u8), ([8, 1], 2)];
+    let answer = told_of_changed(rt.alloc(), b"\x09", entries, Change::Nothing);
     assert!(rt; is_fault(answer, MalformedTreeError::PrefixMismatch));
-    let answer = two_below(rt.alloc(), b"\x08", [([8u8, 0], 1u8), ([8, 1], 2)]);
+    let answer = told_of_changed(rt.alloc(), b"\x08", entries, Change::Nothing);
     assert!(rt; is_ok(answer, 1, 2));
 }
 
 #[test]
 fn a_key_that_stands_elsewhere_is_found(rt: HostRuntime) {
-    let answer = two_below(rt.alloc(), b"", [([0u8], 1u8), ([2], 2)]);
+    let entries = [([0u8], 1u8), ([2], 2)];
+    let answer = told_of_changed(rt.alloc(), b"", entries, Change::Nothing);
     assert!(rt; is_fault(answer, MalformedTreeError::PrefixMismatch));
-    let short = SliceKey(&[8]);
-    let answer = two_below(rt.alloc(), b"\x08", [(short, 1u8), (SliceKey(&[8, 1]), 2)]);
+    let entries = [(SliceKey(&[8]), 1u8), (SliceKey(&[8, 1]), 2)];
+    let answer = told_of_changed(rt.alloc(), b"\x08", entries, Change::Nothing);
     assert!(rt; is_fault(answer, MalformedTreeError::PrefixMismatch));
 }
 
 #[test]
 fn wrong_links_are_found(rt: HostRuntime) {
-    let answer = linked_backwards(rt.alloc(), [([0u8], 1u8), ([1], 2)]);
-    assert!(rt; is_fault(answer, MalformedTreeError::WrongSiblingLinks));
-    let answer = linked_in_a_ring(rt.alloc(), [([0u8], 1u8), ([1], 2)]);
-    assert!(rt; is_fault(answer, MalformedTreeError::WrongSiblingLinks));
-    let answer = unlinked(rt.alloc(), [([0u8], 1u8), ([1], 2)]);
-    assert!(rt; is_fault(answer, MalformedTreeError::WrongSiblingLinks));
+    for change in [Change::LinkBackwards, Change::LinkInARing, Change::Unlink] {
+        let answer = told_of_changed(rt.alloc(), b"", [([0u8], 1u8), ([1], 2)], change);
+        assert!(rt; is_fault(answer, MalformedTreeError::WrongSiblingLinks));
+    }
 }
 
 #[test]

@@ -51,22 +51,31 @@ fn a_tree_of_24_keys_has_41_nodes(rt: HostRuntime) {
     assert_eq!(rt; stats.num_node4, 17);
 }
 
-// Whether a check of what commands made answers this number of nodes, in a window; where there was no memory, outside
-// it.
+// Whether a check of what a run left answers this number of nodes, in a window; where there was no memory, outside it.
+fn counts<K: CloneBytes, V: Clone>(
+    rt: &HostRuntime,
+    ran: &RunResult<K, V, 4>,
+    len: usize,
+    nodes: usize,
+) -> Result<bool, Fail> {
+    eprintln!(rt; "refuse")?;
+    let answer = checked(rt.alloc(), ran, len);
+    eprintln!(rt; "{}", if answer.is_ok() { "ok" } else { "refused" })?;
+    let answer = match answer {
+        Err(MalformedTreeError::Memory) => checked(rt.alloc(), ran, len),
+        told => told,
+    };
+    Ok(answer.is_ok_and(|stats| stats.total_nodes() == nodes))
+}
+
+// The same of what commands made.
 fn counts_again<K: CloneBytes, V: Clone>(
     rt: &HostRuntime,
     commands: &[Command<K, V>],
     nodes: usize,
 ) -> Result<bool, Fail> {
     let ran: RunResult<K, V, 4> = run(rt.alloc(), commands)?;
-    eprintln!(rt; "refuse")?;
-    let answer = checked(rt.alloc(), &ran, commands.len());
-    eprintln!(rt; "{}", if answer.is_ok() { "ok" } else { "refused" })?;
-    let answer = match answer {
-        Err(MalformedTreeError::Memory) => checked(rt.alloc(), &ran, commands.len()),
-        told => told,
-    };
-    Ok(answer.is_ok_and(|stats| stats.total_nodes() == nodes))
+    counts(rt, &ran, commands.len(), nodes)
 }
 
 #[test]

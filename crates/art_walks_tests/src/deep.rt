@@ -36,16 +36,14 @@ fn put_above<K: AsBytes + Drop>(
     Some((above, next))
 }
 
-// What a check tells of the tree of these keys, which are put in from the last on. Where it is to loop, the first leaf
-// gives way to the root.
-fn told_of_stairs<K: AsBytes + Drop>(
-    alloc: Global,
-    keys: Vec<K>,
+// Puts these keys in, from the last on, and answers the root. Where the tree is to loop, the first leaf gives way to
+// the root.
+fn put_stairs<K: AsBytes + Drop>(
+    arena: &mut NodeArena<K, usize, 16>,
+    left: &mut Vec<K>,
     loops: bool,
-) -> Option<Result<WellFormedTreeStats, MalformedTreeError>> {
-    let mut arena: NodeArena<K, usize, 16> = NodeArena::new(alloc);
-    let mut left = keys;
-    let mut last = leaf(&mut arena, (left.pop()?, 0))?;
+) -> Option<OpaqueNodePtr> {
+    let mut last = leaf(arena, (left.pop()?, 0))?;
     // The last node that is made has the last name.
     let top: NodePtr<Kind4> = NodePtr::from_slot(DEPTH - 1);
     let mut root = if loops {
@@ -55,11 +53,24 @@ fn told_of_stairs<K: AsBytes + Drop>(
     };
     for _ in 0..DEPTH {
         let key = left.pop()?;
-        let put = put_above(&mut arena, root, last, key)?;
+        let put = put_above(arena, root, last, key)?;
         root = put.0;
         last = put.1;
     }
-    Some(WellFormedChecker::check_tree(alloc, &arena, root))
+    Some(root)
+}
+
+// What a check tells of the tree of these keys.
+fn told_of_stairs<K: AsBytes + Drop>(
+    alloc: Global,
+    left: &mut Vec<K>,
+    loops: bool,
+) -> Option<Result<WellFormedTreeStats, MalformedTreeError>> {
+    let mut arena: NodeArena<K, usize, 16> = NodeArena::new(alloc);
+    match put_stairs(&mut arena, left, loops) {
+        Some(root) => Some(WellFormedChecker::check_tree(alloc, &arena, root)),
+        None => None,
+    }
 }
 
 // So many zeros and a one.
@@ -88,8 +99,8 @@ fn stairs(alloc: Global, bytes: &[u8]) -> Result<Vec<SliceKey<'_>>, AllocError> 
 #[test]
 fn a_deep_tree_is_checked(rt: HostRuntime) -> Result<(), Fail> {
     let bytes = zeros_and_a_one(rt.alloc())?;
-    let keys = stairs(rt.alloc(), bytes.as_slice())?;
-    let told = told_of_stairs(rt.alloc(), keys, false);
+    let mut keys = stairs(rt.alloc(), bytes.as_slice())?;
+    let told = told_of_stairs(rt.alloc(), &mut keys, false);
     assert!(rt; told.is_some_and(|told| told.is_ok_and(|stats| stats.num_node4 == DEPTH)));
     Ok(())
 }
@@ -97,8 +108,8 @@ fn a_deep_tree_is_checked(rt: HostRuntime) -> Result<(), Fail> {
 #[test]
 fn a_loop_is_found_in_the_deep(rt: HostRuntime) -> Result<(), Fail> {
     let bytes = zeros_and_a_one(rt.alloc())?;
-    let keys = stairs(rt.alloc(), bytes.as_slice())?;
-    let told = told_of_stairs(rt.alloc(), keys, true);
+    let mut keys = stairs(rt.alloc(), bytes.as_slice())?;
+    let told = told_of_stairs(rt.alloc(), &mut keys, true);
     assert!(rt; told == Some(Err(MalformedTreeError::LoopFound)));
     Ok(())
 }

@@ -121,30 +121,36 @@ fn go_over<K, const PREFIX_LEN: usize>(
     None
 }
 
-// What a visitor met below the root of what commands made, and what came of the last inner node.
-fn met<K: CloneBytes>(
+// What a visitor met below a root, and what came of the last inner node.
+fn met_below<K, const PREFIX_LEN: usize>(
     alloc: Global,
-    commands: &[Command<K, u8>],
+    arena: &NodeArena<K, u8, PREFIX_LEN>,
+    root: Option<OpaqueNodePtr>,
 ) -> Result<Option<(usize, usize, u64)>, AllocError> {
-    let ran: RunResult<K, u8, 4> = run(alloc, commands)?;
     let mut digits = Digits {
         inner_nodes: 0,
         leaves: 0,
         waiting: Vec::new(alloc),
         refused: false,
     };
-    let root = match ran.root {
-        Some(root) => root,
-        None => return Ok(None),
+    let last = match root {
+        Some(root) => go_over(arena, root, &mut digits),
+        None => None,
     };
-    let last = match go_over(&ran.arena, root, &mut digits) {
-        Some(last) => last,
-        None => return Ok(None),
-    };
-    if digits.refused {
-        return Err(AllocError);
+    match last {
+        _ if digits.refused => Err(AllocError),
+        Some(last) => Ok(Some((digits.inner_nodes, digits.leaves, last))),
+        None => Ok(None),
     }
-    Ok(Some((digits.inner_nodes, digits.leaves, last)))
+}
+
+// The same of what commands made.
+fn met<K: CloneBytes>(
+    alloc: Global,
+    commands: &[Command<K, u8>],
+) -> Result<Option<(usize, usize, u64)>, AllocError> {
+    let ran: RunResult<K, u8, 4> = run(alloc, commands)?;
+    met_below(alloc, &ran.arena, ran.root)
 }
 
 #[test]

@@ -59,8 +59,10 @@ fn linked_leaves<K: Drop, V: Drop>(
 
 fn walks<K: Drop, V: Drop>(rt: &HostRuntime, entries: [(K, V); 3]) -> Option<bool> {
     let mut arena: NodeArena<K, V, 4> = NodeArena::new(rt.alloc());
-    let leaves = linked_leaves(&mut arena, entries)?;
-    Some(meets_in_the_middle(&arena, leaves))
+    match linked_leaves(&mut arena, entries) {
+        Some(leaves) => Some(meets_in_the_middle(&arena, leaves)),
+        None => None,
+    }
 }
 
 #[test]

@@ -14,6 +14,32 @@ use std::alloc::{AllocError, Global};
 use std::net::Ipv4Addr;
 use std::{env, io};
 
+// The scenarios of keys.
+const NAMES: [&str; 22] = [
+    "vector_to_bytes",
+    "vector_from_bytes",
+    "vector_checked_from_bytes",
+    "array_to_bytes",
+    "array_from_bytes_takes_no_memory",
+    "tuple_to_bytes",
+    "tuple_reads_back",
+    "tuple_writes_back",
+    "tuple_from_bytes_takes_no_memory",
+    "pair_key",
+    "mapped_new",
+    "mapped_clone",
+    "mapped_vector_new",
+    "mapped_vector_get",
+    "mapped_get_takes_no_memory",
+    "number_to_bytes_takes_no_memory",
+    "number_from_bytes_takes_no_memory",
+    "address_from_bytes_takes_no_memory",
+    "zero_ended_new",
+    "zero_ended_of_a_zero_takes_no_memory",
+    "zero_ended_clone",
+    "zero_ended_to_bytes_takes_no_memory",
+];
+
 type Pair = ConcatTuple<(ToUBE, ToIBE)>;
 
 type PairKey = Mapped<Pair, (u32, i64)>;
@@ -204,6 +230,24 @@ fn mapped_clone(rt: &(impl Print + Eprint + AllocGlobal)) -> io::Result<()> {
     makes(rt, &|| -> Result<PairKey, AllocError> { key.clone() })
 }
 
+// A scenario of a key that stands alone: mapped, or with a zero at its end.
+fn run_key(rt: &(impl Print + Eprint + AllocGlobal), name: &str) -> io::Result<()> {
+    let alloc = rt.alloc();
+    match name {
+        "pair_key" => makes(rt, &|| laws::pair_key_is(alloc, 1, -5)),
+        "mapped_new" => makes(rt, &|| PairKey::new(alloc, (1, -5))),
+        "mapped_clone" => mapped_clone(rt),
+        "mapped_vector_new" => makes(rt, &|| mapped_vector(alloc)),
+        "mapped_vector_get" => makes(rt, &|| mapped_vector_get(alloc)),
+        "mapped_get_takes_no_memory" => mapped_get(rt),
+        "zero_ended_new" => zero_ended_new(rt),
+        "zero_ended_of_a_zero_takes_no_memory" => zero_ended_of_a_zero(rt),
+        "zero_ended_clone" => zero_ended_clone(rt),
+        "zero_ended_to_bytes_takes_no_memory" => zero_ended_to_bytes(rt),
+        _ => map::run(rt, name),
+    }
+}
+
 fn run(rt: &(impl Print + Eprint + AllocGlobal), name: &str) -> io::Result<()> {
     println!(rt; "scenario {name}")?;
     let alloc = rt.alloc();
@@ -217,21 +261,18 @@ fn run(rt: &(impl Print + Eprint + AllocGlobal), name: &str) -> io::Result<()> {
         "tuple_reads_back" => makes(rt, &|| tuple_reads_back(alloc)),
         "tuple_writes_back" => makes(rt, &|| tuple_writes_back(alloc)),
         "tuple_from_bytes_takes_no_memory" => tuple_from_bytes(rt),
-        "pair_key" => makes(rt, &|| laws::pair_key_is(alloc, 1, -5)),
-        "mapped_new" => makes(rt, &|| PairKey::new(alloc, (1, -5))),
-        "mapped_clone" => mapped_clone(rt),
-        "mapped_vector_new" => makes(rt, &|| mapped_vector(alloc)),
-        "mapped_vector_get" => makes(rt, &|| mapped_vector_get(alloc)),
-        "mapped_get_takes_no_memory" => mapped_get(rt),
         "number_to_bytes_takes_no_memory" => makes(rt, &|| ToIBE::to_bytes(alloc, -5i64)),
         "number_from_bytes_takes_no_memory" => makes(rt, &|| number_from_bytes(alloc)),
         "address_from_bytes_takes_no_memory" => makes(rt, &|| address_from_bytes(alloc)),
-        "zero_ended_new" => zero_ended_new(rt),
-        "zero_ended_of_a_zero_takes_no_memory" => zero_ended_of_a_zero(rt),
-        "zero_ended_clone" => zero_ended_clone(rt),
-        "zero_ended_to_bytes_takes_no_memory" => zero_ended_to_bytes(rt),
-        _ => map::run(rt, name),
+        _ => run_key(rt, name),
     }
+}
+
+fn run_each(rt: &(impl Print + Eprint + AllocGlobal), names: &[&str]) -> io::Result<()> {
+    for name in names {
+        run(rt, name)?;
+    }
+    Ok(())
 }
 
 fn main(rt: HostRuntime) -> io::Result<()> {
@@ -241,38 +282,9 @@ fn main(rt: HostRuntime) -> io::Result<()> {
         run(&rt, name.as_str())?;
     }
     if !is_named {
-        for name in [
-            "vector_to_bytes",
-            "vector_from_bytes",
-            "vector_checked_from_bytes",
-            "array_to_bytes",
-            "array_from_bytes_takes_no_memory",
-            "tuple_to_bytes",
-            "tuple_reads_back",
-            "tuple_writes_back",
-            "tuple_from_bytes_takes_no_memory",
-            "pair_key",
-            "mapped_new",
-            "mapped_clone",
-            "mapped_vector_new",
-            "mapped_vector_get",
-            "mapped_get_takes_no_memory",
-            "number_to_bytes_takes_no_memory",
-            "number_from_bytes_takes_no_memory",
-            "address_from_bytes_takes_no_memory",
-            "zero_ended_new",
-            "zero_ended_of_a_zero_takes_no_memory",
-            "zero_ended_clone",
-            "zero_ended_to_bytes_takes_no_memory",
-        ] {
-            run(&rt, name)?;
-        }
-        for name in map::NAMES {
-            run(&rt, name)?;
-        }
-        for name in operations::NAMES {
-            run(&rt, name)?;
-        }
+        run_each(&rt, &NAMES)?;
+        run_each(&rt, &map::NAMES)?;
+        run_each(&rt, &operations::NAMES)?;
     }
     Ok(())
 }

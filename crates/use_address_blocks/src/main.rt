@@ -54,36 +54,55 @@ fn octets_of(alloc: Global, text: &str) -> Result<Option<Vec<u8>>, AllocError> {
     Ok(Some(octets))
 }
 
+/// Puts a block in the table, and tells what came of it.
+fn put(
+    alloc: Global,
+    blocks: &mut Blocks,
+    octets: &str,
+    owner: &str,
+) -> Result<String, AllocError> {
+    let Some(octets) = octets_of(alloc, octets)? else {
+        return format!(in alloc; "no octets");
+    };
+    if add(blocks, octets, String::from_str(alloc, owner)?)? {
+        format!(in alloc; "taken")
+    } else {
+        format!(in alloc; "nests with another block")
+    }
+}
+
+/// Tells who has an address.
+fn find(alloc: Global, blocks: &Blocks, address: &str) -> Result<String, AllocError> {
+    let Some(octets) = octets_of(alloc, address)? else {
+        return format!(in alloc; "no address");
+    };
+    match block_of(blocks, octets.as_slice()) {
+        Some((front, owner)) => format!(in alloc; "{owner}, by {front:?}"),
+        None => format!(in alloc; "nobody"),
+    }
+}
+
 /// Carries out a line `block OCTETS OWNER` or `find ADDRESS`, and gives its answer.
 fn answer(alloc: Global, blocks: &mut Blocks, line: &str) -> Result<String, AllocError> {
     let words: Vec<&str> = line.split_whitespace().collect(alloc)?;
     match words.as_slice() {
-        ["block", octets, owner] => match octets_of(alloc, octets)? {
-            Some(octets) => {
-                if add(blocks, octets, String::from_str(alloc, owner)?)? {
-                    format!(in alloc; "{line}: taken")
-                } else {
-                    format!(in alloc; "{line}: nests with another block")
-                }
-            }
-            None => format!(in alloc; "{line}: no octets"),
-        },
-        ["find", address] => match octets_of(alloc, address)? {
-            Some(octets) => match block_of(blocks, octets.as_slice()) {
-                Some((front, owner)) => format!(in alloc; "{line}: {owner}, by {front:?}"),
-                None => format!(in alloc; "{line}: nobody"),
-            },
-            None => format!(in alloc; "{line}: no address"),
-        },
-        _ => format!(in alloc; "{line}: not understood"),
+        ["block", octets, owner] => put(alloc, blocks, octets, owner),
+        ["find", address] => find(alloc, blocks, address),
+        _ => format!(in alloc; "not understood"),
     }
+}
+
+/// Answers each line.
+fn answer_lines(rt: &HostRuntime, blocks: &mut Blocks) -> io::Result<()> {
+    for line in rt.lines(rt.alloc()) {
+        let line = line?;
+        let told = answer(rt.alloc(), blocks, line.as_str())?;
+        println!(rt; "{line}: {told}")?;
+    }
+    Ok(())
 }
 
 fn main(rt: HostRuntime) -> io::Result<()> {
     let mut blocks = TreeMap::new(rt.alloc());
-    for line in rt.lines(rt.alloc()) {
-        let told = answer(rt.alloc(), &mut blocks, line?.as_str())?;
-        println!(rt; "{told}")?;
-    }
-    Ok(())
+    answer_lines(&rt, &mut blocks)
 }

@@ -97,16 +97,19 @@ fn keep(
     Ok(true)
 }
 
-/// Reads the notes, and then lists them by time.
-fn main(rt: HostRuntime) -> io::Result<()> {
-    let mut by_time = ByTime::new(rt.alloc());
-    let mut notes = Vec::new(rt.alloc());
+/// Keeps the note of each line, and tells the lines that are none.
+fn read_notes(rt: &HostRuntime, by_time: &mut ByTime, notes: &mut Vec<String>) -> io::Result<()> {
     for line in rt.lines(rt.alloc()) {
         let line = line?;
-        if !keep(rt.alloc(), &mut by_time, &mut notes, line.as_str())? {
+        if !keep(rt.alloc(), by_time, notes, line.as_str())? {
             println!(rt; "{line}: not understood")?;
         }
     }
+    Ok(())
+}
+
+/// Lists the notes by time.
+fn list(rt: &HostRuntime, by_time: &ByTime, notes: &[String]) -> io::Result<()> {
     if let Some(entry) = by_time.earliest() {
         println!(rt; "the earliest is note {}", entry.place)?;
     }
@@ -116,4 +119,11 @@ fn main(rt: HostRuntime) -> io::Result<()> {
         }
     }
     Ok(())
+}
+
+fn main(rt: HostRuntime) -> io::Result<()> {
+    let mut by_time = ByTime::new(rt.alloc());
+    let mut notes = Vec::new(rt.alloc());
+    read_notes(&rt, &mut by_time, &mut notes)?;
+    list(&rt, &by_time, notes.as_slice())
 }

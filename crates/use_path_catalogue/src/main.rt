@@ -83,14 +83,18 @@ fn answer(alloc: Global, catalogue: &mut Catalogue, line: &str) -> Result<String
     }
 }
 
-/// Answers each line, and then lists the catalogue by path.
-fn main(rt: HostRuntime) -> io::Result<()> {
-    let mut catalogue = TreeMap::new(rt.alloc());
+/// Answers each line.
+fn answer_lines(rt: &HostRuntime, catalogue: &mut Catalogue) -> io::Result<()> {
     for line in rt.lines(rt.alloc()) {
         let line = line?;
-        let told = answer(rt.alloc(), &mut catalogue, line.as_str())?;
+        let told = answer(rt.alloc(), catalogue, line.as_str())?;
         println!(rt; "{line}: {told}")?;
     }
+    Ok(())
+}
+
+/// Lists the catalogue by path.
+fn list(rt: &HostRuntime, catalogue: &Catalogue) -> io::Result<()> {
     for (path, size) in catalogue.iter() {
         match str::from_utf8(path.to_bytes()) {
             Ok(path) => println!(rt; "{path} {size}")?,
@@ -98,4 +102,10 @@ fn main(rt: HostRuntime) -> io::Result<()> {
         }
     }
     Ok(())
+}
+
+fn main(rt: HostRuntime) -> io::Result<()> {
+    let mut catalogue = TreeMap::new(rt.alloc());
+    answer_lines(&rt, &mut catalogue)?;
+    list(&rt, &catalogue)
 }

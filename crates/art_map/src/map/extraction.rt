@@ -1,8 +1,9 @@
 //! `Extraction`: the pairs of a range, each of which stays in the map or is taken out.
 ghost use Rattle.std.specs.Prelude.{◌≡◌, ◌⊎◌, ◌<◌, ◌==◌, List, [], ◌∷◌, ◌++◌, length};
-ghost use Rattle.std.specs.Prelude.{None, Some, IfOk, MatchOption, OnErr};
+ghost use Rattle.std.specs.Prelude.{None, Some, IfOk, MatchOption, OnErr, option_map};
 ghost use Rattle.std.specs.Borrow.{sem};
 ghost use Rattle.std.specs.Map.Calls.{CalledAtPair, TakesPair};
+ghost use Rattle.std.specs.Map.Iter.{deref_pair};
 ghost use Rattle.std.specs.Range.Bound.{bound_map};
 ghost use Rattle.art_arena.specs.arena.Arena.{links_at};
 ghost use Rattle.art_arena.specs.arena.Shapes.{key_of, LeafAt};
@@ -11,6 +12,7 @@ ghost use Rattle.art_operations.specs.KeyedLists.{without_key};
 ghost use Rattle.art_operations.specs.Pairs.{IsAtEnd};
 ghost use Rattle.art_walks.specs.Bounds.{AreValidKeyBounds};
 ghost use Rattle.art_walks.specs.Runs.{IsWalk};
+ghost use Rattle.art_map.specs.Contents.{first_item, last_item};
 ghost use Rattle.art_map.specs.Leaves.{IsRun, IsNextAt, slot_at};
 ghost use Rattle.art_map.specs.Ranges.{pairs_between};
 
@@ -118,6 +120,31 @@ impl<'a, K: AsBytes, V, const PREFIX_LEN: usize> Extraction<'a, K, V, PREFIX_LEN
         ensures value { IsLentAt End.Last (left_of self.old) result }
     {
         self.lend(End::Last)
+    }
+
+    // The pair at an end of those still to be asked, if one is left.
+    fn pair_at_end(&self, end: End) -> Option<(&K, &V)>
+        ensures { MatchOption result (left_of self.now ≡ []) (λ pair. (rest : List (K × V))
+            × IsAtEnd end (deref_pair pair) rest (left_of self.now)) }
+    {
+        match self.leaf_at(end) {
+            Some(leaf) => Some(self.map.pair_at(leaf)),
+            None => None,
+        }
+    }
+
+    /// The first of the pairs that are still to be asked, if one is left.
+    pub fn front_key_value(&self) -> Option<(&K, &V)>
+        ensures { option_map deref_pair result ≡ first_item (left_of self.now) }
+    {
+        self.pair_at_end(End::First)
+    }
+
+    /// The last of the pairs that are still to be asked, if one is left.
+    pub fn back_key_value(&self) -> Option<(&K, &V)>
+        ensures { option_map deref_pair result ≡ last_item (left_of self.now) }
+    {
+        self.pair_at_end(End::Last)
     }
 
     // The leaf at an end of those still to be asked, which are then the others.

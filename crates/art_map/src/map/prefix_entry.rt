@@ -1,4 +1,7 @@
 //! A key's place among the pairs whose keys overlap it, in whose place it would be put in.
+ghost use Rattle.std.specs.Prelude.{◌≡◌, true};
+ghost use Rattle.art_map.specs.Found.{is_held};
+
 mod inner;
 mod methods;
 mod occupied;
@@ -6,6 +9,7 @@ mod overlapped;
 
 use crate::map::TreeMap;
 use crate::map::entry::{OccupiedEntry, VacantEntry};
+use art_arena::LeafPtr;
 use art_bytes::AsBytes;
 use std::marker::PhantomData;
 
@@ -24,9 +28,33 @@ pub enum PrefixEntry<
     Vacant(VacantEntry<'a, K, V, PREFIX_LEN, M>),
 }
 
-/// The entry of a key that stored keys overlap.
+/// The entry of a key that stored keys overlap: `kind` tells whether it is one of them.
+///
+/// The last parameter is never written: it tells the borrow check that the map lives as long as it is lent.
 #[derive(Drop)]
-pub enum PrefixOccupied<
+pub struct PrefixOccupied<
+    'a,
+    K: AsBytes,
+    V,
+    const PREFIX_LEN: usize,
+    M: 'a = TreeMap<K, V, PREFIX_LEN>,
+> {
+    map: &'a mut TreeMap<K, V, PREFIX_LEN>,
+    spot: Spot<K>,
+    mark: PhantomData<M>,
+    ghost held: { is_held map.now spot ≡ true },
+}
+
+// Where a key that stored keys overlap is stored, or the key itself where it is not.
+#[derive(Drop)]
+enum Spot<K> {
+    Stored(LeafPtr),
+    New(K),
+}
+
+/// The kinds of entries of a key that stored keys overlap.
+#[derive(Drop)]
+pub enum PrefixOccupiedKind<
     'a,
     K: AsBytes,
     V,

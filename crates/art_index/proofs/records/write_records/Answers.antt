@@ -22,12 +22,12 @@ loop-full-init g c =
       held = omega arith;
     }
 
-pub put_record-held-requires : goal.put_record-held-requires
-put_record-held-requires g c =
+pub put_record-held-requires-clause-line : goal.put_record-held-requires-clause-line
+put_record-held-requires-clause-line g c =
     let p : Pair = (c.in-Some.full.now, c.in-Some.value.now) in
-    let tenant = c.parts_of-tenant.ensures.tenant ∙ ap (λ xs. from_be_bytes w32 (take 4 xs)) c.as_slice.ensures.value in
+    let tenant = c.turn_to.ensures ∙ c.parts_of-tenant.ensures.tenant ∙ ap (λ xs. from_be_bytes w32 (take 4 xs)) c.as_slice.ensures.value in
     let key = c.parts_of-tenant.ensures.key ∙ ap (drop 4) c.as_slice.ensures.value in
-    let line : line_of (put_words c.parts_of-tenant.result.0 c.parts_of-tenant.result.1.now c.as_slice-in-loop-full.result.now) ≡ line_of (words_put (record_of p)) =
+    let line : line_of (put_words c.turn_to.new.self.tenant c.parts_of-tenant.result.1.now c.as_slice-in-loop-full.result.now) ≡ line_of (words_put (record_of p)) =
     rw (tenant, key, c.as_slice-in-loop-full.ensures.value) refl in
     let fits = (subst (λ ps. AllByRecursion KeyFits (map record_of ps)) c.in-Some.ensures.steps c.loop-full.invariant.fit).0 in
     let long = line_fits (record_of p) _ line fits in
@@ -38,15 +38,15 @@ pub loop-full-preserved : goal.loop-full-preserved
 loop-full-preserved g c =
     let p : Pair = (c.in-Some.full.now, c.in-Some.value.now) in
     let count = length c.args.records.now.pairs in
-    let tenant = c.parts_of-tenant.ensures.tenant ∙ ap (λ xs. from_be_bytes w32 (take 4 xs)) c.as_slice.ensures.value in
+    let tenant = c.turn_to.ensures ∙ c.parts_of-tenant.ensures.tenant ∙ ap (λ xs. from_be_bytes w32 (take 4 xs)) c.as_slice.ensures.value in
     let key = c.parts_of-tenant.ensures.key ∙ ap (drop 4) c.as_slice.ensures.value in
-    let line : line_of (put_words c.parts_of-tenant.result.0 c.parts_of-tenant.result.1.now c.as_slice-in-loop-full.result.now) ≡ line_of (words_put (record_of p)) =
+    let line : line_of (put_words c.turn_to.new.self.tenant c.parts_of-tenant.result.1.now c.as_slice-in-loop-full.result.now) ≡ line_of (words_put (record_of p)) =
     rw (tenant, key, c.as_slice-in-loop-full.ensures.value) refl in
     let fits = subst (λ ps. AllByRecursion KeyFits (map record_of ps)) c.in-Some.ensures.steps c.loop-full.invariant.fit in
     let long = line_fits (record_of p) _ line fits.0 in
     let left = c.in_ok-at.ensures.fits in
-    let kept = take-set-le c.in_ok-at.at c.loop-full.room 8191 c.touched.result (omega arith) in
-    let told = c.put_record-held.ensures.told ∙ ap (λ t. t ++ line_of (put_words c.parts_of-tenant.result.0 c.parts_of-tenant.result.1.now c.as_slice-in-loop-full.result.now)) kept in
+    let kept = take-set-le c.in_ok-at.at c.loop-full.room 8191 c.step.result (omega arith) in
+    let told = c.put_record-held.ensures.told ∙ ap (λ t. t ++ line_of (put_words c.turn_to.new.self.tenant c.parts_of-tenant.result.1.now c.as_slice-in-loop-full.result.now)) kept in
     let next = gathered_next count p c.next.new.self _ _ _ _ c.in-Some.ensures.steps line told in
     record {
       taken = taken_from _ _ _ _ _ next (taken_through _ _ _ _ _ _ _ c.loop-full.invariant.taken c.in_ok-at.ensures.taken);

@@ -17,8 +17,8 @@ use art_walks::SubtreeIter;
 impl<'a, K: AsBytes, V, const PREFIX_LEN: usize> InnerOccupiedEntry<'a, K, V, PREFIX_LEN> {
     ghost use Rattle.art_map.specs.Entries.{option_key};
     ghost use Rattle.art_map.specs.LentWalks.{range_rest};
-    ghost use Rattle.art_map.specs.PrefixEntries.{lends_lone, lends_occupied, occupied_rests, removed_pairs};
-    ghost use Rattle.art_map.specs.PrefixEntries.{Inner, IsOccupiedWritten, lends_inner_map};
+    ghost use Rattle.art_map.specs.PrefixEntries.{lends_inner, lends_inner_map, lends_lone, inner_rests};
+    ghost use Rattle.art_map.specs.PrefixEntries.{removed_pairs, IsInnerWritten};
 
     /// The key that would go in.
     pub fn key(&self) -> &K
@@ -93,7 +93,7 @@ impl<'a, K: AsBytes, V, const PREFIX_LEN: usize> InnerOccupiedEntry<'a, K, V, PR
     where
         K: Drop,
         V: Drop,
-        ensures* writes_back { sem 𝓛 (lends_occupied K.row V.row PREFIX_LEN K.AsBytes (Inner self.entry) result) }
+        ensures* writes_back { sem 𝓛 (lends_inner K.row V.row PREFIX_LEN K.AsBytes self.entry result) }
         ensures value { IfOk result (λ lent. lent.now ≡ value) }
         ensures handed_back { HandsPairBack self.entry.key value result }
     {
@@ -115,8 +115,8 @@ impl<'a, K: AsBytes, V, const PREFIX_LEN: usize> InnerOccupiedEntry<'a, K, V, PR
     where
         K: Drop,
         V: Drop,
-        ensures* rests { sem 𝓛 (occupied_rests K.row V.row PREFIX_LEN K.AsBytes (Inner self.entry) result) }
-        ensures written { IfOk result (IsOccupiedWritten (Inner self.entry) value) }
+        ensures* rests { sem 𝓛 (inner_rests K.row V.row PREFIX_LEN K.AsBytes self.entry result) }
+        ensures written { IfOk result (IsInnerWritten self.entry value) }
         ensures handed_back { HandsPairBack self.entry.key value result }
     {
         let InnerOccupiedEntry { map, key, mark: _ } = self;

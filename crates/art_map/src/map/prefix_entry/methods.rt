@@ -1,10 +1,10 @@
 //! The prefix entry of a key, and the methods of `PrefixEntry`.
 ghost use Rattle.std.specs.Prelude.{◌≡◌, option_copied, None, IfErr, IfOk};
-ghost use Rattle.std.specs.Borrow.{Bor};
+ghost use Rattle.std.specs.Borrow.{sem, Bor};
 ghost use Rattle.std.specs.Fn.{FnOnceReturnsAt};
 ghost use Rattle.std.specs.Option.{unwrap_or, UnwrapsOrElse};
 
-use super::{InnerOccupiedEntry, PrefixEntry, PrefixOccupied};
+use super::{PrefixEntry, PrefixOccupied, Spot};
 use crate::map::TreeMap;
 use crate::map::entry::{KnownPlace, OccupiedEntry, VacantEntry};
 use art_bytes::AsBytes;
@@ -25,9 +25,11 @@ impl<K: AsBytes, V, const PREFIX_LEN: usize> TreeMap<K, V, PREFIX_LEN> {
     {
         match self.place(&key) {
             Ok(place) => match self.stored_at(&place) {
-                Some(leaf) => {
-                    PrefixEntry::Occupied(PrefixOccupied::Leaf(OccupiedEntry::new(self, leaf)))
-                }
+                Some(leaf) => PrefixEntry::Occupied(PrefixOccupied {
+                    map: self,
+                    spot: Spot::Stored(leaf),
+                    mark: PhantomData,
+                }),
                 None => PrefixEntry::Vacant(VacantEntry {
                     map: self,
                     place: KnownPlace::new(place),
@@ -35,18 +37,18 @@ impl<K: AsBytes, V, const PREFIX_LEN: usize> TreeMap<K, V, PREFIX_LEN> {
                     mark: PhantomData,
                 }),
             },
-            Err(_) => PrefixEntry::Occupied(PrefixOccupied::Inner(InnerOccupiedEntry {
+            Err(_) => PrefixEntry::Occupied(PrefixOccupied {
                 map: self,
-                key,
+                spot: Spot::New(key),
                 mark: PhantomData,
-            })),
+            }),
         }
     }
 }
 
 impl<'a, K: AsBytes, V, const PREFIX_LEN: usize> PrefixEntry<'a, K, V, PREFIX_LEN> {
-    ghost use Rattle.art_map.specs.PrefixEntries.{prefix_key, prefix_value, shown_key, IsPrefixFilled};
-    ghost use Rattle.art_map.specs.PrefixEntries.{IsPrefixWritten};
+    ghost use Rattle.art_map.specs.PrefixEntries.{lends_prefix, prefix_key, prefix_rests, prefix_value, shown_key};
+    ghost use Rattle.art_map.specs.PrefixEntries.{IsPrefixFilled, IsPrefixWritten};
 
     /// The stored key, or where it is not stored the one that would go in.
     pub fn key(&self) -> &K
@@ -72,9 +74,8 @@ impl<'a, K: AsBytes, V, const PREFIX_LEN: usize> PrefixEntry<'a, K, V, PREFIX_LE
     /// The entry of the key with this value, which takes the place of the stored one, or is put in in the place of the
     /// pairs that the key overlaps.
     ///
-    /// It is refused only where the key is not stored and there is no memory. Key and value are then handed back. That
-    /// the map is then as it was is a clause of the calls of `InnerOccupiedEntry` and `VacantEntry`, on which this one
-    /// stands, not of this one.
+    /// It is refused only where the key is not stored and there is no memory. Key and value are then handed back, and
+    /// the map is as it was.
     pub fn insert_entry(
         self,
         value: V,
@@ -82,6 +83,7 @@ impl<'a, K: AsBytes, V, const PREFIX_LEN: usize> PrefixEntry<'a, K, V, PREFIX_LE
     where
         K: Drop,
         V: Drop,
+        ensures* rests { sem 𝓛 (prefix_rests K.row V.row PREFIX_LEN K.AsBytes self.entry result) }
         ensures written { IfOk result (IsPrefixWritten self.entry value) }
         ensures handed_back { IfErr result (λ refused. (prefix_value self.entry ≡ None)
             × (refused.key ≡ prefix_key self.entry) × (refused.value ≡ value)) }
@@ -95,19 +97,21 @@ impl<'a, K: AsBytes, V, const PREFIX_LEN: usize> PrefixEntry<'a, K, V, PREFIX_LE
     /// The stored value, or where the key is not stored this one, which is put in in the place of the pairs that the
     /// key overlaps. It is lent for writing as long as the map is lent.
     ///
-    /// It is refused as `insert_entry` is. The contract says what is lent and handed back, not what the map ends as;
-    /// those of the calls that end in `_entry` do where these are not refused.
+    /// It is refused as `insert_entry` is.
     pub fn or_insert(self, default: V) -> Result<&'a mut V, InsertRefused<K, V>>
     where
         K: Drop,
         V: Drop,
+        ensures* writes_back { sem 𝓛 (lends_prefix K.row V.row PREFIX_LEN K.AsBytes self.entry result) }
         ensures value { IfOk result (λ lent. lent.now ≡ unwrap_or (prefix_value self.entry) default) }
         ensures handed_back { IfErr result (λ refused. (prefix_value self.entry ≡ None)
             × (refused.key ≡ prefix_key self.entry) × (refused.value ≡ default)) }
     {
         match self {
-            PrefixEntry::Occupied(PrefixOccupied::Leaf(entry)) => Ok(entry.into_mut()),
-            PrefixEntry::Occupied(PrefixOccupied::Inner(entry)) => entry.insert(default),
+            PrefixEntry::Occupied(entry) => match entry.stored() {
+                Some(leaf) => Ok(entry.lend(leaf)),
+                None => entry.insert(default),
+            },
             PrefixEntry::Vacant(entry) => entry.insert(default),
         }
     }
@@ -117,13 +121,16 @@ impl<'a, K: AsBytes, V, const PREFIX_LEN: usize> PrefixEntry<'a, K, V, PREFIX_LE
     where
         K: Drop,
         V: Drop + Default,
+        ensures* writes_back { sem 𝓛 (lends_prefix K.row V.row PREFIX_LEN K.AsBytes self.entry result) }
         ensures value { IfOk result (λ lent. UnwrapsOrElse (prefix_value self.entry) V.is_default lent.now) }
         ensures handed_back { IfErr result (λ refused. (prefix_value self.entry ≡ None)
             × (refused.key ≡ prefix_key self.entry) × V.is_default refused.value) }
     {
         match self {
-            PrefixEntry::Occupied(PrefixOccupied::Leaf(entry)) => Ok(entry.into_mut()),
-            PrefixEntry::Occupied(PrefixOccupied::Inner(entry)) => entry.insert(V::default()),
+            PrefixEntry::Occupied(entry) => match entry.stored() {
+                Some(leaf) => Ok(entry.lend(leaf)),
+                None => entry.insert(V::default()),
+            },
             PrefixEntry::Vacant(entry) => entry.insert(V::default()),
         }
     }
@@ -137,13 +144,16 @@ impl<'a, K: AsBytes, V, const PREFIX_LEN: usize> PrefixEntry<'a, K, V, PREFIX_LE
         K: Drop,
         V: Drop,
         requires { prefix_value self ≡ None → F.pre default }
+        ensures* writes_back { sem 𝓛 (lends_prefix K.row V.row PREFIX_LEN K.AsBytes self.entry result) }
         ensures value { IfOk result (λ lent. UnwrapsOrElse (prefix_value self.entry) (F.post default) lent.now) }
         ensures handed_back { IfErr result (λ refused. (prefix_value self.entry ≡ None)
             × (refused.key ≡ prefix_key self.entry) × F.post default refused.value) }
     {
         match self {
-            PrefixEntry::Occupied(PrefixOccupied::Leaf(entry)) => Ok(entry.into_mut()),
-            PrefixEntry::Occupied(PrefixOccupied::Inner(entry)) => entry.insert(default()),
+            PrefixEntry::Occupied(entry) => match entry.stored() {
+                Some(leaf) => Ok(entry.lend(leaf)),
+                None => entry.insert(default()),
+            },
             PrefixEntry::Vacant(entry) => entry.insert(default()),
         }
     }
@@ -157,6 +167,7 @@ impl<'a, K: AsBytes, V, const PREFIX_LEN: usize> PrefixEntry<'a, K, V, PREFIX_LE
         K: Drop,
         V: Drop,
         requires { prefix_value self ≡ None → (p : Bor K) → p.now ≡ prefix_key self → F.pre default p }
+        ensures* writes_back { sem 𝓛 (lends_prefix K.row V.row PREFIX_LEN K.AsBytes self.entry result) }
         ensures value { IfOk result (λ lent. UnwrapsOrElse (prefix_value self.entry)
             (FnOnceReturnsAt F.FnOnce default (prefix_key self.entry)) lent.now) }
         ensures handed_back { IfErr result (λ refused. (prefix_value self.entry ≡ None)
@@ -164,11 +175,13 @@ impl<'a, K: AsBytes, V, const PREFIX_LEN: usize> PrefixEntry<'a, K, V, PREFIX_LE
             × FnOnceReturnsAt F.FnOnce default (prefix_key self.entry) refused.value) }
     {
         match self {
-            PrefixEntry::Occupied(PrefixOccupied::Leaf(entry)) => Ok(entry.into_mut()),
-            PrefixEntry::Occupied(PrefixOccupied::Inner(entry)) => {
-                let value = default(entry.key());
-                entry.insert(value)
-            }
+            PrefixEntry::Occupied(entry) => match entry.stored() {
+                Some(leaf) => Ok(entry.lend(leaf)),
+                None => {
+                    let value = default(entry.key());
+                    entry.insert(value)
+                }
+            },
             PrefixEntry::Vacant(entry) => {
                 let value = default(entry.key());
                 entry.insert(value)
@@ -185,13 +198,16 @@ impl<'a, K: AsBytes, V, const PREFIX_LEN: usize> PrefixEntry<'a, K, V, PREFIX_LE
     where
         K: Drop,
         V: Drop,
+        ensures* rests { sem 𝓛 (prefix_rests K.row V.row PREFIX_LEN K.AsBytes self.entry result) }
         ensures filled { IfOk result (IsPrefixFilled self.entry (λ v. v ≡ default)) }
         ensures handed_back { IfErr result (λ refused. (prefix_value self.entry ≡ None)
             × (refused.key ≡ prefix_key self.entry) × (refused.value ≡ default)) }
     {
         match self {
-            PrefixEntry::Occupied(PrefixOccupied::Leaf(entry)) => entry.as_it_is(),
-            PrefixEntry::Occupied(PrefixOccupied::Inner(entry)) => entry.insert_entry(default),
+            PrefixEntry::Occupied(entry) => match entry.stored() {
+                Some(leaf) => entry.give(leaf),
+                None => entry.insert_entry(default),
+            },
             PrefixEntry::Vacant(entry) => entry.insert_entry(default),
         }
     }
@@ -203,13 +219,16 @@ impl<'a, K: AsBytes, V, const PREFIX_LEN: usize> PrefixEntry<'a, K, V, PREFIX_LE
     where
         K: Drop,
         V: Drop + Default,
+        ensures* rests { sem 𝓛 (prefix_rests K.row V.row PREFIX_LEN K.AsBytes self.entry result) }
         ensures filled { IfOk result (IsPrefixFilled self.entry V.is_default) }
         ensures handed_back { IfErr result (λ refused. (prefix_value self.entry ≡ None)
             × (refused.key ≡ prefix_key self.entry) × V.is_default refused.value) }
     {
         match self {
-            PrefixEntry::Occupied(PrefixOccupied::Leaf(entry)) => entry.as_it_is(),
-            PrefixEntry::Occupied(PrefixOccupied::Inner(entry)) => entry.insert_entry(V::default()),
+            PrefixEntry::Occupied(entry) => match entry.stored() {
+                Some(leaf) => entry.give(leaf),
+                None => entry.insert_entry(V::default()),
+            },
             PrefixEntry::Vacant(entry) => entry.insert_entry(V::default()),
         }
     }
@@ -223,13 +242,16 @@ impl<'a, K: AsBytes, V, const PREFIX_LEN: usize> PrefixEntry<'a, K, V, PREFIX_LE
         K: Drop,
         V: Drop,
         requires { prefix_value self ≡ None → F.pre default }
+        ensures* rests { sem 𝓛 (prefix_rests K.row V.row PREFIX_LEN K.AsBytes self.entry result) }
         ensures filled { IfOk result (IsPrefixFilled self.entry (F.post default)) }
         ensures handed_back { IfErr result (λ refused. (prefix_value self.entry ≡ None)
             × (refused.key ≡ prefix_key self.entry) × F.post default refused.value) }
     {
         match self {
-            PrefixEntry::Occupied(PrefixOccupied::Leaf(entry)) => entry.as_it_is(),
-            PrefixEntry::Occupied(PrefixOccupied::Inner(entry)) => entry.insert_entry(default()),
+            PrefixEntry::Occupied(entry) => match entry.stored() {
+                Some(leaf) => entry.give(leaf),
+                None => entry.insert_entry(default()),
+            },
             PrefixEntry::Vacant(entry) => entry.insert_entry(default()),
         }
     }
@@ -244,6 +266,7 @@ impl<'a, K: AsBytes, V, const PREFIX_LEN: usize> PrefixEntry<'a, K, V, PREFIX_LE
         K: Drop,
         V: Drop,
         requires { prefix_value self ≡ None → (p : Bor K) → p.now ≡ prefix_key self → F.pre default p }
+        ensures* rests { sem 𝓛 (prefix_rests K.row V.row PREFIX_LEN K.AsBytes self.entry result) }
         ensures filled { IfOk result (IsPrefixFilled self.entry
             (FnOnceReturnsAt F.FnOnce default (prefix_key self.entry))) }
         ensures handed_back { IfErr result (λ refused. (prefix_value self.entry ≡ None)
@@ -251,11 +274,13 @@ impl<'a, K: AsBytes, V, const PREFIX_LEN: usize> PrefixEntry<'a, K, V, PREFIX_LE
             × FnOnceReturnsAt F.FnOnce default (prefix_key self.entry) refused.value) }
     {
         match self {
-            PrefixEntry::Occupied(PrefixOccupied::Leaf(entry)) => entry.as_it_is(),
-            PrefixEntry::Occupied(PrefixOccupied::Inner(entry)) => {
-                let value = default(entry.key());
-                entry.insert_entry(value)
-            }
+            PrefixEntry::Occupied(entry) => match entry.stored() {
+                Some(leaf) => entry.give(leaf),
+                None => {
+                    let value = default(entry.key());
+                    entry.insert_entry(value)
+                }
+            },
             PrefixEntry::Vacant(entry) => {
                 let value = default(entry.key());
                 entry.insert_entry(value)

@@ -1,58 +1,136 @@
 //! The methods of `PrefixOccupied`.
-ghost use Rattle.std.specs.Prelude.{◌≡◌, option_copied, None, IfErr, IfOk};
+ghost use Rattle.std.specs.Prelude.{◌≡◌, option_copied, Some, None, IfErr, IfOk, IsOk};
 ghost use Rattle.std.specs.Borrow.{sem};
 ghost use Rattle.std.specs.Option.{option_copied_mut};
 ghost use Rattle.art_map.specs.Contents.{option_value};
 
-use super::PrefixOccupied;
+use super::{InnerOccupiedEntry, PrefixOccupied, PrefixOccupiedKind, Spot};
 use crate::map::entry::OccupiedEntry;
+use art_arena::LeafPtr;
 use art_bytes::AsBytes;
 use art_operations::InsertRefused;
 
 impl<'a, K: AsBytes, V, const PREFIX_LEN: usize> PrefixOccupied<'a, K, V, PREFIX_LEN> {
     ghost use Rattle.art_map.specs.Entries.{option_key};
-    ghost use Rattle.art_map.specs.PrefixEntries.{lends_occupied, lone_pair, occupied_key, occupied_rests};
-    ghost use Rattle.art_map.specs.PrefixEntries.{occupied_value, IsOccupiedWritten};
+    ghost use Rattle.art_map.specs.Found.{stored_slot, IsAt};
+    ghost use Rattle.art_map.specs.Lends.{lends_value_at, with_value_at};
+    ghost use Rattle.art_map.specs.PrefixEntries.{occupied_kind, lends_prefix, lends_shown, lone_pair, occupied_map};
+    ghost use Rattle.art_map.specs.PrefixEntries.{prefix_key, prefix_pairs_with, prefix_rests, prefix_value};
+    ghost use Rattle.art_map.specs.PrefixEntries.{Occupied, IsPrefixFilled, IsPrefixWritten};
+
+    /// The entry of the stored key, or that of a key in conflict with stored ones, in the same map.
+    pub fn kind(self) -> PrefixOccupiedKind<'a, K, V, PREFIX_LEN>
+        ensures same_map { (occupied_map result).ghost_name ≡ self.entry.map.ghost_name }
+        ensures kind { result ≡ occupied_kind self.entry }
+    {
+        let PrefixOccupied { map, spot, mark } = self;
+        match spot {
+            Spot::Stored(leaf) => PrefixOccupiedKind::Leaf(OccupiedEntry { map, leaf, mark }),
+            Spot::New(key) => PrefixOccupiedKind::Inner(InnerOccupiedEntry { map, key, mark }),
+        }
+    }
+
+    // The leaf of the key, if it is stored.
+    pub(super) fn stored(&self) -> Option<LeafPtr>
+        ensures { result ≡ stored_slot self.now.spot }
+    {
+        match &self.spot {
+            Spot::Stored(leaf) => Some(*leaf),
+            Spot::New(_) => None,
+        }
+    }
+
+    // The value of a stored key, for writing, as long as the map is lent.
+    pub(super) fn lend(self, leaf: LeafPtr) -> &'a mut V
+    where
+        K: Drop,
+        requires { stored_slot self.spot ≡ Some leaf }
+        ensures* writes_back { sem 𝓛 (lends_value_at K.row V.row PREFIX_LEN.row K.AsBytes self.entry.map leaf result) }
+        ensures value { prefix_value (Occupied self.entry) ≡ Some result.now }
+        ensures pairs { (w : V) → (with_value_at self.entry.map.now leaf w).pairs
+            ≡ prefix_pairs_with (Occupied self.entry) w }
+    {
+        let PrefixOccupied {
+            map,
+            spot: _,
+            mark: _,
+        } = self;
+        let (_key, value) = map.pair_mut_at(leaf);
+        value
+    }
+
+    // The entry of a stored key.
+    pub(super) fn give(
+        self,
+        leaf: LeafPtr,
+    ) -> Result<OccupiedEntry<'a, K, V, PREFIX_LEN>, InsertRefused<K, V>>
+    where
+        K: Drop,
+        requires { stored_slot self.spot ≡ Some leaf }
+        ensures* rests { sem 𝓛 (prefix_rests K.row V.row PREFIX_LEN K.AsBytes (Occupied self.entry) result) }
+        ensures same { IfOk result (IsPrefixFilled (Occupied self.entry) (λ v. ⊥)) }
+        ensures ok { IsOk result }
+    {
+        let PrefixOccupied { map, spot, mark: _ } = self;
+        drop(spot);
+        Ok(OccupiedEntry::new(map, leaf))
+    }
 
     /// The stored key, or for `Inner` the one that would go in.
     pub fn key(&self) -> &K
-        ensures { result.now ≡ occupied_key self.now }
+        ensures { result.now ≡ prefix_key (Occupied self.now) }
     {
-        match self {
-            PrefixOccupied::Leaf(entry) => entry.key(),
-            PrefixOccupied::Inner(entry) => entry.key(),
+        match &self.spot {
+            Spot::Stored(leaf) => self.map.pair_at(*leaf).0,
+            Spot::New(key) => key,
+        }
+    }
+
+    // The leaf of the pair that an insertion would change or remove, if it is one alone.
+    fn shown(&self) -> Option<LeafPtr>
+        ensures { IsAt (lone_pair (occupied_kind self.now)) self.now.map.now result }
+    {
+        match &self.spot {
+            Spot::Stored(leaf) => Some(*leaf),
+            Spot::New(key) => self.map.lone_over(key.as_bytes()),
         }
     }
 
     /// The value of the pair that an insertion would change or remove, if it is one alone.
     pub fn get(&self) -> Option<&V>
-        ensures { option_copied result ≡ option_value (lone_pair self.now) }
+        ensures { option_copied result ≡ option_value (lone_pair (occupied_kind self.now)) }
     {
-        match self {
-            PrefixOccupied::Leaf(entry) => Some(entry.get()),
-            PrefixOccupied::Inner(entry) => entry.get(),
-        }
+        let leaf = self.shown()?;
+        Some(self.map.pair_at(leaf).1)
     }
 
     /// The value of the pair that an insertion would change or remove, for writing, if it is one alone.
-    /// The contract says which value that is, not what the entry ends as.
     pub fn get_mut(&mut self) -> Option<&mut V>
-        ensures { option_copied_mut result ≡ option_value (lone_pair self.old) }
+        ensures* writes_back { sem 𝓛 (lends_shown K.row V.row PREFIX_LEN K.AsBytes self.entry result) }
+        ensures value { option_copied_mut result ≡ option_value (lone_pair (occupied_kind self.old)) }
     {
-        match self {
-            PrefixOccupied::Leaf(entry) => Some(entry.get_mut()),
-            PrefixOccupied::Inner(entry) => entry.get_mut(),
+        match &self.spot {
+            Spot::Stored(leaf) => {
+                let leaf = *leaf;
+                let (_key, value) = self.map.pair_mut_at(leaf);
+                Some(value)
+            }
+            Spot::New(key) => match self.map.lone_over(key.as_bytes()) {
+                Some(leaf) => {
+                    let (_key, value) = self.map.pair_mut_at(leaf);
+                    Some(value)
+                }
+                None => None,
+            },
         }
     }
 
     /// The stored key of the pair that an insertion would change or remove, if it is one alone.
     pub fn get_key(&self) -> Option<&K>
-        ensures { option_copied result ≡ option_key (lone_pair self.now) }
+        ensures { option_copied result ≡ option_key (lone_pair (occupied_kind self.now)) }
     {
-        match self {
-            PrefixOccupied::Leaf(entry) => Some(entry.key()),
-            PrefixOccupied::Inner(entry) => entry.get_key(),
-        }
+        let leaf = self.shown()?;
+        Some(self.map.pair_at(leaf).0)
     }
 
     /// Makes this the value of the key, which for `Inner` is put in in the place of the pairs that it overlaps. The
@@ -64,18 +142,26 @@ impl<'a, K: AsBytes, V, const PREFIX_LEN: usize> PrefixOccupied<'a, K, V, PREFIX
     where
         K: Drop,
         V: Drop,
-        ensures* writes_back { sem 𝓛 (lends_occupied K.row V.row PREFIX_LEN K.AsBytes self.entry result) }
+        ensures* writes_back { sem 𝓛 (lends_prefix K.row V.row PREFIX_LEN K.AsBytes (Occupied self.entry) result) }
         ensures value { IfOk result (λ lent. lent.now ≡ value) }
-        ensures handed_back { IfErr result (λ refused. (occupied_value self.entry ≡ None)
-            × (refused.key ≡ occupied_key self.entry) × (refused.value ≡ value)) }
+        ensures handed_back { IfErr result (λ refused. (prefix_value (Occupied self.entry) ≡ None)
+            × (refused.key ≡ prefix_key (Occupied self.entry)) × (refused.value ≡ value)) }
     {
-        match self {
-            PrefixOccupied::Leaf(entry) => {
-                let lent = entry.into_mut();
+        let PrefixOccupied { map, spot, mark: _ } = self;
+        match spot {
+            Spot::Stored(leaf) => {
+                let (_key, lent) = map.pair_mut_at(leaf);
                 *lent = value;
                 Ok(lent)
             }
-            PrefixOccupied::Inner(entry) => entry.insert(value),
+            Spot::New(key) => {
+                let put = match map.prefix_put(key, value) {
+                    Ok(put) => put,
+                    Err(refused) => return Err(refused),
+                };
+                let (_key, stored) = map.pair_mut_at(put.leaf);
+                Ok(stored)
+            }
         }
     }
 
@@ -87,18 +173,21 @@ impl<'a, K: AsBytes, V, const PREFIX_LEN: usize> PrefixOccupied<'a, K, V, PREFIX
     where
         K: Drop,
         V: Drop,
-        ensures* rests { sem 𝓛 (occupied_rests K.row V.row PREFIX_LEN K.AsBytes self.entry result) }
-        ensures written { IfOk result (IsOccupiedWritten self.entry value) }
-        ensures handed_back { IfErr result (λ refused. (occupied_value self.entry ≡ None)
-            × (refused.key ≡ occupied_key self.entry) × (refused.value ≡ value)) }
+        ensures* rests { sem 𝓛 (prefix_rests K.row V.row PREFIX_LEN K.AsBytes (Occupied self.entry) result) }
+        ensures written { IfOk result (IsPrefixWritten (Occupied self.entry) value) }
+        ensures handed_back { IfErr result (λ refused. (prefix_value (Occupied self.entry) ≡ None)
+            × (refused.key ≡ prefix_key (Occupied self.entry)) × (refused.value ≡ value)) }
     {
-        match self {
-            PrefixOccupied::Leaf(entry) => {
-                let OccupiedEntry { map, leaf, mark: _ } = entry;
+        let PrefixOccupied { map, spot, mark: _ } = self;
+        match spot {
+            Spot::Stored(leaf) => {
                 map.write_at(leaf, value);
                 Ok(OccupiedEntry::new(map, leaf))
             }
-            PrefixOccupied::Inner(entry) => entry.insert_entry(value),
+            Spot::New(key) => match map.prefix_put(key, value) {
+                Ok(put) => Ok(OccupiedEntry::new(map, put.leaf)),
+                Err(refused) => Err(refused),
+            },
         }
     }
 }

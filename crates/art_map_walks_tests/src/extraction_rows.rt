@@ -1,12 +1,13 @@
 //! Rows of extraction from outside: pairs are picked by their values, from the front, from the back and from both ends,
 //! by `extract_if`, and by hand with a decision at each pair.
 
-use crate::seen::{has_values, is_tree};
 use art_bytes::{AsBytes, Mapped, ToIBE};
 use art_map::{Extraction, TreeMap};
+use art_map_tests::seen::{has_values, is_tree};
 use art_walks::bounds_are_valid;
 use std::alloc::{AllocError, Global};
 use std::ops::Bound;
+use std::slice::Iter;
 
 type Number = Mapped<ToIBE, i32>;
 
@@ -35,51 +36,71 @@ fn next_picked<K: AsBytes + Drop, const PREFIX_LEN: usize>(
     Ok(None)
 }
 
-// The values of the pairs between two bounds that leave this rest by two, in turn from an end. They leave the map.
-fn picked<K: AsBytes + Drop, const PREFIX_LEN: usize>(
-    alloc: Global,
+// A value that was picked, if one was.
+fn value_of<K: Drop>(picked: Option<Result<(K, usize), AllocError>>) -> Option<usize> {
+    match picked {
+        Some(Ok(pair)) => Some(pair.1),
+        Some(Err(_)) => None,
+        None => None,
+    }
+}
+
+// The next of the values that are wanted, from an end.
+fn next_wanted(wanted: &mut Iter<'_, usize>, is_back: bool) -> Option<usize> {
+    if is_back {
+        wanted.next_back().copied()
+    } else {
+        wanted.next().copied()
+    }
+}
+
+// Whether these are the values of the pairs between two bounds that leave this rest by two, in turn from an end. They
+// leave the map.
+fn are_picked<K: AsBytes + Drop, const PREFIX_LEN: usize>(
     map: &mut TreeMap<K, usize, PREFIX_LEN>,
     bounds: (Bound<&K>, Bound<&K>),
     is_back: bool,
     rest: usize,
-) -> Result<Vec<usize>, AllocError> {
-    let mut values = Vec::new(alloc);
+    wanted: &[usize],
+) -> bool {
     if !bounds_are_valid(bounds.0, bounds.1) {
-        return Ok(values);
+        return wanted.is_empty();
     }
-    let walk = map.extract_if(bounds.0, bounds.1, |_, value| *value % 2 == rest);
-    if is_back {
-        for pair in walk.rev() {
-            values.push(pair?.1)?;
-        }
-    } else {
-        for pair in walk {
-            values.push(pair?.1)?;
+    let mut expected = wanted.iter();
+    let mut walk = map.extract_if(bounds.0, bounds.1, |_, value| *value % 2 == rest);
+    for _ in 0..=wanted.len() {
+        let picked = if is_back {
+            walk.next_back()
+        } else {
+            walk.next()
+        };
+        if value_of(picked) != next_wanted(&mut expected, is_back) {
+            return false;
         }
     }
-    Ok(values)
+    true
 }
 
 // The same by hand.
-fn picked_by_hand<K: AsBytes + Drop, const PREFIX_LEN: usize>(
-    alloc: Global,
+fn are_picked_by_hand<K: AsBytes + Drop, const PREFIX_LEN: usize>(
     map: &mut TreeMap<K, usize, PREFIX_LEN>,
     bounds: (Bound<&K>, Bound<&K>),
     is_back: bool,
     rest: usize,
-) -> Result<Vec<usize>, AllocError> {
-    let mut values = Vec::new(alloc);
+    wanted: &[usize],
+) -> Result<bool, AllocError> {
     if !bounds_are_valid(bounds.0, bounds.1) {
-        return Ok(values);
+        return Ok(wanted.is_empty());
     }
+    let mut expected = wanted.iter();
     let mut pairs = map.extraction(bounds.0, bounds.1);
-    for _ in 0..20 {
-        match next_picked(&mut pairs, is_back, rest)? {
-            Some(value) => values.push(value)?,
-            None => break,
+    for _ in 0..=wanted.len() {
+        let picked = next_picked(&mut pairs, is_back, rest)?;
+        if picked != next_wanted(&mut expected, is_back) {
+            return Ok(false);
         }
     }
-    Ok(values)
+    Ok(true)
 }
 
 // How pairs are picked.
@@ -117,15 +138,12 @@ fn picks<K: AsBytes + Drop, const PREFIX_LEN: usize>(
     rest: usize,
     wanted: &[usize],
 ) -> Result<bool, AllocError> {
-    let mut values = if way.is_by_hand {
-        picked_by_hand(alloc, map, bounds, way.is_back, rest)?
+    let are_right = if way.is_by_hand {
+        are_picked_by_hand(map, bounds, way.is_back, rest, wanted)?
     } else {
-        picked(alloc, map, bounds, way.is_back, rest)?
+        are_picked(map, bounds, way.is_back, rest, wanted)
     };
-    if way.is_back {
-        values.reverse();
-    }
-    Ok(values.as_slice() == wanted && is_tree(alloc, map))
+    Ok(are_right && is_tree(alloc, map))
 }
 
 // Makes a map one of the numbers below one, each the value of itself.
@@ -195,15 +213,6 @@ fn odd_ones_are_taken<const PREFIX_LEN: usize>(
             && odd_ones_are(alloc, map, (Bound::Unbounded, up_to), &[1, 3])?
             && odd_ones_are(alloc, map, (from, up_to), &[])?,
     )
-}
-
-// A value that was picked, if one was.
-fn value_of<K: Drop>(picked: Option<Result<(K, usize), AllocError>>) -> Option<usize> {
-    match picked {
-        Some(Ok(pair)) => Some(pair.1),
-        Some(Err(_)) => None,
-        None => None,
-    }
 }
 
 // The even values of a map that are picked at both ends in turn.

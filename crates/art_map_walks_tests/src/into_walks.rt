@@ -1,6 +1,5 @@
 //! Walks that own their pairs: from either end in any mixture against a list, and what they drop. A map is made
 //! and used up by functions of one way out, and the walk is lent to the others.
-use crate::calling::{into_list, last_word};
 use crate::small_maps::{KEYS, MIXTURES, Walk, choose, has_steps, number_of};
 use art_map::TreeMap;
 use std::alloc::{AllocError, Global};
@@ -53,7 +52,8 @@ impl Steps for Stores0 {
     fn agree(alloc: Global, keys: &[[u8; 2]], mixture: u32) -> bool {
         let mut map: TreeMap<[u8; 2], u8, 0> = TreeMap::with_prefix_len(alloc);
         let is_filled = fill(&mut map, keys);
-        is_filled && owns(&mut map.into_iter(), keys, mixture)
+        let mut walk = map.into_iter();
+        is_filled && owns(&mut walk, keys, mixture)
     }
 }
 
@@ -61,7 +61,8 @@ impl Steps for Stores4 {
     fn agree(alloc: Global, keys: &[[u8; 2]], mixture: u32) -> bool {
         let mut map: TreeMap<[u8; 2], u8, 4> = TreeMap::with_prefix_len(alloc);
         let is_filled = fill(&mut map, keys);
-        is_filled && owns(&mut map.into_iter(), keys, mixture)
+        let mut walk = map.into_iter();
+        is_filled && owns(&mut walk, keys, mixture)
     }
 }
 
@@ -69,7 +70,8 @@ impl Steps for Stores16 {
     fn agree(alloc: Global, keys: &[[u8; 2]], mixture: u32) -> bool {
         let mut map: TreeMap<[u8; 2], u8, 16> = TreeMap::with_prefix_len(alloc);
         let is_filled = fill(&mut map, keys);
-        is_filled && owns(&mut map.into_iter(), keys, mixture)
+        let mut walk = map.into_iter();
+        is_filled && owns(&mut walk, keys, mixture)
     }
 }
 
@@ -140,18 +142,6 @@ fn values_are_given_away(rt: HostRuntime) {
     assert!(rt; values.len() == 1 && values.size_hint() == (1, Some(1)));
     assert!(rt; values.next() == Some(19));
     assert!(rt; values.next_back().is_none() && values.next().is_none() && values.len() == 0);
-}
-
-#[test]
-fn a_caller_takes_a_map_apart(rt: HostRuntime) -> Result<(), Fail> {
-    let mut counts: TreeMap<[u8; 4], u32, 16> = TreeMap::new(rt.alloc());
-    assert!(rt; counts.insert(*b"tree", 2).is_ok() && counts.insert(*b"leaf", 1).is_ok());
-    let list = into_list(rt.alloc(), counts)?;
-    assert!(rt; list.as_slice() == [(*b"leaf", 1), (*b"tree", 2)].as_slice());
-    let mut counts: TreeMap<[u8; 4], u32, 16> = TreeMap::new(rt.alloc());
-    assert!(rt; counts.insert(*b"tree", 2).is_ok() && counts.insert(*b"leaf", 1).is_ok());
-    assert!(rt; last_word(counts) == Some(*b"tree"));
-    Ok(())
 }
 
 type Shared = TreeMap<Rc<[u8; 1]>, Rc<u8>, 16>;

@@ -15,19 +15,20 @@ type Pair<'a> = (&'a [u8], usize);
 
 // Whether a pair that the map lends is this one.
 fn is_same(lent: Option<(&SliceKey<'_>, &usize)>, pair: Option<Pair<'_>>) -> bool {
-    match (lent, pair) {
-        (Some((key, value)), Some(pair)) => key.0 == pair.0 && *value == pair.1,
-        (None, None) => true,
-        _ => false,
-    }
+    let Some((key, value)) = lent else {
+        return pair.is_none();
+    };
+    let Some(pair) = pair else {
+        return false;
+    };
+    key.0 == pair.0 && *value == pair.1
 }
 
 // Whether a pair that the map gave up is this one.
 fn was_same(taken: Option<(SliceKey<'_>, usize)>, pair: Option<Pair<'_>>) -> bool {
-    match (taken, pair) {
-        (Some((key, value)), Some(pair)) => key.0 == pair.0 && value == pair.1,
-        (None, None) => true,
-        _ => false,
+    match &taken {
+        Some((key, value)) => is_same(Some((key, value)), pair),
+        None => pair.is_none(),
     }
 }
 

@@ -1,8 +1,8 @@
 //! Rows of ranges and prefixes from outside, from the front and from the back.
 
-use crate::seen::text;
 use art_bytes::{AsBytes, SliceKey, ZeroEnded};
 use art_map::TreeMap;
+use art_map_tests::seen::text;
 use art_walks::bounds_are_valid;
 use std::alloc::{AllocError, Global};
 use std::ops::Bound;
@@ -70,8 +70,8 @@ fn texts_lie_behind<const PREFIX_LEN: usize>(
     map: &mut TreeMap<ZeroEnded, usize, PREFIX_LEN>,
 ) -> Result<bool, AllocError> {
     let texts: [&[u8]; 6] = [b"bx", b"abcx", b"abcdx", b"abcdexxy", b"abcdexxx", b"abcde"];
-    for (value, bytes) in (0usize..).zip(texts) {
-        if map.insert(text(alloc, bytes)?, value).is_err() {
+    for value in 0..6 {
+        if map.insert(text(alloc, texts[value])?, value).is_err() {
             return Err(AllocError);
         }
     }
@@ -96,42 +96,34 @@ fn texts_behind_a_prefix(rt: HostRuntime) {
     assert!(rt; matches!(texts_lie_behind(rt.alloc(), &mut map), Ok(true)));
 }
 
-#[test]
-fn a_prefix_beside_the_keys(rt: HostRuntime) {
-    let mut map: TreeMap<[u8; 2], usize, 16> = TreeMap::new(rt.alloc());
-    assert!(rt; map.insert([0, 0], 0).is_ok());
-    assert!(rt; map.insert([0, 1], 1).is_ok());
-    assert!(rt; has_behind(&map, &[1, 0], &[]));
-    assert!(rt; has_behind(&map, &[0], &[0, 1]));
+type Wide = TreeMap<[u8; 3], usize, 16>;
+
+fn each_front_has_its_key(map: &mut Wide) -> bool {
+    has_behind(map, &[], &[])
+        && map.insert([1, 2, 3], 7).is_ok()
+        && has_behind(map, &[1, 2, 3], &[7])
+        && has_behind(map, &[1, 2], &[7])
+        && has_behind(map, &[1], &[7])
+        && has_behind(map, &[2], &[])
 }
 
-#[test]
-fn each_front_of_a_key_has_it(rt: HostRuntime) {
-    let mut map: TreeMap<[u8; 3], usize, 16> = TreeMap::new(rt.alloc());
-    assert!(rt; has_behind(&map, &[], &[]));
-    assert!(rt; map.insert([1, 2, 3], 7).is_ok());
-    assert!(rt; has_behind(&map, &[1, 2, 3], &[7]));
-    assert!(rt; has_behind(&map, &[1, 2], &[7]));
-    assert!(rt; has_behind(&map, &[1], &[7]));
-    assert!(rt; has_behind(&map, &[2], &[]));
+fn put_four(map: &mut Wide) -> bool {
+    map.insert([127, 127, 255], 3).is_ok()
+        && map.insert([0, 255, 255], 0).is_ok()
+        && map.insert([127, 127, 127], 2).is_ok()
+        && map.insert([127, 127, 0], 1).is_ok()
 }
 
-#[test]
-fn pairs_between_bounds(rt: HostRuntime) {
-    let mut map: TreeMap<[u8; 3], usize, 16> = TreeMap::new(rt.alloc());
-    assert!(rt; map.insert([127, 127, 255], 3).is_ok());
-    assert!(rt; map.insert([0, 255, 255], 0).is_ok());
-    assert!(rt; map.insert([127, 127, 127], 2).is_ok());
-    assert!(rt; map.insert([127, 127, 0], 1).is_ok());
+fn lie_between(map: &Wide) -> bool {
     let [low, first, high] = [[0, 255, 255], [127, 127, 0], [127, 127, 255]];
     let from = [127, 127, 1];
-    assert!(rt; has_between(&map, Bound::Included(&from), Bound::Excluded(&high), &[2]));
-    assert!(rt; has_between(&map, Bound::Excluded(&low), Bound::Included(&first), &[1]));
-    assert!(rt; has_between(&map, Bound::Excluded(&high), Bound::Unbounded, &[]));
-    assert!(rt; has_between(&map, Bound::Unbounded, Bound::Unbounded, &[0, 1, 2, 3]));
-    assert!(rt; has_between(&map, Bound::Included(&first), Bound::Excluded(&first), &[]));
-    assert!(rt; !has_between(&map, Bound::Excluded(&first), Bound::Excluded(&first), &[]));
-    assert!(rt; !has_between(&map, Bound::Included(&high), Bound::Included(&low), &[]));
+    has_between(map, Bound::Included(&from), Bound::Excluded(&high), &[2])
+        && has_between(map, Bound::Excluded(&low), Bound::Included(&first), &[1])
+        && has_between(map, Bound::Excluded(&high), Bound::Unbounded, &[])
+        && has_between(map, Bound::Unbounded, Bound::Unbounded, &[0, 1, 2, 3])
+        && has_between(map, Bound::Included(&first), Bound::Excluded(&first), &[])
+        && !has_between(map, Bound::Excluded(&first), Bound::Excluded(&first), &[])
+        && !has_between(map, Bound::Included(&high), Bound::Included(&low), &[])
 }
 
 #[test]
@@ -140,4 +132,19 @@ fn an_empty_map_has_ranges_of_any_bounds(rt: HostRuntime) {
     let [low, high] = [[0, 255, 255], [127, 127, 255]];
     let mut walk = map.range(Bound::Included(&high), Bound::Excluded(&low));
     assert!(rt; walk.next().is_none() && walk.next_back().is_none());
+}
+
+#[test]
+fn fronts_and_pairs_between_bounds(rt: HostRuntime) {
+    let mut map = Wide::new(rt.alloc());
+    assert!(rt; each_front_has_its_key(&mut map));
+    map.clear();
+    assert!(rt; put_four(&mut map) && lie_between(&map));
+}
+
+#[test]
+fn a_prefix_beside_the_keys(rt: HostRuntime) {
+    let mut map: TreeMap<[u8; 2], usize, 16> = TreeMap::new(rt.alloc());
+    assert!(rt; map.insert([0, 0], 0).is_ok() && map.insert([0, 1], 1).is_ok());
+    assert!(rt; has_behind(&map, &[1, 0], &[]) && has_behind(&map, &[0], &[0, 1]));
 }

@@ -35,6 +35,24 @@ fn ask<const PREFIX_LEN: usize>(
     }
 }
 
+// Whether the pair at an end has this key, or there is none.
+fn shows<const PREFIX_LEN: usize>(
+    pairs: &Extraction<'_, [u8; 2], u8, PREFIX_LEN>,
+    is_back: bool,
+    wanted: Option<&[u8; 2]>,
+) -> bool {
+    let shown = if is_back {
+        pairs.back_key_value()
+    } else {
+        pairs.front_key_value()
+    };
+    match (shown, wanted) {
+        (Some((key, _)), Some(wanted)) => *key == *wanted,
+        (None, None) => true,
+        _ => false,
+    }
+}
+
 // Whether a key is one of these.
 fn is_among(keys: &[[u8; 2]], wanted: &[u8; 2]) -> bool {
     for key in keys {
@@ -91,7 +109,7 @@ fn taken_of<const PREFIX_LEN: usize>(
         } else {
             expected.next()
         };
-        if pairs.is_empty() != next.is_none() {
+        if pairs.is_empty() != next.is_none() || !shows(pairs, is_back, next) {
             return Ok(None);
         }
         if let Some(key) = ask(pairs, is_back, takes)? {
@@ -157,41 +175,35 @@ fn every_mixture_of_ends_and_decisions(rt: HostRuntime) {
     assert!(rt; matches!(seven_agree(alloc, &mut map), Ok(true)));
 }
 
-#[test]
-fn an_extraction_of_nothing_is_empty(rt: HostRuntime) {
-    let mut map: TreeMap<[u8; 2], u8, 16> = TreeMap::new(rt.alloc());
+fn nothing_is_empty(map: &mut TreeMap<[u8; 2], u8, 16>) -> bool {
     let word: [u8; 2] = [1, 1];
-    assert!(rt;
-        map.extraction(Bound::Included(&word), Bound::Excluded(&word))
-            .is_empty()
-    );
-    assert!(rt; map.insert([1, 2], 0).is_ok());
-    assert!(rt;
-        map.extraction(Bound::Included(&word), Bound::Excluded(&word))
-            .is_empty()
-    );
-    assert!(rt;
-        !map.extraction(Bound::Included(&word), Bound::Unbounded)
-            .is_empty()
-    );
+    let [from, up_to] = [Bound::Included(&word), Bound::Excluded(&word)];
+    map.extraction(from, up_to).is_empty()
+        && map.insert([1, 2], 0).is_ok()
+        && map.extraction(from, up_to).is_empty()
+        && !map.extraction(from, Bound::Unbounded).is_empty()
 }
 
-#[test]
-fn values_are_lent_at_both_ends(rt: HostRuntime) {
-    let mut map: TreeMap<[u8; 2], u8, 16> = TreeMap::new(rt.alloc());
-    for key in KEYS {
-        assert!(rt; map.insert(key, 1).is_ok());
-    }
+fn lends_at_both_ends(map: &mut TreeMap<[u8; 2], u8, 16>) -> bool {
     let mut pairs = map.extraction(Bound::Included(&[1u8, 3]), Bound::Excluded(&[5u8, 5]));
     match pairs.front() {
         Some(value) => *value = 7,
-        None => assert!(rt; false),
+        None => return false,
     }
     match pairs.back() {
         Some(value) => *value = 9,
-        None => assert!(rt; false),
+        None => return false,
     }
-    assert!(rt; map.values().eq([1u8, 7, 1, 1, 1, 9, 1].iter()));
+    if !map.values().eq([200u8, 7, 200, 200, 200, 9, 200].iter()) {
+        return false;
+    }
     let mut pairs = map.extraction(Bound::Excluded(&[5u8, 5]), Bound::Unbounded::<&[u8; 2]>);
-    assert!(rt; pairs.front().is_none() && pairs.back().is_none());
+    pairs.front().is_none() && pairs.back().is_none()
+}
+
+#[test]
+fn extractions_of_nothing_and_what_is_lent_at_both_ends(rt: HostRuntime) {
+    let mut map: TreeMap<[u8; 2], u8, 16> = TreeMap::new(rt.alloc());
+    assert!(rt; nothing_is_empty(&mut map));
+    assert!(rt; fill(&mut map, &KEYS) && lends_at_both_ends(&mut map));
 }

@@ -1,13 +1,11 @@
 //! Extraction where memory is refused: it ends, and the pair stays in the map. Walks that take no memory.
 
-use crate::entries_refused::{fill, key_of};
-use crate::seen::{has_values, is_tree};
-use art_map::{Extraction, TreeMap};
+use art_map::Extraction;
+use art_map_tests::nodes::{Map, fill, key_of};
+use art_map_tests::seen::{has_values, is_tree};
 use art_walks::bounds_are_valid;
 use std::ops::Bound;
 use std::test::Fail;
-
-type Map = TreeMap<[u8; 5], usize, 1>;
 
 type Pairs<'a> = Extraction<'a, [u8; 5], usize, 1>;
 
@@ -97,17 +95,15 @@ fn shrinks(rt: &HostRuntime, map: &mut Map, is_back: bool) -> Result<bool, Fail>
     Ok(is_right && has_values(map, &after) && is_tree(rt.alloc(), map))
 }
 
-#[test]
-fn a_pair_taken_at_the_front(rt: HostRuntime) -> Result<(), Fail> {
+// The same of a new map.
+fn shrinks_anew(rt: &HostRuntime, is_back: bool) -> Result<bool, Fail> {
     let mut map = Map::with_prefix_len(rt.alloc());
-    assert!(rt; shrinks(&rt, &mut map, false)?);
-    Ok(())
+    shrinks(rt, &mut map, is_back)
 }
 
 #[test]
-fn a_pair_taken_at_the_back(rt: HostRuntime) -> Result<(), Fail> {
-    let mut map = Map::with_prefix_len(rt.alloc());
-    assert!(rt; shrinks(&rt, &mut map, true)?);
+fn a_pair_taken_at_an_end(rt: HostRuntime) -> Result<(), Fail> {
+    assert!(rt; shrinks_anew(&rt, false)? && shrinks_anew(&rt, true)?);
     Ok(())
 }
 
@@ -188,17 +184,15 @@ fn five_go(rt: &HostRuntime, map: &mut Map, is_retained: bool) -> Result<bool, F
     Ok(outcome != Outcome::Other && has_values(map, &others) && is_tree(rt.alloc(), map))
 }
 
-#[test]
-fn five_pairs_that_are_picked(rt: HostRuntime) -> Result<(), Fail> {
+// The same of a new map.
+fn five_go_anew(rt: &HostRuntime, is_retained: bool) -> Result<bool, Fail> {
     let mut map = Map::with_prefix_len(rt.alloc());
-    assert!(rt; five_go(&rt, &mut map, false)?);
-    Ok(())
+    five_go(rt, &mut map, is_retained)
 }
 
 #[test]
-fn five_pairs_that_are_not_retained(rt: HostRuntime) -> Result<(), Fail> {
-    let mut map = Map::with_prefix_len(rt.alloc());
-    assert!(rt; five_go(&rt, &mut map, true)?);
+fn five_pairs_that_are_picked_or_not_retained(rt: HostRuntime) -> Result<(), Fail> {
+    assert!(rt; five_go_anew(&rt, false)? && five_go_anew(&rt, true)?);
     Ok(())
 }
 

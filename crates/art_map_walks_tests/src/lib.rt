@@ -1,0 +1,20 @@
+//! Tests of art_map's walks, ranges and extractions: over all small maps, rows from outside, a replay against the
+//! sorted vector of art_walks_tests, and each request for memory refused in turn.
+#![tactic(auto)]
+
+#[cfg(test)]
+mod extraction;
+#[cfg(test)]
+mod extraction_refused;
+#[cfg(test)]
+mod extraction_rows;
+#[cfg(test)]
+mod into_walks;
+#[cfg(test)]
+mod ranges;
+#[cfg(test)]
+mod replay;
+#[cfg(test)]
+mod small_maps;
+#[cfg(test)]
+mod walks_mut;
