@@ -145,8 +145,8 @@ impl<'a, const PREFIX_LEN: usize> Ahead<'a, PREFIX_LEN> {
         };
         let (key, value) = leaf.entry_ref();
         let link = u8::from(leaf.next().is_some());
-        match (key.first(), value.first()) {
-            (Some(of_key), Some(of_value)) => *of_key ^ *of_value ^ link,
+        match (key.first(), key.last(), value.first()) {
+            (Some(first), Some(last), Some(of_value)) => *first ^ *last ^ *of_value ^ link,
             _ => link,
         }
     }

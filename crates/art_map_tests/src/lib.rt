@@ -10,6 +10,8 @@ mod calls;
 mod entries;
 #[cfg(test)]
 mod entries_refused;
+#[cfg(test)]
+mod entry_rows;
 pub mod nodes;
 #[cfg(test)]
 mod prefix_entries;
