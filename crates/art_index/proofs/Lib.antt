@@ -5,6 +5,7 @@ pub mod RunLemmas
 pub mod HexText
 pub mod Cuts
 pub mod Gathering
+pub mod EightDigits
 pub mod Carrying
 pub mod CutRuns
 pub mod Replies

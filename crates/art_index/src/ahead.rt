@@ -14,6 +14,9 @@ const BATCH: usize = 32;
 /// How many bytes of a node have the inner nodes under them read together.
 const RUN: u8 = 32;
 
+/// Fewer inner nodes than that under so many bytes gain nothing by it: then those behind them aren't read together.
+const FEW: usize = 4;
+
 /// How many nodes may be still to be read. Where the tree is deeper than that allows, its leaves are not read ahead.
 const PENDING: usize = 256;
 
@@ -60,14 +63,14 @@ impl<'a, const PREFIX_LEN: usize> Ahead<'a, PREFIX_LEN> {
     /// be told without having read them, so that no compiler leaves the reads out.
     #[inline]
     pub(crate) fn step(&mut self) -> u8 {
-        if self.left == 0 {
-            self.read();
+        match self.left.checked_sub(1) {
+            Some(left) => self.left = left,
+            None => self.read(),
         }
-        self.left = self.left.saturating_sub(1);
         self.seen
     }
 
-    /// Reads the next leaves together.
+    /// Reads the next leaves together, and goes on by the first.
     #[inline(never)]
     fn read(&mut self) {
         let mut batch: ArrayVec<OpaqueNodePtr, BATCH> = ArrayVec::new();
@@ -83,7 +86,7 @@ impl<'a, const PREFIX_LEN: usize> Ahead<'a, PREFIX_LEN> {
         for name in batch.as_slice() {
             self.seen ^= self.touched(*name);
         }
-        self.left = batch.len();
+        self.left = batch.len().saturating_sub(1);
     }
 
     /// Names the leaves below a node, up to its first inner node, which is then the next one to be gone below.
@@ -116,7 +119,7 @@ impl<'a, const PREFIX_LEN: usize> Ahead<'a, PREFIX_LEN> {
     }
 
     /// Reads the inner nodes under the next bytes of a node together, where those below this byte were read, and tells
-    /// below which byte they are read then.
+    /// below which byte none is to be read any more: below all, where there are too few to gain by it.
     fn read_inner_nodes(
         &mut self,
         inner: &InnerRef<'_, Vec<u8>, Vec<u8>, PREFIX_LEN>,
@@ -127,12 +130,14 @@ impl<'a, const PREFIX_LEN: usize> Ahead<'a, PREFIX_LEN> {
             return read;
         }
         let next = byte.saturating_add(RUN);
+        let mut met: usize = 0;
         for (_, name) in inner.range(Bound::Included(byte), Bound::Excluded(next)) {
             if name.node_type() != NodeType::Leaf {
                 self.seen ^= u8::from(self.arena.holds(name));
+                met = met.saturating_add(1);
             }
         }
-        next
+        if met < FEW { u8::MAX } else { next }
     }
 
     /// A byte of what a leaf's entry, its key and its value hold.
@@ -144,10 +149,12 @@ impl<'a, const PREFIX_LEN: usize> Ahead<'a, PREFIX_LEN> {
             return 0;
         };
         let (key, value) = leaf.entry_ref();
-        let link = u8::from(leaf.next().is_some());
-        match (key.first(), key.last(), value.first()) {
-            (Some(first), Some(last), Some(of_value)) => *first ^ *last ^ *of_value ^ link,
-            _ => link,
+        let (Some(first), Some(last)) = (key.first(), key.last()) else {
+            return 0;
+        };
+        match value.first() {
+            Some(of_value) => *first ^ *last ^ *of_value,
+            None => *first ^ *last,
         }
     }
 }

@@ -1,12 +1,13 @@
 //! Text that is gathered in a room before it goes to a sink, so that many lines leave in one piece. Each call puts a
 //! text at a place, leaves what stands before it, and tells the place behind it.
-ghost use Rattle.std.specs.Prelude.{◌≡◌, ◌+◌, ◌*◌, ◌≤◌, ◌∷◌, [], length, decimal};
+ghost use Rattle.std.specs.Prelude.{◌≡◌, ◌+◌, ◌*◌, ◌%◌, ◌≤◌, ◌∷◌, [], length, decimal};
 ghost use Rattle.hex.specs.Hex.{encode_lower};
 ghost use Rattle.art_index.specs.Words.{shown, name, bytes, line_of};
 ghost use Rattle.art_index.specs.Commands.{put_words};
 ghost use Rattle.art_index.specs.Gathered.{Puts, IsHead, head_of};
 
 use itoa::Buffer;
+use std::simd::prelude::*;
 
 /// The two digits of each byte, one pair behind another.
 static PAIRS: [u8; 512] = *b"\
@@ -27,9 +28,35 @@ fn put_text(room: &mut [u8], at: usize, text: &[u8]) -> usize
     next
 }
 
-/// Puts bytes as lower case digits.
+/// The lower case digits of eight bytes.
 #[inline]
-fn put_digits(room: &mut [u8], at: usize, value: &[u8]) -> usize
+fn digits_of(bytes: u8x8) -> u8x16
+    ensures { result ≡ encode_lower bytes }
+{
+    let (high, low) = (bytes >> 4, bytes & u8x8::splat(15));
+    let values = high.shuffle(low, [0, 8, 1, 9, 2, 10, 3, 11, 4, 12, 5, 13, 6, 14, 7, 15]);
+    u8x16::from_array(*b"0123456789abcdef").swizzle_dyn(values)
+}
+
+/// Puts bytes as lower case digits, eight of them at a time.
+#[inline]
+fn put_eights(room: &mut [u8], at: usize, value: &[u8]) -> usize
+    requires eights { length value.now % 8 ≡ 0 }
+    requires fits { at + 2 * length value.now ≤ length room.old }
+    ensures { Puts result at (encode_lower value.now) room.old room.new }
+{
+    let (mut next, mut done) = (at, 0);
+    while done < value.len() {
+        let digits = digits_of(u8x8::from_slice(&value[done..]));
+        next = put_text(room, next, &digits.to_array());
+        done += 8;
+    }
+    next
+}
+
+/// Puts bytes as lower case digits, one of them at a time.
+#[inline]
+fn put_each(room: &mut [u8], at: usize, value: &[u8]) -> usize
     requires { at + 2 * length value.now ≤ length room.old }
     ensures { Puts result at (encode_lower value.now) room.old room.new }
 {
@@ -42,6 +69,17 @@ fn put_digits(room: &mut [u8], at: usize, value: &[u8]) -> usize
         next += 2;
     }
     next
+}
+
+/// Puts bytes as lower case digits.
+#[inline]
+fn put_digits(room: &mut [u8], at: usize, value: &[u8]) -> usize
+    requires { at + 2 * length value.now ≤ length room.old }
+    ensures { Puts result at (encode_lower value.now) room.old room.new }
+{
+    let (eights, rest) = value.split_at(value.len() - value.len() % 8);
+    let next = put_eights(room, at, eights);
+    put_each(room, next, rest)
 }
 
 /// Puts bytes as lower case digits, or `-` for none.
@@ -98,8 +136,16 @@ impl Head {
         ensures { self.new.tenant ≡ tenant }
     {
         if self.tenant != tenant {
-            *self = Head::new(tenant);
+            self.change_to(tenant);
         }
+    }
+
+    /// Makes it that of another tenant. Not inlined, so that a line of the same tenant clears no room for a head.
+    #[inline(never)]
+    fn change_to(&mut self, tenant: u32)
+        ensures { self.new.tenant ≡ tenant }
+    {
+        *self = Head::new(tenant);
     }
 
     /// Puts it.
@@ -108,7 +154,8 @@ impl Head {
         requires { at + 16 ≤ length room.old }
         ensures { Puts result at (head_of self.now.tenant) room.old room.new }
     {
-        let _behind = put_text(room, at, &self.text);
+        let text = self.text;
+        let _behind = put_text(room, at, &text);
         at + self.len
     }
 }

@@ -31,6 +31,14 @@ module _ {K V : Type 0} {P : ℕ} {M : Type 0} where
   abbrev pub removed_pairs : (K → List ℕ) → InnerOccupiedEntry K V P M → List (K × V)
   removed_pairs bytes e = overlapping (key_of bytes) (bytes e.key) e.map.now.pairs
 
+  -- the entry, once the map has these contents
+  abbrev pub with_contents : InnerOccupiedEntry K V P M → Contents K V → InnerOccupiedEntry K V P M
+  with_contents e m = record { map = record e.map { now = m }; key = e.key; mark = e.mark }
+
+  -- the pairs of the map, once w is the value of the only one that an insertion would remove
+  abbrev pub with_lone_value : (K → List ℕ) → InnerOccupiedEntry K V P M → V → List (K × V)
+  with_lone_value bytes e w = set_value (overlaps_query bytes (bytes e.key)) e.map.now.pairs w
+
   -- n is the entry e, once the map has these pairs
   pub record IsWithPairs (e : InnerOccupiedEntry K V P M) (pairs : List (K × V)) (n : InnerOccupiedEntry K V P M)
       : Type 0 where
@@ -114,8 +122,7 @@ module _ {K V : Type 0} {P : ℕ} {M : Type 0} {g : as_bytes.Ghosts K} where
   -- n is the entry e, once w is the value of the pair that it shows
   abbrev pub IsShownWritten : PrefixOccupiedKind K V P M g → V → PrefixOccupiedKind K V P M g → Type 0
   IsShownWritten (Leaf o) w (Leaf n) = entry.IsWritten (entry.Occupied o) w (entry.Occupied n)
-  IsShownWritten (Inner e) w (Inner n) =
-      IsWithPairs e (set_value (overlaps_query g.bytes (g.bytes e.key)) e.map.now.pairs w) n
+  IsShownWritten (Inner e) w (Inner n) = IsWithPairs e (with_lone_value g.bytes e w) n
   IsShownWritten (Leaf o) w (Inner n) = ⊥
   IsShownWritten (Inner e) w (Leaf n) = ⊥
 
@@ -141,7 +148,7 @@ module _ {K V : Type 0} {P : ℕ} {M : Type 0} {g : as_bytes.Ghosts K} where
 
 module _ (K V : RattleType) (P : ℕ) (key : as_bytes.Ghosts K.Denot) where
   -- the map's type, as the logic holds it
-  abbrev map_row : RattleType
+  abbrev pub map_row : RattleType
   map_row = map.the_row K V (number P) key
 
   -- Once the borrow r ends, the only pair that an insertion would remove has the last value written through r, and at
@@ -149,8 +156,7 @@ module _ (K V : RattleType) (P : ℕ) (key : as_bytes.Ghosts K.Denot) where
   abbrev pub lends_lone : MutBor (InnerOccupiedEntry K.Denot V.Denot P map_row.Denot) → Option (MutBor V.Denot) → Fml
   lends_lone e r =
       LendsSo (inner.the_row (record { mir = named 1; lft = [] }) K V (number P) map_row key) V e r
-      (λ n w. OnSome r (IsWithPairs e.now
-      (set_value (overlaps_query key.bytes (key.bytes e.now.key)) e.now.map.now.pairs w) n))
+      (λ n w. OnSome r (IsWithPairs e.now (with_lone_value key.bytes e.now w) n))
       (λ n. IsWithPairs e.now e.now.map.now.pairs n)
 
   -- the same of the only pair that a `PrefixOccupied` shows
@@ -160,12 +166,10 @@ module _ (K V : RattleType) (P : ℕ) (key : as_bytes.Ghosts K.Denot) where
       (λ n w. OnSome r (IsShownWritten (occupied_kind e.now) w (occupied_kind n)))
       (λ n. (n.map ≡ e.now.map) × (n.spot ≡ e.now.spot))
 
-  -- once the borrow r of the map ends, the entry has the map that it leaves
-  abbrev pub lends_inner_map : MutBor (InnerOccupiedEntry K.Denot V.Denot P map_row.Denot)
-      → MutBor (Contents K.Denot V.Denot) → Fml
-  lends_inner_map e r =
-      Lends (inner.the_row (record { mir = named 1; lft = [] }) K V (number P) map_row key) map_row e r
-      (λ m. record { map = record e.now.map { now = m }; key = e.now.key; mark = e.now.mark })
+  -- once the borrow r ends, the entry is what the last value written through r makes of it. Its lifetime is as above
+  abbrev pub lends_from_inner : (T : RattleType) → MutBor (InnerOccupiedEntry K.Denot V.Denot P map_row.Denot)
+      → MutBor T.Denot → (T.Denot → InnerOccupiedEntry K.Denot V.Denot P map_row.Denot) → Fml
+  lends_from_inner T = Lends (inner.the_row (record { mir = named 1; lft = [] }) K V (number P) map_row key) T
 
   -- once the borrow r ends, the map has the last value written through r under the entry's key; where there is none,
   -- its pairs are as they were

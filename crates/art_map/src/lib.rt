@@ -10,6 +10,8 @@ pub use map::entry::{Entry, OccupiedEntry, VacantEntry};
 pub use map::extract_if::ExtractIf;
 pub use map::extraction::Extraction;
 pub use map::iter_mut::{IterMut, ValuesMut};
-pub use map::prefix_entry::{InnerOccupiedEntry, PrefixEntry, PrefixOccupied, PrefixOccupiedKind};
+pub use map::prefix_entry::{
+    InnerOccupiedEntry, LonePair, PrefixEntry, PrefixOccupied, PrefixOccupiedKind,
+};
 pub use map::refused::{TryInsertError, TryKeyError};
 pub use map::walks_mut::{PrefixMut, RangeMut, SubtreeIterMut};

@@ -1,10 +1,9 @@
-//! Each public call on its happy path. A map is made and dropped in a test; the calls stand in functions to which it is
-//! lent, so that few ways out drop one.
+//! Each public call on its happy path. A map is lent to all that is shown of it; who owns it stands in `maps`.
+use crate::maps::{Shows, holds_at_16, is_put};
 use art_bytes::SliceKey;
 use art_map::TreeMap;
 use art_walks::WellFormedChecker;
 use std::alloc::Global;
-use std::default::MadeWith;
 use std::rc::Rc;
 use std::test::Fail;
 
@@ -33,13 +32,20 @@ fn an_equal_key_is_replaced(map: &mut Map) -> bool {
         && !map.is_empty()
 }
 
+struct OldValue;
+
+impl Shows<Map> for OldValue {
+    fn shows(&self, rt: &HostRuntime, map: &mut Map) -> bool {
+        map.is_empty()
+            && put_three(map)
+            && an_equal_key_is_replaced(map)
+            && is_tree(rt.alloc(), map, 3, 5)
+    }
+}
+
 #[test]
 fn an_insertion_answers_the_old_value(rt: HostRuntime) {
-    let mut map = Map::new(rt.alloc());
-    assert!(rt; map.is_empty());
-    assert!(rt; put_three(&mut map));
-    assert!(rt; an_equal_key_is_replaced(&mut map));
-    assert!(rt; is_tree(rt.alloc(), &map, 3, 5));
+    assert!(rt; holds_at_16(&rt, &OldValue));
 }
 
 fn is_put_at_its_place(map: &mut Map, key: [u8; 2], value: u32) -> bool {
@@ -49,27 +55,47 @@ fn is_put_at_its_place(map: &mut Map, key: [u8; 2], value: u32) -> bool {
     }
 }
 
+struct Placed;
+
+impl Shows<Map> for Placed {
+    fn shows(&self, _rt: &HostRuntime, map: &mut Map) -> bool {
+        put_three(map)
+            && is_put_at_its_place(map, [1, 3], 13)
+            && map.get(&[1, 3]) == Some(&13)
+            && map.place(&SliceKey(&[1])).is_err()
+    }
+}
+
 #[test]
 fn a_pair_is_put_at_its_place(rt: HostRuntime) {
-    let mut map = Map::new(rt.alloc());
-    assert!(rt; put_three(&mut map));
-    assert!(rt; is_put_at_its_place(&mut map, [1, 3], 13));
-    assert!(rt; map.get(&[1, 3]) == Some(&13));
-    assert!(rt; map.place(&SliceKey(&[1])).is_err());
+    assert!(rt; holds_at_16(&rt, &Placed));
+}
+
+// Whether this value was found.
+fn is_value(found: Option<&u32>, value: u32) -> bool {
+    found == Some(&value)
+}
+
+// Whether this pair was found.
+fn is_pair(found: Option<(&[u8; 2], &u32)>, key: [u8; 2], value: u32) -> bool {
+    match found {
+        Some((stored, seen)) => *stored == key && *seen == value,
+        None => false,
+    }
 }
 
 fn looks_keys_up(map: &Map) -> bool {
-    map.get(&[1, 5]) == Some(&15)
+    is_value(map.get(&[1, 5]), 15)
         && map.get(&SliceKey(&[1])).is_none()
-        && map.get_key_value(&[1, 5]) == Some((&[1, 5], &15))
+        && is_pair(map.get_key_value(&[1, 5]), [1, 5], 15)
         && map.contains_key(&[3, 4])
-        && map.first_key_value() == Some((&[1, 2], &12))
-        && map.last_key_value() == Some((&[3, 4], &34))
+        && is_pair(map.first_key_value(), [1, 2], 12)
+        && is_pair(map.last_key_value(), [3, 4], 34)
 }
 
 fn looks_fronts_up(map: &Map) -> bool {
-    map.prefix_get(&SliceKey(&[1, 2, 9])) == Some(&12)
-        && map.prefix_get_key_value(&SliceKey(&[1, 2, 9])) == Some((&[1, 2], &12))
+    is_value(map.prefix_get(&SliceKey(&[1, 2, 9])), 12)
+        && is_pair(map.prefix_get_key_value(&SliceKey(&[1, 2, 9])), [1, 2], 12)
         && map.prefix_get_key_value(&SliceKey(&[1, 3, 9])).is_none()
 }
 
@@ -77,35 +103,52 @@ fn indexes(map: &Map, key: &[u8; 2], value: u32) -> bool {
     map.contains_key(key) && map[key] == value
 }
 
+struct LookedUp;
+
+impl Shows<Map> for LookedUp {
+    fn shows(&self, _rt: &HostRuntime, map: &mut Map) -> bool {
+        put_three(map) && looks_keys_up(map) && looks_fronts_up(map) && indexes(map, &[3, 4], 34)
+    }
+}
+
 #[test]
 fn look_ups_find_a_pair(rt: HostRuntime) {
-    let mut map = Map::new(rt.alloc());
-    assert!(rt; put_three(&mut map));
-    assert!(rt; looks_keys_up(&map));
-    assert!(rt; looks_fronts_up(&map));
-    assert!(rt; indexes(&map, &[3, 4], 34));
+    assert!(rt; holds_at_16(&rt, &LookedUp));
+}
+
+// Whether there is a value, over which this one is written.
+fn is_written(lent: Option<&mut u32>, value: u32) -> bool {
+    match lent {
+        Some(lent) => {
+            *lent = value;
+            true
+        }
+        None => false,
+    }
 }
 
 // Writes a value over the one of a key, and over the one of a front.
 fn writes(map: &mut Map) -> bool {
-    match map.get_mut(&[1, 5]) {
-        Some(value) => *value = 115,
-        None => return false,
+    is_written(map.get_mut(&[1, 5]), 115)
+        && is_written(map.prefix_get_mut(&SliceKey(&[3, 4, 5])), 134)
+        && map.get(&[1, 5]) == Some(&115)
+        && map.get(&[3, 4]) == Some(&134)
+}
+
+struct Written;
+
+impl Shows<Map> for Written {
+    fn shows(&self, _rt: &HostRuntime, map: &mut Map) -> bool {
+        put_three(map)
+            && writes(map)
+            && !is_written(map.get_mut(&[1, 6]), 116)
+            && !is_written(map.prefix_get_mut(&SliceKey(&[3])), 103)
     }
-    match map.prefix_get_mut(&SliceKey(&[3, 4, 5])) {
-        Some(value) => *value = 134,
-        None => return false,
-    }
-    map.get(&[1, 5]) == Some(&115) && map.get(&[3, 4]) == Some(&134)
 }
 
 #[test]
 fn values_are_written_in_place(rt: HostRuntime) {
-    let mut map = Map::new(rt.alloc());
-    assert!(rt; put_three(&mut map));
-    assert!(rt; writes(&mut map));
-    assert!(rt; map.get_mut(&[1, 6]).is_none());
-    assert!(rt; map.prefix_get_mut(&SliceKey(&[3])).is_none());
+    assert!(rt; holds_at_16(&rt, &Written));
 }
 
 fn takes_by_key(map: &mut Map) -> bool {
@@ -122,63 +165,88 @@ fn takes_at_ends(map: &mut Map) -> bool {
         && matches!(map.pop_last(), Ok(None))
 }
 
+struct TakenOut;
+
+impl Shows<Map> for TakenOut {
+    fn shows(&self, _rt: &HostRuntime, map: &mut Map) -> bool {
+        put_three(map)
+            && takes_by_key(map)
+            && map.len() == 1
+            && put_three(map)
+            && takes_at_ends(map)
+    }
+}
+
 #[test]
 fn pairs_are_taken_out(rt: HostRuntime) {
-    let mut map = Map::new(rt.alloc());
-    assert!(rt; put_three(&mut map));
-    assert!(rt; takes_by_key(&mut map));
-    assert!(rt; map.len() == 1);
-    assert!(rt; put_three(&mut map));
-    assert!(rt; takes_at_ends(&mut map));
+    assert!(rt; holds_at_16(&rt, &TakenOut));
+}
+
+fn is_cleared(alloc: Global, map: &mut Map) -> bool {
+    map.clear();
+    map.is_empty() && map.first_key_value().is_none() && is_tree(alloc, map, 0, 0)
+}
+
+struct FilledAgain;
+
+impl Shows<Map> for FilledAgain {
+    fn shows(&self, rt: &HostRuntime, map: &mut Map) -> bool {
+        put_three(map)
+            && is_cleared(rt.alloc(), map)
+            && put_three(map)
+            && is_tree(rt.alloc(), map, 3, 5)
+    }
 }
 
 #[test]
 fn a_cleared_map_can_be_filled_again(rt: HostRuntime) {
-    let mut map = Map::new(rt.alloc());
-    assert!(rt; put_three(&mut map));
-    map.clear();
-    assert!(rt; map.is_empty() && map.first_key_value().is_none());
-    assert!(rt; is_tree(rt.alloc(), &map, 0, 0));
-    assert!(rt; put_three(&mut map));
-    assert!(rt; is_tree(rt.alloc(), &map, 3, 5));
+    assert!(rt; holds_at_16(&rt, &FilledAgain));
 }
 
-// Makes a map of two shared values and drops it: how many shared them meanwhile.
-fn shares(alloc: Global, one: Rc<u8>, other: Rc<u8>) -> usize {
-    let mut map: TreeMap<[u8; 1], Rc<u8>, 16> = TreeMap::made_with(alloc);
-    let is_put = map.insert([1], one).is_ok() && map.insert([2], other).is_ok();
-    match map.get(&[2]) {
-        Some(value) if is_put => Rc::strong_count(value),
-        _ => 0,
+type Shared = TreeMap<[u8; 1], Rc<u8>, 16>;
+
+// Whether a value that others share too goes in.
+fn is_shared(map: &mut Shared, key: u8, shared: &Rc<u8>) -> bool {
+    match shared.clone() {
+        Ok(one) => is_put(map, [key], one),
+        Err(_) => false,
+    }
+}
+
+// A value that a map shares twice.
+#[derive(Drop)]
+struct Twice<'a> {
+    shared: &'a Rc<u8>,
+}
+
+impl<'a> Shows<Shared> for Twice<'a> {
+    fn shows(&self, _rt: &HostRuntime, map: &mut Shared) -> bool {
+        let are_put = is_shared(map, 1, self.shared) && is_shared(map, 2, self.shared);
+        match map.get(&[2]) {
+            Some(value) => are_put && Rc::strong_count(value) == 3,
+            None => false,
+        }
     }
 }
 
 #[test]
 fn a_map_drops_its_values(rt: HostRuntime) -> Result<(), Fail> {
     let shared = Rc::new(rt.alloc(), 7u8)?;
-    let (one, other) = (shared.clone()?, shared.clone()?);
-    assert_eq!(rt; shares(rt.alloc(), one, other), 3);
+    assert!(rt; holds_at_16(&rt, &Twice { shared: &shared }));
     assert_eq!(rt; Rc::strong_count(&shared), 1);
     Ok(())
 }
 
 fn walks_pairs(map: &Map) -> bool {
     let mut walk = map.iter();
-    for (left, key, value) in [(3, [3, 4], 34), (2, [1, 2], 12), (1, [1, 5], 15)] {
-        if walk.len() != left {
-            return false;
-        }
-        let pair = if left == 2 {
-            walk.next()
-        } else {
-            walk.next_back()
-        };
-        match pair {
-            Some((found, seen)) if *found == key && *seen == value => {}
-            _ => return false,
-        }
-    }
-    walk.next().is_none() && walk.len() == 0
+    walk.len() == 3
+        && is_pair(walk.next_back(), [3, 4], 34)
+        && walk.len() == 2
+        && is_pair(walk.next(), [1, 2], 12)
+        && walk.len() == 1
+        && is_pair(walk.next_back(), [1, 5], 15)
+        && walk.next().is_none()
+        && walk.len() == 0
 }
 
 fn walks_keys(map: &Map) -> bool {
@@ -199,12 +267,19 @@ fn sum_of(map: &Map) -> u32 {
     sum
 }
 
+struct Walked;
+
+impl Shows<Map> for Walked {
+    fn shows(&self, _rt: &HostRuntime, map: &mut Map) -> bool {
+        put_three(map)
+            && walks_pairs(map)
+            && walks_keys(map)
+            && walks_values(map)
+            && sum_of(map) == 61
+    }
+}
+
 #[test]
 fn walks_go_from_both_ends(rt: HostRuntime) {
-    let mut map = Map::new(rt.alloc());
-    assert!(rt; put_three(&mut map));
-    assert!(rt; walks_pairs(&map));
-    assert!(rt; walks_keys(&map));
-    assert!(rt; walks_values(&map));
-    assert_eq!(rt; sum_of(&map), 61);
+    assert!(rt; holds_at_16(&rt, &Walked));
 }

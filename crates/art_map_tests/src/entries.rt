@@ -1,9 +1,10 @@
 //! Entries: each call in each of its outcomes, and rows from outside, for three numbers of stored bytes.
-use crate::refused::each_lends;
+use crate::maps::{Shows, holds_at_0, holds_at_4, holds_at_16, is_put, key_of_text};
+use crate::refused::EachCall;
 use crate::seen::{has_values, is_tree};
 use art_bytes::SliceKey;
 use art_map::{Entry, TreeMap, TryKeyError};
-use std::alloc::{AllocError, Global};
+use std::alloc::Global;
 
 // Adds ten to the value of a key, if it is stored, and answers the value.
 fn add_ten<const PREFIX_LEN: usize>(
@@ -15,34 +16,32 @@ fn add_ten<const PREFIX_LEN: usize>(
     map.get(&key).copied()
 }
 
-// Whether a value is changed where a key is stored, and nothing where it is not. The keys are texts that a zero ends.
-fn modifies<const PREFIX_LEN: usize>(map: &mut TreeMap<[u8; 2], usize, PREFIX_LEN>) -> bool {
-    map.insert(*b"a\0", 1).is_ok()
-        && map.insert(*b"b\0", 2).is_ok()
-        && add_ten(map, *b"a\0") == Some(11)
-        && add_ten(map, *b"b\0") == Some(12)
-        && add_ten(map, *b"c\0").is_none()
-        && has_values(map, &[11, 12])
+// A value that is changed where a key is stored, and nothing where it is not. The keys are texts that a zero ends.
+struct Modified;
+
+impl<const PREFIX_LEN: usize> Shows<TreeMap<[u8; 2], usize, PREFIX_LEN>> for Modified {
+    fn shows(&self, _rt: &HostRuntime, map: &mut TreeMap<[u8; 2], usize, PREFIX_LEN>) -> bool {
+        is_put(map, *b"a\0", 1)
+            && is_put(map, *b"b\0", 2)
+            && add_ten(map, *b"a\0") == Some(11)
+            && add_ten(map, *b"b\0") == Some(12)
+            && add_ten(map, *b"c\0").is_none()
+            && has_values(map, &[11, 12])
+    }
 }
 
 #[test]
 fn a_stored_value_is_modified(rt: HostRuntime) {
-    let mut map: TreeMap<[u8; 2], usize, 0> = TreeMap::with_prefix_len(rt.alloc());
-    assert!(rt; modifies(&mut map));
-    let mut map: TreeMap<[u8; 2], usize, 4> = TreeMap::with_prefix_len(rt.alloc());
-    assert!(rt; modifies(&mut map));
-    let mut map: TreeMap<[u8; 2], usize, 16> = TreeMap::with_prefix_len(rt.alloc());
-    assert!(rt; modifies(&mut map));
+    assert!(rt; holds_at_0(&rt, &Modified));
+    assert!(rt; holds_at_4(&rt, &Modified));
+    assert!(rt; holds_at_16(&rt, &Modified));
 }
 
 #[test]
 fn an_entry_lends_its_value(rt: HostRuntime) {
-    let mut map: TreeMap<[u8; 5], usize, 0> = TreeMap::with_prefix_len(rt.alloc());
-    assert!(rt; each_lends(rt.alloc(), &mut map));
-    let mut map: TreeMap<[u8; 5], usize, 4> = TreeMap::with_prefix_len(rt.alloc());
-    assert!(rt; each_lends(rt.alloc(), &mut map));
-    let mut map: TreeMap<[u8; 5], usize, 16> = TreeMap::with_prefix_len(rt.alloc());
-    assert!(rt; each_lends(rt.alloc(), &mut map));
+    assert!(rt; holds_at_0::<[u8; 5], usize, EachCall>(&rt, &EachCall));
+    assert!(rt; holds_at_4::<[u8; 5], usize, EachCall>(&rt, &EachCall));
+    assert!(rt; holds_at_16::<[u8; 5], usize, EachCall>(&rt, &EachCall));
 }
 
 type Pairs = TreeMap<[u8; 2], usize, 16>;
@@ -91,16 +90,23 @@ fn is_taken(map: &mut Pairs, wanted: [u8; 2], value: usize) -> bool {
     }
 }
 
+struct EachOutcome;
+
+impl Shows<Pairs> for EachOutcome {
+    fn shows(&self, _rt: &HostRuntime, map: &mut Pairs) -> bool {
+        fills(map, [1, 2])
+            && gives_back(map, [3, 0])
+            && map.len() == 1
+            && replaces(map, [1, 2])
+            && has_values(map, &[3])
+            && is_taken(map, [1, 2], 3)
+            && map.is_empty()
+    }
+}
+
 #[test]
 fn each_outcome_of_an_entry(rt: HostRuntime) {
-    let mut map = Pairs::new(rt.alloc());
-    assert!(rt; fills(&mut map, [1, 2]));
-    assert!(rt; gives_back(&mut map, [3, 0]));
-    assert!(rt; map.len() == 1);
-    assert!(rt; replaces(&mut map, [1, 2]));
-    assert!(rt; has_values(&map, &[3]));
-    assert!(rt; is_taken(&mut map, [1, 2], 3));
-    assert!(rt; map.is_empty());
+    assert!(rt; holds_at_16(&rt, &EachOutcome));
 }
 
 // Whether a key in conflict with a stored one is refused, and handed back with its bytes.
@@ -113,41 +119,56 @@ fn is_refused(map: &mut TreeMap<SliceKey<'_>, usize, 16>, bytes: &'static [u8]) 
     }
 }
 
+struct InConflict;
+
+impl Shows<TreeMap<SliceKey<'static>, usize, 16>> for InConflict {
+    fn shows(&self, _rt: &HostRuntime, map: &mut TreeMap<SliceKey<'static>, usize, 16>) -> bool {
+        is_put(map, SliceKey(&[1, 2]), 3)
+            && is_refused(map, &[1])
+            && is_refused(map, &[1, 2, 3])
+            && has_values(map, &[3])
+    }
+}
+
 #[test]
 fn an_entry_in_conflict(rt: HostRuntime) {
-    let mut map: TreeMap<SliceKey<'_>, usize, 16> = TreeMap::new(rt.alloc());
-    assert!(rt; map.try_insert(SliceKey(&[1, 2]), 3).is_ok());
-    assert!(rt; is_refused(&mut map, &[1]));
-    assert!(rt; is_refused(&mut map, &[1, 2, 3]));
-    assert!(rt; has_values(&map, &[3]));
+    assert!(rt; holds_at_16(&rt, &InConflict));
 }
 
 // Whether the entry of a key shows it, whether it is stored or not.
-fn shows_key(map: &mut TreeMap<[u8; 2], usize, 16>, key: [u8; 2]) -> bool {
+fn shows_key(map: &mut Pairs, key: [u8; 2]) -> bool {
     *map.entry(key).key() == key
 }
 
 // Whether an entry with a value is put in, or takes the place of the stored one.
-fn is_set(map: &mut TreeMap<[u8; 2], usize, 16>, key: [u8; 2], value: usize) -> bool {
+fn is_set(map: &mut Pairs, key: [u8; 2], value: usize) -> bool {
     match map.entry(key).insert_entry(value) {
         Ok(entry) => *entry.key() == key && *entry.get() == value,
         Err(_) => false,
     }
 }
 
+// An entry between others.
+struct Between;
+
+impl Shows<Pairs> for Between {
+    fn shows(&self, rt: &HostRuntime, map: &mut Pairs) -> bool {
+        is_set(map, [0, 0], 0)
+            && is_set(map, [1, 0], 1)
+            && is_set(map, [3, 0], 3)
+            && shows_key(map, [2, 0])
+            && is_set(map, [2, 0], 2)
+            && shows_key(map, [2, 0])
+            && has_values(map, &[0, 1, 2, 3])
+            && is_set(map, [2, 0], 7)
+            && has_values(map, &[0, 1, 7, 3])
+            && is_tree(rt.alloc(), map)
+    }
+}
+
 #[test]
 fn an_entry_between_others(rt: HostRuntime) {
-    let mut map: TreeMap<[u8; 2], usize, 16> = TreeMap::new(rt.alloc());
-    assert!(rt; is_set(&mut map, [0, 0], 0));
-    assert!(rt; is_set(&mut map, [1, 0], 1));
-    assert!(rt; is_set(&mut map, [3, 0], 3));
-    assert!(rt; shows_key(&mut map, [2, 0]));
-    assert!(rt; is_set(&mut map, [2, 0], 2));
-    assert!(rt; shows_key(&mut map, [2, 0]));
-    assert!(rt; has_values(&map, &[0, 1, 2, 3]));
-    assert!(rt; is_set(&mut map, [2, 0], 7));
-    assert!(rt; has_values(&map, &[0, 1, 7, 3]));
-    assert!(rt; is_tree(rt.alloc(), &map));
+    assert!(rt; holds_at_16(&rt, &Between));
 }
 
 // The value that the entry of a key has once it is set, and that it then gives out.
@@ -170,44 +191,47 @@ fn goes_in_and_out<const PREFIX_LEN: usize>(
     map: &mut TreeMap<Vec<u8>, usize, PREFIX_LEN>,
     stored: &[&[u8]],
     bytes: &[u8],
-) -> Result<bool, AllocError> {
+) -> bool {
     for key in stored {
-        if map.try_insert(key.to_vec(alloc)?, 0).is_err() {
-            return Err(AllocError);
+        if !is_put(map, key_of_text(alloc, key), 0) {
+            return false;
         }
     }
-    let taken = set_and_taken(map, bytes.to_vec(alloc)?);
-    Ok(taken == Some(9) && map.len() == stored.len() && is_tree(alloc, map))
+    set_and_taken(map, key_of_text(alloc, bytes)) == Some(9)
+        && map.len() == stored.len()
+        && is_tree(alloc, map)
+}
+
+// How many keys a deep one goes in among.
+enum Deep {
+    One,
+    Two,
+    Three,
+}
+
+impl<const PREFIX_LEN: usize> Shows<TreeMap<Vec<u8>, usize, PREFIX_LEN>> for Deep {
+    fn shows(&self, rt: &HostRuntime, map: &mut TreeMap<Vec<u8>, usize, PREFIX_LEN>) -> bool {
+        match self {
+            Deep::One => goes_in_and_out(rt.alloc(), map, &[&[5]], &[255]),
+            Deep::Two => {
+                let stored: [&[u8]; 2] = [&[0], &[205, 61, 255]];
+                goes_in_and_out(rt.alloc(), map, &stored, &[205, 1])
+            }
+            Deep::Three => {
+                let stored: [&[u8]; 3] = [
+                    &[5, 205, 205, 205, 235, 0, 20],
+                    &[205, 210, 205, 205, 20],
+                    &[205, 205, 5],
+                ];
+                goes_in_and_out(rt.alloc(), map, &stored, &[205, 205, 205, 205, 36, 0])
+            }
+        }
+    }
 }
 
 #[test]
 fn entries_of_deep_keys(rt: HostRuntime) {
-    let mut map: TreeMap<Vec<u8>, usize, 16> = TreeMap::new(rt.alloc());
-    assert!(rt;
-        matches!(
-            goes_in_and_out(rt.alloc(), &mut map, &[&[5]], &[255]),
-            Ok(true)
-        )
-    );
-    let mut map: TreeMap<Vec<u8>, usize, 4> = TreeMap::with_prefix_len(rt.alloc());
-    let stored: [&[u8]; 2] = [&[0], &[205, 61, 255]];
-    assert!(rt;
-        matches!(
-            goes_in_and_out(rt.alloc(), &mut map, &stored, &[205, 1]),
-            Ok(true)
-        )
-    );
-    let mut map: TreeMap<Vec<u8>, usize, 0> = TreeMap::with_prefix_len(rt.alloc());
-    let stored: [&[u8]; 3] = [
-        &[5, 205, 205, 205, 235, 0, 20],
-        &[205, 210, 205, 205, 20],
-        &[205, 205, 5],
-    ];
-    let key = [205, 205, 205, 205, 36, 0];
-    assert!(rt;
-        matches!(
-            goes_in_and_out(rt.alloc(), &mut map, &stored, &key),
-            Ok(true)
-        )
-    );
+    assert!(rt; holds_at_16(&rt, &Deep::One));
+    assert!(rt; holds_at_4(&rt, &Deep::Two));
+    assert!(rt; holds_at_0(&rt, &Deep::Three));
 }

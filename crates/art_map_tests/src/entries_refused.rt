@@ -1,12 +1,12 @@
 //! Entries where memory is refused: what a call answers then, and that the map is as it was.
 
+use crate::maps::{Shows, holds_at_1, holds_at_16, is_put};
 use crate::nodes::{Map, fill, key_of};
-use crate::refused::{CALLS, Call, Puts, is_kept, put};
+use crate::refused::{CALLS, Call, Puts, is_closed, is_kept, is_opened, put};
 use crate::seen::{has_values, is_tree};
 use art_bytes::SliceKey;
 use art_map::{Entry, TreeMap, TryKeyError};
 use art_operations::InsertRefused;
-use std::test::Fail;
 
 impl Puts<[u8; 5]> for Call {
     fn put(&self, map: &mut Map, key: [u8; 5]) -> Option<InsertRefused<[u8; 5], usize>> {
@@ -35,34 +35,33 @@ impl Puts<[u8; 5]> for Vacant {
     }
 }
 
-// A call of the fifth key of a node of four.
-fn grows<C: Puts<[u8; 5]>>(
-    rt: &HostRuntime,
-    map: &mut Map,
-    call: &C,
+// A call of the fifth key of a node of four, and the value that it puts in.
+#[derive(Drop)]
+struct Grows<C> {
+    call: C,
     value: usize,
-) -> Result<bool, Fail> {
-    fill(map, 0, 4);
-    let key = key_of(4);
-    let is_as_it_should_be = is_kept(rt, map, call, key, &key, &[0, 1, 2, 3])?;
-    Ok(is_as_it_should_be && has_values(map, &[0, 1, 2, 3, value]) && is_tree(rt.alloc(), map))
 }
 
-// The same of a new map.
-fn makes_grow<C: Puts<[u8; 5]>>(rt: &HostRuntime, call: &C, value: usize) -> Result<bool, Fail> {
-    let mut map = Map::with_prefix_len(rt.alloc());
-    grows(rt, &mut map, call, value)
+impl<C: Puts<[u8; 5]>> Shows<Map> for Grows<C> {
+    fn shows(&self, rt: &HostRuntime, map: &mut Map) -> bool {
+        fill(map, 0, 4);
+        let key = key_of(4);
+        is_kept(rt, map, &self.call, key, &key, &[0, 1, 2, 3])
+            && has_values(map, &[0, 1, 2, 3, self.value])
+            && is_tree(rt.alloc(), map)
+    }
 }
 
 #[test]
-fn entries_that_are_put_in(rt: HostRuntime) -> Result<(), Fail> {
+fn entries_that_are_put_in(rt: HostRuntime) {
     for call in CALLS {
-        assert!(rt; makes_grow(&rt, &call, call.value(5))?);
+        let value = call.value(5);
+        assert!(rt; holds_at_1(&rt, &Grows { call, value }));
     }
     for is_entry in [false, true] {
-        assert!(rt; makes_grow(&rt, &Vacant { is_entry }, 1000)?);
+        let call = Vacant { is_entry };
+        assert!(rt; holds_at_1(&rt, &Grows { call, value: 1000 }));
     }
-    Ok(())
 }
 
 // Whether a removal of a stored key is refused: that of the pair, or that of the value alone.
@@ -79,63 +78,72 @@ fn is_refused(map: &mut Map, key: [u8; 5], is_pair: bool) -> bool {
     }
 }
 
-// The removal of one of five keys of a node, where six other keys leave no room for a node of four.
-fn shrinks(rt: &HostRuntime, map: &mut Map, is_pair: bool) -> Result<bool, Fail> {
-    fill(map, 0, 5);
-    fill(map, 200, 206);
-    eprintln!(rt; "refuse")?;
-    let refused = is_refused(map, key_of(2), is_pair);
-    eprintln!(rt; "{}", if refused { "refused" } else { "ok" })?;
-    if refused {
-        let all = [0, 1, 2, 3, 4, 200, 201, 202, 203, 204, 205];
-        if !has_values(map, &all)
-            || !is_tree(rt.alloc(), map)
-            || is_refused(map, key_of(2), is_pair)
-        {
-            return Ok(false);
-        }
+// The removal of one of five keys of a node, where six other keys leave no room for a node of four: of the pair, or of
+// the value alone.
+#[derive(Drop)]
+struct Shrinks {
+    is_pair: bool,
+}
+
+const ALL: [usize; 11] = [0, 1, 2, 3, 4, 200, 201, 202, 203, 204, 205];
+
+const REST: [usize; 10] = [0, 1, 3, 4, 200, 201, 202, 203, 204, 205];
+
+// Whether a refused removal left the map as it was, and is not refused once more.
+fn is_taken_again(rt: &HostRuntime, map: &mut Map, is_pair: bool) -> bool {
+    has_values(map, &ALL) && is_tree(rt.alloc(), map) && !is_refused(map, key_of(2), is_pair)
+}
+
+impl Shows<Map> for Shrinks {
+    fn shows(&self, rt: &HostRuntime, map: &mut Map) -> bool {
+        fill(map, 0, 5);
+        fill(map, 200, 206);
+        let is_open = is_opened(rt);
+        let refused = is_refused(map, key_of(2), self.is_pair);
+        is_open
+            && is_closed(rt, refused)
+            && (!refused || is_taken_again(rt, map, self.is_pair))
+            && has_values(map, &REST)
+            && is_tree(rt.alloc(), map)
     }
-    let rest = [0, 1, 3, 4, 200, 201, 202, 203, 204, 205];
-    Ok(has_values(map, &rest) && is_tree(rt.alloc(), map))
 }
 
 #[test]
-fn an_entry_whose_value_is_removed(rt: HostRuntime) -> Result<(), Fail> {
-    let mut map = Map::with_prefix_len(rt.alloc());
-    assert!(rt; shrinks(&rt, &mut map, false)?);
-    Ok(())
+fn an_entry_whose_value_is_removed(rt: HostRuntime) {
+    assert!(rt; holds_at_1(&rt, &Shrinks { is_pair: false }));
 }
 
 #[test]
-fn an_entry_that_is_removed(rt: HostRuntime) -> Result<(), Fail> {
-    let mut map = Map::with_prefix_len(rt.alloc());
-    assert!(rt; shrinks(&rt, &mut map, true)?);
-    Ok(())
+fn an_entry_that_is_removed(rt: HostRuntime) {
+    assert!(rt; holds_at_1(&rt, &Shrinks { is_pair: true }));
 }
 
 // The entry of a stored key: its value is set and lent, and it is removed where no node shrinks.
-fn is_stored(rt: &HostRuntime, map: &mut Map) -> Result<bool, Fail> {
-    fill(map, 0, 4);
-    let key = key_of(1);
-    eprintln!(rt; "refuse")?;
-    let mut refused = false;
-    for call in CALLS {
-        refused = refused || call.put(map, key).is_some();
+struct Stored;
+
+impl Shows<Map> for Stored {
+    fn shows(&self, rt: &HostRuntime, map: &mut Map) -> bool {
+        fill(map, 0, 4);
+        let key = key_of(1);
+        let is_open = is_opened(rt);
+        let mut refused = false;
+        for call in CALLS {
+            refused = refused || call.put(map, key).is_some();
+        }
+        refused = refused || is_refused(map, key, false);
+        is_open && is_closed(rt, refused) && has_values(map, &[0, 2, 3]) && is_tree(rt.alloc(), map)
     }
-    refused = refused || is_refused(map, key, false);
-    eprintln!(rt; "{}", if refused { "refused" } else { "ok" })?;
-    Ok(has_values(map, &[0, 2, 3]) && is_tree(rt.alloc(), map))
 }
 
 #[test]
-fn an_entry_of_a_stored_key_takes_no_memory(rt: HostRuntime) -> Result<(), Fail> {
-    let mut map = Map::with_prefix_len(rt.alloc());
-    assert!(rt; is_stored(&rt, &mut map)?);
-    Ok(())
+fn an_entry_of_a_stored_key_takes_no_memory(rt: HostRuntime) {
+    assert!(rt; holds_at_1(&rt, &Stored));
 }
 
+type Slices = TreeMap<SliceKey<'static>, usize, 16>;
+
 // Whether the entry of a front of a stored key is refused for want of memory, or else with its bytes.
-fn is_blocked(map: &mut TreeMap<SliceKey<'_>, usize, 16>, bytes: &'static [u8]) -> Option<bool> {
+fn is_blocked(map: &mut Slices, bytes: &'static [u8]) -> Option<bool> {
     match map.try_entry(SliceKey(bytes)) {
         Err(TryKeyError::Memory { key }) => if key.0 == bytes { Some(true) } else { None },
         Err(TryKeyError::Prefix { key, error }) => {
@@ -149,26 +157,25 @@ fn is_blocked(map: &mut TreeMap<SliceKey<'_>, usize, 16>, bytes: &'static [u8]) 
     }
 }
 
-// Whether it is so in a window, and the map then has its one pair.
-fn stays(rt: &HostRuntime, map: &mut TreeMap<SliceKey<'_>, usize, 16>) -> Result<bool, Fail> {
-    let put = map.try_insert(SliceKey(&[1, 2]), 7).is_ok();
-    eprintln!(rt; "refuse")?;
-    let refused = is_blocked(map, &[1]);
-    eprintln!(rt;
-        "{}",
-        if refused == Some(true) {
-            "refused"
-        } else {
-            "ok"
-        }
-    )?;
-    let kept = map.len() == 1 && map.get(&SliceKey(&[1, 2])) == Some(&7);
-    Ok(put && kept && refused.is_some() && is_blocked(map, &[1]) == Some(false))
+// It is so in a window, and the map then has its one pair.
+struct Blocked;
+
+impl Shows<Slices> for Blocked {
+    fn shows(&self, rt: &HostRuntime, map: &mut Slices) -> bool {
+        let put = is_put(map, SliceKey(&[1, 2]), 7);
+        let is_open = is_opened(rt);
+        let refused = is_blocked(map, &[1]);
+        let is_told = is_closed(rt, refused == Some(true));
+        put && is_open
+            && is_told
+            && map.len() == 1
+            && map.get(&SliceKey(&[1, 2])) == Some(&7)
+            && refused.is_some()
+            && is_blocked(map, &[1]) == Some(false)
+    }
 }
 
 #[test]
-fn a_blocked_entry(rt: HostRuntime) -> Result<(), Fail> {
-    let mut map: TreeMap<SliceKey<'_>, usize, 16> = TreeMap::new(rt.alloc());
-    assert!(rt; stays(&rt, &mut map)?);
-    Ok(())
+fn a_blocked_entry(rt: HostRuntime) {
+    assert!(rt; holds_at_16(&rt, &Blocked));
 }

@@ -1,5 +1,6 @@
 //! A row from outside: what the calls of an entry and of a prefix entry lend, or have in the entry that they answer, of
 //! six keys of which the first two are stored. The keys are texts that a zero ends.
+use crate::maps::{Shows, holds_at_0, holds_at_4, holds_at_16, is_put};
 use crate::seen::has_values;
 use art_bytes::AsBytes;
 use art_map::TreeMap;
@@ -121,36 +122,46 @@ fn value_by<const PREFIX_LEN: usize>(
     }
 }
 
-// Whether the row holds, by each way to a value.
-fn is_the_row<const PREFIX_LEN: usize>(map: &mut TreeMap<[u8; 2], usize, PREFIX_LEN>) -> bool {
-    for way in [
-        Way::Entry,
-        Way::PrefixEntry,
-        Way::EntryAnswered,
-        Way::PrefixEntryAnswered,
-    ] {
-        map.clear();
-        if map.insert(*b"a\0", 1).is_err() || map.insert(*b"b\0", 2).is_err() {
-            return false;
-        }
-        for (key, given, wanted) in ROW {
-            if value_by(map, way, key, given) != Some(wanted) {
-                return false;
-            }
-        }
-        if !has_values(map, &[1, 2, 13, 0, 14, 2]) {
+const WAYS: [Way; 4] = [
+    Way::Entry,
+    Way::PrefixEntry,
+    Way::EntryAnswered,
+    Way::PrefixEntryAnswered,
+];
+
+// Whether the row holds by a way to a value.
+fn is_the_row<const PREFIX_LEN: usize>(
+    map: &mut TreeMap<[u8; 2], usize, PREFIX_LEN>,
+    way: Way,
+) -> bool {
+    map.clear();
+    if !is_put(map, *b"a\0", 1) || !is_put(map, *b"b\0", 2) {
+        return false;
+    }
+    for (key, given, wanted) in ROW {
+        if value_by(map, way, key, given) != Some(wanted) {
             return false;
         }
     }
-    true
+    has_values(map, &[1, 2, 13, 0, 14, 2])
+}
+
+struct TheRow;
+
+impl<const PREFIX_LEN: usize> Shows<TreeMap<[u8; 2], usize, PREFIX_LEN>> for TheRow {
+    fn shows(&self, _rt: &HostRuntime, map: &mut TreeMap<[u8; 2], usize, PREFIX_LEN>) -> bool {
+        for way in WAYS {
+            if !is_the_row(map, way) {
+                return false;
+            }
+        }
+        true
+    }
 }
 
 #[test]
 fn six_keys_of_which_two_are_stored(rt: HostRuntime) {
-    let mut map: TreeMap<[u8; 2], usize, 0> = TreeMap::with_prefix_len(rt.alloc());
-    assert!(rt; is_the_row(&mut map));
-    let mut map: TreeMap<[u8; 2], usize, 4> = TreeMap::with_prefix_len(rt.alloc());
-    assert!(rt; is_the_row(&mut map));
-    let mut map: TreeMap<[u8; 2], usize, 16> = TreeMap::with_prefix_len(rt.alloc());
-    assert!(rt; is_the_row(&mut map));
+    assert!(rt; holds_at_0(&rt, &TheRow));
+    assert!(rt; holds_at_4(&rt, &TheRow));
+    assert!(rt; holds_at_16(&rt, &TheRow));
 }

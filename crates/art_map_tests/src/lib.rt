@@ -12,6 +12,8 @@ mod entries;
 mod entries_refused;
 #[cfg(test)]
 mod entry_rows;
+#[cfg(test)]
+mod maps;
 pub mod nodes;
 #[cfg(test)]
 mod prefix_entries;

@@ -1,12 +1,15 @@
 //! Prefix entries: each kind of entry, what its calls lend and put in, and the pairs that an insertion removes. The
 //! keys own their bytes: the borrow checker does not cover a match on a prefix entry whose key holds a reference.
 
-use crate::refused::each_lends_over;
+use crate::maps::{Shows, holds_at_0, holds_at_4, holds_at_16, is_put, key_of_text};
+use crate::refused::EachCall;
 use crate::seen::{has_values, is_tree};
 use art_bytes::StrKey;
 use art_map::{PrefixEntry, PrefixOccupiedKind, TreeMap};
 use art_walks::SubtreeIter;
 use std::alloc::{AllocError, Global};
+
+type Texts<const PREFIX_LEN: usize> = TreeMap<Vec<u8>, usize, PREFIX_LEN>;
 
 // Whether the values of a walk are these, from the front.
 fn walks<K, const PREFIX_LEN: usize>(
@@ -37,8 +40,8 @@ fn walks_back<K, const PREFIX_LEN: usize>(
 }
 
 // Whether the entry of a key in conflict shows what an insertion would remove.
-fn shows<const PREFIX_LEN: usize>(
-    map: &mut TreeMap<Vec<u8>, usize, PREFIX_LEN>,
+fn would_remove<const PREFIX_LEN: usize>(
+    map: &mut Texts<PREFIX_LEN>,
     key: Vec<u8>,
     wanted: &[usize],
 ) -> bool {
@@ -57,11 +60,31 @@ fn shows<const PREFIX_LEN: usize>(
     }
 }
 
-// The value that is lent where a key takes the place of those that it is a front of.
-fn put_over<const PREFIX_LEN: usize>(
-    map: &mut TreeMap<Vec<u8>, usize, PREFIX_LEN>,
+// Whether the lone pair that a key overlaps is lent with its stored key, and has the value that was written.
+fn writes_lone<const PREFIX_LEN: usize>(
+    map: &mut Texts<PREFIX_LEN>,
     key: Vec<u8>,
-) -> Option<usize> {
+    stored: &[u8],
+    value: usize,
+) -> bool {
+    match map.prefix_entry(key) {
+        PrefixEntry::Occupied(entry) => match entry.kind() {
+            PrefixOccupiedKind::Inner(mut entry) => {
+                if entry.get().is_none() {
+                    return false;
+                }
+                let pair = entry.lone_pair_mut();
+                *pair.value = value;
+                pair.key.as_slice() == stored && entry.get() == Some(&value)
+            }
+            PrefixOccupiedKind::Leaf(_) => false,
+        },
+        PrefixEntry::Vacant(_) => false,
+    }
+}
+
+// The value that is lent where a key takes the place of those that it is a front of.
+fn put_over<const PREFIX_LEN: usize>(map: &mut Texts<PREFIX_LEN>, key: Vec<u8>) -> Option<usize> {
     match map.prefix_entry(key) {
         PrefixEntry::Occupied(entry) => match entry.kind() {
             PrefixOccupiedKind::Inner(entry) => match entry.insert(7) {
@@ -74,61 +97,64 @@ fn put_over<const PREFIX_LEN: usize>(
     }
 }
 
-// Puts texts in, each with its number.
-fn put_texts<const PREFIX_LEN: usize>(
+// Whether texts go in, each with its number.
+fn are_put<const PREFIX_LEN: usize>(
     alloc: Global,
-    map: &mut TreeMap<Vec<u8>, usize, PREFIX_LEN>,
+    map: &mut Texts<PREFIX_LEN>,
     texts: &[&[u8]],
-) -> Result<(), AllocError> {
+) -> bool {
     for value in 0..texts.len() {
-        if map.try_insert(texts[value].to_vec(alloc)?, value).is_err() {
-            return Err(AllocError);
+        if !is_put(map, key_of_text(alloc, texts[value]), value) {
+            return false;
         }
     }
-    Ok(())
+    true
 }
 
-fn bytes_give_way<const PREFIX_LEN: usize>(
-    alloc: Global,
-    map: &mut TreeMap<Vec<u8>, usize, PREFIX_LEN>,
-) -> Result<bool, AllocError> {
-    put_texts(alloc, map, &[b"abc", b"abd", b"xyz"])?;
-    if !shows(map, b"ab".to_vec(alloc)?, &[0, 1]) || !shows(map, b"xyza".to_vec(alloc)?, &[2]) {
-        return Ok(false);
+// Bytes that give way to a front of theirs.
+struct Bytes;
+
+impl<const PREFIX_LEN: usize> Shows<Texts<PREFIX_LEN>> for Bytes {
+    fn shows(&self, rt: &HostRuntime, map: &mut Texts<PREFIX_LEN>) -> bool {
+        let alloc = rt.alloc();
+        are_put(alloc, map, &[b"abc", b"abd", b"xyz"])
+            && would_remove(map, key_of_text(alloc, b"ab"), &[0, 1])
+            && would_remove(map, key_of_text(alloc, b"xyza"), &[2])
+            && writes_lone(map, key_of_text(alloc, b"xyza"), b"xyz", 5)
+            && put_over(map, key_of_text(alloc, b"ab")) == Some(7)
+            && has_values(map, &[7, 5])
+            && is_tree(alloc, map)
     }
-    let lent = put_over(map, b"ab".to_vec(alloc)?);
-    Ok(lent == Some(7) && has_values(map, &[7, 2]) && is_tree(alloc, map))
 }
 
-// Whether a greeting takes the place of those that go on behind it, and what stands beside them stays.
-fn greetings_give_way<const PREFIX_LEN: usize>(
-    alloc: Global,
-    map: &mut TreeMap<Vec<u8>, usize, PREFIX_LEN>,
-) -> Result<bool, AllocError> {
-    let texts: [&[u8]; 4] = [
-        b"Hello from Germany",
-        b"Hello from France",
-        b"Hello from Belgium",
-        b"Anyone on Mars?",
-    ];
-    put_texts(alloc, map, &texts)?;
-    if !shows(map, b"Hello from".to_vec(alloc)?, &[2, 1, 0]) {
-        return Ok(false);
+const GREETINGS: [&[u8]; 4] = [
+    b"Hello from Germany",
+    b"Hello from France",
+    b"Hello from Belgium",
+    b"Anyone on Mars?",
+];
+
+// A greeting that takes the place of those that go on behind it; what stands beside them stays.
+struct Greetings;
+
+impl<const PREFIX_LEN: usize> Shows<Texts<PREFIX_LEN>> for Greetings {
+    fn shows(&self, rt: &HostRuntime, map: &mut Texts<PREFIX_LEN>) -> bool {
+        let alloc = rt.alloc();
+        are_put(alloc, map, &GREETINGS)
+            && would_remove(map, key_of_text(alloc, b"Hello from"), &[2, 1, 0])
+            && put_over(map, key_of_text(alloc, b"Hello from")) == Some(7)
+            && map.len() == 2
+            && has_values(map, &[3, 7])
+            && is_tree(alloc, map)
     }
-    let lent = put_over(map, b"Hello from".to_vec(alloc)?);
-    Ok(lent == Some(7) && map.len() == 2 && has_values(map, &[3, 7]) && is_tree(alloc, map))
 }
 
 #[test]
 fn a_front_is_put_in_and_lent(rt: HostRuntime) {
-    let mut map: TreeMap<Vec<u8>, usize, 0> = TreeMap::with_prefix_len(rt.alloc());
-    assert!(rt; matches!(bytes_give_way(rt.alloc(), &mut map), Ok(true)));
-    map.clear();
-    assert!(rt; matches!(greetings_give_way(rt.alloc(), &mut map), Ok(true)));
-    let mut map: TreeMap<Vec<u8>, usize, 4> = TreeMap::with_prefix_len(rt.alloc());
-    assert!(rt; matches!(greetings_give_way(rt.alloc(), &mut map), Ok(true)));
-    let mut map: TreeMap<Vec<u8>, usize, 16> = TreeMap::with_prefix_len(rt.alloc());
-    assert!(rt; matches!(greetings_give_way(rt.alloc(), &mut map), Ok(true)));
+    assert!(rt; holds_at_0(&rt, &Bytes));
+    assert!(rt; holds_at_0(&rt, &Greetings));
+    assert!(rt; holds_at_4(&rt, &Greetings));
+    assert!(rt; holds_at_16(&rt, &Greetings));
 }
 
 // The value that the entry of a key has once it is put in.
@@ -145,47 +171,43 @@ fn put_in<const PREFIX_LEN: usize>(
     )
 }
 
-// Whether two texts get new values, and then a front of the first takes that pair's place.
-fn texts_are_put_over<const PREFIX_LEN: usize>(
-    alloc: Global,
-    map: &mut TreeMap<Vec<u8>, usize, PREFIX_LEN>,
-) -> Result<bool, AllocError> {
-    put_texts(alloc, map, &[b"abb", b"b"])?;
-    Ok(
-        put_in(map, b"abb".to_vec(alloc)?, 11)? == 11
-            && put_in(map, b"b".to_vec(alloc)?, 22)? == 22
+// Two texts that get new values; then a front of the first takes that pair's place.
+struct PutOver;
+
+impl<const PREFIX_LEN: usize> Shows<Texts<PREFIX_LEN>> for PutOver {
+    fn shows(&self, rt: &HostRuntime, map: &mut Texts<PREFIX_LEN>) -> bool {
+        let alloc = rt.alloc();
+        are_put(alloc, map, &[b"abb", b"b"])
+            && matches!(put_in(map, key_of_text(alloc, b"abb"), 11), Ok(11))
+            && matches!(put_in(map, key_of_text(alloc, b"b"), 22), Ok(22))
             && has_values(map, &[11, 22])
-            && put_in(map, b"ab".to_vec(alloc)?, 33)? == 33
+            && matches!(put_in(map, key_of_text(alloc, b"ab"), 33), Ok(33))
             && map.get(&StrKey("abb")).is_none()
             && map.get(&StrKey("b")) == Some(&22)
             && map.get(&StrKey("ab")) == Some(&33)
             && has_values(map, &[33, 22])
-            && is_tree(alloc, map),
-    )
+            && is_tree(alloc, map)
+    }
 }
 
 #[test]
 fn a_front_takes_the_place_of_a_text(rt: HostRuntime) {
-    let mut map: TreeMap<Vec<u8>, usize, 0> = TreeMap::with_prefix_len(rt.alloc());
-    assert!(rt; matches!(texts_are_put_over(rt.alloc(), &mut map), Ok(true)));
-    let mut map: TreeMap<Vec<u8>, usize, 4> = TreeMap::with_prefix_len(rt.alloc());
-    assert!(rt; matches!(texts_are_put_over(rt.alloc(), &mut map), Ok(true)));
-    let mut map: TreeMap<Vec<u8>, usize, 16> = TreeMap::with_prefix_len(rt.alloc());
-    assert!(rt; matches!(texts_are_put_over(rt.alloc(), &mut map), Ok(true)));
+    assert!(rt; holds_at_0(&rt, &PutOver));
+    assert!(rt; holds_at_4(&rt, &PutOver));
+    assert!(rt; holds_at_16(&rt, &PutOver));
 }
 
 #[test]
 fn a_prefix_entry_lends_its_value(rt: HostRuntime) {
-    let mut map: TreeMap<Vec<u8>, usize, 0> = TreeMap::with_prefix_len(rt.alloc());
-    assert!(rt; matches!(each_lends_over(rt.alloc(), &mut map), Ok(true)));
-    let mut map: TreeMap<Vec<u8>, usize, 4> = TreeMap::with_prefix_len(rt.alloc());
-    assert!(rt; matches!(each_lends_over(rt.alloc(), &mut map), Ok(true)));
-    let mut map: TreeMap<Vec<u8>, usize, 16> = TreeMap::with_prefix_len(rt.alloc());
-    assert!(rt; matches!(each_lends_over(rt.alloc(), &mut map), Ok(true)));
+    assert!(rt; holds_at_0::<Vec<u8>, usize, EachCall>(&rt, &EachCall));
+    assert!(rt; holds_at_4::<Vec<u8>, usize, EachCall>(&rt, &EachCall));
+    assert!(rt; holds_at_16::<Vec<u8>, usize, EachCall>(&rt, &EachCall));
 }
 
+type Pairs = TreeMap<[u8; 2], usize, 16>;
+
 // Whether another key is vacant.
-fn is_vacant(map: &mut TreeMap<[u8; 2], usize, 16>, wanted: [u8; 2]) -> bool {
+fn is_vacant(map: &mut Pairs, wanted: [u8; 2]) -> bool {
     match map.prefix_entry(wanted) {
         PrefixEntry::Vacant(entry) => *entry.key() == wanted,
         PrefixEntry::Occupied(_) => false,
@@ -193,7 +215,7 @@ fn is_vacant(map: &mut TreeMap<[u8; 2], usize, 16>, wanted: [u8; 2]) -> bool {
 }
 
 // Whether a stored key is a leaf, which shows its pair, and is set.
-fn a_stored_key_is_a_leaf(map: &mut TreeMap<[u8; 2], usize, 16>, wanted: [u8; 2]) -> bool {
+fn a_stored_key_is_a_leaf(map: &mut Pairs, wanted: [u8; 2]) -> bool {
     match map.prefix_entry(wanted) {
         PrefixEntry::Occupied(entry) => {
             let shown = *entry.key() == wanted && entry.get() == Some(&1);
@@ -206,17 +228,25 @@ fn a_stored_key_is_a_leaf(map: &mut TreeMap<[u8; 2], usize, 16>, wanted: [u8; 2]
     }
 }
 
+struct SetByItsLeaf;
+
+impl Shows<Pairs> for SetByItsLeaf {
+    fn shows(&self, _rt: &HostRuntime, map: &mut Pairs) -> bool {
+        is_put(map, [1, 2], 1)
+            && a_stored_key_is_a_leaf(map, [1, 2])
+            && map.get(&[1, 2]) == Some(&5)
+            && is_vacant(map, [1, 3])
+            && !is_vacant(map, [1, 2])
+    }
+}
+
 #[test]
 fn a_stored_key_is_set(rt: HostRuntime) {
-    let mut map: TreeMap<[u8; 2], usize, 16> = TreeMap::new(rt.alloc());
-    assert!(rt; map.insert([1, 2], 1).is_ok());
-    assert!(rt; a_stored_key_is_a_leaf(&mut map, [1, 2]));
-    assert!(rt; map.get(&[1, 2]) == Some(&5));
-    assert!(rt; is_vacant(&mut map, [1, 3]) && !is_vacant(&mut map, [1, 2]));
+    assert!(rt; holds_at_16(&rt, &SetByItsLeaf));
 }
 
 // Whether an occupied entry is set, by the entry that it answers.
-fn sets_occupied(map: &mut TreeMap<[u8; 2], usize, 16>, wanted: [u8; 2], value: usize) -> bool {
+fn sets_occupied(map: &mut Pairs, wanted: [u8; 2], value: usize) -> bool {
     match map.prefix_entry(wanted) {
         PrefixEntry::Occupied(entry) => match entry.insert_entry(value) {
             Ok(set) => *set.get() == value && *set.key() == wanted,
@@ -226,12 +256,21 @@ fn sets_occupied(map: &mut TreeMap<[u8; 2], usize, 16>, wanted: [u8; 2], value: 
     }
 }
 
+struct SetByItsEntry;
+
+impl Shows<Pairs> for SetByItsEntry {
+    fn shows(&self, rt: &HostRuntime, map: &mut Pairs) -> bool {
+        is_put(map, [1, 2], 1)
+            && sets_occupied(map, [1, 2], 2)
+            && map.get(&[1, 2]) == Some(&2)
+            && map.len() == 1
+            && !sets_occupied(map, [1, 3], 3)
+            && map.len() == 1
+            && is_tree(rt.alloc(), map)
+    }
+}
+
 #[test]
 fn an_occupied_entry_is_set(rt: HostRuntime) {
-    let mut map: TreeMap<[u8; 2], usize, 16> = TreeMap::new(rt.alloc());
-    assert!(rt; map.insert([1, 2], 1).is_ok());
-    assert!(rt; sets_occupied(&mut map, [1, 2], 2));
-    assert!(rt; map.get(&[1, 2]) == Some(&2) && map.len() == 1);
-    assert!(rt; !sets_occupied(&mut map, [1, 3], 3));
-    assert!(rt; map.len() == 1 && is_tree(rt.alloc(), &map));
+    assert!(rt; holds_at_16(&rt, &SetByItsEntry));
 }

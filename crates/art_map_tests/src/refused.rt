@@ -1,12 +1,12 @@
 //! The calls of entries that put a pair in: what they lend, and where memory is refused, what they hand back, and that
 //! the map is as it was. The runner refuses memory between the two lines of a window.
 
+use crate::maps::{Shows, is_put, key_of_text};
 use crate::seen::{has_values, is_tree};
 use art_bytes::AsBytes;
 use art_map::TreeMap;
 use art_operations::InsertRefused;
-use std::alloc::{AllocError, Global};
-use std::test::Fail;
+use std::alloc::Global;
 
 /// The calls of an entry that put its key in where it is vacant.
 #[derive(Clone, Copy)]
@@ -179,58 +179,94 @@ pub(crate) fn put_over<const PREFIX_LEN: usize>(
     }
 }
 
-/// Whether each call of an entry lends the value of a stored key, or sets it, and puts its own in under a new one.
-pub(crate) fn each_lends<const PREFIX_LEN: usize>(
+// Whether a call of an entry lends the value of a stored key, or sets it, and puts its own in under a new one.
+fn lends<const PREFIX_LEN: usize>(
     alloc: Global,
     map: &mut TreeMap<[u8; 5], usize, PREFIX_LEN>,
+    call: Call,
 ) -> bool {
-    for call in CALLS {
-        map.clear();
-        if map.insert(*b"a....", 1).is_err() || map.insert(*b"b....", 2).is_err() {
-            return false;
-        }
-        let kept = if call.is_setting() { 1000 } else { 2 };
-        let new = call.value(5);
-        if put(map, *b"b....", call).ok() != Some(kept)
-            || put(map, *b"c....", call).ok() != Some(new)
-            || !has_values(map, &[1, kept, new])
-            || !is_tree(alloc, map)
-        {
-            return false;
-        }
-    }
-    true
+    let kept = if call.is_setting() { 1000 } else { 2 };
+    let new = call.value(5);
+    map.clear();
+    is_put(map, *b"a....", 1)
+        && is_put(map, *b"b....", 2)
+        && put(map, *b"b....", call).ok() == Some(kept)
+        && put(map, *b"c....", call).ok() == Some(new)
+        && has_values(map, &[1, kept, new])
+        && is_tree(alloc, map)
 }
 
-/// The same of a prefix entry.
-pub(crate) fn each_lends_over<const PREFIX_LEN: usize>(
+/// Each call of an entry.
+pub(crate) struct EachCall;
+
+impl<const PREFIX_LEN: usize> Shows<TreeMap<[u8; 5], usize, PREFIX_LEN>> for EachCall {
+    fn shows(&self, rt: &HostRuntime, map: &mut TreeMap<[u8; 5], usize, PREFIX_LEN>) -> bool {
+        for call in CALLS {
+            if !lends(rt.alloc(), map, call) {
+                return false;
+            }
+        }
+        true
+    }
+}
+
+// The same of a call of a prefix entry.
+fn lends_over<const PREFIX_LEN: usize>(
     alloc: Global,
     map: &mut TreeMap<Vec<u8>, usize, PREFIX_LEN>,
-) -> Result<bool, AllocError> {
-    for call in CALLS {
-        map.clear();
-        if map.try_insert(b"a.".to_vec(alloc)?, 1).is_err()
-            || map.try_insert(b"b.".to_vec(alloc)?, 2).is_err()
-        {
-            return Err(AllocError);
+    call: Call,
+) -> bool {
+    let kept = if call.is_setting() { 1000 } else { 2 };
+    let new = call.value(2);
+    map.clear();
+    is_put(map, key_of_text(alloc, b"a."), 1)
+        && is_put(map, key_of_text(alloc, b"b."), 2)
+        && put_over(map, key_of_text(alloc, b"b."), call).ok() == Some(kept)
+        && put_over(map, key_of_text(alloc, b"c."), call).ok() == Some(new)
+        && has_values(map, &[1, kept, new])
+        && is_tree(alloc, map)
+}
+
+impl<const PREFIX_LEN: usize> Shows<TreeMap<Vec<u8>, usize, PREFIX_LEN>> for EachCall {
+    fn shows(&self, rt: &HostRuntime, map: &mut TreeMap<Vec<u8>, usize, PREFIX_LEN>) -> bool {
+        for call in CALLS {
+            if !lends_over(rt.alloc(), map, call) {
+                return false;
+            }
         }
-        let kept = if call.is_setting() { 1000 } else { 2 };
-        let new = call.value(2);
-        if put_over(map, b"b.".to_vec(alloc)?, call).ok() != Some(kept)
-            || put_over(map, b"c.".to_vec(alloc)?, call).ok() != Some(new)
-            || !has_values(map, &[1, kept, new])
-            || !is_tree(alloc, map)
-        {
-            return Ok(false);
-        }
+        true
     }
-    Ok(true)
 }
 
 /// A call of a key's entry.
 pub(crate) trait Puts<K: AsBytes> {
     /// The pair that is handed back where the call is refused.
     fn put(&self, map: &mut TreeMap<K, usize, 1>, key: K) -> Option<InsertRefused<K, usize>>;
+}
+
+/// Opens a window, in which the runner may refuse memory: whether that could be told.
+pub(crate) fn is_opened(rt: &HostRuntime) -> bool {
+    eprintln!(rt; "refuse").is_ok()
+}
+
+/// Closes it, and tells whether a call in it was refused: whether that could be told.
+pub(crate) fn is_closed(rt: &HostRuntime, is_refused: bool) -> bool {
+    eprintln!(rt; "{}", if is_refused { "refused" } else { "ok" }).is_ok()
+}
+
+// Whether a refused call hands its pair back, leaves a map of these values as it was, and is not refused once more.
+fn is_as_it_was<K: AsBytes + Drop, C: Puts<K>>(
+    alloc: Global,
+    map: &mut TreeMap<K, usize, 1>,
+    call: &C,
+    refused: InsertRefused<K, usize>,
+    bytes: &[u8],
+    before: &[usize],
+) -> bool {
+    let is_back = refused.key.as_bytes() == bytes;
+    let is_unchanged = has_values(map, before) && is_tree(alloc, map);
+    let is_put = call.put(map, refused.key).is_none();
+    is_back && is_unchanged && is_put
 }
 
 /// Whether a call in a window is refused, hands its pair back, and leaves a map of these values as it was, and is not
@@ -242,16 +278,13 @@ pub(crate) fn is_kept<K: AsBytes + Drop, C: Puts<K>>(
     key: K,
     bytes: &[u8],
     before: &[usize],
-) -> Result<bool, Fail> {
-    eprintln!(rt; "refuse")?;
+) -> bool {
+    let is_open = is_opened(rt);
     let refused = call.put(map, key);
-    eprintln!(rt; "{}", if refused.is_some() { "refused" } else { "ok" })?;
-    match refused {
-        Some(refused) => {
-            let is_back = refused.key.as_bytes() == bytes;
-            let is_as_it_was = has_values(map, before) && is_tree(rt.alloc(), map);
-            Ok(is_back && is_as_it_was && call.put(map, refused.key).is_none())
-        }
-        None => Ok(true),
-    }
+    let is_told = is_closed(rt, refused.is_some());
+    let is_kept = match refused {
+        Some(refused) => is_as_it_was(rt.alloc(), map, call, refused, bytes, before),
+        None => true,
+    };
+    is_open && is_told && is_kept
 }

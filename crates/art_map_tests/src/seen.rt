@@ -26,20 +26,5 @@ pub fn has_values<K: AsBytes, const PREFIX_LEN: usize>(
     map: &TreeMap<K, usize, PREFIX_LEN>,
     wanted: &[usize],
 ) -> bool {
-    let mut values = map.values();
-    for value in wanted {
-        if values.next() != Some(value) {
-            return false;
-        }
-    }
-    if values.next().is_some() {
-        return false;
-    }
-    let mut values = map.values();
-    for value in wanted.iter().rev() {
-        if values.next_back() != Some(value) {
-            return false;
-        }
-    }
-    values.next_back().is_none()
+    map.values().eq(wanted.iter()) && map.values().rev().eq(wanted.iter().rev())
 }

@@ -1,6 +1,6 @@
 //! Extraction where memory is refused: it ends, and the pair stays in the map. Walks that take no memory.
 
-use art_map::Extraction;
+use art_map::{Extraction, IterMut, RangeMut};
 use art_map_tests::nodes::{Map, fill, key_of};
 use art_map_tests::seen::{has_values, is_tree};
 use art_walks::bounds_are_valid;
@@ -238,14 +238,20 @@ fn shares(map: &Map, from: &[u8; 5]) -> bool {
         && behind.next_back().is_none()
 }
 
+// Whether a walk between two bounds lends a value at each end.
+fn lends_between(range: &mut RangeMut<'_, [u8; 5], usize, 1>) -> bool {
+    range.next().is_some() && range.next_back().is_some()
+}
+
+// Whether a walk over all pairs lends a value at each end.
+fn lends_all(all: &mut IterMut<'_, [u8; 5], usize, 1>) -> bool {
+    all.next().is_some() && all.next_back().is_some()
+}
+
 // Whether each walk that lends values for writing has one at each end.
 fn lends(map: &mut Map, from: &[u8; 5]) -> bool {
-    let mut range = map.range_mut(Bound::Included(from), Bound::Unbounded);
-    if range.next().is_none() || range.next_back().is_none() {
-        return false;
-    }
-    let mut all = map.iter_mut();
-    all.next().is_some() && all.next_back().is_some()
+    lends_between(&mut map.range_mut(Bound::Included(from), Bound::Unbounded))
+        && lends_all(&mut map.iter_mut())
 }
 
 // Whether the pairs at both ends of an extraction are lent, and stay.

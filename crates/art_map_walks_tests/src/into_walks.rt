@@ -1,45 +1,19 @@
 //! Walks that own their pairs: from either end in any mixture against a list, and what they drop. A map is made
 //! and used up by functions of one way out, and the walk is lent to the others.
-use crate::small_maps::{KEYS, MIXTURES, Walk, choose, has_steps, number_of};
+use crate::keys_and_values::{fill_by_keys, has_pairs};
+use crate::small_maps::{KEYS, MIXTURES, choose};
 use art_map::TreeMap;
 use std::alloc::{AllocError, Global};
 use std::rc::Rc;
 use std::test::Fail;
 
-// The value under a key.
-fn value_of(key: [u8; 2]) -> u8 {
-    key[0].wrapping_mul(16).wrapping_add(key[1])
-}
-
-fn fill<const PREFIX_LEN: usize>(
-    map: &mut TreeMap<[u8; 2], u8, PREFIX_LEN>,
-    keys: &[[u8; 2]],
-) -> bool {
-    for key in keys {
-        if map.insert(*key, value_of(*key)).is_err() {
-            return false;
-        }
-    }
-    true
-}
-
-// Whether a walk has these keys, each with its value.
-fn owns<W: Walk>(walk: &mut W, keys: &[[u8; 2]], mixture: u32) -> bool {
-    let mut values = [0u8; 9];
-    if !has_steps(walk, mixture, keys, &mut values) {
-        return false;
-    }
-    for key in keys {
-        if values.get(number_of(key)) != Some(&value_of(*key)) {
-            return false;
-        }
-    }
-    true
-}
-
-// A map that is filled and used up by a mixture of steps.
+// Maps that are filled and used up by a mixture of steps: their pairs, their keys and their values.
 trait Steps {
-    fn agree(alloc: Global, keys: &[[u8; 2]], mixture: u32) -> bool;
+    fn pairs_agree(alloc: Global, keys: &[[u8; 2]], mixture: u32) -> bool;
+
+    fn keys_agree(alloc: Global, keys: &[[u8; 2]], mixture: u32) -> bool;
+
+    fn values_agree(alloc: Global, keys: &[[u8; 2]], mixture: u32) -> bool;
 }
 
 struct Stores0;
@@ -49,29 +23,71 @@ struct Stores4;
 struct Stores16;
 
 impl Steps for Stores0 {
-    fn agree(alloc: Global, keys: &[[u8; 2]], mixture: u32) -> bool {
+    fn pairs_agree(alloc: Global, keys: &[[u8; 2]], mixture: u32) -> bool {
         let mut map: TreeMap<[u8; 2], u8, 0> = TreeMap::with_prefix_len(alloc);
-        let is_filled = fill(&mut map, keys);
+        let is_filled = fill_by_keys(&mut map, keys);
         let mut walk = map.into_iter();
-        is_filled && owns(&mut walk, keys, mixture)
+        is_filled && has_pairs(&mut walk, keys, mixture)
+    }
+
+    fn keys_agree(alloc: Global, keys: &[[u8; 2]], mixture: u32) -> bool {
+        let mut map: TreeMap<[u8; 2], u8, 0> = TreeMap::with_prefix_len(alloc);
+        let is_filled = fill_by_keys(&mut map, keys);
+        let mut walk = map.into_keys();
+        is_filled && has_pairs(&mut walk, keys, mixture)
+    }
+
+    fn values_agree(alloc: Global, keys: &[[u8; 2]], mixture: u32) -> bool {
+        let mut map: TreeMap<[u8; 2], u8, 0> = TreeMap::with_prefix_len(alloc);
+        let is_filled = fill_by_keys(&mut map, keys);
+        let mut walk = map.into_values();
+        is_filled && has_pairs(&mut walk, keys, mixture)
     }
 }
 
 impl Steps for Stores4 {
-    fn agree(alloc: Global, keys: &[[u8; 2]], mixture: u32) -> bool {
+    fn pairs_agree(alloc: Global, keys: &[[u8; 2]], mixture: u32) -> bool {
         let mut map: TreeMap<[u8; 2], u8, 4> = TreeMap::with_prefix_len(alloc);
-        let is_filled = fill(&mut map, keys);
+        let is_filled = fill_by_keys(&mut map, keys);
         let mut walk = map.into_iter();
-        is_filled && owns(&mut walk, keys, mixture)
+        is_filled && has_pairs(&mut walk, keys, mixture)
+    }
+
+    fn keys_agree(alloc: Global, keys: &[[u8; 2]], mixture: u32) -> bool {
+        let mut map: TreeMap<[u8; 2], u8, 4> = TreeMap::with_prefix_len(alloc);
+        let is_filled = fill_by_keys(&mut map, keys);
+        let mut walk = map.into_keys();
+        is_filled && has_pairs(&mut walk, keys, mixture)
+    }
+
+    fn values_agree(alloc: Global, keys: &[[u8; 2]], mixture: u32) -> bool {
+        let mut map: TreeMap<[u8; 2], u8, 4> = TreeMap::with_prefix_len(alloc);
+        let is_filled = fill_by_keys(&mut map, keys);
+        let mut walk = map.into_values();
+        is_filled && has_pairs(&mut walk, keys, mixture)
     }
 }
 
 impl Steps for Stores16 {
-    fn agree(alloc: Global, keys: &[[u8; 2]], mixture: u32) -> bool {
+    fn pairs_agree(alloc: Global, keys: &[[u8; 2]], mixture: u32) -> bool {
         let mut map: TreeMap<[u8; 2], u8, 16> = TreeMap::with_prefix_len(alloc);
-        let is_filled = fill(&mut map, keys);
+        let is_filled = fill_by_keys(&mut map, keys);
         let mut walk = map.into_iter();
-        is_filled && owns(&mut walk, keys, mixture)
+        is_filled && has_pairs(&mut walk, keys, mixture)
+    }
+
+    fn keys_agree(alloc: Global, keys: &[[u8; 2]], mixture: u32) -> bool {
+        let mut map: TreeMap<[u8; 2], u8, 16> = TreeMap::with_prefix_len(alloc);
+        let is_filled = fill_by_keys(&mut map, keys);
+        let mut walk = map.into_keys();
+        is_filled && has_pairs(&mut walk, keys, mixture)
+    }
+
+    fn values_agree(alloc: Global, keys: &[[u8; 2]], mixture: u32) -> bool {
+        let mut map: TreeMap<[u8; 2], u8, 16> = TreeMap::with_prefix_len(alloc);
+        let is_filled = fill_by_keys(&mut map, keys);
+        let mut walk = map.into_values();
+        is_filled && has_pairs(&mut walk, keys, mixture)
     }
 }
 
@@ -84,7 +100,10 @@ fn all_agree<S: Steps>(alloc: Global) -> Result<bool, AllocError> {
         }
         choose(&mut keys, chosen)?;
         for mixture in 32..MIXTURES[keys.len().min(4)] {
-            if !S::agree(alloc, keys.as_slice(), mixture) {
+            if !S::pairs_agree(alloc, keys.as_slice(), mixture)
+                || !S::keys_agree(alloc, keys.as_slice(), mixture)
+                || !S::values_agree(alloc, keys.as_slice(), mixture)
+            {
                 return Ok(false);
             }
         }
@@ -110,7 +129,7 @@ fn every_mixture_of_ends_of_small_maps_16(rt: HostRuntime) {
 #[test]
 fn eight_keys_are_six_after_one_from_each_end(rt: HostRuntime) {
     let mut map: TreeMap<[u8; 2], u8, 16> = TreeMap::new(rt.alloc());
-    assert!(rt; fill(&mut map, &KEYS[..8]));
+    assert!(rt; fill_by_keys(&mut map, &KEYS[..8]));
     let mut walk = map.into_iter();
     assert_eq!(rt; walk.len(), 8);
     assert!(rt; walk.next() == Some(([1, 1], 17)));
@@ -121,7 +140,7 @@ fn eight_keys_are_six_after_one_from_each_end(rt: HostRuntime) {
 #[test]
 fn keys_are_given_away(rt: HostRuntime) {
     let mut map: TreeMap<[u8; 2], u8, 16> = TreeMap::new(rt.alloc());
-    assert!(rt; fill(&mut map, &KEYS[..3]));
+    assert!(rt; fill_by_keys(&mut map, &KEYS[..3]));
     let mut keys = map.into_keys();
     assert!(rt; keys.len() == 3 && keys.size_hint() == (3, Some(3)));
     assert!(rt; keys.next_back() == Some([1, 5]));
@@ -134,7 +153,7 @@ fn keys_are_given_away(rt: HostRuntime) {
 #[test]
 fn values_are_given_away(rt: HostRuntime) {
     let mut map: TreeMap<[u8; 2], u8, 16> = TreeMap::new(rt.alloc());
-    assert!(rt; fill(&mut map, &KEYS[..3]));
+    assert!(rt; fill_by_keys(&mut map, &KEYS[..3]));
     let mut values = map.into_values();
     assert!(rt; values.len() == 3 && values.size_hint() == (3, Some(3)));
     assert!(rt; values.next() == Some(17));

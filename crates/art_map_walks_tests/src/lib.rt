@@ -11,6 +11,10 @@ mod extraction_rows;
 #[cfg(test)]
 mod into_walks;
 #[cfg(test)]
+mod keys_and_values;
+#[cfg(test)]
+mod picked;
+#[cfg(test)]
 mod ranges;
 #[cfg(test)]
 mod replay;

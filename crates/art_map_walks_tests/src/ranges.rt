@@ -3,9 +3,37 @@
 use art_bytes::{AsBytes, SliceKey, ZeroEnded};
 use art_map::TreeMap;
 use art_map_tests::seen::text;
-use art_walks::bounds_are_valid;
+use art_walks::{Prefix, Range, bounds_are_valid};
 use std::alloc::{AllocError, Global};
 use std::ops::Bound;
+
+// Whether the values behind a prefix are these, from the front.
+fn has_first<K: AsBytes, const PREFIX_LEN: usize>(
+    walk: &mut Prefix<'_, K, usize, PREFIX_LEN>,
+    wanted: &[usize],
+) -> bool {
+    for value in wanted {
+        match walk.next() {
+            Some((_, found)) if *found == *value => {}
+            _ => return false,
+        }
+    }
+    walk.next().is_none() && walk.next_back().is_none()
+}
+
+// The same from the back.
+fn has_last<K: AsBytes, const PREFIX_LEN: usize>(
+    walk: &mut Prefix<'_, K, usize, PREFIX_LEN>,
+    wanted: &[usize],
+) -> bool {
+    for value in wanted.iter().rev() {
+        match walk.next_back() {
+            Some((_, found)) if *found == *value => {}
+            _ => return false,
+        }
+    }
+    walk.next_back().is_none() && walk.next().is_none()
+}
 
 // Whether the values behind a prefix are these, from the front and from the back.
 fn has_behind<K: AsBytes, const PREFIX_LEN: usize>(
@@ -14,17 +42,28 @@ fn has_behind<K: AsBytes, const PREFIX_LEN: usize>(
     wanted: &[usize],
 ) -> bool {
     let query = SliceKey(prefix);
-    let mut walk = map.prefix(&query);
+    has_first(&mut map.prefix(&query), wanted) && has_last(&mut map.prefix(&query), wanted)
+}
+
+// Whether the values between two bounds are these, from the front.
+fn has_lowest<const PREFIX_LEN: usize>(
+    walk: &mut Range<'_, [u8; 3], usize, PREFIX_LEN>,
+    wanted: &[usize],
+) -> bool {
     for value in wanted {
         match walk.next() {
             Some((_, found)) if *found == *value => {}
             _ => return false,
         }
     }
-    if walk.next().is_some() || walk.next_back().is_some() {
-        return false;
-    }
-    let mut walk = map.prefix(&query);
+    walk.next().is_none() && walk.next_back().is_none()
+}
+
+// The same from the back.
+fn has_highest<const PREFIX_LEN: usize>(
+    walk: &mut Range<'_, [u8; 3], usize, PREFIX_LEN>,
+    wanted: &[usize],
+) -> bool {
     for value in wanted.iter().rev() {
         match walk.next_back() {
             Some((_, found)) if *found == *value => {}
@@ -44,24 +83,8 @@ fn has_between<const PREFIX_LEN: usize>(
     if !bounds_are_valid(start, end) {
         return false;
     }
-    let mut walk = map.range(start, end);
-    for value in wanted {
-        match walk.next() {
-            Some((_, found)) if *found == *value => {}
-            _ => return false,
-        }
-    }
-    if walk.next().is_some() || walk.next_back().is_some() {
-        return false;
-    }
-    let mut walk = map.range(start, end);
-    for value in wanted.iter().rev() {
-        match walk.next_back() {
-            Some((_, found)) if *found == *value => {}
-            _ => return false,
-        }
-    }
-    walk.next_back().is_none() && walk.next().is_none()
+    has_lowest(&mut map.range(start, end), wanted)
+        && has_highest(&mut map.range(start, end), wanted)
 }
 
 // Whether six texts lie behind their prefixes.

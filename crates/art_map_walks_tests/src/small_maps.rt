@@ -3,6 +3,8 @@
 //! each step, and the whole map is looked at behind it.
 
 use crate::extraction::all_mixtures_agree;
+use crate::keys_and_values::halves_agree;
+use crate::picked::all_picks_agree;
 use art_bytes::SliceKey;
 use art_map::{IterMut, RangeMut, TreeMap};
 use art_walks::{IntoIter, Iter, Prefix, Range, bounds_are_valid};
@@ -87,8 +89,8 @@ pub(crate) trait Walk {
     fn step(&mut self, is_at_back: bool, value: u8) -> Option<([u8; 2], u8)>;
 }
 
-// A length that is both bounds of the walk's hint; where it isn't, one that no walk has.
-fn counted(len: usize, hint: (usize, Option<usize>)) -> Option<usize> {
+/// A length that is both bounds of the walk's hint; where it isn't, one that no walk has.
+pub(crate) fn counted(len: usize, hint: (usize, Option<usize>)) -> Option<usize> {
     Some(if hint == (len, Some(len)) {
         len
     } else {
@@ -370,6 +372,7 @@ fn ranges_agree<const PREFIX_LEN: usize>(
                 }
             }
             if !range_agrees(map, start, end, between.as_slice(), values)
+                || !all_picks_agree(alloc, map, keys, (start, end), between.as_slice())
                 || !all_mixtures_agree(alloc, map, keys, start, end, between.as_slice())?
                 || !fill(map, keys)
             {
@@ -420,7 +423,8 @@ fn all_agree<const PREFIX_LEN: usize>(
         }
         choose(&mut keys, chosen)?;
         let mut values = [200u8; 9];
-        if !fill(map, keys.as_slice())
+        if !halves_agree(map, keys.as_slice())
+            || !fill(map, keys.as_slice())
             || !whole_agrees(map, keys.as_slice(), &mut values)
             || !prefixes_agree(alloc, map, keys.as_slice(), &mut values)?
             || !ranges_agree(alloc, map, keys.as_slice(), &mut values)?

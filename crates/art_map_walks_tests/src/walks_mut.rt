@@ -1,11 +1,12 @@
 //! Values that a walk lends one at a time, at both ends.
 
 use crate::small_maps::KEYS;
-use art_map::TreeMap;
+use art_map::{TreeMap, ValuesMut};
+
+type Map = TreeMap<[u8; 2], u8, 16>;
 
 // Whether the last of nine values is lent and set, and then the others.
-fn lends_all(map: &mut TreeMap<[u8; 2], u8, 16>) -> bool {
-    let mut values = map.values_mut();
+fn lends_nine(values: &mut ValuesMut<'_, [u8; 2], u8, 16>) -> bool {
     if values.len() != 9 {
         return false;
     }
@@ -20,12 +21,24 @@ fn lends_all(map: &mut TreeMap<[u8; 2], u8, 16>) -> bool {
     values.next_back().is_none() && values.len() == 0
 }
 
+// Puts nine keys in, the value of each its first byte.
+fn put_nine(map: &mut Map) -> bool {
+    for key in KEYS {
+        if map.insert(key, key[0]).is_err() {
+            return false;
+        }
+    }
+    true
+}
+
+fn lends_from_both_ends(map: &mut Map) -> bool {
+    put_nine(map)
+        && lends_nine(&mut map.values_mut())
+        && map.values().eq([2u8, 2, 2, 4, 4, 4, 6, 6, 100].iter())
+}
+
 #[test]
 fn values_are_lent_from_both_ends(rt: HostRuntime) {
-    let mut map: TreeMap<[u8; 2], u8, 16> = TreeMap::new(rt.alloc());
-    for key in KEYS {
-        assert!(rt; map.insert(key, key[0]).is_ok());
-    }
-    assert!(rt; lends_all(&mut map));
-    assert!(rt; map.values().eq([2u8, 2, 2, 4, 4, 4, 6, 6, 100].iter()));
+    let mut map = Map::new(rt.alloc());
+    assert!(rt; lends_from_both_ends(&mut map));
 }

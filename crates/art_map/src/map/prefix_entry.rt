@@ -83,3 +83,14 @@ pub struct InnerOccupiedEntry<
     key: K,
     mark: PhantomData<M>,
 }
+
+/// The only pair that an insertion would remove, its value lent for writing.
+#[derive(Drop)]
+pub struct LonePair<'a, K, V> {
+    /// The stored key.
+    pub key: &'a K,
+    /// Its value.
+    pub value: &'a mut V,
+    // What the contract calls the place of the pair.
+    leaf: LeafPtr,
+}

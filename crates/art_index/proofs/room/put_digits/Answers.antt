@@ -1,13 +1,20 @@
-use Rattle.std.proofs.Common.{arith}
-use Rattle.art_index.proofs.Gathering.{pair_of, digits_none, digits_more, digits_all}
+use Rattle.std.proofs.Common.{◌-◌, ◌%◌, length, sym, arith}
+use Rattle.hex.specs.Hex.{lower_digits}
+use Rattle.hex.proofs.HexLemmas.{length-encode_with}
+use Rattle.art_index.proofs.HexText.{encode_lower-parts}
+use Rattle.art_index.proofs.Gathering.{puts_then, puts_same}
 use Rattle.art_index.proofs.room.put_digits.Goals as goal
 
-pub loop-byte-init : goal.loop-byte-init
-loop-byte-init c = record { place = omega arith; told = digits_none c.args.room.now c.args.value.now c.args.at }
-
-pub loop-byte-preserved : goal.loop-byte-preserved
-loop-byte-preserved c =
-    record { place = omega arith; told = digits_more _ _ _ _ _ _ _ (omega arith) (omega arith) (pair_of _ _ c.from-from.ensures (omega arith)) c.loop-byte.invariant.told }
+pub put_each-requires : goal.put_each-requires
+put_each-requires c =
+    let first = c.put_eights-next.ensures.next_is in
+    let long = length-encode_with lower_digits c.split_at.result.0.now in
+    let front = c.split_at.ensures.front_len in
+    let back = c.split_at.ensures.back_len in
+    omega arith
 
 pub returns : goal.returns
-returns c = digits_all _ _ _ _ _ _ (omega arith) (omega arith) c.loop-byte.invariant.place c.loop-byte.invariant.told
+returns c =
+    let value = c.args.value.now in
+    puts_same _ _ _ _ _ _ (sym (encode_lower-parts (length value - length value % 8) value _ _ c.split_at.ensures.front c.split_at.ensures.back))
+    (puts_then _ _ _ _ _ _ _ _ c.put_eights-next.ensures c.put_each.ensures)

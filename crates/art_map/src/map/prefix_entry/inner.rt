@@ -1,5 +1,5 @@
 //! The methods of `InnerOccupiedEntry`.
-ghost use Rattle.std.specs.Prelude.{◌≡◌, option_copied, option_map, IfOk};
+ghost use Rattle.std.specs.Prelude.{◌≡◌, option_copied, option_map, Some, IfOk, IsSome};
 ghost use Rattle.std.specs.Borrow.{sem};
 ghost use Rattle.std.specs.Map.Iter.{deref_pair_mut};
 ghost use Rattle.std.specs.Option.{option_copied_mut};
@@ -7,7 +7,7 @@ ghost use Rattle.art_operations.specs.Insertions.{HandsPairBack};
 ghost use Rattle.art_map.specs.Contents.{option_value};
 ghost use Rattle.art_map.specs.Overlapped.{lone_item};
 
-use super::InnerOccupiedEntry;
+use super::{InnerOccupiedEntry, LonePair};
 use crate::map::entry::OccupiedEntry;
 use crate::map::walks_mut::SubtreeIterMut;
 use art_bytes::AsBytes;
@@ -16,9 +16,11 @@ use art_walks::SubtreeIter;
 
 impl<'a, K: AsBytes, V, const PREFIX_LEN: usize> InnerOccupiedEntry<'a, K, V, PREFIX_LEN> {
     ghost use Rattle.art_map.specs.Entries.{option_key};
+    ghost use Rattle.art_map.specs.Lends.{with_value_at};
     ghost use Rattle.art_map.specs.LentWalks.{range_rest};
-    ghost use Rattle.art_map.specs.PrefixEntries.{lends_inner, lends_inner_map, lends_lone, inner_rests};
-    ghost use Rattle.art_map.specs.PrefixEntries.{removed_pairs, IsInnerWritten};
+    ghost use Rattle.art_map.specs.PrefixEntries.{lends_from_inner, lends_inner, lends_lone, map_row};
+    ghost use Rattle.art_map.specs.PrefixEntries.{inner_rests, removed_pairs, with_contents, with_lone_value};
+    ghost use Rattle.art_map.specs.PrefixEntries.{IsInnerWritten, IsWithPairs};
 
     /// The key that would go in.
     pub fn key(&self) -> &K
@@ -58,7 +60,7 @@ impl<'a, K: AsBytes, V, const PREFIX_LEN: usize> InnerOccupiedEntry<'a, K, V, PR
     }
 
     /// The stored key, and the value for writing, of the pair that an insertion would remove, if it is one alone.
-    /// The contract says which pair that is, not what the map ends as; that of `get_mut` does.
+    /// The contract says which pair that is, not what the entry ends as; those of `get_mut` and `lone_pair_mut` do.
     pub fn get_key_value_mut(&mut self) -> Option<(&K, &mut V)>
         ensures { option_map deref_pair_mut result ≡ lone_item (removed_pairs K.bytes self.old) }
     {
@@ -66,6 +68,25 @@ impl<'a, K: AsBytes, V, const PREFIX_LEN: usize> InnerOccupiedEntry<'a, K, V, PR
             Some(leaf) => Some(self.map.pair_mut_at(leaf)),
             None => None,
         }
+    }
+
+    /// Lends the pair that an insertion would remove, its value for writing.
+    ///
+    /// It has to be one alone, as `get` tells.
+    pub fn lone_pair_mut(&mut self) -> LonePair<'_, K, V>
+        requires { IsSome (option_value (lone_item (removed_pairs K.bytes self.old))) }
+        ensures* writes_back { sem 𝓛 (lends_from_inner K.row V.row PREFIX_LEN K.AsBytes V.row self.entry result.value
+            (λ w. with_contents self.old (with_value_at self.old.map.now result.leaf w))) }
+        ensures pair { lone_item (removed_pairs K.bytes self.old) ≡ Some (result.key.now, result.value.now) }
+        ensures written { (w : V) → IsWithPairs self.old (with_lone_value K.bytes self.old w)
+            (with_contents self.old (with_value_at self.old.map.now result.leaf w)) }
+    {
+        let leaf = match self.map.lone_over(self.key.as_bytes()) {
+            Some(leaf) => leaf,
+            None => unreachable!(),
+        };
+        let (key, value) = self.map.pair_mut_at(leaf);
+        LonePair { key, value, leaf }
     }
 
     /// The pairs that an insertion would remove, ascending by the bytes of their keys, from either end.
@@ -78,7 +99,8 @@ impl<'a, K: AsBytes, V, const PREFIX_LEN: usize> InnerOccupiedEntry<'a, K, V, PR
     /// The pairs that an insertion would remove, their values lent for writing one at a time, ascending by the bytes of
     /// their keys, from either end.
     pub fn iter_mut(&mut self) -> SubtreeIterMut<'_, K, V, PREFIX_LEN>
-        ensures* writes_back { sem 𝓛 (lends_inner_map K.row V.row PREFIX_LEN K.AsBytes self.entry result.map) }
+        ensures* writes_back { sem 𝓛 (lends_from_inner K.row V.row PREFIX_LEN K.AsBytes
+            (map_row K.row V.row PREFIX_LEN K.AsBytes) self.entry result.map (with_contents self.old)) }
         ensures unchanged { result.map.now ≡ self.old.map.now }
         ensures rest { range_rest result ≡ removed_pairs K.bytes self.old }
     {

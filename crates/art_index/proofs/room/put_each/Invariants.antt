@@ -1,6 +1,6 @@
 use Rattle.std.proofs.Common.{◌≡◌, ◌+◌, ◌*◌, ◌++◌, take}
 use Rattle.hex.specs.Hex.{encode_lower}
-use Rattle.art_index.proofs.room.put_digits.Given as goal
+use Rattle.art_index.proofs.room.put_each.Given as goal
 
 -- the digits of the bytes so far
 abbrev pub invariant-loop-byte : goal.invariant-loop-byte
