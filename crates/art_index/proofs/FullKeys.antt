@@ -1,6 +1,7 @@
 -- Full keys: their order is that of tenants and then keys, and they conflict where one tenant's keys do.
 use Rattle.std.proofs.Common.{◌≡◌, ℕ, zero, suc, [], ◌∷◌, ◌++◌, drop, get_or, take-append-drop, ◌+◌, ◌*◌, ◌/◌, ◌%◌, ◌^◌, ◌<◌, ◌≤◌, List, length, take, refl, ap, sym, ◌∙◌, subst, Bool, true, false, arith, inl, inr}
-use Rattle.std.specs.Prelude.{◌==◌, ◌||◌, ◌&&◌, nat_lt, nat_eq}
+use Rattle.std.specs.Prelude.{◌==◌, ◌||◌, ◌&&◌, nat_lt, nat_eq, map, filter, cond}
+use Rattle.std.specs.List.{AllByRecursion}
 use Rattle.std.specs.declared.cmp.Ordering.{Ordering}
 use Rattle.std.specs.declared.cmp.Ordering.TheVariants.{Less, Equal, Greater}
 use Rattle.std.specs.Ordering.{nat_cmp, is_lt, ordering_then}
@@ -12,10 +13,12 @@ use Rattle.std.proofs.lemmas.Nat.{be_bytes_4}
 use Rattle.art_bytes.specs.Keys.{is_proper_front, conflicts, IsBefore}
 use Rattle.art_bytes.proofs.Order.{cmp_before}
 use Rattle.art_bytes.proofs.Conflicts.{conflict_told}
-use Rattle.art_index.specs.Records.{KeyRecord, KeyComesBefore}
+use Rattle.art_arena.specs.tree.Tenants.{begins_with, with_front}
+use Rattle.art_index.specs.Records.{KeyRecord, KeyComesBefore, KeyFits}
+use Rattle.art_index.specs.Stored.{Pair, IsFull, record_of}
 use Rattle.art_index.proofs.Standing.{cmp_less}
 use Rattle.art_index.specs.Keys.{full_key}
-use Rattle.art_index.specs.Laws.{FullKeysKeepOrder, FullKeysKeepConflicts}
+use Rattle.art_index.specs.Laws.{FullKeysKeepOrder, FullKeysKeepConflicts, OwnIsBehindFront}
 
 cmp_low : (t u : ℕ) → t < u → nat_cmp t u ≡ Less
 cmp_low t u h = rw (lt-ltb t u h) refl
@@ -93,6 +96,19 @@ and_false : (b : Bool) → (b && false) ≡ false
 and_false true = refl
 and_false false = refl
 
+-- two tenants differ in one of their four bytes
+apart : (t u : ℕ) (w x y z r : Bool) → t < 2 ^ 32 → u < 2 ^ 32 → (t / 16777216 % 256 == u / 16777216 % 256) ≡ w → (t / 65536 % 256 == u / 65536 % 256) ≡ x → (t / 256 % 256 == u / 256 % 256) ≡ y → (t % 256 == u % 256) ≡ z
+    → (t ≡ u → ⊥) → (w && (x && (y && (z && r)))) ≡ false
+apart t u false x y z r ht hu p q s v other = refl
+apart t u true false y z r ht hu p q s v other = refl
+apart t u true true false z r ht hu p q s v other = refl
+apart t u true true true false r ht hu p q s v other = refl
+apart t u true true true true r ht hu p q s v other =
+    let e = eqb-true (t / 16777216 % 256) (u / 16777216 % 256) p in let f = eqb-true (t / 65536 % 256) (u / 65536 % 256) q in
+    let g = eqb-true (t / 256 % 256) (u / 256 % 256) s in let h = eqb-true (t % 256) (u % 256) v in
+    let whole = four t ht in let other_whole = four u hu in
+    absurd (other (omega arith))
+
 front-full_key : (t u : ℕ) (k j : List ℕ) → t < 2 ^ 32 → u < 2 ^ 32 → is_proper_front (full_key t k) (full_key u j) ≡ ((t == u) && is_proper_front k j)
 front-full_key t u k j ht hu = go (t == u) refl
   where
@@ -102,24 +118,12 @@ front-full_key t u k j ht hu = go (t == u) refl
     same_front : is_proper_front (full_key t k) (full_key t j) ≡ is_proper_front k j
     same_front = rw (four_lt (length k) (length j), eq-eqb (t / 16777216 % 256) (t / 16777216 % 256) refl, eq-eqb (t / 65536 % 256) (t / 65536 % 256) refl, eq-eqb (t / 256 % 256) (t / 256 % 256) refl, eq-eqb (t % 256) (t % 256) refl) refl
 
-    apart : (w x y z r : Bool) → (t / 16777216 % 256 == u / 16777216 % 256) ≡ w → (t / 65536 % 256 == u / 65536 % 256) ≡ x → (t / 256 % 256 == u / 256 % 256) ≡ y → (t % 256 == u % 256) ≡ z
-        → (t ≡ u → ⊥) → (w && (x && (y && (z && r)))) ≡ false
-    apart false x y z r p q s v other = refl
-    apart true false y z r p q s v other = refl
-    apart true true false z r p q s v other = refl
-    apart true true true false r p q s v other = refl
-    apart true true true true r p q s v other =
-        let e = eqb-true (t / 16777216 % 256) (u / 16777216 % 256) p in let f = eqb-true (t / 65536 % 256) (u / 65536 % 256) q in
-        let g = eqb-true (t / 256 % 256) (u / 256 % 256) s in let h = eqb-true (t % 256) (u % 256) v in
-        let whole = four t ht in let other_whole = four u hu in
-        absurd (other (omega arith))
-
     go : (b : Bool) → (t == u) ≡ b → is_proper_front (full_key t k) (full_key u j) ≡ (b && is_proper_front k j)
     go true e = subst (λ v. is_proper_front (full_key t k) (full_key v j) ≡ is_proper_front k j) (eqb-true t u e) same_front
     go false e =
         ap (λ b. nat_lt (length (full_key t k)) (length (full_key u j)) && b)
-        (apart (t / 16777216 % 256 == u / 16777216 % 256) (t / 65536 % 256 == u / 65536 % 256) (t / 256 % 256 == u / 256 % 256) (t % 256 == u % 256) (pointwise nat_eq k (take (length k) j))
-        refl refl refl refl (λ same. true≢false (sym (eq-eqb t u same) ∙ e)))
+        (apart t u (t / 16777216 % 256 == u / 16777216 % 256) (t / 65536 % 256 == u / 65536 % 256) (t / 256 % 256 == u / 256 % 256) (t % 256 == u % 256) (pointwise nat_eq k (take (length k) j))
+        ht hu refl refl refl refl (λ same. true≢false (sym (eq-eqb t u same) ∙ e)))
         ∙ and_false (nat_lt (length (full_key t k)) (length (full_key u j)))
 
 pub full_keys_keep_conflicts : FullKeysKeepConflicts
@@ -166,3 +170,42 @@ pub tenant_small : (xs : List ℕ) → ((i : ℕ) → get_or xs i 0 < 256) → f
 tenant_small xs small =
     let a = front_small 4 xs small 0 in let b = front_small 4 xs small 1 in let c = front_small 4 xs small 2 in let d = front_small 4 xs small 3 in
     omega arith
+
+-- a full key begins with a tenant's front where it is that tenant's
+begins-full_key : (t u : ℕ) (j : List ℕ) → t < 2 ^ 32 → u < 2 ^ 32 → begins_with (full_key t []) (full_key u j) ≡ (u == t)
+begins-full_key t u j ht hu = go (u == t) refl
+  where
+    go : (b : Bool) → (u == t) ≡ b → begins_with (full_key t []) (full_key u j) ≡ b
+    go true e = subst (λ v. begins_with (full_key t []) (full_key v j) ≡ true) (sym (eqb-true u t e))
+        (rw (eq-eqb (t / 16777216 % 256) (t / 16777216 % 256) refl, eq-eqb (t / 65536 % 256) (t / 65536 % 256) refl, eq-eqb (t / 256 % 256) (t / 256 % 256) refl, eq-eqb (t % 256) (t % 256) refl) refl)
+    go false e =
+        apart t u (t / 16777216 % 256 == u / 16777216 % 256) (t / 65536 % 256 == u / 65536 % 256) (t / 256 % 256 == u / 256 % 256) (t % 256 == u % 256) true
+        ht hu refl refl refl refl (λ same. true≢false (sym (eq-eqb u t (sym same)) ∙ e))
+
+-- two lists of which each item is kept or not by the same test, and comes to the same
+keeps_both : {X Y Z : Type 0} (f : X → Z) (g : Y → Z) (b c : Bool) (x : X) (y : Y) (xs : List X) (ys : List Y) → b ≡ c → f x ≡ g y → map f xs ≡ map g ys
+    → map f (cond b (x ∷ xs) xs) ≡ map g (cond c (y ∷ ys) ys)
+keeps_both f g true true x y xs ys e same rest = rw (same, rest) refl
+keeps_both f g false false x y xs ys e same rest = rest
+keeps_both f g true false x y xs ys e same rest = absurd (true≢false e)
+keeps_both f g false true x y xs ys e same rest = absurd (true≢false (sym e))
+
+abbrev under_key : KeyRecord → List ℕ × List ℕ
+under_key r = (r.key, r.value)
+
+abbrev cut_off : Pair → List ℕ × List ℕ
+cut_off p = (drop 4 p.0.items, p.1.items)
+
+behind_front : (t : ℕ) → t < 2 ^ 32 → (ps : List Pair) → AllByRecursion IsFull ps → AllByRecursion KeyFits (map record_of ps)
+    → map under_key (filter (λ (r : KeyRecord). r.tenant == t) (map record_of ps))
+    ≡ map cut_off (with_front (λ (p : Pair). p.0.items) (full_key t []) ps)
+behind_front t small [] full fits = refl
+behind_front t small (p ∷ ps) full fits =
+    let r = record_of p in
+    let front : begins_with (full_key t []) p.0.items ≡ (r.tenant == t) = ap (begins_with (full_key t [])) full.0 ∙ begins-full_key t r.tenant r.key small fits.0.tenant_fits in
+    keeps_both under_key cut_off (r.tenant == t) (begins_with (full_key t []) p.0.items) r p
+    (filter (λ (r : KeyRecord). r.tenant == t) (map record_of ps)) (with_front (λ (p : Pair). p.0.items) (full_key t []) ps) (sym front) refl (behind_front t small ps full.1 fits.1)
+
+pub own_is_behind_front : OwnIsBehindFront
+own_is_behind_front t ps small are =
+    ap (λ ks. record { keys = ks; numbers = [] }) (behind_front t small ps are.full are.records.keys_fit)

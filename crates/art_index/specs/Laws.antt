@@ -1,10 +1,12 @@
 -- Laws of the definitions, each proved on a function of `laws`.
-use Rattle.std.specs.Prelude.{◌≡◌, ◌≢◌, ℕ, ◌^◌, ◌<◌, ◌==◌, ◌||◌, ◌&&◌, ◌↔◌, nat_lt, List, Some}
+use Rattle.std.specs.Prelude.{◌≡◌, ◌≢◌, ℕ, ◌^◌, ◌<◌, ◌==◌, ◌||◌, ◌&&◌, ◌↔◌, nat_lt, List, [], Some, drop, map}
+use Rattle.art_arena.specs.tree.Tenants.{with_front}
 use Rattle.art_index.specs.Commands.{Command, Spells}
 use Rattle.art_index.specs.Reading.{command_of}
 use Rattle.art_bytes.specs.Keys.{is_below, conflicts}
 use Rattle.art_index.specs.Keys.{full_key}
 use Rattle.art_index.specs.Records.{Own, Records, AreRecords, own, with_own}
+use Rattle.art_index.specs.Stored.{Pair, ArePairs, records_of}
 
 -- what is put in place for a tenant is what it holds then
 abbrev pub OwnReadsBack : Type 0
@@ -37,3 +39,11 @@ FullKeysKeepOrder = (t u : ℕ) (k j : List ℕ) → t < 2 ^ 32 → u < 2 ^ 32
 abbrev pub FullKeysKeepConflicts : Type 0
 FullKeysKeepConflicts = (t u : ℕ) (k j : List ℕ) → t < 2 ^ 32 → u < 2 ^ 32
     → conflicts (full_key t k) (full_key u j) ≡ ((t == u) && conflicts k j)
+
+-- what a tenant holds is what the pairs of an index have behind its front, the front cut off
+abbrev pub OwnIsBehindFront : Type 0
+OwnIsBehindFront = (tenant : ℕ) (ps : List Pair) → tenant < 2 ^ 32 → ArePairs ps
+    → own tenant (records_of ps) ≡ record {
+      keys = map (λ p. (drop 4 p.0.items, p.1.items)) (with_front (λ p. p.0.items) (full_key tenant []) ps);
+      numbers = [];
+    }

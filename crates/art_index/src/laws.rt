@@ -1,6 +1,6 @@
 //! Laws of the definitions. Each function does nothing, and its contract is the law.
 ghost use Rattle.art_index.specs.Laws.{OwnReadsBack, OthersAreUntouched, OwnIsInPlace, ReadingIsSpelling};
-ghost use Rattle.art_index.specs.Laws.{SpellsOneCommand, FullKeysKeepOrder, FullKeysKeepConflicts};
+ghost use Rattle.art_index.specs.Laws.{SpellsOneCommand, FullKeysKeepOrder, FullKeysKeepConflicts, OwnIsBehindFront};
 
 /// What is put in place for a tenant is what it holds then.
 pub fn own_reads_back()
@@ -36,4 +36,9 @@ pub fn full_keys_keep_order()
 /// Full keys conflict where they are one tenant's and its keys do.
 pub fn full_keys_keep_conflicts()
     ensures { FullKeysKeepConflicts }
+{}
+
+/// What a tenant holds is what the map has behind the tenant's front, with the front cut off.
+pub fn own_is_behind_front()
+    ensures { OwnIsBehindFront }
 {}

@@ -19,7 +19,7 @@ pub record Contents (K V : Type 0) : Type 0 where
 abbrev pub has_bytes : {K : Type 0} → (K → List ℕ) → List ℕ → K → Bool
 has_bytes bytes query k = bytes_eq (bytes k) query
 
--- the test that a key is a front of these bytes, or has them all
+-- the test that a key is a front of these bytes, or equals them
 abbrev pub is_front : {K : Type 0} → (K → List ℕ) → List ℕ → K → Bool
 is_front bytes query k = begins_with (bytes k) query
 

@@ -1,11 +1,11 @@
 //! The map: an ascending list of pairs, no key of which is a front of another.
-//! The layer above uses that each call is its row over that list, and that a refusal leaves it as it was.
+//! The layer above uses that each call is its row over that list, and what a refusal leaves: the list as it was, or of
+//! `retain` and `extract_if` what was done so far.
 //! The definitions stand in `specs/`.
 #![tactic(auto)]
 
 mod map;
 
-pub use map::TreeMap;
 pub use map::entry::{Entry, OccupiedEntry, VacantEntry};
 pub use map::extract_if::ExtractIf;
 pub use map::extraction::Extraction;
@@ -15,3 +15,4 @@ pub use map::prefix_entry::{
 };
 pub use map::refused::{TryInsertError, TryKeyError};
 pub use map::walks_mut::{PrefixMut, RangeMut, SubtreeIterMut};
+pub use map::{DEFAULT_PREFIX_LEN, TreeMap};

@@ -1,5 +1,6 @@
 //! `TreeMap`.
 ghost use Rattle.std.specs.Prelude.{◌≡◌, ◌==◌, [], length};
+ghost use Rattle.art_arena.specs.arena.Arena.{KeepsRoom};
 ghost use Rattle.art_arena.specs.arena.Shapes.{key_of};
 ghost use Rattle.art_arena.specs.tree.Order.{AscendsByKey};
 ghost use Rattle.art_operations.specs.Runs.{HoldsTreeOf};
@@ -43,7 +44,10 @@ impl<K: AsBytes, V, const PREFIX_LEN: usize> Model for TreeMap<K, V, PREFIX_LEN>
     ghost invariant = { λ m. IsMap K.bytes K.is_key PREFIX_LEN m.arena m.root };
 }
 
-impl<K: AsBytes, V> TreeMap<K, V, 16> {
+/// How many bytes of a prefix the nodes of a map store that `new` makes.
+pub const DEFAULT_PREFIX_LEN: usize = 16;
+
+impl<K: AsBytes, V> TreeMap<K, V, DEFAULT_PREFIX_LEN> {
     /// An empty map, whose nodes store 16 bytes of a prefix. It takes no memory.
     pub fn new(alloc: Global) -> Self
         ensures { result.pairs ≡ [] }
@@ -83,7 +87,8 @@ impl<K: AsBytes, V, const PREFIX_LEN: usize> TreeMap<K, V, PREFIX_LEN> {
     where
         K: Drop,
         V: Drop,
-        ensures { self.new.pairs ≡ [] }
+        ensures pairs { self.new.pairs ≡ [] }
+        ensures room { KeepsRoom self.old.nodes self.new.nodes }
     {
         self.root = None;
         self.arena.clear();

@@ -1,9 +1,9 @@
-//! The callers that `CALLING.md` of art_map shows, letter for letter; tests in `rows.rt` and `into_walks.rt` run them.
+//! The callers that `CALLING.md` of art_map shows, letter for letter; tests in `rows.rt` and `callers.rt` run them.
 
 use art_bytes::{SliceKey, StrKey};
-use art_map::{TreeMap, TryInsertError};
+use art_map::{Entry, PrefixEntry, PrefixOccupiedKind, TreeMap, TryInsertError, TryKeyError};
 use art_operations::InsertRefused;
-use art_walks::bounds_are_valid;
+use art_walks::{WellFormedChecker, bounds_are_valid};
 use std::alloc::{AllocError, Global};
 use std::ops::Bound;
 
@@ -35,6 +35,22 @@ pub fn owner_of<'a>(
     Ok(*known)
 }
 
+/// Gives a block to an owner, unless it overlaps another: whether it was given. The place that is found for it is good
+/// until the table changes.
+pub fn give_free<'a>(
+    blocks: &mut TreeMap<SliceKey<'a>, u32, 16>,
+    front: &'a [u8],
+    owner: u32,
+) -> Result<bool, InsertRefused<SliceKey<'a>, u32>> {
+    match blocks.place(&SliceKey(front)) {
+        Ok(place) => {
+            blocks.put_at(place, SliceKey(front), owner)?;
+            Ok(true)
+        }
+        Err(_) => Ok(false),
+    }
+}
+
 /// Counts a word of four bytes once more.
 pub fn count(
     counts: &mut TreeMap<[u8; 4], u32, 16>,
@@ -58,6 +74,63 @@ pub fn tally(
         .and_modify(|count| *count = count.saturating_add(1));
     let count = entry.or_insert(1)?;
     Ok(*count)
+}
+
+/// Counts the word that a text begins with once more, if it is known, and answers it.
+pub fn count_front(counts: &mut TreeMap<[u8; 4], u32, 16>, text: &str) -> Option<[u8; 4]> {
+    match counts.prefix_get_key_value_mut(&StrKey(text)) {
+        Some(mut entry) => {
+            let count = entry.get_mut();
+            *count = count.saturating_add(1);
+            Some(*entry.key())
+        }
+        None => None,
+    }
+}
+
+/// Takes a word out, or where it is not counted yet counts it once: whether it is counted now.
+pub fn toggle(counts: &mut TreeMap<[u8; 4], u32, 16>, word: [u8; 4]) -> Result<bool, AllocError> {
+    match counts.entry(word) {
+        Entry::Occupied(entry) => match entry.remove() {
+            Ok(_) => Ok(false),
+            Err(refused) => Err(refused),
+        },
+        Entry::Vacant(entry) => match entry.insert(1) {
+            Ok(_) => Ok(true),
+            Err(_) => Err(AllocError),
+        },
+    }
+}
+
+/// How often a word was seen.
+pub fn count_of(counts: &TreeMap<[u8; 4], u32, 16>, word: &[u8; 4]) -> u32 {
+    if counts.contains_key(word) {
+        counts[word]
+    } else {
+        0
+    }
+}
+
+/// The first word, the one that was seen most often, and the last.
+pub fn outline(counts: &TreeMap<[u8; 4], u32, 16>) -> Option<[[u8; 4]; 3]> {
+    let (first, count) = counts.first_key_value()?;
+    let (last, _) = counts.last_key_value()?;
+    let mut most = (first, count);
+    for pair in counts {
+        if *pair.1 > *most.1 {
+            most = pair;
+        }
+    }
+    Some([*first, *most.0, *last])
+}
+
+/// How many nodes the words take, if these are found to be a tree of them.
+pub fn nodes_of(alloc: Global, counts: &TreeMap<[u8; 4], u32, 16>) -> Option<usize> {
+    let (arena, root) = counts.nodes();
+    match WellFormedChecker::check(alloc, arena, root, counts.len()) {
+        Ok(stats) => Some(stats.total_nodes()),
+        Err(_) => None,
+    }
 }
 
 /// How far the counts of the first word and of the last are apart, if there are two.
@@ -100,6 +173,42 @@ pub fn raise_between(
         }
     }
     most
+}
+
+/// Counts the words that begin so from one again: how many those are.
+pub fn restart(counts: &mut TreeMap<[u8; 4], u32, 16>, front: &[u8]) -> usize {
+    let most = counts.len();
+    let mut walk = counts.prefix_mut(&SliceKey(front));
+    for restarted in 0..most {
+        match walk.next() {
+            Some(count) => *count = 1,
+            None => return restarted,
+        }
+    }
+    most
+}
+
+/// Weighs each word by its first letter.
+pub fn weigh(counts: &mut TreeMap<[u8; 4], u32, 16>) {
+    let mut walk = counts.iter_mut();
+    for _ in 0..walk.len() {
+        if walk.is_empty() {
+            return;
+        }
+        let (word, count) = walk.next_pair();
+        *count = count.saturating_mul(u32::from(word[0]));
+    }
+}
+
+/// Counts the first word and the last once more.
+pub fn count_ends(counts: &mut TreeMap<[u8; 4], u32, 16>) {
+    let mut values = counts.values_mut();
+    if let Some(count) = values.next() {
+        *count = count.saturating_add(1);
+    }
+    if let Some(count) = values.next_back() {
+        *count = count.saturating_add(1);
+    }
 }
 
 /// The first block within a larger one, and the last.
@@ -148,6 +257,23 @@ pub fn count_down(
     Ok(all.saturating_sub(counts.len()))
 }
 
+/// Takes the last words out up to one that was seen so often: how many those were.
+pub fn trim(counts: &mut TreeMap<[u8; 4], u32, 16>, least: u32) -> Result<usize, AllocError> {
+    let all = counts.len();
+    let mut words = counts.extraction::<[u8; 4]>(Bound::Unbounded, Bound::Unbounded);
+    for trimmed in 0..all {
+        let is_rare = match words.back_key_value() {
+            Some((_, count)) => *count < least,
+            None => false,
+        };
+        if words.is_empty() || !is_rare {
+            return Ok(trimmed);
+        }
+        words.take_back()?;
+    }
+    Ok(all)
+}
+
 /// Forgets the words from one on, up to another that is left out, that were seen fewer times than this: how many.
 pub fn forget_rare(
     counts: &mut TreeMap<[u8; 4], u32, 16>,
@@ -190,6 +316,59 @@ pub fn into_list(
 /// The last word in order; the others are dropped.
 pub fn last_word(counts: TreeMap<[u8; 4], u32, 16>) -> Option<[u8; 4]> {
     counts.into_keys().next_back()
+}
+
+/// How often the words were seen in all; they are dropped.
+pub fn total(counts: TreeMap<[u8; 4], u32, 16>) -> u32 {
+    let mut total = 0u32;
+    let mut values = counts.into_values();
+    for _ in 0..values.len() {
+        if let Some(count) = values.next() {
+            total = total.saturating_add(count);
+        }
+    }
+    total
+}
+
+/// Claims a name, and answers whose it is then. A name that is a front of another, or that goes on behind one, has no
+/// owner.
+pub fn claim(
+    names: &mut TreeMap<Vec<u8>, u32, 16>,
+    name: Vec<u8>,
+    owner: u32,
+) -> Result<Option<u32>, AllocError> {
+    match names.try_entry(name) {
+        Ok(entry) => match entry.or_insert_entry(owner) {
+            Ok(entry) => Ok(Some(*entry.get())),
+            Err(_) => Err(AllocError),
+        },
+        Err(TryKeyError::Prefix { .. }) => Ok(None),
+        Err(TryKeyError::Memory { .. }) => Err(AllocError),
+    }
+}
+
+/// Gives all names that a name overlaps to an owner: how many those are.
+pub fn hand_over(names: &mut TreeMap<Vec<u8>, u32, 16>, name: Vec<u8>, owner: u32) -> usize {
+    let most = names.len();
+    match names.prefix_entry(name) {
+        PrefixEntry::Occupied(entry) => match entry.kind() {
+            PrefixOccupiedKind::Leaf(mut entry) => {
+                *entry.get_mut() = owner;
+                1
+            }
+            PrefixOccupiedKind::Inner(mut entry) => {
+                let mut walk = entry.iter_mut();
+                for given in 0..most {
+                    match walk.next() {
+                        Some(known) => *known = owner,
+                        None => return given,
+                    }
+                }
+                most
+            }
+        },
+        PrefixEntry::Vacant(_) => 0,
+    }
 }
 
 /// A film is stored, seen, and taken out again.

@@ -1,5 +1,5 @@
 //! Each public call on its happy path. A map is lent to all that is shown of it; who owns it stands in `maps`.
-use crate::maps::{Shows, holds_at_16, is_put};
+use crate::maps::{Shows, holds_at_16, is_put, is_written};
 use art_bytes::SliceKey;
 use art_map::TreeMap;
 use art_walks::WellFormedChecker;
@@ -114,17 +114,6 @@ impl Shows<Map> for LookedUp {
 #[test]
 fn look_ups_find_a_pair(rt: HostRuntime) {
     assert!(rt; holds_at_16(&rt, &LookedUp));
-}
-
-// Whether there is a value, over which this one is written.
-fn is_written(lent: Option<&mut u32>, value: u32) -> bool {
-    match lent {
-        Some(lent) => {
-            *lent = value;
-            true
-        }
-        None => false,
-    }
 }
 
 // Writes a value over the one of a key, and over the one of a front.

@@ -1,11 +1,12 @@
-//! Entries where memory is refused: what a call answers then, and that the map is as it was.
+//! Entries where memory is refused: what a call answers then, and that the map is as it was. So too an insertion of a
+//! key in conflict.
 
 use crate::maps::{Shows, holds_at_1, holds_at_16, is_put};
 use crate::nodes::{Map, fill, key_of};
 use crate::refused::{CALLS, Call, Puts, is_closed, is_kept, is_opened, put};
 use crate::seen::{has_values, is_tree};
 use art_bytes::SliceKey;
-use art_map::{Entry, TreeMap, TryKeyError};
+use art_map::{Entry, TreeMap, TryInsertError, TryKeyError};
 use art_operations::InsertRefused;
 
 impl Puts<[u8; 5]> for Call {
@@ -142,8 +143,24 @@ fn an_entry_of_a_stored_key_takes_no_memory(rt: HostRuntime) {
 
 type Slices = TreeMap<SliceKey<'static>, usize, 16>;
 
-// Whether the entry of a front of a stored key is refused for want of memory, or else with its bytes.
-fn is_blocked(map: &mut Slices, bytes: &'static [u8]) -> Option<bool> {
+// What a key in conflict with a stored one is refused by.
+#[derive(Clone, Copy)]
+enum Blocked {
+    Entry,
+    Insertion,
+}
+
+impl Blocked {
+    // Whether it is refused for want of memory, or else with the key's bytes. The key is back, and so is the value.
+    fn is_blocked(self, map: &mut Slices, bytes: &'static [u8]) -> Option<bool> {
+        match self {
+            Blocked::Entry => is_entry_blocked(map, bytes),
+            Blocked::Insertion => is_insertion_blocked(map, bytes),
+        }
+    }
+}
+
+fn is_entry_blocked(map: &mut Slices, bytes: &'static [u8]) -> Option<bool> {
     match map.try_entry(SliceKey(bytes)) {
         Err(TryKeyError::Memory { key }) => if key.0 == bytes { Some(true) } else { None },
         Err(TryKeyError::Prefix { key, error }) => {
@@ -157,25 +174,49 @@ fn is_blocked(map: &mut Slices, bytes: &'static [u8]) -> Option<bool> {
     }
 }
 
-// It is so in a window, and the map then has its one pair.
-struct Blocked;
+fn is_insertion_blocked(map: &mut Slices, bytes: &'static [u8]) -> Option<bool> {
+    match map.try_insert(SliceKey(bytes), 8) {
+        Err(TryInsertError::Memory { key, value }) => {
+            if key.0 == bytes && value == 8 {
+                Some(true)
+            } else {
+                None
+            }
+        }
+        Err(TryInsertError::Prefix { key, value, error }) => {
+            if key.0 == bytes && value == 8 && error.byte_repr.bytes() == bytes {
+                Some(false)
+            } else {
+                None
+            }
+        }
+        Ok(_) => None,
+    }
+}
 
+// It is so in a window, and the map then has its one pair.
 impl Shows<Slices> for Blocked {
     fn shows(&self, rt: &HostRuntime, map: &mut Slices) -> bool {
         let put = is_put(map, SliceKey(&[1, 2]), 7);
         let is_open = is_opened(rt);
-        let refused = is_blocked(map, &[1]);
+        let refused = self.is_blocked(map, &[1]);
         let is_told = is_closed(rt, refused == Some(true));
         put && is_open
             && is_told
             && map.len() == 1
             && map.get(&SliceKey(&[1, 2])) == Some(&7)
+            && is_tree(rt.alloc(), map)
             && refused.is_some()
-            && is_blocked(map, &[1]) == Some(false)
+            && self.is_blocked(map, &[1]) == Some(false)
     }
 }
 
 #[test]
 fn a_blocked_entry(rt: HostRuntime) {
-    assert!(rt; holds_at_16(&rt, &Blocked));
+    assert!(rt; holds_at_16(&rt, &Blocked::Entry));
+}
+
+#[test]
+fn a_blocked_insertion(rt: HostRuntime) {
+    assert!(rt; holds_at_16(&rt, &Blocked::Insertion));
 }

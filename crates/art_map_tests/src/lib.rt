@@ -3,6 +3,8 @@
 #![tactic(auto)]
 
 #[cfg(test)]
+mod callers;
+#[cfg(test)]
 mod calling;
 #[cfg(test)]
 mod calls;
@@ -24,3 +26,5 @@ mod refused;
 #[cfg(test)]
 mod rows;
 pub mod seen;
+#[cfg(test)]
+mod shown_pairs;

@@ -55,6 +55,17 @@ pub(crate) fn is_put<K: AsBytes + Drop, V: Drop, const PREFIX_LEN: usize>(
     map.try_insert(key, value).is_ok()
 }
 
+/// Whether there is a value, over which this one is written.
+pub(crate) fn is_written<V: Drop>(lent: Option<&mut V>, value: V) -> bool {
+    match lent {
+        Some(lent) => {
+            *lent = value;
+            true
+        }
+        None => false,
+    }
+}
+
 /// A text as a key. Where there is no memory, it is the empty one, which is in conflict with each other.
 pub(crate) fn key_of_text(alloc: Global, text: &[u8]) -> Vec<u8> {
     match text.to_vec(alloc) {

@@ -9,7 +9,8 @@ use art_map::{PrefixEntry, PrefixOccupiedKind, TreeMap};
 use art_walks::SubtreeIter;
 use std::alloc::{AllocError, Global};
 
-type Texts<const PREFIX_LEN: usize> = TreeMap<Vec<u8>, usize, PREFIX_LEN>;
+/// Texts and a number of each.
+pub(crate) type Texts<const PREFIX_LEN: usize> = TreeMap<Vec<u8>, usize, PREFIX_LEN>;
 
 // Whether the values of a walk are these, from the front.
 fn walks<K, const PREFIX_LEN: usize>(
@@ -97,8 +98,8 @@ fn put_over<const PREFIX_LEN: usize>(map: &mut Texts<PREFIX_LEN>, key: Vec<u8>) 
     }
 }
 
-// Whether texts go in, each with its number.
-fn are_put<const PREFIX_LEN: usize>(
+/// Whether texts go in, each with its number.
+pub(crate) fn are_put<const PREFIX_LEN: usize>(
     alloc: Global,
     map: &mut Texts<PREFIX_LEN>,
     texts: &[&[u8]],

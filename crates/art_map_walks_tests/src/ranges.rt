@@ -149,12 +149,65 @@ fn lie_between(map: &Wide) -> bool {
         && !has_between(map, Bound::Included(&high), Bound::Included(&low), &[])
 }
 
+type Bounds<'a> = (Bound<&'a [u8; 3]>, Bound<&'a [u8; 3]>);
+
+// Whether a map is empty and has a range of these bounds, which need not be valid.
+fn has_none(map: &Wide, bounds: Bounds<'_>) -> bool {
+    if !map.is_empty() {
+        return false;
+    }
+    let mut walk = map.range(bounds.0, bounds.1);
+    walk.next().is_none() && walk.next_back().is_none()
+}
+
+// The same of a range that lends values for writing.
+fn lends_none(map: &mut Wide, bounds: Bounds<'_>) -> bool {
+    if !map.is_empty() {
+        return false;
+    }
+    let mut walk = map.range_mut(bounds.0, bounds.1);
+    walk.is_empty() && walk.next().is_none() && walk.next_back().is_none()
+}
+
+// The same of an extraction.
+fn asks_none(map: &mut Wide, bounds: Bounds<'_>) -> bool {
+    if !map.is_empty() {
+        return false;
+    }
+    let mut pairs = map.extraction(bounds.0, bounds.1);
+    pairs.is_empty() && pairs.front().is_none() && pairs.back().is_none()
+}
+
+// The same of one by a closure, which is never called.
+fn picks_none(map: &mut Wide, bounds: Bounds<'_>) -> bool {
+    if !map.is_empty() {
+        return false;
+    }
+    let mut is_called = false;
+    let mut walk = map.extract_if(bounds.0, bounds.1, |_, _| {
+        is_called = true;
+        true
+    });
+    let are_none = walk.next().is_none() && walk.next_back().is_none();
+    drop(walk);
+    are_none && !is_called
+}
+
+// The same of all four.
+fn have_none(map: &mut Wide, bounds: Bounds<'_>) -> bool {
+    !bounds_are_valid(bounds.0, bounds.1)
+        && has_none(map, bounds)
+        && lends_none(map, bounds)
+        && asks_none(map, bounds)
+        && picks_none(map, bounds)
+}
+
 #[test]
 fn an_empty_map_has_ranges_of_any_bounds(rt: HostRuntime) {
-    let map: TreeMap<[u8; 3], usize, 16> = TreeMap::new(rt.alloc());
+    let mut map = Wide::new(rt.alloc());
     let [low, high] = [[0, 255, 255], [127, 127, 255]];
-    let mut walk = map.range(Bound::Included(&high), Bound::Excluded(&low));
-    assert!(rt; walk.next().is_none() && walk.next_back().is_none());
+    assert!(rt; have_none(&mut map, (Bound::Included(&high), Bound::Excluded(&low))));
+    assert!(rt; have_none(&mut map, (Bound::Excluded(&low), Bound::Excluded(&low))));
 }
 
 #[test]

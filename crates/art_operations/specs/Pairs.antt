@@ -10,13 +10,15 @@ use Rattle.art_arena.specs.tree.Shrinks.{Shrinks}
 use Rattle.art_arena.specs.declared.ends.End.{End}
 use Rattle.art_arena.specs.declared.ends.End.TheVariants.{First, Last}
 use Rattle.art_arena.specs.arena.Shapes.{Shape, leaves, pairs_of, key_of}
+use Rattle.art_arena.specs.arena.Steps.{steps_of}
 use Rattle.art_operations.specs.KeyedLists.{IsBlocked, with_key, without_key, overlapping, without_overlapping}
 use Rattle.art_operations.specs.Overwrites.{AreRemoved, IsPrefixPoint, root_at}
-use Rattle.art_operations.specs.Points.{IsPoint}
+use Rattle.art_operations.specs.Points.{IsInTheWay, IsPoint}
 use Rattle.art_operations.specs.Whichever.{OfTree}
 use Rattle.art_arena.specs.arena.Stores.{StoresBeside}
 use Rattle.art_operations.specs.declared.delete.result.DeleteResult.{DeleteResult}
 use Rattle.art_operations.specs.declared.insert.point.InsertPoint.{InsertPoint}
+use Rattle.art_operations.specs.declared.insert.point.PrefixConflict.{PrefixConflict}
 use Rattle.art_operations.specs.declared.insert.result.InsertResult.{InsertResult}
 use Rattle.art_operations.specs.declared.prefix_insert.point.PrefixInsertPoint.{PrefixInsertPoint}
 use Rattle.art_operations.specs.declared.prefix_insert.result.PrefixInsertResult.{PrefixInsertResult}
@@ -130,6 +132,12 @@ module _ {K V : Type 0} (bytes : K → List ℕ) (P : ℕ) (arena : Arena K V) w
   IsPlaceFor None key (Some point) = ⊥
   IsPlaceFor (Some root) key None = ⊥
   IsPlaceFor (Some root) key (Some point) = OfTree bytes P arena root (λ s. ∥ IsPoint bytes key s point ∥₁)
+
+  -- the part of the tree below the root is told whose keys are in conflict with this one; without a root there is none
+  abbrev pub TellsConflict : Option Name → List ℕ → PrefixConflict → Type 0
+  TellsConflict None key conflict = ⊥
+  TellsConflict (Some root) key conflict = OfTree bytes P arena root
+      (λ s. IsInTheWay bytes key s conflict.root conflict.part (steps_of conflict.path))
 
   abbrev pub CanPut : Option InsertPoint → List ℕ → List (K × V) → Type 0
   CanPut place key pairs = CanPutBeside bytes P arena [] place key pairs

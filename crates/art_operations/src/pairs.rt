@@ -1,5 +1,5 @@
 //! Insertion and deletion, told by the pairs that an arena has: commands and maps stand on these.
-ghost use Rattle.std.specs.Prelude.{◌≡◌, ◌+◌, List, [], Some, None, IfOk, IfSome, IsOk, OnErr};
+ghost use Rattle.std.specs.Prelude.{◌≡◌, ◌+◌, List, [], Some, None, IfErr, IfOk, IfSome, IsOk, OnErr};
 ghost use Rattle.art_nodes.specs.Name.{Name};
 ghost use Rattle.art_arena.specs.arena.Arena.{node_at, HasRoom, KeepsNodes, SameNodes, UsesRoom};
 ghost use Rattle.art_arena.specs.arena.Cells.{Cell, HoldsOnly};
@@ -12,7 +12,7 @@ ghost use Rattle.art_operations.specs.Insertions.{HandsPairBack};
 ghost use Rattle.art_operations.specs.KeyedLists.{HasKey};
 ghost use Rattle.art_operations.specs.Pairs.{CanPutBeside, CanPutOverBeside, HasPairsAt, HasPutBeside};
 ghost use Rattle.art_operations.specs.Pairs.{HasPutOverBeside, HasTakenBeside, HasTakenEndBeside, IsPlacedBeside};
-ghost use Rattle.art_operations.specs.Pairs.{IsPlaceFor, ShrinksAtEnd};
+ghost use Rattle.art_operations.specs.Pairs.{IsPlaceFor, ShrinksAtEnd, TellsConflict};
 ghost use Rattle.art_operations.specs.Whichever.{HasSome, HasTree, OfEach, OfTree};
 
 use crate::delete::point::{
@@ -30,7 +30,8 @@ use art_nodes::OpaqueNodePtr;
 use std::alloc::AllocError;
 
 /// Finds where a key goes: its point in the tree, or nowhere where there is no pair yet. It is refused where the key is
-/// a front of a stored key, or a stored key is one of it. It takes no memory.
+/// a front of a stored key, or a stored key is one of it: the refusal tells the part of the tree that has these keys.
+/// It takes no memory.
 pub fn find_place<K: AsBytes, V, const PREFIX_LEN: usize>(
     arena: &NodeArena<K, V, PREFIX_LEN>,
     root: Option<OpaqueNodePtr>,
@@ -40,6 +41,7 @@ pub fn find_place<K: AsBytes, V, const PREFIX_LEN: usize>(
     ensures placed { OfEach (HasPairsAt K.bytes PREFIX_LEN arena.now root)
         (λ pairs rest. IsPlacedBeside K.bytes PREFIX_LEN arena.now rest key.now pairs result) }
     ensures place { IfOk result (IsPlaceFor K.bytes PREFIX_LEN arena.now root key.now) }
+    ensures part { IfErr result (TellsConflict K.bytes PREFIX_LEN arena.now root key.now) }
 {
     match root {
         Some(top) => match find_insert_point(arena, top, key) {

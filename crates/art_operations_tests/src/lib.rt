@@ -1,10 +1,12 @@
-//! Tests of art_operations: each public call at concrete types, lists of commands, want of memory, and the caller of
-//! its CALLING.md. In a window, between a line `refuse` on the standard error and the line that tells the outcome,
+//! Tests of art_operations: each public call at concrete types, lists of commands, want of memory, and the callers
+//! of its CALLING.md. In a window, between a line `refuse` on the standard error and the line that tells the outcome,
 //! tests/refusals.py refuses each request for memory in turn. Nodes are made and moved by generic functions alone.
 #![tactic(auto)]
 
 #[cfg(test)]
 mod bounds;
+#[cfg(test)]
+mod callers;
 #[cfg(test)]
 mod calling;
 #[cfg(test)]

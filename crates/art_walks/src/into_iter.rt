@@ -35,7 +35,7 @@ impl<K, V, const PREFIX_LEN: usize> Model for IntoIter<K, V, PREFIX_LEN> {
 }
 
 impl<K, V, const PREFIX_LEN: usize> IntoIter<K, V, PREFIX_LEN> {
-    /// The pairs of a run of so many leaves of this arena.
+    /// The pairs of a run of exactly so many leaves, which are linked neighbours in this arena.
     pub fn new(arena: NodeArena<K, V, PREFIX_LEN>, leaves: RawIterator, len: usize) -> Self
         requires { IsCounted arena leaves len }
         ensures { (run : IsCounted arena leaves len) → result ≡ pairs_of run.leaves }

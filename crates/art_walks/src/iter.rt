@@ -36,7 +36,7 @@ impl<'a, K, V, const PREFIX_LEN: usize, M: 'a> Model for Iter<'a, K, V, PREFIX_L
 }
 
 impl<'a, K, V, const PREFIX_LEN: usize> Iter<'a, K, V, PREFIX_LEN> {
-    /// The pairs of a run of so many leaves.
+    /// The pairs of a run of exactly so many leaves, which are linked neighbours in this arena.
     pub fn new(arena: &'a NodeArena<K, V, PREFIX_LEN>, leaves: RawIterator, len: usize) -> Self
         requires { IsCounted arena.now leaves len }
         ensures { (run : IsCounted arena.now leaves len) → result ≡ pairs_of run.leaves }

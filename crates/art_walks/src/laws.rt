@@ -1,4 +1,4 @@
-//! The laws of faults: each function does nothing, and its contract is the law.
+//! The law of faults: the function does nothing, and its contract is the law.
 ghost use Rattle.art_walks.specs.Faults.{FaultMeansNoTree};
 
 /// A fault stands only where the root means no tree, want of memory aside.

@@ -13,7 +13,8 @@ pub enum MalformedTreeError {
     /// A name below the root isn't held.
     #[error("a name below the root isn't held")]
     DeadName,
-    /// A name is met twice on the ways down from the root. Nothing below the second meeting counts as a fault.
+    /// A name is met twice on the ways down from the root. What is wrong below the second meeting is wrong below the
+    /// first too.
     #[error("a name below the root is met twice")]
     LoopFound,
     /// A node has fewer or more children than a node of its kind has.
@@ -32,7 +33,7 @@ pub enum MalformedTreeError {
     /// There is no root, but a length other than 0.
     #[error("there is no root, but a length other than 0")]
     EmptyTreeWithLen,
-    /// No memory was found for the set of names that were seen.
+    /// No memory was found for what the check keeps of the names that it met.
     #[error("no memory for the names that were seen")]
     Memory,
 }

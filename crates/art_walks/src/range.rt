@@ -37,7 +37,7 @@ impl<'a, K, V, const PREFIX_LEN: usize, M: 'a> Model for Range<'a, K, V, PREFIX_
 }
 
 impl<'a, K, V, const PREFIX_LEN: usize> Range<'a, K, V, PREFIX_LEN> {
-    /// The pairs of a run of leaves.
+    /// The pairs of a run of leaves, which are linked neighbours in this arena.
     pub fn new(arena: &'a NodeArena<K, V, PREFIX_LEN>, leaves: RawIterator) -> Self
         requires { (n : ℕ) × IsCounted arena.now leaves n }
         ensures { (n : ℕ) (run : IsCounted arena.now leaves n) → result ≡ pairs_of run.leaves }
@@ -113,7 +113,7 @@ impl<'a, K, V, const PREFIX_LEN: usize, M: 'a> Model for Prefix<'a, K, V, PREFIX
 }
 
 impl<'a, K, V, const PREFIX_LEN: usize> Prefix<'a, K, V, PREFIX_LEN> {
-    /// The pairs of a run of leaves.
+    /// The pairs of a run of leaves, which are linked neighbours in this arena.
     pub fn new(arena: &'a NodeArena<K, V, PREFIX_LEN>, leaves: RawIterator) -> Self
         requires { (n : ℕ) × IsCounted arena.now leaves n }
         ensures { (n : ℕ) (run : IsCounted arena.now leaves n) → result ≡ pairs_of run.leaves }

@@ -71,7 +71,8 @@ impl RawIterator {
         }
     }
 
-    /// The first leaf of the run, which goes on behind it, or `None` where the run is empty, as it then stays.
+    /// The first leaf of the run, which goes on behind it, or `None` where the run is empty, as it then stays. The run
+    /// has to be one of neighbours in this arena.
     pub fn next<K, V, const PREFIX_LEN: usize>(
         &mut self,
         arena: &NodeArena<K, V, PREFIX_LEN>,
@@ -93,7 +94,8 @@ impl RawIterator {
         Some(first)
     }
 
-    /// The last leaf of the run, which then ends before it, or `None` where the run is empty, as it then stays.
+    /// The last leaf of the run, which then ends before it, or `None` where the run is empty, as it then stays. The run
+    /// has to be one of neighbours in this arena.
     pub fn next_back<K, V, const PREFIX_LEN: usize>(
         &mut self,
         arena: &NodeArena<K, V, PREFIX_LEN>,

@@ -54,7 +54,7 @@ pub trait Visitor<K, V, const PREFIX_LEN: usize>: Sized {
         ensures { leaf_gives self.old leaf.now self.new result };
 }
 
-/// What can be visited in an arena.
+/// What can be visited in an arena: it has to stand there, and for a visit of its children so have they.
 pub trait Visitable<K, V, const PREFIX_LEN: usize>: Sized {
     /// The name under which it stands.
     ghost name: { Self → Name };

@@ -1,1 +1,2 @@
 mod ThreeLeaves
+mod TreeRuns

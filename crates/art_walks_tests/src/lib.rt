@@ -1,11 +1,13 @@
 //! Tests of art_walks: each public call at concrete types, over trees and lists made by the arena's public calls;
-//! and the caller of its CALLING.md.
+//! and the callers of its CALLING.md.
 #![tactic(auto)]
 
 #[cfg(test)]
 mod bounds;
 #[cfg(test)]
 mod broken;
+#[cfg(test)]
+mod callers;
 #[cfg(test)]
 mod calling;
 #[cfg(test)]

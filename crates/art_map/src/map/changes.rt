@@ -2,10 +2,11 @@
 ghost use Rattle.std.specs.Prelude.{◌≡◌, ℕ, List, length, IfOk, IfErr, IsOk, OnErr, OnOk};
 ghost use Rattle.std.specs.List.{AllByRecursion};
 ghost use Rattle.std.specs.Map.{lookup};
+ghost use Rattle.art_arena.specs.arena.Arena.{SameNodes};
 ghost use Rattle.art_arena.specs.arena.Shapes.{key_of};
 ghost use Rattle.art_operations.specs.Insertions.{HandsPairBack};
 ghost use Rattle.art_operations.specs.KeyedLists.{HasKey, IsBlocked, overlapping};
-ghost use Rattle.art_operations.specs.Pairs.{CanPut, IsPlaceFor, with_pair_put, with_pair_over};
+ghost use Rattle.art_operations.specs.Pairs.{CanPut, IsPlaceFor, TellsConflict, with_pair_put, with_pair_over};
 ghost use Rattle.art_map.specs.Contents.{value_in};
 ghost use Rattle.art_map.specs.Found.{HasPairAt};
 
@@ -38,10 +39,13 @@ impl<K: AsBytes, V, const PREFIX_LEN: usize> TreeMap<K, V, PREFIX_LEN> {
     ghost use Rattle.art_map.specs.Found.{IsFound};
 
     /// Finds where a key with the query's bytes goes, for `put_at`. It is refused where the key is a front of a stored
-    /// key, or a stored key is one of it. It takes no memory.
+    /// key, or a stored key is one of it: the refusal tells the part of the tree that has these keys. It takes no
+    /// memory.
     pub fn place<Q: AsBytes>(&self, key: &Q) -> Result<Option<InsertPoint>, PrefixConflict>
         ensures placed { IsPlaced K.bytes PREFIX_LEN self.now.nodes (Q.bytes key.now) self.now.pairs result }
         ensures place { IfOk result (IsPlaceFor K.bytes PREFIX_LEN self.now.nodes self.now.root (Q.bytes key.now)) }
+        ensures part { IfErr result
+            (TellsConflict K.bytes PREFIX_LEN self.now.nodes self.now.root (Q.bytes key.now)) }
         ensures stored { HasKey (key_of K.bytes) (Q.bytes key.now) self.now.pairs → IsOk result }
         ensures keys { AllByRecursion (λ p. K.is_key p.0) self.now.pairs }
         ensures key { Q.is_key key.now }
@@ -63,9 +67,10 @@ impl<K: AsBytes, V, const PREFIX_LEN: usize> TreeMap<K, V, PREFIX_LEN> {
         }
     }
 
-    /// Puts a pair in at the place that was found for its key, in the place of the one whose key has the same bytes if
-    /// there is one, and answers the value of that one. It is refused only where there is no memory. The pair is then
-    /// handed back, and the map is as it was. A key that is stored is never refused.
+    /// Puts a pair in at the place that `place` found for its key in this map as it is, in the place of the one whose
+    /// key has the same bytes if there is one, and answers the value of that one. It is refused only where there is no
+    /// memory. The pair is then handed back, and the map is as it was, its nodes too, so that the place still stands. A
+    /// key that is stored is never refused.
     pub fn put_at(
         &mut self,
         place: Option<InsertPoint>,
@@ -79,6 +84,7 @@ impl<K: AsBytes, V, const PREFIX_LEN: usize> TreeMap<K, V, PREFIX_LEN> {
         ensures pairs { OnOk result (self.new.pairs ≡ with_pair_put K.bytes key value self.old.pairs) }
         ensures stored { HasKey (key_of K.bytes) (K.bytes key) self.old.pairs → IsOk result }
         ensures err { OnErr result (self.new.pairs ≡ self.old.pairs) }
+        ensures kept { OnErr result (SameNodes self.old.nodes self.new.nodes × (self.new.root ≡ self.old.root)) }
         ensures handed_back { HandsPairBack key value result }
     {
         match self.put_leaf_at(place, key, value) {
@@ -102,6 +108,7 @@ impl<K: AsBytes, V, const PREFIX_LEN: usize> TreeMap<K, V, PREFIX_LEN> {
         ensures pairs { OnOk result (self.new.pairs ≡ with_pair_put K.bytes key value self.old.pairs) }
         ensures stored { HasKey (key_of K.bytes) (K.bytes key) self.old.pairs → IsOk result }
         ensures err { OnErr result (self.new.pairs ≡ self.old.pairs) }
+        ensures kept { OnErr result (SameNodes self.old.nodes self.new.nodes × (self.new.root ≡ self.old.root)) }
         ensures handed_back { HandsPairBack key value result }
     {
         let _known = key.as_bytes();

@@ -128,8 +128,8 @@ impl<K: AsBytes, V, const PREFIX_LEN: usize> TreeMap<K, V, PREFIX_LEN> {
         }
     }
 
-    /// Keeps the pairs for which the closure says true. It is asked of each in ascending order, and may change the
-    /// value. The others are dropped.
+    /// Keeps the pairs for which the closure says true. It is asked of each in ascending order, has to be callable
+    /// there whatever it answered before, and may change the value. The others are dropped.
     ///
     /// It is refused where the removal of a pair is, as that of `remove_entry`. That pair then stays, with its value as
     /// the closure left it, and so do those behind it, which were not asked; what was dropped before is gone.

@@ -162,7 +162,7 @@ impl<'a, K: AsBytes, V, const PREFIX_LEN: usize> Extraction<'a, K, V, PREFIX_LEN
         }
     }
 
-    /// Leaves the first of the pairs that are still to be asked in the map.
+    /// Leaves the first of the pairs that are still to be asked in the map. One has to be, as `is_empty` tells.
     pub fn pass_front(&mut self)
         requires { 0 < length (left_of self.old) }
         ensures same { map_of self.new ≡ map_of self.old }
@@ -171,7 +171,7 @@ impl<'a, K: AsBytes, V, const PREFIX_LEN: usize> Extraction<'a, K, V, PREFIX_LEN
         self.pass(End::First);
     }
 
-    /// Leaves the last of the pairs that are still to be asked in the map.
+    /// Leaves the last of the pairs that are still to be asked in the map. One has to be, as `is_empty` tells.
     pub fn pass_back(&mut self)
         requires { 0 < length (left_of self.old) }
         ensures same { map_of self.new ≡ map_of self.old }
@@ -180,8 +180,8 @@ impl<'a, K: AsBytes, V, const PREFIX_LEN: usize> Extraction<'a, K, V, PREFIX_LEN
         self.pass(End::Last);
     }
 
-    /// Takes the first of the pairs that are still to be asked out of the map. It is refused as `remove_entry` is: the
-    /// map is then as it was, and no pair is left to be asked.
+    /// Takes the first of the pairs that are still to be asked out of the map. One has to be, as `is_empty` tells. It
+    /// is refused as `remove_entry` is: the map is then as it was, and no pair is left to be asked.
     pub fn take_front(&mut self) -> Result<(K, V), AllocError>
         requires { 0 < length (left_of self.old) }
         ensures left { IfOk result (λ pair. left_of self.old ≡ pair ∷ left_of self.new) }
@@ -196,8 +196,8 @@ impl<'a, K: AsBytes, V, const PREFIX_LEN: usize> Extraction<'a, K, V, PREFIX_LEN
         self.take(End::First)
     }
 
-    /// Takes the last of the pairs that are still to be asked out of the map. It is refused as `remove_entry` is: the
-    /// map is then as it was, and no pair is left to be asked.
+    /// Takes the last of the pairs that are still to be asked out of the map. One has to be, as `is_empty` tells. It is
+    /// refused as `remove_entry` is: the map is then as it was, and no pair is left to be asked.
     pub fn take_back(&mut self) -> Result<(K, V), AllocError>
         requires { 0 < length (left_of self.old) }
         ensures left { IfOk result (λ pair. left_of self.old ≡ left_of self.new ++ pair ∷ []) }

@@ -31,7 +31,7 @@ impl<K: AsBytes, V, const PREFIX_LEN: usize> TreeMap<K, V, PREFIX_LEN> {
         }
     }
 
-    // The leaf of the pair whose key is a front of these bytes, or has them all.
+    // The leaf of the pair whose key is a front of these bytes, or equals them.
     fn prefix_find(&self, key: &[u8]) -> Option<LeafPtr>
         ensures { IsFound (is_front K.bytes key.now) self.now result }
     {
@@ -135,7 +135,7 @@ impl<K: AsBytes, V, const PREFIX_LEN: usize> TreeMap<K, V, PREFIX_LEN> {
         }
     }
 
-    /// The value of the one pair whose key is a front of the query's bytes, or has them all, if there is one.
+    /// The value of the one pair whose key is a front of the query's bytes, or equals them, if there is one.
     pub fn prefix_get<Q: AsBytes>(&self, key: &Q) -> Option<&V>
         ensures { option_copied result ≡ lookup (is_front K.bytes (Q.bytes key.now)) self.now.pairs }
     {
@@ -145,7 +145,7 @@ impl<K: AsBytes, V, const PREFIX_LEN: usize> TreeMap<K, V, PREFIX_LEN> {
         }
     }
 
-    /// The one pair whose key is a front of the query's bytes, or has them all, if there is one.
+    /// The one pair whose key is a front of the query's bytes, or equals them, if there is one.
     pub fn prefix_get_key_value<Q: AsBytes>(&self, key: &Q) -> Option<(&K, &V)>
         ensures { option_map deref_pair result ≡ lookup_entry (is_front K.bytes (Q.bytes key.now)) self.now.pairs }
     {
@@ -155,7 +155,7 @@ impl<K: AsBytes, V, const PREFIX_LEN: usize> TreeMap<K, V, PREFIX_LEN> {
         }
     }
 
-    /// The value of the one pair whose key is a front of the query's bytes, or has them all, for writing, if there is
+    /// The value of the one pair whose key is a front of the query's bytes, or equals them, for writing, if there is
     /// one.
     pub fn prefix_get_mut<Q: AsBytes>(&mut self, key: &Q) -> Option<&mut V>
         ensures* writes_back { sem 𝓛 (lends_get K.row V.row PREFIX_LEN.row K.AsBytes self.entry
@@ -171,7 +171,7 @@ impl<K: AsBytes, V, const PREFIX_LEN: usize> TreeMap<K, V, PREFIX_LEN> {
         }
     }
 
-    /// The entry of the one pair whose key is a front of the query's bytes, or has them all, if there is one. It shows
+    /// The entry of the one pair whose key is a front of the query's bytes, or equals them, if there is one. It shows
     /// the pair's key, and lends its value for writing.
     pub fn prefix_get_key_value_mut<Q: AsBytes>(
         &mut self,
@@ -209,6 +209,7 @@ impl<K: AsBytes, V, const PREFIX_LEN: usize> TreeMap<K, V, PREFIX_LEN> {
     }
 }
 
+/// The value of a key that is stored, as `contains_key` tells.
 impl<K: AsBytes, V, Q: AsBytes, const PREFIX_LEN: usize> Index<&Q> for TreeMap<K, V, PREFIX_LEN> {
     ghost use Rattle.art_map.specs.Contents.{has_bytes};
 

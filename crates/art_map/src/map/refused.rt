@@ -17,7 +17,7 @@ pub enum TryInsertError<K, V> {
         error: InsertPrefixError,
     },
     /// No memory was found.
-    #[error("no memory for a pair")]
+    #[error("no memory for a pair, or for the bytes of a key that can't be put in")]
     Memory {
         /// The key.
         key: K,

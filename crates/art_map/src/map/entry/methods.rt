@@ -94,7 +94,8 @@ impl<'a, K: AsBytes, V, const PREFIX_LEN: usize> Entry<'a, K, V, PREFIX_LEN> {
         }
     }
 
-    /// Calls `f` on the value, if the key is stored. Where it is not, the entry is as it was.
+    /// Calls `f` on the value, if the key is stored; `f` has to be callable on it. Where it is not stored, the entry is
+    /// as it was.
     pub fn and_modify<F: FnOnce(&mut V)>(self, f: F) -> Self
         requires { (p : MutBor V) → entry_value self ≡ Some p.now → F.pre f p }
         ensures same_map { (entry_map result).ghost_name ≡ (entry_map self.entry).ghost_name }
@@ -151,7 +152,8 @@ impl<'a, K: AsBytes, V, const PREFIX_LEN: usize> Entry<'a, K, V, PREFIX_LEN> {
         }
     }
 
-    /// As `or_insert`, with a value that `default` gives. It is called only where the key is not stored.
+    /// As `or_insert`, with a value that `default` gives. It is called only where the key is not stored, and has to be
+    /// callable there.
     pub fn or_insert_with<F: FnOnce() -> V>(
         self,
         default: F,
@@ -171,7 +173,8 @@ impl<'a, K: AsBytes, V, const PREFIX_LEN: usize> Entry<'a, K, V, PREFIX_LEN> {
         }
     }
 
-    /// As `or_insert`, with a value that `default` gives for the key. It is called only where the key is not stored.
+    /// As `or_insert`, with a value that `default` gives for the key. It is called only where the key is not stored,
+    /// and has to be callable there.
     pub fn or_insert_with_key<F: FnOnce(&K) -> V>(
         self,
         default: F,
@@ -257,7 +260,8 @@ impl<'a, K: AsBytes, V, const PREFIX_LEN: usize> Entry<'a, K, V, PREFIX_LEN> {
         }
     }
 
-    /// As `or_insert_entry`, with a value that `default` gives. It is called only where the key is not stored.
+    /// As `or_insert_entry`, with a value that `default` gives. It is called only where the key is not stored, and has
+    /// to be callable there.
     pub fn or_insert_with_entry<F: FnOnce() -> V>(
         self,
         default: F,
@@ -278,7 +282,7 @@ impl<'a, K: AsBytes, V, const PREFIX_LEN: usize> Entry<'a, K, V, PREFIX_LEN> {
     }
 
     /// As `or_insert_entry`, with a value that `default` gives for the key. It is called only where the key is not
-    /// stored.
+    /// stored, and has to be callable there.
     pub fn or_insert_with_key_entry<F: FnOnce(&K) -> V>(
         self,
         default: F,

@@ -135,7 +135,8 @@ impl<'a, K: AsBytes, V, const PREFIX_LEN: usize> PrefixEntry<'a, K, V, PREFIX_LE
         }
     }
 
-    /// As `or_insert`, with a value that `default` gives. It is called only where the key is not stored.
+    /// As `or_insert`, with a value that `default` gives. It is called only where the key is not stored, and has to be
+    /// callable there.
     pub fn or_insert_with<F: FnOnce() -> V>(
         self,
         default: F,
@@ -158,7 +159,8 @@ impl<'a, K: AsBytes, V, const PREFIX_LEN: usize> PrefixEntry<'a, K, V, PREFIX_LE
         }
     }
 
-    /// As `or_insert`, with a value that `default` gives for the key. It is called only where the key is not stored.
+    /// As `or_insert`, with a value that `default` gives for the key. It is called only where the key is not stored,
+    /// and has to be callable there.
     pub fn or_insert_with_key<F: FnOnce(&K) -> V>(
         self,
         default: F,
@@ -233,7 +235,8 @@ impl<'a, K: AsBytes, V, const PREFIX_LEN: usize> PrefixEntry<'a, K, V, PREFIX_LE
         }
     }
 
-    /// As `or_insert_entry`, with a value that `default` gives. It is called only where the key is not stored.
+    /// As `or_insert_entry`, with a value that `default` gives. It is called only where the key is not stored, and has
+    /// to be callable there.
     pub fn or_insert_with_entry<F: FnOnce() -> V>(
         self,
         default: F,
@@ -257,7 +260,7 @@ impl<'a, K: AsBytes, V, const PREFIX_LEN: usize> PrefixEntry<'a, K, V, PREFIX_LE
     }
 
     /// As `or_insert_entry`, with a value that `default` gives for the key. It is called only where the key is not
-    /// stored.
+    /// stored, and has to be callable there.
     pub fn or_insert_with_key_entry<F: FnOnce(&K) -> V>(
         self,
         default: F,

@@ -24,3 +24,6 @@ returns-in-Ok-clause-place g c = rw c.in-Some.is (λ s tree. ∣ (c.in-Ok.ensure
 
 pub returns-in-None-clause-place : goal.returns-in-None-clause-place
 returns-in-None-clause-place g c = rw c.in-None.is tt
+
+pub returns-in-Err-clause-part : goal.returns-in-Err-clause-part
+returns-in-Err-clause-part g c = rw c.in-Some.is c.in-Err.ensures.part

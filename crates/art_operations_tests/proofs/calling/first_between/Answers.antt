@@ -1,0 +1,23 @@
+use Rattle.std.proofs.Common.{arith}
+use Rattle.std.specs.BTreeMap.Range.{range_contains}
+use Rattle.std.specs.Range.Bound.{bound_map}
+use Rattle.art_bytes.specs.Keys.{bytes_cmp}
+use Rattle.art_arena.specs.arena.Arena.{node_at}
+use Rattle.art_arena.specs.arena.Shapes.{leaves}
+use Rattle.art_arena.proofs.shapes.Meanings.{nodes-subtree}
+use Rattle.art_operations.proofs.NamedLeaves.{leaf-held}
+use Rattle.art_operations_tests.proofs.FirstLeaf.{first-passing, key-passes}
+use Rattle.art_operations_tests.proofs.calling.first_between.Goals as goal
+
+pub as_key_ref-requires : goal.as_key_ref-requires
+as_key_ref-requires g c =
+    let (s, tree) = c.requires in
+    let found = (c.in-Some.ensures s (nodes-subtree g.K.AsBytes.bytes g.row.PREFIX_LEN (node_at c.args.arena.now) c.args.root s tree.nodes) tree.linked).0 in
+    let there = first-passing g.K.AsBytes.bytes (λ k. range_contains bytes_cmp (bound_map (λ key. key.now) c.args.start) (bound_map (λ key. key.now) c.args.end) k) (leaves s) _ found in
+    (omega arith, leaf-held g.K.AsBytes.bytes g.row.PREFIX_LEN c.args.arena.now c.args.root s tree _ there.0)
+
+pub returns-in-Some : goal.returns-in-Some
+returns-in-Some g c =
+    let (s, tree) = c.requires in
+    let found = (c.in-Some.ensures s (nodes-subtree g.K.AsBytes.bytes g.row.PREFIX_LEN (node_at c.args.arena.now) c.args.root s tree.nodes) tree.linked).0 in
+    key-passes g.K.AsBytes.bytes (λ k. range_contains bytes_cmp (bound_map (λ key. key.now) c.args.start) (bound_map (λ key. key.now) c.args.end) k) g.row.PREFIX_LEN c.args.arena.now c.args.root s tree _ found c.as_key_ref.result.now c.as_key_ref.ensures
