@@ -20,8 +20,8 @@ const PICKS: [[bool; 9]; 3] = [
     [true, false, true, false, true, false, true, false, true],
 ];
 
-// By their numbers, the values of the keys that a map has.
-type Contents = [Option<u8>; 9];
+/// By their numbers, the values of the keys that a map has.
+pub(crate) type Contents = [Option<u8>; 9];
 
 fn is_picked(picks: &[bool; 9], key: &[u8; 2]) -> bool {
     picks.get(number_of(key)) == Some(&true)
@@ -38,8 +38,8 @@ fn count_picked(keys: &[[u8; 2]], picks: &[bool; 9]) -> usize {
     count
 }
 
-// The contents of a map that was filled with these keys.
-fn contents_of(keys: &[[u8; 2]]) -> Contents {
+/// The contents of a map that was filled with these keys.
+pub(crate) fn contents_of(keys: &[[u8; 2]]) -> Contents {
     let mut contents = [None; 9];
     for key in keys {
         note(&mut contents, key, Some(200));
@@ -47,9 +47,22 @@ fn contents_of(keys: &[[u8; 2]]) -> Contents {
     contents
 }
 
-fn note(contents: &mut Contents, key: &[u8; 2], value: Option<u8>) {
+/// Notes what a map has under a key.
+pub(crate) fn note(contents: &mut Contents, key: &[u8; 2], value: Option<u8>) {
     if let Some(noted) = contents.get_mut(number_of(key)) {
         *noted = value;
+    }
+}
+
+/// The key at an end that is asked next.
+pub(crate) fn next_asked<'a>(
+    asked: &mut Iter<'a, [u8; 2]>,
+    is_at_back: bool,
+) -> Option<&'a [u8; 2]> {
+    if is_at_back {
+        asked.next_back()
+    } else {
+        asked.next()
     }
 }
 
@@ -62,12 +75,7 @@ fn next_wanted(
     contents: &mut Contents,
 ) -> Option<([u8; 2], u8)> {
     for _ in 0..asked.len() {
-        let next = if is_at_back {
-            asked.next_back()
-        } else {
-            asked.next()
-        };
-        let Some(key) = next else {
+        let Some(key) = next_asked(asked, is_at_back) else {
             return None;
         };
         if is_picked(picks, key) {
@@ -79,8 +87,8 @@ fn next_wanted(
     None
 }
 
-// Whether a pair that was picked is this one, or there is neither.
-fn is_wanted(
+/// Whether a pair that was picked is this one, or there is neither.
+pub(crate) fn is_wanted(
     picked: Option<Result<([u8; 2], u8), AllocError>>,
     wanted: Option<([u8; 2], u8)>,
 ) -> bool {
@@ -122,8 +130,8 @@ fn has_picks<const PREFIX_LEN: usize>(
     true
 }
 
-// Whether a map has these pairs and no others.
-fn has_contents<const PREFIX_LEN: usize>(
+/// Whether a map has these pairs and no others.
+pub(crate) fn has_contents<const PREFIX_LEN: usize>(
     map: &TreeMap<[u8; 2], u8, PREFIX_LEN>,
     contents: &Contents,
 ) -> bool {
