@@ -18,7 +18,7 @@ use art_arena::{
     ArenaReader, LeafPtr, NodeArena, Passing, TreePath, TreePathSearch, descend, read_full_prefix,
 };
 use art_bytes::AsBytes;
-use art_nodes::{KindLeaf, NodeType, OpaqueNodePtr};
+use art_nodes::{KindLeaf, NodePtr, NodeType, OpaqueNodePtr};
 use std::alloc::{AllocError, Global};
 use std::marker::Model;
 use thiserror::Error;
@@ -152,11 +152,37 @@ struct Stop {
     depth: usize,
 }
 
-// Where the search for the place of a key ends.
+impl Stop {
+    // The place of a key that meets this here.
+    #[inline(always)]
+    fn point(self, root: OpaqueNodePtr, insert_kind: InsertKind) -> InsertPoint
+        ensures { result ≡ record {
+          root = root;
+          path = self.path;
+          key_bytes_used = self.depth;
+          insert_kind = insert_kind;
+        } }
+    {
+        InsertPoint {
+            root,
+            path: self.path,
+            key_bytes_used: self.depth,
+            insert_kind,
+        }
+    }
+}
+
+// How the search for the place of a key ends at a node.
 #[derive(Clone, Copy)]
 enum Way {
-    // This is the place.
-    Point(InsertKind),
+    // The leaf has the key.
+    Same,
+    // The leaf's key has another byte.
+    PartsFromLeaf(Parted),
+    // The inner node's prefix has another byte.
+    PartsFromPrefix(Parted),
+    // The inner node has no child under this byte.
+    NoChild(u8),
     // The key can't be put in.
     Conflict,
 }
@@ -172,19 +198,14 @@ fn way_at_leaf<K: AsBytes, V, const PREFIX_LEN: usize>(
     requires { (path : List ℕ) × (s : Shape K V)
         × StoresAt K.bytes PREFIX_LEN arena.now (leaf_name leaf) depth path s × BeginsWith path key.now }
     ensures { (path : List ℕ) (s : Shape K V) → StoresAt K.bytes PREFIX_LEN arena.now (leaf_name leaf) depth path s
-        → BeginsWith path key.now → IsWay K.bytes key.now path s result }
+        → BeginsWith path key.now → IsWay K.bytes key.now path s (leaf_name leaf) result }
 {
     let stored = arena.as_key_ref(leaf).as_bytes();
     match meet(&stored[depth..], &key[depth..]) {
-        Meeting::Same => Way::Point(InsertKind::Exact {
-            leaf_node_ptr: leaf,
-        }),
+        Meeting::Same => Way::Same,
         Meeting::OldEnds => Way::Conflict,
         Meeting::NewEnds => Way::Conflict,
-        Meeting::Parts(parted) => Way::Point(InsertKind::SplitLeaf {
-            leaf_node_ptr: leaf,
-            parted,
-        }),
+        Meeting::Parts(parted) => Way::PartsFromLeaf(parted),
     }
 }
 
@@ -202,21 +223,15 @@ fn way_at_inner<K: AsBytes, V, const PREFIX_LEN: usize>(
     requires stops { (path : List ℕ) (s : Shape K V) → StoresAt K.bytes PREFIX_LEN arena.now node depth path s
         → BeginsWith path key.now → Stops K.bytes key.now path s }
     ensures { (path : List ℕ) (s : Shape K V) → StoresAt K.bytes PREFIX_LEN arena.now node depth path s
-        → BeginsWith path key.now → IsWay K.bytes key.now path s result }
+        → BeginsWith path key.now → IsWay K.bytes key.now path s node result }
 {
     let prefix = read_full_prefix(arena, node, depth).prefix;
     let rest = &key[depth..];
     match meet(prefix, rest) {
         Meeting::Same => Way::Conflict,
         Meeting::NewEnds => Way::Conflict,
-        Meeting::Parts(parted) => Way::Point(InsertKind::MismatchPrefix {
-            inner_node_ptr: node,
-            parted,
-        }),
-        Meeting::OldEnds => Way::Point(InsertKind::IntoExisting {
-            inner_node_ptr: node,
-            key_byte: rest[prefix.len()],
-        }),
+        Meeting::Parts(parted) => Way::PartsFromPrefix(parted),
+        Meeting::OldEnds => Way::NoChild(rest[prefix.len()]),
     }
 }
 
@@ -233,7 +248,7 @@ fn way_at<K: AsBytes, V, const PREFIX_LEN: usize>(
     requires stops { (path : List ℕ) (s : Shape K V) → StoresAt K.bytes PREFIX_LEN arena.now node depth path s
         → BeginsWith path key.now → Stops K.bytes key.now path s }
     ensures { (path : List ℕ) (s : Shape K V) → StoresAt K.bytes PREFIX_LEN arena.now node depth path s
-        → BeginsWith path key.now → IsWay K.bytes key.now path s result }
+        → BeginsWith path key.now → IsWay K.bytes key.now path s node result }
 {
     match node.cast::<KindLeaf>() {
         Some(leaf) => way_at_leaf(arena, leaf, key, depth),
@@ -241,9 +256,7 @@ fn way_at<K: AsBytes, V, const PREFIX_LEN: usize>(
     }
 }
 
-// Goes down for a key by whole prefixes, as far as it goes. It is a function of its own, and isn't inlined, so that the
-// loop keeps names in registers: next to an enum that holds names it takes them apart into bytes.
-#[inline(never)]
+// Goes down for a key by whole prefixes, as far as it goes.
 fn stop_of<K: AsBytes, V, const PREFIX_LEN: usize>(
     arena: &NodeArena<K, V, PREFIX_LEN>,
     root: OpaqueNodePtr,
@@ -281,18 +294,41 @@ pub fn find_insert_point<K: AsBytes, V, const PREFIX_LEN: usize>(
         (λ s. IsInTheWay K.bytes key.now s e.root e.part (steps_of e.path))) }
 {
     let stop = stop_of(arena, root, key);
-    match way_at(arena, stop.node, key, stop.depth) {
+    let node = stop.node;
+    // The place is made in each case alone: what cases hand on together is taken apart into bytes.
+    match way_at(arena, node, key, stop.depth) {
         Way::Conflict => Err(PrefixConflict {
             root,
             path: stop.path,
-            part: stop.node,
+            part: node,
         }),
-        Way::Point(insert_kind) => Ok(InsertPoint {
+        Way::Same => Ok(stop.point(
             root,
-            path: stop.path,
-            key_bytes_used: stop.depth,
-            insert_kind,
-        }),
+            InsertKind::Exact {
+                leaf_node_ptr: NodePtr::from_slot(node.slot()),
+            },
+        )),
+        Way::PartsFromLeaf(parted) => Ok(stop.point(
+            root,
+            InsertKind::SplitLeaf {
+                leaf_node_ptr: NodePtr::from_slot(node.slot()),
+                parted,
+            },
+        )),
+        Way::PartsFromPrefix(parted) => Ok(stop.point(
+            root,
+            InsertKind::MismatchPrefix {
+                inner_node_ptr: node,
+                parted,
+            },
+        )),
+        Way::NoChild(key_byte) => Ok(stop.point(
+            root,
+            InsertKind::IntoExisting {
+                inner_node_ptr: node,
+                key_byte,
+            },
+        )),
     }
 }
 
