@@ -1,6 +1,6 @@
 //! The way of a key down the tree below a name: to the one leaf that can be meant, or as far as it agrees.
-ghost use Rattle.std.specs.Prelude.{◌≡◌, ◌≢◌, ◌+◌, ◌-◌, ◌^◌, ◌≤◌, ◌++◌, ◌∷◌, [], ℕ, List, length, min};
-ghost use Rattle.std.specs.Prelude.{MatchOption, Some};
+ghost use Rattle.std.specs.Prelude.{◌≡◌, ◌≢◌, ◌+◌, ◌-◌, ◌^◌, ◌≤◌, ◌↔◌, ◌++◌, ◌∷◌, [], ℕ, List, drop, length, min};
+ghost use Rattle.std.specs.Prelude.{IsTrue, MatchOption, Some};
 ghost use Rattle.art_bytes.specs.Keys.{BeginsWith};
 ghost use Rattle.art_arena.specs.arena.Arena.{held_at, inner_held, node_at};
 ghost use Rattle.art_arena.specs.arena.Descents.{GoesNoFurther, GoesOn, HasNoFront, Lands, LandsAt, OnWayTo, Stops};
@@ -51,6 +51,30 @@ pub struct Landed<'a, K, V> {
     pub path: TreePath,
 }
 
+// Whether a key, so many bytes of which lead to an inner node, goes on with the node's whole prefix. Most nodes have
+// none, and then nothing is compared.
+#[inline(always)]
+fn passes_prefix<K: AsBytes, V, const PREFIX_LEN: usize>(
+    arena: &NodeArena<K, V, PREFIX_LEN>,
+    node: OpaqueNodePtr,
+    inner: &InnerRef<'_, K, V, PREFIX_LEN>,
+    key: &[u8],
+    depth: usize,
+) -> bool
+    requires stands { (path : List ℕ) × (s : Shape K V) × StoresAt K.bytes PREFIX_LEN arena.now node depth path s }
+    requires held { held_at arena.now node ≡ Some (inner_held inner.now.node) }
+    requires kind { node.kind ≢ NodeType.Leaf }
+    requires within { depth ≤ length key.now }
+    ensures { (path : List ℕ) (s : Shape K V) → StoresAt K.bytes PREFIX_LEN arena.now node depth path s
+        → IsTrue result ↔ BeginsWith (prefix_of s) (drop depth key.now) }
+{
+    if inner.prefix_len() == 0 {
+        return true;
+    }
+    let prefix = read_full_prefix(arena, node, depth).prefix;
+    key[depth..].starts_with(prefix)
+}
+
 // The child to which a key goes on from an inner node, which stands behind so many of its bytes.
 #[inline(always)]
 fn step_at<K: AsBytes, V, const PREFIX_LEN: usize>(
@@ -75,7 +99,7 @@ fn step_at<K: AsBytes, V, const PREFIX_LEN: usize>(
     match passing {
         Passing::ByLength => inner.next_step(key, depth),
         Passing::ByBytes => {
-            if key[depth..].starts_with(read_full_prefix(arena, node, depth).prefix) {
+            if passes_prefix(arena, node, inner, key, depth) {
                 return inner.next_step(key, depth);
             }
             None

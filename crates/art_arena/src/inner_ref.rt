@@ -182,6 +182,16 @@ impl<'a, K, V, const PREFIX_LEN: usize> InnerRef<'a, K, V, PREFIX_LEN> {
     {
         self.range(Bound::Excluded(byte), Bound::Unbounded).next()
     }
+
+    /// The child under the greatest byte below this one, with its byte.
+    #[tactic(auto, using(art_nodes::proofs::ChildLemmas::lasts))]
+    #[inline(always)]
+    pub fn child_before(&self, byte: u8) -> Option<(u8, OpaqueNodePtr)>
+        ensures { result ≡ node.last_child (node.children_between Unbounded (Excluded byte) self.now.node.children) }
+    {
+        self.range(Bound::Unbounded, Bound::Excluded(byte))
+            .next_back()
+    }
 }
 
 // From an inner node to a child: the byte, the child, and how many bytes of the key lead there.

@@ -5,7 +5,9 @@ ghost use Rattle.art_arena.specs.arena.Cells.{leaf_name};
 ghost use Rattle.art_arena.specs.arena.Shapes.{LeafAt};
 ghost use Rattle.art_arena.specs.arena.Linked.{IsList, IsBeside};
 
-use art_arena::links::{insert_after, insert_before, remove_self, replace, replace_run};
+use art_arena::links::{
+    insert_after, insert_before, insert_between, remove_self, replace, replace_run,
+};
 use art_arena::{LeafPtr, NodeArena};
 use art_nodes::LeafNode;
 
@@ -87,6 +89,7 @@ fn are_linked<K, V>(arena: &NodeArena<K, V, 4>, leaves: &[LeafPtr]) -> bool {
 enum Edit {
     InsertBefore,
     InsertAfter,
+    InsertBetween,
     Replace,
     ReplaceRun,
     Remove,
@@ -117,6 +120,10 @@ fn edits<K: Drop, V: Drop>(
             insert_after(arena, third, second);
             are_linked(arena, &[first, second, third])
         }
+        Edit::InsertBetween => {
+            insert_between(arena, third, first, second);
+            are_linked(arena, &[first, third, second])
+        }
         Edit::ReplaceRun => {
             replace_run(arena, third, first, second);
             are_linked(arena, &[third])
@@ -134,6 +141,7 @@ fn edits_of_the_list(rt: HostRuntime) {
     for edit in [
         Edit::InsertBefore,
         Edit::InsertAfter,
+        Edit::InsertBetween,
         Edit::Replace,
         Edit::ReplaceRun,
         Edit::Remove,

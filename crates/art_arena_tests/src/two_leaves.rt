@@ -84,13 +84,17 @@ fn reads_as_stored<K: AsBytes + Drop, V: Drop>(
     let inner = arena.inner(root);
     let first = inner.first_child() == Some((b'x', low.to_opaque()));
     let last = inner.last_child() == Some((b'y', high.to_opaque()));
+    let below = inner.child_before(b'y') == Some((b'x', low.to_opaque()));
+    let above = inner.child_after(b'x') == Some((b'y', high.to_opaque()));
+    let outside = inner.child_before(b'x').is_none() && inner.child_after(b'y').is_none();
     let found = inner.lookup_child(b'y') == Some(high.to_opaque());
     let none = inner.lookup_child(0).is_none();
     let len = inner.prefix_len() == prefix.len();
     let read = read_full_prefix(arena, root, 0);
     let lender = if is_lent { Some(low) } else { None };
     let whole = read.prefix == prefix && read.leaf == lender;
-    Some(ends && first && last && found && none && len && whole)
+    let beside = below && above && outside;
+    Some(ends && first && last && beside && found && none && len && whole)
 }
 
 // One of the two leaves.

@@ -3,7 +3,10 @@ use Rattle.std.proofs.Common.{◌≡◌, ℕ, Bool, true, false, List, [], ◌�
 use Rattle.art_arena.specs.arena.Linked.{Links, first_slot, last_slot, IsBeside}
 use Rattle.art_arena.specs.arena.Shapes.{LeafAt}
 use Rattle.art_arena.proofs.shapes.LinkedLists.{ends_with-first, last_slot-append, AreLinked-same}
+use Rattle.art_operations.specs.declared.insert.into_existing.Neighbours.{Neighbours}
+use Rattle.art_operations.specs.declared.insert.into_existing.Neighbours.TheVariants.{One, Both}
 use Rattle.art_operations.specs.inner.Splits.{IsBetween}
+use Rattle.art_operations.specs.inner.Waiting.{AreNeighbours}
 
 module _ {K V : Type 0} where
   -- the list behind the place begins with the leaf before which the new one goes
@@ -28,6 +31,16 @@ module _ {K V : Type 0} where
   goes_after is_before slot xs ys is between =
       let e = ends_with-first xs slot (subst (λ b. IsBetween b slot xs ys) is between) in
       record { more = e.0; last = e.1; is = e.2; named = e.3 }
+
+  -- what is beside the place between two lists is so between longer ones with the same ends there
+  pub neighbours_of_longer : (n : Neighbours) (before behind xs ys : List (LeafAt K V)) → ((p : ℕ) → last_slot None before ≡ Some p → last_slot None xs ≡ Some p)
+      → ((p : ℕ) → first_slot behind None ≡ Some p → first_slot ys None ≡ Some p) → AreNeighbours n before behind → AreNeighbours n xs ys
+  neighbours_of_longer (One leaf) before behind xs ys last first is = one leaf.is_before is
+    where
+      one : (is_before : Bool) → IsBetween is_before leaf.leaf before behind → IsBetween is_before leaf.leaf xs ys
+      one true e = first _ e
+      one false e = last _ e
+  neighbours_of_longer (Both previous next) before behind xs ys last first is = (last _ is.0, first _ is.1)
 
   pub behind_last : (zs : List (LeafAt K V)) (z : LeafAt K V) (ys : List (LeafAt K V)) → (zs ++ z ∷ []) ++ ys ≡ zs ++ z ∷ ys
   behind_last zs z ys = append_assoc zs (z ∷ []) ys

@@ -41,10 +41,6 @@ module _ {K V : Type 0} where
       none None h = cc
       none (Some leaf) h = cc
 
-  join-none : (kids : Branches K V) → join kids no_branch ≡ kids
-  join-none no_branch = refl
-  join-none (branch b s rest) = ap (branch b s) (join-none rest)
-
   none-behind : (kids : Branches K V) → first_child (children_at kids) ≡ None → kids ≡ no_branch
   none-behind no_branch e = refl
   none-behind (branch b s rest) e = absurd (cc)
@@ -87,6 +83,22 @@ module _ {K V : Type 0} (bytes : K → List ℕ) where
     | inr less ↦ rw less.0 (children_behind path b before after below.1 under)
   ]
 
+  none_below : (path : List ℕ) (b low : ℕ) (after : Branches K V) → AreUnder bytes path low after → b + 1 ≤ low → children_between Unbounded (Excluded b) (children_at after) ≡ []
+  none_below path b low no_branch under above = refl
+  none_below path b low (branch c s rest) under above = elim (leb_tells (suc c) b) [
+    | inl less ↦ absurd (omega (arith, less.1, under.0, above))
+    | inr more ↦ rw more.0 (none_below path b (c + 1) rest under.2 (omega (arith, under.0, above)))
+  ]
+
+  -- the children below an opening are the branches in front of it
+  pub children_in_front : (path : List ℕ) (b : ℕ) (before after : Branches K V) → AreBelow b before → AreUnder bytes path (b + 1) after
+      → children_between Unbounded (Excluded b) (children_at (join before after)) ≡ children_at before
+  children_in_front path b no_branch after below under = none_below path b (b + 1) after under (omega arith)
+  children_in_front path b (branch c s before) after below under = elim (leb_tells (suc c) b) [
+    | inl less ↦ rw less.0 (ap (λ xs. (c, name_of s) ∷ xs) (children_in_front path b before after below.1 under))
+    | inr more ↦ absurd (omega (arith, more.1, below.0))
+  ]
+
   none_from : (path : List ℕ) (b low : ℕ) (after : Branches K V) → AreUnder bytes path low after → b + 1 ≤ low → child_at (children_at after) b ≡ None
   none_from path b low no_branch under above = refl
   none_from path b low (branch c s rest) under above = elim (eqb_tells c b) [
@@ -127,6 +139,9 @@ module _ {K V : Type 0} (bytes : K → List ℕ) (P : ℕ) {rest : List (Name ×
   behind : children_between (Excluded byte) Unbounded (open_node P f).children ≡ children_at f.after
   behind = subst (λ b. children_between (Excluded b) Unbounded (children_at (join f.before f.after)) ≡ children_at f.after) awaits.byte_is (children_behind bytes (path_to outer ++ f.prefix) f.byte f.before f.after awaits.below awaits.after_under)
 
+  in_front : children_between Unbounded (Excluded byte) (open_node P f).children ≡ children_at f.before
+  in_front = subst (λ b. children_between Unbounded (Excluded b) (children_at (join f.before f.after)) ≡ children_at f.before) awaits.byte_is (children_in_front bytes (path_to outer ++ f.prefix) f.byte f.before f.after awaits.below awaits.after_under)
+
   -- a child is the root of a subtree, whose first leaf comes first behind the place, or whose last one comes last in front of it
   pub record IsNext (child : Name) : Type 0 where
     pub path : List ℕ
@@ -156,10 +171,9 @@ module _ {K V : Type 0} (bytes : K → List ℕ) (P : ℕ) {rest : List (Name ×
     pub subtree : IsSubtree bytes P (node_at arena) child path part
     pub last : (p : ℕ) → last_slot None (leaves part) ≡ Some p → last_slot None (leaves_before (f ∷ outer)) ≡ Some p
 
-  pub previous : (c : ℕ × Name) → first_child (children_between (Excluded byte) Unbounded (open_node P f).children) ≡ None → last_child (open_node P f).children ≡ Some c → IsPrevious c.1
-  previous c none found =
-      let all_before : join f.before f.after ≡ f.before = ap (join f.before) (none-behind f.after (sym (ap first_child behind) ∙ none)) ∙ join-none f.before in
-      let b = branch-last f.before c (sym (ap (λ kids. last_child (children_at kids)) all_before) ∙ found) in
+  pub previous : (c : ℕ × Name) → last_child (children_between Unbounded (Excluded byte) (open_node P f).children) ≡ Some c → IsPrevious c.1
+  previous c found =
+      let b = branch-last f.before c (sym (ap last_child in_front) ∙ found) in
       let under = AreUnder-here bytes (path_to outer ++ f.prefix) 0 b.0 c.0 b.1 no_branch (subst (AreUnder bytes (path_to outer ++ f.prefix) 0) b.2 awaits.before_under) in
       let cells_are : cells_in P f.before ≡ cells_in P b.0 ++ cells P b.1 = ap (cells_in P) b.2 ∙ cells_in-join P b.0 (branch c.0 b.1 no_branch) ∙ ap (λ xs. cells_in P b.0 ++ xs) (append-nil (cells P b.1)) in
       let leaves_are : leaves_in f.before ≡ leaves_in b.0 ++ leaves b.1 = ap leaves_in b.2 ∙ leaves_in-join b.0 (branch c.0 b.1 no_branch) ∙ ap (λ xs. leaves_in b.0 ++ xs) (append-nil (leaves b.1)) in
@@ -175,8 +189,12 @@ module _ {K V : Type 0} (bytes : K → List ℕ) (P : ℕ) {rest : List (Name ×
       }
 
   -- there is a child on one side
-  pub some_child : last_child (open_node P f).children ≢ None
-  some_child e = let wide = awaits.two in let some = rw e at (has_last (join f.before f.after) (omega (arith, wide, width-join f.before f.after))) in absurd (cc)
+  pub some_child : last_child (children_between Unbounded (Excluded byte) (open_node P f).children) ≡ None → first_child (children_between (Excluded byte) Unbounded (open_node P f).children) ≡ None → ⊥
+  some_child none none_after =
+      let alone : f.after ≡ no_branch = none-behind f.after (sym (ap first_child behind) ∙ none_after) in
+      let wide : 2 ≤ width f.before + width f.after = awaits.two in
+      let narrow : width f.after ≡ 0 = ap width alone in
+      let some = rw (sym (ap last_child in_front) ∙ none) at (has_last f.before (omega (arith, wide, narrow))) in absurd (cc)
 
   -- once the leaf is linked in and the node has it under the byte, it stands in the tree
   pub child_was_put : (linked new : Arena K V) → ((n : Name) → node_at linked n ≡ node_at arena n) → AreLinked (links_at linked) None (leaves_before (f ∷ outer) ++ (l ∷ leaves_after (f ∷ outer))) None

@@ -258,6 +258,10 @@ module _ {K V : Type 0} where
     held = subst (λ x. IsSome (links x)) f can.held;
   }
 
+  -- a leaf goes in between two that are told
+  pub can_go_between : (links : ℕ → Option Links) (xs ys : List (LeafAt K V)) (p q : Option ℕ) (leaf : ℕ) → IsBeside links (xs ++ ys) leaf → last_slot None xs ≡ p → first_slot ys None ≡ q → CanLink links xs ys p leaf q
+  can_go_between links xs ys p q leaf beside last first = relabel links xs ys _ p leaf leaf _ q last refl first (can_link links xs ys leaf beside)
+
   -- a leaf of a list has links
   pub in_list : (links : ℕ → Option Links) (xs : List (LeafAt K V)) (l : LeafAt K V) (ys : List (LeafAt K V)) (p : ℕ) → AreLinked links None (xs ++ l ∷ ys) None → l.slot ≡ p → IsSome (links p)
   in_list links xs l ys p linked is = rw (link_there links xs l ys p linked is) refl

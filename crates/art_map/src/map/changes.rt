@@ -151,6 +151,7 @@ impl<K: AsBytes, V, const PREFIX_LEN: usize> TreeMap<K, V, PREFIX_LEN> {
     /// It is refused with `Prefix` where the key is a front of a stored key, or a stored key is one of it, and with
     /// `Memory` where there is no memory for the pair, or for the bytes that `Prefix` tells. The pair is handed back,
     /// and the map is as it was. A key that is stored is never refused.
+    #[inline(always)]
     pub fn try_insert(&mut self, key: K, value: V) -> Result<Option<V>, TryInsertError<K, V>>
     where
         K: Drop,
@@ -169,14 +170,23 @@ impl<K: AsBytes, V, const PREFIX_LEN: usize> TreeMap<K, V, PREFIX_LEN> {
                     value: refused.value,
                 }),
             },
-            Err(_) => match KeyPrefix::new(self.alloc, key.as_bytes()) {
-                Ok(byte_repr) => Err(TryInsertError::Prefix {
-                    key,
-                    value,
-                    error: InsertPrefixError { byte_repr },
-                }),
-                Err(_) => Err(TryInsertError::Memory { key, value }),
+            Err(_) => Err(self.blocked(key, value)),
+        }
+    }
+
+    // Why a pair is not put in whose key a stored one blocks.
+    #[inline(never)]
+    fn blocked(&self, key: K, value: V) -> TryInsertError<K, V>
+        requires { IsBlocked (key_of K.bytes) (K.bytes key) self.now.pairs }
+        ensures { IsTryRefused K.bytes self.now.pairs key value result }
+    {
+        match KeyPrefix::new(self.alloc, key.as_bytes()) {
+            Ok(byte_repr) => TryInsertError::Prefix {
+                key,
+                value,
+                error: InsertPrefixError { byte_repr },
             },
+            Err(_) => TryInsertError::Memory { key, value },
         }
     }
 

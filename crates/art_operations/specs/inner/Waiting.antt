@@ -1,5 +1,5 @@
 -- A leaf beside a tree, which is about to go under an inner node of it.
-use Rattle.std.specs.Prelude.{◌≡◌, ℕ, ◌+◌, ◌≤◌, List, ◌∷◌, ◌++◌}
+use Rattle.std.specs.Prelude.{◌≡◌, ℕ, ◌+◌, ◌≤◌, List, ◌∷◌, ◌++◌, Some, None}
 use Rattle.art_bytes.specs.Keys.{BeginsWith}
 use Rattle.art_nodes.specs.Name.{Name}
 use Rattle.art_arena.specs.arena.Arena.{Arena, node_at, links_at}
@@ -7,8 +7,17 @@ use Rattle.art_arena.specs.arena.Cells.{Cell, pair, leaf_name, Holds}
 use Rattle.art_arena.specs.arena.Context.{Frame, path_to, root_of, leaves_before, leaves_after, cells_before}
 use Rattle.art_arena.specs.arena.Context.{cells_after}
 use Rattle.art_arena.specs.arena.Context.{AreAround, AreBelow}
-use Rattle.art_arena.specs.arena.Linked.{IsBeside}
+use Rattle.art_arena.specs.arena.Linked.{IsBeside, first_slot, last_slot}
 use Rattle.art_arena.specs.arena.Shapes.{LeafAt, join, children_at, width, node_of, cells_in, AreUnder}
+use Rattle.art_operations.specs.declared.insert.into_existing.Neighbours.{Neighbours}
+use Rattle.art_operations.specs.declared.insert.into_existing.Neighbours.TheVariants.{One, Both}
+use Rattle.art_operations.specs.inner.Splits.{IsBetween}
+
+-- the place between two lists is beside these leaves: one of them, or the last of the first list and the first of the
+-- second
+abbrev pub AreNeighbours : {K V : Type 0} → Neighbours → List (LeafAt K V) → List (LeafAt K V) → Type 0
+AreNeighbours (One leaf) xs ys = IsBetween leaf.is_before leaf.leaf xs ys
+AreNeighbours (Both previous next) xs ys = (last_slot None xs ≡ Some previous) × (first_slot ys None ≡ Some next)
 
 -- Beside these nodes the arena holds a leaf and a canonical tree with this root. An inner node of the tree has no child
 -- under the byte with which the leaf's key goes on there: it is the frame's node with nothing at the frame's place.

@@ -3,30 +3,30 @@ ghost use Rattle.std.specs.Prelude.{◌≡◌, ◌<◌, ◌+◌, ℕ, suc, List,
 ghost use Rattle.std.specs.Prelude.{IsOk, IfOk, OnErr};
 ghost use Rattle.art_nodes.specs.Name.{Name};
 ghost use Rattle.art_nodes.specs.InnerNode as node;
-ghost use Rattle.art_arena.specs.arena.Arena.{KeepsNodes, SameNodes, HasRoom, KeepsRoom, UsesRoom, links_at};
+ghost use Rattle.art_arena.specs.arena.Arena.{KeepsNodes, SameCells, SameNodes, HasRoom, KeepsRoom, UsesRoom, links_at};
 ghost use Rattle.art_arena.specs.arena.Cells.{Cell};
-ghost use Rattle.art_arena.specs.arena.Linked.{KeepsLinksOutside};
+ghost use Rattle.art_arena.specs.arena.Linked.{AreLinked, IsBeside, KeepsLinksOutside};
 ghost use Rattle.art_arena.specs.arena.Context.{Frame, plug, leaves_before, leaves_after};
 ghost use Rattle.art_arena.specs.tree.Kinds.{IsKindOf};
-ghost use Rattle.art_arena.specs.arena.Shapes.{LeafAt, leaf_at, width};
+ghost use Rattle.art_arena.specs.arena.Shapes.{LeafAt, leaf_at, leaves, width};
 ghost use Rattle.art_arena.specs.arena.Steps.{steps_to, steps_of};
-ghost use Rattle.art_operations.specs.inner.Splits.{IsBetween};
 ghost use Rattle.art_operations.specs.Points.{IsPoint};
 ghost use Rattle.art_operations.specs.Insertions.{HandsPairBack, IsInsertedBeside};
 ghost use Rattle.art_operations.specs.declared.insert.point.InsertKind.TheVariants as kind;
-ghost use Rattle.art_operations.specs.inner.Waiting.{AwaitsLeaf};
-ghost use Rattle.art_arena.specs.arena.Stores.{StoresBeside};
+ghost use Rattle.art_operations.specs.inner.Waiting.{AreNeighbours, AwaitsLeaf};
+ghost use Rattle.art_arena.specs.arena.Stores.{StoresBelow, StoresBeside};
 ghost use Rattle.art_operations.specs.Held.{SameLinks};
-ghost use Rattle.art_operations.specs.Whichever.{HasTreeWhere, OfTreeWhere};
+ghost use Rattle.art_operations.specs.Whichever.{HasSome, HasTreeWhere, OfEach, OfTreeWhere};
 
 use crate::insert::leaf::{store_leaf, take_back};
 use crate::insert::point::InsertPoint;
 use crate::insert::result::{InsertParentNodeChange, InsertRefused, InsertResult};
 use crate::insert::split::link_between;
 use crate::parent::repoint;
+use art_arena::links::insert_between;
 use art_arena::{LeafPtr, NodeArena, NodeEdit, first_leaf, inner_node_ptr, last_leaf};
 use art_bytes::AsBytes;
-use art_nodes::OpaqueNodePtr;
+use art_nodes::{KindLeaf, OpaqueNodePtr};
 use std::alloc::AllocError;
 
 // An inner node with room for one more child, and the root of its tree.
@@ -41,6 +41,13 @@ struct Place {
 struct Neighbour {
     leaf: LeafPtr,
     is_before: bool,
+}
+
+// The leaves beside the place of a new one: one of them, which knows the other, or both.
+#[derive(Clone, Copy)]
+enum Neighbours {
+    One(Neighbour),
+    Both { previous: LeafPtr, next: LeafPtr },
 }
 
 // Makes room for one more child, under this byte, in the inner node at a point: where the node is full, one of the next
@@ -79,34 +86,89 @@ fn make_room<K: AsBytes, V, const PREFIX_LEN: usize>(
     Ok(Place { node, root })
 }
 
-// The leaf beside which a new one goes that is to stand under this byte of an inner node, where no child does: the
-// first one behind that place, or else the last one in front of it.
-fn neighbour_at<K: AsBytes, V, const PREFIX_LEN: usize>(
+// The leaves beside the place between two neighbouring parts of a tree. Where both are leaves, both are told: then
+// neither waits for the other to be read. Of an inner node the leaf at its end would be read to be told.
+fn neighbours_between<K: AsBytes, V, const PREFIX_LEN: usize>(
+    arena: &NodeArena<K, V, PREFIX_LEN>,
+    previous: OpaqueNodePtr,
+    next: OpaqueNodePtr,
+) -> Neighbours
+    requires before { HasSome (StoresBelow K.bytes PREFIX_LEN arena.now previous) }
+    requires behind { HasSome (StoresBelow K.bytes PREFIX_LEN arena.now next) }
+    ensures { OfEach (StoresBelow K.bytes PREFIX_LEN arena.now previous) (λ to_before before.
+        OfEach (StoresBelow K.bytes PREFIX_LEN arena.now next) (λ to_behind behind.
+        AreNeighbours result (leaves before) (leaves behind))) }
+{
+    if !previous.is::<KindLeaf>() {
+        return Neighbours::One(Neighbour {
+            leaf: first_leaf(arena, next),
+            is_before: true,
+        });
+    }
+    let last = last_leaf(arena, previous);
+    if next.is::<KindLeaf>() {
+        return Neighbours::Both {
+            previous: last,
+            next: first_leaf(arena, next),
+        };
+    }
+    Neighbours::One(Neighbour {
+        leaf: last,
+        is_before: false,
+    })
+}
+
+// The leaves beside the place of a new one that is to stand under this byte of an inner node, where no child does.
+fn neighbours_at<K: AsBytes, V, const PREFIX_LEN: usize>(
     arena: &NodeArena<K, V, PREFIX_LEN>,
     node: OpaqueNodePtr,
     byte: u8,
-) -> Neighbour
+) -> Neighbours
     requires { (root : Name) × (leaf : ℕ) × (f : Frame K V) × (outer : List (Frame K V)) × (l : LeafAt K V)
         × (rest : List (Name × Cell K V))
         × AwaitsLeaf K.bytes PREFIX_LEN arena.now rest root node byte leaf f outer l }
     ensures { (root : Name) (leaf : ℕ) (f : Frame K V) (outer : List (Frame K V)) (l : LeafAt K V)
         (rest : List (Name × Cell K V))
         → AwaitsLeaf K.bytes PREFIX_LEN arena.now rest root node byte leaf f outer l
-        → IsBetween result.is_before result.leaf (leaves_before (f ∷ outer)) (leaves_after (f ∷ outer)) }
+        → AreNeighbours result (leaves_before (f ∷ outer)) (leaves_after (f ∷ outer)) }
 {
     let inner = arena.inner(node);
-    if let Some(next) = inner.child_after(byte) {
-        return Neighbour {
+    let before = inner.child_before(byte);
+    let behind = inner.child_after(byte);
+    match (before, behind) {
+        (Some(previous), Some(next)) => neighbours_between(arena, previous.1, next.1),
+        (None, Some(next)) => Neighbours::One(Neighbour {
             leaf: first_leaf(arena, next.1),
             is_before: true,
-        };
-    }
-    match inner.last_child() {
-        Some(previous) => Neighbour {
+        }),
+        (Some(previous), None) => Neighbours::One(Neighbour {
             leaf: last_leaf(arena, previous.1),
             is_before: false,
-        },
-        None => unreachable!(),
+        }),
+        (None, None) => unreachable!(),
+    }
+}
+
+// Links a leaf in beside its neighbours.
+fn link_in<K, V, const PREFIX_LEN: usize>(
+    arena: &mut NodeArena<K, V, PREFIX_LEN>,
+    leaf: LeafPtr,
+    neighbours: Neighbours,
+)
+    requires { (xs : List (LeafAt K V)) × (ys : List (LeafAt K V)) × IsBeside (links_at arena.old) (xs ++ ys) leaf
+        × AreNeighbours neighbours xs ys }
+    ensures nodes { SameCells arena.old arena.new }
+    ensures room { KeepsRoom arena.old arena.new }
+    ensures linked { (xs ys : List (LeafAt K V)) (m : LeafAt K V) → IsBeside (links_at arena.old) (xs ++ ys) leaf
+        → AreNeighbours neighbours xs ys → m.slot ≡ leaf
+        → AreLinked (links_at arena.new) None (xs ++ m ∷ ys) None }
+    ensures others { (xs ys : List (LeafAt K V)) (m : LeafAt K V) → IsBeside (links_at arena.old) (xs ++ ys) leaf
+        → AreNeighbours neighbours xs ys → m.slot ≡ leaf
+        → KeepsLinksOutside (links_at arena.old) (links_at arena.new) (xs ++ m ∷ ys) }
+{
+    match neighbours {
+        Neighbours::One(one) => link_between(arena, leaf, one.leaf, one.is_before),
+        Neighbours::Both { previous, next } => insert_between(arena, leaf, previous, next),
     }
 }
 
@@ -130,8 +192,8 @@ fn put_leaf<K: AsBytes, V, const PREFIX_LEN: usize>(
         → KeepsLinksOutside (links_at arena.old) (links_at arena.new)
         (leaves_before (f ∷ outer) ++ l ∷ leaves_after (f ∷ outer)) }
 {
-    let neighbour = neighbour_at(arena, node, byte);
-    link_between(arena, leaf, neighbour.leaf, neighbour.is_before);
+    let neighbours = neighbours_at(arena, node, byte);
+    link_in(arena, leaf, neighbours);
     arena.edit_inner(
         node,
         &NodeEdit::Write {

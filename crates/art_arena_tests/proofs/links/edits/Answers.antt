@@ -10,6 +10,11 @@ insert_before-requires g c = let (x, y, beside, first, second) = c.in_ok-first.e
 pub insert_after-requires : goal.insert_after-requires
 insert_after-requires g c = let (x, y, beside, first, second) = c.in_ok-first.ensures in (lit< tt, (x ∷ [], y, [], beside, second))
 
+pub insert_between-requires : goal.insert_between-requires
+insert_between-requires g c =
+    let (x, y, beside, first, second) = c.in_ok-first.ensures in
+    (lit< tt, (x ∷ [], y ∷ [], beside, ap Some first, ap Some second))
+
 pub replace-requires : goal.replace-requires
 replace-requires g c = let (x, y, beside, first, second) = c.in_ok-first.ensures in (lit< tt, ([], x, y ∷ [], beside, first))
 

@@ -10,45 +10,45 @@ use Rattle.art_arena.proofs.shapes.Updates.{links-kept}
 use Rattle.art_operations.proofs.Waiting.{open_node, node-held, node-inner, as_many, child_was_put}
 use Rattle.art_operations.proofs.insert.into_existing.put_leaf.Goals as goal
 
-pub neighbour_at-neighbour-requires : goal.neighbour_at-neighbour-requires
-neighbour_at-neighbour-requires g c = (omega arith, (_, _, c.requires.1, c.requires.2, c.requires.3, c.requires.4, c.requires.5))
+pub neighbours_at-neighbours-requires : goal.neighbours_at-neighbours-requires
+neighbours_at-neighbours-requires g c = (omega arith, (_, _, c.requires.1, c.requires.2, c.requires.3, c.requires.4, c.requires.5))
 
-pub link_between-requires : goal.link_between-requires
-link_between-requires g c =
+pub link_in-requires : goal.link_in-requires
+link_in-requires g c =
     let r = c.requires in (
       omega arith,
       (
         leaves_before (r.1 ∷ r.2),
         leaves_after (r.1 ∷ r.2),
         subst (IsBeside (links_at c.args.arena.now) (leaves_before (r.1 ∷ r.2) ++ leaves_after (r.1 ∷ r.2))) r.5.leaf_is r.5.beside,
-        c.neighbour_at-neighbour.ensures _ _ _ _ _ _ r.5,
+        c.neighbours_at-neighbours.ensures _ _ _ _ _ _ r.5,
       ),
     )
 
 pub edit_inner-requires : goal.edit_inner-requires
 edit_inner-requires g c =
     let r = c.requires in
-    let there : held_at c.link_between.new.arena c.args.node ≡ Some (inner_held (open_node g.row.PREFIX_LEN r.1)) = inner_of _ (open_node g.row.PREFIX_LEN r.1) (c.link_between.ensures.nodes c.args.node ∙ ap cell_of (node-held _ _ _ _ _ _ _ _ _ _ r.5)) in
+    let there : held_at c.link_in.new.arena c.args.node ≡ Some (inner_held (open_node g.row.PREFIX_LEN r.1)) = inner_of _ (open_node g.row.PREFIX_LEN r.1) (c.link_in.ensures.nodes c.args.node ∙ ap cell_of (node-held _ _ _ _ _ _ _ _ _ _ r.5)) in
     let most = r.6.most in
     let few : length (open_node g.row.PREFIX_LEN r.1).children < (row_of c.args.node.kind).most = omega (arith, most, as_many _ _ _ _ _ _ _ _ _ _ r.5) in
     (omega arith, (omega arith, ((open_node g.row.PREFIX_LEN r.1, there, inl few), node-inner _ _ _ _ _ _ _ _ _ _ r.5)))
 
 pub returns-clause-room : goal.returns-clause-room
-returns-clause-room g c = λ n room. c.edit_inner.ensures.room n (c.link_between.ensures.room n room)
+returns-clause-room g c = λ n room. c.edit_inner.ensures.room n (c.link_in.ensures.room n room)
 
 pub returns-clause-put : goal.returns-clause-put
 returns-clause-put g c = λ root f outer l rest awaits kind.
-    let there = inner_of _ (open_node g.row.PREFIX_LEN f) (c.link_between.ensures.nodes c.args.node ∙ ap cell_of (node-held _ _ _ _ _ _ _ _ _ _ awaits)) in
-    let update = subst (λ n. UpdatesAt (held_at c.link_between.new.arena) (held_at c.edit_inner.new.self) c.args.node
+    let there = inner_of _ (open_node g.row.PREFIX_LEN f) (c.link_in.ensures.nodes c.args.node ∙ ap cell_of (node-held _ _ _ _ _ _ _ _ _ _ awaits)) in
+    let update = subst (λ n. UpdatesAt (held_at c.link_in.new.arena) (held_at c.edit_inner.new.self) c.args.node
     (Some (inner_held (with_children (open_node g.row.PREFIX_LEN f) (with_child (open_node g.row.PREFIX_LEN f).children c.args.byte n)))))
     c.to_opaque.ensures (c.edit_inner.ensures.updates _ there) in
     let beside = subst (IsBeside (links_at c.args.arena.now) (leaves_before (f ∷ outer) ++ leaves_after (f ∷ outer))) awaits.leaf_is awaits.beside in
-    let list = c.link_between.ensures.linked (leaves_before (f ∷ outer)) (leaves_after (f ∷ outer)) l beside (c.neighbour_at-neighbour.ensures _ _ _ _ _ _ awaits) awaits.leaf_is in
-    child_was_put _ _ _ _ _ _ _ _ _ _ awaits c.link_between.new.arena c.edit_inner.new.self c.link_between.ensures.nodes list update kind
+    let list = c.link_in.ensures.linked (leaves_before (f ∷ outer)) (leaves_after (f ∷ outer)) l beside (c.neighbours_at-neighbours.ensures _ _ _ _ _ _ awaits) awaits.leaf_is in
+    child_was_put _ _ _ _ _ _ _ _ _ _ awaits c.link_in.new.arena c.edit_inner.new.self c.link_in.ensures.nodes list update kind
 
 pub returns-clause-others : goal.returns-clause-others
 returns-clause-others g c = λ root f outer l rest awaits n none.
-    let there = inner_of _ (open_node g.row.PREFIX_LEN f) (c.link_between.ensures.nodes c.args.node ∙ ap cell_of (node-held _ _ _ _ _ _ _ _ _ _ awaits)) in
+    let there = inner_of _ (open_node g.row.PREFIX_LEN f) (c.link_in.ensures.nodes c.args.node ∙ ap cell_of (node-held _ _ _ _ _ _ _ _ _ _ awaits)) in
     let beside = subst (IsBeside (links_at c.args.arena.now) (leaves_before (f ∷ outer) ++ leaves_after (f ∷ outer))) awaits.leaf_is awaits.beside in
-    links-kept c.link_between.new.arena c.edit_inner.new.self c.args.node _ (c.edit_inner.ensures.updates _ there) (node-inner _ _ _ _ _ _ _ _ _ _ awaits) n
-    ∙ c.link_between.ensures.others (leaves_before (f ∷ outer)) (leaves_after (f ∷ outer)) l beside (c.neighbour_at-neighbour.ensures _ _ _ _ _ _ awaits) awaits.leaf_is n none
+    links-kept c.link_in.new.arena c.edit_inner.new.self c.args.node _ (c.edit_inner.ensures.updates _ there) (node-inner _ _ _ _ _ _ _ _ _ _ awaits) n
+    ∙ c.link_in.ensures.others (leaves_before (f ∷ outer)) (leaves_after (f ∷ outer)) l beside (c.neighbours_at-neighbours.ensures _ _ _ _ _ _ awaits) awaits.leaf_is n none

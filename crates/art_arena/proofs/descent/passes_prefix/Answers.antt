@@ -1,0 +1,23 @@
+use Rattle.std.proofs.Common.{◌≡◌, [], ◌∷◌, List, ℕ, drop, length, refl, sym, ap, ◌∙◌}
+use Rattle.art_bytes.specs.Keys.{BeginsWith}
+use Rattle.art_nodes.specs.InnerNode.{InnerNode}
+use Rattle.art_arena.specs.arena.Prefixes.{prefix_of}
+use Rattle.art_arena.proofs.shapes.Prefixes.{header_there, tail, begins_tells}
+use Rattle.art_arena.proofs.descent.passes_prefix.Goals as goal
+
+-- a list of no bytes is a front of each
+begins_empty : (front : List ℕ) → length front ≡ 0 → (key : List ℕ) → BeginsWith front key
+begins_empty [] none key = (key, refl)
+begins_empty (b ∷ front) none key = absurd (cc)
+
+pub returns-then-prefix_len-eq0 : goal.returns-then-prefix_len-eq0
+returns-then-prefix_len-eq0 g c = λ path s at.
+    let h = header_there g.K.AsBytes.bytes g.row.PREFIX_LEN c.args.arena.now c.args.node path s at.subtree c.requires.kind in
+    let same : h.node ≡ c.args.inner.now.node = let e = c.requires.held in let f = h.there in cc in
+    let none : length (prefix_of s) ≡ 0 = sym h.len ∙ ap (λ (n : InnerNode). n.header.prefix_len) same ∙ sym c.prefix_len.ensures ∙ c.if-prefix_len-eq0.true in
+    (λ _. begins_empty (prefix_of s) none _, λ _. refl)
+
+pub returns : goal.returns
+returns g c = λ path s at.
+    begins_tells c.starts_with.result _ (drop c.args.depth c.args.key.now) _ (prefix_of s) (tail c.args.depth c.args.key.now)
+    (c.read_full_prefix.ensures.prefix path s at) c.starts_with.ensures.value
