@@ -22,6 +22,7 @@ use Rattle.art_arena.proofs.shapes.Repoint.{IsNodesBeside-plug}
 use Rattle.art_arena.proofs.shapes.Subtrees.{inner_of, branch-first, branch-last, has_last, AreUnder-here}
 use Rattle.art_arena.proofs.shapes.Updates.{nodes-update, links-kept}
 use Rattle.art_operations.specs.inner.Waiting.{AwaitsLeaf}
+use Rattle.art_operations.proofs.Door.{read_at}
 use Rattle.art_operations.proofs.NewLeaves.{first_of_longer, last_of_longer}
 use Rattle.art_arena.proofs.shapes.LinkedLists.{AreLinked-same}
 
@@ -142,6 +143,13 @@ module _ {K V : Type 0} (bytes : K → List ℕ) (P : ℕ) {rest : List (Name ×
   in_front : children_between Unbounded (Excluded byte) (open_node P f).children ≡ children_at f.before
   in_front = subst (λ b. children_between Unbounded (Excluded b) (children_at (join f.before f.after)) ≡ children_at f.before) awaits.byte_is (children_in_front bytes (path_to outer ++ f.prefix) f.byte f.before f.after awaits.below awaits.after_under)
 
+  -- what was read of the node is so of it
+  seen_behind : (seen : InnerNode) → held_at arena node ≡ Some (inner_held seen) → (r : Option (ℕ × Name)) → r ≡ first_child (children_between (Excluded byte) Unbounded seen.children) → r ≡ first_child (children_at f.after)
+  seen_behind seen there r e = read_at (λ m. first_child (children_between (Excluded byte) Unbounded m.children)) (held_at arena node) (open_node P f) seen node-held there r e ∙ ap first_child behind
+
+  seen_in_front : (seen : InnerNode) → held_at arena node ≡ Some (inner_held seen) → (r : Option (ℕ × Name)) → r ≡ last_child (children_between Unbounded (Excluded byte) seen.children) → r ≡ last_child (children_at f.before)
+  seen_in_front seen there r e = read_at (λ m. last_child (children_between Unbounded (Excluded byte) m.children)) (held_at arena node) (open_node P f) seen node-held there r e ∙ ap last_child in_front
+
   -- a child is the root of a subtree, whose first leaf comes first behind the place, or whose last one comes last in front of it
   pub record IsNext (child : Name) : Type 0 where
     pub path : List ℕ
@@ -149,9 +157,9 @@ module _ {K V : Type 0} (bytes : K → List ℕ) (P : ℕ) {rest : List (Name ×
     pub subtree : IsSubtree bytes P (node_at arena) child path part
     pub first : (p : ℕ) → first_slot (leaves part) None ≡ Some p → first_slot (leaves_after (f ∷ outer)) None ≡ Some p
 
-  pub next : (c : ℕ × Name) → first_child (children_between (Excluded byte) Unbounded (open_node P f).children) ≡ Some c → IsNext c.1
-  next c found =
-      let b = branch-first f.after c (sym (ap first_child behind) ∙ found) in
+  pub next : (seen : InnerNode) → held_at arena node ≡ Some (inner_held seen) → (r : Option (ℕ × Name)) → r ≡ first_child (children_between (Excluded byte) Unbounded seen.children) → (c : ℕ × Name) → r ≡ Some c → IsNext c.1
+  next seen there_seen r e c found =
+      let b = branch-first f.after c (sym (seen_behind seen there_seen r e) ∙ found) in
       let under = subst (AreUnder bytes (path_to outer ++ f.prefix) (f.byte + 1)) b.2 awaits.after_under in
       let there = subst (λ xs. Holds (node_at arena) (cells_before P outer f.name ++ ((f.name, branches (open_node P f)) ∷ (cells_in P f.before ++ ((leaf_name l.slot, pair l.key l.value) ∷ ((xs ++ cells_after P outer) ++ rest))))))
       (ap (cells_in P) b.2) awaits.holds in
@@ -171,9 +179,9 @@ module _ {K V : Type 0} (bytes : K → List ℕ) (P : ℕ) {rest : List (Name ×
     pub subtree : IsSubtree bytes P (node_at arena) child path part
     pub last : (p : ℕ) → last_slot None (leaves part) ≡ Some p → last_slot None (leaves_before (f ∷ outer)) ≡ Some p
 
-  pub previous : (c : ℕ × Name) → last_child (children_between Unbounded (Excluded byte) (open_node P f).children) ≡ Some c → IsPrevious c.1
-  previous c found =
-      let b = branch-last f.before c (sym (ap last_child in_front) ∙ found) in
+  pub previous : (seen : InnerNode) → held_at arena node ≡ Some (inner_held seen) → (r : Option (ℕ × Name)) → r ≡ last_child (children_between Unbounded (Excluded byte) seen.children) → (c : ℕ × Name) → r ≡ Some c → IsPrevious c.1
+  previous seen there_seen r e c found =
+      let b = branch-last f.before c (sym (seen_in_front seen there_seen r e) ∙ found) in
       let under = AreUnder-here bytes (path_to outer ++ f.prefix) 0 b.0 c.0 b.1 no_branch (subst (AreUnder bytes (path_to outer ++ f.prefix) 0) b.2 awaits.before_under) in
       let cells_are : cells_in P f.before ≡ cells_in P b.0 ++ cells P b.1 = ap (cells_in P) b.2 ∙ cells_in-join P b.0 (branch c.0 b.1 no_branch) ∙ ap (λ xs. cells_in P b.0 ++ xs) (append-nil (cells P b.1)) in
       let leaves_are : leaves_in f.before ≡ leaves_in b.0 ++ leaves b.1 = ap leaves_in b.2 ∙ leaves_in-join b.0 (branch c.0 b.1 no_branch) ∙ ap (λ xs. leaves_in b.0 ++ xs) (append-nil (leaves b.1)) in
@@ -189,12 +197,13 @@ module _ {K V : Type 0} (bytes : K → List ℕ) (P : ℕ) {rest : List (Name ×
       }
 
   -- there is a child on one side
-  pub some_child : last_child (children_between Unbounded (Excluded byte) (open_node P f).children) ≡ None → first_child (children_between (Excluded byte) Unbounded (open_node P f).children) ≡ None → ⊥
-  some_child none none_after =
-      let alone : f.after ≡ no_branch = none-behind f.after (sym (ap first_child behind) ∙ none_after) in
+  pub some_child : (seen : InnerNode) → held_at arena node ≡ Some (inner_held seen) → (p n : Option (ℕ × Name)) → p ≡ last_child (children_between Unbounded (Excluded byte) seen.children)
+      → n ≡ first_child (children_between (Excluded byte) Unbounded seen.children) → p ≡ None → n ≡ None → ⊥
+  some_child seen there p n before after none none_after =
+      let alone : f.after ≡ no_branch = none-behind f.after (sym (seen_behind seen there n after) ∙ none_after) in
       let wide : 2 ≤ width f.before + width f.after = awaits.two in
       let narrow : width f.after ≡ 0 = ap width alone in
-      let some = rw (sym (ap last_child in_front) ∙ none) at (has_last f.before (omega (arith, wide, narrow))) in absurd (cc)
+      let some = rw (sym (seen_in_front seen there p before) ∙ none) at (has_last f.before (omega (arith, wide, narrow))) in absurd (cc)
 
   -- once the leaf is linked in and the node has it under the byte, it stands in the tree
   pub child_was_put : (linked new : Arena K V) → ((n : Name) → node_at linked n ≡ node_at arena n) → AreLinked (links_at linked) None (leaves_before (f ∷ outer) ++ (l ∷ leaves_after (f ∷ outer))) None

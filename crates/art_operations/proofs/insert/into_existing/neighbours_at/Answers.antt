@@ -1,8 +1,5 @@
-use Rattle.std.proofs.Common.{◌∷◌, refl, sym, ◌∙◌, arith}
-use Rattle.std.specs.declared.ops.Bound.TheVariants.{Excluded, Unbounded}
-use Rattle.art_nodes.specs.InnerNode.{first_child, last_child, children_between}
+use Rattle.std.proofs.Common.{◌∷◌, refl, arith}
 use Rattle.art_arena.specs.arena.Context.{leaves_before, leaves_after}
-use Rattle.art_operations.proofs.Door.{read_at}
 use Rattle.art_operations.proofs.NewLeaves.{neighbours_of_longer}
 use Rattle.art_operations.proofs.Waiting.{node-held, node-inner, next, previous, some_child}
 use Rattle.art_operations.proofs.insert.into_existing.neighbours_at.Goals as goal
@@ -14,50 +11,38 @@ inner-inner-requires g c =
 
 pub neighbours_between-requires : goal.neighbours_between-requires
 neighbours_between-requires g c =
-    let r = c.requires in
-    let there = node-held _ _ _ _ _ _ _ _ _ _ r.6 in
-    let p = previous _ _ _ _ _ _ _ _ _ _ r.6 c.in-Some-Some.previous (sym (read_at (λ m. last_child (children_between Unbounded (Excluded c.args.byte) m.children)) _ _ _ there c.inner-inner.ensures.value _ c.child_before-before.ensures) ∙ c.in-Some-Some.is-0) in
-    let n = next _ _ _ _ _ _ _ _ _ _ r.6 c.in-Some-Some.next (sym (read_at (λ m. first_child (children_between (Excluded c.args.byte) Unbounded m.children)) _ _ _ there c.inner-inner.ensures.value _ c.child_after-behind.ensures) ∙ c.in-Some-Some.is-1) in
+    let awaits = c.requires.6 in
+    let p = previous _ _ _ _ _ _ _ _ _ _ awaits _ c.inner-inner.ensures.value _ c.child_before-before.ensures c.in-Some-Some.previous c.in-Some-Some.is-0 in
+    let n = next _ _ _ _ _ _ _ _ _ _ awaits _ c.inner-inner.ensures.value _ c.child_after-behind.ensures c.in-Some-Some.next c.in-Some-Some.is-1 in
     (omega arith, ((p.path, p.part, p.subtree), (n.path, n.part, n.subtree)))
 
 pub last_leaf-requires : goal.last_leaf-requires
 last_leaf-requires g c =
-    let r = c.requires in
-    let there = node-held _ _ _ _ _ _ _ _ _ _ r.6 in
-    let p = previous _ _ _ _ _ _ _ _ _ _ r.6 c.in-Some-None.previous (sym (read_at (λ m. last_child (children_between Unbounded (Excluded c.args.byte) m.children)) _ _ _ there c.inner-inner.ensures.value _ c.child_before-before.ensures) ∙ c.in-Some-None.is-0) in
+    let p = previous _ _ _ _ _ _ _ _ _ _ c.requires.6 _ c.inner-inner.ensures.value _ c.child_before-before.ensures c.in-Some-None.previous c.in-Some-None.is-0 in
     (omega arith, (p.path, p.part, p.subtree))
 
 pub first_leaf-requires : goal.first_leaf-requires
 first_leaf-requires g c =
-    let r = c.requires in
-    let there = node-held _ _ _ _ _ _ _ _ _ _ r.6 in
-    let n = next _ _ _ _ _ _ _ _ _ _ r.6 c.in-None-Some.next (sym (read_at (λ m. first_child (children_between (Excluded c.args.byte) Unbounded m.children)) _ _ _ there c.inner-inner.ensures.value _ c.child_after-behind.ensures) ∙ c.in-None-Some.is-1) in
+    let n = next _ _ _ _ _ _ _ _ _ _ c.requires.6 _ c.inner-inner.ensures.value _ c.child_after-behind.ensures c.in-None-Some.next c.in-None-Some.is-1 in
     (omega arith, (n.path, n.part, n.subtree))
 
 pub unreachable-requires : goal.unreachable-requires
 unreachable-requires g c =
-    let r = c.requires in
-    let there = node-held _ _ _ _ _ _ _ _ _ _ r.6 in
-    some_child _ _ _ _ _ _ _ _ _ _ r.6
-    (sym (read_at (λ m. last_child (children_between Unbounded (Excluded c.args.byte) m.children)) _ _ _ there c.inner-inner.ensures.value _ c.child_before-before.ensures) ∙ c.in-None-None.is-0)
-    (sym (read_at (λ m. first_child (children_between (Excluded c.args.byte) Unbounded m.children)) _ _ _ there c.inner-inner.ensures.value _ c.child_after-behind.ensures) ∙ c.in-None-None.is-1)
+    some_child _ _ _ _ _ _ _ _ _ _ c.requires.6 _ c.inner-inner.ensures.value _ _ c.child_before-before.ensures c.child_after-behind.ensures c.in-None-None.is-0 c.in-None-None.is-1
 
 pub returns-in-Some-Some : goal.returns-in-Some-Some
 returns-in-Some-Some g c = λ root leaf f outer l rest awaits.
-    let there = node-held _ _ _ _ _ _ _ _ _ _ awaits in
-    let p = previous _ _ _ _ _ _ _ _ _ _ awaits c.in-Some-Some.previous (sym (read_at (λ m. last_child (children_between Unbounded (Excluded c.args.byte) m.children)) _ _ _ there c.inner-inner.ensures.value _ c.child_before-before.ensures) ∙ c.in-Some-Some.is-0) in
-    let n = next _ _ _ _ _ _ _ _ _ _ awaits c.in-Some-Some.next (sym (read_at (λ m. first_child (children_between (Excluded c.args.byte) Unbounded m.children)) _ _ _ there c.inner-inner.ensures.value _ c.child_after-behind.ensures) ∙ c.in-Some-Some.is-1) in
+    let p = previous _ _ _ _ _ _ _ _ _ _ awaits _ c.inner-inner.ensures.value _ c.child_before-before.ensures c.in-Some-Some.previous c.in-Some-Some.is-0 in
+    let n = next _ _ _ _ _ _ _ _ _ _ awaits _ c.inner-inner.ensures.value _ c.child_after-behind.ensures c.in-Some-Some.next c.in-Some-Some.is-1 in
     neighbours_of_longer c.neighbours_between.result _ _ (leaves_before (f ∷ outer)) (leaves_after (f ∷ outer)) p.last n.first
     (c.neighbours_between.ensures p.path p.part p.subtree n.path n.part n.subtree)
 
 pub returns-in-Some-None : goal.returns-in-Some-None
 returns-in-Some-None g c = λ root leaf f outer l rest awaits.
-    let there = node-held _ _ _ _ _ _ _ _ _ _ awaits in
-    let p = previous _ _ _ _ _ _ _ _ _ _ awaits c.in-Some-None.previous (sym (read_at (λ m. last_child (children_between Unbounded (Excluded c.args.byte) m.children)) _ _ _ there c.inner-inner.ensures.value _ c.child_before-before.ensures) ∙ c.in-Some-None.is-0) in
+    let p = previous _ _ _ _ _ _ _ _ _ _ awaits _ c.inner-inner.ensures.value _ c.child_before-before.ensures c.in-Some-None.previous c.in-Some-None.is-0 in
     p.last _ (c.last_leaf.ensures p.path p.part p.subtree)
 
 pub returns-in-None-Some : goal.returns-in-None-Some
 returns-in-None-Some g c = λ root leaf f outer l rest awaits.
-    let there = node-held _ _ _ _ _ _ _ _ _ _ awaits in
-    let n = next _ _ _ _ _ _ _ _ _ _ awaits c.in-None-Some.next (sym (read_at (λ m. first_child (children_between (Excluded c.args.byte) Unbounded m.children)) _ _ _ there c.inner-inner.ensures.value _ c.child_after-behind.ensures) ∙ c.in-None-Some.is-1) in
+    let n = next _ _ _ _ _ _ _ _ _ _ awaits _ c.inner-inner.ensures.value _ c.child_after-behind.ensures c.in-None-Some.next c.in-None-Some.is-1 in
     n.first _ (c.first_leaf.ensures n.path n.part n.subtree)
