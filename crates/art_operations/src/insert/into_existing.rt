@@ -87,7 +87,8 @@ fn make_room<K: AsBytes, V, const PREFIX_LEN: usize>(
 }
 
 // The leaves beside the place between two neighbouring parts of a tree. Where both are leaves, both are told: then
-// neither waits for the other to be read. Of an inner node the leaf at its end would be read to be told.
+// neither waits for the other to be read. Where one is, it alone is told, since nodes would have to be read to name the
+// leaf at the end of the other part. Where none is, it is the first leaf of the next part.
 fn neighbours_between<K: AsBytes, V, const PREFIX_LEN: usize>(
     arena: &NodeArena<K, V, PREFIX_LEN>,
     previous: OpaqueNodePtr,
