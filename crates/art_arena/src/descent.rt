@@ -13,7 +13,7 @@ ghost use Rattle.art_arena.specs.tree.Paths.{path_of};
 use crate::arena::{LeafPtr, NodeArena};
 use crate::inner_ref::{InnerRef, NextStep};
 use crate::path::{TreePath, TreePathSearch};
-use crate::prefix::read_full_prefix;
+use crate::prefix::full_prefix_of;
 use crate::reader::ArenaReader;
 use art_bytes::AsBytes;
 use art_nodes::{LeafNode, NodePtr, NodeType, OpaqueNodePtr};
@@ -71,7 +71,7 @@ fn passes_prefix<K: AsBytes, V, const PREFIX_LEN: usize>(
     if inner.prefix_len() == 0 {
         return true;
     }
-    let prefix = read_full_prefix(arena, node, depth).prefix;
+    let prefix = full_prefix_of(arena, node, inner, depth).prefix;
     key[depth..].starts_with(prefix)
 }
 

@@ -6,5 +6,6 @@ pub mod PackedLemmas
 pub mod PlaceLemmas
 pub mod PrefixLemmas
 pub mod ReplayLemmas
+pub mod RowLemmas
 pub mod SortedLemmas
 pub mod TableLemmas

@@ -150,6 +150,15 @@ module _ {N : Type 0} where
       nothing (x ∷ xs) = tt
   rises-drop low (suc i) (k ∷ ks) (n ∷ ns) rises = rises-drop low i ks ns (IsAscendingFrom-lower low (k + 1) (zip ks ns) (omega (arith, rises.0)) rises.2)
 
+  -- all ascending bytes come before the end of all bytes
+  pub place-all : (low : ℕ) (ks : List ℕ) (ns : List N) → length ks ≡ length ns → IsAscendingFrom low (zip ks ns) → place ks 256 ≡ length ks
+  place-all low [] ns e rises = refl
+  place-all low (k ∷ ks) [] e rises = absurd (omega arith)
+  place-all low (k ∷ ks) (n ∷ ns) e rises = elim (leb_tells (suc k) 256) [
+    | inl below ↦ rw below.0 (ap suc (place-all (k + 1) ks ns (omega arith) rises.2))
+    | inr past ↦ absurd (omega (arith, past.1, rises.1))
+  ]
+
   -- the children of bytes and names side by side within bounds are a part of both
   pub within-zip : (from to : ℕ) (ks : List ℕ) (ns : List N) → length ks ≡ length ns → from ≤ to → IsAscendingFrom 0 (zip ks ns) → zip (take (place ks to - place ks from) (drop (place ks from) ks)) (take (place ks to - place ks from) (drop (place ks from) ns)) ≡ children_within from to (zip ks ns)
   within-zip from to ks ns e forward rises =

@@ -9,7 +9,7 @@ use Rattle.art_nodes.specs.Header.{Header, IsHeader}
 use Rattle.art_nodes.specs.InnerNode.{InnerNode, IsInnerNode, IsAscendingFrom, child_at, with_child, without_child, with_children}
 use Rattle.art_nodes.specs.Name.{Name}
 use Rattle.art_nodes.specs.inner.Place.{StandsAt, BelongsAt}
-use Rattle.art_nodes.specs.inner.Sorted.{IsSideBySide}
+use Rattle.art_nodes.specs.inner.Sorted.{IsSideBySide, InUse, in_use}
 use Rattle.art_nodes.proofs.PlaceLemmas.{place-within}
 use Rattle.art_nodes.proofs.ChildLemmas.{StandsAmong, held, Absent, absent, length-zip_same, length-ascending, IsAscendingFrom-with_child, IsAscendingFrom-without_child}
 
@@ -142,3 +142,16 @@ module _ (room : ℕ) (header : Header) (keys : List ℕ) (names : List Name) (b
       let long = length-ascending 0 (zip (insert keys at byte) (insert names at name)) (omega arith) new.side.ascending in
       let same = length-zip_same (insert keys at byte) (insert names at name) new.side.same_length in
       omega (arith, long, same, length-insert keys at byte within, side.counts)
+
+-- rows after an edit of the node that holds them
+pub record BecomesRows (room : ℕ) (header : Header) (keys : List ℕ) (names : List Name) (node : InnerNode) (children : List (ℕ × Name)) : Type 0 where
+  pub held : InUse room header keys names
+  pub view : sorted_node header (in_use header keys) (in_use header names) ≡ with_children node children
+
+-- rows whose items in use are those of an edited node
+pub rows_of : (room : ℕ) (header : Header) (keys : List ℕ) (names : List Name) (node : InnerNode) (children : List (ℕ × Name)) {front : List ℕ} {fronts : List Name} → in_use header keys ≡ front → in_use header names ≡ fronts → length keys ≡ room → length names ≡ room → Becomes room header front fronts node children → BecomesRows room header keys names node children
+rows_of room header keys names node children e f keys_fill names_fill new =
+    record {
+      held = record { keys_fill = keys_fill; names_fill = names_fill; within = omega (arith, new.side.counts, new.side.fits); side = rw (e, f) new.side };
+      view = rw (e, f) new.view;
+    }

@@ -1,5 +1,6 @@
 //! The children of an inner node, from either end.
-ghost use Rattle.std.specs.Prelude.{◌≡◌, ◌↔◌, IsTrue, ◌+◌, ◌<◌, ◌≤◌, length, slice_get, count_by, nat_lt, Some, IfSome};
+ghost use Rattle.std.specs.Prelude.{◌≡◌, ◌↔◌, IsTrue, ◌+◌, ◌-◌, ◌<◌, ◌≤◌, length, take, drop, slice_get};
+ghost use Rattle.std.specs.Prelude.{count_by, nat_lt, Some, IfSome};
 ghost use Rattle.std.specs.List.{zip};
 ghost use Rattle.std.specs.Iterator.{YieldsFirst, YieldsLast, item_count, UpTo};
 ghost use Rattle.std.specs.Iterator.SizeHint.{IsWithinCount};
@@ -123,7 +124,7 @@ pub fn are_valid_child_bounds(start: Bound<u8>, end: Bound<u8>) -> bool
 }
 
 // The first byte of a range that starts at this bound.
-fn start_of(start: Bound<u8>) -> usize
+pub(crate) fn start_of(start: Bound<u8>) -> usize
     ensures value { result ≡ start_index start }
     ensures fits { result ≤ 256 }
 {
@@ -135,8 +136,9 @@ fn start_of(start: Bound<u8>) -> usize
 }
 
 // The byte after the last of a range that stops at this bound.
-fn end_of(end: Bound<u8>) -> usize
-    ensures { result ≡ end_index end 256 }
+pub(crate) fn end_of(end: Bound<u8>) -> usize
+    ensures value { result ≡ end_index end 256 }
+    ensures fits { result ≤ 256 }
 {
     match end {
         Bound::Included(byte) => usize::from(byte) + 1,
@@ -345,6 +347,20 @@ impl<'a> ChildIter<'a> {
         ChildIter {
             arm: Arm::Sorted(SortedChildren { keys, names }),
         }
+    }
+
+    /// The children of bytes and names side by side, from one place up to another.
+    pub(crate) fn sorted_part(
+        keys: &'a [u8],
+        names: &'a [OpaqueNodePtr],
+        low: usize,
+        high: usize,
+    ) -> Self
+        requires same_length { length keys.now ≡ length names.now }
+        requires within { (low ≤ high) × (high ≤ length keys.now) }
+        ensures { result ≡ zip (take (high - low) (drop low keys.now)) (take (high - low) (drop low names.now)) }
+    {
+        ChildIter::sorted(&keys[low..high], &names[low..high])
     }
 
     /// The children of a table of places, a place for each byte.

@@ -162,7 +162,7 @@ pub trait InnerNodeCommon<const PREFIX_LEN: usize>: InnerNodeInit<PREFIX_LEN> + 
     }
 
     /// The children whose bytes lie between two bounds, by ascending byte.
-    final fn range(&self, start: Bound<u8>, end: Bound<u8>) -> ChildIter<'_>
+    fn range(&self, start: Bound<u8>, end: Bound<u8>) -> ChildIter<'_>
         requires { AreValidBounds start end }
         ensures { result ≡ children_between start end (Self.inner self.now).children }
     {

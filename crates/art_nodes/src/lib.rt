@@ -17,6 +17,7 @@ mod names;
 mod non_max_index;
 mod prefix_match;
 mod replaying;
+mod row;
 mod sealed;
 mod slot;
 mod sorted;

@@ -1,5 +1,5 @@
 //! Inner nodes of few children, whose bytes and names stand side by side in ascending order.
-ghost use Rattle.std.specs.Prelude.{◌≡◌, ◌↔◌, ◌<◌, ◌≤◌, ◌⊎◌, ◌+◌, ◌^◌, ◌==◌, [], length, min, position, IsTrue, IsSome};
+ghost use Rattle.std.specs.Prelude.{◌≡◌, ◌↔◌, ◌<◌, ◌≤◌, ◌⊎◌, ◌+◌, ◌^◌, ◌==◌, [], length, min, take, IsTrue, IsSome};
 ghost use Rattle.std.specs.Prelude.{MatchResult};
 ghost use Rattle.art_nodes.specs.Header.{front_of};
 ghost use Rattle.std.specs.List.{zip};
@@ -7,20 +7,22 @@ ghost use Rattle.art_nodes.specs.inner.Place.{StandsAt, BelongsAt};
 ghost use Rattle.art_nodes.specs.InnerNode.{InnerNode, IsInnerNode, IsAscending, child_at, with_child, without_child};
 ghost use Rattle.art_nodes.specs.InnerNode.{with_children};
 
-use crate::child_iter::{ChildIter, place_of};
+use crate::child_iter::{ChildIter, end_of, start_of};
 use crate::header::Header;
 use crate::inner_node::{InnerNodeCommon, InnerNodeInit};
 use crate::names::OpaqueNodePtr;
+use crate::row::{place_below, place_in, position_in, put_in, take_out};
 use crate::sealed::Sealed;
-use arrayvec::ArrayVec;
 use std::fmt;
 use std::marker::{Model, PhantomData};
+use std::ops::Bound;
 
-/// An inner node of up to `SIZE` children, by ascending byte.
+/// An inner node of up to `SIZE` children, by ascending byte. The header counts the bytes and the names in use, which
+/// are the first ones; so a whole array of bytes is compared at once, and no length stands beside it.
 pub struct InnerNodeSorted<K, V, const PREFIX_LEN: usize, const SIZE: usize> {
     header: Header<PREFIX_LEN>,
-    keys: ArrayVec<u8, SIZE>,
-    names: ArrayVec<OpaqueNodePtr, SIZE>,
+    keys: [u8; SIZE],
+    names: [OpaqueNodePtr; SIZE],
     tree: PhantomData<(K, V)>,
 }
 
@@ -28,33 +30,29 @@ impl<K, V, const PREFIX_LEN: usize, const SIZE: usize> Model
     for InnerNodeSorted<K, V, PREFIX_LEN, SIZE> {
     ghost use Rattle.std.specs.List.{zip};
     ghost use Rattle.art_nodes.specs.InnerNode.{InnerNode};
-    ghost use Rattle.art_nodes.specs.inner.Sorted.{IsSideBySide};
+    ghost use Rattle.art_nodes.specs.inner.Sorted.{InUse, in_use};
 
     ghost Value = { InnerNode };
 
-    ghost view = { λ n. record { header = n.header; children = zip n.keys.items n.names.items } };
+    ghost view = { λ n. record {
+      header = n.header;
+      children = zip (in_use n.header n.keys) (in_use n.header n.names);
+    } };
 
-    ghost invariant = { λ n. IsSideBySide SIZE n.header n.keys.items n.names.items };
+    ghost invariant = { λ n. InUse SIZE n.header n.keys n.names };
 }
 
-// The place of the byte among these ascending bytes, or the place where it belongs.
-fn find(keys: &[u8], byte: u8) -> Result<usize, usize>
-    ensures { MatchResult result (StandsAt keys.now byte) (BelongsAt keys.now byte) }
+// The place of the byte among the first `used` of these ascending bytes, or the place where it belongs.
+fn find(keys: &[u8], used: usize, byte: u8) -> Result<usize, usize>
+    requires { used ≤ length keys.now }
+    ensures { MatchResult result (StandsAt (take used keys.now) byte) (BelongsAt (take used keys.now) byte) }
 {
-    let at = place_of(keys, usize::from(byte));
-    if at < keys.len() && keys[at] == byte {
+    let at = place_in(keys, used, byte);
+    if at < used && keys[at] == byte {
         Ok(at)
     } else {
         Err(at)
     }
-}
-
-// The first place of the byte among these bytes. A look-up needs no more, and to test for equality alone is faster
-// than to find the place where the byte belongs.
-fn position_of(keys: &[u8], byte: u8) -> Option<usize>
-    ensures { result ≡ position (λ key. key == byte) keys.now }
-{
-    keys.iter().position(|key| *key == byte)
 }
 
 impl<K, V, const PREFIX_LEN: usize, const SIZE: usize> Drop
@@ -75,7 +73,8 @@ impl<K, V, const PREFIX_LEN: usize, const SIZE: usize> InnerNodeSorted<K, V, PRE
         ensures children { zip result.0.now result.1.now ≡ self.now.children }
         ensures same_length { length result.0.now ≡ length result.1.now }
     {
-        (self.keys.as_slice(), self.names.as_slice())
+        let used = self.header.num_children();
+        (&self.keys[..used], &self.names[..used])
     }
 }
 
@@ -89,8 +88,8 @@ impl<K, V, const PREFIX_LEN: usize, const SIZE: usize> InnerNodeInit<PREFIX_LEN>
     fn from_prefix(bytes: &[u8], len: usize) -> Self {
         InnerNodeSorted {
             header: Header::new(bytes, len),
-            keys: ArrayVec::new(),
-            names: ArrayVec::new(),
+            keys: [0; SIZE],
+            names: [OpaqueNodePtr::default(); SIZE],
             tree: PhantomData,
         }
     }
@@ -110,43 +109,51 @@ impl<K, V, const PREFIX_LEN: usize, const SIZE: usize> InnerNodeCommon<PREFIX_LE
     }
 
     fn is_full(&self) -> bool {
-        self.keys.is_full()
+        self.header.num_children() == SIZE
     }
 
     fn lookup_child(&self, byte: u8) -> Option<OpaqueNodePtr> {
-        // There is a name for each byte, so how many names there are isn't read.
-        match position_of(self.keys.as_slice(), byte) {
-            Some(at) => Some(self.names.as_slice()[at]),
+        match position_in(&self.keys, self.header.num_children(), byte) {
+            Some(at) => Some(self.names[at]),
             None => None,
         }
     }
 
     fn write_child(&mut self, byte: u8, name: OpaqueNodePtr) {
-        match find(self.keys.as_slice(), byte) {
-            Ok(at) => match self.names.get_mut(at) {
-                Some(held) => *held = name,
-                None => unreachable!(),
-            },
+        let used = self.header.num_children();
+        match find(&self.keys, used, byte) {
+            Ok(at) => self.names[at] = name,
             Err(at) => {
-                self.keys.insert(at, byte);
-                self.names.insert(at, name);
+                put_in(&mut self.keys, used, at, byte);
+                put_in(&mut self.names, used, at, name);
                 self.header.inc_num_children();
             }
         }
     }
 
     fn remove_child(&mut self, byte: u8) -> Option<OpaqueNodePtr> {
-        let at = match find(self.keys.as_slice(), byte) {
+        let used = self.header.num_children();
+        let at = match find(&self.keys, used, byte) {
             Ok(at) => at,
             Err(_) => return None,
         };
-        self.keys.remove(at);
+        let removed = self.names[at];
+        take_out(&mut self.keys, used, at);
+        take_out(&mut self.names, used, at);
         self.header.dec_num_children();
-        Some(self.names.remove(at))
+        Some(removed)
     }
 
     fn iter(&self) -> ChildIter<'_> {
-        ChildIter::sorted(self.keys.as_slice(), self.names.as_slice())
+        let used = self.header.num_children();
+        ChildIter::sorted(&self.keys[..used], &self.names[..used])
+    }
+
+    fn range(&self, start: Bound<u8>, end: Bound<u8>) -> ChildIter<'_> {
+        let used = self.header.num_children();
+        let low = place_below(&self.keys, used, start_of(start));
+        let high = place_below(&self.keys, used, end_of(end));
+        ChildIter::sorted_part(&self.keys[..used], &self.names[..used], low, high)
     }
 }
 

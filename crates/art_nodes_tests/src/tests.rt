@@ -67,6 +67,11 @@ fn fills_and_empties<N: InnerNodeCommon<16>, R: Abort>(rt: &R, bytes: &[u8]) {
     }
     assert_eq!(rt; node.iter().len(), bytes.len());
     for byte in bytes {
+        let above = node.range(Bound::Excluded(*byte), Bound::Unbounded).len();
+        let others = node.range(Bound::Unbounded, Bound::Included(*byte)).len();
+        assert!(rt; above.checked_add(others) == Some(bytes.len()));
+    }
+    for byte in bytes {
         assert!(rt; node.remove_child(*byte) == Some(leaf(usize::from(*byte))));
         assert!(rt; node.lookup_child(*byte) == None);
     }
@@ -272,8 +277,8 @@ fn conversions(rt: HostRuntime) {
 fn weights(rt: HostRuntime) {
     assert_eq!(rt; size_of::<OpaqueNodePtr>(), 9);
     assert_eq!(rt; size_of::<Header<16>>(), 32);
-    assert_eq!(rt; size_of::<Small>(), 96);
-    assert_eq!(rt; size_of::<InnerNode16<[u8; 3], u64, 16>>(), 208);
+    assert_eq!(rt; size_of::<Small>(), 72);
+    assert_eq!(rt; size_of::<InnerNode16<[u8; 3], u64, 16>>(), 192);
     assert_eq!(rt; size_of::<Middle>(), 728);
     assert_eq!(rt; size_of::<InnerNode256<[u8; 3], u64, 16>>(), 2592);
 }

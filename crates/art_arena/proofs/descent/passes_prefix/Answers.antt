@@ -20,4 +20,4 @@ returns-then-prefix_len-eq0 g c = λ path s at.
 pub returns : goal.returns
 returns g c = λ path s at.
     begins_tells c.starts_with.result _ (drop c.args.depth c.args.key.now) _ (prefix_of s) (tail c.args.depth c.args.key.now)
-    (c.read_full_prefix.ensures.prefix path s at) c.starts_with.ensures.value
+    (c.full_prefix_of.ensures.prefix path s at) c.starts_with.ensures.value

@@ -1,0 +1,18 @@
+use Rattle.std.proofs.Common.{◌≡◌, ℕ, List, eqb, min, take, w8, w64, arith, ap, ◌∙◌}
+use Rattle.std.specs.Int.{trailing_zeros}
+use Rattle.std.specs.List.{position_or_len}
+use Rattle.std.proofs.lemmas.Simd.{bitmask_splat, length-chunk}
+use Rattle.std.proofs.lemmas.List.{take_all}
+use lib.Lanes.{chunk}
+use Rattle.art_nodes.proofs.RowLemmas.{before_lowest}
+use Rattle.art_nodes.proofs.row.before_equal.Goals as goal
+
+pub returns : goal.returns
+returns g c =
+    let keys = c.args.keys.now in
+    let n = g.row.N in
+    let all : chunk 0 n keys ≡ keys = take_all n keys (omega (arith, c.requires.lanes)) in
+    let long = length-chunk 0 n keys (omega (arith, c.requires.lanes)) in
+    let marks = bitmask_splat w8 eqb (chunk 0 n keys) n c.args.byte long (omega (arith, c.requires.lanes)) in
+    let first = before_lowest (λ key. eqb key c.args.byte) (chunk 0 n keys) c.args.used (omega (arith, long, c.requires.lanes)) (omega (arith, long, c.requires.used)) in
+    c.min.ensures ∙ ap (λ m. min (trailing_zeros w64 m) c.args.used) marks ∙ first ∙ ap (λ (xs : List ℕ). position_or_len (λ key. eqb key c.args.byte) (take c.args.used xs)) all

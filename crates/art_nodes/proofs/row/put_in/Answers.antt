@@ -1,0 +1,5 @@
+use Rattle.art_nodes.proofs.RowLemmas as row
+use Rattle.art_nodes.proofs.row.put_in.Goals as goal
+
+pub returns-clause-items : goal.returns-clause-items
+returns-clause-items g c = rw c.copy_within.ensures.after (row.put_in c.args.row.now c.args.at c.args.used c.args.item c.requires.0 c.requires.1)
