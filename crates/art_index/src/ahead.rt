@@ -8,25 +8,60 @@ use art_arena::{ArenaReader, InnerRef, NodeArena};
 use art_nodes::{NodeType, OpaqueNodePtr};
 use std::ops::Bound;
 
-/// How many leaves are read together.
+/// How many leaves are read together at least, where there are as many.
 const BATCH: usize = 32;
 
-/// How many bytes of a node have the inner nodes under them read together.
-const RUN: u8 = 32;
-
-/// Fewer inner nodes than that under so many bytes gain nothing by it: then those behind them aren't read together.
-const FEW: usize = 4;
+/// How many children of a node are named before they are read.
+const ROW: usize = 32;
 
 /// How many nodes may be still to be read. Where the tree is deeper than that allows, its leaves are not read ahead.
 const PENDING: usize = 256;
 
-/// A node below which leaves are still to come: those under its bytes from this one on. The inner nodes under its bytes
-/// below another were read together.
+/// Children of a node: their bytes, ascending, their names, and how many there are. Whole arrays, so that nothing is
+/// blanked for the next node, as an `ArrayVec` would.
+#[derive(Drop)]
+struct Row {
+    bytes: [u8; ROW],
+    names: [OpaqueNodePtr; ROW],
+    len: usize,
+}
+
+impl Row {
+    /// No children, at first.
+    fn new() -> Self {
+        Row {
+            bytes: [0; ROW],
+            names: [OpaqueNodePtr::default(); ROW],
+            len: 0,
+        }
+    }
+
+    /// Puts a child behind the others. Answers whether there was room for it.
+    fn push(&mut self, byte: u8, name: OpaqueNodePtr) -> bool {
+        let at = self.len;
+        let (Some(of_byte), Some(of_name)) = (self.bytes.get_mut(at), self.names.get_mut(at)) else {
+            return false;
+        };
+        *of_byte = byte;
+        *of_name = name;
+        self.len = at.saturating_add(1);
+        true
+    }
+
+    /// The child at this place, if there is one.
+    fn get(&self, at: usize) -> Option<(u8, OpaqueNodePtr)> {
+        if at >= self.len {
+            return None;
+        }
+        Some((*self.bytes.get(at)?, *self.names.get(at)?))
+    }
+}
+
+/// A node below which leaves are still to come: those under its bytes from this one on.
 #[derive(Clone, Copy, Default, Drop)]
 struct Pending {
     name: OpaqueNodePtr,
     from: u8,
-    read: u8,
 }
 
 /// The leaves that are still to be read ahead, by the nodes above them, the next one last.
@@ -34,6 +69,7 @@ struct Pending {
 pub(crate) struct Ahead<'a, const PREFIX_LEN: usize> {
     arena: &'a NodeArena<Vec<u8>, Vec<u8>, PREFIX_LEN>,
     pending: ArrayVec<Pending, PENDING>,
+    row: Row,
     left: usize,
     seen: u8,
 }
@@ -46,14 +82,12 @@ impl<'a, const PREFIX_LEN: usize> Ahead<'a, PREFIX_LEN> {
     ) -> Self {
         let mut pending = ArrayVec::new();
         if let Some(name) = root {
-            let _ = pending.try_push(Pending {
-                name,
-                ..Pending::default()
-            });
+            let _ = pending.try_push(Pending { name, from: 0 });
         }
         Ahead {
             arena,
             pending,
+            row: Row::new(),
             left: 0,
             seen: 0,
         }
@@ -73,71 +107,97 @@ impl<'a, const PREFIX_LEN: usize> Ahead<'a, PREFIX_LEN> {
     /// Reads the next leaves together, and goes on by the first.
     #[inline(never)]
     fn read(&mut self) {
-        let mut batch: ArrayVec<OpaqueNodePtr, BATCH> = ArrayVec::new();
         for _ in 0..4 * BATCH {
-            if batch.is_full() {
+            if self.left >= BATCH {
                 break;
             }
             let Some(next) = self.pending.pop() else {
                 break;
             };
-            self.go_below(next, &mut batch);
+            self.go_below(next);
         }
-        for name in batch.as_slice() {
-            self.seen ^= self.touched(*name);
-        }
-        self.left = batch.len().saturating_sub(1);
+        self.left = self.left.saturating_sub(1);
     }
 
-    /// Names the leaves below a node, up to its first inner node, which is then the next one to be gone below.
-    fn go_below(&mut self, node: Pending, batch: &mut ArrayVec<OpaqueNodePtr, BATCH>) {
+    /// Reads the leaves below a node's next children, up to an inner node with inner nodes under it, which is then the
+    /// next one to be gone below.
+    fn go_below(&mut self, node: Pending) {
         if !self.arena.holds(node.name) {
             return;
         }
         let Err(inner) = ArenaReader::new(self.arena).visit(node.name).leaf() else {
-            let _ = batch.try_push(node.name);
+            self.touch(node.name);
             return;
         };
-        for (byte, name) in inner.range(Bound::Included(node.from), Bound::Unbounded) {
-            if name.node_type() != NodeType::Leaf {
-                let read = self.read_inner_nodes(&inner, byte, node.read);
-                if byte < 255 {
-                    let from = byte + 1;
-                    let _ = self.pending.try_push(Pending { from, read, ..node });
+        let rest = self.next_row(&inner, node.from);
+        for at in 0..ROW {
+            let Some((byte, name)) = self.row.get(at) else {
+                break;
+            };
+            if name.node_type() == NodeType::Leaf {
+                self.touch(name);
+            } else if let Some(below) = self.touch_below(name) {
+                if let Some(from) = byte.checked_add(1) {
+                    self.put_off(node.name, from);
                 }
-                let _ = self.pending.try_push(Pending {
-                    name,
-                    ..Pending::default()
-                });
+                self.put_off(name, below);
                 return;
             }
-            if batch.try_push(name).is_err() {
-                let _ = self.pending.try_push(Pending { from: byte, ..node });
-                return;
-            }
+        }
+        if let Some(from) = rest {
+            self.put_off(node.name, from);
         }
     }
 
-    /// Reads the inner nodes under the next bytes of a node together, where those below this byte were read, and tells
-    /// below which byte none is to be read any more: below all, where there are too few to gain by it.
-    fn read_inner_nodes(
+    /// Leaves under this node's bytes from this one on are to come next.
+    fn put_off(&mut self, name: OpaqueNodePtr, from: u8) {
+        let _ = self.pending.try_push(Pending { name, from });
+    }
+
+    /// Puts the children of a node's bytes from this one on in a row, reads the inner nodes among them together, and
+    /// tells the byte of the first child that is not in the row.
+    fn next_row(
         &mut self,
         inner: &InnerRef<'_, Vec<u8>, Vec<u8>, PREFIX_LEN>,
-        byte: u8,
-        read: u8,
-    ) -> u8 {
-        if byte < read {
-            return read;
-        }
-        let next = byte.saturating_add(RUN);
-        let mut met: usize = 0;
-        for (_, name) in inner.range(Bound::Included(byte), Bound::Excluded(next)) {
+        from: u8,
+    ) -> Option<u8> {
+        self.row.len = 0;
+        for (byte, name) in inner.range(Bound::Included(from), Bound::Unbounded) {
+            if !self.row.push(byte, name) {
+                return Some(byte);
+            }
             if name.node_type() != NodeType::Leaf {
                 self.seen ^= u8::from(self.arena.holds(name));
-                met = met.saturating_add(1);
             }
         }
-        if met < FEW { u8::MAX } else { next }
+        None
+    }
+
+    /// Reads the leaves under a small inner node, up to its first inner node, of which it tells the byte. Under any
+    /// other node it reads none.
+    fn touch_below(&mut self, name: OpaqueNodePtr) -> Option<u8> {
+        if !matches!(name.node_type(), NodeType::Node4 | NodeType::Node16) {
+            return Some(0);
+        }
+        if !self.arena.holds(name) {
+            return None;
+        }
+        let Err(inner) = ArenaReader::new(self.arena).visit(name).leaf() else {
+            return None;
+        };
+        for (byte, child) in inner.children() {
+            if child.node_type() != NodeType::Leaf {
+                return Some(byte);
+            }
+            self.touch(child);
+        }
+        None
+    }
+
+    /// Reads a leaf.
+    fn touch(&mut self, name: OpaqueNodePtr) {
+        self.seen ^= self.touched(name);
+        self.left = self.left.saturating_add(1);
     }
 
     /// A byte of what a leaf's entry, its key and its value hold.
