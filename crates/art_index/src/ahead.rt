@@ -1,28 +1,37 @@
 //! What a dump reads ahead of its lines. The leaves of a map are linked each to the next, so a walk along them waits
-//! for one leaf after another. The inner nodes name many leaves at a time: these are read together, with their keys and
-//! their values, before the lines of their records are put together from what the processor then has at hand.
+//! for one leaf after another. The inner nodes name many leaves at a time: so many are named first, then their entries
+//! are read together, and then their keys and their values, before the lines of their records are put together from
+//! what the processor then has at hand.
 //!
 //! Nothing rests on what is read here, so no contract says what it is.
 use arrayvec::ArrayVec;
-use art_arena::{ArenaReader, InnerRef, NodeArena};
-use art_nodes::{NodeType, OpaqueNodePtr};
+use art_arena::{ArenaReader, InnerRef, LeafPtr, NodeArena, VisitedNode};
+use art_nodes::{InnerNodeCommon, KindLeaf, NodeType, OpaqueNodePtr};
 use std::ops::Bound;
 
 /// How many leaves are read together at least, where there are as many.
 const BATCH: usize = 32;
 
-/// How many children of a node are named before they are read.
-const ROW: usize = 32;
+/// How many leaves are read together at most.
+const LEAVES: usize = 128;
+
+/// How many children a small inner node has at most.
+const SMALL: usize = 16;
+
+/// How many children of a node are named before they are read: those of so many bytes that follow.
+const ROW: usize = 64;
 
 /// How many nodes may be still to be read. Where the tree is deeper than that allows, its leaves are not read ahead.
 const PENDING: usize = 256;
 
-/// Children of a node: their bytes, ascending, their names, and how many there are. Whole arrays, so that nothing is
-/// blanked for the next node, as an `ArrayVec` would.
+/// The inner nodes among children of a node that were named together: their bytes, ascending, their names, and how many
+/// leaves of the batch stand before each. Whole arrays, so that nothing is blanked for the next node, as an `ArrayVec`
+/// would.
 #[derive(Drop)]
 struct Row {
     bytes: [u8; ROW],
     names: [OpaqueNodePtr; ROW],
+    before: [usize; ROW],
     len: usize,
 }
 
@@ -32,28 +41,141 @@ impl Row {
         Row {
             bytes: [0; ROW],
             names: [OpaqueNodePtr::default(); ROW],
+            before: [0; ROW],
             len: 0,
         }
     }
 
-    /// Puts a child behind the others. Answers whether there was room for it.
-    fn push(&mut self, byte: u8, name: OpaqueNodePtr) -> bool {
-        let at = self.len;
-        let (Some(of_byte), Some(of_name)) = (self.bytes.get_mut(at), self.names.get_mut(at)) else {
-            return false;
-        };
-        *of_byte = byte;
-        *of_name = name;
-        self.len = at.saturating_add(1);
-        true
+    /// The inner node at this place, if there is one, and how many leaves of the batch stand before it.
+    fn get(&self, at: usize) -> Option<(u8, OpaqueNodePtr, usize)> {
+        if at < self.len.min(ROW) {
+            Some((self.bytes[at], self.names[at], self.before[at]))
+        } else {
+            None
+        }
     }
 
-    /// The child at this place, if there is one.
-    fn get(&self, at: usize) -> Option<(u8, OpaqueNodePtr)> {
-        if at >= self.len {
-            return None;
+    /// Names a child: a leaf goes in the batch, an inner node in the row. It is put in both, and one of the two keeps
+    /// it, since which of them it is could not be foreseen.
+    #[inline(always)]
+    fn push(&mut self, batch: &mut Batch, byte: u8, name: OpaqueNodePtr) {
+        let (at, leaf) = (self.len, batch.len);
+        if at < ROW && leaf < LEAVES {
+            let is_leaf = name.node_type() == NodeType::Leaf;
+            batch.leaves[leaf] = LeafPtr::from_slot(name.slot());
+            self.bytes[at] = byte;
+            self.names[at] = name;
+            self.before[at] = leaf;
+            batch.len = leaf + usize::from(is_leaf);
+            self.len = at + usize::from(!is_leaf);
         }
-        Some((*self.bytes.get(at)?, *self.names.get(at)?))
+    }
+
+    /// Names the children of a small node, from this byte on.
+    fn take_small<const PREFIX_LEN: usize>(
+        &mut self,
+        batch: &mut Batch,
+        node: &InnerRef<'_, Vec<u8>, Vec<u8>, PREFIX_LEN>,
+        from: u8,
+    ) {
+        self.len = 0;
+        for (byte, name) in node.range(Bound::Included(from), Bound::Unbounded) {
+            self.push(batch, byte, name);
+        }
+    }
+
+    /// Names the children of a node with a place for each byte, from this byte on, up to the next multiple of 64, which
+    /// it tells. Which places are taken is gathered in the bits of a word first: a branch at each place could not be
+    /// foreseen.
+    fn take_wide<N: InnerNodeCommon<PREFIX_LEN>, const PREFIX_LEN: usize>(
+        &mut self,
+        batch: &mut Batch,
+        node: &N,
+        from: u8,
+    ) -> Option<u8> {
+        let first = from & 0xc0;
+        let mut taken = taken_places::<N, PREFIX_LEN>(node, first) & (u64::MAX << (from & 0x3f));
+        self.len = 0;
+        for _ in 0..ROW {
+            if taken == 0 {
+                break;
+            }
+            let byte = first | taken.trailing_zeros() as u8;
+            if let Some(name) = node.lookup_child(byte) {
+                self.push(batch, byte, name);
+            }
+            taken &= taken.wrapping_sub(1);
+        }
+        first.checked_add(0x40)
+    }
+}
+
+/// Which of the 64 bytes from this one on have a child, a bit for each.
+#[inline(always)]
+fn taken_places<N: InnerNodeCommon<PREFIX_LEN>, const PREFIX_LEN: usize>(
+    node: &N,
+    first: u8,
+) -> u64 {
+    let mut taken = 0;
+    for eight in 0..8_u8 {
+        taken = taken << 8 | taken_of_eight::<N, PREFIX_LEN>(node, first | (7 - eight) << 3);
+    }
+    taken
+}
+
+/// Which of the eight bytes from this one on have a child, a bit for each.
+#[inline(always)]
+fn taken_of_eight<N: InnerNodeCommon<PREFIX_LEN>, const PREFIX_LEN: usize>(
+    node: &N,
+    first: u8,
+) -> u64 {
+    let is_taken = |at: u8| u64::from(node.lookup_child(first | at).is_some());
+    is_taken(0)
+        | is_taken(1) << 1
+        | is_taken(2) << 2
+        | is_taken(3) << 3
+        | is_taken(4) << 4
+        | is_taken(5) << 5
+        | is_taken(6) << 6
+        | is_taken(7) << 7
+}
+
+/// Leaves that are to be read together, in order.
+#[derive(Drop)]
+struct Batch {
+    leaves: [LeafPtr; LEAVES],
+    len: usize,
+}
+
+impl Batch {
+    /// No leaves, at first.
+    fn new() -> Self {
+        Batch {
+            leaves: [LeafPtr::from_slot(0); LEAVES],
+            len: 0,
+        }
+    }
+
+    /// Whether there may be no room for the leaves of a small inner node.
+    fn is_full(&self) -> bool {
+        self.len > LEAVES - SMALL
+    }
+
+    /// Puts a leaf behind the others, where there is room.
+    fn push(&mut self, name: OpaqueNodePtr) {
+        let at = self.len;
+        let Some(leaf) = name.cast::<KindLeaf>() else {
+            return;
+        };
+        if at < LEAVES {
+            self.leaves[at] = leaf;
+            self.len = at + 1;
+        }
+    }
+
+    /// The leaves.
+    fn as_slice(&self) -> &[LeafPtr] {
+        &self.leaves[..self.len.min(LEAVES)]
     }
 }
 
@@ -64,12 +186,15 @@ struct Pending {
     from: u8,
 }
 
-/// The leaves that are still to be read ahead, by the nodes above them, the next one last.
+/// The leaves that are still to be read ahead, by the nodes above them, the next one last, and those that are to be
+/// read together, of which so many come again, since leaves that were put off stand before them.
 #[derive(Drop)]
 pub(crate) struct Ahead<'a, const PREFIX_LEN: usize> {
     arena: &'a NodeArena<Vec<u8>, Vec<u8>, PREFIX_LEN>,
     pending: ArrayVec<Pending, PENDING>,
     row: Row,
+    batch: Batch,
+    again: usize,
     left: usize,
     seen: u8,
 }
@@ -88,6 +213,8 @@ impl<'a, const PREFIX_LEN: usize> Ahead<'a, PREFIX_LEN> {
             arena,
             pending,
             row: Row::new(),
+            batch: Batch::new(),
+            again: 0,
             left: 0,
             seen: 0,
         }
@@ -104,11 +231,28 @@ impl<'a, const PREFIX_LEN: usize> Ahead<'a, PREFIX_LEN> {
         self.seen
     }
 
-    /// Reads the next leaves together, and goes on by the first.
+    /// Reads the next leaves together, and goes on by the first. All entries are read before the keys and the values,
+    /// whose places they tell.
     #[inline(never)]
     fn read(&mut self) {
+        self.name_leaves();
+        let mut seen = self.seen;
+        for leaf in self.batch.as_slice() {
+            seen ^= self.of_entry(*leaf);
+        }
+        for leaf in self.batch.as_slice() {
+            seen ^= self.of_pair(*leaf);
+        }
+        self.seen = seen;
+        self.left = self.batch.len.saturating_sub(self.again).saturating_sub(1);
+    }
+
+    /// Names the next leaves.
+    fn name_leaves(&mut self) {
+        self.batch.len = 0;
+        self.again = 0;
         for _ in 0..4 * BATCH {
-            if self.left >= BATCH {
+            if self.batch.len >= BATCH {
                 break;
             }
             let Some(next) = self.pending.pop() else {
@@ -116,67 +260,72 @@ impl<'a, const PREFIX_LEN: usize> Ahead<'a, PREFIX_LEN> {
             };
             self.go_below(next);
         }
-        self.left = self.left.saturating_sub(1);
     }
 
-    /// Reads the leaves below a node's next children, up to an inner node with inner nodes under it, which is then the
-    /// next one to be gone below.
+    /// Names the leaves below a node's next children, up to an inner node that is not small, or has inner nodes under
+    /// it: that one is then the next one to be gone below.
     fn go_below(&mut self, node: Pending) {
         if !self.arena.holds(node.name) {
             return;
         }
-        let Err(inner) = ArenaReader::new(self.arena).visit(node.name).leaf() else {
-            self.touch(node.name);
-            return;
+        let rest = match ArenaReader::new(self.arena).visit(node.name) {
+            VisitedNode::Node256(wide) => self
+                .row
+                .take_wide::<_, PREFIX_LEN>(&mut self.batch, wide, node.from),
+            VisitedNode::Node48(wide) => self
+                .row
+                .take_wide::<_, PREFIX_LEN>(&mut self.batch, wide, node.from),
+            other => match other.leaf() {
+                Ok(_) => {
+                    self.batch.push(node.name);
+                    return;
+                }
+                Err(small) => {
+                    self.row.take_small(&mut self.batch, &small, node.from);
+                    None
+                }
+            },
         };
-        let rest = self.next_row(&inner, node.from);
+        self.read_inner();
+        let named = self.batch.len;
         for at in 0..ROW {
-            let Some((byte, name)) = self.row.get(at) else {
+            let Some((byte, name, before)) = self.row.get(at) else {
                 break;
             };
-            if name.node_type() == NodeType::Leaf {
-                self.touch(name);
-            } else if let Some(below) = self.touch_below(name) {
-                if let Some(from) = byte.checked_add(1) {
-                    self.put_off(node.name, from);
-                }
-                self.put_off(name, below);
+            if self.stops_at(node.name, byte, name) {
+                self.again = self.again.saturating_add(named.saturating_sub(before));
                 return;
             }
         }
-        if let Some(from) = rest {
-            self.put_off(node.name, from);
+        self.put_off(node.name, rest);
+    }
+
+    /// Names the leaves under an inner node of the row, which stands under this byte of the node above it. Tells
+    /// whether no child behind it is the next one, since it or a part of it is put off.
+    fn stops_at(&mut self, above: OpaqueNodePtr, byte: u8, name: OpaqueNodePtr) -> bool {
+        if self.batch.is_full() {
+            self.put_off(above, Some(byte));
+            return true;
         }
+        let Some(below) = self.go_below_small(name) else {
+            return false;
+        };
+        self.put_off(above, byte.checked_add(1));
+        self.put_off(name, Some(below));
+        true
     }
 
     /// Leaves under this node's bytes from this one on are to come next.
-    fn put_off(&mut self, name: OpaqueNodePtr, from: u8) {
-        let _ = self.pending.try_push(Pending { name, from });
-    }
-
-    /// Puts the children of a node's bytes from this one on in a row, reads the inner nodes among them together, and
-    /// tells the byte of the first child that is not in the row.
-    fn next_row(
-        &mut self,
-        inner: &InnerRef<'_, Vec<u8>, Vec<u8>, PREFIX_LEN>,
-        from: u8,
-    ) -> Option<u8> {
-        self.row.len = 0;
-        for (byte, name) in inner.range(Bound::Included(from), Bound::Unbounded) {
-            if !self.row.push(byte, name) {
-                return Some(byte);
-            }
-            if name.node_type() != NodeType::Leaf {
-                self.seen ^= u8::from(self.arena.holds(name));
-            }
+    fn put_off(&mut self, name: OpaqueNodePtr, from: Option<u8>) {
+        if let Some(from) = from {
+            let _ = self.pending.try_push(Pending { name, from });
         }
-        None
     }
 
-    /// Reads the leaves under a small inner node, up to its first inner node, of which it tells the byte. Under any
-    /// other node it reads none.
-    fn touch_below(&mut self, name: OpaqueNodePtr) -> Option<u8> {
-        if !matches!(name.node_type(), NodeType::Node4 | NodeType::Node16) {
+    /// Names the leaves under a small inner node, up to its first inner node, of which it tells the byte. Under any
+    /// other node it names none.
+    fn go_below_small(&mut self, name: OpaqueNodePtr) -> Option<u8> {
+        if !is_small(name) {
             return Some(0);
         }
         if !self.arena.holds(name) {
@@ -189,26 +338,53 @@ impl<'a, const PREFIX_LEN: usize> Ahead<'a, PREFIX_LEN> {
             if child.node_type() != NodeType::Leaf {
                 return Some(byte);
             }
-            self.touch(child);
+            self.batch.push(child);
         }
         None
     }
 
-    /// Reads a leaf.
-    fn touch(&mut self, name: OpaqueNodePtr) {
-        self.seen ^= self.touched(name);
-        self.left = self.left.saturating_add(1);
+    /// Reads the inner nodes of the row together.
+    fn read_inner(&mut self) {
+        let mut seen = self.seen;
+        for name in &self.row.names[..self.row.len.min(ROW)] {
+            seen ^= self.of_inner(*name);
+        }
+        self.seen = seen;
     }
 
-    /// A byte of what a leaf's entry, its key and its value hold.
-    fn touched(&self, name: OpaqueNodePtr) -> u8 {
+    /// A byte of what an inner node holds: of a small one, of its first child too.
+    #[inline(always)]
+    fn of_inner(&self, name: OpaqueNodePtr) -> u8 {
         if !self.arena.holds(name) {
             return 0;
         }
-        let Ok(leaf) = ArenaReader::new(self.arena).visit(name).leaf() else {
+        let inner = ArenaReader::new(self.arena).visit(name).leaf();
+        match inner {
+            Err(inner) if is_small(name) => match inner.children().next() {
+                Some((byte, child)) => byte ^ u8::from(child.node_type() == NodeType::Leaf),
+                None => 0,
+            },
+            _ => 1,
+        }
+    }
+
+    /// A byte of what a leaf's entry holds.
+    #[inline(always)]
+    fn of_entry(&self, leaf: LeafPtr) -> u8 {
+        if !self.arena.holds(leaf.to_opaque()) {
             return 0;
-        };
-        let (key, value) = leaf.entry_ref();
+        }
+        let (_, value) = self.arena.as_key_value_ref(leaf);
+        u8::from(value.is_empty())
+    }
+
+    /// A byte of what a leaf's key and its value hold.
+    #[inline(always)]
+    fn of_pair(&self, leaf: LeafPtr) -> u8 {
+        if !self.arena.holds(leaf.to_opaque()) {
+            return 0;
+        }
+        let (key, value) = self.arena.as_key_value_ref(leaf);
         let (Some(first), Some(last)) = (key.first(), key.last()) else {
             return 0;
         };
@@ -217,4 +393,9 @@ impl<'a, const PREFIX_LEN: usize> Ahead<'a, PREFIX_LEN> {
             None => *first ^ *last,
         }
     }
+}
+
+/// Whether this names an inner node of at most 16 children.
+fn is_small(name: OpaqueNodePtr) -> bool {
+    matches!(name.node_type(), NodeType::Node4 | NodeType::Node16)
 }
