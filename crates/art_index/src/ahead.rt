@@ -58,16 +58,16 @@ impl Row {
     /// Names a child: a leaf goes in the batch, an inner node in the row. It is put in both, and one of the two keeps
     /// it, since which of them it is could not be foreseen.
     #[inline(always)]
-    fn push(&mut self, batch: &mut Batch, byte: u8, name: OpaqueNodePtr) {
-        let (at, leaf) = (self.len, batch.len);
+    fn push(&mut self, batch: &mut Batch, ends: &mut Ends, byte: u8, name: OpaqueNodePtr) {
+        let (at, leaf) = (ends.row, ends.batch);
         if at < ROW && leaf < LEAVES {
             let is_leaf = name.node_type() == NodeType::Leaf;
             batch.leaves[leaf] = LeafPtr::from_slot(name.slot());
             self.bytes[at] = byte;
             self.names[at] = name;
             self.before[at] = leaf;
-            batch.len = leaf + usize::from(is_leaf);
-            self.len = at + usize::from(!is_leaf);
+            ends.batch = leaf + usize::from(is_leaf);
+            ends.row = at + usize::from(!is_leaf);
         }
     }
 
@@ -78,10 +78,11 @@ impl Row {
         node: &InnerRef<'_, Vec<u8>, Vec<u8>, PREFIX_LEN>,
         from: u8,
     ) {
-        self.len = 0;
+        let mut ends = Ends::new(batch);
         for (byte, name) in node.range(Bound::Included(from), Bound::Unbounded) {
-            self.push(batch, byte, name);
+            self.push(batch, &mut ends, byte, name);
         }
+        ends.keep(self, batch);
     }
 
     /// Names the children of a node with a place for each byte, from this byte on, up to the next multiple of 64, which
@@ -95,18 +96,45 @@ impl Row {
     ) -> Option<u8> {
         let first = from & 0xc0;
         let mut taken = taken_places::<N, PREFIX_LEN>(node, first) & (u64::MAX << (from & 0x3f));
-        self.len = 0;
+        let mut ends = Ends::new(batch);
         for _ in 0..ROW {
             if taken == 0 {
                 break;
             }
             let byte = first | taken.trailing_zeros() as u8;
             if let Some(name) = node.lookup_child(byte) {
-                self.push(batch, byte, name);
+                self.push(batch, &mut ends, byte, name);
             }
             taken &= taken.wrapping_sub(1);
         }
+        ends.keep(self, batch);
         first.checked_add(0x40)
+    }
+}
+
+/// Where a row and the batch end while children are named. Told apart from both, so that neither is read again for each
+/// child.
+#[derive(Drop)]
+struct Ends {
+    row: usize,
+    batch: usize,
+}
+
+impl Ends {
+    /// Those of an empty row and of this batch.
+    #[inline(always)]
+    fn new(batch: &Batch) -> Self {
+        Ends {
+            row: 0,
+            batch: batch.len,
+        }
+    }
+
+    /// Lets row and batch end there.
+    #[inline(always)]
+    fn keep(&self, row: &mut Row, batch: &mut Batch) {
+        row.len = self.row;
+        batch.len = self.batch;
     }
 }
 

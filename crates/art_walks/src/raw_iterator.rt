@@ -83,11 +83,13 @@ impl RawIterator {
         ensures end { self.old ≡ None → (result ≡ None) × (self.new ≡ None) }
     {
         let (first, last) = self.ends?;
+        // It is read in either case, so that a caller that reads it too looks it up once.
+        let leaf = arena.as_ref::<LeafNode<K, V>>(first);
         if first == last {
             self.ends = None;
             return Some(first);
         }
-        match arena.as_ref::<LeafNode<K, V>>(first).next() {
+        match leaf.next() {
             Some(next) => self.ends = Some((next, last)),
             None => unreachable!(),
         }
@@ -106,11 +108,12 @@ impl RawIterator {
         ensures end { self.old ≡ None → (result ≡ None) × (self.new ≡ None) }
     {
         let (first, last) = self.ends?;
+        let leaf = arena.as_ref::<LeafNode<K, V>>(last);
         if first == last {
             self.ends = None;
             return Some(last);
         }
-        match arena.as_ref::<LeafNode<K, V>>(last).previous() {
+        match leaf.previous() {
             Some(previous) => self.ends = Some((first, previous)),
             None => unreachable!(),
         }
