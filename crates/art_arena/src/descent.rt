@@ -11,6 +11,7 @@ ghost use Rattle.art_arena.specs.arena.Visited.{arena_of, count_of};
 ghost use Rattle.art_arena.specs.tree.Paths.{path_of};
 
 use crate::arena::{LeafPtr, NodeArena};
+use crate::front::begins_with;
 use crate::inner_ref::{InnerRef, NextStep};
 use crate::path::{TreePath, TreePathSearch};
 use crate::prefix::full_prefix_of;
@@ -72,7 +73,7 @@ fn passes_prefix<K: AsBytes, V, const PREFIX_LEN: usize>(
         return true;
     }
     let prefix = full_prefix_of(arena, node, inner, depth).prefix;
-    key[depth..].starts_with(prefix)
+    begins_with(&key[depth..], prefix)
 }
 
 // The child to which a key goes on from an inner node, which stands behind so many of its bytes.

@@ -7,6 +7,7 @@ mod arena;
 mod descent;
 mod ends;
 mod find;
+mod front;
 mod inner_ref;
 pub mod laws;
 pub mod links;

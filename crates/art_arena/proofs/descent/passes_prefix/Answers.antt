@@ -1,14 +1,9 @@
-use Rattle.std.proofs.Common.{◌≡◌, [], ◌∷◌, List, ℕ, drop, length, refl, sym, ap, ◌∙◌}
-use Rattle.art_bytes.specs.Keys.{BeginsWith}
+use Rattle.std.proofs.Common.{◌≡◌, length, refl, sym, ap, ◌∙◌}
 use Rattle.art_nodes.specs.InnerNode.{InnerNode}
 use Rattle.art_arena.specs.arena.Prefixes.{prefix_of}
-use Rattle.art_arena.proofs.shapes.Prefixes.{header_there, tail, begins_tells}
+use Rattle.art_arena.proofs.shapes.Prefixes.{header_there, tail}
+use Rattle.art_arena.proofs.Words.{begins_empty}
 use Rattle.art_arena.proofs.descent.passes_prefix.Goals as goal
-
--- a list of no bytes is a front of each
-begins_empty : (front : List ℕ) → length front ≡ 0 → (key : List ℕ) → BeginsWith front key
-begins_empty [] none key = (key, refl)
-begins_empty (b ∷ front) none key = absurd (cc)
 
 pub returns-then-prefix_len-eq0 : goal.returns-then-prefix_len-eq0
 returns-then-prefix_len-eq0 g c = λ path s at.
@@ -19,5 +14,5 @@ returns-then-prefix_len-eq0 g c = λ path s at.
 
 pub returns : goal.returns
 returns g c = λ path s at.
-    begins_tells c.starts_with.result _ (drop c.args.depth c.args.key.now) _ (prefix_of s) (tail c.args.depth c.args.key.now)
-    (c.full_prefix_of.ensures.prefix path s at) c.starts_with.ensures.value
+    let same = c.full_prefix_of.ensures.prefix path s at in
+    rw (← same, ← tail c.args.depth c.args.key.now) c.begins_with.ensures
