@@ -9,7 +9,7 @@ use art_arena::{ArenaReader, InnerRef, LeafPtr, NodeArena, VisitedNode};
 use art_nodes::{InnerNodeCommon, KindLeaf, NodeType, OpaqueNodePtr};
 use std::ops::Bound;
 
-/// How many leaves are read together at least, where there are as many.
+/// How many leaves are enough to be read together.
 const BATCH: usize = 32;
 
 /// How many leaves are read together at most.
@@ -46,7 +46,7 @@ impl Row {
         }
     }
 
-    /// The inner node at this place, if there is one, and how many leaves of the batch stand before it.
+    /// The inner node at this place, if there is one, with its byte and how many leaves of the batch stand before it.
     fn get(&self, at: usize) -> Option<(u8, OpaqueNodePtr, usize)> {
         if at < self.len.min(ROW) {
             Some((self.bytes[at], self.names[at], self.before[at]))
@@ -56,7 +56,7 @@ impl Row {
     }
 
     /// Names a child: a leaf goes in the batch, an inner node in the row. It is put in both, and one of the two keeps
-    /// it, since which of them it is could not be foreseen.
+    /// it, since which of them it is could not be foreseen. Where there is no room it names nothing.
     #[inline(always)]
     fn push(&mut self, batch: &mut Batch, ends: &mut Ends, byte: u8, name: OpaqueNodePtr) {
         let (at, leaf) = (ends.row, ends.batch);
@@ -168,7 +168,7 @@ fn taken_of_eight<N: InnerNodeCommon<PREFIX_LEN>, const PREFIX_LEN: usize>(
         | is_taken(7) << 7
 }
 
-/// Leaves that are to be read together, in order.
+/// Leaves that are to be read together. Those under a small inner node stand behind all leaves of its row.
 #[derive(Drop)]
 struct Batch {
     leaves: [LeafPtr; LEAVES],
@@ -290,8 +290,9 @@ impl<'a, const PREFIX_LEN: usize> Ahead<'a, PREFIX_LEN> {
         }
     }
 
-    /// Names the leaves below a node's next children, up to an inner node that is not small, or has inner nodes under
-    /// it: that one is then the next one to be gone below.
+    /// Names the leaves among a node's next children, then those under its small inner ones, up to one that isn't
+    /// small, has inner nodes under it, or finds the batch full: that one is the next to be gone below, and the row's
+    /// leaves behind it come again.
     fn go_below(&mut self, node: Pending) {
         if !self.arena.holds(node.name) {
             return;
@@ -351,7 +352,7 @@ impl<'a, const PREFIX_LEN: usize> Ahead<'a, PREFIX_LEN> {
     }
 
     /// Names the leaves under a small inner node, up to its first inner node, of which it tells the byte. Under any
-    /// other node it names none.
+    /// other node it names none: it tells 0 for one that isn't small, and nothing under a name that isn't held.
     fn go_below_small(&mut self, name: OpaqueNodePtr) -> Option<u8> {
         if !is_small(name) {
             return Some(0);
@@ -380,7 +381,8 @@ impl<'a, const PREFIX_LEN: usize> Ahead<'a, PREFIX_LEN> {
         self.seen = seen;
     }
 
-    /// A byte of what an inner node holds: of a small one, of its first child too.
+    /// A byte that depends on an inner node: of a small one on its first child's byte and kind, of a wide one only on
+    /// its being there.
     #[inline(always)]
     fn of_inner(&self, name: OpaqueNodePtr) -> u8 {
         if !self.arena.holds(name) {

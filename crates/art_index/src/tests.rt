@@ -8,6 +8,7 @@ use crate::laws;
 use crate::running::run;
 use crate::stream::{Sink, Source};
 use crate::to_writer::ToWriter;
+use art_bytes::SliceKey;
 use std::alloc::{AllocError, Global};
 use std::io;
 use std::io::{Read, Write};
@@ -470,6 +471,7 @@ fn call_laws() {
     laws::spells_one_command();
     laws::full_keys_keep_order();
     laws::full_keys_keep_conflicts();
+    laws::own_is_behind_front();
 }
 
 #[test]
@@ -481,6 +483,10 @@ fn handles_a_line(rt: HostRuntime) {
     assert!(rt; matches!(handled, Ok(true)));
     assert_eq!(rt; out.bytes.as_slice(), b"new\n".as_slice());
     assert_eq!(rt; index.byte_map().len(), 1);
+    match index.byte_map().get(&SliceKey(&[0, 0, 0, 3, 0xab])) {
+        Some(value) => assert_eq!(rt; value.as_slice(), [0xcd].as_slice()),
+        None => assert!(rt; false),
+    }
 }
 
 #[test]

@@ -1,9 +1,9 @@
 -- What a contract sees of a map: its pairs in order, and the nodes that hold them.
-use Rattle.std.specs.Prelude.{ℕ, zero, suc, Bool, bytes_eq, List, [], ◌∷◌, ◌++◌, Option, Some, None, IsSome}
+use Rattle.std.specs.Prelude.{◌≡◌, ℕ, zero, suc, Bool, bytes_eq, List, [], ◌∷◌, ◌++◌, Option, Some, None, IsSome}
 use Rattle.std.specs.List.{AllByRecursion}
 use Rattle.art_nodes.specs.Name.{Name}
 use Rattle.art_nodes.specs.declared.leaf.LeafNode.{LeafNode}
-use Rattle.art_arena.specs.arena.Arena.{Arena, node_at, held_at}
+use Rattle.art_arena.specs.arena.Arena.{Arena, SameNodes, node_at, held_at}
 use Rattle.art_arena.specs.arena.Cells.{Cell, pair, branches, leaf_name}
 use Rattle.art_arena.specs.tree.Tenants.{begins_with}
 use Rattle.art_arena.proofs.shapes.Measures.{slots_of}
@@ -72,6 +72,10 @@ module _ {K V : Type 0} where
   -- a leaf stands under this slab key
   abbrev pub HasLeafAt : Contents K V → ℕ → Type 0
   HasLeafAt m slot = IsSome (held_at m.nodes (leaf_name slot))
+
+  -- every node of a map is what it was, and its root has the same name
+  abbrev pub IsUntouched : Contents K V → Contents K V → Type 0
+  IsUntouched old new = SameNodes old.nodes new.nodes × (new.root ≡ old.root)
 
 module _ {K V : Type 0} (bytes : K → List ℕ) (is_key : K → Type 0) (P : ℕ) where
   -- the arena has the tree of these pairs and nothing else, and each key is one

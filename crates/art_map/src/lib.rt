@@ -1,6 +1,6 @@
 //! The map: an ascending list of pairs, no key of which is a front of another.
-//! The layer above uses that each call is its row over that list, and what a refusal leaves: the list as it was, or of
-//! `retain` and `extract_if` what was done so far.
+//! The layer above uses that each call is a filter or a change of that list, and what a refusal leaves: the list as it
+//! was, or of `retain` and `extract_if` what was done so far.
 //! The definitions stand in `specs/`.
 #![tactic(auto)]
 

@@ -1,4 +1,4 @@
-//! Tests of art_map: each public call once, rows from outside, each request refused in turn, and the callers of its
+//! Tests of art_map: each public call once, worked rows, each request refused in turn, and the callers of its
 //! CALLING.md. What the tests of its walks use too is the library.
 #![tactic(auto)]
 

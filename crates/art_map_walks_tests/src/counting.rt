@@ -1,5 +1,6 @@
 //! Extraction by a closure with a state of its own, which counts its calls and picks each second pair: in which order
 //! it is asked, and what is left of a map where the extraction is dropped early.
+ghost use Rattle.std.specs.Prelude.{◌≤◌};
 
 use crate::picked::{Contents, contents_of, has_contents, is_wanted, next_asked, note};
 use crate::small_maps::{KEYS, fill};
@@ -105,14 +106,19 @@ fn all_leave_others<const PREFIX_LEN: usize>(
     true
 }
 
+// The same of a new map.
+fn all_leave_others_anew<const PREFIX_LEN: usize>(alloc: Global) -> bool
+    requires { PREFIX_LEN ≤ 16 }
+{
+    let mut map: TreeMap<[u8; 2], u8, PREFIX_LEN> = TreeMap::with_prefix_len(alloc);
+    all_leave_others(alloc, &mut map)
+}
+
 #[test]
 fn an_extraction_that_counts_is_dropped_early(rt: HostRuntime) {
-    let mut map: TreeMap<[u8; 2], u8, 0> = TreeMap::with_prefix_len(rt.alloc());
-    assert!(rt; all_leave_others(rt.alloc(), &mut map));
-    let mut map: TreeMap<[u8; 2], u8, 4> = TreeMap::with_prefix_len(rt.alloc());
-    assert!(rt; all_leave_others(rt.alloc(), &mut map));
-    let mut map: TreeMap<[u8; 2], u8, 16> = TreeMap::with_prefix_len(rt.alloc());
-    assert!(rt; all_leave_others(rt.alloc(), &mut map));
+    assert!(rt; all_leave_others_anew::<0>(rt.alloc()));
+    assert!(rt; all_leave_others_anew::<4>(rt.alloc()));
+    assert!(rt; all_leave_others_anew::<16>(rt.alloc()));
 }
 
 // Whether one step at each end asks two pairs there, and nothing else is done to nine pairs.

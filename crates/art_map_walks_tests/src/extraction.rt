@@ -1,4 +1,5 @@
 //! Extraction: each mixture of ends and decisions, against a list.
+ghost use Rattle.std.specs.Prelude.{◌≤◌};
 
 use crate::small_maps::fill;
 use art_bytes::SliceKey;
@@ -164,15 +165,19 @@ fn seven_agree<const PREFIX_LEN: usize>(
     all_mixtures_agree(alloc, map, &KEYS, bounds[0], bounds[1], &ASKED)
 }
 
+// The same of a new map.
+fn seven_agree_anew<const PREFIX_LEN: usize>(alloc: Global) -> Result<bool, AllocError>
+    requires { PREFIX_LEN ≤ 16 }
+{
+    let mut map: TreeMap<[u8; 2], u8, PREFIX_LEN> = TreeMap::with_prefix_len(alloc);
+    seven_agree(alloc, &mut map)
+}
+
 #[test]
 fn every_mixture_of_ends_and_decisions(rt: HostRuntime) {
-    let alloc = rt.alloc();
-    let mut map: TreeMap<[u8; 2], u8, 16> = TreeMap::new(alloc);
-    assert!(rt; matches!(seven_agree(alloc, &mut map), Ok(true)));
-    let mut map: TreeMap<[u8; 2], u8, 4> = TreeMap::with_prefix_len(alloc);
-    assert!(rt; matches!(seven_agree(alloc, &mut map), Ok(true)));
-    let mut map: TreeMap<[u8; 2], u8, 0> = TreeMap::with_prefix_len(alloc);
-    assert!(rt; matches!(seven_agree(alloc, &mut map), Ok(true)));
+    assert!(rt; matches!(seven_agree_anew::<16>(rt.alloc()), Ok(true)));
+    assert!(rt; matches!(seven_agree_anew::<4>(rt.alloc()), Ok(true)));
+    assert!(rt; matches!(seven_agree_anew::<0>(rt.alloc()), Ok(true)));
 }
 
 fn nothing_is_empty(map: &mut TreeMap<[u8; 2], u8, 16>) -> bool {

@@ -1,5 +1,6 @@
 //! Rows of extraction from outside: pairs are picked by their values, from the front, from the back and from both ends,
 //! by `extract_if`, and by hand with a decision at each pair.
+ghost use Rattle.std.specs.Prelude.{◌≤◌};
 
 use art_bytes::{AsBytes, Mapped, ToIBE};
 use art_map::{Extraction, TreeMap};
@@ -316,22 +317,32 @@ fn numbers_are_taken<const PREFIX_LEN: usize>(
     )
 }
 
+// The same of a new map.
+fn numbers_are_taken_anew<const PREFIX_LEN: usize>(alloc: Global) -> Result<bool, AllocError>
+    requires { PREFIX_LEN ≤ 16 }
+{
+    let mut map: TreeMap<Number, usize, PREFIX_LEN> = TreeMap::with_prefix_len(alloc);
+    numbers_are_taken(alloc, &mut map)
+}
+
 #[test]
 fn numbers_are_extracted(rt: HostRuntime) {
-    let mut map: TreeMap<Number, usize, 0> = TreeMap::with_prefix_len(rt.alloc());
-    assert!(rt; matches!(numbers_are_taken(rt.alloc(), &mut map), Ok(true)));
-    let mut map: TreeMap<Number, usize, 4> = TreeMap::with_prefix_len(rt.alloc());
-    assert!(rt; matches!(numbers_are_taken(rt.alloc(), &mut map), Ok(true)));
-    let mut map: TreeMap<Number, usize, 16> = TreeMap::with_prefix_len(rt.alloc());
-    assert!(rt; matches!(numbers_are_taken(rt.alloc(), &mut map), Ok(true)));
+    assert!(rt; matches!(numbers_are_taken_anew::<0>(rt.alloc()), Ok(true)));
+    assert!(rt; matches!(numbers_are_taken_anew::<4>(rt.alloc()), Ok(true)));
+    assert!(rt; matches!(numbers_are_taken_anew::<16>(rt.alloc()), Ok(true)));
+}
+
+// Whether neighbours are picked in a new map.
+fn neighbours_are_taken_anew<const PREFIX_LEN: usize>(alloc: Global) -> Result<bool, AllocError>
+    requires { PREFIX_LEN ≤ 16 }
+{
+    let mut map: TreeMap<[u8; 2], usize, PREFIX_LEN> = TreeMap::with_prefix_len(alloc);
+    neighbours_are_taken(alloc, &mut map)
 }
 
 #[test]
 fn neighbours_are_extracted(rt: HostRuntime) {
-    let mut map: TreeMap<[u8; 2], usize, 0> = TreeMap::with_prefix_len(rt.alloc());
-    assert!(rt; matches!(neighbours_are_taken(rt.alloc(), &mut map), Ok(true)));
-    let mut map: TreeMap<[u8; 2], usize, 4> = TreeMap::with_prefix_len(rt.alloc());
-    assert!(rt; matches!(neighbours_are_taken(rt.alloc(), &mut map), Ok(true)));
-    let mut map: TreeMap<[u8; 2], usize, 16> = TreeMap::with_prefix_len(rt.alloc());
-    assert!(rt; matches!(neighbours_are_taken(rt.alloc(), &mut map), Ok(true)));
+    assert!(rt; matches!(neighbours_are_taken_anew::<0>(rt.alloc()), Ok(true)));
+    assert!(rt; matches!(neighbours_are_taken_anew::<4>(rt.alloc()), Ok(true)));
+    assert!(rt; matches!(neighbours_are_taken_anew::<16>(rt.alloc()), Ok(true)));
 }

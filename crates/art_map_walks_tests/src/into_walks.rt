@@ -1,5 +1,7 @@
 //! Walks that own their pairs: from either end in any mixture against a list, and what they drop. A map is made
 //! and used up by functions of one way out, and the walk is lent to the others.
+ghost use Rattle.std.specs.Prelude.{◌≤◌};
+
 use crate::keys_and_values::{fill_by_keys, has_pairs};
 use crate::small_maps::{KEYS, MIXTURES, choose};
 use art_map::TreeMap;
@@ -7,92 +9,40 @@ use std::alloc::{AllocError, Global};
 use std::rc::Rc;
 use std::test::Fail;
 
-// Maps that are filled and used up by a mixture of steps: their pairs, their keys and their values.
-trait Steps {
-    fn pairs_agree(alloc: Global, keys: &[[u8; 2]], mixture: u32) -> bool;
-
-    fn keys_agree(alloc: Global, keys: &[[u8; 2]], mixture: u32) -> bool;
-
-    fn values_agree(alloc: Global, keys: &[[u8; 2]], mixture: u32) -> bool;
+// Whether a map of these keys gives its pairs away in a mixture of steps.
+fn pairs_agree<const PREFIX_LEN: usize>(alloc: Global, keys: &[[u8; 2]], mixture: u32) -> bool
+    requires { PREFIX_LEN ≤ 16 }
+{
+    let mut map: TreeMap<[u8; 2], u8, PREFIX_LEN> = TreeMap::with_prefix_len(alloc);
+    let is_filled = fill_by_keys(&mut map, keys);
+    let mut walk = map.into_iter();
+    is_filled && has_pairs(&mut walk, keys, mixture)
 }
 
-struct Stores0;
-
-struct Stores4;
-
-struct Stores16;
-
-impl Steps for Stores0 {
-    fn pairs_agree(alloc: Global, keys: &[[u8; 2]], mixture: u32) -> bool {
-        let mut map: TreeMap<[u8; 2], u8, 0> = TreeMap::with_prefix_len(alloc);
-        let is_filled = fill_by_keys(&mut map, keys);
-        let mut walk = map.into_iter();
-        is_filled && has_pairs(&mut walk, keys, mixture)
-    }
-
-    fn keys_agree(alloc: Global, keys: &[[u8; 2]], mixture: u32) -> bool {
-        let mut map: TreeMap<[u8; 2], u8, 0> = TreeMap::with_prefix_len(alloc);
-        let is_filled = fill_by_keys(&mut map, keys);
-        let mut walk = map.into_keys();
-        is_filled && has_pairs(&mut walk, keys, mixture)
-    }
-
-    fn values_agree(alloc: Global, keys: &[[u8; 2]], mixture: u32) -> bool {
-        let mut map: TreeMap<[u8; 2], u8, 0> = TreeMap::with_prefix_len(alloc);
-        let is_filled = fill_by_keys(&mut map, keys);
-        let mut walk = map.into_values();
-        is_filled && has_pairs(&mut walk, keys, mixture)
-    }
+// The same of its keys.
+fn keys_agree<const PREFIX_LEN: usize>(alloc: Global, keys: &[[u8; 2]], mixture: u32) -> bool
+    requires { PREFIX_LEN ≤ 16 }
+{
+    let mut map: TreeMap<[u8; 2], u8, PREFIX_LEN> = TreeMap::with_prefix_len(alloc);
+    let is_filled = fill_by_keys(&mut map, keys);
+    let mut walk = map.into_keys();
+    is_filled && has_pairs(&mut walk, keys, mixture)
 }
 
-impl Steps for Stores4 {
-    fn pairs_agree(alloc: Global, keys: &[[u8; 2]], mixture: u32) -> bool {
-        let mut map: TreeMap<[u8; 2], u8, 4> = TreeMap::with_prefix_len(alloc);
-        let is_filled = fill_by_keys(&mut map, keys);
-        let mut walk = map.into_iter();
-        is_filled && has_pairs(&mut walk, keys, mixture)
-    }
-
-    fn keys_agree(alloc: Global, keys: &[[u8; 2]], mixture: u32) -> bool {
-        let mut map: TreeMap<[u8; 2], u8, 4> = TreeMap::with_prefix_len(alloc);
-        let is_filled = fill_by_keys(&mut map, keys);
-        let mut walk = map.into_keys();
-        is_filled && has_pairs(&mut walk, keys, mixture)
-    }
-
-    fn values_agree(alloc: Global, keys: &[[u8; 2]], mixture: u32) -> bool {
-        let mut map: TreeMap<[u8; 2], u8, 4> = TreeMap::with_prefix_len(alloc);
-        let is_filled = fill_by_keys(&mut map, keys);
-        let mut walk = map.into_values();
-        is_filled && has_pairs(&mut walk, keys, mixture)
-    }
-}
-
-impl Steps for Stores16 {
-    fn pairs_agree(alloc: Global, keys: &[[u8; 2]], mixture: u32) -> bool {
-        let mut map: TreeMap<[u8; 2], u8, 16> = TreeMap::with_prefix_len(alloc);
-        let is_filled = fill_by_keys(&mut map, keys);
-        let mut walk = map.into_iter();
-        is_filled && has_pairs(&mut walk, keys, mixture)
-    }
-
-    fn keys_agree(alloc: Global, keys: &[[u8; 2]], mixture: u32) -> bool {
-        let mut map: TreeMap<[u8; 2], u8, 16> = TreeMap::with_prefix_len(alloc);
-        let is_filled = fill_by_keys(&mut map, keys);
-        let mut walk = map.into_keys();
-        is_filled && has_pairs(&mut walk, keys, mixture)
-    }
-
-    fn values_agree(alloc: Global, keys: &[[u8; 2]], mixture: u32) -> bool {
-        let mut map: TreeMap<[u8; 2], u8, 16> = TreeMap::with_prefix_len(alloc);
-        let is_filled = fill_by_keys(&mut map, keys);
-        let mut walk = map.into_values();
-        is_filled && has_pairs(&mut walk, keys, mixture)
-    }
+// The same of its values.
+fn values_agree<const PREFIX_LEN: usize>(alloc: Global, keys: &[[u8; 2]], mixture: u32) -> bool
+    requires { PREFIX_LEN ≤ 16 }
+{
+    let mut map: TreeMap<[u8; 2], u8, PREFIX_LEN> = TreeMap::with_prefix_len(alloc);
+    let is_filled = fill_by_keys(&mut map, keys);
+    let mut walk = map.into_values();
+    is_filled && has_pairs(&mut walk, keys, mixture)
 }
 
 // Whether every mixture of steps agrees, over each map of at most four keys.
-fn all_agree<S: Steps>(alloc: Global) -> Result<bool, AllocError> {
+fn all_agree<const PREFIX_LEN: usize>(alloc: Global) -> Result<bool, AllocError>
+    requires { PREFIX_LEN ≤ 16 }
+{
     let mut keys: Vec<[u8; 2]> = Vec::new(alloc);
     for chosen in 0u32..512 {
         if chosen.count_ones() > 4 {
@@ -100,9 +50,9 @@ fn all_agree<S: Steps>(alloc: Global) -> Result<bool, AllocError> {
         }
         choose(&mut keys, chosen)?;
         for mixture in 32..MIXTURES[keys.len().min(4)] {
-            if !S::pairs_agree(alloc, keys.as_slice(), mixture)
-                || !S::keys_agree(alloc, keys.as_slice(), mixture)
-                || !S::values_agree(alloc, keys.as_slice(), mixture)
+            if !pairs_agree::<PREFIX_LEN>(alloc, keys.as_slice(), mixture)
+                || !keys_agree::<PREFIX_LEN>(alloc, keys.as_slice(), mixture)
+                || !values_agree::<PREFIX_LEN>(alloc, keys.as_slice(), mixture)
             {
                 return Ok(false);
             }
@@ -113,17 +63,17 @@ fn all_agree<S: Steps>(alloc: Global) -> Result<bool, AllocError> {
 
 #[test]
 fn every_mixture_of_ends_of_small_maps_0(rt: HostRuntime) {
-    assert!(rt; matches!(all_agree::<Stores0>(rt.alloc()), Ok(true)));
+    assert!(rt; matches!(all_agree::<0>(rt.alloc()), Ok(true)));
 }
 
 #[test]
 fn every_mixture_of_ends_of_small_maps_4(rt: HostRuntime) {
-    assert!(rt; matches!(all_agree::<Stores4>(rt.alloc()), Ok(true)));
+    assert!(rt; matches!(all_agree::<4>(rt.alloc()), Ok(true)));
 }
 
 #[test]
 fn every_mixture_of_ends_of_small_maps_16(rt: HostRuntime) {
-    assert!(rt; matches!(all_agree::<Stores16>(rt.alloc()), Ok(true)));
+    assert!(rt; matches!(all_agree::<16>(rt.alloc()), Ok(true)));
 }
 
 #[test]

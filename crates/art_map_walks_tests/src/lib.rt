@@ -1,4 +1,4 @@
-//! Tests of art_map's walks, ranges and extractions: over all small maps, rows from outside, a replay against the
+//! Tests of art_map's walks, ranges and extractions: over all small maps, worked rows, a replay against the
 //! sorted vector of art_walks_tests, and each request for memory refused in turn.
 #![tactic(auto)]
 

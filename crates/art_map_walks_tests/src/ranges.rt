@@ -1,4 +1,5 @@
 //! Rows of ranges and prefixes from outside, from the front and from the back.
+ghost use Rattle.std.specs.Prelude.{◌≤◌};
 
 use art_bytes::{AsBytes, SliceKey, ZeroEnded};
 use art_map::TreeMap;
@@ -109,14 +110,19 @@ fn texts_lie_behind<const PREFIX_LEN: usize>(
     )
 }
 
+// The same of a new map.
+fn texts_lie_behind_anew<const PREFIX_LEN: usize>(alloc: Global) -> Result<bool, AllocError>
+    requires { PREFIX_LEN ≤ 16 }
+{
+    let mut map: TreeMap<ZeroEnded, usize, PREFIX_LEN> = TreeMap::with_prefix_len(alloc);
+    texts_lie_behind(alloc, &mut map)
+}
+
 #[test]
 fn texts_behind_a_prefix(rt: HostRuntime) {
-    let mut map: TreeMap<ZeroEnded, usize, 0> = TreeMap::with_prefix_len(rt.alloc());
-    assert!(rt; matches!(texts_lie_behind(rt.alloc(), &mut map), Ok(true)));
-    let mut map: TreeMap<ZeroEnded, usize, 4> = TreeMap::with_prefix_len(rt.alloc());
-    assert!(rt; matches!(texts_lie_behind(rt.alloc(), &mut map), Ok(true)));
-    let mut map: TreeMap<ZeroEnded, usize, 16> = TreeMap::with_prefix_len(rt.alloc());
-    assert!(rt; matches!(texts_lie_behind(rt.alloc(), &mut map), Ok(true)));
+    assert!(rt; matches!(texts_lie_behind_anew::<0>(rt.alloc()), Ok(true)));
+    assert!(rt; matches!(texts_lie_behind_anew::<4>(rt.alloc()), Ok(true)));
+    assert!(rt; matches!(texts_lie_behind_anew::<16>(rt.alloc()), Ok(true)));
 }
 
 type Wide = TreeMap<[u8; 3], usize, 16>;

@@ -1,4 +1,6 @@
 //! A replay: random calls of the map against a sorted vector of pairs, with the checker looking on.
+ghost use Rattle.std.specs.Prelude.{◌≤◌};
+
 use art_bytes::SliceKey;
 use art_map::{TreeMap, TryInsertError};
 use art_walks::WellFormedChecker;
@@ -189,7 +191,8 @@ fn calls_alike<'a, const PREFIX_LEN: usize>(
     }
 }
 
-// Makes the calls, and answers how many were answered alike before the first that was not.
+// Makes the calls, and answers how many were answered alike before the first that was not. A look at the whole list
+// behind a call counts with it.
 fn replays<'a, const PREFIX_LEN: usize>(
     alloc: Global,
     map: &mut TreeMap<SliceKey<'a>, usize, PREFIX_LEN>,
@@ -206,40 +209,49 @@ fn replays<'a, const PREFIX_LEN: usize>(
         if !calls_alike(map, &mut sorted, &mut numbers, pair, grows)? {
             return Ok(count);
         }
+        let is_looked_at = count % ROUND == 0 || count == CALLS - 1;
+        if is_looked_at && !lists_alike(alloc, map, &sorted, &mut numbers) {
+            return Ok(count);
+        }
         if count % (50 * ROUND) == 0 {
             map.clear();
             sorted.clear();
-        }
-        if count % ROUND == 0 && !lists_alike(alloc, map, &sorted, &mut numbers) {
-            return Ok(count);
+            if !lists_alike(alloc, map, &sorted, &mut numbers) {
+                return Ok(count);
+            }
         }
     }
     Ok(CALLS)
 }
 
+// The same of a new map.
+fn replays_anew<const PREFIX_LEN: usize>(
+    alloc: Global,
+    keys: &[Vec<u8>],
+) -> Result<usize, AllocError>
+    requires { PREFIX_LEN ≤ 16 }
+{
+    let mut map: TreeMap<SliceKey<'_>, usize, PREFIX_LEN> = TreeMap::with_prefix_len(alloc);
+    replays(alloc, &mut map, keys)
+}
+
 #[test]
 fn is_a_sorted_list_where_nodes_store_no_bytes(rt: HostRuntime) -> Result<(), Fail> {
     let keys = random_keys(rt.alloc(), 800)?;
-    let mut map: TreeMap<SliceKey<'_>, usize, 0> = TreeMap::with_prefix_len(rt.alloc());
-    let alike = replays(rt.alloc(), &mut map, keys.as_slice());
-    assert!(rt; alike == Ok(CALLS));
+    assert!(rt; replays_anew::<0>(rt.alloc(), keys.as_slice()) == Ok(CALLS));
     Ok(())
 }
 
 #[test]
 fn is_a_sorted_list_where_nodes_store_4_bytes(rt: HostRuntime) -> Result<(), Fail> {
     let keys = random_keys(rt.alloc(), 800)?;
-    let mut map: TreeMap<SliceKey<'_>, usize, 4> = TreeMap::with_prefix_len(rt.alloc());
-    let alike = replays(rt.alloc(), &mut map, keys.as_slice());
-    assert!(rt; alike == Ok(CALLS));
+    assert!(rt; replays_anew::<4>(rt.alloc(), keys.as_slice()) == Ok(CALLS));
     Ok(())
 }
 
 #[test]
 fn is_a_sorted_list_where_nodes_store_16_bytes(rt: HostRuntime) -> Result<(), Fail> {
     let keys = random_keys(rt.alloc(), 800)?;
-    let mut map: TreeMap<SliceKey<'_>, usize, 16> = TreeMap::with_prefix_len(rt.alloc());
-    let alike = replays(rt.alloc(), &mut map, keys.as_slice());
-    assert!(rt; alike == Ok(CALLS));
+    assert!(rt; replays_anew::<16>(rt.alloc(), keys.as_slice()) == Ok(CALLS));
     Ok(())
 }

@@ -1,6 +1,7 @@
 //! Every walk of small maps, against a list: each range and each prefix, for all bounds, of the maps of at most four
 //! keys of two bytes over three letters, taken from its ends in every mixture. A walk that lends values writes one at
 //! each step, and the whole map is looked at behind it.
+ghost use Rattle.std.specs.Prelude.{◌≤◌};
 
 use crate::extraction::all_mixtures_agree;
 use crate::keys_and_values::halves_agree;
@@ -435,20 +436,25 @@ fn all_agree<const PREFIX_LEN: usize>(
     Ok(true)
 }
 
+// The same of a new map.
+fn all_agree_anew<const PREFIX_LEN: usize>(alloc: Global) -> Result<bool, AllocError>
+    requires { PREFIX_LEN ≤ 16 }
+{
+    let mut map: TreeMap<[u8; 2], u8, PREFIX_LEN> = TreeMap::with_prefix_len(alloc);
+    all_agree(alloc, &mut map)
+}
+
 #[test]
 fn every_walk_of_small_maps_0(rt: HostRuntime) {
-    let mut map: TreeMap<[u8; 2], u8, 0> = TreeMap::with_prefix_len(rt.alloc());
-    assert!(rt; matches!(all_agree(rt.alloc(), &mut map), Ok(true)));
+    assert!(rt; matches!(all_agree_anew::<0>(rt.alloc()), Ok(true)));
 }
 
 #[test]
 fn every_walk_of_small_maps_4(rt: HostRuntime) {
-    let mut map: TreeMap<[u8; 2], u8, 4> = TreeMap::with_prefix_len(rt.alloc());
-    assert!(rt; matches!(all_agree(rt.alloc(), &mut map), Ok(true)));
+    assert!(rt; matches!(all_agree_anew::<4>(rt.alloc()), Ok(true)));
 }
 
 #[test]
 fn every_walk_of_small_maps_16(rt: HostRuntime) {
-    let mut map: TreeMap<[u8; 2], u8, 16> = TreeMap::with_prefix_len(rt.alloc());
-    assert!(rt; matches!(all_agree(rt.alloc(), &mut map), Ok(true)));
+    assert!(rt; matches!(all_agree_anew::<16>(rt.alloc()), Ok(true)));
 }

@@ -40,7 +40,7 @@ fn before_equal<const N: usize>(keys: &[u8], used: usize, byte: u8) -> usize
 
 // How many of the first `used` of these ascending bytes are below this one, all bytes compared at once.
 #[inline(always)]
-fn before_greater<const N: usize>(keys: &[u8], used: usize, byte: u8) -> usize
+fn before_at_least<const N: usize>(keys: &[u8], used: usize, byte: u8) -> usize
     requires lanes { (0 < N) × (N ≤ 64) × (length keys.now ≡ N) }
     requires used { used ≤ N }
     ensures { result ≡ place (take used keys.now) byte }
@@ -73,8 +73,8 @@ pub(crate) fn place_in(keys: &[u8], used: usize, byte: u8) -> usize
     ensures { result ≡ place (take used keys.now) byte }
 {
     match keys.len() {
-        16 => before_greater::<16>(keys, used, byte),
-        4 => before_greater::<4>(keys, used, byte),
+        16 => before_at_least::<16>(keys, used, byte),
+        4 => before_at_least::<4>(keys, used, byte),
         _ => place_of(&keys[..used], usize::from(byte)),
     }
 }

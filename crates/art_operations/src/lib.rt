@@ -1,5 +1,5 @@
-//! Operations on the tree below a name in an arena: look-ups, the ends of a tree, where a key is put in or taken out.
-//! The layer above uses `search_unchecked`: the answer is a filter of the list of leaves.
+//! Operations on the tree below a name in an arena: look-ups, bounds, insertion, deletion, frees, clones, commands.
+//! The layer above uses look-ups, which filter the leaves, and `pairs`: what is put in or taken out of the pairs.
 //! The definitions stand in `specs/`.
 #![tactic(auto)]
 

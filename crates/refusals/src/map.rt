@@ -4,19 +4,20 @@
 use crate::operations;
 use art_arena::NodeArena;
 use art_bytes::AsBytes;
-use art_map::TreeMap;
+use art_map::{TreeMap, TryInsertError};
 use art_nodes::OpaqueNodePtr;
 use art_walks::WellFormedChecker;
 use std::io;
 
 /// The scenarios.
-pub const NAMES: [&str; 19] = [
+pub const NAMES: [&str; 20] = [
     "map_insert_into_none",
     "map_insert_splits",
     "map_insert_splits_a_prefix",
     "map_insert_grows",
     "map_insert_over_takes_no_memory",
     "map_try_insert_grows",
+    "map_try_insert_over_takes_no_memory",
     "map_prefix_insert_into_none",
     "map_prefix_insert_splits_a_prefix",
     "map_prefix_insert_grows",
@@ -112,6 +113,7 @@ fn is_known(map: &Map, key: &[u8; 5]) -> bool {
     map.contains_key(key)
         && map.get_key_value(key).is_some()
         && map.prefix_get(key).is_some()
+        && map.prefix_get_key_value(key).is_some()
         && map.first_key_value().is_some()
         && map.last_key_value().is_some()
         && !map.is_empty()
@@ -134,14 +136,33 @@ fn value_of(pair: Option<([u8; 5], u64)>) -> Option<u64> {
     }
 }
 
+// What stands for an answer where a refusal does not hand its pair back: it counts as no refusal, and no call gives it.
+const LOST: Option<Option<u64>> = Some(Some(u64::MAX));
+
+// The refusal of an insertion that hands a pair back, which is to be that of a number.
+fn refusal_of(key: [u8; 5], value: u64, n: u8) -> Option<Option<u64>> {
+    if key == key_of(n) && value == 1000 {
+        None
+    } else {
+        LOST
+    }
+}
+
 // What a call answers of a value, or nothing where it finds no memory.
 fn answer_of(map: &mut Map, call: Call) -> Option<Option<u64>> {
     match call {
-        Call::Insert(n) => map.insert(key_of(n), 1000).ok(),
-        Call::TryInsert(n) => map.try_insert(key_of(n), 1000).ok(),
+        Call::Insert(n) => match map.insert(key_of(n), 1000) {
+            Ok(old) => Some(old),
+            Err(refused) => refusal_of(refused.key, refused.value, n),
+        },
+        Call::TryInsert(n) => match map.try_insert(key_of(n), 1000) {
+            Ok(old) => Some(old),
+            Err(TryInsertError::Memory { key, value }) => refusal_of(key, value, n),
+            Err(TryInsertError::Prefix { .. }) => LOST,
+        },
         Call::PrefixInsert(n) => match map.prefix_insert(key_of(n), 1000) {
             Ok(count) => Some(Some(count as u64)),
-            Err(_) => None,
+            Err(refused) => refusal_of(refused.key, refused.value, n),
         },
         Call::Remove(n) => map.remove(&key_of(n)).ok(),
         Call::RemoveEntry(n) => map.remove_entry(&key_of(n)).ok().map(value_of),
@@ -203,6 +224,7 @@ pub fn run(rt: &(impl Print + Eprint + AllocGlobal), name: &str) -> io::Result<(
         "map_insert_grows" => calls(rt, 4, Call::Insert(4)),
         "map_insert_over_takes_no_memory" => calls(rt, 3, Call::Insert(1)),
         "map_try_insert_grows" => calls(rt, 16, Call::TryInsert(16)),
+        "map_try_insert_over_takes_no_memory" => calls(rt, 3, Call::TryInsert(1)),
         "map_prefix_insert_into_none" => calls(rt, 0, Call::PrefixInsert(0)),
         "map_prefix_insert_splits_a_prefix" => calls(rt, 4, Call::PrefixInsert(200)),
         "map_prefix_insert_grows" => calls(rt, 16, Call::PrefixInsert(16)),

@@ -36,20 +36,23 @@ module _ {Owner : Type 0} where
   is_put_in x [] = inl refl
   is_put_in x (y ∷ ys) = by_place (is_before (octets x) (octets y)) (is_put_in x ys)
     where
-      by_place : (b : Bool) → IsIn x (put_in_order octets x ys) → IsIn x (cond b (x ∷ y ∷ ys) (y ∷ put_in_order octets x ys))
+      by_place : (b : Bool) → IsIn x (put_in_order octets x ys)
+          → IsIn x (cond b (x ∷ y ∷ ys) (y ∷ put_in_order octets x ys))
       by_place true h = inl refl
       by_place false h = inr h
 
   -- in an ascending table two blocks that hold an address are one
-  one_holds : (blocks : List (Vec ℕ × Owner)) → AscendsByKey octets blocks → (a : List ℕ) (x y : Vec ℕ × Owner) → IsIn x blocks
-      → IsIn y blocks → Covers x a → Covers y a → x ≡ y
+  one_holds : (blocks : List (Vec ℕ × Owner)) → AscendsByKey octets blocks → (a : List ℕ) (x y : Vec ℕ × Owner)
+      → IsIn x blocks → IsIn y blocks → Covers x a → Covers y a → x ≡ y
   one_holds [] asc a x y i j h k = absurd i
   one_holds (b ∷ bs) asc a x y (inl e) (inl f) h k = sym e ∙ f
   one_holds (b ∷ bs) asc a x y (inl e) (inr j) h k =
-      let less = subst (λ z. IsBefore (octets z) (octets y)) e (all_at (λ z. IsBefore (octets b) (octets z)) y bs asc.0 j) in
+      let less = subst (λ z. IsBefore (octets z) (octets y)) e
+      (all_at (λ z. IsBefore (octets b) (octets z)) y bs asc.0 j) in
       absurd (two_fronts (octets x) (octets y) a less h k)
   one_holds (b ∷ bs) asc a x y (inr i) (inl f) h k =
-      let less = subst (λ z. IsBefore (octets z) (octets x)) f (all_at (λ z. IsBefore (octets b) (octets z)) x bs asc.0 i) in
+      let less = subst (λ z. IsBefore (octets z) (octets x)) f
+      (all_at (λ z. IsBefore (octets b) (octets z)) x bs asc.0 i) in
       absurd (two_fronts (octets y) (octets x) a less k h)
   one_holds (b ∷ bs) asc a x y (inr i) (inr j) h k = one_holds bs asc.1 a x y i j h k
 
@@ -101,5 +104,6 @@ pub blocked_by : {K V : Type 0} (bytes : K → List ℕ) (pairs : List (K × V))
     (why : TryInsertError K V) (k : K) (v : V) (told : InsertPrefixError) → why ≡ Prefix k v told
     → IsTryRefused bytes pairs key value why → IsBlocked (key_of bytes) (bytes key) pairs
 blocked_by bytes pairs key value why k v told e h =
-    let prefix : IsTryRefused bytes pairs key value (Prefix k v told) = subst (IsTryRefused bytes pairs key value) e h in
+    let prefix : IsTryRefused bytes pairs key value (Prefix k v told) =
+    subst (IsTryRefused bytes pairs key value) e h in
     prefix.3

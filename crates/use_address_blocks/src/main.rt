@@ -25,7 +25,7 @@ fn block_of<'a>(blocks: &'a Blocks, address: &[u8]) -> Option<(&'a Vec<u8>, &'a 
 }
 
 /// Puts a block in the table, unless it holds another block of the table or another holds it. From then on each of its
-/// addresses is found to be its owner's.
+/// addresses is found to be its owner's; every other block is as it was.
 fn add(blocks: &mut Blocks, octets: Vec<u8>, owner: String) -> Result<bool, AllocError>
     ensures added { IfOk result (λ added. IsBlockAdded added (octets, owner) blocks.old.pairs blocks.new.pairs) }
     ensures err { OnErr result (blocks.new.pairs ≡ blocks.old.pairs) }

@@ -2,12 +2,11 @@
 ghost use Rattle.std.specs.Prelude.{◌≡◌, ℕ, List, length, IfOk, IfErr, IsOk, OnErr, OnOk};
 ghost use Rattle.std.specs.List.{AllByRecursion};
 ghost use Rattle.std.specs.Map.{lookup};
-ghost use Rattle.art_arena.specs.arena.Arena.{SameNodes};
 ghost use Rattle.art_arena.specs.arena.Shapes.{key_of};
 ghost use Rattle.art_operations.specs.Insertions.{HandsPairBack};
 ghost use Rattle.art_operations.specs.KeyedLists.{HasKey, IsBlocked, overlapping};
 ghost use Rattle.art_operations.specs.Pairs.{CanPut, IsPlaceFor, TellsConflict, with_pair_put, with_pair_over};
-ghost use Rattle.art_map.specs.Contents.{value_in};
+ghost use Rattle.art_map.specs.Contents.{value_in, IsUntouched};
 ghost use Rattle.art_map.specs.Found.{HasPairAt};
 
 use crate::map::TreeMap;
@@ -84,7 +83,7 @@ impl<K: AsBytes, V, const PREFIX_LEN: usize> TreeMap<K, V, PREFIX_LEN> {
         ensures pairs { OnOk result (self.new.pairs ≡ with_pair_put K.bytes key value self.old.pairs) }
         ensures stored { HasKey (key_of K.bytes) (K.bytes key) self.old.pairs → IsOk result }
         ensures err { OnErr result (self.new.pairs ≡ self.old.pairs) }
-        ensures kept { OnErr result (SameNodes self.old.nodes self.new.nodes × (self.new.root ≡ self.old.root)) }
+        ensures kept { OnErr result (IsUntouched self.old self.new) }
         ensures handed_back { HandsPairBack key value result }
     {
         match self.put_leaf_at(place, key, value) {
@@ -108,7 +107,7 @@ impl<K: AsBytes, V, const PREFIX_LEN: usize> TreeMap<K, V, PREFIX_LEN> {
         ensures pairs { OnOk result (self.new.pairs ≡ with_pair_put K.bytes key value self.old.pairs) }
         ensures stored { HasKey (key_of K.bytes) (K.bytes key) self.old.pairs → IsOk result }
         ensures err { OnErr result (self.new.pairs ≡ self.old.pairs) }
-        ensures kept { OnErr result (SameNodes self.old.nodes self.new.nodes × (self.new.root ≡ self.old.root)) }
+        ensures kept { OnErr result (IsUntouched self.old self.new) }
         ensures handed_back { HandsPairBack key value result }
     {
         let _known = key.as_bytes();
@@ -136,6 +135,7 @@ impl<K: AsBytes, V, const PREFIX_LEN: usize> TreeMap<K, V, PREFIX_LEN> {
         ensures leaf { IfOk result (λ leaf. HasPairAt self.new leaf (key, value)) }
         ensures pairs { OnOk result (self.new.pairs ≡ with_pair_put K.bytes key value self.old.pairs) }
         ensures err { OnErr result (self.new.pairs ≡ self.old.pairs) }
+        ensures kept { OnErr result (IsUntouched self.old self.new) }
         ensures handed_back { HandsPairBack key value result }
     {
         let _opened = &self.root;
@@ -160,6 +160,7 @@ impl<K: AsBytes, V, const PREFIX_LEN: usize> TreeMap<K, V, PREFIX_LEN> {
         ensures free { OnOk result (IsBlocked (key_of K.bytes) (K.bytes key) self.old.pairs → ⊥) }
         ensures stored { HasKey (key_of K.bytes) (K.bytes key) self.old.pairs → IsOk result }
         ensures err { OnErr result (self.new.pairs ≡ self.old.pairs) }
+        ensures kept { OnErr result (IsUntouched self.old self.new) }
         ensures refused { IfErr result (IsTryRefused K.bytes self.old.pairs key value) }
     {
         match self.place(&key) {
@@ -203,6 +204,7 @@ impl<K: AsBytes, V, const PREFIX_LEN: usize> TreeMap<K, V, PREFIX_LEN> {
         ensures pairs { OnOk result (self.new.pairs ≡ with_pair_over K.bytes key value self.old.pairs) }
         ensures stored { HasKey (key_of K.bytes) (K.bytes key) self.old.pairs → IsOk result }
         ensures err { OnErr result (self.new.pairs ≡ self.old.pairs) }
+        ensures kept { OnErr result (IsUntouched self.old self.new) }
         ensures handed_back { HandsPairBack key value result }
     {
         match self.prefix_put(key, value) {
@@ -238,6 +240,7 @@ impl<K: NoPrefixesBytes, V, const PREFIX_LEN: usize> TreeMap<K, V, PREFIX_LEN> {
         ensures pairs { OnOk result (self.new.pairs ≡ with_pair_put K.bytes key value self.old.pairs) }
         ensures stored { HasKey (key_of K.bytes) (K.bytes key) self.old.pairs → IsOk result }
         ensures err { OnErr result (self.new.pairs ≡ self.old.pairs) }
+        ensures kept { OnErr result (IsUntouched self.old self.new) }
         ensures handed_back { HandsPairBack key value result }
     {
         let place = self.place_free(&key);

@@ -3,7 +3,7 @@ ghost use Rattle.std.specs.Prelude.{◌≡◌, List, ◌∷◌, ◌++◌, [], If
 ghost use Rattle.std.specs.Map.{lookup, lookup_entry};
 ghost use Rattle.art_arena.specs.arena.Shapes.{key_of, LeafAt};
 ghost use Rattle.art_arena.specs.tree.Shrinks.{Shrinks};
-ghost use Rattle.art_map.specs.Contents.{option_value};
+ghost use Rattle.art_map.specs.Contents.{option_value, IsUntouched};
 ghost use Rattle.art_operations.specs.Deletions.{IsAmong};
 ghost use Rattle.art_operations.specs.KeyedLists.{HasKey, without_key};
 ghost use Rattle.art_operations.specs.Pairs.{IsAtEnd, ShrinksAtEnd};
@@ -37,6 +37,7 @@ impl<K: AsBytes, V, const PREFIX_LEN: usize> TreeMap<K, V, PREFIX_LEN> {
         ensures value { IfOk result (λ old. old ≡ lookup (has_bytes K.bytes (Q.bytes key.now)) self.old.pairs) }
         ensures pairs { OnOk result (self.new.pairs ≡ without_key (key_of K.bytes) (Q.bytes key.now) self.old.pairs) }
         ensures err { OnErr result (self.new.pairs ≡ self.old.pairs) }
+        ensures kept { OnErr result (IsUntouched self.old self.new) }
         ensures shrinks { OnErr result (HasKey (key_of K.bytes) (Q.bytes key.now) self.old.pairs
             × Shrinks (key_of K.bytes) self.old.pairs (Q.bytes key.now)) }
     {
@@ -55,6 +56,7 @@ impl<K: AsBytes, V, const PREFIX_LEN: usize> TreeMap<K, V, PREFIX_LEN> {
             old ≡ lookup_entry (has_bytes K.bytes (Q.bytes key.now)) self.old.pairs) }
         ensures pairs { OnOk result (self.new.pairs ≡ without_key (key_of K.bytes) (Q.bytes key.now) self.old.pairs) }
         ensures err { OnErr result (self.new.pairs ≡ self.old.pairs) }
+        ensures kept { OnErr result (IsUntouched self.old self.new) }
         ensures shrinks { OnErr result (HasKey (key_of K.bytes) (Q.bytes key.now) self.old.pairs
             × Shrinks (key_of K.bytes) self.old.pairs (Q.bytes key.now)) }
     {
@@ -77,6 +79,7 @@ impl<K: AsBytes, V, const PREFIX_LEN: usize> TreeMap<K, V, PREFIX_LEN> {
             (λ pair. self.old.pairs ≡ pair ∷ self.new.pairs)) }
         ensures none { IfOk result (λ taken. IfNone taken (self.new.pairs ≡ [])) }
         ensures err { OnErr result (self.new.pairs ≡ self.old.pairs) }
+        ensures kept { OnErr result (IsUntouched self.old self.new) }
         ensures shrinks { OnErr result (ShrinksAtEnd K.bytes End.First self.old.pairs) }
     {
         self.pop(End::First)
@@ -89,6 +92,7 @@ impl<K: AsBytes, V, const PREFIX_LEN: usize> TreeMap<K, V, PREFIX_LEN> {
             (λ pair. self.old.pairs ≡ self.new.pairs ++ pair ∷ [])) }
         ensures none { IfOk result (λ taken. IfNone taken (self.new.pairs ≡ [])) }
         ensures err { OnErr result (self.new.pairs ≡ self.old.pairs) }
+        ensures kept { OnErr result (IsUntouched self.old self.new) }
         ensures shrinks { OnErr result (ShrinksAtEnd K.bytes End.Last self.old.pairs) }
     {
         self.pop(End::Last)
@@ -127,6 +131,7 @@ impl<K: AsBytes, V, const PREFIX_LEN: usize> TreeMap<K, V, PREFIX_LEN> {
             (λ pair. IsAtEnd end pair self.new.pairs self.old.pairs)) }
         ensures none { IfOk result (λ taken. IfNone taken (self.new.pairs ≡ [])) }
         ensures err { OnErr result (self.new.pairs ≡ self.old.pairs) }
+        ensures kept { OnErr result (IsUntouched self.old self.new) }
         ensures shrinks { OnErr result (ShrinksAtEnd K.bytes end self.old.pairs) }
     {
         // By value an option of a name counts as moved, so a copy goes in.

@@ -4,9 +4,12 @@ use Rattle.use_address_blocks.proofs.Apart.{put_is_block, blocked_by}
 use Rattle.use_address_blocks.proofs.add.Goals as goal
 
 pub returns-in-Ok-clause-added : goal.returns-in-Ok-clause-added
-returns-in-Ok-clause-added c a h =
-    put_is_block (c.args.octets, c.args.owner) _ c.try_insert.new.self.pairs c.in-Ok.ensures.pairs
-    c.nodes.ensures.ordered a h
+returns-in-Ok-clause-added c =
+    let pairs = c.in-Ok.ensures.pairs in (
+      pairs,
+      λ a h. put_is_block (c.args.octets, c.args.owner) _ c.try_insert.new.self.pairs pairs
+          c.nodes.ensures.ordered a h,
+    )
 
 pub returns-in-Prefix-clause-added : goal.returns-in-Prefix-clause-added
 returns-in-Prefix-clause-added c =

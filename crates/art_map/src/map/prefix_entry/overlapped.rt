@@ -1,6 +1,7 @@
 //! The leaves of the pairs whose keys overlap a key, and the pair that is put in in their place.
 ghost use Rattle.std.specs.Prelude.{◌≡◌, length, option_map, IfOk, IsOk, OnErr, OnOk};
 ghost use Rattle.art_arena.specs.arena.Shapes.{key_of};
+ghost use Rattle.art_map.specs.Contents.{IsUntouched};
 ghost use Rattle.art_map.specs.Walked.{IsWalkOf};
 ghost use Rattle.art_operations.specs.Insertions.{HandsPairBack};
 ghost use Rattle.art_operations.specs.KeyedLists.{HasKey, overlapping};
@@ -109,6 +110,7 @@ impl<K: AsBytes, V, const PREFIX_LEN: usize> TreeMap<K, V, PREFIX_LEN> {
         ensures pairs { OnOk result (self.new.pairs ≡ with_pair_over K.bytes key value self.old.pairs) }
         ensures stored { HasKey (key_of K.bytes) (K.bytes key) self.old.pairs → IsOk result }
         ensures err { OnErr result (self.new.pairs ≡ self.old.pairs) }
+        ensures kept { OnErr result (IsUntouched self.old self.new) }
         ensures handed_back { HandsPairBack key value result }
     {
         // By value an option of a name counts as moved, so a copy goes in.

@@ -5,7 +5,7 @@ use Rattle.std.proofs.lemmas.Simd.{length-chunk}
 use Rattle.std.proofs.lemmas.List.{take_all}
 use lib.Lanes.{chunk}
 use Rattle.art_nodes.proofs.RowLemmas.{before_lowest, bitmask_of_splat, place_is}
-use Rattle.art_nodes.proofs.row.before_greater.Goals as goal
+use Rattle.art_nodes.proofs.row.before_at_least.Goals as goal
 
 pub returns : goal.returns
 returns g c =
