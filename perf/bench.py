@@ -14,12 +14,15 @@ libabsl-dev): its table follows, with unproved peers, and three of them stand in
 needs it, times lines of the program beside its peers (those of the yardsticks, and the unproved tree with a `Vec` for
 each key and value, without and with linked leaves): loads, `get` lines, misses and dumps. --sizes '' leaves look-ups and
 insertions out.
-Standard error tells how far it is. Times are processor time; take ratios from one run alone.
+Standard error tells how far it is. Times are processor time, the least of the repeats, one competitor after the other in
+each; take ratios from one run alone. Of look-ups, insertions and lines two are told: by the least, and by the median of
+the ratios round by round.
 """
 import argparse
 import os
 import re
 import shutil
+import statistics
 import subprocess
 import sys
 import tempfile
@@ -110,14 +113,27 @@ def build(folder):
     return made
 
 
+def in_turn(names, turn):
+    """The names, of which another one is the first at each turn."""
+    names = [*names]
+    return names[turn % len(names) :] + names[: turn % len(names)]
+
+
+def held(here, there):
+    """How the rounds of one compare with those of another beside it: by the least, and by the median of the ratios."""
+    pairs = [one / max(other, 0.001) for one, other in zip(here, there)]
+    return f"{min(here) / max(min(there), 0.001):.2f}, {statistics.median(pairs):.2f}"
+
+
 def times(folder, made, key_set, size, repeats):
-    """Nanoseconds of each operation and bytes of a pair, by map: the least of the repeats, the maps in turn."""
-    least = {name: [float("inf")] * len(OPERATIONS) for name in made}
-    for _ in range(repeats):
-        for name, path in made.items():
-            told = called([f"{folder}/drive", path, key_set, str(size), "1"]).split()
-            least[name] = [min(pair) for pair in zip(least[name], map(float, told))]
-    return least
+    """Nanoseconds of each operation and bytes of a pair, by map and operation: of each round, the maps in turn."""
+    seen = {name: [[] for _ in OPERATIONS] for name in made}
+    for turn in range(repeats):
+        for name in in_turn(made, turn):
+            told = called([f"{folder}/drive", made[name], key_set, str(size), "1"]).split()
+            for rounds, took in zip(seen[name], map(float, told)):
+                rounds.append(took)
+    return seen
 
 
 def counted(folder, path, key_set, size, steps):
@@ -283,18 +299,18 @@ def entries(folder, made, asked):
 
 
 def line_costs(folder, programs, key_set, size, repeats):
-    """By program, nanoseconds of each kind of line and bytes a record: the least of the repeats, the programs in turn."""
+    """By kind of line, or bytes a record, and program: nanoseconds of each round, the programs in turn."""
     scripts = {it: f"{folder}/{it}" for it in ("none", *LINES)}
     for it, path in scripts.items():
         with open(path, "wb") as file:
             words = [f"{folder}/bin/gen", f"{key_set}/{it}", str(size), "1"]
             file.write(subprocess.run(words, check=True, capture_output=True).stdout if it != "none" else b"")
-    least, names = {(it, name): float("inf") for it in (*LINES, "bytes") for name in programs}, [*programs]
+    seen = {(it, name): [] for it in (*LINES, "bytes") for name in programs}
     for turn in range(repeats):
         for it in LINES:
             if it == "load":
                 continue
-            for name in names[turn % len(names) :] + names[: turn % len(names)]:
+            for name in in_turn(programs, turn):
                 meas = [f"{folder}/bin/meas", scripts["load"], scripts[it], "/dev/null", programs[name]]
                 empty = [f"{folder}/bin/meas", scripts["none"], scripts["none"], "/dev/null", programs[name]]
                 told = [float(word) for word in called(meas).split()]
@@ -302,8 +318,8 @@ def line_costs(folder, programs, key_set, size, repeats):
                 found = {"load": told[0] * 1e9 / size, it: told[2] * 1e9 / size / LINES[it]}
                 found["bytes"] = (told[5] - idle) * 1024 / size
                 for what, cost in found.items():
-                    least[what, name] = min(least[what, name], cost)
-    return least
+                    seen[what, name].append(cost)
+    return seen
 
 
 def program(folder, asked):
@@ -320,11 +336,11 @@ def program(folder, asked):
         print(f"| Keys | | {shown} |\n|---|---|{'---:|' * (len(programs) + len(held_to))}")
         for key_set in LINE_SETS.split(","):
             tell(f"{key_set}, {size} records of the program")
-            least = line_costs(folder, programs, key_set, size, asked.repeats)
+            seen = line_costs(folder, programs, key_set, size, asked.repeats)
             for it in (*LINES, "bytes"):
-                row = {name: least[it, name] for name in programs}
-                shown = [f"{cost:.0f}" for cost in row.values()]
-                shown += [f"{row['here'] / row[peer]:.2f}" for peer in held_to]
+                row = {name: seen[it, name] for name in programs}
+                shown = [f"{min(costs):.0f}" for costs in row.values()]
+                shown += [held(row["here"], row[peer]) for peer in held_to]
                 print(f"| {key_set} | {it} | {' | '.join(shown)} |", flush=True)
 
 
@@ -381,17 +397,19 @@ def ratios(told):
 
 
 def look_ups(folder, made, asked, sizes):
-    """Nanoseconds of an insertion, a look-up and a miss, and bytes of a pair, with the ratios of tree and map to BTreeMap."""
-    print(f"| Keys | Number | Operation | {' | '.join(made)} | tree to BTreeMap | map to BTreeMap |")
-    print(f"|---|---:|---|{'---:|' * (len(made) + 2)}", flush=True)
+    """Nanoseconds of an insertion, a look-up and a miss, and bytes of a pair, with the ratios of tree and map to Rattle's
+    BTreeMap, and of the map to the unproved peers."""
+    held_to = [("tree", "BTreeMap"), *(("map", peer) for peer in ("BTreeMap", *PEERS) if peer in made)]
+    print(f"| Keys | Number | Operation | {' | '.join([*made, *(f'{one} to {other}' for one, other in held_to)])} |")
+    print(f"|---|---:|---|{'---:|' * (len(made) + len(held_to))}", flush=True)
     for size in sizes:
         for key_set in asked.sets.split(","):
             tell(f"{key_set}, {size} keys")
             found = times(folder, made, key_set, size, asked.repeats)
             for at, operation in enumerate(OPERATIONS):
                 row = {name: it[at] for name, it in found.items()}
-                shown = [f"{it:.0f}" for it in row.values()]
-                shown += [f"{row[name] / row['BTreeMap']:.2f}" for name in ("tree", "map")]
+                shown = [f"{min(it):.0f}" for it in row.values()]
+                shown += [held(row[one], row[other]) for one, other in held_to]
                 print(f"| {key_set} | {size} | {operation} | {' | '.join(shown)} |", flush=True)
 
 
