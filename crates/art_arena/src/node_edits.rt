@@ -11,7 +11,7 @@ use crate::arena::NodeArena;
 use crate::stored::{NodeStore, Stored};
 use art_nodes::{
     ConcreteNodePtr, Header, InnerNode, InnerNode4, InnerNode16, InnerNode48, InnerNode256,
-    InnerNodeCommon, NodePtr, NodeType, OpaqueNodePtr,
+    InnerNodeCommon, NodePtr, NodeType, OpaqueNodePtr, known,
 };
 use std::alloc::AllocError;
 
@@ -93,7 +93,10 @@ fn apply<N: InnerNodeCommon<PREFIX_LEN>, const PREFIX_LEN: usize>(
             node.remove_child(byte);
         }
         NodeEdit::CopyPrefix { header } => node.copy_prefix(header),
-        NodeEdit::Free => unreachable!(),
+        NodeEdit::Free => {
+            known(false);
+            unreachable!()
+        }
     }
 }
 
@@ -154,7 +157,10 @@ impl<K, V, const PREFIX_LEN: usize> NodeArena<K, V, PREFIX_LEN> {
             ConcreteNodePtr::Node256(ptr) => {
                 edit_at::<K, V, InnerNode256<K, V, PREFIX_LEN>, PREFIX_LEN>(self, ptr, edit)
             }
-            ConcreteNodePtr::LeafNode(_) => unreachable!(),
+            ConcreteNodePtr::LeafNode(_) => {
+                known(false);
+                unreachable!()
+            }
         }
     }
 

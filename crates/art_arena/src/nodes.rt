@@ -5,6 +5,7 @@ ghost use Rattle.std.specs.Borrow.{sem};
 ghost use Rattle.slab.specs.Slab.{get, slab_len, HasRoomFor, Updates, IsSlotClone};
 ghost use Rattle.art_arena.specs.inner.NodesLends.{lends_in};
 
+use art_nodes::known;
 use slab::Slab;
 use std::alloc::{AllocError, AllocFailed, Global};
 use std::marker::Model;
@@ -137,7 +138,10 @@ impl<N, const PREFIX_LEN: usize> Nodes<N, PREFIX_LEN> {
     {
         match self.slab.get(slot) {
             Some(node) => node,
-            None => unreachable!(),
+            None => {
+                known(false);
+                unreachable!()
+            }
         }
     }
 
@@ -149,7 +153,10 @@ impl<N, const PREFIX_LEN: usize> Nodes<N, PREFIX_LEN> {
     {
         match self.slab.get_mut(slot) {
             Some(node) => node,
-            None => unreachable!(),
+            None => {
+                known(false);
+                unreachable!()
+            }
         }
     }
 
@@ -163,7 +170,10 @@ impl<N, const PREFIX_LEN: usize> Nodes<N, PREFIX_LEN> {
     {
         match self.slab.try_remove(slot) {
             Some(node) => node,
-            None => unreachable!(),
+            None => {
+                known(false);
+                unreachable!()
+            }
         }
     }
 }

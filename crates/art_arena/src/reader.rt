@@ -6,7 +6,7 @@ ghost use Rattle.art_arena.specs.arena.Visited.{arena_of, count_of, held_of, kin
 use crate::arena::NodeArena;
 use crate::inner_ref::{InnerArm, InnerRef};
 use art_nodes::{
-    InnerNode4, InnerNode16, InnerNode48, InnerNode256, LeafNode, NodeType, OpaqueNodePtr,
+    InnerNode4, InnerNode16, InnerNode48, InnerNode256, LeafNode, NodeType, OpaqueNodePtr, known,
 };
 
 /// A node that was read, lent as long as the arena is.
@@ -146,7 +146,10 @@ impl<K, V, const PREFIX_LEN: usize> NodeArena<K, V, PREFIX_LEN> {
     {
         match node_in(self, name).leaf() {
             Err(inner) => inner,
-            Ok(_) => unreachable!(),
+            Ok(_) => {
+                known(false);
+                unreachable!()
+            }
         }
     }
 }

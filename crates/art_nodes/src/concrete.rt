@@ -1,6 +1,7 @@
 //! Names whose kind is seen by a match.
 ghost use Rattle.std.specs.Prelude.{◌≡◌, ◌≢◌};
 
+use crate::hint::known;
 use crate::kind::{InnerKind, Kind4, Kind16, Kind48, Kind256, KindLeaf, NodeKind, NodeType};
 use crate::names::{NodePtr, OpaqueNodePtr};
 
@@ -92,7 +93,10 @@ impl OpaqueNodePtr {
             ConcreteNodePtr::Node16(name) => ConcreteInnerNodePtr::Node16(name),
             ConcreteNodePtr::Node48(name) => ConcreteInnerNodePtr::Node48(name),
             ConcreteNodePtr::Node256(name) => ConcreteInnerNodePtr::Node256(name),
-            ConcreteNodePtr::LeafNode(_) => unreachable!(),
+            ConcreteNodePtr::LeafNode(_) => {
+                known(false);
+                unreachable!()
+            }
         }
     }
 }

@@ -1,11 +1,12 @@
 //! Inner nodes of few children, whose bytes and names stand side by side in ascending order.
-ghost use Rattle.std.specs.Prelude.{◌≡◌, ◌↔◌, ◌<◌, ◌≤◌, ◌⊎◌, ◌+◌, ◌^◌, ◌==◌, [], length, min, take, IsTrue, IsSome};
+ghost use Rattle.std.specs.Prelude.{◌≡◌, ◌↔◌, ◌<◌, ◌≤◌, ◌⊎◌, ◌+◌, ◌^◌, ◌==◌, ◌∷◌, [], length, min, take, IsTrue};
+ghost use Rattle.std.specs.Prelude.{IsSome};
 ghost use Rattle.std.specs.Prelude.{MatchResult};
-ghost use Rattle.art_nodes.specs.Header.{front_of};
+ghost use Rattle.art_nodes.specs.Header.{front_of, header_of};
 ghost use Rattle.std.specs.List.{zip};
 ghost use Rattle.art_nodes.specs.inner.Place.{StandsAt, BelongsAt};
 ghost use Rattle.art_nodes.specs.InnerNode.{InnerNode, IsInnerNode, IsAscending, child_at, with_child, without_child};
-ghost use Rattle.art_nodes.specs.InnerNode.{with_children};
+ghost use Rattle.art_nodes.specs.InnerNode.{childless, with_children};
 
 use crate::child_iter::{ChildIter, end_of, start_of};
 use crate::header::Header;
@@ -75,6 +76,38 @@ impl<K, V, const PREFIX_LEN: usize, const SIZE: usize> InnerNodeSorted<K, V, PRE
     {
         let used = self.header.num_children();
         (&self.keys[..used], &self.names[..used])
+    }
+
+    /// A node of two children, the first under the smaller byte. Its prefix is the first `len` bytes of these, which
+    /// must cover what is stored of it. No byte is looked for and nothing is moved, so the node is made where it is to
+    /// stand.
+    #[inline(always)]
+    pub fn with_two_children(
+        bytes: &[u8],
+        len: usize,
+        low: (u8, OpaqueNodePtr),
+        high: (u8, OpaqueNodePtr),
+    ) -> Self
+        requires room { 2 ≤ SIZE }
+        requires covers { min len PREFIX_LEN ≤ length bytes.now }
+        requires ascending { low.0 < high.0 }
+        ensures { result ≡ with_children (childless (header_of PREFIX_LEN bytes.now len)) (low ∷ high ∷ []) }
+    {
+        let mut header = Header::new(bytes, len);
+        header.inc_num_children();
+        header.inc_num_children();
+        let mut keys = [0; SIZE];
+        keys[0] = low.0;
+        keys[1] = high.0;
+        let mut names = [OpaqueNodePtr::default(); SIZE];
+        names[0] = low.1;
+        names[1] = high.1;
+        InnerNodeSorted {
+            header,
+            keys,
+            names,
+            tree: PhantomData,
+        }
     }
 }
 

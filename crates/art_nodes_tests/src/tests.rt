@@ -274,6 +274,34 @@ fn conversions(rt: HostRuntime) {
 }
 
 #[test]
+fn two_children_at_once(rt: HostRuntime) {
+    let node = Small::with_two_children(&[1, 2, 3, 4], 3, (7, leaf(1)), (200, leaf(2)));
+    assert!(rt; node.lookup_child(7) == Some(leaf(1)));
+    assert!(rt; node.lookup_child(200) == Some(leaf(2)));
+    assert!(rt; node.lookup_child(0) == None);
+    assert_eq!(rt; node.header().num_children(), 2);
+    assert!(rt; node.header().read_prefix() == [1, 2, 3].as_slice());
+    let mut written = Small::from_prefix(&[1, 2, 3, 4], 3);
+    written.write_child(200, leaf(2));
+    written.write_child(7, leaf(1));
+    assert!(rt; node.header() == written.header());
+    let mut children = node.iter();
+    for child in written.iter() {
+        assert!(rt; children.next() == Some(child));
+    }
+    assert!(rt; children.next() == None);
+}
+
+#[test]
+fn what_is_known_changes_nothing(rt: HostRuntime) {
+    let byte = leaf(3).slot() as u8;
+    if byte < 4 {
+        known(byte <= 4);
+        assert_eq!(rt; byte, 3);
+    }
+}
+
+#[test]
 fn weights(rt: HostRuntime) {
     assert_eq!(rt; size_of::<OpaqueNodePtr>(), 9);
     assert_eq!(rt; size_of::<Header<16>>(), 32);

@@ -32,6 +32,7 @@ use std::alloc::AllocError;
 /// Finds where a key goes: its point in the tree, or nowhere where there is no pair yet. It is refused where the key is
 /// a front of a stored key, or a stored key is one of it: the refusal tells the part of the tree that has these keys.
 /// It takes no memory.
+#[inline(always)]
 pub fn find_place<K: AsBytes, V, const PREFIX_LEN: usize>(
     arena: &NodeArena<K, V, PREFIX_LEN>,
     root: Option<OpaqueNodePtr>,
@@ -79,6 +80,7 @@ fn put_first<K: AsBytes, V, const PREFIX_LEN: usize>(
 /// Puts a key and its value in at the place that was found for the key. A pair that has the key already is answered,
 /// and this one takes its leaf: that is never refused. Where there is no memory, the key and the value are handed back,
 /// and nothing changed. Whatever stands beside the tree stays as it is.
+#[inline(always)]
 pub fn put_pair<K: AsBytes, V, const PREFIX_LEN: usize>(
     arena: &mut NodeArena<K, V, PREFIX_LEN>,
     place: Option<InsertPoint>,

@@ -13,6 +13,7 @@ use art_bytes::AsBytes;
 use art_nodes::OpaqueNodePtr;
 
 // The last step of a path: an inner node, and the byte of its child.
+#[inline(always)]
 fn last_step(path: TreePath) -> Option<(OpaqueNodePtr, u8)>
     ensures { MatchOption result (steps_of path ≡ [])
         (λ step. (more : List Step) × (steps_of path ≡ record { node = step.0; byte = step.1 } ∷ more)) }
@@ -33,6 +34,7 @@ fn last_step(path: TreePath) -> Option<(OpaqueNodePtr, u8)>
 
 /// Lets the inner node above the place to which a path leads have this node there, and answers the name of the root,
 /// which is the node itself where there is none above.
+#[inline(always)]
 pub(crate) fn repoint<K: AsBytes, V, const PREFIX_LEN: usize>(
     arena: &mut NodeArena<K, V, PREFIX_LEN>,
     root: OpaqueNodePtr,

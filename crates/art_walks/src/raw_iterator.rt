@@ -5,7 +5,7 @@ ghost use Rattle.art_arena.specs.arena.Shapes.{LeafAt};
 ghost use Rattle.art_walks.specs.Runs.{IsWalk};
 
 use art_arena::{LeafPtr, NodeArena};
-use art_nodes::LeafNode;
+use art_nodes::{LeafNode, known};
 use std::marker::Model;
 
 /// A run of neighbours among the linked leaves of an arena, which may be empty. It borrows nothing, and each call names
@@ -91,7 +91,10 @@ impl RawIterator {
         }
         match leaf.next() {
             Some(next) => self.ends = Some((next, last)),
-            None => unreachable!(),
+            None => {
+                known(false);
+                unreachable!()
+            }
         }
         Some(first)
     }
@@ -115,7 +118,10 @@ impl RawIterator {
         }
         match leaf.previous() {
             Some(previous) => self.ends = Some((first, previous)),
-            None => unreachable!(),
+            None => {
+                known(false);
+                unreachable!()
+            }
         }
         Some(last)
     }

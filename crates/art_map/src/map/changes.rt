@@ -40,6 +40,7 @@ impl<K: AsBytes, V, const PREFIX_LEN: usize> TreeMap<K, V, PREFIX_LEN> {
     /// Finds where a key with the query's bytes goes, for `put_at`. It is refused where the key is a front of a stored
     /// key, or a stored key is one of it: the refusal tells the part of the tree that has these keys. It takes no
     /// memory.
+    #[inline(always)]
     pub fn place<Q: AsBytes>(&self, key: &Q) -> Result<Option<InsertPoint>, PrefixConflict>
         ensures placed { IsPlaced K.bytes PREFIX_LEN self.now.nodes (Q.bytes key.now) self.now.pairs result }
         ensures place { IfOk result (IsPlaceFor K.bytes PREFIX_LEN self.now.nodes self.now.root (Q.bytes key.now)) }
@@ -70,6 +71,7 @@ impl<K: AsBytes, V, const PREFIX_LEN: usize> TreeMap<K, V, PREFIX_LEN> {
     /// key has the same bytes if there is one, and answers the value of that one. It is refused only where there is no
     /// memory. The pair is then handed back, and the map is as it was, its nodes too, so that the place still stands. A
     /// key that is stored is never refused.
+    #[inline(always)]
     pub fn put_at(
         &mut self,
         place: Option<InsertPoint>,
@@ -93,6 +95,7 @@ impl<K: AsBytes, V, const PREFIX_LEN: usize> TreeMap<K, V, PREFIX_LEN> {
     }
 
     // The same, and the leaf of the pair is answered too.
+    #[inline(always)]
     pub(super) fn put_leaf_at(
         &mut self,
         place: Option<InsertPoint>,
@@ -151,7 +154,7 @@ impl<K: AsBytes, V, const PREFIX_LEN: usize> TreeMap<K, V, PREFIX_LEN> {
     /// It is refused with `Prefix` where the key is a front of a stored key, or a stored key is one of it, and with
     /// `Memory` where there is no memory for the pair, or for the bytes that `Prefix` tells. The pair is handed back,
     /// and the map is as it was. A key that is stored is never refused.
-    #[inline(always)]
+    #[inline(never)]
     pub fn try_insert(&mut self, key: K, value: V) -> Result<Option<V>, TryInsertError<K, V>>
     where
         K: Drop,

@@ -26,7 +26,7 @@ use crate::parent::repoint;
 use art_arena::links::insert_between;
 use art_arena::{LeafPtr, NodeArena, NodeEdit, first_leaf, inner_node_ptr, last_leaf};
 use art_bytes::AsBytes;
-use art_nodes::{KindLeaf, OpaqueNodePtr};
+use art_nodes::{KindLeaf, OpaqueNodePtr, known};
 use std::alloc::AllocError;
 
 // An inner node with room for one more child, and the root of its tree.
@@ -146,7 +146,10 @@ fn neighbours_at<K: AsBytes, V, const PREFIX_LEN: usize>(
             leaf: last_leaf(arena, previous.1),
             is_before: false,
         }),
-        (None, None) => unreachable!(),
+        (None, None) => {
+            known(false);
+            unreachable!()
+        }
     }
 }
 
@@ -208,7 +211,7 @@ fn put_leaf<K: AsBytes, V, const PREFIX_LEN: usize>(
 ///
 /// A leaf is made, and where the node is full one of the next larger kind, which takes its place. Where there is no
 /// memory for them, the key and the value are handed back, and the tree is as it was.
-#[inline(never)]
+#[inline(always)]
 pub(crate) fn put_into_existing<K: AsBytes, V, const PREFIX_LEN: usize>(
     arena: &mut NodeArena<K, V, PREFIX_LEN>,
     point: InsertPoint,

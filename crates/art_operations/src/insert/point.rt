@@ -257,6 +257,7 @@ fn way_at<K: AsBytes, V, const PREFIX_LEN: usize>(
 }
 
 // Goes down for a key by whole prefixes, as far as it goes.
+#[inline(always)]
 fn stop_of<K: AsBytes, V, const PREFIX_LEN: usize>(
     arena: &NodeArena<K, V, PREFIX_LEN>,
     root: OpaqueNodePtr,
@@ -282,7 +283,7 @@ fn stop_of<K: AsBytes, V, const PREFIX_LEN: usize>(
 
 /// Finds where a new key goes in the tree below a name. It is refused where the key is a front of a stored key, or a
 /// stored key is one of it: the refusal tells the part of the tree that has these keys. It takes no memory.
-#[inline(never)]
+#[inline(always)]
 pub fn find_insert_point<K: AsBytes, V, const PREFIX_LEN: usize>(
     arena: &NodeArena<K, V, PREFIX_LEN>,
     root: OpaqueNodePtr,

@@ -29,8 +29,7 @@ use art_arena::links::{insert_after, insert_before};
 use art_arena::{LeafPtr, NodeArena, NodeEdit, first_leaf, last_leaf, read_full_prefix};
 use art_bytes::AsBytes;
 use art_nodes::{
-    ConcreteInnerNodePtr, Header, InnerNode4, InnerNodeCommon, InnerNodeInit, Kind4, KindLeaf,
-    NodePtr, NodeType, OpaqueNodePtr,
+    ConcreteInnerNodePtr, Header, InnerNode4, Kind4, KindLeaf, NodePtr, NodeType, OpaqueNodePtr,
 };
 use std::alloc::AllocError;
 
@@ -41,7 +40,8 @@ struct SplitNodes {
     inner: NodePtr<Kind4>,
 }
 
-// An inner node over the old part and a new leaf.
+// An inner node over the old part and a new leaf: which of the two bytes is the smaller is asked once.
+#[inline(always)]
 fn split_of<K, V, const PREFIX_LEN: usize>(
     prefix: &[u8],
     parted: Parted,
@@ -51,13 +51,17 @@ fn split_of<K, V, const PREFIX_LEN: usize>(
     requires { parted.old_byte ≢ parted.new_byte }
     ensures { result ≡ split_node PREFIX_LEN prefix.now parted.old_byte old parted.new_byte (leaf_name leaf) }
 {
-    let mut node = InnerNode4::from_prefix(prefix, prefix.len());
-    node.write_child(parted.old_byte, old);
-    node.write_child(parted.new_byte, leaf.to_opaque());
-    node
+    let old_child = (parted.old_byte, old);
+    let new_child = (parted.new_byte, leaf.to_opaque());
+    if parted.old_byte < parted.new_byte {
+        InnerNode4::with_two_children(prefix, prefix.len(), old_child, new_child)
+    } else {
+        InnerNode4::with_two_children(prefix, prefix.len(), new_child, old_child)
+    }
 }
 
 // Stores an inner node over the old part and a new leaf, whose key lends the prefix.
+#[inline(always)]
 fn store_split<K: AsBytes, V, const PREFIX_LEN: usize>(
     arena: &mut NodeArena<K, V, PREFIX_LEN>,
     old: OpaqueNodePtr,
@@ -203,7 +207,7 @@ fn trim<K, V, const PREFIX_LEN: usize>(
 /// Puts an inner node in the place of the node from which the key parts, over it and over a new leaf of the key.
 ///
 /// Where there is no memory for the two new nodes, the key and the value are handed back, and the tree is as it was.
-#[inline(never)]
+#[inline(always)]
 pub(crate) fn split<K: AsBytes, V, const PREFIX_LEN: usize>(
     arena: &mut NodeArena<K, V, PREFIX_LEN>,
     point: InsertPoint,

@@ -22,8 +22,8 @@ down-preserved g c = λ path s sub.
     rw c.go_down.ensures
     (step.goes_on c.in-Some-end_child.child (ap (λ (n : InnerNode). end_child c.args.end n.children) (same_inner _ _ _ step.there c.inner.ensures.value) ∙ sym c.end_child.ensures ∙ c.in-Some-end_child.is)).0
 
-pub unreachable-requires : goal.unreachable-requires
-unreachable-requires g c =
+pub known-requires : goal.known-requires
+known-requires g c =
     let other : c.down.current.kind ≢ Leaf = λ e. let h = c.in_default.ensures.variant.1 e in cc in
     let step = end_step g.K.AsBytes.bytes g.row.PREFIX_LEN c.args.arena.now c.args.end c.requires.0 c.requires.1 c.down.current c.down.search (c.down.invariant c.requires.0 c.requires.1 c.requires.2) other in
     let child = some_of _ step.some in

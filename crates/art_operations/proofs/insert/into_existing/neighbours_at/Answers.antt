@@ -26,9 +26,9 @@ first_leaf-requires g c =
     let n = next _ _ _ _ _ _ _ _ _ _ c.requires.6 _ c.inner-inner.ensures.value _ c.child_after-behind.ensures c.in-None-Some.next c.in-None-Some.is-1 in
     (omega arith, (n.path, n.part, n.subtree))
 
-pub unreachable-requires : goal.unreachable-requires
-unreachable-requires g c =
-    some_child _ _ _ _ _ _ _ _ _ _ c.requires.6 _ c.inner-inner.ensures.value _ _ c.child_before-before.ensures c.child_after-behind.ensures c.in-None-None.is-0 c.in-None-None.is-1
+pub known-requires : goal.known-requires
+known-requires g c =
+    absurd (some_child _ _ _ _ _ _ _ _ _ _ c.requires.6 _ c.inner-inner.ensures.value _ _ c.child_before-before.ensures c.child_after-behind.ensures c.in-None-None.is-0 c.in-None-None.is-1)
 
 pub returns-in-Some-Some : goal.returns-in-Some-Some
 returns-in-Some-Some g c = λ root leaf f outer l rest awaits.
