@@ -294,11 +294,11 @@ fn two_children_at_once(rt: HostRuntime) {
 
 #[test]
 fn what_is_known_changes_nothing(rt: HostRuntime) {
-    let byte = leaf(3).slot() as u8;
-    if byte < 4 {
-        known(byte <= 4);
-        assert_eq!(rt; byte, 3);
+    let slot = leaf(3).slot();
+    if slot < 4 {
+        known(slot <= 4);
     }
+    assert_eq!(rt; slot, 3);
 }
 
 #[test]
