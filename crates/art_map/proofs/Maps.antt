@@ -3,8 +3,7 @@ use Rattle.std.proofs.Common.{◌≡◌, ℕ, Bool, true, false, cond, not, byte
 use Rattle.std.specs.List.{AllByRecursion}
 use Rattle.std.specs.Map.{lookup, lookup_entry, set_value}
 use Rattle.std.proofs.lemmas.List.{append-nil, length-map}
-use Rattle.art_bytes.specs.Keys.{BeginsWith, Conflict, IsBefore}
-use Rattle.art_bytes.proofs.Order.{conflict_not_before, conflict_turned}
+use Rattle.art_bytes.specs.Keys.{BeginsWith}
 use Rattle.art_nodes.specs.Name.{Name}
 use Rattle.art_nodes.specs.declared.leaf.LeafNode.{LeafNode}
 use Rattle.art_arena.specs.arena.Arena.{Arena, Held, held_at, node_at, links_at, SameNodes, cell_of}
@@ -31,7 +30,7 @@ use Rattle.art_operations.specs.declared.delete.result.DeleteResult.{DeleteResul
 use Rattle.art_operations.specs.declared.insert.result.InsertResult.{InsertResult}
 use Rattle.art_operations.specs.declared.prefix_insert.result.PrefixInsertResult.{PrefixInsertResult}
 use Rattle.art_operations.proofs.HeldPairs.{pairs-same}
-use Rattle.art_operations.proofs.KeyedLists.{nothing_taken}
+use Rattle.art_operations.proofs.KeyedLists.{nothing_taken, stored-free}
 use Rattle.art_operations.proofs.LeafPairs.{leaf_pair, pairs_ascend, held_leaf, pairs-parts}
 use Rattle.art_operations.proofs.PutOver.{how_many}
 use Rattle.art_operations.proofs.WrittenValues.{written}
@@ -101,24 +100,10 @@ module _ {K V : Type 0} (bytes : K → List ℕ) where
         | inr behind ↦ c.0 (sym (law p.0 key other one behind))
       ]
 
-  -- of two pairs in ascending order none is in conflict with the other
-  apart : (pairs : List (K × V)) → AscendsByKey (key_of bytes) pairs → (p q : K × V) → IsIn p pairs → IsIn q pairs → Conflict (bytes p.0) (bytes q.0) → ⊥
-  apart [] up p q i j c = i
-  apart (r ∷ rs) up p q (inl e) (inl f) c = c.0 (ap (key_of bytes) (sym e ∙ f))
-  apart (r ∷ rs) up p q (inl e) (inr j) c =
-      conflict_not_before (bytes p.0) (bytes q.0) c (subst (λ k. IsBefore (key_of bytes k) (bytes q.0)) e (all_at (λ y. IsBefore (key_of bytes r) (key_of bytes y)) q rs up.0 j))
-  apart (r ∷ rs) up p q (inr i) (inl f) c =
-      conflict_not_before (bytes q.0) (bytes p.0) (conflict_turned (bytes p.0) (bytes q.0) c) (subst (λ k. IsBefore (key_of bytes k) (bytes p.0)) f (all_at (λ y. IsBefore (key_of bytes r) (key_of bytes y)) p rs up.0 i))
-  apart (r ∷ rs) up p q (inr i) (inr j) c = apart rs up.1 p q i j c
-
-  -- so no pair blocks a key that another has
-  pub stored-free : (pairs : List (K × V)) → AscendsByKey (key_of bytes) pairs → (key : List ℕ) → HasKey (key_of bytes) key pairs → IsBlocked (key_of bytes) key pairs → ⊥
-  stored-free pairs up key (p, i, same) (q, j, c) = apart pairs up p q i j (subst (λ k. Conflict k (bytes q.0)) (sym same) c)
-
-  -- a place is found for it
+  -- a place is found for a key that a pair has
   pub stored-placed : {E : Type 0} (P : ℕ) (arena : Arena K V) (pairs : List (K × V)) → AscendsByKey (key_of bytes) pairs → (key : List ℕ) (result : Result (Option InsertPoint) E) → IsPlaced bytes P arena key pairs result → HasKey (key_of bytes) key pairs → IsOk result
   stored-placed P arena pairs up key (Ok place) placed has = refl
-  stored-placed P arena pairs up key (Err e) blocked has = absurd (stored-free pairs up key has blocked)
+  stored-placed P arena pairs up key (Err e) blocked has = absurd (stored-free (key_of bytes) pairs up key has blocked)
 
 leaf-value : {K V : Type 0} (o : Option (LeafNode K V)) → value_in o ≡ option_value (first_item (pair_in o))
 leaf-value None = refl

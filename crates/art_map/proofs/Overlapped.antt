@@ -1,5 +1,5 @@
 -- The leaves whose keys overlap a key: the one whose key is a front of it, or else those that begin with it.
-use Rattle.std.proofs.Common.{◌≡◌, ◌≢◌, ℕ, ◌≤◌, Bool, true, false, cond, ◌||◌, eqb, filter, List, [], ◌∷◌, ◌++◌, length, Option, Some, None, option_map, ◌⊎◌, inl, inr, refl, sym, ap, ap₂, subst, ◌∙◌, arith}
+use Rattle.std.proofs.Common.{◌≡◌, ◌≢◌, ℕ, ◌≤◌, Bool, true, false, cond, ◌||◌, eqb, filter, List, [], ◌∷◌, ◌++◌, Option, Some, None, option_map, ◌⊎◌, inl, inr, refl, sym, ap, ap₂, subst, ◌∙◌, arith}
 use Rattle.std.specs.List.{AllByRecursion}
 use Rattle.std.specs.Map.{lookup_entry}
 use Rattle.std.proofs.lemmas.Bool.{cases_order, or_right}
@@ -24,7 +24,7 @@ use Rattle.art_map.specs.Contents.{Contents, first_item}
 use Rattle.art_map.specs.Found.{IsFound}
 use Rattle.art_map.specs.Overlapped.{IsLoneAt, lone_item}
 use Rattle.art_map.specs.Walked.{IsWalkOf}
-use Rattle.art_map.proofs.LookedUp.{FirstAt, first-at}
+use Rattle.art_map.proofs.LookedUp.{first-at}
 
 -- two keys overlap, or one comes before the other
 overlap_or_order : (k l : List ℕ) → (overlaps k l ≡ true) ⊎ ((IsBefore k l) ⊎ (IsBefore l k))

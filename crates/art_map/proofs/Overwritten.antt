@@ -1,6 +1,5 @@
 -- A pair that took the place of those whose keys overlap its key, once its value is written.
-use Rattle.std.proofs.Common.{◌≡◌, ℕ, Bool, true, false, cond, not, bytes_eq, List, [], ◌∷◌, Some, refl, sym, ap, ◌∙◌}
-use Rattle.art_arena.specs.arena.Cells.{Cell, pair}
+use Rattle.std.proofs.Common.{◌≡◌, ℕ, Bool, true, false, cond, not, List, [], ◌∷◌, Some, refl, ap, ◌∙◌}
 use Rattle.art_arena.specs.arena.Shapes.{key_of}
 use Rattle.art_arena.specs.tree.Changes.{put_in_order}
 use Rattle.art_arena.proofs.shapes.Finding.{other_key}

@@ -1,5 +1,5 @@
 -- The parent of a place gets another child there.
-use Rattle.std.proofs.Common.{◌≡◌, ◌≢◌, ℕ, List, [], ◌∷◌, ◌++◌, take, Option, Some, IsSome, refl, sym, ap, subst, ◌∙◌}
+use Rattle.std.proofs.Common.{◌≡◌, ◌≢◌, ℕ, List, [], ◌∷◌, ◌++◌, take, Option, None, Some, IsSome, refl, sym, ap, subst, ◌∙◌}
 use Rattle.art_nodes.specs.declared.kind.NodeType.TheVariants.{Leaf}
 use Rattle.art_nodes.specs.InnerNode.{InnerNode, child_at}
 use Rattle.art_nodes.specs.Name.{Name}
@@ -11,7 +11,12 @@ use Rattle.art_arena.specs.arena.Steps.{Step, steps_to}
 use Rattle.art_arena.proofs.shapes.Repoint.{repointed, child_at-frame, frame_node, frame-there, frame-inner, repoint}
 use Rattle.art_arena.proofs.shapes.Subtrees.{inner_of}
 use Rattle.art_arena.proofs.shapes.Updates.{nodes-update}
-use Rattle.art_operations.specs.inner.Edits.{StandsAround}
+use Rattle.art_operations.specs.inner.Edits.{IsLastOf, StandsAround}
+
+-- the last step that is told is one
+pub last-is : (steps : List Step) (last : Option (Name × ℕ)) (step : Name × ℕ) → last ≡ Some step → IsLastOf steps last → (more : List Step) × (steps ≡ record { node = step.0; byte = step.1 } ∷ more)
+last-is steps None step e is = absurd (cc)
+last-is steps (Some other) step e is = subst (λ (s : Name × ℕ). (more : List Step) × (steps ≡ record { node = s.0; byte = s.1 } ∷ more)) (let f : Some other ≡ Some step = e in cc) is
 
 module _ {K V : Type 0} (bytes : K → List ℕ) (P : ℕ) where
   -- at the root there is no parent

@@ -1,15 +1,15 @@
 -- An ascending list into which an item is put, in which one is replaced, or from which one is taken, and the list without its key.
-use Rattle.std.proofs.Common.{◌≡◌, ◌≢◌, ℕ, not, true, false, Bool, cond, List, [], ◌∷◌, ◌++◌, bytes_eq, refl, sym, ap, ap₂, subst, ◌∙◌}
+use Rattle.std.proofs.Common.{◌≡◌, ◌≢◌, ℕ, not, true, false, Bool, cond, List, [], ◌∷◌, ◌++◌, bytes_eq, refl, sym, ap, ap₂, subst, ◌∙◌, inl, inr}
 use Rattle.std.specs.List.{AllByRecursion}
 use Rattle.std.proofs.lemmas.List.Elements.{filter-append}
 use Rattle.art_bytes.specs.Keys.{Conflict, IsBefore}
 use Rattle.art_arena.specs.tree.Order.{AscendsByKey}
-use Rattle.art_arena.specs.tree.Changes.{put_in_order}
+use Rattle.art_arena.specs.tree.Changes.{IsIn, put_in_order}
 use Rattle.art_arena.proofs.tree.Order.{all_append, all_weaker}
 use Rattle.art_arena.proofs.tree.Insert.{all_at}
 use Rattle.art_arena.proofs.tree.Exists.{in_middle, put_is}
 use Rattle.art_arena.proofs.shapes.Finding.{same_key, other_key}
-use Rattle.art_operations.specs.KeyedLists.{with_key, without_key, IsBlocked}
+use Rattle.art_operations.specs.KeyedLists.{HasKey, with_key, without_key, IsBlocked}
 use Rattle.art_bytes.proofs.Order.{before_not_self, conflict_not_before, conflict_turned}
 
 module _ {X : Type 0} (key : X → List ℕ) where
@@ -32,6 +32,20 @@ module _ {X : Type 0} (key : X → List ℕ) where
       step : (b : Bool) → (with_key key k xs ≡ [] → without_key key k xs ≡ xs) → cond b (x ∷ with_key key k xs) (with_key key k xs) ≡ [] → cond (not b) (x ∷ without_key key k xs) (without_key key k xs) ≡ x ∷ xs
       step true later none = absurd (cc)
       step false later none = ap (λ ys. x ∷ ys) (later none)
+
+  -- of two items in ascending order none is in conflict with the other
+  apart : (xs : List X) → AscendsByKey key xs → (x y : X) → IsIn x xs → IsIn y xs → Conflict (key x) (key y) → ⊥
+  apart [] up x y i j c = i
+  apart (r ∷ rs) up x y (inl e) (inl f) c = c.0 (ap key (sym e ∙ f))
+  apart (r ∷ rs) up x y (inl e) (inr j) c =
+      conflict_not_before (key x) (key y) c (subst (λ z. IsBefore (key z) (key y)) e (all_at (λ z. IsBefore (key r) (key z)) y rs up.0 j))
+  apart (r ∷ rs) up x y (inr i) (inl f) c =
+      conflict_not_before (key y) (key x) (conflict_turned (key x) (key y) c) (subst (λ z. IsBefore (key z) (key x)) f (all_at (λ z. IsBefore (key r) (key z)) x rs up.0 i))
+  apart (r ∷ rs) up x y (inr i) (inr j) c = apart rs up.1 x y i j c
+
+  -- so none blocks a key that another has
+  pub stored-free : (xs : List X) → AscendsByKey key xs → (k : List ℕ) → HasKey key k xs → IsBlocked key k xs → ⊥
+  stored-free xs up k (x, i, same) (y, j, c) = apart xs up x y i j (subst (λ l. Conflict l (key y)) (sym same) c)
 
   module _ (k : List ℕ) where
     -- all have other keys

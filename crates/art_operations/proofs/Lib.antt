@@ -4,6 +4,7 @@ pub mod Segments
 pub mod Stretches
 pub mod RangeEnds
 pub mod Points
+pub mod Stops
 pub mod NewNodes
 pub mod Edits
 pub mod Inserted
@@ -31,6 +32,7 @@ pub mod LeafPairs
 pub mod NamedLeaves
 pub mod NotStored
 pub mod HeldPairs
+pub mod StopPairs
 pub mod DecidedPoints
 pub mod KnownPlaces
 pub mod Overlaps

@@ -13,12 +13,24 @@ use Rattle.art_operations.specs.DeletePoints.{IsLeafPlace}
 use Rattle.art_arena.specs.arena.Stores.{StoresBeside}
 use Rattle.art_operations.specs.declared.insert.result.InsertRefused.{InsertRefused}
 use Rattle.art_operations.specs.declared.insert.result.InsertResult.{InsertResult}
+use Rattle.art_operations.specs.declared.insert.result.PairRefused.{PairRefused}
+use Rattle.art_operations.specs.declared.insert.result.PairRefused.TheVariants.{Conflict, Memory}
 use Rattle.art_operations.specs.declared.insert.result.InsertParentNodeChange.{InsertParentNodeChange}
 use Rattle.art_operations.specs.declared.insert.result.InsertParentNodeChange.TheVariants.{NewParent, NoChange}
 
 -- a refusal hands this key and this value back
 abbrev pub HandsPairBack : {K V A : Type 0} → K → V → Result A (InsertRefused K V) → Type 0
 HandsPairBack key value result = IfErr result (λ refused. (refused.key ≡ key) × (refused.value ≡ value))
+
+-- the refusal is for a conflict of keys, and not for want of memory
+abbrev pub IsForConflict : {K V : Type 0} → PairRefused K V → Type 0
+IsForConflict (Conflict k v) = Unit {0}
+IsForConflict (Memory k v) = ⊥
+
+-- a refusal hands this key and this value back, and where it is for a conflict there is one
+abbrev pub IsPairRefused : {K V : Type 0} → K → V → Type 0 → PairRefused K V → Type 0
+IsPairRefused key value IsBlocked (Conflict k v) = (k ≡ key) × (v ≡ value) × IsBlocked
+IsPairRefused key value IsBlocked (Memory k v) = (k ≡ key) × (v ≡ value)
 
 -- the last steps to the leaf, where these led to what its key met
 abbrev pub steps_after : InsertParentNodeChange → List Step → List Step

@@ -28,12 +28,14 @@ pub use insert::point::{
     InsertKind, InsertPoint, InsertPrefixError, InsertSearchError, KeyPrefix, PrefixConflict,
     find_insert_point, search_for_insert_point,
 };
-pub use insert::result::{InsertParentNodeChange, InsertRefused, InsertResult};
+pub use insert::result::{InsertParentNodeChange, InsertRefused, InsertResult, PairRefused};
 pub use lookup::{
     PrefixMatchBehavior, prefix_search_unchecked, prefix_search_with, search_unchecked, search_with,
 };
 pub use minmax::{maximum_unchecked, minimum_unchecked};
-pub use pairs::{find_place, find_place_over, put_over, put_pair, take_end, take_pair};
+pub use pairs::{
+    find_place, find_place_over, insert_pair, put_over, put_pair, take_end, take_pair,
+};
 pub use prefix_insert::point::{OverwritePoint, PrefixInsertPoint, search_for_prefix_insert_point};
 pub use prefix_insert::result::PrefixInsertResult;
 pub use running::{Answer, Command, RunResult, run};

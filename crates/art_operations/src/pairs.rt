@@ -8,8 +8,8 @@ ghost use Rattle.art_arena.specs.arena.Shapes.{key_of, leaves};
 ghost use Rattle.art_arena.specs.arena.Steps.{steps_of};
 ghost use Rattle.art_arena.specs.tree.Shrinks.{Shrinks};
 ghost use Rattle.art_operations.specs.DeletePoints.{IsLeafPlace};
-ghost use Rattle.art_operations.specs.Insertions.{HandsPairBack};
-ghost use Rattle.art_operations.specs.KeyedLists.{HasKey};
+ghost use Rattle.art_operations.specs.Insertions.{HandsPairBack, IsForConflict, IsPairRefused};
+ghost use Rattle.art_operations.specs.KeyedLists.{HasKey, IsBlocked};
 ghost use Rattle.art_operations.specs.Pairs.{CanPutBeside, CanPutOverBeside, HasPairsAt, HasPutBeside};
 ghost use Rattle.art_operations.specs.Pairs.{HasPutOverBeside, HasTakenBeside, HasTakenEndBeside, IsPlacedBeside};
 ghost use Rattle.art_operations.specs.Pairs.{IsPlaceFor, ShrinksAtEnd, TellsConflict};
@@ -19,9 +19,10 @@ use crate::delete::point::{
     DeletePoint, find_maximum_to_delete, find_minimum_to_delete, search_for_delete_point,
 };
 use crate::delete::result::DeleteResult;
+use crate::insert::at_stop::insert_at_stop;
 use crate::insert::leaf::store_leaf;
-use crate::insert::point::{InsertPoint, PrefixConflict, find_insert_point};
-use crate::insert::result::{InsertParentNodeChange, InsertRefused, InsertResult};
+use crate::insert::point::{InsertPoint, PrefixConflict, find_insert_point, stop_of, way_at};
+use crate::insert::result::{InsertParentNodeChange, InsertRefused, InsertResult, PairRefused};
 use crate::prefix_insert::point::{PrefixInsertPoint, search_for_prefix_insert_point};
 use crate::prefix_insert::result::PrefixInsertResult;
 use art_arena::{End, NodeArena};
@@ -104,6 +105,61 @@ pub fn put_pair<K: AsBytes, V, const PREFIX_LEN: usize>(
     match place {
         Some(point) => point.apply(arena, key, value),
         None => put_first(arena, key, value),
+    }
+}
+
+// The refusal of a pair for which no memory was found.
+fn no_memory<K, V>(refused: InsertRefused<K, V>) -> PairRefused<K, V>
+    ensures { IsPairRefused refused.key refused.value ⊥ result × (IsForConflict result → ⊥) }
+{
+    PairRefused::Memory {
+        key: refused.key,
+        value: refused.value,
+    }
+}
+
+/// Puts a key and its value in at the place of the key: what `find_place` and `put_pair` do, in one descent and with no
+/// place named in between. A pair that has the key already is answered, and this one takes its leaf: that is never
+/// refused. It is refused where the key is a front of a stored key, or a stored key is one of it, and where there is no
+/// memory. Then the key and the value are handed back, and nothing changed. Whatever stands beside the tree stays as
+/// it is.
+#[inline(always)]
+pub fn insert_pair<K: AsBytes, V, const PREFIX_LEN: usize>(
+    arena: &mut NodeArena<K, V, PREFIX_LEN>,
+    root: Option<OpaqueNodePtr>,
+    key: K,
+    value: V,
+) -> Result<InsertResult<K, V>, PairRefused<K, V>>
+    requires { HasSome (HasPairsAt K.bytes PREFIX_LEN arena.old root) }
+    ensures ok { IfOk result (λ put. OfEach (HasPairsAt K.bytes PREFIX_LEN arena.old root)
+        (λ pairs rest. HasPutBeside K.bytes PREFIX_LEN arena.new rest pairs key value put)) }
+    ensures others { IfOk result (λ put. OfEach (HasPairsAt K.bytes PREFIX_LEN arena.old root)
+        (λ pairs rest. KeepsNodes rest arena.old arena.new)) }
+    ensures free { IfOk result (λ put. OfEach (HasPairsAt K.bytes PREFIX_LEN arena.old root)
+        (λ pairs rest. IsBlocked (key_of K.bytes) (K.bytes key) pairs → ⊥)) }
+    ensures stored { OfEach (HasPairsAt K.bytes PREFIX_LEN arena.old root)
+        (λ pairs rest. HasKey (key_of K.bytes) (K.bytes key) pairs → IsOk result) }
+    ensures err { OnErr result (SameNodes arena.old arena.new) }
+    ensures refused { IfErr result (λ e. OfEach (HasPairsAt K.bytes PREFIX_LEN arena.old root)
+        (λ pairs rest. IsPairRefused key value (IsBlocked (key_of K.bytes) (K.bytes key) pairs) e)) }
+    ensures succeeds { IfErr result (λ e. HasRoom arena.old 2 → IsForConflict e) }
+    ensures room { UsesRoom 2 arena.old arena.new }
+{
+    let Some(top) = root else {
+        return match put_first(arena, key, value) {
+            Ok(put) => Ok(put),
+            Err(refused) => Err(no_memory(refused)),
+        };
+    };
+    let bytes = key.as_bytes();
+    let stop = stop_of(arena, top, bytes);
+    let way = way_at(arena, stop.node, bytes, stop.depth);
+    if way.is_conflict() {
+        return Err(PairRefused::Conflict { key, value });
+    }
+    match insert_at_stop(arena, top, stop, way, key, value) {
+        Ok(put) => Ok(put),
+        Err(refused) => Err(no_memory(refused)),
     }
 }
 

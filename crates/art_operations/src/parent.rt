@@ -1,22 +1,21 @@
 //! The inner node above a place in a tree.
-ghost use Rattle.std.specs.Prelude.{◌≡◌, ◌∷◌, ◌++◌, List, [], MatchOption};
+ghost use Rattle.std.specs.Prelude.{◌≡◌, ◌++◌, List};
 ghost use Rattle.art_nodes.specs.Name.{Name};
 ghost use Rattle.art_arena.specs.arena.Cells.{Cell, Holds};
 ghost use Rattle.art_arena.specs.arena.Arena.{node_at, KeepsRoom};
 ghost use Rattle.art_arena.specs.arena.Context.{Frame, root_of, cells_before};
 ghost use Rattle.art_arena.specs.arena.Steps.{Step, steps_of};
-ghost use Rattle.art_operations.specs.inner.Edits.{StandsAround};
+ghost use Rattle.art_operations.specs.inner.Edits.{IsLastOf, StandsAround};
 ghost use Rattle.art_operations.specs.Held.{SameLinks};
 
 use art_arena::{NodeArena, NodeEdit, TreePath};
 use art_bytes::AsBytes;
 use art_nodes::OpaqueNodePtr;
 
-// The last step of a path: an inner node, and the byte of its child.
+/// The last step of a path: an inner node, and the byte of its child.
 #[inline(always)]
-fn last_step(path: TreePath) -> Option<(OpaqueNodePtr, u8)>
-    ensures { MatchOption result (steps_of path ≡ [])
-        (λ step. (more : List Step) × (steps_of path ≡ record { node = step.0; byte = step.1 } ∷ more)) }
+pub(crate) fn last_step(path: TreePath) -> Option<(OpaqueNodePtr, u8)>
+    ensures { IsLastOf (steps_of path) result }
 {
     match path {
         TreePath::Root => None,
@@ -32,8 +31,37 @@ fn last_step(path: TreePath) -> Option<(OpaqueNodePtr, u8)>
     }
 }
 
-/// Lets the inner node above the place to which a path leads have this node there, and answers the name of the root,
-/// which is the node itself where there is none above.
+/// Lets the inner node above a place, which the last step to the place tells, have this node there, and answers the
+/// name of the root, which is the node itself where there is none above.
+#[inline(always)]
+pub(crate) fn put_below<K: AsBytes, V, const PREFIX_LEN: usize>(
+    arena: &mut NodeArena<K, V, PREFIX_LEN>,
+    root: OpaqueNodePtr,
+    above: Option<(OpaqueNodePtr, u8)>,
+    name: OpaqueNodePtr,
+) -> OpaqueNodePtr
+    requires { (ctx : List (Frame K V)) × (was : Name) × (rest : List (Name × Cell K V)) × (steps : List Step)
+        × StandsAround K.bytes PREFIX_LEN (node_at arena.old) root ctx was rest steps × IsLastOf steps above }
+    ensures holds { (ctx : List (Frame K V)) (was : Name) (rest : List (Name × Cell K V)) (steps : List Step)
+        → StandsAround K.bytes PREFIX_LEN (node_at arena.old) root ctx was rest steps → IsLastOf steps above
+        → Holds (node_at arena.new) (cells_before PREFIX_LEN ctx name ++ rest) }
+    ensures root { (ctx : List (Frame K V)) (was : Name) (rest : List (Name × Cell K V)) (steps : List Step)
+        → StandsAround K.bytes PREFIX_LEN (node_at arena.old) root ctx was rest steps → IsLastOf steps above
+        → root_of ctx name ≡ result }
+    ensures links { SameLinks arena.old arena.new }
+    ensures room { KeepsRoom arena.old arena.new }
+{
+    match above {
+        None => name,
+        Some(step) => {
+            let byte = step.1;
+            arena.edit_inner(step.0, &NodeEdit::Write { byte, child: name });
+            root
+        }
+    }
+}
+
+/// The same, by the path to the place.
 #[inline(always)]
 pub(crate) fn repoint<K: AsBytes, V, const PREFIX_LEN: usize>(
     arena: &mut NodeArena<K, V, PREFIX_LEN>,
@@ -52,11 +80,5 @@ pub(crate) fn repoint<K: AsBytes, V, const PREFIX_LEN: usize>(
     ensures links { SameLinks arena.old arena.new }
     ensures room { KeepsRoom arena.old arena.new }
 {
-    match last_step(path) {
-        None => name,
-        Some((above, byte)) => {
-            arena.edit_inner(above, &NodeEdit::Write { byte, child: name });
-            root
-        }
-    }
+    put_below(arena, root, last_step(path), name)
 }

@@ -1,5 +1,5 @@
 -- The first leaf whose key passes a test.
-use Rattle.std.proofs.Common.{◌≡◌, ℕ, Bool, true, false, List, [], ◌∷◌, Some, None, refl, sym, ap, subst}
+use Rattle.std.proofs.Common.{◌≡◌, ℕ, Bool, true, false, List, [], ◌∷◌, Some, refl, sym, ap, subst}
 use Rattle.std.specs.Prelude.{IsTrue}
 use Rattle.art_nodes.specs.Name.{Name}
 use Rattle.art_nodes.specs.declared.leaf.LeafNode.{LeafNode}

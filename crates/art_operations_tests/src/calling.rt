@@ -21,9 +21,9 @@ use art_arena::{LeafPtr, NodeArena};
 use art_bytes::AsBytes;
 use art_nodes::OpaqueNodePtr;
 use art_operations::{
-    DeleteResult, InsertKind, find_insert_point, find_leaf_pointer_for_bound, find_place,
-    find_prefix_segment, find_range_segment, put_pair, search_for_delete_point, search_unchecked,
-    take_leaf, take_pair,
+    DeleteResult, InsertKind, find_insert_point, find_leaf_pointer_for_bound, find_prefix_segment,
+    find_range_segment, insert_pair, search_for_delete_point, search_unchecked, take_leaf,
+    take_pair,
 };
 use std::alloc::AllocError;
 use std::ops::Bound;
@@ -54,10 +54,7 @@ pub fn store<K: AsBytes + Drop, V: Drop, const PREFIX_LEN: usize>(
         → HasPairs K.bytes PREFIX_LEN arena.new (Some top) (with_pair_put K.bytes key value pairs)) }
     ensures none { IfNone result (SameNodes arena.old arena.new) }
 {
-    let Ok(place) = find_place(arena, root, key.as_bytes()) else {
-        return None;
-    };
-    match put_pair(arena, place, key, value) {
+    match insert_pair(arena, root, key, value) {
         Ok(put) => Some(put.new_root),
         Err(_) => None,
     }

@@ -22,4 +22,6 @@ mod memory;
 #[cfg(test)]
 mod overwrites;
 #[cfg(test)]
+mod pairs;
+#[cfg(test)]
 mod trees;

@@ -278,7 +278,7 @@ fn add_children(
 }
 
 // The commands that make an inner node of so many children.
-fn children(alloc: Global, count: u8) -> Result<Vec<Command<[u8; 2], u8>>, AllocError> {
+pub(crate) fn children(alloc: Global, count: u8) -> Result<Vec<Command<[u8; 2], u8>>, AllocError> {
     let mut commands = Vec::new(alloc);
     add_children(&mut commands, 9, count)?;
     Ok(commands)

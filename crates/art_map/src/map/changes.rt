@@ -3,7 +3,7 @@ ghost use Rattle.std.specs.Prelude.{◌≡◌, ℕ, List, length, IfOk, IfErr, I
 ghost use Rattle.std.specs.List.{AllByRecursion};
 ghost use Rattle.std.specs.Map.{lookup};
 ghost use Rattle.art_arena.specs.arena.Shapes.{key_of};
-ghost use Rattle.art_operations.specs.Insertions.{HandsPairBack};
+ghost use Rattle.art_operations.specs.Insertions.{HandsPairBack, IsPairRefused};
 ghost use Rattle.art_operations.specs.KeyedLists.{HasKey, IsBlocked, overlapping};
 ghost use Rattle.art_operations.specs.Pairs.{CanPut, IsPlaceFor, TellsConflict, with_pair_put, with_pair_over};
 ghost use Rattle.art_map.specs.Contents.{value_in, IsUntouched};
@@ -13,9 +13,10 @@ use crate::map::TreeMap;
 use crate::map::refused::TryInsertError;
 use art_arena::LeafPtr;
 use art_bytes::{AsBytes, NoPrefixesBytes};
-use art_nodes::LeafNode;
+use art_nodes::{LeafNode, known};
 use art_operations::{
-    InsertPoint, InsertPrefixError, InsertRefused, KeyPrefix, PrefixConflict, find_place, put_pair,
+    InsertPoint, InsertPrefixError, InsertRefused, KeyPrefix, PairRefused, PrefixConflict,
+    find_place, insert_pair, put_pair,
 };
 
 // The value of a leaf, whose key is let go.
@@ -148,6 +149,35 @@ impl<K: AsBytes, V, const PREFIX_LEN: usize> TreeMap<K, V, PREFIX_LEN> {
         }
     }
 
+    // Puts a pair in, and answers the value of the one whose key has the same bytes, if there is one. Where it is
+    // refused the map is as it was.
+    #[inline(always)]
+    fn put(&mut self, key: K, value: V) -> Result<Option<V>, PairRefused<K, V>>
+    where
+        K: Drop,
+        ensures value { IfOk result (λ old. old ≡ lookup (has_bytes K.bytes (K.bytes key)) self.old.pairs) }
+        ensures pairs { OnOk result (self.new.pairs ≡ with_pair_put K.bytes key value self.old.pairs) }
+        ensures free { OnOk result (IsBlocked (key_of K.bytes) (K.bytes key) self.old.pairs → ⊥) }
+        ensures stored { HasKey (key_of K.bytes) (K.bytes key) self.old.pairs → IsOk result }
+        ensures err { OnErr result (self.new.pairs ≡ self.old.pairs) }
+        ensures kept { OnErr result (IsUntouched self.old self.new) }
+        ensures refused { IfErr result
+            (IsPairRefused key value (IsBlocked (key_of K.bytes) (K.bytes key) self.old.pairs)) }
+        ensures keys { AllByRecursion (λ p. K.is_key p.0) self.old.pairs }
+        ensures key { K.is_key key }
+    {
+        let _known = key.as_bytes();
+        // By value an option of a name counts as moved, so a copy goes in.
+        let root = self.root;
+        match insert_pair(&mut self.arena, root, key, value) {
+            Ok(put) => {
+                self.root = Some(put.new_root);
+                Ok(value_of(put.existing_leaf))
+            }
+            Err(refused) => Err(refused),
+        }
+    }
+
     /// Puts a pair in, in the place of the one whose key has the same bytes if there is one, and answers the value of
     /// that one.
     ///
@@ -166,20 +196,28 @@ impl<K: AsBytes, V, const PREFIX_LEN: usize> TreeMap<K, V, PREFIX_LEN> {
         ensures kept { OnErr result (IsUntouched self.old self.new) }
         ensures refused { IfErr result (IsTryRefused K.bytes self.old.pairs key value) }
     {
-        match self.place(&key) {
-            Ok(place) => match self.put_at(place, key, value) {
-                Ok(old) => Ok(old),
-                Err(refused) => Err(TryInsertError::Memory {
-                    key: refused.key,
-                    value: refused.value,
-                }),
-            },
-            Err(_) => Err(self.blocked(key, value)),
+        match self.put(key, value) {
+            Ok(old) => Ok(old),
+            Err(refused) => Err(self.refusal(refused)),
+        }
+    }
+
+    // Why a pair is not put in.
+    #[inline(never)]
+    fn refusal(&self, refused: PairRefused<K, V>) -> TryInsertError<K, V>
+        requires { (key : K) × (value : V)
+            × IsPairRefused key value (IsBlocked (key_of K.bytes) (K.bytes key) self.now.pairs) refused }
+        ensures { (key : K) (value : V)
+            → IsPairRefused key value (IsBlocked (key_of K.bytes) (K.bytes key) self.now.pairs) refused
+            → IsTryRefused K.bytes self.now.pairs key value result }
+    {
+        match refused {
+            PairRefused::Conflict { key, value } => self.blocked(key, value),
+            PairRefused::Memory { key, value } => TryInsertError::Memory { key, value },
         }
     }
 
     // Why a pair is not put in whose key a stored one blocks.
-    #[inline(never)]
     fn blocked(&self, key: K, value: V) -> TryInsertError<K, V>
         requires { IsBlocked (key_of K.bytes) (K.bytes key) self.now.pairs }
         ensures { IsTryRefused K.bytes self.now.pairs key value result }
@@ -246,7 +284,13 @@ impl<K: NoPrefixesBytes, V, const PREFIX_LEN: usize> TreeMap<K, V, PREFIX_LEN> {
         ensures kept { OnErr result (IsUntouched self.old self.new) }
         ensures handed_back { HandsPairBack key value result }
     {
-        let place = self.place_free(&key);
-        self.put_at(place, key, value)
+        match self.put(key, value) {
+            Ok(old) => Ok(old),
+            Err(PairRefused::Memory { key, value }) => Err(InsertRefused { key, value }),
+            Err(PairRefused::Conflict { .. }) => {
+                known(false);
+                unreachable!()
+            }
+        }
     }
 }

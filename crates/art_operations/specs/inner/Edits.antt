@@ -1,5 +1,5 @@
 -- What an edit of a part of a tree needs of what stands around it.
-use Rattle.std.specs.Prelude.{◌≡◌, ℕ, List, ◌++◌, take, Option, None}
+use Rattle.std.specs.Prelude.{◌≡◌, ℕ, List, [], ◌∷◌, ◌++◌, take, MatchOption, Option, None}
 use Rattle.art_nodes.specs.Name.{Name}
 use Rattle.art_arena.specs.arena.Arena.{Arena, Held, leaf_held, Allocates}
 use Rattle.art_arena.specs.arena.Cells.{Cell, Holds}
@@ -13,6 +13,11 @@ pub record StandsAround {K V : Type 0} (bytes : K → List ℕ) (P : ℕ) (at : 
   pub holds : Holds at (cells_before P ctx n ++ rest)
   pub steps : take 2 (steps_to ctx) ≡ last
   pub named : root_of ctx n ≡ root
+
+-- these steps end with this one, which is told first, or there are none
+abbrev pub IsLastOf : List Step → Option (Name × ℕ) → Type 0
+IsLastOf steps last = MatchOption last (steps ≡ [])
+    (λ step. (more : List Step) × (steps ≡ record { node = step.0; byte = step.1 } ∷ more))
 
 module _ {K V : Type 0} where
   -- a leaf of a key and a value with no links

@@ -1,7 +1,9 @@
 -- A leaf beside a tree, which is about to go under an inner node of it.
-use Rattle.std.specs.Prelude.{◌≡◌, ℕ, ◌+◌, ◌≤◌, List, ◌∷◌, ◌++◌, Some, None}
+use Rattle.std.specs.Prelude.{◌≡◌, ℕ, ◌+◌, ◌≤◌, List, ◌∷◌, ◌++◌, Some, None, IsSome}
 use Rattle.art_bytes.specs.Keys.{BeginsWith}
+use Rattle.art_nodes.specs.Kind.{row_of}
 use Rattle.art_nodes.specs.Name.{Name}
+use Rattle.art_nodes.specs.declared.kind.NodeType.{NodeType}
 use Rattle.art_arena.specs.arena.Arena.{Arena, node_at, links_at}
 use Rattle.art_arena.specs.arena.Cells.{Cell, pair, leaf_name, Holds}
 use Rattle.art_arena.specs.arena.Context.{Frame, path_to, root_of, leaves_before, leaves_after, cells_before}
@@ -18,6 +20,10 @@ use Rattle.art_operations.specs.inner.Splits.{IsBetween}
 abbrev pub AreNeighbours : {K V : Type 0} → Neighbours → List (LeafAt K V) → List (LeafAt K V) → Type 0
 AreNeighbours (One leaf) xs ys = IsBetween leaf.is_before leaf.leaf xs ys
 AreNeighbours (Both previous next) xs ys = (last_slot None xs ≡ Some previous) × (first_slot ys None ≡ Some next)
+
+-- a node of this kind with so many children has no room, and there is a larger kind
+abbrev pub MustGrow : NodeType → ℕ → Type 0
+MustGrow kind n = (n ≡ (row_of kind).most) × IsSome (row_of kind).larger
 
 -- Beside these nodes the arena holds a leaf and a canonical tree with this root. An inner node of the tree has no child
 -- under the byte with which the leaf's key goes on there: it is the frame's node with nothing at the frame's place.

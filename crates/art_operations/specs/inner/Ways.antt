@@ -1,22 +1,37 @@
 -- Where the search for a key's place ends.
-use Rattle.std.specs.Prelude.{ℕ, List}
+use Rattle.std.specs.Prelude.{ℕ, List, Option, Some, None}
 use Rattle.art_nodes.specs.Name.{Name}
 use Rattle.art_arena.specs.arena.Shapes.{Shape, leaves}
 use Rattle.art_operations.specs.Points.{AllConflict, MeetsAt, NoConflict}
 use Rattle.art_operations.specs.declared.insert.point.InsertKind.{InsertKind}
 use Rattle.art_operations.specs.declared.insert.point.InsertKind.TheVariants as kind
+use Rattle.art_operations.specs.declared.insert.point.InsertPoint.{InsertPoint}
+use Rattle.art_operations.specs.declared.insert.point.Stop.{Stop}
 use Rattle.art_operations.specs.declared.insert.point.Way.{Way}
 use Rattle.art_operations.specs.declared.insert.point.Way.TheVariants as way
+
+-- what the key meets at the node of this name, where the search ends there in this way and in no conflict
+abbrev pub met_by : Name → Way → Option InsertKind
+met_by name way.Same = Some (kind.Exact name.slot)
+met_by name (way.PartsFromLeaf parted) = Some (kind.SplitLeaf name.slot parted)
+met_by name (way.PartsFromPrefix parted) = Some (kind.MismatchPrefix name parted)
+met_by name (way.NoChild byte) = Some (kind.IntoExisting name byte)
+met_by name way.Conflict = None
+
+-- the place of a key that meets this where a descent from this root stopped
+abbrev pub point_at : Name → Stop → InsertKind → InsertPoint
+point_at root stop met = record { root = root; path = stop.path; key_bytes_used = stop.depth; insert_kind = met }
 
 module _ {K V : Type 0} (bytes : K → List ℕ) (key : List ℕ) where
   -- the key meets this in the part behind this path, where its place is
   abbrev pub IsPlaceAt : List ℕ → Shape K V → InsertKind → Type 0
   IsPlaceAt path s met = MeetsAt bytes key path s met × NoConflict bytes key (leaves s)
 
+  -- the place, or each leaf of the part is in conflict with the key
+  abbrev pub IsEndAt : List ℕ → Shape K V → Option InsertKind → Type 0
+  IsEndAt path s (Some met) = IsPlaceAt path s met
+  IsEndAt path s None = AllConflict bytes key (leaves s)
+
   -- how the search ends at the part behind this path, which has this name: the key's place, or a conflict, is here
   abbrev pub IsWay : List ℕ → Shape K V → Name → Way → Type 0
-  IsWay path s name way.Same = IsPlaceAt path s (kind.Exact name.slot)
-  IsWay path s name (way.PartsFromLeaf parted) = IsPlaceAt path s (kind.SplitLeaf name.slot parted)
-  IsWay path s name (way.PartsFromPrefix parted) = IsPlaceAt path s (kind.MismatchPrefix name parted)
-  IsWay path s name (way.NoChild byte) = IsPlaceAt path s (kind.IntoExisting name byte)
-  IsWay path s name way.Conflict = AllConflict bytes key (leaves s)
+  IsWay path s name way = IsEndAt path s (met_by name way)

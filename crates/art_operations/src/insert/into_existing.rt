@@ -9,11 +9,12 @@ ghost use Rattle.art_arena.specs.arena.Linked.{AreLinked, IsBeside, KeepsLinksOu
 ghost use Rattle.art_arena.specs.arena.Context.{Frame, plug, leaves_before, leaves_after};
 ghost use Rattle.art_arena.specs.tree.Kinds.{IsKindOf};
 ghost use Rattle.art_arena.specs.arena.Shapes.{LeafAt, leaf_at, leaves, width};
-ghost use Rattle.art_arena.specs.arena.Steps.{steps_to, steps_of};
+ghost use Rattle.art_arena.specs.arena.Steps.{Step, steps_to, steps_of};
 ghost use Rattle.art_operations.specs.Points.{IsPoint};
 ghost use Rattle.art_operations.specs.Insertions.{HandsPairBack, IsInsertedBeside};
 ghost use Rattle.art_operations.specs.declared.insert.point.InsertKind.TheVariants as kind;
-ghost use Rattle.art_operations.specs.inner.Waiting.{AreNeighbours, AwaitsLeaf};
+ghost use Rattle.art_operations.specs.inner.Edits.{IsLastOf};
+ghost use Rattle.art_operations.specs.inner.Waiting.{AreNeighbours, AwaitsLeaf, MustGrow};
 ghost use Rattle.art_arena.specs.arena.Stores.{StoresBelow, StoresBeside};
 ghost use Rattle.art_operations.specs.Held.{SameLinks};
 ghost use Rattle.art_operations.specs.Whichever.{HasSome, HasTreeWhere, OfEach, OfTreeWhere};
@@ -22,7 +23,7 @@ use crate::insert::leaf::{store_leaf, take_back};
 use crate::insert::point::InsertPoint;
 use crate::insert::result::{InsertParentNodeChange, InsertRefused, InsertResult};
 use crate::insert::split::link_between;
-use crate::parent::repoint;
+use crate::parent::{last_step, put_below};
 use art_arena::links::insert_between;
 use art_arena::{LeafPtr, NodeArena, NodeEdit, first_leaf, inner_node_ptr, last_leaf};
 use art_bytes::AsBytes;
@@ -50,8 +51,41 @@ enum Neighbours {
     Both { previous: LeafPtr, next: LeafPtr },
 }
 
+// An inner node of the next larger kind takes the place of a full one, which the last step to it tells.
+#[inline(never)]
+fn grow_at<K: AsBytes, V, const PREFIX_LEN: usize>(
+    arena: &mut NodeArena<K, V, PREFIX_LEN>,
+    root: OpaqueNodePtr,
+    above: Option<(OpaqueNodePtr, u8)>,
+    inner: OpaqueNodePtr,
+    byte: u8,
+) -> Result<Place, AllocError>
+    requires { (leaf : ℕ) × (f : Frame K V) × (outer : List (Frame K V)) × (l : LeafAt K V)
+        × (rest : List (Name × Cell K V)) × (steps : List Step)
+        × AwaitsLeaf K.bytes PREFIX_LEN arena.old rest root inner byte leaf f outer l
+        × (take 2 (steps_to outer) ≡ steps) × IsLastOf steps above
+        × MustGrow inner.kind (width f.before + width f.after) }
+    ensures ok { IfOk result (λ place. (leaf : ℕ) (f : Frame K V) (outer : List (Frame K V)) (l : LeafAt K V)
+        (rest : List (Name × Cell K V)) (steps : List Step)
+        → AwaitsLeaf K.bytes PREFIX_LEN arena.old rest root inner byte leaf f outer l
+        → take 2 (steps_to outer) ≡ steps → IsLastOf steps above → MustGrow inner.kind (width f.before + width f.after)
+        → AwaitsLeaf K.bytes PREFIX_LEN arena.new rest place.root place.node byte leaf
+        (record f { name = place.node }) outer l
+        × IsKindOf place.node.kind (suc (width f.before + width f.after))) }
+    ensures links { IfOk result (λ place. SameLinks arena.old arena.new) }
+    ensures err { OnErr result (SameNodes arena.old arena.new) }
+    ensures succeeds { HasRoom arena.old 1 → IsOk result }
+    ensures room { UsesRoom 1 arena.old arena.new }
+{
+    let node = arena.grow(inner)?;
+    let root = put_below(arena, root, above, node);
+    arena.edit_inner(inner, &NodeEdit::Free);
+    Ok(Place { node, root })
+}
+
 // Makes room for one more child, under this byte, in the inner node at a point: where the node is full, one of the next
 // larger kind takes its place.
+#[inline(always)]
 fn make_room<K: AsBytes, V, const PREFIX_LEN: usize>(
     arena: &mut NodeArena<K, V, PREFIX_LEN>,
     point: InsertPoint,
@@ -80,10 +114,7 @@ fn make_room<K: AsBytes, V, const PREFIX_LEN: usize>(
             root: point.root,
         });
     }
-    let node = arena.grow(inner)?;
-    let root = repoint(arena, point.root, point.path, node);
-    arena.edit_inner(inner, &NodeEdit::Free);
-    Ok(Place { node, root })
+    grow_at(arena, point.root, last_step(point.path), inner, byte)
 }
 
 // The leaves beside the place between two neighbouring parts of a tree. Where both are leaves, both are told: then

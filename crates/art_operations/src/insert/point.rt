@@ -1,15 +1,16 @@
 //! The place of a new key.
-ghost use Rattle.std.specs.Prelude.{◌≡◌, ◌≢◌, ℕ, List, IfOk, IfErr};
+ghost use Rattle.std.specs.Prelude.{◌≡◌, ◌≢◌, ◌↔◌, ℕ, List, IfOk, IfErr, IsTrue};
 ghost use Rattle.std.specs.Prelude.{MatchOption};
 ghost use Rattle.art_bytes.specs.Keys.{BeginsWith};
 ghost use Rattle.art_arena.specs.arena.Cells.{leaf_name};
 ghost use Rattle.art_arena.specs.arena.Shapes.{Shape};
 ghost use Rattle.art_operations.specs.Points.{IsInTheWay, IsPlaceOrConflict, Refuses};
 ghost use Rattle.art_operations.specs.declared.insert.point.InsertKind.TheVariants as kind;
+ghost use Rattle.art_operations.specs.declared.insert.point.Way.TheVariants as way;
 ghost use Rattle.art_arena.specs.arena.Arena.{node_at};
 ghost use Rattle.art_arena.specs.arena.Steps.{steps_of};
 ghost use Rattle.art_arena.specs.arena.Descents.{OnWayTo, Stops};
-ghost use Rattle.art_operations.specs.inner.Ways.{IsWay};
+ghost use Rattle.art_operations.specs.inner.Ways.{IsWay, point_at};
 ghost use Rattle.art_arena.specs.arena.Stores.{StoresAt};
 ghost use Rattle.art_operations.specs.Whichever.{HasTree, OfTree};
 
@@ -146,22 +147,17 @@ impl InsertPoint {
 
 // Where a descent stopped: the node, the last steps of the way to it, and how many bytes of the key lead there.
 #[derive(Clone, Copy)]
-struct Stop {
-    node: OpaqueNodePtr,
+pub(crate) struct Stop {
+    pub(crate) node: OpaqueNodePtr,
     path: TreePath,
-    depth: usize,
+    pub(crate) depth: usize,
 }
 
 impl Stop {
     // The place of a key that meets this here.
     #[inline(always)]
-    fn point(self, root: OpaqueNodePtr, insert_kind: InsertKind) -> InsertPoint
-        ensures { result ≡ record {
-          root = root;
-          path = self.path;
-          key_bytes_used = self.depth;
-          insert_kind = insert_kind;
-        } }
+    pub(crate) fn point(self, root: OpaqueNodePtr, insert_kind: InsertKind) -> InsertPoint
+        ensures { result ≡ point_at root self insert_kind }
     {
         InsertPoint {
             root,
@@ -174,7 +170,7 @@ impl Stop {
 
 // How the search for the place of a key ends at a node.
 #[derive(Clone, Copy)]
-enum Way {
+pub(crate) enum Way {
     // The leaf has the key.
     Same,
     // The leaf's key has another byte.
@@ -185,6 +181,19 @@ enum Way {
     NoChild(u8),
     // The key can't be put in.
     Conflict,
+}
+
+impl Way {
+    // Whether the key can't be put in.
+    #[inline(always)]
+    pub(crate) fn is_conflict(self) -> bool
+        ensures { IsTrue result ↔ (self ≡ way.Conflict) }
+    {
+        match self {
+            Way::Conflict => true,
+            _ => false,
+        }
+    }
 }
 
 // Where the search ends at a leaf.
@@ -237,7 +246,7 @@ fn way_at_inner<K: AsBytes, V, const PREFIX_LEN: usize>(
 
 // Where the search ends at a node, from which the key goes no further.
 #[inline(always)]
-fn way_at<K: AsBytes, V, const PREFIX_LEN: usize>(
+pub(crate) fn way_at<K: AsBytes, V, const PREFIX_LEN: usize>(
     arena: &NodeArena<K, V, PREFIX_LEN>,
     node: OpaqueNodePtr,
     key: &[u8],
@@ -258,7 +267,7 @@ fn way_at<K: AsBytes, V, const PREFIX_LEN: usize>(
 
 // Goes down for a key by whole prefixes, as far as it goes.
 #[inline(always)]
-fn stop_of<K: AsBytes, V, const PREFIX_LEN: usize>(
+pub(crate) fn stop_of<K: AsBytes, V, const PREFIX_LEN: usize>(
     arena: &NodeArena<K, V, PREFIX_LEN>,
     root: OpaqueNodePtr,
     key: &[u8],

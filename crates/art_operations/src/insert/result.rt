@@ -41,3 +41,24 @@ pub struct InsertRefused<K, V> {
     /// The value.
     pub value: V,
 }
+
+/// Why a pair was not put in. It is handed back.
+#[derive(Debug, Drop, Error)]
+pub enum PairRefused<K, V> {
+    /// The key is a front of a stored key, or a stored key is one of it.
+    #[error("the key is a front of a stored key, or a stored key is one of it")]
+    Conflict {
+        /// The key.
+        key: K,
+        /// The value.
+        value: V,
+    },
+    /// No memory was found for a leaf, or for an inner node above it.
+    #[error("no memory for a leaf, or for an inner node above it")]
+    Memory {
+        /// The key.
+        key: K,
+        /// The value.
+        value: V,
+    },
+}

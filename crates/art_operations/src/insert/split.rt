@@ -94,6 +94,7 @@ fn store_split<K: AsBytes, V, const PREFIX_LEN: usize>(
 }
 
 // Stores a leaf, and an inner node over it and the old part. Where there is no memory for both, neither stays.
+#[inline(always)]
 fn store_nodes<K: AsBytes, V, const PREFIX_LEN: usize>(
     arena: &mut NodeArena<K, V, PREFIX_LEN>,
     old: OpaqueNodePtr,
@@ -121,6 +122,7 @@ fn store_nodes<K: AsBytes, V, const PREFIX_LEN: usize>(
 }
 
 // The leaf at one end of a part: the first, or else the last.
+#[inline(always)]
 fn leaf_at_end<K: AsBytes, V, const PREFIX_LEN: usize>(
     arena: &NodeArena<K, V, PREFIX_LEN>,
     node: OpaqueNodePtr,
@@ -165,6 +167,7 @@ pub(crate) fn link_between<K, V, const PREFIX_LEN: usize>(
 
 // The prefix of an inner node that stands at this depth, behind so many bytes and one more, in a header; none for a
 // leaf.
+#[inline(always)]
 fn rest_of_prefix<K: AsBytes, V, const PREFIX_LEN: usize>(
     arena: &NodeArena<K, V, PREFIX_LEN>,
     node: OpaqueNodePtr,
@@ -187,6 +190,7 @@ fn rest_of_prefix<K: AsBytes, V, const PREFIX_LEN: usize>(
 }
 
 // Gives an inner node the prefix of a header, if there is one.
+#[inline(always)]
 fn trim<K, V, const PREFIX_LEN: usize>(
     arena: &mut NodeArena<K, V, PREFIX_LEN>,
     node: OpaqueNodePtr,

@@ -1,32 +1,6 @@
-use Rattle.std.proofs.Common.{inr, arith}
-use Rattle.art_arena.specs.arena.Arena.{node_at}
+use Rattle.std.proofs.Common.{arith}
 use Rattle.art_arena.specs.arena.Steps.{steps_of}
-use Rattle.art_arena.proofs.shapes.Updates.{links-kept}
-use Rattle.art_operations.proofs.Edits.{at_top, parent_there, new_child}
 use Rattle.art_operations.proofs.parent.repoint.Goals as goal
 
-pub edit_inner-requires : goal.edit_inner-requires
-edit_inner-requires g c =
-    let r = c.requires in
-    let p = parent_there g.K.AsBytes.bytes g.row.PREFIX_LEN c.args.arena.now c.args.root r.0 r.1 r.2 (steps_of c.args.path) r.3 _ c.in-Some.ensures.0 c.in-Some.ensures.1 in
-    (omega arith, (omega arith, ((p.node, p.there, inr p.child), p.inner)))
-
-pub returns-in-None-clause-holds : goal.returns-in-None-clause-holds
-returns-in-None-clause-holds g c = λ ctx was rest stands. (at_top g.K.AsBytes.bytes g.row.PREFIX_LEN (node_at c.args.arena.now) c.args.root ctx was c.args.name rest (steps_of c.args.path) stands c.in-None.ensures).0
-
-pub returns-in-None-clause-root : goal.returns-in-None-clause-root
-returns-in-None-clause-root g c = λ ctx was rest stands. (at_top g.K.AsBytes.bytes g.row.PREFIX_LEN (node_at c.args.arena.now) c.args.root ctx was c.args.name rest (steps_of c.args.path) stands c.in-None.ensures).1
-
-pub returns-in-Some-clause-holds : goal.returns-in-Some-clause-holds
-returns-in-Some-clause-holds g c = λ ctx was rest stands.
-    (new_child g.K.AsBytes.bytes g.row.PREFIX_LEN c.args.arena.now c.edit_inner.new.self c.args.root ctx was c.args.name rest (steps_of c.args.path) stands _ c.in-Some.ensures.0 c.in-Some.ensures.1 c.edit_inner.ensures.updates).0
-
-pub returns-in-Some-clause-root : goal.returns-in-Some-clause-root
-returns-in-Some-clause-root g c = λ ctx was rest stands.
-    (new_child g.K.AsBytes.bytes g.row.PREFIX_LEN c.args.arena.now c.edit_inner.new.self c.args.root ctx was c.args.name rest (steps_of c.args.path) stands _ c.in-Some.ensures.0 c.in-Some.ensures.1 c.edit_inner.ensures.updates).1
-
-pub returns-in-Some-clause-links : goal.returns-in-Some-clause-links
-returns-in-Some-clause-links g c = λ slot.
-    let r = c.requires in
-    let p = parent_there g.K.AsBytes.bytes g.row.PREFIX_LEN c.args.arena.now c.args.root r.0 r.1 r.2 (steps_of c.args.path) r.3 _ c.in-Some.ensures.0 c.in-Some.ensures.1 in
-    links-kept c.args.arena.now c.edit_inner.new.self _ _ (c.edit_inner.ensures.updates p.node p.there) p.inner slot
+pub put_below-requires : goal.put_below-requires
+put_below-requires g c = let r = c.requires in (omega arith, (r.0, r.1, r.2, steps_of c.args.path, r.3, c.last_step.ensures))

@@ -1,0 +1,41 @@
+use Rattle.std.proofs.Common.{[], ◌∙◌}
+use Rattle.art_map.proofs.Maps.{put-map, put-pairs, put-value, same-map, same-pairs}
+use Rattle.art_map.proofs.map.TreeMap.put.Goals as goal
+
+pub invariant_of-self : goal.invariant_of-self
+invariant_of-self g c =
+    put-map g.K.AsBytes.bytes g.K.AsBytes.is_key g.row.PREFIX_LEN c.self.inside.arena c.self.inside.root c.self.invariant c.insert_pair.new.arena c.args.key c.args.value c.in-Ok.put c.as_bytes-known.ensures.key
+    (c.in-Ok.ensures.ok _ [] c.self.invariant.has)
+
+pub invariant_of-self-in-Err : goal.invariant_of-self-in-Err
+invariant_of-self-in-Err g c = same-map g.K.AsBytes.bytes g.K.AsBytes.is_key g.row.PREFIX_LEN c.self.inside.arena c.self.inside.root c.self.invariant c.insert_pair.new.arena c.in-Err.ensures.err
+
+pub returns-in-Ok-clause-value : goal.returns-in-Ok-clause-value
+returns-in-Ok-clause-value g c =
+    rw (← c.self.view_is)
+    (c.value_of.ensures
+    ∙ put-value g.K.AsBytes.bytes g.K.AsBytes.is_key g.row.PREFIX_LEN c.self.inside.arena c.self.inside.root c.self.invariant c.insert_pair.new.arena c.args.key c.args.value c.in-Ok.put (c.in-Ok.ensures.ok _ [] c.self.invariant.has))
+
+pub returns-in-Ok-clause-pairs : goal.returns-in-Ok-clause-pairs
+returns-in-Ok-clause-pairs g c =
+    rw (← c.self.view_is)
+    (put-pairs g.K.AsBytes.bytes g.K.AsBytes.is_key g.row.PREFIX_LEN c.self.inside.arena c.self.inside.root c.self.invariant c.insert_pair.new.arena c.args.key c.args.value c.in-Ok.put (c.in-Ok.ensures.ok _ [] c.self.invariant.has))
+
+pub returns-in-Ok-clause-free : goal.returns-in-Ok-clause-free
+returns-in-Ok-clause-free g c = rw (← c.self.view_is) (c.in-Ok.ensures.free _ [] c.self.invariant.has)
+
+pub returns-in-Err-clause-stored : goal.returns-in-Err-clause-stored
+returns-in-Err-clause-stored g c = rw (← c.self.view_is) (c.in-Err.ensures.stored _ [] c.self.invariant.has)
+
+pub returns-in-Err-clause-err : goal.returns-in-Err-clause-err
+returns-in-Err-clause-err g c =
+    rw (← c.self.view_is) (same-pairs g.K.AsBytes.bytes g.K.AsBytes.is_key g.row.PREFIX_LEN c.self.inside.arena c.self.inside.root c.self.invariant c.insert_pair.new.arena c.in-Err.ensures.err)
+
+pub returns-in-Err-clause-refused : goal.returns-in-Err-clause-refused
+returns-in-Err-clause-refused g c = rw (← c.self.view_is) (c.in-Err.ensures.refused _ [] c.self.invariant.has)
+
+pub returns-in-Ok-clause-keys : goal.returns-in-Ok-clause-keys
+returns-in-Ok-clause-keys g c = rw (← c.self.view_is) c.self.invariant.keys
+
+pub returns-in-Err-clause-keys : goal.returns-in-Err-clause-keys
+returns-in-Err-clause-keys g c = rw (← c.self.view_is) c.self.invariant.keys

@@ -1,0 +1,53 @@
+-- Pairs among which a key's place was searched: what the end of the search tells of them.
+use Rattle.std.proofs.Common.{◌≡◌, ℕ, List, Option, Some, refl, subst}
+use Rattle.art_bytes.specs.Keys.{BeginsWith}
+use Rattle.art_nodes.specs.Name.{Name}
+use Rattle.art_arena.specs.arena.Arena.{Arena, node_at}
+use Rattle.art_arena.specs.arena.Cells.{Cell}
+use Rattle.art_arena.specs.arena.Descents.{OnWayTo}
+use Rattle.art_arena.specs.arena.Shapes.{Shape, key_of, leaves}
+use Rattle.art_arena.specs.arena.Steps.{steps_of}
+use Rattle.art_arena.specs.arena.Stores.{Stores, StoresAt}
+use Rattle.art_arena.specs.tree.Order.{AscendsByKey}
+use Rattle.art_operations.specs.KeyedLists.{HasKey, IsBlocked}
+use Rattle.art_operations.specs.Pairs.{HasPairsBeside, HasPointBeside}
+use Rattle.art_operations.specs.Points.{IsPoint, NoConflict}
+use Rattle.art_operations.specs.inner.Ways.{IsEndAt, IsWay, met_by, point_at}
+use Rattle.art_operations.specs.declared.insert.point.InsertKind.{InsertKind}
+use Rattle.art_operations.specs.declared.insert.point.Stop.{Stop}
+use Rattle.art_operations.specs.declared.insert.point.Way.{Way}
+use Rattle.art_operations.specs.declared.insert.point.Way.TheVariants as way
+use Rattle.art_operations.proofs.HeldPairs.{blocked-key, place_is_free}
+use Rattle.art_operations.proofs.KeyedLists.{stored-free}
+use Rattle.art_operations.proofs.LeafPairs.{pairs_ascend}
+use Rattle.art_operations.proofs.Stops.{blocked, placed}
+
+-- where there is no conflict, the key meets something
+pub something-met : (name : Name) (end : Way) → (end ≡ way.Conflict → ⊥) → (met : InsertKind) × (met_by name end ≡ Some met)
+something-met name way.Same free = (_, refl)
+something-met name (way.PartsFromLeaf parted) free = (_, refl)
+something-met name (way.PartsFromPrefix parted) free = (_, refl)
+something-met name (way.NoChild byte) free = (_, refl)
+something-met name way.Conflict free = absurd (free refl)
+
+module _ {K V : Type 0} (bytes : K → List ℕ) (P : ℕ) (arena : Arena K V) (root : Option Name) (top : Name) (root_is : root ≡ Some top) (key : List ℕ) (stop : Stop) (end : Way)
+    (on : (s : Shape K V) → Stores bytes P arena top s → OnWayTo bytes P (node_at arena) key s stop.node (steps_of stop.path) stop.depth)
+    (ends : (path : List ℕ) (part : Shape K V) → StoresAt bytes P arena stop.node stop.depth path part → BeginsWith path key → IsWay bytes key path part stop.node end)
+    (pairs : List (K × V)) (rest : List (Name × Cell K V)) (has : HasPairsBeside bytes P arena rest root pairs) where
+  -- what is met is at the key's place, and no pair blocks the key
+  pub met-at : (met : InsertKind) → met_by stop.node end ≡ Some met → HasPointBeside bytes P arena rest (point_at top stop met) key pairs × (IsBlocked (key_of bytes) key pairs → ⊥)
+  met-at met e = place_is_free bytes P arena rest root top root_is key pairs has (point_at top stop met) found
+    where
+      found : (s : Shape K V) → Stores bytes P arena top s → IsPoint bytes key s (point_at top stop met) × NoConflict bytes key (leaves s)
+      found s tree = placed bytes P arena top key stop s tree (on s tree) met (λ path part at begins. subst (IsEndAt bytes key path part) e (ends path part at begins))
+
+  -- at a conflict a pair blocks the key, and none has it
+  module _ (e : end ≡ way.Conflict) where
+    pub met-conflict : IsBlocked (key_of bytes) key pairs
+    met-conflict = blocked-key bytes P arena rest root top root_is key pairs has
+        (λ s tree. blocked bytes P arena top key stop s tree (on s tree) (λ path part at begins. subst (λ w. IsWay bytes key path part stop.node w) e (ends path part at begins)))
+
+    pub not-stored-there : HasKey (key_of bytes) key pairs → ⊥
+    not-stored-there stored =
+        let below = subst (λ r. HasPairsBeside bytes P arena rest r pairs) root_is has in
+        stored-free (key_of bytes) pairs (subst (AscendsByKey (key_of bytes)) below.2 (pairs_ascend bytes below.0 below.1.nodes.under)) key stored met-conflict
