@@ -80,8 +80,11 @@ fn a_pair_splits_a_leaf(rt: HostRuntime) -> Result<(), Fail> {
 
 #[test]
 fn a_pair_splits_a_prefix(rt: HostRuntime) -> Result<(), Fail> {
-    let commands = children(rt.alloc(), 3)?;
-    assert!(rt; puts_beside(&rt, commands.as_slice(), ([8, 7], 7), &[8, 7])?);
+    // At some of these numbers there is no room left for a leaf.
+    for count in 2..=8u8 {
+        let commands = children(rt.alloc(), count)?;
+        assert!(rt; puts_beside(&rt, commands.as_slice(), ([8, 7], 7), &[8, 7])?);
+    }
     Ok(())
 }
 
@@ -96,7 +99,7 @@ fn a_pair_goes_under_a_node(rt: HostRuntime) -> Result<(), Fail> {
 }
 
 #[test]
-fn a_pair_takes_a_stored_leaf_without_memory(rt: HostRuntime) -> Result<(), Fail> {
+fn replacing_by_one_call_takes_no_memory(rt: HostRuntime) -> Result<(), Fail> {
     let commands = children(rt.alloc(), 3)?;
     assert!(rt; puts_beside(&rt, commands.as_slice(), ([9, 1], 7), &[9, 1])?);
     Ok(())
