@@ -25,3 +25,4 @@ pub mod Filters
 pub mod OwnLaws
 pub mod Conflicts
 pub mod Spelling
+pub mod DigitGroups

@@ -14,3 +14,4 @@ pub mod Parsed
 pub mod Stored
 pub mod Progress
 pub mod Gathered
+pub mod Digits

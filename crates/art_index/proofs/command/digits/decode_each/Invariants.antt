@@ -1,5 +1,5 @@
 use Rattle.art_index.proofs.DigitPairs.{Decoded}
-use Rattle.art_index.proofs.command.digits.decode_digits.Given as goal
+use Rattle.art_index.proofs.command.digits.decode_each.Given as goal
 
 -- the digits so far are decoded
 abbrev pub invariant-bytes : goal.invariant-bytes
