@@ -4,138 +4,301 @@
 //! what the processor then has at hand.
 //!
 //! Nothing rests on what is read here, so no contract says what it is.
+ghost use Rattle.std.specs.Prelude.{IsSome};
+ghost use Rattle.art_arena.specs.arena.Arena.{held_at};
+
+#[cfg(test)]
+mod tests;
+
 use arrayvec::ArrayVec;
 use art_arena::{ArenaReader, InnerRef, LeafPtr, NodeArena, VisitedNode};
-use art_nodes::{InnerNodeCommon, KindLeaf, NodeType, OpaqueNodePtr};
+use art_nodes::{InnerNodeCommon, NodeType, OpaqueNodePtr};
 use std::ops::Bound;
 
-/// How many leaves are enough to be read together.
+/// How many leaves are named together, or more.
 const BATCH: usize = 32;
 
-/// How many leaves are read together at most.
-const LEAVES: usize = 128;
+/// How many names of leaves there is room for.
+const LEAVES: usize = 256;
 
 /// How many children a small inner node has at most.
 const SMALL: usize = 16;
 
-/// How many children of a node are named before they are read: those of so many bytes that follow.
+/// How many children of a node are named before they are gone through: those of so many bytes that follow.
 const ROW: usize = 64;
+
+/// How many names are copied together.
+const COPIED: usize = 8;
+
+/// How many nodes are gone below for a batch at most: more than there are above a leaf.
+const LIMIT: usize = 4096;
 
 /// How many nodes may be still to be read. Where the tree is deeper than that allows, its leaves are not read ahead.
 const PENDING: usize = 256;
 
-/// The inner nodes among children of a node that were named together: their bytes, ascending, their names, and how many
-/// leaves of the batch stand before each. Whole arrays, so that nothing is blanked for the next node, as an `ArrayVec`
-/// would.
-#[derive(Drop)]
-struct Row {
-    bytes: [u8; ROW],
-    names: [OpaqueNodePtr; ROW],
-    before: [usize; ROW],
-    len: usize,
+/// An inner node among the children of another: its byte, its name, and its place among them.
+#[derive(Clone, Copy, Default, Drop)]
+struct Inner {
+    byte: u8,
+    at: u8,
+    name: OpaqueNodePtr,
 }
 
-impl Row {
-    /// No children, at first.
+/// Names of leaves, in the order of their lines, and the children of a node that were named together last, its row: by
+/// ascending bytes, and which of them are inner nodes. Whole arrays, so that nothing is blanked for the next node, as
+/// an `ArrayVec` would.
+#[derive(Drop)]
+struct Names {
+    leaves: [LeafPtr; LEAVES],
+    len: usize,
+    row: [LeafPtr; ROW + COPIED],
+    row_len: usize,
+    inner: [Inner; ROW],
+    inner_len: usize,
+    rest: Option<u8>,
+    below: Option<Pending>,
+    seen: u8,
+}
+
+impl Names {
+    /// No names, at first.
     fn new() -> Self {
-        Row {
-            bytes: [0; ROW],
-            names: [OpaqueNodePtr::default(); ROW],
-            before: [0; ROW],
+        Names {
+            leaves: [LeafPtr::from_slot(0); LEAVES],
             len: 0,
+            row: [LeafPtr::from_slot(0); ROW + COPIED],
+            row_len: 0,
+            inner: [Inner::default(); ROW],
+            inner_len: 0,
+            rest: None,
+            below: None,
+            seen: 0,
         }
     }
 
-    /// The inner node at this place, if there is one, with its byte and how many leaves of the batch stand before it.
-    fn get(&self, at: usize) -> Option<(u8, OpaqueNodePtr, usize)> {
-        if at < self.len.min(ROW) {
-            Some((self.bytes[at], self.names[at], self.before[at]))
-        } else {
-            None
-        }
+    /// The leaves.
+    fn leaves(&self) -> &[LeafPtr] {
+        &self.leaves[..self.len.min(LEAVES)]
     }
 
-    /// Names a child: a leaf goes in the batch, an inner node in the row. It is put in both, and one of the two keeps
-    /// it, since which of them it is could not be foreseen. Where there is no room it names nothing.
-    #[inline(always)]
-    fn push(&mut self, batch: &mut Batch, ends: &mut Ends, byte: u8, name: OpaqueNodePtr) {
-        let (at, leaf) = (ends.row, ends.batch);
-        if at < ROW && leaf < LEAVES {
-            let is_leaf = name.node_type() == NodeType::Leaf;
-            batch.leaves[leaf] = LeafPtr::from_slot(name.slot());
-            self.bytes[at] = byte;
-            self.names[at] = name;
-            self.before[at] = leaf;
-            ends.batch = leaf + usize::from(is_leaf);
-            ends.row = at + usize::from(!is_leaf);
-        }
+    /// Whether there may be no room for the leaves of a small inner node and of a row.
+    fn is_full(&self) -> bool {
+        self.len > LEAVES - ROW - SMALL - COPIED
+    }
+
+    /// Names the leaves among a node's next children and those under its small inner ones, and keeps what is to come
+    /// next. Of a leaf it names itself.
+    fn go_below<const PREFIX_LEN: usize>(
+        &mut self,
+        arena: &NodeArena<Vec<u8>, Vec<u8>, PREFIX_LEN>,
+        name: OpaqueNodePtr,
+        from: u8,
+    )
+        requires { IsSome (held_at arena.now name) }
+    {
+        self.below = None;
+        self.rest = match ArenaReader::new(arena).visit(name) {
+            VisitedNode::Node256(wide) => self.take_wide::<_, PREFIX_LEN>(wide, from),
+            VisitedNode::Node48(wide) => self.take_wide::<_, PREFIX_LEN>(wide, from),
+            other => {
+                match other.leaf() {
+                    Ok(_) => self.take_leaf(name),
+                    Err(small) => self.take_small(&small, from),
+                }
+                None
+            }
+        };
+        self.read_inner(arena);
+        self.give_all(arena);
+    }
+
+    /// Names a leaf.
+    fn take_leaf(&mut self, name: OpaqueNodePtr) {
+        let mut ends = Ends::default();
+        ends.push(self, 0, name);
+        ends.keep(self);
     }
 
     /// Names the children of a small node, from this byte on.
     fn take_small<const PREFIX_LEN: usize>(
         &mut self,
-        batch: &mut Batch,
         node: &InnerRef<'_, Vec<u8>, Vec<u8>, PREFIX_LEN>,
         from: u8,
     ) {
-        let mut ends = Ends::new(batch);
+        let mut ends = Ends::default();
         for (byte, name) in node.range(Bound::Included(from), Bound::Unbounded) {
-            self.push(batch, &mut ends, byte, name);
+            ends.push(self, byte, name);
         }
-        ends.keep(self, batch);
+        ends.keep(self);
     }
 
     /// Names the children of a node with a place for each byte, from this byte on, up to the next multiple of 64, which
     /// it tells. Which places are taken is gathered in the bits of a word first: a branch at each place could not be
-    /// foreseen.
+    /// foreseen. Where the first child isn't small it names that one alone, and tells the byte behind it: there will be
+    /// enough leaves under it.
     fn take_wide<N: InnerNodeCommon<PREFIX_LEN>, const PREFIX_LEN: usize>(
         &mut self,
-        batch: &mut Batch,
         node: &N,
         from: u8,
     ) -> Option<u8> {
         let first = from & 0xc0;
         let mut taken = taken_places::<N, PREFIX_LEN>(node, first) & (u64::MAX << (from & 0x3f));
-        let mut ends = Ends::new(batch);
-        for _ in 0..ROW {
-            if taken == 0 {
-                break;
-            }
+        let mut rest = first.checked_add(0x40);
+        if let Some(byte) = first_wide::<N, PREFIX_LEN>(node, first, taken) {
+            taken &= taken.wrapping_neg();
+            rest = byte.checked_add(1);
+        }
+        let mut ends = Ends::default();
+        for _ in 0..taken.count_ones() {
             let byte = first | taken.trailing_zeros() as u8;
             if let Some(name) = node.lookup_child(byte) {
-                self.push(batch, &mut ends, byte, name);
+                ends.push(self, byte, name);
             }
             taken &= taken.wrapping_sub(1);
         }
-        ends.keep(self, batch);
-        first.checked_add(0x40)
+        ends.keep(self);
+        rest
     }
-}
 
-/// Where a row and the batch end while children are named. Told apart from both, so that neither is read again for each
-/// child.
-#[derive(Drop)]
-struct Ends {
-    row: usize,
-    batch: usize,
-}
+    /// Reads the inner nodes of the row together.
+    fn read_inner<const PREFIX_LEN: usize>(
+        &mut self,
+        arena: &NodeArena<Vec<u8>, Vec<u8>, PREFIX_LEN>,
+    ) {
+        let mut seen = self.seen;
+        for inner in &self.inner[..self.inner_len.min(ROW)] {
+            seen ^= of_inner(arena, inner.name);
+        }
+        self.seen = seen;
+    }
 
-impl Ends {
-    /// Those of an empty row and of this batch.
+    /// Puts the leaves of the row and those under its small inner nodes behind the others, in order, up to an inner
+    /// node that isn't small, has inner nodes under it, or finds no room: that is what is to come next.
+    fn give_all<const PREFIX_LEN: usize>(
+        &mut self,
+        arena: &NodeArena<Vec<u8>, Vec<u8>, PREFIX_LEN>,
+    ) {
+        let mut from = 0;
+        for place in 0..ROW {
+            if place >= self.inner_len {
+                break;
+            }
+            let Inner { byte, at, name } = self.inner[place];
+            self.give(from, usize::from(at));
+            from = usize::from(at) + 1;
+            if self.is_full() {
+                self.rest = Some(byte);
+                return;
+            }
+            if let Some(below) = self.give_small(arena, name) {
+                self.below = Some(Pending { name, from: below });
+                self.rest = byte.checked_add(1);
+                return;
+            }
+        }
+        self.give(from, self.row_len);
+    }
+
+    /// Puts the leaves of the row from one place on, up to another, behind the others. A few names are copied together,
+    /// and of those behind the last one nothing comes: how many there are could not be foreseen.
     #[inline(always)]
-    fn new(batch: &Batch) -> Self {
-        Ends {
-            row: 0,
-            batch: batch.len,
+    fn give(&mut self, from: usize, to: usize) {
+        let mut at = from;
+        for _ in 0..ROW / COPIED + 1 {
+            let len = self.len;
+            if len > LEAVES - COPIED || at > ROW {
+                break;
+            }
+            for i in 0..COPIED {
+                self.leaves[len + i] = self.row[at + i];
+            }
+            self.len = len + to.saturating_sub(at).min(COPIED);
+            at += COPIED;
+            if at >= to {
+                break;
+            }
         }
     }
 
-    /// Lets row and batch end there.
-    #[inline(always)]
-    fn keep(&self, row: &mut Row, batch: &mut Batch) {
-        row.len = self.row;
-        batch.len = self.batch;
+    /// Names the leaves under a small inner node, up to its first inner node, of which it tells the byte. Under any
+    /// other node it names none: it tells 0 for one that isn't small, and nothing under a name that isn't held.
+    fn give_small<const PREFIX_LEN: usize>(
+        &mut self,
+        arena: &NodeArena<Vec<u8>, Vec<u8>, PREFIX_LEN>,
+        name: OpaqueNodePtr,
+    ) -> Option<u8> {
+        if !is_small(name) {
+            return Some(0);
+        }
+        if !arena.holds(name) {
+            return None;
+        }
+        let Err(inner) = ArenaReader::new(arena).visit(name).leaf() else {
+            return None;
+        };
+        for (byte, child) in inner.children() {
+            if child.node_type() != NodeType::Leaf {
+                return Some(byte);
+            }
+            let at = self.len;
+            if at < LEAVES {
+                self.leaves[at] = LeafPtr::from_slot(child.slot());
+                self.len = at + 1;
+            }
+        }
+        None
     }
+}
+
+/// Where a row ends while children are named: all of them, and the inner nodes among them. Told apart from the row, so
+/// that it is not read again for each child.
+#[derive(Default, Drop)]
+struct Ends {
+    len: usize,
+    inner: usize,
+}
+
+impl Ends {
+    /// Puts a child behind the others. It is put among the leaves and among the inner nodes, and those keep it only
+    /// where it is one, since that could not be foreseen. Where there is no room it puts nothing.
+    #[inline(always)]
+    fn push(&mut self, names: &mut Names, byte: u8, name: OpaqueNodePtr) {
+        let (at, inner) = (self.len, self.inner);
+        if at < ROW && inner < ROW {
+            names.row[at] = LeafPtr::from_slot(name.slot());
+            names.inner[inner] = Inner {
+                byte,
+                at: at as u8,
+                name,
+            };
+            self.len = at + 1;
+            self.inner = inner + usize::from(name.node_type() != NodeType::Leaf);
+        }
+    }
+
+    /// Lets the row end there.
+    #[inline(always)]
+    fn keep(&self, names: &mut Names) {
+        names.row_len = self.len;
+        names.inner_len = self.inner;
+    }
+}
+
+/// The byte of the first child among those at these places from this byte on, where it is an inner node that isn't
+/// small.
+#[inline(always)]
+fn first_wide<N: InnerNodeCommon<PREFIX_LEN>, const PREFIX_LEN: usize>(
+    node: &N,
+    first: u8,
+    taken: u64,
+) -> Option<u8> {
+    if taken == 0 {
+        return None;
+    }
+    let byte = first | taken.trailing_zeros() as u8;
+    let name = node.lookup_child(byte)?;
+    let is_wide = matches!(name.node_type(), NodeType::Node48 | NodeType::Node256);
+    if is_wide { Some(byte) } else { None }
 }
 
 /// Which of the 64 bytes from this one on have a child, a bit for each.
@@ -168,45 +331,6 @@ fn taken_of_eight<N: InnerNodeCommon<PREFIX_LEN>, const PREFIX_LEN: usize>(
         | is_taken(7) << 7
 }
 
-/// Leaves that are to be read together. Those under a small inner node stand behind all leaves of its row.
-#[derive(Drop)]
-struct Batch {
-    leaves: [LeafPtr; LEAVES],
-    len: usize,
-}
-
-impl Batch {
-    /// No leaves, at first.
-    fn new() -> Self {
-        Batch {
-            leaves: [LeafPtr::from_slot(0); LEAVES],
-            len: 0,
-        }
-    }
-
-    /// Whether there may be no room for the leaves of a small inner node.
-    fn is_full(&self) -> bool {
-        self.len > LEAVES - SMALL
-    }
-
-    /// Puts a leaf behind the others, where there is room.
-    fn push(&mut self, name: OpaqueNodePtr) {
-        let at = self.len;
-        let Some(leaf) = name.cast::<KindLeaf>() else {
-            return;
-        };
-        if at < LEAVES {
-            self.leaves[at] = leaf;
-            self.len = at + 1;
-        }
-    }
-
-    /// The leaves.
-    fn as_slice(&self) -> &[LeafPtr] {
-        &self.leaves[..self.len.min(LEAVES)]
-    }
-}
-
 /// A node below which leaves are still to come: those under its bytes from this one on.
 #[derive(Clone, Copy, Default, Drop)]
 struct Pending {
@@ -214,134 +338,94 @@ struct Pending {
     from: u8,
 }
 
-/// The leaves that are still to be read ahead, by the nodes above them, the next one last, and those that are to be
-/// read together, of which so many come again, since leaves that were put off stand before them.
+/// The leaves that are still to be read ahead, by the nodes above them, the next one last, and those that are read
+/// together. Each call names the arena.
 #[derive(Drop)]
-pub(crate) struct Ahead<'a, const PREFIX_LEN: usize> {
-    arena: &'a NodeArena<Vec<u8>, Vec<u8>, PREFIX_LEN>,
+pub(crate) struct Ahead {
     pending: ArrayVec<Pending, PENDING>,
-    row: Row,
-    batch: Batch,
-    again: usize,
+    names: Names,
     left: usize,
-    seen: u8,
 }
 
-impl<'a, const PREFIX_LEN: usize> Ahead<'a, PREFIX_LEN> {
-    /// All leaves of a tree.
-    pub(crate) fn new(
-        arena: &'a NodeArena<Vec<u8>, Vec<u8>, PREFIX_LEN>,
-        root: Option<OpaqueNodePtr>,
-    ) -> Self {
+impl Ahead {
+    /// All leaves of the tree below this root.
+    pub(crate) fn new(root: Option<OpaqueNodePtr>) -> Self {
         let mut pending = ArrayVec::new();
         if let Some(name) = root {
             let _ = pending.try_push(Pending { name, from: 0 });
         }
         Ahead {
-            arena,
             pending,
-            row: Row::new(),
-            batch: Batch::new(),
-            again: 0,
+            names: Names::new(),
             left: 0,
-            seen: 0,
         }
     }
 
     /// Goes on by a leaf: where those that were read together are used up, the next ones are. Answers a byte that can't
     /// be told without having read them, so that no compiler leaves the reads out.
     #[inline]
-    pub(crate) fn step(&mut self) -> u8 {
+    pub(crate) fn step<const PREFIX_LEN: usize>(
+        &mut self,
+        arena: &NodeArena<Vec<u8>, Vec<u8>, PREFIX_LEN>,
+    ) -> u8 {
         match self.left.checked_sub(1) {
             Some(left) => self.left = left,
-            None => self.read(),
+            None => self.read(arena),
         }
-        self.seen
+        self.names.seen
     }
 
     /// Reads the next leaves together, and goes on by the first. All entries are read before the keys and the values,
     /// whose places they tell.
     #[inline(never)]
-    fn read(&mut self) {
-        self.name_leaves();
-        let mut seen = self.seen;
-        for leaf in self.batch.as_slice() {
-            seen ^= self.of_entry(*leaf);
+    fn read<const PREFIX_LEN: usize>(&mut self, arena: &NodeArena<Vec<u8>, Vec<u8>, PREFIX_LEN>) {
+        self.name_leaves(arena);
+        let mut seen = self.names.seen;
+        for leaf in self.names.leaves() {
+            seen ^= of_entry(arena, *leaf);
         }
-        for leaf in self.batch.as_slice() {
-            seen ^= self.of_pair(*leaf);
+        for leaf in self.names.leaves() {
+            seen ^= of_pair(arena, *leaf);
         }
-        self.seen = seen;
-        self.left = self.batch.len.saturating_sub(self.again).saturating_sub(1);
+        self.names.seen = seen;
+        self.left = self.names.len.saturating_sub(1);
     }
 
     /// Names the next leaves.
-    fn name_leaves(&mut self) {
-        self.batch.len = 0;
-        self.again = 0;
-        for _ in 0..4 * BATCH {
-            if self.batch.len >= BATCH {
+    fn name_leaves<const PREFIX_LEN: usize>(
+        &mut self,
+        arena: &NodeArena<Vec<u8>, Vec<u8>, PREFIX_LEN>,
+    ) {
+        self.names.len = 0;
+        for _ in 0..LIMIT {
+            if self.names.len >= BATCH {
                 break;
             }
             let Some(next) = self.pending.pop() else {
                 break;
             };
-            self.go_below(next);
+            self.go_below(arena, next.name, next.from);
         }
     }
 
-    /// Names the leaves among a node's next children, then those under its small inner ones, up to one that isn't
-    /// small, has inner nodes under it, or finds the batch full: that one is the next to be gone below, and the row's
-    /// leaves behind it come again.
-    fn go_below(&mut self, node: Pending) {
-        if !self.arena.holds(node.name) {
+    /// Names the leaves among a node's children from this byte on and under its small inner ones, and puts off what is
+    /// left of it.
+    fn go_below<const PREFIX_LEN: usize>(
+        &mut self,
+        arena: &NodeArena<Vec<u8>, Vec<u8>, PREFIX_LEN>,
+        name: OpaqueNodePtr,
+        from: u8,
+    ) {
+        if !arena.holds(name) {
             return;
         }
-        let rest = match ArenaReader::new(self.arena).visit(node.name) {
-            VisitedNode::Node256(wide) => self
-                .row
-                .take_wide::<_, PREFIX_LEN>(&mut self.batch, wide, node.from),
-            VisitedNode::Node48(wide) => self
-                .row
-                .take_wide::<_, PREFIX_LEN>(&mut self.batch, wide, node.from),
-            other => match other.leaf() {
-                Ok(_) => {
-                    self.batch.push(node.name);
-                    return;
-                }
-                Err(small) => {
-                    self.row.take_small(&mut self.batch, &small, node.from);
-                    None
-                }
-            },
-        };
-        self.read_inner();
-        let named = self.batch.len;
-        for at in 0..ROW {
-            let Some((byte, name, before)) = self.row.get(at) else {
-                break;
-            };
-            if self.stops_at(node.name, byte, name) {
-                self.again = self.again.saturating_add(named.saturating_sub(before));
-                return;
-            }
+        self.names.go_below(arena, name, from);
+        let rest = self.names.rest;
+        let below = self.names.below;
+        self.put_off(name, rest);
+        if let Some(below) = below {
+            self.put_off(below.name, Some(below.from));
         }
-        self.put_off(node.name, rest);
-    }
-
-    /// Names the leaves under an inner node of the row, which stands under this byte of the node above it. Tells
-    /// whether no child behind it is the next one, since it or a part of it is put off.
-    fn stops_at(&mut self, above: OpaqueNodePtr, byte: u8, name: OpaqueNodePtr) -> bool {
-        if self.batch.is_full() {
-            self.put_off(above, Some(byte));
-            return true;
-        }
-        let Some(below) = self.go_below_small(name) else {
-            return false;
-        };
-        self.put_off(above, byte.checked_add(1));
-        self.put_off(name, Some(below));
-        true
     }
 
     /// Leaves under this node's bytes from this one on are to come next.
@@ -350,78 +434,57 @@ impl<'a, const PREFIX_LEN: usize> Ahead<'a, PREFIX_LEN> {
             let _ = self.pending.try_push(Pending { name, from });
         }
     }
+}
 
-    /// Names the leaves under a small inner node, up to its first inner node, of which it tells the byte. Under any
-    /// other node it names none: it tells 0 for one that isn't small, and nothing under a name that isn't held.
-    fn go_below_small(&mut self, name: OpaqueNodePtr) -> Option<u8> {
-        if !is_small(name) {
-            return Some(0);
-        }
-        if !self.arena.holds(name) {
-            return None;
-        }
-        let Err(inner) = ArenaReader::new(self.arena).visit(name).leaf() else {
-            return None;
-        };
-        for (byte, child) in inner.children() {
-            if child.node_type() != NodeType::Leaf {
-                return Some(byte);
-            }
-            self.batch.push(child);
-        }
-        None
+/// A byte that depends on an inner node: of a small one on its first child's byte and kind, of a wide one only on its
+/// being there.
+#[inline(always)]
+fn of_inner<const PREFIX_LEN: usize>(
+    arena: &NodeArena<Vec<u8>, Vec<u8>, PREFIX_LEN>,
+    name: OpaqueNodePtr,
+) -> u8 {
+    if !arena.holds(name) {
+        return 0;
     }
-
-    /// Reads the inner nodes of the row together.
-    fn read_inner(&mut self) {
-        let mut seen = self.seen;
-        for name in &self.row.names[..self.row.len.min(ROW)] {
-            seen ^= self.of_inner(*name);
-        }
-        self.seen = seen;
+    let inner = ArenaReader::new(arena).visit(name).leaf();
+    match inner {
+        Err(inner) if is_small(name) => match inner.children().next() {
+            Some((byte, child)) => byte ^ u8::from(child.node_type() == NodeType::Leaf),
+            None => 0,
+        },
+        _ => 1,
     }
+}
 
-    /// A byte that depends on an inner node: of a small one on its first child's byte and kind, of a wide one only on
-    /// its being there.
-    #[inline(always)]
-    fn of_inner(&self, name: OpaqueNodePtr) -> u8 {
-        if !self.arena.holds(name) {
-            return 0;
-        }
-        let inner = ArenaReader::new(self.arena).visit(name).leaf();
-        match inner {
-            Err(inner) if is_small(name) => match inner.children().next() {
-                Some((byte, child)) => byte ^ u8::from(child.node_type() == NodeType::Leaf),
-                None => 0,
-            },
-            _ => 1,
-        }
+/// A byte of what a leaf's entry holds.
+#[inline(always)]
+fn of_entry<const PREFIX_LEN: usize>(
+    arena: &NodeArena<Vec<u8>, Vec<u8>, PREFIX_LEN>,
+    leaf: LeafPtr,
+) -> u8 {
+    if !arena.holds(leaf.to_opaque()) {
+        return 0;
     }
+    let (_, value) = arena.as_key_value_ref(leaf);
+    u8::from(value.is_empty())
+}
 
-    /// A byte of what a leaf's entry holds.
-    #[inline(always)]
-    fn of_entry(&self, leaf: LeafPtr) -> u8 {
-        if !self.arena.holds(leaf.to_opaque()) {
-            return 0;
-        }
-        let (_, value) = self.arena.as_key_value_ref(leaf);
-        u8::from(value.is_empty())
+/// A byte of what a leaf's key and its value hold.
+#[inline(always)]
+fn of_pair<const PREFIX_LEN: usize>(
+    arena: &NodeArena<Vec<u8>, Vec<u8>, PREFIX_LEN>,
+    leaf: LeafPtr,
+) -> u8 {
+    if !arena.holds(leaf.to_opaque()) {
+        return 0;
     }
-
-    /// A byte of what a leaf's key and its value hold.
-    #[inline(always)]
-    fn of_pair(&self, leaf: LeafPtr) -> u8 {
-        if !self.arena.holds(leaf.to_opaque()) {
-            return 0;
-        }
-        let (key, value) = self.arena.as_key_value_ref(leaf);
-        let (Some(first), Some(last)) = (key.first(), key.last()) else {
-            return 0;
-        };
-        match value.first() {
-            Some(of_value) => *first ^ *last ^ *of_value,
-            None => *first ^ *last,
-        }
+    let (key, value) = arena.as_key_value_ref(leaf);
+    let (Some(first), Some(last)) = (key.first(), key.last()) else {
+        return 0;
+    };
+    match value.first() {
+        Some(of_value) => *first ^ *last ^ *of_value,
+        None => *first ^ *last,
     }
 }
 

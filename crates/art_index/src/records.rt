@@ -134,12 +134,12 @@ pub(crate) fn write_records<W: Sink, const PREFIX_LEN: usize>(
     let mut room = [0; ROOM];
     let mut held = 0;
     let (arena, root) = records.nodes();
-    let mut ahead = Ahead::new(arena, root);
+    let mut ahead = Ahead::new(root);
     let mut head = Head::new(0);
     for (full, value) in records.iter() {
         let (tenant, key) = parts_of(full.as_slice());
         let at = make_room(sink, &room, held)?;
-        room[ROOM - 1] = ahead.step();
+        room[ROOM - 1] = ahead.step(arena);
         head.turn_to(tenant);
         held = put_record(&mut room, at, &head, key, value.as_slice());
     }
