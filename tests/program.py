@@ -83,6 +83,27 @@ def many_values_are_kept(program):
     assert out == wanted, f"line {next(n for n, it in enumerate(out.splitlines()) if it != replies[n].encode()) + 1} differs"
 
 
+def look_ups_among_many_are_answered(program):
+    """20,000 puts, so many that look-ups are read ahead, and 30,000 lines: look-ups, with changes and bad lines between them."""
+    held, lines, replies = {}, [], []
+    for it in range(50000):
+        key = (it % 3, f"{it * 40503 % 65536:04x}" if it < 20000 else f"{it * 7919 % 65536:04x}")
+        if it < 20000 or it % 16 == 5:
+            lines.append(f"put {key[0]} {key[1]} {it:08x}")
+            replies.append(f"old {held[key]}" if key in held else "new")
+            held[key] = f"{it:08x}"
+        elif it % 16 == 11:
+            lines.append("got 0 00")
+            replies.append("bad")
+        else:
+            lines.append(f"get {key[0]} {key[1]}")
+            replies.append(f"is {held[key]}" if key in held else "none")
+    text, wanted = ("".join(f"{it}\n" for it in each).encode() for each in (lines, replies))
+    out, err, status = ended([program], input=text)
+    wants((err, status, len(out)), (b"", 0, len(wanted)))
+    assert out == wanted, f"line {next(n for n, it in enumerate(out.splitlines()) if it != replies[n].encode()) + 1} differs"
+
+
 def an_argument_is_refused(program):
     """It ends while its standard input is open, so it has not waited for it."""
     reads, writes = os.pipe()
@@ -206,6 +227,7 @@ TESTS = [
     nothing_in_nothing_out,
     any_bytes_are_answered,
     many_values_are_kept,
+    look_ups_among_many_are_answered,
     an_argument_is_refused,
     a_failed_read_is_told,
     a_failed_write_is_told,

@@ -8,7 +8,7 @@ ghost use Rattle.std.specs.Prelude.{IsSome};
 ghost use Rattle.art_arena.specs.arena.Arena.{held_at};
 
 #[cfg(test)]
-mod tests;
+pub(crate) mod tests;
 
 use arrayvec::ArrayVec;
 use art_arena::{ArenaReader, InnerRef, LeafPtr, NodeArena, VisitedNode};
@@ -458,7 +458,7 @@ fn of_inner<const PREFIX_LEN: usize>(
 
 /// A byte of what a leaf's entry holds.
 #[inline(always)]
-fn of_entry<const PREFIX_LEN: usize>(
+pub(crate) fn of_entry<const PREFIX_LEN: usize>(
     arena: &NodeArena<Vec<u8>, Vec<u8>, PREFIX_LEN>,
     leaf: LeafPtr,
 ) -> u8 {
@@ -471,7 +471,7 @@ fn of_entry<const PREFIX_LEN: usize>(
 
 /// A byte of what a leaf's key and its value hold.
 #[inline(always)]
-fn of_pair<const PREFIX_LEN: usize>(
+pub(crate) fn of_pair<const PREFIX_LEN: usize>(
     arena: &NodeArena<Vec<u8>, Vec<u8>, PREFIX_LEN>,
     leaf: LeafPtr,
 ) -> u8 {

@@ -26,6 +26,7 @@ mod stream;
 #[cfg(test)]
 mod tests;
 mod to_writer;
+mod upcoming;
 
 use buffered::{Buffer, Input, Output};
 use from_reader::FromReader;

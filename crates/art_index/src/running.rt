@@ -9,6 +9,7 @@ ghost use Rattle.art_index.specs.Progress.{Carried, IsCutRun, NoNewline};
 
 use crate::index::{Index, RunFault};
 use crate::stream::{Sink, Source};
+use crate::upcoming::Upcoming;
 use arrayvec::ArrayVec;
 use memchr::memchr;
 
@@ -54,6 +55,7 @@ pub fn run<S: Source, W: Sink, const PREFIX_LEN: usize>(
 {
     let mut held: ArrayVec<u8, HELD> = ArrayVec::new();
     let mut buf = [0; PIECE];
+    let mut upcoming = Upcoming::new();
     'reads: loop {
         let Ok(n) = source.read(&mut buf) else {
             return Err(RunFault::Read);
@@ -61,7 +63,7 @@ pub fn run<S: Source, W: Sink, const PREFIX_LEN: usize>(
         if n == 0 {
             break 'reads;
         }
-        feed(index, &mut held, &buf[..n], sink)?;
+        feed(index, &mut held, &mut upcoming, &buf[..n], sink)?;
     }
     if !held.is_empty() {
         index.handle(held.as_slice(), sink)?;
@@ -70,10 +72,11 @@ pub fn run<S: Source, W: Sink, const PREFIX_LEN: usize>(
 }
 
 /// Carries out the lines that the piece ends, and holds what stands behind them. A line that lies whole in the piece is
-/// handled there; only a line that was cut is put together.
+/// handled there; only a line that was cut is put together. What the look-ups among them read is read ahead.
 fn feed<W: Sink, const PREFIX_LEN: usize>(
     index: &mut Index<PREFIX_LEN>,
     held: &mut ArrayVec<u8, HELD>,
+    upcoming: &mut Upcoming,
     piece: &[u8],
     sink: &mut W,
 ) -> Result<(), RunFault>
@@ -89,6 +92,7 @@ fn feed<W: Sink, const PREFIX_LEN: usize>(
 {
     let mut rest = piece;
     'lines: while let Some(at) = memchr(b'\n', rest) {
+        upcoming.step(index.byte_map(), rest);
         finish(index, held, &rest[..at], sink)?;
         rest = &rest[at + 1..];
     }

@@ -5,7 +5,7 @@ use std::alloc::{AllocError, Global};
 use std::test::Fail;
 
 /// Puts so many keys in a map, each of a number in the middle, spread by a factor.
-fn fill(
+pub(crate) fn fill(
     alloc: Global,
     map: &mut TreeMap<Vec<u8>, Vec<u8>, 16>,
     count: u64,
