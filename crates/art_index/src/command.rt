@@ -8,7 +8,7 @@ ghost use Rattle.art_index.specs.Parsed.{meaning, command_with};
 
 mod digits;
 pub(crate) mod fields;
-mod shapes;
+pub(crate) mod shapes;
 pub(crate) mod word;
 
 use arrayvec::ArrayVec;
@@ -17,7 +17,7 @@ use shapes::{read_key, read_key_and_value, split_field};
 use word::{Change, LookUp, Shape, Whole, Word, word_of};
 
 /// The longest line in bytes, without its newline.
-const LINE: usize = 4096;
+pub(crate) const LINE: usize = 4096;
 
 /// What a line asks for.
 #[derive(Drop)]

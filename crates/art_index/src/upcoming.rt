@@ -1,5 +1,5 @@
-//! What the look-ups of the lines that come next will read of the tree, read ahead of them. A look-up waits for one node
-//! after another, then for its leaf, and then for its key and its value. The lines of a piece of input are at hand
+//! What the look-ups of the lines that come next will read of the tree, read ahead of them. A look-up waits for one
+//! node after another, then for its leaf, and then for its key and its value. The lines of a piece of input are at hand
 //! before they are carried out, so the ways of several keys are gone at a time, a step of each in turn: the processor
 //! waits for many nodes at once, and each line then finds at hand what it reads.
 //!
@@ -10,8 +10,9 @@
 mod tests;
 
 use crate::ahead::{of_entry, of_pair};
+use crate::command::LINE;
 use crate::command::fields::Fields;
-use crate::command::read_line;
+use crate::command::shapes::read_key;
 use art_arena::{ArenaReader, LeafPtr, NodeArena};
 use art_map::TreeMap;
 use art_nodes::{NodeType, OpaqueNodePtr};
@@ -169,7 +170,10 @@ impl Upcoming {
 
     /// Takes the key of a line, where it looks one up.
     fn take_line(&mut self, root: OpaqueNodePtr, line: &[u8]) {
-        if !line.starts_with(b"get ") || read_line(line, &mut self.fields).is_none() {
+        if line.len() > LINE || !line.starts_with(b"get ") {
+            return;
+        }
+        if !read_key(line.get(4..), &mut self.fields) {
             return;
         }
         let at = self.len;

@@ -73,6 +73,7 @@ impl Fields {
     }
 
     /// Reads the tenant: false where the field is read as none.
+    #[inline(always)]
     pub(crate) fn read_tenant(&mut self, field: &[u8]) -> bool
         ensures read { IsRead result (tenant_in_place self.new) (tenant_in field.now) }
         ensures some { result ≡ true → 0 < length field.now }
@@ -90,6 +91,7 @@ impl Fields {
     }
 
     /// Reads the key, behind the tenant that is there: false where the field is read as no bytes.
+    #[inline(always)]
     pub(crate) fn read_key(&mut self, field: &[u8]) -> bool
         requires { length field.now ≤ 4090 }
         ensures read { IsRead result (key_in_place self.new) (bytes_in field.now) }
@@ -120,6 +122,7 @@ fn split_of(full: &[u8]) -> &[u8]
 }
 
 /// The tenant that the field is read as.
+#[inline(always)]
 fn parse_tenant(field: &[u8]) -> Option<u32>
     ensures tenant { result ≡ tenant_in field.now }
     ensures some { IsSome result → 0 < length field.now }
@@ -145,6 +148,7 @@ fn parse_tenant(field: &[u8]) -> Option<u32>
 
 /// Decodes the bytes that the field is read as, in place of what was there behind some at the front, which stay: false
 /// where the field is read as no bytes.
+#[inline(always)]
 fn decode_bytes<const N: usize>(field: &[u8], bytes: &mut ArrayVec<u8, N>, front: usize) -> bool
     requires front_in { front ≤ length bytes.old.items }
     requires fits { front + length field.now / 2 ≤ N }

@@ -12,6 +12,7 @@ use crate::command::fields::Fields;
 use memchr::memchr;
 
 /// Reads a tenant and a key. The key is not looked through for a space, which is no digit.
+#[inline(always)]
 pub(crate) fn read_key(rest: Option<&[u8]>, fields: &mut Fields) -> bool
     requires { IfSome rest (λ text. length text.now ≤ 4092) }
     ensures { IsRead result (tenant_in_place fields.new, key_in_place fields.new)
