@@ -54,16 +54,6 @@ macro_rules! on_arm {
 }
 
 impl<'a, K, V, const PREFIX_LEN: usize> InnerRef<'a, K, V, PREFIX_LEN> {
-    // The child to which a key goes on from here, where so many of its bytes lead.
-    #[inline(always)]
-    pub(crate) fn next_step(&self, key: &[u8], depth: usize) -> Option<NextStep>
-        requires { depth ≤ length key.now }
-        ensures { MatchOption result (GoesNoFurther key.now depth self.now.node)
-            (λ step. GoesOn key.now depth self.now.node step.byte step.child step.depth) }
-    {
-        on_arm!(self, node => step_from::<_, PREFIX_LEN>(node, key, depth))
-    }
-
     /// The header.
     #[inline(always)]
     pub fn header(&self) -> &'a Header<PREFIX_LEN>
@@ -192,14 +182,29 @@ impl<'a, K, V, const PREFIX_LEN: usize> InnerRef<'a, K, V, PREFIX_LEN> {
         self.range(Bound::Unbounded, Bound::Excluded(byte))
             .next_back()
     }
+
+    /// The child to which a key goes on from here, where so many of its bytes lead here. The prefix is passed by its
+    /// length alone: whoever asks compares the key of the leaf that is reached. Nothing where the key ends within the
+    /// prefix or with it, or where no child stands under its next byte.
+    #[inline(always)]
+    pub fn next_step(&self, key: &[u8], depth: usize) -> Option<NextStep>
+        requires { depth ≤ length key.now }
+        ensures { MatchOption result (GoesNoFurther key.now depth self.now.node)
+            (λ step. GoesOn key.now depth self.now.node step.byte step.child step.depth) }
+    {
+        on_arm!(self, node => step_from::<_, PREFIX_LEN>(node, key, depth))
+    }
 }
 
-// From an inner node to a child: the byte, the child, and how many bytes of the key lead there.
+/// A step of a key from an inner node to a child.
 #[derive(Clone, Copy)]
-pub(crate) struct NextStep {
-    pub(crate) byte: u8,
-    pub(crate) child: OpaqueNodePtr,
-    pub(crate) depth: usize,
+pub struct NextStep {
+    /// The byte under which the child stands.
+    pub byte: u8,
+    /// The child.
+    pub child: OpaqueNodePtr,
+    /// How many bytes of the key lead to it.
+    pub depth: usize,
 }
 
 // The child to which a key goes on from an inner node of one kind that stands behind so many of its bytes.

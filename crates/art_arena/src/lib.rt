@@ -22,7 +22,7 @@ pub use arena::{LeafPtr, NodeArena, NodeRefused};
 pub use descent::{Landed, Passing, Stop, descend, land};
 pub use ends::{End, end_leaf, first_leaf, last_leaf};
 pub use find::{FoundLeaf, find_leaf};
-pub use inner_ref::InnerRef;
+pub use inner_ref::{InnerRef, NextStep};
 pub use node_edits::{NodeEdit, StoredInner};
 pub use path::{TreePath, TreePathSearch, inner_node_ptr};
 pub use prefix::{match_full_prefix, read_full_prefix};

@@ -94,7 +94,15 @@ fn reads_as_stored<K: AsBytes + Drop, V: Drop>(
     let lender = if is_lent { Some(low) } else { None };
     let whole = read.prefix == prefix && read.leaf == lender;
     let beside = below && above && outside;
-    Some(ends && first && last && beside && found && none && len && whole)
+    let goes_on = match inner.next_step(&[b'y'; 32], 0) {
+        Some(step) => {
+            step.byte == b'y' && step.child == high.to_opaque() && step.depth == prefix.len() + 1
+        }
+        None => false,
+    };
+    let stops = inner.next_step(prefix, 0).is_none() && inner.next_step(&[0; 32], 0).is_none();
+    let steps = goes_on && stops;
+    Some(ends && first && last && beside && found && none && steps && len && whole)
 }
 
 // One of the two leaves.

@@ -45,13 +45,18 @@ impl Way {
         arena: &NodeArena<Vec<u8>, Vec<u8>, PREFIX_LEN>,
         key: &[u8; KEY],
     ) {
-        let len = self.len.min(KEY);
-        match step_from(arena, self.name, self.depth, &key[..len]) {
-            Some((name, depth)) => {
-                self.name = name;
-                self.depth = depth;
-            }
-            None => self.goes_on = false,
+        let front = &key[..self.len.min(KEY)];
+        self.goes_on = false;
+        if self.depth > front.len() || !arena.holds(self.name) {
+            return;
+        }
+        let Err(inner) = ArenaReader::new(arena).visit(self.name).leaf() else {
+            return;
+        };
+        if let Some(step) = inner.next_step(front, self.depth) {
+            self.name = step.child;
+            self.depth = step.depth;
+            self.goes_on = true;
         }
     }
 
@@ -62,26 +67,6 @@ impl Way {
             _ => None,
         }
     }
-}
-
-/// The node to which a key goes on from one, and how many of its bytes lead there. A prefix is passed by its length.
-#[inline(always)]
-fn step_from<const PREFIX_LEN: usize>(
-    arena: &NodeArena<Vec<u8>, Vec<u8>, PREFIX_LEN>,
-    name: OpaqueNodePtr,
-    depth: usize,
-    key: &[u8],
-) -> Option<(OpaqueNodePtr, usize)> {
-    if !arena.holds(name) {
-        return None;
-    }
-    let Err(inner) = ArenaReader::new(arena).visit(name).leaf() else {
-        return None;
-    };
-    let depth = depth.checked_add(inner.prefix_len())?;
-    let byte = key.get(depth)?;
-    let child = inner.lookup_child(*byte)?;
-    Some((child, depth + 1))
 }
 
 /// Puts as many bytes of a full key as there is room for, and tells how many.

@@ -58,14 +58,13 @@ fn grow_at<K: AsBytes, V, const PREFIX_LEN: usize>(
     root: OpaqueNodePtr,
     above: Option<(OpaqueNodePtr, u8)>,
     inner: OpaqueNodePtr,
-    byte: u8,
 ) -> Result<Place, AllocError>
-    requires { (leaf : ℕ) × (f : Frame K V) × (outer : List (Frame K V)) × (l : LeafAt K V)
+    requires { (byte : ℕ) × (leaf : ℕ) × (f : Frame K V) × (outer : List (Frame K V)) × (l : LeafAt K V)
         × (rest : List (Name × Cell K V)) × (steps : List Step)
         × AwaitsLeaf K.bytes PREFIX_LEN arena.old rest root inner byte leaf f outer l
         × (take 2 (steps_to outer) ≡ steps) × IsLastOf steps above
         × MustGrow inner.kind (width f.before + width f.after) }
-    ensures ok { IfOk result (λ place. (leaf : ℕ) (f : Frame K V) (outer : List (Frame K V)) (l : LeafAt K V)
+    ensures ok { IfOk result (λ place. (byte leaf : ℕ) (f : Frame K V) (outer : List (Frame K V)) (l : LeafAt K V)
         (rest : List (Name × Cell K V)) (steps : List Step)
         → AwaitsLeaf K.bytes PREFIX_LEN arena.old rest root inner byte leaf f outer l
         → take 2 (steps_to outer) ≡ steps → IsLastOf steps above → MustGrow inner.kind (width f.before + width f.after)
@@ -114,7 +113,7 @@ fn make_room<K: AsBytes, V, const PREFIX_LEN: usize>(
             root: point.root,
         });
     }
-    grow_at(arena, point.root, last_step(point.path), inner, byte)
+    grow_at(arena, point.root, last_step(point.path), inner)
 }
 
 // The leaves beside the place between two neighbouring parts of a tree. Where both are leaves, both are told: then

@@ -7,24 +7,24 @@ use Rattle.art_operations.proofs.insert.into_existing.grow_at.Goals as goal
 pub grow-requires : goal.grow-requires
 grow-requires g c =
     let r = c.requires in
-    let there = node-held _ _ _ _ _ _ _ _ _ _ r.6 in
-    (omega arith, ((open_node g.row.PREFIX_LEN r.1, there, as_many _ _ _ _ _ _ _ _ _ _ r.6 ∙ r.9.0), r.9.1))
+    let there = node-held _ _ _ _ _ _ _ _ _ _ r.7 in
+    (omega arith, ((open_node g.row.PREFIX_LEN r.2, there, as_many _ _ _ _ _ _ _ _ _ _ r.7 ∙ r.10.0), r.10.1))
 
 pub put_below-root-requires : goal.put_below-root-requires
 put_below-root-requires g c =
     let r = c.requires in
-    let copies = c.in_ok-node.ensures.ok _ (node-held _ _ _ _ _ _ _ _ _ _ r.6) in
-    (omega arith, (_, _, _, _, both-held _ _ _ _ _ _ _ _ _ _ r.6 c.grow.new.self _ copies _ r.7, r.8))
+    let copies = c.in_ok-node.ensures.ok _ (node-held _ _ _ _ _ _ _ _ _ _ r.7) in
+    (omega arith, (_, _, _, _, both-held _ _ _ _ _ _ _ _ _ _ r.7 c.grow.new.self _ copies _ r.8, r.9))
 
 pub edit_inner-requires : goal.edit_inner-requires
 edit_inner-requires g c =
     let r = c.requires in
-    let copies = c.in_ok-node.ensures.ok _ (node-held _ _ _ _ _ _ _ _ _ _ r.6) in
-    let moved = c.put_below-root.ensures.holds _ _ _ _ (both-held _ _ _ _ _ _ _ _ _ _ r.6 c.grow.new.self _ copies _ r.7) r.8 in
-    (omega arith, (omega arith, ((open_node g.row.PREFIX_LEN r.1, still-held _ _ _ _ _ _ _ _ _ _ r.6 c.grow.new.self _ copies c.put_below-root.new.arena moved, tt), node-inner _ _ _ _ _ _ _ _ _ _ r.6)))
+    let copies = c.in_ok-node.ensures.ok _ (node-held _ _ _ _ _ _ _ _ _ _ r.7) in
+    let moved = c.put_below-root.ensures.holds _ _ _ _ (both-held _ _ _ _ _ _ _ _ _ _ r.7 c.grow.new.self _ copies _ r.8) r.9 in
+    (omega arith, (omega arith, ((open_node g.row.PREFIX_LEN r.2, still-held _ _ _ _ _ _ _ _ _ _ r.7 c.grow.new.self _ copies c.put_below-root.new.arena moved, tt), node-inner _ _ _ _ _ _ _ _ _ _ r.7)))
 
 pub returns-clause-ok : goal.returns-clause-ok
-returns-clause-ok g c = λ leaf f outer l rest steps awaits path last full.
+returns-clause-ok g c = λ byte leaf f outer l rest steps awaits path last full.
     let there = node-held _ _ _ _ _ _ _ _ _ _ awaits in
     let copies = c.in_ok-node.ensures.ok _ there in
     let stands = both-held _ _ _ _ _ _ _ _ _ _ awaits c.grow.new.self _ copies _ path in
@@ -37,11 +37,11 @@ returns-clause-ok g c = λ leaf f outer l rest steps awaits path last full.
 pub returns-clause-links : goal.returns-clause-links
 returns-clause-links g c =
     let r = c.requires in
-    let copies = c.in_ok-node.ensures.ok _ (node-held _ _ _ _ _ _ _ _ _ _ r.6) in
-    let stands = both-held _ _ _ _ _ _ _ _ _ _ r.6 c.grow.new.self _ copies _ r.7 in
-    let moved = c.put_below-root.ensures.holds _ _ _ _ stands r.8 in
-    same_links _ _ _ _ _ _ _ _ _ _ r.6 c.grow.new.self _ copies c.put_below-root.new.arena moved c.edit_inner.new.self c.put_below-root.ensures.links
-    (c.edit_inner.ensures.updates _ (still-held _ _ _ _ _ _ _ _ _ _ r.6 c.grow.new.self _ copies c.put_below-root.new.arena moved))
+    let copies = c.in_ok-node.ensures.ok _ (node-held _ _ _ _ _ _ _ _ _ _ r.7) in
+    let stands = both-held _ _ _ _ _ _ _ _ _ _ r.7 c.grow.new.self _ copies _ r.8 in
+    let moved = c.put_below-root.ensures.holds _ _ _ _ stands r.9 in
+    same_links _ _ _ _ _ _ _ _ _ _ r.7 c.grow.new.self _ copies c.put_below-root.new.arena moved c.edit_inner.new.self c.put_below-root.ensures.links
+    (c.edit_inner.ensures.updates _ (still-held _ _ _ _ _ _ _ _ _ _ r.7 c.grow.new.self _ copies c.put_below-root.new.arena moved))
 
 pub returns-clause-room : goal.returns-clause-room
 returns-clause-room g c = λ n room. c.edit_inner.ensures.room n (c.put_below-root.ensures.room n (c.grow.ensures.room n room))

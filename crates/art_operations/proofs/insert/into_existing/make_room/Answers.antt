@@ -27,9 +27,9 @@ pub grow_at-requires : goal.grow_at-requires
 grow_at-requires g c =
     let r = c.requires in
     let full = subst (λ m. (length m.children ≡ (row_of c.args.inner.kind).most) × IsSome (row_of c.args.inner.kind).larger) (same_inner _ _ _ c.inner.ensures.value (node-held _ _ _ _ _ _ _ _ _ _ r.5)) (rw c.inner.ensures.kind at (c.may_write.ensures.no c.if-may_write.false)) in
-    (omega arith, (r.0, r.1, r.2, r.3, r.4, steps_of c.args.point.path, r.5, r.6, c.last_step.ensures, (sym (as_many _ _ _ _ _ _ _ _ _ _ r.5) ∙ full.0, full.1)))
+    (omega arith, (c.args.byte, r.0, r.1, r.2, r.3, r.4, steps_of c.args.point.path, r.5, r.6, c.last_step.ensures, (sym (as_many _ _ _ _ _ _ _ _ _ _ r.5) ∙ full.0, full.1)))
 
 pub returns-clause-ok : goal.returns-clause-ok
 returns-clause-ok g c = map_ok c.grow_at.result _ _ c.grow_at.ensures.ok (λ place made. λ leaf f outer l rest awaits path kind.
     let full = subst (λ m. (length m.children ≡ (row_of c.args.inner.kind).most) × IsSome (row_of c.args.inner.kind).larger) (same_inner _ _ _ c.inner.ensures.value (node-held _ _ _ _ _ _ _ _ _ _ awaits)) (rw c.inner.ensures.kind at (c.may_write.ensures.no c.if-may_write.false)) in
-    made leaf f outer l rest (steps_of c.args.point.path) awaits path c.last_step.ensures (sym (as_many _ _ _ _ _ _ _ _ _ _ awaits) ∙ full.0, full.1))
+    made c.args.byte leaf f outer l rest (steps_of c.args.point.path) awaits path c.last_step.ensures (sym (as_many _ _ _ _ _ _ _ _ _ _ awaits) ∙ full.0, full.1))
