@@ -2,7 +2,7 @@
 """./bench: times the tree and the map beside the kit's BTreeMap, all proved, and prints tables with ratios.
 
     ./bench [--sizes 10000,100000] [--sets dense,rand8,rand16,url] [--repeats 5] [--instr] [--walks SIZE]
-        [--ranges SIZE] [--entries SIZE] [--program SIZES] [--perf FOLDER]
+        [--ranges SIZE] [--entries SIZE] [--program SIZES] [--nothing LINES] [--perf FOLDER]
 It proves and builds the libraries where they are not built, and needs nothing but rt and cc. --walks SIZE times walks
 over so many pairs, from the front and from both ends, the check of a tree, its clone and its free. --ranges SIZE times
 ranges of 100 pairs and of one, and walks of the pairs behind a prefix, in maps of so many pairs. --entries SIZE times
@@ -12,14 +12,16 @@ a look-up for writing with an insertion where it finds none. --instr counts inst
 FOLDER: a folder of yardsticks with build.sh, libbench and peers (cargo, valgrind and Debian's libjudy-dev,
 libabsl-dev): its table follows, with unproved peers, and three of them stand in all tables. --program SIZES, which
 needs it, times lines of the program beside its peers (those of the yardsticks, and the unproved tree with a `Vec` for
-each key and value, without and with linked leaves): loads, `get` lines, misses and dumps. --sizes '' leaves look-ups and
-insertions out.
+each key and value, without and with linked leaves): loads, `get` lines, misses and dumps. --nothing LINES, which needs
+it too, times so many lines on an empty index, that is, how they are read and answered (and with --instr counts the
+instructions of 3,000). --sizes '' leaves look-ups and insertions out.
 Standard error tells how far it is. Times are processor time, the least of the repeats, one competitor after the other in
 each; take ratios from one run alone. Of look-ups, insertions and lines two are told: by the least, and by the median of
 the ratios round by round.
 """
 import argparse
 import os
+import random
 import re
 import shutil
 import statistics
@@ -52,6 +54,18 @@ LINES = {"load": 1, "get": 1, "miss": 1, "dump": 2}
 LINE_PEERS = ("btree", "map", "art")
 LINE_TREES = ("art-vec", "art-list")
 LINE_SETS = "dense,rand8,rand16,url,tenants"
+# Of lines that do nothing: the word, whether the digits spell a text, how many there are, and what they end with.
+NOTHING = {
+    "`get`, 23 bytes, random digits": ("get", False, 16, ""),
+    "`get`, 155 bytes, text in digits": ("get", True, 148, ""),
+    "`get`, 181 bytes, text in digits": ("get", True, 174, ""),
+    "`get`, 181 bytes, random digits": ("get", False, 174, ""),
+    "`bad` by its word, 23 bytes": ("gex", False, 16, ""),
+    "`bad` by its word, 181 bytes": ("gex", False, 174, ""),
+    "`bad` by its last digit, 23 bytes": ("get", False, 15, "g"),
+    "`bad` by its last digit, 181 bytes": ("get", False, 173, "g"),
+}
+NOTHING_PEERS = ("btree", "map", "judy", "art")
 NO_WALKS = {"tree"}
 NO_LINKS = {"art-vec"}
 PARTS = ("src", "specs", "proofs")
@@ -344,6 +358,54 @@ def program(folder, asked):
                 print(f"| {key_set} | {it} | {' | '.join(shown)} |", flush=True)
 
 
+def digits(source, is_text, number):
+    """So many digits, random ones or those of a text."""
+    spelt = "".join(source.choice("0123456789abcdef") for _ in range(number))
+    if is_text:
+        text = f"https://www.example.org/group/{source.randrange(30)}/item/{source.randrange(100000)}?session={spelt}"
+        spelt = text.encode().hex()[:number]
+    return spelt
+
+
+def instructions_of_program(path, script):
+    words = ["valgrind", "--tool=callgrind", "--callgrind-out-file=/dev/null", path]
+    with open(script, "rb") as file:
+        ran = subprocess.run(words, stdin=file, stdout=subprocess.DEVNULL, stderr=subprocess.PIPE, check=True)
+    return int(re.search(rb"Collected : (\d+)", ran.stderr)[1])
+
+
+def nothing(folder, asked):
+    """Lines that do nothing, on an empty index: nanoseconds a line beside the peers, or instructions."""
+    tell("proving and building art_index, where it is not built")
+    called([os.environ.get("RT", "rt"), "run"], cwd="crates/art_index", stdin=subprocess.DEVNULL)
+    programs = {it: f"{folder}/bin/peer_{it}" for it in NOTHING_PEERS if os.path.exists(f"{folder}/bin/peer_{it}")}
+    programs["here"] = os.path.abspath("crates/art_index/out/art_index")
+    script, none = f"{folder}/lines", f"{folder}/none"
+    open(none, "w").close()
+    source = random.Random(5)
+    for counts in (False, True) if asked.instr else (False,):
+        number = 3000 if counts else asked.nothing
+        idle = {name: instructions_of_program(path, none) for name, path in programs.items()} if counts else {}
+        print(f"\n{number} lines on an empty index, {'instructions' if counts else 'nanoseconds'} a line:\n")
+        print(f"| Line | {' | '.join(programs)} | to the least |\n|---|{'---:|' * (len(programs) + 1)}")
+        for shown, (word, is_text, many, last) in NOTHING.items():
+            with open(script, "w") as file:
+                file.writelines(f"{word} 0 {digits(source, is_text, many)}{last}\n" for _ in range(number))
+            costs = {name: [] for name in programs}
+            for turn in range(1 if counts else asked.repeats):
+                for name in in_turn(programs, turn):
+                    if counts:
+                        cost = (instructions_of_program(programs[name], script) - idle[name]) / number
+                    else:
+                        meas = [f"{folder}/bin/meas", none, script, "/dev/null", programs[name]]
+                        cost = float(called(meas).split()[2]) * 1e9 / number
+                    costs[name].append(cost)
+            least = {name: min(told) for name, told in costs.items()}
+            best = min(cost for name, cost in least.items() if name != "here")
+            row = " | ".join(f"{cost:.0f}" for cost in least.values())
+            print(f"| {shown} | {row} | {least['here'] / best:.2f} |", flush=True)
+
+
 def walk_instructions(folder, made, asked):
     """The same two tables in instructions and misses, at the size of --instr."""
     size, made, rows = asked.instr_size, {name: path for name, path in made.items() if name not in NO_WALKS}, []
@@ -422,18 +484,22 @@ def main():
     parser.add_argument("--ranges", type=int, default=0)
     parser.add_argument("--entries", type=int, default=0)
     parser.add_argument("--program", default="")
+    parser.add_argument("--nothing", type=int, default=0)
     parser.add_argument("--instr", action="store_true")
     parser.add_argument("--instr-size", type=int, default=10000)
     parser.add_argument("--perf")
     asked = parser.parse_args()
     sizes = [int(it) for it in asked.sizes.split(",") if it]
     with tempfile.TemporaryDirectory() as folder:
-        made, peers = build(folder) if any((sizes, asked.walks, asked.ranges, asked.entries, asked.instr)) else {}, {}
+        counts_maps = asked.instr and not asked.nothing
+        made, peers = build(folder) if any((sizes, asked.walks, asked.ranges, asked.entries, counts_maps)) else {}, {}
         if asked.perf:
             tell("building the yardsticks and their peers")
             peers = yardsticks(folder, asked.perf)
         if asked.program:
             program(folder, asked)
+        if asked.nothing:
+            nothing(folder, asked)
         every = {**made, **peers}
         if sizes:
             look_ups(folder, every, asked, sizes)
@@ -443,7 +509,7 @@ def main():
             ranges(folder, every, asked)
         if asked.entries:
             entries(folder, every, asked)
-        if asked.instr:
+        if asked.instr and made:
             print(f"\nOf an insertion and of a look-up, {asked.instr_size} keys: instructions, misses of L1 and of L2:\n")
             print("| Keys | Map | insertion | L1 | L2 | look-up | L1 | L2 |\n|---|---|---:|---:|---:|---:|---:|---:|")
             for key_set in asked.sets.split(","):
