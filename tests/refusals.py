@@ -20,11 +20,18 @@ import sys
 import tempfile
 from glob import glob
 
+import maps
+
 SCENARIOS, PROGRAM, REFUSED, CONFLICT = "refusals", "art_index", b"memory\n", b"conflict\n"
 # A scenario or test whose name ends so must ask for nothing in its window, and each other must ask for something.
 NO_MEMORY = "takes_no_memory"
 # The command words of the lines that may be answered by `memory`, unless they are answered `conflict`.
 MAY_REFUSE = {b"put"}
+# Calls of the map that take out several pairs, and calls that take no memory.
+SEVERAL = {"retain", "extract_if", "extraction"}
+TAKE_NONE = {"len", "is_empty", "get", "get_key_value", "contains_key", "index", "prefix_get", "prefix_get_key_value"}
+TAKE_NONE |= {"first_key_value", "last_key_value", "get_mut", "prefix_get_mut", "prefix_get_key_value_mut", "clear"}
+TAKE_NONE |= {"iter", "keys", "values", "range", "prefix", "range_mut", "prefix_mut", "iter_mut", "values_mut"}
 SHIM = os.path.abspath("out/refuse.so")
 word = sys.argv[1] if len(sys.argv) > 1 else ""
 counts, runs = {True: 0, False: 0}, 0
@@ -152,6 +159,42 @@ def of_program(by):
         count(program, f"line {at + 1}, {line.decode().strip()[:60]}", one_line, [program], lines, at)
 
 
+def played(model, lines):
+    return "".join(f"{model.answer(it)}\n" for it in lines).encode()
+
+
+def one_call(words, kind, lines, at):
+    """A line of a script stands twice, and is refused the first time: all else must be as if it stood once. Of a line
+    that takes out several pairs, those before the refused one are gone, and those behind it stand."""
+    model = maps.Model(kind == "ended")
+    before, held = played(model, lines[:at]), model.pairs
+    twice = "".join(f"{it}\n" for it in [words[1], *lines[: at + 1], *lines[at:]]).encode()
+    for label, out, *_ in each_refusal(words[:1], line=at + 2, given=twice):
+        rest, call = out[len(before) :], lines[at].split(" ")[0]
+        if call in SEVERAL:
+            wanted = {}
+            for refuse in range(1, len(held) + 1):
+                model = maps.Model(kind == "ended", held, refuse)
+                wanted.setdefault(played(model, lines[at : at + 1]) + played(model.again(), lines[at:]), refuse)
+            assert rest in wanted, f"{label}: it answers {rest[:300]}"
+            continue
+        refusal, _, rest = rest.partition(b"\n")
+        wanted = played(maps.Model(kind == "ended", held), lines[at:])
+        assert re.match(rb"memory\b|no key", refusal) and call not in TAKE_NONE, f"{label}: it answers {refusal}"
+        assert out.startswith(before) and rest == wanted, f"{label}: behind it {rest[:300]}, and not {wanted[:300]}"
+
+
+def of_players(by):
+    """The scripts of the map, and some more that are made at random."""
+    for name, kind, lines in maps.scripts():
+        if name.startswith("random") and int(name.split()[1]) > 3:
+            continue
+        lines = lines[:60]
+        for at in range(len(lines)):
+            words = [f"crates/play_map/out/play_map{by}", f"map 4 {kind}"]
+            count("play_map", f"{name}, line {at + 1}, {lines[at][:40]}", one_call, words, kind, lines, at)
+
+
 resource.setrlimit(resource.RLIMIT_CORE, (0, 0))
 os.makedirs("out", exist_ok=True)
 subprocess.run(["cc", "-O2", "-Wall", "-shared", "-fPIC", "-o", SHIM, "tests/refuse.c"], check=True)
@@ -159,5 +202,6 @@ of_tests()
 for by in ("", ".by-rattle"):  # as LLVM builds them, and as Rattle's own compiler does
     of_scenarios(by)
     of_program(by)
+    of_players(by)
 print(f"{counts[True]} passed, {counts[False]} failed")
 sys.exit(bool(counts[False]) or not counts[True])

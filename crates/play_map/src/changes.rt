@@ -1,0 +1,104 @@
+// Insertions and removals.
+
+use crate::key::PlayedKey;
+use crate::script::Asked;
+use art_bytes::{AsBytes, SliceKey};
+use art_map::{TreeMap, TryInsertError};
+use std::alloc::AllocError;
+use std::io;
+
+/// Prints a pair that left the map, or why none did.
+pub fn show_taken<K: PlayedKey>(
+    rt: &impl Print,
+    taken: Result<Option<(K, u64)>, AllocError>,
+) -> io::Result<()> {
+    match taken {
+        Ok(Some((key, value))) => println!(rt; "{:?} {value}", key.as_bytes()),
+        Ok(None) => println!(rt; "None"),
+        Err(_) => println!(rt; "memory"),
+    }
+}
+
+/// Prints the pair of an entry.
+pub fn show_stored<K: AsBytes>(rt: &impl Print, key: &K, value: u64) -> io::Result<()> {
+    println!(rt; "{:?} {value}", key.as_bytes())
+}
+
+/// Prints the key of an entry behind a word.
+pub fn show_key<K: AsBytes>(rt: &impl Print, word: &str, key: &K) -> io::Result<()> {
+    println!(rt; "{word}{:?}", key.as_bytes())
+}
+
+/// Prints that an insertion found no memory, and the pair that it hands back.
+pub fn show_refused<K: PlayedKey>(rt: &impl Print, key: K, value: u64) -> io::Result<()> {
+    println!(rt; "memory {:?} {value}", key.as_bytes())
+}
+
+fn try_insert<K: PlayedKey, const PREFIX_LEN: usize>(
+    rt: &impl Print,
+    map: &mut TreeMap<K, u64, PREFIX_LEN>,
+    key: K,
+    value: u64,
+) -> io::Result<()> {
+    match map.try_insert(key, value) {
+        Ok(old) => println!(rt; "{old:?}"),
+        Err(TryInsertError::Prefix { key, value, error }) => println!(rt;
+            "prefix {:?} {value}, {:?}",
+            key.as_bytes(),
+            error.byte_repr.bytes()
+        ),
+        Err(TryInsertError::Memory { key, value }) => show_refused(rt, key, value),
+    }
+}
+
+fn prefix_insert<K: PlayedKey, const PREFIX_LEN: usize>(
+    rt: &impl Print,
+    map: &mut TreeMap<K, u64, PREFIX_LEN>,
+    key: K,
+    value: u64,
+) -> io::Result<()> {
+    match map.prefix_insert(key, value) {
+        Ok(removed) => println!(rt; "{removed}"),
+        Err(refused) => show_refused(rt, refused.key, refused.value),
+    }
+}
+
+// Removals, which hand in no key.
+fn remove<K: PlayedKey, const PREFIX_LEN: usize>(
+    rt: &impl Print,
+    map: &mut TreeMap<K, u64, PREFIX_LEN>,
+    asked: &Asked<'_>,
+) -> io::Result<bool> {
+    let query = SliceKey(asked.first);
+    match asked.call {
+        "clear" => {
+            map.clear();
+            println!(rt; "done")?;
+        }
+        "remove" => match map.remove(&query) {
+            Ok(value) => println!(rt; "{value:?}")?,
+            Err(_) => println!(rt; "memory")?,
+        },
+        "remove_entry" => show_taken(rt, map.remove_entry(&query))?,
+        "pop_first" => show_taken(rt, map.pop_first())?,
+        "pop_last" => show_taken(rt, map.pop_last())?,
+        _ => return Ok(false),
+    }
+    Ok(true)
+}
+
+pub fn answer<K: PlayedKey, const PREFIX_LEN: usize>(
+    rt: &(impl Print + AllocGlobal),
+    map: &mut TreeMap<K, u64, PREFIX_LEN>,
+    asked: &Asked<'_>,
+) -> io::Result<bool> {
+    if asked.call != "try_insert" && asked.call != "prefix_insert" {
+        return remove(rt, map, asked);
+    }
+    match K::made(rt.alloc(), asked.first) {
+        Ok(key) if asked.call == "try_insert" => try_insert(rt, map, key, asked.number(1))?,
+        Ok(key) => prefix_insert(rt, map, key, asked.number(1))?,
+        Err(_) => println!(rt; "no key")?,
+    }
+    Ok(true)
+}

@@ -1,0 +1,218 @@
+// Entries of keys none of which is a front of another, and `insert`.
+
+use crate::changes::{show_key, show_refused, show_stored};
+use crate::key::PlayedKey;
+use crate::script::Asked;
+use art_bytes::{AsBytes, ZeroEnded};
+use art_map::{Entry, TreeMap};
+use std::io;
+
+// Prints the value that an entry lends, and writes another.
+macro_rules! show_lent {
+    ($rt:ident, $lent:expr, $next:ident) => {
+        match $lent {
+            Ok(value) => {
+                let old = *value;
+                *value = $next;
+                println!($rt; "{old}")
+            }
+            Err(refused) => show_refused($rt, refused.key, refused.value),
+        }
+    };
+}
+
+// Prints the pair of an occupied entry, and writes another value.
+macro_rules! show_filled {
+    ($rt:ident, $filled:expr, $next:ident) => {
+        match $filled {
+            Ok(mut entry) => {
+                show_stored($rt, entry.key(), *entry.get())?;
+                *entry.get_mut() = $next;
+                Ok(())
+            }
+            Err(refused) => show_refused($rt, refused.key, refused.value),
+        }
+    };
+}
+
+// Calls that lend the value that stands at a key then.
+fn lend<const PREFIX_LEN: usize>(
+    rt: &impl Print,
+    map: &mut TreeMap<ZeroEnded, u64, PREFIX_LEN>,
+    key: ZeroEnded,
+    call: &str,
+    number: u64,
+) -> io::Result<()> {
+    let next = number.wrapping_add(1);
+    match call {
+        "or_insert" => show_lent!(rt, map.entry(key).or_insert(number), next),
+        "or_default" => show_lent!(rt, map.entry(key).or_default(), next),
+        "or_insert_with" => show_lent!(rt, map.entry(key).or_insert_with(|| number), next),
+        _ => show_lent!(
+            rt,
+            map.entry(key)
+                .or_insert_with_key(|key| key.as_bytes().len() as u64),
+            next
+        ),
+    }
+}
+
+// Calls that answer the entry of what stands at a key then.
+fn fill<const PREFIX_LEN: usize>(
+    rt: &impl Print,
+    map: &mut TreeMap<ZeroEnded, u64, PREFIX_LEN>,
+    key: ZeroEnded,
+    call: &str,
+    number: u64,
+) -> io::Result<()> {
+    let next = number.wrapping_add(1);
+    match call {
+        "or_insert_entry" => show_filled!(rt, map.entry(key).or_insert_entry(number), next),
+        "or_default_entry" => show_filled!(rt, map.entry(key).or_default_entry(), next),
+        "or_insert_with_entry" => show_filled!(
+            rt,
+            map.entry(key).or_insert_with_entry(|| number),
+            next
+        ),
+        "or_insert_with_key_entry" => {
+            show_filled!(
+                rt,
+                map.entry(key)
+                    .or_insert_with_key_entry(|key| key.as_bytes().len() as u64),
+                next
+            )
+        }
+        _ => show_filled!(rt, map.entry(key).insert_entry(number), next),
+    }
+}
+
+// Takes the pair of an entry out, its key with it or not.
+fn remove<const PREFIX_LEN: usize>(
+    rt: &impl Print,
+    map: &mut TreeMap<ZeroEnded, u64, PREFIX_LEN>,
+    key: ZeroEnded,
+    call: &str,
+) -> io::Result<()> {
+    match map.entry(key) {
+        Entry::Occupied(entry) if call == "entry_remove" => match entry.remove() {
+            Ok(value) => println!(rt; "{value}"),
+            Err(_) => println!(rt; "memory"),
+        },
+        Entry::Occupied(entry) => match entry.remove_entry() {
+            Ok((key, value)) => println!(rt; "{:?} {value}", key.as_bytes()),
+            Err(_) => println!(rt; "memory"),
+        },
+        Entry::Vacant(entry) => show_key(rt, "vacant ", entry.key()),
+    }
+}
+
+// Writes the value of an entry, or where it is vacant puts one in.
+fn write<const PREFIX_LEN: usize>(
+    rt: &impl Print,
+    map: &mut TreeMap<ZeroEnded, u64, PREFIX_LEN>,
+    key: ZeroEnded,
+    number: u64,
+) -> io::Result<()> {
+    match map.entry(key) {
+        Entry::Occupied(mut entry) => println!(rt; "{}", entry.insert(number)),
+        Entry::Vacant(entry) => match entry.insert(number) {
+            Ok(value) => println!(rt; "{value}"),
+            Err(refused) => show_refused(rt, refused.key, refused.value),
+        },
+    }
+}
+
+// The value of an occupied entry, lent for writing.
+fn lend_occupied<const PREFIX_LEN: usize>(
+    rt: &impl Print,
+    map: &mut TreeMap<ZeroEnded, u64, PREFIX_LEN>,
+    key: ZeroEnded,
+    number: u64,
+) -> io::Result<()> {
+    match map.entry(key) {
+        Entry::Occupied(entry) => {
+            let value = entry.into_mut();
+            let old = *value;
+            *value = number;
+            println!(rt; "{old}")
+        }
+        Entry::Vacant(entry) => show_key(rt, "vacant ", entry.key()),
+    }
+}
+
+fn insert<const PREFIX_LEN: usize>(
+    rt: &impl Print,
+    map: &mut TreeMap<ZeroEnded, u64, PREFIX_LEN>,
+    key: ZeroEnded,
+    number: u64,
+) -> io::Result<()> {
+    match map.insert(key, number) {
+        Ok(old) => println!(rt; "{old:?}"),
+        Err(refused) => show_refused(rt, refused.key, refused.value),
+    }
+}
+
+const LENDING: [&str; 4] = [
+    "or_insert",
+    "or_default",
+    "or_insert_with",
+    "or_insert_with_key",
+];
+
+const FILLING: [&str; 5] = [
+    "or_insert_entry",
+    "or_default_entry",
+    "or_insert_with_entry",
+    "or_insert_with_key_entry",
+    "insert_entry",
+];
+
+const OTHERS: [&str; 6] = [
+    "insert",
+    "and_modify",
+    "entry_insert",
+    "entry_remove",
+    "entry_remove_entry",
+    "into_mut",
+];
+
+fn with_key<const PREFIX_LEN: usize>(
+    rt: &impl Print,
+    map: &mut TreeMap<ZeroEnded, u64, PREFIX_LEN>,
+    key: ZeroEnded,
+    call: &str,
+    number: u64,
+) -> io::Result<()> {
+    if LENDING.contains(&call) {
+        return lend(rt, map, key, call, number);
+    }
+    match call {
+        "insert" => insert(rt, map, key, number),
+        "and_modify" => {
+            let entry = map
+                .entry(key)
+                .and_modify(|value| *value = value.wrapping_add(number));
+            show_key(rt, "", entry.key())
+        }
+        "entry_insert" => write(rt, map, key, number),
+        "entry_remove" | "entry_remove_entry" => remove(rt, map, key, call),
+        "into_mut" => lend_occupied(rt, map, key, number),
+        _ => fill(rt, map, key, call, number),
+    }
+}
+
+pub fn answer<const PREFIX_LEN: usize>(
+    rt: &(impl Print + AllocGlobal),
+    map: &mut TreeMap<ZeroEnded, u64, PREFIX_LEN>,
+    asked: &Asked<'_>,
+) -> io::Result<bool> {
+    let call = asked.call;
+    if !LENDING.contains(&call) && !FILLING.contains(&call) && !OTHERS.contains(&call) {
+        return Ok(false);
+    }
+    match ZeroEnded::made(rt.alloc(), asked.first) {
+        Ok(key) => with_key(rt, map, key, call, asked.number(1))?,
+        Err(_) => println!(rt; "no key")?,
+    }
+    Ok(true)
+}

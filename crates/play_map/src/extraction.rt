@@ -1,0 +1,104 @@
+// Pairs that leave the map from both ends of a range: by hand, by a closure, and all that a closure does not keep.
+
+use crate::changes::show_taken;
+use crate::key::PlayedKey;
+use crate::script::{Asked, bound_of};
+use art_bytes::SliceKey;
+use art_map::{Extraction, TreeMap};
+use art_walks::bounds_are_valid;
+use std::io;
+
+// Looks at the pair at an end and then takes it out or passes it, as a letter tells: `f` and `b` take it out, `p` and
+// `q` pass it, from the front and from the back; before that one is added to its value.
+fn step<K: PlayedKey, const PREFIX_LEN: usize>(
+    rt: &impl Print,
+    pairs: &mut Extraction<'_, K, u64, PREFIX_LEN>,
+    letter: u8,
+) -> io::Result<()> {
+    let is_back = letter == b'b' || letter == b'q';
+    let lent = if is_back { pairs.back() } else { pairs.front() };
+    match lent {
+        Some(value) => *value = value.wrapping_add(1),
+        None => return print!(rt; "None, "),
+    }
+    if pairs.is_empty() {
+        return Ok(());
+    }
+    match letter {
+        b'p' => pairs.pass_front(),
+        b'q' => pairs.pass_back(),
+        b'b' => return show_taken(rt, pairs.take_back().map(Some)),
+        _ => return show_taken(rt, pairs.take_front().map(Some)),
+    }
+    print!(rt; "passed, ")
+}
+
+fn extract<K: PlayedKey, const PREFIX_LEN: usize>(
+    rt: &impl Print,
+    map: &mut TreeMap<K, u64, PREFIX_LEN>,
+    asked: &Asked<'_>,
+) -> io::Result<()> {
+    let (first, second) = (SliceKey(asked.first), SliceKey(asked.second));
+    let start = bound_of(asked.words[0], &first);
+    let end = bound_of(asked.words[1], &second);
+    if !bounds_are_valid(start, end) {
+        return println!(rt; "invalid");
+    }
+    let mut pairs = map.extraction(start, end);
+    for letter in asked.words[2].bytes() {
+        step(rt, &mut pairs, letter)?;
+    }
+    println!(rt; "end")
+}
+
+// Takes out what is at least a number, from the ends that letters tell.
+fn extract_if<K: PlayedKey, const PREFIX_LEN: usize>(
+    rt: &impl Print,
+    map: &mut TreeMap<K, u64, PREFIX_LEN>,
+    asked: &Asked<'_>,
+) -> io::Result<()> {
+    let (first, second) = (SliceKey(asked.first), SliceKey(asked.second));
+    let start = bound_of(asked.words[0], &first);
+    let end = bound_of(asked.words[1], &second);
+    if !bounds_are_valid(start, end) {
+        return println!(rt; "invalid");
+    }
+    let least = asked.number(3);
+    let mut pairs = map.extract_if(start, end, |_, value| {
+        *value = value.wrapping_add(1);
+        *value >= least
+    });
+    for letter in asked.words[2].bytes() {
+        let taken = if letter == b'b' {
+            pairs.next_back()
+        } else {
+            pairs.next()
+        };
+        match taken {
+            Some(taken) => show_taken(rt, taken.map(Some))?,
+            None => println!(rt; "None")?,
+        }
+    }
+    println!(rt; "end")
+}
+
+pub fn answer<K: PlayedKey, const PREFIX_LEN: usize>(
+    rt: &(impl Print + AllocGlobal),
+    map: &mut TreeMap<K, u64, PREFIX_LEN>,
+    asked: &Asked<'_>,
+) -> io::Result<bool> {
+    match asked.call {
+        "extraction" => extract(rt, map, asked)?,
+        "extract_if" => extract_if(rt, map, asked)?,
+        "retain" => {
+            let least = asked.number(0);
+            let kept = map.retain(|_, value| {
+                *value = value.wrapping_add(1);
+                *value >= least
+            });
+            println!(rt; "{}", if kept.is_ok() { "done" } else { "memory" })?;
+        }
+        _ => return Ok(false),
+    }
+    Ok(true)
+}

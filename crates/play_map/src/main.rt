@@ -1,0 +1,122 @@
+// Plays a script of calls of the map, and prints what each answers. Its lines stand in tests/map; what is wanted of
+// them is made from a model apart from the code (tests/maps.py), and the runner that refuses memory opens a window at
+// each line in turn. The first line says which map: `map PREFIX_LEN free` (keys of any bytes) or `map PREFIX_LEN ended`
+// (keys with a zero at the end, so that none is a front of another).
+//
+// A line is a word and up to four others, parted by single spaces. Bytes are written in lower case digits, in parts
+// with a point between them, each behind a `*` so many times: `aa*20.01`; `-` is no bytes. A bound is `[` or `(` and
+// bytes, or `*`. What takes pairs from both ends is told from which by letters, `f` and `b`.
+#![tactic(auto)]
+
+mod changes;
+mod entries;
+mod extraction;
+mod key;
+mod lookups;
+mod prefix_entries;
+mod script;
+mod walks;
+
+use art_bytes::ZeroEnded;
+use art_map::TreeMap;
+use key::PlayedKey;
+use script::{Asked, Script};
+use std::io;
+
+// Answers a line, of calls that any map has.
+fn answer<K: PlayedKey, const PREFIX_LEN: usize>(
+    rt: &(impl Print + AllocGlobal),
+    map: &mut TreeMap<K, u64, PREFIX_LEN>,
+    asked: &Asked<'_>,
+) -> io::Result<bool> {
+    Ok(
+        lookups::answer(rt, map, asked)?
+            || changes::answer(rt, map, asked)?
+            || walks::answer(rt, map, asked)?
+            || extraction::answer(rt, map, asked)?,
+    )
+}
+
+// Plays all lines over a map of keys of any bytes.
+fn play_free<const PREFIX_LEN: usize>(
+    rt: &(impl Print + AllocGlobal),
+    script: &mut Script,
+    map: &mut TreeMap<Vec<u8>, u64, PREFIX_LEN>,
+) -> io::Result<()> {
+    for _ in 0..u64::MAX {
+        if !script.read()? {
+            break;
+        }
+        let asked = script.asked();
+        let known = prefix_entries::answer(rt, map, &asked)? || answer(rt, map, &asked)?;
+        if !known {
+            println!(rt; "not understood")?;
+        }
+    }
+    Ok(())
+}
+
+// The same over a map of keys none of which is a front of another, which has more calls.
+fn play_ended<const PREFIX_LEN: usize>(
+    rt: &(impl Print + AllocGlobal),
+    script: &mut Script,
+    map: &mut TreeMap<ZeroEnded, u64, PREFIX_LEN>,
+) -> io::Result<()> {
+    for _ in 0..u64::MAX {
+        if !script.read()? {
+            break;
+        }
+        let asked = script.asked();
+        let known = entries::answer(rt, map, &asked)? || answer(rt, map, &asked)?;
+        if !known {
+            println!(rt; "not understood")?;
+        }
+    }
+    Ok(())
+}
+
+fn free_0(rt: &(impl Print + AllocGlobal), script: &mut Script) -> io::Result<()> {
+    let mut map: TreeMap<Vec<u8>, u64, 0> = TreeMap::with_prefix_len(rt.alloc());
+    play_free(rt, script, &mut map)
+}
+
+fn free_4(rt: &(impl Print + AllocGlobal), script: &mut Script) -> io::Result<()> {
+    let mut map: TreeMap<Vec<u8>, u64, 4> = TreeMap::with_prefix_len(rt.alloc());
+    play_free(rt, script, &mut map)
+}
+
+fn free_16(rt: &(impl Print + AllocGlobal), script: &mut Script) -> io::Result<()> {
+    let mut map: TreeMap<Vec<u8>, u64, 16> = TreeMap::new(rt.alloc());
+    play_free(rt, script, &mut map)
+}
+
+fn ended_0(rt: &(impl Print + AllocGlobal), script: &mut Script) -> io::Result<()> {
+    let mut map: TreeMap<ZeroEnded, u64, 0> = TreeMap::with_prefix_len(rt.alloc());
+    play_ended(rt, script, &mut map)
+}
+
+fn ended_4(rt: &(impl Print + AllocGlobal), script: &mut Script) -> io::Result<()> {
+    let mut map: TreeMap<ZeroEnded, u64, 4> = TreeMap::with_prefix_len(rt.alloc());
+    play_ended(rt, script, &mut map)
+}
+
+fn ended_16(rt: &(impl Print + AllocGlobal), script: &mut Script) -> io::Result<()> {
+    let mut map: TreeMap<ZeroEnded, u64, 16> = TreeMap::new(rt.alloc());
+    play_ended(rt, script, &mut map)
+}
+
+fn main(rt: HostRuntime) -> io::Result<()> {
+    let mut script = Script::new(rt.alloc(), rt.stdin())?;
+    if !script.read()? {
+        return Ok(());
+    }
+    match script.line() {
+        "map 0 free" => free_0(&rt, &mut script),
+        "map 4 free" => free_4(&rt, &mut script),
+        "map 16 free" => free_16(&rt, &mut script),
+        "map 0 ended" => ended_0(&rt, &mut script),
+        "map 4 ended" => ended_4(&rt, &mut script),
+        "map 16 ended" => ended_16(&rt, &mut script),
+        _ => println!(rt; "not understood"),
+    }
+}

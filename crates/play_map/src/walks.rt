@@ -1,0 +1,221 @@
+// Walks, from both ends as letters tell: pairs, keys, values, ranges and prefixes, and those that lend values.
+
+use crate::key::PlayedKey;
+use crate::script::{Asked, bound_of};
+use art_bytes::{AsBytes, SliceKey};
+use art_map::TreeMap;
+use art_walks::{Iter, Keys, Prefix, Range, Values, bounds_are_valid};
+use std::io;
+
+/// Prints a pair in a list.
+pub fn show_in_list<K: AsBytes>(rt: &impl Print, pair: Option<(&K, &u64)>) -> io::Result<()> {
+    match pair {
+        Some((key, value)) => print!(rt; "{:?} {value}, ", key.as_bytes()),
+        None => print!(rt; "None, "),
+    }
+}
+
+fn show_iter<K: AsBytes, const PREFIX_LEN: usize>(
+    rt: &impl Print,
+    mut walk: Iter<'_, K, u64, PREFIX_LEN>,
+    ends: &str,
+) -> io::Result<()> {
+    for end in ends.bytes() {
+        print!(rt; "{} ", walk.len())?;
+        let pair = if end == b'b' {
+            walk.next_back()
+        } else {
+            walk.next()
+        };
+        show_in_list(rt, pair)?;
+    }
+    println!(rt; "end")
+}
+
+fn show_keys<K: AsBytes, const PREFIX_LEN: usize>(
+    rt: &impl Print,
+    mut walk: Keys<'_, K, u64, PREFIX_LEN>,
+    ends: &str,
+) -> io::Result<()> {
+    for end in ends.bytes() {
+        let key = if end == b'b' {
+            walk.next_back()
+        } else {
+            walk.next()
+        };
+        match key {
+            Some(key) => print!(rt; "{} {:?}, ", walk.len(), key.as_bytes())?,
+            None => print!(rt; "None, ")?,
+        }
+    }
+    println!(rt; "end")
+}
+
+fn show_values<K: AsBytes, const PREFIX_LEN: usize>(
+    rt: &impl Print,
+    mut walk: Values<'_, K, u64, PREFIX_LEN>,
+    ends: &str,
+) -> io::Result<()> {
+    for end in ends.bytes() {
+        let value = if end == b'b' {
+            walk.next_back()
+        } else {
+            walk.next()
+        };
+        print!(rt; "{} {value:?}, ", walk.len())?;
+    }
+    println!(rt; "end")
+}
+
+fn show_range<K: AsBytes, const PREFIX_LEN: usize>(
+    rt: &impl Print,
+    mut walk: Range<'_, K, u64, PREFIX_LEN>,
+    ends: &str,
+) -> io::Result<()> {
+    for end in ends.bytes() {
+        let pair = if end == b'b' {
+            walk.next_back()
+        } else {
+            walk.next()
+        };
+        show_in_list(rt, pair)?;
+    }
+    println!(rt; "end")
+}
+
+fn show_prefix<K: AsBytes, const PREFIX_LEN: usize>(
+    rt: &impl Print,
+    mut walk: Prefix<'_, K, u64, PREFIX_LEN>,
+    ends: &str,
+) -> io::Result<()> {
+    for end in ends.bytes() {
+        let pair = if end == b'b' {
+            walk.next_back()
+        } else {
+            walk.next()
+        };
+        show_in_list(rt, pair)?;
+    }
+    println!(rt; "end")
+}
+
+// A range, where its bounds are valid.
+fn range<K: PlayedKey, const PREFIX_LEN: usize>(
+    rt: &impl Print,
+    map: &TreeMap<K, u64, PREFIX_LEN>,
+    asked: &Asked<'_>,
+) -> io::Result<()> {
+    let (first, second) = (SliceKey(asked.first), SliceKey(asked.second));
+    let start = bound_of(asked.words[0], &first);
+    let end = bound_of(asked.words[1], &second);
+    if bounds_are_valid(start, end) {
+        show_range(rt, map.range(start, end), asked.words[2])
+    } else {
+        println!(rt; "invalid")
+    }
+}
+
+// Adds a number to each value that a range lends, from the ends that are told, and prints what was there.
+fn range_mut<K: PlayedKey, const PREFIX_LEN: usize>(
+    rt: &impl Print,
+    map: &mut TreeMap<K, u64, PREFIX_LEN>,
+    asked: &Asked<'_>,
+) -> io::Result<()> {
+    let (first, second) = (SliceKey(asked.first), SliceKey(asked.second));
+    let start = bound_of(asked.words[0], &first);
+    let end = bound_of(asked.words[1], &second);
+    if !bounds_are_valid(start, end) {
+        return println!(rt; "invalid");
+    }
+    let mut walk = map.range_mut(start, end);
+    for end in asked.words[2].bytes() {
+        let value = if end == b'b' {
+            walk.next_back()
+        } else {
+            walk.next()
+        };
+        raise(rt, value, asked.number(3))?;
+    }
+    println!(rt; "end")
+}
+
+// Adds a number to a value that is lent, and prints what was there.
+fn raise(rt: &impl Print, lent: Option<&mut u64>, number: u64) -> io::Result<()> {
+    match lent {
+        Some(value) => {
+            let old = *value;
+            *value = old.wrapping_add(number);
+            print!(rt; "{old}, ")
+        }
+        None => print!(rt; "None, "),
+    }
+}
+
+// Walks that lend values for writing.
+fn write<K: PlayedKey, const PREFIX_LEN: usize>(
+    rt: &impl Print,
+    map: &mut TreeMap<K, u64, PREFIX_LEN>,
+    asked: &Asked<'_>,
+) -> io::Result<bool> {
+    let number = asked.number(1);
+    match asked.call {
+        "range_mut" => range_mut(rt, map, asked)?,
+        "prefix_mut" => {
+            let query = SliceKey(asked.first);
+            let mut walk = map.prefix_mut(&query);
+            for end in asked.words[2].bytes() {
+                let value = if end == b'b' {
+                    walk.next_back()
+                } else {
+                    walk.next()
+                };
+                raise(rt, value, number)?;
+            }
+            println!(rt; "end")?;
+        }
+        "iter_mut" => {
+            let mut walk = map.iter_mut();
+            for end in asked.words[0].bytes() {
+                print!(rt; "{} ", walk.len())?;
+                let value = if end == b'b' {
+                    walk.next_back()
+                } else {
+                    walk.next()
+                };
+                raise(rt, value, number)?;
+            }
+            println!(rt; "end")?;
+        }
+        "values_mut" => {
+            let mut walk = map.values_mut();
+            for end in asked.words[0].bytes() {
+                print!(rt; "{} ", walk.len())?;
+                let value = if end == b'b' {
+                    walk.next_back()
+                } else {
+                    walk.next()
+                };
+                raise(rt, value, number)?;
+            }
+            println!(rt; "end")?;
+        }
+        _ => return Ok(false),
+    }
+    Ok(true)
+}
+
+pub fn answer<K: PlayedKey, const PREFIX_LEN: usize>(
+    rt: &(impl Print + AllocGlobal),
+    map: &mut TreeMap<K, u64, PREFIX_LEN>,
+    asked: &Asked<'_>,
+) -> io::Result<bool> {
+    match asked.call {
+        "iter" => show_iter(rt, map.iter(), asked.words[0])?,
+        "keys" => show_keys(rt, map.keys(), asked.words[0])?,
+        "values" => show_values(rt, map.values(), asked.words[0])?,
+        "range" => range(rt, map, asked)?,
+        "prefix" => show_prefix(rt, map.prefix(&SliceKey(asked.first)), asked.words[1])?,
+        _ => return write(rt, map, asked),
+    }
+    Ok(true)
+}

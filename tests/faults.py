@@ -1,0 +1,77 @@
+#!/usr/bin/env python3
+"""Fails each read and each write of art_index in turn, after each number of bytes, with its ends cut in several ways.
+
+    tests/faults.py [WORD]      at the top of the repository, after rt ci; WORD: only what has it in its name
+Under tests/fault.c the lines of tests/faults.lines, which have every word of the language, are played by the program
+as both compilers make it. What is wanted follows from reference.py: after a failed read the replies to all whole lines
+so far and nothing else, after a failed write its first bytes, and the text and status of each.
+"""
+import itertools
+import os
+import subprocess
+import sys
+
+from reference import WORDS, Reference
+
+PROGRAM, SHIM = "crates/art_index/out/art_index", os.path.abspath("out/fault.so")
+READ, WRITE = b"art_index: read failed\n", b"art_index: write failed\n"
+
+
+def replies(lines):
+    model = Reference()
+    return b"".join(model.reply(line) for line in lines)
+
+
+def run(program, text, **faults):
+    env = {"LD_PRELOAD": SHIM, **{f"FAULT_{name.upper()}": str(value) for name, value in faults.items()}}
+    ran = subprocess.run([program], input=text, capture_output=True, env=env, timeout=60)
+    return ran.stdout, ran.stderr, ran.returncode
+
+
+def wants(label, found, wanted):
+    assert found == wanted, f"{label}: {found[0][-200:]} {found[1:]} and not {wanted[0][-200:]} {wanted[1:]}"
+
+
+def cut_anyhow(program, text, cuts):
+    for seed in range(20):
+        wants(f"seed {seed}", run(program, text, cuts=cuts, seed=seed), (replies(text.splitlines()), b"", 0))
+
+
+def each_read_fails(program, text, cuts):
+    for at in range(len(text) + 1):
+        whole = text[:at].split(b"\n")[:-1]
+        wants(f"a read fails after {at}", run(program, text, read=at, cuts=cuts), (replies(whole), READ, 1))
+    wants("none fails", run(program, text, read=len(text) + 1, cuts=cuts), (replies(text.splitlines()), b"", 0))
+
+
+def each_write_fails(program, text, cuts):
+    whole = replies(text.splitlines())
+    for at in range(len(whole)):
+        wants(f"a write fails after {at}", run(program, text, write=at, cuts=cuts), (whole[:at], WRITE, 1))
+    wants("none fails", run(program, text, write=len(whole), cuts=cuts), (whole, b"", 0))
+
+
+def main():
+    word, counts = sys.argv[1] if len(sys.argv) > 1 else "", {True: 0, False: 0}
+    os.makedirs("out", exist_ok=True)
+    subprocess.run(["cc", "-O2", "-Wall", "-shared", "-fPIC", "-o", SHIM, "tests/fault.c"], check=True)
+    with open("tests/faults.lines", "rb") as file:
+        text = file.read()
+    missing = set(WORDS) - {line.split(b" ")[0].decode("latin1") for line in text.splitlines()}
+    assert not missing, f"tests/faults.lines has no line of {missing}"
+    for program in (PROGRAM, f"{PROGRAM}.by-rattle"):
+        for call, cuts in itertools.product((cut_anyhow, each_read_fails, each_write_fails), (0, 1, 7)):
+            name, ended = f"{os.path.basename(program)} {call.__name__}, cut to {cuts or 'nothing'}", "ok"
+            if word not in name:
+                continue
+            try:
+                call(program, text, cuts)
+            except (AssertionError, OSError, subprocess.TimeoutExpired) as why:
+                ended = f"FAILED: {str(why)[:600]}"
+            counts[ended == "ok"] += 1
+            print(f"{name}: {ended}", flush=True)
+    print(f"{counts[True]} passed, {counts[False]} failed")
+    sys.exit(bool(counts[False]) or not counts[True])
+
+
+main()
