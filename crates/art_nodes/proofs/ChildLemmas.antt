@@ -1,8 +1,9 @@
 -- Lemmas on children as bytes and names side by side, by ascending byte.
-use Rattle.std.proofs.Common.{◌≡◌, ℕ, suc, ◌+◌, ◌<◌, ◌≤◌, ◌==◌, ◌≢◌, slice_get, slice_set, slice_index, IsTrue, List, [], ◌∷◌, ◌++◌, length, Some, None, refl, ap, inl, inr, arith}
+use Rattle.std.proofs.Common.{◌≡◌, ℕ, suc, ◌+◌, ◌<◌, ◌≤◌, ◌==◌, ◌≢◌, slice_get, slice_set, slice_index, IsTrue, List, [], ◌∷◌, ◌++◌, length, take, drop, Some, None, refl, ap, inl, inr, arith}
 use Rattle.std.specs.List.{zip, insert, remove}
-use Rattle.art_nodes.specs.InnerNode.{IsAscendingFrom, child_at, with_child, without_child, last_child}
+use Rattle.art_nodes.specs.InnerNode.{IsAscendingFrom, child_at, with_child, without_child, last_child, names_of}
 use Rattle.art_nodes.specs.inner.Place.{place}
+use Rattle.std.proofs.lemmas.List.{length-drop, length-take}
 use Rattle.std.proofs.lemmas.Bool.Decides.{eqb_tells, leb_tells, nat_tests}
 
 -- a test that answers whether two numbers are equal
@@ -19,6 +20,17 @@ zip-snoc [] [] a b e = refl
 zip-snoc [] (y ∷ ys) a b e = absurd (omega arith)
 zip-snoc (x ∷ xs) [] a b e = absurd (omega arith)
 zip-snoc (x ∷ xs) (y ∷ ys) a b e = ap (λ cs. (x, y) ∷ cs) (zip-snoc xs ys a b (omega arith))
+
+-- parts of lists of one length
+pub length-part : {A B : Type 0} (n m : ℕ) (xs : List A) (ys : List B) → length xs ≡ length ys → length (take n (drop m xs)) ≡ length (take n (drop m ys))
+length-part n m xs ys same = simp (length-take, length-drop) (omega (arith, same))
+
+-- the names beside bytes
+pub names_of-zip : {N : Type 0} (keys : List ℕ) (names : List N) → length keys ≡ length names → names_of (zip keys names) ≡ names
+names_of-zip [] [] same = refl
+names_of-zip [] (n ∷ names) same = absurd (omega arith)
+names_of-zip (k ∷ keys) [] same = absurd (omega arith)
+names_of-zip (k ∷ keys) (n ∷ names) same = ap (λ ns. n ∷ ns) (names_of-zip keys names (omega arith))
 
 pub length-zip_same : {A B : Type 0} (xs : List A) (ys : List B) → length xs ≡ length ys → length (zip xs ys) ≡ length xs
 length-zip_same [] ys e = refl

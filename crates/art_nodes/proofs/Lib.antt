@@ -1,8 +1,8 @@
+pub mod BitLemmas
 pub mod ChildLemmas
 pub mod DirectLemmas
-pub mod IndexedLemmas
-pub mod IndirectLemmas
-pub mod PackedLemmas
+pub mod MaskLemmas
+pub mod PassingLemmas
 pub mod PlaceLemmas
 pub mod PrefixLemmas
 pub mod ReplayLemmas

@@ -1,16 +1,17 @@
 -- Lemmas on places: children within bounds as a part of a table, or of bytes and names side by side.
-use Rattle.std.proofs.Common.{◌≡◌, ℕ, zero, suc, ◌+◌, ◌-◌, ◌<◌, ◌≤◌, min, Bool, true, false, nat_le, nat_lt, ◌&&◌, List, [], ◌∷◌, length, take, drop, filter, Option, Some, None, cond, refl, ap, sym, ◌∙◌, inl, inr, arith, length-drop}
+use Rattle.std.proofs.Common.{◌≡◌, ℕ, zero, suc, ◌+◌, ◌-◌, ◌<◌, ◌≤◌, min, Bool, true, false, nat_le, nat_lt, ◌&&◌, List, [], ◌∷◌, ◌++◌, get_or, length, take, drop, filter, Option, Some, None, cond, refl, ap, sym, ◌∙◌, inl, inr, arith, length-drop}
+use Rattle.std.proofs.lemmas.List.{length-take, take_all, take_more, drop_more, get_or-drop}
 use Rattle.std.specs.List.{zip}
 use Rattle.std.specs.Range.Bound.{start_index, end_index}
 use Rattle.std.specs.declared.ops.Bound.{Bound}
 use Rattle.std.specs.declared.ops.Bound.TheVariants.{Included, Excluded, Unbounded}
 use Rattle.std.proofs.lemmas.Bool.Decides.{leb_tells, nat_tests}
 use Rattle.art_nodes.specs.InnerNode.{IsAscendingFrom, is_from, is_to, children_between, AreValidBounds}
-use Rattle.art_nodes.specs.inner.Place.{place, children_within}
+use Rattle.art_nodes.specs.inner.Place.{place, children_within, bytes_within, IsNext, IsLast}
 use Rattle.art_nodes.specs.inner.Table.{children_from}
 use Rattle.art_nodes.proofs.ChildLemmas.{IsAscendingFrom-lower}
 
-place-drop : (ks : List ℕ) (from to : ℕ) → from ≤ to → place (drop (place ks from) ks) to ≡ place ks to - place ks from
+pub place-drop : (ks : List ℕ) (from to : ℕ) → from ≤ to → place (drop (place ks from) ks) to ≡ place ks to - place ks from
 place-drop [] from to h = refl
 place-drop (k ∷ ks) from to h = elim (leb_tells (suc k) from) [
   | inl below ↦ elim (leb_tells (suc k) to) [
@@ -37,7 +38,36 @@ place-within (k ∷ ks) bound = elim (leb_tells (suc k) bound) [
   | inr above ↦ rw above.0 (omega arith)
 ]
 
+-- so many bytes come from one bound up to another
+pub length-within : (ks : List ℕ) (from to : ℕ) → length (bytes_within from to ks) ≡ place ks to - place ks from
+length-within ks from to = simp (length-take, length-drop) (omega (arith, place-within ks to))
+
+-- the bytes within bounds, without their first and without their last
+pub next-within : (ks : List ℕ) (from to byte : ℕ) → IsNext ks from byte → 0 < length (bytes_within from to ks) → bytes_within from to ks ≡ byte ∷ bytes_within (byte + 1) to ks
+next-within ks from to byte is some =
+    let at = place ks from in
+    let up : place ks (byte + 1) ≡ at + 1 = omega (arith, is.after) in
+    let more : place ks to - at ≡ suc (place ks to - (at + 1)) = omega (arith, some, length-within ks from to) in
+    let first : drop at ks ≡ byte ∷ drop (at + 1) ks = drop_more ks at 0 is.stands.within ∙ ap (λ b. b ∷ drop (at + 1) ks) is.stands.here in
+    rw (up, more, first) refl
+
+pub last-within : (ks : List ℕ) (from to byte : ℕ) → IsLast ks to byte → 0 < length (bytes_within from to ks) → bytes_within from to ks ≡ bytes_within from byte ks ++ byte ∷ []
+last-within ks from to byte is some =
+    let at = place ks from in
+    let m = place ks byte - at in
+    let few : at ≤ place ks byte = omega (arith, some, length-within ks from to, is.before) in
+    let more : place ks to - at ≡ m + 1 = omega (arith, few, is.before) in
+    let within : m < length (drop at ks) = omega (arith, length-drop at ks, few, is.stands.within) in
+    let whole : at + m ≡ place ks byte = omega (arith, few) in
+    let last : get_or (drop at ks) m 0 ≡ byte = get_or-drop at ks m 0 ∙ ap (λ i. get_or ks i 0) whole ∙ is.stands.here in
+    ap (λ n. take n (drop at ks)) more ∙ take_more (drop at ks) m 0 within ∙ ap (λ b. take m (drop at ks) ++ b ∷ []) last
+
 pub ruleset places = (place-le, place-within)
+
+-- no byte comes before the first of all
+place-zero : (ks : List ℕ) → place ks 0 ≡ 0
+place-zero [] = refl
+place-zero (k ∷ ks) = elim (leb_tells (suc k) 0) [ inl yes_it ↦ absurd (omega (arith, yes_it.1)) | inr no_it ↦ rw no_it.0 refl ]
 
 module _ {N : Type 0} where
   abbrev not_before : ℕ → ℕ × N → Bool
@@ -158,6 +188,10 @@ module _ {N : Type 0} where
     | inl below ↦ rw below.0 (ap suc (place-all (k + 1) ks ns (omega arith) rises.2))
     | inr past ↦ absurd (omega (arith, past.1, rises.1))
   ]
+
+  -- all of them are within all bounds
+  pub all_within : (ks : List ℕ) (ns : List N) → length ks ≡ length ns → IsAscendingFrom 0 (zip ks ns) → bytes_within 0 256 ks ≡ ks
+  all_within ks ns e rises = let none = place-zero ks in let all = place-all 0 ks ns e rises in let from : length ks - 0 ≡ length ks = omega arith in rw (all, none, from) (take_all (length ks) ks (omega arith))
 
   -- the children of bytes and names side by side within bounds are a part of both
   pub within-zip : (from to : ℕ) (ks : List ℕ) (ns : List N) → length ks ≡ length ns → from ≤ to → IsAscendingFrom 0 (zip ks ns) → zip (take (place ks to - place ks from) (drop (place ks from) ks)) (take (place ks to - place ks from) (drop (place ks from) ns)) ≡ children_within from to (zip ks ns)

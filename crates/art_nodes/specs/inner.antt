@@ -1,6 +1,6 @@
 pub mod ChildIter
-pub mod Indirect
 pub mod KindLaws
+pub mod Mask
 pub mod Place
 pub mod Replayed
 pub mod Sorted

@@ -1,14 +1,14 @@
 //! The children of an inner node, from either end.
-ghost use Rattle.std.specs.Prelude.{◌≡◌, ◌↔◌, IsTrue, ◌+◌, ◌-◌, ◌<◌, ◌≤◌, length, take, drop, slice_get};
-ghost use Rattle.std.specs.Prelude.{count_by, nat_lt, Some, IfSome};
+ghost use Rattle.std.specs.Prelude.{◌≡◌, ◌↔◌, IsTrue, ◌+◌, ◌-◌, ◌<◌, ◌≤◌, length, take, drop, Some, IfSome};
 ghost use Rattle.std.specs.List.{zip};
 ghost use Rattle.std.specs.Iterator.{YieldsFirst, YieldsLast, item_count, UpTo};
 ghost use Rattle.std.specs.Iterator.SizeHint.{IsWithinCount};
-ghost use Rattle.art_nodes.specs.InnerNode.{children_between, AreValidBounds, IsAscending};
+ghost use Rattle.art_nodes.specs.InnerNode.{AreValidBounds};
 ghost use Rattle.std.specs.Range.Bound.{start_index, end_index};
-ghost use Rattle.art_nodes.specs.inner.Place.{place, children_within};
-ghost use Rattle.art_nodes.specs.inner.Table.{children_from, names_at};
+ghost use Rattle.art_nodes.specs.inner.Place.{place, children_within, bytes_within, AreLeft};
+ghost use Rattle.art_nodes.specs.inner.Table.{children_from};
 
+use crate::mask::Mask;
 use crate::names::OpaqueNodePtr;
 use std::marker::Model;
 use std::ops::Bound;
@@ -77,24 +77,26 @@ impl<'a> Model for DirectChildren<'a> {
     ghost invariant = { λ d. d.first + length d.slots.now ≤ 256 };
 }
 
-// The place of a name, or one past the names, for each byte from the first on.
+// Marked bytes from one bound up to another, and their names, side by side.
 #[derive(Drop)]
 struct IndirectChildren<'a> {
-    first: usize,
-    index: &'a [u8],
+    mask: &'a Mask,
+    from: usize,
+    to: usize,
     names: &'a [OpaqueNodePtr],
 }
 
 impl<'a> Model for IndirectChildren<'a> {
-    ghost use Rattle.std.specs.Prelude.{ℕ, List, ◌+◌, ◌≤◌, length};
+    ghost use Rattle.std.specs.Prelude.{ℕ, List};
+    ghost use Rattle.std.specs.List.{zip};
     ghost use Rattle.art_nodes.specs.Name.{Name};
-    ghost use Rattle.art_nodes.specs.inner.Table.{children_from, names_at};
+    ghost use Rattle.art_nodes.specs.inner.Place.{bytes_within, AreLeft};
 
     ghost Value = { List (ℕ × Name) };
 
-    ghost view = { λ d. children_from d.first (names_at d.names.now d.index.now) };
+    ghost view = { λ s. zip (bytes_within s.from s.to s.mask.now) s.names.now };
 
-    ghost invariant = { λ d. d.first + length d.index.now ≤ 256 };
+    ghost invariant = { λ s. AreLeft s.from s.to s.mask.now s.names.now };
 }
 
 /// How many of these ascending bytes are below the bound.
@@ -148,20 +150,6 @@ pub(crate) fn end_of(end: Bound<u8>) -> usize
 }
 
 impl<'a> SortedChildren<'a> {
-    #[tactic(auto, using(crate::proofs::PlaceLemmas::places))]
-    fn between(self, from: usize, to: usize) -> Self
-        requires ascending { IsAscending self }
-        requires forward { from ≤ to }
-        ensures { result ≡ children_within from to self.entry }
-    {
-        let low = place_of(self.keys, from);
-        let high = place_of(self.keys, to);
-        SortedChildren {
-            keys: &self.keys[low..high],
-            names: &self.names[low..high],
-        }
-    }
-
     fn next(&mut self) -> Option<(u8, OpaqueNodePtr)>
         ensures { YieldsFirst (λ s. s) self.old result self.new }
     {
@@ -192,19 +180,6 @@ impl<'a> SortedChildren<'a> {
 }
 
 impl<'a> DirectChildren<'a> {
-    fn between(self, from: usize, to: usize) -> Self
-        requires forward { from ≤ to }
-        ensures { result ≡ children_within from to self.entry }
-    {
-        let len = self.slots.len();
-        let low = from.saturating_sub(self.first).min(len);
-        let high = to.saturating_sub(self.first).min(len);
-        DirectChildren {
-            first: self.first + low,
-            slots: &self.slots[low..high],
-        }
-    }
-
     fn next(&mut self) -> Option<(u8, OpaqueNodePtr)>
         ensures { YieldsFirst (λ s. s) self.old result self.new }
     {
@@ -241,104 +216,36 @@ impl<'a> DirectChildren<'a> {
     }
 }
 
-/// The name at this place, or `None` where it is past the names.
-pub(crate) fn name_in(names: &[OpaqueNodePtr], place: usize) -> Option<OpaqueNodePtr>
-    ensures { result ≡ slice_get names.now place }
-{
-    names.get(place).copied()
-}
-
-// How many of these places are below the bound.
-fn places_below(index: &[u8], bound: usize) -> usize
-    ensures { result ≡ count_by (λ place. nat_lt place bound) index.now }
-{
-    index
-        .iter()
-        .filter(|place| usize::from(**place) < bound)
-        .count()
-}
-
 impl<'a> IndirectChildren<'a> {
-    fn between(self, from: usize, to: usize) -> Self
-        requires forward { from ≤ to }
-        ensures { result ≡ children_within from to self.entry }
-    {
-        let len = self.index.len();
-        let low = from.saturating_sub(self.first).min(len);
-        let high = to.saturating_sub(self.first).min(len);
-        IndirectChildren {
-            first: self.first + low,
-            index: &self.index[low..high],
-            names: self.names,
-        }
-    }
-
     fn next(&mut self) -> Option<(u8, OpaqueNodePtr)>
         ensures { YieldsFirst (λ s. s) self.old result self.new }
     {
-        while let Some((place, rest)) = self.index.split_first() {
-            let byte = self.first as u8;
-            self.first += 1;
-            self.index = rest;
-            if let Some(name) = name_in(self.names, usize::from(*place)) {
-                return Some((byte, name));
-            }
-        }
-        None
+        let (name, names) = self.names.split_first()?;
+        let byte = self.mask.lowest_from(self.from)?;
+        self.from = usize::from(byte) + 1;
+        self.names = names;
+        Some((byte, *name))
     }
 
-    #[tactic(auto, using(crate::proofs::TableLemmas::snocs))]
     fn next_back(&mut self) -> Option<(u8, OpaqueNodePtr)>
         ensures { YieldsLast (λ s. s) self.old result self.new }
     {
-        while let Some((place, rest)) = self.index.split_last() {
-            let byte = (self.first + rest.len()) as u8;
-            self.index = rest;
-            if let Some(name) = name_in(self.names, usize::from(*place)) {
-                return Some((byte, name));
-            }
-        }
-        None
+        let (name, names) = self.names.split_last()?;
+        let byte = self.mask.highest_below(self.to)?;
+        self.to = usize::from(byte);
+        self.names = names;
+        Some((byte, *name))
     }
 
-    #[tactic(auto, using(crate::proofs::TableLemmas::counts))]
+    #[tactic(auto, using(crate::proofs::ChildLemmas::zips))]
     fn len(&self) -> usize
         ensures { result ≡ length self.now }
     {
-        places_below(self.index, self.names.len())
-    }
-}
-
-impl<'a> Arm<'a> {
-    ghost use Rattle.art_nodes.specs.inner.ChildIter.{left_in};
-
-    fn between(self, from: usize, to: usize) -> Self
-        requires ascending { IsAscending (left_in self) }
-        requires forward { from ≤ to }
-        ensures { left_in result ≡ children_within from to (left_in self.entry) }
-    {
-        match self {
-            Arm::Sorted(children) => Arm::Sorted(children.between(from, to)),
-            Arm::Indirect(children) => Arm::Indirect(children.between(from, to)),
-            Arm::Direct(children) => Arm::Direct(children.between(from, to)),
-        }
+        self.names.len()
     }
 }
 
 impl<'a> ChildIter<'a> {
-    /// The children whose bytes lie between two bounds.
-    pub(crate) fn between(self, start: Bound<u8>, end: Bound<u8>) -> Self
-        requires ascending { IsAscending self }
-        requires valid { AreValidBounds start end }
-        ensures { result ≡ children_between start end self.entry }
-    {
-        let from = start_of(start);
-        let to = end_of(end);
-        let ChildIter { arm } = self;
-        let arm = arm.between(from, to);
-        ChildIter { arm }
-    }
-
     /// The children of bytes and names side by side.
     pub(crate) fn sorted(keys: &'a [u8], names: &'a [OpaqueNodePtr]) -> Self
         requires { length keys.now ≡ length names.now }
@@ -363,18 +270,42 @@ impl<'a> ChildIter<'a> {
         ChildIter::sorted(&keys[low..high], &names[low..high])
     }
 
-    /// The children of a table of places, a place for each byte.
-    pub(crate) fn indirect(index: &'a [u8], names: &'a [OpaqueNodePtr]) -> Self
-        requires { length index.now ≡ 256 }
-        ensures { result ≡ children_from 0 (names_at names.now index.now) }
+    /// The children of the marked bytes from one bound up to another, with their names.
+    pub(crate) fn indirect(
+        mask: &'a Mask,
+        from: usize,
+        to: usize,
+        names: &'a [OpaqueNodePtr],
+    ) -> Self
+        requires { AreLeft from to mask.now names.now }
+        ensures { result ≡ zip (bytes_within from to mask.now) names.now }
     {
         ChildIter {
             arm: Arm::Indirect(IndirectChildren {
-                first: 0,
-                index,
+                mask,
+                from,
+                to,
                 names,
             }),
         }
+    }
+
+    /// The children of marked bytes, whose names these are, from one bound up to another.
+    #[tactic(auto, using(crate::proofs::PlaceLemmas::places))]
+    pub(crate) fn indirect_part(
+        mask: &'a Mask,
+        names: &'a [OpaqueNodePtr],
+        from: usize,
+        to: usize,
+    ) -> Self
+        requires same_length { length mask.now ≡ length names.now }
+        requires bounds { (from ≤ to) × (to ≤ 256) }
+        ensures { result ≡ zip (bytes_within from to mask.now)
+            (take (place mask.now to - place mask.now from) (drop (place mask.now from) names.now)) }
+    {
+        let low = mask.place(from);
+        let high = mask.place(to);
+        ChildIter::indirect(mask, from, to, &names[low..high])
     }
 
     /// The children of a table of names, a place for each byte.
@@ -384,6 +315,20 @@ impl<'a> ChildIter<'a> {
     {
         ChildIter {
             arm: Arm::Direct(DirectChildren { first: 0, slots }),
+        }
+    }
+
+    /// The children of a table of names, a place for each byte, from one byte up to another.
+    pub(crate) fn direct_part(slots: &'a [Option<OpaqueNodePtr>], from: usize, to: usize) -> Self
+        requires whole { length slots.now ≡ 256 }
+        requires bounds { (from ≤ to) × (to ≤ 256) }
+        ensures { result ≡ children_within from to (children_from 0 slots.now) }
+    {
+        ChildIter {
+            arm: Arm::Direct(DirectChildren {
+                first: from,
+                slots: &slots[from..to],
+            }),
         }
     }
 }

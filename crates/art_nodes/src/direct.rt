@@ -2,13 +2,14 @@
 ghost use Rattle.std.specs.Prelude.{◌≡◌};
 ghost use Rattle.art_nodes.specs.inner.Table.{entry_at};
 
-use crate::child_iter::ChildIter;
+use crate::child_iter::{ChildIter, end_of, start_of};
 use crate::header::Header;
 use crate::inner_node::{InnerNodeCommon, InnerNodeInit};
 use crate::names::OpaqueNodePtr;
 use crate::sealed::Sealed;
 use std::fmt;
 use std::marker::{Model, PhantomData};
+use std::ops::Bound;
 
 /// An inner node with a place for the child of each byte.
 pub struct InnerNodeDirect<K, V, const PREFIX_LEN: usize> {
@@ -107,6 +108,10 @@ impl<K, V, const PREFIX_LEN: usize> InnerNodeCommon<PREFIX_LEN>
 
     fn iter(&self) -> ChildIter<'_> {
         ChildIter::direct(&self.slots)
+    }
+
+    fn range(&self, start: Bound<u8>, end: Bound<u8>) -> ChildIter<'_> {
+        ChildIter::direct_part(&self.slots, start_of(start), end_of(end))
     }
 }
 

@@ -164,10 +164,7 @@ pub trait InnerNodeCommon<const PREFIX_LEN: usize>: InnerNodeInit<PREFIX_LEN> + 
     /// The children whose bytes lie between two bounds, by ascending byte.
     fn range(&self, start: Bound<u8>, end: Bound<u8>) -> ChildIter<'_>
         requires { AreValidBounds start end }
-        ensures { result ≡ children_between start end (Self.inner self.now).children }
-    {
-        self.iter().between(start, end)
-    }
+        ensures { result ≡ children_between start end (Self.inner self.now).children };
 
     /// The child under the smallest byte, with its byte.
     final fn min(&self) -> Option<(u8, OpaqueNodePtr)>

@@ -14,6 +14,7 @@ mod indirect;
 mod inner_node;
 mod kind;
 mod leaf;
+mod mask;
 mod names;
 mod non_max_index;
 mod prefix_match;

@@ -111,6 +111,45 @@ fn border_bytes_stay_in_every_kind(rt: HostRuntime) -> Result<(), AllocError> {
 }
 
 #[test]
+fn ranges_at_each_growth(rt: HostRuntime) -> Result<(), AllocError> {
+    let borders = [0u8, 63, 64, 127, 128, 191, 192, 255];
+    let mut commands = Vec::new(rt.alloc());
+    for byte in borders {
+        commands.push(ChildCommand::Write(byte, leaf(byte)))?;
+    }
+    // With 8 others there are 16 children, with 9, 40 and 41 there are 17, 48 and 49.
+    for other in 1..=41u8 {
+        commands.push(ChildCommand::Write(other, leaf(other)))?;
+        if matches!(other, 8 | 9 | 40 | 41) {
+            commands.push(ChildCommand::Range(Bound::Excluded(62), Bound::Excluded(193)))?;
+            commands.push(ChildCommand::Min)?;
+            commands.push(ChildCommand::Max)?;
+        }
+    }
+    let answers = replay(rt.alloc(), commands.as_slice())?;
+    let inner = [63u8, 64, 127, 128, 191, 192].map(|byte| (byte, leaf(byte)));
+    let mut ranges = 0usize;
+    let pairs = commands.as_slice().iter().zip(answers.as_slice().iter());
+    for (command, answer) in pairs {
+        match (command, answer) {
+            (ChildCommand::Range(_, _), ChildAnswer::Children(all)) => {
+                assert!(rt; all.as_slice() == inner.as_slice());
+                ranges = ranges.wrapping_add(1);
+            }
+            (ChildCommand::Min, answer) => {
+                assert!(rt; is_child(Some(answer), Some((0, leaf(0)))));
+            }
+            (ChildCommand::Max, answer) => {
+                assert!(rt; is_child(Some(answer), Some((255, leaf(255)))));
+            }
+            _ => {}
+        }
+    }
+    assert_eq!(rt; ranges, 4);
+    Ok(())
+}
+
+#[test]
 fn replays_commands(rt: HostRuntime) -> Result<(), Fail> {
     let commands = [
         ChildCommand::Write(3, leaf(0)),

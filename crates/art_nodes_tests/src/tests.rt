@@ -81,13 +81,141 @@ fn fills_and_empties<N: InnerNodeCommon<16>, R: Abort>(rt: &R, bytes: &[u8]) {
 
 #[test]
 fn every_kind_at_the_borders(rt: HostRuntime) {
-    let borders = [0u8, 63, 64, 127, 128, 191, 192, 255];
-    fills_and_empties::<InnerNode16<[u8; 3], u64, 16>, _>(&rt, &borders);
-    fills_and_empties::<Middle, _>(&rt, &borders);
-    fills_and_empties::<InnerNode256<[u8; 3], u64, 16>, _>(&rt, &borders);
+    fills_and_empties::<InnerNode16<[u8; 3], u64, 16>, _>(&rt, &BORDERS);
+    fills_and_empties::<Middle, _>(&rt, &BORDERS);
+    fills_and_empties::<InnerNode256<[u8; 3], u64, 16>, _>(&rt, &BORDERS);
     fills_and_empties::<Small, _>(&rt, &[255, 0]);
     fills_and_empties::<Small, _>(&rt, &[192, 64, 63, 128]);
     fills_and_empties::<Small, _>(&rt, &[127, 0, 255, 191]);
+}
+
+/// The bytes on both sides of each word's boundary in a mask.
+const BORDERS: [u8; 8] = [0, 63, 64, 127, 128, 191, 192, 255];
+
+// A node with a child under each of the borders.
+fn bordered<N: InnerNodeCommon<16>>() -> N {
+    let mut node = N::from_prefix(&[7, 7], 2);
+    for byte in BORDERS {
+        if !node.is_full() {
+            node.write_child(byte, leaf(usize::from(byte)));
+        }
+    }
+    node
+}
+
+// Takes the children from either end, as the bits of each number from 0 to 255 say in turn.
+fn meets_in_every_mixture<N: InnerNodeCommon<16>, R: Abort>(rt: &R) {
+    let node = bordered::<N>();
+    for mixture in 0..=255u8 {
+        let mut children = node.iter();
+        let mut left = BORDERS.as_slice();
+        for turn in 0..8u8 {
+            assert_eq!(rt; children.len(), left.len());
+            let from_back = mixture >> turn & 1 == 1;
+            let taken = if from_back {
+                children.next_back()
+            } else {
+                children.next()
+            };
+            let parted = if from_back {
+                left.split_last()
+            } else {
+                left.split_first()
+            };
+            if let Some((byte, rest)) = parted {
+                assert!(rt;
+                    taken == Some((*byte, leaf(usize::from(*byte)))),
+                    "{mixture} {byte}"
+                );
+                left = rest;
+            }
+        }
+        assert!(rt; children.next() == None && children.next_back() == None && left.is_empty());
+    }
+}
+
+#[test]
+fn both_ends_in_every_mixture(rt: HostRuntime) {
+    meets_in_every_mixture::<InnerNode16<[u8; 3], u64, 16>, _>(&rt);
+    meets_in_every_mixture::<Middle, _>(&rt);
+    meets_in_every_mixture::<InnerNode256<[u8; 3], u64, 16>, _>(&rt);
+}
+
+// Compares a range with the borders that are not before its first byte nor past its last.
+fn ranges_over<N: InnerNodeCommon<16>, R: Abort>(
+    rt: &R,
+    start: Bound<u8>,
+    end: Bound<u8>,
+    from: usize,
+    to: usize,
+) {
+    let node = bordered::<N>();
+    if !are_valid_child_bounds(start, end) {
+        return;
+    }
+    let mut forward = node.range(start, end);
+    let mut backward = node.range(start, end);
+    for byte in BORDERS {
+        if from <= usize::from(byte) && usize::from(byte) < to {
+            assert!(rt;
+                forward.next() == Some((byte, leaf(usize::from(byte)))),
+                "{from} {to} {byte}"
+            );
+        }
+    }
+    for at in 0..8usize {
+        let byte = BORDERS[7 - at];
+        if from <= usize::from(byte) && usize::from(byte) < to {
+            assert!(rt;
+                backward.next_back() == Some((byte, leaf(usize::from(byte)))),
+                "{from} {to} {byte}"
+            );
+        }
+    }
+    assert!(rt; forward.next() == None && backward.next_back() == None);
+}
+
+#[test]
+fn ranges_end_on_and_beside_boundaries(rt: HostRuntime) {
+    let ends = [
+        0u8, 1, 62, 63, 64, 65, 100, 126, 127, 128, 129, 190, 191, 192, 193, 254, 255,
+    ];
+    for first in ends {
+        let from = usize::from(first);
+        ranges_over::<Middle, _>(&rt, Bound::Included(first), Bound::Unbounded, from, 256);
+        ranges_over::<Middle, _>(&rt, Bound::Unbounded, Bound::Excluded(first), 0, from);
+        for last in ends {
+            let to = usize::from(last);
+            ranges_over::<Middle, _>(
+                &rt,
+                Bound::Included(first),
+                Bound::Included(last),
+                from,
+                to + 1,
+            );
+            ranges_over::<Middle, _>(
+                &rt,
+                Bound::Excluded(first),
+                Bound::Excluded(last),
+                from + 1,
+                to,
+            );
+            ranges_over::<InnerNode16<[u8; 3], u64, 16>, _>(
+                &rt,
+                Bound::Included(first),
+                Bound::Excluded(last),
+                from,
+                to,
+            );
+            ranges_over::<InnerNode256<[u8; 3], u64, 16>, _>(
+                &rt,
+                Bound::Excluded(first),
+                Bound::Included(last),
+                from + 1,
+                to + 1,
+            );
+        }
+    }
 }
 
 // A node with a child under each of the first bytes.
@@ -241,7 +369,7 @@ fn children_are_counted_and_lent(rt: HostRuntime) {
     let (bytes, names) = sixteen.initialized_portion();
     assert!(rt; bytes == [0, 9, 255].as_slice());
     assert!(rt; names == [leaf(3), leaf(1), leaf(2)].as_slice());
-    assert!(rt; large.initialized_child_pointers() == [leaf(1), leaf(2), leaf(3)].as_slice());
+    assert!(rt; large.initialized_child_pointers() == [leaf(3), leaf(1), leaf(2)].as_slice());
     let mut children = large.iter();
     assert!(rt; children.size_hint() == (3, Some(3)));
     assert!(rt; children.next() == Some((0, leaf(3))));
@@ -307,7 +435,7 @@ fn weights(rt: HostRuntime) {
     assert_eq!(rt; size_of::<Header<16>>(), 32);
     assert_eq!(rt; size_of::<Small>(), 72);
     assert_eq!(rt; size_of::<InnerNode16<[u8; 3], u64, 16>>(), 192);
-    assert_eq!(rt; size_of::<Middle>(), 728);
+    assert_eq!(rt; size_of::<Middle>(), 504);
     assert_eq!(rt; size_of::<InnerNode256<[u8; 3], u64, 16>>(), 2592);
 }
 

@@ -1,5 +1,6 @@
 -- Places in an ascending list of children.
-use Rattle.std.specs.Prelude.{◌≡◌, ◌≢◌, ℕ, suc, ◌<◌, nat_lt, nat_le, ◌&&◌, List, [], ◌∷◌, length, filter, slice_index}
+use Rattle.std.specs.Prelude.{◌≡◌, ◌≢◌, ℕ, suc, ◌+◌, ◌-◌, ◌<◌, ◌≤◌, nat_lt, nat_le, ◌&&◌, List, [], ◌∷◌, length, take, drop}
+use Rattle.std.specs.Prelude.{filter, slice_index}
 use Rattle.std.specs.Prelude.{if◌then◌else◌}
 
 -- how many of these ascending bytes come before the bound
@@ -21,3 +22,23 @@ pub record StandsAt (keys : List ℕ) (byte at : ℕ) : Type 0 where
 pub record BelongsAt (keys : List ℕ) (byte at : ℕ) : Type 0 where
   pub is_place : at ≡ place keys byte
   pub apart : at < length keys → slice_index keys at ≢ byte
+
+-- the first of the ascending bytes that isn't below the bound
+pub record IsNext (keys : List ℕ) (bound byte : ℕ) : Type 0 where
+  pub stands : StandsAt keys byte (place keys bound)
+  pub after : place keys (byte + 1) ≡ suc (place keys bound)
+
+-- the last of the ascending bytes that is below the bound
+pub record IsLast (keys : List ℕ) (bound byte : ℕ) : Type 0 where
+  pub stands : StandsAt keys byte (place keys byte)
+  pub before : place keys bound ≡ suc (place keys byte)
+
+-- the ascending bytes from one bound up to another
+abbrev pub bytes_within : ℕ → ℕ → List ℕ → List ℕ
+bytes_within from to keys = take (place keys to - place keys from) (drop (place keys from) keys)
+
+-- a name for each of the ascending bytes from one bound up to another
+pub record AreLeft {N : Type 0} (from to : ℕ) (keys : List ℕ) (names : List N) : Type 0 where
+  pub from_fits : from ≤ 256
+  pub to_fits : to ≤ 256
+  pub same_length : length (bytes_within from to keys) ≡ length names

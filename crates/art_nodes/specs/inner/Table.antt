@@ -1,5 +1,5 @@
 -- Children in a table: a place for each byte.
-use Rattle.std.specs.Prelude.{◌≡◌, ℕ, zero, suc, ◌+◌, List, [], ◌∷◌, length, map, slice_get, Option, Some, None}
+use Rattle.std.specs.Prelude.{◌≡◌, ℕ, zero, suc, ◌+◌, List, [], ◌∷◌, length, Option, Some, None}
 use Rattle.art_nodes.specs.Header.{Header}
 use Rattle.art_nodes.specs.Name.{Name}
 
@@ -8,10 +8,6 @@ abbrev pub children_from : {N : Type 0} → ℕ → List (Option N) → List (�
 children_from first [] = []
 children_from first (None ∷ rest) = children_from (first + 1) rest
 children_from first (Some name ∷ rest) = (first, name) ∷ children_from (first + 1) rest
-
--- a table of places in a list of names: a place past its end holds nothing
-abbrev pub names_at : {N : Type 0} → List N → List ℕ → List (Option N)
-names_at names index = map (slice_get names) index
 
 -- what stands at a place of a table: nothing past its end
 abbrev pub entry_at : {N : Type 0} → List (Option N) → ℕ → Option N

@@ -1,20 +1,15 @@
-use Rattle.std.proofs.Common.{◌≡◌, ◌∙◌, sym, slice_get, Some, None, arith}
-use Rattle.art_nodes.proofs.TableLemmas.{names_at-snoc_none, names_at-snoc_some}
+use Rattle.std.proofs.Common.{◌≡◌, ◌<◌, ◌+◌, ◌∷◌, [], ◌++◌, List, ℕ, length, length-append, ap, ap₂, ◌∙◌, arith}
+use Rattle.std.specs.List.{zip}
+use Rattle.art_nodes.specs.inner.Place.{bytes_within}
+use Rattle.art_nodes.proofs.ChildLemmas.{zip-snoc}
+use Rattle.art_nodes.proofs.PlaceLemmas.{last-within}
 use Rattle.art_nodes.proofs.child_iter.IndirectChildren.next_back.Goals as goal
 
-pub returns-in-Some-name_in : goal.returns-in-Some-name_in
-returns-in-Some-name_in c =
-    let i = c.loop-place.self-inside in
-    let found : slice_get i.names.now c.in-Some.place.now ≡ Some c.in-Some-name_in.name = rw (← c.from.ensures) (sym c.in-Some-name_in.ensures) in
-    let same = rw c.in-Some.ensures.cases.0 at c.loop-place.invariant.same in
-    sym same ∙ names_at-snoc_some i.first i.names.now c.in-Some.rest.now c.in-Some.place.now c.in-Some-name_in.name found
-
-pub loop-place-preserved : goal.loop-place-preserved
-loop-place-preserved c =
-    let i = c.loop-place.self-inside in
-    let none : slice_get i.names.now c.in-Some.place.now ≡ None = rw (← c.from.ensures) (sym c.name_in.ensures ∙ c.in_default-name_in.is) in
-    let same = rw c.in-Some.ensures.cases.0 at c.loop-place.invariant.same in
-    record {
-      same = sym (names_at-snoc_none i.first i.names.now c.in-Some.rest.now c.in-Some.place.now none) ∙ same;
-      within = omega (arith, c.in-Some.ensures.cases.1, c.loop-place.invariant.within);
-    }
+pub returns : goal.returns
+returns c =
+    let i = c.self.inside in
+    let byte = c.in_ok-byte.byte in
+    let some : 0 < length (bytes_within i.from i.to i.mask.now) = omega (arith, c.self.invariant.same_length, c.in_ok-name.ensures.cases.1) in
+    let left : bytes_within i.from i.to i.mask.now ≡ bytes_within i.from byte i.mask.now ++ byte ∷ [] = last-within i.mask.now i.from i.to byte c.in_ok-byte.ensures some in
+    let long : length (bytes_within i.from i.to i.mask.now) ≡ length (bytes_within i.from byte i.mask.now) + 1 = ap (λ (ks : List ℕ). length ks) left ∙ length-append (bytes_within i.from byte i.mask.now) (byte ∷ []) in
+    rw (← c.self.view_is, c.from-self-inside.ensures) (ap₂ (λ ks ns. zip ks ns) left c.in_ok-name.ensures.cases.0 ∙ zip-snoc (bytes_within i.from byte i.mask.now) c.in_ok-name.names.now byte c.in_ok-name.name.now (omega (arith, long, c.in_ok-name.ensures.cases.1, c.self.invariant.same_length)))

@@ -1,17 +1,19 @@
-use Rattle.std.proofs.Common.{◌<◌, length, arith, refl, sym, ◌∙◌}
+use Rattle.std.proofs.Common.{◌<◌, length, refl, sym, ◌∙◌, arith}
 use Rattle.std.proofs.lemmas.Option.{slice_get_read}
-use Rattle.art_nodes.specs.inner.Indirect.{place_at}
-use Rattle.art_nodes.proofs.IndexedLemmas.{found-indexed, nothing_there, known_place}
+use Rattle.art_nodes.specs.inner.Place.{place}
+use Rattle.art_nodes.proofs.SortedLemmas.{found_here, found_nowhere}
 use Rattle.art_nodes.proofs.indirect.InnerNodeIndirectInnerNodeCommon.lookup_child.Goals as goal
 
-pub returns-then-place : goal.returns-then-place
-returns-then-place g c =
+pub returns-in-Some : goal.returns-in-Some
+returns-in-Some g c =
     let i = c.self.inside in
-    rw (← c.self.view_is) (sym (nothing_there g.row.SIZE i.header i.index i.names.items c.args.byte c.self.invariant c.ranges.byte.fits (omega (arith, c.place_of_byte-place.ensures, c.if-place.true, c.self.invariant.fits))))
+    let side = c.self.invariant in
+    let stands = c.in-Some.ensures in
+    let within : c.in-Some.at < length i.names.items = omega (arith, stands.within, side.same_length) in
+    let read = slice_get_read i.names.items (length i.names.items) c.in-Some.at c.index-as_slice-at.result refl within (rw c.as_slice.ensures.value at c.index-as_slice-at.is) in
+    rw (← c.self.view_is) (sym read ∙ found_here _ i.header i.mask i.names.items c.args.byte c.in-Some.at side stands)
 
-pub returns : goal.returns
-returns g c =
+pub returns-in-None : goal.returns-in-None
+returns-in-None g c =
     let i = c.self.inside in
-    let within : place_at i.index c.args.byte < length i.names.items = known_place g.row.SIZE i.header i.index i.names.items c.args.byte c.self.invariant c.ranges.byte.fits (rw c.place_of_byte-place.ensures at c.if-place.false) in
-    let read = slice_get_read i.names.items (length i.names.items) (place_at i.index c.args.byte) c.index-as_slice-from.result refl within (rw (c.as_slice.ensures.value, c.from.ensures, c.place_of_byte-place.ensures) at c.index-as_slice-from.is) in
-    rw (← c.self.view_is) (sym read ∙ found-indexed g.row.SIZE i.header i.index i.names.items c.args.byte c.self.invariant c.ranges.byte.fits)
+    rw (← c.self.view_is) (found_nowhere _ i.header i.mask i.names.items c.args.byte (place i.mask c.args.byte) c.self.invariant c.in-None.ensures)

@@ -1,42 +1,40 @@
-use Rattle.std.proofs.Common.{◌≡◌, sym, ◌∙◌}
-use Rattle.std.proofs.lemmas.Option.{slice_get_within}
-use Rattle.art_nodes.specs.inner.Indirect.{place_at}
-use Rattle.art_nodes.proofs.IndexedLemmas.{found-indexed, unchanged-indexed, removed-indexed, past_names}
+use Rattle.std.proofs.Common.{◌<◌, ◌-◌, min, length, refl, sym, ◌∙◌, arith}
+use Rattle.std.specs.List.{zip}
+use Rattle.std.proofs.lemmas.Option.{slice_get_read}
+use Rattle.art_nodes.specs.InnerNode.{without_child}
+use Rattle.art_nodes.specs.inner.Place.{place}
+use Rattle.art_nodes.proofs.SortedLemmas.{Becomes, sorted_node, found_here, found_nowhere, unchanged, removed}
 use Rattle.art_nodes.proofs.indirect.InnerNodeIndirectInnerNodeCommon.remove_child.Goals as goal
 
 pub returns-in-None-clause-value : goal.returns-in-None-clause-value
 returns-in-None-clause-value g c =
     let i = c.self.inside in
-    let is_place : c.from-at.result ≡ place_at i.index c.args.byte = c.from-at.ensures ∙ c.place_of_byte-place.ensures in
-    let none = rw (c.as_slice.ensures.value, is_place) at c.in-None.ensures in
-    rw (← c.self.view_is) (none ∙ found-indexed g.row.SIZE i.header i.index i.names.items c.args.byte c.self.invariant c.ranges.byte.fits)
+    rw (← c.self.view_is) (found_nowhere (min g.row.SIZE 255) i.header i.mask i.names.items c.args.byte (place i.mask c.args.byte) c.self.invariant c.in-None.ensures)
 
 pub returns-in-None-clause-rest : goal.returns-in-None-clause-rest
 returns-in-None-clause-rest g c =
     let i = c.self.inside in
-    let is_place : c.from-at.result ≡ place_at i.index c.args.byte = c.from-at.ensures ∙ c.place_of_byte-place.ensures in
-    let none = rw (c.as_slice.ensures.value, is_place) at c.in-None.ensures in
-    rw (← c.self.view_is) (unchanged-indexed g.row.SIZE i.header i.index i.names.items c.args.byte c.self.invariant c.ranges.byte.fits (past_names i.names.items (place_at i.index c.args.byte) (sym none)))
+    rw (← c.self.view_is) (unchanged (min g.row.SIZE 255) i.header i.mask i.names.items c.args.byte (place i.mask c.args.byte) c.self.invariant c.in-None.ensures)
+
+-- the mask and the names with one child less
+less : (g : _) (c : goal.After-dec_num_children g) → Becomes (min g.row.SIZE 255) (record c.self.inside.header { num_children = c.self.inside.header.num_children - 1 }) c.unmark.new.self c.remove.new.self.items
+    (sorted_node c.self.inside.header c.self.inside.mask c.self.inside.names.items) (without_child (zip c.self.inside.mask c.self.inside.names.items) c.args.byte)
+less g c =
+    let i = c.self.inside in
+    let stands = c.in-Some.ensures in
+    rw (c.unmark.ensures, ← stands.is_place, c.remove.ensures.items) (removed (min g.row.SIZE 255) i.header i.mask i.names.items c.args.byte c.in-Some.at c.self.invariant stands)
 
 pub invariant_of-self : goal.invariant_of-self
-invariant_of-self g c =
-    let i = c.self.inside in
-    let is_place : c.from-at.result ≡ place_at i.index c.args.byte = c.from-at.ensures ∙ c.place_of_byte-place.ensures in
-    let some = rw (c.as_slice.ensures.value, is_place) at c.in-Some.ensures in
-    let known = slice_get_within i.names.items (place_at i.index c.args.byte) c.in-Some.name (sym some) in
-    rw (c.dec_num_children.ensures, c.close_gap.ensures, c.from.ensures, c.remove.ensures.items, is_place, c.place_of_byte-place.ensures) ((removed-indexed g.row.SIZE i.header i.index i.names.items c.args.byte c.self.invariant c.ranges.byte.fits known).indexed)
+invariant_of-self g c = rw c.dec_num_children.ensures ((less g c).side)
 
-pub returns-in-Some-clause-value : goal.returns-in-Some-clause-value
-returns-in-Some-clause-value g c =
+pub returns-clause-value : goal.returns-clause-value
+returns-clause-value g c =
     let i = c.self.inside in
-    let is_place : c.from-at.result ≡ place_at i.index c.args.byte = c.from-at.ensures ∙ c.place_of_byte-place.ensures in
-    let some = rw (c.as_slice.ensures.value, is_place) at c.in-Some.ensures in
-    rw (← c.self.view_is) (some ∙ found-indexed g.row.SIZE i.header i.index i.names.items c.args.byte c.self.invariant c.ranges.byte.fits)
+    let side = c.self.invariant in
+    let stands = c.in-Some.ensures in
+    let within : c.in-Some.at < length i.names.items = omega (arith, stands.within, side.same_length) in
+    let read = slice_get_read i.names.items (length i.names.items) c.in-Some.at c.index-as_slice-at.result refl within (rw c.as_slice.ensures.value at c.index-as_slice-at.is) in
+    rw (← c.self.view_is) (sym read ∙ found_here (min g.row.SIZE 255) i.header i.mask i.names.items c.args.byte c.in-Some.at side stands)
 
-pub returns-in-Some-clause-rest : goal.returns-in-Some-clause-rest
-returns-in-Some-clause-rest g c =
-    let i = c.self.inside in
-    let is_place : c.from-at.result ≡ place_at i.index c.args.byte = c.from-at.ensures ∙ c.place_of_byte-place.ensures in
-    let some = rw (c.as_slice.ensures.value, is_place) at c.in-Some.ensures in
-    let known = slice_get_within i.names.items (place_at i.index c.args.byte) c.in-Some.name (sym some) in
-    rw (← c.self.view_is, c.dec_num_children.ensures, c.close_gap.ensures, c.from.ensures, c.remove.ensures.items, is_place, c.place_of_byte-place.ensures) ((removed-indexed g.row.SIZE i.header i.index i.names.items c.args.byte c.self.invariant c.ranges.byte.fits known).view)
+pub returns-clause-rest : goal.returns-clause-rest
+returns-clause-rest g c = rw (← c.self.view_is, c.dec_num_children.ensures) ((less g c).view)

@@ -1,43 +1,47 @@
-use Rattle.std.proofs.Common.{◌≡◌, ◌<◌, ◌≤◌, suc, length, min, refl, ◌∙◌, inl, inr, arith}
-use Rattle.std.proofs.lemmas.Bool.Decides.{leb_tells}
-use Rattle.art_nodes.specs.inner.Indirect.{place_at}
-use Rattle.art_nodes.proofs.IndexedLemmas.{replaced-indexed, added-indexed, room-indexed}
+use Rattle.std.proofs.Common.{◌≡◌, ◌+◌, min, length, slice_set, arith}
+use Rattle.std.specs.List.{zip, refill}
+use Rattle.std.proofs.lemmas.List.{length-set, take_at}
+use Rattle.art_nodes.specs.InnerNode.{with_child}
+use Rattle.art_nodes.specs.inner.Place.{place}
+use Rattle.art_nodes.proofs.SortedLemmas.{Becomes, sorted_node, replaced, added, room_there, place_there}
 use Rattle.art_nodes.proofs.indirect.InnerNodeIndirectInnerNodeCommon.write_child.Goals as goal
+
+-- the names with another in its place
+over : (g : _) (c : goal.After-self-1 g) → refill (length c.self.inside.names.items) c.self.inside.names.items (slice_set c.as_mut_slice.result.now c.in-Some.at c.args.name) ≡ slice_set c.self.inside.names.items c.in-Some.at c.args.name
+over g c =
+    let names = c.self.inside.names.items in
+    rw c.as_mut_slice.ensures.value (take_at (slice_set names c.in-Some.at c.args.name) _ (length names) (length-set names c.in-Some.at c.args.name))
 
 pub invariant_of-self : goal.invariant_of-self
 invariant_of-self g c =
     let i = c.self.inside in
-    let is_place : c.from.result ≡ place_at i.index c.args.byte = c.from.ensures ∙ c.place_of_byte-place.ensures in
-    let known = rw is_place at (c.in-Some.ensures.variant.0 refl) in
-    rw is_place ((replaced-indexed g.row.SIZE i.header i.index i.names.items c.args.byte c.self.invariant c.ranges.byte.fits c.args.name known).indexed)
+    rw (over g c) ((replaced (min g.row.SIZE 255) i.header i.mask i.names.items c.args.byte c.in-Some.at c.self.invariant c.args.name c.in-Some.ensures).side)
 
 pub returns-in-Some : goal.returns-in-Some
 returns-in-Some g c =
     let i = c.self.inside in
-    let is_place : c.from.result ≡ place_at i.index c.args.byte = c.from.ensures ∙ c.place_of_byte-place.ensures in
-    let known = rw is_place at (c.in-Some.ensures.variant.0 refl) in
-    rw (← c.self.view_is, is_place) ((replaced-indexed g.row.SIZE i.header i.index i.names.items c.args.byte c.self.invariant c.ranges.byte.fits c.args.name known).view)
+    rw (← c.self.view_is, over g c) ((replaced (min g.row.SIZE 255) i.header i.mask i.names.items c.args.byte c.in-Some.at c.self.invariant c.args.name c.in-Some.ensures).view)
 
-pub push-requires : goal.push-requires
-push-requires g c =
+pub insert-requires : goal.insert-requires
+insert-requires g c =
     let i = c.self.inside in
-    let is_place : c.from.result ≡ place_at i.index c.args.byte = c.from.ensures ∙ c.place_of_byte-place.ensures in
-    let past : length i.names.items ≤ c.from.result = elim (leb_tells (suc c.from.result) (length i.names.items)) [ inl less ↦ absurd (let e = c.in-None.ensures.variant.1 less.1 in cc) | inr more ↦ omega (arith, more.1) ] in
-    let room : length i.names.items < min g.row.SIZE 255 = room-indexed g.row.SIZE i.header i.index i.names.items c.args.byte c.self.invariant c.ranges.byte.fits (rw is_place at past) (rw (← c.self.view_is) at c.requires) in
-    (omega arith, omega (arith, room))
+    let within = place_there (min g.row.SIZE 255) i.header i.mask i.names.items c.args.byte (place i.mask c.args.byte) c.self.invariant c.in-None.ensures in
+    let room = room_there (min g.row.SIZE 255) i.header i.mask i.names.items c.args.byte (place i.mask c.args.byte) c.self.invariant c.in-None.ensures (rw (← c.self.view_is) at c.requires) in
+    let at : c.place-at.result ≡ place i.mask c.args.byte = rw c.from.ensures at c.place-at.ensures in
+    (omega arith, (omega (arith, within, c.self.invariant.same_length, at), omega (arith, room, c.self.invariant.same_length)))
+
+-- the mask and the names with one child more
+more : (g : _) (c : goal.After-inc_num_children g) → Becomes (min g.row.SIZE 255) (record c.self.inside.header { num_children = c.self.inside.header.num_children + 1 }) c.mark.new.self c.insert.new.self.items
+    (sorted_node c.self.inside.header c.self.inside.mask c.self.inside.names.items) (with_child (zip c.self.inside.mask c.self.inside.names.items) c.args.byte c.args.name)
+more g c =
+    let i = c.self.inside in
+    let belongs = c.in-None.ensures in
+    let within = place_there (min g.row.SIZE 255) i.header i.mask i.names.items c.args.byte (place i.mask c.args.byte) c.self.invariant belongs in
+    let room = room_there (min g.row.SIZE 255) i.header i.mask i.names.items c.args.byte (place i.mask c.args.byte) c.self.invariant belongs (rw (← c.self.view_is) at c.requires) in
+    rw (c.mark.ensures, c.insert.ensures.items, c.place-at.ensures, c.from.ensures) (added (min g.row.SIZE 255) i.header i.mask i.names.items c.args.byte (place i.mask c.args.byte) c.self.invariant c.args.name belongs within c.ranges.byte.fits room)
 
 pub invariant_of-self-in-None : goal.invariant_of-self-in-None
-invariant_of-self-in-None g c =
-    let i = c.self.inside in
-    let is_place : c.from.result ≡ place_at i.index c.args.byte = c.from.ensures ∙ c.place_of_byte-place.ensures in
-    let past : length i.names.items ≤ c.from.result = elim (leb_tells (suc c.from.result) (length i.names.items)) [ inl less ↦ absurd (let e = c.in-None.ensures.variant.1 less.1 in cc) | inr more ↦ omega (arith, more.1) ] in
-    let room : length i.names.items < min g.row.SIZE 255 = room-indexed g.row.SIZE i.header i.index i.names.items c.args.byte c.self.invariant c.ranges.byte.fits (rw is_place at past) (rw (← c.self.view_is) at c.requires) in
-    rw (c.inc_num_children.ensures, c.from-in-None.ensures, c.len.ensures.value, c.push.ensures.items) ((added-indexed g.row.SIZE i.header i.index i.names.items c.args.byte c.self.invariant c.ranges.byte.fits c.args.name (rw is_place at past) room).indexed)
+invariant_of-self-in-None g c = rw c.inc_num_children.ensures ((more g c).side)
 
 pub returns-in-None : goal.returns-in-None
-returns-in-None g c =
-    let i = c.self.inside in
-    let is_place : c.from.result ≡ place_at i.index c.args.byte = c.from.ensures ∙ c.place_of_byte-place.ensures in
-    let past : length i.names.items ≤ c.from.result = elim (leb_tells (suc c.from.result) (length i.names.items)) [ inl less ↦ absurd (let e = c.in-None.ensures.variant.1 less.1 in cc) | inr more ↦ omega (arith, more.1) ] in
-    let room : length i.names.items < min g.row.SIZE 255 = room-indexed g.row.SIZE i.header i.index i.names.items c.args.byte c.self.invariant c.ranges.byte.fits (rw is_place at past) (rw (← c.self.view_is) at c.requires) in
-    rw (← c.self.view_is, c.inc_num_children.ensures, c.from-in-None.ensures, c.len.ensures.value, c.push.ensures.items) ((added-indexed g.row.SIZE i.header i.index i.names.items c.args.byte c.self.invariant c.ranges.byte.fits c.args.name (rw is_place at past) room).view)
+returns-in-None g c = rw (← c.self.view_is, c.inc_num_children.ensures) ((more g c).view)
