@@ -14,4 +14,5 @@ pub mod Commands
 pub mod Runs
 pub mod Frees
 pub mod Clones
+pub mod Laws
 pub mod inner

@@ -8,6 +8,7 @@ pub mod clone;
 pub mod deallocate;
 pub mod delete;
 pub mod insert;
+pub mod laws;
 pub mod lookup;
 pub mod meeting;
 pub mod minmax;
