@@ -32,6 +32,8 @@ pub mod Subtrees
 pub mod EndBranches
 -- The way down to the first or the last leaf below a node.
 pub mod EndWalks
+-- What is read of an inner node, and on a way down from it to a first or last leaf.
+pub mod Reads
 -- The whole prefix of a node stands in its header or in the key of its first leaf, and orders all keys below.
 pub mod Prefixes
 -- The parent of a place is pointed at another node: the one write that every edit of a part's root makes.

@@ -24,6 +24,8 @@ pub mod Descents
 pub mod Arena
 -- What an arena stores below a name: the words of contracts, over the arena itself.
 pub mod Stores
+-- How many nodes a walk reads at most, told by the keys.
+pub mod Reads
 -- What an edit makes of an inner node.
 pub mod NodeEdits
 -- What an arena ends as, where a `&mut` to one of its nodes, or to the value of one of its leaves, is returned.

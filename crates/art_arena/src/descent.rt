@@ -1,23 +1,25 @@
 //! The way of a key down the tree below a name: to the one leaf that can be meant, or as far as it agrees.
-ghost use Rattle.std.specs.Prelude.{◌≡◌, ◌≢◌, ◌+◌, ◌-◌, ◌^◌, ◌≤◌, ◌↔◌, ◌++◌, ◌∷◌, [], ℕ, List, drop, length, min};
-ghost use Rattle.std.specs.Prelude.{IsTrue, MatchOption, Some};
+ghost use Rattle.std.specs.Prelude.{◌≡◌, ◌+◌, ◌-◌, ◌^◌, ◌≤◌, ◌↔◌, ◌++◌, ◌∷◌, [], ℕ, List, drop, length, min};
+ghost use Rattle.std.specs.Prelude.{IsTrue, MatchOption};
 ghost use Rattle.art_bytes.specs.Keys.{BeginsWith};
-ghost use Rattle.art_arena.specs.arena.Arena.{held_at, inner_held, node_at};
+ghost use Rattle.art_nodes.specs.Name.{Name};
+ghost use Rattle.art_arena.specs.arena.Arena.{node_at};
 ghost use Rattle.art_arena.specs.arena.Descents.{GoesNoFurther, GoesOn, HasNoFront, Lands, LandsAt, OnWayTo, Stops};
 ghost use Rattle.art_arena.specs.arena.Prefixes.{prefix_of};
-ghost use Rattle.art_arena.specs.arena.Shapes.{Shape, erase};
+ghost use Rattle.art_arena.specs.arena.Reads.{DescentReads, IsReadAt, KeysWithin, StepReads};
+ghost use Rattle.art_arena.specs.arena.Shapes.{Shape, erase, leaves};
 ghost use Rattle.art_arena.specs.arena.Stores.{Stores, StoresAt};
 ghost use Rattle.art_arena.specs.arena.Visited.{arena_of, count_of};
 ghost use Rattle.art_arena.specs.tree.Paths.{path_of};
 
-use crate::arena::{LeafPtr, NodeArena};
+use crate::arena::LeafPtr;
 use crate::front::begins_with;
 use crate::inner_ref::{InnerRef, NextStep};
 use crate::path::{TreePath, TreePathSearch};
 use crate::prefix::full_prefix_of;
 use crate::reader::ArenaReader;
 use art_bytes::AsBytes;
-use art_nodes::{LeafNode, NodePtr, NodeType, OpaqueNodePtr};
+use art_nodes::{LeafNode, NodePtr, OpaqueNodePtr};
 
 /// How a descent passes over the prefix of an inner node.
 #[derive(Clone, Copy, PartialEq, Eq, Debug)]
@@ -41,7 +43,7 @@ pub struct Stop<'a, K, V> {
     pub depth: usize,
 }
 
-/// The leaf at which a descent ended: the only one whose key can be the descent's key or a front of it.
+/// The leaf at which a way down ended. Where it was that of a key, no other leaf's key can be that key or a front of it.
 #[derive(Drop)]
 pub struct Landed<'a, K, V> {
     /// Its name.
@@ -55,52 +57,63 @@ pub struct Landed<'a, K, V> {
 // Whether a key, so many bytes of which lead to an inner node, goes on with the node's whole prefix. Most nodes have
 // none, and then nothing is compared.
 #[inline(always)]
-fn passes_prefix<K: AsBytes, V, const PREFIX_LEN: usize>(
-    arena: &NodeArena<K, V, PREFIX_LEN>,
-    node: OpaqueNodePtr,
-    inner: &InnerRef<'_, K, V, PREFIX_LEN>,
+fn passes_prefix<'a, K: AsBytes, V, const PREFIX_LEN: usize>(
+    reader: &mut ArenaReader<'a, K, V, PREFIX_LEN>,
+    inner: &InnerRef<'a, K, V, PREFIX_LEN>,
     key: &[u8],
     depth: usize,
 ) -> bool
-    requires stands { (path : List ℕ) × (s : Shape K V) × StoresAt K.bytes PREFIX_LEN arena.now node depth path s }
-    requires held { held_at arena.now node ≡ Some (inner_held inner.now.node) }
-    requires kind { node.kind ≢ NodeType.Leaf }
+    requires stands { (root : Name) × (path : List ℕ) × (s : Shape K V)
+        × IsReadAt K.bytes PREFIX_LEN (arena_of reader.old) inner.now.node root depth path s }
     requires within { depth ≤ length key.now }
-    ensures { (path : List ℕ) (s : Shape K V) → StoresAt K.bytes PREFIX_LEN arena.now node depth path s
+    ensures passes { (root : Name) (path : List ℕ) (s : Shape K V)
+        → IsReadAt K.bytes PREFIX_LEN (arena_of reader.old) inner.now.node root depth path s
         → IsTrue result ↔ BeginsWith (prefix_of s) (drop depth key.now) }
+    ensures kept { arena_of reader.new ≡ arena_of reader.old }
+    ensures none { inner.now.node.header.prefix_len ≡ 0 → count_of reader.new ≡ count_of reader.old }
+    ensures few { (root : Name) (path : List ℕ) (s : Shape K V)
+        → IsReadAt K.bytes PREFIX_LEN (arena_of reader.old) inner.now.node root depth path s
+        → (longest : ℕ) → KeysWithin K.bytes longest (leaves s)
+        → count_of reader.new ≤ count_of reader.old + longest }
 {
     if inner.prefix_len() == 0 {
         return true;
     }
-    let prefix = full_prefix_of(arena, node, inner, depth).prefix;
+    let prefix = full_prefix_of(reader, inner, depth).prefix;
     begins_with(&key[depth..], prefix)
 }
 
-// The child to which a key goes on from an inner node, which stands behind so many of its bytes.
+// The child to which a key goes on from an inner node, which stands behind so many of its bytes. What is read for a
+// step by bytes is at most half a longest key for each byte of the step.
 #[inline(always)]
-fn step_at<K: AsBytes, V, const PREFIX_LEN: usize>(
-    arena: &NodeArena<K, V, PREFIX_LEN>,
-    node: OpaqueNodePtr,
-    inner: &InnerRef<'_, K, V, PREFIX_LEN>,
+fn step_at<'a, K: AsBytes, V, const PREFIX_LEN: usize>(
+    reader: &mut ArenaReader<'a, K, V, PREFIX_LEN>,
+    inner: &InnerRef<'a, K, V, PREFIX_LEN>,
     key: &[u8],
     depth: usize,
     passing: Passing,
 ) -> Option<NextStep>
-    requires stands { (path : List ℕ) × (s : Shape K V) × StoresAt K.bytes PREFIX_LEN arena.now node depth path s }
-    requires held { held_at arena.now node ≡ Some (inner_held inner.now.node) }
-    requires kind { node.kind ≢ NodeType.Leaf }
+    requires stands { (root : Name) × (path : List ℕ) × (s : Shape K V)
+        × IsReadAt K.bytes PREFIX_LEN (arena_of reader.old) inner.now.node root depth path s }
     requires within { depth ≤ length key.now }
     ensures goes { MatchOption result (passing ≡ Passing.ByLength → GoesNoFurther key.now depth inner.now.node)
         (λ step. GoesOn key.now depth inner.now.node step.byte step.child step.depth) }
-    ensures by_bytes { passing ≡ Passing.ByBytes → (path : List ℕ) (s : Shape K V)
-        → StoresAt K.bytes PREFIX_LEN arena.now node depth path s → BeginsWith path key.now
+    ensures by_bytes { passing ≡ Passing.ByBytes → (root : Name) (path : List ℕ) (s : Shape K V)
+        → IsReadAt K.bytes PREFIX_LEN (arena_of reader.old) inner.now.node root depth path s → BeginsWith path key.now
         → MatchOption result (Stops K.bytes key.now path s)
         (λ step. BeginsWith ((path ++ prefix_of s) ++ step.byte ∷ []) key.now) }
+    ensures kept { arena_of reader.new ≡ arena_of reader.old }
+    ensures by_length { passing ≡ Passing.ByLength → count_of reader.new ≡ count_of reader.old }
+    ensures few { (root : Name) (path : List ℕ) (s : Shape K V)
+        → IsReadAt K.bytes PREFIX_LEN (arena_of reader.old) inner.now.node root depth path s
+        → (longest : ℕ) → KeysWithin K.bytes longest (leaves s)
+        → MatchOption result (count_of reader.new ≤ count_of reader.old + longest)
+        (λ step. StepReads longest depth step.depth (count_of reader.old) (count_of reader.new)) }
 {
     match passing {
         Passing::ByLength => inner.next_step(key, depth),
         Passing::ByBytes => {
-            if passes_prefix(arena, node, inner, key, depth) {
+            if passes_prefix(reader, inner, key, depth) {
                 return inner.next_step(key, depth);
             }
             None
@@ -136,6 +149,9 @@ pub fn descend<'a, K: AsBytes, V, const PREFIX_LEN: usize>(
         → StoresAt K.bytes PREFIX_LEN (arena_of reader.old) result.node result.depth path s
         → BeginsWith path key.now → Stops K.bytes key.now path s }
     ensures kept { arena_of reader.new ≡ arena_of reader.old }
+    ensures few { (s : Shape K V) → Stores K.bytes PREFIX_LEN (arena_of reader.old) root s
+        → (longest : ℕ) → KeysWithin K.bytes longest (leaves s)
+        → DescentReads longest key.now (count_of reader.old) (count_of reader.new) }
 {
     let mut current = root;
     let mut depth = 0;
@@ -148,7 +164,7 @@ pub fn descend<'a, K: AsBytes, V, const PREFIX_LEN: usize>(
                     depth,
                 };
             }
-            Err(inner) => match step_at(reader.arena(), current, &inner, key, depth, passing) {
+            Err(inner) => match step_at(reader, &inner, key, depth, passing) {
                 None => {
                     return Stop {
                         node: current,

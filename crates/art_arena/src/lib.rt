@@ -20,11 +20,11 @@ mod stored;
 
 pub use arena::{LeafPtr, NodeArena, NodeRefused};
 pub use descent::{Landed, Passing, Stop, descend, land};
-pub use ends::{End, end_leaf, first_leaf, last_leaf};
+pub use ends::{End, end_leaf, end_leaf_with, first_leaf, last_leaf};
 pub use find::{FoundLeaf, find_leaf};
 pub use inner_ref::{InnerRef, NextStep};
 pub use node_edits::{NodeEdit, StoredInner};
 pub use path::{TreePath, TreePathSearch, inner_node_ptr};
-pub use prefix::{match_full_prefix, read_full_prefix};
+pub use prefix::{match_full_prefix, read_full_prefix, read_full_prefix_with};
 pub use reader::{ArenaReader, Reader, VisitedNode};
 pub use stored::{NodeStore, Stored};

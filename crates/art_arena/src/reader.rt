@@ -1,9 +1,10 @@
 //! Reading an arena, each node that is read counted.
 ghost use Rattle.std.specs.Prelude.{◌≡◌, ◌≢◌, ◌+◌, ◌-◌, ◌^◌, ◌<◌, min, Some, IsSome, MatchResult};
 ghost use Rattle.art_arena.specs.arena.Arena.{held_at, leaf_held, inner_held};
+ghost use Rattle.art_arena.specs.arena.Cells.{leaf_name};
 ghost use Rattle.art_arena.specs.arena.Visited.{arena_of, count_of, held_of, kind_of};
 
-use crate::arena::NodeArena;
+use crate::arena::{LeafPtr, NodeArena};
 use crate::inner_ref::{InnerArm, InnerRef};
 use art_nodes::{
     InnerNode4, InnerNode16, InnerNode48, InnerNode256, LeafNode, NodeType, OpaqueNodePtr, known,
@@ -49,6 +50,34 @@ impl<'a, K, V, const PREFIX_LEN: usize> VisitedNode<'a, K, V, PREFIX_LEN> {
             }),
         }
     }
+
+    // The inner node.
+    #[inline(always)]
+    pub(crate) fn inner(&self) -> InnerRef<'a, K, V, PREFIX_LEN>
+        requires kind { kind_of self.now ≢ NodeType.Leaf }
+        requires fits_in_memory { PREFIX_LEN < 2 ^ 62 }
+        ensures value { held_of self.now ≡ inner_held result.node }
+        ensures kind { result.kind ≡ kind_of self.now }
+    {
+        match *self {
+            VisitedNode::Node4(node) => InnerRef {
+                arm: InnerArm::Node4(node),
+            },
+            VisitedNode::Node16(node) => InnerRef {
+                arm: InnerArm::Node16(node),
+            },
+            VisitedNode::Node48(node) => InnerRef {
+                arm: InnerArm::Node48(node),
+            },
+            VisitedNode::Node256(node) => InnerRef {
+                arm: InnerArm::Node256(node),
+            },
+            VisitedNode::Leaf(_) => {
+                known(false);
+                unreachable!()
+            }
+        }
+    }
 }
 
 /// Something that is read step by step, and how many steps were made.
@@ -77,12 +106,23 @@ impl<'a, T> Reader<'a, T> {
         self.count
     }
 
-    // What is read, for what is not counted.
+    // A reader of the same that has read nothing yet. Steps that are rare and stand in a function of their own are
+    // counted by it, so that a count which nobody asks for is never kept.
     #[inline(always)]
-    pub(crate) fn arena(&self) -> &'a T
-        ensures { result.now ≡ arena_of self.now }
+    pub(crate) fn aside(&self) -> Self
+        ensures arena { arena_of result ≡ arena_of self.now }
+        ensures count { count_of result ≡ 0 }
     {
-        self.arena
+        Reader::new(self.arena)
+    }
+
+    // What another has read is counted here.
+    #[inline(always)]
+    pub(crate) fn take_in(&mut self, other: Self)
+        ensures kept { arena_of self.new ≡ arena_of self.old }
+        ensures counts { count_of self.new ≡ min (count_of self.old + count_of other.entry) (2 ^ 64 - 1) }
+    {
+        self.count = self.count.saturating_add(other.count);
     }
 
     // One step.
@@ -110,6 +150,41 @@ impl<'a, K, V, const PREFIX_LEN: usize> Reader<'a, NodeArena<K, V, PREFIX_LEN>> 
         ensures counts { count_of self.new ≡ min (count_of self.old + 1) (2 ^ 64 - 1) }
     {
         node_in(self.step(), name)
+    }
+
+    /// Reads the inner node under this name, whatever its kind. Each call counts one.
+    #[inline(always)]
+    pub fn visit_inner(&mut self, name: OpaqueNodePtr) -> InnerRef<'a, K, V, PREFIX_LEN>
+        requires held { IsSome (held_at (arena_of self.old) name) }
+        requires inner { name.kind ≢ NodeType.Leaf }
+        ensures value { held_at (arena_of self.old) name ≡ Some (inner_held result.node) }
+        ensures kept { arena_of self.new ≡ arena_of self.old }
+        ensures counts { count_of self.new ≡ min (count_of self.old + 1) (2 ^ 64 - 1) }
+    {
+        match self.visit(name).leaf() {
+            Err(inner) => inner,
+            Ok(_) => {
+                known(false);
+                unreachable!()
+            }
+        }
+    }
+
+    /// Reads the leaf under this name. Each call counts one.
+    #[inline(always)]
+    pub fn visit_leaf(&mut self, name: LeafPtr) -> &'a LeafNode<K, V>
+        requires { IsSome (held_at (arena_of self.old) (leaf_name name)) }
+        ensures value { held_at (arena_of self.old) (leaf_name name) ≡ Some (leaf_held result.now) }
+        ensures kept { arena_of self.new ≡ arena_of self.old }
+        ensures counts { count_of self.new ≡ min (count_of self.old + 1) (2 ^ 64 - 1) }
+    {
+        match self.visit(name.to_opaque()).leaf() {
+            Ok(leaf) => leaf,
+            Err(_) => {
+                known(false);
+                unreachable!()
+            }
+        }
     }
 }
 

@@ -1,6 +1,7 @@
 pub mod Meetings
 pub mod Nearest
 pub mod Segments
+pub mod Openings
 pub mod Stretches
 pub mod RangeEnds
 pub mod Points

@@ -324,6 +324,10 @@ module _ {K V : Type 0} (bytes : K → List ℕ) (P : ℕ) (arena : Arena K V) w
   abbrev pub Told : List ℕ → ℕ → Ordering → Type 0
   Told key slot o = (l : LeafNode K V) → held_at arena (leaf_name slot) ≡ Some (leaf_held l) → o ≡ bytes_cmp (bytes l.key) key
 
+  -- told of the leaf that was read
+  pub told_of : (key : List ℕ) (slot : ℕ) (o : Ordering) (leaf : LeafNode K V) → held_at arena (leaf_name slot) ≡ Some (leaf_held leaf) → o ≡ bytes_cmp (bytes leaf.key) key → Told key slot o
+  told_of key slot o leaf is order l held = let same : leaf ≡ l = cc in order ∙ ap (λ (m : LeafNode K V). bytes_cmp (bytes m.key) key) same
+
   pub leaf_held_there : (slot : ℕ) (path : List ℕ) (part : Shape K V) → IsSubtree bytes P (node_at arena) (leaf_name slot) path part → IsSome (held_at arena (leaf_name slot))
   leaf_held_there slot path part sub = let at = leaf_there bytes P arena slot path part sub in rw at.there refl
 

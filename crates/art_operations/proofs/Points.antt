@@ -8,7 +8,7 @@ use Rattle.art_nodes.specs.InnerNode.{InnerNode, child_at}
 use Rattle.art_nodes.specs.Name.{Name}
 use Rattle.art_arena.specs.tree.Changes.{IsIn}
 use Rattle.art_arena.specs.arena.Cells.{Cell, leaf_name}
-use Rattle.art_arena.specs.arena.Arena.{Arena, leaf_held, inner_held, held_at, node_at}
+use Rattle.art_arena.specs.arena.Arena.{Arena, Held, leaf_held, inner_held, held_at, node_at}
 use Rattle.art_arena.specs.arena.Shapes.{Shape, Branches, leaf_at, inner_at, no_branch, branch, children_at, leaves, leaves_in, IsUnder, AreUnder}
 use Rattle.art_arena.specs.arena.Context.{path_to}
 use Rattle.art_arena.specs.arena.Meaning.{IsAtDepth, IsSubtree}
@@ -41,6 +41,11 @@ pub part_old : (path rest old key more : List ℕ) (p : Parted) → key ≡ (pat
 part_old path rest old key more p e part =
     begins_from_step (path ++ part.front) p.old_byte (part.old_rest ++ more) key
     (e ∙ ap (λ x. (path ++ x) ++ more) part.old_is ∙ simp append_assoc)
+
+-- what was read of a leaf is its key
+pub stored_is : {K V : Type 0} (bytes : K → List ℕ) {held : Option (Held K V)} {there found : LeafNode K V} {key : K} {stored : List ℕ} → held ≡ Some (leaf_held there) → held ≡ Some (leaf_held found) → key ≡ found.key → stored ≡ bytes key
+    → stored ≡ bytes there.key
+stored_is bytes {there} {found} is read key stored = let same : found ≡ there = cc in stored ∙ ap bytes (key ∙ ap (λ (l : LeafNode _ _). l.key) same)
 
 module _ {K V : Type 0} (bytes : K → List ℕ) (P : ℕ) (arena : Arena K V) where
   -- the leaf that a search has come to

@@ -1,6 +1,7 @@
 pub mod Held
 pub mod Whichever
 pub mod Lookups
+pub mod Openings
 pub mod Meetings
 pub mod Points
 pub mod DeletePoints
@@ -14,4 +15,5 @@ pub mod Commands
 pub mod Runs
 pub mod Frees
 pub mod Clones
+pub mod Laws
 pub mod inner

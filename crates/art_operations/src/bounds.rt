@@ -1,13 +1,12 @@
 //! The leaves that a bound or a prefix takes.
-ghost use Rattle.std.specs.Prelude.{◌≡◌, ℕ, ◌++◌, ◌∷◌, [], Bool, true, false, List, drop, length};
-ghost use Rattle.std.specs.Prelude.{None, Some, IsSome, MatchOption};
+ghost use Rattle.std.specs.Prelude.{◌≡◌, ℕ, ◌+◌, ◌*◌, ◌≤◌, ◌++◌, ◌∷◌, [], Bool, true, false, List, drop, length};
+ghost use Rattle.std.specs.Prelude.{None, Some, MatchOption};
 ghost use Rattle.std.specs.BTreeMap.Range.{is_past_end, range_contains};
 ghost use Rattle.std.specs.Range.Bound.{bound_map};
 ghost use Rattle.std.specs.declared.cmp.Ordering.TheVariants.{Less, Greater};
 ghost use Rattle.art_bytes.specs.Keys.{BeginsWith, bytes_cmp};
 ghost use Rattle.art_nodes.specs.InnerNode.{child_at};
-ghost use Rattle.art_arena.specs.arena.Arena.{held_at, leaf_held, links_at};
-ghost use Rattle.art_arena.specs.arena.Cells.{leaf_name};
+ghost use Rattle.art_arena.specs.arena.Arena.{links_at};
 ghost use Rattle.art_arena.specs.arena.Descents.{leaf_where, passing};
 ghost use Rattle.art_arena.specs.arena.Linked.{AreLinked, last_slot};
 ghost use Rattle.art_arena.specs.arena.Shapes.{Branches, LeafAt, Shape, children_at, inner_at, leaves, leaves_in};
@@ -15,14 +14,16 @@ ghost use Rattle.art_arena.specs.arena.Stores.{Stores, StoresBelow};
 ghost use Rattle.art_arena.specs.tree.Tenants.{begins_with};
 ghost use Rattle.art_operations.specs.Bounds.{AreEndsWhere, slot_inside};
 ghost use Rattle.art_operations.specs.Meetings.{PartAt};
+ghost use Rattle.art_operations.specs.Openings.{bound_len, EndReads, ForLongest, OpeningReads};
 ghost use Rattle.art_operations.specs.Points.{AllConflict, IsPoint};
 ghost use Rattle.art_operations.specs.declared.insert.point.InsertKind.TheVariants as kind;
 ghost use Rattle.art_operations.specs.inner.Nearest.{IsNearest};
 ghost use Rattle.art_operations.specs.Whichever.{HasSome, HasTree, OfEach, OfTree};
 
-use crate::insert::point::{InsertKind, InsertPoint, find_insert_point};
+use crate::insert::point::{InsertKind, InsertPoint, find_insert_point_with};
 use crate::meeting::Parted;
-use art_arena::{LeafPtr, NodeArena, first_leaf, last_leaf};
+use crate::minmax::{maximum_with, minimum_with};
+use art_arena::{ArenaReader, End, LeafPtr, NodeArena, end_leaf_with};
 use art_bytes::AsBytes;
 use art_nodes::{LeafNode, OpaqueNodePtr};
 use std::cmp::Ordering;
@@ -50,46 +51,70 @@ pub fn find_leaf_pointer_for_bound<K: AsBytes, V, const PREFIX_LEN: usize>(
     ensures { OfTree K.bytes PREFIX_LEN arena.now root (λ s. AreLinked (links_at arena.now) None (leaves s) None
         → result ≡ slot_inside K.bytes is_start (bound_map (λ key. key.now) bound.entry) (leaves s)) }
 {
+    let mut reader = ArenaReader::new(arena);
+    find_leaf_pointer_for_bound_with(&mut reader, root, bound, is_start)
+}
+
+/// What `find_leaf_pointer_for_bound` answers, by a reader that counts each node that is read. They are fewer than half
+/// as many as the longest key and two have, for each byte of the bound and for six.
+pub fn find_leaf_pointer_for_bound_with<K: AsBytes, V, const PREFIX_LEN: usize>(
+    reader: &mut ArenaReader<'_, K, V, PREFIX_LEN>,
+    root: OpaqueNodePtr,
+    bound: Bound<&[u8]>,
+    is_start: bool,
+) -> Option<LeafPtr>
+    requires { (s : Shape K V) × Stores K.bytes PREFIX_LEN reader.old.arena.now root s
+        × AreLinked (links_at reader.old.arena.now) None (leaves s) None }
+    ensures value { OfTree K.bytes PREFIX_LEN reader.old.arena.now root
+        (λ s. AreLinked (links_at reader.old.arena.now) None (leaves s) None
+        → result ≡ slot_inside K.bytes is_start (bound_map (λ key. key.now) bound.entry) (leaves s)) }
+    ensures kept { reader.new.arena.now ≡ reader.old.arena.now }
+    ensures few { OfTree K.bytes PREFIX_LEN reader.old.arena.now root (λ s. ForLongest K.bytes s
+        (λ longest. EndReads longest (bound_len (bound_map (λ key. key.now) bound.entry))
+        reader.old.count reader.new.count)) }
+{
     match bound {
         Bound::Unbounded => {
             if is_start {
-                return Some(first_leaf(arena, root));
+                return Some(minimum_with(reader, root));
             }
-            Some(last_leaf(arena, root))
+            Some(maximum_with(reader, root))
         }
         Bound::Included(key) => {
-            let nearest = nearest_leaf(arena, root, key);
+            let nearest = nearest_leaf(reader, root, key);
             if is_start {
-                return first_from(arena, nearest, nearest.order.is_ge());
+                return first_from(reader, nearest, nearest.order.is_ge());
             }
-            last_to(arena, nearest, nearest.order.is_le())
+            last_to(reader, nearest, nearest.order.is_le())
         }
         Bound::Excluded(key) => {
-            let nearest = nearest_leaf(arena, root, key);
+            let nearest = nearest_leaf(reader, root, key);
             if is_start {
-                return first_from(arena, nearest, nearest.order.is_gt());
+                return first_from(reader, nearest, nearest.order.is_gt());
             }
-            last_to(arena, nearest, nearest.order.is_lt())
+            last_to(reader, nearest, nearest.order.is_lt())
         }
     }
 }
 
 // The first leaf that passes a test which greater keys pass and smaller ones don't: the one beside the key or the next.
 fn first_from<K: AsBytes, V, const PREFIX_LEN: usize>(
-    arena: &NodeArena<K, V, PREFIX_LEN>,
+    reader: &mut ArenaReader<'_, K, V, PREFIX_LEN>,
     nearest: Nearest,
     passes: bool,
 ) -> Option<LeafPtr>
-    requires { (key : List ℕ) × (ls : List (LeafAt K V)) × AreLinked (links_at arena.now) None ls None
+    requires { (key : List ℕ) × (ls : List (LeafAt K V)) × AreLinked (links_at reader.old.arena.now) None ls None
         × IsNearest K.bytes key ls nearest.leaf nearest.order }
-    ensures { (key : List ℕ) (ls : List (LeafAt K V)) (test : List ℕ → Bool)
-        → AreLinked (links_at arena.now) None ls None → IsNearest K.bytes key ls nearest.leaf nearest.order
+    ensures value { (key : List ℕ) (ls : List (LeafAt K V)) (test : List ℕ → Bool)
+        → AreLinked (links_at reader.old.arena.now) None ls None → IsNearest K.bytes key ls nearest.leaf nearest.order
         → ((k : List ℕ) → bytes_cmp k key ≡ Less → test k ≡ false)
         → ((k : List ℕ) → bytes_cmp k key ≡ Greater → test k ≡ true)
         → ((k : List ℕ) → bytes_cmp k key ≡ nearest.order → test k ≡ passes)
         → result ≡ leaf_where K.bytes test ls }
+    ensures kept { reader.new.arena.now ≡ reader.old.arena.now }
+    ensures one { reader.new.count ≤ reader.old.count + 1 }
 {
-    let leaf = arena.as_ref::<LeafNode<K, V>>(nearest.leaf);
+    let leaf = reader.visit_leaf(nearest.leaf);
     if passes {
         return Some(nearest.leaf);
     }
@@ -99,20 +124,22 @@ fn first_from<K: AsBytes, V, const PREFIX_LEN: usize>(
 // The last leaf that passes a test which smaller keys pass and greater ones don't: the one beside the key or the one
 // before it.
 fn last_to<K: AsBytes, V, const PREFIX_LEN: usize>(
-    arena: &NodeArena<K, V, PREFIX_LEN>,
+    reader: &mut ArenaReader<'_, K, V, PREFIX_LEN>,
     nearest: Nearest,
     passes: bool,
 ) -> Option<LeafPtr>
-    requires { (key : List ℕ) × (ls : List (LeafAt K V)) × AreLinked (links_at arena.now) None ls None
+    requires { (key : List ℕ) × (ls : List (LeafAt K V)) × AreLinked (links_at reader.old.arena.now) None ls None
         × IsNearest K.bytes key ls nearest.leaf nearest.order }
-    ensures { (key : List ℕ) (ls : List (LeafAt K V)) (test : List ℕ → Bool)
-        → AreLinked (links_at arena.now) None ls None → IsNearest K.bytes key ls nearest.leaf nearest.order
+    ensures value { (key : List ℕ) (ls : List (LeafAt K V)) (test : List ℕ → Bool)
+        → AreLinked (links_at reader.old.arena.now) None ls None → IsNearest K.bytes key ls nearest.leaf nearest.order
         → ((k : List ℕ) → bytes_cmp k key ≡ Less → test k ≡ true)
         → ((k : List ℕ) → bytes_cmp k key ≡ Greater → test k ≡ false)
         → ((k : List ℕ) → bytes_cmp k key ≡ nearest.order → test k ≡ passes)
         → result ≡ last_slot None (passing K.bytes test ls) }
+    ensures kept { reader.new.arena.now ≡ reader.old.arena.now }
+    ensures one { reader.new.count ≤ reader.old.count + 1 }
 {
-    let leaf = arena.as_ref::<LeafNode<K, V>>(nearest.leaf);
+    let leaf = reader.visit_leaf(nearest.leaf);
     if passes {
         return Some(nearest.leaf);
     }
@@ -121,112 +148,126 @@ fn last_to<K: AsBytes, V, const PREFIX_LEN: usize>(
 
 // A leaf beside the place of a key.
 fn nearest_leaf<K: AsBytes, V, const PREFIX_LEN: usize>(
-    arena: &NodeArena<K, V, PREFIX_LEN>,
+    reader: &mut ArenaReader<'_, K, V, PREFIX_LEN>,
     root: OpaqueNodePtr,
     key: &[u8],
 ) -> Nearest
-    requires { HasTree K.bytes PREFIX_LEN arena.now root }
-    ensures { OfTree K.bytes PREFIX_LEN arena.now root
+    requires { HasTree K.bytes PREFIX_LEN reader.old.arena.now root }
+    ensures nearest { OfTree K.bytes PREFIX_LEN reader.old.arena.now root
         (λ s. IsNearest K.bytes key.now (leaves s) result.leaf result.order) }
+    ensures kept { reader.new.arena.now ≡ reader.old.arena.now }
+    ensures few { OfTree K.bytes PREFIX_LEN reader.old.arena.now root (λ s. ForLongest K.bytes s
+        (λ longest. 2 * reader.new.count
+        ≤ 2 * reader.old.count + (length key.now * (longest + 2) + (6 * longest + 8)))) }
 {
-    match find_insert_point(arena, root, key) {
-        Err(conflict) => compared(arena, first_leaf(arena, conflict.part), key),
-        Ok(point) => nearest_at(arena, root, point, key),
+    match find_insert_point_with(reader, root, key) {
+        Err(conflict) => {
+            let first = end_leaf_with(reader, conflict.part, End::First);
+            compared(first.name, first.leaf, key)
+        }
+        Ok(point) => nearest_at(reader, root, point, key),
     }
 }
 
 // A leaf beside the place of a key, which is no other stored key's front, nor has one.
 fn nearest_at<K: AsBytes, V, const PREFIX_LEN: usize>(
-    arena: &NodeArena<K, V, PREFIX_LEN>,
+    reader: &mut ArenaReader<'_, K, V, PREFIX_LEN>,
     root: OpaqueNodePtr,
     point: InsertPoint,
     key: &[u8],
 ) -> Nearest
-    requires { (s : Shape K V) × Stores K.bytes PREFIX_LEN arena.now root s × IsPoint K.bytes key.now s point }
-    ensures { OfTree K.bytes PREFIX_LEN arena.now root (λ s. IsPoint K.bytes key.now s point
+    requires { (s : Shape K V) × Stores K.bytes PREFIX_LEN reader.old.arena.now root s × IsPoint K.bytes key.now s point }
+    ensures nearest { OfTree K.bytes PREFIX_LEN reader.old.arena.now root (λ s. IsPoint K.bytes key.now s point
         → IsNearest K.bytes key.now (leaves s) result.leaf result.order) }
+    ensures kept { reader.new.arena.now ≡ reader.old.arena.now }
+    ensures few { OfTree K.bytes PREFIX_LEN reader.old.arena.now root (λ s. IsPoint K.bytes key.now s point
+        → ForLongest K.bytes s (λ longest. reader.new.count ≤ reader.old.count + (longest + 2))) }
 {
     let kind = point.insert_kind;
     match kind {
-        InsertKind::Exact { leaf_node_ptr } => compared(arena, leaf_node_ptr, key),
+        InsertKind::Exact { leaf_node_ptr } => {
+            compared(leaf_node_ptr, reader.visit_leaf(leaf_node_ptr), key)
+        }
         InsertKind::SplitLeaf {
             leaf_node_ptr,
             parted: _,
-        } => compared(arena, leaf_node_ptr, key),
+        } => compared(leaf_node_ptr, reader.visit_leaf(leaf_node_ptr), key),
         InsertKind::MismatchPrefix {
             inner_node_ptr,
             parted,
-        } => nearest_parted(arena, inner_node_ptr, parted),
+        } => nearest_parted(reader, inner_node_ptr, parted),
         InsertKind::IntoExisting {
             inner_node_ptr,
             key_byte,
-        } => nearest_child(arena, inner_node_ptr, key_byte),
+        } => nearest_child(reader, inner_node_ptr, key_byte),
     }
 }
 
-// A leaf, and how its key compares with this one.
-fn compared<K: AsBytes, V, const PREFIX_LEN: usize>(
-    arena: &NodeArena<K, V, PREFIX_LEN>,
-    leaf: LeafPtr,
-    key: &[u8],
-) -> Nearest
-    requires { IsSome (held_at arena.now (leaf_name leaf)) }
-    ensures leaf { result.leaf ≡ leaf }
-    ensures order { (l : _) → held_at arena.now (leaf_name leaf) ≡ Some (leaf_held l)
-        → result.order ≡ bytes_cmp (K.bytes l.key) key.now }
+// A leaf that was read, and how its key compares with this one.
+fn compared<K: AsBytes, V>(name: LeafPtr, leaf: &LeafNode<K, V>, key: &[u8]) -> Nearest
+    ensures leaf { result.leaf ≡ name }
+    ensures order { result.order ≡ bytes_cmp (K.bytes leaf.now.key) key.now }
 {
     Nearest {
-        leaf,
-        order: arena.as_key_ref(leaf).as_bytes().cmp(key),
+        leaf: name,
+        order: leaf.key_ref().as_bytes().cmp(key),
     }
 }
 
 // The leaf beside a key that has another byte within the prefix of a node.
 fn nearest_parted<K: AsBytes, V, const PREFIX_LEN: usize>(
-    arena: &NodeArena<K, V, PREFIX_LEN>,
+    reader: &mut ArenaReader<'_, K, V, PREFIX_LEN>,
     node: OpaqueNodePtr,
     parted: Parted,
 ) -> Nearest
     requires { (path : List ℕ) × (prefix : List ℕ) × (kids : Branches K V)
-        × StoresBelow K.bytes PREFIX_LEN arena.now node path (inner_at node prefix kids) }
-    ensures { (key path : List ℕ) (prefix : List ℕ) (kids : Branches K V)
-        → StoresBelow K.bytes PREFIX_LEN arena.now node path (inner_at node prefix kids)
+        × StoresBelow K.bytes PREFIX_LEN reader.old.arena.now node path (inner_at node prefix kids) }
+    ensures nearest { (key path : List ℕ) (prefix : List ℕ) (kids : Branches K V)
+        → StoresBelow K.bytes PREFIX_LEN reader.old.arena.now node path (inner_at node prefix kids)
         → BeginsWith path key → PartAt prefix (drop (length path) key) parted
         → IsNearest K.bytes key (leaves_in kids) result.leaf result.order }
+    ensures kept { reader.new.arena.now ≡ reader.old.arena.now }
+    ensures few { OfEach (StoresBelow K.bytes PREFIX_LEN reader.old.arena.now node)
+        (λ path s. ForLongest K.bytes s (λ longest. reader.new.count ≤ reader.old.count + (longest + 1))) }
 {
     if parted.new_byte < parted.old_byte {
         return Nearest {
-            leaf: first_leaf(arena, node),
+            leaf: minimum_with(reader, node),
             order: Ordering::Greater,
         };
     }
     Nearest {
-        leaf: last_leaf(arena, node),
+        leaf: maximum_with(reader, node),
         order: Ordering::Less,
     }
 }
 
 // The leaf beside the place of a byte under which an inner node has no child.
 fn nearest_child<K: AsBytes, V, const PREFIX_LEN: usize>(
-    arena: &NodeArena<K, V, PREFIX_LEN>,
+    reader: &mut ArenaReader<'_, K, V, PREFIX_LEN>,
     node: OpaqueNodePtr,
     byte: u8,
 ) -> Nearest
     requires { (path : List ℕ) × (prefix : List ℕ) × (kids : Branches K V)
-        × StoresBelow K.bytes PREFIX_LEN arena.now node path (inner_at node prefix kids)
+        × StoresBelow K.bytes PREFIX_LEN reader.old.arena.now node path (inner_at node prefix kids)
         × (child_at (children_at kids) byte ≡ None) }
-    ensures { (key path : List ℕ) (prefix : List ℕ) (kids : Branches K V)
-        → StoresBelow K.bytes PREFIX_LEN arena.now node path (inner_at node prefix kids)
+    ensures nearest { (key path : List ℕ) (prefix : List ℕ) (kids : Branches K V)
+        → StoresBelow K.bytes PREFIX_LEN reader.old.arena.now node path (inner_at node prefix kids)
         → child_at (children_at kids) byte ≡ None → BeginsWith ((path ++ prefix) ++ byte ∷ []) key
         → IsNearest K.bytes key (leaves_in kids) result.leaf result.order }
+    ensures kept { reader.new.arena.now ≡ reader.old.arena.now }
+    ensures few { (path : List ℕ) (prefix : List ℕ) (kids : Branches K V)
+        → StoresBelow K.bytes PREFIX_LEN reader.old.arena.now node path (inner_at node prefix kids)
+        → child_at (children_at kids) byte ≡ None → ForLongest K.bytes (inner_at node prefix kids)
+        (λ longest. reader.new.count ≤ reader.old.count + (longest + 2)) }
 {
-    match arena.inner(node).child_after(byte) {
+    match reader.visit_inner(node).child_after(byte) {
         Some(next) => Nearest {
-            leaf: first_leaf(arena, next.1),
+            leaf: minimum_with(reader, next.1),
             order: Ordering::Greater,
         },
         None => Nearest {
-            leaf: last_leaf(arena, node),
+            leaf: maximum_with(reader, node),
             order: Ordering::Less,
         },
     }
@@ -260,14 +301,38 @@ pub fn find_range_segment<K: AsBytes, V, const PREFIX_LEN: usize>(
         → AreEndsWhere K.bytes (λ k. range_contains bytes_cmp (bound_map (λ key. key.now) start.entry)
         (bound_map (λ key. key.now) end.entry) k) (leaves s) result) }
 {
-    let first = match find_leaf_pointer_for_bound(arena, root, start, true) {
+    let mut reader = ArenaReader::new(arena);
+    find_range_segment_with(&mut reader, root, start, end)
+}
+
+/// What `find_range_segment` answers, by a reader that counts each node that is read. They are at most as many as the
+/// longest key and two have, for each byte of the longer bound and for six.
+pub fn find_range_segment_with<K: AsBytes, V, const PREFIX_LEN: usize>(
+    reader: &mut ArenaReader<'_, K, V, PREFIX_LEN>,
+    root: OpaqueNodePtr,
+    start: Bound<&[u8]>,
+    end: Bound<&[u8]>,
+) -> Option<(LeafPtr, LeafPtr)>
+    requires { (s : Shape K V) × Stores K.bytes PREFIX_LEN reader.old.arena.now root s
+        × AreLinked (links_at reader.old.arena.now) None (leaves s) None }
+    ensures value { OfTree K.bytes PREFIX_LEN reader.old.arena.now root
+        (λ s. AreLinked (links_at reader.old.arena.now) None (leaves s) None
+        → AreEndsWhere K.bytes (λ k. range_contains bytes_cmp (bound_map (λ key. key.now) start.entry)
+        (bound_map (λ key. key.now) end.entry) k) (leaves s) result) }
+    ensures kept { reader.new.arena.now ≡ reader.old.arena.now }
+    ensures few { OfTree K.bytes PREFIX_LEN reader.old.arena.now root (λ s. ForLongest K.bytes s (λ longest. (most : ℕ)
+        → bound_len (bound_map (λ key. key.now) start.entry) ≤ most
+        → bound_len (bound_map (λ key. key.now) end.entry) ≤ most
+        → OpeningReads longest most reader.old.count reader.new.count)) }
+{
+    let first = match find_leaf_pointer_for_bound_with(reader, root, start, true) {
         Some(first) => first,
         None => return None,
     };
-    if is_past(end, arena.as_key_ref(first).as_bytes()) {
+    if is_past(end, reader.visit_leaf(first).key_ref().as_bytes()) {
         return None;
     }
-    match find_leaf_pointer_for_bound(arena, root, end, false) {
+    match find_leaf_pointer_for_bound_with(reader, root, end, false) {
         Some(last) => Some((first, last)),
         None => None,
     }
@@ -286,8 +351,26 @@ pub fn find_prefix_segment<K: AsBytes, V, const PREFIX_LEN: usize>(
     ensures { OfTree K.bytes PREFIX_LEN arena.now root
         (λ s. AreEndsWhere K.bytes (λ k. begins_with prefix.now k) (leaves s) result) }
 {
-    match find_insert_point(arena, root, prefix) {
-        Err(conflict) => segment_at(arena, conflict.part, prefix),
+    let mut reader = ArenaReader::new(arena);
+    find_prefix_segment_with(&mut reader, root, prefix)
+}
+
+/// What `find_prefix_segment` answers, by a reader that counts each node that is read. They are at most as many as the
+/// longest key and two have, for each byte of the prefix and for six.
+pub fn find_prefix_segment_with<K: AsBytes, V, const PREFIX_LEN: usize>(
+    reader: &mut ArenaReader<'_, K, V, PREFIX_LEN>,
+    root: OpaqueNodePtr,
+    prefix: &[u8],
+) -> Option<(LeafPtr, LeafPtr)>
+    requires { HasTree K.bytes PREFIX_LEN reader.old.arena.now root }
+    ensures value { OfTree K.bytes PREFIX_LEN reader.old.arena.now root
+        (λ s. AreEndsWhere K.bytes (λ k. begins_with prefix.now k) (leaves s) result) }
+    ensures kept { reader.new.arena.now ≡ reader.old.arena.now }
+    ensures few { OfTree K.bytes PREFIX_LEN reader.old.arena.now root (λ s. ForLongest K.bytes s
+        (λ longest. OpeningReads longest (length prefix.now) reader.old.count reader.new.count)) }
+{
+    match find_insert_point_with(reader, root, prefix) {
+        Err(conflict) => segment_at(reader, conflict.part, prefix),
         Ok(point) => match point.stored_leaf() {
             Some(leaf) => Some((leaf, leaf)),
             None => None,
@@ -297,18 +380,21 @@ pub fn find_prefix_segment<K: AsBytes, V, const PREFIX_LEN: usize>(
 
 // The ends of a part whose leaves are all in conflict with a prefix, where they begin with it.
 fn segment_at<K: AsBytes, V, const PREFIX_LEN: usize>(
-    arena: &NodeArena<K, V, PREFIX_LEN>,
+    reader: &mut ArenaReader<'_, K, V, PREFIX_LEN>,
     part: OpaqueNodePtr,
     prefix: &[u8],
 ) -> Option<(LeafPtr, LeafPtr)>
-    requires { HasSome (StoresBelow K.bytes PREFIX_LEN arena.now part) }
-    ensures { OfEach (StoresBelow K.bytes PREFIX_LEN arena.now part)
+    requires { HasSome (StoresBelow K.bytes PREFIX_LEN reader.old.arena.now part) }
+    ensures value { OfEach (StoresBelow K.bytes PREFIX_LEN reader.old.arena.now part)
         (λ path s. AllConflict K.bytes prefix.now (leaves s)
         → AreEndsWhere K.bytes (λ k. begins_with prefix.now k) (leaves s) result) }
+    ensures kept { reader.new.arena.now ≡ reader.old.arena.now }
+    ensures few { OfEach (StoresBelow K.bytes PREFIX_LEN reader.old.arena.now part)
+        (λ path s. ForLongest K.bytes s (λ longest. reader.new.count ≤ reader.old.count + 2 * (longest + 1))) }
 {
-    let first = first_leaf(arena, part);
-    if arena.as_key_ref(first).as_bytes().starts_with(prefix) {
-        return Some((first, last_leaf(arena, part)));
+    let first = end_leaf_with(reader, part, End::First);
+    if first.leaf.key_ref().as_bytes().starts_with(prefix) {
+        return Some((first.name, maximum_with(reader, part)));
     }
     None
 }

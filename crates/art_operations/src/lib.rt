@@ -8,6 +8,7 @@ pub mod clone;
 pub mod deallocate;
 pub mod delete;
 pub mod insert;
+pub mod laws;
 pub mod lookup;
 pub mod meeting;
 pub mod minmax;
@@ -16,7 +17,10 @@ mod parent;
 pub mod prefix_insert;
 pub mod running;
 
-pub use bounds::{find_leaf_pointer_for_bound, find_prefix_segment, find_range_segment};
+pub use bounds::{
+    find_leaf_pointer_for_bound, find_leaf_pointer_for_bound_with, find_prefix_segment,
+    find_prefix_segment_with, find_range_segment, find_range_segment_with,
+};
 pub use clone::{CloneResult, clone_unchecked};
 pub use deallocate::{deallocate_leaves, deallocate_tree, deallocate_tree_non_leaves};
 pub use delete::leaf::take_leaf;
@@ -32,7 +36,7 @@ pub use insert::result::{InsertParentNodeChange, InsertRefused, InsertResult, Pa
 pub use lookup::{
     PrefixMatchBehavior, prefix_search_unchecked, prefix_search_with, search_unchecked, search_with,
 };
-pub use minmax::{maximum_unchecked, minimum_unchecked};
+pub use minmax::{maximum_unchecked, maximum_with, minimum_unchecked, minimum_with};
 pub use pairs::{
     find_place, find_place_over, insert_pair, put_over, put_pair, take_end, take_pair,
 };

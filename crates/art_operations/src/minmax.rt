@@ -1,11 +1,15 @@
 //! The first and the last leaf below a node.
-ghost use Rattle.std.specs.Prelude.{◌≡◌, Some, None};
+ghost use Rattle.std.specs.Prelude.{◌≡◌, ◌+◌, ◌≤◌, Some, None, drop, length};
 ghost use Rattle.art_arena.specs.arena.Shapes.{leaves};
 ghost use Rattle.art_arena.specs.arena.Linked.{first_slot, last_slot};
 ghost use Rattle.art_arena.specs.arena.Stores.{StoresBelow};
+ghost use Rattle.art_nodes.specs.declared.leaf.LeafNode.{LeafNode};
+ghost use Rattle.art_operations.specs.Held.{HasLeaf};
+ghost use Rattle.art_operations.specs.Lookups.{ReadsPath};
+ghost use Rattle.art_operations.specs.Openings.{ForLongest};
 ghost use Rattle.art_operations.specs.Whichever.{HasSome, OfEach};
 
-use art_arena::{LeafPtr, NodeArena, first_leaf, last_leaf};
+use art_arena::{ArenaReader, End, LeafPtr, NodeArena, end_leaf_with};
 use art_bytes::AsBytes;
 use art_nodes::OpaqueNodePtr;
 
@@ -18,7 +22,8 @@ pub fn minimum_unchecked<K: AsBytes, V, const PREFIX_LEN: usize>(
     ensures { OfEach (StoresBelow K.bytes PREFIX_LEN arena.now root)
         (λ path s. first_slot (leaves s) None ≡ Some result) }
 {
-    first_leaf(arena, root)
+    let mut reader = ArenaReader::new(arena);
+    minimum_with(&mut reader, root)
 }
 
 /// The last leaf below a node: the one with the greatest key.
@@ -30,5 +35,46 @@ pub fn maximum_unchecked<K: AsBytes, V, const PREFIX_LEN: usize>(
     ensures { OfEach (StoresBelow K.bytes PREFIX_LEN arena.now root)
         (λ path s. last_slot None (leaves s) ≡ Some result) }
 {
-    last_leaf(arena, root)
+    let mut reader = ArenaReader::new(arena);
+    maximum_with(&mut reader, root)
+}
+
+/// What `minimum_unchecked` answers, by a reader that counts each node that is read: those of the path of the leaf's
+/// key below the node, the leaf included. The greatest count stays.
+#[inline(always)]
+pub fn minimum_with<K: AsBytes, V, const PREFIX_LEN: usize>(
+    reader: &mut ArenaReader<'_, K, V, PREFIX_LEN>,
+    root: OpaqueNodePtr,
+) -> LeafPtr
+    requires { HasSome (StoresBelow K.bytes PREFIX_LEN reader.old.arena.now root) }
+    ensures value { OfEach (StoresBelow K.bytes PREFIX_LEN reader.old.arena.now root)
+        (λ path s. first_slot (leaves s) None ≡ Some result) }
+    ensures kept { reader.new.arena.now ≡ reader.old.arena.now }
+    ensures counts { OfEach (StoresBelow K.bytes PREFIX_LEN reader.old.arena.now root)
+        (λ path s. (l : LeafNode K V) → HasLeaf reader.old.arena.now result l
+        → ReadsPath (drop (length path) (K.bytes l.key)) s reader.old.count reader.new.count) }
+    ensures few { OfEach (StoresBelow K.bytes PREFIX_LEN reader.old.arena.now root)
+        (λ path s. ForLongest K.bytes s (λ longest. reader.new.count ≤ reader.old.count + (longest + 1))) }
+{
+    end_leaf_with(reader, root, End::First).name
+}
+
+/// What `maximum_unchecked` answers, by a reader that counts each node that is read: those of the path of the leaf's
+/// key below the node, the leaf included. The greatest count stays.
+#[inline(always)]
+pub fn maximum_with<K: AsBytes, V, const PREFIX_LEN: usize>(
+    reader: &mut ArenaReader<'_, K, V, PREFIX_LEN>,
+    root: OpaqueNodePtr,
+) -> LeafPtr
+    requires { HasSome (StoresBelow K.bytes PREFIX_LEN reader.old.arena.now root) }
+    ensures value { OfEach (StoresBelow K.bytes PREFIX_LEN reader.old.arena.now root)
+        (λ path s. last_slot None (leaves s) ≡ Some result) }
+    ensures kept { reader.new.arena.now ≡ reader.old.arena.now }
+    ensures counts { OfEach (StoresBelow K.bytes PREFIX_LEN reader.old.arena.now root)
+        (λ path s. (l : LeafNode K V) → HasLeaf reader.old.arena.now result l
+        → ReadsPath (drop (length path) (K.bytes l.key)) s reader.old.count reader.new.count) }
+    ensures few { OfEach (StoresBelow K.bytes PREFIX_LEN reader.old.arena.now root)
+        (λ path s. ForLongest K.bytes s (λ longest. reader.new.count ≤ reader.old.count + (longest + 1))) }
+{
+    end_leaf_with(reader, root, End::Last).name
 }

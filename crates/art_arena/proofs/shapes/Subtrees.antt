@@ -97,6 +97,11 @@ module _ {K V : Type 0} (bytes : K → List ℕ) where
     subtree-inner n path (leaf_at slot k v) sub other = absurd (other (ap (λ (m : Name). m.kind) (sym sub.part.named)))
     subtree-inner n path (inner_at m prefix kids) sub other = (prefix, kids, ap (λ m. inner_at m prefix kids) sub.part.named)
 
+    -- a node is held at a subtree's root
+    pub subtree-held : (n : Name) (path : List ℕ) (s : Shape K V) → IsSubtree bytes P at n path s → IsSome (at n)
+    subtree-held n path (leaf_at slot k v) sub = subst (λ m. IsSome (at m)) sub.part.named (rw sub.part.held.0 refl)
+    subtree-held n path (inner_at m prefix kids) sub = subst (λ m. IsSome (at m)) sub.part.named (rw sub.part.held.0 refl)
+
     -- what stands below a branch of a subtree is a subtree of fewer nodes
     pub record IsSmallerSubtree (path : List ℕ) (t : Shape K V) (more : ℕ) : Type 0 where
       pub subtree : IsSubtree bytes P at (name_of t) path t

@@ -1,9 +1,10 @@
 //! The place of a new key.
-ghost use Rattle.std.specs.Prelude.{◌≡◌, ◌≢◌, ◌↔◌, ℕ, List, IfOk, IfErr, IsTrue};
+ghost use Rattle.std.specs.Prelude.{◌≡◌, ◌≢◌, ◌↔◌, ◌+◌, ◌≤◌, ℕ, List, IfOk, IfErr, IsTrue};
 ghost use Rattle.std.specs.Prelude.{MatchOption};
 ghost use Rattle.art_bytes.specs.Keys.{BeginsWith};
 ghost use Rattle.art_arena.specs.arena.Cells.{leaf_name};
 ghost use Rattle.art_arena.specs.arena.Shapes.{Shape};
+ghost use Rattle.art_operations.specs.Openings.{DescentReads, ForLongest, PlaceReads};
 ghost use Rattle.art_operations.specs.Points.{IsInTheWay, IsPlaceOrConflict, Refuses};
 ghost use Rattle.art_operations.specs.declared.insert.point.InsertKind.TheVariants as kind;
 ghost use Rattle.art_operations.specs.declared.insert.point.Way.TheVariants as way;
@@ -16,7 +17,8 @@ ghost use Rattle.art_operations.specs.Whichever.{HasTree, OfTree};
 
 use crate::meeting::{Meeting, Parted, meet};
 use art_arena::{
-    ArenaReader, LeafPtr, NodeArena, Passing, TreePath, TreePathSearch, descend, read_full_prefix,
+    ArenaReader, LeafPtr, NodeArena, Passing, TreePath, TreePathSearch, descend,
+    read_full_prefix_with,
 };
 use art_bytes::AsBytes;
 use art_nodes::{KindLeaf, NodePtr, NodeType, OpaqueNodePtr};
@@ -199,17 +201,20 @@ impl Way {
 // Where the search ends at a leaf.
 #[inline(always)]
 fn way_at_leaf<K: AsBytes, V, const PREFIX_LEN: usize>(
-    arena: &NodeArena<K, V, PREFIX_LEN>,
+    reader: &mut ArenaReader<'_, K, V, PREFIX_LEN>,
     leaf: LeafPtr,
     key: &[u8],
     depth: usize,
 ) -> Way
     requires { (path : List ℕ) × (s : Shape K V)
-        × StoresAt K.bytes PREFIX_LEN arena.now (leaf_name leaf) depth path s × BeginsWith path key.now }
-    ensures { (path : List ℕ) (s : Shape K V) → StoresAt K.bytes PREFIX_LEN arena.now (leaf_name leaf) depth path s
+        × StoresAt K.bytes PREFIX_LEN reader.old.arena.now (leaf_name leaf) depth path s × BeginsWith path key.now }
+    ensures way { (path : List ℕ) (s : Shape K V)
+        → StoresAt K.bytes PREFIX_LEN reader.old.arena.now (leaf_name leaf) depth path s
         → BeginsWith path key.now → IsWay K.bytes key.now path s (leaf_name leaf) result }
+    ensures kept { reader.new.arena.now ≡ reader.old.arena.now }
+    ensures one { reader.new.count ≤ reader.old.count + 1 }
 {
-    let stored = arena.as_key_ref(leaf).as_bytes();
+    let stored = reader.visit_leaf(leaf).key_ref().as_bytes();
     match meet(&stored[depth..], &key[depth..]) {
         Meeting::Same => Way::Same,
         Meeting::OldEnds => Way::Conflict,
@@ -221,26 +226,59 @@ fn way_at_leaf<K: AsBytes, V, const PREFIX_LEN: usize>(
 // Where the search ends at an inner node, from which the key goes no further.
 #[inline(always)]
 fn way_at_inner<K: AsBytes, V, const PREFIX_LEN: usize>(
-    arena: &NodeArena<K, V, PREFIX_LEN>,
+    reader: &mut ArenaReader<'_, K, V, PREFIX_LEN>,
     node: OpaqueNodePtr,
     key: &[u8],
     depth: usize,
 ) -> Way
-    requires stands { (path : List ℕ) × (s : Shape K V) × StoresAt K.bytes PREFIX_LEN arena.now node depth path s
-        × BeginsWith path key.now }
+    requires stands { (path : List ℕ) × (s : Shape K V)
+        × StoresAt K.bytes PREFIX_LEN reader.old.arena.now node depth path s × BeginsWith path key.now }
     requires inner { node.kind ≢ NodeType.Leaf }
-    requires stops { (path : List ℕ) (s : Shape K V) → StoresAt K.bytes PREFIX_LEN arena.now node depth path s
+    requires stops { (path : List ℕ) (s : Shape K V)
+        → StoresAt K.bytes PREFIX_LEN reader.old.arena.now node depth path s
         → BeginsWith path key.now → Stops K.bytes key.now path s }
-    ensures { (path : List ℕ) (s : Shape K V) → StoresAt K.bytes PREFIX_LEN arena.now node depth path s
+    ensures way { (path : List ℕ) (s : Shape K V)
+        → StoresAt K.bytes PREFIX_LEN reader.old.arena.now node depth path s
         → BeginsWith path key.now → IsWay K.bytes key.now path s node result }
+    ensures kept { reader.new.arena.now ≡ reader.old.arena.now }
+    ensures few { (path : List ℕ) (s : Shape K V)
+        → StoresAt K.bytes PREFIX_LEN reader.old.arena.now node depth path s
+        → ForLongest K.bytes s (λ longest. reader.new.count ≤ reader.old.count + (longest + 1)) }
 {
-    let prefix = read_full_prefix(arena, node, depth).prefix;
+    let prefix = read_full_prefix_with(reader, node, depth).prefix;
     let rest = &key[depth..];
     match meet(prefix, rest) {
         Meeting::Same => Way::Conflict,
         Meeting::NewEnds => Way::Conflict,
         Meeting::Parts(parted) => Way::PartsFromPrefix(parted),
         Meeting::OldEnds => Way::NoChild(rest[prefix.len()]),
+    }
+}
+
+// Where the search ends at a node, from which the key goes no further. What it reads of the node is counted.
+#[inline(always)]
+fn way_with<K: AsBytes, V, const PREFIX_LEN: usize>(
+    reader: &mut ArenaReader<'_, K, V, PREFIX_LEN>,
+    node: OpaqueNodePtr,
+    key: &[u8],
+    depth: usize,
+) -> Way
+    requires stands { (path : List ℕ) × (s : Shape K V)
+        × StoresAt K.bytes PREFIX_LEN reader.old.arena.now node depth path s × BeginsWith path key.now }
+    requires stops { (path : List ℕ) (s : Shape K V)
+        → StoresAt K.bytes PREFIX_LEN reader.old.arena.now node depth path s
+        → BeginsWith path key.now → Stops K.bytes key.now path s }
+    ensures way { (path : List ℕ) (s : Shape K V)
+        → StoresAt K.bytes PREFIX_LEN reader.old.arena.now node depth path s
+        → BeginsWith path key.now → IsWay K.bytes key.now path s node result }
+    ensures kept { reader.new.arena.now ≡ reader.old.arena.now }
+    ensures few { (path : List ℕ) (s : Shape K V)
+        → StoresAt K.bytes PREFIX_LEN reader.old.arena.now node depth path s
+        → ForLongest K.bytes s (λ longest. reader.new.count ≤ reader.old.count + (longest + 1)) }
+{
+    match node.cast::<KindLeaf>() {
+        Some(leaf) => way_at_leaf(reader, leaf, key, depth),
+        None => way_at_inner(reader, node, key, depth),
     }
 }
 
@@ -259,10 +297,8 @@ pub(crate) fn way_at<K: AsBytes, V, const PREFIX_LEN: usize>(
     ensures { (path : List ℕ) (s : Shape K V) → StoresAt K.bytes PREFIX_LEN arena.now node depth path s
         → BeginsWith path key.now → IsWay K.bytes key.now path s node result }
 {
-    match node.cast::<KindLeaf>() {
-        Some(leaf) => way_at_leaf(arena, leaf, key, depth),
-        None => way_at_inner(arena, node, key, depth),
-    }
+    let mut reader = ArenaReader::new(arena);
+    way_with(&mut reader, node, key, depth)
 }
 
 // Goes down for a key by whole prefixes, as far as it goes.
@@ -281,8 +317,29 @@ pub(crate) fn stop_of<K: AsBytes, V, const PREFIX_LEN: usize>(
         → BeginsWith path key.now → Stops K.bytes key.now path s }
 {
     let mut reader = ArenaReader::new(arena);
+    stop_with(&mut reader, root, key)
+}
+
+// The same, by a reader that counts each node that is read.
+#[inline(always)]
+fn stop_with<K: AsBytes, V, const PREFIX_LEN: usize>(
+    reader: &mut ArenaReader<'_, K, V, PREFIX_LEN>,
+    root: OpaqueNodePtr,
+    key: &[u8],
+) -> Stop
+    requires { HasTree K.bytes PREFIX_LEN reader.old.arena.now root }
+    ensures way { OfTree K.bytes PREFIX_LEN reader.old.arena.now root
+        (λ s. OnWayTo K.bytes PREFIX_LEN (node_at reader.old.arena.now) key.now s result.node
+        (steps_of result.path) result.depth) }
+    ensures stops { (path : List ℕ) (s : Shape K V)
+        → StoresAt K.bytes PREFIX_LEN reader.old.arena.now result.node result.depth path s
+        → BeginsWith path key.now → Stops K.bytes key.now path s }
+    ensures kept { reader.new.arena.now ≡ reader.old.arena.now }
+    ensures few { OfTree K.bytes PREFIX_LEN reader.old.arena.now root (λ s. ForLongest K.bytes s
+        (λ longest. DescentReads longest key.now reader.old.count reader.new.count)) }
+{
     let mut search = TreePathSearch::default();
-    let stop = descend(&mut reader, &mut search, root, key, Passing::ByBytes);
+    let stop = descend(reader, &mut search, root, key, Passing::ByBytes);
     Stop {
         node: stop.node,
         path: search.finish(),
@@ -303,10 +360,30 @@ pub fn find_insert_point<K: AsBytes, V, const PREFIX_LEN: usize>(
     ensures part { IfErr result (λ e. OfTree K.bytes PREFIX_LEN arena.now root
         (λ s. IsInTheWay K.bytes key.now s e.root e.part (steps_of e.path))) }
 {
-    let stop = stop_of(arena, root, key);
+    let mut reader = ArenaReader::new(arena);
+    find_insert_point_with(&mut reader, root, key)
+}
+
+// What `find_insert_point` answers, by a reader that counts each node that is read.
+#[inline(always)]
+pub(crate) fn find_insert_point_with<K: AsBytes, V, const PREFIX_LEN: usize>(
+    reader: &mut ArenaReader<'_, K, V, PREFIX_LEN>,
+    root: OpaqueNodePtr,
+    key: &[u8],
+) -> Result<InsertPoint, PrefixConflict>
+    requires { HasTree K.bytes PREFIX_LEN reader.old.arena.now root }
+    ensures answer { OfTree K.bytes PREFIX_LEN reader.old.arena.now root
+        (λ s. IsPlaceOrConflict K.bytes key.now s result) }
+    ensures part { IfErr result (λ e. OfTree K.bytes PREFIX_LEN reader.old.arena.now root
+        (λ s. IsInTheWay K.bytes key.now s e.root e.part (steps_of e.path))) }
+    ensures kept { reader.new.arena.now ≡ reader.old.arena.now }
+    ensures few { OfTree K.bytes PREFIX_LEN reader.old.arena.now root (λ s. ForLongest K.bytes s
+        (λ longest. PlaceReads longest key.now reader.old.count reader.new.count)) }
+{
+    let stop = stop_with(reader, root, key);
     let node = stop.node;
     // The place is made in each case alone: what cases hand on together is taken apart into bytes.
-    match way_at(arena, node, key, stop.depth) {
+    match way_with(reader, node, key, stop.depth) {
         Way::Conflict => Err(PrefixConflict {
             root,
             path: stop.path,

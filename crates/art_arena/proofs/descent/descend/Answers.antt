@@ -1,102 +1,134 @@
-use Rattle.std.proofs.Common.{◌≡◌, ◌≢◌, Some, sym, ap, subst, ◌∙◌, refl, arith, lit<}
-use Rattle.art_nodes.specs.declared.kind.NodeType.TheVariants.{Leaf}
+use Rattle.std.proofs.Common.{◌+◌, ◌-◌, ◌^◌, [], ℕ, Some, min, sym, ap, subst, ◌∙◌, refl, arith, lit<}
 use Rattle.art_arena.specs.arena.Arena.{held_at, node_at}
 use Rattle.art_arena.specs.arena.Context.{path_to}
-use Rattle.art_arena.specs.arena.Meaning.{IsAtDepth}
+use Rattle.art_arena.specs.arena.Meaning.{IsAtDepth, IsSubtree}
+use Rattle.art_arena.specs.arena.Reads.{IsReadAt}
+use Rattle.art_arena.specs.arena.Shapes.{Shape}
 use Rattle.art_arena.specs.arena.Visited.{held_of}
 use Rattle.art_arena.proofs.shapes.Passing.{leaf-stops}
-use Rattle.art_arena.proofs.shapes.Walking.{way-starts, way-there, way-subtree, on-way-to, way-steps, way-ends, way-lands, reads-leaf, lent-leaf, lent-inner, node-there}
+use Rattle.art_arena.proofs.shapes.Reads.{descent_ends, descent_goes_on, part_within}
+use Rattle.art_arena.proofs.shapes.Walking.{IsOnWay, way-starts, way-there, way-subtree, on-way-to, way-steps, way-ends, way-lands, reads-leaf, lent-leaf, lent-inner, node-there}
 use Rattle.art_arena.proofs.descent.descend.Goals as goal
+use Rattle.art_arena.proofs.descent.descend.Goals.{In-Err}
 
 pub down-init : goal.down-init
 down-init g c = record {
   room = omega arith;
   kept = refl;
-  way = λ s tree. rw c.requires.fresh (way-starts g.K.AsBytes.bytes c.args.key.now s c.args.reader.now.count g.row.PREFIX_LEN (node_at c.args.reader.now.arena.now) c.args.root tree _);
+  way = λ s tree. (_, rw c.requires.fresh (way-starts g.K.AsBytes.bytes c.args.key.now s c.args.reader.now.count g.row.PREFIX_LEN (node_at c.args.reader.now.arena.now) c.args.root tree _), λ mode. refl);
+  reads = λ s tree longest short. omega arith;
 }
 
 pub visit-requires : goal.visit-requires
 visit-requires g c =
-    let way = (c.down.invariant.way c.requires.tree.0 c.requires.tree.1).0 in
+    let way = c.down.invariant.way c.requires.tree.0 c.requires.tree.1 in
     let there = way-there g.K.AsBytes.bytes c.args.key.now c.requires.tree.0 c.args.reader.now.count g.row.PREFIX_LEN (node_at c.args.reader.now.arena.now) c.args.root c.requires.tree.1
-    c.down.current c.down.search c.down.depth c.down.reader.count way in
+    c.down.current c.down.search c.down.depth way.0 way.1.0 in
     (lit< tt, (lit< tt, node-there c.args.reader.now.arena.now c.down.reader.arena.now c.down.current c.down.invariant.kept there))
 
 pub returns-in-Ok-clause-lands : goal.returns-in-Ok-clause-lands
 returns-in-Ok-clause-lands g c = λ mode s tree.
-    let way = (c.down.invariant.way s tree).0 in
+    let way = c.down.invariant.way s tree in
     let there = lent-leaf c.args.reader.now.arena.now c.down.reader.arena.now c.down.current (held_of c.visit.result) c.in-Ok.leaf.now c.down.invariant.kept c.visit.ensures.value c.in-Ok.ensures in
     way-lands g.K.AsBytes.bytes c.args.key.now s c.args.reader.now.count g.row.PREFIX_LEN (node_at c.args.reader.now.arena.now) c.args.root tree
-    c.down.current c.down.search c.down.depth c.down.reader.count way c.in-Ok.leaf.now.key c.in-Ok.leaf.now.value there c.in-Ok.leaf.now refl refl
+    c.down.current c.down.search c.down.depth way.0 way.1.0 c.in-Ok.leaf.now.key c.in-Ok.leaf.now.value there c.in-Ok.leaf.now refl refl
 
 pub returns-in-Ok-clause-counts : goal.returns-in-Ok-clause-counts
 returns-in-Ok-clause-counts g c = λ mode s tree.
-    let way = (c.down.invariant.way s tree).0 in
+    let way = c.down.invariant.way s tree in
     let there = lent-leaf c.args.reader.now.arena.now c.down.reader.arena.now c.down.current (held_of c.visit.result) c.in-Ok.leaf.now c.down.invariant.kept c.visit.ensures.value c.in-Ok.ensures in
-    c.visit.ensures.counts ∙ reads-leaf g.K.AsBytes.bytes c.args.key.now s c.args.reader.now.count g.row.PREFIX_LEN (node_at c.args.reader.now.arena.now) c.args.root tree
-    c.down.current c.down.search c.down.depth c.down.reader.count way c.in-Ok.leaf.now.key c.in-Ok.leaf.now.value there
+    c.visit.ensures.counts ∙ ap (λ m. min (m + 1) (2 ^ 64 - 1)) (way.2 mode) ∙ reads-leaf g.K.AsBytes.bytes c.args.key.now s c.args.reader.now.count g.row.PREFIX_LEN (node_at c.args.reader.now.arena.now) c.args.root tree
+    c.down.current c.down.search c.down.depth way.0 way.1.0 c.in-Ok.leaf.now.key c.in-Ok.leaf.now.value there
 
 pub returns-in-Ok-clause-way : goal.returns-in-Ok-clause-way
 returns-in-Ok-clause-way g c = λ mode s tree.
     let way = c.down.invariant.way s tree in
     on-way-to g.K.AsBytes.bytes c.args.key.now s c.args.reader.now.count g.row.PREFIX_LEN (node_at c.args.reader.now.arena.now) c.args.root tree
-    c.down.current c.down.search c.down.depth c.down.reader.count way.0 _ refl (way.1 mode)
+    c.down.current c.down.search c.down.depth way.0 way.1.0 _ refl (way.1.1 mode)
 
 pub returns-in-Ok-clause-stops : goal.returns-in-Ok-clause-stops
 returns-in-Ok-clause-stops g c = λ mode path s at begins.
     let there = lent-leaf c.args.reader.now.arena.now c.down.reader.arena.now c.down.current (held_of c.visit.result) c.in-Ok.leaf.now c.down.invariant.kept c.visit.ensures.value c.in-Ok.ensures in
     leaf-stops g.K.AsBytes.bytes g.row.PREFIX_LEN (node_at c.args.reader.now.arena.now) c.down.current c.args.key.now path s c.in-Ok.leaf.now.key c.in-Ok.leaf.now.value there at.subtree
 
+pub returns-in-Ok-clause-few : goal.returns-in-Ok-clause-few
+returns-in-Ok-clause-few g c = λ s tree longest short.
+    descent_ends longest c.down.depth c.args.key.now c.args.reader.now.count c.down.reader.count _ (c.down.invariant.reads s tree longest short) c.down.invariant.room (omega (arith, c.visit.ensures.counts))
+
+-- the inner node that was read, in the part where it stands
+is_read : (g : _) (c : In-Err g) (s : Shape g.row.K.Denot g.row.V.Denot) → IsSubtree g.K.AsBytes.bytes g.row.PREFIX_LEN (node_at c.args.reader.now.arena.now) c.args.root [] s
+    → (count : ℕ) (way : IsOnWay g.K.AsBytes.bytes c.args.key.now s c.args.reader.now.count c.down.current c.down.search c.down.depth count)
+    → IsReadAt g.K.AsBytes.bytes g.row.PREFIX_LEN c.visit.new.self.arena.now c.in-Err.inner.node c.down.current c.down.depth (path_to way.ctx) way.part
+is_read g c s tree count way =
+    let sub = way-subtree g.K.AsBytes.bytes c.args.key.now s c.args.reader.now.count g.row.PREFIX_LEN (node_at c.args.reader.now.arena.now) c.args.root tree c.down.current c.down.search c.down.depth count way in
+    record {
+      stands = subst (λ a. IsAtDepth g.K.AsBytes.bytes g.row.PREFIX_LEN (node_at a) c.down.current c.down.depth (path_to way.ctx) way.part) (sym (c.visit.ensures.kept ∙ c.down.invariant.kept)) (record { subtree = sub; behind = way.depth_is });
+      held = ap (λ a. held_at a c.down.current) c.visit.ensures.kept ∙ c.visit.ensures.value ∙ ap Some c.in-Err.ensures.0;
+    }
+
 pub step_at-requires : goal.step_at-requires
 step_at-requires g c =
-    let way = (c.down.invariant.way c.requires.tree.0 c.requires.tree.1).0 in
-    let arena_is : c.arena.result.now ≡ c.down.reader.arena.now = c.arena.ensures ∙ c.visit.ensures.kept in
-    let other : c.down.current.kind ≢ Leaf = λ e. c.in-Err.ensures.2 (sym c.in-Err.ensures.1 ∙ c.visit.ensures.kind ∙ e) in
-    let sub = way-subtree g.K.AsBytes.bytes c.args.key.now c.requires.tree.0 c.args.reader.now.count g.row.PREFIX_LEN (node_at c.args.reader.now.arena.now) c.args.root c.requires.tree.1
-    c.down.current c.down.search c.down.depth c.down.reader.count way in
-    let at = subst (λ a. IsAtDepth g.K.AsBytes.bytes g.row.PREFIX_LEN (node_at a) c.down.current c.down.depth (path_to way.ctx) way.part) (sym (arena_is ∙ c.down.invariant.kept)) (record { subtree = sub; behind = way.depth_is }) in
-    (lit< tt, (lit< tt, ((path_to way.ctx, way.part, at), (ap (λ a. held_at a c.down.current) arena_is ∙ c.visit.ensures.value ∙ ap Some c.in-Err.ensures.0, (other, c.down.invariant.room)))))
+    let d = (goal.at.step_at-requires g c).In-Err in
+    let way = c.down.invariant.way c.requires.tree.0 c.requires.tree.1 in
+    (lit< tt, (lit< tt, ((c.down.current, path_to way.1.0.ctx, way.1.0.part, is_read g d c.requires.tree.0 c.requires.tree.1 way.0 way.1.0), c.down.invariant.room)))
 
 pub returns-in-None-clause-lands : goal.returns-in-None-clause-lands
 returns-in-None-clause-lands g c = λ mode s tree.
-    let way = (c.down.invariant.way s tree).0 in
+    let way = c.down.invariant.way s tree in
     let there = lent-inner c.args.reader.now.arena.now c.down.reader.arena.now c.down.current (held_of c.visit.result) c.in-Err.inner.node c.down.invariant.kept c.visit.ensures.value c.in-Err.ensures.0 in
     (way-ends g.K.AsBytes.bytes c.args.key.now s c.args.reader.now.count g.row.PREFIX_LEN (node_at c.args.reader.now.arena.now) c.args.root tree
-    c.down.current c.down.search c.down.depth c.down.reader.count way c.in-Err.inner.node there (c.in-None.ensures.goes mode)).none
+    c.down.current c.down.search c.down.depth way.0 way.1.0 c.in-Err.inner.node there (c.in-None.ensures.goes mode)).none
 
 pub returns-in-None-clause-counts : goal.returns-in-None-clause-counts
 returns-in-None-clause-counts g c = λ mode s tree.
-    let way = (c.down.invariant.way s tree).0 in
+    let way = c.down.invariant.way s tree in
     let there = lent-inner c.args.reader.now.arena.now c.down.reader.arena.now c.down.current (held_of c.visit.result) c.in-Err.inner.node c.down.invariant.kept c.visit.ensures.value c.in-Err.ensures.0 in
-    c.visit.ensures.counts ∙ (way-ends g.K.AsBytes.bytes c.args.key.now s c.args.reader.now.count g.row.PREFIX_LEN (node_at c.args.reader.now.arena.now) c.args.root tree
-    c.down.current c.down.search c.down.depth c.down.reader.count way c.in-Err.inner.node there (c.in-None.ensures.goes mode)).reads
+    c.in-None.ensures.by_length mode ∙ c.visit.ensures.counts ∙ ap (λ m. min (m + 1) (2 ^ 64 - 1)) (way.2 mode)
+    ∙ (way-ends g.K.AsBytes.bytes c.args.key.now s c.args.reader.now.count g.row.PREFIX_LEN (node_at c.args.reader.now.arena.now) c.args.root tree
+    c.down.current c.down.search c.down.depth way.0 way.1.0 c.in-Err.inner.node there (c.in-None.ensures.goes mode)).reads
 
 pub returns-in-None-clause-way : goal.returns-in-None-clause-way
 returns-in-None-clause-way g c = λ mode s tree.
     let way = c.down.invariant.way s tree in
     on-way-to g.K.AsBytes.bytes c.args.key.now s c.args.reader.now.count g.row.PREFIX_LEN (node_at c.args.reader.now.arena.now) c.args.root tree
-    c.down.current c.down.search c.down.depth c.down.reader.count way.0 _ refl (way.1 mode)
+    c.down.current c.down.search c.down.depth way.0 way.1.0 _ refl (way.1.1 mode)
 
 pub returns-in-None-clause-stops : goal.returns-in-None-clause-stops
 returns-in-None-clause-stops g c = λ mode path s at begins.
-    let arena_is = c.arena.ensures ∙ c.visit.ensures.kept ∙ c.down.invariant.kept in
-    c.in-None.ensures.by_bytes mode path s (subst (λ a. IsAtDepth g.K.AsBytes.bytes g.row.PREFIX_LEN (node_at a) c.down.current c.down.depth path s) (sym arena_is) at) begins
+    let arena_is = c.visit.ensures.kept ∙ c.down.invariant.kept in
+    c.in-None.ensures.by_bytes mode c.down.current path s (record {
+      stands = subst (λ a. IsAtDepth g.K.AsBytes.bytes g.row.PREFIX_LEN (node_at a) c.down.current c.down.depth path s) (sym arena_is) at;
+      held = ap (λ a. held_at a c.down.current) c.visit.ensures.kept ∙ c.visit.ensures.value ∙ ap Some c.in-Err.ensures.0;
+    }) begins
+
+pub returns-in-None-clause-few : goal.returns-in-None-clause-few
+returns-in-None-clause-few g c = λ s tree longest short.
+    let d = (goal.at.returns-in-None-clause-few g c).In-Err in
+    let way = c.down.invariant.way s tree in
+    let within = part_within g.K.AsBytes.bytes longest s way.1.0.ctx way.1.0.part way.1.0.place.is short in
+    let more = c.in-None.ensures.few c.down.current (path_to way.1.0.ctx) way.1.0.part (is_read g d s tree way.0 way.1.0) longest within in
+    descent_ends longest c.down.depth c.args.key.now c.args.reader.now.count c.down.reader.count _ (c.down.invariant.reads s tree longest short) c.down.invariant.room (omega (arith, more, c.visit.ensures.counts))
 
 pub down-preserved : goal.down-preserved
 down-preserved g c =
+    let d = (goal.at.down-preserved g c).In-Err in
     let there = lent-inner c.args.reader.now.arena.now c.down.reader.arena.now c.down.current (held_of c.visit.result) c.in-Err.inner.node c.down.invariant.kept c.visit.ensures.value c.in-Err.ensures.0 in
-    let arena_is = c.arena.ensures ∙ c.visit.ensures.kept ∙ c.down.invariant.kept in
     let goes = c.in-Some.ensures.goes in
     record {
       room = goes.within;
-      kept = c.visit.ensures.kept ∙ c.down.invariant.kept;
+      kept = c.in-Some.ensures.kept ∙ c.visit.ensures.kept ∙ c.down.invariant.kept;
       way = λ s tree.
+          let way = c.down.invariant.way s tree in (
+            _,
+            rw c.go_down.ensures
+                (way-steps g.K.AsBytes.bytes c.args.key.now s c.args.reader.now.count g.row.PREFIX_LEN (node_at c.args.reader.now.arena.now) c.args.root tree
+                c.down.current c.down.search c.down.depth way.0 way.1.0 c.in-Err.inner.node there _ c.in-Some.step.byte c.in-Some.step.child c.in-Some.step.depth goes
+                (λ mode. c.in-Some.ensures.by_bytes mode c.down.current (path_to way.1.0.ctx) way.1.0.part (is_read g d s tree way.0 way.1.0) (way.1.1 mode))),
+            λ mode. c.in-Some.ensures.by_length mode ∙ c.visit.ensures.counts ∙ ap (λ m. min (m + 1) (2 ^ 64 - 1)) (way.2 mode),
+          );
+      reads = λ s tree longest short.
           let way = c.down.invariant.way s tree in
-          let sub = way-subtree g.K.AsBytes.bytes c.args.key.now s c.args.reader.now.count g.row.PREFIX_LEN (node_at c.args.reader.now.arena.now) c.args.root tree
-          c.down.current c.down.search c.down.depth c.down.reader.count way.0 in
-          let at = subst (λ a. IsAtDepth g.K.AsBytes.bytes g.row.PREFIX_LEN (node_at a) c.down.current c.down.depth (path_to way.0.ctx) way.0.part) (sym arena_is) (record { subtree = sub; behind = way.0.depth_is }) in
-          rw (c.visit.ensures.counts, c.go_down.ensures)
-          (way-steps g.K.AsBytes.bytes c.args.key.now s c.args.reader.now.count g.row.PREFIX_LEN (node_at c.args.reader.now.arena.now) c.args.root tree
-          c.down.current c.down.search c.down.depth c.down.reader.count way.0 c.in-Err.inner.node there _ c.in-Some.step.byte c.in-Some.step.child c.in-Some.step.depth goes
-          (λ mode. c.in-Some.ensures.by_bytes mode (path_to way.0.ctx) way.0.part at (way.1 mode)));
+          let within = part_within g.K.AsBytes.bytes longest s way.1.0.ctx way.1.0.part way.1.0.place.is short in
+          let step = c.in-Some.ensures.few c.down.current (path_to way.1.0.ctx) way.1.0.part (is_read g d s tree way.0 way.1.0) longest within in
+          descent_goes_on longest c.down.depth c.in-Some.step.depth c.args.reader.now.count c.down.reader.count _ _ (c.down.invariant.reads s tree longest short) (omega (arith, c.visit.ensures.counts)) step;
     }

@@ -4,67 +4,83 @@ use Rattle.art_arena.specs.arena.Cells.{leaf_name}
 use Rattle.art_arena.specs.arena.Context.{path_to}
 use Rattle.art_arena.specs.arena.Meaning.{IsSubtree}
 use Rattle.art_arena.specs.arena.Shapes.{name_of, leaves}
+use Rattle.art_arena.specs.arena.Reads.{KeysWithin}
+use Rattle.art_arena.proofs.shapes.Reads.{part_within}
 use Rattle.art_operations.specs.Points.{MeetsAt}
 use Rattle.art_operations.specs.inner.Nearest.{IsNearest}
-use Rattle.art_operations.proofs.Nearest.{leaf_held_there, nearest_in, nearest_lone, point_subtree}
+use Rattle.art_operations.proofs.Nearest.{leaf_held_there, nearest_in, nearest_lone, point_subtree, told_of}
 use Rattle.art_operations.proofs.bounds.nearest_at.Goals as goal
 
-pub compared-requires : goal.compared-requires
-compared-requires g c =
+pub visit_leaf-requires : goal.visit_leaf-requires
+visit_leaf-requires g c =
     let r = c.requires in
     let meets = subst (MeetsAt g.K.AsBytes.bytes c.args.key.now (path_to r.2.ctx) r.2.part) c.in-Exact.is r.2.meets in
-    let sub = point_subtree g.K.AsBytes.bytes g.row.PREFIX_LEN c.args.arena.now c.args.key.now c.args.root (leaf_name c.in-Exact.leaf_node_ptr) r.0 c.args.point r.1 r.2 (ap name_of meets.2) in
-    (omega arith, leaf_held_there g.K.AsBytes.bytes g.row.PREFIX_LEN c.args.arena.now c.in-Exact.leaf_node_ptr (path_to r.2.ctx) r.2.part sub)
+    let sub = point_subtree g.K.AsBytes.bytes g.row.PREFIX_LEN c.args.reader.now.arena.now c.args.key.now c.args.root (leaf_name c.in-Exact.leaf_node_ptr) r.0 c.args.point r.1 r.2 (ap name_of meets.2) in
+    (omega arith, leaf_held_there g.K.AsBytes.bytes g.row.PREFIX_LEN c.args.reader.now.arena.now c.in-Exact.leaf_node_ptr (path_to r.2.ctx) r.2.part sub)
 
-pub compared-requires-in-SplitLeaf : goal.compared-requires-in-SplitLeaf
-compared-requires-in-SplitLeaf g c =
+pub visit_leaf-requires-in-SplitLeaf : goal.visit_leaf-requires-in-SplitLeaf
+visit_leaf-requires-in-SplitLeaf g c =
     let r = c.requires in
     let meets = subst (MeetsAt g.K.AsBytes.bytes c.args.key.now (path_to r.2.ctx) r.2.part) c.in-SplitLeaf.is r.2.meets in
-    let sub = point_subtree g.K.AsBytes.bytes g.row.PREFIX_LEN c.args.arena.now c.args.key.now c.args.root (leaf_name c.in-SplitLeaf.leaf_node_ptr) r.0 c.args.point r.1 r.2 (ap name_of meets.2) in
-    (omega arith, leaf_held_there g.K.AsBytes.bytes g.row.PREFIX_LEN c.args.arena.now c.in-SplitLeaf.leaf_node_ptr (path_to r.2.ctx) r.2.part sub)
+    let sub = point_subtree g.K.AsBytes.bytes g.row.PREFIX_LEN c.args.reader.now.arena.now c.args.key.now c.args.root (leaf_name c.in-SplitLeaf.leaf_node_ptr) r.0 c.args.point r.1 r.2 (ap name_of meets.2) in
+    (omega arith, leaf_held_there g.K.AsBytes.bytes g.row.PREFIX_LEN c.args.reader.now.arena.now c.in-SplitLeaf.leaf_node_ptr (path_to r.2.ctx) r.2.part sub)
 
-pub returns-in-Exact : goal.returns-in-Exact
-returns-in-Exact g c = λ s stores at.
+pub returns-in-Exact-clause-nearest : goal.returns-in-Exact-clause-nearest
+returns-in-Exact-clause-nearest g c = λ s stores at.
     let meets = subst (MeetsAt g.K.AsBytes.bytes c.args.key.now (path_to at.ctx) at.part) c.in-Exact.is at.meets in
-    let sub = point_subtree g.K.AsBytes.bytes g.row.PREFIX_LEN c.args.arena.now c.args.key.now c.args.root (leaf_name c.in-Exact.leaf_node_ptr) s c.args.point stores at (ap name_of meets.2) in
+    let sub = point_subtree g.K.AsBytes.bytes g.row.PREFIX_LEN c.args.reader.now.arena.now c.args.key.now c.args.root (leaf_name c.in-Exact.leaf_node_ptr) s c.args.point stores at (ap name_of meets.2) in
     nearest_in g.K.AsBytes.bytes c.args.key.now s at.part at.ctx c.compared.result.leaf c.compared.result.order at.toward.place at.toward.begins
     (subst (λ slot. IsNearest g.K.AsBytes.bytes c.args.key.now (leaves at.part) slot c.compared.result.order) (sym c.compared.ensures.leaf)
-    (nearest_lone g.K.AsBytes.bytes g.row.PREFIX_LEN c.args.arena.now c.args.key.now c.in-Exact.leaf_node_ptr c.compared.result.order (path_to at.ctx) at.part sub c.compared.ensures.order))
+    (nearest_lone g.K.AsBytes.bytes g.row.PREFIX_LEN c.args.reader.now.arena.now c.args.key.now c.in-Exact.leaf_node_ptr c.compared.result.order (path_to at.ctx) at.part sub (told_of g.K.AsBytes.bytes g.row.PREFIX_LEN c.args.reader.now.arena.now c.args.key.now c.in-Exact.leaf_node_ptr c.compared.result.order c.visit_leaf.result.now c.visit_leaf.ensures.value c.compared.ensures.order)))
 
-pub returns-in-SplitLeaf : goal.returns-in-SplitLeaf
-returns-in-SplitLeaf g c = λ s stores at.
+pub returns-in-SplitLeaf-clause-nearest : goal.returns-in-SplitLeaf-clause-nearest
+returns-in-SplitLeaf-clause-nearest g c = λ s stores at.
     let meets = subst (MeetsAt g.K.AsBytes.bytes c.args.key.now (path_to at.ctx) at.part) c.in-SplitLeaf.is at.meets in
-    let sub = point_subtree g.K.AsBytes.bytes g.row.PREFIX_LEN c.args.arena.now c.args.key.now c.args.root (leaf_name c.in-SplitLeaf.leaf_node_ptr) s c.args.point stores at (ap name_of meets.2) in
+    let sub = point_subtree g.K.AsBytes.bytes g.row.PREFIX_LEN c.args.reader.now.arena.now c.args.key.now c.args.root (leaf_name c.in-SplitLeaf.leaf_node_ptr) s c.args.point stores at (ap name_of meets.2) in
     nearest_in g.K.AsBytes.bytes c.args.key.now s at.part at.ctx c.compared-in-SplitLeaf.result.leaf c.compared-in-SplitLeaf.result.order at.toward.place at.toward.begins
     (subst (λ slot. IsNearest g.K.AsBytes.bytes c.args.key.now (leaves at.part) slot c.compared-in-SplitLeaf.result.order) (sym c.compared-in-SplitLeaf.ensures.leaf)
-    (nearest_lone g.K.AsBytes.bytes g.row.PREFIX_LEN c.args.arena.now c.args.key.now c.in-SplitLeaf.leaf_node_ptr c.compared-in-SplitLeaf.result.order (path_to at.ctx) at.part sub c.compared-in-SplitLeaf.ensures.order))
+    (nearest_lone g.K.AsBytes.bytes g.row.PREFIX_LEN c.args.reader.now.arena.now c.args.key.now c.in-SplitLeaf.leaf_node_ptr c.compared-in-SplitLeaf.result.order (path_to at.ctx) at.part sub (told_of g.K.AsBytes.bytes g.row.PREFIX_LEN c.args.reader.now.arena.now c.args.key.now c.in-SplitLeaf.leaf_node_ptr c.compared-in-SplitLeaf.result.order c.visit_leaf-in-SplitLeaf.result.now c.visit_leaf-in-SplitLeaf.ensures.value c.compared-in-SplitLeaf.ensures.order)))
 
 pub nearest_parted-requires : goal.nearest_parted-requires
 nearest_parted-requires g c =
     let r = c.requires in
     let meets = subst (MeetsAt g.K.AsBytes.bytes c.args.key.now (path_to r.2.ctx) r.2.part) c.in-MismatchPrefix.is r.2.meets in
-    let sub = point_subtree g.K.AsBytes.bytes g.row.PREFIX_LEN c.args.arena.now c.args.key.now c.args.root c.in-MismatchPrefix.inner_node_ptr r.0 c.args.point r.1 r.2 (ap name_of meets.2) in
-    (omega arith, (path_to r.2.ctx, meets.0, meets.1, subst (IsSubtree g.K.AsBytes.bytes g.row.PREFIX_LEN (node_at c.args.arena.now) c.in-MismatchPrefix.inner_node_ptr (path_to r.2.ctx)) meets.2 sub))
+    let sub = point_subtree g.K.AsBytes.bytes g.row.PREFIX_LEN c.args.reader.now.arena.now c.args.key.now c.args.root c.in-MismatchPrefix.inner_node_ptr r.0 c.args.point r.1 r.2 (ap name_of meets.2) in
+    (omega arith, (path_to r.2.ctx, meets.0, meets.1, subst (IsSubtree g.K.AsBytes.bytes g.row.PREFIX_LEN (node_at c.args.reader.now.arena.now) c.in-MismatchPrefix.inner_node_ptr (path_to r.2.ctx)) meets.2 sub))
 
-pub returns-in-MismatchPrefix : goal.returns-in-MismatchPrefix
-returns-in-MismatchPrefix g c = λ s stores at.
+pub returns-in-MismatchPrefix-clause-nearest : goal.returns-in-MismatchPrefix-clause-nearest
+returns-in-MismatchPrefix-clause-nearest g c = λ s stores at.
     let meets = subst (MeetsAt g.K.AsBytes.bytes c.args.key.now (path_to at.ctx) at.part) c.in-MismatchPrefix.is at.meets in
-    let sub = point_subtree g.K.AsBytes.bytes g.row.PREFIX_LEN c.args.arena.now c.args.key.now c.args.root c.in-MismatchPrefix.inner_node_ptr s c.args.point stores at (ap name_of meets.2) in
+    let sub = point_subtree g.K.AsBytes.bytes g.row.PREFIX_LEN c.args.reader.now.arena.now c.args.key.now c.args.root c.in-MismatchPrefix.inner_node_ptr s c.args.point stores at (ap name_of meets.2) in
     nearest_in g.K.AsBytes.bytes c.args.key.now s at.part at.ctx c.nearest_parted.result.leaf c.nearest_parted.result.order at.toward.place at.toward.begins
     (subst (λ t. IsNearest g.K.AsBytes.bytes c.args.key.now (leaves t) c.nearest_parted.result.leaf c.nearest_parted.result.order) (sym meets.2)
-    (c.nearest_parted.ensures c.args.key.now (path_to at.ctx) meets.0 meets.1 (subst (IsSubtree g.K.AsBytes.bytes g.row.PREFIX_LEN (node_at c.args.arena.now) c.in-MismatchPrefix.inner_node_ptr (path_to at.ctx)) meets.2 sub) at.toward.begins meets.3))
+    (c.nearest_parted.ensures.nearest c.args.key.now (path_to at.ctx) meets.0 meets.1 (subst (IsSubtree g.K.AsBytes.bytes g.row.PREFIX_LEN (node_at c.args.reader.now.arena.now) c.in-MismatchPrefix.inner_node_ptr (path_to at.ctx)) meets.2 sub) at.toward.begins meets.3))
 
 pub nearest_child-requires : goal.nearest_child-requires
 nearest_child-requires g c =
     let r = c.requires in
     let meets = subst (MeetsAt g.K.AsBytes.bytes c.args.key.now (path_to r.2.ctx) r.2.part) c.in-IntoExisting.is r.2.meets in
-    let sub = point_subtree g.K.AsBytes.bytes g.row.PREFIX_LEN c.args.arena.now c.args.key.now c.args.root c.in-IntoExisting.inner_node_ptr r.0 c.args.point r.1 r.2 (ap name_of meets.2) in
-    (omega arith, (path_to r.2.ctx, meets.0, meets.1, subst (IsSubtree g.K.AsBytes.bytes g.row.PREFIX_LEN (node_at c.args.arena.now) c.in-IntoExisting.inner_node_ptr (path_to r.2.ctx)) meets.2 sub, meets.3))
+    let sub = point_subtree g.K.AsBytes.bytes g.row.PREFIX_LEN c.args.reader.now.arena.now c.args.key.now c.args.root c.in-IntoExisting.inner_node_ptr r.0 c.args.point r.1 r.2 (ap name_of meets.2) in
+    (omega arith, (path_to r.2.ctx, meets.0, meets.1, subst (IsSubtree g.K.AsBytes.bytes g.row.PREFIX_LEN (node_at c.args.reader.now.arena.now) c.in-IntoExisting.inner_node_ptr (path_to r.2.ctx)) meets.2 sub, meets.3))
 
-pub returns-in-IntoExisting : goal.returns-in-IntoExisting
-returns-in-IntoExisting g c = λ s stores at.
+pub returns-in-IntoExisting-clause-nearest : goal.returns-in-IntoExisting-clause-nearest
+returns-in-IntoExisting-clause-nearest g c = λ s stores at.
     let meets = subst (MeetsAt g.K.AsBytes.bytes c.args.key.now (path_to at.ctx) at.part) c.in-IntoExisting.is at.meets in
-    let sub = point_subtree g.K.AsBytes.bytes g.row.PREFIX_LEN c.args.arena.now c.args.key.now c.args.root c.in-IntoExisting.inner_node_ptr s c.args.point stores at (ap name_of meets.2) in
+    let sub = point_subtree g.K.AsBytes.bytes g.row.PREFIX_LEN c.args.reader.now.arena.now c.args.key.now c.args.root c.in-IntoExisting.inner_node_ptr s c.args.point stores at (ap name_of meets.2) in
     nearest_in g.K.AsBytes.bytes c.args.key.now s at.part at.ctx c.nearest_child.result.leaf c.nearest_child.result.order at.toward.place at.toward.begins
     (subst (λ t. IsNearest g.K.AsBytes.bytes c.args.key.now (leaves t) c.nearest_child.result.leaf c.nearest_child.result.order) (sym meets.2)
-    (c.nearest_child.ensures c.args.key.now (path_to at.ctx) meets.0 meets.1 (subst (IsSubtree g.K.AsBytes.bytes g.row.PREFIX_LEN (node_at c.args.arena.now) c.in-IntoExisting.inner_node_ptr (path_to at.ctx)) meets.2 sub) meets.3 meets.4))
+    (c.nearest_child.ensures.nearest c.args.key.now (path_to at.ctx) meets.0 meets.1 (subst (IsSubtree g.K.AsBytes.bytes g.row.PREFIX_LEN (node_at c.args.reader.now.arena.now) c.in-IntoExisting.inner_node_ptr (path_to at.ctx)) meets.2 sub) meets.3 meets.4))
+
+pub returns-in-MismatchPrefix-clause-few : goal.returns-in-MismatchPrefix-clause-few
+returns-in-MismatchPrefix-clause-few g c = λ s stores at longest short.
+    let meets = subst (MeetsAt g.K.AsBytes.bytes c.args.key.now (path_to at.ctx) at.part) c.in-MismatchPrefix.is at.meets in
+    let sub = point_subtree g.K.AsBytes.bytes g.row.PREFIX_LEN c.args.reader.now.arena.now c.args.key.now c.args.root c.in-MismatchPrefix.inner_node_ptr s c.args.point stores at (ap name_of meets.2) in
+    let few = c.nearest_parted.ensures.few (path_to at.ctx) at.part sub longest (part_within g.K.AsBytes.bytes longest s at.ctx at.part at.toward.place.is short) in
+    omega (arith, few)
+
+pub returns-in-IntoExisting-clause-few : goal.returns-in-IntoExisting-clause-few
+returns-in-IntoExisting-clause-few g c = λ s stores at longest short.
+    let meets = subst (MeetsAt g.K.AsBytes.bytes c.args.key.now (path_to at.ctx) at.part) c.in-IntoExisting.is at.meets in
+    let sub = point_subtree g.K.AsBytes.bytes g.row.PREFIX_LEN c.args.reader.now.arena.now c.args.key.now c.args.root c.in-IntoExisting.inner_node_ptr s c.args.point stores at (ap name_of meets.2) in
+    c.nearest_child.ensures.few (path_to at.ctx) meets.0 meets.1 (subst (IsSubtree g.K.AsBytes.bytes g.row.PREFIX_LEN (node_at c.args.reader.now.arena.now) c.in-IntoExisting.inner_node_ptr (path_to at.ctx)) meets.2 sub) meets.3
+    longest (subst (λ t. KeysWithin g.K.AsBytes.bytes longest (leaves t)) meets.2 (part_within g.K.AsBytes.bytes longest s at.ctx at.part at.toward.place.is short))

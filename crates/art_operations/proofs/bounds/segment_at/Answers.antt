@@ -1,4 +1,7 @@
-use Rattle.std.proofs.Common.{ap, subst, sym, refl, ◌∙◌, arith, IsSome, None}
+use Rattle.std.proofs.Common.{ap, subst, sym, refl, ◌∙◌, arith, None}
+use Rattle.art_arena.specs.arena.Arena.{node_at}
+use Rattle.art_arena.specs.arena.Meaning.{IsSubtree}
+use Rattle.art_operations.proofs.Points.{stored_is}
 use Rattle.art_arena.specs.arena.Linked.{first_slot, last_slot}
 use Rattle.art_arena.specs.arena.Descents.{passing}
 use Rattle.art_arena.specs.tree.Tenants.{begins_with}
@@ -8,25 +11,33 @@ use Rattle.art_operations.proofs.Nearest.{first_of_part}
 use Rattle.art_operations.proofs.Segments.{begin_all, begin_none}
 use Rattle.art_operations.proofs.bounds.segment_at.Goals as goal
 
-pub as_key_ref-requires : goal.as_key_ref-requires
-as_key_ref-requires g c =
+pub maximum_with-requires : goal.maximum_with-requires
+maximum_with-requires g c =
     let r = c.requires in
-    let first = first_of_part g.K.AsBytes.bytes g.row.PREFIX_LEN c.args.arena.now c.args.part r.0 r.1 c.first_leaf-first.result r.2 (c.first_leaf-first.ensures r.0 r.1 r.2) in
-    (omega arith, subst IsSome (sym first.there) refl)
+    (omega arith, (r.0, r.1, subst (λ a. IsSubtree g.K.AsBytes.bytes g.row.PREFIX_LEN (node_at a) c.args.part r.0 r.1) (sym c.end_leaf_with-first.ensures.kept) r.2))
 
-pub returns-then-starts_with : goal.returns-then-starts_with
-returns-then-starts_with g c = λ path s sub conflicts.
-    let first = first_of_part g.K.AsBytes.bytes g.row.PREFIX_LEN c.args.arena.now c.args.part path s c.first_leaf-first.result sub (c.first_leaf-first.ensures path s sub) in
-    let stored = c.as_bytes.ensures.value ∙ ap g.K.AsBytes.bytes (c.as_key_ref.ensures first.node first.there ∙ first.key_is) in
+pub returns-then-starts_with-clause-value : goal.returns-then-starts_with-clause-value
+returns-then-starts_with-clause-value g c = λ path s sub conflicts.
+    let first = first_of_part g.K.AsBytes.bytes g.row.PREFIX_LEN c.args.reader.now.arena.now c.args.part path s c.end_leaf_with-first.result.name sub (c.end_leaf_with-first.ensures.value path s sub) in
+    let stored = stored_is g.K.AsBytes.bytes first.there c.end_leaf_with-first.ensures.leaf c.key_ref.ensures c.as_bytes.ensures.value ∙ ap g.K.AsBytes.bytes first.key_is in
     let begins = begins_of c.starts_with.result _ (g.K.AsBytes.bytes first.first.key) _ c.args.prefix.now stored refl c.starts_with.ensures.value c.if-starts_with.true in
     let all = begin_all g.K.AsBytes.bytes c.args.prefix.now first.first first.others (subst (AllConflict g.K.AsBytes.bytes c.args.prefix.now) first.are conflicts) first.before begins in (
-      ap (λ xs. first_slot (passing g.K.AsBytes.bytes (λ k. begins_with c.args.prefix.now k) xs) None) first.are ∙ ap (λ xs. first_slot xs None) all ∙ ap (λ xs. first_slot xs None) (sym first.are) ∙ c.first_leaf-first.ensures path s sub,
-      ap (λ xs. last_slot None (passing g.K.AsBytes.bytes (λ k. begins_with c.args.prefix.now k) xs)) first.are ∙ ap (last_slot None) all ∙ ap (last_slot None) (sym first.are) ∙ c.last_leaf.ensures path s sub,
+      ap (λ xs. first_slot (passing g.K.AsBytes.bytes (λ k. begins_with c.args.prefix.now k) xs) None) first.are ∙ ap (λ xs. first_slot xs None) all ∙ ap (λ xs. first_slot xs None) (sym first.are) ∙ c.end_leaf_with-first.ensures.value path s sub,
+      ap (λ xs. last_slot None (passing g.K.AsBytes.bytes (λ k. begins_with c.args.prefix.now k) xs)) first.are ∙ ap (last_slot None) all ∙ ap (last_slot None) (sym first.are) ∙ c.maximum_with.ensures.value path s (subst (λ a. IsSubtree g.K.AsBytes.bytes g.row.PREFIX_LEN (node_at a) c.args.part path s) (sym c.end_leaf_with-first.ensures.kept) sub),
     )
 
-pub returns : goal.returns
-returns g c = λ path s sub conflicts.
-    let first = first_of_part g.K.AsBytes.bytes g.row.PREFIX_LEN c.args.arena.now c.args.part path s c.first_leaf-first.result sub (c.first_leaf-first.ensures path s sub) in
-    let stored = c.as_bytes.ensures.value ∙ ap g.K.AsBytes.bytes (c.as_key_ref.ensures first.node first.there ∙ first.key_is) in
+pub returns-clause-value : goal.returns-clause-value
+returns-clause-value g c = λ path s sub conflicts.
+    let first = first_of_part g.K.AsBytes.bytes g.row.PREFIX_LEN c.args.reader.now.arena.now c.args.part path s c.end_leaf_with-first.result.name sub (c.end_leaf_with-first.ensures.value path s sub) in
+    let stored = stored_is g.K.AsBytes.bytes first.there c.end_leaf_with-first.ensures.leaf c.key_ref.ensures c.as_bytes.ensures.value ∙ ap g.K.AsBytes.bytes first.key_is in
     let other = begins_not c.starts_with.result _ (g.K.AsBytes.bytes first.first.key) _ c.args.prefix.now stored refl c.starts_with.ensures.value c.if-starts_with.false in
     ap (passing g.K.AsBytes.bytes (λ k. begins_with c.args.prefix.now k)) first.are ∙ begin_none g.K.AsBytes.bytes c.args.prefix.now first.first first.others (subst (AllConflict g.K.AsBytes.bytes c.args.prefix.now) first.are conflicts) first.before other
+
+pub returns-then-starts_with-clause-few : goal.returns-then-starts_with-clause-few
+returns-then-starts_with-clause-few g c = λ path s sub longest short.
+    let first = c.end_leaf_with-first.ensures.few path s sub longest short in
+    let last = c.maximum_with.ensures.few path s (subst (λ a. IsSubtree g.K.AsBytes.bytes g.row.PREFIX_LEN (node_at a) c.args.part path s) (sym c.end_leaf_with-first.ensures.kept) sub) longest short in
+    omega (arith, first, last)
+
+pub returns-clause-few : goal.returns-clause-few
+returns-clause-few g c = λ path s sub longest short. let first = c.end_leaf_with-first.ensures.few path s sub longest short in omega (arith, first)

@@ -1,0 +1,105 @@
+-- What is read of an inner node, and on a way down from it to a first or last leaf.
+use Rattle.std.proofs.Common.{◌≡◌, ◌≢◌, ℕ, zero, suc, ◌+◌, ◌*◌, ◌≤◌, List, [], ◌++◌, length, take, IfErr, MatchOption, None, Option, Some, IsSome, Ok, Err, refl, sym, ap, subst, ◌∙◌, arith}
+use Rattle.std.specs.declared.result.Result.{Result}
+use Rattle.std.proofs.Math.Nat.{add-mul, mul-le-mul_right}
+use Rattle.art_nodes.specs.declared.kind.NodeType.TheVariants.{Leaf}
+use Rattle.art_nodes.specs.InnerNode.{InnerNode}
+use Rattle.art_nodes.specs.Name.{Name}
+use Rattle.art_arena.specs.arena.Arena.{Arena, cell_of, node_at}
+use Rattle.art_arena.specs.arena.Context.{Frame, plug, leaves_before, leaves_after}
+use Rattle.art_arena.specs.arena.EndLeaves.{end_slot, end_child}
+use Rattle.art_arena.specs.arena.Meaning.{IsSubtree}
+use Rattle.art_arena.specs.arena.Prefixes.{prefix_of}
+use Rattle.art_arena.specs.arena.Reads.{DescentReads, IsReadAt, KeysWithin, StepReads}
+use Rattle.art_arena.specs.arena.Shapes.{Shape, LeafAt, leaves}
+use Rattle.art_arena.specs.declared.ends.End.{End}
+use Rattle.art_arena.proofs.tree.Order.{all_left, all_right}
+use Rattle.art_arena.proofs.shapes.Contexts.{leaves-plug}
+use Rattle.art_arena.proofs.shapes.EndWalks.{EndStep, end_step, on_end-start, same_inner}
+use Rattle.art_arena.proofs.shapes.Places.{InnerThere, inner-there}
+use Rattle.art_arena.proofs.shapes.Subtrees.{subtree-leaf}
+
+-- what holds of an answer may be weaker
+pub err_weaker : {A E : Type 0} (r : Result A E) (B C : E → Type 0) → ((e : E) → B e → C e) → IfErr r B → IfErr r C
+err_weaker (Ok a) B C f h = h
+err_weaker (Err e) B C f h = f e h
+
+pub option_weaker : {X : Type 0} (r : Option X) (A B : Type 0) (C D : X → Type 0) → (A → B) → ((x : X) → C x → D x) → MatchOption r A C → MatchOption r B D
+option_weaker None A B C D f h a = f a
+option_weaker (Some x) A B C D f h c = h x c
+
+-- what a step reads, told by how many bytes it has
+pub step_reads : (longest depth prefix next old new : ℕ) → next ≡ depth + prefix + 1 → (prefix ≡ 0 → new ≡ old) → new ≤ old + longest → StepReads longest depth next old new
+step_reads longest depth zero next old new step none few =
+    let same = none refl in
+    let products = ap (λ m. m * (longest + 2)) (step ∙ arrange) ∙ add-mul depth 1 (longest + 2) in
+    omega (arith, same, products)
+  where
+    arrange : depth + 0 + 1 ≡ depth + 1
+    arrange = omega arith
+step_reads longest depth (suc prefix) next old new step none few =
+    let products = ap (λ m. m * (longest + 2)) (step ∙ arrange) ∙ add-mul depth (prefix + 2) (longest + 2) in
+    let twice = ap (λ m. m) (add-mul prefix 2 (longest + 2)) in
+    omega (arith, few, products, twice)
+  where
+    arrange : depth + suc prefix + 1 ≡ depth + (prefix + 2)
+    arrange = omega arith
+
+-- a descent, so far, and where it ends
+pub descent_goes_on : (longest depth next start at read new : ℕ) → 2 * at ≤ 2 * start + depth * (longest + 2) → read ≤ at + 1 → StepReads longest depth next read new → 2 * new ≤ 2 * start + next * (longest + 2)
+descent_goes_on longest depth next start at read new so_far one step = omega (arith, so_far, one, step)
+
+pub descent_ends : (longest depth : ℕ) (key : List ℕ) (start at new : ℕ) → 2 * at ≤ 2 * start + depth * (longest + 2) → depth ≤ length key → new ≤ at + (longest + 1) → DescentReads longest key start new
+descent_ends longest depth key start at new so_far within more =
+    let products : depth * (longest + 2) ≤ length key * (longest + 2) = mul-le-mul_right (longest + 2) within in
+    omega (arith, so_far, more, products)
+
+-- the keys of a part are among those of the whole
+pub part_within : {K V : Type 0} (bytes : K → List ℕ) (longest : ℕ) (whole : Shape K V) (ctx : List (Frame K V)) (part : Shape K V) → whole ≡ plug ctx part → KeysWithin bytes longest (leaves whole) → KeysWithin bytes longest (leaves part)
+part_within bytes longest whole ctx part is short =
+    let Q = λ (l : LeafAt _ _). length (bytes l.key) ≤ longest in
+    all_left Q (leaves part) (leaves_after ctx) (all_right Q (leaves_before ctx) (leaves part ++ leaves_after ctx) (subst (KeysWithin bytes longest) (ap leaves is ∙ leaves-plug ctx part) short))
+
+module _ {K V : Type 0} (bytes : K → List ℕ) (P : ℕ) (arena : Arena K V) (node : InnerNode) (root : Name) (depth : ℕ) (path : List ℕ) (s : Shape K V) (at : IsReadAt bytes P arena node root depth path s) where
+  here : InnerThere P (node_at arena) s node
+  here = inner-there P (node_at arena) s node at.stands.subtree.part.held (ap (node_at arena) at.stands.subtree.part.named ∙ ap cell_of at.held)
+
+  pub read_inner : root.kind ≢ Leaf
+  read_inner kind = let e = (subtree-leaf bytes P (node_at arena) root path s at.stands.subtree kind).2 in let f = here.is in absurd (cc)
+
+  pub read_len : node.header.prefix_len ≡ length (prefix_of s)
+  read_len = ap (λ (n : InnerNode). n.header.prefix_len) here.node_is ∙ ap (λ t. length (prefix_of t)) (sym here.is)
+
+  pub read_stored : node.header.stored ≡ take P (prefix_of s)
+  read_stored = ap (λ (n : InnerNode). n.header.stored) here.node_is ∙ ap (λ t. take P (prefix_of t)) (sym here.is)
+
+  module _ (end : End) where
+    step : EndStep bytes P arena end path s 0 root [] 0
+    step = end_step bytes P arena end path s 0 root [] 0 (on_end-start bytes P arena end path s 0 root at.stands.subtree) read_inner
+
+    same : step.node ≡ node
+    same = same_inner _ _ _ step.there at.held
+
+    pub read_some : IsSome (end_child end node.children)
+    read_some = subst (λ (n : InnerNode). IsSome (end_child end n.children)) same step.some
+
+    -- the child at its end: its own end is the same, and it stands behind a longer path
+    pub record ReadChild (c : ℕ × Name) : Type 0 where
+      pub below : List ℕ
+      pub part : Shape K V
+      pub subtree : IsSubtree bytes P (node_at arena) c.1 below part
+      pub same_end : end_slot end (leaves part) ≡ end_slot end (leaves s)
+      pub deeper : depth + 1 ≤ length below
+      pub within : (longest : ℕ) → KeysWithin bytes longest (leaves s) → KeysWithin bytes longest (leaves part)
+
+    pub read_child : (c : ℕ × Name) → end_child end node.children ≡ Some c → ReadChild c
+    read_child c found =
+        let on = (step.goes_on c (ap (λ (n : InnerNode). end_child end n.children) same ∙ found)).0 in
+        record {
+          below = on.below;
+          part = on.part;
+          subtree = on.subtree;
+          same_end = on.same_end;
+          deeper = omega (arith, on.deeper, on.reads, at.stands.behind);
+          within = on.within;
+        }

@@ -1,0 +1,28 @@
+-- How many nodes a walk reads at most, told by the keys.
+use Rattle.std.specs.Prelude.{◌≡◌, ℕ, ◌+◌, ◌*◌, ◌≤◌, List, length, Some}
+use Rattle.std.specs.List.{AllByRecursion}
+use Rattle.art_nodes.specs.Name.{Name}
+use Rattle.art_nodes.specs.InnerNode.{InnerNode}
+use Rattle.art_arena.specs.arena.Arena.{Arena, held_at, inner_held}
+use Rattle.art_arena.specs.arena.Shapes.{Shape, LeafAt}
+use Rattle.art_arena.specs.arena.Stores.{StoresAt}
+
+-- A step of a descent, which leads from one depth to another, reads this many nodes at most, and with the node itself
+-- half as many for each byte as the longest key and two have.
+abbrev pub StepReads : ℕ → ℕ → ℕ → ℕ → ℕ → Type 0
+StepReads longest depth next old new = 2 * (new + 1) + depth * (longest + 2) ≤ 2 * old + next * (longest + 2)
+
+-- so does a descent for each byte of the key, and at its end the node there and a way down from it
+abbrev pub DescentReads : ℕ → List ℕ → ℕ → ℕ → Type 0
+DescentReads longest key old new = 2 * new ≤ 2 * old + (length key * (longest + 2) + 2 * (longest + 1))
+
+module _ {K V : Type 0} (bytes : K → List ℕ) where
+  -- no leaf's key has more bytes than this
+  abbrev pub KeysWithin : ℕ → List (LeafAt K V) → Type 0
+  KeysWithin longest ls = AllByRecursion (λ l. length (bytes l.key) ≤ longest) ls
+
+  module _ (P : ℕ) (arena : Arena K V) (node : InnerNode) where
+    -- this inner node was read, and is the root of this part, which is canonical behind a path of so many bytes
+    pub record IsReadAt (root : Name) (depth : ℕ) (path : List ℕ) (s : Shape K V) : Type 0 where
+      pub stands : StoresAt bytes P arena root depth path s
+      pub held : held_at arena root ≡ Some (inner_held node)

@@ -1,0 +1,12 @@
+//! The laws of the tree of some pairs: each function does nothing, and its contract is the law.
+ghost use Rattle.art_operations.specs.Laws.{CountsAreFrontsOfPairs, HasFewInnerNodes};
+
+/// The tree of ascending pairs has a leaf for each, and its inner nodes of each kind are counted from the keys alone.
+pub fn counts_are_fronts_of_pairs<X>()
+    ensures { CountsAreFrontsOfPairs X }
+{}
+
+/// It has at most one inner node fewer than pairs, and none where there is no pair or one.
+pub fn has_few_inner_nodes<X>()
+    ensures { HasFewInnerNodes X }
+{}
