@@ -15,3 +15,4 @@ pub mod Extractions
 pub mod Asks
 pub mod Ranges
 pub mod PrefixEntries
+pub mod Audits

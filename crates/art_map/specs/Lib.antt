@@ -1,4 +1,5 @@
 pub mod Contents
+pub mod Audit
 pub mod Changes
 pub mod Lends
 pub mod Found

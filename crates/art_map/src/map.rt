@@ -5,6 +5,7 @@ ghost use Rattle.art_arena.specs.arena.Shapes.{key_of};
 ghost use Rattle.art_arena.specs.tree.Order.{AscendsByKey};
 ghost use Rattle.art_operations.specs.Runs.{HoldsTreeOf};
 
+mod audit;
 mod changes;
 pub mod entry;
 pub mod extract_if;
