@@ -1,0 +1,289 @@
+-- The first key of two ascending lists, and what a merge of them has behind it.
+use Rattle.std.proofs.Common.{◌≡◌, ℕ, ◌+◌, ◌<◌, ◌≤◌, ◌==◌, Bool, true, false, not, cond, ◌&&◌, ◌||◌, bytes_eq, List, [], ◌∷◌, refl, sym, ap, ap₂, ◌∙◌, subst, arith, length, eqb-true, Option, Some, None}
+use Rattle.std.specs.Prelude.{filter, is_some, ⊤}
+use Rattle.std.specs.Bool.{OnFalse}
+use Rattle.std.specs.List.{AllByRecursion, list_all}
+use Rattle.std.specs.Ordering.{is_lt, ordering_reverse}
+use Rattle.std.specs.declared.cmp.Ordering.{Ordering}
+use Rattle.std.specs.declared.cmp.Ordering.TheVariants.{Less, Equal, Greater}
+use Rattle.std.proofs.lemmas.Cmp.{nat_list_cmp_total}
+use Rattle.std.proofs.lemmas.Map.Text.{is_eq-slice_cmp}
+use Rattle.std.specs.Ordering.{is_eq}
+use Rattle.art_bytes.specs.Keys.{bytes_cmp, is_below}
+use Rattle.art_set.specs.inner.Merging.{Beside, IsCompared, keys_left, merge_of, merging, of_first, of_second, merged}
+use Rattle.art_set.specs.declared.merges.sides.Wanted.{Wanted}
+use Rattle.std.specs.Borrow.{Bor}
+use Rattle.std.specs.Iterator.{MakesProgress, at_most}
+use Rattle.std.specs.Map.Iter.{TakesFirst, deref}
+use Rattle.art_set.specs.Members.{is_member}
+use Rattle.art_set.specs.Merges.{GivesNext, Merge, intersection_of, difference_of, put_below, joined, union_of, symmetric_difference_of, AscendsInBytes}
+
+-- the other way round, the order is turned
+pub turned : (k l : List ℕ) (o : Ordering) → bytes_cmp k l ≡ o → bytes_cmp l k ≡ ordering_reverse o
+turned k l o e = nat_list_cmp_total.antisymm l k ∙ ap ordering_reverse e
+
+-- keys that are not equal in the order have other bytes
+differs : (k l : List ℕ) → bytes_cmp k l ≡ Less → bytes_eq k l ≡ false
+differs k l e = sym (is_eq-slice_cmp k l) ∙ ap is_eq e
+
+pub differs-turned : (k l : List ℕ) → bytes_cmp k l ≡ Less → bytes_eq l k ≡ false
+differs-turned k l e = sym (is_eq-slice_cmp l k) ∙ ap is_eq (turned k l Less e)
+
+agrees : (k l : List ℕ) → bytes_cmp k l ≡ Equal → bytes_eq k l ≡ true
+agrees k l e = sym (is_eq-slice_cmp k l) ∙ ap is_eq e
+
+module _ {X : Type 0} where
+  -- lists of items that pass the same
+  pub filter-same : (p q : X → Bool) (xs : List X) → AllByRecursion (λ x. p x ≡ q x) xs → filter p xs ≡ filter q xs
+  filter-same p q [] h = refl
+  filter-same p q (x ∷ xs) h = ap₂ (λ b ys. cond b (x ∷ ys) ys) h.0 (filter-same p q xs h.1)
+
+  all-always : (P : X → Type 0) → ((x : X) → P x) → (xs : List X) → AllByRecursion P xs
+  all-always P h [] = tt
+  all-always P h (x ∷ xs) = (h x, all-always P h xs)
+
+  filter-none : (p : X → Bool) (xs : List X) → ((x : X) → p x ≡ false) → filter p xs ≡ []
+  filter-none p [] h = refl
+  filter-none p (x ∷ xs) h = ap (λ b. cond b (x ∷ filter p xs) (filter p xs)) (h x) ∙ filter-none p xs h
+
+  filter-all : (p : X → Bool) (xs : List X) → ((x : X) → p x ≡ true) → filter p xs ≡ xs
+  filter-all p [] h = refl
+  filter-all p (x ∷ xs) h = ap (λ b. cond b (x ∷ filter p xs) (filter p xs)) (h x) ∙ ap (λ ys. x ∷ ys) (filter-all p xs h)
+
+  pub all-filter : (P : X → Type 0) (p : X → Bool) (xs : List X) → AllByRecursion P xs → AllByRecursion P (filter p xs)
+  all-filter P p [] h = tt
+  all-filter P p (x ∷ xs) h = pick (p x) (all-filter P p xs h.1)
+    where
+      pick : (b : Bool) → AllByRecursion P (filter p xs) → AllByRecursion P (cond b (x ∷ filter p xs) (filter p xs))
+      pick true rest = (h.0, rest)
+      pick false rest = rest
+
+  pub all-map : (P Q : X → Type 0) → ((x : X) → P x → Q x) → (xs : List X) → AllByRecursion P xs → AllByRecursion Q xs
+  all-map P Q f [] h = tt
+  all-map P Q f (x ∷ xs) h = (f x h.0, all-map P Q f xs h.1)
+
+module _ {K : Type 0} (bytes : K → List ℕ) where
+  -- x is below all of these
+  abbrev pub AreAbove : K → List K → Type 0
+  AreAbove x ys = AllByRecursion (λ y. bytes_cmp (bytes x) (bytes y) ≡ Less) ys
+
+  -- so none has its bytes
+  above-lack : (x : K) (ys : List K) → AreAbove x ys → is_member bytes (bytes x) ys ≡ false
+  above-lack x [] h = refl
+  above-lack x (y ∷ ys) h = rw (differs-turned (bytes x) (bytes y) h.0) (above-lack x ys h.1)
+
+  -- and one that is below the first of them is below all
+  pub above-below : (x y : K) (ys : List K) → bytes_cmp (bytes x) (bytes y) ≡ Less → AreAbove y ys → AreAbove x ys
+  above-below x y ys e h = all-map _ _ (λ z f. nat_list_cmp_total.trans (bytes x) (bytes y) (bytes z) e f) ys h
+
+  pub above-same : (x y : K) (ys : List K) → bytes_cmp (bytes x) (bytes y) ≡ Equal → AreAbove y ys → AreAbove x ys
+  above-same x y ys e h = all-map _ _ (λ z f. nat_list_cmp_total.congr (bytes x) (bytes y) (bytes z) e ∙ f) ys h
+
+  -- a key below all that are asked is not what they are asked for
+  behind : (x : K) (xs ys : List K) → AreAbove x ys → AllByRecursion (λ y. is_member bytes (bytes y) (x ∷ xs) ≡ is_member bytes (bytes y) xs) ys
+  behind x xs ys h = all-map _ (λ y. is_member bytes (bytes y) (x ∷ xs) ≡ is_member bytes (bytes y) xs) (λ y e. rw (differs (bytes x) (bytes y) e) refl) ys h
+
+  put-first : (x : K) (ys : List K) → AreAbove x ys → put_below bytes x ys ≡ x ∷ ys
+  put-first x [] h = refl
+  put-first x (y ∷ ys) h = ap (λ o. cond (is_lt o) (x ∷ y ∷ ys) (y ∷ put_below bytes x ys)) h.0
+
+  pub all-put : (P : K → Type 0) (x : K) (ys : List K) → P x → AllByRecursion P ys → AllByRecursion P (put_below bytes x ys)
+  all-put P x [] p h = (p, tt)
+  all-put P x (y ∷ ys) p h = pick (is_below (bytes x) (bytes y)) (all-put P x ys p h.1)
+    where
+      pick : (b : Bool) → AllByRecursion P (put_below bytes x ys) → AllByRecursion P (cond b (x ∷ y ∷ ys) (y ∷ put_below bytes x ys))
+      pick true rest = (p, h)
+      pick false rest = (h.0, rest)
+
+  pub all-joined : (P : K → Type 0) (xs ys : List K) → AllByRecursion P xs → AllByRecursion P ys → AllByRecursion P (joined bytes xs ys)
+  all-joined P [] ys h k = k
+  all-joined P (x ∷ xs) ys h k = all-put P x (joined bytes xs ys) h.0 (all-joined P xs ys h.1 k)
+
+  -- a key below all that are put in stays in front
+  joined-first : (x : K) (zs ys : List K) → AreAbove x zs → joined bytes zs (x ∷ ys) ≡ x ∷ joined bytes zs ys
+  joined-first x [] ys h = refl
+  joined-first x (z ∷ zs) ys h = ap (put_below bytes z) (joined-first x zs ys h.1)
+      ∙ ap (λ o. cond (is_lt o) (z ∷ x ∷ joined bytes zs ys) (x ∷ put_below bytes z (joined bytes zs ys))) (turned (bytes x) (bytes z) Less h.0)
+
+  module _ (first both second : Bool) where
+    -- of the first list's next key, which is below all others, none of the second is lost
+    pub merged-first : (x : K) (xs ys : List K) → AreAbove x xs → AreAbove x ys → merged bytes first both second (x ∷ xs) ys ≡ cond first (x ∷ merged bytes first both second xs ys) (merged bytes first both second xs ys)
+    merged-first x xs ys up beside =
+        ap₂ (joined bytes) (filter-same _ _ ys (all-map _ _ (λ y e. ap (λ b. cond second (not b) false) e) ys (behind x xs ys beside)))
+        (ap (λ b. cond (cond b both first) (x ∷ of_first bytes first both second xs ys) (of_first bytes first both second xs ys)) (above-lack x ys beside))
+        ∙ pick first
+      where
+        pick : (b : Bool) → joined bytes (of_second bytes first both second xs ys) (cond b (x ∷ of_first bytes first both second xs ys) (of_first bytes first both second xs ys)) ≡ cond b (x ∷ merged bytes first both second xs ys) (merged bytes first both second xs ys)
+        pick true = joined-first x (of_second bytes first both second xs ys) (of_first bytes first both second xs ys) (all-filter _ _ ys beside)
+        pick false = refl
+
+    pub merged-second : (y : K) (xs ys : List K) → AreAbove y xs → AreAbove y ys → merged bytes first both second xs (y ∷ ys) ≡ cond second (y ∷ merged bytes first both second xs ys) (merged bytes first both second xs ys)
+    merged-second y xs ys beside up =
+        ap₂ (joined bytes) (ap (λ b. cond (cond second (not b) false) (y ∷ of_second bytes first both second xs ys) (of_second bytes first both second xs ys)) (above-lack y xs beside))
+        (filter-same _ _ xs (all-map _ _ (λ x e. ap (λ b. cond b both first) e) xs (behind y ys xs beside)))
+        ∙ pick second
+      where
+        pick : (b : Bool) → joined bytes (cond (cond b true false) (y ∷ of_second bytes first both second xs ys) (of_second bytes first both second xs ys)) (of_first bytes first both second xs ys) ≡ cond b (y ∷ merged bytes first both second xs ys) (merged bytes first both second xs ys)
+        pick true = put-first y (merged bytes first both second xs ys) (all-joined _ (of_second bytes first both second xs ys) (of_first bytes first both second xs ys) (all-filter _ _ ys up) (all-filter _ _ xs beside))
+        pick false = refl
+
+    pub merged-both : (x y : K) (xs ys : List K) → bytes_cmp (bytes x) (bytes y) ≡ Equal → AreAbove x xs → AreAbove y ys → merged bytes first both second (x ∷ xs) (y ∷ ys) ≡ cond both (x ∷ merged bytes first both second xs ys) (merged bytes first both second xs ys)
+    merged-both x y xs ys same up beside =
+        let ahead = above-same x y ys same beside in
+        let back : AreAbove y xs = above-same y x xs (turned (bytes x) (bytes y) Equal same) up in
+        ap₂ (joined bytes)
+        (ap (λ b. cond (cond second (not (b || is_member bytes (bytes y) xs)) false) (y ∷ of_second bytes first both second (x ∷ xs) ys) (of_second bytes first both second (x ∷ xs) ys)) (agrees (bytes x) (bytes y) same)
+        ∙ pick second (of_second bytes first both second (x ∷ xs) ys) ∙ filter-same _ _ ys (all-map _ _ (λ z e. ap (λ b. cond second (not b) false) e) ys (behind x xs ys ahead)))
+        (ap₂ (λ b zs. cond (cond (b || is_member bytes (bytes x) ys) both first) (x ∷ zs) zs) (agrees (bytes y) (bytes x) (turned (bytes x) (bytes y) Equal same))
+        (filter-same _ _ xs (all-map _ _ (λ z e. ap (λ b. cond b both first) e) xs (behind y ys xs back))))
+        ∙ give both
+      where
+        pick : (b : Bool) (zs : List K) → cond (cond b false false) (y ∷ zs) zs ≡ zs
+        pick true zs = refl
+        pick false zs = refl
+
+        give : (b : Bool) → joined bytes (of_second bytes first both second xs ys) (cond b (x ∷ of_first bytes first both second xs ys) (of_first bytes first both second xs ys)) ≡ cond b (x ∷ merged bytes first both second xs ys) (merged bytes first both second xs ys)
+        give true = joined-first x (of_second bytes first both second xs ys) (of_first bytes first both second xs ys) (all-filter _ _ ys (above-same x y ys same beside))
+        give false = refl
+
+  -- where the first list has no more, and what the second has alone is not asked for, nothing more comes
+  pub merged-no_first : (first both : Bool) (ys : List K) → merged bytes first both false [] ys ≡ []
+  merged-no_first first both ys = ap (λ zs. joined bytes zs []) (filter-none _ ys (λ y. refl))
+
+  pub merged-no_second : (both second : Bool) (xs : List K) → merged bytes false both second xs [] ≡ []
+  merged-no_second both second xs = filter-none _ xs (λ x. refl)
+
+  pub difference-merged : (xs ys : List K) → merged bytes true false false xs ys ≡ difference_of bytes xs ys
+  difference-merged xs ys =
+      ap₂ (joined bytes) (filter-none _ ys (λ y. refl)) (filter-same _ _ xs (all-always (λ x. cond (is_member bytes (bytes x) ys) false true ≡ not (is_member bytes (bytes x) ys)) (λ x. lacks (is_member bytes (bytes x) ys)) xs))
+    where
+      lacks : (b : Bool) → cond b false true ≡ not b
+      lacks true = refl
+      lacks false = refl
+
+  pub intersection-merged : (xs ys : List K) → merged bytes false true false xs ys ≡ intersection_of bytes xs ys
+  intersection-merged xs ys =
+      ap₂ (joined bytes) (filter-none _ ys (λ y. refl)) (filter-same _ _ xs (all-always (λ x. cond (is_member bytes (bytes x) ys) true false ≡ is_member bytes (bytes x) ys) (λ x. kept (is_member bytes (bytes x) ys)) xs))
+    where
+      kept : (b : Bool) → cond b true false ≡ b
+      kept true = refl
+      kept false = refl
+
+  pub union-merged : (xs ys : List K) → merged bytes true true true xs ys ≡ union_of bytes xs ys
+  union-merged xs ys = ap (joined bytes (difference_of bytes ys xs)) (filter-all _ xs (λ x. always (is_member bytes (bytes x) ys)))
+    where
+      always : (b : Bool) → cond b true true ≡ true
+      always true = refl
+      always false = refl
+
+  pub symmetric-merged : (xs ys : List K) → merged bytes true false true xs ys ≡ symmetric_difference_of bytes xs ys
+  symmetric-merged xs ys =
+      ap (joined bytes (difference_of bytes ys xs)) (filter-same _ _ xs (all-always (λ x. cond (is_member bytes (bytes x) ys) false true ≡ not (is_member bytes (bytes x) ys)) (λ x. lacks (is_member bytes (bytes x) ys)) xs))
+    where
+      lacks : (b : Bool) → cond b false true ≡ not b
+      lacks true = refl
+      lacks false = refl
+
+  -- two lists, of which the next key of one or of each is gone past
+  pub step-first : (w : Wanted) (x : K) (xs ys on : List K) → xs ≡ x ∷ on → AscendsInBytes bytes xs → AreAbove x ys
+      → merged bytes w.first w.both w.second xs ys ≡ cond w.first (x ∷ merged bytes w.first w.both w.second on ys) (merged bytes w.first w.both w.second on ys)
+  step-first w x xs ys on e up beside =
+      ap (λ zs. merged bytes w.first w.both w.second zs ys) e
+      ∙ merged-first w.first w.both w.second x on ys (subst (AscendsInBytes bytes) e up).0 beside
+
+  pub step-second : (w : Wanted) (y : K) (xs ys on : List K) → ys ≡ y ∷ on → AscendsInBytes bytes ys → AreAbove y xs
+      → merged bytes w.first w.both w.second xs ys ≡ cond w.second (y ∷ merged bytes w.first w.both w.second xs on) (merged bytes w.first w.both w.second xs on)
+  step-second w y xs ys on e up beside =
+      ap (λ zs. merged bytes w.first w.both w.second xs zs) e
+      ∙ merged-second w.first w.both w.second y xs on beside (subst (AscendsInBytes bytes) e up).0
+
+  pub step-both : (w : Wanted) (x y : K) (xs ys on beyond : List K) → xs ≡ x ∷ on → ys ≡ y ∷ beyond → AscendsInBytes bytes xs → AscendsInBytes bytes ys → bytes_cmp (bytes x) (bytes y) ≡ Equal
+      → merged bytes w.first w.both w.second xs ys ≡ cond w.both (x ∷ merged bytes w.first w.both w.second on beyond) (merged bytes w.first w.both w.second on beyond)
+  step-both w x y xs ys on beyond e f up beside same =
+      ap₂ (merged bytes w.first w.both w.second) e f
+      ∙ merged-both w.first w.both w.second x y on beyond same (subst (AscendsInBytes bytes) e up).0 (subst (AscendsInBytes bytes) f beside).0
+
+  -- a key below the next one is below all
+  pub above-next : (x y : K) (ys on : List K) → ys ≡ y ∷ on → AscendsInBytes bytes ys → bytes_cmp (bytes x) (bytes y) ≡ Less → AreAbove x ys
+  above-next x y ys on e up less =
+      subst (AreAbove x) (sym e) (less, above-below x y on less (subst (AscendsInBytes bytes) e up).0)
+
+  pub above-next-turned : (x y : K) (xs on : List K) → xs ≡ x ∷ on → AscendsInBytes bytes xs → bytes_cmp (bytes x) (bytes y) ≡ Greater → AreAbove y xs
+  above-next-turned x y xs on e up more = above-next y x xs on e up (turned (bytes x) (bytes y) Greater more)
+
+  pub above-none : (x : K) (ys : List K) → ys ≡ [] → AreAbove x ys
+  above-none x ys e = subst (AreAbove x) (sym e) tt
+
+-- one comparison is counted, and a key was met
+pub compared : {K : Type 0} (s t : Beside K) → (s.comparisons ≤ t.comparisons) × (t.comparisons ≤ s.comparisons + 1) → keys_left t < keys_left s → IsCompared s t
+compared s t e less = let f = e.0 in let g = e.1 in record { counted = f; bound = omega (arith, g, less) }
+
+pub one-less : {X : Type 0} (x : X) (xs on : List X) (n : ℕ) → xs ≡ x ∷ on → length on + n < length xs + n
+one-less x xs on n e = let l = ap length e in omega (arith, l)
+
+pub one-less-behind : {X : Type 0} (x : X) (xs on : List X) (n : ℕ) → xs ≡ x ∷ on → n + length on < n + length xs
+one-less-behind x xs on n e = let l = ap length e in omega (arith, l)
+
+pub both-less : {X : Type 0} (x y : X) (xs ys on beyond : List X) → xs ≡ x ∷ on → ys ≡ y ∷ beyond → length on + length beyond < length xs + length ys
+both-less x y xs ys on beyond e f = let l = ap length e in let m = ap length f in omega (arith, l, m)
+
+pub none-there : {X : Type 0} (xs : List X) → true ≡ (length xs == 0) → xs ≡ []
+none-there [] e = refl
+none-there (x ∷ xs) e = let f = eqb-true (length (x ∷ xs)) 0 (sym e) in absurd (omega (arith, f))
+
+-- once a list is at its end, and what the other has alone is not wanted, nothing more comes
+pub none-of-first : {K : Type 0} (bytes : K → List ℕ) (w : Wanted) (xs ys : List K) → xs ≡ [] → OnFalse w.second (merged bytes w.first w.both w.second xs ys ≡ [])
+none-of-first bytes w xs ys e = pick w.second
+  where
+    pick : (b : Bool) → OnFalse b (merged bytes w.first w.both b xs ys ≡ [])
+    pick true = tt
+    pick false = ap (λ zs. merged bytes w.first w.both false zs ys) e ∙ merged-no_first bytes w.first w.both ys
+
+pub none-of-second : {K : Type 0} (bytes : K → List ℕ) (w : Wanted) (xs ys : List K) → ys ≡ [] → OnFalse w.first (merged bytes w.first w.both w.second xs ys ≡ [])
+none-of-second bytes w xs ys e = pick w.first
+  where
+    pick : (b : Bool) → OnFalse b (merged bytes b w.both w.second xs ys ≡ [])
+    pick true = tt
+    pick false = ap (λ zs. merged bytes false w.both w.second xs zs) e ∙ merged-no_second bytes w.both w.second xs
+
+-- what comes of two lists is what the merge gives of them
+pub gives : {K : Type 0} (bytes : K → List ℕ) (w : Wanted) (of : List K → List K → List K) → ((xs ys : List K) → merged bytes w.first w.both w.second xs ys ≡ of xs ys)
+    → (s t : Beside K) (r : Option (Bor K)) → TakesFirst deref (merging bytes w s) r (merging bytes w t) → IsCompared s t → GivesNext (merge_of of s) r (merge_of of t)
+gives bytes w of same s t r takes compared = record {
+  first = subst (λ xs. TakesFirst deref xs r (of t.first t.second)) (same s.first s.second) (subst (λ xs. TakesFirst deref (merging bytes w s) r xs) (same t.first t.second) takes);
+  counted = compared.counted;
+  bound = compared.bound;
+}
+
+-- and one key fewer is left then
+pub goes : {K : Type 0} (s t : Merge K) (r : Option (Bor K)) → GivesNext s r t → MakesProgress (λ (m : Merge K). ⊤) (λ m. at_most (length m.rest)) s r t
+goes s t (Some x) gives = let less = ap length gives.first in let fits : length t.rest < length s.rest = omega (arith, less) in record { on = λ _. (tt, tt, fits); keeps = tt; rests = λ _. tt }
+goes s t None gives = record { on = λ _. tt; keeps = tt; rests = λ _. tt }
+
+-- whether a merge gives no key is whether each key of the first list passes the test that is the other way round
+module _ {K : Type 0} (p q : K → Bool) (turned_test : (x : K) → q x ≡ not (p x)) where
+  all-pass : (xs : List K) → filter p xs ≡ [] → list_all q xs ≡ true
+  all-pass [] e = refl
+  all-pass (x ∷ xs) e = rw (turned_test x) (pick (p x) e (all-pass xs))
+    where
+      pick : (b : Bool) → cond b (x ∷ filter p xs) (filter p xs) ≡ [] → (filter p xs ≡ [] → list_all q xs ≡ true) → (not b && list_all q xs) ≡ true
+      pick true e later = absurd (cc)
+      pick false e later = later e
+
+  one-fails : (xs : List K) (y : K) (ys : List K) → filter p xs ≡ y ∷ ys → list_all q xs ≡ false
+  one-fails [] y ys e = absurd (cc)
+  one-fails (x ∷ xs) y ys e = rw (turned_test x) (pick (p x) e (one-fails xs y ys))
+    where
+      pick : (b : Bool) → cond b (x ∷ filter p xs) (filter p xs) ≡ y ∷ ys → (filter p xs ≡ y ∷ ys → list_all q xs ≡ false) → (not b && list_all q xs) ≡ false
+      pick true e later = refl
+      pick false e later = later e
+
+  pub none-came : (xs rest t : List K) (r : Option (Bor K)) (b : Bool) → rest ≡ filter p xs → TakesFirst deref rest r t → is_some r ≡ not b → b ≡ list_all q xs
+  none-came xs rest t None true e takes is = sym (all-pass xs (sym e ∙ takes.0))
+  none-came xs rest t None false e takes is = absurd (cc)
+  none-came xs rest t (Some x) true e takes is = absurd (cc)
+  none-came xs rest t (Some x) false e takes is = sym (one-fails xs x.now t (sym e ∙ takes))
+
+pub not-twice : (b : Bool) → b ≡ not (not b)
+not-twice true = refl
+not-twice false = refl

@@ -1,0 +1,45 @@
+use Rattle.std.proofs.Common.{◌∷◌, sym, ap, ◌∙◌}
+use Rattle.art_set.proofs.MergeLemmas.{above-next, above-next-turned, above-none, step-both, step-first, step-second, compared, one-less, one-less-behind, both-less}
+use Rattle.art_set.proofs.merges.sides.Sides+K+PREFIX_LEN.advance.Goals as goal
+
+pub returns-in-Some-peek-clause-met : goal.returns-in-Some-peek-clause-met
+returns-in-Some-peek-clause-met g c = λ w.
+    rw (← c.self.view_is)
+    (step-second g.K.AsBytes.bytes w c.in-Some-peek.y.now _ _ _ (c.in-Some-peek.ensures ∙ ap (λ ys. c.in-Some-peek.y.now ∷ ys) (sym c.advance.ensures)) c.self.invariant.1
+    (above-none g.K.AsBytes.bytes c.in-Some-peek.y.now _ c.in-None.ensures.0))
+
+pub returns-in-Less-clause-met : goal.returns-in-Less-clause-met
+returns-in-Less-clause-met g c = λ w.
+    rw (← c.self.view_is)
+    (step-first g.K.AsBytes.bytes w c.in-Some.x.now _ _ _ (c.in-Some.ensures ∙ ap (λ xs. c.in-Some.x.now ∷ xs) (sym c.advance-in-Less.ensures)) c.self.invariant.0
+    (above-next g.K.AsBytes.bytes c.in-Some.x.now c.in-Some-peek-2.y.now _ _ c.in-Some-peek-2.ensures c.self.invariant.1 (sym c.in-Less.ensures.bytes)))
+
+pub returns-in-Less-clause-compared : goal.returns-in-Less-clause-compared
+returns-in-Less-clause-compared g c =
+    rw (← c.self.view_is)
+    (compared _ _ c.one_more-self-inside.ensures
+    (one-less c.in-Some.x.now _ _ _ (c.in-Some.ensures ∙ ap (λ xs. c.in-Some.x.now ∷ xs) (sym c.advance-in-Less.ensures))))
+
+pub returns-in-Equal-clause-met : goal.returns-in-Equal-clause-met
+returns-in-Equal-clause-met g c = λ w.
+    rw (← c.self.view_is)
+    (step-both g.K.AsBytes.bytes w c.in-Some.x.now c.in-Some-peek-2.y.now _ _ _ _ (c.in-Some.ensures ∙ ap (λ xs. c.in-Some.x.now ∷ xs) (sym c.advance-in-Equal.ensures)) (c.in-Some-peek-2.ensures ∙ ap (λ ys. c.in-Some-peek-2.y.now ∷ ys) (sym c.advance-in-Equal-2.ensures))
+    c.self.invariant.0 c.self.invariant.1 (sym c.in-Equal.ensures.bytes))
+
+pub returns-in-Equal-clause-compared : goal.returns-in-Equal-clause-compared
+returns-in-Equal-clause-compared g c =
+    rw (← c.self.view_is)
+    (compared _ _ c.one_more-self-inside.ensures
+    (both-less c.in-Some.x.now c.in-Some-peek-2.y.now _ _ _ _ (c.in-Some.ensures ∙ ap (λ xs. c.in-Some.x.now ∷ xs) (sym c.advance-in-Equal.ensures)) (c.in-Some-peek-2.ensures ∙ ap (λ ys. c.in-Some-peek-2.y.now ∷ ys) (sym c.advance-in-Equal-2.ensures))))
+
+pub returns-in-Greater-clause-met : goal.returns-in-Greater-clause-met
+returns-in-Greater-clause-met g c = λ w.
+    rw (← c.self.view_is)
+    (step-second g.K.AsBytes.bytes w c.in-Some-peek-2.y.now _ _ _ (c.in-Some-peek-2.ensures ∙ ap (λ ys. c.in-Some-peek-2.y.now ∷ ys) (sym c.advance-in-Greater.ensures)) c.self.invariant.1
+    (above-next-turned g.K.AsBytes.bytes c.in-Some.x.now c.in-Some-peek-2.y.now _ _ c.in-Some.ensures c.self.invariant.0 (sym c.in-Greater.ensures.bytes)))
+
+pub returns-in-Greater-clause-compared : goal.returns-in-Greater-clause-compared
+returns-in-Greater-clause-compared g c =
+    rw (← c.self.view_is)
+    (compared _ _ c.one_more-self-inside.ensures
+    (one-less-behind c.in-Some-peek-2.y.now _ _ _ (c.in-Some-peek-2.ensures ∙ ap (λ ys. c.in-Some-peek-2.y.now ∷ ys) (sym c.advance-in-Greater.ensures))))

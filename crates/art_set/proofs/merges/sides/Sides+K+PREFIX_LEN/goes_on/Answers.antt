@@ -1,0 +1,10 @@
+use Rattle.art_set.proofs.MergeLemmas.{none-of-first, none-of-second, none-there}
+use Rattle.art_set.proofs.merges.sides.Sides+K+PREFIX_LEN.goes_on.Goals as goal
+
+pub returns-in-true-false-clause-off : goal.returns-in-true-false-clause-off
+returns-in-true-false-clause-off g c =
+    rw (← c.self.view_is) (none-of-first g.K.AsBytes.bytes c.args.wanted _ _ (none-there _ c.in-true-false.ensures))
+
+pub returns-in-false-true-clause-off : goal.returns-in-false-true-clause-off
+returns-in-false-true-clause-off g c =
+    rw (← c.self.view_is) (none-of-second g.K.AsBytes.bytes c.args.wanted _ _ (none-there _ c.in-false-true.ensures'))

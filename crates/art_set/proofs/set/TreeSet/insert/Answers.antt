@@ -1,0 +1,12 @@
+use Rattle.art_map.specs.Contents.{has_bytes}
+use Rattle.art_set.proofs.Seen.{has-pair, keys-put, was-added}
+use Rattle.art_set.proofs.set.TreeSet.insert.Goals as goal
+
+pub returns-in-Err-clause-stored : goal.returns-in-Err-clause-stored
+returns-in-Err-clause-stored g c = rw (← c.self.view_is) (λ h. c.in-Err.ensures.stored (has-pair g.K.AsBytes.bytes (g.K.AsBytes.bytes c.args.key) c.self.inside.map.pairs h))
+
+pub returns-clause-added : goal.returns-clause-added
+returns-clause-added g c = rw (← c.self.view_is) (was-added (has_bytes g.K.AsBytes.bytes (g.K.AsBytes.bytes c.args.key)) c.self.inside.map.pairs c.in-Ok.old c.is_none.result c.is_none.ensures c.in-Ok.ensures.value)
+
+pub returns-clause-keys : goal.returns-clause-keys
+returns-clause-keys g c = rw (← c.self.view_is, c.in-Ok.ensures.pairs) (keys-put g.K.AsBytes.bytes c.args.key tt c.self.inside.map.pairs)

@@ -1,0 +1,5 @@
+use Rattle.art_set.proofs.Seen.{ascending}
+use Rattle.art_set.proofs.set.TreeSet.iter.Goals as goal
+
+pub returns-clause-ordered : goal.returns-clause-ordered
+returns-clause-ordered g c = rw (← c.self.view_is) (ascending g.K.AsBytes.bytes c.self.inside.map.pairs c.iter.ensures.ordered)

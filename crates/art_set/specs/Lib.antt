@@ -1,0 +1,4 @@
+pub mod Members
+pub mod Changes
+pub mod Merges
+pub mod inner

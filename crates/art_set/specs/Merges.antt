@@ -1,0 +1,58 @@
+-- Two ascending lists of keys: what they have in common, what one has alone, and what they have together.
+use Rattle.std.specs.Prelude.{◌≡◌, ℕ, ◌+◌, ◌≤◌, Bool, not, if◌then◌else◌, List, [], ◌∷◌, filter, Option}
+use Rattle.std.specs.Borrow.{Bor}
+use Rattle.std.specs.Map.Iter.{TakesFirst, deref}
+use Rattle.std.specs.List.{AllByRecursion, list_all}
+use Rattle.std.specs.declared.cmp.Ordering.TheVariants.{Less}
+use Rattle.art_bytes.specs.Keys.{bytes_cmp, is_below}
+use Rattle.art_set.specs.Members.{is_member}
+
+module _ {K : Type 0} (bytes : K → List ℕ) where
+  -- the keys of the first list that the second has, and those that it lacks
+  abbrev pub intersection_of : List K → List K → List K
+  intersection_of xs ys = filter (λ x. is_member bytes (bytes x) ys) xs
+
+  abbrev pub difference_of : List K → List K → List K
+  difference_of xs ys = filter (λ x. not (is_member bytes (bytes x) ys)) xs
+
+  -- the list with x in front of the first key whose bytes are above its bytes
+  abbrev pub put_below : K → List K → List K
+  put_below x [] = x ∷ []
+  put_below x (y ∷ ys) = if is_below (bytes x) (bytes y) then x ∷ y ∷ ys else y ∷ put_below x ys
+
+  -- the second list with each key of the first put in so
+  abbrev pub joined : List K → List K → List K
+  joined [] ys = ys
+  joined (x ∷ xs) ys = put_below x (joined xs ys)
+
+  -- the keys of either list, and of those that both have the first list's; and the keys that one of them lacks
+  abbrev pub union_of : List K → List K → List K
+  union_of xs ys = joined (difference_of ys xs) xs
+
+  abbrev pub symmetric_difference_of : List K → List K → List K
+  symmetric_difference_of xs ys = joined (difference_of ys xs) (difference_of xs ys)
+
+  -- whether the second list lacks every key of the first, and whether it has every one
+  abbrev pub are_disjoint : List K → List K → Bool
+  are_disjoint xs ys = list_all (λ x. not (is_member bytes (bytes x) ys)) xs
+
+  abbrev pub is_subset_of : List K → List K → Bool
+  is_subset_of xs ys = list_all (λ x. is_member bytes (bytes x) ys) xs
+
+  -- the bytes of each key are below those of all later ones
+  abbrev pub AscendsInBytes : List K → Type 0
+  AscendsInBytes [] = Unit {0}
+  AscendsInBytes (x ∷ xs) = AllByRecursion (λ y. bytes_cmp (bytes x) (bytes y) ≡ Less) xs × AscendsInBytes xs
+
+-- what is left of a merge: the keys that are still to come, how many comparisons were made, and how many keys of both
+-- sets it has not gone past
+pub record Merge (K : Type 0) : Type 0 where
+  pub rest : List K
+  pub comparisons : ℕ
+  pub unmet : ℕ
+
+-- A call gave the first key that was still to come, or none. It made at most as many comparisons as it went past keys.
+pub record GivesNext {K : Type 0} (s : Merge K) (r : Option (Bor K)) (t : Merge K) : Type 0 where
+  pub first : TakesFirst deref s.rest r t.rest
+  pub counted : s.comparisons ≤ t.comparisons
+  pub bound : t.comparisons + t.unmet ≤ s.comparisons + s.unmet

@@ -1,0 +1,247 @@
+//! The keys of two sets, walked side by side: what a set has alone, what both have in common, and what they have together.
+//! Each is a walk forward, ascending by the bytes of the keys, that counts its comparisons.
+ghost use Rattle.std.specs.Prelude.{◌≡◌, ◌+◌, length};
+ghost use Rattle.std.specs.Iterator.{at_most};
+ghost use Rattle.art_set.specs.Merges.{GivesNext, difference_of, intersection_of, symmetric_difference_of, union_of};
+
+mod peeked;
+mod sides;
+
+use crate::merges::sides::Wanted;
+use art_arena::NodeArena;
+use art_bytes::OrderedBytes;
+pub(crate) use peeked::Peeked;
+pub(crate) use sides::Sides;
+use std::iter::FusedIterator;
+use std::marker::Model;
+
+/// The keys of a set that another set lacks, ascending by their bytes. It is seen as the list of
+/// those still to come, with the number of comparisons made.
+#[derive(Drop)]
+pub struct Difference<
+    'a,
+    K: OrderedBytes,
+    const PREFIX_LEN: usize,
+    M: 'a = NodeArena<K, (), PREFIX_LEN>,
+> {
+    sides: Sides<'a, K, PREFIX_LEN, M>,
+}
+
+impl<'a, K: OrderedBytes, const PREFIX_LEN: usize, M: 'a> Model
+    for Difference<'a, K, PREFIX_LEN, M> {
+    ghost use Rattle.art_set.specs.Merges.{Merge, difference_of};
+    ghost use Rattle.art_set.specs.inner.Merging.{merge_of};
+
+    ghost Value = { Merge K };
+
+    ghost view = { λ it. merge_of (difference_of K.bytes) it.sides };
+}
+
+impl<'a, K: OrderedBytes, const PREFIX_LEN: usize> Difference<'a, K, PREFIX_LEN> {
+    pub(crate) fn new(sides: Sides<'a, K, PREFIX_LEN>) -> Self
+        ensures rest { result.rest ≡ difference_of K.bytes sides.entry.first sides.entry.second }
+        ensures comparisons { result.comparisons ≡ sides.entry.comparisons }
+        ensures unmet { result.unmet ≡ length sides.entry.first + length sides.entry.second }
+    {
+        Difference { sides }
+    }
+
+    /// How many comparisons of two keys were made. The count stays at the greatest `usize`.
+    pub fn comparisons(&self) -> usize
+        ensures { result ≡ self.now.comparisons }
+    {
+        self.sides.comparisons()
+    }
+}
+
+impl<'a, K: OrderedBytes, const PREFIX_LEN: usize> Iterator for Difference<'a, K, PREFIX_LEN> {
+    type Item = &'a K;
+
+    ghost next_gives = { GivesNext };
+
+    ghost remaining = { λ it. at_most (length it.rest) };
+
+    fn next(&mut self) -> Option<&'a K> {
+        self.sides.next_wanted(Wanted {
+            first: true,
+            both: false,
+            second: false,
+        })
+    }
+}
+
+impl<'a, K: OrderedBytes, const PREFIX_LEN: usize> FusedIterator
+    for Difference<'a, K, PREFIX_LEN> {}
+
+/// The keys that one of two sets has and the other lacks, ascending by their bytes. It is seen as the list of
+/// those still to come, with the number of comparisons made.
+#[derive(Drop)]
+pub struct SymmetricDifference<
+    'a,
+    K: OrderedBytes,
+    const PREFIX_LEN: usize,
+    M: 'a = NodeArena<K, (), PREFIX_LEN>,
+> {
+    sides: Sides<'a, K, PREFIX_LEN, M>,
+}
+
+impl<'a, K: OrderedBytes, const PREFIX_LEN: usize, M: 'a> Model
+    for SymmetricDifference<'a, K, PREFIX_LEN, M> {
+    ghost use Rattle.art_set.specs.Merges.{Merge, symmetric_difference_of};
+    ghost use Rattle.art_set.specs.inner.Merging.{merge_of};
+
+    ghost Value = { Merge K };
+
+    ghost view = { λ it. merge_of (symmetric_difference_of K.bytes) it.sides };
+}
+
+impl<'a, K: OrderedBytes, const PREFIX_LEN: usize> SymmetricDifference<'a, K, PREFIX_LEN> {
+    pub(crate) fn new(sides: Sides<'a, K, PREFIX_LEN>) -> Self
+        ensures rest { result.rest ≡ symmetric_difference_of K.bytes sides.entry.first sides.entry.second }
+        ensures comparisons { result.comparisons ≡ sides.entry.comparisons }
+        ensures unmet { result.unmet ≡ length sides.entry.first + length sides.entry.second }
+    {
+        SymmetricDifference { sides }
+    }
+
+    /// How many comparisons of two keys were made. The count stays at the greatest `usize`.
+    pub fn comparisons(&self) -> usize
+        ensures { result ≡ self.now.comparisons }
+    {
+        self.sides.comparisons()
+    }
+}
+
+impl<'a, K: OrderedBytes, const PREFIX_LEN: usize> Iterator
+    for SymmetricDifference<'a, K, PREFIX_LEN> {
+    type Item = &'a K;
+
+    ghost next_gives = { GivesNext };
+
+    ghost remaining = { λ it. at_most (length it.rest) };
+
+    fn next(&mut self) -> Option<&'a K> {
+        self.sides.next_wanted(Wanted {
+            first: true,
+            both: false,
+            second: true,
+        })
+    }
+}
+
+impl<'a, K: OrderedBytes, const PREFIX_LEN: usize> FusedIterator
+    for SymmetricDifference<'a, K, PREFIX_LEN> {}
+
+/// The keys that two sets have both, as the first has them, ascending by their bytes. It is seen as the list of
+/// those still to come, with the number of comparisons made.
+#[derive(Drop)]
+pub struct Intersection<
+    'a,
+    K: OrderedBytes,
+    const PREFIX_LEN: usize,
+    M: 'a = NodeArena<K, (), PREFIX_LEN>,
+> {
+    sides: Sides<'a, K, PREFIX_LEN, M>,
+}
+
+impl<'a, K: OrderedBytes, const PREFIX_LEN: usize, M: 'a> Model
+    for Intersection<'a, K, PREFIX_LEN, M> {
+    ghost use Rattle.art_set.specs.Merges.{Merge, intersection_of};
+    ghost use Rattle.art_set.specs.inner.Merging.{merge_of};
+
+    ghost Value = { Merge K };
+
+    ghost view = { λ it. merge_of (intersection_of K.bytes) it.sides };
+}
+
+impl<'a, K: OrderedBytes, const PREFIX_LEN: usize> Intersection<'a, K, PREFIX_LEN> {
+    pub(crate) fn new(sides: Sides<'a, K, PREFIX_LEN>) -> Self
+        ensures rest { result.rest ≡ intersection_of K.bytes sides.entry.first sides.entry.second }
+        ensures comparisons { result.comparisons ≡ sides.entry.comparisons }
+        ensures unmet { result.unmet ≡ length sides.entry.first + length sides.entry.second }
+    {
+        Intersection { sides }
+    }
+
+    /// How many comparisons of two keys were made. The count stays at the greatest `usize`.
+    pub fn comparisons(&self) -> usize
+        ensures { result ≡ self.now.comparisons }
+    {
+        self.sides.comparisons()
+    }
+}
+
+impl<'a, K: OrderedBytes, const PREFIX_LEN: usize> Iterator for Intersection<'a, K, PREFIX_LEN> {
+    type Item = &'a K;
+
+    ghost next_gives = { GivesNext };
+
+    ghost remaining = { λ it. at_most (length it.rest) };
+
+    fn next(&mut self) -> Option<&'a K> {
+        self.sides.next_wanted(Wanted {
+            first: false,
+            both: true,
+            second: false,
+        })
+    }
+}
+
+impl<'a, K: OrderedBytes, const PREFIX_LEN: usize> FusedIterator
+    for Intersection<'a, K, PREFIX_LEN> {}
+
+/// The keys that one of two sets has or both have. Of a key that both have it is the first set's, ascending by their bytes. It is seen as the list of
+/// those still to come, with the number of comparisons made.
+#[derive(Drop)]
+pub struct Union<
+    'a,
+    K: OrderedBytes,
+    const PREFIX_LEN: usize,
+    M: 'a = NodeArena<K, (), PREFIX_LEN>,
+> {
+    sides: Sides<'a, K, PREFIX_LEN, M>,
+}
+
+impl<'a, K: OrderedBytes, const PREFIX_LEN: usize, M: 'a> Model for Union<'a, K, PREFIX_LEN, M> {
+    ghost use Rattle.art_set.specs.Merges.{Merge, union_of};
+    ghost use Rattle.art_set.specs.inner.Merging.{merge_of};
+
+    ghost Value = { Merge K };
+
+    ghost view = { λ it. merge_of (union_of K.bytes) it.sides };
+}
+
+impl<'a, K: OrderedBytes, const PREFIX_LEN: usize> Union<'a, K, PREFIX_LEN> {
+    pub(crate) fn new(sides: Sides<'a, K, PREFIX_LEN>) -> Self
+        ensures rest { result.rest ≡ union_of K.bytes sides.entry.first sides.entry.second }
+        ensures comparisons { result.comparisons ≡ sides.entry.comparisons }
+        ensures unmet { result.unmet ≡ length sides.entry.first + length sides.entry.second }
+    {
+        Union { sides }
+    }
+
+    /// How many comparisons of two keys were made. The count stays at the greatest `usize`.
+    pub fn comparisons(&self) -> usize
+        ensures { result ≡ self.now.comparisons }
+    {
+        self.sides.comparisons()
+    }
+}
+
+impl<'a, K: OrderedBytes, const PREFIX_LEN: usize> Iterator for Union<'a, K, PREFIX_LEN> {
+    type Item = &'a K;
+
+    ghost next_gives = { GivesNext };
+
+    ghost remaining = { λ it. at_most (length it.rest) };
+
+    fn next(&mut self) -> Option<&'a K> {
+        self.sides.next_wanted(Wanted {
+            first: true,
+            both: true,
+            second: true,
+        })
+    }
+}
+
+impl<'a, K: OrderedBytes, const PREFIX_LEN: usize> FusedIterator for Union<'a, K, PREFIX_LEN> {}

@@ -1,0 +1,61 @@
+//! Walks over the keys.
+ghost use Rattle.std.specs.Prelude.{◌≡◌, ◌⊎◌, []};
+ghost use Rattle.std.specs.Range.Bound.{bound_map};
+ghost use Rattle.art_arena.specs.tree.Order.{AscendsByKey};
+ghost use Rattle.art_walks.specs.Bounds.{AreValidKeyBounds};
+ghost use Rattle.art_set.specs.Members.{keys_between};
+
+use crate::iterators::{IntoIter, Iter, Range};
+use crate::set::TreeSet;
+use art_bytes::AsBytes;
+use std::ops::Bound;
+
+impl<K: AsBytes, const PREFIX_LEN: usize> TreeSet<K, PREFIX_LEN> {
+    /// The keys, ascending by their bytes, from either end. It takes no memory.
+    pub fn iter(&self) -> Iter<'_, K, PREFIX_LEN>
+        ensures rest { result ≡ self.now }
+        ensures ordered { AscendsByKey K.bytes self.now }
+    {
+        Iter::new(self.map.iter())
+    }
+
+    /// The keys between two bounds, by their bytes, ascending, from either end. The bounds' keys need not be stored.
+    ///
+    /// Where the set has a key, the bounds have to be valid, as `bounds_are_valid` tells. It takes no memory.
+    pub fn range<Q: AsBytes>(&self, start: Bound<&Q>, end: Bound<&Q>) -> Range<'_, K, PREFIX_LEN>
+        requires { (self.now ≡ []) ⊎ AreValidKeyBounds (bound_map (λ key. Q.bytes key.now) start)
+            (bound_map (λ key. Q.bytes key.now) end) }
+        ensures rest { result ≡ keys_between K.bytes (bound_map (λ key. Q.bytes key.now) start.entry)
+            (bound_map (λ key. Q.bytes key.now) end.entry) self.now }
+        ensures ordered { AscendsByKey K.bytes self.now }
+    {
+        Range::new(self.map.range(start, end))
+    }
+}
+
+impl<'a, K: AsBytes, const PREFIX_LEN: usize> IntoIterator for &'a TreeSet<K, PREFIX_LEN> {
+    type Item = &'a K;
+
+    type IntoIter = Iter<'a, K, PREFIX_LEN>;
+
+    ghost into_iter_gives = { λ s r. r ≡ s.now };
+
+    fn into_iter(self) -> Iter<'a, K, PREFIX_LEN> {
+        self.iter()
+    }
+}
+
+/// The keys, ascending by their bytes, from either end. Where the walk is dropped, so are the keys still to come. It
+/// takes no memory.
+impl<K: AsBytes + Drop, const PREFIX_LEN: usize> IntoIterator for TreeSet<K, PREFIX_LEN> {
+    type Item = K;
+
+    type IntoIter = IntoIter<K, PREFIX_LEN>;
+
+    ghost into_iter_gives = { λ s r. r ≡ s };
+
+    fn into_iter(self) -> IntoIter<K, PREFIX_LEN> {
+        let TreeSet { map } = self;
+        IntoIter::new(map.into_keys())
+    }
+}
