@@ -9,7 +9,7 @@ use lib.Pow.{pow_mono}
 use native.Mathlib.Nat.{pow-suc, le-div_iff_mul-le, div-lt_iff_lt-mul}
 use Rattle.std.proofs.lemmas.Nat.{pow_pos}
 use Rattle.std.proofs.lemmas.Nat.Bits.{bit_at_lowest, bit_at-suc, bit_at_and, bit_at_ones, bit_at_ones_above, bit_at_not, bit_at-lt, bit_at_above, bit_at-trailing_zeros}
-use Rattle.art_nodes.specs.inner.Mask.{passing, is_set}
+use Rattle.art_nodes.specs.inner.Mask.{those_passing, is_set}
 use Rattle.art_nodes.proofs.PassingLemmas.{passing-same, length-passing_from}
 
 pub and_true : (t : Bool) → (t && true) ≡ t
@@ -24,13 +24,13 @@ no_ones : count_ones 0 ≡ 0
 no_ones = omega (arith, ones-le 0 0 (omega arith))
 
 -- how many of the lowest bits of a word are set
-pub ones_below : (w r : ℕ) → length (passing (is_set w) 0 r) ≡ count_ones (w % 2 ^ r)
-unfolding passing
+pub ones_below : (w r : ℕ) → length (those_passing (is_set w) 0 r) ≡ count_ones (w % 2 ^ r)
+unfolding those_passing
 ones_below w zero = let e : w % 1 ≡ 0 = omega arith in rw e (sym no_ones)
 ones_below w (suc r) =
     let half = length-passing_from (is_set w) 1 0 r in
-    let shifted : passing (λ j. is_set w (1 + j)) 0 r ≡ passing (is_set (w / 2)) 0 r = passing-same _ _ 0 r (λ k from to. let e : 1 + k ≡ suc k = omega arith in ap (λ d. d == 1) (ap (bit_at w) e ∙ bit_at-suc w k)) in
-    let rest : length (passing (is_set w) 1 r) ≡ count_ones (w / 2 % 2 ^ r) = half ∙ ap (λ (ks : List ℕ). length ks) shifted ∙ ones_below (w / 2) r in
+    let shifted : those_passing (λ j. is_set w (1 + j)) 0 r ≡ those_passing (is_set (w / 2)) 0 r = passing-same _ _ 0 r (λ k from to. let e : 1 + k ≡ suc k = omega arith in ap (λ d. d == 1) (ap (bit_at w) e ∙ bit_at-suc w k)) in
+    let rest : length (those_passing (is_set w) 1 r) ≡ count_ones (w / 2 % 2 ^ r) = half ∙ ap (λ (ks : List ℕ). length ks) shifted ∙ ones_below (w / 2) r in
     let parts : w % 2 ^ suc r ≡ w / 2 % 2 ^ r * 2 + w % 2 = ap (λ m. w % m) (pow-suc 2 r) ∙ mod-mul w (pow_pos r) (omega arith) in
     let low : w % 2 ^ suc r % 2 ≡ w % 2 = omega (arith, parts) in
     let high : w % 2 ^ suc r / 2 ≡ w / 2 % 2 ^ r = omega (arith, parts) in

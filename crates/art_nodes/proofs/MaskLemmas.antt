@@ -6,34 +6,34 @@ use Rattle.std.proofs.lemmas.Bool.Decides.{leb_tells, eqb_tells}
 use Rattle.std.proofs.lemmas.List.{take_at, drop_at}
 use lib.Seq.{get_or_at}
 use Rattle.std.proofs.lemmas.Nat.Bits.{bit_at-zero, bit_at_set_same, bit_at_set_other, bit_at_clear_same, bit_at_clear_other}
-use Rattle.art_nodes.specs.inner.Place.{place, StandsAt, BelongsAt, IsNext, IsLast}
-use Rattle.art_nodes.specs.inner.Mask.{passing, is_set, is_marked, marked}
+use Rattle.art_nodes.specs.inner.Place.{place, StandsAt, BelongsAt, IsFirstFrom, IsLastBelow}
+use Rattle.art_nodes.specs.inner.Mask.{those_passing, is_set, is_marked, marked}
 use Rattle.art_nodes.proofs.PassingLemmas.{passing-same, passing-none, passing-parts, passing-one, length-passing_from, stands-passes, place_of_bound, with_it, without_it}
 
 -- how many pass up to a number, and so many more
-length_up_to : (p : ℕ → Bool) (m n : ℕ) → length (passing p 0 (m + n)) ≡ length (passing p 0 m) + length (passing p m n)
+length_up_to : (p : ℕ → Bool) (m n : ℕ) → length (those_passing p 0 (m + n)) ≡ length (those_passing p 0 m) + length (those_passing p m n)
 length_up_to p m n =
     let e : 0 + m ≡ m = omega arith in
-    ap (λ (ks : List ℕ). length ks) (passing-parts p 0 m n) ∙ length-append (passing p 0 m) (passing p (0 + m) n) ∙ ap (λ k. length (passing p 0 m) + length (passing p k n)) e
+    ap (λ (ks : List ℕ). length ks) (passing-parts p 0 m n) ∙ length-append (those_passing p 0 m) (those_passing p (0 + m) n) ∙ ap (λ k. length (those_passing p 0 m) + length (those_passing p k n)) e
 
 -- bounds between which none passes have one place
-places_apart : (p : ℕ → Bool) (low high : ℕ) → high ≤ 256 → low ≤ high → ((k : ℕ) → low ≤ k → k < high → p k ≡ false) → place (passing p 0 256) low ≡ place (passing p 0 256) high
+places_apart : (p : ℕ → Bool) (low high : ℕ) → high ≤ 256 → low ≤ high → ((k : ℕ) → low ≤ k → k < high → p k ≡ false) → place (those_passing p 0 256) low ≡ place (those_passing p 0 256) high
 places_apart p low high fits le none =
     let e : high ≡ low + (high - low) = omega arith in
-    let nothing : length (passing p low (high - low)) ≡ 0 = ap (λ (ks : List ℕ). length ks) (passing-none p low (high - low) (λ k from to. none k from (omega (arith, to)))) in
-    let long : length (passing p 0 high) ≡ length (passing p 0 low) + length (passing p low (high - low)) = ap (λ n. length (passing p 0 n)) e ∙ length_up_to p low (high - low) in
+    let nothing : length (those_passing p low (high - low)) ≡ 0 = ap (λ (ks : List ℕ). length ks) (passing-none p low (high - low) (λ k from to. none k from (omega (arith, to)))) in
+    let long : length (those_passing p 0 high) ≡ length (those_passing p 0 low) + length (those_passing p low (high - low)) = ap (λ n. length (those_passing p 0 n)) e ∙ length_up_to p low (high - low) in
     omega (arith, place_of_bound p low (omega arith), place_of_bound p high fits, long, nothing)
 
 -- bytes below 256 that pass, and one of them
 module _ (p : ℕ → Bool) (byte : ℕ) (fits : byte < 256) where
   abbrev all : List ℕ
-  all = passing p 0 256
+  all = those_passing p 0 256
 
   abbrev front : List ℕ
-  front = passing p 0 byte
+  front = those_passing p 0 byte
 
   abbrev back : List ℕ
-  back = passing p (suc byte) (255 - byte)
+  back = those_passing p (suc byte) (255 - byte)
 
   -- one that passes stands at its place, and one that doesn't belongs there
   pub stands : p byte ≡ true → StandsAt all byte (place all byte)
@@ -61,36 +61,36 @@ module _ (p : ℕ → Bool) (byte : ℕ) (fits : byte < 256) where
       go true e = let st = stands e in absurd (be.apart (omega (arith, st.within, be.is_place)) (ap (λ i. slice_index all i) be.is_place ∙ st.here))
 
   -- the first from a bound on, and the last below one
-  pub next_from : (from : ℕ) → from ≤ byte → p byte ≡ true → ((k : ℕ) → from ≤ k → k < byte → p k ≡ false) → IsNext all from byte
+  pub next_from : (from : ℕ) → from ≤ byte → p byte ≡ true → ((k : ℕ) → from ≤ k → k < byte → p k ≡ false) → IsFirstFrom all from byte
   next_from from le yes_it none =
       let st = stands yes_it in
       let same : place all from ≡ place all byte = places_apart p from byte (omega arith) le none in
-      let one : length (passing p byte 1) ≡ 1 = ap (λ (ks : List ℕ). length ks) (passing-one p byte ∙ ap (λ t. cond t (byte ∷ []) []) yes_it) in
+      let one : length (those_passing p byte 1) ≡ 1 = ap (λ (ks : List ℕ). length ks) (passing-one p byte ∙ ap (λ t. cond t (byte ∷ []) []) yes_it) in
       let more : place all (byte + 1) ≡ place all byte + 1 = place_of_bound p (byte + 1) (omega arith) ∙ length_up_to p byte 1 ∙ ap₂ (λ m n. m + n) (sym (place_of_bound p byte (omega arith))) one in
       record { stands = record { is_place = same; within = omega (arith, same, st.within); here = ap (λ i. slice_index all i) same ∙ st.here }; after = omega (arith, more, same) }
 
-  pub last_below : (to : ℕ) → byte < to → to ≤ 256 → p byte ≡ true → ((k : ℕ) → byte < k → k < to → p k ≡ false) → IsLast all to byte
+  pub last_below : (to : ℕ) → byte < to → to ≤ 256 → p byte ≡ true → ((k : ℕ) → byte < k → k < to → p k ≡ false) → IsLastBelow all to byte
   last_below to less few yes_it none =
-      let one : length (passing p byte 1) ≡ 1 = ap (λ (ks : List ℕ). length ks) (passing-one p byte ∙ ap (λ t. cond t (byte ∷ []) []) yes_it) in
+      let one : length (those_passing p byte 1) ≡ 1 = ap (λ (ks : List ℕ). length ks) (passing-one p byte ∙ ap (λ t. cond t (byte ∷ []) []) yes_it) in
       let more : place all (byte + 1) ≡ place all byte + 1 = place_of_bound p (byte + 1) (omega arith) ∙ length_up_to p byte 1 ∙ ap₂ (λ m n. m + n) (sym (place_of_bound p byte (omega arith))) one in
       let same : place all (byte + 1) ≡ place all to = places_apart p (byte + 1) to few (omega arith) (λ k from below. none k (omega (arith, from)) below) in
       record { stands = stands yes_it; before = omega (arith, more, same) }
 
   -- another test, which differs at this byte alone
   module _ (q : ℕ → Bool) (same : (k : ℕ) → k < 256 → k ≢ byte → q k ≡ p k) where
-    fronts : passing q 0 byte ≡ front
+    fronts : those_passing q 0 byte ≡ front
     fronts = passing-same p q 0 byte (λ k from to. same k (omega (arith, to, fits)) (λ e. absurd (omega (arith, e, to))))
 
-    backs : passing q (suc byte) (255 - byte) ≡ back
+    backs : those_passing q (suc byte) (255 - byte) ≡ back
     backs = passing-same p q (suc byte) (255 - byte) (λ k from to. same k (omega (arith, to, fits)) (λ e. absurd (omega (arith, e, from))))
 
-    pub inserted : p byte ≡ false → q byte ≡ true → passing q 0 256 ≡ insert all (place all byte) byte
+    pub inserted : p byte ≡ false → q byte ≡ true → those_passing q 0 256 ≡ insert all (place all byte) byte
     inserted no_it yes_it =
         let parts = without_it p byte fits no_it in
         let edit : insert all (length front) byte ≡ front ++ byte ∷ back = ap (λ (ks : List ℕ). insert ks (length front) byte) parts ∙ ap₂ (λ f b. f ++ byte ∷ b) (take_at front back (length front) refl) (drop_at front back (length front) refl) in
         with_it q byte fits yes_it ∙ ap₂ (λ f b. f ++ byte ∷ b) fronts backs ∙ sym edit ∙ ap (λ i. insert all i byte) (sym (place_of_bound p byte (omega arith)))
 
-    pub removed : p byte ≡ true → q byte ≡ false → passing q 0 256 ≡ remove all (place all byte)
+    pub removed : p byte ≡ true → q byte ≡ false → those_passing q 0 256 ≡ remove all (place all byte)
     removed yes_it no_it =
         let parts = with_it p byte fits yes_it in
         let edit : remove all (length front) ≡ front ++ back = ap (λ (ks : List ℕ). remove ks (length front)) parts ∙ ap₂ (λ f b. f ++ b) (take_at front (byte ∷ back) (length front) refl) (behind front) in
@@ -108,23 +108,23 @@ bit_of_word words k j less =
     ap₂ (λ at i. is_set (slice_index words at) i) e f
 
 -- how many bytes of a word are marked, up to one of them
-marked_in_word : (words : List ℕ) (at r : ℕ) → r ≤ 64 → length (passing (is_marked words) (64 * at) r) ≡ length (passing (is_set (slice_index words at)) 0 r)
+marked_in_word : (words : List ℕ) (at r : ℕ) → r ≤ 64 → length (those_passing (is_marked words) (64 * at) r) ≡ length (those_passing (is_set (slice_index words at)) 0 r)
 marked_in_word words at r few =
     let e : 64 * at ≡ 64 * at + 0 = omega arith in
-    let here : passing (λ j. is_marked words (64 * at + j)) 0 r ≡ passing (is_set (slice_index words at)) 0 r = passing-same _ _ 0 r (λ j from to. bit_of_word words at j (omega (arith, to, few))) in
-    ap (λ first. length (passing (is_marked words) first r)) e ∙ length-passing_from (is_marked words) (64 * at) 0 r ∙ ap (λ (ks : List ℕ). length ks) here
+    let here : those_passing (λ j. is_marked words (64 * at + j)) 0 r ≡ those_passing (is_set (slice_index words at)) 0 r = passing-same _ _ 0 r (λ j from to. bit_of_word words at j (omega (arith, to, few))) in
+    ap (λ first. length (those_passing (is_marked words) first r)) e ∙ length-passing_from (is_marked words) (64 * at) 0 r ∙ ap (λ (ks : List ℕ). length ks) here
 
 -- how many are marked up to a bit of a word: those of the words before it, and its own
-pub marked_up_to : (words : List ℕ) (at r : ℕ) → r ≤ 64 → length (passing (is_marked words) 0 (64 * at + r)) ≡ length (passing (is_marked words) 0 (64 * at)) + length (passing (is_set (slice_index words at)) 0 r)
-marked_up_to words at r few = length_up_to (is_marked words) (64 * at) r ∙ ap (λ n. length (passing (is_marked words) 0 (64 * at)) + n) (marked_in_word words at r few)
+pub marked_up_to : (words : List ℕ) (at r : ℕ) → r ≤ 64 → length (those_passing (is_marked words) 0 (64 * at + r)) ≡ length (those_passing (is_marked words) 0 (64 * at)) + length (those_passing (is_set (slice_index words at)) 0 r)
+marked_up_to words at r few = length_up_to (is_marked words) (64 * at) r ∙ ap (λ n. length (those_passing (is_marked words) 0 (64 * at)) + n) (marked_in_word words at r few)
 
-pub one_word_more : (words : List ℕ) (at : ℕ) → length (passing (is_marked words) 0 (64 * (at + 1))) ≡ length (passing (is_marked words) 0 (64 * at)) + length (passing (is_set (slice_index words at)) 0 64)
-one_word_more words at = let e : 64 * (at + 1) ≡ 64 * at + 64 = omega arith in ap (λ n. length (passing (is_marked words) 0 n)) e ∙ marked_up_to words at 64 (omega arith)
+pub one_word_more : (words : List ℕ) (at : ℕ) → length (those_passing (is_marked words) 0 (64 * (at + 1))) ≡ length (those_passing (is_marked words) 0 (64 * at)) + length (those_passing (is_set (slice_index words at)) 0 64)
+one_word_more words at = let e : 64 * (at + 1) ≡ 64 * at + 64 = omega arith in ap (λ n. length (those_passing (is_marked words) 0 n)) e ∙ marked_up_to words at 64 (omega arith)
 
-pub place_by_words : (words : List ℕ) (byte : ℕ) → byte ≤ 256 → place (marked words) byte ≡ length (passing (is_marked words) 0 (64 * (byte / 64))) + length (passing (is_set (slice_index words (byte / 64))) 0 (byte % 64))
+pub place_by_words : (words : List ℕ) (byte : ℕ) → byte ≤ 256 → place (marked words) byte ≡ length (those_passing (is_marked words) 0 (64 * (byte / 64))) + length (those_passing (is_set (slice_index words (byte / 64))) 0 (byte % 64))
 place_by_words words byte fits =
     let e : byte ≡ 64 * (byte / 64) + byte % 64 = omega arith in
-    place_of_bound (is_marked words) byte fits ∙ ap (λ n. length (passing (is_marked words) 0 n)) e ∙ marked_up_to words (byte / 64) (byte % 64) (omega arith)
+    place_of_bound (is_marked words) byte fits ∙ ap (λ n. length (those_passing (is_marked words) 0 n)) e ∙ marked_up_to words (byte / 64) (byte % 64) (omega arith)
 
 module _ (words : List ℕ) (byte : ℕ) (within : byte / 64 < length words) where
   abbrev word : ℕ
@@ -191,7 +191,7 @@ module _ (words : List ℕ) (at from : ℕ) (less : at < 4) (w : ℕ) (is : (j :
       let small : i < 64 = omega (arith, below, here) in
       ap (is_marked words) e ∙ bit_of_word words at i small ∙ neither _ _ (sym (is i small) ∙ clear) (le_true from (64 * at + i) (omega (arith, above, e)))
 
-  pub next_of_words : (bit : ℕ) → bit < 64 → is_set w bit ≡ true → ((i : ℕ) → i < bit → is_set w i ≡ false) → IsNext (marked words) from (64 * at + bit)
+  pub next_of_words : (bit : ℕ) → bit < 64 → is_set w bit ≡ true → ((i : ℕ) → i < bit → is_set w i ≡ false) → IsFirstFrom (marked words) from (64 * at + bit)
   next_of_words bit small set clear =
       let pair = both _ _ (sym (is bit small) ∙ set) in
       let byte = 64 * at + bit in
@@ -218,7 +218,7 @@ module _ (words : List ℕ) (at to : ℕ) (less : at < 4) (few : to ≤ 256) (w 
       let small : i < 64 = omega (arith, below, here) in
       ap (is_marked words) e ∙ bit_of_word words at i small ∙ neither _ _ (sym (is i small) ∙ clear) (le_true (suc (64 * at + i)) to (omega (arith, under, e)))
 
-  pub last_of_words : (bit : ℕ) → bit < 64 → is_set w bit ≡ true → ((i : ℕ) → bit < i → is_set w i ≡ false) → IsLast (marked words) to (64 * at + bit)
+  pub last_of_words : (bit : ℕ) → bit < 64 → is_set w bit ≡ true → ((i : ℕ) → bit < i → is_set w i ≡ false) → IsLastBelow (marked words) to (64 * at + bit)
   last_of_words bit small set clear =
       let pair = both _ _ (sym (is bit small) ∙ set) in
       let byte = 64 * at + bit in

@@ -7,7 +7,7 @@ use Rattle.std.specs.declared.ops.Bound.{Bound}
 use Rattle.std.specs.declared.ops.Bound.TheVariants.{Included, Excluded, Unbounded}
 use Rattle.std.proofs.lemmas.Bool.Decides.{leb_tells, nat_tests}
 use Rattle.art_nodes.specs.InnerNode.{IsAscendingFrom, is_from, is_to, children_between, AreValidBounds}
-use Rattle.art_nodes.specs.inner.Place.{place, children_within, bytes_within, IsNext, IsLast}
+use Rattle.art_nodes.specs.inner.Place.{place, children_within, bytes_within, IsFirstFrom, IsLastBelow}
 use Rattle.art_nodes.specs.inner.Table.{children_from}
 use Rattle.art_nodes.proofs.ChildLemmas.{IsAscendingFrom-lower}
 
@@ -43,7 +43,7 @@ pub length-within : (ks : List ℕ) (from to : ℕ) → length (bytes_within fro
 length-within ks from to = simp (length-take, length-drop) (omega (arith, place-within ks to))
 
 -- the bytes within bounds, without their first and without their last
-pub next-within : (ks : List ℕ) (from to byte : ℕ) → IsNext ks from byte → 0 < length (bytes_within from to ks) → bytes_within from to ks ≡ byte ∷ bytes_within (byte + 1) to ks
+pub next-within : (ks : List ℕ) (from to byte : ℕ) → IsFirstFrom ks from byte → 0 < length (bytes_within from to ks) → bytes_within from to ks ≡ byte ∷ bytes_within (byte + 1) to ks
 next-within ks from to byte is some =
     let at = place ks from in
     let up : place ks (byte + 1) ≡ at + 1 = omega (arith, is.after) in
@@ -51,7 +51,7 @@ next-within ks from to byte is some =
     let first : drop at ks ≡ byte ∷ drop (at + 1) ks = drop_more ks at 0 is.stands.within ∙ ap (λ b. b ∷ drop (at + 1) ks) is.stands.here in
     rw (up, more, first) refl
 
-pub last-within : (ks : List ℕ) (from to byte : ℕ) → IsLast ks to byte → 0 < length (bytes_within from to ks) → bytes_within from to ks ≡ bytes_within from byte ks ++ byte ∷ []
+pub last-within : (ks : List ℕ) (from to byte : ℕ) → IsLastBelow ks to byte → 0 < length (bytes_within from to ks) → bytes_within from to ks ≡ bytes_within from byte ks ++ byte ∷ []
 last-within ks from to byte is some =
     let at = place ks from in
     let m = place ks byte - at in

@@ -1,10 +1,10 @@
 -- Lemmas on rows: items in the first places of an array, and searches that compare all bytes of one at once.
 use Rattle.std.proofs.Common.{◌≡◌, ℕ, zero, suc, ◌+◌, ◌-◌, ◌<◌, ◌≤◌, ◌%◌, ◌^◌, min, leb, replicate, Bool, true, false, not, cond, List, [], ◌∷◌, ◌++◌, map, length, take, drop, w64, refl, sym, ap, ap₂, ◌∙◌, get_or, slice_get, slice_set, Some, arith, inl, inr}
 use Rattle.std.specs.Int.{trailing_zeros}
-use Rattle.std.specs.List.{insert, remove, copy_within, prefix_len}
+use Rattle.std.specs.List.{insert, remove, copy_within, prefix_len, refill}
 use Rattle.std.proofs.lemmas.Bool.{cases_eq}
 use Rattle.std.proofs.lemmas.Bool.Decides.{leb_tells}
-use Rattle.std.proofs.lemmas.List.{append_assoc, drop_at, length-drop, length-map, length-take, length-take-le, set_at, take_at, take-take, take_more}
+use Rattle.std.proofs.lemmas.List.{append_assoc, drop_at, length-append, length-drop, length-map, length-take, length-take-le, set_at, take_all, take_at, take-take, take_more}
 use lib.Seq.{get_or-take, take-add, take-paste, take-set-lt}
 use Rattle.std.proofs.lemmas.Option.{slice_get_read}
 use Rattle.std.proofs.lemmas.Simd.{leading_from_mask_l, trailing_mask_l, tops_compared, splat_is_map, mask_l-mod}
@@ -109,3 +109,17 @@ module _ {X : Type 0} (xs : List X) (at used : ℕ) where
 pub read_in_use : {X : Type 0} (used : ℕ) (row : List X) (at : ℕ) (x : X) → at < length (take used row) → x ≡ get_or row at x → slice_get (take used row) at ≡ Some x
 read_in_use used row at x less is =
     slice_get_read (take used row) (length (take used row)) at x refl less (is ∙ sym (get_or-take used row at x (omega (arith, less, length-take used row))))
+
+-- a list written over as a whole
+pub refilled : {X : Type 0} (xs ws : List X) → length ws ≡ length xs → refill (length xs) xs ws ≡ ws
+refilled xs ws same = take_at ws (drop (length ws) xs) (length xs) same
+
+-- a list after an item was put behind it and moved to its place
+pub pushed_in : {X : Type 0} (xs row : List X) (x : X) (at : ℕ) → take (length xs + 1) row ≡ insert (take (length xs) (xs ++ x ∷ [])) at x → length row ≡ length (xs ++ x ∷ []) → refill (length (xs ++ x ∷ [])) (xs ++ x ∷ []) row ≡ insert xs at x
+pushed_in {X = X} xs row x at is same =
+    refilled (xs ++ x ∷ []) row same ∙ sym (take_all (length xs + 1) row (omega (arith, same, length-append xs (x ∷ [])))) ∙ is ∙ ap (λ (l : List X). insert l at x) (take_at xs (x ∷ []) (length xs) refl)
+
+-- a list after those behind an item were moved over it, and the last cut off
+pub taken_out : {X : Type 0} (xs row : List X) (at : ℕ) → take (length xs - 1) row ≡ remove (take (length xs) xs) at → length row ≡ length xs → take (length xs - 1) (refill (length xs) xs row) ≡ remove xs at
+taken_out {X = X} xs row at is same =
+    ap (λ (l : List X). take (length xs - 1) l) (refilled xs row same) ∙ is ∙ ap (λ (l : List X). remove l at) (take_all (length xs) xs (omega arith))

@@ -7,6 +7,7 @@ use crate::header::Header;
 use crate::inner_node::{InnerNodeCommon, InnerNodeInit};
 use crate::mask::Mask;
 use crate::names::OpaqueNodePtr;
+use crate::row::{put_in, take_out};
 use crate::sealed::Sealed;
 use arrayvec::ArrayVec;
 use std::fmt;
@@ -103,8 +104,10 @@ impl<K, V, const PREFIX_LEN: usize, const SIZE: usize> InnerNodeCommon<PREFIX_LE
             Some(at) => self.names.as_mut_slice()[at] = name,
             None => {
                 let at = self.mask.place(usize::from(byte));
+                let used = self.names.len();
                 self.mask.mark(byte);
-                self.names.insert(at, name);
+                self.names.push(name);
+                put_in(self.names.as_mut_slice(), used, at, name);
                 self.header.inc_num_children();
             }
         }
@@ -116,8 +119,10 @@ impl<K, V, const PREFIX_LEN: usize, const SIZE: usize> InnerNodeCommon<PREFIX_LE
             None => return None,
         };
         let removed = self.names.as_slice()[at];
+        let used = self.names.len();
         self.mask.unmark(byte);
-        self.names.remove(at);
+        take_out(self.names.as_mut_slice(), used, at);
+        self.names.truncate(used - 1);
         self.header.dec_num_children();
         Some(removed)
     }

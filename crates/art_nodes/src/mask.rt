@@ -1,9 +1,9 @@
 //! A set of bytes: a bit for each.
-ghost use Rattle.std.specs.Prelude.{◌≡◌, ◌<◌, ◌≤◌, ◌+◌, ◌-◌, ◌*◌, ◌^◌, ◌&&◌, nat_lt, nat_le, true, false, ℕ, [], length};
-ghost use Rattle.std.specs.Prelude.{min, MatchOption};
+ghost use Rattle.std.specs.Prelude.{◌≡◌, ◌<◌, ◌≤◌, ◌+◌, ◌-◌, ◌*◌, ◌^◌, ◌&&◌, nat_lt, nat_le, true, false, ℕ, []};
+ghost use Rattle.std.specs.Prelude.{length, min, MatchOption};
 ghost use Rattle.std.specs.List.{insert, remove};
-ghost use Rattle.art_nodes.specs.inner.Place.{place, StandsAt, BelongsAt, IsNext, IsLast};
-ghost use Rattle.art_nodes.specs.inner.Mask.{passing, is_set};
+ghost use Rattle.art_nodes.specs.inner.Place.{place, StandsAt, BelongsAt, IsFirstFrom, IsLastBelow};
+ghost use Rattle.art_nodes.specs.inner.Mask.{those_passing, is_set};
 
 use std::marker::Model;
 
@@ -42,7 +42,7 @@ fn low_bits(count: usize) -> u64
 // How many of a word's bits below this one are set.
 fn set_bits_below(word: u64, bit: usize) -> usize
     requires { bit ≤ 64 }
-    ensures value { result ≡ length (passing (is_set word) 0 bit) }
+    ensures value { result ≡ length (those_passing (is_set word) 0 bit) }
     ensures few { result ≤ 64 }
 {
     (word & low_bits(bit)).count_ones() as usize
@@ -140,7 +140,7 @@ impl Mask {
     /// The lowest marked byte from this bound on: the one that stands at the bound's place.
     pub(crate) fn lowest_from(&self, from: usize) -> Option<u8>
         requires { from ≤ 256 }
-        ensures { MatchOption result (place self.now from ≡ length self.now) (IsNext self.now from) }
+        ensures { MatchOption result (place self.now from ≡ length self.now) (IsFirstFrom self.now from) }
     {
         for at in from / BITS..WORDS {
             if let Some(bit) = lowest_bit(bits_from(self.words[at], at, from)) {
@@ -153,7 +153,7 @@ impl Mask {
     /// The highest marked byte below this bound: the one before the bound's place.
     pub(crate) fn highest_below(&self, to: usize) -> Option<u8>
         requires { to ≤ 256 }
-        ensures { MatchOption result (place self.now to ≡ 0) (IsLast self.now to) }
+        ensures { MatchOption result (place self.now to ≡ 0) (IsLastBelow self.now to) }
     {
         let mut at = to.div_ceil(BITS);
         while at > 0 {

@@ -3,9 +3,9 @@ use Rattle.std.specs.Prelude.{ℕ, zero, suc, ◌/◌, ◌%◌, ◌==◌, Bool, 
 use Rattle.std.specs.Int.{bit_at}
 
 -- those of the `n` numbers from `first` on that pass, ascending
-unfoldable pub passing : (ℕ → Bool) → ℕ → ℕ → List ℕ
-passing p first zero = []
-passing p first (suc n) = if p first then first ∷ passing p (suc first) n else passing p (suc first) n
+unfoldable pub those_passing : (ℕ → Bool) → ℕ → ℕ → List ℕ
+those_passing p first zero = []
+those_passing p first (suc n) = if p first then first ∷ those_passing p (suc first) n else those_passing p (suc first) n
 
 -- whether this bit of a word is set
 abbrev pub is_set : ℕ → ℕ → Bool
@@ -17,4 +17,4 @@ is_marked words byte = is_set (slice_index words (byte / 64)) (byte % 64)
 
 -- the marked bytes, ascending
 abbrev pub marked : List ℕ → List ℕ
-marked words = passing (is_marked words) 0 256
+marked words = those_passing (is_marked words) 0 256

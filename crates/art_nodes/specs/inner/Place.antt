@@ -1,7 +1,6 @@
 -- Places in an ascending list of children.
-use Rattle.std.specs.Prelude.{◌≡◌, ◌≢◌, ℕ, suc, ◌+◌, ◌-◌, ◌<◌, ◌≤◌, nat_lt, nat_le, ◌&&◌, List, [], ◌∷◌, length, take, drop}
-use Rattle.std.specs.Prelude.{filter, slice_index}
-use Rattle.std.specs.Prelude.{if◌then◌else◌}
+use Rattle.std.specs.Prelude.{◌≡◌, ◌≢◌, ℕ, suc, ◌+◌, ◌-◌, ◌<◌, ◌≤◌, nat_lt, nat_le, ◌&&◌, List, [], ◌∷◌, length}
+use Rattle.std.specs.Prelude.{take, drop, filter, slice_index, if◌then◌else◌}
 
 -- how many of these ascending bytes come before the bound
 abbrev pub place : List ℕ → ℕ → ℕ
@@ -24,12 +23,12 @@ pub record BelongsAt (keys : List ℕ) (byte at : ℕ) : Type 0 where
   pub apart : at < length keys → slice_index keys at ≢ byte
 
 -- the first of the ascending bytes that isn't below the bound
-pub record IsNext (keys : List ℕ) (bound byte : ℕ) : Type 0 where
+pub record IsFirstFrom (keys : List ℕ) (bound byte : ℕ) : Type 0 where
   pub stands : StandsAt keys byte (place keys bound)
   pub after : place keys (byte + 1) ≡ suc (place keys bound)
 
 -- the last of the ascending bytes that is below the bound
-pub record IsLast (keys : List ℕ) (bound byte : ℕ) : Type 0 where
+pub record IsLastBelow (keys : List ℕ) (bound byte : ℕ) : Type 0 where
   pub stands : StandsAt keys byte (place keys byte)
   pub before : place keys bound ≡ suc (place keys byte)
 

@@ -3,6 +3,7 @@ use Rattle.std.specs.List.{zip}
 use Rattle.std.proofs.lemmas.Option.{slice_get_read}
 use Rattle.art_nodes.specs.InnerNode.{without_child}
 use Rattle.art_nodes.specs.inner.Place.{place}
+use Rattle.art_nodes.proofs.RowLemmas.{taken_out}
 use Rattle.art_nodes.proofs.SortedLemmas.{Becomes, sorted_node, found_here, found_nowhere, unchanged, removed}
 use Rattle.art_nodes.proofs.indirect.InnerNodeIndirectInnerNodeCommon.remove_child.Goals as goal
 
@@ -17,12 +18,14 @@ returns-in-None-clause-rest g c =
     rw (← c.self.view_is) (unchanged (min g.row.SIZE 255) i.header i.mask i.names.items c.args.byte (place i.mask c.args.byte) c.self.invariant c.in-None.ensures)
 
 -- the mask and the names with one child less
-less : (g : _) (c : goal.After-dec_num_children g) → Becomes (min g.row.SIZE 255) (record c.self.inside.header { num_children = c.self.inside.header.num_children - 1 }) c.unmark.new.self c.remove.new.self.items
+less : (g : _) (c : goal.After-dec_num_children g) → Becomes (min g.row.SIZE 255) (record c.self.inside.header { num_children = c.self.inside.header.num_children - 1 }) c.unmark.new.self c.truncate.new.self.items
     (sorted_node c.self.inside.header c.self.inside.mask c.self.inside.names.items) (without_child (zip c.self.inside.mask c.self.inside.names.items) c.args.byte)
 less g c =
     let i = c.self.inside in
     let stands = c.in-Some.ensures in
-    rw (c.unmark.ensures, ← stands.is_place, c.remove.ensures.items) (removed (min g.row.SIZE 255) i.header i.mask i.names.items c.args.byte c.in-Some.at c.self.invariant stands)
+    let moved = rw (c.as_mut_slice.ensures.value, c.len-used.ensures.value) at c.take_out.ensures.items in
+    let long = rw c.as_mut_slice.ensures.value at c.take_out.ensures.len in
+    rw (c.unmark.ensures, ← stands.is_place, c.truncate.ensures.items, c.len-used.ensures.value, taken_out i.names.items c.take_out.new.row c.in-Some.at moved long) (removed (min g.row.SIZE 255) i.header i.mask i.names.items c.args.byte c.in-Some.at c.self.invariant stands)
 
 pub invariant_of-self : goal.invariant_of-self
 invariant_of-self g c = rw c.dec_num_children.ensures ((less g c).side)
