@@ -16,3 +16,7 @@ pub mod Asks
 pub mod Ranges
 pub mod PrefixEntries
 pub mod Audits
+pub mod Clones
+pub mod Puts
+pub mod VecPairs
+pub mod Joins

@@ -14,4 +14,6 @@ pub mod Asked
 pub mod LentRuns
 pub mod LentWalks
 pub mod LentIters
+pub mod Bulk
+pub mod Joins
 pub mod inner
