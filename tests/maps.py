@@ -50,14 +50,16 @@ class Refused(Exception):
 
 class Model:
     """Pairs in the order of their keys' bytes. A method for each call, of the words behind its name. Where `refuse` is
-    a number, the removal by an extraction with this number, of those that make a node smaller, finds no memory."""
+    a number, the removal by an extraction with this number, of those that make a node smaller, finds no memory, and so
+    does the insertion with this number of a call that makes several."""
 
-    def __init__(self, is_ended, pairs=(), refuse=None):
-        self.pairs, self.is_ended, self.refuse, self.removals = dict(pairs), is_ended, refuse, 0
+    def __init__(self, is_ended, pairs=(), other=(), refuse=None):
+        self.pairs, self.other = dict(pairs), dict(other)
+        self.is_ended, self.refuse, self.removals = is_ended, refuse, 0
 
     def again(self):
         """The same pairs, with memory."""
-        return Model(self.is_ended, self.pairs)
+        return Model(self.is_ended, self.pairs, self.other)
 
     def key(self, word):
         """A key that is handed in, or None where there is none of these bytes."""
@@ -139,6 +141,8 @@ class Model:
         kinds = [str(sum(least <= width <= most for width in widths)) for least, most in CLASSES]
         return f"{len(keys)} leaves, nodes {' '.join(kinds)}"
 
+    call_audit = call_check
+
     # Changes.
     def call_try_insert(self, word, number, *_):
         key = self.key(word)
@@ -151,6 +155,13 @@ class Model:
         return option(old)
 
     call_insert = call_try_insert
+
+    def call_replace_entry(self, word, number, *_):
+        key = self.key(word)
+        old = self.item(key if key in self.pairs else None)
+        if key is not None:
+            self.pairs[key] = int(number or 0)
+        return "no key" if key is None else old
 
     def put_over(self, key, number):
         gone = [it for it in self.pairs if overlap(key, it)]
@@ -182,6 +193,52 @@ class Model:
 
     def call_pop_last(self, *_):
         return self.take(next(iter(self.sorted()[::-1]), None))
+
+    # Two maps.
+    def call_swap(self, *_):
+        self.pairs, self.other = self.other, self.pairs
+        return "done"
+
+    def call_split_off(self, word, *_):
+        self.other = {key: value for key, value in self.pairs.items() if key >= bytes_in(word)}
+        self.pairs = {key: value for key, value in self.pairs.items() if key < bytes_in(word)}
+        return "done"
+
+    def call_into_iter(self, letters, *_):
+        told = self.call_iter(letters)
+        self.pairs = {}
+        return told
+
+    def put_other(self, pairs):
+        """Puts the other map's pairs into these, one by one, and tells which found no memory if one did."""
+        moved, self.other = self.other, {}
+        for number, key in enumerate(sorted(moved)):
+            if self.refuse == number + 1:
+                return f"memory {shown(key)} {moved[key]}"
+            pairs[key] = moved[key]
+        return "done"
+
+    def call_append(self, *_):
+        refuse, self.refuse = self.refuse, None
+        told, self.refuse = self.put_other(self.pairs), refuse
+        return told
+
+    def call_extend(self, *_):
+        return self.put_other(self.pairs)
+
+    def call_from_iter(self, *_):
+        made = {}
+        told = self.put_other(made)
+        self.pairs = made if told == "done" else self.pairs
+        return told
+
+    def call_clone(self, *_):
+        self.other = dict(self.pairs)
+        return "done"
+
+    def call_compare(self, *_):
+        mine, others = sorted(self.pairs.items()), sorted(self.other.items())
+        return f"{'less' if mine < others else 'greater' if mine > others else 'equal'} {str(mine == others).lower()}"
 
     # Entries.
     def fill(self, call, word, number, *_):
@@ -375,18 +432,21 @@ class Model:
 
 
 CALLS = {
-    "len": "", "is_empty": "", "first_key_value": "", "last_key_value": "", "check": "", "clear": "", "pop_first": "",
-    "pop_last": "", "get": "k", "get_key_value": "k", "contains_key": "k", "index": "s", "prefix_get": "k",
-    "prefix_get_key_value": "k", "get_mut": "kn", "prefix_get_mut": "kn", "prefix_get_key_value_mut": "kn",
-    "try_insert": "kn", "prefix_insert": "kn", "remove": "s", "remove_entry": "s", "iter": "e", "keys": "e",
-    "values": "e", "range": "bbe", "prefix": "ke", "range_mut": "bben", "prefix_mut": "kne", "iter_mut": "en",
-    "values_mut": "en", "extraction": "bbx", "extract_if": "bben", "retain": "n",
+    "len": "", "is_empty": "", "first_key_value": "", "last_key_value": "", "check": "", "audit": "", "clear": "",
+    "pop_first": "", "pop_last": "", "get": "k", "get_key_value": "k", "contains_key": "k", "index": "s",
+    "prefix_get": "k", "prefix_get_key_value": "k", "prefix_get_key_value_mut": "kn", "get_mut": "kn",
+    "prefix_get_mut": "kn", "try_insert": "kn", "prefix_insert": "kn", "remove": "s", "remove_entry": "s", "iter": "e",
+    "keys": "e", "values": "e", "range": "bbe", "prefix": "ke", "range_mut": "bben", "prefix_mut": "kne",
+    "iter_mut": "en", "values_mut": "en", "extraction": "bbx", "extract_if": "bben", "retain": "n",
+    "swap": "", "split_off": "s", "into_iter": "e",
 }  # fmt: skip
 FREE = {"try_entry": "kn", "prefix_entry": "k", "prefix_or_insert": "kn", "prefix_insert_entry": "kn"}
 ENDED = ["insert", *FILLING, *(f"{it}_entry" for it in FILLING), "insert_entry", "and_modify", "entry_insert"]
-ENDED += ["entry_remove", "entry_remove_entry", "into_mut"]
+ENDED += ["entry_remove", "entry_remove_entry", "into_mut", "replace_entry"]
+TWO_ENDED = {"append": "", "extend": "", "from_iter": "", "clone": "", "compare": ""}
 OFTEN = ("try_insert", "insert", "remove", "pop_last", "insert_entry")
 SELDOM = ("clear", "retain", "extraction", "extract_if", "prefix_insert", "prefix_insert_entry", "prefix_or_insert")
+SELDOM += ("split_off", "into_iter", "append", "extend", "from_iter", "clone")
 
 
 def script(seed, is_ended, length):
@@ -408,7 +468,8 @@ def script(seed, is_ended, length):
             return str(of.randrange(40))
         return "".join(of.choices("fb" if kind == "e" else "fbpq", k=of.randint(1, 9)))
 
-    calls = {**CALLS, **({it: "kn" for it in ENDED} if is_ended else FREE)}
+    more = {**{it: "kn" for it in ENDED}, **TWO_ENDED} if is_ended else FREE
+    calls = {**CALLS, **more}
     weights = [of.choice((9, 30)) if it in OFTEN else 0.2 if it in SELDOM else 1 for it in calls]
     lines = []
     for _ in range(length):

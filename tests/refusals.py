@@ -27,11 +27,12 @@ SCENARIOS, PROGRAM, REFUSED, CONFLICT = "refusals", "art_index", b"memory\n", b"
 NO_MEMORY = "takes_no_memory"
 # The command words of the lines that may be answered by `memory`, unless they are answered `conflict`.
 MAY_REFUSE = {b"put"}
-# Calls of the map that take out several pairs, and calls that take no memory.
-SEVERAL = {"retain", "extract_if", "extraction"}
+# Calls of the map that take out several pairs or put them in, one by one, and calls that take no memory.
+SEVERAL = {"retain", "extract_if", "extraction", "extend", "from_iter"}
 TAKE_NONE = {"len", "is_empty", "get", "get_key_value", "contains_key", "index", "prefix_get", "prefix_get_key_value"}
 TAKE_NONE |= {"first_key_value", "last_key_value", "get_mut", "prefix_get_mut", "prefix_get_key_value_mut", "clear"}
-TAKE_NONE |= {"iter", "keys", "values", "range", "prefix", "range_mut", "prefix_mut", "iter_mut", "values_mut"}
+TAKE_NONE |= {"iter", "keys", "values", "range", "prefix", "range_mut", "prefix_mut", "iter_mut", "values_mut", "swap"}
+TAKE_NONE |= {"compare", "into_iter"}
 SHIM = os.path.abspath("out/refuse.so")
 word = sys.argv[1] if len(sys.argv) > 1 else ""
 counts, runs = {True: 0, False: 0}, 0
@@ -165,21 +166,21 @@ def played(model, lines):
 
 def one_call(words, kind, lines, at):
     """A line of a script stands twice, and is refused the first time: all else must be as if it stood once. Of a line
-    that takes out several pairs, those before the refused one are gone, and those behind it stand."""
+    that takes out several pairs, or puts them in, those before the refused one were, and those behind it were not."""
     model = maps.Model(kind == "ended")
-    before, held = played(model, lines[:at]), model.pairs
+    before, held, other = played(model, lines[:at]), model.pairs, model.other
     twice = "".join(f"{it}\n" for it in [words[1], *lines[: at + 1], *lines[at:]]).encode()
     for label, out, *_ in each_refusal(words[:1], line=at + 2, given=twice):
         rest, call = out[len(before) :], lines[at].split(" ")[0]
         if call in SEVERAL:
             wanted = {}
-            for refuse in range(1, len(held) + 1):
-                model = maps.Model(kind == "ended", held, refuse)
+            for refuse in range(1, max(len(held), len(other)) + 1):
+                model = maps.Model(kind == "ended", held, other, refuse)
                 wanted.setdefault(played(model, lines[at : at + 1]) + played(model.again(), lines[at:]), refuse)
             assert rest in wanted, f"{label}: it answers {rest[:300]}"
             continue
         refusal, _, rest = rest.partition(b"\n")
-        wanted = played(maps.Model(kind == "ended", held), lines[at:])
+        wanted = played(maps.Model(kind == "ended", held, other), lines[at:])
         assert re.match(rb"memory\b|no key", refusal) and call not in TAKE_NONE, f"{label}: it answers {refusal}"
         assert out.startswith(before) and rest == wanted, f"{label}: behind it {rest[:300]}, and not {wanted[:300]}"
 

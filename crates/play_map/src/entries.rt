@@ -167,8 +167,9 @@ const FILLING: [&str; 5] = [
     "insert_entry",
 ];
 
-const OTHERS: [&str; 6] = [
+const OTHERS: [&str; 7] = [
     "insert",
+    "replace_entry",
     "and_modify",
     "entry_insert",
     "entry_remove",
@@ -188,6 +189,11 @@ fn with_key<const PREFIX_LEN: usize>(
     }
     match call {
         "insert" => insert(rt, map, key, number),
+        "replace_entry" => match map.replace_entry(key, number) {
+            Ok(Some((key, value))) => println!(rt; "{:?} {value}", key.as_bytes()),
+            Ok(None) => println!(rt; "None"),
+            Err(refused) => show_refused(rt, refused.key, refused.value),
+        },
         "and_modify" => {
             let entry = map
                 .entry(key)

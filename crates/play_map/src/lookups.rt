@@ -5,7 +5,7 @@ use crate::key::PlayedKey;
 use crate::script::Asked;
 use art_bytes::{AsBytes, SliceKey};
 use art_map::TreeMap;
-use art_walks::{MalformedTreeError, WellFormedChecker};
+use art_walks::{MalformedTreeError, WellFormedChecker, WellFormedTreeStats};
 use std::io;
 
 /// Prints a pair, or that there is none.
@@ -28,6 +28,13 @@ fn write(rt: &impl Print, lent: Option<&mut u64>, number: u64) -> io::Result<()>
     }
 }
 
+fn show_stats(rt: &impl Print, stats: &WellFormedTreeStats) -> io::Result<()> {
+    println!(rt;
+        "{} leaves, nodes {} {} {} {}",
+        stats.num_leaf, stats.num_node4, stats.num_node16, stats.num_node48, stats.num_node256
+    )
+}
+
 // Prints how many nodes of each kind the checker counts, or its fault.
 fn check<K: AsBytes, const PREFIX_LEN: usize>(
     rt: &(impl Print + AllocGlobal),
@@ -35,12 +42,20 @@ fn check<K: AsBytes, const PREFIX_LEN: usize>(
 ) -> io::Result<()> {
     let (arena, root) = map.nodes();
     match WellFormedChecker::check(rt.alloc(), arena, root, map.len()) {
-        Ok(stats) => println!(rt;
-            "{} leaves, nodes {} {} {} {}",
-            stats.num_leaf, stats.num_node4, stats.num_node16, stats.num_node48, stats.num_node256
-        ),
+        Ok(stats) => show_stats(rt, &stats),
         Err(MalformedTreeError::Memory) => println!(rt; "memory"),
         Err(fault) => println!(rt; "{fault}"),
+    }
+}
+
+// Prints what the map tells of its nodes.
+fn audit<K: AsBytes, const PREFIX_LEN: usize>(
+    rt: &impl Print,
+    map: &TreeMap<K, u64, PREFIX_LEN>,
+) -> io::Result<()> {
+    match map.audit() {
+        Ok(stats) => show_stats(rt, &stats),
+        Err(_) => println!(rt; "memory"),
     }
 }
 
@@ -76,6 +91,7 @@ pub fn answer<K: PlayedKey, const PREFIX_LEN: usize>(
     let number = asked.number(1);
     match asked.call {
         "check" => check(rt, map)?,
+        "audit" => audit(rt, map)?,
         "get_mut" => write(rt, map.get_mut(&query), number)?,
         "prefix_get_mut" => write(rt, map.prefix_get_mut(&query), number)?,
         "prefix_get_key_value_mut" => match map.prefix_get_key_value_mut(&query) {

@@ -8,6 +8,8 @@
 // bytes, or `*`. What takes pairs from both ends is told from which by letters, `f` and `b`.
 #![tactic(auto)]
 
+ghost use Rattle.std.specs.Prelude.{◌≤◌};
+
 mod changes;
 mod entries;
 mod extraction;
@@ -15,6 +17,7 @@ mod key;
 mod lookups;
 mod prefix_entries;
 mod script;
+mod two_maps;
 mod walks;
 
 use art_bytes::ZeroEnded;
@@ -37,18 +40,23 @@ fn answer<K: PlayedKey, const PREFIX_LEN: usize>(
     )
 }
 
-// Plays all lines over a map of keys of any bytes.
+// Plays all lines over a map of keys of any bytes, and a second one that can be exchanged with it.
 fn play_free<const PREFIX_LEN: usize>(
     rt: &(impl Print + AllocGlobal),
     script: &mut Script,
     map: &mut TreeMap<Vec<u8>, u64, PREFIX_LEN>,
-) -> io::Result<()> {
+    other: &mut TreeMap<Vec<u8>, u64, PREFIX_LEN>,
+) -> io::Result<()>
+    requires { PREFIX_LEN ≤ 16 }
+{
     for _ in 0..u64::MAX {
         if !script.read()? {
             break;
         }
         let asked = script.asked();
-        let known = prefix_entries::answer(rt, map, &asked)? || answer(rt, map, &asked)?;
+        let known = prefix_entries::answer(rt, map, &asked)?
+            || two_maps::answer(rt, map, other, &asked)?
+            || answer(rt, map, &asked)?;
         if !known {
             println!(rt; "not understood")?;
         }
@@ -61,13 +69,18 @@ fn play_ended<const PREFIX_LEN: usize>(
     rt: &(impl Print + AllocGlobal),
     script: &mut Script,
     map: &mut TreeMap<ZeroEnded, u64, PREFIX_LEN>,
-) -> io::Result<()> {
+    other: &mut TreeMap<ZeroEnded, u64, PREFIX_LEN>,
+) -> io::Result<()>
+    requires { PREFIX_LEN ≤ 16 }
+{
     for _ in 0..u64::MAX {
         if !script.read()? {
             break;
         }
         let asked = script.asked();
-        let known = entries::answer(rt, map, &asked)? || answer(rt, map, &asked)?;
+        let known = entries::answer(rt, map, &asked)?
+            || two_maps::answer_ended(rt, map, other, &asked)?
+            || answer(rt, map, &asked)?;
         if !known {
             println!(rt; "not understood")?;
         }
@@ -77,32 +90,38 @@ fn play_ended<const PREFIX_LEN: usize>(
 
 fn free_0(rt: &(impl Print + AllocGlobal), script: &mut Script) -> io::Result<()> {
     let mut map: TreeMap<Vec<u8>, u64, 0> = TreeMap::with_prefix_len(rt.alloc());
-    play_free(rt, script, &mut map)
+    let mut other = TreeMap::with_prefix_len(rt.alloc());
+    play_free(rt, script, &mut map, &mut other)
 }
 
 fn free_4(rt: &(impl Print + AllocGlobal), script: &mut Script) -> io::Result<()> {
     let mut map: TreeMap<Vec<u8>, u64, 4> = TreeMap::with_prefix_len(rt.alloc());
-    play_free(rt, script, &mut map)
+    let mut other = TreeMap::with_prefix_len(rt.alloc());
+    play_free(rt, script, &mut map, &mut other)
 }
 
 fn free_16(rt: &(impl Print + AllocGlobal), script: &mut Script) -> io::Result<()> {
     let mut map: TreeMap<Vec<u8>, u64, 16> = TreeMap::new(rt.alloc());
-    play_free(rt, script, &mut map)
+    let mut other = TreeMap::with_prefix_len(rt.alloc());
+    play_free(rt, script, &mut map, &mut other)
 }
 
 fn ended_0(rt: &(impl Print + AllocGlobal), script: &mut Script) -> io::Result<()> {
     let mut map: TreeMap<ZeroEnded, u64, 0> = TreeMap::with_prefix_len(rt.alloc());
-    play_ended(rt, script, &mut map)
+    let mut other = TreeMap::with_prefix_len(rt.alloc());
+    play_ended(rt, script, &mut map, &mut other)
 }
 
 fn ended_4(rt: &(impl Print + AllocGlobal), script: &mut Script) -> io::Result<()> {
     let mut map: TreeMap<ZeroEnded, u64, 4> = TreeMap::with_prefix_len(rt.alloc());
-    play_ended(rt, script, &mut map)
+    let mut other = TreeMap::with_prefix_len(rt.alloc());
+    play_ended(rt, script, &mut map, &mut other)
 }
 
 fn ended_16(rt: &(impl Print + AllocGlobal), script: &mut Script) -> io::Result<()> {
     let mut map: TreeMap<ZeroEnded, u64, 16> = TreeMap::new(rt.alloc());
-    play_ended(rt, script, &mut map)
+    let mut other = TreeMap::with_prefix_len(rt.alloc());
+    play_ended(rt, script, &mut map, &mut other)
 }
 
 fn main(rt: HostRuntime) -> io::Result<()> {

@@ -1,0 +1,160 @@
+// Calls of two maps: `swap` exchanges them, so that any other call can be made of the second.
+ghost use Rattle.std.specs.Prelude.{◌≤◌};
+
+use crate::changes::show_refused;
+use crate::key::PlayedKey;
+use crate::script::Asked;
+use art_bytes::{AsBytes, SliceKey, ZeroEnded};
+use art_map::TreeMap;
+use std::cmp::Ordering;
+use std::io;
+use std::mem;
+
+// The pairs from a key on become the second map's; it had to be empty.
+fn split_off<K: PlayedKey, const PREFIX_LEN: usize>(
+    rt: &impl Print,
+    map: &mut TreeMap<K, u64, PREFIX_LEN>,
+    other: &mut TreeMap<K, u64, PREFIX_LEN>,
+    key: &[u8],
+) -> io::Result<()>
+    requires { PREFIX_LEN ≤ 16 }
+{
+    match map.split_off(&SliceKey(key)) {
+        Ok(off) => {
+            *other = off;
+            println!(rt; "done")
+        }
+        Err(_) => println!(rt; "memory"),
+    }
+}
+
+// Takes the map's pairs from the ends that letters tell; the others are dropped.
+fn into_iter<K: PlayedKey, const PREFIX_LEN: usize>(
+    rt: &(impl Print + AllocGlobal),
+    map: &mut TreeMap<K, u64, PREFIX_LEN>,
+    ends: &str,
+) -> io::Result<()>
+    requires { PREFIX_LEN ≤ 16 }
+{
+    let mut pairs = mem::replace(map, TreeMap::with_prefix_len(rt.alloc())).into_iter();
+    for end in ends.bytes() {
+        print!(rt; "{} ", pairs.len())?;
+        let pair = if end == b'b' {
+            pairs.next_back()
+        } else {
+            pairs.next()
+        };
+        match pair {
+            Some((key, value)) => print!(rt; "{:?} {value}, ", key.as_bytes())?,
+            None => print!(rt; "None, ")?,
+        }
+    }
+    println!(rt; "end")
+}
+
+pub fn answer<K: PlayedKey, const PREFIX_LEN: usize>(
+    rt: &(impl Print + AllocGlobal),
+    map: &mut TreeMap<K, u64, PREFIX_LEN>,
+    other: &mut TreeMap<K, u64, PREFIX_LEN>,
+    asked: &Asked<'_>,
+) -> io::Result<bool>
+    requires { PREFIX_LEN ≤ 16 }
+{
+    match asked.call {
+        "swap" => {
+            mem::swap(map, other);
+            println!(rt; "done")?;
+        }
+        "split_off" => split_off(rt, map, other, asked.first)?,
+        "into_iter" => into_iter(rt, map, asked.words[0])?,
+        _ => return Ok(false),
+    }
+    Ok(true)
+}
+
+// The second map's pairs are put in one by one.
+fn extend<const PREFIX_LEN: usize>(
+    rt: &(impl Print + AllocGlobal),
+    map: &mut TreeMap<ZeroEnded, u64, PREFIX_LEN>,
+    other: &mut TreeMap<ZeroEnded, u64, PREFIX_LEN>,
+) -> io::Result<()>
+    requires { PREFIX_LEN ≤ 16 }
+{
+    let pairs = mem::replace(other, TreeMap::with_prefix_len(rt.alloc()));
+    match map.extend(pairs) {
+        Ok(()) => println!(rt; "done"),
+        Err(refused) => show_refused(rt, refused.key, refused.value),
+    }
+}
+
+// The map is made anew of the second one's pairs.
+fn from_iter<const PREFIX_LEN: usize>(
+    rt: &(impl Print + AllocGlobal),
+    map: &mut TreeMap<ZeroEnded, u64, PREFIX_LEN>,
+    other: &mut TreeMap<ZeroEnded, u64, PREFIX_LEN>,
+) -> io::Result<()>
+    requires { PREFIX_LEN ≤ 16 }
+{
+    let pairs = mem::replace(other, TreeMap::with_prefix_len(rt.alloc()));
+    match TreeMap::from_iter(rt.alloc(), pairs) {
+        Ok(made) => {
+            *map = made;
+            println!(rt; "done")
+        }
+        Err(refused) => show_refused(rt, refused.key, refused.value),
+    }
+}
+
+// The second map becomes a clone of the first.
+fn clone<const PREFIX_LEN: usize>(
+    rt: &impl Print,
+    map: &TreeMap<ZeroEnded, u64, PREFIX_LEN>,
+    other: &mut TreeMap<ZeroEnded, u64, PREFIX_LEN>,
+) -> io::Result<()>
+    requires { PREFIX_LEN ≤ 16 }
+{
+    match map.clone() {
+        Ok(copy) => {
+            *other = copy;
+            println!(rt; "done")
+        }
+        Err(_) => println!(rt; "memory"),
+    }
+}
+
+// How the two maps compare.
+fn compare<const PREFIX_LEN: usize>(
+    rt: &impl Print,
+    map: &TreeMap<ZeroEnded, u64, PREFIX_LEN>,
+    other: &TreeMap<ZeroEnded, u64, PREFIX_LEN>,
+) -> io::Result<()> {
+    let order = match map.cmp(other) {
+        Ordering::Less => "less",
+        Ordering::Equal => "equal",
+        Ordering::Greater => "greater",
+    };
+    println!(rt; "{order} {}", map == other)
+}
+
+/// Calls of maps whose keys are no fronts of one another.
+pub fn answer_ended<const PREFIX_LEN: usize>(
+    rt: &(impl Print + AllocGlobal),
+    map: &mut TreeMap<ZeroEnded, u64, PREFIX_LEN>,
+    other: &mut TreeMap<ZeroEnded, u64, PREFIX_LEN>,
+    asked: &Asked<'_>,
+) -> io::Result<bool>
+    requires { PREFIX_LEN ≤ 16 }
+{
+    match asked.call {
+        "append" => match map.append(other) {
+            Ok(()) => println!(rt; "done")?,
+            Err(_) => println!(rt; "memory")?,
+        },
+        "extend" => extend(rt, map, other)?,
+        "from_iter" => from_iter(rt, map, other)?,
+        "clone" => clone(rt, map, other)?,
+        "compare" => compare(rt, map, other)?,
+        _ => return answer(rt, map, other, asked),
+    }
+    Ok(true)
+}
