@@ -209,6 +209,16 @@ class Model:
         self.pairs = {}
         return told
 
+    def call_into_keys(self, letters, *_):
+        told = self.call_keys(letters)
+        self.pairs = {}
+        return told
+
+    def call_into_values(self, letters, *_):
+        told = self.call_values(letters)
+        self.pairs = {}
+        return told
+
     def put_other(self, pairs):
         """Puts the other map's pairs into these, one by one, and tells which found no memory if one did."""
         moved, self.other = self.other, {}
@@ -438,7 +448,7 @@ CALLS = {
     "prefix_get_mut": "kn", "try_insert": "kn", "prefix_insert": "kn", "remove": "s", "remove_entry": "s", "iter": "e",
     "keys": "e", "values": "e", "range": "bbe", "prefix": "ke", "range_mut": "bben", "prefix_mut": "kne",
     "iter_mut": "en", "values_mut": "en", "extraction": "bbx", "extract_if": "bben", "retain": "n",
-    "swap": "", "split_off": "s", "into_iter": "e",
+    "swap": "", "split_off": "s", "into_iter": "e", "into_keys": "e", "into_values": "e",
 }  # fmt: skip
 FREE = {"try_entry": "kn", "prefix_entry": "k", "prefix_or_insert": "kn", "prefix_insert_entry": "kn"}
 ENDED = ["insert", *FILLING, *(f"{it}_entry" for it in FILLING), "insert_entry", "and_modify", "entry_insert"]
@@ -446,7 +456,7 @@ ENDED += ["entry_remove", "entry_remove_entry", "into_mut", "replace_entry"]
 TWO_ENDED = {"append": "", "extend": "", "from_iter": "", "clone": "", "compare": ""}
 OFTEN = ("try_insert", "insert", "remove", "pop_last", "insert_entry")
 SELDOM = ("clear", "retain", "extraction", "extract_if", "prefix_insert", "prefix_insert_entry", "prefix_or_insert")
-SELDOM += ("split_off", "into_iter", "append", "extend", "from_iter", "clone")
+SELDOM += ("split_off", "into_iter", "into_keys", "into_values", "append", "extend", "from_iter", "clone")
 
 
 def script(seed, is_ended, length):

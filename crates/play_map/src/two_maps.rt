@@ -7,8 +7,7 @@ use crate::script::Asked;
 use art_bytes::{AsBytes, SliceKey, ZeroEnded};
 use art_map::TreeMap;
 use std::cmp::Ordering;
-use std::io;
-use std::mem;
+use std::{io, mem};
 
 // The pairs from a key on become the second map's; it had to be empty.
 fn split_off<K: PlayedKey, const PREFIX_LEN: usize>(
@@ -52,6 +51,49 @@ fn into_iter<K: PlayedKey, const PREFIX_LEN: usize>(
     println!(rt; "end")
 }
 
+// The same of its keys alone.
+fn into_keys<K: PlayedKey, const PREFIX_LEN: usize>(
+    rt: &(impl Print + AllocGlobal),
+    map: &mut TreeMap<K, u64, PREFIX_LEN>,
+    ends: &str,
+) -> io::Result<()>
+    requires { PREFIX_LEN ≤ 16 }
+{
+    let mut keys = mem::replace(map, TreeMap::with_prefix_len(rt.alloc())).into_keys();
+    for end in ends.bytes() {
+        let key = if end == b'b' {
+            keys.next_back()
+        } else {
+            keys.next()
+        };
+        match key {
+            Some(key) => print!(rt; "{} {:?}, ", keys.len(), key.as_bytes())?,
+            None => print!(rt; "None, ")?,
+        }
+    }
+    println!(rt; "end")
+}
+
+// The same of its values alone.
+fn into_values<K: PlayedKey, const PREFIX_LEN: usize>(
+    rt: &(impl Print + AllocGlobal),
+    map: &mut TreeMap<K, u64, PREFIX_LEN>,
+    ends: &str,
+) -> io::Result<()>
+    requires { PREFIX_LEN ≤ 16 }
+{
+    let mut values = mem::replace(map, TreeMap::with_prefix_len(rt.alloc())).into_values();
+    for end in ends.bytes() {
+        let value = if end == b'b' {
+            values.next_back()
+        } else {
+            values.next()
+        };
+        print!(rt; "{} {value:?}, ", values.len())?;
+    }
+    println!(rt; "end")
+}
+
 pub fn answer<K: PlayedKey, const PREFIX_LEN: usize>(
     rt: &(impl Print + AllocGlobal),
     map: &mut TreeMap<K, u64, PREFIX_LEN>,
@@ -67,6 +109,8 @@ pub fn answer<K: PlayedKey, const PREFIX_LEN: usize>(
         }
         "split_off" => split_off(rt, map, other, asked.first)?,
         "into_iter" => into_iter(rt, map, asked.words[0])?,
+        "into_keys" => into_keys(rt, map, asked.words[0])?,
+        "into_values" => into_values(rt, map, asked.words[0])?,
         _ => return Ok(false),
     }
     Ok(true)
