@@ -8,9 +8,9 @@ use Rattle.art_bytes.proofs.Conflicts.{conflict_told, told_conflict}
 use Rattle.art_arena.specs.tree.Changes.{IsIn}
 use Rattle.art_operations.specs.KeyedLists.{IsBlocked}
 use Rattle.art_index.specs.Keys.{full_key}
-use Rattle.art_index.specs.Records.{KeyRecord, KeyFits}
+use Rattle.art_index.specs.Records.{KeyRecord}
 use Rattle.art_index.specs.Replies.{has_conflict}
-use Rattle.art_index.specs.Stored.{Pair, record_of, IsFull}
+use Rattle.art_index.specs.Stored.{Pair, record_of, IsFull, IsOfTenant}
 use Rattle.art_index.proofs.FullKeys.{full_keys_keep_conflicts}
 use Rattle.art_index.proofs.OwnLaws.{key_part}
 use Rattle.art_index.proofs.Putting.{pairs_of_tenant}
@@ -31,21 +31,21 @@ has_conflict-cons t k r rs = go (r.tenant == t)
     go false = refl
 
 module _ (t : ℕ) (k : List ℕ) (small : t < 2 ^ 32) where
-  against : (p : Pair) → IsFull p → KeyFits (record_of p) → Conflict (full_key t k) (bytes_of p) → stands_against t k (record_of p) ≡ true
+  against : (p : Pair) → IsFull p → IsOfTenant (record_of p) → Conflict (full_key t k) (bytes_of p) → stands_against t k (record_of p) ≡ true
   against p full fits c =
       let r = record_of p in
       let whole : conflicts (full_key t k) (full_key r.tenant r.key) ≡ true = conflict_told (full_key t k) (full_key r.tenant r.key) (subst (Conflict (full_key t k)) full c) in
-      let both = and_parts _ _ (sym (full_keys_keep_conflicts t r.tenant k r.key small fits.tenant_fits) ∙ whole) in
+      let both = and_parts _ _ (sym (full_keys_keep_conflicts t r.tenant k r.key small fits) ∙ whole) in
       and_from _ _ (eq-eqb r.tenant t (sym (eqb-true t r.tenant both.0))) both.1
 
-  in_conflict : (p : Pair) → IsFull p → KeyFits (record_of p) → stands_against t k (record_of p) ≡ true → Conflict (full_key t k) (bytes_of p)
+  in_conflict : (p : Pair) → IsFull p → IsOfTenant (record_of p) → stands_against t k (record_of p) ≡ true → Conflict (full_key t k) (bytes_of p)
   in_conflict p full fits h =
       let r = record_of p in
       let both = and_parts _ _ h in
-      let whole = full_keys_keep_conflicts t r.tenant k r.key small fits.tenant_fits ∙ and_from _ _ (eq-eqb t r.tenant (sym (eqb-true r.tenant t both.0))) both.1 in
+      let whole = full_keys_keep_conflicts t r.tenant k r.key small fits ∙ and_from _ _ (eq-eqb t r.tenant (sym (eqb-true r.tenant t both.0))) both.1 in
       subst (Conflict (full_key t k)) (sym full) (told_conflict (full_key t k) (full_key r.tenant r.key) whole)
 
-  pub blocked_told : (ps : List Pair) → AllByRecursion IsFull ps → AllByRecursion KeyFits (map record_of ps) → IsBlocked bytes_of (full_key t k) ps
+  pub blocked_told : (ps : List Pair) → AllByRecursion IsFull ps → AllByRecursion IsOfTenant (map record_of ps) → IsBlocked bytes_of (full_key t k) ps
       → has_conflict k (pairs_of_tenant t (map record_of ps)) ≡ true
   blocked_told [] full fits (x, i, c) = absurd i
   blocked_told (p ∷ ps) full fits (x, inl same, c) =
@@ -53,7 +53,7 @@ module _ (t : ℕ) (k : List ℕ) (small : t < 2 ^ 32) where
   blocked_told (p ∷ ps) full fits (x, inr i, c) =
       has_conflict-cons t k (record_of p) (map record_of ps) ∙ or_right _ _ (blocked_told ps full.1 fits.1 (x, i, c))
 
-  told_blocked : (ps : List Pair) → AllByRecursion IsFull ps → AllByRecursion KeyFits (map record_of ps) → has_conflict k (pairs_of_tenant t (map record_of ps)) ≡ true
+  told_blocked : (ps : List Pair) → AllByRecursion IsFull ps → AllByRecursion IsOfTenant (map record_of ps) → has_conflict k (pairs_of_tenant t (map record_of ps)) ≡ true
       → IsBlocked bytes_of (full_key t k) ps
   told_blocked [] full fits h = absurd (cc)
   told_blocked (p ∷ ps) full fits h =
@@ -62,7 +62,7 @@ module _ (t : ℕ) (k : List ℕ) (small : t < 2 ^ 32) where
         | inr later ↦ let b = told_blocked ps full.1 fits.1 later in (b.0, inr b.1, b.2)
       ]
 
-  pub free_told : (ps : List Pair) → AllByRecursion IsFull ps → AllByRecursion KeyFits (map record_of ps) → (IsBlocked bytes_of (full_key t k) ps → ⊥)
+  pub free_told : (ps : List Pair) → AllByRecursion IsFull ps → AllByRecursion IsOfTenant (map record_of ps) → (IsBlocked bytes_of (full_key t k) ps → ⊥)
       → has_conflict k (pairs_of_tenant t (map record_of ps)) ≡ false
   free_told ps full fits free = go (has_conflict k (pairs_of_tenant t (map record_of ps))) refl
     where

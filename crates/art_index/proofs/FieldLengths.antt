@@ -1,12 +1,12 @@
 -- How long a field is beside what it is read as.
 use Rattle.std.proofs.Common.{◌≡◌, ℕ, ◌*◌, ◌^◌, ◌<◌, List, [], ◌∷◌, length, refl, ap, sym, ◌∙◌, arith, length-append}
-use Rattle.std.specs.Prelude.{map}
+use Rattle.std.specs.Prelude.{map, codes}
 use Rattle.std.specs.List.{join_with_byte}
 use Rattle.hex.specs.Hex.{encode_with, encode_lower, IsBytes}
 use Rattle.art_index.specs.Words.{Word, name, natural, signed, bytes, shown, Reads, text_of}
 use Rattle.hex.proofs.HexLemmas.{decode_of-ok}
 use Rattle.std.proofs.lemmas.List.Splits.{join_with_byte-slice_split}
-use Rattle.art_index.specs.Commands.{Command, of_tenant, put, words_of, AllRead, fields_of, Spells}
+use Rattle.art_index.specs.Commands.{Command, of_tenant, put, over, words_of, AllRead, fields_of, Spells}
 use Rattle.art_index.specs.Records.{KeyFits}
 
 length-encode : (bs : List ℕ) → length (encode_lower bs) ≡ 2 * length bs
@@ -44,15 +44,21 @@ bytes_read : (field bs : List ℕ) → Reads field (bytes bs) → IsBytes bs
 bytes_read field [] h = λ k. omega arith
 bytes_read field (b ∷ bs) h = (decode_of-ok field (b ∷ bs) h).3
 
+-- what a line with a key and a value says of them
+parts_fit : (word : List ℕ) (t : ℕ) (k v : List ℕ) (fields : List (List ℕ)) → AllRead fields (name word ∷ natural t ∷ bytes k ∷ bytes v ∷ []) → (t < 2 ^ 32) × IsBytes k × IsBytes v
+parts_fit word t k v [] r = absurd r
+parts_fit word t k v (f ∷ []) r = absurd r.1
+parts_fit word t k v (f ∷ g ∷ []) r = absurd r.1.1
+parts_fit word t k v (f ∷ g ∷ i ∷ []) r = absurd r.1.1.1
+parts_fit word t k v (f ∷ g ∷ i ∷ j ∷ fs) r = (r.1.0.1, bytes_read i k r.1.1.0, bytes_read j v r.1.1.1.0)
+
 -- so a record that a line puts fits
 pub put_fits : (line : List ℕ) (t : ℕ) (k v : List ℕ) → Spells line (of_tenant t (put k v)) → KeyFits (record { tenant = t; key = k; value = v })
 put_fits line t k v h =
-    let same = length-spelled line (of_tenant t (put k v)) h in let short = h.short in let parts = read (fields_of line) h.read in
+    let same = length-spelled line (of_tenant t (put k v)) h in let short = h.short in let parts = parts_fit (codes "put") t k v (fields_of line) h.read in
     record { tenant_fits = parts.0; key_fits = parts.1; value_fits = parts.2; line_fits = omega arith }
-  where
-    read : (fields : List (List ℕ)) → AllRead fields (words_of (of_tenant t (put k v))) → (t < 2 ^ 32) × IsBytes k × IsBytes v
-    read [] r = absurd r
-    read (f ∷ []) r = absurd r.1
-    read (f ∷ g ∷ []) r = absurd r.1.1
-    read (f ∷ g ∷ i ∷ []) r = absurd r.1.1.1
-    read (f ∷ g ∷ i ∷ j ∷ fs) r = (r.1.0.1, bytes_read i k r.1.1.0, bytes_read j v r.1.1.1.0)
+
+pub over_fits : (line : List ℕ) (t : ℕ) (k v : List ℕ) → Spells line (of_tenant t (over k v)) → KeyFits (record { tenant = t; key = k; value = v })
+over_fits line t k v h =
+    let same = length-spelled line (of_tenant t (over k v)) h in let short = h.short in let parts = parts_fit (codes "over") t k v (fields_of line) h.read in
+    record { tenant_fits = parts.0; key_fits = parts.1; value_fits = parts.2; line_fits = omega arith }

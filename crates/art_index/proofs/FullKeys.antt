@@ -14,16 +14,16 @@ use Rattle.art_bytes.specs.Keys.{is_proper_front, conflicts, IsBefore}
 use Rattle.art_bytes.proofs.Order.{cmp_before}
 use Rattle.art_bytes.proofs.Conflicts.{conflict_told}
 use Rattle.art_arena.specs.tree.Tenants.{begins_with, with_front}
-use Rattle.art_index.specs.Records.{KeyRecord, KeyComesBefore, KeyFits}
-use Rattle.art_index.specs.Stored.{Pair, IsFull, record_of}
+use Rattle.art_index.specs.Records.{KeyRecord, KeyComesBefore}
+use Rattle.art_index.specs.Stored.{Pair, IsFull, record_of, IsOfTenant}
 use Rattle.art_index.proofs.Standing.{cmp_less}
 use Rattle.art_index.specs.Keys.{full_key}
 use Rattle.art_index.specs.Laws.{FullKeysKeepOrder, FullKeysKeepConflicts, OwnIsBehindFront}
 
-cmp_low : (t u : ℕ) → t < u → nat_cmp t u ≡ Less
+pub cmp_low : (t u : ℕ) → t < u → nat_cmp t u ≡ Less
 cmp_low t u h = rw (lt-ltb t u h) refl
 
-cmp_high : (t u : ℕ) → u < t → nat_cmp t u ≡ Greater
+pub cmp_high : (t u : ℕ) → u < t → nat_cmp t u ≡ Greater
 cmp_high t u h = let ge : u ≤ t = omega arith in rw (le-ltb t u ge, ne_eqb t u (λ e. omega arith)) refl
 
 pub cmp_itself : (t : ℕ) → nat_cmp t t ≡ Equal
@@ -97,7 +97,7 @@ and_false true = refl
 and_false false = refl
 
 -- two tenants differ in one of their four bytes
-apart : (t u : ℕ) (w x y z r : Bool) → t < 2 ^ 32 → u < 2 ^ 32 → (t / 16777216 % 256 == u / 16777216 % 256) ≡ w → (t / 65536 % 256 == u / 65536 % 256) ≡ x → (t / 256 % 256 == u / 256 % 256) ≡ y → (t % 256 == u % 256) ≡ z
+pub apart : (t u : ℕ) (w x y z r : Bool) → t < 2 ^ 32 → u < 2 ^ 32 → (t / 16777216 % 256 == u / 16777216 % 256) ≡ w → (t / 65536 % 256 == u / 65536 % 256) ≡ x → (t / 256 % 256 == u / 256 % 256) ≡ y → (t % 256 == u % 256) ≡ z
     → (t ≡ u → ⊥) → (w && (x && (y && (z && r)))) ≡ false
 apart t u false x y z r ht hu p q s v other = refl
 apart t u true false y z r ht hu p q s v other = refl
@@ -196,16 +196,16 @@ under_key r = (r.key, r.value)
 abbrev cut_off : Pair → List ℕ × List ℕ
 cut_off p = (drop 4 p.0.items, p.1.items)
 
-behind_front : (t : ℕ) → t < 2 ^ 32 → (ps : List Pair) → AllByRecursion IsFull ps → AllByRecursion KeyFits (map record_of ps)
+behind_front : (t : ℕ) → t < 2 ^ 32 → (ps : List Pair) → AllByRecursion IsFull ps → AllByRecursion IsOfTenant (map record_of ps)
     → map under_key (filter (λ (r : KeyRecord). r.tenant == t) (map record_of ps))
     ≡ map cut_off (with_front (λ (p : Pair). p.0.items) (full_key t []) ps)
 behind_front t small [] full fits = refl
 behind_front t small (p ∷ ps) full fits =
     let r = record_of p in
-    let front : begins_with (full_key t []) p.0.items ≡ (r.tenant == t) = ap (begins_with (full_key t [])) full.0 ∙ begins-full_key t r.tenant r.key small fits.0.tenant_fits in
+    let front : begins_with (full_key t []) p.0.items ≡ (r.tenant == t) = ap (begins_with (full_key t [])) full.0 ∙ begins-full_key t r.tenant r.key small fits.0 in
     keeps_both under_key cut_off (r.tenant == t) (begins_with (full_key t []) p.0.items) r p
     (filter (λ (r : KeyRecord). r.tenant == t) (map record_of ps)) (with_front (λ (p : Pair). p.0.items) (full_key t []) ps) (sym front) refl (behind_front t small ps full.1 fits.1)
 
 pub own_is_behind_front : OwnIsBehindFront
 own_is_behind_front t ps small are =
-    ap (λ ks. record { keys = ks; numbers = [] }) (behind_front t small ps are.full are.records.keys_fit)
+    ap (λ ks. record { keys = ks; numbers = [] }) (behind_front t small ps are.full are.tenants)

@@ -26,3 +26,10 @@ pub mod OwnLaws
 pub mod Conflicts
 pub mod Spelling
 pub mod DigitGroups
+pub mod FullTests
+pub mod Dropping
+pub mod Removing
+pub mod Overwriting
+pub mod Changing
+pub mod Listing
+pub mod Finding

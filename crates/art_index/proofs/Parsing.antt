@@ -28,7 +28,7 @@ use Rattle.art_index.specs.declared.command.word.LookUp.TheVariants as look_up
 use Rattle.art_index.specs.declared.command.word.Change.TheVariants as change
 use Rattle.art_index.specs.declared.command.word.Whole.TheVariants as whole
 use Rattle.art_index.specs.Commands.{Command, fields_of}
-use Rattle.art_index.specs.Reading.{tenant_in, bytes_in, some_bytes, nothing_in, put_in, get_in, dump_in, command_in, command_of}
+use Rattle.art_index.specs.Reading.{tenant_in, bytes_in, some_bytes, nothing_in, put_in, over_in, del_in, get_in, find_in, list_in, span_in, dump_in, command_in, command_of}
 use Rattle.art_index.specs.Parsed.{word_in}
 use Rattle.art_index.specs.InPlace.{fields_behind, IsRead}
 
@@ -137,36 +137,47 @@ too_long line h = rw (lt-leb (length line) 4096 h) refl
 -- the command that the fields behind a word make
 abbrev pub command_by : Word → List (List ℕ) → Option Command
 command_by (Change change.Put) rest = put_in rest
+command_by (Change change.Over) rest = over_in rest
+command_by (Change change.Del) rest = del_in rest
 command_by (LookUp look_up.Get) rest = get_in rest
+command_by (LookUp look_up.Find) rest = find_in rest
+command_by (LookUp look_up.List) rest = list_in rest
+command_by (LookUp look_up.Span) rest = span_in rest
 command_by (Whole whole.Dump) rest = dump_in rest
 
+-- the same where there may be no word
+abbrev by_option : Option Word → List (List ℕ) → Option Command
+by_option None rest = None
+by_option (Some w) rest = command_by w rest
+
+-- one word more
+by_choice : (rest : List (List ℕ)) (b : Bool) (w : Word) (o : Option Word) (others : Option Command) → others ≡ by_option o rest
+    → cond b (command_by w rest) others ≡ by_option (cond b (Some w) o) rest
+by_choice rest true w o others e = refl
+by_choice rest false w o others e = e
+
+by_word : (word : List ℕ) (rest : List (List ℕ)) → command_in (word ∷ rest) ≡ by_option (word_in word) rest
+by_word word rest =
+    by_choice rest (bytes_eq word (codes "put")) (Change change.Put) _ _
+    (by_choice rest (bytes_eq word (codes "get")) (LookUp look_up.Get) _ _
+    (by_choice rest (bytes_eq word (codes "over")) (Change change.Over) _ _
+    (by_choice rest (bytes_eq word (codes "del")) (Change change.Del) _ _
+    (by_choice rest (bytes_eq word (codes "find")) (LookUp look_up.Find) _ _
+    (by_choice rest (bytes_eq word (codes "list")) (LookUp look_up.List) _ _
+    (by_choice rest (bytes_eq word (codes "span")) (LookUp look_up.Span) _ _
+    (by_choice rest (bytes_eq word (codes "dump")) (Whole whole.Dump) None None refl)))))))
+
 module _ (line word : List ℕ) (rest : List (List ℕ)) (short : length line ≤ 4096) (split : fields_of line ≡ word ∷ rest) where
-  pub says : command_in (word ∷ rest) ≡ command_of line
+  says : command_in (word ∷ rest) ≡ command_of line
   unfolding command_of
   says = rw (le-leb (length line) 4096 short, split) refl
 
   -- what a word makes of the fields behind it
   pub says_word : (w : Word) → Some w ≡ word_in word → command_by w rest ≡ command_of line
-  says_word w e = go (bytes_eq word (codes "put")) (bytes_eq word (codes "get")) (bytes_eq word (codes "dump")) refl refl refl e ∙ says
-    where
-      go : (p g d : Bool) → bytes_eq word (codes "put") ≡ p → bytes_eq word (codes "get") ≡ g → bytes_eq word (codes "dump") ≡ d
-          → Some w ≡ cond p (Some (Change change.Put)) (cond g (Some (LookUp look_up.Get)) (cond d (Some (Whole whole.Dump)) None))
-          → command_by w rest ≡ cond p (put_in rest) (cond g (get_in rest) (cond d (dump_in rest) None))
-      go true g d x y z e = let is : w ≡ Change change.Put = cc in rw is refl
-      go false true d x y z e = let is : w ≡ LookUp look_up.Get = cc in rw is refl
-      go false false true x y z e = let is : w ≡ Whole whole.Dump = cc in rw is refl
-      go false false false x y z e = cc
+  says_word w e = ap (λ o. by_option o rest) e ∙ sym (by_word word rest) ∙ says
 
   pub says_nothing : None ≡ word_in word → None ≡ command_of line
-  says_nothing e = go (bytes_eq word (codes "put")) (bytes_eq word (codes "get")) (bytes_eq word (codes "dump")) refl refl refl e ∙ says
-    where
-      go : (p g d : Bool) → bytes_eq word (codes "put") ≡ p → bytes_eq word (codes "get") ≡ g → bytes_eq word (codes "dump") ≡ d
-          → None ≡ cond p (Some (Change change.Put)) (cond g (Some (LookUp look_up.Get)) (cond d (Some (Whole whole.Dump)) None))
-          → None ≡ cond p (put_in rest) (cond g (get_in rest) (cond d (dump_in rest) None))
-      go true g d x y z e = cc
-      go false true d x y z e = cc
-      go false false true x y z e = cc
-      go false false false x y z e = refl
+  says_nothing e = ap (λ o. by_option o rest) e ∙ sym (by_word word rest) ∙ says
 
 pub nothing_read : (r : Option (Bor (List ℕ))) (b : Bool) → is_some r ≡ not b → IsRead b tt (nothing_in (fields_behind (option_copied r)))
 nothing_read None true h = refl

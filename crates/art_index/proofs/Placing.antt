@@ -1,6 +1,6 @@
 -- How a look-up and a put are answered, and what a put leaves, from what the map says of its pairs.
 use Rattle.std.proofs.Common.{◌≡◌, ℕ, ◌<◌, ◌^◌, List, [], ◌∷◌, ◌++◌, map, take, drop, refl, ap, sym, ◌∙◌, subst, Bool, true, false, cond, Option, Some, None, bytes_eq}
-use Rattle.std.specs.Prelude.{if◌then◌else◌, option_map}
+use Rattle.std.specs.Prelude.{if◌then◌else◌, not, option_map}
 use Rattle.std.specs.Global.{Vec}
 use Rattle.std.specs.List.{AllByRecursion}
 use Rattle.std.specs.Map.{lookup}
@@ -21,8 +21,10 @@ use Rattle.art_index.specs.Keys.{full_key, full_pair}
 use Rattle.art_index.specs.Words.{name, bytes}
 use Rattle.art_index.specs.Records.{Own, KeyRecord, Records, own, with_own, InOrder, KeyComesBefore, KeyFits}
 use Rattle.art_index.specs.Replies.{value_at, has_conflict, with_pair, put_reply, puts, with_changed}
-use Rattle.art_index.specs.Stored.{Pair, record_of, records_of, IsFull, ArePairs, IsPutDone, placed_words}
+use Rattle.art_index.specs.Stored.{Pair, record_of, records_of, IsFull, AreFull, ArePairs, IsOfTenant}
+use Rattle.art_index.specs.Changed.{IsPutDone, placed_words}
 use Rattle.art_index.proofs.Conflicts.{bytes_of, blocked_told, free_told}
+use Rattle.art_index.proofs.Dropping.{All-put}
 use Rattle.art_index.proofs.Filters.{All-left, All-right}
 use Rattle.art_index.proofs.FullKeys.{full_before, cmp_itself}
 use Rattle.art_index.proofs.OwnLaws.{key_made}
@@ -30,7 +32,7 @@ use Rattle.art_index.proofs.Standing.{AllBefore, AllBehind, stands_to, standing,
 use Rattle.art_index.proofs.Putting.{pairs_of_tenant, value_in_gap, value_there, no_conflict_with, new_behind, new_before, same_behind, same_before, FitsBetween, put_keeps, put_records, InOrder-before, InOrder-behind}
 
 -- the record of a full key
-full_record : (t : ℕ) (k v : List ℕ) (p : Pair) → t < 2 ^ 32 → bytes_of p ≡ full_key t k → p.1.items ≡ v → record_of p ≡ key_made t (k, v)
+pub full_record : (t : ℕ) (k v : List ℕ) (p : Pair) → t < 2 ^ 32 → bytes_of p ≡ full_key t k → p.1.items ≡ v → record_of p ≡ key_made t (k, v)
 full_record t k v p small full value =
     let front : take 4 (to_be_bytes w32 t ++ k) ≡ to_be_bytes w32 t = take-append_seam (to_be_bytes w32 t) k in
     let rest : drop 4 (to_be_bytes w32 t ++ k) ≡ k = drop-append_seam (to_be_bytes w32 t) k in
@@ -42,22 +44,22 @@ full_is : (t : ℕ) (k v : List ℕ) (p : Pair) → bytes_of p ≡ full_key t k 
 full_is t k v p full is = full ∙ sym (ap (λ (r : KeyRecord). full_key r.tenant r.key) is)
 
 -- pairs that an index holds ascend by their full keys
-ascend_behind : (p : Pair) (qs : List Pair) → IsFull p → KeyFits (record_of p) → AllByRecursion IsFull qs → AllByRecursion (KeyComesBefore (record_of p)) (map record_of qs)
-    → AllByRecursion KeyFits (map record_of qs) → AllByRecursion (λ q. IsBefore (bytes_of p) (bytes_of q)) qs
+ascend_behind : (p : Pair) (qs : List Pair) → IsFull p → IsOfTenant (record_of p) → AllByRecursion IsFull qs → AllByRecursion (KeyComesBefore (record_of p)) (map record_of qs)
+    → AllByRecursion IsOfTenant (map record_of qs) → AllByRecursion (λ q. IsBefore (bytes_of p) (bytes_of q)) qs
 ascend_behind p [] full fits fulls order fit = tt
 ascend_behind p (q ∷ qs) full fits fulls order fit =
     let r = record_of p in
     let s = record_of q in (
-      subst (λ a. IsBefore a (bytes_of q)) (sym full) (subst (IsBefore (full_key r.tenant r.key)) (sym fulls.0) (full_before r s fits.tenant_fits fit.0.tenant_fits order.0)),
+      subst (λ a. IsBefore a (bytes_of q)) (sym full) (subst (IsBefore (full_key r.tenant r.key)) (sym fulls.0) (full_before r s fits fit.0 order.0)),
       ascend_behind p qs full fits fulls.1 order.1 fit.1,
     )
 
-ascend : (ps : List Pair) → AllByRecursion IsFull ps → InOrder KeyComesBefore (map record_of ps) → AllByRecursion KeyFits (map record_of ps) → AscendsByKey bytes_of ps
+ascend : (ps : List Pair) → AllByRecursion IsFull ps → InOrder KeyComesBefore (map record_of ps) → AllByRecursion IsOfTenant (map record_of ps) → AscendsByKey bytes_of ps
 ascend [] full order fit = tt
 ascend (p ∷ ps) full order fit = (ascend_behind p ps full.0 fit.0 full.1 order.0 fit.1, ascend ps full.1 order.1 fit.1)
 
-pub pairs_ascend : (ps : List Pair) → ArePairs ps → AscendsByKey bytes_of ps
-pairs_ascend ps are = ascend ps are.full are.records.keys_in_order are.records.keys_fit
+pub pairs_ascend : (ps : List Pair) → AreFull ps → AscendsByKey bytes_of ps
+pairs_ascend ps are = ascend ps are.full are.in_order are.tenants
 
 -- pairs are their records, each value under its full key
 pub pairs_are : (ps : List Pair) → AllByRecursion IsFull ps → map (λ p. (p.0.items, p.1.items)) ps ≡ map full_pair (map record_of ps)
@@ -101,8 +103,8 @@ module _ (t : ℕ) (k : List ℕ) (small : t < 2 ^ 32) where
       ∙ sym (ap (λ l. value_at k (pairs_of_tenant t l)) split ∙ value_there t k (map record_of fs) (map record_of bs) (record_of m) low here)
 
   -- the value under a full key is that at the tenant's key
-  pub found : (ps : List Pair) → ArePairs ps → option_map (λ v. v.items) (lookup (is_full_key t k) ps) ≡ value_at k (own t (records_of ps)).keys
-  found ps are = found_among ps are.full (parted t k ps are.records.keys_in_order)
+  pub found : (ps : List Pair) → AreFull ps → option_map (λ v. v.items) (lookup (is_full_key t k) ps) ≡ value_at k (own t (records_of ps)).keys
+  found ps are = found_among ps are.full (parted t k ps are.in_order)
 
 -- what a tenant holds with a value put at a key
 abbrev with_mine : List ℕ → List ℕ → Own → Own
@@ -110,21 +112,21 @@ with_mine k v mine = record { keys = with_pair k v mine.keys; numbers = mine.num
 
 -- Among some pairs one was put: they are as an index holds them, and their records are those with the tenant's key put.
 pub record IsPutAmong (t : ℕ) (k v : List ℕ) (old new : List Pair) : Type 0 where
-  pub keeps : ArePairs new
+  pub keeps : AreFull new
   pub records_are : records_of new ≡ with_own t (with_mine k v (own t (records_of old))) (records_of old)
 
 -- the new list is what the map says it is
 abbrev IsNewList : Pair → List Pair → List Pair → Type 0
 IsNewList e old new = new ≡ put_in_order bytes_of e (without_key bytes_of (bytes_of e) old)
 
-module _ (t : ℕ) (k v : List ℕ) (e : Pair) (fits : KeyFits (key_made t (k, v))) (full : bytes_of e ≡ full_key t k) (value : e.1.items ≡ v) where
+module _ (t : ℕ) (k v : List ℕ) (e : Pair) (fits : t < 2 ^ 32) (full : bytes_of e ≡ full_key t k) (value : e.1.items ≡ v) where
   is_made : record_of e ≡ key_made t (k, v)
-  is_made = full_record t k v e fits.tenant_fits full value
+  is_made = full_record t k v e fits full value
 
-  put_absent : (fs bs : List Pair) → ArePairs (fs ++ bs) → AllBefore t k (map record_of fs) → AllBehind t k (map record_of bs)
+  put_absent : (fs bs : List Pair) → AreFull (fs ++ bs) → AllBefore t k (map record_of fs) → AllBehind t k (map record_of bs)
       → (IsBlocked bytes_of (full_key t k) (fs ++ bs) → ⊥) → IsPutAmong t k v (fs ++ bs) (fs ++ e ∷ bs) × IsNewList e (fs ++ bs) (fs ++ e ∷ bs)
   put_absent fs bs are low high free =
-      let apart = no_conflict_with t k (map record_of (fs ++ bs)) (free_told t k fits.tenant_fits (fs ++ bs) are.full are.records.keys_fit free) in
+      let apart = no_conflict_with t k (map record_of (fs ++ bs)) (free_told t k fits (fs ++ bs) are.full are.tenants free) in
       let parts = subst (AllByRecursion _) (map-append record_of fs bs) apart in
       let between : FitsBetween t k v fs [] bs e = record {
         low = low;
@@ -139,11 +141,11 @@ module _ (t : ℕ) (k v : List ℕ) (e : Pair) (fits : KeyFits (key_made t (k, v
       let keeps = put_keeps t k v fs [] bs e are between in
       (record { keeps = keeps; records_are = put_records t k v fs [] bs e are between }, (put_new bytes_of e fs bs (pairs_ascend (fs ++ e ∷ bs) keeps)).new_is)
 
-  put_present : (fs : List Pair) (m : Pair) (bs : List Pair) → ArePairs (fs ++ m ∷ bs) → AllBefore t k (map record_of fs) → stands_to t k (record_of m) ≡ Equal
+  put_present : (fs : List Pair) (m : Pair) (bs : List Pair) → AreFull (fs ++ m ∷ bs) → AllBefore t k (map record_of fs) → stands_to t k (record_of m) ≡ Equal
       → AllBehind t k (map record_of bs) → IsPutAmong t k v (fs ++ m ∷ bs) (fs ++ e ∷ bs) × IsNewList e (fs ++ m ∷ bs) (fs ++ e ∷ bs)
   put_present fs m bs are low here high =
-      let order = subst (InOrder KeyComesBefore) (map-append record_of fs (m ∷ bs)) are.records.keys_in_order in
-      let same = full_there t k fits.tenant_fits m (All-right IsFull fs (m ∷ bs) are.full).0 here ∙ sym full in
+      let order = subst (InOrder KeyComesBefore) (map-append record_of fs (m ∷ bs)) are.in_order in
+      let same = full_there t k fits m (All-right IsFull fs (m ∷ bs) are.full).0 here ∙ sym full in
       let between : FitsBetween t k v fs (m ∷ []) bs e = record {
         low = low;
         here = (here, tt);
@@ -157,18 +159,18 @@ module _ (t : ℕ) (k v : List ℕ) (e : Pair) (fits : KeyFits (key_made t (k, v
       let keeps = put_keeps t k v fs (m ∷ []) bs e are between in
       (record { keeps = keeps; records_are = put_records t k v fs (m ∷ []) bs e are between }, (put_replaced bytes_of e fs m bs same (pairs_ascend (fs ++ e ∷ bs) keeps)).new_is)
 
-  put_parted : (ps new : List Pair) → ArePairs ps → (IsBlocked bytes_of (full_key t k) ps → ⊥) → IsNewList e ps new → Parted t k ps → IsPutAmong t k v ps new
+  put_parted : (ps new : List Pair) → AreFull ps → (IsBlocked bytes_of (full_key t k) ps → ⊥) → IsNewList e ps new → Parted t k ps → IsPutAmong t k v ps new
   put_parted ps new are free is (absent fs bs parts low high) =
-      let done = put_absent fs bs (subst ArePairs parts are) low high (subst (λ l. IsBlocked bytes_of (full_key t k) l → ⊥) parts free) in
+      let done = put_absent fs bs (subst AreFull parts are) low high (subst (λ l. IsBlocked bytes_of (full_key t k) l → ⊥) parts free) in
       let same : new ≡ fs ++ e ∷ bs = is ∙ ap (λ l. put_in_order bytes_of e (without_key bytes_of (bytes_of e) l)) parts ∙ sym done.1 in
       subst (λ l. IsPutAmong t k v l new) (sym parts) (subst (IsPutAmong t k v (fs ++ bs)) (sym same) done.0)
   put_parted ps new are free is (present fs m bs parts low here high) =
-      let done = put_present fs m bs (subst ArePairs parts are) low here high in
+      let done = put_present fs m bs (subst AreFull parts are) low here high in
       let same : new ≡ fs ++ e ∷ bs = is ∙ ap (λ l. put_in_order bytes_of e (without_key bytes_of (bytes_of e) l)) parts ∙ sym done.1 in
       subst (λ l. IsPutAmong t k v l new) (sym parts) (subst (IsPutAmong t k v (fs ++ m ∷ bs)) (sym same) done.0)
 
-  pub put_among : (ps new : List Pair) → ArePairs ps → (IsBlocked bytes_of (full_key t k) ps → ⊥) → IsNewList e ps new → IsPutAmong t k v ps new
-  put_among ps new are free is = put_parted ps new are free is (parted t k ps are.records.keys_in_order)
+  pub put_among : (ps new : List Pair) → AreFull ps → (IsBlocked bytes_of (full_key t k) ps → ⊥) → IsNewList e ps new → IsPutAmong t k v ps new
+  put_among ps new are free is = put_parted ps new are free is (parted t k ps are.in_order)
 
 -- how it is answered
 conflict_words : (o : Option (List ℕ)) (c : Bool) → o ≡ None → c ≡ true → placed_words placed.Conflict ∷ [] ≡ put_reply o c ∷ []
@@ -189,7 +191,7 @@ old_words v o c e = rw e refl
 old_left : (t : ℕ) (mine : Own) (r : Records) (o : Option (List ℕ)) (c : Bool) (v : List ℕ) → o ≡ Some v → with_own t mine r ≡ with_changed t (if puts o c then Some mine else None) r
 old_left t mine r o c v e = rw e refl
 
-module _ (ps : List Pair) (t : ℕ) (k v : List ℕ) (are : ArePairs ps) (fits : KeyFits (key_made t (k, v))) where
+module _ (ps : List Pair) (t : ℕ) (k v : List ℕ) (are : AreFull ps) (fits : t < 2 ^ 32) where
   -- the tenant's value at the key, and whether the key conflicts with one of the tenant's
   abbrev at_key : Option (List ℕ)
   at_key = value_at k (own t (records_of ps)).keys
@@ -199,19 +201,19 @@ module _ (ps : List Pair) (t : ℕ) (k v : List ℕ) (are : ArePairs ps) (fits :
 
   -- a key that is there is in conflict with none
   blocked_absent : IsBlocked bytes_of (full_key t k) ps → at_key ≡ None
-  blocked_absent blocked = go (parted t k ps are.records.keys_in_order)
+  blocked_absent blocked = go (parted t k ps are.in_order)
     where
       go : Parted t k ps → at_key ≡ None
       go (absent fs bs e low high) =
           ap (λ l. value_at k (pairs_of_tenant t l)) (ap (map record_of) e ∙ map-append record_of fs bs) ∙ value_in_gap t k (map record_of fs) (map record_of bs) low high
       go (present fs m bs e low here high) =
-          let held = subst ArePairs e are in
-          let same = full_there t k fits.tenant_fits m (All-right IsFull fs (m ∷ bs) held.full).0 here in
+          let held = subst AreFull e are in
+          let same = full_there t k fits m (All-right IsFull fs (m ∷ bs) held.full).0 here in
           absurd ((put_replaced bytes_of m fs m bs refl (pairs_ascend (fs ++ m ∷ bs) held)).free (subst (λ j. IsBlocked bytes_of j (fs ++ m ∷ bs)) (sym same) (subst (IsBlocked bytes_of (full_key t k)) e blocked)))
 
   pub conflict_placed : IsBlocked bytes_of (full_key t k) ps → IsPutDone placed.Conflict (records_of ps) t k v (records_of ps)
   conflict_placed blocked =
-      let told = blocked_told t k fits.tenant_fits ps are.full are.records.keys_fit blocked in
+      let told = blocked_told t k fits ps are.full are.tenants blocked in
       let there = blocked_absent blocked in
       (conflict_words at_key in_conflict there told, conflict_left t (with_mine k v (own t (records_of ps))) (records_of ps) at_key in_conflict there told)
 
@@ -220,16 +222,21 @@ module _ (ps : List Pair) (t : ℕ) (k v : List ℕ) (are : ArePairs ps) (fits :
     done : IsPutAmong t k v ps new
     done = put_among t k v e fits full value ps new are free is
 
-    pub put_keeps_order : ArePairs new
-    put_keeps_order = done.keeps
+    -- so the new ones are as an index holds them, if the old ones are, and what was put is
+    pub put_keeps_pairs : AllByRecursion KeyFits (map record_of ps) → KeyFits (key_made t (k, v)) → ArePairs new
+    put_keeps_pairs fit record_fits = record {
+      stand = done.keeps;
+      fit = subst (λ l. AllByRecursion KeyFits (map record_of l)) (sym is)
+          (All-put KeyFits record_of bytes_of (λ p. not (bytes_eq (bytes_of p) (bytes_of e))) e ps fit (subst KeyFits (sym (full_record t k v e fits full value)) record_fits));
+    }
 
     pub new_placed : None ≡ lookup (is_full_key t k) ps → IsPutDone placed.New (records_of ps) t k v (records_of new)
     new_placed none =
-        let there : at_key ≡ None = sym (ap (option_map (λ (w : Vec ℕ). w.items)) none ∙ found t k fits.tenant_fits ps are) in
-        let told = free_told t k fits.tenant_fits ps are.full are.records.keys_fit free in
+        let there : at_key ≡ None = sym (ap (option_map (λ (w : Vec ℕ). w.items)) none ∙ found t k fits ps are) in
+        let told = free_told t k fits ps are.full are.tenants free in
         (new_words at_key in_conflict there told, done.records_are ∙ new_left t (with_mine k v (own t (records_of ps))) (records_of ps) at_key in_conflict there told)
 
     pub old_placed : (old : Vec ℕ) → Some old ≡ lookup (is_full_key t k) ps → IsPutDone (placed.Old old) (records_of ps) t k v (records_of new)
     old_placed old some =
-        let there : at_key ≡ Some old.items = sym (ap (option_map (λ (w : Vec ℕ). w.items)) some ∙ found t k fits.tenant_fits ps are) in
+        let there : at_key ≡ Some old.items = sym (ap (option_map (λ (w : Vec ℕ). w.items)) some ∙ found t k fits ps are) in
         (old_words old at_key in_conflict there, done.records_are ∙ old_left t (with_mine k v (own t (records_of ps))) (records_of ps) at_key in_conflict old.items there)

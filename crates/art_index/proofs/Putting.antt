@@ -1,5 +1,5 @@
 -- What a put does to the records, where the pairs around its place are known.
-use Rattle.std.proofs.Common.{◌≡◌, ℕ, ◌≤◌, List, [], ◌∷◌, ◌++◌, refl, ap, sym, ◌∙◌, subst, Bool, true, false, cond, arith, append-nil, append_assoc, inl, inr, Some, None}
+use Rattle.std.proofs.Common.{◌≡◌, ℕ, ◌<◌, ◌≤◌, ◌^◌, List, [], ◌∷◌, ◌++◌, refl, ap, sym, ◌∙◌, subst, Bool, true, false, cond, arith, append-nil, append_assoc, inl, inr, Some, None}
 use Rattle.std.specs.Prelude.{◌==◌, ◌||◌, nat_lt, map, filter, option_map, IsTrue}
 use Rattle.std.specs.List.{AllByRecursion, find}
 use Rattle.std.specs.Str.{bytes_eq}
@@ -9,9 +9,9 @@ use Rattle.std.proofs.lemmas.List.{map-append}
 use Rattle.std.proofs.lemmas.List.Elements.{filter-append}
 use Rattle.std.proofs.lemmas.Slice.Eq.{bytes_eq-Decides}
 use Rattle.art_bytes.specs.Keys.{is_below, is_proper_front, conflicts}
-use Rattle.art_index.specs.Records.{KeyRecord, own, with_own, InOrder, KeyComesBefore, KeyFits}
+use Rattle.art_index.specs.Records.{KeyRecord, own, with_own, InOrder, KeyComesBefore}
 use Rattle.art_index.specs.Replies.{value_at, has_conflict, with_pair}
-use Rattle.art_index.specs.Stored.{Pair, record_of, records_of, IsFull, ArePairs}
+use Rattle.art_index.specs.Stored.{Pair, record_of, records_of, IsFull, AreFull, IsOfTenant}
 use Rattle.art_index.proofs.Filters.{filter-all, filter-none, All-map, All-append, All-left, All-right}
 use Rattle.art_index.proofs.OwnLaws.{key_part, key_made, key_ascends, made_from_mine, three_parts, records_from_lists}
 use Rattle.art_index.proofs.Standing.{AllBefore, AllBehind, stands_to, standing, not_below_itself, not_both_below}
@@ -245,14 +245,14 @@ pub record FitsBetween (t : ℕ) (k v : List ℕ) (fs ms bs : List Pair) (e : Pa
   pub high : AllBehind t k (map record_of bs)
   pub is : record_of e ≡ key_made t (k, v)
   pub full : IsFull e
-  pub fits : KeyFits (key_made t (k, v))
+  pub fits : t < 2 ^ 32
   pub before : AllByRecursion (λ r. KeyComesBefore r (key_made t (k, v))) (map record_of fs)
   pub behind : AllByRecursion (λ r. KeyComesBefore (key_made t (k, v)) r) (map record_of bs)
 
 three_lists : (fs ms bs : List Pair) → map record_of (fs ++ (ms ++ bs)) ≡ map record_of fs ++ (map record_of ms ++ map record_of bs)
 three_lists fs ms bs = map-append record_of fs (ms ++ bs) ∙ ap (λ l. map record_of fs ++ l) (map-append record_of ms bs)
 
-module _ (t : ℕ) (k v : List ℕ) (fs ms bs : List Pair) (e : Pair) (are : ArePairs (fs ++ (ms ++ bs))) (f : FitsBetween t k v fs ms bs e) where
+module _ (t : ℕ) (k v : List ℕ) (fs ms bs : List Pair) (e : Pair) (are : AreFull (fs ++ (ms ++ bs))) (f : FitsBetween t k v fs ms bs e) where
   abbrev F : List KeyRecord
   F = map record_of fs
 
@@ -263,24 +263,20 @@ module _ (t : ℕ) (k v : List ℕ) (fs ms bs : List Pair) (e : Pair) (are : Are
   B = map record_of bs
 
   order : InOrder KeyComesBefore (F ++ (M ++ B))
-  order = subst (InOrder KeyComesBefore) (three_lists fs ms bs) are.records.keys_in_order
+  order = subst (InOrder KeyComesBefore) (three_lists fs ms bs) are.in_order
 
-  fit : AllByRecursion KeyFits (F ++ (M ++ B))
-  fit = subst (AllByRecursion KeyFits) (three_lists fs ms bs) are.records.keys_fit
+  fit : AllByRecursion IsOfTenant (F ++ (M ++ B))
+  fit = subst (AllByRecursion IsOfTenant) (three_lists fs ms bs) are.tenants
 
   new_list : map record_of (fs ++ e ∷ bs) ≡ F ++ key_made t (k, v) ∷ B
   new_list = map-append record_of fs (e ∷ bs) ∙ ap (λ r. F ++ r ∷ B) f.is
 
-  pub put_keeps : ArePairs (fs ++ e ∷ bs)
+  pub put_keeps : AreFull (fs ++ e ∷ bs)
   put_keeps = record {
     full = All-append IsFull fs (e ∷ bs) (All-left IsFull fs (ms ++ bs) are.full) (f.full, All-right IsFull ms bs (All-right IsFull fs (ms ++ bs) are.full));
-    records = record {
-      keys_in_order = subst (InOrder KeyComesBefore) (sym new_list) (InOrder-put KeyComesBefore F M B (key_made t (k, v)) order f.before f.behind);
-      numbers_in_order = tt;
-      keys_fit = subst (AllByRecursion KeyFits) (sym new_list)
-          (All-append KeyFits F (key_made t (k, v) ∷ B) (All-left KeyFits F (M ++ B) fit) (f.fits, All-right KeyFits M B (All-right KeyFits F (M ++ B) fit)));
-      numbers_fit = tt;
-    };
+    in_order = subst (InOrder KeyComesBefore) (sym new_list) (InOrder-put KeyComesBefore F M B (key_made t (k, v)) order f.before f.behind);
+    tenants = subst (AllByRecursion IsOfTenant) (sym new_list)
+        (All-append IsOfTenant F (key_made t (k, v) ∷ B) (All-left IsOfTenant F (M ++ B) fit) (f.fits, All-right IsOfTenant M B (All-right IsOfTenant F (M ++ B) fit)));
   }
 
   pub put_records : records_of (fs ++ e ∷ bs) ≡ with_own t (record { keys = with_pair k v (own t (records_of (fs ++ (ms ++ bs)))).keys; numbers = (own t (records_of (fs ++ (ms ++ bs)))).numbers }) (records_of (fs ++ (ms ++ bs)))

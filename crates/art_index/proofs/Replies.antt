@@ -1,13 +1,16 @@
 -- The reply to a command, from what the line spells.
-use Rattle.std.proofs.Common.{◌≡◌, ℕ, List, [], ◌∷◌, refl, ap, sym, ◌∙◌, append-nil, Bool}
+use Rattle.std.proofs.Common.{◌≡◌, ℕ, List, [], ◌∷◌, refl, ap, sym, subst, ◌∙◌, append-nil, Bool, true}
+use Rattle.std.proofs.lemmas.Bool.{false≢true}
 use Rattle.std.specs.Prelude.{Option, Some, None, flat_map, codes}
 use Rattle.art_index.specs.Words.{Word, line_of, name}
 use Rattle.art_index.specs.Commands.{put, Command, of_tenant}
 use Rattle.art_index.specs.Reading.{command_of}
 use Rattle.art_index.specs.Records.{Records}
 use Rattle.art_index.specs.Replies.{reply_to, records_after, command_reply, command_after}
+use Rattle.art_index.specs.Refusals.{MayRefuse}
 use Rattle.art_index.specs.Outcome.{answer, left_by}
-use Rattle.art_index.specs.Stored.{IsPutDone, IsChangeDone, placed_words, found_no_memory, Pair, records_of}
+use Rattle.art_index.specs.Stored.{Pair, records_of}
+use Rattle.art_index.specs.Changed.{IsPutDone, IsChangeDone, placed_words, found_no_memory}
 use Rattle.art_index.specs.declared.placed.Placed.{Placed}
 use Rattle.art_index.specs.declared.placed.Placed.TheVariants as placed
 
@@ -28,12 +31,28 @@ done_reply placed.Memory c old new line e h = refl
 done_reply (placed.Old o) c old new line e h = told_once (placed_words (placed.Old o)) (Some c) old line e h.0
 done_reply placed.New c old new line e h = told_once (placed_words placed.New) (Some c) old line e h.0
 done_reply placed.Conflict c old new line e h = told_once (placed_words placed.Conflict) (Some c) old line e h.0
+done_reply (placed.Over n) c old new line e h = told_once (placed_words (placed.Over n)) (Some c) old line e h.0
+done_reply (placed.Gone o) c old new line e h = told_once (placed_words (placed.Gone o)) (Some c) old line e h.0
+done_reply placed.Absent c old new line e h = told_once (placed_words placed.Absent) (Some c) old line e h.0
 
 done_after : (p : Placed) (c : Command) (old new : Records) (line : List ℕ) → Some c ≡ command_of line → IsChangeDone p c old new → new ≡ left_by (found_no_memory p) old line
-done_after placed.Memory c old new line e h = h
+done_after placed.Memory c old new line e h = h.0
 done_after (placed.Old o) c old new line e h = h.1 ∙ after_is (Some c) old line e
 done_after placed.New c old new line e h = h.1 ∙ after_is (Some c) old line e
 done_after placed.Conflict c old new line e h = h.1 ∙ after_is (Some c) old line e
+done_after (placed.Over n) c old new line e h = h.1 ∙ after_is (Some c) old line e
+done_after (placed.Gone o) c old new line e h = h.1 ∙ after_is (Some c) old line e
+done_after placed.Absent c old new line e h = h.1 ∙ after_is (Some c) old line e
+
+-- where it found no memory, it may do so
+done_may : (p : Placed) (c : Command) (old new : Records) → IsChangeDone p c old new → found_no_memory p ≡ true → MayRefuse old c
+done_may placed.Memory c old new h m = h.1
+done_may (placed.Old o) c old new h m = absurd (false≢true m)
+done_may placed.New c old new h m = absurd (false≢true m)
+done_may placed.Conflict c old new h m = absurd (false≢true m)
+done_may (placed.Over n) c old new h m = absurd (false≢true m)
+done_may (placed.Gone o) c old new h m = absurd (false≢true m)
+done_may placed.Absent c old new h m = absurd (false≢true m)
 
 module _ (p : Placed) (memory : Bool) (c : Command) (held old new : Records) (line : List ℕ) (found : memory ≡ found_no_memory p) (same : held ≡ old)
     (e : Some c ≡ command_of line) (h : IsChangeDone p c held new) where
@@ -43,12 +62,18 @@ module _ (p : Placed) (memory : Bool) (c : Command) (held old new : Records) (li
   pub done_left : new ≡ left_by memory old line
   done_left = done_after p c held new line e h ∙ ap (λ b. left_by b held line) (sym found) ∙ ap (λ r. left_by memory r line) same
 
+  pub done_lawful : memory ≡ true → MayRefuse old c
+  done_lawful m = subst (λ r. MayRefuse r c) same (done_may p c held new h (sym found ∙ m))
+
 -- a put is a change
 pub put_done : (p : Placed) (old new : Records) (t : ℕ) (k v : List ℕ) → IsPutDone p old t k v new → IsChangeDone p (of_tenant t (put k v)) old new
-put_done placed.Memory old new t k v h = h
+put_done placed.Memory old new t k v h = (h, tt)
 put_done (placed.Old o) old new t k v h = h
 put_done placed.New old new t k v h = h
 put_done placed.Conflict old new t k v h = h
+put_done (placed.Over n) old new t k v h = h
+put_done (placed.Gone o) old new t k v h = h
+put_done placed.Absent old new t k v h = h
 
 -- what is written of some pairs, where these stand for the records
 pub told_of : (ps : List Pair) (r : Records) (c : Command) (line : List ℕ) → Some c ≡ command_of line → records_of ps ≡ r

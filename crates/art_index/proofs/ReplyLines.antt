@@ -3,6 +3,7 @@ use Rattle.std.proofs.Common.{◌≡◌, ℕ, List, [], ◌∷◌, ◌++◌, ap,
 use Rattle.std.specs.Prelude.{codes, decimal}
 use Rattle.art_index.specs.Words.{Word, name, natural, bytes, shown, text_of, line_of}
 use Rattle.art_index.specs.Commands.{put_words}
+use Rattle.art_index.specs.Replies.{pair_words}
 
 line_more : (w v : Word) (ws : List Word) → shown w ++ 32 ∷ line_of (v ∷ ws) ≡ line_of (w ∷ v ∷ ws)
 line_more w v ws = sym (append_assoc (shown w) (32 ∷ text_of (v ∷ ws)) (10 ∷ []))
@@ -10,6 +11,10 @@ line_more w v ws = sym (append_assoc (shown w) (32 ∷ text_of (v ∷ ws)) (10 �
 -- a word and bytes
 pub found_parts : (word value : List ℕ) → word ++ (32 ∷ [] ++ (shown (bytes value) ++ 10 ∷ [])) ≡ line_of (name word ∷ bytes value ∷ [])
 found_parts word value = line_more (name word) (bytes value) []
+
+-- a key and a value
+pub pair_parts : (key value : List ℕ) → shown (bytes key) ++ (32 ∷ [] ++ (shown (bytes value) ++ 10 ∷ [])) ≡ line_of (pair_words (key, value))
+pair_parts key value = line_more (bytes key) (bytes value) []
 
 -- the line that makes a record, with the tenant as it is written
 pub put_parts : (number tenant : ℕ) (key value : List ℕ) → number ≡ tenant

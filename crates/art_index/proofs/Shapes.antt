@@ -1,5 +1,5 @@
 -- What is read in place is what stands behind a word, by its shape.
-use Rattle.std.proofs.Common.{◌≡◌, ℕ, List, [], ◌∷◌, refl, ap, sym, ◌∙◌, true, false, Bool, Some, None, Option, inl, inr}
+use Rattle.std.proofs.Common.{◌≡◌, ℕ, List, [], ◌∷◌, refl, ap, sym, subst, ◌∙◌, true, false, Bool, Some, None, Option, inl, inr}
 use Rattle.std.specs.Prelude.{option_copied, option_map}
 use Rattle.std.specs.Borrow.{Bor}
 use Rattle.art_index.specs.declared.command.fields.Fields.{Fields}
@@ -8,11 +8,12 @@ use Rattle.art_index.specs.declared.command.word.Word.TheVariants.{LookUp, Chang
 use Rattle.art_index.specs.declared.command.word.LookUp.TheVariants as look_up
 use Rattle.art_index.specs.declared.command.word.Change.TheVariants as change
 use Rattle.art_index.specs.declared.command.word.Whole.TheVariants as whole
+use Rattle.art_index.specs.declared.command.word.Shape.{Shape}
 use Rattle.art_index.specs.declared.command.word.Shape.TheVariants.{Key, KeyAndValue, Nothing}
-use Rattle.art_index.specs.Commands.{put, get, Command, of_tenant, dump, fields_of}
+use Rattle.art_index.specs.Commands.{put, over, del, get, find, list, span, Command, of_tenant, dump, fields_of}
 use Rattle.art_index.specs.Reading.{tenant_in, bytes_in, key_in, key_and_value_in, nothing_in, ◌>>=◌}
 use Rattle.art_index.specs.InPlace.{fields_behind, IsRead}
-use Rattle.art_index.specs.Parsed.{tenant_in_place, key_in_place, shape_of, command_with}
+use Rattle.art_index.specs.Parsed.{tenant_in_place, key_in_place, value_in_place, shape_of, command_with}
 use Rattle.art_index.proofs.LastField.{one_or_more, no_bytes}
 use Rattle.art_index.proofs.Parsing.{command_by}
 
@@ -119,24 +120,28 @@ module _ (r r1 : Option (Bor (List ℕ))) (x y : Bor (List ℕ)) (t : List ℕ) 
         go true true true (Some x) (Some y) (Some z) h e i f last = let one : m ≡ x = cc in let two : key ≡ y = cc in let three : v ≡ z = cc in rw (one, two, three) refl
         go true true false (Some x) (Some y) (Some z) h e i f last = cc
 
--- so the word's command is read, by the word's shape
+-- a command that is made of what is read
 made : {A : Type 0} (b : Bool) (x : A) (o : Option A) (make : A → Command) → IsRead b x o → IsRead b (make x) (option_map make o)
 made true x o make h = ap (option_map make) h
 made false x o make h = ap (option_map make) h
 
 module _ (f : Fields) (b : Bool) (rest : List (List ℕ)) where
-  pub by_key : (w : Word) → shape_of w ≡ Key → IsRead b (tenant_in_place f, key_in_place f) (key_in rest) → IsRead b (command_with w f) (command_by w rest)
-  by_key (LookUp look_up.Get) e h = made b (tenant_in_place f, key_in_place f) (key_in rest) (λ p. of_tenant p.0 (get p.1)) h
-  by_key (Change change.Put) e h = cc
-  by_key (Whole whole.Dump) e h = cc
+  -- what is read in place of a shape is what stands behind the word
+  abbrev pub IsShapeRead : Shape → Type 0
+  IsShapeRead Key = IsRead b (tenant_in_place f, key_in_place f) (key_in rest)
+  IsShapeRead KeyAndValue = IsRead b (tenant_in_place f, key_in_place f, value_in_place f) (key_and_value_in rest)
+  IsShapeRead Nothing = IsRead b tt (nothing_in rest)
 
-  pub by_key_and_value : (w : Word) → shape_of w ≡ KeyAndValue → IsRead b (tenant_in_place f, key_in_place f, f.value.items) (key_and_value_in rest)
-      → IsRead b (command_with w f) (command_by w rest)
-  by_key_and_value (LookUp look_up.Get) e h = cc
-  by_key_and_value (Change change.Put) e h = made b (tenant_in_place f, key_in_place f, f.value.items) (key_and_value_in rest) (λ p. of_tenant p.0 (put p.1 p.2)) h
-  by_key_and_value (Whole whole.Dump) e h = cc
+  by_shape : (w : Word) → IsShapeRead (shape_of w) → IsRead b (command_with w f) (command_by w rest)
+  by_shape (LookUp look_up.Get) h = made b (tenant_in_place f, key_in_place f) (key_in rest) (λ p. of_tenant p.0 (get p.1)) h
+  by_shape (LookUp look_up.Find) h = made b (tenant_in_place f, key_in_place f) (key_in rest) (λ p. of_tenant p.0 (find p.1)) h
+  by_shape (LookUp look_up.List) h = made b (tenant_in_place f, key_in_place f) (key_in rest) (λ p. of_tenant p.0 (list p.1)) h
+  by_shape (LookUp look_up.Span) h = made b (tenant_in_place f, key_in_place f, value_in_place f) (key_and_value_in rest) (λ p. of_tenant p.0 (span p.1 p.2)) h
+  by_shape (Change change.Put) h = made b (tenant_in_place f, key_in_place f, value_in_place f) (key_and_value_in rest) (λ p. of_tenant p.0 (put p.1 p.2)) h
+  by_shape (Change change.Over) h = made b (tenant_in_place f, key_in_place f, value_in_place f) (key_and_value_in rest) (λ p. of_tenant p.0 (over p.1 p.2)) h
+  by_shape (Change change.Del) h = made b (tenant_in_place f, key_in_place f) (key_in rest) (λ p. of_tenant p.0 (del p.1)) h
+  by_shape (Whole whole.Dump) h = made b tt (nothing_in rest) (λ p. dump) h
 
-  pub by_nothing : (w : Word) → shape_of w ≡ Nothing → IsRead b tt (nothing_in rest) → IsRead b (command_with w f) (command_by w rest)
-  by_nothing (LookUp look_up.Get) e h = cc
-  by_nothing (Change change.Put) e h = cc
-  by_nothing (Whole whole.Dump) e h = made b tt (nothing_in rest) (λ p. dump) h
+  -- so the word's command is read, where its shape is known
+  pub by_known_shape : (w : Word) (s : Shape) → shape_of w ≡ s → IsShapeRead s → IsRead b (command_with w f) (command_by w rest)
+  by_known_shape w s e h = by_shape w (subst IsShapeRead (sym e) h)

@@ -8,10 +8,10 @@ use Rattle.std.proofs.lemmas.Bool.{lt-ltb, le-leb, ltb-true, leb-true}
 use Rattle.std.proofs.lemmas.Slice.Eq.{bytes_eq-Decides}
 use Rattle.std.proofs.lemmas.Fmt.{decimal_is_IsNumeral}
 use Rattle.hex.specs.Hex.{decode_of, decode_pairs}
-use Rattle.art_index.specs.Words.{natural, bytes, Reads}
-use Rattle.art_index.specs.Commands.{put, get, Command, of_tenant, dump, words_of, AllRead, fields_of, Spells}
+use Rattle.art_index.specs.Words.{name, natural, bytes, Reads}
+use Rattle.art_index.specs.Commands.{put, over, del, get, find, list, span, Command, of_tenant, dump, words_of, AllRead, fields_of, Spells}
 use Rattle.art_index.proofs.Shapes.{key_from, key_and_value_from}
-use Rattle.art_index.specs.Reading.{tenant_in, bytes_in, some_bytes, key_in, key_and_value_in, nothing_in, put_in, get_in, dump_in, command_in, command_of}
+use Rattle.art_index.specs.Reading.{tenant_in, bytes_in, some_bytes, key_in, key_and_value_in, nothing_in, put_in, over_in, del_in, get_in, find_in, list_in, span_in, dump_in, command_in, command_of}
 
 tenant_reads : (text : List ℕ) (n : ℕ) → Reads text (natural n) → tenant_in text ≡ Some n
 unfolding tenant_in
@@ -51,10 +51,20 @@ nothing_reads (f ∷ fs) h = absurd h
 
 all_read : (ts : List (List ℕ)) (c : Command) → AllRead ts (words_of c) → command_in ts ≡ Some c
 all_read [] (of_tenant n (put key value)) h = absurd h
+all_read [] (of_tenant n (over key value)) h = absurd h
+all_read [] (of_tenant n (del key)) h = absurd h
 all_read [] (of_tenant n (get key)) h = absurd h
+all_read [] (of_tenant n (find key)) h = absurd h
+all_read [] (of_tenant n (list front)) h = absurd h
+all_read [] (of_tenant n (span low high)) h = absurd h
 all_read [] dump h = absurd h
 all_read (w ∷ fs) (of_tenant n (put key value)) h = rw (h.0, key_and_value_reads fs n key value h.1) refl
+all_read (w ∷ fs) (of_tenant n (over key value)) h = rw (h.0, key_and_value_reads fs n key value h.1) refl
+all_read (w ∷ fs) (of_tenant n (del key)) h = rw (h.0, key_reads fs n key h.1) refl
 all_read (w ∷ fs) (of_tenant n (get key)) h = rw (h.0, key_reads fs n key h.1) refl
+all_read (w ∷ fs) (of_tenant n (find key)) h = rw (h.0, key_reads fs n key h.1) refl
+all_read (w ∷ fs) (of_tenant n (list front)) h = rw (h.0, key_reads fs n front h.1) refl
+all_read (w ∷ fs) (of_tenant n (span low high)) h = rw (h.0, key_and_value_reads fs n low high h.1) refl
 all_read (w ∷ fs) dump h = rw (h.0, nothing_reads fs h.1) refl
 
 pub spelled : (line : List ℕ) (c : Command) → Spells line c → command_of line ≡ Some c
@@ -124,40 +134,49 @@ nothing_spelled [] h = tt
 nothing_spelled (x ∷ xs) h = cc
 
 -- by word
-put_spelled : (fields : List (List ℕ)) (c : Command) → put_in fields ≡ Some c → AllRead (codes "put" ∷ fields) (words_of c)
-put_spelled fields c h = go (key_and_value_in fields) refl h
-  where
-    go : (o : Option (ℕ × List ℕ × List ℕ)) → key_and_value_in fields ≡ o → option_map (λ f. of_tenant f.0 (put f.1 f.2)) o ≡ Some c → AllRead (codes "put" ∷ fields) (words_of c)
-    go None e h = cc
-    go (Some f) e h = let is : of_tenant f.0 (put f.1 f.2) ≡ c = cc in subst (λ x. AllRead (codes "put" ∷ fields) (words_of x)) is (refl, key_and_value_spelled fields f e)
+word_spelled : {A : Type 0} (o : Option A) (make : A → Command) (text : List ℕ) (fields : List (List ℕ))
+    → ((a : A) → o ≡ Some a → AllRead (text ∷ fields) (words_of (make a)))
+    → (c : Command) → option_map make o ≡ Some c → AllRead (text ∷ fields) (words_of c)
+word_spelled None make text fields read c h = cc
+word_spelled (Some a) make text fields read c h = let is : make a ≡ c = cc in subst (λ x. AllRead (text ∷ fields) (words_of x)) is (read a refl)
 
-get_spelled : (fields : List (List ℕ)) (c : Command) → get_in fields ≡ Some c → AllRead (codes "get" ∷ fields) (words_of c)
-get_spelled fields c h = go (key_in fields) refl h
-  where
-    go : (o : Option (ℕ × List ℕ)) → key_in fields ≡ o → option_map (λ f. of_tenant f.0 (get f.1)) o ≡ Some c → AllRead (codes "get" ∷ fields) (words_of c)
-    go None e h = cc
-    go (Some f) e h = let is : of_tenant f.0 (get f.1) ≡ c = cc in subst (λ x. AllRead (codes "get" ∷ fields) (words_of x)) is (refl, key_spelled fields f e)
+module _ (rest : List (List ℕ)) where
+  key_word : (text : List ℕ) (make : ℕ × List ℕ → Command) → ((f : ℕ × List ℕ) → words_of (make f) ≡ name text ∷ natural f.0 ∷ bytes f.1 ∷ [])
+      → (c : Command) → option_map make (key_in rest) ≡ Some c → AllRead (text ∷ rest) (words_of c)
+  key_word text make is = word_spelled (key_in rest) make text rest (λ f e. subst (AllRead (text ∷ rest)) (sym (is f)) (refl, key_spelled rest f e))
 
-dump_spelled : (fields : List (List ℕ)) (c : Command) → dump_in fields ≡ Some c → AllRead (codes "dump" ∷ fields) (words_of c)
-dump_spelled fields c h = go (nothing_in fields) refl h
-  where
-    go : (o : Option (Unit {0})) → nothing_in fields ≡ o → option_map (λ f. dump) o ≡ Some c → AllRead (codes "dump" ∷ fields) (words_of c)
-    go None e h = cc
-    go (Some f) e h = let is : dump ≡ c = cc in subst (λ x. AllRead (codes "dump" ∷ fields) (words_of x)) is (refl, nothing_spelled fields e)
+  key_and_value_word : (text : List ℕ) (make : ℕ × List ℕ × List ℕ → Command)
+      → ((f : ℕ × List ℕ × List ℕ) → words_of (make f) ≡ name text ∷ natural f.0 ∷ bytes f.1 ∷ bytes f.2 ∷ [])
+      → (c : Command) → option_map make (key_and_value_in rest) ≡ Some c → AllRead (text ∷ rest) (words_of c)
+  key_and_value_word text make is = word_spelled (key_and_value_in rest) make text rest (λ f e. subst (AllRead (text ∷ rest)) (sym (is f)) (refl, key_and_value_spelled rest f e))
+
+  dump_word : (c : Command) → dump_in rest ≡ Some c → AllRead (codes "dump" ∷ rest) (words_of c)
+  dump_word = word_spelled (nothing_in rest) (λ f. dump) (codes "dump") rest (λ f e. (refl, nothing_spelled rest e))
+
+  module _ (word : List ℕ) (c : Command) where
+    -- one word more
+    or_word : (text : List ℕ) (o others : Option Command) → (o ≡ Some c → AllRead (text ∷ rest) (words_of c)) → (others ≡ Some c → AllRead (word ∷ rest) (words_of c))
+        → cond (bytes_eq word text) o others ≡ Some c → AllRead (word ∷ rest) (words_of c)
+    or_word text o others this other h = go (bytes_eq word text) refl h
+      where
+        go : (b : Bool) → bytes_eq word text ≡ b → cond b o others ≡ Some c → AllRead (word ∷ rest) (words_of c)
+        go true same e = subst (λ w. AllRead (w ∷ rest) (words_of c)) (sym ((bytes_eq-Decides word text).0 same)) (this e)
+        go false same e = other e
+
+    some_word : command_in (word ∷ rest) ≡ Some c → AllRead (word ∷ rest) (words_of c)
+    some_word =
+        or_word (codes "put") (put_in rest) _ (key_and_value_word (codes "put") (λ f. of_tenant f.0 (put f.1 f.2)) (λ f. refl) c)
+        (or_word (codes "get") (get_in rest) _ (key_word (codes "get") (λ f. of_tenant f.0 (get f.1)) (λ f. refl) c)
+        (or_word (codes "over") (over_in rest) _ (key_and_value_word (codes "over") (λ f. of_tenant f.0 (over f.1 f.2)) (λ f. refl) c)
+        (or_word (codes "del") (del_in rest) _ (key_word (codes "del") (λ f. of_tenant f.0 (del f.1)) (λ f. refl) c)
+        (or_word (codes "find") (find_in rest) _ (key_word (codes "find") (λ f. of_tenant f.0 (find f.1)) (λ f. refl) c)
+        (or_word (codes "list") (list_in rest) _ (key_word (codes "list") (λ f. of_tenant f.0 (list f.1)) (λ f. refl) c)
+        (or_word (codes "span") (span_in rest) _ (key_and_value_word (codes "span") (λ f. of_tenant f.0 (span f.1 f.2)) (λ f. refl) c)
+        (or_word (codes "dump") (dump_in rest) None (dump_word c) (λ e. cc))))))))
 
 all_spelled : (fields : List (List ℕ)) (c : Command) → command_in fields ≡ Some c → AllRead fields (words_of c)
 all_spelled [] c h = cc
-all_spelled (word ∷ rest) c h = go (bytes_eq word (codes "put")) (bytes_eq word (codes "get")) (bytes_eq word (codes "dump")) refl refl refl h
-  where
-    begins : (text : List ℕ) → bytes_eq word text ≡ true → AllRead (text ∷ rest) (words_of c) → AllRead (word ∷ rest) (words_of c)
-    begins text same read = subst (λ w. AllRead (w ∷ rest) (words_of c)) (sym ((bytes_eq-Decides word text).0 same)) read
-
-    go : (p g d : Bool) → bytes_eq word (codes "put") ≡ p → bytes_eq word (codes "get") ≡ g → bytes_eq word (codes "dump") ≡ d
-        → cond p (put_in rest) (cond g (get_in rest) (cond d (dump_in rest) None)) ≡ Some c → AllRead (word ∷ rest) (words_of c)
-    go true g d x y z e = begins (codes "put") x (put_spelled rest c e)
-    go false true d x y z e = begins (codes "get") y (get_spelled rest c e)
-    go false false true x y z e = begins (codes "dump") z (dump_spelled rest c e)
-    go false false false x y z e = cc
+all_spelled (word ∷ rest) c h = some_word rest word c h
 
 pub spells : (line : List ℕ) (c : Command) → command_of line ≡ Some c → Spells line c
 unfolding command_of

@@ -6,7 +6,12 @@ use Rattle.art_index.specs.Words.{Word, name, natural, signed, bytes, Reads}
 -- what is asked of one tenant's records
 pub data Request : Type 0 where
   put : List ℕ → List ℕ → Request
+  over : List ℕ → List ℕ → Request
+  del : List ℕ → Request
   get : List ℕ → Request
+  find : List ℕ → Request
+  list : List ℕ → Request
+  span : List ℕ → List ℕ → Request
 
 -- what a line asks for: something of one tenant's records, or of all
 pub data Command : Type 0 where
@@ -24,7 +29,12 @@ nput_words tenant number value = name (codes "nput") ∷ natural tenant ∷ sign
 -- the words of a tenant's request
 abbrev pub request_words : ℕ → Request → List Word
 request_words tenant (put key value) = put_words tenant key value
+request_words tenant (over key value) = name (codes "over") ∷ natural tenant ∷ bytes key ∷ bytes value ∷ []
+request_words tenant (del key) = name (codes "del") ∷ natural tenant ∷ bytes key ∷ []
 request_words tenant (get key) = name (codes "get") ∷ natural tenant ∷ bytes key ∷ []
+request_words tenant (find key) = name (codes "find") ∷ natural tenant ∷ bytes key ∷ []
+request_words tenant (list front) = name (codes "list") ∷ natural tenant ∷ bytes front ∷ []
+request_words tenant (span low high) = name (codes "span") ∷ natural tenant ∷ bytes low ∷ bytes high ∷ []
 
 -- the words of a command
 abbrev pub words_of : Command → List Word

@@ -6,7 +6,7 @@ use Rattle.art_index.specs.Reading.{command_of}
 use Rattle.art_bytes.specs.Keys.{is_below, conflicts}
 use Rattle.art_index.specs.Keys.{full_key}
 use Rattle.art_index.specs.Records.{Own, Records, AreRecords, own, with_own}
-use Rattle.art_index.specs.Stored.{Pair, ArePairs, records_of}
+use Rattle.art_index.specs.Stored.{Pair, AreFull, records_of}
 
 -- what is put in place for a tenant is what it holds then
 abbrev pub OwnReadsBack : Type 0
@@ -42,7 +42,7 @@ FullKeysKeepConflicts = (t u : ℕ) (k j : List ℕ) → t < 2 ^ 32 → u < 2 ^ 
 
 -- what a tenant holds is what the pairs of an index have behind its front, the front cut off
 abbrev pub OwnIsBehindFront : Type 0
-OwnIsBehindFront = (tenant : ℕ) (ps : List Pair) → tenant < 2 ^ 32 → ArePairs ps
+OwnIsBehindFront = (tenant : ℕ) (ps : List Pair) → tenant < 2 ^ 32 → AreFull ps
     → own tenant (records_of ps) ≡ record {
       keys = map (λ p. (drop 4 p.0.items, p.1.items)) (with_front (λ p. p.0.items) (full_key tenant []) ps);
       numbers = [];

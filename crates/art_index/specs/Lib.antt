@@ -12,6 +12,7 @@ pub mod Laws
 pub mod InPlace
 pub mod Parsed
 pub mod Stored
+pub mod Changed
 pub mod Progress
 pub mod Gathered
 pub mod Digits

@@ -3,7 +3,7 @@ use Rattle.std.specs.Prelude.{ℕ, if◌then◌else◌, List, take, drop, codes,
 use Rattle.std.specs.Int.{from_be_bytes, w32}
 use Rattle.std.specs.Str.{bytes_eq}
 use Rattle.art_index.specs.declared.command.Command.{Command}
-use Rattle.art_index.specs.declared.command.Command.TheVariants.{Put, Get, Dump}
+use Rattle.art_index.specs.declared.command.Command.TheVariants.{Put, Over, Del, Get, Find, List as ListOf, Span, Dump}
 use Rattle.art_index.specs.declared.command.fields.Fields.{Fields}
 use Rattle.art_index.specs.declared.command.word.Word.{Word}
 use Rattle.art_index.specs.declared.command.word.Word.TheVariants.{LookUp, Change, Whole}
@@ -19,36 +19,59 @@ use Rattle.art_index.specs.Commands as said
 
 abbrev pub meaning : Command → said.Command
 meaning (Put tenant key value) = said.of_tenant tenant (said.put key.items value.items)
+meaning (Over tenant key value) = said.of_tenant tenant (said.over key.items value.items)
+meaning (Del tenant key) = said.of_tenant tenant (said.del key.items)
 meaning (Get tenant key) = said.of_tenant tenant (said.get key.items)
+meaning (Find tenant key) = said.of_tenant tenant (said.find key.items)
+meaning (ListOf tenant front) = said.of_tenant tenant (said.list front.items)
+meaning (Span tenant low high) = said.of_tenant tenant (said.span low.items high.items)
 meaning Dump = said.dump
 
--- the tenant and the key that were read in place
+-- the tenant, the key and the value that were read in place
 abbrev pub tenant_in_place : Fields → ℕ
 tenant_in_place f = from_be_bytes w32 (take 4 f.full_key.items)
 
 abbrev pub key_in_place : Fields → List ℕ
 key_in_place f = drop 4 f.full_key.items
 
+abbrev pub value_in_place : Fields → List ℕ
+value_in_place f = drop 4 f.value.items
+
 -- the word that a field is
 abbrev pub word_in : List ℕ → Option Word
 word_in field =
     if bytes_eq field (codes "put") then Some (Change change.Put)
     else if bytes_eq field (codes "get") then Some (LookUp look_up.Get)
+    else if bytes_eq field (codes "over") then Some (Change change.Over)
+    else if bytes_eq field (codes "del") then Some (Change change.Del)
+    else if bytes_eq field (codes "find") then Some (LookUp look_up.Find)
+    else if bytes_eq field (codes "list") then Some (LookUp look_up.List)
+    else if bytes_eq field (codes "span") then Some (LookUp look_up.Span)
     else if bytes_eq field (codes "dump") then Some (Whole whole.Dump)
     else None
 
 -- what stands behind a word
 abbrev pub shape_of : Word → Shape
 shape_of (LookUp look_up.Get) = Key
+shape_of (LookUp look_up.Find) = Key
+shape_of (LookUp look_up.List) = Key
+shape_of (LookUp look_up.Span) = KeyAndValue
 shape_of (Change change.Put) = KeyAndValue
+shape_of (Change change.Over) = KeyAndValue
+shape_of (Change change.Del) = Key
 shape_of (Whole whole.Dump) = Nothing
 
 -- the command of a word, by its family, and of what was read behind it
 abbrev pub looks_up : LookUpWord → Fields → said.Command
 looks_up look_up.Get f = said.of_tenant (tenant_in_place f) (said.get (key_in_place f))
+looks_up look_up.Find f = said.of_tenant (tenant_in_place f) (said.find (key_in_place f))
+looks_up look_up.List f = said.of_tenant (tenant_in_place f) (said.list (key_in_place f))
+looks_up look_up.Span f = said.of_tenant (tenant_in_place f) (said.span (key_in_place f) (value_in_place f))
 
 abbrev pub changes : ChangeWord → Fields → said.Command
-changes change.Put f = said.of_tenant (tenant_in_place f) (said.put (key_in_place f) f.value.items)
+changes change.Put f = said.of_tenant (tenant_in_place f) (said.put (key_in_place f) (value_in_place f))
+changes change.Over f = said.of_tenant (tenant_in_place f) (said.over (key_in_place f) (value_in_place f))
+changes change.Del f = said.of_tenant (tenant_in_place f) (said.del (key_in_place f))
 
 abbrev pub asks_all : WholeWord → said.Command
 asks_all whole.Dump = said.dump

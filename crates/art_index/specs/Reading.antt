@@ -6,7 +6,7 @@ use Rattle.std.specs.Str.{bytes_eq}
 use Rattle.std.specs.Str.Parse.{digits_value}
 use Rattle.hex.specs.Hex.{decode_of}
 use Rattle.hex.specs.declared.error.FromHexError.{FromHexError}
-use Rattle.art_index.specs.Commands.{put, get, Command, of_tenant, dump, fields_of}
+use Rattle.art_index.specs.Commands.{put, over, del, get, find, list, span, Command, of_tenant, dump, fields_of}
 
 infixl 10 ◌>>=◌
 abbrev pub ◌>>=◌ : {A B : Type 0} → Option A → (A → Option B) → Option B
@@ -28,8 +28,9 @@ some_bytes (Err e) = None
 unfoldable pub bytes_in : List ℕ → Option (List ℕ)
 bytes_in field = if bytes_eq field (codes "-") then Some [] else some_bytes (decode_of field)
 
--- What stands behind a word, by its shape. A prefix is to be read as a key, two bounds as a key and a value; a number,
--- a number and a value, and two numbers likewise, with the signed number that a field is read as in the place of bytes.
+-- What stands behind a word, by its shape. A prefix is read as a key, two bounds as a key and a value. A number, a number
+-- and a value, and two numbers are to be read likewise, with the signed number that a field is read as in the place of
+-- bytes.
 
 -- a tenant and a key
 abbrev pub key_in : List (List ℕ) → Option (ℕ × List ℕ)
@@ -57,8 +58,23 @@ nothing_in other = None
 abbrev pub put_in : List (List ℕ) → Option Command
 put_in fields = option_map (λ f. of_tenant f.0 (put f.1 f.2)) (key_and_value_in fields)
 
+abbrev pub over_in : List (List ℕ) → Option Command
+over_in fields = option_map (λ f. of_tenant f.0 (over f.1 f.2)) (key_and_value_in fields)
+
+abbrev pub del_in : List (List ℕ) → Option Command
+del_in fields = option_map (λ f. of_tenant f.0 (del f.1)) (key_in fields)
+
 abbrev pub get_in : List (List ℕ) → Option Command
 get_in fields = option_map (λ f. of_tenant f.0 (get f.1)) (key_in fields)
+
+abbrev pub find_in : List (List ℕ) → Option Command
+find_in fields = option_map (λ f. of_tenant f.0 (find f.1)) (key_in fields)
+
+abbrev pub list_in : List (List ℕ) → Option Command
+list_in fields = option_map (λ f. of_tenant f.0 (list f.1)) (key_in fields)
+
+abbrev pub span_in : List (List ℕ) → Option Command
+span_in fields = option_map (λ f. of_tenant f.0 (span f.1 f.2)) (key_and_value_in fields)
 
 abbrev pub dump_in : List (List ℕ) → Option Command
 dump_in fields = option_map (λ f. dump) (nothing_in fields)
@@ -69,6 +85,11 @@ command_in [] = None
 command_in (word ∷ rest) =
     if bytes_eq word (codes "put") then put_in rest
     else if bytes_eq word (codes "get") then get_in rest
+    else if bytes_eq word (codes "over") then over_in rest
+    else if bytes_eq word (codes "del") then del_in rest
+    else if bytes_eq word (codes "find") then find_in rest
+    else if bytes_eq word (codes "list") then list_in rest
+    else if bytes_eq word (codes "span") then span_in rest
     else if bytes_eq word (codes "dump") then dump_in rest
     else None
 

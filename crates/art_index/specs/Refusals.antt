@@ -1,12 +1,22 @@
 -- Which lines may find no memory.
-use Rattle.std.specs.Prelude.{ℕ, List}
-use Rattle.art_index.specs.Commands.{put, get, Command, of_tenant, dump, Spells}
-use Rattle.art_index.specs.Records.{Records}
+use Rattle.std.specs.Prelude.{ℕ, List, IsSome}
+use Rattle.art_arena.specs.tree.Shrinks.{Shrinks}
+use Rattle.art_index.specs.Commands.{put, over, del, get, find, list, span, Command, of_tenant, dump, Spells}
+use Rattle.art_index.specs.Keys.{full_key, full_key_of}
+use Rattle.art_index.specs.Records.{Records, own}
+use Rattle.art_index.specs.Replies.{value_at}
 
--- A command may find no memory at these records.
+-- A command may find no memory at these records: a put may, and the deletion of a key that is there where the longest
+-- front that its full key shares with another one is followed by as many different bytes as a node's kind has least.
 abbrev pub MayRefuse : Records → Command → Type 0
 MayRefuse records (of_tenant tenant (put key value)) = Unit {0}
+MayRefuse records (of_tenant tenant (over key value)) = Unit {0}
+MayRefuse records (of_tenant tenant (del key)) =
+    IsSome (value_at key (own tenant records).keys) × Shrinks full_key_of records.keys (full_key tenant key)
 MayRefuse records (of_tenant tenant (get key)) = ⊥
+MayRefuse records (of_tenant tenant (find key)) = ⊥
+MayRefuse records (of_tenant tenant (list front)) = ⊥
+MayRefuse records (of_tenant tenant (span low high)) = ⊥
 MayRefuse records dump = ⊥
 
 -- A line may, where it spells such a command.

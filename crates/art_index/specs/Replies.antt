@@ -1,12 +1,15 @@
 -- The reply to a line, and the records after it.
-use Rattle.std.specs.Prelude.{ℕ, ◌+◌, not, Bool, true, false, if◌then◌else◌, List, [], ◌∷◌, ◌++◌}
+use Rattle.std.specs.Prelude.{ℕ, ◌+◌, not, ◌&&◌, Bool, true, false, if◌then◌else◌, List, [], ◌∷◌, ◌++◌}
 use Rattle.std.specs.Prelude.{length, map, filter, flat_map, codes, Option, Some, None, option_map}
 use Rattle.std.specs.List.{list_any, find}
 use Rattle.std.specs.Str.{bytes_eq}
 use Rattle.art_index.specs.Words.{Word, name, natural, bytes, line_of}
-use Rattle.art_index.specs.Commands.{Request, put, get, Command, of_tenant, dump, put_words, nput_words}
+use Rattle.art_index.specs.Commands.{Request, put, over, del, get, find as find_front, list, span}
+use Rattle.art_index.specs.Commands.{Command, of_tenant, dump, put_words, nput_words}
 use Rattle.art_index.specs.Reading.{command_of}
 use Rattle.art_bytes.specs.Keys.{is_below, conflicts}
+use Rattle.art_arena.specs.tree.Tenants.{begins_with}
+use Rattle.art_operations.specs.KeyedLists.{overlaps}
 use Rattle.art_index.specs.Records.{Own, Records, own, with_own}
 
 -- the value at a key
@@ -20,6 +23,28 @@ has_conflict key pairs = list_any (λ p. conflicts key p.0) pairs
 -- the pairs with a value at a key, which stands at its place in the order, and no other value at it
 abbrev pub with_pair : List ℕ → List ℕ → List (List ℕ × List ℕ) → List (List ℕ × List ℕ)
 with_pair key value pairs = filter (λ p. is_below p.0 key) pairs ++ (key, value) ∷ filter (λ p. is_below key p.0) pairs
+
+-- the pairs whose keys overlap a key, and the pairs with a value at it in the place of these
+abbrev pub overlapped : List ℕ → List (List ℕ × List ℕ) → List (List ℕ × List ℕ)
+overlapped key pairs = filter (λ p. overlaps key p.0) pairs
+
+abbrev pub with_pair_over : List ℕ → List ℕ → List (List ℕ × List ℕ) → List (List ℕ × List ℕ)
+with_pair_over key value pairs = with_pair key value (filter (λ p. not (overlaps key p.0)) pairs)
+
+-- the pairs without the one at a key
+abbrev pub without_pair : List ℕ → List (List ℕ × List ℕ) → List (List ℕ × List ℕ)
+without_pair key pairs = filter (λ p. not (bytes_eq p.0 key)) pairs
+
+-- the pair whose key is a front of this one, or equals it
+abbrev pub front_at : List ℕ → List (List ℕ × List ℕ) → Option (List ℕ × List ℕ)
+front_at key pairs = find (λ p. begins_with p.0 key) pairs
+
+-- the pairs whose keys begin with a front, and those from a low key on and below a high one
+abbrev pub behind_front : List ℕ → List (List ℕ × List ℕ) → List (List ℕ × List ℕ)
+behind_front front pairs = filter (λ p. begins_with front p.0) pairs
+
+abbrev pub pairs_from_to : List ℕ → List ℕ → List (List ℕ × List ℕ) → List (List ℕ × List ℕ)
+pairs_from_to low high pairs = filter (λ p. not (is_below p.0 low) && is_below p.0 high) pairs
 
 -- the word for what was found and its bytes, or the word for nothing
 abbrev pub found_or : Option (List ℕ) → List ℕ → List ℕ → List Word
@@ -37,10 +62,32 @@ abbrev pub puts : Option (List ℕ) → Bool → Bool
 puts (Some old) conflict = true
 puts None conflict = not conflict
 
+-- A find is answered by the key that was found and its value.
+abbrev pub front_reply : Option (List ℕ × List ℕ) → List Word
+front_reply (Some pair) = name (codes "at") ∷ bytes pair.0 ∷ bytes pair.1 ∷ []
+front_reply None = name (codes "none") ∷ []
+
+-- what ends a list: how many there were
+abbrev pub end_words : ℕ → List Word
+end_words count = name (codes "end") ∷ natural count ∷ []
+
+-- a line for each pair, and then their number
+abbrev pub pair_words : List ℕ × List ℕ → List Word
+pair_words pair = bytes pair.0 ∷ bytes pair.1 ∷ []
+
+abbrev pub listed : List (List ℕ × List ℕ) → List (List Word)
+listed pairs = map pair_words pairs ++ end_words (length pairs) ∷ []
+
 -- the reply to a tenant's request, line by line, from what the tenant holds and nothing else
 abbrev pub own_reply : Request → Own → List (List Word)
 own_reply (put key value) mine = put_reply (value_at key mine.keys) (has_conflict key mine.keys) ∷ []
+own_reply (over key value) mine = (name (codes "over") ∷ natural (length (overlapped key mine.keys)) ∷ []) ∷ []
+own_reply (del key) mine = found_or (value_at key mine.keys) (codes "gone") (codes "none") ∷ []
 own_reply (get key) mine = found_or (value_at key mine.keys) (codes "is") (codes "none") ∷ []
+own_reply (find_front key) mine = front_reply (front_at key mine.keys) ∷ []
+own_reply (list front) mine = listed (behind_front front mine.keys)
+own_reply (span low high) mine =
+    if is_below high low then (name (codes "bounds") ∷ []) ∷ [] else listed (pairs_from_to low high mine.keys)
 
 -- what the tenant holds after its request, where the request changes that
 abbrev pub own_after : Request → Own → Option Own
@@ -48,13 +95,18 @@ own_after (put key value) mine =
     if puts (value_at key mine.keys) (has_conflict key mine.keys)
     then Some (record { keys = with_pair key value mine.keys; numbers = mine.numbers })
     else None
+own_after (over key value) mine = Some (record { keys = with_pair_over key value mine.keys; numbers = mine.numbers })
+own_after (del key) mine = Some (record { keys = without_pair key mine.keys; numbers = mine.numbers })
 own_after (get key) mine = None
+own_after (find_front key) mine = None
+own_after (list front) mine = None
+own_after (span low high) mine = None
 
 -- A dump is the lines that would make all records, by tenant and key, then by tenant and number, then their count.
 abbrev pub dump_of : Records → List (List Word)
 dump_of records = map (λ r. put_words r.tenant r.key r.value) records.keys
     ++ map (λ r. nput_words r.tenant r.number r.value) records.numbers
-    ++ (name (codes "end") ∷ natural (length records.keys + length records.numbers) ∷ []) ∷ []
+    ++ end_words (length records.keys + length records.numbers) ∷ []
 
 -- the reply to a command, line by line; a line that spells no command is bad
 abbrev pub command_reply : Option Command → Records → List (List Word)

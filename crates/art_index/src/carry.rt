@@ -1,38 +1,21 @@
-//! What each family of words does: a look-up, a change, and what is asked of all records.
+//! What the words do that change something, and what is asked of all records.
 ghost use Rattle.std.specs.Prelude.{◌≡◌, ℕ, List, Some, false, flat_map};
 ghost use Rattle.art_index.specs.Words.{line_of};
 ghost use Rattle.art_index.specs.Commands.{Spells};
 ghost use Rattle.art_index.specs.Replies.{command_reply};
 ghost use Rattle.art_index.specs.Faults.{Writes};
-ghost use Rattle.art_index.specs.Parsed.{looks_up, changes, asks_all};
-ghost use Rattle.art_index.specs.Stored.{records_of, ArePairs, IsChangeDone};
+ghost use Rattle.art_index.specs.Parsed.{changes, asks_all};
+ghost use Rattle.art_index.specs.Stored.{records_of, ArePairs};
+ghost use Rattle.art_index.specs.Changed.{IsChangeDone};
 
 use crate::command::fields::Fields;
-use crate::command::word::{Change, LookUp, Whole};
+use crate::command::word::{Change, Whole};
 use crate::placed::Placed;
-use crate::records::{put_value, value_of, write_records};
-use crate::reply::write_value;
+use crate::records::{put_over, put_value, take_out};
 use crate::stream::{Sink, WriteFailed};
+use crate::whole::write_records;
 use art_map::TreeMap;
 use std::alloc::Global;
-
-/// Answers a look-up, which changes nothing.
-pub(crate) fn look_up<W: Sink, const PREFIX_LEN: usize>(
-    records: &TreeMap<Vec<u8>, Vec<u8>, PREFIX_LEN>,
-    word: LookUp,
-    fields: &Fields,
-    sink: &mut W,
-) -> Result<(), WriteFailed>
-    requires open { W.has_failed sink.old ≡ false }
-    requires held { ArePairs records.now.pairs }
-    ensures { Writes result (W.taken sink.old) (W.taken sink.new)
-        (flat_map line_of (command_reply (Some (looks_up word fields.now)) (records_of records.now.pairs)))
-        (W.has_failed sink.new) }
-{
-    match word {
-        LookUp::Get => write_value(sink, value_of(records, fields)),
-    }
-}
 
 /// Makes a change, and answers how it went. Where that was for want of memory, nothing is changed.
 pub(crate) fn change<const PREFIX_LEN: usize>(
@@ -49,6 +32,8 @@ pub(crate) fn change<const PREFIX_LEN: usize>(
 {
     match word {
         Change::Put => put_value(alloc, records, fields),
+        Change::Over => put_over(alloc, records, fields),
+        Change::Del => take_out(records, fields),
     }
 }
 

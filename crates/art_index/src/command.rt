@@ -4,7 +4,7 @@
 ghost use Rattle.std.specs.Prelude.{◌≡◌, ◌≤◌, ◌↔◌, Option, Some, length, option_map};
 ghost use Rattle.art_index.specs.Commands.{Command as AskedCommand, Spells};
 ghost use Rattle.art_index.specs.Reading.{command_of};
-ghost use Rattle.art_index.specs.Parsed.{meaning, command_with};
+ghost use Rattle.art_index.specs.Parsed.{meaning, command_with, looks_up, changes};
 
 mod digits;
 pub(crate) mod fields;
@@ -28,10 +28,37 @@ pub enum Command {
         key: ArrayVec<u8, FIELD>,
         value: ArrayVec<u8, FIELD>,
     },
+    /// `over t k v`: puts a value at a tenant's key, in the place of all that overlap it.
+    Over {
+        tenant: u32,
+        key: ArrayVec<u8, FIELD>,
+        value: ArrayVec<u8, FIELD>,
+    },
+    /// `del t k`: removes the value at a tenant's key.
+    Del {
+        tenant: u32,
+        key: ArrayVec<u8, FIELD>,
+    },
     /// `get t k`: asks for the value at a tenant's key.
     Get {
         tenant: u32,
         key: ArrayVec<u8, FIELD>,
+    },
+    /// `find t k`: asks for the tenant's key that is a front of this one, or equals it.
+    Find {
+        tenant: u32,
+        key: ArrayVec<u8, FIELD>,
+    },
+    /// `list t p`: asks for the tenant's keys that begin with a front.
+    List {
+        tenant: u32,
+        front: ArrayVec<u8, FIELD>,
+    },
+    /// `span t lo hi`: asks for the tenant's keys from a low one on and below a high one.
+    Span {
+        tenant: u32,
+        low: ArrayVec<u8, FIELD>,
+        high: ArrayVec<u8, FIELD>,
     },
     /// `dump`: asks for all records.
     Dump,
@@ -54,16 +81,48 @@ fn command_of_fields(word: Word, fields: &Fields) -> Command
     ensures { meaning result ≡ command_with word fields.now }
 {
     match word {
-        Word::Change(Change::Put) => Command::Put {
-            tenant: fields.tenant(),
-            key: bytes_of(fields.key()),
+        Word::LookUp(word) => look_up_of_fields(word, fields),
+        Word::Change(word) => change_of_fields(word, fields),
+        Word::Whole(Whole::Dump) => Command::Dump,
+    }
+}
+
+/// The same of a word that changes nothing.
+fn look_up_of_fields(word: LookUp, fields: &Fields) -> Command
+    ensures { meaning result ≡ looks_up word fields.now }
+{
+    let tenant = fields.tenant();
+    let key = bytes_of(fields.key());
+    match word {
+        LookUp::Get => Command::Get { tenant, key },
+        LookUp::Find => Command::Find { tenant, key },
+        LookUp::List => Command::List { tenant, front: key },
+        LookUp::Span => Command::Span {
+            tenant,
+            low: key,
+            high: bytes_of(fields.value()),
+        },
+    }
+}
+
+/// The same of a word that changes something.
+fn change_of_fields(word: Change, fields: &Fields) -> Command
+    ensures { meaning result ≡ changes word fields.now }
+{
+    let tenant = fields.tenant();
+    let key = bytes_of(fields.key());
+    match word {
+        Change::Put => Command::Put {
+            tenant,
+            key,
             value: bytes_of(fields.value()),
         },
-        Word::LookUp(LookUp::Get) => Command::Get {
-            tenant: fields.tenant(),
-            key: bytes_of(fields.key()),
+        Change::Over => Command::Over {
+            tenant,
+            key,
+            value: bytes_of(fields.value()),
         },
-        Word::Whole(Whole::Dump) => Command::Dump,
+        Change::Del => Command::Del { tenant, key },
     }
 }
 

@@ -2,10 +2,11 @@
 ghost use Rattle.std.specs.Prelude.{◌≡◌, ◌+◌, ◌<◌, ◌++◌, map, take, OnErr, IfOk, IfErr, is_err, true, false, Some};
 ghost use Rattle.std.specs.Prelude.{None};
 
-use crate::carry::{change, look_up, tell_all};
+use crate::carry::{change, tell_all};
 use crate::command::fields::Fields;
 use crate::command::read_line;
 use crate::command::word::Word;
+use crate::look::look_up;
 use crate::records::write_placed;
 use crate::reply::write_piece;
 use crate::stream::{Sink, WriteFailed};
@@ -74,7 +75,7 @@ impl<const PREFIX_LEN: usize> Index<PREFIX_LEN> {
     ghost use Rattle.art_index.specs.Refusals.{LineMayRefuse};
     ghost use Rattle.art_index.specs.Outcome.{answer, left_by};
     ghost use Rattle.art_index.specs.Faults.{IsCutLine};
-    ghost use Rattle.art_index.specs.Stored.{IsPutDone};
+    ghost use Rattle.art_index.specs.Changed.{IsPutDone};
 
     /// An index that holds nothing. It takes no memory.
     pub fn new(alloc: Global) -> Self

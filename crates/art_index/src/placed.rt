@@ -1,6 +1,6 @@
-//! How a put went.
+//! How a change went.
 
-/// How a put went.
+/// How a change went.
 #[derive(Drop)]
 pub(crate) enum Placed {
     /// The key was there; this was its value.
@@ -11,11 +11,17 @@ pub(crate) enum Placed {
     Conflict,
     /// No memory was found.
     Memory,
+    /// It stands in the place of so many.
+    Over(usize),
+    /// It is removed; this was its value.
+    Gone(Vec<u8>),
+    /// There was nothing to remove.
+    Absent,
 }
 
 impl Placed {
     ghost use Rattle.std.specs.Prelude.{◌≡◌};
-    ghost use Rattle.art_index.specs.Stored.{found_no_memory};
+    ghost use Rattle.art_index.specs.Changed.{found_no_memory};
 
     pub(crate) fn is_memory(&self) -> bool
         ensures { result ≡ found_no_memory self.now }

@@ -1,18 +1,22 @@
 //! Replies, written to a sink.
-ghost use Rattle.std.specs.Prelude.{◌≡◌, ◌<◌, ◌≤◌, ◌∷◌, [], length, false, codes, decimal, option_map};
+ghost use Rattle.std.specs.Prelude.{◌≡◌, ◌+◌, ◌<◌, ◌≤◌, ◌∷◌, [], length, false, codes, decimal, option_map};
+ghost use Rattle.std.specs.Prelude.{Some, IfSome};
 ghost use Rattle.hex.specs.Hex.{encode_lower};
 ghost use Rattle.art_index.specs.Words.{shown, line_of, name, natural, bytes};
-ghost use Rattle.art_index.specs.Replies.{found_or};
+ghost use Rattle.art_index.specs.Replies.{found_or, end_words, pair_words, front_reply};
 ghost use Rattle.art_index.specs.Faults.{Writes};
 
-use crate::room::put_found;
+use crate::room::{put_found, put_pair, put_text};
 use crate::stream::{Sink, WriteFailed};
 use itoa::Buffer;
 
 /// The bytes that are encoded at a time.
 const PART: usize = 64;
 
-/// Room for the line of a word of three letters and so many bytes.
+/// Room for the longest line.
+const LINE: usize = 4097;
+
+/// Room for the line of a word of four letters and so many bytes.
 const SHORT: usize = 136;
 
 /// Writes the whole piece, by as many writes as it takes.
@@ -73,7 +77,7 @@ pub(crate) fn write_found<W: Sink>(
     value: &[u8],
 ) -> Result<(), WriteFailed>
     requires open { W.has_failed sink.old ≡ false }
-    requires short { length word.now ≤ 3 }
+    requires short { length word.now ≤ 4 }
     ensures { Writes result (W.taken sink.old) (W.taken sink.new)
         (line_of (name word.now ∷ bytes value.now ∷ []))
         (W.has_failed sink.new) }
@@ -115,11 +119,62 @@ pub(crate) fn write_value<W: Sink>(sink: &mut W, value: Option<&[u8]>) -> Result
 /// The line that ends a list.
 pub(crate) fn write_end<W: Sink>(sink: &mut W, count: usize) -> Result<(), WriteFailed>
     requires { W.has_failed sink.old ≡ false }
-    ensures { Writes result (W.taken sink.old) (W.taken sink.new)
-        (line_of (name (codes "end") ∷ natural count ∷ []))
-        (W.has_failed sink.new) }
+    ensures { Writes result (W.taken sink.old) (W.taken sink.new) (line_of (end_words count)) (W.has_failed sink.new) }
 {
     write_piece(sink, b"end ")?;
     write_number(sink, count as u64)?;
     write_piece(sink, b"\n")
+}
+
+/// The line that tells in the place of how many a value was put.
+pub(crate) fn write_over<W: Sink>(sink: &mut W, count: usize) -> Result<(), WriteFailed>
+    requires { W.has_failed sink.old ≡ false }
+    ensures { Writes result (W.taken sink.old) (W.taken sink.new)
+        (line_of (name (codes "over") ∷ natural count ∷ []))
+        (W.has_failed sink.new) }
+{
+    write_piece(sink, b"over ")?;
+    write_number(sink, count as u64)?;
+    write_piece(sink, b"\n")
+}
+
+/// The line of a key that was looked for by a longer one, and its value, put together in a room for it.
+fn write_at<W: Sink>(
+    sink: &mut W,
+    room: &mut [u8],
+    key: &[u8],
+    value: &[u8],
+) -> Result<(), WriteFailed>
+    requires open { W.has_failed sink.old ≡ false }
+    requires room { 3 + length (line_of (pair_words (key.now, value.now))) ≤ length room.old }
+    ensures { Writes result (W.taken sink.old) (W.taken sink.new)
+        (line_of (front_reply (Some (key.now, value.now))))
+        (W.has_failed sink.new) }
+{
+    let digits = put_text(room, 0, b"at ");
+    let len = put_pair(room, digits, key, value);
+    write_piece(sink, &room[..len])
+}
+
+/// The line of what was looked for by a longer key.
+pub(crate) fn write_front<W: Sink>(
+    sink: &mut W,
+    found: Option<(&[u8], &[u8])>,
+) -> Result<(), WriteFailed>
+    requires open { W.has_failed sink.old ≡ false }
+    requires line { IfSome found (λ p. 3 + length (line_of (pair_words (p.0.now, p.1.now))) ≤ 4097) }
+    ensures { Writes result (W.taken sink.old) (W.taken sink.new)
+        (line_of (front_reply (option_map (λ p. (p.0.now, p.1.now)) found.entry)))
+        (W.has_failed sink.new) }
+{
+    match found {
+        Some((key, value)) => {
+            if key.len() + value.len() <= PART {
+                write_at(sink, &mut [0; SHORT], key, value)
+            } else {
+                write_at(sink, &mut [0; LINE], key, value)
+            }
+        }
+        None => write_piece(sink, b"none\n"),
+    }
 }

@@ -4,6 +4,7 @@ ghost use Rattle.std.specs.Prelude.{◌≡◌, ◌+◌, ◌*◌, ◌%◌, ◌≤
 ghost use Rattle.hex.specs.Hex.{encode_lower};
 ghost use Rattle.art_index.specs.Words.{shown, name, bytes, line_of};
 ghost use Rattle.art_index.specs.Commands.{put_words};
+ghost use Rattle.art_index.specs.Replies.{pair_words};
 ghost use Rattle.art_index.specs.Gathered.{Puts, IsHead, head_of};
 
 use itoa::Buffer;
@@ -19,7 +20,7 @@ static PAIRS: [u8; 512] = *b"\
 
 /// Puts a text.
 #[inline]
-fn put_text(room: &mut [u8], at: usize, text: &[u8]) -> usize
+pub(crate) fn put_text(room: &mut [u8], at: usize, text: &[u8]) -> usize
     requires { at + length text.now ≤ length room.old }
     ensures { Puts result at text.now room.old room.new }
 {
@@ -169,6 +170,18 @@ pub(crate) fn put_record(room: &mut [u8], at: usize, head: &Head, key: &[u8], va
 {
     let digits = head.put(room, at);
     let space = put_bytes(room, digits, key);
+    let digits = put_text(room, space, b" ");
+    let newline = put_bytes(room, digits, value);
+    put_text(room, newline, b"\n")
+}
+
+/// Puts a line of two lots of bytes, as a key and its value.
+#[inline]
+pub(crate) fn put_pair(room: &mut [u8], at: usize, key: &[u8], value: &[u8]) -> usize
+    requires { at + length (line_of (pair_words (key.now, value.now))) ≤ length room.old }
+    ensures { Puts result at (line_of (pair_words (key.now, value.now))) room.old room.new }
+{
+    let space = put_bytes(room, at, key);
     let digits = put_text(room, space, b" ");
     let newline = put_bytes(room, digits, value);
     put_text(room, newline, b"\n")

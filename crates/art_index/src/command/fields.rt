@@ -1,7 +1,7 @@
 //! The fields of a line: a tenant, and bytes, read in place of what was there.
 //!
 //! A signed number is to be read here too, beside the tenant: into a field `number: i64`, by the same loop over digits
-//! behind a `-`; and the second of two bounds into the room of a value.
+//! behind a `-`.
 ghost use Rattle.std.specs.Prelude.{◌≡◌, ◌+◌, ◌/◌, ◌^◌, ◌<◌, ◌≤◌, length, take, drop, IsSome, true};
 ghost use Rattle.std.specs.Int.{from_be_bytes, w32};
 ghost use Rattle.art_index.specs.Keys.{full_key as full_key_of};
@@ -22,25 +22,25 @@ const FULL_KEY: usize = 2049;
 
 /// What stands behind a word. Fields are decoded where they stay, and each keeps what it had until the next of its kind
 /// is read. A key stands behind the four bytes of its tenant, the highest first, so that the full key is there without
-/// a copy.
+/// a copy; so does a value, since the upper one of two bounds is read in its place.
 #[derive(Drop)]
 pub(crate) struct Fields {
     full_key: ArrayVec<u8, FULL_KEY>,
-    value: ArrayVec<u8, FIELD>,
+    value: ArrayVec<u8, FULL_KEY>,
     ghost front: { 4 ≤ length full_key.items },
+    ghost same_front: { (4 ≤ length value.items) × (take 4 value.items ≡ take 4 full_key.items) },
 }
 
 impl Fields {
-    ghost use Rattle.art_index.specs.Parsed.{tenant_in_place, key_in_place};
+    ghost use Rattle.art_index.specs.Parsed.{tenant_in_place, key_in_place, value_in_place};
 
     /// Room for fields. What stands in it does not matter.
     pub(crate) fn new() -> Fields {
         let mut full_key = ArrayVec::new();
         let _ = full_key.try_extend_from_slice(&[0; FRONT]);
-        Fields {
-            full_key,
-            value: ArrayVec::new(),
-        }
+        let mut value = ArrayVec::new();
+        let _ = value.try_extend_from_slice(&[0; FRONT]);
+        Fields { full_key, value }
     }
 
     pub(crate) fn tenant(&self) -> u32
@@ -66,10 +66,17 @@ impl Fields {
     }
 
     pub(crate) fn value(&self) -> &[u8]
-        ensures value { result.now ≡ self.now.value.items }
+        ensures value { result.now ≡ value_in_place self.now }
         ensures short { length result.now ≤ 2045 }
     {
-        self.value.as_slice()
+        &self.value.as_slice()[FRONT..]
+    }
+
+    /// The tenant's four bytes, and then the upper bound, which is read as a value.
+    pub(crate) fn full_bound(&self) -> &[u8]
+        ensures { result.now ≡ full_key_of (tenant_in_place self.now) (value_in_place self.now) }
+    {
+        split_of(self.value.as_slice())
     }
 
     /// Reads the tenant: false where the field is read as none.
@@ -87,6 +94,11 @@ impl Fields {
         full[1] = front[1];
         full[2] = front[2];
         full[3] = front[3];
+        let value = self.value.as_mut_slice();
+        value[0] = front[0];
+        value[1] = front[1];
+        value[2] = front[2];
+        value[3] = front[3];
         true
     }
 
@@ -103,11 +115,11 @@ impl Fields {
     /// Reads the value: false where the field is read as no bytes.
     pub(crate) fn read_value(&mut self, field: &[u8]) -> bool
         requires { length field.now ≤ 4090 }
-        ensures read { IsRead result self.new.value.items (bytes_in field.now) }
+        ensures read { IsRead result (value_in_place self.new) (bytes_in field.now) }
         ensures tenant { tenant_in_place self.new ≡ tenant_in_place self.old }
         ensures key { key_in_place self.new ≡ key_in_place self.old }
     {
-        decode_bytes(field, &mut self.value, 0)
+        decode_bytes(field, &mut self.value, FRONT)
     }
 }
 

@@ -1,12 +1,13 @@
 //! What stands behind a word, by its shape: a reader in place for each.
 //!
-//! Two bounds are to be read as a key and a value are; a number, a number and a value and two numbers as the readers
-//! here do, with a signed number in the place of a key; a tenant alone by the first step of each.
+//! A prefix is read as a key is, two bounds as a key and a value are. A number, a number and a value and two numbers are
+//! to be read as the readers here do, with a signed number in the place of a key; a tenant alone by the first step of
+//! each.
 ghost use Rattle.std.specs.Prelude.{◌≡◌, ◌+◌, ◌≤◌, ◌∷◌, length, IfSome, IfNone, option_copied};
 ghost use Rattle.art_index.specs.Commands.{fields_of};
 ghost use Rattle.art_index.specs.Reading.{key_in, key_and_value_in};
 ghost use Rattle.art_index.specs.InPlace.{fields_behind, IsRead};
-ghost use Rattle.art_index.specs.Parsed.{tenant_in_place, key_in_place};
+ghost use Rattle.art_index.specs.Parsed.{tenant_in_place, key_in_place, value_in_place};
 
 use crate::command::fields::Fields;
 use memchr::memchr;
@@ -34,7 +35,7 @@ pub(crate) fn read_key(rest: Option<&[u8]>, fields: &mut Fields) -> bool
 /// Reads a tenant, a key and a value. The value is not looked through for a space, which is no digit.
 pub(crate) fn read_key_and_value(rest: Option<&[u8]>, fields: &mut Fields) -> bool
     requires { IfSome rest (λ text. length text.now ≤ 4092) }
-    ensures { IsRead result (tenant_in_place fields.new, key_in_place fields.new, fields.new.value.items)
+    ensures { IsRead result (tenant_in_place fields.new, key_in_place fields.new, value_in_place fields.new)
         (key_and_value_in (fields_behind (option_copied rest.entry))) }
 {
     let Some(text) = rest else {

@@ -10,6 +10,12 @@ ghost use Rattle.art_index.specs.Parsed.{word_in, shape_of};
 pub(crate) enum LookUp {
     /// `get t k`
     Get,
+    /// `find t k`
+    Find,
+    /// `list t p`
+    List,
+    /// `span t lo hi`
+    Span,
 }
 
 /// A word that changes a tenant's records.
@@ -17,6 +23,10 @@ pub(crate) enum LookUp {
 pub(crate) enum Change {
     /// `put t k v`
     Put,
+    /// `over t k v`
+    Over,
+    /// `del t k`
+    Del,
 }
 
 /// A word that asks for something of all records.
@@ -37,9 +47,9 @@ pub(crate) enum Word {
 /// What stands behind a word. `shapes` has a reader in place for each.
 #[derive(Clone, Copy)]
 pub(crate) enum Shape {
-    /// A tenant and a key: `get`, and later `find` and `del`; a prefix, of `list`, is read as a key.
+    /// A tenant and a key: `get`, `find`, `del`; the prefix of `list` is read as a key.
     Key,
-    /// A tenant, a key and a value: `put`, and later `over`.
+    /// A tenant, a key and a value: `put`, `over`; the two bounds of `span` are read as a key and a value.
     KeyAndValue,
     /// Nothing: `dump`, and later `audit`.
     Nothing,
@@ -52,7 +62,12 @@ impl Word {
     {
         match self {
             Word::LookUp(LookUp::Get) => Shape::Key,
+            Word::LookUp(LookUp::Find) => Shape::Key,
+            Word::LookUp(LookUp::List) => Shape::Key,
+            Word::LookUp(LookUp::Span) => Shape::KeyAndValue,
             Word::Change(Change::Put) => Shape::KeyAndValue,
+            Word::Change(Change::Over) => Shape::KeyAndValue,
+            Word::Change(Change::Del) => Shape::Key,
             Word::Whole(Whole::Dump) => Shape::Nothing,
         }
     }
@@ -67,6 +82,21 @@ pub(crate) fn word_of(field: &[u8]) -> Option<Word>
     }
     if field == b"get".as_slice() {
         return Some(Word::LookUp(LookUp::Get));
+    }
+    if field == b"over".as_slice() {
+        return Some(Word::Change(Change::Over));
+    }
+    if field == b"del".as_slice() {
+        return Some(Word::Change(Change::Del));
+    }
+    if field == b"find".as_slice() {
+        return Some(Word::LookUp(LookUp::Find));
+    }
+    if field == b"list".as_slice() {
+        return Some(Word::LookUp(LookUp::List));
+    }
+    if field == b"span".as_slice() {
+        return Some(Word::LookUp(LookUp::Span));
     }
     if field == b"dump".as_slice() {
         return Some(Word::Whole(Whole::Dump));

@@ -1,9 +1,10 @@
 use Rattle.std.proofs.Common.{ap, sym, ◌∙◌}
 use Rattle.std.specs.Prelude.{option_map, option_copied}
+use Rattle.art_index.specs.declared.command.word.Shape.TheVariants.{Key, KeyAndValue, Nothing}
 use Rattle.art_index.specs.InPlace.{fields_behind, IsRead}
 use Rattle.art_index.specs.Parsed.{command_with}
 use Rattle.art_index.proofs.Parsing.{command_by, too_long, says_word, says_nothing, nothing_read, read_none, read_some}
-use Rattle.art_index.proofs.Shapes.{by_key, by_key_and_value, by_nothing}
+use Rattle.art_index.proofs.Shapes.{by_known_shape}
 use Rattle.art_index.proofs.command.read_line.Goals as goal
 use Rattle.art_index.proofs.command.read_line.Goals.{in-Key, in-KeyAndValue, in-Nothing}
 
@@ -19,9 +20,9 @@ pub returns-then-not-is_read : goal.returns-then-not-is_read
 returns-then-not-is_read c =
     let rest = fields_behind (option_copied c.split_field.result.1) in
     let read : IsRead c.match-shape.is_read (command_with c.in_ok-word.word c.match-shape.fields) (command_by c.in_ok-word.word rest) = elim c.match-shape.branch [
-      | in-Key w ↦ rw (w.is_read-is, w.fields-is) (by_key _ _ rest c.in_ok-word.word (sym c.shape.ensures ∙ w.in-Key.is) w.read_key-is_read.ensures)
-      | in-KeyAndValue w ↦ rw (w.is_read-is, w.fields-is) (by_key_and_value _ _ rest c.in_ok-word.word (sym c.shape.ensures ∙ w.in-KeyAndValue.is) w.read_key_and_value-is_read.ensures)
-      | in-Nothing w ↦ rw (w.is_read-is, w.fields-is) (by_nothing _ _ rest c.in_ok-word.word (sym c.shape.ensures ∙ w.in-Nothing.is) (nothing_read c.split_field.result.1 w.is_none-is_read.result w.is_none-is_read.ensures))
+      | in-Key w ↦ rw (w.is_read-is, w.fields-is) (by_known_shape _ _ rest c.in_ok-word.word Key (sym c.shape.ensures ∙ w.in-Key.is) w.read_key-is_read.ensures)
+      | in-KeyAndValue w ↦ rw (w.is_read-is, w.fields-is) (by_known_shape _ _ rest c.in_ok-word.word KeyAndValue (sym c.shape.ensures ∙ w.in-KeyAndValue.is) w.read_key_and_value-is_read.ensures)
+      | in-Nothing w ↦ rw (w.is_read-is, w.fields-is) (by_known_shape _ _ rest c.in_ok-word.word Nothing (sym c.shape.ensures ∙ w.in-Nothing.is) (nothing_read c.split_field.result.1 w.is_none-is_read.result w.is_none-is_read.ensures))
     ] in
     read_none c.match-shape.is_read _ _ read c.if-not-is_read.true
     ∙ says_word c.args.line.now c.split_field.result.0.now rest c.if-line-gt-LINE.false c.split_field.ensures.split c.in_ok-word.word c.in_ok-word.ensures
@@ -30,9 +31,9 @@ pub returns : goal.returns
 returns c =
     let rest = fields_behind (option_copied c.split_field.result.1) in
     let read : IsRead c.match-shape.is_read (command_with c.in_ok-word.word c.match-shape.fields) (command_by c.in_ok-word.word rest) = elim c.match-shape.branch [
-      | in-Key w ↦ rw (w.is_read-is, w.fields-is) (by_key _ _ rest c.in_ok-word.word (sym c.shape.ensures ∙ w.in-Key.is) w.read_key-is_read.ensures)
-      | in-KeyAndValue w ↦ rw (w.is_read-is, w.fields-is) (by_key_and_value _ _ rest c.in_ok-word.word (sym c.shape.ensures ∙ w.in-KeyAndValue.is) w.read_key_and_value-is_read.ensures)
-      | in-Nothing w ↦ rw (w.is_read-is, w.fields-is) (by_nothing _ _ rest c.in_ok-word.word (sym c.shape.ensures ∙ w.in-Nothing.is) (nothing_read c.split_field.result.1 w.is_none-is_read.result w.is_none-is_read.ensures))
+      | in-Key w ↦ rw (w.is_read-is, w.fields-is) (by_known_shape _ _ rest c.in_ok-word.word Key (sym c.shape.ensures ∙ w.in-Key.is) w.read_key-is_read.ensures)
+      | in-KeyAndValue w ↦ rw (w.is_read-is, w.fields-is) (by_known_shape _ _ rest c.in_ok-word.word KeyAndValue (sym c.shape.ensures ∙ w.in-KeyAndValue.is) w.read_key_and_value-is_read.ensures)
+      | in-Nothing w ↦ rw (w.is_read-is, w.fields-is) (by_known_shape _ _ rest c.in_ok-word.word Nothing (sym c.shape.ensures ∙ w.in-Nothing.is) (nothing_read c.split_field.result.1 w.is_none-is_read.result w.is_none-is_read.ensures))
     ] in
     read_some c.match-shape.is_read _ _ read c.if-not-is_read.false
     ∙ says_word c.args.line.now c.split_field.result.0.now rest c.if-line-gt-LINE.false c.split_field.ensures.split c.in_ok-word.word c.in_ok-word.ensures

@@ -1,4 +1,4 @@
-use Rattle.std.proofs.Common.{◌≡◌, ℕ, List, [], ◌∷◌, ◌+◌, ◌-◌, ◌++◌, length, take, drop, ap, sym, ◌∙◌, subst, refl, append_assoc}
+use Rattle.std.proofs.Common.{◌≡◌, ℕ, List, [], ◌∷◌, ◌+◌, ◌-◌, ◌++◌, length, take, drop, ap, sym, ◌∙◌, subst, refl, append_assoc, append-nil}
 use Rattle.art_index.specs.Progress.{Carried, NoNewline}
 use Rattle.art_index.proofs.LineLemmas.{none_before, none_at_all, behind_newline}
 use Rattle.art_index.proofs.Carrying.{carried_part}
@@ -11,6 +11,17 @@ in_place : (text done line behind rest piece : List ℕ) → rest ≡ (line ++ 1
 in_place text done line behind rest piece e all =
     ap (λ t. t ++ behind) (append_assoc (text ++ done) line (10 ∷ [])) ∙ append_assoc (text ++ done) (line ++ 10 ∷ []) behind
     ∙ ap (λ t. (text ++ done) ++ t) (sym e) ∙ append_assoc text done rest ∙ ap (λ t. text ++ t) (sym all)
+
+pub lines-init : goal.lines-init
+lines-init g c = record {
+  carried = (
+    [],
+    refl,
+    λ start text before h.
+        subst (λ t. Carried start c.args.index.now t c.args.held.now.items before (g.W.Sink.taken c.args.sink.now)) (sym (append-nil text)) h,
+  );
+  fine = c.requires;
+}
 
 pub lines-preserved : goal.lines-preserved
 lines-preserved g c =

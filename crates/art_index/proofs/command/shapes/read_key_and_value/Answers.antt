@@ -1,5 +1,5 @@
 use Rattle.std.proofs.Common.{◌∙◌}
-use Rattle.art_index.specs.Parsed.{tenant_in_place, key_in_place}
+use Rattle.art_index.specs.Parsed.{tenant_in_place, key_in_place, value_in_place}
 use Rattle.art_index.proofs.Shapes.{tenant_not_read, middle_not_read, key_and_value_read}
 use Rattle.art_index.proofs.command.shapes.read_key_and_value.Goals as goal
 
@@ -19,6 +19,6 @@ pub returns : goal.returns
 returns c =
     key_and_value_read c.args.rest c.split_field.result.1 c.in-Some.text c.in-Some-rest.text c.split_field.result.0.now c.in-Some.is c.split_field.ensures.split c.in-Some-rest.is
     c.split_field-2.result.1 c.in-Some-rest-2.value c.split_field-2.result.0.now c.split_field-2.ensures.split c.in-Some-rest-2.is
-    c.read_tenant.result c.read_key.result c.read_value.result (tenant_in_place c.read_tenant.new.self) (tenant_in_place c.read_value.new.self) (key_in_place c.read_value.new.self) (key_in_place c.read_key.new.self) c.read_value.new.self.value.items
+    c.read_tenant.result c.read_key.result c.read_value.result (tenant_in_place c.read_tenant.new.self) (tenant_in_place c.read_value.new.self) (key_in_place c.read_value.new.self) (key_in_place c.read_key.new.self) (value_in_place c.read_value.new.self)
     c.read_tenant.ensures.read c.if-not-read_tenant.false c.read_key.ensures.read c.if-not-read_key.false
     (c.read_value.ensures.tenant ∙ c.read_key.ensures.tenant) c.read_value.ensures.key c.read_value.ensures.read

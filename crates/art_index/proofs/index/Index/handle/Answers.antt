@@ -5,11 +5,11 @@ use Rattle.art_index.specs.Reading.{command_of}
 use Rattle.art_index.specs.Parsed.{command_with, looks_up, changes, asks_all}
 use Rattle.art_index.specs.Stored.{records_of}
 use Rattle.art_index.proofs.Cuts.{cut_line, when_err}
-use Rattle.art_index.proofs.Replies.{done_told, done_left, told_of, same_left, bad_told, bad_left}
-use Rattle.art_index.proofs.Families.{look_leaves, all_leaves, change_may}
+use Rattle.art_index.proofs.Replies.{done_told, done_left, done_lawful, told_of, same_left, bad_told, bad_left}
+use Rattle.art_index.proofs.Families.{look_leaves, all_leaves}
 use Rattle.art_index.proofs.Spelling.{spells}
 use Rattle.art_index.proofs.index.Index.handle.Goals as goal
-use Rattle.art_index.proofs.index.Index.handle.Goals.{in-Old-2, in-New-2}
+use Rattle.art_index.proofs.index.Index.handle.Goals.{in-Old-2, in-New-2, in-Gone-2}
 
 pub returns-in_ok-look_up-in-Some-LookUp-clause-told : goal.returns-in_ok-look_up-in-Some-LookUp-clause-told
 returns-in_ok-look_up-in-Some-LookUp-clause-told g c =
@@ -68,13 +68,14 @@ returns-in_ok-write_placed-in-Some-Change-clause-left g c =
     let F = c.read_line.new.fields in let w = c.in-Some-Change.word in
     let meant : Some (changes w F) ≡ command_of c.args.line.now = ap (λ x. Some (command_with x F)) (sym c.in-Some-Change.field-0-is) ∙ c.in-Some-Change.ensures in
     let left = done_left c.change-done.result c.is_memory-memory.result (changes w F) _ _ (records_of c.change-done.new.records.pairs) c.args.line.now c.is_memory-memory.ensures c.self.view_is meant c.change-done.ensures.done in
-    elim c.match-done-2.branch [ in-Old-2 w ↦ w.self-is ∙ left | in-New-2 w ↦ w.self-is ∙ left ]
+    elim c.match-done-2.branch [ in-Old-2 w ↦ w.self-is ∙ left | in-New-2 w ↦ w.self-is ∙ left | in-Gone-2 w ↦ w.self-is ∙ left ]
 
 pub returns-in_ok-write_placed-in-Some-Change-clause-lawful : goal.returns-in_ok-write_placed-in-Some-Change-clause-lawful
 returns-in_ok-write_placed-in-Some-Change-clause-lawful g c =
     let F = c.read_line.new.fields in let w = c.in-Some-Change.word in
     let meant : Some (changes w F) ≡ command_of c.args.line.now = ap (λ x. Some (command_with x F)) (sym c.in-Some-Change.field-0-is) ∙ c.in-Some-Change.ensures in
-    λ _. (changes w F, spells c.args.line.now (changes w F) (sym meant), change_may F w c.args.self.now)
+    let may = done_lawful c.change-done.result c.is_memory-memory.result (changes w F) _ _ (records_of c.change-done.new.records.pairs) c.args.line.now c.is_memory-memory.ensures c.self.view_is meant c.change-done.ensures.done in
+    λ m. (changes w F, spells c.args.line.now (changes w F) (sym meant), may m)
 
 pub returns-in_err-write_placed-in-Some-Change-clause-cut : goal.returns-in_err-write_placed-in-Some-Change-clause-cut
 returns-in_err-write_placed-in-Some-Change-clause-cut g c =
@@ -82,8 +83,9 @@ returns-in_err-write_placed-in-Some-Change-clause-cut g c =
     let meant : Some (changes w F) ≡ command_of c.args.line.now = ap (λ x. Some (command_with x F)) (sym c.in-Some-Change.field-0-is) ∙ c.in-Some-Change.ensures in
     let told = done_told c.change-done.result c.is_memory-memory.result (changes w F) _ _ (records_of c.change-done.new.records.pairs) c.args.line.now c.is_memory-memory.ensures c.self.view_is meant c.change-done.ensures.done in
     let left = done_left c.change-done.result c.is_memory-memory.result (changes w F) _ _ (records_of c.change-done.new.records.pairs) c.args.line.now c.is_memory-memory.ensures c.self.view_is meant c.change-done.ensures.done in
+    let may = done_lawful c.change-done.result c.is_memory-memory.result (changes w F) _ _ (records_of c.change-done.new.records.pairs) c.args.line.now c.is_memory-memory.ensures c.self.view_is meant c.change-done.ensures.done in
     when_err _ (cut_line c.is_memory-memory.result _ _ _ _ _ _ told c.in_err-write_placed-in-Some-Change.ensures.cut left
-    (λ _. (changes w F, spells c.args.line.now (changes w F) (sym meant), change_may F w c.args.self.now)))
+    (λ m. (changes w F, spells c.args.line.now (changes w F) (sym meant), may m)))
 
 pub returns-in_ok-write_piece-in-None-clause-told :
     goal.returns-in_ok-write_piece-in-None-clause-told

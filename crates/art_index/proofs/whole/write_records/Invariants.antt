@@ -7,7 +7,7 @@ use Rattle.art_index.specs.Replies.{dump_of}
 use Rattle.art_index.specs.Stored.{record_of, records_of, IsFull}
 use Rattle.art_index.specs.Gathered.{IsPartTaken}
 use Rattle.art_index.proofs.Dumping.{dump_from}
-use Rattle.art_index.proofs.records.write_records.Given as goal
+use Rattle.art_index.proofs.whole.write_records.Given as goal
 
 -- the pairs so far are told, or gathered
 abbrev pub invariant-loop-full : goal.invariant-loop-full

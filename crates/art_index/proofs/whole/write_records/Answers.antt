@@ -9,7 +9,7 @@ use Rattle.art_index.specs.Records.{KeyFits}
 use Rattle.art_index.specs.Stored.{Pair, record_of, IsFull}
 use Rattle.art_index.proofs.Cuts.{taken_none, taken_from, taken_more, taken_through, taken_all, taken_cut, when_err}
 use Rattle.art_index.proofs.Dumping.{dump_all, dump_end, dump_from, gathered_next, line_fits, words_put}
-use Rattle.art_index.proofs.records.write_records.Goals as goal
+use Rattle.art_index.proofs.whole.write_records.Goals as goal
 
 pub loop-full-init : goal.loop-full-init
 loop-full-init g c =
@@ -17,8 +17,8 @@ loop-full-init g c =
     record {
       taken = taken_none _ _ _ (ap (dump_from (length c.args.records.now.pairs)) all ∙ dump_all c.args.records.now.pairs);
       fine = c.requires.open;
-      full = subst (AllByRecursion IsFull) (sym all) c.requires.held.full;
-      fit = subst (λ ps. AllByRecursion KeyFits (map record_of ps)) (sym all) c.requires.held.records.keys_fit;
+      full = subst (AllByRecursion IsFull) (sym all) c.requires.held.stand.full;
+      fit = subst (λ ps. AllByRecursion KeyFits (map record_of ps)) (sym all) c.requires.held.fit;
       held = omega arith;
     }
 
