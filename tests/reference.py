@@ -9,7 +9,12 @@ LINE = 4096
 # The words of the language today: each with the kinds of its fields.
 WORDS = {
     "put": "tkv",
+    "over": "tkv",
     "get": "tk",
+    "find": "tk",
+    "del": "tk",
+    "list": "tk",
+    "span": "tkk",
     "dump": "",
 }
 TENANT = re.compile(rb"0|[1-9][0-9]*")

@@ -9,7 +9,8 @@ Under tests/refuse.c, which says what a window is, it runs
 - art_index over tests/refusals.lines with nothing refused: it must answer tests/refusals.replies, in which no line is
   refused,
 - each of these lines: the line stands twice, and is refused the first time. It must answer `memory` then, and all else
-  must be as if it stood once. Only lines that may be refused may ask for memory.
+  must be as if it stood once. Only lines that may be refused by the definition may ask for memory.
+- each script of tests/maps, and four that are made at random, line by line likewise, by play_map.
 """
 import itertools
 import os
@@ -21,12 +22,11 @@ import tempfile
 from glob import glob
 
 import maps
+import reference
 
 SCENARIOS, PROGRAM, REFUSED, CONFLICT = "refusals", "art_index", b"memory\n", b"conflict\n"
 # A scenario or test whose name ends so must ask for nothing in its window, and each other must ask for something.
 NO_MEMORY = "takes_no_memory"
-# The command words of the lines that may be answered by `memory`, unless they are answered `conflict`.
-MAY_REFUSE = {b"put"}
 # Calls of the map that take out several pairs or put them in, one by one, and calls that take no memory.
 SEVERAL = {"retain", "extract_if", "extraction", "extend", "from_iter"}
 TAKE_NONE = {"len", "is_empty", "get", "get_key_value", "contains_key", "index", "prefix_get", "prefix_get_key_value"}
@@ -98,7 +98,10 @@ def one_line(words, lines, at):
     before, free = (run(words, "0", given=b"".join(it))[1] for it in (lines[:at], lines))
     wanted = before + REFUSED + free[len(before) :]
     assert free.startswith(before), "the answers to the lines before differ"
-    may_refuse = lines[at].split(b" ")[0] in MAY_REFUSE and not free.startswith(before + CONFLICT)
+    model = reference.Reference()
+    for line in lines[:at]:
+        model.reply(line[:-1])
+    may_refuse = model.may_refuse(lines[at][:-1]) and not free.startswith(before + CONFLICT)
     twice = b"".join(lines[: at + 1] + lines[at:])
     seen = run(words, "0", line=at + 1, given=twice)[0]
     assert may_refuse or "." not in seen, f"a line that takes no memory makes {seen.count('.')} requests"
