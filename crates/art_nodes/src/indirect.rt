@@ -50,7 +50,7 @@ impl<K, V, const PREFIX_LEN: usize, const SIZE: usize> Drop
 }
 
 impl<K, V, const PREFIX_LEN: usize, const SIZE: usize> InnerNodeIndirect<K, V, PREFIX_LEN, SIZE> {
-    /// The names in use, each as often as there are children with it.
+    /// The names in use, each as often as there are children with it. Their order is open.
     pub fn initialized_child_pointers(&self) -> &[OpaqueNodePtr]
         ensures { IsPermutation (names_of self.now.children) result.now }
     {
