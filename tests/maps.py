@@ -448,12 +448,12 @@ CALLS = {
     "prefix_get_mut": "kn", "try_insert": "kn", "prefix_insert": "kn", "remove": "s", "remove_entry": "s", "iter": "e",
     "keys": "e", "values": "e", "range": "bbe", "prefix": "ke", "range_mut": "bben", "prefix_mut": "kne",
     "iter_mut": "en", "values_mut": "en", "extraction": "bbx", "extract_if": "bben", "retain": "n",
-    "swap": "", "split_off": "s", "into_iter": "e", "into_keys": "e", "into_values": "e",
 }  # fmt: skip
 FREE = {"try_entry": "kn", "prefix_entry": "k", "prefix_or_insert": "kn", "prefix_insert_entry": "kn"}
 ENDED = ["insert", *FILLING, *(f"{it}_entry" for it in FILLING), "insert_entry", "and_modify", "entry_insert"]
 ENDED += ["entry_remove", "entry_remove_entry", "into_mut", "replace_entry"]
-TWO_ENDED = {"append": "", "extend": "", "from_iter": "", "clone": "", "compare": ""}
+TWO_ENDED = {"swap": "", "split_off": "s", "into_iter": "e", "into_keys": "e", "into_values": "e"}
+TWO_ENDED |= {"append": "", "extend": "", "from_iter": "", "clone": "", "compare": ""}
 OFTEN = ("try_insert", "insert", "remove", "pop_last", "insert_entry")
 SELDOM = ("clear", "retain", "extraction", "extract_if", "prefix_insert", "prefix_insert_entry", "prefix_or_insert")
 SELDOM += ("split_off", "into_iter", "into_keys", "into_values", "append", "extend", "from_iter", "clone")

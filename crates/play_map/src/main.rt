@@ -40,23 +40,18 @@ fn answer<K: PlayedKey, const PREFIX_LEN: usize>(
     )
 }
 
-// Plays all lines over a map of keys of any bytes, and a second one that can be exchanged with it.
+// Plays all lines over a map of keys of any bytes.
 fn play_free<const PREFIX_LEN: usize>(
     rt: &(impl Print + AllocGlobal),
     script: &mut Script,
     map: &mut TreeMap<Vec<u8>, u64, PREFIX_LEN>,
-    other: &mut TreeMap<Vec<u8>, u64, PREFIX_LEN>,
-) -> io::Result<()>
-    requires { PREFIX_LEN ≤ 16 }
-{
+) -> io::Result<()> {
     for _ in 0..u64::MAX {
         if !script.read()? {
             break;
         }
         let asked = script.asked();
-        let known = prefix_entries::answer(rt, map, &asked)?
-            || two_maps::answer(rt, map, other, &asked)?
-            || answer(rt, map, &asked)?;
+        let known = prefix_entries::answer(rt, map, &asked)? || answer(rt, map, &asked)?;
         if !known {
             println!(rt; "not understood")?;
         }
@@ -64,7 +59,7 @@ fn play_free<const PREFIX_LEN: usize>(
     Ok(())
 }
 
-// The same over a map of keys none of which is a front of another, which has more calls.
+// The same over a map of keys none of which is a front of another, which has more calls, and a second one.
 fn play_ended<const PREFIX_LEN: usize>(
     rt: &(impl Print + AllocGlobal),
     script: &mut Script,
@@ -79,7 +74,7 @@ fn play_ended<const PREFIX_LEN: usize>(
         }
         let asked = script.asked();
         let known = entries::answer(rt, map, &asked)?
-            || two_maps::answer_ended(rt, map, other, &asked)?
+            || two_maps::answer(rt, map, other, &asked)?
             || answer(rt, map, &asked)?;
         if !known {
             println!(rt; "not understood")?;
@@ -90,20 +85,17 @@ fn play_ended<const PREFIX_LEN: usize>(
 
 fn free_0(rt: &(impl Print + AllocGlobal), script: &mut Script) -> io::Result<()> {
     let mut map: TreeMap<Vec<u8>, u64, 0> = TreeMap::with_prefix_len(rt.alloc());
-    let mut other = TreeMap::with_prefix_len(rt.alloc());
-    play_free(rt, script, &mut map, &mut other)
+    play_free(rt, script, &mut map)
 }
 
 fn free_4(rt: &(impl Print + AllocGlobal), script: &mut Script) -> io::Result<()> {
     let mut map: TreeMap<Vec<u8>, u64, 4> = TreeMap::with_prefix_len(rt.alloc());
-    let mut other = TreeMap::with_prefix_len(rt.alloc());
-    play_free(rt, script, &mut map, &mut other)
+    play_free(rt, script, &mut map)
 }
 
 fn free_16(rt: &(impl Print + AllocGlobal), script: &mut Script) -> io::Result<()> {
     let mut map: TreeMap<Vec<u8>, u64, 16> = TreeMap::new(rt.alloc());
-    let mut other = TreeMap::with_prefix_len(rt.alloc());
-    play_free(rt, script, &mut map, &mut other)
+    play_free(rt, script, &mut map)
 }
 
 fn ended_0(rt: &(impl Print + AllocGlobal), script: &mut Script) -> io::Result<()> {

@@ -1,8 +1,8 @@
-// Calls of two maps: `swap` exchanges them, so that any other call can be made of the second.
+// Calls of two maps, and calls that use a map up: `swap` exchanges the two, so that any other call can be made of the
+// second.
 ghost use Rattle.std.specs.Prelude.{◌≤◌};
 
 use crate::changes::show_refused;
-use crate::key::PlayedKey;
 use crate::script::Asked;
 use art_bytes::{AsBytes, SliceKey, ZeroEnded};
 use art_map::TreeMap;
@@ -10,10 +10,10 @@ use std::cmp::Ordering;
 use std::{io, mem};
 
 // The pairs from a key on become the second map's; it had to be empty.
-fn split_off<K: PlayedKey, const PREFIX_LEN: usize>(
+fn split_off<const PREFIX_LEN: usize>(
     rt: &impl Print,
-    map: &mut TreeMap<K, u64, PREFIX_LEN>,
-    other: &mut TreeMap<K, u64, PREFIX_LEN>,
+    map: &mut TreeMap<ZeroEnded, u64, PREFIX_LEN>,
+    other: &mut TreeMap<ZeroEnded, u64, PREFIX_LEN>,
     key: &[u8],
 ) -> io::Result<()>
     requires { PREFIX_LEN ≤ 16 }
@@ -28,9 +28,9 @@ fn split_off<K: PlayedKey, const PREFIX_LEN: usize>(
 }
 
 // Takes the map's pairs from the ends that letters tell; the others are dropped.
-fn into_iter<K: PlayedKey, const PREFIX_LEN: usize>(
+fn into_iter<const PREFIX_LEN: usize>(
     rt: &(impl Print + AllocGlobal),
-    map: &mut TreeMap<K, u64, PREFIX_LEN>,
+    map: &mut TreeMap<ZeroEnded, u64, PREFIX_LEN>,
     ends: &str,
 ) -> io::Result<()>
     requires { PREFIX_LEN ≤ 16 }
@@ -52,9 +52,9 @@ fn into_iter<K: PlayedKey, const PREFIX_LEN: usize>(
 }
 
 // The same of its keys alone.
-fn into_keys<K: PlayedKey, const PREFIX_LEN: usize>(
+fn into_keys<const PREFIX_LEN: usize>(
     rt: &(impl Print + AllocGlobal),
-    map: &mut TreeMap<K, u64, PREFIX_LEN>,
+    map: &mut TreeMap<ZeroEnded, u64, PREFIX_LEN>,
     ends: &str,
 ) -> io::Result<()>
     requires { PREFIX_LEN ≤ 16 }
@@ -75,9 +75,9 @@ fn into_keys<K: PlayedKey, const PREFIX_LEN: usize>(
 }
 
 // The same of its values alone.
-fn into_values<K: PlayedKey, const PREFIX_LEN: usize>(
+fn into_values<const PREFIX_LEN: usize>(
     rt: &(impl Print + AllocGlobal),
-    map: &mut TreeMap<K, u64, PREFIX_LEN>,
+    map: &mut TreeMap<ZeroEnded, u64, PREFIX_LEN>,
     ends: &str,
 ) -> io::Result<()>
     requires { PREFIX_LEN ≤ 16 }
@@ -92,28 +92,6 @@ fn into_values<K: PlayedKey, const PREFIX_LEN: usize>(
         print!(rt; "{} {value:?}, ", values.len())?;
     }
     println!(rt; "end")
-}
-
-pub fn answer<K: PlayedKey, const PREFIX_LEN: usize>(
-    rt: &(impl Print + AllocGlobal),
-    map: &mut TreeMap<K, u64, PREFIX_LEN>,
-    other: &mut TreeMap<K, u64, PREFIX_LEN>,
-    asked: &Asked<'_>,
-) -> io::Result<bool>
-    requires { PREFIX_LEN ≤ 16 }
-{
-    match asked.call {
-        "swap" => {
-            mem::swap(map, other);
-            println!(rt; "done")?;
-        }
-        "split_off" => split_off(rt, map, other, asked.first)?,
-        "into_iter" => into_iter(rt, map, asked.words[0])?,
-        "into_keys" => into_keys(rt, map, asked.words[0])?,
-        "into_values" => into_values(rt, map, asked.words[0])?,
-        _ => return Ok(false),
-    }
-    Ok(true)
 }
 
 // The second map's pairs are put in one by one.
@@ -180,8 +158,7 @@ fn compare<const PREFIX_LEN: usize>(
     println!(rt; "{order} {}", map == other)
 }
 
-/// Calls of maps whose keys are no fronts of one another.
-pub fn answer_ended<const PREFIX_LEN: usize>(
+pub fn answer<const PREFIX_LEN: usize>(
     rt: &(impl Print + AllocGlobal),
     map: &mut TreeMap<ZeroEnded, u64, PREFIX_LEN>,
     other: &mut TreeMap<ZeroEnded, u64, PREFIX_LEN>,
@@ -198,7 +175,15 @@ pub fn answer_ended<const PREFIX_LEN: usize>(
         "from_iter" => from_iter(rt, map, other)?,
         "clone" => clone(rt, map, other)?,
         "compare" => compare(rt, map, other)?,
-        _ => return answer(rt, map, other, asked),
+        "swap" => {
+            mem::swap(map, other);
+            println!(rt; "done")?;
+        }
+        "split_off" => split_off(rt, map, other, asked.first)?,
+        "into_iter" => into_iter(rt, map, asked.words[0])?,
+        "into_keys" => into_keys(rt, map, asked.words[0])?,
+        "into_values" => into_values(rt, map, asked.words[0])?,
+        _ => return Ok(false),
     }
     Ok(true)
 }
