@@ -25,7 +25,7 @@ use Rattle.art_operations.specs.Bounds.{AreEndsWhere}
 use Rattle.art_operations.proofs.LeafPairs.{leaf_pair}
 use Rattle.art_operations.proofs.RangeEnds.{tree_ascends}
 use Rattle.art_operations.proofs.Stretches.{IsConvex, stretch}
-use Rattle.art_walks.specs.MapReads.{IsSpanOf, PairsWithin, ReadsPathOf, ReadsPairs, path_length}
+use Rattle.art_walks.specs.MapReads.{IsSpan, IsSpanOf, PairsWithin, ReadsPathOf, ReadsPairs, path_length}
 use Rattle.art_walks.specs.Runs.{Ends, HasEnds, IsWalk}
 use Rattle.art_walks.specs.Walked.{AreStored, IsCounted}
 use Rattle.art_walks.proofs.RunSteps.{front-alone, front-is, front-step, next_of}
@@ -178,3 +178,12 @@ module _ {K V : Type 0} (arena : Arena K V) (ends : Ends) (a b : ℕ) (is : ends
               pairs_are = rest;
             },
           )
+
+  -- and a span of a map stays one
+  pub span-later : IsSpan arena ends → IsSpan arena next
+  span-later (pairs, [], span) = absurd (named span.run.leaves (subst (HasEnds span.run.leaves) is span.run.walk.ends_are) span.pairs_are)
+    where
+      named : (ls : List (LeafAt K V)) → HasEnds ls (Some (a, b)) → pairs_of ls ≡ [] → ⊥
+      named [] ends_are none = let first = ends_are.0 in absurd (cc)
+      named (l ∷ ls) ends_are none = absurd (cc)
+  span-later (pairs, p ∷ left, span) = (pairs, left, (span-step pairs p left span).1)

@@ -58,3 +58,7 @@ pub record IsSpanOf {K V : Type 0} (arena : Arena K V) (pairs : List (K × V)) (
   pub parts : pairs ≡ front ++ (left ++ back)
   pub run : IsCounted arena ends (length left)
   pub pairs_are : pairs_of run.leaves ≡ left
+
+-- a span of a map: it has nothing more to give, or names the first and the last leaf of a run of neighbours
+abbrev pub IsSpan : {K V : Type 0} → Arena K V → Ends → Type 0
+IsSpan {K} {V} arena ends = (pairs : List (K × V)) × (left : List (K × V)) × IsSpanOf arena pairs ends left

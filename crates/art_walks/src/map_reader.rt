@@ -11,7 +11,7 @@ ghost use Rattle.art_operations.specs.Openings.{bound_len, OpeningReads};
 ghost use Rattle.art_operations.specs.Pairs.{HasPairsAt};
 ghost use Rattle.art_operations.specs.Whichever.{HasSome};
 ghost use Rattle.art_walks.specs.Bounds.{AreValidKeyBounds};
-ghost use Rattle.art_walks.specs.MapReads.{IsSameMap, IsSpanOf, OfPairs, PairsWithin, ReadsMap, ReadsPathOf};
+ghost use Rattle.art_walks.specs.MapReads.{IsSameMap, IsSpan, IsSpanOf, OfPairs, PairsWithin, ReadsMap, ReadsPathOf};
 
 use crate::raw_iterator::RawIterator;
 use art_arena::{ArenaReader, LeafPtr, NodeArena, land};
@@ -212,6 +212,7 @@ impl<'a, K: AsBytes, V, const PREFIX_LEN: usize> MapReader<'a, K, V, PREFIX_LEN>
             (λ pairs. IsSpanOf self.new.nodes pairs result (filter (λ p. range_contains bytes_cmp
             (bound_map (λ key. Q.bytes key.now) start.entry) (bound_map (λ key. Q.bytes key.now) end.entry)
             (K.bytes p.0)) pairs)) }
+        ensures span { IsSpan self.new.nodes result }
         ensures kept { IsSameMap self.old self.new }
         ensures few { OfPairs K.bytes PREFIX_LEN self.old.nodes self.old.root (λ pairs. (longest most : ℕ)
             → PairsWithin K.bytes longest pairs
@@ -236,6 +237,7 @@ impl<'a, K: AsBytes, V, const PREFIX_LEN: usize> MapReader<'a, K, V, PREFIX_LEN>
         ensures value { OfPairs K.bytes PREFIX_LEN self.old.nodes self.old.root
             (λ pairs. IsSpanOf self.new.nodes pairs result
             (filter (λ p. begins_with (Q.bytes prefix.now) (K.bytes p.0)) pairs)) }
+        ensures span { IsSpan self.new.nodes result }
         ensures kept { IsSameMap self.old self.new }
         ensures few { OfPairs K.bytes PREFIX_LEN self.old.nodes self.old.root (λ pairs. (longest : ℕ)
             → PairsWithin K.bytes longest pairs
@@ -255,12 +257,13 @@ impl<'a, K: AsBytes, V, const PREFIX_LEN: usize> MapReader<'a, K, V, PREFIX_LEN>
     /// for a pair, its leaf, and none where there is no pair. The span has to be one of this map: what this reader or
     /// another of the same map answered, or what this call left of it.
     pub fn next(&mut self, span: &mut ReadSpan) -> Option<(&'a K, &'a V)>
-        requires { (pairs : List (K × V)) × (left : List (K × V)) × IsSpanOf self.old.nodes pairs span.old left }
+        requires { IsSpan self.old.nodes span.old }
         ensures first { (pairs : List (K × V)) (p : K × V) (left : List (K × V))
             → IsSpanOf self.old.nodes pairs span.old (p ∷ left)
             → (option_map deref_pair result ≡ Some p) × IsSpanOf self.new.nodes pairs span.new left }
         ensures end { (pairs : List (K × V)) → IsSpanOf self.old.nodes pairs span.old []
             → (result ≡ None) × IsSpanOf self.new.nodes pairs span.new [] }
+        ensures span { IsSpan self.new.nodes span.new }
         ensures kept { IsSameMap self.old self.new }
         ensures counts { MatchOption result (self.new.count ≡ self.old.count)
             (λ pair. self.new.count ≡ min (self.old.count + 1) (2 ^ 64 - 1)) }

@@ -20,3 +20,15 @@ returns-in-Some-clause-few g c = rw (← c.self.view_is, ← c.as_bytes.ensures.
 
 pub returns-in-None-clause-value : goal.returns-in-None-clause-value
 returns-in-None-clause-value g c = rw (← c.self.view_is) (λ pairs has. (subst (λ ends. IsSpanOf c.self.inside.reader.arena.now pairs ends (filter (λ p. begins_with (g.Q.AsBytes.bytes c.args.prefix.now) (g.K.AsBytes.bytes p.0)) pairs)) (sym c.of-in-None.ensures) (no-span c.self.inside.reader.arena.now pairs (subst (λ r. ReadsPairs g.K.AsBytes.bytes g.row.PREFIX_LEN c.self.inside.reader.arena.now r pairs) c.in-None.is has).1.0 (λ p. begins_with (g.Q.AsBytes.bytes c.args.prefix.now) (g.K.AsBytes.bytes p.0)))))
+
+pub returns-in-Some-clause-span : goal.returns-in-Some-clause-span
+returns-in-Some-clause-span g c = (
+  c.self.invariant.0,
+  _,
+  subst (λ a. IsSpanOf a c.self.invariant.0 c.of.result (filter (λ p. begins_with c.as_bytes.result.now (g.K.AsBytes.bytes p.0)) c.self.invariant.0)) (sym c.find_prefix_segment_with.ensures.kept)
+      (subst (λ ends. IsSpanOf c.self.inside.reader.arena.now c.self.invariant.0 ends (filter (λ p. begins_with c.as_bytes.result.now (g.K.AsBytes.bytes p.0)) c.self.invariant.0)) (sym c.of.ensures)
+      (span-of g.K.AsBytes.bytes g.row.PREFIX_LEN c.self.inside.reader.arena.now c.in-Some.root c.self.invariant.0 (subst (λ r. ReadsPairs g.K.AsBytes.bytes g.row.PREFIX_LEN c.self.inside.reader.arena.now r c.self.invariant.0) c.in-Some.is c.self.invariant.1) (λ k. begins_with c.as_bytes.result.now k) (front_convex c.as_bytes.result.now) c.find_prefix_segment_with.result (c.find_prefix_segment_with.ensures.value (the-shape g.K.AsBytes.bytes g.row.PREFIX_LEN c.self.inside.reader.arena.now c.in-Some.root c.self.invariant.0 (subst (λ r. ReadsPairs g.K.AsBytes.bytes g.row.PREFIX_LEN c.self.inside.reader.arena.now r c.self.invariant.0) c.in-Some.is c.self.invariant.1)) (the-stores g.K.AsBytes.bytes g.row.PREFIX_LEN c.self.inside.reader.arena.now c.in-Some.root c.self.invariant.0 (subst (λ r. ReadsPairs g.K.AsBytes.bytes g.row.PREFIX_LEN c.self.inside.reader.arena.now r c.self.invariant.0) c.in-Some.is c.self.invariant.1))))),
+)
+
+pub returns-in-None-clause-span : goal.returns-in-None-clause-span
+returns-in-None-clause-span g c = rw (← c.self.view_is) (c.self.invariant.0, _, (subst (λ ends. IsSpanOf c.self.inside.reader.arena.now c.self.invariant.0 ends (filter (λ p. begins_with (g.Q.AsBytes.bytes c.args.prefix.now) (g.K.AsBytes.bytes p.0)) c.self.invariant.0)) (sym c.of-in-None.ensures) (no-span c.self.inside.reader.arena.now c.self.invariant.0 (subst (λ r. ReadsPairs g.K.AsBytes.bytes g.row.PREFIX_LEN c.self.inside.reader.arena.now r c.self.invariant.0) c.in-None.is c.self.invariant.1).1.0 (λ p. begins_with (g.Q.AsBytes.bytes c.args.prefix.now) (g.K.AsBytes.bytes p.0)))))
