@@ -1,5 +1,5 @@
 -- What a reader of a map answers, told by the pairs of the map.
-use Rattle.std.proofs.Common.{◌≡◌, ◌≢◌, ℕ, ◌+◌, ◌-◌, ◌^◌, ◌≤◌, min, Bool, true, false, cond, eqb, filter, map, List, [], ◌∷◌, ◌++◌, length, Option, Some, None, refl, sym, ap, subst, ◌∙◌, inl, inr, arith, append_assoc}
+use Rattle.std.proofs.Common.{◌≡◌, ◌≢◌, ℕ, ◌+◌, ◌-◌, ◌^◌, min, Bool, true, false, cond, filter, List, [], ◌∷◌, ◌++◌, length, Option, Some, None, refl, sym, ap, subst, ◌∙◌, inl, inr, arith, append_assoc}
 use Rattle.std.specs.List.{AllByRecursion}
 use Rattle.std.specs.Map.{lookup_entry}
 use Rattle.std.proofs.lemmas.Bool.Decides.{eqb_tells}
@@ -7,13 +7,13 @@ use Rattle.std.proofs.lemmas.List.{length-map, map-append}
 use Rattle.art_nodes.specs.Name.{Name}
 use Rattle.art_nodes.specs.declared.leaf.LeafNode.{LeafNode}
 use Rattle.art_arena.specs.arena.Arena.{Arena, cell_of, held_at, leaf_held, links_at, node_at}
-use Rattle.art_arena.specs.arena.Cells.{Cell, leaf_name, pair}
+use Rattle.art_arena.specs.arena.Cells.{leaf_name, pair}
 use Rattle.art_arena.specs.arena.Descents.{HasNoFront, LandsAt, ReadsPath, TakesFronts, passing}
 use Rattle.art_arena.specs.arena.Linked.{AreLinked, IsList}
 use Rattle.art_arena.specs.arena.Reads.{KeysWithin}
 use Rattle.art_arena.specs.arena.Shapes.{Shape, LeafAt, erase, key_of, leaves, pairs_of}
 use Rattle.art_arena.specs.arena.Steps.{Step}
-use Rattle.art_arena.specs.arena.Stores.{Stores, StoresBeside}
+use Rattle.art_arena.specs.arena.Stores.{Stores}
 use Rattle.art_arena.specs.tree.TreeOf.{tree_of}
 use Rattle.art_arena.proofs.shapes.Erased.{canonical-erase, items-erase}
 use Rattle.art_arena.proofs.shapes.FoundLeaves.{leaves_of, located-fails, located-passes, passing-located}
@@ -27,7 +27,7 @@ use Rattle.art_operations.proofs.RangeEnds.{tree_ascends}
 use Rattle.art_operations.proofs.Stretches.{IsConvex, stretch}
 use Rattle.art_walks.specs.MapReads.{IsSpan, IsSpanOf, PairsWithin, ReadsPathOf, ReadsPairs, path_length}
 use Rattle.art_walks.specs.Runs.{Ends, HasEnds, IsWalk}
-use Rattle.art_walks.specs.Walked.{AreStored, IsCounted}
+use Rattle.art_walks.specs.Walked.{AreStored}
 use Rattle.art_walks.proofs.RunSteps.{front-alone, front-is, front-step, next_of}
 
 -- the first item

@@ -1,4 +1,4 @@
-use Rattle.std.proofs.Common.{arith, filter, subst, sym, ◌≤◌}
+use Rattle.std.proofs.Common.{arith, filter, subst, sym}
 use Rattle.std.specs.BTreeMap.Range.{range_contains}
 use Rattle.std.specs.Range.Bound.{bound_map}
 use Rattle.art_bytes.specs.Keys.{bytes_cmp}
