@@ -12,3 +12,4 @@ pub mod Verdicts
 pub mod Counted
 pub mod RunLengths
 pub mod Rests
+pub mod MapReads

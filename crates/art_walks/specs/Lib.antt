@@ -5,3 +5,4 @@ pub mod Visits
 pub mod inner
 pub mod Walked
 pub mod Bounds
+pub mod MapReads

@@ -17,6 +17,8 @@ mod deep;
 #[cfg(test)]
 mod one_tree;
 #[cfg(test)]
+mod reader;
+#[cfg(test)]
 mod refused;
 #[cfg(test)]
 mod replay;

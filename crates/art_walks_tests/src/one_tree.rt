@@ -9,7 +9,7 @@ use art_operations::{
     Answer, Command, PrefixInsertResult, clone_unchecked, find_place, find_place_over,
     minimum_unchecked, put_over, put_pair, take_pair,
 };
-use art_walks::{MalformedTreeError, WellFormedChecker, WellFormedTreeStats};
+use art_walks::{MalformedTreeError, MapReader, WellFormedChecker, WellFormedTreeStats};
 use std::alloc::Global;
 use std::marker::Model;
 
@@ -113,6 +113,11 @@ impl<K: AsBytes, V, const PREFIX_LEN: usize> OneTree<K, V, PREFIX_LEN> {
             Some(root) => Some(minimum_unchecked(&self.arena, root)),
             None => None,
         }
+    }
+
+    /// What reads the pairs, each node counted.
+    pub(crate) fn reader(&self) -> MapReader<'_, K, V, PREFIX_LEN> {
+        MapReader::new(&self.arena, self.root)
     }
 
     /// The leaf under a name.

@@ -27,7 +27,7 @@ takes_front key k passed = begins_true k key passed
 
 -- the leaves, without the steps to them
 
-abbrev leaves_of : {K V : Type 0} → List (Located K V) → List (LeafAt K V)
+abbrev pub leaves_of : {K V : Type 0} → List (Located K V) → List (LeafAt K V)
 leaves_of ls = map (λ l. l.leaf) ls
 
 mutual

@@ -1,30 +1,17 @@
-use Rattle.std.proofs.Common.{sym, ◌∙◌, arith, lit<, subst}
-use Rattle.art_arena.specs.arena.Arena.{node_at}
-use Rattle.art_arena.specs.arena.Meaning.{IsSubtree}
-use Rattle.art_arena.specs.declared.ends.End.TheVariants.{First}
-use Rattle.art_arena.proofs.shapes.LinkedLists.{some_of}
-use Rattle.art_arena.proofs.shapes.Reads.{read_child, read_some}
+use Rattle.std.proofs.Common.{sym, subst, arith, lit<}
+use Rattle.art_arena.specs.arena.Reads.{IsReadAt}
 use Rattle.art_arena.proofs.prefix.first_below.Goals as goal
 
-pub known-requires : goal.known-requires
-known-requires g c =
+pub walk_below-first-requires : goal.walk_below-first-requires
+walk_below-first-requires g c =
     let r = c.requires in
-    let some = some_of _ (read_some g.K.AsBytes.bytes g.row.PREFIX_LEN c.args.reader.now.arena.now c.args.inner.now.node r.0 r.1 r.2 r.3 r.4 First) in
-    let e = sym some.1 ∙ sym c.end_child.ensures ∙ c.in-None.is in cc
-
-pub end_leaf_with-first-requires : goal.end_leaf_with-first-requires
-end_leaf_with-first-requires g c =
-    let r = c.requires in
-    let child = read_child g.K.AsBytes.bytes g.row.PREFIX_LEN c.args.reader.now.arena.now c.args.inner.now.node r.0 r.1 r.2 r.3 r.4 First c.in-Some.child (sym c.end_child.ensures ∙ c.in-Some.is) in
-    (lit< tt, (child.below, child.part, subst (λ a. IsSubtree g.K.AsBytes.bytes g.row.PREFIX_LEN (node_at a) c.in-Some.child.1 child.below child.part) (sym c.aside-further.ensures.arena) child.subtree))
+    (lit< tt, (lit< tt, (r.0, r.1, r.2, r.3, subst (λ a. IsReadAt g.K.AsBytes.bytes g.row.PREFIX_LEN a c.args.inner.now.node r.0 r.1 r.2 r.3) (sym c.aside-further.ensures.arena) r.4)))
 
 pub returns-clause-value : goal.returns-clause-value
 returns-clause-value g c = λ root depth path s at.
-    let child = read_child g.K.AsBytes.bytes g.row.PREFIX_LEN c.args.reader.now.arena.now c.args.inner.now.node root depth path s at First c.in-Some.child (sym c.end_child.ensures ∙ c.in-Some.is) in
-    sym child.same_end ∙ c.end_leaf_with-first.ensures.value child.below child.part (subst (λ a. IsSubtree g.K.AsBytes.bytes g.row.PREFIX_LEN (node_at a) c.in-Some.child.1 child.below child.part) (sym c.aside-further.ensures.arena) child.subtree)
+    c.walk_below-first.ensures.value root depth path s (subst (λ a. IsReadAt g.K.AsBytes.bytes g.row.PREFIX_LEN a c.args.inner.now.node root depth path s) (sym c.aside-further.ensures.arena) at)
 
 pub returns-clause-few : goal.returns-clause-few
 returns-clause-few g c = λ root depth path s at longest short.
-    let child = read_child g.K.AsBytes.bytes g.row.PREFIX_LEN c.args.reader.now.arena.now c.args.inner.now.node root depth path s at First c.in-Some.child (sym c.end_child.ensures ∙ c.in-Some.is) in
-    let few = c.end_leaf_with-first.ensures.few child.below child.part (subst (λ a. IsSubtree g.K.AsBytes.bytes g.row.PREFIX_LEN (node_at a) c.in-Some.child.1 child.below child.part) (sym c.aside-further.ensures.arena) child.subtree) longest (child.within longest short) in
-    omega (arith, few, child.deeper, c.aside-further.ensures.count, c.take_in.ensures.counts)
+    let few = c.walk_below-first.ensures.few root depth path s (subst (λ a. IsReadAt g.K.AsBytes.bytes g.row.PREFIX_LEN a c.args.inner.now.node root depth path s) (sym c.aside-further.ensures.arena) at) longest short in
+    omega (arith, few, c.aside-further.ensures.count, c.take_in.ensures.counts)

@@ -1,0 +1,34 @@
+use Rattle.std.proofs.Common.{arith, filter, subst, sym}
+use Rattle.art_arena.specs.tree.Tenants.{begins_with}
+use Rattle.art_operations.proofs.Stretches.{front_convex}
+use Rattle.art_walks.specs.MapReads.{IsSpanOf, ReadsPairs}
+use Rattle.art_walks.proofs.MapReads.{keys-within, no-span, span-of, the-shape, the-stores}
+use Rattle.art_walks.proofs.map_reader.MapReader+K+V+PREFIX_LEN.prefix.Goals as goal
+
+pub find_prefix_segment_with-requires : goal.find_prefix_segment_with-requires
+find_prefix_segment_with-requires g c = (omega arith, (the-shape g.K.AsBytes.bytes g.row.PREFIX_LEN c.self.inside.reader.arena.now c.in-Some.root c.self.invariant.0 (subst (λ r. ReadsPairs g.K.AsBytes.bytes g.row.PREFIX_LEN c.self.inside.reader.arena.now r c.self.invariant.0) c.in-Some.is c.self.invariant.1), the-stores g.K.AsBytes.bytes g.row.PREFIX_LEN c.self.inside.reader.arena.now c.in-Some.root c.self.invariant.0 (subst (λ r. ReadsPairs g.K.AsBytes.bytes g.row.PREFIX_LEN c.self.inside.reader.arena.now r c.self.invariant.0) c.in-Some.is c.self.invariant.1)))
+
+pub returns-in-Some-clause-value : goal.returns-in-Some-clause-value
+returns-in-Some-clause-value g c = rw (← c.self.view_is, ← c.as_bytes.ensures.value) (λ pairs has.
+    subst (λ a. IsSpanOf a pairs c.of.result (filter (λ p. begins_with c.as_bytes.result.now (g.K.AsBytes.bytes p.0)) pairs)) (sym c.find_prefix_segment_with.ensures.kept)
+    (subst (λ ends. IsSpanOf c.self.inside.reader.arena.now pairs ends (filter (λ p. begins_with c.as_bytes.result.now (g.K.AsBytes.bytes p.0)) pairs)) (sym c.of.ensures)
+    (span-of g.K.AsBytes.bytes g.row.PREFIX_LEN c.self.inside.reader.arena.now c.in-Some.root pairs (subst (λ r. ReadsPairs g.K.AsBytes.bytes g.row.PREFIX_LEN c.self.inside.reader.arena.now r pairs) c.in-Some.is has) (λ k. begins_with c.as_bytes.result.now k) (front_convex c.as_bytes.result.now) c.find_prefix_segment_with.result (c.find_prefix_segment_with.ensures.value (the-shape g.K.AsBytes.bytes g.row.PREFIX_LEN c.self.inside.reader.arena.now c.in-Some.root pairs (subst (λ r. ReadsPairs g.K.AsBytes.bytes g.row.PREFIX_LEN c.self.inside.reader.arena.now r pairs) c.in-Some.is has)) (the-stores g.K.AsBytes.bytes g.row.PREFIX_LEN c.self.inside.reader.arena.now c.in-Some.root pairs (subst (λ r. ReadsPairs g.K.AsBytes.bytes g.row.PREFIX_LEN c.self.inside.reader.arena.now r pairs) c.in-Some.is has))))))
+
+pub returns-in-Some-clause-few : goal.returns-in-Some-clause-few
+returns-in-Some-clause-few g c = rw (← c.self.view_is, ← c.as_bytes.ensures.value) (λ pairs has longest short.
+    c.find_prefix_segment_with.ensures.few (the-shape g.K.AsBytes.bytes g.row.PREFIX_LEN c.self.inside.reader.arena.now c.in-Some.root pairs (subst (λ r. ReadsPairs g.K.AsBytes.bytes g.row.PREFIX_LEN c.self.inside.reader.arena.now r pairs) c.in-Some.is has)) (the-stores g.K.AsBytes.bytes g.row.PREFIX_LEN c.self.inside.reader.arena.now c.in-Some.root pairs (subst (λ r. ReadsPairs g.K.AsBytes.bytes g.row.PREFIX_LEN c.self.inside.reader.arena.now r pairs) c.in-Some.is has)) longest (keys-within g.K.AsBytes.bytes g.row.PREFIX_LEN c.self.inside.reader.arena.now c.in-Some.root pairs (subst (λ r. ReadsPairs g.K.AsBytes.bytes g.row.PREFIX_LEN c.self.inside.reader.arena.now r pairs) c.in-Some.is has) longest short))
+
+pub returns-in-None-clause-value : goal.returns-in-None-clause-value
+returns-in-None-clause-value g c = rw (← c.self.view_is) (λ pairs has. (subst (λ ends. IsSpanOf c.self.inside.reader.arena.now pairs ends (filter (λ p. begins_with (g.Q.AsBytes.bytes c.args.prefix.now) (g.K.AsBytes.bytes p.0)) pairs)) (sym c.of-in-None.ensures) (no-span c.self.inside.reader.arena.now pairs (subst (λ r. ReadsPairs g.K.AsBytes.bytes g.row.PREFIX_LEN c.self.inside.reader.arena.now r pairs) c.in-None.is has).1.0 (λ p. begins_with (g.Q.AsBytes.bytes c.args.prefix.now) (g.K.AsBytes.bytes p.0)))))
+
+pub returns-in-Some-clause-span : goal.returns-in-Some-clause-span
+returns-in-Some-clause-span g c = (
+  c.self.invariant.0,
+  _,
+  subst (λ a. IsSpanOf a c.self.invariant.0 c.of.result (filter (λ p. begins_with c.as_bytes.result.now (g.K.AsBytes.bytes p.0)) c.self.invariant.0)) (sym c.find_prefix_segment_with.ensures.kept)
+      (subst (λ ends. IsSpanOf c.self.inside.reader.arena.now c.self.invariant.0 ends (filter (λ p. begins_with c.as_bytes.result.now (g.K.AsBytes.bytes p.0)) c.self.invariant.0)) (sym c.of.ensures)
+      (span-of g.K.AsBytes.bytes g.row.PREFIX_LEN c.self.inside.reader.arena.now c.in-Some.root c.self.invariant.0 (subst (λ r. ReadsPairs g.K.AsBytes.bytes g.row.PREFIX_LEN c.self.inside.reader.arena.now r c.self.invariant.0) c.in-Some.is c.self.invariant.1) (λ k. begins_with c.as_bytes.result.now k) (front_convex c.as_bytes.result.now) c.find_prefix_segment_with.result (c.find_prefix_segment_with.ensures.value (the-shape g.K.AsBytes.bytes g.row.PREFIX_LEN c.self.inside.reader.arena.now c.in-Some.root c.self.invariant.0 (subst (λ r. ReadsPairs g.K.AsBytes.bytes g.row.PREFIX_LEN c.self.inside.reader.arena.now r c.self.invariant.0) c.in-Some.is c.self.invariant.1)) (the-stores g.K.AsBytes.bytes g.row.PREFIX_LEN c.self.inside.reader.arena.now c.in-Some.root c.self.invariant.0 (subst (λ r. ReadsPairs g.K.AsBytes.bytes g.row.PREFIX_LEN c.self.inside.reader.arena.now r c.self.invariant.0) c.in-Some.is c.self.invariant.1))))),
+)
+
+pub returns-in-None-clause-span : goal.returns-in-None-clause-span
+returns-in-None-clause-span g c = rw (← c.self.view_is) (c.self.invariant.0, _, (subst (λ ends. IsSpanOf c.self.inside.reader.arena.now c.self.invariant.0 ends (filter (λ p. begins_with (g.Q.AsBytes.bytes c.args.prefix.now) (g.K.AsBytes.bytes p.0)) c.self.invariant.0)) (sym c.of-in-None.ensures) (no-span c.self.inside.reader.arena.now c.self.invariant.0 (subst (λ r. ReadsPairs g.K.AsBytes.bytes g.row.PREFIX_LEN c.self.inside.reader.arena.now r c.self.invariant.0) c.in-None.is c.self.invariant.1).1.0 (λ p. begins_with (g.Q.AsBytes.bytes c.args.prefix.now) (g.K.AsBytes.bytes p.0)))))
