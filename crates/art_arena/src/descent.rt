@@ -43,7 +43,8 @@ pub struct Stop<'a, K, V> {
     pub depth: usize,
 }
 
-/// The leaf at which a way down ended. Where it was that of a key, no other leaf's key can be that key or a front of it.
+/// The leaf at which a way down ended. Where it was that of a key, no other leaf's key can be that key or a front of
+/// it.
 #[derive(Drop)]
 pub struct Landed<'a, K, V> {
     /// Its name.

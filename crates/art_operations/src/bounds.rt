@@ -176,7 +176,8 @@ fn nearest_at<K: AsBytes, V, const PREFIX_LEN: usize>(
     point: InsertPoint,
     key: &[u8],
 ) -> Nearest
-    requires { (s : Shape K V) × Stores K.bytes PREFIX_LEN reader.old.arena.now root s × IsPoint K.bytes key.now s point }
+    requires { (s : Shape K V) × Stores K.bytes PREFIX_LEN reader.old.arena.now root s
+        × IsPoint K.bytes key.now s point }
     ensures nearest { OfTree K.bytes PREFIX_LEN reader.old.arena.now root (λ s. IsPoint K.bytes key.now s point
         → IsNearest K.bytes key.now (leaves s) result.leaf result.order) }
     ensures kept { reader.new.arena.now ≡ reader.old.arena.now }

@@ -13,13 +13,13 @@ use Rattle.art_walks.specs.Runs.{Ends}
 use Rattle.art_walks.specs.Walked.{IsCounted}
 
 -- what is read, where its tree begins, and how many nodes were read so far
-pub record Reads (K V : Type 0) : Type 0 where
+pub record ReadMap (K V : Type 0) : Type 0 where
   pub nodes : Arena K V
   pub root : Option Name
   pub count : ℕ
 
 -- the same is read
-abbrev pub IsSameMap : {K V : Type 0} → Reads K V → Reads K V → Type 0
+abbrev pub IsSameMap : {K V : Type 0} → ReadMap K V → ReadMap K V → Type 0
 IsSameMap old new = (new.nodes ≡ old.nodes) × (new.root ≡ old.root)
 
 module _ {K V : Type 0} (bytes : K → List ℕ) (P : ℕ) (arena : Arena K V) (root : Option Name) where

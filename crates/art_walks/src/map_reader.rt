@@ -68,9 +68,9 @@ pub struct MapReader<
 
 impl<'a, K: AsBytes, V, const PREFIX_LEN: usize, M: 'a> Model
     for MapReader<'a, K, V, PREFIX_LEN, M> {
-    ghost use Rattle.art_walks.specs.MapReads.{Reads, ReadsMap};
+    ghost use Rattle.art_walks.specs.MapReads.{ReadMap, ReadsMap};
 
-    ghost Value = { Reads K V };
+    ghost Value = { ReadMap K V };
 
     ghost view = { λ r. record { nodes = r.reader.arena.now; root = r.root; count = r.reader.count } };
 

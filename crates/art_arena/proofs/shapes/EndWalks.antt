@@ -172,14 +172,14 @@ module _ {K V : Type 0} (bytes : K → List ℕ) (P : ℕ) (arena : Arena K V) (
   end_lone Last l = refl
 
   -- at a leaf
-  pub record AtEnd (n : Name) (last : List Step) (count : ℕ) (k : K) : Type 0 where
+  pub record EndsAtLeaf (n : Name) (last : List Step) (count : ℕ) (k : K) : Type 0 where
     pub named : n ≡ leaf_name n.slot
     pub slot_is : end_slot end (leaves s) ≡ Some n.slot
     pub place : path ≡ [] → IsLeafPlace bytes s n.slot last
     pub reads : ReadsPath (drop (length path) (bytes k)) s start (min (count + 1) (2 ^ 64 - 1))
     pub few : (longest : ℕ) → KeysWithin bytes longest (leaves s) → min (count + 1) (2 ^ 64 - 1) + length path ≤ start + (longest + 1)
 
-  pub end_at : (n : Name) (last : List Step) (count : ℕ) → OnEnd n last count → (k : K) (v : V) → node_at arena n ≡ Some (pair k v) → AtEnd n last count k
+  pub end_at : (n : Name) (last : List Step) (count : ℕ) → OnEnd n last count → (k : K) (v : V) → node_at arena n ≡ Some (pair k v) → EndsAtLeaf n last count k
   end_at n last count on k v there =
       let is : on.part ≡ leaf_at n.slot k v =
       leaf-there P (node_at arena) on.part k v on.subtree.part.held (ap (node_at arena) on.subtree.part.named ∙ there) ∙ ap (λ (m : Name). leaf_at m.slot k v) on.subtree.part.named in

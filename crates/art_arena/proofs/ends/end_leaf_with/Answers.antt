@@ -8,7 +8,7 @@ use Rattle.art_arena.specs.arena.Meaning.{IsSubtree}
 use Rattle.art_arena.specs.arena.Shapes.{Shape}
 use Rattle.art_arena.specs.arena.Visited.{held_of}
 use Rattle.art_arena.proofs.shapes.LinkedLists.{some_of}
-use Rattle.art_arena.proofs.shapes.EndWalks.{AtEnd, EndStep, end_at, end_step, on_end-start, same_inner}
+use Rattle.art_arena.proofs.shapes.EndWalks.{EndsAtLeaf, EndStep, end_at, end_step, on_end-start, same_inner}
 use Rattle.art_arena.proofs.shapes.Subtrees.{subtree-held}
 use Rattle.art_arena.proofs.shapes.Walking.{lent-leaf, node-there}
 use Rattle.art_arena.proofs.ends.end_leaf_with.Goals as goal
@@ -27,7 +27,7 @@ visit-requires g c =
 
 -- the leaf at which it ends
 at_end : (g : _) (c : After-finish g) (path : List ℕ) (s : Shape g.row.K.Denot g.row.V.Denot) → IsSubtree g.K.AsBytes.bytes g.row.PREFIX_LEN (node_at c.args.reader.now.arena.now) c.args.root path s
-    → AtEnd g.K.AsBytes.bytes g.row.PREFIX_LEN c.args.reader.now.arena.now c.args.end path s c.args.reader.now.count c.down.current c.down.search c.down.reader.count c.in-Ok.leaf.now.key
+    → EndsAtLeaf g.K.AsBytes.bytes g.row.PREFIX_LEN c.args.reader.now.arena.now c.args.end path s c.args.reader.now.count c.down.current c.down.search c.down.reader.count c.in-Ok.leaf.now.key
 at_end g c path s tree =
     let there = lent-leaf c.args.reader.now.arena.now c.down.reader.arena.now c.down.current (held_of c.visit.result) c.in-Ok.leaf.now c.down.invariant.kept c.visit.ensures.value c.in-Ok.ensures in
     end_at g.K.AsBytes.bytes g.row.PREFIX_LEN c.args.reader.now.arena.now c.args.end path s c.args.reader.now.count c.down.current c.down.search c.down.reader.count (c.down.invariant.way path s tree) c.in-Ok.leaf.now.key c.in-Ok.leaf.now.value there
