@@ -3,7 +3,6 @@ use Rattle.std.proofs.Common.{◌≡◌, ◌≢◌, ℕ, Bool, List, [], length,
 use Rattle.art_nodes.specs.Name.{Name}
 use Rattle.art_nodes.specs.declared.kind.NodeType.TheVariants.{Node4, Node16, Node48, Node256}
 use Rattle.art_arena.specs.arena.Arena.{Arena, node_at, links_at}
-use Rattle.art_arena.specs.arena.Meaning.{Means}
 use Rattle.art_arena.specs.arena.Shapes.{Shape, erase, key_of}
 use Rattle.art_arena.specs.arena.Stores.{IsMeant, StoresOnly}
 use Rattle.art_arena.specs.tree.Fronts.{fronts_with}

@@ -3,7 +3,6 @@ use Rattle.std.proofs.Common.{◌≡◌, ℕ, List, [], ◌∷◌, ◌++◌, map
 use Rattle.std.specs.Iterator.{Yields}
 use Rattle.std.specs.Result.{IsErrAnd}
 use Rattle.std.proofs.lemmas.List.{append-nil, map-append}
-use Rattle.std.specs.List.{AllByRecursion}
 use Rattle.art_bytes.specs.Keys.{IsBefore}
 use Rattle.art_arena.specs.arena.Shapes.{key_of}
 use Rattle.art_arena.specs.tree.Order.{AscendsByKey}

@@ -383,3 +383,14 @@ pub fn films(films: &mut TreeMap<StrKey<'_>, u32, 16>) -> Result<bool, AllocErro
     let taken = films.remove(&StrKey("Office Space"))?;
     Ok(seen && taken == Some(4) && films.is_empty())
 }
+
+/// Parts a table at a word, and puts the counts of another in what is left, which win: how many counts went.
+pub fn replace_from(
+    counts: &mut TreeMap<[u8; 4], u32, 16>,
+    word: &[u8; 4],
+    newer: &mut TreeMap<[u8; 4], u32, 16>,
+) -> Result<usize, AllocError> {
+    let old = counts.split_off(word)?;
+    counts.append(newer)?;
+    Ok(old.len())
+}

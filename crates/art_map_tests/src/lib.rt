@@ -15,6 +15,8 @@ mod entries_refused;
 #[cfg(test)]
 mod entry_rows;
 #[cfg(test)]
+mod joins;
+#[cfg(test)]
 mod maps;
 pub mod nodes;
 #[cfg(test)]

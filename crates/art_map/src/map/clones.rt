@@ -1,25 +1,26 @@
-//! `clone`: another map of the same pairs, with nodes of its own.
+//! `clone`: another map of clones of the pairs, with nodes of its own.
 ghost use Rattle.std.specs.Prelude.{◌≡◌, IfOk};
-ghost use Rattle.art_map.specs.Contents.{IsUntouched};
+ghost use Rattle.art_arena.specs.arena.ArenaClones.{IsArenaClone};
+ghost use Rattle.art_operations.specs.Runs.{AreClones};
 
 use crate::map::TreeMap;
-use art_bytes::AsBytes;
+use art_bytes::CloneBytes;
 use std::alloc::AllocError;
 
-impl<K: AsBytes, V, const PREFIX_LEN: usize> TreeMap<K, V, PREFIX_LEN> {
-    /// A map of the same pairs, whose tree has the same shape, with nodes of its own. A clone of a key or a value has
-    /// to equal its original.
+impl<K: CloneBytes, V: Clone, const PREFIX_LEN: usize> TreeMap<K, V, PREFIX_LEN> {
+    /// A map of clones of the pairs, in the same order, whose tree has the same shape, with nodes of its own. Where a
+    /// clone of a key or a value equals its original, it has the same pairs. A clone of a key has to be a key of its
+    /// type, as it is where it equals its original.
     ///
     /// It is refused where a key or a value can't be cloned, or where there is no memory for the nodes; what was made
     /// is let go of then. The map is only read.
     pub fn clone(&self) -> Result<Self, AllocError>
-    where
-        K: Clone,
-        V: Clone,
-        requires keys { (k c : K) → K.is_clone k c → c ≡ k }
-        requires values { (v c : V) → V.is_clone v c → c ≡ v }
-        ensures pairs { IfOk result (λ copy. copy.pairs ≡ self.now.pairs) }
-        ensures shape { IfOk result (λ copy. IsUntouched self.now copy) }
+        requires { (k c : K) → K.is_key k → K.is_clone k c → K.is_key c }
+        ensures clones { IfOk result (λ copy. AreClones K.is_clone V.is_clone self.now.pairs copy.pairs) }
+        ensures pairs { ((k c : K) → K.is_clone k c → c ≡ k) → ((v c : V) → V.is_clone v c → c ≡ v)
+            → IfOk result (λ copy. copy.pairs ≡ self.now.pairs) }
+        ensures shape { IfOk result (λ copy. IsArenaClone K.is_clone V.is_clone self.now.nodes copy.nodes
+            × (copy.root ≡ self.now.root)) }
     {
         Ok(TreeMap {
             alloc: self.alloc,

@@ -1,9 +1,7 @@
-use Rattle.std.proofs.Common.{[], ◌++◌, ◌*◌, length, sym, ap, subst, ◌∙◌, arith}
+use Rattle.std.proofs.Common.{◌*◌, length, sym, ap, subst, ◌∙◌, arith}
 use Rattle.std.proofs.lemmas.List.{append-nil}
 use Rattle.art_arena.specs.arena.Arena.{HasRoom}
-use Rattle.art_arena.specs.arena.Shapes.{key_of}
 use Rattle.art_arena.specs.declared.ends.End.TheVariants.{First, Last}
-use Rattle.art_arena.specs.tree.Order.{AscendsByKey}
 use Rattle.art_map.specs.Joins.{side_at}
 use Rattle.art_map.proofs.Joins.{first-off, last-off, part-fits}
 use Rattle.art_map.proofs.map.TreeMap.split_off.Goals.{in-First, in-Last}
