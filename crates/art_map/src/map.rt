@@ -19,6 +19,7 @@ mod joins;
 mod lookups;
 pub mod prefix_entry;
 mod ranges;
+mod readers;
 pub mod refused;
 mod removals;
 mod room;
