@@ -1,3 +1,5 @@
 pub mod Seen
 pub mod MergeLemmas
 pub mod MergeOrder
+pub mod AskedKeys
+pub mod AskedPairs

@@ -1,4 +1,6 @@
 pub mod Members
 pub mod Changes
 pub mod Merges
+pub mod Asked
+pub mod Lends
 pub mod inner

@@ -17,7 +17,7 @@ use std::marker::Model;
 /// A set whose keys are seen as bytes, and ascend by them. No key is a front of another.
 #[derive(Drop)]
 pub struct TreeSet<K: AsBytes, const PREFIX_LEN: usize> {
-    map: TreeMap<K, (), PREFIX_LEN>,
+    pub(crate) map: TreeMap<K, (), PREFIX_LEN>,
 }
 
 impl<K: AsBytes, const PREFIX_LEN: usize> Model for TreeSet<K, PREFIX_LEN> {
