@@ -15,3 +15,8 @@ pub mod Extractions
 pub mod Asks
 pub mod Ranges
 pub mod PrefixEntries
+pub mod Audits
+pub mod Clones
+pub mod Puts
+pub mod VecPairs
+pub mod Joins

@@ -34,7 +34,7 @@ use Rattle.art_operations.proofs.KeyedLists.{nothing_taken, stored-free}
 use Rattle.art_operations.proofs.LeafPairs.{leaf_pair, pairs_ascend, held_leaf, pairs-parts}
 use Rattle.art_operations.proofs.PutOver.{how_many}
 use Rattle.art_operations.proofs.WrittenValues.{written}
-use Rattle.art_map.specs.Contents.{contents, pairs_from, IsMap, has_bytes, first_item, last_item, option_value, value_in}
+use Rattle.art_map.specs.Contents.{contents, pairs_from, IsMap, has_bytes, first_item, last_item, option_value, entry_in}
 use Rattle.art_map.specs.Found.{IsAt, IsFound}
 use Rattle.art_walks.specs.Runs.{Ends}
 use Rattle.art_walks.specs.Walked.{IsCounted}
@@ -105,9 +105,9 @@ module _ {K V : Type 0} (bytes : K → List ℕ) where
   stored-placed P arena pairs up key (Ok place) placed has = refl
   stored-placed P arena pairs up key (Err e) blocked has = absurd (stored-free (key_of bytes) pairs up key has blocked)
 
-leaf-value : {K V : Type 0} (o : Option (LeafNode K V)) → value_in o ≡ option_value (first_item (pair_in o))
-leaf-value None = refl
-leaf-value (Some leaf) = refl
+leaf-entry : {K V : Type 0} (o : Option (LeafNode K V)) → entry_in o ≡ first_item (pair_in o)
+leaf-entry None = refl
+leaf-entry (Some leaf) = refl
 
 module _ {K V : Type 0} (bytes : K → List ℕ) (is_key : K → Type 0) (P : ℕ) where
   -- an arena that has pairs is a map's
@@ -134,11 +134,12 @@ module _ {K V : Type 0} (bytes : K → List ℕ) (is_key : K → Type 0) (P : �
         make new (Some result.new_root) (with_pair_put bytes key value the_pairs) has.has (keys-put is_key (key_of bytes) (key, value) _ one (keys-without is_key (key_of bytes) (bytes key) the_pairs map.keys))
 
     -- the pair that was there
-    pub put-old : (new : Arena K V) (key : K) (value : V) (result : InsertResult K V) → HasPut bytes P new the_pairs key value result → lookup_entry (has_bytes bytes (bytes key)) the_pairs ≡ first_item (pair_in result.existing_leaf)
-    put-old new key value result has = entry-first bytes (bytes key) the_pairs ∙ ap first_item (sym has.old)
+    pub put-entry : (new : Arena K V) (key : K) (value : V) (result : InsertResult K V) → HasPut bytes P new the_pairs key value result → entry_in result.existing_leaf ≡ lookup_entry (has_bytes bytes (bytes key)) the_pairs
+    put-entry new key value result has = leaf-entry result.existing_leaf ∙ ap first_item has.old ∙ sym (entry-first bytes (bytes key) the_pairs)
 
-    pub put-value : (new : Arena K V) (key : K) (value : V) (result : InsertResult K V) → HasPut bytes P new the_pairs key value result → value_in result.existing_leaf ≡ lookup (has_bytes bytes (bytes key)) the_pairs
-    put-value new key value result has = leaf-value result.existing_leaf ∙ sym (lookup-value (has_bytes bytes (bytes key)) the_pairs (first_item (pair_in result.existing_leaf)) (put-old new key value result has))
+    pub put-value : (new : Arena K V) (key : K) (value : V) (result : InsertResult K V) → HasPut bytes P new the_pairs key value result → option_value (entry_in result.existing_leaf) ≡ lookup (has_bytes bytes (bytes key)) the_pairs
+    put-value new key value result has =
+        sym (lookup-value (has_bytes bytes (bytes key)) the_pairs (entry_in result.existing_leaf) (sym (put-entry new key value result has)))
 
     pub put-pairs : (new : Arena K V) (key : K) (value : V) (result : InsertResult K V) → HasPut bytes P new the_pairs key value result → pairs_from new (Some result.new_root) ≡ with_pair_put bytes key value the_pairs
     put-pairs new key value result has = has-seen bytes P new (Some result.new_root) _ has.has

@@ -28,10 +28,10 @@ abbrev pub option_value : {K V : Type 0} → Option (K × V) → Option V
 option_value None = None
 option_value (Some p) = Some p.1
 
--- the value of a leaf, if there is one
-abbrev pub value_in : {K V : Type 0} → Option (LeafNode K V) → Option V
-value_in None = None
-value_in (Some leaf) = Some leaf.value
+-- the pair of a leaf, if there is one
+abbrev pub entry_in : {K V : Type 0} → Option (LeafNode K V) → Option (K × V)
+entry_in None = None
+entry_in (Some leaf) = Some (leaf.key, leaf.value)
 
 -- the first item, and the last
 abbrev pub first_item : {X : Type 0} → List X → Option X

@@ -1,4 +1,5 @@
 pub mod Contents
+pub mod Audit
 pub mod Changes
 pub mod Lends
 pub mod Found
@@ -13,4 +14,6 @@ pub mod Asked
 pub mod LentRuns
 pub mod LentWalks
 pub mod LentIters
+pub mod Bulk
+pub mod Joins
 pub mod inner

@@ -5,17 +5,23 @@ ghost use Rattle.art_arena.specs.arena.Shapes.{key_of};
 ghost use Rattle.art_arena.specs.tree.Order.{AscendsByKey};
 ghost use Rattle.art_operations.specs.Runs.{HoldsTreeOf};
 
+mod audit;
+mod bulk;
 mod changes;
+mod clones;
+mod compared;
 pub mod entry;
 pub mod extract_if;
 pub mod extraction;
 mod into_walks;
 pub mod iter_mut;
+mod joins;
 mod lookups;
 pub mod prefix_entry;
 mod ranges;
 pub mod refused;
 mod removals;
+mod room;
 mod walks;
 pub mod walks_mut;
 

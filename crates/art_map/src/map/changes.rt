@@ -1,12 +1,13 @@
 //! Pairs are put in.
 ghost use Rattle.std.specs.Prelude.{◌≡◌, ℕ, List, length, IfOk, IfErr, IsOk, OnErr, OnOk};
 ghost use Rattle.std.specs.List.{AllByRecursion};
-ghost use Rattle.std.specs.Map.{lookup};
+ghost use Rattle.std.specs.Map.{lookup, lookup_entry};
+ghost use Rattle.art_arena.specs.arena.Arena.{HasRoom, UsesRoom};
 ghost use Rattle.art_arena.specs.arena.Shapes.{key_of};
-ghost use Rattle.art_operations.specs.Insertions.{HandsPairBack, IsPairRefused};
+ghost use Rattle.art_operations.specs.Insertions.{HandsPairBack, IsForConflict, IsPairRefused};
 ghost use Rattle.art_operations.specs.KeyedLists.{HasKey, IsBlocked, overlapping};
 ghost use Rattle.art_operations.specs.Pairs.{CanPut, IsPlaceFor, TellsConflict, with_pair_put, with_pair_over};
-ghost use Rattle.art_map.specs.Contents.{value_in, IsUntouched};
+ghost use Rattle.art_map.specs.Contents.{entry_in, option_value, IsUntouched};
 ghost use Rattle.art_map.specs.Found.{HasPairAt};
 
 use crate::map::TreeMap;
@@ -19,15 +20,24 @@ use art_operations::{
     find_place, insert_pair, put_pair,
 };
 
-// The value of a leaf, whose key is let go.
-fn value_of<K: Drop, V>(leaf: Option<LeafNode<K, V>>) -> Option<V>
-    ensures { result ≡ value_in leaf }
+// The pair of a leaf, if there is one.
+#[inline(always)]
+fn entry_of<K, V>(leaf: Option<LeafNode<K, V>>) -> Option<(K, V)>
+    ensures { result ≡ entry_in leaf }
 {
     match leaf {
-        Some(leaf) => {
-            let (_key, value) = leaf.into_entry();
-            Some(value)
-        }
+        Some(leaf) => Some(leaf.into_entry()),
+        None => None,
+    }
+}
+
+// The value of a pair, whose key is let go.
+#[inline(always)]
+pub(super) fn value_of<K: Drop, V>(pair: Option<(K, V)>) -> Option<V>
+    ensures { result ≡ option_value pair }
+{
+    match pair {
+        Some((_key, value)) => Some(value),
         None => None,
     }
 }
@@ -119,7 +129,7 @@ impl<K: AsBytes, V, const PREFIX_LEN: usize> TreeMap<K, V, PREFIX_LEN> {
             Ok(put) => {
                 self.root = Some(put.new_root);
                 let leaf = put.leaf_node_ptr;
-                Ok((leaf, value_of(put.existing_leaf)))
+                Ok((leaf, value_of(entry_of(put.existing_leaf))))
             }
             Err(refused) => Err(refused),
         }
@@ -149,13 +159,11 @@ impl<K: AsBytes, V, const PREFIX_LEN: usize> TreeMap<K, V, PREFIX_LEN> {
         }
     }
 
-    // Puts a pair in, and answers the value of the one whose key has the same bytes, if there is one. Where it is
-    // refused the map is as it was.
+    // Puts a pair in, and answers the one whose key has the same bytes, if there is one. Where it is refused the map is
+    // as it was.
     #[inline(always)]
-    fn put(&mut self, key: K, value: V) -> Result<Option<V>, PairRefused<K, V>>
-    where
-        K: Drop,
-        ensures value { IfOk result (λ old. old ≡ lookup (has_bytes K.bytes (K.bytes key)) self.old.pairs) }
+    pub(super) fn put(&mut self, key: K, value: V) -> Result<Option<(K, V)>, PairRefused<K, V>>
+        ensures old { IfOk result (λ old. old ≡ lookup_entry (has_bytes K.bytes (K.bytes key)) self.old.pairs) }
         ensures pairs { OnOk result (self.new.pairs ≡ with_pair_put K.bytes key value self.old.pairs) }
         ensures free { OnOk result (IsBlocked (key_of K.bytes) (K.bytes key) self.old.pairs → ⊥) }
         ensures stored { HasKey (key_of K.bytes) (K.bytes key) self.old.pairs → IsOk result }
@@ -163,6 +171,8 @@ impl<K: AsBytes, V, const PREFIX_LEN: usize> TreeMap<K, V, PREFIX_LEN> {
         ensures kept { OnErr result (IsUntouched self.old self.new) }
         ensures refused { IfErr result
             (IsPairRefused key value (IsBlocked (key_of K.bytes) (K.bytes key) self.old.pairs)) }
+        ensures succeeds { IfErr result (λ e. HasRoom self.old.nodes 2 → IsForConflict e) }
+        ensures room { UsesRoom 2 self.old.nodes self.new.nodes }
         ensures keys { AllByRecursion (λ p. K.is_key p.0) self.old.pairs }
         ensures key { K.is_key key }
     {
@@ -172,7 +182,7 @@ impl<K: AsBytes, V, const PREFIX_LEN: usize> TreeMap<K, V, PREFIX_LEN> {
         match insert_pair(&mut self.arena, root, key, value) {
             Ok(put) => {
                 self.root = Some(put.new_root);
-                Ok(value_of(put.existing_leaf))
+                Ok(entry_of(put.existing_leaf))
             }
             Err(refused) => Err(refused),
         }
@@ -197,7 +207,7 @@ impl<K: AsBytes, V, const PREFIX_LEN: usize> TreeMap<K, V, PREFIX_LEN> {
         ensures refused { IfErr result (IsTryRefused K.bytes self.old.pairs key value) }
     {
         match self.put(key, value) {
-            Ok(old) => Ok(old),
+            Ok(old) => Ok(value_of(old)),
             Err(refused) => Err(self.refusal(refused)),
         }
     }
@@ -283,6 +293,28 @@ impl<K: NoPrefixesBytes, V, const PREFIX_LEN: usize> TreeMap<K, V, PREFIX_LEN> {
         ensures err { OnErr result (self.new.pairs ≡ self.old.pairs) }
         ensures kept { OnErr result (IsUntouched self.old self.new) }
         ensures handed_back { HandsPairBack key value result }
+    {
+        match self.replace_entry(key, value) {
+            Ok(old) => Ok(value_of(old)),
+            Err(refused) => Err(refused),
+        }
+    }
+
+    /// Puts a pair in, in the place of the one whose key has the same bytes if there is one, and answers that one, its
+    /// key too.
+    ///
+    /// It is refused only where there is no memory: the pair is handed back, and the map is as it was. A key that is
+    /// stored is never refused, and where the nodes have room for two more, no key is.
+    #[inline(always)]
+    pub fn replace_entry(&mut self, key: K, value: V) -> Result<Option<(K, V)>, InsertRefused<K, V>>
+        ensures old { IfOk result (λ old. old ≡ lookup_entry (has_bytes K.bytes (K.bytes key)) self.old.pairs) }
+        ensures pairs { OnOk result (self.new.pairs ≡ with_pair_put K.bytes key value self.old.pairs) }
+        ensures stored { HasKey (key_of K.bytes) (K.bytes key) self.old.pairs → IsOk result }
+        ensures err { OnErr result (self.new.pairs ≡ self.old.pairs) }
+        ensures kept { OnErr result (IsUntouched self.old self.new) }
+        ensures handed_back { HandsPairBack key value result }
+        ensures succeeds { HasRoom self.old.nodes 2 → IsOk result }
+        ensures room { UsesRoom 2 self.old.nodes self.new.nodes }
     {
         match self.put(key, value) {
             Ok(old) => Ok(old),

@@ -72,7 +72,20 @@ impl<K: AsBytes, V, const PREFIX_LEN: usize> TreeMap<K, V, PREFIX_LEN> {
             (bound_map (λ key. Q.bytes key.now) end.entry) self.now.pairs }
         ensures ordered { AscendsByKey (key_of K.bytes) self.now.pairs }
     {
-        let walk = self.walk_between(bytes_of(start), bytes_of(end));
+        self.pairs_within(bytes_of(start), bytes_of(end))
+    }
+
+    // The pairs between two bounds of bytes.
+    pub(super) fn pairs_within(
+        &self,
+        start: Bound<&[u8]>,
+        end: Bound<&[u8]>,
+    ) -> Range<'_, K, V, PREFIX_LEN>
+        ensures rest { result ≡ pairs_between K.bytes (bound_map (λ key. key.now) start.entry)
+            (bound_map (λ key. key.now) end.entry) self.now.pairs }
+        ensures ordered { AscendsByKey (key_of K.bytes) self.now.pairs }
+    {
+        let walk = self.walk_between(start, end);
         Range::new(&self.arena, walk)
     }
 

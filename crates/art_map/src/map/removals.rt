@@ -1,28 +1,20 @@
 //! Pairs are taken out.
-ghost use Rattle.std.specs.Prelude.{◌≡◌, List, ◌∷◌, ◌++◌, [], IfNone, IfOk, MatchOption, OnErr, OnOk};
+ghost use Rattle.std.specs.Prelude.{◌≡◌, List, ◌∷◌, ◌++◌, [], IfNone, IfOk, IsOk, MatchOption, OnErr, OnOk};
 ghost use Rattle.std.specs.Map.{lookup, lookup_entry};
+ghost use Rattle.art_arena.specs.arena.Arena.{HasRoom, UsesRoom};
 ghost use Rattle.art_arena.specs.arena.Shapes.{key_of, LeafAt};
 ghost use Rattle.art_arena.specs.tree.Shrinks.{Shrinks};
-ghost use Rattle.art_map.specs.Contents.{option_value, IsUntouched};
+ghost use Rattle.art_map.specs.Contents.{IsUntouched};
 ghost use Rattle.art_operations.specs.Deletions.{IsAmong};
 ghost use Rattle.art_operations.specs.KeyedLists.{HasKey, without_key};
 ghost use Rattle.art_operations.specs.Pairs.{IsAtEnd, ShrinksAtEnd};
 
 use crate::map::TreeMap;
+use crate::map::changes::value_of;
 use art_arena::{End, LeafPtr};
 use art_bytes::AsBytes;
 use art_operations::{take_end, take_leaf, take_pair};
 use std::alloc::AllocError;
-
-// The value of a pair, whose key is let go.
-fn value_of<K: Drop, V>(pair: Option<(K, V)>) -> Option<V>
-    ensures { result ≡ option_value pair }
-{
-    match pair {
-        Some((_key, value)) => Some(value),
-        None => None,
-    }
-}
 
 impl<K: AsBytes, V, const PREFIX_LEN: usize> TreeMap<K, V, PREFIX_LEN> {
     ghost use Rattle.art_map.specs.Contents.{has_bytes, HasLeafAt};
@@ -126,13 +118,15 @@ impl<K: AsBytes, V, const PREFIX_LEN: usize> TreeMap<K, V, PREFIX_LEN> {
     }
 
     // Takes the pair at an end out.
-    fn pop(&mut self, end: End) -> Result<Option<(K, V)>, AllocError>
+    pub(super) fn pop(&mut self, end: End) -> Result<Option<(K, V)>, AllocError>
         ensures value { IfOk result (λ taken. MatchOption taken (self.old.pairs ≡ [])
             (λ pair. IsAtEnd end pair self.new.pairs self.old.pairs)) }
         ensures none { IfOk result (λ taken. IfNone taken (self.new.pairs ≡ [])) }
         ensures err { OnErr result (self.new.pairs ≡ self.old.pairs) }
         ensures kept { OnErr result (IsUntouched self.old self.new) }
         ensures shrinks { OnErr result (ShrinksAtEnd K.bytes end self.old.pairs) }
+        ensures succeeds { HasRoom self.old.nodes 1 → IsOk result }
+        ensures room { UsesRoom 1 self.old.nodes self.new.nodes }
     {
         // By value an option of a name counts as moved, so a copy goes in.
         let root = self.root;

@@ -1,6 +1,6 @@
-use Rattle.art_map.proofs.Maps.{none-blocks}
+use Rattle.std.proofs.Common.{sym, ◌∙◌}
+use Rattle.art_map.proofs.LookedUp.{lookup-value}
 use Rattle.art_map.proofs.map.TreeMap.insert.Goals as goal
 
-pub known-requires : goal.known-requires
-known-requires g c = absurd
-    (none-blocks g.K.AsBytes.bytes g.K.AsBytes.is_key g.met.K.NoPrefixesBytes.no_prefixes c.args.self.now.pairs c.put.ensures.keys c.args.key c.put.ensures.key (rw c.in-Err-Conflict.field-0-is at c.in-Err-Conflict.ensures.refused).2)
+pub returns-in-Ok-clause-value : goal.returns-in-Ok-clause-value
+returns-in-Ok-clause-value g c = c.value_of.ensures ∙ sym (lookup-value _ c.args.self.now.pairs c.in-Ok.old (sym c.in-Ok.ensures.old))

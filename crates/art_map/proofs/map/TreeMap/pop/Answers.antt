@@ -33,3 +33,9 @@ returns-in-Err-clause-err g c = rw (← c.self.view_is) (same-pairs g.K.AsBytes.
 
 pub returns-in-Err-clause-shrinks : goal.returns-in-Err-clause-shrinks
 returns-in-Err-clause-shrinks g c = rw (← c.self.view_is) (c.in-Err.ensures.shrinks _ [] c.self.invariant.has)
+
+pub returns-in-Ok-Some-clause-room : goal.returns-in-Ok-Some-clause-room
+returns-in-Ok-Some-clause-room g c = rw (← c.self.view_is) c.take_end.ensures.room
+
+pub returns-in-Ok-None-clause-room : goal.returns-in-Ok-None-clause-room
+returns-in-Ok-None-clause-room g c = rw (← c.self.view_is) c.take_end.ensures.room

@@ -1,5 +1,5 @@
 use Rattle.std.proofs.Common.{[], ◌∙◌}
-use Rattle.art_map.proofs.Maps.{put-map, put-pairs, put-value, same-map, same-pairs}
+use Rattle.art_map.proofs.Maps.{put-map, put-pairs, put-entry, same-map, same-pairs}
 use Rattle.art_map.proofs.map.TreeMap.put.Goals as goal
 
 pub invariant_of-self : goal.invariant_of-self
@@ -10,11 +10,11 @@ invariant_of-self g c =
 pub invariant_of-self-in-Err : goal.invariant_of-self-in-Err
 invariant_of-self-in-Err g c = same-map g.K.AsBytes.bytes g.K.AsBytes.is_key g.row.PREFIX_LEN c.self.inside.arena c.self.inside.root c.self.invariant c.insert_pair.new.arena c.in-Err.ensures.err
 
-pub returns-in-Ok-clause-value : goal.returns-in-Ok-clause-value
-returns-in-Ok-clause-value g c =
+pub returns-in-Ok-clause-old : goal.returns-in-Ok-clause-old
+returns-in-Ok-clause-old g c =
     rw (← c.self.view_is)
-    (c.value_of.ensures
-    ∙ put-value g.K.AsBytes.bytes g.K.AsBytes.is_key g.row.PREFIX_LEN c.self.inside.arena c.self.inside.root c.self.invariant c.insert_pair.new.arena c.args.key c.args.value c.in-Ok.put (c.in-Ok.ensures.ok _ [] c.self.invariant.has))
+    (c.entry_of.ensures
+    ∙ put-entry g.K.AsBytes.bytes g.K.AsBytes.is_key g.row.PREFIX_LEN c.self.inside.arena c.self.inside.root c.self.invariant c.insert_pair.new.arena c.args.key c.args.value c.in-Ok.put (c.in-Ok.ensures.ok _ [] c.self.invariant.has))
 
 pub returns-in-Ok-clause-pairs : goal.returns-in-Ok-clause-pairs
 returns-in-Ok-clause-pairs g c =
@@ -39,3 +39,9 @@ returns-in-Ok-clause-keys g c = rw (← c.self.view_is) c.self.invariant.keys
 
 pub returns-in-Err-clause-keys : goal.returns-in-Err-clause-keys
 returns-in-Err-clause-keys g c = rw (← c.self.view_is) c.self.invariant.keys
+
+pub returns-in-Ok-clause-room : goal.returns-in-Ok-clause-room
+returns-in-Ok-clause-room g c = rw (← c.self.view_is) c.insert_pair.ensures.room
+
+pub returns-in-Err-clause-room : goal.returns-in-Err-clause-room
+returns-in-Err-clause-room g c = rw (← c.self.view_is) c.insert_pair.ensures.room

@@ -1,4 +1,5 @@
-use Rattle.std.proofs.Common.{[], ◌∙◌}
+use Rattle.std.proofs.Common.{[], ap, ◌∙◌}
+use Rattle.art_map.specs.Contents.{option_value}
 use Rattle.art_map.proofs.Maps.{put-map, put-pairs, put-value, same-map, same-pairs}
 use Rattle.art_map.proofs.map.TreeMap.put_leaf_at.Goals as goal
 
@@ -13,7 +14,7 @@ invariant_of-self-in-Err g c = same-map g.K.AsBytes.bytes g.K.AsBytes.is_key g.r
 pub returns-in-Ok-clause-value : goal.returns-in-Ok-clause-value
 returns-in-Ok-clause-value g c =
     rw (← c.self.view_is)
-    (c.value_of.ensures
+    (c.value_of.ensures ∙ ap option_value c.entry_of.ensures
     ∙ put-value g.K.AsBytes.bytes g.K.AsBytes.is_key g.row.PREFIX_LEN c.self.inside.arena c.self.inside.root c.self.invariant c.put_pair.new.arena c.args.key c.args.value c.in-Ok.put (c.in-Ok.ensures.ok _ [] (rw (← c.self.view_is) at c.requires)))
 
 pub returns-in-Ok-clause-pairs : goal.returns-in-Ok-clause-pairs

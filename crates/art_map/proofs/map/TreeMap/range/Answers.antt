@@ -1,20 +1,8 @@
-use Rattle.std.proofs.Common.{ap₂, ◌∙◌, arith}
-use Rattle.art_map.specs.Contents.{pairs_from}
+use Rattle.std.proofs.Common.{ap₂, ◌∙◌}
 use Rattle.art_map.specs.Ranges.{pairs_between}
-use Rattle.art_map.proofs.Maps.{ascending-map}
 use Rattle.art_map.proofs.map.TreeMap.range.Goals as goal
-
-pub new-requires : goal.new-requires
-new-requires g c =
-    let walk = rw (← c.self.view_is) at c.walk_between-walk.ensures.walk in
-    (omega arith, (omega arith, (_, walk.run)))
 
 pub returns-clause-rest : goal.returns-clause-rest
 returns-clause-rest g c =
-    let walk = rw (← c.self.view_is) at c.walk_between-walk.ensures.walk in
-    rw (← c.self.view_is)
-    (c.new.ensures _ walk.run ∙ walk.pairs_are
-    ∙ ap₂ (λ start end. pairs_between g.K.AsBytes.bytes start end (pairs_from c.self.inside.arena c.self.inside.root)) c.bytes_of.ensures c.bytes_of-2.ensures)
-
-pub returns-clause-ordered : goal.returns-clause-ordered
-returns-clause-ordered g c = rw (← c.self.view_is) (ascending-map g.K.AsBytes.bytes g.K.AsBytes.is_key g.row.PREFIX_LEN c.self.inside.arena c.self.inside.root c.self.invariant)
+    c.pairs_within.ensures.rest
+    ∙ ap₂ (λ start end. pairs_between g.K.AsBytes.bytes start end c.args.self.now.pairs) c.bytes_of.ensures c.bytes_of-2.ensures

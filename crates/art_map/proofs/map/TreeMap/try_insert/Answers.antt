@@ -1,8 +1,9 @@
-use Rattle.std.proofs.Common.{sym, subst, arith}
+use Rattle.std.proofs.Common.{sym, subst, arith, ◌∙◌}
 use Rattle.art_arena.specs.arena.Shapes.{key_of}
 use Rattle.art_operations.specs.Insertions.{IsPairRefused}
 use Rattle.art_operations.specs.KeyedLists.{IsBlocked}
 use Rattle.art_map.specs.Changes.{IsTryRefused}
+use Rattle.art_map.proofs.LookedUp.{lookup-value}
 use Rattle.art_map.proofs.map.TreeMap.try_insert.Goals.{In-Err}
 use Rattle.art_map.proofs.map.TreeMap.try_insert.Goals as goal
 
@@ -16,3 +17,6 @@ refusal-requires g c = (omega arith, (c.args.key, c.args.value, told g c))
 pub returns-in-Err-clause-refused : goal.returns-in-Err-clause-refused
 returns-in-Err-clause-refused g c =
     subst (λ ps. IsTryRefused g.K.AsBytes.bytes ps c.args.key c.args.value c.refusal.result) c.in-Err.ensures.err (c.refusal.ensures c.args.key c.args.value (told g (goal.at.returns-in-Err-clause-refused g c).In-Err))
+
+pub returns-in-Ok-clause-value : goal.returns-in-Ok-clause-value
+returns-in-Ok-clause-value g c = c.value_of.ensures ∙ sym (lookup-value _ c.args.self.now.pairs c.in-Ok.old (sym c.in-Ok.ensures.old))

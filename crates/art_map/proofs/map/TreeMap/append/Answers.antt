@@ -1,0 +1,21 @@
+use Rattle.std.proofs.Common.{[], refl, sym, ap, subst, length, ◌∙◌, ◌*◌, arith}
+use Rattle.art_arena.specs.arena.Arena.{HasRoom}
+use Rattle.art_map.specs.Asked.{with_pairs_put}
+use Rattle.art_map.proofs.Asks.{none-left}
+use Rattle.art_map.proofs.Puts.{put-behind}
+use Rattle.art_map.proofs.map.TreeMap.append.Goals as goal
+
+pub returns-then-is_empty-2-clause-pairs : goal.returns-then-is_empty-2-clause-pairs
+returns-then-is_empty-2-clause-pairs g c =
+    ap (λ m. m.pairs) c.swap.ensures.x_after
+    ∙ sym (ap (with_pairs_put g.K.AsBytes.bytes c.args.other.now.pairs) (none-left c.args.self.now.pairs c.is_empty-2.ensures c.if-is_empty-2.true) ∙ put-behind g.K.AsBytes.bytes [] c.args.other.now.pairs c.nodes-root.ensures.ordered)
+
+pub put_pairs-requires : goal.put_pairs-requires
+put_pairs-requires g c =
+    let all = c.into_iter.ensures.into_iter_gives ∙ ap (λ m. m.pairs) c.replace.ensures.value in (
+      omega arith,
+      (
+        omega arith,
+        (c.if-not-nodes_fit.ensures refl, subst (λ n. HasRoom c.reserve_insertions.new.self.nodes (2 * n)) (c.len.ensures ∙ ap length (sym all)) c.in_ok-reserve_insertions.ensures.room),
+      ),
+    )

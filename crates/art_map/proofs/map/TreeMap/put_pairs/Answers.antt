@@ -1,0 +1,25 @@
+use Rattle.std.proofs.Common.{sym, ap, subst, length, ◌∙◌, ◌*◌, arith}
+use Rattle.art_arena.specs.arena.Arena.{HasRoom}
+use Rattle.art_operations.proofs.NewNodes.{fewer}
+use Rattle.art_map.specs.Asked.{with_pairs_put}
+use Rattle.art_map.proofs.map.TreeMap.put_pairs.Goals as goal
+
+pub unreachable-requires : goal.unreachable-requires
+unreachable-requires g c =
+    let long = ap length c.in-Some.ensures.steps in
+    let never = c.in-Err.ensures.succeeds (fewer c.loop-key.self.nodes 2 (2 * length c.loop-key.pairs) (omega (arith, long)) c.loop-key.invariant.room) in
+    absurd (cc)
+
+pub loop-key-preserved : goal.loop-key-preserved
+loop-key-preserved g c =
+    let long = ap length c.in-Some.ensures.steps in record {
+      put = ap (with_pairs_put g.K.AsBytes.bytes c.next.new.self) c.in-Ok.ensures.pairs ∙ ap (λ ps. with_pairs_put g.K.AsBytes.bytes ps c.loop-key.self.pairs) (sym c.in-Some.ensures.steps) ∙ c.loop-key.invariant.put;
+      room = c.replace_entry.ensures.room _ (subst (HasRoom c.loop-key.self.nodes) (omega (arith, long)) c.loop-key.invariant.room);
+    }
+
+pub loop-key-preserved-in-Ok : goal.loop-key-preserved-in-Ok
+loop-key-preserved-in-Ok g c =
+    let long = ap length c.in-Some.ensures.steps in record {
+      put = ap (with_pairs_put g.K.AsBytes.bytes c.next.new.self) c.in-Ok.ensures.pairs ∙ ap (λ ps. with_pairs_put g.K.AsBytes.bytes ps c.loop-key.self.pairs) (sym c.in-Some.ensures.steps) ∙ c.loop-key.invariant.put;
+      room = c.replace_entry.ensures.room _ (subst (HasRoom c.loop-key.self.nodes) (omega (arith, long)) c.loop-key.invariant.room);
+    }
