@@ -6,6 +6,7 @@
 
 mod iterators;
 mod merges;
+mod operators;
 mod set;
 
 pub use iterators::extract_if::ExtractIf;

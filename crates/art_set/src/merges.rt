@@ -7,11 +7,10 @@ ghost use Rattle.art_set.specs.Merges.{GivesNext, difference_of, intersection_of
 mod peeked;
 mod sides;
 
-use crate::merges::sides::Wanted;
 use art_arena::NodeArena;
 use art_bytes::OrderedBytes;
 pub(crate) use peeked::Peeked;
-pub(crate) use sides::Sides;
+pub(crate) use sides::{Sides, Wanted};
 use std::iter::FusedIterator;
 use std::marker::Model;
 
