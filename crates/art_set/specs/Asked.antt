@@ -25,7 +25,8 @@ module _ {K F : Type 0} (T : F → K → Bool → F → Type 0) where
 
   -- Q holds at each key, of f as the calls at those before have left it
   pub record CallableOnEachKey (Q : F → K → Type 0) (f : F) (keys : List K) : Type 0 where
-    pub at : (before after : List K) (f' : F) (k : K) → keys ≡ before ++ k ∷ after → FoldsTo SomeCallAt f before f' → Q f' k
+    pub at : (before after : List K) (f' : F) (k : K) → keys ≡ before ++ k ∷ after → FoldsTo SomeCallAt f before f'
+        → Q f' k
 
   -- f was called at each key in turn, as where keys are retained, up to k. Of that one it said false, and yet it stays,
   -- and so do those behind it
@@ -33,7 +34,8 @@ module _ {K F : Type 0} (T : F → K → Bool → F → Type 0) where
   StopsAt f [] k new = ⊥
   StopsAt f (x ∷ xs) k new =
       (b : Bool) × (f' : F) × T f x b f'
-      × (((b ≡ false) × (k ≡ x) × (new ≡ x ∷ xs)) ⊎ ((rest : List K) × StopsAt f' xs k rest × (new ≡ cond b (x ∷ rest) rest)))
+      × (((b ≡ false) × (k ≡ x) × (new ≡ x ∷ xs))
+      ⊎ ((rest : List K) × StopsAt f' xs k rest × (new ≡ cond b (x ∷ rest) rest)))
 
   -- a call of f at the key k answered b, and left f' and the key
   abbrev pub AnswersAt : F → K → Bool → F → K → Type 0
@@ -76,4 +78,5 @@ module _ {K F : Type 0} {P : ℕ} {g : as_bytes.Ghosts K} where
     -- one call of an extraction
     abbrev pub ExtractsIf : {E : Type 0} → ExtractIf K F P g → Option (Result K E) → ExtractIf K F P g → Type 0
     ExtractsIf s r t =
-        ((extract_map t).ghost_name ≡ (extract_map s).ghost_name) × Extracts (CalledAt f) g.bytes (asking s) r (asking t)
+        ((extract_map t).ghost_name ≡ (extract_map s).ghost_name)
+        × Extracts (CalledAt f) g.bytes (asking s) r (asking t)

@@ -1,4 +1,4 @@
-//! The keys of two sets, walked side by side: what a set has alone, what both have in common, and what they have together.
+//! The keys of two sets, walked side by side: what a set has alone, what both have in common, what they have together.
 //! Each is a walk forward, ascending by the bytes of the keys, that counts its comparisons.
 ghost use Rattle.std.specs.Prelude.{◌≡◌, ◌+◌, length};
 ghost use Rattle.std.specs.Iterator.{at_most};
@@ -189,8 +189,8 @@ impl<'a, K: OrderedBytes, const PREFIX_LEN: usize> Iterator for Intersection<'a,
 impl<'a, K: OrderedBytes, const PREFIX_LEN: usize> FusedIterator
     for Intersection<'a, K, PREFIX_LEN> {}
 
-/// The keys that one of two sets has or both have. Of a key that both have it is the first set's, ascending by their bytes. It is seen as the list of
-/// those still to come, with the number of comparisons made.
+/// The keys that one of two sets has or both have, ascending by their bytes. Of a key that both have it is the first
+/// set's. It is seen as the list of those still to come, with the number of comparisons made.
 #[derive(Drop)]
 pub struct Union<
     'a,

@@ -36,8 +36,9 @@ fn collected<K: OrderedBytes + NoPrefixesBytes + Clone + Drop, const PREFIX_LEN:
     Ok(set)
 }
 
-/// The keys that both sets have, as this one has them. It is refused where a key can't be cloned, or where there is no memory for it. The answer is promised where
-/// a clone of a key equals it.
+/// The keys that both sets have, as this one has them. It is refused
+/// where a key can't be cloned, or where there is no memory for it. The answer is promised where a clone of a key
+/// equals it.
 impl<'a, 'b, K: OrderedBytes + NoPrefixesBytes + Clone + Drop, const PREFIX_LEN: usize> BitAnd<
     &'b TreeSet<K, PREFIX_LEN>,
 > for &'a TreeSet<K, PREFIX_LEN> {
@@ -59,8 +60,9 @@ impl<'a, 'b, K: OrderedBytes + NoPrefixesBytes + Clone + Drop, const PREFIX_LEN:
     }
 }
 
-/// The keys of this set, and those of the other that it lacks. It is refused where a key can't be cloned, or where there is no memory for it. The answer is promised where
-/// a clone of a key equals it.
+/// The keys of this set, and those of the other that it lacks. It is refused
+/// where a key can't be cloned, or where there is no memory for it. The answer is promised where a clone of a key
+/// equals it.
 impl<'a, 'b, K: OrderedBytes + NoPrefixesBytes + Clone + Drop, const PREFIX_LEN: usize> BitOr<
     &'b TreeSet<K, PREFIX_LEN>,
 > for &'a TreeSet<K, PREFIX_LEN> {
@@ -82,8 +84,9 @@ impl<'a, 'b, K: OrderedBytes + NoPrefixesBytes + Clone + Drop, const PREFIX_LEN:
     }
 }
 
-/// The keys that one of the sets has and the other lacks. It is refused where a key can't be cloned, or where there is no memory for it. The answer is promised where
-/// a clone of a key equals it.
+/// The keys that one of the sets has and the other lacks. It is refused
+/// where a key can't be cloned, or where there is no memory for it. The answer is promised where a clone of a key
+/// equals it.
 impl<'a, 'b, K: OrderedBytes + NoPrefixesBytes + Clone + Drop, const PREFIX_LEN: usize> BitXor<
     &'b TreeSet<K, PREFIX_LEN>,
 > for &'a TreeSet<K, PREFIX_LEN> {
@@ -105,8 +108,9 @@ impl<'a, 'b, K: OrderedBytes + NoPrefixesBytes + Clone + Drop, const PREFIX_LEN:
     }
 }
 
-/// The keys that the other set lacks. It is refused where a key can't be cloned, or where there is no memory for it. The answer is promised where
-/// a clone of a key equals it.
+/// The keys that the other set lacks. It is refused
+/// where a key can't be cloned, or where there is no memory for it. The answer is promised where a clone of a key
+/// equals it.
 impl<'a, 'b, K: OrderedBytes + NoPrefixesBytes + Clone + Drop, const PREFIX_LEN: usize> Sub<
     &'b TreeSet<K, PREFIX_LEN>,
 > for &'a TreeSet<K, PREFIX_LEN> {

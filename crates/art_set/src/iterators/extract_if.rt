@@ -86,8 +86,8 @@ impl<K: AsBytes, const PREFIX_LEN: usize> TreeSet<K, PREFIX_LEN> {
     /// The keys between two bounds, by their bytes, and for which the closure says true: they leave the set one by one
     /// as they are asked for. The bounds' keys need not be stored.
     ///
-    /// Where the set has a key, the bounds have to be valid, as `bounds_are_valid` tells. The closure has to be callable
-    /// on each key of the range, in whatever state its earlier calls leave it. It takes no memory.
+    /// Where the set has a key, the bounds have to be valid, as `bounds_are_valid` tells. The closure has to be
+    /// callable on each key of the range, in whatever state its earlier calls leave it. It takes no memory.
     pub fn extract_if<Q: AsBytes, F: FnMut(&K) -> bool>(
         &mut self,
         start: Bound<&Q>,
@@ -98,7 +98,8 @@ impl<K: AsBytes, const PREFIX_LEN: usize> TreeSet<K, PREFIX_LEN> {
             (bound_map (λ key. Q.bytes key.now) end) }
         requires callable { CallableOnEachKey (CalledAt F.FnMut) (TakesAt F.FnMut) pred (keys_between K.bytes
             (bound_map (λ key. Q.bytes key.now) start) (bound_map (λ key. Q.bytes key.now) end) self.old) }
-        ensures* writes_back { sem 𝓛 (lends_keys K.row PREFIX_LEN.row K.AsBytes self.entry (extract_map result).ghost_name) }
+        ensures* writes_back { sem 𝓛 (lends_keys K.row PREFIX_LEN.row K.AsBytes self.entry
+            (extract_map result).ghost_name) }
         ensures keys { (asking result).keys ≡ self.old }
         ensures left { (asking result).left ≡ keys_between K.bytes (bound_map (λ key. Q.bytes key.now) start.entry)
             (bound_map (λ key. Q.bytes key.now) end.entry) self.old }

@@ -1,6 +1,7 @@
 //! Two sets: what one has alone, what both have in common, and what they have together.
 ghost use Rattle.std.specs.Prelude.{◌≡◌, ◌+◌, length};
-ghost use Rattle.art_set.specs.Merges.{AscendsInBytes, difference_of, intersection_of, symmetric_difference_of, union_of, are_disjoint, is_subset_of};
+ghost use Rattle.art_set.specs.Merges.{difference_of, intersection_of, symmetric_difference_of, union_of};
+ghost use Rattle.art_set.specs.Merges.{are_disjoint, is_subset_of, AscendsInBytes};
 
 use crate::merges::{Difference, Intersection, Peeked, Sides, SymmetricDifference, Union};
 use crate::set::TreeSet;
