@@ -42,7 +42,7 @@ module _ {X : Type 0} where
   all-always P h [] = tt
   all-always P h (x ∷ xs) = (h x, all-always P h xs)
 
-  filter-none : (p : X → Bool) (xs : List X) → ((x : X) → p x ≡ false) → filter p xs ≡ []
+  pub filter-none : (p : X → Bool) (xs : List X) → ((x : X) → p x ≡ false) → filter p xs ≡ []
   filter-none p [] h = refl
   filter-none p (x ∷ xs) h = ap (λ b. cond b (x ∷ filter p xs) (filter p xs)) (h x) ∙ filter-none p xs h
 

@@ -1,5 +1,5 @@
 -- A merge of two ascending lists ascends.
-use Rattle.std.proofs.Common.{◌≡◌, ℕ, Bool, true, false, not, cond, ◌||◌, bytes_eq, List, [], ◌∷◌, refl, sym, ap, ◌∙◌, inl, inr}
+use Rattle.std.proofs.Common.{subst, ◌++◌, append_assoc, ◌≡◌, ℕ, Bool, true, false, not, cond, ◌||◌, bytes_eq, List, [], ◌∷◌, refl, sym, ap, ◌∙◌, inl, inr}
 use Rattle.std.specs.Prelude.{filter}
 use Rattle.std.specs.List.{AllByRecursion}
 use Rattle.std.specs.Ordering.{is_eq, is_lt}
@@ -9,9 +9,12 @@ use Rattle.std.proofs.lemmas.Map.Text.{is_eq-slice_cmp}
 use Rattle.art_arena.specs.tree.Order.{AscendsByKey}
 use Rattle.art_bytes.specs.Keys.{BeginsWith, Conflict, IsBefore, bytes_cmp}
 use Rattle.art_bytes.proofs.Order.{before_cmp, cmp_before}
-use Rattle.art_set.specs.Members.{is_member}
+use Rattle.art_arena.proofs.tree.Order.{all_append, all_left}
+use Rattle.art_set.specs.Members.{is_member, with_key_put}
+use Rattle.art_set.specs.inner.Merging.{merged, of_first, of_second}
+use Rattle.art_set.proofs.KeyPuts.{put-last}
 use Rattle.art_set.specs.Merges.{AscendsInBytes, difference_of, intersection_of, joined, put_below, union_of, symmetric_difference_of}
-use Rattle.art_set.proofs.MergeLemmas.{AreAbove, above-below, all-filter, all-joined, all-map, all-put, differs-turned, turned}
+use Rattle.art_set.proofs.MergeLemmas.{AreAbove, above-below, all-filter, all-joined, all-map, all-put, differs-turned, filter-none, turned}
 
 module _ {K : Type 0} (bytes : K → List ℕ) where
   -- keys in the order of a set ascend by their bytes
@@ -99,3 +102,28 @@ module _ {K : Type 0} (bytes : K → List ℕ) where
     ascending-symmetric = ascending-joined (difference_of bytes ys xs) (difference_of bytes xs ys)
         (all-map _ _ (λ z others. all-filter _ _ xs others) (difference_of bytes ys xs) (difference-others ys xs))
         (ascending-part _ ys beside) (ascending-part _ xs up)
+
+  -- of the keys that are wanted of the second list alone the first has others
+  second-others : (first both second : Bool) (xs ys : List K) → AllByRecursion (λ y. AreOthers y xs) (of_second bytes first both second xs ys)
+  second-others first both true xs ys = difference-others ys xs
+  second-others first both false xs ys = subst (AllByRecursion (λ y. AreOthers y xs)) (sym (filter-none _ ys (λ y. refl))) tt
+
+  pub ascending-merged : (first both second : Bool) (xs ys : List K) → AscendsInBytes bytes xs → AscendsInBytes bytes ys → AscendsInBytes bytes (merged bytes first both second xs ys)
+  ascending-merged first both second xs ys up beside = ascending-joined (of_second bytes first both second xs ys) (of_first bytes first both second xs ys)
+      (all-map _ _ (λ z others. all-filter _ _ xs others) (of_second bytes first both second xs ys) (second-others first both second xs ys))
+      (ascending-part _ ys beside) (ascending-part _ xs up)
+
+  pub ascending-left : (xs ys : List K) → AscendsInBytes bytes (xs ++ ys) → AscendsInBytes bytes xs
+  ascending-left [] ys up = tt
+  ascending-left (x ∷ xs) ys up = (all_left (λ y. bytes_cmp (bytes x) (bytes y) ≡ Less) xs ys up.0, ascending-left xs ys up.1)
+
+  -- a key is put in behind keys that come before it
+  pub collected : (is_key : K → Type 0) → ((k l : K) → is_key k → is_key l → BeginsWith (bytes k) (bytes l) → bytes k ≡ bytes l)
+      → (all set rest on : List K) (k c : K) (new : List K) → AscendsInBytes bytes all → AllByRecursion is_key set → set ++ rest ≡ all → rest ≡ k ∷ on → is_key k → c ≡ k → new ≡ with_key_put bytes c set
+      → AllByRecursion is_key new × (new ++ on ≡ all)
+  collected is_key alone all set rest on k c new up are whole next is same put =
+      let more = all_append is_key set (k ∷ []) are (is, tt) in
+      let part : (set ++ k ∷ []) ++ on ≡ all = append_assoc set (k ∷ []) on ∙ ap (λ ks. set ++ ks) (sym next) ∙ whole in
+      let ordered = ascends-by-key is_key alone (set ++ k ∷ []) more (ascending-left (set ++ k ∷ []) on (subst (AscendsInBytes bytes) (sym part) up)) in
+      let made : new ≡ set ++ k ∷ [] = put ∙ ap (λ x. with_key_put bytes x set) same ∙ put-last bytes set k ordered in
+      (subst (AllByRecursion is_key) (sym made) more, ap (λ ks. ks ++ on) made ∙ part)

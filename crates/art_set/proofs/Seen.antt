@@ -1,6 +1,6 @@
 -- A set's keys, from the pairs of the map that holds them.
-use Rattle.std.proofs.Common.{◌≡◌, ◌≢◌, ◌⊎◌, ℕ, ◌≤◌, nat_eq, Bool, true, false, not, ◌||◌, cond, List, [], ◌∷◌, ◌++◌, length, Option, Some, refl, sym, ap, ◌∙◌, subst, inl, inr, arith}
-use Rattle.std.specs.Prelude.{filter, find, is_some}
+use Rattle.std.proofs.Common.{Result, Ok, Err, ◌≡◌, ◌≢◌, ◌⊎◌, ℕ, ◌≤◌, nat_eq, Bool, true, false, not, ◌||◌, cond, List, [], ◌∷◌, ◌++◌, length, Option, Some, refl, sym, ap, ◌∙◌, subst, inl, inr, arith}
+use Rattle.std.specs.Prelude.{IfOk, OnOk, filter, find, is_some}
 use Rattle.std.specs.List.{AllByRecursion, list_any, cons_option}
 use Rattle.std.specs.Map.{keys_of, lookup, lookup_entry}
 use Rattle.std.specs.declared.ops.Bound.{Bound}
@@ -13,11 +13,21 @@ use Rattle.art_arena.specs.tree.Kinds.{IsLimit}
 use Rattle.art_arena.specs.tree.Order.{AscendsByKey}
 use Rattle.art_arena.specs.tree.Shrinks.{Shrinks}
 use Rattle.art_bytes.specs.Keys.{Conflict, IsBefore, common_prefix}
+use Rattle.art_map.specs.Asked.{with_pairs_put}
 use Rattle.art_map.specs.Contents.{first_item, has_bytes, last_item}
 use Rattle.art_map.specs.Ranges.{pairs_between}
 use Rattle.art_operations.specs.KeyedLists.{HasKey, IsBlocked, without_key}
 use Rattle.art_operations.specs.Pairs.{IsAtEnd, ShrinksAtEnd, with_pair_put}
-use Rattle.art_set.specs.Members.{keys_between, option_key, with_key_put, KeyShrinksAtEnd}
+use Rattle.art_set.specs.Members.{keys_between, option_key, with_key_put, with_keys_put, KeyShrinksAtEnd}
+
+-- what follows where it was answered
+pub on-ok : {A E P Q : Type 0} (r : Result A E) → (P → Q) → OnOk r P → OnOk r Q
+on-ok (Ok x) f p = f p
+on-ok (Err e) f p = tt
+
+pub if-ok : {A E : Type 0} (r : Result A E) (P Q : A → Type 0) → ((a : A) → P a → Q a) → IfOk r P → IfOk r Q
+if-ok (Ok x) P Q f p = f x p
+if-ok (Err e) P Q f p = tt
 
 module _ {K V : Type 0} where
   -- look-ups
@@ -59,6 +69,10 @@ module _ {K V : Type 0} where
   pub no-pair-or : {P : Type 0} (ps : List (K × V)) → (keys_of ps ≡ []) ⊎ P → (ps ≡ []) ⊎ P
   no-pair-or ps (inl e) = inl (no-pair ps e)
   no-pair-or ps (inr p) = inr p
+
+  pub no-pair-either : (ps qs : List (K × V)) → (keys_of ps ≡ []) ⊎ (keys_of qs ≡ []) → (ps ≡ []) ⊎ (qs ≡ [])
+  no-pair-either ps qs (inl e) = inl (no-pair ps e)
+  no-pair-either ps qs (inr e) = inr (no-pair qs e)
 
   pub as-many : (ps : List (K × V)) → length (keys_of ps) ≡ length ps
   as-many [] = refl
@@ -106,6 +120,10 @@ module _ {K V : Type 0} (bytes : K → List ℕ) where
 
   pub keys-put : (k : K) (v : V) (ps : List (K × V)) → keys_of (with_pair_put bytes k v ps) ≡ with_key_put bytes k (keys_of ps)
   keys-put k v ps = keys-in-order (k, v) (without_key (key_of bytes) (bytes k) ps) ∙ ap (put_in_order bytes k) (keys-without (bytes k) ps)
+
+  pub keys-put-all : (ps qs : List (K × V)) → keys_of (with_pairs_put bytes ps qs) ≡ with_keys_put bytes (keys_of ps) (keys_of qs)
+  keys-put-all [] qs = refl
+  keys-put-all (p ∷ ps) qs = keys-put-all ps (with_pair_put bytes p.0 p.1 qs) ∙ ap (with_keys_put bytes (keys_of ps)) (keys-put p.0 p.1 qs)
 
   pub between : (start end : Bound (List ℕ)) (ps : List (K × V)) → keys_of (pairs_between bytes start end ps) ≡ keys_between bytes start end (keys_of ps)
   between start end ps = keys-filter _ ps

@@ -1,5 +1,5 @@
 -- What a contract says of a set: it is the list of its keys, which ascend by their bytes.
-use Rattle.std.specs.Prelude.{ℕ, Bool, List, filter, Option, Some, None}
+use Rattle.std.specs.Prelude.{ℕ, Bool, List, [], ◌∷◌, filter, Option, Some, None}
 use Rattle.std.specs.List.{list_any}
 use Rattle.std.specs.BTreeMap.Range.{range_contains}
 use Rattle.std.specs.declared.ops.Bound.{Bound}
@@ -24,6 +24,11 @@ module _ {K : Type 0} (bytes : K → List ℕ) where
   -- the keys with this one at the place of its bytes, where no other stands then
   abbrev pub with_key_put : K → List K → List K
   with_key_put k keys = put_in_order bytes k (without_key bytes (bytes k) keys)
+
+  -- the keys with these put in at the places of their bytes, one after another
+  abbrev pub with_keys_put : List K → List K → List K
+  with_keys_put [] keys = keys
+  with_keys_put (k ∷ ks) keys = with_keys_put ks (with_key_put k keys)
 
   -- those whose bytes are inside the start bound and inside the end bound
   abbrev pub keys_between : Bound (List ℕ) → Bound (List ℕ) → List K → List K

@@ -5,6 +5,8 @@ ghost use Rattle.std.specs.Iterator.SizeHint.{IsWithinCount};
 ghost use Rattle.std.specs.Map.{keys_of};
 ghost use Rattle.std.specs.Map.Iter.{TakesFirst, TakesLast, deref};
 
+pub mod extract_if;
+
 use art_arena::NodeArena;
 use std::alloc::AllocError;
 use std::iter::FusedIterator;

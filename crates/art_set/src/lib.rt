@@ -6,8 +6,10 @@
 
 mod iterators;
 mod merges;
+mod operators;
 mod set;
 
+pub use iterators::extract_if::ExtractIf;
 pub use iterators::{IntoIter, Iter, Range};
 pub use merges::{Difference, Intersection, SymmetricDifference, Union};
 pub use set::TreeSet;

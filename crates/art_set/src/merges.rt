@@ -1,4 +1,4 @@
-//! The keys of two sets, walked side by side: what a set has alone, what both have in common, and what they have together.
+//! The keys of two sets, walked side by side: what a set has alone, what both have in common, what they have together.
 //! Each is a walk forward, ascending by the bytes of the keys, that counts its comparisons.
 ghost use Rattle.std.specs.Prelude.{◌≡◌, ◌+◌, length};
 ghost use Rattle.std.specs.Iterator.{at_most};
@@ -7,11 +7,10 @@ ghost use Rattle.art_set.specs.Merges.{GivesNext, difference_of, intersection_of
 mod peeked;
 mod sides;
 
-use crate::merges::sides::Wanted;
 use art_arena::NodeArena;
 use art_bytes::OrderedBytes;
 pub(crate) use peeked::Peeked;
-pub(crate) use sides::Sides;
+pub(crate) use sides::{Sides, Wanted};
 use std::iter::FusedIterator;
 use std::marker::Model;
 
@@ -190,8 +189,8 @@ impl<'a, K: OrderedBytes, const PREFIX_LEN: usize> Iterator for Intersection<'a,
 impl<'a, K: OrderedBytes, const PREFIX_LEN: usize> FusedIterator
     for Intersection<'a, K, PREFIX_LEN> {}
 
-/// The keys that one of two sets has or both have. Of a key that both have it is the first set's, ascending by their bytes. It is seen as the list of
-/// those still to come, with the number of comparisons made.
+/// The keys that one of two sets has or both have, ascending by their bytes. Of a key that both have it is the first
+/// set's. It is seen as the list of those still to come, with the number of comparisons made.
 #[derive(Drop)]
 pub struct Union<
     'a,

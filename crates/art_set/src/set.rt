@@ -2,7 +2,10 @@
 ghost use Rattle.std.specs.Prelude.{◌≡◌, ◌==◌, [], length};
 
 mod algebra;
+pub mod bulk;
 mod changes;
+mod compared;
+mod joins;
 mod lookups;
 pub mod refused;
 mod removals;
@@ -17,7 +20,8 @@ use std::marker::Model;
 /// A set whose keys are seen as bytes, and ascend by them. No key is a front of another.
 #[derive(Drop)]
 pub struct TreeSet<K: AsBytes, const PREFIX_LEN: usize> {
-    map: TreeMap<K, (), PREFIX_LEN>,
+    pub(crate) alloc: Global,
+    pub(crate) map: TreeMap<K, (), PREFIX_LEN>,
 }
 
 impl<K: AsBytes, const PREFIX_LEN: usize> Model for TreeSet<K, PREFIX_LEN> {
@@ -44,6 +48,7 @@ impl<K: AsBytes, const PREFIX_LEN: usize> TreeSet<K, PREFIX_LEN> {
         ensures { result ≡ [] }
     {
         TreeSet {
+            alloc,
             map: TreeMap::with_prefix_len(alloc),
         }
     }

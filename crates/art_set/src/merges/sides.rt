@@ -14,10 +14,10 @@ use std::marker::Model;
 
 /// Which keys a merge gives: those that the first set has alone, those that both have, those that the second has alone.
 #[derive(Clone, Copy)]
-pub(super) struct Wanted {
-    pub(super) first: bool,
-    pub(super) both: bool,
-    pub(super) second: bool,
+pub(crate) struct Wanted {
+    pub(crate) first: bool,
+    pub(crate) both: bool,
+    pub(crate) second: bool,
 }
 
 /// A key of two sets, by which of them have it. Of a key that both have it is the first set's.
@@ -155,7 +155,7 @@ impl<'a, K: OrderedBytes, const PREFIX_LEN: usize> Sides<'a, K, PREFIX_LEN> {
     }
 
     // The next key that is wanted, if one comes.
-    pub(super) fn next_wanted(&mut self, wanted: Wanted) -> Option<&'a K>
+    pub(crate) fn next_wanted(&mut self, wanted: Wanted) -> Option<&'a K>
         ensures takes { TakesFirst deref (merging K.bytes wanted self.old) result (merging K.bytes wanted self.new) }
         ensures compared { IsCompared self.old self.new }
     {

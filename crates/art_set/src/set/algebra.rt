@@ -1,6 +1,7 @@
 //! Two sets: what one has alone, what both have in common, and what they have together.
 ghost use Rattle.std.specs.Prelude.{◌≡◌, ◌+◌, length};
-ghost use Rattle.art_set.specs.Merges.{difference_of, intersection_of, symmetric_difference_of, union_of, are_disjoint, is_subset_of};
+ghost use Rattle.art_set.specs.Merges.{difference_of, intersection_of, symmetric_difference_of, union_of};
+ghost use Rattle.art_set.specs.Merges.{are_disjoint, is_subset_of, AscendsInBytes};
 
 use crate::merges::{Difference, Intersection, Peeked, Sides, SymmetricDifference, Union};
 use crate::set::TreeSet;
@@ -8,10 +9,14 @@ use art_bytes::OrderedBytes;
 
 impl<K: OrderedBytes, const PREFIX_LEN: usize> TreeSet<K, PREFIX_LEN> {
     // The keys of both, side by side.
-    fn beside<'a>(&'a self, other: &'a TreeSet<K, PREFIX_LEN>) -> Sides<'a, K, PREFIX_LEN>
+    pub(crate) fn beside<'a>(
+        &'a self,
+        other: &'a TreeSet<K, PREFIX_LEN>,
+    ) -> Sides<'a, K, PREFIX_LEN>
         ensures first { result.first ≡ self.now }
         ensures second { result.second ≡ other.now }
         ensures comparisons { result.comparisons ≡ 0 }
+        ensures ordered { AscendsInBytes K.bytes result.first × AscendsInBytes K.bytes result.second }
     {
         Sides::new(Peeked::new(self.iter()), Peeked::new(other.iter()))
     }

@@ -1,13 +1,15 @@
 //! Keys are put in.
-ghost use Rattle.std.specs.Prelude.{◌≡◌, List, not, IfErr, IfOk, IsOk, OnErr, OnOk};
+ghost use Rattle.std.specs.Prelude.{◌≡◌, List, find, not, IfErr, IfOk, IsOk, OnErr, OnOk};
 ghost use Rattle.art_operations.specs.KeyedLists.{HasKey, IsBlocked};
 ghost use Rattle.std.specs.Map.{keys_of};
+ghost use Rattle.art_map.specs.Contents.{has_bytes};
 ghost use Rattle.art_map.specs.Changes.{IsTryRefused as IsPairRefused};
 ghost use Rattle.art_set.specs.Changes.{IsTryRefused};
 ghost use Rattle.art_set.specs.Members.{is_member, with_key_put};
 
 use crate::set::TreeSet;
 use crate::set::refused::RefusedKey;
+use crate::set::removals::key_of;
 use art_bytes::{AsBytes, NoPrefixesBytes};
 use art_map::{TryInsertError, TryKeyError};
 
@@ -65,5 +67,23 @@ impl<K: NoPrefixesBytes, const PREFIX_LEN: usize> TreeSet<K, PREFIX_LEN> {
             Err(refused) => return Err(RefusedKey { key: refused.key }),
         };
         Ok(old.is_none())
+    }
+
+    /// Puts a key in, in the place of the one with the same bytes if there is one, and answers that one.
+    ///
+    /// It is refused only where there is no memory. The key is handed back, and the set is as it was. A key whose bytes
+    /// are stored is never refused.
+    pub fn replace(&mut self, key: K) -> Result<Option<K>, RefusedKey<K>>
+        ensures old { IfOk result (λ old. old ≡ find (has_bytes K.bytes (K.bytes key)) self.old) }
+        ensures keys { OnOk result (self.new ≡ with_key_put K.bytes key self.old) }
+        ensures stored { HasKey K.bytes (K.bytes key) self.old → IsOk result }
+        ensures err { OnErr result (self.new ≡ self.old) }
+        ensures handed_back { IfErr result (λ refused. refused.key ≡ key) }
+    {
+        let old = match self.map.replace_entry(key, ()) {
+            Ok(old) => old,
+            Err(refused) => return Err(RefusedKey { key: refused.key }),
+        };
+        Ok(key_of(old))
     }
 }

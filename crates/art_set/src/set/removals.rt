@@ -11,7 +11,7 @@ use art_bytes::AsBytes;
 use std::alloc::AllocError;
 
 // The key of a pair.
-fn key_of<K>(pair: Option<(K, ())>) -> Option<K>
+pub(super) fn key_of<K>(pair: Option<(K, ())>) -> Option<K>
     ensures { result ≡ option_key pair }
 {
     match pair {

@@ -55,7 +55,7 @@ impl<K: AsBytes + Drop, const PREFIX_LEN: usize> IntoIterator for TreeSet<K, PRE
     ghost into_iter_gives = { λ s r. r ≡ s };
 
     fn into_iter(self) -> IntoIter<K, PREFIX_LEN> {
-        let TreeSet { map } = self;
+        let TreeSet { alloc: _, map } = self;
         IntoIter::new(map.into_keys())
     }
 }

@@ -1,0 +1,80 @@
+-- What the extraction of a map's pairs tells of a set's keys.
+use Rattle.std.proofs.Common.{◌≡◌, ℕ, ◌≤◌, Bool, true, List, [], ◌∷◌, length, drop, Some, None, Result, Ok, Err, refl, sym, ap, ◌∙◌, subst, arith}
+use Rattle.std.specs.Prelude.{IfOk, OnErr, filter, is_ok}
+use Rattle.std.specs.Map.{keys_of}
+use Rattle.art_arena.specs.arena.Shapes.{key_of}
+use Rattle.art_arena.specs.tree.Shrinks.{Shrinks}
+use Rattle.art_bytes.specs.declared.as_bytes.AsBytes as as_bytes
+use Rattle.art_map.specs.Contents.{first_item}
+use Rattle.art_map.specs.Extractions.{left_of, map_of}
+use Rattle.art_map.specs.declared.map.extraction.Extraction.{Extraction}
+use Rattle.art_operations.specs.KeyedLists.{without_key}
+use Rattle.art_set.specs.Asked.{Asking, CallableOnEachKey}
+use Rattle.art_set.proofs.AskedKeys.{callable-none}
+use Rattle.art_set.proofs.Seen.{keys-without, shrinking}
+
+module _ {K V : Type 0} where
+  -- the first key, and those behind it
+  pub first-left : (p : K × V) (ps : List (K × V)) → Some p ≡ first_item ps → keys_of ps ≡ p.0 ∷ keys_of (drop 1 ps)
+  first-left p [] e = absurd (cc)
+  first-left p (q ∷ ps) e = let same : q ≡ p = cc in ap (λ (x : K × V). x.0 ∷ keys_of ps) same
+
+  pub none-first : (ps : List (K × V)) → None ≡ first_item ps → keys_of ps ≡ []
+  none-first [] e = refl
+  none-first (p ∷ ps) e = absurd (cc)
+
+  -- and once the first pair was left behind
+  pub first-passed : (k : K) (ps qs : List (K × V)) → keys_of ps ≡ k ∷ keys_of (drop 1 ps) → ((p : K × V) × (ps ≡ p ∷ qs)) → keys_of ps ≡ k ∷ keys_of qs
+  first-passed k ps qs e (p, f) = e ∙ ap (λ xs. k ∷ keys_of (drop 1 xs)) f
+
+  same-first : (k : K) (p : K × V) (ps qs : List (K × V)) → keys_of ps ≡ k ∷ keys_of (drop 1 ps) → ps ≡ p ∷ qs → p.0 ≡ k
+  same-first k p ps qs e f =
+      let g : p.0 ∷ keys_of qs ≡ k ∷ keys_of (drop 1 ps) = sym (ap keys_of f) ∙ e in
+      let h : p.0 ≡ k = cc in h
+
+  pub all-between : (ps : List (K × V)) → filter (λ p. true) ps ≡ ps
+  all-between [] = refl
+  all-between (p ∷ ps) = ap (λ qs. p ∷ qs) (all-between ps)
+
+  module _ (bytes : K → List ℕ) {E : Type 0} (k : K) (old new ps qs : List (K × V)) (first : keys_of old ≡ k ∷ keys_of (drop 1 old)) where
+    -- the first pair was taken out, and its key is answered
+    pub taken-key : (r : Result (K × V) E) (a : Result K E) → IfOk a (λ l. IfOk r (λ p. p.0 ≡ l)) → is_ok a ≡ is_ok r
+        → IfOk r (λ p. old ≡ p ∷ new) → IfOk r (λ p. qs ≡ without_key (key_of bytes) (bytes p.0) ps)
+        → IfOk a (λ l. (l ≡ k) × (keys_of qs ≡ without_key bytes (bytes k) (keys_of ps)) × (keys_of new ≡ keys_of (drop 1 old)))
+    taken-key r (Err e) key told left pairs = tt
+    taken-key (Err e) (Ok l) key told left pairs = absurd (cc)
+    taken-key (Ok p) (Ok l) key told left pairs =
+        let same = same-first k p old new first left in (
+          sym key ∙ same,
+          ap keys_of pairs ∙ keys-without bytes (bytes p.0) ps ∙ ap (λ x. without_key bytes (bytes x) (keys_of ps)) same,
+          sym (ap (λ xs. keys_of (drop 1 xs)) left),
+        )
+
+    -- or that was refused
+    pub refused-key : (r : Result (K × V) E) (a : Result K E) → is_ok a ≡ is_ok r → OnErr r ((new ≡ []) × (qs ≡ ps))
+        → OnErr r ((p : K × V) × (rest : List (K × V)) × (old ≡ p ∷ rest) × Shrinks (key_of bytes) ps (bytes p.0))
+        → OnErr a ((keys_of qs ≡ keys_of ps) × (keys_of new ≡ []) × Shrinks bytes (keys_of ps) (bytes k))
+    refused-key r (Ok l) told err shrinks = tt
+    refused-key (Ok p) (Err e) told err shrinks = absurd (cc)
+    refused-key (Err f) (Err e) told err (p, rest, left, shrinks) = (
+      ap keys_of err.1,
+      ap keys_of err.0,
+      subst (λ x. Shrinks bytes (keys_of ps) (bytes x)) (same-first k p old rest first left) (shrinking bytes (bytes p.0) ps shrinks),
+    )
+
+    -- no more are then left than behind it, of which the closure may be asked
+    pub fewer-left : {F : Type 0} (T : F → K → Bool → F → Type 0) (Q : F → K → Type 0) (f : F) → CallableOnEachKey T Q f (keys_of (drop 1 old))
+        → (r : Result (K × V) E) → IfOk r (λ p. old ≡ p ∷ new) → OnErr r ((new ≡ []) × (qs ≡ ps))
+        → CallableOnEachKey T Q f (keys_of new) × (length (keys_of new) ≤ length (keys_of (drop 1 old)))
+    fewer-left T Q f can (Ok p) left err =
+        let same : keys_of (drop 1 old) ≡ keys_of new = ap (λ xs. keys_of (drop 1 xs)) left in
+        let len = ap length same in
+        (subst (CallableOnEachKey T Q f) same can, omega (arith, len))
+    fewer-left T Q f can (Err e) left err =
+        let none : keys_of new ≡ [] = ap keys_of err.0 in
+        let len = ap length none in
+        (callable-none T Q f (keys_of new) none, omega (arith, len))
+
+-- the keys of a set's map, those that are left, and this closure
+abbrev pub asking_by : {K F : Type 0} {P : ℕ} {g : as_bytes.Ghosts K} → Extraction K (Unit {0}) P g → F → Asking K F
+asking_by e f = record { keys = keys_of (map_of e).now.pairs; left = keys_of (left_of e); asks = f }

@@ -1,0 +1,68 @@
+-- Many keys that are put in, one after another.
+use Rattle.std.proofs.Common.{◌≡◌, ℕ, List, [], ◌∷◌, ◌++◌, map, Option, Some, Ok, Err, Result, IfErr, IfOk, MatchResult, refl, sym, ap, subst, ◌∙◌, map-id}
+use Rattle.std.specs.Iterator.{Drains, Yields, YieldsThen}
+use Rattle.std.specs.Result.{IsErrAnd}
+use Rattle.std.specs.Vec.Iter.{into_iter_items, into_iter_steps}
+use Rattle.std.specs.declared.vec.IntoIter.{IntoIter}
+use Rattle.std.proofs.IntoIterSteps.{All-taken}
+use Rattle.std.proofs.lemmas.List.{append-nil, map-append}
+use Rattle.art_arena.specs.tree.Order.{AscendsByKey}
+use Rattle.art_operations.proofs.KeyedLists.{put_new}
+use Rattle.art_set.specs.Bulk.{ExtendsWith, HandsNextBack, IsMadeOf, IsOfList}
+use Rattle.art_set.specs.Members.{with_key_put, with_keys_put}
+use Rattle.art_set.specs.declared.set.refused.RefusedKey.{RefusedKey}
+
+module _ {K : Type 0} (bytes : K → List ℕ) where
+  -- one more
+  put-more : (xs : List K) (k : K) (old : List K) → with_keys_put bytes (xs ++ k ∷ []) old ≡ with_key_put bytes k (with_keys_put bytes xs old)
+  put-more [] k old = refl
+  put-more (x ∷ xs) k old = put-more xs k (with_key_put bytes x old)
+
+  -- the same of what items show
+  pub put-item : {A : Type 0} (key_of : A → K) (xs : List A) (x : A) (old : List K)
+      → with_keys_put bytes (map key_of (xs ++ x ∷ [])) old ≡ with_key_put bytes (key_of x) (with_keys_put bytes (map key_of xs) old)
+  put-item key_of xs x old = ap (λ ks. with_keys_put bytes ks old) (map-append key_of xs (x ∷ [])) ∙ put-more (map key_of xs) (key_of x) old
+
+  -- a key behind all others is put in there
+  pub put-last : (front : List K) (k : K) → AscendsByKey bytes (front ++ k ∷ []) → with_key_put bytes k front ≡ front ++ k ∷ []
+  put-last front k up = ap (λ ks. with_key_put bytes k ks) (sym (append-nil front)) ∙ sym (put_new bytes k front [] up).new_is
+
+  module _ {U S A : Type 0} (key_of : A → K) (becomes : U → S → Type 0) (steps : S → Option A → S → Type 0) where
+    -- the item that came behind these is handed back
+    pub next-back : (it t u : S) (given : List A) (item : A) (e : RefusedKey K) (k : K) → Yields steps it given t → steps t (Some item) u → key_of item ≡ k → e.key ≡ k
+        → HandsNextBack bytes key_of becomes steps it given e
+    next-back it t u given item e k yielded step is back = (item, u, (t, yielded, step), is ∙ sym back)
+
+    pub extend-refused : (iter : U) (it : S) (given : List A) (old now : List K) (e : RefusedKey K) (r : Result (Unit {0}) (RefusedKey K)) → becomes iter it → now ≡ with_keys_put bytes (map key_of given) old
+        → HandsNextBack bytes key_of becomes steps it given e → IsErrAnd r (λ x. x ≡ e) → ExtendsWith bytes key_of becomes steps iter old r now
+    extend-refused iter it given old now e (Ok x) b put back h = absurd h
+    extend-refused iter it given old now e (Err x) b put back h = (it, given, b, put, subst (HandsNextBack bytes key_of becomes steps it given) (sym h) back)
+
+    pub made-refused : (iter : U) (it : S) (given : List A) (e : RefusedKey K) (r : Result (List K) (RefusedKey K)) → becomes iter it → HandsNextBack bytes key_of becomes steps it given e
+        → IsErrAnd r (λ x. x ≡ e) → IsMadeOf bytes key_of becomes steps iter r
+    made-refused iter it given e (Ok x) b back h = absurd h
+    made-refused iter it given e (Err x) b back h = (it, given, b, subst (HandsNextBack bytes key_of becomes steps it given) (sym h) back)
+
+-- what the iterator of a vector has given is a front of its items
+taken-front : {X Z : Type 0} (s : IntoIter X Z) (xs : List X) (t : IntoIter X Z) → Yields into_iter_steps s xs t → into_iter_items s ≡ xs ++ into_iter_items t
+taken-front s [] t y = ap into_iter_items y
+taken-front s (x ∷ xs) t y = y.1.0 ∙ ap (λ ys. x ∷ ys) (taken-front y.0 xs t y.2)
+
+module _ {K Z : Type 0} (bytes : K → List ℕ) (it : IntoIter K Z) (given items : List K) (has : into_iter_items it ≡ items) where
+  -- what comes of a set that is made of the vector's keys
+  abbrev IsMade : Result (List K) (RefusedKey K) → Type 0
+  IsMade r =
+      MatchResult r (λ made. Drains into_iter_steps it given × (made ≡ with_keys_put bytes (map (λ k. k) given) []))
+      (λ e. (item : K) × (rest : IntoIter K Z) × YieldsThen into_iter_steps it given (Some item) rest × (item ≡ e.key))
+
+  pub vec-made : (r : Result (List K) (RefusedKey K)) → IsMade r → IfOk r (λ made. made ≡ with_keys_put bytes items [])
+  vec-made (Ok made) (drains, put) = put ∙ ap (λ ks. with_keys_put bytes ks []) (map-id given ∙ (All-taken it given drains ∙ has))
+  vec-made (Err e) is = tt
+
+  pub vec-refused : (r : Result (List K) (RefusedKey K)) → IsMade r → IfErr r (IsOfList items)
+  vec-refused (Ok made) is = tt
+  vec-refused (Err e) (item, rest, yielded, told) = (
+    given,
+    into_iter_items rest,
+    sym has ∙ taken-front it given yielded.0 yielded.1 ∙ ap (λ ks. given ++ ks) (yielded.2.0 ∙ ap (λ k. k ∷ into_iter_items rest) told),
+  )

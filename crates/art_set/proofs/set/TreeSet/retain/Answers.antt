@@ -1,0 +1,77 @@
+use Rattle.std.proofs.Common.{true, false, Ok, Err, refl, sym, ap, subst, ◌∙◌}
+use Rattle.std.specs.Fn.{CalledAt, TakesAt}
+use Rattle.std.specs.Map.{keys_of}
+use Rattle.art_arena.specs.tree.Shrinks.{Shrinks}
+use Rattle.art_map.proofs.Asks.{on-err}
+use Rattle.art_map.specs.Extractions.{left_of, map_of}
+use Rattle.art_set.specs.Asked.{StopsAt}
+use Rattle.art_set.proofs.AskedKeys.{callable-next, retained-all, retaining-all, retaining-kept, retaining-stopped, retaining-taken}
+use Rattle.art_set.proofs.AskedPairs.{asking_by, first-left, first-passed, none-first, refused-key, taken-key}
+use Rattle.art_set.proofs.set.TreeSet.retain.Goals as goal
+
+pub loop-key-init : goal.loop-key-init
+loop-key-init g c =
+    let all = c.all_of-keys.ensures in
+    record {
+      same_map = refl;
+      retaining = retaining-all (CalledAt g.F.FnMut) g.K.AsBytes.bytes (TakesAt g.F.FnMut) c.args.keep c.args.self.now (asking_by c.all_of-keys.result c.args.keep) (ap (λ m. keys_of m.pairs) all.same_map.1 ∙ c.self.view_is) (ap keys_of all.left ∙ c.self.view_is) refl c.iter-keys.ensures.ordered c.requires;
+    }
+
+pub keep-requires : goal.keep-requires
+keep-requires g c =
+    let first = first-left (c.in-Some.key.now, c.in-Some.field-0-1.now) (left_of c.loop-key.keys) c.in-Some.ensures in
+    callable-next (CalledAt g.F.FnMut) (TakesAt g.F.FnMut) c.loop-key.keep c.in-Some.key.now (keys_of (left_of c.loop-key.keys)) _ first c.loop-key.invariant.retaining.callable c.in-Some.key refl
+
+pub loop-key-preserved-then-keep : goal.loop-key-preserved-then-keep
+loop-key-preserved-then-keep g c =
+    let s = asking_by c.loop-key.keys c.loop-key.keep in
+    let k = c.in-Some.key.now in
+    let first = first-left (k, c.in-Some.field-0-1.now) (left_of c.loop-key.keys) c.in-Some.ensures in
+    let call : CalledAt g.F.FnMut c.loop-key.keep k true c.keep.new.self = record { shown = c.in-Some.key; shows = refl; called = c.if-keep.ensures } in
+    record {
+      same_map = ap (λ r. r.ghost_name) c.pass_front.ensures.same ∙ c.loop-key.invariant.same_map;
+      retaining = retaining-kept (CalledAt g.F.FnMut) g.K.AsBytes.bytes (TakesAt g.F.FnMut) c.args.keep c.args.self.now s c.loop-key.invariant.retaining k (asking_by c.pass_front.new.self c.keep.new.self)
+          (first-passed k (left_of c.loop-key.keys) (left_of c.pass_front.new.self) first c.pass_front.ensures.left) call (ap (λ r. keys_of r.now.pairs) c.pass_front.ensures.same);
+    }
+
+pub returns-in_err-_pair-clause-refused : goal.returns-in_err-_pair-clause-refused
+returns-in_err-_pair-clause-refused g c =
+    let s = asking_by c.loop-key.keys c.loop-key.keep in
+    let k = c.in-Some.key.now in
+    let old = left_of c.loop-key.keys in
+    let new = left_of c.take_front.new.self in
+    let ps = (map_of c.loop-key.keys).now.pairs in
+    let qs = (map_of c.take_front.new.self).now.pairs in
+    let first = first-left (k, c.in-Some.field-0-1.now) old c.in-Some.ensures in
+    let call : CalledAt g.F.FnMut c.loop-key.keep k false c.keep.new.self = record { shown = c.in-Some.key; shows = refl; called = c.if-keep.ensures } in
+    let refused = refused-key g.K.AsBytes.bytes {E = Unit {0}} k old new ps qs first (Err tt) (Err tt) refl c.in_err-_pair.ensures.err c.in_err-_pair.ensures.shrinks in
+    on-err c.from_residual.result (
+      k,
+      subst (λ ks. StopsAt (CalledAt g.F.FnMut) c.args.keep c.args.self.now k ks) (sym refused.0)
+          (retaining-stopped (CalledAt g.F.FnMut) g.K.AsBytes.bytes (TakesAt g.F.FnMut) c.args.keep c.args.self.now s c.loop-key.invariant.retaining k _ c.keep.new.self first call),
+      subst (λ ks. Shrinks g.K.AsBytes.bytes ks (g.K.AsBytes.bytes k)) (sym refused.0) refused.2,
+    )
+
+pub loop-key-preserved : goal.loop-key-preserved
+loop-key-preserved g c =
+    let s = asking_by c.loop-key.keys c.loop-key.keep in
+    let k = c.in-Some.key.now in
+    let old = left_of c.loop-key.keys in
+    let new = left_of c.take_front.new.self in
+    let ps = (map_of c.loop-key.keys).now.pairs in
+    let qs = (map_of c.take_front.new.self).now.pairs in
+    let first = first-left (k, c.in-Some.field-0-1.now) old c.in-Some.ensures in
+    let call : CalledAt g.F.FnMut c.loop-key.keep k false c.keep.new.self = record { shown = c.in-Some.key; shows = refl; called = c.if-keep.ensures } in
+    let p = c.in_ok-_pair._pair in
+    let kept = c.in_ok-_pair.ensures in
+    let taken = taken-key g.K.AsBytes.bytes {E = Unit {0}} k old new ps qs first (Ok p) (Ok p.0) refl refl kept.left kept.pairs in
+    record {
+      same_map = kept.same_map ∙ c.loop-key.invariant.same_map;
+      retaining = retaining-taken (CalledAt g.F.FnMut) g.K.AsBytes.bytes (TakesAt g.F.FnMut) c.args.keep c.args.self.now s c.loop-key.invariant.retaining k (asking_by c.take_front.new.self c.keep.new.self)
+          (first-passed k old new first (p, kept.left)) call taken.1;
+    }
+
+pub returns-clause-retained : goal.returns-clause-retained
+returns-clause-retained g c =
+    retained-all (CalledAt g.F.FnMut) g.K.AsBytes.bytes (TakesAt g.F.FnMut) c.args.keep c.args.self.now (asking_by c.loop-key.keys c.loop-key.keep) c.loop-key.invariant.retaining
+    (none-first (left_of c.loop-key.keys) c.in_default.ensures)

@@ -1,0 +1,148 @@
+//! `ExtractIf`: the keys of a range that a closure picks, which leave the set; and `retain`.
+ghost use Rattle.std.specs.Prelude.{◌≡◌, ◌⊎◌, [], is_ok, length, IfOk, OnErr, OnOk};
+ghost use Rattle.std.specs.Fn.{CalledAt, TakesAt};
+ghost use Rattle.std.specs.Iterator.{at_most};
+ghost use Rattle.std.specs.List.Retain.{IsFiltered};
+ghost use Rattle.std.specs.Borrow.{sem};
+ghost use Rattle.std.specs.Map.{keys_of};
+ghost use Rattle.std.specs.Range.Bound.{bound_map};
+ghost use Rattle.art_arena.specs.tree.Shrinks.{Shrinks};
+ghost use Rattle.art_walks.specs.Bounds.{AreValidKeyBounds};
+ghost use Rattle.art_map.specs.Extractions.{left_of, map_of};
+ghost use Rattle.art_set.specs.Members.{keys_between};
+
+use crate::set::TreeSet;
+use art_bytes::AsBytes;
+use art_map::{Extraction, TreeMap};
+use std::alloc::AllocError;
+use std::iter::FusedIterator;
+use std::ops::Bound;
+
+// The key of a pair that was taken out.
+fn key_of<K>(pair: Result<(K, ()), AllocError>) -> Result<K, AllocError>
+    ensures ok { IfOk result (λ key. IfOk pair (λ p. p.0 ≡ key)) }
+    ensures told { is_ok result ≡ is_ok pair }
+{
+    match pair {
+        Ok((key, ())) => Ok(key),
+        Err(refused) => Err(refused),
+    }
+}
+
+/// The keys of a range of a set for which a closure says true, which leave the set one by one. The closure is asked of
+/// each key once, in turn: those for which it says false stay.
+///
+/// Where the removal of a key is refused, that is told once, and then nothing more comes. The key stays; keys that were
+/// taken out before are gone, and those that were not asked yet stay. So do these where an `ExtractIf` is dropped.
+#[derive(Drop)]
+pub struct ExtractIf<'a, K: AsBytes, F, const PREFIX_LEN: usize> {
+    extraction: Extraction<'a, K, (), PREFIX_LEN>,
+    pred: F,
+}
+
+impl<'a, K: AsBytes + Drop, F: FnMut(&K) -> bool, const PREFIX_LEN: usize> Iterator
+    for ExtractIf<'a, K, F, PREFIX_LEN> {
+    type Item = Result<K, AllocError>;
+
+    ghost use Rattle.art_set.specs.Asked.{asking, CanExtractIf, ExtractsIf};
+
+    ghost can_next = { CanExtractIf F.FnMut };
+
+    ghost next_gives = { ExtractsIf F.FnMut };
+
+    ghost remaining = { λ walk. at_most (length (asking walk).left) };
+
+    fn next(&mut self) -> Option<Result<K, AllocError>> {
+        while let Some((key, _)) = self.extraction.front_key_value() {
+            if (self.pred)(key) {
+                return Some(key_of(self.extraction.take_front()));
+            }
+            self.extraction.pass_front();
+        }
+        None
+    }
+}
+
+impl<'a, K: AsBytes, F: Drop, const PREFIX_LEN: usize> FusedIterator
+    for ExtractIf<'a, K, F, PREFIX_LEN>
+where
+    ExtractIf<'a, K, F, PREFIX_LEN>: Iterator,
+{}
+
+// All keys of a set's map, to be taken out or left there, each for itself.
+fn all_of<K: AsBytes, const PREFIX_LEN: usize>(
+    map: &mut TreeMap<K, (), PREFIX_LEN>,
+) -> Extraction<'_, K, (), PREFIX_LEN>
+    ensures same_map { ((map_of result).ghost_name ≡ map.entry.ghost_name) × ((map_of result).now ≡ map.old) }
+    ensures left { left_of result ≡ map.old.pairs }
+{
+    map.extraction::<[u8; 0]>(Bound::Unbounded, Bound::Unbounded)
+}
+
+impl<K: AsBytes, const PREFIX_LEN: usize> TreeSet<K, PREFIX_LEN> {
+    ghost use Rattle.art_set.specs.Asked.{asking, extract_map, CallableOnEachKey, CanExtractIf, StopsAt};
+    ghost use Rattle.art_set.specs.Lends.{lends_keys};
+
+    /// The keys between two bounds, by their bytes, and for which the closure says true: they leave the set one by one
+    /// as they are asked for. The bounds' keys need not be stored.
+    ///
+    /// Where the set has a key, the bounds have to be valid, as `bounds_are_valid` tells. The closure has to be
+    /// callable on each key of the range, in whatever state its earlier calls leave it. It takes no memory.
+    pub fn extract_if<Q: AsBytes, F: FnMut(&K) -> bool>(
+        &mut self,
+        start: Bound<&Q>,
+        end: Bound<&Q>,
+        pred: F,
+    ) -> ExtractIf<'_, K, F, PREFIX_LEN>
+        requires valid { (self.old ≡ []) ⊎ AreValidKeyBounds (bound_map (λ key. Q.bytes key.now) start)
+            (bound_map (λ key. Q.bytes key.now) end) }
+        requires callable { CallableOnEachKey (CalledAt F.FnMut) (TakesAt F.FnMut) pred (keys_between K.bytes
+            (bound_map (λ key. Q.bytes key.now) start) (bound_map (λ key. Q.bytes key.now) end) self.old) }
+        ensures* writes_back { sem 𝓛 (lends_keys K.row PREFIX_LEN.row K.AsBytes self.entry
+            (extract_map result).ghost_name) }
+        ensures keys { (asking result).keys ≡ self.old }
+        ensures left { (asking result).left ≡ keys_between K.bytes (bound_map (λ key. Q.bytes key.now) start.entry)
+            (bound_map (λ key. Q.bytes key.now) end.entry) self.old }
+        ensures asks { (asking result).asks ≡ pred }
+        ensures callable { CanExtractIf F.FnMut result }
+    {
+        let map = self.map_mut();
+        ExtractIf {
+            extraction: map.extraction(start, end),
+            pred,
+        }
+    }
+
+    // The set's map, for changes.
+    fn map_mut(&mut self) -> &mut TreeMap<K, (), PREFIX_LEN>
+        ensures* writes_back { sem 𝓛 (lends_keys K.row PREFIX_LEN.row K.AsBytes self.entry result.ghost_name) }
+        ensures keys { keys_of result.now.pairs ≡ self.old }
+    {
+        &mut self.map
+    }
+
+    /// Keeps the keys for which the closure says true. It is asked of each in ascending order, and has to be callable
+    /// there whatever it answered before. The others are dropped.
+    ///
+    /// It is refused where the removal of a key is, as that of `take`. That key then stays, and so do those behind it,
+    /// which were not asked; what was dropped before is gone.
+    pub fn retain<F: FnMut(&K) -> bool>(&mut self, mut keep: F) -> Result<(), AllocError>
+    where
+        K: Drop,
+        requires { CallableOnEachKey (CalledAt F.FnMut) (TakesAt F.FnMut) keep self.old }
+        ensures retained { OnOk result (IsFiltered (CalledAt F.FnMut) keep self.old self.new) }
+        ensures refused { OnErr result ((key : K) × StopsAt (CalledAt F.FnMut) keep self.old key self.new
+            × Shrinks K.bytes self.new (K.bytes key)) }
+    {
+        let _keys = self.iter();
+        let mut keys = all_of(&mut self.map);
+        while let Some((key, _)) = keys.front_key_value() {
+            if keep(key) {
+                keys.pass_front();
+            } else {
+                let _pair = keys.take_front()?;
+            }
+        }
+        Ok(())
+    }
+}

@@ -1,0 +1,130 @@
+//! `&`, `|`, `^` and `-` of two sets: sets of clones of the keys that a merge gives.
+ghost use Rattle.std.specs.Prelude.{◌≡◌, IfOk};
+ghost use Rattle.art_set.specs.Merges.{AscendsInBytes, difference_of, intersection_of};
+ghost use Rattle.art_set.specs.Merges.{symmetric_difference_of, union_of};
+ghost use Rattle.art_set.specs.inner.Merging.{merging};
+
+use crate::merges::{Sides, Wanted};
+use crate::set::TreeSet;
+use crate::set::bulk::nodes_fit;
+use art_bytes::{NoPrefixesBytes, OrderedBytes};
+use std::alloc::{AllocError, Global};
+use std::ops::{BitAnd, BitOr, BitXor, Sub};
+
+// A set of clones of the keys of two sets that are wanted. It is refused where a key can't be cloned, or where there is
+// no memory for it; what was made is let go of then.
+fn collected<K: OrderedBytes + NoPrefixesBytes + Clone + Drop, const PREFIX_LEN: usize>(
+    alloc: Global,
+    mut sides: Sides<'_, K, PREFIX_LEN>,
+    wanted: Wanted,
+) -> Result<TreeSet<K, PREFIX_LEN>, AllocError>
+    requires { AscendsInBytes K.bytes sides.first × AscendsInBytes K.bytes sides.second }
+    ensures { ((k c : K) → K.is_clone k c → c ≡ k) → IfOk result (λ s. s ≡ merging K.bytes wanted sides.entry) }
+{
+    if !nodes_fit::<PREFIX_LEN>() {
+        return Err(AllocError);
+    }
+    let mut set = TreeSet::with_prefix_len(alloc);
+    while let Some(key) = sides.next_wanted(wanted) {
+        let _known = key.as_bytes();
+        let clone = key.clone()?;
+        match set.insert(clone) {
+            Ok(_) => {}
+            Err(_) => return Err(AllocError),
+        }
+    }
+    Ok(set)
+}
+
+/// The keys that both sets have, as this one has them. It is refused
+/// where a key can't be cloned, or where there is no memory for it. The answer is promised where a clone of a key
+/// equals it.
+impl<'a, 'b, K: OrderedBytes + NoPrefixesBytes + Clone + Drop, const PREFIX_LEN: usize> BitAnd<
+    &'b TreeSet<K, PREFIX_LEN>,
+> for &'a TreeSet<K, PREFIX_LEN> {
+    type Output = Result<TreeSet<K, PREFIX_LEN>, AllocError>;
+
+    ghost bitand_gives = { λ a b r. ((k c : K) → K.is_clone k c → c ≡ k)
+        → IfOk r (λ s. s ≡ intersection_of K.bytes a.now b.now) };
+
+    fn bitand(
+        self,
+        other: &'b TreeSet<K, PREFIX_LEN>,
+    ) -> Result<TreeSet<K, PREFIX_LEN>, AllocError> {
+        let wanted = Wanted {
+            first: false,
+            both: true,
+            second: false,
+        };
+        collected(self.alloc, self.beside(other), wanted)
+    }
+}
+
+/// The keys of this set, and those of the other that it lacks. It is refused
+/// where a key can't be cloned, or where there is no memory for it. The answer is promised where a clone of a key
+/// equals it.
+impl<'a, 'b, K: OrderedBytes + NoPrefixesBytes + Clone + Drop, const PREFIX_LEN: usize> BitOr<
+    &'b TreeSet<K, PREFIX_LEN>,
+> for &'a TreeSet<K, PREFIX_LEN> {
+    type Output = Result<TreeSet<K, PREFIX_LEN>, AllocError>;
+
+    ghost bitor_gives = { λ a b r. ((k c : K) → K.is_clone k c → c ≡ k)
+        → IfOk r (λ s. s ≡ union_of K.bytes a.now b.now) };
+
+    fn bitor(
+        self,
+        other: &'b TreeSet<K, PREFIX_LEN>,
+    ) -> Result<TreeSet<K, PREFIX_LEN>, AllocError> {
+        let wanted = Wanted {
+            first: true,
+            both: true,
+            second: true,
+        };
+        collected(self.alloc, self.beside(other), wanted)
+    }
+}
+
+/// The keys that one of the sets has and the other lacks. It is refused
+/// where a key can't be cloned, or where there is no memory for it. The answer is promised where a clone of a key
+/// equals it.
+impl<'a, 'b, K: OrderedBytes + NoPrefixesBytes + Clone + Drop, const PREFIX_LEN: usize> BitXor<
+    &'b TreeSet<K, PREFIX_LEN>,
+> for &'a TreeSet<K, PREFIX_LEN> {
+    type Output = Result<TreeSet<K, PREFIX_LEN>, AllocError>;
+
+    ghost bitxor_gives = { λ a b r. ((k c : K) → K.is_clone k c → c ≡ k)
+        → IfOk r (λ s. s ≡ symmetric_difference_of K.bytes a.now b.now) };
+
+    fn bitxor(
+        self,
+        other: &'b TreeSet<K, PREFIX_LEN>,
+    ) -> Result<TreeSet<K, PREFIX_LEN>, AllocError> {
+        let wanted = Wanted {
+            first: true,
+            both: false,
+            second: true,
+        };
+        collected(self.alloc, self.beside(other), wanted)
+    }
+}
+
+/// The keys that the other set lacks. It is refused
+/// where a key can't be cloned, or where there is no memory for it. The answer is promised where a clone of a key
+/// equals it.
+impl<'a, 'b, K: OrderedBytes + NoPrefixesBytes + Clone + Drop, const PREFIX_LEN: usize> Sub<
+    &'b TreeSet<K, PREFIX_LEN>,
+> for &'a TreeSet<K, PREFIX_LEN> {
+    type Output = Result<TreeSet<K, PREFIX_LEN>, AllocError>;
+
+    ghost sub_gives = { λ a b r. ((k c : K) → K.is_clone k c → c ≡ k)
+        → IfOk r (λ s. s ≡ difference_of K.bytes a.now b.now) };
+
+    fn sub(self, other: &'b TreeSet<K, PREFIX_LEN>) -> Result<TreeSet<K, PREFIX_LEN>, AllocError> {
+        let wanted = Wanted {
+            first: true,
+            both: false,
+            second: false,
+        };
+        collected(self.alloc, self.beside(other), wanted)
+    }
+}
