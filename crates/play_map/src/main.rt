@@ -1,7 +1,7 @@
-// Plays a script of calls of the map, and prints what each answers. Its lines stand in tests/map; what is wanted of
+// Plays a script of calls of the map or of the set, and prints what each answers. Its lines stand in tests/map; what is wanted of
 // them is made from a model apart from the code (tests/maps.py), and the runner that refuses memory opens a window at
 // each line in turn. The first line says which map: `map PREFIX_LEN free` (keys of any bytes) or `map PREFIX_LEN ended`
-// (keys with a zero at the end, so that none is a front of another).
+// (keys with a zero at the end, so that none is a front of another), or `set` for a set of the latter.
 //
 // A line is a word and up to four others, parted by single spaces. Bytes are written in lower case digits, in parts
 // with a point between them, each behind a `*` so many times: `aa*20.01`; `-` is no bytes. A bound is `[` or `(` and
@@ -17,11 +17,13 @@ mod key;
 mod lookups;
 mod prefix_entries;
 mod script;
+mod sets;
 mod two_maps;
 mod walks;
 
 use art_bytes::ZeroEnded;
 use art_map::TreeMap;
+use art_set::TreeSet;
 use key::PlayedKey;
 use script::{Asked, Script};
 use std::io;
@@ -116,6 +118,43 @@ fn ended_16(rt: &(impl Print + AllocGlobal), script: &mut Script) -> io::Result<
     play_ended(rt, script, &mut map, &mut other)
 }
 
+// Plays all lines over two sets.
+fn play_sets<const PREFIX_LEN: usize>(
+    rt: &(impl Print + AllocGlobal),
+    script: &mut Script,
+    set: &mut TreeSet<ZeroEnded, PREFIX_LEN>,
+    other: &mut TreeSet<ZeroEnded, PREFIX_LEN>,
+) -> io::Result<()>
+    requires { PREFIX_LEN ≤ 16 }
+{
+    for _ in 0..u64::MAX {
+        if !script.read()? {
+            break;
+        }
+        let asked = script.asked();
+        sets::answer(rt, set, other, &asked)?;
+    }
+    Ok(())
+}
+
+fn set_0(rt: &(impl Print + AllocGlobal), script: &mut Script) -> io::Result<()> {
+    let mut set: TreeSet<ZeroEnded, 0> = TreeSet::with_prefix_len(rt.alloc());
+    let mut other = TreeSet::with_prefix_len(rt.alloc());
+    play_sets(rt, script, &mut set, &mut other)
+}
+
+fn set_4(rt: &(impl Print + AllocGlobal), script: &mut Script) -> io::Result<()> {
+    let mut set: TreeSet<ZeroEnded, 4> = TreeSet::with_prefix_len(rt.alloc());
+    let mut other = TreeSet::with_prefix_len(rt.alloc());
+    play_sets(rt, script, &mut set, &mut other)
+}
+
+fn set_16(rt: &(impl Print + AllocGlobal), script: &mut Script) -> io::Result<()> {
+    let mut set: TreeSet<ZeroEnded, 16> = TreeSet::new(rt.alloc());
+    let mut other = TreeSet::new(rt.alloc());
+    play_sets(rt, script, &mut set, &mut other)
+}
+
 fn main(rt: HostRuntime) -> io::Result<()> {
     let mut script = Script::new(rt.alloc(), rt.stdin())?;
     if !script.read()? {
@@ -128,6 +167,9 @@ fn main(rt: HostRuntime) -> io::Result<()> {
         "map 0 ended" => ended_0(&rt, &mut script),
         "map 4 ended" => ended_4(&rt, &mut script),
         "map 16 ended" => ended_16(&rt, &mut script),
+        "map 0 set" => set_0(&rt, &mut script),
+        "map 4 set" => set_4(&rt, &mut script),
+        "map 16 set" => set_16(&rt, &mut script),
         _ => println!(rt; "not understood"),
     }
 }

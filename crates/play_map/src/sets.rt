@@ -1,0 +1,312 @@
+// Calls of the set, over two sets of keys with a zero at the end: `swap` exchanges them.
+ghost use Rattle.std.specs.Prelude.{◌≤◌};
+
+use crate::key::PlayedKey;
+use crate::script::{Asked, bound_of};
+use art_bytes::{AsBytes, SliceKey, ZeroEnded};
+use art_set::TreeSet;
+use art_walks::bounds_are_valid;
+use std::alloc::AllocError;
+use std::cmp::Ordering;
+use std::io;
+use std::mem;
+
+// Whether the first byte of a key is even: what closures ask.
+fn is_even(key: &ZeroEnded) -> bool {
+    match key.as_bytes().first() {
+        Some(byte) => *byte % 2 == 0,
+        None => true,
+    }
+}
+
+fn show(rt: &impl Print, key: Option<&ZeroEnded>) -> io::Result<()> {
+    match key {
+        Some(key) => println!(rt; "{:?}", key.as_bytes()),
+        None => println!(rt; "None"),
+    }
+}
+
+fn show_in_list(rt: &impl Print, key: Option<&ZeroEnded>) -> io::Result<()> {
+    match key {
+        Some(key) => print!(rt; "{:?}, ", key.as_bytes()),
+        None => print!(rt; "None, "),
+    }
+}
+
+fn show_taken(rt: &impl Print, taken: Result<Option<ZeroEnded>, AllocError>) -> io::Result<()> {
+    match taken {
+        Ok(Some(key)) => println!(rt; "{:?}", key.as_bytes()),
+        Ok(None) => println!(rt; "None"),
+        Err(_) => println!(rt; "memory"),
+    }
+}
+
+fn show_done(rt: &impl Print, done: bool) -> io::Result<()> {
+    println!(rt; "{}", if done { "done" } else { "memory" })
+}
+
+fn show_keys<const PREFIX_LEN: usize>(
+    rt: &impl Print,
+    set: &TreeSet<ZeroEnded, PREFIX_LEN>,
+    ends: &str,
+) -> io::Result<()> {
+    let mut keys = set.iter();
+    for end in ends.bytes() {
+        print!(rt; "{} ", keys.len())?;
+        let key = if end == b'b' {
+            keys.next_back()
+        } else {
+            keys.next()
+        };
+        show_in_list(rt, key)?;
+    }
+    println!(rt; "end")
+}
+
+fn show_range<const PREFIX_LEN: usize>(
+    rt: &impl Print,
+    set: &TreeSet<ZeroEnded, PREFIX_LEN>,
+    asked: &Asked<'_>,
+) -> io::Result<()> {
+    let (first, second) = (SliceKey(asked.first), SliceKey(asked.second));
+    let start = bound_of(asked.words[0], &first);
+    let end = bound_of(asked.words[1], &second);
+    if !bounds_are_valid(start, end) {
+        return println!(rt; "invalid");
+    }
+    let mut keys = set.range(start, end);
+    for end in asked.words[2].bytes() {
+        let key = if end == b'b' {
+            keys.next_back()
+        } else {
+            keys.next()
+        };
+        show_in_list(rt, key)?;
+    }
+    println!(rt; "end")
+}
+
+// What two sets have, from the front, and whether it took no more comparisons than both have keys.
+macro_rules! show_merge {
+    ($rt:ident, $merge:expr, $most:expr) => {{
+        let mut keys = $merge;
+        for _ in 0..$most {
+            if let Some(key) = keys.next() {
+                show_in_list($rt, Some(key))?;
+            }
+        }
+        println!($rt; "{}", keys.comparisons() <= $most)
+    }};
+}
+
+fn merge<const PREFIX_LEN: usize>(
+    rt: &impl Print,
+    set: &TreeSet<ZeroEnded, PREFIX_LEN>,
+    other: &TreeSet<ZeroEnded, PREFIX_LEN>,
+    call: &str,
+) -> io::Result<()> {
+    let most = set.len().saturating_add(other.len());
+    match call {
+        "difference" => show_merge!(rt, set.difference(other), most),
+        "symmetric_difference" => show_merge!(rt, set.symmetric_difference(other), most),
+        "intersection" => show_merge!(rt, set.intersection(other), most),
+        _ => show_merge!(rt, set.union(other), most),
+    }
+}
+
+// The second set becomes what both have by an operator.
+fn operate<const PREFIX_LEN: usize>(
+    rt: &impl Print,
+    set: &TreeSet<ZeroEnded, PREFIX_LEN>,
+    other: &mut TreeSet<ZeroEnded, PREFIX_LEN>,
+    call: &str,
+) -> io::Result<()>
+    requires { PREFIX_LEN ≤ 16 }
+{
+    let made = match call {
+        "and" => set & &*other,
+        "or" => set | &*other,
+        "xor" => set ^ &*other,
+        _ => set - &*other,
+    };
+    match made {
+        Ok(made) => {
+            *other = made;
+            println!(rt; "done")
+        }
+        Err(_) => println!(rt; "memory"),
+    }
+}
+
+fn extract<const PREFIX_LEN: usize>(
+    rt: &impl Print,
+    set: &mut TreeSet<ZeroEnded, PREFIX_LEN>,
+    asked: &Asked<'_>,
+) -> io::Result<()> {
+    let (first, second) = (SliceKey(asked.first), SliceKey(asked.second));
+    let start = bound_of(asked.words[0], &first);
+    let end = bound_of(asked.words[1], &second);
+    if !bounds_are_valid(start, end) {
+        return println!(rt; "invalid");
+    }
+    let mut keys = set.extract_if(start, end, |key| is_even(key));
+    for _ in asked.words[2].bytes() {
+        match keys.next() {
+            Some(taken) => show_taken(rt, taken.map(Some))?,
+            None => println!(rt; "None")?,
+        }
+    }
+    println!(rt; "end")
+}
+
+// Look-ups, walks and comparisons.
+fn read<const PREFIX_LEN: usize>(
+    rt: &impl Print,
+    set: &TreeSet<ZeroEnded, PREFIX_LEN>,
+    other: &TreeSet<ZeroEnded, PREFIX_LEN>,
+    asked: &Asked<'_>,
+) -> io::Result<bool> {
+    let query = SliceKey(asked.first);
+    match asked.call {
+        "len" => println!(rt; "{} {}", set.len(), set.is_empty())?,
+        "contains" => println!(rt; "{}", set.contains(&query))?,
+        "get" => show(rt, set.get(&query))?,
+        "first" => show(rt, set.first())?,
+        "last" => show(rt, set.last())?,
+        "iter" => show_keys(rt, set, asked.words[0])?,
+        "range" => show_range(rt, set, asked)?,
+        "is_disjoint" => println!(rt; "{}", set.is_disjoint(other))?,
+        "is_subset" => println!(rt; "{}", set.is_subset(other))?,
+        "is_superset" => println!(rt; "{}", set.is_superset(other))?,
+        "difference" | "symmetric_difference" | "intersection" | "union" => {
+            merge(rt, set, other, asked.call)?
+        }
+        "compare" => match set.cmp(other) {
+            Ordering::Less => println!(rt; "less {}", set == other)?,
+            Ordering::Equal => println!(rt; "equal {}", set == other)?,
+            Ordering::Greater => println!(rt; "greater {}", set == other)?,
+        },
+        _ => return Ok(false),
+    }
+    Ok(true)
+}
+
+// Calls that a key is handed in to.
+fn put<const PREFIX_LEN: usize>(
+    rt: &impl Print,
+    set: &mut TreeSet<ZeroEnded, PREFIX_LEN>,
+    key: ZeroEnded,
+    call: &str,
+) -> io::Result<()> {
+    match call {
+        "insert" => match set.insert(key) {
+            Ok(is_new) => println!(rt; "{is_new}"),
+            Err(refused) => println!(rt; "memory {:?}", refused.key.as_bytes()),
+        },
+        "try_insert" => match set.try_insert(key) {
+            Ok(is_new) => println!(rt; "{is_new}"),
+            Err(_) => println!(rt; "memory"),
+        },
+        _ => match set.replace(key) {
+            Ok(Some(old)) => println!(rt; "{:?}", old.as_bytes()),
+            Ok(None) => println!(rt; "None"),
+            Err(refused) => println!(rt; "memory {:?}", refused.key.as_bytes()),
+        },
+    }
+}
+
+// Calls that take keys out.
+fn take<const PREFIX_LEN: usize>(
+    rt: &impl Print,
+    set: &mut TreeSet<ZeroEnded, PREFIX_LEN>,
+    asked: &Asked<'_>,
+) -> io::Result<bool> {
+    let query = SliceKey(asked.first);
+    match asked.call {
+        "clear" => {
+            set.clear();
+            println!(rt; "done")?;
+        }
+        "take" => show_taken(rt, set.take(&query))?,
+        "remove" => match set.remove(&query) {
+            Ok(was_there) => println!(rt; "{was_there}")?,
+            Err(_) => println!(rt; "memory")?,
+        },
+        "pop_first" => show_taken(rt, set.pop_first())?,
+        "pop_last" => show_taken(rt, set.pop_last())?,
+        "retain" => {
+            let kept = set.retain(|key| is_even(key));
+            show_done(rt, kept.is_ok())?;
+        }
+        "extract_if" => extract(rt, set, asked)?,
+        _ => return Ok(false),
+    }
+    Ok(true)
+}
+
+// Calls that make a set.
+fn make<const PREFIX_LEN: usize>(
+    rt: &(impl Print + AllocGlobal),
+    set: &mut TreeSet<ZeroEnded, PREFIX_LEN>,
+    other: &mut TreeSet<ZeroEnded, PREFIX_LEN>,
+    asked: &Asked<'_>,
+) -> io::Result<bool>
+    requires { PREFIX_LEN ≤ 16 }
+{
+    match asked.call {
+        "swap" => {
+            mem::swap(set, other);
+            println!(rt; "done")?;
+        }
+        "append" => {
+            let done = set.append(other);
+            show_done(rt, done.is_ok())?;
+        }
+        "split_off" => match set.split_off(&SliceKey(asked.first)) {
+            Ok(off) => {
+                *other = off;
+                println!(rt; "done")?;
+            }
+            Err(_) => println!(rt; "memory")?,
+        },
+        "clone" => match set.clone() {
+            Ok(copy) => {
+                *other = copy;
+                println!(rt; "done")?;
+            }
+            Err(_) => println!(rt; "memory")?,
+        },
+        "extend" => {
+            let keys = mem::replace(other, TreeSet::with_prefix_len(rt.alloc()));
+            match set.extend(keys) {
+                Ok(()) => println!(rt; "done")?,
+                Err(refused) => println!(rt; "memory {:?}", refused.key.as_bytes())?,
+            }
+        }
+        "and" | "or" | "xor" | "minus" => operate(rt, set, other, asked.call)?,
+        _ => return Ok(false),
+    }
+    Ok(true)
+}
+
+// Answers a line.
+pub fn answer<const PREFIX_LEN: usize>(
+    rt: &(impl Print + AllocGlobal),
+    set: &mut TreeSet<ZeroEnded, PREFIX_LEN>,
+    other: &mut TreeSet<ZeroEnded, PREFIX_LEN>,
+    asked: &Asked<'_>,
+) -> io::Result<()>
+    requires { PREFIX_LEN ≤ 16 }
+{
+    if ["insert", "try_insert", "replace"].contains(&asked.call) {
+        return match ZeroEnded::made(rt.alloc(), asked.first) {
+            Ok(key) => put(rt, set, key, asked.call),
+            Err(_) => println!(rt; "no key"),
+        };
+    }
+    let known = read(rt, set, other, asked)? || take(rt, set, asked)?;
+    if known || make(rt, set, other, asked)? {
+        return Ok(());
+    }
+    println!(rt; "not understood")
+}
