@@ -33,3 +33,4 @@ pub mod Overwriting
 pub mod Changing
 pub mod Listing
 pub mod Finding
+pub mod Isolation
