@@ -34,3 +34,4 @@ pub mod Changing
 pub mod Listing
 pub mod Finding
 pub mod Isolation
+pub mod OwnRefusals

@@ -1,12 +1,14 @@
 -- Laws of the definitions, each proved on a function of `laws`.
 use Rattle.std.specs.Prelude.{◌≡◌, ◌≢◌, ℕ, suc, ◌^◌, ◌<◌, ◌==◌, ◌||◌, ◌&&◌, ◌↔◌, nat_lt, if◌then◌else◌}
 use Rattle.std.specs.Prelude.{Bool, true, false, List, [], ◌∷◌, Option, Some, None, drop, map, flat_map}
+use Rattle.art_arena.specs.tree.Changes.{IsIn}
 use Rattle.art_arena.specs.tree.Tenants.{with_front}
-use Rattle.art_index.specs.Commands.{Request, Command, of_tenant, dump, Spells}
+use Rattle.art_index.specs.Commands.{Request, del, Command, of_tenant, dump, Spells}
 use Rattle.art_index.specs.Reading.{command_of}
 use Rattle.art_bytes.specs.Keys.{is_below, conflicts}
 use Rattle.art_index.specs.Keys.{full_key}
-use Rattle.art_index.specs.Records.{Own, Records, AreRecords, own, with_own}
+use Rattle.art_index.specs.Records.{Own, KeyRecord, Records, AreRecords, no_records, own, with_own}
+use Rattle.art_index.specs.Refusals.{MayRefuse}
 use Rattle.art_index.specs.Words.{line_of}
 use Rattle.art_index.specs.Replies.{own_reply, own_after, command_after, reply_to}
 use Rattle.art_index.specs.Outcome.{is_refused, left_by, records_from}
@@ -114,3 +116,10 @@ TenantsStandAlone = (tenant position : ℕ) (records : Records) (lines : List (L
     ≡ own_replies tenant position (own tenant records) lines refused)
     × (own tenant (records_from position records lines refused)
     ≡ own_at_end tenant position (own tenant records) lines refused)
+
+-- while a tenant has another key, whether the deletion of one may find no memory goes by what it holds alone
+abbrev pub DeletionsGoByOwnKeys : Type 0
+DeletionsGoByOwnKeys = (tenant : ℕ) (key : List ℕ) (records : Records) (other : KeyRecord) → tenant < 2 ^ 32
+    → AreRecords records → IsIn other records.keys → other.tenant ≡ tenant → other.key ≢ key
+    → MayRefuse records (of_tenant tenant (del key))
+    ↔ MayRefuse (with_own tenant (own tenant records) no_records) (of_tenant tenant (del key))

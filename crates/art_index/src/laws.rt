@@ -1,6 +1,6 @@
 //! Laws of the definitions. Each function does nothing, and its contract is the law.
 ghost use Rattle.art_index.specs.Laws.{OwnReadsBack, OthersAreUntouched, OwnIsInPlace, ReadingIsSpelling};
-ghost use Rattle.art_index.specs.Laws.{RequestsLeaveOthers, TenantsStandAlone};
+ghost use Rattle.art_index.specs.Laws.{RequestsLeaveOthers, TenantsStandAlone, DeletionsGoByOwnKeys};
 ghost use Rattle.art_index.specs.Laws.{SpellsOneCommand, FullKeysKeepOrder, FullKeysKeepConflicts, OwnIsBehindFront};
 
 /// What is put in place for a tenant is what it holds then.
@@ -53,4 +53,10 @@ pub fn requests_leave_others()
 /// from what it held, where the same ones are refused.
 pub fn tenants_stand_alone()
     ensures { TenantsStandAlone }
+{}
+
+/// While a tenant has another key, whether the deletion of one may find no memory goes by what it holds alone, as if
+/// there were no other tenant.
+pub fn deletions_go_by_own_keys()
+    ensures { DeletionsGoByOwnKeys }
 {}

@@ -476,6 +476,7 @@ fn call_laws() {
     laws::own_is_behind_front();
     laws::requests_leave_others();
     laws::tenants_stand_alone();
+    laws::deletions_go_by_own_keys();
 }
 
 #[test]
