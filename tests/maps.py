@@ -441,6 +441,195 @@ class Model:
         return "done"
 
 
+class SetModel:
+    """Two sets of keys with a zero at the end, of which the first is asked; `refuse` as in the model of a map."""
+
+    def __init__(self, keys=(), other=(), refuse=None):
+        self.keys, self.other, self.refuse, self.removals = set(keys), set(other), refuse, 0
+
+    def again(self):
+        return SetModel(self.keys, self.other)
+
+    def answer(self, line):
+        call, *words = line.split(" ")
+        return getattr(self, "call_" + call)(*words, *[""] * (4 - len(words)))
+
+    def call_len(self, *_):
+        return f"{len(self.keys)} {str(not self.keys).lower()}"
+
+    def call_contains(self, word, *_):
+        return str(bytes_in(word) in self.keys).lower()
+
+    def call_get(self, word, *_):
+        return shown(bytes_in(word)) if bytes_in(word) in self.keys else "None"
+
+    def call_first(self, *_):
+        return shown(min(self.keys)) if self.keys else "None"
+
+    def call_last(self, *_):
+        return shown(max(self.keys)) if self.keys else "None"
+
+    def told(self, keys, letters, tells_len):
+        keys, told = sorted(keys), ""
+        for letter in letters:
+            told += f"{len(keys)} " * tells_len
+            told += (shown(keys.pop(-1 if letter == "b" else 0)) if keys else "None") + ", "
+        return told + "end"
+
+    def call_iter(self, letters, *_):
+        return self.told(self.keys, letters, True)
+
+    def between(self, start, end):
+        return Model(True, dict.fromkeys(self.keys)).between(start, end)
+
+    def call_range(self, start, end, letters, *_):
+        keys = self.between(start, end)
+        return "invalid" if keys is None else self.told(keys, letters, False)
+
+    def put(self, word):
+        key = bytes_in(word)
+        if 0 in key:
+            return None, False
+        is_new = key + b"\0" not in self.keys
+        self.keys.add(key + b"\0")
+        return key + b"\0", is_new
+
+    def call_insert(self, word, *_):
+        key, is_new = self.put(word)
+        return "no key" if key is None else str(is_new).lower()
+
+    call_try_insert = call_insert
+
+    def call_replace(self, word, *_):
+        key, is_new = self.put(word)
+        return "no key" if key is None else "None" if is_new else shown(key)
+
+    def taken(self, key):
+        """A key that leaves the set, where the removal of it is not the one that finds no memory."""
+        model = Model(True, dict.fromkeys(self.keys), refuse=self.refuse)
+        model.removals = self.removals
+        try:
+            model.extract(key)
+        finally:
+            self.removals = model.removals
+        self.keys.discard(key)
+        return shown(key)
+
+    def call_clear(self, *_):
+        self.keys = set()
+        return "done"
+
+    def call_take(self, word, *_):
+        key = bytes_in(word)
+        if key not in self.keys:
+            return "None"
+        self.keys.discard(key)
+        return shown(key)
+
+    def call_remove(self, word, *_):
+        return "false" if self.call_take(word) == "None" else "true"
+
+    def call_pop_first(self, *_):
+        return self.call_take(min(self.keys).hex()) if self.keys else "None"
+
+    def call_pop_last(self, *_):
+        return self.call_take(max(self.keys).hex()) if self.keys else "None"
+
+    def call_retain(self, *_):
+        for key in sorted(self.keys):
+            try:
+                if key[0] % 2:
+                    self.taken(key)
+            except Refused:
+                return "memory"
+        return "done"
+
+    def call_extract_if(self, start, end, letters, *_):
+        keys, told = self.between(start, end), []
+        if keys is None:
+            return "invalid"
+        keys = [key for key in keys if key[0] % 2 == 0]
+        for _ in letters:
+            try:
+                told.append(self.taken(keys.pop(0)) if keys else "None")
+            except Refused:
+                told.append("memory")
+                keys = []
+        return "\n".join(told + ["end"])
+
+    def merged(self, keys):
+        return "".join(f"{shown(key)}, " for key in sorted(keys)) + "true"
+
+    def call_difference(self, *_):
+        return self.merged(self.keys - self.other)
+
+    def call_symmetric_difference(self, *_):
+        return self.merged(self.keys ^ self.other)
+
+    def call_intersection(self, *_):
+        return self.merged(self.keys & self.other)
+
+    def call_union(self, *_):
+        return self.merged(self.keys | self.other)
+
+    def call_is_disjoint(self, *_):
+        return str(self.keys.isdisjoint(self.other)).lower()
+
+    def call_is_subset(self, *_):
+        return str(self.keys <= self.other).lower()
+
+    def call_is_superset(self, *_):
+        return str(self.keys >= self.other).lower()
+
+    def call_compare(self, *_):
+        mine, others = sorted(self.keys), sorted(self.other)
+        return f"{'less' if mine < others else 'greater' if mine > others else 'equal'} {str(mine == others).lower()}"
+
+    def made(self, keys, other):
+        self.keys, self.other = keys, other
+        return "done"
+
+    def call_swap(self, *_):
+        return self.made(self.other, self.keys)
+
+    def call_append(self, *_):
+        return self.made(self.keys | self.other, set())
+
+    def call_extend(self, *_):
+        moved, self.other = self.other, set()
+        for number, key in enumerate(sorted(moved)):
+            if self.refuse == number + 1:
+                return f"memory {shown(key)}"
+            self.keys.add(key)
+        return "done"
+
+    def call_split_off(self, word, *_):
+        off = {key for key in self.keys if key >= bytes_in(word)}
+        return self.made(self.keys - off, off)
+
+    def call_clone(self, *_):
+        return self.made(self.keys, set(self.keys))
+
+    def call_and(self, *_):
+        return self.made(self.keys, self.keys & self.other)
+
+    def call_or(self, *_):
+        return self.made(self.keys, self.keys | self.other)
+
+    def call_xor(self, *_):
+        return self.made(self.keys, self.keys ^ self.other)
+
+    def call_minus(self, *_):
+        return self.made(self.keys, self.keys - self.other)
+
+
+SET_CALLS = {
+    "len": "", "contains": "s", "get": "s", "first": "", "last": "", "iter": "e", "range": "bbe", "insert": "k",
+    "try_insert": "k", "replace": "k", "clear": "", "take": "s", "remove": "s", "pop_first": "", "pop_last": "",
+    "retain": "", "extract_if": "bbe", "difference": "", "symmetric_difference": "", "intersection": "", "union": "",
+    "is_disjoint": "", "is_subset": "", "is_superset": "", "compare": "", "swap": "", "append": "", "extend": "",
+    "split_off": "s", "clone": "", "and": "", "or": "", "xor": "", "minus": "",
+}  # fmt: skip
 CALLS = {
     "len": "", "is_empty": "", "first_key_value": "", "last_key_value": "", "check": "", "audit": "", "clear": "",
     "pop_first": "", "pop_last": "", "get": "k", "get_key_value": "k", "contains_key": "k", "index": "s",
@@ -452,24 +641,30 @@ CALLS = {
 FREE = {"try_entry": "kn", "prefix_entry": "k", "prefix_or_insert": "kn", "prefix_insert_entry": "kn"}
 ENDED = ["insert", *FILLING, *(f"{it}_entry" for it in FILLING), "insert_entry", "and_modify", "entry_insert"]
 ENDED += ["entry_remove", "entry_remove_entry", "into_mut", "replace_entry"]
-TWO_ENDED = {"swap": "", "split_off": "s", "into_iter": "e", "into_keys": "e", "into_values": "e"}
-TWO_ENDED |= {"append": "", "extend": "", "from_iter": "", "clone": "", "compare": ""}
+ENDED_CALLS = {it: "kn" for it in ENDED}
+ENDED_CALLS |= {"swap": "", "split_off": "s", "into_iter": "e", "into_keys": "e", "into_values": "e"}
+ENDED_CALLS |= {"append": "", "extend": "", "from_iter": "", "clone": "", "compare": ""}
 OFTEN = ("try_insert", "insert", "remove", "pop_last", "insert_entry")
 SELDOM = ("clear", "retain", "extraction", "extract_if", "prefix_insert", "prefix_insert_entry", "prefix_or_insert")
 SELDOM += ("split_off", "into_iter", "into_keys", "into_values", "append", "extend", "from_iter", "clone")
 
 
-def script(seed, is_ended, length):
+def model_of(kind):
+    return SetModel() if kind == "set" else Model(kind == "ended")
+
+
+def script(seed, kind, length):
     """Lines at random, over keys that branch at a width drawn once, behind a front that is drawn once."""
     of = random.Random(seed)
     front = of.choice(("", "", "aa.", "aa*3.", "aa*17.", "aa*40."))
     wide = of.choice((2, 4, 6, 17, 18, 49, 50, 120))
     alphabet = of.sample(range(1, 256), wide)
-    model = Model(is_ended)
+    model = model_of(kind)
 
     def word(kind):
-        if kind == "s" and model.pairs and of.random() < 0.8:
-            return of.choice(model.sorted()).hex() or "-"
+        stored = model.keys if isinstance(model, SetModel) else model.pairs
+        if kind == "s" and stored and of.random() < 0.8:
+            return of.choice(sorted(stored)).hex() or "-"
         if kind in "ks":
             return front + (bytes(of.choices(alphabet, k=of.randint(0, 2 + (wide < 9)))).hex() or "-")
         if kind == "b":
@@ -478,26 +673,27 @@ def script(seed, is_ended, length):
             return str(of.randrange(40))
         return "".join(of.choices("fb" if kind == "e" else "fbpq", k=of.randint(1, 9)))
 
-    more = {**{it: "kn" for it in ENDED}, **TWO_ENDED} if is_ended else FREE
-    calls = {**CALLS, **more}
+    calls = SET_CALLS if kind == "set" else {**CALLS, **(ENDED_CALLS if kind == "ended" else FREE)}
     weights = [of.choice((9, 30)) if it in OFTEN else 0.2 if it in SELDOM else 1 for it in calls]
     lines = []
     for _ in range(length):
         call = of.choices(list(calls), weights)[0]
         lines.append(" ".join([call, *map(word, calls[call])]).rstrip())
         model.answer(lines[-1])
+    if kind == "set":
+        return lines + ["iter " + "f" * (len(model.keys) + 1)]
     return lines + ["check", "iter " + "f" * (len(model.pairs) + 1)]
 
 
 def wanted(kind, lines):
     """What the model answers to a script."""
-    model = Model(kind == "ended")
+    model = model_of(kind)
     return "".join(f"{model.answer(line)}\n" for line in lines)
 
 
 def rows(file):
     """A worked row: what was written down for it is what the model answers too."""
-    kind, lines = ("free", "ended")[file.endswith(".ended.lines")], open(file).read().splitlines()
+    kind, lines = file.split(".")[-2], open(file).read().splitlines()
     written = open(file[: -len("lines")] + "replies").read()
     assert written == wanted(kind, lines), f"{file}: the model answers {wanted(kind, lines)}"
     return kind, lines
@@ -517,14 +713,14 @@ def scripts():
     """Each script with its name, the kind of its keys, and its lines."""
     for file in sorted(glob("tests/maps/*.lines")):
         yield os.path.basename(file), *rows(file)
-    for seed in range(40):
-        kind = ("free", "ended")[seed % 2]
-        yield f"random {seed}", kind, script(seed, kind == "ended", 600)
+    for seed in range(60):
+        kind = ("free", "ended", "set")[seed % 3]
+        yield f"random {seed}", kind, script(seed, kind, 600)
 
 
 def main():
     if sys.argv[1:2] == ["--show"]:
-        print(wanted("ended" if ".ended." in sys.argv[2] else "free", open(sys.argv[2]).read().splitlines()), end="")
+        print(wanted(sys.argv[2].split(".")[-2], open(sys.argv[2]).read().splitlines()), end="")
         return
     word, counts = sys.argv[1] if len(sys.argv) > 1 else "", {True: 0, False: 0}
     for name, kind, lines in scripts():

@@ -10,7 +10,7 @@ Under tests/refuse.c, which says what a window is, it runs
   refused,
 - each of these lines: the line stands twice, and is refused the first time. It must answer `memory` then, and all else
   must be as if it stood once. Only lines that may be refused by the definition may ask for memory.
-- each script of tests/maps, and four that are made at random, line by line likewise, by play_map.
+- each script of tests/maps, and six that are made at random, line by line likewise, by play_map.
 """
 import itertools
 import os
@@ -32,7 +32,8 @@ SEVERAL = {"retain", "extract_if", "extraction", "extend", "from_iter"}
 TAKE_NONE = {"len", "is_empty", "get", "get_key_value", "contains_key", "index", "prefix_get", "prefix_get_key_value"}
 TAKE_NONE |= {"first_key_value", "last_key_value", "get_mut", "prefix_get_mut", "prefix_get_key_value_mut", "clear"}
 TAKE_NONE |= {"iter", "keys", "values", "range", "prefix", "range_mut", "prefix_mut", "iter_mut", "values_mut", "swap"}
-TAKE_NONE |= {"compare", "into_iter", "into_keys", "into_values"}
+TAKE_NONE |= {"compare", "into_iter", "into_keys", "into_values", "contains", "first", "last", "difference", "union"}
+TAKE_NONE |= {"symmetric_difference", "intersection", "is_disjoint", "is_subset", "is_superset"}
 SHIM = os.path.abspath("out/refuse.so")
 word = sys.argv[1] if len(sys.argv) > 1 else ""
 counts, runs = {True: 0, False: 0}, 0
@@ -170,20 +171,24 @@ def played(model, lines):
 def one_call(words, kind, lines, at):
     """A line of a script stands twice, and is refused the first time: all else must be as if it stood once. Of a line
     that takes out several pairs, or puts them in, those before the refused one were, and those behind it were not."""
-    model = maps.Model(kind == "ended")
-    before, held, other = played(model, lines[:at]), model.pairs, model.other
+    model = maps.model_of(kind)
+    before, call = played(model, lines[:at]), lines[at].split(" ")[0]
     twice = "".join(f"{it}\n" for it in [words[1], *lines[: at + 1], *lines[at:]]).encode()
     for label, out, *_ in each_refusal(words[:1], line=at + 2, given=twice):
-        rest, call = out[len(before) :], lines[at].split(" ")[0]
+        rest = out[len(before) :]
         if call in SEVERAL:
             wanted = {}
-            for refuse in range(1, max(len(held), len(other)) + 1):
-                model = maps.Model(kind == "ended", held, other, refuse)
-                wanted.setdefault(played(model, lines[at : at + 1]) + played(model.again(), lines[at:]), refuse)
-            assert rest in wanted, f"{label}: it answers {rest[:300]}"
+            for refuse in range(1, 200):
+                model_of_run = model.again()
+                model_of_run.refuse = refuse
+                told = played(model_of_run, lines[at : at + 1])
+                if b"memory" not in told:
+                    break
+                wanted.setdefault(told + played(model_of_run.again(), lines[at:]), refuse)
+            assert out.startswith(before) and rest in wanted, f"{label}: it answers {rest[:300]}"
             continue
         refusal, _, rest = rest.partition(b"\n")
-        wanted = played(maps.Model(kind == "ended", held, other), lines[at:])
+        wanted = played(model.again(), lines[at:])
         assert re.match(rb"memory\b|no key", refusal) and call not in TAKE_NONE, f"{label}: it answers {refusal}"
         assert out.startswith(before) and rest == wanted, f"{label}: behind it {rest[:300]}, and not {wanted[:300]}"
 
@@ -191,7 +196,7 @@ def one_call(words, kind, lines, at):
 def of_players(by):
     """The scripts of the map, and some more that are made at random."""
     for name, kind, lines in maps.scripts():
-        if name.startswith("random") and int(name.split()[1]) > 3:
+        if name.startswith("random") and int(name.split()[1]) > 5:
             continue
         lines = lines[:60]
         for at in range(len(lines)):

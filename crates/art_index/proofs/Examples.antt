@@ -181,6 +181,22 @@ tenants-in_number_order : told (text (codes "put 256 00 61" ∷ codes "put 1 00 
 unfolding outcome_of whole_lines_of unfinished_line_of reply_to records_after command_of tenant_in bytes_in hex_on_literals digits
 tenants-in_number_order = refl
 
+-- a key takes the place of all that it begins or extends, and is found by a longer one
+keys-put_over_others : told (text (codes "put 3 616262 61" ∷ codes "put 3 62 62" ∷ codes "over 3 6162 6363" ∷ codes "find 3 616263" ∷ codes "list 3 -" ∷ []))
+    ≡ text (codes "new" ∷ codes "new" ∷ codes "over 1" ∷ codes "at 6162 6363" ∷ codes "6162 6363" ∷ codes "62 62" ∷ codes "end 2" ∷ [])
+unfolding outcome_of whole_lines_of unfinished_line_of reply_to records_after command_of tenant_in bytes_in hex_on_literals digits
+keys-put_over_others = refl
+
+keys-deleted : told (text (codes "put 1 0a 61" ∷ codes "del 1 0a" ∷ codes "del 1 0a" ∷ codes "dump" ∷ [])) ≡ text (codes "new" ∷ codes "gone 61" ∷ codes "none" ∷ codes "end 0" ∷ [])
+unfolding outcome_of whole_lines_of unfinished_line_of reply_to records_after command_of tenant_in bytes_in hex_on_literals digits
+keys-deleted = refl
+
+-- bounds may end within a key, and are told where they are not in order
+keys-between_bounds : told (text (codes "put 1 0a 61" ∷ codes "put 1 0b0101 62" ∷ codes "put 1 0c 63" ∷ codes "span 1 0a 0b02" ∷ codes "span 1 0b 0a" ∷ codes "list 1 0b" ∷ []))
+    ≡ text (codes "new" ∷ codes "new" ∷ codes "new" ∷ codes "0a 61" ∷ codes "0b0101 62" ∷ codes "end 2" ∷ codes "bounds" ∷ codes "0b0101 62" ∷ codes "end 1" ∷ [])
+unfolding outcome_of whole_lines_of unfinished_line_of reply_to records_after command_of tenant_in bytes_in hex_on_literals digits
+keys-between_bounds = refl
+
 -- a line of 4096 bytes, and one of 4097 behind it
 long_line-is_bad_once : told (text ((codes "put 1 " ++ replicate 4088 97 ++ codes " -") ∷ (codes "put 10 " ++ replicate 4088 97 ++ codes " -") ∷ codes "get 1 00" ∷ []))
     ≡ text (codes "new" ∷ codes "bad" ∷ codes "none" ∷ [])

@@ -33,3 +33,5 @@ pub mod Overwriting
 pub mod Changing
 pub mod Listing
 pub mod Finding
+pub mod Isolation
+pub mod OwnRefusals

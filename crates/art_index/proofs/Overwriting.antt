@@ -12,7 +12,7 @@ use Rattle.art_arena.proofs.tree.Insert.{all_at}
 use Rattle.art_operations.specs.KeyedLists.{IsBlocked, overlaps, overlapping, without_key, without_overlapping}
 use Rattle.art_index.specs.Keys.{full_key}
 use Rattle.art_index.specs.Records.{KeyRecord, KeyFits, own, with_own}
-use Rattle.art_index.specs.Replies.{overlapped, with_pair, with_pair_over}
+use Rattle.art_index.specs.Replies.{overlapped, with_pair, with_value_over}
 use Rattle.art_index.specs.Stored.{Pair, record_of, records_of, AreFull, ArePairs}
 use Rattle.art_index.proofs.Conflicts.{bytes_of}
 use Rattle.art_index.proofs.Dropping.{All-put}
@@ -96,7 +96,7 @@ module _ (t : ℕ) (k v : List ℕ) (ps new : List Pair) (e : Pair) (are : AreFu
   }
 
   pub over_records : records_of new
-      ≡ with_own t (record { keys = with_pair_over k v (own t (records_of ps)).keys; numbers = (own t (records_of ps)).numbers }) (records_of ps)
+      ≡ with_own t (record { keys = with_value_over k v (own t (records_of ps)).keys; numbers = (own t (records_of ps)).numbers }) (records_of ps)
   over_records =
       let F : List KeyRecord → List (List ℕ × List ℕ) → List KeyRecord → List KeyRecord = λ a b c. a ++ map (key_made t) (with_pair k v b) ++ c in
       let rs : List KeyRecord = map record_of ps in

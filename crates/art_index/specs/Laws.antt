@@ -1,11 +1,17 @@
 -- Laws of the definitions, each proved on a function of `laws`.
-use Rattle.std.specs.Prelude.{◌≡◌, ◌≢◌, ℕ, ◌^◌, ◌<◌, ◌==◌, ◌||◌, ◌&&◌, ◌↔◌, nat_lt, List, [], Some, drop, map}
+use Rattle.std.specs.Prelude.{◌≡◌, ◌≢◌, ℕ, suc, ◌^◌, ◌<◌, ◌==◌, ◌||◌, ◌&&◌, ◌↔◌, nat_lt, if◌then◌else◌}
+use Rattle.std.specs.Prelude.{Bool, true, false, List, [], ◌∷◌, Option, Some, None, drop, map, flat_map}
+use Rattle.art_arena.specs.tree.Changes.{IsIn}
 use Rattle.art_arena.specs.tree.Tenants.{with_front}
-use Rattle.art_index.specs.Commands.{Command, Spells}
+use Rattle.art_index.specs.Commands.{Request, del, Command, of_tenant, dump, Spells}
 use Rattle.art_index.specs.Reading.{command_of}
 use Rattle.art_bytes.specs.Keys.{is_below, conflicts}
 use Rattle.art_index.specs.Keys.{full_key}
-use Rattle.art_index.specs.Records.{Own, Records, AreRecords, own, with_own}
+use Rattle.art_index.specs.Records.{Own, KeyRecord, Records, AreRecords, no_records, own, with_own}
+use Rattle.art_index.specs.Refusals.{MayRefuse}
+use Rattle.art_index.specs.Words.{line_of}
+use Rattle.art_index.specs.Replies.{own_reply, own_after, command_after, reply_to}
+use Rattle.art_index.specs.Outcome.{is_refused, left_by, records_from}
 use Rattle.art_index.specs.Stored.{Pair, AreFull, records_of}
 
 -- what is put in place for a tenant is what it holds then
@@ -47,3 +53,73 @@ OwnIsBehindFront = (tenant : ℕ) (ps : List Pair) → tenant < 2 ^ 32 → AreFu
       keys = map (λ p. (drop 4 p.0.items, p.1.items)) (with_front (λ p. p.0.items) (full_key tenant []) ps);
       numbers = [];
     }
+
+-- the request of a tenant that a line asks for, if it asks for one of this tenant's
+abbrev pub request_to : ℕ → Option Command → Option Request
+request_to tenant None = None
+request_to tenant (Some (of_tenant other request)) = if other == tenant then Some request else None
+request_to tenant (Some dump) = None
+
+-- what a tenant holds after a request of its own
+abbrev pub own_changed : Option Own → Own → Own
+own_changed None mine = mine
+own_changed (Some changed) mine = changed
+
+-- a reply and the ones behind it, where a tenant's request was not refused; else these alone
+abbrev pub with_reply : Bool → Option Request → List ℕ → List (List ℕ) → List (List ℕ)
+with_reply false (Some request) reply rest = reply ∷ rest
+with_reply false None reply rest = rest
+with_reply true request reply rest = rest
+
+-- Of the answers to some lines, the replies to those of a tenant's that are not refused.
+abbrev pub replies_among : ℕ → ℕ → Records → List (List ℕ) → List ℕ → List (List ℕ)
+replies_among tenant position records [] refused = []
+replies_among tenant position records (line ∷ lines) refused =
+    with_reply (is_refused refused position) (request_to tenant (command_of line)) (reply_to records line)
+    (replies_among tenant (suc position) (left_by (is_refused refused position) records line) lines refused)
+
+-- what a tenant holds after a line: what its request leaves, where the line asks for one and is not refused
+abbrev pub own_behind : Bool → Option Request → Own → Own
+own_behind false (Some request) mine = own_changed (own_after request mine) mine
+own_behind false None mine = mine
+own_behind true request mine = mine
+
+-- the reply to a tenant's request, if there is one
+abbrev pub own_told : Option Request → Own → List ℕ
+own_told None mine = []
+own_told (Some request) mine = flat_map line_of (own_reply request mine)
+
+-- The same replies from what the tenant holds alone, and what it holds then: the lines of others are passed over.
+abbrev pub own_replies : ℕ → ℕ → Own → List (List ℕ) → List ℕ → List (List ℕ)
+own_replies tenant position mine [] refused = []
+own_replies tenant position mine (line ∷ lines) refused =
+    with_reply (is_refused refused position) (request_to tenant (command_of line))
+    (own_told (request_to tenant (command_of line)) mine)
+    (own_replies tenant (suc position)
+    (own_behind (is_refused refused position) (request_to tenant (command_of line)) mine) lines refused)
+
+abbrev pub own_at_end : ℕ → ℕ → Own → List (List ℕ) → List ℕ → Own
+own_at_end tenant position mine [] refused = mine
+own_at_end tenant position mine (line ∷ lines) refused =
+    own_at_end tenant (suc position)
+    (own_behind (is_refused refused position) (request_to tenant (command_of line)) mine) lines refused
+
+-- a request of one tenant leaves what all others hold
+abbrev pub RequestsLeaveOthers : Type 0
+RequestsLeaveOthers = (other tenant : ℕ) (request : Request) (records : Records) → other ≢ tenant
+    → own other (command_after (Some (of_tenant tenant request)) records) ≡ own other records
+
+-- whatever others send, the replies to a tenant's lines and what it holds then are those of its lines alone
+abbrev pub TenantsStandAlone : Type 0
+TenantsStandAlone = (tenant position : ℕ) (records : Records) (lines : List (List ℕ)) (refused : List ℕ)
+    → (replies_among tenant position records lines refused
+    ≡ own_replies tenant position (own tenant records) lines refused)
+    × (own tenant (records_from position records lines refused)
+    ≡ own_at_end tenant position (own tenant records) lines refused)
+
+-- while a tenant has another key, whether the deletion of one may find no memory goes by what it holds alone
+abbrev pub DeletionsGoByOwnKeys : Type 0
+DeletionsGoByOwnKeys = (tenant : ℕ) (key : List ℕ) (records : Records) (other : KeyRecord) → tenant < 2 ^ 32
+    → AreRecords records → IsIn other records.keys → other.tenant ≡ tenant → other.key ≢ key
+    → MayRefuse records (of_tenant tenant (del key))
+    ↔ MayRefuse (with_own tenant (own tenant records) no_records) (of_tenant tenant (del key))

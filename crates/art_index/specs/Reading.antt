@@ -28,9 +28,9 @@ some_bytes (Err e) = None
 unfoldable pub bytes_in : List ℕ → Option (List ℕ)
 bytes_in field = if bytes_eq field (codes "-") then Some [] else some_bytes (decode_of field)
 
--- What stands behind a word, by its shape. A prefix is read as a key, two bounds as a key and a value. A number, a number
--- and a value, and two numbers are to be read likewise, with the signed number that a field is read as in the place of
--- bytes.
+-- What stands behind a word, by its shape. A prefix is read as a key, two bounds as a key and a value. A number, a
+-- number and a value, and two numbers are to be read likewise, with the signed number that a field is read as in the
+-- place of bytes.
 
 -- a tenant and a key
 abbrev pub key_in : List (List ℕ) → Option (ℕ × List ℕ)

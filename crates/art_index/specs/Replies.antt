@@ -28,8 +28,8 @@ with_pair key value pairs = filter (λ p. is_below p.0 key) pairs ++ (key, value
 abbrev pub overlapped : List ℕ → List (List ℕ × List ℕ) → List (List ℕ × List ℕ)
 overlapped key pairs = filter (λ p. overlaps key p.0) pairs
 
-abbrev pub with_pair_over : List ℕ → List ℕ → List (List ℕ × List ℕ) → List (List ℕ × List ℕ)
-with_pair_over key value pairs = with_pair key value (filter (λ p. not (overlaps key p.0)) pairs)
+abbrev pub with_value_over : List ℕ → List ℕ → List (List ℕ × List ℕ) → List (List ℕ × List ℕ)
+with_value_over key value pairs = with_pair key value (filter (λ p. not (overlaps key p.0)) pairs)
 
 -- the pairs without the one at a key
 abbrev pub without_pair : List ℕ → List (List ℕ × List ℕ) → List (List ℕ × List ℕ)
@@ -95,7 +95,7 @@ own_after (put key value) mine =
     if puts (value_at key mine.keys) (has_conflict key mine.keys)
     then Some (record { keys = with_pair key value mine.keys; numbers = mine.numbers })
     else None
-own_after (over key value) mine = Some (record { keys = with_pair_over key value mine.keys; numbers = mine.numbers })
+own_after (over key value) mine = Some (record { keys = with_value_over key value mine.keys; numbers = mine.numbers })
 own_after (del key) mine = Some (record { keys = without_pair key mine.keys; numbers = mine.numbers })
 own_after (get key) mine = None
 own_after (find_front key) mine = None

@@ -1,5 +1,6 @@
 //! Laws of the definitions. Each function does nothing, and its contract is the law.
 ghost use Rattle.art_index.specs.Laws.{OwnReadsBack, OthersAreUntouched, OwnIsInPlace, ReadingIsSpelling};
+ghost use Rattle.art_index.specs.Laws.{RequestsLeaveOthers, TenantsStandAlone, DeletionsGoByOwnKeys};
 ghost use Rattle.art_index.specs.Laws.{SpellsOneCommand, FullKeysKeepOrder, FullKeysKeepConflicts, OwnIsBehindFront};
 
 /// What is put in place for a tenant is what it holds then.
@@ -41,4 +42,21 @@ pub fn full_keys_keep_conflicts()
 /// What a tenant holds is what the map has behind the tenant's front, with the front cut off.
 pub fn own_is_behind_front()
     ensures { OwnIsBehindFront }
+{}
+
+/// A request of one tenant leaves what all others hold.
+pub fn requests_leave_others()
+    ensures { RequestsLeaveOthers }
+{}
+
+/// Whatever others send, the replies to a tenant's lines, and what it holds after them, are those of these lines alone
+/// from what it held, where the same ones are refused.
+pub fn tenants_stand_alone()
+    ensures { TenantsStandAlone }
+{}
+
+/// While a tenant has another key, whether the deletion of one may find no memory goes by what it holds alone, as if
+/// there were no other tenant.
+pub fn deletions_go_by_own_keys()
+    ensures { DeletionsGoByOwnKeys }
 {}

@@ -152,8 +152,8 @@ fn write_at<W: Sink>(
         (W.has_failed sink.new) }
 {
     let digits = put_text(room, 0, b"at ");
-    let len = put_pair(room, digits, key, value);
-    write_piece(sink, &room[..len])
+    let end = put_pair(room, digits, key, value);
+    write_piece(sink, &room[..end])
 }
 
 /// The line of what was looked for by a longer key.

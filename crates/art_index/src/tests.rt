@@ -1,6 +1,8 @@
 //! What no clause says: worked lines from outside, however they are cut, and both ends failing at each place.
 ghost use Rattle.std.specs.Prelude.{◌≤◌};
 
+mod rows;
+
 use crate::command::{Command, parse_line};
 use crate::from_reader::FromReader;
 use crate::index::{Index, RunFault};
@@ -472,6 +474,9 @@ fn call_laws() {
     laws::full_keys_keep_order();
     laws::full_keys_keep_conflicts();
     laws::own_is_behind_front();
+    laws::requests_leave_others();
+    laws::tenants_stand_alone();
+    laws::deletions_go_by_own_keys();
 }
 
 #[test]

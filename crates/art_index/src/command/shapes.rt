@@ -1,8 +1,8 @@
 //! What stands behind a word, by its shape: a reader in place for each.
 //!
-//! A prefix is read as a key is, two bounds as a key and a value are. A number, a number and a value and two numbers are
-//! to be read as the readers here do, with a signed number in the place of a key; a tenant alone by the first step of
-//! each.
+//! A prefix is read as a key is, two bounds as a key and a value are. A number, a number and a value and two numbers
+//! are to be read as the readers here do, with a signed number in the place of a key; a tenant alone by the first step
+//! of each.
 ghost use Rattle.std.specs.Prelude.{◌≡◌, ◌+◌, ◌≤◌, ◌∷◌, length, IfSome, IfNone, option_copied};
 ghost use Rattle.art_index.specs.Commands.{fields_of};
 ghost use Rattle.art_index.specs.Reading.{key_in, key_and_value_in};

@@ -1,0 +1,45 @@
+-- Whether a deletion may find no memory goes by the tenant's own keys, while it has another one.
+use Rattle.std.proofs.Common.{◌≡◌, ◌≢◌, ℕ, ◌<◌, ◌^◌, List, [], ◌∷◌, ◌++◌, drop, map, refl, ap, sym, ◌∙◌, subst, Bool, true, false, cond, append-nil}
+use Rattle.std.specs.Prelude.{◌==◌, ◌&&◌, ◌↔◌, filter, IsSome}
+use Rattle.std.specs.List.{AllByRecursion}
+use Rattle.art_bytes.specs.Keys.{BeginsWith}
+use Rattle.art_arena.specs.tree.Changes.{IsIn}
+use Rattle.art_arena.specs.tree.Shrinks.{Shrinks}
+use Rattle.art_arena.specs.tree.Tenants.{begins_with, with_front}
+use Rattle.art_arena.proofs.tree.FrontShrinks.{own_shrinks}
+use Rattle.art_index.specs.Keys.{full_key, full_key_of}
+use Rattle.art_index.specs.Commands.{of_tenant, del}
+use Rattle.art_index.specs.Records.{KeyRecord, KeyFits, Records, no_records, AreRecords, own, with_own}
+use Rattle.art_index.specs.Refusals.{MayRefuse}
+use Rattle.art_index.specs.Replies.{value_at}
+use Rattle.art_index.specs.Laws.{DeletionsGoByOwnKeys}
+use Rattle.art_index.proofs.FullTests.{begins_full}
+use Rattle.art_index.proofs.OwnLaws.{key_part, key_made, made_from_mine, own_reads_back}
+
+own_front : (t : ℕ) → t < 2 ^ 32 → (rs : List KeyRecord) → AllByRecursion KeyFits rs → with_front full_key_of (full_key t []) rs ≡ filter (λ r. r.tenant == t) rs
+own_front t small [] fits = refl
+own_front t small (r ∷ rs) fits = go (begins_with (full_key t []) (full_key_of r)) (r.tenant == t) (begins_full t r.tenant [] r.key small fits.0.tenant_fits) (own_front t small rs fits.1)
+  where
+    go : (a b : Bool) → a ≡ (b && true) → with_front full_key_of (full_key t []) rs ≡ filter (λ s. s.tenant == t) rs
+        → cond a (r ∷ with_front full_key_of (full_key t []) rs) (with_front full_key_of (full_key t []) rs) ≡ cond b (r ∷ filter (λ s. s.tenant == t) rs) (filter (λ s. s.tenant == t) rs)
+    go a true e ih = rw e (ap (λ l. r ∷ l) ih)
+    go a false e ih = rw e ih
+
+-- the tenant's records, as if there were no others
+alone_is : (t : ℕ) (records : Records) → filter (λ r. r.tenant == t) records.keys ≡ (with_own t (own t records) no_records).keys
+alone_is t records =
+    sym (append-nil (map (key_made t) (map key_part (filter (λ r. r.tenant == t) records.keys)))
+    ∙ made_from_mine (λ (x : KeyRecord). x.tenant) key_part key_made (λ t p. refl) (λ t p. refl) (λ x. refl) t records.keys)
+
+pub deletions_go_by_own_keys : DeletionsGoByOwnKeys
+deletions_go_by_own_keys t key records other small are i mine differs =
+    let front : List ℕ = full_key t [] in
+    let same_front : full_key other.tenant other.key ≡ full_key t other.key = ap (λ u. full_key u other.key) mine in
+    let begins : BeginsWith front (full_key_of other) = (other.key, same_front) in
+    let apart : full_key_of other ≢ full_key t key = λ e. differs (ap (drop 4) (sym same_front ∙ e)) in
+    let shrinks = own_shrinks full_key_of front (full_key t key) records.keys (key, refl) other i begins apart in
+    let keys : with_front full_key_of front records.keys ≡ (with_own t (own t records) no_records).keys = own_front t small records.keys are.keys_fit ∙ alone_is t records in
+    let reads : own t (with_own t (own t records) no_records) ≡ own t records = own_reads_back t (own t records) no_records in (
+      λ h. (subst (λ o. IsSome (value_at key o.keys)) (sym reads) h.0, subst (λ rs. Shrinks full_key_of rs (full_key t key)) keys (shrinks.0 h.1)),
+      λ h. (subst (λ o. IsSome (value_at key o.keys)) reads h.0, shrinks.1 (subst (λ rs. Shrinks full_key_of rs (full_key t key)) (sym keys) h.1)),
+    )
