@@ -8,7 +8,7 @@ use Rattle.art_arena.specs.tree.Shrinks.{Shrinks}
 use Rattle.art_bytes.specs.Keys.{IsBefore}
 use Rattle.art_operations.specs.KeyedLists.{without_key}
 use Rattle.art_operations.proofs.KeyedLists.{taken}
-use Rattle.art_set.specs.Asked.{AnswersAt, Asking, CallableOnEachKey, ComesOf, Extracts, StopsAt}
+use Rattle.art_set.specs.Asked.{AnswersForKey, AskingKeys, CallableOnEachKey, KeysComeOf, ExtractsKey, StopsAtKey}
 
 module _ {X : Type 0} (key : X → List ℕ) where
   all-kept : (P : X → Type 0) (p : X → Bool) (xs : List X) → AllByRecursion P xs → AllByRecursion P (filter p xs)
@@ -48,43 +48,43 @@ module _ {K F : Type 0} (T : F → K → Bool → F → Type 0) where
 
   module _ (bytes : K → List ℕ) {E : Type 0} where
     -- where none is left, none is asked
-    pub extracts-none : (s : Asking K F) → s.left ≡ [] → Extracts T bytes {E = E} s None s
+    pub extracts-none : (s : AskingKeys K F) → s.left ≡ [] → ExtractsKey T bytes {E = E} s None s
     extracts-none s none = record {
       picked = None;
       passed = [];
       others = [];
-      asked = subst (λ ks. ExtractsNext (AnswersAt T) s.asks ks None s.asks [] []) (sym none) (refl, refl, refl, refl);
+      asked = subst (λ ks. ExtractsNext (AnswersForKey T) s.asks ks None s.asks [] []) (sym none) (refl, refl, refl, refl);
       comes = (refl, none);
     }
 
     -- the closure was asked of the first key, and a call goes on behind it
-    pub extracts-later : (s m : Asking K F) (k : K) → s.left ≡ k ∷ m.left → T s.asks k false m.asks → m.keys ≡ s.keys
-        → (r : Option (Result K E)) (t : Asking K F) → Extracts T bytes m r t → Extracts T bytes s r t
+    pub extracts-later : (s m : AskingKeys K F) (k : K) → s.left ≡ k ∷ m.left → T s.asks k false m.asks → m.keys ≡ s.keys
+        → (r : Option (Result K E)) (t : AskingKeys K F) → ExtractsKey T bytes m r t → ExtractsKey T bytes s r t
     extracts-later s m k left call keys r t e = record {
       picked = e.picked;
       passed = k ∷ e.passed;
       others = e.others;
-      asked = subst (λ ks. ExtractsNext (AnswersAt T) s.asks ks e.picked t.asks (k ∷ e.passed) e.others) (sym left)
+      asked = subst (λ ks. ExtractsNext (AnswersForKey T) s.asks ks e.picked t.asks (k ∷ e.passed) e.others) (sym left)
           (false, m.asks, k, (refl, call), (e.passed, e.asked, refl));
-      comes = subst (λ ks. ComesOf T bytes e.picked ks e.others r t) keys e.comes;
+      comes = subst (λ ks. KeysComeOf T bytes e.picked ks e.others r t) keys e.comes;
     }
 
     -- or it picked that one, which was taken out, or that was refused
-    pub extracts-now : (s t : Asking K F) (k : K) (on : List K) → s.left ≡ k ∷ on → T s.asks k true t.asks → (r : Result K E)
+    pub extracts-now : (s t : AskingKeys K F) (k : K) (on : List K) → s.left ≡ k ∷ on → T s.asks k true t.asks → (r : Result K E)
         → IfOk r (λ l. (l ≡ k) × (t.keys ≡ without_key bytes (bytes k) s.keys) × (t.left ≡ on))
         → OnErr r ((t.keys ≡ s.keys) × (t.left ≡ []) × Shrinks bytes s.keys (bytes k))
-        → Extracts T bytes s (Some r) t
+        → ExtractsKey T bytes s (Some r) t
     extracts-now s t k on left call r ok err = record {
       picked = Some k;
       passed = [];
       others = on;
-      asked = subst (λ ks. ExtractsNext (AnswersAt T) s.asks ks (Some k) t.asks [] on) (sym left) (true, t.asks, k, (refl, call), (refl, refl, refl, refl));
+      asked = subst (λ ks. ExtractsNext (AnswersForKey T) s.asks ks (Some k) t.asks [] on) (sym left) (true, t.asks, k, (refl, call), (refl, refl, refl, refl));
       comes = come r ok err;
     }
       where
         come : (r : Result K E) → IfOk r (λ l. (l ≡ k) × (t.keys ≡ without_key bytes (bytes k) s.keys) × (t.left ≡ on))
             → OnErr r ((t.keys ≡ s.keys) × (t.left ≡ []) × Shrinks bytes s.keys (bytes k))
-            → ComesOf T bytes (Some k) s.keys on (Some r) t
+            → KeysComeOf T bytes (Some k) s.keys on (Some r) t
         come (Ok l) ok err = ok
         come (Err e) ok err = err
 
@@ -102,28 +102,28 @@ module _ {K F : Type 0} (T : F → K → Bool → F → Type 0) where
 
   module _ (bytes : K → List ℕ) (Q : F → K → Type 0) (f : F) (old : List K) where
     -- what is left of the keys that were to be retained
-    pub record Retaining (s : Asking K F) : Type 0 where
+    pub record RetainingKeys (s : AskingKeys K F) : Type 0 where
       pub kept : List K
       pub keys_are : s.keys ≡ kept ++ s.left
       pub ascend : AscendsByKey bytes s.keys
       pub callable : CallableOnEachKey T Q s.asks s.left
       pub retains : (ys : List K) → IsFiltered T s.asks s.left ys → IsFiltered T f old (kept ++ ys)
-      pub stops : (k : K) (ys : List K) → StopsAt T s.asks s.left k ys → StopsAt T f old k (kept ++ ys)
+      pub stops : (k : K) (ys : List K) → StopsAtKey T s.asks s.left k ys → StopsAtKey T f old k (kept ++ ys)
 
     -- at first all are left
-    pub retaining-all : (s : Asking K F) → s.keys ≡ old → s.left ≡ old → s.asks ≡ f → AscendsByKey bytes old → CallableOnEachKey T Q f old → Retaining s
+    pub retaining-all : (s : AskingKeys K F) → s.keys ≡ old → s.left ≡ old → s.asks ≡ f → AscendsByKey bytes old → CallableOnEachKey T Q f old → RetainingKeys s
     retaining-all s keys left asks up can = record {
       kept = [];
       keys_are = keys ∙ sym left;
       ascend = subst (AscendsByKey bytes) (sym keys) up;
       callable = subst (λ g. CallableOnEachKey T Q g s.left) (sym asks) (subst (CallableOnEachKey T Q f) (sym left) can);
       retains = λ ys h. subst (λ g. IsFiltered T g old ys) asks (subst (λ ks. IsFiltered T s.asks ks ys) left h);
-      stops = λ k ys h. subst (λ g. StopsAt T g old k ys) asks (subst (λ ks. StopsAt T s.asks ks k ys) left h);
+      stops = λ k ys h. subst (λ g. StopsAtKey T g old k ys) asks (subst (λ ks. StopsAtKey T s.asks ks k ys) left h);
     }
 
-    module _ (s : Asking K F) (so : Retaining s) (x : K) where
+    module _ (s : AskingKeys K F) (so : RetainingKeys s) (x : K) where
       -- the first is kept
-      pub retaining-kept : (m : Asking K F) → s.left ≡ x ∷ m.left → T s.asks x true m.asks → m.keys ≡ s.keys → Retaining m
+      pub retaining-kept : (m : AskingKeys K F) → s.left ≡ x ∷ m.left → T s.asks x true m.asks → m.keys ≡ s.keys → RetainingKeys m
       retaining-kept m left call keys = record {
         kept = so.kept ++ x ∷ [];
         keys_are = keys ∙ so.keys_are ∙ ap (λ ks. so.kept ++ ks) left ∙ sym (append_assoc so.kept (x ∷ []) m.left);
@@ -131,12 +131,12 @@ module _ {K F : Type 0} (T : F → K → Bool → F → Type 0) where
         callable = callable-behind Q s.asks m.asks x s.left m.left left so.callable true call;
         retains = λ ys h. subst (IsFiltered T f old) (sym (append_assoc so.kept (x ∷ []) ys))
             (so.retains (x ∷ ys) (subst (λ ks. IsFiltered T s.asks ks (x ∷ ys)) (sym left) (filtered-first s.asks m.asks x m.left ys true call h)));
-        stops = λ k ys h. subst (StopsAt T f old k) (sym (append_assoc so.kept (x ∷ []) ys))
-            (so.stops k (x ∷ ys) (subst (λ ks. StopsAt T s.asks ks k (x ∷ ys)) (sym left) (true, m.asks, call, inr (ys, h, refl))));
+        stops = λ k ys h. subst (StopsAtKey T f old k) (sym (append_assoc so.kept (x ∷ []) ys))
+            (so.stops k (x ∷ ys) (subst (λ ks. StopsAtKey T s.asks ks k (x ∷ ys)) (sym left) (true, m.asks, call, inr (ys, h, refl))));
       }
 
       -- the first is taken out
-      pub retaining-taken : (m : Asking K F) → s.left ≡ x ∷ m.left → T s.asks x false m.asks → m.keys ≡ without_key bytes (bytes x) s.keys → Retaining m
+      pub retaining-taken : (m : AskingKeys K F) → s.left ≡ x ∷ m.left → T s.asks x false m.asks → m.keys ≡ without_key bytes (bytes x) s.keys → RetainingKeys m
       retaining-taken m left call keys =
           let all : s.keys ≡ so.kept ++ x ∷ m.left = so.keys_are ∙ ap (λ ks. so.kept ++ ks) left in
           let out = taken bytes x so.kept m.left (subst (AscendsByKey bytes) all so.ascend) in
@@ -146,15 +146,15 @@ module _ {K F : Type 0} (T : F → K → Bool → F → Type 0) where
             ascend = subst (AscendsByKey bytes) (sym keys) (ascending-filter bytes _ s.keys so.ascend);
             callable = callable-behind Q s.asks m.asks x s.left m.left left so.callable false call;
             retains = λ ys h. so.retains ys (subst (λ ks. IsFiltered T s.asks ks ys) (sym left) (filtered-first s.asks m.asks x m.left ys false call h));
-            stops = λ k ys h. so.stops k ys (subst (λ ks. StopsAt T s.asks ks k ys) (sym left) (false, m.asks, call, inr (ys, h, refl)));
+            stops = λ k ys h. so.stops k ys (subst (λ ks. StopsAtKey T s.asks ks k ys) (sym left) (false, m.asks, call, inr (ys, h, refl)));
           }
 
       -- its removal is refused
-      pub retaining-stopped : (on : List K) (h : F) → s.left ≡ x ∷ on → T s.asks x false h → StopsAt T f old x s.keys
-      retaining-stopped on h left call = subst (StopsAt T f old x) (sym so.keys_are)
-          (so.stops x s.left (subst (λ ks. StopsAt T s.asks ks x ks) (sym left) (false, h, call, inl (refl, refl, refl))))
+      pub retaining-stopped : (on : List K) (h : F) → s.left ≡ x ∷ on → T s.asks x false h → StopsAtKey T f old x s.keys
+      retaining-stopped on h left call = subst (StopsAtKey T f old x) (sym so.keys_are)
+          (so.stops x s.left (subst (λ ks. StopsAtKey T s.asks ks x ks) (sym left) (false, h, call, inl (refl, refl, refl))))
 
     -- none is left
-    pub retained-all : (s : Asking K F) → Retaining s → s.left ≡ [] → IsFiltered T f old s.keys
+    pub retained-all : (s : AskingKeys K F) → RetainingKeys s → s.left ≡ [] → IsFiltered T f old s.keys
     retained-all s so none = subst (IsFiltered T f old) (sym (so.keys_are ∙ ap (λ ks. so.kept ++ ks) none))
         (so.retains [] (filtered-none s.asks s.left none))

@@ -9,7 +9,7 @@ use Rattle.art_map.specs.Contents.{first_item}
 use Rattle.art_map.specs.Extractions.{left_of, map_of}
 use Rattle.art_map.specs.declared.map.extraction.Extraction.{Extraction}
 use Rattle.art_operations.specs.KeyedLists.{without_key}
-use Rattle.art_set.specs.Asked.{Asking, CallableOnEachKey}
+use Rattle.art_set.specs.Asked.{AskingKeys, CallableOnEachKey}
 use Rattle.art_set.proofs.AskedKeys.{callable-none}
 use Rattle.art_set.proofs.Seen.{keys-without, shrinking}
 
@@ -76,5 +76,5 @@ module _ {K V : Type 0} where
         (callable-none T Q f (keys_of new) none, omega (arith, len))
 
 -- the keys of a set's map, those that are left, and this closure
-abbrev pub asking_by : {K F : Type 0} {P : ℕ} {g : as_bytes.Ghosts K} → Extraction K (Unit {0}) P g → F → Asking K F
+abbrev pub asking_by : {K F : Type 0} {P : ℕ} {g : as_bytes.Ghosts K} → Extraction K (Unit {0}) P g → F → AskingKeys K F
 asking_by e f = record { keys = keys_of (map_of e).now.pairs; left = keys_of (left_of e); asks = f }

@@ -8,7 +8,7 @@ use Rattle.std.proofs.IntoIterSteps.{All-taken}
 use Rattle.std.proofs.lemmas.List.{append-nil, map-append}
 use Rattle.art_arena.specs.tree.Order.{AscendsByKey}
 use Rattle.art_operations.proofs.KeyedLists.{put_new}
-use Rattle.art_set.specs.Bulk.{ExtendsWith, HandsNextBack, IsMadeOf, IsOfList}
+use Rattle.art_set.specs.Bulk.{ExtendsWithKeys, HandsNextKeyBack, IsMadeOfKeys, IsKeyOfList}
 use Rattle.art_set.specs.Members.{with_key_put, with_keys_put}
 use Rattle.art_set.specs.declared.set.refused.RefusedKey.{RefusedKey}
 
@@ -30,18 +30,18 @@ module _ {K : Type 0} (bytes : K → List ℕ) where
   module _ {U S A : Type 0} (key_of : A → K) (becomes : U → S → Type 0) (steps : S → Option A → S → Type 0) where
     -- the item that came behind these is handed back
     pub next-back : (it t u : S) (given : List A) (item : A) (e : RefusedKey K) (k : K) → Yields steps it given t → steps t (Some item) u → key_of item ≡ k → e.key ≡ k
-        → HandsNextBack bytes key_of becomes steps it given e
+        → HandsNextKeyBack bytes key_of becomes steps it given e
     next-back it t u given item e k yielded step is back = (item, u, (t, yielded, step), is ∙ sym back)
 
     pub extend-refused : (iter : U) (it : S) (given : List A) (old now : List K) (e : RefusedKey K) (r : Result (Unit {0}) (RefusedKey K)) → becomes iter it → now ≡ with_keys_put bytes (map key_of given) old
-        → HandsNextBack bytes key_of becomes steps it given e → IsErrAnd r (λ x. x ≡ e) → ExtendsWith bytes key_of becomes steps iter old r now
+        → HandsNextKeyBack bytes key_of becomes steps it given e → IsErrAnd r (λ x. x ≡ e) → ExtendsWithKeys bytes key_of becomes steps iter old r now
     extend-refused iter it given old now e (Ok x) b put back h = absurd h
-    extend-refused iter it given old now e (Err x) b put back h = (it, given, b, put, subst (HandsNextBack bytes key_of becomes steps it given) (sym h) back)
+    extend-refused iter it given old now e (Err x) b put back h = (it, given, b, put, subst (HandsNextKeyBack bytes key_of becomes steps it given) (sym h) back)
 
-    pub made-refused : (iter : U) (it : S) (given : List A) (e : RefusedKey K) (r : Result (List K) (RefusedKey K)) → becomes iter it → HandsNextBack bytes key_of becomes steps it given e
-        → IsErrAnd r (λ x. x ≡ e) → IsMadeOf bytes key_of becomes steps iter r
+    pub made-refused : (iter : U) (it : S) (given : List A) (e : RefusedKey K) (r : Result (List K) (RefusedKey K)) → becomes iter it → HandsNextKeyBack bytes key_of becomes steps it given e
+        → IsErrAnd r (λ x. x ≡ e) → IsMadeOfKeys bytes key_of becomes steps iter r
     made-refused iter it given e (Ok x) b back h = absurd h
-    made-refused iter it given e (Err x) b back h = (it, given, b, subst (HandsNextBack bytes key_of becomes steps it given) (sym h) back)
+    made-refused iter it given e (Err x) b back h = (it, given, b, subst (HandsNextKeyBack bytes key_of becomes steps it given) (sym h) back)
 
 -- what the iterator of a vector has given is a front of its items
 taken-front : {X Z : Type 0} (s : IntoIter X Z) (xs : List X) (t : IntoIter X Z) → Yields into_iter_steps s xs t → into_iter_items s ≡ xs ++ into_iter_items t
@@ -59,7 +59,7 @@ module _ {K Z : Type 0} (bytes : K → List ℕ) (it : IntoIter K Z) (given item
   vec-made (Ok made) (drains, put) = put ∙ ap (λ ks. with_keys_put bytes ks []) (map-id given ∙ (All-taken it given drains ∙ has))
   vec-made (Err e) is = tt
 
-  pub vec-refused : (r : Result (List K) (RefusedKey K)) → IsMade r → IfErr r (IsOfList items)
+  pub vec-refused : (r : Result (List K) (RefusedKey K)) → IsMade r → IfErr r (IsKeyOfList items)
   vec-refused (Ok made) is = tt
   vec-refused (Err e) (item, rest, yielded, told) = (
     given,

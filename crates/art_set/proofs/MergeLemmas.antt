@@ -16,7 +16,7 @@ use Rattle.std.specs.Borrow.{Bor}
 use Rattle.std.specs.Iterator.{MakesProgress, at_most}
 use Rattle.std.specs.Map.Iter.{TakesFirst, deref}
 use Rattle.art_set.specs.Members.{is_member}
-use Rattle.art_set.specs.Merges.{GivesNext, Merge, intersection_of, difference_of, put_below, joined, union_of, symmetric_difference_of, AscendsInBytes}
+use Rattle.art_set.specs.Merges.{GivesNext, Merge, intersection_of, difference_of, put_below, put_among, union_of, symmetric_difference_of, AscendsInBytes}
 
 -- the other way round, the order is turned
 pub turned : (k l : List ℕ) (o : Ordering) → bytes_cmp k l ≡ o → bytes_cmp l k ≡ ordering_reverse o
@@ -95,35 +95,35 @@ module _ {K : Type 0} (bytes : K → List ℕ) where
       pick true rest = (p, h)
       pick false rest = (h.0, rest)
 
-  pub all-joined : (P : K → Type 0) (xs ys : List K) → AllByRecursion P xs → AllByRecursion P ys → AllByRecursion P (joined bytes xs ys)
+  pub all-joined : (P : K → Type 0) (xs ys : List K) → AllByRecursion P xs → AllByRecursion P ys → AllByRecursion P (put_among bytes xs ys)
   all-joined P [] ys h k = k
-  all-joined P (x ∷ xs) ys h k = all-put P x (joined bytes xs ys) h.0 (all-joined P xs ys h.1 k)
+  all-joined P (x ∷ xs) ys h k = all-put P x (put_among bytes xs ys) h.0 (all-joined P xs ys h.1 k)
 
   -- a key below all that are put in stays in front
-  joined-first : (x : K) (zs ys : List K) → AreAbove x zs → joined bytes zs (x ∷ ys) ≡ x ∷ joined bytes zs ys
+  joined-first : (x : K) (zs ys : List K) → AreAbove x zs → put_among bytes zs (x ∷ ys) ≡ x ∷ put_among bytes zs ys
   joined-first x [] ys h = refl
   joined-first x (z ∷ zs) ys h = ap (put_below bytes z) (joined-first x zs ys h.1)
-      ∙ ap (λ o. cond (is_lt o) (z ∷ x ∷ joined bytes zs ys) (x ∷ put_below bytes z (joined bytes zs ys))) (turned (bytes x) (bytes z) Less h.0)
+      ∙ ap (λ o. cond (is_lt o) (z ∷ x ∷ put_among bytes zs ys) (x ∷ put_below bytes z (put_among bytes zs ys))) (turned (bytes x) (bytes z) Less h.0)
 
   module _ (first both second : Bool) where
     -- of the first list's next key, which is below all others, none of the second is lost
     pub merged-first : (x : K) (xs ys : List K) → AreAbove x xs → AreAbove x ys → merged bytes first both second (x ∷ xs) ys ≡ cond first (x ∷ merged bytes first both second xs ys) (merged bytes first both second xs ys)
     merged-first x xs ys up beside =
-        ap₂ (joined bytes) (filter-same _ _ ys (all-map _ _ (λ y e. ap (λ b. cond second (not b) false) e) ys (behind x xs ys beside)))
+        ap₂ (put_among bytes) (filter-same _ _ ys (all-map _ _ (λ y e. ap (λ b. cond second (not b) false) e) ys (behind x xs ys beside)))
         (ap (λ b. cond (cond b both first) (x ∷ of_first bytes first both second xs ys) (of_first bytes first both second xs ys)) (above-lack x ys beside))
         ∙ pick first
       where
-        pick : (b : Bool) → joined bytes (of_second bytes first both second xs ys) (cond b (x ∷ of_first bytes first both second xs ys) (of_first bytes first both second xs ys)) ≡ cond b (x ∷ merged bytes first both second xs ys) (merged bytes first both second xs ys)
+        pick : (b : Bool) → put_among bytes (of_second bytes first both second xs ys) (cond b (x ∷ of_first bytes first both second xs ys) (of_first bytes first both second xs ys)) ≡ cond b (x ∷ merged bytes first both second xs ys) (merged bytes first both second xs ys)
         pick true = joined-first x (of_second bytes first both second xs ys) (of_first bytes first both second xs ys) (all-filter _ _ ys beside)
         pick false = refl
 
     pub merged-second : (y : K) (xs ys : List K) → AreAbove y xs → AreAbove y ys → merged bytes first both second xs (y ∷ ys) ≡ cond second (y ∷ merged bytes first both second xs ys) (merged bytes first both second xs ys)
     merged-second y xs ys beside up =
-        ap₂ (joined bytes) (ap (λ b. cond (cond second (not b) false) (y ∷ of_second bytes first both second xs ys) (of_second bytes first both second xs ys)) (above-lack y xs beside))
+        ap₂ (put_among bytes) (ap (λ b. cond (cond second (not b) false) (y ∷ of_second bytes first both second xs ys) (of_second bytes first both second xs ys)) (above-lack y xs beside))
         (filter-same _ _ xs (all-map _ _ (λ x e. ap (λ b. cond b both first) e) xs (behind y ys xs beside)))
         ∙ pick second
       where
-        pick : (b : Bool) → joined bytes (cond (cond b true false) (y ∷ of_second bytes first both second xs ys) (of_second bytes first both second xs ys)) (of_first bytes first both second xs ys) ≡ cond b (y ∷ merged bytes first both second xs ys) (merged bytes first both second xs ys)
+        pick : (b : Bool) → put_among bytes (cond (cond b true false) (y ∷ of_second bytes first both second xs ys) (of_second bytes first both second xs ys)) (of_first bytes first both second xs ys) ≡ cond b (y ∷ merged bytes first both second xs ys) (merged bytes first both second xs ys)
         pick true = put-first y (merged bytes first both second xs ys) (all-joined _ (of_second bytes first both second xs ys) (of_first bytes first both second xs ys) (all-filter _ _ ys up) (all-filter _ _ xs beside))
         pick false = refl
 
@@ -131,7 +131,7 @@ module _ {K : Type 0} (bytes : K → List ℕ) where
     merged-both x y xs ys same up beside =
         let ahead = above-same x y ys same beside in
         let back : AreAbove y xs = above-same y x xs (turned (bytes x) (bytes y) Equal same) up in
-        ap₂ (joined bytes)
+        ap₂ (put_among bytes)
         (ap (λ b. cond (cond second (not (b || is_member bytes (bytes y) xs)) false) (y ∷ of_second bytes first both second (x ∷ xs) ys) (of_second bytes first both second (x ∷ xs) ys)) (agrees (bytes x) (bytes y) same)
         ∙ pick second (of_second bytes first both second (x ∷ xs) ys) ∙ filter-same _ _ ys (all-map _ _ (λ z e. ap (λ b. cond second (not b) false) e) ys (behind x xs ys ahead)))
         (ap₂ (λ b zs. cond (cond (b || is_member bytes (bytes x) ys) both first) (x ∷ zs) zs) (agrees (bytes y) (bytes x) (turned (bytes x) (bytes y) Equal same))
@@ -142,20 +142,20 @@ module _ {K : Type 0} (bytes : K → List ℕ) where
         pick true zs = refl
         pick false zs = refl
 
-        give : (b : Bool) → joined bytes (of_second bytes first both second xs ys) (cond b (x ∷ of_first bytes first both second xs ys) (of_first bytes first both second xs ys)) ≡ cond b (x ∷ merged bytes first both second xs ys) (merged bytes first both second xs ys)
+        give : (b : Bool) → put_among bytes (of_second bytes first both second xs ys) (cond b (x ∷ of_first bytes first both second xs ys) (of_first bytes first both second xs ys)) ≡ cond b (x ∷ merged bytes first both second xs ys) (merged bytes first both second xs ys)
         give true = joined-first x (of_second bytes first both second xs ys) (of_first bytes first both second xs ys) (all-filter _ _ ys (above-same x y ys same beside))
         give false = refl
 
   -- where the first list has no more, and what the second has alone is not asked for, nothing more comes
   pub merged-no_first : (first both : Bool) (ys : List K) → merged bytes first both false [] ys ≡ []
-  merged-no_first first both ys = ap (λ zs. joined bytes zs []) (filter-none _ ys (λ y. refl))
+  merged-no_first first both ys = ap (λ zs. put_among bytes zs []) (filter-none _ ys (λ y. refl))
 
   pub merged-no_second : (both second : Bool) (xs : List K) → merged bytes false both second xs [] ≡ []
   merged-no_second both second xs = filter-none _ xs (λ x. refl)
 
   pub difference-merged : (xs ys : List K) → merged bytes true false false xs ys ≡ difference_of bytes xs ys
   difference-merged xs ys =
-      ap₂ (joined bytes) (filter-none _ ys (λ y. refl)) (filter-same _ _ xs (all-always (λ x. cond (is_member bytes (bytes x) ys) false true ≡ not (is_member bytes (bytes x) ys)) (λ x. lacks (is_member bytes (bytes x) ys)) xs))
+      ap₂ (put_among bytes) (filter-none _ ys (λ y. refl)) (filter-same _ _ xs (all-always (λ x. cond (is_member bytes (bytes x) ys) false true ≡ not (is_member bytes (bytes x) ys)) (λ x. lacks (is_member bytes (bytes x) ys)) xs))
     where
       lacks : (b : Bool) → cond b false true ≡ not b
       lacks true = refl
@@ -163,14 +163,14 @@ module _ {K : Type 0} (bytes : K → List ℕ) where
 
   pub intersection-merged : (xs ys : List K) → merged bytes false true false xs ys ≡ intersection_of bytes xs ys
   intersection-merged xs ys =
-      ap₂ (joined bytes) (filter-none _ ys (λ y. refl)) (filter-same _ _ xs (all-always (λ x. cond (is_member bytes (bytes x) ys) true false ≡ is_member bytes (bytes x) ys) (λ x. kept (is_member bytes (bytes x) ys)) xs))
+      ap₂ (put_among bytes) (filter-none _ ys (λ y. refl)) (filter-same _ _ xs (all-always (λ x. cond (is_member bytes (bytes x) ys) true false ≡ is_member bytes (bytes x) ys) (λ x. kept (is_member bytes (bytes x) ys)) xs))
     where
       kept : (b : Bool) → cond b true false ≡ b
       kept true = refl
       kept false = refl
 
   pub union-merged : (xs ys : List K) → merged bytes true true true xs ys ≡ union_of bytes xs ys
-  union-merged xs ys = ap (joined bytes (difference_of bytes ys xs)) (filter-all _ xs (λ x. always (is_member bytes (bytes x) ys)))
+  union-merged xs ys = ap (put_among bytes (difference_of bytes ys xs)) (filter-all _ xs (λ x. always (is_member bytes (bytes x) ys)))
     where
       always : (b : Bool) → cond b true true ≡ true
       always true = refl
@@ -178,7 +178,7 @@ module _ {K : Type 0} (bytes : K → List ℕ) where
 
   pub symmetric-merged : (xs ys : List K) → merged bytes true false true xs ys ≡ symmetric_difference_of bytes xs ys
   symmetric-merged xs ys =
-      ap (joined bytes (difference_of bytes ys xs)) (filter-same _ _ xs (all-always (λ x. cond (is_member bytes (bytes x) ys) false true ≡ not (is_member bytes (bytes x) ys)) (λ x. lacks (is_member bytes (bytes x) ys)) xs))
+      ap (put_among bytes (difference_of bytes ys xs)) (filter-same _ _ xs (all-always (λ x. cond (is_member bytes (bytes x) ys) false true ≡ not (is_member bytes (bytes x) ys)) (λ x. lacks (is_member bytes (bytes x) ys)) xs))
     where
       lacks : (b : Bool) → cond b false true ≡ not b
       lacks true = refl

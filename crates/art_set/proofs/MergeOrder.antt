@@ -13,7 +13,7 @@ use Rattle.art_arena.proofs.tree.Order.{all_append, all_left}
 use Rattle.art_set.specs.Members.{is_member, with_key_put}
 use Rattle.art_set.specs.inner.Merging.{merged, of_first, of_second}
 use Rattle.art_set.proofs.KeyPuts.{put-last}
-use Rattle.art_set.specs.Merges.{AscendsInBytes, difference_of, intersection_of, joined, put_below, union_of, symmetric_difference_of}
+use Rattle.art_set.specs.Merges.{AscendsInBytes, difference_of, intersection_of, put_among, put_below, union_of, symmetric_difference_of}
 use Rattle.art_set.proofs.MergeLemmas.{AreAbove, above-below, all-filter, all-joined, all-map, all-put, differs-turned, filter-none, turned}
 
 module _ {K : Type 0} (bytes : K → List ℕ) where
@@ -53,10 +53,10 @@ module _ {K : Type 0} (bytes : K → List ℕ) where
       pick Greater e rest = (all-put bytes _ x ys (turned (bytes x) (bytes y) Greater e) h.0, rest)
 
   -- and so can ascending keys, one after another
-  ascending-joined : (zs ys : List K) → AllByRecursion (λ z. AreOthers z ys) zs → AscendsInBytes bytes zs → AscendsInBytes bytes ys → AscendsInBytes bytes (joined bytes zs ys)
+  ascending-joined : (zs ys : List K) → AllByRecursion (λ z. AreOthers z ys) zs → AscendsInBytes bytes zs → AscendsInBytes bytes ys → AscendsInBytes bytes (put_among bytes zs ys)
   ascending-joined [] ys others up h = h
   ascending-joined (z ∷ zs) ys others up h =
-      ascending-put z (joined bytes zs ys)
+      ascending-put z (put_among bytes zs ys)
       (all-joined bytes (λ y. bytes_eq (bytes y) (bytes z) ≡ false) zs ys (all-map _ _ (λ y e. differs-turned (bytes z) (bytes y) e) zs up.0) others.0)
       (ascending-joined zs ys others.1 up.1 h)
 

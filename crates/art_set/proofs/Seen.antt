@@ -18,7 +18,7 @@ use Rattle.art_map.specs.Contents.{first_item, has_bytes, last_item}
 use Rattle.art_map.specs.Ranges.{pairs_between}
 use Rattle.art_operations.specs.KeyedLists.{HasKey, IsBlocked, without_key}
 use Rattle.art_operations.specs.Pairs.{IsAtEnd, ShrinksAtEnd, with_pair_put}
-use Rattle.art_set.specs.Members.{keys_between, option_key, with_key_put, with_keys_put, KeyShrinksAtEnd}
+use Rattle.art_set.specs.Members.{keys_between, key_if_some, with_key_put, with_keys_put, KeyShrinksAtEnd}
 
 -- what follows where it was answered
 pub on-ok : {A E P Q : Type 0} (r : Result A E) → (P → Q) → OnOk r P → OnOk r Q
@@ -31,11 +31,11 @@ if-ok (Err e) P Q f p = tt
 
 module _ {K V : Type 0} where
   -- look-ups
-  pub found : (test : K → Bool) (ps : List (K × V)) → option_key (lookup_entry test ps) ≡ find test (keys_of ps)
+  pub found : (test : K → Bool) (ps : List (K × V)) → key_if_some (lookup_entry test ps) ≡ find test (keys_of ps)
   found test [] = refl
   found test (p ∷ ps) = pick (test p.0) (found test ps)
     where
-      pick : (b : Bool) → option_key (lookup_entry test ps) ≡ find test (keys_of ps) → option_key (cond b (Some p) (lookup_entry test ps)) ≡ cond b (Some p.0) (find test (keys_of ps))
+      pick : (b : Bool) → key_if_some (lookup_entry test ps) ≡ find test (keys_of ps) → key_if_some (cond b (Some p) (lookup_entry test ps)) ≡ cond b (Some p.0) (find test (keys_of ps))
       pick true later = refl
       pick false later = later
 
@@ -52,11 +52,11 @@ module _ {K V : Type 0} where
   was-added test ps old true e f = ap not (sym e ∙ ap is_some f ∙ is-found test ps)
   was-added test ps old false e f = ap not (sym e ∙ ap is_some f ∙ is-found test ps)
 
-  pub first-key : (ps : List (K × V)) → option_key (first_item ps) ≡ first_item (keys_of ps)
+  pub first-key : (ps : List (K × V)) → key_if_some (first_item ps) ≡ first_item (keys_of ps)
   first-key [] = refl
   first-key (p ∷ ps) = refl
 
-  pub last-key : (ps : List (K × V)) → option_key (last_item ps) ≡ last_item (keys_of ps)
+  pub last-key : (ps : List (K × V)) → key_if_some (last_item ps) ≡ last_item (keys_of ps)
   last-key [] = refl
   last-key (p ∷ []) = refl
   last-key (p ∷ q ∷ ps) = last-key (q ∷ ps)

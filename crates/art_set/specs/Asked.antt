@@ -13,7 +13,7 @@ use Rattle.art_operations.specs.KeyedLists.{without_key}
 use Rattle.art_set.specs.declared.iterators.extract_if.ExtractIf.{ExtractIf}
 
 -- the keys of a set, those that were not asked yet, and the closure
-pub record Asking (K F : Type 0) : Type 0 where
+pub record AskingKeys (K F : Type 0) : Type 0 where
   pub keys : List K
   pub left : List K
   pub asks : F
@@ -30,53 +30,57 @@ module _ {K F : Type 0} (T : F → K → Bool → F → Type 0) where
 
   -- f was called at each key in turn, as where keys are retained, up to k. Of that one it said false, and yet it stays,
   -- and so do those behind it
-  abbrev pub StopsAt : F → List K → K → List K → Type 0
-  StopsAt f [] k new = ⊥
-  StopsAt f (x ∷ xs) k new =
+  abbrev pub StopsAtKey : F → List K → K → List K → Type 0
+  StopsAtKey f [] k new = ⊥
+  StopsAtKey f (x ∷ xs) k new =
       (b : Bool) × (f' : F) × T f x b f'
       × (((b ≡ false) × (k ≡ x) × (new ≡ x ∷ xs))
-      ⊎ ((rest : List K) × StopsAt f' xs k rest × (new ≡ cond b (x ∷ rest) rest)))
+      ⊎ ((rest : List K) × StopsAtKey f' xs k rest × (new ≡ cond b (x ∷ rest) rest)))
 
   -- a call of f at the key k answered b, and left f' and the key
-  abbrev pub AnswersAt : F → K → Bool → F → K → Type 0
-  AnswersAt f k b f' l = (l ≡ k) × T f k b f'
+  abbrev pub AnswersForKey : F → K → Bool → F → K → Type 0
+  AnswersForKey f k b f' l = (l ≡ k) × T f k b f'
 
   module _ (bytes : K → List ℕ) {E : Type 0} where
     -- what a call answers of the key that was picked, if one was, and leaves, the keys being these and those that were
     -- not asked these others. The key leaves the set; or it stays, since its removal is refused, and then none is asked
     -- any more
-    abbrev pub ComesOf : Option K → List K → List K → Option (Result K E) → Asking K F → Type 0
-    ComesOf None keys others None t = (t.keys ≡ keys) × (t.left ≡ [])
-    ComesOf (Some k) keys others (Some (Ok l)) t =
+    abbrev pub KeysComeOf : Option K → List K → List K → Option (Result K E) → AskingKeys K F → Type 0
+    KeysComeOf None keys others None t = (t.keys ≡ keys) × (t.left ≡ [])
+    KeysComeOf (Some k) keys others (Some (Ok l)) t =
         (l ≡ k) × (t.keys ≡ without_key bytes (bytes k) keys) × (t.left ≡ others)
-    ComesOf (Some k) keys others (Some (Err e)) t = (t.keys ≡ keys) × (t.left ≡ []) × Shrinks bytes keys (bytes k)
-    ComesOf None keys others (Some r) t = ⊥
-    ComesOf (Some k) keys others None t = ⊥
+    KeysComeOf (Some k) keys others (Some (Err e)) t = (t.keys ≡ keys) × (t.left ≡ []) × Shrinks bytes keys (bytes k)
+    KeysComeOf None keys others (Some r) t = ⊥
+    KeysComeOf (Some k) keys others None t = ⊥
 
     -- one call of an extraction asks the keys that were not asked yet in turn, until the closure says true
-    pub record Extracts (s : Asking K F) (r : Option (Result K E)) (t : Asking K F) : Type 0 where
+    pub record ExtractsKey (s : AskingKeys K F) (r : Option (Result K E)) (t : AskingKeys K F) : Type 0 where
       pub picked : Option K
       pub passed : List K
       pub others : List K
-      pub asked : ExtractsNext AnswersAt s.asks s.left picked t.asks passed others
-      pub comes : ComesOf picked s.keys others r t
+      pub asked : ExtractsNext AnswersForKey s.asks s.left picked t.asks passed others
+      pub comes : KeysComeOf picked s.keys others r t
 
 module _ {K F : Type 0} {P : ℕ} {g : as_bytes.Ghosts K} where
   -- the reference to the map of the set
-  abbrev pub extract_map : ExtractIf K F P g → MutBor (Contents K (Unit {0}))
-  extract_map e = map_of e.extraction
+  abbrev pub extract_set : ExtractIf K F P g → MutBor (Contents K (Unit {0}))
+  extract_set e = map_of e.extraction
 
   -- the keys of the set, those that were not asked yet, and the closure
-  abbrev pub asking : ExtractIf K F P g → Asking K F
-  asking e = record { keys = keys_of (extract_map e).now.pairs; left = keys_of (left_of e.extraction); asks = e.pred }
+  abbrev pub asking_keys : ExtractIf K F P g → AskingKeys K F
+  asking_keys e = record {
+    keys = keys_of (extract_set e).now.pairs;
+    left = keys_of (left_of e.extraction);
+    asks = e.pred;
+  }
 
   module _ (f : Mut F (Bor K × Unit {0}) Bool) where
     -- the closure may be asked of each key that was not asked yet, in whatever state its earlier calls leave it
-    abbrev pub CanExtractIf : ExtractIf K F P g → Type 0
-    CanExtractIf e = CallableOnEachKey (CalledAt f) (TakesAt f) (asking e).asks (asking e).left
+    abbrev pub CanExtractKeys : ExtractIf K F P g → Type 0
+    CanExtractKeys e = CallableOnEachKey (CalledAt f) (TakesAt f) (asking_keys e).asks (asking_keys e).left
 
     -- one call of an extraction
-    abbrev pub ExtractsIf : {E : Type 0} → ExtractIf K F P g → Option (Result K E) → ExtractIf K F P g → Type 0
-    ExtractsIf s r t =
-        ((extract_map t).ghost_name ≡ (extract_map s).ghost_name)
-        × Extracts (CalledAt f) g.bytes (asking s) r (asking t)
+    abbrev pub ExtractsKeyIf : {E : Type 0} → ExtractIf K F P g → Option (Result K E) → ExtractIf K F P g → Type 0
+    ExtractsKeyIf s r t =
+        ((extract_set t).ghost_name ≡ (extract_set s).ghost_name)
+        × ExtractsKey (CalledAt f) g.bytes (asking_keys s) r (asking_keys t)

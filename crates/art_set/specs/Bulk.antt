@@ -5,26 +5,26 @@ use Rattle.art_set.specs.Members.{with_keys_put}
 use Rattle.art_set.specs.declared.set.refused.RefusedKey.{RefusedKey}
 
 -- the key that is handed back stands in the list
-abbrev pub IsOfList : {K : Type 0} → List K → RefusedKey K → Type 0
-IsOfList {K} keys refused = (front : List K) × (back : List K) × (keys ≡ front ++ refused.key ∷ back)
+abbrev pub IsKeyOfList : {K : Type 0} → List K → RefusedKey K → Type 0
+IsKeyOfList {K} keys refused = (front : List K) × (back : List K) × (keys ≡ front ++ refused.key ∷ back)
 
 module _ {K U S A : Type 0} (bytes : K → List ℕ) (key_of : A → K) (becomes : U → S → Type 0)
     (steps : S → Option A → S → Type 0) where
   -- behind these items the iterator gave one whose key is handed back
-  abbrev pub HandsNextBack : S → List A → RefusedKey K → Type 0
-  HandsNextBack it given refused =
+  abbrev pub HandsNextKeyBack : S → List A → RefusedKey K → Type 0
+  HandsNextKeyBack it given refused =
       (item : A) × (rest : S) × YieldsThen steps it given (Some item) rest × (key_of item ≡ refused.key)
 
   -- The keys of the items that came were put in, one after another: of all items, or of those before one that was
   -- refused and is handed back.
-  abbrev pub ExtendsWith : U → List K → Result (Unit {0}) (RefusedKey K) → List K → Type 0
-  ExtendsWith iter old result new =
+  abbrev pub ExtendsWithKeys : U → List K → Result (Unit {0}) (RefusedKey K) → List K → Type 0
+  ExtendsWithKeys iter old result new =
       (it : S) × (given : List A) × becomes iter it × (new ≡ with_keys_put bytes (map key_of given) old)
-      × MatchResult result (λ _. Drains steps it given) (HandsNextBack it given)
+      × MatchResult result (λ _. Drains steps it given) (HandsNextKeyBack it given)
 
   -- the same of a set that is made of them, which is let go of where one is refused
-  abbrev pub IsMadeOf : U → Result (List K) (RefusedKey K) → Type 0
-  IsMadeOf iter result =
+  abbrev pub IsMadeOfKeys : U → Result (List K) (RefusedKey K) → Type 0
+  IsMadeOfKeys iter result =
       (it : S) × (given : List A) × becomes iter it
       × MatchResult result (λ made. Drains steps it given × (made ≡ with_keys_put bytes (map key_of given) []))
-      (HandsNextBack it given)
+      (HandsNextKeyBack it given)

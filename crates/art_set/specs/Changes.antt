@@ -5,7 +5,7 @@ use Rattle.art_map.specs.declared.map.refused.TryKeyError.{TryKeyError}
 use Rattle.art_map.specs.declared.map.refused.TryKeyError.TheVariants.{Prefix, Memory}
 
 -- the key is handed back: a key of the set blocks it, and its bytes are told; or no memory was found
-abbrev pub IsTryRefused : {K : Type 0} → (K → List ℕ) → List K → K → TryKeyError K → Type 0
-IsTryRefused bytes keys key (Prefix k error) =
+abbrev pub IsKeyTurnedAway : {K : Type 0} → (K → List ℕ) → List K → K → TryKeyError K → Type 0
+IsKeyTurnedAway bytes keys key (Prefix k error) =
     (k ≡ key) × (error.byte_repr ≡ bytes key) × IsBlocked bytes (bytes key) keys
-IsTryRefused bytes keys key (Memory k) = k ≡ key
+IsKeyTurnedAway bytes keys key (Memory k) = k ≡ key

@@ -12,9 +12,9 @@ use Rattle.art_operations.specs.KeyedLists.{without_key}
 use Rattle.art_operations.specs.Pairs.{IsAtEnd}
 
 -- the key of a pair, if there is one
-abbrev pub option_key : {K V : Type 0} → Option (K × V) → Option K
-option_key None = None
-option_key (Some p) = Some p.0
+abbrev pub key_if_some : {K V : Type 0} → Option (K × V) → Option K
+key_if_some None = None
+key_if_some (Some p) = Some p.0
 
 module _ {K : Type 0} (bytes : K → List ℕ) where
   -- whether a key of the list has these bytes

@@ -21,16 +21,16 @@ module _ {K : Type 0} (bytes : K → List ℕ) where
   put_below x (y ∷ ys) = if is_below (bytes x) (bytes y) then x ∷ y ∷ ys else y ∷ put_below x ys
 
   -- the second list with each key of the first put in so
-  abbrev pub joined : List K → List K → List K
-  joined [] ys = ys
-  joined (x ∷ xs) ys = put_below x (joined xs ys)
+  abbrev pub put_among : List K → List K → List K
+  put_among [] ys = ys
+  put_among (x ∷ xs) ys = put_below x (put_among xs ys)
 
   -- the keys of either list, and of those that both have the first list's; and the keys that one of them lacks
   abbrev pub union_of : List K → List K → List K
-  union_of xs ys = joined (difference_of ys xs) xs
+  union_of xs ys = put_among (difference_of ys xs) xs
 
   abbrev pub symmetric_difference_of : List K → List K → List K
-  symmetric_difference_of xs ys = joined (difference_of ys xs) (difference_of xs ys)
+  symmetric_difference_of xs ys = put_among (difference_of ys xs) (difference_of xs ys)
 
   -- whether the second list lacks every key of the first, and whether it has every one
   abbrev pub are_disjoint : List K → List K → Bool

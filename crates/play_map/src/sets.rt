@@ -8,8 +8,7 @@ use art_set::TreeSet;
 use art_walks::bounds_are_valid;
 use std::alloc::AllocError;
 use std::cmp::Ordering;
-use std::io;
-use std::mem;
+use std::{io, mem};
 
 // Whether the first byte of a key is even: what closures ask.
 fn is_even(key: &ZeroEnded) -> bool {

@@ -1,7 +1,7 @@
 -- Two lists of keys that are walked side by side.
 use Rattle.std.specs.Prelude.{◌≡◌, ℕ, ◌+◌, ◌≤◌, Bool, false, not, if◌then◌else◌, List, ◌∷◌, filter, length}
 use Rattle.art_set.specs.Members.{is_member}
-use Rattle.art_set.specs.Merges.{Merge, joined}
+use Rattle.art_set.specs.Merges.{Merge, put_among}
 use Rattle.art_set.specs.declared.merges.sides.Met.{Met}
 use Rattle.art_set.specs.declared.merges.sides.Met.TheVariants.{First, Both, Second}
 use Rattle.art_set.specs.declared.merges.sides.Wanted.{Wanted}
@@ -47,7 +47,7 @@ module _ {K : Type 0} (bytes : K → List ℕ) where
     of_second xs ys = filter (λ y. if second then not (is_member bytes (bytes y) xs) else false) ys
 
     abbrev pub merged : List K → List K → List K
-    merged xs ys = joined bytes (of_second xs ys) (of_first xs ys)
+    merged xs ys = put_among bytes (of_second xs ys) (of_first xs ys)
 
   -- those still to come
   abbrev pub merging : Wanted → Beside K → List K

@@ -44,13 +44,13 @@ impl<'a, K: AsBytes + Drop, F: FnMut(&K) -> bool, const PREFIX_LEN: usize> Itera
     for ExtractIf<'a, K, F, PREFIX_LEN> {
     type Item = Result<K, AllocError>;
 
-    ghost use Rattle.art_set.specs.Asked.{asking, CanExtractIf, ExtractsIf};
+    ghost use Rattle.art_set.specs.Asked.{asking_keys, CanExtractKeys, ExtractsKeyIf};
 
-    ghost can_next = { CanExtractIf F.FnMut };
+    ghost can_next = { CanExtractKeys F.FnMut };
 
-    ghost next_gives = { ExtractsIf F.FnMut };
+    ghost next_gives = { ExtractsKeyIf F.FnMut };
 
-    ghost remaining = { λ walk. at_most (length (asking walk).left) };
+    ghost remaining = { λ walk. at_most (length (asking_keys walk).left) };
 
     fn next(&mut self) -> Option<Result<K, AllocError>> {
         while let Some((key, _)) = self.extraction.front_key_value() {
@@ -80,7 +80,7 @@ fn all_of<K: AsBytes, const PREFIX_LEN: usize>(
 }
 
 impl<K: AsBytes, const PREFIX_LEN: usize> TreeSet<K, PREFIX_LEN> {
-    ghost use Rattle.art_set.specs.Asked.{asking, extract_map, CallableOnEachKey, CanExtractIf, StopsAt};
+    ghost use Rattle.art_set.specs.Asked.{asking_keys, extract_set, CallableOnEachKey, CanExtractKeys, StopsAtKey};
     ghost use Rattle.art_set.specs.Lends.{lends_keys};
 
     /// The keys between two bounds, by their bytes, and for which the closure says true: they leave the set one by one
@@ -99,12 +99,12 @@ impl<K: AsBytes, const PREFIX_LEN: usize> TreeSet<K, PREFIX_LEN> {
         requires callable { CallableOnEachKey (CalledAt F.FnMut) (TakesAt F.FnMut) pred (keys_between K.bytes
             (bound_map (λ key. Q.bytes key.now) start) (bound_map (λ key. Q.bytes key.now) end) self.old) }
         ensures* writes_back { sem 𝓛 (lends_keys K.row PREFIX_LEN.row K.AsBytes self.entry
-            (extract_map result).ghost_name) }
-        ensures keys { (asking result).keys ≡ self.old }
-        ensures left { (asking result).left ≡ keys_between K.bytes (bound_map (λ key. Q.bytes key.now) start.entry)
+            (extract_set result).ghost_name) }
+        ensures keys { (asking_keys result).keys ≡ self.old }
+        ensures left { (asking_keys result).left ≡ keys_between K.bytes (bound_map (λ key. Q.bytes key.now) start.entry)
             (bound_map (λ key. Q.bytes key.now) end.entry) self.old }
-        ensures asks { (asking result).asks ≡ pred }
-        ensures callable { CanExtractIf F.FnMut result }
+        ensures asks { (asking_keys result).asks ≡ pred }
+        ensures callable { CanExtractKeys F.FnMut result }
     {
         let map = self.map_mut();
         ExtractIf {
@@ -131,7 +131,7 @@ impl<K: AsBytes, const PREFIX_LEN: usize> TreeSet<K, PREFIX_LEN> {
         K: Drop,
         requires { CallableOnEachKey (CalledAt F.FnMut) (TakesAt F.FnMut) keep self.old }
         ensures retained { OnOk result (IsFiltered (CalledAt F.FnMut) keep self.old self.new) }
-        ensures refused { OnErr result ((key : K) × StopsAt (CalledAt F.FnMut) keep self.old key self.new
+        ensures refused { OnErr result ((key : K) × StopsAtKey (CalledAt F.FnMut) keep self.old key self.new
             × Shrinks K.bytes self.new (K.bytes key)) }
     {
         let _keys = self.iter();

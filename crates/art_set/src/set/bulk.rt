@@ -2,7 +2,7 @@
 ghost use Rattle.std.specs.Prelude.{◌≡◌, ◌<◌, ◌^◌, [], IfErr, IfOk, IsTrue};
 ghost use Rattle.std.specs.Iterator.{IsFinite};
 ghost use Rattle.std.specs.Map.Iter.{deref};
-ghost use Rattle.art_set.specs.Bulk.{ExtendsWith, IsMadeOf, IsOfList};
+ghost use Rattle.art_set.specs.Bulk.{ExtendsWithKeys, IsMadeOfKeys, IsKeyOfList};
 ghost use Rattle.art_set.specs.Members.{with_keys_put};
 
 use crate::set::TreeSet;
@@ -30,7 +30,7 @@ impl<K: NoPrefixesBytes + Drop, const PREFIX_LEN: usize> TreeSet<K, PREFIX_LEN> 
     pub fn extend<U: IntoIterator<Item = K>>(&mut self, iter: U) -> Result<(), RefusedKey<K>>
         requires { (it : U.IntoIter) → U.into_iter_gives iter it
             → U.IntoIter.can_next it × IsFinite (U.IntoIter.remaining it) }
-        ensures { ExtendsWith K.bytes (λ key. key) U.into_iter_gives U.IntoIter.next_gives iter self.old result
+        ensures { ExtendsWithKeys K.bytes (λ key. key) U.into_iter_gives U.IntoIter.next_gives iter self.old result
             self.new }
     {
         for key in iter {
@@ -48,7 +48,7 @@ impl<K: NoPrefixesBytes + Drop, const PREFIX_LEN: usize> TreeSet<K, PREFIX_LEN> 
         K: Copy + 'a,
         requires { (it : U.IntoIter) → U.into_iter_gives iter it
             → U.IntoIter.can_next it × IsFinite (U.IntoIter.remaining it) }
-        ensures { ExtendsWith K.bytes deref U.into_iter_gives U.IntoIter.next_gives iter self.old result self.new }
+        ensures { ExtendsWithKeys K.bytes deref U.into_iter_gives U.IntoIter.next_gives iter self.old result self.new }
     {
         for key in iter {
             self.insert(*key)?;
@@ -65,7 +65,7 @@ impl<K: NoPrefixesBytes + Drop, const PREFIX_LEN: usize> TreeSet<K, PREFIX_LEN> 
     ) -> Result<Self, RefusedKey<K>>
         requires { (it : U.IntoIter) → U.into_iter_gives iter it
             → U.IntoIter.can_next it × IsFinite (U.IntoIter.remaining it) }
-        ensures { IsMadeOf K.bytes (λ key. key) U.into_iter_gives U.IntoIter.next_gives iter result }
+        ensures { IsMadeOfKeys K.bytes (λ key. key) U.into_iter_gives U.IntoIter.next_gives iter result }
     {
         let mut keys = iter.into_iter();
         if !nodes_fit::<PREFIX_LEN>() {
@@ -84,7 +84,7 @@ impl<K: NoPrefixesBytes + Drop, const PREFIX_LEN: usize> TreeSet<K, PREFIX_LEN> 
     /// Where there is no memory for a key, it is handed back, and the rest is dropped.
     pub fn from_vec(alloc: Global, keys: Vec<K>) -> Result<Self, RefusedKey<K>>
         ensures ok { IfOk result (λ made. made ≡ with_keys_put K.bytes keys.items []) }
-        ensures err { IfErr result (IsOfList keys.items) }
+        ensures err { IfErr result (IsKeyOfList keys.items) }
     {
         TreeSet::from_iter(alloc, keys)
     }

@@ -4,7 +4,7 @@ ghost use Rattle.art_operations.specs.KeyedLists.{HasKey, IsBlocked};
 ghost use Rattle.std.specs.Map.{keys_of};
 ghost use Rattle.art_map.specs.Contents.{has_bytes};
 ghost use Rattle.art_map.specs.Changes.{IsTryRefused as IsPairRefused};
-ghost use Rattle.art_set.specs.Changes.{IsTryRefused};
+ghost use Rattle.art_set.specs.Changes.{IsKeyTurnedAway};
 ghost use Rattle.art_set.specs.Members.{is_member, with_key_put};
 
 use crate::set::TreeSet;
@@ -16,7 +16,7 @@ use art_map::{TryInsertError, TryKeyError};
 // Why a pair of a key is not put in, told of the key.
 fn without_value<K: AsBytes>(refused: TryInsertError<K, ()>) -> TryKeyError<K>
     ensures { (pairs : List (K × Unit {0})) (key : K) → IsPairRefused K.bytes pairs key tt refused
-        → IsTryRefused K.bytes (keys_of pairs) key result }
+        → IsKeyTurnedAway K.bytes (keys_of pairs) key result }
 {
     match refused {
         TryInsertError::Prefix { key, error, .. } => TryKeyError::Prefix { key, error },
@@ -38,7 +38,7 @@ impl<K: AsBytes, const PREFIX_LEN: usize> TreeSet<K, PREFIX_LEN> {
         ensures free { OnOk result (IsBlocked K.bytes (K.bytes key) self.old → ⊥) }
         ensures stored { HasKey K.bytes (K.bytes key) self.old → IsOk result }
         ensures err { OnErr result (self.new ≡ self.old) }
-        ensures refused { IfErr result (IsTryRefused K.bytes self.old key) }
+        ensures refused { IfErr result (IsKeyTurnedAway K.bytes self.old key) }
     {
         let old = match self.map.try_insert(key, ()) {
             Ok(old) => old,

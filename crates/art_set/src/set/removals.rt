@@ -4,7 +4,7 @@ ghost use Rattle.art_arena.specs.declared.ends.End.TheVariants.{First, Last};
 ghost use Rattle.art_arena.specs.tree.Shrinks.{Shrinks};
 ghost use Rattle.art_map.specs.Contents.{has_bytes};
 ghost use Rattle.art_operations.specs.KeyedLists.{HasKey, without_key};
-ghost use Rattle.art_set.specs.Members.{is_member, option_key, KeyShrinksAtEnd};
+ghost use Rattle.art_set.specs.Members.{is_member, key_if_some, KeyShrinksAtEnd};
 
 use crate::set::TreeSet;
 use art_bytes::AsBytes;
@@ -12,7 +12,7 @@ use std::alloc::AllocError;
 
 // The key of a pair.
 pub(super) fn key_of<K>(pair: Option<(K, ())>) -> Option<K>
-    ensures { result ≡ option_key pair }
+    ensures { result ≡ key_if_some pair }
 {
     match pair {
         Some((key, ())) => Some(key),

@@ -1,6 +1,6 @@
 use Rattle.std.proofs.Common.{[], map, refl, subst, ap, ◌∙◌}
 use Rattle.std.specs.Iterator.{Drains}
-use Rattle.art_set.specs.Bulk.{HandsNextBack}
+use Rattle.art_set.specs.Bulk.{HandsNextKeyBack}
 use Rattle.art_set.specs.Members.{with_keys_put}
 use Rattle.art_set.proofs.KeyPuts.{made-refused, next-back}
 use Rattle.art_set.proofs.set.TreeSet.from_iter.Goals as goal
@@ -10,7 +10,7 @@ returns-in_err-extend g c =
     let it = c.into_iter-keys in
     let ran = c.in_err-extend.ensures in
     made-refused g.K.AsBytes.bytes (λ key. key) g.U.IntoIterator.into_iter_gives g.U.IntoIter.Iterator.next_gives c.args.iter it.result ran.1 c.in_err-extend.field-0.0 c.from_residual.result it.ensures.into_iter_gives
-    (subst (λ s. HandsNextBack g.K.AsBytes.bytes (λ key. key) g.U.IntoIterator.into_iter_gives g.U.IntoIter.Iterator.next_gives s ran.1 c.in_err-extend.field-0.0) ran.2 ran.4)
+    (subst (λ s. HandsNextKeyBack g.K.AsBytes.bytes (λ key. key) g.U.IntoIterator.into_iter_gives g.U.IntoIter.Iterator.next_gives s ran.1 c.in_err-extend.field-0.0) ran.2 ran.4)
     c.from_residual.ensures.1
 
 pub returns : goal.returns

@@ -1,5 +1,5 @@
 use Rattle.std.proofs.Common.{ap, ◌∙◌}
-use Rattle.art_set.specs.Members.{option_key}
+use Rattle.art_set.specs.Members.{key_if_some}
 use Rattle.art_set.proofs.Seen.{found, has-pair, keys-put}
 use Rattle.art_set.proofs.set.TreeSet.replace.Goals as goal
 
@@ -7,7 +7,7 @@ pub returns-in-Err-clause-stored : goal.returns-in-Err-clause-stored
 returns-in-Err-clause-stored g c = rw (← c.self.view_is) (λ h. c.in-Err.ensures.stored (has-pair g.K.AsBytes.bytes (g.K.AsBytes.bytes c.args.key) c.self.inside.map.pairs h))
 
 pub returns-clause-old : goal.returns-clause-old
-returns-clause-old g c = rw (← c.self.view_is) (c.key_of.ensures ∙ ap option_key c.in-Ok.ensures.old ∙ found _ c.self.inside.map.pairs)
+returns-clause-old g c = rw (← c.self.view_is) (c.key_of.ensures ∙ ap key_if_some c.in-Ok.ensures.old ∙ found _ c.self.inside.map.pairs)
 
 pub returns-clause-keys : goal.returns-clause-keys
 returns-clause-keys g c = rw (← c.self.view_is, c.in-Ok.ensures.pairs) (keys-put g.K.AsBytes.bytes c.args.key tt c.self.inside.map.pairs)

@@ -4,7 +4,7 @@ use Rattle.std.specs.Map.{keys_of}
 use Rattle.art_arena.specs.tree.Shrinks.{Shrinks}
 use Rattle.art_map.proofs.Asks.{on-err}
 use Rattle.art_map.specs.Extractions.{left_of, map_of}
-use Rattle.art_set.specs.Asked.{StopsAt}
+use Rattle.art_set.specs.Asked.{StopsAtKey}
 use Rattle.art_set.proofs.AskedKeys.{callable-next, retained-all, retaining-all, retaining-kept, retaining-stopped, retaining-taken}
 use Rattle.art_set.proofs.AskedPairs.{asking_by, first-left, first-passed, none-first, refused-key, taken-key}
 use Rattle.art_set.proofs.set.TreeSet.retain.Goals as goal
@@ -47,7 +47,7 @@ returns-in_err-_pair-clause-refused g c =
     let refused = refused-key g.K.AsBytes.bytes {E = Unit {0}} k old new ps qs first (Err tt) (Err tt) refl c.in_err-_pair.ensures.err c.in_err-_pair.ensures.shrinks in
     on-err c.from_residual.result (
       k,
-      subst (λ ks. StopsAt (CalledAt g.F.FnMut) c.args.keep c.args.self.now k ks) (sym refused.0)
+      subst (λ ks. StopsAtKey (CalledAt g.F.FnMut) c.args.keep c.args.self.now k ks) (sym refused.0)
           (retaining-stopped (CalledAt g.F.FnMut) g.K.AsBytes.bytes (TakesAt g.F.FnMut) c.args.keep c.args.self.now s c.loop-key.invariant.retaining k _ c.keep.new.self first call),
       subst (λ ks. Shrinks g.K.AsBytes.bytes ks (g.K.AsBytes.bytes k)) (sym refused.0) refused.2,
     )

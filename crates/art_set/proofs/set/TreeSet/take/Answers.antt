@@ -1,6 +1,6 @@
 use Rattle.std.proofs.Common.{ap, ◌∙◌}
 use Rattle.art_map.proofs.Asks.{on-err}
-use Rattle.art_set.specs.Members.{option_key}
+use Rattle.art_set.specs.Members.{key_if_some}
 use Rattle.art_set.proofs.Seen.{found, has-key, keys-without, shrinking}
 use Rattle.art_set.proofs.set.TreeSet.take.Goals as goal
 
@@ -10,7 +10,7 @@ returns-in_err-pair-clause-shrinks g c =
     on-err c.from_residual.result (rw (← c.self.view_is) (has-key g.K.AsBytes.bytes _ c.self.inside.map.pairs there, shrinking g.K.AsBytes.bytes _ c.self.inside.map.pairs shrinks))
 
 pub returns-clause-key : goal.returns-clause-key
-returns-clause-key g c = rw (← c.self.view_is) (c.key_of.ensures ∙ ap option_key c.in_ok-pair.ensures.value ∙ found _ c.self.inside.map.pairs)
+returns-clause-key g c = rw (← c.self.view_is) (c.key_of.ensures ∙ ap key_if_some c.in_ok-pair.ensures.value ∙ found _ c.self.inside.map.pairs)
 
 pub returns-clause-keys : goal.returns-clause-keys
 returns-clause-keys g c = rw (← c.self.view_is, c.in_ok-pair.ensures.pairs) (keys-without g.K.AsBytes.bytes _ c.self.inside.map.pairs)
