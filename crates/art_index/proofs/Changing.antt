@@ -14,7 +14,6 @@ use Rattle.art_index.specs.Words.{name, natural}
 use Rattle.art_index.specs.Commands.{of_tenant, over, del}
 use Rattle.art_index.specs.Keys.{full_key, full_key_of}
 use Rattle.art_index.specs.Records.{KeyFits, own}
-use Rattle.art_index.specs.Refusals.{MayRefuse}
 use Rattle.art_index.specs.Replies.{value_at, found_or}
 use Rattle.art_index.specs.Stored.{Pair, record_of, records_of, IsFull, AreFull, ArePairs}
 use Rattle.art_index.specs.Changed.{IsChangeDone, placed_words}
@@ -22,7 +21,7 @@ use Rattle.art_index.proofs.Conflicts.{bytes_of}
 use Rattle.art_index.proofs.Dropping.{All-left_out}
 use Rattle.art_index.proofs.FullTests.{same_full}
 use Rattle.art_index.proofs.Overwriting.{over_records, over_count}
-use Rattle.art_index.proofs.OwnLaws.{key_made, records_from_lists}
+use Rattle.art_index.proofs.OwnLaws.{records_from_lists}
 use Rattle.art_index.proofs.Placing.{is_full_key, found}
 use Rattle.art_index.proofs.Removing.{IsFullTest, without_keeps, without_is}
 

@@ -1,11 +1,10 @@
 -- A full key is blocked among those of an index exactly where its key conflicts with one of its tenant's.
-use Rattle.std.proofs.Common.{◌≡◌, ℕ, ◌<◌, ◌^◌, List, [], ◌∷◌, map, refl, ap, sym, ◌∙◌, Bool, true, false, cond, subst, inl, inr}
+use Rattle.std.proofs.Common.{◌≡◌, ℕ, ◌<◌, ◌^◌, List, [], ◌∷◌, map, refl, sym, ◌∙◌, Bool, true, false, cond, subst, inl, inr}
 use Rattle.std.specs.Prelude.{◌==◌, ◌||◌, ◌&&◌, filter}
 use Rattle.std.specs.List.{AllByRecursion}
 use Rattle.std.proofs.lemmas.Bool.{eqb-true, eq-eqb, or_left, or_right, or_cases, and_from, and_parts}
 use Rattle.art_bytes.specs.Keys.{Conflict, conflicts}
 use Rattle.art_bytes.proofs.Conflicts.{conflict_told, told_conflict}
-use Rattle.art_arena.specs.tree.Changes.{IsIn}
 use Rattle.art_operations.specs.KeyedLists.{IsBlocked}
 use Rattle.art_index.specs.Keys.{full_key}
 use Rattle.art_index.specs.Records.{KeyRecord}

@@ -1,8 +1,8 @@
 -- A tenant's part of a list, and the list without some of that part.
-use Rattle.std.proofs.Common.{◌≡◌, ℕ, ◌≤◌, List, [], ◌∷◌, ◌++◌, refl, ap, sym, ◌∙◌, Bool, true, false, not, cond, arith, Option, Some, None}
+use Rattle.std.proofs.Common.{◌≡◌, ℕ, ◌≤◌, List, [], ◌∷◌, ◌++◌, refl, ap, sym, ◌∙◌, Bool, true, false, not, cond, arith, Some}
 use Rattle.std.specs.Prelude.{◌==◌, ◌&&◌, nat_lt, map, filter, option_map}
 use Rattle.std.specs.List.{AllByRecursion, find}
-use Rattle.std.proofs.lemmas.Bool.{eqb-true, ne_eqb, ltb-true, true≢false}
+use Rattle.std.proofs.lemmas.Bool.{ne_eqb, ltb-true}
 use Rattle.art_arena.specs.tree.Changes.{put_in_order, is_before}
 use Rattle.art_index.specs.Records.{InOrder}
 use Rattle.art_index.proofs.OwnLaws.{Ascends, in_place}

@@ -1,5 +1,5 @@
 -- What holds of a family's words: what they leave as it was.
-use Rattle.std.proofs.Common.{◌≡◌, List, ℕ, refl}
+use Rattle.std.proofs.Common.{◌≡◌, refl}
 use Rattle.std.specs.Prelude.{Some}
 use Rattle.art_index.specs.declared.command.fields.Fields.{Fields}
 use Rattle.art_index.specs.declared.command.word.LookUp.{LookUp}

@@ -1,14 +1,14 @@
 -- Whatever other tenants send, a tenant is answered from what it holds alone.
-use Rattle.std.proofs.Common.{◌≡◌, ◌≢◌, ℕ, suc, List, [], ◌∷◌, refl, ap, ap₂, sym, subst, ◌∙◌, Bool, true, false, cond, Option, Some, None}
+use Rattle.std.proofs.Common.{◌≡◌, ◌≢◌, ℕ, suc, List, [], ◌∷◌, refl, ap, sym, subst, ◌∙◌, Bool, true, false, cond, Option, Some, None}
 use Rattle.std.specs.Prelude.{◌==◌, flat_map}
 use Rattle.std.proofs.lemmas.Bool.{eqb-true, eq-eqb, true≢false}
 use Rattle.art_index.specs.Words.{line_of}
-use Rattle.art_index.specs.Commands.{Request, Command, of_tenant, dump}
+use Rattle.art_index.specs.Commands.{Command, of_tenant, dump}
 use Rattle.art_index.specs.Reading.{command_of}
 use Rattle.art_index.specs.Records.{Own, Records, own}
 use Rattle.art_index.specs.Replies.{own_reply, own_after, with_changed, command_reply, command_after, reply_to, records_after}
-use Rattle.art_index.specs.Outcome.{is_refused, left_by, records_from}
-use Rattle.art_index.specs.Laws.{request_to, own_changed, with_reply, replies_among, own_behind, own_told, own_replies, own_at_end, RequestsLeaveOthers, TenantsStandAlone}
+use Rattle.art_index.specs.Outcome.{is_refused, left_by}
+use Rattle.art_index.specs.Laws.{request_to, own_changed, with_reply, own_behind, own_told, own_replies, own_at_end, RequestsLeaveOthers, TenantsStandAlone}
 use Rattle.art_index.proofs.OwnLaws.{own_reads_back, others_are_untouched}
 
 changed_others : (other tenant : ℕ) (o : Option Own) (records : Records) → other ≢ tenant → own other (with_changed tenant o records) ≡ own other records

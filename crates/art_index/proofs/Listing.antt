@@ -1,14 +1,13 @@
 -- The lines of a list, one pair after another.
-use Rattle.std.proofs.Common.{◌≡◌, ℕ, zero, suc, ◌+◌, ◌≤◌, List, [], ◌∷◌, ◌++◌, length, take, drop, map, refl, ap, sym, ◌∙◌, subst, Bool, true, false, cond, arith, append_assoc, append-nil, length-append}
-use Rattle.std.specs.Prelude.{flat_map, filter, codes, decimal}
+use Rattle.std.proofs.Common.{◌≡◌, ℕ, suc, ◌+◌, ◌≤◌, List, [], ◌∷◌, ◌++◌, length, drop, map, refl, ap, sym, ◌∙◌, Bool, true, false, cond, arith, append_assoc, append-nil, length-append}
+use Rattle.std.specs.Prelude.{flat_map, filter, decimal}
 use Rattle.std.specs.List.{AllByRecursion}
 use Rattle.std.proofs.lemmas.Grind.{flat_map-append}
 use Rattle.art_index.specs.Words.{Word, shown, bytes, text_of, line_of}
 use Rattle.art_index.specs.Commands.{put_words}
-use Rattle.art_index.specs.Keys.{full_key}
 use Rattle.art_index.specs.Records.{KeyRecord, KeyFits}
 use Rattle.art_index.specs.Replies.{end_words, pair_words, listed}
-use Rattle.art_index.specs.Stored.{Pair, record_of, IsFull, ArePairs}
+use Rattle.art_index.specs.Stored.{Pair, record_of, IsFull}
 use Rattle.art_index.proofs.Filters.{length-map}
 use Rattle.art_index.proofs.OwnLaws.{key_part}
 use Rattle.art_index.proofs.ReplyLines.{pair_parts, put_parts}

@@ -1,16 +1,13 @@
 -- Whether a deletion may find no memory goes by the tenant's own keys, while it has another one.
-use Rattle.std.proofs.Common.{◌≡◌, ◌≢◌, ℕ, ◌<◌, ◌^◌, List, [], ◌∷◌, ◌++◌, drop, map, refl, ap, sym, ◌∙◌, subst, Bool, true, false, cond, append-nil}
-use Rattle.std.specs.Prelude.{◌==◌, ◌&&◌, ◌↔◌, filter, IsSome}
+use Rattle.std.proofs.Common.{◌≡◌, ◌≢◌, ℕ, ◌<◌, ◌^◌, List, [], ◌∷◌, drop, map, refl, ap, sym, ◌∙◌, subst, Bool, true, false, cond, append-nil}
+use Rattle.std.specs.Prelude.{◌==◌, ◌&&◌, filter, IsSome}
 use Rattle.std.specs.List.{AllByRecursion}
 use Rattle.art_bytes.specs.Keys.{BeginsWith}
-use Rattle.art_arena.specs.tree.Changes.{IsIn}
 use Rattle.art_arena.specs.tree.Shrinks.{Shrinks}
 use Rattle.art_arena.specs.tree.Tenants.{begins_with, with_front}
 use Rattle.art_arena.proofs.tree.FrontShrinks.{own_shrinks}
 use Rattle.art_index.specs.Keys.{full_key, full_key_of}
-use Rattle.art_index.specs.Commands.{of_tenant, del}
-use Rattle.art_index.specs.Records.{KeyRecord, KeyFits, Records, no_records, AreRecords, own, with_own}
-use Rattle.art_index.specs.Refusals.{MayRefuse}
+use Rattle.art_index.specs.Records.{KeyRecord, KeyFits, Records, no_records, own, with_own}
 use Rattle.art_index.specs.Replies.{value_at}
 use Rattle.art_index.specs.Laws.{DeletionsGoByOwnKeys}
 use Rattle.art_index.proofs.FullTests.{begins_full}

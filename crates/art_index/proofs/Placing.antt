@@ -1,5 +1,5 @@
 -- How a look-up and a put are answered, and what a put leaves, from what the map says of its pairs.
-use Rattle.std.proofs.Common.{◌≡◌, ℕ, ◌<◌, ◌^◌, List, [], ◌∷◌, ◌++◌, map, take, drop, refl, ap, sym, ◌∙◌, subst, Bool, true, false, cond, Option, Some, None, bytes_eq}
+use Rattle.std.proofs.Common.{◌≡◌, ℕ, ◌<◌, ◌^◌, List, [], ◌∷◌, ◌++◌, map, take, drop, refl, ap, sym, ◌∙◌, subst, Bool, true, false, Option, Some, None, bytes_eq}
 use Rattle.std.specs.Prelude.{if◌then◌else◌, not, option_map}
 use Rattle.std.specs.Global.{Vec}
 use Rattle.std.specs.List.{AllByRecursion}
@@ -18,7 +18,6 @@ use Rattle.art_operations.specs.KeyedLists.{without_key, IsBlocked}
 use Rattle.art_operations.proofs.KeyedLists.{put_new, put_replaced}
 use Rattle.art_index.specs.declared.placed.Placed.TheVariants as placed
 use Rattle.art_index.specs.Keys.{full_key, full_pair}
-use Rattle.art_index.specs.Words.{name, bytes}
 use Rattle.art_index.specs.Records.{Own, KeyRecord, Records, own, with_own, InOrder, KeyComesBefore, KeyFits}
 use Rattle.art_index.specs.Replies.{value_at, has_conflict, with_pair, put_reply, puts, with_changed}
 use Rattle.art_index.specs.Stored.{Pair, record_of, records_of, IsFull, AreFull, ArePairs, IsOfTenant}

@@ -1,11 +1,11 @@
 -- Pairs under full keys that pass a test of a tenant's keys, and the pairs without them.
-use Rattle.std.proofs.Common.{◌≡◌, ℕ, ◌<◌, ◌^◌, List, [], ◌∷◌, ◌++◌, map, refl, ap, sym, ◌∙◌, subst, Bool, true, false, not, cond, Option, Some, None}
+use Rattle.std.proofs.Common.{◌≡◌, ℕ, ◌<◌, ◌^◌, List, [], ◌∷◌, ◌++◌, map, refl, ap, sym, ◌∙◌, subst, Bool, true, false, not, cond, Some}
 use Rattle.std.specs.Prelude.{◌==◌, ◌&&◌, nat_lt, filter, option_map}
 use Rattle.std.specs.List.{AllByRecursion, find}
 use Rattle.std.specs.Map.{lookup_entry}
 use Rattle.art_index.specs.Keys.{full_key, full_key_of}
 use Rattle.art_index.specs.Records.{KeyRecord, InOrder, KeyComesBefore}
-use Rattle.art_index.specs.Stored.{Pair, record_of, records_of, IsFull, AreFull, IsOfTenant}
+use Rattle.art_index.specs.Stored.{Pair, record_of, IsFull, AreFull, IsOfTenant}
 use Rattle.art_index.proofs.Dropping.{All-filter, InOrder-filter, IsOwnTest, own_filter, own_find, left_mine, left_before, left_behind, left_in_place}
 use Rattle.art_index.proofs.OwnLaws.{key_part, key_made, key_ascends}
 use Rattle.art_index.proofs.Putting.{pairs_of_tenant}

@@ -1,10 +1,10 @@
-use Rattle.std.proofs.Common.{arith, rules, ◌≡◌, ◌+◌, ◌++◌, ◌≤◌, ℕ, List, length, take, drop, map, append-nil, ap, ap₂, sym, ◌∙◌, subst, refl}
+use Rattle.std.proofs.Common.{arith, rules, ◌≡◌, ◌+◌, ◌++◌, ◌≤◌, ℕ, List, length, take, drop, append-nil, ap, ap₂, sym, ◌∙◌, subst}
 use Rattle.std.specs.Prelude.{filter, Bool}
 use Rattle.std.specs.List.{AllByRecursion}
 use Rattle.std.proofs.lemmas.Result.{on_err_weaker, on_ok_weaker}
 use Rattle.art_index.specs.Words.{line_of}
 use Rattle.art_index.specs.Replies.{pair_words}
-use Rattle.art_index.specs.Stored.{Pair, record_of}
+use Rattle.art_index.specs.Stored.{Pair}
 use Rattle.art_index.specs.Parsed.{tenant_in_place, key_in_place}
 use Rattle.art_index.proofs.Cuts.{taken_none, taken_from, taken_more, taken_through, taken_all, taken_cut, when_err}
 use Rattle.art_index.proofs.Listing.{lines_from, lines_next, words_listed, list_end, list_all, IsListed, listed_fits, are_listed, filter_shorter}

@@ -1,4 +1,4 @@
-use Rattle.std.proofs.Common.{ℕ, ap, sym, ◌∙◌, subst}
+use Rattle.std.proofs.Common.{ap, sym, ◌∙◌, subst}
 use Rattle.art_index.specs.Commands.{of_tenant, over}
 use Rattle.art_index.specs.Stored.{Pair, records_of, ArePairs}
 use Rattle.art_index.specs.Changed.{IsChangeDone}

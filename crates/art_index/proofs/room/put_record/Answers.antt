@@ -1,5 +1,4 @@
-use Rattle.std.proofs.Common.{arith, refl}
-use Rattle.art_index.proofs.Gathering.{length-line, line_by_head, puts_then, puts_same}
+use Rattle.art_index.proofs.Gathering.{line_by_head, puts_then, puts_same}
 use Rattle.art_index.proofs.room.put_record.Goals as goal
 
 pub returns : goal.returns
