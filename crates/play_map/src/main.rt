@@ -1,6 +1,6 @@
 // Plays a script of calls of the map or of the set, and prints what each answers. Its lines stand in tests/maps; what
-// is wanted of them is made from a model apart from the code (tests/maps.py), and the runner that refuses memory opens a
-// window at each line in turn. The first line says of what: `map PREFIX_LEN free` (keys of any bytes), `ended` (keys
+// is wanted of them is made from a model apart from the code (tests/maps.py), and the runner that refuses memory opens
+// a window at each line in turn. The first line says of what: `map PREFIX_LEN free` (keys of any bytes), `ended` (keys
 // with a zero at the end, so that none is a front of another), or `set` (a set of the latter).
 //
 // A line is a word and up to four others, parted by single spaces. Bytes are written in lower case digits, in parts
