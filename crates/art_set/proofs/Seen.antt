@@ -1,7 +1,7 @@
 -- A set's keys, from the pairs of the map that holds them.
 use Rattle.std.proofs.Common.{Result, Ok, Err, ◌≡◌, ◌≢◌, ◌⊎◌, ℕ, ◌≤◌, nat_eq, Bool, true, false, not, ◌||◌, cond, List, [], ◌∷◌, ◌++◌, length, Option, Some, refl, sym, ap, ◌∙◌, subst, inl, inr, arith}
 use Rattle.std.specs.Prelude.{IfOk, OnOk, filter, find, is_some}
-use Rattle.std.specs.List.{AllByRecursion, list_any, cons_option}
+use Rattle.std.specs.List.{AllByRecursion, AllZip, list_any, cons_option}
 use Rattle.std.specs.Map.{keys_of, lookup, lookup_entry}
 use Rattle.std.specs.declared.ops.Bound.{Bound}
 use Rattle.art_arena.specs.arena.Shapes.{key_of}
@@ -166,3 +166,11 @@ module _ {K V : Type 0} (bytes : K → List ℕ) where
 
   pub shrinks-at-end : (end : End) (ps : List (K × V)) → ShrinksAtEnd bytes end ps → KeyShrinksAtEnd bytes end (keys_of ps)
   shrinks-at-end end ps (p, rest, at, shrinks) = (p.0, keys_of rest, at-end end p rest ps at, shrinking (bytes p.0) ps shrinks)
+
+-- the keys of clones of pairs are clones of their keys
+pub clone-keys : {K V : Type 0} (C : K → K → Type 0) (D : V → V → Type 0) (ps qs : List (K × V))
+    → AllZip (λ p q. C p.0 q.0 × D p.1 q.1) ps qs → AllZip C (keys_of ps) (keys_of qs)
+clone-keys C D [] [] h = h
+clone-keys C D [] (q ∷ qs) h = h
+clone-keys C D (p ∷ ps) [] h = h
+clone-keys C D (p ∷ ps) (q ∷ qs) h = (h.0.0, clone-keys C D ps qs h.1)

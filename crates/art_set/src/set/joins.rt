@@ -1,10 +1,11 @@
 //! All keys of a set go into another, or those from a key on; and a set of the same keys.
 ghost use Rattle.std.specs.Prelude.{◌≡◌, ◌⊎◌, [], IfOk, IsOk, OnErr, OnOk};
+ghost use Rattle.std.specs.List.{AllZip};
 ghost use Rattle.std.specs.declared.ops.Bound.TheVariants.{Included, Excluded, Unbounded};
 ghost use Rattle.art_set.specs.Members.{keys_between, with_keys_put};
 
 use crate::set::TreeSet;
-use art_bytes::{AsBytes, NoPrefixesBytes};
+use art_bytes::{AsBytes, CloneBytes, NoPrefixesBytes};
 use std::alloc::AllocError;
 
 impl<K: AsBytes, const PREFIX_LEN: usize> TreeSet<K, PREFIX_LEN> {
@@ -26,15 +27,18 @@ impl<K: AsBytes, const PREFIX_LEN: usize> TreeSet<K, PREFIX_LEN> {
         Ok(TreeSet { alloc, map })
     }
 
-    /// A set of the same keys, with nodes of its own. A clone of a key has to equal its original.
+    /// A set of clones of the keys, in the same order, with nodes of its own. Where a clone of a key equals its
+    /// original, it has the same keys. A clone of a key has to be a key of its type, as it is where it equals its
+    /// original.
     ///
     /// It is refused where a key can't be cloned, or where there is no memory for the nodes; what was made is let go of
     /// then. The set is only read.
     pub fn clone(&self) -> Result<Self, AllocError>
     where
-        K: Clone,
-        requires { (k c : K) → K.is_clone k c → c ≡ k }
-        ensures { IfOk result (λ copy. copy ≡ self.now) }
+        K: CloneBytes,
+        requires { (k c : K) → K.is_key k → K.is_clone k c → K.is_key c }
+        ensures clones { IfOk result (λ copy. AllZip K.is_clone self.now copy) }
+        ensures keys { ((k c : K) → K.is_clone k c → c ≡ k) → IfOk result (λ copy. copy ≡ self.now) }
     {
         let map = self.map.clone()?;
         Ok(TreeSet {
