@@ -236,7 +236,7 @@ class Model:
     def call_extend(self, *_):
         return self.put_other(self.pairs)
 
-    def call_from_iter(self, *_):
+    def call_from_vec(self, *_):
         made = {}
         told = self.put_other(made)
         self.pairs = made if told == "done" else self.pairs
@@ -643,10 +643,10 @@ ENDED = ["insert", *FILLING, *(f"{it}_entry" for it in FILLING), "insert_entry",
 ENDED += ["entry_remove", "entry_remove_entry", "into_mut", "replace_entry"]
 ENDED_CALLS = {it: "kn" for it in ENDED}
 ENDED_CALLS |= {"swap": "", "split_off": "s", "into_iter": "e", "into_keys": "e", "into_values": "e"}
-ENDED_CALLS |= {"append": "", "extend": "", "from_iter": "", "clone": "", "compare": ""}
+ENDED_CALLS |= {"append": "", "extend": "", "from_vec": "", "clone": "", "compare": ""}
 OFTEN = ("try_insert", "insert", "remove", "pop_last", "insert_entry")
 SELDOM = ("clear", "retain", "extraction", "extract_if", "prefix_insert", "prefix_insert_entry", "prefix_or_insert")
-SELDOM += ("split_off", "into_iter", "into_keys", "into_values", "append", "extend", "from_iter", "clone")
+SELDOM += ("split_off", "into_iter", "into_keys", "into_values", "append", "extend", "from_vec", "clone")
 
 
 def model_of(kind):

@@ -27,8 +27,10 @@ import reference
 SCENARIOS, PROGRAM, REFUSED, CONFLICT = "refusals", "art_index", b"memory\n", b"conflict\n"
 # A scenario or test whose name ends so must ask for nothing in its window, and each other must ask for something.
 NO_MEMORY = "takes_no_memory"
-# Calls of the map that take out several pairs or put them in, one by one, and calls that take no memory.
-SEVERAL = {"retain", "extract_if", "extraction", "extend", "from_iter"}
+# Calls of the map that take out several pairs, one by one, and calls that take no memory.
+SEVERAL = {"retain", "extract_if", "extraction"}
+# Calls for which the player takes memory of its own.
+PLAYERS_OWN = {"extend", "from_vec"}
 TAKE_NONE = {"len", "is_empty", "get", "get_key_value", "contains_key", "index", "prefix_get", "prefix_get_key_value"}
 TAKE_NONE |= {"first_key_value", "last_key_value", "get_mut", "prefix_get_mut", "prefix_get_key_value_mut", "clear"}
 TAKE_NONE |= {"iter", "keys", "values", "range", "prefix", "range_mut", "prefix_mut", "iter_mut", "values_mut", "swap"}
@@ -170,7 +172,7 @@ def played(model, lines):
 
 def one_call(words, kind, lines, at):
     """A line of a script stands twice, and is refused the first time: all else must be as if it stood once. Of a line
-    that takes out several pairs, or puts them in, those before the refused one were, and those behind it were not."""
+    that takes out several pairs, those before the refused one are gone, and those behind it stand."""
     model = maps.model_of(kind)
     before, call = played(model, lines[:at]), lines[at].split(" ")[0]
     twice = "".join(f"{it}\n" for it in [words[1], *lines[: at + 1], *lines[at:]]).encode()
@@ -199,7 +201,7 @@ def of_players(by):
         if name.startswith("random") and int(name.split()[1]) > 5:
             continue
         lines = lines[:60]
-        for at in range(len(lines)):
+        for at in (at for at, line in enumerate(lines) if line.split(" ")[0] not in PLAYERS_OWN):
             words = [f"crates/play_map/out/play_map{by}", f"map 4 {kind}"]
             count("play_map", f"{name}, line {at + 1}, {lines[at][:40]}", one_call, words, kind, lines, at)
 

@@ -6,7 +6,7 @@ use crate::script::{Asked, bound_of};
 use art_bytes::{AsBytes, SliceKey, ZeroEnded};
 use art_set::TreeSet;
 use art_walks::bounds_are_valid;
-use std::alloc::AllocError;
+use std::alloc::{AllocError, Global};
 use std::cmp::Ordering;
 use std::{io, mem};
 
@@ -243,6 +243,21 @@ fn take<const PREFIX_LEN: usize>(
     Ok(true)
 }
 
+// The keys of the second set, which is empty then.
+fn drained<const PREFIX_LEN: usize>(
+    alloc: Global,
+    other: &mut TreeSet<ZeroEnded, PREFIX_LEN>,
+) -> Result<Vec<ZeroEnded>, AllocError>
+    requires { PREFIX_LEN ≤ 16 }
+{
+    let mut keys = Vec::with_capacity(alloc, other.len())?;
+    let mut walk = mem::replace(other, TreeSet::with_prefix_len(alloc)).into_iter();
+    while let Some(key) = walk.next() {
+        keys.push(key)?;
+    }
+    Ok(keys)
+}
+
 // Calls that make a set.
 fn make<const PREFIX_LEN: usize>(
     rt: &(impl Print + AllocGlobal),
@@ -276,7 +291,7 @@ fn make<const PREFIX_LEN: usize>(
             Err(_) => println!(rt; "memory")?,
         },
         "extend" => {
-            let keys = mem::replace(other, TreeSet::with_prefix_len(rt.alloc()));
+            let keys = drained(rt.alloc(), other)?;
             match set.extend(keys) {
                 Ok(()) => println!(rt; "done")?,
                 Err(refused) => println!(rt; "memory {:?}", refused.key.as_bytes())?,

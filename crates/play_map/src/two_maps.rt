@@ -6,6 +6,7 @@ use crate::changes::show_refused;
 use crate::script::Asked;
 use art_bytes::{AsBytes, SliceKey, ZeroEnded};
 use art_map::TreeMap;
+use std::alloc::{AllocError, Global};
 use std::cmp::Ordering;
 use std::{io, mem};
 
@@ -94,6 +95,22 @@ fn into_values<const PREFIX_LEN: usize>(
     println!(rt; "end")
 }
 
+// The pairs of the second map, which is empty then. (A walk that owns a map is not handed on: the proof that it may be
+// dropped there is not found for any number of stored bytes.)
+fn drained<const PREFIX_LEN: usize>(
+    alloc: Global,
+    other: &mut TreeMap<ZeroEnded, u64, PREFIX_LEN>,
+) -> Result<Vec<(ZeroEnded, u64)>, AllocError>
+    requires { PREFIX_LEN ≤ 16 }
+{
+    let mut pairs = Vec::with_capacity(alloc, other.len())?;
+    let mut walk = mem::replace(other, TreeMap::with_prefix_len(alloc)).into_iter();
+    while let Some(pair) = walk.next() {
+        pairs.push(pair)?;
+    }
+    Ok(pairs)
+}
+
 // The second map's pairs are put in one by one.
 fn extend<const PREFIX_LEN: usize>(
     rt: &(impl Print + AllocGlobal),
@@ -102,7 +119,7 @@ fn extend<const PREFIX_LEN: usize>(
 ) -> io::Result<()>
     requires { PREFIX_LEN ≤ 16 }
 {
-    let pairs = mem::replace(other, TreeMap::with_prefix_len(rt.alloc()));
+    let pairs = drained(rt.alloc(), other)?;
     match map.extend(pairs) {
         Ok(()) => println!(rt; "done"),
         Err(refused) => show_refused(rt, refused.key, refused.value),
@@ -110,15 +127,15 @@ fn extend<const PREFIX_LEN: usize>(
 }
 
 // The map is made anew of the second one's pairs.
-fn from_iter<const PREFIX_LEN: usize>(
+fn from_vec<const PREFIX_LEN: usize>(
     rt: &(impl Print + AllocGlobal),
     map: &mut TreeMap<ZeroEnded, u64, PREFIX_LEN>,
     other: &mut TreeMap<ZeroEnded, u64, PREFIX_LEN>,
 ) -> io::Result<()>
     requires { PREFIX_LEN ≤ 16 }
 {
-    let pairs = mem::replace(other, TreeMap::with_prefix_len(rt.alloc()));
-    match TreeMap::from_iter(rt.alloc(), pairs) {
+    let pairs = drained(rt.alloc(), other)?;
+    match TreeMap::from_vec(rt.alloc(), pairs) {
         Ok(made) => {
             *map = made;
             println!(rt; "done")
@@ -172,7 +189,7 @@ pub fn answer<const PREFIX_LEN: usize>(
             Err(_) => println!(rt; "memory")?,
         },
         "extend" => extend(rt, map, other)?,
-        "from_iter" => from_iter(rt, map, other)?,
+        "from_vec" => from_vec(rt, map, other)?,
         "clone" => clone(rt, map, other)?,
         "compare" => compare(rt, map, other)?,
         "swap" => {
