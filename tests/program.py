@@ -51,6 +51,15 @@ def first_run_by_the_script(program):
     wants(ended([os.path.abspath("run")], input=FIRST_RUN, cwd="/"), (FIRST_REPLIES, b"", 0))
 
 
+def the_example_of_the_readme(program):
+    """The lines behind `>` in the README's example, and what stands below each."""
+    with open("README.md", encoding="utf-8") as file:
+        shown = file.read().split("```text\n> ")[1].split("```")[0]
+    rows = ("> " + shown).splitlines(True)
+    sent = "".join(it[2:] for it in rows if it.startswith("> ")).encode()
+    wants(ended([program], input=sent), ("".join(it for it in rows if not it.startswith("> ")).encode(), b"", 0))
+
+
 def nothing_in_nothing_out(program):
     wants(ended([program], input=b""), (b"", b"", 0))
     wants(ended([program], input=b"\n"), (b"bad\n", b"", 0))
@@ -224,6 +233,7 @@ def few_system_calls(program):
 TESTS = [
     first_run,
     first_run_by_the_script,
+    the_example_of_the_readme,
     nothing_in_nothing_out,
     any_bytes_are_answered,
     many_values_are_kept,

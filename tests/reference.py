@@ -16,6 +16,7 @@ WORDS = {
     "list": "tk",
     "span": "tkk",
     "dump": "",
+    "audit": "",
 }
 TENANT = re.compile(rb"0|[1-9][0-9]*")
 NUMBER = re.compile(rb"0|-?[1-9][0-9]*")

@@ -49,11 +49,11 @@ some_mapped f (Some x) h = refl
 some_mapped f None h = h
 
 -- the full keys of records are those that their pairs stand under
-keys_are : (ps : List Pair) → AllByRecursion IsFull ps → map bytes_of ps ≡ map full_key_of (map record_of ps)
+pub keys_are : (ps : List Pair) → AllByRecursion IsFull ps → map bytes_of ps ≡ map full_key_of (map record_of ps)
 keys_are [] full = refl
 keys_are (p ∷ ps) full = rw (← full.0) (ap (λ l. p.0.items ∷ l) (keys_are ps full.1))
 
-abbrev itself : List ℕ → List ℕ
+abbrev pub itself : List ℕ → List ℕ
 itself k = k
 
 gone_words : (v : Vec ℕ) (o : Option (List ℕ)) → o ≡ Some v.items → placed_words (placed.Gone v) ∷ [] ≡ found_or o (codes "gone") (codes "none") ∷ []

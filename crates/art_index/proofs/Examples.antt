@@ -8,7 +8,7 @@ use Rattle.art_index.specs.Reading.{command_of, tenant_in, bytes_in}
 use Rattle.art_bytes.specs.Keys.{is_below, conflicts}
 use Rattle.art_index.specs.Keys.{full_key}
 use Rattle.art_index.specs.Records.{KeyRecord, KeyFits, Records, no_records, own, with_own}
-use Rattle.art_index.specs.Replies.{reply_to, records_after, dump_of}
+use Rattle.art_index.specs.Replies.{reply_to, records_after, dump_of, audit_lines}
 use Rattle.art_index.specs.Refusals.{LineMayRefuse}
 use Rattle.art_index.specs.Outcome.{outcome_of, IsLawful}
 use Rattle.art_index.specs.Faults.{AfterReadFault, AfterWriteFault, IsCut, IsCutLine}
@@ -144,6 +144,10 @@ reply-of_conflict = refl
 dump-of_two : flat_map line_of (dump_of two) ≡ text (codes "put 2 0a 61" ∷ codes "put 5 0a0b -" ∷ codes "end 2" ∷ [])
 unfolding outcome_of whole_lines_of unfinished_line_of reply_to records_after command_of tenant_in bytes_in hex_on_literals digits
 dump-of_two = refl
+
+audit-of_two : flat_map line_of (audit_lines two) ≡ text (codes "bytes 2 1 0 0 0" ∷ codes "numbers 0 0 0 0 0" ∷ [])
+unfolding outcome_of whole_lines_of unfinished_line_of reply_to records_after command_of tenant_in bytes_in hex_on_literals digits
+audit-of_two = refl
 
 -- Refusals: a put may find no memory.
 

@@ -12,6 +12,7 @@ use Rattle.art_index.specs.Parsed.{looks_up, asks_all}
 
 pub all_leaves : (w : Whole) (r : Records) → command_after (Some (asks_all w)) r ≡ r
 all_leaves whole.Dump r = refl
+all_leaves whole.Audit r = refl
 
 module _ (f : Fields) where
   pub look_leaves : (w : LookUp) (r : Records) → command_after (Some (looks_up w f)) r ≡ r

@@ -3,7 +3,7 @@ use Rattle.std.proofs.Common.{◌≡◌, ◌≢◌, ℕ, suc, List, [], ◌∷�
 use Rattle.std.specs.Prelude.{◌==◌, flat_map}
 use Rattle.std.proofs.lemmas.Bool.{eqb-true, eq-eqb, true≢false}
 use Rattle.art_index.specs.Words.{line_of}
-use Rattle.art_index.specs.Commands.{Command, of_tenant, dump}
+use Rattle.art_index.specs.Commands.{Command, of_tenant, dump, audit}
 use Rattle.art_index.specs.Reading.{command_of}
 use Rattle.art_index.specs.Records.{Own, Records, own}
 use Rattle.art_index.specs.Replies.{own_reply, own_after, with_changed, command_reply, command_after, reply_to, records_after}
@@ -26,6 +26,7 @@ changed_own tenant (Some mine) records = own_reads_back tenant mine records
 left_own : (tenant : ℕ) (o : Option Command) (records : Records) → own tenant (command_after o records) ≡ own_behind false (request_to tenant o) (own tenant records)
 left_own tenant None records = refl
 left_own tenant (Some dump) records = refl
+left_own tenant (Some audit) records = refl
 left_own tenant (Some (of_tenant other request)) records = go (other == tenant) refl
   where
     go : (b : Bool) → (other == tenant) ≡ b
@@ -39,6 +40,7 @@ told_own : (tenant : ℕ) (o : Option Command) (records : Records) (rest : List 
     → with_reply false (request_to tenant o) (flat_map line_of (command_reply o records)) rest ≡ with_reply false (request_to tenant o) (own_told (request_to tenant o) (own tenant records)) rest
 told_own tenant None records rest = refl
 told_own tenant (Some dump) records rest = refl
+told_own tenant (Some audit) records rest = refl
 told_own tenant (Some (of_tenant other request)) records rest = go (other == tenant) refl
   where
     go : (b : Bool) → (other == tenant) ≡ b

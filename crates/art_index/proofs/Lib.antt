@@ -35,3 +35,4 @@ pub mod Listing
 pub mod Finding
 pub mod Isolation
 pub mod OwnRefusals
+pub mod Auditing

@@ -28,7 +28,7 @@ use Rattle.art_index.specs.declared.command.word.LookUp.TheVariants as look_up
 use Rattle.art_index.specs.declared.command.word.Change.TheVariants as change
 use Rattle.art_index.specs.declared.command.word.Whole.TheVariants as whole
 use Rattle.art_index.specs.Commands.{Command, fields_of}
-use Rattle.art_index.specs.Reading.{tenant_in, bytes_in, some_bytes, nothing_in, put_in, over_in, del_in, get_in, find_in, list_in, span_in, dump_in, command_in, command_of}
+use Rattle.art_index.specs.Reading.{tenant_in, bytes_in, some_bytes, nothing_in, put_in, over_in, del_in, get_in, find_in, list_in, span_in, dump_in, audit_in, command_in, command_of}
 use Rattle.art_index.specs.Parsed.{word_in}
 use Rattle.art_index.specs.InPlace.{fields_behind, IsRead}
 
@@ -144,6 +144,7 @@ command_by (LookUp look_up.Find) rest = find_in rest
 command_by (LookUp look_up.List) rest = list_in rest
 command_by (LookUp look_up.Span) rest = span_in rest
 command_by (Whole whole.Dump) rest = dump_in rest
+command_by (Whole whole.Audit) rest = audit_in rest
 
 -- the same where there may be no word
 abbrev by_option : Option Word → List (List ℕ) → Option Command
@@ -165,7 +166,8 @@ by_word word rest =
     (by_choice rest (bytes_eq word (codes "find")) (LookUp look_up.Find) _ _
     (by_choice rest (bytes_eq word (codes "list")) (LookUp look_up.List) _ _
     (by_choice rest (bytes_eq word (codes "span")) (LookUp look_up.Span) _ _
-    (by_choice rest (bytes_eq word (codes "dump")) (Whole whole.Dump) None None refl)))))))
+    (by_choice rest (bytes_eq word (codes "dump")) (Whole whole.Dump) _ _
+    (by_choice rest (bytes_eq word (codes "audit")) (Whole whole.Audit) None None refl))))))))
 
 module _ (line word : List ℕ) (rest : List (List ℕ)) (short : length line ≤ 4096) (split : fields_of line ≡ word ∷ rest) where
   says : command_in (word ∷ rest) ≡ command_of line

@@ -11,6 +11,9 @@ use Rattle.art_index.specs.Refusals.{MayRefuse}
 use Rattle.art_index.specs.Outcome.{answer, left_by}
 use Rattle.art_index.specs.Stored.{Pair, records_of}
 use Rattle.art_index.specs.Changed.{IsPutDone, IsChangeDone, placed_words, found_no_memory}
+use Rattle.art_index.specs.Told.{IsTold, told_words, tells_no_memory}
+use Rattle.art_index.specs.declared.told.Told.{Told}
+use Rattle.art_index.specs.declared.told.Told.TheVariants as told
 use Rattle.art_index.specs.declared.placed.Placed.{Placed}
 use Rattle.art_index.specs.declared.placed.Placed.TheVariants as placed
 
@@ -88,3 +91,32 @@ bad_left r line e = after_is None r line e
 
 pub same_left : (r : Records) (c : Command) (line : List ℕ) → Some c ≡ command_of line → command_after (Some c) r ≡ r → r ≡ records_after r line
 same_left r c line e h = sym h ∙ after_is (Some c) r line e
+
+-- what is told of all records, and what that leaves
+told_answer : (t : Told) (c : Command) (r : Records) (line : List ℕ) → Some c ≡ command_of line → IsTold t c r
+    → flat_map line_of (told_words t r) ≡ answer (tells_no_memory t) r line
+told_answer told.Memory c r line e h = append-nil (line_of (name (codes "memory") ∷ []))
+told_answer told.Lines c r line e h = ap (flat_map line_of) h ∙ reply_is (Some c) r line e
+told_answer (told.Counts n) c r line e h = ap (flat_map line_of) h ∙ reply_is (Some c) r line e
+
+told_leaves : (t : Told) (c : Command) (r : Records) (line : List ℕ) → Some c ≡ command_of line → command_after (Some c) r ≡ r
+    → r ≡ left_by (tells_no_memory t) r line
+told_leaves told.Memory c r line e h = refl
+told_leaves told.Lines c r line e h = same_left r c line e h
+told_leaves (told.Counts n) c r line e h = same_left r c line e h
+
+told_may : (t : Told) (c : Command) (r : Records) → IsTold t c r → tells_no_memory t ≡ true → MayRefuse r c
+told_may told.Memory c r h m = h
+told_may told.Lines c r h m = absurd (false≢true m)
+told_may (told.Counts n) c r h m = absurd (false≢true m)
+
+module _ (t : Told) (memory : Bool) (c : Command) (held old : Records) (line : List ℕ) (found : memory ≡ tells_no_memory t) (same : held ≡ old)
+    (e : Some c ≡ command_of line) (h : IsTold t c held) where
+  pub all_told : flat_map line_of (told_words t held) ≡ answer memory old line
+  all_told = told_answer t c held line e h ∙ ap (λ b. answer b held line) (sym found) ∙ ap (λ r. answer memory r line) same
+
+  pub all_left : command_after (Some c) held ≡ held → held ≡ left_by memory old line
+  all_left leaves = told_leaves t c held line e leaves ∙ ap (λ b. left_by b held line) (sym found) ∙ ap (λ r. left_by memory r line) same
+
+  pub all_lawful : memory ≡ true → MayRefuse old c
+  all_lawful m = subst (λ r. MayRefuse r c) same (told_may t c held h (sym found ∙ m))

@@ -5,7 +5,7 @@ use Rattle.art_index.specs.Words.{Word, name, natural, bytes, shown, text_of, li
 use Rattle.art_index.specs.Commands.{put_words}
 use Rattle.art_index.specs.Replies.{pair_words}
 
-line_more : (w v : Word) (ws : List Word) → shown w ++ 32 ∷ line_of (v ∷ ws) ≡ line_of (w ∷ v ∷ ws)
+pub line_more : (w v : Word) (ws : List Word) → shown w ++ 32 ∷ line_of (v ∷ ws) ≡ line_of (w ∷ v ∷ ws)
 line_more w v ws = sym (append_assoc (shown w) (32 ∷ text_of (v ∷ ws)) (10 ∷ []))
 
 -- a word and bytes

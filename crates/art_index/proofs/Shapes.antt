@@ -10,7 +10,7 @@ use Rattle.art_index.specs.declared.command.word.Change.TheVariants as change
 use Rattle.art_index.specs.declared.command.word.Whole.TheVariants as whole
 use Rattle.art_index.specs.declared.command.word.Shape.{Shape}
 use Rattle.art_index.specs.declared.command.word.Shape.TheVariants.{Key, KeyAndValue, Nothing}
-use Rattle.art_index.specs.Commands.{put, over, del, get, find, list, span, Command, of_tenant, dump, fields_of}
+use Rattle.art_index.specs.Commands.{put, over, del, get, find, list, span, Command, of_tenant, dump, audit, fields_of}
 use Rattle.art_index.specs.Reading.{tenant_in, bytes_in, key_in, key_and_value_in, nothing_in, ◌>>=◌}
 use Rattle.art_index.specs.InPlace.{fields_behind, IsRead}
 use Rattle.art_index.specs.Parsed.{tenant_in_place, key_in_place, value_in_place, shape_of, command_with}
@@ -141,6 +141,7 @@ module _ (f : Fields) (b : Bool) (rest : List (List ℕ)) where
   by_shape (Change change.Over) h = made b (tenant_in_place f, key_in_place f, value_in_place f) (key_and_value_in rest) (λ p. of_tenant p.0 (over p.1 p.2)) h
   by_shape (Change change.Del) h = made b (tenant_in_place f, key_in_place f) (key_in rest) (λ p. of_tenant p.0 (del p.1)) h
   by_shape (Whole whole.Dump) h = made b tt (nothing_in rest) (λ p. dump) h
+  by_shape (Whole whole.Audit) h = made b tt (nothing_in rest) (λ p. audit) h
 
   -- so the word's command is read, where its shape is known
   pub by_known_shape : (w : Word) (s : Shape) → shape_of w ≡ s → IsShapeRead s → IsRead b (command_with w f) (command_by w rest)

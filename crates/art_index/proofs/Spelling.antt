@@ -9,9 +9,9 @@ use Rattle.std.proofs.lemmas.Slice.Eq.{bytes_eq-Decides}
 use Rattle.std.proofs.lemmas.Fmt.{decimal_is_IsNumeral}
 use Rattle.hex.specs.Hex.{decode_of, decode_pairs}
 use Rattle.art_index.specs.Words.{name, natural, bytes, Reads}
-use Rattle.art_index.specs.Commands.{put, over, del, get, find, list, span, Command, of_tenant, dump, words_of, AllRead, fields_of, Spells}
+use Rattle.art_index.specs.Commands.{put, over, del, get, find, list, span, Command, of_tenant, dump, audit, words_of, AllRead, fields_of, Spells}
 use Rattle.art_index.proofs.Shapes.{key_from, key_and_value_from}
-use Rattle.art_index.specs.Reading.{tenant_in, bytes_in, some_bytes, key_in, key_and_value_in, nothing_in, put_in, over_in, del_in, get_in, find_in, list_in, span_in, dump_in, command_in, command_of}
+use Rattle.art_index.specs.Reading.{tenant_in, bytes_in, some_bytes, key_in, key_and_value_in, nothing_in, put_in, over_in, del_in, get_in, find_in, list_in, span_in, dump_in, audit_in, command_in, command_of}
 
 tenant_reads : (text : List ℕ) (n : ℕ) → Reads text (natural n) → tenant_in text ≡ Some n
 unfolding tenant_in
@@ -58,6 +58,7 @@ all_read [] (of_tenant n (find key)) h = absurd h
 all_read [] (of_tenant n (list front)) h = absurd h
 all_read [] (of_tenant n (span low high)) h = absurd h
 all_read [] dump h = absurd h
+all_read [] audit h = absurd h
 all_read (w ∷ fs) (of_tenant n (put key value)) h = rw (h.0, key_and_value_reads fs n key value h.1) refl
 all_read (w ∷ fs) (of_tenant n (over key value)) h = rw (h.0, key_and_value_reads fs n key value h.1) refl
 all_read (w ∷ fs) (of_tenant n (del key)) h = rw (h.0, key_reads fs n key h.1) refl
@@ -66,6 +67,7 @@ all_read (w ∷ fs) (of_tenant n (find key)) h = rw (h.0, key_reads fs n key h.1
 all_read (w ∷ fs) (of_tenant n (list front)) h = rw (h.0, key_reads fs n front h.1) refl
 all_read (w ∷ fs) (of_tenant n (span low high)) h = rw (h.0, key_and_value_reads fs n low high h.1) refl
 all_read (w ∷ fs) dump h = rw (h.0, nothing_reads fs h.1) refl
+all_read (w ∷ fs) audit h = rw (h.0, nothing_reads fs h.1) refl
 
 pub spelled : (line : List ℕ) (c : Command) → Spells line c → command_of line ≡ Some c
 unfolding command_of
@@ -153,6 +155,9 @@ module _ (rest : List (List ℕ)) where
   dump_word : (c : Command) → dump_in rest ≡ Some c → AllRead (codes "dump" ∷ rest) (words_of c)
   dump_word = word_spelled (nothing_in rest) (λ f. dump) (codes "dump") rest (λ f e. (refl, nothing_spelled rest e))
 
+  audit_word : (c : Command) → audit_in rest ≡ Some c → AllRead (codes "audit" ∷ rest) (words_of c)
+  audit_word = word_spelled (nothing_in rest) (λ f. audit) (codes "audit") rest (λ f e. (refl, nothing_spelled rest e))
+
   module _ (word : List ℕ) (c : Command) where
     -- one word more
     or_word : (text : List ℕ) (o others : Option Command) → (o ≡ Some c → AllRead (text ∷ rest) (words_of c)) → (others ≡ Some c → AllRead (word ∷ rest) (words_of c))
@@ -172,7 +177,8 @@ module _ (rest : List (List ℕ)) where
         (or_word (codes "find") (find_in rest) _ (key_word (codes "find") (λ f. of_tenant f.0 (find f.1)) (λ f. refl) c)
         (or_word (codes "list") (list_in rest) _ (key_word (codes "list") (λ f. of_tenant f.0 (list f.1)) (λ f. refl) c)
         (or_word (codes "span") (span_in rest) _ (key_and_value_word (codes "span") (λ f. of_tenant f.0 (span f.1 f.2)) (λ f. refl) c)
-        (or_word (codes "dump") (dump_in rest) None (dump_word c) (λ e. cc))))))))
+        (or_word (codes "dump") (dump_in rest) _ (dump_word c)
+        (or_word (codes "audit") (audit_in rest) None (audit_word c) (λ e. cc)))))))))
 
 all_spelled : (fields : List (List ℕ)) (c : Command) → command_in fields ≡ Some c → AllRead fields (words_of c)
 all_spelled [] c h = cc

@@ -17,6 +17,7 @@ pub data Request : Type 0 where
 pub data Command : Type 0 where
   of_tenant : ℕ → Request → Command
   dump : Command
+  audit : Command
 
 -- the words that put a value at a tenant's key
 abbrev pub put_words : ℕ → List ℕ → List ℕ → List Word
@@ -40,6 +41,7 @@ request_words tenant (span low high) = name (codes "span") ∷ natural tenant �
 abbrev pub words_of : Command → List Word
 words_of (of_tenant tenant request) = request_words tenant request
 words_of dump = name (codes "dump") ∷ []
+words_of audit = name (codes "audit") ∷ []
 
 -- the fields of a line, parted by single spaces
 abbrev pub fields_of : List ℕ → List (List ℕ)

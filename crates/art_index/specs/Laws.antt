@@ -3,7 +3,7 @@ use Rattle.std.specs.Prelude.{◌≡◌, ◌≢◌, ℕ, suc, ◌^◌, ◌<◌, 
 use Rattle.std.specs.Prelude.{Bool, true, false, List, [], ◌∷◌, Option, Some, None, drop, map, flat_map}
 use Rattle.art_arena.specs.tree.Changes.{IsIn}
 use Rattle.art_arena.specs.tree.Tenants.{with_front}
-use Rattle.art_index.specs.Commands.{Request, del, Command, of_tenant, dump, Spells}
+use Rattle.art_index.specs.Commands.{Request, del, Command, of_tenant, dump, audit, Spells}
 use Rattle.art_index.specs.Reading.{command_of}
 use Rattle.art_bytes.specs.Keys.{is_below, conflicts}
 use Rattle.art_index.specs.Keys.{full_key}
@@ -59,6 +59,7 @@ abbrev pub request_to : ℕ → Option Command → Option Request
 request_to tenant None = None
 request_to tenant (Some (of_tenant other request)) = if other == tenant then Some request else None
 request_to tenant (Some dump) = None
+request_to tenant (Some audit) = None
 
 -- what a tenant holds after a request of its own
 abbrev pub own_changed : Option Own → Own → Own

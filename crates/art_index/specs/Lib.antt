@@ -13,6 +13,7 @@ pub mod InPlace
 pub mod Parsed
 pub mod Stored
 pub mod Changed
+pub mod Told
 pub mod Progress
 pub mod Gathered
 pub mod Digits

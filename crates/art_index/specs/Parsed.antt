@@ -3,7 +3,8 @@ use Rattle.std.specs.Prelude.{ℕ, if◌then◌else◌, List, take, drop, codes,
 use Rattle.std.specs.Int.{from_be_bytes, w32}
 use Rattle.std.specs.Str.{bytes_eq}
 use Rattle.art_index.specs.declared.command.Command.{Command}
-use Rattle.art_index.specs.declared.command.Command.TheVariants.{Put, Over, Del, Get, Find, List as ListOf, Span, Dump}
+use Rattle.art_index.specs.declared.command.Command.TheVariants.{Put, Over, Del, Get, Find, List as ListOf, Span}
+use Rattle.art_index.specs.declared.command.Command.TheVariants.{Dump, Audit}
 use Rattle.art_index.specs.declared.command.fields.Fields.{Fields}
 use Rattle.art_index.specs.declared.command.word.Word.{Word}
 use Rattle.art_index.specs.declared.command.word.Word.TheVariants.{LookUp, Change, Whole}
@@ -26,6 +27,7 @@ meaning (Find tenant key) = said.of_tenant tenant (said.find key.items)
 meaning (ListOf tenant front) = said.of_tenant tenant (said.list front.items)
 meaning (Span tenant low high) = said.of_tenant tenant (said.span low.items high.items)
 meaning Dump = said.dump
+meaning Audit = said.audit
 
 -- the tenant, the key and the value that were read in place
 abbrev pub tenant_in_place : Fields → ℕ
@@ -48,6 +50,7 @@ word_in field =
     else if bytes_eq field (codes "list") then Some (LookUp look_up.List)
     else if bytes_eq field (codes "span") then Some (LookUp look_up.Span)
     else if bytes_eq field (codes "dump") then Some (Whole whole.Dump)
+    else if bytes_eq field (codes "audit") then Some (Whole whole.Audit)
     else None
 
 -- what stands behind a word
@@ -60,6 +63,7 @@ shape_of (Change change.Put) = KeyAndValue
 shape_of (Change change.Over) = KeyAndValue
 shape_of (Change change.Del) = Key
 shape_of (Whole whole.Dump) = Nothing
+shape_of (Whole whole.Audit) = Nothing
 
 -- the command of a word, by its family, and of what was read behind it
 abbrev pub looks_up : LookUpWord → Fields → said.Command
@@ -75,6 +79,7 @@ changes change.Del f = said.of_tenant (tenant_in_place f) (said.del (key_in_plac
 
 abbrev pub asks_all : WholeWord → said.Command
 asks_all whole.Dump = said.dump
+asks_all whole.Audit = said.audit
 
 abbrev pub command_with : Word → Fields → said.Command
 command_with (LookUp w) f = looks_up w f

@@ -6,7 +6,7 @@ use Rattle.std.specs.Str.{bytes_eq}
 use Rattle.std.specs.Str.Parse.{digits_value}
 use Rattle.hex.specs.Hex.{decode_of}
 use Rattle.hex.specs.declared.error.FromHexError.{FromHexError}
-use Rattle.art_index.specs.Commands.{put, over, del, get, find, list, span, Command, of_tenant, dump, fields_of}
+use Rattle.art_index.specs.Commands.{put, over, del, get, find, list, span, Command, of_tenant, dump, audit, fields_of}
 
 infixl 10 ◌>>=◌
 abbrev pub ◌>>=◌ : {A B : Type 0} → Option A → (A → Option B) → Option B
@@ -79,6 +79,9 @@ span_in fields = option_map (λ f. of_tenant f.0 (span f.1 f.2)) (key_and_value_
 abbrev pub dump_in : List (List ℕ) → Option Command
 dump_in fields = option_map (λ f. dump) (nothing_in fields)
 
+abbrev pub audit_in : List (List ℕ) → Option Command
+audit_in fields = option_map (λ f. audit) (nothing_in fields)
+
 -- the command that some fields make
 abbrev pub command_in : List (List ℕ) → Option Command
 command_in [] = None
@@ -91,6 +94,7 @@ command_in (word ∷ rest) =
     else if bytes_eq word (codes "list") then list_in rest
     else if bytes_eq word (codes "span") then span_in rest
     else if bytes_eq word (codes "dump") then dump_in rest
+    else if bytes_eq word (codes "audit") then audit_in rest
     else None
 
 -- the command that a line spells

@@ -5,11 +5,14 @@ use Rattle.std.specs.List.{list_any, find}
 use Rattle.std.specs.Str.{bytes_eq}
 use Rattle.art_index.specs.Words.{Word, name, natural, bytes, line_of}
 use Rattle.art_index.specs.Commands.{Request, put, over, del, get, find as find_front, list, span}
-use Rattle.art_index.specs.Commands.{Command, of_tenant, dump, put_words, nput_words}
+use Rattle.art_index.specs.Commands.{Command, of_tenant, dump, audit, put_words, nput_words}
 use Rattle.art_index.specs.Reading.{command_of}
 use Rattle.art_bytes.specs.Keys.{is_below, conflicts}
 use Rattle.art_arena.specs.tree.Tenants.{begins_with}
 use Rattle.art_operations.specs.KeyedLists.{overlaps}
+use Rattle.art_walks.specs.declared.stats.WellFormedTreeStats.{WellFormedTreeStats}
+use Rattle.art_map.specs.Audit.{audit_of}
+use Rattle.art_index.specs.Keys.{full_key_of, number_key_of}
 use Rattle.art_index.specs.Records.{Own, Records, own, with_own}
 
 -- the value at a key
@@ -108,11 +111,22 @@ dump_of records = map (λ r. put_words r.tenant r.key r.value) records.keys
     ++ map (λ r. nput_words r.tenant r.number r.value) records.numbers
     ++ end_words (length records.keys + length records.numbers) ∷ []
 
+-- what tells of a tree: its leaves, and its inner nodes of 2 to 4, 5 to 16, 17 to 48 and 49 to 256 children
+abbrev pub count_words : List ℕ → WellFormedTreeStats → List Word
+count_words tree counts = name tree ∷ natural counts.num_leaf ∷ natural counts.num_node4 ∷ natural counts.num_node16
+    ∷ natural counts.num_node48 ∷ natural counts.num_node256 ∷ []
+
+-- An audit tells so of the full keys of all records under keys, and of those of all under numbers.
+abbrev pub audit_lines : Records → List (List Word)
+audit_lines records = count_words (codes "bytes") (audit_of full_key_of records.keys)
+    ∷ count_words (codes "numbers") (audit_of number_key_of records.numbers) ∷ []
+
 -- the reply to a command, line by line; a line that spells no command is bad
 abbrev pub command_reply : Option Command → Records → List (List Word)
 command_reply None records = (name (codes "bad") ∷ []) ∷ []
 command_reply (Some (of_tenant tenant request)) records = own_reply request (own tenant records)
 command_reply (Some dump) records = dump_of records
+command_reply (Some audit) records = audit_lines records
 
 -- the records where a tenant holds something else, if it does
 abbrev pub with_changed : ℕ → Option Own → Records → Records
@@ -125,6 +139,7 @@ command_after None records = records
 command_after (Some (of_tenant tenant request)) records =
     with_changed tenant (own_after request (own tenant records)) records
 command_after (Some dump) records = records
+command_after (Some audit) records = records
 
 -- the reply to a line
 unfoldable pub reply_to : Records → List ℕ → List ℕ

@@ -1,18 +1,21 @@
-//! What the words do that change something, and what is asked of all records.
-ghost use Rattle.std.specs.Prelude.{◌≡◌, ℕ, List, Some, false, flat_map};
+//! What the words do that change something, and what is told of all records.
+ghost use Rattle.std.specs.Prelude.{◌≡◌, ℕ, List, false, flat_map};
 ghost use Rattle.art_index.specs.Words.{line_of};
 ghost use Rattle.art_index.specs.Commands.{Spells};
-ghost use Rattle.art_index.specs.Replies.{command_reply};
 ghost use Rattle.art_index.specs.Faults.{Writes};
 ghost use Rattle.art_index.specs.Parsed.{changes, asks_all};
 ghost use Rattle.art_index.specs.Stored.{records_of, ArePairs};
 ghost use Rattle.art_index.specs.Changed.{IsChangeDone};
+ghost use Rattle.art_index.specs.Told.{IsTold, told_words};
 
+use crate::audit::write_audit;
 use crate::command::fields::Fields;
 use crate::command::word::{Change, Whole};
 use crate::placed::Placed;
 use crate::records::{put_over, put_value, take_out};
+use crate::reply::write_piece;
 use crate::stream::{Sink, WriteFailed};
+use crate::told::Told;
 use crate::whole::write_records;
 use art_map::TreeMap;
 use std::alloc::Global;
@@ -37,19 +40,38 @@ pub(crate) fn change<const PREFIX_LEN: usize>(
     }
 }
 
-/// Answers what is asked of all records.
-pub(crate) fn tell_all<W: Sink, const PREFIX_LEN: usize>(
+/// Finds what is to be told of all records. It takes memory only to count nodes, and where there is none, that is told.
+pub(crate) fn ask_all<const PREFIX_LEN: usize>(
     records: &TreeMap<Vec<u8>, Vec<u8>, PREFIX_LEN>,
     word: Whole,
+) -> Told
+    requires { ArePairs records.now.pairs }
+    ensures { IsTold result (asks_all word) (records_of records.now.pairs) }
+{
+    match word {
+        Whole::Dump => Told::Lines,
+        Whole::Audit => match records.audit() {
+            Ok(counts) => Told::Counts(counts),
+            Err(_) => Told::Memory,
+        },
+    }
+}
+
+/// Writes what is told of all records.
+pub(crate) fn tell_all<W: Sink, const PREFIX_LEN: usize>(
+    records: &TreeMap<Vec<u8>, Vec<u8>, PREFIX_LEN>,
+    told: Told,
     sink: &mut W,
 ) -> Result<(), WriteFailed>
     requires open { W.has_failed sink.old ≡ false }
     requires held { ArePairs records.now.pairs }
     ensures { Writes result (W.taken sink.old) (W.taken sink.new)
-        (flat_map line_of (command_reply (Some (asks_all word)) (records_of records.now.pairs)))
+        (flat_map line_of (told_words told (records_of records.now.pairs)))
         (W.has_failed sink.new) }
 {
-    match word {
-        Whole::Dump => write_records(records, sink),
+    match told {
+        Told::Lines => write_records(records, sink),
+        Told::Counts(counts) => write_audit(sink, &counts),
+        Told::Memory => write_piece(sink, b"memory\n"),
     }
 }

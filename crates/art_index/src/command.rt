@@ -62,6 +62,8 @@ pub enum Command {
     },
     /// `dump`: asks for all records.
     Dump,
+    /// `audit`: asks how many nodes of each kind the trees of all records have.
+    Audit,
 }
 
 /// The command that the line spells, without its newline. It takes no memory.
@@ -84,6 +86,7 @@ fn command_of_fields(word: Word, fields: &Fields) -> Command
         Word::LookUp(word) => look_up_of_fields(word, fields),
         Word::Change(word) => change_of_fields(word, fields),
         Word::Whole(Whole::Dump) => Command::Dump,
+        Word::Whole(Whole::Audit) => Command::Audit,
     }
 }
 

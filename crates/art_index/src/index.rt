@@ -2,7 +2,7 @@
 ghost use Rattle.std.specs.Prelude.{◌≡◌, ◌+◌, ◌<◌, ◌++◌, map, take, OnErr, IfOk, IfErr, is_err, true, false, Some};
 ghost use Rattle.std.specs.Prelude.{None};
 
-use crate::carry::{change, tell_all};
+use crate::carry::{ask_all, change, tell_all};
 use crate::command::fields::Fields;
 use crate::command::read_line;
 use crate::command::word::Word;
@@ -125,7 +125,11 @@ impl<const PREFIX_LEN: usize> Index<PREFIX_LEN> {
                 memory = done.is_memory();
                 write_placed(sink, &done)?;
             }
-            Some(Word::Whole(word)) => tell_all(&self.records, word, sink)?,
+            Some(Word::Whole(word)) => {
+                let told = ask_all(&self.records, word);
+                memory = told.is_memory();
+                tell_all(&self.records, told, sink)?;
+            }
             None => write_piece(sink, b"bad\n")?,
         }
         Ok(Handled { memory, visits: 0 })

@@ -10,6 +10,7 @@
 #![tactic(auto)]
 
 mod ahead;
+mod audit;
 mod buffered;
 mod carry;
 mod command;
@@ -29,6 +30,7 @@ mod stream;
 #[cfg(test)]
 mod tests;
 mod to_writer;
+mod told;
 mod upcoming;
 mod whole;
 

@@ -97,7 +97,7 @@ fn put_bytes(room: &mut [u8], at: usize, value: &[u8]) -> usize
 
 /// Puts a number in digits.
 #[inline]
-fn put_number(room: &mut [u8], at: usize, number: u64) -> usize
+pub(crate) fn put_number(room: &mut [u8], at: usize, number: u64) -> usize
     requires { at + length (decimal number) ≤ length room.old }
     ensures { Puts result at (decimal number) room.old room.new }
 {

@@ -453,6 +453,7 @@ fn reads_a_line_as_a_command(rt: HostRuntime) {
         _ => assert!(rt; false),
     }
     assert!(rt; matches!(parse_line(b"dump"), Some(Command::Dump)));
+    assert!(rt; matches!(parse_line(b"audit"), Some(Command::Audit)));
     assert!(rt; matches!(parse_line(b"get 0 -"), Some(Command::Get { .. })));
 }
 

@@ -34,6 +34,8 @@ pub(crate) enum Change {
 pub(crate) enum Whole {
     /// `dump`
     Dump,
+    /// `audit`
+    Audit,
 }
 
 /// A word, by its family.
@@ -51,7 +53,7 @@ pub(crate) enum Shape {
     Key,
     /// A tenant, a key and a value: `put`, `over`; the two bounds of `span` are read as a key and a value.
     KeyAndValue,
-    /// Nothing: `dump`, and later `audit`.
+    /// Nothing: `dump`, `audit`.
     Nothing,
 }
 
@@ -69,6 +71,7 @@ impl Word {
             Word::Change(Change::Over) => Shape::KeyAndValue,
             Word::Change(Change::Del) => Shape::Key,
             Word::Whole(Whole::Dump) => Shape::Nothing,
+            Word::Whole(Whole::Audit) => Shape::Nothing,
         }
     }
 }
@@ -100,6 +103,9 @@ pub(crate) fn word_of(field: &[u8]) -> Option<Word>
     }
     if field == b"dump".as_slice() {
         return Some(Word::Whole(Whole::Dump));
+    }
+    if field == b"audit".as_slice() {
+        return Some(Word::Whole(Whole::Audit));
     }
     None
 }

@@ -5,7 +5,7 @@ use Rattle.art_index.specs.Reading.{command_of}
 use Rattle.art_index.specs.Parsed.{command_with, looks_up, changes, asks_all}
 use Rattle.art_index.specs.Stored.{records_of}
 use Rattle.art_index.proofs.Cuts.{cut_line, when_err}
-use Rattle.art_index.proofs.Replies.{done_told, done_left, done_lawful, told_of, same_left, bad_told, bad_left}
+use Rattle.art_index.proofs.Replies.{done_told, done_left, done_lawful, told_of, all_told, all_left, all_lawful, same_left, bad_told, bad_left}
 use Rattle.art_index.proofs.Families.{look_leaves, all_leaves}
 use Rattle.art_index.proofs.Spelling.{spells}
 use Rattle.art_index.proofs.index.Index.handle.Goals as goal
@@ -35,21 +35,31 @@ pub returns-in_ok-tell_all-in-Some-Whole-clause-told : goal.returns-in_ok-tell_a
 returns-in_ok-tell_all-in-Some-Whole-clause-told g c =
     let F = c.read_line.new.fields in let w = c.in-Some-Whole.word in
     let meant : Some (asks_all w) ≡ command_of c.args.line.now = ap (λ x. Some (command_with x F)) (sym c.in-Some-Whole.field-0-is) ∙ c.in-Some-Whole.ensures in
-    c.in_ok-tell_all-in-Some-Whole.ensures.ok ∙ ap (λ t. g.W.Sink.taken c.args.sink.now ++ t) (told_of _ c.args.self.now (asks_all w) c.args.line.now meant c.self.view_is)
+    c.in_ok-tell_all-in-Some-Whole.ensures.ok ∙ ap (λ t. g.W.Sink.taken c.args.sink.now ++ t)
+    (all_told c.ask_all-told.result c.is_memory-memory-in-Some-Whole.result (asks_all w) _ _ c.args.line.now c.is_memory-memory-in-Some-Whole.ensures c.self.view_is meant c.ask_all-told.ensures)
 
 pub returns-in_ok-tell_all-in-Some-Whole-clause-left : goal.returns-in_ok-tell_all-in-Some-Whole-clause-left
 returns-in_ok-tell_all-in-Some-Whole-clause-left g c =
     let F = c.read_line.new.fields in let w = c.in-Some-Whole.word in
     let meant : Some (asks_all w) ≡ command_of c.args.line.now = ap (λ x. Some (command_with x F)) (sym c.in-Some-Whole.field-0-is) ∙ c.in-Some-Whole.ensures in
-    c.self.view_is ∙ same_left c.args.self.now (asks_all w) c.args.line.now meant (all_leaves w c.args.self.now)
+    all_left c.ask_all-told.result c.is_memory-memory-in-Some-Whole.result (asks_all w) _ _ c.args.line.now c.is_memory-memory-in-Some-Whole.ensures c.self.view_is meant c.ask_all-told.ensures (all_leaves w _)
+
+pub returns-in_ok-tell_all-in-Some-Whole-clause-lawful : goal.returns-in_ok-tell_all-in-Some-Whole-clause-lawful
+returns-in_ok-tell_all-in-Some-Whole-clause-lawful g c =
+    let F = c.read_line.new.fields in let w = c.in-Some-Whole.word in
+    let meant : Some (asks_all w) ≡ command_of c.args.line.now = ap (λ x. Some (command_with x F)) (sym c.in-Some-Whole.field-0-is) ∙ c.in-Some-Whole.ensures in
+    let may = all_lawful c.ask_all-told.result c.is_memory-memory-in-Some-Whole.result (asks_all w) _ _ c.args.line.now c.is_memory-memory-in-Some-Whole.ensures c.self.view_is meant c.ask_all-told.ensures in
+    λ m. (asks_all w, spells c.args.line.now (asks_all w) (sym meant), may m)
 
 pub returns-in_err-tell_all-in-Some-Whole-clause-cut : goal.returns-in_err-tell_all-in-Some-Whole-clause-cut
 returns-in_err-tell_all-in-Some-Whole-clause-cut g c =
     let F = c.read_line.new.fields in let w = c.in-Some-Whole.word in
     let meant : Some (asks_all w) ≡ command_of c.args.line.now = ap (λ x. Some (command_with x F)) (sym c.in-Some-Whole.field-0-is) ∙ c.in-Some-Whole.ensures in
-    let told = told_of _ c.args.self.now (asks_all w) c.args.line.now meant c.self.view_is in
-    let left = c.self.view_is ∙ same_left c.args.self.now (asks_all w) c.args.line.now meant (all_leaves w c.args.self.now) in
-    when_err _ (cut_line false _ _ _ _ _ _ told c.in_err-tell_all-in-Some-Whole.ensures.cut left (λ e. absurd (false≢true e)))
+    let told = all_told c.ask_all-told.result c.is_memory-memory-in-Some-Whole.result (asks_all w) _ _ c.args.line.now c.is_memory-memory-in-Some-Whole.ensures c.self.view_is meant c.ask_all-told.ensures in
+    let left = all_left c.ask_all-told.result c.is_memory-memory-in-Some-Whole.result (asks_all w) _ _ c.args.line.now c.is_memory-memory-in-Some-Whole.ensures c.self.view_is meant c.ask_all-told.ensures (all_leaves w _) in
+    let may = all_lawful c.ask_all-told.result c.is_memory-memory-in-Some-Whole.result (asks_all w) _ _ c.args.line.now c.is_memory-memory-in-Some-Whole.ensures c.self.view_is meant c.ask_all-told.ensures in
+    when_err _ (cut_line c.is_memory-memory-in-Some-Whole.result _ _ _ _ _ _ told c.in_err-tell_all-in-Some-Whole.ensures.cut left
+    (λ m. (asks_all w, spells c.args.line.now (asks_all w) (sym meant), may m)))
 
 pub change-done-requires : goal.change-done-requires
 change-done-requires g c =
