@@ -14,8 +14,8 @@ pub(crate) use sides::{Sides, Wanted};
 use std::iter::FusedIterator;
 use std::marker::Model;
 
-/// The keys of a set that another set lacks, ascending by their bytes. It is seen as the list of
-/// those still to come, with the number of comparisons made.
+/// The keys of a set that another set lacks, ascending by their bytes. It is seen as the list of those still to come,
+/// with the number of comparisons made.
 #[derive(Drop)]
 pub struct Difference<
     'a,
@@ -72,8 +72,8 @@ impl<'a, K: OrderedBytes, const PREFIX_LEN: usize> Iterator for Difference<'a, K
 impl<'a, K: OrderedBytes, const PREFIX_LEN: usize> FusedIterator
     for Difference<'a, K, PREFIX_LEN> {}
 
-/// The keys that one of two sets has and the other lacks, ascending by their bytes. It is seen as the list of
-/// those still to come, with the number of comparisons made.
+/// The keys that one of two sets has and the other lacks, ascending by their bytes. It is seen as the list of those
+/// still to come, with the number of comparisons made.
 #[derive(Drop)]
 pub struct SymmetricDifference<
     'a,
@@ -131,8 +131,8 @@ impl<'a, K: OrderedBytes, const PREFIX_LEN: usize> Iterator
 impl<'a, K: OrderedBytes, const PREFIX_LEN: usize> FusedIterator
     for SymmetricDifference<'a, K, PREFIX_LEN> {}
 
-/// The keys that two sets have both, as the first has them, ascending by their bytes. It is seen as the list of
-/// those still to come, with the number of comparisons made.
+/// The keys that two sets have both, as the first has them, ascending by their bytes. It is seen as the list of those
+/// still to come, with the number of comparisons made.
 #[derive(Drop)]
 pub struct Intersection<
     'a,
@@ -189,8 +189,8 @@ impl<'a, K: OrderedBytes, const PREFIX_LEN: usize> Iterator for Intersection<'a,
 impl<'a, K: OrderedBytes, const PREFIX_LEN: usize> FusedIterator
     for Intersection<'a, K, PREFIX_LEN> {}
 
-/// The keys that one of two sets has or both have, ascending by their bytes. Of a key that both have it is the first
-/// set's. It is seen as the list of those still to come, with the number of comparisons made.
+/// The keys of two sets, of which one that both have is the first set's, ascending by their bytes. It is seen as the
+/// list of those still to come, with the number of comparisons made.
 #[derive(Drop)]
 pub struct Union<
     'a,
