@@ -17,7 +17,7 @@ import time
 from reference import WORDS, Reference, parsed
 
 PROGRAM = "crates/art_index/out/art_index"
-SHIM = os.path.abspath("out/fault.so")
+SHIM = os.path.abspath("out/soak.so")
 TENANTS = (0, 1, 2, 10, 12, 255, 256, 65536, 4294967295)
 NUMBERS = (0, 1, -1, 5, -5, 255, 256, -256, 65535, 1 << 32, -(1 << 32), (1 << 63) - 1, -(1 << 63))
 ENDS = {"read": b"art_index: read failed\n", "write": b"art_index: write failed\n"}
