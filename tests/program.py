@@ -12,6 +12,8 @@ import sys
 import tempfile
 import time
 
+from reference import Reference
+
 PROGRAM = os.path.abspath("crates/art_index/out/art_index")
 FIRST_RUN = b"put 7 0a0b 6869\nget 7 0a0b\nget 8 0a0b\n"
 FIRST_REPLIES = b"new\nis 6869\nnone\n"
@@ -111,6 +113,23 @@ def look_ups_among_many_are_answered(program):
     out, err, status = ended([program], input=text)
     wants((err, status, len(out)), (b"", 0, len(wanted)))
     assert out == wanted, f"line {next(n for n, it in enumerate(out.splitlines()) if it != replies[n].encode()) + 1} differs"
+
+
+def many_numbers_are_kept(program):
+    """5,000 puts at some 1,000 numbers of either sign, of values of 0 to 299 bytes, walks, deletions, and then a dump."""
+    lines, model = [], Reference()
+    for it in range(5000):
+        number = (it * 7919 % 1009 - 504) * (1 << it % 5 * 13)
+        lines.append(f"nput {it % 3} {number} {f'{it % 256:02x}' * (it * 31 % 300) or '-'}")
+        if it % 7 == 0:
+            lines.append(f"ndel {it % 3} {number // 2}")
+        if it % 100 == 0:
+            lines += [f"nspan {it % 4} {-it} {it * it}", f"nget {it % 3} {number}"]
+    text = "".join(f"{it}\n" for it in [*lines, "audit", "dump"]).encode()
+    wanted = b"".join(model.reply(it) for it in text.splitlines())
+    out, err, status = ended([program], input=text)
+    wants((err, status, len(out)), (b"", 0, len(wanted)))
+    assert out == wanted, "a reply differs"
 
 
 def an_argument_is_refused(program):
@@ -238,6 +257,7 @@ TESTS = [
     any_bytes_are_answered,
     many_values_are_kept,
     look_ups_among_many_are_answered,
+    many_numbers_are_kept,
     an_argument_is_refused,
     a_failed_read_is_told,
     a_failed_write_is_told,

@@ -6,7 +6,7 @@ allows that it is answered `memory`, which changes nothing.
 import re
 
 LINE = 4096
-# The words of the language today: each with the kinds of its fields.
+# The words of the language: each with the kinds of its fields.
 WORDS = {
     "put": "tkv",
     "over": "tkv",
@@ -15,6 +15,10 @@ WORDS = {
     "del": "tk",
     "list": "tk",
     "span": "tkk",
+    "nput": "tnv",
+    "nget": "tn",
+    "ndel": "tn",
+    "nspan": "tnn",
     "dump": "",
     "audit": "",
 }

@@ -10,11 +10,12 @@ use Rattle.art_walks.specs.Stats.{in_range}
 use Rattle.art_walks.specs.declared.stats.WellFormedTreeStats.{WellFormedTreeStats}
 use Rattle.art_map.specs.Audit.{audit_of}
 use Rattle.art_index.specs.Words.{name, natural, line_of}
-use Rattle.art_index.specs.Keys.{full_key_of}
+use Rattle.art_index.specs.Keys.{full_key_of, number_key_of}
 use Rattle.art_index.specs.Replies.{count_words}
-use Rattle.art_index.specs.Stored.{Pair, record_of, IsFull}
+use Rattle.art_index.specs.Stored.{Pair, record_of, IsFull, NumberPair, number_record_of, IsNumberPair}
 use Rattle.art_index.proofs.Changing.{itself, keys_are}
 use Rattle.art_index.proofs.Conflicts.{bytes_of}
+use Rattle.art_index.proofs.NumberPlaces.{number_bytes, number_keys_are}
 use Rattle.art_index.proofs.ReplyLines.{line_more}
 
 -- tests that say the same count the same
@@ -48,6 +49,10 @@ module _ {X : Type 0} (key : X → List ℕ) where
 -- so pairs under full keys count as their records do
 pub counts_same : (ps : List Pair) → AllByRecursion IsFull ps → audit_of bytes_of ps ≡ audit_of full_key_of (map record_of ps)
 counts_same ps full = counts-map bytes_of ps ∙ ap (audit_of itself) (keys_are ps full) ∙ sym (counts-map full_key_of (map record_of ps))
+
+-- and pairs under numbers
+pub number_counts_same : (ns : List NumberPair) → AllByRecursion IsNumberPair ns → audit_of number_bytes ns ≡ audit_of number_key_of (map number_record_of ns)
+number_counts_same ns full = counts-map number_bytes ns ∙ ap (audit_of itself) (number_keys_are ns full) ∙ sym (counts-map number_key_of (map number_record_of ns))
 
 -- the line of a tree as the parts that are put one after another
 pub count_parts : (tree : List ℕ) (s : WellFormedTreeStats)

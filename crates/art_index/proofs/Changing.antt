@@ -44,7 +44,7 @@ has_found j (p ∷ ps) (x, i, same) = go (bytes_eq p.0.items j) refl i (λ later
     go false e (inl here) rest = let yes : bytes_eq p.0.items j ≡ true = (bytes_eq-Decides p.0.items j).1 (ap bytes_of here ∙ same) in cc
     go false e (inr later) rest = rest later
 
-some_mapped : {X Y : Type 0} (f : X → Y) (o : Option X) → IsSome o → IsSome (option_map f o)
+pub some_mapped : {X Y : Type 0} (f : X → Y) (o : Option X) → IsSome o → IsSome (option_map f o)
 some_mapped f (Some x) h = refl
 some_mapped f None h = h
 

@@ -47,6 +47,14 @@ taken_none before rest text e = record { begun = []; parts = e; told = sym (appe
 pub taken_from : (before now rest rest' text : List ℕ) → rest ≡ rest' → IsPartTaken before now rest text → IsPartTaken before now rest' text
 taken_from before now rest rest' text e t = subst (λ r. IsPartTaken before now r text) e t
 
+-- a text that goes on, of whose beginning so much is left
+pub taken_longer : (before now part rest text : List ℕ) → IsPartTaken before now part text → IsPartTaken before now (part ++ rest) (text ++ rest)
+taken_longer before now part rest text t = record {
+  begun = t.begun;
+  parts = sym (append_assoc t.begun part rest) ∙ ap (λ p. p ++ rest) t.parts;
+  told = t.told;
+}
+
 -- one part more is taken
 pub taken_more : (before now now' part rest text : List ℕ) → IsPartTaken before now (part ++ rest) text → now' ≡ now ++ part → IsPartTaken before now' rest text
 taken_more before now now' part rest text t more = record {

@@ -20,3 +20,5 @@ module _ (f : Fields) where
   look_leaves look_up.Find r = refl
   look_leaves look_up.List r = refl
   look_leaves look_up.Span r = refl
+  look_leaves look_up.NGet r = refl
+  look_leaves look_up.NSpan r = refl

@@ -1,13 +1,14 @@
 -- How long a field is beside what it is read as.
-use Rattle.std.proofs.Common.{◌≡◌, ℕ, ◌*◌, ◌^◌, ◌<◌, List, [], ◌∷◌, length, refl, ap, sym, ◌∙◌, arith, length-append}
-use Rattle.std.specs.Prelude.{map, codes}
+use Rattle.std.proofs.Common.{◌≡◌, ℕ, ℤ, ◌*◌, ◌^◌, ◌<◌, List, [], ◌∷◌, length, refl, ap, sym, ◌∙◌, arith, length-append}
+use Rattle.std.specs.Prelude.{map, codes, FitsSigned}
+use Rattle.std.specs.Int.{w64}
 use Rattle.std.specs.List.{join_with_byte}
 use Rattle.hex.specs.Hex.{encode_with, encode_lower, IsBytes}
 use Rattle.art_index.specs.Words.{Word, name, natural, signed, bytes, shown, Reads, text_of}
 use Rattle.hex.proofs.HexLemmas.{decode_of-ok}
 use Rattle.std.proofs.lemmas.List.Splits.{join_with_byte-slice_split}
-use Rattle.art_index.specs.Commands.{Command, of_tenant, put, over, words_of, AllRead, fields_of, Spells}
-use Rattle.art_index.specs.Records.{KeyFits}
+use Rattle.art_index.specs.Commands.{Command, of_tenant, put, over, nput, words_of, AllRead, fields_of, Spells}
+use Rattle.art_index.specs.Records.{KeyFits, NumberFits}
 
 length-encode : (bs : List ℕ) → length (encode_lower bs) ≡ 2 * length bs
 unfolding encode_with
@@ -62,3 +63,16 @@ pub over_fits : (line : List ℕ) (t : ℕ) (k v : List ℕ) → Spells line (of
 over_fits line t k v h =
     let same = length-spelled line (of_tenant t (over k v)) h in let short = h.short in let parts = parts_fit (codes "over") t k v (fields_of line) h.read in
     record { tenant_fits = parts.0; key_fits = parts.1; value_fits = parts.2; line_fits = omega arith }
+
+-- likewise under a number
+number_parts_fit : (t : ℕ) (n : ℤ) (v : List ℕ) (fields : List (List ℕ)) → AllRead fields (name (codes "nput") ∷ natural t ∷ signed n ∷ bytes v ∷ []) → (t < 2 ^ 32) × FitsSigned w64 n × IsBytes v
+number_parts_fit t n v [] r = absurd r
+number_parts_fit t n v (f ∷ []) r = absurd r.1
+number_parts_fit t n v (f ∷ g ∷ []) r = absurd r.1.1
+number_parts_fit t n v (f ∷ g ∷ i ∷ []) r = absurd r.1.1.1
+number_parts_fit t n v (f ∷ g ∷ i ∷ j ∷ fs) r = (r.1.0.1, r.1.1.0.1, bytes_read j v r.1.1.1.0)
+
+pub nput_fits : (line : List ℕ) (t : ℕ) (n : ℤ) (v : List ℕ) → Spells line (of_tenant t (nput n v)) → NumberFits (record { tenant = t; number = n; value = v })
+nput_fits line t n v h =
+    let same = length-spelled line (of_tenant t (nput n v)) h in let short = h.short in let parts = number_parts_fit t n v (fields_of line) h.read in
+    record { tenant_fits = parts.0; number_fits = parts.1; value_fits = parts.2; line_fits = omega arith }

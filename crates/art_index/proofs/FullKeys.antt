@@ -18,7 +18,7 @@ use Rattle.art_index.specs.Records.{KeyRecord, KeyComesBefore}
 use Rattle.art_index.specs.Stored.{Pair, IsFull, record_of, IsOfTenant}
 use Rattle.art_index.proofs.Standing.{cmp_less}
 use Rattle.art_index.specs.Keys.{full_key}
-use Rattle.art_index.specs.Laws.{FullKeysKeepOrder, FullKeysKeepConflicts, OwnIsBehindFront}
+use Rattle.art_index.specs.Laws.{FullKeysKeepOrder, FullKeysKeepConflicts}
 
 pub cmp_low : (t u : ℕ) → t < u → nat_cmp t u ≡ Less
 cmp_low t u h = rw (lt-ltb t u h) refl
@@ -172,7 +172,7 @@ tenant_small xs small =
     omega arith
 
 -- a full key begins with a tenant's front where it is that tenant's
-begins-full_key : (t u : ℕ) (j : List ℕ) → t < 2 ^ 32 → u < 2 ^ 32 → begins_with (full_key t []) (full_key u j) ≡ (u == t)
+pub begins-full_key : (t u : ℕ) (j : List ℕ) → t < 2 ^ 32 → u < 2 ^ 32 → begins_with (full_key t []) (full_key u j) ≡ (u == t)
 begins-full_key t u j ht hu = go (u == t) refl
   where
     go : (b : Bool) → (u == t) ≡ b → begins_with (full_key t []) (full_key u j) ≡ b
@@ -183,7 +183,7 @@ begins-full_key t u j ht hu = go (u == t) refl
         ht hu refl refl refl refl (λ same. true≢false (sym (eq-eqb u t (sym same)) ∙ e))
 
 -- two lists of which each item is kept or not by the same test, and comes to the same
-keeps_both : {X Y Z : Type 0} (f : X → Z) (g : Y → Z) (b c : Bool) (x : X) (y : Y) (xs : List X) (ys : List Y) → b ≡ c → f x ≡ g y → map f xs ≡ map g ys
+pub keeps_both : {X Y Z : Type 0} (f : X → Z) (g : Y → Z) (b c : Bool) (x : X) (y : Y) (xs : List X) (ys : List Y) → b ≡ c → f x ≡ g y → map f xs ≡ map g ys
     → map f (cond b (x ∷ xs) xs) ≡ map g (cond c (y ∷ ys) ys)
 keeps_both f g true true x y xs ys e same rest = rw (same, rest) refl
 keeps_both f g false false x y xs ys e same rest = rest
@@ -196,7 +196,7 @@ under_key r = (r.key, r.value)
 abbrev cut_off : Pair → List ℕ × List ℕ
 cut_off p = (drop 4 p.0.items, p.1.items)
 
-behind_front : (t : ℕ) → t < 2 ^ 32 → (ps : List Pair) → AllByRecursion IsFull ps → AllByRecursion IsOfTenant (map record_of ps)
+pub behind_front : (t : ℕ) → t < 2 ^ 32 → (ps : List Pair) → AllByRecursion IsFull ps → AllByRecursion IsOfTenant (map record_of ps)
     → map under_key (filter (λ (r : KeyRecord). r.tenant == t) (map record_of ps))
     ≡ map cut_off (with_front (λ (p : Pair). p.0.items) (full_key t []) ps)
 behind_front t small [] full fits = refl
@@ -205,7 +205,3 @@ behind_front t small (p ∷ ps) full fits =
     let front : begins_with (full_key t []) p.0.items ≡ (r.tenant == t) = ap (begins_with (full_key t [])) full.0 ∙ begins-full_key t r.tenant r.key small fits.0 in
     keeps_both under_key cut_off (r.tenant == t) (begins_with (full_key t []) p.0.items) r p
     (filter (λ (r : KeyRecord). r.tenant == t) (map record_of ps)) (with_front (λ (p : Pair). p.0.items) (full_key t []) ps) (sym front) refl (behind_front t small ps full.1 fits.1)
-
-pub own_is_behind_front : OwnIsBehindFront
-own_is_behind_front t ps small are =
-    ap (λ ks. record { keys = ks; numbers = [] }) (behind_front t small ps are.full are.tenants)

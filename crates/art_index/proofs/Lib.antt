@@ -36,3 +36,10 @@ pub mod Finding
 pub mod Isolation
 pub mod OwnRefusals
 pub mod Auditing
+pub mod NumberKeys
+pub mod OwnParts
+pub mod NumberPlaces
+pub mod OwnFronts
+pub mod BothMaps
+pub mod DumpTexts
+pub mod ReadBack

@@ -1,16 +1,19 @@
 -- The lines of a list, one pair after another.
-use Rattle.std.proofs.Common.{◌≡◌, ℕ, suc, ◌+◌, ◌≤◌, List, [], ◌∷◌, ◌++◌, length, drop, map, refl, ap, sym, ◌∙◌, Bool, true, false, cond, arith, append_assoc, append-nil, length-append}
-use Rattle.std.specs.Prelude.{flat_map, filter, decimal}
+use Rattle.std.proofs.Common.{◌≡◌, ℕ, ℤ, suc, ◌+◌, ◌≤◌, List, [], ◌∷◌, ◌++◌, length, drop, map, refl, ap, sym, ◌∙◌, Bool, true, false, cond, arith, append_assoc, append-nil, length-append}
+use Rattle.std.specs.Prelude.{flat_map, filter, decimal, FitsSigned}
+use Rattle.std.specs.Int.{w64}
 use Rattle.std.specs.List.{AllByRecursion}
 use Rattle.std.proofs.lemmas.Grind.{flat_map-append}
-use Rattle.art_index.specs.Words.{Word, shown, bytes, text_of, line_of}
-use Rattle.art_index.specs.Commands.{put_words}
-use Rattle.art_index.specs.Records.{KeyRecord, KeyFits}
-use Rattle.art_index.specs.Replies.{end_words, pair_words, listed}
-use Rattle.art_index.specs.Stored.{Pair, record_of, IsFull}
+use Rattle.art_index.specs.Words.{Word, shown, bytes, signed, text_of, line_of}
+use Rattle.std.specs.Fmt.{signed_decimal}
+use Rattle.art_index.specs.Commands.{put_words, nput_words}
+use Rattle.art_index.specs.Keys.{number_of_bytes}
+use Rattle.art_index.specs.Records.{KeyRecord, NumberRecord, KeyFits, NumberFits}
+use Rattle.art_index.specs.Replies.{end_words, pair_words, number_words, listed, numbers_listed}
+use Rattle.art_index.specs.Stored.{Pair, NumberPair, record_of, number_record_of, IsFull}
 use Rattle.art_index.proofs.Filters.{length-map}
-use Rattle.art_index.proofs.OwnLaws.{key_part}
-use Rattle.art_index.proofs.ReplyLines.{pair_parts, put_parts}
+use Rattle.art_index.proofs.OwnLaws.{key_part, number_part}
+use Rattle.art_index.proofs.ReplyLines.{pair_parts, put_parts, number_parts, nput_parts}
 
 module _ {X : Type 0} (words : X → List Word) (last : List ℕ) where
   -- a line for each, and what ends them
@@ -82,3 +85,38 @@ filter_shorter p (x ∷ xs) = go (p x) (filter_shorter p xs)
     go : (b : Bool) → length (filter p xs) ≤ length xs → length (cond b (x ∷ filter p xs) (filter p xs)) ≤ suc (length xs)
     go true ih = omega arith
     go false ih = omega arith
+
+-- the words of the line of a number's pair, without the tenant
+abbrev pub words_numbered : NumberPair → List Word
+words_numbered p = number_words (number_of_bytes (drop 4 p.0), p.1.items)
+
+-- the lines of a list of numbers are those of its pairs and its end
+pub numbers_all : (ns : List NumberPair) (mine : List (ℤ × List ℕ)) → map number_part (map number_record_of ns) ≡ mine
+    → lines_from words_numbered (list_end (length ns)) ns ≡ flat_map line_of (numbers_listed mine)
+numbers_all ns mine same =
+    let own : List (ℤ × List ℕ) = map number_part (map number_record_of ns) in
+    let lines : List (List Word) = map number_words own in
+    ap (λ l. flat_map line_of l ++ list_end (length ns)) (words_are ns)
+    ∙ ap (λ n. flat_map line_of lines ++ list_end n) (sym (length-map number_record_of ns) ∙ sym (length-map number_part (map number_record_of ns)))
+    ∙ ap (λ e. flat_map line_of lines ++ e) (sym (append-nil (list_end (length own)))) ∙ sym (flat_map-append line_of lines (end_words (length own) ∷ []))
+    ∙ ap (λ m. flat_map line_of (numbers_listed m)) same
+  where
+    words_are : (ns : List NumberPair) → map words_numbered ns ≡ map number_words (map number_part (map number_record_of ns))
+    words_are [] = refl
+    words_are (p ∷ ns) = ap (λ l. words_numbered p ∷ l) (words_are ns)
+
+-- its line is shorter than the one that made it, and its number has 64 bits
+abbrev pub IsNumbered : NumberPair → Type 0
+IsNumbered p = (length (line_of (words_numbered p)) ≤ 4097) × FitsSigned w64 (number_of_bytes (drop 4 p.0))
+
+number_shorter : (r : NumberRecord) → NumberFits r → length (line_of (number_words (r.number, r.value))) ≤ 4097
+number_shorter r fits =
+    let short = fits.line_fits in
+    let ended = length-append (text_of (nput_words r.tenant r.number r.value)) (10 ∷ []) in
+    let whole = ap length (nput_parts r.tenant r.number r.value) in
+    let first = length-append (decimal r.tenant) (32 ∷ line_of (number_words (r.number, r.value))) in
+    omega arith
+
+pub are_numbered : (ns : List NumberPair) → AllByRecursion NumberFits (map number_record_of ns) → AllByRecursion IsNumbered ns
+are_numbered [] fits = tt
+are_numbered (p ∷ ns) fits = ((number_shorter (number_record_of p) fits.0, fits.0.number_fits), are_numbered ns fits.1)

@@ -135,7 +135,7 @@ pub key_ascends : (rs : List KeyRecord) → InOrder KeyComesBefore rs → InOrde
 key_ascends [] h = tt
 key_ascends (r ∷ rs) h = (All-map (KeyComesBefore r) (λ s. r.tenant ≤ s.tenant) (λ s b. elim b [ inl lt ↦ omega arith | inr same ↦ let e = same.0 in omega arith ]) rs h.0, key_ascends rs h.1)
 
-number_ascends : (rs : List NumberRecord) → InOrder NumberComesBefore rs → InOrder (λ (x y : NumberRecord). x.tenant ≤ y.tenant) rs
+pub number_ascends : (rs : List NumberRecord) → InOrder NumberComesBefore rs → InOrder (λ (x y : NumberRecord). x.tenant ≤ y.tenant) rs
 number_ascends [] h = tt
 number_ascends (r ∷ rs) h = (All-map (NumberComesBefore r) (λ s. r.tenant ≤ s.tenant) (λ s b. elim b [ inl lt ↦ omega arith | inr same ↦ let e = same.0 in omega arith ]) rs h.0, number_ascends rs h.1)
 

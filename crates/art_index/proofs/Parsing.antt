@@ -14,7 +14,8 @@ use Rattle.std.proofs.lemmas.Bool.{lt-leb, le-leb, true≢false, cases_lt, ltb-t
 use Rattle.std.proofs.lemmas.Slice.Eq.{bytes_eq-Decides}
 use Rattle.std.proofs.lemmas.Str.Parse.{numerals_by_value, tells_digits, digit_at}
 use Rattle.std.proofs.lemmas.Fmt.{decimal_is_IsNumeral, decimal_nonempty, length-decimal-le, first_decimal, decimal_digit, decimal-digits_value}
-use Rattle.std.specs.Prelude.{option_copied, is_some, not}
+use Rattle.std.specs.Prelude.{option_copied, option_map, option_and_then, is_some, not, ℤ, pos, FitsSigned}
+use Rattle.std.specs.Int.{w64}
 use Rattle.std.specs.Borrow.{Bor}
 use Rattle.std.specs.Result.{OkIff, result_ok}
 use Rattle.std.proofs.Common.{inl, inr, subst}
@@ -28,7 +29,7 @@ use Rattle.art_index.specs.declared.command.word.LookUp.TheVariants as look_up
 use Rattle.art_index.specs.declared.command.word.Change.TheVariants as change
 use Rattle.art_index.specs.declared.command.word.Whole.TheVariants as whole
 use Rattle.art_index.specs.Commands.{Command, fields_of}
-use Rattle.art_index.specs.Reading.{tenant_in, bytes_in, some_bytes, nothing_in, put_in, over_in, del_in, get_in, find_in, list_in, span_in, dump_in, audit_in, command_in, command_of}
+use Rattle.art_index.specs.Reading.{natural_in, tenant_in, negated, number_in, bytes_in, some_bytes, nothing_in, put_in, over_in, del_in, get_in, find_in, list_in, span_in, nput_in, nget_in, ndel_in, nspan_in, dump_in, audit_in, command_in, command_of}
 use Rattle.art_index.specs.Parsed.{word_in}
 use Rattle.art_index.specs.InPlace.{fields_behind, IsRead}
 
@@ -53,30 +54,72 @@ fields_none (x ∷ xs) none =
     let other : x ≡ 32 → ⊥ = none 0 (omega arith) in
     rw (ne_eqb x 32 other) (ap (onto_first x) (fields_none xs (λ k lt e. none (suc k) (omega arith) e)))
 
--- a text that shows no number below the limit
-no_number : (text : List ℕ) → ((n : ℕ) → n < 2 ^ 32 → text ≡ decimal n → ⊥) → None ≡ tenant_in text
-unfolding tenant_in
-no_number text none = go (nat_lt (digits_value 10 text) (2 ^ 32)) (bytes_eq text (decimal (digits_value 10 text))) refl refl
+-- what is read as a natural number is its digits, and is below the limit; and the other way
+pub natural_is : (limit : ℕ) (text : List ℕ) (n : ℕ) → natural_in limit text ≡ Some n → (text ≡ decimal n) × (n < limit)
+unfolding natural_in
+natural_is limit text n h = go (nat_lt (digits_value 10 text) limit) (bytes_eq text (decimal (digits_value 10 text))) refl refl h
   where
-    go : (a b : Bool) → nat_lt (digits_value 10 text) (2 ^ 32) ≡ a → bytes_eq text (decimal (digits_value 10 text)) ≡ b → None ≡ cond (a && b) (Some (digits_value 10 text)) None
+    go : (a b : Bool) → nat_lt (digits_value 10 text) limit ≡ a → bytes_eq text (decimal (digits_value 10 text)) ≡ b
+        → cond (a && b) (Some (digits_value 10 text)) None ≡ Some n → (text ≡ decimal n) × (n < limit)
+    go false b p q e = cc
+    go true false p q e = cc
+    go true true p q e =
+        let is : digits_value 10 text ≡ n = cc in
+        ((bytes_eq-Decides text (decimal (digits_value 10 text))).0 q ∙ ap decimal is, subst (λ m. m < limit) is (ltb-true (digits_value 10 text) limit p))
+
+pub natural_reads : (limit : ℕ) (text : List ℕ) (n : ℕ) → limit ≤ 2 ^ 64 → text ≡ decimal n → n < limit → natural_in limit text ≡ Some n
+unfolding natural_in
+natural_reads limit text n low is small =
+    let wide : n < 2 ^ 64 = omega arith in
+    let value : digits_value 10 text ≡ n = ap (digits_value 10) is ∙ (decimal_is_IsNumeral n wide).1 in
+    let same : bytes_eq text (decimal n) ≡ true = (bytes_eq-Decides text (decimal n)).1 is in
+    rw (value, lt-ltb n limit small, same) refl
+
+-- below a lower limit the same is read, or nothing
+abbrev pub narrowed : ℕ → Option ℕ → Option ℕ
+narrowed limit None = None
+narrowed limit (Some n) = cond (nat_lt n limit) (Some n) None
+
+pub natural_narrow : (limit wide : ℕ) (text : List ℕ) → limit ≤ wide → natural_in limit text ≡ narrowed limit (natural_in wide text)
+unfolding natural_in
+natural_narrow limit wide text low =
+    go (nat_lt (digits_value 10 text) limit) (nat_lt (digits_value 10 text) wide) (bytes_eq text (decimal (digits_value 10 text))) refl refl
+  where
+    go : (a c b : Bool) → nat_lt (digits_value 10 text) limit ≡ a → nat_lt (digits_value 10 text) wide ≡ c
+        → cond (a && b) (Some (digits_value 10 text)) None ≡ narrowed limit (cond (c && b) (Some (digits_value 10 text)) None)
+    go true true true e f = rw e refl
+    go true true false e f = refl
+    go false true true e f = rw e refl
+    go false true false e f = refl
+    go false false b e f = refl
+    go true false b e f =
+        let small = ltb-true (digits_value 10 text) limit e in
+        absurd (true≢false (sym (lt-ltb (digits_value 10 text) wide (omega arith)) ∙ f))
+
+-- a text that shows no number below the limit
+no_natural : (limit : ℕ) (text : List ℕ) → ((n : ℕ) → n < limit → text ≡ decimal n → ⊥) → None ≡ natural_in limit text
+unfolding natural_in
+no_natural limit text none = go (nat_lt (digits_value 10 text) limit) (bytes_eq text (decimal (digits_value 10 text))) refl refl
+  where
+    go : (a b : Bool) → nat_lt (digits_value 10 text) limit ≡ a → bytes_eq text (decimal (digits_value 10 text)) ≡ b → None ≡ cond (a && b) (Some (digits_value 10 text)) None
     go false b p q = refl
     go true false p q = refl
-    go true true p q = absurd (none (digits_value 10 text) (ltb-true (digits_value 10 text) (2 ^ 32) p) ((bytes_eq-Decides text (decimal (digits_value 10 text))).0 q))
+    go true true p q = absurd (none (digits_value 10 text) (ltb-true (digits_value 10 text) limit p) ((bytes_eq-Decides text (decimal (digits_value 10 text))).0 q))
 
-pub number_empty : (text : List ℕ) → length text ≡ 0 → None ≡ tenant_in text
-number_empty text h = no_number text (λ n lt e. let small : n < 2 ^ 64 = omega arith in let some = decimal_nonempty n small in let same = ap length e in omega arith)
+pub natural_empty : (text : List ℕ) → length text ≡ 0 → None ≡ natural_in (2 ^ 63 + 1) text
+natural_empty text h = no_natural (2 ^ 63 + 1) text (λ n lt e. let small : n < 2 ^ 64 = omega arith in let some = decimal_nonempty n small in let same = ap length e in omega arith)
 
-pub number_long : (text : List ℕ) → 10 < length text → None ≡ tenant_in text
-number_long text h = no_number text (λ n lt e. let small : n < 2 ^ 64 = omega arith in let few : n < 10 ^ 10 = omega arith in let short = length-decimal-le 10 n (omega arith) few small in let same = ap length e in omega arith)
+pub natural_long : (text : List ℕ) → 19 < length text → None ≡ natural_in (2 ^ 63 + 1) text
+natural_long text h = no_natural (2 ^ 63 + 1) text (λ n lt e. let small : n < 2 ^ 64 = omega arith in let few : n < 10 ^ 19 = omega arith in let short = length-decimal-le 19 n (omega arith) few small in let same = ap length e in omega arith)
 
-pub number_padded : (text : List ℕ) → get_or text 0 0 ≡ 48 → 1 < length text → None ≡ tenant_in text
-number_padded text zero_first h = no_number text (λ n lt e. elim (cases_lt 0 n) [
+pub natural_padded : (text : List ℕ) → get_or text 0 0 ≡ 48 → 1 < length text → None ≡ natural_in (2 ^ 63 + 1) text
+natural_padded text zero_first h = no_natural (2 ^ 63 + 1) text (λ n lt e. elim (cases_lt 0 n) [
   | inl some ↦ let small : n < 2 ^ 64 = omega arith in let high = first_decimal n some small in let same = ap (λ t. get_or t 0 0) e in omega arith
   | inr none ↦ let nil : n ≡ 0 = omega arith in let one = ap length (decimal_digit n (omega arith)) in let same = ap length e in absurd (omega arith)
 ])
 
-pub number_other : (text : List ℕ) (i : ℕ) → i < length text → ((48 ≤ get_or text i 0) × (get_or text i 0 ≤ 57) → ⊥) → None ≡ tenant_in text
-number_other text i h other = no_number text (λ n lt e.
+pub natural_other : (text : List ℕ) (i : ℕ) → i < length text → ((48 ≤ get_or text i 0) × (get_or text i 0 ≤ 57) → ⊥) → None ≡ natural_in (2 ^ 63 + 1) text
+natural_other text i h other = no_natural (2 ^ 63 + 1) text (λ n lt e.
     let small : n < 2 ^ 64 = omega arith in let numeral = decimal_is_IsNumeral n small in
     let within : i < length (decimal n) = subst (λ t. i < length t) e h in
     let digit = digit_at (decimal n) i numeral.0.1 within in
@@ -97,29 +140,72 @@ all_digits (x ∷ xs) h =
     let first = h 0 (omega arith) in let low = first.0 in let high = first.1 in let value = digit_is x low high in
     (omega arith, all_digits xs (λ k lt. h (suc k) (omega arith)))
 
+-- the value of all digits, at the end of them
+digits_end : (text : List ℕ) (i n : ℕ) → length text ≤ i → digits_value_after 10 n (drop i text) ≡ digits_value 10 text → n ≡ digits_value 10 text
+digits_end text i n all e = ap (digits_value_after 10 n) (sym (drop_of_length-le text all)) ∙ e
+
 -- digits with no 0 before them show their value, where it is below the limit
-pub number_read : (text : List ℕ) (n : ℕ) → 0 < length text → (get_or text 0 0 ≡ 48 → length text ≡ 1)
-    → ((k : ℕ) → k < length text → (48 ≤ get_or text k 0) × (get_or text k 0 ≤ 57)) → n ≡ digits_value 10 text → n < 2 ^ 32 → Some n ≡ tenant_in text
+pub natural_read : (text : List ℕ) (i n : ℕ) → 0 < length text → (get_or text 0 0 ≡ 48 → length text ≡ 1) → length text ≤ i
+    → ((k : ℕ) → k < i → (48 ≤ get_or text k 0) × (get_or text k 0 ≤ 57)) → digits_value_after 10 n (drop i text) ≡ digits_value 10 text → n < 2 ^ 63 + 1
+    → Some n ≡ natural_in (2 ^ 63 + 1) text
+unfolding natural_in
+natural_read text i n some front all digits e small =
+    let is = digits_end text i n all e in
+    let wide : digits_value 10 text < 2 ^ 64 = omega arith in let within : digits_value 10 text < 2 ^ 63 + 1 = omega arith in
+    let same = decimal-digits_value (numerals_by_value (AllDigits 10) tells_digits) text (all_digits text (λ k lt. digits k (omega arith))) some front wide in
+    rw (lt-ltb (digits_value 10 text) (2 ^ 63 + 1) within, (bytes_eq-Decides text (decimal (digits_value 10 text))).1 (sym same)) (ap (λ m. Some m) is)
+
+pub natural_wide : (text : List ℕ) (i n : ℕ) → length text ≤ i → digits_value_after 10 n (drop i text) ≡ digits_value 10 text → 2 ^ 63 < n → None ≡ natural_in (2 ^ 63 + 1) text
+unfolding natural_in
+natural_wide text i n all e h =
+    let is = digits_end text i n all e in
+    rw (le-ltb (digits_value 10 text) (2 ^ 63 + 1) (omega arith)) refl
+
+-- a tenant is one that is below the limit
+pub tenant_none : (text : List ℕ) → None ≡ natural_in (2 ^ 63 + 1) text → None ≡ tenant_in text
 unfolding tenant_in
-number_read text n some front digits e small =
-    let wide : digits_value 10 text < 2 ^ 64 = omega arith in let within : digits_value 10 text < 2 ^ 32 = omega arith in
-    let same = decimal-digits_value (numerals_by_value (AllDigits 10) tells_digits) text (all_digits text digits) some front wide in
-    rw (lt-ltb (digits_value 10 text) (2 ^ 32) within, (bytes_eq-Decides text (decimal (digits_value 10 text))).1 (sym same)) (ap (λ m. Some m) e)
+tenant_none text h = ap (narrowed (2 ^ 32)) h ∙ sym (natural_narrow (2 ^ 32) (2 ^ 63 + 1) text (omega arith))
 
-pub number_wide : (text : List ℕ) → 2 ^ 32 ≤ digits_value 10 text → None ≡ tenant_in text
+-- what is made of a number that fits, and of one that does not
+fitted : {E A : Type 0} (limit n : ℕ) (make : ℕ → A) (r : Result A E) → OkIff r (n < limit) (make n) → result_ok r ≡ option_map make (narrowed limit (Some n))
+fitted limit n make (Ok x) h = let small = h.0 in let is = h.1 in rw (lt-ltb n limit small) (ap (λ a. Some a) is)
+fitted limit n make (Err y) h = rw (le-ltb n limit (elim (cases_lt n limit) [ inl lt ↦ absurd (h lt) | inr ge ↦ ge ])) refl
+
+pub tenant_result : {E : Type 0} (text : List ℕ) (n : ℕ) (r : Result ℕ E) (o : Option ℕ) → Some n ≡ natural_in (2 ^ 63 + 1) text → OkIff r (n < 2 ^ 32) n → o ≡ result_ok r → o ≡ tenant_in text
 unfolding tenant_in
-number_wide text h = rw (le-ltb (digits_value 10 text) (2 ^ 32) h) refl
+tenant_result text n r o h fits is =
+    is ∙ fitted (2 ^ 32) n (λ m. m) r fits ∙ itself (narrowed (2 ^ 32) (Some n)) ∙ ap (narrowed (2 ^ 32)) h ∙ sym (natural_narrow (2 ^ 32) (2 ^ 63 + 1) text (omega arith))
+  where
+    itself : (o : Option ℕ) → option_map (λ m. m) o ≡ o
+    itself None = refl
+    itself (Some m) = refl
 
-number_result : {E : Type 0} (text : List ℕ) (n : ℕ) (r : Result ℕ E) → OkIff r (n < 2 ^ 32) n → 0 < length text → (get_or text 0 0 ≡ 48 → length text ≡ 1)
-    → ((k : ℕ) → k < length text → (48 ≤ get_or text k 0) × (get_or text k 0 ≤ 57)) → n ≡ digits_value 10 text → result_ok r ≡ tenant_in text
-number_result text n (Ok x) h some front digits e = let small = h.0 in let is = h.1 in let below : x < 2 ^ 32 = omega arith in number_read text x some front digits (is ∙ e) below
-number_result text n (Err y) h some front digits e = number_wide text (elim (cases_lt (digits_value 10 text) (2 ^ 32)) [ inl lt ↦ let small : n < 2 ^ 32 = omega arith in absurd (h small) | inr ge ↦ ge ])
+-- a number with a sign is one below 0 behind it
+pub number_empty : (text : List ℕ) → length text ≡ 0 → None ≡ number_in text
+unfolding number_in
+number_empty [] h = refl
+number_empty (b ∷ rest) h = absurd (omega arith)
 
-pub number_end : {E : Type 0} (text : List ℕ) (i n : ℕ) (r : Result ℕ E) (o : Option ℕ) → OkIff r (n < 2 ^ 32) n → o ≡ result_ok r → 0 < length text
-    → (get_or text 0 0 ≡ 48 → length text ≡ 1) → length text ≤ i
-    → ((k : ℕ) → k < i → (48 ≤ get_or text k 0) × (get_or text k 0 ≤ 57)) → digits_value_after 10 n (drop i text) ≡ digits_value 10 text → o ≡ tenant_in text
-number_end text i n r o h is some front all digits e =
-    is ∙ number_result text n r h some front (λ k lt. let far : k < i = omega arith in digits k far) (ap (digits_value_after 10 n) (sym (drop_of_length-le text all)) ∙ e)
+pub number_below : (text rest : List ℕ) (o : Option ℕ) (p : Option ℤ) → text ≡ 45 ∷ rest → o ≡ natural_in (2 ^ 63 + 1) rest → p ≡ option_and_then negated o → p ≡ number_in text
+unfolding number_in
+number_below text rest o p is read made = rw is (made ∙ ap (option_and_then negated) read)
+
+pub number_above : (text : List ℕ) (first : ℕ) (rest : List ℕ) (p : Option ℤ) → text ≡ first ∷ rest → (first == 45) ≡ false
+    → p ≡ option_map (λ n. pos n) (narrowed (2 ^ 63) (natural_in (2 ^ 63 + 1) text)) → p ≡ number_in text
+unfolding number_in
+number_above text first rest p is other made =
+    rw is (rw other (made ∙ ap (option_map (λ n. pos n)) (sym (natural_narrow (2 ^ 63) (2 ^ 63 + 1) text (omega arith)) ∙ ap (natural_in (2 ^ 63)) is)))
+
+pub number_none : (text : List ℕ) → None ≡ natural_in (2 ^ 63 + 1) text → None ≡ option_map (λ n. pos n) (narrowed (2 ^ 63) (natural_in (2 ^ 63 + 1) text))
+number_none text h = ap (λ o. option_map (λ n. pos n) (narrowed (2 ^ 63) o)) h
+
+fits_narrow : {E : Type 0} (n : ℕ) (r : Result ℤ E) → OkIff r (FitsSigned w64 (pos n)) (pos n) → OkIff r (n < 2 ^ 63) (pos n)
+fits_narrow n (Ok x) h = (h.0.sfits, h.1)
+fits_narrow n (Err y) h = λ lt. h (record { sfits = lt })
+
+pub number_result : {E : Type 0} (text : List ℕ) (n : ℕ) (r : Result ℤ E) (o : Option ℤ) → Some n ≡ natural_in (2 ^ 63 + 1) text → OkIff r (FitsSigned w64 (pos n)) (pos n) → o ≡ result_ok r
+    → o ≡ option_map (λ n. pos n) (narrowed (2 ^ 63) (natural_in (2 ^ 63 + 1) text))
+number_result text n r o h fits is = is ∙ fitted (2 ^ 63) n (λ m. pos m) r (fits_narrow n r fits) ∙ ap (λ x. option_map (λ n. pos n) (narrowed (2 ^ 63) x)) h
 
 -- a line has a text
 pub fields_some : (line : List ℕ) → (t : List ℕ) × (ts : List (List ℕ)) × (fields_of line ≡ t ∷ ts)
@@ -143,6 +229,10 @@ command_by (LookUp look_up.Get) rest = get_in rest
 command_by (LookUp look_up.Find) rest = find_in rest
 command_by (LookUp look_up.List) rest = list_in rest
 command_by (LookUp look_up.Span) rest = span_in rest
+command_by (Change change.NPut) rest = nput_in rest
+command_by (Change change.NDel) rest = ndel_in rest
+command_by (LookUp look_up.NGet) rest = nget_in rest
+command_by (LookUp look_up.NSpan) rest = nspan_in rest
 command_by (Whole whole.Dump) rest = dump_in rest
 command_by (Whole whole.Audit) rest = audit_in rest
 
@@ -166,8 +256,12 @@ by_word word rest =
     (by_choice rest (bytes_eq word (codes "find")) (LookUp look_up.Find) _ _
     (by_choice rest (bytes_eq word (codes "list")) (LookUp look_up.List) _ _
     (by_choice rest (bytes_eq word (codes "span")) (LookUp look_up.Span) _ _
+    (by_choice rest (bytes_eq word (codes "nput")) (Change change.NPut) _ _
+    (by_choice rest (bytes_eq word (codes "nget")) (LookUp look_up.NGet) _ _
+    (by_choice rest (bytes_eq word (codes "ndel")) (Change change.NDel) _ _
+    (by_choice rest (bytes_eq word (codes "nspan")) (LookUp look_up.NSpan) _ _
     (by_choice rest (bytes_eq word (codes "dump")) (Whole whole.Dump) _ _
-    (by_choice rest (bytes_eq word (codes "audit")) (Whole whole.Audit) None None refl))))))))
+    (by_choice rest (bytes_eq word (codes "audit")) (Whole whole.Audit) None None refl))))))))))))
 
 module _ (line word : List ℕ) (rest : List (List ℕ)) (short : length line ≤ 4096) (split : fields_of line ≡ word ∷ rest) where
   says : command_in (word ∷ rest) ≡ command_of line

@@ -32,11 +32,11 @@ module _ {X : Type 0} where
   find-skips p [] ys h = refl
   find-skips p (x ∷ xs) ys h = let first = h.0 in rw first (find-skips p xs ys h.1)
 
-  find-none : (p : X → Bool) (xs : List X) → AllByRecursion (λ x. p x ≡ false) xs → find p xs ≡ None
+  pub find-none : (p : X → Bool) (xs : List X) → AllByRecursion (λ x. p x ≡ false) xs → find p xs ≡ None
   find-none p [] h = refl
   find-none p (x ∷ xs) h = let first = h.0 in rw first (find-none p xs h.1)
 
-  InOrder-left : (B : X → X → Type 0) (fs bs : List X) → InOrder B (fs ++ bs) → InOrder B fs
+  pub InOrder-left : (B : X → X → Type 0) (fs bs : List X) → InOrder B (fs ++ bs) → InOrder B fs
   InOrder-left B [] bs h = tt
   InOrder-left B (a ∷ fs) bs h = (All-left (B a) fs bs h.0, InOrder-left B fs bs h.1)
 
@@ -197,7 +197,7 @@ no_conflict_with t k (r ∷ rs) h = go (r.tenant == t) refl h (no_conflict_with 
     go true e f ih = let both = parts (conflicts k r.key) (has_conflict k (pairs_of_tenant t rs)) f in (λ _. both.0, ih both.1)
     go false e f ih = (λ same. absurd (true≢false (sym (eq-eqb r.tenant t same) ∙ e)), ih f)
 
-conflicts_back : (a b : List ℕ) → conflicts a b ≡ false → conflicts b a ≡ false
+pub conflicts_back : (a b : List ℕ) → conflicts a b ≡ false → conflicts b a ≡ false
 conflicts_back a b h = go (is_proper_front a b) (is_proper_front b a) h
   where
     go : (x y : Bool) → (x || y) ≡ false → (y || x) ≡ false

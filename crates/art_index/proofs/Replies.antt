@@ -9,7 +9,6 @@ use Rattle.art_index.specs.Records.{Records}
 use Rattle.art_index.specs.Replies.{reply_to, records_after, command_reply, command_after}
 use Rattle.art_index.specs.Refusals.{MayRefuse}
 use Rattle.art_index.specs.Outcome.{answer, left_by}
-use Rattle.art_index.specs.Stored.{Pair, records_of}
 use Rattle.art_index.specs.Changed.{IsPutDone, IsChangeDone, placed_words, found_no_memory}
 use Rattle.art_index.specs.Told.{IsTold, told_words, tells_no_memory}
 use Rattle.art_index.specs.declared.told.Told.{Told}
@@ -78,10 +77,10 @@ put_done (placed.Over n) old new t k v h = h
 put_done (placed.Gone o) old new t k v h = h
 put_done placed.Absent old new t k v h = h
 
--- what is written of some pairs, where these stand for the records
-pub told_of : (ps : List Pair) (r : Records) (c : Command) (line : List ℕ) → Some c ≡ command_of line → records_of ps ≡ r
-    → flat_map line_of (command_reply (Some c) (records_of ps)) ≡ reply_to r line
-told_of ps r c line e view = ap (λ x. flat_map line_of (command_reply (Some c) x)) view ∙ reply_is (Some c) r line e
+-- what is written of the records that are held
+pub told_of : (held r : Records) (c : Command) (line : List ℕ) → Some c ≡ command_of line → held ≡ r
+    → flat_map line_of (command_reply (Some c) held) ≡ reply_to r line
+told_of held r c line e view = ap (λ x. flat_map line_of (command_reply (Some c) x)) view ∙ reply_is (Some c) r line e
 
 pub bad_told : (r : Records) (line : List ℕ) → None ≡ command_of line → line_of (name (codes "bad") ∷ []) ≡ reply_to r line
 bad_told r line e = told_once (name (codes "bad") ∷ []) None r line e refl
@@ -97,18 +96,18 @@ told_answer : (t : Told) (c : Command) (r : Records) (line : List ℕ) → Some 
     → flat_map line_of (told_words t r) ≡ answer (tells_no_memory t) r line
 told_answer told.Memory c r line e h = append-nil (line_of (name (codes "memory") ∷ []))
 told_answer told.Lines c r line e h = ap (flat_map line_of) h ∙ reply_is (Some c) r line e
-told_answer (told.Counts n) c r line e h = ap (flat_map line_of) h ∙ reply_is (Some c) r line e
+told_answer (told.Counts n m) c r line e h = ap (flat_map line_of) h ∙ reply_is (Some c) r line e
 
 told_leaves : (t : Told) (c : Command) (r : Records) (line : List ℕ) → Some c ≡ command_of line → command_after (Some c) r ≡ r
     → r ≡ left_by (tells_no_memory t) r line
 told_leaves told.Memory c r line e h = refl
 told_leaves told.Lines c r line e h = same_left r c line e h
-told_leaves (told.Counts n) c r line e h = same_left r c line e h
+told_leaves (told.Counts n m) c r line e h = same_left r c line e h
 
 told_may : (t : Told) (c : Command) (r : Records) → IsTold t c r → tells_no_memory t ≡ true → MayRefuse r c
 told_may told.Memory c r h m = h
 told_may told.Lines c r h m = absurd (false≢true m)
-told_may (told.Counts n) c r h m = absurd (false≢true m)
+told_may (told.Counts n k) c r h m = absurd (false≢true m)
 
 module _ (t : Told) (memory : Bool) (c : Command) (held old : Records) (line : List ℕ) (found : memory ≡ tells_no_memory t) (same : held ≡ old)
     (e : Some c ≡ command_of line) (h : IsTold t c held) where

@@ -1,9 +1,10 @@
 -- The lines of replies as the parts that are written one after another.
-use Rattle.std.proofs.Common.{◌≡◌, ℕ, List, [], ◌∷◌, ◌++◌, ap, sym, ◌∙◌, append_assoc}
+use Rattle.std.proofs.Common.{◌≡◌, ℕ, ℤ, List, [], ◌∷◌, ◌++◌, ap, sym, ◌∙◌, append_assoc}
 use Rattle.std.specs.Prelude.{codes, decimal}
-use Rattle.art_index.specs.Words.{Word, name, natural, bytes, shown, text_of, line_of}
-use Rattle.art_index.specs.Commands.{put_words}
-use Rattle.art_index.specs.Replies.{pair_words}
+use Rattle.std.specs.Fmt.{signed_decimal}
+use Rattle.art_index.specs.Words.{Word, name, natural, signed, bytes, shown, text_of, line_of}
+use Rattle.art_index.specs.Commands.{put_words, nput_words}
+use Rattle.art_index.specs.Replies.{pair_words, number_words}
 
 pub line_more : (w v : Word) (ws : List Word) → shown w ++ 32 ∷ line_of (v ∷ ws) ≡ line_of (w ∷ v ∷ ws)
 line_more w v ws = sym (append_assoc (shown w) (32 ∷ text_of (v ∷ ws)) (10 ∷ []))
@@ -24,3 +25,12 @@ put_parts number tenant key value same =
     ∙ ap (λ t. codes "put " ++ t) (line_more (natural number) (bytes key) (bytes value ∷ []))
     ∙ line_more (name (codes "put")) (natural number) (bytes key ∷ bytes value ∷ [])
     ∙ ap (λ n. line_of (put_words n key value)) same
+
+-- a number and a value, and the line that makes a record of them
+pub number_parts : (number : ℤ) (value : List ℕ) → signed_decimal number ++ (32 ∷ [] ++ (shown (bytes value) ++ 10 ∷ [])) ≡ line_of (number_words (number, value))
+number_parts number value = line_more (signed number) (bytes value) []
+
+pub nput_parts : (tenant : ℕ) (number : ℤ) (value : List ℕ) → codes "nput " ++ (decimal tenant ++ (32 ∷ [] ++ line_of (number_words (number, value)))) ≡ line_of (nput_words tenant number value)
+nput_parts tenant number value =
+    ap (λ t. codes "nput " ++ t) (line_more (natural tenant) (signed number) (bytes value ∷ []))
+    ∙ line_more (name (codes "nput")) (natural tenant) (signed number ∷ bytes value ∷ [])

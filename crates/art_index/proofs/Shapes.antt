@@ -1,6 +1,6 @@
 -- What is read in place is what stands behind a word, by its shape.
 use Rattle.std.proofs.Common.{◌≡◌, ℕ, List, [], ◌∷◌, refl, ap, sym, subst, ◌∙◌, true, false, Bool, Some, None, Option, inl, inr}
-use Rattle.std.specs.Prelude.{option_copied, option_map}
+use Rattle.std.specs.Prelude.{ℤ, option_copied, option_map}
 use Rattle.std.specs.Borrow.{Bor}
 use Rattle.art_index.specs.declared.command.fields.Fields.{Fields}
 use Rattle.art_index.specs.declared.command.word.Word.{Word}
@@ -9,108 +9,111 @@ use Rattle.art_index.specs.declared.command.word.LookUp.TheVariants as look_up
 use Rattle.art_index.specs.declared.command.word.Change.TheVariants as change
 use Rattle.art_index.specs.declared.command.word.Whole.TheVariants as whole
 use Rattle.art_index.specs.declared.command.word.Shape.{Shape}
-use Rattle.art_index.specs.declared.command.word.Shape.TheVariants.{Key, KeyAndValue, Nothing}
-use Rattle.art_index.specs.Commands.{put, over, del, get, find, list, span, Command, of_tenant, dump, audit, fields_of}
-use Rattle.art_index.specs.Reading.{tenant_in, bytes_in, key_in, key_and_value_in, nothing_in, ◌>>=◌}
+use Rattle.art_index.specs.declared.command.word.Shape.TheVariants.{Key, KeyAndValue, Number, NumberAndValue, TwoNumbers, Nothing}
+use Rattle.art_index.specs.Commands.{put, over, del, get, find, list, span, nput, nget, ndel, nspan, Command, of_tenant, dump, audit, fields_of}
+use Rattle.art_index.specs.Reading.{tenant_in, number_in, bytes_in, one_in, two_in, key_in, key_and_value_in, tenant_number_in, number_and_value_in, two_numbers_in, nothing_in, ◌>>=◌}
 use Rattle.art_index.specs.InPlace.{fields_behind, IsRead}
-use Rattle.art_index.specs.Parsed.{tenant_in_place, key_in_place, value_in_place, shape_of, command_with}
-use Rattle.art_index.proofs.LastField.{one_or_more, no_bytes}
+use Rattle.art_index.specs.Parsed.{tenant_in_place, key_in_place, value_in_place, number_in_place, bound_in_place, shape_of, command_with}
+use Rattle.art_index.proofs.LastField.{ReadsOneField, one_or_more}
 use Rattle.art_index.proofs.Parsing.{command_by}
 
 -- the parts of each shape, from those of its fields
-abbrev pub key_from : Option ℕ → Option (List ℕ) → Option (ℕ × List ℕ)
-key_from o p = do
+abbrev pub one_from : {A : Type 0} → Option ℕ → Option A → Option (ℕ × A)
+one_from o p = do
   tenant ← o
-  key ← p
-  Some (tenant, key)
+  a ← p
+  Some (tenant, a)
 
-abbrev pub key_and_value_from : Option ℕ → Option (List ℕ) → Option (List ℕ) → Option (ℕ × List ℕ × List ℕ)
-key_and_value_from o p q = do
+abbrev pub two_from : {A B : Type 0} → Option ℕ → Option A → Option B → Option (ℕ × A × B)
+two_from o p q = do
   tenant ← o
-  key ← p
-  value ← q
-  Some (tenant, key, value)
+  a ← p
+  b ← q
+  Some (tenant, a, b)
 
 -- the last field may be all that stands behind the one before
-key_last : (t k : List ℕ) → key_in (t ∷ k ∷ []) ≡ key_in (t ∷ fields_of k)
-key_last t k = elim (one_or_more k) [
-  | inl one ↦ ap (λ l. key_in (t ∷ l)) (sym one)
-  | inr more ↦ nothing (tenant_in t) (bytes_in k) (no_bytes k more.0 more.1 more.2 more.3) ∙ ap (λ l. key_in (t ∷ l)) (sym more.3)
+one_last : {A : Type 0} (read : List ℕ → Option A) → ReadsOneField read → (t k : List ℕ) → one_in read (t ∷ k ∷ []) ≡ one_in read (t ∷ fields_of k)
+one_last {A} read stops t k = elim (one_or_more k) [
+  | inl one ↦ ap (λ l. one_in read (t ∷ l)) (sym one)
+  | inr more ↦ nothing (tenant_in t) (read k) (stops k more.0 more.1 more.2 more.3) ∙ ap (λ l. one_in read (t ∷ l)) (sym more.3)
 ]
   where
-    nothing : (o : Option ℕ) (p : Option (List ℕ)) → p ≡ None → key_from o p ≡ None
+    nothing : (o : Option ℕ) (p : Option A) → p ≡ None → one_from o p ≡ None
     nothing None p h = refl
     nothing (Some n) p h = rw h refl
 
-key_and_value_last : (t k v : List ℕ) → key_and_value_in (t ∷ k ∷ v ∷ []) ≡ key_and_value_in (t ∷ k ∷ fields_of v)
-key_and_value_last t k v = elim (one_or_more v) [
-  | inl one ↦ ap (λ l. key_and_value_in (t ∷ k ∷ l)) (sym one)
-  | inr more ↦ nothing (tenant_in t) (bytes_in k) (bytes_in v) (no_bytes v more.0 more.1 more.2 more.3) ∙ ap (λ l. key_and_value_in (t ∷ k ∷ l)) (sym more.3)
+two_last : {A B : Type 0} (read : List ℕ → Option A) (then_read : List ℕ → Option B) → ReadsOneField then_read → (t k v : List ℕ)
+    → two_in read then_read (t ∷ k ∷ v ∷ []) ≡ two_in read then_read (t ∷ k ∷ fields_of v)
+two_last {A} {B} read then_read stops t k v = elim (one_or_more v) [
+  | inl one ↦ ap (λ l. two_in read then_read (t ∷ k ∷ l)) (sym one)
+  | inr more ↦ nothing (tenant_in t) (read k) (then_read v) (stops v more.0 more.1 more.2 more.3) ∙ ap (λ l. two_in read then_read (t ∷ k ∷ l)) (sym more.3)
 ]
   where
-    nothing : (o : Option ℕ) (p q : Option (List ℕ)) → q ≡ None → key_and_value_from o p q ≡ None
+    nothing : (o : Option ℕ) (p : Option A) (q : Option B) → q ≡ None → two_from o p q ≡ None
     nothing None p q h = refl
     nothing (Some n) None q h = refl
-    nothing (Some n) (Some bs) q h = rw h refl
+    nothing (Some n) (Some a) q h = rw h refl
 
 module _ (r r1 : Option (Bor (List ℕ))) (x y : Bor (List ℕ)) (t : List ℕ) (is : r ≡ Some x) (first : fields_of x.now ≡ t ∷ fields_behind (option_copied r1)) (is1 : r1 ≡ Some y) where
   parted : fields_behind (option_copied r) ≡ t ∷ fields_of y.now
   parted = ap (λ o. fields_behind (option_copied o)) is ∙ first ∙ ap (λ o. t ∷ fields_behind (option_copied o)) is1
 
-  -- a key, from its two fields, where the tenant stays as it is while the key is read
-  key_fields : key_in (t ∷ y.now ∷ []) ≡ key_in (fields_behind (option_copied r))
-  key_fields = key_last t y.now ∙ ap key_in (sym parted)
+  -- one behind the tenant, from its two fields, where the tenant stays as it is while the other is read
+  module _ {A : Type 0} (read : List ℕ → Option A) (stops : ReadsOneField read) where
+    one_fields : one_in read (t ∷ y.now ∷ []) ≡ one_in read (fields_behind (option_copied r))
+    one_fields = one_last read stops t y.now ∙ ap (one_in read) (sym parted)
 
-  pub key_not_read : (b : Bool) (n : ℕ) → IsRead b n (tenant_in t) → b ≡ false → None ≡ key_in (fields_behind (option_copied r))
-  key_not_read b n h e = go b (tenant_in t) h e ∙ key_fields
-    where
-      go : (b : Bool) (o : Option ℕ) → IsRead b n o → b ≡ false → None ≡ key_from o (bytes_in y.now)
-      go b None h e = refl
-      go true (Some m) h e = cc
-      go false (Some m) h e = cc
-
-  pub key_read : (b d : Bool) (n m : ℕ) (k : List ℕ) → IsRead b n (tenant_in t) → b ≡ true → m ≡ n → IsRead d k (bytes_in y.now)
-      → IsRead d (m, k) (key_in (fields_behind (option_copied r)))
-  key_read b d n m k h e same last = rw (← key_fields) (go b d (tenant_in t) (bytes_in y.now) h e last)
-    where
-      go : (b d : Bool) (o : Option ℕ) (p : Option (List ℕ)) → IsRead b n o → b ≡ true → IsRead d k p → IsRead d (m, k) (key_from o p)
-      go false d o p h e last = cc
-      go true d None p h e last = cc
-      go true true (Some i) None h e last = cc
-      go true false (Some i) None h e last = refl
-      go true true (Some i) (Some j) h e last = let one : m ≡ i = cc in let two : k ≡ j = cc in rw (one, two) refl
-      go true false (Some i) (Some j) h e last = cc
-
-  -- a key and a value, from three fields
-  module _ (r2 : Option (Bor (List ℕ))) (z : Bor (List ℕ)) (k : List ℕ) (second : fields_of y.now ≡ k ∷ fields_behind (option_copied r2)) (is2 : r2 ≡ Some z) where
-    key_and_value_fields : key_and_value_in (t ∷ k ∷ z.now ∷ []) ≡ key_and_value_in (fields_behind (option_copied r))
-    key_and_value_fields =
-        let two : fields_of y.now ≡ k ∷ fields_of z.now = second ∙ ap (λ o. k ∷ fields_behind (option_copied o)) is2 in
-        key_and_value_last t k z.now ∙ ap key_and_value_in (sym (parted ∙ ap (λ l. t ∷ l) two))
-
-    pub tenant_not_read : (b : Bool) (n : ℕ) → IsRead b n (tenant_in t) → b ≡ false → None ≡ key_and_value_in (fields_behind (option_copied r))
-    tenant_not_read b n h e = go b (tenant_in t) h e ∙ key_and_value_fields
+    pub one_not_read : (b : Bool) (n : ℕ) → IsRead b n (tenant_in t) → b ≡ false → None ≡ one_in read (fields_behind (option_copied r))
+    one_not_read b n h e = go b (tenant_in t) h e ∙ one_fields
       where
-        go : (b : Bool) (o : Option ℕ) → IsRead b n o → b ≡ false → None ≡ key_and_value_from o (bytes_in k) (bytes_in z.now)
+        go : (b : Bool) (o : Option ℕ) → IsRead b n o → b ≡ false → None ≡ one_from o (read y.now)
         go b None h e = refl
         go true (Some m) h e = cc
         go false (Some m) h e = cc
 
-    pub middle_not_read : (b : Bool) (bs : List ℕ) → IsRead b bs (bytes_in k) → b ≡ false → None ≡ key_and_value_in (fields_behind (option_copied r))
-    middle_not_read b bs h e = go b (tenant_in t) (bytes_in k) h e ∙ key_and_value_fields
+    pub one_read : (b d : Bool) (n m : ℕ) (k : A) → IsRead b n (tenant_in t) → b ≡ true → m ≡ n → IsRead d k (read y.now)
+        → IsRead d (m, k) (one_in read (fields_behind (option_copied r)))
+    one_read b d n m k h e same last = rw (← one_fields) (go b d (tenant_in t) (read y.now) h e last)
       where
-        go : (b : Bool) (o : Option ℕ) (p : Option (List ℕ)) → IsRead b bs p → b ≡ false → None ≡ key_and_value_from o p (bytes_in z.now)
+        go : (b d : Bool) (o : Option ℕ) (p : Option A) → IsRead b n o → b ≡ true → IsRead d k p → IsRead d (m, k) (one_from o p)
+        go false d o p h e last = cc
+        go true d None p h e last = cc
+        go true true (Some i) None h e last = cc
+        go true false (Some i) None h e last = refl
+        go true true (Some i) (Some j) h e last = let one : m ≡ i = cc in let two : k ≡ j = cc in rw (one, two) refl
+        go true false (Some i) (Some j) h e last = cc
+
+  -- two behind the tenant, from three fields
+  module _ {A B : Type 0} (read : List ℕ → Option A) (then_read : List ℕ → Option B) (stops : ReadsOneField then_read)
+      (r2 : Option (Bor (List ℕ))) (z : Bor (List ℕ)) (k : List ℕ) (second : fields_of y.now ≡ k ∷ fields_behind (option_copied r2)) (is2 : r2 ≡ Some z) where
+    two_fields : two_in read then_read (t ∷ k ∷ z.now ∷ []) ≡ two_in read then_read (fields_behind (option_copied r))
+    two_fields =
+        let two : fields_of y.now ≡ k ∷ fields_of z.now = second ∙ ap (λ o. k ∷ fields_behind (option_copied o)) is2 in
+        two_last read then_read stops t k z.now ∙ ap (two_in read then_read) (sym (parted ∙ ap (λ l. t ∷ l) two))
+
+    pub tenant_not_read : (b : Bool) (n : ℕ) → IsRead b n (tenant_in t) → b ≡ false → None ≡ two_in read then_read (fields_behind (option_copied r))
+    tenant_not_read b n h e = go b (tenant_in t) h e ∙ two_fields
+      where
+        go : (b : Bool) (o : Option ℕ) → IsRead b n o → b ≡ false → None ≡ two_from o (read k) (then_read z.now)
+        go b None h e = refl
+        go true (Some m) h e = cc
+        go false (Some m) h e = cc
+
+    pub middle_not_read : (b : Bool) (a : A) → IsRead b a (read k) → b ≡ false → None ≡ two_in read then_read (fields_behind (option_copied r))
+    middle_not_read b a h e = go b (tenant_in t) (read k) h e ∙ two_fields
+      where
+        go : (b : Bool) (o : Option ℕ) (p : Option A) → IsRead b a p → b ≡ false → None ≡ two_from o p (then_read z.now)
         go b None p h e = refl
         go b (Some n) None h e = refl
         go true (Some n) (Some m) h e = cc
         go false (Some n) (Some m) h e = cc
 
-    pub key_and_value_read : (a b d : Bool) (n m : ℕ) (key old v : List ℕ) → IsRead a n (tenant_in t) → a ≡ true → IsRead b old (bytes_in k) → b ≡ true
-        → m ≡ n → key ≡ old → IsRead d v (bytes_in z.now) → IsRead d (m, key, v) (key_and_value_in (fields_behind (option_copied r)))
-    key_and_value_read a b d n m key old v h e i f same kept last = rw (← key_and_value_fields) (go a b d (tenant_in t) (bytes_in k) (bytes_in z.now) h e i f last)
+    pub two_read : (a b d : Bool) (n m : ℕ) (key old : A) (v : B) → IsRead a n (tenant_in t) → a ≡ true → IsRead b old (read k) → b ≡ true
+        → m ≡ n → key ≡ old → IsRead d v (then_read z.now) → IsRead d (m, key, v) (two_in read then_read (fields_behind (option_copied r)))
+    two_read a b d n m key old v h e i f same kept last = rw (← two_fields) (go a b d (tenant_in t) (read k) (then_read z.now) h e i f last)
       where
-        go : (a b d : Bool) (o : Option ℕ) (p q : Option (List ℕ)) → IsRead a n o → a ≡ true → IsRead b old p → b ≡ true → IsRead d v q
-            → IsRead d (m, key, v) (key_and_value_from o p q)
+        go : (a b d : Bool) (o : Option ℕ) (p : Option A) (q : Option B) → IsRead a n o → a ≡ true → IsRead b old p → b ≡ true → IsRead d v q
+            → IsRead d (m, key, v) (two_from o p q)
         go false b d o p q h e i f last = cc
         go true false d o p q h e i f last = cc
         go true true d None p q h e i f last = cc
@@ -130,6 +133,9 @@ module _ (f : Fields) (b : Bool) (rest : List (List ℕ)) where
   abbrev pub IsShapeRead : Shape → Type 0
   IsShapeRead Key = IsRead b (tenant_in_place f, key_in_place f) (key_in rest)
   IsShapeRead KeyAndValue = IsRead b (tenant_in_place f, key_in_place f, value_in_place f) (key_and_value_in rest)
+  IsShapeRead Number = IsRead b (tenant_in_place f, number_in_place f) (tenant_number_in rest)
+  IsShapeRead NumberAndValue = IsRead b (tenant_in_place f, number_in_place f, value_in_place f) (number_and_value_in rest)
+  IsShapeRead TwoNumbers = IsRead b (tenant_in_place f, number_in_place f, bound_in_place f) (two_numbers_in rest)
   IsShapeRead Nothing = IsRead b tt (nothing_in rest)
 
   by_shape : (w : Word) → IsShapeRead (shape_of w) → IsRead b (command_with w f) (command_by w rest)
@@ -140,6 +146,10 @@ module _ (f : Fields) (b : Bool) (rest : List (List ℕ)) where
   by_shape (Change change.Put) h = made b (tenant_in_place f, key_in_place f, value_in_place f) (key_and_value_in rest) (λ p. of_tenant p.0 (put p.1 p.2)) h
   by_shape (Change change.Over) h = made b (tenant_in_place f, key_in_place f, value_in_place f) (key_and_value_in rest) (λ p. of_tenant p.0 (over p.1 p.2)) h
   by_shape (Change change.Del) h = made b (tenant_in_place f, key_in_place f) (key_in rest) (λ p. of_tenant p.0 (del p.1)) h
+  by_shape (LookUp look_up.NGet) h = made b (tenant_in_place f, number_in_place f) (tenant_number_in rest) (λ p. of_tenant p.0 (nget p.1)) h
+  by_shape (LookUp look_up.NSpan) h = made b (tenant_in_place f, number_in_place f, bound_in_place f) (two_numbers_in rest) (λ p. of_tenant p.0 (nspan p.1 p.2)) h
+  by_shape (Change change.NPut) h = made b (tenant_in_place f, number_in_place f, value_in_place f) (number_and_value_in rest) (λ p. of_tenant p.0 (nput p.1 p.2)) h
+  by_shape (Change change.NDel) h = made b (tenant_in_place f, number_in_place f) (tenant_number_in rest) (λ p. of_tenant p.0 (ndel p.1)) h
   by_shape (Whole whole.Dump) h = made b tt (nothing_in rest) (λ p. dump) h
   by_shape (Whole whole.Audit) h = made b tt (nothing_in rest) (λ p. audit) h
 

@@ -12,6 +12,10 @@ pub data Request : Type 0 where
   find : List ℕ → Request
   list : List ℕ → Request
   span : List ℕ → List ℕ → Request
+  nput : ℤ → List ℕ → Request
+  nget : ℤ → Request
+  ndel : ℤ → Request
+  nspan : ℤ → ℤ → Request
 
 -- what a line asks for: something of one tenant's records, or of all
 pub data Command : Type 0 where
@@ -36,6 +40,10 @@ request_words tenant (get key) = name (codes "get") ∷ natural tenant ∷ bytes
 request_words tenant (find key) = name (codes "find") ∷ natural tenant ∷ bytes key ∷ []
 request_words tenant (list front) = name (codes "list") ∷ natural tenant ∷ bytes front ∷ []
 request_words tenant (span low high) = name (codes "span") ∷ natural tenant ∷ bytes low ∷ bytes high ∷ []
+request_words tenant (nput number value) = nput_words tenant number value
+request_words tenant (nget number) = name (codes "nget") ∷ natural tenant ∷ signed number ∷ []
+request_words tenant (ndel number) = name (codes "ndel") ∷ natural tenant ∷ signed number ∷ []
+request_words tenant (nspan low high) = name (codes "nspan") ∷ natural tenant ∷ signed low ∷ signed high ∷ []
 
 -- the words of a command
 abbrev pub words_of : Command → List Word

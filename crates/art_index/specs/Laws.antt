@@ -1,18 +1,21 @@
 -- Laws of the definitions, each proved on a function of `laws`.
-use Rattle.std.specs.Prelude.{◌≡◌, ◌≢◌, ℕ, suc, ◌^◌, ◌<◌, ◌==◌, ◌||◌, ◌&&◌, ◌↔◌, nat_lt, if◌then◌else◌}
-use Rattle.std.specs.Prelude.{Bool, true, false, List, [], ◌∷◌, Option, Some, None, drop, map, flat_map}
+use Rattle.std.specs.Prelude.{◌≡◌, ◌≢◌, ℕ, suc, ℤ, FitsSigned, ◌^◌, ◌<◌, ◌==◌, ◌||◌, ◌&&◌, ◌↔◌, nat_lt, if◌then◌else◌}
+use Rattle.std.specs.Prelude.{Bool, true, false, List, [], ◌∷◌, ◌++◌, Option, Some, None, drop, map, flat_map}
+use Rattle.std.specs.Prelude.{length, replicate, codes, ◌+◌}
+use Rattle.std.specs.Int.{w64}
 use Rattle.art_arena.specs.tree.Changes.{IsIn}
 use Rattle.art_arena.specs.tree.Tenants.{with_front}
-use Rattle.art_index.specs.Commands.{Request, del, Command, of_tenant, dump, audit, Spells}
+use Rattle.art_index.specs.Commands.{Request, del, ndel, Command, of_tenant, dump, audit, Spells}
 use Rattle.art_index.specs.Reading.{command_of}
 use Rattle.art_bytes.specs.Keys.{is_below, conflicts}
-use Rattle.art_index.specs.Keys.{full_key}
-use Rattle.art_index.specs.Records.{Own, KeyRecord, Records, AreRecords, no_records, own, with_own}
+use Rattle.art_index.specs.Keys.{full_key, number_of_bytes}
+use Rattle.art_index.specs.Records.{Own, KeyRecord, NumberRecord, Records, AreRecords, no_records, own, with_own}
 use Rattle.art_index.specs.Refusals.{MayRefuse}
-use Rattle.art_index.specs.Words.{line_of}
-use Rattle.art_index.specs.Replies.{own_reply, own_after, command_after, reply_to}
-use Rattle.art_index.specs.Outcome.{is_refused, left_by, records_from}
-use Rattle.art_index.specs.Stored.{Pair, AreFull, records_of}
+use Rattle.art_index.specs.Lines.{lines_of}
+use Rattle.art_index.specs.Words.{name, line_of}
+use Rattle.art_index.specs.Replies.{own_reply, own_after, command_after, reply_to, dump_of}
+use Rattle.art_index.specs.Outcome.{is_refused, left_by, records_from, outcome_of}
+use Rattle.art_index.specs.Stored.{Pair, NumberPair, AreFull, AreNumberPairs, all_records_of}
 
 -- what is put in place for a tenant is what it holds then
 abbrev pub OwnReadsBack : Type 0
@@ -48,10 +51,10 @@ FullKeysKeepConflicts = (t u : ℕ) (k j : List ℕ) → t < 2 ^ 32 → u < 2 ^ 
 
 -- what a tenant holds is what the pairs of an index have behind its front, the front cut off
 abbrev pub OwnIsBehindFront : Type 0
-OwnIsBehindFront = (tenant : ℕ) (ps : List Pair) → tenant < 2 ^ 32 → AreFull ps
-    → own tenant (records_of ps) ≡ record {
+OwnIsBehindFront = (tenant : ℕ) (ps : List Pair) (ns : List NumberPair) → tenant < 2 ^ 32 → AreFull ps
+    → AreNumberPairs ns → own tenant (all_records_of ps ns) ≡ record {
       keys = map (λ p. (drop 4 p.0.items, p.1.items)) (with_front (λ p. p.0.items) (full_key tenant []) ps);
-      numbers = [];
+      numbers = map (λ p. (number_of_bytes (drop 4 p.0), p.1.items)) (with_front (λ p. p.0) (full_key tenant []) ns);
     }
 
 -- the request of a tenant that a line asks for, if it asks for one of this tenant's
@@ -124,3 +127,28 @@ DeletionsGoByOwnKeys = (tenant : ℕ) (key : List ℕ) (records : Records) (othe
     → AreRecords records → IsIn other records.keys → other.tenant ≡ tenant → other.key ≢ key
     → MayRefuse records (of_tenant tenant (del key))
     ↔ MayRefuse (with_own tenant (own tenant records) no_records) (of_tenant tenant (del key))
+
+-- likewise under numbers
+abbrev pub DeletionsGoByOwnNumbers : Type 0
+DeletionsGoByOwnNumbers = (tenant : ℕ) (number : ℤ) (records : Records) (other : NumberRecord) → tenant < 2 ^ 32
+    → FitsSigned w64 number → AreRecords records → IsIn other records.numbers → other.tenant ≡ tenant
+    → other.number ≢ number → MayRefuse records (of_tenant tenant (ndel number))
+    ↔ MayRefuse (with_own tenant (own tenant records) no_records) (of_tenant tenant (ndel number))
+
+-- what a dump writes
+abbrev pub dump_text : Records → List ℕ
+dump_text records = flat_map line_of (dump_of records)
+
+-- dumps are equal exactly where the records are
+abbrev pub DumpsTellRecords : Type 0
+DumpsTellRecords = (r s : Records) → AreRecords r → AreRecords s → (dump_text r ≡ dump_text s) ↔ (r ≡ s)
+
+-- The lines of a dump, where no record is and none of them is refused, are answered `new` once a record and then `bad`,
+-- and leave the records.
+abbrev pub DumpsAreReadBack : Type 0
+DumpsAreReadBack = (records : Records) → AreRecords records
+    → outcome_of no_records (lines_of (dump_text records)) [] ≡ record {
+      written = flat_map line_of (replicate (length records.keys + length records.numbers) (name (codes "new") ∷ [])
+          ++ (name (codes "bad") ∷ []) ∷ []);
+      records = records;
+    }

@@ -1,14 +1,16 @@
 -- Which lines may find no memory.
 use Rattle.std.specs.Prelude.{ℕ, List, IsSome}
 use Rattle.art_arena.specs.tree.Shrinks.{Shrinks}
-use Rattle.art_index.specs.Commands.{put, over, del, get, find, list, span, Command, of_tenant, dump, audit, Spells}
-use Rattle.art_index.specs.Keys.{full_key, full_key_of}
+use Rattle.art_bytes.specs.Laws.{pair_key}
+use Rattle.art_index.specs.Commands.{put, over, del, get, find, list, span, nput, nget, ndel, nspan}
+use Rattle.art_index.specs.Commands.{Command, of_tenant, dump, audit, Spells}
+use Rattle.art_index.specs.Keys.{full_key, full_key_of, number_key_of}
 use Rattle.art_index.specs.Records.{Records, own}
-use Rattle.art_index.specs.Replies.{value_at}
+use Rattle.art_index.specs.Replies.{value_at, value_at_number}
 
--- A command may find no memory at these records: a put and an audit may, and the deletion of a key that is there where
--- the longest front that its full key shares with another one is followed by as many different bytes as a node's kind
--- has least.
+-- A command may find no memory at these records: a put and an audit may, and the deletion of a key or a number that is
+-- there where the longest front that its full key shares with another one is followed by as many different bytes as a
+-- node's kind has least.
 abbrev pub MayRefuse : Records → Command → Type 0
 MayRefuse records (of_tenant tenant (put key value)) = Unit {0}
 MayRefuse records (of_tenant tenant (over key value)) = Unit {0}
@@ -18,6 +20,12 @@ MayRefuse records (of_tenant tenant (get key)) = ⊥
 MayRefuse records (of_tenant tenant (find key)) = ⊥
 MayRefuse records (of_tenant tenant (list front)) = ⊥
 MayRefuse records (of_tenant tenant (span low high)) = ⊥
+MayRefuse records (of_tenant tenant (nput number value)) = Unit {0}
+MayRefuse records (of_tenant tenant (ndel number)) =
+    IsSome (value_at_number number (own tenant records).numbers)
+    × Shrinks number_key_of records.numbers (pair_key (tenant, number))
+MayRefuse records (of_tenant tenant (nget number)) = ⊥
+MayRefuse records (of_tenant tenant (nspan low high)) = ⊥
 MayRefuse records dump = ⊥
 MayRefuse records audit = Unit {0}
 

@@ -1,10 +1,12 @@
 -- The reply to a line, and the records after it.
-use Rattle.std.specs.Prelude.{ℕ, ◌+◌, not, ◌&&◌, Bool, true, false, if◌then◌else◌, List, [], ◌∷◌, ◌++◌}
+use Rattle.std.specs.Prelude.{ℕ, ℤ, ◌+◌, int_lt, not, ◌&&◌, Bool, true, false, if◌then◌else◌, List, [], ◌∷◌, ◌++◌}
 use Rattle.std.specs.Prelude.{length, map, filter, flat_map, codes, Option, Some, None, option_map}
 use Rattle.std.specs.List.{list_any, find}
 use Rattle.std.specs.Str.{bytes_eq}
-use Rattle.art_index.specs.Words.{Word, name, natural, bytes, line_of}
+use Rattle.std.specs.Ordering.{int_eq}
+use Rattle.art_index.specs.Words.{Word, name, natural, signed, bytes, line_of}
 use Rattle.art_index.specs.Commands.{Request, put, over, del, get, find as find_front, list, span}
+use Rattle.art_index.specs.Commands.{nput, nget, ndel, nspan}
 use Rattle.art_index.specs.Commands.{Command, of_tenant, dump, audit, put_words, nput_words}
 use Rattle.art_index.specs.Reading.{command_of}
 use Rattle.art_bytes.specs.Keys.{is_below, conflicts}
@@ -49,6 +51,22 @@ behind_front front pairs = filter (λ p. begins_with front p.0) pairs
 abbrev pub pairs_from_to : List ℕ → List ℕ → List (List ℕ × List ℕ) → List (List ℕ × List ℕ)
 pairs_from_to low high pairs = filter (λ p. not (is_below p.0 low) && is_below p.0 high) pairs
 
+-- the value at a number
+abbrev pub value_at_number : ℤ → List (ℤ × List ℕ) → Option (List ℕ)
+value_at_number number pairs = option_map (λ p. p.1) (find (λ p. int_eq p.0 number) pairs)
+
+-- the pairs with a value at a number, at its place in the order, and no other value at it; and without the one there
+abbrev pub with_number : ℤ → List ℕ → List (ℤ × List ℕ) → List (ℤ × List ℕ)
+with_number number value pairs =
+    filter (λ p. int_lt p.0 number) pairs ++ (number, value) ∷ filter (λ p. int_lt number p.0) pairs
+
+abbrev pub without_number : ℤ → List (ℤ × List ℕ) → List (ℤ × List ℕ)
+without_number number pairs = filter (λ p. not (int_eq p.0 number)) pairs
+
+-- the pairs from a low number on and up to a high one
+abbrev pub numbers_from_to : ℤ → ℤ → List (ℤ × List ℕ) → List (ℤ × List ℕ)
+numbers_from_to low high pairs = filter (λ p. not (int_lt p.0 low) && not (int_lt high p.0)) pairs
+
 -- the word for what was found and its bytes, or the word for nothing
 abbrev pub found_or : Option (List ℕ) → List ℕ → List ℕ → List Word
 found_or (Some value) found absent = name found ∷ bytes value ∷ []
@@ -64,6 +82,10 @@ put_reply None false = name (codes "new") ∷ []
 abbrev pub puts : Option (List ℕ) → Bool → Bool
 puts (Some old) conflict = true
 puts None conflict = not conflict
+
+-- A put at a number is answered by the old value, or that there was none: numbers do not conflict.
+abbrev pub nput_reply : Option (List ℕ) → List Word
+nput_reply old = put_reply old false
 
 -- A find is answered by the key that was found and its value.
 abbrev pub front_reply : Option (List ℕ × List ℕ) → List Word
@@ -81,6 +103,13 @@ pair_words pair = bytes pair.0 ∷ bytes pair.1 ∷ []
 abbrev pub listed : List (List ℕ × List ℕ) → List (List Word)
 listed pairs = map pair_words pairs ++ end_words (length pairs) ∷ []
 
+-- likewise under numbers
+abbrev pub number_words : ℤ × List ℕ → List Word
+number_words pair = signed pair.0 ∷ bytes pair.1 ∷ []
+
+abbrev pub numbers_listed : List (ℤ × List ℕ) → List (List Word)
+numbers_listed pairs = map number_words pairs ++ end_words (length pairs) ∷ []
+
 -- the reply to a tenant's request, line by line, from what the tenant holds and nothing else
 abbrev pub own_reply : Request → Own → List (List Word)
 own_reply (put key value) mine = put_reply (value_at key mine.keys) (has_conflict key mine.keys) ∷ []
@@ -91,6 +120,12 @@ own_reply (find_front key) mine = front_reply (front_at key mine.keys) ∷ []
 own_reply (list front) mine = listed (behind_front front mine.keys)
 own_reply (span low high) mine =
     if is_below high low then (name (codes "bounds") ∷ []) ∷ [] else listed (pairs_from_to low high mine.keys)
+own_reply (nput number value) mine = nput_reply (value_at_number number mine.numbers) ∷ []
+own_reply (nget number) mine = found_or (value_at_number number mine.numbers) (codes "is") (codes "none") ∷ []
+own_reply (ndel number) mine = found_or (value_at_number number mine.numbers) (codes "gone") (codes "none") ∷ []
+own_reply (nspan low high) mine =
+    if int_lt high low then (name (codes "bounds") ∷ []) ∷ []
+    else numbers_listed (numbers_from_to low high mine.numbers)
 
 -- what the tenant holds after its request, where the request changes that
 abbrev pub own_after : Request → Own → Option Own
@@ -104,11 +139,21 @@ own_after (get key) mine = None
 own_after (find_front key) mine = None
 own_after (list front) mine = None
 own_after (span low high) mine = None
+own_after (nput number value) mine = Some (record { keys = mine.keys; numbers = with_number number value mine.numbers })
+own_after (nget number) mine = None
+own_after (ndel number) mine = Some (record { keys = mine.keys; numbers = without_number number mine.numbers })
+own_after (nspan low high) mine = None
+
+-- the lines that would make the records under keys, and those under numbers
+abbrev pub key_lines : Records → List (List Word)
+key_lines records = map (λ r. put_words r.tenant r.key r.value) records.keys
+
+abbrev pub number_lines : Records → List (List Word)
+number_lines records = map (λ r. nput_words r.tenant r.number r.value) records.numbers
 
 -- A dump is the lines that would make all records, by tenant and key, then by tenant and number, then their count.
 abbrev pub dump_of : Records → List (List Word)
-dump_of records = map (λ r. put_words r.tenant r.key r.value) records.keys
-    ++ map (λ r. nput_words r.tenant r.number r.value) records.numbers
+dump_of records = key_lines records ++ number_lines records
     ++ end_words (length records.keys + length records.numbers) ∷ []
 
 -- what tells of a tree: its leaves, and its inner nodes of 2 to 4, 5 to 16, 17 to 48 and 49 to 256 children

@@ -16,15 +16,6 @@ use art_walks::WellFormedTreeStats;
 /// Room for the lines of two trees.
 const ROOM: usize = 226;
 
-/// The counts of a tree that holds nothing.
-const NONE: WellFormedTreeStats = WellFormedTreeStats {
-    num_node4: 0,
-    num_node16: 0,
-    num_node48: 0,
-    num_node256: 0,
-    num_leaf: 0,
-};
-
 /// Puts a space and a number in digits.
 fn put_count(room: &mut [u8], at: usize, count: usize) -> usize
     requires { at + 21 ≤ length room.old }
@@ -51,19 +42,19 @@ fn put_counts(room: &mut [u8], at: usize, tree: &[u8], counts: &WellFormedTreeSt
     put_text(room, newline, b"\n")
 }
 
-/// Writes the line of the tree of the records under keys, and that of the tree of those under numbers, of which there
-/// are none.
+/// Writes the line of the tree of the records under keys, and that of the tree of those under numbers.
 pub(crate) fn write_audit<W: Sink>(
     sink: &mut W,
-    counts: &WellFormedTreeStats,
+    keys: &WellFormedTreeStats,
+    numbers: &WellFormedTreeStats,
 ) -> Result<(), WriteFailed>
     requires { W.has_failed sink.old ≡ false }
     ensures { Writes result (W.taken sink.old) (W.taken sink.new)
-        (flat_map line_of (told_words (Counts counts.now) no_records))
+        (flat_map line_of (told_words (Counts keys.now numbers.now) no_records))
         (W.has_failed sink.new) }
 {
     let mut room = [0; ROOM];
-    let numbers = put_counts(&mut room, 0, b"bytes", counts);
-    let end = put_counts(&mut room, numbers, b"numbers", &NONE);
+    let second = put_counts(&mut room, 0, b"bytes", keys);
+    let end = put_counts(&mut room, second, b"numbers", numbers);
     write_piece(sink, &room[..end])
 }

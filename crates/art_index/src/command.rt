@@ -13,7 +13,9 @@ pub(crate) mod word;
 
 use arrayvec::ArrayVec;
 use fields::{FIELD, Fields};
-use shapes::{read_key, read_key_and_value, split_field};
+use shapes::{
+    read_key, read_key_and_value, read_number, read_number_and_value, read_two_numbers, split_field,
+};
 use word::{Change, LookUp, Shape, Whole, Word, word_of};
 
 /// The longest line in bytes, without its newline.
@@ -60,6 +62,28 @@ pub enum Command {
         low: ArrayVec<u8, FIELD>,
         high: ArrayVec<u8, FIELD>,
     },
+    /// `nput t n v`: puts a value at a tenant's number.
+    NPut {
+        tenant: u32,
+        number: i64,
+        value: ArrayVec<u8, FIELD>,
+    },
+    /// `nget t n`: asks for the value at a tenant's number.
+    NGet {
+        tenant: u32,
+        number: i64,
+    },
+    /// `ndel t n`: removes the value at a tenant's number.
+    NDel {
+        tenant: u32,
+        number: i64,
+    },
+    /// `nspan t lo hi`: asks for the tenant's numbers from a low one on and up to a high one.
+    NSpan {
+        tenant: u32,
+        low: i64,
+        high: i64,
+    },
     /// `dump`: asks for all records.
     Dump,
     /// `audit`: asks how many nodes of each kind the trees of all records have.
@@ -105,6 +129,15 @@ fn look_up_of_fields(word: LookUp, fields: &Fields) -> Command
             low: key,
             high: bytes_of(fields.value()),
         },
+        LookUp::NGet => Command::NGet {
+            tenant,
+            number: fields.number(),
+        },
+        LookUp::NSpan => Command::NSpan {
+            tenant,
+            low: fields.number(),
+            high: fields.bound(),
+        },
     }
 }
 
@@ -126,6 +159,15 @@ fn change_of_fields(word: Change, fields: &Fields) -> Command
             value: bytes_of(fields.value()),
         },
         Change::Del => Command::Del { tenant, key },
+        Change::NPut => Command::NPut {
+            tenant,
+            number: fields.number(),
+            value: bytes_of(fields.value()),
+        },
+        Change::NDel => Command::NDel {
+            tenant,
+            number: fields.number(),
+        },
     }
 }
 
@@ -152,6 +194,9 @@ pub(crate) fn read_line(line: &[u8], fields: &mut Fields) -> Option<Word>
     let is_read = match word.shape() {
         Shape::Key => read_key(rest, fields),
         Shape::KeyAndValue => read_key_and_value(rest, fields),
+        Shape::Number => read_number(rest, fields),
+        Shape::NumberAndValue => read_number_and_value(rest, fields),
+        Shape::TwoNumbers => read_two_numbers(rest, fields),
         Shape::Nothing => rest.is_none(),
     };
     if !is_read {

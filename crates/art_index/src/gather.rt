@@ -1,12 +1,12 @@
 //! Lines that are gathered in a room, and leave in few pieces.
 ghost use Rattle.std.specs.Prelude.{◌≡◌, ◌++◌, ◌≤◌, length, take, drop, false, is_err, IfOk, OnErr};
 ghost use Rattle.art_index.specs.Words.{line_of};
-ghost use Rattle.art_index.specs.Replies.{pair_words};
+ghost use Rattle.art_index.specs.Replies.{pair_words, number_words};
 ghost use Rattle.art_index.specs.Faults.{IsCut};
 ghost use Rattle.art_index.specs.Gathered.{IsPartTaken};
 
 use crate::reply::write_piece;
-use crate::room::put_pair;
+use crate::room::{put_number_pair, put_pair};
 use crate::stream::{Sink, WriteFailed};
 
 /// The bytes of lines that are gathered before they are written, at most.
@@ -72,5 +72,29 @@ pub(crate) fn gather_pair<W: Sink>(
 {
     let at = make_room(sink, room, held)?;
     let next = put_pair(room, at, key_of(full), value);
+    Ok(next)
+}
+
+/// The same of a number and its value.
+#[inline]
+pub(crate) fn gather_number<W: Sink>(
+    sink: &mut W,
+    room: &mut [u8],
+    held: usize,
+    number: i64,
+    value: &[u8],
+) -> Result<usize, WriteFailed>
+    requires open { W.has_failed sink.old ≡ false }
+    requires whole { length room.old ≡ 8192 }
+    requires held { held ≤ 8192 }
+    requires line { length (line_of (number_words (number, value.now))) ≤ 4097 }
+    ensures fits { IfOk result (λ next. next ≤ 8192) }
+    ensures taken { IfOk result (λ next. IsPartTaken (W.taken sink.old) (W.taken sink.new) (take next room.new)
+        (take held room.old ++ line_of (number_words (number, value.now)))) }
+    ensures cut { OnErr result (IsCut (W.taken sink.old) (W.taken sink.new) (take held room.old)) }
+    ensures failed { is_err result ≡ W.has_failed sink.new }
+{
+    let at = make_room(sink, room, held)?;
+    let next = put_number_pair(room, at, number, value);
     Ok(next)
 }

@@ -3,7 +3,7 @@ ghost use Rattle.std.specs.Prelude.{◌≡◌, ◌+◌, ◌<◌, ◌++◌, map, 
 ghost use Rattle.std.specs.Prelude.{None};
 
 use crate::carry::{ask_all, change, tell_all};
-use crate::command::fields::Fields;
+use crate::command::fields::{Fields, NUMBER_KEY};
 use crate::command::read_line;
 use crate::command::word::Word;
 use crate::look::look_up;
@@ -51,6 +51,7 @@ pub struct Handled {
 pub struct Index<const PREFIX_LEN: usize> {
     alloc: Global,
     records: TreeMap<Vec<u8>, Vec<u8>, PREFIX_LEN>,
+    numbers: TreeMap<[u8; NUMBER_KEY], Vec<u8>, PREFIX_LEN>,
     fields: Fields,
 }
 
@@ -59,17 +60,17 @@ impl<const PREFIX_LEN: usize> Model for Index<PREFIX_LEN> {
 
     ghost Value = { Records };
 
-    ghost use Rattle.art_index.specs.Stored.{records_of, ArePairs};
+    ghost use Rattle.art_index.specs.Stored.{all_records_of, ArePairs, AreNumberPairs};
 
-    ghost view = { λ s. records_of s.records.pairs };
+    ghost view = { λ s. all_records_of s.records.pairs s.numbers.pairs };
 
-    ghost invariant = { λ s. ArePairs s.records.pairs };
+    ghost invariant = { λ s. ArePairs s.records.pairs × AreNumberPairs s.numbers.pairs };
 }
 
 impl<const PREFIX_LEN: usize> Index<PREFIX_LEN> {
     ghost use Rattle.art_index.specs.Words.{line_of};
     ghost use Rattle.art_index.specs.Commands.{put, get};
-    ghost use Rattle.art_index.specs.Keys.{full_pair};
+    ghost use Rattle.art_index.specs.Keys.{full_pair, number_pair};
     ghost use Rattle.art_index.specs.Records.{AreRecords, no_records, KeyFits, own};
     ghost use Rattle.art_index.specs.Replies.{own_reply};
     ghost use Rattle.art_index.specs.Refusals.{LineMayRefuse};
@@ -84,6 +85,7 @@ impl<const PREFIX_LEN: usize> Index<PREFIX_LEN> {
         Index {
             alloc,
             records: TreeMap::with_prefix_len(alloc),
+            numbers: TreeMap::with_prefix_len(alloc),
             fields: Fields::new(),
         }
     }
@@ -96,11 +98,20 @@ impl<const PREFIX_LEN: usize> Index<PREFIX_LEN> {
         let _records = &self.records;
     }
 
-    /// The records, each value under its full key: four bytes of the tenant, the highest first, and then its key.
+    /// The records under keys, each value under its full key: four bytes of the tenant, the highest first, and then its
+    /// key.
     pub fn byte_map(&self) -> &TreeMap<Vec<u8>, Vec<u8>, PREFIX_LEN>
         ensures { map (λ p. (p.0.items, p.1.items)) result.now.pairs ≡ map full_pair self.now.keys }
     {
         &self.records
+    }
+
+    /// The records under numbers, each value under twelve bytes: four of the tenant, the highest first, and then eight
+    /// of the number with its top bit flipped.
+    pub fn number_map(&self) -> &TreeMap<[u8; NUMBER_KEY], Vec<u8>, PREFIX_LEN>
+        ensures { map (λ p. (p.0, p.1.items)) result.now.pairs ≡ map number_pair self.now.numbers }
+    {
+        &self.numbers
     }
 
     /// Carries out one line, without its newline, and writes its whole reply.
@@ -119,16 +130,24 @@ impl<const PREFIX_LEN: usize> Index<PREFIX_LEN> {
     {
         let mut memory = false;
         match read_line(line, &mut self.fields) {
-            Some(Word::LookUp(word)) => look_up(&self.records, word, &self.fields, sink)?,
+            Some(Word::LookUp(word)) => {
+                look_up(&self.records, &self.numbers, word, &self.fields, sink)?;
+            }
             Some(Word::Change(word)) => {
-                let done = change(self.alloc, &mut self.records, word, &self.fields);
+                let done = change(
+                    self.alloc,
+                    &mut self.records,
+                    &mut self.numbers,
+                    word,
+                    &self.fields,
+                );
                 memory = done.is_memory();
                 write_placed(sink, &done)?;
             }
             Some(Word::Whole(word)) => {
-                let told = ask_all(&self.records, word);
+                let told = ask_all(&self.records, &self.numbers, word);
                 memory = told.is_memory();
-                tell_all(&self.records, told, sink)?;
+                tell_all(&self.records, &self.numbers, told, sink)?;
             }
             None => write_piece(sink, b"bad\n")?,
         }

@@ -1,6 +1,7 @@
 //! Laws of the definitions. Each function does nothing, and its contract is the law.
 ghost use Rattle.art_index.specs.Laws.{OwnReadsBack, OthersAreUntouched, OwnIsInPlace, ReadingIsSpelling};
 ghost use Rattle.art_index.specs.Laws.{RequestsLeaveOthers, TenantsStandAlone, DeletionsGoByOwnKeys};
+ghost use Rattle.art_index.specs.Laws.{DeletionsGoByOwnNumbers, DumpsTellRecords, DumpsAreReadBack};
 ghost use Rattle.art_index.specs.Laws.{SpellsOneCommand, FullKeysKeepOrder, FullKeysKeepConflicts, OwnIsBehindFront};
 
 /// What is put in place for a tenant is what it holds then.
@@ -39,7 +40,7 @@ pub fn full_keys_keep_conflicts()
     ensures { FullKeysKeepConflicts }
 {}
 
-/// What a tenant holds is what the map has behind the tenant's front, with the front cut off.
+/// What a tenant holds is what the two maps have behind the tenant's front, with the front cut off.
 pub fn own_is_behind_front()
     ensures { OwnIsBehindFront }
 {}
@@ -59,4 +60,21 @@ pub fn tenants_stand_alone()
 /// there were no other tenant.
 pub fn deletions_go_by_own_keys()
     ensures { DeletionsGoByOwnKeys }
+{}
+
+/// While a tenant has another number, whether the deletion of one may find no memory goes by what it holds alone, as if
+/// there were no other tenant.
+pub fn deletions_go_by_own_numbers()
+    ensures { DeletionsGoByOwnNumbers }
+{}
+
+/// Two dumps are equal exactly where their records are.
+pub fn dumps_tell_records()
+    ensures { DumpsTellRecords }
+{}
+
+/// The lines of a dump, carried out by an empty index with memory to spare, are answered `new` once a record and then
+/// `bad`, and leave the records that were dumped.
+pub fn dumps_are_read_back()
+    ensures { DumpsAreReadBack }
 {}

@@ -21,6 +21,7 @@ mod index;
 mod laws;
 mod lists;
 mod look;
+mod numbers;
 mod placed;
 mod records;
 mod reply;

@@ -70,6 +70,15 @@ pub(crate) fn write_number<W: Sink>(sink: &mut W, number: u64) -> Result<(), Wri
     write_piece(sink, digits.format(number).as_bytes())
 }
 
+/// Writes a wide number in digits.
+fn write_wide<W: Sink>(sink: &mut W, number: u128) -> Result<(), WriteFailed>
+    requires { W.has_failed sink.old ≡ false }
+    ensures { Writes result (W.taken sink.old) (W.taken sink.new) (decimal number) (W.has_failed sink.new) }
+{
+    let mut digits = Buffer::new();
+    write_piece(sink, digits.format(number).as_bytes())
+}
+
 /// A line of a word and bytes, which leaves in one piece where the bytes are few.
 pub(crate) fn write_found<W: Sink>(
     sink: &mut W,
@@ -123,6 +132,22 @@ pub(crate) fn write_end<W: Sink>(sink: &mut W, count: usize) -> Result<(), Write
 {
     write_piece(sink, b"end ")?;
     write_number(sink, count as u64)?;
+    write_piece(sink, b"\n")
+}
+
+/// The line that ends a dump of so many records under keys and so many under numbers.
+pub(crate) fn write_total<W: Sink>(
+    sink: &mut W,
+    keys: usize,
+    numbers: usize,
+) -> Result<(), WriteFailed>
+    requires { W.has_failed sink.old ≡ false }
+    ensures { Writes result (W.taken sink.old) (W.taken sink.new)
+        (line_of (end_words (keys + numbers)))
+        (W.has_failed sink.new) }
+{
+    write_piece(sink, b"end ")?;
+    write_wide(sink, keys as u128 + numbers as u128)?;
     write_piece(sink, b"\n")
 }
 

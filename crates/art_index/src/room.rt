@@ -1,10 +1,11 @@
 //! Text that is gathered in a room before it goes to a sink, so that many lines leave in one piece. Each call puts a
 //! text at a place, leaves what stands before it, and tells the place behind it.
 ghost use Rattle.std.specs.Prelude.{◌≡◌, ◌+◌, ◌*◌, ◌%◌, ◌≤◌, ◌∷◌, [], length, decimal};
+ghost use Rattle.std.specs.Fmt.{signed_decimal};
 ghost use Rattle.hex.specs.Hex.{encode_lower};
 ghost use Rattle.art_index.specs.Words.{shown, name, bytes, line_of};
-ghost use Rattle.art_index.specs.Commands.{put_words};
-ghost use Rattle.art_index.specs.Replies.{pair_words};
+ghost use Rattle.art_index.specs.Commands.{put_words, nput_words};
+ghost use Rattle.art_index.specs.Replies.{pair_words, number_words};
 ghost use Rattle.art_index.specs.Gathered.{Puts, IsHead, head_of};
 
 use itoa::Buffer;
@@ -105,6 +106,16 @@ pub(crate) fn put_number(room: &mut [u8], at: usize, number: u64) -> usize
     put_text(room, at, digits.format(number).as_bytes())
 }
 
+/// Puts a number in digits, behind a `-` where it is below 0.
+#[inline]
+fn put_signed(room: &mut [u8], at: usize, number: i64) -> usize
+    requires { at + length (signed_decimal number) ≤ length room.old }
+    ensures { Puts result at (signed_decimal number) room.old room.new }
+{
+    let mut digits = Buffer::new();
+    put_text(room, at, digits.format(number).as_bytes())
+}
+
 /// How many bytes a head takes at most.
 const HEAD: usize = 16;
 
@@ -185,6 +196,36 @@ pub(crate) fn put_pair(room: &mut [u8], at: usize, key: &[u8], value: &[u8]) -> 
     let digits = put_text(room, space, b" ");
     let newline = put_bytes(room, digits, value);
     put_text(room, newline, b"\n")
+}
+
+/// Puts a line of a number and its value.
+#[inline]
+pub(crate) fn put_number_pair(room: &mut [u8], at: usize, number: i64, value: &[u8]) -> usize
+    requires { at + length (line_of (number_words (number, value.now))) ≤ length room.old }
+    ensures { Puts result at (line_of (number_words (number, value.now))) room.old room.new }
+{
+    let space = put_signed(room, at, number);
+    let digits = put_text(room, space, b" ");
+    let newline = put_bytes(room, digits, value);
+    put_text(room, newline, b"\n")
+}
+
+/// Puts the line that makes a record of a tenant's under a number.
+#[inline]
+pub(crate) fn put_number_record(
+    room: &mut [u8],
+    at: usize,
+    tenant: u32,
+    number: i64,
+    value: &[u8],
+) -> usize
+    requires { at + length (line_of (nput_words tenant number value.now)) ≤ length room.old }
+    ensures { Puts result at (line_of (nput_words tenant number value.now)) room.old room.new }
+{
+    let digits = put_text(room, at, b"nput ");
+    let space = put_number(room, digits, u64::from(tenant));
+    let pair = put_text(room, space, b" ");
+    put_number_pair(room, pair, number, value)
 }
 
 /// Puts a line of a word and bytes.

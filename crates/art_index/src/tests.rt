@@ -131,42 +131,6 @@ fn is_answered_by_all(rt: &impl Abort, alloc: Global, text: &[u8], wanted: &[u8]
 }
 
 #[test]
-fn answers_worked_lines(rt: HostRuntime) {
-    let rows: [(&[u8], &[u8]); 9] = [
-        (b"", b""),
-        (b"\n", b"bad\n"),
-        (
-            b"put 1 0a 61\nput 1 0a0b 62\nput 2 0a0b 63\nput 1 0a 64\ndump\n",
-            b"new\nconflict\nnew\nold 61\nput 1 0a 64\nput 2 0a0b 63\nend 2\n",
-        ),
-        (
-            b"put 7 0a0b 6869\nget 7 0a0b\nget 8 0a0b",
-            b"new\nis 6869\nnone\n",
-        ),
-        (
-            b"get  1 0a\nget 1 0\nPUT 1 0a 61\nnget 1 -0\nput 1 0a\nend 2\n",
-            b"bad\nbad\nbad\nbad\nbad\nbad\n",
-        ),
-        (b"put 12 0a 61\nput 1 320a 62\n", b"new\nnew\n"),
-        (
-            b"put 10 aB 61\nput 2 - -\ndump\nget 2 -\n",
-            b"new\nnew\nput 2 - -\nput 10 ab 61\nend 2\nis -\n",
-        ),
-        (
-            b"put 256 00 61\nput 1 00 62\nput 2 AB 4A\ndump\n",
-            b"new\nnew\nnew\nput 1 00 62\nput 2 ab 4a\nput 256 00 61\nend 3\n",
-        ),
-        (
-            b"put 01 0a 61\nget 4294967296 0a\nget +1 0a\nget 1 0a\r\n get 1 0a\nget 1 0a \nget 4294967295 0a\n",
-            b"bad\nbad\nbad\nbad\nbad\nbad\nnone\n",
-        ),
-    ];
-    for (text, wanted) in rows {
-        is_answered_by_all(&rt, rt.alloc(), text, wanted);
-    }
-}
-
-#[test]
 fn answers_a_long_line_once(rt: HostRuntime) -> Result<(), Fail> {
     let mut text = Vec::new(rt.alloc());
     for front in [b"put 1 ".as_slice(), b"put 10 ".as_slice()] {
@@ -455,6 +419,12 @@ fn reads_a_line_as_a_command(rt: HostRuntime) {
     assert!(rt; matches!(parse_line(b"dump"), Some(Command::Dump)));
     assert!(rt; matches!(parse_line(b"audit"), Some(Command::Audit)));
     assert!(rt; matches!(parse_line(b"get 0 -"), Some(Command::Get { .. })));
+    match parse_line(b"nspan 12 -9223372036854775808 7") {
+        Some(Command::NSpan { tenant, low, high }) => {
+            assert_eq!(rt; (tenant, low, high), (12, i64::MIN, 7));
+        }
+        _ => assert!(rt; false),
+    }
 }
 
 /// Whether a line is handled with memory to spare and no visit, and its reply taken.
@@ -478,6 +448,9 @@ fn call_laws() {
     laws::requests_leave_others();
     laws::tenants_stand_alone();
     laws::deletions_go_by_own_keys();
+    laws::deletions_go_by_own_numbers();
+    laws::dumps_tell_records();
+    laws::dumps_are_read_back();
 }
 
 #[test]
@@ -491,6 +464,13 @@ fn handles_a_line(rt: HostRuntime) {
     assert_eq!(rt; index.byte_map().len(), 1);
     match index.byte_map().get(&SliceKey(&[0, 0, 0, 3, 0xab])) {
         Some(value) => assert_eq!(rt; value.as_slice(), [0xcd].as_slice()),
+        None => assert!(rt; false),
+    }
+    let handled = is_handled(&mut index, b"nput 3 -1 ef", &mut out);
+    assert!(rt; matches!(handled, Ok(true)));
+    let bytes = [0, 0, 0, 3, 127, 255, 255, 255, 255, 255, 255, 255];
+    match index.number_map().get(&bytes) {
+        Some(value) => assert_eq!(rt; value.as_slice(), [0xef].as_slice()),
         None => assert!(rt; false),
     }
 }

@@ -7,8 +7,8 @@ use art_walks::WellFormedTreeStats;
 pub(crate) enum Told {
     /// The lines that make them.
     Lines,
-    /// How many nodes of each kind the tree of their full keys has.
-    Counts(WellFormedTreeStats),
+    /// How many nodes of each kind the tree of all records under keys has, and that of all under numbers.
+    Counts(WellFormedTreeStats, WellFormedTreeStats),
     /// No memory was found.
     Memory,
 }

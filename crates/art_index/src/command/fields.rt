@@ -1,15 +1,14 @@
-//! The fields of a line: a tenant, and bytes, read in place of what was there.
-//!
-//! A signed number is to be read here too, beside the tenant: into a field `number: i64`, by the same loop over digits
-//! behind a `-`.
-ghost use Rattle.std.specs.Prelude.{◌≡◌, ◌+◌, ◌/◌, ◌^◌, ◌<◌, ◌≤◌, length, take, drop, IsSome, true};
-ghost use Rattle.std.specs.Int.{from_be_bytes, w32};
+//! The fields of a line: a tenant, bytes, and signed numbers, read in place of what was there.
+ghost use Rattle.std.specs.Prelude.{◌≡◌, ◌+◌, ◌/◌, ◌^◌, ◌<◌, ◌≤◌, length, take, drop, IsSome, true, FitsSigned};
+ghost use Rattle.std.specs.Int.{from_be_bytes, w32, w64};
+ghost use Rattle.art_bytes.specs.Laws.{pair_key};
 ghost use Rattle.art_index.specs.Keys.{full_key as full_key_of};
-ghost use Rattle.art_index.specs.Reading.{tenant_in, bytes_in};
+ghost use Rattle.art_index.specs.Reading.{natural_in, tenant_in, negated as negated_by, number_in, bytes_in};
 ghost use Rattle.art_index.specs.InPlace.{IsRead};
 
 use crate::command::digits::decode_digits;
 use arrayvec::ArrayVec;
+use art_bytes::FixedBytes;
 
 /// The bytes of a tenant, which stand before those of its keys.
 const FRONT: usize = 4;
@@ -20,6 +19,9 @@ pub(crate) const FIELD: usize = 2045;
 /// The longest full key: a tenant's bytes and then a field of bytes.
 const FULL_KEY: usize = 2049;
 
+/// The bytes of a tenant and of a number, under which a value stands.
+pub(crate) const NUMBER_KEY: usize = 12;
+
 /// What stands behind a word. Fields are decoded where they stay, and each keeps what it had until the next of its kind
 /// is read. A key stands behind the four bytes of its tenant, the highest first, so that the full key is there without
 /// a copy; so does a value, since the upper one of two bounds is read in its place.
@@ -27,12 +29,15 @@ const FULL_KEY: usize = 2049;
 pub(crate) struct Fields {
     full_key: ArrayVec<u8, FULL_KEY>,
     value: ArrayVec<u8, FULL_KEY>,
+    number: i64,
+    bound: i64,
     ghost front: { 4 ≤ length full_key.items },
     ghost same_front: { (4 ≤ length value.items) × (take 4 value.items ≡ take 4 full_key.items) },
 }
 
 impl Fields {
     ghost use Rattle.art_index.specs.Parsed.{tenant_in_place, key_in_place, value_in_place};
+    ghost use Rattle.art_index.specs.Parsed.{number_in_place, bound_in_place};
 
     /// Room for fields. What stands in it does not matter.
     pub(crate) fn new() -> Fields {
@@ -40,7 +45,12 @@ impl Fields {
         let _ = full_key.try_extend_from_slice(&[0; FRONT]);
         let mut value = ArrayVec::new();
         let _ = value.try_extend_from_slice(&[0; FRONT]);
-        Fields { full_key, value }
+        Fields {
+            full_key,
+            value,
+            number: 0,
+            bound: 0,
+        }
     }
 
     pub(crate) fn tenant(&self) -> u32
@@ -77,6 +87,36 @@ impl Fields {
         ensures { result.now ≡ full_key_of (tenant_in_place self.now) (value_in_place self.now) }
     {
         split_of(self.value.as_slice())
+    }
+
+    pub(crate) fn number(&self) -> i64
+        ensures { result ≡ number_in_place self.now }
+    {
+        self.number
+    }
+
+    /// The upper one of two numbers.
+    pub(crate) fn bound(&self) -> i64
+        ensures { result ≡ bound_in_place self.now }
+    {
+        self.bound
+    }
+
+    /// The bytes of the tenant and of the number, under which a value stands.
+    pub(crate) fn number_key(&self) -> [u8; NUMBER_KEY]
+        ensures value { result ≡ pair_key (tenant_in_place self.now, number_in_place self.now) }
+        ensures tenant { tenant_in_place self.now < 2 ^ 32 }
+        ensures number { FitsSigned w64 (number_in_place self.now) }
+    {
+        key_of_number(self.tenant(), self.number)
+    }
+
+    /// Those of the tenant and of the upper one of two numbers.
+    pub(crate) fn bound_key(&self) -> [u8; NUMBER_KEY]
+        ensures value { result ≡ pair_key (tenant_in_place self.now, bound_in_place self.now) }
+        ensures bound { FitsSigned w64 (bound_in_place self.now) }
+    {
+        key_of_number(self.tenant(), self.bound)
     }
 
     /// Reads the tenant: false where the field is read as none.
@@ -118,9 +158,49 @@ impl Fields {
         ensures read { IsRead result (value_in_place self.new) (bytes_in field.now) }
         ensures tenant { tenant_in_place self.new ≡ tenant_in_place self.old }
         ensures key { key_in_place self.new ≡ key_in_place self.old }
+        ensures number { number_in_place self.new ≡ number_in_place self.old }
     {
         decode_bytes(field, &mut self.value, FRONT)
     }
+
+    /// Reads the number: false where the field is read as none.
+    pub(crate) fn read_number(&mut self, field: &[u8]) -> bool
+        ensures read { IsRead result (number_in_place self.new) (number_in field.now) }
+        ensures tenant { tenant_in_place self.new ≡ tenant_in_place self.old }
+    {
+        let Some(number) = parse_number(field) else {
+            return false;
+        };
+        self.number = number;
+        true
+    }
+
+    /// Reads the upper one of two numbers: false where the field is read as none.
+    pub(crate) fn read_bound(&mut self, field: &[u8]) -> bool
+        ensures read { IsRead result (bound_in_place self.new) (number_in field.now) }
+        ensures tenant { tenant_in_place self.new ≡ tenant_in_place self.old }
+        ensures number { number_in_place self.new ≡ number_in_place self.old }
+    {
+        let Some(bound) = parse_number(field) else {
+            return false;
+        };
+        self.bound = bound;
+        true
+    }
+}
+
+/// Four bytes of the tenant, the highest first, and eight of the number with its top bit flipped. They ascend by tenant
+/// and then by number.
+fn key_of_number(tenant: u32, number: i64) -> [u8; NUMBER_KEY]
+    ensures value { result ≡ pair_key (tenant, number) }
+    ensures tenant { tenant < 2 ^ 32 }
+    ensures number { FitsSigned w64 number }
+{
+    let (front, rest) = (tenant.to_array(), number.to_array());
+    let mut key = [0; NUMBER_KEY];
+    key[..FRONT].copy_from_slice(&front);
+    key[FRONT..].copy_from_slice(&rest);
+    key
 }
 
 /// A law, which does nothing: bytes are the full key of the tenant that stands at their front, and of the key behind.
@@ -133,16 +213,16 @@ fn split_of(full: &[u8]) -> &[u8]
     full
 }
 
-/// The tenant that the field is read as.
+/// The natural number of at most 2^63 that the field is read as.
 #[inline(always)]
-fn parse_tenant(field: &[u8]) -> Option<u32>
-    ensures tenant { result ≡ tenant_in field.now }
+fn parse_natural(field: &[u8]) -> Option<u64>
+    ensures natural { result ≡ natural_in (2 ^ 63 + 1) field.now }
     ensures some { IsSome result → 0 < length field.now }
 {
     if field.is_empty() {
         return None;
     }
-    if field.len() > 10 {
+    if field.len() > 19 {
         return None;
     }
     if field.len() > 1 && field[0] == b'0' {
@@ -155,7 +235,40 @@ fn parse_tenant(field: &[u8]) -> Option<u32>
         }
         number = number * 10 + u64::from(*digit - b'0');
     }
-    u32::try_from(number).ok()
+    if number > 1 << 63 {
+        return None;
+    }
+    Some(number)
+}
+
+/// The tenant that the field is read as.
+#[inline(always)]
+fn parse_tenant(field: &[u8]) -> Option<u32>
+    ensures tenant { result ≡ tenant_in field.now }
+    ensures some { IsSome result → 0 < length field.now }
+{
+    let natural = parse_natural(field)?;
+    u32::try_from(natural).ok()
+}
+
+/// The number that the field is read as.
+fn parse_number(field: &[u8]) -> Option<i64>
+    ensures { result ≡ number_in field.now }
+{
+    let (first, rest) = field.split_first()?;
+    if *first == b'-' {
+        return negated(parse_natural(rest)?);
+    }
+    i64::try_from(parse_natural(field)?).ok()
+}
+
+/// The number below 0 by so much, if that is not 0.
+fn negated(natural: u64) -> Option<i64>
+    requires { natural ≤ 2 ^ 63 }
+    ensures { result ≡ negated_by natural }
+{
+    let less = natural.checked_sub(1)?;
+    Some(-1 - less as i64)
 }
 
 /// Decodes the bytes that the field is read as, in place of what was there behind some at the front, which stay: false

@@ -1,13 +1,13 @@
 //! What stands behind a word, by its shape: a reader in place for each.
 //!
-//! A prefix is read as a key is, two bounds as a key and a value are. A number, a number and a value and two numbers
-//! are to be read as the readers here do, with a signed number in the place of a key; a tenant alone by the first step
-//! of each.
+//! A prefix is read as a key is, two bounds as a key and a value are.
 ghost use Rattle.std.specs.Prelude.{◌≡◌, ◌+◌, ◌≤◌, ◌∷◌, length, IfSome, IfNone, option_copied};
 ghost use Rattle.art_index.specs.Commands.{fields_of};
-ghost use Rattle.art_index.specs.Reading.{key_in, key_and_value_in};
+ghost use Rattle.art_index.specs.Reading.{key_in, key_and_value_in, tenant_number_in, number_and_value_in};
+ghost use Rattle.art_index.specs.Reading.{two_numbers_in};
 ghost use Rattle.art_index.specs.InPlace.{fields_behind, IsRead};
 ghost use Rattle.art_index.specs.Parsed.{tenant_in_place, key_in_place, value_in_place};
+ghost use Rattle.art_index.specs.Parsed.{number_in_place, bound_in_place};
 
 use crate::command::fields::Fields;
 use memchr::memchr;
@@ -56,6 +56,75 @@ pub(crate) fn read_key_and_value(rest: Option<&[u8]>, fields: &mut Fields) -> bo
         return false;
     }
     fields.read_value(value)
+}
+
+/// Reads a tenant and a number.
+pub(crate) fn read_number(rest: Option<&[u8]>, fields: &mut Fields) -> bool
+    ensures { IsRead result (tenant_in_place fields.new, number_in_place fields.new)
+        (tenant_number_in (fields_behind (option_copied rest.entry))) }
+{
+    let Some(text) = rest else {
+        return false;
+    };
+    let (tenant, rest) = split_field(text);
+    let Some(number) = rest else {
+        return false;
+    };
+    if !fields.read_tenant(tenant) {
+        return false;
+    }
+    fields.read_number(number)
+}
+
+/// Reads a tenant, a number and a value.
+pub(crate) fn read_number_and_value(rest: Option<&[u8]>, fields: &mut Fields) -> bool
+    requires { IfSome rest (λ text. length text.now ≤ 4092) }
+    ensures { IsRead result (tenant_in_place fields.new, number_in_place fields.new, value_in_place fields.new)
+        (number_and_value_in (fields_behind (option_copied rest.entry))) }
+{
+    let Some(text) = rest else {
+        return false;
+    };
+    let (tenant, rest) = split_field(text);
+    let Some(text) = rest else {
+        return false;
+    };
+    let (number, rest) = split_field(text);
+    let Some(value) = rest else {
+        return false;
+    };
+    if !fields.read_tenant(tenant) {
+        return false;
+    }
+    if !fields.read_number(number) {
+        return false;
+    }
+    fields.read_value(value)
+}
+
+/// Reads a tenant and two numbers.
+pub(crate) fn read_two_numbers(rest: Option<&[u8]>, fields: &mut Fields) -> bool
+    ensures { IsRead result (tenant_in_place fields.new, number_in_place fields.new, bound_in_place fields.new)
+        (two_numbers_in (fields_behind (option_copied rest.entry))) }
+{
+    let Some(text) = rest else {
+        return false;
+    };
+    let (tenant, rest) = split_field(text);
+    let Some(text) = rest else {
+        return false;
+    };
+    let (low, rest) = split_field(text);
+    let Some(high) = rest else {
+        return false;
+    };
+    if !fields.read_tenant(tenant) {
+        return false;
+    }
+    if !fields.read_number(low) {
+        return false;
+    }
+    fields.read_bound(high)
 }
 
 /// The field before the first space, and what stands behind that space.

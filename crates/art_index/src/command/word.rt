@@ -16,6 +16,10 @@ pub(crate) enum LookUp {
     List,
     /// `span t lo hi`
     Span,
+    /// `nget t n`
+    NGet,
+    /// `nspan t lo hi`
+    NSpan,
 }
 
 /// A word that changes a tenant's records.
@@ -27,6 +31,10 @@ pub(crate) enum Change {
     Over,
     /// `del t k`
     Del,
+    /// `nput t n v`
+    NPut,
+    /// `ndel t n`
+    NDel,
 }
 
 /// A word that asks for something of all records.
@@ -53,6 +61,12 @@ pub(crate) enum Shape {
     Key,
     /// A tenant, a key and a value: `put`, `over`; the two bounds of `span` are read as a key and a value.
     KeyAndValue,
+    /// A tenant and a number: `nget`, `ndel`.
+    Number,
+    /// A tenant, a number and a value: `nput`.
+    NumberAndValue,
+    /// A tenant and two numbers: `nspan`.
+    TwoNumbers,
     /// Nothing: `dump`, `audit`.
     Nothing,
 }
@@ -67,9 +81,13 @@ impl Word {
             Word::LookUp(LookUp::Find) => Shape::Key,
             Word::LookUp(LookUp::List) => Shape::Key,
             Word::LookUp(LookUp::Span) => Shape::KeyAndValue,
+            Word::LookUp(LookUp::NGet) => Shape::Number,
+            Word::LookUp(LookUp::NSpan) => Shape::TwoNumbers,
             Word::Change(Change::Put) => Shape::KeyAndValue,
             Word::Change(Change::Over) => Shape::KeyAndValue,
             Word::Change(Change::Del) => Shape::Key,
+            Word::Change(Change::NPut) => Shape::NumberAndValue,
+            Word::Change(Change::NDel) => Shape::Number,
             Word::Whole(Whole::Dump) => Shape::Nothing,
             Word::Whole(Whole::Audit) => Shape::Nothing,
         }
@@ -100,6 +118,18 @@ pub(crate) fn word_of(field: &[u8]) -> Option<Word>
     }
     if field == b"span".as_slice() {
         return Some(Word::LookUp(LookUp::Span));
+    }
+    if field == b"nput".as_slice() {
+        return Some(Word::Change(Change::NPut));
+    }
+    if field == b"nget".as_slice() {
+        return Some(Word::LookUp(LookUp::NGet));
+    }
+    if field == b"ndel".as_slice() {
+        return Some(Word::Change(Change::NDel));
+    }
+    if field == b"nspan".as_slice() {
+        return Some(Word::LookUp(LookUp::NSpan));
     }
     if field == b"dump".as_slice() {
         return Some(Word::Whole(Whole::Dump));

@@ -3,6 +3,42 @@
 use super::is_answered_by_all;
 
 #[test]
+fn answers_worked_lines(rt: HostRuntime) {
+    let rows: [(&[u8], &[u8]); 9] = [
+        (b"", b""),
+        (b"\n", b"bad\n"),
+        (
+            b"put 1 0a 61\nput 1 0a0b 62\nput 2 0a0b 63\nput 1 0a 64\ndump\n",
+            b"new\nconflict\nnew\nold 61\nput 1 0a 64\nput 2 0a0b 63\nend 2\n",
+        ),
+        (
+            b"put 7 0a0b 6869\nget 7 0a0b\nget 8 0a0b",
+            b"new\nis 6869\nnone\n",
+        ),
+        (
+            b"get  1 0a\nget 1 0\nPUT 1 0a 61\nnget 1 -0\nput 1 0a\nend 2\n",
+            b"bad\nbad\nbad\nbad\nbad\nbad\n",
+        ),
+        (b"put 12 0a 61\nput 1 320a 62\n", b"new\nnew\n"),
+        (
+            b"put 10 aB 61\nput 2 - -\ndump\nget 2 -\n",
+            b"new\nnew\nput 2 - -\nput 10 ab 61\nend 2\nis -\n",
+        ),
+        (
+            b"put 256 00 61\nput 1 00 62\nput 2 AB 4A\ndump\n",
+            b"new\nnew\nnew\nput 1 00 62\nput 2 ab 4a\nput 256 00 61\nend 3\n",
+        ),
+        (
+            b"put 01 0a 61\nget 4294967296 0a\nget +1 0a\nget 1 0a\r\n get 1 0a\nget 1 0a \nget 4294967295 0a\n",
+            b"bad\nbad\nbad\nbad\nbad\nbad\nnone\n",
+        ),
+    ];
+    for (text, wanted) in rows {
+        is_answered_by_all(&rt, rt.alloc(), text, wanted);
+    }
+}
+
+#[test]
 fn answers_lines_over_keys(rt: HostRuntime) {
     let rows: [(&[u8], &[u8]); 13] = [
         (
@@ -74,6 +110,63 @@ fn answers_lines_over_keys(rt: HostRuntime) {
               get 1 aaaaaaaaaaaaaaaaaaaaaaaaaaaaaaaaaaaaaaaaaaaaaaaaaaccaaaaaaaaaaaaaaaaaaaaaaaaaaaa01\n\
               get 1 aaaaaaaaaaaaaaaaaaaaaaaaaaaaaaaaaaaaaaaaccaaaaaaaaaaaaaaaaaaaaaaaaaaaaaaaaaaaaaa01\n",
             b"new\nnew\nnew\nbytes 3 2 0 0 0\nnumbers 0 0 0 0 0\nnone\nnone\n",
+        ),
+    ];
+    for (text, wanted) in rows {
+        is_answered_by_all(&rt, rt.alloc(), text, wanted);
+    }
+}
+
+#[test]
+fn answers_lines_over_numbers(rt: HostRuntime) {
+    let rows: [(&[u8], &[u8]); 10] = [
+        (
+            b"nput 5 -1 61\nnput 5 256 62\nnput 5 -300 63\nnput 6 0 64\nnspan 5 -300 0\n",
+            b"new\nnew\nnew\nnew\n-300 63\n-1 61\nend 2\n",
+        ),
+        (
+            b"nput 9 -9223372036854775808 61\nnput 9 9223372036854775807 62\n\
+              nput 9 9223372036854775808 63\nnspan 9 0 -1\n\
+              nspan 9 -9223372036854775808 9223372036854775807\n",
+            b"new\nnew\nbad\nbounds\n-9223372036854775808 61\n9223372036854775807 62\nend 2\n",
+        ),
+        (
+            b"nget 1 01\nnget 1 +1\nnget 1 -01\nnget 1 -\nnget 1 0 \nnget 1 -9223372036854775809\n\
+              ndel 1\nnspan 1 0\nnspan 1 0 1 2\nnput 1 0\nnput 1 0 61 \n",
+            b"bad\nbad\nbad\nbad\nbad\nbad\nbad\nbad\nbad\nbad\nbad\n",
+        ),
+        (
+            b"put 256 00 61\nput 1 00 62\nnput 1 -5 61\nput 2 AB 4A\ndump\n",
+            b"new\nnew\nnew\nnew\nput 1 00 62\nput 2 ab 4a\nput 256 00 61\nnput 1 -5 61\nend 4\n",
+        ),
+        (
+            b"put 1 00 62\nput 2 ab 4a\nput 256 00 61\nnput 1 -5 61\nend 4\ndump\n",
+            b"new\nnew\nnew\nnew\nbad\nput 1 00 62\nput 2 ab 4a\nput 256 00 61\nnput 1 -5 61\n\
+              end 4\n",
+        ),
+        (
+            b"nput 1 5 61\nnput 1 5 62\nnget 1 5\nndel 1 5\nnget 1 5\ndump\n",
+            b"new\nold 61\nis 62\ngone 62\nnone\nend 0\n",
+        ),
+        (
+            b"put 1 010203 61\nndel 1 0\nnget 1 0\nnspan 1 5 4\nnspan 1 4 4\n",
+            b"new\nnone\nnone\nbounds\nend 0\n",
+        ),
+        (
+            b"nput 1 0 61\nnput 1 -1 62\nnput 2 0 63\naudit\n",
+            b"new\nnew\nnew\nbytes 0 0 0 0 0\nnumbers 3 2 0 0 0\n",
+        ),
+        (
+            b"nput 1 1 61\nnput 1 2 61\nnput 1 3 61\nnput 1 4 61\nnput 1 5 61\naudit\nndel 1 5\n\
+              audit\n",
+            b"new\nnew\nnew\nnew\nnew\nbytes 0 0 0 0 0\nnumbers 5 0 1 0 0\ngone 61\n\
+              bytes 0 0 0 0 0\nnumbers 4 1 0 0 0\n",
+        ),
+        (
+            b"put 1 aa 61\nnput 1 -7 62\nnput 12 3 63\nnput 2 -7 -\nnput 2 7 6161\nnspan 1 -9 9\n\
+              nspan 2 -7 7\nndel 2 -7\ndump\n",
+            b"new\nnew\nnew\nnew\nnew\n-7 62\nend 1\n-7 -\n7 6161\nend 2\ngone -\nput 1 aa 61\n\
+              nput 1 -7 62\nnput 2 7 6161\nnput 12 3 63\nend 4\n",
         ),
     ];
     for (text, wanted) in rows {

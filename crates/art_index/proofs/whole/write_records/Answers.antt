@@ -1,84 +1,46 @@
-use Rattle.std.proofs.Common.{arith, rules, ◌≡◌, ◌++◌, length, take, drop, map, append-nil, ap, sym, ◌∙◌, subst, refl}
-use Rattle.std.specs.Int.{from_be_bytes, w32}
-use Rattle.std.specs.List.{AllByRecursion}
-use Rattle.std.proofs.lemmas.List.{take-set-le}
+use Rattle.std.proofs.Common.{rules, ◌≡◌, ◌+◌, append-nil, ap, ap₂, sym, ◌∙◌}
 use Rattle.std.proofs.lemmas.Result.{on_err_weaker, on_ok_weaker}
 use Rattle.art_index.specs.Words.{line_of}
-use Rattle.art_index.specs.Commands.{put_words}
-use Rattle.art_index.specs.Records.{KeyFits}
-use Rattle.art_index.specs.Stored.{Pair, record_of, IsFull}
-use Rattle.art_index.proofs.Cuts.{taken_none, taken_from, taken_more, taken_through, taken_all, taken_cut, when_err}
-use Rattle.art_index.proofs.Dumping.{dump_all, dump_end, dump_from, gathered_next, line_fits, words_put}
+use Rattle.art_index.specs.Replies.{end_words}
+use Rattle.art_index.proofs.Cuts.{cut_before, cut_same, taken_from, taken_more, taken_through, taken_all, taken_cut, when_err}
+use Rattle.art_index.proofs.Dumping.{dump_all, dump_begun}
 use Rattle.art_index.proofs.whole.write_records.Goals as goal
 
-pub loop-full-init : goal.loop-full-init
-loop-full-init g c =
-    let all = c.into_iter-full-iterator.ensures.into_iter_gives ∙ c.iter-full-items.ensures.rest in
-    record {
-      taken = taken_none _ _ _ (ap (dump_from (length c.args.records.now.pairs)) all ∙ dump_all c.args.records.now.pairs);
-      fine = c.requires.open;
-      full = subst (AllByRecursion IsFull) (sym all) c.requires.held.stand.full;
-      fit = subst (λ ps. AllByRecursion KeyFits (map record_of ps)) (sym all) c.requires.held.fit;
-      held = omega arith;
-    }
-
-pub put_record-held-requires-clause-line : goal.put_record-held-requires-clause-line
-put_record-held-requires-clause-line g c =
-    let p : Pair = (c.in-Some.full.now, c.in-Some.value.now) in
-    let tenant = c.turn_to.ensures ∙ c.parts_of-tenant.ensures.tenant ∙ ap (λ xs. from_be_bytes w32 (take 4 xs)) c.as_slice.ensures.value in
-    let key = c.parts_of-tenant.ensures.key ∙ ap (drop 4) c.as_slice.ensures.value in
-    let line : line_of (put_words c.turn_to.new.self.tenant c.parts_of-tenant.result.1.now c.as_slice-in-loop-full.result.now) ≡ line_of (words_put (record_of p)) =
-    rw (tenant, key, c.as_slice-in-loop-full.ensures.value) refl in
-    let fits = (subst (λ ps. AllByRecursion KeyFits (map record_of ps)) c.in-Some.ensures.steps c.loop-full.invariant.fit).0 in
-    let long = line_fits (record_of p) _ line fits in
-    let left = c.in_ok-at.ensures.fits in
-    omega arith
-
-pub loop-full-preserved : goal.loop-full-preserved
-loop-full-preserved g c =
-    let p : Pair = (c.in-Some.full.now, c.in-Some.value.now) in
-    let count = length c.args.records.now.pairs in
-    let tenant = c.turn_to.ensures ∙ c.parts_of-tenant.ensures.tenant ∙ ap (λ xs. from_be_bytes w32 (take 4 xs)) c.as_slice.ensures.value in
-    let key = c.parts_of-tenant.ensures.key ∙ ap (drop 4) c.as_slice.ensures.value in
-    let line : line_of (put_words c.turn_to.new.self.tenant c.parts_of-tenant.result.1.now c.as_slice-in-loop-full.result.now) ≡ line_of (words_put (record_of p)) =
-    rw (tenant, key, c.as_slice-in-loop-full.ensures.value) refl in
-    let fits = subst (λ ps. AllByRecursion KeyFits (map record_of ps)) c.in-Some.ensures.steps c.loop-full.invariant.fit in
-    let long = line_fits (record_of p) _ line fits.0 in
-    let left = c.in_ok-at.ensures.fits in
-    let kept = take-set-le c.in_ok-at.at c.loop-full.room 8191 c.step.result (omega arith) in
-    let told = c.put_record-held.ensures.told ∙ ap (λ t. t ++ line_of (put_words c.turn_to.new.self.tenant c.parts_of-tenant.result.1.now c.as_slice-in-loop-full.result.now)) kept in
-    let next = gathered_next count p c.next.new.self _ _ _ _ c.in-Some.ensures.steps line told in
-    record {
-      taken = taken_from _ _ _ _ _ next (taken_through _ _ _ _ _ _ _ c.loop-full.invariant.taken c.in_ok-at.ensures.taken);
-      fine = sym c.in_ok-at.ensures.failed;
-      full = (subst (AllByRecursion IsFull) c.in-Some.ensures.steps c.loop-full.invariant.full).1;
-      fit = fits.1;
-      held = omega arith;
-    }
-
-pub returns-in_err-at : goal.returns-in_err-at
-returns-in_err-at g c =
+pub returns-in_err-keys : goal.returns-in_err-keys
+returns-in_err-keys g c =
     record {
       ok = search rules;
-      cut = when_err _ (taken_cut _ _ _ _ _ _ c.loop-full.invariant.taken c.in_err-at.ensures.cut);
+      cut = when_err _ (cut_same _ _ _ _ (dump_all c.args.records.now.pairs c.args.numbers.now.pairs) (cut_before _ _ _ _ c.in_err-keys.ensures.cut));
+      failed = search rules;
+    }
+
+pub returns-in_err-held : goal.returns-in_err-held
+returns-in_err-held g c =
+    let begun = dump_begun c.args.records.now.pairs c.args.numbers.now.pairs _ _ _ c.in_ok-keys.ensures.taken in
+    record {
+      ok = search rules;
+      cut = when_err _ (taken_cut _ _ _ _ _ _ begun c.in_err-held.ensures.cut);
       failed = search rules;
     }
 
 pub returns-in_err-write_piece : goal.returns-in_err-write_piece
 returns-in_err-write_piece g c =
+    let begun = dump_begun c.args.records.now.pairs c.args.numbers.now.pairs _ _ _ c.in_ok-keys.ensures.taken in
+    let held = taken_through _ _ _ _ _ _ _ begun c.in_ok-held.ensures.taken in
     record {
       ok = search rules;
-      cut = when_err _ (taken_cut _ _ _ _ _ _ c.loop-full.invariant.taken c.in_err-write_piece.ensures.cut);
+      cut = when_err _ (taken_cut _ _ _ _ _ _ held c.in_err-write_piece.ensures.cut);
       failed = search rules;
     }
 
 pub returns : goal.returns
 returns g c =
-    let count = length c.args.records.now.pairs in
-    let last = ap (λ d. take c.loop-full.held c.loop-full.room ++ d) (ap (dump_from count) c.in-None.ensures.steps.0 ∙ ap dump_end (sym c.len.ensures) ∙ sym (append-nil (dump_end c.len.result))) in
-    let taken = taken_more _ _ _ _ _ _ (taken_from _ _ _ _ _ last c.loop-full.invariant.taken) c.in_ok-write_piece.ensures.ok in
+    let begun = dump_begun c.args.records.now.pairs c.args.numbers.now.pairs _ _ _ c.in_ok-keys.ensures.taken in
+    let held = taken_through _ _ _ _ _ _ _ begun c.in_ok-held.ensures.taken in
+    let last = ap₂ (λ a b. line_of (end_words (a + b))) (sym c.len.ensures) (sym c.len-2.ensures) ∙ sym (append-nil (line_of (end_words (c.len.result + c.len-2.result)))) in
+    let taken = taken_from _ _ _ _ _ last (taken_more _ _ _ _ _ _ held c.in_ok-write_piece.ensures.ok) in
     record {
-      ok = on_ok_weaker c.write_end.result (λ told. taken_all _ _ _ (taken_more _ _ _ _ _ _ taken told)) c.write_end.ensures.ok;
-      cut = on_err_weaker c.write_end.result (taken_cut _ _ _ _ _ _ taken) c.write_end.ensures.cut;
+      ok = on_ok_weaker c.write_total.result (λ told. taken_all _ _ _ (taken_more _ _ _ _ _ _ taken told)) c.write_total.ensures.ok;
+      cut = on_err_weaker c.write_total.result (taken_cut _ _ _ _ _ _ taken) c.write_total.ensures.cut;
       failed = search rules;
     }

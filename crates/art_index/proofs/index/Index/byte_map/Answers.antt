@@ -5,4 +5,4 @@ use Rattle.art_index.proofs.Placing.{pairs_are}
 use Rattle.art_index.proofs.index.Index.byte_map.Goals as goal
 
 pub returns : goal.returns
-returns g c = pairs_are c.self.inside.records.pairs c.self.invariant.stand.full ∙ ap (λ (r : Records). map full_pair r.keys) c.self.view_is
+returns g c = pairs_are c.self.inside.records.pairs c.self.invariant.0.stand.full ∙ ap (λ (r : Records). map full_pair r.keys) c.self.view_is

@@ -3,7 +3,7 @@ use Rattle.std.proofs.lemmas.Bool.{false≢true}
 use Rattle.std.specs.Prelude.{Some}
 use Rattle.art_index.specs.Reading.{command_of}
 use Rattle.art_index.specs.Parsed.{command_with, looks_up, changes, asks_all}
-use Rattle.art_index.specs.Stored.{records_of}
+use Rattle.art_index.specs.Stored.{all_records_of}
 use Rattle.art_index.proofs.Cuts.{cut_line, when_err}
 use Rattle.art_index.proofs.Replies.{done_told, done_left, done_lawful, told_of, all_told, all_left, all_lawful, same_left, bad_told, bad_left}
 use Rattle.art_index.proofs.Families.{look_leaves, all_leaves}
@@ -65,35 +65,35 @@ pub change-done-requires : goal.change-done-requires
 change-done-requires g c =
     let F = c.read_line.new.fields in let w = c.in-Some-Change.word in
     let meant : Some (changes w F) ≡ command_of c.args.line.now = ap (λ x. Some (command_with x F)) (sym c.in-Some-Change.field-0-is) ∙ c.in-Some-Change.ensures in
-    (search rules, (c.self.invariant, (c.args.line.now, spells c.args.line.now (changes w F) (sym meant))))
+    (search rules, (search rules, (c.self.invariant.0, (c.self.invariant.1, (c.args.line.now, spells c.args.line.now (changes w F) (sym meant))))))
 
 pub returns-in_ok-write_placed-in-Some-Change-clause-told : goal.returns-in_ok-write_placed-in-Some-Change-clause-told
 returns-in_ok-write_placed-in-Some-Change-clause-told g c =
     let F = c.read_line.new.fields in let w = c.in-Some-Change.word in
     let meant : Some (changes w F) ≡ command_of c.args.line.now = ap (λ x. Some (command_with x F)) (sym c.in-Some-Change.field-0-is) ∙ c.in-Some-Change.ensures in
-    c.in_ok-write_placed-in-Some-Change.ensures.ok ∙ ap (λ t. g.W.Sink.taken c.args.sink.now ++ t) (done_told c.change-done.result c.is_memory-memory.result (changes w F) _ _ (records_of c.change-done.new.records.pairs) c.args.line.now c.is_memory-memory.ensures c.self.view_is meant c.change-done.ensures.done)
+    c.in_ok-write_placed-in-Some-Change.ensures.ok ∙ ap (λ t. g.W.Sink.taken c.args.sink.now ++ t) (done_told c.change-done.result c.is_memory-memory.result (changes w F) _ _ (all_records_of c.change-done.new.records.pairs c.change-done.new.numbers.pairs) c.args.line.now c.is_memory-memory.ensures c.self.view_is meant c.change-done.ensures.done)
 
 pub returns-in_ok-write_placed-in-Some-Change-clause-left : goal.returns-in_ok-write_placed-in-Some-Change-clause-left
 returns-in_ok-write_placed-in-Some-Change-clause-left g c =
     let F = c.read_line.new.fields in let w = c.in-Some-Change.word in
     let meant : Some (changes w F) ≡ command_of c.args.line.now = ap (λ x. Some (command_with x F)) (sym c.in-Some-Change.field-0-is) ∙ c.in-Some-Change.ensures in
-    let left = done_left c.change-done.result c.is_memory-memory.result (changes w F) _ _ (records_of c.change-done.new.records.pairs) c.args.line.now c.is_memory-memory.ensures c.self.view_is meant c.change-done.ensures.done in
+    let left = done_left c.change-done.result c.is_memory-memory.result (changes w F) _ _ (all_records_of c.change-done.new.records.pairs c.change-done.new.numbers.pairs) c.args.line.now c.is_memory-memory.ensures c.self.view_is meant c.change-done.ensures.done in
     elim c.match-done-2.branch [ in-Old-2 w ↦ w.self-is ∙ left | in-New-2 w ↦ w.self-is ∙ left | in-Gone-2 w ↦ w.self-is ∙ left ]
 
 pub returns-in_ok-write_placed-in-Some-Change-clause-lawful : goal.returns-in_ok-write_placed-in-Some-Change-clause-lawful
 returns-in_ok-write_placed-in-Some-Change-clause-lawful g c =
     let F = c.read_line.new.fields in let w = c.in-Some-Change.word in
     let meant : Some (changes w F) ≡ command_of c.args.line.now = ap (λ x. Some (command_with x F)) (sym c.in-Some-Change.field-0-is) ∙ c.in-Some-Change.ensures in
-    let may = done_lawful c.change-done.result c.is_memory-memory.result (changes w F) _ _ (records_of c.change-done.new.records.pairs) c.args.line.now c.is_memory-memory.ensures c.self.view_is meant c.change-done.ensures.done in
+    let may = done_lawful c.change-done.result c.is_memory-memory.result (changes w F) _ _ (all_records_of c.change-done.new.records.pairs c.change-done.new.numbers.pairs) c.args.line.now c.is_memory-memory.ensures c.self.view_is meant c.change-done.ensures.done in
     λ m. (changes w F, spells c.args.line.now (changes w F) (sym meant), may m)
 
 pub returns-in_err-write_placed-in-Some-Change-clause-cut : goal.returns-in_err-write_placed-in-Some-Change-clause-cut
 returns-in_err-write_placed-in-Some-Change-clause-cut g c =
     let F = c.read_line.new.fields in let w = c.in-Some-Change.word in
     let meant : Some (changes w F) ≡ command_of c.args.line.now = ap (λ x. Some (command_with x F)) (sym c.in-Some-Change.field-0-is) ∙ c.in-Some-Change.ensures in
-    let told = done_told c.change-done.result c.is_memory-memory.result (changes w F) _ _ (records_of c.change-done.new.records.pairs) c.args.line.now c.is_memory-memory.ensures c.self.view_is meant c.change-done.ensures.done in
-    let left = done_left c.change-done.result c.is_memory-memory.result (changes w F) _ _ (records_of c.change-done.new.records.pairs) c.args.line.now c.is_memory-memory.ensures c.self.view_is meant c.change-done.ensures.done in
-    let may = done_lawful c.change-done.result c.is_memory-memory.result (changes w F) _ _ (records_of c.change-done.new.records.pairs) c.args.line.now c.is_memory-memory.ensures c.self.view_is meant c.change-done.ensures.done in
+    let told = done_told c.change-done.result c.is_memory-memory.result (changes w F) _ _ (all_records_of c.change-done.new.records.pairs c.change-done.new.numbers.pairs) c.args.line.now c.is_memory-memory.ensures c.self.view_is meant c.change-done.ensures.done in
+    let left = done_left c.change-done.result c.is_memory-memory.result (changes w F) _ _ (all_records_of c.change-done.new.records.pairs c.change-done.new.numbers.pairs) c.args.line.now c.is_memory-memory.ensures c.self.view_is meant c.change-done.ensures.done in
+    let may = done_lawful c.change-done.result c.is_memory-memory.result (changes w F) _ _ (all_records_of c.change-done.new.records.pairs c.change-done.new.numbers.pairs) c.args.line.now c.is_memory-memory.ensures c.self.view_is meant c.change-done.ensures.done in
     when_err _ (cut_line c.is_memory-memory.result _ _ _ _ _ _ told c.in_err-write_placed-in-Some-Change.ensures.cut left
     (λ m. (changes w F, spells c.args.line.now (changes w F) (sym meant), may m)))
 

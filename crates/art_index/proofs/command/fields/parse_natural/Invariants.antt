@@ -1,6 +1,6 @@
 use Rattle.std.proofs.Common.{◌≡◌, ℕ, ◌<◌, ◌≤◌, ◌^◌, drop, get_or}
 use Rattle.std.specs.Str.Parse.{digits_value, digits_value_after}
-use Rattle.art_index.proofs.command.fields.parse_tenant.Given as goal
+use Rattle.art_index.proofs.command.fields.parse_natural.Given as goal
 
 -- the digits so far are read
 abbrev pub invariant-loop-digit : goal.invariant-loop-digit

@@ -1,0 +1,89 @@
+//! The records of all tenants under numbers: a map of values under the bytes of a tenant and a number.
+ghost use Rattle.std.specs.Prelude.{◌≡◌, option_map, take, drop};
+ghost use Rattle.std.specs.Int.{from_be_bytes, w32};
+ghost use Rattle.art_index.specs.Commands.{of_tenant, nput, ndel};
+ghost use Rattle.art_index.specs.Keys.{number_of_bytes};
+ghost use Rattle.art_index.specs.Records.{NumberFits, own};
+ghost use Rattle.art_index.specs.Replies.{value_at_number as value_in};
+ghost use Rattle.art_index.specs.Parsed.{tenant_in_place, number_in_place, value_in_place};
+ghost use Rattle.art_index.specs.Stored.{number_records_of, AreNumberPairs};
+ghost use Rattle.art_index.specs.Changed.{IsChangeDone};
+
+use crate::command::fields::{Fields, NUMBER_KEY};
+use crate::placed::Placed;
+use art_map::TreeMap;
+use std::alloc::Global;
+
+/// The value at the tenant's number that was read. Its key is put together in place, without memory.
+pub(crate) fn value_at_number<'a, const PREFIX_LEN: usize>(
+    numbers: &'a TreeMap<[u8; NUMBER_KEY], Vec<u8>, PREFIX_LEN>,
+    fields: &Fields,
+) -> Option<&'a [u8]>
+    requires { AreNumberPairs numbers.now.pairs }
+    ensures { option_map (λ v. v.now) result ≡ value_in (number_in_place fields.now)
+        (own (tenant_in_place fields.now) (number_records_of numbers.now.pairs)).numbers }
+{
+    match numbers.get(&fields.number_key()) {
+        Some(value) => Some(value.as_slice()),
+        None => None,
+    }
+}
+
+/// Puts the value that was read at the tenant's number that was read. All memory is taken before anything is changed.
+/// No number conflicts with another, since their keys have as many bytes.
+pub(crate) fn put_at_number<const PREFIX_LEN: usize>(
+    alloc: Global,
+    numbers: &mut TreeMap<[u8; NUMBER_KEY], Vec<u8>, PREFIX_LEN>,
+    fields: &Fields,
+) -> Placed
+    requires held { AreNumberPairs numbers.old.pairs }
+    requires fits { NumberFits (record {
+      tenant = tenant_in_place fields.now;
+      number = number_in_place fields.now;
+      value = value_in_place fields.now;
+    }) }
+    ensures held { AreNumberPairs numbers.new.pairs }
+    ensures done { IsChangeDone result
+        (of_tenant (tenant_in_place fields.now) (nput (number_in_place fields.now) (value_in_place fields.now)))
+        (number_records_of numbers.old.pairs) (number_records_of numbers.new.pairs) }
+{
+    let Ok(value) = Vec::from_slice(alloc, fields.value()) else {
+        return Placed::Memory;
+    };
+    match numbers.insert(fields.number_key(), value) {
+        Ok(Some(old)) => Placed::Old(old),
+        Ok(None) => Placed::New,
+        Err(_) => Placed::Memory,
+    }
+}
+
+/// Removes the value at the tenant's number that was read. It takes memory only where a node becomes one of the next
+/// smaller kind.
+pub(crate) fn take_number_out<const PREFIX_LEN: usize>(
+    numbers: &mut TreeMap<[u8; NUMBER_KEY], Vec<u8>, PREFIX_LEN>,
+    fields: &Fields,
+) -> Placed
+    requires { AreNumberPairs numbers.old.pairs }
+    ensures held { AreNumberPairs numbers.new.pairs }
+    ensures done { IsChangeDone result (of_tenant (tenant_in_place fields.now) (ndel (number_in_place fields.now)))
+        (number_records_of numbers.old.pairs) (number_records_of numbers.new.pairs) }
+{
+    match numbers.remove(&fields.number_key()) {
+        Ok(Some(value)) => Placed::Gone(value),
+        Ok(None) => Placed::Absent,
+        Err(_) => Placed::Memory,
+    }
+}
+
+/// The tenant and the number whose bytes these are.
+pub(crate) fn numbers_of(key: &[u8; NUMBER_KEY]) -> (u32, i64)
+    ensures tenant { result.0 ≡ from_be_bytes w32 (take 4 key.now) }
+    ensures number { result.1 ≡ number_of_bytes (drop 4 key.now) }
+{
+    let tenant = u32::from_be_bytes([key[0], key[1], key[2], key[3]]);
+    let bytes = [
+        key[4], key[5], key[6], key[7], key[8], key[9], key[10], key[11],
+    ];
+    let flipped = u64::from_be_bytes(bytes) ^ (1 << 63);
+    (tenant, flipped.cast_signed())
+}
