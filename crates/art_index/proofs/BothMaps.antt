@@ -1,10 +1,10 @@
 -- What is asked of records under keys leaves those under numbers, and the other way.
-use Rattle.std.proofs.Common.{◌≡◌, ℕ, ℤ, List, [], ◌∷◌, map, refl, ap, sym, ◌∙◌, Bool, true, false, cond}
-use Rattle.std.specs.Prelude.{Some, None, Option}
+use Rattle.std.proofs.Common.{◌≡◌, ℕ, ℤ, List, map, refl, ap, sym, Bool, true, false, cond}
+use Rattle.std.specs.Prelude.{Some, None}
 use Rattle.art_index.specs.declared.placed.Placed.{Placed}
 use Rattle.art_index.specs.declared.placed.Placed.TheVariants as placed
 use Rattle.art_index.specs.Commands.{put, over, del, nput, ndel, of_tenant}
-use Rattle.art_index.specs.Records.{KeyRecord, NumberRecord, Own, InOrder, KeyComesBefore, NumberComesBefore, own, with_own}
+use Rattle.art_index.specs.Records.{KeyRecord, NumberRecord, InOrder, KeyComesBefore, NumberComesBefore, own, with_own}
 use Rattle.art_index.specs.Replies.{value_at, has_conflict, with_pair, with_value_over, without_pair, with_number, without_number, puts, with_changed}
 use Rattle.art_index.specs.Stored.{Pair, NumberPair, record_of, number_record_of, records_of, number_records_of, all_records_of}
 use Rattle.art_index.specs.Changed.{IsChangeDone}

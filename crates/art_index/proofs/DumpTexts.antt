@@ -2,13 +2,13 @@
 use Rattle.std.proofs.Common.{◌≡◌, ℕ, zero, suc, ℤ, pos, negsuc, ◌/◌, ◌%◌, ◌<◌, ◌≤◌, List, [], ◌∷◌, ◌++◌, length, get_or, map, refl, ap, sym, ◌∙◌, subst, Bool, true, false, cond, arith, append_assoc, append-nil, inl, inr}
 use Rattle.std.specs.Prelude.{◌==◌, nat_lt, nat_le, codes, flat_map, Some, None}
 use Rattle.std.specs.Fmt.{digits, digits_onto, digit_glyph}
-use Rattle.std.specs.List.{AllByRecursion, onto_first, slice_split, join_with_byte}
+use Rattle.std.specs.List.{AllByRecursion, onto_first, slice_split}
 use Rattle.std.proofs.lemmas.Bool.{ne_eqb, eq-eqb, true≢false, cases_lt, lt-leb}
-use Rattle.hex.specs.Hex.{IsBytes, encode_lower, decode_of, is_hex_digit}
+use Rattle.hex.specs.Hex.{IsBytes, encode_lower, is_hex_digit}
 use Rattle.hex.proofs.HexLemmas.{decode_of-ok, decode_of-encode_lower}
 use Rattle.art_index.specs.Lines.{pieces_of, last_of, all_but_last, whole_lines_of, unfinished_line_of, unless_empty, lines_of}
 use Rattle.art_index.specs.Words.{Word, name, natural, signed, bytes, shown, Reads, text_of, line_of}
-use Rattle.art_index.specs.Commands.{put, nput, of_tenant, put_words, nput_words, fields_of, AllRead, Spells}
+use Rattle.art_index.specs.Commands.{put, nput, of_tenant, fields_of, AllRead}
 use Rattle.art_index.specs.Reading.{command_in, command_of}
 use Rattle.art_index.specs.Records.{KeyRecord, NumberRecord, KeyFits, NumberFits}
 use Rattle.art_index.specs.Replies.{end_words}

@@ -1,8 +1,8 @@
 -- The lines of a dump, one pair after another.
-use Rattle.std.proofs.Common.{◌≡◌, ℕ, ◌+◌, ◌≤◌, List, [], ◌∷◌, ◌++◌, length, refl, ap, ap₂, sym, ◌∙◌, subst, append_assoc, append-nil, length-append, map, arith}
-use Rattle.std.specs.Prelude.{flat_map, codes}
+use Rattle.std.proofs.Common.{◌≡◌, ℕ, ◌+◌, ◌≤◌, List, [], ◌∷◌, ◌++◌, length, ap, ap₂, sym, ◌∙◌, subst, append_assoc, append-nil, length-append, map, arith}
+use Rattle.std.specs.Prelude.{flat_map}
 use Rattle.std.proofs.lemmas.Grind.{flat_map-append}
-use Rattle.art_index.specs.Words.{Word, name, natural, text_of, line_of}
+use Rattle.art_index.specs.Words.{Word, text_of, line_of}
 use Rattle.art_index.specs.Commands.{put_words, nput_words}
 use Rattle.art_index.specs.Records.{KeyRecord, NumberRecord, KeyFits, NumberFits}
 use Rattle.art_index.specs.Replies.{end_words, key_lines, number_lines, dump_of}

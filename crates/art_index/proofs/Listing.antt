@@ -4,8 +4,7 @@ use Rattle.std.specs.Prelude.{flat_map, filter, decimal, FitsSigned}
 use Rattle.std.specs.Int.{w64}
 use Rattle.std.specs.List.{AllByRecursion}
 use Rattle.std.proofs.lemmas.Grind.{flat_map-append}
-use Rattle.art_index.specs.Words.{Word, shown, bytes, signed, text_of, line_of}
-use Rattle.std.specs.Fmt.{signed_decimal}
+use Rattle.art_index.specs.Words.{Word, shown, bytes, text_of, line_of}
 use Rattle.art_index.specs.Commands.{put_words, nput_words}
 use Rattle.art_index.specs.Keys.{number_of_bytes}
 use Rattle.art_index.specs.Records.{KeyRecord, NumberRecord, KeyFits, NumberFits}
@@ -13,7 +12,7 @@ use Rattle.art_index.specs.Replies.{end_words, pair_words, number_words, listed,
 use Rattle.art_index.specs.Stored.{Pair, NumberPair, record_of, number_record_of, IsFull}
 use Rattle.art_index.proofs.Filters.{length-map}
 use Rattle.art_index.proofs.OwnLaws.{key_part, number_part}
-use Rattle.art_index.proofs.ReplyLines.{pair_parts, put_parts, number_parts, nput_parts}
+use Rattle.art_index.proofs.ReplyLines.{pair_parts, put_parts, nput_parts}
 
 module _ {X : Type 0} (words : X → List Word) (last : List ℕ) where
   -- a line for each, and what ends them

@@ -1,6 +1,6 @@
 -- The bytes of a tenant and a number: what is read back of them, and that they are in the order of tenants and then of numbers.
-use Rattle.std.proofs.Common.{◌≡◌, ◌≢◌, ℕ, ℤ, ◌^◌, ◌<◌, ◌≤◌, List, [], ◌∷◌, ◌++◌, length, take, drop, refl, ap, ap₂, sym, ◌∙◌, subst, Bool, true, false, not, cond, arith, inl, inr, bytes_eq}
-use Rattle.std.specs.Prelude.{◌==◌, ◌||◌, ◌&&◌, nat_lt, int_lt, bit_xor, IsTrue, FitsSigned}
+use Rattle.std.proofs.Common.{◌≡◌, ℕ, ℤ, ◌^◌, ◌<◌, ◌++◌, length, take, drop, refl, ap, ap₂, sym, ◌∙◌, Bool, true, false, not, cond, arith, inl, inr, bytes_eq}
+use Rattle.std.specs.Prelude.{◌==◌, ◌||◌, ◌&&◌, nat_lt, int_lt, bit_xor, FitsSigned}
 use Rattle.std.specs.Int.{to_be_bytes, from_be_bytes, cast_signed, cast_unsigned, w32, w64}
 use Rattle.std.specs.Int.Bits.{xor_assoc, xor_self, xor_zero_r}
 use Rattle.std.specs.declared.cmp.Ordering.{Ordering}
@@ -8,19 +8,18 @@ use Rattle.std.specs.declared.cmp.Ordering.TheVariants.{Less, Equal, Greater}
 use Rattle.std.specs.declared.ops.Bound.TheVariants.{Included}
 use Rattle.std.specs.Ordering.{nat_cmp, int_cmp, int_eq, is_lt, is_le, is_gt, ordering_then, ordering_reverse}
 use Rattle.std.specs.BTreeMap.Range.{range_contains, IsLeBy}
-use Rattle.std.proofs.lemmas.Bool.{eq-eqb, ne_eqb, eqb-true, lt-ltb, le-ltb, cases_lt, true≢false, and_parts}
+use Rattle.std.proofs.lemmas.Bool.{eq-eqb, ne_eqb, eqb-true, lt-ltb, le-ltb, cases_lt, true≢false}
 use Rattle.std.proofs.lemmas.Bool.Decides.{Decides-int_eq}
 use Rattle.std.proofs.lemmas.Cmp.{int_cmp_total}
 use Rattle.std.proofs.lemmas.Int.{to_z-of_z}
 use Rattle.std.proofs.lemmas.Nat.{from_be_bytes-to_be_bytes_4, from_be_bytes-to_be_bytes_8}
 use Rattle.std.proofs.lemmas.Slice.Eq.{bytes_eq-Decides}
 use Rattle.std.proofs.Math.Seq.{take-append_seam, drop-append_seam}
-use Rattle.art_bytes.specs.Keys.{bytes_cmp, is_below, BeginsWith, Conflict, IsBefore}
+use Rattle.art_bytes.specs.Keys.{bytes_cmp, Conflict, IsBefore}
 use Rattle.art_bytes.specs.Numbers.{big_endian, flipped, top_bit}
 use Rattle.art_bytes.specs.Laws.{pair_key}
 use Rattle.art_bytes.specs.inner.FlipLaws.{flipped-bound}
 use Rattle.art_bytes.specs.inner.KeyLaws.{BeginsWith-same_length}
-use Rattle.art_bytes.specs.inner.NumberLaws.{length-big_endian}
 use Rattle.art_bytes.specs.inner.PairLaws.{pair_keys}
 use Rattle.art_bytes.proofs.Order.{cmp_before, before_cmp}
 use Rattle.art_index.specs.Keys.{number_of_bytes}

@@ -1,8 +1,8 @@
 -- How a look-up, a put and a deletion at a tenant's number are answered, and what they leave, from what the map says of its pairs.
-use Rattle.std.proofs.Common.{◌≡◌, ℕ, ℤ, ◌<◌, ◌≤◌, ◌^◌, List, [], ◌∷◌, ◌++◌, map, take, drop, refl, ap, ap₂, sym, ◌∙◌, subst, Bool, true, false, not, cond, Option, Some, None, bytes_eq, inl, inr}
-use Rattle.std.specs.Prelude.{◌==◌, ◌||◌, ◌&&◌, nat_lt, int_lt, filter, option_map, codes, IsSome, FitsSigned}
+use Rattle.std.proofs.Common.{◌≡◌, ℕ, ℤ, List, [], ◌∷◌, ◌++◌, map, take, drop, refl, ap, ap₂, sym, ◌∙◌, subst, Bool, true, false, not, cond, Option, Some, None, bytes_eq, inl, inr}
+use Rattle.std.specs.Prelude.{◌==◌, ◌||◌, ◌&&◌, nat_lt, int_lt, filter, option_map, codes, IsSome}
 use Rattle.std.specs.Global.{Vec}
-use Rattle.std.specs.Int.{from_be_bytes, w32, w64}
+use Rattle.std.specs.Int.{from_be_bytes, w32}
 use Rattle.std.specs.List.{AllByRecursion, find}
 use Rattle.std.specs.Map.{lookup}
 use Rattle.std.specs.Ordering.{int_eq}
@@ -21,7 +21,7 @@ use Rattle.art_operations.proofs.LeafPairs.{shrinks-map, shrinks-unmap}
 use Rattle.art_index.specs.declared.placed.Placed.TheVariants as placed
 use Rattle.art_index.specs.Commands.{of_tenant, nput, ndel}
 use Rattle.art_index.specs.Keys.{number_key_of, number_of_bytes, number_pair}
-use Rattle.art_index.specs.Records.{NumberRecord, NumberFits, Records, own, with_own, InOrder, NumberComesBefore}
+use Rattle.art_index.specs.Records.{NumberRecord, NumberFits, own, InOrder, NumberComesBefore}
 use Rattle.art_index.specs.Replies.{value_at_number, with_number, without_number, found_or, put_reply}
 use Rattle.art_index.specs.Stored.{NumberPair, number_record_of, number_records_of, IsNumberPair, AreNumberPairs}
 use Rattle.art_index.specs.Changed.{IsChangeDone, placed_words}
@@ -30,8 +30,8 @@ use Rattle.art_index.proofs.Dropping.{All-filter, All-left_out, All-put, IsOwnTe
 use Rattle.art_index.proofs.Filters.{filter-none, All-map, All-append}
 use Rattle.art_index.proofs.OwnLaws.{number_part, number_made, number_ascends, records_from_lists}
 use Rattle.art_index.proofs.FullTests.{eq_turned}
-use Rattle.art_index.proofs.OwnParts.{cut, cut_put}
-use Rattle.art_index.proofs.NumberKeys.{HaveBytes, tenant_back, number_back, same_numbers, stands_before, before_tested, tested_before, one_is_before, lt-stands_before}
+use Rattle.art_index.proofs.OwnParts.{cut_put}
+use Rattle.art_index.proofs.NumberKeys.{HaveBytes, tenant_back, number_back, same_numbers, stands_before, before_tested, tested_before, one_is_before}
 
 -- the bytes of a pair's key
 abbrev pub number_bytes : NumberPair → List ℕ

@@ -6,11 +6,11 @@ use Rattle.art_bytes.specs.Numbers.{big_endian, flipped}
 use Rattle.std.specs.Int.{w64}
 use Rattle.art_arena.specs.tree.Tenants.{begins_with, with_front}
 use Rattle.art_index.specs.Keys.{full_key, number_of_bytes}
-use Rattle.art_index.specs.Records.{Own, NumberRecord, own}
-use Rattle.art_index.specs.Stored.{Pair, NumberPair, number_record_of, all_records_of}
+use Rattle.art_index.specs.Records.{Own, NumberRecord}
+use Rattle.art_index.specs.Stored.{NumberPair, number_record_of}
 use Rattle.art_index.specs.Laws.{OwnIsBehindFront}
 use Rattle.art_index.proofs.FullKeys.{begins-full_key, behind_front, keeps_both}
-use Rattle.art_index.proofs.NumberPlaces.{StandsUnder, stand_all, number_bytes}
+use Rattle.art_index.proofs.NumberPlaces.{StandsUnder, stand_all}
 use Rattle.art_index.proofs.OwnLaws.{number_part}
 
 abbrev cut_off : NumberPair → ℤ × List ℕ

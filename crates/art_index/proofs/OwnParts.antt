@@ -1,7 +1,7 @@
 -- A list by tenants, cut within one tenant's part.
 use Rattle.std.proofs.Common.{◌≡◌, ℕ, ◌≤◌, List, [], ◌∷◌, ◌++◌, refl, ap, sym, ◌∙◌, Bool, true, false, cond, arith, append-nil, append_assoc}
 use Rattle.std.specs.Prelude.{◌==◌, ◌||◌, ◌&&◌, nat_lt, map, filter}
-use Rattle.std.proofs.lemmas.Bool.{ne_eqb, eqb-true, ltb-true, lt-ltb, le-ltb, true≢false, or_left}
+use Rattle.std.proofs.lemmas.Bool.{ne_eqb, eqb-true, ltb-true, le-ltb, true≢false, or_left}
 use Rattle.std.proofs.lemmas.List.{map-append}
 use Rattle.art_index.proofs.Filters.{filter-apart, filter-within}
 use Rattle.art_index.proofs.Dropping.{InOrder-filter}

@@ -1,25 +1,25 @@
 -- The lines of a dump, carried out from no records: what they are answered, and what they leave.
-use Rattle.std.proofs.Common.{◌≡◌, ℕ, zero, suc, ℤ, ◌+◌, ◌≤◌, List, [], ◌∷◌, ◌++◌, length, map, refl, ap, ap₂, sym, ◌∙◌, subst, Bool, true, false, cond, arith, append-nil, append_assoc, inl, inr, Option, Some, None}
+use Rattle.std.proofs.Common.{◌≡◌, ℕ, zero, suc, ℤ, ◌+◌, List, [], ◌∷◌, ◌++◌, length, map, refl, ap, ap₂, sym, ◌∙◌, subst, Bool, true, false, cond, arith, append-nil, append_assoc, inl, inr, Option, Some, None}
 use Rattle.std.specs.Prelude.{◌==◌, ◌||◌, ◌&&◌, nat_lt, int_lt, filter, flat_map, replicate, codes, IsTrue, option_map}
-use Rattle.std.specs.List.{AllByRecursion, find}
-use Rattle.std.specs.Ordering.{int_eq, int_cmp, nat_cmp, is_lt, is_eq}
-use Rattle.std.specs.declared.cmp.Ordering.TheVariants.{Less, Equal, Greater}
-use Rattle.std.proofs.lemmas.Bool.{eq-eqb, ne_eqb, eqb-true, lt-ltb, le-ltb, true≢false}
+use Rattle.std.specs.List.{AllByRecursion}
+use Rattle.std.specs.Ordering.{int_eq}
+use Rattle.std.specs.declared.cmp.Ordering.TheVariants.{Less}
+use Rattle.std.proofs.lemmas.Bool.{eq-eqb, ne_eqb, eqb-true, lt-ltb, le-ltb}
 use Rattle.std.proofs.lemmas.Grind.{flat_map-append}
 use Rattle.std.proofs.lemmas.List.{map-append}
-use Rattle.art_bytes.specs.Keys.{is_below, conflicts}
+use Rattle.art_bytes.specs.Keys.{conflicts}
 use Rattle.art_index.specs.Lines.{lines_of}
 use Rattle.art_index.specs.Words.{Word, name, text_of, line_of}
 use Rattle.art_index.specs.Commands.{put, nput, Command, of_tenant}
 use Rattle.art_index.specs.Reading.{command_of}
 use Rattle.art_index.specs.Records.{Own, KeyRecord, NumberRecord, Records, no_records, own, with_own, InOrder, KeyComesBefore, NumberComesBefore, KeyFits, NumberFits, AreRecords}
-use Rattle.art_index.specs.Replies.{value_at, has_conflict, value_at_number, with_pair, with_number, put_reply, puts, command_reply, command_after, with_changed, reply_to, records_after, end_words, key_lines, number_lines, dump_of}
+use Rattle.art_index.specs.Replies.{value_at, has_conflict, value_at_number, with_pair, put_reply, puts, command_reply, command_after, with_changed, reply_to, records_after, end_words, key_lines, number_lines, dump_of}
 use Rattle.art_index.specs.Outcome.{Outcome, answers_from, records_from, outcome_of}
 use Rattle.art_index.specs.Laws.{dump_text, DumpsTellRecords, DumpsAreReadBack}
 use Rattle.art_index.proofs.Dropping.{IsOwnTest, own_find}
 use Rattle.art_index.proofs.Dumping.{words_put, words_nput}
 use Rattle.art_index.proofs.DumpTexts.{put_spelled, nput_spelled, end_spelled, put_lines, nput_lines, end_line, OneLine, lines_are}
-use Rattle.art_index.proofs.Filters.{filter-all, filter-none, All-map, All-append, All-left, All-right}
+use Rattle.art_index.proofs.Filters.{filter-all, filter-none, All-map, All-append}
 use Rattle.art_index.proofs.OwnLaws.{key_part, key_made, key_ascends, number_part, number_made, number_ascends, in_place, records_from_lists}
 use Rattle.art_index.proofs.NumberKeys.{int_lt_turned}
 use Rattle.art_index.proofs.OwnParts.{cut_put}

@@ -1,6 +1,6 @@
 -- What is read in place is what stands behind a word, by its shape.
 use Rattle.std.proofs.Common.{◌≡◌, ℕ, List, [], ◌∷◌, refl, ap, sym, subst, ◌∙◌, true, false, Bool, Some, None, Option, inl, inr}
-use Rattle.std.specs.Prelude.{ℤ, option_copied, option_map}
+use Rattle.std.specs.Prelude.{option_copied, option_map}
 use Rattle.std.specs.Borrow.{Bor}
 use Rattle.art_index.specs.declared.command.fields.Fields.{Fields}
 use Rattle.art_index.specs.declared.command.word.Word.{Word}
@@ -11,7 +11,7 @@ use Rattle.art_index.specs.declared.command.word.Whole.TheVariants as whole
 use Rattle.art_index.specs.declared.command.word.Shape.{Shape}
 use Rattle.art_index.specs.declared.command.word.Shape.TheVariants.{Key, KeyAndValue, Number, NumberAndValue, TwoNumbers, Nothing}
 use Rattle.art_index.specs.Commands.{put, over, del, get, find, list, span, nput, nget, ndel, nspan, Command, of_tenant, dump, audit, fields_of}
-use Rattle.art_index.specs.Reading.{tenant_in, number_in, bytes_in, one_in, two_in, key_in, key_and_value_in, tenant_number_in, number_and_value_in, two_numbers_in, nothing_in, ◌>>=◌}
+use Rattle.art_index.specs.Reading.{tenant_in, one_in, two_in, key_in, key_and_value_in, tenant_number_in, number_and_value_in, two_numbers_in, nothing_in, ◌>>=◌}
 use Rattle.art_index.specs.InPlace.{fields_behind, IsRead}
 use Rattle.art_index.specs.Parsed.{tenant_in_place, key_in_place, value_in_place, number_in_place, bound_in_place, shape_of, command_with}
 use Rattle.art_index.proofs.LastField.{ReadsOneField, one_or_more}

@@ -1,5 +1,5 @@
 -- What spells a command is read as that command, and the other way.
-use Rattle.std.proofs.Common.{◌≡◌, ℕ, zero, suc, ℤ, pos, negsuc, ◌+◌, ◌^◌, ◌<◌, ◌≤◌, List, [], ◌∷◌, length, drop, get_or, refl, ap, sym, ◌∙◌, subst, Bool, true, false, cond, arith, Some, None, Option, Ok, Err}
+use Rattle.std.proofs.Common.{◌≡◌, ℕ, zero, suc, ℤ, pos, negsuc, ◌+◌, ◌^◌, ◌<◌, List, [], ◌∷◌, length, drop, get_or, refl, ap, sym, ◌∙◌, subst, Bool, true, false, cond, arith, Some, None, Option, Ok, Err}
 use Rattle.std.specs.Prelude.{◌==◌, ◌↔◌, decimal, codes, nat_le, Result, option_map, option_and_then}
 use Rattle.hex.specs.declared.error.FromHexError.{FromHexError}
 use Rattle.std.specs.Str.{bytes_eq}

@@ -1,4 +1,4 @@
-use Rattle.std.proofs.Common.{[], ◌∷◌, ap, ap₂, ◌∙◌}
+use Rattle.std.proofs.Common.{[], ◌∷◌, ap₂, ◌∙◌}
 use Rattle.std.specs.Prelude.{codes}
 use Rattle.art_index.specs.Replies.{count_words}
 use Rattle.art_index.proofs.Auditing.{counts_same, number_counts_same}

@@ -1,4 +1,4 @@
-use Rattle.std.proofs.Common.{arith, rules, ◌≡◌, ◌++◌, length, length-set, take, drop, map, append-nil, ap, sym, ◌∙◌, subst, refl}
+use Rattle.std.proofs.Common.{arith, rules, ◌≡◌, ◌++◌, length-set, take, drop, map, append-nil, ap, sym, ◌∙◌, subst, refl}
 use Rattle.std.specs.Int.{from_be_bytes, w32}
 use Rattle.std.specs.List.{AllByRecursion}
 use Rattle.std.proofs.lemmas.List.{take-set-le}

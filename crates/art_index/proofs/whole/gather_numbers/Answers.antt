@@ -1,4 +1,4 @@
-use Rattle.std.proofs.Common.{arith, rules, ◌≡◌, ◌++◌, length, take, map, append-nil, ap, sym, ◌∙◌, subst, refl}
+use Rattle.std.proofs.Common.{arith, rules, ◌≡◌, ◌++◌, take, map, append-nil, ap, sym, ◌∙◌, subst, refl}
 use Rattle.std.specs.Int.{cast_signed, cast_unsigned, w64}
 use Rattle.std.specs.List.{AllByRecursion}
 use Rattle.std.proofs.lemmas.Int.{to_z-of_z}

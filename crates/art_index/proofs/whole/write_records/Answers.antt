@@ -1,4 +1,4 @@
-use Rattle.std.proofs.Common.{rules, ◌≡◌, ◌+◌, append-nil, ap, ap₂, sym, ◌∙◌}
+use Rattle.std.proofs.Common.{rules, ◌+◌, append-nil, ap₂, sym, ◌∙◌}
 use Rattle.std.proofs.lemmas.Result.{on_err_weaker, on_ok_weaker}
 use Rattle.art_index.specs.Words.{line_of}
 use Rattle.art_index.specs.Replies.{end_words}

@@ -1,4 +1,4 @@
-use Rattle.std.proofs.Common.{ℕ, ◌≡◌, ◌+◌, ◌^◌, ◌∷◌, Some, ap, sym, ◌∙◌, arith}
+use Rattle.std.proofs.Common.{◌+◌, ◌^◌, ◌∷◌, Some, ap, sym, ◌∙◌, arith}
 use Rattle.std.proofs.lemmas.Bool.{ne_eqb}
 use Rattle.art_index.proofs.Parsing.{number_empty, number_below, number_above, number_none, number_result, natural_is}
 use Rattle.art_index.proofs.command.fields.parse_number.Goals as goal

@@ -1,4 +1,4 @@
-use Rattle.std.proofs.Common.{sym, ◌∙◌}
+use Rattle.std.proofs.Common.{◌∙◌}
 use Rattle.art_index.proofs.Parsing.{tenant_none, tenant_result}
 use Rattle.art_index.proofs.command.fields.parse_tenant.Goals as goal
 
