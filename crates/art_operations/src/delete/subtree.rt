@@ -1,6 +1,7 @@
 //! The part of a tree whose keys begin with a prefix is deleted in one cut: it is found, room is made for what the cut
 //! needs, and then it goes.
-ghost use Rattle.std.specs.Prelude.{◌≡◌, ◌≢◌, ◌+◌, ◌-◌, ◌*◌, ◌≤◌, ℕ, List, length, IfOk, IfSome, IsOk, MatchOption, OnErr, OnOk};
+ghost use Rattle.std.specs.Prelude.{◌≡◌, ◌≢◌, ◌+◌, ◌-◌, ◌*◌, ◌≤◌, ℕ, List, length};
+ghost use Rattle.std.specs.Prelude.{IfOk, IfSome, IsOk, MatchOption, OnErr, OnOk};
 ghost use Rattle.art_nodes.specs.Name.{Name};
 ghost use Rattle.art_nodes.specs.InnerNode as node;
 ghost use Rattle.art_nodes.specs.Kind.{CanShrink};
