@@ -65,7 +65,7 @@ impl<K, V, const PREFIX_LEN: usize> NodeArena<K, V, PREFIX_LEN> {
     ghost use Rattle.art_arena.specs.arena.Arena.{HasRoom, SameNodes, leaves_held};
     ghost use Rattle.art_arena.specs.arena.Shapes.{Shape, leaves};
     ghost use Rattle.art_arena.specs.arena.Stores.{StoresOnly};
-    ghost use Rattle.art_arena.specs.arena.Arena.{KeepsRoom, UsesRoom};
+    ghost use Rattle.art_arena.specs.arena.Arena.{HasRoomOf, KeepsRoom, KeepsRoomOf, UsesRoom};
     ghost use Rattle.art_arena.specs.arena.ArenaClones.{IsArenaClone};
 
     /// An arena that holds no node. It takes no memory.
@@ -175,6 +175,24 @@ impl<K, V, const PREFIX_LEN: usize> NodeArena<K, V, PREFIX_LEN> {
         self.nodes256.reserve(additional)
     }
 
+    /// Makes room for so many more nodes of one kind: as many allocations of that kind then need no memory. It is
+    /// refused only where there is no room for so many, and no memory. Room that was there stays, and no name changes,
+    /// either way.
+    pub fn reserve_kind(&mut self, kind: NodeType, additional: usize) -> Result<(), AllocError>
+        ensures room { OnOk result (HasRoomOf self.new kind additional) }
+        ensures succeeds { HasRoomOf self.old kind additional → IsOk result }
+        ensures kept_room { KeepsRoom self.old self.new }
+        ensures kept { SameNodes self.old self.new }
+    {
+        match kind {
+            NodeType::Node4 => self.nodes4.reserve(additional),
+            NodeType::Node16 => self.nodes16.reserve(additional),
+            NodeType::Node48 => self.nodes48.reserve(additional),
+            NodeType::Node256 => self.nodes256.reserve(additional),
+            NodeType::Leaf => self.leaves.reserve(additional),
+        }
+    }
+
     /// Stores a node under a name that it answers, or hands it back where there is no memory.
     pub fn allocate_node_ptr<N: Stored<K, V, Self>>(
         &mut self,
@@ -185,6 +203,7 @@ impl<K, V, const PREFIX_LEN: usize> NodeArena<K, V, PREFIX_LEN> {
         ensures err { OnErr result (SameNodes self.old self.new) }
         ensures handed_back { IfErr result (λ refused. refused.node ≡ node) }
         ensures succeeds { HasRoom self.old 1 → IsOk result }
+        ensures succeeds_of { HasRoomOf self.old N.Kind.TYPE 1 → IsOk result }
         ensures room { UsesRoom 1 self.old self.new }
     {
         match N::insert(self, node) {
@@ -200,6 +219,7 @@ impl<K, V, const PREFIX_LEN: usize> NodeArena<K, V, PREFIX_LEN> {
         ensures updates { UpdatesAt (held_at self.old) (held_at self.new) (record { kind = N.Kind.TYPE; slot = ptr })
             None }
         ensures room { KeepsRoom self.old self.new }
+        ensures room_of { KeepsRoomOf self.old self.new }
     {
         N::remove(self, ptr.slot())
     }

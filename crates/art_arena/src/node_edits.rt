@@ -1,10 +1,10 @@
 //! Edits of the inner node under a name, whatever its kind.
 ghost use Rattle.std.specs.Prelude.{◌≡◌, ◌≢◌, ◌+◌, ◌<◌, ◌^◌, length, Some, IsSome, IsOk, IfOk, OnErr, refl};
 ghost use Rattle.art_nodes.specs.InnerNode as node;
-ghost use Rattle.art_nodes.specs.Kind.{row_of, CanShrink};
+ghost use Rattle.art_nodes.specs.Kind.{row_of, shrunk_kind, CanShrink};
 ghost use Rattle.art_arena.specs.arena.Cells.{UpdatesAt};
 ghost use Rattle.art_arena.specs.arena.Arena.{held_at, as_inner, inner_held, Allocates, SameNodes, HasRoom, KeepsRoom};
-ghost use Rattle.art_arena.specs.arena.Arena.{UsesRoom};
+ghost use Rattle.art_arena.specs.arena.Arena.{HasRoomOf, KeepsRoomOf, UsesRoom};
 ghost use Rattle.art_arena.specs.arena.NodeEdits.{edited, MayEdit};
 
 use crate::arena::NodeArena;
@@ -116,6 +116,7 @@ where
         → UpdatesAt (held_at arena.old) (held_at arena.new) (record { kind = N.Kind.TYPE; slot = ptr })
         (as_inner (edited edit.now n)) }
     ensures room { KeepsRoom arena.old arena.new }
+    ensures room_of { KeepsRoomOf arena.old arena.new }
 {
     if let NodeEdit::Free = *edit {
         arena.deallocate_node_ptr::<N>(ptr);
@@ -142,6 +143,7 @@ impl<K, V, const PREFIX_LEN: usize> NodeArena<K, V, PREFIX_LEN> {
         ensures updates { (n : node.InnerNode) → held_at self.old name ≡ Some (inner_held n)
             → UpdatesAt (held_at self.old) (held_at self.new) name (as_inner (edited edit.now n)) }
         ensures room { KeepsRoom self.old self.new }
+        ensures room_of { KeepsRoomOf self.old self.new }
     {
         self.prefix_fits(name);
         match name.to_node_ptr() {
@@ -203,6 +205,7 @@ impl<K, V, const PREFIX_LEN: usize> NodeArena<K, V, PREFIX_LEN> {
             → Allocates self.old self.new smaller (inner_held n)) }
         ensures err { OnErr result (SameNodes self.old self.new) }
         ensures succeeds { HasRoom self.old 1 → IsOk result }
+        ensures succeeds_of { HasRoomOf self.old (shrunk_kind name.kind) 1 → IsOk result }
         ensures room { UsesRoom 1 self.old self.new }
     {
         match name.to_node_ptr() {

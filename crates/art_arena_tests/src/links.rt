@@ -6,7 +6,7 @@ ghost use Rattle.art_arena.specs.arena.Shapes.{LeafAt};
 ghost use Rattle.art_arena.specs.arena.Linked.{IsList, IsBeside};
 
 use art_arena::links::{
-    insert_after, insert_before, insert_between, remove_self, replace, replace_run,
+    insert_after, insert_before, insert_between, remove_segment, remove_self, replace, replace_run,
 };
 use art_arena::{LeafPtr, NodeArena};
 use art_nodes::LeafNode;
@@ -61,7 +61,7 @@ fn all_linked<K: Drop, V: Drop>(
     entries: [(K, V); 3],
 ) -> Option<Leaves>
     ensures { IfSome result (λ leaves. (x : LeafAt K V) × (y : LeafAt K V) × (z : LeafAt K V)
-        × IsList (links_at arena.new) (x ∷ y ∷ z ∷ []) × (y.slot ≡ leaves.second)) }
+        × IsList (links_at arena.new) (x ∷ y ∷ z ∷ []) × (x.slot ≡ leaves.first) × (y.slot ≡ leaves.second)) }
 {
     let leaves = three_leaves(arena, entries)?;
     insert_after(arena, leaves.third, leaves.second);
@@ -93,6 +93,7 @@ enum Edit {
     Replace,
     ReplaceRun,
     Remove,
+    RemoveSegment,
 }
 
 // Whether an edit by the third leaf, or of the middle one of three, links them as it says.
@@ -105,6 +106,11 @@ fn edits<K: Drop, V: Drop>(
         let all = all_linked(arena, entries)?;
         remove_self(arena, all.second);
         return Some(are_linked(arena, &[all.first, all.third]));
+    }
+    if let Edit::RemoveSegment = edit {
+        let all = all_linked(arena, entries)?;
+        remove_segment(arena, all.first, all.second);
+        return Some(are_linked(arena, &[all.third]));
     }
     let Leaves {
         first,
@@ -145,6 +151,7 @@ fn edits_of_the_list(rt: HostRuntime) {
         Edit::Replace,
         Edit::ReplaceRun,
         Edit::Remove,
+        Edit::RemoveSegment,
     ] {
         let done = edits(&mut arena, edit, [(1, 10), (2, 20), (3, 30)]);
         assert!(rt; done == Some(true), "{edit:?}");

@@ -5,7 +5,7 @@ use crate::links::lone_leaf;
 use art_arena::{LeafPtr, NodeArena, Stored};
 use art_nodes::{
     InnerNode4, InnerNode16, InnerNode48, InnerNode256, InnerNodeCommon, InnerNodeInit, LeafNode,
-    NodePtr, OpaqueNodePtr,
+    NodePtr, NodeType, OpaqueNodePtr,
 };
 use std::alloc::AllocError;
 use std::test::Fail;
@@ -131,6 +131,51 @@ fn fits_all(rt: &HostRuntime, arena: &mut Arena) -> Result<(), Fail> {
 fn what_was_reserved_for_takes_no_memory(rt: HostRuntime) -> Result<(), Fail> {
     let mut arena: Arena = NodeArena::new(rt.alloc());
     fits_all(&rt, &mut arena)
+}
+
+// Makes room for two nodes of one kind, in a window; where there was no memory, once more outside it. Then stores
+// them.
+fn fits_two(rt: &HostRuntime, arena: &mut Arena) -> Result<bool, Fail> {
+    eprintln!(rt; "refuse")?;
+    let answer = arena.reserve_kind(NodeType::Node16, 2);
+    came(rt, answer.is_ok())?;
+    if answer.is_err() {
+        arena.reserve_kind(NodeType::Node16, 2)?;
+    }
+    let one = fits::<InnerNode16<u8, u8, 4>>(arena);
+    let other = fits::<InnerNode16<u8, u8, 4>>(arena);
+    Ok(one && other)
+}
+
+#[test]
+fn makes_room_of_one_kind(rt: HostRuntime) -> Result<(), Fail> {
+    let mut arena: Arena = NodeArena::new(rt.alloc());
+    assert!(rt; fits_two(&rt, &mut arena)?);
+    Ok(())
+}
+
+// Makes room for a node of each kind, kind by kind, and then stores one of each in a window.
+fn fits_each(rt: &HostRuntime, arena: &mut Arena) -> Result<(), Fail> {
+    for kind in [
+        NodeType::Node4,
+        NodeType::Node16,
+        NodeType::Node48,
+        NodeType::Node256,
+    ] {
+        arena.reserve_kind(kind, 1)?;
+    }
+    eprintln!(rt; "refuse")?;
+    let four = fits::<InnerNode4<u8, u8, 4>>(arena);
+    let sixteen = fits::<InnerNode16<u8, u8, 4>>(arena);
+    let forty_eight = fits::<InnerNode48<u8, u8, 4>>(arena);
+    let largest = fits::<InnerNode256<u8, u8, 4>>(arena);
+    came(rt, four && sixteen && forty_eight && largest)
+}
+
+#[test]
+fn what_was_reserved_kind_by_kind_takes_no_memory(rt: HostRuntime) -> Result<(), Fail> {
+    let mut arena: Arena = NodeArena::new(rt.alloc());
+    fits_each(&rt, &mut arena)
 }
 
 // Clones an arena, in a window; where there was no memory, once more outside it.

@@ -1,25 +1,19 @@
--- A leaf's cell set apart from those of its tree, and what becomes of the node above it.
-use Rattle.std.proofs.Common.{◌≡◌, ◌≢◌, ℕ, ◌+◌, ◌≤◌, cond, List, [], ◌∷◌, ◌++◌, Option, Some, None, inl, inr, refl, sym, ap, subst, ◌∙◌, arith, append_assoc}
+-- A part's cells set apart from those of its tree, and what becomes of the node above it.
+use Rattle.std.proofs.Common.{◌≡◌, ◌≢◌, ℕ, ◌+◌, ◌≤◌, cond, List, ◌∷◌, ◌++◌, Option, Some, None, inl, inr, refl, sym, ap, subst, ◌∙◌, arith, append_assoc}
 use Rattle.art_nodes.specs.Name.{Name}
 use Rattle.art_nodes.specs.InnerNode.{InnerNode, without_child, with_children}
 use Rattle.art_arena.specs.arena.Arena.{Arena, inner_held, held_at, cell_of, node_at}
-use Rattle.art_arena.specs.arena.Cells.{Cell, branches, leaf_name, same_name, Holds, UpdatesAt}
+use Rattle.art_arena.specs.arena.Cells.{Cell, branches, same_name, Holds, UpdatesAt}
 use Rattle.art_arena.specs.arena.Context.{Frame, plug, path_to, frame_cell, cells_before, cells_after, AreBelow}
 use Rattle.art_arena.specs.tree.Kinds.{IsKindOf}
-use Rattle.art_arena.specs.arena.Shapes.{Branches, leaf_at, inner_at, no_branch, branch, LeafAt, children_at, join, width, cells, cells_in, AreUnder}
+use Rattle.art_arena.specs.arena.Shapes.{Shape, Branches, inner_at, no_branch, branch, name_of, children_at, join, width, cells, cells_in, AreUnder}
 use Rattle.art_arena.proofs.tree.Order.{all_right}
-use Rattle.art_arena.proofs.shapes.CellLists.{same_name_tells, same_name-self, Holds-add, Holds-write, Holds-remove, Holds-turn, Holds-swap}
-use Rattle.art_arena.proofs.shapes.Contexts.{children_at-join, leaves_in-join, cells_in-join, width-join, cells-plug}
+use Rattle.art_arena.proofs.shapes.CellLists.{same_name_tells, same_name-self, Holds-add, Holds-write, Holds-remove, Holds-turn}
+use Rattle.art_arena.proofs.shapes.Contexts.{children_at-join, leaves_in-join, cells_in-join, width-join}
 use Rattle.art_arena.proofs.shapes.Openings.{without_child-frame}
-use Rattle.art_arena.proofs.shapes.Repoint.{frame_node}
-use Rattle.art_operations.specs.inner.Detached.{leaf_cell, IsHeldAt, StandsFor}
+use Rattle.art_arena.proofs.shapes.Repoint.{frame_node, unplugged}
+use Rattle.art_operations.specs.inner.Detached.{IsHeldAt, StandsFor}
 use Rattle.art_operations.specs.inner.Removals.{Moves}
-
-module _ {C : Type 0} where
-  -- a cell may stand behind the others, and before those that stood in front
-  pub Holds-behind : (at : Name → Option C) (ws xs : List (Name × C)) (c : Name × C) (ys : List (Name × C)) → Holds at (ws ++ (xs ++ c ∷ ys)) → Holds at ((xs ++ ys) ++ c ∷ ws)
-  Holds-behind at ws xs c ys holds = subst (Holds at) (sym (append_assoc xs ys (c ∷ ws)))
-      (Holds-turn at xs (c ∷ []) ys ws (subst (Holds at) (append_assoc xs (c ∷ ys) ws) (Holds-swap at ws (xs ++ c ∷ ys) holds)))
 
 module _ {K V : Type 0} where
   -- a node that moves to another name is a cell that does
@@ -57,16 +51,15 @@ module _ {K V : Type 0} where
           let free : mid other ≡ None = elim (same_name_tells other place) [ inl same ↦ absurd (apart same.1) | inr no_more ↦ rw no_more.0 nothing ] in
           Holds-add mid (node_at new) other (branches node) xs ys in_again free (Holds-remove (node_at old) mid place was xs ys out holds)
 
-  -- the leaf's cell stands last, behind those of the tree without it, but for the node above it
-  pub set_apart : (P : ℕ) (at : Name → Option (Cell K V)) (rest : List (Name × Cell K V)) (f : Frame K V) (outer : List (Frame K V)) (leaf : LeafAt K V)
-      → Holds at (rest ++ cells P (plug (f ∷ outer) (leaf_at leaf.slot leaf.key leaf.value)))
-      → Holds at (cells_before P outer f.name ++ (frame_cell P f (leaf_name leaf.slot) ∷ (cells_in P (join f.before f.after) ++ (cells_after P outer ++ (leaf_cell leaf ∷ rest)))))
-  set_apart P at rest f outer leaf holds =
-      let parts = subst (λ cs. Holds at (rest ++ cs)) (cells-plug P (f ∷ outer) (leaf_at leaf.slot leaf.key leaf.value)) holds in
-      let last = Holds-behind at rest (cells_before P (f ∷ outer) (leaf_name leaf.slot)) (leaf_cell leaf) (cells_after P (f ∷ outer)) parts in
-      subst (Holds at) (reordered (cells_before P outer f.name) (cells_in P f.before) (cells_in P f.after) (cells_after P outer) (leaf_cell leaf ∷ rest) (cells_in P (join f.before f.after)) (frame_cell P f (leaf_name leaf.slot)) (cells_in-join P f.before f.after)) last
+  -- the part's cells stand behind those of the tree without it, but for the node above it
+  pub set_apart : (P : ℕ) (at : Name → Option (Cell K V)) (rest : List (Name × Cell K V)) (f : Frame K V) (outer : List (Frame K V)) (part : Shape K V)
+      → Holds at (rest ++ cells P (plug (f ∷ outer) part))
+      → Holds at (cells_before P outer f.name ++ (frame_cell P f (name_of part) ∷ (cells_in P (join f.before f.after) ++ (cells_after P outer ++ (cells P part ++ rest)))))
+  set_apart P at rest f outer part holds =
+      let last = Holds-turn at (cells_before P (f ∷ outer) (name_of part)) (cells P part) (cells_after P (f ∷ outer)) rest (unplugged P at rest (f ∷ outer) part holds) in
+      subst (Holds at) (reordered (cells_before P outer f.name) (cells_in P f.before) (cells_in P f.after) (cells_after P outer) (cells P part ++ rest) (cells_in P (join f.before f.after)) (frame_cell P f (name_of part)) (cells_in-join P f.before f.after)) last
     where
-      reordered : (a b c d e j : List (Name × Cell K V)) (x : Name × Cell K V) → j ≡ b ++ c → ((a ++ x ∷ b) ++ (c ++ d)) ++ e ≡ a ++ (x ∷ (j ++ (d ++ e)))
+      reordered : (a b c d e j : List (Name × Cell K V)) (x : Name × Cell K V) → j ≡ b ++ c → (a ++ x ∷ b) ++ ((c ++ d) ++ e) ≡ a ++ (x ∷ (j ++ (d ++ e)))
       reordered a b c d e j x is = rw is (simp append_assoc)
 
 module _ {K V : Type 0} (bytes : K → List ℕ) where
@@ -80,18 +73,18 @@ module _ {K V : Type 0} (bytes : K → List ℕ) where
   AreUnder-closed path low byte no_branch g before below less after = lower path low (byte + 1) g less after
   AreUnder-closed path low byte (branch c s f) g before below less after = (before.0, before.1, AreUnder-closed path (c + 1) byte f g before.2 below.1 (omega (arith, below.0)) after)
 
-  module _ (P : ℕ) {rest : List (Name × Cell K V)} (old new : Arena K V) (f : Frame K V) (outer : List (Frame K V)) (leaf : LeafAt K V) (at : IsHeldAt bytes P old rest (f ∷ outer) leaf) where
-    -- the node above the leaf without it, under whichever name
+  module _ (P : ℕ) {rest : List (Name × Cell K V)} (old new : Arena K V) (f : Frame K V) (outer : List (Frame K V)) (part : Shape K V) (at : IsHeldAt bytes P old rest (f ∷ outer) part) where
+    -- the node above the part without it, under whichever name
     pub taken : (other : Name)
-        → Moves old new f.name other (inner_held (with_children (frame_node P f (leaf_name leaf.slot)) (without_child (frame_node P f (leaf_name leaf.slot)).children f.byte)))
-        → IsKindOf other.kind (width f.before + width f.after) → StandsFor bytes P new rest f outer leaf other
+        → Moves old new f.name other (inner_held (with_children (frame_node P f (name_of part)) (without_child (frame_node P f (name_of part)).children f.byte)))
+        → IsKindOf other.kind (width f.before + width f.after) → StandsFor bytes P new rest f outer part other
     taken other moves kind =
-        let left = without_child-frame bytes f.byte (leaf_name leaf.slot) f.before (children_at f.after) at.around.2 ∙ sym (children_at-join f.before f.after) in
-        let moved = Holds-move old new f.name other _ moves _ (cells_before P outer f.name) _ (set_apart P (node_at old) rest f outer leaf at.holds) in
+        let left = without_child-frame bytes f.byte (name_of part) f.before (children_at f.after) at.around.2 ∙ sym (children_at-join f.before f.after) in
+        let moved = Holds-move old new f.name other _ moves _ (cells_before P outer f.name) _ (set_apart P (node_at old) rest f outer part at.holds) in
         record {
           remains = inner_at other f.prefix (join f.before f.after);
           named = refl;
-          holds = subst (λ kids. Holds (node_at new) (cells_before P outer f.name ++ ((other, branches (with_children (frame_node P f (leaf_name leaf.slot)) kids)) ∷ (cells_in P (join f.before f.after) ++ (cells_after P outer ++ (leaf_cell leaf ∷ rest)))))) left moved;
+          holds = subst (λ kids. Holds (node_at new) (cells_before P outer f.name ++ ((other, branches (with_children (frame_node P f (name_of part)) kids)) ∷ (cells_in P (join f.before f.after) ++ (cells_after P outer ++ (cells P part ++ rest)))))) left moved;
           under = (
             subst (IsKindOf other.kind) (sym (width-join f.before f.after)) kind,
             AreUnder-closed (path_to outer ++ f.prefix) 0 f.byte f.before f.after at.around.1 at.around.2 (omega arith) at.around.3,

@@ -38,21 +38,21 @@ none : {A : Type 0} (o : Option A) → Dec (o ≡ None)
 none None = yes refl
 none (Some x) = no (λ e. cc)
 
-lists : {A : Type 0} → Discrete A → Discrete (List A)
+pub lists : {A : Type 0} → Discrete A → Discrete (List A)
 lists d [] [] = yes refl
 lists d [] (y ∷ ys) = no (λ e. cc)
 lists d (x ∷ xs) [] = no (λ e. cc)
 lists d (x ∷ xs) (y ∷ ys) = map_dec (λ p. ap₂ (λ z zs. z ∷ zs) p.0 p.1) (λ e. (cc, cc)) (and (d x y) (lists d xs ys))
 
-names : Discrete Name
+pub names : Discrete Name
 names m n = elim (same_name_tells m n) [ inl same ↦ yes same.1 | inr other ↦ no other.1 ]
 
-steps : Discrete Step
+pub steps : Discrete Step
 steps s t =
     map_dec (λ p. ap₂ (λ n b. record { node = n; byte = b }) p.0 p.1) (λ e. (ap (λ (x : Step). x.node) e, ap (λ (x : Step). x.byte) e))
     (and (names s.node t.node) (ℕ_discrete s.byte t.byte))
 
-begins : (front key : List ℕ) → Dec (BeginsWith front key)
+pub begins : (front key : List ℕ) → Dec (BeginsWith front key)
 begins [] key = yes (key, refl)
 begins (a ∷ front) [] = no (λ h. let e = h.1 in cc)
 begins (a ∷ front) (b ∷ key) = map_dec longer shorter (and (ℕ_discrete b a) (begins front key))
@@ -153,76 +153,80 @@ module _ {K V : Type 0} (bytes : K → List ℕ) (key : List ℕ) where
           (named, ap bytes same ∙ h)
   meets path (inner_at n prefix kids) (kind.Exact slot) = no (λ h. let e = h.2 in absurd (cc))
 
+-- a place to which the key leads
+
+module _ {K V : Type 0} (bytes : K → List ℕ) (key : List ℕ) (IsHere : List Step → List ℕ → Shape K V → Type 0) (here : (above : List Step) (path : List ℕ) (s : Shape K V) → Dec (IsHere above path s)) where
+  -- what is looked for is here, or it lies below a branch whose byte the key has
+  abbrev mutual
+    pub LiesBelow : List Step → List ℕ → Shape K V → Type 0
+    LiesBelow above path (leaf_at n j v) = IsHere above path (leaf_at n j v)
+    LiesBelow above path (inner_at n prefix kids) = IsHere above path (inner_at n prefix kids) ⊎ IsInBranches above n (path ++ prefix) kids
+
+    pub IsInBranches : List Step → Name → List ℕ → Branches K V → Type 0
+    IsInBranches above n path no_branch = ⊥
+    IsInBranches above n path (branch byte s rest) =
+        (BeginsWith (path ++ byte ∷ []) key × LiesBelow (record { node = n; byte = byte } ∷ above) (path ++ byte ∷ []) s)
+        ⊎ IsInBranches above n path rest
+
+  mutual
+    pub below : (above : List Step) (path : List ℕ) (s : Shape K V) → Dec (LiesBelow above path s)
+    below above path (leaf_at n j v) = here above path (leaf_at n j v)
+    below above path (inner_at n prefix kids) = either (here above path (inner_at n prefix kids)) (among above n (path ++ prefix) kids)
+
+    among : (above : List Step) (n : Name) (path : List ℕ) (kids : Branches K V) → Dec (IsInBranches above n path kids)
+    among above n path no_branch = no (λ h. h)
+    among above n path (branch byte s rest) =
+        either (and (begins (path ++ byte ∷ []) key) (below (record { node = n; byte = byte } ∷ above) (path ++ byte ∷ []) s)) (among above n path rest)
+
+  pub at-here : (above : List Step) (path : List ℕ) (s : Shape K V) → IsHere above path s → LiesBelow above path s
+  at-here above path (leaf_at n j v) h = h
+  at-here above path (inner_at n prefix kids) h = inl h
+
+  -- from the place up to the root
+  pub outward : (ctx : List (Frame K V)) (part : Shape K V) → BeginsWith (path_to ctx) key → LiesBelow (steps_to ctx) (path_to ctx) part → LiesBelow [] [] (plug ctx part)
+  outward [] part on h = h
+  outward (f ∷ outer) part on h =
+      outward outer (fill f part) (begins_append (path_to outer) f.prefix key (begins_append (path_to outer ++ f.prefix) (f.byte ∷ []) key on)) (inr (past f.before))
+    where
+      past : (before : Branches K V) → IsInBranches (steps_to outer) f.name (path_to outer ++ f.prefix) (join before (branch f.byte part f.after))
+      past no_branch = inl (on, h)
+      past (branch b t rest) = inr (past rest)
+
+  module _ (whole : Shape K V) where
+    pub record StandsBelow : Type 0 where
+      pub ctx : List (Frame K V)
+      pub part : Shape K V
+      pub place : IsPlace bytes whole ctx part
+      pub on : BeginsWith (path_to ctx) key
+      pub is : IsHere (steps_to ctx) (path_to ctx) part
+
+    -- and from the root down to it
+    mutual
+      pub inward : (ctx : List (Frame K V)) (part : Shape K V) → IsPlace bytes whole ctx part → BeginsWith (path_to ctx) key → LiesBelow (steps_to ctx) (path_to ctx) part → StandsBelow
+      inward ctx (leaf_at n j v) place on h = record { ctx = ctx; part = leaf_at n j v; place = place; on = on; is = h }
+      inward ctx (inner_at n prefix kids) place on (inl h) = record { ctx = ctx; part = inner_at n prefix kids; place = place; on = on; is = h }
+      inward ctx (inner_at n prefix kids) place on (inr h) = inward-in ctx n prefix kids place kids (λ before b t after e. (before, e)) h
+
+      inward-in : (ctx : List (Frame K V)) (n : Name) (prefix : List ℕ) (kids : Branches K V) → IsPlace bytes whole ctx (inner_at n prefix kids) → (rest : Branches K V)
+          → ((before : Branches K V) (b : ℕ) (t : Shape K V) (after : Branches K V) → rest ≡ join before (branch b t after) → (front : Branches K V) × (kids ≡ join front (branch b t after)))
+          → IsInBranches (steps_to ctx) n (path_to ctx ++ prefix) rest → StandsBelow
+      inward-in ctx n prefix kids place no_branch split h = absurd h
+      inward-in ctx n prefix kids place (branch b t rest) split (inl h) =
+          let at = split no_branch b t rest refl in inward _ t (place_below bytes whole ctx n prefix kids at.0 b t rest place at.1) h.0 h.1
+      inward-in ctx n prefix kids place (branch b t rest) split (inr h) = inward-in ctx n prefix kids place rest (λ before c u after e. split (branch b t before) c u after (ap (branch b t) e)) h
+
+module _ {K V : Type 0} (bytes : K → List ℕ) (key : List ℕ) where
   module _ (last : List Step) (depth : ℕ) (k : InsertKind) where
     -- the place is that of the part to which these steps lead, by this path
     abbrev IsHere : List Step → List ℕ → Shape K V → Type 0
     IsHere above path s = (take 2 above ≡ last) × ((length path ≡ depth) × MeetsAt bytes key path s k)
 
     here : (above : List Step) (path : List ℕ) (s : Shape K V) → Dec (IsHere above path s)
-    here above path s = and (lists steps (take 2 above) last) (and (ℕ_discrete (length path) depth) (meets path s k))
-
-    -- or it lies below a branch whose byte the key has
-    abbrev mutual
-      IsBelow : List Step → List ℕ → Shape K V → Type 0
-      IsBelow above path (leaf_at n j v) = IsHere above path (leaf_at n j v)
-      IsBelow above path (inner_at n prefix kids) = IsHere above path (inner_at n prefix kids) ⊎ IsInBranches above n (path ++ prefix) kids
-
-      IsInBranches : List Step → Name → List ℕ → Branches K V → Type 0
-      IsInBranches above n path no_branch = ⊥
-      IsInBranches above n path (branch byte s rest) =
-          (BeginsWith (path ++ byte ∷ []) key × IsBelow (record { node = n; byte = byte } ∷ above) (path ++ byte ∷ []) s)
-          ⊎ IsInBranches above n path rest
-
-    mutual
-      below : (above : List Step) (path : List ℕ) (s : Shape K V) → Dec (IsBelow above path s)
-      below above path (leaf_at n j v) = here above path (leaf_at n j v)
-      below above path (inner_at n prefix kids) = either (here above path (inner_at n prefix kids)) (among above n (path ++ prefix) kids)
-
-      among : (above : List Step) (n : Name) (path : List ℕ) (kids : Branches K V) → Dec (IsInBranches above n path kids)
-      among above n path no_branch = no (λ h. h)
-      among above n path (branch byte s rest) =
-          either (and (begins (path ++ byte ∷ []) key) (below (record { node = n; byte = byte } ∷ above) (path ++ byte ∷ []) s)) (among above n path rest)
-
-    at-here : (above : List Step) (path : List ℕ) (s : Shape K V) → IsHere above path s → IsBelow above path s
-    at-here above path (leaf_at n j v) h = h
-    at-here above path (inner_at n prefix kids) h = inl h
-
-    -- from the place up to the root
-    outward : (ctx : List (Frame K V)) (part : Shape K V) → BeginsWith (path_to ctx) key → IsBelow (steps_to ctx) (path_to ctx) part → IsBelow [] [] (plug ctx part)
-    outward [] part on h = h
-    outward (f ∷ outer) part on h =
-        outward outer (fill f part) (begins_append (path_to outer) f.prefix key (begins_append (path_to outer ++ f.prefix) (f.byte ∷ []) key on)) (inr (past f.before))
-      where
-        past : (before : Branches K V) → IsInBranches (steps_to outer) f.name (path_to outer ++ f.prefix) (join before (branch f.byte part f.after))
-        past no_branch = inl (on, h)
-        past (branch b t rest) = inr (past rest)
-
-    module _ (whole : Shape K V) where
-      record Stands : Type 0 where
-        ctx : List (Frame K V)
-        part : Shape K V
-        place : IsPlace bytes whole ctx part
-        on : BeginsWith (path_to ctx) key
-        is : IsHere (steps_to ctx) (path_to ctx) part
-
-      -- and from the root down to it
-      mutual
-        inward : (ctx : List (Frame K V)) (part : Shape K V) → IsPlace bytes whole ctx part → BeginsWith (path_to ctx) key → IsBelow (steps_to ctx) (path_to ctx) part → Stands
-        inward ctx (leaf_at n j v) place on h = record { ctx = ctx; part = leaf_at n j v; place = place; on = on; is = h }
-        inward ctx (inner_at n prefix kids) place on (inl h) = record { ctx = ctx; part = inner_at n prefix kids; place = place; on = on; is = h }
-        inward ctx (inner_at n prefix kids) place on (inr h) = inward-in ctx n prefix kids place kids (λ before b t after e. (before, e)) h
-
-        inward-in : (ctx : List (Frame K V)) (n : Name) (prefix : List ℕ) (kids : Branches K V) → IsPlace bytes whole ctx (inner_at n prefix kids) → (rest : Branches K V)
-            → ((before : Branches K V) (b : ℕ) (t : Shape K V) (after : Branches K V) → rest ≡ join before (branch b t after) → (front : Branches K V) × (kids ≡ join front (branch b t after)))
-            → IsInBranches (steps_to ctx) n (path_to ctx ++ prefix) rest → Stands
-        inward-in ctx n prefix kids place no_branch split h = absurd h
-        inward-in ctx n prefix kids place (branch b t rest) split (inl h) =
-            let at = split no_branch b t rest refl in inward _ t (place_below bytes whole ctx n prefix kids at.0 b t rest place at.1) h.0 h.1
-        inward-in ctx n prefix kids place (branch b t rest) split (inr h) = inward-in ctx n prefix kids place rest (λ before c u after e. split (branch b t before) c u after (ap (branch b t) e)) h
+    here above path s = and (lists steps (take 2 above) last) (and (ℕ_discrete (length path) depth) (meets bytes key path s k))
 
   -- whether the point is the key's place
   pub is-point : (s : Shape K V) → IsUnder bytes [] s → (point : InsertPoint) → Dec (IsPoint bytes key s point)
-  is-point s under point = map_dec there back (and (names (name_of s) point.root) (below last depth k [] [] s))
+  is-point s under point = map_dec there back (and (names (name_of s) point.root) (below bytes key (IsHere last depth k) (here last depth k) [] [] s))
     where
       last : List Step
       last = steps_of point.path
@@ -233,9 +237,9 @@ module _ {K V : Type 0} (bytes : K → List ℕ) (key : List ℕ) where
       k : InsertKind
       k = point.insert_kind
 
-      there : (name_of s ≡ point.root) × IsBelow last depth k [] [] s → IsPoint bytes key s point
+      there : (name_of s ≡ point.root) × LiesBelow bytes key (IsHere last depth k) (here last depth k) [] [] s → IsPoint bytes key s point
       there (named, h) =
-          let at = inward last depth k s [] s (at-root bytes s under) (key, refl) h in
+          let at = inward bytes key (IsHere last depth k) (here last depth k) s [] s (at-root bytes s under) (key, refl) h in
           record {
             named = named;
             ctx = at.ctx;
@@ -244,9 +248,9 @@ module _ {K V : Type 0} (bytes : K → List ℕ) (key : List ℕ) where
             meets = at.is.1.1;
           }
 
-      back : IsPoint bytes key s point → (name_of s ≡ point.root) × IsBelow last depth k [] [] s
+      back : IsPoint bytes key s point → (name_of s ≡ point.root) × LiesBelow bytes key (IsHere last depth k) (here last depth k) [] [] s
       back p = (
         p.named,
-        subst (IsBelow last depth k [] []) (sym p.toward.place.is)
-            (outward last depth k p.ctx p.part p.toward.begins (at-here last depth k (steps_to p.ctx) (path_to p.ctx) p.part (p.toward.steps, (p.toward.depth_is, p.meets)))),
+        subst (LiesBelow bytes key (IsHere last depth k) (here last depth k) [] []) (sym p.toward.place.is)
+            (outward bytes key (IsHere last depth k) (here last depth k) p.ctx p.part p.toward.begins (at-here bytes key (IsHere last depth k) (here last depth k) (steps_to p.ctx) (path_to p.ctx) p.part (p.toward.steps, (p.toward.depth_is, p.meets)))),
       )

@@ -1,5 +1,5 @@
 -- The nodes of a tree are freed one after the other: what is left meanwhile, and in the end.
-use Rattle.std.proofs.Common.{◌≡◌, ℕ, ◌+◌, ◌<◌, ◌≤◌, Bool, true, false, List, ◌∷◌, ◌++◌, length, refl, sym, ap, subst, ◌∙◌, arith}
+use Rattle.std.proofs.Common.{◌≡◌, ℕ, suc, ◌+◌, ◌-◌, ◌^◌, ◌<◌, ◌≤◌, min, Bool, true, false, List, ◌∷◌, ◌++◌, length, refl, sym, ap, subst, ◌∙◌, arith}
 use Rattle.art_nodes.specs.Name.{Name}
 use Rattle.art_arena.specs.arena.Arena.{Arena, node_at, leaves_held}
 use Rattle.art_arena.specs.arena.Cells.{Cell, copies, Holds}
@@ -8,6 +8,14 @@ use Rattle.art_arena.proofs.shapes.HeldLeaves.{leaves_beside, leaves_counted}
 use Rattle.art_operations.specs.Frees.{cells_with, cells_with_in, KeepsAllBut, HoldsBeside, HoldsInnerBeside}
 use Rattle.art_operations.specs.inner.Freeing.{HoldsPart, HoldsOneLess}
 use Rattle.art_operations.proofs.FreedSizes.{size_of, size-part}
+
+-- one more is counted
+counts : (count more size was left : ℕ) → was ≡ suc left → was ≤ size → count ≡ min (size - was) (2 ^ 64 - 1) → more ≡ min (count + 1) (2 ^ 64 - 1) → more ≡ min (size - left) (2 ^ 64 - 1)
+counts count more size was left less fewer c m = omega (arith, less, fewer, c, m)
+
+-- and the last one
+pub counts_all : (count more size : ℕ) (was : ℕ) → was ≡ 1 → was ≤ size → count ≡ min (size - was) (2 ^ 64 - 1) → more ≡ min (count + 1) (2 ^ 64 - 1) → more ≡ min size (2 ^ 64 - 1)
+counts_all count more size was one fewer c m = omega (arith, one, fewer, c, m)
 
 module _ {K V : Type 0} (P : ℕ) where
   mutual
@@ -35,30 +43,40 @@ module _ {K V : Type 0} (P : ℕ) where
   leaves-gone old new n s rest beside left = omega (arith, leaves_beside P old s rest beside.holds, leaves_counted new rest left)
 
   module _ (w : Bool) (old now : Arena K V) (s : Shape K V) where
-    -- this part of the shape is left, and what isn't its own is as it was
-    pub record IsLeft (current : Name) (rest : List (Name × Cell K V)) : Type 0 where
+    -- this part of the shape is left after so many frees, and what isn't its own is as it was
+    pub record IsLeft (current : Name) (count : ℕ) (rest : List (Name × Cell K V)) : Type 0 where
       pub part : Shape K V
       pub holds : HoldsPart P w now current part rest
       pub names : (n : Name) → copies n (cells_with P w part) ≤ copies n (cells_with P w s)
       pub kept : KeepsAllBut (cells_with P w s) old now
+      pub fewer : length (cells P part) ≤ length (cells P s)
+      pub counted : count ≡ min (length (cells P s) - length (cells P part)) (2 ^ 64 - 1)
 
-  pub left-start : (w : Bool) (old : Arena K V) (root : Name) (s : Shape K V) (rest : List (Name × Cell K V)) → HoldsPart P w old root s rest → IsLeft w old old s root rest
-  left-start w old root s rest part = record { part = s; holds = part; names = λ n. omega arith; kept = λ n none. refl }
+  pub left-start : (w : Bool) (old : Arena K V) (root : Name) (s : Shape K V) (rest : List (Name × Cell K V)) → HoldsPart P w old root s rest → IsLeft w old old s root 0 rest
+  left-start w old root s rest part = record { part = s; holds = part; names = λ n. omega arith; kept = λ n none. refl; fewer = omega arith; counted = none (length (cells P s)) }
+    where
+      none : (n : ℕ) → 0 ≡ min (n - n) (2 ^ 64 - 1)
+      none n = rw (nothing n) refl
+        where
+          nothing : (n : ℕ) → n - n ≡ 0
+          nothing n = omega arith
 
   -- after one more free
-  pub left-step : (w : Bool) (old now new : Arena K V) (s : Shape K V) (current next : Name) (rest : List (Name × Cell K V)) → (left : IsLeft w old now s current rest)
+  pub left-step : (w : Bool) (old now new : Arena K V) (s : Shape K V) (current next : Name) (count more : ℕ) (rest : List (Name × Cell K V)) → (left : IsLeft w old now s current count rest) → more ≡ min (count + 1) (2 ^ 64 - 1)
       → HoldsOneLess P w new next (length (cells P left.part)) (cells_with P w left.part) rest → KeepsAllBut (cells_with P w left.part) now new
-      → IsLeft w old new s next rest × (size_of new next < size_of now current)
-  left-step w old now new s current next rest left less kept = (
+      → IsLeft w old new s next more rest × (size_of new next < size_of now current)
+  left-step w old now new s current next count more rest left one less kept = (
     record {
       part = less.left;
       holds = less.part;
       names = λ n. omega (arith, less.names n, left.names n);
       kept = λ n none. kept n (omega (arith, left.names n, none)) ∙ left.kept n none;
+      fewer = let l = less.less in let f = left.fewer in omega (arith, l, f);
+      counted = let l = less.less in let f = left.fewer in let c = left.counted in counts count more (length (cells P s)) (length (cells P left.part)) (length (cells P less.left)) l f c one;
     },
     (let fewer = less.less in omega (arith, fewer, size-part P w now current left.part rest left.holds, size-part P w new next less.left rest less.part)),
   )
 
-  pub left-end : (w : Bool) (old now new : Arena K V) (s : Shape K V) (current : Name) (rest : List (Name × Cell K V)) → (left : IsLeft w old now s current rest)
+  pub left-end : (w : Bool) (old now new : Arena K V) (s : Shape K V) (current : Name) (count : ℕ) (rest : List (Name × Cell K V)) → (left : IsLeft w old now s current count rest)
       → KeepsAllBut (cells_with P w left.part) now new → KeepsAllBut (cells_with P w s) old new
-  left-end w old now new s current rest left kept n none = kept n (omega (arith, left.names n, none)) ∙ left.kept n none
+  left-end w old now new s current count rest left kept n none = kept n (omega (arith, left.names n, none)) ∙ left.kept n none

@@ -6,7 +6,7 @@ use Rattle.art_nodes.specs.InnerNode.{InnerNode, IsAscending, without_child, wit
 use Rattle.art_nodes.specs.Name.{Name}
 use Rattle.art_arena.specs.arena.Arena.{Arena, inner_held, held_at, node_at}
 use Rattle.art_arena.specs.arena.Cells.{Cell, copies, UpdatesAt, Holds}
-use Rattle.art_arena.specs.arena.Shapes.{Shape, Branches, inner_at, no_branch, branch, name_of, children_at, join, node_of, cells, cells_in}
+use Rattle.art_arena.specs.arena.Shapes.{Shape, Branches, leaf_at, inner_at, no_branch, branch, name_of, children_at, join, node_of, cells, cells_in}
 use Rattle.art_arena.proofs.shapes.CellLists.{copies-append, Holds-turn, Holds-write}
 use Rattle.art_arena.proofs.shapes.Contexts.{children_at-join, cells_in-join}
 use Rattle.art_arena.proofs.shapes.Updates.{nodes-update}
@@ -28,9 +28,16 @@ module _ {K V : Type 0} (P : ℕ) (w : Bool) (old : Arena K V) (n : Name) (s : S
   pub inner-childless : (inner : HasInnerPart P w old n s) → children_at inner.kids ≡ [] → IsChildless s
   inner-childless inner none = subst IsChildless (sym inner.is) (no-branch inner.prefix inner.kids none)
 
-  pub freed-childless : (new : Arena K V) → IsChildless s → FreesRoot w old new s → Holds (node_at new) rest
-  freed-childless new childless frees =
-      freed_root P w old new s [] rest frees (subst (λ xs. Holds (node_at old) (xs ++ rest)) (childless-cells P w s childless) part.holds)
+  alone : (t : Shape K V) → IsChildless t → length (cells P t) ≡ 1
+  alone (leaf_at slot k v) childless = refl
+  alone (inner_at m prefix no_branch) childless = refl
+  alone (inner_at m prefix (branch b t more)) childless = absurd childless
+
+  pub freed-childless : (new : Arena K V) → IsChildless s → FreesRoot w old new s → (length (cells P s) ≡ 1) × Holds (node_at new) rest
+  freed-childless new childless frees = (
+    alone s childless,
+    freed_root P w old new s [] rest frees (subst (λ xs. Holds (node_at old) (xs ++ rest)) (childless-cells P w s childless) part.holds),
+  )
 
   pub kept-childless : (new : Arena K V) → IsChildless s → FreesRoot w old new s → KeepsAllBut (cells_with P w s) old new
   kept-childless new childless frees k none = kept_root P w old new s frees k (ap (copies k) (sym (childless-cells P w s childless)) ∙ none)

@@ -40,7 +40,7 @@ module _ {X Y : Type 0} (f : X → Y) (key : Y → List ℕ) where
   bytes_after-map front [] = refl
   bytes_after-map front (x ∷ xs) = ap (cons_option (byte_after front (key (f x)))) (bytes_after-map front xs)
 
-  width_of-map : (front : List ℕ) (xs : List X) → width_of key (map f xs) front ≡ width_of (λ x. key (f x)) xs front
+  pub width_of-map : (front : List ℕ) (xs : List X) → width_of key (map f xs) front ≡ width_of (λ x. key (f x)) xs front
   width_of-map front xs = ap (λ bs. length (distinct nat_eq bs)) (bytes_after-map front xs)
 
   pub shrinks-map : (xs : List X) (k : List ℕ) → Shrinks (λ x. key (f x)) xs k → Shrinks key (map f xs) k

@@ -1,4 +1,4 @@
--- A node of two children without a leaf: the other child stands for it, behind a longer prefix.
+-- A node of two children without one: the other child stands for it, behind a longer prefix.
 use Rattle.std.proofs.Common.{◌≡◌, ◌≢◌, ℕ, ◌+◌, ◌≤◌, cond, Option, is_some, List, [], ◌∷◌, ◌++◌, length, take, Some, None, inl, inr, refl, sym, ap, ap₂, subst, ◌∙◌, arith, append_assoc, length-append}
 use Rattle.std.proofs.lemmas.List.{append-nil}
 use Rattle.art_nodes.specs.Name.{Name}
@@ -7,14 +7,14 @@ use Rattle.art_arena.specs.arena.Arena.{Arena, held_at, node_at}
 use Rattle.art_arena.specs.arena.Cells.{Cell, branches, leaf_name, copies, Holds, UpdatesAt}
 use Rattle.art_arena.specs.arena.Context.{Frame, path_to, frame_cell, cells_before, cells_after, AreBelow}
 use Rattle.art_arena.specs.arena.Meaning.{IsPart, IsSubtree}
-use Rattle.art_arena.specs.arena.Shapes.{Shape, Branches, leaf_at, inner_at, no_branch, branch, LeafAt, name_of, children_at, join, width, leaves, leaves_in, cells, cells_in, node_of, IsUnder, AreUnder}
+use Rattle.art_arena.specs.arena.Shapes.{Shape, Branches, leaf_at, inner_at, no_branch, branch, name_of, children_at, join, width, leaves, leaves_in, cells, cells_in, node_of, IsUnder, AreUnder}
 use Rattle.art_arena.proofs.tree.Order.{all_left, all_right}
 use Rattle.art_arena.proofs.shapes.CellLists.{same_name-self, copies-append, Holds-write, Holds-remove, Holds-same}
 use Rattle.art_arena.proofs.shapes.Contexts.{leaves_in-join}
 use Rattle.art_arena.proofs.shapes.Repoint.{frame_node}
 use Rattle.art_arena.proofs.shapes.Subtrees.{inner_of}
 use Rattle.art_arena.proofs.shapes.Updates.{nodes-update, nodes-same}
-use Rattle.art_operations.specs.inner.Detached.{leaf_cell, IsHeldAt, StandsFor}
+use Rattle.art_operations.specs.inner.Detached.{IsHeldAt, StandsFor}
 use Rattle.art_operations.specs.inner.Removals.{Lengthens, lengthened, IsOther}
 use Rattle.art_operations.proofs.Apart.{set_apart, AreUnder-closed}
 use Rattle.art_operations.proofs.JoinedPrefixes.{joined}
@@ -125,7 +125,7 @@ module _ {K V : Type 0} (bytes : K → List ℕ) where
   one_left path (branch c t no_branch) byte n (branch d u rest) below under one = absurd (omega (arith, one))
   one_left path (branch c t (branch d u rest)) byte n after below under one = absurd (omega (arith, one))
 
-  module _ (P : ℕ) {rest : List (Name × Cell K V)} (old : Arena K V) (f : Frame K V) (outer : List (Frame K V)) (leaf : LeafAt K V) (at : IsHeldAt bytes P old rest (f ∷ outer) leaf) (one : OneLeft f.before f.byte (leaf_name leaf.slot) f.after) where
+  module _ (P : ℕ) {rest : List (Name × Cell K V)} (old : Arena K V) (f : Frame K V) (outer : List (Frame K V)) (part : Shape K V) (at : IsHeldAt bytes P old rest (f ∷ outer) part) (one : OneLeft f.before f.byte (name_of part) f.after) where
     -- the other child stands behind this path
     abbrev pub other_path : List ℕ
     other_path = (path_to outer ++ f.prefix) ++ one.edge ∷ []
@@ -135,26 +135,26 @@ module _ {K V : Type 0} (bytes : K → List ℕ) where
         let closed = AreUnder-closed bytes (path_to outer ++ f.prefix) 0 f.byte f.before f.after at.around.1 at.around.2 (omega arith) at.around.3 in
         (subst (AreUnder bytes (path_to outer ++ f.prefix) 0) one.is closed).1
 
-    other_cells : Holds (node_at old) (cells_before P outer f.name ++ (frame_cell P f (leaf_name leaf.slot) ∷ (cells P one.here ++ (cells_after P outer ++ (leaf_cell leaf ∷ rest)))))
+    other_cells : Holds (node_at old) (cells_before P outer f.name ++ (frame_cell P f (name_of part) ∷ (cells P one.here ++ (cells_after P outer ++ (cells P part ++ rest)))))
     other_cells =
         let listed = ap (cells_in P) one.is ∙ append-nil (cells P one.here) in
-        subst (λ cs. Holds (node_at old) (cells_before P outer f.name ++ (frame_cell P f (leaf_name leaf.slot) ∷ (cs ++ (cells_after P outer ++ (leaf_cell leaf ∷ rest)))))) listed (set_apart P (node_at old) rest f outer leaf at.holds)
+        subst (λ cs. Holds (node_at old) (cells_before P outer f.name ++ (frame_cell P f (name_of part) ∷ (cs ++ (cells_after P outer ++ (cells P part ++ rest)))))) listed (set_apart P (node_at old) rest f outer part at.holds)
 
     -- the arena has the other child there
     pub other_subtree : IsSubtree bytes P (node_at old) (name_of one.here) other_path one.here
-    other_subtree = record { part = part_of P (node_at old) one.here (cells_before P outer f.name) (frame_cell P f (leaf_name leaf.slot)) (cells_after P outer ++ (leaf_cell leaf ∷ rest)) other_cells; under = other_under }
+    other_subtree = record { part = part_of P (node_at old) one.here (cells_before P outer f.name) (frame_cell P f (name_of part)) (cells_after P outer ++ (cells P part ++ rest)) other_cells; under = other_under }
 
     -- under another name than the node
     pub other_apart : name_of one.here ≢ f.name
-    other_apart = root_apart P (node_at old) one.here (cells_before P outer f.name) f.name _ (cells_after P outer ++ (leaf_cell leaf ∷ rest)) other_cells
+    other_apart = root_apart P (node_at old) one.here (cells_before P outer f.name) f.name _ (cells_after P outer ++ (cells P part ++ rest)) other_cells
 
     -- it stands for the node, lengthened
-    pub merged : (mid new : Arena K V) → Lengthens P old mid (frame_node P f (leaf_name leaf.slot)) one.edge (name_of one.here) → UpdatesAt (held_at mid) (held_at new) f.name None
-        → StandsFor bytes P new rest f outer leaf (name_of one.here)
+    pub merged : (mid new : Arena K V) → Lengthens P old mid (frame_node P f (name_of part)) one.edge (name_of one.here) → UpdatesAt (held_at mid) (held_at new) f.name None
+        → StandsFor bytes P new rest f outer part (name_of one.here)
     merged mid new lengthens gone = record {
       remains = behind_more f.prefix one.edge one.here;
       named = same_name_of f.prefix one.edge one.here;
-      holds = merge_cells P old mid new f.name f.prefix (children_at f.before ++ (f.byte, leaf_name leaf.slot) ∷ children_at f.after) one.edge gone one.here other_path bytes other_under lengthens _ (cells_before P outer f.name) (cells_after P outer ++ (leaf_cell leaf ∷ rest)) other_cells;
+      holds = merge_cells P old mid new f.name f.prefix (children_at f.before ++ (f.byte, name_of part) ∷ children_at f.after) one.edge gone one.here other_path bytes other_under lengthens _ (cells_before P outer f.name) (cells_after P outer ++ (cells P part ++ rest)) other_cells;
       under = under_more (path_to outer) f.prefix one.edge one.here other_under;
       left = same_leaves f.prefix one.edge one.here ∙ sym (append-nil (leaves one.here)) ∙ sym (ap leaves_in one.is) ∙ leaves_in-join f.before f.after;
     }

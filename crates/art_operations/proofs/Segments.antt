@@ -28,11 +28,11 @@ module _ {K V : Type 0} (bytes : K → List ℕ) (key : List ℕ) where
   Begin ls = passing bytes (λ k. begins_with key k) ls
 
   -- none of the leaves on either side of a place begins with a key that goes there
-  before_none : (ls : List (LeafAt K V)) → AreBefore bytes key ls → Begin ls ≡ []
+  pub before_none : (ls : List (LeafAt K V)) → AreBefore bytes key ls → Begin ls ≡ []
   before_none [] h = refl
   before_none (l ∷ ls) h = rw (begins_not key (bytes l.key) (λ b. front_not_after key (bytes l.key) b h.0)) (before_none ls h.1)
 
-  after_none : (ls : List (LeafAt K V)) → AreAfter bytes key ls → Begin ls ≡ []
+  pub after_none : (ls : List (LeafAt K V)) → AreAfter bytes key ls → Begin ls ≡ []
   after_none [] h = refl
   after_none (l ∷ ls) h = rw (begins_not key (bytes l.key) (λ b. front_not_before key (bytes l.key) b h.0)) (after_none ls h.1)
 

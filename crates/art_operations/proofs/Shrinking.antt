@@ -1,15 +1,12 @@
 -- A leaf whose loss changes the kind of the node above it, by the keys alone.
 use Rattle.std.proofs.Common.{◌≡◌, ℕ, suc, ◌+◌, List, [], ◌∷◌, ◌++◌, length, drop, refl, sym, ap, ap₂, subst, ◌∙◌, inl, inr, arith, append_assoc, drop_at}
 use Rattle.std.proofs.lemmas.Bool.Decides.{eqb_tells}
-use Rattle.art_nodes.specs.Name.{Name}
-use Rattle.art_arena.specs.arena.Arena.{Arena, node_at}
-use Rattle.art_arena.specs.arena.Cells.{Cell}
+use Rattle.art_bytes.specs.Keys.{BeginsWith}
 use Rattle.art_arena.specs.tree.Changes.{IsIn}
 use Rattle.art_arena.specs.arena.Context.{Frame, fill, plug, path_to, leaves_before, leaves_after, AreBelow, AreAround}
 use Rattle.art_arena.specs.tree.Fronts.{width_of}
 use Rattle.art_arena.specs.tree.Kinds.{ChangesKind}
-use Rattle.art_arena.specs.arena.Meaning.{IsNodesBeside}
-use Rattle.art_arena.specs.arena.Shapes.{Shape, Branches, leaf_at, no_branch, branch, join, leaves, width, erase, erase_in, key_of, IsUnder}
+use Rattle.art_arena.specs.arena.Shapes.{Shape, Branches, leaf_at, no_branch, branch, LeafAt, join, leaves, width, erase, erase_in, key_of, IsUnder}
 use Rattle.art_arena.specs.tree.Shrinks.{Shrinks}
 use Rattle.art_arena.specs.arena.Steps.{Step}
 use Rattle.art_arena.specs.tree.Trees.{items, count, IsCanonical}
@@ -21,7 +18,7 @@ use Rattle.art_arena.proofs.tree.Insert.{in_right}
 use Rattle.art_arena.proofs.tree.Paths.{in_map}
 use Rattle.art_arena.proofs.tree.Shrinks.{TreeMeets, tree_meets, shrinks_is_kind_change}
 use Rattle.art_operations.specs.DeletePoints.{IsLeafPlace}
-use Rattle.art_operations.proofs.Detaching.{the_parent, the_leaf, whole_is, held_at_place}
+use Rattle.art_operations.specs.inner.Removals.{LosesKind}
 use Rattle.art_operations.proofs.LeafPairs.{shrinks-unmap}
 
 -- down to the node above a place
@@ -65,18 +62,17 @@ module _ {K V : Type 0} (bytes : K → List ℕ) where
           width (width_of (key_of bytes) (items (erase s))) 0 (widths (key_of bytes) (items (erase s)) [] (erase s) canonical (λ front i. refl)) ∙ counted 0 in
           (shrinks_is_kind_change (K × V) (key_of bytes) (items (erase s)) (key_of bytes k) m meeting).1 (subst ChangesKind (sym wide) changes)
 
-module _ {K V : Type 0} (bytes : K → List ℕ) (P : ℕ) {rest : List (Name × Cell K V)} (arena : Arena K V) (root : Name) (s : Shape K V) (slot : ℕ) (last : List Step) (step : Step) (more : List Step) (some : last ≡ step ∷ more) (parent : Name) (node : step.node ≡ parent)
-    (nodes : IsNodesBeside bytes P (node_at arena) root rest s) (place : IsLeafPlace bytes s slot last) where
-  pub place_shrinks : ChangesKind (suc (width (the_parent bytes P arena root s slot last step more some parent node nodes place).frame.before + width (the_parent bytes P arena root s slot last step more some parent node nodes place).frame.after))
-      → Shrinks (λ l. bytes l.key) (leaves s) (bytes place.key)
-  place_shrinks changes =
-      let hp = the_parent bytes P arena root s slot last step more some parent node nodes place in
-      let is = whole_is bytes P arena root s slot last step more some parent node nodes place in
-      let held = held_at_place bytes P arena root s slot last step more some parent node nodes place in
-      let counted = λ (m : ℕ).
-      ap₂ (λ t k. last_count m (erase t) k) is held.begins.1 ∙ into_place bytes m hp.frame hp.outer (leaf_at slot place.key place.value) held.begins.0 held.around in
-      let leaf = the_leaf bytes P arena root s slot last step more some parent node nodes place in
-      let there : IsIn leaf (leaves s) = subst (IsIn leaf) (sym (ap leaves is ∙ leaves-plug (hp.frame ∷ hp.outer) (leaf_at slot place.key place.value))) (in_right leaf (leaves_before (hp.frame ∷ hp.outer)) (leaf ∷ leaves_after (hp.frame ∷ hp.outer)) (inl refl)) in
-      let stored : IsIn (place.key, place.value) (items (erase s)) = subst (IsIn (place.key, place.value)) (sym (items-erase s)) (in_map (λ l. (l.key, l.value)) leaf (leaves s) there) in
-      shrinks-unmap (λ l. (l.key, l.value)) (key_of bytes) (leaves s) (bytes place.key)
-      (subst (λ xs. Shrinks (key_of bytes) xs (bytes place.key)) (items-erase s) (shrinks_at bytes s nodes.under (place.key, place.value) stored _ counted changes))
+module _ {K V : Type 0} (bytes : K → List ℕ) (s : Shape K V) (under : IsUnder bytes [] s) (slot : ℕ) (key : K) (value : V) where
+  shrinks_below : (ctx : List (Frame K V)) → s ≡ plug ctx (leaf_at slot key value) → AreAround bytes ctx → BeginsWith (path_to ctx) (bytes key) → LosesKind ctx → Shrinks (λ l. bytes l.key) (leaves s) (bytes key)
+  shrinks_below [] is around begins loses = absurd loses
+  shrinks_below (f ∷ outer) is around begins loses =
+      let counted = λ (m : ℕ). ap₂ (λ t k. last_count m (erase t) k) is begins.1 ∙ into_place bytes m f outer (leaf_at slot key value) begins.0 around in
+      let leaf : LeafAt K V = record { slot = slot; key = key; value = value } in
+      let there : IsIn leaf (leaves s) = subst (IsIn leaf) (sym (ap leaves is ∙ leaves-plug (f ∷ outer) (leaf_at slot key value))) (in_right leaf (leaves_before (f ∷ outer)) (leaf ∷ leaves_after (f ∷ outer)) (inl refl)) in
+      let stored : IsIn (key, value) (items (erase s)) = subst (IsIn (key, value)) (sym (items-erase s)) (in_map (λ l. (l.key, l.value)) leaf (leaves s) there) in
+      shrinks-unmap (λ l. (l.key, l.value)) (key_of bytes) (leaves s) (bytes key)
+      (subst (λ xs. Shrinks (key_of bytes) xs (bytes key)) (items-erase s) (shrinks_at bytes s under (key, value) stored _ counted loses))
+
+-- a leaf without which the node above it changes its kind shrinks that node
+pub place_shrinks : {K V : Type 0} (bytes : K → List ℕ) (s : Shape K V) (slot : ℕ) (last : List Step) → IsUnder bytes [] s → (place : IsLeafPlace bytes s slot last) → LosesKind place.ctx → Shrinks (λ l. bytes l.key) (leaves s) (bytes place.key)
+place_shrinks bytes s slot last under place loses = shrinks_below bytes s under slot place.key place.value place.ctx place.place.is place.place.around place.place.under loses

@@ -8,6 +8,7 @@ pub mod DeletePoints
 pub mod Bounds
 pub mod Insertions
 pub mod Deletions
+pub mod Subtrees
 pub mod KeyedLists
 pub mod Overwrites
 pub mod Pairs

@@ -1,5 +1,5 @@
 -- An arena that has pairs, before and after one is put in or taken out.
-use Rattle.std.specs.Prelude.{◌≡◌, ℕ, List, [], ◌∷◌, ◌++◌, Option, Some, None, Ok, Err}
+use Rattle.std.specs.Prelude.{◌≡◌, ℕ, List, [], ◌∷◌, ◌++◌, length, Option, Some, None, Ok, Err}
 use Rattle.std.specs.declared.result.Result.{Result}
 use Rattle.art_nodes.specs.Name.{Name}
 use Rattle.art_nodes.specs.declared.leaf.LeafNode.{LeafNode}
@@ -7,6 +7,7 @@ use Rattle.art_arena.specs.arena.Arena.{Arena, node_at}
 use Rattle.art_arena.specs.arena.Cells.{Cell, leaf_name, pair, HoldsOnly}
 use Rattle.art_arena.specs.tree.Changes.{put_in_order}
 use Rattle.art_arena.specs.tree.Shrinks.{Shrinks}
+use Rattle.art_arena.specs.tree.Tenants.{with_front, without_front}
 use Rattle.art_arena.specs.declared.ends.End.{End}
 use Rattle.art_arena.specs.declared.ends.End.TheVariants.{First, Last}
 use Rattle.art_arena.specs.arena.Shapes.{Shape, leaves, pairs_of, key_of}
@@ -14,9 +15,12 @@ use Rattle.art_arena.specs.arena.Steps.{steps_of}
 use Rattle.art_operations.specs.KeyedLists.{IsBlocked, with_key, without_key, overlapping, without_overlapping}
 use Rattle.art_operations.specs.Overwrites.{AreRemoved, IsPrefixPoint, root_at}
 use Rattle.art_operations.specs.Points.{IsInTheWay, IsPoint}
+use Rattle.art_operations.specs.Subtrees.{IsSubtreePoint}
 use Rattle.art_operations.specs.Whichever.{OfTree}
 use Rattle.art_arena.specs.arena.Stores.{StoresBeside}
 use Rattle.art_operations.specs.declared.delete.result.DeleteResult.{DeleteResult}
+use Rattle.art_operations.specs.declared.delete.subtree.SubtreeDeletePoint.{SubtreeDeletePoint}
+use Rattle.art_operations.specs.declared.delete.subtree.SubtreeDeleteResult.{SubtreeDeleteResult}
 use Rattle.art_operations.specs.declared.insert.point.InsertPoint.{InsertPoint}
 use Rattle.art_operations.specs.declared.insert.point.PrefixConflict.{PrefixConflict}
 use Rattle.art_operations.specs.declared.insert.result.InsertResult.{InsertResult}
@@ -99,6 +103,12 @@ module _ {K V : Type 0} (bytes : K → List ℕ) (P : ℕ) (arena : Arena K V) (
       (others : List (K × V)) × IsAtEnd end (deleted.deleted_leaf.key, deleted.deleted_leaf.value) others pairs
       × HasPairsBeside deleted.new_root others
 
+  -- it has the pairs whose keys don't begin with the prefix; so many others are no more
+  abbrev pub HasCutBeside : List ℕ → List (K × V) → SubtreeDeleteResult → Type 0
+  HasCutBeside front pairs result =
+      (result.leafs_removed ≡ length (with_front (key_of bytes) front pairs))
+      × HasPairsBeside result.new_root (without_front (key_of bytes) front pairs)
+
   -- the same of where the key goes whichever keys it is in conflict with
   abbrev pub CanPutOverBeside : Option PrefixInsertPoint → List ℕ → List (K × V) → Type 0
   CanPutOverBeside None key pairs = HasPairsBeside None pairs
@@ -132,6 +142,10 @@ module _ {K V : Type 0} (bytes : K → List ℕ) (P : ℕ) (arena : Arena K V) w
   IsPlaceFor None key (Some point) = ⊥
   IsPlaceFor (Some root) key None = ⊥
   IsPlaceFor (Some root) key (Some point) = OfTree bytes P arena root (λ s. ∥ IsPoint bytes key s point ∥₁)
+
+  -- the part below this root whose keys begin with the prefix, whatever tree stands there; it can be remembered too
+  abbrev pub IsSubtreeFor : Name → List ℕ → SubtreeDeletePoint → Type 0
+  IsSubtreeFor root front point = OfTree bytes P arena root (λ s. ∥ IsSubtreePoint bytes front s point ∥₁)
 
   -- the part of the tree below the root is told whose keys are in conflict with this one; without a root there is none
   abbrev pub TellsConflict : Option Name → List ℕ → PrefixConflict → Type 0

@@ -8,3 +8,4 @@ pub mod Detached
 pub mod Runs
 pub mod Freeing
 pub mod Nearest
+pub mod LeafParts

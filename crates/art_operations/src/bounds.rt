@@ -1,6 +1,6 @@
 //! The leaves that a bound or a prefix takes.
 ghost use Rattle.std.specs.Prelude.{◌≡◌, ℕ, ◌+◌, ◌*◌, ◌≤◌, ◌++◌, ◌∷◌, [], Bool, true, false, List, drop, length};
-ghost use Rattle.std.specs.Prelude.{None, Some, MatchOption};
+ghost use Rattle.std.specs.Prelude.{None, Some, IfSome, MatchOption};
 ghost use Rattle.std.specs.BTreeMap.Range.{is_past_end, range_contains};
 ghost use Rattle.std.specs.Range.Bound.{bound_map};
 ghost use Rattle.std.specs.declared.cmp.Ordering.TheVariants.{Less, Greater};
@@ -379,8 +379,8 @@ pub fn find_prefix_segment_with<K: AsBytes, V, const PREFIX_LEN: usize>(
     }
 }
 
-// The ends of a part whose leaves are all in conflict with a prefix, where they begin with it.
-fn segment_at<K: AsBytes, V, const PREFIX_LEN: usize>(
+/// The ends of a part whose leaves are all in conflict with a prefix, where they begin with it. Either all do or none.
+pub(crate) fn segment_at<K: AsBytes, V, const PREFIX_LEN: usize>(
     reader: &mut ArenaReader<'_, K, V, PREFIX_LEN>,
     part: OpaqueNodePtr,
     prefix: &[u8],
@@ -389,6 +389,9 @@ fn segment_at<K: AsBytes, V, const PREFIX_LEN: usize>(
     ensures value { OfEach (StoresBelow K.bytes PREFIX_LEN reader.old.arena.now part)
         (λ path s. AllConflict K.bytes prefix.now (leaves s)
         → AreEndsWhere K.bytes (λ k. begins_with prefix.now k) (leaves s) result) }
+    ensures all { IfSome result (λ ends. OfEach (StoresBelow K.bytes PREFIX_LEN reader.old.arena.now part)
+        (λ path s. AllConflict K.bytes prefix.now (leaves s)
+        → passing K.bytes (λ k. begins_with prefix.now k) (leaves s) ≡ leaves s)) }
     ensures kept { reader.new.arena.now ≡ reader.old.arena.now }
     ensures few { OfEach (StoresBelow K.bytes PREFIX_LEN reader.old.arena.now part)
         (λ path s. ForLongest K.bytes s (λ longest. reader.new.count ≤ reader.old.count + 2 * (longest + 1))) }

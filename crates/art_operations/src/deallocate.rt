@@ -4,7 +4,7 @@
 //! A tree is freed from its last children on. What waits stands below the first child of what is at hand: where the
 //! last child of a node is an inner node, the node itself takes the place of the first childless node below that child,
 //! which is freed for it. So the way down to that one is gone only once.
-ghost use Rattle.std.specs.Prelude.{◌≡◌, ◌++◌, Bool, List, IfSome, IfNone, length};
+ghost use Rattle.std.specs.Prelude.{◌≡◌, ◌<◌, ◌++◌, ◌-◌, ◌^◌, min, Bool, List, IfSome, IfNone, length};
 ghost use Rattle.art_nodes.specs.Name.{Name};
 ghost use Rattle.art_arena.specs.arena.Arena.{node_at, KeepsRoom, SameNodes};
 ghost use Rattle.art_arena.specs.arena.Cells.{Cell, Holds};
@@ -179,29 +179,65 @@ fn free_one<K: Drop, V: Drop, const PREFIX_LEN: usize>(
     }
 }
 
-// Frees the inner nodes of a tree, and its leaves where these are to be freed too.
+// Frees the inner nodes of a tree, and its leaves where these are to be freed too. Answers how many nodes it had, its
+// leaves among them; a count that reaches the greatest number stays there.
 fn free_nodes<K: Drop, V: Drop, const PREFIX_LEN: usize>(
     arena: &mut NodeArena<K, V, PREFIX_LEN>,
     root: OpaqueNodePtr,
     with_leaves: bool,
-)
+) -> u64
     requires { HasSome (HoldsPart PREFIX_LEN with_leaves arena.old root) }
     ensures freed { OfEach (HoldsPart PREFIX_LEN with_leaves arena.old root)
         (λ s rest. Holds (node_at arena.new) rest) }
+    ensures value { OfEach (HoldsPart PREFIX_LEN with_leaves arena.old root)
+        (λ s rest. result ≡ min (length (cells PREFIX_LEN s)) (2 ^ 64 - 1)) }
     ensures kept { OfEach (HoldsPart PREFIX_LEN with_leaves arena.old root)
         (λ s rest. KeepsAllBut (cells_with PREFIX_LEN with_leaves s) arena.old arena.new) }
     ensures room { KeepsRoom arena.old arena.new }
 {
     let mut current = root;
     let mut below = u8::MAX;
+    let mut count: u64 = 0;
     'free: loop {
+        count = count.saturating_add(1);
         match free_one(arena, current, below, with_leaves) {
             Some(left) => {
                 current = left.root;
                 below = left.below;
             }
-            None => return,
+            None => return count,
         }
+    }
+}
+
+/// What was freed of a tree: so many leaves, and so many nodes, the leaves among them. A count of nodes that reaches
+/// the greatest number stays there.
+#[derive(Clone, Copy)]
+pub(crate) struct Freed {
+    pub(crate) leaves: usize,
+    pub(crate) nodes: u64,
+}
+
+/// Frees each node of the tree below a name, as `deallocate_tree`, and counts them.
+pub(crate) fn free_tree<K: Drop, V: Drop, const PREFIX_LEN: usize>(
+    arena: &mut NodeArena<K, V, PREFIX_LEN>,
+    root: OpaqueNodePtr,
+) -> Freed
+    requires { HasSome (HoldsBeside PREFIX_LEN arena.old root) }
+    ensures freed { OfEach (HoldsBeside PREFIX_LEN arena.old root) (λ s rest. Holds (node_at arena.new) rest) }
+    ensures leaves { OfEach (HoldsBeside PREFIX_LEN arena.old root) (λ s rest. result.leaves ≡ length (leaves s)) }
+    ensures range { result.leaves < 2 ^ 64 }
+    ensures nodes { OfEach (HoldsBeside PREFIX_LEN arena.old root)
+        (λ s rest. result.nodes ≡ min (length (cells PREFIX_LEN s)) (2 ^ 64 - 1)) }
+    ensures kept { OfEach (HoldsBeside PREFIX_LEN arena.old root)
+        (λ s rest. KeepsAllBut (cells PREFIX_LEN s) arena.old arena.new) }
+    ensures room { KeepsRoom arena.old arena.new }
+{
+    let before = arena.leaf_count();
+    let nodes = free_nodes(arena, root, true);
+    Freed {
+        leaves: before - arena.leaf_count(),
+        nodes,
     }
 }
 
@@ -219,9 +255,7 @@ pub fn deallocate_tree<K: Drop, V: Drop, const PREFIX_LEN: usize>(
         (λ s rest. KeepsAllBut (cells PREFIX_LEN s) arena.old arena.new) }
     ensures room { KeepsRoom arena.old arena.new }
 {
-    let before = arena.leaf_count();
-    free_nodes(arena, root, true);
-    before - arena.leaf_count()
+    free_tree(arena, root).leaves
 }
 
 /// Frees each inner node of the tree below a name. Its leaves stay as they are, with their links, where the arena still

@@ -1,4 +1,4 @@
-//! Deletion: which leaf goes, and its change of the tree.
+//! Deletion: which leaf goes, or which part, and its change of the tree.
 
 mod apply;
 mod detach;
@@ -6,3 +6,4 @@ pub mod leaf;
 mod merge;
 pub mod point;
 pub mod result;
+pub mod subtree;

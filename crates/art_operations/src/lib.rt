@@ -28,6 +28,9 @@ pub use delete::point::{
     DeletePoint, find_maximum_to_delete, find_minimum_to_delete, search_for_delete_point,
 };
 pub use delete::result::DeleteResult;
+pub use delete::subtree::{
+    PreparedSubtreeDelete, SubtreeDeletePoint, SubtreeDeleteResult, search_for_subtree_delete_point,
+};
 pub use insert::point::{
     InsertKind, InsertPoint, InsertPrefixError, InsertSearchError, KeyPrefix, PrefixConflict,
     find_insert_point, search_for_insert_point,

@@ -328,11 +328,34 @@ module _ {K V : Type 0} (links : ℕ → Option Links) (xs run ys : List (LeafAt
       let whole : xs ++ (run ++ ys) ≡ (xs ++ e.0) ++ e.1 ∷ ys = ap (λ ms. xs ++ (ms ++ ys)) e.2 ∙ ap (λ ms. xs ++ ms) (append_assoc e.0 (e.1 ∷ []) ys) ∙ sym (append_assoc xs e.0 (e.1 ∷ ys)) in
       (_, link_there links (xs ++ e.0) e.1 ys p (subst (λ ls. AreLinked links None ls None) whole linked) e.3)
 
+  -- what is around it
+  pub around_run : ((n : ℕ) → times n (xs ++ (run ++ ys)) ≤ 1) → AreHalves links xs (first_slot (run ++ ys) None) (last_slot (last_slot None xs) run) ys
+  around_run once = record {
+    left = AreLinked-left links None xs (run ++ ys) None linked;
+    right = AreLinked-right links (last_slot None xs) run ys None (AreLinked-right links None xs (run ++ ys) None linked);
+    once = λ m. let o = once m in omega (arith, o, times-append m xs (run ++ ys), times-append m run ys);
+  }
+
+  -- what a look at its ends tells
+  pub run_previous : (p : ℕ) → first_slot run None ≡ Some p → (was : Option ℕ) → ((start : Links) → links p ≡ Some start → was ≡ start.previous) → last_slot None xs ≡ was
+  run_previous p first was tells = sym (tells _ (run_start p first).1)
+
+  pub run_next : (p : ℕ) → last_slot None run ≡ Some p → (was : Option ℕ) → ((end : Links) → links p ≡ Some end → was ≡ end.next) → first_slot ys None ≡ was
+  run_next p last was tells = sym (tells _ (run_end p last).1)
+
 -- so the leaves outside keep their links where a leaf takes its place
 pub kept-run : {K V : Type 0} (old new : ℕ → Option Links) (xs run ys : List (LeafAt K V)) (m : LeafAt K V) (first last : ℕ) → AreLinked old None (xs ++ (run ++ ys)) None → first_slot run None ≡ Some first → last_slot None run ≡ Some last
     → ((start end : Links) → old first ≡ Some start → old last ≡ Some end → KeepsOtherLinks old new start.previous m.slot end.next) → KeepsLinksOutside old new (xs ++ m ∷ ys)
 kept-run old new xs run ys m first last linked starts ends kept =
     kept-between old new xs ys m (kept _ _ (run_start old xs run ys linked first starts).1 (run_end old xs run ys linked last ends).1)
+
+-- and where it goes
+pub kept-without_run : {K V : Type 0} (old new : ℕ → Option Links) (xs run ys : List (LeafAt K V)) (first last : ℕ) → AreLinked old None (xs ++ (run ++ ys)) None → first_slot run None ≡ Some first → last_slot None run ≡ Some last
+    → ((start end : Links) → old first ≡ Some start → old last ≡ Some end → (n : ℕ) → start.previous ≢ Some n → end.next ≢ Some n → new n ≡ old n) → KeepsLinksOutside old new (xs ++ (run ++ ys))
+kept-without_run old new xs run ys first last linked starts ends kept n none =
+    let parts = times-append n xs (run ++ ys) in
+    let more = times-append n run ys in
+    kept _ _ (run_start old xs run ys linked first starts).1 (run_end old xs run ys linked last ends).1 n (last-apart xs n (omega (arith, parts, none))) (first-apart ys n (omega (arith, parts, more, none)))
 
 -- a new leaf goes in its place
 pub can_take_run : {K V : Type 0} (links : ℕ → Option Links) (xs run ys : List (LeafAt K V)) (leaf name first last : ℕ) (p n : Option ℕ) → leaf ≡ name → IsBeside links (xs ++ (run ++ ys)) leaf
@@ -340,15 +363,11 @@ pub can_take_run : {K V : Type 0} (links : ℕ → Option Links) (xs run ys : Li
     → CanLink links xs ys p name n
 can_take_run links xs run ys leaf name first last p n same beside starts ends before after =
     let linked = beside.list.linked in
-    relabel links xs ys _ p leaf name _ n (sym (before _ (run_start links xs run ys linked first starts).1)) same (sym (after _ (run_end links xs run ys linked last ends).1))
+    relabel links xs ys _ p leaf name _ n (run_previous links xs run ys linked first starts p before) same (run_next links xs run ys linked last ends n after)
     (record {
       after = first_slot (run ++ ys) None;
       before = last_slot (last_slot None xs) run;
-      halves = record {
-        left = AreLinked-left links None xs (run ++ ys) None linked;
-        right = AreLinked-right links (last_slot None xs) run ys None (AreLinked-right links None xs (run ++ ys) None linked);
-        once = λ m. let o = beside.list.once m in omega (arith, o, times-append m xs (run ++ ys), times-append m run ys);
-      };
+      halves = around_run links xs run ys linked beside.list.once;
       last = refl;
       first = refl;
       apart = let a = beside.apart in omega (arith, a, times-append leaf xs (run ++ ys), times-append leaf run ys);

@@ -102,6 +102,18 @@ module _ {K V : Type 0} where
     pub nodes48 : HasRoomFor arena.nodes48 n
     pub nodes256 : HasRoomFor arena.nodes256 n
 
+  -- so many more nodes of this kind take no memory
+  abbrev pub HasRoomOf : Arena K V → NodeType → ℕ → Type 0
+  HasRoomOf arena Leaf n = HasRoomFor arena.leaves n
+  HasRoomOf arena Node4 n = HasRoomFor arena.nodes4 n
+  HasRoomOf arena Node16 n = HasRoomFor arena.nodes16 n
+  HasRoomOf arena Node48 n = HasRoomFor arena.nodes48 n
+  HasRoomOf arena Node256 n = HasRoomFor arena.nodes256 n
+
+  -- what room there was of each kind stays
+  abbrev pub KeepsRoomOf : Arena K V → Arena K V → Type 0
+  KeepsRoomOf old new = (kind : NodeType) (n : ℕ) → HasRoomOf old kind n → HasRoomOf new kind n
+
   -- what room there was stays
   abbrev pub KeepsRoom : Arena K V → Arena K V → Type 0
   KeepsRoom old new = (n : ℕ) → HasRoom old n → HasRoom new n

@@ -71,7 +71,7 @@ module _ {K V : Type 0} (P : ℕ) (leaves : Bool) (arena : Arena K V) where
     pub less : size ≡ suc (length (cells P left))
     pub names : (n : Name) → copies n (cells_with P leaves left) ≤ copies n was
 
-  -- what is left of the shape when one of its nodes is freed, if anything is
+  -- what is left of the shape when one of its nodes is freed, if it wasn't the only one
   abbrev pub HasFreedOne : Option Left → Shape K V → List (Name × Cell K V) → Type 0
-  HasFreedOne None s rest = Holds (node_at arena) rest
+  HasFreedOne None s rest = (length (cells P s) ≡ 1) × Holds (node_at arena) rest
   HasFreedOne (Some left) s rest = HoldsOneLess left.root (length (cells P s)) (cells_with P leaves s) rest

@@ -1,10 +1,13 @@
--- How a leaf is taken out of the nodes above it.
-use Rattle.std.specs.Prelude.{◌≡◌, ◌≢◌, ◌⊎◌, ℕ, ◌+◌, List, [], ◌∷◌, ◌++◌, take, Some, None}
+-- How a part is taken out of the nodes above it.
+use Rattle.std.specs.Prelude.{◌≡◌, ◌≢◌, ◌⊎◌, ℕ, suc, ◌+◌, List, [], ◌∷◌, ◌++◌, take, Some, None}
 use Rattle.art_nodes.specs.declared.kind.NodeType.TheVariants.{Leaf}
 use Rattle.art_nodes.specs.InnerNode.{InnerNode, with_child, without_child, with_children}
 use Rattle.art_nodes.specs.Name.{Name}
 use Rattle.art_arena.specs.arena.Arena.{Arena, Held, inner_held, held_at, SameNodes}
 use Rattle.art_arena.specs.arena.Cells.{UpdatesAt}
+use Rattle.art_arena.specs.arena.Context.{Frame}
+use Rattle.art_arena.specs.arena.Shapes.{width}
+use Rattle.art_arena.specs.tree.Kinds.{ChangesKind}
 use Rattle.art_operations.specs.Held.{HasInner}
 
 -- the inner node under this name is edited so, and nothing else changed
@@ -49,3 +52,8 @@ abbrev pub Lengthens : {K V : Type 0} → ℕ → Arena K V → Arena K V → In
 Lengthens P old new above byte name =
     (name.kind ≡ Leaf → SameNodes old new)
     × (name.kind ≢ Leaf → EditsNode old new name (lengthened P above byte))
+
+-- the node just above a place changes its kind when it loses the child there
+abbrev pub LosesKind : {K V : Type 0} → List (Frame K V) → Type 0
+LosesKind [] = ⊥
+LosesKind (f ∷ outer) = ChangesKind (suc (width f.before + width f.after))

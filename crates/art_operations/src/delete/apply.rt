@@ -53,7 +53,7 @@ impl DeletePoint {
             path,
             leaf_node_ptr: leaf,
         } = self;
-        let new_root = detach(arena, root, path, leaf)?;
+        let new_root = detach(arena, root, path, leaf.to_opaque())?;
         remove_self(arena, leaf);
         let mut deleted_leaf = arena.deallocate_node_ptr::<LeafNode<K, V>>(leaf);
         deleted_leaf.set_previous(None);

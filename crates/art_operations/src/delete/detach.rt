@@ -1,24 +1,23 @@
-//! A leaf is taken out of the inner nodes above it.
+//! A part of a tree is taken out of the inner nodes above it.
 ghost use Rattle.std.specs.Prelude.{◌≡◌, ◌≢◌, ◌<◌, ◌≤◌, ◌+◌, suc, List, Some, IsSome, IfOk, IsOk, OnErr, length};
 ghost use Rattle.art_nodes.specs.Name.{Name};
 ghost use Rattle.art_nodes.specs.InnerNode as node;
 ghost use Rattle.art_nodes.specs.InnerNode.{child_at, with_child, without_child, with_children};
-ghost use Rattle.art_nodes.specs.Kind.{row_of, CanShrink};
-ghost use Rattle.art_arena.specs.arena.Arena.{inner_held, HasRoom, SameNodes, KeepsRoom, UsesRoom};
+ghost use Rattle.art_nodes.specs.Kind.{row_of, shrunk_kind, CanShrink};
+ghost use Rattle.art_arena.specs.arena.Arena.{inner_held, HasRoom, HasRoomOf, SameNodes, KeepsRoom, UsesRoom};
 ghost use Rattle.art_arena.specs.arena.Cells.{Cell};
 ghost use Rattle.art_arena.specs.tree.Kinds.{IsKindOf, ChangesKind};
-ghost use Rattle.art_arena.specs.arena.Shapes.{Shape, width, leaves};
-ghost use Rattle.art_arena.specs.tree.Shrinks.{Shrinks};
+ghost use Rattle.art_arena.specs.arena.Shapes.{Shape, width};
 ghost use Rattle.art_arena.specs.arena.Steps.{steps_of};
-ghost use Rattle.art_operations.specs.DeletePoints.{IsLeafPlace};
-ghost use Rattle.art_operations.specs.inner.Detached.{IsChildLeaf, IsDetached, StandsFor, StoresNodes};
-ghost use Rattle.art_operations.specs.inner.Removals.{EditsNode, Moves, PutsBack};
+ghost use Rattle.art_operations.specs.inner.Detached.{IsChildPart, IsDetached, StandsFor, StoresNodes};
+ghost use Rattle.art_operations.specs.inner.Removals.{EditsNode, LosesKind, Moves, PutsBack};
 ghost use Rattle.art_operations.specs.Held.{HasInner, SameLinks};
+ghost use Rattle.art_operations.specs.Subtrees.{CanLoseChild, HasRoomAbove, IsPartPlace};
 
 use crate::delete::merge::merge;
-use art_arena::{LeafPtr, NodeArena, NodeEdit, TreePath};
+use art_arena::{NodeArena, NodeEdit, TreePath};
 use art_bytes::AsBytes;
-use art_nodes::{NodeType, OpaqueNodePtr};
+use art_nodes::{NodeType, OpaqueNodePtr, known};
 use std::alloc::AllocError;
 
 // Takes the child under a byte out of a node of three or more, and answers what then stands for the node: one of the
@@ -43,6 +42,9 @@ fn take_child<K, V, const PREFIX_LEN: usize>(
     ensures shrinks { OnErr result ((n : node.InnerNode) → HasInner arena.old parent n
         → CanShrink parent.kind (length (without_child n.children byte))) }
     ensures succeeds { HasRoom arena.old 1 → IsOk result }
+    ensures has_room { ((n : node.InnerNode) → HasInner arena.old parent n
+        → CanShrink parent.kind (length (without_child n.children byte))
+        → HasRoomOf arena.old (shrunk_kind parent.kind) 1) → IsOk result }
     ensures room { UsesRoom 1 arena.old arena.new }
 {
     arena.edit_inner(parent, &NodeEdit::Remove { byte });
@@ -62,30 +64,32 @@ fn take_child<K, V, const PREFIX_LEN: usize>(
     }
 }
 
-// Takes a leaf out of the node above it, and answers what then stands for that node: itself, one of the next smaller
-// kind, or its only other child. It is refused where there is no memory for the smaller one; nothing changes then.
+// Takes a child out of the node above it, with all below it, and answers what then stands for that node: itself, one of
+// the next smaller kind, or its only other child. It is refused where there is no memory for the smaller one; nothing
+// changes then.
 fn take_out<K: AsBytes, V, const PREFIX_LEN: usize>(
     arena: &mut NodeArena<K, V, PREFIX_LEN>,
     parent: OpaqueNodePtr,
     byte: u8,
-    leaf: LeafPtr,
+    child: OpaqueNodePtr,
 ) -> Result<OpaqueNodePtr, AllocError>
-    requires { (rest : List (Name × Cell K V)) × IsChildLeaf K.bytes PREFIX_LEN arena.old rest parent byte leaf }
+    requires { (rest : List (Name × Cell K V)) × IsChildPart K.bytes PREFIX_LEN arena.old rest parent byte child }
     ensures ok { IfOk result (λ other. (rest : List (Name × Cell K V))
-        (there : IsChildLeaf K.bytes PREFIX_LEN arena.old rest parent byte leaf)
-        → StandsFor K.bytes PREFIX_LEN arena.new rest there.frame there.outer there.leaf other) }
+        (there : IsChildPart K.bytes PREFIX_LEN arena.old rest parent byte child)
+        → StandsFor K.bytes PREFIX_LEN arena.new rest there.frame there.outer there.part other) }
     ensures links { SameLinks arena.old arena.new }
     ensures err { OnErr result (SameNodes arena.old arena.new) }
     ensures shrinks { OnErr result ((rest : List (Name × Cell K V))
-        (there : IsChildLeaf K.bytes PREFIX_LEN arena.old rest parent byte leaf)
+        (there : IsChildPart K.bytes PREFIX_LEN arena.old rest parent byte child)
         → ChangesKind (suc (width there.frame.before + width there.frame.after))) }
     ensures succeeds { HasRoom arena.old 1 → IsOk result }
+    ensures has_room { CanLoseChild arena.old parent → IsOk result }
     ensures room { UsesRoom 1 arena.old arena.new }
 {
     if arena.inner(parent).num_children() == 2 {
         return Ok(merge(arena, parent, byte));
     }
-    take_child(arena, parent, byte, leaf.to_opaque())
+    take_child(arena, parent, byte, child)
 }
 
 // Lets another node stand under the byte of a node, if it is another.
@@ -109,29 +113,28 @@ fn point_at<K, V, const PREFIX_LEN: usize>(
     arena.edit_inner(above, &NodeEdit::Write { byte, child: new });
 }
 
-/// Takes a leaf out of the inner nodes above it, and answers the root of what is left, if it isn't the root itself. The
-/// leaf stays in the arena and in the list of leaves. It is refused where the node above it becomes one of the next
-/// smaller kind and there is no memory for that one; nothing changes then.
+/// Takes a part of a tree out of the inner nodes above it, and answers the root of what is left, if it isn't the root
+/// itself. The nodes of the part stay in the arena, and its leaves in the list of leaves. It is refused where the node
+/// above it becomes one of the next smaller kind and there is no memory for that one; nothing changes then.
 pub(crate) fn detach<K: AsBytes, V, const PREFIX_LEN: usize>(
     arena: &mut NodeArena<K, V, PREFIX_LEN>,
     root: OpaqueNodePtr,
     path: TreePath,
-    leaf: LeafPtr,
+    part: OpaqueNodePtr,
 ) -> Result<Option<OpaqueNodePtr>, AllocError>
     requires { (s : Shape K V) × (rest : List (Name × Cell K V))
-        × StoresNodes K.bytes PREFIX_LEN arena.old rest root s × IsLeafPlace K.bytes s leaf (steps_of path) }
+        × StoresNodes K.bytes PREFIX_LEN arena.old rest root s × IsPartPlace K.bytes s part (steps_of path) }
     ensures ok { IfOk result (λ left. (s : Shape K V) (rest : List (Name × Cell K V))
         → StoresNodes K.bytes PREFIX_LEN arena.old rest root s
-        → (place : IsLeafPlace K.bytes s leaf (steps_of path))
-        → IsDetached K.bytes PREFIX_LEN arena.new rest s
-        (record { slot = leaf; key = place.key; value = place.value }) left) }
+        → (place : IsPartPlace K.bytes s part (steps_of path))
+        → IsDetached K.bytes PREFIX_LEN arena.new rest place.ctx place.part left) }
     ensures links { SameLinks arena.old arena.new }
     ensures err { OnErr result (SameNodes arena.old arena.new) }
     ensures shrinks { OnErr result ((s : Shape K V) (rest : List (Name × Cell K V))
         → StoresNodes K.bytes PREFIX_LEN arena.old rest root s
-        → (place : IsLeafPlace K.bytes s leaf (steps_of path))
-        → Shrinks (λ l. K.bytes l.key) (leaves s) (K.bytes place.key)) }
+        → (place : IsPartPlace K.bytes s part (steps_of path)) → LosesKind place.ctx) }
     ensures succeeds { HasRoom arena.old 1 → IsOk result }
+    ensures has_room { HasRoomAbove arena.old (steps_of path) → IsOk result }
     ensures room { UsesRoom 1 arena.old arena.new }
 {
     match path {
@@ -140,7 +143,7 @@ pub(crate) fn detach<K: AsBytes, V, const PREFIX_LEN: usize>(
             parent,
             child_key_byte,
         } => {
-            let left = take_out(arena, parent.to_opaque(), child_key_byte, leaf)?;
+            let left = take_out(arena, parent.to_opaque(), child_key_byte, part)?;
             Ok(Some(left))
         }
         TreePath::Normal {
@@ -150,7 +153,7 @@ pub(crate) fn detach<K: AsBytes, V, const PREFIX_LEN: usize>(
             child_key_byte,
         } => {
             let parent = parent.to_opaque();
-            let left = take_out(arena, parent, child_key_byte, leaf)?;
+            let left = take_out(arena, parent, child_key_byte, part)?;
             point_at(
                 arena,
                 grandparent.to_opaque(),
@@ -159,6 +162,31 @@ pub(crate) fn detach<K: AsBytes, V, const PREFIX_LEN: usize>(
                 left,
             );
             Ok(Some(root))
+        }
+    }
+}
+
+/// The same, where there is room for what the node above the part becomes: it is then never refused.
+pub(crate) fn detach_in_room<K: AsBytes, V, const PREFIX_LEN: usize>(
+    arena: &mut NodeArena<K, V, PREFIX_LEN>,
+    root: OpaqueNodePtr,
+    path: TreePath,
+    part: OpaqueNodePtr,
+) -> Option<OpaqueNodePtr>
+    requires place { (s : Shape K V) × (rest : List (Name × Cell K V))
+        × StoresNodes K.bytes PREFIX_LEN arena.old rest root s × IsPartPlace K.bytes s part (steps_of path) }
+    requires ready { HasRoomAbove arena.old (steps_of path) }
+    ensures left { (s : Shape K V) (rest : List (Name × Cell K V))
+        → StoresNodes K.bytes PREFIX_LEN arena.old rest root s → (place : IsPartPlace K.bytes s part (steps_of path))
+        → IsDetached K.bytes PREFIX_LEN arena.new rest place.ctx place.part result }
+    ensures links { SameLinks arena.old arena.new }
+    ensures room { UsesRoom 1 arena.old arena.new }
+{
+    match detach(arena, root, path, part) {
+        Ok(left) => left,
+        Err(_) => {
+            known(false);
+            unreachable!()
         }
     }
 }

@@ -18,3 +18,6 @@ returns-clause-updates g c n is =
 
 pub returns-clause-room : goal.returns-clause-room
 returns-clause-room g c = g.met.N.Stored.keeps_room c.args.arena.now c.args.ptr c.apply.new.node (rw c.requires.1 refl)
+
+pub returns-clause-room_of : goal.returns-clause-room_of
+returns-clause-room_of g c = g.met.N.Stored.keeps_room_of c.args.arena.now c.args.ptr c.apply.new.node (rw c.requires.1 refl)

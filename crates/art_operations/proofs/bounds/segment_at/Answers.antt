@@ -41,3 +41,11 @@ returns-then-starts_with-clause-few g c = λ path s sub longest short.
 
 pub returns-clause-few : goal.returns-clause-few
 returns-clause-few g c = λ path s sub longest short. let first = c.end_leaf_with-first.ensures.few path s sub longest short in omega (arith, first)
+
+pub returns-then-starts_with-clause-all : goal.returns-then-starts_with-clause-all
+returns-then-starts_with-clause-all g c = λ path s sub conflicts.
+    let first = first_of_part g.K.AsBytes.bytes g.row.PREFIX_LEN c.args.reader.now.arena.now c.args.part path s c.end_leaf_with-first.result.name sub (c.end_leaf_with-first.ensures.value path s sub) in
+    let stored = stored_is g.K.AsBytes.bytes first.there c.end_leaf_with-first.ensures.leaf c.key_ref.ensures c.as_bytes.ensures.value ∙ ap g.K.AsBytes.bytes first.key_is in
+    let begins = begins_of c.starts_with.result _ (g.K.AsBytes.bytes first.first.key) _ c.args.prefix.now stored refl c.starts_with.ensures.value c.if-starts_with.true in
+    let all = begin_all g.K.AsBytes.bytes c.args.prefix.now first.first first.others (subst (AllConflict g.K.AsBytes.bytes c.args.prefix.now) first.are conflicts) first.before begins in
+    ap (passing g.K.AsBytes.bytes (λ k. begins_with c.args.prefix.now k)) first.are ∙ all ∙ sym first.are

@@ -1,5 +1,5 @@
 use Rattle.std.proofs.Common.{lit<}
-use Rattle.art_operations.proofs.FreedAll.{left-start, left-step, left-end}
+use Rattle.art_operations.proofs.FreedAll.{left-start, left-step, left-end, counts_all}
 use Rattle.art_operations.proofs.deallocate.free_nodes.Goals as goal
 
 pub free-init : goal.free-init
@@ -18,21 +18,26 @@ pub free-smaller : goal.free-smaller
 free-smaller g c =
     let r = c.requires in
     let left = c.free.invariant.left r.0 r.1 r.2 in
-    (left-step g.row.PREFIX_LEN c.args.with_leaves c.args.arena.now c.free.arena c.free_one.new.arena r.0 c.free.current c.in-Some.left.root r.1 left (c.in-Some.ensures.freed left.part r.1 left.holds) (c.free_one.ensures.kept left.part r.1 left.holds)).1
+    (left-step g.row.PREFIX_LEN c.args.with_leaves c.args.arena.now c.free.arena c.free_one.new.arena r.0 c.free.current c.in-Some.left.root _ _ r.1 left c.saturating_add-count.ensures (c.in-Some.ensures.freed left.part r.1 left.holds) (c.free_one.ensures.kept left.part r.1 left.holds)).1
 
 pub free-preserved : goal.free-preserved
 free-preserved g c = record {
-  left = λ s rest part. let left = c.free.invariant.left s rest part in (left-step g.row.PREFIX_LEN c.args.with_leaves c.args.arena.now c.free.arena c.free_one.new.arena s c.free.current c.in-Some.left.root rest left (c.in-Some.ensures.freed left.part rest left.holds) (c.free_one.ensures.kept left.part rest left.holds)).0;
+  left = λ s rest part. let left = c.free.invariant.left s rest part in (left-step g.row.PREFIX_LEN c.args.with_leaves c.args.arena.now c.free.arena c.free_one.new.arena s c.free.current c.in-Some.left.root _ _ rest left c.saturating_add-count.ensures (c.in-Some.ensures.freed left.part rest left.holds) (c.free_one.ensures.kept left.part rest left.holds)).0;
   room = λ n room. c.free_one.ensures.room n (c.free.invariant.room n room);
 }
 
 pub returns-in-None-clause-freed : goal.returns-in-None-clause-freed
-returns-in-None-clause-freed g c = λ s rest part. let left = c.free.invariant.left s rest part in c.in-None.ensures.freed left.part rest left.holds
+returns-in-None-clause-freed g c = λ s rest part. let left = c.free.invariant.left s rest part in (c.in-None.ensures.freed left.part rest left.holds).1
+
+pub returns-in-None-clause-value : goal.returns-in-None-clause-value
+returns-in-None-clause-value g c = λ s rest part.
+    let left = c.free.invariant.left s rest part in
+    counts_all _ _ _ _ (c.in-None.ensures.freed left.part rest left.holds).0 left.fewer left.counted c.saturating_add-count.ensures
 
 pub returns-in-None-clause-kept : goal.returns-in-None-clause-kept
 returns-in-None-clause-kept g c = λ s rest part.
     let left = c.free.invariant.left s rest part in
-    left-end g.row.PREFIX_LEN c.args.with_leaves c.args.arena.now c.free.arena c.free_one.new.arena s c.free.current rest left (c.free_one.ensures.kept left.part rest left.holds)
+    left-end g.row.PREFIX_LEN c.args.with_leaves c.args.arena.now c.free.arena c.free_one.new.arena s c.free.current _ rest left (c.free_one.ensures.kept left.part rest left.holds)
 
 pub returns-in-None-clause-room : goal.returns-in-None-clause-room
 returns-in-None-clause-room g c = λ n room. c.free_one.ensures.room n (c.free.invariant.room n room)

@@ -11,7 +11,7 @@ use Rattle.art_operations.proofs.deallocate.free_nodes.Given as goal
 abbrev pub invariant-free : goal.invariant-free
 invariant-free g l = record {
   left : (s : Shape g.row.K.Denot g.row.V.Denot) (rest : List (Name × Cell g.row.K.Denot g.row.V.Denot)) → HoldsPart g.row.PREFIX_LEN l.with_leaves l.fn.arena l.fn.root s rest
-      → IsLeft g.row.PREFIX_LEN l.with_leaves l.fn.arena l.arena s l.current rest;
+      → IsLeft g.row.PREFIX_LEN l.with_leaves l.fn.arena l.arena s l.current l.count rest;
   room : KeepsRoom l.fn.arena l.arena;
 }
 

@@ -1,12 +1,25 @@
 use Rattle.std.proofs.Common.{ℕ, refl, lit<}
 use Rattle.art_operations.proofs.delete.point.DeletePoint.apply.Given.{Over}
-use Rattle.art_arena.specs.arena.Shapes.{LeafAt}
-use Rattle.art_operations.proofs.Deleted.{leaves_in_front, leaves_at_back, still_listed, held_leaf, deleted, kept_beside}
+use Rattle.art_arena.specs.arena.Arena.{links_at}
+use Rattle.art_arena.specs.arena.Context.{leaves_before, leaves_after}
+use Rattle.art_arena.specs.arena.Shapes.{leaf_at, LeafAt}
+use Rattle.art_arena.specs.arena.Steps.{steps_of}
+use Rattle.art_arena.proofs.shapes.LinkedLists.{kept-around}
+use Rattle.art_operations.proofs.Deleted.{part_place, still_listed, all_are, others_left, kept_beside, held_leaf, leaf_freed, leaf_gone, deleted}
 use Rattle.art_operations.proofs.Results.{always_err}
+use Rattle.art_operations.proofs.Shrinking.{place_shrinks}
 use Rattle.art_operations.proofs.delete.point.DeletePoint.apply.Goals as goal
 
+pub detach-requires : goal.detach-requires
+detach-requires g c =
+    let r = c.requires in
+    (lit< tt, (r.0, r.1, r.2.nodes, part_place g.K.AsBytes.bytes r.0 c.args.self.leaf_node_ptr (steps_of c.args.self.path) _ c.to_opaque.ensures r.3))
+
 pub returns-in_err-new_root-clause-shrinks : goal.returns-in_err-new_root-clause-shrinks
-returns-in_err-new_root-clause-shrinks g c = always_err c.from_residual.result _ (λ s rest tree place. c.in_err-new_root.ensures.shrinks s rest tree.nodes place)
+returns-in_err-new_root-clause-shrinks g c =
+    always_err c.from_residual.result _ (λ s rest tree place.
+    place_shrinks g.K.AsBytes.bytes s c.args.self.leaf_node_ptr (steps_of c.args.self.path) tree.nodes.under place
+    (c.in_err-new_root.ensures.shrinks s rest tree.nodes (part_place g.K.AsBytes.bytes s c.args.self.leaf_node_ptr (steps_of c.args.self.path) _ c.to_opaque.ensures place)))
 
 pub returns-clause-room : goal.returns-clause-room
 returns-clause-room g c = λ n room. c.deallocate_node_ptr-deleted_leaf.ensures.room n (c.remove_self.ensures.room n (c.in_ok-new_root.ensures.room n room))
@@ -18,28 +31,52 @@ leaf_of g slot key value = record { slot = slot; key = key; value = value }
 pub remove_self-requires : goal.remove_self-requires
 remove_self-requires g c =
     let r = c.requires in
-    let leaf = leaf_of g c.args.self.leaf_node_ptr r.3.key r.3.value in
-    let apart = c.in_ok-new_root.ensures.ok r.0 r.1 r.2.nodes r.3 in
-    (lit< tt, (leaves_in_front g.K.AsBytes.bytes g.row.PREFIX_LEN c.detach.new.arena r.1 r.0 leaf c.in_ok-new_root.new_root apart, leaf, leaves_at_back g.K.AsBytes.bytes g.row.PREFIX_LEN c.detach.new.arena r.1 r.0 leaf c.in_ok-new_root.new_root apart, still_listed g.K.AsBytes.bytes g.row.PREFIX_LEN c.detach.new.arena r.1 r.0 leaf c.args.arena.now c.args.root r.2 c.in_ok-new_root.ensures.links c.in_ok-new_root.new_root apart, refl))
+    let at = r.3 in
+    (lit< tt, (leaves_before at.ctx, leaf_of g c.args.self.leaf_node_ptr at.key at.value, leaves_after at.ctx, still_listed g.K.AsBytes.bytes g.row.PREFIX_LEN c.detach.new.arena r.1 at.ctx (leaf_at c.args.self.leaf_node_ptr at.key at.value) c.args.arena.now c.args.root r.0 r.2 at.place c.in_ok-new_root.ensures.links, refl))
 
 pub deallocate_node_ptr-deleted_leaf-requires : goal.deallocate_node_ptr-deleted_leaf-requires
 deallocate_node_ptr-deleted_leaf-requires g c =
     let r = c.requires in
-    let there = held_leaf g.K.AsBytes.bytes g.row.PREFIX_LEN c.detach.new.arena r.1 r.0 (leaf_of g c.args.self.leaf_node_ptr r.3.key r.3.value) c.args.arena.now c.args.root r.2 c.in_ok-new_root.ensures.links c.in_ok-new_root.new_root (c.in_ok-new_root.ensures.ok r.0 r.1 r.2.nodes r.3) c.remove_self.new.arena c.remove_self.ensures.nodes in
+    let at = r.3 in
+    let there = held_leaf g.K.AsBytes.bytes g.row.PREFIX_LEN c.detach.new.arena c.remove_self.new.arena r.1 at.ctx c.args.self.leaf_node_ptr at.key at.value c.remove_self.ensures.nodes c.in_ok-new_root.new_root
+    (c.in_ok-new_root.ensures.ok r.0 r.1 r.2.nodes (part_place g.K.AsBytes.bytes r.0 c.args.self.leaf_node_ptr (steps_of c.args.self.path) _ c.to_opaque.ensures at)) in
     (lit< tt, rw there.is refl)
 
 pub returns-clause-ok : goal.returns-clause-ok
-returns-clause-ok g c = λ s rest tree place.
-    let leaf = leaf_of g c.args.self.leaf_node_ptr place.key place.value in
-    let apart = c.in_ok-new_root.ensures.ok s rest tree.nodes place in
-    let linked = c.remove_self.ensures.linked (leaves_in_front g.K.AsBytes.bytes g.row.PREFIX_LEN c.detach.new.arena rest s leaf c.in_ok-new_root.new_root apart) leaf (leaves_at_back g.K.AsBytes.bytes g.row.PREFIX_LEN c.detach.new.arena rest s leaf c.in_ok-new_root.new_root apart) (still_listed g.K.AsBytes.bytes g.row.PREFIX_LEN c.detach.new.arena rest s leaf c.args.arena.now c.args.root tree c.in_ok-new_root.ensures.links c.in_ok-new_root.new_root apart) refl in
-    let d = deleted g.K.AsBytes.bytes g.row.PREFIX_LEN c.detach.new.arena c.remove_self.new.arena c.deallocate_node_ptr-deleted_leaf.new.self s leaf c.args.arena.now c.args.root tree c.in_ok-new_root.ensures.links c.remove_self.ensures.nodes c.deallocate_node_ptr-deleted_leaf.result c.deallocate_node_ptr-deleted_leaf.ensures.value c.deallocate_node_ptr-deleted_leaf.ensures.updates c.in_ok-new_root.new_root apart linked in
+returns-clause-ok g c = λ s rest tree at.
+    let slot = c.args.self.leaf_node_ptr in
+    let part = leaf_at slot at.key at.value in
+    let left = c.in_ok-new_root.new_root in
+    let apart = c.in_ok-new_root.ensures.ok s rest tree.nodes (part_place g.K.AsBytes.bytes s slot (steps_of c.args.self.path) _ c.to_opaque.ensures at) in
+    let kept = c.in_ok-new_root.ensures.links in
+    let listed = still_listed g.K.AsBytes.bytes g.row.PREFIX_LEN c.detach.new.arena rest at.ctx part c.args.arena.now c.args.root s tree at.place kept in
+    let linked = c.remove_self.ensures.linked (leaves_before at.ctx) (leaf_of g slot at.key at.value) (leaves_after at.ctx) listed refl in
+    let same = c.remove_self.ensures.nodes in
+    let new = c.deallocate_node_ptr-deleted_leaf.new.self in
+    let node = c.deallocate_node_ptr-deleted_leaf.result in
+    let taken = c.deallocate_node_ptr-deleted_leaf.ensures.value in
+    let gone = c.deallocate_node_ptr-deleted_leaf.ensures.updates in
+    let freed = leaf_freed g.K.AsBytes.bytes g.row.PREFIX_LEN c.detach.new.arena c.remove_self.new.arena rest at.ctx slot at.key at.value same left apart new node taken gone in
+    let lost = leaf_gone g.K.AsBytes.bytes g.row.PREFIX_LEN c.detach.new.arena c.remove_self.new.arena rest at.ctx slot at.key at.value same left apart new node taken gone in
+    let others = others_left g.K.AsBytes.bytes g.row.PREFIX_LEN c.detach.new.arena rest at.ctx part c.args.arena.now c.args.root s tree at.place kept c.remove_self.new.arena new lost left apart linked freed in
+    let all = all_are g.K.AsBytes.bytes g.row.PREFIX_LEN c.detach.new.arena rest at.ctx part c.args.arena.now c.args.root s tree at.place kept in
+    let d = deleted g.K.AsBytes.bytes g.row.PREFIX_LEN c.detach.new.arena c.remove_self.new.arena rest at.ctx slot at.key at.value same left apart new node taken gone s all others in
     rw (c.set_next.ensures, c.set_previous.ensures) (record { front = d.front; back = d.back; was = d.was; left = d.left })
 
 pub returns-clause-others : goal.returns-clause-others
-returns-clause-others g c = λ s rest tree place.
-    let leaf = leaf_of g c.args.self.leaf_node_ptr place.key place.value in
-    let apart = c.in_ok-new_root.ensures.ok s rest tree.nodes place in
-    let linked = c.remove_self.ensures.linked (leaves_in_front g.K.AsBytes.bytes g.row.PREFIX_LEN c.detach.new.arena rest s leaf c.in_ok-new_root.new_root apart) leaf (leaves_at_back g.K.AsBytes.bytes g.row.PREFIX_LEN c.detach.new.arena rest s leaf c.in_ok-new_root.new_root apart) (still_listed g.K.AsBytes.bytes g.row.PREFIX_LEN c.detach.new.arena rest s leaf c.args.arena.now c.args.root tree c.in_ok-new_root.ensures.links c.in_ok-new_root.new_root apart) refl in
-    kept_beside g.K.AsBytes.bytes g.row.PREFIX_LEN c.detach.new.arena c.remove_self.new.arena c.deallocate_node_ptr-deleted_leaf.new.self s leaf c.args.arena.now c.args.root tree c.in_ok-new_root.ensures.links c.remove_self.ensures.nodes c.deallocate_node_ptr-deleted_leaf.result
-    c.deallocate_node_ptr-deleted_leaf.ensures.value c.deallocate_node_ptr-deleted_leaf.ensures.updates c.in_ok-new_root.new_root apart linked c.remove_self.ensures.others
+returns-clause-others g c = λ s rest tree at.
+    let slot = c.args.self.leaf_node_ptr in
+    let part = leaf_at slot at.key at.value in
+    let left = c.in_ok-new_root.new_root in
+    let apart = c.in_ok-new_root.ensures.ok s rest tree.nodes (part_place g.K.AsBytes.bytes s slot (steps_of c.args.self.path) _ c.to_opaque.ensures at) in
+    let kept = c.in_ok-new_root.ensures.links in
+    let listed = still_listed g.K.AsBytes.bytes g.row.PREFIX_LEN c.detach.new.arena rest at.ctx part c.args.arena.now c.args.root s tree at.place kept in
+    let same = c.remove_self.ensures.nodes in
+    let new = c.deallocate_node_ptr-deleted_leaf.new.self in
+    let node = c.deallocate_node_ptr-deleted_leaf.result in
+    let taken = c.deallocate_node_ptr-deleted_leaf.ensures.value in
+    let gone = c.deallocate_node_ptr-deleted_leaf.ensures.updates in
+    let freed = leaf_freed g.K.AsBytes.bytes g.row.PREFIX_LEN c.detach.new.arena c.remove_self.new.arena rest at.ctx slot at.key at.value same left apart new node taken gone in
+    let lost = leaf_gone g.K.AsBytes.bytes g.row.PREFIX_LEN c.detach.new.arena c.remove_self.new.arena rest at.ctx slot at.key at.value same left apart new node taken gone in
+    kept_beside g.K.AsBytes.bytes g.row.PREFIX_LEN c.detach.new.arena rest at.ctx part c.args.arena.now c.args.root s tree at.place kept c.remove_self.new.arena new lost left apart freed
+    (kept-around (links_at c.detach.new.arena) (links_at c.remove_self.new.arena) (leaves_before at.ctx) (leaf_of g slot at.key at.value) (leaves_after at.ctx) slot refl listed.linked c.remove_self.ensures.others)

@@ -1,0 +1,55 @@
+use Rattle.std.proofs.Common.{None, subst, sym, arith}
+use Rattle.art_arena.specs.arena.Arena.{node_at}
+use Rattle.art_arena.specs.arena.Context.{path_to}
+use Rattle.art_arena.specs.arena.Meaning.{IsSubtree}
+use Rattle.art_arena.specs.arena.Shapes.{leaves}
+use Rattle.art_arena.specs.tree.Tenants.{begins_with}
+use Rattle.art_arena.proofs.shapes.Reads.{part_within}
+use Rattle.art_arena.proofs.shapes.Walking.{place-subtree}
+use Rattle.art_operations.proofs.FoundParts.{conflict_point, found_leaf, leaf_root}
+use Rattle.art_operations.proofs.Openings.{part_reads}
+use Rattle.art_operations.proofs.Segments.{begin_in, ends_same}
+use Rattle.art_operations.proofs.delete.subtree.search_for_subtree_delete_point.Goals as goal
+
+pub returns-in-Ok-clause-answer : goal.returns-in-Ok-clause-answer
+returns-in-Ok-clause-answer g c = λ s stores.
+    let answer = c.in-Ok.ensures.answer s stores in
+    found_leaf g.K.AsBytes.bytes c.args.prefix.now s c.args.root stores.part.named c.in-Ok.point c.leaf_part.result answer.0 answer.1 c.leaf_part.ensures
+
+pub returns-in-Ok-clause-root : goal.returns-in-Ok-clause-root
+returns-in-Ok-clause-root g c = leaf_root c.args.root c.in-Ok.point c.leaf_part.result c.leaf_part.ensures
+
+pub returns-in-Ok-clause-few : goal.returns-in-Ok-clause-few
+returns-in-Ok-clause-few g c = λ s stores longest short.
+    part_reads longest c.args.prefix.now c.args.reader.now.count c.find_insert_point_with.new.reader.count c.find_insert_point_with.new.reader.count (c.in-Ok.ensures.few s stores longest short) (omega arith)
+
+pub segment_at-requires : goal.segment_at-requires
+segment_at-requires g c =
+    let r = c.requires in
+    let way = c.in-Err.ensures.part r.0 r.1 in
+    (omega arith, (path_to way.ctx, way.part, (subst (λ a. IsSubtree g.K.AsBytes.bytes g.row.PREFIX_LEN (node_at a) c.in-Err.conflict.part (path_to way.ctx) way.part) (sym c.in-Err.ensures.kept) (subst (λ n. IsSubtree g.K.AsBytes.bytes g.row.PREFIX_LEN (node_at c.args.reader.now.arena.now) n (path_to way.ctx) way.part) way.here (place-subtree g.K.AsBytes.bytes g.row.PREFIX_LEN (node_at c.args.reader.now.arena.now) c.args.root r.0 way.ctx way.part r.1 way.toward.place)))))
+
+pub returns-in_default-clause-answer : goal.returns-in_default-clause-answer
+returns-in_default-clause-answer g c = λ s stores.
+    let way = c.in-Err.ensures.part s stores in
+    ends_same g.K.AsBytes.bytes (λ k. begins_with c.args.prefix.now k) (leaves s) (leaves way.part) None (begin_in g.K.AsBytes.bytes c.args.prefix.now s way.part way.ctx way.toward.place way.toward.begins)
+    (c.in_default.ensures.value (path_to way.ctx) way.part (subst (λ a. IsSubtree g.K.AsBytes.bytes g.row.PREFIX_LEN (node_at a) c.in-Err.conflict.part (path_to way.ctx) way.part) (sym c.in-Err.ensures.kept) (subst (λ n. IsSubtree g.K.AsBytes.bytes g.row.PREFIX_LEN (node_at c.args.reader.now.arena.now) n (path_to way.ctx) way.part) way.here (place-subtree g.K.AsBytes.bytes g.row.PREFIX_LEN (node_at c.args.reader.now.arena.now) c.args.root s way.ctx way.part stores way.toward.place))) way.conflicts)
+
+pub returns-in_default-clause-few : goal.returns-in_default-clause-few
+returns-in_default-clause-few g c = λ s stores longest short.
+    let way = c.in-Err.ensures.part s stores in
+    part_reads longest c.args.prefix.now c.args.reader.now.count c.find_insert_point_with.new.reader.count c.segment_at.new.reader.count (c.in-Err.ensures.few s stores longest short)
+    (c.segment_at.ensures.few (path_to way.ctx) way.part (subst (λ a. IsSubtree g.K.AsBytes.bytes g.row.PREFIX_LEN (node_at a) c.in-Err.conflict.part (path_to way.ctx) way.part) (sym c.in-Err.ensures.kept) (subst (λ n. IsSubtree g.K.AsBytes.bytes g.row.PREFIX_LEN (node_at c.args.reader.now.arena.now) n (path_to way.ctx) way.part) way.here (place-subtree g.K.AsBytes.bytes g.row.PREFIX_LEN (node_at c.args.reader.now.arena.now) c.args.root s way.ctx way.part stores way.toward.place))) longest (part_within g.K.AsBytes.bytes longest s way.ctx way.part way.toward.place.is short))
+
+pub returns-clause-answer : goal.returns-clause-answer
+returns-clause-answer g c = λ s stores.
+    let way = c.in-Err.ensures.part s stores in
+    conflict_point g.K.AsBytes.bytes c.args.prefix.now s c.args.root stores.part.named c.in-Err.conflict.root c.in-Err.conflict.part c.in-Err.conflict.path c.in-Some.ends.0 c.in-Some.ends.1 way
+    (c.in-Some.ensures.value (path_to way.ctx) way.part (subst (λ a. IsSubtree g.K.AsBytes.bytes g.row.PREFIX_LEN (node_at a) c.in-Err.conflict.part (path_to way.ctx) way.part) (sym c.in-Err.ensures.kept) (subst (λ n. IsSubtree g.K.AsBytes.bytes g.row.PREFIX_LEN (node_at c.args.reader.now.arena.now) n (path_to way.ctx) way.part) way.here (place-subtree g.K.AsBytes.bytes g.row.PREFIX_LEN (node_at c.args.reader.now.arena.now) c.args.root s way.ctx way.part stores way.toward.place))) way.conflicts)
+    (c.in-Some.ensures.all (path_to way.ctx) way.part (subst (λ a. IsSubtree g.K.AsBytes.bytes g.row.PREFIX_LEN (node_at a) c.in-Err.conflict.part (path_to way.ctx) way.part) (sym c.in-Err.ensures.kept) (subst (λ n. IsSubtree g.K.AsBytes.bytes g.row.PREFIX_LEN (node_at c.args.reader.now.arena.now) n (path_to way.ctx) way.part) way.here (place-subtree g.K.AsBytes.bytes g.row.PREFIX_LEN (node_at c.args.reader.now.arena.now) c.args.root s way.ctx way.part stores way.toward.place))) way.conflicts)
+
+pub returns-clause-few : goal.returns-clause-few
+returns-clause-few g c = λ s stores longest short.
+    let way = c.in-Err.ensures.part s stores in
+    part_reads longest c.args.prefix.now c.args.reader.now.count c.find_insert_point_with.new.reader.count c.segment_at.new.reader.count (c.in-Err.ensures.few s stores longest short)
+    (c.segment_at.ensures.few (path_to way.ctx) way.part (subst (λ a. IsSubtree g.K.AsBytes.bytes g.row.PREFIX_LEN (node_at a) c.in-Err.conflict.part (path_to way.ctx) way.part) (sym c.in-Err.ensures.kept) (subst (λ n. IsSubtree g.K.AsBytes.bytes g.row.PREFIX_LEN (node_at c.args.reader.now.arena.now) n (path_to way.ctx) way.part) way.here (place-subtree g.K.AsBytes.bytes g.row.PREFIX_LEN (node_at c.args.reader.now.arena.now) c.args.root s way.ctx way.part stores way.toward.place))) longest (part_within g.K.AsBytes.bytes longest s way.ctx way.part way.toward.place.is short))

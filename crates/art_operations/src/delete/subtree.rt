@@ -1,0 +1,200 @@
+//! The part of a tree whose keys begin with a prefix is deleted in one cut: it is found, room is made for what the cut
+//! needs, and then it goes.
+ghost use Rattle.std.specs.Prelude.{◌≡◌, ◌≢◌, ◌+◌, ◌-◌, ◌*◌, ◌≤◌, ℕ, List, length};
+ghost use Rattle.std.specs.Prelude.{IfOk, IfSome, IsOk, MatchOption, OnErr, OnOk};
+ghost use Rattle.art_nodes.specs.Name.{Name};
+ghost use Rattle.art_nodes.specs.InnerNode as node;
+ghost use Rattle.art_nodes.specs.Kind.{CanShrink};
+ghost use Rattle.art_arena.specs.arena.Arena.{HasRoom, KeepsNodes, KeepsRoom, SameNodes, UsesRoom};
+ghost use Rattle.art_arena.specs.arena.Shapes.{leaves};
+ghost use Rattle.art_arena.specs.arena.Steps.{steps_of};
+ghost use Rattle.art_operations.specs.Held.{HasInner};
+ghost use Rattle.art_operations.specs.Openings.{ForLongest, OpeningReads};
+ghost use Rattle.art_operations.specs.Subtrees.{CanLoseChild, HasRoomAbove, IsCutBeside, IsSubtreeAnswer};
+ghost use Rattle.art_operations.specs.Subtrees.{IsSubtreePoint, ShrinksWithout};
+ghost use Rattle.art_operations.specs.declared.insert.point.InsertKind.TheVariants as kind;
+ghost use Rattle.art_operations.specs.inner.LeafParts.{IsLeafPart};
+ghost use Rattle.art_operations.specs.Whichever.{HasTree, HasTreeWhere, OfTree, OfTreeWhere};
+
+use crate::bounds::segment_at;
+use crate::deallocate::free_tree;
+use crate::delete::detach::detach_in_room;
+use crate::insert::point::{InsertPoint, find_insert_point_with};
+use crate::parent::last_step;
+use art_arena::links::remove_segment;
+use art_arena::{ArenaReader, LeafPtr, NodeArena, TreePath};
+use art_bytes::AsBytes;
+use art_nodes::{NodeType, OpaqueNodePtr};
+use std::alloc::AllocError;
+
+/// The part of a tree that has the leaves whose keys begin with a prefix, and no others.
+#[derive(Clone, Copy, Debug)]
+pub struct SubtreeDeletePoint {
+    /// The root of the tree.
+    pub root: OpaqueNodePtr,
+    /// The inner nodes just above the part.
+    pub path: TreePath,
+    /// The root of the part.
+    pub subtree: OpaqueNodePtr,
+    /// The first leaf of the part.
+    pub first_leaf: LeafPtr,
+    /// The last leaf of the part.
+    pub last_leaf: LeafPtr,
+}
+
+/// A part that can be deleted with no more memory.
+#[derive(Debug, Drop)]
+pub struct PreparedSubtreeDelete {
+    /// The part.
+    pub point: SubtreeDeletePoint,
+}
+
+/// What the deletion of a part answers.
+#[derive(Clone, Copy, Debug)]
+pub struct SubtreeDeleteResult {
+    /// The root of the tree without the part, if a leaf is left.
+    pub new_root: Option<OpaqueNodePtr>,
+    /// How many leaves the part had.
+    pub leafs_removed: usize,
+    /// How many nodes the part had, its leaves among them: fewer than twice as many as leaves. A count that reaches the
+    /// greatest number stays there.
+    pub nodes_freed: u64,
+}
+
+// The leaf that has the key of a point, as a part, if there is one.
+fn leaf_part(root: OpaqueNodePtr, point: InsertPoint) -> Option<SubtreeDeletePoint>
+    ensures { MatchOption result ((slot : ℕ) → point.insert_kind ≡ kind.Exact slot → ⊥)
+        (λ part. IsLeafPart root point part) }
+{
+    let path = point.path;
+    match point.stored_leaf() {
+        Some(leaf) => Some(SubtreeDeletePoint {
+            root,
+            path,
+            subtree: leaf.to_opaque(),
+            first_leaf: leaf,
+            last_leaf: leaf,
+        }),
+        None => None,
+    }
+}
+
+/// Finds the part of the tree below a name whose keys begin with a prefix; there is none where no key does. The prefix
+/// need not end where a node's does. Each node that is read is counted by the reader: they are at most as many as the
+/// longest key and two have, for each byte of the prefix and for six. It takes no memory.
+pub fn search_for_subtree_delete_point<K: AsBytes, V, const PREFIX_LEN: usize>(
+    reader: &mut ArenaReader<'_, K, V, PREFIX_LEN>,
+    root: OpaqueNodePtr,
+    prefix: &[u8],
+) -> Option<SubtreeDeletePoint>
+    requires { HasTree K.bytes PREFIX_LEN reader.old.arena.now root }
+    ensures answer { OfTree K.bytes PREFIX_LEN reader.old.arena.now root
+        (λ s. IsSubtreeAnswer K.bytes prefix.now s result) }
+    ensures root { IfSome result (λ point. point.root ≡ root) }
+    ensures kept { reader.new.arena.now ≡ reader.old.arena.now }
+    ensures few { OfTree K.bytes PREFIX_LEN reader.old.arena.now root (λ s. ForLongest K.bytes s
+        (λ longest. OpeningReads longest (length prefix.now) reader.old.count reader.new.count)) }
+{
+    let conflict = match find_insert_point_with(reader, root, prefix) {
+        Ok(point) => return leaf_part(root, point),
+        Err(conflict) => conflict,
+    };
+    let Some(ends) = segment_at(reader, conflict.part, prefix) else {
+        return None;
+    };
+    Some(SubtreeDeletePoint {
+        root,
+        path: conflict.path,
+        subtree: conflict.part,
+        first_leaf: ends.0,
+        last_leaf: ends.1,
+    })
+}
+
+// Makes room for what an inner node becomes without one of its children, where that is one of the next smaller kind.
+fn make_room<K, V, const PREFIX_LEN: usize>(
+    arena: &mut NodeArena<K, V, PREFIX_LEN>,
+    parent: OpaqueNodePtr,
+) -> Result<(), AllocError>
+    requires inner { parent.kind ≢ NodeType.Leaf }
+    requires held { (n : node.InnerNode) × HasInner arena.old parent n × (1 ≤ length n.children) }
+    ensures room { OnOk result (CanLoseChild arena.new parent) }
+    ensures shrinks { OnErr result ((n : node.InnerNode) → HasInner arena.old parent n
+        → CanShrink parent.kind (length n.children - 1)) }
+    ensures succeeds { HasRoom arena.old 1 → IsOk result }
+    ensures kept_room { KeepsRoom arena.old arena.new }
+    ensures kept { SameNodes arena.old arena.new }
+{
+    let kind = parent.node_type();
+    let left = arena.inner(parent).num_children() - 1;
+    if !kind.should_shrink_inner_node(left) {
+        return Ok(());
+    }
+    match kind.row().smaller {
+        Some(smaller) => arena.reserve_kind(smaller, 1),
+        None => Ok(()),
+    }
+}
+
+impl SubtreeDeletePoint {
+    /// Makes room for what the deletion of the part needs, which was found in the tree of this arena. No name changes,
+    /// and what room there was stays.
+    ///
+    /// It is refused only where the loss of the part makes the node above it one of the next smaller kind, and there is
+    /// no memory for that one. A part that is the whole tree needs none.
+    pub fn prepare<K: AsBytes, V, const PREFIX_LEN: usize>(
+        self,
+        arena: &mut NodeArena<K, V, PREFIX_LEN>,
+    ) -> Result<PreparedSubtreeDelete, AllocError>
+        requires { (front : List ℕ)
+            × HasTreeWhere K.bytes PREFIX_LEN arena.old self.root (λ s. IsSubtreePoint K.bytes front s self) }
+        ensures point { IfOk result (λ prepared. prepared.point ≡ self) }
+        ensures ready { OnOk result (HasRoomAbove arena.new (steps_of self.path)) }
+        ensures shrinks { OnErr result ((front : List ℕ) → OfTreeWhere K.bytes PREFIX_LEN arena.old self.root
+            (λ s. IsSubtreePoint K.bytes front s self)
+            (λ s rest. ShrinksWithout (λ l. K.bytes l.key) (leaves s) front)) }
+        ensures succeeds { HasRoom arena.old 1 → IsOk result }
+        ensures kept_room { KeepsRoom arena.old arena.new }
+        ensures kept { SameNodes arena.old arena.new }
+    {
+        let Some(step) = last_step(self.path) else {
+            return Ok(PreparedSubtreeDelete { point: self });
+        };
+        make_room(arena, step.0)?;
+        Ok(PreparedSubtreeDelete { point: self })
+    }
+}
+
+impl PreparedSubtreeDelete {
+    /// Takes the part out of the tree, in which it was found and for which room was made, and frees its nodes. It is
+    /// never refused. The leaves that stay keep their names, and whatever stands beside the tree stays as it is.
+    pub fn apply<K: AsBytes + Drop, V: Drop, const PREFIX_LEN: usize>(
+        self,
+        arena: &mut NodeArena<K, V, PREFIX_LEN>,
+    ) -> SubtreeDeleteResult
+        requires place { (front : List ℕ) × HasTreeWhere K.bytes PREFIX_LEN arena.old self.point.root
+            (λ s. IsSubtreePoint K.bytes front s self.point) }
+        requires ready { HasRoomAbove arena.old (steps_of self.point.path) }
+        ensures cut { (front : List ℕ) → OfTreeWhere K.bytes PREFIX_LEN arena.old self.point.root
+            (λ s. IsSubtreePoint K.bytes front s self.point)
+            (λ s rest. IsCutBeside K.bytes front PREFIX_LEN arena.new rest s result) }
+        ensures others { (front : List ℕ) → OfTreeWhere K.bytes PREFIX_LEN arena.old self.point.root
+            (λ s. IsSubtreePoint K.bytes front s self.point) (λ s rest. KeepsNodes rest arena.old arena.new) }
+        ensures all_freed { result.leafs_removed ≤ result.nodes_freed }
+        ensures few_freed { result.nodes_freed + 1 ≤ 2 * result.leafs_removed }
+        ensures room { UsesRoom 1 arena.old arena.new }
+    {
+        let point = self.point;
+        let new_root = detach_in_room(arena, point.root, point.path, point.subtree);
+        remove_segment(arena, point.first_leaf, point.last_leaf);
+        let freed = free_tree(arena, point.subtree);
+        SubtreeDeleteResult {
+            new_root,
+            leafs_removed: freed.leaves,
+            nodes_freed: freed.nodes,
+        }
+    }
+
+    /// Leaves the tree as it is. The room that was made stays with the arena, for nodes to come.
+    pub fn abandon(self) {}
+}
