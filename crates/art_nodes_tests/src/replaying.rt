@@ -110,8 +110,16 @@ fn border_bytes_stay_in_every_kind(rt: HostRuntime) -> Result<(), AllocError> {
     Ok(())
 }
 
+// A range over all borders but the first and the last, and both ends.
+fn push_reads(commands: &mut Vec<ChildCommand>) -> Result<(), AllocError> {
+    commands.push(ChildCommand::Range(Bound::Excluded(62), Bound::Excluded(193)))?;
+    commands.push(ChildCommand::Min)?;
+    commands.push(ChildCommand::Max)?;
+    Ok(())
+}
+
 #[test]
-fn ranges_at_each_growth(rt: HostRuntime) -> Result<(), AllocError> {
+fn ranges_at_each_growth_and_back(rt: HostRuntime) -> Result<(), AllocError> {
     let borders = [0u8, 63, 64, 127, 128, 191, 192, 255];
     let mut commands = Vec::new(rt.alloc());
     for byte in borders {
@@ -121,9 +129,14 @@ fn ranges_at_each_growth(rt: HostRuntime) -> Result<(), AllocError> {
     for other in 1..=41u8 {
         commands.push(ChildCommand::Write(other, leaf(other)))?;
         if matches!(other, 8 | 9 | 40 | 41) {
-            commands.push(ChildCommand::Range(Bound::Excluded(62), Bound::Excluded(193)))?;
-            commands.push(ChildCommand::Min)?;
-            commands.push(ChildCommand::Max)?;
+            push_reads(&mut commands)?;
+        }
+    }
+    // Without the last of them there are 48 again, with 9, with 8 and with none of them 17, 16 and 8.
+    for gone in 0..=40u8 {
+        commands.push(ChildCommand::Remove(41 - gone))?;
+        if matches!(gone, 0 | 31 | 32 | 40) {
+            push_reads(&mut commands)?;
         }
     }
     let answers = replay(rt.alloc(), commands.as_slice())?;
@@ -145,7 +158,7 @@ fn ranges_at_each_growth(rt: HostRuntime) -> Result<(), AllocError> {
             _ => {}
         }
     }
-    assert_eq!(rt; ranges, 4);
+    assert_eq!(rt; ranges, 8);
     Ok(())
 }
 
