@@ -1,0 +1,39 @@
+-- That an arena holds one tree, by its pairs or by its shape, and what keeps that so.
+use Rattle.std.proofs.Common.{◌≡◌, ℕ, List, [], ◌++◌, Option, Some, None, refl, subst}
+use Rattle.art_nodes.specs.Name.{Name}
+use Rattle.art_arena.specs.arena.Arena.{Arena, node_at, SameNodes}
+use Rattle.art_arena.specs.arena.Cells.{HoldsOnly}
+use Rattle.art_arena.specs.arena.Shapes.{Shape, leaves, pairs_of}
+use Rattle.art_arena.specs.arena.Stores.{StoresOnly}
+use Rattle.art_operations.specs.Deletions.{IsDeleted}
+use Rattle.art_operations.specs.Pairs.{HasPairs}
+use Rattle.art_operations.specs.Runs.{HoldsTreeOf}
+use Rattle.art_operations.specs.declared.delete.result.DeleteResult.{DeleteResult}
+use Rattle.art_operations.proofs.HeldPairs.{leaves-pairs, pairs-same}
+
+module _ {K V : Type 0} (bytes : K → List ℕ) (P : ℕ) where
+  -- it has some pairs, and nothing else
+  abbrev pub HasSomePairs : Arena K V → Option Name → Type 0
+  HasSomePairs arena root = (pairs : List (K × V)) × HasPairs bytes P arena root pairs
+
+  pub kept : (old new : Arena K V) → SameNodes old new → (root : Option Name) → HasSomePairs old root → HasSomePairs new root
+  kept old new same root has = (has.0, pairs-same bytes P old new same root has.0 has.1)
+
+  pub of-shape : (arena : Arena K V) (root : Name) (s : Shape K V) → StoresOnly bytes P arena root s → HasSomePairs arena (Some root)
+  of-shape arena root s tree = (pairs_of (leaves s), (s, tree, refl))
+
+  pub shape-of : (arena : Arena K V) (root : Option Name) (top : Name) → root ≡ Some top → HasSomePairs arena root → (s : Shape K V) × StoresOnly bytes P arena top s
+  shape-of arena root top is has =
+      let there : HasPairs bytes P arena (Some top) has.0 = subst (λ r. HasPairs bytes P arena r has.0) is has.1 in
+      (there.0, there.1)
+
+  pub of-deleted : (arena : Arena K V) (s : Shape K V) (slot : ℕ) (deleted : DeleteResult K V) → IsDeleted bytes P arena s slot deleted → HasSomePairs arena deleted.new_root
+  of-deleted arena s slot deleted is =
+      (pairs_of (is.front ++ is.back), leaves-pairs bytes P arena [] deleted.new_root (is.front ++ is.back) (pairs_of (is.front ++ is.back)) refl is.left)
+
+  pub of-tree : (arena : Arena K V) (root : Option Name) (pairs : List (K × V)) → HoldsTreeOf bytes P arena root pairs → HasSomePairs arena root
+  of-tree arena None pairs (e, empty) = ([], (refl, empty))
+  of-tree arena (Some root) pairs (t, e, means) = (pairs_of (leaves means.shape), (means.shape, means.is_tree, refl))
+
+  pub of-none : (arena : Arena K V) → HoldsOnly (node_at arena) [] → HasSomePairs arena None
+  of-none arena empty = ([], (refl, empty))

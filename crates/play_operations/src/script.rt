@@ -1,0 +1,150 @@
+// The lines of a script. Room for a line and for the bytes that it names is taken before the first, so that a line
+// asks for no memory until its call is made.
+
+use std::alloc::{AllocError, Global};
+use std::io::{Read, Stdin};
+use std::ops::Bound;
+use std::{io, str};
+
+/// The longest line, and the most bytes that it names.
+const ROOM: usize = 250_000;
+
+/// The script, and the line that was read last.
+#[derive(Drop)]
+pub struct Script {
+    stdin: Stdin,
+    line: Vec<u8>,
+    first: Vec<u8>,
+    second: Vec<u8>,
+}
+
+/// What a line asks for: its words, and the bytes that the first two behind the call's name.
+#[derive(Drop)]
+pub struct Asked<'a> {
+    pub call: &'a str,
+    pub words: [&'a str; 4],
+    pub first: &'a [u8],
+    pub second: &'a [u8],
+}
+
+/// The value of a digit, and 0 of what is none.
+fn digit(byte: u8) -> u8 {
+    match byte {
+        b'0'..=b'9' => byte - b'0',
+        b'a'..=b'f' => byte - b'a' + 10,
+        _ => 0,
+    }
+}
+
+// Adds the bytes of a part, as `aa` or `aa*20`.
+fn add_part(part: &str, bytes: &mut Vec<u8>) -> Result<(), AllocError> {
+    let (digits, times) = match part.split_once('*') {
+        Some((digits, times)) => (digits, times.parse::<usize>().unwrap_or(0)),
+        None => (part, 1),
+    };
+    for _ in 0..times {
+        let mut each = digits.bytes();
+        for _ in 0..digits.len() / 2 {
+            let high = digit(each.next().unwrap_or(0));
+            let low = digit(each.next().unwrap_or(0));
+            bytes.push(high.wrapping_mul(16).wrapping_add(low))?;
+        }
+    }
+    Ok(())
+}
+
+// Reads bytes, with the sign of a bound before them or without.
+fn read_bytes(text: &str, bytes: &mut Vec<u8>) -> Result<(), AllocError> {
+    bytes.clear();
+    let digits = text.trim_start_matches(['[', '(']);
+    for part in digits.split('.') {
+        add_part(part, bytes)?;
+    }
+    Ok(())
+}
+
+impl Script {
+    pub fn new(alloc: Global, stdin: Stdin) -> Result<Script, AllocError> {
+        Ok(Script {
+            stdin,
+            line: Vec::with_capacity(alloc, ROOM)?,
+            first: Vec::with_capacity(alloc, ROOM)?,
+            second: Vec::with_capacity(alloc, ROOM)?,
+        })
+    }
+
+    /// Reads a line, byte by byte: false at the end of the input. What stands behind its last newline is left out.
+    pub fn read(&mut self) -> io::Result<bool> {
+        self.line.clear();
+        let mut byte = [0u8];
+        for _ in 0..ROOM {
+            if self.stdin.read(&mut byte)? == 0 {
+                return Ok(false);
+            }
+            if byte[0] == b'\n' {
+                self.read_words()?;
+                return Ok(true);
+            }
+            self.line.push(byte[0])?;
+        }
+        Ok(false)
+    }
+
+    /// The line that was read last.
+    pub fn line(&self) -> &str {
+        str::from_utf8(self.line.as_slice()).unwrap_or("")
+    }
+
+    // Reads the bytes that the second and the third word of the line name.
+    fn read_words(&mut self) -> io::Result<()> {
+        let line = str::from_utf8(self.line.as_slice()).unwrap_or("");
+        let mut words = line.split(' ');
+        let _call = words.next();
+        read_bytes(words.next().unwrap_or(""), &mut self.first)?;
+        read_bytes(words.next().unwrap_or(""), &mut self.second)?;
+        Ok(())
+    }
+
+    /// What the line that was read last asks for.
+    pub fn asked(&self) -> Asked<'_> {
+        let mut words = self.line().split(' ');
+        let call = words.next().unwrap_or("");
+        let [first, second] = [words.next().unwrap_or(""), words.next().unwrap_or("")];
+        let [third, fourth] = [words.next().unwrap_or(""), words.next().unwrap_or("")];
+        Asked {
+            call,
+            words: [first, second, third, fourth],
+            first: self.first.as_slice(),
+            second: self.second.as_slice(),
+        }
+    }
+}
+
+impl Asked<'_> {
+    /// The number that a word is, and 0 where it is none.
+    pub fn number(&self, at: usize) -> u64 {
+        match self.words.get(at) {
+            Some(word) => word.parse().unwrap_or(0),
+            None => 0,
+        }
+    }
+
+    /// The same as a byte, and 0 where it is above that.
+    pub fn byte(&self, at: usize) -> u8 {
+        u8::try_from(self.number(at)).unwrap_or(0)
+    }
+
+    /// The same as a count or a place.
+    pub fn size(&self, at: usize) -> usize {
+        self.number(at) as usize
+    }
+}
+
+/// A bound, as a word tells it.
+pub fn bound_of<'a>(word: &str, key: &'a [u8]) -> Bound<&'a [u8]> {
+    match word.bytes().next() {
+        Some(b'[') => Bound::Included(key),
+        Some(b'(') => Bound::Excluded(key),
+        _ => Bound::Unbounded,
+    }
+}

@@ -1,0 +1,710 @@
+#!/usr/bin/env python3
+"""Plays scripts of calls of the tree and its nodes through play_operations, and holds what it prints against a model.
+
+    tests/operations.py [WORD]           at the top of the repository, after rt ci; WORD: only scripts with it in a name
+    tests/operations.py --show N FILE    prints what the model answers to a script, where N bytes of a prefix are stored
+The scripts of tests/operations/ are worked rows; others are made at random from fixed seeds. Each is played over three
+lengths of stored prefixes, by the program as both compilers make it. The model keeps sorted pairs, and makes the tree
+that they should have from its definition. Behind the line `by_hand` it keeps nodes as they were made by hand, damaged
+at random or not, and tells by the definition whether they are a tree, and which faults stand.
+"""
+import os
+import random
+import subprocess
+import sys
+from collections import Counter
+from glob import glob
+
+from maps import PREFIX_LENS, bytes_in, common, overlap, shown
+
+PROGRAM = os.path.abspath("crates/play_operations/out/play_operations")
+# The fewest and the most children of each kind of inner node.
+KINDS = {4: (2, 4), 16: (5, 16), 48: (17, 48), 256: (49, 256)}
+# What takes a node out of the room of its kind asks for a smaller one.
+SHRINKING = {5, 17, 49}
+PUTS = ("insert", "insert_placed", "put_over")
+LARGER, SMALLER = {4: 16, 16: 48, 48: 256}, {16: 4, 48: 16, 256: 48}
+
+
+class Leaf:
+    def __init__(self, key, value):
+        self.key, self.value, self.name = key, value, "Leaf"
+
+
+class Inner:
+    def __init__(self, prefix, children):
+        self.prefix, self.children = prefix, children
+        self.kind = next(it for it, (least, most) in KINDS.items() if least <= len(children) <= most)
+        self.name = f"Node{self.kind}"
+
+
+def tree_of(pairs, depth=0):
+    """The canonical tree of ascending pairs none of whose keys is a front of another, behind so many bytes."""
+    if len(pairs) == 1:
+        return Leaf(*pairs[0])
+    front = len(common(pairs[0][0], pairs[-1][0]))
+    parts = {}
+    for key, value in pairs:
+        parts.setdefault(key[front], []).append((key, value))
+    return Inner(pairs[0][0][depth:front], {byte: tree_of(part, front + 1) for byte, part in parts.items()})
+
+
+def way(tree, key):
+    """The nodes to which a key leads, whatever the bytes of the prefixes are, and the steps between them."""
+    nodes, steps, depth = [tree], [], 0
+    while isinstance(tree, Inner):
+        depth += len(tree.prefix)
+        if depth >= len(key) or key[depth] not in tree.children:
+            break
+        steps.append((tree.name, key[depth]))
+        tree = tree.children[key[depth]]
+        depth += 1
+        nodes.append(tree)
+    return nodes, steps
+
+
+def told_stats(leaves, kinds):
+    return f"{leaves} leaves, nodes {' '.join(str(kinds[it]) for it in KINDS)}"
+
+
+class Node:
+    """A node by hand: a leaf where `kind` is 0. Others are named by their numbers."""
+
+    def __init__(self, kind, key=b"", value=0, stored=b"", prefix_len=0):
+        self.kind, self.held, self.key, self.value, self.links = kind, True, key, value, (None, None)
+        self.stored, self.prefix_len, self.children = stored, prefix_len, {}
+
+    def again(self):
+        it = Node(self.kind, self.key, self.value, self.stored, self.prefix_len)
+        it.held, it.links, it.children = self.held, self.links, dict(self.children)
+        return it
+
+
+def hold_tree(nodes, tree, prefix_len):
+    """Names the nodes of a tree, level by level, and links its leaves."""
+    waiting, leaves = [tree] if tree else [], []
+    for at, it in enumerate(waiting):
+        if isinstance(it, Leaf):
+            nodes.append(Node(0, it.key, it.value))
+            leaves.append(at)
+            continue
+        nodes.append(Node(it.kind, stored=it.prefix[:prefix_len], prefix_len=len(it.prefix)))
+        for byte in sorted(it.children):
+            nodes[-1].children[byte] = len(waiting)
+            waiting.append(it.children[byte])
+    leaves.sort(key=lambda at: nodes[at].key)
+    for at, before, behind in zip(leaves, [None, *leaves], [*leaves[1:], None]):
+        nodes[at].links = before, behind
+
+
+def means(nodes, at, tree, prefix_len):
+    """Whether a held node is this tree, links aside."""
+    node = nodes[at]
+    if isinstance(tree, Leaf):
+        return node.kind == 0 and (node.key, node.value) == (tree.key, tree.value)
+    header = (tree.kind, len(tree.prefix), tree.prefix[:prefix_len], set(tree.children))
+    if header != (node.kind, node.prefix_len, node.stored, set(node.children)):
+        return False
+    return all(means(nodes, node.children[byte], part, prefix_len) for byte, part in tree.children.items())
+
+
+def is_tree(leaves):
+    """Whether these are pairs of which there is a tree: the keys ascend, and none is a front of the next one."""
+    return all(one < other and not other.startswith(one) for (one, _), (other, _) in zip(leaves, leaves[1:]))
+
+
+def verdict(nodes, root, prefix_len):
+    """What the checker may answer of the nodes below a name: the counts of a tree, or one of the faults that stand."""
+    met, faults, leaves, waiting = [], set(), [], [root]
+    while waiting:
+        at = waiting.pop()
+        if at in met:
+            faults.add("LoopFound")
+            continue
+        met.append(at)
+        if not nodes[at].held:
+            faults.add("DeadName")
+            continue
+        node = nodes[at]
+        if node.kind == 0:
+            leaves.append(at)
+            continue
+        least, most = KINDS[node.kind]
+        if not least <= len(node.children) <= most:
+            faults.add("WrongChildrenCount")
+        waiting += [node.children[byte] for byte in sorted(node.children, reverse=True)]
+    if faults:
+        return faults
+    pairs = [(nodes[at].key, nodes[at].value) for at in leaves]
+    if not is_tree(pairs) or not means(nodes, root, tree_of(pairs), prefix_len):
+        return {"PrefixMismatch"}
+    wanted = list(zip([None, *leaves], [*leaves[1:], None]))
+    if [nodes[at].links for at in leaves] != wanted:
+        faults.add("WrongSiblingLinks")
+        after = [(at, nodes[at].links[1]) for at in leaves if nodes[at].links[1] in leaves]
+        if any(nodes[other].key <= nodes[at].key for at, other in after):
+            faults.add("LeafSiblingWrongOrder")
+        return faults
+    return {told_stats(len(leaves), Counter(nodes[at].kind for at in met))}
+
+
+class Model:
+    """Pairs in the order of their keys' bytes, and behind `by_hand` nodes by hand. `answers` gives all that a line may
+    answer. In a list of commands those whose numbers stand in `refused` find no memory."""
+
+    def __init__(self, prefix_len):
+        self.prefix_len, self.pairs, self.commands, self.refused = prefix_len, {}, [], ()
+        self.nodes, self.root, self.is_by_hand = [], None, False
+
+    def again(self):
+        it = Model(self.prefix_len)
+        it.pairs, it.commands = dict(self.pairs), list(self.commands)
+        it.nodes, it.root, it.is_by_hand = [node.again() for node in self.nodes], self.root, self.is_by_hand
+        return it
+
+    def answers(self, line):
+        call, *words = line.split(" ")
+        words += [""] * (4 - len(words))
+        told = getattr(self, ("hand_" if self.is_by_hand else "call_") + call)(*words)
+        return told if isinstance(told, set) else {told}
+
+    def tree(self):
+        return tree_of(sorted(self.pairs.items())) if self.pairs else None
+
+    def item(self, key):
+        return "None" if key is None else f"{shown(key)} {self.pairs[key]}"
+
+    def blocked(self, key):
+        return any(overlap(key, it) for it in self.pairs if it != key)
+
+    # Insertions.
+    def placed(self, key, was, is_over=False):
+        """The pair that had the key, the kind of the root, and the parent that a new leaf has got."""
+        tree = self.tree()
+        _, steps = way(tree, key)
+        parent = "" if was != "None" or is_over or not steps else ", parent {} {}".format(*steps[-1])
+        return f"{was}, root {tree.name}{parent}"
+
+    def put(self, key, number):
+        was = self.item(key if key in self.pairs else None)
+        self.pairs[key] = int(number or 0)
+        return self.placed(key, was)
+
+    def call_insert(self, word, number, *_):
+        key = bytes_in(word)
+        if self.blocked(key):
+            return f"conflict {shown(key)} {int(number or 0)}"
+        return self.put(key, number)
+
+    call_insert_placed = call_insert
+
+    def call_put_over(self, word, number, *_):
+        key = bytes_in(word)
+        over = [it for it in sorted(self.pairs) if overlap(key, it)]
+        was = self.item(over[0] if len(over) == 1 else None)
+        for it in over:
+            del self.pairs[it]
+        self.pairs[key] = int(number or 0)
+        return f"{len(over)} {len(over) if len(over) > 1 else 0} {self.placed(key, was, bool(over))}"
+
+    # Deletions.
+    def take(self, key):
+        was = self.item(key)
+        self.pairs.pop(key, None)
+        return f"{was}, root {self.tree().name}" if self.pairs else f"{was}, no root"
+
+    def call_delete(self, word, *_):
+        return self.take(bytes_in(word) if bytes_in(word) in self.pairs else None)
+
+    def call_delete_first(self, *_):
+        return self.take(min(self.pairs, default=None))
+
+    def call_delete_last(self, *_):
+        return self.take(max(self.pairs, default=None))
+
+    def shrinks(self, key):
+        front = max((common(key, it) for it in self.pairs if it != key), key=len, default=None)
+        return front is not None and len({it[len(front)] for it in self.pairs if it.startswith(front)}) in SHRINKING
+
+    # The tree as a whole.
+    def call_reserve(self, *_):
+        return "done"
+
+    call_clone = call_reserve
+
+    def call_key(self, *_):
+        return "kept"
+
+    def call_command(self, *words):
+        self.commands.append(words)
+        return "kept"
+
+    def call_forget(self, *_):
+        self.commands = []
+        return "done"
+
+    def may_refuse(self, call, key):
+        """Whether a command that isn't refused for a conflict may find no memory."""
+        return call != "delete" and (call != "clone" or self.pairs) or key in self.pairs and self.shrinks(key)
+
+    def carried_out(self, number, call, word, value):
+        key = bytes_in(word)
+        if call == "insert" and self.blocked(key):
+            return "Prefix"
+        if number in self.refused:
+            return "Memory" if self.may_refuse(call, key) else "never refused"
+        if call == "clone":
+            return "Done(0)"
+        over = [it for it in self.pairs if (overlap(key, it) if call == "prefix_insert" else key == it)]
+        for it in over:
+            del self.pairs[it]
+        if call != "delete":
+            self.pairs[key] = int(value or 0)
+        return f"Done({len(over)})"
+
+    def call_run(self, *_):
+        self.pairs = {}
+        told = [self.carried_out(number, *words[:3]) for number, words in enumerate(self.commands)]
+        return "".join(f"{it}, " for it in told) + "end"
+
+    def call_free(self, *_):
+        count, self.pairs = len(self.pairs), {}
+        return str(count)
+
+    def call_free_apart(self, *_):
+        self.pairs = {}
+        return "0"
+
+    def call_check(self, *_):
+        kinds, leaves, waiting = Counter(), 0, [self.tree()] if self.pairs else []
+        for it in waiting:
+            if isinstance(it, Leaf):
+                leaves += 1
+            else:
+                kinds[it.kind] += 1
+                waiting += it.children.values()
+        return told_stats(leaves, kinds)
+
+    # Look-ups.
+    def read(self, key, found):
+        if not self.pairs:
+            return "no tree"
+        return f"{self.item(found)}, {len(way(self.tree(), key)[0])} read"
+
+    def call_search(self, word, *_):
+        key = bytes_in(word)
+        return self.read(key, key if key in self.pairs else None)
+
+    def call_prefix_search(self, word, *_):
+        key = bytes_in(word)
+        return self.read(key, next((it for it in self.pairs if key.startswith(it)), None))
+
+    def call_minimum(self, *_):
+        key = min(self.pairs, default=b"")
+        return self.read(key, key)
+
+    def call_maximum(self, *_):
+        key = max(self.pairs, default=b"")
+        return self.read(key, key)
+
+    def call_path(self, word, *_):
+        key = bytes_in(word)
+        if not self.pairs:
+            return "no tree"
+        nodes, steps = way(self.tree(), key)
+        last = " ".join(f"{name} {byte}" for name, byte in steps[-2:]) or "root"
+        return f"{last if key in self.pairs else None}, {len(nodes)} read"
+
+    def inside(self, start, end):
+        low, high = bytes_in(start), bytes_in(end)
+        is_in = {"*": lambda *_: True, "[": lambda one, other: one <= other, "(": lambda one, other: one < other}
+        return [it for it in sorted(self.pairs) if is_in[start[0]](low, it) and is_in[end[0]](it, high)]
+
+    def call_start(self, bound, *_):
+        return self.item(next(iter(self.inside(bound, "*")), None))
+
+    def call_end(self, bound, *_):
+        return self.item(next(iter(self.inside("*", bound)[::-1]), None))
+
+    def ends(self, keys):
+        return f"{self.item(keys[0])} to {self.item(keys[-1])}" if keys else "None"
+
+    def call_range(self, start, end, *_):
+        return self.ends(self.inside(start, end))
+
+    def call_segment(self, word, *_):
+        return self.ends([it for it in sorted(self.pairs) if it.startswith(bytes_in(word))])
+
+    # Nodes by hand.
+    def call_by_hand(self, *_):
+        self.is_by_hand = True
+        hold_tree(self.nodes, self.tree(), self.prefix_len)
+        self.root = 0 if self.nodes else None
+        return "done"
+
+    def hand_tell(self, *_):
+        told = []
+        for node in self.nodes:
+            if not node.held:
+                told.append("dead")
+            elif node.kind:
+                children = "".join(f" {byte} {child}" for byte, child in sorted(node.children.items()))
+                told.append(f"Node{node.kind} {node.prefix_len} {shown(node.stored)}{children}")
+            else:
+                links = " ".join("-" if it is None else str(it) for it in node.links)
+                told.append(f"{shown(node.key)} {node.value} {links}")
+        return "".join(f"{it}, " for it in told) + "end"
+
+    # (it stands once, right behind `by_hand`, and so names what the model has named)
+    hand_names = hand_tell
+
+    def named(self, node):
+        self.nodes.append(node)
+        return f"name {len(self.nodes) - 1}"
+
+    def hand_leaf(self, word, number, *_):
+        return self.named(Node(0, bytes_in(word), int(number or 0)))
+
+    def hand_node(self, kind, word, size, *_):
+        stored = min(int(size), self.prefix_len)
+        if stored > len(bytes_in(word)):
+            return "no"
+        return self.named(Node(int(kind), stored=bytes_in(word)[:stored], prefix_len=int(size)))
+
+    def hand_raw(self, kind, *_):
+        node = Node(0 if kind == "leaf" else int(kind))
+        node.held = False
+        return self.named(node)
+
+    def inner(self, at):
+        node = self.nodes[int(at)]
+        return node if node.held and node.kind else None
+
+    def hand_copy(self, at, kind, *_):
+        node = self.inner(at)
+        if node is None:
+            return "no"
+        copy, (_, most) = Node(int(kind), stored=node.stored, prefix_len=node.prefix_len), KINDS[int(kind)]
+        copy.children = dict(sorted(node.children.items())[:most])
+        return self.named(copy)
+
+    def hand_grow(self, at, *_):
+        node = self.inner(at)
+        if node is None or node.kind == 256 or len(node.children) < KINDS[node.kind][1]:
+            return "no"
+        return self.hand_copy(at, LARGER[node.kind])
+
+    def hand_shrink(self, at, *_):
+        node = self.inner(at)
+        if node is None or node.kind == 4 or len(node.children) > KINDS[SMALLER[node.kind]][1]:
+            return "no"
+        return self.hand_copy(at, SMALLER[node.kind])
+
+    def hand_write(self, at, byte, child, *_):
+        node = self.inner(at)
+        if node is None or len(node.children) == KINDS[node.kind][1] and int(byte) not in node.children:
+            return "no"
+        node.children[int(byte)] = int(child)
+        return "done"
+
+    def hand_remove(self, at, byte, *_):
+        node = self.inner(at)
+        if node is None:
+            return "no"
+        node.children.pop(int(byte), None)
+        return "done"
+
+    def hand_prefix(self, at, word, size, *_):
+        node, stored = self.inner(at), min(int(size), self.prefix_len)
+        if node is None or stored > len(bytes_in(word)):
+            return "no"
+        node.stored, node.prefix_len = bytes_in(word)[:stored], int(size)
+        return "done"
+
+    def hand_link(self, at, before, behind, *_):
+        node = self.nodes[int(at)]
+        if not node.held or node.kind:
+            return "no"
+        leaves = (None if it == "-" or self.nodes[int(it)].kind else int(it) for it in (before, behind))
+        node.links = tuple(leaves)
+        return "done"
+
+    def hand_rekey(self, at, word, number, *_):
+        node = self.nodes[int(at)]
+        if not node.held or node.kind:
+            return "no"
+        node.key, node.value = bytes_in(word), int(number or 0)
+        return "done"
+
+    def hand_free(self, at, *_):
+        node = self.nodes[int(at)]
+        was, node.held = node.held, False
+        return "done" if was else "no"
+
+    def hand_root(self, at, *_):
+        self.root = None if at == "-" else int(at)
+        return "done"
+
+    def hand_clone(self, *_):
+        return "done"
+
+    def hand_clear(self, *_):
+        self.nodes, self.root = [], None
+        return "done"
+
+    def hand_check(self, size, *_):
+        if self.root is None:
+            return "EmptyTreeWithLen" if int(size) else told_stats(0, Counter())
+        return verdict(self.nodes, self.root, self.prefix_len)
+
+
+# What each line names: `k` a key, `s` one that is stored if it can be, `n` a number, `b` a bound, `c` a command.
+CALLS = {
+    "insert": "kn", "insert_placed": "kn", "put_over": "kn", "delete": "s", "delete_first": "", "delete_last": "", "reserve": "n", "clone": "", "key": "k", "command": "c", "forget": "", "run": "", "free": "",
+    "free_apart": "", "check": "", "search": "s", "prefix_search": "k", "minimum": "", "maximum": "", "path": "s",
+    "start": "b", "end": "b", "range": "bb", "segment": "k",
+}  # fmt: skip
+OFTEN = {"insert": 14, "insert_placed": 14, "command": 4, "put_over": 1.4}
+OFTEN |= {"free": 0.05, "free_apart": 0.05, "run": 0.1, "forget": 0.3, "key": 0.5}
+
+
+class Writer:
+    """Lines at random, over keys that branch at a width drawn once, behind a front that is drawn once."""
+
+    def __init__(self, seed, prefix_len):
+        self.of, self.model, self.lines = random.Random(seed), Model(prefix_len), []
+        self.front = self.of.choice(("", "", "aa.", "aa*3.", "aa*5.", "aa*17.", "aa*40."))
+        self.wide = self.of.choice((2, 4, 6, 17, 18, 49, 50, 120))
+        self.alphabet = self.of.sample(range(256), self.wide)
+
+    def add(self, *words):
+        self.lines.append(" ".join(map(str, words)))
+        return self.model.answers(self.lines[-1])
+
+    def tail(self):
+        return bytes(self.of.choices(self.alphabet, k=self.of.randint(0, 2 + (self.wide < 9))))
+
+    def word(self, kind):
+        if kind == "s" and self.model.pairs and self.of.random() < 0.8:
+            return self.of.choice(sorted(self.model.pairs)).hex() or "-"
+        if kind in "ks":
+            return self.front + (self.tail().hex() or "-")
+        if kind == "b":
+            sign = self.of.choice("[[((*")
+            return sign if sign == "*" else sign + self.word("k")
+        if kind == "n":
+            return str(self.of.randrange(40))
+        call = self.of.choice(("insert",) * 6 + ("prefix_insert", "delete", "delete", "clone"))
+        return call if call == "clone" else f"{call} {self.word('k')} {self.word('n')}"
+
+    def play_tree(self, length):
+        weights = [OFTEN.get(it, 1) for it in CALLS]
+        for _ in range(length):
+            call = self.of.choices(list(CALLS), weights)[0]
+            words = list(map(self.word, CALLS[call]))
+            if call == "key":
+                # (what is put in next has the bytes of the key that is kept, also where it is made anew)
+                self.add(call, *words)
+                self.add(self.of.choice(("insert", "insert_placed", "put_over")), words[0], self.word("n"))
+                continue
+            self.add(call, *words)
+
+    # Nodes by hand.
+    def pairs(self):
+        front, pairs = bytes_in(self.front), {}
+        for _ in range(self.of.choice((1, 2, 3, 5, 9, 20, 70))):
+            key = front + self.tail()
+            if not any(overlap(key, it) for it in pairs):
+                pairs[key] = self.of.randrange(99)
+        return sorted(pairs.items())
+
+    def build(self):
+        """A tree by hand, node by node, in place of all that the arena has."""
+        self.add("clear")
+        nodes = []
+        tree = tree_of(self.pairs())
+        hold_tree(nodes, tree, self.model.prefix_len)
+        prefixes, waiting = [], [tree]
+        for it in waiting:
+            prefixes.append(it.prefix if isinstance(it, Inner) else b"")
+            waiting += [it.children[byte] for byte in sorted(it.children)] if isinstance(it, Inner) else []
+        for node, prefix in zip(nodes, prefixes):
+            if node.kind:
+                self.add("node", node.kind, prefix.hex() or "-", len(prefix))
+            else:
+                self.add("leaf", node.key.hex() or "-", node.value)
+        for at, node in enumerate(nodes):
+            for byte, child in self.of.sample(sorted(node.children.items()), len(node.children)):
+                self.add("write", at, byte, child)
+            if node.kind == 0:
+                self.add("link", at, *("-" if it is None else it for it in node.links))
+        self.add("root", 0)
+
+    def some(self, is_inner=None):
+        """The number of a node, of an inner one, or of a leaf."""
+        nodes = self.model.nodes
+        fit = [at for at, it in enumerate(nodes) if is_inner is None or bool(it.kind) == is_inner]
+        return self.of.choice(fit or range(len(nodes)))
+
+    def repoint(self, at, to):
+        """What named one node names another."""
+        if self.model.root == at:
+            self.add("root", to)
+        for parent, node in enumerate(self.model.nodes):
+            for byte, child in sorted(node.children.items()):
+                if child == at and node.held:
+                    self.add("write", parent, byte, to)
+
+    def harmless(self):
+        """Edits that leave a tree what it was, or one of the same keys."""
+        nodes, of = self.model.nodes, self.of
+        at = self.some(of.random() < 0.5)
+        node = nodes[at]
+        if node.kind == 0:
+            if of.random() < 0.5:
+                return self.add("link", at, *("-" if it is None else it for it in node.links))
+            return self.add("rekey", at, node.key.hex() or "-", of.randrange(99))
+        if of.random() < 0.3 and node.children:
+            byte = of.choice(sorted(node.children))
+            return self.add("write", at, byte, node.children[byte])
+        if of.random() < 0.3:
+            return self.add("clone")
+        copy = len(nodes)
+        if self.add("copy", at, node.kind) != {"no"}:
+            self.repoint(at, copy)
+
+    def damage(self):
+        of, nodes = self.of, self.model.nodes
+        what = of.choice(("write", "write", "remove", "prefix", "link", "rekey", "copy", "grow", "shrink", "root"))
+        inner, leaf = self.some(True), self.some(False)
+        if what == "write":
+            child = self.some()
+            if of.random() < 0.1:
+                child = len(nodes)
+                self.add("raw", of.choice(("4", "16", "48", "256", "leaf")), 1_000_000 + child)
+            held = sorted(nodes[inner].children)
+            self.add("write", inner, of.choice(held) if held and of.random() < 0.7 else of.randrange(256), child)
+        elif what == "remove":
+            self.add("remove", inner, of.choice(sorted(nodes[inner].children) or [0]))
+        elif what == "prefix":
+            stored, size = bytearray(nodes[inner].stored), nodes[inner].prefix_len
+            if stored and of.random() < 0.6:
+                stored[of.randrange(len(stored))] ^= of.choice((0, 1, 255))
+            else:
+                size = max(0, size + of.choice((-1, 1, 3)))
+                stored = (stored + bytes(20))[: min(size, 20)]
+            self.add("prefix", inner, stored.hex() or "-", size)
+        elif what == "link":
+            links = [*nodes[leaf].links, None, self.some(False)]
+            self.add("link", leaf, *("-" if it is None else it for it in of.sample(links, 2)))
+        elif what == "rekey":
+            key = bytearray(nodes[leaf].key)
+            if key and of.random() < 0.7:
+                key[of.randrange(len(key))] ^= of.choice((0, 1, 255))
+            elif of.random() < 0.5:
+                key = key[:-1] if of.random() < 0.5 else key + b"\0"
+            self.add("rekey", leaf, key.hex() or "-", of.randrange(99))
+        elif what == "root":
+            self.add("root", self.some() if of.random() < 0.9 else "-")
+        else:
+            copy, kind = len(nodes), of.choice((4, 16, 48, 256))
+            if self.add(what, inner, *([kind] if what == "copy" else [])) != {"no"}:
+                self.repoint(inner, copy)
+
+    def check(self):
+        self.add("tell")
+        self.add("check", sum(node.held and node.kind == 0 for node in self.model.nodes))
+
+    def play_nodes(self, rounds):
+        self.add("by_hand")
+        self.add("names")
+        self.check()
+        for _ in range(rounds):
+            if self.of.random() < 0.7 or not self.model.nodes:
+                self.build()
+            for _ in range(self.of.choice((0, 0, 1, 2))):
+                self.harmless()
+            if self.of.random() < 0.3:
+                self.check()
+            for _ in range(self.of.choice((0, 1, 1, 1, 2, 3))):
+                self.damage()
+            self.check()
+            # (a name that is free may be given again: so these come last before all is cleared)
+            if self.of.random() < 0.3:
+                for _ in range(self.of.randint(1, 2)):
+                    self.add("free", self.some())
+                self.check()
+                self.build()
+
+
+def script(seed, prefix_len, length, rounds):
+    writer = Writer(seed, prefix_len)
+    writer.play_tree(length)
+    writer.add("check")
+    writer.play_nodes(rounds)
+    return writer.lines
+
+
+def wanted(prefix_len, lines):
+    """All that the model allows of each line's answer."""
+    model = Model(prefix_len)
+    return [model.answers(line) for line in lines]
+
+
+def play(program, prefix_len, lines):
+    text = "".join(f"{line}\n" for line in [f"tree {prefix_len}", *lines])
+    ran = subprocess.run([program], input=text, capture_output=True, text=True, timeout=120)
+    assert (ran.returncode, ran.stderr) == (0, ""), f"status {ran.returncode}: {ran.stderr[-300:]}"
+    told, allowed = ran.stdout.splitlines(), wanted(prefix_len, lines)
+    for number, (line, answer, those) in enumerate(zip(lines, told, allowed)):
+        assert answer in those, f"row {number + 1}, {line[:60]}: {answer[:200]} and not {sorted(those)[0][:200]}"
+    assert len(told) == len(lines), f"{len(told)} answers to {len(lines)} lines"
+
+
+def rows(file, prefix_len):
+    """A worked row: what was written down for it is what the model answers too."""
+    lines, written = open(file).read().splitlines(), open(file[: -len("lines")] + "replies").read().splitlines()
+    model = wanted(prefix_len, lines)
+    assert len(model) == len(written), f"{file}: {len(written)} answers to {len(model)} lines"
+    for line, answer, those in zip(lines, written, model):
+        assert answer in those, f"{file}, {line}: {answer}, but the model answers {sorted(those)}"
+    return lines
+
+
+def scripts(prefix_len, number=60, length=250, rounds=12):
+    """Each script with its name and its lines. A row with a number in its name is one of that length of prefixes."""
+    for file in sorted(glob("tests/operations/*.lines")):
+        name, *stored, _ = os.path.basename(file).split(".")
+        if not stored or int(stored[0]) == prefix_len:
+            yield name, rows(file, prefix_len)
+    for seed in range(number):
+        yield f"random {seed}", script(seed, prefix_len, length, rounds)
+
+
+def main():
+    if sys.argv[1:2] == ["--show"]:
+        lines = open(sys.argv[3]).read().splitlines()
+        print("\n".join(" or ".join(sorted(it)) for it in wanted(int(sys.argv[2]), lines)))
+        return
+    word, counts, told = sys.argv[1] if len(sys.argv) > 1 else "", Counter(), Counter()
+    for prefix_len in PREFIX_LENS:
+        for name, lines in scripts(prefix_len):
+            if word not in name:
+                continue
+            for line, those in zip(lines, wanted(prefix_len, lines)):
+                told.update(those if line.startswith("check") and not any("leaves" in it for it in those) else ())
+            for program in (PROGRAM, f"{PROGRAM}.by-rattle"):
+                ended = "ok"
+                try:
+                    play(program, prefix_len, lines)
+                except (AssertionError, OSError, subprocess.TimeoutExpired) as why:
+                    ended = f"FAILED: {str(why)[:500]}"
+                counts[ended == "ok"] += 1
+                print(f"{os.path.basename(program)} {name}, prefixes of {prefix_len}: {ended}")
+    print("faults that stood at a check: " + ", ".join(f"{it} {number}" for it, number in sorted(told.items())))
+    print(f"{counts[True]} passed, {counts[False]} failed")
+    sys.exit(bool(counts[False]) or not counts[True])
+
+
+if __name__ == "__main__":
+    main()
