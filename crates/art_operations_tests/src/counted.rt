@@ -78,7 +78,12 @@ fn rows_stand<K: AsBytes, V, const PREFIX_LEN: usize>(
             return false;
         }
     }
-    let prefixes: [(&[u8], bool); 4] = [(&[], true), (&[127], true), (&[127, 126], false), (&[1], false)];
+    let prefixes: [(&[u8], bool); 4] = [
+        (&[], true),
+        (&[127], true),
+        (&[127, 126], false),
+        (&[1], false),
+    ];
     for (prefix, wanted) in prefixes {
         if opened(arena, root, prefix) != (wanted, true) {
             return false;
