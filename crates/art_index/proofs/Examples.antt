@@ -3,10 +3,11 @@ use Rattle.std.proofs.Common.{◌≡◌, ℕ, ◌<◌, List, [], ◌∷◌, ◌+
 use Rattle.std.specs.Prelude.{codes, flat_map, replicate, Some, None, IsTrue}
 use Rattle.art_index.specs.Lines.{lines_of, whole_lines_of, unfinished_line_of, lines_so_far}
 use Rattle.art_index.specs.Words.{name, natural, signed, bytes, shown, line_of}
-use Rattle.art_index.specs.Commands.{put, get, nget, of_tenant, dump, Spells}
+use Rattle.art_index.specs.Commands.{put, get, nget, of_tenant, dump, Spells, list}
 use Rattle.art_index.specs.Reading.{command_of, natural_in, tenant_in, number_in, bytes_in}
 use Rattle.art_bytes.specs.Keys.{is_below, conflicts}
-use Rattle.art_index.specs.Keys.{full_key, number_key_of, number_of_bytes}
+use Rattle.art_index.specs.Keys.{full_key, number_key_of, number_of_bytes, full_key_of}
+use Rattle.art_index.specs.Counts.{exactly, listing, visits_of, path_nodes, fronts_shared}
 use Rattle.art_index.specs.Records.{KeyRecord, KeyFits, Records, no_records, own, with_own}
 use Rattle.art_index.specs.Replies.{reply_to, records_after, dump_of, audit_lines}
 use Rattle.art_index.specs.Refusals.{LineMayRefuse}
@@ -295,3 +296,29 @@ line-cut_at_once = record {
 
 no_record-256 : KeyFits (record { tenant = 1; key = 256 ∷ []; value = [] }) → ⊥
 no_record-256 h = let first : 256 < 256 = h.key_fits 0 in omega arith
+
+-- Counts: what a line reads of three records, and of which fronts two tenants share one.
+
+abbrev at_key : ℕ → ℕ → ℕ → KeyRecord
+at_key tenant key value = record { tenant = tenant; key = key ∷ []; value = value ∷ [] }
+
+abbrev of_two : Records
+of_two = record { keys = at_key 1 170 97 ∷ at_key 1 187 98 ∷ at_key 2 170 99 ∷ []; numbers = [] }
+
+visits-of_a_key : visits_of (Some (of_tenant 1 (get (170 ∷ [])))) of_two ≡ exactly 3
+visits-of_a_key = refl
+
+visits-of_no_key : visits_of (Some (of_tenant 3 (get (170 ∷ [])))) of_two ≡ exactly 1
+visits-of_no_key = refl
+
+visits-of_a_list : visits_of (Some (of_tenant 1 (list []))) of_two ≡ listing 2 84
+visits-of_a_list = refl
+
+visits-of_a_dump : visits_of (Some dump) of_two ≡ exactly 0
+visits-of_a_dump = refl
+
+path-of_its_own : path_nodes full_key_of (at_key 1 170 97 ∷ at_key 1 187 98 ∷ []) (full_key 1 (170 ∷ [])) ≡ 2
+path-of_its_own = refl
+
+shares-one_front : fronts_shared (λ r. r.tenant) 1 of_two.keys ≡ 1
+shares-one_front = refl

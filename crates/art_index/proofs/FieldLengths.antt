@@ -10,7 +10,7 @@ use Rattle.std.proofs.lemmas.List.Splits.{join_with_byte-slice_split}
 use Rattle.art_index.specs.Commands.{Command, of_tenant, put, over, nput, words_of, AllRead, fields_of, Spells}
 use Rattle.art_index.specs.Records.{KeyFits, NumberFits}
 
-length-encode : (bs : List ℕ) → length (encode_lower bs) ≡ 2 * length bs
+pub length-encode : (bs : List ℕ) → length (encode_lower bs) ≡ 2 * length bs
 unfolding encode_with
 length-encode [] = refl
 length-encode (b ∷ bs) = let ih = length-encode bs in omega arith

@@ -152,7 +152,7 @@ full_before r s rs ss before =
     free (inl low) h = true≢false (sym h ∙ rw (ne_eqb r.tenant s.tenant (λ e. omega arith)) refl)
     free (inr up) h = true≢false (sym (and_parts _ _ h).1 ∙ up.2)
 
-front_small : (n : ℕ) (xs : List ℕ) → ((i : ℕ) → get_or xs i 0 < 256) → (i : ℕ) → get_or (take n xs) i 0 < 256
+pub front_small : (n : ℕ) (xs : List ℕ) → ((i : ℕ) → get_or xs i 0 < 256) → (i : ℕ) → get_or (take n xs) i 0 < 256
 front_small zero xs h i = omega arith
 front_small (suc n) [] h i = omega arith
 front_small (suc n) (x ∷ xs) h zero = h zero

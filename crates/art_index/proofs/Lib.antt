@@ -43,3 +43,11 @@ pub mod OwnFronts
 pub mod BothMaps
 pub mod DumpTexts
 pub mod ReadBack
+pub mod MappedTrees
+pub mod Counting
+pub mod CountLaws
+pub mod Listings
+pub mod RecordCounts
+pub mod HeldMaps
+pub mod SpanLemmas
+pub mod LineCounts

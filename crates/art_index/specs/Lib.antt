@@ -8,6 +8,7 @@ pub mod Replies
 pub mod Refusals
 pub mod Outcome
 pub mod Faults
+pub mod Counts
 pub mod Laws
 pub mod InPlace
 pub mod Parsed
@@ -17,3 +18,5 @@ pub mod Told
 pub mod Progress
 pub mod Gathered
 pub mod Digits
+pub mod Spans
+pub mod Held

@@ -1,12 +1,18 @@
 //! An index, and what a line does to it.
 ghost use Rattle.std.specs.Prelude.{◌≡◌, ◌+◌, ◌<◌, ◌++◌, map, take, OnErr, IfOk, IfErr, is_err, true, false, Some};
-ghost use Rattle.std.specs.Prelude.{None};
+ghost use Rattle.std.specs.Prelude.{None, flat_map};
+ghost use Rattle.art_index.specs.Words.{line_of};
+ghost use Rattle.art_index.specs.Counts.{IsWithin, visits_of};
+ghost use Rattle.art_index.specs.Faults.{Writes};
+ghost use Rattle.art_index.specs.Parsed.{looks_up};
+ghost use Rattle.art_index.specs.Replies.{command_reply};
+ghost use Rattle.art_index.specs.Stored.{all_records_of, ArePairs, AreNumberPairs};
 
 use crate::carry::{ask_all, change, tell_all};
 use crate::command::fields::{Fields, NUMBER_KEY};
 use crate::command::read_line;
-use crate::command::word::Word;
-use crate::look::look_up;
+use crate::command::word::{LookUp, Word};
+use crate::look::look;
 use crate::records::write_placed;
 use crate::reply::write_piece;
 use crate::stream::{Sink, WriteFailed};
@@ -42,7 +48,7 @@ impl From<WriteFailed> for RunFault {
 pub struct Handled {
     /// Whether the reply was `memory`.
     pub memory: bool,
-    /// The number of nodes read. They are not counted yet, so it is 0.
+    /// The number of nodes read by a look-up, and 0 for every other line.
     pub visits: u64,
 }
 
@@ -68,7 +74,6 @@ impl<const PREFIX_LEN: usize> Model for Index<PREFIX_LEN> {
 }
 
 impl<const PREFIX_LEN: usize> Index<PREFIX_LEN> {
-    ghost use Rattle.art_index.specs.Words.{line_of};
     ghost use Rattle.art_index.specs.Commands.{put, get};
     ghost use Rattle.art_index.specs.Keys.{full_pair, number_pair};
     ghost use Rattle.art_index.specs.Records.{AreRecords, no_records, KeyFits, own};
@@ -77,6 +82,8 @@ impl<const PREFIX_LEN: usize> Index<PREFIX_LEN> {
     ghost use Rattle.art_index.specs.Outcome.{answer, left_by};
     ghost use Rattle.art_index.specs.Faults.{IsCutLine};
     ghost use Rattle.art_index.specs.Changed.{IsPutDone};
+    ghost use Rattle.art_index.specs.Counts.{IsShort, ReadsOwnPath};
+    ghost use Rattle.art_index.specs.Reading.{command_of};
 
     /// An index that holds nothing. It takes no memory.
     pub fn new(alloc: Global) -> Self
@@ -86,6 +93,25 @@ impl<const PREFIX_LEN: usize> Index<PREFIX_LEN> {
             alloc,
             records: TreeMap::with_prefix_len(alloc),
             numbers: TreeMap::with_prefix_len(alloc),
+            fields: Fields::new(),
+        }
+    }
+
+    /// An index of these two maps and nothing else. They have to be those of records, which `are_records` tells. It
+    /// takes no memory.
+    pub fn from_maps(
+        alloc: Global,
+        byte_map: TreeMap<Vec<u8>, Vec<u8>, PREFIX_LEN>,
+        number_map: TreeMap<[u8; NUMBER_KEY], Vec<u8>, PREFIX_LEN>,
+    ) -> Self
+        requires keys { ArePairs byte_map.pairs }
+        requires numbers { AreNumberPairs number_map.pairs }
+        ensures { result ≡ all_records_of byte_map.entry.pairs number_map.entry.pairs }
+    {
+        Index {
+            alloc,
+            records: byte_map,
+            numbers: number_map,
             fields: Fields::new(),
         }
     }
@@ -122,16 +148,20 @@ impl<const PREFIX_LEN: usize> Index<PREFIX_LEN> {
             W.taken sink.new ≡ W.taken sink.old ++ answer done.memory self.old line.now) }
         ensures left { IfOk result (λ done. self.new ≡ left_by done.memory self.old line.now) }
         ensures lawful { IfOk result (λ done. done.memory ≡ true → LineMayRefuse self.old line.now) }
-        ensures visits { IfOk result (λ done. done.visits ≡ 0) }
+
+        // A look-up reads so many nodes, told by the records alone; each other line reads none.
+        ensures visits { IfOk result (λ done. IsWithin (visits_of (command_of line.now) self.old) done.visits) }
+        ensures short { IfOk result (λ done. IsShort (command_of line.now) done.visits) }
+        ensures own_path { IfOk result (λ done. ReadsOwnPath (command_of line.now) self.old done.visits) }
 
         ensures err { IfErr result (λ fault. fault ≡ RunFault.Write) }
         ensures failed { is_err result ≡ W.has_failed sink.new }
         ensures cut { OnErr result (IsCutLine self.old line.now (W.taken sink.old) (W.taken sink.new) self.new) }
     {
-        let mut memory = false;
+        let (mut memory, mut visits) = (false, 0);
         match read_line(line, &mut self.fields) {
             Some(Word::LookUp(word)) => {
-                look_up(&self.records, &self.numbers, word, &self.fields, sink)?;
+                visits = look_in(&self.records, &self.numbers, word, &self.fields, sink)?;
             }
             Some(Word::Change(word)) => {
                 let done = change(
@@ -151,6 +181,32 @@ impl<const PREFIX_LEN: usize> Index<PREFIX_LEN> {
             }
             None => write_piece(sink, b"bad\n")?,
         }
-        Ok(Handled { memory, visits: 0 })
+        Ok(Handled { memory, visits })
     }
+}
+
+/// Answers a look-up through a reader of each map, and tells how many nodes both have read.
+fn look_in<W: Sink, const PREFIX_LEN: usize>(
+    records: &TreeMap<Vec<u8>, Vec<u8>, PREFIX_LEN>,
+    numbers: &TreeMap<[u8; NUMBER_KEY], Vec<u8>, PREFIX_LEN>,
+    word: LookUp,
+    fields: &Fields,
+    sink: &mut W,
+) -> Result<u64, RunFault>
+    requires open { W.has_failed sink.old ≡ false }
+    requires held { ArePairs records.now.pairs }
+    requires numbers { AreNumberPairs numbers.now.pairs }
+    ensures told { Writes result (W.taken sink.old) (W.taken sink.new)
+        (flat_map line_of (command_reply (Some (looks_up word fields.now))
+        (all_records_of records.now.pairs numbers.now.pairs)))
+        (W.has_failed sink.new) }
+    ensures err { IfErr result (λ fault. fault ≡ RunFault.Write) }
+    ensures visits { IfOk result (λ count. IsWithin (visits_of (Some (looks_up word fields.now))
+        (all_records_of records.now.pairs numbers.now.pairs)) count) }
+{
+    let _all = (records.len(), numbers.len()); // (there are no more, so that they can be counted)
+    let mut bytes = records.reader();
+    let mut values = numbers.reader();
+    look(&mut bytes, &mut values, word, fields, sink)?;
+    Ok(bytes.visits().saturating_add(values.visits()))
 }

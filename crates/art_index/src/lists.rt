@@ -1,14 +1,19 @@
-//! Walks over a tenant's records.
-ghost use Rattle.std.specs.Prelude.{◌≡◌, flat_map, int_lt, false};
+//! Walks over a tenant's records, each leaf that is read counted. A span is opened, and then read and written as lines.
+ghost use Rattle.std.specs.Prelude.{◌≡◌, ◌+◌, ◌^◌, ◌<◌, List, false, flat_map, int_lt, length, map, OnOk};
+ghost use Rattle.std.specs.List.{AllByRecursion};
+ghost use Rattle.art_bytes.specs.Keys.{is_below};
+ghost use Rattle.art_walks.specs.MapReads.{IsSameMap, IsSpan};
 ghost use Rattle.art_index.specs.Words.{line_of};
 ghost use Rattle.art_index.specs.Commands.{list, span, nspan};
 ghost use Rattle.art_index.specs.Records.{own};
-ghost use Rattle.art_index.specs.Replies.{own_reply, listed, pairs_from_to, numbers_listed, numbers_from_to};
-ghost use Rattle.art_bytes.specs.Keys.{is_below};
+ghost use Rattle.art_index.specs.Replies.{listed, own_reply, pairs_from_to, numbers_listed, numbers_from_to};
 ghost use Rattle.art_index.specs.Faults.{Writes};
+ghost use Rattle.art_index.specs.Counts.{request_visits, span_visits, listing, opening, Grew, GrewBy};
 ghost use Rattle.art_index.specs.Parsed.{tenant_in_place, key_in_place, value_in_place};
 ghost use Rattle.art_index.specs.Parsed.{number_in_place, bound_in_place};
-ghost use Rattle.art_index.specs.Stored.{records_of, ArePairs, number_records_of, AreNumberPairs};
+ghost use Rattle.art_index.specs.Stored.{Pair, NumberPair, records_of, number_records_of};
+ghost use Rattle.art_index.specs.Spans.{span_pairs, own_pair, IsListed, ReadsRecords};
+ghost use Rattle.art_index.specs.Spans.{own_number, IsNumbered, ReadsNumbers};
 
 use crate::command::fields::{Fields, NUMBER_KEY};
 use crate::gather::{ROOM, gather_number, gather_pair};
@@ -16,28 +21,31 @@ use crate::numbers::numbers_of;
 use crate::reply::{write_end, write_piece};
 use crate::stream::{Sink, WriteFailed};
 use art_bytes::SliceKey;
-use art_map::TreeMap;
+use art_walks::{MapReader, ReadSpan};
 use std::ops::Bound;
 
-/// Writes the tenant's pairs whose keys begin with the front that was read, and how many they are. The lines are
-/// gathered, and leave in few pieces.
+/// Writes the pairs of a span without their tenant, and how many they are. The lines are gathered, and leave in few
+/// pieces. A leaf is read for each pair.
 #[inline(never)]
-pub(crate) fn write_list<W: Sink, const PREFIX_LEN: usize>(
-    records: &TreeMap<Vec<u8>, Vec<u8>, PREFIX_LEN>,
-    fields: &Fields,
+fn write_pairs<W: Sink, const PREFIX_LEN: usize>(
+    records: &mut MapReader<'_, Vec<u8>, Vec<u8>, PREFIX_LEN>,
+    span: &mut ReadSpan,
     sink: &mut W,
 ) -> Result<(), WriteFailed>
     requires open { W.has_failed sink.old ≡ false }
-    requires held { ArePairs records.now.pairs }
-    ensures { Writes result (W.taken sink.old) (W.taken sink.new)
-        (flat_map line_of (own_reply (list (key_in_place fields.now))
-        (own (tenant_in_place fields.now) (records_of records.now.pairs))))
+    requires span { IsSpan records.old.nodes span.old }
+    requires listed { AllByRecursion IsListed (span_pairs records.old.nodes span.old) }
+    requires few { length (span_pairs records.old.nodes span.old) < 2 ^ 64 }
+    ensures written { Writes result (W.taken sink.old) (W.taken sink.new)
+        (flat_map line_of (listed (map own_pair (span_pairs records.old.nodes span.old))))
         (W.has_failed sink.new) }
+    ensures kept { IsSameMap records.old records.new }
+    ensures counts { OnOk result
+        (GrewBy (length (span_pairs records.old.nodes span.old)) records.old.count records.new.count) }
 {
-    let _all = records.len(); // (there are no more, so that they can be counted)
     let mut room = [0; ROOM];
     let (mut held, mut count) = (0, 0);
-    for (full, value) in records.prefix(&SliceKey(fields.full_key())) {
+    'pairs: while let Some((full, value)) = records.next(span) {
         let key = full.as_slice();
         let text = value.as_slice();
         let next = gather_pair(sink, &mut room, held, key, text)?;
@@ -48,19 +56,46 @@ pub(crate) fn write_list<W: Sink, const PREFIX_LEN: usize>(
     write_end(sink, count)
 }
 
-/// Writes the tenant's pairs from the low key on that was read and below the high one, and how many they are. That the
-/// bounds are in order is tested here, before any look at the map.
-pub(crate) fn write_span<W: Sink, const PREFIX_LEN: usize>(
-    records: &TreeMap<Vec<u8>, Vec<u8>, PREFIX_LEN>,
+/// Writes the tenant's pairs whose keys begin with the front that was read, and how many they are.
+pub(crate) fn write_list<W: Sink, const PREFIX_LEN: usize>(
+    records: &mut MapReader<'_, Vec<u8>, Vec<u8>, PREFIX_LEN>,
     fields: &Fields,
     sink: &mut W,
 ) -> Result<(), WriteFailed>
     requires open { W.has_failed sink.old ≡ false }
-    requires held { ArePairs records.now.pairs }
-    ensures { Writes result (W.taken sink.old) (W.taken sink.new)
-        (flat_map line_of (own_reply (span (key_in_place fields.now) (value_in_place fields.now))
-        (own (tenant_in_place fields.now) (records_of records.now.pairs))))
+    requires reads { (ps : List Pair) × ReadsRecords PREFIX_LEN records.old ps }
+    ensures told { (ps : List Pair) → ReadsRecords PREFIX_LEN records.old ps
+        → Writes result (W.taken sink.old) (W.taken sink.new)
+        (flat_map line_of (own_reply (list (key_in_place fields.now))
+        (own (tenant_in_place fields.now) (records_of ps))))
         (W.has_failed sink.new) }
+    ensures kept { IsSameMap records.old records.new }
+    ensures visits { (ps : List Pair) → ReadsRecords PREFIX_LEN records.old ps → OnOk result (Grew
+        (request_visits (tenant_in_place fields.now) (list (key_in_place fields.now)) (records_of ps))
+        records.old.count records.new.count) }
+{
+    let mut span = records.prefix(&SliceKey(fields.full_key()));
+    write_pairs(records, &mut span, sink)
+}
+
+/// Writes the tenant's pairs from the low key on that was read and below the high one, and how many they are. That the
+/// bounds are in order is tested here, before any look at the map.
+pub(crate) fn write_span<W: Sink, const PREFIX_LEN: usize>(
+    records: &mut MapReader<'_, Vec<u8>, Vec<u8>, PREFIX_LEN>,
+    fields: &Fields,
+    sink: &mut W,
+) -> Result<(), WriteFailed>
+    requires open { W.has_failed sink.old ≡ false }
+    requires reads { (ps : List Pair) × ReadsRecords PREFIX_LEN records.old ps }
+    ensures told { (ps : List Pair) → ReadsRecords PREFIX_LEN records.old ps
+        → Writes result (W.taken sink.old) (W.taken sink.new)
+        (flat_map line_of (own_reply (span (key_in_place fields.now) (value_in_place fields.now))
+        (own (tenant_in_place fields.now) (records_of ps))))
+        (W.has_failed sink.new) }
+    ensures kept { IsSameMap records.old records.new }
+    ensures visits { (ps : List Pair) → ReadsRecords PREFIX_LEN records.old ps → OnOk result (Grew
+        (request_visits (tenant_in_place fields.now) (span (key_in_place fields.now) (value_in_place fields.now))
+        (records_of ps)) records.old.count records.new.count) }
 {
     if fields.value().cmp(fields.key()).is_lt() {
         return write_piece(sink, b"bounds\n");
@@ -69,28 +104,53 @@ pub(crate) fn write_span<W: Sink, const PREFIX_LEN: usize>(
 }
 
 /// The same where the bounds are in order.
-#[inline(never)]
 fn write_between<W: Sink, const PREFIX_LEN: usize>(
-    records: &TreeMap<Vec<u8>, Vec<u8>, PREFIX_LEN>,
+    records: &mut MapReader<'_, Vec<u8>, Vec<u8>, PREFIX_LEN>,
     fields: &Fields,
     sink: &mut W,
 ) -> Result<(), WriteFailed>
     requires open { W.has_failed sink.old ≡ false }
-    requires held { ArePairs records.now.pairs }
+    requires reads { (ps : List Pair) × ReadsRecords PREFIX_LEN records.old ps }
     requires order { is_below (value_in_place fields.now) (key_in_place fields.now) ≡ false }
-    ensures { Writes result (W.taken sink.old) (W.taken sink.new)
+    ensures told { (ps : List Pair) → ReadsRecords PREFIX_LEN records.old ps
+        → Writes result (W.taken sink.old) (W.taken sink.new)
         (flat_map line_of (listed (pairs_from_to (key_in_place fields.now) (value_in_place fields.now)
-        (own (tenant_in_place fields.now) (records_of records.now.pairs)).keys)))
+        (own (tenant_in_place fields.now) (records_of ps)).keys)))
         (W.has_failed sink.new) }
+    ensures kept { IsSameMap records.old records.new }
+    ensures visits { (ps : List Pair) → ReadsRecords PREFIX_LEN records.old ps → OnOk result (Grew
+        (span_visits (tenant_in_place fields.now) (key_in_place fields.now) (value_in_place fields.now) (records_of ps))
+        records.old.count records.new.count) }
 {
-    let _all = records.len(); // (there are no more, so that they can be counted)
+    let (low, high) = (SliceKey(fields.full_key()), SliceKey(fields.full_bound()));
+    let mut span = records.range(Bound::Included(&low), Bound::Excluded(&high));
+    write_pairs(records, &mut span, sink)
+}
+
+/// Writes the pairs of a span of numbers without their tenant, and how many they are. A leaf is read for each.
+#[inline(never)]
+fn write_numbers<W: Sink, const PREFIX_LEN: usize>(
+    numbers: &mut MapReader<'_, [u8; NUMBER_KEY], Vec<u8>, PREFIX_LEN>,
+    span: &mut ReadSpan,
+    sink: &mut W,
+) -> Result<(), WriteFailed>
+    requires open { W.has_failed sink.old ≡ false }
+    requires span { IsSpan numbers.old.nodes span.old }
+    requires listed { AllByRecursion IsNumbered (span_pairs numbers.old.nodes span.old) }
+    requires few { length (span_pairs numbers.old.nodes span.old) < 2 ^ 64 }
+    ensures written { Writes result (W.taken sink.old) (W.taken sink.new)
+        (flat_map line_of (numbers_listed (map own_number (span_pairs numbers.old.nodes span.old))))
+        (W.has_failed sink.new) }
+    ensures kept { IsSameMap numbers.old numbers.new }
+    ensures counts { OnOk result
+        (GrewBy (length (span_pairs numbers.old.nodes span.old)) numbers.old.count numbers.new.count) }
+{
     let mut room = [0; ROOM];
     let (mut held, mut count) = (0, 0);
-    let (low, high) = (SliceKey(fields.full_key()), SliceKey(fields.full_bound()));
-    for (full, value) in records.range(Bound::Included(&low), Bound::Excluded(&high)) {
-        let key = full.as_slice();
+    'pairs: while let Some((key, value)) = numbers.next(span) {
+        let (_tenant, number) = numbers_of(key);
         let text = value.as_slice();
-        let next = gather_pair(sink, &mut room, held, key, text)?;
+        let next = gather_number(sink, &mut room, held, number, text)?;
         held = next;
         count += 1;
     }
@@ -101,16 +161,21 @@ fn write_between<W: Sink, const PREFIX_LEN: usize>(
 /// Writes the tenant's numbers from the low one on that was read and up to the high one, with their values, and how
 /// many they are. That the bounds are in order is tested here, before any look at the map.
 pub(crate) fn write_number_span<W: Sink, const PREFIX_LEN: usize>(
-    numbers: &TreeMap<[u8; NUMBER_KEY], Vec<u8>, PREFIX_LEN>,
+    numbers: &mut MapReader<'_, [u8; NUMBER_KEY], Vec<u8>, PREFIX_LEN>,
     fields: &Fields,
     sink: &mut W,
 ) -> Result<(), WriteFailed>
     requires open { W.has_failed sink.old ≡ false }
-    requires held { AreNumberPairs numbers.now.pairs }
-    ensures { Writes result (W.taken sink.old) (W.taken sink.new)
+    requires reads { (ns : List NumberPair) × ReadsNumbers PREFIX_LEN numbers.old ns }
+    ensures told { (ns : List NumberPair) → ReadsNumbers PREFIX_LEN numbers.old ns
+        → Writes result (W.taken sink.old) (W.taken sink.new)
         (flat_map line_of (own_reply (nspan (number_in_place fields.now) (bound_in_place fields.now))
-        (own (tenant_in_place fields.now) (number_records_of numbers.now.pairs))))
+        (own (tenant_in_place fields.now) (number_records_of ns))))
         (W.has_failed sink.new) }
+    ensures kept { IsSameMap numbers.old numbers.new }
+    ensures visits { (ns : List NumberPair) → ReadsNumbers PREFIX_LEN numbers.old ns → OnOk result (Grew
+        (request_visits (tenant_in_place fields.now) (nspan (number_in_place fields.now) (bound_in_place fields.now))
+        (number_records_of ns)) numbers.old.count numbers.new.count) }
 {
     if fields.bound() < fields.number() {
         return write_piece(sink, b"bounds\n");
@@ -119,31 +184,26 @@ pub(crate) fn write_number_span<W: Sink, const PREFIX_LEN: usize>(
 }
 
 /// The same where the bounds are in order.
-#[inline(never)]
 fn write_numbers_between<W: Sink, const PREFIX_LEN: usize>(
-    numbers: &TreeMap<[u8; NUMBER_KEY], Vec<u8>, PREFIX_LEN>,
+    numbers: &mut MapReader<'_, [u8; NUMBER_KEY], Vec<u8>, PREFIX_LEN>,
     fields: &Fields,
     sink: &mut W,
 ) -> Result<(), WriteFailed>
     requires open { W.has_failed sink.old ≡ false }
-    requires held { AreNumberPairs numbers.now.pairs }
+    requires reads { (ns : List NumberPair) × ReadsNumbers PREFIX_LEN numbers.old ns }
     requires order { int_lt (bound_in_place fields.now) (number_in_place fields.now) ≡ false }
-    ensures { Writes result (W.taken sink.old) (W.taken sink.new)
+    ensures told { (ns : List NumberPair) → ReadsNumbers PREFIX_LEN numbers.old ns
+        → Writes result (W.taken sink.old) (W.taken sink.new)
         (flat_map line_of (numbers_listed (numbers_from_to (number_in_place fields.now) (bound_in_place fields.now)
-        (own (tenant_in_place fields.now) (number_records_of numbers.now.pairs)).numbers)))
+        (own (tenant_in_place fields.now) (number_records_of ns)).numbers)))
         (W.has_failed sink.new) }
+    ensures kept { IsSameMap numbers.old numbers.new }
+    ensures visits { (ns : List NumberPair) → ReadsNumbers PREFIX_LEN numbers.old ns → OnOk result (Grew
+        (listing (length (numbers_from_to (number_in_place fields.now) (bound_in_place fields.now)
+        (own (tenant_in_place fields.now) (number_records_of ns)).numbers)) (opening 8 12))
+        numbers.old.count numbers.new.count) }
 {
-    let _all = numbers.len(); // (there are no more, so that they can be counted)
-    let mut room = [0; ROOM];
-    let (mut held, mut count) = (0, 0);
     let (low, high) = (fields.number_key(), fields.bound_key());
-    for (key, value) in numbers.range(Bound::Included(&low), Bound::Included(&high)) {
-        let (_tenant, number) = numbers_of(key);
-        let text = value.as_slice();
-        let next = gather_number(sink, &mut room, held, number, text)?;
-        held = next;
-        count += 1;
-    }
-    write_piece(sink, &room[..held])?;
-    write_end(sink, count)
+    let mut span = numbers.range(Bound::Included(&low), Bound::Included(&high));
+    write_numbers(numbers, &mut span, sink)
 }

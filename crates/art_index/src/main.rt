@@ -21,6 +21,8 @@ mod index;
 mod laws;
 mod lists;
 mod look;
+mod looked;
+mod maps;
 mod numbers;
 mod placed;
 mod records;

@@ -1,10 +1,9 @@
-//! The records of all tenants under numbers: a map of values under the bytes of a tenant and a number.
-ghost use Rattle.std.specs.Prelude.{◌≡◌, option_map, take, drop};
+//! The records of all tenants under numbers: how the map of values under the bytes of a tenant and a number is changed.
+ghost use Rattle.std.specs.Prelude.{◌≡◌, take, drop};
 ghost use Rattle.std.specs.Int.{from_be_bytes, w32};
 ghost use Rattle.art_index.specs.Commands.{of_tenant, nput, ndel};
 ghost use Rattle.art_index.specs.Keys.{number_of_bytes};
-ghost use Rattle.art_index.specs.Records.{NumberFits, own};
-ghost use Rattle.art_index.specs.Replies.{value_at_number as value_in};
+ghost use Rattle.art_index.specs.Records.{NumberFits};
 ghost use Rattle.art_index.specs.Parsed.{tenant_in_place, number_in_place, value_in_place};
 ghost use Rattle.art_index.specs.Stored.{number_records_of, AreNumberPairs};
 ghost use Rattle.art_index.specs.Changed.{IsChangeDone};
@@ -13,21 +12,6 @@ use crate::command::fields::{Fields, NUMBER_KEY};
 use crate::placed::Placed;
 use art_map::TreeMap;
 use std::alloc::Global;
-
-/// The value at the tenant's number that was read. Its key is put together in place, without memory.
-pub(crate) fn value_at_number<'a, const PREFIX_LEN: usize>(
-    numbers: &'a TreeMap<[u8; NUMBER_KEY], Vec<u8>, PREFIX_LEN>,
-    fields: &Fields,
-) -> Option<&'a [u8]>
-    requires { AreNumberPairs numbers.now.pairs }
-    ensures { option_map (λ v. v.now) result ≡ value_in (number_in_place fields.now)
-        (own (tenant_in_place fields.now) (number_records_of numbers.now.pairs)).numbers }
-{
-    match numbers.get(&fields.number_key()) {
-        Some(value) => Some(value.as_slice()),
-        None => None,
-    }
-}
 
 /// Puts the value that was read at the tenant's number that was read. All memory is taken before anything is changed.
 /// No number conflicts with another, since their keys have as many bytes.

@@ -1,58 +1,20 @@
-//! The records of all tenants: a map of values under full keys.
-ghost use Rattle.std.specs.Prelude.{◌≡◌, false, option_map, IfSome, ◌+◌, ◌≤◌, length};
+//! The records of all tenants under keys: how the map of values under full keys is changed.
+ghost use Rattle.std.specs.Prelude.{◌≡◌, false};
 ghost use Rattle.art_index.specs.Words.{line_of};
 ghost use Rattle.art_index.specs.Commands.{of_tenant, over, del};
-ghost use Rattle.art_index.specs.Records.{KeyFits, own};
-ghost use Rattle.art_index.specs.Replies.{value_at, front_at, pair_words};
+ghost use Rattle.art_index.specs.Records.{KeyFits};
 ghost use Rattle.art_index.specs.Faults.{Writes};
 ghost use Rattle.art_index.specs.Parsed.{tenant_in_place, key_in_place, value_in_place};
 ghost use Rattle.art_index.specs.Stored.{records_of, ArePairs};
 ghost use Rattle.art_index.specs.Changed.{IsPutDone, IsChangeDone, placed_words};
 
 use crate::command::fields::Fields;
-use crate::gather::key_of;
 use crate::placed::Placed;
 use crate::reply::{write_found, write_over, write_piece};
 use crate::stream::{Sink, WriteFailed};
 use art_bytes::SliceKey;
 use art_map::TreeMap;
 use std::alloc::Global;
-
-/// The value at the tenant's key that was read. It is looked up by its full key, where that was read, without memory.
-pub(crate) fn value_of<'a, const PREFIX_LEN: usize>(
-    records: &'a TreeMap<Vec<u8>, Vec<u8>, PREFIX_LEN>,
-    fields: &Fields,
-) -> Option<&'a [u8]>
-    requires { ArePairs records.now.pairs }
-    ensures { option_map (λ v. v.now) result
-        ≡ value_at (key_in_place fields.now) (own (tenant_in_place fields.now) (records_of records.now.pairs)).keys }
-{
-    match records.get(&SliceKey(fields.full_key())) {
-        Some(value) => Some(value.as_slice()),
-        None => None,
-    }
-}
-
-/// The tenant's key that is a front of the one that was read, or equals it, and the value there. It is looked up in
-/// place likewise.
-pub(crate) fn front_of<'a, const PREFIX_LEN: usize>(
-    records: &'a TreeMap<Vec<u8>, Vec<u8>, PREFIX_LEN>,
-    fields: &Fields,
-) -> Option<(&'a [u8], &'a [u8])>
-    requires { ArePairs records.now.pairs }
-    ensures found { option_map (λ p. (p.0.now, p.1.now)) result
-        ≡ front_at (key_in_place fields.now) (own (tenant_in_place fields.now) (records_of records.now.pairs)).keys }
-    ensures line { IfSome result (λ p. 3 + length (line_of (pair_words (p.0.now, p.1.now))) ≤ 4097) }
-{
-    match records.prefix_get_key_value(&SliceKey(fields.full_key())) {
-        Some((full, value)) => {
-            let key = key_of(full.as_slice());
-            let text = value.as_slice();
-            Some((key, text))
-        }
-        None => None,
-    }
-}
 
 /// Puts the value that was read at the tenant's key that was read, unless the key conflicts with another. All memory is
 /// taken before anything is changed, and none where there is a conflict.

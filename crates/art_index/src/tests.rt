@@ -1,6 +1,8 @@
 //! What no clause says: worked lines from outside, however they are cut, and both ends failing at each place.
 ghost use Rattle.std.specs.Prelude.{◌≤◌};
 
+mod counts;
+mod from_maps;
 mod rows;
 
 use crate::command::{Command, parse_line};

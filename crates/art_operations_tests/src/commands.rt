@@ -3,6 +3,7 @@ ghost use Rattle.std.specs.Prelude.{ℕ, List, ◌<◌};
 ghost use Rattle.art_operations.specs.Runs.{HoldsClonesOf, IsCloned};
 
 use crate::bounds::all_stand;
+use crate::counted::counts_stand;
 use art_arena::NodeArena;
 use art_bytes::{AsBytes, CloneBytes, SliceKey};
 use art_nodes::{Kind4, Kind16, Kind48, Kind256, KindLeaf, NodeKind, NodePtr};
@@ -53,6 +54,8 @@ pub(crate) enum Look<'a, K> {
     Keys { stored: &'a [K], missing: &'a [K] },
     /// Whether each bound, prefix and range takes its leaves.
     Bounds,
+    /// Whether searches by a reader read so many nodes.
+    Counts,
 }
 
 // Whether a run left what is looked for.
@@ -67,6 +70,7 @@ fn shows<K: CloneBytes, V: Clone, const PREFIX_LEN: usize>(
     match look {
         Look::Keys { stored, missing } => has_left(ran, stored, missing),
         Look::Bounds => all_stand(ran),
+        Look::Counts => counts_stand(ran),
     }
 }
 

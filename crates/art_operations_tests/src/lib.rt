@@ -14,6 +14,8 @@ mod clones;
 #[cfg(test)]
 mod commands;
 #[cfg(test)]
+mod counted;
+#[cfg(test)]
 mod frees;
 #[cfg(test)]
 mod lookups;

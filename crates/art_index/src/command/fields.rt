@@ -71,6 +71,7 @@ impl Fields {
     pub(crate) fn full_key(&self) -> &[u8]
         ensures value { result.now ≡ full_key_of (tenant_in_place self.now) (key_in_place self.now) }
         ensures tenant { tenant_in_place self.now < 2 ^ 32 }
+        ensures short { length result.now ≤ 2049 }
     {
         split_of(self.full_key.as_slice())
     }

@@ -1,105 +1,60 @@
-use Rattle.std.proofs.Common.{arith, rules, ◌≡◌, ◌+◌, ◌++◌, ◌≤◌, ℕ, List, length, take, drop, append-nil, ap, ap₂, sym, ◌∙◌, subst, inr}
-use Rattle.std.specs.Prelude.{filter, not, int_lt, ◌&&◌, Bool, ℤ}
-use Rattle.std.specs.Int.{cast_signed, cast_unsigned, w64}
+use Rattle.std.proofs.Common.{rules, ◌≡◌, ℕ, ◌^◌, ◌<◌, ◌≤◌, List, length, map, ap, ap₂, sym, ◌∙◌, subst, arith, inr}
+use Rattle.std.specs.Prelude.{filter, flat_map}
 use Rattle.std.specs.List.{AllByRecursion}
-use Rattle.std.proofs.lemmas.Int.{to_z-of_z}
 use Rattle.std.specs.declared.ops.Bound.TheVariants.{Included}
 use Rattle.std.specs.BTreeMap.Range.{IsLeBy, range_contains}
-use Rattle.std.proofs.lemmas.Result.{on_err_weaker, on_ok_weaker}
+use Rattle.std.proofs.lemmas.Result.{on_ok_weaker}
 use Rattle.art_bytes.specs.Keys.{bytes_cmp}
-use Rattle.art_bytes.specs.Laws.{pair_key}
-use Rattle.art_index.specs.Keys.{number_of_bytes}
 use Rattle.art_index.specs.Words.{line_of}
-use Rattle.art_index.specs.Replies.{number_words}
+use Rattle.art_index.specs.Replies.{numbers_listed}
+use Rattle.art_index.specs.Faults.{Writes}
+use Rattle.art_index.specs.Counts.{GrewBy}
+use Rattle.art_index.specs.Spans.{span_pairs, own_number, IsNumbered}
 use Rattle.art_index.specs.Stored.{NumberPair}
 use Rattle.art_index.specs.Parsed.{tenant_in_place, number_in_place, bound_in_place}
-use Rattle.art_index.proofs.Cuts.{taken_none, taken_from, taken_more, taken_through, taken_all, taken_cut, when_err}
-use Rattle.art_index.proofs.Dropping.{All-filter}
-use Rattle.art_index.proofs.Listing.{lines_from, lines_next, words_numbered, list_end, numbers_all, IsNumbered, are_numbered, filter_shorter}
-use Rattle.art_index.proofs.NumberKeys.{HaveBytes, between_numbers, numbers_in_order}
-use Rattle.art_index.proofs.NumberPlaces.{numbers_passing, stand_all}
+use Rattle.art_index.proofs.NumberKeys.{HaveBytes, numbers_in_order}
+use Rattle.art_index.proofs.RecordCounts.{own_numbers_left, numbers_left_listed, numbers_left_few, numbers_left_grew, numbers_within}
+use Rattle.art_index.proofs.SpanLemmas.{span_left}
 use Rattle.art_index.proofs.lists.write_numbers_between.Goals as goal
 
-pub range-key-items-requires : goal.range-key-items-requires
-range-key-items-requires g c =
+pub range-span-requires : goal.range-span-requires
+range-span-requires g c =
     let F = c.args.fields.now in
     let valid = numbers_in_order (tenant_in_place F) (number_in_place F) (bound_in_place F) (c.number_key-low.ensures.tenant, c.number_key-low.ensures.number) (c.number_key-low.ensures.tenant, c.bound_key-high.ensures.bound) c.requires.order in
     let ends = sym (ap₂ (λ a b. (a, b)) c.number_key-low.ensures.value c.bound_key-high.ensures.value) in
-    (search rules, (search rules, (search rules, inr (subst (λ (q : List ℕ × List ℕ). IsLeBy bytes_cmp q.0 q.1) ends valid))))
+    (search rules, (search rules, λ ns r. inr (subst (λ (q : List ℕ × List ℕ). IsLeBy bytes_cmp q.0 q.1) ends valid)))
 
-pub loop-key-init : goal.loop-key-init
-loop-key-init g c =
-    let F = c.args.fields.now in let ns = c.args.numbers.now.pairs in
-    let t = tenant_in_place F in let low = number_in_place F in let high = bound_in_place F in
+pub write_numbers-requires : goal.write_numbers-requires
+write_numbers-requires g c =
+    let F = c.args.fields.now in let t = tenant_in_place F in let low = number_in_place F in let high = bound_in_place F in
     let fits_low : HaveBytes t low = (c.number_key-low.ensures.tenant, c.number_key-low.ensures.number) in
     let fits_high : HaveBytes t high = (c.number_key-low.ensures.tenant, c.bound_key-high.ensures.bound) in
-    let T : List ℕ → Bool = range_contains bytes_cmp (Included (pair_key (t, low))) (Included (pair_key (t, high))) in
-    let all = c.into_iter-key-iterator.ensures.into_iter_gives ∙ c.range-key-items.ensures.rest
-    ∙ ap₂ (λ a b. filter (λ p. range_contains bytes_cmp (Included a) (Included b) p.0) ns) c.number_key-low.ensures.value c.bound_key-high.ensures.value in
-    let zero : 0 + length c.into_iter-key-iterator.result ≡ length c.into_iter-key-iterator.result = omega arith in
-    let ws : List NumberPair = filter (λ p. T p.0) ns in
-    let told = numbers_all ws _ (numbers_passing t T (λ m. not (int_lt m low) && not (int_lt high m))
-    (λ u m h. between_numbers t u low high m fits_low fits_high h) ns (stand_all ns c.requires.held.stand c.requires.held.fit)) in
-    record {
-      taken = taken_none _ _ _ (ap (λ n. lines_from words_numbered (list_end n) c.into_iter-key-iterator.result) zero ∙ ap (λ l. lines_from words_numbered (list_end (length l)) l) all ∙ told);
-      fine = c.requires.open;
-      listed = subst (AllByRecursion IsNumbered) (sym all) (All-filter IsNumbered (λ p. T p.0) ns (are_numbered ns c.requires.held.fit));
-      held = omega arith;
-      counted = let few = filter_shorter (λ p. T p.0) ns in let same = ap length all in omega arith;
-    }
+    let ns = c.requires.reads.0 in let r = c.requires.reads.1 in
+    let left = span_left _ ns _ _ (c.range-span.ensures.value ns r.read)
+    ∙ ap₂ (λ a b. filter (λ (p : NumberPair). range_contains bytes_cmp (Included a) (Included b) p.0) ns) c.number_key-low.ensures.value c.bound_key-high.ensures.value in
+    let listed : AllByRecursion IsNumbered (span_pairs c.range-span.new.self.nodes c.range-span.result) = subst (AllByRecursion IsNumbered) (sym left) (numbers_left_listed t low high fits_low fits_high ns r.are) in
+    let few : length (span_pairs c.range-span.new.self.nodes c.range-span.result) < 2 ^ 64 = subst (λ (l : List NumberPair). length l < 2 ^ 64) (sym left) (numbers_left_few t low high fits_low fits_high ns r.are r.few) in
+    search (rules, listed, few)
 
-pub gather_number-requires-clause-line : goal.gather_number-requires-clause-line
-gather_number-requires-clause-line g c =
-    let listed = (subst (AllByRecursion IsNumbered) c.in-Some.ensures.steps c.loop-key.invariant.listed).0 in
-    let back = ap (λ z. cast_signed w64 (cast_unsigned w64 z)) c.numbers_of-tenant.ensures.number ∙ to_z-of_z w64 (number_of_bytes (drop 4 c.in-Some.key.now)) listed.1 in
-    subst (λ (q : ℤ × List ℕ). length (line_of (number_words q)) ≤ 4097) (sym (ap₂ (λ (a : ℤ) (b : List ℕ). (a, b)) back c.as_slice-text.ensures.value)) listed.0
+pub returns-clause-told : goal.returns-clause-told
+returns-clause-told g c = λ ns r.
+    let F = c.args.fields.now in let t = tenant_in_place F in let low = number_in_place F in let high = bound_in_place F in
+    let fits_low : HaveBytes t low = (c.number_key-low.ensures.tenant, c.number_key-low.ensures.number) in
+    let fits_high : HaveBytes t high = (c.number_key-low.ensures.tenant, c.bound_key-high.ensures.bound) in
+    let left = span_left _ ns _ _ (c.range-span.ensures.value ns r.read)
+    ∙ ap₂ (λ a b. filter (λ (p : NumberPair). range_contains bytes_cmp (Included a) (Included b) p.0) ns) c.number_key-low.ensures.value c.bound_key-high.ensures.value in
+    let own = ap (map own_number) left ∙ own_numbers_left t low high fits_low fits_high ns r.are in
+    subst (λ pairs. Writes c.write_numbers.result (g.W.Sink.taken c.args.sink.now) (g.W.Sink.taken c.write_numbers.new.sink) (flat_map line_of (numbers_listed pairs)) (g.W.Sink.has_failed c.write_numbers.new.sink)) own c.write_numbers.ensures.written
 
-pub loop-key-preserved : goal.loop-key-preserved
-loop-key-preserved g c =
-    let p : NumberPair = (c.in-Some.key.now, c.in-Some.value.now) in
-    let listed = subst (AllByRecursion IsNumbered) c.in-Some.ensures.steps c.loop-key.invariant.listed in
-    let back = ap (λ z. cast_signed w64 (cast_unsigned w64 z)) c.numbers_of-tenant.ensures.number ∙ to_z-of_z w64 (number_of_bytes (drop 4 c.in-Some.key.now)) listed.0.1 in
-    let parts = ap₂ (λ (a : ℤ) (b : List ℕ). (a, b)) back c.as_slice-text.ensures.value in
-    let one = ap length c.in-Some.ensures.steps in
-    let counted = c.loop-key.invariant.counted in
-    let total : c.loop-key.count + 1 + length c.next.new.self ≡ c.loop-key.count + length c.loop-key.key-iterator = omega arith in
-    let last = list_end (c.loop-key.count + length c.loop-key.key-iterator) in
-    let next = lines_next words_numbered last p c.next.new.self c.loop-key.key-iterator _ (take c.loop-key.held c.loop-key.room) c.in-Some.ensures.steps
-    (ap (λ (q : ℤ × List ℕ). line_of (number_words q)) parts) in
-    let taken = taken_through _ _ _ _ _ _ _ (taken_from _ _ _ _ _ next c.loop-key.invariant.taken) c.in_ok-next.ensures.taken in
-    record {
-      taken = taken_from _ _ _ _ _ (ap (λ n. take c.in_ok-next.next c.gather_number.new.room ++ lines_from words_numbered (list_end n) c.next.new.self) (sym total)) taken;
-      fine = sym c.in_ok-next.ensures.failed;
-      listed = listed.1;
-      held = c.in_ok-next.ensures.fits;
-      counted = omega arith;
-    }
-
-pub returns-in_err-next : goal.returns-in_err-next
-returns-in_err-next g c =
-    record {
-      ok = search rules;
-      cut = when_err _ (taken_cut _ _ _ _ _ _ c.loop-key.invariant.taken c.in_err-next.ensures.cut);
-      failed = search rules;
-    }
-
-pub returns-in_err-write_piece : goal.returns-in_err-write_piece
-returns-in_err-write_piece g c =
-    record {
-      ok = search rules;
-      cut = when_err _ (taken_cut _ _ _ _ _ _ c.loop-key.invariant.taken c.in_err-write_piece.ensures.cut);
-      failed = search rules;
-    }
-
-pub returns : goal.returns
-returns g c =
-    let none = ap length c.in-None.ensures.steps.0 in
-    let all : c.loop-key.count + length c.loop-key.key-iterator ≡ c.loop-key.count = omega arith in
-    let last = ap (λ d. take c.loop-key.held c.loop-key.room ++ lines_from words_numbered (list_end (c.loop-key.count + length c.loop-key.key-iterator)) d) c.in-None.ensures.steps.0
-    ∙ ap (λ n. take c.loop-key.held c.loop-key.room ++ list_end n) all ∙ ap (λ e. take c.loop-key.held c.loop-key.room ++ e) (sym (append-nil (list_end c.loop-key.count))) in
-    let taken = taken_more _ _ _ _ _ _ (taken_from _ _ _ _ _ last c.loop-key.invariant.taken) c.in_ok-write_piece.ensures.ok in
-    record {
-      ok = on_ok_weaker c.write_end.result (λ told. taken_all _ _ _ (taken_more _ _ _ _ _ _ taken told)) c.write_end.ensures.ok;
-      cut = on_err_weaker c.write_end.result (taken_cut _ _ _ _ _ _ taken) c.write_end.ensures.cut;
-      failed = search rules;
-    }
+pub returns-clause-visits : goal.returns-clause-visits
+returns-clause-visits g c = λ ns r.
+    let F = c.args.fields.now in let t = tenant_in_place F in let low = number_in_place F in let high = bound_in_place F in
+    let fits_low : HaveBytes t low = (c.number_key-low.ensures.tenant, c.number_key-low.ensures.number) in
+    let fits_high : HaveBytes t high = (c.number_key-low.ensures.tenant, c.bound_key-high.ensures.bound) in
+    let left = span_left _ ns _ _ (c.range-span.ensures.value ns r.read)
+    ∙ ap₂ (λ a b. filter (λ (p : NumberPair). range_contains bytes_cmp (Included a) (Included b) p.0) ns) c.number_key-low.ensures.value c.bound_key-high.ensures.value in
+    let first = ap length c.number_key-low.ensures.value in
+    let second = ap length c.bound_key-high.ensures.value in
+    on_ok_weaker c.write_numbers.result (λ is. numbers_left_grew t low high fits_low fits_high ns r.are _ _ _ r.few
+    (c.range-span.ensures.few ns r.read 12 12 (numbers_within ns r.are.stand) (omega arith) (omega arith))
+    (subst (λ (l : List NumberPair). GrewBy (length l) c.range-span.new.self.count c.write_numbers.new.numbers.count) left is)) c.write_numbers.ensures.counts

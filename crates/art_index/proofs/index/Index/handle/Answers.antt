@@ -7,29 +7,44 @@ use Rattle.art_index.specs.Stored.{all_records_of}
 use Rattle.art_index.proofs.Cuts.{cut_line, when_err}
 use Rattle.art_index.proofs.Replies.{done_told, done_left, done_lawful, told_of, all_told, all_left, all_lawful, same_left, bad_told, bad_left}
 use Rattle.art_index.proofs.Families.{look_leaves, all_leaves}
+use Rattle.art_index.proofs.CountLaws.{short_of, own_path_of}
+use Rattle.art_index.proofs.LineCounts.{line_reads, are_records}
 use Rattle.art_index.proofs.Spelling.{spells}
 use Rattle.art_index.proofs.index.Index.handle.Goals as goal
 use Rattle.art_index.proofs.index.Index.handle.Goals.{in-Old-2, in-New-2, in-Gone-2}
 
-pub returns-in_ok-look_up-in-Some-LookUp-clause-told : goal.returns-in_ok-look_up-in-Some-LookUp-clause-told
-returns-in_ok-look_up-in-Some-LookUp-clause-told g c =
+pub returns-in_ok-visits-in-Some-LookUp-clause-told : goal.returns-in_ok-visits-in-Some-LookUp-clause-told
+returns-in_ok-visits-in-Some-LookUp-clause-told g c =
     let F = c.read_line.new.fields in let w = c.in-Some-LookUp.word in
     let meant : Some (looks_up w F) ≡ command_of c.args.line.now = ap (λ x. Some (command_with x F)) (sym c.in-Some-LookUp.field-0-is) ∙ c.in-Some-LookUp.ensures in
-    c.in_ok-look_up-in-Some-LookUp.ensures.ok ∙ ap (λ t. g.W.Sink.taken c.args.sink.now ++ t) (told_of _ c.args.self.now (looks_up w F) c.args.line.now meant c.self.view_is)
+    c.in_ok-visits-in-Some-LookUp.ensures.told.ok ∙ ap (λ t. g.W.Sink.taken c.args.sink.now ++ t) (told_of _ c.args.self.now (looks_up w F) c.args.line.now meant c.self.view_is)
 
-pub returns-in_ok-look_up-in-Some-LookUp-clause-left : goal.returns-in_ok-look_up-in-Some-LookUp-clause-left
-returns-in_ok-look_up-in-Some-LookUp-clause-left g c =
+pub returns-in_ok-visits-in-Some-LookUp-clause-left : goal.returns-in_ok-visits-in-Some-LookUp-clause-left
+returns-in_ok-visits-in-Some-LookUp-clause-left g c =
     let F = c.read_line.new.fields in let w = c.in-Some-LookUp.word in
     let meant : Some (looks_up w F) ≡ command_of c.args.line.now = ap (λ x. Some (command_with x F)) (sym c.in-Some-LookUp.field-0-is) ∙ c.in-Some-LookUp.ensures in
     c.self.view_is ∙ same_left c.args.self.now (looks_up w F) c.args.line.now meant (look_leaves F w c.args.self.now)
 
-pub returns-in_err-look_up-in-Some-LookUp-clause-cut : goal.returns-in_err-look_up-in-Some-LookUp-clause-cut
-returns-in_err-look_up-in-Some-LookUp-clause-cut g c =
+pub returns-in_err-visits-in-Some-LookUp-clause-cut : goal.returns-in_err-visits-in-Some-LookUp-clause-cut
+returns-in_err-visits-in-Some-LookUp-clause-cut g c =
     let F = c.read_line.new.fields in let w = c.in-Some-LookUp.word in
     let meant : Some (looks_up w F) ≡ command_of c.args.line.now = ap (λ x. Some (command_with x F)) (sym c.in-Some-LookUp.field-0-is) ∙ c.in-Some-LookUp.ensures in
     let told = told_of _ c.args.self.now (looks_up w F) c.args.line.now meant c.self.view_is in
     let left = c.self.view_is ∙ same_left c.args.self.now (looks_up w F) c.args.line.now meant (look_leaves F w c.args.self.now) in
-    when_err _ (cut_line false _ _ _ _ _ _ told c.in_err-look_up-in-Some-LookUp.ensures.cut left (λ e. absurd (false≢true e)))
+    when_err _ (cut_line false _ _ _ _ _ _ told c.in_err-visits-in-Some-LookUp.ensures.told.cut left (λ e. absurd (false≢true e)))
+
+pub returns-in_ok-visits-in-Some-LookUp-clause-short : goal.returns-in_ok-visits-in-Some-LookUp-clause-short
+returns-in_ok-visits-in-Some-LookUp-clause-short g c =
+    let F = c.read_line.new.fields in let w = c.in-Some-LookUp.word in
+    let meant : Some (looks_up w F) ≡ command_of c.args.line.now = ap (λ x. Some (command_with x F)) (sym c.in-Some-LookUp.field-0-is) ∙ c.in-Some-LookUp.ensures in
+    short_of (command_of c.args.line.now) c.args.self.now _ (line_reads (Some (looks_up w F)) c.args.line.now _ c.args.self.now _ meant c.self.view_is c.in_ok-visits-in-Some-LookUp.ensures.visits)
+
+pub returns-in_ok-visits-in-Some-LookUp-clause-own_path : goal.returns-in_ok-visits-in-Some-LookUp-clause-own_path
+returns-in_ok-visits-in-Some-LookUp-clause-own_path g c =
+    let F = c.read_line.new.fields in let w = c.in-Some-LookUp.word in
+    let meant : Some (looks_up w F) ≡ command_of c.args.line.now = ap (λ x. Some (command_with x F)) (sym c.in-Some-LookUp.field-0-is) ∙ c.in-Some-LookUp.ensures in
+    own_path_of (command_of c.args.line.now) c.args.self.now _ (are_records _ _ c.args.self.now c.self.view_is c.self.invariant.0 c.self.invariant.1)
+    (line_reads (Some (looks_up w F)) c.args.line.now _ c.args.self.now _ meant c.self.view_is c.in_ok-visits-in-Some-LookUp.ensures.visits)
 
 pub returns-in_ok-tell_all-in-Some-Whole-clause-told : goal.returns-in_ok-tell_all-in-Some-Whole-clause-told
 returns-in_ok-tell_all-in-Some-Whole-clause-told g c =
