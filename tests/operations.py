@@ -15,8 +15,7 @@ import sys
 from collections import Counter
 from glob import glob
 
-from maps import PREFIX_LENS, bytes_in, common, overlap, shown
-
+PREFIX_LENS = (0, 4, 16)
 PROGRAM = os.path.abspath("crates/play_operations/out/play_operations")
 # The fewest and the most children of each kind of inner node.
 KINDS = {4: (2, 4), 16: (5, 16), 48: (17, 48), 256: (49, 256)}
@@ -24,6 +23,23 @@ KINDS = {4: (2, 4), 16: (5, 16), 48: (17, 48), 256: (49, 256)}
 SHRINKING = {5, 17, 49}
 PUTS = ("insert", "insert_placed", "put_over")
 LARGER, SMALLER = {4: 16, 16: 48, 48: 256}, {16: 4, 48: 16, 256: 48}
+
+
+def bytes_in(word):
+    parts = (part.partition("*") for part in word.lstrip("[(").split(".") if part[:1] not in ("", "-"))
+    return b"".join(bytes.fromhex(digits) * int(times or 1) for digits, _, times in parts)
+
+
+def shown(key):
+    return str(list(key))
+
+
+def overlap(one, other):
+    return one.startswith(other) or other.startswith(one)
+
+
+def common(one, other):
+    return os.path.commonprefix([one, other])
 
 
 class Leaf:
@@ -460,7 +476,8 @@ class Model:
 
 # What each line names: `k` a key, `s` one that is stored if it can be, `n` a number, `b` a bound, `c` a command.
 CALLS = {
-    "insert": "kn", "insert_placed": "kn", "put_over": "kn", "delete": "s", "delete_first": "", "delete_last": "", "reserve": "n", "clone": "", "key": "k", "command": "c", "forget": "", "run": "", "free": "",
+    "insert": "kn", "insert_placed": "kn", "put_over": "kn", "delete": "s", "delete_first": "", "delete_last": "",
+    "reserve": "n", "clone": "", "key": "k", "command": "c", "forget": "", "run": "", "free": "",
     "free_apart": "", "check": "", "search": "s", "prefix_search": "k", "minimum": "", "maximum": "", "path": "s",
     "start": "b", "end": "b", "range": "bb", "segment": "k",
 }  # fmt: skip

@@ -1,0 +1,156 @@
+#!/usr/bin/env python3
+"""Refuses memory to each line of the scripts of the tree in turn: each request, alone and with all later ones.
+
+    tests/operations_refused.py [WORD]   at the top of the repository, after rt ci; WORD: only lines named by it
+Under tests/refuse.c, which says what a window is, play_operations plays each script of tests/operations, and six that
+are made at random, once for each line of it. The line stands twice, and is refused the first time: it must answer a
+refusal that it may answer, and all else must be as if it stood once. Where no request is refused, the answers are the
+model's too; so what asks for no memory succeeds with every request refused. How many requests each call made at most,
+and in how many runs one was refused, goes to out/operations_refused.md, for docs/REFUSALS.md.
+"""
+import itertools
+import os
+import resource
+import subprocess
+import sys
+import tempfile
+
+import operations
+
+SHIM = os.path.abspath("out/refuse-operations.so")
+# For the names of nodes the player takes memory of its own.
+PLAYERS_OWN = ("by_hand",)
+# Of each call: its lines, those of no request, the most requests of one, and the runs in which one was refused.
+seen_of = {}
+
+
+def run(program, refuse, line, text):
+    """Returns what the shim wrote of the window, and the answers."""
+    with tempfile.TemporaryFile() as trace:
+        env = {"LD_PRELOAD": SHIM, "REFUSE": refuse, "REFUSE_TRACE": str(trace.fileno()), "REFUSE_LINE": str(line)}
+        how = {"capture_output": True, "env": env, "pass_fds": [trace.fileno()], "timeout": 60}
+        ran = subprocess.run([program], input=text, **how)
+        trace.seek(0)
+        seen = trace.read().decode()
+    assert ran.returncode == 0, f"REFUSE={refuse} {seen}: status {ran.returncode}: {ran.stderr[-300:]}"
+    return seen, ran.stdout.decode().splitlines()
+
+
+def named_by(word):
+    """The bytes that a word names; none where it is a word of another kind."""
+    try:
+        return operations.bytes_in(word)
+    except ValueError:
+        return b""
+
+
+def shrinks(keys, key):
+    model = operations.Model(0)
+    model.pairs = dict.fromkeys(keys)
+    return model.shrinks(key)
+
+
+def left_by(keys, key):
+    if key not in keys:
+        return "absent key"
+    return "a node gets smaller" if shrinks(keys, key) else "no node gets smaller"
+
+
+def end_of(call, keys, word):
+    """The key of the pair that a call takes out, if there is one."""
+    return next(iter({"delete": [word], "delete_first": keys[:1], "delete_last": keys[-1:]}[call]), None)
+
+
+def refusals(model, line):
+    """All that a line may answer where it is refused."""
+    call, *words = line.split(" ") + ["", ""]
+    word, keys = named_by(words[0]), sorted(model.pairs)
+    if call in ("key", "command", "rekey"):
+        return {"no key"}
+    if model.is_by_hand:
+        return {"memory"} if call in ("leaf", "node", "copy", "grow", "shrink", "check", "clone") else set()
+    if call.startswith("delete"):
+        key = end_of(call, keys, word)
+        return {"memory"} if key in keys and shrinks(keys, key) else set()
+    if call not in operations.PUTS:
+        return {"memory"} if call in ("clone", "reserve", "run", "check") else set()
+    if word in keys or call != "put_over" and model.blocked(word):
+        return {"no key"}
+    return {"no key", f"memory {operations.shown(word)} {int(words[1] or 0)}"}
+
+
+def case(model, line, has_room):
+    """What tells lines of one call apart."""
+    call, *words = line.split(" ") + ["", ""]
+    word, keys = named_by(words[0]), sorted(model.pairs)
+    if model.is_by_hand:
+        return "nodes by hand"
+    if call in operations.PUTS:
+        told = "stored key" if word in keys else "key in conflict" if model.blocked(word) else "new key"
+        return f"{told} that was kept, behind `reserve`" if has_room else told
+    return left_by(keys, end_of(call, keys, word)) if call.startswith("delete") else ""
+
+
+def is_refused(model, line, told):
+    """Whether this is a refusal of a line. In a list of commands a refused one counts as not made."""
+    refused = {at for at, it in enumerate(told.split(", ")) if it == "Memory"}
+    if line != "run" or not refused:
+        return told in refusals(model, line)
+    model = model.again()
+    model.refused = refused
+    return told in model.answers(line)
+
+
+def agrees(model, lines, told):
+    return len(lines) == len(told) and all(it in model.answers(line) for line, it in zip(lines, told))
+
+
+def one_line(program, lines, at):
+    model, refused = operations.Model(4), 0
+    for line in lines[:at]:
+        model.answers(line)
+    twice = [*lines[: at + 1], *lines[at:]]
+    text = "".join(f"{it}\n" for it in ["tree 4", *twice]).encode()
+    for rest in ("", "+"):
+        for number in itertools.count(1):
+            seen, told = run(program, f"{number}{rest}", at + 2, text)
+            label = f"REFUSE={number}{rest} {seen}"
+            if "x" not in seen:
+                assert agrees(operations.Model(4), twice, told), f"{label}: other answers than the model's"
+                break
+            refused += 1
+            assert is_refused(model, lines[at], told[at]), f"{label}: it answers {told[at][:300]}"
+            assert agrees(operations.Model(4), lines, told[:at] + told[at + 1 :]), f"{label}: else as it stood once"
+    has_room = [it.split(" ")[0] for it in lines[max(0, at - 2) : at]] == ["key", "reserve"]
+    count = seen_of.setdefault((lines[at].split(" ")[0], case(model, lines[at], has_room)), [0, 0, 0, 0])
+    requests = seen.count(".")
+    count[:] = [count[0] + 1, count[1] + (requests == 0), max(count[2], requests), count[3] + refused]
+
+
+def main():
+    word, counts = sys.argv[1] if len(sys.argv) > 1 else "", {True: 0, False: 0}
+    resource.setrlimit(resource.RLIMIT_CORE, (0, 0))
+    os.makedirs("out", exist_ok=True)
+    subprocess.run(["cc", "-O2", "-Wall", "-shared", "-fPIC", "-o", SHIM, "tests/refuse.c"], check=True)
+    for by in ("", ".by-rattle"):  # as LLVM builds it, and as Rattle's own compiler does
+        for name, lines in operations.scripts(4, 6, 60, 1):
+            lines = lines[:180]
+            for at, line in enumerate(lines):
+                told = f"play_operations{by} {name}, line {at + 1}, {line[:40]}"
+                if word not in told or line in PLAYERS_OWN:
+                    continue
+                ended = "ok"
+                try:
+                    one_line(operations.PROGRAM + by, lines, at)
+                except (AssertionError, OSError, subprocess.TimeoutExpired) as why:
+                    ended = f"FAILED: {str(why)[:500]}"
+                counts[ended == "ok"] += 1
+                print(f"{told}: {ended}")
+    with open("out/operations_refused.md", "w", encoding="utf-8") as file:
+        for (call, told), numbers in sorted(seen_of.items()):
+            file.write(f"| `{call}` | {told} | {' | '.join(map(str, numbers))} |\n")
+    print(f"{counts[True]} passed, {counts[False]} failed")
+    sys.exit(bool(counts[False]) or not counts[True])
+
+
+main()
