@@ -10,8 +10,12 @@ Under tests/refuse.c, which says what a window is, it runs
   refused,
 - each of these lines: the line stands twice, and is refused the first time. It must answer `memory` then, and all else
   must be as if it stood once. Only lines that may be refused by the definition may ask for memory.
-- each script of tests/maps, and six that are made at random, line by line likewise, by play_map.
+- each script of tests/maps, and the first lines of six that are made at random, line by line likewise, by play_map;
+  and of all scripts that are made at random the lines whose calls are rare, while the maps are small. Behind each
+  refused line both maps are looked at by the checker, and gone along from both ends. A table tells of each call how
+  often it was refused.
 """
+import collections
 import itertools
 import os
 import re
@@ -21,16 +25,27 @@ import sys
 import tempfile
 from glob import glob
 
+import map_model
+import map_words
 import maps
 import reference
 
 SCENARIOS, PROGRAM, REFUSED, CONFLICT = "refusals", "art_index", b"memory\n", b"conflict\n"
 # A scenario or test whose name ends so must ask for nothing in its window, and each other must ask for something.
 NO_MEMORY = "takes_no_memory"
-# Calls of the map that take out several pairs, one by one, and calls that take no memory.
-SEVERAL = {"retain", "extract_if", "extraction"}
-# Calls for which the player takes memory of its own.
-PLAYERS_OWN = {"extend", "from_vec"}
+# Calls of the map that take out or put in several pairs, one by one, and calls that take no memory.
+SEVERAL = {"retain", "extract_if", "extraction", "extend", "from_vec", "from_iter"}
+# Calls that are given a key, and calls that take out one pair.
+REMOVALS = {"remove", "remove_entry", "pop_first", "pop_last", "take", "entry_remove", "entry_remove_entry"}
+GIVEN_KEY = {"try_insert", "prefix_insert", "replace", *maps.ENDED, *maps.FREE} - REMOVALS
+# Of these the first are given a key, and ask for no memory else.
+KEY_ALONE = {"prefix_entry", "prefix_keys", "and_modify", "into_mut", "into_key", *(it for it in maps.INNER[4:])}
+# The player takes memory of its own to fill its bag.
+PLAYERS_OWN = {"drain"}
+# Calls that are seldom in a script: each is refused in every script, where so many pairs are held at most, and in so
+# many runs at least; any other call that may ask for memory in one.
+RARE = {"append", "split_off", "clone", "retain", "extend", "from_vec", "from_iter", "and", "or", "xor", "minus"}
+MOST, LEAST = 60, {it: 2 if it == "retain" else 20 for it in RARE}
 TAKE_NONE = {"len", "is_empty", "get", "get_key_value", "contains_key", "index", "prefix_get", "prefix_get_key_value"}
 TAKE_NONE |= {"first_key_value", "last_key_value", "get_mut", "prefix_get_mut", "prefix_get_key_value_mut", "clear"}
 TAKE_NONE |= {"iter", "keys", "values", "range", "prefix", "range_mut", "prefix_mut", "iter_mut", "values_mut", "swap"}
@@ -39,6 +54,8 @@ TAKE_NONE |= {"symmetric_difference", "intersection", "is_disjoint", "is_subset"
 SHIM = os.path.abspath("out/refuse.so")
 word = sys.argv[1] if len(sys.argv) > 1 else ""
 counts, runs = {True: 0, False: 0}, 0
+# Of each call and kind of keys: windows, runs, and those in which a request was refused.
+told = collections.defaultdict(lambda: [0, 0, 0])
 
 
 def run(words, refuse, line=None, given=b"", status=0):
@@ -170,40 +187,85 @@ def played(model, lines):
     return "".join(f"{model.answer(it)}\n" for it in lines).encode()
 
 
-def one_call(words, kind, lines, at):
-    """A line of a script stands twice, and is refused the first time: all else must be as if it stood once. Of a line
-    that takes out several pairs, those before the refused one are gone, and those behind it stand."""
-    model = maps.model_of(kind)
-    before, call = played(model, lines[:at]), lines[at].split(" ")[0]
-    twice = "".join(f"{it}\n" for it in [words[1], *lines[: at + 1], *lines[at:]]).encode()
+def look(kind, model):
+    """Lines that look at each map with the checker, and at its pairs from both ends."""
+    ends = [f"iter {letter * (model.size() + 1)}" for letter in "fb"]
+    one = ends if kind == "set" else ["check", *ends]
+    return one if kind == "free" else [*one, "swap", *one, "swap"]
+
+
+def takes_none(line, model, kind):
+    """Whether a call takes no memory at these maps, that for its key aside: with an empty side, with a key that is
+    stored, or where it takes out a pair that leaves no smaller node."""
+    call, word = f"{line} ".split(" ")[:2]
+    one = map_model.Model(True, dict.fromkeys(model.keys)) if kind == "set" else model
+    if call in REMOVALS:
+        ends = {"pop_first": one.sorted()[:1], "pop_last": one.sorted()[-1:]}
+        key = one.key(word) if call.startswith("entry") else map_words.bytes_in(word)
+        keys = ends.get(call, [key] if key in one.pairs else [])
+        return not any(one.shrinks(key) for key in keys)
+    if call == "append":
+        return not (one.pairs and model.other)
+    return call in TAKE_NONE | KEY_ALONE or call in GIVEN_KEY and one.key(word) in one.pairs
+
+
+def one_call(words, kind, lines, at, model, before):
+    """A line of a script stands twice, and is refused the first time. Both maps are looked at in between, and all must
+    be as if the line stood once. Of a line that takes out or puts in several pairs, those before the refused one are
+    gone, or stand there, and of a line that hands over a bag nothing is left in it."""
+    call, behind = lines[at].split(" ")[0], look(kind, model) + lines[at:]
+    tally = told[call, "set" if kind == "set" else "map"]
+    twice = "".join(f"{it}\n" for it in [words[1], *lines[: at + 1], *behind]).encode()
+    free, refused, had = played(model.again(), behind), 0, runs
     for label, out, *_ in each_refusal(words[:1], line=at + 2, given=twice):
-        rest = out[len(before) :]
+        assert out.startswith(before), f"{label}: it answers {out[-300:]}"
+        answer, _, rest = out[len(before) :].partition(b"\n")
         if call in SEVERAL:
-            wanted = {}
-            for refuse in range(1, 200):
-                model_of_run = model.again()
-                model_of_run.refuse = refuse
-                told = played(model_of_run, lines[at : at + 1])
-                if b"memory" not in told:
-                    break
-                wanted.setdefault(told + played(model_of_run.again(), lines[at:]), refuse)
-            assert out.startswith(before) and rest in wanted, f"{label}: it answers {rest[:300]}"
-            continue
-        refusal, _, rest = rest.partition(b"\n")
-        wanted = played(model.again(), lines[at:])
-        assert re.match(rb"memory\b|no key", refusal) and call not in TAKE_NONE, f"{label}: it answers {refusal}"
-        assert out.startswith(before) and rest == wanted, f"{label}: behind it {rest[:300]}, and not {wanted[:300]}"
+            answer, rest = b"memory", out[len(before) :]
+            assert any(is_cut(model, refuse, lines[at], behind, rest) for refuse in range(1, 999)), f"{label}: {rest}"
+        else:
+            assert rest == free, f"{label}: behind {answer} {rest[:300]}, and not {free[:300]}"
+        assert re.match(rb"memory\b|no key", answer), f"{label}: it answers {answer}"
+        assert answer == b"no key" or not takes_none(lines[at], model, kind), f"{label}: it asks for memory"
+        refused += answer.startswith(b"memory")
+    tally[:] = tally[0] + 1, tally[1] + runs - had, tally[2] + refused
+
+
+def is_cut(model, refuse, line, behind, rest):
+    """Whether this is written where the request with this number is refused of those that a line makes in turn."""
+    model = model.again()
+    model.refuse = refuse
+    answers = played(model, [line])
+    return rest.startswith(answers) and b"memory" in answers and rest == answers + played(model.again(), behind)
 
 
 def of_players(by):
     """The scripts of the map, and some more that are made at random."""
     for name, kind, lines in maps.scripts():
-        if name.startswith("random") and int(name.split()[1]) > 5:
-            continue
-        lines = lines[:60]
-        for at in (at for at, line in enumerate(lines) if line.split(" ")[0] not in PLAYERS_OWN):
-            words = [f"crates/play_map/out/play_map{by}", f"map 4 {kind}"]
-            count("play_map", f"{name}, line {at + 1}, {lines[at][:40]}", one_call, words, kind, lines, at)
+        at_random = name.startswith("random")
+        first = len(lines) if not at_random else 60 if int(name.split()[1]) <= 5 else 0
+        model, before = maps.model_of(kind), b""
+        for at, line in enumerate(lines):
+            call = line.split(" ")[0]
+            if call not in PLAYERS_OWN and (at < first or call in RARE and model.size() <= MOST):
+                words = [f"crates/play_map/out/play_map{by}", f"map 4 {kind}"]
+                title, some = f"{name}, line {at + 1}, {line[:40]}", lines[: at + 20]
+                count("play_map", title, one_call, words, kind, some, at, model.again(), before)
+            before += played(model, [line])
+
+
+def enough(refused, least):
+    assert refused >= least, f"{refused} refused, and not {least}"
+
+
+def table():
+    """How often each call of the scripts was refused. One that may be must have been so often enough."""
+    print("| Call of | | Windows | Runs | Refused |\n|---|---|---:|---:|---:|")
+    for (call, of), row in sorted(told.items(), key=lambda it: (it[0][1], it[0][0])):
+        print(f"| {of} | `{call}` | {' | '.join(map(str, row))} |")
+    for call, of in sorted(told):
+        if call not in TAKE_NONE | KEY_ALONE:
+            count("play_map", f"refusals of {call} of a {of}", enough, told[call, of][2], LEAST.get(call, 1))
 
 
 resource.setrlimit(resource.RLIMIT_CORE, (0, 0))
@@ -214,5 +276,6 @@ for by in ("", ".by-rattle"):  # as LLVM builds them, and as Rattle's own compil
     of_scenarios(by)
     of_program(by)
     of_players(by)
+table()
 print(f"{counts[True]} passed, {counts[False]} failed")
 sys.exit(bool(counts[False]) or not counts[True])

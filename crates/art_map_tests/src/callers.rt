@@ -3,7 +3,7 @@ use crate::calling::{
     claim, count_ends, count_front, count_of, give_free, hand_over, nodes_of, outline, restart,
     toggle, total, trim, weigh,
 };
-use crate::maps::{Shows, holds_at_16, is_put, key_of_text};
+use crate::maps::{Shows, holds, is_put, key_of_text};
 use art_bytes::{AsBytes, SliceKey};
 use art_map::TreeMap;
 use std::alloc::Global;
@@ -29,7 +29,7 @@ impl Shows<Blocks> for GivenFree {
 
 #[test]
 fn a_caller_gives_free_blocks(rt: HostRuntime) {
-    assert!(rt; holds_at_16(&rt, &GivenFree));
+    assert!(rt; holds(&rt, &GivenFree));
 }
 
 type Counts = TreeMap<[u8; 4], u32, 16>;
@@ -83,7 +83,7 @@ impl Shows<Counts> for Counted {
 
 #[test]
 fn a_caller_writes_counts(rt: HostRuntime) {
-    assert!(rt; holds_at_16(&rt, &Counted));
+    assert!(rt; holds(&rt, &Counted));
 }
 
 #[test]
@@ -131,5 +131,5 @@ impl Shows<Names> for Claimed {
 
 #[test]
 fn a_caller_claims_names(rt: HostRuntime) {
-    assert!(rt; holds_at_16(&rt, &Claimed));
+    assert!(rt; holds(&rt, &Claimed));
 }

@@ -1,5 +1,5 @@
-//! Tests of art_map: each public call once, worked rows, each request refused in turn, and the callers of its
-//! CALLING.md. What the tests of its walks use too is the library.
+//! Tests of art_map: the callers of its CALLING.md, what is made of pairs that are copied, hashes and texts, and what a
+//! map or a walk drops. All else is played by `play_map`.
 #![tactic(auto)]
 
 #[cfg(test)]
@@ -7,26 +7,10 @@ mod callers;
 #[cfg(test)]
 mod calling;
 #[cfg(test)]
-mod calls;
-#[cfg(test)]
-mod entries;
-#[cfg(test)]
-mod entries_refused;
-#[cfg(test)]
-mod entry_rows;
+mod drops;
 #[cfg(test)]
 mod joins;
 #[cfg(test)]
 mod maps;
-pub mod nodes;
-#[cfg(test)]
-mod prefix_entries;
-#[cfg(test)]
-mod prefix_entries_refused;
-#[cfg(test)]
-mod refused;
 #[cfg(test)]
 mod rows;
-pub mod seen;
-#[cfg(test)]
-mod shown_pairs;

@@ -1,5 +1,5 @@
-//! Who owns the maps of the tests: for each number of stored bytes one function makes an empty map and lends it to what
-//! is shown of it. To let a map go is the dear part of a proof, so it stands here alone.
+//! Who owns the maps of the tests: one function makes an empty map and lends it to what is shown of it. To let a map go
+//! is the dear part of a proof, so it stands here alone.
 use art_bytes::AsBytes;
 use art_map::TreeMap;
 use std::alloc::Global;
@@ -10,39 +10,12 @@ pub(crate) trait Shows<M> {
     fn shows(&self, rt: &HostRuntime, map: &mut M) -> bool;
 }
 
-/// Whether it is shown of a map whose nodes store no byte of a prefix.
-pub(crate) fn holds_at_0<K: AsBytes + Drop, V: Drop, S: Shows<TreeMap<K, V, 0>>>(
-    rt: &HostRuntime,
-    shown: &S,
-) -> bool {
-    let mut map = TreeMap::with_prefix_len(rt.alloc());
-    shown.shows(rt, &mut map)
-}
-
-/// Whether it is shown of a map whose nodes store one.
-pub(crate) fn holds_at_1<K: AsBytes + Drop, V: Drop, S: Shows<TreeMap<K, V, 1>>>(
+/// Whether it is shown of a map whose nodes store sixteen bytes of a prefix.
+pub(crate) fn holds<K: AsBytes + Drop, V: Drop, S: Shows<TreeMap<K, V, 16>>>(
     rt: &HostRuntime,
     shown: &S,
 ) -> bool {
     let mut map = TreeMap::made_with(rt.alloc());
-    shown.shows(rt, &mut map)
-}
-
-/// Whether it is shown of a map whose nodes store four.
-pub(crate) fn holds_at_4<K: AsBytes + Drop, V: Drop, S: Shows<TreeMap<K, V, 4>>>(
-    rt: &HostRuntime,
-    shown: &S,
-) -> bool {
-    let mut map = TreeMap::with_prefix_len(rt.alloc());
-    shown.shows(rt, &mut map)
-}
-
-/// Whether it is shown of a map whose nodes store sixteen.
-pub(crate) fn holds_at_16<K: AsBytes + Drop, V: Drop, S: Shows<TreeMap<K, V, 16>>>(
-    rt: &HostRuntime,
-    shown: &S,
-) -> bool {
-    let mut map = TreeMap::new(rt.alloc());
     shown.shows(rt, &mut map)
 }
 
@@ -53,17 +26,6 @@ pub(crate) fn is_put<K: AsBytes + Drop, V: Drop, const PREFIX_LEN: usize>(
     value: V,
 ) -> bool {
     map.try_insert(key, value).is_ok()
-}
-
-/// Whether there is a value, over which this one is written.
-pub(crate) fn is_written<V: Drop>(lent: Option<&mut V>, value: V) -> bool {
-    match lent {
-        Some(lent) => {
-            *lent = value;
-            true
-        }
-        None => false,
-    }
 }
 
 /// A text as a key. Where there is no memory, it is the empty one, which is in conflict with each other.

@@ -1,11 +1,11 @@
-//! Rows from outside: what calls answer one after the other.
+//! What the callers of CALLING.md answer, one after the other.
 use crate::calling::{
     age, block_of, blocks_within, count, count_between, count_down, films, forget_rare, give,
     into_list, keep_last, last_word, owner_of, raise_between, spread, tally,
 };
-use crate::maps::{Shows, holds_at_0, holds_at_4, holds_at_16};
+use crate::maps::{Shows, holds};
 use art_bytes::{AsBytes, SliceKey, StrKey};
-use art_map::{TreeMap, TryInsertError};
+use art_map::TreeMap;
 use std::alloc::Global;
 
 type Blocks = TreeMap<SliceKey<'static>, u32, 16>;
@@ -23,132 +23,19 @@ fn replaces<K: AsBytes + Drop, const PREFIX_LEN: usize>(
     }
 }
 
-// Whether a pair is refused for a conflict, and handed back with the bytes of its key.
-fn is_refused(map: &mut Blocks, bytes: &'static [u8], value: u32) -> bool {
-    match map.try_insert(SliceKey(bytes), value) {
-        Err(
-            TryInsertError::Prefix {
-                key,
-                value: back,
-                error,
-            },
-        ) => key.0 == bytes && back == value && error.byte_repr.bytes() == bytes,
-        _ => false,
-    }
-}
-
-// Whether so many pairs give way to one with this key.
-fn gives_way(map: &mut Blocks, bytes: &'static [u8], value: u32, wanted: usize) -> bool {
-    match map.prefix_insert(SliceKey(bytes), value) {
-        Ok(count) => count == wanted,
-        Err(_) => false,
-    }
-}
-
-fn conflicts_are_refused(map: &mut Blocks) -> bool {
-    replaces(map, SliceKey(&[1, 2, 3]), 1, None)
-        && replaces(map, SliceKey(&[2, 3, 4]), 2, None)
-        && is_refused(map, &[2, 3, 4, 5], 3)
-        && is_refused(map, &[2, 3], 3)
-        && replaces(map, SliceKey(&[2, 3, 4]), 4, Some(2))
-        && map.len() == 2
-}
-
-// Whether a stored key has this value.
-fn has_value(map: &Blocks, bytes: &[u8], wanted: u32) -> bool {
-    map.get(&SliceKey(bytes)) == Some(&wanted)
-}
-
-fn overlapping_keys_go(map: &mut Blocks) -> bool {
-    gives_way(map, &[1, 2, 3], 1, 0)
-        && gives_way(map, &[2, 3, 4, 5], 2, 0)
-        && gives_way(map, &[2, 3, 4, 6], 3, 0)
-        && gives_way(map, &[2, 3, 4], 4, 2)
-        && gives_way(map, &[1, 2], 5, 1)
-        && map.len() == 2
-        && gives_way(map, &[2, 3, 4], 6, 1)
-        && has_value(map, &[1, 2], 5)
-        && has_value(map, &[2, 3, 4], 6)
-}
-
-// Whether a stored key is a front of these bytes.
-fn has_front(map: &Blocks, bytes: &[u8]) -> bool {
-    map.prefix_get(&SliceKey(bytes)) == Some(&1)
-}
-
-fn a_front_answers(map: &mut Blocks) -> bool {
-    replaces(map, SliceKey(&[1, 2, 3]), 1, None)
-        && has_front(map, &[1, 2, 3, 4, 5])
-        && has_front(map, &[1, 2, 3])
-        && map.prefix_get(&SliceKey(&[1, 2])).is_none()
-        && map.prefix_get(&SliceKey(&[2])).is_none()
-}
-
-// What keys that are a front of others do.
-#[derive(Clone, Copy)]
-enum Fronts {
-    Conflict,
-    Overlap,
-    Answer,
-}
-
-impl Shows<Blocks> for Fronts {
-    fn shows(&self, _rt: &HostRuntime, map: &mut Blocks) -> bool {
-        match self {
-            Fronts::Conflict => conflicts_are_refused(map),
-            Fronts::Overlap => overlapping_keys_go(map),
-            Fronts::Answer => a_front_answers(map),
-        }
-    }
-}
-
-#[test]
-fn conflicts_overlaps_and_fronts(rt: HostRuntime) {
-    for fronts in [Fronts::Conflict, Fronts::Overlap, Fronts::Answer] {
-        assert!(rt; holds_at_16(&rt, &fronts));
-    }
-}
-
 type Films = TreeMap<StrKey<'static>, u32, 16>;
 
-// Whether the keys are these, in this order.
-fn has_keys(map: &Films, wanted: &[&str]) -> bool {
-    let mut keys = map.keys();
-    for name in wanted {
-        match keys.next() {
-            Some(key) if key.0 == *name => {}
-            _ => return false,
-        }
-    }
-    keys.next().is_none()
-}
-
-fn films_are_listed(map: &mut Films) -> bool {
-    replaces(map, StrKey("Office Space"), 1, None)
-        && replaces(map, StrKey("Pulp Fiction"), 2, None)
-        && replaces(map, StrKey("The Godfather"), 3, None)
-        && replaces(map, StrKey("The Blues Brothers"), 4, None)
-        && map.len() == 4
-        && matches!(map.remove(&StrKey("The Blues Brothers")), Ok(Some(4)))
-        && has_keys(map, &["Office Space", "Pulp Fiction", "The Godfather"])
-}
-
-// Films that are listed; and one that is seen.
 struct Listed;
 
 impl Shows<Films> for Listed {
     fn shows(&self, _rt: &HostRuntime, map: &mut Films) -> bool {
-        if !films_are_listed(map) {
-            return false;
-        }
-        map.clear();
         matches!(films(map), Ok(true))
     }
 }
 
 #[test]
-fn films_are_listed_without_the_one_removed(rt: HostRuntime) {
-    assert!(rt; holds_at_16(&rt, &Listed));
+fn a_caller_sees_a_film(rt: HostRuntime) {
+    assert!(rt; holds(&rt, &Listed));
 }
 
 // Whether an address has this owner.
@@ -183,7 +70,7 @@ impl Shows<Blocks> for Given {
 
 #[test]
 fn a_caller_finds_a_block(rt: HostRuntime) {
-    assert!(rt; holds_at_16(&rt, &Given));
+    assert!(rt; holds(&rt, &Given));
 }
 
 type Counts = TreeMap<[u8; 4], u32, 16>;
@@ -254,7 +141,7 @@ impl Shows<Counts> for Counted {
 
 #[test]
 fn a_caller_counts_words(rt: HostRuntime) {
-    assert!(rt; holds_at_16(&rt, &Counted));
+    assert!(rt; holds(&rt, &Counted));
 }
 
 fn two_are_put(counts: &mut Counts) -> bool {
@@ -286,59 +173,4 @@ fn the_last_is_answered(alloc: Global) -> bool {
 fn a_caller_takes_a_map_apart(rt: HostRuntime) {
     assert!(rt; two_are_listed(rt.alloc()));
     assert!(rt; the_last_is_answered(rt.alloc()));
-}
-
-// A key of 41 bytes, all alike but one and the last.
-fn long_key(at: usize, byte: u8, last: u8) -> [u8; 41] {
-    let mut bytes = [0xaa; 41];
-    if at < 41 {
-        bytes[at] = byte;
-    }
-    bytes[40] = last;
-    bytes
-}
-
-// Keys that are found, and others that are not.
-#[derive(Drop)]
-struct ToldApart<'a> {
-    keys: [&'a [u8]; 3],
-    others: [&'a [u8]; 3],
-}
-
-impl<'a, const PREFIX_LEN: usize> Shows<TreeMap<SliceKey<'a>, u32, PREFIX_LEN>> for ToldApart<'a> {
-    fn shows(&self, _rt: &HostRuntime, map: &mut TreeMap<SliceKey<'a>, u32, PREFIX_LEN>) -> bool {
-        for (value, key) in (0u32..).zip(&self.keys) {
-            if !replaces(map, SliceKey(*key), value, None) {
-                return false;
-            }
-        }
-        for (value, key) in (0u32..).zip(&self.keys) {
-            if map.get(&SliceKey(*key)) != Some(&value) {
-                return false;
-            }
-        }
-        for key in self.others {
-            if map.prefix_get(&SliceKey(key)).is_some() {
-                return false;
-            }
-        }
-        true
-    }
-}
-
-#[test]
-fn keys_share_more_bytes_than_a_node_stores(rt: HostRuntime) {
-    let [one, two, three] = [
-        long_key(0, 0xaa, 1),
-        long_key(0, 0xaa, 2),
-        long_key(20, 0xbb, 1),
-    ];
-    let [four, five] = [long_key(25, 0xcc, 1), long_key(20, 0xcc, 1)];
-    let told = ToldApart {
-        keys: [one.as_slice(), two.as_slice(), &three[..21]],
-        others: [four.as_slice(), five.as_slice(), &one[..40]],
-    };
-    assert!(rt; holds_at_0(&rt, &told));
-    assert!(rt; holds_at_4(&rt, &told));
-    assert!(rt; holds_at_16(&rt, &told));
 }

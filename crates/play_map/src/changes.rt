@@ -34,6 +34,37 @@ pub fn show_refused<K: PlayedKey>(rt: &impl Print, key: K, value: u64) -> io::Re
     println!(rt; "memory {:?} {value}", key.as_bytes())
 }
 
+// Prints the value that an entry lends, and writes another.
+macro_rules! show_lent {
+    ($rt:ident, $lent:expr, $next:ident) => {
+        match $lent {
+            Ok(value) => {
+                let old = *value;
+                *value = $next;
+                println!($rt; "{old}")
+            }
+            Err(refused) => show_refused($rt, refused.key, refused.value),
+        }
+    };
+}
+
+// Prints the pair of an occupied entry, and writes another value.
+macro_rules! show_filled {
+    ($rt:ident, $filled:expr, $next:ident) => {
+        match $filled {
+            Ok(mut entry) => {
+                show_stored($rt, entry.key(), *entry.get())?;
+                *entry.get_mut() = $next;
+                Ok(())
+            }
+            Err(refused) => show_refused($rt, refused.key, refused.value),
+        }
+    };
+}
+
+pub(crate) use show_filled;
+pub(crate) use show_lent;
+
 fn try_insert<K: PlayedKey, const PREFIX_LEN: usize>(
     rt: &impl Print,
     map: &mut TreeMap<K, u64, PREFIX_LEN>,

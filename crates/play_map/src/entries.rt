@@ -1,39 +1,11 @@
 // Entries of keys none of which is a front of another, and `insert`.
 
-use crate::changes::{show_key, show_refused, show_stored};
+use crate::changes::{show_filled, show_key, show_lent, show_refused, show_stored};
 use crate::key::PlayedKey;
 use crate::script::Asked;
 use art_bytes::{AsBytes, ZeroEnded};
 use art_map::{Entry, TreeMap};
 use std::io;
-
-// Prints the value that an entry lends, and writes another.
-macro_rules! show_lent {
-    ($rt:ident, $lent:expr, $next:ident) => {
-        match $lent {
-            Ok(value) => {
-                let old = *value;
-                *value = $next;
-                println!($rt; "{old}")
-            }
-            Err(refused) => show_refused($rt, refused.key, refused.value),
-        }
-    };
-}
-
-// Prints the pair of an occupied entry, and writes another value.
-macro_rules! show_filled {
-    ($rt:ident, $filled:expr, $next:ident) => {
-        match $filled {
-            Ok(mut entry) => {
-                show_stored($rt, entry.key(), *entry.get())?;
-                *entry.get_mut() = $next;
-                Ok(())
-            }
-            Err(refused) => show_refused($rt, refused.key, refused.value),
-        }
-    };
-}
 
 // Calls that lend the value that stands at a key then.
 fn lend<const PREFIX_LEN: usize>(
@@ -122,6 +94,24 @@ fn write<const PREFIX_LEN: usize>(
     }
 }
 
+// Fills an entry where it is vacant, or takes its key back.
+fn fill_vacant<const PREFIX_LEN: usize>(
+    rt: &impl Print,
+    map: &mut TreeMap<ZeroEnded, u64, PREFIX_LEN>,
+    key: ZeroEnded,
+    call: &str,
+    number: u64,
+) -> io::Result<()> {
+    match map.entry(key) {
+        Entry::Occupied(entry) => show_key(rt, "occupied ", entry.key()),
+        Entry::Vacant(entry) if call == "into_key" => show_key(rt, "", &entry.into_key()),
+        Entry::Vacant(entry) => match entry.insert_entry(number) {
+            Ok(entry) => show_stored(rt, entry.key(), *entry.get()),
+            Err(refused) => show_refused(rt, refused.key, refused.value),
+        },
+    }
+}
+
 // The value of an occupied entry, lent for writing.
 fn lend_occupied<const PREFIX_LEN: usize>(
     rt: &impl Print,
@@ -167,8 +157,10 @@ const FILLING: [&str; 5] = [
     "insert_entry",
 ];
 
-const OTHERS: [&str; 7] = [
+const OTHERS: [&str; 9] = [
     "insert",
+    "into_key",
+    "vacant_insert_entry",
     "replace_entry",
     "and_modify",
     "entry_insert",
@@ -202,6 +194,7 @@ fn with_key<const PREFIX_LEN: usize>(
         }
         "entry_insert" => write(rt, map, key, number),
         "entry_remove" | "entry_remove_entry" => remove(rt, map, key, call),
+        "into_key" | "vacant_insert_entry" => fill_vacant(rt, map, key, call, number),
         "into_mut" => lend_occupied(rt, map, key, number),
         _ => fill(rt, map, key, call, number),
     }

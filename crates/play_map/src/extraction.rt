@@ -3,19 +3,37 @@
 use crate::changes::show_taken;
 use crate::key::PlayedKey;
 use crate::script::{Asked, bound_of};
-use art_bytes::SliceKey;
+use crate::walks::has_range;
+use art_bytes::{AsBytes, SliceKey};
 use art_map::{Extraction, TreeMap};
-use art_walks::bounds_are_valid;
 use std::io;
 
+// Prints the key at an end, if there is one.
+fn show_end<K: PlayedKey, const PREFIX_LEN: usize>(
+    rt: &impl Print,
+    pairs: &Extraction<'_, K, u64, PREFIX_LEN>,
+    is_back: bool,
+) -> io::Result<()> {
+    let shown = if is_back {
+        pairs.back_key_value()
+    } else {
+        pairs.front_key_value()
+    };
+    match shown {
+        Some((key, _)) => print!(rt; "{:?}: ", key.as_bytes()),
+        None => Ok(()),
+    }
+}
+
 // Looks at the pair at an end and then takes it out or passes it, as a letter tells: `f` and `b` take it out, `p` and
-// `q` pass it, from the front and from the back; before that one is added to its value.
+// `q` pass it, from the front and from the back; before that its key is shown, and one is added to its value.
 fn step<K: PlayedKey, const PREFIX_LEN: usize>(
     rt: &impl Print,
     pairs: &mut Extraction<'_, K, u64, PREFIX_LEN>,
     letter: u8,
 ) -> io::Result<()> {
     let is_back = letter == b'b' || letter == b'q';
+    show_end(rt, pairs, is_back)?;
     let lent = if is_back { pairs.back() } else { pairs.front() };
     match lent {
         Some(value) => *value = value.wrapping_add(1),
@@ -41,7 +59,7 @@ fn extract<K: PlayedKey, const PREFIX_LEN: usize>(
     let (first, second) = (SliceKey(asked.first), SliceKey(asked.second));
     let start = bound_of(asked.words[0], &first);
     let end = bound_of(asked.words[1], &second);
-    if !bounds_are_valid(start, end) {
+    if !has_range(map, start, end) {
         return println!(rt; "invalid");
     }
     let mut pairs = map.extraction(start, end);
@@ -51,7 +69,7 @@ fn extract<K: PlayedKey, const PREFIX_LEN: usize>(
     println!(rt; "end")
 }
 
-// Takes out what is at least a number, from the ends that letters tell.
+// Takes out what is at least a number, from the ends that letters tell. The closure counts its calls.
 fn extract_if<K: PlayedKey, const PREFIX_LEN: usize>(
     rt: &impl Print,
     map: &mut TreeMap<K, u64, PREFIX_LEN>,
@@ -60,11 +78,13 @@ fn extract_if<K: PlayedKey, const PREFIX_LEN: usize>(
     let (first, second) = (SliceKey(asked.first), SliceKey(asked.second));
     let start = bound_of(asked.words[0], &first);
     let end = bound_of(asked.words[1], &second);
-    if !bounds_are_valid(start, end) {
+    if !has_range(map, start, end) {
         return println!(rt; "invalid");
     }
     let least = asked.number(3);
+    let mut calls = 0u64;
     let mut pairs = map.extract_if(start, end, |_, value| {
+        calls = calls.wrapping_add(1);
         *value = value.wrapping_add(1);
         *value >= least
     });
@@ -79,7 +99,8 @@ fn extract_if<K: PlayedKey, const PREFIX_LEN: usize>(
             None => println!(rt; "None")?,
         }
     }
-    println!(rt; "end")
+    drop(pairs);
+    println!(rt; "end {calls}")
 }
 
 pub fn answer<K: PlayedKey, const PREFIX_LEN: usize>(
@@ -92,11 +113,13 @@ pub fn answer<K: PlayedKey, const PREFIX_LEN: usize>(
         "extract_if" => extract_if(rt, map, asked)?,
         "retain" => {
             let least = asked.number(0);
+            let mut calls = 0u64;
             let kept = map.retain(|_, value| {
+                calls = calls.wrapping_add(1);
                 *value = value.wrapping_add(1);
                 *value >= least
             });
-            println!(rt; "{}", if kept.is_ok() { "done" } else { "memory" })?;
+            println!(rt; "{} {calls}", if kept.is_ok() { "done" } else { "memory" })?;
         }
         _ => return Ok(false),
     }

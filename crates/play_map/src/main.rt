@@ -70,13 +70,14 @@ fn play_ended<const PREFIX_LEN: usize>(
 ) -> io::Result<()>
     requires { PREFIX_LEN ≤ 16 }
 {
+    let mut bag = Vec::new(rt.alloc());
     for _ in 0..u64::MAX {
         if !script.read()? {
             break;
         }
         let asked = script.asked();
         let known = entries::answer(rt, map, &asked)?
-            || two_maps::answer(rt, map, other, &asked)?
+            || two_maps::answer(rt, map, other, &mut bag, &asked)?
             || answer(rt, map, &asked)?;
         if !known {
             println!(rt; "not understood")?;
@@ -127,12 +128,13 @@ fn play_sets<const PREFIX_LEN: usize>(
 ) -> io::Result<()>
     requires { PREFIX_LEN ≤ 16 }
 {
+    let mut bag = Vec::new(rt.alloc());
     for _ in 0..u64::MAX {
         if !script.read()? {
             break;
         }
         let asked = script.asked();
-        sets::answer(rt, set, other, &asked)?;
+        sets::answer(rt, set, other, &mut bag, &asked)?;
     }
     Ok(())
 }

@@ -1,9 +1,9 @@
 // Entries of keys that may be in conflict: `try_entry`, and prefix entries.
 
-use crate::changes::{show_key, show_refused, show_stored};
+use crate::changes::{show_filled, show_key, show_lent, show_refused, show_stored};
 use crate::key::PlayedKey;
 use crate::script::Asked;
-use crate::walks::show_in_list;
+use crate::walks::{raise, show_in_list};
 use art_bytes::AsBytes;
 use art_map::{PrefixEntry, PrefixOccupiedKind, TreeMap, TryKeyError};
 use std::io;
@@ -37,16 +37,238 @@ fn insert_over<const PREFIX_LEN: usize>(
     }
 }
 
-// The same where no equal key is stored, and the value that is stored then.
+// Puts a value in where no equal key is stored, and lends the value that is stored then.
+fn lend<const PREFIX_LEN: usize>(
+    rt: &impl Print,
+    map: &mut TreeMap<Vec<u8>, u64, PREFIX_LEN>,
+    key: Vec<u8>,
+    call: &str,
+    number: u64,
+) -> io::Result<()> {
+    let next = number.wrapping_add(1);
+    match call {
+        "prefix_or_insert" => show_lent!(rt, map.prefix_entry(key).or_insert(number), next),
+        "prefix_or_default" => show_lent!(rt, map.prefix_entry(key).or_default(), next),
+        "prefix_or_insert_with" => show_lent!(
+            rt,
+            map.prefix_entry(key).or_insert_with(|| number),
+            next
+        ),
+        _ => show_lent!(
+            rt,
+            map.prefix_entry(key)
+                .or_insert_with_key(|key| key.as_bytes().len() as u64),
+            next
+        ),
+    }
+}
+
+// The same with the entry that is occupied then.
 fn fill<const PREFIX_LEN: usize>(
+    rt: &impl Print,
+    map: &mut TreeMap<Vec<u8>, u64, PREFIX_LEN>,
+    key: Vec<u8>,
+    call: &str,
+    number: u64,
+) -> io::Result<()> {
+    let next = number.wrapping_add(1);
+    match call {
+        "prefix_or_insert_entry" => {
+            show_filled!(rt, map.prefix_entry(key).or_insert_entry(number), next)
+        }
+        "prefix_or_default_entry" => {
+            show_filled!(rt, map.prefix_entry(key).or_default_entry(), next)
+        }
+        "prefix_or_insert_with_entry" => show_filled!(
+            rt,
+            map.prefix_entry(key).or_insert_with_entry(|| number),
+            next
+        ),
+        _ => show_filled!(
+            rt,
+            map.prefix_entry(key)
+                .or_insert_with_key_entry(|key| key.as_bytes().len() as u64),
+            next
+        ),
+    }
+}
+
+// Sets the value of an occupied entry, or of one in conflict alone, by what lends the value or answers the entry.
+fn set<const PREFIX_LEN: usize>(
+    rt: &impl Print,
+    map: &mut TreeMap<Vec<u8>, u64, PREFIX_LEN>,
+    key: Vec<u8>,
+    call: &str,
+    number: u64,
+) -> io::Result<()> {
+    let next = number.wrapping_add(1);
+    match map.prefix_entry(key) {
+        PrefixEntry::Occupied(entry) => match call {
+            "occupied_insert" => show_lent!(rt, entry.insert(number), next),
+            "occupied_insert_entry" => show_filled!(rt, entry.insert_entry(number), next),
+            _ => match entry.kind() {
+                PrefixOccupiedKind::Inner(entry) => match call {
+                    "inner_insert" => show_lent!(rt, entry.insert(number), next),
+                    _ => show_filled!(rt, entry.insert_entry(number), next),
+                },
+                PrefixOccupiedKind::Leaf(_) => println!(rt; "leaf"),
+            },
+        },
+        PrefixEntry::Vacant(_) => println!(rt; "vacant"),
+    }
+}
+
+// Prints a stored key, or that none is shown.
+fn show_stored_key(rt: &impl Print, key: Option<&Vec<u8>>) -> io::Result<()> {
+    match key {
+        Some(key) => println!(rt; "{:?}", key.as_bytes()),
+        None => println!(rt; "None"),
+    }
+}
+
+// Prints a value, or that none is shown.
+fn show_value(rt: &impl Print, value: Option<&u64>) -> io::Result<()> {
+    println!(rt; "{value:?}")
+}
+
+// Writes a number over the value that an entry shows, and prints the one that was there.
+fn write(rt: &impl Print, lent: Option<&mut u64>, number: u64) -> io::Result<()> {
+    match lent {
+        Some(value) => {
+            let old = *value;
+            *value = number;
+            println!(rt; "{old}")
+        }
+        None => println!(rt; "None"),
+    }
+}
+
+// What is done with the entry of a key in conflict.
+macro_rules! with_inner {
+    ($rt:ident, $map:ident, $key:ident, $entry:ident, $done:expr) => {
+        match $map.prefix_entry($key) {
+            PrefixEntry::Occupied(entry) => match entry.kind() {
+                PrefixOccupiedKind::Inner(mut $entry) => $done,
+                PrefixOccupiedKind::Leaf(_) => println!($rt; "leaf"),
+            },
+            PrefixEntry::Vacant(_) => println!($rt; "vacant"),
+        }
+    };
+}
+
+// It lends the value of a lone pair.
+fn write_value<const PREFIX_LEN: usize>(
     rt: &impl Print,
     map: &mut TreeMap<Vec<u8>, u64, PREFIX_LEN>,
     key: Vec<u8>,
     number: u64,
 ) -> io::Result<()> {
-    match map.prefix_entry(key).or_insert(number) {
-        Ok(value) => println!(rt; "{value}"),
-        Err(refused) => show_refused(rt, refused.key, refused.value),
+    with_inner!(
+        rt,
+        map,
+        key,
+        entry,
+        {
+            show_stored_key(rt, entry.get_key())?;
+            write(rt, entry.get_mut(), number)
+        }
+    )
+}
+
+// It lends that pair.
+fn write_pair<const PREFIX_LEN: usize>(
+    rt: &impl Print,
+    map: &mut TreeMap<Vec<u8>, u64, PREFIX_LEN>,
+    key: Vec<u8>,
+    number: u64,
+) -> io::Result<()> {
+    with_inner!(
+        rt,
+        map,
+        key,
+        entry,
+        match entry.get_key_value_mut() {
+            Some((key, value)) => {
+                *value = number;
+                show_key(rt, "", key)
+            }
+            None => println!(rt; "None"),
+        }
+    )
+}
+
+// The same where there is one, beside its own key.
+fn write_lone_pair<const PREFIX_LEN: usize>(
+    rt: &impl Print,
+    map: &mut TreeMap<Vec<u8>, u64, PREFIX_LEN>,
+    key: Vec<u8>,
+    number: u64,
+) -> io::Result<()> {
+    with_inner!(
+        rt,
+        map,
+        key,
+        entry,
+        {
+            show_key(rt, "", entry.key())?;
+            if entry.get().is_none() {
+                return println!(rt; "None");
+            }
+            let pair = entry.lone_pair_mut();
+            *pair.value = number;
+            show_key(rt, "", pair.key)
+        }
+    )
+}
+
+// It lends the values of all pairs from both ends, to each of which the number is added.
+fn raise_inner<const PREFIX_LEN: usize>(
+    rt: &impl Print,
+    map: &mut TreeMap<Vec<u8>, u64, PREFIX_LEN>,
+    key: Vec<u8>,
+    number: u64,
+) -> io::Result<()> {
+    with_inner!(
+        rt,
+        map,
+        key,
+        entry,
+        {
+            let mut values = entry.iter_mut();
+            raise(rt, values.next_back(), number)?;
+            raise(rt, values.next(), number)?;
+            raise(rt, values.next(), number)?;
+            println!(rt; "{}", values.is_empty())
+        }
+    )
+}
+
+// What an entry shows: its key, and the stored key that it concerns.
+fn show_keys<const PREFIX_LEN: usize>(
+    rt: &impl Print,
+    map: &mut TreeMap<Vec<u8>, u64, PREFIX_LEN>,
+    key: Vec<u8>,
+) -> io::Result<()> {
+    let entry = map.prefix_entry(key);
+    show_key(rt, "", entry.key())?;
+    show_stored_key(rt, entry.get_key())
+}
+
+// What an occupied one shows: these, and the value of a lone pair, which is written over.
+fn show_occupied<const PREFIX_LEN: usize>(
+    rt: &impl Print,
+    map: &mut TreeMap<Vec<u8>, u64, PREFIX_LEN>,
+    key: Vec<u8>,
+    number: u64,
+) -> io::Result<()> {
+    match map.prefix_entry(key) {
+        PrefixEntry::Occupied(mut entry) => {
+            show_key(rt, "", entry.key())?;
+            show_stored_key(rt, entry.get_key())?;
+            show_value(rt, entry.get())?;
+            write(rt, entry.get_mut(), number)
+        }
+        PrefixEntry::Vacant(_) => println!(rt; "vacant"),
     }
 }
 
@@ -77,29 +299,89 @@ fn show_place<const PREFIX_LEN: usize>(
     }
 }
 
-const CALLS: [&str; 4] = [
+const LENDING: [&str; 4] = [
+    "prefix_or_insert",
+    "prefix_or_default",
+    "prefix_or_insert_with",
+    "prefix_or_insert_with_key",
+];
+
+const FILLING: [&str; 4] = [
+    "prefix_or_insert_entry",
+    "prefix_or_default_entry",
+    "prefix_or_insert_with_entry",
+    "prefix_or_insert_with_key_entry",
+];
+
+const SETTING: [&str; 4] = [
+    "occupied_insert",
+    "occupied_insert_entry",
+    "inner_insert",
+    "inner_insert_entry",
+];
+
+const INNER: [&str; 4] = [
+    "inner_get_mut",
+    "inner_pair_mut",
+    "inner_lone_pair",
+    "inner_iter_mut",
+];
+
+const OTHERS: [&str; 5] = [
     "try_entry",
     "prefix_entry",
-    "prefix_or_insert",
+    "prefix_keys",
+    "occupied_shown",
     "prefix_insert_entry",
 ];
+
+fn with_key<const PREFIX_LEN: usize>(
+    rt: &impl Print,
+    map: &mut TreeMap<Vec<u8>, u64, PREFIX_LEN>,
+    key: Vec<u8>,
+    call: &str,
+    number: u64,
+) -> io::Result<()> {
+    if LENDING.contains(&call) {
+        return lend(rt, map, key, call, number);
+    }
+    if FILLING.contains(&call) {
+        return fill(rt, map, key, call, number);
+    }
+    if SETTING.contains(&call) {
+        return set(rt, map, key, call, number);
+    }
+    match call {
+        "inner_get_mut" => write_value(rt, map, key, number),
+        "inner_pair_mut" => write_pair(rt, map, key, number),
+        "inner_lone_pair" => write_lone_pair(rt, map, key, number),
+        "inner_iter_mut" => raise_inner(rt, map, key, number),
+        "try_entry" => try_entry(rt, map, key, number),
+        "prefix_entry" => show_place(rt, map, key),
+        "prefix_keys" => show_keys(rt, map, key),
+        "occupied_shown" => show_occupied(rt, map, key, number),
+        _ => insert_over(rt, map, key, number),
+    }
+}
+
+fn is_known(call: &str) -> bool {
+    LENDING.contains(&call)
+        || FILLING.contains(&call)
+        || SETTING.contains(&call)
+        || INNER.contains(&call)
+        || OTHERS.contains(&call)
+}
 
 pub fn answer<const PREFIX_LEN: usize>(
     rt: &(impl Print + AllocGlobal),
     map: &mut TreeMap<Vec<u8>, u64, PREFIX_LEN>,
     asked: &Asked<'_>,
 ) -> io::Result<bool> {
-    if !CALLS.contains(&asked.call) {
+    if !is_known(asked.call) {
         return Ok(false);
     }
-    let number = asked.number(1);
     match Vec::made(rt.alloc(), asked.first) {
-        Ok(key) => match asked.call {
-            "try_entry" => try_entry(rt, map, key, number)?,
-            "prefix_entry" => show_place(rt, map, key)?,
-            "prefix_or_insert" => fill(rt, map, key, number)?,
-            _ => insert_over(rt, map, key, number)?,
-        },
+        Ok(key) => with_key(rt, map, key, asked.call, asked.number(1))?,
         Err(_) => println!(rt; "no key")?,
     }
     Ok(true)

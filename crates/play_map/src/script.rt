@@ -9,10 +9,16 @@ use std::{io, str};
 /// The longest line, and the most bytes that it names.
 const ROOM: usize = 250_000;
 
-/// The script, and the line that was read last.
+/// How many bytes are read at a time.
+const CHUNK: usize = 4096;
+
+/// The script, what was read of it, and the line that was read last.
 #[derive(Drop)]
 pub struct Script {
     stdin: Stdin,
+    chunk: [u8; CHUNK],
+    at: usize,
+    end: usize,
     line: Vec<u8>,
     first: Vec<u8>,
     second: Vec<u8>,
@@ -67,25 +73,41 @@ impl Script {
     pub fn new(alloc: Global, stdin: Stdin) -> Result<Script, AllocError> {
         Ok(Script {
             stdin,
+            chunk: [0; CHUNK],
+            at: 0,
+            end: 0,
             line: Vec::with_capacity(alloc, ROOM)?,
             first: Vec::with_capacity(alloc, ROOM)?,
             second: Vec::with_capacity(alloc, ROOM)?,
         })
     }
 
-    /// Reads a line, byte by byte: false at the end of the input. What stands behind its last newline is left out.
+    // Reads a byte: `None` at the end of the input.
+    fn read_byte(&mut self) -> io::Result<Option<u8>> {
+        if self.at >= self.end {
+            self.end = self.stdin.read(&mut self.chunk)?;
+            self.at = 0;
+        }
+        if self.at >= self.end {
+            return Ok(None);
+        }
+        let byte = self.chunk.get(self.at).copied();
+        self.at = self.at.saturating_add(1);
+        Ok(byte)
+    }
+
+    /// Reads a line: false at the end of the input. What stands behind its last newline is left out.
     pub fn read(&mut self) -> io::Result<bool> {
         self.line.clear();
-        let mut byte = [0u8];
         for _ in 0..ROOM {
-            if self.stdin.read(&mut byte)? == 0 {
-                return Ok(false);
+            match self.read_byte()? {
+                Some(b'\n') => {
+                    self.read_words()?;
+                    return Ok(true);
+                }
+                Some(byte) => self.line.push(byte)?,
+                None => return Ok(false),
             }
-            if byte[0] == b'\n' {
-                self.read_words()?;
-                return Ok(true);
-            }
-            self.line.push(byte[0])?;
         }
         Ok(false)
     }

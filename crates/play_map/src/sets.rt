@@ -1,14 +1,30 @@
 // Calls of the set, over two sets of keys with a zero at the end: `swap` exchanges them.
-ghost use Rattle.std.specs.Prelude.{◌≤◌};
+ghost use Rattle.std.specs.Prelude.{◌≡◌, ◌⊎◌, ◌≤◌, [], IsTrue};
+ghost use Rattle.std.specs.Range.Bound.{bound_map};
+ghost use Rattle.art_walks.specs.Bounds.{AreValidKeyBounds};
 
 use crate::key::PlayedKey;
 use crate::script::{Asked, bound_of};
+use crate::walks::left;
 use art_bytes::{AsBytes, SliceKey, ZeroEnded};
 use art_set::TreeSet;
 use art_walks::bounds_are_valid;
-use std::alloc::{AllocError, Global};
+use std::alloc::AllocError;
 use std::cmp::Ordering;
+use std::ops::Bound;
 use std::{io, mem};
+
+// Whether a set has a range between two bounds. One that is empty has, whatever they are.
+fn has_range<Q: AsBytes, const PREFIX_LEN: usize>(
+    set: &TreeSet<ZeroEnded, PREFIX_LEN>,
+    start: Bound<&Q>,
+    end: Bound<&Q>,
+) -> bool
+    ensures { IsTrue result → (set.now ≡ []) ⊎ AreValidKeyBounds (bound_map (λ key. Q.bytes key.now) start.entry)
+        (bound_map (λ key. Q.bytes key.now) end.entry) }
+{
+    set.is_empty() || bounds_are_valid(start, end)
+}
 
 // Whether the first byte of a key is even: what closures ask.
 fn is_even(key: &ZeroEnded) -> bool {
@@ -51,7 +67,7 @@ fn show_keys<const PREFIX_LEN: usize>(
 ) -> io::Result<()> {
     let mut keys = set.iter();
     for end in ends.bytes() {
-        print!(rt; "{} ", keys.len())?;
+        print!(rt; "{} ", left(keys.len(), keys.size_hint()))?;
         let key = if end == b'b' {
             keys.next_back()
         } else {
@@ -70,7 +86,7 @@ fn show_range<const PREFIX_LEN: usize>(
     let (first, second) = (SliceKey(asked.first), SliceKey(asked.second));
     let start = bound_of(asked.words[0], &first);
     let end = bound_of(asked.words[1], &second);
-    if !bounds_are_valid(start, end) {
+    if !has_range(set, start, end) {
         return println!(rt; "invalid");
     }
     let mut keys = set.range(start, end);
@@ -145,7 +161,7 @@ fn extract<const PREFIX_LEN: usize>(
     let (first, second) = (SliceKey(asked.first), SliceKey(asked.second));
     let start = bound_of(asked.words[0], &first);
     let end = bound_of(asked.words[1], &second);
-    if !bounds_are_valid(start, end) {
+    if !has_range(set, start, end) {
         return println!(rt; "invalid");
     }
     let mut keys = set.extract_if(start, end, |key| is_even(key));
@@ -243,19 +259,71 @@ fn take<const PREFIX_LEN: usize>(
     Ok(true)
 }
 
-// The keys of the second set, which is empty then.
-fn drained<const PREFIX_LEN: usize>(
-    alloc: Global,
-    other: &mut TreeSet<ZeroEnded, PREFIX_LEN>,
-) -> Result<Vec<ZeroEnded>, AllocError>
+// Takes the set's keys from the ends that letters tell; the others are dropped.
+fn into_iter<const PREFIX_LEN: usize>(
+    rt: &(impl Print + AllocGlobal),
+    set: &mut TreeSet<ZeroEnded, PREFIX_LEN>,
+    ends: &str,
+) -> io::Result<()>
     requires { PREFIX_LEN ≤ 16 }
 {
-    let mut keys = Vec::with_capacity(alloc, other.len())?;
-    let mut walk = mem::replace(other, TreeSet::with_prefix_len(alloc)).into_iter();
-    while let Some(key) = walk.next() {
-        keys.push(key)?;
+    let mut keys = mem::replace(set, TreeSet::with_prefix_len(rt.alloc())).into_iter();
+    for end in ends.bytes() {
+        print!(rt; "{} ", left(keys.len(), keys.size_hint()))?;
+        let key = if end == b'b' {
+            keys.next_back()
+        } else {
+            keys.next()
+        };
+        show_in_list(rt, key.as_ref())?;
     }
-    Ok(keys)
+    println!(rt; "end")
+}
+
+// The second set's keys go behind those in the bag, and it is empty then. So a call that is given the bag takes no
+// memory but its own.
+fn drain<const PREFIX_LEN: usize>(
+    rt: &(impl Print + AllocGlobal),
+    other: &mut TreeSet<ZeroEnded, PREFIX_LEN>,
+    bag: &mut Vec<ZeroEnded>,
+) -> io::Result<()>
+    requires { PREFIX_LEN ≤ 16 }
+{
+    let mut walk = mem::replace(other, TreeSet::with_prefix_len(rt.alloc())).into_iter();
+    while let Some(key) = walk.next() {
+        bag.push(key)?;
+    }
+    println!(rt; "done")
+}
+
+// Calls that are given the bag's keys.
+fn fill<const PREFIX_LEN: usize>(
+    rt: &(impl Print + AllocGlobal),
+    set: &mut TreeSet<ZeroEnded, PREFIX_LEN>,
+    bag: &mut Vec<ZeroEnded>,
+    call: &str,
+) -> io::Result<()>
+    requires { PREFIX_LEN ≤ 16 }
+{
+    let keys = mem::replace(bag, Vec::new(rt.alloc()));
+    if call == "extend" {
+        return match set.extend(keys) {
+            Ok(()) => println!(rt; "done"),
+            Err(refused) => println!(rt; "memory {:?}", refused.key.as_bytes()),
+        };
+    }
+    let made = if call == "from_vec" {
+        TreeSet::from_vec(rt.alloc(), keys)
+    } else {
+        TreeSet::from_iter(rt.alloc(), keys)
+    };
+    match made {
+        Ok(made) => {
+            *set = made;
+            println!(rt; "done")
+        }
+        Err(refused) => println!(rt; "memory {:?}", refused.key.as_bytes()),
+    }
 }
 
 // Calls that make a set.
@@ -263,6 +331,7 @@ fn make<const PREFIX_LEN: usize>(
     rt: &(impl Print + AllocGlobal),
     set: &mut TreeSet<ZeroEnded, PREFIX_LEN>,
     other: &mut TreeSet<ZeroEnded, PREFIX_LEN>,
+    bag: &mut Vec<ZeroEnded>,
     asked: &Asked<'_>,
 ) -> io::Result<bool>
     requires { PREFIX_LEN ≤ 16 }
@@ -290,13 +359,9 @@ fn make<const PREFIX_LEN: usize>(
             }
             Err(_) => println!(rt; "memory")?,
         },
-        "extend" => {
-            let keys = drained(rt.alloc(), other)?;
-            match set.extend(keys) {
-                Ok(()) => println!(rt; "done")?,
-                Err(refused) => println!(rt; "memory {:?}", refused.key.as_bytes())?,
-            }
-        }
+        "into_iter" => into_iter(rt, set, asked.words[0])?,
+        "drain" => drain(rt, other, bag)?,
+        "extend" | "from_vec" | "from_iter" => fill(rt, set, bag, asked.call)?,
         "and" | "or" | "xor" | "minus" => operate(rt, set, other, asked.call)?,
         _ => return Ok(false),
     }
@@ -308,6 +373,7 @@ pub fn answer<const PREFIX_LEN: usize>(
     rt: &(impl Print + AllocGlobal),
     set: &mut TreeSet<ZeroEnded, PREFIX_LEN>,
     other: &mut TreeSet<ZeroEnded, PREFIX_LEN>,
+    bag: &mut Vec<ZeroEnded>,
     asked: &Asked<'_>,
 ) -> io::Result<()>
     requires { PREFIX_LEN ≤ 16 }
@@ -319,7 +385,7 @@ pub fn answer<const PREFIX_LEN: usize>(
         };
     }
     let known = read(rt, set, other, asked)? || take(rt, set, asked)?;
-    if known || make(rt, set, other, asked)? {
+    if known || make(rt, set, other, bag, asked)? {
         return Ok(());
     }
     println!(rt; "not understood")

@@ -4,11 +4,14 @@ ghost use Rattle.std.specs.Prelude.{◌≤◌};
 
 use crate::changes::show_refused;
 use crate::script::Asked;
+use crate::walks::left;
 use art_bytes::{AsBytes, SliceKey, ZeroEnded};
 use art_map::TreeMap;
-use std::alloc::{AllocError, Global};
 use std::cmp::Ordering;
 use std::{io, mem};
+
+/// Pairs for calls that are given many at once.
+pub type Bag = Vec<(ZeroEnded, u64)>;
 
 // The pairs from a key on become the second map's; it had to be empty.
 fn split_off<const PREFIX_LEN: usize>(
@@ -38,7 +41,7 @@ fn into_iter<const PREFIX_LEN: usize>(
 {
     let mut pairs = mem::replace(map, TreeMap::with_prefix_len(rt.alloc())).into_iter();
     for end in ends.bytes() {
-        print!(rt; "{} ", pairs.len())?;
+        print!(rt; "{} ", left(pairs.len(), pairs.size_hint()))?;
         let pair = if end == b'b' {
             pairs.next_back()
         } else {
@@ -68,7 +71,10 @@ fn into_keys<const PREFIX_LEN: usize>(
             keys.next()
         };
         match key {
-            Some(key) => print!(rt; "{} {:?}, ", keys.len(), key.as_bytes())?,
+            Some(key) => {
+                let left = left(keys.len(), keys.size_hint());
+                print!(rt; "{left} {:?}, ", key.as_bytes())?
+            }
             None => print!(rt; "None, ")?,
         }
     }
@@ -90,52 +96,56 @@ fn into_values<const PREFIX_LEN: usize>(
         } else {
             values.next()
         };
-        print!(rt; "{} {value:?}, ", values.len())?;
+        print!(rt; "{} {value:?}, ", left(values.len(), values.size_hint()))?;
     }
     println!(rt; "end")
 }
 
-// The pairs of the second map, which is empty then. (A walk that owns a map is not handed on: the proof that it may be
-// dropped there is not found for any number of stored bytes.)
-fn drained<const PREFIX_LEN: usize>(
-    alloc: Global,
-    other: &mut TreeMap<ZeroEnded, u64, PREFIX_LEN>,
-) -> Result<Vec<(ZeroEnded, u64)>, AllocError>
-    requires { PREFIX_LEN ≤ 16 }
-{
-    let mut pairs = Vec::with_capacity(alloc, other.len())?;
-    let mut walk = mem::replace(other, TreeMap::with_prefix_len(alloc)).into_iter();
-    while let Some(pair) = walk.next() {
-        pairs.push(pair)?;
-    }
-    Ok(pairs)
-}
-
-// The second map's pairs are put in one by one.
-fn extend<const PREFIX_LEN: usize>(
+// The second map's pairs go behind those in the bag, and it is empty then. So a call that is given the bag takes no
+// memory but its own. (A walk that owns a map is not handed on: the proof that it may be dropped there is not found for
+// any number of stored bytes.)
+fn drain<const PREFIX_LEN: usize>(
     rt: &(impl Print + AllocGlobal),
-    map: &mut TreeMap<ZeroEnded, u64, PREFIX_LEN>,
     other: &mut TreeMap<ZeroEnded, u64, PREFIX_LEN>,
+    bag: &mut Bag,
 ) -> io::Result<()>
     requires { PREFIX_LEN ≤ 16 }
 {
-    let pairs = drained(rt.alloc(), other)?;
-    match map.extend(pairs) {
+    let mut walk = mem::replace(other, TreeMap::with_prefix_len(rt.alloc())).into_iter();
+    while let Some(pair) = walk.next() {
+        bag.push(pair)?;
+    }
+    println!(rt; "done")
+}
+
+// The bag's pairs are put in one by one.
+fn extend<const PREFIX_LEN: usize>(
+    rt: &(impl Print + AllocGlobal),
+    map: &mut TreeMap<ZeroEnded, u64, PREFIX_LEN>,
+    bag: &mut Bag,
+) -> io::Result<()> {
+    match map.extend(mem::replace(bag, Vec::new(rt.alloc()))) {
         Ok(()) => println!(rt; "done"),
         Err(refused) => show_refused(rt, refused.key, refused.value),
     }
 }
 
-// The map is made anew of the second one's pairs.
-fn from_vec<const PREFIX_LEN: usize>(
+// The map is made anew of the bag's pairs.
+fn make<const PREFIX_LEN: usize>(
     rt: &(impl Print + AllocGlobal),
     map: &mut TreeMap<ZeroEnded, u64, PREFIX_LEN>,
-    other: &mut TreeMap<ZeroEnded, u64, PREFIX_LEN>,
+    bag: &mut Bag,
+    call: &str,
 ) -> io::Result<()>
     requires { PREFIX_LEN ≤ 16 }
 {
-    let pairs = drained(rt.alloc(), other)?;
-    match TreeMap::from_vec(rt.alloc(), pairs) {
+    let pairs = mem::replace(bag, Vec::new(rt.alloc()));
+    let made = if call == "from_vec" {
+        TreeMap::from_vec(rt.alloc(), pairs)
+    } else {
+        TreeMap::from_iter(rt.alloc(), pairs)
+    };
+    match made {
         Ok(made) => {
             *map = made;
             println!(rt; "done")
@@ -179,6 +189,7 @@ pub fn answer<const PREFIX_LEN: usize>(
     rt: &(impl Print + AllocGlobal),
     map: &mut TreeMap<ZeroEnded, u64, PREFIX_LEN>,
     other: &mut TreeMap<ZeroEnded, u64, PREFIX_LEN>,
+    bag: &mut Bag,
     asked: &Asked<'_>,
 ) -> io::Result<bool>
     requires { PREFIX_LEN ≤ 16 }
@@ -188,8 +199,9 @@ pub fn answer<const PREFIX_LEN: usize>(
             Ok(()) => println!(rt; "done")?,
             Err(_) => println!(rt; "memory")?,
         },
-        "extend" => extend(rt, map, other)?,
-        "from_vec" => from_vec(rt, map, other)?,
+        "drain" => drain(rt, other, bag)?,
+        "extend" => extend(rt, map, bag)?,
+        "from_vec" | "from_iter" => make(rt, map, bag, asked.call)?,
         "clone" => clone(rt, map, other)?,
         "compare" => compare(rt, map, other)?,
         "swap" => {

@@ -1,11 +1,37 @@
 // Walks, from both ends as letters tell: pairs, keys, values, ranges and prefixes, and those that lend values.
 
+ghost use Rattle.std.specs.Prelude.{◌≡◌, ◌⊎◌, [], IsTrue};
+ghost use Rattle.std.specs.Range.Bound.{bound_map};
+ghost use Rattle.art_walks.specs.Bounds.{AreValidKeyBounds};
+
 use crate::key::PlayedKey;
 use crate::script::{Asked, bound_of};
 use art_bytes::{AsBytes, SliceKey};
-use art_map::TreeMap;
+use art_map::{IterMut, RangeMut, TreeMap};
 use art_walks::{Iter, Keys, Prefix, Range, Values, bounds_are_valid};
 use std::io;
+use std::ops::Bound;
+
+/// Whether a map has a range between two bounds. One that is empty has, whatever they are.
+pub fn has_range<K: AsBytes, Q: AsBytes, const PREFIX_LEN: usize>(
+    map: &TreeMap<K, u64, PREFIX_LEN>,
+    start: Bound<&Q>,
+    end: Bound<&Q>,
+) -> bool
+    ensures { IsTrue result → (map.now.pairs ≡ []) ⊎ AreValidKeyBounds (bound_map (λ key. Q.bytes key.now) start.entry)
+        (bound_map (λ key. Q.bytes key.now) end.entry) }
+{
+    map.is_empty() || bounds_are_valid(start, end)
+}
+
+/// How many are left of a walk, where its hint is that too; else a number that no walk has.
+pub fn left(len: usize, hint: (usize, Option<usize>)) -> usize {
+    if hint == (len, Some(len)) {
+        len
+    } else {
+        usize::MAX
+    }
+}
 
 /// Prints a pair in a list.
 pub fn show_in_list<K: AsBytes>(rt: &impl Print, pair: Option<(&K, &u64)>) -> io::Result<()> {
@@ -21,7 +47,7 @@ fn show_iter<K: AsBytes, const PREFIX_LEN: usize>(
     ends: &str,
 ) -> io::Result<()> {
     for end in ends.bytes() {
-        print!(rt; "{} ", walk.len())?;
+        print!(rt; "{} ", left(walk.len(), walk.size_hint()))?;
         let pair = if end == b'b' {
             walk.next_back()
         } else {
@@ -44,7 +70,10 @@ fn show_keys<K: AsBytes, const PREFIX_LEN: usize>(
             walk.next()
         };
         match key {
-            Some(key) => print!(rt; "{} {:?}, ", walk.len(), key.as_bytes())?,
+            Some(key) => {
+                let left = left(walk.len(), walk.size_hint());
+                print!(rt; "{left} {:?}, ", key.as_bytes())?
+            }
             None => print!(rt; "None, ")?,
         }
     }
@@ -62,7 +91,7 @@ fn show_values<K: AsBytes, const PREFIX_LEN: usize>(
         } else {
             walk.next()
         };
-        print!(rt; "{} {value:?}, ", walk.len())?;
+        print!(rt; "{} {value:?}, ", left(walk.len(), walk.size_hint()))?;
     }
     println!(rt; "end")
 }
@@ -108,7 +137,7 @@ fn range<K: PlayedKey, const PREFIX_LEN: usize>(
     let (first, second) = (SliceKey(asked.first), SliceKey(asked.second));
     let start = bound_of(asked.words[0], &first);
     let end = bound_of(asked.words[1], &second);
-    if bounds_are_valid(start, end) {
+    if has_range(map, start, end) {
         show_range(rt, map.range(start, end), asked.words[2])
     } else {
         println!(rt; "invalid")
@@ -124,23 +153,74 @@ fn range_mut<K: PlayedKey, const PREFIX_LEN: usize>(
     let (first, second) = (SliceKey(asked.first), SliceKey(asked.second));
     let start = bound_of(asked.words[0], &first);
     let end = bound_of(asked.words[1], &second);
-    if !bounds_are_valid(start, end) {
+    if !has_range(map, start, end) {
         return println!(rt; "invalid");
     }
     let mut walk = map.range_mut(start, end);
-    for end in asked.words[2].bytes() {
-        let value = if end == b'b' {
-            walk.next_back()
-        } else {
-            walk.next()
-        };
-        raise(rt, value, asked.number(3))?;
+    for letter in asked.words[2].bytes() {
+        step_between(rt, &mut walk, letter, asked.number(3))?;
     }
     println!(rt; "end")
 }
 
-// Adds a number to a value that is lent, and prints what was there.
-fn raise(rt: &impl Print, lent: Option<&mut u64>, number: u64) -> io::Result<()> {
+// Adds a number to a value that is lent with its key, and prints what was there.
+fn raise_pair<K: AsBytes>(
+    rt: &impl Print,
+    (key, value): (&K, &mut u64),
+    number: u64,
+) -> io::Result<()> {
+    let old = *value;
+    *value = old.wrapping_add(number);
+    print!(rt; "{:?} {old}, ", key.as_bytes())
+}
+
+// Takes a step of a range that lends values: `f` and `b` lend one, `p` and `q` one with its key, from the front and
+// from the back.
+fn step_between<K: AsBytes, const PREFIX_LEN: usize>(
+    rt: &impl Print,
+    walk: &mut RangeMut<'_, K, u64, PREFIX_LEN>,
+    letter: u8,
+    number: u64,
+) -> io::Result<()> {
+    match letter {
+        b'f' => return raise(rt, walk.next(), number),
+        b'b' => return raise(rt, walk.next_back(), number),
+        _ => {}
+    }
+    if walk.is_empty() {
+        return print!(rt; "None, ");
+    }
+    if letter == b'p' {
+        raise_pair(rt, walk.next_pair(), number)
+    } else {
+        raise_pair(rt, walk.next_back_pair(), number)
+    }
+}
+
+// The same of a walk over all pairs.
+fn step<K: AsBytes, const PREFIX_LEN: usize>(
+    rt: &impl Print,
+    walk: &mut IterMut<'_, K, u64, PREFIX_LEN>,
+    letter: u8,
+    number: u64,
+) -> io::Result<()> {
+    match letter {
+        b'f' => return raise(rt, walk.next(), number),
+        b'b' => return raise(rt, walk.next_back(), number),
+        _ => {}
+    }
+    if walk.is_empty() {
+        return print!(rt; "None, ");
+    }
+    if letter == b'p' {
+        raise_pair(rt, walk.next_pair(), number)
+    } else {
+        raise_pair(rt, walk.next_back_pair(), number)
+    }
+}
+
+/// Adds a number to a value that is lent, and prints what was there.
+pub fn raise(rt: &impl Print, lent: Option<&mut u64>, number: u64) -> io::Result<()> {
     match lent {
         Some(value) => {
             let old = *value;
@@ -163,26 +243,16 @@ fn write<K: PlayedKey, const PREFIX_LEN: usize>(
         "prefix_mut" => {
             let query = SliceKey(asked.first);
             let mut walk = map.prefix_mut(&query);
-            for end in asked.words[2].bytes() {
-                let value = if end == b'b' {
-                    walk.next_back()
-                } else {
-                    walk.next()
-                };
-                raise(rt, value, number)?;
+            for letter in asked.words[2].bytes() {
+                step_between(rt, &mut walk, letter, number)?;
             }
             println!(rt; "end")?;
         }
         "iter_mut" => {
             let mut walk = map.iter_mut();
-            for end in asked.words[0].bytes() {
+            for letter in asked.words[0].bytes() {
                 print!(rt; "{} ", walk.len())?;
-                let value = if end == b'b' {
-                    walk.next_back()
-                } else {
-                    walk.next()
-                };
-                raise(rt, value, number)?;
+                step(rt, &mut walk, letter, number)?;
             }
             println!(rt; "end")?;
         }
