@@ -75,8 +75,7 @@ fn an_index_of_maps_takes_no_memory(rt: HostRuntime) -> Result<(), AllocError> {
     Ok(())
 }
 
-/// Whether maps are told apart by their lines and by the front of their keys. (It owns none of them, so that it has
-/// none to let go of.)
+/// Whether maps are told apart by their lines and by the front of their keys. It owns none, and so lets none go.
 fn are_told_apart(
     alloc: Global,
     keys: &mut Keys,
