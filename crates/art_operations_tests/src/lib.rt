@@ -16,6 +16,8 @@ mod commands;
 #[cfg(test)]
 mod counted;
 #[cfg(test)]
+mod cuts;
+#[cfg(test)]
 mod frees;
 #[cfg(test)]
 mod lookups;
