@@ -1,11 +1,13 @@
 -- A step of a span: its first pair is given, and the others are left.
-use Rattle.std.proofs.Common.{◌≡◌, List, [], ◌∷◌, length, Option, Some, None, refl, sym, ap, ◌∙◌}
+use Rattle.std.proofs.Common.{◌≡◌, ℕ, List, [], ◌∷◌, length, Option, Some, None, refl, sym, ap, ◌∙◌}
 use Rattle.std.specs.Prelude.{option_map, Result, Ok, Err, OnOk}
+use Rattle.std.specs.Global.{Vec}
 use Rattle.art_arena.specs.arena.Arena.{Arena}
-use Rattle.art_walks.specs.MapReads.{IsSpan, IsSpanOf}
+use Rattle.art_walks.specs.MapReads.{IsSameMap, IsSpan, IsSpanOf, ReadMap}
 use Rattle.art_walks.specs.Runs.{Ends}
 use Rattle.art_walks.proofs.RunLengths.{run-pairs}
-use Rattle.art_index.specs.Spans.{span_pairs}
+use Rattle.art_index.specs.Spans.{span_pairs, ReadsRecords, ReadsNumbers}
+use Rattle.art_index.specs.Stored.{Pair, NumberPair}
 
 module _ {K V : Type 0} where
   -- what a span has to give is what is left of it
@@ -33,3 +35,10 @@ module _ {K V : Type 0} where
 pub when_ok : {T E P : Type 0} (r : Result T E) → P → OnOk r P
 when_ok (Ok x) p = p
 when_ok (Err e) p = tt
+
+-- a reader aside reads the same map
+pub records_aside : (P : ℕ) (map other : ReadMap (Vec ℕ) (Vec ℕ)) (ps : List Pair) → IsSameMap map other → ReadsRecords P map ps → ReadsRecords P other ps
+records_aside P map other ps same r = record { read = rw (same.0, same.1) r.read; are = r.are; few = r.few }
+
+pub numbers_aside : (P : ℕ) (map other : ReadMap (List ℕ) (Vec ℕ)) (ns : List NumberPair) → IsSameMap map other → ReadsNumbers P map ns → ReadsNumbers P other ns
+numbers_aside P map other ns same r = record { read = rw (same.0, same.1) r.read; are = r.are; few = r.few }

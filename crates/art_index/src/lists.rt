@@ -8,11 +8,11 @@ ghost use Rattle.art_index.specs.Commands.{list, span, nspan};
 ghost use Rattle.art_index.specs.Records.{own};
 ghost use Rattle.art_index.specs.Replies.{listed, own_reply, pairs_from_to, numbers_listed, numbers_from_to};
 ghost use Rattle.art_index.specs.Faults.{Writes};
-ghost use Rattle.art_index.specs.Counts.{request_visits, span_visits, listing, opening, Grew, GrewBy};
+ghost use Rattle.art_index.specs.Counts.{request_visits, span_visits, listing, opening, GrewBy};
 ghost use Rattle.art_index.specs.Parsed.{tenant_in_place, key_in_place, value_in_place};
 ghost use Rattle.art_index.specs.Parsed.{number_in_place, bound_in_place};
 ghost use Rattle.art_index.specs.Stored.{Pair, NumberPair, records_of, number_records_of};
-ghost use Rattle.art_index.specs.Spans.{span_pairs, own_pair, IsListed, ReadsRecords};
+ghost use Rattle.art_index.specs.Spans.{span_pairs, own_pair, GrewFirst, IsListed, ReadsRecords};
 ghost use Rattle.art_index.specs.Spans.{own_number, IsNumbered, ReadsNumbers};
 
 use crate::command::fields::{Fields, NUMBER_KEY};
@@ -70,7 +70,7 @@ pub(crate) fn write_list<W: Sink, const PREFIX_LEN: usize>(
         (own (tenant_in_place fields.now) (records_of ps))))
         (W.has_failed sink.new) }
     ensures kept { IsSameMap records.old records.new }
-    ensures visits { (ps : List Pair) → ReadsRecords PREFIX_LEN records.old ps → OnOk result (Grew
+    ensures visits { (ps : List Pair) → ReadsRecords PREFIX_LEN records.old ps → OnOk result (GrewFirst
         (request_visits (tenant_in_place fields.now) (list (key_in_place fields.now)) (records_of ps))
         records.old.count records.new.count) }
 {
@@ -93,7 +93,7 @@ pub(crate) fn write_span<W: Sink, const PREFIX_LEN: usize>(
         (own (tenant_in_place fields.now) (records_of ps))))
         (W.has_failed sink.new) }
     ensures kept { IsSameMap records.old records.new }
-    ensures visits { (ps : List Pair) → ReadsRecords PREFIX_LEN records.old ps → OnOk result (Grew
+    ensures visits { (ps : List Pair) → ReadsRecords PREFIX_LEN records.old ps → OnOk result (GrewFirst
         (request_visits (tenant_in_place fields.now) (span (key_in_place fields.now) (value_in_place fields.now))
         (records_of ps)) records.old.count records.new.count) }
 {
@@ -118,7 +118,7 @@ fn write_between<W: Sink, const PREFIX_LEN: usize>(
         (own (tenant_in_place fields.now) (records_of ps)).keys)))
         (W.has_failed sink.new) }
     ensures kept { IsSameMap records.old records.new }
-    ensures visits { (ps : List Pair) → ReadsRecords PREFIX_LEN records.old ps → OnOk result (Grew
+    ensures visits { (ps : List Pair) → ReadsRecords PREFIX_LEN records.old ps → OnOk result (GrewFirst
         (span_visits (tenant_in_place fields.now) (key_in_place fields.now) (value_in_place fields.now) (records_of ps))
         records.old.count records.new.count) }
 {
@@ -173,7 +173,7 @@ pub(crate) fn write_number_span<W: Sink, const PREFIX_LEN: usize>(
         (own (tenant_in_place fields.now) (number_records_of ns))))
         (W.has_failed sink.new) }
     ensures kept { IsSameMap numbers.old numbers.new }
-    ensures visits { (ns : List NumberPair) → ReadsNumbers PREFIX_LEN numbers.old ns → OnOk result (Grew
+    ensures visits { (ns : List NumberPair) → ReadsNumbers PREFIX_LEN numbers.old ns → OnOk result (GrewFirst
         (request_visits (tenant_in_place fields.now) (nspan (number_in_place fields.now) (bound_in_place fields.now))
         (number_records_of ns)) numbers.old.count numbers.new.count) }
 {
@@ -198,7 +198,7 @@ fn write_numbers_between<W: Sink, const PREFIX_LEN: usize>(
         (own (tenant_in_place fields.now) (number_records_of ns)).numbers)))
         (W.has_failed sink.new) }
     ensures kept { IsSameMap numbers.old numbers.new }
-    ensures visits { (ns : List NumberPair) → ReadsNumbers PREFIX_LEN numbers.old ns → OnOk result (Grew
+    ensures visits { (ns : List NumberPair) → ReadsNumbers PREFIX_LEN numbers.old ns → OnOk result (GrewFirst
         (listing (length (numbers_from_to (number_in_place fields.now) (bound_in_place fields.now)
         (own (tenant_in_place fields.now) (number_records_of ns)).numbers)) (opening 8 12))
         numbers.old.count numbers.new.count) }
