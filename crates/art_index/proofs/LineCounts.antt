@@ -1,5 +1,5 @@
 -- How many nodes a line reads, by the family of its word.
-use Rattle.std.proofs.Common.{◌≡◌, ℕ, ◌+◌, ◌-◌, ◌^◌, min, refl, subst, arith}
+use Rattle.std.proofs.Common.{◌≡◌, ℕ, ◌+◌, ◌-◌, ◌^◌, min, subst, arith}
 use Rattle.std.specs.Prelude.{Bool, true, false, List, Option, Some, None}
 use Rattle.art_index.specs.declared.command.fields.Fields.{Fields}
 use Rattle.art_index.specs.declared.command.word.Change.{Change}

@@ -1,6 +1,6 @@
 -- What is read of the records under keys, told by the definitions.
-use Rattle.std.proofs.Common.{◌≡◌, ℕ, ◌+◌, ◌-◌, ◌*◌, ◌<◌, ◌≤◌, ◌^◌, min, List, [], ◌∷◌, length, map, drop, filter, refl, ap, sym, ◌∙◌, subst, arith, Bool, true, false, not, cond, bytes_eq, Option, Some, None}
-use Rattle.std.specs.Prelude.{max, ◌&&◌, int_lt, ℤ, option_map}
+use Rattle.std.proofs.Common.{◌≡◌, ℕ, ◌+◌, ◌-◌, ◌<◌, ◌≤◌, ◌^◌, min, List, [], ◌∷◌, length, map, filter, refl, ap, sym, ◌∙◌, subst, arith, Bool, true, false, not, cond, bytes_eq, Option, Some, None}
+use Rattle.std.specs.Prelude.{◌&&◌, int_lt, ℤ, option_map}
 use Rattle.std.specs.Map.{lookup, lookup_entry}
 use Rattle.std.specs.Global.{Vec}
 use Rattle.std.specs.List.{AllByRecursion}
@@ -29,7 +29,6 @@ use Rattle.art_index.proofs.MappedTrees.{paths_by_keys}
 use Rattle.art_index.proofs.NumberKeys.{HaveBytes, between_numbers}
 use Rattle.art_index.proofs.NumberPlaces.{number_bytes, number_keys_are, number_found, numbers_passing, stand_all}
 use Rattle.art_index.proofs.OwnLaws.{key_part, number_part}
-use Rattle.art_index.proofs.Putting.{pairs_of_tenant}
 use Rattle.art_index.proofs.Removing.{passing, first_passing, IsFullTest}
 
 -- pairs without their tenant

@@ -2,7 +2,6 @@
 use Rattle.std.specs.Prelude.{◌≡◌, ℕ, suc, ◌≤◌, ◌≢◌, Bool, true, List, [], ◌++◌, length, take}
 use Rattle.std.specs.Prelude.{Result, OnOk, OnErr, is_err}
 use Rattle.art_index.specs.Lines.{whole_lines_of}
-use Rattle.art_index.specs.Records.{Records}
 use Rattle.art_index.specs.State.{State}
 use Rattle.art_index.specs.Refusals.{LineMayRefuse}
 use Rattle.art_index.specs.Outcome.{answer, left_by, outcome_of, HaveRead, IsLawful, IsOutcome}

@@ -1,5 +1,6 @@
 -- What a reader of the records' map reads, and what is left of a span of it.
-use Rattle.std.specs.Prelude.{◌≡◌, ℕ, ◌+◌, ◌-◌, ◌^◌, ◌<◌, ◌≤◌, ℤ, FitsSigned, List, length, drop}
+use Rattle.std.specs.Prelude.{◌≡◌, ℕ, ◌+◌, ◌-◌, ◌^◌, ◌<◌, ◌≤◌, ℤ, FitsSigned, List, ◌∷◌, length, drop}
+use Rattle.std.specs.Prelude.{Option, Some, None}
 use Rattle.std.specs.Global.{Vec}
 use Rattle.std.specs.Int.{w64}
 use Rattle.art_arena.specs.arena.Arena.{Arena}
@@ -30,6 +31,11 @@ pub record GrewFirst (v : Visits) (old new : ℕ) : Type 0 where
   pub most : new ≤ old + v.most
   pub least : old ≡ 0 → v.least ≤ new
   pub fits : v.least ≤ 2 ^ 64 - 1
+
+-- the one that was read ahead, if there is one, and those behind it
+abbrev pub pending : {X : Type 0} → Option X → List X → List X
+pending None rest = rest
+pending (Some x) rest = x ∷ rest
 
 -- the pairs that a span has still to give
 abbrev pub span_pairs : {K V : Type 0} → Arena K V → Ends → List (K × V)

@@ -24,8 +24,19 @@ use art_bytes::SliceKey;
 use art_walks::{MapReader, ReadSpan};
 use std::ops::Bound;
 
+/// A byte that can't be told without having read a pair's key and its value, so that no compiler leaves the reads out.
+#[inline(always)]
+fn first_bytes(pair: Option<(&Vec<u8>, &Vec<u8>)>) -> u8 {
+    let Some((key, value)) = pair else {
+        return 0;
+    };
+    let (key, value) = (key.first().copied(), value.first().copied());
+    key.unwrap_or_default() ^ value.unwrap_or_default()
+}
+
 /// Writes the pairs of a span without their tenant, and how many they are. The lines are gathered, and leave in few
-/// pieces. A leaf is read for each pair.
+/// pieces. A leaf is read for each pair, and before the line of the pair before it is put together: so the processor
+/// does not wait for it. What is seen of it is kept behind what is gathered.
 #[inline(never)]
 fn write_pairs<W: Sink, const PREFIX_LEN: usize>(
     records: &mut MapReader<'_, Vec<u8>, Vec<u8>, PREFIX_LEN>,
@@ -45,9 +56,12 @@ fn write_pairs<W: Sink, const PREFIX_LEN: usize>(
 {
     let mut room = [0; ROOM];
     let (mut held, mut count) = (0, 0);
-    'pairs: while let Some((full, value)) = records.next(span) {
+    let mut ahead = records.next(span);
+    'pairs: while let Some((full, value)) = ahead {
         let key = full.as_slice();
         let text = value.as_slice();
+        ahead = records.next(span);
+        room[ROOM - 1] = first_bytes(ahead);
         let next = gather_pair(sink, &mut room, held, key, text)?;
         held = next;
         count += 1;

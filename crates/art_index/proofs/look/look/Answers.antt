@@ -1,5 +1,4 @@
-use Rattle.std.proofs.Common.{rules, ◌≡◌, ap₂}
-use Rattle.art_index.specs.Spans.{ReadsRecords, ReadsNumbers}
+use Rattle.std.proofs.Common.{rules}
 use Rattle.art_index.proofs.Cuts.{when_err}
 use Rattle.art_index.proofs.LineCounts.{taken_in}
 use Rattle.art_index.proofs.SpanLemmas.{records_aside, numbers_aside}

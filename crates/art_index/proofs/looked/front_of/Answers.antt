@@ -1,4 +1,4 @@
-use Rattle.std.proofs.Common.{◌+◌, ◌≤◌, ℕ, List, length, drop, map, ap, ap₂, sym, ◌∙◌, subst, Some, arith}
+use Rattle.std.proofs.Common.{◌+◌, ◌≤◌, ℕ, List, length, drop, map, ap, ap₂, sym, ◌∙◌, subst, Some}
 use Rattle.std.specs.Prelude.{option_map}
 use Rattle.art_arena.specs.tree.Tenants.{begins_with}
 use Rattle.art_index.specs.Counts.{exactly, path_nodes}

@@ -1,4 +1,4 @@
-use Rattle.std.proofs.Common.{◌≡◌, ℕ, ◌≤◌, ◌<◌, List, length, map, ap, sym, ◌∙◌, subst, Some, arith}
+use Rattle.std.proofs.Common.{map, ap, ◌∙◌, subst, Some}
 use Rattle.std.specs.Prelude.{option_map}
 use Rattle.art_index.specs.Counts.{exactly, path_nodes}
 use Rattle.art_index.specs.Spans.{GrewFirst}
