@@ -2,7 +2,7 @@
 ghost use Rattle.std.specs.Prelude.{◌≡◌, ◌+◌, ◌<◌, ◌++◌, map, take, OnErr, IfOk, IfErr, is_err, true, false, Some};
 ghost use Rattle.std.specs.Prelude.{None, flat_map};
 ghost use Rattle.art_index.specs.Words.{line_of};
-ghost use Rattle.art_index.specs.Counts.{IsWithin, visits_of};
+ghost use Rattle.art_index.specs.Counts.{IsWithin, visits_of, line_visits};
 ghost use Rattle.art_index.specs.Faults.{Writes};
 ghost use Rattle.art_index.specs.Parsed.{looks_up};
 ghost use Rattle.art_index.specs.Replies.{command_reply};
@@ -16,6 +16,7 @@ use crate::look::look;
 use crate::records::write_placed;
 use crate::reply::write_piece;
 use crate::stream::{Sink, WriteFailed};
+use crate::tenants::{drop_tenant, write_dropped};
 use art_map::TreeMap;
 use std::alloc::Global;
 use std::marker::Model;
@@ -48,7 +49,8 @@ impl From<WriteFailed> for RunFault {
 pub struct Handled {
     /// Whether the reply was `memory`.
     pub memory: bool,
-    /// The number of nodes read by a look-up, and 0 for every other line.
+    /// The number of nodes read by a look-up, or read and freed by a drop. It is 0 for every other line, and for one
+    /// whose reply was `memory`.
     pub visits: u64,
 }
 
@@ -149,8 +151,10 @@ impl<const PREFIX_LEN: usize> Index<PREFIX_LEN> {
         ensures left { IfOk result (λ done. self.new ≡ left_by done.memory self.old line.now) }
         ensures lawful { IfOk result (λ done. done.memory ≡ true → LineMayRefuse self.old line.now) }
 
-        // A look-up reads so many nodes, told by the records alone; each other line reads none.
-        ensures visits { IfOk result (λ done. IsWithin (visits_of (command_of line.now) self.old) done.visits) }
+        // A look-up reads so many nodes, and a drop reads and frees so many, told by the records alone; each other line
+        // reads none, nor does one that found no memory.
+        ensures visits { IfOk result (λ done.
+            IsWithin (line_visits done.memory (command_of line.now) self.old) done.visits) }
         ensures short { IfOk result (λ done. IsShort (command_of line.now) done.visits) }
         ensures own_path { IfOk result (λ done. ReadsOwnPath (command_of line.now) self.old done.visits) }
 
@@ -173,6 +177,12 @@ impl<const PREFIX_LEN: usize> Index<PREFIX_LEN> {
                 );
                 memory = done.is_memory();
                 write_placed(sink, &done)?;
+            }
+            Some(Word::Drop) => {
+                let dropped = drop_tenant(&mut self.records, &mut self.numbers, &self.fields);
+                memory = dropped.is_memory();
+                visits = dropped.visits();
+                write_dropped(sink, dropped)?;
             }
             Some(Word::Whole(word)) => {
                 let told = ask_all(&self.records, &self.numbers, word);
