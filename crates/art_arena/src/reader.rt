@@ -106,19 +106,19 @@ impl<'a, T> Reader<'a, T> {
         self.count
     }
 
-    // A reader of the same that has read nothing yet. Steps that are rare and stand in a function of their own are
-    // counted by it, so that a count which nobody asks for is never kept.
+    /// A reader of the same that has read nothing yet, whose count `take_in` adds here. Steps that are rare and stand
+    /// in a function of their own are counted by it, so that a count which nobody asks for is never kept.
     #[inline(always)]
-    pub(crate) fn aside(&self) -> Self
+    pub fn aside(&self) -> Self
         ensures arena { arena_of result ≡ arena_of self.now }
         ensures count { count_of result ≡ 0 }
     {
         Reader::new(self.arena)
     }
 
-    // What another has read is counted here.
+    /// What another has read is counted here. A count that reaches the greatest number stays there.
     #[inline(always)]
-    pub(crate) fn take_in(&mut self, other: Self)
+    pub fn take_in(&mut self, other: Self)
         ensures kept { arena_of self.new ≡ arena_of self.old }
         ensures counts { count_of self.new ≡ min (count_of self.old + count_of other.entry) (2 ^ 64 - 1) }
     {

@@ -1,6 +1,6 @@
 -- What a look-up reads, told by what is known of its count: it is short, and the tenant's own path where it finds a record.
-use Rattle.std.proofs.Common.{◌≡◌, ℕ, ℤ, ◌+◌, ◌<◌, ◌≤◌, ◌^◌, List, [], ◌∷◌, ◌++◌, length, refl, sym, ap, ◌∙◌, subst, Bool, true, false, arith, inl, inr, bytes_eq, append_assoc, append-nil, Option, Some, None}
-use Rattle.std.specs.Prelude.{IsSome, option_map, ◌==◌, ◌||◌, ◌&&◌, nat_lt, int_lt}
+use Rattle.std.proofs.Common.{◌≡◌, ℕ, ℤ, ◌+◌, ◌<◌, ◌≤◌, ◌^◌, List, [], ◌∷◌, length, refl, sym, ap, ◌∙◌, subst, Bool, true, arith, inl, inr, bytes_eq, append_assoc, append-nil, Option, Some, None}
+use Rattle.std.specs.Prelude.{IsSome, option_map, nat_lt}
 use Rattle.std.specs.Ordering.{int_eq}
 use Rattle.std.proofs.lemmas.Bool.{eq-eqb, lt-ltb, or_left, or_right, and_from}
 use Rattle.std.proofs.lemmas.Bool.Decides.{Decides-int_eq}
@@ -10,7 +10,6 @@ use Rattle.std.specs.List.{AllByRecursion, find}
 use Rattle.std.specs.Int.{to_be_bytes, w32, w64}
 use Rattle.std.proofs.lemmas.Slice.Eq.{bytes_eq-Decides}
 use Rattle.art_bytes.specs.Keys.{BeginsWith, IsBefore}
-use Rattle.art_arena.specs.tree.Changes.{IsIn}
 use Rattle.art_arena.specs.tree.Order.{AscendsByKey}
 use Rattle.art_arena.specs.tree.Tenants.{begins_with}
 use Rattle.art_arena.proofs.tree.Insert.{all_at}

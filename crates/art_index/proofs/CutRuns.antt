@@ -2,16 +2,16 @@
 use Rattle.std.proofs.Common.{◌≡◌, ℕ, suc, ◌<◌, List, [], ◌∷◌, ◌++◌, length, take, ap, sym, ◌∙◌, subst, arith, append_assoc, length-append, add-one}
 use Rattle.std.proofs.lemmas.List.{take-append-le, take_all, length-take}
 use Rattle.art_index.specs.Lines.{whole_lines_of, unfinished_line_of, lines_of}
-use Rattle.art_index.specs.Records.{Records}
-use Rattle.art_index.specs.Outcome.{outcome_of}
+use Rattle.art_index.specs.State.{State}
+use Rattle.art_index.specs.Outcome.{outcome_of, HaveRead}
 use Rattle.art_index.specs.Faults.{IsCutLine, AfterWriteFault}
 use Rattle.art_index.specs.Progress.{Carried, IsCutRun, NoNewline}
 use Rattle.art_index.proofs.LineLemmas.{whole_lines_of-line, whole_lines_of-more}
-use Rattle.art_index.proofs.RunLemmas.{with_place, outcome-with_place}
+use Rattle.art_index.proofs.RunLemmas.{with_place, outcome-with_place, have_read-with_place}
 use Rattle.art_index.proofs.Carrying.{IsReadAs, goes_on, closed, cut}
 
 -- other lines behind do not matter
-fault_more : (start : Records) (ls others : List (List ℕ)) (written : List ℕ) (now : Records) → AfterWriteFault start ls written now → AfterWriteFault start (ls ++ others) written now
+fault_more : (start : State) (ls others : List (List ℕ)) (written : List ℕ) (now : State) → AfterWriteFault start ls written now → AfterWriteFault start (ls ++ others) written now
 fault_more start ls others written now f =
     let within = f.within in let total = length-append ls others in
     let before : take f.answered (ls ++ others) ≡ take f.answered ls = take-append-le f.answered ls others (omega arith) in
@@ -27,9 +27,10 @@ fault_more start ls others written now f =
       told = rw before f.told;
       cut = rw through f.cut;
       left = rw through f.left;
+      counted = rw before f.counted;
     }
 
-pub cut_run-more : (start now : Records) (text more all before taken : List ℕ) → text ++ more ≡ all
+pub cut_run-more : (start now : State) (text more all before taken : List ℕ) → text ++ more ≡ all
     → IsCutRun start now (whole_lines_of text) before taken → IsCutRun start now (whole_lines_of all) before taken
 cut_run-more start now text more all before taken e r =
     let others = whole_lines_of-more text more in
@@ -40,7 +41,7 @@ cut_run-more start now text more all before taken e r =
     }
 
 -- the line after those that are carried out
-cut_next : (start now new : Records) (text held before taken taken' line handled : List ℕ) → Carried start now text held before taken → IsReadAs handled line
+cut_next : (start now new : State) (text held before taken taken' line handled : List ℕ) → Carried start now text held before taken → IsReadAs handled line
     → IsCutLine now handled taken taken' new → IsCutRun start new (whole_lines_of text ++ line ∷ []) before taken'
 cut_next start now new text held before taken taken' line handled c s l =
     let ls : List (List ℕ) = whole_lines_of text in let n : ℕ = length ls in
@@ -49,7 +50,8 @@ cut_next start now new text held before taken taken' line handled c s l =
     let long : length all ≡ suc n = length-append ls (line ∷ []) ∙ add-one n in
     let front : take n all ≡ ls = take-append-le n ls (line ∷ []) (omega arith) ∙ take_all n ls (omega arith) in
     let through : take (suc n) all ≡ all = take_all (suc n) all (omega arith) in
-    let first : c.written ≡ (outcome_of start ls (with_place l.memory c.refused n)).written = c.ran.told ∙ sym (outcome-with_place start ls c.refused l.memory) in
+    let first : c.written ≡ (outcome_of start.records ls (with_place l.memory c.refused n)).written = c.ran.told ∙ sym (outcome-with_place start.records ls c.refused l.memory) in
+    let read : HaveRead start ls (with_place l.memory c.refused n) now = have_read-with_place start now ls c.refused l.memory c.counted in
     record {
       written = c.written ++ l.told.begun;
       told = l.told.told ∙ ap (λ t. t ++ l.told.begun) c.told ∙ append_assoc before c.written l.told.begun;
@@ -64,17 +66,18 @@ cut_next start now new text held before taken taken' line handled c s l =
         told = rw front (ap (λ t. t ++ l.told.begun) first);
         cut = rw through (append_assoc c.written l.told.begun l.told.missing ∙ ap (λ t. c.written ++ t) l.told.parts ∙ ran.told);
         left = rw through (l.left ∙ ran.left);
+        counted = rw front (record { counts = read.counts; counted = read.counted; reads = l.uncounted ∙ read.reads });
       };
     }
 
 -- a line that a newline ends
-pub cut_run-line : (start now new : Records) (text part handled held before taken taken' : List ℕ) → Carried start now text held before taken → NoNewline part
+pub cut_run-line : (start now new : State) (text part handled held before taken taken' : List ℕ) → Carried start now text held before taken → NoNewline part
     → IsReadAs handled (unfinished_line_of text ++ part) → IsCutLine now handled taken taken' new → IsCutRun start new (whole_lines_of (text ++ part ++ 10 ∷ [])) before taken'
 cut_run-line start now new text part handled held before taken taken' c none s l =
     subst (λ ls. IsCutRun start new ls before taken') (sym (whole_lines_of-line text part none)) (cut_next start now new text held before taken taken' (unfinished_line_of text ++ part) handled c s l)
 
 -- the last line, which no newline ends
-pub cut_run-last : (start now new : Records) (text held before taken taken' handled : List ℕ) → Carried start now text held before taken → 0 < length held → handled ≡ held
+pub cut_run-last : (start now new : State) (text held before taken taken' handled : List ℕ) → Carried start now text held before taken → 0 < length held → handled ≡ held
     → IsCutLine now handled taken taken' new → IsCutRun start new (lines_of text) before taken'
 cut_run-last start now new text held before taken taken' handled c some same l =
     let shorter = ap length c.rest ∙ length-take 4097 (unfinished_line_of text) in

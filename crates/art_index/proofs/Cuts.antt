@@ -1,6 +1,6 @@
 -- Texts that are taken part by part, and where a write fails within one.
 use Rattle.std.proofs.Common.{◌≡◌, ℕ, ◌≢◌, List, [], ◌∷◌, ◌++◌, length, refl, ap, sym, ◌∙◌, arith, subst, Bool, true, Result, Ok, Err, OnErr, append_assoc, append-nil}
-use Rattle.art_index.specs.Records.{Records}
+use Rattle.art_index.specs.State.{State}
 use Rattle.art_index.specs.Refusals.{LineMayRefuse}
 use Rattle.art_index.specs.Outcome.{answer, left_by}
 use Rattle.art_index.specs.Faults.{IsCut, IsCutLine}
@@ -83,6 +83,7 @@ taken_cut before now after part rest text t c =
     record { begun = whole.begun; missing = whole.missing; is_cut = whole.is_cut; parts = whole.parts ∙ t.parts; told = whole.told }
 
 -- a line that was carried out, and whose answer was cut
-pub cut_line : (memory : Bool) (old new : Records) (line before after told : List ℕ) → told ≡ answer memory old line → IsCut before after told
-    → new ≡ left_by memory old line → (memory ≡ true → LineMayRefuse old line) → IsCutLine old line before after new
-cut_line memory old new line before after told is cut left lawful = record { memory = memory; lawful = lawful; told = cut_same before after told (answer memory old line) is cut; left = left }
+pub cut_line : (memory : Bool) (old new : State) (line before after told : List ℕ) → told ≡ answer memory old.records line → IsCut before after told
+    → new.records ≡ left_by memory old.records line → (memory ≡ true → LineMayRefuse old.records line) → new.reads ≡ old.reads → IsCutLine old line before after new
+cut_line memory old new line before after told is cut left lawful same =
+    record { memory = memory; lawful = lawful; told = cut_same before after told (answer memory old.records line) is cut; left = left; uncounted = same }

@@ -7,8 +7,9 @@ use Rattle.art_index.specs.Commands.{put, get, nget, drop, of_tenant, dump, Spel
 use Rattle.art_index.specs.Reading.{command_of, natural_in, tenant_in, number_in, bytes_in}
 use Rattle.art_bytes.specs.Keys.{is_below, conflicts}
 use Rattle.art_index.specs.Keys.{full_key, number_key_of, number_of_bytes, full_key_of}
-use Rattle.art_index.specs.Counts.{exactly, listing, visits_of, path_nodes, fronts_shared}
+use Rattle.art_index.specs.Counts.{exactly, listing, visits_of, path_nodes, fronts_shared, IsCount}
 use Rattle.art_index.specs.Records.{KeyRecord, KeyFits, Records, no_records, own, with_own}
+use Rattle.art_index.specs.State.{at_first, unread}
 use Rattle.art_index.specs.Replies.{reply_to, records_after, dump_of, audit_lines}
 use Rattle.art_index.specs.Refusals.{MayRefuse, LineMayRefuse}
 use Rattle.art_index.specs.Outcome.{outcome_of, IsLawful}
@@ -277,11 +278,21 @@ refused_line-changes_nothing = refl
 one_record : Records
 one_record = record { keys = (record { tenant = 1; key = 10 ∷ []; value = 97 ∷ [] }) ∷ []; numbers = [] }
 
-read_fault-behind_a_line : AfterReadFault no_records (codes "put 1 0a 61" ++ 10 ∷ codes "get 1 0") (codes "new" ++ 10 ∷ []) one_record
+no_count : IsCount false no_records (codes "put 1 0a 61") 0
 unfolding one_record IsLawful outcome_of whole_lines_of unfinished_line_of reply_to records_after command_of natural_in tenant_in number_in bytes_in hex_on_literals digits
-read_fault-behind_a_line = record { refused = []; lawful = (λ no_line. absurd (false≢true no_line), tt); told = refl; left = refl }
+no_count = record { within = (lit≤ tt, lit≤ tt); short = tt; own_path = tt }
 
-write_fault-within_a_reply : AfterWriteFault no_records (codes "put 1 0a 61" ∷ codes "get 1 0a" ∷ []) (codes "ne") one_record
+read_fault-behind_a_line : AfterReadFault at_first (codes "put 1 0a 61" ++ 10 ∷ codes "get 1 0") (codes "new" ++ 10 ∷ []) (record { records = one_record; reads = 0 ∷ [] })
+unfolding one_record IsLawful outcome_of whole_lines_of unfinished_line_of reply_to records_after command_of natural_in tenant_in number_in bytes_in hex_on_literals digits
+read_fault-behind_a_line = record {
+  refused = [];
+  lawful = (λ no_line. absurd (false≢true no_line), tt);
+  told = refl;
+  left = refl;
+  counted = record { counts = 0 ∷ []; counted = (no_count, tt); reads = refl };
+}
+
+write_fault-within_a_reply : AfterWriteFault at_first (codes "put 1 0a 61" ∷ codes "get 1 0a" ∷ []) (codes "ne") (unread one_record)
 unfolding one_record IsLawful outcome_of whole_lines_of unfinished_line_of reply_to records_after command_of natural_in tenant_in number_in bytes_in hex_on_literals digits
 write_fault-within_a_reply = record {
   refused = [];
@@ -294,6 +305,7 @@ write_fault-within_a_reply = record {
   told = refl;
   cut = refl;
   left = refl;
+  counted = record { counts = []; counted = tt; reads = refl };
 }
 
 -- one byte of three was taken, behind another
@@ -301,13 +313,14 @@ text-cut_behind_a_byte : IsCut (codes "o") (codes "on") (codes "new")
 text-cut_behind_a_byte = record { begun = codes "n"; missing = codes "ew"; is_cut = λ e. cc; parts = refl; told = refl }
 
 -- a put was carried out, and of its answer nothing was taken
-line-cut_at_once : IsCutLine no_records (codes "put 1 0a 61") (codes "o") (codes "o") one_record
+line-cut_at_once : IsCutLine at_first (codes "put 1 0a 61") (codes "o") (codes "o") (unread one_record)
 unfolding one_record IsLawful outcome_of whole_lines_of unfinished_line_of reply_to records_after command_of natural_in tenant_in number_in bytes_in hex_on_literals digits
 line-cut_at_once = record {
   memory = false;
   lawful = λ no_memory. absurd (false≢true no_memory);
   told = record { begun = []; missing = codes "new" ++ 10 ∷ []; is_cut = λ e. cc; parts = refl; told = refl };
   left = refl;
+  uncounted = refl;
 }
 
 -- Records: a key is bytes, so that no record has 256 in its key.

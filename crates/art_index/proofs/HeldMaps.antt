@@ -1,6 +1,6 @@
 -- Pairs that an index may be made of: under full keys of bytes that ascend, each with a line that is short enough.
-use Rattle.std.proofs.Common.{◌≡◌, ℕ, ℤ, ◌-◌, min, ap₂, take-append-drop, length-drop, ◌+◌, ◌*◌, ◌<◌, ◌≤◌, ◌^◌, ◌⊎◌, List, [], ◌∷◌, ◌++◌, length, take, drop, map, get_or, refl, ap, sym, ◌∙◌, subst, Bool, true, false, inl, inr, arith, length-append}
-use Rattle.std.specs.Prelude.{◌==◌, ◌||◌, ◌&&◌, nat_lt, decimal, FitsSigned, bit_xor}
+use Rattle.std.proofs.Common.{◌≡◌, ℕ, ℤ, ◌-◌, min, ap₂, take-append-drop, length-drop, ◌+◌, ◌*◌, ◌<◌, ◌≤◌, ◌^◌, ◌⊎◌, List, [], ◌∷◌, ◌++◌, length, take, drop, map, get_or, refl, ap, sym, ◌∙◌, subst, true, false, inl, inr, arith, length-append}
+use Rattle.std.specs.Prelude.{◌==◌, ◌&&◌, nat_lt, decimal, FitsSigned, bit_xor}
 use Rattle.std.specs.Fmt.{signed_decimal}
 use Rattle.std.specs.List.{AllByRecursion}
 use Rattle.std.specs.Int.{to_be_bytes, from_be_bytes, cast_signed, w32, w64}
@@ -18,11 +18,11 @@ use Rattle.art_bytes.proofs.Conflicts.{told_conflict}
 use Rattle.art_arena.specs.tree.Order.{AscendsByKey}
 use Rattle.art_arena.proofs.tree.Lexicographic.{order_is_lexicographic}
 use Rattle.art_index.specs.Commands.{put_words, nput_words}
-use Rattle.art_index.specs.Held.{record_in, number_record_in, IsShortRecord, IsShortNumber, IsRecordIn, IsNumberRecordIn}
-use Rattle.art_index.specs.Keys.{full_key, full_key_of, number_of_bytes}
+use Rattle.art_index.specs.Held.{IsShortRecord, IsShortNumber, IsRecordIn, IsNumberRecordIn}
+use Rattle.art_index.specs.Keys.{full_key_of, number_of_bytes}
 use Rattle.art_index.specs.Replies.{number_words}
 use Rattle.art_index.specs.Records.{KeyRecord, InOrder, KeyComesBefore, KeyFits, NumberFits}
-use Rattle.art_index.specs.Stored.{Pair, NumberPair, record_of, number_record_of, IsFull, IsOfTenant, AreFull, ArePairs, IsNumberPair, AreNumberPairs}
+use Rattle.art_index.specs.Stored.{Pair, NumberPair, record_of, number_record_of, IsFull, IsOfTenant, ArePairs, IsNumberPair, AreNumberPairs}
 use Rattle.art_index.specs.Words.{bytes, shown, text_of, line_of}
 use Rattle.art_index.proofs.Conflicts.{bytes_of}
 use Rattle.art_index.proofs.FieldLengths.{length-encode}

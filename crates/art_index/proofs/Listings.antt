@@ -1,9 +1,10 @@
 -- How many nodes a listing reads.
-use Rattle.std.proofs.Common.{◌≡◌, ℕ, suc, ◌+◌, ◌-◌, ◌*◌, ◌<◌, ◌≤◌, ◌^◌, min, List, [], ◌∷◌, length, map, refl, ap, sym, ◌∙◌, arith}
+use Rattle.std.proofs.Common.{◌≡◌, ℕ, ◌+◌, ◌-◌, ◌*◌, ◌<◌, ◌≤◌, ◌^◌, min, List, [], ◌∷◌, length, map, refl, ap, sym, ◌∙◌, arith}
 use Rattle.std.specs.Prelude.{max}
 use Rattle.std.specs.List.{AllByRecursion}
 use Rattle.std.proofs.lemmas.Nat.{mul-le}
-use Rattle.art_index.specs.Counts.{longest, listing, exactly, opening, Grew, GrewBy}
+use Rattle.art_index.specs.Counts.{longest, listing, exactly, opening, GrewBy}
+use Rattle.art_index.specs.Spans.{GrewFirst}
 use Rattle.art_index.proofs.Filters.{All-map}
 
 module _ {X : Type 0} (key : X → List ℕ) where
@@ -22,7 +23,7 @@ pub longest_by_keys : {X Y : Type 0} (key : X → List ℕ) (other : Y → List 
 longest_by_keys key other xs ys same = longest-map key xs ∙ ap (longest (λ (k : List ℕ). k)) same ∙ sym (longest-map other ys)
 
 -- both ends of a run are found, and then a leaf is read for each record
-pub listing_grew : (bound full longest old mid new m : ℕ) → mid ≤ old + (full + 6) * (longest + 2) → full ≡ bound + 4 → m < 2 ^ 64 → GrewBy m mid new → Grew (listing m (opening bound longest)) old new
+pub listing_grew : (bound full longest old mid new m : ℕ) → mid ≤ old + (full + 6) * (longest + 2) → full ≡ bound + 4 → m < 2 ^ 64 → GrewBy m mid new → GrewFirst (listing m (opening bound longest)) old new
 listing_grew bound full longest old mid new m few whole fits is =
     let cost : (full + 6) * (longest + 2) ≤ 2 * (bound + 6) * (longest + 2) = mul-le (full + 6) (longest + 2) (2 * (bound + 6)) (longest + 2) (omega arith) (omega arith) in
     let low = is.0 in let high = is.1 in
@@ -30,14 +31,13 @@ listing_grew bound full longest old mid new m few whole fits is =
     record {
       most = omega arith;
       least = λ fresh. omega arith;
-      exact = λ e. absurd (omega arith);
       fits = omega arith;
     }
 
 -- nothing is read
-pub nothing_grew : (n : ℕ) → Grew (exactly 0) n n
-nothing_grew n = record { most = omega arith; least = λ fresh. omega arith; exact = λ e. omega arith; fits = omega arith }
+pub nothing_grew : (n : ℕ) → GrewFirst (exactly 0) n n
+nothing_grew n = record { most = omega arith; least = λ fresh. omega arith; fits = omega arith }
 
 -- a path is read
-pub path_grew : (path old new : ℕ) → path < 2 ^ 64 → new ≡ min (old + path) (2 ^ 64 - 1) → Grew (exactly path) old new
-path_grew path old new fits is = record { most = omega arith; least = λ fresh. omega arith; exact = λ e. omega arith; fits = omega arith }
+pub path_grew : (path old new : ℕ) → path < 2 ^ 64 → new ≡ min (old + path) (2 ^ 64 - 1) → GrewFirst (exactly path) old new
+path_grew path old new fits is = record { most = omega arith; least = λ fresh. omega arith; fits = omega arith }

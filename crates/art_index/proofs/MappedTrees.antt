@@ -1,5 +1,5 @@
 -- The tree of some items, and that of what each of them is turned into: a path has as many nodes in one as in the other.
-use Rattle.std.proofs.Common.{◌≡◌, ℕ, zero, suc, List, [], ◌∷◌, length, drop, map, refl, sym, ap, ap₂, ◌∙◌, true, false, cond, Option, Some, None}
+use Rattle.std.proofs.Common.{◌≡◌, ℕ, zero, suc, List, [], ◌∷◌, length, drop, map, refl, sym, ap, ap₂, ◌∙◌, true, false, cond}
 use Rattle.std.specs.Prelude.{◌==◌, slice_index}
 use Rattle.art_bytes.specs.Keys.{common_prefix, shared_prefix}
 use Rattle.art_arena.specs.tree.Trees.{Tree, Forest, leaf, inner, no_child, child}

@@ -1,6 +1,6 @@
 -- What is read of the records under keys, told by the definitions.
-use Rattle.std.proofs.Common.{◌≡◌, ℕ, ◌+◌, ◌-◌, ◌*◌, ◌<◌, ◌≤◌, ◌^◌, min, List, [], ◌∷◌, length, map, drop, filter, refl, ap, sym, ◌∙◌, subst, arith, Bool, true, false, not, cond, bytes_eq, Option, Some, None}
-use Rattle.std.specs.Prelude.{max, ◌&&◌, int_lt, ℤ, option_map}
+use Rattle.std.proofs.Common.{◌≡◌, ℕ, ◌+◌, ◌-◌, ◌<◌, ◌≤◌, ◌^◌, min, List, [], ◌∷◌, length, map, filter, refl, ap, sym, ◌∙◌, subst, arith, Bool, true, false, not, cond, bytes_eq, Option, Some, None}
+use Rattle.std.specs.Prelude.{◌&&◌, int_lt, ℤ, option_map}
 use Rattle.std.specs.Map.{lookup, lookup_entry}
 use Rattle.std.specs.Global.{Vec}
 use Rattle.std.specs.List.{AllByRecursion}
@@ -10,12 +10,12 @@ use Rattle.art_bytes.specs.Keys.{is_below, bytes_cmp}
 use Rattle.art_arena.specs.tree.Tenants.{begins_with}
 use Rattle.art_operations.specs.Openings.{OpeningReads}
 use Rattle.art_walks.specs.MapReads.{ReadsPathOf}
-use Rattle.art_index.specs.Counts.{exactly, listing, opening, longest, path_nodes, Grew, GrewBy}
+use Rattle.art_index.specs.Counts.{exactly, listing, opening, longest, path_nodes, GrewBy}
 use Rattle.art_bytes.specs.Laws.{pair_key}
 use Rattle.art_index.specs.Keys.{full_key, full_key_of, number_key_of}
 use Rattle.art_index.specs.Records.{own}
 use Rattle.art_index.specs.Replies.{value_at, value_at_number, numbers_from_to}
-use Rattle.art_index.specs.Spans.{own_pair, IsListed, own_number, IsNumbered}
+use Rattle.art_index.specs.Spans.{GrewFirst, own_pair, IsListed, own_number, IsNumbered}
 use Rattle.art_index.specs.Stored.{Pair, NumberPair, record_of, records_of, number_record_of, number_records_of, IsNumberPair, AreFull, ArePairs, AreNumberPairs}
 use Rattle.art_index.proofs.Changing.{keys_are}
 use Rattle.art_index.proofs.Conflicts.{bytes_of}
@@ -29,7 +29,6 @@ use Rattle.art_index.proofs.MappedTrees.{paths_by_keys}
 use Rattle.art_index.proofs.NumberKeys.{HaveBytes, between_numbers}
 use Rattle.art_index.proofs.NumberPlaces.{number_bytes, number_keys_are, number_found, numbers_passing, stand_all}
 use Rattle.art_index.proofs.OwnLaws.{key_part, number_part}
-use Rattle.art_index.proofs.Putting.{pairs_of_tenant}
 use Rattle.art_index.proofs.Removing.{passing, first_passing, IsFullTest}
 
 -- pairs without their tenant
@@ -44,7 +43,7 @@ pairs_within ps are =
 
 -- a path in the map is one in the tree of the records
 pub record_path : (ps : List Pair) → AreFull ps → (full : List ℕ) → length full ≤ 2049 → (old new : ℕ) → ReadsPathOf (λ (k : _). k.items) full ps old new
-    → Grew (exactly (path_nodes full_key_of (map record_of ps) full)) old new
+    → GrewFirst (exactly (path_nodes full_key_of (map record_of ps) full)) old new
 record_path ps are full short old new reads =
     let same = paths_by_keys bytes_of full_key_of ps (map record_of ps) (keys_are ps are.full) full in
     let few = path_is_short full_key_of (map record_of ps) full in
@@ -67,10 +66,10 @@ module _ (t : ℕ) (T G : List ℕ → Bool) (tests : IsFullTest t T G) (ps : Li
   -- it is listed by so many reads
   pub left_grew : (bound full old mid new : ℕ) → length ps < 2 ^ 64 → full ≡ bound + 4 → OpeningReads (longest full_key_of (map record_of ps)) full old mid
       → GrewBy (length left) mid new
-      → Grew (listing (length (filter (λ p. G p.0) (own t (records_of ps)).keys)) (opening bound (longest full_key_of (map record_of ps)))) old new
+      → GrewFirst (listing (length (filter (λ p. G p.0) (own t (records_of ps)).keys)) (opening bound (longest full_key_of (map record_of ps)))) old new
   left_grew bound full old mid new few whole opens is =
       let number : length left ≡ length (filter (λ p. G p.0) (own t (records_of ps)).keys) = sym (length-map own_pair left) ∙ ap length own_left in
-      subst (λ n. Grew (listing n (opening bound (longest full_key_of (map record_of ps)))) old new) number
+      subst (λ n. GrewFirst (listing n (opening bound (longest full_key_of (map record_of ps)))) old new) number
       (listing_grew bound full (longest full_key_of (map record_of ps)) old mid new (length left) opens whole (left_few few) is)
 
 -- the tests of the two listings
@@ -116,7 +115,7 @@ number_value_found t n q fits same ns are =
 
 -- a path in the map of numbers is one in the tree of the records
 pub number_path : (t : ℕ) (n : ℤ) (ns : List NumberPair) → AreNumberPairs ns → (old new : ℕ) → ReadsPathOf (λ (k : List ℕ). k) (pair_key (t, n)) ns old new
-    → Grew (exactly (path_nodes number_key_of (map number_record_of ns) (pair_key (t, n)))) old new
+    → GrewFirst (exactly (path_nodes number_key_of (map number_record_of ns) (pair_key (t, n)))) old new
 number_path t n ns are old new reads =
     let same = paths_by_keys number_bytes number_key_of ns (map number_record_of ns) (number_keys_are ns are.stand) (pair_key (t, n)) in
     let few = path_is_short number_key_of (map number_record_of ns) (pair_key (t, n)) in
@@ -153,7 +152,7 @@ module _ (t : ℕ) (low high : ℤ) (fits_low : HaveBytes t low) (fits_high : Ha
   numbers_left_few few = let less = filter_shorter (λ (p : NumberPair). between p.0) ns in omega arith
 
   pub numbers_left_grew : (old mid new : ℕ) → length ns < 2 ^ 64 → OpeningReads 12 12 old mid → GrewBy (length numbers_left) mid new
-      → Grew (listing (length (numbers_from_to low high (own t (number_records_of ns)).numbers)) (opening 8 12)) old new
+      → GrewFirst (listing (length (numbers_from_to low high (own t (number_records_of ns)).numbers)) (opening 8 12)) old new
   numbers_left_grew old mid new few opens is =
       let number : length numbers_left ≡ length (numbers_from_to low high (own t (number_records_of ns)).numbers) = sym (length-map own_number numbers_left) ∙ ap length own_numbers_left in
-      subst (λ n. Grew (listing n (opening 8 12)) old new) number (listing_grew 8 12 12 old mid new (length numbers_left) opens (omega arith) (numbers_left_few few) is)
+      subst (λ n. GrewFirst (listing n (opening 8 12)) old new) number (listing_grew 8 12 12 old mid new (length numbers_left) opens (omega arith) (numbers_left_few few) is)

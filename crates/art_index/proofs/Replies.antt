@@ -10,7 +10,7 @@ use Rattle.art_index.specs.Replies.{reply_to, records_after, command_reply, comm
 use Rattle.art_index.specs.Refusals.{MayRefuse}
 use Rattle.art_index.specs.Outcome.{answer, left_by}
 use Rattle.art_index.specs.Changed.{IsPutDone, IsChangeDone, placed_words, found_no_memory}
-use Rattle.art_index.specs.Counts.{line_visits, IsWithin}
+use Rattle.art_index.specs.Counts.{visits_of, line_visits, IsWithin}
 use Rattle.art_index.specs.Dropped.{IsDropDone, dropped_words, was_refused, visits_told}
 use Rattle.art_index.specs.Told.{IsTold, told_words, tells_no_memory}
 use Rattle.art_index.specs.declared.dropped.Dropped.{Dropped}
@@ -137,9 +137,9 @@ dropped_may : (d : Dropped) (t : ℕ) (old new : Records) → IsDropDone d t old
 dropped_may dropped.Memory t old new h m = h.1
 dropped_may (dropped.Gone k n v) t old new h m = absurd (false≢true m)
 
-dropped_counts : (d : Dropped) (t : ℕ) (old new : Records) → IsDropDone d t old new → IsWithin (line_visits (was_refused d) (Some (of_tenant t drop)) old) (visits_told d)
-dropped_counts dropped.Memory t old new h = (omega arith, omega arith)
-dropped_counts (dropped.Gone k n v) t old new h = h.counted
+dropped_counts : (d : Dropped) (t : ℕ) (old new : Records) (line : List ℕ) → Some (of_tenant t drop) ≡ command_of line → IsDropDone d t old new → IsWithin (line_visits (was_refused d) line old) (visits_told d)
+dropped_counts dropped.Memory t old new line e h = (omega arith, omega arith)
+dropped_counts (dropped.Gone k n v) t old new line e h = subst (λ o. IsWithin (visits_of o old) v) e h.counted
 
 module _ (d : Dropped) (memory : Bool) (t : ℕ) (held old new : Records) (line : List ℕ) (found : memory ≡ was_refused d) (same : held ≡ old)
     (e : Some (of_tenant t drop) ≡ command_of line) (h : IsDropDone d t held new) where
@@ -152,9 +152,8 @@ module _ (d : Dropped) (memory : Bool) (t : ℕ) (held old new : Records) (line 
   pub drop_lawful : memory ≡ true → MayRefuse old (of_tenant t drop)
   drop_lawful m = subst (λ r. MayRefuse r (of_tenant t drop)) same (dropped_may d t held new h (sym found ∙ m))
 
-  pub drop_reads : (n : ℕ) → n ≡ visits_told d → IsWithin (line_visits memory (command_of line) old) n
+  pub drop_reads : (n : ℕ) → n ≡ visits_told d → IsWithin (line_visits memory line old) n
   drop_reads n is =
-      subst (λ c. IsWithin (line_visits memory c old) n) e
-      (subst (λ r. IsWithin (line_visits memory (Some (of_tenant t drop)) r) n) same
-      (subst (λ b. IsWithin (line_visits b (Some (of_tenant t drop)) held) n) (sym found)
-      (subst (IsWithin (line_visits (was_refused d) (Some (of_tenant t drop)) held)) (sym is) (dropped_counts d t held new h))))
+      subst (λ r. IsWithin (line_visits memory line r) n) same
+      (subst (λ b. IsWithin (line_visits b line held) n) (sym found)
+      (subst (IsWithin (line_visits (was_refused d) line held)) (sym is) (dropped_counts d t held new line e h)))

@@ -1,7 +1,7 @@
 -- How many nodes a line reads, told by the records alone.
-use Rattle.std.specs.Prelude.{◌≡◌, ℕ, Bool, true, false, int_lt, ◌+◌, ◌-◌, ◌*◌, ◌^◌, ◌≤◌, ◌==◌, not, min, max, bytes_eq}
+use Rattle.std.specs.Prelude.{◌≡◌, ℕ, int_lt, ◌+◌, ◌-◌, ◌*◌, ◌^◌, ◌≤◌, ◌==◌, not, min, max, bytes_eq}
 use Rattle.std.specs.Prelude.{if◌then◌else◌, List, [], ◌∷◌, length}
-use Rattle.std.specs.Prelude.{map, filter, Option, Some, None, IsSome}
+use Rattle.std.specs.Prelude.{Bool, true, false, map, filter, Option, Some, None, IsSome}
 use Rattle.std.specs.Int.{to_be_bytes, w32}
 use Rattle.art_bytes.specs.Keys.{common_prefix, is_below}
 use Rattle.art_arena.specs.tree.Fronts.{distinct}
@@ -11,6 +11,7 @@ use Rattle.art_index.specs.Commands.{Request, put, over, del, get, find, list, s
 use Rattle.art_index.specs.Commands.{Command, of_tenant, dump, audit}
 use Rattle.art_bytes.specs.Laws.{pair_key}
 use Rattle.art_index.specs.Keys.{full_key, full_key_of, number_key_of}
+use Rattle.art_index.specs.Reading.{command_of}
 use Rattle.art_index.specs.Records.{Own, Records, own}
 use Rattle.art_index.specs.Replies.{value_at, front_at, behind_front, pairs_from_to, value_at_number, numbers_from_to}
 
@@ -83,10 +84,10 @@ visits_of (Some (of_tenant tenant request)) records = request_visits tenant requ
 visits_of (Some dump) records = exactly 0
 visits_of (Some audit) records = exactly 0
 
--- what a line reads: nothing that counts where it found no memory
-abbrev pub line_visits : Bool → Option Command → Records → Visits
-line_visits true command records = exactly 0
-line_visits false command records = visits_of command records
+-- what a line reads: one that finds no memory reads nothing that counts
+abbrev pub line_visits : Bool → List ℕ → Records → Visits
+line_visits true line records = exactly 0
+line_visits false line records = visits_of (command_of line) records
 
 -- so many nodes
 abbrev pub IsWithin : Visits → ℕ → Type 0
@@ -96,11 +97,10 @@ IsWithin v n = (v.least ≤ n) × (n ≤ v.most)
 abbrev pub GrewBy : ℕ → ℕ → ℕ → Type 0
 GrewBy n old new = (min (old + n) (2 ^ 64 - 1) ≤ new) × (new ≤ old + n)
 
--- A count grew by so many; the greatest count stays. A listing is said from below where nothing had been read before.
+-- A count grew by so many; the greatest count stays.
 pub record Grew (v : Visits) (old new : ℕ) : Type 0 where
+  pub least : min (old + v.least) (2 ^ 64 - 1) ≤ new
   pub most : new ≤ old + v.most
-  pub least : old ≡ 0 → v.least ≤ new
-  pub exact : v.least ≡ v.most → min (old + v.least) (2 ^ 64 - 1) ≤ new
   pub fits : v.least ≤ 2 ^ 64 - 1
 
 -- A look-up of one record reads few nodes, whatever others store.
@@ -133,3 +133,9 @@ ReadsOwnPath (Some (of_tenant tenant (nget number))) records n =
     IsSome (value_at_number number (own tenant records).numbers)
     → IsOwnPath number_key_of (λ r. r.tenant) tenant (pair_key (tenant, number)) records.numbers n
 ReadsOwnPath other records n = Unit {0}
+
+-- So many nodes a line has read, which found no memory or did.
+pub record IsCount (memory : Bool) (records : Records) (line : List ℕ) (n : ℕ) : Type 0 where
+  pub within : IsWithin (line_visits memory line records) n
+  pub short : IsShort (command_of line) n
+  pub own_path : ReadsOwnPath (command_of line) records n

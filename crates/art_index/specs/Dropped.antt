@@ -24,8 +24,8 @@ abbrev pub visits_told : Dropped → ℕ
 visits_told (dropped.Gone keys numbers visits) = visits
 visits_told dropped.Memory = 0
 
--- All of a tenant's records were dropped: it is told how many they were, nothing of them is left, and so many nodes were
--- read and freed.
+-- All of a tenant's records were dropped: it is told how many they were, nothing of them is left, and so many nodes
+-- were read and freed.
 pub record AreGone (d : Dropped) (tenant : ℕ) (old new : Records) : Type 0 where
   pub told : dropped_words d ∷ [] ≡ command_reply (Some (of_tenant tenant drop)) old
   pub left : new ≡ command_after (Some (of_tenant tenant drop)) old

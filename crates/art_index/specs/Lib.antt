@@ -4,6 +4,7 @@ pub mod Commands
 pub mod Reading
 pub mod Keys
 pub mod Records
+pub mod State
 pub mod Replies
 pub mod Refusals
 pub mod Outcome

@@ -2,9 +2,11 @@
 use Rattle.std.specs.Prelude.{◌≡◌, ℕ, suc, ◌==◌, Bool, true, false, IsTrue, List, [], ◌∷◌, ◌++◌, codes}
 use Rattle.std.specs.List.{list_any}
 use Rattle.art_index.specs.Words.{name, line_of}
+use Rattle.art_index.specs.Counts.{IsCount}
 use Rattle.art_index.specs.Records.{Records}
 use Rattle.art_index.specs.Replies.{reply_to, records_after}
 use Rattle.art_index.specs.Refusals.{LineMayRefuse}
+use Rattle.art_index.specs.State.{State}
 
 -- whether a position is among the refused ones
 abbrev pub is_refused : List ℕ → ℕ → Bool
@@ -40,6 +42,15 @@ IsLawfulFrom position records (line ∷ lines) refused =
     (IsTrue (is_refused refused position) → LineMayRefuse records line)
     × IsLawfulFrom (suc position) (left_by (is_refused refused position) records line) lines refused
 
+-- each line reads so many nodes of the records that are reached there
+abbrev pub AreCountsFrom : ℕ → Records → List (List ℕ) → List ℕ → List ℕ → Type 0
+AreCountsFrom position records [] refused [] = Unit {0}
+AreCountsFrom position records (line ∷ lines) refused (n ∷ counts) =
+    IsCount (is_refused refused position) records line n
+    × AreCountsFrom (suc position) (left_by (is_refused refused position) records line) lines refused counts
+AreCountsFrom position records [] refused (n ∷ counts) = ⊥
+AreCountsFrom position records (line ∷ lines) refused [] = ⊥
+
 -- the bytes written in answer to some lines, and the records after them
 pub record Outcome : Type 0 where
   pub written : List ℕ
@@ -54,10 +65,17 @@ outcome_of records lines refused = record {
 unfoldable pub IsLawful : Records → List (List ℕ) → List ℕ → Type 0
 IsLawful records lines refused = IsLawfulFrom 0 records lines refused
 
+-- Some lines have read so many nodes, each of them counted behind what was read before.
+pub record HaveRead (start : State) (lines : List (List ℕ)) (refused : List ℕ) (now : State) : Type 0 where
+  pub counts : List ℕ
+  pub counted : AreCountsFrom 0 start.records lines refused counts
+  pub reads : now.reads ≡ start.reads ++ counts
+
 -- From the records at the start, some lines were answered by this and left these records, for some lawful refused
--- positions.
-pub record IsOutcome (start : Records) (lines : List (List ℕ)) (written : List ℕ) (now : Records) : Type 0 where
+-- positions, and so many nodes were read by each.
+pub record IsOutcome (start : State) (lines : List (List ℕ)) (written : List ℕ) (now : State) : Type 0 where
   pub refused : List ℕ
-  pub lawful : IsLawful start lines refused
-  pub told : written ≡ (outcome_of start lines refused).written
-  pub left : now ≡ (outcome_of start lines refused).records
+  pub lawful : IsLawful start.records lines refused
+  pub told : written ≡ (outcome_of start.records lines refused).written
+  pub left : now.records ≡ (outcome_of start.records lines refused).records
+  pub counted : HaveRead start lines refused now

@@ -3,7 +3,8 @@ use Rattle.std.specs.Prelude.{◌≡◌, ℕ, ◌<◌, ◌==◌, false, List, []
 use Rattle.std.specs.List.{AllByRecursion}
 use Rattle.art_index.specs.Lines.{whole_lines_of, unfinished_line_of}
 use Rattle.art_index.specs.Records.{Records}
-use Rattle.art_index.specs.Outcome.{IsLawful, outcome_of}
+use Rattle.art_index.specs.State.{State}
+use Rattle.art_index.specs.Outcome.{HaveRead, IsLawful, outcome_of}
 use Rattle.art_index.specs.Faults.{AfterWriteFault}
 
 -- each position is below a number
@@ -18,16 +19,17 @@ pub record Ran (start : Records) (ls : List (List ℕ)) (refused written : List 
   pub left : now ≡ (outcome_of start ls refused).records
   pub below : AllBelow refused (length ls)
 
--- All whole lines of a text are carried out, and the unfinished one is held, as far as it can be a command.
-pub record Carried (start now : Records) (text held before taken : List ℕ) : Type 0 where
+-- All whole lines of a text are carried out and counted, and the unfinished one is held, as far as it can be a command.
+pub record Carried (start now : State) (text held before taken : List ℕ) : Type 0 where
   pub refused : List ℕ
   pub written : List ℕ
-  pub ran : Ran start (whole_lines_of text) refused written now
+  pub ran : Ran start.records (whole_lines_of text) refused written now.records
+  pub counted : HaveRead start (whole_lines_of text) refused now
   pub told : taken ≡ before ++ written
   pub rest : held ≡ take 4097 (unfinished_line_of text)
 
 -- A write failed within the answer to one of these lines, and the ones before it were answered.
-pub record IsCutRun (start now : Records) (ls : List (List ℕ)) (before taken : List ℕ) : Type 0 where
+pub record IsCutRun (start now : State) (ls : List (List ℕ)) (before taken : List ℕ) : Type 0 where
   pub written : List ℕ
   pub told : taken ≡ before ++ written
   pub fault : AfterWriteFault start ls written now

@@ -1,5 +1,6 @@
 -- What a reader of the records' map reads, and what is left of a span of it.
-use Rattle.std.specs.Prelude.{◌≡◌, ℕ, ◌+◌, ◌^◌, ◌<◌, ◌≤◌, ℤ, FitsSigned, List, length, drop}
+use Rattle.std.specs.Prelude.{◌≡◌, ℕ, ◌+◌, ◌-◌, ◌^◌, ◌<◌, ◌≤◌, ℤ, FitsSigned, List, ◌∷◌, length, drop}
+use Rattle.std.specs.Prelude.{Option, Some, None}
 use Rattle.std.specs.Global.{Vec}
 use Rattle.std.specs.Int.{w64}
 use Rattle.art_arena.specs.arena.Arena.{Arena}
@@ -7,6 +8,7 @@ use Rattle.art_arena.proofs.shapes.Measures.{slots_of}
 use Rattle.art_walks.specs.MapReads.{ReadMap, ReadsPairs}
 use Rattle.art_walks.specs.Runs.{Ends}
 use Rattle.art_walks.specs.Walked.{pairs_along, run_length, start_of}
+use Rattle.art_index.specs.Counts.{Visits}
 use Rattle.art_index.specs.Words.{line_of}
 use Rattle.art_index.specs.Keys.{number_of_bytes}
 use Rattle.art_index.specs.Replies.{pair_words, number_words}
@@ -23,6 +25,17 @@ pub record ReadsNumbers (P : ℕ) (map : ReadMap (List ℕ) (Vec ℕ)) (pairs : 
   pub read : ReadsPairs (λ k. k) P map.nodes map.root pairs
   pub are : AreNumberPairs pairs
   pub few : length pairs < 2 ^ 64
+
+-- A count grew by so many, said from below where nothing had been read before.
+pub record GrewFirst (v : Visits) (old new : ℕ) : Type 0 where
+  pub most : new ≤ old + v.most
+  pub least : old ≡ 0 → v.least ≤ new
+  pub fits : v.least ≤ 2 ^ 64 - 1
+
+-- the one that was read ahead, if there is one, and those behind it
+abbrev pub pending : {X : Type 0} → Option X → List X → List X
+pending None rest = rest
+pending (Some x) rest = x ∷ rest
 
 -- the pairs that a span has still to give
 abbrev pub span_pairs : {K V : Type 0} → Arena K V → Ends → List (K × V)

@@ -458,8 +458,8 @@ fn of_inner<const PREFIX_LEN: usize>(
 
 /// A byte of what a leaf's entry holds.
 #[inline(always)]
-pub(crate) fn of_entry<const PREFIX_LEN: usize>(
-    arena: &NodeArena<Vec<u8>, Vec<u8>, PREFIX_LEN>,
+pub(crate) fn of_entry<K, const PREFIX_LEN: usize>(
+    arena: &NodeArena<K, Vec<u8>, PREFIX_LEN>,
     leaf: LeafPtr,
 ) -> u8 {
     if !arena.holds(leaf.to_opaque()) {
@@ -467,6 +467,22 @@ pub(crate) fn of_entry<const PREFIX_LEN: usize>(
     }
     let (_, value) = arena.as_key_value_ref(leaf);
     u8::from(value.is_empty())
+}
+
+/// A byte of what a leaf's value holds.
+#[inline(always)]
+pub(crate) fn of_value<K, const PREFIX_LEN: usize>(
+    arena: &NodeArena<K, Vec<u8>, PREFIX_LEN>,
+    leaf: LeafPtr,
+) -> u8 {
+    if !arena.holds(leaf.to_opaque()) {
+        return 0;
+    }
+    arena
+        .as_value_ref(leaf)
+        .first()
+        .copied()
+        .unwrap_or_default()
 }
 
 /// A byte of what a leaf's key and its value hold.

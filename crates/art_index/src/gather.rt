@@ -18,7 +18,7 @@ const LINE: usize = 4097;
 /// The bytes of a tenant, which stand before those of its keys.
 const FRONT: usize = 4;
 
-/// Writes what is gathered where no line fits behind it, and tells how much is gathered then.
+/// Writes what is gathered where no line and a byte fit behind it, and tells how much is gathered then.
 #[inline]
 pub(crate) fn make_room<W: Sink>(
     sink: &mut W,
@@ -27,13 +27,13 @@ pub(crate) fn make_room<W: Sink>(
 ) -> Result<usize, WriteFailed>
     requires open { W.has_failed sink.old ≡ false }
     requires held { held ≤ length room.now }
-    ensures fits { IfOk result (λ left. left ≤ 4095) }
+    ensures fits { IfOk result (λ left. left ≤ 4094) }
     ensures taken { IfOk result (λ left.
         IsPartTaken (W.taken sink.old) (W.taken sink.new) (take left room.now) (take held room.now)) }
     ensures cut { OnErr result (IsCut (W.taken sink.old) (W.taken sink.new) (take held room.now)) }
     ensures failed { is_err result ≡ W.has_failed sink.new }
 {
-    if held <= ROOM - LINE {
+    if held < ROOM - LINE {
         return Ok(held);
     }
     write_piece(sink, &room[..held])?;
@@ -64,7 +64,7 @@ pub(crate) fn gather_pair<W: Sink>(
     requires held { held ≤ 8192 }
     requires front { 4 ≤ length full.now }
     requires line { length (line_of (pair_words (drop 4 full.now, value.now))) ≤ 4097 }
-    ensures fits { IfOk result (λ next. next ≤ 8192) }
+    ensures fits { IfOk result (λ next. next ≤ 8191) }
     ensures taken { IfOk result (λ next. IsPartTaken (W.taken sink.old) (W.taken sink.new) (take next room.new)
         (take held room.old ++ line_of (pair_words (drop 4 full.now, value.now)))) }
     ensures cut { OnErr result (IsCut (W.taken sink.old) (W.taken sink.new) (take held room.old)) }

@@ -1,8 +1,8 @@
 //! An index, and what a line does to it.
-ghost use Rattle.std.specs.Prelude.{◌≡◌, ◌+◌, ◌<◌, ◌++◌, map, take, OnErr, IfOk, IfErr, is_err, true, false, Some};
-ghost use Rattle.std.specs.Prelude.{None, flat_map};
+ghost use Rattle.std.specs.Prelude.{◌≡◌, ◌+◌, ◌<◌, ◌∷◌, [], ◌++◌, map, take, OnErr, IfOk, IfErr, is_err, true};
+ghost use Rattle.std.specs.Prelude.{false, Some, None, flat_map};
 ghost use Rattle.art_index.specs.Words.{line_of};
-ghost use Rattle.art_index.specs.Counts.{IsWithin, visits_of, line_visits};
+ghost use Rattle.art_index.specs.Counts.{IsWithin, line_visits, visits_of};
 ghost use Rattle.art_index.specs.Faults.{Writes};
 ghost use Rattle.art_index.specs.Parsed.{looks_up};
 ghost use Rattle.art_index.specs.Replies.{command_reply};
@@ -12,6 +12,7 @@ use crate::carry::{ask_all, change, tell_all};
 use crate::command::fields::{Fields, NUMBER_KEY};
 use crate::command::read_line;
 use crate::command::word::{LookUp, Word};
+use crate::history::Reads;
 use crate::look::look;
 use crate::records::write_placed;
 use crate::reply::write_piece;
@@ -54,23 +55,24 @@ pub struct Handled {
     pub visits: u64,
 }
 
-/// The records of all tenants.
+/// The records of all tenants. Beside them stands how many nodes each line has read, for proofs alone.
 #[derive(Drop)]
 pub struct Index<const PREFIX_LEN: usize> {
     alloc: Global,
     records: TreeMap<Vec<u8>, Vec<u8>, PREFIX_LEN>,
     numbers: TreeMap<[u8; NUMBER_KEY], Vec<u8>, PREFIX_LEN>,
     fields: Fields,
+    reads: Reads,
 }
 
 impl<const PREFIX_LEN: usize> Model for Index<PREFIX_LEN> {
-    ghost use Rattle.art_index.specs.Records.{Records};
+    ghost use Rattle.art_index.specs.State.{State};
 
-    ghost Value = { Records };
+    ghost Value = { State };
 
     ghost use Rattle.art_index.specs.Stored.{all_records_of, ArePairs, AreNumberPairs};
 
-    ghost view = { λ s. all_records_of s.records.pairs s.numbers.pairs };
+    ghost view = { λ s. record { records = all_records_of s.records.pairs s.numbers.pairs; reads = s.reads.counts } };
 
     ghost invariant = { λ s. ArePairs s.records.pairs × AreNumberPairs s.numbers.pairs };
 }
@@ -78,7 +80,8 @@ impl<const PREFIX_LEN: usize> Model for Index<PREFIX_LEN> {
 impl<const PREFIX_LEN: usize> Index<PREFIX_LEN> {
     ghost use Rattle.art_index.specs.Commands.{put, get};
     ghost use Rattle.art_index.specs.Keys.{full_pair, number_pair};
-    ghost use Rattle.art_index.specs.Records.{AreRecords, no_records, KeyFits, own};
+    ghost use Rattle.art_index.specs.Records.{AreRecords, KeyFits, own};
+    ghost use Rattle.art_index.specs.State.{at_first, unread};
     ghost use Rattle.art_index.specs.Replies.{own_reply};
     ghost use Rattle.art_index.specs.Refusals.{LineMayRefuse};
     ghost use Rattle.art_index.specs.Outcome.{answer, left_by};
@@ -89,13 +92,14 @@ impl<const PREFIX_LEN: usize> Index<PREFIX_LEN> {
 
     /// An index that holds nothing. It takes no memory.
     pub fn new(alloc: Global) -> Self
-        ensures { result ≡ no_records }
+        ensures { result ≡ at_first }
     {
         Index {
             alloc,
             records: TreeMap::with_prefix_len(alloc),
             numbers: TreeMap::with_prefix_len(alloc),
             fields: Fields::new(),
+            reads: Reads::new(),
         }
     }
 
@@ -108,20 +112,21 @@ impl<const PREFIX_LEN: usize> Index<PREFIX_LEN> {
     ) -> Self
         requires keys { ArePairs byte_map.pairs }
         requires numbers { AreNumberPairs number_map.pairs }
-        ensures { result ≡ all_records_of byte_map.entry.pairs number_map.entry.pairs }
+        ensures { result ≡ unread (all_records_of byte_map.entry.pairs number_map.entry.pairs) }
     {
         Index {
             alloc,
             records: byte_map,
             numbers: number_map,
             fields: Fields::new(),
+            reads: Reads::new(),
         }
     }
 
     /// A law, which does nothing: what an index holds are records in order, without conflicts, each of bytes and no
     /// longer than a line.
     pub fn holds_records(&self)
-        ensures { AreRecords self.now }
+        ensures { AreRecords self.now.records }
     {
         let _records = &self.records;
     }
@@ -129,7 +134,7 @@ impl<const PREFIX_LEN: usize> Index<PREFIX_LEN> {
     /// The records under keys, each value under its full key: four bytes of the tenant, the highest first, and then its
     /// key.
     pub fn byte_map(&self) -> &TreeMap<Vec<u8>, Vec<u8>, PREFIX_LEN>
-        ensures { map (λ p. (p.0.items, p.1.items)) result.now.pairs ≡ map full_pair self.now.keys }
+        ensures { map (λ p. (p.0.items, p.1.items)) result.now.pairs ≡ map full_pair self.now.records.keys }
     {
         &self.records
     }
@@ -137,7 +142,7 @@ impl<const PREFIX_LEN: usize> Index<PREFIX_LEN> {
     /// The records under numbers, each value under twelve bytes: four of the tenant, the highest first, and then eight
     /// of the number with its top bit flipped.
     pub fn number_map(&self) -> &TreeMap<[u8; NUMBER_KEY], Vec<u8>, PREFIX_LEN>
-        ensures { map (λ p. (p.0, p.1.items)) result.now.pairs ≡ map number_pair self.now.numbers }
+        ensures { map (λ p. (p.0, p.1.items)) result.now.pairs ≡ map number_pair self.now.records.numbers }
     {
         &self.numbers
     }
@@ -147,17 +152,39 @@ impl<const PREFIX_LEN: usize> Index<PREFIX_LEN> {
     pub fn handle<W: Sink>(&mut self, line: &[u8], sink: &mut W) -> Result<Handled, RunFault>
         requires { W.has_failed sink.old ≡ false }
         ensures told { IfOk result (λ done.
-            W.taken sink.new ≡ W.taken sink.old ++ answer done.memory self.old line.now) }
-        ensures left { IfOk result (λ done. self.new ≡ left_by done.memory self.old line.now) }
-        ensures lawful { IfOk result (λ done. done.memory ≡ true → LineMayRefuse self.old line.now) }
+            W.taken sink.new ≡ W.taken sink.old ++ answer done.memory self.old.records line.now) }
+        ensures left { IfOk result (λ done. self.new.records ≡ left_by done.memory self.old.records line.now) }
+        ensures lawful { IfOk result (λ done. done.memory ≡ true → LineMayRefuse self.old.records line.now) }
 
         // A look-up reads so many nodes, and a drop reads and frees so many, told by the records alone; each other line
-        // reads none, nor does one that found no memory.
+        // reads none, nor does one that found no memory. They are counted.
         ensures visits { IfOk result (λ done.
-            IsWithin (line_visits done.memory (command_of line.now) self.old) done.visits) }
+            IsWithin (line_visits done.memory line.now self.old.records) done.visits) }
         ensures short { IfOk result (λ done. IsShort (command_of line.now) done.visits) }
-        ensures own_path { IfOk result (λ done. ReadsOwnPath (command_of line.now) self.old done.visits) }
+        ensures own_path { IfOk result (λ done. ReadsOwnPath (command_of line.now) self.old.records done.visits) }
+        ensures counted { IfOk result (λ done. self.new.reads ≡ self.old.reads ++ done.visits ∷ []) }
 
+        ensures err { IfErr result (λ fault. fault ≡ RunFault.Write) }
+        ensures failed { is_err result ≡ W.has_failed sink.new }
+        ensures cut { OnErr result (IsCutLine self.old line.now (W.taken sink.old) (W.taken sink.new) self.new) }
+    {
+        let handled = self.answer(line, sink)?;
+        self.reads = self.reads.then(&handled);
+        Ok(handled)
+    }
+
+    // The same, and what was read is not counted.
+    fn answer<W: Sink>(&mut self, line: &[u8], sink: &mut W) -> Result<Handled, RunFault>
+        requires { W.has_failed sink.old ≡ false }
+        ensures told { IfOk result (λ done.
+            W.taken sink.new ≡ W.taken sink.old ++ answer done.memory self.old.records line.now) }
+        ensures left { IfOk result (λ done. self.new.records ≡ left_by done.memory self.old.records line.now) }
+        ensures lawful { IfOk result (λ done. done.memory ≡ true → LineMayRefuse self.old.records line.now) }
+        ensures visits { IfOk result (λ done.
+            IsWithin (line_visits done.memory line.now self.old.records) done.visits) }
+        ensures short { IfOk result (λ done. IsShort (command_of line.now) done.visits) }
+        ensures own_path { IfOk result (λ done. ReadsOwnPath (command_of line.now) self.old.records done.visits) }
+        ensures uncounted { self.new.reads ≡ self.old.reads }
         ensures err { IfErr result (λ fault. fault ≡ RunFault.Write) }
         ensures failed { is_err result ≡ W.has_failed sink.new }
         ensures cut { OnErr result (IsCutLine self.old line.now (W.taken sink.old) (W.taken sink.new) self.new) }

@@ -8,11 +8,11 @@ ghost use Rattle.art_index.specs.Commands.{list, span, nspan};
 ghost use Rattle.art_index.specs.Records.{own};
 ghost use Rattle.art_index.specs.Replies.{listed, own_reply, pairs_from_to, numbers_listed, numbers_from_to};
 ghost use Rattle.art_index.specs.Faults.{Writes};
-ghost use Rattle.art_index.specs.Counts.{request_visits, span_visits, listing, opening, Grew, GrewBy};
+ghost use Rattle.art_index.specs.Counts.{request_visits, span_visits, listing, opening, GrewBy};
 ghost use Rattle.art_index.specs.Parsed.{tenant_in_place, key_in_place, value_in_place};
 ghost use Rattle.art_index.specs.Parsed.{number_in_place, bound_in_place};
 ghost use Rattle.art_index.specs.Stored.{Pair, NumberPair, records_of, number_records_of};
-ghost use Rattle.art_index.specs.Spans.{span_pairs, own_pair, IsListed, ReadsRecords};
+ghost use Rattle.art_index.specs.Spans.{span_pairs, own_pair, GrewFirst, IsListed, ReadsRecords};
 ghost use Rattle.art_index.specs.Spans.{own_number, IsNumbered, ReadsNumbers};
 
 use crate::command::fields::{Fields, NUMBER_KEY};
@@ -24,8 +24,19 @@ use art_bytes::SliceKey;
 use art_walks::{MapReader, ReadSpan};
 use std::ops::Bound;
 
+/// A byte that can't be told without having read a pair's key and its value, so that no compiler leaves the reads out.
+#[inline(always)]
+fn first_bytes(pair: Option<(&Vec<u8>, &Vec<u8>)>) -> u8 {
+    let Some((key, value)) = pair else {
+        return 0;
+    };
+    let (key, value) = (key.first().copied(), value.first().copied());
+    key.unwrap_or_default() ^ value.unwrap_or_default()
+}
+
 /// Writes the pairs of a span without their tenant, and how many they are. The lines are gathered, and leave in few
-/// pieces. A leaf is read for each pair.
+/// pieces. A leaf is read for each pair, and before the line of the pair before it is put together: so the processor
+/// does not wait for it. What is seen of it is kept behind what is gathered.
 #[inline(never)]
 fn write_pairs<W: Sink, const PREFIX_LEN: usize>(
     records: &mut MapReader<'_, Vec<u8>, Vec<u8>, PREFIX_LEN>,
@@ -45,9 +56,12 @@ fn write_pairs<W: Sink, const PREFIX_LEN: usize>(
 {
     let mut room = [0; ROOM];
     let (mut held, mut count) = (0, 0);
-    'pairs: while let Some((full, value)) = records.next(span) {
+    let mut ahead = records.next(span);
+    'pairs: while let Some((full, value)) = ahead {
         let key = full.as_slice();
         let text = value.as_slice();
+        ahead = records.next(span);
+        room[ROOM - 1] = first_bytes(ahead);
         let next = gather_pair(sink, &mut room, held, key, text)?;
         held = next;
         count += 1;
@@ -70,7 +84,7 @@ pub(crate) fn write_list<W: Sink, const PREFIX_LEN: usize>(
         (own (tenant_in_place fields.now) (records_of ps))))
         (W.has_failed sink.new) }
     ensures kept { IsSameMap records.old records.new }
-    ensures visits { (ps : List Pair) → ReadsRecords PREFIX_LEN records.old ps → OnOk result (Grew
+    ensures visits { (ps : List Pair) → ReadsRecords PREFIX_LEN records.old ps → OnOk result (GrewFirst
         (request_visits (tenant_in_place fields.now) (list (key_in_place fields.now)) (records_of ps))
         records.old.count records.new.count) }
 {
@@ -93,7 +107,7 @@ pub(crate) fn write_span<W: Sink, const PREFIX_LEN: usize>(
         (own (tenant_in_place fields.now) (records_of ps))))
         (W.has_failed sink.new) }
     ensures kept { IsSameMap records.old records.new }
-    ensures visits { (ps : List Pair) → ReadsRecords PREFIX_LEN records.old ps → OnOk result (Grew
+    ensures visits { (ps : List Pair) → ReadsRecords PREFIX_LEN records.old ps → OnOk result (GrewFirst
         (request_visits (tenant_in_place fields.now) (span (key_in_place fields.now) (value_in_place fields.now))
         (records_of ps)) records.old.count records.new.count) }
 {
@@ -118,7 +132,7 @@ fn write_between<W: Sink, const PREFIX_LEN: usize>(
         (own (tenant_in_place fields.now) (records_of ps)).keys)))
         (W.has_failed sink.new) }
     ensures kept { IsSameMap records.old records.new }
-    ensures visits { (ps : List Pair) → ReadsRecords PREFIX_LEN records.old ps → OnOk result (Grew
+    ensures visits { (ps : List Pair) → ReadsRecords PREFIX_LEN records.old ps → OnOk result (GrewFirst
         (span_visits (tenant_in_place fields.now) (key_in_place fields.now) (value_in_place fields.now) (records_of ps))
         records.old.count records.new.count) }
 {
@@ -173,7 +187,7 @@ pub(crate) fn write_number_span<W: Sink, const PREFIX_LEN: usize>(
         (own (tenant_in_place fields.now) (number_records_of ns))))
         (W.has_failed sink.new) }
     ensures kept { IsSameMap numbers.old numbers.new }
-    ensures visits { (ns : List NumberPair) → ReadsNumbers PREFIX_LEN numbers.old ns → OnOk result (Grew
+    ensures visits { (ns : List NumberPair) → ReadsNumbers PREFIX_LEN numbers.old ns → OnOk result (GrewFirst
         (request_visits (tenant_in_place fields.now) (nspan (number_in_place fields.now) (bound_in_place fields.now))
         (number_records_of ns)) numbers.old.count numbers.new.count) }
 {
@@ -198,7 +212,7 @@ fn write_numbers_between<W: Sink, const PREFIX_LEN: usize>(
         (own (tenant_in_place fields.now) (number_records_of ns)).numbers)))
         (W.has_failed sink.new) }
     ensures kept { IsSameMap numbers.old numbers.new }
-    ensures visits { (ns : List NumberPair) → ReadsNumbers PREFIX_LEN numbers.old ns → OnOk result (Grew
+    ensures visits { (ns : List NumberPair) → ReadsNumbers PREFIX_LEN numbers.old ns → OnOk result (GrewFirst
         (listing (length (numbers_from_to (number_in_place fields.now) (bound_in_place fields.now)
         (own (tenant_in_place fields.now) (number_records_of ns)).numbers)) (opening 8 12))
         numbers.old.count numbers.new.count) }

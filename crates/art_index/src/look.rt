@@ -7,7 +7,7 @@ ghost use Rattle.art_index.specs.Replies.{command_reply};
 ghost use Rattle.art_index.specs.Faults.{Writes};
 ghost use Rattle.art_index.specs.Counts.{visits_of, Grew};
 ghost use Rattle.art_index.specs.Parsed.{looks_up};
-ghost use Rattle.art_index.specs.Spans.{ReadsRecords, ReadsNumbers};
+ghost use Rattle.art_index.specs.Spans.{GrewFirst, ReadsRecords, ReadsNumbers};
 ghost use Rattle.art_index.specs.Stored.{Pair, NumberPair, all_records_of};
 
 use crate::command::fields::{Fields, NUMBER_KEY};
@@ -21,7 +21,7 @@ use art_walks::MapReader;
 
 /// Answers a look-up, which changes nothing, through a reader of each map: those of an index's records. It asks for a
 /// sink that has not failed, and answers `RunFault::Write` where the sink fails. What it reads is counted by the
-/// readers: `Grew` says how many nodes, told by the records alone.
+/// readers, where it answers Ok: `Grew` says how many nodes, told by the records alone.
 pub fn look<W: Sink, const PREFIX_LEN: usize>(
     bytes: &mut MapReader<'_, Vec<u8>, Vec<u8>, PREFIX_LEN>,
     numbers: &mut MapReader<'_, [u8; NUMBER_KEY], Vec<u8>, PREFIX_LEN>,
@@ -43,11 +43,14 @@ pub fn look<W: Sink, const PREFIX_LEN: usize>(
         (visits_of (Some (looks_up word fields.now)) (all_records_of ps ns))
         (bytes.old.count + numbers.old.count) (bytes.new.count + numbers.new.count)) }
 {
-    look_up(bytes, numbers, word, fields, sink)?;
+    let (mut keys, mut values) = (bytes.aside(), numbers.aside());
+    look_up(&mut keys, &mut values, word, fields, sink)?;
+    bytes.take_in(keys);
+    numbers.take_in(values);
     Ok(())
 }
 
-// The same, with the sink's own fault.
+// The same, with the sink's own fault. What was read is told from below where nothing had been read before.
 fn look_up<W: Sink, const PREFIX_LEN: usize>(
     bytes: &mut MapReader<'_, Vec<u8>, Vec<u8>, PREFIX_LEN>,
     numbers: &mut MapReader<'_, [u8; NUMBER_KEY], Vec<u8>, PREFIX_LEN>,
@@ -64,7 +67,7 @@ fn look_up<W: Sink, const PREFIX_LEN: usize>(
         (W.has_failed sink.new) }
     ensures kept { IsSameMap bytes.old bytes.new × IsSameMap numbers.old numbers.new }
     ensures visits { (ps : List Pair) (ns : List NumberPair) → ReadsRecords PREFIX_LEN bytes.old ps
-        → ReadsNumbers PREFIX_LEN numbers.old ns → OnOk result (Grew
+        → ReadsNumbers PREFIX_LEN numbers.old ns → OnOk result (GrewFirst
         (visits_of (Some (looks_up word fields.now)) (all_records_of ps ns))
         (bytes.old.count + numbers.old.count) (bytes.new.count + numbers.new.count)) }
 {

@@ -5,10 +5,10 @@ ghost use Rattle.art_index.specs.Words.{line_of};
 ghost use Rattle.art_index.specs.Commands.{get, find, nget};
 ghost use Rattle.art_index.specs.Records.{own};
 ghost use Rattle.art_index.specs.Replies.{value_at, front_at, pair_words, value_at_number as value_in};
-ghost use Rattle.art_index.specs.Counts.{request_visits, Grew};
+ghost use Rattle.art_index.specs.Counts.{request_visits};
 ghost use Rattle.art_index.specs.Parsed.{tenant_in_place, key_in_place, number_in_place};
 ghost use Rattle.art_index.specs.Stored.{Pair, NumberPair, records_of, number_records_of};
-ghost use Rattle.art_index.specs.Spans.{ReadsRecords, ReadsNumbers};
+ghost use Rattle.art_index.specs.Spans.{GrewFirst, ReadsRecords, ReadsNumbers};
 
 use crate::command::fields::{Fields, NUMBER_KEY};
 use crate::gather::key_of;
@@ -24,7 +24,7 @@ pub(crate) fn value_of<'a, const PREFIX_LEN: usize>(
     ensures value { (ps : List Pair) → ReadsRecords PREFIX_LEN records.old ps → option_map (λ v. v.now) result
         ≡ value_at (key_in_place fields.now) (own (tenant_in_place fields.now) (records_of ps)).keys }
     ensures kept { IsSameMap records.old records.new }
-    ensures visits { (ps : List Pair) → ReadsRecords PREFIX_LEN records.old ps → Grew
+    ensures visits { (ps : List Pair) → ReadsRecords PREFIX_LEN records.old ps → GrewFirst
         (request_visits (tenant_in_place fields.now) (get (key_in_place fields.now)) (records_of ps))
         records.old.count records.new.count }
 {
@@ -46,7 +46,7 @@ pub(crate) fn front_of<'a, const PREFIX_LEN: usize>(
         ≡ front_at (key_in_place fields.now) (own (tenant_in_place fields.now) (records_of ps)).keys }
     ensures line { IfSome result (λ p. 3 + length (line_of (pair_words (p.0.now, p.1.now))) ≤ 4097) }
     ensures kept { IsSameMap records.old records.new }
-    ensures visits { (ps : List Pair) → ReadsRecords PREFIX_LEN records.old ps → Grew
+    ensures visits { (ps : List Pair) → ReadsRecords PREFIX_LEN records.old ps → GrewFirst
         (request_visits (tenant_in_place fields.now) (find (key_in_place fields.now)) (records_of ps))
         records.old.count records.new.count }
 {
@@ -69,7 +69,7 @@ pub(crate) fn value_at_number<'a, const PREFIX_LEN: usize>(
         → option_map (λ v. v.now) result ≡ value_in (number_in_place fields.now)
         (own (tenant_in_place fields.now) (number_records_of ns)).numbers }
     ensures kept { IsSameMap numbers.old numbers.new }
-    ensures visits { (ns : List NumberPair) → ReadsNumbers PREFIX_LEN numbers.old ns → Grew
+    ensures visits { (ns : List NumberPair) → ReadsNumbers PREFIX_LEN numbers.old ns → GrewFirst
         (request_visits (tenant_in_place fields.now) (nget (number_in_place fields.now)) (number_records_of ns))
         numbers.old.count numbers.new.count }
 {

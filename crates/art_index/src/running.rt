@@ -2,7 +2,7 @@
 ghost use Rattle.std.specs.Prelude.{◌≡◌, ℕ, ◌<◌, ◌++◌, ◌∷◌, ◌↔◌, [], List, take, OnOk, OnErr, IfErr, is_err};
 ghost use Rattle.std.specs.Prelude.{true, false, Err};
 ghost use Rattle.art_index.specs.Lines.{lines_of, whole_lines_of, lines_so_far};
-ghost use Rattle.art_index.specs.Records.{Records};
+ghost use Rattle.art_index.specs.State.{State};
 ghost use Rattle.art_index.specs.Outcome.{IsOutcome};
 ghost use Rattle.art_index.specs.Faults.{AfterReadFault, AfterWriteFault};
 ghost use Rattle.art_index.specs.Progress.{Carried, IsCutRun, NoNewline};
@@ -31,6 +31,7 @@ pub fn run<S: Source, W: Sink, const PREFIX_LEN: usize>(
     requires sink_open { W.has_failed sink.old ≡ false }
 
     // Where it answers Ok, the source has ended, and what was written is the replies to the lines of the text given.
+    // What each line has read of the trees is counted.
     ensures ended { OnOk result (S.has_ended source.new ≡ true) }
     ensures outcome { OnOk result ((text written : List ℕ)
         × (S.given source.new ≡ S.given source.old ++ text)
@@ -81,10 +82,10 @@ fn feed<W: Sink, const PREFIX_LEN: usize>(
     sink: &mut W,
 ) -> Result<(), RunFault>
     requires { W.has_failed sink.old ≡ false }
-    ensures carried { OnOk result ((start : Records) (text before : List ℕ)
+    ensures carried { OnOk result ((start : State) (text before : List ℕ)
         → Carried start index.old text held.old.items before (W.taken sink.old)
         → Carried start index.new (text ++ piece.now) held.new.items before (W.taken sink.new)) }
-    ensures cut { OnErr result ((start : Records) (text before : List ℕ)
+    ensures cut { OnErr result ((start : State) (text before : List ℕ)
         → Carried start index.old text held.old.items before (W.taken sink.old)
         → IsCutRun start index.new (whole_lines_of (text ++ piece.now)) before (W.taken sink.new)) }
     ensures err { IfErr result (λ fault. fault ≡ RunFault.Write) }
@@ -92,7 +93,7 @@ fn feed<W: Sink, const PREFIX_LEN: usize>(
 {
     let mut rest = piece;
     'lines: while let Some(at) = memchr(b'\n', rest) {
-        upcoming.step(index.byte_map(), rest);
+        upcoming.step(index.byte_map(), index.number_map(), rest);
         finish(index, held, &rest[..at], sink)?;
         rest = &rest[at + 1..];
     }
@@ -108,11 +109,11 @@ fn finish<W: Sink, const PREFIX_LEN: usize>(
     sink: &mut W,
 ) -> Result<(), RunFault>
     requires { W.has_failed sink.old ≡ false }
-    ensures carried { OnOk result ((start : Records) (text before : List ℕ)
+    ensures carried { OnOk result ((start : State) (text before : List ℕ)
         → NoNewline part.now
         → Carried start index.old text held.old.items before (W.taken sink.old)
         → Carried start index.new (text ++ part.now ++ 10 ∷ []) held.new.items before (W.taken sink.new)) }
-    ensures cut { OnErr result ((start : Records) (text before : List ℕ)
+    ensures cut { OnErr result ((start : State) (text before : List ℕ)
         → NoNewline part.now
         → Carried start index.old text held.old.items before (W.taken sink.old)
         → IsCutRun start index.new (whole_lines_of (text ++ part.now ++ 10 ∷ [])) before (W.taken sink.new)) }

@@ -164,6 +164,27 @@ impl<'a, K: AsBytes, V, const PREFIX_LEN: usize> MapReader<'a, K, V, PREFIX_LEN>
         self.reader.count()
     }
 
+    /// A reader of the same map that has read nothing yet. What is read through it is counted by itself, until
+    /// `take_in` adds that here.
+    pub fn aside(&self) -> Self
+        ensures kept { IsSameMap self.now result }
+        ensures count { result.count ≡ 0 }
+    {
+        MapReader {
+            reader: self.reader.aside(),
+            root: self.root,
+            mark: PhantomData,
+        }
+    }
+
+    /// What another has read is counted here. A count that reaches the greatest number stays there.
+    pub fn take_in(&mut self, other: Self)
+        ensures kept { IsSameMap self.old self.new }
+        ensures counts { self.new.count ≡ min (self.old.count + other.entry.count) (2 ^ 64 - 1) }
+    {
+        self.reader.take_in(other.reader);
+    }
+
     /// The pair whose key has the query's bytes, if there is one. The nodes of the key's path are read, and no others.
     pub fn get_key_value<Q: AsBytes>(&mut self, key: &Q) -> Option<(&'a K, &'a V)>
         ensures value { OfPairs K.bytes PREFIX_LEN self.old.nodes self.old.root (λ pairs. option_map deref_pair result
@@ -182,6 +203,7 @@ impl<'a, K: AsBytes, V, const PREFIX_LEN: usize> MapReader<'a, K, V, PREFIX_LEN>
         };
         Some(leaf.entry_ref())
     }
+
     /// The one pair whose key is a front of the query's bytes, or equals them, if there is one. The nodes of the path
     /// of the query's bytes are read, and no others: for a pair that is found they are those of its own path.
     pub fn prefix_get_key_value<Q: AsBytes>(&mut self, key: &Q) -> Option<(&'a K, &'a V)>

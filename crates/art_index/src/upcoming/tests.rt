@@ -1,7 +1,8 @@
 //! What no clause says: the ways of the lines that look a key up are gone to its leaf, and lines are read ahead by
 //! groups, for a map that is large enough.
-use super::{FEW, KEY, LINES, Upcoming};
+use super::{FEW, KEY, LINES, Roots, Trees, Upcoming};
 use crate::ahead::tests::fill;
+use crate::command::fields::NUMBER_KEY;
 use art_map::TreeMap;
 use std::alloc::{AllocError, Global};
 use std::test::Fail;
@@ -37,6 +38,26 @@ fn count_reached(upcoming: &Upcoming, map: &TreeMap<Vec<u8>, Vec<u8>, 16>) -> us
     reached
 }
 
+/// Reads ahead, of however few records.
+fn read(
+    upcoming: &mut Upcoming,
+    map: &TreeMap<Vec<u8>, Vec<u8>, 16>,
+    numbers: &TreeMap<[u8; NUMBER_KEY], Vec<u8>, 16>,
+    text: &[u8],
+) {
+    let (keys, root) = map.nodes();
+    let (values, number_root) = numbers.nodes();
+    let trees = Trees {
+        keys,
+        numbers: values,
+    };
+    let roots = Roots {
+        keys: root,
+        numbers: number_root,
+    };
+    upcoming.read(trees, &roots, text);
+}
+
 #[test]
 fn ways_end_at_the_leaves_of_their_keys(rt: HostRuntime) -> Result<(), Fail> {
     let rows: [(u64, u64); 5] = [
@@ -46,6 +67,7 @@ fn ways_end_at_the_leaves_of_their_keys(rt: HostRuntime) -> Result<(), Fail> {
         (2000, 0x9e37_79b9_7f4a_7c15),
         (1500, (1 << 60) + (1 << 33) + 3),
     ];
+    let numbers = TreeMap::with_prefix_len(rt.alloc());
     for (count, factor) in rows {
         let mut map = TreeMap::with_prefix_len(rt.alloc());
         fill(rt.alloc(), &mut map, count, factor, 4)?;
@@ -56,7 +78,7 @@ fn ways_end_at_the_leaves_of_their_keys(rt: HostRuntime) -> Result<(), Fail> {
         }
         put_line(&mut text, b"got", 0, factor)?;
         let mut upcoming = Upcoming::new();
-        upcoming.read(&map, text.as_slice());
+        read(&mut upcoming, &map, &numbers, text.as_slice());
         assert_eq!(rt; upcoming.len as u64, count.min(10));
         assert_eq!(rt; upcoming.left as u64, count.min(10) + 1);
         assert_eq!(rt; count_reached(&upcoming, &map), upcoming.len);
@@ -64,25 +86,70 @@ fn ways_end_at_the_leaves_of_their_keys(rt: HostRuntime) -> Result<(), Fail> {
     Ok(())
 }
 
+/// Puts so many numbers of a tenant, each a thousand after the one before.
+fn fill_numbers(alloc: Global, numbers: &mut TreeMap<[u8; NUMBER_KEY], Vec<u8>, 16>, count: u64) {
+    for i in 0..count {
+        let mut key = [0; NUMBER_KEY];
+        key[3] = 5;
+        key[4..].copy_from_slice(&((1 << 63) | i.wrapping_mul(1000)).to_be_bytes());
+        let _ = numbers.insert(key, Vec::new(alloc));
+    }
+}
+
+/// How many of the ways end at the leaf of their number.
+fn count_numbers(upcoming: &Upcoming, numbers: &TreeMap<[u8; NUMBER_KEY], Vec<u8>, 16>) -> usize {
+    let (arena, _) = numbers.nodes();
+    let mut reached: usize = 0;
+    for at in 0..upcoming.len.min(LINES) {
+        let (way, full) = (&upcoming.ways[at], &upcoming.keys[at]);
+        if let Some(leaf) = way.leaf() {
+            if arena.holds(leaf.to_opaque()) {
+                let is_its = arena.as_key_ref(leaf).as_slice() == &full[..way.len.min(KEY)];
+                reached = reached.saturating_add(usize::from(is_its));
+            }
+        }
+    }
+    reached
+}
+
+#[test]
+fn lines_of_both_trees_are_read_ahead(rt: HostRuntime) -> Result<(), Fail> {
+    let mut map = TreeMap::with_prefix_len(rt.alloc());
+    fill(rt.alloc(), &mut map, 700, 1, 4)?;
+    let mut numbers = TreeMap::with_prefix_len(rt.alloc());
+    fill_numbers(rt.alloc(), &mut numbers, 300);
+    let mut upcoming = Upcoming::new();
+    let of_numbers = b"nget 5 7000\nndel 5 0\nnput 5 7 -\nnspan 5 9000 99000\nnget 5 01\n";
+    read(&mut upcoming, &map, &numbers, of_numbers);
+    assert_eq!(rt; upcoming.len, 3);
+    assert_eq!(rt; count_numbers(&upcoming, &numbers), 2);
+    let of_keys =
+        b"del 117901063 00000000\nover 117901063 0000000000000007 -\nlist 117901063 -\nspan 1 00 01\n";
+    read(&mut upcoming, &map, &numbers, of_keys);
+    assert_eq!(rt; upcoming.len, 4);
+    Ok(())
+}
+
 #[test]
 fn lines_are_read_ahead_by_groups(rt: HostRuntime) -> Result<(), Fail> {
     let mut map = TreeMap::with_prefix_len(rt.alloc());
+    let numbers = TreeMap::with_prefix_len(rt.alloc());
     let mut text = Vec::new(rt.alloc());
     for number in 0..20 {
         put_line(&mut text, b"get", number, 1)?;
     }
     let mut upcoming = Upcoming::new();
-    upcoming.step(&map, text.as_slice());
+    upcoming.step(&map, &numbers, text.as_slice());
     assert_eq!(rt; upcoming.len, 0);
     fill(rt.alloc(), &mut map, FEW as u64, 1, 4)?;
     for left in [15, 14, 13] {
-        upcoming.step(&map, text.as_slice());
+        upcoming.step(&map, &numbers, text.as_slice());
         assert_eq!(rt; upcoming.left, left);
         assert_eq!(rt; upcoming.len, LINES);
     }
     assert_eq!(rt; count_reached(&upcoming, &map), LINES);
     upcoming.left = 0;
-    upcoming.step(&map, b"get 117901063 00\nget");
+    upcoming.step(&map, &numbers, b"get 117901063 00\nget");
     assert_eq!(rt; upcoming.left, 0);
     assert_eq!(rt; upcoming.len, 1);
     Ok(())

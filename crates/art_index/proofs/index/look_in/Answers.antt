@@ -1,4 +1,4 @@
-use Rattle.std.proofs.Common.{rules, ◌≡◌, ℕ, ◌+◌, ◌-◌, ◌^◌, ◌<◌, min, ap₂, ◌∙◌, length, arith}
+use Rattle.std.proofs.Common.{rules, ℕ, ◌+◌, ◌-◌, ◌^◌, ◌<◌, min, ap₂, ◌∙◌, length, arith}
 use Rattle.art_index.specs.Spans.{ReadsRecords, ReadsNumbers}
 use Rattle.art_index.proofs.Cuts.{when_err}
 use Rattle.art_index.proofs.LineCounts.{counted_within}

@@ -1,4 +1,4 @@
-use Rattle.std.proofs.Common.{rules, ◌≡◌, ℕ, ◌+◌, ◌^◌, ◌<◌, ◌≤◌, min, List, length, map, ap, ap₂, sym, ◌∙◌, subst, arith, Bool, inr}
+use Rattle.std.proofs.Common.{rules, ℕ, ◌+◌, ◌^◌, ◌<◌, List, length, map, ap, ap₂, sym, ◌∙◌, subst, arith, inr}
 use Rattle.std.specs.Prelude.{filter, flat_map, max}
 use Rattle.std.specs.List.{AllByRecursion}
 use Rattle.std.specs.declared.ops.Bound.TheVariants.{Included, Excluded}
@@ -9,7 +9,7 @@ use Rattle.art_index.specs.Words.{line_of}
 use Rattle.art_index.specs.Replies.{listed}
 use Rattle.art_index.specs.Faults.{Writes}
 use Rattle.art_index.specs.Counts.{longest, GrewBy}
-use Rattle.art_index.specs.Keys.{full_key, full_key_of}
+use Rattle.art_index.specs.Keys.{full_key_of}
 use Rattle.art_index.specs.Spans.{span_pairs, own_pair, IsListed}
 use Rattle.art_index.specs.Stored.{Pair, record_of}
 use Rattle.art_index.specs.Parsed.{tenant_in_place, key_in_place, value_in_place}

@@ -1,4 +1,4 @@
-use Rattle.std.proofs.Common.{rules, ◌≡◌, ℕ, ◌+◌, ◌^◌, ◌<◌, min, List, length, map, ap, sym, ◌∙◌, subst, arith, Bool}
+use Rattle.std.proofs.Common.{rules, ◌≡◌, ◌+◌, ◌^◌, ◌<◌, List, length, map, ap, sym, ◌∙◌, subst, arith}
 use Rattle.std.specs.Prelude.{filter, flat_map}
 use Rattle.std.specs.List.{AllByRecursion}
 use Rattle.std.proofs.lemmas.Result.{on_ok_weaker}
@@ -7,7 +7,7 @@ use Rattle.art_index.specs.Words.{line_of}
 use Rattle.art_index.specs.Replies.{listed}
 use Rattle.art_index.specs.Faults.{Writes}
 use Rattle.art_index.specs.Counts.{longest, GrewBy}
-use Rattle.art_index.specs.Keys.{full_key, full_key_of}
+use Rattle.art_index.specs.Keys.{full_key_of}
 use Rattle.art_index.specs.Spans.{span_pairs, own_pair, IsListed}
 use Rattle.art_index.specs.Stored.{Pair, record_of}
 use Rattle.art_index.specs.Parsed.{tenant_in_place, key_in_place}

@@ -1,4 +1,4 @@
-use Rattle.std.proofs.Common.{arith, rules, ◌≡◌, ◌+◌, ◌++◌, ◌∷◌, ◌≤◌, ℕ, ℤ, List, [], length, take, drop, map, append-nil, refl, ap, ap₂, sym, ◌∙◌, subst, min}
+use Rattle.std.proofs.Common.{arith, rules, ◌≡◌, ◌+◌, ◌++◌, ◌≤◌, ℕ, ℤ, List, [], length, take, drop, map, append-nil, refl, ap, ap₂, sym, ◌∙◌, subst}
 use Rattle.std.specs.List.{AllByRecursion}
 use Rattle.std.specs.Map.Iter.{deref_pair}
 use Rattle.std.specs.Int.{cast_signed, cast_unsigned, w64}

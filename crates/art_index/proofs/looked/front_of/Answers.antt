@@ -1,11 +1,11 @@
-use Rattle.std.proofs.Common.{◌+◌, ◌≤◌, ℕ, List, length, drop, map, ap, ap₂, sym, ◌∙◌, subst, Some, arith}
+use Rattle.std.proofs.Common.{◌+◌, ◌≤◌, ℕ, List, length, drop, map, ap, ap₂, sym, ◌∙◌, subst, Some}
 use Rattle.std.specs.Prelude.{option_map}
 use Rattle.art_arena.specs.tree.Tenants.{begins_with}
-use Rattle.art_index.specs.Counts.{exactly, path_nodes, Grew}
+use Rattle.art_index.specs.Counts.{exactly, path_nodes}
 use Rattle.art_index.specs.Keys.{full_key_of}
 use Rattle.art_index.specs.Words.{line_of}
 use Rattle.art_index.specs.Replies.{pair_words}
-use Rattle.art_index.specs.Spans.{IsListed}
+use Rattle.art_index.specs.Spans.{GrewFirst, IsListed}
 use Rattle.art_index.specs.Stored.{Pair, record_of}
 use Rattle.art_index.specs.Parsed.{tenant_in_place, key_in_place}
 use Rattle.art_index.proofs.Finding.{all_found, front_found}
@@ -39,10 +39,10 @@ returns-in-None-clause-found g c = λ ps r.
 
 pub returns-in-Some-clause-visits : goal.returns-in-Some-clause-visits
 returns-in-Some-clause-visits g c = λ ps r.
-    subst (λ q. Grew (exactly (path_nodes full_key_of (map record_of ps) q)) c.args.records.now.count c.prefix_get_key_value.new.self.count) c.full_key.ensures.value
+    subst (λ q. GrewFirst (exactly (path_nodes full_key_of (map record_of ps) q)) c.args.records.now.count c.prefix_get_key_value.new.self.count) c.full_key.ensures.value
     (record_path ps r.are.stand c.full_key.result.now c.full_key.ensures.short _ _ (c.in-Some.ensures.counts ps r.read))
 
 pub returns-in-None-clause-visits : goal.returns-in-None-clause-visits
 returns-in-None-clause-visits g c = λ ps r.
-    subst (λ q. Grew (exactly (path_nodes full_key_of (map record_of ps) q)) c.args.records.now.count c.prefix_get_key_value.new.self.count) c.full_key.ensures.value
+    subst (λ q. GrewFirst (exactly (path_nodes full_key_of (map record_of ps) q)) c.args.records.now.count c.prefix_get_key_value.new.self.count) c.full_key.ensures.value
     (record_path ps r.are.stand c.full_key.result.now c.full_key.ensures.short _ _ (c.in-None.ensures.counts ps r.read))

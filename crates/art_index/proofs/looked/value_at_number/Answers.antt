@@ -1,4 +1,4 @@
-use Rattle.std.proofs.Common.{◌≡◌, ℕ, ◌^◌, List, map, min, ap, sym, ◌∙◌, subst, Some}
+use Rattle.std.proofs.Common.{ℕ, List, ap, ◌∙◌, subst, Some}
 use Rattle.std.specs.Prelude.{option_map}
 use Rattle.art_walks.specs.MapReads.{ReadsPathOf}
 use Rattle.art_index.specs.Parsed.{tenant_in_place, number_in_place}

@@ -1,6 +1,7 @@
-use Rattle.std.proofs.Common.{◌≡◌, ℕ, ◌≤◌, ◌<◌, List, length, map, ap, sym, ◌∙◌, subst, Some, arith}
+use Rattle.std.proofs.Common.{map, ap, ◌∙◌, subst, Some}
 use Rattle.std.specs.Prelude.{option_map}
-use Rattle.art_index.specs.Counts.{exactly, path_nodes, Grew}
+use Rattle.art_index.specs.Counts.{exactly, path_nodes}
+use Rattle.art_index.specs.Spans.{GrewFirst}
 use Rattle.art_index.specs.Keys.{full_key_of}
 use Rattle.art_index.specs.Parsed.{tenant_in_place, key_in_place}
 use Rattle.art_index.specs.Stored.{Pair, record_of}
@@ -19,10 +20,10 @@ returns-in-None-clause-value g c = λ ps r.
 
 pub returns-in-Some-clause-visits : goal.returns-in-Some-clause-visits
 returns-in-Some-clause-visits g c = λ ps r.
-    subst (λ q. Grew (exactly (path_nodes full_key_of (map record_of ps) q)) c.args.records.now.count c.get_key_value.new.self.count) c.full_key.ensures.value
+    subst (λ q. GrewFirst (exactly (path_nodes full_key_of (map record_of ps) q)) c.args.records.now.count c.get_key_value.new.self.count) c.full_key.ensures.value
     (record_path ps r.are.stand c.full_key.result.now c.full_key.ensures.short _ _ (c.in-Some.ensures.counts ps r.read))
 
 pub returns-in-None-clause-visits : goal.returns-in-None-clause-visits
 returns-in-None-clause-visits g c = λ ps r.
-    subst (λ q. Grew (exactly (path_nodes full_key_of (map record_of ps) q)) c.args.records.now.count c.get_key_value.new.self.count) c.full_key.ensures.value
+    subst (λ q. GrewFirst (exactly (path_nodes full_key_of (map record_of ps) q)) c.args.records.now.count c.get_key_value.new.self.count) c.full_key.ensures.value
     (record_path ps r.are.stand c.full_key.result.now c.full_key.ensures.short _ _ (c.in-None.ensures.counts ps r.read))

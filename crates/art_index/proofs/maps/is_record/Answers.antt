@@ -1,4 +1,4 @@
-use Rattle.std.proofs.Common.{◌<◌, arith}
+use Rattle.std.proofs.Common.{arith}
 use Rattle.art_index.proofs.HeldMaps.{is_record}
 use Rattle.art_index.proofs.maps.is_record.Goals as goal
 

@@ -1,10 +1,11 @@
-use Rattle.std.proofs.Common.{subst}
+use Rattle.std.proofs.Common.{ap, subst}
 use Rattle.art_index.specs.Records.{AreRecords}
+use Rattle.art_index.specs.State.{State}
 use Rattle.art_index.proofs.NumberPlaces.{are_in_order}
 use Rattle.art_index.proofs.index.Index.holds_records.Goals as goal
 
 pub returns : goal.returns
-returns g c = subst AreRecords c.self.view_is (record {
+returns g c = subst AreRecords (ap (λ (s : State). s.records) c.self.view_is) (record {
   keys_in_order = c.self.invariant.0.stand.in_order;
   numbers_in_order = are_in_order c.self.inside.numbers.pairs c.self.invariant.1;
   keys_fit = c.self.invariant.0.fit;
