@@ -1,3 +1,4 @@
+pub mod Walks
 pub mod Below
 pub mod Entries
 pub mod LentRuns
@@ -20,3 +21,4 @@ pub mod Clones
 pub mod Puts
 pub mod VecPairs
 pub mod Joins
+pub mod PrefixBlocks

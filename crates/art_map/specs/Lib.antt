@@ -5,6 +5,8 @@ pub mod Lends
 pub mod Found
 pub mod Overlapped
 pub mod PrefixEntries
+pub mod PrefixBlocks
+pub mod PrefixRemovals
 pub mod Walked
 pub mod Ranges
 pub mod Leaves

@@ -13,6 +13,7 @@ pub use map::iter_mut::{IterMut, ValuesMut};
 pub use map::prefix_entry::{
     InnerOccupiedEntry, LonePair, PrefixEntry, PrefixOccupied, PrefixOccupiedKind,
 };
+pub use map::prefix_removal::{PrefixRemoval, Removed};
 pub use map::refused::{TryInsertError, TryKeyError};
 pub use map::walks_mut::{PrefixMut, RangeMut, SubtreeIterMut};
 pub use map::{DEFAULT_PREFIX_LEN, TreeMap};

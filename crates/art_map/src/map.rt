@@ -18,6 +18,7 @@ pub mod iter_mut;
 mod joins;
 mod lookups;
 pub mod prefix_entry;
+pub mod prefix_removal;
 mod ranges;
 mod readers;
 pub mod refused;

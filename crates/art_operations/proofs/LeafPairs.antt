@@ -2,7 +2,7 @@
 use Rattle.std.proofs.Common.{◌≡◌, ◌≢◌, ℕ, ◌≤◌, List, [], ◌∷◌, ◌++◌, length, take, map, nat_eq, Option, Some, None, refl, sym, ap, subst, ◌∙◌, inl, inr}
 use Rattle.std.specs.List.{cons_option}
 use Rattle.std.proofs.lemmas.List.{map-append}
-use Rattle.art_bytes.specs.Keys.{Conflict, common_prefix}
+use Rattle.art_bytes.specs.Keys.{BeginsWith, Conflict, common_prefix}
 use Rattle.art_nodes.specs.Name.{Name}
 use Rattle.art_nodes.specs.declared.leaf.LeafNode.{LeafNode}
 use Rattle.art_arena.specs.tree.Order.{AscendsByKey}
@@ -28,6 +28,7 @@ use Rattle.art_operations.specs.Insertions.{IsReplaced, IsPutOrReplaced}
 use Rattle.art_operations.specs.KeyedLists.{with_key, IsBlocked}
 use Rattle.art_operations.specs.Pairs.{pair_in}
 use Rattle.art_operations.specs.Points.{HasConflict, NoConflict}
+use Rattle.art_operations.specs.Subtrees.{ShrinksWithout}
 use Rattle.art_operations.proofs.KeyedLists.{IsPut, IsTaken, put_new, put_replaced, taken}
 
 -- the pair of a leaf
@@ -47,6 +48,13 @@ module _ {X Y : Type 0} (f : X → Y) (key : Y → List ℕ) where
   shrinks-map xs k (m, ((y, i, differs, meets), longest), limit) = (
     m,
     ((f y, in_map f y xs i, differs, meets), λ z j other. let back = in_unmap f z xs j in subst (λ w. length (common_prefix k (key w)) ≤ length m) back.2 (longest back.0 back.1 (subst (λ w. key w ≢ k) (sym back.2) other))),
+    subst IsLimit (sym (width_of-map m xs)) limit,
+  )
+
+  pub without-shrinks : (xs : List X) (front : List ℕ) → ShrinksWithout (λ x. key (f x)) xs front → ShrinksWithout key (map f xs) front
+  without-shrinks xs front (m, ((y, i, differs, meets), longest), limit) = (
+    m,
+    ((f y, in_map f y xs i, differs, meets), λ z j other. let back = in_unmap f z xs j in subst (λ w. length (common_prefix front (key w)) ≤ length m) back.2 (longest back.0 back.1 (subst (λ w. BeginsWith front (key w) → ⊥) (sym back.2) other))),
     subst IsLimit (sym (width_of-map m xs)) limit,
   )
 

@@ -43,6 +43,7 @@ pub mod StopPairs
 pub mod DecidedPoints
 pub mod KnownPlaces
 pub mod DecidedParts
+pub mod KnownRooms
 pub mod Overlaps
 pub mod Overwrites
 pub mod PutOver

@@ -3,14 +3,19 @@ ghost use Rattle.std.specs.Prelude.{ℕ, List};
 ghost use Rattle.art_operations.specs.Runs.{HoldsClonesOf, IsCloned};
 
 use crate::commands::{Look, shows_anyway};
-use art_arena::LeafPtr;
+use art_arena::{ArenaReader, LeafPtr};
 use art_bytes::CloneBytes;
 use art_operations::{
-    Command, RunResult, find_leaf_pointer_for_bound, find_prefix_segment, find_range_segment,
-    search_unchecked,
+    Command, RunResult, find_leaf_pointer_for_bound_with, find_prefix_segment,
+    find_range_segment_with, search_unchecked,
 };
 use std::alloc::AllocError;
 use std::ops::Bound;
+
+// How many nodes are read at most for a bound of four bytes, where no key has more than three, and for two of them.
+const END: u64 = 24;
+
+const BOTH: u64 = 50;
 
 // The leaf of a key, in what a run left.
 fn leaf_of<K: CloneBytes, V: Clone, const PREFIX_LEN: usize>(
@@ -28,7 +33,7 @@ fn leaf_of<K: CloneBytes, V: Clone, const PREFIX_LEN: usize>(
     search_unchecked(&ran.arena, root, key)
 }
 
-// Whether a bound takes the leaf of this key, or none.
+// Whether a bound takes the leaf of this key, or none, and reads few nodes.
 fn takes<K: CloneBytes, V: Clone, const PREFIX_LEN: usize>(
     ran: &RunResult<K, V, PREFIX_LEN>,
     bound: Bound<&[u8]>,
@@ -43,7 +48,11 @@ fn takes<K: CloneBytes, V: Clone, const PREFIX_LEN: usize>(
         Some(root) => root,
         None => return false,
     };
-    let found = find_leaf_pointer_for_bound(&ran.arena, root, bound, is_start);
+    let mut reader = ArenaReader::new(&ran.arena);
+    let found = find_leaf_pointer_for_bound_with(&mut reader, root, bound, is_start);
+    if reader.count() > END {
+        return false;
+    }
     match wanted {
         Some(key) => found.is_some() && found == leaf_of(ran, key),
         None => found.is_none(),
@@ -76,7 +85,7 @@ fn spans<K: CloneBytes, V: Clone, const PREFIX_LEN: usize>(
     }
 }
 
-// Whether the leaves between two bounds go from this key's to that one's, or there is none.
+// Whether the leaves between two bounds go from this key's to that one's, or there is none, and few nodes are read.
 fn lies_between<K: CloneBytes, V: Clone, const PREFIX_LEN: usize>(
     ran: &RunResult<K, V, PREFIX_LEN>,
     start: Bound<&[u8]>,
@@ -91,7 +100,11 @@ fn lies_between<K: CloneBytes, V: Clone, const PREFIX_LEN: usize>(
         Some(root) => root,
         None => return false,
     };
-    let found = find_range_segment(&ran.arena, root, start, end);
+    let mut reader = ArenaReader::new(&ran.arena);
+    let found = find_range_segment_with(&mut reader, root, start, end);
+    if reader.count() > BOTH {
+        return false;
+    }
     match found {
         Some((first, last)) => match wanted {
             Some((low, high)) => {

@@ -1,0 +1,14 @@
+use Rattle.art_map.proofs.PrefixBlocks.{few-reads, found-part}
+use Rattle.art_map.proofs.map.TreeMap.part_behind.Goals as goal
+
+pub returns-in-Some-clause-part : goal.returns-in-Some-clause-part
+returns-in-Some-clause-part g c =
+    rw (← c.self.view_is)
+    (found-part g.K.AsBytes.bytes g.row.PREFIX_LEN c.args.prefix.now g.K.AsBytes.is_key c.self.inside.arena c.self.inside.root c.self.invariant c.in-Some.root c.in-Some.is c.search_for_subtree_delete_point-found.result
+    (rw (c.new-reader.ensures.arena) at c.search_for_subtree_delete_point-found.ensures.answer))
+
+pub returns-in-Some-clause-few : goal.returns-in-Some-clause-few
+returns-in-Some-clause-few g c =
+    rw (← c.self.view_is, c.count.ensures)
+    (few-reads g.K.AsBytes.bytes g.row.PREFIX_LEN c.args.prefix.now g.K.AsBytes.is_key c.self.inside.arena c.self.inside.root c.self.invariant c.in-Some.root c.in-Some.is 0 c.search_for_subtree_delete_point-found.new.reader.count
+    (rw (c.new-reader.ensures.arena, c.new-reader.ensures.count) at c.search_for_subtree_delete_point-found.ensures.few))

@@ -1,0 +1,37 @@
+-- The part of a map's tree whose keys begin with a prefix, for whose loss there is room.
+use Rattle.std.specs.Prelude.{◌≡◌, ℕ, List, [], Option, Some, None}
+use Rattle.art_nodes.specs.Name.{Name}
+use Rattle.art_arena.specs.arena.Shapes.{key_of}
+use Rattle.art_arena.specs.arena.Steps.{steps_of}
+use Rattle.art_arena.specs.tree.Tenants.{with_front}
+use Rattle.art_operations.specs.Pairs.{IsSubtreeFor}
+use Rattle.art_operations.specs.Subtrees.{HasRoomAbove, ShrinksWithout}
+use Rattle.art_operations.specs.declared.delete.subtree.SubtreeDeletePoint.{SubtreeDeletePoint}
+use Rattle.art_map.specs.Contents.{Contents}
+
+-- the part, if there is one, and how many nodes were read to find it
+pub record Block : Type 0 where
+  pub part : Option SubtreeDeletePoint
+  pub reads : ℕ
+
+module _ {K V : Type 0} (bytes : K → List ℕ) where
+  -- keys begin with the prefix, and the longest front that they share with others has a width of which the loss of one
+  -- changes the kind
+  abbrev pub ShrinksAtCut : List ℕ → List (K × V) → Type 0
+  ShrinksAtCut front pairs = (with_front (key_of bytes) front pairs ≡ [] → ⊥) × ShrinksWithout (key_of bytes) pairs front
+
+  module _ (P : ℕ) (m : Contents K V) (front : List ℕ) where
+    -- the point is that part of the tree below the root, if there is a root
+    abbrev pub IsPrefixPart : Option Name → SubtreeDeletePoint → Type 0
+    IsPrefixPart None point = ⊥
+    IsPrefixPart (Some root) point = IsSubtreeFor bytes P m.nodes root front point
+
+    -- that part was found, or no key begins with the prefix
+    abbrev pub IsFoundPart : Option SubtreeDeletePoint → Type 0
+    IsFoundPart None = with_front (key_of bytes) front m.pairs ≡ []
+    IsFoundPart (Some point) = IsPrefixPart m.root point
+
+    -- and there is room for its loss
+    abbrev pub IsReadyPart : Option SubtreeDeletePoint → Type 0
+    IsReadyPart None = with_front (key_of bytes) front m.pairs ≡ []
+    IsReadyPart (Some point) = IsPrefixPart m.root point × HasRoomAbove m.nodes (steps_of point.path)
