@@ -132,6 +132,25 @@ def many_numbers_are_kept(program):
     assert out == wanted, "a reply differs"
 
 
+def tenants_are_dropped(program):
+    """Of 2 to 50 tenants in a row, in one tree or in both, the first, a middle one or the last is dropped, and put again."""
+    lines, model = [], Reference()
+    for count in (1, 2, 3, 4, 5, 6, 16, 17, 18, 48, 49, 50):
+        for trees in ((0,), (1,), (0, 1)):
+            for at in sorted({0, count // 2, count - 1}):
+                tenants = range(200, 200 + count)
+                puts = [f"put {it} - {it:04x}" for it in tenants if 0 in trees]
+                puts += [f"nput {it} {number} {it:04x}" for it in tenants for number in (-1, it) if 1 in trees]
+                again = [it for it in puts if it.split()[1] == str(200 + at)]
+                lines += [*puts, "audit", f"drop {200 + at}", "dump", "audit", f"list {200 + at} -"]
+                lines += [*again, "dump", "audit", *(f"drop {it}" for it in tenants), "dump"]
+    text = "".join(f"{it}\n" for it in lines).encode()
+    wanted = b"".join(model.reply(it) for it in text.splitlines())
+    out, err, status = ended([program], input=text)
+    wants((err, status, len(out)), (b"", 0, len(wanted)))
+    assert out == wanted, "a reply differs"
+
+
 def an_argument_is_refused(program):
     """It ends while its standard input is open, so it has not waited for it."""
     reads, writes = os.pipe()
@@ -258,6 +277,7 @@ TESTS = [
     many_values_are_kept,
     look_ups_among_many_are_answered,
     many_numbers_are_kept,
+    tenants_are_dropped,
     an_argument_is_refused,
     a_failed_read_is_told,
     a_failed_write_is_told,

@@ -19,6 +19,7 @@ WORDS = {
     "nget": "tn",
     "ndel": "tn",
     "nspan": "tnn",
+    "drop": "t",
     "dump": "",
     "audit": "",
 }
@@ -94,6 +95,15 @@ def shrinks(keys, key):
     return len({it[len(front)] for it in keys if it.startswith(front)}) in SHRINKING
 
 
+def shrinks_without(keys, front):
+    """Whether the longest front that full keys behind a front share with others has such a width, if there are both."""
+    others = [key for key in keys if not key.startswith(front)]
+    if len(others) in (0, len(keys)):
+        return False
+    shared = max((common(front, it) for it in others), key=len)
+    return len({it[len(shared)] for it in keys if it.startswith(shared)}) in SHRINKING
+
+
 class Reference:
     """Records: a value under each tenant's key and under each tenant's number."""
 
@@ -114,6 +124,9 @@ class Reference:
                 return (tenant, key) in self.keys and shrinks(self.full_keys(self.keys), full(tenant, key))
             case ("ndel", [tenant, number]):
                 return (tenant, number) in self.numbers and shrinks(self.full_keys(self.numbers), full(tenant, number))
+            case ("drop", [tenant]):
+                front = full(tenant, b"")
+                return any(shrinks_without(self.full_keys(it), front) for it in (self.keys, self.numbers))
         return False
 
     def reply(self, line):
@@ -180,6 +193,13 @@ class Reference:
             return [b"bounds"]
         numbers = sorted(it for owner, it in self.numbers if owner == tenant and low <= it <= high)
         return [b"%d %b" % (it, shown(self.numbers[tenant, it])) for it in numbers] + [b"end %d" % len(numbers)]
+
+    def drop(self, tenant):
+        held = len(self.keys) + len(self.numbers)
+        self.keys, self.numbers = (
+            {at: value for at, value in it.items() if at[0] != tenant} for it in (self.keys, self.numbers)
+        )
+        return [b"dropped %d" % (held - len(self.keys) - len(self.numbers))]
 
     def dump(self):
         lines = [b"put %d %b %b" % (t, shown(k), shown(value)) for (t, k), value in sorted(self.keys.items())]

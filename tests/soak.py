@@ -56,7 +56,7 @@ class Script:
 
     def line(self):
         word = self.of.choices(list(WORDS), self.weights)[0]
-        if word in ("dump", "audit") and self.of.random() < 0.9:
+        if word in ("drop", "dump", "audit") and self.of.random() < 0.9:
             word = "put"
         line = " ".join([word, *(self.field(kind) for kind in WORDS[word])]).encode()
         chance = self.of.random()

@@ -14,7 +14,7 @@ use Rattle.art_arena.specs.tree.Order.{AscendsByKey}
 use Rattle.art_arena.specs.tree.Tenants.{begins_with}
 use Rattle.art_arena.proofs.tree.Insert.{all_at}
 use Rattle.art_arena.proofs.tree.Tenants.{begins_true}
-use Rattle.art_index.specs.Commands.{put, over, del, get, find as find_front, list, span, nput, nget, ndel, nspan}
+use Rattle.art_index.specs.Commands.{put, over, del, get, find as find_front, list, span, nput, nget, ndel, nspan, drop}
 use Rattle.art_index.specs.Commands.{Command, of_tenant, dump, audit}
 use Rattle.art_index.specs.Counts.{path_nodes, visits_of, IsWithin, IsShort, IsOwnPath, ReadsOwnPath}
 use Rattle.art_index.specs.Keys.{full_key, full_key_of, number_key_of}
@@ -116,6 +116,7 @@ short_of (Some (of_tenant t (find_front k))) records n w = short_key t k records
 short_of (Some (of_tenant t (nput m v))) records n w = tt
 short_of (Some (of_tenant t (ndel m))) records n w = tt
 short_of (Some (of_tenant t (nspan l h))) records n w = tt
+short_of (Some (of_tenant t drop)) records n w = tt
 short_of (Some (of_tenant t (nget m))) records n w =
     let short = path_is_short number_key_of records.numbers (pair_key (t, m)) in
     let long : length (pair_key (t, m)) ≡ 12 = refl in
@@ -143,6 +144,7 @@ own_path_of (Some (of_tenant t (find_front k))) records n are w = λ some.
 own_path_of (Some (of_tenant t (nput m v))) records n are w = tt
 own_path_of (Some (of_tenant t (ndel m))) records n are w = tt
 own_path_of (Some (of_tenant t (nspan l h))) records n are w = tt
+own_path_of (Some (of_tenant t drop)) records n are w = tt
 own_path_of (Some (of_tenant t (nget m))) records n are w = λ some.
     subst (IsOwnPath number_key_of (λ r. r.tenant) t (pair_key (t, m)) records.numbers) (sym (same_number n _ w.0 w.1))
     (path_of_number t m records are (found_some (λ (p : ℤ × List ℕ). p.1) (find (λ p. int_eq p.0 m) (own t records).numbers) some))

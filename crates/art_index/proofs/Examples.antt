@@ -1,9 +1,9 @@
 -- A worked example beside each definition, computed by the checker.
-use Rattle.std.proofs.Common.{◌≡◌, ℕ, ◌<◌, List, [], ◌∷◌, ◌++◌, refl, false, true, negsuc, lit<, lit≤, arith}
+use Rattle.std.proofs.Common.{◌≡◌, ℕ, ◌<◌, List, [], ◌∷◌, ◌++◌, refl, false, true, negsuc, lit<, lit≤, arith, inl, inr}
 use Rattle.std.specs.Prelude.{codes, flat_map, replicate, Some, None, IsTrue}
 use Rattle.art_index.specs.Lines.{lines_of, whole_lines_of, unfinished_line_of, lines_so_far}
 use Rattle.art_index.specs.Words.{name, natural, signed, bytes, shown, line_of}
-use Rattle.art_index.specs.Commands.{put, get, nget, of_tenant, dump, Spells, list}
+use Rattle.art_index.specs.Commands.{put, get, nget, drop, of_tenant, dump, Spells, list}
 use Rattle.art_index.specs.Reading.{command_of, natural_in, tenant_in, number_in, bytes_in}
 use Rattle.art_bytes.specs.Keys.{is_below, conflicts}
 use Rattle.art_index.specs.Keys.{full_key, number_key_of, number_of_bytes, full_key_of}
@@ -11,7 +11,7 @@ use Rattle.art_index.specs.Counts.{exactly, listing, visits_of, path_nodes, fron
 use Rattle.art_index.specs.Records.{KeyRecord, KeyFits, Records, no_records, own, with_own}
 use Rattle.art_index.specs.State.{at_first, unread}
 use Rattle.art_index.specs.Replies.{reply_to, records_after, dump_of, audit_lines}
-use Rattle.art_index.specs.Refusals.{LineMayRefuse}
+use Rattle.art_index.specs.Refusals.{MayRefuse, LineMayRefuse}
 use Rattle.art_index.specs.Outcome.{outcome_of, IsLawful}
 use Rattle.art_index.specs.Faults.{AfterReadFault, AfterWriteFault, IsCut, IsCutLine}
 use Rattle.hex.proofs.OnLiterals.{hex_on_literals}
@@ -75,6 +75,14 @@ get-spelled = record { short = lit≤ tt; read = (refl, ((refl, lit< tt), (refl,
 dump-read : command_of (codes "dump") ≡ Some dump
 unfolding outcome_of whole_lines_of unfinished_line_of reply_to records_after command_of natural_in tenant_in number_in bytes_in hex_on_literals digits
 dump-read = refl
+
+drop-read : command_of (codes "drop 7") ≡ Some (of_tenant 7 drop)
+unfolding outcome_of whole_lines_of unfinished_line_of reply_to records_after command_of natural_in tenant_in number_in bytes_in hex_on_literals digits
+drop-read = refl
+
+drop_of_two-not_read : command_of (codes "drop 7 8") ≡ None
+unfolding outcome_of whole_lines_of unfinished_line_of reply_to records_after command_of natural_in tenant_in number_in bytes_in hex_on_literals digits
+drop_of_two-not_read = refl
 
 leading_zero-not_read : command_of (codes "get 07 0a") ≡ None
 unfolding outcome_of whole_lines_of unfinished_line_of reply_to records_after command_of natural_in tenant_in number_in bytes_in hex_on_literals digits
@@ -179,11 +187,15 @@ audit-of_two : flat_map line_of (audit_lines two) ≡ text (codes "bytes 2 1 0 0
 unfolding outcome_of whole_lines_of unfinished_line_of reply_to records_after command_of natural_in tenant_in number_in bytes_in hex_on_literals digits
 audit-of_two = refl
 
--- Refusals: a put may find no memory.
+-- Refusals: a put may find no memory, the drop of a tenant that has nothing may not.
 
 put-may_refuse : LineMayRefuse two (codes "put 1 0a -")
 unfolding outcome_of whole_lines_of unfinished_line_of reply_to records_after command_of natural_in tenant_in number_in bytes_in hex_on_literals digits
 put-may_refuse = (of_tenant 1 (put (10 ∷ []) []), record { short = lit≤ tt; read = (refl, ((refl, lit< tt), (refl, (refl, tt)))) }, tt)
+
+drop_of_nothing-may_not_refuse : MayRefuse no_records (of_tenant 7 drop) → ⊥
+drop_of_nothing-may_not_refuse (inl keys) = keys.0 refl
+drop_of_nothing-may_not_refuse (inr numbers) = numbers.0 refl
 
 -- Outcomes of lines.
 
@@ -224,6 +236,12 @@ keys-put_over_others = refl
 keys-deleted : told (text (codes "put 1 0a 61" ∷ codes "del 1 0a" ∷ codes "del 1 0a" ∷ codes "dump" ∷ [])) ≡ text (codes "new" ∷ codes "gone 61" ∷ codes "none" ∷ codes "end 0" ∷ [])
 unfolding outcome_of whole_lines_of unfinished_line_of reply_to records_after command_of natural_in tenant_in number_in bytes_in hex_on_literals digits
 keys-deleted = refl
+
+-- all that a tenant has is dropped, and another's stays
+tenants-dropped : told (text (codes "put 1 0a 61" ∷ codes "put 2 0a 62" ∷ codes "nput 1 5 63" ∷ codes "drop 1" ∷ codes "drop 1" ∷ codes "dump" ∷ []))
+    ≡ text (codes "new" ∷ codes "new" ∷ codes "new" ∷ codes "dropped 2" ∷ codes "dropped 0" ∷ codes "put 2 0a 62" ∷ codes "end 1" ∷ [])
+unfolding outcome_of whole_lines_of unfinished_line_of reply_to records_after command_of natural_in tenant_in number_in bytes_in hex_on_literals digits
+tenants-dropped = refl
 
 -- bounds may end within a key, and are told where they are not in order
 keys-between_bounds : told (text (codes "put 1 0a 61" ∷ codes "put 1 0b0101 62" ∷ codes "put 1 0c 63" ∷ codes "span 1 0a 0b02" ∷ codes "span 1 0b 0a" ∷ codes "list 1 0b" ∷ []))
@@ -326,6 +344,9 @@ visits-of_no_key = refl
 
 visits-of_a_list : visits_of (Some (of_tenant 1 (list []))) of_two ≡ listing 2 84
 visits-of_a_list = refl
+
+visits-of_a_drop : visits_of (Some (of_tenant 1 drop)) of_two ≡ record { least = 2; most = 144 }
+visits-of_a_drop = refl
 
 visits-of_a_dump : visits_of (Some dump) of_two ≡ exactly 0
 visits-of_a_dump = refl

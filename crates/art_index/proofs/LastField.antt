@@ -1,4 +1,5 @@
--- Where the last field of a line is bytes or a number, its end is the line's: with a space in it, it is read as neither.
+-- Where the last field of a line is bytes, a number or a tenant, its end is the line's: with a space in it, it is read as
+-- none of these.
 use Rattle.std.proofs.Common.{◌≡◌, ℕ, ℤ, ◌^◌, ◌+◌, ◌<◌, ◌≤◌, arith, cond, List, [], ◌∷◌, refl, ap, sym, ◌∙◌, subst, Bool, true, false, Some, None, Option, Ok, Err, Result, ◌⊎◌, inl, inr}
 use Rattle.std.specs.Prelude.{◌==◌, codes, decimal, pos, option_map, option_and_then}
 use Rattle.std.specs.List.{onto_first, AllPass}
@@ -11,7 +12,7 @@ use Rattle.hex.specs.Hex.{decode_of, is_hex_digit}
 use Rattle.hex.specs.declared.error.FromHexError.{FromHexError}
 use Rattle.hex.proofs.HexLemmas.{decode_of-ok}
 use Rattle.art_index.specs.Commands.{fields_of}
-use Rattle.art_index.specs.Reading.{natural_in, negated, number_in, bytes_in, some_bytes}
+use Rattle.art_index.specs.Reading.{natural_in, tenant_in, negated, number_in, bytes_in, some_bytes}
 use Rattle.art_index.proofs.Parsing.{fields_none, fields_some, natural_is}
 
 -- digits are one field
@@ -93,3 +94,11 @@ no_number text f g fs more = go (number_in text) refl
     go : (o : Option ℤ) → number_in text ≡ o → o ≡ None
     go None e = refl
     go (Some z) e = cc (sym more ∙ number_whole text z e)
+
+pub no_tenant : ReadsOneField tenant_in
+unfolding tenant_in
+no_tenant text f g fs more = go (tenant_in text) refl
+  where
+    go : (o : Option ℕ) → tenant_in text ≡ o → o ≡ None
+    go None e = refl
+    go (Some n) e = cc (sym more ∙ natural_whole (2 ^ 32) text n (omega arith) e)

@@ -51,3 +51,4 @@ pub mod RecordCounts
 pub mod HeldMaps
 pub mod SpanLemmas
 pub mod LineCounts
+pub mod DroppedTenants

@@ -144,6 +144,15 @@ module _ (t : ℕ) (T : List ℕ → Bool) (G : ℤ → Bool) (tests : (u : ℕ)
       ∙ left_in_place (λ (r : NumberRecord). r.tenant) number_part number_made (λ t p. refl) (λ t p. refl) (λ x. refl) t of_mine (λ p. G p.0)
       (map number_record_of ns) (own_tests (map number_record_of ns)) (number_ascends (map number_record_of ns) (numbers_order ns stand order))
 
+-- what is left of pairs that ascend ascends
+pub ascends-filter : (T : NumberPair → Bool) (ns : List NumberPair) → AscendsByKey number_bytes ns → AscendsByKey number_bytes (filter T ns)
+ascends-filter T [] order = tt
+ascends-filter T (p ∷ ns) order = go (T p) (ascends-filter T ns order.1)
+  where
+    go : (b : Bool) → AscendsByKey number_bytes (filter T ns) → AscendsByKey number_bytes (cond b (p ∷ filter T ns) (filter T ns))
+    go true ih = (All-filter (λ q. IsBefore p.0 q.0) T ns order.0, ih)
+    go false ih = ih
+
 module _ (t : ℕ) (n : ℤ) (fits : HaveBytes t n) where
   abbrev pub is_number_key : List ℕ → Bool
   is_number_key k = bytes_eq k (pair_key (t, n))
@@ -236,14 +245,6 @@ module _ (t : ℕ) (n : ℤ) (fits : HaveBytes t n) where
       go : (b : Bool) → higher p ≡ b → AllByRecursion (λ p. IsBefore (pair_key (t, n)) p.0) (filter higher ns) → AllByRecursion (λ p. IsBefore (pair_key (t, n)) p.0) (cond b (p ∷ filter higher ns) (filter higher ns))
       go true e ih = (true_before (pair_key (t, n)) p.0 e, ih)
       go false e ih = ih
-
-  pub ascends-filter : (T : NumberPair → Bool) (ns : List NumberPair) → AscendsByKey number_bytes ns → AscendsByKey number_bytes (filter T ns)
-  ascends-filter T [] order = tt
-  ascends-filter T (p ∷ ns) order = go (T p) (ascends-filter T ns order.1)
-    where
-      go : (b : Bool) → AscendsByKey number_bytes (filter T ns) → AscendsByKey number_bytes (cond b (p ∷ filter T ns) (filter T ns))
-      go true ih = (All-filter (λ q. IsBefore p.0 q.0) T ns order.0, ih)
-      go false ih = ih
 
   ascends-put : (e : NumberPair) → e.0 ≡ pair_key (t, n) → (fs bs : List NumberPair) → AllByRecursion (λ p. IsBefore p.0 (pair_key (t, n))) fs → AllByRecursion (λ p. IsBefore (pair_key (t, n)) p.0) bs
       → AscendsByKey number_bytes fs → AscendsByKey number_bytes bs → AscendsByKey number_bytes (fs ++ e ∷ bs)

@@ -24,12 +24,12 @@ use Rattle.hex.proofs.HexLemmas.{decode_of-odd}
 use Rattle.std.specs.Prelude.{◌%◌}
 use Rattle.hex.specs.declared.error.FromHexError.{FromHexError}
 use Rattle.art_index.specs.declared.command.word.Word.{Word}
-use Rattle.art_index.specs.declared.command.word.Word.TheVariants.{LookUp, Change, Whole}
+use Rattle.art_index.specs.declared.command.word.Word.TheVariants.{LookUp, Change, Whole, Drop}
 use Rattle.art_index.specs.declared.command.word.LookUp.TheVariants as look_up
 use Rattle.art_index.specs.declared.command.word.Change.TheVariants as change
 use Rattle.art_index.specs.declared.command.word.Whole.TheVariants as whole
 use Rattle.art_index.specs.Commands.{Command, fields_of}
-use Rattle.art_index.specs.Reading.{natural_in, tenant_in, negated, number_in, bytes_in, some_bytes, nothing_in, put_in, over_in, del_in, get_in, find_in, list_in, span_in, nput_in, nget_in, ndel_in, nspan_in, dump_in, audit_in, command_in, command_of}
+use Rattle.art_index.specs.Reading.{natural_in, tenant_in, negated, number_in, bytes_in, some_bytes, nothing_in, put_in, over_in, del_in, get_in, find_in, list_in, span_in, nput_in, nget_in, ndel_in, nspan_in, drop_in, dump_in, audit_in, command_in, command_of}
 use Rattle.art_index.specs.Parsed.{word_in}
 use Rattle.art_index.specs.InPlace.{fields_behind, IsRead}
 
@@ -233,6 +233,7 @@ command_by (Change change.NPut) rest = nput_in rest
 command_by (Change change.NDel) rest = ndel_in rest
 command_by (LookUp look_up.NGet) rest = nget_in rest
 command_by (LookUp look_up.NSpan) rest = nspan_in rest
+command_by Drop rest = drop_in rest
 command_by (Whole whole.Dump) rest = dump_in rest
 command_by (Whole whole.Audit) rest = audit_in rest
 
@@ -260,8 +261,9 @@ by_word word rest =
     (by_choice rest (bytes_eq word (codes "nget")) (LookUp look_up.NGet) _ _
     (by_choice rest (bytes_eq word (codes "ndel")) (Change change.NDel) _ _
     (by_choice rest (bytes_eq word (codes "nspan")) (LookUp look_up.NSpan) _ _
+    (by_choice rest (bytes_eq word (codes "drop")) Drop _ _
     (by_choice rest (bytes_eq word (codes "dump")) (Whole whole.Dump) _ _
-    (by_choice rest (bytes_eq word (codes "audit")) (Whole whole.Audit) None None refl))))))))))))
+    (by_choice rest (bytes_eq word (codes "audit")) (Whole whole.Audit) None None refl)))))))))))))
 
 module _ (line word : List ℕ) (rest : List (List ℕ)) (short : length line ≤ 4096) (split : fields_of line ≡ word ∷ rest) where
   says : command_in (word ∷ rest) ≡ command_of line

@@ -1,16 +1,20 @@
 -- The reply to a command, from what the line spells.
-use Rattle.std.proofs.Common.{◌≡◌, ℕ, List, [], ◌∷◌, refl, ap, sym, subst, ◌∙◌, append-nil, Bool, true}
+use Rattle.std.proofs.Common.{◌≡◌, ℕ, ◌≤◌, List, [], ◌∷◌, refl, ap, sym, subst, ◌∙◌, append-nil, arith, Bool, true}
 use Rattle.std.proofs.lemmas.Bool.{false≢true}
 use Rattle.std.specs.Prelude.{Option, Some, None, flat_map, codes}
 use Rattle.art_index.specs.Words.{Word, line_of, name}
-use Rattle.art_index.specs.Commands.{put, Command, of_tenant}
+use Rattle.art_index.specs.Commands.{put, drop, Command, of_tenant}
 use Rattle.art_index.specs.Reading.{command_of}
 use Rattle.art_index.specs.Records.{Records}
 use Rattle.art_index.specs.Replies.{reply_to, records_after, command_reply, command_after}
 use Rattle.art_index.specs.Refusals.{MayRefuse}
 use Rattle.art_index.specs.Outcome.{answer, left_by}
 use Rattle.art_index.specs.Changed.{IsPutDone, IsChangeDone, placed_words, found_no_memory}
+use Rattle.art_index.specs.Counts.{visits_of, line_visits, IsWithin}
+use Rattle.art_index.specs.Dropped.{IsDropDone, dropped_words, was_refused, visits_told}
 use Rattle.art_index.specs.Told.{IsTold, told_words, tells_no_memory}
+use Rattle.art_index.specs.declared.dropped.Dropped.{Dropped}
+use Rattle.art_index.specs.declared.dropped.Dropped.TheVariants as dropped
 use Rattle.art_index.specs.declared.told.Told.{Told}
 use Rattle.art_index.specs.declared.told.Told.TheVariants as told
 use Rattle.art_index.specs.declared.placed.Placed.{Placed}
@@ -119,3 +123,37 @@ module _ (t : Told) (memory : Bool) (c : Command) (held old : Records) (line : L
 
   pub all_lawful : memory ≡ true → MayRefuse old c
   all_lawful m = subst (λ r. MayRefuse r c) same (told_may t c held h (sym found ∙ m))
+
+-- how the drop of a tenant went, what that leaves, and how many nodes it read and freed
+dropped_reply : (d : Dropped) (t : ℕ) (old new : Records) (line : List ℕ) → Some (of_tenant t drop) ≡ command_of line → IsDropDone d t old new → line_of (dropped_words d) ≡ answer (was_refused d) old line
+dropped_reply dropped.Memory t old new line e h = refl
+dropped_reply (dropped.Gone k n v) t old new line e h = told_once (dropped_words (dropped.Gone k n v)) (Some (of_tenant t drop)) old line e h.told
+
+dropped_after : (d : Dropped) (t : ℕ) (old new : Records) (line : List ℕ) → Some (of_tenant t drop) ≡ command_of line → IsDropDone d t old new → new ≡ left_by (was_refused d) old line
+dropped_after dropped.Memory t old new line e h = h.0
+dropped_after (dropped.Gone k n v) t old new line e h = h.left ∙ after_is (Some (of_tenant t drop)) old line e
+
+dropped_may : (d : Dropped) (t : ℕ) (old new : Records) → IsDropDone d t old new → was_refused d ≡ true → MayRefuse old (of_tenant t drop)
+dropped_may dropped.Memory t old new h m = h.1
+dropped_may (dropped.Gone k n v) t old new h m = absurd (false≢true m)
+
+dropped_counts : (d : Dropped) (t : ℕ) (old new : Records) (line : List ℕ) → Some (of_tenant t drop) ≡ command_of line → IsDropDone d t old new → IsWithin (line_visits (was_refused d) line old) (visits_told d)
+dropped_counts dropped.Memory t old new line e h = (omega arith, omega arith)
+dropped_counts (dropped.Gone k n v) t old new line e h = subst (λ o. IsWithin (visits_of o old) v) e h.counted
+
+module _ (d : Dropped) (memory : Bool) (t : ℕ) (held old new : Records) (line : List ℕ) (found : memory ≡ was_refused d) (same : held ≡ old)
+    (e : Some (of_tenant t drop) ≡ command_of line) (h : IsDropDone d t held new) where
+  pub drop_told : line_of (dropped_words d) ≡ answer memory old line
+  drop_told = dropped_reply d t held new line e h ∙ ap (λ b. answer b held line) (sym found) ∙ ap (λ r. answer memory r line) same
+
+  pub drop_left : new ≡ left_by memory old line
+  drop_left = dropped_after d t held new line e h ∙ ap (λ b. left_by b held line) (sym found) ∙ ap (λ r. left_by memory r line) same
+
+  pub drop_lawful : memory ≡ true → MayRefuse old (of_tenant t drop)
+  drop_lawful m = subst (λ r. MayRefuse r (of_tenant t drop)) same (dropped_may d t held new h (sym found ∙ m))
+
+  pub drop_reads : (n : ℕ) → n ≡ visits_told d → IsWithin (line_visits memory line old) n
+  drop_reads n is =
+      subst (λ r. IsWithin (line_visits memory line r) n) same
+      (subst (λ b. IsWithin (line_visits b line held) n) (sym found)
+      (subst (IsWithin (line_visits (was_refused d) line held)) (sym is) (dropped_counts d t held new line e h)))

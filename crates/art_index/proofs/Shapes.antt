@@ -4,17 +4,17 @@ use Rattle.std.specs.Prelude.{option_copied, option_map}
 use Rattle.std.specs.Borrow.{Bor}
 use Rattle.art_index.specs.declared.command.fields.Fields.{Fields}
 use Rattle.art_index.specs.declared.command.word.Word.{Word}
-use Rattle.art_index.specs.declared.command.word.Word.TheVariants.{LookUp, Change, Whole}
+use Rattle.art_index.specs.declared.command.word.Word.TheVariants.{LookUp, Change, Whole, Drop}
 use Rattle.art_index.specs.declared.command.word.LookUp.TheVariants as look_up
 use Rattle.art_index.specs.declared.command.word.Change.TheVariants as change
 use Rattle.art_index.specs.declared.command.word.Whole.TheVariants as whole
 use Rattle.art_index.specs.declared.command.word.Shape.{Shape}
-use Rattle.art_index.specs.declared.command.word.Shape.TheVariants.{Key, KeyAndValue, Number, NumberAndValue, TwoNumbers, Nothing}
-use Rattle.art_index.specs.Commands.{put, over, del, get, find, list, span, nput, nget, ndel, nspan, Command, of_tenant, dump, audit, fields_of}
-use Rattle.art_index.specs.Reading.{tenant_in, one_in, two_in, key_in, key_and_value_in, tenant_number_in, number_and_value_in, two_numbers_in, nothing_in, ◌>>=◌}
+use Rattle.art_index.specs.declared.command.word.Shape.TheVariants.{Key, KeyAndValue, Number, NumberAndValue, TwoNumbers, Tenant, Nothing}
+use Rattle.art_index.specs.Commands.{put, over, del, get, find, list, span, nput, nget, ndel, nspan, drop, Command, of_tenant, dump, audit, fields_of}
+use Rattle.art_index.specs.Reading.{tenant_in, one_in, two_in, key_in, key_and_value_in, tenant_number_in, number_and_value_in, two_numbers_in, tenant_alone_in, nothing_in, ◌>>=◌}
 use Rattle.art_index.specs.InPlace.{fields_behind, IsRead}
 use Rattle.art_index.specs.Parsed.{tenant_in_place, key_in_place, value_in_place, number_in_place, bound_in_place, shape_of, command_with}
-use Rattle.art_index.proofs.LastField.{ReadsOneField, one_or_more}
+use Rattle.art_index.proofs.LastField.{ReadsOneField, one_or_more, no_tenant}
 use Rattle.art_index.proofs.Parsing.{command_by}
 
 -- the parts of each shape, from those of its fields
@@ -123,6 +123,16 @@ module _ (r r1 : Option (Bor (List ℕ))) (x y : Bor (List ℕ)) (t : List ℕ) 
         go true true true (Some x) (Some y) (Some z) h e i f last = let one : m ≡ x = cc in let two : key ≡ y = cc in let three : v ≡ z = cc in rw (one, two, three) refl
         go true true false (Some x) (Some y) (Some z) h e i f last = cc
 
+-- a tenant alone may be all that stands behind the word
+pub alone_read : (r : Option (Bor (List ℕ))) (x : Bor (List ℕ)) → r ≡ Some x → (b : Bool) (n : ℕ) → IsRead b n (tenant_in x.now) → IsRead b n (tenant_alone_in (fields_behind (option_copied r)))
+alone_read r x is b n h = subst (IsRead b n) (alone_last x.now ∙ ap (λ o. tenant_alone_in (fields_behind (option_copied o))) (sym is)) h
+  where
+    alone_last : (t : List ℕ) → tenant_in t ≡ tenant_alone_in (fields_of t)
+    alone_last t = elim (one_or_more t) [
+      | inl one ↦ ap tenant_alone_in (sym one)
+      | inr more ↦ no_tenant t more.0 more.1 more.2 more.3 ∙ ap tenant_alone_in (sym more.3)
+    ]
+
 -- a command that is made of what is read
 made : {A : Type 0} (b : Bool) (x : A) (o : Option A) (make : A → Command) → IsRead b x o → IsRead b (make x) (option_map make o)
 made true x o make h = ap (option_map make) h
@@ -136,6 +146,7 @@ module _ (f : Fields) (b : Bool) (rest : List (List ℕ)) where
   IsShapeRead Number = IsRead b (tenant_in_place f, number_in_place f) (tenant_number_in rest)
   IsShapeRead NumberAndValue = IsRead b (tenant_in_place f, number_in_place f, value_in_place f) (number_and_value_in rest)
   IsShapeRead TwoNumbers = IsRead b (tenant_in_place f, number_in_place f, bound_in_place f) (two_numbers_in rest)
+  IsShapeRead Tenant = IsRead b (tenant_in_place f) (tenant_alone_in rest)
   IsShapeRead Nothing = IsRead b tt (nothing_in rest)
 
   by_shape : (w : Word) → IsShapeRead (shape_of w) → IsRead b (command_with w f) (command_by w rest)
@@ -150,6 +161,7 @@ module _ (f : Fields) (b : Bool) (rest : List (List ℕ)) where
   by_shape (LookUp look_up.NSpan) h = made b (tenant_in_place f, number_in_place f, bound_in_place f) (two_numbers_in rest) (λ p. of_tenant p.0 (nspan p.1 p.2)) h
   by_shape (Change change.NPut) h = made b (tenant_in_place f, number_in_place f, value_in_place f) (number_and_value_in rest) (λ p. of_tenant p.0 (nput p.1 p.2)) h
   by_shape (Change change.NDel) h = made b (tenant_in_place f, number_in_place f) (tenant_number_in rest) (λ p. of_tenant p.0 (ndel p.1)) h
+  by_shape Drop h = made b (tenant_in_place f) (tenant_alone_in rest) (λ t. of_tenant t drop) h
   by_shape (Whole whole.Dump) h = made b tt (nothing_in rest) (λ p. dump) h
   by_shape (Whole whole.Audit) h = made b tt (nothing_in rest) (λ p. audit) h
 

@@ -1,5 +1,5 @@
 -- What spells a command is read as that command, and the other way.
-use Rattle.std.proofs.Common.{◌≡◌, ℕ, zero, suc, ℤ, pos, negsuc, ◌+◌, ◌^◌, ◌<◌, List, [], ◌∷◌, length, drop, get_or, refl, ap, sym, ◌∙◌, subst, Bool, true, false, cond, arith, Some, None, Option, Ok, Err}
+use Rattle.std.proofs.Common.{◌≡◌, ℕ, zero, suc, ℤ, pos, negsuc, ◌+◌, ◌^◌, ◌<◌, List, [], ◌∷◌, length, drop as drop_first, get_or, refl, ap, sym, ◌∙◌, subst, Bool, true, false, cond, arith, Some, None, Option, Ok, Err}
 use Rattle.std.specs.Prelude.{◌==◌, ◌↔◌, decimal, codes, nat_le, Result, option_map, option_and_then}
 use Rattle.hex.specs.declared.error.FromHexError.{FromHexError}
 use Rattle.std.specs.Str.{bytes_eq}
@@ -9,11 +9,11 @@ use Rattle.std.proofs.lemmas.Fmt.{decimal_is_IsNumeral, decimal_nonempty}
 use Rattle.std.proofs.lemmas.Str.Parse.{digit_at}
 use Rattle.hex.specs.Hex.{decode_of, decode_pairs}
 use Rattle.art_index.specs.Words.{Word, name, natural, signed, bytes, Reads}
-use Rattle.art_index.specs.Commands.{put, over, del, get, find, list, span, nput, nget, ndel, nspan, Command, of_tenant, dump, audit, words_of, AllRead, fields_of, Spells}
+use Rattle.art_index.specs.Commands.{put, over, del, get, find, list, span, nput, nget, ndel, nspan, drop, Command, of_tenant, dump, audit, words_of, AllRead, fields_of, Spells}
 use Rattle.art_index.proofs.Parsing.{natural_is, natural_reads}
 use Rattle.art_index.proofs.Shapes.{one_from, two_from}
-use Rattle.art_index.specs.Reading.{natural_in, tenant_in, negated, number_in, bytes_in, some_bytes, one_in, two_in, key_in, key_and_value_in, tenant_number_in, number_and_value_in, two_numbers_in, nothing_in}
-use Rattle.art_index.specs.Reading.{put_in, over_in, del_in, get_in, find_in, list_in, span_in, nput_in, nget_in, ndel_in, nspan_in, dump_in, audit_in, command_in, command_of}
+use Rattle.art_index.specs.Reading.{natural_in, tenant_in, negated, number_in, bytes_in, some_bytes, one_in, two_in, key_in, key_and_value_in, tenant_number_in, number_and_value_in, two_numbers_in, tenant_alone_in, nothing_in}
+use Rattle.art_index.specs.Reading.{put_in, over_in, del_in, get_in, find_in, list_in, span_in, nput_in, nget_in, ndel_in, nspan_in, drop_in, dump_in, audit_in, command_in, command_of}
 
 tenant_reads : (text : List ℕ) (n : ℕ) → Reads text (natural n) → tenant_in text ≡ Some n
 unfolding tenant_in
@@ -38,7 +38,7 @@ number_reads (b ∷ rest) (pos n) h =
     rw (no_minus b rest n (omega arith) h.0, natural_reads (2 ^ 63) (b ∷ rest) n (omega arith) h.0 fits) refl
 number_reads (b ∷ rest) (negsuc n) h =
     let fits : n < 2 ^ 63 = h.1.sfits in
-    let first : b ≡ 45 = ap (λ t. get_or t 0 0) h.0 in let others : rest ≡ decimal (suc n) = ap (drop 1) h.0 in
+    let first : b ≡ 45 = ap (λ t. get_or t 0 0) h.0 in let others : rest ≡ decimal (suc n) = ap (drop_first 1) h.0 in
     rw (eq-eqb b 45 first, natural_reads (2 ^ 63 + 1) rest (suc n) (omega arith) others (omega arith)) refl
 
 bytes_reads : (text : List ℕ) (bs : List ℕ) → Reads text (bytes bs) → bytes_in text ≡ Some bs
@@ -87,6 +87,11 @@ number_and_value_reads = two_reads number_in of_number number_reads bytes_in of_
 two_numbers_reads : (fields : List (List ℕ)) (n : ℕ) (low high : ℤ) → AllRead fields (natural n ∷ signed low ∷ signed high ∷ []) → two_numbers_in fields ≡ Some (n, low, high)
 two_numbers_reads = two_reads number_in of_number number_reads number_in of_number number_reads
 
+tenant_alone_reads : (fields : List (List ℕ)) (n : ℕ) → AllRead fields (natural n ∷ []) → tenant_alone_in fields ≡ Some n
+tenant_alone_reads [] n h = absurd h
+tenant_alone_reads (t ∷ []) n h = tenant_reads t n h.0
+tenant_alone_reads (t ∷ f ∷ fs) n h = absurd h.1
+
 nothing_reads : (fields : List (List ℕ)) → AllRead fields [] → nothing_in fields ≡ Some tt
 nothing_reads [] h = refl
 nothing_reads (f ∷ fs) h = absurd h
@@ -103,6 +108,7 @@ all_read [] (of_tenant n (nput number value)) h = absurd h
 all_read [] (of_tenant n (nget number)) h = absurd h
 all_read [] (of_tenant n (ndel number)) h = absurd h
 all_read [] (of_tenant n (nspan low high)) h = absurd h
+all_read [] (of_tenant n drop) h = absurd h
 all_read [] dump h = absurd h
 all_read [] audit h = absurd h
 all_read (w ∷ fs) (of_tenant n (put key value)) h = rw (h.0, key_and_value_reads fs n key value h.1) refl
@@ -116,6 +122,7 @@ all_read (w ∷ fs) (of_tenant n (nput number value)) h = rw (h.0, number_and_va
 all_read (w ∷ fs) (of_tenant n (nget number)) h = rw (h.0, tenant_number_reads fs n number h.1) refl
 all_read (w ∷ fs) (of_tenant n (ndel number)) h = rw (h.0, tenant_number_reads fs n number h.1) refl
 all_read (w ∷ fs) (of_tenant n (nspan low high)) h = rw (h.0, two_numbers_reads fs n low high h.1) refl
+all_read (w ∷ fs) (of_tenant n drop) h = rw (h.0, tenant_alone_reads fs n h.1) refl
 all_read (w ∷ fs) dump h = rw (h.0, nothing_reads fs h.1) refl
 all_read (w ∷ fs) audit h = rw (h.0, nothing_reads fs h.1) refl
 
@@ -200,6 +207,11 @@ module _ {A : Type 0} (read : List ℕ → Option A) (word : A → Word) (spelle
             subst (λ (f : ℕ × A × B). AllRead (t ∷ k ∷ v ∷ []) (natural f.0 ∷ word f.1 ∷ then_word f.2 ∷ [])) is
             (tenant_spelled t n p, (spelled k key q, (then_spelled v value r, tt)))
 
+alone_spelled : (fields : List (List ℕ)) (n : ℕ) → tenant_alone_in fields ≡ Some n → AllRead fields (natural n ∷ [])
+alone_spelled [] n h = cc
+alone_spelled (t ∷ []) n h = (tenant_spelled t n h, tt)
+alone_spelled (t ∷ f ∷ fs) n h = cc
+
 nothing_spelled : (fields : List (List ℕ)) → nothing_in fields ≡ Some tt → AllRead fields []
 nothing_spelled [] h = tt
 nothing_spelled (x ∷ xs) h = cc
@@ -238,6 +250,9 @@ module _ (rest : List (List ℕ)) where
       → (c : Command) → option_map make (tenant_number_in rest) ≡ Some c → AllRead (text ∷ rest) (words_of c)
   number_word = one_word number_in of_number number_spelled
 
+  drop_word : (c : Command) → drop_in rest ≡ Some c → AllRead (codes "drop" ∷ rest) (words_of c)
+  drop_word = word_spelled (tenant_alone_in rest) (λ n. of_tenant n drop) (codes "drop") rest (λ n e. (refl, alone_spelled rest n e))
+
   dump_word : (c : Command) → dump_in rest ≡ Some c → AllRead (codes "dump" ∷ rest) (words_of c)
   dump_word = word_spelled (nothing_in rest) (λ f. dump) (codes "dump") rest (λ f e. (refl, nothing_spelled rest e))
 
@@ -269,8 +284,9 @@ module _ (rest : List (List ℕ)) where
         (or_word (codes "ndel") (ndel_in rest) _ (number_word (codes "ndel") (λ f. of_tenant f.0 (ndel f.1)) (λ f. refl) c)
         (or_word (codes "nspan") (nspan_in rest) _
         (two_words number_in of_number number_spelled number_in of_number number_spelled (codes "nspan") (λ f. of_tenant f.0 (nspan f.1 f.2)) (λ f. refl) c)
+        (or_word (codes "drop") (drop_in rest) _ (drop_word c)
         (or_word (codes "dump") (dump_in rest) _ (dump_word c)
-        (or_word (codes "audit") (audit_in rest) None (audit_word c) (λ e. cc)))))))))))))
+        (or_word (codes "audit") (audit_in rest) None (audit_word c) (λ e. cc))))))))))))))
 
 all_spelled : (fields : List (List ℕ)) (c : Command) → command_in fields ≡ Some c → AllRead fields (words_of c)
 all_spelled [] c h = cc

@@ -16,6 +16,7 @@ pub data Request : Type 0 where
   nget : ℤ → Request
   ndel : ℤ → Request
   nspan : ℤ → ℤ → Request
+  drop : Request
 
 -- what a line asks for: something of one tenant's records, or of all
 pub data Command : Type 0 where
@@ -44,6 +45,7 @@ request_words tenant (nput number value) = nput_words tenant number value
 request_words tenant (nget number) = name (codes "nget") ∷ natural tenant ∷ signed number ∷ []
 request_words tenant (ndel number) = name (codes "ndel") ∷ natural tenant ∷ signed number ∷ []
 request_words tenant (nspan low high) = name (codes "nspan") ∷ natural tenant ∷ signed low ∷ signed high ∷ []
+request_words tenant drop = name (codes "drop") ∷ natural tenant ∷ []
 
 -- the words of a command
 abbrev pub words_of : Command → List Word

@@ -7,12 +7,12 @@ use Rattle.art_bytes.specs.Keys.{common_prefix, is_below}
 use Rattle.art_arena.specs.tree.Fronts.{distinct}
 use Rattle.art_arena.specs.tree.TreeOf.{tree_of}
 use Rattle.art_walks.specs.MapReads.{path_length}
-use Rattle.art_index.specs.Commands.{Request, put, over, del, get, find, list, span, nput, nget, ndel, nspan}
+use Rattle.art_index.specs.Commands.{Request, put, over, del, get, find, list, span, nput, nget, ndel, nspan, drop}
 use Rattle.art_index.specs.Commands.{Command, of_tenant, dump, audit}
 use Rattle.art_bytes.specs.Laws.{pair_key}
 use Rattle.art_index.specs.Keys.{full_key, full_key_of, number_key_of}
 use Rattle.art_index.specs.Reading.{command_of}
-use Rattle.art_index.specs.Records.{Records, own}
+use Rattle.art_index.specs.Records.{Own, Records, own}
 use Rattle.art_index.specs.Replies.{value_at, front_at, behind_front, pairs_from_to, value_at_number, numbers_from_to}
 
 -- At least so many nodes are read, and at most so many.
@@ -48,7 +48,16 @@ span_visits tenant low high records =
     listing (length (pairs_from_to low high (own tenant records).keys))
     (opening (max (length low) (length high)) (longest full_key_of records.keys))
 
--- What a tenant's request reads: the path of its full key, or what a listing reads; a change reads nothing that counts.
+-- What dropping what a tenant holds reads and frees: a leaf for each record at least (the greatest count stays), and at
+-- most twice as many nodes and what is read to find the first and the last in each of both trees.
+abbrev pub dropping : Own → Records → Visits
+dropping mine records =
+    let n : ℕ = length mine.keys + length mine.numbers in
+    let L : ℕ = max (longest full_key_of records.keys) (longest number_key_of records.numbers) in
+    record { least = min n (2 ^ 64 - 1); most = 20 * (L + 2) + 2 * n }
+
+-- What a tenant's request reads: the path of its full key, or what a listing reads; a change reads nothing that counts,
+-- save a drop.
 abbrev pub request_visits : ℕ → Request → Records → Visits
 request_visits tenant (get key) records = exactly (path_nodes full_key_of records.keys (full_key tenant key))
 request_visits tenant (find key) records = exactly (path_nodes full_key_of records.keys (full_key tenant key))
@@ -67,6 +76,7 @@ request_visits tenant (over key value) records = exactly 0
 request_visits tenant (del key) records = exactly 0
 request_visits tenant (nput number value) records = exactly 0
 request_visits tenant (ndel number) records = exactly 0
+request_visits tenant drop records = dropping (own tenant records) records
 
 abbrev pub visits_of : Option Command → Records → Visits
 visits_of None records = exactly 0

@@ -16,6 +16,7 @@ pub mod Parsed
 pub mod Stored
 pub mod Changed
 pub mod Told
+pub mod Dropped
 pub mod Progress
 pub mod Gathered
 pub mod Digits

@@ -4,10 +4,10 @@ use Rattle.std.specs.Int.{from_be_bytes, w32}
 use Rattle.std.specs.Str.{bytes_eq}
 use Rattle.art_index.specs.declared.command.Command.{Command}
 use Rattle.art_index.specs.declared.command.Command.TheVariants.{Put, Over, Del, Get, Find, List as ListOf, Span}
-use Rattle.art_index.specs.declared.command.Command.TheVariants.{NPut, NGet, NDel, NSpan, Dump, Audit}
+use Rattle.art_index.specs.declared.command.Command.TheVariants.{NPut, NGet, NDel, NSpan, Drop as DropOf, Dump, Audit}
 use Rattle.art_index.specs.declared.command.fields.Fields.{Fields}
 use Rattle.art_index.specs.declared.command.word.Word.{Word}
-use Rattle.art_index.specs.declared.command.word.Word.TheVariants.{LookUp, Change, Whole}
+use Rattle.art_index.specs.declared.command.word.Word.TheVariants.{LookUp, Change, Whole, Drop}
 use Rattle.art_index.specs.declared.command.word.LookUp.{LookUp as LookUpWord}
 use Rattle.art_index.specs.declared.command.word.Change.{Change as ChangeWord}
 use Rattle.art_index.specs.declared.command.word.Whole.{Whole as WholeWord}
@@ -16,7 +16,7 @@ use Rattle.art_index.specs.declared.command.word.Change.TheVariants as change
 use Rattle.art_index.specs.declared.command.word.Whole.TheVariants as whole
 use Rattle.art_index.specs.declared.command.word.Shape.{Shape}
 use Rattle.art_index.specs.declared.command.word.Shape.TheVariants.{Key, KeyAndValue, Number, NumberAndValue}
-use Rattle.art_index.specs.declared.command.word.Shape.TheVariants.{TwoNumbers, Nothing}
+use Rattle.art_index.specs.declared.command.word.Shape.TheVariants.{TwoNumbers, Tenant, Nothing}
 use Rattle.art_index.specs.Commands as said
 
 abbrev pub meaning : Command → said.Command
@@ -31,6 +31,7 @@ meaning (NPut tenant number value) = said.of_tenant tenant (said.nput number val
 meaning (NGet tenant number) = said.of_tenant tenant (said.nget number)
 meaning (NDel tenant number) = said.of_tenant tenant (said.ndel number)
 meaning (NSpan tenant low high) = said.of_tenant tenant (said.nspan low high)
+meaning (DropOf tenant) = said.of_tenant tenant said.drop
 meaning Dump = said.dump
 meaning Audit = said.audit
 
@@ -65,6 +66,7 @@ word_in field =
     else if bytes_eq field (codes "nget") then Some (LookUp look_up.NGet)
     else if bytes_eq field (codes "ndel") then Some (Change change.NDel)
     else if bytes_eq field (codes "nspan") then Some (LookUp look_up.NSpan)
+    else if bytes_eq field (codes "drop") then Some Drop
     else if bytes_eq field (codes "dump") then Some (Whole whole.Dump)
     else if bytes_eq field (codes "audit") then Some (Whole whole.Audit)
     else None
@@ -82,6 +84,7 @@ shape_of (Change change.Over) = KeyAndValue
 shape_of (Change change.Del) = Key
 shape_of (Change change.NPut) = NumberAndValue
 shape_of (Change change.NDel) = Number
+shape_of Drop = Tenant
 shape_of (Whole whole.Dump) = Nothing
 shape_of (Whole whole.Audit) = Nothing
 
@@ -101,6 +104,9 @@ changes change.Del f = said.of_tenant (tenant_in_place f) (said.del (key_in_plac
 changes change.NPut f = said.of_tenant (tenant_in_place f) (said.nput (number_in_place f) (value_in_place f))
 changes change.NDel f = said.of_tenant (tenant_in_place f) (said.ndel (number_in_place f))
 
+abbrev pub drops : Fields → said.Command
+drops f = said.of_tenant (tenant_in_place f) said.drop
+
 abbrev pub asks_all : WholeWord → said.Command
 asks_all whole.Dump = said.dump
 asks_all whole.Audit = said.audit
@@ -109,3 +115,4 @@ abbrev pub command_with : Word → Fields → said.Command
 command_with (LookUp w) f = looks_up w f
 command_with (Change w) f = changes w f
 command_with (Whole w) f = asks_all w
+command_with Drop f = drops f

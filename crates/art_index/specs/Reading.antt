@@ -7,7 +7,7 @@ use Rattle.std.specs.Str.{bytes_eq}
 use Rattle.std.specs.Str.Parse.{digits_value}
 use Rattle.hex.specs.Hex.{decode_of}
 use Rattle.hex.specs.declared.error.FromHexError.{FromHexError}
-use Rattle.art_index.specs.Commands.{put, over, del, get, find, list, span, nput, nget, ndel, nspan}
+use Rattle.art_index.specs.Commands.{put, over, del, get, find, list, span, nput, nget, ndel, nspan, drop}
 use Rattle.art_index.specs.Commands.{Command, of_tenant, dump, audit, fields_of}
 
 infixl 10 ◌>>=◌
@@ -82,6 +82,11 @@ number_and_value_in fields = two_in number_in bytes_in fields
 abbrev pub two_numbers_in : List (List ℕ) → Option (ℕ × ℤ × ℤ)
 two_numbers_in fields = two_in number_in number_in fields
 
+-- a tenant alone
+abbrev pub tenant_alone_in : List (List ℕ) → Option ℕ
+tenant_alone_in (t ∷ []) = tenant_in t
+tenant_alone_in other = None
+
 -- nothing
 abbrev pub nothing_in : List (List ℕ) → Option (Unit {0})
 nothing_in [] = Some tt
@@ -121,6 +126,9 @@ ndel_in fields = option_map (λ f. of_tenant f.0 (ndel f.1)) (tenant_number_in f
 abbrev pub nspan_in : List (List ℕ) → Option Command
 nspan_in fields = option_map (λ f. of_tenant f.0 (nspan f.1 f.2)) (two_numbers_in fields)
 
+abbrev pub drop_in : List (List ℕ) → Option Command
+drop_in fields = option_map (λ tenant. of_tenant tenant drop) (tenant_alone_in fields)
+
 abbrev pub dump_in : List (List ℕ) → Option Command
 dump_in fields = option_map (λ f. dump) (nothing_in fields)
 
@@ -142,6 +150,7 @@ command_in (word ∷ rest) =
     else if bytes_eq word (codes "nget") then nget_in rest
     else if bytes_eq word (codes "ndel") then ndel_in rest
     else if bytes_eq word (codes "nspan") then nspan_in rest
+    else if bytes_eq word (codes "drop") then drop_in rest
     else if bytes_eq word (codes "dump") then dump_in rest
     else if bytes_eq word (codes "audit") then audit_in rest
     else None

@@ -1,8 +1,9 @@
 -- Which lines may find no memory.
-use Rattle.std.specs.Prelude.{ℕ, List, IsSome}
+use Rattle.std.specs.Prelude.{◌≢◌, ◌⊎◌, ℕ, List, [], IsSome}
 use Rattle.art_arena.specs.tree.Shrinks.{Shrinks}
 use Rattle.art_bytes.specs.Laws.{pair_key}
-use Rattle.art_index.specs.Commands.{put, over, del, get, find, list, span, nput, nget, ndel, nspan}
+use Rattle.art_operations.specs.Subtrees.{ShrinksWithout}
+use Rattle.art_index.specs.Commands.{put, over, del, get, find, list, span, nput, nget, ndel, nspan, drop}
 use Rattle.art_index.specs.Commands.{Command, of_tenant, dump, audit, Spells}
 use Rattle.art_index.specs.Keys.{full_key, full_key_of, number_key_of}
 use Rattle.art_index.specs.Records.{Records, own}
@@ -10,7 +11,8 @@ use Rattle.art_index.specs.Replies.{value_at, value_at_number}
 
 -- A command may find no memory at these records: a put and an audit may, and the deletion of a key or a number that is
 -- there where the longest front that its full key shares with another one is followed by as many different bytes as a
--- node's kind has least.
+-- node's kind has least. So may a drop where the tenant has keys, or numbers, and that is so of the longest front that
+-- their full keys share with those of other tenants.
 abbrev pub MayRefuse : Records → Command → Type 0
 MayRefuse records (of_tenant tenant (put key value)) = Unit {0}
 MayRefuse records (of_tenant tenant (over key value)) = Unit {0}
@@ -26,6 +28,9 @@ MayRefuse records (of_tenant tenant (ndel number)) =
     × Shrinks number_key_of records.numbers (pair_key (tenant, number))
 MayRefuse records (of_tenant tenant (nget number)) = ⊥
 MayRefuse records (of_tenant tenant (nspan low high)) = ⊥
+MayRefuse records (of_tenant tenant drop) =
+    (((own tenant records).keys ≢ []) × ShrinksWithout full_key_of records.keys (full_key tenant []))
+    ⊎ (((own tenant records).numbers ≢ []) × ShrinksWithout number_key_of records.numbers (full_key tenant []))
 MayRefuse records dump = ⊥
 MayRefuse records audit = Unit {0}
 

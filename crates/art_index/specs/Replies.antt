@@ -6,7 +6,7 @@ use Rattle.std.specs.Str.{bytes_eq}
 use Rattle.std.specs.Ordering.{int_eq}
 use Rattle.art_index.specs.Words.{Word, name, natural, signed, bytes, line_of}
 use Rattle.art_index.specs.Commands.{Request, put, over, del, get, find as find_front, list, span}
-use Rattle.art_index.specs.Commands.{nput, nget, ndel, nspan}
+use Rattle.art_index.specs.Commands.{nput, nget, ndel, nspan, drop}
 use Rattle.art_index.specs.Commands.{Command, of_tenant, dump, audit, put_words, nput_words}
 use Rattle.art_index.specs.Reading.{command_of}
 use Rattle.art_bytes.specs.Keys.{is_below, conflicts}
@@ -126,6 +126,7 @@ own_reply (ndel number) mine = found_or (value_at_number number mine.numbers) (c
 own_reply (nspan low high) mine =
     if int_lt high low then (name (codes "bounds") ∷ []) ∷ []
     else numbers_listed (numbers_from_to low high mine.numbers)
+own_reply drop mine = (name (codes "dropped") ∷ natural (length mine.keys + length mine.numbers) ∷ []) ∷ []
 
 -- what the tenant holds after its request, where the request changes that
 abbrev pub own_after : Request → Own → Option Own
@@ -143,6 +144,7 @@ own_after (nput number value) mine = Some (record { keys = mine.keys; numbers = 
 own_after (nget number) mine = None
 own_after (ndel number) mine = Some (record { keys = mine.keys; numbers = without_number number mine.numbers })
 own_after (nspan low high) mine = None
+own_after drop mine = Some (record { keys = []; numbers = [] })
 
 -- the lines that would make the records under keys, and those under numbers
 abbrev pub key_lines : Records → List (List Word)

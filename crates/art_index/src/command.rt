@@ -14,7 +14,8 @@ pub(crate) mod word;
 use arrayvec::ArrayVec;
 use fields::{FIELD, Fields};
 use shapes::{
-    read_key, read_key_and_value, read_number, read_number_and_value, read_two_numbers, split_field,
+    read_key, read_key_and_value, read_number, read_number_and_value, read_tenant_alone,
+    read_two_numbers, split_field,
 };
 use word::{Change, LookUp, Shape, Whole, Word, word_of};
 
@@ -84,6 +85,10 @@ pub enum Command {
         low: i64,
         high: i64,
     },
+    /// `drop t`: removes all records of a tenant.
+    Drop {
+        tenant: u32,
+    },
     /// `dump`: asks for all records.
     Dump,
     /// `audit`: asks how many nodes of each kind the trees of all records have.
@@ -111,6 +116,9 @@ fn command_of_fields(word: Word, fields: &Fields) -> Command
         Word::Change(word) => change_of_fields(word, fields),
         Word::Whole(Whole::Dump) => Command::Dump,
         Word::Whole(Whole::Audit) => Command::Audit,
+        Word::Drop => Command::Drop {
+            tenant: fields.tenant(),
+        },
     }
 }
 
@@ -197,6 +205,7 @@ pub(crate) fn read_line(line: &[u8], fields: &mut Fields) -> Option<Word>
         Shape::Number => read_number(rest, fields),
         Shape::NumberAndValue => read_number_and_value(rest, fields),
         Shape::TwoNumbers => read_two_numbers(rest, fields),
+        Shape::Tenant => read_tenant_alone(rest, fields),
         Shape::Nothing => rest.is_none(),
     };
     if !is_read {

@@ -17,6 +17,7 @@ use crate::look::look;
 use crate::records::write_placed;
 use crate::reply::write_piece;
 use crate::stream::{Sink, WriteFailed};
+use crate::tenants::{drop_tenant, write_dropped};
 use art_map::TreeMap;
 use std::alloc::Global;
 use std::marker::Model;
@@ -49,7 +50,8 @@ impl From<WriteFailed> for RunFault {
 pub struct Handled {
     /// Whether the reply was `memory`.
     pub memory: bool,
-    /// The number of nodes read by a look-up, and 0 for every other line.
+    /// The number of nodes read by a look-up, or read and freed by a drop. It is 0 for every other line, and for one
+    /// whose reply was `memory`.
     pub visits: u64,
 }
 
@@ -154,7 +156,8 @@ impl<const PREFIX_LEN: usize> Index<PREFIX_LEN> {
         ensures left { IfOk result (λ done. self.new.records ≡ left_by done.memory self.old.records line.now) }
         ensures lawful { IfOk result (λ done. done.memory ≡ true → LineMayRefuse self.old.records line.now) }
 
-        // A look-up reads so many nodes, told by the records alone; each other line reads none. They are counted.
+        // A look-up reads so many nodes, and a drop reads and frees so many, told by the records alone; each other line
+        // reads none, nor does one that found no memory. They are counted.
         ensures visits { IfOk result (λ done.
             IsWithin (line_visits done.memory line.now self.old.records) done.visits) }
         ensures short { IfOk result (λ done. IsShort (command_of line.now) done.visits) }
@@ -201,6 +204,12 @@ impl<const PREFIX_LEN: usize> Index<PREFIX_LEN> {
                 );
                 memory = done.is_memory();
                 write_placed(sink, &done)?;
+            }
+            Some(Word::Drop) => {
+                let dropped = drop_tenant(&mut self.records, &mut self.numbers, &self.fields);
+                memory = dropped.is_memory();
+                visits = dropped.visits();
+                write_dropped(sink, dropped)?;
             }
             Some(Word::Whole(word)) => {
                 let told = ask_all(&self.records, &self.numbers, word);

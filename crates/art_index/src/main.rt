@@ -14,6 +14,7 @@ mod audit;
 mod buffered;
 mod carry;
 mod command;
+mod dropped;
 mod from_reader;
 mod gather;
 mod history;
@@ -30,6 +31,7 @@ mod reply;
 mod room;
 mod running;
 mod stream;
+mod tenants;
 #[cfg(test)]
 mod tests;
 mod to_writer;

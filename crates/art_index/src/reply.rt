@@ -1,5 +1,5 @@
 //! Replies, written to a sink.
-ghost use Rattle.std.specs.Prelude.{◌≡◌, ◌+◌, ◌<◌, ◌≤◌, ◌∷◌, [], length, false, codes, decimal, option_map};
+ghost use Rattle.std.specs.Prelude.{◌≡◌, ◌+◌, ◌<◌, ◌≤◌, ◌∷◌, ◌++◌, [], length, false, codes, decimal, option_map};
 ghost use Rattle.std.specs.Prelude.{Some, IfSome};
 ghost use Rattle.hex.specs.Hex.{encode_lower};
 ghost use Rattle.art_index.specs.Words.{shown, line_of, name, natural, bytes};
@@ -135,6 +135,23 @@ pub(crate) fn write_end<W: Sink>(sink: &mut W, count: usize) -> Result<(), Write
     write_piece(sink, b"\n")
 }
 
+/// A word and a space, the number of so many records under keys and so many under numbers, and a newline.
+pub(crate) fn write_sum<W: Sink>(
+    sink: &mut W,
+    word: &[u8],
+    keys: usize,
+    numbers: usize,
+) -> Result<(), WriteFailed>
+    requires { W.has_failed sink.old ≡ false }
+    ensures { Writes result (W.taken sink.old) (W.taken sink.new)
+        (word.now ++ (decimal (keys + numbers) ++ 10 ∷ []))
+        (W.has_failed sink.new) }
+{
+    write_piece(sink, word)?;
+    write_wide(sink, keys as u128 + numbers as u128)?;
+    write_piece(sink, b"\n")
+}
+
 /// The line that ends a dump of so many records under keys and so many under numbers.
 pub(crate) fn write_total<W: Sink>(
     sink: &mut W,
@@ -146,9 +163,7 @@ pub(crate) fn write_total<W: Sink>(
         (line_of (end_words (keys + numbers)))
         (W.has_failed sink.new) }
 {
-    write_piece(sink, b"end ")?;
-    write_wide(sink, keys as u128 + numbers as u128)?;
-    write_piece(sink, b"\n")
+    write_sum(sink, b"end ", keys, numbers)
 }
 
 /// The line that tells in the place of how many a value was put.

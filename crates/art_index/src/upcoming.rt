@@ -172,6 +172,7 @@ fn aim_of(word: Word) -> Option<(Aim, bool)> {
         Word::Change(Change::NDel) => Some((Aim::Beside, true)),
         Word::Change(_) => None,
         Word::Whole(_) => None,
+        Word::Drop => None,
     }
 }
 

@@ -4,7 +4,7 @@
 ghost use Rattle.std.specs.Prelude.{◌≡◌, ◌+◌, ◌≤◌, ◌∷◌, length, IfSome, IfNone, option_copied};
 ghost use Rattle.art_index.specs.Commands.{fields_of};
 ghost use Rattle.art_index.specs.Reading.{key_in, key_and_value_in, tenant_number_in, number_and_value_in};
-ghost use Rattle.art_index.specs.Reading.{two_numbers_in};
+ghost use Rattle.art_index.specs.Reading.{two_numbers_in, tenant_alone_in};
 ghost use Rattle.art_index.specs.InPlace.{fields_behind, IsRead};
 ghost use Rattle.art_index.specs.Parsed.{tenant_in_place, key_in_place, value_in_place};
 ghost use Rattle.art_index.specs.Parsed.{number_in_place, bound_in_place};
@@ -125,6 +125,17 @@ pub(crate) fn read_two_numbers(rest: Option<&[u8]>, fields: &mut Fields) -> bool
         return false;
     }
     fields.read_bound(high)
+}
+
+/// Reads a tenant alone. It is not looked through for a space, which is no digit.
+pub(crate) fn read_tenant_alone(rest: Option<&[u8]>, fields: &mut Fields) -> bool
+    ensures { IsRead result (tenant_in_place fields.new)
+        (tenant_alone_in (fields_behind (option_copied rest.entry))) }
+{
+    let Some(tenant) = rest else {
+        return false;
+    };
+    fields.read_tenant(tenant)
 }
 
 /// The field before the first space, and what stands behind that space.

@@ -52,6 +52,8 @@ pub(crate) enum Word {
     LookUp(LookUp),
     Change(Change),
     Whole(Whole),
+    /// `drop t`: it removes all of a tenant's records.
+    Drop,
 }
 
 /// What stands behind a word. `shapes` has a reader in place for each.
@@ -67,6 +69,8 @@ pub(crate) enum Shape {
     NumberAndValue,
     /// A tenant and two numbers: `nspan`.
     TwoNumbers,
+    /// A tenant alone: `drop`.
+    Tenant,
     /// Nothing: `dump`, `audit`.
     Nothing,
 }
@@ -90,6 +94,7 @@ impl Word {
             Word::Change(Change::NDel) => Shape::Number,
             Word::Whole(Whole::Dump) => Shape::Nothing,
             Word::Whole(Whole::Audit) => Shape::Nothing,
+            Word::Drop => Shape::Tenant,
         }
     }
 }
@@ -130,6 +135,9 @@ pub(crate) fn word_of(field: &[u8]) -> Option<Word>
     }
     if field == b"nspan".as_slice() {
         return Some(Word::LookUp(LookUp::NSpan));
+    }
+    if field == b"drop".as_slice() {
+        return Some(Word::Drop);
     }
     if field == b"dump".as_slice() {
         return Some(Word::Whole(Whole::Dump));

@@ -17,7 +17,7 @@ const FAR_APART: &[u8] = b"put 256 00 61\nput 1 00 62\nnput 1 -5 61\nput 2 AB 4A
 
 const NUMBERS: &[u8] = b"nput 5 -1 61\nnput 5 256 62\nnput 5 -300 63\nnput 6 0 64\n";
 
-const ROWS: [Row; 17] = [
+const ROWS: [Row; 22] = [
     (NOTHING, b"get 1 aa", b"none\n", 0, 0),
     (NOTHING, b"list 1 -", b"end 0\n", 0, 0),
     (NOTHING, b"nget 1 5", b"none\n", 0, 0),
@@ -47,6 +47,11 @@ const ROWS: [Row; 17] = [
         2,
         2 + 392,
     ),
+    (NOTHING, b"drop 1", b"dropped 0\n", 0, 0),
+    (TWO_TENANTS, b"drop 1", b"dropped 2\n", 3, 144),
+    (TWO_TENANTS, b"drop 3", b"dropped 0\n", 0, 140),
+    (FAR_APART, b"drop 1", b"dropped 2\n", 2, 284),
+    (NUMBERS, b"drop 5", b"dropped 3\n", 5, 286),
 ];
 
 /// Checks what a line writes and how many nodes it reads.

@@ -173,3 +173,93 @@ fn answers_lines_over_numbers(rt: HostRuntime) {
         is_answered_by_all(&rt, rt.alloc(), text, wanted);
     }
 }
+
+#[test]
+fn answers_drops_of_tenants(rt: HostRuntime) {
+    let rows: [(&[u8], &[u8]); 12] = [
+        (
+            b"put 1 0a 61\nput 1 0b 62\nput 2 0a 63\nnput 1 5 64\ndrop 1\nlist 1 -\nnget 1 5\ndump\n",
+            b"new\nnew\nnew\nnew\ndropped 3\nend 0\nnone\nput 2 0a 63\nend 1\n",
+        ),
+        (
+            b"drop 3\ndrop 01\ndrop\ndrop 1 2\ndrop -1\ndrop 4294967296\ndrop 4294967295\nDROP 1\n\
+              drop 1 \ndrop  1\ndrop -\n",
+            b"dropped 0\nbad\nbad\nbad\nbad\nbad\ndropped 0\nbad\nbad\nbad\nbad\n",
+        ),
+        (
+            b"put 1 aa 61\nput 1 bb 62\nput 2 aa 63\ndrop 2\naudit\n",
+            b"new\nnew\nnew\ndropped 1\nbytes 2 1 0 0 0\nnumbers 0 0 0 0 0\n",
+        ),
+        (
+            b"put 1 aa 61\nput 1 bb 62\nput 2 aa 63\ndrop 1\naudit\n",
+            b"new\nnew\nnew\ndropped 2\nbytes 1 0 0 0 0\nnumbers 0 0 0 0 0\n",
+        ),
+        (
+            b"put 1 01 61\nput 2 01 62\nput 3 01 63\nnput 3 1 64\ndrop 1\ndrop 3\ndump\ndrop 2\ndump\n\
+              audit\n",
+            b"new\nnew\nnew\nnew\ndropped 1\ndropped 2\nput 2 01 62\nend 1\ndropped 1\nend 0\n\
+              bytes 0 0 0 0 0\nnumbers 0 0 0 0 0\n",
+        ),
+        (
+            b"nput 1 1 61\nnput 2 2 62\nnput 2 3 -\nnput 3 1 63\ndrop 2\ndump\ndrop 2\ndrop 1\ndrop 3\n\
+              dump\n",
+            b"new\nnew\nnew\nnew\ndropped 2\nnput 1 1 61\nnput 3 1 63\nend 2\ndropped 0\ndropped 1\n\
+              dropped 1\nend 0\n",
+        ),
+        (
+            b"put 255 00 61\nput 256 00 62\nnput 255 0 63\nnput 256 0 64\ndrop 255\ndump\nput 255 00 61\n\
+              drop 256\ndump\n",
+            b"new\nnew\nnew\nnew\ndropped 2\nput 256 00 62\nnput 256 0 64\nend 2\nnew\ndropped 2\n\
+              put 255 00 61\nend 1\n",
+        ),
+        (
+            b"put 1 01 61\nput 2 02 62\nput 3 03 63\nput 4 04 64\nput 5 05 65\nnput 1 -2 61\n\
+              nput 2 -1 62\nnput 3 0 63\nnput 4 1 64\nnput 5 2 65\naudit\ndrop 3\naudit\ndump\n\
+              put 3 03 63\nnput 3 0 63\naudit\ndrop 1\ndrop 5\naudit\n",
+            b"new\nnew\nnew\nnew\nnew\nnew\nnew\nnew\nnew\nnew\nbytes 5 0 1 0 0\nnumbers 5 0 1 0 0\n\
+              dropped 2\nbytes 4 1 0 0 0\nnumbers 4 1 0 0 0\nput 1 01 61\nput 2 02 62\nput 4 04 64\n\
+              put 5 05 65\nnput 1 -2 61\nnput 2 -1 62\nnput 4 1 64\nnput 5 2 65\nend 8\nnew\nnew\n\
+              bytes 5 0 1 0 0\nnumbers 5 0 1 0 0\ndropped 2\ndropped 2\nbytes 3 1 0 0 0\n\
+              numbers 3 1 0 0 0\n",
+        ),
+        (
+            b"put 7 0a01 61\nput 7 0a02 62\nput 7 0b 63\nput 8 0a01 64\nnput 7 1 65\ndump\naudit\ndrop 7\n\
+              dump\naudit\nput 7 0a01 61\nput 7 0a02 62\nput 7 0b 63\nnput 7 1 65\ndump\naudit\n",
+            b"new\nnew\nnew\nnew\nnew\nput 7 0a01 61\nput 7 0a02 62\nput 7 0b 63\nput 8 0a01 64\n\
+              nput 7 1 65\nend 5\nbytes 4 3 0 0 0\nnumbers 1 0 0 0 0\ndropped 4\nput 8 0a01 64\nend 1\n\
+              bytes 1 0 0 0 0\nnumbers 0 0 0 0 0\nnew\nnew\nnew\nnew\nput 7 0a01 61\nput 7 0a02 62\n\
+              put 7 0b 63\nput 8 0a01 64\nnput 7 1 65\nend 5\nbytes 4 3 0 0 0\nnumbers 1 0 0 0 0\n",
+        ),
+        (
+            b"put 0 - 61\nput 1 - 61\nput 2 - 61\nput 3 - 61\nput 4 - 61\nput 5 - 61\nput 6 - 61\n\
+              put 7 - 61\nput 8 - 61\nput 9 - 61\nput 10 - 61\nput 11 - 61\nput 12 - 61\nput 13 - 61\n\
+              put 14 - 61\nput 15 - 61\nput 16 - 61\naudit\ndrop 16\naudit\n",
+            b"new\nnew\nnew\nnew\nnew\nnew\nnew\nnew\nnew\nnew\nnew\nnew\nnew\nnew\nnew\nnew\nnew\n\
+              bytes 17 0 0 1 0\nnumbers 0 0 0 0 0\ndropped 1\nbytes 16 0 1 0 0\nnumbers 0 0 0 0 0\n",
+        ),
+        (
+            b"nput 0 0 61\nnput 1 0 61\nnput 2 0 61\nnput 3 0 61\nnput 4 0 61\nnput 5 0 61\nnput 6 0 61\n\
+              nput 7 0 61\nnput 8 0 61\nnput 9 0 61\nnput 10 0 61\nnput 11 0 61\nnput 12 0 61\n\
+              nput 13 0 61\nnput 14 0 61\nnput 15 0 61\nnput 16 0 61\naudit\ndrop 0\naudit\n",
+            b"new\nnew\nnew\nnew\nnew\nnew\nnew\nnew\nnew\nnew\nnew\nnew\nnew\nnew\nnew\nnew\nnew\n\
+              bytes 0 0 0 0 0\nnumbers 17 0 0 1 0\ndropped 1\nbytes 0 0 0 0 0\nnumbers 16 0 1 0 0\n",
+        ),
+        (
+            b"put 0 - 61\nput 1 - 61\nput 2 - 61\nput 3 - 61\nput 4 - 61\nput 5 - 61\nput 6 - 61\n\
+              put 7 - 61\nput 8 - 61\nput 9 - 61\nput 10 - 61\nput 11 - 61\nput 12 - 61\nput 13 - 61\n\
+              put 14 - 61\nput 15 - 61\nput 16 - 61\nput 17 - 61\nput 18 - 61\nput 19 - 61\nput 20 - 61\n\
+              put 21 - 61\nput 22 - 61\nput 23 - 61\nput 24 - 61\nput 25 - 61\nput 26 - 61\nput 27 - 61\n\
+              put 28 - 61\nput 29 - 61\nput 30 - 61\nput 31 - 61\nput 32 - 61\nput 33 - 61\nput 34 - 61\n\
+              put 35 - 61\nput 36 - 61\nput 37 - 61\nput 38 - 61\nput 39 - 61\nput 40 - 61\nput 41 - 61\n\
+              put 42 - 61\nput 43 - 61\nput 44 - 61\nput 45 - 61\nput 46 - 61\nput 47 - 61\nput 48 - 61\n\
+              audit\ndrop 24\naudit\n",
+            b"new\nnew\nnew\nnew\nnew\nnew\nnew\nnew\nnew\nnew\nnew\nnew\nnew\nnew\nnew\nnew\nnew\nnew\n\
+              new\nnew\nnew\nnew\nnew\nnew\nnew\nnew\nnew\nnew\nnew\nnew\nnew\nnew\nnew\nnew\nnew\nnew\n\
+              new\nnew\nnew\nnew\nnew\nnew\nnew\nnew\nnew\nnew\nnew\nnew\nnew\nbytes 49 0 0 0 1\n\
+              numbers 0 0 0 0 0\ndropped 1\nbytes 48 0 0 1 0\nnumbers 0 0 0 0 0\n",
+        ),
+    ];
+    for (text, wanted) in rows {
+        is_answered_by_all(&rt, rt.alloc(), text, wanted);
+    }
+}

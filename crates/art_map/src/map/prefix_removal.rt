@@ -201,6 +201,7 @@ impl<K: AsBytes, V, const PREFIX_LEN: usize> TreeMap<K, V, PREFIX_LEN> {
         ensures* rests { sem 𝓛 (rests_if_unprepared K.row V.row PREFIX_LEN K.AsBytes self.entry result) }
         ensures same_map { IfOk result (λ r. (removal_map r).ghost_name ≡ self.entry.ghost_name) }
         ensures same { IfOk result (λ r. (removal_map r).now.pairs ≡ self.old.pairs) }
+        ensures kept { IfOk result (λ r. IsUntouched self.old (removal_map r).now) }
         ensures prefix { IfOk result (λ r. removal_prefix r ≡ prefix.now) }
         ensures few { IfOk result (λ r. (longest : ℕ) → PairsWithin K.bytes longest self.old.pairs
             → OpeningReads longest (length prefix.now) 0 (removal_reads r)) }

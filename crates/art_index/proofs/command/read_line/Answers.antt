@@ -1,12 +1,12 @@
 use Rattle.std.proofs.Common.{ap, sym, ◌∙◌}
 use Rattle.std.specs.Prelude.{option_map, option_copied}
-use Rattle.art_index.specs.declared.command.word.Shape.TheVariants.{Key, KeyAndValue, Number, NumberAndValue, TwoNumbers, Nothing}
+use Rattle.art_index.specs.declared.command.word.Shape.TheVariants.{Key, KeyAndValue, Number, NumberAndValue, TwoNumbers, Tenant, Nothing}
 use Rattle.art_index.specs.InPlace.{fields_behind, IsRead}
 use Rattle.art_index.specs.Parsed.{command_with}
 use Rattle.art_index.proofs.Parsing.{command_by, too_long, says_word, says_nothing, nothing_read, read_none, read_some}
 use Rattle.art_index.proofs.Shapes.{by_known_shape}
 use Rattle.art_index.proofs.command.read_line.Goals as goal
-use Rattle.art_index.proofs.command.read_line.Goals.{in-Key, in-KeyAndValue, in-Number, in-NumberAndValue, in-TwoNumbers, in-Nothing}
+use Rattle.art_index.proofs.command.read_line.Goals.{in-Key, in-KeyAndValue, in-Number, in-NumberAndValue, in-TwoNumbers, in-Tenant, in-Nothing}
 
 pub returns-then-line-gt-LINE : goal.returns-then-line-gt-LINE
 returns-then-line-gt-LINE c = too_long c.args.line.now c.if-line-gt-LINE.true
@@ -25,6 +25,7 @@ returns-then-not-is_read c =
       | in-Number w ↦ rw (w.is_read-is, w.fields-is) (by_known_shape _ _ rest c.in_ok-word.word Number (sym c.shape.ensures ∙ w.in-Number.is) w.read_number-is_read.ensures)
       | in-NumberAndValue w ↦ rw (w.is_read-is, w.fields-is) (by_known_shape _ _ rest c.in_ok-word.word NumberAndValue (sym c.shape.ensures ∙ w.in-NumberAndValue.is) w.read_number_and_value-is_read.ensures)
       | in-TwoNumbers w ↦ rw (w.is_read-is, w.fields-is) (by_known_shape _ _ rest c.in_ok-word.word TwoNumbers (sym c.shape.ensures ∙ w.in-TwoNumbers.is) w.read_two_numbers-is_read.ensures)
+      | in-Tenant w ↦ rw (w.is_read-is, w.fields-is) (by_known_shape _ _ rest c.in_ok-word.word Tenant (sym c.shape.ensures ∙ w.in-Tenant.is) w.read_tenant_alone-is_read.ensures)
       | in-Nothing w ↦ rw (w.is_read-is, w.fields-is) (by_known_shape _ _ rest c.in_ok-word.word Nothing (sym c.shape.ensures ∙ w.in-Nothing.is) (nothing_read c.split_field.result.1 w.is_none-is_read.result w.is_none-is_read.ensures))
     ] in
     read_none c.match-shape.is_read _ _ read c.if-not-is_read.true
@@ -39,6 +40,7 @@ returns c =
       | in-Number w ↦ rw (w.is_read-is, w.fields-is) (by_known_shape _ _ rest c.in_ok-word.word Number (sym c.shape.ensures ∙ w.in-Number.is) w.read_number-is_read.ensures)
       | in-NumberAndValue w ↦ rw (w.is_read-is, w.fields-is) (by_known_shape _ _ rest c.in_ok-word.word NumberAndValue (sym c.shape.ensures ∙ w.in-NumberAndValue.is) w.read_number_and_value-is_read.ensures)
       | in-TwoNumbers w ↦ rw (w.is_read-is, w.fields-is) (by_known_shape _ _ rest c.in_ok-word.word TwoNumbers (sym c.shape.ensures ∙ w.in-TwoNumbers.is) w.read_two_numbers-is_read.ensures)
+      | in-Tenant w ↦ rw (w.is_read-is, w.fields-is) (by_known_shape _ _ rest c.in_ok-word.word Tenant (sym c.shape.ensures ∙ w.in-Tenant.is) w.read_tenant_alone-is_read.ensures)
       | in-Nothing w ↦ rw (w.is_read-is, w.fields-is) (by_known_shape _ _ rest c.in_ok-word.word Nothing (sym c.shape.ensures ∙ w.in-Nothing.is) (nothing_read c.split_field.result.1 w.is_none-is_read.result w.is_none-is_read.ensures))
     ] in
     read_some c.match-shape.is_read _ _ read c.if-not-is_read.false

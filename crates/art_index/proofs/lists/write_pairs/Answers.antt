@@ -24,7 +24,7 @@ pairs-init g c =
     let one = ap length step in
     record {
       taken = taken_none _ _ _ (ap (λ (l : List Pair). lines_from words_listed (list_end (0 + length l)) l) (sym step)
-      ∙ ap (λ n. lines_from words_listed (list_end n) L) zero ∙ list_all L (map own_pair L) (own_pairs L));
+          ∙ ap (λ n. lines_from words_listed (list_end n) L) zero ∙ list_all L (map own_pair L) (own_pairs L));
       fine = c.requires.open;
       listed = subst (AllByRecursion IsListed) step c.requires.listed;
       held = omega arith;

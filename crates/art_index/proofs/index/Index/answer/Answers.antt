@@ -1,13 +1,14 @@
-use Rattle.std.proofs.Common.{rules, ◌≡◌, ℕ, List, ◌++◌, ap, sym, ◌∙◌, false}
+use Rattle.std.proofs.Common.{rules, ◌≡◌, ℕ, List, ◌++◌, ap, sym, ◌∙◌, subst, false}
 use Rattle.std.proofs.lemmas.Bool.{false≢true}
 use Rattle.std.specs.Prelude.{Some}
+use Rattle.art_index.specs.Counts.{IsShort, ReadsOwnPath}
 use Rattle.art_index.specs.Reading.{command_of}
 use Rattle.art_index.specs.Records.{Records}
 use Rattle.art_index.specs.State.{State}
-use Rattle.art_index.specs.Parsed.{command_with, looks_up, changes, asks_all}
+use Rattle.art_index.specs.Parsed.{tenant_in_place, command_with, looks_up, changes, drops, asks_all}
 use Rattle.art_index.specs.Stored.{all_records_of}
 use Rattle.art_index.proofs.Cuts.{cut_line, when_err}
-use Rattle.art_index.proofs.Replies.{done_told, done_left, done_lawful, told_of, all_told, all_left, all_lawful, same_left, bad_told, bad_left}
+use Rattle.art_index.proofs.Replies.{done_told, done_left, done_lawful, told_of, all_told, all_left, all_lawful, same_left, bad_told, bad_left, drop_told, drop_left, drop_lawful, drop_reads}
 use Rattle.art_index.proofs.Families.{look_leaves, all_leaves}
 use Rattle.art_index.proofs.CountLaws.{short_of, own_path_of}
 use Rattle.art_index.proofs.LineCounts.{line_reads, are_records}
@@ -134,3 +135,50 @@ returns-in_err-write_piece-in-None-clause-cut g c =
     let told = bad_told c.args.self.now.records c.args.line.now c.in-None.ensures in
     let left = (ap stored c.self.view_is) ∙ bad_left c.args.self.now.records c.args.line.now c.in-None.ensures in
     when_err _ (cut_line false _ _ _ _ _ _ told c.in_err-write_piece-in-None.ensures.cut left (λ e. absurd (false≢true e)) (ap reads c.self.view_is))
+
+pub returns-in_ok-write_dropped-in-Some-Drop-clause-told : goal.returns-in_ok-write_dropped-in-Some-Drop-clause-told
+returns-in_ok-write_dropped-in-Some-Drop-clause-told g c =
+    let F = c.read_line.new.fields in
+    let meant : Some (drops F) ≡ command_of c.args.line.now = ap (λ x. Some (command_with x F)) (sym c.in-Some-Drop.field-0-is) ∙ c.in-Some-Drop.ensures in
+    c.in_ok-write_dropped-in-Some-Drop.ensures.ok ∙ ap (λ t. g.W.Sink.taken c.args.sink.now ++ t) (drop_told c.drop_tenant-dropped.result c.is_memory-memory-in-Some-Drop.result (tenant_in_place F) _ _ (all_records_of c.drop_tenant-dropped.new.records.pairs c.drop_tenant-dropped.new.numbers.pairs) c.args.line.now c.is_memory-memory-in-Some-Drop.ensures (ap stored c.self.view_is) meant c.drop_tenant-dropped.ensures.done)
+
+pub returns-in_ok-write_dropped-in-Some-Drop-clause-left : goal.returns-in_ok-write_dropped-in-Some-Drop-clause-left
+returns-in_ok-write_dropped-in-Some-Drop-clause-left g c =
+    let F = c.read_line.new.fields in
+    let meant : Some (drops F) ≡ command_of c.args.line.now = ap (λ x. Some (command_with x F)) (sym c.in-Some-Drop.field-0-is) ∙ c.in-Some-Drop.ensures in
+    drop_left c.drop_tenant-dropped.result c.is_memory-memory-in-Some-Drop.result (tenant_in_place F) _ _ (all_records_of c.drop_tenant-dropped.new.records.pairs c.drop_tenant-dropped.new.numbers.pairs) c.args.line.now c.is_memory-memory-in-Some-Drop.ensures (ap stored c.self.view_is) meant c.drop_tenant-dropped.ensures.done
+
+pub returns-in_ok-write_dropped-in-Some-Drop-clause-lawful : goal.returns-in_ok-write_dropped-in-Some-Drop-clause-lawful
+returns-in_ok-write_dropped-in-Some-Drop-clause-lawful g c =
+    let F = c.read_line.new.fields in
+    let meant : Some (drops F) ≡ command_of c.args.line.now = ap (λ x. Some (command_with x F)) (sym c.in-Some-Drop.field-0-is) ∙ c.in-Some-Drop.ensures in
+    let may = drop_lawful c.drop_tenant-dropped.result c.is_memory-memory-in-Some-Drop.result (tenant_in_place F) _ _ (all_records_of c.drop_tenant-dropped.new.records.pairs c.drop_tenant-dropped.new.numbers.pairs) c.args.line.now c.is_memory-memory-in-Some-Drop.ensures (ap stored c.self.view_is) meant c.drop_tenant-dropped.ensures.done in
+    λ m. (drops F, spells c.args.line.now (drops F) (sym meant), may m)
+
+pub returns-in_ok-write_dropped-in-Some-Drop-clause-visits : goal.returns-in_ok-write_dropped-in-Some-Drop-clause-visits
+returns-in_ok-write_dropped-in-Some-Drop-clause-visits g c =
+    let F = c.read_line.new.fields in
+    let meant : Some (drops F) ≡ command_of c.args.line.now = ap (λ x. Some (command_with x F)) (sym c.in-Some-Drop.field-0-is) ∙ c.in-Some-Drop.ensures in
+    drop_reads c.drop_tenant-dropped.result c.is_memory-memory-in-Some-Drop.result (tenant_in_place F) _ _ (all_records_of c.drop_tenant-dropped.new.records.pairs c.drop_tenant-dropped.new.numbers.pairs) c.args.line.now c.is_memory-memory-in-Some-Drop.ensures (ap stored c.self.view_is) meant c.drop_tenant-dropped.ensures.done c.visits-visits.result c.visits-visits.ensures
+
+pub returns-in_ok-write_dropped-in-Some-Drop-clause-short : goal.returns-in_ok-write_dropped-in-Some-Drop-clause-short
+returns-in_ok-write_dropped-in-Some-Drop-clause-short g c =
+    let F = c.read_line.new.fields in
+    let meant : Some (drops F) ≡ command_of c.args.line.now = ap (λ x. Some (command_with x F)) (sym c.in-Some-Drop.field-0-is) ∙ c.in-Some-Drop.ensures in
+    subst (λ o. IsShort o c.visits-visits.result) meant tt
+
+pub returns-in_ok-write_dropped-in-Some-Drop-clause-own_path : goal.returns-in_ok-write_dropped-in-Some-Drop-clause-own_path
+returns-in_ok-write_dropped-in-Some-Drop-clause-own_path g c =
+    let F = c.read_line.new.fields in
+    let meant : Some (drops F) ≡ command_of c.args.line.now = ap (λ x. Some (command_with x F)) (sym c.in-Some-Drop.field-0-is) ∙ c.in-Some-Drop.ensures in
+    subst (λ o. ReadsOwnPath o c.args.self.now.records c.visits-visits.result) meant tt
+
+pub returns-in_err-write_dropped-in-Some-Drop-clause-cut : goal.returns-in_err-write_dropped-in-Some-Drop-clause-cut
+returns-in_err-write_dropped-in-Some-Drop-clause-cut g c =
+    let F = c.read_line.new.fields in
+    let meant : Some (drops F) ≡ command_of c.args.line.now = ap (λ x. Some (command_with x F)) (sym c.in-Some-Drop.field-0-is) ∙ c.in-Some-Drop.ensures in
+    let told = drop_told c.drop_tenant-dropped.result c.is_memory-memory-in-Some-Drop.result (tenant_in_place F) _ _ (all_records_of c.drop_tenant-dropped.new.records.pairs c.drop_tenant-dropped.new.numbers.pairs) c.args.line.now c.is_memory-memory-in-Some-Drop.ensures (ap stored c.self.view_is) meant c.drop_tenant-dropped.ensures.done in
+    let left = drop_left c.drop_tenant-dropped.result c.is_memory-memory-in-Some-Drop.result (tenant_in_place F) _ _ (all_records_of c.drop_tenant-dropped.new.records.pairs c.drop_tenant-dropped.new.numbers.pairs) c.args.line.now c.is_memory-memory-in-Some-Drop.ensures (ap stored c.self.view_is) meant c.drop_tenant-dropped.ensures.done in
+    let may = drop_lawful c.drop_tenant-dropped.result c.is_memory-memory-in-Some-Drop.result (tenant_in_place F) _ _ (all_records_of c.drop_tenant-dropped.new.records.pairs c.drop_tenant-dropped.new.numbers.pairs) c.args.line.now c.is_memory-memory-in-Some-Drop.ensures (ap stored c.self.view_is) meant c.drop_tenant-dropped.ensures.done in
+    when_err _ (cut_line c.is_memory-memory-in-Some-Drop.result _ _ _ _ _ _ told c.in_err-write_dropped-in-Some-Drop.ensures.cut left
+    (λ m. (drops F, spells c.args.line.now (drops F) (sym meant), may m)) (ap reads c.self.view_is))
