@@ -141,7 +141,8 @@ def difference(lines, is_ended, faults):
             continue
         rest = said[at:]
         if len(ends) == 2 and (reply.startswith(rest) or may_refuse and REFUSED.startswith(rest)):
-            at, ends = len(said), {(1, ENDS["write"])}
+            # (a read behind a write that failed is made before the next reply, and may fail too)
+            at, ends = len(said), {(1, ENDS["write"]), *([(1, ENDS["read"])] if is_cut else [])}
             break
         return f"to {line[:200]} it says {rest[:300]} and not {reply[:300]}"
     if at != len(said):
