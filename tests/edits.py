@@ -1,6 +1,7 @@
 #!/usr/bin/env python3
 """Looks whether each wrong body still applies: the files crates/NAME/must-fail/*.edit, which rt ci tries, and
-crates/NAME/more-edits/*.edit, which only ./test --long tries. It proves nothing, and takes a second.
+crates/NAME/more-edits/*.edit, which only ./test --long tries; and those that tests/wrong/programs.lines names, with
+which it builds programs. It proves nothing, and takes a second.
 
     tests/edits.py      at the top of the repository; the last line is 'N passed, M failed'
 An edit is a line 'file: PATH' (below src/, specs/ or proofs/) and then pairs of lines 'old: TEXT' and 'new: TEXT'. Each
@@ -78,6 +79,14 @@ def main():
             print(f"crates/{name}: FAILED: {why}")
         if names:
             print(f"{name}: {counts[0]} edits in the gate, {counts[1]} more")
+    for line in open("tests/wrong/programs.lines", encoding="utf-8"):
+        edit, program = [*line.split(), "", ""][:2]
+        if edit and edit != "#":
+            crate = "/".join(edit.split("/")[:2]) if edit.startswith("crates/") else f"crates/{program}"
+            why = fault_of(crate, edit)
+            passed, failed = passed + (not why), failed + bool(why)
+            if why:
+                print(f"{edit}: FAILED: {why}")
     print(f"{passed} passed, {failed} failed")
     sys.exit(failed > 0 or not passed)
 

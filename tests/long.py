@@ -1,5 +1,6 @@
 #!/usr/bin/env python3
 """./test --long [MINUTES]: tries all wrong bodies, and rt plant with so many minutes for each crate (10 if left out).
+Programs that are built with some of the wrong bodies must fail in the gate's runs, too (tests/wrong.py).
 
 It works on a copy of the repository outside it, which goes at the end; there the edits of more-edits/ stand in
 must-fail/. Standard error tells how far it is; what rt prints stands in out/long-*.log, and the summary in out/long.md,
@@ -23,7 +24,7 @@ COLUMNS += ("Same as the body", "Not judged", "Not run")
 
 
 class Task:
-    """The edits of a crate, or its plants: one command of rt in the copy."""
+    """The edits of a crate, or its plants: one command of rt in the copy. Or programs that are wrong."""
 
     def __init__(self, crate, kind, words, folder, size=0):
         self.crate, self.kind, self.words, self.folder, self.size = crate, kind, words, folder, size
@@ -39,6 +40,8 @@ class Task:
 
     def state(self, rooms):
         """How far it is: an edit is tried once its folder has gone."""
+        if self.kind == "wrong":
+            return f"wrong programs, {len(self.lines())} tried"
         if self.kind == "edits":
             self.rooms.update({it: True for it, crate in rooms.items() if crate == self.crate})
             return f"edits of {self.crate} {min(sum(it not in rooms for it in self.rooms), self.size)} of {self.size}"
@@ -47,6 +50,7 @@ class Task:
 
 
 def tasks_in(copy, minutes):
+    yield Task("programs", "wrong", [sys.executable, "-uB", "tests/wrong.py"], TOP)
     crates = re.findall(r"(?m)^([\w-]+)[^#\n]*", open(f"{copy}/crates.txt", encoding="utf-8").read())
     for crate in crates:
         folder = f"{copy}/crates/{crate}"
@@ -96,7 +100,10 @@ def run_all(tasks):
 def summary(tasks):
     """Gives the lines of the summary, and counts what passed and failed."""
     counts, rows, lists = [0, 0], [], []
-    for crate in dict.fromkeys(it.crate for it in tasks):
+    programs = [line for it in tasks if it.kind == "wrong" for line in it.lines()]
+    last = re.fullmatch(r"(\d+) passed, (\d+) failed", "".join(programs[-1:]))
+    counts[:] = [int(last[1]), int(last[2])] if last else [0, 1]
+    for crate in dict.fromkeys(it.crate for it in tasks if it.kind != "wrong"):
         row, told = {}, []
         for task in (it for it in tasks if it.crate == crate):
             lines = task.lines()
@@ -125,6 +132,7 @@ def summary(tasks):
         lists += ["", f"{crate}: let through, without a contract, or untested:", "", *told] if told else []
     head = [f"## {processes.when_and_where()}, {(time.monotonic() - START) / 60:.0f} minutes", ""]
     head.append(f"| {' | '.join(COLUMNS)} |")
+    lists += ["", "Programs with wrong bodies, in the runs of the gate:", "", *(f"- {it}" for it in programs)]
     return [*head, "|---|" + "---:|" * 9, *rows, *lists], counts
 
 

@@ -21,7 +21,7 @@ PROGRAM = os.path.abspath("crates/play_operations/out/play_operations")
 KINDS = {4: (2, 4), 16: (5, 16), 48: (17, 48), 256: (49, 256)}
 # What takes a node out of the room of its kind asks for a smaller one.
 SHRINKING = {5, 17, 49}
-PUTS = ("insert", "insert_placed", "put_over")
+PUTS = ("insert", "insert_placed", "insert_at_point", "put_over")
 LARGER, SMALLER = {4: 16, 16: 48, 48: 256}, {16: 4, 48: 16, 256: 48}
 
 
@@ -77,6 +77,10 @@ def way(tree, key):
         depth += 1
         nodes.append(tree)
     return nodes, steps
+
+
+def inner_nodes(tree):
+    return 1 + sum(map(inner_nodes, tree.children.values())) if isinstance(tree, Inner) else 0
 
 
 def told_stats(leaves, kinds):
@@ -213,6 +217,7 @@ class Model:
         return self.put(key, number)
 
     call_insert_placed = call_insert
+    call_insert_at_point = call_insert
 
     def call_put_over(self, word, number, *_):
         key = bytes_in(word)
@@ -232,6 +237,8 @@ class Model:
     def call_delete(self, word, *_):
         return self.take(bytes_in(word) if bytes_in(word) in self.pairs else None)
 
+    call_take_leaf = call_delete
+
     def call_delete_first(self, *_):
         return self.take(min(self.pairs, default=None))
 
@@ -241,6 +248,30 @@ class Model:
     def shrinks(self, key):
         front = max((common(key, it) for it in self.pairs if it != key), key=len, default=None)
         return front is not None and len({it[len(front)] for it in self.pairs if it.startswith(front)}) in SHRINKING
+
+    # The part behind a prefix.
+    def parted(self, front):
+        """The pairs whose keys begin with these bytes, and the others, each in order."""
+        pairs = sorted(self.pairs.items())
+        return [it for it in pairs if it[0].startswith(front)], [it for it in pairs if not it[0].startswith(front)]
+
+    def shrinks_without(self, front):
+        """Whether a node gets smaller where all keys that begin with these bytes are lost."""
+        part, others = self.parted(front)
+        if not part or not others:
+            return False
+        keys = [key for key, _ in (*part, *others)]
+        shared = max((common(part[0][0], key) for key, _ in others), key=len)
+        return len({key[len(shared)] for key in keys if key.startswith(shared)}) in SHRINKING
+
+    def call_leave(self, word, *_):
+        return "left" if self.parted(bytes_in(word))[0] else "None"
+
+    def call_cut(self, word, *_):
+        part, others = self.parted(bytes_in(word))
+        told = f"{len(part)} leaves, {len(part) + inner_nodes(tree_of(part))} nodes" if part else "None"
+        self.pairs = dict(others)
+        return f"{told}, root {self.tree().name}" if others else f"{told}, no root"
 
     # The tree as a whole.
     def call_reserve(self, *_):
@@ -476,12 +507,13 @@ class Model:
 
 # What each line names: `k` a key, `s` one that is stored if it can be, `n` a number, `b` a bound, `c` a command.
 CALLS = {
-    "insert": "kn", "insert_placed": "kn", "put_over": "kn", "delete": "s", "delete_first": "", "delete_last": "",
+    "insert": "kn", "insert_placed": "kn", "insert_at_point": "kn", "put_over": "kn", "delete": "s", "take_leaf": "s",
+    "delete_first": "", "delete_last": "", "cut": "s", "leave": "s",
     "reserve": "n", "clone": "", "key": "k", "command": "c", "forget": "", "run": "", "free": "",
     "free_apart": "", "check": "", "search": "s", "prefix_search": "k", "minimum": "", "maximum": "", "path": "s",
     "start": "b", "end": "b", "range": "bb", "segment": "k",
 }  # fmt: skip
-OFTEN = {"insert": 14, "insert_placed": 14, "command": 4, "put_over": 1.4}
+OFTEN = {"insert": 10, "insert_placed": 10, "insert_at_point": 8, "command": 4, "put_over": 1.4}
 OFTEN |= {"free": 0.05, "free_apart": 0.05, "run": 0.1, "forget": 0.3, "key": 0.5}
 
 
@@ -522,7 +554,7 @@ class Writer:
             if call == "key":
                 # (what is put in next has the bytes of the key that is kept, also where it is made anew)
                 self.add(call, *words)
-                self.add(self.of.choice(("insert", "insert_placed", "put_over")), words[0], self.word("n"))
+                self.add(self.of.choice(PUTS), words[0], self.word("n"))
                 continue
             self.add(call, *words)
 

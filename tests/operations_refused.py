@@ -4,9 +4,10 @@
     tests/operations_refused.py [WORD]   at the top of the repository, after rt ci; WORD: only lines named by it
 Under tests/refuse.c, which says what a window is, play_operations plays each script of tests/operations, and six that
 are made at random, once for each line of it. The line stands twice, and is refused the first time: it must answer a
-refusal that it may answer, and all else must be as if it stood once. Where no request is refused, the answers are the
-model's too; so what asks for no memory succeeds with every request refused. How many requests each call made at most,
-and in how many runs one was refused, goes to out/operations_refused.md, for docs/REFUSALS.md.
+refusal that it may answer, the checker must find the tree as it was in between, and all else must be as if it stood
+once. Where no request is refused, the answers are the model's too; so what asks for no memory succeeds with every
+request refused. How many requests each call made at most, and in how many runs one was refused, goes to
+out/operations_refused.md, for docs/REFUSALS.md.
 """
 import itertools
 import os
@@ -20,6 +21,8 @@ import operations
 SHIM = os.path.abspath("out/refuse-operations.so")
 # For the names of nodes the player takes memory of its own.
 PLAYERS_OWN = ("by_hand",)
+# Calls that take out one leaf, and calls over the part behind a prefix.
+TAKING, PARTS = ("delete", "take_leaf", "delete_first", "delete_last"), ("cut", "leave")
 # Of each call: its lines, those of no request, the most requests of one, and the runs in which one was refused.
 seen_of = {}
 
@@ -58,7 +61,7 @@ def left_by(keys, key):
 
 def end_of(call, keys, word):
     """The key of the pair that a call takes out, if there is one."""
-    return next(iter({"delete": [word], "delete_first": keys[:1], "delete_last": keys[-1:]}[call]), None)
+    return next(iter({"delete": [word], "take_leaf": [word], "delete_first": keys[:1], "delete_last": keys[-1:]}[call]), None)
 
 
 def refusals(model, line):
@@ -69,14 +72,19 @@ def refusals(model, line):
         return {"no key"}
     if model.is_by_hand:
         return {"memory"} if call in ("leaf", "node", "copy", "grow", "shrink", "check", "clone") else set()
-    if call.startswith("delete"):
+    if call in TAKING:
         key = end_of(call, keys, word)
         return {"memory"} if key in keys and shrinks(keys, key) else set()
+    if call in PARTS:
+        return {"memory"} if model.shrinks_without(word) else set()
+    back = f"memory {operations.shown(word)} {int(words[1] or 0)}"
+    if call == "insert_at_point" and model.pairs and model.blocked(word):
+        return {"no key", back}  # (a copy of the bytes is made)
     if call not in operations.PUTS:
         return {"memory"} if call in ("clone", "reserve", "run", "check") else set()
     if word in keys or call != "put_over" and model.blocked(word):
         return {"no key"}
-    return {"no key", f"memory {operations.shown(word)} {int(words[1] or 0)}"}
+    return {"no key", back}
 
 
 def case(model, line, has_room):
@@ -88,7 +96,10 @@ def case(model, line, has_room):
     if call in operations.PUTS:
         told = "stored key" if word in keys else "key in conflict" if model.blocked(word) else "new key"
         return f"{told} that was kept, behind `reserve`" if has_room else told
-    return left_by(keys, end_of(call, keys, word)) if call.startswith("delete") else ""
+    if call in PARTS:
+        told = "a node gets smaller" if model.shrinks_without(word) else "no node gets smaller"
+        return told if model.parted(word)[0] else "no key with the prefix"
+    return left_by(keys, end_of(call, keys, word)) if call in TAKING else ""
 
 
 def is_refused(model, line, told):
@@ -109,7 +120,10 @@ def one_line(program, lines, at):
     model, refused = operations.Model(4), 0
     for line in lines[:at]:
         model.answers(line)
-    twice = [*lines[: at + 1], *lines[at:]]
+    # (behind a list of commands another tree stands, and nodes by hand need be none)
+    looks = [] if model.is_by_hand or lines[at] == "run" else ["check"]
+    once = [*lines[:at], *looks, *lines[at:]]
+    twice = [*lines[: at + 1], *looks, *lines[at:]]
     text = "".join(f"{it}\n" for it in ["tree 4", *twice]).encode()
     for rest in ("", "+"):
         for number in itertools.count(1):
@@ -120,7 +134,7 @@ def one_line(program, lines, at):
                 break
             refused += 1
             assert is_refused(model, lines[at], told[at]), f"{label}: it answers {told[at][:300]}"
-            assert agrees(operations.Model(4), lines, told[:at] + told[at + 1 :]), f"{label}: else as it stood once"
+            assert agrees(operations.Model(4), once, told[:at] + told[at + 1 :]), f"{label}: else as it stood once"
     has_room = [it.split(" ")[0] for it in lines[max(0, at - 2) : at]] == ["key", "reserve"]
     count = seen_of.setdefault((lines[at].split(" ")[0], case(model, lines[at], has_room)), [0, 0, 0, 0])
     requests = seen.count(".")

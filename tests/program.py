@@ -151,6 +151,20 @@ def tenants_are_dropped(program):
     assert out == wanted, "a reply differs"
 
 
+def keys_that_share_2000_bytes(program):
+    """Three keys whose nodes have prefixes of 1,000 bytes: what is stored, absent, between two, and a front."""
+    shared, half = b"aa" * 2000, b"aa" * 1000
+    first, second, third = (b"%b01" % shared, b"%b02" % shared, b"%bbb" % half)
+    rows = [(b"put 1 %b 61" % it, b"new") for it in (first, second, third)]
+    rows += [(b"audit", b"bytes 3 2 0 0 0\nnumbers 0 0 0 0 0"), (b"get 1 %b03" % shared, b"none")]
+    rows += [(b"get 1 " + first, b"is 61")]
+    rows += [(b"span 1 %b %b" % (half, third), b"%b 61\n%b 61\nend 2" % (first, second))]
+    rows += [(b"find 1 %b00" % third, b"at %b 61" % third), (b"del 1 " + third, b"gone 61")]
+    rows += [(b"audit", b"bytes 2 1 0 0 0\nnumbers 0 0 0 0 0")]
+    text, replies = (b"".join(b"%b\n" % it[at] for it in rows) for at in (0, 1))
+    wants(ended([program], input=text), (replies, b"", 0))
+
+
 def an_argument_is_refused(program):
     """It ends while its standard input is open, so it has not waited for it."""
     reads, writes = os.pipe()
@@ -278,6 +292,7 @@ TESTS = [
     look_ups_among_many_are_answered,
     many_numbers_are_kept,
     tenants_are_dropped,
+    keys_that_share_2000_bytes,
     an_argument_is_refused,
     a_failed_read_is_told,
     a_failed_write_is_told,

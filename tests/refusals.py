@@ -12,8 +12,9 @@ Under tests/refuse.c, which says what a window is, it runs
   must be as if it stood once. Only lines that may be refused by the definition may ask for memory.
 - each script of tests/maps, and the first lines of six that are made at random, line by line likewise, by play_map;
   and of all scripts that are made at random the lines whose calls are rare, while the maps are small. Behind each
-  refused line both maps are looked at by the checker, and gone along from both ends. A table tells of each call how
-  often it was refused.
+  refused line both maps are looked at by the checker, and gone along from both ends. Tables tell how many requests
+  each call and each line of the program made, and how often it was refused; they go to out/refusals.md, for
+  docs/REFUSALS.md.
 """
 import collections
 import itertools
@@ -51,11 +52,14 @@ TAKE_NONE |= {"first_key_value", "last_key_value", "get_mut", "prefix_get_mut", 
 TAKE_NONE |= {"iter", "keys", "values", "range", "prefix", "range_mut", "prefix_mut", "iter_mut", "values_mut", "swap"}
 TAKE_NONE |= {"compare", "into_iter", "into_keys", "into_values", "contains", "first", "last", "difference", "union"}
 TAKE_NONE |= {"symmetric_difference", "intersection", "is_disjoint", "is_subset", "is_superset"}
+# First words of replies that list nothing.
+REPLIES = {"new", "old", "conflict", "over", "is", "none", "at", "gone", "bounds", "bytes", "bad"}
 SHIM = os.path.abspath("out/refuse.so")
 word = sys.argv[1] if len(sys.argv) > 1 else ""
-counts, runs = {True: 0, False: 0}, 0
-# Of each call and kind of keys: windows, runs, and those in which a request was refused.
-told = collections.defaultdict(lambda: [0, 0, 0])
+counts, runs, requests = {True: 0, False: 0}, 0, 0
+# Of each call and kind of keys, and of each word of the program and reply: its lines, those that made no request, the
+# most requests that one made, and the runs in which one was refused.
+told, told_lines = (collections.defaultdict(lambda: [0, 0, 0, 0]) for _ in range(2))
 
 
 def run(words, refuse, line=None, given=b"", status=0):
@@ -75,10 +79,12 @@ def run(words, refuse, line=None, given=b"", status=0):
 
 def each_refusal(words, **how):
     """Gives what each run wrote, each request refused in turn, alone and with all later ones, until none is met."""
+    global requests
     for rest in ("", "+"):
         for number in itertools.count(1):
             seen, out, err = run(words, f"{number}{rest}", **how)
             if "x" not in seen:
+                requests = seen.count(".")
                 break
             yield f"REFUSE={number}{rest} {seen}", out, err, said(seen)
 
@@ -125,8 +131,17 @@ def one_line(words, lines, at):
     twice = b"".join(lines[: at + 1] + lines[at:])
     seen = run(words, "0", line=at + 1, given=twice)[0]
     assert may_refuse or "." not in seen, f"a line that takes no memory makes {seen.count('.')} requests"
+    refused = 0
     for label, out, *_ in each_refusal(words, line=at + 1, given=twice):
         assert out == wanted, f"{label}: it answers {out[-300:]}, and not {wanted[-300:]}"
+        refused += 1
+    found, reply = reference.parsed(lines[at][:-1]), free[len(before) :].split()[0].decode()
+    add(told_lines[found[0] if found else "anything else", reply if reply in REPLIES else "a listing"], refused)
+
+
+def add(tally, refused):
+    """One line more, of which so many runs were refused."""
+    tally[:] = [tally[0] + 1, tally[1] + (requests == 0), max(tally[2], requests), tally[3] + refused]
 
 
 def free_run(words, lines, wanted):
@@ -216,7 +231,7 @@ def one_call(words, kind, lines, at, model, before):
     call, behind = lines[at].split(" ")[0], look(kind, model) + lines[at:]
     tally = told[call, "set" if kind == "set" else "map"]
     twice = "".join(f"{it}\n" for it in [words[1], *lines[: at + 1], *behind]).encode()
-    free, refused, had = played(model.again(), behind), 0, runs
+    free, refused = played(model.again(), behind), 0
     for label, out, *_ in each_refusal(words[:1], line=at + 2, given=twice):
         assert out.startswith(before), f"{label}: it answers {out[-300:]}"
         answer, _, rest = out[len(before) :].partition(b"\n")
@@ -228,7 +243,7 @@ def one_call(words, kind, lines, at, model, before):
         assert re.match(rb"memory\b|no key", answer), f"{label}: it answers {answer}"
         assert answer == b"no key" or not takes_none(lines[at], model, kind), f"{label}: it asks for memory"
         refused += answer.startswith(b"memory")
-    tally[:] = tally[0] + 1, tally[1] + runs - had, tally[2] + refused
+    add(tally, refused)
 
 
 def is_cut(model, refuse, line, behind, rest):
@@ -239,8 +254,17 @@ def is_cut(model, refuse, line, behind, rest):
     return rest.startswith(answers) and b"memory" in answers and rest == answers + played(model.again(), behind)
 
 
+def made_new(words, first):
+    """A map or set with no pairs, or two, is made with every request refused."""
+    seen = run(words, "1+", line=1, given=f"{first}\nlen\n".encode())[0]
+    assert seen == "|", f"it makes requests: {seen}"
+
+
 def of_players(by):
     """The scripts of the map, and some more that are made at random."""
+    for kind, size in itertools.product(maps.KINDS, maps.PREFIX_LENS):
+        first = f"map {size} {kind}"
+        count("play_map", f"new, {first}", made_new, [f"crates/play_map/out/play_map{by}"], first)
     for name, kind, lines in maps.scripts():
         at_random = name.startswith("random")
         first = len(lines) if not at_random else 60 if int(name.split()[1]) <= 5 else 0
@@ -260,12 +284,19 @@ def enough(refused, least):
 
 def table():
     """How often each call of the scripts was refused. One that may be must have been so often enough."""
-    print("| Call of | | Windows | Runs | Refused |\n|---|---|---:|---:|---:|")
-    for (call, of), row in sorted(told.items(), key=lambda it: (it[0][1], it[0][0])):
-        print(f"| {of} | `{call}` | {' | '.join(map(str, row))} |")
+    with open("out/refusals.md", "w", encoding="utf-8") as file:
+        for (call, of), row in sorted(told.items(), key=lambda it: (it[0][1], it[0][0])):
+            file.write(f"| `{call}` | {of} | {' | '.join(map(str, row))} |\n")
+        file.write("\n")
+        for (name, reply), row in sorted(told_lines.items()):
+            file.write(f"| `{name}` | `{reply}` | {' | '.join(map(str, row))} |\n")
+    print(open("out/refusals.md", encoding="utf-8").read(), end="")
+    for of, calls_of in (("map", {**maps.CALLS, **maps.FREE, **maps.ENDED_CALLS}), ("set", maps.SET_CALLS)):
+        missing = [it for it in calls_of if (it, of) not in told]
+        count("play_map", f"each call of a {of} has a line that is refused", enough, -len(missing), 0)
     for call, of in sorted(told):
         if call not in TAKE_NONE | KEY_ALONE:
-            count("play_map", f"refusals of {call} of a {of}", enough, told[call, of][2], LEAST.get(call, 1))
+            count("play_map", f"refusals of {call} of a {of}", enough, told[call, of][3], LEAST.get(call, 1))
 
 
 resource.setrlimit(resource.RLIMIT_CORE, (0, 0))

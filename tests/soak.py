@@ -1,11 +1,14 @@
-"""./test --soak MINUTES [SEED]: plays random scripts through the program, and holds its replies against reference.py.
+"""./test --soak MINUTES [SEED [PROGRAM]]: plays random scripts through the program, and holds its replies against
+reference.py.
 
 Each script has every line of the language, over keys that branch at each width a node can have, keys that share long
-fronts, and lines that spell nothing. Input and output are cut at random; in some runs a read or a write fails, in some
-one request for memory of many is refused, in some the address space is small. A reply `memory` is taken where the
+fronts, and lines that spell nothing. Input and output are cut at random; in some runs a read or a write fails, one request
+for memory of many is refused, or the address space is small. A reply `memory` is taken where the
 definition allows it, and the line then counts as not made. At a difference it prints the seed and the shortest script
-that it found, and ends with status 1. It is no part of the gate.
+that it found, and ends with status 1. At the end it tells what it tried, as docs/REFUSALS.md has it. Several may run
+side by side. PROGRAM: another build of art_index. It is no part of the gate.
 """
+import collections
 import os
 import random
 import resource
@@ -16,10 +19,15 @@ import time
 
 from reference import WORDS, Reference, parsed
 
-PROGRAM = "crates/art_index/out/art_index"
-SHIM = os.path.abspath("out/soak.so")
+program, shim, least = "crates/art_index/out/art_index", None, 0
+# How often each thing was tried or met.
+told = {it: collections.Counter() for it in ("faults", "met", "lines", "refused")}
 TENANTS = (0, 1, 2, 10, 12, 255, 256, 65536, 4294967295)
 NUMBERS = (0, 1, -1, 5, -5, 255, 256, -256, 65535, 1 << 32, -(1 << 32), (1 << 63) - 1, -(1 << 63))
+REFUSED = b"memory\n"
+# KiB of address space beyond what the program takes with nothing stored, and its statuses and the loader's where it has
+# no room to begin.
+SPACES, NO_ROOM = (0, 50, 100, 200, 300, 600), (2, 127)
 ENDS = {"read": b"art_index: read failed\n", "write": b"art_index: write failed\n"}
 
 
@@ -30,7 +38,7 @@ class Script:
         self.of = random.Random(seed)
         self.tenants = self.of.sample(TENANTS, self.of.randint(1, 4))
         self.alphabet = self.of.sample(range(256), self.of.choice((2, 3, 5, 17, 40, 52, 200)))
-        self.front = bytes(self.of.choices((0, 0xAA, 255), k=self.of.choice((0, 0, 1, 3, 16, 17, 40))))
+        self.front = bytes(self.of.choices((0, 0xAA, 255), k=self.of.choice((0, 0, 1, 3, 16, 17, 40, 600))))
         self.longest = self.of.choice((1, 2, 3, 5))
         self.numbers = list(NUMBERS) + [self.of.getrandbits(64) - (1 << 63) for _ in range(20)]
         self.numbers += range(-30, self.of.choice((0, 30, 60, 300)))
@@ -72,59 +80,76 @@ class Script:
 
 
 class Faults:
-    """What goes wrong in a run."""
+    """What goes wrong in a run: nothing, or one thing or two."""
 
     def __init__(self, seed, size):
         of = random.Random(seed)
-        self.kind = of.choice(("none", "none", "read", "write", "memory", "space"))
-        self.at = of.randint(0, size)
+        self.kinds = set(of.sample(("read", "write", "memory", "space"), of.choice((0, 1, 1, 2))))
+        self.at = {it: of.randint(0, size) for it in ENDS}
         self.given = {"FAULT_SEED": seed % (1 << 31), "FAULT_CUTS": of.choice((0, 1, 2, 7, 100, 5000))}
-        if self.kind in ("read", "write"):
-            self.given[f"FAULT_{self.kind.upper()}"] = self.at
-        elif self.kind == "memory":
-            self.given["FAULT_MEMORY"] = of.choice((2, 5, 30))
-        self.space = of.choice((6, 7, 8, 10)) << 20 if self.kind == "space" else None
+        self.given.update({f"FAULT_{it.upper()}": self.at[it] for it in ENDS if it in self.kinds})
+        if "memory" in self.kinds:
+            self.given["FAULT_MEMORY"] = of.choice((2, 5, 30, 500))
+        self.space = (least + of.choice(SPACES)) << 10 if "space" in self.kinds else None
 
     def limit(self):
         if self.space:
             resource.setrlimit(resource.RLIMIT_AS, (self.space, self.space))
 
     def run(self, text):
-        env = {"LD_PRELOAD": SHIM, **{name: str(value) for name, value in self.given.items()}}
+        env = {"LD_PRELOAD": shim, **{name: str(value) for name, value in self.given.items()}}
         how = {"input": text, "capture_output": True, "env": env, "timeout": 120}
-        return subprocess.run([PROGRAM], preexec_fn=self.limit if self.space else None, **how)
+        return subprocess.run([program], preexec_fn=self.limit if self.space else None, **how)
+
+
+def word_of(line):
+    """The word of the command that a line spells."""
+    found = parsed(line)
+    return found[0] if found else "bad"
+
+
+def read_of(text, faults):
+    """The lines that the program reads, and whether the read behind them fails."""
+    is_cut = "read" in faults.kinds and faults.at["read"] <= len(text)
+    pieces = (text[: faults.at["read"]] if is_cut else text).split(b"\n")
+    last = pieces.pop()
+    return pieces + [last] * bool(last and not is_cut), is_cut
 
 
 def difference(lines, is_ended, faults):
     """Plays the lines, and returns what is wrong with what the program says, or None."""
     text = b"\n".join(lines) + b"\n" * is_ended
     ran = faults.run(text)
-    if faults.space and ran.returncode not in (0,) and not ran.stdout:
-        return None  # (it found no memory to begin)
-    cut_off = faults.kind == "read" and faults.at <= len(text)
-    pieces = (text[: faults.at] if cut_off else text).split(b"\n")
-    last = pieces.pop()
-    if last and not cut_off:
-        pieces.append(last)
-    told, model, at = ran.stdout, Reference(), 0
+    said, model, at = ran.stdout, Reference(), 0
+    if faults.space and ran.returncode in NO_ROOM and not said:
+        told["met"]["no memory to begin"] += 1
+        return None
+    pieces, is_cut = read_of(text, faults)
+    ends = {(1, ENDS["read"]) if is_cut else (0, b"")}
+    if "write" in faults.kinds and len(said) == faults.at["write"]:
+        ends.add((1, ENDS["write"]))
     for line in pieces:
-        rest = told[at:]
-        if rest.startswith(b"memory\n") and faults.kind in ("memory", "space") and model.may_refuse(line):
-            at += 7
+        told["lines"][word_of(line)] += 1
+        may_refuse = faults.kinds & {"memory", "space"} and model.may_refuse(line)
+        if may_refuse and said.startswith(REFUSED, at):
+            at += len(REFUSED)
+            told["refused"][word_of(line)] += 1
             continue
         reply = model.reply(line)
-        if not rest.startswith(reply):
-            if faults.kind == "write" and len(told) == faults.at and reply.startswith(rest):
-                at = len(told)
-                break
-            return f"to {line[:200]} it says {rest[:300]} and not {reply[:300]}"
-        at += len(reply)
-    if at != len(told):
-        return f"behind the last reply it says {told[at:][:300]}"
-    failed = cut_off or faults.kind == "write" and len(told) == faults.at and ran.returncode == 1
-    wanted = (1, ENDS[faults.kind]) if failed else (0, b"")
-    if (ran.returncode, ran.stderr) != wanted:
-        return f"it ends with {ran.returncode} and {ran.stderr}, and not {wanted}"
+        if said.startswith(reply, at):
+            at += len(reply)
+            continue
+        rest = said[at:]
+        if len(ends) == 2 and (reply.startswith(rest) or may_refuse and REFUSED.startswith(rest)):
+            # (a read behind a write that failed is made before the next reply, and may fail too)
+            at, ends = len(said), {(1, ENDS["write"]), *([(1, ENDS["read"])] if is_cut else [])}
+            break
+        return f"to {line[:200]} it says {rest[:300]} and not {reply[:300]}"
+    if at != len(said):
+        return f"behind the last reply it says {said[at:][:300]}"
+    if (ran.returncode, ran.stderr) not in ends:
+        return f"it ends with {ran.returncode} and {ran.stderr}, and not {ends}"
+    told["met"][f"end by {ran.stderr.decode().strip() or 'the end of the input'}"] += 1
     return None
 
 
@@ -149,31 +174,50 @@ def play(seed):
     faults = Faults(seed, sum(map(len, lines)) + len(lines))
     wrong = difference(lines, is_ended, faults)
     if wrong is None:
-        return len(lines), faults.kind
+        return " and ".join(sorted(faults.kinds)) or "nothing"
     fewer = shortest(lines, lambda some: difference(some, is_ended, faults) is not None)
-    print(f"seed {seed}: {wrong}\nfaults {faults.kind} {faults.given}, the last line ended: {is_ended}")
+    print(f"seed {seed}: {wrong}\nfaults {faults.kinds} {faults.given} {faults.space}, the last line ended: {is_ended}")
     print(f"shortest script, {len(fewer)} lines: {difference(fewer, is_ended, faults)}")
     sys.stdout.flush()
     sys.stdout.buffer.write(b"\n".join(fewer) + b"\n")
     sys.exit(1)
 
 
+def least_space():
+    """KiB of address space in which the program answers."""
+    faults = Faults(0, 0)
+    faults.kinds, faults.given = {"space"}, {}
+    for size in range(1000, 100000, 50):
+        faults.space = size << 10
+        if faults.run(b"bad\n").stdout == b"bad\n":
+            return size
+    sys.exit("soak: the program does not answer")
+
+
+def counted(name):
+    return ", ".join(f"{number} {it}" for it, number in sorted(told[name].items()) if number) or "none"
+
+
 def main():
+    global program, shim, least
     minutes = float(sys.argv[1]) if len(sys.argv) > 1 else 1
     seed = int(sys.argv[2]) if len(sys.argv) > 2 else random.randrange(1 << 40)
-    os.makedirs("out", exist_ok=True)
-    subprocess.run(["cc", "-O2", "-Wall", "-shared", "-fPIC", "-o", SHIM, "tests/fault.c"], check=True)
-    start, runs, lines, kinds = time.monotonic(), 0, 0, {}
+    program = os.path.abspath(sys.argv[3] if len(sys.argv) > 3 else program)
+    start, runs = time.monotonic(), 0
     print(f"first seed {seed}", flush=True)
-    while time.monotonic() - start < 60 * minutes:
-        count, kind = play(seed + runs)
-        runs, lines = runs + 1, lines + count
-        kinds[kind] = kinds.get(kind, 0) + 1
-        if runs % 1000 == 0:
-            minute = (time.monotonic() - start) / 60
-            print(f"{minute:.0f} min: {runs} scripts, {lines} lines", file=sys.stderr, flush=True)
-    told = ", ".join(f"{number} {kind}" for kind, number in sorted(kinds.items()))
-    print(f"{runs} scripts, {lines} lines, no difference; faults: {told}")
+    with tempfile.TemporaryDirectory() as room:
+        shim = f"{room}/fault.so"
+        subprocess.run(["cc", "-O2", "-Wall", "-shared", "-fPIC", "-o", shim, "tests/fault.c"], check=True)
+        least = least_space()
+        while time.monotonic() - start < 60 * minutes:
+            told["faults"][play(seed + runs)] += 1
+            runs += 1
+            if runs % 1000 == 0:
+                minute = (time.monotonic() - start) / 60
+                print(f"{minute:.0f} min: {runs} scripts", file=sys.stderr, flush=True)
+    print(f"{runs} scripts, {sum(told['lines'].values())} lines, no difference")
+    print(f"scripts by what was to go wrong: {counted('faults')}\nmet: {counted('met')}")
+    print(f"lines: {counted('lines')}\nrefused: {counted('refused')}")
 
 
 main()

@@ -1,5 +1,5 @@
 -- The reply to a command, from what the line spells.
-use Rattle.std.proofs.Common.{◌≡◌, ℕ, ◌≤◌, List, [], ◌∷◌, refl, ap, sym, subst, ◌∙◌, append-nil, arith, Bool, true}
+use Rattle.std.proofs.Common.{◌≡◌, ℕ, List, [], ◌∷◌, refl, ap, sym, subst, ◌∙◌, append-nil, arith, Bool, true}
 use Rattle.std.proofs.lemmas.Bool.{false≢true}
 use Rattle.std.specs.Prelude.{Option, Some, None, flat_map, codes}
 use Rattle.art_index.specs.Words.{Word, line_of, name}

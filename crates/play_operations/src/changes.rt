@@ -11,6 +11,7 @@ use art_bytes::AsBytes;
 use art_nodes::{LeafNode, OpaqueNodePtr};
 use art_operations::{
     Answer, InsertParentNodeChange, InsertRefused, InsertResult, PairRefused, PrefixInsertResult,
+    SubtreeDeleteResult,
 };
 use std::alloc::AllocError;
 use std::io;
@@ -118,6 +119,7 @@ fn put<K: PlayedKey, const PREFIX_LEN: usize>(
     match call {
         "insert" => show_inserted(rt, tree.insert(key, value)),
         "insert_placed" => show_inserted(rt, tree.insert_placed(key, value)),
+        "insert_at_point" => show_inserted(rt, tree.insert_at_point(rt.alloc(), key, value)),
         _ => show_over(rt, tree.put_over(key, value)),
     }
 }
@@ -130,11 +132,55 @@ fn take<K: PlayedKey, const PREFIX_LEN: usize>(
 ) -> io::Result<bool> {
     let deleted = match asked.call {
         "delete" => tree.delete(asked.first),
+        "take_leaf" => tree.take_leaf(asked.first),
         "delete_first" => tree.delete_end(End::First),
         "delete_last" => tree.delete_end(End::Last),
         _ => return Ok(false),
     };
     show_deleted(rt, deleted, tree.root)?;
+    Ok(true)
+}
+
+// Prints what became of the part behind a prefix, and the kind of the root that is left.
+fn show_cut(
+    rt: &impl Print,
+    cut: Result<Option<SubtreeDeleteResult>, AllocError>,
+    root: Option<OpaqueNodePtr>,
+) -> io::Result<()> {
+    match cut {
+        Ok(Some(done)) => print!(rt; "{} leaves, {} nodes", done.leafs_removed, done.nodes_freed)?,
+        Ok(None) => print!(rt; "None")?,
+        Err(_) => return println!(rt; "memory"),
+    }
+    match root {
+        Some(root) => println!(rt; ", root {:?}", root.node_type()),
+        None => println!(rt; ", no root"),
+    }
+}
+
+// Prints whether there is room for the cut of the part behind a prefix, if there is such a part.
+fn show_left_part(rt: &impl Print, left: Option<Result<(), AllocError>>) -> io::Result<()> {
+    match left {
+        Some(Ok(_)) => println!(rt; "left"),
+        Some(Err(_)) => println!(rt; "memory"),
+        None => println!(rt; "None"),
+    }
+}
+
+// Calls that cut a part off, or leave it.
+fn cut<K: PlayedKey, const PREFIX_LEN: usize>(
+    rt: &impl Print,
+    tree: &mut Tree<K, u64, PREFIX_LEN>,
+    asked: &Asked<'_>,
+) -> io::Result<bool> {
+    match asked.call {
+        "cut" => {
+            let done = tree.cut(asked.first);
+            show_cut(rt, done, tree.root)?;
+        }
+        "leave" => show_left_part(rt, tree.leave(asked.first))?,
+        _ => return Ok(false),
+    }
     Ok(true)
 }
 
@@ -153,7 +199,7 @@ fn show_done(rt: &impl Print, is_done: bool) -> io::Result<()> {
     println!(rt; "{}", if is_done { "done" } else { "memory" })
 }
 
-const PUTS: [&str; 3] = ["insert", "insert_placed", "put_over"];
+const PUTS: [&str; 4] = ["insert", "insert_placed", "insert_at_point", "put_over"];
 
 /// Answers a line that changes the tree, if it is one.
 pub fn answer<K: PlayedKey, const PREFIX_LEN: usize>(
@@ -177,7 +223,9 @@ pub fn answer<K: PlayedKey, const PREFIX_LEN: usize>(
         "run" => show_answers(rt, tree.run(rt.alloc(), kept.commands.as_slice()))?,
         "free" => println!(rt; "{}", tree.free())?,
         "free_apart" => println!(rt; "{}", tree.free_apart())?,
-        _ => return Ok(take(rt, tree, asked)? || kept.answer(rt, asked)?),
+        _ => {
+            return Ok(take(rt, tree, asked)? || cut(rt, tree, asked)? || kept.answer(rt, asked)?);
+        }
     }
     Ok(true)
 }

@@ -20,6 +20,7 @@ mod kept;
 mod key;
 mod lookups;
 mod nodes;
+mod points;
 mod script;
 mod show;
 mod tree;

@@ -84,11 +84,6 @@ impl<K: AsBytes, V, const PREFIX_LEN: usize> Tree<K, V, PREFIX_LEN> {
         (arena, root)
     }
 
-    /// The kind of the root.
-    pub fn root(&self) -> Option<OpaqueNodePtr> {
-        self.root
-    }
-
     pub fn reserve(&mut self, additional: usize) -> Result<(), AllocError> {
         self.arena.reserve(additional)
     }

@@ -3,10 +3,9 @@ use Rattle.std.specs.Int.{to_be_bytes, w32}
 use Rattle.art_arena.specs.tree.Tenants.{with_front, without_front}
 use Rattle.art_operations.specs.Subtrees.{ShrinksWithout}
 use Rattle.art_index.specs.Counts.{longest}
-use Rattle.art_index.specs.Dropped.{IsDropDone}
 use Rattle.art_index.specs.Keys.{full_key, full_key_of, number_key_of}
 use Rattle.art_index.specs.Parsed.{tenant_in_place}
-use Rattle.art_index.specs.Stored.{Pair, NumberPair, record_of, number_record_of, all_records_of, ArePairs, AreNumberPairs}
+use Rattle.art_index.specs.Stored.{Pair, NumberPair, record_of, number_record_of, ArePairs, AreNumberPairs}
 use Rattle.art_index.proofs.Conflicts.{bytes_of}
 use Rattle.art_index.proofs.NumberPlaces.{number_bytes}
 use Rattle.art_index.proofs.RecordCounts.{pairs_within}
