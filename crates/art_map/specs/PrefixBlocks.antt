@@ -18,7 +18,8 @@ module _ {K V : Type 0} (bytes : K → List ℕ) where
   -- keys begin with the prefix, and the longest front that they share with others has a width of which the loss of one
   -- changes the kind
   abbrev pub ShrinksAtCut : List ℕ → List (K × V) → Type 0
-  ShrinksAtCut front pairs = (with_front (key_of bytes) front pairs ≡ [] → ⊥) × ShrinksWithout (key_of bytes) pairs front
+  ShrinksAtCut front pairs =
+      (with_front (key_of bytes) front pairs ≡ [] → ⊥) × ShrinksWithout (key_of bytes) pairs front
 
   module _ (P : ℕ) (m : Contents K V) (front : List ℕ) where
     -- the point is that part of the tree below the root, if there is a root

@@ -116,7 +116,8 @@ impl<K: AsBytes, V, const PREFIX_LEN: usize> TreeMap<K, V, PREFIX_LEN> {
     // Makes room for the loss of the part of the tree whose keys begin with a prefix.
     fn ready_part(&mut self, part: SubtreeDeletePoint) -> Result<PreparedSubtreeDelete, AllocError>
         requires { (front : List ℕ) × IsFoundPart K.bytes PREFIX_LEN self.old front (Some part) }
-        ensures ready { IfOk result (λ ready. (front : List ℕ) → IsFoundPart K.bytes PREFIX_LEN self.old front (Some part)
+        ensures ready { IfOk result (λ ready. (front : List ℕ)
+            → IsFoundPart K.bytes PREFIX_LEN self.old front (Some part)
             → IsReadyPart K.bytes PREFIX_LEN self.new front (Some ready.point)) }
         ensures pairs { self.new.pairs ≡ self.old.pairs }
         ensures kept { IsUntouched self.old self.new }
@@ -220,8 +221,8 @@ impl<K: AsBytes, V, const PREFIX_LEN: usize> TreeMap<K, V, PREFIX_LEN> {
     }
 
     /// Takes all pairs out of the map whose keys begin with a prefix. It is refused as `prepare_remove_prefix` is, and
-    /// counts the nodes that are read to find them and those that are freed, which are at least as many as the pairs and
-    /// fewer than twice as many.
+    /// counts the nodes that are read to find them and those that are freed, which are at least as many as the pairs
+    /// and fewer than twice as many.
     pub fn remove_prefix(&mut self, prefix: &[u8]) -> Result<Removed, AllocError>
     where
         K: Drop,
