@@ -344,6 +344,39 @@ class Model(Entries):
                 keys = []
         return "\n".join(told + [f"end {calls}"])
 
+    # Removals of all keys behind a prefix.
+    def behind(self, word):
+        front = bytes_in(word)
+        keys = self.pairs.keys_in_order
+        return list(itertools.takewhile(lambda it: it.startswith(front), keys[bisect_left(keys, front) :]))
+
+    def cut_shrinks(self, word):
+        """Whether the loss of all keys behind a prefix leaves a node that gets a smaller one."""
+        front, keys = bytes_in(word), self.pairs.keys_in_order
+        beside = [common(front, it) for it in keys if not it.startswith(front)]
+        if not beside or not self.behind(word):
+            return False
+        crossing = max(beside, key=len)
+        return len({it[len(crossing)] for it in keys if it.startswith(crossing)}) in SHRINKING
+
+    def call_remove_prefix(self, word, *_):
+        gone = self.behind(word)
+        for key in gone:
+            del self.pairs[key]
+        return f"{len(gone)} true"
+
+    call_apply_prefix = call_remove_prefix
+
+    def call_prepare_prefix(self, *_):
+        return "ready"
+
+    def call_remove_from_both(self, word, *_):
+        told = []
+        for _ in range(2):
+            told.append(self.call_remove_prefix(word))
+            self.call_swap()
+        return "\n".join(told)
+
     def call_retain(self, least, *_):
         calls = 0
         for key in self.sorted():

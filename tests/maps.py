@@ -43,6 +43,7 @@ CALLS = {
     "prefix_get_mut": "kn", "try_insert": "kn", "prefix_insert": "kn", "remove": "s", "remove_entry": "s", "iter": "e",
     "keys": "e", "values": "e", "range": "bbe", "prefix": "ke", "range_mut": "bbxn", "prefix_mut": "knx",
     "iter_mut": "xn", "values_mut": "en", "extraction": "bbx", "extract_if": "bben", "retain": "n",
+    "remove_prefix": "p", "apply_prefix": "p", "prepare_prefix": "p",
 }  # fmt: skip
 FREE = {"try_entry": "kn", "prefix_entry": "k", "prefix_insert_entry": "kn", "prefix_keys": "k"}
 INNER = ("occupied_insert", "occupied_insert_entry", "inner_insert", "inner_insert_entry", "occupied_shown")
@@ -52,6 +53,7 @@ ENDED = ["insert", *FILLING, *(f"{it}_entry" for it in FILLING), "insert_entry",
 ENDED += ["entry_remove", "entry_remove_entry", "into_mut", "into_key", "vacant_insert_entry", "replace_entry"]
 ENDED_CALLS = {it: "kn" for it in ENDED}
 ENDED_CALLS |= {"swap": "", "split_off": "s", "into_iter": "e", "into_keys": "e", "into_values": "e"}
+ENDED_CALLS |= {"remove_from_both": "p"}
 ENDED_CALLS |= {"append": "", "extend": "", "from_vec": "", "from_iter": "", "clone": "", "compare": ""}
 # Calls that are given a bag of pairs, which is filled before.
 FROM_BAG = ("extend", "from_vec", "from_iter")
@@ -60,6 +62,7 @@ PUTTING = ("try_insert", "insert", "insert_entry", "replace")
 TAKING = ("remove", "remove_entry", "pop_last", "take", "entry_remove", "entry_remove_entry", "pop_first")
 SELDOM = ("clear", "retain", "extraction", "extract_if", "prefix_insert", "prefix_insert_entry", *PREFIX_FILLING)
 SELDOM += INNER[:4]
+SELDOM += ("remove_prefix", "apply_prefix", "remove_from_both")
 SELDOM += ("split_off", "into_iter", "into_keys", "into_values", "append", "clone", *FROM_BAG)
 SELDOM += ("and", "or", "xor", "minus")
 
@@ -80,7 +83,11 @@ def script(seed, kind, length):
         stored = model.keys if isinstance(model, SetModel) else model.pairs
         if kind == "s" and stored and of.random() < 0.8:
             return of.choice(sorted(stored)).hex() or "-"
-        if kind in "ks":
+        if kind == "p" and stored and of.random() < 0.8:
+            # a front of a stored key, now and then none of it or all
+            key = of.choice(sorted(stored))
+            return key[: of.randint(0, len(key))].hex() or "-"
+        if kind in "ksp":
             size = max(of.randint(0, 2 + (wide < 9)) for _ in range(3))
             return front + (bytes(of.choices(alphabet, k=size)).hex() or "-")
         if kind == "b":
@@ -137,7 +144,7 @@ def mixtures(count, letters="fb"):
 
 def small_maps(kind):
     """Walks in every mixture of both ends over each map of at most four of nine keys; between bounds, of which some
-    pairs are drawn, and over what is taken out, in mixtures that are drawn."""
+    pairs are drawn, and over what is taken out, in mixtures that are drawn. All keys behind each prefix are removed."""
     of, put = random.Random(kind), "try_insert" if kind == "free" else "insert"
     for keys in itertools.chain(*(itertools.combinations(SMALL_KEYS, size) for size in range(5))):
         fill = ["clear"] + [f"{put} {key} {of.randrange(9)}" for key in keys]
@@ -154,6 +161,7 @@ def small_maps(kind):
             found = sum(word == "-" or key.startswith(word) for key in keys)
             yield from (f"prefix {word} {ends}" for ends in mixtures(found))
             yield f"prefix_mut {word} 3 {drawn('fbpq')}"
+            yield from (f"{of.choice(('remove', 'apply'))}_prefix {word}", "check", "iter fffff", *fill)
         for start, end in itertools.product(BOUNDS, BOUNDS):
             if of.random() < 0.08:
                 yield f"range {start} {end} {drawn()}"

@@ -17,6 +17,7 @@ import sys
 import tempfile
 
 import operations
+from operations_model import Model, bytes_in, shown
 
 SHIM = os.path.abspath("out/refuse-operations.so")
 # For the names of nodes the player takes memory of its own.
@@ -42,13 +43,13 @@ def run(program, refuse, line, text):
 def named_by(word):
     """The bytes that a word names; none where it is a word of another kind."""
     try:
-        return operations.bytes_in(word)
+        return bytes_in(word)
     except ValueError:
         return b""
 
 
 def shrinks(keys, key):
-    model = operations.Model(0)
+    model = Model(0)
     model.pairs = dict.fromkeys(keys)
     return model.shrinks(key)
 
@@ -77,7 +78,7 @@ def refusals(model, line):
         return {"memory"} if key in keys and shrinks(keys, key) else set()
     if call in PARTS:
         return {"memory"} if model.shrinks_without(word) else set()
-    back = f"memory {operations.shown(word)} {int(words[1] or 0)}"
+    back = f"memory {shown(word)} {int(words[1] or 0)}"
     if call == "insert_at_point" and model.pairs and model.blocked(word):
         return {"no key", back}  # (a copy of the bytes is made)
     if call not in operations.PUTS:
@@ -117,7 +118,7 @@ def agrees(model, lines, told):
 
 
 def one_line(program, lines, at):
-    model, refused = operations.Model(4), 0
+    model, refused = Model(4), 0
     for line in lines[:at]:
         model.answers(line)
     # (behind a list of commands another tree stands, and nodes by hand need be none)
@@ -130,11 +131,11 @@ def one_line(program, lines, at):
             seen, told = run(program, f"{number}{rest}", at + 2, text)
             label = f"REFUSE={number}{rest} {seen}"
             if "x" not in seen:
-                assert agrees(operations.Model(4), twice, told), f"{label}: other answers than the model's"
+                assert agrees(Model(4), twice, told), f"{label}: other answers than the model's"
                 break
             refused += 1
             assert is_refused(model, lines[at], told[at]), f"{label}: it answers {told[at][:300]}"
-            assert agrees(operations.Model(4), once, told[:at] + told[at + 1 :]), f"{label}: else as it stood once"
+            assert agrees(Model(4), once, told[:at] + told[at + 1 :]), f"{label}: else as it stood once"
     has_room = [it.split(" ")[0] for it in lines[max(0, at - 2) : at]] == ["key", "reserve"]
     count = seen_of.setdefault((lines[at].split(" ")[0], case(model, lines[at], has_room)), [0, 0, 0, 0])
     requests = seen.count(".")

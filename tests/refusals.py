@@ -38,6 +38,8 @@ NO_MEMORY = "takes_no_memory"
 SEVERAL = {"retain", "extract_if", "extraction", "extend", "from_vec", "from_iter"}
 # Calls that are given a key, and calls that take out one pair.
 REMOVALS = {"remove", "remove_entry", "pop_first", "pop_last", "take", "entry_remove", "entry_remove_entry"}
+# Calls that take out all keys behind a prefix, or make ready for it.
+CUTS = {"remove_prefix", "apply_prefix", "prepare_prefix", "remove_from_both"}
 GIVEN_KEY = {"try_insert", "prefix_insert", "replace", *maps.ENDED, *maps.FREE} - REMOVALS
 # Of these the first are given a key, and ask for no memory else.
 KEY_ALONE = {"prefix_entry", "prefix_keys", "and_modify", "into_mut", "into_key", *(it for it in maps.INNER[4:])}
@@ -221,6 +223,9 @@ def takes_none(line, model, kind):
         return not any(one.shrinks(key) for key in keys)
     if call == "append":
         return not (one.pairs and model.other)
+    if call in CUTS:
+        other = map_model.Model(True, model.other)
+        return not (one.cut_shrinks(word) or call == "remove_from_both" and other.cut_shrinks(word))
     return call in TAKE_NONE | KEY_ALONE or call in GIVEN_KEY and one.key(word) in one.pairs
 
 

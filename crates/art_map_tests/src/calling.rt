@@ -293,6 +293,17 @@ pub fn forget_rare(
     Ok(forgotten)
 }
 
+/// Forgets the words that begin with these letters, in both tables or in neither: how many went.
+pub fn forget_behind(
+    counts: &mut TreeMap<[u8; 4], u32, 16>,
+    others: &mut TreeMap<[u8; 4], u32, 16>,
+    letters: &[u8],
+) -> Result<usize, AllocError> {
+    let first = counts.prepare_remove_prefix(letters)?;
+    let second = others.prepare_remove_prefix(letters)?;
+    Ok(first.apply().pairs.saturating_add(second.apply().pairs))
+}
+
 /// Halves all counts, and forgets the words whose count is then none.
 pub fn age(counts: &mut TreeMap<[u8; 4], u32, 16>) -> Result<(), AllocError> {
     counts.retain(|_, count| {

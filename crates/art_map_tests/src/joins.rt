@@ -1,5 +1,6 @@
-//! The caller that parts maps and puts them together; pairs that are copied into a map; a map's hash and its text.
-use crate::calling::replace_from;
+//! The callers that part maps, put them together and forget words of two; pairs that are copied into a map; a map's
+//! hash and its text.
+use crate::calling::{forget_behind, replace_from};
 use crate::maps::{Shows, holds, is_put};
 use art_map::TreeMap;
 use std::alloc::{AllocError, Global};
@@ -26,6 +27,29 @@ impl Shows<Counts> for Replaced {
 #[test]
 fn a_caller_parts_and_joins(rt: HostRuntime) {
     assert!(rt; holds(&rt, &Replaced));
+}
+
+struct Forgotten;
+
+impl Shows<Counts> for Forgotten {
+    fn shows(&self, rt: &HostRuntime, counts: &mut Counts) -> bool {
+        let mut others = TreeMap::new(rt.alloc());
+        is_put(counts, *b"lake", 1)
+            && is_put(counts, *b"leaf", 2)
+            && is_put(counts, *b"tree", 3)
+            && is_put(&mut others, *b"lead", 4)
+            && is_put(&mut others, *b"moon", 5)
+            && matches!(forget_behind(counts, &mut others, b"le"), Ok(2))
+            && matches!(forget_behind(counts, &mut others, b"leaf"), Ok(0))
+            && counts.len() == 2
+            && others.get(b"moon") == Some(&5)
+            && matches!(forget_behind(counts, &mut others, b""), Ok(3))
+    }
+}
+
+#[test]
+fn a_caller_forgets_behind_letters(rt: HostRuntime) {
+    assert!(rt; holds(&rt, &Forgotten));
 }
 
 type Map = TreeMap<[u8; 1], usize, 16>;

@@ -16,6 +16,7 @@ mod extraction;
 mod key;
 mod lookups;
 mod prefix_entries;
+mod prefix_removals;
 mod script;
 mod sets;
 mod two_maps;
@@ -38,7 +39,8 @@ fn answer<K: PlayedKey, const PREFIX_LEN: usize>(
         lookups::answer(rt, map, asked)?
             || changes::answer(rt, map, asked)?
             || walks::answer(rt, map, asked)?
-            || extraction::answer(rt, map, asked)?,
+            || extraction::answer(rt, map, asked)?
+            || prefix_removals::answer(rt, map, asked)?,
     )
 }
 

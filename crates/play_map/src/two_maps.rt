@@ -3,6 +3,7 @@
 ghost use Rattle.std.specs.Prelude.{◌≤◌};
 
 use crate::changes::show_refused;
+use crate::prefix_removals::{most_read, show_removed};
 use crate::script::Asked;
 use crate::walks::left;
 use art_bytes::{AsBytes, SliceKey, ZeroEnded};
@@ -171,6 +172,25 @@ fn clone<const PREFIX_LEN: usize>(
     }
 }
 
+// All pairs behind a prefix leave both maps: both removals are made ready before either is applied.
+fn remove_from_both<const PREFIX_LEN: usize>(
+    rt: &impl Print,
+    map: &mut TreeMap<ZeroEnded, u64, PREFIX_LEN>,
+    other: &mut TreeMap<ZeroEnded, u64, PREFIX_LEN>,
+    prefix: &[u8],
+) -> io::Result<()> {
+    let most = most_read(map, prefix);
+    let most_of_other = most_read(other, prefix);
+    let Ok(first) = map.prepare_remove_prefix(prefix) else {
+        return println!(rt; "memory");
+    };
+    let Ok(second) = other.prepare_remove_prefix(prefix) else {
+        return println!(rt; "memory");
+    };
+    show_removed(rt, first.apply(), most)?;
+    show_removed(rt, second.apply(), most_of_other)
+}
+
 // How the two maps compare.
 fn compare<const PREFIX_LEN: usize>(
     rt: &impl Print,
@@ -204,6 +224,7 @@ pub fn answer<const PREFIX_LEN: usize>(
         "from_vec" | "from_iter" => make(rt, map, bag, asked.call)?,
         "clone" => clone(rt, map, other)?,
         "compare" => compare(rt, map, other)?,
+        "remove_from_both" => remove_from_both(rt, map, other, asked.first)?,
         "swap" => {
             mem::swap(map, other);
             println!(rt; "done")?;
