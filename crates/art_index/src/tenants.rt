@@ -16,7 +16,6 @@ use art_map::{Removed, TreeMap};
 /// Removes all records of the tenant that was read, those under keys and those under numbers. Both removals are
 /// prepared before either is made, so that where there is no memory for one, nothing is changed. They take memory only
 /// where the loss of all that the tenant has in one tree makes a node of it one of the next smaller kind.
-#[inline(never)] // (so that no other line makes room for what this one needs)
 pub(crate) fn drop_tenant<const PREFIX_LEN: usize>(
     records: &mut TreeMap<Vec<u8>, Vec<u8>, PREFIX_LEN>,
     numbers: &mut TreeMap<[u8; NUMBER_KEY], Vec<u8>, PREFIX_LEN>,
