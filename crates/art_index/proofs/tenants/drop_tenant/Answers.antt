@@ -56,8 +56,8 @@ returns-in-Ok-prepare_remove_prefix-clause-done g c =
     c.apply-in-Ok-prepare_remove_prefix.ensures.count
     ∙ ap₂ (λ f (qs : List NumberPair). length (with_front number_bytes f qs)) (c.in-Ok-prepare_remove_prefix.ensures.prefix ∙ front) c.in-Ok-prepare_remove_prefix.ensures.same in
     let L = longest full_key_of (map record_of ps) in let M = longest number_key_of (map number_record_of ns) in
-    let first = front_reads L _ c.in-Ok.keys.block.reads (ap length front) (c.in-Ok.ensures.few L (pairs_within ps c.requires.held.stand)) in
-    let second = front_reads M _ c.in-Ok-prepare_remove_prefix.others.block.reads (ap length front) (c.in-Ok-prepare_remove_prefix.ensures.few M (all_numbers_within ns c.requires.numbers.stand)) in
+    let first = front_reads L _ _ (ap length front) (c.in-Ok.ensures.few L (pairs_within ps c.requires.held.stand)) in
+    let second = front_reads M _ _ (ap length front) (c.in-Ok-prepare_remove_prefix.ensures.few M (all_numbers_within ns c.requires.numbers.stand)) in
     drop_same c.gone.result _ t _ _ c.gone.ensures
     (drop_done t small ps ns c.requires.held c.requires.numbers _ _ c.apply.result.pairs c.apply-in-Ok-prepare_remove_prefix.result.pairs _
     (◌∙◌ {b = c.apply.new.self.0.pairs} (search rules) left) (◌∙◌ {b = c.apply-in-Ok-prepare_remove_prefix.new.self.0.pairs} (search rules) others_left) keys others
