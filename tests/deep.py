@@ -28,13 +28,15 @@ STORED = ("aa*100000.01", "aa*4999.bb", "aa*3000.bb", "aa*50000.cc", "bb")
 ABSENT = ("aa*100000.03", "aa*4999.07", "aa*3000.07", "aa*99999.07", "07")
 FRONTS = ("aa*100000", "aa*99500")
 BEHIND = ("aa*4999.bb.07", "aa*100000.01.07")
+PREFIXES = ("aa*3000", "aa*99500", "aa*4999", "aa*100000.01", "07")
 BOUNDS = (("[aa*99000", "*"), ("*", "(aa*99500"), ("(aa*100000.01", "[aa*100000.02"), ("[aa*4999.bb", "(aa*4998.bb"))
 ENDS, STEPS = "fbfb", "fbpq"
 # Where no call with a front of many keys prints them all.
 COUNTED = ("prefix_insert", "prefix_get", "prefix_get_key_value", "get", "remove", "contains_key", "try_insert")
 WIDE = ("aa*3000", "-")
 # Calls that leave a map without most of its keys, and calls that use both maps, between which the keys are parted.
-EMPTYING = ("clear", "retain", "into_iter", "into_keys", "into_values")
+EMPTYING = ("clear", "retain", "into_iter", "into_keys", "into_values", "remove_prefix", "apply_prefix")
+EMPTYING += ("remove_from_both",)
 WITH_OTHER = ("append", "and", "or", "xor", "minus", "compare", "is_subset", "is_superset", "is_disjoint", "swap")
 WITH_OTHER += ("union", "intersection")
 # Calls that print in what two sets differ: the other one has all keys, and two more than the first.
@@ -138,7 +140,7 @@ def words_for(script, call):
     # (a query names all bytes of a stored key, the zero at its end too; a key that is handed in does not)
     queried = script.ended_words(STORED) + list(ABSENT + FRONTS + BEHIND)
     given = [*STORED, *ABSENT, *FRONTS, *BEHIND] + list(WIDE if call in COUNTED and script.kind == "free" else ())
-    of = {"k": given, "s": queried, "n": ["5"], "e": [ENDS], "x": [STEPS]}
+    of = {"k": given, "s": queried, "p": PREFIXES, "n": ["5"], "e": [ENDS], "x": [STEPS]}
     if call == "split_off":
         return queried[1:3]
     if call == "retain" and script.kind != "set":

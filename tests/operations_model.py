@@ -1,5 +1,5 @@
-"""What play_operations has to answer to a line, by a model made from the contracts. It keeps sorted pairs, and makes the
-tree that they should have from its definition; behind the line `by_hand` it keeps nodes as they were made by hand,
+"""What play_operations has to answer to a line, by a model made from the contracts. It keeps sorted pairs, and makes
+the tree that they should have from its definition; behind the line `by_hand` it keeps nodes as they were made by hand,
 damaged at random or not, and tells by the definition whether they are a tree, and which faults stand."""
 import os
 from collections import Counter

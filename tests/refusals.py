@@ -55,7 +55,7 @@ TAKE_NONE |= {"iter", "keys", "values", "range", "prefix", "range_mut", "prefix_
 TAKE_NONE |= {"compare", "into_iter", "into_keys", "into_values", "contains", "first", "last", "difference", "union"}
 TAKE_NONE |= {"symmetric_difference", "intersection", "is_disjoint", "is_subset", "is_superset"}
 # First words of replies that list nothing.
-REPLIES = {"new", "old", "conflict", "over", "is", "none", "at", "gone", "bounds", "bytes", "bad"}
+REPLIES = {"new", "old", "conflict", "over", "is", "none", "at", "gone", "bounds", "bytes", "dropped", "bad"}
 SHIM = os.path.abspath("out/refuse.so")
 word = sys.argv[1] if len(sys.argv) > 1 else ""
 counts, runs, requests = {True: 0, False: 0}, 0, 0

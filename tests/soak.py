@@ -2,11 +2,11 @@
 reference.py.
 
 Each script has every line of the language, over keys that branch at each width a node can have, keys that share long
-fronts, and lines that spell nothing. Input and output are cut at random; in some runs a read or a write fails, one request
-for memory of many is refused, or the address space is small. A reply `memory` is taken where the
-definition allows it, and the line then counts as not made. At a difference it prints the seed and the shortest script
-that it found, and ends with status 1. At the end it tells what it tried, as docs/REFUSALS.md has it. Several may run
-side by side. PROGRAM: another build of art_index. It is no part of the gate.
+fronts, and lines that spell nothing. Input and output are cut at random; in some runs a read or a write fails, one
+request for memory of many is refused, or the address space is small. A reply `memory` is taken where the definition
+allows it, and the line then counts as not made. At a difference it prints the seed and the shortest script that it
+found, and ends with status 1. At the end it tells what it tried, as docs/REFUSALS.md has it. Several may run side by
+side. PROGRAM: another build of art_index. It is no part of the gate.
 """
 import collections
 import os
