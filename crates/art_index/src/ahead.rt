@@ -361,11 +361,6 @@ impl Ahead {
         }
     }
 
-    /// Whether all leaves were read.
-    pub(crate) fn is_over(&self) -> bool {
-        self.left == 0 && self.pending.is_empty()
-    }
-
     /// Goes on by a leaf: where those that were read together are used up, the next ones are. Answers a byte that can't
     /// be told without having read them, so that no compiler leaves the reads out.
     #[inline]

@@ -9,7 +9,7 @@
 #[cfg(test)]
 mod tests;
 
-use crate::ahead::{Ahead, of_entry, of_pair, of_value};
+use crate::ahead::{of_entry, of_pair, of_value};
 use crate::command::LINE;
 use crate::command::fields::{FIELD, Fields, NUMBER_KEY};
 use crate::command::shapes::split_field;
@@ -30,9 +30,6 @@ const FEW: usize = 16_384;
 
 /// How many leaves are read ahead for a line that lists records.
 const ALONG: usize = 8;
-
-/// How many leaves are read ahead for a line that drops a tenant, at most: as many as a cache may hold.
-const DROPPED: usize = 131_072;
 
 /// The nodes of the map of keys, and those of the map of numbers.
 #[derive(Clone, Copy)]
@@ -60,8 +57,6 @@ enum Aim {
     Front,
     /// These, and those of the leaves that follow.
     Along,
-    /// These of all leaves below.
-    Below,
 }
 
 /// The way of a key down a tree, as far as it was gone: the node that was reached, how many bytes of the key lead
@@ -128,37 +123,6 @@ impl Way {
         }
     }
 
-    /// Reads all leaves below the node that was reached, where the first of them is on this way: those of a tenant.
-    fn read_below<const PREFIX_LEN: usize>(
-        self,
-        arena: &NodeArena<Vec<u8>, Vec<u8>, PREFIX_LEN>,
-        key: &[u8; KEY],
-    ) -> u8 {
-        let mut first = self;
-        first.aim = Aim::Front;
-        for _ in 0..KEY {
-            first.go_on(arena, key);
-            if !first.goes_on {
-                break;
-            }
-        }
-        let Some(leaf) = first.leaf() else {
-            return 0;
-        };
-        first.end_behind(arena, leaf, key);
-        if first.aim != Aim::Front {
-            return 0;
-        }
-        let (mut ahead, mut seen) = (Ahead::new(Some(self.name)), 0);
-        for _ in 0..DROPPED {
-            if ahead.is_over() {
-                break;
-            }
-            seen ^= ahead.step(arena);
-        }
-        seen
-    }
-
     /// Reads the leaves beside the one that was reached, or goes on to the one that follows.
     fn pass<K, const PREFIX_LEN: usize>(
         &mut self,
@@ -166,7 +130,7 @@ impl Way {
         leaf: LeafPtr,
     ) -> u8 {
         self.goes_on = false;
-        if matches!(self.aim, Aim::Pair | Aim::Below) || !arena.holds(leaf.to_opaque()) {
+        if self.aim == Aim::Pair || !arena.holds(leaf.to_opaque()) {
             return 0;
         }
         let entry = ArenaReader::new(arena).visit_leaf(leaf);
@@ -208,7 +172,7 @@ fn aim_of(word: Word) -> Option<(Aim, bool)> {
         Word::Change(Change::NDel) => Some((Aim::Beside, true)),
         Word::Change(_) => None,
         Word::Whole(_) => None,
-        Word::Drop => Some((Aim::Below, false)),
+        Word::Drop => None,
     }
 }
 
@@ -316,11 +280,7 @@ impl Upcoming {
         let (Some(root), Some(rest)) = (root, rest) else {
             return;
         };
-        let is_read = match aim {
-            Aim::Below => self.fields.read_tenant(rest),
-            _ => self.read_key(rest, of_number),
-        };
-        if is_read {
+        if self.read_key(rest, of_number) {
             self.take_way(root, aim, of_number);
         }
     }
@@ -347,9 +307,7 @@ impl Upcoming {
         if at >= LINES {
             return;
         }
-        let len = if aim == Aim::Below {
-            put_front(&mut self.keys[at], &self.fields.tenant().to_be_bytes())
-        } else if of_number {
+        let len = if of_number {
             put_front(&mut self.keys[at], &self.fields.number_key())
         } else {
             put_front(&mut self.keys[at], self.fields.full_key())
@@ -387,11 +345,7 @@ impl Upcoming {
 
     /// Reads the leaves that were reached, and of lines that list records those that follow.
     fn read_leaves<const PREFIX_LEN: usize>(&mut self, trees: Trees<'_, PREFIX_LEN>) {
-        let len = self.len.min(LINES);
-        for (way, key) in self.ways[..len].iter_mut().zip(&self.keys) {
-            if way.aim == Aim::Below {
-                self.seen ^= way.read_below(trees.keys, key);
-            }
+        for way in &mut self.ways {
             way.goes_on = true;
         }
         for _ in 0..ALONG {
