@@ -23,7 +23,10 @@ pub fn most_read<K: PlayedKey, const PREFIX_LEN: usize>(
 pub fn show_removed(rt: &impl Print, removed: Removed, most: u64) -> io::Result<()> {
     let pairs = removed.pairs as u64;
     let most = most.saturating_add(pairs.saturating_mul(2));
-    println!(rt; "{pairs} {}", pairs <= removed.visits && removed.visits <= most)
+    println!(rt;
+        "{pairs} {}",
+        pairs <= removed.visits && removed.visits <= most
+    )
 }
 
 // Makes ready for a removal, which is then dropped or applied.
