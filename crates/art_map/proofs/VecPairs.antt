@@ -10,7 +10,7 @@ use Rattle.art_map.specs.Bulk.{IsOfList}
 use Rattle.art_map.specs.Contents.{Contents}
 
 -- what the iterator of a vector has given is a front of its items
-taken-front : {X Z : Type 0} (s : IntoIter X Z) (xs : List X) (t : IntoIter X Z) → Yields into_iter_steps s xs t → into_iter_items s ≡ xs ++ into_iter_items t
+pub taken-front : {X Z : Type 0} (s : IntoIter X Z) (xs : List X) (t : IntoIter X Z) → Yields into_iter_steps s xs t → into_iter_items s ≡ xs ++ into_iter_items t
 taken-front s [] t y = ap into_iter_items y
 taken-front s (x ∷ xs) t y = y.1.0 ∙ ap (λ ys. x ∷ ys) (taken-front y.0 xs t y.2)
 

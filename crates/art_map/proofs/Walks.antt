@@ -1,4 +1,4 @@
--- A step that the walk of `src/map/prefix_removal/front.rt` takes. Assumes `Logic`.
+-- A step that walks of structs with no fields take: of `src/map/prefix_removal/front.rt`, and of art_index. Assumes `Logic`.
 use Rattle.std.proofs.Common.{List, [], ◌∷◌, refl}
 use seplogic.Ra.Ura.{Ura}
 use mir.Val.{Val, vstruct, vnil}

@@ -15,5 +15,6 @@ pub use map::prefix_entry::{
 };
 pub use map::prefix_removal::{PrefixRemoval, Removed};
 pub use map::refused::{TryInsertError, TryKeyError};
+pub use map::room::nodes_fit;
 pub use map::walks_mut::{PrefixMut, RangeMut, SubtreeIterMut};
 pub use map::{DEFAULT_PREFIX_LEN, TreeMap};

@@ -23,7 +23,7 @@ mod ranges;
 mod readers;
 pub mod refused;
 mod removals;
-mod room;
+pub mod room;
 mod walks;
 pub mod walks_mut;
 

@@ -8,6 +8,7 @@ use Rattle.std.proofs.IntoIterSteps.{All-taken}
 use Rattle.std.proofs.lemmas.List.{append-nil, map-append}
 use Rattle.art_arena.specs.tree.Order.{AscendsByKey}
 use Rattle.art_operations.proofs.KeyedLists.{put_new}
+use Rattle.art_map.proofs.VecPairs.{taken-front}
 use Rattle.art_set.specs.Bulk.{ExtendsWithKeys, HandsNextKeyBack, IsMadeOfKeys, IsKeyOfList}
 use Rattle.art_set.specs.Members.{with_key_put, with_keys_put}
 use Rattle.art_set.specs.declared.set.refused.RefusedKey.{RefusedKey}
@@ -42,11 +43,6 @@ module _ {K : Type 0} (bytes : K → List ℕ) where
         → IsErrAnd r (λ x. x ≡ e) → IsMadeOfKeys bytes key_of becomes steps iter r
     made-refused iter it given e (Ok x) b back h = absurd h
     made-refused iter it given e (Err x) b back h = (it, given, b, subst (HandsNextKeyBack bytes key_of becomes steps it given) (sym h) back)
-
--- what the iterator of a vector has given is a front of its items
-taken-front : {X Z : Type 0} (s : IntoIter X Z) (xs : List X) (t : IntoIter X Z) → Yields into_iter_steps s xs t → into_iter_items s ≡ xs ++ into_iter_items t
-taken-front s [] t y = ap into_iter_items y
-taken-front s (x ∷ xs) t y = y.1.0 ∙ ap (λ ys. x ∷ ys) (taken-front y.0 xs t y.2)
 
 module _ {K Z : Type 0} (bytes : K → List ℕ) (it : IntoIter K Z) (given items : List K) (has : into_iter_items it ≡ items) where
   -- what comes of a set that is made of the vector's keys

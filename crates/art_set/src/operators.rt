@@ -6,8 +6,8 @@ ghost use Rattle.art_set.specs.inner.Merging.{merging};
 
 use crate::merges::{Sides, Wanted};
 use crate::set::TreeSet;
-use crate::set::bulk::nodes_fit;
 use art_bytes::{NoPrefixesBytes, OrderedBytes};
+use art_map::nodes_fit;
 use std::alloc::{AllocError, Global};
 use std::ops::{BitAnd, BitOr, BitXor, Sub};
 

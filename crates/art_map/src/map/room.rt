@@ -1,5 +1,5 @@
 //! Room for nodes that are still to be made.
-ghost use Rattle.std.specs.Prelude.{◌≡◌, ◌*◌, ◌<◌, ◌^◌, IsTrue, OnOk};
+ghost use Rattle.std.specs.Prelude.{◌≡◌, ◌↔◌, ◌*◌, ◌<◌, ◌^◌, IsTrue, OnOk};
 ghost use Rattle.art_arena.specs.arena.Arena.{HasRoom, KeepsRoom};
 ghost use Rattle.art_map.specs.Contents.{IsUntouched};
 
@@ -10,10 +10,12 @@ use std::alloc::AllocError;
 // An inner node of so long a stored front fits in no memory.
 const NO_MEMORY_HOLDS: usize = 1 << 62;
 
-// Whether an inner node fits in memory, as its stored front is so short. A call that makes a map and may let go of it
-// asks this first.
-pub(super) fn nodes_fit<const PREFIX_LEN: usize>() -> bool
-    ensures { IsTrue result → PREFIX_LEN < 2 ^ 62 }
+/// Whether an inner node that stores so long a front of its prefix fits in memory. A call that makes a map and may let
+/// go of it asks this first; a type over the map does the same.
+///
+/// It answers true exactly where `PREFIX_LEN` is less than 2^62.
+pub fn nodes_fit<const PREFIX_LEN: usize>() -> bool
+    ensures { IsTrue result ↔ PREFIX_LEN < 2 ^ 62 }
 {
     PREFIX_LEN < NO_MEMORY_HOLDS
 }

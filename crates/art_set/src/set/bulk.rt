@@ -1,5 +1,5 @@
 //! Many keys are put in, one after another; and sets are made of them.
-ghost use Rattle.std.specs.Prelude.{◌≡◌, ◌<◌, ◌^◌, [], IfErr, IfOk, IsTrue};
+ghost use Rattle.std.specs.Prelude.{◌≡◌, [], IfErr, IfOk};
 ghost use Rattle.std.specs.Iterator.{IsFinite};
 ghost use Rattle.std.specs.Map.Iter.{deref};
 ghost use Rattle.art_set.specs.Bulk.{ExtendsWithKeys, IsMadeOfKeys, IsKeyOfList};
@@ -8,18 +8,8 @@ ghost use Rattle.art_set.specs.Members.{with_keys_put};
 use crate::set::TreeSet;
 use crate::set::refused::RefusedKey;
 use art_bytes::NoPrefixesBytes;
+use art_map::nodes_fit;
 use std::alloc::Global;
-
-// An inner node of so long a stored front fits in no memory.
-const NO_MEMORY_HOLDS: usize = 1 << 62;
-
-// Whether an inner node fits in memory, as its stored front is so short. A call that makes a set and may let go of it
-// asks this first.
-pub(crate) fn nodes_fit<const PREFIX_LEN: usize>() -> bool
-    ensures { IsTrue result → PREFIX_LEN < 2 ^ 62 }
-{
-    PREFIX_LEN < NO_MEMORY_HOLDS
-}
 
 impl<K: NoPrefixesBytes + Drop, const PREFIX_LEN: usize> TreeSet<K, PREFIX_LEN> {
     /// Puts the keys in that an iterator gives, one after another, each in the place of the one with the same bytes if

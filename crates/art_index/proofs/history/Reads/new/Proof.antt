@@ -23,7 +23,7 @@ use denote.Triple.Entry.{alive}
 use denote.Triple.Spec.{Meets, triple_of}
 use denote.Triple.Table.{entered}
 use denote.Triple.Walked.{says, Stays, walk_of, ends_at, walk_Meets}
-use Rattle.art_index.proofs.Walks.{none, none_made}
+use Rattle.art_map.proofs.Walks.{none, none_made}
 use Rattle.art_index.specs.contracts.history.Reads as Reads
 use Rattle.art_index.specs.contracts.history.Reads.new as F
 use Rattle.art_index.specs.contracts.history.Reads.new.Key.{name as #self}

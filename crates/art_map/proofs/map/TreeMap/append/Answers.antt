@@ -16,6 +16,6 @@ put_pairs-requires g c =
       omega arith,
       (
         omega arith,
-        (c.if-not-nodes_fit.ensures refl, subst (λ n. HasRoom c.reserve_insertions.new.self.nodes (2 * n)) (c.len.ensures ∙ ap length (sym all)) c.in_ok-reserve_insertions.ensures.room),
+        (c.if-not-nodes_fit.ensures.0 refl, subst (λ n. HasRoom c.reserve_insertions.new.self.nodes (2 * n)) (c.len.ensures ∙ ap length (sym all)) c.in_ok-reserve_insertions.ensures.room),
       ),
     )
