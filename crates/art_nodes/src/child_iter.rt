@@ -194,27 +194,28 @@ impl<'a> DirectChildren<'a> {
     fn next(&mut self) -> Option<(u8, OpaqueNodePtr)>
         ensures { YieldsFirst (λ s. s) self.old result self.new }
     {
-        let byte = self.mask.lowest_from(self.from)?;
-        if usize::from(byte) >= self.to {
+        let first = self.mask.lowest_from(self.from)?;
+        if usize::from(first) >= self.to {
             return None;
         }
-        let name = held(self.slots, byte)?;
-        self.from = usize::from(byte) + 1;
-        Some((byte, name))
+        let name = held(self.slots, first)?;
+        self.from = usize::from(first) + 1;
+        Some((first, name))
     }
 
     fn next_back(&mut self) -> Option<(u8, OpaqueNodePtr)>
         ensures { YieldsLast (λ s. s) self.old result self.new }
     {
-        let byte = self.mask.highest_below(self.to)?;
-        if usize::from(byte) < self.from {
+        let last = self.mask.highest_below(self.to)?;
+        if usize::from(last) < self.from {
             return None;
         }
-        let name = held(self.slots, byte)?;
-        self.to = usize::from(byte);
-        Some((byte, name))
+        let name = held(self.slots, last)?;
+        self.to = usize::from(last);
+        Some((last, name))
     }
 
+    #[tactic(auto, using(crate::proofs::PlaceLemmas::places))]
     fn len(&self) -> usize
         ensures { result ≡ length self.now }
     {
