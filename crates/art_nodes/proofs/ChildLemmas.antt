@@ -150,36 +150,6 @@ module _ {N : Type 0} where
   length-ascending low [] h rises = omega arith
   length-ascending low (c ∷ cs) h rises = omega (arith, rises.0, rises.1, length-ascending (c.0 + 1) cs (omega (arith, rises.1)) rises.2)
 
-  pub length-with_child_new : (cs : List (ℕ × N)) (byte : ℕ) (name : N) → child_at cs byte ≡ None → length (with_child cs byte name) ≡ length cs + 1
-  length-with_child_new [] byte name none = refl
-  length-with_child_new (c ∷ cs) byte name none = elim (eqb_tells c.0 byte) [
-    | inl same ↦ absurd (let e = rw same.0 at none in cc)
-    | inr other ↦ elim (leb_tells (suc c.0) byte) [
-      | inl below ↦ rw below.0 (omega (arith, length-with_child_new cs byte name (rw other.0 at none)))
-      | inr above ↦ rw (above.0, other.0) (omega arith)
-    ]
-  ]
-
-  pub length-with_child_held : (low : ℕ) (cs : List (ℕ × N)) (byte : ℕ) (name old : N) → IsAscendingFrom low cs → child_at cs byte ≡ Some old → length (with_child cs byte name) ≡ length cs
-  length-with_child_held low [] byte name old rises some = absurd (cc)
-  length-with_child_held low (c ∷ cs) byte name old rises some = elim (eqb_tells c.0 byte) [
-    | inl same ↦ elim (leb_tells (suc c.0) byte) [
-      | inl below ↦ absurd (omega (arith, below.1, same.1))
-      | inr above ↦ rw (above.0, same.0) refl
-    ]
-    | inr other ↦ elim (leb_tells (suc c.0) byte) [
-      | inl below ↦ rw below.0 (ap (λ n. suc n) (length-with_child_held (c.0 + 1) cs byte name old rises.2 (rw other.0 at some)))
-      | inr above ↦ absurd (let e = child_at-above (c.0 + 1) cs byte (omega (arith, above.1, other.1)) rises.2 in let f = rw other.0 at some in cc)
-    ]
-  ]
-
-  pub length-without_child : (cs : List (ℕ × N)) (byte : ℕ) (old : N) → child_at cs byte ≡ Some old → length (without_child cs byte) + 1 ≡ length cs
-  length-without_child [] byte old some = absurd (cc)
-  length-without_child (c ∷ cs) byte old some = elim (eqb_tells c.0 byte) [
-    | inl same ↦ rw same.0 (omega arith)
-    | inr other ↦ rw other.0 (omega (arith, length-without_child cs byte old (rw other.0 at some)))
-  ]
-
   pub without_child-none : (cs : List (ℕ × N)) (byte : ℕ) → child_at cs byte ≡ None → without_child cs byte ≡ cs
   without_child-none [] byte none = refl
   without_child-none (c ∷ cs) byte none = elim (eqb_tells c.0 byte) [

@@ -1,5 +1,5 @@
--- Lemmas on places: children within bounds as a part of a table, or of bytes and names side by side.
-use Rattle.std.proofs.Common.{◌≡◌, ℕ, zero, suc, ◌+◌, ◌-◌, ◌<◌, ◌≤◌, min, Bool, true, false, nat_le, nat_lt, ◌&&◌, List, [], ◌∷◌, ◌++◌, get_or, length, take, drop, filter, Option, Some, None, cond, refl, ap, sym, ◌∙◌, inl, inr, arith, length-drop}
+-- Lemmas on places: children within bounds as a part of all, also of bytes and names side by side.
+use Rattle.std.proofs.Common.{◌≡◌, ℕ, zero, suc, ◌+◌, ◌-◌, ◌<◌, ◌≤◌, nat_le, nat_lt, List, [], ◌∷◌, ◌++◌, get_or, length, take, drop, refl, ap, sym, ◌∙◌, inl, inr, arith, length-drop}
 use Rattle.std.proofs.lemmas.List.{length-take, take_all, take_more, drop_more, get_or-drop}
 use Rattle.std.specs.List.{zip}
 use Rattle.std.specs.Range.Bound.{start_index, end_index}
@@ -8,8 +8,7 @@ use Rattle.std.specs.declared.ops.Bound.TheVariants.{Included, Excluded, Unbound
 use Rattle.std.proofs.lemmas.Bool.Decides.{leb_tells, nat_tests}
 use Rattle.art_nodes.specs.InnerNode.{IsAscendingFrom, is_from, is_to, children_between, AreValidBounds}
 use Rattle.art_nodes.specs.inner.Place.{place, children_within, bytes_within, IsFirstFrom, IsLastBelow}
-use Rattle.art_nodes.specs.inner.Table.{children_from}
-use Rattle.art_nodes.proofs.ChildLemmas.{IsAscendingFrom-lower}
+use Rattle.art_nodes.specs.inner.Table.{bytes_of}
 
 pub place-drop : (ks : List ℕ) (from to : ℕ) → from ≤ to → place (drop (place ks from) ks) to ≡ place ks to - place ks from
 place-drop [] from to h = refl
@@ -70,115 +69,42 @@ place-zero [] = refl
 place-zero (k ∷ ks) = elim (leb_tells (suc k) 0) [ inl yes_it ↦ absurd (omega (arith, yes_it.1)) | inr no_it ↦ rw no_it.0 refl ]
 
 module _ {N : Type 0} where
-  abbrev not_before : ℕ → ℕ × N → Bool
-  not_before from c = nat_le from c.0
-
-  abbrev not_past : ℕ → ℕ × N → Bool
-  not_past to c = nat_lt c.0 to
-
-  both : (p q : ℕ × N → Bool) (cs : List (ℕ × N)) → filter (λ c. p c && q c) cs ≡ filter q (filter p cs)
-  both p q [] = refl
-  both p q (c ∷ cs) = elim (p c) as (λ t. cond (t && q c) (c ∷ filter (λ d. p d && q d) cs) (filter (λ d. p d && q d) cs) ≡ filter q (cond t (c ∷ filter p cs) (filter p cs))) [
-    | true ↦ elim (q c) as (λ t. cond t (c ∷ filter (λ d. p d && q d) cs) (filter (λ d. p d && q d) cs) ≡ cond t (c ∷ filter q (filter p cs)) (filter q (filter p cs))) [ true ↦ ap (λ ds. c ∷ ds) (both p q cs) | false ↦ both p q cs ]
-    | false ↦ both p q cs
+  -- a bound before all children has the first place
+  place-before : (low bound : ℕ) (cs : List (ℕ × N)) → bound ≤ low → IsAscendingFrom low cs → place (bytes_of cs) bound ≡ 0
+  place-before low bound [] before rises = refl
+  place-before low bound (c ∷ cs) before rises = elim (leb_tells (suc c.0) bound) [
+    | inl below ↦ absurd (omega (arith, below.1, rises.0))
+    | inr above ↦ rw above.0 refl
   ]
 
-  -- a table that begins at or after `from` has nothing before it
-  all_from : (first from : ℕ) (xs : List (Option N)) → from ≤ first → filter (not_before from) (children_from first xs) ≡ children_from first xs
-  all_from first from [] h = refl
-  all_from first from (None ∷ xs) h = all_from (first + 1) from xs (omega arith)
-  all_from first from (Some n ∷ xs) h = elim (leb_tells from first) [
-    | inl yes_it ↦ rw yes_it.0 (ap (λ cs. (first, n) ∷ cs) (all_from (first + 1) from xs (omega arith)))
-    | inr no_it ↦ absurd (omega (arith, no_it.1))
-  ]
-
-  none_to : (first to : ℕ) (xs : List (Option N)) → to ≤ first → filter (not_past to) (children_from first xs) ≡ []
-  none_to first to [] h = refl
-  none_to first to (None ∷ xs) h = none_to (first + 1) to xs (omega arith)
-  none_to first to (Some n ∷ xs) h = elim (leb_tells (suc first) to) [
-    | inl yes_it ↦ absurd (omega (arith, yes_it.1))
-    | inr no_it ↦ rw no_it.0 (none_to (first + 1) to xs (omega arith))
-  ]
-
-  table_from : (first from low : ℕ) (xs : List (Option N)) → low ≡ min (from - first) (length xs) → filter (not_before from) (children_from first xs) ≡ children_from (first + low) (drop low xs)
-  table_from first from zero [] e = refl
-  table_from first from zero (x ∷ xs) e = let same : first ≡ first + 0 = omega arith in rw (← same) (all_from first from (x ∷ xs) (omega arith))
-  table_from first from (suc low) [] e = absurd (omega arith)
-  table_from first from (suc low) (None ∷ xs) e =
-      let same : first + 1 + low ≡ first + suc low = omega arith in
-      rw (← same) (table_from (first + 1) from low xs (omega arith))
-  table_from first from (suc low) (Some n ∷ xs) e =
-      let same : first + 1 + low ≡ first + suc low = omega arith in
-      elim (leb_tells from first) [
-        | inl yes_it ↦ absurd (omega (arith, yes_it.1))
-        | inr no_it ↦ rw (no_it.0, ← same) (table_from (first + 1) from low xs (omega arith))
+  -- the children within bounds are those between the bounds' places
+  pub within-part : (low from to : ℕ) (cs : List (ℕ × N)) → from ≤ to → IsAscendingFrom low cs → children_within from to cs ≡ take (place (bytes_of cs) to - place (bytes_of cs) from) (drop (place (bytes_of cs) from) cs)
+  within-part low from to [] forward rises = refl
+  within-part low from to (c ∷ cs) forward rises =
+      let ks = bytes_of cs in
+      let rest = within-part (c.0 + 1) from to cs forward rises.2 in
+      elim (leb_tells (suc c.0) from) [
+        | inl below ↦ elim (leb_tells from c.0) [
+          | inl yes_it ↦ absurd (omega (arith, yes_it.1, below.1))
+          | inr no_it ↦ elim (leb_tells (suc c.0) to) [
+            | inl below_to ↦ let e : suc (place ks to) - suc (place ks from) ≡ place ks to - place ks from = omega arith in rw (below.0, no_it.0, below_to.0, e) rest
+            | inr past ↦ absurd (omega (arith, past.1, below.1))
+          ]
+        ]
+        | inr above ↦ elim (leb_tells from c.0) [
+          | inl yes_it ↦
+              let none : place ks from ≡ 0 = place-before (c.0 + 1) from cs (omega (arith, yes_it.1)) rises.2 in
+              elim (leb_tells (suc c.0) to) [
+                | inl below_to ↦
+                    let e : suc (place ks to) - 0 ≡ suc (place ks to - 0) = omega arith in
+                    rw (above.0, yes_it.0, below_to.0, e) (ap (λ ds. c ∷ ds) (rw none at rest))
+                | inr past ↦
+                    let nothing : place ks to ≡ 0 = place-before (c.0 + 1) to cs (omega (arith, past.1)) rises.2 in
+                    rw (above.0, yes_it.0, past.0) (rw (none, nothing) at rest)
+              ]
+          | inr no_it ↦ absurd (omega (arith, no_it.1, above.1))
+        ]
       ]
-
-  table_to : (first to high : ℕ) (xs : List (Option N)) → high ≡ min (to - first) (length xs) → filter (not_past to) (children_from first xs) ≡ children_from first (take high xs)
-  table_to first to zero [] e = refl
-  table_to first to zero (x ∷ xs) e = none_to first to (x ∷ xs) (omega arith)
-  table_to first to (suc high) [] e = absurd (omega arith)
-  table_to first to (suc high) (None ∷ xs) e = table_to (first + 1) to high xs (omega arith)
-  table_to first to (suc high) (Some n ∷ xs) e = elim (leb_tells (suc first) to) [
-    | inl yes_it ↦ rw yes_it.0 (ap (λ cs. (first, n) ∷ cs) (table_to (first + 1) to high xs (omega arith)))
-    | inr no_it ↦ absurd (omega (arith, no_it.1))
-  ]
-
-  -- the children of a table within bounds are those of a part of the table
-  pub within-children_from : (first from to low high : ℕ) (xs : List (Option N)) → from ≤ to → low ≡ min (from - first) (length xs) → high ≡ min (to - first) (length xs) → children_from (first + low) (take (high - low) (drop low xs)) ≡ children_within from to (children_from first xs)
-  within-children_from first from to low high xs forward lows highs =
-      let part : high - low ≡ min (to - (first + low)) (length (drop low xs)) = simp length-drop (omega arith) in
-      sym (both (not_before from) (not_past to) (children_from first xs)
-      ∙ ap (λ cs. filter (not_past to) cs) (table_from first from low xs lows)
-      ∙ table_to (first + low) to (high - low) (drop low xs) part)
-
-  sorted_all_from : (low from : ℕ) (ks : List ℕ) (ns : List N) → from ≤ low → IsAscendingFrom low (zip ks ns) → filter (not_before from) (zip ks ns) ≡ zip ks ns
-  sorted_all_from low from [] ns h rises = refl
-  sorted_all_from low from (k ∷ ks) [] h rises = refl
-  sorted_all_from low from (k ∷ ks) (n ∷ ns) h rises = elim (leb_tells from k) [
-    | inl yes_it ↦ rw yes_it.0 (ap (λ cs. (k, n) ∷ cs) (sorted_all_from (k + 1) from ks ns (omega (arith, yes_it.1)) rises.2))
-    | inr no_it ↦ absurd (omega (arith, no_it.1, rises.0))
-  ]
-
-  sorted_none_to : (low to : ℕ) (ks : List ℕ) (ns : List N) → to ≤ low → IsAscendingFrom low (zip ks ns) → filter (not_past to) (zip ks ns) ≡ []
-  sorted_none_to low to [] ns h rises = refl
-  sorted_none_to low to (k ∷ ks) [] h rises = refl
-  sorted_none_to low to (k ∷ ks) (n ∷ ns) h rises = elim (leb_tells (suc k) to) [
-    | inl yes_it ↦ absurd (omega (arith, yes_it.1, rises.0))
-    | inr no_it ↦ rw no_it.0 (sorted_none_to (k + 1) to ks ns (omega (arith, no_it.1)) rises.2)
-  ]
-
-  sorted_from : (low from : ℕ) (ks : List ℕ) (ns : List N) → length ks ≡ length ns → IsAscendingFrom low (zip ks ns) → filter (not_before from) (zip ks ns) ≡ zip (drop (place ks from) ks) (drop (place ks from) ns)
-  sorted_from low from [] ns e rises = refl
-  sorted_from low from (k ∷ ks) [] e rises = absurd (omega arith)
-  sorted_from low from (k ∷ ks) (n ∷ ns) e rises = elim (leb_tells (suc k) from) [
-    | inl below ↦ elim (leb_tells from k) [
-      | inl yes_it ↦ absurd (omega (arith, yes_it.1, below.1))
-      | inr no_it ↦ rw (below.0, no_it.0) (sorted_from (k + 1) from ks ns (omega arith) rises.2)
-    ]
-    | inr above ↦ elim (leb_tells from k) [
-      | inl yes_it ↦ rw (above.0, yes_it.0) (ap (λ cs. (k, n) ∷ cs) (sorted_all_from (k + 1) from ks ns (omega (arith, yes_it.1)) rises.2))
-      | inr no_it ↦ absurd (omega (arith, no_it.1, above.1))
-    ]
-  ]
-
-  sorted_to : (low to : ℕ) (ks : List ℕ) (ns : List N) → length ks ≡ length ns → IsAscendingFrom low (zip ks ns) → filter (not_past to) (zip ks ns) ≡ zip (take (place ks to) ks) (take (place ks to) ns)
-  sorted_to low to [] ns e rises = refl
-  sorted_to low to (k ∷ ks) [] e rises = absurd (omega arith)
-  sorted_to low to (k ∷ ks) (n ∷ ns) e rises = elim (leb_tells (suc k) to) [
-    | inl below ↦ rw below.0 (ap (λ cs. (k, n) ∷ cs) (sorted_to (k + 1) to ks ns (omega arith) rises.2))
-    | inr above ↦ rw above.0 (sorted_none_to (k + 1) to ks ns (omega (arith, above.1)) rises.2)
-  ]
-
-  rises-drop : (low i : ℕ) (ks : List ℕ) (ns : List N) → IsAscendingFrom low (zip ks ns) → IsAscendingFrom low (zip (drop i ks) (drop i ns))
-  rises-drop low zero ks ns rises = rises
-  rises-drop low (suc i) [] ns rises = tt
-  rises-drop low (suc i) (k ∷ ks) [] rises = nothing (drop i ks)
-    where
-      nothing : (xs : List ℕ) → IsAscendingFrom low (zip {K = ℕ} {X = N} xs [])
-      nothing [] = tt
-      nothing (x ∷ xs) = tt
-  rises-drop low (suc i) (k ∷ ks) (n ∷ ns) rises = rises-drop low i ks ns (IsAscendingFrom-lower low (k + 1) (zip ks ns) (omega (arith, rises.0)) rises.2)
 
   -- all ascending bytes come before the end of all bytes
   pub place-all : (low : ℕ) (ks : List ℕ) (ns : List N) → length ks ≡ length ns → IsAscendingFrom low (zip ks ns) → place ks 256 ≡ length ks
@@ -193,13 +119,30 @@ module _ {N : Type 0} where
   pub all_within : (ks : List ℕ) (ns : List N) → length ks ≡ length ns → IsAscendingFrom 0 (zip ks ns) → bytes_within 0 256 ks ≡ ks
   all_within ks ns e rises = let none = place-zero ks in let all = place-all 0 ks ns e rises in let from : length ks - 0 ≡ length ks = omega arith in rw (all, none, from) (take_all (length ks) ks (omega arith))
 
+  bytes_of-zip : (ks : List ℕ) (ns : List N) → length ks ≡ length ns → bytes_of (zip ks ns) ≡ ks
+  bytes_of-zip [] ns e = refl
+  bytes_of-zip (k ∷ ks) [] e = absurd (omega arith)
+  bytes_of-zip (k ∷ ks) (n ∷ ns) e = ap (λ ls. k ∷ ls) (bytes_of-zip ks ns (omega arith))
+
+  drop-zip : (i : ℕ) (ks : List ℕ) (ns : List N) → length ks ≡ length ns → drop i (zip ks ns) ≡ zip (drop i ks) (drop i ns)
+  drop-zip zero ks ns e = refl
+  drop-zip (suc i) [] [] e = refl
+  drop-zip (suc i) [] (n ∷ ns) e = absurd (omega arith)
+  drop-zip (suc i) (k ∷ ks) [] e = absurd (omega arith)
+  drop-zip (suc i) (k ∷ ks) (n ∷ ns) e = drop-zip i ks ns (omega arith)
+
+  take-zip : (i : ℕ) (ks : List ℕ) (ns : List N) → take i (zip ks ns) ≡ zip (take i ks) (take i ns)
+  take-zip zero ks ns = refl
+  take-zip (suc i) [] ns = refl
+  take-zip (suc i) (k ∷ ks) [] = refl
+  take-zip (suc i) (k ∷ ks) (n ∷ ns) = ap (λ cs. (k, n) ∷ cs) (take-zip i ks ns)
+
   -- the children of bytes and names side by side within bounds are a part of both
   pub within-zip : (from to : ℕ) (ks : List ℕ) (ns : List N) → length ks ≡ length ns → from ≤ to → IsAscendingFrom 0 (zip ks ns) → zip (take (place ks to - place ks from) (drop (place ks from) ks)) (take (place ks to - place ks from) (drop (place ks from) ns)) ≡ children_within from to (zip ks ns)
   within-zip from to ks ns e forward rises =
-      let long : length (drop (place ks from) ks) ≡ length (drop (place ks from) ns) = simp length-drop (omega arith) in
-      sym (both (not_before from) (not_past to) (zip ks ns)
-      ∙ ap (λ cs. filter (not_past to) cs) (sorted_from 0 from ks ns e rises)
-      ∙ rw (place-drop ks from to forward) at (sorted_to 0 to (drop (place ks from) ks) (drop (place ks from) ns) long (rises-drop 0 (place ks from) ks ns rises)))
+      let n = place ks to - place ks from in
+      let part : children_within from to (zip ks ns) ≡ take n (drop (place ks from) (zip ks ns)) = rw (bytes_of-zip ks ns e) at (within-part 0 from to (zip ks ns) forward rises) in
+      sym (part ∙ ap (λ cs. take n cs) (drop-zip (place ks from) ks ns e) ∙ take-zip n (drop (place ks from) ks) (drop (place ks from) ns))
 
 start_test : (start : Bound ℕ) (byte : ℕ) → is_from start byte ≡ nat_le (start_index start) byte
 start_test (Included a) byte = refl

@@ -6,7 +6,7 @@ ghost use Rattle.std.specs.Iterator.SizeHint.{IsWithinCount};
 ghost use Rattle.art_nodes.specs.InnerNode.{AreValidBounds};
 ghost use Rattle.std.specs.Range.Bound.{start_index, end_index};
 ghost use Rattle.art_nodes.specs.inner.Place.{place, children_within, bytes_within, AreLeft};
-ghost use Rattle.art_nodes.specs.inner.Table.{children_from};
+ghost use Rattle.art_nodes.specs.inner.Table.{children_from, entry_at, IsMarkedTable};
 
 use crate::mask::Mask;
 use crate::names::OpaqueNodePtr;
@@ -58,23 +58,26 @@ impl<'a> Model for SortedChildren<'a> {
     ghost invariant = { λ s. length s.keys.now ≡ length s.names.now };
 }
 
-// A name or nothing for each byte from the first on.
+// Marked bytes from one bound up to another, and a table with a place for each byte.
 #[derive(Drop)]
 struct DirectChildren<'a> {
-    first: usize,
-    slots: &'a [Option<OpaqueNodePtr>],
+    mask: &'a Mask,
+    from: usize,
+    to: usize,
+    slots: &'a [Option<OpaqueNodePtr>; 256],
 }
 
 impl<'a> Model for DirectChildren<'a> {
-    ghost use Rattle.std.specs.Prelude.{ℕ, List, ◌+◌, ◌≤◌, length};
+    ghost use Rattle.std.specs.Prelude.{ℕ, List};
     ghost use Rattle.art_nodes.specs.Name.{Name};
-    ghost use Rattle.art_nodes.specs.inner.Table.{children_from};
+    ghost use Rattle.art_nodes.specs.inner.Place.{children_within};
+    ghost use Rattle.art_nodes.specs.inner.Table.{children_from, IsPartOfTable};
 
     ghost Value = { List (ℕ × Name) };
 
-    ghost view = { λ d. children_from d.first d.slots.now };
+    ghost view = { λ d. children_within d.from d.to (children_from 0 d.slots.now) };
 
-    ghost invariant = { λ d. d.first + length d.slots.now ≤ 256 };
+    ghost invariant = { λ d. IsPartOfTable d.from d.to d.mask.now d.slots.now };
 }
 
 // Marked bytes from one bound up to another, and their names, side by side.
@@ -149,6 +152,14 @@ pub(crate) fn end_of(end: Bound<u8>) -> usize
     }
 }
 
+/// What stands in a table's place for this byte.
+#[tactic(auto, using(crate::proofs::DirectLemmas::holds))]
+pub(crate) fn held(slots: &[Option<OpaqueNodePtr>; 256], byte: u8) -> Option<OpaqueNodePtr>
+    ensures { result ≡ entry_at slots.now byte }
+{
+    slots[usize::from(byte)]
+}
+
 impl<'a> SortedChildren<'a> {
     fn next(&mut self) -> Option<(u8, OpaqueNodePtr)>
         ensures { YieldsFirst (λ s. s) self.old result self.new }
@@ -183,36 +194,32 @@ impl<'a> DirectChildren<'a> {
     fn next(&mut self) -> Option<(u8, OpaqueNodePtr)>
         ensures { YieldsFirst (λ s. s) self.old result self.new }
     {
-        while let Some((slot, rest)) = self.slots.split_first() {
-            let byte = self.first as u8;
-            self.first += 1;
-            self.slots = rest;
-            if let Some(name) = slot {
-                return Some((byte, *name));
-            }
+        let first = self.mask.lowest_from(self.from)?;
+        if usize::from(first) >= self.to {
+            return None;
         }
-        None
+        let name = held(self.slots, first)?;
+        self.from = usize::from(first) + 1;
+        Some((first, name))
     }
 
-    #[tactic(auto, using(crate::proofs::TableLemmas::snocs))]
     fn next_back(&mut self) -> Option<(u8, OpaqueNodePtr)>
         ensures { YieldsLast (λ s. s) self.old result self.new }
     {
-        while let Some((slot, rest)) = self.slots.split_last() {
-            let byte = (self.first + rest.len()) as u8;
-            self.slots = rest;
-            if let Some(name) = slot {
-                return Some((byte, *name));
-            }
+        let last = self.mask.highest_below(self.to)?;
+        if usize::from(last) < self.from {
+            return None;
         }
-        None
+        let name = held(self.slots, last)?;
+        self.to = usize::from(last);
+        Some((last, name))
     }
 
-    #[tactic(auto, using(crate::proofs::TableLemmas::counts))]
+    #[tactic(auto, using(crate::proofs::PlaceLemmas::places))]
     fn len(&self) -> usize
         ensures { result ≡ length self.now }
     {
-        self.slots.iter().filter(|slot| slot.is_some()).count()
+        self.mask.place(self.to) - self.mask.place(self.from)
     }
 }
 
@@ -308,26 +315,24 @@ impl<'a> ChildIter<'a> {
         ChildIter::indirect(mask, from, to, &names[low..high])
     }
 
-    /// The children of a table of names, a place for each byte.
-    pub(crate) fn direct(slots: &'a [Option<OpaqueNodePtr>]) -> Self
-        requires { length slots.now ≡ 256 }
-        ensures { result ≡ children_from 0 slots.now }
-    {
-        ChildIter {
-            arm: Arm::Direct(DirectChildren { first: 0, slots }),
-        }
-    }
-
-    /// The children of a table of names, a place for each byte, from one byte up to another.
-    pub(crate) fn direct_part(slots: &'a [Option<OpaqueNodePtr>], from: usize, to: usize) -> Self
-        requires whole { length slots.now ≡ 256 }
+    /// The children of a table of names, a place for each byte, of which those with a name are marked, from one byte
+    /// up to another.
+    pub(crate) fn direct(
+        mask: &'a Mask,
+        slots: &'a [Option<OpaqueNodePtr>; 256],
+        from: usize,
+        to: usize,
+    ) -> Self
+        requires marks { IsMarkedTable mask.now slots.now }
         requires bounds { (from ≤ to) × (to ≤ 256) }
         ensures { result ≡ children_within from to (children_from 0 slots.now) }
     {
         ChildIter {
             arm: Arm::Direct(DirectChildren {
-                first: from,
-                slots: &slots[from..to],
+                mask,
+                from,
+                to,
+                slots,
             }),
         }
     }

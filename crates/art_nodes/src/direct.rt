@@ -1,19 +1,19 @@
 //! The inner node with room for every byte: a place for each.
-ghost use Rattle.std.specs.Prelude.{◌≡◌};
-ghost use Rattle.art_nodes.specs.inner.Table.{entry_at};
-
-use crate::child_iter::{ChildIter, end_of, start_of};
+use crate::child_iter::{ChildIter, end_of, held, start_of};
 use crate::header::Header;
 use crate::inner_node::{InnerNodeCommon, InnerNodeInit};
+use crate::mask::Mask;
 use crate::names::OpaqueNodePtr;
 use crate::sealed::Sealed;
 use std::fmt;
 use std::marker::{Model, PhantomData};
 use std::ops::Bound;
 
-/// An inner node with a place for the child of each byte.
+/// An inner node with a place for the child of each byte. The mask says which places hold one, so that those between
+/// two children needn't be looked through.
 pub struct InnerNodeDirect<K, V, const PREFIX_LEN: usize> {
     header: Header<PREFIX_LEN>,
+    mask: Mask,
     slots: [Option<OpaqueNodePtr>; 256],
     tree: PhantomData<(K, V)>,
 }
@@ -26,21 +26,14 @@ impl<K, V, const PREFIX_LEN: usize> Model for InnerNodeDirect<K, V, PREFIX_LEN> 
 
     ghost view = { λ n. record { header = n.header; children = children_from 0 n.slots } };
 
-    ghost invariant = { λ n. IsCountedTable n.header n.slots };
-}
-
-// The child in the place of this byte.
-#[tactic(auto, using(crate::proofs::DirectLemmas::holds))]
-fn held(slots: &[Option<OpaqueNodePtr>; 256], byte: u8) -> Option<OpaqueNodePtr>
-    ensures { result ≡ entry_at slots.now byte }
-{
-    slots[usize::from(byte)]
+    ghost invariant = { λ n. IsCountedTable n.header n.mask n.slots };
 }
 
 impl<K, V, const PREFIX_LEN: usize> Drop for InnerNodeDirect<K, V, PREFIX_LEN> {
     fn drop(self) {
         let InnerNodeDirect {
             header: _,
+            mask: _,
             slots: _,
             tree: _,
         } = self;
@@ -56,6 +49,7 @@ impl<K, V, const PREFIX_LEN: usize> InnerNodeInit<PREFIX_LEN>
     fn from_prefix(bytes: &[u8], len: usize) -> Self {
         InnerNodeDirect {
             header: Header::new(bytes, len),
+            mask: Mask::new(),
             slots: [None; 256],
             tree: PhantomData,
         }
@@ -88,6 +82,7 @@ impl<K, V, const PREFIX_LEN: usize> InnerNodeCommon<PREFIX_LEN>
         match held(&self.slots, byte) {
             Some(_) => self.slots[at] = Some(name),
             None => {
+                self.mask.mark(byte);
                 self.slots[at] = Some(name);
                 self.header.inc_num_children();
             }
@@ -98,6 +93,7 @@ impl<K, V, const PREFIX_LEN: usize> InnerNodeCommon<PREFIX_LEN>
         let at = usize::from(byte);
         match held(&self.slots, byte) {
             Some(name) => {
+                self.mask.unmark(byte);
                 self.slots[at] = None;
                 self.header.dec_num_children();
                 Some(name)
@@ -107,11 +103,11 @@ impl<K, V, const PREFIX_LEN: usize> InnerNodeCommon<PREFIX_LEN>
     }
 
     fn iter(&self) -> ChildIter<'_> {
-        ChildIter::direct(&self.slots)
+        ChildIter::direct(&self.mask, &self.slots, 0, 256)
     }
 
     fn range(&self, start: Bound<u8>, end: Bound<u8>) -> ChildIter<'_> {
-        ChildIter::direct_part(&self.slots, start_of(start), end_of(end))
+        ChildIter::direct(&self.mask, &self.slots, start_of(start), end_of(end))
     }
 }
 

@@ -451,7 +451,7 @@ fn weights(rt: HostRuntime) {
     assert_eq!(rt; size_of::<InnerNode16<[u8; 3], u64, 16>>(), 192);
     assert_eq!(rt; size_of::<InnerNode32<[u8; 3], u64, 16>>(), 360);
     assert_eq!(rt; size_of::<Middle>(), 504);
-    assert_eq!(rt; size_of::<InnerNode256<[u8; 3], u64, 16>>(), 2592);
+    assert_eq!(rt; size_of::<InnerNode256<[u8; 3], u64, 16>>(), 2624);
 }
 
 #[test]
