@@ -2,7 +2,8 @@
 use Rattle.art_nodes.specs.Name.{Name}
 use Rattle.art_nodes.specs.declared.kind.NodeType.TheVariants as kind
 use Rattle.art_nodes.specs.declared.concrete.ConcreteNodePtr.{ConcreteNodePtr}
-use Rattle.art_nodes.specs.declared.concrete.ConcreteNodePtr.TheVariants.{Node4, Node16, Node32, Node48, Node256, LeafNode}
+use Rattle.art_nodes.specs.declared.concrete.ConcreteNodePtr.TheVariants.{Node4, Node16, Node32, Node48, Node256}
+use Rattle.art_nodes.specs.declared.concrete.ConcreteNodePtr.TheVariants.{LeafNode}
 use Rattle.art_nodes.specs.declared.concrete.ConcreteInnerNodePtr.{ConcreteInnerNodePtr}
 use Rattle.art_nodes.specs.declared.concrete.ConcreteInnerNodePtr.TheVariants as inner
 

@@ -7,7 +7,7 @@ use Rattle.art_arena.specs.tree.Paths.{path_of}
 use Rattle.art_arena.specs.tree.Landing.{Landing, on_leaf, begins_all, splits_prefix, lacks_child, landing}
 use Rattle.art_arena.specs.tree.Fronts.{fronts_of, fronts_with, width_of}
 use Rattle.art_arena.specs.tree.Tenants.{with_front, crossings}
-use Rattle.art_nodes.specs.declared.kind.NodeType.TheVariants.{Node4, Node16, Node256}
+use Rattle.art_nodes.specs.declared.kind.NodeType.TheVariants.{Node4, Node16, Node32, Node48, Node256}
 
 -- the numbers below n
 abbrev upto : ℕ → List ℕ
@@ -98,7 +98,7 @@ cube_lands = (refl, (refl, refl))
 
 -- The tenants' keys: four bytes of the tenant, then the key.
 
--- five keys of tenant 1, without the last, and 49 keys, without the last: the node above them changes its kind
+-- keys of tenant 1, and without the last: the node above them changes its kind
 abbrev tenant_1 : List ℕ → List ℕ
 tenant_1 key = 0 ∷ 0 ∷ 0 ∷ 1 ∷ key
 
@@ -111,15 +111,33 @@ five = (refl, (refl, refl))
 four : (inner_nodes (from 2 4) (single 4) ≡ 1) × (inner_nodes any (single 4) ≡ 1)
 four = (refl, refl)
 
+seventeen : (inner_nodes (from 17 32) (single 17) ≡ 1) × ((inner_nodes any (single 17) ≡ 1) × (width_of itself (single 17) (tenant_1 []) ≡ 17))
+seventeen = (refl, (refl, refl))
+
+sixteen : (inner_nodes (from 5 16) (single 16) ≡ 1) × (inner_nodes any (single 16) ≡ 1)
+sixteen = (refl, refl)
+
+thirty_three : (inner_nodes (from 33 48) (single 33) ≡ 1) × ((inner_nodes any (single 33) ≡ 1) × (width_of itself (single 33) (tenant_1 []) ≡ 33))
+thirty_three = (refl, (refl, refl))
+
+thirty_two : (inner_nodes (from 17 32) (single 32) ≡ 1) × (inner_nodes any (single 32) ≡ 1)
+thirty_two = (refl, refl)
+
 forty_nine : (inner_nodes (from 49 256) (single 49) ≡ 1) × ((inner_nodes any (single 49) ≡ 1) × (width_of itself (single 49) (tenant_1 []) ≡ 49))
 forty_nine = (refl, (refl, refl))
 
 forty_eight : (inner_nodes (from 33 48) (single 48) ≡ 1) × (inner_nodes any (single 48) ≡ 1)
 forty_eight = (refl, refl)
 
--- so the loss of the fifth child, and of the forty-ninth, changes the kind
+-- so the loss of the fifth child, the seventeenth, the thirty-third and the forty-ninth changes the kind
 fifth : ChangesKind 5
 fifth = (Node16, Node4, record { two = omega arith; fewest = omega arith; most = omega arith }, record { two = omega arith; fewest = omega arith; most = omega arith }, λ e. absurd (cc))
+
+seventeenth : IsLimit 17
+seventeenth = (Node32, refl, refl)
+
+thirty_third : IsLimit 33
+thirty_third = (Node48, refl, refl)
 
 forty_ninth : IsLimit 49
 forty_ninth = (Node256, refl, refl)
