@@ -1,6 +1,6 @@
-//! What no clause says and no line shows: calls that the program does not make, and ends that fail once. What lines show
-//! is data: the rows that the repository's tests/program.py plays. Each function here is lent what it looks at, so that
-//! a test owns little and has one exit.
+//! What no clause says and no line shows: calls that the program does not make, and ends that fail once. What lines
+//! show is data: the rows that the repository's tests/program.py plays. Each function here is lent what it looks at, so
+//! that a test owns little and has one exit.
 
 mod counts;
 mod from_maps;
@@ -217,7 +217,10 @@ fn are_lent<const PREFIX_LEN: usize>(index: &mut Index<PREFIX_LEN>) -> bool {
     index.holds_records();
     let number = [0, 0, 0, 3, 127, 255, 255, 255, 255, 255, 255, 255];
     is_put
-        && is_value(index.byte_map().get(&SliceKey(&[0, 0, 0, 3, 0xab])), &[0xcd])
+        && is_value(
+            index.byte_map().get(&SliceKey(&[0, 0, 0, 3, 0xab])),
+            &[0xcd],
+        )
         && is_value(index.number_map().get(&number), &[0xef])
 }
 

@@ -40,9 +40,7 @@ pub(crate) fn is_filled<const PREFIX_LEN: usize>(
 }
 
 /// Whether all pairs of the map are read ahead, and come in its order.
-fn come_in_order<const PREFIX_LEN: usize>(
-    map: &TreeMap<Vec<u8>, Vec<u8>, PREFIX_LEN>,
-) -> bool {
+fn come_in_order<const PREFIX_LEN: usize>(map: &TreeMap<Vec<u8>, Vec<u8>, PREFIX_LEN>) -> bool {
     let (arena, root) = map.nodes();
     let mut ahead = Ahead::new(root);
     let (mut at, mut in_order): (usize, usize) = (0, 0);

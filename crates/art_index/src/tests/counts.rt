@@ -92,6 +92,10 @@ fn right_rows<const PREFIX_LEN: usize>(alloc: Global) -> usize
 #[test]
 fn each_line_reads_so_many_nodes(rt: HostRuntime) {
     let alloc = rt.alloc();
-    let right = [right_rows::<0>(alloc), right_rows::<4>(alloc), right_rows::<16>(alloc)];
+    let right = [
+        right_rows::<0>(alloc),
+        right_rows::<4>(alloc),
+        right_rows::<16>(alloc),
+    ];
     assert_eq!(rt; right, [ROWS.len(), ROWS.len(), ROWS.len()]);
 }

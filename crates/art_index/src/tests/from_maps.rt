@@ -68,7 +68,8 @@ fn an_index_of_maps_takes_no_memory(rt: HostRuntime) {
         ran = is_run(&mut index, b"get 1 aa\nlist 1 -\ndump\n", &mut out);
         let _ = eprintln!(rt; "ok");
     }
-    let told =
-        out.is(b"is 61\naa 61\nbb 62\nend 2\nput 1 aa 61\nput 1 bb 62\nput 2 aa 63\nend 3\n");
+    let told = out.is(
+        b"is 61\naa 61\nbb 62\nend 2\nput 1 aa 61\nput 1 bb 62\nput 2 aa 63\nend 3\n",
+    );
     assert!(rt; are_made && ran && told);
 }

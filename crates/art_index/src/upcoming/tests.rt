@@ -5,8 +5,8 @@ ghost use Rattle.std.specs.Prelude.{◌≤◌};
 use super::{FEW, KEY, LINES, Roots, Trees, Upcoming};
 use crate::ahead::tests::is_filled;
 use crate::command::fields::NUMBER_KEY;
-use art_map::TreeMap;
 use arrayvec::ArrayVec;
+use art_map::TreeMap;
 use std::alloc::Global;
 
 /// Lines, as many as are looked at.
