@@ -1,8 +1,10 @@
 #!/usr/bin/env python3
-"""Runs art_index as others see it: its statuses and texts, its replies while it waits, its system calls.
+"""Runs art_index as others see it: its replies, its statuses and texts, its replies while it waits, its system calls.
 
     tests/program.py [WORD]      at the top of the repository, after rt ci; WORD: only tests that have it in their name
-Each test runs both of the programs that rt ci has built, as LLVM and as Rattle's own compiler make it.
+Each test runs both of the programs that rt ci has built, as LLVM and as Rattle's own compiler make it. The first ones
+are worked rows: the lines of tests/rows/NAME.lines are answered by tests/rows/NAME.replies, which were written by hand
+and not by a program, however the lines are cut, and the model of tests/reference.py answers the same.
 """
 import os
 import select
@@ -11,13 +13,18 @@ import subprocess
 import sys
 import tempfile
 import time
+from functools import partial
+from glob import glob
 
+import faults
 from reference import Reference
 
 PROGRAM = os.path.abspath("crates/art_index/out/art_index")
 FIRST_RUN = b"put 7 0a0b 6869\nget 7 0a0b\nget 8 0a0b\n"
 FIRST_REPLIES = b"new\nis 6869\nnone\n"
 LIMIT = 60  # seconds, which no wait exceeds
+# A text is cut at each place, unless it is longer: then at each so many, at its end, and around the longest line.
+SHORT, STEP, END, LONGEST = 1000, 97, 20, 4096
 
 
 def ended(words, input=None, **how):
@@ -42,6 +49,31 @@ def end_group(ran):
 
 def wants(found, wanted):
     assert found == wanted, f"{found} and not {wanted}"
+
+
+def places_in(text):
+    """Where a text is cut: each place in a short one."""
+    size = len(text)
+    if size <= SHORT:
+        return range(1, size)
+    return sorted({*range(1, size, STEP), *range(size - END, size), *range(LONGEST - 2, LONGEST + 4)})
+
+
+def row_is_answered(row, program):
+    """Whole, cut at each place, byte by byte at both ends, and in pieces of up to seven bytes. It is written down."""
+    text, replies = (open(f"{row}.{it}", "rb").read() for it in ("lines", "replies"))
+    wants(faults.replies(faults.lines_of(text)), replies)
+    wants(ended([program], input=text), (replies, b"", 0))
+    cuts = [{"first": it} for it in places_in(text)]
+    cuts += [{"cuts": 1}, *({"cuts": 7, "seed": it} for it in range(5))]
+    for cut in cuts:
+        found = faults.run(program, text, **cut)
+        assert found == (replies, b"", 0), f"cut by {cut}: {found} and not {replies}"
+
+
+def reads_as_long_as_there_is_more(program):
+    """72,000 reads, each of a byte, and more writes than there are replies."""
+    wants(faults.run(program, b"get 1 0a\n" * 8000, cuts=1), (b"none\n" * 8000, b"", 0))
 
 
 def first_run(program):
@@ -299,15 +331,24 @@ TESTS = [
     a_closed_output_is_told,
     replies_before_it_waits,
     few_system_calls,
+    reads_as_long_as_there_is_more,
 ]
+
+
+def tests():
+    """Each test and its name: a row for each file of lines, and the others."""
+    rows = sorted(it.removesuffix(".lines") for it in glob("tests/rows/*.lines"))
+    named = [(f"row {os.path.basename(it)}", partial(row_is_answered, it)) for it in rows]
+    return named + [(it.__name__, it) for it in TESTS]
 
 
 def main():
     word = sys.argv[1] if len(sys.argv) > 1 else ""
     counts = {True: 0, False: 0}
-    for test in TESTS:
+    faults.build_shim()
+    for name, test in tests():
         for program in (PROGRAM, f"{PROGRAM}.by-rattle"):
-            if word not in test.__name__:
+            if word not in name:
                 continue
             ended_as = "ok"
             try:
@@ -315,7 +356,7 @@ def main():
             except (AssertionError, OSError, StopIteration, subprocess.TimeoutExpired) as why:
                 ended_as = f"FAILED: {str(why)[:600]}"
             counts[ended_as == "ok"] += 1
-            print(f"{os.path.basename(program)} {test.__name__}: {ended_as}")
+            print(f"{os.path.basename(program)} {name}: {ended_as}", flush=True)
     print(f"{counts[True]} passed, {counts[False]} failed")
     sys.exit(bool(counts[False]) or not counts[True])
 

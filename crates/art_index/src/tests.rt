@@ -1,58 +1,51 @@
-//! What no clause says: worked lines from outside, however they are cut, and both ends failing at each place.
-ghost use Rattle.std.specs.Prelude.{◌≤◌};
+//! What no clause says and no line shows: calls that the program does not make, and ends that fail once. What lines
+//! show is data: the rows that the repository's tests/program.py plays. Each function here is lent what it looks at, so
+//! that a test owns little and has one exit.
 
 mod counts;
 mod from_maps;
-mod rows;
 
 use crate::command::{Command, parse_line};
 use crate::from_reader::FromReader;
-use crate::index::{Index, RunFault};
+use crate::index::{Handled, Index, RunFault};
 use crate::laws;
 use crate::running::run;
 use crate::stream::{Sink, Source};
 use crate::to_writer::ToWriter;
 use art_bytes::SliceKey;
-use std::alloc::{AllocError, Global};
 use std::io;
 use std::io::{Read, Write};
-use std::process::Abort;
-use std::test::Fail;
 
-/// Gives a text: `first` bytes at most at the first read, then `more` at each. At its end it fails or ends.
+/// The bytes that there is room for: more than any reply of the tests.
+const ROOM: usize = 128;
+
+/// Keeps what is written, as far as there is room. It takes no memory.
 #[derive(Drop)]
-struct Pieces<'a> {
-    rest: &'a [u8],
-    first: usize,
-    more: usize,
-    fails: bool,
+struct Room {
+    bytes: [u8; ROOM],
+    len: usize,
 }
 
-impl Read for Pieces<'_> {
-    fn read(&mut self, buf: &mut [u8]) -> io::Result<usize> {
-        if self.rest.is_empty() && self.fails {
-            return Err(io::ErrorKind::Other.into());
+impl Room {
+    fn new() -> Room {
+        Room {
+            bytes: [0; ROOM],
+            len: 0,
         }
-        let n = self.rest.len().min(self.first).min(buf.len());
-        buf[..n].copy_from_slice(&self.rest[..n]);
-        self.rest = &self.rest[n..];
-        self.first = self.more;
-        Ok(n)
+    }
+
+    /// Whether this is what was written.
+    fn is(&self, wanted: &[u8]) -> bool {
+        &self.bytes[..self.len.min(ROOM)] == wanted
     }
 }
 
-/// Keeps what is written, three bytes at most at a time, and fails once it has `room` bytes.
-#[derive(Drop)]
-struct Kept {
-    bytes: Vec<u8>,
-    room: usize,
-}
-
-impl Write for Kept {
+impl Write for Room {
     fn write(&mut self, piece: &[u8]) -> io::Result<usize> {
-        let n = piece.len().min(3).min(self.room);
-        self.bytes.extend_from_slice(&piece[..n])?;
-        self.room -= n;
+        let from = self.len.min(ROOM);
+        let n = piece.len().min(ROOM - from);
+        self.bytes[from..from + n].copy_from_slice(&piece[..n]);
+        self.len = from + n;
         Ok(n)
     }
 
@@ -61,267 +54,83 @@ impl Write for Kept {
     }
 }
 
-fn make_kept(alloc: Global, room: usize) -> Kept {
-    Kept {
-        bytes: Vec::new(alloc),
-        room,
-    }
-}
-
-/// Runs the text over an index.
-fn run_over<const PREFIX_LEN: usize>(
+/// Whether a text is answered over an index, and both ends tell how they are then.
+fn is_run<const PREFIX_LEN: usize>(
     index: &mut Index<PREFIX_LEN>,
-    pieces: Pieces<'_>,
-    out: &mut Kept,
-) -> Result<(), RunFault> {
-    let mut source = FromReader::new(pieces);
-    let mut sink = ToWriter::new(out);
-    run(index, &mut source, &mut sink)
-}
-
-/// Runs the text over a new index.
-fn run_over_none<const PREFIX_LEN: usize>(
-    alloc: Global,
-    pieces: Pieces<'_>,
-    out: &mut Kept,
-) -> Result<(), RunFault>
-    requires { PREFIX_LEN ≤ 16 }
-{
-    let mut index: Index<PREFIX_LEN> = Index::new(alloc);
-    run_over(&mut index, pieces, out)
-}
-
-/// A whole text, cut behind its first bytes.
-fn cut_text(text: &[u8], first: usize) -> Pieces<'_> {
-    Pieces {
-        rest: text,
-        first,
-        more: usize::MAX,
-        fails: false,
-    }
-}
-
-/// Checks that the text is answered so, cut at every place and byte by byte.
-fn is_answered<const PREFIX_LEN: usize>(
-    rt: &impl Abort,
-    alloc: Global,
     text: &[u8],
-    wanted: &[u8],
-) {
-    assert!(rt; PREFIX_LEN <= 16);
-    for first in 1..text.len().max(1) {
-        let mut out = make_kept(alloc, usize::MAX);
-        assert!(rt; run_over_none::<PREFIX_LEN>(alloc, cut_text(text, first), &mut out).is_ok());
-        assert_eq!(rt; out.bytes.as_slice(), wanted, "cut at {first}");
-    }
-    let mut out = make_kept(alloc, usize::MAX);
-    let bytes = Pieces {
-        rest: text,
-        first: 1,
-        more: 1,
-        fails: false,
-    };
-    assert!(rt; run_over_none::<PREFIX_LEN>(alloc, bytes, &mut out).is_ok());
-    assert_eq!(rt; out.bytes.as_slice(), wanted, "byte by byte");
+    out: &mut Room,
+) -> bool {
+    let mut source = FromReader::new(text);
+    let mut sink = ToWriter::new(out);
+    let begins = !source.ended() && !source.failed() && !sink.failed();
+    let ran = run(index, &mut source, &mut sink).is_ok();
+    begins && ran && source.ended() && !source.failed() && !sink.failed()
 }
 
-/// Checks it for three lengths of stored prefixes.
-fn is_answered_by_all(rt: &impl Abort, alloc: Global, text: &[u8], wanted: &[u8]) {
-    is_answered::<0>(rt, alloc, text, wanted);
-    is_answered::<4>(rt, alloc, text, wanted);
-    is_answered::<16>(rt, alloc, text, wanted);
+/// Whether an index holds this, by a dump of it.
+fn holds<const PREFIX_LEN: usize>(index: &mut Index<PREFIX_LEN>, wanted: &[u8]) -> bool {
+    let mut out = Room::new();
+    is_run(index, b"dump", &mut out) && out.is(wanted)
 }
 
-#[test]
-fn answers_a_long_line_once(rt: HostRuntime) -> Result<(), Fail> {
-    let mut text = Vec::new(rt.alloc());
-    for front in [b"put 1 ".as_slice(), b"put 10 ".as_slice()] {
-        text.extend_from_slice(front)?;
-        for _ in 0..4088 {
-            text.push(b'a')?;
-        }
-        text.extend_from_slice(b" -\n")?;
-    }
-    text.extend_from_slice(b"get 1 00\n")?;
-    is_answered::<16>(&rt, rt.alloc(), text.as_slice(), b"new\nbad\nnone\n");
-    Ok(())
-}
-
-/// Adds a word, then runs of digits, each a pair of digits so many times, and then an end.
-fn add_line(
-    text: &mut Vec<u8>,
-    word: &[u8],
-    runs: [(usize, &[u8]); 4],
-    end: &[u8],
-) -> Result<(), AllocError> {
-    text.extend_from_slice(word)?;
-    for (count, digits) in runs {
-        for _ in 0..count {
-            text.extend_from_slice(digits)?;
-        }
-    }
-    text.extend_from_slice(end)
-}
-
-#[test]
-fn keys_have_long_fronts_in_common(rt: HostRuntime) -> Result<(), Fail> {
-    let keys: [[(usize, &[u8]); 4]; 5] = [
-        [(40, b"aa"), (1, b"01"), (0, b""), (0, b"")],
-        [(40, b"aa"), (1, b"02"), (0, b""), (0, b"")],
-        [(20, b"aa"), (1, b"bb"), (0, b""), (0, b"")],
-        [(25, b"aa"), (1, b"cc"), (14, b"aa"), (1, b"01")],
-        [(20, b"aa"), (1, b"cc"), (19, b"aa"), (1, b"01")],
-    ];
-    let mut text = Vec::new(rt.alloc());
-    for key in &keys[..3] {
-        add_line(&mut text, b"put 1 ", *key, b" 61\n")?;
-    }
-    for key in keys {
-        add_line(&mut text, b"get 1 ", key, b"\n")?;
-    }
-    is_answered_by_all(
-        &rt,
-        rt.alloc(),
-        text.as_slice(),
-        b"new\nnew\nnew\nis 61\nis 61\nis 61\nnone\nnone\n",
-    );
-    Ok(())
-}
-
-#[test]
-fn a_long_last_line_is_bad_once(rt: HostRuntime) -> Result<(), Fail> {
-    let mut text = Vec::new(rt.alloc());
-    for _ in 0..9000 {
-        text.push(b'a')?;
-    }
-    let mut out = make_kept(rt.alloc(), usize::MAX);
-    assert!(rt; run_over_none::<16>(rt.alloc(), cut_text(text.as_slice(), 4097), &mut out).is_ok());
-    assert_eq!(rt; out.bytes.as_slice(), b"bad\n".as_slice());
-    let mut out = make_kept(rt.alloc(), usize::MAX);
-    let fails = Pieces {
-        rest: text.as_slice(),
-        first: 4097,
-        more: usize::MAX,
-        fails: true,
-    };
-    let ran = run_over_none::<16>(rt.alloc(), fails, &mut out);
-    assert!(rt; matches!(ran, Err(RunFault::Read)));
-    assert_eq!(rt; out.bytes.as_slice(), b"".as_slice());
-    Ok(())
-}
-
-/// The lines of the tests below, and the replies to them.
-const LINES: &[u8] =
-    b"put 1 0a 61\nput 1 0b 6262\nget 1 0b\ndump\nput 1 0a0a 61\nput 2 0a 63\nget 1 0";
-
-const REPLIES: &[u8] =
-    b"new\nnew\nis 6262\nput 1 0a 61\nput 1 0b 6262\nend 2\nconflict\nnew\nbad\n";
-
-#[test]
-fn a_failed_read_leaves_the_whole_lines(rt: HostRuntime) {
-    // The bytes of the lines up to each newline, and of their replies.
-    let ends: [(usize, usize); 7] = [
-        (0, 0),
-        (12, 4),
-        (26, 8),
-        (35, 16),
-        (40, 48),
-        (54, 57),
-        (66, 61),
-    ];
-    for count in 0..LINES.len() {
-        let mut out = make_kept(rt.alloc(), usize::MAX);
-        let fails = Pieces {
-            rest: &LINES[..count],
-            first: 5,
-            more: 7,
-            fails: true,
-        };
-        let ran = run_over_none::<16>(rt.alloc(), fails, &mut out);
-        assert!(rt; matches!(ran, Err(RunFault::Read)), "after {count}");
-        let mut told = 0;
-        for (line_end, reply_end) in ends {
-            if line_end <= count {
-                told = reply_end;
-            }
-        }
-        assert_eq!(rt;
-            out.bytes.as_slice(),
-            &REPLIES[..told.min(REPLIES.len())],
-            "after {count}"
-        );
-    }
-}
-
-#[test]
-fn a_failed_write_cuts_the_replies(rt: HostRuntime) {
-    for room in 0..REPLIES.len() {
-        let mut out = make_kept(rt.alloc(), room);
-        let ran = run_over_none::<16>(rt.alloc(), cut_text(LINES, 30), &mut out);
-        assert!(rt; matches!(ran, Err(RunFault::Write)), "after {room}");
-        assert_eq!(rt; out.bytes.as_slice(), &REPLIES[..room]);
-    }
-    let mut out = make_kept(rt.alloc(), REPLIES.len());
-    assert!(rt; run_over_none::<16>(rt.alloc(), cut_text(LINES, 30), &mut out).is_ok());
-    assert_eq!(rt; out.bytes.as_slice(), REPLIES);
-}
-
-/// Gives a line at each read but one, which fails, and tells how often it was read. It has no more than three lines.
+/// Gives a text at each read but the second, which a signal interrupts, and counts its reads. It ends at the fourth.
 #[derive(Drop)]
-struct Stumbling {
+struct Stumbling<'a> {
+    text: &'a [u8],
     reads: usize,
-    fault: io::ErrorKind,
 }
 
-const LINE: &[u8] = b"get 1 0a\n";
-
-impl Read for Stumbling {
+impl Read for Stumbling<'_> {
     fn read(&mut self, buf: &mut [u8]) -> io::Result<usize> {
         self.reads = self.reads.saturating_add(1);
         if self.reads == 2 {
-            return Err(self.fault.into());
+            return Err(io::ErrorKind::Interrupted.into());
         }
-        if self.reads > 4 {
+        if self.reads > 3 {
             return Ok(0);
         }
-        let n = LINE.len().min(buf.len());
-        buf[..n].copy_from_slice(&LINE[..n]);
+        let n = self.text.len().min(buf.len());
+        buf[..n].copy_from_slice(&self.text[..n]);
         Ok(n)
     }
 }
 
-#[test]
-fn a_failed_read_is_not_tried_again(rt: HostRuntime) {
-    for fault in [io::ErrorKind::Interrupted, io::ErrorKind::WouldBlock] {
-        let mut index: Index<16> = Index::new(rt.alloc());
-        let mut reader = Stumbling { reads: 0, fault };
-        let mut out = make_kept(rt.alloc(), usize::MAX);
-        let mut source = FromReader::new(&mut reader);
-        let mut sink = ToWriter::new(&mut out);
-        assert!(rt; matches!(run(&mut index, &mut source, &mut sink), Err(RunFault::Read)));
-        assert!(rt; source.read(&mut [0; 4]).is_err());
-        assert_eq!(rt; out.bytes.as_slice(), b"none\n".as_slice());
-        assert_eq!(rt; reader.reads, 2);
-    }
+/// Whether a read that fails once is not tried again, and leaves the whole lines carried out.
+fn a_failed_read_is_the_last<const PREFIX_LEN: usize>(index: &mut Index<PREFIX_LEN>) -> bool {
+    let mut reader = Stumbling {
+        text: b"put 1 0a 61\nget 1 0",
+        reads: 0,
+    };
+    let mut out = Room::new();
+    let mut source = FromReader::new(&mut reader);
+    let mut sink = ToWriter::new(&mut out);
+    let ran = run(index, &mut source, &mut sink);
+    let fails = source.read(&mut [0; 4]).is_err() && source.failed() && !source.ended();
+    matches!(ran, Err(RunFault::Read))
+        && fails
+        && reader.reads == 2
+        && out.is(b"new\n")
+        && holds(index, b"put 1 0a 61\nend 1\n")
 }
 
-/// Takes each piece but the second, at which it takes nothing or fails, and tells how often it was written to.
+/// Takes each piece but the second, at which it takes nothing or a signal interrupts it, and counts its writes.
 #[derive(Drop)]
 struct Balking {
+    taken: Room,
     writes: usize,
-    fault: Option<io::ErrorKind>,
+    is_interrupted: bool,
 }
 
 impl Write for Balking {
     fn write(&mut self, piece: &[u8]) -> io::Result<usize> {
         self.writes = self.writes.saturating_add(1);
         if self.writes != 2 {
-            return Ok(piece.len());
+            return self.taken.write(piece);
         }
-        match self.fault {
-            Some(fault) => Err(fault.into()),
-            None => Ok(0),
+        if self.is_interrupted {
+            return Err(io::ErrorKind::Interrupted.into());
         }
+        Ok(0)
     }
 
     fn flush(&mut self) -> io::Result<()> {
@@ -329,112 +138,90 @@ impl Write for Balking {
     }
 }
 
-#[test]
-fn a_failed_write_is_not_tried_again(rt: HostRuntime) {
-    for fault in [None, Some(io::ErrorKind::Interrupted)] {
-        let mut index: Index<16> = Index::new(rt.alloc());
-        let mut writer = Balking { writes: 0, fault };
-        let mut source = FromReader::new(cut_text(b"bad\nbad\nbad\n", 12));
-        let mut sink = ToWriter::new(&mut writer);
-        assert!(rt;
-            matches!(
-                run(&mut index, &mut source, &mut sink),
-                Err(RunFault::Write)
-            )
-        );
-        assert!(rt; sink.write(b"x").is_err());
-        assert_eq!(rt; writer.writes, 2);
-    }
-}
-
-#[test]
-fn reads_as_long_as_there_is_more(rt: HostRuntime) -> Result<(), Fail> {
-    let mut text = Vec::new(rt.alloc());
-    let mut wanted = Vec::new(rt.alloc());
-    for _ in 0..8000 {
-        text.extend_from_slice(LINE)?;
-        wanted.extend_from_slice(b"none\n")?;
-    }
-    let mut out = make_kept(rt.alloc(), usize::MAX);
-    let bytes = Pieces {
-        rest: text.as_slice(),
-        first: 1,
-        more: 1,
-        fails: false,
+/// Whether a write that fails once, or takes nothing, is not tried again, and leaves its line carried out.
+fn a_failed_write_is_the_last<const PREFIX_LEN: usize>(
+    index: &mut Index<PREFIX_LEN>,
+    is_interrupted: bool,
+) -> bool {
+    let mut writer = Balking {
+        taken: Room::new(),
+        writes: 0,
+        is_interrupted,
     };
-    assert!(rt; run_over_none::<16>(rt.alloc(), bytes, &mut out).is_ok());
-    assert!(rt; out.bytes == wanted);
-    Ok(())
+    let mut source = FromReader::new(b"bad\ndel 1 0a\nput 1 0a 61\n".as_slice());
+    let mut sink = ToWriter::new(&mut writer);
+    let ran = run(index, &mut source, &mut sink);
+    let fails = sink.write(b"x").is_err() && sink.failed();
+    matches!(ran, Err(RunFault::Write))
+        && fails
+        && writer.writes == 2
+        && writer.taken.is(b"bad\n")
+        && holds(index, b"end 0\n")
 }
 
-/// What an index holds, by a dump of it.
-fn holds(rt: &impl Abort, alloc: Global, index: &mut Index<16>, wanted: &[u8]) {
-    let mut out = make_kept(alloc, usize::MAX);
-    assert!(rt; run_over(index, cut_text(b"dump", 4), &mut out).is_ok());
-    assert_eq!(rt; out.bytes.as_slice(), wanted);
-}
-
-#[test]
-fn faults_leave_what_was_done(rt: HostRuntime) {
-    let mut index: Index<16> = Index::new(rt.alloc());
-    let mut out = make_kept(rt.alloc(), usize::MAX);
-    let fails = Pieces {
-        rest: b"put 1 0a 61\nget 1 0",
-        first: usize::MAX,
-        more: 1,
-        fails: true,
-    };
-    assert!(rt; matches!(run_over(&mut index, fails, &mut out), Err(RunFault::Read)));
-    assert_eq!(rt; out.bytes.as_slice(), b"new\n".as_slice());
-    holds(&rt, rt.alloc(), &mut index, b"put 1 0a 61\nend 1\n");
-
-    let mut index: Index<16> = Index::new(rt.alloc());
-    let mut out = make_kept(rt.alloc(), 2);
-    assert!(rt;
-        matches!(
-            run_over(
-                &mut index,
-                cut_text(b"put 1 0a 61\nget 1 0a\n", 50),
-                &mut out
-            ),
-            Err(RunFault::Write)
-        )
-    );
-    assert_eq!(rt; out.bytes.as_slice(), b"ne".as_slice());
-    holds(&rt, rt.alloc(), &mut index, b"put 1 0a 61\nend 1\n");
+/// Whether faults of either end leave what was done.
+fn faults_are_kept<const PREFIX_LEN: usize>(index: &mut Index<PREFIX_LEN>) -> bool {
+    a_failed_read_is_the_last(index)
+        && a_failed_write_is_the_last(index, true)
+        && is_run(index, b"put 1 0a 62\n", &mut Room::new())
+        && a_failed_write_is_the_last(index, false)
 }
 
 #[test]
-fn reads_a_line_as_a_command(rt: HostRuntime) {
-    match parse_line(b"put 12 0A - ") {
-        Some(_) => assert!(rt; false),
-        None => {}
-    }
-    match parse_line(b"put 12 0Aff -") {
+fn a_fault_is_not_tried_again(rt: HostRuntime) {
+    let mut index: Index<16> = Index::new(rt.alloc());
+    let are_kept = faults_are_kept(&mut index);
+    assert!(rt; are_kept);
+}
+
+/// Whether a line is read as a command, and another is none.
+fn is_parsed() -> bool {
+    let is_read = match parse_line(b"put 12 0Aff -") {
         Some(Command::Put { tenant, key, value }) => {
-            assert_eq!(rt; tenant, 12);
-            assert_eq!(rt; key.as_slice(), [10, 255].as_slice());
-            assert!(rt; value.is_empty());
+            tenant == 12 && key.as_slice() == [10, 255].as_slice() && value.is_empty()
         }
-        _ => assert!(rt; false),
-    }
-    assert!(rt; matches!(parse_line(b"dump"), Some(Command::Dump)));
-    assert!(rt; matches!(parse_line(b"audit"), Some(Command::Audit)));
-    assert!(rt; matches!(parse_line(b"get 0 -"), Some(Command::Get { .. })));
-    match parse_line(b"nspan 12 -9223372036854775808 7") {
-        Some(Command::NSpan { tenant, low, high }) => {
-            assert_eq!(rt; (tenant, low, high), (12, i64::MIN, 7));
-        }
-        _ => assert!(rt; false),
+        _ => false,
+    };
+    is_read && parse_line(b"put 12 0A - ").is_none()
+}
+
+/// Whether a line is handled with memory to spare and no visit.
+fn is_handled<const PREFIX_LEN: usize>(
+    index: &mut Index<PREFIX_LEN>,
+    line: &[u8],
+    wanted: &[u8],
+) -> bool {
+    let mut out = Room::new();
+    let mut sink = ToWriter::new(&mut out);
+    let handled = index.handle(line, &mut sink);
+    matches!(
+        handled,
+        Ok(Handled {
+            memory: false,
+            visits: 0
+        })
+    ) && out.is(wanted)
+}
+
+fn is_value(found: Option<&Vec<u8>>, wanted: &[u8]) -> bool {
+    match found {
+        Some(value) => value.as_slice() == wanted,
+        None => false,
     }
 }
 
-/// Whether a line is handled with memory to spare and no visit, and its reply taken.
-fn is_handled(index: &mut Index<4>, line: &[u8], out: &mut Kept) -> Result<bool, RunFault> {
-    let mut sink = ToWriter::new(out);
-    let done = index.handle(line, &mut sink)?;
+/// Whether lines are handled, and then stand in the maps.
+fn are_lent<const PREFIX_LEN: usize>(index: &mut Index<PREFIX_LEN>) -> bool {
+    let is_put = is_handled(index, b"put 3 ab cd", b"new\n")
+        && is_handled(index, b"nput 3 -1 ef", b"new\n");
     index.holds_records();
-    Ok(!done.memory && done.visits == 0 && !sink.failed())
+    let number = [0, 0, 0, 3, 127, 255, 255, 255, 255, 255, 255, 255];
+    is_put
+        && is_value(
+            index.byte_map().get(&SliceKey(&[0, 0, 0, 3, 0xab])),
+            &[0xcd],
+        )
+        && is_value(index.number_map().get(&number), &[0xef])
 }
 
 /// The laws, which do nothing.
@@ -456,43 +243,10 @@ fn call_laws() {
 }
 
 #[test]
-fn handles_a_line(rt: HostRuntime) {
+fn a_line_is_handled(rt: HostRuntime) {
     call_laws();
+    let is_read = is_parsed();
     let mut index: Index<4> = Index::new(rt.alloc());
-    let mut out = make_kept(rt.alloc(), usize::MAX);
-    let handled = is_handled(&mut index, b"put 3 ab cd", &mut out);
-    assert!(rt; matches!(handled, Ok(true)));
-    assert_eq!(rt; out.bytes.as_slice(), b"new\n".as_slice());
-    assert_eq!(rt; index.byte_map().len(), 1);
-    match index.byte_map().get(&SliceKey(&[0, 0, 0, 3, 0xab])) {
-        Some(value) => assert_eq!(rt; value.as_slice(), [0xcd].as_slice()),
-        None => assert!(rt; false),
-    }
-    let handled = is_handled(&mut index, b"nput 3 -1 ef", &mut out);
-    assert!(rt; matches!(handled, Ok(true)));
-    let bytes = [0, 0, 0, 3, 127, 255, 255, 255, 255, 255, 255, 255];
-    match index.number_map().get(&bytes) {
-        Some(value) => assert_eq!(rt; value.as_slice(), [0xef].as_slice()),
-        None => assert!(rt; false),
-    }
-}
-
-#[test]
-fn ends_tell_their_state(rt: HostRuntime) {
-    let mut buf = [0; 4];
-    let mut source = FromReader::new(cut_text(b"abc", 2));
-    assert!(rt; !source.ended());
-    assert_eq!(rt; source.read(&mut buf), Ok(2));
-    assert_eq!(rt; source.read(&mut buf), Ok(1));
-    assert_eq!(rt; source.read(&mut buf), Ok(0));
-    assert!(rt; source.ended());
-    assert_eq!(rt; source.read(&mut buf), Ok(0));
-    assert!(rt; !source.failed());
-    let mut out = make_kept(rt.alloc(), 2);
-    let mut sink = ToWriter::new(&mut out);
-    assert_eq!(rt; sink.write(b"abc"), Ok(2));
-    assert!(rt; !sink.failed());
-    assert!(rt; sink.write(b"c").is_err());
-    assert!(rt; sink.failed());
-    assert!(rt; sink.write(b"c").is_err());
+    let are_lent = are_lent(&mut index);
+    assert!(rt; is_read && are_lent);
 }

@@ -1,10 +1,10 @@
-//! How many nodes a line reads.
+//! How many nodes a line reads, and what it is answered, for three lengths of stored prefixes.
+ghost use Rattle.std.specs.Prelude.{◌≤◌};
 
-use super::{Kept, cut_text, make_kept, run_over};
+use super::{Room, is_run};
 use crate::index::Index;
 use crate::to_writer::ToWriter;
 use std::alloc::Global;
-use std::process::Abort;
 
 /// What stands in an index, a line, its reply, and how many nodes it reads at least and at most.
 type Row = (&'static [u8], &'static [u8], &'static [u8], u64, u64);
@@ -17,7 +17,13 @@ const FAR_APART: &[u8] = b"put 256 00 61\nput 1 00 62\nnput 1 -5 61\nput 2 AB 4A
 
 const NUMBERS: &[u8] = b"nput 5 -1 61\nnput 5 256 62\nnput 5 -300 63\nnput 6 0 64\n";
 
-const ROWS: [Row; 22] = [
+const LISTED: &[u8] = b"-300 63\n-1 61\nend 2\n";
+
+const DUMPED: &[u8] = b"put 1 aa 61\nput 1 bb 62\nput 2 aa 63\nend 3\n";
+
+const COUNTED: &[u8] = b"bytes 3 2 0 0 0\nnumbers 0 0 0 0 0\n";
+
+const ROWS: [Row; 29] = [
     (NOTHING, b"get 1 aa", b"none\n", 0, 0),
     (NOTHING, b"list 1 -", b"end 0\n", 0, 0),
     (NOTHING, b"nget 1 5", b"none\n", 0, 0),
@@ -29,24 +35,19 @@ const ROWS: [Row; 22] = [
     (TWO_TENANTS, b"list 1 -", b"aa 61\nbb 62\nend 2\n", 2, 86),
     (TWO_TENANTS, b"span 1 ab ff", b"bb 62\nend 1\n", 1, 1 + 98),
     (TWO_TENANTS, b"span 1 ff ab", b"bounds\n", 0, 0),
-    (
-        TWO_TENANTS,
-        b"dump",
-        b"put 1 aa 61\nput 1 bb 62\nput 2 aa 63\nend 3\n",
-        0,
-        0,
-    ),
+    (TWO_TENANTS, b"dump", DUMPED, 0, 0),
+    (TWO_TENANTS, b"audit", COUNTED, 0, 0),
     (TWO_TENANTS, b"put 1 aa 64", b"old 61\n", 0, 0),
+    (TWO_TENANTS, b"put 1 aabb 64", b"conflict\n", 0, 0),
+    (TWO_TENANTS, b"over 1 - 64", b"over 2\n", 0, 0),
+    (TWO_TENANTS, b"del 1 aa", b"gone 61\n", 0, 0),
     (FAR_APART, b"get 1 00", b"is 62\n", 3, 3),
     (FAR_APART, b"nget 1 -5", b"is 61\n", 1, 1),
     (NUMBERS, b"nget 5 256", b"is 62\n", 3, 3),
-    (
-        NUMBERS,
-        b"nspan 5 -300 0",
-        b"-300 63\n-1 61\nend 2\n",
-        2,
-        2 + 392,
-    ),
+    (NUMBERS, b"nspan 5 -300 0", LISTED, 2, 2 + 392),
+    (NUMBERS, b"nput 5 256 65", b"old 62\n", 0, 0),
+    (NUMBERS, b"ndel 5 -1", b"gone 61\n", 0, 0),
+    (NUMBERS, b"nget 05 1", b"bad\n", 0, 0),
     (NOTHING, b"drop 1", b"dropped 0\n", 0, 0),
     (TWO_TENANTS, b"drop 1", b"dropped 2\n", 3, 144),
     (TWO_TENANTS, b"drop 3", b"dropped 0\n", 0, 140),
@@ -54,42 +55,47 @@ const ROWS: [Row; 22] = [
     (NUMBERS, b"drop 5", b"dropped 3\n", 5, 286),
 ];
 
-/// Checks what a line writes and how many nodes it reads.
-fn reads<const PREFIX_LEN: usize>(
-    rt: &impl Abort,
-    index: &mut Index<PREFIX_LEN>,
-    row: &Row,
-    out: &mut Kept,
-) {
-    let mut sink = ToWriter::new(out);
-    match index.handle(row.1, &mut sink) {
-        Ok(done) => {
-            assert!(rt;
-                row.3 <= done.visits && done.visits <= row.4,
-                "{} nodes",
-                done.visits
-            );
-        }
-        Err(_) => panic!(rt; "the sink failed"),
-    }
+/// Whether a row is right over an index that holds nothing.
+fn is_right<const PREFIX_LEN: usize>(index: &mut Index<PREFIX_LEN>, row: &Row) -> bool {
+    let stands = is_run(index, row.0, &mut Room::new());
+    let mut out = Room::new();
+    let mut sink = ToWriter::new(&mut out);
+    let visits = match index.handle(row.1, &mut sink) {
+        Ok(done) => done.visits,
+        Err(_) => u64::MAX,
+    };
+    stands && row.3 <= visits && visits <= row.4 && out.is(row.2)
 }
 
-/// Checks each row.
-fn all_read<const PREFIX_LEN: usize>(rt: &impl Abort, alloc: Global) {
-    assert!(rt; PREFIX_LEN <= 16);
+/// Whether a row is right over a new index.
+fn is_right_anew<const PREFIX_LEN: usize>(alloc: Global, row: &Row) -> bool
+    requires { PREFIX_LEN ≤ 16 }
+{
+    let mut index: Index<PREFIX_LEN> = Index::new(alloc);
+    is_right(&mut index, row)
+}
+
+/// How many rows are right before one that isn't.
+fn right_rows<const PREFIX_LEN: usize>(alloc: Global) -> usize
+    requires { PREFIX_LEN ≤ 16 }
+{
+    let mut right: usize = 0;
     for row in &ROWS {
-        let mut index: Index<PREFIX_LEN> = Index::new(alloc);
-        let mut told = make_kept(alloc, usize::MAX);
-        assert!(rt; run_over(&mut index, cut_text(row.0, 7), &mut told).is_ok());
-        let mut out = make_kept(alloc, usize::MAX);
-        reads(rt, &mut index, row, &mut out);
-        assert_eq!(rt; out.bytes.as_slice(), row.2);
+        if !is_right_anew::<PREFIX_LEN>(alloc, row) {
+            break;
+        }
+        right = right.saturating_add(1);
     }
+    right
 }
 
 #[test]
 fn each_line_reads_so_many_nodes(rt: HostRuntime) {
-    all_read::<0>(&rt, rt.alloc());
-    all_read::<4>(&rt, rt.alloc());
-    all_read::<16>(&rt, rt.alloc());
+    let alloc = rt.alloc();
+    let right = [
+        right_rows::<0>(alloc),
+        right_rows::<4>(alloc),
+        right_rows::<16>(alloc),
+    ];
+    assert_eq!(rt; right, [ROWS.len(), ROWS.len(), ROWS.len()]);
 }

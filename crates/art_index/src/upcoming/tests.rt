@@ -1,27 +1,32 @@
 //! What no clause says: the ways of the lines that look a key up are gone to its leaf, and lines are read ahead by
 //! groups, for a map that is large enough.
+ghost use Rattle.std.specs.Prelude.{◌≤◌};
+
 use super::{FEW, KEY, LINES, Roots, Trees, Upcoming};
-use crate::ahead::tests::fill;
+use crate::ahead::tests::is_filled;
 use crate::command::fields::NUMBER_KEY;
+use arrayvec::ArrayVec;
 use art_map::TreeMap;
-use std::alloc::{AllocError, Global};
-use std::test::Fail;
+use std::alloc::Global;
 
-type Keys = TreeMap<Vec<u8>, Vec<u8>, 16>;
+/// Lines, as many as are looked at.
+type Text = ArrayVec<u8, 1024>;
 
-/// A line with this word and, in digits, the four bytes of a tenant and the key that `fill` gives a number.
-fn put_line(text: &mut Vec<u8>, word: &[u8], number: u64, factor: u64) -> Result<(), AllocError> {
+/// A line with this word and, in digits, the four bytes of a tenant and the key that `is_filled` gives a number.
+fn put_line(text: &mut Text, word: &[u8], number: u64) {
     let mut digits = [0; 16];
-    let _ = hex::encode_to_slice(&number.wrapping_mul(factor).to_be_bytes(), &mut digits);
-    text.extend_from_slice(word)?;
-    text.extend_from_slice(b" 117901063 ")?;
-    text.extend_from_slice(&digits)?;
-    text.push(b'\n')?;
-    Ok(())
+    let _ = hex::encode_to_slice(&number.to_be_bytes(), &mut digits);
+    let _ = text.try_extend_from_slice(word);
+    let _ = text.try_extend_from_slice(b" 117901063 ");
+    let _ = text.try_extend_from_slice(&digits);
+    let _ = text.try_extend_from_slice(b"\n");
 }
 
 /// How many of the ways end at the leaf of their key.
-fn count_reached(upcoming: &Upcoming, map: &TreeMap<Vec<u8>, Vec<u8>, 16>) -> usize {
+fn count_reached<const PREFIX_LEN: usize>(
+    upcoming: &Upcoming,
+    map: &TreeMap<Vec<u8>, Vec<u8>, PREFIX_LEN>,
+) -> usize {
     let (arena, _) = map.nodes();
     let mut reached: usize = 0;
     for at in 0..LINES {
@@ -41,10 +46,10 @@ fn count_reached(upcoming: &Upcoming, map: &TreeMap<Vec<u8>, Vec<u8>, 16>) -> us
 }
 
 /// Reads ahead, of however few records.
-fn read(
+fn read<const PREFIX_LEN: usize>(
     upcoming: &mut Upcoming,
-    map: &TreeMap<Vec<u8>, Vec<u8>, 16>,
-    numbers: &TreeMap<[u8; NUMBER_KEY], Vec<u8>, 16>,
+    map: &TreeMap<Vec<u8>, Vec<u8>, PREFIX_LEN>,
+    numbers: &TreeMap<[u8; NUMBER_KEY], Vec<u8>, PREFIX_LEN>,
     text: &[u8],
 ) {
     let (keys, root) = map.nodes();
@@ -60,36 +65,56 @@ fn read(
     upcoming.read(trees, &roots, text);
 }
 
-#[test]
-fn ways_end_at_the_leaves_of_their_keys(rt: HostRuntime) -> Result<(), Fail> {
-    let rows: [(u64, u64); 5] = [
-        (1, 1),
-        (20, 1 << 40),
-        (700, 1),
-        (2000, 0x9e37_79b9_7f4a_7c15),
-        (1500, (1 << 60) + (1 << 33) + 3),
-    ];
-    let numbers = TreeMap::with_prefix_len(rt.alloc());
-    for (count, factor) in rows {
-        let mut map = TreeMap::with_prefix_len(rt.alloc());
-        fill(rt.alloc(), &mut map, count, factor, 4)?;
-        let mut text = Vec::new(rt.alloc());
-        put_line(&mut text, b"put", 0, factor)?;
-        for number in 0..count.min(10) {
-            put_line(&mut text, b"get", number, factor)?;
-        }
-        put_line(&mut text, b"got", 0, factor)?;
-        let mut upcoming = Upcoming::new();
-        read(&mut upcoming, &map, &numbers, text.as_slice());
-        assert_eq!(rt; upcoming.len as u64, count.min(10));
-        assert_eq!(rt; upcoming.left as u64, count.min(10) + 1);
-        assert_eq!(rt; count_reached(&upcoming, &map), upcoming.len);
+/// Whether the ways of ten lines, or of as many as there are keys, end at the leaves of their keys. Of a line that puts
+/// and of one that asks for nothing no way is gone.
+fn do_ways_end<const PREFIX_LEN: usize>(
+    map: &TreeMap<Vec<u8>, Vec<u8>, PREFIX_LEN>,
+    numbers: &TreeMap<[u8; NUMBER_KEY], Vec<u8>, PREFIX_LEN>,
+    count: u64,
+    factor: u64,
+) -> bool {
+    let mut text = Text::new();
+    put_line(&mut text, b"put", 0);
+    for number in 0..count {
+        put_line(&mut text, b"get", number.wrapping_mul(factor));
     }
-    Ok(())
+    put_line(&mut text, b"got", 0);
+    let mut upcoming = Upcoming::new();
+    read(&mut upcoming, map, numbers, text.as_slice());
+    upcoming.len as u64 == count
+        && upcoming.left as u64 == count.saturating_add(1)
+        && count_reached(&upcoming, map) == upcoming.len
+}
+
+/// Of a map: how many keys, and their factor.
+const ROWS: [(u64, u64); 5] = [
+    (1, 1),
+    (20, 1 << 40),
+    (700, 1),
+    (2000, 0x9e37_79b9_7f4a_7c15),
+    (1500, (1 << 60) + (1 << 33) + 3),
+];
+
+/// Whether it is so of a map with so many keys.
+fn is_row_gone<const PREFIX_LEN: usize>(
+    alloc: Global,
+    numbers: &TreeMap<[u8; NUMBER_KEY], Vec<u8>, PREFIX_LEN>,
+    row: (u64, u64),
+) -> bool
+    requires { PREFIX_LEN ≤ 16 }
+{
+    let (count, factor) = row;
+    let mut map: TreeMap<Vec<u8>, Vec<u8>, PREFIX_LEN> = TreeMap::with_prefix_len(alloc);
+    is_filled(alloc, &mut map, count, factor, 4)
+        && do_ways_end(&map, numbers, count.min(10), factor)
 }
 
 /// Puts so many numbers of a tenant, each a thousand after the one before.
-fn fill_numbers(numbers: &mut TreeMap<[u8; NUMBER_KEY], Vec<u8>, 16>, alloc: Global, count: u64) {
+fn fill_numbers<const PREFIX_LEN: usize>(
+    alloc: Global,
+    numbers: &mut TreeMap<[u8; NUMBER_KEY], Vec<u8>, PREFIX_LEN>,
+    count: u64,
+) {
     for i in 0..count {
         let mut key = [0; NUMBER_KEY];
         key[3] = 5;
@@ -98,48 +123,60 @@ fn fill_numbers(numbers: &mut TreeMap<[u8; NUMBER_KEY], Vec<u8>, 16>, alloc: Glo
     }
 }
 
-/// How many of these lines under numbers are read ahead. It owns no map, so that none is let go here.
-fn count_taken(
-    numbers: &TreeMap<[u8; NUMBER_KEY], Vec<u8>, 16>,
-    none: &Keys,
-    text: &[u8],
-) -> usize {
-    let mut upcoming = Upcoming::new();
-    read(&mut upcoming, none, numbers, text);
-    upcoming.len
-}
-
-#[test]
-fn lines_under_numbers_are_read_ahead(rt: HostRuntime) {
-    let mut numbers = TreeMap::with_prefix_len(rt.alloc());
-    fill_numbers(&mut numbers, rt.alloc(), 300);
-    let none = TreeMap::with_prefix_len(rt.alloc());
+/// Whether of five lines under numbers those are read ahead that look one up and are spelled right.
+fn are_numbers_taken<const PREFIX_LEN: usize>(
+    map: &TreeMap<Vec<u8>, Vec<u8>, PREFIX_LEN>,
+    numbers: &TreeMap<[u8; NUMBER_KEY], Vec<u8>, PREFIX_LEN>,
+) -> bool {
     let text = b"nget 5 7000\nndel 5 0\nnput 5 7 -\nnspan 5 9000 99000\nnget 5 01\n";
-    let taken = count_taken(&numbers, &none, text);
-    assert!(rt; taken == 3);
+    let mut upcoming = Upcoming::new();
+    read(&mut upcoming, map, numbers, text);
+    upcoming.len == 3
+}
+
+/// Whether lines are read ahead by groups once there are enough records, and their ways are gone.
+fn are_grouped<const PREFIX_LEN: usize>(
+    alloc: Global,
+    map: &mut TreeMap<Vec<u8>, Vec<u8>, PREFIX_LEN>,
+    numbers: &TreeMap<[u8; NUMBER_KEY], Vec<u8>, PREFIX_LEN>,
+) -> bool {
+    let mut text = Text::new();
+    for number in 0..20 {
+        put_line(&mut text, b"get", number);
+    }
+    let mut upcoming = Upcoming::new();
+    upcoming.step(map, numbers, text.as_slice());
+    let mut are_grouped = upcoming.len == 0 && is_filled(alloc, map, FEW as u64, 1, 4);
+    for left in [15, 14, 13] {
+        upcoming.step(map, numbers, text.as_slice());
+        are_grouped &= upcoming.left == left && upcoming.len == LINES;
+    }
+    are_grouped &= count_reached(&upcoming, map) == LINES;
+    upcoming.left = 0;
+    upcoming.step(map, numbers, b"get 117901063 00\nget");
+    are_grouped && upcoming.left == 0 && upcoming.len == 1
+}
+
+/// Whether lines are read ahead: of small maps, under numbers, and by groups of a large one.
+fn are_read_ahead<const PREFIX_LEN: usize>(
+    alloc: Global,
+    map: &mut TreeMap<Vec<u8>, Vec<u8>, PREFIX_LEN>,
+    numbers: &mut TreeMap<[u8; NUMBER_KEY], Vec<u8>, PREFIX_LEN>,
+) -> bool
+    requires { PREFIX_LEN ≤ 16 }
+{
+    let mut are_gone = true;
+    for row in ROWS {
+        are_gone &= is_row_gone(alloc, numbers, row);
+    }
+    fill_numbers(alloc, numbers, 300);
+    are_gone && are_numbers_taken(map, numbers) && are_grouped(alloc, map, numbers)
 }
 
 #[test]
-fn lines_are_read_ahead_by_groups(rt: HostRuntime) -> Result<(), Fail> {
-    let mut map = TreeMap::with_prefix_len(rt.alloc());
-    let numbers = TreeMap::with_prefix_len(rt.alloc());
-    let mut text = Vec::new(rt.alloc());
-    for number in 0..20 {
-        put_line(&mut text, b"get", number, 1)?;
-    }
-    let mut upcoming = Upcoming::new();
-    upcoming.step(&map, &numbers, text.as_slice());
-    assert_eq!(rt; upcoming.len, 0);
-    fill(rt.alloc(), &mut map, FEW as u64, 1, 4)?;
-    for left in [15, 14, 13] {
-        upcoming.step(&map, &numbers, text.as_slice());
-        assert_eq!(rt; upcoming.left, left);
-        assert_eq!(rt; upcoming.len, LINES);
-    }
-    assert_eq!(rt; count_reached(&upcoming, &map), LINES);
-    upcoming.left = 0;
-    upcoming.step(&map, &numbers, b"get 117901063 00\nget");
-    assert_eq!(rt; upcoming.left, 0);
-    assert_eq!(rt; upcoming.len, 1);
-    Ok(())
+fn lines_are_read_ahead(rt: HostRuntime) {
+    let mut map: TreeMap<Vec<u8>, Vec<u8>, 16> = TreeMap::with_prefix_len(rt.alloc());
+    let mut numbers = TreeMap::with_prefix_len(rt.alloc());
+    let are_read = are_read_ahead(rt.alloc(), &mut map, &mut numbers);
+    assert!(rt; are_read);
 }
