@@ -1,8 +1,8 @@
 """What the models of play_map's maps and sets share: bytes as a script writes them, and pairs in order."""
 from bisect import bisect_left, insort
 
-SHRINKING = {5, 17, 49}
-CLASSES = ((2, 4), (5, 16), (17, 48), (49, 256))
+SHRINKING = {5, 17, 33, 49}
+CLASSES = ((2, 4), (5, 16), (17, 32), (33, 48), (49, 256))
 FILLING = ("or_insert", "or_default", "or_insert_with", "or_insert_with_key")
 PREFIX_FILLING = [f"prefix_{it}{entry}" for it in FILLING for entry in ("", "_entry")]
 BOTH = 0xFFFF_FFFF_FFFF_FFFF

@@ -75,7 +75,7 @@ def script(seed, kind, length):
     """Lines at random, over keys that branch at a width drawn once, behind a front that is drawn once."""
     of = random.Random(seed)
     front = of.choice(("", "", "aa.", "aa*3.", "aa*17.", "aa*40."))
-    wide = of.choice((2, 4, 6, 17, 18, 49, 50, 120))
+    wide = of.choice((2, 4, 6, 17, 18, 33, 34, 49, 50, 120))
     alphabet = of.sample(range(1, 256), wide)
     model = model_of(kind)
 

@@ -27,8 +27,8 @@ TENANT = re.compile(rb"0|[1-9][0-9]*")
 NUMBER = re.compile(rb"0|-?[1-9][0-9]*")
 DIGITS = re.compile(rb"(?:[0-9a-fA-F]{2})+")
 # A removal may find no memory where so many bytes follow the longest front that its key shares.
-SHRINKING = {5, 17, 49}
-CLASSES = ((2, 4), (5, 16), (17, 48), (49, 256))
+SHRINKING = {5, 17, 33, 49}
+CLASSES = ((2, 4), (5, 16), (17, 32), (33, 48), (49, 256))
 
 
 def tenant_in(field):

@@ -5,8 +5,8 @@ ghost use Rattle.std.specs.Prelude.{Some, None, IfOk, OnErr, IfErr, OnOk, IsSome
 use crate::nodes::{NO_MEMORY_HOLDS, Nodes};
 use crate::stored::Stored;
 use art_nodes::{
-    InnerNode4, InnerNode16, InnerNode48, InnerNode256, KindLeaf, LeafNode, NodePtr, NodeType,
-    OpaqueNodePtr,
+    InnerNode4, InnerNode16, InnerNode32, InnerNode48, InnerNode256, KindLeaf, LeafNode, NodePtr,
+    NodeType, OpaqueNodePtr,
 };
 use std::alloc::{AllocError, Global};
 use std::marker::Model;
@@ -23,6 +23,7 @@ pub struct NodeArena<K, V, const PREFIX_LEN: usize> {
     pub(crate) leaves: Nodes<LeafNode<K, V>, 0>,
     pub(crate) nodes4: Nodes<InnerNode4<K, V, PREFIX_LEN>, PREFIX_LEN>,
     pub(crate) nodes16: Nodes<InnerNode16<K, V, PREFIX_LEN>, PREFIX_LEN>,
+    pub(crate) nodes32: Nodes<InnerNode32<K, V, PREFIX_LEN>, PREFIX_LEN>,
     pub(crate) nodes48: Nodes<InnerNode48<K, V, PREFIX_LEN>, PREFIX_LEN>,
     pub(crate) nodes256: Nodes<InnerNode256<K, V, PREFIX_LEN>, PREFIX_LEN>,
 }
@@ -36,6 +37,7 @@ impl<K, V, const PREFIX_LEN: usize> Model for NodeArena<K, V, PREFIX_LEN> {
       leaves = a.leaves;
       nodes4 = a.nodes4;
       nodes16 = a.nodes16;
+      nodes32 = a.nodes32;
       nodes48 = a.nodes48;
       nodes256 = a.nodes256;
     } };
@@ -76,6 +78,7 @@ impl<K, V, const PREFIX_LEN: usize> NodeArena<K, V, PREFIX_LEN> {
             leaves: Nodes::new(alloc),
             nodes4: Nodes::new(alloc),
             nodes16: Nodes::new(alloc),
+            nodes32: Nodes::new(alloc),
             nodes48: Nodes::new(alloc),
             nodes256: Nodes::new(alloc),
         }
@@ -89,6 +92,7 @@ impl<K, V, const PREFIX_LEN: usize> NodeArena<K, V, PREFIX_LEN> {
         match name.node_type() {
             NodeType::Node4 => self.nodes4.contains(slot),
             NodeType::Node16 => self.nodes16.contains(slot),
+            NodeType::Node32 => self.nodes32.contains(slot),
             NodeType::Node48 => self.nodes48.contains(slot),
             NodeType::Node256 => self.nodes256.contains(slot),
             NodeType::Leaf => self.leaves.contains(slot),
@@ -117,12 +121,14 @@ impl<K, V, const PREFIX_LEN: usize> NodeArena<K, V, PREFIX_LEN> {
         if PREFIX_LEN >= NO_MEMORY_HOLDS {
             self.nodes4.none_fits();
             self.nodes16.none_fits();
+            self.nodes32.none_fits();
             self.nodes48.none_fits();
             self.nodes256.none_fits();
             return;
         }
         self.nodes4.clear();
         self.nodes16.clear();
+        self.nodes32.clear();
         self.nodes48.clear();
         self.nodes256.clear();
     }
@@ -140,12 +146,14 @@ impl<K, V, const PREFIX_LEN: usize> NodeArena<K, V, PREFIX_LEN> {
         if PREFIX_LEN >= NO_MEMORY_HOLDS {
             self.nodes4.none_fits();
             self.nodes16.none_fits();
+            self.nodes32.none_fits();
             self.nodes48.none_fits();
             self.nodes256.none_fits();
             return Ok(NodeArena {
                 leaves,
                 nodes4: Nodes::new(alloc),
                 nodes16: Nodes::new(alloc),
+                nodes32: Nodes::new(alloc),
                 nodes48: Nodes::new(alloc),
                 nodes256: Nodes::new(alloc),
             });
@@ -154,6 +162,7 @@ impl<K, V, const PREFIX_LEN: usize> NodeArena<K, V, PREFIX_LEN> {
             leaves,
             nodes4: self.nodes4.try_clone()?,
             nodes16: self.nodes16.try_clone()?,
+            nodes32: self.nodes32.try_clone()?,
             nodes48: self.nodes48.try_clone()?,
             nodes256: self.nodes256.try_clone()?,
         })
@@ -171,6 +180,7 @@ impl<K, V, const PREFIX_LEN: usize> NodeArena<K, V, PREFIX_LEN> {
         self.leaves.reserve(additional)?;
         self.nodes4.reserve(additional)?;
         self.nodes16.reserve(additional)?;
+        self.nodes32.reserve(additional)?;
         self.nodes48.reserve(additional)?;
         self.nodes256.reserve(additional)
     }
@@ -187,6 +197,7 @@ impl<K, V, const PREFIX_LEN: usize> NodeArena<K, V, PREFIX_LEN> {
         match kind {
             NodeType::Node4 => self.nodes4.reserve(additional),
             NodeType::Node16 => self.nodes16.reserve(additional),
+            NodeType::Node32 => self.nodes32.reserve(additional),
             NodeType::Node48 => self.nodes48.reserve(additional),
             NodeType::Node256 => self.nodes256.reserve(additional),
             NodeType::Leaf => self.leaves.reserve(additional),

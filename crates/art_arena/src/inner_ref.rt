@@ -9,8 +9,8 @@ ghost use Rattle.art_arena.specs.arena.EndLeaves.{end_child};
 
 use crate::ends::End;
 use art_nodes::{
-    ChildIter, Header, InnerNode4, InnerNode16, InnerNode48, InnerNode256, InnerNodeCommon,
-    OpaqueNodePtr,
+    ChildIter, Header, InnerNode4, InnerNode16, InnerNode32, InnerNode48, InnerNode256,
+    InnerNodeCommon, OpaqueNodePtr,
 };
 use std::marker::Model;
 use std::ops::Bound;
@@ -20,6 +20,7 @@ use std::ops::Bound;
 pub(crate) enum InnerArm<'a, K, V, const PREFIX_LEN: usize> {
     Node4(&'a InnerNode4<K, V, PREFIX_LEN>),
     Node16(&'a InnerNode16<K, V, PREFIX_LEN>),
+    Node32(&'a InnerNode32<K, V, PREFIX_LEN>),
     Node48(&'a InnerNode48<K, V, PREFIX_LEN>),
     Node256(&'a InnerNode256<K, V, PREFIX_LEN>),
 }
@@ -47,6 +48,7 @@ macro_rules! on_arm {
         match $self.arm {
             InnerArm::Node4($node) => $body,
             InnerArm::Node16($node) => $body,
+            InnerArm::Node32($node) => $body,
             InnerArm::Node48($node) => $body,
             InnerArm::Node256($node) => $body,
         }

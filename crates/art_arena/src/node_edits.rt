@@ -10,8 +10,8 @@ ghost use Rattle.art_arena.specs.arena.NodeEdits.{edited, MayEdit};
 use crate::arena::NodeArena;
 use crate::stored::{NodeStore, Stored};
 use art_nodes::{
-    ConcreteNodePtr, Header, InnerNode, InnerNode4, InnerNode16, InnerNode48, InnerNode256,
-    InnerNodeCommon, NodePtr, NodeType, OpaqueNodePtr, known,
+    ConcreteNodePtr, Header, InnerNode, InnerNode4, InnerNode16, InnerNode32, InnerNode48,
+    InnerNode256, InnerNodeCommon, NodePtr, NodeType, OpaqueNodePtr, known,
 };
 use std::alloc::AllocError;
 
@@ -34,6 +34,13 @@ impl<K, V, const PREFIX_LEN: usize> StoredInner<K, V, NodeArena<K, V, PREFIX_LEN
 
 impl<K, V, const PREFIX_LEN: usize> StoredInner<K, V, NodeArena<K, V, PREFIX_LEN>, PREFIX_LEN>
     for InnerNode16<K, V, PREFIX_LEN> {
+    ghost held_inner = { λ node. refl };
+
+    ghost room_in_table = { refl };
+}
+
+impl<K, V, const PREFIX_LEN: usize> StoredInner<K, V, NodeArena<K, V, PREFIX_LEN>, PREFIX_LEN>
+    for InnerNode32<K, V, PREFIX_LEN> {
     ghost held_inner = { λ node. refl };
 
     ghost room_in_table = { refl };
@@ -153,6 +160,9 @@ impl<K, V, const PREFIX_LEN: usize> NodeArena<K, V, PREFIX_LEN> {
             ConcreteNodePtr::Node16(ptr) => {
                 edit_at::<K, V, InnerNode16<K, V, PREFIX_LEN>, PREFIX_LEN>(self, ptr, edit)
             }
+            ConcreteNodePtr::Node32(ptr) => {
+                edit_at::<K, V, InnerNode32<K, V, PREFIX_LEN>, PREFIX_LEN>(self, ptr, edit)
+            }
             ConcreteNodePtr::Node48(ptr) => {
                 edit_at::<K, V, InnerNode48<K, V, PREFIX_LEN>, PREFIX_LEN>(self, ptr, edit)
             }
@@ -187,6 +197,9 @@ impl<K, V, const PREFIX_LEN: usize> NodeArena<K, V, PREFIX_LEN> {
             ConcreteNodePtr::Node16(ptr) => {
                 store_copy!(self, ptr, InnerNode16<K, V, PREFIX_LEN>, grow)
             }
+            ConcreteNodePtr::Node32(ptr) => {
+                store_copy!(self, ptr, InnerNode32<K, V, PREFIX_LEN>, grow)
+            }
             ConcreteNodePtr::Node48(ptr) => {
                 store_copy!(self, ptr, InnerNode48<K, V, PREFIX_LEN>, grow)
             }
@@ -212,6 +225,10 @@ impl<K, V, const PREFIX_LEN: usize> NodeArena<K, V, PREFIX_LEN> {
             ConcreteNodePtr::Node16(ptr) => {
                 self.prefix_fits(name);
                 store_copy!(self, ptr, InnerNode16<K, V, PREFIX_LEN>, shrink)
+            }
+            ConcreteNodePtr::Node32(ptr) => {
+                self.prefix_fits(name);
+                store_copy!(self, ptr, InnerNode32<K, V, PREFIX_LEN>, shrink)
             }
             ConcreteNodePtr::Node48(ptr) => {
                 self.prefix_fits(name);

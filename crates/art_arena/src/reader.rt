@@ -7,7 +7,8 @@ ghost use Rattle.art_arena.specs.arena.Visited.{arena_of, count_of, held_of, kin
 use crate::arena::{LeafPtr, NodeArena};
 use crate::inner_ref::{InnerArm, InnerRef};
 use art_nodes::{
-    InnerNode4, InnerNode16, InnerNode48, InnerNode256, LeafNode, NodeType, OpaqueNodePtr, known,
+    InnerNode4, InnerNode16, InnerNode32, InnerNode48, InnerNode256, LeafNode, NodeType,
+    OpaqueNodePtr, known,
 };
 
 /// A node that was read, lent as long as the arena is.
@@ -17,6 +18,8 @@ pub enum VisitedNode<'a, K, V, const PREFIX_LEN: usize> {
     Node4(&'a InnerNode4<K, V, PREFIX_LEN>),
     /// An inner node of up to 16 children.
     Node16(&'a InnerNode16<K, V, PREFIX_LEN>),
+    /// An inner node of up to 32 children.
+    Node32(&'a InnerNode32<K, V, PREFIX_LEN>),
     /// An inner node of up to 48 children.
     Node48(&'a InnerNode48<K, V, PREFIX_LEN>),
     /// One of the largest inner nodes.
@@ -42,6 +45,9 @@ impl<'a, K, V, const PREFIX_LEN: usize> VisitedNode<'a, K, V, PREFIX_LEN> {
             VisitedNode::Node16(node) => Err(InnerRef {
                 arm: InnerArm::Node16(node),
             }),
+            VisitedNode::Node32(node) => Err(InnerRef {
+                arm: InnerArm::Node32(node),
+            }),
             VisitedNode::Node48(node) => Err(InnerRef {
                 arm: InnerArm::Node48(node),
             }),
@@ -65,6 +71,9 @@ impl<'a, K, V, const PREFIX_LEN: usize> VisitedNode<'a, K, V, PREFIX_LEN> {
             },
             VisitedNode::Node16(node) => InnerRef {
                 arm: InnerArm::Node16(node),
+            },
+            VisitedNode::Node32(node) => InnerRef {
+                arm: InnerArm::Node32(node),
             },
             VisitedNode::Node48(node) => InnerRef {
                 arm: InnerArm::Node48(node),
@@ -203,6 +212,7 @@ fn node_in<'a, K, V, const PREFIX_LEN: usize>(
     match name.node_type() {
         NodeType::Node4 => VisitedNode::Node4(arena.nodes4.node(slot)),
         NodeType::Node16 => VisitedNode::Node16(arena.nodes16.node(slot)),
+        NodeType::Node32 => VisitedNode::Node32(arena.nodes32.node(slot)),
         NodeType::Node48 => VisitedNode::Node48(arena.nodes48.node(slot)),
         NodeType::Node256 => VisitedNode::Node256(arena.nodes256.node(slot)),
         NodeType::Leaf => VisitedNode::Leaf(arena.leaves.node(slot)),

@@ -5,7 +5,7 @@ use Rattle.std.specs.List.{AllByRecursion, cons_option, fold}
 use Rattle.std.proofs.lemmas.List.{length-map}
 use Rattle.art_bytes.specs.Keys.{common_prefix}
 use Rattle.art_arena.specs.tree.Fronts.{distinct, neighbour_fronts, fronts_of, byte_after, bytes_after, width_of, fronts_with}
-use Rattle.art_nodes.specs.declared.kind.NodeType.TheVariants.{Node4, Node16, Node48, Node256}
+use Rattle.art_nodes.specs.declared.kind.NodeType.TheVariants.{Node4, Node16, Node32, Node48, Node256}
 use Rattle.art_walks.specs.Stats.{in_range}
 use Rattle.art_walks.specs.declared.stats.WellFormedTreeStats.{WellFormedTreeStats}
 use Rattle.art_map.specs.Audit.{audit_of}
@@ -44,7 +44,7 @@ module _ {X : Type 0} (key : X → List ℕ) where
       ∙ ap (λ fs. count_by (λ front. test (width_of itself (map key xs) front)) (distinct bytes_eq fs)) (neighbours-map xs)
 
   counts-map : (xs : List X) → audit_of key xs ≡ audit_of itself (map key xs)
-  counts-map xs = rw (fronts_with-map (in_range Node4) xs, fronts_with-map (in_range Node16) xs, fronts_with-map (in_range Node48) xs, fronts_with-map (in_range Node256) xs, length-map xs key) refl
+  counts-map xs = rw (fronts_with-map (in_range Node4) xs, fronts_with-map (in_range Node16) xs, fronts_with-map (in_range Node32) xs, fronts_with-map (in_range Node48) xs, fronts_with-map (in_range Node256) xs, length-map xs key) refl
 
 -- so pairs under full keys count as their records do
 pub counts_same : (ps : List Pair) → AllByRecursion IsFull ps → audit_of bytes_of ps ≡ audit_of full_key_of (map record_of ps)
@@ -57,11 +57,12 @@ number_counts_same ns full = counts-map number_bytes ns ∙ ap (audit_of itself)
 -- the line of a tree as the parts that are put one after another
 pub count_parts : (tree : List ℕ) (s : WellFormedTreeStats)
     → tree ++ ((32 ∷ decimal s.num_leaf) ++ ((32 ∷ decimal s.num_node4) ++ ((32 ∷ decimal s.num_node16)
-    ++ ((32 ∷ decimal s.num_node48) ++ ((32 ∷ decimal s.num_node256) ++ 10 ∷ []))))) ≡ line_of (count_words tree s)
+    ++ ((32 ∷ decimal s.num_node32) ++ ((32 ∷ decimal s.num_node48) ++ ((32 ∷ decimal s.num_node256) ++ 10 ∷ [])))))) ≡ line_of (count_words tree s)
 count_parts tree s =
-    let a = natural s.num_leaf in let b = natural s.num_node4 in let c = natural s.num_node16 in let d = natural s.num_node48 in let e = natural s.num_node256 in
-    ap (λ t. tree ++ (32 ∷ (decimal s.num_leaf ++ (32 ∷ (decimal s.num_node4 ++ (32 ∷ (decimal s.num_node16 ++ (32 ∷ t)))))))) (line_more d e [])
-    ∙ ap (λ t. tree ++ (32 ∷ (decimal s.num_leaf ++ (32 ∷ (decimal s.num_node4 ++ (32 ∷ t)))))) (line_more c d (e ∷ []))
-    ∙ ap (λ t. tree ++ (32 ∷ (decimal s.num_leaf ++ (32 ∷ t)))) (line_more b c (d ∷ e ∷ []))
-    ∙ ap (λ t. tree ++ (32 ∷ t)) (line_more a b (c ∷ d ∷ e ∷ []))
-    ∙ line_more (name tree) a (b ∷ c ∷ d ∷ e ∷ [])
+    let a = natural s.num_leaf in let b = natural s.num_node4 in let c = natural s.num_node16 in let d = natural s.num_node32 in let e = natural s.num_node48 in let f = natural s.num_node256 in
+    ap (λ t. tree ++ (32 ∷ (decimal s.num_leaf ++ (32 ∷ (decimal s.num_node4 ++ (32 ∷ (decimal s.num_node16 ++ (32 ∷ (decimal s.num_node32 ++ (32 ∷ t)))))))))) (line_more e f [])
+    ∙ ap (λ t. tree ++ (32 ∷ (decimal s.num_leaf ++ (32 ∷ (decimal s.num_node4 ++ (32 ∷ (decimal s.num_node16 ++ (32 ∷ t)))))))) (line_more d e (f ∷ []))
+    ∙ ap (λ t. tree ++ (32 ∷ (decimal s.num_leaf ++ (32 ∷ (decimal s.num_node4 ++ (32 ∷ t)))))) (line_more c d (e ∷ f ∷ []))
+    ∙ ap (λ t. tree ++ (32 ∷ (decimal s.num_leaf ++ (32 ∷ t)))) (line_more b c (d ∷ e ∷ f ∷ []))
+    ∙ ap (λ t. tree ++ (32 ∷ t)) (line_more a b (c ∷ d ∷ e ∷ f ∷ []))
+    ∙ line_more (name tree) a (b ∷ c ∷ d ∷ e ∷ f ∷ [])

@@ -158,10 +158,10 @@ abbrev pub dump_of : Records → List (List Word)
 dump_of records = key_lines records ++ number_lines records
     ++ end_words (length records.keys + length records.numbers) ∷ []
 
--- what tells of a tree: its leaves, and its inner nodes of 2 to 4, 5 to 16, 17 to 48 and 49 to 256 children
+-- what tells of a tree: its leaves, and its inner nodes of 2 to 4, 5 to 16, 17 to 32, 33 to 48 and 49 to 256 children
 abbrev pub count_words : List ℕ → WellFormedTreeStats → List Word
 count_words tree counts = name tree ∷ natural counts.num_leaf ∷ natural counts.num_node4 ∷ natural counts.num_node16
-    ∷ natural counts.num_node48 ∷ natural counts.num_node256 ∷ []
+    ∷ natural counts.num_node32 ∷ natural counts.num_node48 ∷ natural counts.num_node256 ∷ []
 
 -- An audit tells so of the full keys of all records under keys, and of those of all under numbers.
 abbrev pub audit_lines : Records → List (List Word)

@@ -100,6 +100,7 @@ impl Names {
         self.rest = match ArenaReader::new(arena).visit(name) {
             VisitedNode::Node256(wide) => self.take_wide::<_, PREFIX_LEN>(wide, from),
             VisitedNode::Node48(wide) => self.take_wide::<_, PREFIX_LEN>(wide, from),
+            VisitedNode::Node32(wide) => self.take_wide::<_, PREFIX_LEN>(wide, from),
             other => {
                 match other.leaf() {
                     Ok(_) => self.take_leaf(name),
@@ -297,7 +298,10 @@ fn first_wide<N: InnerNodeCommon<PREFIX_LEN>, const PREFIX_LEN: usize>(
     }
     let byte = first | taken.trailing_zeros() as u8;
     let name = node.lookup_child(byte)?;
-    let is_wide = matches!(name.node_type(), NodeType::Node48 | NodeType::Node256);
+    let is_wide = matches!(
+        name.node_type(),
+        NodeType::Node32 | NodeType::Node48 | NodeType::Node256
+    );
     if is_wide { Some(byte) } else { None }
 }
 

@@ -14,7 +14,7 @@ use crate::stream::{Sink, WriteFailed};
 use art_walks::WellFormedTreeStats;
 
 /// Room for the lines of two trees.
-const ROOM: usize = 226;
+const ROOM: usize = 268;
 
 /// Puts a space and a number in digits.
 fn put_count(room: &mut [u8], at: usize, count: usize) -> usize
@@ -29,14 +29,15 @@ fn put_count(room: &mut [u8], at: usize, count: usize) -> usize
 /// Puts the line of a tree: its name, its leaves, and its inner nodes from few children to many.
 fn put_counts(room: &mut [u8], at: usize, tree: &[u8], counts: &WellFormedTreeStats) -> usize
     requires name { length tree.now ≤ 7 }
-    requires room { at + 113 ≤ length room.old }
+    requires room { at + 134 ≤ length room.old }
     ensures told { Puts result at (line_of (count_words tree.now counts.now)) room.old room.new }
-    ensures few { result ≤ at + 113 }
+    ensures few { result ≤ at + 134 }
 {
     let leaves = put_text(room, at, tree);
     let fours = put_count(room, leaves, counts.num_leaf);
     let sixteens = put_count(room, fours, counts.num_node4);
-    let forty_eights = put_count(room, sixteens, counts.num_node16);
+    let thirty_twos = put_count(room, sixteens, counts.num_node16);
+    let forty_eights = put_count(room, thirty_twos, counts.num_node32);
     let most = put_count(room, forty_eights, counts.num_node48);
     let newline = put_count(room, most, counts.num_node256);
     put_text(room, newline, b"\n")

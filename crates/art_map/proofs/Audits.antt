@@ -1,7 +1,7 @@
 -- What the checker counts of a map's tree is what the keys tell, and no fault stands in it.
 use Rattle.std.proofs.Common.{◌≡◌, ◌≢◌, ℕ, Bool, List, [], length, Option, Some, None, MatchOption, refl, sym, ap, ◌∙◌}
 use Rattle.art_nodes.specs.Name.{Name}
-use Rattle.art_nodes.specs.declared.kind.NodeType.TheVariants.{Node4, Node16, Node48, Node256}
+use Rattle.art_nodes.specs.declared.kind.NodeType.TheVariants.{Node4, Node16, Node32, Node48, Node256}
 use Rattle.art_arena.specs.arena.Arena.{Arena, node_at, links_at}
 use Rattle.art_arena.specs.arena.Shapes.{Shape, erase, key_of}
 use Rattle.art_arena.specs.arena.Stores.{IsMeant, StoresOnly}
@@ -21,11 +21,11 @@ use Rattle.art_walks.proofs.Ways.{fault_means_no_tree}
 use Rattle.art_map.specs.Audit.{audit_of}
 
 -- counts are told apart by their numbers
-abbrev stats_of : ℕ → ℕ → ℕ → ℕ → ℕ → WellFormedTreeStats
-stats_of a b c d e = record { num_node4 = a; num_node16 = b; num_node48 = c; num_node256 = d; num_leaf = e }
+abbrev stats_of : ℕ → ℕ → ℕ → ℕ → ℕ → ℕ → WellFormedTreeStats
+stats_of a b c d e f = record { num_node4 = a; num_node16 = b; num_node32 = c; num_node48 = d; num_node256 = e; num_leaf = f }
 
-same-stats : (a b c d e f g h i j : ℕ) → a ≡ f → b ≡ g → c ≡ h → d ≡ i → e ≡ j → stats_of a b c d e ≡ stats_of f g h i j
-same-stats a b c d e f g h i j af bg ch di ej = rw (af, bg, ch, di, ej) refl
+same-stats : (a b c d e f g h i j k l : ℕ) → a ≡ g → b ≡ h → c ≡ i → d ≡ j → e ≡ k → f ≡ l → stats_of a b c d e f ≡ stats_of g h i j k l
+same-stats a b c d e f g h i j k l ag bh ci dj ek fl = rw (ag, bh, ci, dj, ek, fl) refl
 
 module _ {K V : Type 0} (bytes : K → List ℕ) (P : ℕ) (arena : Arena K V) where
   stored-means : (root : Name) (s : Shape K V) → StoresOnly bytes P arena root s → IsMeant bytes P arena root (erase s)
@@ -43,7 +43,7 @@ module _ {K V : Type 0} (bytes : K → List ℕ) (P : ℕ) (arena : Arena K V) w
     counted None has len stats counts = counts.1 ∙ ap (audit_of (key_of bytes)) (sym has.0)
     counted (Some root) (s, tree, e) len stats (t, meant, counts) =
         let same : t ≡ erase s = one_meaning K V bytes P (node_at arena) root (links_at arena) t (erase s) meant (stored-means root s tree) in
-        same-stats _ _ _ _ _ _ _ _ _ _ (counts.nodes4 ∙ told t same (in_range Node4)) (counts.nodes16 ∙ told t same (in_range Node16)) (counts.nodes48 ∙ told t same (in_range Node48))
+        same-stats _ _ _ _ _ _ _ _ _ _ _ _ (counts.nodes4 ∙ told t same (in_range Node4)) (counts.nodes16 ∙ told t same (in_range Node16)) (counts.nodes32 ∙ told t same (in_range Node32)) (counts.nodes48 ∙ told t same (in_range Node48))
         (counts.nodes256 ∙ told t same (in_range Node256)) (counts.leaves ∙ ap (λ u. length (items u)) same ∙ ap length (items-erase s ∙ e))
       where
         told : (t : Tree (K × V)) → t ≡ erase s → (test : ℕ → Bool) → nodes_with test t ≡ fronts_with test (key_of bytes) pairs

@@ -2,7 +2,9 @@
 ghost use Rattle.std.specs.Prelude.{◌≡◌, ◌≢◌};
 
 use crate::hint::known;
-use crate::kind::{InnerKind, Kind4, Kind16, Kind48, Kind256, KindLeaf, NodeKind, NodeType};
+use crate::kind::{
+    InnerKind, Kind4, Kind16, Kind32, Kind48, Kind256, KindLeaf, NodeKind, NodeType,
+};
 use crate::names::{NodePtr, OpaqueNodePtr};
 
 /// The name of a node, with a case for each kind.
@@ -12,6 +14,8 @@ pub enum ConcreteNodePtr {
     Node4(NodePtr<Kind4>),
     /// The name of an inner node of up to 16 children.
     Node16(NodePtr<Kind16>),
+    /// The name of an inner node of up to 32 children.
+    Node32(NodePtr<Kind32>),
     /// The name of an inner node of up to 48 children.
     Node48(NodePtr<Kind48>),
     /// The name of one of the largest inner nodes.
@@ -27,6 +31,8 @@ pub enum ConcreteInnerNodePtr {
     Node4(NodePtr<Kind4>),
     /// The name of an inner node of up to 16 children.
     Node16(NodePtr<Kind16>),
+    /// The name of an inner node of up to 32 children.
+    Node32(NodePtr<Kind32>),
     /// The name of an inner node of up to 48 children.
     Node48(NodePtr<Kind48>),
     /// The name of one of the largest inner nodes.
@@ -43,6 +49,7 @@ impl ConcreteNodePtr {
         match self {
             ConcreteNodePtr::Node4(name) => name.to_opaque(),
             ConcreteNodePtr::Node16(name) => name.to_opaque(),
+            ConcreteNodePtr::Node32(name) => name.to_opaque(),
             ConcreteNodePtr::Node48(name) => name.to_opaque(),
             ConcreteNodePtr::Node256(name) => name.to_opaque(),
             ConcreteNodePtr::LeafNode(name) => name.to_opaque(),
@@ -60,6 +67,7 @@ impl ConcreteInnerNodePtr {
         match self {
             ConcreteInnerNodePtr::Node4(name) => name.to_opaque(),
             ConcreteInnerNodePtr::Node16(name) => name.to_opaque(),
+            ConcreteInnerNodePtr::Node32(name) => name.to_opaque(),
             ConcreteInnerNodePtr::Node48(name) => name.to_opaque(),
             ConcreteInnerNodePtr::Node256(name) => name.to_opaque(),
         }
@@ -77,6 +85,7 @@ impl OpaqueNodePtr {
         match self.node_type() {
             NodeType::Node4 => ConcreteNodePtr::Node4(NodePtr::from_slot(slot)),
             NodeType::Node16 => ConcreteNodePtr::Node16(NodePtr::from_slot(slot)),
+            NodeType::Node32 => ConcreteNodePtr::Node32(NodePtr::from_slot(slot)),
             NodeType::Node48 => ConcreteNodePtr::Node48(NodePtr::from_slot(slot)),
             NodeType::Node256 => ConcreteNodePtr::Node256(NodePtr::from_slot(slot)),
             NodeType::Leaf => ConcreteNodePtr::LeafNode(NodePtr::from_slot(slot)),
@@ -91,6 +100,7 @@ impl OpaqueNodePtr {
         match self.to_node_ptr() {
             ConcreteNodePtr::Node4(name) => ConcreteInnerNodePtr::Node4(name),
             ConcreteNodePtr::Node16(name) => ConcreteInnerNodePtr::Node16(name),
+            ConcreteNodePtr::Node32(name) => ConcreteInnerNodePtr::Node32(name),
             ConcreteNodePtr::Node48(name) => ConcreteInnerNodePtr::Node48(name),
             ConcreteNodePtr::Node256(name) => ConcreteInnerNodePtr::Node256(name),
             ConcreteNodePtr::LeafNode(_) => {

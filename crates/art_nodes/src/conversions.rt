@@ -1,11 +1,11 @@
-//! The four kinds of inner nodes: which node is of which kind, what each grows and shrinks into, and the
+//! The five kinds of inner nodes: which node is of which kind, what each grows and shrinks into, and the
 //! conversions between neighbouring kinds.
 ghost use Rattle.std.specs.Prelude.{◌≡◌, ◌≤◌, length, refl};
 
 use crate::direct::InnerNodeDirect;
 use crate::indirect::InnerNodeIndirect;
 use crate::inner_node::{InnerNode, InnerNodeCommon, Node};
-use crate::kind::{Kind4, Kind16, Kind48, Kind256};
+use crate::kind::{Kind4, Kind16, Kind32, Kind48, Kind256};
 use crate::sorted::InnerNodeSorted;
 use std::alloc::AllocError;
 
@@ -14,6 +14,9 @@ pub type InnerNode4<K, V, const PREFIX_LEN: usize> = InnerNodeSorted<K, V, PREFI
 
 /// An inner node of up to 16 children.
 pub type InnerNode16<K, V, const PREFIX_LEN: usize> = InnerNodeSorted<K, V, PREFIX_LEN, 16>;
+
+/// An inner node of up to 32 children.
+pub type InnerNode32<K, V, const PREFIX_LEN: usize> = InnerNodeIndirect<K, V, PREFIX_LEN, 32>;
 
 /// An inner node of up to 48 children.
 pub type InnerNode48<K, V, const PREFIX_LEN: usize> = InnerNodeIndirect<K, V, PREFIX_LEN, 48>;
@@ -113,16 +116,44 @@ impl<K, V, const PREFIX_LEN: usize> Node for InnerNode16<K, V, PREFIX_LEN> {
 }
 
 impl<K, V, const PREFIX_LEN: usize> InnerNode<PREFIX_LEN> for InnerNode16<K, V, PREFIX_LEN> {
-    type GrownNode = InnerNode48<K, V, PREFIX_LEN>;
+    type GrownNode = InnerNode32<K, V, PREFIX_LEN>;
 
     type ShrunkNode = InnerNode4<K, V, PREFIX_LEN>;
+
+    fn grow(&self) -> InnerNode32<K, V, PREFIX_LEN> {
+        converted::<Self, InnerNode32<K, V, PREFIX_LEN>, PREFIX_LEN>(self)
+    }
+
+    fn shrink(&self) -> InnerNode4<K, V, PREFIX_LEN> {
+        converted::<Self, InnerNode4<K, V, PREFIX_LEN>, PREFIX_LEN>(self)
+    }
+
+    ghost room_is_most = { refl };
+
+    ghost grows_by_table = { refl };
+
+    ghost shrinks_by_table = { refl };
+}
+
+impl<K, V, const PREFIX_LEN: usize> Node for InnerNode32<K, V, PREFIX_LEN> {
+    type Kind = Kind32;
+
+    type Key = K;
+
+    type Value = V;
+}
+
+impl<K, V, const PREFIX_LEN: usize> InnerNode<PREFIX_LEN> for InnerNode32<K, V, PREFIX_LEN> {
+    type GrownNode = InnerNode48<K, V, PREFIX_LEN>;
+
+    type ShrunkNode = InnerNode16<K, V, PREFIX_LEN>;
 
     fn grow(&self) -> InnerNode48<K, V, PREFIX_LEN> {
         converted::<Self, InnerNode48<K, V, PREFIX_LEN>, PREFIX_LEN>(self)
     }
 
-    fn shrink(&self) -> InnerNode4<K, V, PREFIX_LEN> {
-        converted::<Self, InnerNode4<K, V, PREFIX_LEN>, PREFIX_LEN>(self)
+    fn shrink(&self) -> InnerNode16<K, V, PREFIX_LEN> {
+        converted::<Self, InnerNode16<K, V, PREFIX_LEN>, PREFIX_LEN>(self)
     }
 
     ghost room_is_most = { refl };
@@ -143,14 +174,14 @@ impl<K, V, const PREFIX_LEN: usize> Node for InnerNode48<K, V, PREFIX_LEN> {
 impl<K, V, const PREFIX_LEN: usize> InnerNode<PREFIX_LEN> for InnerNode48<K, V, PREFIX_LEN> {
     type GrownNode = InnerNode256<K, V, PREFIX_LEN>;
 
-    type ShrunkNode = InnerNode16<K, V, PREFIX_LEN>;
+    type ShrunkNode = InnerNode32<K, V, PREFIX_LEN>;
 
     fn grow(&self) -> InnerNode256<K, V, PREFIX_LEN> {
         converted::<Self, InnerNode256<K, V, PREFIX_LEN>, PREFIX_LEN>(self)
     }
 
-    fn shrink(&self) -> InnerNode16<K, V, PREFIX_LEN> {
-        converted::<Self, InnerNode16<K, V, PREFIX_LEN>, PREFIX_LEN>(self)
+    fn shrink(&self) -> InnerNode32<K, V, PREFIX_LEN> {
+        converted::<Self, InnerNode32<K, V, PREFIX_LEN>, PREFIX_LEN>(self)
     }
 
     ghost room_is_most = { refl };
@@ -202,11 +233,20 @@ impl<K, V, const PREFIX_LEN: usize> From<InnerNode4<K, V, PREFIX_LEN>>
 }
 
 impl<K, V, const PREFIX_LEN: usize> From<InnerNode16<K, V, PREFIX_LEN>>
-    for InnerNode48<K, V, PREFIX_LEN> {
-    ghost from_gives = { λ node new. length node.children ≤ 48 → new ≡ node };
+    for InnerNode32<K, V, PREFIX_LEN> {
+    ghost from_gives = { λ node new. length node.children ≤ 32 → new ≡ node };
 
     fn from(node: InnerNode16<K, V, PREFIX_LEN>) -> Self {
         converted::<InnerNode16<K, V, PREFIX_LEN>, Self, PREFIX_LEN>(&node)
+    }
+}
+
+impl<K, V, const PREFIX_LEN: usize> From<InnerNode32<K, V, PREFIX_LEN>>
+    for InnerNode48<K, V, PREFIX_LEN> {
+    ghost from_gives = { λ node new. length node.children ≤ 48 → new ≡ node };
+
+    fn from(node: InnerNode32<K, V, PREFIX_LEN>) -> Self {
+        converted::<InnerNode32<K, V, PREFIX_LEN>, Self, PREFIX_LEN>(&node)
     }
 }
 
@@ -229,11 +269,20 @@ impl<K, V, const PREFIX_LEN: usize> From<InnerNode256<K, V, PREFIX_LEN>>
 }
 
 impl<K, V, const PREFIX_LEN: usize> From<InnerNode48<K, V, PREFIX_LEN>>
-    for InnerNode16<K, V, PREFIX_LEN> {
-    ghost from_gives = { λ node new. length node.children ≤ 16 → new ≡ node };
+    for InnerNode32<K, V, PREFIX_LEN> {
+    ghost from_gives = { λ node new. length node.children ≤ 32 → new ≡ node };
 
     fn from(node: InnerNode48<K, V, PREFIX_LEN>) -> Self {
         converted::<InnerNode48<K, V, PREFIX_LEN>, Self, PREFIX_LEN>(&node)
+    }
+}
+
+impl<K, V, const PREFIX_LEN: usize> From<InnerNode32<K, V, PREFIX_LEN>>
+    for InnerNode16<K, V, PREFIX_LEN> {
+    ghost from_gives = { λ node new. length node.children ≤ 16 → new ≡ node };
+
+    fn from(node: InnerNode32<K, V, PREFIX_LEN>) -> Self {
+        converted::<InnerNode32<K, V, PREFIX_LEN>, Self, PREFIX_LEN>(&node)
     }
 }
 

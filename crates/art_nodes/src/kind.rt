@@ -4,7 +4,7 @@ ghost use Rattle.std.proofs.Common.{lit<};
 ghost use Rattle.art_nodes.specs.Kind.{row_of, CanShrink};
 ghost use Rattle.art_nodes.specs.inner.KindLaws.{has_room};
 ghost use Rattle.art_nodes.specs.declared.kind.NodeType.{NodeType};
-ghost use Rattle.art_nodes.specs.declared.kind.NodeType.TheVariants.{Node4, Node16, Node48, Node256, Leaf};
+ghost use Rattle.art_nodes.specs.declared.kind.NodeType.TheVariants.{Node4, Node16, Node32, Node48, Node256, Leaf};
 
 use crate::sealed::Sealed;
 use std::ops::Range;
@@ -16,6 +16,8 @@ pub enum NodeType {
     Node4,
     /// An inner node of up to 16 children.
     Node16,
+    /// An inner node of up to 32 children.
+    Node32,
     /// An inner node of up to 48 children.
     Node48,
     /// The inner node with room for every byte.
@@ -52,14 +54,20 @@ impl NodeType {
             NodeType::Node16 => KindRow {
                 fewest: 5,
                 most: 16,
-                larger: Some(NodeType::Node48),
+                larger: Some(NodeType::Node32),
                 smaller: Some(NodeType::Node4),
             },
-            NodeType::Node48 => KindRow {
+            NodeType::Node32 => KindRow {
                 fewest: 17,
+                most: 32,
+                larger: Some(NodeType::Node48),
+                smaller: Some(NodeType::Node16),
+            },
+            NodeType::Node48 => KindRow {
+                fewest: 33,
                 most: 48,
                 larger: Some(NodeType::Node256),
-                smaller: Some(NodeType::Node16),
+                smaller: Some(NodeType::Node32),
             },
             NodeType::Node256 => KindRow {
                 fewest: 49,
@@ -141,6 +149,21 @@ impl NodeKind for Kind16 {
 
 impl InnerKind for Kind16 {
     ghost is_inner = { has_room Node16 (lit< tt) };
+}
+
+/// The kind of inner nodes of up to 32 children.
+pub struct Kind32;
+
+impl Sealed for Kind32 {}
+
+impl NodeKind for Kind32 {
+    ghost TYPE = { Node32 };
+
+    const TYPE: NodeType = NodeType::Node32;
+}
+
+impl InnerKind for Kind32 {
+    ghost is_inner = { has_room Node32 (lit< tt) };
 }
 
 /// The kind of inner nodes of up to 48 children.

@@ -27,13 +27,15 @@ mod sorted;
 pub use builder::{HasChild, HasOneChild, InnerNodeBuilder, NoChild};
 pub use child_iter::{ChildIter, are_valid_child_bounds};
 pub use concrete::{ConcreteInnerNodePtr, ConcreteNodePtr};
-pub use conversions::{InnerNode4, InnerNode16, InnerNode48, InnerNode256};
+pub use conversions::{InnerNode4, InnerNode16, InnerNode32, InnerNode48, InnerNode256};
 pub use direct::InnerNodeDirect;
 pub use header::Header;
 pub use hint::known;
 pub use indirect::InnerNodeIndirect;
 pub use inner_node::{InnerNode, InnerNodeCommon, InnerNodeInit, Node};
-pub use kind::{InnerKind, Kind4, Kind16, Kind48, Kind256, KindLeaf, KindRow, NodeKind, NodeType};
+pub use kind::{
+    InnerKind, Kind4, Kind16, Kind32, Kind48, Kind256, KindLeaf, KindRow, NodeKind, NodeType,
+};
 pub use leaf::LeafNode;
 pub use names::{NodePtr, OpaqueNodePtr};
 pub use non_max_index::{NonMaxIndex, TryFromByteError};

@@ -8,7 +8,7 @@ ghost use Rattle.art_nodes.specs.declared.replaying.ChildAnswer.TheVariants.{Chi
 ghost use Rattle.art_nodes.specs.inner.Replayed.{replayed_children};
 
 use crate::child_iter::{ChildIter, are_valid_child_bounds};
-use crate::conversions::{InnerNode4, InnerNode16, InnerNode48, InnerNode256};
+use crate::conversions::{InnerNode4, InnerNode16, InnerNode32, InnerNode48, InnerNode256};
 use crate::inner_node::{InnerNode, InnerNodeCommon, InnerNodeInit};
 use crate::kind::{InnerKind, NodeKind};
 use crate::names::OpaqueNodePtr;
@@ -49,6 +49,7 @@ pub enum ChildAnswer {
 enum ReplayedNode {
     Node4(InnerNode4<(), (), 0>),
     Node16(InnerNode16<(), (), 0>),
+    Node32(InnerNode32<(), (), 0>),
     Node48(InnerNode48<(), (), 0>),
     Node256(InnerNode256<(), (), 0>),
 }
@@ -69,6 +70,12 @@ impl Replayed for InnerNode4<(), (), 0> {
 impl Replayed for InnerNode16<(), (), 0> {
     fn in_its_kind(self) -> ReplayedNode {
         ReplayedNode::Node16(self)
+    }
+}
+
+impl Replayed for InnerNode32<(), (), 0> {
+    fn in_its_kind(self) -> ReplayedNode {
+        ReplayedNode::Node32(self)
     }
 }
 
@@ -221,6 +228,7 @@ impl ReplayedNode {
         match self {
             ReplayedNode::Node4(node) => replied(node, alloc, command),
             ReplayedNode::Node16(node) => replied(node, alloc, command),
+            ReplayedNode::Node32(node) => replied(node, alloc, command),
             ReplayedNode::Node48(node) => replied(node, alloc, command),
             ReplayedNode::Node256(node) => replied(node, alloc, command),
         }

@@ -253,15 +253,28 @@ fn grows_and_shrinks_at_each_border(rt: HostRuntime) {
     let large = sixteen.grow();
     assert!(rt; holds(&large, 16));
     assert!(rt; holds(&InnerNode16::from(large), 16));
+    let thirty_two = filled::<InnerNode32<[u8; 3], u64, 16>>(32);
+    assert!(rt; thirty_two.is_full());
+    let larger = thirty_two.grow();
+    assert!(rt; holds(&larger, 32));
+    assert!(rt; holds(&InnerNode32::from(larger), 32));
     let large = filled::<Middle>(48);
     assert!(rt; large.is_full());
     let largest = large.grow();
     assert!(rt; holds(&largest, 48));
     assert!(rt; holds(&InnerNode48::from(largest), 48));
-    for (count, kind) in [(2usize, 4usize), (5, 16), (17, 48), (49, 256), (256, 256)] {
+    for (count, kind) in [
+        (2usize, 4usize),
+        (5, 16),
+        (17, 32),
+        (33, 48),
+        (49, 256),
+        (256, 256),
+    ] {
         let held = match kind {
             4 => holds(&filled::<Small>(count), count),
             16 => holds(&filled::<InnerNode16<[u8; 3], u64, 16>>(count), count),
+            32 => holds(&filled::<InnerNode32<[u8; 3], u64, 16>>(count), count),
             48 => holds(&filled::<Middle>(count), count),
             _ => holds(&filled::<InnerNode256<[u8; 3], u64, 16>>(count), count),
         };
@@ -284,13 +297,14 @@ fn names_and_kinds(rt: HostRuntime) {
     assert!(rt; range.start == 5 && range.end == 17);
     for (kind, most) in [
         (NodeType::Node16, 4usize),
-        (NodeType::Node48, 16),
+        (NodeType::Node32, 16),
+        (NodeType::Node48, 32),
         (NodeType::Node256, 48),
     ] {
         assert!(rt; kind.row().larger != Some(NodeType::Leaf) && kind.row().most > most);
     }
-    assert!(rt; NodeType::Node48.should_shrink_inner_node(16));
-    assert!(rt; !NodeType::Node48.should_shrink_inner_node(17));
+    assert!(rt; NodeType::Node48.should_shrink_inner_node(32));
+    assert!(rt; !NodeType::Node48.should_shrink_inner_node(33));
     assert!(rt; !NodeType::Node4.should_shrink_inner_node(0));
     assert!(rt; NonMaxIndex::new(255) == None);
     assert!(rt; NonMaxIndex::try_from(254usize).is_ok());
@@ -396,7 +410,7 @@ fn conversions(rt: HostRuntime) {
     assert!(rt; header.without_children().read_prefix() == [7, 7].as_slice());
     let sixteen = InnerNode16::from(filled::<Small>(4));
     assert!(rt; holds(&sixteen, 4));
-    let large = InnerNode48::from(sixteen);
+    let large = InnerNode48::from(InnerNode32::from(sixteen));
     assert!(rt; holds(&large, 4));
     assert!(rt; holds(&InnerNode256::from(large), 4));
 }
@@ -435,6 +449,7 @@ fn weights(rt: HostRuntime) {
     assert_eq!(rt; size_of::<Header<16>>(), 32);
     assert_eq!(rt; size_of::<Small>(), 72);
     assert_eq!(rt; size_of::<InnerNode16<[u8; 3], u64, 16>>(), 192);
+    assert_eq!(rt; size_of::<InnerNode32<[u8; 3], u64, 16>>(), 360);
     assert_eq!(rt; size_of::<Middle>(), 504);
     assert_eq!(rt; size_of::<InnerNode256<[u8; 3], u64, 16>>(), 2592);
 }

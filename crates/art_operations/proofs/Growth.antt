@@ -1,7 +1,7 @@
 -- An inner node gives way to one of the next larger kind.
 use Rattle.std.proofs.Common.{◌≡◌, ℕ, suc, ◌<◌, List, [], ◌∷◌, ◌++◌, take, Some, None, refl, sym, ap, subst, ◌∙◌, arith, append_assoc}
 use Rattle.art_nodes.specs.declared.kind.NodeType.{NodeType}
-use Rattle.art_nodes.specs.declared.kind.NodeType.TheVariants.{Node4, Node16, Node48, Node256, Leaf}
+use Rattle.art_nodes.specs.declared.kind.NodeType.TheVariants.{Node4, Node16, Node32, Node48, Node256, Leaf}
 use Rattle.art_nodes.specs.Kind.{row_of}
 use Rattle.art_nodes.specs.Name.{Name}
 use Rattle.art_arena.specs.arena.Arena.{Arena, inner_held, cell_of, held_at, node_at, links_at, Allocates}
@@ -27,6 +27,7 @@ of_next {a} {b} {n} e is = let same : a ≡ b = cc in subst (λ k. IsKindOf k n)
 pub next-kind : (kind next : NodeType) (n : ℕ) → (row_of kind).larger ≡ Some next → n ≡ (row_of kind).most → IsKindOf next (suc n)
 next-kind Node4 next n larger full = of_next larger (record { two = omega (arith, full); fewest = omega (arith, full); most = omega (arith, full) })
 next-kind Node16 next n larger full = of_next larger (record { two = omega (arith, full); fewest = omega (arith, full); most = omega (arith, full) })
+next-kind Node32 next n larger full = of_next larger (record { two = omega (arith, full); fewest = omega (arith, full); most = omega (arith, full) })
 next-kind Node48 next n larger full = of_next larger (record { two = omega (arith, full); fewest = omega (arith, full); most = omega (arith, full) })
 next-kind Node256 next n larger full = absurd (cc)
 next-kind Leaf next n larger full = absurd (cc)

@@ -4,7 +4,7 @@ use mathlib.Core.Logic.{∥∥₁_elim}
 use Rattle.std.proofs.Math.Bridge.{le_prop}
 use Rattle.art_nodes.specs.Kind.{shrunk_kind}
 use Rattle.art_nodes.specs.declared.kind.NodeType.{NodeType}
-use Rattle.art_nodes.specs.declared.kind.NodeType.TheVariants.{Leaf, Node4, Node16, Node48, Node256}
+use Rattle.art_nodes.specs.declared.kind.NodeType.TheVariants.{Leaf, Node4, Node16, Node32, Node48, Node256}
 use Rattle.art_arena.specs.arena.Arena.{Arena, HasRoomOf}
 use Rattle.art_arena.specs.arena.Steps.{Step}
 use Rattle.art_operations.specs.Subtrees.{HasRoomAbove}
@@ -14,6 +14,7 @@ module _ {K V : Type 0} (arena : Arena K V) where
   one_room Leaf n = le_prop
   one_room Node4 n = le_prop
   one_room Node16 n = le_prop
+  one_room Node32 n = le_prop
   one_room Node48 n = le_prop
   one_room Node256 n = le_prop
 

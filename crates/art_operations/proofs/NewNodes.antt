@@ -12,8 +12,8 @@ module _ {K V : Type 0} where
   -- room for more is room for fewer
   pub fewer : (arena : Arena K V) (m n : ℕ) → m ≤ n → HasRoom arena n → HasRoom arena m
   fewer arena m n less room =
-      let a = room.leaves in let b = room.nodes4 in let c = room.nodes16 in let d = room.nodes48 in let e = room.nodes256 in
-      record { leaves = omega (arith, a, less); nodes4 = omega (arith, b, less); nodes16 = omega (arith, c, less); nodes48 = omega (arith, d, less); nodes256 = omega (arith, e, less) }
+      let a = room.leaves in let b = room.nodes4 in let c = room.nodes16 in let d = room.nodes32 in let e = room.nodes48 in let f = room.nodes256 in
+      record { leaves = omega (arith, a, less); nodes4 = omega (arith, b, less); nodes16 = omega (arith, c, less); nodes32 = omega (arith, d, less); nodes48 = omega (arith, e, less); nodes256 = omega (arith, f, less) }
 
   -- a node that was made and taken out again leaves the arena as it was
   pub undone : (old made still new : Arena K V) (n : Name) (node : Held K V) → Allocates old made n node → SameNodes made still → UpdatesAt (held_at still) (held_at new) n None → SameNodes old new

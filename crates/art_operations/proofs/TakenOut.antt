@@ -4,7 +4,7 @@ use Rattle.art_nodes.specs.Name.{Name}
 use Rattle.art_nodes.specs.InnerNode.{InnerNode, without_child, with_children}
 use Rattle.art_nodes.specs.Kind.{row_of, CanShrink}
 use Rattle.art_nodes.specs.declared.kind.NodeType.{NodeType}
-use Rattle.art_nodes.specs.declared.kind.NodeType.TheVariants.{Node4, Node16, Node48, Node256, Leaf}
+use Rattle.art_nodes.specs.declared.kind.NodeType.TheVariants.{Node4, Node16, Node32, Node48, Node256, Leaf}
 use Rattle.art_arena.specs.arena.Arena.{Arena, inner_held, held_at, links_at}
 use Rattle.art_arena.specs.arena.Cells.{Cell, UpdatesAt}
 use Rattle.art_arena.specs.arena.Context.{path_to}
@@ -23,7 +23,8 @@ use Rattle.art_operations.proofs.Parents.{above, above_there, others_length, all
 pub changes_kind : (kind : NodeType) (n : ℕ) → IsKindOf kind (suc n) → CanShrink kind n → ChangesKind (suc n)
 changes_kind Node4 n is can = absurd can
 changes_kind Node16 n is can = (Node16, Node4, is, record { two = omega (arith, is.fewest); fewest = omega (arith, is.fewest); most = omega (arith, can) }, λ e. absurd (cc))
-changes_kind Node48 n is can = (Node48, Node16, is, record { two = omega (arith, is.fewest); fewest = omega (arith, is.fewest); most = omega (arith, can) }, λ e. absurd (cc))
+changes_kind Node32 n is can = (Node32, Node16, is, record { two = omega (arith, is.fewest); fewest = omega (arith, is.fewest); most = omega (arith, can) }, λ e. absurd (cc))
+changes_kind Node48 n is can = (Node48, Node32, is, record { two = omega (arith, is.fewest); fewest = omega (arith, is.fewest); most = omega (arith, can) }, λ e. absurd (cc))
 changes_kind Node256 n is can = (Node256, Node48, is, record { two = omega (arith, is.fewest); fewest = omega (arith, is.fewest); most = omega (arith, can) }, λ e. absurd (cc))
 changes_kind Leaf n is can = absurd can
 

@@ -71,6 +71,7 @@ impl WellFormedChecker {
                     return Ok(WellFormedTreeStats {
                         num_node4: 0,
                         num_node16: 0,
+                        num_node32: 0,
                         num_node48: 0,
                         num_node256: 0,
                         num_leaf: 0,

@@ -11,7 +11,9 @@ pub struct WellFormedTreeStats {
     pub num_node4: usize,
     /// The inner nodes of 5 to 16 children.
     pub num_node16: usize,
-    /// The inner nodes of 17 to 48 children.
+    /// The inner nodes of 17 to 32 children.
+    pub num_node32: usize,
+    /// The inner nodes of 33 to 48 children.
     pub num_node48: usize,
     /// The inner nodes of 49 children or more.
     pub num_node256: usize,
@@ -22,11 +24,12 @@ pub struct WellFormedTreeStats {
 impl WellFormedTreeStats {
     /// How many nodes there are in all. A sum above the greatest `usize` stays there.
     pub fn total_nodes(&self) -> usize
-        ensures { result ≡ min (self.now.num_node4 + self.now.num_node16 + self.now.num_node48 + self.now.num_node256
-            + self.now.num_leaf) (2 ^ 64 - 1) }
+        ensures { result ≡ min (self.now.num_node4 + self.now.num_node16 + self.now.num_node32 + self.now.num_node48
+            + self.now.num_node256 + self.now.num_leaf) (2 ^ 64 - 1) }
     {
         self.num_node4
             .saturating_add(self.num_node16)
+            .saturating_add(self.num_node32)
             .saturating_add(self.num_node48)
             .saturating_add(self.num_node256)
             .saturating_add(self.num_leaf)
@@ -43,6 +46,7 @@ impl Add for WellFormedTreeStats {
         WellFormedTreeStats {
             num_node4: self.num_node4.saturating_add(rhs.num_node4),
             num_node16: self.num_node16.saturating_add(rhs.num_node16),
+            num_node32: self.num_node32.saturating_add(rhs.num_node32),
             num_node48: self.num_node48.saturating_add(rhs.num_node48),
             num_node256: self.num_node256.saturating_add(rhs.num_node256),
             num_leaf: self.num_leaf.saturating_add(rhs.num_leaf),

@@ -84,8 +84,13 @@ pub fn show_nodes<K: AsBytes>(
 ) -> io::Result<()> {
     match WellFormedChecker::check(rt.alloc(), arena, root, len) {
         Ok(stats) => println!(rt;
-            "{when} {} leaves, nodes {} {} {} {}",
-            stats.num_leaf, stats.num_node4, stats.num_node16, stats.num_node48, stats.num_node256
+            "{when} {} leaves, nodes {} {} {} {} {}",
+            stats.num_leaf,
+            stats.num_node4,
+            stats.num_node16,
+            stats.num_node32,
+            stats.num_node48,
+            stats.num_node256
         ),
         Err(fault) => println!(rt; "{when} {fault}"),
     }

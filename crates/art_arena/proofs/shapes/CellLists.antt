@@ -2,7 +2,7 @@
 use Rattle.std.proofs.Common.{◌≡◌, ◌≢◌, ◌⊎◌, ◌+◌, ◌≤◌, ℕ, true, false, cond, List, [], ◌∷◌, ◌++◌, Option, Some, None, is_some, refl, sym, ap, ap₂, ◌∙◌, inl, inr, arith}
 use Rattle.std.proofs.lemmas.Bool.Decides.{eqb_tells}
 use Rattle.art_nodes.specs.declared.kind.NodeType.{NodeType}
-use Rattle.art_nodes.specs.declared.kind.NodeType.TheVariants.{Node4, Node16, Node48, Node256, Leaf}
+use Rattle.art_nodes.specs.declared.kind.NodeType.TheVariants.{Node4, Node16, Node32, Node48, Node256, Leaf}
 use Rattle.art_nodes.specs.Name.{Name}
 use Rattle.art_arena.specs.arena.Cells.{Cell, pair, branches, UpdatesAt, same_kind, same_name, copies, AreHeld, Holds, HoldsOnly}
 use Rattle.art_arena.proofs.tree.Order.{all_append, all_left, all_right}
@@ -23,6 +23,8 @@ same_kind_tells Node4 Node4 = inl (refl, refl)
 same_kind_tells Node4 b = inr (refl, λ e. absurd (cc))
 same_kind_tells Node16 Node16 = inl (refl, refl)
 same_kind_tells Node16 b = inr (refl, λ e. absurd (cc))
+same_kind_tells Node32 Node32 = inl (refl, refl)
+same_kind_tells Node32 b = inr (refl, λ e. absurd (cc))
 same_kind_tells Node48 Node48 = inl (refl, refl)
 same_kind_tells Node48 b = inr (refl, λ e. absurd (cc))
 same_kind_tells Node256 Node256 = inl (refl, refl)

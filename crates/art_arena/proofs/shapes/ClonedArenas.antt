@@ -6,7 +6,7 @@ use Rattle.art_nodes.specs.Leaf.{IsLeafClone}
 use Rattle.art_nodes.specs.InnerNode.{InnerNode}
 use Rattle.art_nodes.specs.declared.leaf.LeafNode.{LeafNode}
 use Rattle.art_nodes.specs.declared.kind.NodeType.{NodeType}
-use Rattle.art_nodes.specs.declared.kind.NodeType.TheVariants.{Node4, Node16, Node48, Node256, Leaf}
+use Rattle.art_nodes.specs.declared.kind.NodeType.TheVariants.{Node4, Node16, Node32, Node48, Node256, Leaf}
 use Rattle.art_arena.specs.arena.Arena.{Arena, as_leaf, as_inner, held_as}
 use Rattle.art_arena.specs.arena.ArenaClones.{IsHeldClone, IsArenaClone}
 
@@ -39,13 +39,15 @@ module _ {K V : Type 0} (KeyClone : K → K → Type 0) (ValueClone : V → V �
 
   pub arena-cloned : (arena copy : Arena K V) → ((slot : ℕ) → IsSlotClone (IsLeafClone KeyClone ValueClone) (get arena.leaves slot) (get copy.leaves slot))
       → ((slot : ℕ) → IsSlotClone SameInner (get arena.nodes4 slot) (get copy.nodes4 slot)) → ((slot : ℕ) → IsSlotClone SameInner (get arena.nodes16 slot) (get copy.nodes16 slot))
+      → ((slot : ℕ) → IsSlotClone SameInner (get arena.nodes32 slot) (get copy.nodes32 slot))
       → ((slot : ℕ) → IsSlotClone SameInner (get arena.nodes48 slot) (get copy.nodes48 slot)) → ((slot : ℕ) → IsSlotClone SameInner (get arena.nodes256 slot) (get copy.nodes256 slot))
       → IsArenaClone KeyClone ValueClone arena copy
-  arena-cloned arena copy leaves four sixteen more all n = at n.kind n.slot
+  arena-cloned arena copy leaves four sixteen thirty_two more all n = at n.kind n.slot
     where
       at : (kind : NodeType) (slot : ℕ) → IsHeldClone KeyClone ValueClone (held_as arena kind slot) (held_as copy kind slot)
       at Leaf slot = leaf-cloned (get arena.leaves slot) (get copy.leaves slot) (leaves slot)
       at Node4 slot = inner-cloned (get arena.nodes4 slot) (get copy.nodes4 slot) (four slot)
       at Node16 slot = inner-cloned (get arena.nodes16 slot) (get copy.nodes16 slot) (sixteen slot)
+      at Node32 slot = inner-cloned (get arena.nodes32 slot) (get copy.nodes32 slot) (thirty_two slot)
       at Node48 slot = inner-cloned (get arena.nodes48 slot) (get copy.nodes48 slot) (more slot)
       at Node256 slot = inner-cloned (get arena.nodes256 slot) (get copy.nodes256 slot) (all slot)

@@ -5,7 +5,7 @@ use Rattle.std.proofs.lemmas.Bool.Decides.{eqb_tells}
 use Rattle.slab.specs.Slab.{get}
 use Rattle.slab.proofs.SlabLemmas.{ContainsKey-within}
 use Rattle.art_nodes.specs.declared.kind.NodeType.{NodeType}
-use Rattle.art_nodes.specs.declared.kind.NodeType.TheVariants.{Node4, Node16, Node48, Node256, Leaf}
+use Rattle.art_nodes.specs.declared.kind.NodeType.TheVariants.{Node4, Node16, Node32, Node48, Node256, Leaf}
 use Rattle.art_nodes.specs.declared.leaf.LeafNode.{LeafNode}
 use Rattle.art_nodes.specs.InnerNode.{InnerNode}
 use Rattle.art_nodes.specs.Name.{Name}
@@ -58,7 +58,7 @@ few (suc n) xs h once =
 kind_tells : (a b : NodeType) → same_kind a b ≡ true → a ≡ b
 kind_tells a b e = elim (same_kind_tells a b) [ inl same ↦ same.1 | inr other ↦ absurd (true≢false (sym e ∙ other.0)) ]
 
-one_kind : (kind : NodeType) → cond (same_kind Leaf kind) 1 0 + (cond (same_kind Node4 kind) 1 0 + (cond (same_kind Node16 kind) 1 0 + (cond (same_kind Node48 kind) 1 0 + cond (same_kind Node256 kind) 1 0))) ≡ 1
+one_kind : (kind : NodeType) → cond (same_kind Leaf kind) 1 0 + (cond (same_kind Node4 kind) 1 0 + (cond (same_kind Node16 kind) 1 0 + (cond (same_kind Node32 kind) 1 0 + (cond (same_kind Node48 kind) 1 0 + cond (same_kind Node256 kind) 1 0)))) ≡ 1
 one_kind Leaf = refl
 one_kind kind = refl
 
@@ -88,10 +88,10 @@ module _ {C : Type 0} where
   ]
 
   -- each cell is of one kind
-  by_kinds : (xs : List (Name × C)) → length xs ≡ length (slots_as Leaf xs) + (length (slots_as Node4 xs) + (length (slots_as Node16 xs) + (length (slots_as Node48 xs) + length (slots_as Node256 xs))))
+  by_kinds : (xs : List (Name × C)) → length xs ≡ length (slots_as Leaf xs) + (length (slots_as Node4 xs) + (length (slots_as Node16 xs) + (length (slots_as Node32 xs) + (length (slots_as Node48 xs) + length (slots_as Node256 xs)))))
   by_kinds [] = refl
   by_kinds (c ∷ xs) =
-      omega (arith, by_kinds xs, one_kind c.0.kind, length-slots_as Leaf c xs, length-slots_as Node4 c xs, length-slots_as Node16 c xs, length-slots_as Node48 c xs, length-slots_as Node256 c xs)
+      omega (arith, by_kinds xs, one_kind c.0.kind, length-slots_as Leaf c xs, length-slots_as Node4 c xs, length-slots_as Node16 c xs, length-slots_as Node32 c xs, length-slots_as Node48 c xs, length-slots_as Node256 c xs)
 
 module _ {K V : Type 0} where
   -- how many slots a slab has
@@ -99,11 +99,12 @@ module _ {K V : Type 0} where
   slots_in arena Leaf = length arena.leaves.slots
   slots_in arena Node4 = length arena.nodes4.slots
   slots_in arena Node16 = length arena.nodes16.slots
+  slots_in arena Node32 = length arena.nodes32.slots
   slots_in arena Node48 = length arena.nodes48.slots
   slots_in arena Node256 = length arena.nodes256.slots
 
   abbrev pub slots_of : Arena K V → ℕ
-  slots_of arena = slots_in arena Leaf + (slots_in arena Node4 + (slots_in arena Node16 + (slots_in arena Node48 + slots_in arena Node256)))
+  slots_of arena = slots_in arena Leaf + (slots_in arena Node4 + (slots_in arena Node16 + (slots_in arena Node32 + (slots_in arena Node48 + slots_in arena Node256))))
 
   leaf_there : (o : Option (LeafNode K V)) (c : Cell K V) → cell_of (as_leaf o) ≡ Some c → IsSome o
   leaf_there None c e = absurd (cc)
@@ -135,6 +136,7 @@ module _ {K V : Type 0} where
   slot_within arena Leaf slot c e = ContainsKey-within arena.leaves slot (leaf_there (get arena.leaves slot) c e)
   slot_within arena Node4 slot c e = ContainsKey-within arena.nodes4 slot (inner_there (get arena.nodes4 slot) c e)
   slot_within arena Node16 slot c e = ContainsKey-within arena.nodes16 slot (inner_there (get arena.nodes16 slot) c e)
+  slot_within arena Node32 slot c e = ContainsKey-within arena.nodes32 slot (inner_there (get arena.nodes32 slot) c e)
   slot_within arena Node48 slot c e = ContainsKey-within arena.nodes48 slot (inner_there (get arena.nodes48 slot) c e)
   slot_within arena Node256 slot c e = ContainsKey-within arena.nodes256 slot (inner_there (get arena.nodes256 slot) c e)
 
@@ -151,7 +153,7 @@ module _ {K V : Type 0} where
   held_few arena cs held once =
       let each : (kind : NodeType) → length (slots_as kind cs) ≤ slots_in arena kind =
       λ kind. few (slots_in arena kind) (slots_as kind cs) (slots_within arena kind cs held) (λ m. rw (count-slots_as kind m cs) (once (record { kind = kind; slot = m }))) in
-      omega (arith, by_kinds cs, each Leaf, each Node4, each Node16, each Node48, each Node256)
+      omega (arith, by_kinds cs, each Leaf, each Node4, each Node16, each Node32, each Node48, each Node256)
 
   -- no shape has more nodes than the arena has slots
   pub cells_few : (P : ℕ) (arena : Arena K V) (n : Name) (s : Shape K V) → IsPart P (node_at arena) n s → length (cells P s) ≤ slots_of arena

@@ -114,7 +114,7 @@ four = (refl, refl)
 forty_nine : (inner_nodes (from 49 256) (single 49) ≡ 1) × ((inner_nodes any (single 49) ≡ 1) × (width_of itself (single 49) (tenant_1 []) ≡ 49))
 forty_nine = (refl, (refl, refl))
 
-forty_eight : (inner_nodes (from 17 48) (single 48) ≡ 1) × (inner_nodes any (single 48) ≡ 1)
+forty_eight : (inner_nodes (from 33 48) (single 48) ≡ 1) × (inner_nodes any (single 48) ≡ 1)
 forty_eight = (refl, refl)
 
 -- so the loss of the fifth child, and of the forty-ninth, changes the kind

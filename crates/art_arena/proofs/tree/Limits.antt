@@ -2,7 +2,7 @@
 use Rattle.std.proofs.Common.{◌≡◌, ◌≢◌, ℕ, ◌-◌, ◌≤◌, IsSome, refl, inl, inr, arith}
 use Rattle.std.proofs.lemmas.Bool.{cases_lt}
 use Rattle.art_nodes.specs.declared.kind.NodeType.{NodeType}
-use Rattle.art_nodes.specs.declared.kind.NodeType.TheVariants.{Node4, Node16, Node48, Node256, Leaf}
+use Rattle.art_nodes.specs.declared.kind.NodeType.TheVariants.{Node4, Node16, Node32, Node48, Node256, Leaf}
 use Rattle.art_nodes.specs.Kind.{row_of}
 use Rattle.art_arena.specs.tree.Kinds.{IsKindOf, IsLimit, ChangesKind}
 use Rattle.art_arena.specs.Laws.{LimitsAreKinds}
@@ -14,6 +14,8 @@ one_kind n Node4 Node4 a b = refl
 one_kind n Node4 other a b = absurd (omega (arith, a.most, b.fewest, b.two, b.most))
 one_kind n Node16 Node16 a b = refl
 one_kind n Node16 other a b = absurd (omega (arith, a.fewest, a.most, b.fewest, b.two, b.most))
+one_kind n Node32 Node32 a b = refl
+one_kind n Node32 other a b = absurd (omega (arith, a.fewest, a.most, b.fewest, b.two, b.most))
 one_kind n Node48 Node48 a b = refl
 one_kind n Node48 other a b = absurd (omega (arith, a.fewest, a.most, b.fewest, b.two, b.most))
 one_kind n Node256 Node256 a b = refl
@@ -26,9 +28,12 @@ kind_exists n two most =
       | inr small ↦ (Node4, record { two = two; fewest = two; most = omega arith })
       | inl more ↦ elim (cases_lt 16 n) [
         | inr small ↦ (Node16, record { two = two; fewest = omega arith; most = omega arith })
-        | inl more ↦ elim (cases_lt 48 n) [
-          | inr small ↦ (Node48, record { two = two; fewest = omega arith; most = omega arith })
-          | inl more ↦ (Node256, record { two = two; fewest = omega arith; most = most })
+        | inl more ↦ elim (cases_lt 32 n) [
+          | inr small ↦ (Node32, record { two = two; fewest = omega arith; most = omega arith })
+          | inl more ↦ elim (cases_lt 48 n) [
+            | inr small ↦ (Node48, record { two = two; fewest = omega arith; most = omega arith })
+            | inl more ↦ (Node256, record { two = two; fewest = omega arith; most = most })
+          ]
         ]
       ]
     ]
@@ -36,7 +41,8 @@ kind_exists n two most =
 limit_changes : (n : ℕ) → IsLimit n → ChangesKind n
 limit_changes n (Node4, some, is) = absurd (cc)
 limit_changes n (Node16, some, is) = (Node16, Node4, record { two = omega arith; fewest = omega arith; most = omega arith }, record { two = omega arith; fewest = omega arith; most = omega arith }, λ e. absurd (cc))
-limit_changes n (Node48, some, is) = (Node48, Node16, record { two = omega arith; fewest = omega arith; most = omega arith }, record { two = omega arith; fewest = omega arith; most = omega arith }, λ e. absurd (cc))
+limit_changes n (Node32, some, is) = (Node32, Node16, record { two = omega arith; fewest = omega arith; most = omega arith }, record { two = omega arith; fewest = omega arith; most = omega arith }, λ e. absurd (cc))
+limit_changes n (Node48, some, is) = (Node48, Node32, record { two = omega arith; fewest = omega arith; most = omega arith }, record { two = omega arith; fewest = omega arith; most = omega arith }, λ e. absurd (cc))
 limit_changes n (Node256, some, is) = (Node256, Node48, record { two = omega arith; fewest = omega arith; most = omega arith }, record { two = omega arith; fewest = omega arith; most = omega arith }, λ e. absurd (cc))
 limit_changes n (Leaf, some, is) = absurd (cc)
 

@@ -3,7 +3,7 @@ use Rattle.std.specs.Prelude.{◌≡◌, ℕ, ◌+◌, List, Option, Some, None}
 use Rattle.std.specs.List.{AllByRecursion}
 use Rattle.slab.specs.Slab.{Slab, get, slab_len, HasRoomFor, with_value}
 use Rattle.art_nodes.specs.declared.kind.NodeType.{NodeType}
-use Rattle.art_nodes.specs.declared.kind.NodeType.TheVariants.{Node4, Node16, Node48, Node256, Leaf}
+use Rattle.art_nodes.specs.declared.kind.NodeType.TheVariants.{Node4, Node16, Node32, Node48, Node256, Leaf}
 use Rattle.art_nodes.specs.declared.leaf.LeafNode.{LeafNode}
 use Rattle.art_nodes.specs.InnerNode.{InnerNode}
 use Rattle.art_nodes.specs.Name.{Name}
@@ -15,6 +15,7 @@ pub record Arena (K V : Type 0) : Type 0 where
   pub leaves : Slab (LeafNode K V)
   pub nodes4 : Slab InnerNode
   pub nodes16 : Slab InnerNode
+  pub nodes32 : Slab InnerNode
   pub nodes48 : Slab InnerNode
   pub nodes256 : Slab InnerNode
 
@@ -37,6 +38,7 @@ module _ {K V : Type 0} where
   held_as arena Leaf slot = as_leaf (get arena.leaves slot)
   held_as arena Node4 slot = as_inner (get arena.nodes4 slot)
   held_as arena Node16 slot = as_inner (get arena.nodes16 slot)
+  held_as arena Node32 slot = as_inner (get arena.nodes32 slot)
   held_as arena Node48 slot = as_inner (get arena.nodes48 slot)
   held_as arena Node256 slot = as_inner (get arena.nodes256 slot)
 
@@ -90,6 +92,7 @@ module _ {K V : Type 0} where
   abbrev pub with_inner : Arena K V → NodeType → ℕ → InnerNode → Arena K V
   with_inner arena Node4 slot node = record arena { nodes4 = with_value arena.nodes4 slot node }
   with_inner arena Node16 slot node = record arena { nodes16 = with_value arena.nodes16 slot node }
+  with_inner arena Node32 slot node = record arena { nodes32 = with_value arena.nodes32 slot node }
   with_inner arena Node48 slot node = record arena { nodes48 = with_value arena.nodes48 slot node }
   with_inner arena Node256 slot node = record arena { nodes256 = with_value arena.nodes256 slot node }
   with_inner arena Leaf slot node = arena
@@ -99,6 +102,7 @@ module _ {K V : Type 0} where
     pub leaves : HasRoomFor arena.leaves n
     pub nodes4 : HasRoomFor arena.nodes4 n
     pub nodes16 : HasRoomFor arena.nodes16 n
+    pub nodes32 : HasRoomFor arena.nodes32 n
     pub nodes48 : HasRoomFor arena.nodes48 n
     pub nodes256 : HasRoomFor arena.nodes256 n
 
@@ -107,6 +111,7 @@ module _ {K V : Type 0} where
   HasRoomOf arena Leaf n = HasRoomFor arena.leaves n
   HasRoomOf arena Node4 n = HasRoomFor arena.nodes4 n
   HasRoomOf arena Node16 n = HasRoomFor arena.nodes16 n
+  HasRoomOf arena Node32 n = HasRoomFor arena.nodes32 n
   HasRoomOf arena Node48 n = HasRoomFor arena.nodes48 n
   HasRoomOf arena Node256 n = HasRoomFor arena.nodes256 n
 

@@ -14,5 +14,6 @@ pub record Inner : Type 0 where
 abbrev pub arm_inner : {K V : Type 0} {P : ℕ} → InnerArm K V P → Inner
 arm_inner (arm.Node4 node) = record { kind = kind.Node4; node = node.now }
 arm_inner (arm.Node16 node) = record { kind = kind.Node16; node = node.now }
+arm_inner (arm.Node32 node) = record { kind = kind.Node32; node = node.now }
 arm_inner (arm.Node48 node) = record { kind = kind.Node48; node = node.now }
 arm_inner (arm.Node256 node) = record { kind = kind.Node256; node = node.now }

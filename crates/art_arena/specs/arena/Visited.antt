@@ -18,6 +18,7 @@ count_of reader = reader.count
 abbrev pub held_of : {K V : Type 0} {P : ℕ} → VisitedNode K V P → Held K V
 held_of (visited.Node4 node) = inner_held node.now
 held_of (visited.Node16 node) = inner_held node.now
+held_of (visited.Node32 node) = inner_held node.now
 held_of (visited.Node48 node) = inner_held node.now
 held_of (visited.Node256 node) = inner_held node.now
 held_of (visited.Leaf node) = leaf_held node.now
@@ -26,6 +27,7 @@ held_of (visited.Leaf node) = leaf_held node.now
 abbrev pub kind_of : {K V : Type 0} {P : ℕ} → VisitedNode K V P → NodeType
 kind_of (visited.Node4 node) = kind.Node4
 kind_of (visited.Node16 node) = kind.Node16
+kind_of (visited.Node32 node) = kind.Node32
 kind_of (visited.Node48 node) = kind.Node48
 kind_of (visited.Node256 node) = kind.Node256
 kind_of (visited.Leaf node) = kind.Leaf

@@ -2,7 +2,7 @@ use Rattle.std.proofs.Common.{None, sym, ap, subst, ◌∙◌, arith}
 use Rattle.std.specs.List.{AllByRecursion}
 use Rattle.std.specs.Option.{IsSome}
 use Rattle.art_nodes.specs.Name.{Name}
-use Rattle.art_nodes.specs.declared.kind.NodeType.TheVariants.{Node4, Node16, Node48, Node256, Leaf}
+use Rattle.art_nodes.specs.declared.kind.NodeType.TheVariants.{Node4, Node16, Node32, Node48, Node256, Leaf}
 use Rattle.art_arena.specs.arena.Arena.{held_at, links_at, node_at}
 use Rattle.art_walks.specs.Faults.{Stands}
 use Rattle.art_walks.specs.inner.Names.{count_kind}
@@ -68,6 +68,7 @@ returns-clause-ok g c =
       record {
         nodes4 = counts.nodes4 ∙ ap (count_kind Node4) names ∙ is.inner_nodes Node4 (λ e. cc);
         nodes16 = counts.nodes16 ∙ ap (count_kind Node16) names ∙ is.inner_nodes Node16 (λ e. cc);
+        nodes32 = counts.nodes32 ∙ ap (count_kind Node32) names ∙ is.inner_nodes Node32 (λ e. cc);
         nodes48 = counts.nodes48 ∙ ap (count_kind Node48) names ∙ is.inner_nodes Node48 (λ e. cc);
         nodes256 = counts.nodes256 ∙ ap (count_kind Node256) names ∙ is.inner_nodes Node256 (λ e. cc);
         leaves = counts.leaves ∙ ap (count_kind Leaf) names ∙ is.all_leaves;
