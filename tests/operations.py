@@ -41,7 +41,7 @@ class Writer:
     def __init__(self, seed, prefix_len):
         self.of, self.model, self.lines = random.Random(seed), Model(prefix_len), []
         self.front = self.of.choice(("", "", "aa.", "aa*3.", "aa*5.", "aa*17.", "aa*40."))
-        self.wide = self.of.choice((2, 4, 6, 17, 18, 49, 50, 120))
+        self.wide = self.of.choice((2, 4, 6, 17, 18, 33, 34, 49, 50, 120))
         self.alphabet = self.of.sample(range(256), self.wide)
 
     def add(self, *words):
@@ -79,7 +79,7 @@ class Writer:
     # Nodes by hand.
     def pairs(self):
         front, pairs = bytes_in(self.front), {}
-        for _ in range(self.of.choice((1, 2, 3, 5, 9, 20, 70))):
+        for _ in range(self.of.choice((1, 2, 3, 5, 9, 20, 40, 70))):
             key = front + self.tail()
             if not any(overlap(key, it) for it in pairs):
                 pairs[key] = self.of.randrange(99)
@@ -148,7 +148,7 @@ class Writer:
             child = self.some()
             if of.random() < 0.1:
                 child = len(nodes)
-                self.add("raw", of.choice(("4", "16", "48", "256", "leaf")), 1_000_000 + child)
+                self.add("raw", of.choice(("4", "16", "32", "48", "256", "leaf")), 1_000_000 + child)
             held = sorted(nodes[inner].children)
             self.add("write", inner, of.choice(held) if held and of.random() < 0.7 else of.randrange(256), child)
         elif what == "remove":
@@ -174,7 +174,7 @@ class Writer:
         elif what == "root":
             self.add("root", self.some() if of.random() < 0.9 else "-")
         else:
-            copy, kind = len(nodes), of.choice((4, 16, 48, 256))
+            copy, kind = len(nodes), of.choice((4, 16, 32, 48, 256))
             if self.add(what, inner, *([kind] if what == "copy" else [])) != {"no"}:
                 self.repoint(inner, copy)
 

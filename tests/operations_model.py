@@ -5,12 +5,12 @@ import os
 from collections import Counter
 
 # The fewest and the most children of each kind of inner node.
-KINDS = {4: (2, 4), 16: (5, 16), 48: (17, 48), 256: (49, 256)}
+KINDS = {4: (2, 4), 16: (5, 16), 32: (17, 32), 48: (33, 48), 256: (49, 256)}
 # What takes a node out of the room of its kind asks for a smaller one.
-SHRINKING = {5, 17, 49}
+SHRINKING = {5, 17, 33, 49}
 # What changes a node that has a number.
 CHANGES = ("write", "remove", "prefix", "link", "free")
-LARGER, SMALLER = {4: 16, 16: 48, 48: 256}, {16: 4, 48: 16, 256: 48}
+LARGER, SMALLER = {4: 16, 16: 32, 32: 48, 48: 256}, {16: 4, 32: 16, 48: 32, 256: 48}
 
 
 def bytes_in(word):

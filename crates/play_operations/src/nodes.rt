@@ -11,7 +11,7 @@ use crate::script::Asked;
 use crate::show::{show_node, show_stats};
 use art_arena::{InnerRef, LeafPtr, NodeArena};
 use art_bytes::AsBytes;
-use art_nodes::{Kind4, Kind16, Kind48, Kind256, KindLeaf, LeafNode, NodePtr, OpaqueNodePtr};
+use art_nodes::{Kind4, Kind16, Kind32, Kind48, Kind256, KindLeaf, LeafNode, NodePtr, OpaqueNodePtr};
 use art_walks::WellFormedChecker;
 use std::alloc::{AllocError, Global};
 use std::io;
@@ -32,6 +32,7 @@ fn raw(kind: &str, slot: usize) -> OpaqueNodePtr {
     match kind {
         "4" => NodePtr::<Kind4>::from_slot(slot).to_opaque(),
         "16" => NodePtr::<Kind16>::from_slot(slot).to_opaque(),
+        "32" => NodePtr::<Kind32>::from_slot(slot).to_opaque(),
         "48" => NodePtr::<Kind48>::from_slot(slot).to_opaque(),
         "256" => NodePtr::<Kind256>::from_slot(slot).to_opaque(),
         _ => NodePtr::<KindLeaf>::from_slot(slot).to_opaque(),
