@@ -4,8 +4,8 @@ ghost use Rattle.art_arena.specs.arena.Arena.{held_at};
 
 use art_arena::{LeafPtr, NodeArena, NodeEdit, Stored};
 use art_nodes::{
-    Header, InnerNode4, InnerNode16, InnerNode32, InnerNode48, InnerNode256, InnerNodeCommon, InnerNodeInit,
-    KindLeaf, LeafNode, NodeType, OpaqueNodePtr,
+    Header, InnerNode4, InnerNode16, InnerNode32, InnerNode48, InnerNode256, InnerNodeCommon,
+    InnerNodeInit, KindLeaf, LeafNode, NodeType, OpaqueNodePtr,
 };
 use std::alloc::AllocError;
 

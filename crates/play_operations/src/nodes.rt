@@ -11,7 +11,9 @@ use crate::script::Asked;
 use crate::show::{show_node, show_stats};
 use art_arena::{InnerRef, LeafPtr, NodeArena};
 use art_bytes::AsBytes;
-use art_nodes::{Kind4, Kind16, Kind32, Kind48, Kind256, KindLeaf, LeafNode, NodePtr, OpaqueNodePtr};
+use art_nodes::{
+    Kind4, Kind16, Kind32, Kind48, Kind256, KindLeaf, LeafNode, NodePtr, OpaqueNodePtr,
+};
 use art_walks::WellFormedChecker;
 use std::alloc::{AllocError, Global};
 use std::io;
