@@ -15,14 +15,17 @@ fn is_rewritten<K: Drop>(arena: &mut NodeArena<K, u8, 4>, key: K) -> bool {
     was == 4 && arena.holds(leaf.to_opaque())
 }
 
+// The search goes down from the first node of its kind.
+fn go_down(search: &mut TreePathSearch, byte: u8) {
+    search.visit_inner_node(ConcreteInnerNodePtr::Node4(NodePtr::from_slot(0)), byte);
+}
+
 // The bytes of the last two steps of a way down by these three.
 fn last_steps(bytes: [u8; 3]) -> Option<(u8, u8)> {
-    let top = ConcreteInnerNodePtr::Node256(NodePtr::from_slot(0));
-    let low = ConcreteInnerNodePtr::Node4(NodePtr::from_slot(0));
     let mut search = TreePathSearch::default();
-    search.visit_inner_node(top, bytes[0]);
-    search.visit_inner_node(low, bytes[1]);
-    search.visit_inner_node(low, bytes[2]);
+    go_down(&mut search, bytes[0]);
+    go_down(&mut search, bytes[1]);
+    go_down(&mut search, bytes[2]);
     match search.finish() {
         TreePath::Normal {
             parent_key_byte,

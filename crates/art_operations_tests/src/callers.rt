@@ -1,5 +1,5 @@
 //! The callers of `calling.rt`, over trees of a few pairs.
-ghost use Rattle.std.specs.Prelude.{IfSome};
+ghost use Rattle.std.specs.Prelude.{◌≢◌, IfSome};
 ghost use Rattle.art_arena.specs.arena.Shapes.{Shape};
 ghost use Rattle.art_arena.specs.arena.Stores.{StoresOnly};
 
@@ -9,7 +9,7 @@ use crate::calling::{
 use crate::trees::takes_beside;
 use art_arena::{NodeArena, match_full_prefix};
 use art_bytes::{AsBytes, CloneBytes};
-use art_nodes::{KindLeaf, OpaqueNodePtr};
+use art_nodes::{KindLeaf, NodeType, OpaqueNodePtr};
 use art_operations::{Command, RunResult, run};
 use std::alloc::Global;
 use std::ops::Bound;
@@ -66,16 +66,28 @@ fn begins<K: AsBytes, V>(
     }
 }
 
-// Whether a key is found, and whether it begins with the whole prefix of the root, which a leaf hasn't.
+// Whether a key is found, and whether it begins with the whole prefix of the root.
 fn meets<K: AsBytes, V>(arena: &NodeArena<K, V, 4>, root: OpaqueNodePtr, key: &K) -> (bool, bool)
-    requires { (s : Shape K V) × StoresOnly K.bytes 4 arena.now root s }
+    requires stands { (s : Shape K V) × StoresOnly K.bytes 4 arena.now root s }
+    requires inner { root.kind ≢ NodeType.Leaf }
 {
-    if root.is::<KindLeaf>() {
-        return (false, false);
-    }
     let leaf = find(arena, root, key);
     let matched = match_full_prefix(arena, root, key.as_bytes(), 0);
     (leaf.is_some(), matched.is_ok())
+}
+
+// The same of a root that may be a leaf, of which none is told.
+fn meets_inner<K: AsBytes, V>(
+    arena: &NodeArena<K, V, 4>,
+    root: OpaqueNodePtr,
+    key: &K,
+) -> Option<(bool, bool)>
+    requires { (s : Shape K V) × StoresOnly K.bytes 4 arena.now root s }
+{
+    if root.is::<KindLeaf>() {
+        return None;
+    }
+    Some(meets(arena, root, key))
 }
 
 // Puts a pair in, takes the first leaf from a key on out, and the leaf with another key: whether each was there.
@@ -144,7 +156,7 @@ fn is_so<K: AsBytes + Drop, V: Drop>(
             prefix,
             wanted,
         } => begins(arena, root, bounds, prefix, wanted),
-        Ask::Meets { key, wanted } => meets(arena, root, &key) == wanted,
+        Ask::Meets { key, wanted } => meets_inner(arena, root, &key) == Some(wanted),
         Ask::Changes { pair, from, key } => changes(arena, root, pair, from, key),
         Ask::Stays { pair, key } => takes_beside(arena, root, pair, key),
     }
