@@ -4,11 +4,14 @@
 
     tests/operations.py [WORD]           at the top of the repository, after rt ci; WORD: only scripts with it in a name
     tests/operations.py --show N FILE    prints what the model answers to a script, where N bytes of a prefix are stored
-The scripts of tests/operations/ are worked rows; others are made at random from fixed seeds. Each is played over three
-lengths of stored prefixes, by the program as both compilers make it.
+The scripts of tests/operations/ are worked rows; others are made at random from fixed seeds, and two have a tree as deep
+as its keys are long. Each is played over three lengths of stored prefixes, by the program as both compilers make it,
+under a stack of 256 KiB.
 """
+import itertools
 import os
 import random
+import resource
 import subprocess
 import sys
 from collections import Counter
@@ -18,6 +21,7 @@ from operations_model import bytes_in, hold_tree, Inner, Model, overlap, tree_of
 
 PREFIX_LENS = (0, 4, 16)
 PROGRAM = os.path.abspath("crates/play_operations/out/play_operations")
+STACK = 256 << 10
 PUTS = ("insert", "insert_placed", "insert_at_point", "put_over")
 # What each line names: `k` a key, `s` one that is stored if it can be, `n` a number, `b` a bound, `c` a command.
 CALLS = {
@@ -37,7 +41,7 @@ class Writer:
     def __init__(self, seed, prefix_len):
         self.of, self.model, self.lines = random.Random(seed), Model(prefix_len), []
         self.front = self.of.choice(("", "", "aa.", "aa*3.", "aa*5.", "aa*17.", "aa*40."))
-        self.wide = self.of.choice((2, 4, 6, 17, 18, 49, 50, 120))
+        self.wide = self.of.choice((2, 4, 6, 17, 18, 33, 34, 49, 50, 120))
         self.alphabet = self.of.sample(range(256), self.wide)
 
     def add(self, *words):
@@ -75,7 +79,7 @@ class Writer:
     # Nodes by hand.
     def pairs(self):
         front, pairs = bytes_in(self.front), {}
-        for _ in range(self.of.choice((1, 2, 3, 5, 9, 20, 70))):
+        for _ in range(self.of.choice((1, 2, 3, 5, 9, 20, 40, 70))):
             key = front + self.tail()
             if not any(overlap(key, it) for it in pairs):
                 pairs[key] = self.of.randrange(99)
@@ -144,7 +148,7 @@ class Writer:
             child = self.some()
             if of.random() < 0.1:
                 child = len(nodes)
-                self.add("raw", of.choice(("4", "16", "48", "256", "leaf")), 1_000_000 + child)
+                self.add("raw", of.choice(("4", "16", "32", "48", "256", "leaf")), 1_000_000 + child)
             held = sorted(nodes[inner].children)
             self.add("write", inner, of.choice(held) if held and of.random() < 0.7 else of.randrange(256), child)
         elif what == "remove":
@@ -170,7 +174,7 @@ class Writer:
         elif what == "root":
             self.add("root", self.some() if of.random() < 0.9 else "-")
         else:
-            copy, kind = len(nodes), of.choice((4, 16, 48, 256))
+            copy, kind = len(nodes), of.choice((4, 16, 32, 48, 256))
             if self.add(what, inner, *([kind] if what == "copy" else [])) != {"no"}:
                 self.repoint(inner, copy)
 
@@ -208,17 +212,60 @@ def script(seed, prefix_len, length, rounds):
     return writer.lines
 
 
+def replay(seed, number):
+    """A list of commands of all four kinds over keys that share long fronts, in turn more insertions and more deletions;
+    and the nodes that are left, with their links."""
+    of = random.Random(seed)
+    fronts, tails = ("", "07*5.", "07*20.", "07*40."), ((1, 4), (2, 4), (3, 4), (2, 256), (2, 256), (2, 256))
+    keys = [word[:-1] for word in fronts[1:]]
+    for _ in range(600):
+        size, values = of.choice(tails)
+        keys.append(of.choice(fronts) + bytes(of.randrange(values) for _ in range(size)).hex())
+    lines = []
+    for at in range(number):
+        weights = (0.5, 10, 65 if at // 800 % 2 else 30, 35 if at // 800 % 2 else 60)
+        call = of.choices(("clone", "prefix_insert", "insert", "delete"), weights)[0]
+        lines.append("command clone" if call == "clone" else f"command {call} {of.choice(keys)} {at}")
+        if at % 5000 == 4999:
+            lines += ["run", "check", "minimum", "maximum"]
+    return [*lines, "by_hand", "names"]
+
+
+def deep_commands(depth):
+    """Commands that make a tree with a branch at each of so many bytes; it is cloned, freed, and freed by parts."""
+    lines = [f"command insert 00*{zeros}.01 {zeros}" for zeros in range(depth + 1)]
+    return [*lines, "run", "clone", "free", "check", "run", "free_apart", "check"]
+
+
+def deep_nodes(depth):
+    """Such a tree by hand, from its lowest leaf on: it is checked, and again when that leaf gives way to the root."""
+    lines = ["by_hand", "names", f"leaf 00*{depth} 0"]
+    below, last = 0, 0
+    for zeros in range(depth - 1, -1, -1):
+        leaf, node = 2 * (depth - zeros) - 1, 2 * (depth - zeros)
+        lines += [f"leaf 00*{zeros}.01 {zeros}", "node 4 - 0", f"write {node} 0 {below}", f"write {node} 1 {leaf}"]
+        before = "-" if last == 0 else last - 2 if last > 1 else 0
+        lines.append(f"link {last} {before} {leaf}")
+        below, last = node, leaf
+    return [*lines, f"link {last} {last - 2} -", f"root {below}", f"check {depth + 1}", f"write 2 0 {below}", f"check {depth + 1}"]
+
+
 def wanted(prefix_len, lines):
     """All that the model allows of each line's answer."""
     model = Model(prefix_len)
     return [model.answers(line) for line in lines]
 
 
-def play(program, prefix_len, lines):
+def limit():
+    resource.setrlimit(resource.RLIMIT_STACK, (STACK, STACK))
+
+
+def play(program, prefix_len, lines, allowed):
     text = "".join(f"{line}\n" for line in [f"tree {prefix_len}", *lines])
-    ran = subprocess.run([program], input=text, capture_output=True, text=True, timeout=120)
+    how = {"capture_output": True, "text": True, "timeout": 120, "preexec_fn": limit}
+    ran = subprocess.run([program], input=text, **how)
     assert (ran.returncode, ran.stderr) == (0, ""), f"status {ran.returncode}: {ran.stderr[-300:]}"
-    told, allowed = ran.stdout.splitlines(), wanted(prefix_len, lines)
+    told = ran.stdout.splitlines()
     for number, (line, answer, those) in enumerate(zip(lines, told, allowed)):
         assert answer in those, f"row {number + 1}, {line[:60]}: {answer[:200]} and not {sorted(those)[0][:200]}"
     assert len(told) == len(lines), f"{len(told)} answers to {len(lines)} lines"
@@ -244,22 +291,30 @@ def scripts(prefix_len, number=60, length=250, rounds=12):
         yield f"random {seed}", script(seed, prefix_len, length, rounds)
 
 
+def long_scripts():
+    yield "replay", replay(1, 20_000)
+    yield "deep commands", deep_commands(3000)
+    yield "deep nodes by hand", deep_nodes(2400)
+
+
 def main():
     if sys.argv[1:2] == ["--show"]:
         lines = open(sys.argv[3]).read().splitlines()
         print("\n".join(" or ".join(sorted(it)) for it in wanted(int(sys.argv[2]), lines)))
         return
     word, counts, told = sys.argv[1] if len(sys.argv) > 1 else "", Counter(), Counter()
+    sys.setrecursionlimit(50_000)
     for prefix_len in PREFIX_LENS:
-        for name, lines in scripts(prefix_len):
+        for name, lines in itertools.chain(scripts(prefix_len), long_scripts()):
             if word not in name:
                 continue
-            for line, those in zip(lines, wanted(prefix_len, lines)):
+            allowed = wanted(prefix_len, lines)
+            for line, those in zip(lines, allowed):
                 told.update(those if line.startswith("check") and not any("leaves" in it for it in those) else ())
             for program in (PROGRAM, f"{PROGRAM}.by-rattle"):
                 ended = "ok"
                 try:
-                    play(program, prefix_len, lines)
+                    play(program, prefix_len, lines, allowed)
                 except (AssertionError, OSError, subprocess.TimeoutExpired) as why:
                     ended = f"FAILED: {str(why)[:500]}"
                 counts[ended == "ok"] += 1

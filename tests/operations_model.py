@@ -5,10 +5,12 @@ import os
 from collections import Counter
 
 # The fewest and the most children of each kind of inner node.
-KINDS = {4: (2, 4), 16: (5, 16), 48: (17, 48), 256: (49, 256)}
+KINDS = {4: (2, 4), 16: (5, 16), 32: (17, 32), 48: (33, 48), 256: (49, 256)}
 # What takes a node out of the room of its kind asks for a smaller one.
-SHRINKING = {5, 17, 49}
-LARGER, SMALLER = {4: 16, 16: 48, 48: 256}, {16: 4, 48: 16, 256: 48}
+SHRINKING = {5, 17, 33, 49}
+# What changes a node that has a number.
+CHANGES = ("write", "remove", "prefix", "link", "free")
+LARGER, SMALLER = {4: 16, 16: 32, 32: 48, 48: 256}, {16: 4, 32: 16, 48: 32, 256: 48}
 
 
 def bytes_in(word):
@@ -171,6 +173,8 @@ class Model:
     def answers(self, line):
         call, *words = line.split(" ")
         words += [""] * (4 - len(words))
+        if self.is_by_hand and call in CHANGES and int(words[0]) >= len(self.nodes):
+            return {"not understood"}
         told = getattr(self, ("hand_" if self.is_by_hand else "call_") + call)(*words)
         return told if isinstance(told, set) else {told}
 
@@ -410,8 +414,8 @@ class Model:
         return self.named(node)
 
     def inner(self, at):
-        node = self.nodes[int(at)]
-        return node if node.held and node.kind else None
+        node = self.nodes[int(at)] if int(at) < len(self.nodes) else None
+        return node if node and node.held and node.kind else None
 
     def hand_copy(self, at, kind, *_):
         node = self.inner(at)

@@ -2,8 +2,8 @@
 """Refuses memory to each line of the scripts of the tree in turn: each request, alone and with all later ones.
 
     tests/operations_refused.py [WORD]   at the top of the repository, after rt ci; WORD: only lines named by it
-Under tests/refuse.c, which says what a window is, play_operations plays each script of tests/operations, and six that
-are made at random, once for each line of it. The line stands twice, and is refused the first time: it must answer a
+Under tests/refuse.c, which says what a window is, play_operations plays each script of tests/operations but the long
+ones, and six that are made at random, once for each line of it. The line stands twice, and is refused the first time: it must answer a
 refusal that it may answer, the checker must find the tree as it was in between, and all else must be as if it stood
 once. Where no request is refused, the answers are the model's too; so what asks for no memory succeeds with every
 request refused. How many requests each call made at most, and in how many runs one was refused, goes to
@@ -113,8 +113,8 @@ def is_refused(model, line, told):
     return told in model.answers(line)
 
 
-def agrees(model, lines, told):
-    return len(lines) == len(told) and all(it in model.answers(line) for line, it in zip(lines, told))
+def agrees(allowed, told):
+    return len(allowed) == len(told) and all(it in those for it, those in zip(told, allowed))
 
 
 def one_line(program, lines, at):
@@ -125,17 +125,18 @@ def one_line(program, lines, at):
     looks = [] if model.is_by_hand or lines[at] == "run" else ["check"]
     once = [*lines[:at], *looks, *lines[at:]]
     twice = [*lines[: at + 1], *looks, *lines[at:]]
+    of_once, of_twice = operations.wanted(4, once), operations.wanted(4, twice)
     text = "".join(f"{it}\n" for it in ["tree 4", *twice]).encode()
     for rest in ("", "+"):
         for number in itertools.count(1):
             seen, told = run(program, f"{number}{rest}", at + 2, text)
             label = f"REFUSE={number}{rest} {seen}"
             if "x" not in seen:
-                assert agrees(Model(4), twice, told), f"{label}: other answers than the model's"
+                assert agrees(of_twice, told), f"{label}: other answers than the model's"
                 break
             refused += 1
             assert is_refused(model, lines[at], told[at]), f"{label}: it answers {told[at][:300]}"
-            assert agrees(Model(4), once, told[:at] + told[at + 1 :]), f"{label}: else as it stood once"
+            assert agrees(of_once, told[:at] + told[at + 1 :]), f"{label}: else as it stood once"
     has_room = [it.split(" ")[0] for it in lines[max(0, at - 2) : at]] == ["key", "reserve"]
     count = seen_of.setdefault((lines[at].split(" ")[0], case(model, lines[at], has_room)), [0, 0, 0, 0])
     requests = seen.count(".")
@@ -149,6 +150,8 @@ def main():
     subprocess.run(["cc", "-O2", "-Wall", "-shared", "-fPIC", "-o", SHIM, "tests/refuse.c"], check=True)
     for by in ("", ".by-rattle"):  # as LLVM builds it, and as Rattle's own compiler does
         for name, lines in operations.scripts(4, 6, 60, 1):
+            if name.startswith("long_"):
+                continue
             lines = lines[:180]
             for at, line in enumerate(lines):
                 told = f"play_operations{by} {name}, line {at + 1}, {line[:40]}"

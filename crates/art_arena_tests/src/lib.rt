@@ -1,15 +1,8 @@
-//! Tests of art_arena: each public call at concrete types, want of memory, and the caller of its CALLING.md.
-//! In a window, between a line `refuse` on the standard error and the line that tells the outcome, tests/refusals.py
-//! refuses each request for memory in turn. Nodes are made and moved by generic functions alone.
+//! Tests of art_arena: the caller of its CALLING.md, and the calls that no crate above makes. The others are made by
+//! scripts, through play_operations, where each request for memory is refused in turn.
 #![tactic(auto)]
 
 #[cfg(test)]
 mod calling;
 #[cfg(test)]
-mod leaves;
-#[cfg(test)]
-mod links;
-#[cfg(test)]
-mod memory;
-#[cfg(test)]
-mod two_leaves;
+mod values;

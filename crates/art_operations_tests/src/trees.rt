@@ -5,16 +5,13 @@ ghost use Rattle.art_arena.specs.arena.Meaning.{IsSubtree};
 ghost use Rattle.art_arena.specs.arena.Shapes.{Shape, cells};
 ghost use Rattle.art_arena.specs.arena.Stores.{StoresBeside, StoresOnly};
 
-use crate::memory::tree_of;
 use art_arena::NodeArena;
-use art_bytes::{AsBytes, CloneBytes};
+use art_bytes::AsBytes;
 use art_nodes::OpaqueNodePtr;
-use art_operations::{Command, put_pair, search_unchecked, take_pair};
-use std::alloc::Global;
-use std::test::Fail;
+use art_operations::{put_pair, search_unchecked, take_pair};
 
-/// Stores a pair as a tree of its own beside another tree, and answers its root.
-pub(crate) fn put_beside<K: AsBytes + Drop, V: Drop>(
+// Stores a pair as a tree of its own beside another tree, and answers its root.
+fn put_beside<K: AsBytes + Drop, V: Drop>(
     arena: &mut NodeArena<K, V, 4>,
     root: OpaqueNodePtr,
     key: K,
@@ -47,42 +44,17 @@ fn takes_from_one<K: AsBytes + Drop, V: Drop>(
     }
 }
 
-// Whether a key that a tree has is found in another, which has it alone, once it is taken out of the first.
-fn takes_beside<K: AsBytes + Drop, V: Drop>(
+/// Whether a key that a tree has is found in another, which has it alone, once it is taken out of the first.
+pub(crate) fn takes_beside<K: AsBytes + Drop, V: Drop>(
     arena: &mut NodeArena<K, V, 4>,
     root: OpaqueNodePtr,
-    key: K,
-    value: V,
+    pair: (K, V),
     bytes: &[u8],
 ) -> bool
     requires { (s : Shape K V) × StoresOnly K.bytes 4 arena.old root s }
 {
-    match put_beside(arena, root, key, value) {
+    match put_beside(arena, root, pair.0, pair.1) {
         Some(other) => takes_from_one(arena, root, other, bytes),
         None => false,
     }
-}
-
-// The same of the tree that commands make.
-fn stays_in_other<K: CloneBytes + Drop, V: Clone + Drop>(
-    alloc: Global,
-    commands: &[Command<K, V>],
-    key: K,
-    value: V,
-    bytes: &[u8],
-) -> bool {
-    match tree_of(alloc, commands) {
-        Some(mut tree) => takes_beside(&mut tree.0, tree.1, key, value, bytes),
-        None => false,
-    }
-}
-
-#[test]
-fn two_trees_in_one_arena(rt: HostRuntime) -> Result<(), Fail> {
-    let commands = [
-        Command::Insert([1u8, 2], 7u8),
-        Command::Insert([1u8, 3], 8u8),
-    ];
-    assert!(rt; stays_in_other(rt.alloc(), &commands, [1u8, 3], 9u8, &[1, 3]));
-    Ok(())
 }

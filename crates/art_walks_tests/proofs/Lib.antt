@@ -1,2 +1,3 @@
+mod LeafTrios
 mod ThreeLeaves
 mod TreeRuns

@@ -1,5 +1,5 @@
 -- A walk over three linked leaves, at each of its steps.
-use Rattle.std.proofs.Common.{◌≡◌, ℕ, List, [], ◌∷◌, Option, Some, None, refl, sym, ap, ap₂, ◌∙◌, subst}
+use Rattle.std.proofs.Common.{◌≡◌, ℕ, [], ◌∷◌, Option, Some, None, refl, sym, ap₂, ◌∙◌, subst}
 use Rattle.art_arena.specs.arena.Shapes.{LeafAt}
 use Rattle.art_arena.specs.arena.Linked.{Links, IsList}
 use Rattle.art_walks.specs.Runs.{Ends, IsWalk}

@@ -6,7 +6,7 @@ use Rattle.art_arena.specs.arena.Arena.{Arena, node_at, links_at}
 use Rattle.art_arena.specs.arena.Cells.{leaf_name, pair}
 use Rattle.art_arena.specs.arena.Descents.{passing}
 use Rattle.art_arena.specs.arena.Linked.{IsList, first_slot, last_slot}
-use Rattle.art_arena.specs.arena.Shapes.{Shape, LeafAt, leaves}
+use Rattle.art_arena.specs.arena.Shapes.{Shape, leaves}
 use Rattle.art_arena.specs.arena.Stores.{Stores, StoresOnly}
 use Rattle.art_arena.proofs.shapes.Meanings.{nodes-subtree}
 use Rattle.art_arena.proofs.shapes.Prefixes.{leaves_are_held}

@@ -13,7 +13,6 @@ use art_nodes::OpaqueNodePtr;
 use art_operations::{Command, RunResult, run};
 use std::alloc::Global;
 use std::ops::Bound;
-use std::test::Fail;
 
 // The tree that commands make.
 fn tree_of<K: CloneBytes, V: Clone>(
@@ -56,53 +55,50 @@ fn ends<K: AsBytes>(
     ]
 }
 
-// The values of all leaves in order.
-fn all_values<K: AsBytes>(
+// Whether the values of all leaves are these, in order.
+fn has_values<K: AsBytes>(
     alloc: Global,
     arena: &NodeArena<K, u8, 4>,
     root: OpaqueNodePtr,
-) -> Option<Vec<u8>>
+    wanted: &[u8],
+) -> bool
     requires { (s : Shape K _) × StoresOnly K.bytes 4 arena.now root s }
 {
     let (run, len) = all_leaves(arena, root);
-    values_of(alloc, arena, run, len).ok()
-}
-
-// What comes of a tree: its values in order, how many leaves a check counts, and the values at the ends of walks.
-#[derive(Drop)]
-struct Told {
-    values: Option<Vec<u8>>,
-    count: Option<usize>,
-    ends: [Option<u8>; 4],
-}
-
-// What the callers that are lent a tree tell of it.
-fn all_told<K: AsBytes>(
-    alloc: Global,
-    arena: &NodeArena<K, u8, 4>,
-    root: OpaqueNodePtr,
-    prefix: &[u8],
-    bounds: (Bound<&[u8]>, Bound<&[u8]>),
-) -> Told
-    requires { (s : Shape K _) × StoresOnly K.bytes 4 arena.now root s }
-{
-    Told {
-        values: all_values(alloc, arena, root),
-        count: leaves_checked(alloc, arena, root).ok(),
-        ends: ends(arena, root, prefix, bounds),
+    match values_of(alloc, arena, run, len) {
+        Ok(values) => values.as_slice() == wanted,
+        Err(_) => false,
     }
 }
 
-// The same of the tree that commands make.
-fn told_of<K: CloneBytes + Drop>(
+// What is asked of a tree, and what is wanted: its values in order, and those at the ends of walks.
+#[derive(Clone, Copy)]
+struct Row<'a> {
+    values: &'a [u8],
+    prefix: &'a [u8],
+    bounds: (Bound<&'a [u8]>, Bound<&'a [u8]>),
+    ends: [Option<u8>; 4],
+}
+
+// Whether the callers that are lent a tree tell this of it.
+fn are_told<K: AsBytes>(
     alloc: Global,
-    commands: &[Command<K, u8>],
-    prefix: &[u8],
-    bounds: (Bound<&[u8]>, Bound<&[u8]>),
-) -> Option<Told> {
+    arena: &NodeArena<K, u8, 4>,
+    root: OpaqueNodePtr,
+    row: &Row<'_>,
+) -> bool
+    requires { (s : Shape K _) × StoresOnly K.bytes 4 arena.now root s }
+{
+    has_values(alloc, arena, root, row.values)
+        && leaves_checked(alloc, arena, root) == Ok(row.values.len())
+        && ends(arena, root, row.prefix, row.bounds) == row.ends
+}
+
+// The same of the tree that commands make.
+fn tells<K: CloneBytes + Drop>(alloc: Global, commands: &[Command<K, u8>], row: &Row<'_>) -> bool {
     match tree_of(alloc, commands) {
-        Some(tree) => Some(all_told(alloc, &tree.0, tree.1, prefix, bounds)),
-        None => None,
+        Some(tree) => are_told(alloc, &tree.0, tree.1, row),
+        None => false,
     }
 }
 
@@ -137,23 +133,16 @@ const COMMANDS: [Command<[u8; 2], u8>; 3] = [
 ];
 
 #[test]
-fn callers_walk_over_a_tree_and_check_it(rt: HostRuntime) -> Result<(), Fail> {
-    let bounds: (Bound<&[u8]>, Bound<&[u8]>) = (Bound::Unbounded, Bound::Excluded(&[2, 4]));
-    let Some(told) = told_of(rt.alloc(), &COMMANDS, &[2], bounds) else {
-        return Ok(assert!(rt; false));
+fn callers_walk_over_a_tree_and_take_it_apart(rt: HostRuntime) {
+    let row = Row {
+        values: &[7, 8, 9],
+        prefix: &[2],
+        bounds: (Bound::Unbounded, Bound::Excluded(&[2, 4])),
+        ends: [Some(8), Some(9), Some(7), Some(8)],
     };
-    let values = told.values.unwrap_or(Vec::new(rt.alloc()));
-    assert!(rt; values.as_slice() == [7u8, 8, 9].as_slice());
-    assert!(rt; told.count == Some(3));
-    assert!(rt; told.ends == [Some(8), Some(9), Some(7), Some(8)]);
-    Ok(())
-}
-
-#[test]
-fn callers_take_a_tree_apart(rt: HostRuntime) -> Result<(), Fail> {
+    assert!(rt; tells(rt.alloc(), &COMMANDS, &row));
     let ends = (Some(([1u8, 2], 7u8)), Some(([2, 4], 9)));
     assert!(rt; ends_of(rt.alloc(), &COMMANDS) == Some(ends));
     assert!(rt; last_of(rt.alloc(), &COMMANDS) == Some([2, 4]));
     assert!(rt; first_of(rt.alloc(), &COMMANDS) == Some(7));
-    Ok(())
 }

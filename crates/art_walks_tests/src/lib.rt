@@ -1,28 +1,11 @@
-//! Tests of art_walks: each public call at concrete types, over trees and lists made by the arena's public calls;
-//! and the callers of its CALLING.md.
+//! Tests of art_walks: the callers of its CALLING.md, a visitor, sums of counts and the text of a fault. What a check
+//! answers of trees and of broken arenas is shown by scripts, through play_operations.
 #![tactic(auto)]
 
-#[cfg(test)]
-mod bounds;
-#[cfg(test)]
-mod broken;
 #[cfg(test)]
 mod callers;
 #[cfg(test)]
 mod calling;
-#[cfg(test)]
-mod checks;
-#[cfg(test)]
-mod deep;
-#[cfg(test)]
-mod one_tree;
-#[cfg(test)]
-mod reader;
-#[cfg(test)]
-mod refused;
-#[cfg(test)]
-mod replay;
-pub mod sorted;
 #[cfg(test)]
 mod stats;
 #[cfg(test)]

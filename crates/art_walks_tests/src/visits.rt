@@ -5,14 +5,12 @@ ghost use Rattle.art_nodes.specs.InnerNode.{names_of};
 ghost use Rattle.art_arena.specs.arena.Arena.{held_at};
 ghost use Rattle.art_walks.specs.Visits.{children_in};
 
-use crate::checks::insertions;
 use art_arena::NodeArena;
 use art_bytes::CloneBytes;
 use art_nodes::{ChildIter, KindLeaf, LeafNode, OpaqueNodePtr};
 use art_operations::{Command, RunResult, run};
 use art_walks::{Visitable, Visitor};
 use std::alloc::{AllocError, Global};
-use std::test::Fail;
 
 // The values of leaves, as the digits of a number, and the inner nodes that wait.
 #[derive(Drop)]
@@ -154,26 +152,20 @@ fn met<K: CloneBytes>(
 }
 
 #[test]
-fn children_are_visited_in_order(rt: HostRuntime) {
-    let commands = [
+fn a_tree_is_visited_in_order(rt: HostRuntime) {
+    let three = [
         Command::Insert([2u8], 3u8),
         Command::Insert([0], 1),
         Command::Insert([1], 2),
     ];
-    assert!(rt; met(rt.alloc(), &commands) == Ok(Some((1, 3, 123))));
-}
-
-#[test]
-fn a_leaf_has_no_children(rt: HostRuntime) {
-    let commands = [Command::Insert([2u8], 3u8)];
-    assert!(rt; met(rt.alloc(), &commands) == Ok(Some((0, 1, 3))));
-}
-
-#[test]
-fn a_whole_tree_is_visited(rt: HostRuntime) -> Result<(), Fail> {
-    let commands = insertions(rt.alloc())?;
-    assert!(rt;
-        met(rt.alloc(), commands.as_slice())?.is_some_and(|told| told.0 == 17 && told.1 == 24)
-    );
-    Ok(())
+    assert!(rt; met(rt.alloc(), &three) == Ok(Some((1, 3, 123))));
+    assert!(rt; met(rt.alloc(), &three[..1]) == Ok(Some((0, 1, 3))));
+    let four = [
+        Command::Insert([1u8, 1], 4u8),
+        Command::Insert([0, 0], 1),
+        Command::Insert([1, 0], 3),
+        Command::Insert([0, 1], 2),
+    ];
+    // The last node that waits is the first that was met.
+    assert!(rt; met(rt.alloc(), &four) == Ok(Some((3, 4, 12))));
 }

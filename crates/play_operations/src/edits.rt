@@ -4,8 +4,8 @@ ghost use Rattle.art_arena.specs.arena.Arena.{held_at};
 
 use art_arena::{LeafPtr, NodeArena, NodeEdit, Stored};
 use art_nodes::{
-    Header, InnerNode4, InnerNode16, InnerNode48, InnerNode256, InnerNodeCommon, InnerNodeInit,
-    KindLeaf, LeafNode, NodeType, OpaqueNodePtr,
+    Header, InnerNode4, InnerNode16, InnerNode32, InnerNode48, InnerNode256, InnerNodeCommon,
+    InnerNodeInit, KindLeaf, LeafNode, NodeType, OpaqueNodePtr,
 };
 use std::alloc::AllocError;
 
@@ -74,6 +74,7 @@ pub fn make_inner<K: Drop, V: Drop, const PREFIX_LEN: usize>(
     match kind {
         "4" => Some(make::<InnerNode4<K, V, PREFIX_LEN>, K, V, PREFIX_LEN>(arena, prefix, len)),
         "16" => Some(make::<InnerNode16<K, V, PREFIX_LEN>, K, V, PREFIX_LEN>(arena, prefix, len)),
+        "32" => Some(make::<InnerNode32<K, V, PREFIX_LEN>, K, V, PREFIX_LEN>(arena, prefix, len)),
         "48" => Some(make::<InnerNode48<K, V, PREFIX_LEN>, K, V, PREFIX_LEN>(arena, prefix, len)),
         "256" => Some(make::<InnerNode256<K, V, PREFIX_LEN>, K, V, PREFIX_LEN>(arena, prefix, len)),
         _ => None,
@@ -105,6 +106,7 @@ pub fn copy_inner<K: Drop, V: Drop, const PREFIX_LEN: usize>(
     match kind {
         "4" => Some(copy_into::<InnerNode4<K, V, PREFIX_LEN>, K, V, PREFIX_LEN>(arena, name)),
         "16" => Some(copy_into::<InnerNode16<K, V, PREFIX_LEN>, K, V, PREFIX_LEN>(arena, name)),
+        "32" => Some(copy_into::<InnerNode32<K, V, PREFIX_LEN>, K, V, PREFIX_LEN>(arena, name)),
         "48" => Some(copy_into::<InnerNode48<K, V, PREFIX_LEN>, K, V, PREFIX_LEN>(arena, name)),
         "256" => Some(copy_into::<InnerNode256<K, V, PREFIX_LEN>, K, V, PREFIX_LEN>(arena, name)),
         _ => None,

@@ -75,8 +75,13 @@ pub fn show_stats(
 ) -> io::Result<()> {
     match checked {
         Ok(stats) => println!(rt;
-            "{} leaves, nodes {} {} {} {}",
-            stats.num_leaf, stats.num_node4, stats.num_node16, stats.num_node48, stats.num_node256
+            "{} leaves, nodes {} {} {} {} {}",
+            stats.num_leaf,
+            stats.num_node4,
+            stats.num_node16,
+            stats.num_node32,
+            stats.num_node48,
+            stats.num_node256
         ),
         Err(MalformedTreeError::Memory) => println!(rt; "memory"),
         Err(fault) => println!(rt; "{fault:?}"),

@@ -21,3 +21,8 @@ returns-in-Some g c =
     let (s, tree) = c.requires in
     let found = (c.in-Some.ensures s (nodes-subtree g.K.AsBytes.bytes g.row.PREFIX_LEN (node_at c.args.arena.now) c.args.root s tree.nodes) tree.linked).0 in
     key-passes g.K.AsBytes.bytes (λ k. range_contains bytes_cmp (bound_map (λ key. key.now) c.args.start) (bound_map (λ key. key.now) c.args.end) k) g.row.PREFIX_LEN c.args.arena.now c.args.root s tree _ found c.as_key_ref.result.now c.as_key_ref.ensures
+
+pub find_range_segment-requires : goal.find_range_segment-requires
+find_range_segment-requires g c =
+    let (s, tree) = c.requires in
+    (omega arith, (s, nodes-subtree g.K.AsBytes.bytes g.row.PREFIX_LEN (node_at c.args.arena.now) c.args.root s tree.nodes, tree.linked))

@@ -1,5 +1,5 @@
 use Rattle.std.proofs.Common.{[], refl, lit<}
-use Rattle.art_arena_tests.proofs.LeafTrios.{stored_apart, second_beside, third_beside}
+use Rattle.art_walks_tests.proofs.LeafTrios.{stored_apart, second_beside, third_beside}
 use Rattle.art_walks_tests.proofs.walks.three_leaves.Goals as goal
 
 pub insert_after-requires : goal.insert_after-requires

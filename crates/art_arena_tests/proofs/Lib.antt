@@ -1,2 +1,0 @@
-pub mod LeafTrios
-pub mod TwoLeaves
