@@ -30,8 +30,13 @@ fn write(rt: &impl Print, lent: Option<&mut u64>, number: u64) -> io::Result<()>
 
 fn show_stats(rt: &impl Print, stats: &WellFormedTreeStats) -> io::Result<()> {
     println!(rt;
-        "{} leaves, nodes {} {} {} {}",
-        stats.num_leaf, stats.num_node4, stats.num_node16, stats.num_node48, stats.num_node256
+        "{} leaves, nodes {} {} {} {} {}",
+        stats.num_leaf,
+        stats.num_node4,
+        stats.num_node16,
+        stats.num_node32,
+        stats.num_node48,
+        stats.num_node256
     )
 }
 
