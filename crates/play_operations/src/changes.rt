@@ -21,6 +21,13 @@ fn show_back<K: AsBytes>(rt: &impl Print, word: &str, key: &K, value: u64) -> io
     println!(rt; "{word} {:?} {value}", key.as_bytes())
 }
 
+fn show_refused<K: AsBytes + Drop>(
+    rt: &impl Print,
+    refused: InsertRefused<K, u64>,
+) -> io::Result<()> {
+    show_back(rt, "memory", &refused.key, refused.value)
+}
+
 // Prints the pair of a leaf that left the tree, or that none did. Its links must be open.
 fn show_left<K: AsBytes>(rt: &impl Print, leaf: &Option<LeafNode<K, u64>>) -> io::Result<()> {
     match leaf {
@@ -54,7 +61,7 @@ fn show_place(
     }
 }
 
-fn show_put<K: AsBytes>(rt: &impl Print, put: &InsertResult<K, u64>) -> io::Result<()> {
+fn show_put<K: AsBytes + Drop>(rt: &impl Print, put: InsertResult<K, u64>) -> io::Result<()> {
     show_left(rt, &put.existing_leaf)?;
     show_place(rt, put.new_root, put.parent_node_change)
 }
@@ -65,49 +72,39 @@ fn show_inserted<K: AsBytes + Drop>(
     inserted: Result<InsertResult<K, u64>, PairRefused<K, u64>>,
 ) -> io::Result<()> {
     match inserted {
-        Ok(put) => show_put(rt, &put),
+        Ok(put) => show_put(rt, put),
         Err(PairRefused::Conflict { key, value }) => show_back(rt, "conflict", &key, value),
         Err(PairRefused::Memory { key, value }) => show_back(rt, "memory", &key, value),
     }
 }
 
-// Prints an insertion in the place of what was in conflict.
-fn show_put_over<K: AsBytes>(rt: &impl Print, put: &PrefixInsertResult<K, u64>) -> io::Result<()> {
-    print!(rt; "{} {} ", put.pairs_removed(), put.leafs_removed)?;
-    show_put(rt, &put.insert_result)
-}
-
-// Prints what came of it.
+// Prints what came of an insertion in the place of what is in conflict.
 fn show_over<K: AsBytes + Drop>(
     rt: &impl Print,
     over: Result<PrefixInsertResult<K, u64>, InsertRefused<K, u64>>,
 ) -> io::Result<()> {
     match over {
-        Ok(put) => show_put_over(rt, &put),
-        Err(refused) => show_back(rt, "memory", &refused.key, refused.value),
-    }
-}
-
-// Prints the kind of the root that is left.
-fn show_root(rt: &impl Print, root: Option<OpaqueNodePtr>) -> io::Result<()> {
-    match root {
-        Some(root) => println!(rt; ", root {:?}", root.node_type()),
-        None => println!(rt; ", no root"),
+        Ok(put) => {
+            print!(rt; "{} {} ", put.pairs_removed(), put.leafs_removed)?;
+            show_put(rt, put.insert_result)
+        }
+        Err(refused) => show_refused(rt, refused),
     }
 }
 
 // Prints a leaf that left the tree, and the kind of the root that is left.
-fn show_deleted<K: AsBytes>(
+fn show_deleted<K: AsBytes + Drop>(
     rt: &impl Print,
-    deleted: &Result<Option<LeafNode<K, u64>>, AllocError>,
+    deleted: Result<Option<LeafNode<K, u64>>, AllocError>,
     root: Option<OpaqueNodePtr>,
 ) -> io::Result<()> {
-    match deleted {
-        Ok(leaf) => {
-            show_left(rt, leaf)?;
-            show_root(rt, root)
-        }
-        Err(_) => println!(rt; "memory"),
+    let Ok(leaf) = deleted else {
+        return println!(rt; "memory");
+    };
+    show_left(rt, &leaf)?;
+    match root {
+        Some(root) => println!(rt; ", root {:?}", root.node_type()),
+        None => println!(rt; ", no root"),
     }
 }
 
@@ -140,7 +137,7 @@ fn take<K: PlayedKey, const PREFIX_LEN: usize>(
         "delete_last" => tree.delete_end(End::Last),
         _ => return Ok(false),
     };
-    show_deleted(rt, &deleted, tree.root)?;
+    show_deleted(rt, deleted, tree.root)?;
     Ok(true)
 }
 
@@ -155,7 +152,10 @@ fn show_cut(
         Ok(None) => print!(rt; "None")?,
         Err(_) => return println!(rt; "memory"),
     }
-    show_root(rt, root)
+    match root {
+        Some(root) => println!(rt; ", root {:?}", root.node_type()),
+        None => println!(rt; ", no root"),
+    }
 }
 
 // Prints whether there is room for the cut of the part behind a prefix, if there is such a part.

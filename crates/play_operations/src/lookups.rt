@@ -174,19 +174,18 @@ pub fn answer<K: AsBytes, const PREFIX_LEN: usize>(
     asked: &Asked<'_>,
 ) -> io::Result<bool> {
     let key = asked.first;
-    let shown = match asked.call {
-        "search" => show_read(rt, tree, tree.search(key)),
-        "prefix_search" => show_read(rt, tree, tree.prefix_search(key)),
-        "minimum" => show_read(rt, tree, tree.minimum()),
-        "maximum" => show_read(rt, tree, tree.maximum()),
-        "path" => tell_path(rt, tree, key),
-        "start" => tell_leaf(rt, tree, tree.at_bound(asked.words[0], key, true)),
-        "end" => tell_leaf(rt, tree, tree.at_bound(asked.words[0], key, false)),
-        "range" => show_ends(rt, &tree.arena, tree.range(asked)),
-        "segment" => show_ends(rt, &tree.arena, tree.segment(key)),
-        "check" => show_stats(rt, tree.check(rt.alloc())),
+    match asked.call {
+        "search" => show_read(rt, tree, tree.search(key))?,
+        "prefix_search" => show_read(rt, tree, tree.prefix_search(key))?,
+        "minimum" => show_read(rt, tree, tree.minimum())?,
+        "maximum" => show_read(rt, tree, tree.maximum())?,
+        "path" => tell_path(rt, tree, key)?,
+        "start" => tell_leaf(rt, tree, tree.at_bound(asked.words[0], key, true))?,
+        "end" => tell_leaf(rt, tree, tree.at_bound(asked.words[0], key, false))?,
+        "range" => show_ends(rt, &tree.arena, tree.range(asked))?,
+        "segment" => show_ends(rt, &tree.arena, tree.segment(key))?,
+        "check" => show_stats(rt, tree.check(rt.alloc()))?,
         _ => return Ok(false),
-    };
-    shown?;
+    }
     Ok(true)
 }

@@ -28,52 +28,12 @@ mod tree;
 use kept::Kept;
 use key::PlayedKey;
 use nodes::Nodes;
-use script::{Asked, Script};
+use script::Script;
 use std::io;
 use tree::Tree;
 
-// Plays a line over a tree. True where it asks for nodes by hand.
-fn play_line<K: PlayedKey, const PREFIX_LEN: usize>(
-    rt: &(impl Print + AllocGlobal),
-    tree: &mut Tree<K, u64, PREFIX_LEN>,
-    kept: &mut Kept<K>,
-    asked: &Asked<'_>,
-) -> io::Result<bool>
-    requires { PREFIX_LEN ≤ 16 }
-{
-    if asked.call == "by_hand" {
-        println!(rt; "done")?;
-        return Ok(true);
-    }
-    let known = lookups::answer(rt, tree, asked)? || changes::answer(rt, tree, kept, asked)?;
-    if !known {
-        println!(rt; "not understood")?;
-    }
-    Ok(false)
-}
-
 // Plays lines over a tree. True where one asks for nodes by hand.
 fn play_tree<K: PlayedKey, const PREFIX_LEN: usize>(
-    rt: &(impl Print + AllocGlobal),
-    script: &mut Script,
-    tree: &mut Tree<K, u64, PREFIX_LEN>,
-    kept: &mut Kept<K>,
-) -> io::Result<bool>
-    requires { PREFIX_LEN ≤ 16 }
-{
-    for _ in 0..u64::MAX {
-        if !script.read()? {
-            break;
-        }
-        if play_line(rt, tree, kept, &script.asked())? {
-            return Ok(true);
-        }
-    }
-    Ok(false)
-}
-
-// The same, with room for what a line keeps.
-fn play_kept<K: PlayedKey, const PREFIX_LEN: usize>(
     rt: &(impl Print + AllocGlobal),
     script: &mut Script,
     tree: &mut Tree<K, u64, PREFIX_LEN>,
@@ -81,7 +41,22 @@ fn play_kept<K: PlayedKey, const PREFIX_LEN: usize>(
     requires { PREFIX_LEN ≤ 16 }
 {
     let mut kept = Kept::new(rt.alloc());
-    play_tree(rt, script, tree, &mut kept)
+    for _ in 0..u64::MAX {
+        if !script.read()? {
+            break;
+        }
+        let asked = script.asked();
+        if asked.call == "by_hand" {
+            println!(rt; "done")?;
+            return Ok(true);
+        }
+        let known = lookups::answer(rt, tree, &asked)?
+            || changes::answer(rt, tree, &mut kept, &asked)?;
+        if !known {
+            println!(rt; "not understood")?;
+        }
+    }
+    Ok(false)
 }
 
 // Plays lines over nodes.
@@ -101,48 +76,31 @@ fn play_nodes<K: PlayedKey, const PREFIX_LEN: usize>(
     Ok(())
 }
 
-// Plays the lines behind the one that asks for nodes by hand.
-fn play_by_hand<K: PlayedKey, const PREFIX_LEN: usize>(
+// Plays all lines.
+fn play<K: PlayedKey, const PREFIX_LEN: usize>(
     rt: &(impl Print + AllocGlobal),
     script: &mut Script,
-    tree: Tree<K, u64, PREFIX_LEN>,
+    mut tree: Tree<K, u64, PREFIX_LEN>,
 ) -> io::Result<()>
     requires { PREFIX_LEN ≤ 16 }
 {
+    if !play_tree(rt, script, &mut tree)? {
+        return Ok(());
+    }
     let (arena, root) = tree.into_parts();
     let mut nodes = Nodes::new(rt.alloc(), arena, root)?;
     play_nodes(rt, script, &mut nodes)
 }
 
-// Plays all lines.
-fn play<K: PlayedKey, const PREFIX_LEN: usize>(
-    rt: &(impl Print + AllocGlobal),
-    script: &mut Script,
-) -> io::Result<()>
-    requires { PREFIX_LEN ≤ 16 }
-{
-    let mut tree: Tree<K, u64, PREFIX_LEN> = Tree::new(rt.alloc());
-    match play_kept(rt, script, &mut tree) {
-        Ok(true) => play_by_hand(rt, script, tree),
-        Ok(false) => Ok(()),
-        Err(failed) => Err(failed),
-    }
-}
-
-// Plays a script, as its first line tells.
-fn play_script(rt: &(impl Print + AllocGlobal), script: &mut Script) -> io::Result<()> {
+fn main(rt: HostRuntime) -> io::Result<()> {
+    let mut script = Script::new(rt.alloc(), rt.stdin())?;
     if !script.read()? {
         return Ok(());
     }
     match script.line() {
-        "tree 0" => play::<Vec<u8>, 0>(rt, script),
-        "tree 4" => play::<Vec<u8>, 4>(rt, script),
-        "tree 16" => play::<Vec<u8>, 16>(rt, script),
+        "tree 0" => play::<Vec<u8>, 0>(&rt, &mut script, Tree::new(rt.alloc())),
+        "tree 4" => play::<Vec<u8>, 4>(&rt, &mut script, Tree::new(rt.alloc())),
+        "tree 16" => play::<Vec<u8>, 16>(&rt, &mut script, Tree::new(rt.alloc())),
         _ => println!(rt; "not understood"),
     }
-}
-
-fn main(rt: HostRuntime) -> io::Result<()> {
-    let mut script = Script::new(rt.alloc(), rt.stdin())?;
-    play_script(&rt, &mut script)
 }

@@ -184,28 +184,6 @@ impl<K: AsBytes, const PREFIX_LEN: usize> Nodes<K, PREFIX_LEN> {
         }
         println!(rt; "end")
     }
-
-    // Names the nodes below the root, and prints them.
-    fn tell_all(&mut self, rt: &impl Print) -> io::Result<()> {
-        self.name_all()?;
-        self.tell(rt)
-    }
-
-    // Prints what the checker answers.
-    fn check(&self, rt: &(impl Print + AllocGlobal), len: usize) -> io::Result<()> {
-        let checked = WellFormedChecker::check(rt.alloc(), &self.arena, self.root, len);
-        show_stats(rt, checked)
-    }
-
-    // Lets all go.
-    fn clear(&mut self)
-    where
-        K: Drop,
-    {
-        self.arena.clear();
-        self.root = None;
-        self.names.clear();
-    }
 }
 
 // Prints the number of a node that was made, or why none was.
@@ -221,42 +199,6 @@ fn show_made<K, const PREFIX_LEN: usize>(
     }
 }
 
-// Stores a leaf whose key a line names.
-fn make_named<K: PlayedKey, const PREFIX_LEN: usize>(
-    alloc: Global,
-    nodes: &mut Nodes<K, PREFIX_LEN>,
-    asked: &Asked<'_>,
-) -> Result<OpaqueNodePtr, AllocError> {
-    match K::made(alloc, asked.first) {
-        Ok(key) => make_leaf(&mut nodes.arena, key, asked.number(1)),
-        Err(refused) => Err(refused),
-    }
-}
-
-// Stores a copy of the inner node that a line names, in another kind.
-fn copy_named<K: PlayedKey, const PREFIX_LEN: usize>(
-    nodes: &mut Nodes<K, PREFIX_LEN>,
-    asked: &Asked<'_>,
-) -> Option<Result<OpaqueNodePtr, AllocError>>
-    requires { PREFIX_LEN ≤ 16 }
-{
-    match nodes.name(asked.words[0]) {
-        Some(name) => copy_inner(&mut nodes.arena, name, asked.words[1]),
-        None => None,
-    }
-}
-
-// Stores a copy of it in the next larger kind, or in the next smaller one.
-fn resize_named<K: PlayedKey, const PREFIX_LEN: usize>(
-    nodes: &mut Nodes<K, PREFIX_LEN>,
-    asked: &Asked<'_>,
-) -> Option<Result<OpaqueNodePtr, AllocError>> {
-    match nodes.name(asked.words[0]) {
-        Some(name) => resize(&mut nodes.arena, name, asked.call == "grow"),
-        None => None,
-    }
-}
-
 // Lines that make a node.
 fn make<K: PlayedKey, const PREFIX_LEN: usize>(
     rt: &(impl Print + AllocGlobal),
@@ -265,46 +207,26 @@ fn make<K: PlayedKey, const PREFIX_LEN: usize>(
 ) -> io::Result<bool>
     requires { PREFIX_LEN ≤ 16 }
 {
+    let arena = &mut nodes.arena;
     let made = match asked.call {
-        "leaf" => Some(make_named(rt.alloc(), nodes, asked)),
-        "node" => make_inner(
-            &mut nodes.arena,
-            asked.words[0],
-            asked.second,
-            asked.size(2),
-        ),
+        "leaf" => match K::made(rt.alloc(), asked.first) {
+            Ok(key) => Some(make_leaf(arena, key, asked.number(1))),
+            Err(refused) => Some(Err(refused)),
+        },
+        "node" => make_inner(arena, asked.words[0], asked.second, asked.size(2)),
         "raw" => Some(Ok(raw(asked.words[0], asked.size(1)))),
-        "copy" => copy_named(nodes, asked),
-        "grow" | "shrink" => resize_named(nodes, asked),
+        "copy" => match nodes.name(asked.words[0]) {
+            Some(name) => copy_inner(&mut nodes.arena, name, asked.words[1]),
+            None => None,
+        },
+        "grow" | "shrink" => match nodes.name(asked.words[0]) {
+            Some(name) => resize(&mut nodes.arena, name, asked.call == "grow"),
+            None => None,
+        },
         _ => return Ok(false),
     };
     show_made(rt, nodes, made)?;
     Ok(true)
-}
-
-// Stores a child that a line names.
-fn write_named<K: PlayedKey, const PREFIX_LEN: usize>(
-    nodes: &mut Nodes<K, PREFIX_LEN>,
-    asked: &Asked<'_>,
-    name: OpaqueNodePtr,
-) -> bool {
-    match nodes.name(asked.words[2]) {
-        Some(child) => write_child(&mut nodes.arena, name, asked.byte(1), child),
-        None => false,
-    }
-}
-
-// Links a leaf to those that a line names.
-fn link_named<K: PlayedKey, const PREFIX_LEN: usize>(
-    nodes: &mut Nodes<K, PREFIX_LEN>,
-    asked: &Asked<'_>,
-    name: OpaqueNodePtr,
-) -> bool {
-    let (previous, next) = (nodes.leaf(asked.words[1]), nodes.leaf(asked.words[2]));
-    match name.cast::<KindLeaf>() {
-        Some(leaf) => link(&mut nodes.arena, leaf, previous, next),
-        None => false,
-    }
 }
 
 // Lines that change a node.
@@ -315,56 +237,40 @@ fn change<K: PlayedKey, const PREFIX_LEN: usize>(
 ) -> Option<bool>
     requires { PREFIX_LEN ≤ 16 }
 {
-    Some(match asked.call {
-        "write" => write_named(nodes, asked, name),
-        "remove" => remove_child(&mut nodes.arena, name, asked.byte(1)),
-        "prefix" => write_prefix(&mut nodes.arena, name, asked.second, asked.size(2)),
-        "link" => link_named(nodes, asked, name),
-        "free" => free(&mut nodes.arena, name),
-        _ => return None,
-    })
-}
-
-// Gives the leaf that a line names another key.
-fn replace_named<K: PlayedKey, const PREFIX_LEN: usize>(
-    nodes: &mut Nodes<K, PREFIX_LEN>,
-    asked: &Asked<'_>,
-    key: K,
-) -> bool {
-    match nodes.leaf(asked.words[0]) {
-        Some(leaf) => replace(&mut nodes.arena, leaf, key, asked.number(2)),
-        None => false,
+    let byte = asked.byte(1);
+    match asked.call {
+        "write" => Some(match nodes.name(asked.words[2]) {
+            Some(child) => write_child(&mut nodes.arena, name, byte, child),
+            None => false,
+        }),
+        "remove" => Some(remove_child(&mut nodes.arena, name, byte)),
+        "prefix" => Some(write_prefix(&mut nodes.arena, name, asked.second, asked.size(2))),
+        "link" => {
+            let (previous, next) = (nodes.leaf(asked.words[1]), nodes.leaf(asked.words[2]));
+            Some(match name.cast::<KindLeaf>() {
+                Some(leaf) => link(&mut nodes.arena, leaf, previous, next),
+                None => false,
+            })
+        }
+        "free" => Some(free(&mut nodes.arena, name)),
+        _ => None,
     }
 }
 
-fn show_done(rt: &impl Print, is_done: bool) -> io::Result<()> {
-    println!(rt; "{}", if is_done { "done" } else { "no" })
-}
-
-// The same, where there is memory for the key.
+// Gives a leaf another key.
 fn rekey<K: PlayedKey, const PREFIX_LEN: usize>(
     rt: &(impl Print + AllocGlobal),
     nodes: &mut Nodes<K, PREFIX_LEN>,
     asked: &Asked<'_>,
 ) -> io::Result<()> {
-    match K::made(rt.alloc(), asked.second) {
-        Ok(key) => show_done(rt, replace_named(nodes, asked, key)),
-        Err(_) => println!(rt; "no key"),
-    }
-}
-
-// Lets a clone take the arena's place: false where there is no memory for it.
-fn clone_nodes<K: PlayedKey, const PREFIX_LEN: usize>(
-    alloc: Global,
-    nodes: &mut Nodes<K, PREFIX_LEN>,
-) -> bool {
-    match nodes.arena.try_clone(alloc) {
-        Ok(copy) => {
-            nodes.arena = copy;
-            true
-        }
-        Err(_) => false,
-    }
+    let Ok(key) = K::made(rt.alloc(), asked.second) else {
+        return println!(rt; "no key");
+    };
+    let is_done = match nodes.leaf(asked.words[0]) {
+        Some(leaf) => replace(&mut nodes.arena, leaf, key, asked.number(2)),
+        None => false,
+    };
+    println!(rt; "{}", if is_done { "done" } else { "no" })
 }
 
 // Lines that ask of the whole arena, or change it.
@@ -375,26 +281,36 @@ fn whole<K: PlayedKey, const PREFIX_LEN: usize>(
 ) -> io::Result<bool>
     requires { PREFIX_LEN ≤ 16 }
 {
-    let shown = match asked.call {
-        "names" => nodes.tell_all(rt),
-        "tell" => nodes.tell(rt),
+    match asked.call {
+        "names" => {
+            nodes.name_all()?;
+            nodes.tell(rt)?;
+        }
+        "tell" => nodes.tell(rt)?,
         "root" => {
             nodes.root = nodes.name(asked.words[0]);
-            println!(rt; "done")
+            println!(rt; "done")?;
         }
-        "check" => nodes.check(rt, asked.size(0)),
-        "clone" => {
-            let is_done = clone_nodes(rt.alloc(), nodes);
-            println!(rt; "{}", if is_done { "done" } else { "memory" })
-        }
+        "check" => show_stats(
+            rt,
+            WellFormedChecker::check(rt.alloc(), &nodes.arena, nodes.root, asked.size(0)),
+        )?,
+        "clone" => match nodes.arena.try_clone(rt.alloc()) {
+            Ok(copy) => {
+                nodes.arena = copy;
+                println!(rt; "done")?;
+            }
+            Err(_) => println!(rt; "memory")?,
+        },
         "clear" => {
-            nodes.clear();
-            println!(rt; "done")
+            nodes.arena.clear();
+            nodes.root = None;
+            nodes.names.clear();
+            println!(rt; "done")?;
         }
-        "rekey" => rekey(rt, nodes, asked),
+        "rekey" => rekey(rt, nodes, asked)?,
         _ => return Ok(false),
-    };
-    shown?;
+    }
     Ok(true)
 }
 
@@ -414,7 +330,8 @@ pub fn answer<K: PlayedKey, const PREFIX_LEN: usize>(
         None => None,
     };
     match changed {
-        Some(is_done) => show_done(rt, is_done),
+        Some(true) => println!(rt; "done"),
+        Some(false) => println!(rt; "no"),
         None => println!(rt; "not understood"),
     }
 }

@@ -19,7 +19,7 @@ pub struct Script {
 }
 
 /// What a line asks for: its words, and the bytes that the first two behind the call's name.
-#[derive(Clone, Copy)]
+#[derive(Drop)]
 pub struct Asked<'a> {
     pub call: &'a str,
     pub words: [&'a str; 4],

@@ -73,6 +73,11 @@ impl<K: AsBytes, V, const PREFIX_LEN: usize> Tree<K, V, PREFIX_LEN> {
         }
     }
 
+    /// The nodes, and the root.
+    pub fn parts(&self) -> (&NodeArena<K, V, PREFIX_LEN>, Option<OpaqueNodePtr>) {
+        (&self.arena, self.root)
+    }
+
     /// The nodes, and the root, which may be broken from here on.
     pub fn into_parts(self) -> (NodeArena<K, V, PREFIX_LEN>, Option<OpaqueNodePtr>) {
         let Tree { arena, root } = self;
