@@ -167,7 +167,7 @@ def many_numbers_are_kept(program):
 def tenants_are_dropped(program):
     """Of 2 to 50 tenants in a row, in one tree or in both, the first, a middle one or the last is dropped, and put again."""
     lines, model = [], Reference()
-    for count in (1, 2, 3, 4, 5, 6, 16, 17, 18, 48, 49, 50):
+    for count in (1, 2, 3, 4, 5, 6, 16, 17, 18, 32, 33, 34, 48, 49, 50):
         for trees in ((0,), (1,), (0, 1)):
             for at in sorted({0, count // 2, count - 1}):
                 tenants = range(200, 200 + count)
@@ -188,11 +188,11 @@ def keys_that_share_2000_bytes(program):
     shared, half = b"aa" * 2000, b"aa" * 1000
     first, second, third = (b"%b01" % shared, b"%b02" % shared, b"%bbb" % half)
     rows = [(b"put 1 %b 61" % it, b"new") for it in (first, second, third)]
-    rows += [(b"audit", b"bytes 3 2 0 0 0\nnumbers 0 0 0 0 0"), (b"get 1 %b03" % shared, b"none")]
+    rows += [(b"audit", b"bytes 3 2 0 0 0 0\nnumbers 0 0 0 0 0 0"), (b"get 1 %b03" % shared, b"none")]
     rows += [(b"get 1 " + first, b"is 61")]
     rows += [(b"span 1 %b %b" % (half, third), b"%b 61\n%b 61\nend 2" % (first, second))]
     rows += [(b"find 1 %b00" % third, b"at %b 61" % third), (b"del 1 " + third, b"gone 61")]
-    rows += [(b"audit", b"bytes 2 1 0 0 0\nnumbers 0 0 0 0 0")]
+    rows += [(b"audit", b"bytes 2 1 0 0 0 0\nnumbers 0 0 0 0 0 0")]
     text, replies = (b"".join(b"%b\n" % it[at] for it in rows) for at in (0, 1))
     wants(ended([program], input=text), (replies, b"", 0))
 

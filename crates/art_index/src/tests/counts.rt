@@ -21,7 +21,7 @@ const LISTED: &[u8] = b"-300 63\n-1 61\nend 2\n";
 
 const DUMPED: &[u8] = b"put 1 aa 61\nput 1 bb 62\nput 2 aa 63\nend 3\n";
 
-const COUNTED: &[u8] = b"bytes 3 2 0 0 0\nnumbers 0 0 0 0 0\n";
+const COUNTED: &[u8] = b"bytes 3 2 0 0 0 0\nnumbers 0 0 0 0 0 0\n";
 
 const ROWS: [Row; 29] = [
     (NOTHING, b"get 1 aa", b"none\n", 0, 0),
