@@ -4,6 +4,7 @@
 
 mod counts;
 mod from_maps;
+mod widths;
 
 use crate::command::{Command, parse_line};
 use crate::from_reader::FromReader;
