@@ -183,7 +183,7 @@ dump-of_two : flat_map line_of (dump_of two) ≡ text (codes "put 2 0a 61" ∷ c
 unfolding outcome_of whole_lines_of unfinished_line_of reply_to records_after command_of natural_in tenant_in number_in bytes_in hex_on_literals digits
 dump-of_two = refl
 
-audit-of_two : flat_map line_of (audit_lines two) ≡ text (codes "bytes 2 1 0 0 0" ∷ codes "numbers 0 0 0 0 0" ∷ [])
+audit-of_two : flat_map line_of (audit_lines two) ≡ text (codes "bytes 2 1 0 0 0 0" ∷ codes "numbers 0 0 0 0 0 0" ∷ [])
 unfolding outcome_of whole_lines_of unfinished_line_of reply_to records_after command_of natural_in tenant_in number_in bytes_in hex_on_literals digits
 audit-of_two = refl
 

@@ -1,5 +1,4 @@
 pub mod Examples
-pub mod Walks
 pub mod LineLemmas
 pub mod RunLemmas
 pub mod HexText
