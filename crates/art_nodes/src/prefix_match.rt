@@ -65,7 +65,10 @@ impl From<OptimisticMismatch> for PessimisticMismatch {
     }
 }
 
-// So many bytes are compared at once.
+// So many bytes are compared at once, as long as so many agree.
+const PAGE: usize = 256;
+
+// So many are, behind those.
 const WORD: usize = 8;
 
 /// How many bytes agree from the front on.
@@ -75,6 +78,12 @@ pub fn count_agreeing(prefix: &[u8], rest: &[u8]) -> usize
     ensures within { result ≤ length prefix.now }
 {
     let mut at = 0;
+    'pages: while at + PAGE <= prefix.len()
+        && at + PAGE <= rest.len()
+        && prefix[at..at + PAGE] == rest[at..at + PAGE]
+    {
+        at += PAGE;
+    }
     'words: while at + WORD <= prefix.len()
         && at + WORD <= rest.len()
         && prefix[at..at + WORD] == rest[at..at + WORD]

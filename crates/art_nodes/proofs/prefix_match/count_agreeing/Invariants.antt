@@ -21,3 +21,13 @@ invariant-words l = record {
 
 abbrev pub decreases-words : goal.decreases-words
 decreases-words l = length l.prefix - l.at
+
+abbrev pub invariant-pages : goal.invariant-pages
+invariant-pages l = record {
+  within : l.at ≤ length l.prefix;
+  within_rest : l.at ≤ length l.rest;
+  so_far : l.at + agreeing (drop l.at l.prefix) (drop l.at l.rest) ≡ agreeing l.prefix l.rest;
+}
+
+abbrev pub decreases-pages : goal.decreases-pages
+decreases-pages l = length l.prefix - l.at
