@@ -1,13 +1,16 @@
 #!/usr/bin/env python3
-"""Plays each call of maps and sets over deep trees and long keys by play_map, under a stack of 256 KiB.
+"""Plays each call of maps and sets over trees with a branch at each byte, by play_map, under a stack of 256 KiB.
 
-    tests/deep.py [WORD]      at the top of the repository, after rt ci; WORD: only keys of this kind
-The keys: `aa` so many times and then `bb`, for each number below 5,000, so that there is an inner node at each byte and
-5,000 stand one below the other; the same with `cc` for each thousand up to 100,000 bytes; and two that part behind
-100,000 bytes. A call that goes down by calling itself would need more stack than there is. Each call of the tables of
-tests/maps.py is made with keys that are stored, absent, in conflict, and go on, and its answer is held against the
-model's; behind each change the checker counts the nodes of a map.
+    tests/deep.py [WORD]      at the top of the repository, after rt ci; WORD: only runs that have it in their name
+The keys are so many bytes 01 and then 00, for each number up to one below 100,000: an inner node at each byte of the
+longest, each below the one before. A call that goes down by calling itself would need more stack than there is. The
+keys share their bytes (`tails`), else they would take gigabytes. Each call of the tables of tests/maps.py is made with
+keys that are stored, absent, in conflict, and go on behind one, near the root, halfway and at the last branch, and its
+answer is held against the model's; behind a call that changes keys the checker counts the nodes of a map. A call that
+goes down once for each of many keys is made for one length of prefixes. The program as the other compiler makes it plays
+over keys of 5,000 bytes.
 """
+import functools
 import itertools
 import os
 import resource
@@ -15,48 +18,106 @@ import subprocess
 import sys
 from bisect import bisect_left, bisect_right
 
+import map_entries
 import map_model
+import map_words
 import maps
 import set_model
-from map_words import Pairs, shown
+from map_words import Pairs
 
 STACK = 256 << 10
-PATH, LONGEST, STEP = 5000, 100_000, 1000
-# Keys that are stored, among them the longest and the deepest; others that part from them at some depth, are fronts of
-# some, or go on behind one.
-STORED = ("aa*100000.01", "aa*4999.bb", "aa*3000.bb", "aa*50000.cc", "bb")
-ABSENT = ("aa*100000.03", "aa*4999.07", "aa*3000.07", "aa*99999.07", "07")
-FRONTS = ("aa*100000", "aa*99500")
-BEHIND = ("aa*4999.bb.07", "aa*100000.01.07")
-PREFIXES = ("aa*3000", "aa*99500", "aa*4999", "aa*100000.01", "07")
-BOUNDS = (("[aa*99000", "*"), ("*", "(aa*99500"), ("(aa*100000.01", "[aa*100000.02"), ("[aa*4999.bb", "(aa*4998.bb"))
+DEEP, SMALL = 99_999, 4_999
+# How many bytes but one the longest key has, how many bytes of a prefix a node stores, and which compiler's program.
+RUNS = (DEEP, 0, ""), (DEEP, 4, ""), (DEEP, 16, ""), (SMALL, 4, ""), (SMALL, 4, ".by-rattle")
+# Where so many keys at most are gone or new they are put back one by one.
+FEW = 120
 ENDS, STEPS = "fbfb", "fbpq"
-# Where no call with a front of many keys prints them all.
+# Calls with a front of many keys, where none prints them all.
 COUNTED = ("prefix_insert", "prefix_get", "prefix_get_key_value", "get", "remove", "contains_key", "try_insert")
-WIDE = ("aa*3000", "-")
 # Calls that leave a map without most of its keys, and calls that use both maps, between which the keys are parted.
 EMPTYING = ("clear", "retain", "into_iter", "into_keys", "into_values", "remove_prefix", "apply_prefix")
 EMPTYING += ("remove_from_both",)
-WITH_OTHER = ("append", "and", "or", "xor", "minus", "compare", "is_subset", "is_superset", "is_disjoint", "swap")
-WITH_OTHER += ("union", "intersection")
-# Calls that print in what two sets differ: the other one has all keys, and two more than the first.
-WITH_MORE = ("difference", "symmetric_difference")
+WITH_OTHER = ("append", "swap", "extend")
+# Calls before which the other one has all keys but two, and calls before which it has these two.
+WITH_MORE = ("difference", "symmetric_difference", "xor", "minus", "compare", "is_subset", "is_superset", "is_disjoint")
+WITH_TWO = ("intersection", "and")
+# The call that goes down once for each key.
+SQUARE = "or"
+
+
+class Key(tuple):
+    """Bytes that begin with so many of 01, in an order as that of the bytes."""
+
+    @staticmethod
+    def of(ones, rest=b""):
+        while rest[:1] == b"\1":
+            ones, rest = ones + 1, rest[1:]
+        # (where a zero or no byte follows, more of 01 come later, and else earlier)
+        return Key((0, ones, *rest) if rest[:1] < b"\1" else (1, -ones, *rest))
+
+    @staticmethod
+    def spelled(word):
+        parts = [part.partition("*") for part in word.lstrip("[(").split(".") if part[:1] not in ("", "-")]
+        ones = 0
+        while parts and parts[0][0] == "01":
+            ones += int(parts.pop(0)[2] or 1)
+        return Key.of(ones, b"".join(bytes.fromhex(digits) * int(times or 1) for digits, _, times in parts))
+
+    @property
+    def ones(self):
+        return abs(tuple.__getitem__(self, 1))
+
+    @property
+    def rest(self):
+        return bytes(tuple.__getitem__(self, slice(2, None)))
+
+    def __len__(self):
+        return self.ones + len(self.rest)
+
+    def __contains__(self, byte):
+        return byte in self.rest or byte == 1 and self.ones > 0
+
+    def __getitem__(self, at):
+        return 1 if at < self.ones else self.rest[at - self.ones]
+
+    def __add__(self, more):
+        return Key.of(self.ones, self.rest + more)
+
+    def startswith(self, front):
+        return self.ones == front.ones and self.rest.startswith(front.rest) or self.ones > front.ones and not front.rest
+
+    def hex(self):
+        return ".".join([f"01*{self.ones}"] * (self.ones > 0) + [self.rest.hex()] * (self.rest != b"")) or "-"
+
+    def tails(self):
+        yield from (Key.of(self.ones - at, self.rest) for at in range(self.ones))
+        yield from (Key.of(0, self.rest[at:]) for at in range(len(self.rest)))
+
+
+def shown(key):
+    return f"[{('1, ' * key.ones + ', '.join(map(str, key.rest))).removesuffix(', ')}]"
 
 
 def common(one, other):
-    """As the model's, by halves."""
-    low, high = 0, min(len(one), len(other))
-    while low < high:
-        middle = (low + high + 1) // 2
-        low, high = (middle, high) if one[:middle] == other[:middle] else (low, middle - 1)
-    return one[:low]
+    if one.ones != other.ones:
+        return Key.of(min(one.ones, other.ones))
+    return Key.of(one.ones, map_words.common(one.rest, other.rest))
 
 
 class Map(map_model.Model):
-    """As the model of a map, where looking at each front of a key would take too long."""
+    def call_tails(self, word, *_):
+        given = {key: at % 7 for at, key in enumerate(self.key(word).tails())}
+        new = len(given.keys() - self.pairs.keys())
+        self.pairs = Pairs({**self.pairs, **given})
+        return str(new)
 
     def extract(self, key):
         return self.take(key)
+
+    def call_retain(self, least, *_):
+        raised, calls = {key: value + 1 for key, value in self.pairs.items()}, len(self.pairs)
+        self.pairs = Pairs({key: value for key, value in raised.items() if value >= int(least)})
+        return f"done {calls}"
 
     def front_of(self, query):
         # (no stored key is a front of another, so one that is a front of the query has no other between them)
@@ -65,66 +126,69 @@ class Map(map_model.Model):
         return found if found is not None and query.startswith(found) else None
 
     def overlapped(self, key):
-        keys, front = self.pairs.keys_in_order, self.front_of(key)
-        behind = itertools.takewhile(lambda it: it.startswith(key), keys[bisect_left(keys, key) :])
-        return [front] * (front is not None and front != key) + list(behind)
+        front, keys = self.front_of(key), self.pairs.keys_in_order
+        low = high = bisect_left(keys, key)
+        while high < len(keys) and keys[high].startswith(key):
+            high += 1
+        return [front] * (front is not None and front != key) + keys[low:high]
 
 
 class Set(set_model.SetModel):
+    def call_tails(self, word, *_):
+        given = set((Key.spelled(word) + b"\0").tails())
+        new = len(given - self.keys)
+        self.keys |= given
+        return str(new)
+
+    def call_retain(self, *_):
+        self.keys = {key for key in self.keys if key[0] % 2 == 0}
+        return "done"
+
     def taken(self, key):
         self.keys.discard(key)
         return shown(key)
 
 
-def keys():
-    """All keys, the longest and deepest first: each is put in above what is there."""
-    yield from ("aa*100000.01", "aa*100000.02")
-    yield from (f"aa*{size}.cc" for size in range(LONGEST - STEP, PATH, -STEP))
-    yield from (f"aa*{size}.bb" for size in range(PATH - 1, 0, -1))
-    yield "bb"
-
-
 class Script:
-    def __init__(self, kind):
-        self.kind, self.lines = kind, []
+    def __init__(self, kind, size):
+        self.kind, self.lines, self.told = kind, [], []
         self.model = Set() if kind == "set" else Map(kind == "ended")
-        put = {"set": "insert", "ended": "insert", "free": "try_insert"}[kind]
-        self.filling = ["clear", *(f"{put} {word} {at % 7}" for at, word in enumerate(keys()))]
-        self.told = [self.model.answer(it) for it in self.filling]
-        self.lines, self.filled = list(self.filling), list(self.told)
-        self.full = set(self.model.keys) if kind == "set" else Pairs(self.model.pairs)
+        self.zero = "" if kind == "free" else ".00"
+        self.put = {"set": "insert", "ended": "insert", "free": "try_insert"}[kind]
+        self.filling = ["clear", f"tails 01*{size}" + ".00" * (kind == "free")]
+        self.fill()
+        self.full = dict.fromkeys(self.model.keys, 0) if kind == "set" else dict(self.model.pairs)
+        self.in_order = sorted(self.full)
 
     def play(self, line):
         self.lines.append(line)
         self.told.append(self.model.answer(line))
 
     def fill(self):
-        """What the first filling made, and what it was answered."""
-        self.lines += self.filling
-        self.told += self.filled
-        if self.kind == "set":
-            self.model.keys = set(self.full)
-        else:
-            self.model.pairs = Pairs(self.full)
+        for line in self.filling:
+            self.play(line)
 
-    def keys(self):
-        return list(self.model.keys if self.kind == "set" else self.model.pairs.keys_in_order)
+    def stored(self):
+        return self.model.keys if self.kind == "set" else self.model.pairs.keys()
 
-    def is_full(self, keys):
-        return len(keys) > len(self.filling) - 30
+    def handed(self, key):
+        """The word for a key that is handed in: a zero at the end goes without saying."""
+        return (Key.of(key.ones, key.rest[:-1]) if self.zero else key).hex()
 
     def ready(self):
-        """A tree of all keys, where they are gone: the other one, both together, or one that is filled."""
-        mine, others = self.keys(), self.model.other
-        if not self.is_full(mine) and self.is_full(others):
+        """A tree of all keys, where some are gone or new: those put back, the other one, or one that is filled."""
+        if self.kind != "set" and self.model.pairs.keys_in_order == self.in_order:
+            return
+        gone, new = self.full.keys() - self.stored(), self.stored() - self.full.keys()
+        if len(gone) + len(new) <= FEW:
+            for key in sorted(new):
+                self.play(f"remove {key.hex()}")
+            for key in sorted(gone):
+                self.play(f"{self.put} {self.handed(key)} {self.full[key]}")
+        elif self.model.other and not self.full.keys() - set(self.model.other):
             self.play("swap")
-        elif not self.is_full(mine) and self.is_full([*mine, *others]):
-            self.play("append")
-        elif not self.is_full(mine):
+        else:
             self.fill()
-
-    def ended_words(self, words):
-        return [word + ".00" * (self.kind != "free") for word in words]
 
 
 def tables(kind):
@@ -134,45 +198,65 @@ def tables(kind):
     return {**maps.CALLS, **(maps.ENDED_CALLS if kind == "ended" else maps.FREE)}
 
 
-def words_for(script, call):
+def words_for(script, call, size):
     """The words that a call is made with, by the kinds that its table names."""
-    kinds = tables(script.kind)[call]
+    kinds, zero = tables(script.kind)[call], script.zero
     # (a query names all bytes of a stored key, the zero at its end too; a key that is handed in does not)
-    queried = script.ended_words(STORED) + list(ABSENT + FRONTS + BEHIND)
-    given = [*STORED, *ABSENT, *FRONTS, *BEHIND] + list(WIDE if call in COUNTED and script.kind == "free" else ())
-    of = {"k": given, "s": queried, "p": PREFIXES, "n": ["5"], "e": [ENDS], "x": [STEPS]}
+    places = [f"01*{size}", f"01*{size - 1}", f"01*{size // 2}", "01"]
+    absent = [f"01*{size}.03", f"01*{size - 1}.07", f"01*{size // 2}.07", "07"]
+    fronts, behind = [f"01*{size}", f"01*{size - 40}"], [f"01*{size}.00.07", f"01*{size // 2}.00.07"]
+    wide = [f"01*{size // 2}", "-"] if call in COUNTED and not zero else []
+    handed = [f"{it}.00" for it in places] + fronts + behind + wide if not zero else places
+    queried = [f"{it}.00" for it in places] + absent + fronts + behind
+    prefixes = [f"01*{size // 2}", f"01*{size - 40}", f"01*{size}.00", "07"]
+    bounds = [f"[01*{size - 500} *", f"* (01*{size - 40}", f"(01*{size}.00 [01*{size}.02"]
+    bounds += [f"[01*{size}.00 (01*{size - 1}.00"]
     if call == "split_off":
-        return queried[1:3]
+        return [f"01*{size - 40}.00", f"01*{size}"]
     if call == "retain" and script.kind != "set":
         return ["9"]
+    last = {"n": "5", "e": ENDS, "x": STEPS}
     if kinds.startswith("bb"):
-        rest = [of[it][0] for it in kinds[2:]]
-        return [" ".join([*pair, *rest]) for pair in BOUNDS]
-    return [" ".join(it) for it in itertools.product(*(of[it] for it in kinds))]
+        return [" ".join([it, *(last[kind] for kind in kinds[2:])]) for it in bounds]
+    if call == "union":
+        return ["count"]
+    first = {"k": handed + absent, "s": queried, "p": prefixes}.get(kinds[:1], [last.get(kinds[:1], "")])
+    return [" ".join([it, *(last[kind] for kind in kinds[1:])]) for it in first]
 
 
-def script_of(kind):
-    """Every call of a kind, with a tree of all keys before it, and the checker behind what changes keys."""
-    script = Script(kind)
+def before(script, call, size):
+    """The lines before a call that uses both trees, or the bag, or empties one."""
+    part, two = f"split_off 01*{size - 40}.00", ["clone", "pop_last", f"remove 01*{size // 2}.00", "swap"]
+    if call in WITH_OTHER:
+        return [part, "drain"] if call == "extend" else [part]
+    if call in maps.FROM_BAG:
+        return ["clone", "drain b"]
+    if call in WITH_MORE and script.kind != "free":
+        return two
+    if call in WITH_TWO:
+        return [*two, "xor"]
+    if call in (SQUARE, "union"):
+        return [part]
+    return ["clone"] * (call in EMPTYING and script.kind != "free")
+
+
+@functools.lru_cache(maxsize=1)
+def script_of(kind, size, has_square):
+    """Every call of a kind, with a tree of all keys before it, and the checker behind what first changes keys."""
+    script = Script(kind, size)
     for call in tables(kind):
-        for words in words_for(script, call):
+        if call == SQUARE and not has_square:
+            continue
+        checked = kind == "set"
+        for words in words_for(script, call, size):
             script.ready()
-            if kind != "free" and call in EMPTYING:
-                script.play("clone")
-            if call in maps.FROM_BAG:
-                script.play("clone")
-                script.play("drain")
-            if call in WITH_OTHER:
-                # (few keys are cut off, so that they are soon put back, but where they are what is to be moved)
-                at = "aa*3000.bb" if call == "append" else "aa*200.bb"
-                script.play(f"split_off {script.ended_words([at])[0]}")
-            if call in WITH_MORE:
-                for line in ("clone", "pop_last", f"remove {script.ended_words(['aa*3000.bb'])[0]}", "swap"):
-                    script.play(line)
-            before = script.keys()
+            for line in before(script, call, size):
+                script.play(line)
+            stored = len(script.stored())
             script.play(f"{call} {words}".rstrip())
-            if kind != "set" and script.keys() != before:
+            if not checked and len(script.stored()) != stored:
                 script.play("check")
+                checked = True
     return script.lines, "".join(f"{it}\n" for it in script.told)
 
 
@@ -182,7 +266,7 @@ def limit():
 
 def play(program, prefix_len, kind, lines, wanted):
     text = "".join(f"{line}\n" for line in [f"map {prefix_len} {kind}", *lines])
-    how = {"capture_output": True, "text": True, "timeout": 300, "preexec_fn": limit}
+    how = {"capture_output": True, "text": True, "timeout": 600, "preexec_fn": limit}
     ran = subprocess.run([program], input=text, **how)
     assert (ran.returncode, ran.stderr) == (0, ""), f"status {ran.returncode}: {ran.stderr[-300:]}"
     if ran.stdout != wanted:
@@ -192,21 +276,21 @@ def play(program, prefix_len, kind, lines, wanted):
 
 
 def main():
-    map_model.common = common
+    for module in (map_model, map_entries, set_model):
+        module.bytes_in, module.shown, module.common = Key.spelled, shown, common
     word, counts = sys.argv[1] if len(sys.argv) > 1 else "", {True: 0, False: 0}
     resource.setrlimit(resource.RLIMIT_CORE, (0, 0))
-    for kind in maps.KINDS:
-        if word not in f"play_map {kind} keys":
+    for kind, (size, prefix_len, by) in itertools.product(maps.KINDS, RUNS):
+        name, ended = f"play_map{by} {kind} keys of {size + 1} bytes, prefixes of {prefix_len}", "ok"
+        if word not in name:
             continue
-        lines, wanted = script_of(kind)
-        for prefix_len, by in [*((it, "") for it in maps.PREFIX_LENS), (4, ".by-rattle")]:
-            name, ended = f"play_map{by} {kind} keys, prefixes of {prefix_len}", "ok"
-            try:
-                play(maps.PROGRAM + by, prefix_len, kind, lines, wanted)
-            except (AssertionError, OSError, subprocess.TimeoutExpired) as why:
-                ended = f"FAILED: {str(why)[:500]}"
-            counts[ended == "ok"] += 1
-            print(f"{name}, {len(lines)} lines: {ended}")
+        lines, wanted = script_of(kind, size, kind == "set" and (size == SMALL or prefix_len == 16))
+        try:
+            play(maps.PROGRAM + by, prefix_len, kind, lines, wanted)
+        except (AssertionError, OSError, subprocess.TimeoutExpired) as why:
+            ended = f"FAILED: {str(why)[:500]}"
+        counts[ended == "ok"] += 1
+        print(f"{name}, {len(lines)} lines: {ended}", flush=True)
     print(f"{counts[True]} passed, {counts[False]} failed")
     sys.exit(bool(counts[False]) or not counts[True])
 

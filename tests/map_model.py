@@ -197,8 +197,8 @@ class Model(Entries):
         return "done"
 
     # A bag of pairs, out of which several are put in by one call.
-    def call_drain(self, *_):
-        self.bag += sorted(self.other.items())
+    def call_drain(self, end="", *_):
+        self.bag += sorted(self.other.items(), reverse=end == "b")
         self.other = Pairs()
         return "done"
 
@@ -266,8 +266,7 @@ class Model(Entries):
         return "".join(f"{self.item(key)}, " for _, key in self.taken(keys, letters)) + "end"
 
     def call_prefix(self, word, letters, *_):
-        keys = [key for key in self.sorted() if key.startswith(bytes_in(word))]
-        return "".join(f"{self.item(key)}, " for _, key in self.taken(keys, letters)) + "end"
+        return "".join(f"{self.item(key)}, " for _, key in self.taken(self.behind(word), letters)) + "end"
 
     def raised(self, keys, letters, number, tells_len):
         told = []
@@ -283,8 +282,7 @@ class Model(Entries):
         return "invalid" if keys is None else self.raised(keys, letters, number, False)
 
     def call_prefix_mut(self, word, number, letters, *_):
-        keys = [key for key in self.sorted() if key.startswith(bytes_in(word))]
-        return self.raised(keys, letters, number, False)
+        return self.raised(self.behind(word), letters, number, False)
 
     def call_iter_mut(self, letters, number, *_):
         return self.raised(self.sorted(), letters, number, True)

@@ -122,20 +122,20 @@ class SetModel:
                 keys = []
         return "\n".join(told + ["end"])
 
-    def merged(self, keys):
-        return "".join(f"{shown(key)}, " for key in sorted(keys)) + "true"
+    def merged(self, keys, word):
+        return (f"{len(keys)} " if word == "count" else "".join(f"{shown(key)}, " for key in sorted(keys))) + "true"
 
-    def call_difference(self, *_):
-        return self.merged(self.keys - self.other)
+    def call_difference(self, word, *_):
+        return self.merged(self.keys - self.other, word)
 
-    def call_symmetric_difference(self, *_):
-        return self.merged(self.keys ^ self.other)
+    def call_symmetric_difference(self, word, *_):
+        return self.merged(self.keys ^ self.other, word)
 
-    def call_intersection(self, *_):
-        return self.merged(self.keys & self.other)
+    def call_intersection(self, word, *_):
+        return self.merged(self.keys & self.other, word)
 
-    def call_union(self, *_):
-        return self.merged(self.keys | self.other)
+    def call_union(self, word, *_):
+        return self.merged(self.keys | self.other, word)
 
     def call_is_disjoint(self, *_):
         return str(self.keys.isdisjoint(self.other)).lower()
@@ -165,8 +165,8 @@ class SetModel:
     def call_append(self, *_):
         return self.made(self.keys | self.other, set())
 
-    def call_drain(self, *_):
-        self.bag += sorted(self.other)
+    def call_drain(self, end="", *_):
+        self.bag += sorted(self.other, reverse=end == "b")
         return self.made(self.keys, set())
 
     def put_bag(self, keys):
@@ -190,7 +190,8 @@ class SetModel:
     call_from_iter = call_from_vec
 
     def call_split_off(self, word, *_):
-        off = {key for key in self.keys if key >= bytes_in(word)}
+        at = bytes_in(word)
+        off = {key for key in self.keys if key >= at}
         return self.made(self.keys - off, off)
 
     def call_clone(self, *_):

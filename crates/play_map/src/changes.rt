@@ -94,6 +94,28 @@ fn prefix_insert<K: PlayedKey, const PREFIX_LEN: usize>(
     }
 }
 
+// Puts in each tail of the bytes, the longest first, with values from 0 to 6 by turns, and prints how many were new.
+// (Where tails part at each byte, each goes in above those before it, so that its place is soon found.)
+fn put_tails<K: PlayedKey, const PREFIX_LEN: usize>(
+    rt: &(impl Print + AllocGlobal),
+    map: &mut TreeMap<K, u64, PREFIX_LEN>,
+    bytes: &[u8],
+) -> io::Result<()> {
+    let Ok(shared) = K::shared(rt.alloc(), bytes) else {
+        return println!(rt; "no key");
+    };
+    let (mut value, mut new) = (0_u64, 0_u64);
+    for from in 0..shared.as_bytes().len() {
+        match map.try_insert(K::tail(&shared, from)?, value % 7) {
+            Ok(None) => new = new.wrapping_add(1),
+            Ok(Some(_)) => {}
+            Err(_) => return println!(rt; "memory"),
+        }
+        value = value.wrapping_add(1);
+    }
+    println!(rt; "{new}")
+}
+
 // Removals, which hand in no key.
 fn remove<K: PlayedKey, const PREFIX_LEN: usize>(
     rt: &impl Print,
@@ -123,8 +145,13 @@ pub fn answer<K: PlayedKey, const PREFIX_LEN: usize>(
     map: &mut TreeMap<K, u64, PREFIX_LEN>,
     asked: &Asked<'_>,
 ) -> io::Result<bool> {
-    if asked.call != "try_insert" && asked.call != "prefix_insert" {
-        return remove(rt, map, asked);
+    match asked.call {
+        "tails" => {
+            put_tails(rt, map, asked.first)?;
+            return Ok(true);
+        }
+        "try_insert" | "prefix_insert" => {}
+        _ => return remove(rt, map, asked),
     }
     match K::made(rt.alloc(), asked.first) {
         Ok(key) if asked.call == "try_insert" => try_insert(rt, map, key, asked.number(1))?,

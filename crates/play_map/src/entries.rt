@@ -1,17 +1,17 @@
 // Entries of keys none of which is a front of another, and `insert`.
 
 use crate::changes::{show_filled, show_key, show_lent, show_refused, show_stored};
-use crate::key::PlayedKey;
+use crate::key::{EndedKey, PlayedKey};
 use crate::script::Asked;
-use art_bytes::{AsBytes, ZeroEnded};
+use art_bytes::AsBytes;
 use art_map::{Entry, TreeMap};
 use std::io;
 
 // Calls that lend the value that stands at a key then.
 fn lend<const PREFIX_LEN: usize>(
     rt: &impl Print,
-    map: &mut TreeMap<ZeroEnded, u64, PREFIX_LEN>,
-    key: ZeroEnded,
+    map: &mut TreeMap<EndedKey, u64, PREFIX_LEN>,
+    key: EndedKey,
     call: &str,
     number: u64,
 ) -> io::Result<()> {
@@ -32,8 +32,8 @@ fn lend<const PREFIX_LEN: usize>(
 // Calls that answer the entry of what stands at a key then.
 fn fill<const PREFIX_LEN: usize>(
     rt: &impl Print,
-    map: &mut TreeMap<ZeroEnded, u64, PREFIX_LEN>,
-    key: ZeroEnded,
+    map: &mut TreeMap<EndedKey, u64, PREFIX_LEN>,
+    key: EndedKey,
     call: &str,
     number: u64,
 ) -> io::Result<()> {
@@ -61,8 +61,8 @@ fn fill<const PREFIX_LEN: usize>(
 // Takes the pair of an entry out, its key with it or not.
 fn remove<const PREFIX_LEN: usize>(
     rt: &impl Print,
-    map: &mut TreeMap<ZeroEnded, u64, PREFIX_LEN>,
-    key: ZeroEnded,
+    map: &mut TreeMap<EndedKey, u64, PREFIX_LEN>,
+    key: EndedKey,
     call: &str,
 ) -> io::Result<()> {
     match map.entry(key) {
@@ -81,8 +81,8 @@ fn remove<const PREFIX_LEN: usize>(
 // Writes the value of an entry, or where it is vacant puts one in.
 fn write<const PREFIX_LEN: usize>(
     rt: &impl Print,
-    map: &mut TreeMap<ZeroEnded, u64, PREFIX_LEN>,
-    key: ZeroEnded,
+    map: &mut TreeMap<EndedKey, u64, PREFIX_LEN>,
+    key: EndedKey,
     number: u64,
 ) -> io::Result<()> {
     match map.entry(key) {
@@ -97,8 +97,8 @@ fn write<const PREFIX_LEN: usize>(
 // Fills an entry where it is vacant, or takes its key back.
 fn fill_vacant<const PREFIX_LEN: usize>(
     rt: &impl Print,
-    map: &mut TreeMap<ZeroEnded, u64, PREFIX_LEN>,
-    key: ZeroEnded,
+    map: &mut TreeMap<EndedKey, u64, PREFIX_LEN>,
+    key: EndedKey,
     call: &str,
     number: u64,
 ) -> io::Result<()> {
@@ -115,8 +115,8 @@ fn fill_vacant<const PREFIX_LEN: usize>(
 // The value of an occupied entry, lent for writing.
 fn lend_occupied<const PREFIX_LEN: usize>(
     rt: &impl Print,
-    map: &mut TreeMap<ZeroEnded, u64, PREFIX_LEN>,
-    key: ZeroEnded,
+    map: &mut TreeMap<EndedKey, u64, PREFIX_LEN>,
+    key: EndedKey,
     number: u64,
 ) -> io::Result<()> {
     match map.entry(key) {
@@ -132,8 +132,8 @@ fn lend_occupied<const PREFIX_LEN: usize>(
 
 fn insert<const PREFIX_LEN: usize>(
     rt: &impl Print,
-    map: &mut TreeMap<ZeroEnded, u64, PREFIX_LEN>,
-    key: ZeroEnded,
+    map: &mut TreeMap<EndedKey, u64, PREFIX_LEN>,
+    key: EndedKey,
     number: u64,
 ) -> io::Result<()> {
     match map.insert(key, number) {
@@ -171,8 +171,8 @@ const OTHERS: [&str; 9] = [
 
 fn with_key<const PREFIX_LEN: usize>(
     rt: &impl Print,
-    map: &mut TreeMap<ZeroEnded, u64, PREFIX_LEN>,
-    key: ZeroEnded,
+    map: &mut TreeMap<EndedKey, u64, PREFIX_LEN>,
+    key: EndedKey,
     call: &str,
     number: u64,
 ) -> io::Result<()> {
@@ -202,14 +202,14 @@ fn with_key<const PREFIX_LEN: usize>(
 
 pub fn answer<const PREFIX_LEN: usize>(
     rt: &(impl Print + AllocGlobal),
-    map: &mut TreeMap<ZeroEnded, u64, PREFIX_LEN>,
+    map: &mut TreeMap<EndedKey, u64, PREFIX_LEN>,
     asked: &Asked<'_>,
 ) -> io::Result<bool> {
     let call = asked.call;
     if !LENDING.contains(&call) && !FILLING.contains(&call) && !OTHERS.contains(&call) {
         return Ok(false);
     }
-    match ZeroEnded::made(rt.alloc(), asked.first) {
+    match EndedKey::made(rt.alloc(), asked.first) {
         Ok(key) => with_key(rt, map, key, call, asked.number(1))?,
         Err(_) => println!(rt; "no key")?,
     }

@@ -22,10 +22,9 @@ mod sets;
 mod two_maps;
 mod walks;
 
-use art_bytes::ZeroEnded;
 use art_map::TreeMap;
 use art_set::TreeSet;
-use key::PlayedKey;
+use key::{EndedKey, FreeKey, PlayedKey};
 use script::{Asked, Script};
 use std::io;
 
@@ -48,7 +47,7 @@ fn answer<K: PlayedKey, const PREFIX_LEN: usize>(
 fn play_free<const PREFIX_LEN: usize>(
     rt: &(impl Print + AllocGlobal),
     script: &mut Script,
-    map: &mut TreeMap<Vec<u8>, u64, PREFIX_LEN>,
+    map: &mut TreeMap<FreeKey, u64, PREFIX_LEN>,
 ) -> io::Result<()> {
     for _ in 0..u64::MAX {
         if !script.read()? {
@@ -67,8 +66,8 @@ fn play_free<const PREFIX_LEN: usize>(
 fn play_ended<const PREFIX_LEN: usize>(
     rt: &(impl Print + AllocGlobal),
     script: &mut Script,
-    map: &mut TreeMap<ZeroEnded, u64, PREFIX_LEN>,
-    other: &mut TreeMap<ZeroEnded, u64, PREFIX_LEN>,
+    map: &mut TreeMap<EndedKey, u64, PREFIX_LEN>,
+    other: &mut TreeMap<EndedKey, u64, PREFIX_LEN>,
 ) -> io::Result<()>
     requires { PREFIX_LEN ≤ 16 }
 {
@@ -89,34 +88,34 @@ fn play_ended<const PREFIX_LEN: usize>(
 }
 
 fn free_0(rt: &(impl Print + AllocGlobal), script: &mut Script) -> io::Result<()> {
-    let mut map: TreeMap<Vec<u8>, u64, 0> = TreeMap::with_prefix_len(rt.alloc());
+    let mut map: TreeMap<FreeKey, u64, 0> = TreeMap::with_prefix_len(rt.alloc());
     play_free(rt, script, &mut map)
 }
 
 fn free_4(rt: &(impl Print + AllocGlobal), script: &mut Script) -> io::Result<()> {
-    let mut map: TreeMap<Vec<u8>, u64, 4> = TreeMap::with_prefix_len(rt.alloc());
+    let mut map: TreeMap<FreeKey, u64, 4> = TreeMap::with_prefix_len(rt.alloc());
     play_free(rt, script, &mut map)
 }
 
 fn free_16(rt: &(impl Print + AllocGlobal), script: &mut Script) -> io::Result<()> {
-    let mut map: TreeMap<Vec<u8>, u64, 16> = TreeMap::new(rt.alloc());
+    let mut map: TreeMap<FreeKey, u64, 16> = TreeMap::new(rt.alloc());
     play_free(rt, script, &mut map)
 }
 
 fn ended_0(rt: &(impl Print + AllocGlobal), script: &mut Script) -> io::Result<()> {
-    let mut map: TreeMap<ZeroEnded, u64, 0> = TreeMap::with_prefix_len(rt.alloc());
+    let mut map: TreeMap<EndedKey, u64, 0> = TreeMap::with_prefix_len(rt.alloc());
     let mut other = TreeMap::with_prefix_len(rt.alloc());
     play_ended(rt, script, &mut map, &mut other)
 }
 
 fn ended_4(rt: &(impl Print + AllocGlobal), script: &mut Script) -> io::Result<()> {
-    let mut map: TreeMap<ZeroEnded, u64, 4> = TreeMap::with_prefix_len(rt.alloc());
+    let mut map: TreeMap<EndedKey, u64, 4> = TreeMap::with_prefix_len(rt.alloc());
     let mut other = TreeMap::with_prefix_len(rt.alloc());
     play_ended(rt, script, &mut map, &mut other)
 }
 
 fn ended_16(rt: &(impl Print + AllocGlobal), script: &mut Script) -> io::Result<()> {
-    let mut map: TreeMap<ZeroEnded, u64, 16> = TreeMap::new(rt.alloc());
+    let mut map: TreeMap<EndedKey, u64, 16> = TreeMap::new(rt.alloc());
     let mut other = TreeMap::with_prefix_len(rt.alloc());
     play_ended(rt, script, &mut map, &mut other)
 }
@@ -125,8 +124,8 @@ fn ended_16(rt: &(impl Print + AllocGlobal), script: &mut Script) -> io::Result<
 fn play_sets<const PREFIX_LEN: usize>(
     rt: &(impl Print + AllocGlobal),
     script: &mut Script,
-    set: &mut TreeSet<ZeroEnded, PREFIX_LEN>,
-    other: &mut TreeSet<ZeroEnded, PREFIX_LEN>,
+    set: &mut TreeSet<EndedKey, PREFIX_LEN>,
+    other: &mut TreeSet<EndedKey, PREFIX_LEN>,
 ) -> io::Result<()>
     requires { PREFIX_LEN ≤ 16 }
 {
@@ -142,19 +141,19 @@ fn play_sets<const PREFIX_LEN: usize>(
 }
 
 fn set_0(rt: &(impl Print + AllocGlobal), script: &mut Script) -> io::Result<()> {
-    let mut set: TreeSet<ZeroEnded, 0> = TreeSet::with_prefix_len(rt.alloc());
+    let mut set: TreeSet<EndedKey, 0> = TreeSet::with_prefix_len(rt.alloc());
     let mut other = TreeSet::with_prefix_len(rt.alloc());
     play_sets(rt, script, &mut set, &mut other)
 }
 
 fn set_4(rt: &(impl Print + AllocGlobal), script: &mut Script) -> io::Result<()> {
-    let mut set: TreeSet<ZeroEnded, 4> = TreeSet::with_prefix_len(rt.alloc());
+    let mut set: TreeSet<EndedKey, 4> = TreeSet::with_prefix_len(rt.alloc());
     let mut other = TreeSet::with_prefix_len(rt.alloc());
     play_sets(rt, script, &mut set, &mut other)
 }
 
 fn set_16(rt: &(impl Print + AllocGlobal), script: &mut Script) -> io::Result<()> {
-    let mut set: TreeSet<ZeroEnded, 16> = TreeSet::new(rt.alloc());
+    let mut set: TreeSet<EndedKey, 16> = TreeSet::new(rt.alloc());
     let mut other = TreeSet::new(rt.alloc());
     play_sets(rt, script, &mut set, &mut other)
 }

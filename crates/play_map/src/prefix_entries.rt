@@ -1,7 +1,7 @@
 // Entries of keys that may be in conflict: `try_entry`, and prefix entries.
 
 use crate::changes::{show_filled, show_key, show_lent, show_refused, show_stored};
-use crate::key::PlayedKey;
+use crate::key::{FreeKey, PlayedKey};
 use crate::script::Asked;
 use crate::walks::{raise, show_in_list};
 use art_bytes::AsBytes;
@@ -10,8 +10,8 @@ use std::io;
 
 fn try_entry<const PREFIX_LEN: usize>(
     rt: &impl Print,
-    map: &mut TreeMap<Vec<u8>, u64, PREFIX_LEN>,
-    key: Vec<u8>,
+    map: &mut TreeMap<FreeKey, u64, PREFIX_LEN>,
+    key: FreeKey,
     number: u64,
 ) -> io::Result<()> {
     match map.try_entry(key) {
@@ -27,8 +27,8 @@ fn try_entry<const PREFIX_LEN: usize>(
 // Puts a value in at a prefix entry, in the place of all that its key overlaps.
 fn insert_over<const PREFIX_LEN: usize>(
     rt: &impl Print,
-    map: &mut TreeMap<Vec<u8>, u64, PREFIX_LEN>,
-    key: Vec<u8>,
+    map: &mut TreeMap<FreeKey, u64, PREFIX_LEN>,
+    key: FreeKey,
     number: u64,
 ) -> io::Result<()> {
     match map.prefix_entry(key).insert_entry(number) {
@@ -40,8 +40,8 @@ fn insert_over<const PREFIX_LEN: usize>(
 // Puts a value in where no equal key is stored, and lends the value that is stored then.
 fn lend<const PREFIX_LEN: usize>(
     rt: &impl Print,
-    map: &mut TreeMap<Vec<u8>, u64, PREFIX_LEN>,
-    key: Vec<u8>,
+    map: &mut TreeMap<FreeKey, u64, PREFIX_LEN>,
+    key: FreeKey,
     call: &str,
     number: u64,
 ) -> io::Result<()> {
@@ -66,8 +66,8 @@ fn lend<const PREFIX_LEN: usize>(
 // The same with the entry that is occupied then.
 fn fill<const PREFIX_LEN: usize>(
     rt: &impl Print,
-    map: &mut TreeMap<Vec<u8>, u64, PREFIX_LEN>,
-    key: Vec<u8>,
+    map: &mut TreeMap<FreeKey, u64, PREFIX_LEN>,
+    key: FreeKey,
     call: &str,
     number: u64,
 ) -> io::Result<()> {
@@ -96,8 +96,8 @@ fn fill<const PREFIX_LEN: usize>(
 // Sets the value of an occupied entry, or of one in conflict alone, by what lends the value or answers the entry.
 fn set<const PREFIX_LEN: usize>(
     rt: &impl Print,
-    map: &mut TreeMap<Vec<u8>, u64, PREFIX_LEN>,
-    key: Vec<u8>,
+    map: &mut TreeMap<FreeKey, u64, PREFIX_LEN>,
+    key: FreeKey,
     call: &str,
     number: u64,
 ) -> io::Result<()> {
@@ -119,7 +119,7 @@ fn set<const PREFIX_LEN: usize>(
 }
 
 // Prints a stored key, or that none is shown.
-fn show_stored_key(rt: &impl Print, key: Option<&Vec<u8>>) -> io::Result<()> {
+fn show_stored_key(rt: &impl Print, key: Option<&FreeKey>) -> io::Result<()> {
     match key {
         Some(key) => println!(rt; "{:?}", key.as_bytes()),
         None => println!(rt; "None"),
@@ -159,8 +159,8 @@ macro_rules! with_inner {
 // It lends the value of a lone pair.
 fn write_value<const PREFIX_LEN: usize>(
     rt: &impl Print,
-    map: &mut TreeMap<Vec<u8>, u64, PREFIX_LEN>,
-    key: Vec<u8>,
+    map: &mut TreeMap<FreeKey, u64, PREFIX_LEN>,
+    key: FreeKey,
     number: u64,
 ) -> io::Result<()> {
     with_inner!(
@@ -178,8 +178,8 @@ fn write_value<const PREFIX_LEN: usize>(
 // It lends that pair.
 fn write_pair<const PREFIX_LEN: usize>(
     rt: &impl Print,
-    map: &mut TreeMap<Vec<u8>, u64, PREFIX_LEN>,
-    key: Vec<u8>,
+    map: &mut TreeMap<FreeKey, u64, PREFIX_LEN>,
+    key: FreeKey,
     number: u64,
 ) -> io::Result<()> {
     with_inner!(
@@ -200,8 +200,8 @@ fn write_pair<const PREFIX_LEN: usize>(
 // The same where there is one, beside its own key.
 fn write_lone_pair<const PREFIX_LEN: usize>(
     rt: &impl Print,
-    map: &mut TreeMap<Vec<u8>, u64, PREFIX_LEN>,
-    key: Vec<u8>,
+    map: &mut TreeMap<FreeKey, u64, PREFIX_LEN>,
+    key: FreeKey,
     number: u64,
 ) -> io::Result<()> {
     with_inner!(
@@ -224,8 +224,8 @@ fn write_lone_pair<const PREFIX_LEN: usize>(
 // It lends the values of all pairs from both ends, to each of which the number is added.
 fn raise_inner<const PREFIX_LEN: usize>(
     rt: &impl Print,
-    map: &mut TreeMap<Vec<u8>, u64, PREFIX_LEN>,
-    key: Vec<u8>,
+    map: &mut TreeMap<FreeKey, u64, PREFIX_LEN>,
+    key: FreeKey,
     number: u64,
 ) -> io::Result<()> {
     with_inner!(
@@ -246,8 +246,8 @@ fn raise_inner<const PREFIX_LEN: usize>(
 // What an entry shows: its key, and the stored key that it concerns.
 fn show_keys<const PREFIX_LEN: usize>(
     rt: &impl Print,
-    map: &mut TreeMap<Vec<u8>, u64, PREFIX_LEN>,
-    key: Vec<u8>,
+    map: &mut TreeMap<FreeKey, u64, PREFIX_LEN>,
+    key: FreeKey,
 ) -> io::Result<()> {
     let entry = map.prefix_entry(key);
     show_key(rt, "", entry.key())?;
@@ -257,8 +257,8 @@ fn show_keys<const PREFIX_LEN: usize>(
 // What an occupied one shows: these, and the value of a lone pair, which is written over.
 fn show_occupied<const PREFIX_LEN: usize>(
     rt: &impl Print,
-    map: &mut TreeMap<Vec<u8>, u64, PREFIX_LEN>,
-    key: Vec<u8>,
+    map: &mut TreeMap<FreeKey, u64, PREFIX_LEN>,
+    key: FreeKey,
     number: u64,
 ) -> io::Result<()> {
     match map.prefix_entry(key) {
@@ -275,8 +275,8 @@ fn show_occupied<const PREFIX_LEN: usize>(
 // What stands at a prefix entry: nothing, a pair, or the pairs that an insertion would remove.
 fn show_place<const PREFIX_LEN: usize>(
     rt: &impl Print,
-    map: &mut TreeMap<Vec<u8>, u64, PREFIX_LEN>,
-    key: Vec<u8>,
+    map: &mut TreeMap<FreeKey, u64, PREFIX_LEN>,
+    key: FreeKey,
 ) -> io::Result<()> {
     let most = map.len();
     match map.prefix_entry(key) {
@@ -337,8 +337,8 @@ const OTHERS: [&str; 5] = [
 
 fn with_key<const PREFIX_LEN: usize>(
     rt: &impl Print,
-    map: &mut TreeMap<Vec<u8>, u64, PREFIX_LEN>,
-    key: Vec<u8>,
+    map: &mut TreeMap<FreeKey, u64, PREFIX_LEN>,
+    key: FreeKey,
     call: &str,
     number: u64,
 ) -> io::Result<()> {
@@ -374,13 +374,13 @@ fn is_known(call: &str) -> bool {
 
 pub fn answer<const PREFIX_LEN: usize>(
     rt: &(impl Print + AllocGlobal),
-    map: &mut TreeMap<Vec<u8>, u64, PREFIX_LEN>,
+    map: &mut TreeMap<FreeKey, u64, PREFIX_LEN>,
     asked: &Asked<'_>,
 ) -> io::Result<bool> {
     if !is_known(asked.call) {
         return Ok(false);
     }
-    match Vec::made(rt.alloc(), asked.first) {
+    match FreeKey::made(rt.alloc(), asked.first) {
         Ok(key) => with_key(rt, map, key, asked.call, asked.number(1))?,
         Err(_) => println!(rt; "no key")?,
     }

@@ -3,10 +3,10 @@ ghost use Rattle.std.specs.Prelude.{◌≡◌, ◌⊎◌, ◌≤◌, [], IsTrue}
 ghost use Rattle.std.specs.Range.Bound.{bound_map};
 ghost use Rattle.art_walks.specs.Bounds.{AreValidKeyBounds};
 
-use crate::key::PlayedKey;
+use crate::key::{EndedKey, PlayedKey};
 use crate::script::{Asked, bound_of};
 use crate::walks::left;
-use art_bytes::{AsBytes, SliceKey, ZeroEnded};
+use art_bytes::{AsBytes, SliceKey};
 use art_set::TreeSet;
 use art_walks::bounds_are_valid;
 use std::alloc::AllocError;
@@ -16,7 +16,7 @@ use std::{io, mem};
 
 // Whether a set has a range between two bounds. One that is empty has, whatever they are.
 fn has_range<Q: AsBytes, const PREFIX_LEN: usize>(
-    set: &TreeSet<ZeroEnded, PREFIX_LEN>,
+    set: &TreeSet<EndedKey, PREFIX_LEN>,
     start: Bound<&Q>,
     end: Bound<&Q>,
 ) -> bool
@@ -27,28 +27,28 @@ fn has_range<Q: AsBytes, const PREFIX_LEN: usize>(
 }
 
 // Whether the first byte of a key is even: what closures ask.
-fn is_even(key: &ZeroEnded) -> bool {
+fn is_even(key: &EndedKey) -> bool {
     match key.as_bytes().first() {
         Some(byte) => *byte % 2 == 0,
         None => true,
     }
 }
 
-fn show(rt: &impl Print, key: Option<&ZeroEnded>) -> io::Result<()> {
+fn show(rt: &impl Print, key: Option<&EndedKey>) -> io::Result<()> {
     match key {
         Some(key) => println!(rt; "{:?}", key.as_bytes()),
         None => println!(rt; "None"),
     }
 }
 
-fn show_in_list(rt: &impl Print, key: Option<&ZeroEnded>) -> io::Result<()> {
+fn show_in_list(rt: &impl Print, key: Option<&EndedKey>) -> io::Result<()> {
     match key {
         Some(key) => print!(rt; "{:?}, ", key.as_bytes()),
         None => print!(rt; "None, "),
     }
 }
 
-fn show_taken(rt: &impl Print, taken: Result<Option<ZeroEnded>, AllocError>) -> io::Result<()> {
+fn show_taken(rt: &impl Print, taken: Result<Option<EndedKey>, AllocError>) -> io::Result<()> {
     match taken {
         Ok(Some(key)) => println!(rt; "{:?}", key.as_bytes()),
         Ok(None) => println!(rt; "None"),
@@ -62,7 +62,7 @@ fn show_done(rt: &impl Print, done: bool) -> io::Result<()> {
 
 fn show_keys<const PREFIX_LEN: usize>(
     rt: &impl Print,
-    set: &TreeSet<ZeroEnded, PREFIX_LEN>,
+    set: &TreeSet<EndedKey, PREFIX_LEN>,
     ends: &str,
 ) -> io::Result<()> {
     let mut keys = set.iter();
@@ -80,7 +80,7 @@ fn show_keys<const PREFIX_LEN: usize>(
 
 fn show_range<const PREFIX_LEN: usize>(
     rt: &impl Print,
-    set: &TreeSet<ZeroEnded, PREFIX_LEN>,
+    set: &TreeSet<EndedKey, PREFIX_LEN>,
     asked: &Asked<'_>,
 ) -> io::Result<()> {
     let (first, second) = (SliceKey(asked.first), SliceKey(asked.second));
@@ -101,14 +101,22 @@ fn show_range<const PREFIX_LEN: usize>(
     println!(rt; "end")
 }
 
-// What two sets have, from the front, and whether it took no more comparisons than both have keys.
+// What two sets have, from the front, or how many keys that are, and whether it took no more comparisons than both have
+// keys.
 macro_rules! show_merge {
-    ($rt:ident, $merge:expr, $most:expr) => {{
+    ($rt:ident, $merge:expr, $most:expr, $counts:expr) => {{
         let mut keys = $merge;
+        let mut count = 0_u64;
         for _ in 0..$most {
             if let Some(key) = keys.next() {
-                show_in_list($rt, Some(key))?;
+                count = count.wrapping_add(1);
+                if !$counts {
+                    show_in_list($rt, Some(key))?;
+                }
             }
+        }
+        if $counts {
+            print!($rt; "{count} ")?;
         }
         println!($rt; "{}", keys.comparisons() <= $most)
     }};
@@ -116,24 +124,25 @@ macro_rules! show_merge {
 
 fn merge<const PREFIX_LEN: usize>(
     rt: &impl Print,
-    set: &TreeSet<ZeroEnded, PREFIX_LEN>,
-    other: &TreeSet<ZeroEnded, PREFIX_LEN>,
-    call: &str,
+    set: &TreeSet<EndedKey, PREFIX_LEN>,
+    other: &TreeSet<EndedKey, PREFIX_LEN>,
+    asked: &Asked<'_>,
 ) -> io::Result<()> {
     let most = set.len().saturating_add(other.len());
-    match call {
-        "difference" => show_merge!(rt, set.difference(other), most),
-        "symmetric_difference" => show_merge!(rt, set.symmetric_difference(other), most),
-        "intersection" => show_merge!(rt, set.intersection(other), most),
-        _ => show_merge!(rt, set.union(other), most),
+    let counts = asked.words[0] == "count";
+    match asked.call {
+        "difference" => show_merge!(rt, set.difference(other), most, counts),
+        "symmetric_difference" => { show_merge!(rt, set.symmetric_difference(other), most, counts) }
+        "intersection" => show_merge!(rt, set.intersection(other), most, counts),
+        _ => show_merge!(rt, set.union(other), most, counts),
     }
 }
 
 // The second set becomes what both have by an operator.
 fn operate<const PREFIX_LEN: usize>(
     rt: &impl Print,
-    set: &TreeSet<ZeroEnded, PREFIX_LEN>,
-    other: &mut TreeSet<ZeroEnded, PREFIX_LEN>,
+    set: &TreeSet<EndedKey, PREFIX_LEN>,
+    other: &mut TreeSet<EndedKey, PREFIX_LEN>,
     call: &str,
 ) -> io::Result<()>
     requires { PREFIX_LEN ≤ 16 }
@@ -155,7 +164,7 @@ fn operate<const PREFIX_LEN: usize>(
 
 fn extract<const PREFIX_LEN: usize>(
     rt: &impl Print,
-    set: &mut TreeSet<ZeroEnded, PREFIX_LEN>,
+    set: &mut TreeSet<EndedKey, PREFIX_LEN>,
     asked: &Asked<'_>,
 ) -> io::Result<()> {
     let (first, second) = (SliceKey(asked.first), SliceKey(asked.second));
@@ -177,8 +186,8 @@ fn extract<const PREFIX_LEN: usize>(
 // Look-ups, walks and comparisons.
 fn read<const PREFIX_LEN: usize>(
     rt: &impl Print,
-    set: &TreeSet<ZeroEnded, PREFIX_LEN>,
-    other: &TreeSet<ZeroEnded, PREFIX_LEN>,
+    set: &TreeSet<EndedKey, PREFIX_LEN>,
+    other: &TreeSet<EndedKey, PREFIX_LEN>,
     asked: &Asked<'_>,
 ) -> io::Result<bool> {
     let query = SliceKey(asked.first);
@@ -194,7 +203,7 @@ fn read<const PREFIX_LEN: usize>(
         "is_subset" => println!(rt; "{}", set.is_subset(other))?,
         "is_superset" => println!(rt; "{}", set.is_superset(other))?,
         "difference" | "symmetric_difference" | "intersection" | "union" => {
-            merge(rt, set, other, asked.call)?
+            merge(rt, set, other, asked)?
         }
         "compare" => match set.cmp(other) {
             Ordering::Less => println!(rt; "less {}", set == other)?,
@@ -209,8 +218,8 @@ fn read<const PREFIX_LEN: usize>(
 // Calls that a key is handed in to.
 fn put<const PREFIX_LEN: usize>(
     rt: &impl Print,
-    set: &mut TreeSet<ZeroEnded, PREFIX_LEN>,
-    key: ZeroEnded,
+    set: &mut TreeSet<EndedKey, PREFIX_LEN>,
+    key: EndedKey,
     call: &str,
 ) -> io::Result<()> {
     match call {
@@ -230,10 +239,30 @@ fn put<const PREFIX_LEN: usize>(
     }
 }
 
+// Puts in each tail of the bytes, the longest first, and prints how many were new.
+fn put_tails<const PREFIX_LEN: usize>(
+    rt: &(impl Print + AllocGlobal),
+    set: &mut TreeSet<EndedKey, PREFIX_LEN>,
+    bytes: &[u8],
+) -> io::Result<()> {
+    let Ok(shared) = EndedKey::shared(rt.alloc(), bytes) else {
+        return println!(rt; "no key");
+    };
+    let mut new = 0_u64;
+    for from in 0..shared.as_bytes().len() {
+        match set.insert(EndedKey::tail(&shared, from)?) {
+            Ok(true) => new = new.wrapping_add(1),
+            Ok(false) => {}
+            Err(_) => return println!(rt; "memory"),
+        }
+    }
+    println!(rt; "{new}")
+}
+
 // Calls that take keys out.
 fn take<const PREFIX_LEN: usize>(
     rt: &impl Print,
-    set: &mut TreeSet<ZeroEnded, PREFIX_LEN>,
+    set: &mut TreeSet<EndedKey, PREFIX_LEN>,
     asked: &Asked<'_>,
 ) -> io::Result<bool> {
     let query = SliceKey(asked.first);
@@ -262,7 +291,7 @@ fn take<const PREFIX_LEN: usize>(
 // Takes the set's keys from the ends that letters tell; the others are dropped.
 fn into_iter<const PREFIX_LEN: usize>(
     rt: &(impl Print + AllocGlobal),
-    set: &mut TreeSet<ZeroEnded, PREFIX_LEN>,
+    set: &mut TreeSet<EndedKey, PREFIX_LEN>,
     ends: &str,
 ) -> io::Result<()>
     requires { PREFIX_LEN ≤ 16 }
@@ -280,18 +309,26 @@ fn into_iter<const PREFIX_LEN: usize>(
     println!(rt; "end")
 }
 
-// The second set's keys go behind those in the bag, and it is empty then. So a call that is given the bag takes no
-// memory but its own.
+// The second set's keys go behind those in the bag, from its front or from its back, and it is empty then. So a call
+// that is given the bag takes no memory but its own.
 fn drain<const PREFIX_LEN: usize>(
     rt: &(impl Print + AllocGlobal),
-    other: &mut TreeSet<ZeroEnded, PREFIX_LEN>,
-    bag: &mut Vec<ZeroEnded>,
+    other: &mut TreeSet<EndedKey, PREFIX_LEN>,
+    bag: &mut Vec<EndedKey>,
+    end: &str,
 ) -> io::Result<()>
     requires { PREFIX_LEN ≤ 16 }
 {
     let mut walk = mem::replace(other, TreeSet::with_prefix_len(rt.alloc())).into_iter();
-    while let Some(key) = walk.next() {
-        bag.push(key)?;
+    for _ in 0..walk.len() {
+        let key = if end == "b" {
+            walk.next_back()
+        } else {
+            walk.next()
+        };
+        if let Some(key) = key {
+            bag.push(key)?;
+        }
     }
     println!(rt; "done")
 }
@@ -299,8 +336,8 @@ fn drain<const PREFIX_LEN: usize>(
 // Calls that are given the bag's keys.
 fn fill<const PREFIX_LEN: usize>(
     rt: &(impl Print + AllocGlobal),
-    set: &mut TreeSet<ZeroEnded, PREFIX_LEN>,
-    bag: &mut Vec<ZeroEnded>,
+    set: &mut TreeSet<EndedKey, PREFIX_LEN>,
+    bag: &mut Vec<EndedKey>,
     call: &str,
 ) -> io::Result<()>
     requires { PREFIX_LEN ≤ 16 }
@@ -329,9 +366,9 @@ fn fill<const PREFIX_LEN: usize>(
 // Calls that make a set.
 fn make<const PREFIX_LEN: usize>(
     rt: &(impl Print + AllocGlobal),
-    set: &mut TreeSet<ZeroEnded, PREFIX_LEN>,
-    other: &mut TreeSet<ZeroEnded, PREFIX_LEN>,
-    bag: &mut Vec<ZeroEnded>,
+    set: &mut TreeSet<EndedKey, PREFIX_LEN>,
+    other: &mut TreeSet<EndedKey, PREFIX_LEN>,
+    bag: &mut Vec<EndedKey>,
     asked: &Asked<'_>,
 ) -> io::Result<bool>
     requires { PREFIX_LEN ≤ 16 }
@@ -360,7 +397,7 @@ fn make<const PREFIX_LEN: usize>(
             Err(_) => println!(rt; "memory")?,
         },
         "into_iter" => into_iter(rt, set, asked.words[0])?,
-        "drain" => drain(rt, other, bag)?,
+        "drain" => drain(rt, other, bag, asked.words[0])?,
         "extend" | "from_vec" | "from_iter" => fill(rt, set, bag, asked.call)?,
         "and" | "or" | "xor" | "minus" => operate(rt, set, other, asked.call)?,
         _ => return Ok(false),
@@ -371,15 +408,18 @@ fn make<const PREFIX_LEN: usize>(
 // Answers a line.
 pub fn answer<const PREFIX_LEN: usize>(
     rt: &(impl Print + AllocGlobal),
-    set: &mut TreeSet<ZeroEnded, PREFIX_LEN>,
-    other: &mut TreeSet<ZeroEnded, PREFIX_LEN>,
-    bag: &mut Vec<ZeroEnded>,
+    set: &mut TreeSet<EndedKey, PREFIX_LEN>,
+    other: &mut TreeSet<EndedKey, PREFIX_LEN>,
+    bag: &mut Vec<EndedKey>,
     asked: &Asked<'_>,
 ) -> io::Result<()>
     requires { PREFIX_LEN ≤ 16 }
 {
+    if asked.call == "tails" {
+        return put_tails(rt, set, asked.first);
+    }
     if ["insert", "try_insert", "replace"].contains(&asked.call) {
-        return match ZeroEnded::made(rt.alloc(), asked.first) {
+        return match EndedKey::made(rt.alloc(), asked.first) {
             Ok(key) => put(rt, set, key, asked.call),
             Err(_) => println!(rt; "no key"),
         };

@@ -3,22 +3,23 @@
 ghost use Rattle.std.specs.Prelude.{◌≤◌};
 
 use crate::changes::show_refused;
+use crate::key::EndedKey;
 use crate::prefix_removals::{most_read, show_removed};
 use crate::script::Asked;
 use crate::walks::left;
-use art_bytes::{AsBytes, SliceKey, ZeroEnded};
+use art_bytes::{AsBytes, SliceKey};
 use art_map::TreeMap;
 use std::cmp::Ordering;
 use std::{io, mem};
 
 /// Pairs for calls that are given many at once.
-pub type Bag = Vec<(ZeroEnded, u64)>;
+pub type Bag = Vec<(EndedKey, u64)>;
 
 // The pairs from a key on become the second map's; it had to be empty.
 fn split_off<const PREFIX_LEN: usize>(
     rt: &impl Print,
-    map: &mut TreeMap<ZeroEnded, u64, PREFIX_LEN>,
-    other: &mut TreeMap<ZeroEnded, u64, PREFIX_LEN>,
+    map: &mut TreeMap<EndedKey, u64, PREFIX_LEN>,
+    other: &mut TreeMap<EndedKey, u64, PREFIX_LEN>,
     key: &[u8],
 ) -> io::Result<()>
     requires { PREFIX_LEN ≤ 16 }
@@ -35,7 +36,7 @@ fn split_off<const PREFIX_LEN: usize>(
 // Takes the map's pairs from the ends that letters tell; the others are dropped.
 fn into_iter<const PREFIX_LEN: usize>(
     rt: &(impl Print + AllocGlobal),
-    map: &mut TreeMap<ZeroEnded, u64, PREFIX_LEN>,
+    map: &mut TreeMap<EndedKey, u64, PREFIX_LEN>,
     ends: &str,
 ) -> io::Result<()>
     requires { PREFIX_LEN ≤ 16 }
@@ -59,7 +60,7 @@ fn into_iter<const PREFIX_LEN: usize>(
 // The same of its keys alone.
 fn into_keys<const PREFIX_LEN: usize>(
     rt: &(impl Print + AllocGlobal),
-    map: &mut TreeMap<ZeroEnded, u64, PREFIX_LEN>,
+    map: &mut TreeMap<EndedKey, u64, PREFIX_LEN>,
     ends: &str,
 ) -> io::Result<()>
     requires { PREFIX_LEN ≤ 16 }
@@ -85,7 +86,7 @@ fn into_keys<const PREFIX_LEN: usize>(
 // The same of its values alone.
 fn into_values<const PREFIX_LEN: usize>(
     rt: &(impl Print + AllocGlobal),
-    map: &mut TreeMap<ZeroEnded, u64, PREFIX_LEN>,
+    map: &mut TreeMap<EndedKey, u64, PREFIX_LEN>,
     ends: &str,
 ) -> io::Result<()>
     requires { PREFIX_LEN ≤ 16 }
@@ -102,19 +103,27 @@ fn into_values<const PREFIX_LEN: usize>(
     println!(rt; "end")
 }
 
-// The second map's pairs go behind those in the bag, and it is empty then. So a call that is given the bag takes no
-// memory but its own. (A walk that owns a map is not handed on: the proof that it may be dropped there is not found for
-// any number of stored bytes.)
+// The second map's pairs go behind those in the bag, from its front or from its back, and it is empty then. So a call
+// that is given the bag takes no memory but its own. (A walk that owns a map is not handed on: the proof that it may be
+// dropped there is not found for any number of stored bytes.)
 fn drain<const PREFIX_LEN: usize>(
     rt: &(impl Print + AllocGlobal),
-    other: &mut TreeMap<ZeroEnded, u64, PREFIX_LEN>,
+    other: &mut TreeMap<EndedKey, u64, PREFIX_LEN>,
     bag: &mut Bag,
+    end: &str,
 ) -> io::Result<()>
     requires { PREFIX_LEN ≤ 16 }
 {
     let mut walk = mem::replace(other, TreeMap::with_prefix_len(rt.alloc())).into_iter();
-    while let Some(pair) = walk.next() {
-        bag.push(pair)?;
+    for _ in 0..walk.len() {
+        let pair = if end == "b" {
+            walk.next_back()
+        } else {
+            walk.next()
+        };
+        if let Some(pair) = pair {
+            bag.push(pair)?;
+        }
     }
     println!(rt; "done")
 }
@@ -122,7 +131,7 @@ fn drain<const PREFIX_LEN: usize>(
 // The bag's pairs are put in one by one.
 fn extend<const PREFIX_LEN: usize>(
     rt: &(impl Print + AllocGlobal),
-    map: &mut TreeMap<ZeroEnded, u64, PREFIX_LEN>,
+    map: &mut TreeMap<EndedKey, u64, PREFIX_LEN>,
     bag: &mut Bag,
 ) -> io::Result<()> {
     match map.extend(mem::replace(bag, Vec::new(rt.alloc()))) {
@@ -134,7 +143,7 @@ fn extend<const PREFIX_LEN: usize>(
 // The map is made anew of the bag's pairs.
 fn make<const PREFIX_LEN: usize>(
     rt: &(impl Print + AllocGlobal),
-    map: &mut TreeMap<ZeroEnded, u64, PREFIX_LEN>,
+    map: &mut TreeMap<EndedKey, u64, PREFIX_LEN>,
     bag: &mut Bag,
     call: &str,
 ) -> io::Result<()>
@@ -158,8 +167,8 @@ fn make<const PREFIX_LEN: usize>(
 // The second map becomes a clone of the first.
 fn clone<const PREFIX_LEN: usize>(
     rt: &impl Print,
-    map: &TreeMap<ZeroEnded, u64, PREFIX_LEN>,
-    other: &mut TreeMap<ZeroEnded, u64, PREFIX_LEN>,
+    map: &TreeMap<EndedKey, u64, PREFIX_LEN>,
+    other: &mut TreeMap<EndedKey, u64, PREFIX_LEN>,
 ) -> io::Result<()>
     requires { PREFIX_LEN ≤ 16 }
 {
@@ -175,8 +184,8 @@ fn clone<const PREFIX_LEN: usize>(
 // All pairs behind a prefix leave both maps: both removals are made ready before either is applied.
 fn remove_from_both<const PREFIX_LEN: usize>(
     rt: &impl Print,
-    map: &mut TreeMap<ZeroEnded, u64, PREFIX_LEN>,
-    other: &mut TreeMap<ZeroEnded, u64, PREFIX_LEN>,
+    map: &mut TreeMap<EndedKey, u64, PREFIX_LEN>,
+    other: &mut TreeMap<EndedKey, u64, PREFIX_LEN>,
     prefix: &[u8],
 ) -> io::Result<()> {
     let most = most_read(map, prefix);
@@ -194,8 +203,8 @@ fn remove_from_both<const PREFIX_LEN: usize>(
 // How the two maps compare.
 fn compare<const PREFIX_LEN: usize>(
     rt: &impl Print,
-    map: &TreeMap<ZeroEnded, u64, PREFIX_LEN>,
-    other: &TreeMap<ZeroEnded, u64, PREFIX_LEN>,
+    map: &TreeMap<EndedKey, u64, PREFIX_LEN>,
+    other: &TreeMap<EndedKey, u64, PREFIX_LEN>,
 ) -> io::Result<()> {
     let order = match map.cmp(other) {
         Ordering::Less => "less",
@@ -207,8 +216,8 @@ fn compare<const PREFIX_LEN: usize>(
 
 pub fn answer<const PREFIX_LEN: usize>(
     rt: &(impl Print + AllocGlobal),
-    map: &mut TreeMap<ZeroEnded, u64, PREFIX_LEN>,
-    other: &mut TreeMap<ZeroEnded, u64, PREFIX_LEN>,
+    map: &mut TreeMap<EndedKey, u64, PREFIX_LEN>,
+    other: &mut TreeMap<EndedKey, u64, PREFIX_LEN>,
     bag: &mut Bag,
     asked: &Asked<'_>,
 ) -> io::Result<bool>
@@ -219,7 +228,7 @@ pub fn answer<const PREFIX_LEN: usize>(
             Ok(()) => println!(rt; "done")?,
             Err(_) => println!(rt; "memory")?,
         },
-        "drain" => drain(rt, other, bag)?,
+        "drain" => drain(rt, other, bag, asked.words[0])?,
         "extend" => extend(rt, map, bag)?,
         "from_vec" | "from_iter" => make(rt, map, bag, asked.call)?,
         "clone" => clone(rt, map, other)?,

@@ -1,10 +1,7 @@
-// Scenarios for want of memory. Each builds a state, prints it, makes one call between two lines on the standard
-// error, prints the state again, and after a refusal makes the call once more. The runner refuses memory between
-// those two lines. With no word, every scenario is run.
+// Scenarios for want of memory of calls that make keys or read them. Each prints what there is, makes one call between
+// two lines on the standard error, prints what there is then, and after a refusal makes the call once more. The runner
+// refuses memory between those two lines. With no word, every scenario is run.
 #![tactic(auto)]
-
-mod map;
-mod operations;
 
 use art_bytes::{
     AsBytes, BytesMapping, ConcatTuple, Mapped, ToIBE, ToOctets, ToUBE, ZeroEnded, ZeroEndedError,
@@ -244,7 +241,7 @@ fn run_key(rt: &(impl Print + Eprint + AllocGlobal), name: &str) -> io::Result<(
         "zero_ended_of_a_zero_takes_no_memory" => zero_ended_of_a_zero(rt),
         "zero_ended_clone" => zero_ended_clone(rt),
         "zero_ended_to_bytes_takes_no_memory" => zero_ended_to_bytes(rt),
-        _ => map::run(rt, name),
+        _ => println!(rt; "unknown"),
     }
 }
 
@@ -283,8 +280,6 @@ fn main(rt: HostRuntime) -> io::Result<()> {
     }
     if !is_named {
         run_each(&rt, &NAMES)?;
-        run_each(&rt, &map::NAMES)?;
-        run_each(&rt, &operations::NAMES)?;
     }
     Ok(())
 }
