@@ -6,9 +6,9 @@ The keys are so many bytes 01 and then 00, for each number up to one below 100,0
 longest, each below the one before. A call that goes down by calling itself would need more stack than there is. The
 keys share their bytes (`tails`), else they would take gigabytes. Each call of the tables of tests/maps.py is made with
 keys that are stored, absent, in conflict, and go on behind one, near the root, halfway and at the last branch, and its
-answer is held against the model's; behind a call that changes keys the checker counts the nodes of a map. A call that
-goes down once for each of many keys is made for one length of prefixes. The program as the other compiler makes it plays
-over keys of 5,000 bytes.
+answer is held against the model's; behind a call that changes keys the checker counts the nodes of a map, of the deepest
+behind some. A call that goes down once for each of many keys is made for one length of prefixes. The program as the
+other compiler makes it plays over keys of 5,000 bytes.
 """
 import functools
 import itertools
@@ -43,6 +43,8 @@ WITH_MORE = ("difference", "symmetric_difference", "xor", "minus", "compare", "i
 WITH_TWO = ("intersection", "and")
 # The call that goes down once for each key.
 SQUARE = "or"
+# Calls behind which the checker counts the nodes of the deepest maps too.
+CHECKED = ("try_insert", "prefix_insert", "remove", "extraction", "remove_prefix", "split_off", "append", "from_vec")
 
 
 class Key(tuple):
@@ -247,7 +249,7 @@ def script_of(kind, size, has_square):
     for call in tables(kind):
         if call == SQUARE and not has_square:
             continue
-        checked = kind == "set"
+        checked = kind == "set" or size == DEEP and call not in CHECKED
         for words in words_for(script, call, size):
             script.ready()
             for line in before(script, call, size):
