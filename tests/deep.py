@@ -33,7 +33,7 @@ RUNS = (DEEP, 0, ""), (DEEP, 4, ""), (DEEP, 16, ""), (SMALL, 4, ""), (SMALL, 4, 
 FEW = 120
 ENDS, STEPS = "fbfb", "fbpq"
 # Calls with a front of many keys, where none prints them all.
-COUNTED = ("prefix_insert", "prefix_get", "prefix_get_key_value", "get", "remove", "contains_key", "try_insert")
+COUNTED = ("prefix_insert", "prefix_get", "prefix_get_key_value", "get", "remove", "contains_key", "try_insert", "put_at")
 # Calls that leave a map without most of its keys, and calls that use both maps, between which the keys are parted.
 EMPTYING = ("clear", "retain", "into_iter", "into_keys", "into_values", "remove_prefix", "apply_prefix")
 EMPTYING += ("remove_from_both",)
@@ -41,8 +41,10 @@ WITH_OTHER = ("append", "swap", "extend")
 # Calls before which the other one has all keys but two, and calls before which it has these two.
 WITH_MORE = ("difference", "symmetric_difference", "xor", "minus", "compare", "is_subset", "is_superset", "is_disjoint")
 WITH_TWO = ("intersection", "and")
-# The call that goes down once for each key.
+# The call that goes down once for each key. (In any order that puts each above the others in turn, the least key, which
+# is looked at for a prefix that is not stored, would be the deepest.)
 SQUARE = "or"
+OPERATORS = ("and", "or", "xor", "minus")
 # Calls behind which the checker counts the nodes of the deepest maps too.
 CHECKED = ("try_insert", "prefix_insert", "remove", "extraction", "remove_prefix", "split_off", "append", "from_vec")
 
@@ -259,6 +261,8 @@ def script_of(kind, size, has_square):
             if not checked and len(script.stored()) != stored:
                 script.play("check")
                 checked = True
+            for line in ["swap", "len", "iter fb"] * (call in OPERATORS):
+                script.play(line)
     return script.lines, "".join(f"{it}\n" for it in script.told)
 
 
@@ -280,6 +284,7 @@ def play(program, prefix_len, kind, lines, wanted):
 def main():
     for module in (map_model, map_entries, set_model):
         module.bytes_in, module.shown, module.common = Key.spelled, shown, common
+    map_words.shown = shown
     word, counts = sys.argv[1] if len(sys.argv) > 1 else "", {True: 0, False: 0}
     resource.setrlimit(resource.RLIMIT_CORE, (0, 0))
     for kind, (size, prefix_len, by) in itertools.product(maps.KINDS, RUNS):

@@ -10,20 +10,20 @@ class Entries:
         made = 0 if "default" in call else len(key) if "with_key" in call else number
         value = self.pairs.get(key, made)
         self.pairs[key] = number + 1 & BOTH
-        return f"{shown(key)} {value}" if call.endswith("_entry") else str(value)
+        return f"{shown(self.pairs.kept(key))} {value}" if call.endswith("_entry") else str(value)
 
     def call_insert_entry(self, word, number, *_):
         key = self.key(word)
         if key is None:
             return "no key"
         self.pairs[key] = int(number or 0) + 1
-        return f"{shown(key)} {int(number or 0)}"
+        return f"{shown(self.pairs.kept(key))} {int(number or 0)}"
 
     def call_and_modify(self, word, number, *_):
         key = self.key(word)
         if key in self.pairs:
             self.pairs[key] = self.pairs[key] + int(number or 0) & BOTH
-        return "no key" if key is None else shown(key)
+        return "no key" if key is None else shown(self.pairs.kept(key))
 
     def call_entry_insert(self, word, number, *_):
         key = self.key(word)
@@ -48,7 +48,7 @@ class Entries:
 
     def call_into_key(self, word, *_):
         key = self.key(word)
-        return "no key" if key is None else "occupied " * (key in self.pairs) + shown(key)
+        return "no key" if key is None else "occupied " * (key in self.pairs) + shown(self.pairs.kept(key))
 
     def call_vacant_insert_entry(self, word, number, *_):
         told = self.call_into_key(word)
@@ -84,18 +84,25 @@ class Entries:
             made = "0" if "default" in call else len(key) if "with_key" in call else number
             self.put_over(key, made)
         value, self.pairs[key] = self.pairs[key], int(number or 0) + 1 & BOTH
-        return f"{shown(key)} {value}" if call.endswith("_entry") else str(value)
+        return f"{shown(self.pairs.kept(key))} {value}" if call.endswith("_entry") else str(value)
+
+    def write_over(self, key, number):
+        """The value of an entry: of a stored key, which stays, or else with its own in the place of what it overlaps."""
+        if key in self.pairs:
+            self.pairs[key] = int(number or 0)
+        else:
+            self.put_over(key, number)
 
     def call_occupied_insert(self, word, number, *_):
         key = self.key(word)
         if not self.overlapped(key):
             return "vacant"
-        self.put_over(key, int(number or 0) + 1)
+        self.write_over(key, int(number or 0) + 1)
         return str(int(number or 0))
 
     def call_occupied_insert_entry(self, word, number, *_):
         told = self.call_occupied_insert(word, number)
-        return told if told == "vacant" else f"{shown(self.key(word))} {told}"
+        return told if told == "vacant" else f"{shown(self.pairs.kept(self.key(word)))} {told}"
 
     def inner(self, word, use):
         over = self.overlapped(self.key(word))
@@ -113,7 +120,7 @@ class Entries:
     def written_lone(self, over, number):
         if len(over) > 1:
             return "None\nNone"
-        return f"{shown(over[0])}\n{self.write(over[0], number)}"
+        return f"{shown(self.pairs.kept(over[0]))}\n{self.write(over[0], number)}"
 
     def call_inner_pair_mut(self, word, number, *_):
         return self.inner(word, lambda over: self.written_lone(over, number).split("\n")[0])
@@ -132,7 +139,8 @@ class Entries:
     def call_prefix_keys(self, word, *_):
         key = self.key(word)
         over = self.overlapped(key)
-        return f"{shown(key)}\n{shown(over[0] if over else key) if len(over) < 2 else 'None'}"
+        stored = shown(self.pairs.kept(over[0] if over else key)) if len(over) < 2 else "None"
+        return f"{shown(self.pairs.kept(key))}\n{stored}"
 
     def call_occupied_shown(self, word, number, *_):
         over = self.overlapped(self.key(word))
@@ -147,5 +155,5 @@ class Entries:
         key = self.key(word)
         if key is None:
             return "no key"
-        self.put_over(key, number)
+        self.write_over(key, number)
         return self.item(key)

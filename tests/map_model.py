@@ -1,11 +1,12 @@
 """What play_map has to answer to a line over a map, by a model made from the contracts. It knows no tree: a map is a
 sorted list."""
 import itertools
-from bisect import bisect_left
+from bisect import bisect_left, bisect_right
 from collections import Counter
 
 from map_entries import Entries
-from map_words import BOTH, CLASSES, FILLING, PREFIX_FILLING, SHRINKING, Pairs, Refused, bytes_in, common, option, shown
+from map_words import BOTH, CLASSES, FILLING, PREFIX_FILLING, SHRINKING, Pairs, Refused, bytes_in, common, hashed
+from map_words import number, option, shown, text, untagged, with_tag
 
 
 class Model(Entries):
@@ -28,14 +29,14 @@ class Model(Entries):
         """A key that is handed in, or None where there is none of these bytes."""
         key = bytes_in(word)
         if not self.is_ended:
-            return key
-        return None if 0 in key else key + b"\0"
+            return with_tag(key, word)
+        return None if 0 in key else with_tag(key + b"\0", word)
 
     def sorted(self):
         return list(self.pairs.keys_in_order)
 
     def item(self, key):
-        return "None" if key is None else f"{shown(key)} {self.pairs[key]}"
+        return "None" if key is None else f"{shown(self.pairs.kept(key))} {self.pairs[key]}"
 
     def front_of(self, query):
         return next((query[:n] for n in range(len(query) + 1) if query[:n] in self.pairs), None)
@@ -103,7 +104,7 @@ class Model(Entries):
     def call_prefix_get_key_value_mut(self, word, number, *_):
         key = self.front_of(bytes_in(word))
         self.write(key, number)
-        return "None" if key is None else shown(key)
+        return "None" if key is None else shown(self.pairs.kept(key))
 
     def call_check(self, *_):
         keys = self.sorted()
@@ -114,24 +115,52 @@ class Model(Entries):
 
     call_audit = call_check
 
+    # Look-ups that count the nodes that are read.
+    def read(self, key):
+        """A pair, and how many nodes stand on its path: one where its key parts from any other, and its leaf."""
+        if key is None or key not in self.pairs:
+            return "None"
+        parts = {len(common(key, it)) for it in self.pairs.keys_in_order if it != key}
+        return f"{self.item(key)} {len(parts) + 1}"
+
+    def call_read_get(self, word, *_):
+        return self.read(bytes_in(word))
+
+    def call_read_prefix_get(self, word, *_):
+        return self.read(self.front_of(bytes_in(word)))
+
+    def first_three(self, keys):
+        return "".join(f"{self.item(key)}, " for key in [*keys[:3], None, None, None][:3]) + "true"
+
+    def call_read_prefix(self, word, *_):
+        return self.first_three(self.behind(word))
+
+    def call_read_range(self, word, *_):
+        keys = self.pairs.keys_in_order
+        return self.first_three(keys[bisect_right(keys, bytes_in(word)) :])
+
     # Changes.
     def call_try_insert(self, word, number, *_):
         key = self.key(word)
         if key is None:
             return "no key"
         if self.overlapped(key) not in ([], [key]):
-            return f"prefix {shown(key)} {int(number or 0)}, {shown(key)}"
+            return f"prefix {shown(key)} {int(number or 0)}, {shown(untagged(key))}"
         old = self.pairs.get(key)
-        self.pairs[key] = int(number or 0)
+        self.pairs.put(key, int(number or 0))
         return option(old)
 
     call_insert = call_try_insert
+
+    def call_put_at(self, word, number, *_):
+        told = self.call_try_insert(word, number)
+        return f"prefix {shown(self.key(word))}" if told.startswith("prefix") else told
 
     def call_replace_entry(self, word, number, *_):
         key = self.key(word)
         old = self.item(key if key in self.pairs else None)
         if key is not None:
-            self.pairs[key] = int(number or 0)
+            self.pairs.put(key, int(number or 0))
         return "no key" if key is None else old
 
     def put_over(self, key, number):
@@ -151,7 +180,7 @@ class Model(Entries):
         return "done"
 
     def take(self, key):
-        return f"{shown(key)} {self.pairs.pop(key)}" if key in self.pairs else "None"
+        return f"{shown(self.pairs.kept(key))} {self.pairs.pop(key)}" if key in self.pairs else "None"
 
     def call_remove(self, word, *_):
         return option(self.pairs.pop(bytes_in(word), None))
@@ -192,7 +221,8 @@ class Model(Entries):
         return told
 
     def call_append(self, *_):
-        self.pairs.update(self.other)
+        for key, value in self.other.items():
+            self.pairs.put(key, value)
         self.other = Pairs()
         return "done"
 
@@ -209,7 +239,7 @@ class Model(Entries):
             self.changes += key not in pairs
             if key not in pairs and self.changes == self.refuse:
                 return f"memory {shown(key)} {value}"
-            pairs[key] = value
+            pairs.put(key, value)
         return "done"
 
     def call_extend(self, *_):
@@ -226,6 +256,16 @@ class Model(Entries):
     def call_clone(self, *_):
         self.other = Pairs(self.pairs)
         return "done"
+
+    def call_hash(self, *_):
+        pairs = ((key, number(self.pairs[key])) for key in self.pairs.keys_in_order)
+        return hashed([number(len(self.pairs)), *itertools.chain(*pairs)])
+
+    def call_debug(self, *_):
+        return "{" + ", ".join(f"{text(key)}: {self.pairs[key]}" for key in self.pairs.keys_in_order) + "}"
+
+    def call_extend_from_refs(self, *_):
+        return f"{len(self.pairs)} true"
 
     def call_compare(self, *_):
         mine, others = sorted(self.pairs.items()), sorted(self.other.items())

@@ -8,13 +8,51 @@ PREFIX_FILLING = [f"prefix_{it}{entry}" for it in FILLING for entry in ("", "_en
 BOTH = 0xFFFF_FFFF_FFFF_FFFF
 
 
+class Tagged(bytes):
+    """The bytes of a key with a tag, which is no part of its value."""
+
+    def __new__(cls, key, tag):
+        made = super().__new__(cls, key)
+        made.tag = tag
+        return made
+
+
+def with_tag(key, word):
+    """The key with the tag that a word has, if it has one."""
+    return Tagged(key, int(word.partition("#")[2])) if "#" in word else key
+
+
+def untagged(key):
+    return bytes(key) if isinstance(key, Tagged) else key
+
+
 def bytes_in(word):
+    word = word.partition("#")[0]
     parts = (part.partition("*") for part in word.lstrip("[(").split(".") if part[:1] not in ("", "-"))
     return b"".join(bytes.fromhex(digits) * int(times or 1) for digits, _, times in parts)
 
 
 def shown(key):
-    return str(list(key))
+    tag = getattr(key, "tag", 0)
+    return f"{list(key)}#{tag}" if tag else str(list(key))
+
+
+def text(key):
+    """A key as its text shows it: the bytes, or how many there are."""
+    return shown(key) if len(key) <= 16 else f"{len(key)} bytes"
+
+
+def hashed(writes):
+    """What the hasher of play_map makes of what it is fed with, from the lengths and first bytes alone."""
+    state = 0
+    for write in writes:
+        state = (state * 31 + len(write)) * 31 + (write[0] if len(write) else 0) & BOTH
+    return str(state)
+
+
+def number(value):
+    """The bytes that a hasher is fed with for a number of 64 bits."""
+    return value.to_bytes(8, "little")
 
 
 def option(value):
@@ -50,9 +88,15 @@ class Pairs(dict):
             del self[key]
         return value
 
-    def update(self, pairs):
-        for key, value in pairs.items():
-            self[key] = value
+    def put(self, key, value):
+        """Stores a pair in the place of one with an equal key, which goes with its value."""
+        self.pop(key)
+        self[key] = value
+
+    def kept(self, key):
+        """The key that is stored of those that equal this one, or else this one."""
+        at = bisect_left(self.keys_in_order, key)
+        return self.keys_in_order[at] if key in self else key
 
 
 class Refused(Exception):

@@ -34,16 +34,17 @@ SET_CALLS = {
     "retain": "", "extract_if": "bbe", "difference": "", "symmetric_difference": "", "intersection": "", "union": "",
     "is_disjoint": "", "is_subset": "", "is_superset": "", "compare": "", "swap": "", "append": "", "extend": "",
     "from_vec": "", "from_iter": "", "split_off": "s", "clone": "", "into_iter": "e", "and": "", "or": "", "xor": "",
-    "minus": "",
+    "minus": "", "hash": "", "debug": "", "extend_from_refs": "",
 }  # fmt: skip
 CALLS = {
     "len": "", "is_empty": "", "first_key_value": "", "last_key_value": "", "check": "", "audit": "", "clear": "",
     "pop_first": "", "pop_last": "", "get": "k", "get_key_value": "k", "contains_key": "k", "index": "s",
     "prefix_get": "k", "prefix_get_key_value": "k", "prefix_get_key_value_mut": "kn", "get_mut": "kn",
-    "prefix_get_mut": "kn", "try_insert": "kn", "prefix_insert": "kn", "remove": "s", "remove_entry": "s", "iter": "e",
-    "keys": "e", "values": "e", "range": "bbe", "prefix": "ke", "range_mut": "bbxn", "prefix_mut": "knx",
-    "iter_mut": "xn", "values_mut": "en", "extraction": "bbx", "extract_if": "bben", "retain": "n",
-    "remove_prefix": "p", "apply_prefix": "p", "prepare_prefix": "p",
+    "prefix_get_mut": "kn", "try_insert": "kn", "put_at": "kn", "prefix_insert": "kn", "remove": "s",
+    "remove_entry": "s", "iter": "e", "keys": "e", "values": "e", "range": "bbe", "prefix": "ke", "range_mut": "bbxn",
+    "prefix_mut": "knx", "iter_mut": "xn", "values_mut": "en", "extraction": "bbx", "extract_if": "bben", "retain": "n",
+    "remove_prefix": "p", "apply_prefix": "p", "prepare_prefix": "p", "read_get": "s", "read_prefix_get": "s",
+    "read_prefix": "p", "read_range": "s",
 }  # fmt: skip
 FREE = {"try_entry": "kn", "prefix_entry": "k", "prefix_insert_entry": "kn", "prefix_keys": "k"}
 INNER = ("occupied_insert", "occupied_insert_entry", "inner_insert", "inner_insert_entry", "occupied_shown")
@@ -55,6 +56,7 @@ ENDED_CALLS = {it: "kn" for it in ENDED}
 ENDED_CALLS |= {"swap": "", "split_off": "s", "into_iter": "e", "into_keys": "e", "into_values": "e"}
 ENDED_CALLS |= {"remove_from_both": "p"}
 ENDED_CALLS |= {"append": "", "extend": "", "from_vec": "", "from_iter": "", "clone": "", "compare": ""}
+ENDED_CALLS |= {"hash": "", "debug": "", "extend_from_refs": ""}
 # Calls that are given a bag of pairs, which is filled before.
 FROM_BAG = ("extend", "from_vec", "from_iter")
 # Calls that make a map larger, and smaller: by turns the ones are made often, and the others.
@@ -64,7 +66,7 @@ SELDOM = ("clear", "retain", "extraction", "extract_if", "prefix_insert", "prefi
 SELDOM += INNER[:4]
 SELDOM += ("remove_prefix", "apply_prefix", "remove_from_both")
 SELDOM += ("split_off", "into_iter", "into_keys", "into_values", "append", "clone", *FROM_BAG)
-SELDOM += ("and", "or", "xor", "minus")
+SELDOM += ("and", "or", "xor", "minus", "debug", "extend_from_refs")
 
 
 def model_of(kind):
@@ -89,7 +91,8 @@ def script(seed, kind, length):
             return key[: of.randint(0, len(key))].hex() or "-"
         if kind in "ksp":
             size = max(of.randint(0, 2 + (wide < 9)) for _ in range(3))
-            return front + (bytes(of.choices(alphabet, k=size)).hex() or "-")
+            tag = f"#{of.randint(1, 9)}" * (kind == "k" and of.random() < 0.5)
+            return front + (bytes(of.choices(alphabet, k=size)).hex() or "-") + tag
         if kind == "b":
             return of.choice("[[((*") + word("k")
         if kind == "n":

@@ -40,7 +40,7 @@ SEVERAL = {"retain", "extract_if", "extraction", "extend", "from_vec", "from_ite
 REMOVALS = {"remove", "remove_entry", "pop_first", "pop_last", "take", "entry_remove", "entry_remove_entry"}
 # Calls that take out all keys behind a prefix, or make ready for it.
 CUTS = {"remove_prefix", "apply_prefix", "prepare_prefix", "remove_from_both"}
-GIVEN_KEY = {"try_insert", "prefix_insert", "replace", *maps.ENDED, *maps.FREE} - REMOVALS
+GIVEN_KEY = {"try_insert", "put_at", "prefix_insert", "replace", *maps.ENDED, *maps.FREE} - REMOVALS
 # Of these the first are given a key, and ask for no memory else.
 KEY_ALONE = {"prefix_entry", "prefix_keys", "and_modify", "into_mut", "into_key", *(it for it in maps.INNER[4:])}
 # The player takes memory of its own to fill its bag.
@@ -53,7 +53,8 @@ TAKE_NONE = {"len", "is_empty", "get", "get_key_value", "contains_key", "index",
 TAKE_NONE |= {"first_key_value", "last_key_value", "get_mut", "prefix_get_mut", "prefix_get_key_value_mut", "clear"}
 TAKE_NONE |= {"iter", "keys", "values", "range", "prefix", "range_mut", "prefix_mut", "iter_mut", "values_mut", "swap"}
 TAKE_NONE |= {"compare", "into_iter", "into_keys", "into_values", "contains", "first", "last", "difference", "union"}
-TAKE_NONE |= {"symmetric_difference", "intersection", "is_disjoint", "is_subset", "is_superset"}
+TAKE_NONE |= {"symmetric_difference", "intersection", "is_disjoint", "is_subset", "is_superset", "hash", "debug"}
+TAKE_NONE |= {"read_get", "read_prefix_get", "read_prefix", "read_range"}
 # First words of replies that list nothing.
 REPLIES = {"new", "old", "conflict", "over", "is", "none", "at", "gone", "bounds", "bytes", "dropped", "bad"}
 SHIM = os.path.abspath("out/refuse.so")

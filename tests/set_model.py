@@ -1,6 +1,6 @@
 """The same over a set: two sets of keys with a zero at the end, of which the first is asked."""
 from map_model import Model
-from map_words import Refused, bytes_in, shown
+from map_words import Refused, bytes_in, hashed, number, shown, text, with_tag
 
 
 class SetModel:
@@ -22,11 +22,20 @@ class SetModel:
     def call_len(self, *_):
         return f"{len(self.keys)} {str(not self.keys).lower()}"
 
+    def kept(self, key):
+        """The key that is stored of those that equal this one."""
+        return next(it for it in self.keys if it == key)
+
+    def put_key(self, keys, key):
+        """Stores a key in the place of an equal one."""
+        keys.discard(key)
+        keys.add(key)
+
     def call_contains(self, word, *_):
         return str(bytes_in(word) in self.keys).lower()
 
     def call_get(self, word, *_):
-        return shown(bytes_in(word)) if bytes_in(word) in self.keys else "None"
+        return shown(self.kept(bytes_in(word))) if bytes_in(word) in self.keys else "None"
 
     def call_first(self, *_):
         return shown(min(self.keys)) if self.keys else "None"
@@ -54,20 +63,21 @@ class SetModel:
     def put(self, word):
         key = bytes_in(word)
         if 0 in key:
-            return None, False
-        is_new = key + b"\0" not in self.keys
-        self.keys.add(key + b"\0")
-        return key + b"\0", is_new
+            return None, None
+        key = with_tag(key + b"\0", word)
+        old = self.kept(key) if key in self.keys else None
+        self.put_key(self.keys, key)
+        return key, old
 
     def call_insert(self, word, *_):
-        key, is_new = self.put(word)
-        return "no key" if key is None else str(is_new).lower()
+        key, old = self.put(word)
+        return "no key" if key is None else str(old is None).lower()
 
     call_try_insert = call_insert
 
     def call_replace(self, word, *_):
-        key, is_new = self.put(word)
-        return "no key" if key is None else "None" if is_new else shown(key)
+        key, old = self.put(word)
+        return "no key" if key is None else "None" if old is None else shown(old)
 
     def taken(self, key):
         """A key that leaves the set, where the removal of it is not the one that finds no memory."""
@@ -77,8 +87,9 @@ class SetModel:
             model.extract(key)
         finally:
             self.changes = model.changes
+        told = shown(self.kept(key))
         self.keys.discard(key)
-        return shown(key)
+        return told
 
     def call_clear(self, *_):
         self.keys = set()
@@ -88,8 +99,9 @@ class SetModel:
         key = bytes_in(word)
         if key not in self.keys:
             return "None"
+        told = shown(self.kept(key))
         self.keys.discard(key)
-        return shown(key)
+        return told
 
     def call_remove(self, word, *_):
         return "false" if self.call_take(word) == "None" else "true"
@@ -125,6 +137,10 @@ class SetModel:
     def merged(self, keys, word):
         return (f"{len(keys)} " if word == "count" else "".join(f"{shown(key)}, " for key in sorted(keys))) + "true"
 
+    def common(self):
+        """The keys of the first set that equal one of the second."""
+        return {key for key in self.keys if key in self.other}
+
     def call_difference(self, word, *_):
         return self.merged(self.keys - self.other, word)
 
@@ -132,10 +148,10 @@ class SetModel:
         return self.merged(self.keys ^ self.other, word)
 
     def call_intersection(self, word, *_):
-        return self.merged(self.keys & self.other, word)
+        return self.merged(self.common(), word)
 
     def call_union(self, word, *_):
-        return self.merged(self.keys | self.other, word)
+        return self.merged(self.keys | (self.other - self.keys), word)
 
     def call_is_disjoint(self, *_):
         return str(self.keys.isdisjoint(self.other)).lower()
@@ -151,6 +167,15 @@ class SetModel:
         self.keys = set()
         return told
 
+    def call_hash(self, *_):
+        return hashed([number(len(self.keys)), *sorted(self.keys)])
+
+    def call_debug(self, *_):
+        return "{" + ", ".join(map(text, sorted(self.keys))) + "}"
+
+    def call_extend_from_refs(self, *_):
+        return f"{len(self.keys)} true"
+
     def call_compare(self, *_):
         mine, others = sorted(self.keys), sorted(self.other)
         return f"{'less' if mine < others else 'greater' if mine > others else 'equal'} {str(mine == others).lower()}"
@@ -163,7 +188,7 @@ class SetModel:
         return self.made(self.other, self.keys)
 
     def call_append(self, *_):
-        return self.made(self.keys | self.other, set())
+        return self.made((self.keys - self.other) | self.other, set())
 
     def call_drain(self, end="", *_):
         self.bag += sorted(self.other, reverse=end == "b")
@@ -175,7 +200,7 @@ class SetModel:
             self.changes += key not in keys
             if key not in keys and self.changes == self.refuse:
                 return f"memory {shown(key)}"
-            keys.add(key)
+            self.put_key(keys, key)
         return "done"
 
     def call_extend(self, *_):
@@ -198,10 +223,10 @@ class SetModel:
         return self.made(self.keys, set(self.keys))
 
     def call_and(self, *_):
-        return self.made(self.keys, self.keys & self.other)
+        return self.made(self.keys, self.common())
 
     def call_or(self, *_):
-        return self.made(self.keys, self.keys | self.other)
+        return self.made(self.keys, self.keys | (self.other - self.keys))
 
     def call_xor(self, *_):
         return self.made(self.keys, self.keys ^ self.other)

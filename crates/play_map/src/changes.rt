@@ -13,25 +13,25 @@ pub fn show_taken<K: PlayedKey>(
     taken: Result<Option<(K, u64)>, AllocError>,
 ) -> io::Result<()> {
     match taken {
-        Ok(Some((key, value))) => println!(rt; "{:?} {value}", key.as_bytes()),
+        Ok(Some((key, value))) => println!(rt; "{key} {value}"),
         Ok(None) => println!(rt; "None"),
         Err(_) => println!(rt; "memory"),
     }
 }
 
 /// Prints the pair of an entry.
-pub fn show_stored<K: AsBytes>(rt: &impl Print, key: &K, value: u64) -> io::Result<()> {
-    println!(rt; "{:?} {value}", key.as_bytes())
+pub fn show_stored<K: PlayedKey>(rt: &impl Print, key: &K, value: u64) -> io::Result<()> {
+    println!(rt; "{key} {value}")
 }
 
 /// Prints the key of an entry behind a word.
-pub fn show_key<K: AsBytes>(rt: &impl Print, word: &str, key: &K) -> io::Result<()> {
-    println!(rt; "{word}{:?}", key.as_bytes())
+pub fn show_key<K: PlayedKey>(rt: &impl Print, word: &str, key: &K) -> io::Result<()> {
+    println!(rt; "{word}{key}")
 }
 
 /// Prints that an insertion found no memory, and the pair that it hands back.
 pub fn show_refused<K: PlayedKey>(rt: &impl Print, key: K, value: u64) -> io::Result<()> {
-    println!(rt; "memory {:?} {value}", key.as_bytes())
+    println!(rt; "memory {key} {value}")
 }
 
 // Prints the value that an entry lends, and writes another.
@@ -74,11 +74,26 @@ fn try_insert<K: PlayedKey, const PREFIX_LEN: usize>(
     match map.try_insert(key, value) {
         Ok(old) => println!(rt; "{old:?}"),
         Err(TryInsertError::Prefix { key, value, error }) => println!(rt;
-            "prefix {:?} {value}, {:?}",
-            key.as_bytes(),
+            "prefix {key} {value}, {:?}",
             error.byte_repr.bytes()
         ),
         Err(TryInsertError::Memory { key, value }) => show_refused(rt, key, value),
+    }
+}
+
+// Puts a pair in by two steps: its place is found, and then it is put there.
+fn put_at<K: PlayedKey, const PREFIX_LEN: usize>(
+    rt: &impl Print,
+    map: &mut TreeMap<K, u64, PREFIX_LEN>,
+    key: K,
+    value: u64,
+) -> io::Result<()> {
+    match map.place(&key) {
+        Ok(place) => match map.put_at(place, key, value) {
+            Ok(old) => println!(rt; "{old:?}"),
+            Err(refused) => show_refused(rt, refused.key, refused.value),
+        },
+        Err(_) => println!(rt; "prefix {key}"),
     }
 }
 
@@ -150,11 +165,12 @@ pub fn answer<K: PlayedKey, const PREFIX_LEN: usize>(
             put_tails(rt, map, asked.first)?;
             return Ok(true);
         }
-        "try_insert" | "prefix_insert" => {}
+        "try_insert" | "put_at" | "prefix_insert" => {}
         _ => return remove(rt, map, asked),
     }
-    match K::made(rt.alloc(), asked.first) {
+    match K::made(rt.alloc(), asked.first, asked.tag()) {
         Ok(key) if asked.call == "try_insert" => try_insert(rt, map, key, asked.number(1))?,
+        Ok(key) if asked.call == "put_at" => put_at(rt, map, key, asked.number(1))?,
         Ok(key) => prefix_insert(rt, map, key, asked.number(1))?,
         Err(_) => println!(rt; "no key")?,
     }

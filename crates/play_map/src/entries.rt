@@ -71,7 +71,7 @@ fn remove<const PREFIX_LEN: usize>(
             Err(_) => println!(rt; "memory"),
         },
         Entry::Occupied(entry) => match entry.remove_entry() {
-            Ok((key, value)) => println!(rt; "{:?} {value}", key.as_bytes()),
+            Ok((key, value)) => println!(rt; "{key} {value}"),
             Err(_) => println!(rt; "memory"),
         },
         Entry::Vacant(entry) => show_key(rt, "vacant ", entry.key()),
@@ -182,7 +182,7 @@ fn with_key<const PREFIX_LEN: usize>(
     match call {
         "insert" => insert(rt, map, key, number),
         "replace_entry" => match map.replace_entry(key, number) {
-            Ok(Some((key, value))) => println!(rt; "{:?} {value}", key.as_bytes()),
+            Ok(Some((key, value))) => println!(rt; "{key} {value}"),
             Ok(None) => println!(rt; "None"),
             Err(refused) => show_refused(rt, refused.key, refused.value),
         },
@@ -209,7 +209,7 @@ pub fn answer<const PREFIX_LEN: usize>(
     if !LENDING.contains(&call) && !FILLING.contains(&call) && !OTHERS.contains(&call) {
         return Ok(false);
     }
-    match EndedKey::made(rt.alloc(), asked.first) {
+    match EndedKey::made(rt.alloc(), asked.first, asked.tag()) {
         Ok(key) => with_key(rt, map, key, call, asked.number(1))?,
         Err(_) => println!(rt; "no key")?,
     }

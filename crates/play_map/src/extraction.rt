@@ -20,7 +20,7 @@ fn show_end<K: PlayedKey, const PREFIX_LEN: usize>(
         pairs.front_key_value()
     };
     match shown {
-        Some((key, _)) => print!(rt; "{:?}: ", key.as_bytes()),
+        Some((key, _)) => print!(rt; "{key}: "),
         None => Ok(()),
     }
 }

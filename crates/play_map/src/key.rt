@@ -1,10 +1,13 @@
 // Keys that a script can name. A key may share its bytes with others that begin further on in them, so that many long
-// ones, each a tail of the one before, take little memory.
+// ones, each a tail of the one before, take little memory. Its tag is no part of its value: equality, order and hash
+// leave it out, so that it shows which of two equal keys is at hand.
 ghost use Rattle.std.specs.Prelude.{◌≡◌, ◌≤◌, ◌++◌, [], ◌∷◌, ℕ, List, Some, drop, length, nat_eq};
 ghost use Rattle.std.proofs.Common.{refl, ap};
 ghost use Rattle.std.specs.Cmp.{on_per, on_po, partial_equiv_from_equiv};
 ghost use Rattle.std.specs.Cmp.Lexicographic.{pointwise, nat_list_eq_equiv, on_texts, on_texts_equal, texts_po};
 ghost use Rattle.std.specs.Cmp.Lexicographic.{texts_ties};
+ghost use Rattle.std.specs.Cmp.Rules.{hashing};
+ghost use Rattle.std.proofs.Common.{rules};
 ghost use Rattle.art_bytes.specs.Keys.{AreBytes, HasNoZero, bytes_cmp};
 ghost use Rattle.play_map.specs.Key.{held};
 ghost use Rattle.art_bytes.specs.inner.KeyLaws.{zero_ended_front, AreBytes-zero_ended};
@@ -12,21 +15,36 @@ ghost use Rattle.art_bytes.specs.inner.KeyLaws.{zero_ended_front, AreBytes-zero_
 use art_bytes::{AsBytes, CloneBytes, NoPrefixesBytes, OrderedBytes, ZeroEnded};
 use std::alloc::{AllocError, Global};
 use std::cmp::Ordering;
+use std::fmt;
+use std::hash::{Hash, Hasher};
 use std::marker::Model;
 use std::rc::Rc;
 
+// The most bytes that the text of a key shows.
+const LONGEST_SHOWN: usize = 16;
+
+// Writes the bytes of a key, and its tag if it isn't 0.
+fn write_key<W: fmt::Write>(f: &mut fmt::Formatter<W>, bytes: &[u8], tag: u8) -> fmt::Result {
+    write!(f, "{bytes:?}")?;
+    if tag == 0 {
+        Ok(())
+    } else {
+        write!(f, "#{tag}")
+    }
+}
+
 /// A key that can be made of bytes.
-pub trait PlayedKey: AsBytes + Drop {
+pub trait PlayedKey: AsBytes + fmt::Display + Drop {
     /// What holds the bytes of keys.
     type Bytes: AsBytes + Drop;
 
     /// These bytes. They may be refused for want of memory, or where no key has them.
     fn held(alloc: Global, bytes: &[u8]) -> Result<Self::Bytes, AllocError>;
 
-    /// The key of these bytes, which it has for itself.
-    fn with_own(bytes: Self::Bytes) -> Self;
+    /// The key of these bytes, which it has for itself, with a tag.
+    fn with_own(bytes: Self::Bytes, tag: u8) -> Self;
 
-    /// The key of these bytes from a place on, which it shares.
+    /// The key of these bytes from a place on, which it shares, with tag 0.
     fn tail(bytes: &Rc<Self::Bytes>, from: usize) -> Result<Self, AllocError>;
 
     /// These bytes, to be shared by keys.
@@ -37,9 +55,9 @@ pub trait PlayedKey: AsBytes + Drop {
         }
     }
 
-    /// The key of these bytes, which may be refused as these.
-    fn made(alloc: Global, bytes: &[u8]) -> Result<Self, AllocError> {
-        Ok(Self::with_own(Self::held(alloc, bytes)?))
+    /// The key of these bytes, which may be refused as these, with a tag.
+    fn made(alloc: Global, bytes: &[u8], tag: u8) -> Result<Self, AllocError> {
+        Ok(Self::with_own(Self::held(alloc, bytes)?, tag))
     }
 }
 
@@ -66,6 +84,7 @@ impl<B> Held<B> {
 pub struct FreeKey {
     whole: Held<Vec<u8>>,
     from: usize,
+    tag: u8,
 }
 
 impl Model for FreeKey {
@@ -89,6 +108,12 @@ impl AsBytes for FreeKey {
     }
 }
 
+impl fmt::Display for FreeKey {
+    fn fmt<W: fmt::Write>(&self, f: &mut fmt::Formatter<W>) -> fmt::Result {
+        write_key(f, self.as_bytes(), self.tag)
+    }
+}
+
 impl PlayedKey for FreeKey {
     type Bytes = Vec<u8>;
 
@@ -96,15 +121,23 @@ impl PlayedKey for FreeKey {
         Vec::from_slice(alloc, bytes)
     }
 
-    fn with_own(bytes: Vec<u8>) -> Self {
+    fn with_own(bytes: Vec<u8>, tag: u8) -> Self {
         let whole = Held::Own(bytes);
-        FreeKey { whole, from: 0 }
+        FreeKey {
+            whole,
+            from: 0,
+            tag,
+        }
     }
 
     fn tail(bytes: &Rc<Vec<u8>>, from: usize) -> Result<Self, AllocError> {
         let from = from.min(bytes.as_ref().len());
         let whole = Held::Shared(bytes.clone()?);
-        Ok(FreeKey { whole, from })
+        Ok(FreeKey {
+            whole,
+            from,
+            tag: 0,
+        })
     }
 }
 
@@ -113,6 +146,7 @@ impl PlayedKey for FreeKey {
 pub struct EndedKey {
     whole: Held<ZeroEnded>,
     from: usize,
+    tag: u8,
 }
 
 impl Model for EndedKey {
@@ -136,6 +170,12 @@ impl AsBytes for EndedKey {
     }
 }
 
+impl fmt::Display for EndedKey {
+    fn fmt<W: fmt::Write>(&self, f: &mut fmt::Formatter<W>) -> fmt::Result {
+        write_key(f, self.as_bytes(), self.tag)
+    }
+}
+
 impl PlayedKey for EndedKey {
     type Bytes = ZeroEnded;
 
@@ -146,15 +186,23 @@ impl PlayedKey for EndedKey {
         }
     }
 
-    fn with_own(bytes: ZeroEnded) -> Self {
+    fn with_own(bytes: ZeroEnded, tag: u8) -> Self {
         let whole = Held::Own(bytes);
-        EndedKey { whole, from: 0 }
+        EndedKey {
+            whole,
+            from: 0,
+            tag,
+        }
     }
 
     fn tail(bytes: &Rc<ZeroEnded>, from: usize) -> Result<Self, AllocError> {
         let from = from.min(bytes.as_ref().to_bytes().len());
         let whole = Held::Shared(bytes.clone()?);
-        Ok(EndedKey { whole, from })
+        Ok(EndedKey {
+            whole,
+            from,
+            tag: 0,
+        })
     }
 }
 
@@ -212,11 +260,33 @@ impl Clone for EndedKey {
             Held::Own(bytes) => Held::Own(bytes.clone()?),
             Held::Shared(bytes) => Held::Shared(bytes.clone()?),
         };
-        let from = self.from;
-        Ok(EndedKey { whole, from })
+        let (from, tag) = (self.from, self.tag);
+        Ok(EndedKey { whole, from, tag })
     }
 }
 
 impl CloneBytes for EndedKey {
     ghost same_bytes = { λ k l h. ap (λ it. it ++ 0 ∷ []) h };
+}
+
+/// The hasher is fed with the bytes by one write.
+impl Hash for EndedKey {
+    ghost hash_input = { λ k. (k ++ 0 ∷ []) ∷ [] };
+
+    ghost respects_eq = { Prim.search (hashing, rules) };
+
+    fn hash<H: Hasher>(&self, state: &mut H) {
+        state.write(self.as_bytes());
+    }
+}
+
+/// As it is displayed, but where there are more than so many bytes, how many.
+impl fmt::Debug for EndedKey {
+    fn fmt<W: fmt::Write>(&self, f: &mut fmt::Formatter<W>) -> fmt::Result {
+        let bytes = self.as_bytes();
+        if bytes.len() > LONGEST_SHOWN {
+            return write!(f, "{} bytes", bytes.len());
+        }
+        write_key(f, bytes, self.tag)
+    }
 }

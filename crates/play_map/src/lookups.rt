@@ -9,9 +9,9 @@ use art_walks::{MalformedTreeError, WellFormedChecker, WellFormedTreeStats};
 use std::io;
 
 /// Prints a pair, or that there is none.
-pub fn show_pair<K: AsBytes>(rt: &impl Print, pair: Option<(&K, &u64)>) -> io::Result<()> {
+pub fn show_pair<K: PlayedKey>(rt: &impl Print, pair: Option<(&K, &u64)>) -> io::Result<()> {
     match pair {
-        Some((key, value)) => println!(rt; "{:?} {value}", key.as_bytes()),
+        Some((key, value)) => println!(rt; "{key} {value}"),
         None => println!(rt; "None"),
     }
 }

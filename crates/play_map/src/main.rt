@@ -4,21 +4,25 @@
 // with a zero at the end, so that none is a front of another), or `set` (a set of the latter).
 //
 // A line is a word and up to four others, parted by single spaces. Bytes are written in lower case digits, in parts
-// with a point between them, each behind a `*` so many times: `aa*20.01`; `-` is no bytes. A bound is `[` or `(` and
-// bytes, or `*`. What takes pairs from both ends is told from which by letters, `f` and `b`.
+// with a point between them, each behind a `*` so many times: `aa*20.01`; `-` is no bytes. A key that is handed in may
+// have a tag, as `aa01#3`, which tells it from equal ones. A bound is `[` or `(` and bytes, or `*`. What takes pairs
+// from both ends is told from which by letters, `f` and `b`.
 #![tactic(auto)]
 
 ghost use Rattle.std.specs.Prelude.{◌≤◌};
 
 mod changes;
+mod copies;
 mod entries;
 mod extraction;
 mod key;
 mod lookups;
 mod prefix_entries;
 mod prefix_removals;
+mod readers;
 mod script;
 mod sets;
+mod told;
 mod two_maps;
 mod walks;
 
@@ -36,6 +40,7 @@ fn answer<K: PlayedKey, const PREFIX_LEN: usize>(
 ) -> io::Result<bool> {
     Ok(
         lookups::answer(rt, map, asked)?
+            || readers::answer(rt, map, asked)?
             || changes::answer(rt, map, asked)?
             || walks::answer(rt, map, asked)?
             || extraction::answer(rt, map, asked)?

@@ -19,8 +19,8 @@ fn try_entry<const PREFIX_LEN: usize>(
             Ok(entry) => show_stored(rt, entry.key(), *entry.get()),
             Err(refused) => show_refused(rt, refused.key, refused.value),
         },
-        Err(TryKeyError::Prefix { key, .. }) => println!(rt; "prefix {:?}", key.as_bytes()),
-        Err(TryKeyError::Memory { key }) => println!(rt; "memory {:?}", key.as_bytes()),
+        Err(TryKeyError::Prefix { key, .. }) => println!(rt; "prefix {key}"),
+        Err(TryKeyError::Memory { key }) => println!(rt; "memory {key}"),
     }
 }
 
@@ -121,7 +121,7 @@ fn set<const PREFIX_LEN: usize>(
 // Prints a stored key, or that none is shown.
 fn show_stored_key(rt: &impl Print, key: Option<&FreeKey>) -> io::Result<()> {
     match key {
-        Some(key) => println!(rt; "{:?}", key.as_bytes()),
+        Some(key) => println!(rt; "{key}"),
         None => println!(rt; "None"),
     }
 }
@@ -380,7 +380,7 @@ pub fn answer<const PREFIX_LEN: usize>(
     if !is_known(asked.call) {
         return Ok(false);
     }
-    match FreeKey::made(rt.alloc(), asked.first) {
+    match FreeKey::made(rt.alloc(), asked.first, asked.tag()) {
         Ok(key) => with_key(rt, map, key, asked.call, asked.number(1))?,
         Err(_) => println!(rt; "no key")?,
     }

@@ -59,9 +59,10 @@ fn add_part(part: &str, bytes: &mut Vec<u8>) -> Result<(), AllocError> {
     Ok(())
 }
 
-// Reads bytes, with the sign of a bound before them or without.
+// Reads bytes, with the sign of a bound before them or without, and with a tag behind them or without.
 fn read_bytes(text: &str, bytes: &mut Vec<u8>) -> Result<(), AllocError> {
     bytes.clear();
+    let (text, _) = text.split_once('#').unwrap_or((text, ""));
     let digits = text.trim_start_matches(['[', '(']);
     for part in digits.split('.') {
         add_part(part, bytes)?;
@@ -143,6 +144,15 @@ impl Script {
 }
 
 impl Asked<'_> {
+    /// The tag behind the bytes of the first word, and 0 where there is none.
+    pub fn tag(&self) -> u8 {
+        let [word, ..] = self.words;
+        match word.split_once('#') {
+            Some((_, tag)) => tag.parse().unwrap_or(0),
+            None => 0,
+        }
+    }
+
     /// The number that a word is, and 0 where it is none.
     pub fn number(&self, at: usize) -> u64 {
         match self.words.get(at) {

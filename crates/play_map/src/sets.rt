@@ -3,14 +3,15 @@ ghost use Rattle.std.specs.Prelude.{◌≡◌, ◌⊎◌, ◌≤◌, [], IsTrue}
 ghost use Rattle.std.specs.Range.Bound.{bound_map};
 ghost use Rattle.art_walks.specs.Bounds.{AreValidKeyBounds};
 
+use crate::copies::copy_set;
 use crate::key::{EndedKey, PlayedKey};
 use crate::script::{Asked, bound_of};
+use crate::told::{show_hash, show_order, show_text};
 use crate::walks::left;
 use art_bytes::{AsBytes, SliceKey};
-use art_set::TreeSet;
+use art_set::{RefusedKey, TreeSet};
 use art_walks::bounds_are_valid;
-use std::alloc::AllocError;
-use std::cmp::Ordering;
+use std::alloc::{AllocError, Global};
 use std::ops::Bound;
 use std::{io, mem};
 
@@ -36,21 +37,21 @@ fn is_even(key: &EndedKey) -> bool {
 
 fn show(rt: &impl Print, key: Option<&EndedKey>) -> io::Result<()> {
     match key {
-        Some(key) => println!(rt; "{:?}", key.as_bytes()),
+        Some(key) => println!(rt; "{key}"),
         None => println!(rt; "None"),
     }
 }
 
 fn show_in_list(rt: &impl Print, key: Option<&EndedKey>) -> io::Result<()> {
     match key {
-        Some(key) => print!(rt; "{:?}, ", key.as_bytes()),
+        Some(key) => print!(rt; "{key}, "),
         None => print!(rt; "None, "),
     }
 }
 
 fn show_taken(rt: &impl Print, taken: Result<Option<EndedKey>, AllocError>) -> io::Result<()> {
     match taken {
-        Ok(Some(key)) => println!(rt; "{:?}", key.as_bytes()),
+        Ok(Some(key)) => println!(rt; "{key}"),
         Ok(None) => println!(rt; "None"),
         Err(_) => println!(rt; "memory"),
     }
@@ -138,28 +139,64 @@ fn merge<const PREFIX_LEN: usize>(
     }
 }
 
-// The second set becomes what both have by an operator.
-fn operate<const PREFIX_LEN: usize>(
+// A set takes the place of another, if it could be made.
+fn replace<const PREFIX_LEN: usize>(
     rt: &impl Print,
-    set: &TreeSet<EndedKey, PREFIX_LEN>,
-    other: &mut TreeSet<EndedKey, PREFIX_LEN>,
-    call: &str,
+    set: &mut TreeSet<EndedKey, PREFIX_LEN>,
+    made: Result<TreeSet<EndedKey, PREFIX_LEN>, AllocError>,
 ) -> io::Result<()>
     requires { PREFIX_LEN ≤ 16 }
 {
-    let made = match call {
-        "and" => set & &*other,
-        "or" => set | &*other,
-        "xor" => set ^ &*other,
-        _ => set - &*other,
-    };
     match made {
         Ok(made) => {
-            *other = made;
+            *set = made;
             println!(rt; "done")
         }
         Err(_) => println!(rt; "memory"),
     }
+}
+
+// The same of a set that is made of keys.
+fn replace_by_keys<const PREFIX_LEN: usize>(
+    rt: &impl Print,
+    set: &mut TreeSet<EndedKey, PREFIX_LEN>,
+    made: Result<TreeSet<EndedKey, PREFIX_LEN>, RefusedKey<EndedKey>>,
+) -> io::Result<()>
+    requires { PREFIX_LEN ≤ 16 }
+{
+    match made {
+        Ok(made) => {
+            *set = made;
+            println!(rt; "done")
+        }
+        Err(refused) => println!(rt; "memory {}", refused.key),
+    }
+}
+
+// What both sets have by an operator.
+fn operated<const PREFIX_LEN: usize>(
+    set: &TreeSet<EndedKey, PREFIX_LEN>,
+    other: &TreeSet<EndedKey, PREFIX_LEN>,
+    call: &str,
+) -> Result<TreeSet<EndedKey, PREFIX_LEN>, AllocError>
+    requires { PREFIX_LEN ≤ 16 }
+{
+    match call {
+        "and" => set & other,
+        "or" => set | other,
+        "xor" => set ^ other,
+        _ => set - other,
+    }
+}
+
+// Takes all keys out of a set.
+fn taken<const PREFIX_LEN: usize>(
+    alloc: Global,
+    set: &mut TreeSet<EndedKey, PREFIX_LEN>,
+) -> TreeSet<EndedKey, PREFIX_LEN>
+    requires { PREFIX_LEN ≤ 16 }
+{
+    mem::replace(set, TreeSet::with_prefix_len(alloc))
 }
 
 fn extract<const PREFIX_LEN: usize>(
@@ -181,6 +218,20 @@ fn extract<const PREFIX_LEN: usize>(
         }
     }
     println!(rt; "end")
+}
+
+// How the two sets compare.
+fn compare<const PREFIX_LEN: usize>(
+    rt: &impl Print,
+    set: &TreeSet<EndedKey, PREFIX_LEN>,
+    other: &TreeSet<EndedKey, PREFIX_LEN>,
+) -> io::Result<()> {
+    let order = set.cmp(other);
+    if set.partial_cmp(other) == Some(order) {
+        show_order(rt, order, set == other)
+    } else {
+        println!(rt; "another order")
+    }
 }
 
 // Look-ups, walks and comparisons.
@@ -205,11 +256,9 @@ fn read<const PREFIX_LEN: usize>(
         "difference" | "symmetric_difference" | "intersection" | "union" => {
             merge(rt, set, other, asked)?
         }
-        "compare" => match set.cmp(other) {
-            Ordering::Less => println!(rt; "less {}", set == other)?,
-            Ordering::Equal => println!(rt; "equal {}", set == other)?,
-            Ordering::Greater => println!(rt; "greater {}", set == other)?,
-        },
+        "debug" => show_text(rt, set)?,
+        "hash" => show_hash(rt, set)?,
+        "compare" => compare(rt, set, other)?,
         _ => return Ok(false),
     }
     Ok(true)
@@ -225,16 +274,16 @@ fn put<const PREFIX_LEN: usize>(
     match call {
         "insert" => match set.insert(key) {
             Ok(is_new) => println!(rt; "{is_new}"),
-            Err(refused) => println!(rt; "memory {:?}", refused.key.as_bytes()),
+            Err(refused) => println!(rt; "memory {}", refused.key),
         },
         "try_insert" => match set.try_insert(key) {
             Ok(is_new) => println!(rt; "{is_new}"),
             Err(_) => println!(rt; "memory"),
         },
         _ => match set.replace(key) {
-            Ok(Some(old)) => println!(rt; "{:?}", old.as_bytes()),
+            Ok(Some(old)) => println!(rt; "{old}"),
             Ok(None) => println!(rt; "None"),
-            Err(refused) => println!(rt; "memory {:?}", refused.key.as_bytes()),
+            Err(refused) => println!(rt; "memory {}", refused.key),
         },
     }
 }
@@ -288,6 +337,14 @@ fn take<const PREFIX_LEN: usize>(
     Ok(true)
 }
 
+// Prints how many keys were left and one that a walk gives, or that it gives none.
+fn show_given(rt: &impl Print, left: usize, key: Option<EndedKey>) -> io::Result<()> {
+    match key {
+        Some(key) => print!(rt; "{left} {key}, "),
+        None => print!(rt; "{left} None, "),
+    }
+}
+
 // Takes the set's keys from the ends that letters tell; the others are dropped.
 fn into_iter<const PREFIX_LEN: usize>(
     rt: &(impl Print + AllocGlobal),
@@ -296,15 +353,17 @@ fn into_iter<const PREFIX_LEN: usize>(
 ) -> io::Result<()>
     requires { PREFIX_LEN ≤ 16 }
 {
-    let mut keys = mem::replace(set, TreeSet::with_prefix_len(rt.alloc())).into_iter();
+    let mut keys = taken(rt.alloc(), set).into_iter();
     for end in ends.bytes() {
-        print!(rt; "{} ", left(keys.len(), keys.size_hint()))?;
+        let left = left(keys.len(), keys.size_hint());
         let key = if end == b'b' {
             keys.next_back()
         } else {
             keys.next()
         };
-        show_in_list(rt, key.as_ref())?;
+        if show_given(rt, left, key).is_err() {
+            break;
+        }
     }
     println!(rt; "end")
 }
@@ -319,7 +378,8 @@ fn drain<const PREFIX_LEN: usize>(
 ) -> io::Result<()>
     requires { PREFIX_LEN ≤ 16 }
 {
-    let mut walk = mem::replace(other, TreeSet::with_prefix_len(rt.alloc())).into_iter();
+    let mut is_done = true;
+    let mut walk = taken(rt.alloc(), other).into_iter();
     for _ in 0..walk.len() {
         let key = if end == "b" {
             walk.next_back()
@@ -327,39 +387,21 @@ fn drain<const PREFIX_LEN: usize>(
             walk.next()
         };
         if let Some(key) = key {
-            bag.push(key)?;
+            is_done = bag.push(key).is_ok() && is_done;
         }
     }
-    println!(rt; "done")
+    show_done(rt, is_done)
 }
 
-// Calls that are given the bag's keys.
-fn fill<const PREFIX_LEN: usize>(
+// The bag's keys are put in one by one.
+fn extend<const PREFIX_LEN: usize>(
     rt: &(impl Print + AllocGlobal),
     set: &mut TreeSet<EndedKey, PREFIX_LEN>,
     bag: &mut Vec<EndedKey>,
-    call: &str,
-) -> io::Result<()>
-    requires { PREFIX_LEN ≤ 16 }
-{
-    let keys = mem::replace(bag, Vec::new(rt.alloc()));
-    if call == "extend" {
-        return match set.extend(keys) {
-            Ok(()) => println!(rt; "done"),
-            Err(refused) => println!(rt; "memory {:?}", refused.key.as_bytes()),
-        };
-    }
-    let made = if call == "from_vec" {
-        TreeSet::from_vec(rt.alloc(), keys)
-    } else {
-        TreeSet::from_iter(rt.alloc(), keys)
-    };
-    match made {
-        Ok(made) => {
-            *set = made;
-            println!(rt; "done")
-        }
-        Err(refused) => println!(rt; "memory {:?}", refused.key.as_bytes()),
+) -> io::Result<()> {
+    match set.extend(mem::replace(bag, Vec::new(rt.alloc()))) {
+        Ok(()) => println!(rt; "done"),
+        Err(refused) => println!(rt; "memory {}", refused.key),
     }
 }
 
@@ -382,24 +424,24 @@ fn make<const PREFIX_LEN: usize>(
             let done = set.append(other);
             show_done(rt, done.is_ok())?;
         }
-        "split_off" => match set.split_off(&SliceKey(asked.first)) {
-            Ok(off) => {
-                *other = off;
-                println!(rt; "done")?;
-            }
-            Err(_) => println!(rt; "memory")?,
-        },
-        "clone" => match set.clone() {
-            Ok(copy) => {
-                *other = copy;
-                println!(rt; "done")?;
-            }
-            Err(_) => println!(rt; "memory")?,
-        },
+        "split_off" => replace(rt, other, set.split_off(&SliceKey(asked.first)))?,
+        "clone" => replace(rt, other, set.clone())?,
         "into_iter" => into_iter(rt, set, asked.words[0])?,
         "drain" => drain(rt, other, bag, asked.words[0])?,
-        "extend" | "from_vec" | "from_iter" => fill(rt, set, bag, asked.call)?,
-        "and" | "or" | "xor" | "minus" => operate(rt, set, other, asked.call)?,
+        "extend_from_refs" => copy_set(rt, set)?,
+        "extend" => extend(rt, set, bag)?,
+        "from_vec" => {
+            let keys = mem::replace(bag, Vec::new(rt.alloc()));
+            replace_by_keys(rt, set, TreeSet::from_vec(rt.alloc(), keys))?;
+        }
+        "from_iter" => {
+            let keys = mem::replace(bag, Vec::new(rt.alloc()));
+            replace_by_keys(rt, set, TreeSet::from_iter(rt.alloc(), keys))?;
+        }
+        "and" | "or" | "xor" | "minus" => {
+            let made = operated(set, other, asked.call);
+            replace(rt, other, made)?;
+        }
         _ => return Ok(false),
     }
     Ok(true)
@@ -419,7 +461,7 @@ pub fn answer<const PREFIX_LEN: usize>(
         return put_tails(rt, set, asked.first);
     }
     if ["insert", "try_insert", "replace"].contains(&asked.call) {
-        return match EndedKey::made(rt.alloc(), asked.first) {
+        return match EndedKey::made(rt.alloc(), asked.first, asked.tag()) {
             Ok(key) => put(rt, set, key, asked.call),
             Err(_) => println!(rt; "no key"),
         };

@@ -3,37 +3,83 @@
 ghost use Rattle.std.specs.Prelude.{◌≤◌};
 
 use crate::changes::show_refused;
+use crate::copies::copy_map;
 use crate::key::EndedKey;
 use crate::prefix_removals::{most_read, show_removed};
 use crate::script::Asked;
+use crate::told::{show_hash, show_order, show_text};
 use crate::walks::left;
-use art_bytes::{AsBytes, SliceKey};
+use art_bytes::SliceKey;
 use art_map::TreeMap;
-use std::cmp::Ordering;
+use art_operations::InsertRefused;
+use std::alloc::{AllocError, Global};
 use std::{io, mem};
 
 /// Pairs for calls that are given many at once.
 pub type Bag = Vec<(EndedKey, u64)>;
 
-// The pairs from a key on become the second map's; it had to be empty.
-fn split_off<const PREFIX_LEN: usize>(
+// A map takes the place of another, if it could be made.
+fn replace<const PREFIX_LEN: usize>(
     rt: &impl Print,
     map: &mut TreeMap<EndedKey, u64, PREFIX_LEN>,
-    other: &mut TreeMap<EndedKey, u64, PREFIX_LEN>,
-    key: &[u8],
+    made: Result<TreeMap<EndedKey, u64, PREFIX_LEN>, AllocError>,
 ) -> io::Result<()>
     requires { PREFIX_LEN ≤ 16 }
 {
-    match map.split_off(&SliceKey(key)) {
-        Ok(off) => {
-            *other = off;
+    match made {
+        Ok(made) => {
+            *map = made;
             println!(rt; "done")
         }
         Err(_) => println!(rt; "memory"),
     }
 }
 
-// Takes the map's pairs from the ends that letters tell; the others are dropped.
+// The same of a map that is made of pairs.
+fn replace_by_pairs<const PREFIX_LEN: usize>(
+    rt: &impl Print,
+    map: &mut TreeMap<EndedKey, u64, PREFIX_LEN>,
+    made: Result<TreeMap<EndedKey, u64, PREFIX_LEN>, InsertRefused<EndedKey, u64>>,
+) -> io::Result<()>
+    requires { PREFIX_LEN ≤ 16 }
+{
+    match made {
+        Ok(made) => {
+            *map = made;
+            println!(rt; "done")
+        }
+        Err(refused) => show_refused(rt, refused.key, refused.value),
+    }
+}
+
+// Takes all pairs out of a map.
+fn taken<const PREFIX_LEN: usize>(
+    alloc: Global,
+    map: &mut TreeMap<EndedKey, u64, PREFIX_LEN>,
+) -> TreeMap<EndedKey, u64, PREFIX_LEN>
+    requires { PREFIX_LEN ≤ 16 }
+{
+    mem::replace(map, TreeMap::with_prefix_len(alloc))
+}
+
+// Prints a pair that a walk gives, or that it gives none, behind how many were left.
+fn show_given(rt: &impl Print, left: usize, pair: Option<(EndedKey, u64)>) -> io::Result<()> {
+    match pair {
+        Some((key, value)) => print!(rt; "{left} {key} {value}, "),
+        None => print!(rt; "{left} None, "),
+    }
+}
+
+// Prints how many keys are left and one that a walk gives, or that it gives none.
+fn show_given_key(rt: &impl Print, left: usize, key: Option<EndedKey>) -> io::Result<()> {
+    match key {
+        Some(key) => print!(rt; "{left} {key}, "),
+        None => print!(rt; "None, "),
+    }
+}
+
+// Takes the map's pairs from the ends that letters tell; the others are dropped. (What owns a walk has one way out:
+// each other one would have a proof that the walk may be dropped there.)
 fn into_iter<const PREFIX_LEN: usize>(
     rt: &(impl Print + AllocGlobal),
     map: &mut TreeMap<EndedKey, u64, PREFIX_LEN>,
@@ -41,17 +87,16 @@ fn into_iter<const PREFIX_LEN: usize>(
 ) -> io::Result<()>
     requires { PREFIX_LEN ≤ 16 }
 {
-    let mut pairs = mem::replace(map, TreeMap::with_prefix_len(rt.alloc())).into_iter();
+    let mut pairs = taken(rt.alloc(), map).into_iter();
     for end in ends.bytes() {
-        print!(rt; "{} ", left(pairs.len(), pairs.size_hint()))?;
+        let left = left(pairs.len(), pairs.size_hint());
         let pair = if end == b'b' {
             pairs.next_back()
         } else {
             pairs.next()
         };
-        match pair {
-            Some((key, value)) => print!(rt; "{:?} {value}, ", key.as_bytes())?,
-            None => print!(rt; "None, ")?,
+        if show_given(rt, left, pair).is_err() {
+            break;
         }
     }
     println!(rt; "end")
@@ -65,19 +110,15 @@ fn into_keys<const PREFIX_LEN: usize>(
 ) -> io::Result<()>
     requires { PREFIX_LEN ≤ 16 }
 {
-    let mut keys = mem::replace(map, TreeMap::with_prefix_len(rt.alloc())).into_keys();
+    let mut keys = taken(rt.alloc(), map).into_keys();
     for end in ends.bytes() {
         let key = if end == b'b' {
             keys.next_back()
         } else {
             keys.next()
         };
-        match key {
-            Some(key) => {
-                let left = left(keys.len(), keys.size_hint());
-                print!(rt; "{left} {:?}, ", key.as_bytes())?
-            }
-            None => print!(rt; "None, ")?,
+        if show_given_key(rt, left(keys.len(), keys.size_hint()), key).is_err() {
+            break;
         }
     }
     println!(rt; "end")
@@ -91,21 +132,23 @@ fn into_values<const PREFIX_LEN: usize>(
 ) -> io::Result<()>
     requires { PREFIX_LEN ≤ 16 }
 {
-    let mut values = mem::replace(map, TreeMap::with_prefix_len(rt.alloc())).into_values();
+    let mut values = taken(rt.alloc(), map).into_values();
     for end in ends.bytes() {
         let value = if end == b'b' {
             values.next_back()
         } else {
             values.next()
         };
-        print!(rt; "{} {value:?}, ", left(values.len(), values.size_hint()))?;
+        let left = left(values.len(), values.size_hint());
+        if print!(rt; "{left} {value:?}, ").is_err() {
+            break;
+        }
     }
     println!(rt; "end")
 }
 
 // The second map's pairs go behind those in the bag, from its front or from its back, and it is empty then. So a call
-// that is given the bag takes no memory but its own. (A walk that owns a map is not handed on: the proof that it may be
-// dropped there is not found for any number of stored bytes.)
+// that is given the bag takes no memory but its own.
 fn drain<const PREFIX_LEN: usize>(
     rt: &(impl Print + AllocGlobal),
     other: &mut TreeMap<EndedKey, u64, PREFIX_LEN>,
@@ -114,7 +157,8 @@ fn drain<const PREFIX_LEN: usize>(
 ) -> io::Result<()>
     requires { PREFIX_LEN ≤ 16 }
 {
-    let mut walk = mem::replace(other, TreeMap::with_prefix_len(rt.alloc())).into_iter();
+    let mut is_done = true;
+    let mut walk = taken(rt.alloc(), other).into_iter();
     for _ in 0..walk.len() {
         let pair = if end == "b" {
             walk.next_back()
@@ -122,10 +166,10 @@ fn drain<const PREFIX_LEN: usize>(
             walk.next()
         };
         if let Some(pair) = pair {
-            bag.push(pair)?;
+            is_done = bag.push(pair).is_ok() && is_done;
         }
     }
-    println!(rt; "done")
+    println!(rt; "{}", if is_done { "done" } else { "memory" })
 }
 
 // The bag's pairs are put in one by one.
@@ -137,47 +181,6 @@ fn extend<const PREFIX_LEN: usize>(
     match map.extend(mem::replace(bag, Vec::new(rt.alloc()))) {
         Ok(()) => println!(rt; "done"),
         Err(refused) => show_refused(rt, refused.key, refused.value),
-    }
-}
-
-// The map is made anew of the bag's pairs.
-fn make<const PREFIX_LEN: usize>(
-    rt: &(impl Print + AllocGlobal),
-    map: &mut TreeMap<EndedKey, u64, PREFIX_LEN>,
-    bag: &mut Bag,
-    call: &str,
-) -> io::Result<()>
-    requires { PREFIX_LEN ≤ 16 }
-{
-    let pairs = mem::replace(bag, Vec::new(rt.alloc()));
-    let made = if call == "from_vec" {
-        TreeMap::from_vec(rt.alloc(), pairs)
-    } else {
-        TreeMap::from_iter(rt.alloc(), pairs)
-    };
-    match made {
-        Ok(made) => {
-            *map = made;
-            println!(rt; "done")
-        }
-        Err(refused) => show_refused(rt, refused.key, refused.value),
-    }
-}
-
-// The second map becomes a clone of the first.
-fn clone<const PREFIX_LEN: usize>(
-    rt: &impl Print,
-    map: &TreeMap<EndedKey, u64, PREFIX_LEN>,
-    other: &mut TreeMap<EndedKey, u64, PREFIX_LEN>,
-) -> io::Result<()>
-    requires { PREFIX_LEN ≤ 16 }
-{
-    match map.clone() {
-        Ok(copy) => {
-            *other = copy;
-            println!(rt; "done")
-        }
-        Err(_) => println!(rt; "memory"),
     }
 }
 
@@ -206,12 +209,12 @@ fn compare<const PREFIX_LEN: usize>(
     map: &TreeMap<EndedKey, u64, PREFIX_LEN>,
     other: &TreeMap<EndedKey, u64, PREFIX_LEN>,
 ) -> io::Result<()> {
-    let order = match map.cmp(other) {
-        Ordering::Less => "less",
-        Ordering::Equal => "equal",
-        Ordering::Greater => "greater",
-    };
-    println!(rt; "{order} {}", map == other)
+    let order = map.cmp(other);
+    if map.partial_cmp(other) == Some(order) {
+        show_order(rt, order, map == other)
+    } else {
+        println!(rt; "another order")
+    }
 }
 
 pub fn answer<const PREFIX_LEN: usize>(
@@ -230,15 +233,25 @@ pub fn answer<const PREFIX_LEN: usize>(
         },
         "drain" => drain(rt, other, bag, asked.words[0])?,
         "extend" => extend(rt, map, bag)?,
-        "from_vec" | "from_iter" => make(rt, map, bag, asked.call)?,
-        "clone" => clone(rt, map, other)?,
+        "from_vec" => {
+            let pairs = mem::replace(bag, Vec::new(rt.alloc()));
+            replace_by_pairs(rt, map, TreeMap::from_vec(rt.alloc(), pairs))?;
+        }
+        "from_iter" => {
+            let pairs = mem::replace(bag, Vec::new(rt.alloc()));
+            replace_by_pairs(rt, map, TreeMap::from_iter(rt.alloc(), pairs))?;
+        }
+        "clone" => replace(rt, other, map.clone())?,
         "compare" => compare(rt, map, other)?,
+        "debug" => show_text(rt, map)?,
+        "extend_from_refs" => copy_map(rt, map)?,
+        "hash" => show_hash(rt, map)?,
         "remove_from_both" => remove_from_both(rt, map, other, asked.first)?,
         "swap" => {
             mem::swap(map, other);
             println!(rt; "done")?;
         }
-        "split_off" => split_off(rt, map, other, asked.first)?,
+        "split_off" => replace(rt, other, map.split_off(&SliceKey(asked.first)))?,
         "into_iter" => into_iter(rt, map, asked.words[0])?,
         "into_keys" => into_keys(rt, map, asked.words[0])?,
         "into_values" => into_values(rt, map, asked.words[0])?,

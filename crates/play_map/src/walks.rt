@@ -34,14 +34,14 @@ pub fn left(len: usize, hint: (usize, Option<usize>)) -> usize {
 }
 
 /// Prints a pair in a list.
-pub fn show_in_list<K: AsBytes>(rt: &impl Print, pair: Option<(&K, &u64)>) -> io::Result<()> {
+pub fn show_in_list<K: PlayedKey>(rt: &impl Print, pair: Option<(&K, &u64)>) -> io::Result<()> {
     match pair {
-        Some((key, value)) => print!(rt; "{:?} {value}, ", key.as_bytes()),
+        Some((key, value)) => print!(rt; "{key} {value}, "),
         None => print!(rt; "None, "),
     }
 }
 
-fn show_iter<K: AsBytes, const PREFIX_LEN: usize>(
+fn show_iter<K: PlayedKey, const PREFIX_LEN: usize>(
     rt: &impl Print,
     mut walk: Iter<'_, K, u64, PREFIX_LEN>,
     ends: &str,
@@ -58,7 +58,7 @@ fn show_iter<K: AsBytes, const PREFIX_LEN: usize>(
     println!(rt; "end")
 }
 
-fn show_keys<K: AsBytes, const PREFIX_LEN: usize>(
+fn show_keys<K: PlayedKey, const PREFIX_LEN: usize>(
     rt: &impl Print,
     mut walk: Keys<'_, K, u64, PREFIX_LEN>,
     ends: &str,
@@ -72,7 +72,7 @@ fn show_keys<K: AsBytes, const PREFIX_LEN: usize>(
         match key {
             Some(key) => {
                 let left = left(walk.len(), walk.size_hint());
-                print!(rt; "{left} {:?}, ", key.as_bytes())?
+                print!(rt; "{left} {key}, ")?
             }
             None => print!(rt; "None, ")?,
         }
@@ -80,7 +80,7 @@ fn show_keys<K: AsBytes, const PREFIX_LEN: usize>(
     println!(rt; "end")
 }
 
-fn show_values<K: AsBytes, const PREFIX_LEN: usize>(
+fn show_values<K: PlayedKey, const PREFIX_LEN: usize>(
     rt: &impl Print,
     mut walk: Values<'_, K, u64, PREFIX_LEN>,
     ends: &str,
@@ -96,7 +96,7 @@ fn show_values<K: AsBytes, const PREFIX_LEN: usize>(
     println!(rt; "end")
 }
 
-fn show_range<K: AsBytes, const PREFIX_LEN: usize>(
+fn show_range<K: PlayedKey, const PREFIX_LEN: usize>(
     rt: &impl Print,
     mut walk: Range<'_, K, u64, PREFIX_LEN>,
     ends: &str,
@@ -112,7 +112,7 @@ fn show_range<K: AsBytes, const PREFIX_LEN: usize>(
     println!(rt; "end")
 }
 
-fn show_prefix<K: AsBytes, const PREFIX_LEN: usize>(
+fn show_prefix<K: PlayedKey, const PREFIX_LEN: usize>(
     rt: &impl Print,
     mut walk: Prefix<'_, K, u64, PREFIX_LEN>,
     ends: &str,
@@ -164,19 +164,19 @@ fn range_mut<K: PlayedKey, const PREFIX_LEN: usize>(
 }
 
 // Adds a number to a value that is lent with its key, and prints what was there.
-fn raise_pair<K: AsBytes>(
+fn raise_pair<K: PlayedKey>(
     rt: &impl Print,
     (key, value): (&K, &mut u64),
     number: u64,
 ) -> io::Result<()> {
     let old = *value;
     *value = old.wrapping_add(number);
-    print!(rt; "{:?} {old}, ", key.as_bytes())
+    print!(rt; "{key} {old}, ")
 }
 
 // Takes a step of a range that lends values: `f` and `b` lend one, `p` and `q` one with its key, from the front and
 // from the back.
-fn step_between<K: AsBytes, const PREFIX_LEN: usize>(
+fn step_between<K: PlayedKey, const PREFIX_LEN: usize>(
     rt: &impl Print,
     walk: &mut RangeMut<'_, K, u64, PREFIX_LEN>,
     letter: u8,
@@ -198,7 +198,7 @@ fn step_between<K: AsBytes, const PREFIX_LEN: usize>(
 }
 
 // The same of a walk over all pairs.
-fn step<K: AsBytes, const PREFIX_LEN: usize>(
+fn step<K: PlayedKey, const PREFIX_LEN: usize>(
     rt: &impl Print,
     walk: &mut IterMut<'_, K, u64, PREFIX_LEN>,
     letter: u8,

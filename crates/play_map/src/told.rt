@@ -1,0 +1,52 @@
+// What a hasher is fed with, orders and texts.
+
+ghost use Rattle.std.specs.Prelude.{◌+◌, ◌*◌, ◌%◌, ◌^◌, length, slice_get};
+ghost use Rattle.std.specs.Option.{unwrap_or};
+
+use std::cmp::Ordering;
+use std::hash::{Hash, Hasher};
+use std::{fmt, io};
+
+/// A hasher that goes by the number of bytes of each write, and by its first.
+#[derive(Drop)]
+struct FirstBytes(u64);
+
+impl Hasher for FirstBytes {
+    ghost write = { λ s bytes. record {
+      0 = ((((s.0 * 31) % 2 ^ 64 + length bytes) % 2 ^ 64 * 31) % 2 ^ 64
+          + unwrap_or (slice_get bytes 0) 0) % 2 ^ 64;
+    } };
+
+    ghost finish = { λ s. s.0 };
+
+    fn finish(&self) -> u64 {
+        self.0
+    }
+
+    fn write(&mut self, bytes: &[u8]) {
+        let first = bytes.first().copied().unwrap_or(0);
+        let counted = self.0.wrapping_mul(31).wrapping_add(bytes.len() as u64);
+        self.0 = counted.wrapping_mul(31).wrapping_add(first as u64);
+    }
+}
+
+/// Prints what a hasher makes of what it is fed with.
+pub fn show_hash<T: Hash>(rt: &impl Print, fed: &T) -> io::Result<()> {
+    let mut state = FirstBytes(0);
+    fed.hash(&mut state);
+    println!(rt; "{}", state.finish())
+}
+
+/// Prints how two of a kind compare, and whether they are equal.
+pub fn show_order(rt: &impl Print, order: Ordering, is_equal: bool) -> io::Result<()> {
+    match order {
+        Ordering::Less => println!(rt; "less {is_equal}"),
+        Ordering::Equal => println!(rt; "equal {is_equal}"),
+        Ordering::Greater => println!(rt; "greater {is_equal}"),
+    }
+}
+
+/// Prints a text.
+pub fn show_text<T: fmt::Debug>(rt: &impl Print, shown: &T) -> io::Result<()> {
+    println!(rt; "{shown:?}")
+}
