@@ -14,9 +14,9 @@ import os
 import resource
 import subprocess
 import sys
-import tempfile
 
 import operations
+import windows
 from operations_model import Model, bytes_in, shown
 
 SHIM = os.path.abspath("out/refuse-operations.so")
@@ -30,14 +30,9 @@ seen_of = {}
 
 def run(program, refuse, line, text):
     """Returns what the shim wrote of the window, and the answers."""
-    with tempfile.TemporaryFile() as trace:
-        env = {"LD_PRELOAD": SHIM, "REFUSE": refuse, "REFUSE_TRACE": str(trace.fileno()), "REFUSE_LINE": str(line)}
-        how = {"capture_output": True, "env": env, "pass_fds": [trace.fileno()], "timeout": 60}
-        ran = subprocess.run([program], input=text, **how)
-        trace.seek(0)
-        seen = trace.read().decode()
-    assert ran.returncode == 0, f"REFUSE={refuse} {seen}: status {ran.returncode}: {ran.stderr[-300:]}"
-    return seen, ran.stdout.decode().splitlines()
+    status, seen, out, err = windows.run([program], SHIM, refuse, line, text)
+    assert status == 0, f"REFUSE={refuse} {seen}: status {status}: {err[-300:]}"
+    return seen, out.decode().splitlines()
 
 
 def named_by(word):
@@ -147,7 +142,7 @@ def main():
     word, counts = sys.argv[1] if len(sys.argv) > 1 else "", {True: 0, False: 0}
     resource.setrlimit(resource.RLIMIT_CORE, (0, 0))
     os.makedirs("out", exist_ok=True)
-    subprocess.run(["cc", "-O2", "-Wall", "-shared", "-fPIC", "-o", SHIM, "tests/refuse.c"], check=True)
+    windows.build(SHIM)
     for by in ("", ".by-rattle"):  # as LLVM builds it, and as Rattle's own compiler does
         for name, lines in operations.scripts(4, 6, 60, 1):
             if name.startswith("long_"):

@@ -23,13 +23,13 @@ import re
 import resource
 import subprocess
 import sys
-import tempfile
 from glob import glob
 
 import map_model
 import map_words
 import maps
 import reference
+import windows
 
 SCENARIOS, PROGRAM, REFUSED, CONFLICT = "refusals", "art_index", b"memory\n", b"conflict\n"
 # A scenario or test whose name ends so must ask for nothing in its window, and each other must ask for something.
@@ -69,15 +69,10 @@ def run(words, refuse, line=None, given=b"", status=0):
     """Returns what the shim wrote of the windows, and what the program wrote to its two outputs."""
     global runs
     runs += 1
-    with tempfile.TemporaryFile() as trace:
-        env = {"LD_PRELOAD": SHIM, "REFUSE": refuse, "REFUSE_TRACE": str(trace.fileno())}
-        env.update({} if line is None else {"REFUSE_LINE": str(line)})
-        ran = subprocess.run(words, input=given, capture_output=True, env=env, pass_fds=[trace.fileno()], timeout=60)
-        trace.seek(0)
-        seen = trace.read().decode()
-    why = f"REFUSE={refuse} {seen}: status {ran.returncode}: {ran.stdout[-300:]} {ran.stderr[-300:]}"
-    assert ran.returncode == (status if "x" in seen else 0), why
-    return seen, ran.stdout, ran.stderr
+    ended, seen, out, err = windows.run(words, SHIM, refuse, line, given)
+    why = f"REFUSE={refuse} {seen}: status {ended}: {out[-300:]} {err[-300:]}"
+    assert ended == (status if "x" in seen else 0), why
+    return seen, out, err
 
 
 def each_refusal(words, **how):
@@ -307,7 +302,7 @@ def table():
 
 resource.setrlimit(resource.RLIMIT_CORE, (0, 0))
 os.makedirs("out", exist_ok=True)
-subprocess.run(["cc", "-O2", "-Wall", "-shared", "-fPIC", "-o", SHIM, "tests/refuse.c"], check=True)
+windows.build(SHIM)
 of_tests()
 for by in ("", ".by-rattle"):  # as LLVM builds them, and as Rattle's own compiler does
     of_scenarios(by)
