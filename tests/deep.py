@@ -6,9 +6,9 @@ The keys are so many bytes 01 and then 00, for each number up to one below 100,0
 longest, each below the one before. A call that goes down by calling itself would need more stack than there is. The
 keys share their bytes (`tails`), else they would take gigabytes. Each call of the tables of tests/maps.py is made with
 keys that are stored, absent, in conflict, and go on behind one, near the root, halfway and at the last branch, and its
-answer is held against the model's; behind a call that changes keys the checker counts the nodes of a map, of the deepest
-behind some. A call that goes down once for each of many keys is made for one length of prefixes. The program as the
-other compiler makes it plays over keys of 5,000 bytes.
+answer is held against the model's; behind a call that changes keys the checker counts the nodes of a map, of the
+deepest behind some. A call that goes down once for each of many keys is made for one length of prefixes. The program as
+the other compiler makes it plays over keys of 5,000 bytes.
 """
 import functools
 import itertools
@@ -33,7 +33,8 @@ RUNS = (DEEP, 0, ""), (DEEP, 4, ""), (DEEP, 16, ""), (SMALL, 4, ""), (SMALL, 4, 
 FEW = 120
 ENDS, STEPS = "fbfb", "fbpq"
 # Calls with a front of many keys, where none prints them all.
-COUNTED = ("prefix_insert", "prefix_get", "prefix_get_key_value", "get", "remove", "contains_key", "try_insert", "put_at")
+COUNTED = ("prefix_insert", "prefix_get", "prefix_get_key_value", "get", "remove", "contains_key", "try_insert")
+COUNTED += ("put_at",)
 # Calls that leave a map without most of its keys, and calls that use both maps, between which the keys are parted.
 EMPTYING = ("clear", "retain", "into_iter", "into_keys", "into_values", "remove_prefix", "apply_prefix")
 EMPTYING += ("remove_from_both",)

@@ -87,7 +87,7 @@ class Entries:
         return f"{shown(self.pairs.kept(key))} {value}" if call.endswith("_entry") else str(value)
 
     def write_over(self, key, number):
-        """The value of an entry: of a stored key, which stays, or else with its own in the place of what it overlaps."""
+        """The value of an entry: of a stored key, which stays, or else of its own in the place of what it overlaps."""
         if key in self.pairs:
             self.pairs[key] = int(number or 0)
         else:
