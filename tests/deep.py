@@ -38,7 +38,7 @@ COUNTED += ("put_at",)
 # Calls that leave a map without most of its keys, and calls that use both maps, between which the keys are parted.
 EMPTYING = ("clear", "retain", "into_iter", "into_keys", "into_values", "remove_prefix", "apply_prefix")
 EMPTYING += ("remove_from_both",)
-WITH_OTHER = ("append", "swap", "extend")
+WITH_OTHER = ("append", "swap", "extend", "extend_from_refs")
 # Calls before which the other one has all keys but two, and calls before which it has these two.
 WITH_MORE = ("difference", "symmetric_difference", "xor", "minus", "compare", "is_subset", "is_superset", "is_disjoint")
 WITH_TWO = ("intersection", "and")

@@ -265,7 +265,10 @@ class Model(Entries):
         return "{" + ", ".join(f"{text(key)}: {self.pairs[key]}" for key in self.pairs.keys_in_order) + "}"
 
     def call_extend_from_refs(self, *_):
-        return f"{len(self.pairs)} true"
+        """The text of the pairs of both, those of the first in the place of others."""
+        both = {key: self.pairs[key] for key in self.pairs.keys_in_order}
+        both |= {key: value for key, value in self.other.items() if key not in both}
+        return "{" + ", ".join(f"{text(key)}: {both[key]}" for key in sorted(both)) + "}"
 
     def call_compare(self, *_):
         mine, others = sorted(self.pairs.items()), sorted(self.other.items())

@@ -174,7 +174,7 @@ class SetModel:
         return "{" + ", ".join(map(text, sorted(self.keys))) + "}"
 
     def call_extend_from_refs(self, *_):
-        return f"{len(self.keys)} true"
+        return "{" + ", ".join(map(text, sorted(self.keys | (self.other - self.keys)))) + "}"
 
     def call_compare(self, *_):
         mine, others = sorted(self.keys), sorted(self.other)

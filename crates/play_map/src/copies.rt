@@ -3,67 +3,82 @@
 ghost use Rattle.std.specs.Prelude.{◌≤◌};
 
 use crate::key::EndedKey;
-use art_bytes::AsBytes;
+use crate::told::show_text;
 use art_map::TreeMap;
 use art_set::TreeSet;
 use std::io;
 
-// Copies all pairs of a map, whose keys are lent to it, into another one.
-fn copy_pairs<const PREFIX_LEN: usize>(
+// Copies all pairs of a map, whose keys are lent to it, over those of another, whose keys are lent too.
+fn copy_pairs<'a, const PREFIX_LEN: usize>(
     rt: &(impl Print + AllocGlobal),
-    lent: &TreeMap<&EndedKey, u64, PREFIX_LEN>,
+    lent: &TreeMap<&'a EndedKey, u64, PREFIX_LEN>,
+    other: &'a TreeMap<EndedKey, u64, PREFIX_LEN>,
 ) -> io::Result<()>
     requires { PREFIX_LEN ≤ 16 }
 {
-    let mut copied: TreeMap<&EndedKey, u64, PREFIX_LEN> = TreeMap::with_prefix_len(rt.alloc());
+    let mut copied: TreeMap<&'a EndedKey, u64, PREFIX_LEN> = TreeMap::with_prefix_len(rt.alloc());
+    for (key, value) in other.iter().rev() {
+        if copied.insert(key, *value).is_err() {
+            return println!(rt; "memory");
+        }
+    }
     match copied.extend_from_refs(lent.iter().rev()) {
-        Ok(()) => println!(rt; "{} {}", copied.len(), copied == *lent),
+        Ok(()) => show_text(rt, &copied),
         Err(refused) => println!(rt; "memory {} {}", refused.key, refused.value),
     }
 }
 
-/// A map that is lent all keys of this one is copied into another, which then has to equal it.
-pub fn copy_map<const PREFIX_LEN: usize>(
+/// A map that is lent all keys of this one is copied over one that is lent those of the other, whose text then shows
+/// which of two equal keys it has.
+pub fn copy_map<'a, const PREFIX_LEN: usize>(
     rt: &(impl Print + AllocGlobal),
-    map: &TreeMap<EndedKey, u64, PREFIX_LEN>,
+    map: &'a TreeMap<EndedKey, u64, PREFIX_LEN>,
+    other: &'a TreeMap<EndedKey, u64, PREFIX_LEN>,
 ) -> io::Result<()>
     requires { PREFIX_LEN ≤ 16 }
 {
-    let mut lent: TreeMap<&EndedKey, u64, PREFIX_LEN> = TreeMap::with_prefix_len(rt.alloc());
+    let mut lent: TreeMap<&'a EndedKey, u64, PREFIX_LEN> = TreeMap::with_prefix_len(rt.alloc());
     for (key, value) in map.iter().rev() {
         if lent.insert(key, *value).is_err() {
             return println!(rt; "memory");
         }
     }
-    copy_pairs(rt, &lent)
+    copy_pairs(rt, &lent, other)
 }
 
-// Copies all keys of a set, to which they are lent, into another one.
-fn copy_keys<const PREFIX_LEN: usize>(
+// Copies all keys of a set, to which they are lent, over those of another, to which they are lent too.
+fn copy_keys<'a, const PREFIX_LEN: usize>(
     rt: &(impl Print + AllocGlobal),
-    lent: &TreeSet<&EndedKey, PREFIX_LEN>,
+    lent: &TreeSet<&'a EndedKey, PREFIX_LEN>,
+    other: &'a TreeSet<EndedKey, PREFIX_LEN>,
 ) -> io::Result<()>
     requires { PREFIX_LEN ≤ 16 }
 {
-    let mut copied: TreeSet<&EndedKey, PREFIX_LEN> = TreeSet::with_prefix_len(rt.alloc());
+    let mut copied: TreeSet<&'a EndedKey, PREFIX_LEN> = TreeSet::with_prefix_len(rt.alloc());
+    for key in other.iter().rev() {
+        if copied.insert(key).is_err() {
+            return println!(rt; "memory");
+        }
+    }
     match copied.extend_from_refs(lent.iter().rev()) {
-        Ok(()) => println!(rt; "{} {}", copied.len(), copied == *lent),
+        Ok(()) => show_text(rt, &copied),
         Err(refused) => println!(rt; "memory {}", refused.key),
     }
 }
 
 /// The same of a set.
-pub fn copy_set<const PREFIX_LEN: usize>(
+pub fn copy_set<'a, const PREFIX_LEN: usize>(
     rt: &(impl Print + AllocGlobal),
-    set: &TreeSet<EndedKey, PREFIX_LEN>,
+    set: &'a TreeSet<EndedKey, PREFIX_LEN>,
+    other: &'a TreeSet<EndedKey, PREFIX_LEN>,
 ) -> io::Result<()>
     requires { PREFIX_LEN ≤ 16 }
 {
-    let mut lent: TreeSet<&EndedKey, PREFIX_LEN> = TreeSet::with_prefix_len(rt.alloc());
+    let mut lent: TreeSet<&'a EndedKey, PREFIX_LEN> = TreeSet::with_prefix_len(rt.alloc());
     for key in set.iter().rev() {
         if lent.insert(key).is_err() {
             return println!(rt; "memory");
         }
     }
-    copy_keys(rt, &lent)
+    copy_keys(rt, &lent, other)
 }

@@ -428,7 +428,7 @@ fn make<const PREFIX_LEN: usize>(
         "clone" => replace(rt, other, set.clone())?,
         "into_iter" => into_iter(rt, set, asked.words[0])?,
         "drain" => drain(rt, other, bag, asked.words[0])?,
-        "extend_from_refs" => copy_set(rt, set)?,
+        "extend_from_refs" => copy_set(rt, set, other)?,
         "extend" => extend(rt, set, bag)?,
         "from_vec" => {
             let keys = mem::replace(bag, Vec::new(rt.alloc()));

@@ -244,7 +244,7 @@ pub fn answer<const PREFIX_LEN: usize>(
         "clone" => replace(rt, other, map.clone())?,
         "compare" => compare(rt, map, other)?,
         "debug" => show_text(rt, map)?,
-        "extend_from_refs" => copy_map(rt, map)?,
+        "extend_from_refs" => copy_map(rt, map, other)?,
         "hash" => show_hash(rt, map)?,
         "remove_from_both" => remove_from_both(rt, map, other, asked.first)?,
         "swap" => {
