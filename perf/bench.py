@@ -2,7 +2,7 @@
 """./bench: times the tree and the map beside the kit's BTreeMap, all proved, and prints tables with ratios.
 
     ./bench [--sizes 10000,100000] [--sets dense,rand8,rand16,url] [--repeats 5] [--instr] [--walks SIZE]
-        [--ranges SIZE] [--entries SIZE] [--program SIZES] [--nothing LINES] [--perf FOLDER]
+        [--ranges SIZE] [--entries SIZE] [--program SIZES] [--nothing LINES] [--quick] [--perf FOLDER]
 It proves and builds the libraries where they are not built, and needs nothing but rt and cc. --walks SIZE times walks
 over so many pairs, from the front and from both ends, the check of a tree, its clone and its free. --ranges SIZE times
 ranges of 100 pairs and of one, and walks of the pairs behind a prefix, in maps of so many pairs. --entries SIZE times
@@ -14,7 +14,8 @@ libabsl-dev): its table follows, with unproved peers, and three of them stand in
 needs it, times lines of the program beside its peers (those of the yardsticks, and the unproved tree with a `Vec` for
 each key and value, without and with linked leaves): loads, `get` lines, misses and dumps. --nothing LINES, which needs
 it too, times so many lines on an empty index, that is, how they are read and answered (and with --instr counts the
-instructions of 3,000). --sizes '' leaves look-ups and insertions out.
+instructions of 3,000). With --quick both take the program that is built at once, without proofs and with run-time checks
+(tools/quick.py), in place of the proved one. --sizes '' leaves look-ups and insertions out.
 Standard error tells how far it is. Times are processor time, the least of the repeats, one competitor after the other in
 each; take ratios from one run alone. Of look-ups, insertions and lines two are told: by the least, and by the median of
 the ratios round by round.
@@ -30,6 +31,9 @@ import sys
 import tempfile
 import time
 from glob import glob
+
+sys.path.insert(0, os.path.join(os.path.dirname(os.path.dirname(os.path.abspath(__file__))), "tools"))
+import quick
 
 MAPS = {"tree": "bench_tree", "map": "bench_map", "BTreeMap": "bench_btree"}
 PEERS = {"art-vec": [], "art-list": ["--features", "list"], "btree": ["--features", "btree"]}
@@ -336,13 +340,21 @@ def line_costs(folder, programs, key_set, size, repeats):
     return seen
 
 
-def program(folder, asked):
-    """The program beside its peers: nanoseconds of a line, or of a record dumped, and bytes of peak memory a record."""
+def here(asked):
+    """The path of art_index, proved and built; or built without proofs, which the output then says."""
+    if asked.quick:
+        print("\n`here` is built without proofs and has run-time checks.", flush=True)
+        return os.path.abspath(quick.kept(".", tell))
     tell("proving and building art_index, where it is not built")
     called([os.environ.get("RT", "rt"), "run"], cwd="crates/art_index", stdin=subprocess.DEVNULL)
+    return os.path.abspath("crates/art_index/out/art_index")
+
+
+def program(folder, asked):
+    """The program beside its peers: nanoseconds of a line, or of a record dumped, and bytes of peak memory a record."""
     programs = {name: f"{folder}/bin/peer_{name}" for name in LINE_PEERS}
     programs |= {name: f"{folder}/{name}/release/lines" for name in LINE_TREES}
-    programs["here"] = os.path.abspath("crates/art_index/out/art_index")
+    programs["here"] = here(asked)
     for size in map(int, asked.program.split(",")):
         print(f"\n{size} records, nanoseconds a line (a record of a dump), bytes a record:\n")
         held_to = ("btree", "art", *LINE_TREES)
@@ -376,10 +388,8 @@ def instructions_of_program(path, script):
 
 def nothing(folder, asked):
     """Lines that do nothing, on an empty index: nanoseconds a line beside the peers, or instructions."""
-    tell("proving and building art_index, where it is not built")
-    called([os.environ.get("RT", "rt"), "run"], cwd="crates/art_index", stdin=subprocess.DEVNULL)
     programs = {it: f"{folder}/bin/peer_{it}" for it in NOTHING_PEERS if os.path.exists(f"{folder}/bin/peer_{it}")}
-    programs["here"] = os.path.abspath("crates/art_index/out/art_index")
+    programs["here"] = here(asked)
     script, none = f"{folder}/lines", f"{folder}/none"
     open(none, "w").close()
     source = random.Random(5)
@@ -485,6 +495,7 @@ def main():
     parser.add_argument("--entries", type=int, default=0)
     parser.add_argument("--program", default="")
     parser.add_argument("--nothing", type=int, default=0)
+    parser.add_argument("--quick", action="store_true")
     parser.add_argument("--instr", action="store_true")
     parser.add_argument("--instr-size", type=int, default=10000)
     parser.add_argument("--perf")

@@ -12,7 +12,7 @@ Counted are lines that are neither blank nor comment, and words: in a face, of t
 in the headline of all, with the clauses and main.rt; in laws, of those that no face has, and no laws of a crate below.
 The headline reads `command_of` as `Spells`: the law `reading_is_spelling` says that the one answers what the other
 means.
-Budgets stand in docs/DEFINITIONS.md, under the heading 'Budget of lines to believe', in a table | row | lines | .. |.
+Budgets stand in docs/PROOFS.md, under the heading 'Budget of lines to believe', in a table | row | lines | .. |.
 """
 import os
 import re
@@ -21,8 +21,10 @@ import sys
 from contracts import CRATES, SPECS, Source, closure, counted, read_specs
 
 PROGRAM, HEADLINE = "art_index", "run"
-TIED = {(PROGRAM, "Reading", "command_of"): (PROGRAM, "Commands", "Spells")}
-PAGE, HEADING = "docs/DEFINITIONS.md", "Budget of lines to believe"
+# The crates in which the headline's contracts stand: that of `run`, and those of what it is given.
+ENGINE, LANGUAGE = "art_engine", "art_lines"
+TIED = {(LANGUAGE, "Reading", "command_of"): (LANGUAGE, "Commands", "Spells")}
+PAGE, HEADING = "docs/PROOFS.md", "Budget of lines to believe"
 
 
 def rows():
@@ -30,11 +32,12 @@ def rows():
     for crate in CRATES:
         source = Source(crate)
         if source.is_program and crate == PROGRAM:
-            bounds = re.search(rf"\bfn {HEADLINE}<([^>]*)>", " ".join(source.files.values()))[1]
+            engine, language = Source(ENGINE), Source(LANGUAGE)
+            bounds = re.search(rf"\bfn {HEADLINE}<([^>]*)>", " ".join(engine.files.values()))[1]
             main = source.files[f"crates/{crate}/src/main.rt"]
             made = {f"{it}::new" for it in re.findall(r"\b([A-Z]\w*)::new\(", main)}
             wanted = {HEADLINE, *re.findall(r": (\w+)", bounds)} | made
-            parts = [it for it in source.contracts if it[1] in wanted]
+            parts = [it for it in engine.contracts + language.contracts if it[1] in wanted]
             yield f"{crate}, headline and program", parts, [f"crates/{crate}/src/main.rt"]
         is_law = lambda it: re.search(r"/src/laws\b", it[0])
         face = [it for it in source.contracts if not is_law(it)]

@@ -1,29 +1,18 @@
 #!/usr/bin/env python3
-"""Compares what CALLING.md of each library shows in Rust with the callers that are proved and run.
+"""Looks that what the README of each library shows in Rust is a caller that is proved.
 
     tests/calling.py      at the top of the repository
-The Rust blocks of crates/NAME/CALLING.md, one after another, are letter for letter the text of
-crates/NAME_tests/src/calling.rt behind its first comment. Only #![tactic(auto)], which a root file has, is passed over.
-uses/README.md has a section for each program crates/use_NAME: its Rust block is a part of src/main.rt, letter for letter,
-and its text blocks are stdin and stdout.
+Each Rust block of crates/NAME/README.md is a part of crates/NAME_tests/src/calling.rt, letter for letter (for art_lines of
+that of art_engine_tests), and each library that has such callers shows one. uses/README.md has a section for each program crates/use_NAME: its Rust block is a part
+of src/main.rt, letter for letter, and its text blocks are stdin and stdout.
 """
 import re
 import sys
 from glob import glob
-from itertools import zip_longest
-
-ROOT_LINE = "#![tactic(auto)]"
 
 
-def shown(page):
-    """The lines of a page's Rust blocks, without blank ones."""
-    blocks = re.findall(r"^```rust\n(.*?)^```$", page, re.MULTILINE | re.DOTALL)
-    return [it for block in blocks for it in block.splitlines() if it.strip() and it != ROOT_LINE]
-
-
-def proved(source):
-    """The lines of a file of callers, without blank ones and its first comment."""
-    return [it for it in source.splitlines() if it.strip() and not it.startswith("//!")]
+# Libraries whose callers stand among those of another one.
+CALLED_IN = {"art_lines": "art_engine_tests"}
 
 
 def read(path):
@@ -34,16 +23,22 @@ def read(path):
         return None
 
 
+def blocks(kind, page):
+    return re.findall(rf"^```{kind}\n(.*?)^```$", page, re.MULTILINE | re.DOTALL)
+
+
 def fault(name):
-    """Says where the page and the callers of a library part, or nothing."""
-    page, source = read(f"crates/{name}/CALLING.md"), read(f"crates/{name}_tests/src/calling.rt")
+    """Says what the page of a library shows that no caller is, or nothing."""
+    tests = CALLED_IN.get(name, f"{name}_tests")
+    page, source = read(f"crates/{name}/README.md"), read(f"crates/{tests}/src/calling.rt")
     if page is None or source is None:
         return "no callers" if source is None else "no page"
-    if not shown(page):
+    shown = blocks("rust", page)
+    if not shown:
         return "the page shows no caller"
-    for told, held in zip_longest(shown(page), proved(source), fillvalue="(the end)"):
-        if told != held:
-            return f"the page has\n    {told}\nand the callers have\n    {held}"
+    for block in shown:
+        if block not in source:
+            return f"the callers don't have\n{block}"
     return None
 
 
@@ -51,23 +46,23 @@ def use_fault(name, page):
     """Says where the section of a program parts from its files, or nothing."""
     at = page.find(f"../crates/{name}/src/main.rt")
     section = page[at:].split("\n## ")[0] if at >= 0 else ""
-    blocks = dict.fromkeys(("rust", "text"))
-    for kind in blocks:
-        blocks[kind] = re.findall(rf"^```{kind}\n(.*?)^```$", section, re.MULTILINE | re.DOTALL)
     given, told, source = (read(f"crates/{name}/{it}") for it in ("stdin", "stdout", "src/main.rt"))
-    if not blocks["rust"] or any(it not in source for it in blocks["rust"]):
+    shown = blocks("rust", section)
+    if not shown or any(it not in source for it in shown):
         return "uses/README.md shows what src/main.rt hasn't"
-    if blocks["text"] != [given, told]:
+    if blocks("text", section) != [given, told]:
         return "uses/README.md shows another input or output"
     return None
 
 
-paths = glob("crates/*/CALLING.md") + glob("crates/*_tests/src/calling.rt")
-faults = {name: fault(name) for name in sorted({it.split("/")[1].removesuffix("_tests") for it in paths})}
+paths = glob("crates/*_tests/src/calling.rt")
+names = {it.split("/")[1].removesuffix("_tests") for it in paths} | {*CALLED_IN}
+faults = {name: fault(name) for name in sorted(names)}
 uses = sorted(it.split("/")[1] for it in glob("crates/use_*/src/main.rt"))
 faults.update({name: use_fault(name, read("uses/README.md") or "") for name in uses})
 for name, why in faults.items():
-    print(f"{name}: FAILED: {why}" if why else f"{name}: ok")
-failed = sum(why is not None for why in faults.values())
+    if why:
+        print(f"{name}: FAILED: {why}")
+failed = sum(1 for why in faults.values() if why)
 print(f"{len(faults) - failed} passed, {failed} failed")
 sys.exit(bool(failed) or not faults)

@@ -34,9 +34,6 @@ static long number(const char *name, long other) {
 }
 
 __attribute__((constructor)) static void begin(void) {
-    /* What the stack may grow by stands before memory is short: its growth can't be refused, it ends a program. */
-    volatile char room[256 << 10];
-    for (size_t at = 0; at < sizeof room; at += 1024) room[at] = 0;
     state = (uint64_t)number("FAULT_SEED", 1) * 2 + 1;
     cuts = number("FAULT_CUTS", 0), first = number("FAULT_FIRST", 0), memory = number("FAULT_MEMORY", 0);
     error = number("FAULT_ERROR", EIO), times = number("FAULT_TIMES", 0);

@@ -4,9 +4,11 @@
     tests/gate.py rt ci      at the top of the repository
 On standard error stands a line at each change of state, and one a minute at least. The table has for each crate
 seconds of processor time: of its proof, of its tests (their proof, and the runs of tests and programs) and of its
-must-fail edits; and the memory held at most (PSS, in which shared memory counts once). Only this run's processes are
-looked at, twice a second, and each ten seconds for memory. The row 'all' is what the system counted of the whole run;
-what stands in no crate's row is rt itself, and what processes used behind the last look at them.
+must-fail edits (those of must-fail/ alone: tests/must_fail.py tries the others); and the memory held at most (PSS, in
+which shared memory counts once). Only this run's processes are looked at, twice a second, and each ten seconds for
+memory. The row 'all' is what the system counted of the whole run; what stands in no crate's row is rt itself, and what
+processes used behind the last look at them. Each library that was proved has a second name under out/rlibs, by which
+tests/must_fail.py finds what this run proved, also where a session's own libraries are put back.
 """
 import glob
 import os
@@ -17,6 +19,7 @@ import sys
 import threading
 import time
 
+import must_fail
 import processes
 
 ROOT, START = os.getcwd(), time.monotonic()
@@ -47,6 +50,9 @@ class State:
         found = re.match(r"rt: (\w+)(: its tests are)? (proved|NOT PROVED)", line)
         if found:
             (self.tested if found[2] else self.proved).add(found[1])
+        given = re.match(r"rt: (\w+) (?:proved|is kept: )", line)
+        if given:
+            keep_library(given[1])
         begins = re.match(r"rt: (\w+): trying its must-fail edits \((\d+)\)", line)
         if begins:
             self.edits[begins[1]] = int(begins[2])
@@ -87,6 +93,14 @@ class State:
         if line != self.said or now - self.when >= 55:
             self.said, self.when = line, now
             self.tell(f"{minutes()}: {line}")
+
+
+def keep_library(crate):
+    """Gives the files of a library that rt ci has just proved a second name, each."""
+    made, to = f"crates/{crate}/out/rlib/{crate}.rlib", f"out/rlibs/{crate}.rlib"
+    if os.path.isdir(made):
+        shutil.rmtree(to, ignore_errors=True)
+        shutil.copytree(made, to, copy_function=os.link)
 
 
 class Cost:
@@ -168,6 +182,10 @@ class Cost:
 def main():
     room = processes.begin()
     processes.end_by_signals(room)
+    shutil.rmtree("out/rlibs", ignore_errors=True)
+    os.makedirs("out/rlibs")
+    with open("out/rlibs/tree", "w", encoding="utf-8") as file:
+        file.write(must_fail.sum_of_tree())
     state = State()
     cost, ended = Cost(state), threading.Event()
 

@@ -2,9 +2,9 @@
 """./test --long [MINUTES]: tries all wrong bodies, and rt plant with so many minutes for each crate (10 if left out).
 Programs that are built with some of the wrong bodies must fail in the gate's runs, too (tests/wrong.py).
 
-It works on a copy of the repository outside it, which goes at the end; there the edits of more-edits/ stand in
-must-fail/. Standard error tells how far it is; what rt prints stands in out/long-*.log, and the summary in out/long.md,
-for docs/PLANTS.md. The last line is 'N passed, M failed': an edit that is refused passes, and so does a crate whose
+The edits of a crate are tried by tests/must_fail.py --all; plants on a copy of the repository outside it, which goes at
+the end. Standard error tells how far it is; what is printed stands in out/long-*.log, and the summary in out/long.md.
+The last line is 'N passed, M failed': an edit that is refused passes, and so does a crate whose
 plants were listed; a plant that is let through is listed, and fails nothing.
 So many tasks run side by side as there are pairs of processors, or as RT_JOBS says.
 """
@@ -16,6 +16,7 @@ import sys
 import time
 from glob import glob
 
+import edits
 import processes
 
 START, TOP = time.monotonic(), os.getcwd()
@@ -28,7 +29,7 @@ class Task:
 
     def __init__(self, crate, kind, words, folder, size=0):
         self.crate, self.kind, self.words, self.folder, self.size = crate, kind, words, folder, size
-        self.log, self.ran, self.rooms = f"{TOP}/out/long-{kind}-{crate}.log", None, {}
+        self.log, self.ran = f"{TOP}/out/long-{kind}-{crate}.log", None
 
     def begin(self):
         with open(self.log, "wb") as log:
@@ -38,13 +39,12 @@ class Task:
     def lines(self):
         return open(self.log, encoding="utf-8", errors="replace").read().splitlines()
 
-    def state(self, rooms):
-        """How far it is: an edit is tried once its folder has gone."""
+    def state(self):
+        """How far it is: an edit has a line once it was tried."""
         if self.kind == "wrong":
             return f"wrong programs, {len(self.lines())} tried"
         if self.kind == "edits":
-            self.rooms.update({it: True for it, crate in rooms.items() if crate == self.crate})
-            return f"edits of {self.crate} {min(sum(it not in rooms for it in self.rooms), self.size)} of {self.size}"
+            return f"edits of {self.crate} {len(self.lines())} of {self.size}"
         left = [it[1] for it in (re.match(r"rt: (\d+) plants left", line) for line in self.lines()) if it]
         return f"plants of {self.crate}{f', {left[-1]} left in this pass' if left else ''}"
 
@@ -53,28 +53,15 @@ def tasks_in(copy, minutes):
     yield Task("programs", "wrong", [sys.executable, "-uB", "tests/wrong.py"], TOP)
     crates = re.findall(r"(?m)^([\w-]+)[^#\n]*", open(f"{copy}/crates.txt", encoding="utf-8").read())
     for crate in crates:
-        folder = f"{copy}/crates/{crate}"
-        for edit in glob(f"{folder}/more-edits/*.edit"):
-            os.makedirs(f"{folder}/must-fail", exist_ok=True)
-            shutil.move(edit, f"{folder}/must-fail/{os.path.basename(edit)}")
-        size = len(glob(f"{folder}/must-fail/*.edit"))
+        size = sum(not it.place.startswith("tests/") for it in edits.of_crate(f"crates/{crate}"))
         if size:
-            yield Task(crate, "edits", ["rt", "must-fail", crate], copy, size)
+            words = [sys.executable, "-uB", "tests/must_fail.py", "--all", f"{crate}/"]
+            yield Task(crate, "edits", words, TOP, size)
     for crate in crates:
         texts = [open(it, encoding="utf-8").read() for it in glob(f"{copy}/crates/{crate}/src/**/*.rt", recursive=True)]
         if not crate.endswith("_tests") and any("ensures" in it for it in texts):
             words = ["rt", "plant", "--minutes", str(minutes), "--max", "9999"]
             yield Task(crate, "plants", words, f"{copy}/crates/{crate}")
-
-
-def rooms_now():
-    """The folders in which edits are being tried, with the crate of each."""
-    found = {}
-    for it in processes.of_run().values():
-        room = re.search(r"/rt-edit-[^/]*", it.text("cwd"))
-        crate = room and re.search(r"--crate-name\0(\w+)", it.text("cmdline"))
-        found.update({room[0]: crate[1]} if crate else {})
-    return found
 
 
 def run_all(tasks):
@@ -86,10 +73,9 @@ def run_all(tasks):
             running.append(todo.pop(0))
             running[-1].begin()
         time.sleep(1)
-        rooms = rooms_now()
         # (how many plants are left is told each minute, and no sooner)
         done = f"{len(tasks) - len(todo) - len(running)} of {len(tasks)} done"
-        line = ", ".join([done, *(it.state(rooms) for it in running)])
+        line = ", ".join([done, *(it.state() for it in running)])
         running = [it for it in running if it.ran.poll() is None]
         now, short = time.monotonic(), re.sub(r", \d+ left in this pass", "", line)
         if short != said or now - when >= 55:
@@ -109,11 +95,11 @@ def summary(tasks):
             lines = task.lines()
             end = lines[-1][:200] if lines else "rt said nothing"
             if task.kind == "edits":
-                tried = dict(re.findall(rf"(?m)^rt: must-fail {crate}/(\S+)\.edit: (.*)", "\n".join(lines)))
-                refused = [it for it, said in tried.items() if said.startswith("refused")]
+                tried = dict(re.findall(rf"(?m)^{crate}/(\S+): (.*)", "\n".join(lines)))
+                refused = [it for it, said in tried.items() if said.startswith("refused: ")]
                 row["edits"], row["kept"] = task.size, len(refused)
                 counts[0], counts[1] = counts[0] + len(refused), counts[1] + task.size - len(refused)
-                told += [f"- FAILED: edit `{it}`: {said[:160]}" for it, said in tried.items() if it not in refused]
+                told += [f"- edit `{it}`: {said[:200]}" for it, said in tried.items() if it not in refused]
                 if len(tried) < task.size:
                     told.append(f"- FAILED: {task.size - len(tried)} edits were not tried: {end}")
             else:

@@ -7,7 +7,7 @@ ones, and six that are made at random, once for each line of it. The line stands
 refusal that it may answer, the checker must find the tree as it was in between, and all else must be as if it stood
 once. Where no request is refused, the answers are the model's too; so what asks for no memory succeeds with every
 request refused. How many requests each call made at most, and in how many runs one was refused, goes to
-out/operations_refused.md, for docs/REFUSALS.md.
+out/operations_refused.md.
 """
 import itertools
 import os

@@ -1,12 +1,15 @@
 #!/usr/bin/env python3
 """Runs art_index as others see it: its replies, its statuses and texts, its replies while it waits, its system calls.
 
-    tests/program.py [WORD]      at the top of the repository, after rt ci; WORD: only tests that have it in their name
-Each test runs both of the programs that rt ci has built, as LLVM and as Rattle's own compiler make it. The first ones
-are worked rows: the lines of tests/rows/NAME.lines are answered by tests/rows/NAME.replies, which were written by hand
-and not by a program, however the lines are cut, and the model of tests/reference.py answers the same.
+    tests/program.py [--program PATH] [WORD]     at the top of the repository, after rt ci; WORD: only tests that have it
+                                                 in their name
+Each test runs both of the programs that rt ci has built, as LLVM and as Rattle's own compiler make it, or one that is
+built otherwise, at PATH (then ./run, which starts what rt ci has built, is not tried). The first tests are worked rows:
+the lines of tests/rows/NAME.lines are answered by tests/rows/NAME.replies, which were written by hand and not by a
+program, however the lines are cut, and the model of tests/reference.py answers the same.
 """
 import os
+import re
 import select
 import signal
 import subprocess
@@ -85,13 +88,26 @@ def first_run_by_the_script(program):
     wants(ended([os.path.abspath("run")], input=FIRST_RUN, cwd="/"), (FIRST_REPLIES, b"", 0))
 
 
-def the_example_of_the_readme(program):
-    """The lines behind `>` in the README's example, and what stands below each."""
+def the_table_of_the_readme(program):
+    """Its rows are one session: a line, and in the second cell the lines of its reply."""
     with open("README.md", encoding="utf-8") as file:
-        shown = file.read().split("```text\n> ")[1].split("```")[0]
-    rows = ("> " + shown).splitlines(True)
-    sent = "".join(it[2:] for it in rows if it.startswith("> ")).encode()
-    wants(ended([program], input=sent), ("".join(it for it in rows if not it.startswith("> ")).encode(), b"", 0))
+        rows = [it.split("|") for it in file.read().split("| Line | Reply |")[1].split("\n\n")[0].splitlines()[2:]]
+    sent = "".join(f"{re.search(r'`(.*)`', it[1])[1]}\n" for it in rows).encode()
+    replies = "".join(f"{reply}\n" for it in rows for reply in re.findall(r"`([^`]*)`", it[2])).encode()
+    wants(ended([program], input=sent), (replies, b"", 0))
+
+
+def the_sessions_of_the_pages(program):
+    """In a block of text that begins with `>`, what is sent stands behind `>`, and its replies below it."""
+    shown = []
+    for page in sorted(glob("docs/*.md")):
+        with open(page, encoding="utf-8") as file:
+            shown += re.findall(r"(?m)^```text\n(> (?:.*\n)*?)```$", file.read())
+    assert len(shown) >= 2, "the pages show no sessions"
+    for block in shown:
+        rows = block.splitlines(True)
+        sent = "".join(it[2:] for it in rows if it.startswith("> ")).encode()
+        wants(ended([program], input=sent), ("".join(it for it in rows if not it.startswith("> ")).encode(), b"", 0))
 
 
 def nothing_in_nothing_out(program):
@@ -317,7 +333,8 @@ def few_system_calls(program):
 TESTS = [
     first_run,
     first_run_by_the_script,
-    the_example_of_the_readme,
+    the_table_of_the_readme,
+    the_sessions_of_the_pages,
     nothing_in_nothing_out,
     any_bytes_are_answered,
     many_values_are_kept,
@@ -343,11 +360,14 @@ def tests():
 
 
 def main():
-    word = sys.argv[1] if len(sys.argv) > 1 else ""
-    counts = {True: 0, False: 0}
+    words, programs, counts = sys.argv[1:], (PROGRAM, f"{PROGRAM}.by-rattle"), {True: 0, False: 0}
+    if words[:1] == ["--program"]:
+        programs, words = (os.path.abspath(words[1]),), words[2:]
+        TESTS.remove(first_run_by_the_script)
+    word = words[0] if words else ""
     faults.build_shim()
     for name, test in tests():
-        for program in (PROGRAM, f"{PROGRAM}.by-rattle"):
+        for program in programs:
             if word not in name:
                 continue
             ended_as = "ok"

@@ -13,8 +13,7 @@ Under tests/refuse.c, which says what a window is, it runs
 - each script of tests/maps, and the first lines of six that are made at random, line by line likewise, by play_map;
   and of all scripts that are made at random the lines whose calls are rare, while the maps are small. Behind each
   refused line both maps are looked at by the checker, and gone along from both ends. Tables tell how many requests
-  each call and each line of the program made, and how often it was refused; they go to out/refusals.md, for
-  docs/REFUSALS.md.
+  each call and each line of the program made, and how often it was refused; they go to out/refusals.md.
 """
 import collections
 import itertools
@@ -65,13 +64,13 @@ counts, runs, requests = {True: 0, False: 0}, 0, 0
 told, told_lines = (collections.defaultdict(lambda: [0, 0, 0, 0]) for _ in range(2))
 
 
-def run(words, refuse, line=None, given=b"", status=0):
+def run(words, refuse, line=None, given=b"", statuses=(0,)):
     """Returns what the shim wrote of the windows, and what the program wrote to its two outputs."""
     global runs
     runs += 1
     ended, seen, out, err = windows.run(words, SHIM, refuse, line, given)
     why = f"REFUSE={refuse} {seen}: status {ended}: {out[-300:]} {err[-300:]}"
-    assert ended == (status if "x" in seen else 0), why
+    assert ended in (statuses if "x" in seen else (0,)), why
     return seen, out, err
 
 
@@ -148,11 +147,15 @@ def free_run(words, lines, wanted):
     assert out == wanted, f"it answers {out[-300:]}, and not {wanted[-300:]}"
 
 
-def start(words, lines):
-    """Refused before it reads its first line, the program counts its arguments as wrong, and has answered nothing."""
-    for label, out, err, _ in each_refusal(words, line=0, given=b"".join(lines), status=2):
-        assert out == b"", f"{label}: it answers {out}"
-        assert err == b"art_index: takes no arguments\n", f"{label}: it says {err}"
+def start(words, lines, replies):
+    """Refused before it reads its first line, the program counts its arguments as wrong, and has answered nothing. For
+    its replies a smaller room serves where one is refused; without any it says that it can't write."""
+    ends = [(b"", b"art_index: takes no arguments\n"), (replies, b""), (b"", b"art_index: write failed\n")]
+    met = set()
+    for label, out, err, _ in each_refusal(words, line=0, given=b"".join(lines), statuses=(0, 1, 2)):
+        assert (out, err) in ends, f"{label}: it answers {out[-100:]} and says {err}"
+        met.add(ends.index((out, err)))
+    assert met == {0, 1, 2}, f"only {met} of {ends}"
 
 
 def count(kind, name, call, *given):
@@ -191,7 +194,7 @@ def of_program(by):
     with open("tests/refusals.lines", "rb") as script, open("tests/refusals.replies", "rb") as told:
         lines, replies = script.readlines(), told.read()
     count(program, "free run", free_run, [program], lines, replies)
-    count(program, "start", start, [program], lines)
+    count(program, "start", start, [program], lines, replies)
     for at, line in enumerate(lines):
         count(program, f"line {at + 1}, {line.decode().strip()[:60]}", one_line, [program], lines, at)
 

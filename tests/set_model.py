@@ -134,8 +134,16 @@ class SetModel:
                 keys = []
         return "\n".join(told + ["end"])
 
+    def comparisons(self):
+        """How many comparisons a merge of both sets needs: one for each key that isn't behind all of the other set."""
+        if not self.keys or not self.other:
+            return 0
+        end = min(max(self.keys), max(self.other))
+        return sum(key <= end for key in self.keys | (self.other - self.keys))
+
     def merged(self, keys, word):
-        return (f"{len(keys)} " if word == "count" else "".join(f"{shown(key)}, " for key in sorted(keys))) + "true"
+        told = f"{len(keys)} " if word == "count" else "".join(f"{shown(key)}, " for key in sorted(keys))
+        return f"{told}{self.comparisons()}"
 
     def common(self):
         """The keys of the first set that equal one of the second."""

@@ -5,8 +5,9 @@ Each script has every line of the language, over keys that branch at each width 
 fronts, and lines that spell nothing. Input and output are cut at random; in some runs a read or a write fails, one
 request for memory of many is refused, or the address space is small. A reply `memory` is taken where the definition
 allows it, and the line then counts as not made. At a difference it prints the seed and the shortest script that it
-found, and ends with status 1. At the end it tells what it tried, as docs/REFUSALS.md has it. Several may run side by
-side. PROGRAM: another build of art_index. It is no part of the gate.
+found, and ends with status 1. At the end it tells what it tried. Several may run side by
+side. PROGRAM: another build of art_index. Where it is left out, the proved program is played, and where that is not
+built, one that is built at once, without proofs (tools/quick.py). It is no part of the gate.
 """
 import collections
 import os
@@ -17,6 +18,9 @@ import sys
 import tempfile
 import time
 
+sys.path.insert(0, os.path.join(os.path.dirname(os.path.dirname(os.path.abspath(__file__))), "tools"))
+import limits
+import quick
 from reference import WORDS, Reference, parsed
 
 program, shim, least = "crates/art_index/out/art_index", None, 0
@@ -25,9 +29,8 @@ told = {it: collections.Counter() for it in ("faults", "met", "lines", "refused"
 TENANTS = (0, 1, 2, 10, 12, 255, 256, 65536, 4294967295)
 NUMBERS = (0, 1, -1, 5, -5, 255, 256, -256, 65535, 1 << 32, -(1 << 32), (1 << 63) - 1, -(1 << 63))
 REFUSED = b"memory\n"
-# KiB of address space beyond what the program takes with nothing stored, and its statuses and the loader's where it has
-# no room to begin.
-SPACES, NO_ROOM = (0, 50, 100, 200, 300, 600), (2, 127)
+# Pages of address space beyond what the program takes with nothing stored: from so many on, and up to so many.
+SPACES = (4, 300)
 ENDS = {"read": b"art_index: read failed\n", "write": b"art_index: write failed\n"}
 
 
@@ -90,9 +93,10 @@ class Faults:
         self.given.update({f"FAULT_{it.upper()}": self.at[it] for it in ENDS if it in self.kinds})
         if "memory" in self.kinds:
             self.given["FAULT_MEMORY"] = of.choice((2, 5, 30, 500))
-        self.space = (least + of.choice(SPACES)) << 10 if "space" in self.kinds else None
+        self.space = (least + of.randint(*SPACES)) * limits.PAGE if "space" in self.kinds else None
 
     def limit(self):
+        limits.in_place()
         if self.space:
             resource.setrlimit(resource.RLIMIT_AS, (self.space, self.space))
 
@@ -121,9 +125,6 @@ def difference(lines, is_ended, faults):
     text = b"\n".join(lines) + b"\n" * is_ended
     ran = faults.run(text)
     said, model, at = ran.stdout, Reference(), 0
-    if faults.space and ran.returncode in NO_ROOM and not said:
-        told["met"]["no memory to begin"] += 1
-        return None
     pieces, is_cut = read_of(text, faults)
     ends = {(1, ENDS["read"]) if is_cut else (0, b"")}
     if "write" in faults.kinds and len(said) == faults.at["write"]:
@@ -183,15 +184,11 @@ def play(seed):
     sys.exit(1)
 
 
-def least_space():
-    """KiB of address space in which the program answers."""
+def is_answering(pages):
     faults = Faults(0, 0)
-    faults.kinds, faults.given = {"space"}, {}
-    for size in range(1000, 100000, 50):
-        faults.space = size << 10
-        if faults.run(b"bad\n").stdout == b"bad\n":
-            return size
-    sys.exit("soak: the program does not answer")
+    faults.kinds, faults.space = {"space"}, pages * limits.PAGE
+    faults.given = {"FAULT_CUTS": 5000}
+    return faults.run(b"bad\n").stdout == b"bad\n"
 
 
 def counted(name):
@@ -202,13 +199,13 @@ def main():
     global program, shim, least
     minutes = float(sys.argv[1]) if len(sys.argv) > 1 else 1
     seed = int(sys.argv[2]) if len(sys.argv) > 2 else random.randrange(1 << 40)
-    program = os.path.abspath(sys.argv[3] if len(sys.argv) > 3 else program)
+    program = os.path.abspath(sys.argv[3] if len(sys.argv) > 3 else program if os.path.exists(program) else quick.kept("."))
     start, runs = time.monotonic(), 0
-    print(f"first seed {seed}", flush=True)
+    print(f"first seed {seed}, {os.path.relpath(program)}", flush=True)
     with tempfile.TemporaryDirectory() as room:
         shim = f"{room}/fault.so"
         subprocess.run(["cc", "-O2", "-Wall", "-shared", "-fPIC", "-o", shim, "tests/fault.c"], check=True)
-        least = least_space()
+        least = limits.least_of(is_answering)
         while time.monotonic() - start < 60 * minutes:
             told["faults"][play(seed + runs)] += 1
             runs += 1

@@ -2,9 +2,10 @@
 """Builds programs with wrong bodies, which nothing proves, and looks that the runs of the gate fail by them.
 
     tests/wrong.py [WORD]      at the top of the repository; WORD: only rows that have it in them
-It is a part of ./test --long. Each row of tests/wrong/programs.lines names an edit, the program that is built with it
-on a copy of the repository, from sources as tests/unproved.py tells, and a run of tests/ with its word. The run must
-pass with the program as it is, and fail with the edit; what it says is in out/wrong-NAME.log.
+It is a part of ./test --long. Each row of tests/wrong/programs.lines names an edit as CRATE/NAME (tests/edits.py has
+their form and their places), the program that is built with it on a copy of the repository, from sources as
+tools/quick.py tells, and a run of tests/ with its word. The run must pass with the program as it is, and fail with
+the edit; what it says is in out/wrong-NAME-PROGRAM.log.
 """
 import os
 import re
@@ -14,8 +15,9 @@ import subprocess
 import sys
 import tempfile
 
+sys.path.insert(0, os.path.join(os.path.dirname(os.path.dirname(os.path.abspath(__file__))), "tools"))
 import edits
-import unproved
+import quick
 
 TOP, ROWS = os.getcwd(), "tests/wrong/programs.lines"
 # A wrong body may run for ever, and fill what memory there is.
@@ -34,16 +36,11 @@ def limit():
     resource.setrlimit(resource.RLIMIT_CORE, (0, 0))
 
 
-def crate_of(copy, edit):
-    """The crate whose files an edit names: the one it lies in, or for those of tests/wrong the program."""
-    return f"{copy}/{'/'.join(edit.split('/')[:2])}" if edit.startswith("crates/") else None
-
-
 def build(copy, program):
     """Builds the program of the copy, where the runs look for what both compilers make."""
     out = f"{copy}/crates/{program}/out"
     os.makedirs(out, exist_ok=True)
-    said = unproved.build(copy, program, f"{out}/{program}")
+    said = quick.build(copy, program, f"{out}/{program}")
     assert said is None, f"not built: {said}"
     shutil.copy(f"{out}/{program}", f"{out}/{program}.by-rattle")
 
@@ -70,11 +67,11 @@ def counts_of(copy, runner, word, log):
     return int(found[1]), int(found[2])
 
 
-def wrong(copy, edit, program, runner, word):
+def wrong(copy, title, program, runner, word):
     """Builds the program with the edit, and runs what must fail."""
-    name = os.path.basename(edit).removesuffix(".edit")
-    crate = crate_of(copy, edit) or f"{copy}/crates/{program}"
-    texts = edits.changed(crate, f"{copy}/{edit}")
+    edit = edits.named(title)
+    crate = f"{copy}/{edit.crate}"
+    texts = edit.carried_out({})
     whole = {path: open(f"{crate}/{path}", encoding="utf-8").read() for path in texts}
     try:
         for path, text in texts.items():
@@ -85,14 +82,14 @@ def wrong(copy, edit, program, runner, word):
         for path, text in whole.items():
             with open(f"{crate}/{path}", "w", encoding="utf-8") as file:
                 file.write(text)
-    passed, failed = counts_of(copy, runner, word, f"{TOP}/out/wrong-{name}-{program}.log")
+    passed, failed = counts_of(copy, runner, word, f"{TOP}/out/wrong-{edit.name}-{program}.log")
     assert failed, f"LET THROUGH by {runner} {word}: {passed} passed"
     return f"refused by {runner} {word}: {passed} passed, {failed} failed"
 
 
 def play(copy, kept, counts, row):
     edit, program, runner, word = row
-    title = f"{os.path.basename(edit)} in {program}"
+    title = f"{edit} in {program}"
     try:
         if not os.path.exists(f"{kept}/{program}"):
             build(copy, program)

@@ -16,8 +16,8 @@ use thiserror::Error;
 /// The name of a leaf.
 pub type LeafPtr = NodePtr<KindLeaf>;
 
-/// The nodes of one tree or more, each under the name that it was given when it was stored: a kind, and a
-/// key in the slab of that kind.
+/// The nodes of one tree or more. Each stands under the name that it got when it was stored: a kind, and a key in the
+/// slab of that kind.
 #[derive(Drop)]
 pub struct NodeArena<K, V, const PREFIX_LEN: usize> {
     pub(crate) leaves: Nodes<LeafNode<K, V>, 0>,
@@ -43,7 +43,7 @@ impl<K, V, const PREFIX_LEN: usize> Model for NodeArena<K, V, PREFIX_LEN> {
     } };
 }
 
-/// No memory was found for a node, which is handed back.
+/// The call was out of memory for a node, which the error returns.
 #[derive(Debug, Drop, Error)]
 #[error("no memory for a node")]
 pub struct NodeRefused<N> {
@@ -70,7 +70,7 @@ impl<K, V, const PREFIX_LEN: usize> NodeArena<K, V, PREFIX_LEN> {
     ghost use Rattle.art_arena.specs.arena.Arena.{HasRoomOf, KeepsRoom, KeepsRoomOf, UsesRoom};
     ghost use Rattle.art_arena.specs.arena.ArenaClones.{IsArenaClone};
 
-    /// An arena that holds no node. It takes no memory.
+    /// Makes an arena that holds no node. It allocates nothing.
     pub fn new(alloc: Global) -> Self
         ensures { (n : Name) → held_at result n ≡ None }
     {
@@ -84,7 +84,7 @@ impl<K, V, const PREFIX_LEN: usize> NodeArena<K, V, PREFIX_LEN> {
         }
     }
 
-    /// Whether a node stands under this name.
+    /// Returns whether a node stands under this name.
     pub fn holds(&self, name: OpaqueNodePtr) -> bool
         ensures { IsTrue result ↔ IsSome (held_at self.now name) }
     {
@@ -99,7 +99,7 @@ impl<K, V, const PREFIX_LEN: usize> NodeArena<K, V, PREFIX_LEN> {
         }
     }
 
-    /// How many leaves there are: those of the tree, where the arena holds nothing else.
+    /// Returns how many leaves there are: those of the tree, if the arena holds nothing else.
     pub fn leaf_count(&self) -> usize
         ensures value { result ≡ leaves_held self.now }
         ensures tree { (bytes : K → List ℕ) (root : Name) (s : Shape K V) → StoresOnly bytes PREFIX_LEN self.now root s
@@ -109,7 +109,7 @@ impl<K, V, const PREFIX_LEN: usize> NodeArena<K, V, PREFIX_LEN> {
         self.leaves.len()
     }
 
-    /// Takes all nodes out, and lets go of them. The room for them stays.
+    /// Removes and drops all nodes. Their memory stays with the arena.
     pub fn clear(&mut self)
     where
         K: Drop,
@@ -133,9 +133,10 @@ impl<K, V, const PREFIX_LEN: usize> NodeArena<K, V, PREFIX_LEN> {
         self.nodes256.clear();
     }
 
-    /// An arena with a clone of each node under the same name, so that its links lead to clones as well. It has no room
-    /// to spare that it need not have. It is refused where a key, a value or a node can't be cloned; nothing is left
-    /// of it then.
+    /// Makes an arena with a clone of each node under the same name, so that its links lead to clones as well. It has
+    /// no room to spare that it need not have.
+    ///
+    /// Fails if a key, a value or a node can't be cloned. Nothing is left of it then.
     pub fn try_clone(&self, alloc: Global) -> Result<Self, AllocError>
     where
         K: Clone,
@@ -168,9 +169,10 @@ impl<K, V, const PREFIX_LEN: usize> NodeArena<K, V, PREFIX_LEN> {
         })
     }
 
-    /// Makes room for so many more nodes, whatever their kinds: as many allocations then need no memory. It is
-    /// refused only where there is no room for so many, and no memory. Room that was there stays, and no name changes,
-    /// either way.
+    /// Allocates so many more nodes, whatever their kinds: as many allocations then can't fail.
+    ///
+    /// Fails only if there is no room for so many, and no memory. Either way, room that was there stays, and no name
+    /// changes.
     pub fn reserve(&mut self, additional: usize) -> Result<(), AllocError>
         ensures room { OnOk result (HasRoom self.new additional) }
         ensures succeeds { HasRoom self.old additional → IsOk result }
@@ -185,9 +187,10 @@ impl<K, V, const PREFIX_LEN: usize> NodeArena<K, V, PREFIX_LEN> {
         self.nodes256.reserve(additional)
     }
 
-    /// Makes room for so many more nodes of one kind: as many allocations of that kind then need no memory. It is
-    /// refused only where there is no room for so many, and no memory. Room that was there stays, and no name changes,
-    /// either way.
+    /// Allocates so many more nodes of one kind: as many allocations of that kind then can't fail.
+    ///
+    /// Fails only if there is no room for so many, and no memory. Either way, room that was there stays, and no name
+    /// changes.
     pub fn reserve_kind(&mut self, kind: NodeType, additional: usize) -> Result<(), AllocError>
         ensures room { OnOk result (HasRoomOf self.new kind additional) }
         ensures succeeds { HasRoomOf self.old kind additional → IsOk result }
@@ -204,7 +207,7 @@ impl<K, V, const PREFIX_LEN: usize> NodeArena<K, V, PREFIX_LEN> {
         }
     }
 
-    /// Stores a node under a name that it answers, or hands it back where there is no memory.
+    /// Stores a node, and returns its name. Fails if out of memory; the error returns the node.
     pub fn allocate_node_ptr<N: Stored<K, V, Self>>(
         &mut self,
         node: N,
@@ -223,7 +226,7 @@ impl<K, V, const PREFIX_LEN: usize> NodeArena<K, V, PREFIX_LEN> {
         }
     }
 
-    /// Takes a node out of the arena. Its name may be given to another node later.
+    /// Removes a node from the arena, and returns it. Its name may be given to another node later.
     pub fn deallocate_node_ptr<N: Stored<K, V, Self>>(&mut self, ptr: NodePtr<N::Kind>) -> N
         requires { IsSome (held_at self.old (record { kind = N.Kind.TYPE; slot = ptr })) }
         ensures value { held_at self.old (record { kind = N.Kind.TYPE; slot = ptr }) ≡ Some (N.held result) }
@@ -235,7 +238,7 @@ impl<K, V, const PREFIX_LEN: usize> NodeArena<K, V, PREFIX_LEN> {
         N::remove(self, ptr.slot())
     }
 
-    /// Puts a node in the place of the one under this name, and answers that one.
+    /// Puts a node in place of the one under this name, and returns that one.
     pub fn replace<N: Stored<K, V, Self>>(&mut self, ptr: NodePtr<N::Kind>, node: N) -> N
         requires { IsSome (held_at self.old (record { kind = N.Kind.TYPE; slot = ptr })) }
         ensures value { held_at self.old (record { kind = N.Kind.TYPE; slot = ptr }) ≡ Some (N.held result) }
@@ -246,7 +249,7 @@ impl<K, V, const PREFIX_LEN: usize> NodeArena<K, V, PREFIX_LEN> {
         mem::replace(self.as_mut::<N>(ptr), node)
     }
 
-    /// The node under this name.
+    /// Returns the node under this name.
     pub fn as_ref<N: Stored<K, V, Self>>(&self, ptr: NodePtr<N::Kind>) -> &N
         requires { IsSome (held_at self.now (record { kind = N.Kind.TYPE; slot = ptr })) }
         ensures { held_at self.now (record { kind = N.Kind.TYPE; slot = ptr }) ≡ Some (N.held result.now) }
@@ -254,16 +257,17 @@ impl<K, V, const PREFIX_LEN: usize> NodeArena<K, V, PREFIX_LEN> {
         N::get(self, ptr.slot())
     }
 
-    /// Whether the stored front of a prefix is so short that an inner node fits in memory, as it does where there is
-    /// room for one. A caller over any `PREFIX_LEN` asks this before it makes the first inner node of a tree.
+    /// Returns whether the stored prefix is so short that an inner node fits in memory. It does if there is room for
+    /// one. A caller over any `PREFIX_LEN` asks this before it makes the first inner node of a tree.
     pub fn fits_in_memory(&self) -> bool
         ensures value { IsTrue result → PREFIX_LEN < 2 ^ 62 }
+        ensures exact { PREFIX_LEN < 2 ^ 62 → IsTrue result }
         ensures room { HasRoom self.now 1 → IsTrue result }
     {
         self.nodes4.fits_in_memory()
     }
 
-    /// The node under this name, for writing.
+    /// Lends the node under this name for writing.
     pub fn as_mut<N: Stored<K, V, Self>>(&mut self, ptr: NodePtr<N::Kind>) -> &mut N
         requires { IsSome (held_at self.old (record { kind = N.Kind.TYPE; slot = ptr })) }
         ensures* writes_back { sem 𝓛 (lends_node (the_row K.row V.row PREFIX_LEN.row) N.row N.with_node self.entry ptr
@@ -273,7 +277,7 @@ impl<K, V, const PREFIX_LEN: usize> NodeArena<K, V, PREFIX_LEN> {
         N::get_mut(self, ptr.slot())
     }
 
-    /// The key of a leaf.
+    /// Returns the key of a leaf.
     pub fn as_key_ref(&self, leaf: LeafPtr) -> &K
         requires { IsSome (held_at self.now (leaf_name leaf)) }
         ensures { (l : _) → held_at self.now (leaf_name leaf) ≡ Some (leaf_held l) → result.now ≡ l.key }
@@ -281,7 +285,7 @@ impl<K, V, const PREFIX_LEN: usize> NodeArena<K, V, PREFIX_LEN> {
         self.as_ref::<LeafNode<K, V>>(leaf).key_ref()
     }
 
-    /// The value of a leaf.
+    /// Returns the value of a leaf.
     pub fn as_value_ref(&self, leaf: LeafPtr) -> &V
         requires { IsSome (held_at self.now (leaf_name leaf)) }
         ensures { (l : _) → held_at self.now (leaf_name leaf) ≡ Some (leaf_held l) → result.now ≡ l.value }
@@ -289,7 +293,7 @@ impl<K, V, const PREFIX_LEN: usize> NodeArena<K, V, PREFIX_LEN> {
         self.as_ref::<LeafNode<K, V>>(leaf).value_ref()
     }
 
-    /// The key and the value of a leaf.
+    /// Returns the key and the value of a leaf.
     pub fn as_key_value_ref(&self, leaf: LeafPtr) -> (&K, &V)
         requires { IsSome (held_at self.now (leaf_name leaf)) }
         ensures key { (l : _) → held_at self.now (leaf_name leaf) ≡ Some (leaf_held l) → result.0.now ≡ l.key }
@@ -299,7 +303,7 @@ impl<K, V, const PREFIX_LEN: usize> NodeArena<K, V, PREFIX_LEN> {
         (leaf.key_ref(), leaf.value_ref())
     }
 
-    /// The value of a leaf, for writing.
+    /// Lends the value of a leaf for writing.
     pub fn as_value_mut(&mut self, leaf: LeafPtr) -> &mut V
         requires { IsSome (held_at self.old (leaf_name leaf)) }
         ensures* writes_back { sem 𝓛 (lends_leaf_value K.row V.row PREFIX_LEN.row self.entry leaf result) }
@@ -309,7 +313,7 @@ impl<K, V, const PREFIX_LEN: usize> NodeArena<K, V, PREFIX_LEN> {
         value
     }
 
-    /// The key of a leaf, and its value for writing.
+    /// Lends the key of a leaf, and its value for writing.
     pub fn as_key_ref_value_mut(&mut self, leaf: LeafPtr) -> (&K, &mut V)
         requires { IsSome (held_at self.old (leaf_name leaf)) }
         ensures* writes_back { sem 𝓛 (lends_leaf_value K.row V.row PREFIX_LEN.row self.entry leaf result.1) }

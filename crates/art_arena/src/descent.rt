@@ -6,7 +6,7 @@ ghost use Rattle.art_nodes.specs.Name.{Name};
 ghost use Rattle.art_arena.specs.arena.Arena.{node_at};
 ghost use Rattle.art_arena.specs.arena.Descents.{GoesNoFurther, GoesOn, HasNoFront, Lands, LandsAt, OnWayTo, Stops};
 ghost use Rattle.art_arena.specs.arena.Prefixes.{prefix_of};
-ghost use Rattle.art_arena.specs.arena.Reads.{DescentReads, IsReadAt, KeysWithin, StepReads};
+ghost use Rattle.art_arena.specs.arena.Reads.{DescentReads, IsReadAt, KeysWithin, ReadsAtLeast, StepReads};
 ghost use Rattle.art_arena.specs.arena.Shapes.{Shape, erase, leaves};
 ghost use Rattle.art_arena.specs.arena.Stores.{Stores, StoresAt};
 ghost use Rattle.art_arena.specs.arena.Visited.{arena_of, count_of};
@@ -24,11 +24,11 @@ use art_nodes::{LeafNode, NodePtr, OpaqueNodePtr};
 /// How a descent passes over the prefix of an inner node.
 #[derive(Clone, Copy, PartialEq, Eq, Debug)]
 pub enum Passing {
-    /// By its length alone. So it reads the nodes of the key's path and nothing else, and whoever asks compares the key
-    /// of the leaf at which it ends.
+    /// By its length alone. It reads the nodes of the key's path and nothing else, and its caller compares the key of
+    /// the leaf at which it ends.
     ByLength,
-    /// Where all its bytes are the key's. So the way is a front of the key. A prefix that isn't wholly stored is read
-    /// from the first leaf below.
+    /// Only if all its bytes are the key's: so the way is a prefix of the key. A prefix that isn't wholly stored is
+    /// read from the first leaf below.
     ByBytes,
 }
 
@@ -37,13 +37,13 @@ pub enum Passing {
 pub struct Stop<'a, K, V> {
     /// The node from which the key goes no further.
     pub node: OpaqueNodePtr,
-    /// The node itself, which was read, where it is a leaf.
+    /// The node itself, which was read, if it is a leaf.
     pub leaf: Option<&'a LeafNode<K, V>>,
     /// How many bytes of the key lead there.
     pub depth: usize,
 }
 
-/// The leaf at which a way down ended. Where it was that of a key, no other leaf's key can be that key or a front of
+/// The leaf at which a way down ended. If the way was that of a key, no other leaf's key can be that key or a prefix of
 /// it.
 #[derive(Drop)]
 pub struct Landed<'a, K, V> {
@@ -72,6 +72,7 @@ fn passes_prefix<'a, K: AsBytes, V, const PREFIX_LEN: usize>(
         → IsTrue result ↔ BeginsWith (prefix_of s) (drop depth key.now) }
     ensures kept { arena_of reader.new ≡ arena_of reader.old }
     ensures none { inner.now.node.header.prefix_len ≡ 0 → count_of reader.new ≡ count_of reader.old }
+    ensures least { ReadsAtLeast 0 (count_of reader.old) (count_of reader.new) }
     ensures few { (root : Name) (path : List ℕ) (s : Shape K V)
         → IsReadAt K.bytes PREFIX_LEN (arena_of reader.old) inner.now.node root depth path s
         → (longest : ℕ) → KeysWithin K.bytes longest (leaves s)
@@ -105,6 +106,7 @@ fn step_at<'a, K: AsBytes, V, const PREFIX_LEN: usize>(
         (λ step. BeginsWith ((path ++ prefix_of s) ++ step.byte ∷ []) key.now) }
     ensures kept { arena_of reader.new ≡ arena_of reader.old }
     ensures by_length { passing ≡ Passing.ByLength → count_of reader.new ≡ count_of reader.old }
+    ensures least { ReadsAtLeast 0 (count_of reader.old) (count_of reader.new) }
     ensures few { (root : Name) (path : List ℕ) (s : Shape K V)
         → IsReadAt K.bytes PREFIX_LEN (arena_of reader.old) inner.now.node root depth path s
         → (longest : ℕ) → KeysWithin K.bytes longest (leaves s)
@@ -122,10 +124,11 @@ fn step_at<'a, K: AsBytes, V, const PREFIX_LEN: usize>(
     }
 }
 
-/// Goes down for a key in the canonical tree below a name, as far as it goes: to a leaf, to a node where the key ends
-/// or has no child, or to one whose prefix it doesn't pass. Each node of the way is read once; by bytes also the nodes
-/// from there down to a first leaf, for each prefix that isn't wholly stored. Nothing is copied, and no memory is
-/// taken. The last steps of the way are left in `search`.
+/// Goes down for a key in the canonical tree below a name, as far as it goes. It ends at a leaf, at a node where the
+/// key ends or has no child, or at one whose prefix it doesn't pass.
+///
+/// Each node of the way is read once. By bytes, so are the nodes from there down to a first leaf, for each prefix that
+/// isn't wholly stored. Nothing is copied or allocated. The last steps of the way are left in `search`.
 #[inline(always)]
 pub fn descend<'a, K: AsBytes, V, const PREFIX_LEN: usize>(
     reader: &mut ArenaReader<'a, K, V, PREFIX_LEN>,
@@ -150,6 +153,7 @@ pub fn descend<'a, K: AsBytes, V, const PREFIX_LEN: usize>(
         → StoresAt K.bytes PREFIX_LEN (arena_of reader.old) result.node result.depth path s
         → BeginsWith path key.now → Stops K.bytes key.now path s }
     ensures kept { arena_of reader.new ≡ arena_of reader.old }
+    ensures least { ReadsAtLeast 1 (count_of reader.old) (count_of reader.new) }
     ensures few { (s : Shape K V) → Stores K.bytes PREFIX_LEN (arena_of reader.old) root s
         → (longest : ℕ) → KeysWithin K.bytes longest (leaves s)
         → DescentReads longest key.now (count_of reader.old) (count_of reader.new) }
@@ -183,9 +187,10 @@ pub fn descend<'a, K: AsBytes, V, const PREFIX_LEN: usize>(
     }
 }
 
-/// Goes down for a key in the canonical tree below a name, to a leaf, or to a node where the key ends or has no child.
-/// It passes over prefixes by their lengths alone, so a caller compares the leaf's key as a whole. It reads the nodes
-/// of the key's path, each once; nothing is copied, and no memory is taken.
+/// Goes down for a key in the canonical tree below a name. It ends at a leaf, or at a node where the key ends or has no
+/// child. It passes over prefixes by their lengths alone, so its caller compares the leaf's key as a whole.
+///
+/// It reads the nodes of the key's path, each once. Nothing is copied or allocated.
 #[inline(always)]
 pub fn land<'a, K: AsBytes, V, const PREFIX_LEN: usize>(
     reader: &mut ArenaReader<'a, K, V, PREFIX_LEN>,

@@ -2,6 +2,7 @@
 ghost use Rattle.std.specs.Prelude.{◌≡◌, ◌+◌, ◌-◌, ◌^◌, ◌≤◌, length, min, filter, IfSome};
 ghost use Rattle.std.specs.Str.{bytes_eq};
 ghost use Rattle.art_arena.specs.arena.Arena.{node_at};
+ghost use Rattle.art_arena.specs.arena.Descents.{ReadsPath};
 ghost use Rattle.art_arena.specs.arena.Found.{found_of, found_in, pair_found, IsAtKey};
 ghost use Rattle.art_arena.specs.tree.Paths.{path_of};
 ghost use Rattle.art_arena.specs.arena.Shapes.{Shape};
@@ -26,7 +27,7 @@ pub struct FoundLeaf {
     pub path: TreePath,
 }
 
-/// Finds the leaf with exactly this key in the canonical tree below a name: a descent, and one comparison of whole
+/// Finds the leaf with exactly this key in the canonical tree below a name: by a descent, and one comparison of whole
 /// keys. It reads the nodes of the key's path, each once.
 pub fn find_leaf<K: AsBytes, V, const PREFIX_LEN: usize>(
     reader: &mut ArenaReader<'_, K, V, PREFIX_LEN>,
@@ -45,6 +46,8 @@ pub fn find_leaf<K: AsBytes, V, const PREFIX_LEN: usize>(
     ensures counts { (t : Tree (K × V))
         → IsMeant K.bytes PREFIX_LEN (arena_of reader.old) root t
         → count_of reader.new ≡ min (count_of reader.old + length (path_of t key.now)) (2 ^ 64 - 1) }
+    ensures reads { (s : Shape K V) → Stores K.bytes PREFIX_LEN (arena_of reader.old) root s
+        → ReadsPath key.now s (count_of reader.old) (count_of reader.new) }
     ensures few { count_of reader.new ≤ count_of reader.old + (length key.now + 1) }
 {
     match land(reader, root, key) {

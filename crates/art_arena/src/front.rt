@@ -31,8 +31,8 @@ fn begins_with_two<const N: usize>(bytes: &[u8], front: &[u8]) -> bool
 }
 
 /// Whether a list of bytes begins with another. The last word reaches back over bytes that agree, so that no loop of
-/// single bytes is needed. One call, and not inlined: a descent's loop then stays small enough to be unrolled at its
-/// start, where no step lies behind it yet.
+/// single bytes is needed. It is one call, and not inlined: so a descent's loop stays small enough to be unrolled at
+/// its start, before its first step.
 #[inline(never)]
 pub(crate) fn begins_with(bytes: &[u8], front: &[u8]) -> bool
     ensures { IsTrue result ↔ BeginsWith front.now bytes.now }

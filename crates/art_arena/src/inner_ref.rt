@@ -1,6 +1,6 @@
-//! The one door to an inner node: what is read of it, whatever its kind. The hints to inline let a descent look at the
-//! kind of a node once, and not at each call: without them a look-up takes twice the instructions.
-ghost use Rattle.std.specs.Prelude.{◌≡◌, ◌↔◌, ◌<◌, ◌≤◌, ◌⊎◌, IsFalse, IsSome, IsTrue, MatchOption, length};
+//! The one door to an inner node: what is read of it, whatever its kind. The hints to inline let a descent test the
+//! kind of a node once, and not at each call. Without them a look-up takes twice the instructions.
+ghost use Rattle.std.specs.Prelude.{◌≡◌, ◌↔◌, ◌<◌, ◌≤◌, ◌⊎◌, IsFalse, IsSome, IsTrue, MatchOption, None, length};
 ghost use Rattle.std.specs.declared.ops.Bound.TheVariants.{Excluded, Unbounded};
 ghost use Rattle.art_nodes.specs.InnerNode as node;
 ghost use Rattle.art_nodes.specs.Kind.{row_of};
@@ -56,7 +56,7 @@ macro_rules! on_arm {
 }
 
 impl<'a, K, V, const PREFIX_LEN: usize> InnerRef<'a, K, V, PREFIX_LEN> {
-    /// The header.
+    /// Returns the header.
     #[inline(always)]
     pub fn header(&self) -> &'a Header<PREFIX_LEN>
         ensures value { result.now ≡ self.now.node.header }
@@ -65,7 +65,7 @@ impl<'a, K, V, const PREFIX_LEN: usize> InnerRef<'a, K, V, PREFIX_LEN> {
         on_arm!(self, node => node.header())
     }
 
-    /// How many bytes the whole prefix has.
+    /// Returns how many bytes the whole prefix has.
     #[inline(always)]
     pub fn prefix_len(&self) -> usize
         ensures { result ≡ self.now.node.header.prefix_len }
@@ -74,7 +74,7 @@ impl<'a, K, V, const PREFIX_LEN: usize> InnerRef<'a, K, V, PREFIX_LEN> {
         self.header().prefix_len()
     }
 
-    /// The bytes of the prefix that are stored: its front.
+    /// Returns the bytes of the prefix that are stored: the first of them.
     #[inline(always)]
     pub fn read_prefix(&self) -> &[u8]
         ensures { result.now ≡ self.now.node.header.stored }
@@ -83,7 +83,7 @@ impl<'a, K, V, const PREFIX_LEN: usize> InnerRef<'a, K, V, PREFIX_LEN> {
         self.header().read_prefix()
     }
 
-    /// How many children there are.
+    /// Returns how many children there are.
     #[inline(always)]
     pub fn num_children(&self) -> usize
         ensures { result ≡ length self.now.node.children }
@@ -92,7 +92,7 @@ impl<'a, K, V, const PREFIX_LEN: usize> InnerRef<'a, K, V, PREFIX_LEN> {
         self.header().num_children()
     }
 
-    /// Whether the room is used up.
+    /// Returns whether the room is used up.
     #[inline(always)]
     pub fn is_full(&self) -> bool
         ensures value { IsTrue result ↔ (length self.now.node.children ≡ (row_of self.now.kind).most) }
@@ -101,7 +101,7 @@ impl<'a, K, V, const PREFIX_LEN: usize> InnerRef<'a, K, V, PREFIX_LEN> {
         on_arm!(self, node => node.is_full())
     }
 
-    /// The child under this byte.
+    /// Returns the child under this byte.
     #[inline(always)]
     pub fn lookup_child(&self, byte: u8) -> Option<OpaqueNodePtr>
         ensures { result ≡ node.child_at self.now.node.children byte }
@@ -109,19 +109,20 @@ impl<'a, K, V, const PREFIX_LEN: usize> InnerRef<'a, K, V, PREFIX_LEN> {
         on_arm!(self, node => node.lookup_child(byte))
     }
 
-    /// Whether a child may be written under this byte of the node as it stands: it has room, or one stands there. Where
-    /// not, there is a larger kind.
+    /// Returns whether a child may be written under this byte of the node as it is: it has room, or one stands there.
+    /// If not, there is a larger kind.
     #[inline(always)]
     pub fn may_write(&self, byte: u8) -> bool
         ensures yes { IsTrue result → (length self.now.node.children < (row_of self.now.kind).most)
             ⊎ IsSome (node.child_at self.now.node.children byte) }
         ensures no { IsFalse result → (length self.now.node.children ≡ (row_of self.now.kind).most)
             × IsSome (row_of self.now.kind).larger }
+        ensures absent { IsFalse result → node.child_at self.now.node.children byte ≡ None }
     {
         on_arm!(self, node => has_room::<_, PREFIX_LEN>(node, byte))
     }
 
-    /// The children, by ascending byte.
+    /// Returns an iterator over the children, by ascending byte.
     #[inline(always)]
     pub fn children(&self) -> ChildIter<'_>
         ensures value { result ≡ self.now.node.children }
@@ -130,7 +131,7 @@ impl<'a, K, V, const PREFIX_LEN: usize> InnerRef<'a, K, V, PREFIX_LEN> {
         on_arm!(self, node => node.iter())
     }
 
-    /// The children whose bytes lie between two bounds, by ascending byte.
+    /// Returns an iterator over the children whose bytes lie between two bounds, by ascending byte.
     #[inline(always)]
     pub fn range(&self, start: Bound<u8>, end: Bound<u8>) -> ChildIter<'_>
         requires { node.AreValidBounds start end }
@@ -139,7 +140,7 @@ impl<'a, K, V, const PREFIX_LEN: usize> InnerRef<'a, K, V, PREFIX_LEN> {
         on_arm!(self, node => node.range(start, end))
     }
 
-    /// The child under the smallest byte, with its byte.
+    /// Returns the child under the smallest byte, with its byte.
     #[inline(always)]
     pub fn first_child(&self) -> Option<(u8, OpaqueNodePtr)>
         ensures { result ≡ node.first_child self.now.node.children }
@@ -147,7 +148,7 @@ impl<'a, K, V, const PREFIX_LEN: usize> InnerRef<'a, K, V, PREFIX_LEN> {
         self.children().next()
     }
 
-    /// The child under the greatest byte, with its byte.
+    /// Returns the child under the greatest byte, with its byte.
     #[tactic(auto, using(art_nodes::proofs::ChildLemmas::lasts))]
     #[inline(always)]
     pub fn last_child(&self) -> Option<(u8, OpaqueNodePtr)>
@@ -156,7 +157,7 @@ impl<'a, K, V, const PREFIX_LEN: usize> InnerRef<'a, K, V, PREFIX_LEN> {
         self.children().next_back()
     }
 
-    /// The child at this end, with its byte.
+    /// Returns the child at this end, with its byte.
     #[inline(always)]
     pub fn end_child(&self, end: End) -> Option<(u8, OpaqueNodePtr)>
         ensures { result ≡ end_child end self.now.node.children }
@@ -167,7 +168,7 @@ impl<'a, K, V, const PREFIX_LEN: usize> InnerRef<'a, K, V, PREFIX_LEN> {
         }
     }
 
-    /// The child under the smallest byte above this one, with its byte.
+    /// Returns the child under the smallest byte above this one, with its byte.
     #[inline(always)]
     pub fn child_after(&self, byte: u8) -> Option<(u8, OpaqueNodePtr)>
         ensures { result ≡ node.first_child (node.children_between (Excluded byte) Unbounded self.now.node.children) }
@@ -175,7 +176,7 @@ impl<'a, K, V, const PREFIX_LEN: usize> InnerRef<'a, K, V, PREFIX_LEN> {
         self.range(Bound::Excluded(byte), Bound::Unbounded).next()
     }
 
-    /// The child under the greatest byte below this one, with its byte.
+    /// Returns the child under the greatest byte below this one, with its byte.
     #[tactic(auto, using(art_nodes::proofs::ChildLemmas::lasts))]
     #[inline(always)]
     pub fn child_before(&self, byte: u8) -> Option<(u8, OpaqueNodePtr)>
@@ -185,9 +186,10 @@ impl<'a, K, V, const PREFIX_LEN: usize> InnerRef<'a, K, V, PREFIX_LEN> {
             .next_back()
     }
 
-    /// The child to which a key goes on from here, where so many of its bytes lead here. The prefix is passed by its
-    /// length alone: whoever asks compares the key of the leaf that is reached. Nothing where the key ends within the
-    /// prefix or with it, or where no child stands under its next byte.
+    /// Returns the child to which a key goes on from here, after so many of its bytes. It passes the prefix by its
+    /// length alone: its caller compares the key of the leaf that is reached.
+    ///
+    /// It returns `None` if the key ends within the prefix or with it, or if no child stands under its next byte.
     #[inline(always)]
     pub fn next_step(&self, key: &[u8], depth: usize) -> Option<NextStep>
         requires { depth ≤ length key.now }
@@ -243,6 +245,7 @@ fn has_room<N: InnerNodeCommon<PREFIX_LEN>, const PREFIX_LEN: usize>(inner: &N, 
     ensures yes { IsTrue result → (length (N.inner inner.now).children < N.room)
         ⊎ IsSome (node.child_at (N.inner inner.now).children byte) }
     ensures no { IsFalse result → (length (N.inner inner.now).children ≡ N.room) × (N.room < 256) }
+    ensures absent { IsFalse result → node.child_at (N.inner inner.now).children byte ≡ None }
 {
     let _children = inner.iter();
     !inner.is_full() || inner.lookup_child(byte).is_some()

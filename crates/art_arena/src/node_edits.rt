@@ -63,14 +63,14 @@ impl<K, V, const PREFIX_LEN: usize> StoredInner<K, V, NodeArena<K, V, PREFIX_LEN
 /// What is done to an inner node.
 #[derive(Clone, Copy)]
 pub enum NodeEdit<'a, const PREFIX_LEN: usize> {
-    /// A child is stored under a byte, or in the place of the one that stands there.
+    /// A child is stored under a byte, or in place of the one that stands there.
     Write {
         /// The byte.
         byte: u8,
         /// The child.
         child: OpaqueNodePtr,
     },
-    /// The child under a byte is taken out.
+    /// The child under a byte is removed.
     Remove {
         /// The byte.
         byte: u8,
@@ -80,7 +80,7 @@ pub enum NodeEdit<'a, const PREFIX_LEN: usize> {
         /// The header.
         header: &'a Header<PREFIX_LEN>,
     },
-    /// The node is taken out of the arena.
+    /// The node is removed from the arena.
     Free,
 }
 
@@ -141,7 +141,7 @@ macro_rules! store_copy {
 }
 
 impl<K, V, const PREFIX_LEN: usize> NodeArena<K, V, PREFIX_LEN> {
-    /// Edits the inner node under a name, whatever its kind. A child is written only where the node has room for it, or
+    /// Edits the inner node under a name, whatever its kind. A child is written only if the node has room for it, or
     /// one stands under its byte.
     pub fn edit_inner(&mut self, name: OpaqueNodePtr, edit: &NodeEdit<'_, PREFIX_LEN>)
         requires may { (n : node.InnerNode) × (held_at self.old name ≡ Some (inner_held n))
@@ -176,8 +176,8 @@ impl<K, V, const PREFIX_LEN: usize> NodeArena<K, V, PREFIX_LEN> {
         }
     }
 
-    /// Stores a copy of a full inner node in the next larger kind, and answers its name. It is refused where there is
-    /// no memory; nothing changes then.
+    /// Stores a copy of a full inner node in the next larger kind, and returns its name. Fails if out of memory, and
+    /// nothing changes then.
     pub fn grow(&mut self, name: OpaqueNodePtr) -> Result<OpaqueNodePtr, AllocError>
         requires full { (n : node.InnerNode) × (held_at self.old name ≡ Some (inner_held n))
             × (length n.children ≡ (row_of name.kind).most) }
@@ -208,8 +208,8 @@ impl<K, V, const PREFIX_LEN: usize> NodeArena<K, V, PREFIX_LEN> {
         }
     }
 
-    /// Stores a copy of an inner node in the next smaller kind, which must have room for its children, and answers its
-    /// name. It is refused where there is no memory; nothing changes then.
+    /// Stores a copy of an inner node in the next smaller kind, which must have room for its children, and returns its
+    /// name. Fails if out of memory, and nothing changes then.
     pub fn shrink(&mut self, name: OpaqueNodePtr) -> Result<OpaqueNodePtr, AllocError>
         requires can { (n : node.InnerNode) × (held_at self.old name ≡ Some (inner_held n))
             × CanShrink name.kind (length n.children) }

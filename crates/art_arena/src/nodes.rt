@@ -13,7 +13,7 @@ use std::marker::Model;
 // No memory holds a node whose stored prefix has so many bytes.
 pub(crate) const NO_MEMORY_HOLDS: usize = 1 << 62;
 
-/// The nodes of one kind, each under its slab key. Where there is one, or room for one, a prefix of `PREFIX_LEN` stored
+/// The nodes of one kind, each under its slab key. If there is one, or room for one, a prefix of `PREFIX_LEN` stored
 /// bytes is so short that a node fits in memory.
 #[derive(Drop)]
 pub(crate) struct Nodes<N, const PREFIX_LEN: usize> {
@@ -123,6 +123,7 @@ impl<N, const PREFIX_LEN: usize> Nodes<N, PREFIX_LEN> {
     // Whether a node fits in memory, as it does where there is room for one.
     pub(crate) fn fits_in_memory(&self) -> bool
         ensures value { IsTrue result → PREFIX_LEN < 2 ^ 62 }
+        ensures exact { PREFIX_LEN < 2 ^ 62 → IsTrue result }
         ensures room { HasRoomFor self.now 1 → IsTrue result }
     {
         let _slab = &self.slab;

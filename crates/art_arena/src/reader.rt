@@ -1,11 +1,18 @@
-//! Reading an arena, each node that is read counted.
-ghost use Rattle.std.specs.Prelude.{◌≡◌, ◌≢◌, ◌+◌, ◌-◌, ◌^◌, ◌<◌, min, Some, IsSome, MatchResult};
+//! A reader of an arena, which counts each node that it reads.
+ghost use Rattle.std.specs.Prelude.{◌≡◌, ◌≢◌, ◌+◌, ◌-◌, ◌^◌, ◌<◌, ◌≤◌, ℕ, List, min, None, Some, IsSome, MatchResult};
+ghost use Rattle.art_nodes.specs.Name.{Name};
 ghost use Rattle.art_arena.specs.arena.Arena.{held_at, leaf_held, inner_held};
 ghost use Rattle.art_arena.specs.arena.Cells.{leaf_name};
+ghost use Rattle.art_arena.specs.arena.Linked.{first_slot};
+ghost use Rattle.art_arena.specs.arena.Reads.{IsReadAt, KeysWithin, ReadsAtLeast, ReadsToFirst};
+ghost use Rattle.art_arena.specs.arena.Shapes.{Shape, leaves};
 ghost use Rattle.art_arena.specs.arena.Visited.{arena_of, count_of, held_of, kind_of};
 
 use crate::arena::{LeafPtr, NodeArena};
+use crate::descent::Landed;
 use crate::inner_ref::{InnerArm, InnerRef};
+use crate::prefix::walk_below;
+use art_bytes::AsBytes;
 use art_nodes::{
     InnerNode4, InnerNode16, InnerNode32, InnerNode48, InnerNode256, LeafNode, NodeType,
     OpaqueNodePtr, known,
@@ -29,7 +36,8 @@ pub enum VisitedNode<'a, K, V, const PREFIX_LEN: usize> {
 }
 
 impl<'a, K, V, const PREFIX_LEN: usize> VisitedNode<'a, K, V, PREFIX_LEN> {
-    /// The leaf, or else the inner node, whatever its kind. That an inner node fits in memory is what `visit` says.
+    /// Returns the leaf, or else the inner node, whatever its kind. That an inner node fits in memory is what `visit`
+    /// says.
     #[inline(always)]
     pub fn leaf(self) -> Result<&'a LeafNode<K, V>, InnerRef<'a, K, V, PREFIX_LEN>>
         requires fits_in_memory { kind_of self ≢ NodeType.Leaf → PREFIX_LEN < 2 ^ 62 }
@@ -100,7 +108,7 @@ pub struct Reader<'a, T> {
 pub type ArenaReader<'a, K, V, const PREFIX_LEN: usize> = Reader<'a, NodeArena<K, V, PREFIX_LEN>>;
 
 impl<'a, T> Reader<'a, T> {
-    /// A reader that has read nothing yet.
+    /// Returns a reader that has read nothing yet.
     pub fn new(arena: &'a T) -> Self
         ensures arena { arena_of result ≡ arena.now }
         ensures count { count_of result ≡ 0 }
@@ -108,30 +116,11 @@ impl<'a, T> Reader<'a, T> {
         Reader { arena, count: 0 }
     }
 
-    /// How many nodes were read so far. A count that reaches the greatest number stays there.
+    /// Returns how many nodes were read so far. A count that reaches the greatest number stays there.
     pub fn count(&self) -> u64
         ensures { result ≡ count_of self.now }
     {
         self.count
-    }
-
-    /// A reader of the same that has read nothing yet, whose count `take_in` adds here. Steps that are rare and stand
-    /// in a function of their own are counted by it, so that a count which nobody asks for is never kept.
-    #[inline(always)]
-    pub fn aside(&self) -> Self
-        ensures arena { arena_of result ≡ arena_of self.now }
-        ensures count { count_of result ≡ 0 }
-    {
-        Reader::new(self.arena)
-    }
-
-    /// What another has read is counted here. A count that reaches the greatest number stays there.
-    #[inline(always)]
-    pub fn take_in(&mut self, other: Self)
-        ensures kept { arena_of self.new ≡ arena_of self.old }
-        ensures counts { count_of self.new ≡ min (count_of self.old + count_of other.entry) (2 ^ 64 - 1) }
-    {
-        self.count = self.count.saturating_add(other.count);
     }
 
     // One step.
@@ -147,8 +136,8 @@ impl<'a, T> Reader<'a, T> {
 }
 
 impl<'a, K, V, const PREFIX_LEN: usize> Reader<'a, NodeArena<K, V, PREFIX_LEN>> {
-    /// Reads the node under this name. Each call counts one. Where an inner node is held, it fits in memory, which a
-    /// caller over any `PREFIX_LEN` owes.
+    /// Reads the node under this name. Each call counts one. If it is an inner node, it fits in memory, which a caller
+    /// over any `PREFIX_LEN` owes.
     #[inline(always)]
     pub fn visit(&mut self, name: OpaqueNodePtr) -> VisitedNode<'a, K, V, PREFIX_LEN>
         requires { IsSome (held_at (arena_of self.old) name) }
@@ -197,6 +186,35 @@ impl<'a, K, V, const PREFIX_LEN: usize> Reader<'a, NodeArena<K, V, PREFIX_LEN>> 
     }
 }
 
+// The first leaf below an inner node that was read already. The nodes from there down to the leaf are read by a reader
+// of their own, whose count is added at once: so a count which nobody asks for is not kept for the call.
+#[inline(always)]
+pub(crate) fn first_below<'a, K: AsBytes, V, const PREFIX_LEN: usize>(
+    reader: &mut ArenaReader<'a, K, V, PREFIX_LEN>,
+    inner: &InnerRef<'a, K, V, PREFIX_LEN>,
+) -> Landed<'a, K, V>
+    requires { (root : Name) × (depth : ℕ) × (path : List ℕ) × (s : Shape K V)
+        × IsReadAt K.bytes PREFIX_LEN (arena_of reader.old) inner.now.node root depth path s }
+    ensures value { (root : Name) (depth : ℕ) (path : List ℕ) (s : Shape K V)
+        → IsReadAt K.bytes PREFIX_LEN (arena_of reader.old) inner.now.node root depth path s
+        → first_slot (leaves s) None ≡ Some result.name }
+    ensures leaf { held_at (arena_of reader.old) (leaf_name result.name) ≡ Some (leaf_held result.leaf.now) }
+    ensures kept { arena_of reader.new ≡ arena_of reader.old }
+    ensures counts { (root : Name) (depth : ℕ) (path : List ℕ) (s : Shape K V)
+        → IsReadAt K.bytes PREFIX_LEN (arena_of reader.old) inner.now.node root depth path s
+        → ReadsToFirst K.bytes (arena_of reader.old) path s (count_of reader.old) (count_of reader.new) }
+    ensures least { ReadsAtLeast 1 (count_of reader.old) (count_of reader.new) }
+    ensures few { (root : Name) (depth : ℕ) (path : List ℕ) (s : Shape K V)
+        → IsReadAt K.bytes PREFIX_LEN (arena_of reader.old) inner.now.node root depth path s
+        → (longest : ℕ) → KeysWithin K.bytes longest (leaves s)
+        → count_of reader.new ≤ count_of reader.old + longest }
+{
+    let mut further = Reader::new(reader.arena);
+    let first = walk_below(&mut further, inner);
+    reader.count = reader.count.saturating_add(further.count);
+    first
+}
+
 // The node under this name.
 #[inline(always)]
 fn node_in<'a, K, V, const PREFIX_LEN: usize>(
@@ -220,7 +238,7 @@ fn node_in<'a, K, V, const PREFIX_LEN: usize>(
 }
 
 impl<K, V, const PREFIX_LEN: usize> NodeArena<K, V, PREFIX_LEN> {
-    /// The inner node under this name, whatever its kind. It isn't counted.
+    /// Returns the inner node under this name, whatever its kind. It isn't counted.
     #[inline(always)]
     pub fn inner(&self, name: OpaqueNodePtr) -> InnerRef<'_, K, V, PREFIX_LEN>
         requires held { IsSome (held_at self.now name) }

@@ -1,4 +1,4 @@
-//! The caller that `CALLING.md` of art_arena shows, letter for letter; a test in `memory.rt` runs it.
+//! A caller of art_arena, which its README.md shows; a test in `memory.rt` runs it.
 
 ghost use Rattle.std.specs.Prelude.{◌≡◌, Some, OnErr, IfOk};
 ghost use Rattle.art_arena.specs.arena.Arena.{held_at, SameNodes};

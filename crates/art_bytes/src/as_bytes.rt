@@ -1,10 +1,15 @@
-//! What a key's bytes are, and the two laws that its type may keep of them.
+//! What a key's bytes are, and the laws that its type may keep of them.
 ghost use Rattle.std.specs.Prelude.{◌≡◌, ℕ, List};
 ghost use Rattle.art_bytes.specs.Keys.{AreBytes, BeginsWith, bytes_cmp};
 
 /// A key: a value that is seen as bytes.
 ///
-/// Two keys of equal bytes name one entry, also where they are not equal values.
+/// Two keys with equal bytes name one entry, even if they are not equal values.
+///
+/// ```
+/// use art_bytes::AsBytes;
+/// assert_eq!(rt; [7, 8].as_bytes(), StrKey("\x07\x08").as_bytes());
+/// ```
 pub trait AsBytes {
     /// Holds of each value of the type: what its fields keep, such as the length of an array. `as_bytes` tells it of
     /// any key at hand, and the laws take it as their premise.
@@ -13,16 +18,16 @@ pub trait AsBytes {
     /// The bytes, which depend on the value alone.
     ghost bytes: { Self → List ℕ };
 
-    /// Lends the key's bytes. It takes no memory.
+    /// Lends the key's bytes. It allocates nothing.
     fn as_bytes(&self) -> &[u8]
         ensures value { result.now ≡ bytes self.now }
         ensures key { is_key self.now };
 
-    /// Each of them is below 256.
+    /// Each of the bytes is less than 256.
     ghost bytes_fit: { (k : Self) → is_key k → AreBytes (bytes k) };
 }
 
-/// Keys none of which is a proper front of another's: if one key's bytes begin another's, both are equal.
+/// Keys none of which is a prefix of another. If one key's bytes begin another's, both have the same bytes.
 pub trait NoPrefixesBytes: AsBytes {
     ghost no_prefixes: { (k l : Self) → Self.is_key k → Self.is_key l → BeginsWith (Self.bytes k) (Self.bytes l)
         → Self.bytes k ≡ Self.bytes l };
@@ -39,7 +44,7 @@ pub trait CloneBytes: AsBytes + Clone {
     ghost same_bytes: { (k l : Self) → Self.is_clone k l → Self.bytes l ≡ Self.bytes k };
 }
 
-// The same bytes, of which the caller then knows that each is below 256.
+// The bytes themselves, of which the caller then knows that each is less than 256.
 pub(crate) fn known_bytes(bytes: &[u8]) -> &[u8]
     ensures value { result.now ≡ bytes.now }
     ensures fit { AreBytes bytes.now }

@@ -32,13 +32,13 @@ pub trait FixedBytes: Ord + Copy {
     /// Some value of the type.
     fn some() -> Self;
 
-    /// The value's bytes. It takes no memory.
+    /// Returns the value's bytes. It allocates nothing.
     fn to_array(self) -> Self::Array
         ensures value { is_value self }
         ensures key { Self.Array.is_key result }
         ensures bytes { Self.Array.bytes result ≡ fixed_bytes self };
 
-    /// The value that has these bytes, or None where there is none. It takes no memory.
+    /// Returns the value that has these bytes, or `None` if there is none. It allocates nothing.
     fn checked_from_slice(bytes: &[u8]) -> Option<Self>
         requires { length bytes.now ≡ WIDTH }
         ensures { MatchOption result (¬ ((v : Self) × is_value v × (fixed_bytes v ≡ bytes.now)))

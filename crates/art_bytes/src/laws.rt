@@ -1,4 +1,4 @@
-//! The laws of keys and mappings, as contracts. No function here does any work.
+//! The laws of keys and mappings, as contracts. The functions here do nothing else.
 ghost use Rattle.std.specs.Prelude.{◌≡◌, IfOk, OnErr};
 ghost use Rattle.art_bytes.specs.Keys.{AreBytes, BeginsWith, Conflict, bytes_cmp};
 ghost use Rattle.art_bytes.specs.Laws.{pair_key};
@@ -10,14 +10,14 @@ use crate::mappings::{ConcatTuple, ToIBE, ToUBE};
 use std::alloc::{AllocError, Global};
 use std::cmp::Ordering;
 
-/// Each byte of a key is below 256.
+/// Each byte of a key is less than 256.
 pub fn bytes_fit<K: AsBytes>(key: &K)
     ensures { AreBytes (K.bytes key.now) }
 {
     let _ = key.as_bytes();
 }
 
-/// No key of a type without prefixes is a proper front of another.
+/// No key of a type without prefixes is a prefix of a key with other bytes.
 pub fn no_conflict<K: NoPrefixesBytes>(a: &K, b: &K)
     ensures { ¬ (Conflict (K.bytes a.now) (K.bytes b.now)) }
 {
@@ -35,7 +35,7 @@ pub fn order_is_of_bytes<K: OrderedBytes>(a: &K, b: &K) -> Ordering
     K::cmp(a, b)
 }
 
-/// A value that is written and read back is the same value; it is refused only where its bytes or it take memory.
+/// A value that is written and read back is the same value. It fails only if its bytes or the value need memory.
 pub fn reads_back<B: BytesMapping<D>, D>(alloc: Global, value: D) -> Result<D, AllocError>
     ensures same { IfOk result (λ v. B.is_same v value) }
     ensures refused { OnErr result (¬ (B.bytes_are_free × B.value_is_free)) }
@@ -45,8 +45,7 @@ pub fn reads_back<B: BytesMapping<D>, D>(alloc: Global, value: D) -> Result<D, A
     Ok(read)
 }
 
-/// Bytes that are read and written back are the same bytes; it is refused only where the value or its bytes take
-/// memory.
+/// Bytes that are read and written back are the same bytes. It fails only if the value or its bytes need memory.
 pub fn writes_back<B: BytesMapping<D>, D>(
     alloc: Global,
     bytes: B::Bytes,
@@ -59,7 +58,7 @@ pub fn writes_back<B: BytesMapping<D>, D>(
     B::to_bytes(alloc, value)
 }
 
-/// A fixed mapping always answers.
+/// A fixed mapping never fails.
 pub fn fixed_bytes<B: FixedBytesMapping<D>, D: Ord>(alloc: Global, value: D) -> B::Bytes
     ensures { B.has_bytes value result }
 {
@@ -79,8 +78,8 @@ pub fn order_is_of_values<B: OrderedMapping<D>, D: Ord>(
     a.cmp(b)
 }
 
-/// The key of a tenant's number: four big-endian bytes of the tenant, then the eight of the number with its top bit
-/// flipped.
+/// The key of a tenant's number: four bytes of the tenant, the highest first, then the eight of the number with its top
+/// bit flipped.
 pub fn pair_key_is(alloc: Global, tenant: u32, number: i64) -> Result<Vec<u8>, AllocError>
     ensures { IfOk result (λ key. key.items ≡ pair_key (tenant, number)) }
 {

@@ -1,4 +1,4 @@
-//! A value seen as a key, by a mapping.
+//! A value as a key, by a mapping.
 ghost use Rattle.std.specs.Prelude.{◌≡◌, IfOk, OnErr, nat_eq, Some};
 ghost use Rattle.std.proofs.Common.{refl, rules};
 ghost use Rattle.std.specs.Cmp.Rules.{hashing};
@@ -17,9 +17,16 @@ use std::fmt;
 use std::hash::{Hash, Hasher};
 use std::marker::{Model, PhantomData};
 
-/// A value of `D` as a key: it keeps the bytes that `B` gives.
+/// A value of `D` as a key, which keeps the bytes that `B` gives it.
 ///
-/// What a contract sees is what it keeps, of type `B::Bytes`, which is always some value's.
+/// A contract sees what it keeps, of type `B::Bytes`, which is always some value's.
+///
+/// ```
+/// use art_bytes::AsBytes;
+/// let two = Mapped::<ToIBE, i32>::new(rt.alloc(), -2)?;
+/// let three = Mapped::<ToIBE, i32>::new(rt.alloc(), 3)?;
+/// assert!(rt; two.as_bytes() < three.as_bytes());
+/// ```
 #[derive(Drop)]
 pub struct Mapped<B: BytesMapping<D>, D> {
     repr: B::Bytes,
@@ -35,7 +42,13 @@ impl<B: BytesMapping<D>, D> Model for Mapped<B, D> {
 }
 
 impl<B: BytesMapping<D>, D> Mapped<B, D> {
-    /// The value as a key. It is refused only where its bytes take memory.
+    /// Makes a key of a value. Fails only if its bytes need memory.
+    ///
+    /// ```
+    /// use art_bytes::AsBytes;
+    /// let key = Mapped::<ToUBE, u16>::new(rt.alloc(), 258)?;
+    /// assert_eq!(rt; key.as_bytes(), [1, 2].as_slice());
+    /// ```
     pub fn new(alloc: Global, value: D) -> Result<Self, AllocError>
         ensures value { IfOk result (λ m. B.has_bytes value m) }
         ensures refused { OnErr result (¬ B.bytes_are_free) }
@@ -47,7 +60,12 @@ impl<B: BytesMapping<D>, D> Mapped<B, D> {
         })
     }
 
-    /// The value. It is refused only where it takes memory.
+    /// Returns the value. Fails only if it needs memory.
+    ///
+    /// ```
+    /// let key = Mapped::<ToUBE, u16>::new(rt.alloc(), 258)?;
+    /// assert_eq!(rt; key.get(rt.alloc())?, 258);
+    /// ```
     pub fn get(self, alloc: Global) -> Result<D, AllocError>
         ensures value { IfOk result (λ v. B.has_bytes v self) }
         ensures refused { OnErr result (¬ B.value_is_free) }

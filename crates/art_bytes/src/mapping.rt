@@ -21,25 +21,31 @@ pub trait BytesMapping<D> {
     /// Two values that no caller tells apart by what they hold: equal ones, and vectors of equal elements.
     ghost is_same: { D → D → Type 0 };
 
-    /// Holds where the bytes take no memory.
+    /// Holds if the bytes need no memory.
     ghost bytes_are_free: { Type 0 };
 
-    /// Holds where the value takes no memory.
+    /// Holds if the value needs no memory.
     ghost value_is_free: { Type 0 };
 
-    /// The value's bytes. It is refused only where they take memory.
+    /// Returns the value's bytes. Fails only if they need memory.
     fn to_bytes(alloc: Global, value: D) -> Result<Self::Bytes, AllocError>
         ensures value { IfOk result (λ b. has_bytes value b) }
         ensures refused { OnErr result (¬ bytes_are_free) };
 
-    /// The value that has these bytes. It is refused only where the value takes memory.
+    /// Returns the value that has these bytes. Fails only if the value needs memory.
     fn from_bytes(alloc: Global, bytes: Self::Bytes) -> Result<D, AllocError>
         requires { (v : D) × has_bytes v bytes }
         ensures value { IfOk result (λ v. has_bytes v bytes) }
         ensures refused { OnErr result (¬ value_is_free) };
 
-    /// The value that has these bytes, or None exactly where they are no value's. It is refused only where the value
-    /// takes memory.
+    /// Returns the value that has these bytes, or `None` exactly if they are no value's. Fails only if the value needs
+    /// memory.
+    ///
+    /// ```
+    /// use art_bytes::BytesMapping;
+    /// let none: Option<std::num::NonZeroU8> = ToUBE::checked_from_bytes(rt.alloc(), [0])?;
+    /// assert!(rt; none.is_none());
+    /// ```
     fn checked_from_bytes(alloc: Global, bytes: Self::Bytes) -> Result<Option<D>, AllocError>
         ensures value { IfOk result
             (λ found. MatchOption found (¬ ((v : D) × has_bytes v bytes)) (λ v. has_bytes v bytes)) }
@@ -58,8 +64,8 @@ pub trait BytesMapping<D> {
         → is_same v w };
 }
 
-/// A mapping that gives each value `WIDTH` bytes, in the order of the values, and takes no memory. It may be one of a
-/// tuple's.
+/// A mapping that gives each value `WIDTH` bytes, in the order of the values, and allocates nothing. It may be that of
+/// a tuple's part.
 pub trait FixedBytesMapping<D: Ord>: BytesMapping<D> + Parts<D> {
     ghost WIDTH: { ℕ };
 
@@ -69,13 +75,13 @@ pub trait FixedBytesMapping<D: Ord>: BytesMapping<D> + Parts<D> {
     /// Holds of each value of the type: what its range keeps.
     ghost is_value: { D → Type 0 };
 
-    /// The value that has these bytes, or None where there is none. It takes no memory.
+    /// Returns the value that has these bytes, or `None` if there is none. It allocates nothing.
     fn checked_from_slice(bytes: &[u8]) -> Option<D>
         requires { length bytes.now ≡ WIDTH }
         ensures { MatchOption result (¬ ((v : D) × is_value v × (Self.bytes_of v ≡ bytes.now)))
             (λ v. is_value v × (Self.bytes_of v ≡ bytes.now)) };
 
-    /// Neither direction is ever refused.
+    /// Neither direction ever fails.
     ghost takes_no_memory: { Self.bytes_are_free × Self.value_is_free };
 
     /// What has bytes is a value.
@@ -88,7 +94,7 @@ pub trait FixedBytesMapping<D: Ord>: BytesMapping<D> + Parts<D> {
     ghost part_has_bytes: { (v : D) → Self.parts_bytes v ≡ Self.bytes_of v };
 }
 
-/// A mapping none of whose values has bytes that are a proper front of another's.
+/// A mapping under which no value's bytes are a prefix of another value's.
 pub trait NoPrefixesMapping<D>: BytesMapping<D> {
     ghost no_prefixes: { (v w : D) (b c : Self.Bytes) → Self.has_bytes v b → Self.has_bytes w c
         → BeginsWith (Self.bytes_of v) (Self.bytes_of w) → Self.bytes_of v ≡ Self.bytes_of w };

@@ -1,4 +1,4 @@
-//! The callers that `CALLING.md` of art_bytes shows, letter for letter; the tests in `keys.rt` run them.
+//! Callers of art_bytes, of which its README.md shows one; the tests in `keys.rt` run them.
 
 ghost use Rattle.std.specs.Prelude.{◌≡◌, nat_eq};
 ghost use Rattle.std.specs.Cmp.Lexicographic.{pointwise};

@@ -1,4 +1,4 @@
-//! Tests of art_bytes: values from outside, each public call at concrete types, and the callers of its CALLING.md.
+//! Tests of art_bytes: values from outside, each public call at concrete types, and the callers of its README.md.
 #![tactic(auto)]
 
 #[cfg(test)]

@@ -1,105 +1,37 @@
-//! Standard input and output, joined so that replies leave in large writes, and are out before more input is waited
-//! for.
-ghost use Rattle.std.specs.Prelude.{◌≤◌};
+//! The ends of the program, over any source and sink. Replies are gathered, so that they leave in large writes. They
+//! are out before more input is waited for.
+ghost use Rattle.std.specs.Prelude.{◌≡◌, ℕ, ◌++◌, ◌↔◌, List, false, true, OnOk, Err, IsErr};
+ghost use Rattle.art_lines.specs.Lines.{lines_of};
+ghost use Rattle.art_engine.specs.Outcome.{IsOutcome};
 
-use std::cell::RefCell;
-use std::io;
-use std::io::{Read, Stdin, Stdout, Write};
+use art_engine::{Index, RunFault, run};
+use art_lines::{Buffered, Sink, Source};
 
-/// The bytes that leave at a time, at most.
-const ROOM: usize = 65_536;
+/// Answers what a source gives out of an index, and has the sink behind the buffered one take all replies.
+pub fn run_buffered<S: Source, W: Sink, const PREFIX_LEN: usize>(
+    index: &mut Index<PREFIX_LEN>,
+    source: &mut S,
+    sink: &mut Buffered<W>,
+) -> Result<(), RunFault>
+    requires source_open { S.has_failed source.old ≡ false }
+    requires source_goes_on { S.has_ended source.old ≡ false }
+    requires sink_open { ⟦<Buffered<W> as Sink>⟧.has_failed sink.old ≡ false }
 
-/// Bytes on their way out.
-#[derive(Drop)]
-pub(crate) struct Buffer {
-    stdout: Stdout,
-    bytes: [u8; ROOM],
-    len: usize,
-    failed: bool,
-    ghost fits: { len ≤ 65_536 },
-}
+    // Where it answers Ok, the source has ended, and nothing is held back any more.
+    ensures ended { OnOk result (S.has_ended source.new ≡ true) }
+    ensures outcome { OnOk result ((text written : List ℕ)
+        × (S.given source.new ≡ S.given source.old ++ text)
+        × (W.taken sink.new.sink ≡ ⟦<Buffered<W> as Sink>⟧.taken sink.old ++ written)
+        × IsOutcome index.old (lines_of text) written index.new) }
 
-impl Buffer {
-    pub(crate) fn new(stdout: Stdout) -> Buffer {
-        Buffer {
-            stdout,
-            bytes: [0; ROOM],
-            len: 0,
-            failed: false,
-        }
-    }
-
-    /// Writes out what is held. A failure is remembered, and nothing is written after it.
-    fn write_out(&mut self) {
-        if !self.failed && self.len > 0 && self.stdout.write_all(&self.bytes[..self.len]).is_err() {
-            self.failed = true;
-        }
-        self.len = 0;
-    }
-
-    /// Writes out what is left and flushes standard output: false where that or an earlier write failed.
-    pub(crate) fn finish(buffer: &RefCell<Buffer>) -> bool {
-        let Ok(mut out) = buffer.try_borrow_mut() else {
-            return false;
-        };
-        out.write_out();
-        !out.failed && out.stdout.flush().is_ok()
-    }
-}
-
-/// Standard input, which writes out what is held before each read.
-#[derive(Drop)]
-pub(crate) struct Input<'a> {
-    stdin: Stdin,
-    buffer: &'a RefCell<Buffer>,
-}
-
-impl<'a> Input<'a> {
-    pub(crate) fn new(stdin: Stdin, buffer: &'a RefCell<Buffer>) -> Input<'a> {
-        Input { stdin, buffer }
-    }
-}
-
-impl Read for Input<'_> {
-    fn read(&mut self, buf: &mut [u8]) -> io::Result<usize> {
-        if let Ok(mut out) = self.buffer.try_borrow_mut() {
-            out.write_out();
-        }
-        self.stdin.read(buf)
-    }
-}
-
-/// Standard output by way of the buffer.
-#[derive(Drop)]
-pub(crate) struct Output<'a> {
-    buffer: &'a RefCell<Buffer>,
-}
-
-impl<'a> Output<'a> {
-    pub(crate) fn new(buffer: &'a RefCell<Buffer>) -> Output<'a> {
-        Output { buffer }
-    }
-}
-
-impl Write for Output<'_> {
-    fn write(&mut self, piece: &[u8]) -> io::Result<usize> {
-        let Ok(mut out) = self.buffer.try_borrow_mut() else {
-            return Ok(0);
-        };
-        if out.len == ROOM {
-            out.write_out();
-        }
-        if out.failed {
-            return Ok(0);
-        }
-        let at = out.len;
-        let n = piece.len().min(ROOM - at);
-        out.bytes[at..at + n].copy_from_slice(&piece[..n]);
-        out.len = at + n;
-        Ok(n)
-    }
-
-    fn flush(&mut self) -> io::Result<()> {
-        Ok(())
+    // A failure of either end stays one. That of the source is told first.
+    ensures read { (result ≡ Err RunFault.Read) ↔ (S.has_failed source.new ≡ true) }
+    ensures write { W.has_failed sink.new.sink ≡ true → IsErr result }
+{
+    let done = run(index, source, sink);
+    let is_out = sink.finish();
+    match done {
+        Ok(()) if !is_out => Err(RunFault::Write),
+        done => done,
     }
 }

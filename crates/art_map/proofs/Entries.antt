@@ -10,6 +10,7 @@ use Rattle.art_operations.specs.KeyedLists.{without_key}
 use Rattle.art_arena.proofs.shapes.LeafValues.{leaf-there}
 use Rattle.art_operations.specs.Pairs.{with_pair_put}
 use Rattle.art_map.specs.Found.{IsFound, HasPairAt, HasPairUnder, leaf_pair, pair_under, has_leaf}
+use Rattle.art_map.specs.LeafNames.{KeepsAllLeaves}
 use Rattle.art_map.specs.Lends.{with_value_at}
 use Rattle.std.specs.Map.{lookup_entry}
 use Rattle.std.specs.Option.{unwrap_or}
@@ -17,6 +18,7 @@ use Rattle.art_map.specs.Contents.{Contents, has_bytes}
 use Rattle.art_map.specs.Entries.{Occupied, Vacant, the, option_key, entry_key, entry_value, entry_pairs, pairs_without, with_entry_value, IsEntryOf, IsSame, IsWritten}
 use Rattle.art_map.specs.declared.map.entry.OccupiedEntry.{OccupiedEntry}
 use Rattle.art_map.specs.declared.map.entry.VacantEntry.{VacantEntry}
+use Rattle.art_map.proofs.LeafNames.{written-all}
 use Rattle.art_map.proofs.LookedUp.{lookup-value}
 use Rattle.art_map.proofs.Written.{one-pair, put-again, without-again, without-put}
 
@@ -36,15 +38,24 @@ module _ {K V : Type 0} {P : ℕ} {M : Type 0} {g : as_bytes.Ghosts K} where
     pub value-is : (k : K) (v : V) → HasPairAt o.map.now o.leaf (k, v) → entry_value (Occupied o) ≡ Some v
     value-is k v has = ap (λ (p : K × V). Some p.1) (the-is (pair_under o.map.now o.leaf) o.held (k, v) (ap leaf_pair has))
 
+    pub has-pair : HasPairAt o.map.now o.leaf (the (pair_under o.map.now o.leaf) o.held)
+    has-pair = go (node_at o.map.now.nodes (leaf_name o.leaf)) o.held
+      where
+        go : (c : Option (Cell K V)) (h : IsSome (leaf_pair c)) → c ≡ Some (pair (the (leaf_pair c) h).0 (the (leaf_pair c) h).1)
+        go None h = absurd (cc)
+        go (Some (pair k v)) h = refl
+        go (Some (branches node)) h = absurd (cc)
+
     -- an entry of the same key, whose map has the value put, is this one written
     pub written-as : (d : OccupiedEntry K V P M g) (w : V) → d.map.ghost_name ≡ o.map.ghost_name → d.map.now.pairs ≡ entry_pairs (Occupied o) w → entry_key (Occupied d) ≡ entry_key (Occupied o) → entry_value (Occupied d) ≡ Some w
-        → IsWritten (Occupied o) w (Occupied d)
-    written-as d w name pairs key value = record {
+        → d.map.now ≡ with_value_at o.map.now o.leaf w → IsWritten (Occupied o) w (Occupied d)
+    written-as d w name pairs key value is = record {
       same_map = name;
       pairs = pairs;
       key = key;
       value = value;
       writes = λ u. rw (pairs, key) (put-again g.bytes (entry_key (Occupied o)) w u o.map.now.pairs);
+      names = subst (KeepsAllLeaves g.bytes o.map.now) (sym is) (written-all g.bytes o.map.now o.leaf _ has-pair w);
     }
 
     -- written, it leaves the same pairs where it is removed
@@ -53,14 +64,6 @@ module _ {K V : Type 0} {P : ℕ} {M : Type 0} {g : as_bytes.Ghosts K} where
         let k = entry_key (Occupied o) in
         rw (did.pairs, did.key)
         (without-put (key_of g.bytes) (g.bytes k) (k, w) refl (without_key (key_of g.bytes) (g.bytes k) o.map.now.pairs) ∙ without-again (key_of g.bytes) (g.bytes k) o.map.now.pairs)
-
-    pub has-pair : HasPairAt o.map.now o.leaf (the (pair_under o.map.now o.leaf) o.held)
-    has-pair = go (node_at o.map.now.nodes (leaf_name o.leaf)) o.held
-      where
-        go : (c : Option (Cell K V)) (h : IsSome (leaf_pair c)) → c ≡ Some (pair (the (leaf_pair c) h).0 (the (leaf_pair c) h).1)
-        go None h = absurd (cc)
-        go (Some (pair k v)) h = refl
-        go (Some (branches node)) h = absurd (cc)
 
     -- an entry made of its map and its leaf is the same
     pub same-as : (d : OccupiedEntry K V P M g) → (d.map.ghost_name ≡ o.map.ghost_name) × (d.map.now ≡ o.map.now) → ((p : K × V) → HasPairAt o.map.now o.leaf p → (entry_key (Occupied d) ≡ p.0) × (entry_value (Occupied d) ≡ Some p.1)) → IsSame (Occupied o) (Occupied d)
@@ -74,7 +77,7 @@ module _ {K V : Type 0} {P : ℕ} {M : Type 0} {g : as_bytes.Ghosts K} where
         let was : pair_under o.map.now o.leaf ≡ Some (there.leaf.key, there.leaf.value) = ap (λ h. leaf_pair (cell_of h)) there.held in
         let has : HasPairAt m o.leaf (there.leaf.key, w) = subst (λ n. HasPairAt n o.leaf (there.leaf.key, w)) (sym is) (ap cell_of (there.written w).changed) in
         let found = told _ has in
-        written-as d w same.0 (ap (λ n. n.pairs) same.1 ∙ put _ has-pair) (found.0 ∙ sym (ap (λ (p : K × V). p.0) (the-is (pair_under o.map.now o.leaf) o.held (there.leaf.key, there.leaf.value) was))) found.1
+        written-as d w same.0 (ap (λ n. n.pairs) same.1 ∙ put _ has-pair) (found.0 ∙ sym (ap (λ (p : K × V). p.0) (the-is (pair_under o.map.now o.leaf) o.held (there.leaf.key, there.leaf.value) was))) found.1 (same.1 ∙ is)
 
     -- with another value it is the entry written, if its map is
     pub is-written : (k : K) → entry_key (Occupied o) ≡ k → ((w : V) → (with_value_at o.map.now o.leaf w).pairs ≡ with_pair_put g.bytes k w o.map.now.pairs) → (w : V) → IsWritten (Occupied o) w (Occupied (with_entry_value o w))
@@ -85,17 +88,18 @@ module _ {K V : Type 0} {P : ℕ} {M : Type 0} {g : as_bytes.Ghosts K} where
         let is : pair_under d.map.now o.leaf ≡ Some (there.leaf.key, w) = ap (λ h. leaf_pair (cell_of h)) (there.written w).changed in
         let now = the-is (pair_under d.map.now o.leaf) d.held (there.leaf.key, w) is in
         let same : entry_key (Occupied d) ≡ entry_key (Occupied o) = ap (λ (p : K × V). p.0) now ∙ sym (ap (λ (p : K × V). p.0) (the-is (pair_under o.map.now o.leaf) o.held (there.leaf.key, there.leaf.value) was)) in
-        written-as d w refl (pairs w ∙ ap (λ k. with_pair_put g.bytes k w o.map.now.pairs) (sym key)) same (ap (λ (p : K × V). Some p.1) now)
+        written-as d w refl (pairs w ∙ ap (λ k. with_pair_put g.bytes k w o.map.now.pairs) (sym key)) same (ap (λ (p : K × V). Some p.1) now) refl
 
   -- a vacant entry whose pair was put in is written
-  pub put-as : (e : VacantEntry K V P M g) (m : Contents K V) (v : V) → m.pairs ≡ entry_pairs (Vacant e) v → (d : OccupiedEntry K V P M g) → (d.map.ghost_name ≡ e.map.ghost_name) × (d.map.now ≡ m) → (entry_key (Occupied d) ≡ e.key) × (entry_value (Occupied d) ≡ Some v)
+  pub put-as : (e : VacantEntry K V P M g) (m : Contents K V) (v : V) → m.pairs ≡ entry_pairs (Vacant e) v → KeepsAllLeaves g.bytes e.map.now m → (d : OccupiedEntry K V P M g) → (d.map.ghost_name ≡ e.map.ghost_name) × (d.map.now ≡ m) → (entry_key (Occupied d) ≡ e.key) × (entry_value (Occupied d) ≡ Some v)
       → IsWritten (Vacant e) v (Occupied d)
-  put-as e m v put d same told = record {
+  put-as e m v put names d same told = record {
     same_map = same.0;
     pairs = ap (λ n. n.pairs) same.1 ∙ put;
     key = told.0;
     value = told.1;
     writes = λ u. rw (told.0, same.1, put) (put-again g.bytes e.key v u e.map.now.pairs);
+    names = subst (KeepsAllLeaves g.bytes e.map.now) (sym same.1) names;
   }
 
 module _ {K V : Type 0} (m : Contents K V) (slot : ℕ) (p q : K × V) (has : HasPairAt m slot p) (lent : HasPairAt m slot q) where

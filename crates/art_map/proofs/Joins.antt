@@ -2,23 +2,21 @@
 use Rattle.std.proofs.Common.{◌≡◌, ℕ, suc, ◌+◌, Bool, true, false, List, [], ◌∷◌, ◌++◌, Option, Some, None, is_some, length, take, drop, refl, sym, ap, subst, ◌∙◌, arith, length-append, append_assoc}
 use Rattle.std.specs.List.{AllByRecursion}
 use Rattle.std.specs.Ordering.{is_le}
-use Rattle.std.specs.declared.ops.Bound.TheVariants.{Included}
+use Rattle.std.specs.declared.ops.Bound.TheVariants.{Included, Excluded, Unbounded}
 use Rattle.std.proofs.lemmas.List.{append-nil}
 use Rattle.std.proofs.Math.Seq.{take-append_seam, drop-append_seam}
 use Rattle.art_bytes.specs.Keys.{IsBefore, bytes_cmp}
 use Rattle.art_arena.specs.arena.Shapes.{key_of}
-use Rattle.art_arena.specs.declared.ends.End.{End}
-use Rattle.art_arena.specs.declared.ends.End.TheVariants.{First, Last}
 use Rattle.art_arena.specs.tree.Order.{AscendsByKey}
 use Rattle.art_operations.specs.KeyedLists.{IsBlocked}
-use Rattle.art_operations.specs.Pairs.{IsAtEnd, with_pair_put}
+use Rattle.art_operations.specs.Pairs.{with_pair_put}
 use Rattle.art_operations.proofs.Stretches.{from_later}
-use Rattle.art_map.specs.Joins.{joined, side_at}
 use Rattle.art_operations.specs.Insertions.{IsForConflict, IsPairRefused}
 use Rattle.art_operations.specs.declared.insert.result.PairRefused.{PairRefused}
 use Rattle.art_operations.specs.declared.insert.result.PairRefused.TheVariants.{Conflict, Memory}
 use Rattle.std.specs.Map.Iter.{TakesFirst}
-use Rattle.art_map.proofs.Puts.{ascends-left, ascends-right, put-first, put-last, free-first, free-last}
+use Rattle.art_map.specs.Ranges.{pairs_between}
+use Rattle.art_map.proofs.Puts.{ascends-right, put-first, free-first}
 
 -- lists that are joined are told apart by their lengths
 parted : {X : Type 0} (xs ys us vs : List X) → xs ++ ys ≡ us ++ vs → length xs ≡ length us → (xs ≡ us) × (ys ≡ vs)
@@ -28,88 +26,67 @@ parted xs ys us vs e long = (
 )
 
 module _ {K V : Type 0} (bytes : K → List ℕ) (query : List ℕ) where
+  -- the pairs whose keys' bytes are below these, and those whose keys' bytes are not
+  abbrev pub below : List (K × V) → List (K × V)
+  below pairs = pairs_between bytes Unbounded (Excluded query) pairs
+
+  abbrev pub from : List (K × V) → List (K × V)
+  from pairs = pairs_between bytes (Included query) Unbounded pairs
+
   -- behind a key that is not below the query none is
-  none-below : (k : K) (pairs : List (K × V)) → is_le (bytes_cmp query (bytes k)) ≡ true → AllByRecursion (λ p. IsBefore (bytes k) (key_of bytes p)) pairs → side_at bytes query First pairs ≡ []
+  none-below : (k : K) (pairs : List (K × V)) → is_le (bytes_cmp query (bytes k)) ≡ true → AllByRecursion (λ p. IsBefore (bytes k) (key_of bytes p)) pairs → below pairs ≡ []
   none-below k [] at later = refl
   none-below k (p ∷ ps) at later =
       let on : is_le (bytes_cmp query (bytes p.0)) ≡ true = from_later (Included query) (bytes k) (bytes p.0) later.0 at in
       rw on (none-below k ps at later.1)
 
   -- the two parts are all
-  pub parts-are : (pairs : List (K × V)) → AscendsByKey (key_of bytes) pairs → side_at bytes query First pairs ++ side_at bytes query Last pairs ≡ pairs
+  pub parts-are : (pairs : List (K × V)) → AscendsByKey (key_of bytes) pairs → below pairs ++ from pairs ≡ pairs
   parts-are [] up = refl
   parts-are (p ∷ ps) up = here (is_le (bytes_cmp query (bytes p.0))) refl (parts-are ps up.1)
     where
-      here : (b : Bool) → is_le (bytes_cmp query (bytes p.0)) ≡ b → side_at bytes query First ps ++ side_at bytes query Last ps ≡ ps
-          → side_at bytes query First (p ∷ ps) ++ side_at bytes query Last (p ∷ ps) ≡ p ∷ ps
+      here : (b : Bool) → is_le (bytes_cmp query (bytes p.0)) ≡ b → below ps ++ from ps ≡ ps
+          → below (p ∷ ps) ++ from (p ∷ ps) ≡ p ∷ ps
       here false at rest = rw at (ap (λ xs. p ∷ xs) rest)
       here true at rest =
-          let none : side_at bytes query First ps ≡ [] = none-below p.0 ps at up.0 in
-          let all : side_at bytes query Last ps ≡ ps = ap (λ xs. xs ++ side_at bytes query Last ps) (sym none) ∙ rest in
+          let none : below ps ≡ [] = none-below p.0 ps at up.0 in
+          let all : from ps ≡ ps = ap (λ xs. xs ++ from ps) (sym none) ∙ rest in
           rw (at, none) (ap (λ xs. p ∷ xs) all)
 
-  -- each has at most as many pairs
-  pub part-fits : (end : End) (pairs : List (K × V)) → AscendsByKey (key_of bytes) pairs → (rest : ℕ) × (length (side_at bytes query end pairs) + rest ≡ length pairs)
-  part-fits First pairs up = (
-    length (side_at bytes query Last pairs),
-    sym (length-append (side_at bytes query First pairs) (side_at bytes query Last pairs)) ∙ ap length (parts-are pairs up),
-  )
-  part-fits Last pairs up =
-      let both = sym (length-append (side_at bytes query First pairs) (side_at bytes query Last pairs)) ∙ ap length (parts-are pairs up) in
-      (length (side_at bytes query First pairs), omega (arith, both))
+  -- so many are below, and so many are not
+  pub parts-long : (pairs : List (K × V)) → AscendsByKey (key_of bytes) pairs → length (below pairs) + length (from pairs) ≡ length pairs
+  parts-long pairs up = sym (length-append (below pairs) (from pairs)) ∙ ap length (parts-are pairs up)
 
-  -- where the last part was taken out, and where the first one was
-  pub last-taken : (pairs left taken : List (K × V)) → AscendsByKey (key_of bytes) pairs → joined Last left taken ≡ pairs → length left + length (side_at bytes query Last pairs) ≡ length pairs
-      → (left ≡ side_at bytes query First pairs) × (taken ≡ side_at bytes query Last pairs)
-  last-taken pairs left taken up e long =
-      let both = sym (length-append (side_at bytes query First pairs) (side_at bytes query Last pairs)) ∙ ap length (parts-are pairs up) in
-      parted left taken _ _ (e ∙ sym (parts-are pairs up)) (omega (arith, both, long))
+  -- where the last part was moved to where none was
+  pub last-moved : (pairs left taken old to : List (K × V)) (count : ℕ) → AscendsByKey (key_of bytes) pairs → count ≡ length (from pairs) → old ≡ pairs → to ≡ [] → left ++ taken ≡ old ++ to → length left + count ≡ length old
+      → (left ≡ below pairs) × (taken ≡ from pairs)
+  last-moved pairs left taken old to count up counted old_is to_is e moved =
+      let long : length old ≡ length pairs = ap length old_is in
+      parted left taken _ _ (e ∙ ap (λ xs. old ++ xs) to_is ∙ append-nil old ∙ old_is ∙ sym (parts-are pairs up)) (omega (arith, parts-long pairs up, counted, long, moved))
 
-  pub first-taken : (pairs left taken : List (K × V)) → AscendsByKey (key_of bytes) pairs → joined First left taken ≡ pairs → length left + length (side_at bytes query First pairs) ≡ length pairs
-      → (taken ≡ side_at bytes query First pairs) × (left ≡ side_at bytes query Last pairs)
-  first-taken pairs left taken up e long =
-      let both = sym (length-append taken left) ∙ ap length e in
-      parted taken left _ _ (e ∙ sym (parts-are pairs up)) (omega (arith, both, long))
-
-module _ {K V : Type 0} (bytes : K → List ℕ) (query : List ℕ) (pairs left taken from to : List (K × V)) (end : End) (count : ℕ)
-    (up : AscendsByKey (key_of bytes) pairs) (counted : count ≡ length (side_at bytes query end pairs)) (from_is : from ≡ pairs) (to_is : to ≡ []) (moved : length left + count ≡ length from) where
-  -- the part at an end of the pairs was moved to where none was
-  pub first-off : end ≡ First → joined First left taken ≡ joined First from to → (taken ≡ side_at bytes query First pairs) × (left ≡ side_at bytes query Last pairs)
-  first-off at e =
-      let same : count ≡ length (side_at bytes query First pairs) = counted ∙ ap (λ x. length (side_at bytes query x pairs)) at in
-      let long : length from ≡ length pairs = ap length from_is in
-      first-taken bytes query pairs left taken up (e ∙ ap (λ xs. xs ++ from) to_is ∙ from_is) (omega (arith, same, long, moved))
-
-  pub last-off : end ≡ Last → joined Last left taken ≡ joined Last from to → (left ≡ side_at bytes query First pairs) × (taken ≡ side_at bytes query Last pairs)
-  last-off at e =
-      let same : count ≡ length (side_at bytes query Last pairs) = counted ∙ ap (λ x. length (side_at bytes query x pairs)) at in
-      let long : length from ≡ length pairs = ap length from_is in
-      last-taken bytes query pairs left taken up (e ∙ ap (λ xs. from ++ xs) to_is ∙ append-nil from ∙ from_is) (omega (arith, same, long, moved))
+  -- where all are in the last part, none is below
+  pub all-from : (pairs : List (K × V)) → AscendsByKey (key_of bytes) pairs → length (from pairs) ≡ length pairs → (below pairs ≡ []) × (from pairs ≡ pairs)
+  all-from pairs up long =
+      let both = parts-long pairs up in
+      let none : length (below pairs) ≡ 0 = omega (arith, both, long) in
+      let parts = parted [] pairs (below pairs) (from pairs) (sym (parts-are pairs up)) (sym none) in
+      (sym parts.0, sym parts.1)
 
 -- where an item came, one less is left
 pub some-left : {X A : Type 0} (shows : A → X) (s t : List X) (r : Option A) → TakesFirst shows s r t → is_some r ≡ true → length s ≡ suc (length t)
 some-left shows s t None steps came = absurd (cc)
 some-left shows s t (Some x) steps came = ap length steps
 
-module _ {K V : Type 0} (bytes : K → List ℕ) where
-  -- the pair at an end of one list can be put in at the other end of a list that goes on there
-  pub free-joined : (end : End) (p : K × V) (rest left taken : List (K × V)) → IsAtEnd end p rest left → AscendsByKey (key_of bytes) (joined end left taken) → IsBlocked (key_of bytes) (bytes p.0) taken → ⊥
-  free-joined First p rest left taken at up =
-      let all = subst (λ xs. AscendsByKey (key_of bytes) (taken ++ xs)) at up in
-      free-last bytes taken p (ascends-left bytes (taken ++ p ∷ []) rest (subst (AscendsByKey (key_of bytes)) (sym (append_assoc taken (p ∷ []) rest)) all))
-  free-joined Last p rest left taken at up =
-      let all = subst (λ xs. AscendsByKey (key_of bytes) (xs ++ taken)) at up in
-      free-first bytes p taken (ascends-right bytes rest (p ∷ taken) (subst (AscendsByKey (key_of bytes)) (append_assoc rest (p ∷ []) taken) all))
+module _ {K V : Type 0} (bytes : K → List ℕ) (p : K × V) (rest left taken : List (K × V)) (at : left ≡ rest ++ p ∷ []) (up : AscendsByKey (key_of bytes) (left ++ taken)) where
+  behind : AscendsByKey (key_of bytes) (p ∷ taken)
+  behind = ascends-right bytes rest (p ∷ taken) (subst (AscendsByKey (key_of bytes)) (append_assoc rest (p ∷ []) taken) (subst (λ xs. AscendsByKey (key_of bytes) (xs ++ taken)) at up))
 
-  pub put-joined : (end : End) (p : K × V) (rest left taken : List (K × V)) → IsAtEnd end p rest left → AscendsByKey (key_of bytes) (joined end left taken) → joined end rest (with_pair_put bytes p.0 p.1 taken) ≡ joined end left taken
-  put-joined First p rest left taken at up =
-      let all = subst (λ xs. AscendsByKey (key_of bytes) (taken ++ xs)) at up in
-      let put = put-last bytes taken p (ascends-left bytes (taken ++ p ∷ []) rest (subst (AscendsByKey (key_of bytes)) (sym (append_assoc taken (p ∷ []) rest)) all)) in
-      ap (λ xs. xs ++ rest) put ∙ append_assoc taken (p ∷ []) rest ∙ ap (λ xs. taken ++ xs) (sym at)
-  put-joined Last p rest left taken at up =
-      let all = subst (λ xs. AscendsByKey (key_of bytes) (xs ++ taken)) at up in
-      let put = put-first bytes p taken (ascends-right bytes rest (p ∷ taken) (subst (AscendsByKey (key_of bytes)) (append_assoc rest (p ∷ []) taken) all)) in
-      ap (λ xs. rest ++ xs) put ∙ sym (append_assoc rest (p ∷ []) taken) ∙ ap (λ xs. xs ++ taken) (sym at)
+  -- the last pair of one list can be put in before those of a list that goes on there
+  pub free-joined : IsBlocked (key_of bytes) (bytes p.0) taken → ⊥
+  free-joined = free-first bytes p taken behind
+
+  pub put-joined : rest ++ with_pair_put bytes p.0 p.1 taken ≡ left ++ taken
+  put-joined = ap (λ xs. rest ++ xs) (put-first bytes p taken behind) ∙ sym (append_assoc rest (p ∷ []) taken) ∙ ap (λ xs. xs ++ taken) (sym at)
 
 -- a pair is not refused for which there is room, and which no other blocks
 pub no-refusal : {K V : Type 0} (k : K) (v : V) (Blocked Room : Type 0) (e : PairRefused K V) → IsPairRefused k v Blocked e → (Room → IsForConflict e) → Room → (Blocked → ⊥) → ⊥

@@ -9,6 +9,7 @@ pub mod LookedUp
 pub mod Maps
 pub mod Places
 pub mod MapLeaves
+pub mod LeafNames
 pub mod WrittenRuns
 pub mod Overlapped
 pub mod Overwritten
@@ -22,3 +23,6 @@ pub mod Puts
 pub mod VecPairs
 pub mod Joins
 pub mod PrefixBlocks
+pub mod LonePairs
+pub mod FoundBehind
+pub mod EndedKeys

@@ -1,11 +1,12 @@
 -- A pair that took the place of those whose keys overlap its key, once its value is written.
-use Rattle.std.proofs.Common.{◌≡◌, ℕ, Bool, true, false, cond, not, List, [], ◌∷◌, Some, refl, ap, ◌∙◌}
+use Rattle.std.proofs.Common.{◌≡◌, ℕ, Bool, true, false, cond, not, List, [], ◌∷◌, Some, refl, sym, ap, subst, ◌∙◌}
 use Rattle.art_arena.specs.arena.Shapes.{key_of}
 use Rattle.art_arena.specs.tree.Changes.{put_in_order}
 use Rattle.art_arena.proofs.shapes.Finding.{other_key}
 use Rattle.art_operations.specs.KeyedLists.{overlaps, without_key, without_overlapping}
 use Rattle.art_operations.specs.Pairs.{with_pair_over, with_pair_put}
 use Rattle.art_operations.proofs.Overlaps.{overlaps_same}
+use Rattle.art_map.specs.LeafNames.{KeepsLeaves}
 use Rattle.art_map.specs.Contents.{Contents}
 use Rattle.art_bytes.specs.declared.as_bytes.AsBytes as as_bytes
 use Rattle.art_map.specs.Entries.{Occupied, entry_key, entry_value}
@@ -41,12 +42,13 @@ module _ {K V : Type 0} (bytes : K → List ℕ) where
 
 module _ {K V : Type 0} {P : ℕ} {M : Type 0} {g : as_bytes.Ghosts K} where
   -- an entry whose pair took the place of those that its key overlaps is written
-  pub over-as : (e : InnerOccupiedEntry K V P M) (m : Contents K V) (v : V) → m.pairs ≡ with_pair_over g.bytes e.key v e.map.now.pairs → (d : OccupiedEntry K V P M g) → (d.map.ghost_name ≡ e.map.ghost_name) × (d.map.now ≡ m)
+  pub over-as : (e : InnerOccupiedEntry K V P M) (m : Contents K V) (v : V) → m.pairs ≡ with_pair_over g.bytes e.key v e.map.now.pairs → KeepsLeaves g.bytes e.map.now m → (d : OccupiedEntry K V P M g) → (d.map.ghost_name ≡ e.map.ghost_name) × (d.map.now ≡ m)
       → (entry_key (Occupied d) ≡ e.key) × (entry_value (Occupied d) ≡ Some v) → IsInnerWritten e v d
-  over-as e m v put d same shows = record {
+  over-as e m v put names d same shows = record {
     same_map = same.0;
     pairs = ap (λ n. n.pairs) same.1 ∙ put;
     key = shows.0;
     value = shows.1;
     writes = λ u. rw (shows.0, same.1, put) (over-again g.bytes e.key v u e.map.now.pairs);
+    names = subst (KeepsLeaves g.bytes e.map.now) (sym same.1) names;
   }

@@ -1,5 +1,5 @@
 -- The part of a map's tree whose keys begin with a prefix: it is found, room is made for its loss, and it is cut.
-use Rattle.std.proofs.Common.{◌≡◌, ℕ, Bool, true, false, cond, not, List, [], ◌∷◌, length, map, Option, Some, None, Result, Ok, Err, IfOk, OnOk, refl, sym, ap, subst, ◌∙◌, inl, inr}
+use Rattle.std.proofs.Common.{◌≡◌, ℕ, ◌+◌, ◌-◌, ◌^◌, ◌<◌, min, Bool, true, false, cond, not, List, [], ◌∷◌, length, map, Option, Some, None, Result, Ok, Err, IfOk, OnOk, refl, sym, ap, subst, ◌∙◌, inl, inr, arith}
 use Rattle.std.proofs.lemmas.Bool.{cases_Bool}
 use mathlib.Core.HLevel.{⊥_prop}
 use mathlib.Core.Logic.{∥∥₁_elim}
@@ -12,7 +12,9 @@ use Rattle.art_arena.specs.arena.Steps.{steps_of}
 use Rattle.art_arena.specs.arena.Stores.{Stores, StoresBeside}
 use Rattle.art_arena.specs.tree.Tenants.{begins_with, with_front, without_front}
 use Rattle.art_arena.proofs.shapes.Meanings.{nodes-subtree}
+use Rattle.art_arena.proofs.shapes.Subtrees.{some_leaf}
 use Rattle.art_arena.proofs.shapes.Updates.{nodes-same}
+use Rattle.art_operations.specs.NodeCounts.{node_count}
 use Rattle.art_operations.specs.Openings.{ForLongest, OpeningReads}
 use Rattle.art_operations.specs.Pairs.{HasCutBeside, HasPairs, HasPlaceBeside}
 use Rattle.art_operations.specs.Subtrees.{HasRoomAbove, IsCutBeside, IsSubtreeAnswer, IsSubtreePoint, leaves_with, ShrinksWithout}
@@ -26,7 +28,7 @@ use Rattle.art_operations.proofs.LeafPairs.{leaf_pair, without-shrinks}
 use Rattle.art_walks.specs.MapReads.{PairsWithin}
 use Rattle.art_walks.proofs.MapReads.{keys-within}
 use Rattle.art_map.specs.Contents.{Contents, contents, pairs_from, IsMap}
-use Rattle.art_map.specs.PrefixBlocks.{IsFoundPart, IsPrefixPart, IsReadyPart, ShrinksAtCut}
+use Rattle.art_map.specs.PrefixBlocks.{cut_visits, IsFoundPart, IsPrefixPart, IsReadyPart, ShrinksAtCut}
 use Rattle.art_map.proofs.Below.{has-seen}
 use Rattle.art_map.proofs.Maps.{keys-filter, make}
 
@@ -55,9 +57,15 @@ module _ {X : Type 0} (key : X → List ℕ) (front : List ℕ) where
   none-there (x ∷ xs) known = absurd (∥∥₁_elim known ⊥_prop (λ e. cc))
 
 -- where there is no part, no pair begins with the prefix
-pub none-ready : {K V : Type 0} (bytes : K → List ℕ) (P : ℕ) (m : Contents K V) (front : List ℕ) (part : Option SubtreeDeletePoint) → part ≡ None → ∥ IsReadyPart bytes P m front part ∥₁ → with_front (key_of bytes) front m.pairs ≡ []
+pub none-ready : {K V : Type 0} (bytes : K → List ℕ) (P : ℕ) (m : Contents K V) (front : List ℕ) (part : Option PreparedSubtreeDelete) → part ≡ None → ∥ IsReadyPart bytes P m front part ∥₁ → with_front (key_of bytes) front m.pairs ≡ []
 none-ready bytes P m front None is known = none-there (key_of bytes) front (with_front (key_of bytes) front m.pairs) known
-none-ready bytes P m front (Some point) is known = absurd (cc)
+none-ready bytes P m front (Some ready) is known = absurd (cc)
+
+-- and what was read is all that is counted
+pub none-visits : {K V : Type 0} (bytes : K → List ℕ) (front : List ℕ) (pairs : List (K × V)) → with_front (key_of bytes) front pairs ≡ [] → (reads : ℕ) → reads < 2 ^ 64 → reads ≡ cut_visits bytes front pairs reads
+none-visits bytes front pairs none reads fits =
+    let nodes : node_count (key_of bytes) (with_front (key_of bytes) front pairs) ≡ 0 = ap (node_count (key_of bytes)) none in
+    omega (arith, nodes, fits)
 
 module _ {K V : Type 0} (bytes : K → List ℕ) (front : List ℕ) where
   -- of a part, which has a leaf, a pair begins with the prefix
@@ -77,7 +85,7 @@ module _ {K V : Type 0} (bytes : K → List ℕ) (P : ℕ) where
 
   -- and there is room for its loss
   pub ready-same : {E : Type 0} (old new : Arena K V) → SameNodes old new → (root : Option Name) (point : SubtreeDeletePoint) (r : Result PreparedSubtreeDelete E) → IfOk r (λ ready. ready.point ≡ point) → OnOk r (HasRoomAbove new (steps_of point.path))
-      → IfOk r (λ ready. (front : List ℕ) → IsFoundPart bytes P (contents old root) front (Some point) → IsReadyPart bytes P (contents new root) front (Some ready.point))
+      → IfOk r (λ ready. (front : List ℕ) → IsFoundPart bytes P (contents old root) front (Some point) → IsReadyPart bytes P (contents new root) front (Some ready))
   ready-same old new same root point (Err e) is room = tt
   ready-same old new same root point (Ok ready) is room = λ front part. (
     subst (IsPrefixPart bytes P (contents new root) front root) (sym is) (part-same old new same root front point part),
@@ -90,6 +98,13 @@ module _ {K V : Type 0} (bytes : K → List ℕ) (P : ℕ) (front : List ℕ) wh
     module _ (root : Option Name) (map : IsMap bytes is_key P arena root) (top : Name) (is : root ≡ Some top) where
       has_top : HasPairs bytes P arena (Some top) (pairs_from arena root)
       has_top = subst (λ r. HasPairs bytes P arena r (pairs_from arena root)) is map.has
+
+      -- where there is a root, there is a pair
+      pub has-pair : pairs_from arena root ≡ [] → ⊥
+      has-pair none =
+          let leaf = some_leaf bytes [] has_top.0 has_top.1.nodes.under in
+          let nothing : pairs_of (leaf.0 ∷ leaf.1) ≡ [] = ap pairs_of (sym leaf.2) ∙ has_top.2 ∙ none in
+          absurd (cc)
 
       pub found-part : (found : Option SubtreeDeletePoint) → OfTree bytes P arena top (λ s. IsSubtreeAnswer bytes front s found) → IsFoundPart bytes P (contents arena root) front found
       found-part None answer =
@@ -138,10 +153,13 @@ module _ {K V : Type 0} (bytes : K → List ℕ) (P : ℕ) (front : List ℕ) wh
         cut = cut-pairs bytes P new [] at.shape (pairs_from arena root) at.pairs_are front result (gone front at.shape [] at.is_tree at.place)
 
         pub cut-map : IsMap bytes is_key P new result.new_root
-        cut-map = make bytes is_key P new result.new_root (without_front (key_of bytes) front (pairs_from arena root)) cut.1 (keys-filter is_key (λ q. not (begins_with front (key_of bytes q))) (pairs_from arena root) map.keys)
+        cut-map = make bytes is_key P new result.new_root (without_front (key_of bytes) front (pairs_from arena root)) cut.left (keys-filter is_key (λ q. not (begins_with front (key_of bytes q))) (pairs_from arena root) map.keys)
 
         pub cut-left : pairs_from new result.new_root ≡ without_front (key_of bytes) front (pairs_from arena root)
-        cut-left = has-seen bytes P new result.new_root _ cut.1
+        cut-left = has-seen bytes P new result.new_root _ cut.left
 
         pub cut-count : result.leafs_removed ≡ length (with_front (key_of bytes) front (pairs_from arena root))
-        cut-count = cut.0
+        cut-count = cut.removed
+
+        pub cut-visits : (reads visits : ℕ) → visits ≡ min (reads + result.nodes_freed) (2 ^ 64 - 1) → visits ≡ cut_visits bytes front (pairs_from arena root) reads
+        cut-visits reads visits is = let freed = cut.freed in omega (arith, is, freed)

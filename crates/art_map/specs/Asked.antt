@@ -15,6 +15,7 @@ use Rattle.art_operations.specs.KeyedLists.{without_key}
 use Rattle.art_operations.specs.Pairs.{IsAtEnd, with_pair_put}
 use Rattle.art_map.specs.Contents.{Contents}
 use Rattle.art_map.specs.Extractions.{left_of, map_of}
+use Rattle.art_map.specs.LeafNames.{AddsNoLeaf}
 use Rattle.art_map.specs.declared.map.extract_if.ExtractIf.{ExtractIf}
 
 -- a list as it is met from this end
@@ -94,9 +95,10 @@ module _ {K V F : Type 0} {P : ℕ} {g : as_bytes.Ghosts K} where
     abbrev pub CanExtractIf : ExtractIf K V F P g → Type 0
     CanExtractIf e = CallableFromEnds (CalledAtPair f) (TakesPair f) (asking e).asks (asking e).left
 
-    -- one call of an extraction from this end
+    -- one call of an extraction from this end, after which no leaf is new
     abbrev pub ExtractsIf : {E : Type 0} → End → ExtractIf K V F P g → Option (Result (K × V) E) → ExtractIf K V F P g
         → Type 0
     ExtractsIf end s r t =
         ((extract_map t).ghost_name ≡ (extract_map s).ghost_name)
         × Extracts (CalledAtPair f) g.bytes end (asking s) r (asking t)
+        × AddsNoLeaf g.bytes (extract_map s).now (extract_map t).now

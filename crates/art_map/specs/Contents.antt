@@ -77,6 +77,10 @@ module _ {K V : Type 0} where
   abbrev pub IsUntouched : Contents K V → Contents K V → Type 0
   IsUntouched old new = SameNodes old.nodes new.nodes × (new.root ≡ old.root)
 
+  -- it has the same pairs too
+  abbrev pub IsKept : Contents K V → Contents K V → Type 0
+  IsKept old new = (new.pairs ≡ old.pairs) × IsUntouched old new
+
 module _ {K V : Type 0} (bytes : K → List ℕ) (is_key : K → Type 0) (P : ℕ) where
   -- the arena has the tree of these pairs and nothing else, and each key is one
   pub record IsMap (arena : Arena K V) (root : Option Name) : Type 0 where

@@ -12,8 +12,9 @@ use Rattle.art_bytes.specs.declared.as_bytes.AsBytes as as_bytes
 use Rattle.art_arena.specs.arena.Shapes.{key_of}
 use Rattle.art_operations.specs.KeyedLists.{without_key}
 use Rattle.art_operations.specs.Pairs.{with_pair_put}
-use Rattle.art_map.specs.Contents.{Contents, has_bytes}
+use Rattle.art_map.specs.Contents.{Contents, has_bytes, IsKept}
 use Rattle.art_map.specs.Found.{pair_under, still_held}
+use Rattle.art_map.specs.LeafNames.{KeepsAllLeaves}
 use Rattle.art_map.specs.Lends.{with_value_at}
 use Rattle.art_map.specs.declared.map.entry.Entry.{Entry}
 use Rattle.art_map.specs.declared.map.entry.OccupiedEntry.{OccupiedEntry}
@@ -72,6 +73,7 @@ module _ {K V : Type 0} {P : ℕ} {M : Type 0} {g : as_bytes.Ghosts K} where
     pub key : entry_key d ≡ entry_key e
     pub value : entry_value d ≡ Some w
     pub writes : (u : V) → entry_pairs d u ≡ entry_pairs e u
+    pub names : KeepsAllLeaves g.bytes (entry_map e).now (entry_map d).now
 
   -- d is the entry e
   pub record IsSame (e d : Entry K V P M g) : Type 0 where
@@ -106,21 +108,21 @@ module _ (K V : RattleType) (P : ℕ) (key : as_bytes.Ghosts K.Denot) where
       follows row V o.ghost_name r.ghost_name (with_entry_value o.now)
 
   -- once the borrow r ends, the map has the last value written through r under the entry's key; where there is no
-  -- borrow, its pairs are as they were
+  -- borrow, its pairs and nodes are as they were
   abbrev pub lends_entry : {E : Type 0} → Entry K.Denot V.Denot P map_row.Denot key → Result (MutBor V.Denot) E → Fml
   lends_entry e r =
-      LendsSoOk map_row V (entry_map e) r (λ n w. n.pairs ≡ entry_pairs e w) (λ n. n.pairs ≡ (entry_map e).now.pairs)
+      LendsSoOk map_row V (entry_map e) r (λ n w. n.pairs ≡ entry_pairs e w) (IsKept (entry_map e).now)
 
-  -- where r has no entry, the pairs of the map are as they were
+  -- where r has no entry, the pairs and the nodes of the map are as they were
   abbrev pub rests_if_refused : {E : Type 0} → Entry K.Denot V.Denot P map_row.Denot key
       → Result (OccupiedEntry K.Denot V.Denot P map_row.Denot key) E → Fml
   rests_if_refused e r =
-      RestsIfErr map_row (entry_map e) (λ o. o.map.ghost_name) r (λ n. n.pairs ≡ (entry_map e).now.pairs)
+      RestsIfErr map_row (entry_map e) (λ o. o.map.ghost_name) r (IsKept (entry_map e).now)
 
   -- the same of the map whose entry is asked for
   abbrev pub rests_if_blocked : {E : Type 0} → MutBor (Contents K.Denot V.Denot)
       → Result (Entry K.Denot V.Denot P map_row.Denot key) E → Fml
-  rests_if_blocked m r = RestsIfErr map_row m (λ e. (entry_map e).ghost_name) r (λ n. n.pairs ≡ m.now.pairs)
+  rests_if_blocked m r = RestsIfErr map_row m (λ e. (entry_map e).ghost_name) r (IsKept m.now)
 
   -- where r has no entry, the map is as it was
   abbrev pub rests_if_none : MutBor (Contents K.Denot V.Denot)

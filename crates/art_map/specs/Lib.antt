@@ -6,10 +6,14 @@ pub mod Found
 pub mod Overlapped
 pub mod PrefixEntries
 pub mod PrefixBlocks
+pub mod LoneLeaves
+pub mod LonePairs
 pub mod PrefixRemovals
+pub mod Laws
 pub mod Walked
 pub mod Ranges
 pub mod Leaves
+pub mod LeafNames
 pub mod Entries
 pub mod Extractions
 pub mod Asked
@@ -17,5 +21,4 @@ pub mod LentRuns
 pub mod LentWalks
 pub mod LentIters
 pub mod Bulk
-pub mod Joins
 pub mod inner

@@ -1,17 +1,21 @@
 -- The part of a map's tree whose keys begin with a prefix, for whose loss there is room.
-use Rattle.std.specs.Prelude.{◌≡◌, ℕ, List, [], Option, Some, None}
+use Rattle.std.specs.Prelude.{◌≡◌, ◌≢◌, ℕ, ◌+◌, ◌-◌, ◌^◌, ◌≤◌, min, List, [], length, Option, Some, None}
 use Rattle.art_nodes.specs.Name.{Name}
 use Rattle.art_arena.specs.arena.Shapes.{key_of}
 use Rattle.art_arena.specs.arena.Steps.{steps_of}
 use Rattle.art_arena.specs.tree.Tenants.{with_front}
+use Rattle.art_operations.specs.NodeCounts.{node_count}
+use Rattle.art_operations.specs.Openings.{OpeningReads}
 use Rattle.art_operations.specs.Pairs.{IsSubtreeFor}
 use Rattle.art_operations.specs.Subtrees.{HasRoomAbove, ShrinksWithout}
+use Rattle.art_operations.specs.declared.delete.subtree.PreparedSubtreeDelete.{PreparedSubtreeDelete}
 use Rattle.art_operations.specs.declared.delete.subtree.SubtreeDeletePoint.{SubtreeDeletePoint}
+use Rattle.art_walks.specs.MapReads.{PairsWithin}
 use Rattle.art_map.specs.Contents.{Contents}
 
--- the part, if there is one, and how many nodes were read to find it
+-- the part, for whose loss there is room, if there is one, and how many nodes were read to find it
 pub record Block : Type 0 where
-  pub part : Option SubtreeDeletePoint
+  pub part : Option PreparedSubtreeDelete
   pub reads : ℕ
 
 module _ {K V : Type 0} (bytes : K → List ℕ) where
@@ -20,6 +24,20 @@ module _ {K V : Type 0} (bytes : K → List ℕ) where
   abbrev pub ShrinksAtCut : List ℕ → List (K × V) → Type 0
   ShrinksAtCut front pairs =
       (with_front (key_of bytes) front pairs ≡ [] → ⊥) × ShrinksWithout (key_of bytes) pairs front
+
+  -- So many nodes are counted where the pairs behind a prefix go: those that were read to find them, and those of their
+  -- part, which are freed. The greatest count stays.
+  abbrev pub cut_visits : List ℕ → List (K × V) → ℕ → ℕ
+  cut_visits front pairs reads =
+      min (reads + node_count (key_of bytes) (with_front (key_of bytes) front pairs)) (2 ^ 64 - 1)
+
+  -- what is read to find them, and counted with what is freed
+  pub record AreCutVisits (front : List ℕ) (pairs : List (K × V)) (visits : ℕ) : Type 0 where
+    pub reads : ℕ
+    pub least : pairs ≢ [] → 1 ≤ reads
+    pub none : pairs ≡ [] → reads ≡ 0
+    pub few : (longest : ℕ) → PairsWithin bytes longest pairs → OpeningReads longest (length front) 0 reads
+    pub sum : visits ≡ cut_visits front pairs reads
 
   module _ (P : ℕ) (m : Contents K V) (front : List ℕ) where
     -- the point is that part of the tree below the root, if there is a root
@@ -33,6 +51,6 @@ module _ {K V : Type 0} (bytes : K → List ℕ) where
     IsFoundPart (Some point) = IsPrefixPart m.root point
 
     -- and there is room for its loss
-    abbrev pub IsReadyPart : Option SubtreeDeletePoint → Type 0
+    abbrev pub IsReadyPart : Option PreparedSubtreeDelete → Type 0
     IsReadyPart None = with_front (key_of bytes) front m.pairs ≡ []
-    IsReadyPart (Some point) = IsPrefixPart m.root point × HasRoomAbove m.nodes (steps_of point.path)
+    IsReadyPart (Some ready) = IsPrefixPart m.root ready.point × HasRoomAbove m.nodes (steps_of ready.point.path)

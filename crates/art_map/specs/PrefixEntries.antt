@@ -11,7 +11,8 @@ use Rattle.art_arena.specs.arena.Shapes.{key_of}
 use Rattle.art_bytes.specs.declared.as_bytes.AsBytes as as_bytes
 use Rattle.art_operations.specs.KeyedLists.{IsBlocked, overlapping}
 use Rattle.art_operations.specs.Pairs.{with_pair_over}
-use Rattle.art_map.specs.Contents.{Contents}
+use Rattle.art_map.specs.Contents.{Contents, IsKept}
+use Rattle.art_map.specs.LeafNames.{KeepsLeaves}
 use Rattle.art_map.specs.Entries as entry
 use Rattle.art_map.specs.Overlapped.{lone_item, overlaps_query}
 use Rattle.art_map.specs.declared.map.entry.OccupiedEntry.{OccupiedEntry}
@@ -109,6 +110,7 @@ module _ {K V : Type 0} {P : ℕ} {M : Type 0} {g : as_bytes.Ghosts K} where
     pub key : entry.entry_key (entry.Occupied d) ≡ e.key
     pub value : entry.entry_value (entry.Occupied d) ≡ Some w
     pub writes : (u : V) → entry.entry_pairs (entry.Occupied d) u ≡ with_pair_over g.bytes e.key u e.map.now.pairs
+    pub names : KeepsLeaves g.bytes e.map.now d.map.now
 
   -- d is the entry, once w is the value of its key
   abbrev pub IsOccupiedWritten : PrefixOccupiedKind K V P M g → V → OccupiedEntry K V P M g → Type 0
@@ -172,27 +174,27 @@ module _ (K V : RattleType) (P : ℕ) (key : as_bytes.Ghosts K.Denot) where
   lends_from_inner T = Lends (inner.the_row (record { mir = named 1; lft = [] }) K V (number P) map_row key) T
 
   -- once the borrow r ends, the map has the last value written through r under the entry's key; where there is none,
-  -- its pairs are as they were
+  -- its pairs and nodes are as they were
   abbrev pub lends_prefix : {E : Type 0} → PrefixEntry K.Denot V.Denot P map_row.Denot key
       → Result (MutBor V.Denot) E → Fml
   lends_prefix e r =
       LendsSoOk map_row V (prefix_map e) r (λ n w. n.pairs ≡ prefix_pairs_with e w)
-      (λ n. n.pairs ≡ (prefix_map e).now.pairs)
+      (IsKept (prefix_map e).now)
 
-  -- where r has no entry, the pairs of the map are as they were
+  -- where r has no entry, the pairs and the nodes of the map are as they were
   abbrev pub prefix_rests : {E : Type 0} → PrefixEntry K.Denot V.Denot P map_row.Denot key
       → Result (OccupiedEntry K.Denot V.Denot P map_row.Denot key) E → Fml
   prefix_rests e r =
-      RestsIfErr map_row (prefix_map e) (λ d. d.map.ghost_name) r (λ n. n.pairs ≡ (prefix_map e).now.pairs)
+      RestsIfErr map_row (prefix_map e) (λ d. d.map.ghost_name) r (IsKept (prefix_map e).now)
 
   -- the same of an entry that an insertion of its key would remove pairs
   abbrev pub lends_inner : {E : Type 0} → InnerOccupiedEntry K.Denot V.Denot P map_row.Denot
       → Result (MutBor V.Denot) E → Fml
   lends_inner e r =
       LendsSoOk map_row V e.map r (λ n w. n.pairs ≡ with_pair_over key.bytes e.key w e.map.now.pairs)
-      (λ n. n.pairs ≡ e.map.now.pairs)
+      (IsKept e.map.now)
 
   abbrev pub inner_rests : {E : Type 0} → InnerOccupiedEntry K.Denot V.Denot P map_row.Denot
       → Result (OccupiedEntry K.Denot V.Denot P map_row.Denot key) E → Fml
   inner_rests e r =
-      RestsIfErr map_row e.map (λ d. d.map.ghost_name) r (λ n. n.pairs ≡ e.map.now.pairs)
+      RestsIfErr map_row e.map (λ d. d.map.ghost_name) r (IsKept e.map.now)

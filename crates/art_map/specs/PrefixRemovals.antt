@@ -3,7 +3,7 @@ use Rattle.std.specs.Prelude.{◌≡◌, ℕ, List, Result}
 use Rattle.std.specs.Borrow.{Fml, RattleType, MutBor, RestsIfErr}
 use denote.Param.{number}
 use Rattle.art_bytes.specs.declared.as_bytes.AsBytes as as_bytes
-use Rattle.art_map.specs.Contents.{Contents, IsUntouched}
+use Rattle.art_map.specs.Contents.{Contents, IsKept}
 use Rattle.art_map.specs.declared.map.prefix_removal.PrefixRemoval.{PrefixRemoval}
 use Rattle.art_map.specs.contracts.map.TreeMap as map
 
@@ -29,4 +29,4 @@ module _ (K V : RattleType) (P : ℕ) (key : as_bytes.Ghosts K.Denot) where
   abbrev pub rests_if_unprepared : {E : Type 0} → MutBor (Contents K.Denot V.Denot)
       → Result (PrefixRemoval K.Denot V.Denot P map_row.Denot key) E → Fml
   rests_if_unprepared m r =
-      RestsIfErr map_row m (λ e. (removal_map e).ghost_name) r (λ n. (n.pairs ≡ m.now.pairs) × IsUntouched m.now n)
+      RestsIfErr map_row m (λ e. (removal_map e).ghost_name) r (IsKept m.now)

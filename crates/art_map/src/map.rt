@@ -1,4 +1,4 @@
-//! `TreeMap`.
+//! The map itself: what it keeps, how it is made, and its length.
 ghost use Rattle.std.specs.Prelude.{◌≡◌, ◌==◌, [], length};
 ghost use Rattle.art_arena.specs.arena.Arena.{KeepsRoom};
 ghost use Rattle.art_arena.specs.arena.Shapes.{key_of};
@@ -10,15 +10,18 @@ mod bulk;
 mod changes;
 mod clones;
 mod compared;
+mod end_entries;
 pub mod entry;
 pub mod extract_if;
 pub mod extraction;
 mod into_walks;
 pub mod iter_mut;
 mod joins;
+mod leaf_names;
 mod lookups;
 pub mod prefix_entry;
 pub mod prefix_removal;
+mod range_bounds;
 mod ranges;
 mod readers;
 pub mod refused;
@@ -34,7 +37,17 @@ use std::alloc::Global;
 use std::default::MadeWith;
 use std::marker::Model;
 
-/// A map whose keys are seen as bytes, and ascend by them. No key is a front of another.
+/// An ordered map. It sees its keys as bytes and keeps them in the order of these. No key is a prefix of another.
+///
+/// `PREFIX_LEN` is how many bytes of a prefix an inner node stores. It changes what a call costs, never what it
+/// returns.
+///
+/// ```
+/// let mut map = TreeMap::new(rt.alloc());
+/// map.try_insert(StrKey("apple"), 3)?;
+/// assert_eq!(rt; map.get(&StrKey("apple")), Some(&3));
+/// assert_eq!(rt; map.remove(&StrKey("apple"))?, Some(3));
+/// ```
 #[derive(Drop)]
 pub struct TreeMap<K: AsBytes, V, const PREFIX_LEN: usize> {
     alloc: Global,
@@ -52,11 +65,17 @@ impl<K: AsBytes, V, const PREFIX_LEN: usize> Model for TreeMap<K, V, PREFIX_LEN>
     ghost invariant = { λ m. IsMap K.bytes K.is_key PREFIX_LEN m.arena m.root };
 }
 
-/// How many bytes of a prefix the nodes of a map store that `new` makes.
+/// How many bytes of a prefix an inner node stores in a map that `new` makes.
 pub const DEFAULT_PREFIX_LEN: usize = 16;
 
 impl<K: AsBytes, V> TreeMap<K, V, DEFAULT_PREFIX_LEN> {
-    /// An empty map, whose nodes store 16 bytes of a prefix. It takes no memory.
+    /// Makes an empty map, whose inner nodes store 16 bytes of a prefix. It allocates nothing.
+    ///
+    /// ```
+    /// let mut map = TreeMap::new(rt.alloc());
+    /// assert!(rt; map.is_empty());
+    /// map.insert(*b"ab", 1)?;
+    /// ```
     pub fn new(alloc: Global) -> Self
         ensures { result.pairs ≡ [] }
     {
@@ -65,7 +84,13 @@ impl<K: AsBytes, V> TreeMap<K, V, DEFAULT_PREFIX_LEN> {
 }
 
 impl<K: AsBytes, V, const PREFIX_LEN: usize> TreeMap<K, V, PREFIX_LEN> {
-    /// An empty map, whose nodes store `PREFIX_LEN` bytes of a prefix. It takes no memory.
+    /// Makes an empty map, whose inner nodes store `PREFIX_LEN` bytes of a prefix. It allocates nothing.
+    ///
+    /// ```
+    /// let mut map: TreeMap<[u8; 2], u32, 4> = TreeMap::with_prefix_len(rt.alloc());
+    /// map.insert(*b"ab", 1)?;
+    /// assert_eq!(rt; map.len(), 1);
+    /// ```
     pub fn with_prefix_len(alloc: Global) -> Self
         ensures { result.pairs ≡ [] }
     {
@@ -76,21 +101,42 @@ impl<K: AsBytes, V, const PREFIX_LEN: usize> TreeMap<K, V, PREFIX_LEN> {
         }
     }
 
-    /// How many pairs there are.
+    /// Returns the number of pairs.
+    ///
+    /// ```
+    /// let mut map = TreeMap::new(rt.alloc());
+    /// map.insert(*b"ab", 1)?;
+    /// map.insert(*b"ab", 2)?;
+    /// assert_eq!(rt; map.len(), 1);
+    /// ```
     pub fn len(&self) -> usize
         ensures { result ≡ length self.now.pairs }
     {
         self.arena.leaf_count()
     }
 
-    /// Whether there is no pair.
+    /// Returns whether the map has no pair.
+    ///
+    /// ```
+    /// let mut map = TreeMap::new(rt.alloc());
+    /// assert!(rt; map.is_empty());
+    /// map.insert(*b"ab", 1)?;
+    /// assert!(rt; !map.is_empty());
+    /// ```
     pub fn is_empty(&self) -> bool
         ensures { result ≡ (length self.now.pairs == 0) }
     {
         self.len() == 0
     }
 
-    /// Removes every pair. The room for nodes stays.
+    /// Removes every pair. The memory of the nodes stays with the map.
+    ///
+    /// ```
+    /// let mut map = TreeMap::new(rt.alloc());
+    /// map.insert(*b"ab", 1)?;
+    /// map.clear();
+    /// assert_eq!(rt; map.get(b"ab"), None);
+    /// ```
     pub fn clear(&mut self)
     where
         K: Drop,
@@ -102,7 +148,16 @@ impl<K: AsBytes, V, const PREFIX_LEN: usize> TreeMap<K, V, PREFIX_LEN> {
         self.arena.clear();
     }
 
-    /// The arena and the name of the root. They mean the tree of the map's pairs, and the arena holds nothing else.
+    /// Returns the arena and the name of the root. They store the tree of the map's pairs, and the arena holds nothing
+    /// else.
+    ///
+    /// ```
+    /// let mut map = TreeMap::new(rt.alloc());
+    /// map.extend([(*b"ab", 1), (*b"ac", 2)])?;
+    /// let (arena, root) = map.nodes();
+    /// assert_eq!(rt; arena.leaf_count(), 2);
+    /// assert!(rt; root.is_some());
+    /// ```
     pub fn nodes(&self) -> (&NodeArena<K, V, PREFIX_LEN>, Option<OpaqueNodePtr>)
         ensures tree { HoldsTreeOf K.bytes PREFIX_LEN result.0.now result.1 self.now.pairs }
         ensures same { (result.0.now ≡ self.now.nodes) × (result.1 ≡ self.now.root) }

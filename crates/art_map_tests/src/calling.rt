@@ -1,4 +1,4 @@
-//! The callers that `CALLING.md` of art_map shows, letter for letter; tests in `rows.rt` and `callers.rt` run them.
+//! Callers of art_map, of which its README.md shows one; tests in `rows.rt` and `callers.rt` run them.
 
 use art_bytes::{SliceKey, StrKey};
 use art_map::{Entry, PrefixEntry, PrefixOccupiedKind, TreeMap, TryInsertError, TryKeyError};

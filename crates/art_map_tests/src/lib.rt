@@ -1,4 +1,4 @@
-//! Tests of art_map: the callers of its CALLING.md, what is made of pairs that are copied, hashes and texts, and what a
+//! Tests of art_map: the callers of its README.md, what is made of pairs that are copied, hashes and texts, and what a
 //! map or a walk drops. All else is played by `play_map`.
 #![tactic(auto)]
 

@@ -107,7 +107,7 @@ impl<N> InnerNodeBuilder<N, HasChild> {
         }
     }
 
-    /// The node.
+    /// Returns the node.
     pub fn build(self) -> N
         ensures { result ≡ self.node }
     {

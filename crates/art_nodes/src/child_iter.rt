@@ -1,4 +1,4 @@
-//! The children of an inner node, from either end.
+//! An iterator over the children of an inner node, from either end.
 ghost use Rattle.std.specs.Prelude.{◌≡◌, ◌↔◌, IsTrue, ◌+◌, ◌-◌, ◌<◌, ◌≤◌, length, take, drop, Some, IfSome};
 ghost use Rattle.std.specs.List.{zip};
 ghost use Rattle.std.specs.Iterator.{YieldsFirst, YieldsLast, item_count, UpTo};
@@ -13,8 +13,8 @@ use crate::names::OpaqueNodePtr;
 use std::marker::Model;
 use std::ops::Bound;
 
-/// The children of an inner node by ascending byte, whichever way the node holds them. It gives them from
-/// either end in any mixture, and knows how many are left.
+/// An iterator over the children of an inner node by ascending byte, whichever way the node holds them. It gives them
+/// from either end in any mixture, and knows how many are left.
 #[derive(Drop)]
 pub struct ChildIter<'a> {
     arm: Arm<'a>,
@@ -113,8 +113,8 @@ pub(crate) fn place_of(keys: &[u8], bound: usize) -> usize
     at
 }
 
-/// Whether `range` may be asked for these bounds: it may not where both are named and the start is above the
-/// end, or they are equal and both excluded.
+/// Returns whether `range` may be called with these bounds. It may not if the start is greater than the end, or if they
+/// are equal and both excluded.
 pub fn are_valid_child_bounds(start: Bound<u8>, end: Bound<u8>) -> bool
     ensures { IsTrue result ↔ AreValidBounds start end }
 {

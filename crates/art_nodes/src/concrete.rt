@@ -42,7 +42,7 @@ pub enum ConcreteInnerNodePtr {
 impl ConcreteNodePtr {
     ghost use Rattle.art_nodes.specs.Concrete.{node_name_of};
 
-    /// The same name, its kind as a value.
+    /// Returns this name with its kind as a value.
     pub fn to_opaque(self) -> OpaqueNodePtr
         ensures { result ≡ node_name_of self }
     {
@@ -60,7 +60,7 @@ impl ConcreteNodePtr {
 impl ConcreteInnerNodePtr {
     ghost use Rattle.art_nodes.specs.Concrete.{inner_name_of};
 
-    /// The same name, its kind as a value.
+    /// Returns this name with its kind as a value.
     pub fn to_opaque(self) -> OpaqueNodePtr
         ensures { result ≡ inner_name_of self }
     {
@@ -77,7 +77,7 @@ impl ConcreteInnerNodePtr {
 impl OpaqueNodePtr {
     ghost use Rattle.art_nodes.specs.Concrete.{node_name_of, inner_name_of};
 
-    /// The same name, with a case for its kind.
+    /// Returns this name with a case for its kind.
     pub fn to_node_ptr(self) -> ConcreteNodePtr
         ensures { node_name_of result ≡ self }
     {
@@ -92,7 +92,7 @@ impl OpaqueNodePtr {
         }
     }
 
-    /// The same name, with a case for its kind, which must be that of an inner node.
+    /// Returns this name with a case for its kind, which must be that of an inner node.
     pub fn to_inner_ptr(self) -> ConcreteInnerNodePtr
         requires { self.kind ≢ NodeType.Leaf }
         ensures { inner_name_of result ≡ self }

@@ -24,8 +24,8 @@ pub type InnerNode48<K, V, const PREFIX_LEN: usize> = InnerNodeIndirect<K, V, PR
 /// The inner node with room for every byte.
 pub type InnerNode256<K, V, const PREFIX_LEN: usize> = InnerNodeDirect<K, V, PREFIX_LEN>;
 
-/// A node of another kind with the same header and the same children. Where its room doesn't hold them all,
-/// what it holds is open.
+/// A node of another kind with the same header and the same children. If its room doesn't hold them all, what it holds
+/// is open.
 fn converted<
     A: InnerNodeCommon<PREFIX_LEN>,
     B: InnerNodeCommon<PREFIX_LEN>,
@@ -92,7 +92,7 @@ impl<K, V, const PREFIX_LEN: usize> InnerNode<PREFIX_LEN> for InnerNode4<K, V, P
         converted::<Self, InnerNode16<K, V, PREFIX_LEN>, PREFIX_LEN>(self)
     }
 
-    /// There is no smaller kind: an equal node, where the trait's condition asks for none.
+    /// There is no smaller kind. It returns an equal node, and the trait's condition never asks for it.
     fn shrink(&self) -> InnerNode4<K, V, PREFIX_LEN>
         ensures { result ≡ self.now }
     {
@@ -204,7 +204,7 @@ impl<K, V, const PREFIX_LEN: usize> InnerNode<PREFIX_LEN> for InnerNode256<K, V,
 
     type ShrunkNode = InnerNode48<K, V, PREFIX_LEN>;
 
-    /// There is no larger kind: an equal node, where the trait's condition asks for none.
+    /// There is no larger kind. It returns an equal node, and the trait's condition never asks for it.
     fn grow(&self) -> InnerNode256<K, V, PREFIX_LEN>
         ensures { result ≡ self.now }
     {

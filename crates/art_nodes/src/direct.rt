@@ -11,6 +11,7 @@ use std::ops::Bound;
 
 /// An inner node with a place for the child of each byte. The mask says which places hold one, so that those between
 /// two children needn't be looked through.
+#[derive(Drop)]
 pub struct InnerNodeDirect<K, V, const PREFIX_LEN: usize> {
     header: Header<PREFIX_LEN>,
     mask: Mask,
@@ -27,17 +28,6 @@ impl<K, V, const PREFIX_LEN: usize> Model for InnerNodeDirect<K, V, PREFIX_LEN> 
     ghost view = { λ n. record { header = n.header; children = children_from 0 n.slots } };
 
     ghost invariant = { λ n. IsCountedTable n.header n.mask n.slots };
-}
-
-impl<K, V, const PREFIX_LEN: usize> Drop for InnerNodeDirect<K, V, PREFIX_LEN> {
-    fn drop(self) {
-        let InnerNodeDirect {
-            header: _,
-            mask: _,
-            slots: _,
-            tree: _,
-        } = self;
-    }
 }
 
 impl<K, V, const PREFIX_LEN: usize> Sealed for InnerNodeDirect<K, V, PREFIX_LEN> {}

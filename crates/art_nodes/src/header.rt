@@ -9,8 +9,9 @@ use std::alloc::AllocError;
 use std::fmt;
 use std::marker::Model;
 
-/// How many children an inner node has, how long its prefix is, and the front of the prefix: at most
-/// `PREFIX_LEN` of its bytes are kept.
+/// How many children an inner node has, how long its prefix is, and the first bytes of the prefix: at most `PREFIX_LEN`
+/// of them are stored.
+#[derive(Drop)]
 pub struct Header<const PREFIX_LEN: usize> {
     prefix_len: usize,
     num_children: u16,
@@ -42,8 +43,8 @@ fn copy_in(array: &mut [u8], at: usize, bytes: &[u8])
 }
 
 impl<const PREFIX_LEN: usize> Header<PREFIX_LEN> {
-    /// A header of no children, whose prefix is the first `len` bytes of these. The bytes given must cover
-    /// what is stored: the first `PREFIX_LEN` of the prefix.
+    /// Makes a header of no children, whose prefix is the first `len` bytes of these. The bytes must cover what is
+    /// stored: the first `PREFIX_LEN` of the prefix.
     pub fn new(bytes: &[u8], len: usize) -> Self
         requires { min len PREFIX_LEN ≤ length bytes.now }
         ensures { result ≡ header_of PREFIX_LEN bytes.now len }
@@ -58,21 +59,21 @@ impl<const PREFIX_LEN: usize> Header<PREFIX_LEN> {
         }
     }
 
-    /// The bytes of the prefix that are stored: all of it where it has at most `PREFIX_LEN` bytes.
+    /// Returns the bytes of the prefix that are stored: all of it if it has at most `PREFIX_LEN` bytes.
     pub fn read_prefix(&self) -> &[u8]
         ensures { result.now ≡ self.now.stored }
     {
         &self.prefix[..self.capped_prefix_len()]
     }
 
-    /// The number of bytes of the prefix.
+    /// Returns the number of bytes of the prefix.
     pub fn prefix_len(&self) -> usize
         ensures { result ≡ self.now.prefix_len }
     {
         self.prefix_len
     }
 
-    /// The number of bytes of the prefix that are stored.
+    /// Returns the number of bytes of the prefix that are stored.
     pub fn capped_prefix_len(&self) -> usize
         ensures value { result ≡ min self.now.prefix_len PREFIX_LEN }
         ensures stored { result ≡ length self.now.stored }
@@ -80,7 +81,7 @@ impl<const PREFIX_LEN: usize> Header<PREFIX_LEN> {
         self.prefix_len.min(PREFIX_LEN)
     }
 
-    /// The number of children.
+    /// Returns the number of children.
     pub fn num_children(&self) -> usize
         ensures value { result ≡ self.now.num_children }
         ensures is_header { IsHeader PREFIX_LEN self.now }
@@ -111,8 +112,8 @@ impl<const PREFIX_LEN: usize> Header<PREFIX_LEN> {
         self.prefix_len = 0;
     }
 
-    /// Appends the first `len` bytes of these to the prefix. The bytes given must cover what is then stored
-    /// behind the bytes that are stored already.
+    /// Appends the first `len` bytes of these to the prefix. The bytes must cover what is then stored after the bytes
+    /// that are stored already.
     pub fn push_prefix(&mut self, bytes: &[u8], len: usize)
         requires covers { min (self.old.prefix_len + len) PREFIX_LEN ≤ length self.old.stored + length bytes.now }
         requires fits { self.old.prefix_len + len < 2 ^ 64 }
@@ -125,8 +126,8 @@ impl<const PREFIX_LEN: usize> Header<PREFIX_LEN> {
         self.prefix_len += len;
     }
 
-    /// Takes the first `n` bytes off the prefix, and refills what is stored from the key of a leaf below the
-    /// node, which stands at this depth. The key must cover what is then stored.
+    /// Removes the first `n` bytes of the prefix, and refills what is stored from the key of a leaf below the node,
+    /// which stands at this depth. The key must cover what is then stored.
     pub fn ltrim_by_with_leaf<K: AsBytes, V>(
         &mut self,
         n: usize,
@@ -146,7 +147,7 @@ impl<const PREFIX_LEN: usize> Header<PREFIX_LEN> {
         self.prefix_len = len;
     }
 
-    /// Takes the first `n` bytes off the prefix, which must be wholly stored, or `n` be 0.
+    /// Removes the first `n` bytes of the prefix, which must be wholly stored, or `n` be 0.
     pub fn ltrim_by(&mut self, n: usize)
         requires within { n ≤ self.old.prefix_len }
         requires stored { (self.old.prefix_len ≤ PREFIX_LEN) ⊎ (n ≡ 0) }
@@ -162,7 +163,7 @@ impl<const PREFIX_LEN: usize> Header<PREFIX_LEN> {
 }
 
 impl<const PREFIX_LEN: usize> Header<PREFIX_LEN> {
-    /// A header of no children with the same prefix.
+    /// Returns a header of no children with this prefix.
     pub fn without_children(&self) -> Self
         ensures { result ≡ record self.now { num_children = 0 } }
     {
@@ -234,15 +235,5 @@ impl<const PREFIX_LEN: usize> fmt::Debug for Header<PREFIX_LEN> {
             f,
             "Header {{ num_children: {num_children}, prefix_len: {prefix_len}, stored: {stored:?} }}"
         )
-    }
-}
-
-impl<const PREFIX_LEN: usize> Drop for Header<PREFIX_LEN> {
-    fn drop(self) {
-        let Header {
-            prefix_len: _,
-            num_children: _,
-            prefix: _,
-        } = self;
     }
 }

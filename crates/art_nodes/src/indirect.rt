@@ -16,6 +16,7 @@ use std::ops::Bound;
 
 /// An inner node of up to `SIZE` children and at most 255, whose names stand packed by ascending byte. The mask says
 /// which bytes have a child; a child's place is the number of marked bytes below its own.
+#[derive(Drop)]
 pub struct InnerNodeIndirect<K, V, const PREFIX_LEN: usize, const SIZE: usize> {
     header: Header<PREFIX_LEN>,
     mask: Mask,
@@ -35,18 +36,6 @@ impl<K, V, const PREFIX_LEN: usize, const SIZE: usize> Model
     ghost view = { λ n. record { header = n.header; children = zip n.mask n.names.items } };
 
     ghost invariant = { λ n. IsSideBySide (min SIZE 255) n.header n.mask n.names.items };
-}
-
-impl<K, V, const PREFIX_LEN: usize, const SIZE: usize> Drop
-    for InnerNodeIndirect<K, V, PREFIX_LEN, SIZE> {
-    fn drop(self) {
-        let InnerNodeIndirect {
-            header: _,
-            mask: _,
-            names: _,
-            tree: _,
-        } = self;
-    }
 }
 
 impl<K, V, const PREFIX_LEN: usize, const SIZE: usize> InnerNodeIndirect<K, V, PREFIX_LEN, SIZE> {

@@ -36,12 +36,12 @@ pub trait InnerNodeInit<const PREFIX_LEN: usize>: Sealed + Sized {
     /// What a contract sees of the node.
     ghost inner: { Self → InnerNode };
 
-    /// A node of no children whose prefix is the first `len` bytes of these, which must cover what is stored.
+    /// Makes a node of no children whose prefix is the first `len` bytes of these, which must cover what is stored.
     fn from_prefix(bytes: &[u8], len: usize) -> Self
         requires { min len PREFIX_LEN ≤ length bytes.now }
         ensures { inner result ≡ childless (header_of PREFIX_LEN bytes.now len) };
 
-    /// A node of no children with this header, which must count none.
+    /// Makes a node of no children with this header, which must count none.
     #[tactic(auto, using(crate::proofs::PrefixLemmas::fronts))]
     final fn from_header(heading: Header<PREFIX_LEN>) -> Self
         requires { heading.num_children ≡ 0 }
@@ -57,7 +57,7 @@ pub trait InnerNodeCommon<const PREFIX_LEN: usize>: InnerNodeInit<PREFIX_LEN> + 
     /// The most children that the node has room for.
     ghost room: { ℕ };
 
-    /// The header.
+    /// Returns the header.
     fn header(&self) -> &Header<PREFIX_LEN>
         ensures value { result.now ≡ (Self.inner self.now).header }
         ensures is_inner_node { IsInnerNode PREFIX_LEN room (Self.inner self.now) };
@@ -66,12 +66,12 @@ pub trait InnerNodeCommon<const PREFIX_LEN: usize>: InnerNodeInit<PREFIX_LEN> + 
     fn copy_prefix(&mut self, prefix: &Header<PREFIX_LEN>)
         ensures { Self.inner self.new ≡ with_prefix_of prefix.now (Self.inner self.old) };
 
-    /// Whether the room is used up.
+    /// Returns whether the room is used up.
     fn is_full(&self) -> bool
         ensures value { IsTrue result ↔ (length (Self.inner self.now).children ≡ room) }
         ensures room { length (Self.inner self.now).children ≤ room };
 
-    /// The child under this byte.
+    /// Returns the child under this byte.
     fn lookup_child(&self, byte: u8) -> Option<OpaqueNodePtr>
         ensures { result ≡ child_at (Self.inner self.now).children byte };
 
@@ -80,18 +80,18 @@ pub trait InnerNodeCommon<const PREFIX_LEN: usize>: InnerNodeInit<PREFIX_LEN> + 
         requires { MayWrite room (Self.inner self.old).children byte }
         ensures { Self.inner self.new ≡ node_with (Self.inner self.old) byte name };
 
-    /// Removes the child under this byte, and answers it.
+    /// Removes the child under this byte, and returns it.
     fn remove_child(&mut self, byte: u8) -> Option<OpaqueNodePtr>
         ensures value { result ≡ child_at (Self.inner self.old).children byte }
         ensures rest { Self.inner self.new ≡ node_without (Self.inner self.old) byte };
 
-    /// The children, by ascending byte.
+    /// Returns an iterator over the children, by ascending byte.
     fn iter(&self) -> ChildIter<'_>
         ensures value { result ≡ (Self.inner self.now).children }
         ensures ascending { IsAscending result }
         ensures fits_in_memory { PREFIX_LEN + 17 < 2 ^ 63 };
 
-    /// A builder of a node with this header, which must count none.
+    /// Returns a builder of a node with this header, which must count none.
     final fn builder(heading: Header<PREFIX_LEN>) -> InnerNodeBuilder<Self, NoChild>
         requires { heading.num_children ≡ 0 }
         ensures { Self.inner result.node ≡ childless heading.entry }
@@ -99,8 +99,8 @@ pub trait InnerNodeCommon<const PREFIX_LEN: usize>: InnerNodeInit<PREFIX_LEN> + 
         InnerNodeBuilder::new(Self::from_header(heading))
     }
 
-    /// Looks by length alone whether the prefix may agree with the rest of a key, its bytes from the node's depth
-    /// on. A mismatch counts all of the rest.
+    /// Checks by length alone whether the prefix may agree with the rest of a key: its bytes from the node's depth on.
+    /// A mismatch counts all of the rest.
     final fn optimistic_match_prefix(&self, rest: &[u8]) -> Result<PrefixMatch, OptimisticMismatch>
         ensures { let len = (Self.inner self.now).header.prefix_len in MatchResult result
             (λ yes. (yes.matched_bytes ≡ len) × (len ≤ length rest.now))
@@ -118,8 +118,8 @@ pub trait InnerNodeCommon<const PREFIX_LEN: usize>: InnerNodeInit<PREFIX_LEN> + 
         }
     }
 
-    /// Compares the prefix with the rest of a key, its bytes from the node's depth on, where the whole prefix is
-    /// stored, and else looks by length alone, which the answer says.
+    /// Compares the prefix with the rest of a key: its bytes from the node's depth on. If the prefix isn't wholly
+    /// stored, it checks by length alone, and the result says so.
     final fn attempt_pessimistic_match_prefix(
         &self,
         rest: &[u8],
@@ -161,19 +161,19 @@ pub trait InnerNodeCommon<const PREFIX_LEN: usize>: InnerNodeInit<PREFIX_LEN> + 
         }
     }
 
-    /// The children whose bytes lie between two bounds, by ascending byte.
+    /// Returns an iterator over the children whose bytes lie between two bounds, by ascending byte.
     fn range(&self, start: Bound<u8>, end: Bound<u8>) -> ChildIter<'_>
         requires { AreValidBounds start end }
         ensures { result ≡ children_between start end (Self.inner self.now).children };
 
-    /// The child under the smallest byte, with its byte.
+    /// Returns the child under the smallest byte, with its byte.
     final fn min(&self) -> Option<(u8, OpaqueNodePtr)>
         ensures { result ≡ first_child (Self.inner self.now).children }
     {
         self.iter().next()
     }
 
-    /// The child under the greatest byte, with its byte.
+    /// Returns the child under the greatest byte, with its byte.
     #[tactic(auto, using(crate::proofs::ChildLemmas::lasts))]
     final fn max(&self) -> Option<(u8, OpaqueNodePtr)>
         ensures { result ≡ last_child (Self.inner self.now).children }
@@ -192,15 +192,15 @@ pub trait InnerNode<const PREFIX_LEN: usize>: Node + InnerNodeCommon<PREFIX_LEN>
     /// The next smaller kind, and for the smallest itself.
     type ShrunkNode: Node + InnerNodeCommon<PREFIX_LEN>;
 
-    /// A node of the next larger kind with the same header and children. This one must be full and not of the
+    /// Makes a node of the next larger kind with the same header and children. This one must be full and not of the
     /// largest kind.
     fn grow(&self) -> Self::GrownNode
         requires full { length (Self.inner self.now).children ≡ Self.room }
         requires larger { IsSome (row_of Self.Kind.TYPE).larger }
         ensures { Self.GrownNode.inner result ≡ Self.inner self.now };
 
-    /// A node of the next smaller kind with the same header and children, where `should_shrink_inner_node`
-    /// holds of their number.
+    /// Makes a node of the next smaller kind with the same header and children, if `should_shrink_inner_node` holds of
+    /// their number.
     fn shrink(&self) -> Self::ShrunkNode
         requires { CanShrink Self.Kind.TYPE (length (Self.inner self.now).children) }
         ensures { Self.ShrunkNode.inner result ≡ Self.inner self.now };

@@ -40,7 +40,7 @@ pub struct KindRow {
 }
 
 impl NodeType {
-    /// This kind's row of the table, from which all else about kinds is read. A leaf has no children.
+    /// Returns this kind's row of the table, from which all else about kinds is read. A leaf has no children.
     pub const fn row(self) -> KindRow
         ensures { result ≡ row_of self }
     {
@@ -84,8 +84,8 @@ impl NodeType {
         }
     }
 
-    /// How many children an inner node of this kind has in a canonical tree, as the half-open range
-    /// from the fewest to one above the most.
+    /// Returns how many children an inner node of this kind has in a canonical tree: the half-open range from the
+    /// fewest to one above the most.
     pub const fn capacity_range(self) -> Range<usize>
         requires { self ≢ NodeType.Leaf }
         ensures fewest { result.start ≡ (row_of self).fewest }
@@ -95,8 +95,8 @@ impl NodeType {
         row.fewest..row.most + 1
     }
 
-    /// Whether an inner node of this kind with so many children belongs in the next smaller kind: where
-    /// there is one, and it has room for them.
+    /// Returns whether an inner node of this kind with so many children belongs in the next smaller kind: if there is
+    /// one, and it has room for them.
     pub const fn should_shrink_inner_node(self, num_children: usize) -> bool
         requires { self ≢ NodeType.Leaf }
         ensures { IsTrue result ↔ CanShrink self num_children }

@@ -74,7 +74,7 @@ impl<K, V> Node for LeafNode<K, V> {
 impl<K, V> LeafNode<K, V> {
     ghost use Rattle.art_nodes.specs.Leaf.{lends_value};
 
-    /// A leaf without neighbours.
+    /// Makes a leaf without neighbours.
     pub fn with_no_siblings(key: K, value: V) -> Self
         ensures key { result.key ≡ key }
         ensures value { result.value ≡ value }
@@ -89,21 +89,21 @@ impl<K, V> LeafNode<K, V> {
         }
     }
 
-    /// The key.
+    /// Returns the key.
     pub fn key_ref(&self) -> &K
         ensures { result.now ≡ self.now.key }
     {
         &self.key
     }
 
-    /// The value.
+    /// Returns the value.
     pub fn value_ref(&self) -> &V
         ensures { result.now ≡ self.now.value }
     {
         &self.value
     }
 
-    /// The key and the value.
+    /// Returns the key and the value.
     pub fn entry_ref(&self) -> (&K, &V)
         ensures key { result.0.now ≡ self.now.key }
         ensures value { result.1.now ≡ self.now.value }
@@ -111,7 +111,7 @@ impl<K, V> LeafNode<K, V> {
         (&self.key, &self.value)
     }
 
-    /// The value, for writing.
+    /// Lends the value for writing.
     pub fn value_mut(&mut self) -> &mut V
         ensures* writes_back { sem 𝓛 (lends_value K.row V.row self.entry result) }
         ensures value { result.now ≡ self.old.value }
@@ -119,7 +119,7 @@ impl<K, V> LeafNode<K, V> {
         &mut self.value
     }
 
-    /// The key, and the value for writing.
+    /// Lends the key, and the value for writing.
     pub fn entry_mut(&mut self) -> (&K, &mut V)
         ensures* writes_back { sem 𝓛 (lends_value K.row V.row self.entry result.1) }
         ensures key { result.0.now ≡ self.old.key }
@@ -128,7 +128,7 @@ impl<K, V> LeafNode<K, V> {
         (&self.key, &mut self.value)
     }
 
-    /// The key and the value, which the leaf gives up.
+    /// Returns the key and the value, which the leaf owned.
     pub fn into_entry(self) -> (K, V)
         ensures key { result.0 ≡ self.key }
         ensures value { result.1 ≡ self.value }
@@ -142,14 +142,14 @@ impl<K, V> LeafNode<K, V> {
         (key, value)
     }
 
-    /// The name of the leaf before this one, if there is one.
+    /// Returns the name of the leaf before this one, if there is one.
     pub fn previous(&self) -> Option<NodePtr<KindLeaf>>
         ensures { result ≡ self.now.previous }
     {
         self.previous.get()
     }
 
-    /// The name of the leaf after this one, if there is one.
+    /// Returns the name of the leaf after this one, if there is one.
     pub fn next(&self) -> Option<NodePtr<KindLeaf>>
         ensures { result ≡ self.now.next }
     {
@@ -172,7 +172,7 @@ impl<K, V> LeafNode<K, V> {
 }
 
 impl<K: AsBytes, V> LeafNode<K, V> {
-    /// Whether the bytes of the key are these.
+    /// Returns whether the bytes of the key are these.
     pub fn compare_full_key(&self, bytes: &[u8]) -> bool
         ensures { IsTrue result ↔ (K.bytes self.now.key ≡ bytes.now) }
     {
@@ -180,7 +180,7 @@ impl<K: AsBytes, V> LeafNode<K, V> {
     }
 }
 
-/// A leaf of clones of the key and of the value, with the same neighbours. It is refused where one of the clones is.
+/// A leaf of clones of the key and of the value, with the same neighbours. Fails if one of the clones does.
 impl<K: Clone, V: Clone> Clone for LeafNode<K, V> {
     ghost use Rattle.art_nodes.specs.Leaf.{IsLeafClone};
 
@@ -197,8 +197,8 @@ impl<K: Clone, V: Clone> Clone for LeafNode<K, V> {
 }
 
 impl<K: Clone, V: Clone> LeafNode<K, V> {
-    /// A leaf of a clone of the key and a clone of the value, without neighbours. It is refused where one of
-    /// the clones is.
+    /// Makes a leaf of a clone of the key and a clone of the value, without neighbours. Fails if one of the clones
+    /// does.
     pub fn clone_without_siblings(&self) -> Result<Self, AllocError>
         ensures key { IfOk result (λ leaf. K.is_clone self.now.key leaf.key) }
         ensures value { IfOk result (λ leaf. V.is_clone self.now.value leaf.value) }

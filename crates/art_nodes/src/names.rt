@@ -35,28 +35,28 @@ impl OpaqueNodePtr {
         }
     }
 
-    /// The kind of the node that this names.
+    /// Returns the kind of the node that this names.
     pub fn node_type(self) -> NodeType
         ensures { result ≡ self.kind }
     {
         self.kind
     }
 
-    /// The slab key.
+    /// Returns the slab key.
     pub fn slot(self) -> usize
         ensures { result ≡ self.slot }
     {
         self.slot.get()
     }
 
-    /// Whether this names a node of the kind `N`.
+    /// Returns whether this names a node of the kind `N`.
     pub fn is<N: NodeKind>(self) -> bool
         ensures { IsTrue result ↔ (self.kind ≡ N.TYPE) }
     {
         self.node_type() == N::TYPE
     }
 
-    /// The name as one of the kind `N`, or `None` where it names a node of another kind.
+    /// Returns the name as one of the kind `N`, or `None` if it names a node of another kind.
     pub fn cast<N: NodeKind>(self) -> Option<NodePtr<N>>
         ensures variant { IsSome result ↔ (self.kind ≡ N.TYPE) }
         ensures slot { IfSome result (λ name. name ≡ self.slot) }
@@ -114,7 +114,7 @@ impl<N> Clone for NodePtr<N> {
 impl<N> Copy for NodePtr<N> {}
 
 impl<N: NodeKind> NodePtr<N> {
-    /// The name of the node of this kind with that slab key, whether one is held there or not.
+    /// Returns the name of the node of this kind with that slab key, whether one is held there or not.
     pub fn from_slot(slot: usize) -> Self
         ensures { result ≡ slot }
     {
@@ -124,7 +124,7 @@ impl<N: NodeKind> NodePtr<N> {
         }
     }
 
-    /// The slab key.
+    /// Returns the slab key.
     pub fn slot(self) -> usize
         ensures { result ≡ self }
     {
@@ -132,7 +132,7 @@ impl<N: NodeKind> NodePtr<N> {
         slot
     }
 
-    /// The same name, its kind as a value.
+    /// Returns this name with its kind as a value.
     pub fn to_opaque(self) -> OpaqueNodePtr
         ensures { result ≡ record { kind = N.TYPE; slot = self } }
     {

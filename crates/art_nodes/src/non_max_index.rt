@@ -4,7 +4,7 @@ ghost use Rattle.std.specs.Prelude.{◌≡◌, ◌<◌, ◌↔◌, IsSome, IfSom
 use std::marker::Model;
 use thiserror::Error;
 
-/// The refusal of a number above 254.
+/// A number above 254 is no index.
 #[derive(Clone, Copy, Debug, Error)]
 #[error("the number is above 254")]
 pub struct TryFromByteError;
@@ -30,7 +30,7 @@ impl Model for NonMaxIndex {
 }
 
 impl NonMaxIndex {
-    /// This index, and `None` for 255.
+    /// Returns this index, or `None` for 255.
     pub fn new(index: u8) -> Option<Self>
         ensures variant { IsSome result ↔ (index < 255) }
         ensures value { IfSome result (λ it. it ≡ index) }
@@ -42,7 +42,7 @@ impl NonMaxIndex {
         }
     }
 
-    /// The number, which is below 255.
+    /// Returns the number, which is less than 255.
     pub fn get(self) -> u8
         ensures value { result ≡ self }
         ensures below { result < 255 }

@@ -1,4 +1,4 @@
-//! What a look at a node's own prefix tells of a key, without reading any other node.
+//! What a node's own prefix tells of a key, without reading any other node.
 ghost use Rattle.std.specs.Prelude.{◌≡◌, ◌≤◌, length};
 ghost use Rattle.art_nodes.specs.PrefixMatch.{agreeing};
 
@@ -41,8 +41,8 @@ pub struct PessimisticMismatch {
 pub struct ExplicitMismatch {
     /// How many bytes agree before that.
     pub matched_bytes: usize,
-    /// How the node's prefix compares with the key's bytes there: never `Equal`, and `Greater` where the key
-    /// ends inside the prefix.
+    /// How the node's prefix compares with the key's bytes there. It is never `Equal`, and `Greater` if the key ends
+    /// inside the prefix.
     pub node_prefix_comparison_to_search_key_segment: Ordering,
 }
 
@@ -51,7 +51,7 @@ pub struct ExplicitMismatch {
 pub struct NodePrefix<'a> {
     /// The bytes of the prefix.
     pub prefix: &'a [u8],
-    /// The name of the leaf whose key lends them, and `None` where the header does.
+    /// The name of the leaf whose key lends them, or `None` if the header does.
     pub leaf: Option<NodePtr<KindLeaf>>,
 }
 
@@ -71,7 +71,7 @@ const PAGE: usize = 256;
 // So many are, behind those.
 const WORD: usize = 8;
 
-/// How many bytes agree from the front on.
+/// Returns how many bytes agree from the first on: the length of the longest common prefix.
 #[tactic(auto, using(crate::proofs::PrefixLemmas::agreements))]
 pub fn count_agreeing(prefix: &[u8], rest: &[u8]) -> usize
     ensures value { result ≡ agreeing prefix.now rest.now }

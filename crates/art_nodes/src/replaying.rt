@@ -1,6 +1,5 @@
-//! Replays commands on one inner node, which grows and shrinks from kind to kind as a tree's nodes do. What it answers
-//! is that of one finite map from byte to name, whichever kind holds the children: `AreChildAnswers` in
-//! `specs/Replay.antt`.
+//! Replays commands on one inner node, which grows and shrinks from kind to kind as a tree's nodes do. It returns what
+//! one finite map from byte to name would, whichever kind holds the children: `AreChildAnswers` in `specs/Replay.antt`.
 ghost use Rattle.std.specs.Prelude.{◌≡◌, [], length, IfOk};
 ghost use Rattle.art_nodes.specs.InnerNode.{child_at, with_child, without_child};
 ghost use Rattle.art_nodes.specs.Replay.{IsChildAnswer, AreChildAnswers, children_after, child_under};
@@ -32,11 +31,11 @@ pub enum ChildCommand {
     Range(Bound<u8>, Bound<u8>),
 }
 
-/// What a command answers.
+/// What a command returns.
 #[derive(Drop)]
 pub enum ChildAnswer {
-    /// The child that a look-up, the smallest or the greatest byte finds, or that stood where a child was written or
-    /// removed; with its byte.
+    /// The child that a look-up, the smallest or the greatest byte finds, with its byte. For a write or a removal, the
+    /// child that stood there.
     Child(Option<(u8, OpaqueNodePtr)>),
     /// The children of a range, by ascending byte.
     Children(Vec<(u8, OpaqueNodePtr)>),
@@ -235,10 +234,12 @@ impl ReplayedNode {
     }
 }
 
-/// Carries the commands out one after the other, on a node of the smallest kind with no child, and answers each in
-/// turn: for a write and a removal the child that stood there. The names are the caller's; nothing looks at what they
-/// name. The node grows when it is full and shrinks where `should_shrink_inner_node` says so, which no answer shows. It
-/// is refused only where there is no memory for the answers.
+/// Carries out the commands one after the other, on a node of the smallest kind with no child, and returns what each
+/// gives. A write and a removal give the child that stood there. The names are the caller's, and nothing looks at what
+/// they name.
+///
+/// The node grows when it is full and shrinks when `should_shrink_inner_node` says so, which no result shows. Fails
+/// only if there is no memory for the results.
 pub fn replay(alloc: Global, commands: &[ChildCommand]) -> Result<Vec<ChildAnswer>, AllocError>
     ensures { IfOk result (λ answers. AreChildAnswers [] commands.now answers.items) }
 {

@@ -1,4 +1,4 @@
-//! A row: items in the first places of an array, whose owner counts them. What stands behind them means nothing.
+//! A row: items in the first places of an array, whose owner counts them. The other places mean nothing.
 ghost use Rattle.std.specs.Prelude.{◌≡◌, ◌≤◌, ◌<◌, ◌+◌, ◌-◌, ◌==◌, length, take, position};
 ghost use Rattle.std.specs.List.{insert, remove, position_or_len};
 ghost use Rattle.art_nodes.specs.inner.Place.{place};
@@ -6,7 +6,7 @@ ghost use Rattle.art_nodes.specs.inner.Place.{place};
 use crate::child_iter::place_of;
 use std::simd::prelude::*;
 
-/// Puts an item in at this place, among the first `used` of a row. Those from there on move up by one.
+/// Inserts an item at this place, among the first `used` of a row. Those from there on move up by one.
 pub(crate) fn put_in<T: Copy>(row: &mut [T], used: usize, at: usize, item: T)
     requires { (at ≤ used) × (used < length row.old) }
     ensures items { take (used + 1) row.new ≡ insert (take used row.old) at item }
@@ -16,7 +16,7 @@ pub(crate) fn put_in<T: Copy>(row: &mut [T], used: usize, at: usize, item: T)
     row[at] = item;
 }
 
-/// Takes the item at this place out of the first `used` of a row. Those behind it move down by one.
+/// Removes the item at this place from the first `used` of a row. Those after it move down by one.
 pub(crate) fn take_out<T: Copy>(row: &mut [T], used: usize, at: usize)
     requires { (at < used) × (used ≤ length row.old) }
     ensures items { take (used - 1) row.new ≡ remove (take used row.old) at }

@@ -19,7 +19,8 @@ use std::marker::{Model, PhantomData};
 use std::ops::Bound;
 
 /// An inner node of up to `SIZE` children, by ascending byte. The header counts the bytes and the names in use, which
-/// are the first ones; so a whole array of bytes is compared at once, and no length stands beside it.
+/// are the first ones. So a whole array of bytes is compared at once, and no length stands beside it.
+#[derive(Drop)]
 pub struct InnerNodeSorted<K, V, const PREFIX_LEN: usize, const SIZE: usize> {
     header: Header<PREFIX_LEN>,
     keys: [u8; SIZE],
@@ -56,18 +57,6 @@ fn find(keys: &[u8], used: usize, byte: u8) -> Result<usize, usize>
     }
 }
 
-impl<K, V, const PREFIX_LEN: usize, const SIZE: usize> Drop
-    for InnerNodeSorted<K, V, PREFIX_LEN, SIZE> {
-    fn drop(self) {
-        let InnerNodeSorted {
-            header: _,
-            keys: _,
-            names: _,
-            tree: _,
-        } = self;
-    }
-}
-
 impl<K, V, const PREFIX_LEN: usize, const SIZE: usize> InnerNodeSorted<K, V, PREFIX_LEN, SIZE> {
     /// The bytes and the names in use, side by side and ascending by byte.
     pub fn initialized_portion(&self) -> (&[u8], &[OpaqueNodePtr])
@@ -78,9 +67,9 @@ impl<K, V, const PREFIX_LEN: usize, const SIZE: usize> InnerNodeSorted<K, V, PRE
         (&self.keys[..used], &self.names[..used])
     }
 
-    /// A node of two children, the first under the smaller byte. Its prefix is the first `len` bytes of these, which
-    /// must cover what is stored of it. No byte is looked for and nothing is moved, so the node is made where it is to
-    /// stand.
+    /// Makes a node of two children, the first under the smaller byte. Its prefix is the first `len` bytes of these,
+    /// which must cover what is stored of it. No byte is looked for and nothing is moved, so the node is made at its
+    /// place.
     #[inline(always)]
     pub fn with_two_children(
         bytes: &[u8],

@@ -1,4 +1,4 @@
-//! The caller that `CALLING.md` of art_nodes shows, letter for letter; a test runs it at two kinds.
+//! A caller of art_nodes, which its README.md shows; a test runs it at two kinds.
 
 ghost use Rattle.std.specs.Prelude.{◌≡◌, ◌<◌, ◌⊎◌, length, IsSome};
 ghost use Rattle.art_nodes.specs.InnerNode.{child_at, with_child, with_children};

@@ -1,5 +1,5 @@
 //! Tests of art_nodes: worked values, each public call at a concrete type, want of memory, and the caller
-//! of its CALLING.md. In a window, between a line `refuse` on the standard error and the line that tells the outcome,
+//! of its README.md. In a window, between a line `refuse` on the standard error and the line that tells the outcome,
 //! tests/refusals.py refuses each request for memory in turn.
 #![tactic(auto)]
 

@@ -32,10 +32,12 @@ pub mod Shrinking
 pub mod Deleted
 pub mod Crossings
 pub mod PartSizes
+pub mod NodeCounts
 pub mod Preparing
 pub mod KeyedLists
 pub mod LeafPairs
 pub mod NamedLeaves
+pub mod LeafNames
 pub mod NotStored
 pub mod HeldPairs
 pub mod CutPairs

@@ -185,7 +185,7 @@ module _ {K V : Type 0} (bytes : K → List ℕ) (P : ℕ) where
         were = old_is;
         are = new_is;
         overlap = tt;
-        removed = refl;
+        removed = (refl, λ e. omega arith);
         place = is.place;
       }
       stored (Some was) (same, (front, back, old_is, new_is), previous, next) = record {

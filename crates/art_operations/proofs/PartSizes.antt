@@ -1,6 +1,7 @@
 -- How many nodes a canonical shape has, by its leaves: at least as many, and fewer than twice as many.
-use Rattle.std.proofs.Common.{◌≡◌, ℕ, ◌+◌, ◌*◌, ◌-◌, ◌^◌, ◌<◌, ◌≤◌, min, List, [], ◌∷◌, ◌++◌, length, arith, length-append}
-use Rattle.art_arena.specs.arena.Shapes.{Shape, Branches, leaf_at, inner_at, no_branch, branch, leaves, leaves_in, width, cells, cells_in, IsUnder, AreUnder}
+use Rattle.std.proofs.Common.{◌≡◌, ◌≢◌, ℕ, ◌+◌, ◌*◌, ◌-◌, ◌^◌, ◌<◌, ◌≤◌, min, List, [], ◌∷◌, ◌++◌, length, refl, arith, length-append}
+use Rattle.art_nodes.specs.declared.kind.NodeType.TheVariants.{Leaf}
+use Rattle.art_arena.specs.arena.Shapes.{Shape, Branches, leaf_at, inner_at, no_branch, branch, name_of, leaves, leaves_in, width, cells, cells_in, IsUnder, AreUnder}
 
 module _ {K V : Type 0} (bytes : K → List ℕ) (P : ℕ) where
   mutual
@@ -25,6 +26,16 @@ module _ {K V : Type 0} (bytes : K → List ℕ) (P : ℕ) where
           omega (arith, more, more_rest, length-append (leaves s) (leaves_in rest), length-append (cells P s) (cells_in P rest)),
           omega (arith, few, few_rest, length-append (leaves s) (leaves_in rest), length-append (cells P s) (cells_in P rest)),
         )
+
+  -- a part that is no leaf has two leaves at least
+  pub two_leaves : (path : List ℕ) (s : Shape K V) → IsUnder bytes path s → (name_of s).kind ≢ Leaf → 2 ≤ length (leaves s)
+  two_leaves path (leaf_at slot k v) under inner = absurd (inner refl)
+  two_leaves path (inner_at n prefix kids) under inner =
+      let h = sized_in (path ++ prefix) 0 kids under.1 in
+      let two = under.0.two in
+      let more = h.0 in
+      let few = h.1 in
+      omega (arith, more, few, two)
 
   -- a count of nodes that stays at the greatest number is so bounded too
   pub many_nodes : (path : List ℕ) (s : Shape K V) → IsUnder bytes path s → (n count : ℕ) → n ≡ length (leaves s) → n < 2 ^ 64 → count ≡ min (length (cells P s)) (2 ^ 64 - 1) → n ≤ count

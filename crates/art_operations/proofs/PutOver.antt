@@ -1,5 +1,5 @@
 -- An arena that has pairs, before and after one took the place of those whose keys overlap its key.
-use Rattle.std.proofs.Common.{◌≡◌, ◌≢◌, ℕ, true, cond, List, [], ◌∷◌, ◌++◌, length, Option, Some, None, is_some, refl, sym, ap, subst, ◌∙◌}
+use Rattle.std.proofs.Common.{◌≡◌, ◌≢◌, ℕ, true, cond, List, [], ◌∷◌, ◌++◌, length, Option, Some, None, is_some, refl, sym, ap, subst, ◌∙◌, arith}
 use Rattle.std.specs.List.{AllByRecursion}
 use Rattle.std.proofs.lemmas.List.{map-append}
 use Rattle.art_nodes.specs.Name.{Name}
@@ -34,12 +34,16 @@ pub how_many : {K V : Type 0} (gone : List (K × V)) (result : PrefixInsertResul
 how_many {K = K} {V = V} gone result removed = number result.insert_result.existing_leaf removed
   where
     number : (was : Option (LeafNode K V)) → AreRemoved gone was result.leafs_removed → cond (is_some was) 1 result.leafs_removed ≡ length gone
-    number None e = e
+    number None e = e.0
     number (Some was) e = sym (ap length e.1)
+
+-- none is not one
+none-alone : (n : ℕ) → n ≡ 0 → n ≢ 1
+none-alone n none e = omega (arith, none, e)
 
 -- where there was no pair, none is removed
 pub none-removed : {K V : Type 0} (old : Option (LeafNode K V)) → pair_in old ≡ [] → AreRemoved [] old 0
-none-removed None e = refl
+none-removed None e = (refl, none-alone 0 refl)
 none-removed (Some leaf) e = absurd (cc)
 
 module _ {K V : Type 0} (bytes : K → List ℕ) (P : ℕ) where
@@ -69,7 +73,7 @@ module _ {K V : Type 0} (bytes : K → List ℕ) (P : ℕ) where
   put-first-over new key value result put = record { has = put.has; removed = none result.existing_leaf put.old; leaf = put.leaf }
     where
       none : (was : Option (LeafNode K V)) → pair_in was ≡ [] → AreRemoved {K = K} {V = V} [] was 0
-      none None e = refl
+      none None e = (refl, none-alone 0 refl)
       none (Some was) e = absurd (cc)
 
   -- where a pair has the key, the point is its leaf

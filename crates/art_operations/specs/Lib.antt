@@ -8,8 +8,10 @@ pub mod DeletePoints
 pub mod Bounds
 pub mod Insertions
 pub mod Deletions
+pub mod NodeCounts
 pub mod Subtrees
 pub mod KeyedLists
+pub mod LeafNames
 pub mod Overwrites
 pub mod Pairs
 pub mod Commands

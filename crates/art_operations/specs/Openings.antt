@@ -1,5 +1,5 @@
--- How many nodes are read at most where a key's place is found, or an end of a range.
-pub use Rattle.art_arena.specs.arena.Reads.{DescentReads, KeysWithin}
+-- How many nodes are read where a key's place is found, or an end of a range.
+pub use Rattle.art_arena.specs.arena.Reads.{DescentReads, KeysWithin, ReadsAtLeast}
 use Rattle.std.specs.Prelude.{ℕ, ◌+◌, ◌*◌, ◌≤◌, List, length}
 use Rattle.std.specs.declared.ops.Bound.{Bound}
 use Rattle.std.specs.declared.ops.Bound.TheVariants.{Included, Excluded, Unbounded}

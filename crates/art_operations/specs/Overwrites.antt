@@ -1,5 +1,6 @@
 -- A key that takes the place of all with which it can't stand together: where it goes, and what it leaves.
-use Rattle.std.specs.Prelude.{◌≡◌, ℕ, true, List, [], ◌∷◌, ◌++◌, length, Option, Some, None, is_some, if◌then◌else◌}
+use Rattle.std.specs.Prelude.{◌≡◌, ◌≢◌, ℕ, true, List, [], ◌∷◌, ◌++◌, length}
+use Rattle.std.specs.Prelude.{Option, Some, None, is_some, if◌then◌else◌}
 use Rattle.std.specs.List.{AllByRecursion}
 use Rattle.art_nodes.specs.declared.leaf.LeafNode.{LeafNode}
 use Rattle.art_nodes.specs.Name.{Name}
@@ -30,9 +31,10 @@ abbrev pub steps_at : PrefixInsertPoint → List Step
 steps_at (at.InsertPoint point) = steps_of point.path
 steps_at (at.OverwritePoint point) = steps_of point.path
 
--- these pairs are no more: the one of this leaf, which comes with open ends, or so many
+-- these pairs are no more: the one of this leaf, which comes with open ends and isn't counted; or so many, none or more
+-- than one, for a single one's leaf is answered
 abbrev pub AreRemoved : {K V : Type 0} → List (K × V) → Option (LeafNode K V) → ℕ → Type 0
-AreRemoved gone None n = n ≡ length gone
+AreRemoved gone None n = (n ≡ length gone) × (n ≢ 1)
 AreRemoved gone (Some was) n =
     (n ≡ 0) × (gone ≡ (was.key, was.value) ∷ []) × (was.previous ≡ None) × (was.next ≡ None)
 

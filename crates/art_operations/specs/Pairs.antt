@@ -13,6 +13,7 @@ use Rattle.art_arena.specs.declared.ends.End.TheVariants.{First, Last}
 use Rattle.art_arena.specs.arena.Shapes.{Shape, leaves, pairs_of, key_of}
 use Rattle.art_arena.specs.arena.Steps.{steps_of}
 use Rattle.art_operations.specs.KeyedLists.{IsBlocked, with_key, without_key, overlapping, without_overlapping}
+use Rattle.art_operations.specs.NodeCounts.{nodes_counted}
 use Rattle.art_operations.specs.Overwrites.{AreRemoved, IsPrefixPoint, root_at}
 use Rattle.art_operations.specs.Points.{IsInTheWay, IsPoint}
 use Rattle.art_operations.specs.Subtrees.{IsSubtreePoint}
@@ -103,11 +104,11 @@ module _ {K V : Type 0} (bytes : K → List ℕ) (P : ℕ) (arena : Arena K V) (
       (others : List (K × V)) × IsAtEnd end (deleted.deleted_leaf.key, deleted.deleted_leaf.value) others pairs
       × HasPairsBeside deleted.new_root others
 
-  -- it has the pairs whose keys don't begin with the prefix; so many others are no more
-  abbrev pub HasCutBeside : List ℕ → List (K × V) → SubtreeDeleteResult → Type 0
-  HasCutBeside front pairs result =
-      (result.leafs_removed ≡ length (with_front (key_of bytes) front pairs))
-      × HasPairsBeside result.new_root (without_front (key_of bytes) front pairs)
+  -- it has the pairs whose keys don't begin with the prefix; so many others are no more, and so many nodes
+  pub record HasCutBeside (front : List ℕ) (pairs : List (K × V)) (result : SubtreeDeleteResult) : Type 0 where
+    pub removed : result.leafs_removed ≡ length (with_front (key_of bytes) front pairs)
+    pub freed : result.nodes_freed ≡ nodes_counted (key_of bytes) (with_front (key_of bytes) front pairs)
+    pub left : HasPairsBeside result.new_root (without_front (key_of bytes) front pairs)
 
   -- the same of where the key goes whichever keys it is in conflict with
   abbrev pub CanPutOverBeside : Option PrefixInsertPoint → List ℕ → List (K × V) → Type 0
@@ -131,9 +132,6 @@ module _ {K V : Type 0} (bytes : K → List ℕ) (P : ℕ) (arena : Arena K V) w
   -- the same with nothing beside
   abbrev pub HasPairs : Option Name → List (K × V) → Type 0
   HasPairs root pairs = HasPairsBeside bytes P arena [] root pairs
-
-  abbrev pub HasPoint : InsertPoint → List ℕ → List (K × V) → Type 0
-  HasPoint point key pairs = HasPointBeside bytes P arena [] point key pairs
 
   -- where this key goes below the root, whatever tree stands there; without a root it is nowhere. The word holds in one
   -- way at most, so it can be remembered beside a loan of the arena

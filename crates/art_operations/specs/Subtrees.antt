@@ -9,7 +9,7 @@ use Rattle.art_arena.specs.arena.Cells.{Cell}
 use Rattle.art_arena.specs.arena.Context.{Frame, path_to, leaves_before, leaves_after}
 use Rattle.art_arena.specs.arena.Linked.{first_slot, last_slot}
 use Rattle.art_arena.specs.arena.Places.{IsPlace}
-use Rattle.art_arena.specs.arena.Shapes.{Shape, LeafAt, name_of, leaves}
+use Rattle.art_arena.specs.arena.Shapes.{Shape, LeafAt, name_of, leaves, pairs_of, key_of}
 use Rattle.art_arena.specs.arena.Steps.{Step, steps_to, steps_of}
 use Rattle.art_arena.specs.tree.Fronts.{width_of}
 use Rattle.art_arena.specs.tree.Kinds.{IsLimit}
@@ -17,6 +17,7 @@ use Rattle.art_arena.specs.tree.Shrinks.{IsCrossing}
 use Rattle.art_arena.specs.tree.Tenants.{with_front, without_front}
 use Rattle.art_operations.specs.Deletions.{HasLeavesBeside}
 use Rattle.art_operations.specs.Held.{HasInner}
+use Rattle.art_operations.specs.NodeCounts.{nodes_counted}
 use Rattle.art_operations.specs.declared.delete.subtree.SubtreeDeletePoint.{SubtreeDeletePoint}
 use Rattle.art_operations.specs.declared.delete.subtree.SubtreeDeleteResult.{SubtreeDeleteResult}
 
@@ -58,10 +59,11 @@ module _ {K V : Type 0} (bytes : K → List ℕ) where
     IsSubtreeAnswer s (Some point) = IsSubtreePoint s point
 
     -- beside these nodes the arena has nothing but the tree of the leaves whose keys don't begin with the prefix; so
-    -- many others there were
+    -- many others there were, and so many nodes their part had
     pub record IsCutBeside (P : ℕ) (arena : Arena K V) (rest : List (Name × Cell K V)) (s : Shape K V)
         (result : SubtreeDeleteResult) : Type 0 where
       pub removed : result.leafs_removed ≡ length (leaves_with (leaves s))
+      pub freed : result.nodes_freed ≡ nodes_counted (key_of bytes) (pairs_of (leaves_with (leaves s)))
       pub left : HasLeavesBeside bytes P arena rest result.new_root (leaves_without (leaves s))
 
 module _ {K V : Type 0} (arena : Arena K V) where

@@ -1,6 +1,6 @@
-//! The leaves that a bound or a prefix takes.
-ghost use Rattle.std.specs.Prelude.{◌≡◌, ℕ, ◌+◌, ◌*◌, ◌≤◌, ◌++◌, ◌∷◌, [], Bool, true, false, List, drop, length};
-ghost use Rattle.std.specs.Prelude.{None, Some, IfSome, MatchOption};
+//! The leaves that a bound or a prefix selects.
+ghost use Rattle.std.specs.Prelude.{◌≡◌, ℕ, ◌+◌, ◌-◌, ◌*◌, ◌^◌, ◌≤◌, ◌++◌, ◌∷◌, [], Bool, true, false, List, drop};
+ghost use Rattle.std.specs.Prelude.{length, min, None, Some, IfSome, MatchOption};
 ghost use Rattle.std.specs.BTreeMap.Range.{is_past_end, range_contains};
 ghost use Rattle.std.specs.Range.Bound.{bound_map};
 ghost use Rattle.std.specs.declared.cmp.Ordering.TheVariants.{Less, Greater};
@@ -14,7 +14,7 @@ ghost use Rattle.art_arena.specs.arena.Stores.{Stores, StoresBelow};
 ghost use Rattle.art_arena.specs.tree.Tenants.{begins_with};
 ghost use Rattle.art_operations.specs.Bounds.{AreEndsWhere, slot_inside};
 ghost use Rattle.art_operations.specs.Meetings.{PartAt};
-ghost use Rattle.art_operations.specs.Openings.{bound_len, EndReads, ForLongest, OpeningReads};
+ghost use Rattle.art_operations.specs.Openings.{bound_len, EndReads, ForLongest, OpeningReads, ReadsAtLeast};
 ghost use Rattle.art_operations.specs.Points.{AllConflict, IsPoint};
 ghost use Rattle.art_operations.specs.declared.insert.point.InsertKind.TheVariants as kind;
 ghost use Rattle.art_operations.specs.inner.Nearest.{IsNearest};
@@ -36,10 +36,10 @@ struct Nearest {
     order: Ordering,
 }
 
-/// The first leaf whose key is inside a bound as a start, or the last whose key is inside it as an end, in the tree
-/// below a name; `None` where there is none. The keys need not have the bound's key among them.
+/// Finds a leaf in the tree below a name: the first whose key is inside a bound as a start, or the last whose key is
+/// inside it as an end. It returns `None` if there is none. The bound's key need not be stored.
 ///
-/// It takes no memory: it finds the place of the bound's key, and a leaf beside it.
+/// It allocates nothing: it finds the place of the bound's key, and a leaf beside it.
 pub fn find_leaf_pointer_for_bound<K: AsBytes, V, const PREFIX_LEN: usize>(
     arena: &NodeArena<K, V, PREFIX_LEN>,
     root: OpaqueNodePtr,
@@ -55,8 +55,9 @@ pub fn find_leaf_pointer_for_bound<K: AsBytes, V, const PREFIX_LEN: usize>(
     find_leaf_pointer_for_bound_with(&mut reader, root, bound, is_start)
 }
 
-/// What `find_leaf_pointer_for_bound` answers, by a reader that counts each node that is read. They are fewer than half
-/// as many as the longest key and two have, for each byte of the bound and for six.
+/// Returns what `find_leaf_pointer_for_bound` does, by a reader that counts each node that is read. At least one is,
+/// the root. They are fewer than half of (n + 6) * (k + 2), where n is the length of the bound and k that of the
+/// longest key.
 pub fn find_leaf_pointer_for_bound_with<K: AsBytes, V, const PREFIX_LEN: usize>(
     reader: &mut ArenaReader<'_, K, V, PREFIX_LEN>,
     root: OpaqueNodePtr,
@@ -69,6 +70,7 @@ pub fn find_leaf_pointer_for_bound_with<K: AsBytes, V, const PREFIX_LEN: usize>(
         (λ s. AreLinked (links_at reader.old.arena.now) None (leaves s) None
         → result ≡ slot_inside K.bytes is_start (bound_map (λ key. key.now) bound.entry) (leaves s)) }
     ensures kept { reader.new.arena.now ≡ reader.old.arena.now }
+    ensures least { ReadsAtLeast 1 reader.old.count reader.new.count }
     ensures few { OfTree K.bytes PREFIX_LEN reader.old.arena.now root (λ s. ForLongest K.bytes s
         (λ longest. EndReads longest (bound_len (bound_map (λ key. key.now) bound.entry))
         reader.old.count reader.new.count)) }
@@ -112,7 +114,7 @@ fn first_from<K: AsBytes, V, const PREFIX_LEN: usize>(
         → ((k : List ℕ) → bytes_cmp k key ≡ nearest.order → test k ≡ passes)
         → result ≡ leaf_where K.bytes test ls }
     ensures kept { reader.new.arena.now ≡ reader.old.arena.now }
-    ensures one { reader.new.count ≤ reader.old.count + 1 }
+    ensures counts { reader.new.count ≡ min (reader.old.count + 1) (2 ^ 64 - 1) }
 {
     let leaf = reader.visit_leaf(nearest.leaf);
     if passes {
@@ -137,7 +139,7 @@ fn last_to<K: AsBytes, V, const PREFIX_LEN: usize>(
         → ((k : List ℕ) → bytes_cmp k key ≡ nearest.order → test k ≡ passes)
         → result ≡ last_slot None (passing K.bytes test ls) }
     ensures kept { reader.new.arena.now ≡ reader.old.arena.now }
-    ensures one { reader.new.count ≤ reader.old.count + 1 }
+    ensures counts { reader.new.count ≡ min (reader.old.count + 1) (2 ^ 64 - 1) }
 {
     let leaf = reader.visit_leaf(nearest.leaf);
     if passes {
@@ -156,6 +158,7 @@ fn nearest_leaf<K: AsBytes, V, const PREFIX_LEN: usize>(
     ensures nearest { OfTree K.bytes PREFIX_LEN reader.old.arena.now root
         (λ s. IsNearest K.bytes key.now (leaves s) result.leaf result.order) }
     ensures kept { reader.new.arena.now ≡ reader.old.arena.now }
+    ensures least { ReadsAtLeast 1 reader.old.count reader.new.count }
     ensures few { OfTree K.bytes PREFIX_LEN reader.old.arena.now root (λ s. ForLongest K.bytes s
         (λ longest. 2 * reader.new.count
         ≤ 2 * reader.old.count + (length key.now * (longest + 2) + (6 * longest + 8)))) }
@@ -181,6 +184,7 @@ fn nearest_at<K: AsBytes, V, const PREFIX_LEN: usize>(
     ensures nearest { OfTree K.bytes PREFIX_LEN reader.old.arena.now root (λ s. IsPoint K.bytes key.now s point
         → IsNearest K.bytes key.now (leaves s) result.leaf result.order) }
     ensures kept { reader.new.arena.now ≡ reader.old.arena.now }
+    ensures least { ReadsAtLeast 1 reader.old.count reader.new.count }
     ensures few { OfTree K.bytes PREFIX_LEN reader.old.arena.now root (λ s. IsPoint K.bytes key.now s point
         → ForLongest K.bytes s (λ longest. reader.new.count ≤ reader.old.count + (longest + 2))) }
 {
@@ -228,6 +232,7 @@ fn nearest_parted<K: AsBytes, V, const PREFIX_LEN: usize>(
         → BeginsWith path key → PartAt prefix (drop (length path) key) parted
         → IsNearest K.bytes key (leaves_in kids) result.leaf result.order }
     ensures kept { reader.new.arena.now ≡ reader.old.arena.now }
+    ensures least { ReadsAtLeast 1 reader.old.count reader.new.count }
     ensures few { OfEach (StoresBelow K.bytes PREFIX_LEN reader.old.arena.now node)
         (λ path s. ForLongest K.bytes s (λ longest. reader.new.count ≤ reader.old.count + (longest + 1))) }
 {
@@ -257,6 +262,7 @@ fn nearest_child<K: AsBytes, V, const PREFIX_LEN: usize>(
         → child_at (children_at kids) byte ≡ None → BeginsWith ((path ++ prefix) ++ byte ∷ []) key
         → IsNearest K.bytes key (leaves_in kids) result.leaf result.order }
     ensures kept { reader.new.arena.now ≡ reader.old.arena.now }
+    ensures least { ReadsAtLeast 1 reader.old.count reader.new.count }
     ensures few { (path : List ℕ) (prefix : List ℕ) (kids : Branches K V)
         → StoresBelow K.bytes PREFIX_LEN reader.old.arena.now node path (inner_at node prefix kids)
         → child_at (children_at kids) byte ≡ None → ForLongest K.bytes (inner_at node prefix kids)
@@ -285,11 +291,11 @@ fn is_past(end: Bound<&[u8]>, key: &[u8]) -> bool
     }
 }
 
-/// The first and the last of the leaves whose keys are between two bounds, in the tree below a name, or `None` where
-/// there is none, as where the start is above the end.
+/// Returns the first and the last of the leaves whose keys are between two bounds, in the tree below a name. It returns
+/// `None` if there is none, as if the start is greater than the end.
 ///
-/// It takes no memory: it finds the first leaf from the start on and, unless that is past the end, the last leaf up to
-/// the end.
+/// It allocates nothing. It finds the first leaf from the start on and, unless that is past the end, the last leaf up
+/// to the end.
 pub fn find_range_segment<K: AsBytes, V, const PREFIX_LEN: usize>(
     arena: &NodeArena<K, V, PREFIX_LEN>,
     root: OpaqueNodePtr,
@@ -306,8 +312,8 @@ pub fn find_range_segment<K: AsBytes, V, const PREFIX_LEN: usize>(
     find_range_segment_with(&mut reader, root, start, end)
 }
 
-/// What `find_range_segment` answers, by a reader that counts each node that is read. They are at most as many as the
-/// longest key and two have, for each byte of the longer bound and for six.
+/// Returns what `find_range_segment` does, by a reader that counts each node that is read. At least one is, the root.
+/// They are at most (n + 6) * (k + 2), where n is the length of the longer bound and k that of the longest key.
 pub fn find_range_segment_with<K: AsBytes, V, const PREFIX_LEN: usize>(
     reader: &mut ArenaReader<'_, K, V, PREFIX_LEN>,
     root: OpaqueNodePtr,
@@ -321,6 +327,7 @@ pub fn find_range_segment_with<K: AsBytes, V, const PREFIX_LEN: usize>(
         → AreEndsWhere K.bytes (λ k. range_contains bytes_cmp (bound_map (λ key. key.now) start.entry)
         (bound_map (λ key. key.now) end.entry) k) (leaves s) result) }
     ensures kept { reader.new.arena.now ≡ reader.old.arena.now }
+    ensures least { ReadsAtLeast 1 reader.old.count reader.new.count }
     ensures few { OfTree K.bytes PREFIX_LEN reader.old.arena.now root (λ s. ForLongest K.bytes s (λ longest. (most : ℕ)
         → bound_len (bound_map (λ key. key.now) start.entry) ≤ most
         → bound_len (bound_map (λ key. key.now) end.entry) ≤ most
@@ -339,10 +346,10 @@ pub fn find_range_segment_with<K: AsBytes, V, const PREFIX_LEN: usize>(
     }
 }
 
-/// The first and the last of the leaves whose keys begin with a prefix, in the tree below a name, or `None` where there
-/// is none. The prefix need not end where a node's does.
+/// Returns the first and the last of the leaves whose keys begin with a prefix, in the tree below a name, or `None` if
+/// there is none. The prefix need not end where a node's does.
 ///
-/// It takes no memory: it finds the place of the prefix, and both ends of the part there.
+/// It allocates nothing: it finds the place of the prefix, and both ends of the part there.
 pub fn find_prefix_segment<K: AsBytes, V, const PREFIX_LEN: usize>(
     arena: &NodeArena<K, V, PREFIX_LEN>,
     root: OpaqueNodePtr,
@@ -356,8 +363,8 @@ pub fn find_prefix_segment<K: AsBytes, V, const PREFIX_LEN: usize>(
     find_prefix_segment_with(&mut reader, root, prefix)
 }
 
-/// What `find_prefix_segment` answers, by a reader that counts each node that is read. They are at most as many as the
-/// longest key and two have, for each byte of the prefix and for six.
+/// Returns what `find_prefix_segment` does, by a reader that counts each node that is read. At least one is, the root.
+/// They are at most (n + 6) * (k + 2), where n is the length of the prefix and k that of the longest key.
 pub fn find_prefix_segment_with<K: AsBytes, V, const PREFIX_LEN: usize>(
     reader: &mut ArenaReader<'_, K, V, PREFIX_LEN>,
     root: OpaqueNodePtr,
@@ -367,6 +374,7 @@ pub fn find_prefix_segment_with<K: AsBytes, V, const PREFIX_LEN: usize>(
     ensures value { OfTree K.bytes PREFIX_LEN reader.old.arena.now root
         (λ s. AreEndsWhere K.bytes (λ k. begins_with prefix.now k) (leaves s) result) }
     ensures kept { reader.new.arena.now ≡ reader.old.arena.now }
+    ensures least { ReadsAtLeast 1 reader.old.count reader.new.count }
     ensures few { OfTree K.bytes PREFIX_LEN reader.old.arena.now root (λ s. ForLongest K.bytes s
         (λ longest. OpeningReads longest (length prefix.now) reader.old.count reader.new.count)) }
 {
@@ -379,7 +387,7 @@ pub fn find_prefix_segment_with<K: AsBytes, V, const PREFIX_LEN: usize>(
     }
 }
 
-/// The ends of a part whose leaves are all in conflict with a prefix, where they begin with it. Either all do or none.
+/// The ends of a part whose leaves are all in conflict with a prefix, if they begin with it. Either all do or none.
 pub(crate) fn segment_at<K: AsBytes, V, const PREFIX_LEN: usize>(
     reader: &mut ArenaReader<'_, K, V, PREFIX_LEN>,
     part: OpaqueNodePtr,
@@ -393,6 +401,7 @@ pub(crate) fn segment_at<K: AsBytes, V, const PREFIX_LEN: usize>(
         (λ path s. AllConflict K.bytes prefix.now (leaves s)
         → passing K.bytes (λ k. begins_with prefix.now k) (leaves s) ≡ leaves s)) }
     ensures kept { reader.new.arena.now ≡ reader.old.arena.now }
+    ensures least { ReadsAtLeast 1 reader.old.count reader.new.count }
     ensures few { OfEach (StoresBelow K.bytes PREFIX_LEN reader.old.arena.now part)
         (λ path s. ForLongest K.bytes s (λ longest. reader.new.count ≤ reader.old.count + 2 * (longest + 1))) }
 {

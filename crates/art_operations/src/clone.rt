@@ -22,10 +22,11 @@ pub struct CloneResult<K, V, const PREFIX_LEN: usize> {
     pub max_leaf: LeafPtr,
 }
 
-/// Clones a tree that an arena holds alone into another arena, which holds nothing else: its own nodes, of the same
-/// shape and under the same names, with clones of the keys and values. The bytes of a clone of a key must be those of
-/// the key. It is refused where a key or a value can't be cloned, or where there is no memory; what was made is let go
-/// of then. The arena is only read.
+/// Clones a tree that an arena holds alone into another arena, which holds nothing else. The clone has nodes of its
+/// own, of the same shape and under the same names, with clones of the keys and values. The bytes of a clone of a key
+/// must be those of the key. The arena is only read.
+///
+/// Fails if a key or a value can't be cloned, or if out of memory. What was made is dropped then.
 pub fn clone_unchecked<K: AsBytes + Clone, V: Clone, const PREFIX_LEN: usize>(
     alloc: Global,
     arena: &NodeArena<K, V, PREFIX_LEN>,

@@ -1,8 +1,8 @@
-//! Frees: a tree, its leaves alone, its inner nodes alone. None of these is refused, takes memory or recurses, and each
-//! takes time in proportion to the nodes that it frees.
+//! Frees a tree, its leaves alone, or its inner nodes alone. None of these fails, allocates or recurses, and each takes
+//! time in proportion to the nodes that it frees.
 //!
-//! A tree is freed from its last children on. What waits stands below the first child of what is at hand: where the
-//! last child of a node is an inner node, the node itself takes the place of the first childless node below that child,
+//! A tree is freed from its last children on. What waits stands below the first child of what is at hand. If the last
+//! child of a node is an inner node, the node itself takes the place of the first childless node below that child,
 //! which is freed for it. So the way down to that one is gone only once.
 ghost use Rattle.std.specs.Prelude.{◌≡◌, ◌<◌, ◌++◌, ◌-◌, ◌^◌, min, Bool, List, IfSome, IfNone, length};
 ghost use Rattle.art_nodes.specs.Name.{Name};
@@ -218,7 +218,7 @@ pub(crate) struct Freed {
     pub(crate) nodes: u64,
 }
 
-/// Frees each node of the tree below a name, as `deallocate_tree`, and counts them.
+/// Frees each node of the tree below a name, as `deallocate_tree` does, and counts them.
 pub(crate) fn free_tree<K: Drop, V: Drop, const PREFIX_LEN: usize>(
     arena: &mut NodeArena<K, V, PREFIX_LEN>,
     root: OpaqueNodePtr,
@@ -241,9 +241,11 @@ pub(crate) fn free_tree<K: Drop, V: Drop, const PREFIX_LEN: usize>(
     }
 }
 
-/// Frees each node of the tree below a name, and answers how many leaves it had. Any shape is freed, canonical or not;
-/// what else the arena holds stays as it is, and so does the room that there was. It is never refused, takes no memory
-/// and doesn't recurse; it takes time in proportion to the nodes, however deep they lie.
+/// Frees each node of the tree below a name, and returns how many leaves it had. Any shape is freed, canonical or not.
+/// What else the arena holds is unchanged, and the memory of the nodes stays with it.
+///
+/// It never fails, allocates nothing and doesn't recurse. It takes time in proportion to the nodes, however deep they
+/// lie.
 pub fn deallocate_tree<K: Drop, V: Drop, const PREFIX_LEN: usize>(
     arena: &mut NodeArena<K, V, PREFIX_LEN>,
     root: OpaqueNodePtr,
@@ -258,8 +260,8 @@ pub fn deallocate_tree<K: Drop, V: Drop, const PREFIX_LEN: usize>(
     free_tree(arena, root).leaves
 }
 
-/// Frees each inner node of the tree below a name. Its leaves stay as they are, with their links, where the arena still
-/// holds them; they may also be gone. Never refused, without memory, in time, as `deallocate_tree`.
+/// Frees each inner node of the tree below a name. Its leaves and their links are unchanged, if the arena still holds
+/// them; they may also be gone. It never fails, allocates nothing, and takes time as `deallocate_tree` does.
 pub fn deallocate_tree_non_leaves<K: Drop, V: Drop, const PREFIX_LEN: usize>(
     arena: &mut NodeArena<K, V, PREFIX_LEN>,
     root: OpaqueNodePtr,
@@ -297,8 +299,8 @@ fn free_run<K: Drop, V: Drop, const PREFIX_LEN: usize>(
     }
 }
 
-/// Frees the leaves of a linked run, from its first to its last, or none. What else the arena holds stays as it is:
-/// the leaves beside the run keep their links, also those that led into it. It is never refused and takes no memory.
+/// Frees the leaves of a linked run, from its first to its last, or none. What else the arena holds is unchanged: the
+/// leaves beside the run keep their links, also those that led into it. It never fails and allocates nothing.
 pub fn deallocate_leaves<K: Drop, V: Drop, const PREFIX_LEN: usize>(
     arena: &mut NodeArena<K, V, PREFIX_LEN>,
     run: Option<(LeafPtr, LeafPtr)>,

@@ -6,7 +6,7 @@ pub fn counts_are_fronts_of_pairs<X>()
     ensures { CountsAreFrontsOfPairs X }
 {}
 
-/// It has at most one inner node fewer than pairs, and none where there is no pair or one.
+/// It has at most one inner node fewer than pairs, and none if there is no pair or one.
 pub fn has_few_inner_nodes<X>()
     ensures { HasFewInnerNodes X }
 {}

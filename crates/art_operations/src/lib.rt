@@ -1,6 +1,6 @@
-//! Operations on the tree below a name in an arena: look-ups, bounds, insertion, deletion, frees, clones, commands.
-//! The layer above uses look-ups, which filter the leaves, and `pairs`: what is put in or taken out of the pairs.
-//! The definitions stand in `specs/`.
+//! Operations on the tree below a name in an arena: look-ups, bounds, insertion, deletion, frees, clones, commands. The
+//! layer above uses look-ups, which filter the leaves, and `pairs`: what is inserted among the pairs or removed. The
+//! definitions stand in `specs/`.
 #![tactic(auto)]
 
 pub mod bounds;

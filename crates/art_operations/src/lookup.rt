@@ -31,7 +31,7 @@ fn behind(bytes: &[u8], depth: usize) -> &[u8]
 }
 
 impl PrefixMatchBehavior {
-    /// Matches the prefix of an inner node with the rest of a key, its bytes from the node's depth on. A look-up that
+    /// Matches the prefix of an inner node with the rest of a key: its bytes from the node's depth on. A look-up that
     /// compares bytes goes on by lengths alone from the first prefix that isn't wholly stored.
     pub fn match_prefix<N: InnerNodeCommon<PREFIX_LEN>, const PREFIX_LEN: usize>(
         &mut self,
@@ -67,8 +67,8 @@ impl PrefixMatchBehavior {
         }
     }
 
-    /// Whether the key of a leaf equals these bytes. Where every prefix was compared, it looks from the leaf's depth
-    /// on alone: what has no byte there ends there.
+    /// Returns whether the key of a leaf equals these bytes. If every prefix was compared, it compares from the leaf's
+    /// depth on alone: what has no byte there ends there.
     pub fn matches_leaf_key<K: AsBytes, V>(
         self,
         leaf: &LeafNode<K, V>,
@@ -85,8 +85,8 @@ impl PrefixMatchBehavior {
         }
     }
 
-    /// Whether the key of a leaf is a front of these bytes, or all of them. Where every prefix was compared, it looks
-    /// from the leaf's depth on alone: what has no byte there ends there.
+    /// Returns whether the key of a leaf is a prefix of these bytes, or all of them. If every prefix was compared, it
+    /// compares from the leaf's depth on alone: what has no byte there ends there.
     pub fn leaf_key_is_prefix<K: AsBytes, V>(
         self,
         leaf: &LeafNode<K, V>,
@@ -105,9 +105,9 @@ impl PrefixMatchBehavior {
     }
 }
 
-/// The leaf with exactly this key in the tree below a name, or `None` where there is none.
+/// Returns the leaf with exactly this key in the tree below a name, or `None` if there is none.
 ///
-/// The nodes on the key's way are read once each, and no others. Nothing is copied, and no memory is taken.
+/// The nodes on the key's way are read once each, and no others. Nothing is copied or allocated.
 pub fn search_unchecked<K: AsBytes, V, const PREFIX_LEN: usize>(
     arena: &NodeArena<K, V, PREFIX_LEN>,
     root: OpaqueNodePtr,
@@ -120,9 +120,10 @@ pub fn search_unchecked<K: AsBytes, V, const PREFIX_LEN: usize>(
     search_with(&mut reader, root, key)
 }
 
-/// The leaf whose key is a front of this one, or all of it, in the tree below a name, or `None` where there is none.
+/// Returns the leaf whose key is a prefix of this one, or all of it, in the tree below a name, or `None` if there is
+/// none.
 ///
-/// The nodes on the key's way are read once each, and no others. Nothing is copied, and no memory is taken.
+/// The nodes on the key's way are read once each, and no others. Nothing is copied or allocated.
 pub fn prefix_search_unchecked<K: AsBytes, V, const PREFIX_LEN: usize>(
     arena: &NodeArena<K, V, PREFIX_LEN>,
     root: OpaqueNodePtr,
@@ -135,8 +136,8 @@ pub fn prefix_search_unchecked<K: AsBytes, V, const PREFIX_LEN: usize>(
     prefix_search_with(&mut counted, root, key)
 }
 
-/// What `search_unchecked` answers, by a reader that counts each node that is read: those of the key's path. The
-/// greatest count stays.
+/// Returns what `search_unchecked` does, by a reader that counts each node that is read: those of the key's path. The
+/// count stays at the greatest number.
 pub fn search_with<K: AsBytes, V, const PREFIX_LEN: usize>(
     reader: &mut ArenaReader<'_, K, V, PREFIX_LEN>,
     root: OpaqueNodePtr,
@@ -159,8 +160,8 @@ pub fn search_with<K: AsBytes, V, const PREFIX_LEN: usize>(
     }
 }
 
-/// What `prefix_search_unchecked` answers, by a reader that counts each node that is read: those of the key's path. The
-/// greatest count stays.
+/// Returns what `prefix_search_unchecked` does, by a reader that counts each node that is read: those of the key's
+/// path. The count stays at the greatest number.
 pub fn prefix_search_with<K: AsBytes, V, const PREFIX_LEN: usize>(
     reader: &mut ArenaReader<'_, K, V, PREFIX_LEN>,
     root: OpaqueNodePtr,

@@ -3,10 +3,10 @@ ghost use Rattle.art_operations.specs.inner.Meetings.{Meets};
 
 use art_nodes::count_agreeing;
 
-/// Two bytes in which lists differ, behind a common front.
+/// Two bytes in which lists differ, after their longest common prefix.
 #[derive(Clone, Copy, PartialEq, Eq, Debug)]
 pub struct Parted {
-    /// How many bytes the front has.
+    /// How many bytes the common prefix has.
     pub matched: usize,
     /// The byte of the stored list.
     pub old_byte: u8,

@@ -6,14 +6,14 @@ ghost use Rattle.art_arena.specs.arena.Stores.{StoresBelow};
 ghost use Rattle.art_nodes.specs.declared.leaf.LeafNode.{LeafNode};
 ghost use Rattle.art_operations.specs.Held.{HasLeaf};
 ghost use Rattle.art_operations.specs.Lookups.{ReadsPath};
-ghost use Rattle.art_operations.specs.Openings.{ForLongest};
+ghost use Rattle.art_operations.specs.Openings.{ForLongest, ReadsAtLeast};
 ghost use Rattle.art_operations.specs.Whichever.{HasSome, OfEach};
 
 use art_arena::{ArenaReader, End, LeafPtr, NodeArena, end_leaf_with};
 use art_bytes::AsBytes;
 use art_nodes::OpaqueNodePtr;
 
-/// The first leaf below a node: the one with the smallest key.
+/// Returns the first leaf below a node: the one with the smallest key.
 pub fn minimum_unchecked<K: AsBytes, V, const PREFIX_LEN: usize>(
     arena: &NodeArena<K, V, PREFIX_LEN>,
     root: OpaqueNodePtr,
@@ -26,7 +26,7 @@ pub fn minimum_unchecked<K: AsBytes, V, const PREFIX_LEN: usize>(
     minimum_with(&mut reader, root)
 }
 
-/// The last leaf below a node: the one with the greatest key.
+/// Returns the last leaf below a node: the one with the greatest key.
 pub fn maximum_unchecked<K: AsBytes, V, const PREFIX_LEN: usize>(
     arena: &NodeArena<K, V, PREFIX_LEN>,
     root: OpaqueNodePtr,
@@ -39,8 +39,8 @@ pub fn maximum_unchecked<K: AsBytes, V, const PREFIX_LEN: usize>(
     maximum_with(&mut reader, root)
 }
 
-/// What `minimum_unchecked` answers, by a reader that counts each node that is read: those of the path of the leaf's
-/// key below the node, the leaf included. The greatest count stays.
+/// Returns what `minimum_unchecked` does, by a reader that counts each node that is read: those of the path of the
+/// leaf's key below the node, the leaf included. The count stays at the greatest number.
 #[inline(always)]
 pub fn minimum_with<K: AsBytes, V, const PREFIX_LEN: usize>(
     reader: &mut ArenaReader<'_, K, V, PREFIX_LEN>,
@@ -53,14 +53,15 @@ pub fn minimum_with<K: AsBytes, V, const PREFIX_LEN: usize>(
     ensures counts { OfEach (StoresBelow K.bytes PREFIX_LEN reader.old.arena.now root)
         (λ path s. (l : LeafNode K V) → HasLeaf reader.old.arena.now result l
         → ReadsPath (drop (length path) (K.bytes l.key)) s reader.old.count reader.new.count) }
+    ensures least { ReadsAtLeast 1 reader.old.count reader.new.count }
     ensures few { OfEach (StoresBelow K.bytes PREFIX_LEN reader.old.arena.now root)
         (λ path s. ForLongest K.bytes s (λ longest. reader.new.count ≤ reader.old.count + (longest + 1))) }
 {
     end_leaf_with(reader, root, End::First).name
 }
 
-/// What `maximum_unchecked` answers, by a reader that counts each node that is read: those of the path of the leaf's
-/// key below the node, the leaf included. The greatest count stays.
+/// Returns what `maximum_unchecked` does, by a reader that counts each node that is read: those of the path of the
+/// leaf's key below the node, the leaf included. The count stays at the greatest number.
 #[inline(always)]
 pub fn maximum_with<K: AsBytes, V, const PREFIX_LEN: usize>(
     reader: &mut ArenaReader<'_, K, V, PREFIX_LEN>,
@@ -73,6 +74,7 @@ pub fn maximum_with<K: AsBytes, V, const PREFIX_LEN: usize>(
     ensures counts { OfEach (StoresBelow K.bytes PREFIX_LEN reader.old.arena.now root)
         (λ path s. (l : LeafNode K V) → HasLeaf reader.old.arena.now result l
         → ReadsPath (drop (length path) (K.bytes l.key)) s reader.old.count reader.new.count) }
+    ensures least { ReadsAtLeast 1 reader.old.count reader.new.count }
     ensures few { OfEach (StoresBelow K.bytes PREFIX_LEN reader.old.arena.now root)
         (λ path s. ForLongest K.bytes s (λ longest. reader.new.count ≤ reader.old.count + (longest + 1))) }
 {

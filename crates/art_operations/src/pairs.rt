@@ -1,5 +1,5 @@
 //! Insertion and deletion, told by the pairs that an arena has: commands and maps stand on these.
-ghost use Rattle.std.specs.Prelude.{◌≡◌, ◌+◌, List, [], Some, None, IfErr, IfOk, IfSome, IsOk, OnErr};
+ghost use Rattle.std.specs.Prelude.{◌≡◌, ◌+◌, List, [], Some, None, IfErr, IfOk, IfSome, IsOk, OnErr, OnOk};
 ghost use Rattle.art_nodes.specs.Name.{Name};
 ghost use Rattle.art_arena.specs.arena.Arena.{node_at, HasRoom, KeepsNodes, SameNodes, UsesRoom};
 ghost use Rattle.art_arena.specs.arena.Cells.{Cell, HoldsOnly};
@@ -10,9 +10,10 @@ ghost use Rattle.art_arena.specs.tree.Shrinks.{Shrinks};
 ghost use Rattle.art_operations.specs.DeletePoints.{IsLeafPlace};
 ghost use Rattle.art_operations.specs.Insertions.{HandsPairBack, IsForConflict, IsPairRefused};
 ghost use Rattle.art_operations.specs.KeyedLists.{HasKey, IsBlocked};
+ghost use Rattle.art_operations.specs.LeafNames.{HasLeavesOf, KeepsLeavesOf};
 ghost use Rattle.art_operations.specs.Pairs.{CanPutBeside, CanPutOverBeside, HasPairsAt, HasPutBeside};
 ghost use Rattle.art_operations.specs.Pairs.{HasPutOverBeside, HasTakenBeside, HasTakenEndBeside, IsPlacedBeside};
-ghost use Rattle.art_operations.specs.Pairs.{IsPlaceFor, ShrinksAtEnd, TellsConflict};
+ghost use Rattle.art_operations.specs.Pairs.{IsPlaceFor, ShrinksAtEnd, TellsConflict, with_pair_over};
 ghost use Rattle.art_operations.specs.Whichever.{HasSome, HasTree, OfEach, OfTree};
 
 use crate::delete::point::{
@@ -30,9 +31,10 @@ use art_bytes::AsBytes;
 use art_nodes::OpaqueNodePtr;
 use std::alloc::AllocError;
 
-/// Finds where a key goes: its point in the tree, or nowhere where there is no pair yet. It is refused where the key is
-/// a front of a stored key, or a stored key is one of it: the refusal tells the part of the tree that has these keys.
-/// It takes no memory.
+/// Finds where a key goes: its point in the tree, or `None` if there is no pair yet. It allocates nothing.
+///
+/// Fails if the key is a prefix of a stored key, or a stored key is a prefix of it. The error names the part of the
+/// tree that has these keys.
 #[inline(always)]
 pub fn find_place<K: AsBytes, V, const PREFIX_LEN: usize>(
     arena: &NodeArena<K, V, PREFIX_LEN>,
@@ -64,6 +66,7 @@ fn put_first<K: AsBytes, V, const PREFIX_LEN: usize>(
         → HasPutBeside K.bytes PREFIX_LEN arena.new rest [] key value put) }
     ensures others { IfOk result (λ put. (rest : List (Name × Cell K V)) → HoldsOnly (node_at arena.old) rest
         → KeepsNodes rest arena.old arena.new) }
+    ensures names { OnOk result (HasLeavesOf K.bytes arena.new arena.old) }
     ensures err { OnErr result (SameNodes arena.old arena.new) }
     ensures handed_back { HandsPairBack key value result }
     ensures succeeds { HasRoom arena.old 1 → IsOk result }
@@ -78,9 +81,10 @@ fn put_first<K: AsBytes, V, const PREFIX_LEN: usize>(
     })
 }
 
-/// Puts a key and its value in at the place that was found for the key. A pair that has the key already is answered,
-/// and this one takes its leaf: that is never refused. Where there is no memory, the key and the value are handed back,
-/// and nothing changed. Whatever stands beside the tree stays as it is.
+/// Inserts a key and its value at the place that was found for the key. It returns a pair that has the key already,
+/// whose leaf the new one takes: that never fails. Whatever stands beside the tree is unchanged.
+///
+/// Fails if out of memory. The error returns the key and the value, and nothing changed.
 #[inline(always)]
 pub fn put_pair<K: AsBytes, V, const PREFIX_LEN: usize>(
     arena: &mut NodeArena<K, V, PREFIX_LEN>,
@@ -97,6 +101,7 @@ pub fn put_pair<K: AsBytes, V, const PREFIX_LEN: usize>(
         (λ pairs rest. KeepsNodes rest arena.old arena.new)) }
     ensures stored { OfEach (λ pairs rest. CanPutBeside K.bytes PREFIX_LEN arena.old rest place (K.bytes key) pairs)
         (λ pairs rest. HasKey (key_of K.bytes) (K.bytes key) pairs → IsOk result) }
+    ensures names { OnOk result (HasLeavesOf K.bytes arena.new arena.old) }
     ensures err { OnErr result (SameNodes arena.old arena.new) }
     ensures handed_back { HandsPairBack key value result }
     ensures succeeds { HasRoom arena.old 2 → IsOk result }
@@ -118,11 +123,12 @@ fn no_memory<K, V>(refused: InsertRefused<K, V>) -> PairRefused<K, V>
     }
 }
 
-/// Puts a key and its value in at the place of the key: what `find_place` and `put_pair` do, in one descent and with no
-/// place named in between. A pair that has the key already is answered, and this one takes its leaf: that is never
-/// refused. It is refused where the key is a front of a stored key, or a stored key is one of it, and where there is no
-/// memory. Then the key and the value are handed back, and nothing changed. Whatever stands beside the tree stays as
-/// it is.
+/// Inserts a key and its value at the place of the key: what `find_place` and `put_pair` do, in one descent and with no
+/// place named in between. It returns a pair that has the key already, whose leaf the new one takes: that never fails.
+/// Whatever stands beside the tree is unchanged.
+///
+/// Fails if the key is a prefix of a stored key, or a stored key is a prefix of it, and if out of memory. The error
+/// returns the key and the value, and nothing changed.
 #[inline(always)]
 pub fn insert_pair<K: AsBytes, V, const PREFIX_LEN: usize>(
     arena: &mut NodeArena<K, V, PREFIX_LEN>,
@@ -139,6 +145,7 @@ pub fn insert_pair<K: AsBytes, V, const PREFIX_LEN: usize>(
         (λ pairs rest. IsBlocked (key_of K.bytes) (K.bytes key) pairs → ⊥)) }
     ensures stored { OfEach (HasPairsAt K.bytes PREFIX_LEN arena.old root)
         (λ pairs rest. HasKey (key_of K.bytes) (K.bytes key) pairs → IsOk result) }
+    ensures names { OnOk result (HasLeavesOf K.bytes arena.new arena.old) }
     ensures err { OnErr result (SameNodes arena.old arena.new) }
     ensures refused { IfErr result (λ e. OfEach (HasPairsAt K.bytes PREFIX_LEN arena.old root)
         (λ pairs rest. IsPairRefused key value (IsBlocked (key_of K.bytes) (K.bytes key) pairs) e)) }
@@ -163,8 +170,8 @@ pub fn insert_pair<K: AsBytes, V, const PREFIX_LEN: usize>(
     }
 }
 
-/// Finds where a key goes that takes the place of all whose keys overlap it: those that are its bytes, a front of them,
-/// or begin with them. It is nowhere where there is no pair yet. It is never refused, and takes no memory.
+/// Finds where a key goes that is inserted in place of all whose keys overlap it. These are its bytes, or a prefix of
+/// them, or begin with them. It returns `None` if there is no pair yet. It never fails, and allocates nothing.
 pub fn find_place_over<K: AsBytes, V, const PREFIX_LEN: usize>(
     arena: &NodeArena<K, V, PREFIX_LEN>,
     root: Option<OpaqueNodePtr>,
@@ -180,10 +187,11 @@ pub fn find_place_over<K: AsBytes, V, const PREFIX_LEN: usize>(
     }
 }
 
-/// Puts a key and its value in at the place that was found for the key by `find_place_over`: the pairs whose keys
-/// overlap it go, and their number is `pairs_removed` of the answer. Where a pair has the key already, this one takes
-/// its leaf: that is never refused. Where there is no memory, the key and the value are handed back, and nothing
-/// changed. Whatever stands beside the tree stays as it is.
+/// Inserts a key and its value at the place that was found for the key by `find_place_over`. The pairs whose keys
+/// overlap it go, and their number is `pairs_removed` of the result. If a pair has the key already, this one takes its
+/// leaf: that never fails. Whatever stands beside the tree is unchanged.
+///
+/// Fails if out of memory. The error returns the key and the value, and nothing changed.
 pub fn put_over<K: AsBytes + Drop, V: Drop, const PREFIX_LEN: usize>(
     arena: &mut NodeArena<K, V, PREFIX_LEN>,
     place: Option<PrefixInsertPoint>,
@@ -197,6 +205,9 @@ pub fn put_over<K: AsBytes + Drop, V: Drop, const PREFIX_LEN: usize>(
     ensures others { IfOk result (λ put. OfEach
         (λ pairs rest. CanPutOverBeside K.bytes PREFIX_LEN arena.old rest place (K.bytes key) pairs)
         (λ pairs rest. KeepsNodes rest arena.old arena.new)) }
+    ensures names { IfOk result (λ put. OfEach
+        (λ pairs rest. CanPutOverBeside K.bytes PREFIX_LEN arena.old rest place (K.bytes key) pairs)
+        (λ pairs rest. KeepsLeavesOf K.bytes (with_pair_over K.bytes key value pairs) arena.old arena.new)) }
     ensures stored { OfEach (λ pairs rest. CanPutOverBeside K.bytes PREFIX_LEN arena.old rest place (K.bytes key) pairs)
         (λ pairs rest. HasKey (key_of K.bytes) (K.bytes key) pairs → IsOk result) }
     ensures err { OnErr result (SameNodes arena.old arena.new) }
@@ -213,9 +224,11 @@ pub fn put_over<K: AsBytes + Drop, V: Drop, const PREFIX_LEN: usize>(
     }
 }
 
-/// Takes the pair with a key out, and answers its leaf, with open ends; or nothing where no pair has the key. It is
-/// refused only where the loss of the leaf makes a node one of the next smaller kind, and there is no memory for that
-/// one: nothing changed then. Whatever stands beside the tree stays as it is.
+/// Removes the pair with a key, and returns its leaf, with open ends, or `None` if no pair has the key. Whatever stands
+/// beside the tree is unchanged.
+///
+/// Fails only if the removal turns a node into one of the next smaller kind, and there is no memory for that one.
+/// Nothing changed then.
 pub fn take_pair<K: AsBytes, V, const PREFIX_LEN: usize>(
     arena: &mut NodeArena<K, V, PREFIX_LEN>,
     root: Option<OpaqueNodePtr>,
@@ -228,6 +241,7 @@ pub fn take_pair<K: AsBytes, V, const PREFIX_LEN: usize>(
         (deleted.deleted_leaf.previous ≡ None) × (deleted.deleted_leaf.next ≡ None))) }
     ensures others { IfOk result (λ taken. OfEach (HasPairsAt K.bytes PREFIX_LEN arena.old root)
         (λ pairs rest. KeepsNodes rest arena.old arena.new)) }
+    ensures names { OnOk result (HasLeavesOf K.bytes arena.old arena.new) }
     ensures err { OnErr result (SameNodes arena.old arena.new) }
     ensures shrinks { OnErr result (OfEach (HasPairsAt K.bytes PREFIX_LEN arena.old root)
         (λ pairs rest. HasKey (key_of K.bytes) key.now pairs × Shrinks (key_of K.bytes) pairs key.now)) }
@@ -246,9 +260,11 @@ pub fn take_pair<K: AsBytes, V, const PREFIX_LEN: usize>(
     }
 }
 
-/// Takes the pair at an end out, and answers its leaf, with open ends; or nothing where there is no pair. It is refused
-/// only where the loss of the leaf makes a node one of the next smaller kind, and there is no memory for that one:
-/// nothing changed then. Whatever stands beside the tree stays as it is.
+/// Removes the pair at an end, and returns its leaf, with open ends, or `None` if there is no pair. Whatever stands
+/// beside the tree is unchanged.
+///
+/// Fails only if the removal turns a node into one of the next smaller kind, and there is no memory for that one.
+/// Nothing changed then.
 pub fn take_end<K: AsBytes, V, const PREFIX_LEN: usize>(
     arena: &mut NodeArena<K, V, PREFIX_LEN>,
     root: Option<OpaqueNodePtr>,
@@ -261,6 +277,7 @@ pub fn take_end<K: AsBytes, V, const PREFIX_LEN: usize>(
         (deleted.deleted_leaf.previous ≡ None) × (deleted.deleted_leaf.next ≡ None))) }
     ensures others { IfOk result (λ taken. OfEach (HasPairsAt K.bytes PREFIX_LEN arena.old root)
         (λ pairs rest. KeepsNodes rest arena.old arena.new)) }
+    ensures names { OnOk result (HasLeavesOf K.bytes arena.old arena.new) }
     ensures err { OnErr result (SameNodes arena.old arena.new) }
     ensures shrinks { OnErr result (OfEach (HasPairsAt K.bytes PREFIX_LEN arena.old root)
         (λ pairs rest. ShrinksAtEnd K.bytes end pairs)) }

@@ -31,8 +31,8 @@ pub(crate) fn last_step(path: TreePath) -> Option<(OpaqueNodePtr, u8)>
     }
 }
 
-/// Lets the inner node above a place, which the last step to the place tells, have this node there, and answers the
-/// name of the root, which is the node itself where there is none above.
+/// Puts this node at a place below the inner node above it, which the last step to the place tells. Returns the name of
+/// the root, which is the node itself if there is none above.
 #[inline(always)]
 pub(crate) fn put_below<K: AsBytes, V, const PREFIX_LEN: usize>(
     arena: &mut NodeArena<K, V, PREFIX_LEN>,
@@ -61,7 +61,7 @@ pub(crate) fn put_below<K: AsBytes, V, const PREFIX_LEN: usize>(
     }
 }
 
-/// The same, by the path to the place.
+/// Puts this node at a place as `put_below` does, by the path to the place.
 #[inline(always)]
 pub(crate) fn repoint<K: AsBytes, V, const PREFIX_LEN: usize>(
     arena: &mut NodeArena<K, V, PREFIX_LEN>,

@@ -1,4 +1,4 @@
-//! A key that takes the place of all with which it can't stand together.
+//! A key that is inserted in place of all with which it is in conflict.
 
 pub mod apply;
 pub mod point;

@@ -20,9 +20,9 @@ use std::alloc::{AllocError, Global};
 /// What is done to the tree.
 #[derive(Debug, Drop)]
 pub enum Command<K, V> {
-    /// Stores a value under a key, in the place of the pair with that key if there is one.
+    /// Stores a value under a key, in place of the pair with that key if there is one.
     Insert(K, V),
-    /// Stores a value under a key, in the place of all pairs whose keys are the same, a front of it, or begin with it.
+    /// Stores a value under a key, in place of all pairs whose keys are the same, a prefix of it, or begin with it.
     PrefixInsert(K, V),
     /// Removes the pair with a key.
     Delete(K),
@@ -30,14 +30,14 @@ pub enum Command<K, V> {
     Clone,
 }
 
-/// What a command answers.
+/// What a command returns.
 #[derive(Clone, Copy, PartialEq, Eq, Debug)]
 pub enum Answer {
     /// It was done, and replaced or removed so many pairs.
     Done(usize),
-    /// Its key is a front of a stored key, or a stored key is one of it. Nothing changed.
+    /// Its key is a prefix of a stored key, or a stored key is a prefix of it. Nothing changed.
     Prefix,
-    /// No memory was found for it. Nothing changed.
+    /// The command was out of memory. Nothing changed.
     Memory,
 }
 
@@ -283,11 +283,14 @@ fn carry_out<K: AsBytes + Clone, V: Clone, const PREFIX_LEN: usize>(
     }
 }
 
-/// Carries out the commands one after the other, from no pair on, and answers each in turn. An insertion is answered
-/// `Prefix` exactly where its key is in conflict with a stored one, which takes no memory. A command whose key or value
-/// can't be cloned, or for whose nodes there is no memory, is refused and changes nothing; where the key is stored
-/// already, an insertion of either kind needs clones alone. With each `Clone` the tree may be a clone of a clone once
-/// more. The run itself is refused only where there is no memory for the answers, before the first command.
+/// Carries out the commands one after the other, from no pair on, and returns an answer to each in turn.
+///
+/// An insertion is answered `Prefix` exactly if its key is in conflict with a stored one, which needs no memory. A
+/// command whose key or value can't be cloned, or for whose nodes there is no memory, is answered `Memory` and changes
+/// nothing. If the key is stored already, an insertion of either kind needs clones alone. With each `Clone` the tree
+/// may be a clone of a clone once more.
+///
+/// The run itself fails only if there is no memory for the answers, before the first command.
 pub fn run<K: AsBytes + Clone, V: Clone, const PREFIX_LEN: usize>(
     alloc: Global,
     commands: &[Command<K, V>],

@@ -1,4 +1,4 @@
-//! The callers that `CALLING.md` of art_operations shows, letter for letter; tests in `lookups.rt` and `callers.rt` run
+//! Callers of art_operations, of which its README.md shows one; tests in `lookups.rt` and `callers.rt` run
 //! them.
 
 ghost use Rattle.std.specs.Prelude.{◌≡◌, [], ℕ, List, Some, IfNone, IfOk, IfSome, IsTrue, OnErr};

@@ -1,4 +1,4 @@
-//! Tests of art_operations: the callers of its CALLING.md, two trees in one arena, and the calls that no crate above
+//! Tests of art_operations: the callers of its README.md, two trees in one arena, and the calls that no crate above
 //! makes. The others are made by scripts, through play_operations, where each request for memory is refused in turn.
 #![tactic(auto)]
 

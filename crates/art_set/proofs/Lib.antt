@@ -1,7 +1,10 @@
 pub mod Seen
 pub mod MergeLemmas
 pub mod MergeOrder
+pub mod Comparisons
 pub mod AskedKeys
 pub mod AskedPairs
 pub mod KeyPuts
+pub mod KeyPairs
+pub mod MembersBehind
 pub mod KeyCompares

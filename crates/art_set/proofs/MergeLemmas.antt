@@ -1,6 +1,6 @@
 -- The first key of two ascending lists, and what a merge of them has behind it.
-use Rattle.std.proofs.Common.{◌≡◌, ℕ, ◌+◌, ◌<◌, ◌≤◌, ◌==◌, Bool, true, false, not, cond, ◌&&◌, ◌||◌, bytes_eq, List, [], ◌∷◌, refl, sym, ap, ap₂, ◌∙◌, subst, arith, length, eqb-true, Option, Some, None}
-use Rattle.std.specs.Prelude.{filter, is_some, ⊤}
+use Rattle.std.proofs.Common.{◌≡◌, ℕ, ◌+◌, ◌-◌, ◌^◌, ◌<◌, ◌≤◌, ◌==◌, min, Bool, true, false, not, cond, ◌&&◌, ◌||◌, bytes_eq, List, [], ◌∷◌, refl, sym, ap, ap₂, ◌∙◌, subst, arith, length, eqb-true, Option, Some, None}
+use Rattle.std.specs.Prelude.{filter, is_some, ⊤, IfNone}
 use Rattle.std.specs.Bool.{OnFalse}
 use Rattle.std.specs.List.{AllByRecursion, list_all}
 use Rattle.std.specs.Ordering.{is_lt, ordering_reverse}
@@ -10,7 +10,7 @@ use Rattle.std.proofs.lemmas.Cmp.{nat_list_cmp_total}
 use Rattle.std.proofs.lemmas.Map.Text.{is_eq-slice_cmp}
 use Rattle.std.specs.Ordering.{is_eq}
 use Rattle.art_bytes.specs.Keys.{bytes_cmp, is_below}
-use Rattle.art_set.specs.inner.Merging.{Beside, IsCompared, keys_left, merge_of, merging, of_first, of_second, merged}
+use Rattle.art_set.specs.inner.Merging.{Beside, IsCompared, keys_left, steps_left, merge_of, merging, of_first, of_second, merged}
 use Rattle.art_set.specs.declared.merges.sides.Wanted.{Wanted}
 use Rattle.std.specs.Borrow.{Bor}
 use Rattle.std.specs.Iterator.{MakesProgress, at_most}
@@ -29,7 +29,7 @@ differs k l e = sym (is_eq-slice_cmp k l) ∙ ap is_eq e
 pub differs-turned : (k l : List ℕ) → bytes_cmp k l ≡ Less → bytes_eq l k ≡ false
 differs-turned k l e = sym (is_eq-slice_cmp l k) ∙ ap is_eq (turned k l Less e)
 
-agrees : (k l : List ℕ) → bytes_cmp k l ≡ Equal → bytes_eq k l ≡ true
+pub agrees : (k l : List ℕ) → bytes_cmp k l ≡ Equal → bytes_eq k l ≡ true
 agrees k l e = sym (is_eq-slice_cmp k l) ∙ ap is_eq e
 
 module _ {X : Type 0} where
@@ -68,7 +68,7 @@ module _ {K : Type 0} (bytes : K → List ℕ) where
   AreAbove x ys = AllByRecursion (λ y. bytes_cmp (bytes x) (bytes y) ≡ Less) ys
 
   -- so none has its bytes
-  above-lack : (x : K) (ys : List K) → AreAbove x ys → is_member bytes (bytes x) ys ≡ false
+  pub above-lack : (x : K) (ys : List K) → AreAbove x ys → is_member bytes (bytes x) ys ≡ false
   above-lack x [] h = refl
   above-lack x (y ∷ ys) h = rw (differs-turned (bytes x) (bytes y) h.0) (above-lack x ys h.1)
 
@@ -80,7 +80,7 @@ module _ {K : Type 0} (bytes : K → List ℕ) where
   above-same x y ys e h = all-map _ _ (λ z f. nat_list_cmp_total.congr (bytes x) (bytes y) (bytes z) e ∙ f) ys h
 
   -- a key below all that are asked is not what they are asked for
-  behind : (x : K) (xs ys : List K) → AreAbove x ys → AllByRecursion (λ y. is_member bytes (bytes y) (x ∷ xs) ≡ is_member bytes (bytes y) xs) ys
+  pub behind : (x : K) (xs ys : List K) → AreAbove x ys → AllByRecursion (λ y. is_member bytes (bytes y) (x ∷ xs) ≡ is_member bytes (bytes y) xs) ys
   behind x xs ys h = all-map _ (λ y. is_member bytes (bytes y) (x ∷ xs) ≡ is_member bytes (bytes y) xs) (λ y e. rw (differs (bytes x) (bytes y) e) refl) ys h
 
   put-first : (x : K) (ys : List K) → AreAbove x ys → put_below bytes x ys ≡ x ∷ ys
@@ -214,9 +214,24 @@ module _ {K : Type 0} (bytes : K → List ℕ) where
   pub above-none : (x : K) (ys : List K) → ys ≡ [] → AreAbove x ys
   above-none x ys e = subst (AreAbove x) (sym e) tt
 
--- one comparison is counted, and a key was met
-pub compared : {K : Type 0} (s t : Beside K) → (s.comparisons ≤ t.comparisons) × (t.comparisons ≤ s.comparisons + 1) → keys_left t < keys_left s → IsCompared s t
-compared s t e less = let f = e.0 in let g = e.1 in record { counted = f; bound = omega (arith, g, less) }
+-- one comparison is counted and no longer to be made, and a key was met
+pub compared : {K : Type 0} (bytes : K → List ℕ) (s t : Beside K) → t.comparisons ≡ min (s.comparisons + 1) (2 ^ 64 - 1) → steps_left bytes s ≡ 1 + steps_left bytes t → keys_left t < keys_left s → IsCompared bytes s t
+compared bytes s t e one less = record { fewer = omega (arith, one); counted = omega (arith, e, one); most = omega (arith, e, one); bound = omega (arith, e, less) }
+
+-- none is, where one of the lists is at its end
+pub not-compared : {K : Type 0} (bytes : K → List ℕ) (s t : Beside K) → t.comparisons ≡ s.comparisons → steps_left bytes s ≡ 0 → steps_left bytes t ≡ 0 → keys_left t < keys_left s → IsCompared bytes s t
+not-compared bytes s t e none left less = record { fewer = omega (arith, none, left); counted = omega (arith, e, none, left); most = omega (arith, e, none, left); bound = omega (arith, e, less) }
+
+-- nor where nothing is done
+pub compared-none : {K : Type 0} (bytes : K → List ℕ) (s : Beside K) → IsCompared bytes s s
+compared-none bytes s = record { fewer = omega arith; counted = omega arith; most = omega arith; bound = omega arith }
+
+-- and so from one step to a later one
+pub compared-on : {K : Type 0} (bytes : K → List ℕ) (s t u : Beside K) → IsCompared bytes s t → IsCompared bytes t u → IsCompared bytes s u
+compared-on bytes s t u first second =
+    let a = first.fewer in let b = first.counted in let c = first.most in let d = first.bound in
+    let e = second.fewer in let f = second.counted in let g = second.most in let h = second.bound in
+    record { fewer = omega (arith, a, e); counted = omega (arith, a, b, e, f); most = omega (arith, a, c, e, g); bound = omega (arith, d, h) }
 
 pub one-less : {X : Type 0} (x : X) (xs on : List X) (n : ℕ) → xs ≡ x ∷ on → length on + n < length xs + n
 one-less x xs on n e = let l = ap length e in omega (arith, l)
@@ -248,11 +263,14 @@ none-of-second bytes w xs ys e = pick w.first
 
 -- what comes of two lists is what the merge gives of them
 pub gives : {K : Type 0} (bytes : K → List ℕ) (w : Wanted) (of : List K → List K → List K) → ((xs ys : List K) → merged bytes w.first w.both w.second xs ys ≡ of xs ys)
-    → (s t : Beside K) (r : Option (Bor K)) → TakesFirst deref (merging bytes w s) r (merging bytes w t) → IsCompared s t → GivesNext (merge_of of s) r (merge_of of t)
-gives bytes w of same s t r takes compared = record {
+    → (s t : Beside K) (r : Option (Bor K)) → TakesFirst deref (merging bytes w s) r (merging bytes w t) → IsCompared bytes s t → IfNone r (steps_left bytes t ≡ 0) → GivesNext (merge_of bytes of s) r (merge_of bytes of t)
+gives bytes w of same s t r takes compared ended = record {
   first = subst (λ xs. TakesFirst deref xs r (of t.first t.second)) (same s.first s.second) (subst (λ xs. TakesFirst deref (merging bytes w s) r xs) (same t.first t.second) takes);
+  fewer = compared.fewer;
   counted = compared.counted;
+  most = compared.most;
   bound = compared.bound;
+  ended = ended;
 }
 
 -- and one key fewer is left then

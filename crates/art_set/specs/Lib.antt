@@ -1,7 +1,9 @@
 pub mod Members
+pub mod Pairs
 pub mod Changes
 pub mod Merges
 pub mod Asked
 pub mod Lends
+pub mod Laws
 pub mod Bulk
 pub mod inner

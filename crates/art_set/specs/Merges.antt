@@ -1,8 +1,9 @@
 -- Two ascending lists of keys: what they have in common, what one has alone, and what they have together.
-use Rattle.std.specs.Prelude.{◌≡◌, ℕ, ◌+◌, ◌≤◌, Bool, not, if◌then◌else◌, List, [], ◌∷◌, filter, Option}
+use Rattle.std.specs.Prelude.{◌≡◌, ℕ, ◌+◌, ◌-◌, ◌^◌, ◌≤◌, min, Bool, not, if◌then◌else◌, List, [], ◌∷◌, filter, length}
+use Rattle.std.specs.Prelude.{Option, IfNone}
 use Rattle.std.specs.Borrow.{Bor}
 use Rattle.std.specs.Map.Iter.{TakesFirst, deref}
-use Rattle.std.specs.List.{AllByRecursion, list_all}
+use Rattle.std.specs.List.{AllByRecursion, list_all, list_any}
 use Rattle.std.specs.declared.cmp.Ordering.TheVariants.{Less}
 use Rattle.art_bytes.specs.Keys.{bytes_cmp, is_below}
 use Rattle.art_set.specs.Members.{is_member}
@@ -39,20 +40,36 @@ module _ {K : Type 0} (bytes : K → List ℕ) where
   abbrev pub is_subset_of : List K → List K → Bool
   is_subset_of xs ys = list_all (λ x. is_member bytes (bytes x) ys) xs
 
+  -- whether a key of the list is not below this one
+  abbrev pub has_not_below : K → List K → Bool
+  has_not_below x ys = list_any (λ y. not (is_below (bytes y) (bytes x))) ys
+
+  -- How many comparisons a merge of two ascending lists needs: one for each step in which both have a key left. These
+  -- are the steps at the keys, one that both have taken once, that don't lie behind all of the other list.
+  abbrev pub comparisons_of : List K → List K → ℕ
+  comparisons_of xs ys = length (filter (λ x. has_not_below x ys) xs)
+      + length (filter (λ y. has_not_below y xs) (difference_of ys xs))
+
   -- the bytes of each key are below those of all later ones
   abbrev pub AscendsInBytes : List K → Type 0
   AscendsInBytes [] = Unit {0}
   AscendsInBytes (x ∷ xs) = AllByRecursion (λ y. bytes_cmp (bytes x) (bytes y) ≡ Less) xs × AscendsInBytes xs
 
--- what is left of a merge: the keys that are still to come, how many comparisons were made, and how many keys of both
--- sets it has not gone past
+-- what is left of a merge: the keys that are still to come, how many comparisons were made, how many it needs to its
+-- end, and how many keys of both sets it has not gone past
 pub record Merge (K : Type 0) : Type 0 where
   pub rest : List K
   pub comparisons : ℕ
+  pub to_compare : ℕ
   pub unmet : ℕ
 
--- A call gave the first key that was still to come, or none. It made at most as many comparisons as it went past keys.
+-- A call gave the first key that was still to come, or none. It made the comparisons that it went past, each once, and
+-- counted each, until the greatest count; at most as many as it went past keys. Where it gave none, none is left to be
+-- made.
 pub record GivesNext {K : Type 0} (s : Merge K) (r : Option (Bor K)) (t : Merge K) : Type 0 where
   pub first : TakesFirst deref s.rest r t.rest
-  pub counted : s.comparisons ≤ t.comparisons
+  pub fewer : t.to_compare ≤ s.to_compare
+  pub counted : min (s.comparisons + (s.to_compare - t.to_compare)) (2 ^ 64 - 1) ≤ t.comparisons
+  pub most : t.comparisons ≤ s.comparisons + (s.to_compare - t.to_compare)
   pub bound : t.comparisons + t.unmet ≤ s.comparisons + s.unmet
+  pub ended : IfNone r (t.to_compare ≡ 0)

@@ -1,4 +1,4 @@
-//! Walks over the keys of one set.
+//! Iterators over the keys of one set.
 ghost use Rattle.std.specs.Prelude.{◌≡◌, IfSome, Some, length, ⊤};
 ghost use Rattle.std.specs.Iterator.{UpTo, at_most};
 ghost use Rattle.std.specs.Iterator.SizeHint.{IsWithinCount};
@@ -6,13 +6,14 @@ ghost use Rattle.std.specs.Map.{keys_of};
 ghost use Rattle.std.specs.Map.Iter.{TakesFirst, TakesLast, deref};
 
 pub mod extract_if;
+pub mod prefix;
 
 use art_arena::NodeArena;
 use std::alloc::AllocError;
 use std::iter::FusedIterator;
 use std::marker::Model;
 
-/// The keys of a set in order, from either end. It is seen as the list of those still to come.
+/// An iterator over the keys of a set in order, from either end. A contract sees it as the list of those still to come.
 ///
 /// The last parameter is never written: it tells the borrow check that the arena lives as long as it is lent.
 #[derive(Drop)]
@@ -88,9 +89,10 @@ impl<'a, K, const PREFIX_LEN: usize> ExactSizeIterator for Iter<'a, K, PREFIX_LE
     }
 }
 
-/// The keys of a set in order, from either end, by value. It is seen as the list of those still to come.
+/// An iterator over the keys of a set in order, from either end, which it owns. A contract sees it as the list of those
+/// still to come.
 ///
-/// Where it is dropped, the rest is dropped with it.
+/// If it is dropped, the keys still to come are dropped with it.
 #[derive(Drop)]
 pub struct IntoIter<K, const PREFIX_LEN: usize> {
     inner: art_walks::IntoKeys<K, (), PREFIX_LEN>,
@@ -150,8 +152,8 @@ impl<K: Drop, const PREFIX_LEN: usize> ExactSizeIterator for IntoIter<K, PREFIX_
     }
 }
 
-/// The keys of a range of a set in order, from either end. It is seen as the list of those still to come, and does not
-/// know how many they are.
+/// An iterator over the keys of a range of a set in order, from either end. A contract sees it as the list of those
+/// still to come. It does not know how many they are.
 #[derive(Drop)]
 pub struct Range<'a, K, const PREFIX_LEN: usize, M: 'a = NodeArena<K, (), PREFIX_LEN>> {
     inner: art_walks::Range<'a, K, (), PREFIX_LEN, M>,

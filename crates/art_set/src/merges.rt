@@ -1,8 +1,9 @@
-//! The keys of two sets, walked side by side: what a set has alone, what both have in common, what they have together.
-//! Each is a walk forward, ascending by the bytes of the keys, that counts its comparisons.
+//! The keys of two sets, gone through side by side: what a set has alone, what both have in common, what they have
+//! together. Each merge is an iterator forward, ascending by the bytes of the keys. It counts its comparisons.
 ghost use Rattle.std.specs.Prelude.{◌≡◌, ◌+◌, length};
 ghost use Rattle.std.specs.Iterator.{at_most};
-ghost use Rattle.art_set.specs.Merges.{GivesNext, difference_of, intersection_of, symmetric_difference_of, union_of};
+ghost use Rattle.art_set.specs.Merges.{GivesNext, comparisons_of, difference_of, intersection_of};
+ghost use Rattle.art_set.specs.Merges.{symmetric_difference_of, union_of};
 
 mod peeked;
 mod sides;
@@ -14,8 +15,8 @@ pub(crate) use sides::{Sides, Wanted};
 use std::iter::FusedIterator;
 use std::marker::Model;
 
-/// The keys of a set that another set lacks, ascending by their bytes. It is seen as the list of those still to come,
-/// with the number of comparisons made.
+/// An iterator over the keys of a set that another set lacks, ascending by their bytes. A contract sees it as the list
+/// of those still to come, with the number of comparisons made.
 #[derive(Drop)]
 pub struct Difference<
     'a,
@@ -33,19 +34,31 @@ impl<'a, K: OrderedBytes, const PREFIX_LEN: usize, M: 'a> Model
 
     ghost Value = { Merge K };
 
-    ghost view = { λ it. merge_of (difference_of K.bytes) it.sides };
+    ghost view = { λ it. merge_of K.bytes (difference_of K.bytes) it.sides };
 }
 
 impl<'a, K: OrderedBytes, const PREFIX_LEN: usize> Difference<'a, K, PREFIX_LEN> {
     pub(crate) fn new(sides: Sides<'a, K, PREFIX_LEN>) -> Self
         ensures rest { result.rest ≡ difference_of K.bytes sides.entry.first sides.entry.second }
         ensures comparisons { result.comparisons ≡ sides.entry.comparisons }
+        ensures to_compare { result.to_compare ≡ comparisons_of K.bytes sides.entry.first sides.entry.second }
         ensures unmet { result.unmet ≡ length sides.entry.first + length sides.entry.second }
     {
         Difference { sides }
     }
 
-    /// How many comparisons of two keys were made. The count stays at the greatest `usize`.
+    /// Returns how many comparisons of two keys were made: one for each step in which both sets had a key left. The
+    /// count stays at the greatest `usize`.
+    ///
+    /// ```
+    /// let mut first = TreeSet::new(rt.alloc());
+    /// first.extend([*b"ab", *b"cd"])?;
+    /// let mut second = TreeSet::new(rt.alloc());
+    /// second.insert(*b"ab")?;
+    /// let mut merge = first.difference(&second);
+    /// assert_eq!(rt; merge.next(), Some(b"cd"));
+    /// assert_eq!(rt; merge.comparisons(), 1);
+    /// ```
     pub fn comparisons(&self) -> usize
         ensures { result ≡ self.now.comparisons }
     {
@@ -72,8 +85,8 @@ impl<'a, K: OrderedBytes, const PREFIX_LEN: usize> Iterator for Difference<'a, K
 impl<'a, K: OrderedBytes, const PREFIX_LEN: usize> FusedIterator
     for Difference<'a, K, PREFIX_LEN> {}
 
-/// The keys that one of two sets has and the other lacks, ascending by their bytes. It is seen as the list of those
-/// still to come, with the number of comparisons made.
+/// An iterator over the keys that one of two sets has and the other lacks, ascending by their bytes. A contract sees it
+/// as the list of those still to come, with the number of comparisons made.
 #[derive(Drop)]
 pub struct SymmetricDifference<
     'a,
@@ -91,19 +104,31 @@ impl<'a, K: OrderedBytes, const PREFIX_LEN: usize, M: 'a> Model
 
     ghost Value = { Merge K };
 
-    ghost view = { λ it. merge_of (symmetric_difference_of K.bytes) it.sides };
+    ghost view = { λ it. merge_of K.bytes (symmetric_difference_of K.bytes) it.sides };
 }
 
 impl<'a, K: OrderedBytes, const PREFIX_LEN: usize> SymmetricDifference<'a, K, PREFIX_LEN> {
     pub(crate) fn new(sides: Sides<'a, K, PREFIX_LEN>) -> Self
         ensures rest { result.rest ≡ symmetric_difference_of K.bytes sides.entry.first sides.entry.second }
         ensures comparisons { result.comparisons ≡ sides.entry.comparisons }
+        ensures to_compare { result.to_compare ≡ comparisons_of K.bytes sides.entry.first sides.entry.second }
         ensures unmet { result.unmet ≡ length sides.entry.first + length sides.entry.second }
     {
         SymmetricDifference { sides }
     }
 
-    /// How many comparisons of two keys were made. The count stays at the greatest `usize`.
+    /// Returns how many comparisons of two keys were made: one for each step in which both sets had a key left. The
+    /// count stays at the greatest `usize`.
+    ///
+    /// ```
+    /// let mut first = TreeSet::new(rt.alloc());
+    /// first.extend([*b"ab", *b"cd"])?;
+    /// let mut second = TreeSet::new(rt.alloc());
+    /// second.insert(*b"ab")?;
+    /// let mut merge = first.symmetric_difference(&second);
+    /// assert_eq!(rt; merge.next(), Some(b"cd"));
+    /// assert_eq!(rt; merge.comparisons(), 1);
+    /// ```
     pub fn comparisons(&self) -> usize
         ensures { result ≡ self.now.comparisons }
     {
@@ -131,8 +156,8 @@ impl<'a, K: OrderedBytes, const PREFIX_LEN: usize> Iterator
 impl<'a, K: OrderedBytes, const PREFIX_LEN: usize> FusedIterator
     for SymmetricDifference<'a, K, PREFIX_LEN> {}
 
-/// The keys that two sets have both, as the first has them, ascending by their bytes. It is seen as the list of those
-/// still to come, with the number of comparisons made.
+/// An iterator over the keys of a set that another set has too, ascending by their bytes. A contract sees it as the
+/// list of those still to come, with the number of comparisons made.
 #[derive(Drop)]
 pub struct Intersection<
     'a,
@@ -150,19 +175,31 @@ impl<'a, K: OrderedBytes, const PREFIX_LEN: usize, M: 'a> Model
 
     ghost Value = { Merge K };
 
-    ghost view = { λ it. merge_of (intersection_of K.bytes) it.sides };
+    ghost view = { λ it. merge_of K.bytes (intersection_of K.bytes) it.sides };
 }
 
 impl<'a, K: OrderedBytes, const PREFIX_LEN: usize> Intersection<'a, K, PREFIX_LEN> {
     pub(crate) fn new(sides: Sides<'a, K, PREFIX_LEN>) -> Self
         ensures rest { result.rest ≡ intersection_of K.bytes sides.entry.first sides.entry.second }
         ensures comparisons { result.comparisons ≡ sides.entry.comparisons }
+        ensures to_compare { result.to_compare ≡ comparisons_of K.bytes sides.entry.first sides.entry.second }
         ensures unmet { result.unmet ≡ length sides.entry.first + length sides.entry.second }
     {
         Intersection { sides }
     }
 
-    /// How many comparisons of two keys were made. The count stays at the greatest `usize`.
+    /// Returns how many comparisons of two keys were made: one for each step in which both sets had a key left. The
+    /// count stays at the greatest `usize`.
+    ///
+    /// ```
+    /// let mut first = TreeSet::new(rt.alloc());
+    /// first.extend([*b"ab", *b"cd"])?;
+    /// let mut second = TreeSet::new(rt.alloc());
+    /// second.insert(*b"cd")?;
+    /// let mut merge = first.intersection(&second);
+    /// assert_eq!(rt; merge.next(), Some(b"cd"));
+    /// assert_eq!(rt; merge.comparisons(), 2);
+    /// ```
     pub fn comparisons(&self) -> usize
         ensures { result ≡ self.now.comparisons }
     {
@@ -189,8 +226,8 @@ impl<'a, K: OrderedBytes, const PREFIX_LEN: usize> Iterator for Intersection<'a,
 impl<'a, K: OrderedBytes, const PREFIX_LEN: usize> FusedIterator
     for Intersection<'a, K, PREFIX_LEN> {}
 
-/// The keys of two sets, of which one that both have is the first set's, ascending by their bytes. It is seen as the
-/// list of those still to come, with the number of comparisons made.
+/// An iterator over the keys of two sets, ascending by their bytes. Of a key that both have it gives the first set's. A
+/// contract sees it as the list of those still to come, with the number of comparisons made.
 #[derive(Drop)]
 pub struct Union<
     'a,
@@ -207,19 +244,31 @@ impl<'a, K: OrderedBytes, const PREFIX_LEN: usize, M: 'a> Model for Union<'a, K,
 
     ghost Value = { Merge K };
 
-    ghost view = { λ it. merge_of (union_of K.bytes) it.sides };
+    ghost view = { λ it. merge_of K.bytes (union_of K.bytes) it.sides };
 }
 
 impl<'a, K: OrderedBytes, const PREFIX_LEN: usize> Union<'a, K, PREFIX_LEN> {
     pub(crate) fn new(sides: Sides<'a, K, PREFIX_LEN>) -> Self
         ensures rest { result.rest ≡ union_of K.bytes sides.entry.first sides.entry.second }
         ensures comparisons { result.comparisons ≡ sides.entry.comparisons }
+        ensures to_compare { result.to_compare ≡ comparisons_of K.bytes sides.entry.first sides.entry.second }
         ensures unmet { result.unmet ≡ length sides.entry.first + length sides.entry.second }
     {
         Union { sides }
     }
 
-    /// How many comparisons of two keys were made. The count stays at the greatest `usize`.
+    /// Returns how many comparisons of two keys were made: one for each step in which both sets had a key left. The
+    /// count stays at the greatest `usize`.
+    ///
+    /// ```
+    /// let mut first = TreeSet::new(rt.alloc());
+    /// first.extend([*b"ab", *b"cd"])?;
+    /// let mut second = TreeSet::new(rt.alloc());
+    /// second.insert(*b"ab")?;
+    /// let mut merge = first.union(&second);
+    /// assert_eq!(rt; merge.next(), Some(b"ab"));
+    /// assert_eq!(rt; merge.comparisons(), 1);
+    /// ```
     pub fn comparisons(&self) -> usize
         ensures { result ≡ self.now.comparisons }
     {

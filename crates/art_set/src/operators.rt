@@ -11,8 +11,8 @@ use art_map::nodes_fit;
 use std::alloc::{AllocError, Global};
 use std::ops::{BitAnd, BitOr, BitXor, Sub};
 
-// A set of clones of the keys of two sets that are wanted. It is refused where a key can't be cloned, or where there is
-// no memory for it; what was made is let go of then.
+// A set of clones of the keys of two sets that are wanted. It fails if a key can't be cloned, or if out of memory. What
+// was made is dropped then.
 fn collected<K: OrderedBytes + NoPrefixesBytes + Clone + Drop, const PREFIX_LEN: usize>(
     alloc: Global,
     mut sides: Sides<'_, K, PREFIX_LEN>,
@@ -36,9 +36,16 @@ fn collected<K: OrderedBytes + NoPrefixesBytes + Clone + Drop, const PREFIX_LEN:
     Ok(set)
 }
 
-/// The keys that both sets have, as this one has them. It is refused
-/// where a key can't be cloned, or where there is no memory for it. The answer is promised where a clone of a key
-/// equals it.
+/// The keys that both sets have, as this one has them. Fails if a key can't be cloned, or if out of memory. The
+/// contract says which keys these are if a clone of a key equals it.
+///
+/// ```
+/// let mut first = TreeSet::new(rt.alloc());
+/// first.extend([*b"ab", *b"cd"])?;
+/// let mut second = TreeSet::new(rt.alloc());
+/// second.extend([*b"cd", *b"ef"])?;
+/// assert!(rt; (&first & &second)?.iter().eq([b"cd"]));
+/// ```
 impl<'a, 'b, K: OrderedBytes + NoPrefixesBytes + Clone + Drop, const PREFIX_LEN: usize> BitAnd<
     &'b TreeSet<K, PREFIX_LEN>,
 > for &'a TreeSet<K, PREFIX_LEN> {
@@ -60,9 +67,16 @@ impl<'a, 'b, K: OrderedBytes + NoPrefixesBytes + Clone + Drop, const PREFIX_LEN:
     }
 }
 
-/// The keys of this set, and those of the other that it lacks. It is refused
-/// where a key can't be cloned, or where there is no memory for it. The answer is promised where a clone of a key
-/// equals it.
+/// The keys of this set, and those of the other that it lacks. Fails if a key can't be cloned, or if out of memory. The
+/// contract says which keys these are if a clone of a key equals it.
+///
+/// ```
+/// let mut first = TreeSet::new(rt.alloc());
+/// first.insert(*b"ab")?;
+/// let mut second = TreeSet::new(rt.alloc());
+/// second.insert(*b"cd")?;
+/// assert!(rt; (&first | &second)?.iter().eq([b"ab", b"cd"]));
+/// ```
 impl<'a, 'b, K: OrderedBytes + NoPrefixesBytes + Clone + Drop, const PREFIX_LEN: usize> BitOr<
     &'b TreeSet<K, PREFIX_LEN>,
 > for &'a TreeSet<K, PREFIX_LEN> {
@@ -84,9 +98,16 @@ impl<'a, 'b, K: OrderedBytes + NoPrefixesBytes + Clone + Drop, const PREFIX_LEN:
     }
 }
 
-/// The keys that one of the sets has and the other lacks. It is refused
-/// where a key can't be cloned, or where there is no memory for it. The answer is promised where a clone of a key
-/// equals it.
+/// The keys that one of the sets has and the other lacks. Fails if a key can't be cloned, or if out of memory. The
+/// contract says which keys these are if a clone of a key equals it.
+///
+/// ```
+/// let mut first = TreeSet::new(rt.alloc());
+/// first.extend([*b"ab", *b"cd"])?;
+/// let mut second = TreeSet::new(rt.alloc());
+/// second.extend([*b"cd", *b"ef"])?;
+/// assert!(rt; (&first ^ &second)?.iter().eq([b"ab", b"ef"]));
+/// ```
 impl<'a, 'b, K: OrderedBytes + NoPrefixesBytes + Clone + Drop, const PREFIX_LEN: usize> BitXor<
     &'b TreeSet<K, PREFIX_LEN>,
 > for &'a TreeSet<K, PREFIX_LEN> {
@@ -108,9 +129,16 @@ impl<'a, 'b, K: OrderedBytes + NoPrefixesBytes + Clone + Drop, const PREFIX_LEN:
     }
 }
 
-/// The keys that the other set lacks. It is refused
-/// where a key can't be cloned, or where there is no memory for it. The answer is promised where a clone of a key
-/// equals it.
+/// The keys that the other set lacks. Fails if a key can't be cloned, or if out of memory. The contract says which keys
+/// these are if a clone of a key equals it.
+///
+/// ```
+/// let mut first = TreeSet::new(rt.alloc());
+/// first.extend([*b"ab", *b"cd"])?;
+/// let mut second = TreeSet::new(rt.alloc());
+/// second.insert(*b"cd")?;
+/// assert!(rt; (&first - &second)?.iter().eq([b"ab"]));
+/// ```
 impl<'a, 'b, K: OrderedBytes + NoPrefixesBytes + Clone + Drop, const PREFIX_LEN: usize> Sub<
     &'b TreeSet<K, PREFIX_LEN>,
 > for &'a TreeSet<K, PREFIX_LEN> {

@@ -1,4 +1,4 @@
-//! `TreeSet`.
+//! The set itself: what it keeps, how it is made, and its length.
 ghost use Rattle.std.specs.Prelude.{◌≡◌, ◌==◌, [], length};
 
 mod algebra;
@@ -7,6 +7,8 @@ mod changes;
 mod compared;
 mod joins;
 mod lookups;
+mod nodes;
+mod prefixes;
 pub mod refused;
 mod removals;
 mod walks;
@@ -17,7 +19,17 @@ use std::alloc::Global;
 use std::default::MadeWith;
 use std::marker::Model;
 
-/// A set whose keys are seen as bytes, and ascend by them. No key is a front of another.
+/// An ordered set. It sees its keys as bytes and keeps them in the order of these. No key is a prefix of another.
+///
+/// `PREFIX_LEN` is how many bytes of a prefix an inner node stores. It changes what a call costs, never what it
+/// returns.
+///
+/// ```
+/// let mut set = TreeSet::new(rt.alloc());
+/// assert!(rt; set.try_insert(StrKey("apple"))?);
+/// assert_eq!(rt; set.first(), Some(&StrKey("apple")));
+/// assert!(rt; set.remove(&StrKey("apple"))?);
+/// ```
 #[derive(Drop)]
 pub struct TreeSet<K: AsBytes, const PREFIX_LEN: usize> {
     pub(crate) alloc: Global,
@@ -34,7 +46,13 @@ impl<K: AsBytes, const PREFIX_LEN: usize> Model for TreeSet<K, PREFIX_LEN> {
 }
 
 impl<K: AsBytes> TreeSet<K, DEFAULT_PREFIX_LEN> {
-    /// An empty set, whose nodes store 16 bytes of a prefix. It takes no memory.
+    /// Makes an empty set, whose inner nodes store 16 bytes of a prefix. It allocates nothing.
+    ///
+    /// ```
+    /// let mut set = TreeSet::new(rt.alloc());
+    /// assert!(rt; set.is_empty());
+    /// set.insert(*b"ab")?;
+    /// ```
     pub fn new(alloc: Global) -> Self
         ensures { result ≡ [] }
     {
@@ -43,7 +61,13 @@ impl<K: AsBytes> TreeSet<K, DEFAULT_PREFIX_LEN> {
 }
 
 impl<K: AsBytes, const PREFIX_LEN: usize> TreeSet<K, PREFIX_LEN> {
-    /// An empty set, whose nodes store `PREFIX_LEN` bytes of a prefix. It takes no memory.
+    /// Makes an empty set, whose inner nodes store `PREFIX_LEN` bytes of a prefix. It allocates nothing.
+    ///
+    /// ```
+    /// let mut set: TreeSet<[u8; 2], 4> = TreeSet::with_prefix_len(rt.alloc());
+    /// set.insert(*b"ab")?;
+    /// assert_eq!(rt; set.len(), 1);
+    /// ```
     pub fn with_prefix_len(alloc: Global) -> Self
         ensures { result ≡ [] }
     {
@@ -53,21 +77,41 @@ impl<K: AsBytes, const PREFIX_LEN: usize> TreeSet<K, PREFIX_LEN> {
         }
     }
 
-    /// How many keys there are.
+    /// Returns the number of keys.
+    ///
+    /// ```
+    /// let mut set = TreeSet::new(rt.alloc());
+    /// set.extend([*b"ab", *b"cd", *b"ab"])?;
+    /// assert_eq!(rt; set.len(), 2);
+    /// ```
     pub fn len(&self) -> usize
         ensures { result ≡ length self.now }
     {
         self.map.len()
     }
 
-    /// Whether there is no key.
+    /// Returns whether the set has no key.
+    ///
+    /// ```
+    /// let mut set = TreeSet::new(rt.alloc());
+    /// assert!(rt; set.is_empty());
+    /// set.insert(*b"ab")?;
+    /// assert!(rt; !set.is_empty());
+    /// ```
     pub fn is_empty(&self) -> bool
         ensures { result ≡ (length self.now == 0) }
     {
         self.len() == 0
     }
 
-    /// Removes every key. The room for nodes stays.
+    /// Removes every key. The memory of the nodes stays with the set.
+    ///
+    /// ```
+    /// let mut set = TreeSet::new(rt.alloc());
+    /// set.insert(*b"ab")?;
+    /// set.clear();
+    /// assert!(rt; set.is_empty());
+    /// ```
     pub fn clear(&mut self)
     where
         K: Drop,

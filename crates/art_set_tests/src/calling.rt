@@ -1,4 +1,4 @@
-//! The callers of CALLING.md.
+//! Callers of art_set, of which its README.md shows one.
 
 use art_set::TreeSet;
 use std::alloc::AllocError;

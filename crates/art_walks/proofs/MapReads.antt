@@ -1,5 +1,5 @@
 -- What a reader of a map answers, told by the pairs of the map.
-use Rattle.std.proofs.Common.{◌≡◌, ◌≢◌, ℕ, ◌+◌, ◌-◌, ◌^◌, min, Bool, true, false, cond, filter, List, [], ◌∷◌, ◌++◌, length, Option, Some, None, refl, sym, ap, subst, ◌∙◌, inl, inr, arith, append_assoc}
+use Rattle.std.proofs.Common.{◌≡◌, ◌≢◌, ℕ, ◌+◌, ◌-◌, ◌^◌, min, Bool, true, false, cond, filter, List, [], ◌∷◌, ◌++◌, length, Option, Some, None, MatchOption, refl, sym, ap, subst, ◌∙◌, inl, inr, arith, append_assoc}
 use Rattle.std.specs.List.{AllByRecursion}
 use Rattle.std.specs.Map.{lookup_entry}
 use Rattle.std.proofs.lemmas.Bool.Decides.{eqb_tells}
@@ -187,3 +187,12 @@ module _ {K V : Type 0} (arena : Arena K V) (ends : Ends) (a b : ℕ) (is : ends
       named [] ends_are none = let first = ends_are.0 in absurd (cc)
       named (l ∷ ls) ends_are none = absurd (cc)
   span-later (pairs, p ∷ left, span) = (pairs, left, (span-step pairs p left span).1)
+
+-- what is said of a root that is there, and of none
+pub where_some : {A : Type 0} {o : Option A} {a : A} (N : Type 0) {L : Type 0} → o ≡ Some a → L → MatchOption o N (λ _. L)
+where_some {o = None} N e l = absurd (cc)
+where_some {o = Some b} N e l = l
+
+pub where_none : {A : Type 0} {o : Option A} {N : Type 0} (L : A → Type 0) → o ≡ None → N → MatchOption o N L
+where_none {o = None} L e n = n
+where_none {o = Some b} L e n = absurd (cc)

@@ -1,5 +1,5 @@
-//! Whether what stands below a name is a canonical tree with its leaves linked in order, in any arena: a check goes
-//! over the names, then over the keys, then over the links.
+//! A check in any arena: whether a name means a canonical tree with its leaves linked in order. It goes over the names,
+//! then over the keys, then over the links.
 ghost use Rattle.std.specs.Prelude.{◌≡◌, ◌≢◌, IfErr, IfOk, MatchOption};
 ghost use Rattle.art_arena.specs.arena.Arena.{links_at, node_at};
 ghost use Rattle.art_arena.specs.arena.Stores.{IsMeant};
@@ -27,10 +27,22 @@ use std::alloc::Global;
 pub struct WellFormedChecker;
 
 impl WellFormedChecker {
-    /// How many nodes of each kind the tree below a name has, where that is a canonical tree with its leaves linked in
-    /// order and open ends; other nodes may stand beside it. Else a fault, which stands, or `Memory` where none was
-    /// found for the names that were seen. It takes time and memory in proportion to the nodes that it sees, and to the
-    /// bytes of keys above them; it recurs nowhere.
+    /// Returns how many nodes of each kind the tree below a name has, if that is a canonical tree with its leaves
+    /// linked in order and open ends. Other nodes may stand beside it.
+    ///
+    /// Else it returns a fault that is there, or `Memory` if there was no memory for the names that it saw. It takes
+    /// time and memory in proportion to the nodes that it sees, and to the bytes of keys above them. It doesn't
+    /// recurse.
+    ///
+    /// ```
+    /// use art_map::TreeMap;
+    /// let mut map = TreeMap::new(rt.alloc());
+    /// map.extend([(*b"ab", 1), (*b"ac", 2)])?;
+    /// let (arena, root) = map.nodes();
+    /// if let Some(root) = root {
+    ///     assert_eq!(rt; WellFormedChecker::check_tree(rt.alloc(), arena, root)?.num_leaf, 2);
+    /// }
+    /// ```
     pub fn check_tree<K: AsBytes, V, const PREFIX_LEN: usize>(
         alloc: Global,
         arena: &NodeArena<K, V, PREFIX_LEN>,
@@ -50,8 +62,16 @@ impl WellFormedChecker {
         Ok(counts_of(met.as_slice()))
     }
 
-    /// The check of the tree of a map of so many pairs: of the tree below its root, or, where it has none, whether the
-    /// length is 0. Then there are no nodes, and else the fault is `EmptyTreeWithLen`.
+    /// Checks the tree of a map of so many pairs: the tree below its root. If it has no root, the length has to be 0:
+    /// then it returns that there are no nodes, and else the fault `EmptyTreeWithLen`.
+    ///
+    /// ```
+    /// use art_map::TreeMap;
+    /// let mut map = TreeMap::new(rt.alloc());
+    /// map.extend([(*b"ab", 1), (*b"ac", 2)])?;
+    /// let (arena, root) = map.nodes();
+    /// assert_eq!(rt; WellFormedChecker::check(rt.alloc(), arena, root, 2)?.total_nodes(), 3);
+    /// ```
     pub fn check<K: AsBytes, V, const PREFIX_LEN: usize>(
         alloc: Global,
         arena: &NodeArena<K, V, PREFIX_LEN>,

@@ -1,4 +1,4 @@
-//! Walks that own the pairs of a run of leaves, and give them away.
+//! Iterators that own the pairs of a run of leaves, and give them away.
 ghost use Rattle.std.specs.Prelude.{◌≡◌, IfSome, Some, length};
 ghost use Rattle.std.specs.Iterator.{UpTo, at_most};
 ghost use Rattle.std.specs.Iterator.SizeHint.{IsWithinCount};
@@ -13,9 +13,11 @@ use art_nodes::LeafNode;
 use std::iter::FusedIterator;
 use std::marker::Model;
 
-/// The pairs of a run of leaves in order, from either end. It is seen as the list of those still to come.
+/// An iterator over the pairs of a run of leaves in order, from either end. A contract sees it as the list of those
+/// still to come.
 ///
-/// It owns the arena, and takes the leaf of each pair out of it. Where it is dropped, the rest is dropped with it.
+/// It owns the arena, and takes the leaf of each pair out of it. If it is dropped, the pairs still to come are dropped
+/// with it.
 #[derive(Drop)]
 pub struct IntoIter<K, V, const PREFIX_LEN: usize> {
     arena: NodeArena<K, V, PREFIX_LEN>,
@@ -35,7 +37,7 @@ impl<K, V, const PREFIX_LEN: usize> Model for IntoIter<K, V, PREFIX_LEN> {
 }
 
 impl<K, V, const PREFIX_LEN: usize> IntoIter<K, V, PREFIX_LEN> {
-    /// The pairs of a run of exactly so many leaves, which are linked neighbours in this arena.
+    /// Returns an iterator over a run of exactly so many leaves, which are linked neighbours in this arena.
     pub fn new(arena: NodeArena<K, V, PREFIX_LEN>, leaves: RawIterator, len: usize) -> Self
         requires { IsCounted arena leaves len }
         ensures { (run : IsCounted arena leaves len) → result ≡ pairs_of run.leaves }
@@ -91,7 +93,8 @@ impl<K: Drop, V: Drop, const PREFIX_LEN: usize> ExactSizeIterator for IntoIter<K
     }
 }
 
-/// The keys of a run of leaves in order, from either end. It is seen as the list of those still to come.
+/// An iterator over the keys of a run of leaves in order, from either end. A contract sees it as the list of those
+/// still to come.
 ///
 /// It owns the arena, as `IntoIter` does, and drops each value.
 #[derive(Drop)]
@@ -109,7 +112,7 @@ impl<K, V, const PREFIX_LEN: usize> Model for IntoKeys<K, V, PREFIX_LEN> {
 }
 
 impl<K, V, const PREFIX_LEN: usize> IntoKeys<K, V, PREFIX_LEN> {
-    /// The keys of these pairs.
+    /// Returns an iterator over the keys of these pairs.
     pub fn new(pairs: IntoIter<K, V, PREFIX_LEN>) -> Self
         ensures { result ≡ keys_of pairs }
     {
@@ -161,7 +164,8 @@ impl<K: Drop, V: Drop, const PREFIX_LEN: usize> ExactSizeIterator for IntoKeys<K
     }
 }
 
-/// The values of a run of leaves in order, from either end. It is seen as the list of those still to come.
+/// An iterator over the values of a run of leaves in order, from either end. A contract sees it as the list of those
+/// still to come.
 ///
 /// It owns the arena, as `IntoIter` does, and drops each key.
 #[derive(Drop)]
@@ -179,7 +183,7 @@ impl<K, V, const PREFIX_LEN: usize> Model for IntoValues<K, V, PREFIX_LEN> {
 }
 
 impl<K, V, const PREFIX_LEN: usize> IntoValues<K, V, PREFIX_LEN> {
-    /// The values of these pairs.
+    /// Returns an iterator over the values of these pairs.
     pub fn new(pairs: IntoIter<K, V, PREFIX_LEN>) -> Self
         ensures { result ≡ values_of pairs }
     {

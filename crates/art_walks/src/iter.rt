@@ -1,4 +1,4 @@
-//! Walks that lend the pairs of a run of leaves.
+//! Iterators that lend the pairs of a run of leaves.
 ghost use Rattle.std.specs.Prelude.{◌≡◌, IfSome, Some, length, ⊤};
 ghost use Rattle.std.specs.Iterator.{UpTo, at_most};
 ghost use Rattle.std.specs.Iterator.SizeHint.{IsWithinCount};
@@ -13,7 +13,8 @@ use std::alloc::AllocError;
 use std::iter::FusedIterator;
 use std::marker::{Model, PhantomData};
 
-/// The pairs of a run of leaves in order, from either end. It is seen as the list of those still to come.
+/// An iterator over the pairs of a run of leaves in order, from either end. A contract sees it as the list of those
+/// still to come.
 ///
 /// The last parameter is never written: it tells the borrow check that the arena lives as long as it is lent.
 #[derive(Drop)]
@@ -36,7 +37,7 @@ impl<'a, K, V, const PREFIX_LEN: usize, M: 'a> Model for Iter<'a, K, V, PREFIX_L
 }
 
 impl<'a, K, V, const PREFIX_LEN: usize> Iter<'a, K, V, PREFIX_LEN> {
-    /// The pairs of a run of exactly so many leaves, which are linked neighbours in this arena.
+    /// Returns an iterator over a run of exactly so many leaves, which are linked neighbours in this arena.
     pub fn new(arena: &'a NodeArena<K, V, PREFIX_LEN>, leaves: RawIterator, len: usize) -> Self
         requires { IsCounted arena.now leaves len }
         ensures { (run : IsCounted arena.now leaves len) → result ≡ pairs_of run.leaves }
@@ -118,7 +119,8 @@ impl<'a, K, V, const PREFIX_LEN: usize> ExactSizeIterator for Iter<'a, K, V, PRE
     }
 }
 
-/// The keys of a run of leaves in order, from either end. It is seen as the list of those still to come.
+/// An iterator over the keys of a run of leaves in order, from either end. A contract sees it as the list of those
+/// still to come.
 #[derive(Drop)]
 pub struct Keys<'a, K, V, const PREFIX_LEN: usize, M: 'a = NodeArena<K, V, PREFIX_LEN>> {
     inner: Iter<'a, K, V, PREFIX_LEN, M>,
@@ -134,7 +136,7 @@ impl<'a, K, V, const PREFIX_LEN: usize, M: 'a> Model for Keys<'a, K, V, PREFIX_L
 }
 
 impl<'a, K, V, const PREFIX_LEN: usize> Keys<'a, K, V, PREFIX_LEN> {
-    /// The keys of these pairs.
+    /// Returns an iterator over the keys of these pairs.
     pub fn new(pairs: Iter<'a, K, V, PREFIX_LEN>) -> Self
         ensures { result ≡ keys_of pairs.entry }
     {
@@ -198,7 +200,8 @@ impl<'a, K, V, const PREFIX_LEN: usize> ExactSizeIterator for Keys<'a, K, V, PRE
     }
 }
 
-/// The values of a run of leaves in order, from either end. It is seen as the list of those still to come.
+/// An iterator over the values of a run of leaves in order, from either end. A contract sees it as the list of those
+/// still to come.
 #[derive(Drop)]
 pub struct Values<'a, K, V, const PREFIX_LEN: usize, M: 'a = NodeArena<K, V, PREFIX_LEN>> {
     inner: Iter<'a, K, V, PREFIX_LEN, M>,
@@ -214,7 +217,7 @@ impl<'a, K, V, const PREFIX_LEN: usize, M: 'a> Model for Values<'a, K, V, PREFIX
 }
 
 impl<'a, K, V, const PREFIX_LEN: usize> Values<'a, K, V, PREFIX_LEN> {
-    /// The values of these pairs.
+    /// Returns an iterator over the values of these pairs.
     pub fn new(pairs: Iter<'a, K, V, PREFIX_LEN>) -> Self
         ensures { result ≡ values_of pairs.entry }
     {

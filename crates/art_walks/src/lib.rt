@@ -1,6 +1,6 @@
-//! Walks along the linked leaves of an arena, and what a check of the tree below a name tells.
-//! The layer above uses that a walk is a run of neighbouring leaves, from which calls take the first or the last.
-//! The definitions stand in `specs/`.
+//! Iterators along the linked leaves of an arena, and a check of the tree below a name. The layer above uses that an
+//! iterator is a run of neighbouring leaves, from which calls take the first or the last. The definitions stand in
+//! `specs/`.
 #![tactic(auto)]
 
 mod bounds;

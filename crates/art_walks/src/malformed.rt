@@ -1,4 +1,4 @@
-//! Why what stands below a name is no canonical tree.
+//! Why a name means no canonical tree.
 
 ghost use Rattle.std.specs.Prelude.{◌≡◌};
 ghost use Rattle.art_walks.specs.declared.malformed.MalformedTreeError.TheVariants.{Memory};
@@ -6,8 +6,8 @@ ghost use Rattle.art_walks.specs.declared.malformed.MalformedTreeError.TheVarian
 use std::alloc::{AllocError, AllocFailed};
 use thiserror::Error;
 
-/// Why what stands below a name is no canonical tree with its leaves linked in order. Where several faults stand, any
-/// of them is told, save that a fault of links is told only where no other stands.
+/// Why a name means no canonical tree with its leaves linked in order. If there are several faults, any of them is
+/// told, but a fault of links only if there is no other.
 #[derive(Clone, Copy, PartialEq, Eq, Debug, Error)]
 pub enum MalformedTreeError {
     /// A name below the root isn't held.
@@ -33,7 +33,7 @@ pub enum MalformedTreeError {
     /// There is no root, but a length other than 0.
     #[error("there is no root, but a length other than 0")]
     EmptyTreeWithLen,
-    /// No memory was found for what the check keeps of the names that it met.
+    /// There was no memory for what the check keeps of the names that it met.
     #[error("no memory for the names that were seen")]
     Memory,
 }

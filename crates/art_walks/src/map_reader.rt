@@ -1,4 +1,4 @@
-//! Reading a map, each node that is read counted.
+//! A reader of a map, which counts each node that it reads.
 ghost use Rattle.std.specs.Prelude.{◌≡◌, ◌≢◌, ◌+◌, ◌-◌, ◌^◌, ◌≤◌, ◌⊎◌, ◌∷◌, [], ℕ, List, bytes_eq, filter, length};
 ghost use Rattle.std.specs.Prelude.{min, MatchOption, None, Some, option_map};
 ghost use Rattle.std.specs.BTreeMap.Range.{range_contains};
@@ -7,7 +7,7 @@ ghost use Rattle.std.specs.Map.Iter.{deref_pair};
 ghost use Rattle.std.specs.Range.Bound.{bound_map};
 ghost use Rattle.art_bytes.specs.Keys.{bytes_cmp};
 ghost use Rattle.art_arena.specs.tree.Tenants.{begins_with};
-ghost use Rattle.art_operations.specs.Openings.{bound_len, OpeningReads};
+ghost use Rattle.art_operations.specs.Openings.{bound_len, OpeningReads, ReadsAtLeast};
 ghost use Rattle.art_operations.specs.Pairs.{HasPairsAt};
 ghost use Rattle.art_operations.specs.Whichever.{HasSome};
 ghost use Rattle.art_walks.specs.Bounds.{AreValidKeyBounds};
@@ -22,6 +22,17 @@ use std::marker::{Model, PhantomData};
 use std::ops::Bound;
 
 /// A run of the pairs of a map that are still to be given. It borrows nothing: a reader of the map gives them.
+///
+/// ```
+/// use art_map::TreeMap;
+/// let mut map = TreeMap::new(rt.alloc());
+/// map.extend([(*b"ab", 1), (*b"ac", 2), (*b"bc", 3)])?;
+/// let mut reader = map.reader();
+/// let mut span = reader.prefix(b"a");
+/// while let Some((_key, value)) = reader.next(&mut span) {
+///     assert!(rt; *value < 3);
+/// }
+/// ```
 #[derive(Clone, Copy, Debug)]
 pub struct ReadSpan {
     leaves: RawIterator,
@@ -50,7 +61,8 @@ impl ReadSpan {
     }
 }
 
-/// What reads a map through its nodes, and counts each node that it reads. It has no other way to the pairs.
+/// A reader of a map, which counts each node that it reads. It has no other way to the pairs, and no call makes a
+/// second reader of it. So its count, which never falls, is all that was read through it.
 ///
 /// The last parameter is never written: it tells the borrow check that the arena lives as long as it is lent.
 #[derive(Drop)]
@@ -103,7 +115,7 @@ fn leaf_with_key<'a, K: AsBytes, V, const PREFIX_LEN: usize>(
     }
 }
 
-// The leaf whose key is a front of this one, or all of it, below a root, which was read. The nodes of the key's path
+// The leaf whose key is a prefix of this one, or all of it, below a root, which was read. The nodes of the key's path
 // are read, and no others.
 #[inline(always)]
 fn leaf_with_front<'a, K: AsBytes, V, const PREFIX_LEN: usize>(
@@ -142,8 +154,16 @@ fn bytes_of<Q: AsBytes>(bound: Bound<&Q>) -> Bound<&[u8]>
 }
 
 impl<'a, K: AsBytes, V, const PREFIX_LEN: usize> MapReader<'a, K, V, PREFIX_LEN> {
-    /// A reader that has read nothing yet, of the map of this tree. The root has to be that of the canonical tree of
-    /// some pairs, whose leaves are linked in order, or there is none.
+    /// Returns a reader that has read nothing yet, of the map of this tree. The root has to be that of the canonical
+    /// tree of some pairs, whose leaves are linked in order, or there is none.
+    ///
+    /// ```
+    /// use art_map::TreeMap;
+    /// let mut map = TreeMap::new(rt.alloc());
+    /// map.insert(*b"ab", 1)?;
+    /// let (arena, root) = map.nodes();
+    /// assert_eq!(rt; MapReader::new(arena, root).get_key_value(b"ab"), Some((b"ab", &1)));
+    /// ```
     pub fn new(arena: &'a NodeArena<K, V, PREFIX_LEN>, root: Option<OpaqueNodePtr>) -> Self
         requires { HasSome (HasPairsAt K.bytes PREFIX_LEN arena.now root) }
         ensures nodes { result.nodes ≡ arena.now }
@@ -157,35 +177,31 @@ impl<'a, K: AsBytes, V, const PREFIX_LEN: usize> MapReader<'a, K, V, PREFIX_LEN>
         }
     }
 
-    /// How many nodes were read so far. A count that reaches the greatest number stays there.
+    /// Returns how many nodes were read so far. A count that reaches the greatest number stays there.
+    ///
+    /// ```
+    /// use art_map::TreeMap;
+    /// let mut map = TreeMap::new(rt.alloc());
+    /// map.extend([(*b"ab", 1), (*b"ac", 2)])?;
+    /// let mut reader = map.reader();
+    /// reader.get_key_value(b"ab");
+    /// assert_eq!(rt; reader.visits(), 2);
+    /// ```
     pub fn visits(&self) -> u64
         ensures { result ≡ self.now.count }
     {
         self.reader.count()
     }
 
-    /// A reader of the same map that has read nothing yet. What is read through it is counted by itself, until
-    /// `take_in` adds that here.
-    pub fn aside(&self) -> Self
-        ensures kept { IsSameMap self.now result }
-        ensures count { result.count ≡ 0 }
-    {
-        MapReader {
-            reader: self.reader.aside(),
-            root: self.root,
-            mark: PhantomData,
-        }
-    }
-
-    /// What another has read is counted here. A count that reaches the greatest number stays there.
-    pub fn take_in(&mut self, other: Self)
-        ensures kept { IsSameMap self.old self.new }
-        ensures counts { self.new.count ≡ min (self.old.count + other.entry.count) (2 ^ 64 - 1) }
-    {
-        self.reader.take_in(other.reader);
-    }
-
-    /// The pair whose key has the query's bytes, if there is one. The nodes of the key's path are read, and no others.
+    /// Returns the pair whose key has the query's bytes, if there is one. The nodes of the key's path are read, and no
+    /// others.
+    ///
+    /// ```
+    /// use art_map::TreeMap;
+    /// let mut map = TreeMap::new(rt.alloc());
+    /// map.insert(*b"ab", 1)?;
+    /// assert_eq!(rt; map.reader().get_key_value(b"ab"), Some((b"ab", &1)));
+    /// ```
     pub fn get_key_value<Q: AsBytes>(&mut self, key: &Q) -> Option<(&'a K, &'a V)>
         ensures value { OfPairs K.bytes PREFIX_LEN self.old.nodes self.old.root (λ pairs. option_map deref_pair result
             ≡ lookup_entry (λ k. bytes_eq (K.bytes k) (Q.bytes key.now)) pairs) }
@@ -204,8 +220,15 @@ impl<'a, K: AsBytes, V, const PREFIX_LEN: usize> MapReader<'a, K, V, PREFIX_LEN>
         Some(leaf.entry_ref())
     }
 
-    /// The one pair whose key is a front of the query's bytes, or equals them, if there is one. The nodes of the path
-    /// of the query's bytes are read, and no others: for a pair that is found they are those of its own path.
+    /// Returns the one pair whose key is a prefix of the query's bytes, or equals them, if there is one. The nodes of
+    /// the path of the query's bytes are read, and no others. If a pair is found, they are those of its own path.
+    ///
+    /// ```
+    /// use art_map::TreeMap;
+    /// let mut map = TreeMap::new(rt.alloc());
+    /// map.insert(*b"ab", 1)?;
+    /// assert_eq!(rt; map.reader().prefix_get_key_value(b"abc"), Some((b"ab", &1)));
+    /// ```
     pub fn prefix_get_key_value<Q: AsBytes>(&mut self, key: &Q) -> Option<(&'a K, &'a V)>
         ensures value { OfPairs K.bytes PREFIX_LEN self.old.nodes self.old.root (λ pairs. option_map deref_pair result
             ≡ lookup_entry (λ k. begins_with (K.bytes k) (Q.bytes key.now)) pairs) }
@@ -224,9 +247,21 @@ impl<'a, K: AsBytes, V, const PREFIX_LEN: usize> MapReader<'a, K, V, PREFIX_LEN>
         Some(leaf.entry_ref())
     }
 
-    /// A span over the pairs whose keys are between two bounds, by their bytes, ascending. Where the map has a pair,
-    /// the bounds have to be valid, as `bounds_are_valid` tells. The nodes that are read are at most as many as the
-    /// longest key and two have, for each byte of the longer bound and for six.
+    /// Returns a span over the pairs whose keys are between two bounds, by their bytes, ascending. If the map has a
+    /// pair, the bounds have to be valid, as `bounds_are_valid` tells.
+    ///
+    /// If the map has a pair, at least one node is read, the root. At most (n + 6) * (k + 2) nodes are read, where n is
+    /// the length of the longer bound and k that of the longest key.
+    ///
+    /// ```
+    /// use art_map::TreeMap;
+    /// use std::ops::Bound;
+    /// let mut map = TreeMap::new(rt.alloc());
+    /// map.extend([(*b"ab", 1), (*b"ac", 2)])?;
+    /// let mut reader = map.reader();
+    /// let mut span = reader.range(Bound::Excluded(b"ab"), Bound::Included(b"ac"));
+    /// assert_eq!(rt; reader.next(&mut span), Some((b"ac", &2)));
+    /// ```
     pub fn range<Q: AsBytes>(&mut self, start: Bound<&Q>, end: Bound<&Q>) -> ReadSpan
         requires { OfPairs K.bytes PREFIX_LEN self.old.nodes self.old.root (λ pairs. (pairs ≡ [])
             ⊎ AreValidKeyBounds (bound_map (λ key. Q.bytes key.now) start) (bound_map (λ key. Q.bytes key.now) end)) }
@@ -236,6 +271,8 @@ impl<'a, K: AsBytes, V, const PREFIX_LEN: usize> MapReader<'a, K, V, PREFIX_LEN>
             (K.bytes p.0)) pairs)) }
         ensures span { IsSpan self.new.nodes result }
         ensures kept { IsSameMap self.old self.new }
+        ensures least { MatchOption self.old.root (self.new.count ≡ self.old.count)
+            (λ root. ReadsAtLeast 1 self.old.count self.new.count) }
         ensures few { OfPairs K.bytes PREFIX_LEN self.old.nodes self.old.root (λ pairs. (longest most : ℕ)
             → PairsWithin K.bytes longest pairs
             → bound_len (bound_map (λ key. Q.bytes key.now) start.entry) ≤ most
@@ -253,14 +290,27 @@ impl<'a, K: AsBytes, V, const PREFIX_LEN: usize> MapReader<'a, K, V, PREFIX_LEN>
         }
     }
 
-    /// A span over the pairs whose keys begin with a prefix's bytes, ascending. The nodes that are read are at most as
-    /// many as the longest key and two have, for each byte of the prefix and for six.
+    /// Returns a span over the pairs whose keys begin with a prefix's bytes, ascending.
+    ///
+    /// If the map has a pair, at least one node is read, the root. At most (n + 6) * (k + 2) nodes are read, where n is
+    /// the length of the prefix and k that of the longest key.
+    ///
+    /// ```
+    /// use art_map::TreeMap;
+    /// let mut map = TreeMap::new(rt.alloc());
+    /// map.extend([(*b"ab", 1), (*b"bc", 2)])?;
+    /// let mut reader = map.reader();
+    /// let mut span = reader.prefix(b"b");
+    /// assert_eq!(rt; reader.next(&mut span), Some((b"bc", &2)));
+    /// ```
     pub fn prefix<Q: AsBytes>(&mut self, prefix: &Q) -> ReadSpan
         ensures value { OfPairs K.bytes PREFIX_LEN self.old.nodes self.old.root
             (λ pairs. IsSpanOf self.new.nodes pairs result
             (filter (λ p. begins_with (Q.bytes prefix.now) (K.bytes p.0)) pairs)) }
         ensures span { IsSpan self.new.nodes result }
         ensures kept { IsSameMap self.old self.new }
+        ensures least { MatchOption self.old.root (self.new.count ≡ self.old.count)
+            (λ root. ReadsAtLeast 1 self.old.count self.new.count) }
         ensures few { OfPairs K.bytes PREFIX_LEN self.old.nodes self.old.root (λ pairs. (longest : ℕ)
             → PairsWithin K.bytes longest pairs
             → OpeningReads longest (length (Q.bytes prefix.now)) self.old.count self.new.count) }
@@ -275,9 +325,21 @@ impl<'a, K: AsBytes, V, const PREFIX_LEN: usize> MapReader<'a, K, V, PREFIX_LEN>
         }
     }
 
-    /// The next pair of a span, which goes on behind it, or `None` where it has nothing more to give. One node is read
-    /// for a pair, its leaf, and none where there is no pair. The span has to be one of this map: what this reader or
-    /// another of the same map answered, or what this call left of it.
+    /// Returns the next pair of a span, which goes on behind it. It returns `None` if the span has nothing more to
+    /// give. One node is read for a pair, its leaf, and none if there is no pair.
+    ///
+    /// The span has to be one of this map: what this reader or another of the same map returned, or what this call left
+    /// of it.
+    ///
+    /// ```
+    /// use art_map::TreeMap;
+    /// let mut map = TreeMap::new(rt.alloc());
+    /// map.insert(*b"ab", 1)?;
+    /// let mut reader = map.reader();
+    /// let mut span = reader.prefix(b"a");
+    /// assert_eq!(rt; reader.next(&mut span), Some((b"ab", &1)));
+    /// assert_eq!(rt; reader.next(&mut span), None);
+    /// ```
     pub fn next(&mut self, span: &mut ReadSpan) -> Option<(&'a K, &'a V)>
         requires { IsSpan self.old.nodes span.old }
         ensures first { (pairs : List (K × V)) (p : K × V) (left : List (K × V))

@@ -1,4 +1,4 @@
-//! Walks that lend the pairs of a run of leaves, which need not be counted.
+//! Iterators that lend the pairs of a run of leaves, which need not be counted.
 ghost use Rattle.std.specs.Prelude.{◌≡◌, ℕ, length, ⊤};
 ghost use Rattle.std.specs.Iterator.{at_most};
 ghost use Rattle.std.specs.Map.Iter.{TakesFirst, TakesLast, deref_pair};
@@ -11,8 +11,8 @@ use std::alloc::AllocError;
 use std::iter::FusedIterator;
 use std::marker::{Model, PhantomData};
 
-/// The pairs of a run of leaves in order, from either end. It is seen as the list of those still to come, and does not
-/// know how many they are.
+/// An iterator over the pairs of a run of leaves in order, from either end. A contract sees it as the list of those
+/// still to come. It does not know how many they are.
 ///
 /// The last parameter is never written: it tells the borrow check that the arena lives as long as it is lent.
 #[derive(Drop)]
@@ -37,7 +37,7 @@ impl<'a, K, V, const PREFIX_LEN: usize, M: 'a> Model for Range<'a, K, V, PREFIX_
 }
 
 impl<'a, K, V, const PREFIX_LEN: usize> Range<'a, K, V, PREFIX_LEN> {
-    /// The pairs of a run of leaves, which are linked neighbours in this arena.
+    /// Returns an iterator over a run of leaves, which are linked neighbours in this arena.
     pub fn new(arena: &'a NodeArena<K, V, PREFIX_LEN>, leaves: RawIterator) -> Self
         requires { (n : ℕ) × IsCounted arena.now leaves n }
         ensures { (n : ℕ) (run : IsCounted arena.now leaves n) → result ≡ pairs_of run.leaves }
@@ -98,7 +98,8 @@ impl<'a, K, V, const PREFIX_LEN: usize> DoubleEndedIterator for Range<'a, K, V, 
     }
 }
 
-/// The pairs of the leaves behind a prefix in order, from either end. It is seen as the list of those still to come.
+/// An iterator over the pairs of the leaves whose keys begin with a prefix, in order, from either end. A contract sees
+/// it as the list of those still to come.
 #[derive(Drop)]
 pub struct Prefix<'a, K, V, const PREFIX_LEN: usize, M: 'a = NodeArena<K, V, PREFIX_LEN>> {
     inner: Range<'a, K, V, PREFIX_LEN, M>,
@@ -113,7 +114,7 @@ impl<'a, K, V, const PREFIX_LEN: usize, M: 'a> Model for Prefix<'a, K, V, PREFIX
 }
 
 impl<'a, K, V, const PREFIX_LEN: usize> Prefix<'a, K, V, PREFIX_LEN> {
-    /// The pairs of a run of leaves, which are linked neighbours in this arena.
+    /// Returns an iterator over a run of leaves, which are linked neighbours in this arena.
     pub fn new(arena: &'a NodeArena<K, V, PREFIX_LEN>, leaves: RawIterator) -> Self
         requires { (n : ℕ) × IsCounted arena.now leaves n }
         ensures { (n : ℕ) (run : IsCounted arena.now leaves n) → result ≡ pairs_of run.leaves }

@@ -26,14 +26,14 @@ impl Model for RawIterator {
 }
 
 impl RawIterator {
-    /// The empty run.
+    /// Returns the empty run.
     pub fn empty() -> Self
         ensures { result ≡ None }
     {
         RawIterator { ends: None }
     }
 
-    /// The run from one leaf to another, which doesn't come before it in their list.
+    /// Returns the run from one leaf to another, which doesn't come before it in their list.
     pub fn new(start: LeafPtr, end: LeafPtr) -> Self
         ensures { result ≡ Some (start, end) }
     {
@@ -71,8 +71,8 @@ impl RawIterator {
         }
     }
 
-    /// The first leaf of the run, which goes on behind it, or `None` where the run is empty, as it then stays. The run
-    /// has to be one of neighbours in this arena.
+    /// Returns the first leaf of the run, which goes on behind it. It returns `None` if the run is empty, and leaves it
+    /// so. The run has to be one of neighbours in this arena.
     pub fn next<K, V, const PREFIX_LEN: usize>(
         &mut self,
         arena: &NodeArena<K, V, PREFIX_LEN>,
@@ -99,8 +99,8 @@ impl RawIterator {
         Some(first)
     }
 
-    /// The last leaf of the run, which then ends before it, or `None` where the run is empty, as it then stays. The run
-    /// has to be one of neighbours in this arena.
+    /// Returns the last leaf of the run, which then ends before it. It returns `None` if the run is empty, and leaves
+    /// it so. The run has to be one of neighbours in this arena.
     pub fn next_back<K, V, const PREFIX_LEN: usize>(
         &mut self,
         arena: &NodeArena<K, V, PREFIX_LEN>,

@@ -22,7 +22,14 @@ pub struct WellFormedTreeStats {
 }
 
 impl WellFormedTreeStats {
-    /// How many nodes there are in all. A sum above the greatest `usize` stays there.
+    /// Returns how many nodes there are in all. A sum above the greatest `usize` stays there.
+    ///
+    /// ```
+    /// use art_map::TreeMap;
+    /// let mut map = TreeMap::new(rt.alloc());
+    /// map.extend([(*b"ab", 1), (*b"ac", 2)])?;
+    /// assert_eq!(rt; map.audit()?.total_nodes(), 3);
+    /// ```
     pub fn total_nodes(&self) -> usize
         ensures { result ≡ min (self.now.num_node4 + self.now.num_node16 + self.now.num_node32 + self.now.num_node48
             + self.now.num_node256 + self.now.num_leaf) (2 ^ 64 - 1) }
@@ -36,7 +43,7 @@ impl WellFormedTreeStats {
     }
 }
 
-/// Kind by kind. A sum above the greatest `usize` stays there.
+/// Adds kind by kind. A sum above the greatest `usize` stays there.
 impl Add for WellFormedTreeStats {
     type Output = WellFormedTreeStats;
 
@@ -54,7 +61,7 @@ impl Add for WellFormedTreeStats {
     }
 }
 
-/// Kind by kind, as in a sum.
+/// Adds kind by kind, as `+` does.
 impl AddAssign for WellFormedTreeStats {
     ghost add_assign_gives = { λ a b r. r ≡ stats_sum a b };
 

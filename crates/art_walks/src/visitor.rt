@@ -10,16 +10,16 @@ ghost use Rattle.art_walks.specs.Visits.{AreVisited, AreVisitedAfter, IsVisited,
 use art_arena::NodeArena;
 use art_nodes::{ChildIter, KindLeaf, LeafNode, NodeType, OpaqueNodePtr};
 
-/// What is done at a node that is met, what comes of it, and how that of several nodes is combined.
+/// What is done at each node that is visited, what comes of it, and how that of several nodes is combined.
 ///
-/// A visit of an inner node goes no further by itself. What stands below is met where `super_visit_with` is called on
-/// its name: a visitor that is to meet a whole tree keeps the names of the inner nodes that it met, and its user calls
-/// that on each in turn. So nothing here recurs, however long the keys are, and nothing takes memory.
+/// A visit of an inner node goes no further by itself. The nodes below it are visited if `super_visit_with` is called
+/// on its name. So a visitor of a whole tree keeps the names of the inner nodes that it met, and its user calls that on
+/// each in turn. Nothing here recurses, however long the keys are, and nothing allocates.
 pub trait Visitor<K, V, const PREFIX_LEN: usize>: Sized {
     /// What comes of a visit.
     type Output;
 
-    /// What may come where there is nothing to visit.
+    /// What may come if there is nothing to visit.
     ghost default_gives: { Self → Self.Output → Type 0 };
 
     /// What may come of two visits, the earlier one first.
@@ -31,11 +31,11 @@ pub trait Visitor<K, V, const PREFIX_LEN: usize>: Sized {
     /// What may come of a visit of a leaf, and how it leaves the visitor.
     ghost leaf_gives: { Self → LeafNode K V → Self → Self.Output → Type 0 };
 
-    /// What comes where there is nothing to visit.
+    /// Returns what comes if there is nothing to visit.
     fn default_output(&self) -> Self::Output
         ensures { default_gives self.now result };
 
-    /// What comes of two visits, the earlier one first.
+    /// Returns what comes of two visits, the earlier one first.
     fn combine_output(&self, earlier: Self::Output, later: Self::Output) -> Self::Output
         ensures { combine_gives self.now earlier later result };
 
@@ -54,7 +54,7 @@ pub trait Visitor<K, V, const PREFIX_LEN: usize>: Sized {
         ensures { leaf_gives self.old leaf.now self.new result };
 }
 
-/// What can be visited in an arena: it has to stand there, and for a visit of its children so have they.
+/// What can be visited in an arena. It has to stand there, and for a visit of its children so have they.
 pub trait Visitable<K, V, const PREFIX_LEN: usize>: Sized {
     /// The name under which it stands.
     ghost name: { Self → Name };
@@ -68,8 +68,8 @@ pub trait Visitable<K, V, const PREFIX_LEN: usize>: Sized {
         requires { IsSome (held_at arena.now (name self)) }
         ensures { IsVisited W.leaf_gives W.inner_gives arena.now (name self) visitor.old visitor.new result };
 
-    /// Lets a visitor visit the children of the node in ascending order, each once, and combines what comes of them;
-    /// where it has none, as a leaf, the default comes.
+    /// Lets a visitor visit the children of the node in ascending order, each once, and combines what comes of them. If
+    /// it has none, as a leaf, it returns the default.
     fn super_visit_with<W: Visitor<K, V, PREFIX_LEN>>(
         self,
         arena: &NodeArena<K, V, PREFIX_LEN>,

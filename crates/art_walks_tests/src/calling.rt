@@ -1,4 +1,4 @@
-//! The callers that `CALLING.md` of art_walks shows, letter for letter; tests in `walks.rt` and `callers.rt` run them.
+//! Callers of art_walks, of which its README.md shows one; tests in `walks.rt` and `callers.rt` run them.
 
 ghost use Rattle.std.specs.Prelude.{◌≡◌, [], ◌∷◌, length, IfErr, IfOk};
 ghost use Rattle.std.specs.BTreeMap.Range.{range_contains};

@@ -1,4 +1,4 @@
-//! Tests of art_walks: the callers of its CALLING.md, a visitor, sums of counts and the text of a fault. What a check
+//! Tests of art_walks: the callers of its README.md, a visitor, sums of counts and the text of a fault. What a check
 //! answers of trees and of broken arenas is shown by scripts, through play_operations.
 #![tactic(auto)]
 

@@ -187,12 +187,16 @@ fn write_pair<const PREFIX_LEN: usize>(
         map,
         key,
         entry,
-        match entry.get_key_value_mut() {
-            Some((key, value)) => {
-                *value = number;
-                show_key(rt, "", key)
+        {
+            let mut pair = entry.get_key_value_mut();
+            match pair.value_mut() {
+                Some(value) => *value = number,
+                None => return println!(rt; "None"),
             }
-            None => println!(rt; "None"),
+            match pair.key() {
+                Some(key) => show_key(rt, "", key),
+                None => println!(rt; "None"),
+            }
         }
     )
 }

@@ -11,8 +11,7 @@ use art_walks::{MapReader, ReadSpan};
 use std::io;
 use std::ops::Bound;
 
-// Prints the pair of a key, or of its front, and how many nodes were read to find it. They are read aside and then
-// taken in.
+// Prints the pair of a key, or of its front, and how many nodes were read to find it.
 fn look_up<K: PlayedKey, const PREFIX_LEN: usize>(
     rt: &impl Print,
     map: &TreeMap<K, u64, PREFIX_LEN>,
@@ -20,13 +19,11 @@ fn look_up<K: PlayedKey, const PREFIX_LEN: usize>(
     is_front: bool,
 ) -> io::Result<()> {
     let mut reader = map.reader();
-    let mut aside = reader.aside();
     let pair = if is_front {
-        aside.prefix_get_key_value(query)
+        reader.prefix_get_key_value(query)
     } else {
-        aside.get_key_value(query)
+        reader.get_key_value(query)
     };
-    reader.take_in(aside);
     match pair {
         Some((key, value)) => println!(rt; "{} {value} {}", key, reader.visits()),
         None => println!(rt; "None"),

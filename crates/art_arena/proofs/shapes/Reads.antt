@@ -1,22 +1,33 @@
 -- What is read of an inner node, and on a way down from it to a first or last leaf.
-use Rattle.std.proofs.Common.{◌≡◌, ◌≢◌, ℕ, zero, suc, ◌+◌, ◌*◌, ◌≤◌, List, [], ◌++◌, length, take, IfErr, MatchOption, None, Option, Some, IsSome, Ok, Err, refl, sym, ap, subst, ◌∙◌, arith}
+use Rattle.std.proofs.Common.{◌≡◌, ◌≢◌, ℕ, zero, suc, ◌+◌, ◌-◌, ◌*◌, ◌^◌, ◌≤◌, min, List, [], ◌++◌, length, drop, take, IfErr, MatchOption, None, Option, Some, IsSome, Ok, Err, refl, sym, ap, subst, ◌∙◌, arith}
 use Rattle.std.specs.declared.result.Result.{Result}
 use Rattle.std.proofs.Math.Nat.{add-mul, mul-le-mul_right}
+use Rattle.art_bytes.specs.Keys.{BeginsWith}
+use Rattle.art_bytes.proofs.Order.{begins_append}
 use Rattle.art_nodes.specs.declared.kind.NodeType.TheVariants.{Leaf}
+use Rattle.art_nodes.specs.declared.leaf.LeafNode.{LeafNode}
 use Rattle.art_nodes.specs.InnerNode.{InnerNode}
 use Rattle.art_nodes.specs.Name.{Name}
-use Rattle.art_arena.specs.arena.Arena.{Arena, cell_of, node_at}
+use Rattle.art_arena.specs.arena.Arena.{Arena, cell_of, held_at, leaf_held, node_at}
+use Rattle.art_arena.specs.arena.Cells.{leaf_name}
 use Rattle.art_arena.specs.arena.Context.{Frame, plug, leaves_before, leaves_after}
+use Rattle.art_arena.specs.arena.Descents.{ReadsPath}
 use Rattle.art_arena.specs.arena.EndLeaves.{end_slot, end_child}
+use Rattle.art_arena.specs.arena.Linked.{first_slot}
 use Rattle.art_arena.specs.arena.Meaning.{IsSubtree}
 use Rattle.art_arena.specs.arena.Prefixes.{prefix_of}
-use Rattle.art_arena.specs.arena.Reads.{DescentReads, IsReadAt, KeysWithin, StepReads}
-use Rattle.art_arena.specs.arena.Shapes.{Shape, LeafAt, leaves}
+use Rattle.art_arena.specs.arena.Reads.{DescentReads, IsReadAt, KeysWithin, ReadsAtLeast, ReadsToFirst, StepReads}
+use Rattle.art_arena.specs.arena.Shapes.{Shape, LeafAt, erase, leaves}
+use Rattle.art_arena.specs.tree.Paths.{path_of}
+use Rattle.art_arena.specs.tree.Trees.{Tree}
+use Rattle.art_arena.specs.tree.Trees as tree
 use Rattle.art_arena.specs.declared.ends.End.{End}
+use Rattle.art_arena.specs.declared.ends.End.TheVariants.{First}
 use Rattle.art_arena.proofs.tree.Order.{all_left, all_right}
 use Rattle.art_arena.proofs.shapes.Contexts.{leaves-plug}
 use Rattle.art_arena.proofs.shapes.EndWalks.{EndStep, end_step, on_end-start, same_inner}
 use Rattle.art_arena.proofs.shapes.Places.{InnerThere, inner-there}
+use Rattle.art_arena.proofs.shapes.Prefixes.{first_leaf}
 use Rattle.art_arena.proofs.shapes.Subtrees.{subtree-leaf}
 
 -- what holds of an answer may be weaker
@@ -27,6 +38,11 @@ err_weaker (Err e) B C f h = f e h
 pub option_weaker : {X : Type 0} (r : Option X) (A B : Type 0) (C D : X → Type 0) → (A → B) → ((x : X) → C x → D x) → MatchOption r A C → MatchOption r B D
 option_weaker None A B C D f h a = f a
 option_weaker (Some x) A B C D f h c = h x c
+
+-- a path has a node
+pub reads_some : {X : Type 0} (t : Tree X) (key : List ℕ) (old new : ℕ) → new ≡ min (old + length (path_of t key)) (2 ^ 64 - 1) → ReadsAtLeast 1 old new
+reads_some (tree.leaf x) key old new reads = omega (arith, reads)
+reads_some (tree.inner prefix children) key old new reads = omega (arith, reads)
 
 -- what a step reads, told by how many bytes it has
 pub step_reads : (longest depth prefix next old new : ℕ) → next ≡ depth + prefix + 1 → (prefix ≡ 0 → new ≡ old) → new ≤ old + longest → StepReads longest depth next old new
@@ -91,6 +107,7 @@ module _ {K V : Type 0} (bytes : K → List ℕ) (P : ℕ) (arena : Arena K V) (
       pub same_end : end_slot end (leaves part) ≡ end_slot end (leaves s)
       pub deeper : depth + 1 ≤ length below
       pub within : (longest : ℕ) → KeysWithin bytes longest (leaves s) → KeysWithin bytes longest (leaves part)
+      pub long : (k : List ℕ) → BeginsWith below k → length (path_of (erase s) (drop (length path) k)) ≡ suc (length (path_of (erase part) (drop (length below) k)))
 
     pub read_child : (c : ℕ × Name) → end_child end node.children ≡ Some c → ReadChild c
     read_child c found =
@@ -102,4 +119,19 @@ module _ {K V : Type 0} (bytes : K → List ℕ) (P : ℕ) (arena : Arena K V) (
           same_end = on.same_end;
           deeper = omega (arith, on.deeper, on.reads, at.stands.behind);
           within = on.within;
+          long = λ k begins. omega (arith, on.long k begins, on.reads);
         }
+
+  -- the nodes of the path of the first leaf's key below the first child are those behind this node
+  pub read_first : (c : ℕ × Name) (child : ReadChild First c) (name : ℕ) (landed : LeafNode K V) (old new : ℕ)
+      → first_slot (leaves s) None ≡ Some name → held_at arena (leaf_name name) ≡ Some (leaf_held landed)
+      → ReadsPath (drop (length child.below) (bytes landed.key)) child.part old new → ReadsToFirst bytes arena path s old new
+  read_first c child name landed old new first held reads slot leaf first_too held_too =
+      let same_slot : slot ≡ name = cc in
+      let same_leaf : landed ≡ leaf = cc in
+      let found = first_leaf bytes P arena c.1 child.below child.part slot child.subtree (child.same_end ∙ first_too) in
+      let same_found : found.leaf ≡ leaf = let e = found.there in cc in
+      let begins = subst (λ (l : LeafNode K V). BeginsWith child.below (bytes l.key)) same_found (begins_append child.below (prefix_of child.part) (bytes found.leaf.key) found.begins) in
+      let long = child.long (bytes leaf.key) begins in
+      let so_many : length (path_of (erase child.part) (drop (length child.below) (bytes leaf.key))) ≡ length (path_of (erase s) (drop (length path) (bytes leaf.key))) - 1 = omega (arith, long) in
+      subst (λ (l : LeafNode K V). ReadsPath (drop (length child.below) (bytes l.key)) child.part old new) same_leaf reads ∙ ap (λ m. min (old + m) (2 ^ 64 - 1)) so_many

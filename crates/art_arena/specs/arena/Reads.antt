@@ -1,11 +1,23 @@
--- How many nodes a walk reads at most, told by the keys.
-use Rattle.std.specs.Prelude.{◌≡◌, ℕ, ◌+◌, ◌*◌, ◌≤◌, List, length, Some}
+-- How many nodes a walk reads, told by the keys.
+use Rattle.std.specs.Prelude.{◌≡◌, ℕ, ◌+◌, ◌-◌, ◌*◌, ◌^◌, ◌≤◌, min, List, length, drop, None, Some}
 use Rattle.std.specs.List.{AllByRecursion}
 use Rattle.art_nodes.specs.Name.{Name}
 use Rattle.art_nodes.specs.InnerNode.{InnerNode}
-use Rattle.art_arena.specs.arena.Arena.{Arena, held_at, inner_held}
-use Rattle.art_arena.specs.arena.Shapes.{Shape, LeafAt}
+use Rattle.art_nodes.specs.declared.leaf.LeafNode.{LeafNode}
+use Rattle.art_arena.specs.arena.Arena.{Arena, held_at, inner_held, leaf_held}
+use Rattle.art_arena.specs.arena.Cells.{leaf_name}
+use Rattle.art_arena.specs.arena.Linked.{first_slot}
+use Rattle.art_arena.specs.arena.Shapes.{Shape, LeafAt, erase, leaves}
 use Rattle.art_arena.specs.arena.Stores.{StoresAt}
+use Rattle.art_arena.specs.tree.Paths.{path_of}
+
+-- So many nodes were read at least. The greatest count stays, so a count never falls.
+abbrev pub ReadsAtLeast : ℕ → ℕ → ℕ → Type 0
+ReadsAtLeast n old new = min (old + n) (2 ^ 64 - 1) ≤ new
+
+-- as many nodes were read as the key's path has behind the first of them; the greatest count stays
+abbrev pub ReadsBehind : {K V : Type 0} → List ℕ → Shape K V → ℕ → ℕ → Type 0
+ReadsBehind key s old new = new ≡ min (old + (length (path_of (erase s) key) - 1)) (2 ^ 64 - 1)
 
 -- A step of a descent, which leads from one depth to another, reads this many nodes at most, and with the node itself
 -- half as many for each byte as the longest key and two have.
@@ -20,6 +32,13 @@ module _ {K V : Type 0} (bytes : K → List ℕ) where
   -- no leaf's key has more bytes than this
   abbrev pub KeysWithin : ℕ → List (LeafAt K V) → Type 0
   KeysWithin longest ls = AllByRecursion (λ l. length (bytes l.key) ≤ longest) ls
+
+  -- the nodes behind the root of this part were read on the way to its first leaf, that leaf among them
+  abbrev pub ReadsToFirst : Arena K V → List ℕ → Shape K V → ℕ → ℕ → Type 0
+  ReadsToFirst arena path s old new =
+      (slot : ℕ) (leaf : LeafNode K V) → first_slot (leaves s) None ≡ Some slot
+      → held_at arena (leaf_name slot) ≡ Some (leaf_held leaf)
+      → ReadsBehind (drop (length path) (bytes leaf.key)) s old new
 
   module _ (P : ℕ) (arena : Arena K V) (node : InnerNode) where
     -- this inner node was read, and is the root of this part, which is canonical behind a path of so many bytes

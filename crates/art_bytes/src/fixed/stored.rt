@@ -13,12 +13,12 @@ pub trait StoredAsNumber: Ord + Drop {
     /// The number that it is stored as.
     ghost stored: { Self → Self.Number };
 
-    /// The number that the value is stored as. It takes no memory.
+    /// Returns the number that the value is stored as. It allocates nothing.
     fn to_number(self) -> Self::Number
         ensures range { in_range self }
         ensures number { result ≡ stored self };
 
-    /// The value that is stored as this number, or None where there is none. It takes no memory.
+    /// Returns the value that is stored as this number, or `None` if there is none. It allocates nothing.
     fn from_number(number: Self::Number) -> Option<Self>
         ensures { MatchOption result (¬ ((v : Self) × in_range v × (stored v ≡ number)))
             (λ v. in_range v × (stored v ≡ number)) };

@@ -1,11 +1,16 @@
-//! Text and bytes that are borrowed.
+//! Keys that borrow a text or bytes.
 ghost use Rattle.std.specs.Prelude.{◌≡◌};
 ghost use Rattle.std.proofs.Common.{refl, ap};
 ghost use Rattle.art_bytes.specs.Keys.{AreBytes};
 
 use crate::as_bytes::{AsBytes, CloneBytes, OrderedBytes, known_bytes};
 
-/// A text that is borrowed: its UTF-8 bytes.
+/// A borrowed text as a key: its UTF-8 bytes.
+///
+/// ```
+/// use art_bytes::AsBytes;
+/// assert_eq!(rt; StrKey("ab").as_bytes(), [97, 98].as_slice());
+/// ```
 #[derive(Clone, Copy, PartialEq, Eq, PartialOrd, Ord, Hash, Debug)]
 pub struct StrKey<'a>(pub &'a str);
 
@@ -30,7 +35,13 @@ impl CloneBytes for StrKey<'_> {
     ghost same_bytes = { λ k l h. ap (λ it. it.0.now) h };
 }
 
-/// Bytes that are borrowed.
+/// Borrowed bytes as a key.
+///
+/// ```
+/// use art_bytes::AsBytes;
+/// let bytes = vec![in rt.alloc(); 1, 2, 3]?;
+/// assert_eq!(rt; SliceKey(&bytes[1..]).as_bytes(), [2, 3].as_slice());
+/// ```
 #[derive(Clone, Copy, PartialEq, Eq, PartialOrd, Ord, Hash, Debug)]
 pub struct SliceKey<'a>(pub &'a [u8]);
 

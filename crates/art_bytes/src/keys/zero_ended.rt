@@ -1,4 +1,4 @@
-//! Bytes without a zero, kept with one behind them.
+//! Bytes without a zero, kept with one at their end.
 ghost use Rattle.std.specs.Prelude.{◌≡◌, ◌++◌, ◌-◌, [], ◌∷◌, ℕ, List, IfOk, IfErr, OnOk, nat_eq, Some, take, length};
 ghost use Rattle.std.proofs.Common.{refl, rules, ap};
 ghost use Rattle.std.specs.Cmp.{on_per, on_po, partial_equiv_from_equiv};
@@ -18,7 +18,7 @@ use std::hash::{Hash, Hasher};
 use std::marker::Model;
 use thiserror::Error;
 
-/// Why bytes could not be kept with a zero behind them; they are handed back.
+/// Why bytes could not be kept with a zero at their end. The error returns them.
 #[derive(Debug, Drop, Error)]
 pub enum ZeroEndedError {
     #[error("the bytes hold a zero")]
@@ -27,9 +27,15 @@ pub enum ZeroEndedError {
     Memory(Vec<u8>),
 }
 
-/// Bytes none of which is zero, seen as a key with one zero behind them, so that no key begins another.
+/// Bytes none of which is zero, as a key with one zero at its end. So no key is a prefix of another.
 ///
-/// What a contract sees is the list of the bytes without that zero.
+/// A contract sees the list of the bytes without that zero.
+///
+/// ```
+/// use art_bytes::AsBytes;
+/// let key = ZeroEnded::new(b"ab".to_vec(rt.alloc())?)?;
+/// assert_eq!(rt; key.as_bytes(), b"ab\0".as_slice());
+/// ```
 #[derive(Drop)]
 pub struct ZeroEnded {
     with_zero: Vec<u8>,
@@ -47,8 +53,13 @@ impl Model for ZeroEnded {
 impl ZeroEnded {
     ghost use Rattle.art_bytes.specs.ZeroEnded.{HandsBack};
 
-    /// The bytes as a key. It is refused where one of them is zero, or where there is no memory for the zero at the
-    /// end; the bytes are then handed back.
+    /// Makes a key of these bytes. Fails if one of them is zero, or if there is no memory for the zero at the end. The
+    /// error returns the bytes.
+    ///
+    /// ```
+    /// assert!(rt; ZeroEnded::new(b"ab".to_vec(rt.alloc())?).is_ok());
+    /// assert!(rt; ZeroEnded::new(b"a\0b".to_vec(rt.alloc())?).is_err());
+    /// ```
     pub fn new(bytes: Vec<u8>) -> Result<Self, ZeroEndedError>
         ensures value { IfOk result (λ k. k ≡ bytes.items) }
         ensures fits { OnOk result (HasNoZero bytes.items) }
@@ -64,7 +75,12 @@ impl ZeroEnded {
         }
     }
 
-    /// The bytes without the zero at the end. It takes no memory.
+    /// Returns the bytes without the zero at the end. It allocates nothing.
+    ///
+    /// ```
+    /// let key = ZeroEnded::new(b"ab".to_vec(rt.alloc())?)?;
+    /// assert_eq!(rt; key.to_bytes(), b"ab".as_slice());
+    /// ```
     pub fn to_bytes(&self) -> &[u8]
         ensures value { result.now ≡ self.now }
         ensures no_zero { HasNoZero self.now }

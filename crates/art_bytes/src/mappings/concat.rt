@@ -11,13 +11,19 @@ use crate::mapping::{BytesMapping, NoPrefixesMapping, OrderedMapping};
 use std::alloc::{AllocError, Global};
 use std::marker::PhantomData;
 
-/// Tuples of two to six parts, each by the mapping that stands in its place in `M`.
+/// Tuples of two to six parts. Each part is mapped as the mapping in its place in `M` tells.
+///
+/// ```
+/// use art_bytes::AsBytes;
+/// let key = Mapped::<ConcatTuple<(ToUBE, ToUBE)>, (u8, u16)>::new(rt.alloc(), (7, 258))?;
+/// assert_eq!(rt; key.as_bytes(), [7, 1, 2].as_slice());
+/// ```
 #[derive(Clone, Copy)]
 pub struct ConcatTuple<M> {
     parts: PhantomData<M>,
 }
 
-/// The mappings of a tuple's parts, as one; a fixed mapping is that of one part.
+/// The mappings of a tuple's parts, as one. A fixed mapping is that of one part.
 pub trait Parts<D: Ord> {
     ghost WIDTH: { ℕ };
 
@@ -27,16 +33,16 @@ pub trait Parts<D: Ord> {
     /// The bytes of a tuple: those of its parts in order.
     ghost parts_bytes: { D → List ℕ };
 
-    /// The number of bytes, or None where no `usize` is as great.
+    /// Returns the number of bytes, or `None` if no `usize` is as great.
     fn width() -> Option<usize>
         ensures { MatchOption result (¬ (WIDTH < 2 ^ 64)) (λ n. n ≡ WIDTH) };
 
-    /// Puts the tuple's bytes behind those that are there; where it is refused, some of them.
+    /// Appends the tuple's bytes to those that are there. If it fails, some of them are appended.
     fn push_bytes(bytes: &mut Vec<u8>, alloc: Global, value: D) -> Result<(), AllocError>
         ensures value { OnOk result (is_value value) }
         ensures bytes { OnOk result (bytes.new.items ≡ bytes.old.items ++ parts_bytes value) };
 
-    /// The tuple that has these bytes, or None where there is none. It takes no memory.
+    /// Returns the tuple that has these bytes, or `None` if there is none. It allocates nothing.
     fn checked_from_slice(bytes: &[u8]) -> Option<D>
         ensures { MatchOption result (¬ ((v : D) × is_value v × (parts_bytes v ≡ bytes.now)))
             (λ v. is_value v × (parts_bytes v ≡ bytes.now)) };

@@ -7,6 +7,12 @@ use crate::mapping::{BytesMapping, NoPrefixesMapping, OrderedMapping};
 use std::alloc::{AllocError, Global};
 
 /// A key is kept as it is.
+///
+/// ```
+/// use art_bytes::AsBytes;
+/// let key = Mapped::<Identity, [u8; 2]>::new(rt.alloc(), [1, 2])?;
+/// assert_eq!(rt; key.as_bytes(), [1, 2].as_slice());
+/// ```
 #[derive(Clone, Copy)]
 pub struct Identity;
 

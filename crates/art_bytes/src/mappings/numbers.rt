@@ -12,14 +12,33 @@ use crate::mapping::{BytesMapping, FixedBytesMapping, NoPrefixesMapping, Ordered
 use std::alloc::{AllocError, Global};
 
 /// Unsigned numbers as big-endian bytes.
+///
+/// ```
+/// use art_bytes::AsBytes;
+/// let key = Mapped::<ToUBE, u32>::new(rt.alloc(), 258)?;
+/// assert_eq!(rt; key.as_bytes(), [0, 0, 1, 2].as_slice());
+/// ```
 #[derive(Clone, Copy)]
 pub struct ToUBE;
 
 /// Signed numbers as big-endian bytes with the top bit flipped, so that the negative ones come first.
+///
+/// ```
+/// use art_bytes::AsBytes;
+/// let key = Mapped::<ToIBE, i16>::new(rt.alloc(), -1)?;
+/// assert_eq!(rt; key.as_bytes(), [0x7f, 0xff].as_slice());
+/// ```
 #[derive(Clone, Copy)]
 pub struct ToIBE;
 
 /// Addresses as their octets.
+///
+/// ```
+/// use art_bytes::AsBytes;
+/// use std::net::Ipv4Addr;
+/// let key = Mapped::<ToOctets, Ipv4Addr>::new(rt.alloc(), Ipv4Addr::new(10, 0, 0, 7))?;
+/// assert_eq!(rt; key.as_bytes(), [10, 0, 0, 7].as_slice());
+/// ```
 #[derive(Clone, Copy)]
 pub struct ToOctets;
 
@@ -47,7 +66,7 @@ fn read_one<E: FixedBytes>(bytes: &[u8]) -> Option<E>
     E::checked_from_slice(bytes)
 }
 
-// Puts the value's bytes behind those that are there.
+// Appends the value's bytes to those that are there.
 fn push_one<E: FixedBytes>(bytes: &mut Vec<u8>, alloc: Global, value: E) -> Result<(), AllocError>
     ensures value { OnOk result (E.is_value value) }
     ensures bytes { OnOk result (bytes.new.items ≡ bytes.old.items ++ E.fixed_bytes value) }
@@ -56,7 +75,7 @@ fn push_one<E: FixedBytes>(bytes: &mut Vec<u8>, alloc: Global, value: E) -> Resu
     bytes.extend_from_slice(array.as_bytes())
 }
 
-// The same of the bytes as they are kept.
+// The value that these bytes are read as, as they are kept in `E::Array`.
 fn checked_read<E: FixedBytes>(bytes: E::Array) -> Option<E>
     ensures value { MatchOption result (¬ ((v : E) × E.is_value v × (E.Array.bytes bytes ≡ E.fixed_bytes v)))
         (λ v. E.is_value v × (E.Array.bytes bytes ≡ E.fixed_bytes v)) }

@@ -9,11 +9,19 @@ use art_walks::{MalformedTreeError, WellFormedChecker, WellFormedTreeStats};
 use std::alloc::AllocError;
 
 impl<K: AsBytes, V, const PREFIX_LEN: usize> TreeMap<K, V, PREFIX_LEN> {
-    /// How many leaves the map's tree has, and how many inner nodes of each kind: what the checker counts, and what the
-    /// keys alone tell. A tree has a leaf for each key, and an inner node for each of the different longest common
-    /// fronts of neighbours, whose children are the different bytes that follow the front.
+    /// Returns how many leaves the map's tree has, and how many inner nodes of each kind. The checker counts them, and
+    /// the keys alone tell what it finds.
     ///
-    /// It is refused only where there is no memory for the names that the checker has seen.
+    /// A tree has a leaf for each key. It has an inner node for each of the different longest common prefixes of
+    /// neighbours, whose children are the different bytes that follow the prefix.
+    ///
+    /// Fails only if there is no memory for the names that the checker has seen.
+    ///
+    /// ```
+    /// let mut map = TreeMap::new(rt.alloc());
+    /// map.extend([(*b"ab", 1), (*b"ac", 2), (*b"bc", 3)])?;
+    /// assert_eq!(rt; map.audit()?.total_nodes(), 5);
+    /// ```
     pub fn audit(&self) -> Result<WellFormedTreeStats, AllocError>
         ensures { IfOk result (λ stats. stats ≡ audit_of (key_of K.bytes) self.now.pairs) }
     {
@@ -26,7 +34,7 @@ impl<K: AsBytes, V, const PREFIX_LEN: usize> TreeMap<K, V, PREFIX_LEN> {
     }
 }
 
-// The fault that stands in each tree.
+// The fault that any tree may have.
 fn want_of_memory(fault: MalformedTreeError) -> AllocError
     requires { fault ≡ MalformedTreeError.Memory }
 {

@@ -1,9 +1,10 @@
-//! Many pairs are put in, one after another; and maps are made of them.
+//! Maps that are made of many pairs, and many pairs that are inserted one after another.
 ghost use Rattle.std.specs.Prelude.{◌≡◌, [], IfErr, IfOk};
 ghost use Rattle.std.specs.Iterator.{IsFinite};
 ghost use Rattle.std.specs.Map.Iter.{deref_pair};
 ghost use Rattle.art_map.specs.Asked.{with_pairs_put};
 ghost use Rattle.art_map.specs.Bulk.{ExtendsWith, IsMadeOf, IsOfList};
+ghost use Rattle.art_map.specs.LeafNames.{KeepsAllLeaves};
 
 use crate::map::TreeMap;
 use crate::map::room::nodes_fit;
@@ -12,18 +13,25 @@ use art_operations::InsertRefused;
 use std::alloc::Global;
 
 impl<K: NoPrefixesBytes + Drop, V: Drop, const PREFIX_LEN: usize> TreeMap<K, V, PREFIX_LEN> {
-    /// Puts the pairs in that an iterator gives, one after another, each in the place of the one whose key has the same
-    /// bytes if there is one. The iterator has to end.
+    /// Inserts the pairs that an iterator gives, one after another. Each replaces a pair whose key has the same bytes.
+    /// The iterator has to end.
     ///
-    /// Where there is no memory for a pair, it is handed back. The pairs that came before it stay, and the iterator is
-    /// dropped.
+    /// Fails if there is no memory for a pair, which the error returns. The pairs before it stay in the map, and the
+    /// iterator is dropped.
+    ///
+    /// ```
+    /// let mut map = TreeMap::new(rt.alloc());
+    /// map.extend([(*b"cd", 2), (*b"ab", 1), (*b"cd", 3)])?;
+    /// assert!(rt; map.iter().eq([(b"ab", &1), (b"cd", &3)]));
+    /// ```
     pub fn extend<U: IntoIterator<Item = (K, V)>>(
         &mut self,
         iter: U,
     ) -> Result<(), InsertRefused<K, V>>
         requires { (it : U.IntoIter) → U.into_iter_gives iter it
             → U.IntoIter.can_next it × IsFinite (U.IntoIter.remaining it) }
-        ensures { ExtendsWith K.bytes (λ pair. pair) U.into_iter_gives U.IntoIter.next_gives iter self.old.pairs
+        ensures names { KeepsAllLeaves K.bytes self.old self.new }
+        ensures pairs { ExtendsWith K.bytes (λ pair. pair) U.into_iter_gives U.IntoIter.next_gives iter self.old.pairs
             result self.new.pairs }
     {
         for (key, value) in iter {
@@ -32,7 +40,15 @@ impl<K: NoPrefixesBytes + Drop, V: Drop, const PREFIX_LEN: usize> TreeMap<K, V, 
         Ok(())
     }
 
-    /// The same with an iterator that lends keys and values, which are copied.
+    /// Inserts copies of the keys and values that an iterator lends, as `extend` does.
+    ///
+    /// ```
+    /// let mut first = TreeMap::new(rt.alloc());
+    /// first.insert(*b"ab", 1)?;
+    /// let mut second = TreeMap::new(rt.alloc());
+    /// second.extend_from_refs(first.iter())?;
+    /// assert_eq!(rt; second.get(b"ab"), Some(&1));
+    /// ```
     pub fn extend_from_refs<'a, U: IntoIterator<Item = (&'a K, &'a V)>>(
         &mut self,
         iter: U,
@@ -42,7 +58,8 @@ impl<K: NoPrefixesBytes + Drop, V: Drop, const PREFIX_LEN: usize> TreeMap<K, V, 
         V: Copy + 'a,
         requires { (it : U.IntoIter) → U.into_iter_gives iter it
             → U.IntoIter.can_next it × IsFinite (U.IntoIter.remaining it) }
-        ensures { ExtendsWith K.bytes deref_pair U.into_iter_gives U.IntoIter.next_gives iter self.old.pairs
+        ensures names { KeepsAllLeaves K.bytes self.old self.new }
+        ensures pairs { ExtendsWith K.bytes deref_pair U.into_iter_gives U.IntoIter.next_gives iter self.old.pairs
             result self.new.pairs }
     {
         for (key, value) in iter {
@@ -51,10 +68,15 @@ impl<K: NoPrefixesBytes + Drop, V: Drop, const PREFIX_LEN: usize> TreeMap<K, V, 
         Ok(())
     }
 
-    /// A map of the pairs that an iterator gives: of pairs with the same bytes as key the last. The iterator has to
-    /// end.
+    /// Makes a map of the pairs that an iterator gives. Of pairs whose keys have the same bytes the last counts. The
+    /// iterator has to end.
     ///
-    /// Where there is no memory for a pair, it is handed back, and the rest is dropped.
+    /// Fails if there is no memory for a pair, which the error returns. All else is dropped.
+    ///
+    /// ```
+    /// let map: TreeMap<_, _, 16> = TreeMap::from_iter(rt.alloc(), [(*b"cd", 2), (*b"ab", 1)])?;
+    /// assert!(rt; map.values().eq([&1, &2]));
+    /// ```
     pub fn from_iter<U: IntoIterator<Item = (K, V)>>(
         alloc: Global,
         iter: U,
@@ -75,9 +97,15 @@ impl<K: NoPrefixesBytes + Drop, V: Drop, const PREFIX_LEN: usize> TreeMap<K, V, 
         Ok(map)
     }
 
-    /// A map of the pairs of a vector: of pairs with the same bytes as key the last.
+    /// Makes a map of the pairs of a vector. Of pairs whose keys have the same bytes the last counts.
     ///
-    /// Where there is no memory for a pair, it is handed back, and the rest is dropped.
+    /// Fails if there is no memory for a pair, which the error returns. All else is dropped.
+    ///
+    /// ```
+    /// let pairs = vec![in rt.alloc(); (*b"cd", 2), (*b"ab", 1)]?;
+    /// let map: TreeMap<_, _, 16> = TreeMap::from_vec(rt.alloc(), pairs)?;
+    /// assert!(rt; map.values().eq([&1, &2]));
+    /// ```
     pub fn from_vec(alloc: Global, pairs: Vec<(K, V)>) -> Result<Self, InsertRefused<K, V>>
         ensures ok { IfOk result (λ made. made.pairs ≡ with_pairs_put K.bytes pairs.items []) }
         ensures err { IfErr result (IsOfList pairs.items) }

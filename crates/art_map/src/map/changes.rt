@@ -1,4 +1,4 @@
-//! Pairs are put in.
+//! Insertions: of a pair whose key overlaps no other, in place of an equal key, or in place of all that overlap.
 ghost use Rattle.std.specs.Prelude.{◌≡◌, ℕ, List, length, IfOk, IfErr, IsOk, OnErr, OnOk};
 ghost use Rattle.std.specs.List.{AllByRecursion};
 ghost use Rattle.std.specs.Map.{lookup, lookup_entry};
@@ -9,6 +9,7 @@ ghost use Rattle.art_operations.specs.KeyedLists.{HasKey, IsBlocked, overlapping
 ghost use Rattle.art_operations.specs.Pairs.{CanPut, IsPlaceFor, TellsConflict, with_pair_put, with_pair_over};
 ghost use Rattle.art_map.specs.Contents.{entry_in, option_value, IsUntouched};
 ghost use Rattle.art_map.specs.Found.{HasPairAt};
+ghost use Rattle.art_map.specs.LeafNames.{KeepsAllLeaves, KeepsLeaves};
 
 use crate::map::TreeMap;
 use crate::map::refused::TryInsertError;
@@ -31,7 +32,7 @@ fn entry_of<K, V>(leaf: Option<LeafNode<K, V>>) -> Option<(K, V)>
     }
 }
 
-// The value of a pair, whose key is let go.
+// The value of a pair, whose key is dropped.
 #[inline(always)]
 pub(super) fn value_of<K: Drop, V>(pair: Option<(K, V)>) -> Option<V>
     ensures { result ≡ option_value pair }
@@ -48,9 +49,17 @@ impl<K: AsBytes, V, const PREFIX_LEN: usize> TreeMap<K, V, PREFIX_LEN> {
     ghost use Rattle.art_operations.specs.Pairs.{IsPlaced};
     ghost use Rattle.art_map.specs.Found.{IsFound};
 
-    /// Finds where a key with the query's bytes goes, for `put_at`. It is refused where the key is a front of a stored
-    /// key, or a stored key is one of it: the refusal tells the part of the tree that has these keys. It takes no
-    /// memory.
+    /// Finds where a key with the query's bytes goes, for `put_at`. It allocates nothing.
+    ///
+    /// Fails if the key is a prefix of a stored key, or a stored key is a prefix of it. The error names the part of the
+    /// tree that has these keys.
+    ///
+    /// ```
+    /// let mut map = TreeMap::new(rt.alloc());
+    /// map.try_insert(StrKey("ab"), 1)?;
+    /// assert!(rt; map.place(&StrKey("cd")).is_ok());
+    /// assert!(rt; map.place(&StrKey("abc")).is_err());
+    /// ```
     #[inline(always)]
     pub fn place<Q: AsBytes>(&self, key: &Q) -> Result<Option<InsertPoint>, PrefixConflict>
         ensures placed { IsPlaced K.bytes PREFIX_LEN self.now.nodes (Q.bytes key.now) self.now.pairs result }
@@ -66,7 +75,7 @@ impl<K: AsBytes, V, const PREFIX_LEN: usize> TreeMap<K, V, PREFIX_LEN> {
         find_place(&self.arena, root, key.as_bytes())
     }
 
-    // The leaf of the pair that has a key already, if the place that was found for the key is one.
+    // The leaf of the pair that already has a key, if the place that was found for the key is one.
     pub(super) fn stored_at(&self, place: &Option<InsertPoint>) -> Option<LeafPtr>
         ensures { (key : List ℕ) → ∥ IsPlaceFor K.bytes PREFIX_LEN self.now.nodes self.now.root key place.now ∥₁
             → IsFound (has_bytes K.bytes key) self.now result }
@@ -78,10 +87,19 @@ impl<K: AsBytes, V, const PREFIX_LEN: usize> TreeMap<K, V, PREFIX_LEN> {
         }
     }
 
-    /// Puts a pair in at the place that `place` found for its key in this map as it is, in the place of the one whose
-    /// key has the same bytes if there is one, and answers the value of that one. It is refused only where there is no
-    /// memory. The pair is then handed back, and the map is as it was, its nodes too, so that the place still stands. A
-    /// key that is stored is never refused.
+    /// Inserts a pair at the place that `place` found for its key in this map as it is. It replaces a pair whose key
+    /// has the same bytes, and returns that pair's value.
+    ///
+    /// Fails only if out of memory, and never if the key is stored. The error returns the pair. The map and its nodes
+    /// are unchanged then, so the place is still right.
+    ///
+    /// ```
+    /// let mut map = TreeMap::new(rt.alloc());
+    /// if let Ok(place) = map.place(&StrKey("ab")) {
+    ///     map.put_at(place, StrKey("ab"), 1)?;
+    /// }
+    /// assert_eq!(rt; map.get(&StrKey("ab")), Some(&1));
+    /// ```
     #[inline(always)]
     pub fn put_at(
         &mut self,
@@ -95,6 +113,7 @@ impl<K: AsBytes, V, const PREFIX_LEN: usize> TreeMap<K, V, PREFIX_LEN> {
         ensures value { IfOk result (λ old. old ≡ lookup (has_bytes K.bytes (K.bytes key)) self.old.pairs) }
         ensures pairs { OnOk result (self.new.pairs ≡ with_pair_put K.bytes key value self.old.pairs) }
         ensures stored { HasKey (key_of K.bytes) (K.bytes key) self.old.pairs → IsOk result }
+        ensures names { OnOk result (KeepsAllLeaves K.bytes self.old self.new) }
         ensures err { OnErr result (self.new.pairs ≡ self.old.pairs) }
         ensures kept { OnErr result (IsUntouched self.old self.new) }
         ensures handed_back { HandsPairBack key value result }
@@ -105,7 +124,7 @@ impl<K: AsBytes, V, const PREFIX_LEN: usize> TreeMap<K, V, PREFIX_LEN> {
         }
     }
 
-    // The same, and the leaf of the pair is answered too.
+    // Inserts a pair as `put_at` does, and returns its leaf too.
     #[inline(always)]
     pub(super) fn put_leaf_at(
         &mut self,
@@ -120,6 +139,7 @@ impl<K: AsBytes, V, const PREFIX_LEN: usize> TreeMap<K, V, PREFIX_LEN> {
         ensures value { IfOk result (λ put. put.1 ≡ lookup (has_bytes K.bytes (K.bytes key)) self.old.pairs) }
         ensures pairs { OnOk result (self.new.pairs ≡ with_pair_put K.bytes key value self.old.pairs) }
         ensures stored { HasKey (key_of K.bytes) (K.bytes key) self.old.pairs → IsOk result }
+        ensures names { OnOk result (KeepsAllLeaves K.bytes self.old self.new) }
         ensures err { OnErr result (self.new.pairs ≡ self.old.pairs) }
         ensures kept { OnErr result (IsUntouched self.old self.new) }
         ensures handed_back { HandsPairBack key value result }
@@ -135,7 +155,7 @@ impl<K: AsBytes, V, const PREFIX_LEN: usize> TreeMap<K, V, PREFIX_LEN> {
         }
     }
 
-    // Puts a pair in at the place that is remembered for its key, and answers its leaf.
+    // Inserts a pair at the place that is remembered for its key, and returns its leaf.
     pub(super) fn put_leaf(
         &mut self,
         place: Option<InsertPoint>,
@@ -148,6 +168,7 @@ impl<K: AsBytes, V, const PREFIX_LEN: usize> TreeMap<K, V, PREFIX_LEN> {
         requires { ∥ IsPlaceFor K.bytes PREFIX_LEN self.old.nodes self.old.root (K.bytes key) place ∥₁ }
         ensures leaf { IfOk result (λ leaf. HasPairAt self.new leaf (key, value)) }
         ensures pairs { OnOk result (self.new.pairs ≡ with_pair_put K.bytes key value self.old.pairs) }
+        ensures names { OnOk result (KeepsAllLeaves K.bytes self.old self.new) }
         ensures err { OnErr result (self.new.pairs ≡ self.old.pairs) }
         ensures kept { OnErr result (IsUntouched self.old self.new) }
         ensures handed_back { HandsPairBack key value result }
@@ -159,14 +180,15 @@ impl<K: AsBytes, V, const PREFIX_LEN: usize> TreeMap<K, V, PREFIX_LEN> {
         }
     }
 
-    // Puts a pair in, and answers the one whose key has the same bytes, if there is one. Where it is refused the map is
-    // as it was.
+    // Inserts a pair, and returns the one whose key has the same bytes, if there is one. If it fails, the map is
+    // unchanged.
     #[inline(always)]
     pub(super) fn put(&mut self, key: K, value: V) -> Result<Option<(K, V)>, PairRefused<K, V>>
         ensures old { IfOk result (λ old. old ≡ lookup_entry (has_bytes K.bytes (K.bytes key)) self.old.pairs) }
         ensures pairs { OnOk result (self.new.pairs ≡ with_pair_put K.bytes key value self.old.pairs) }
         ensures free { OnOk result (IsBlocked (key_of K.bytes) (K.bytes key) self.old.pairs → ⊥) }
         ensures stored { HasKey (key_of K.bytes) (K.bytes key) self.old.pairs → IsOk result }
+        ensures names { OnOk result (KeepsAllLeaves K.bytes self.old self.new) }
         ensures err { OnErr result (self.new.pairs ≡ self.old.pairs) }
         ensures kept { OnErr result (IsUntouched self.old self.new) }
         ensures refused { IfErr result
@@ -188,12 +210,18 @@ impl<K: AsBytes, V, const PREFIX_LEN: usize> TreeMap<K, V, PREFIX_LEN> {
         }
     }
 
-    /// Puts a pair in, in the place of the one whose key has the same bytes if there is one, and answers the value of
-    /// that one.
+    /// Inserts a pair. It replaces a pair whose key has the same bytes, and returns that pair's value.
     ///
-    /// It is refused with `Prefix` where the key is a front of a stored key, or a stored key is one of it, and with
-    /// `Memory` where there is no memory for the pair, or for the bytes that `Prefix` tells. The pair is handed back,
-    /// and the map is as it was. A key that is stored is never refused.
+    /// Fails with `Prefix` if the key is a prefix of a stored key, or a stored key is a prefix of it. Fails with
+    /// `Memory` if out of memory, for the pair or for the bytes that `Prefix` tells. The error returns the pair, and
+    /// the map is unchanged. A key that is stored never fails.
+    ///
+    /// ```
+    /// let mut map = TreeMap::new(rt.alloc());
+    /// assert_eq!(rt; map.try_insert(StrKey("ab"), 1)?, None);
+    /// assert_eq!(rt; map.try_insert(StrKey("ab"), 2)?, Some(1));
+    /// assert!(rt; matches!(map.try_insert(StrKey("abc"), 3), Err(TryInsertError::Prefix { .. })));
+    /// ```
     #[inline(never)]
     pub fn try_insert(&mut self, key: K, value: V) -> Result<Option<V>, TryInsertError<K, V>>
     where
@@ -202,9 +230,13 @@ impl<K: AsBytes, V, const PREFIX_LEN: usize> TreeMap<K, V, PREFIX_LEN> {
         ensures pairs { OnOk result (self.new.pairs ≡ with_pair_put K.bytes key value self.old.pairs) }
         ensures free { OnOk result (IsBlocked (key_of K.bytes) (K.bytes key) self.old.pairs → ⊥) }
         ensures stored { HasKey (key_of K.bytes) (K.bytes key) self.old.pairs → IsOk result }
+        ensures names { OnOk result (KeepsAllLeaves K.bytes self.old self.new) }
         ensures err { OnErr result (self.new.pairs ≡ self.old.pairs) }
         ensures kept { OnErr result (IsUntouched self.old self.new) }
         ensures refused { IfErr result (IsTryRefused K.bytes self.old.pairs key value) }
+        ensures succeeds { OnErr result (HasRoom self.old.nodes 2
+            → IsBlocked (key_of K.bytes) (K.bytes key) self.old.pairs) }
+        ensures room { UsesRoom 2 self.old.nodes self.new.nodes }
     {
         match self.put(key, value) {
             Ok(old) => Ok(value_of(old)),
@@ -212,7 +244,7 @@ impl<K: AsBytes, V, const PREFIX_LEN: usize> TreeMap<K, V, PREFIX_LEN> {
         }
     }
 
-    // Why a pair is not put in.
+    // Why a pair was not inserted.
     #[inline(never)]
     fn refusal(&self, refused: PairRefused<K, V>) -> TryInsertError<K, V>
         requires { (key : K) × (value : V)
@@ -227,7 +259,7 @@ impl<K: AsBytes, V, const PREFIX_LEN: usize> TreeMap<K, V, PREFIX_LEN> {
         }
     }
 
-    // Why a pair is not put in whose key a stored one blocks.
+    // Why a pair was not inserted whose key a stored one blocks.
     fn blocked(&self, key: K, value: V) -> TryInsertError<K, V>
         requires { IsBlocked (key_of K.bytes) (K.bytes key) self.now.pairs }
         ensures { IsTryRefused K.bytes self.now.pairs key value result }
@@ -242,11 +274,19 @@ impl<K: AsBytes, V, const PREFIX_LEN: usize> TreeMap<K, V, PREFIX_LEN> {
         }
     }
 
-    /// Puts a pair in, in the place of all whose keys overlap its key: those with the same bytes, a front of them, or
-    /// these as a front. It answers how many they were.
+    /// Inserts a pair in place of all whose keys overlap its key. These have the same bytes, or a prefix of them, or
+    /// begin with them. It returns how many they were.
     ///
-    /// It is refused only where there is no memory. The pair is handed back, and the map is as it was. A key that is
-    /// stored is never refused.
+    /// Fails only if out of memory, and never if the key is stored. The error returns the pair, and the map is
+    /// unchanged.
+    ///
+    /// ```
+    /// let mut map = TreeMap::new(rt.alloc());
+    /// map.try_insert(StrKey("abc"), 1)?;
+    /// map.try_insert(StrKey("abd"), 2)?;
+    /// assert_eq!(rt; map.prefix_insert(StrKey("ab"), 3)?, 2);
+    /// assert_eq!(rt; map.len(), 1);
+    /// ```
     pub fn prefix_insert(&mut self, key: K, value: V) -> Result<usize, InsertRefused<K, V>>
     where
         K: Drop,
@@ -254,6 +294,7 @@ impl<K: AsBytes, V, const PREFIX_LEN: usize> TreeMap<K, V, PREFIX_LEN> {
         ensures count { IfOk result (λ n. n ≡ length (overlapping (key_of K.bytes) (K.bytes key) self.old.pairs)) }
         ensures pairs { OnOk result (self.new.pairs ≡ with_pair_over K.bytes key value self.old.pairs) }
         ensures stored { HasKey (key_of K.bytes) (K.bytes key) self.old.pairs → IsOk result }
+        ensures names { OnOk result (KeepsLeaves K.bytes self.old self.new) }
         ensures err { OnErr result (self.new.pairs ≡ self.old.pairs) }
         ensures kept { OnErr result (IsUntouched self.old self.new) }
         ensures handed_back { HandsPairBack key value result }
@@ -268,7 +309,7 @@ impl<K: AsBytes, V, const PREFIX_LEN: usize> TreeMap<K, V, PREFIX_LEN> {
 impl<K: NoPrefixesBytes, V, const PREFIX_LEN: usize> TreeMap<K, V, PREFIX_LEN> {
     ghost use Rattle.art_map.specs.Contents.{has_bytes};
 
-    // Where a key goes: no key of its type is a front of another.
+    // Where a key goes: no key of its type is a prefix of another.
     pub(super) fn place_free(&self, key: &K) -> Option<InsertPoint>
         ensures placed { CanPut K.bytes PREFIX_LEN self.now.nodes result (K.bytes key.now) self.now.pairs }
         ensures place { IsPlaceFor K.bytes PREFIX_LEN self.now.nodes self.now.root (K.bytes key.now) result }
@@ -279,20 +320,29 @@ impl<K: NoPrefixesBytes, V, const PREFIX_LEN: usize> TreeMap<K, V, PREFIX_LEN> {
         }
     }
 
-    /// Puts a pair in, in the place of the one whose key has the same bytes if there is one, and answers the value of
-    /// that one.
+    /// Inserts a pair. It replaces a pair whose key has the same bytes, and returns that pair's value.
     ///
-    /// It is refused only where there is no memory. The pair is handed back, and the map is as it was. A key that is
-    /// stored is never refused.
+    /// Fails only if out of memory, and never if the key is stored. The error returns the pair, and the map is
+    /// unchanged.
+    ///
+    /// ```
+    /// let mut map = TreeMap::new(rt.alloc());
+    /// assert_eq!(rt; map.insert(*b"ab", 1)?, None);
+    /// assert_eq!(rt; map.insert(*b"ab", 2)?, Some(1));
+    /// assert_eq!(rt; map.get(b"ab"), Some(&2));
+    /// ```
     pub fn insert(&mut self, key: K, value: V) -> Result<Option<V>, InsertRefused<K, V>>
     where
         K: Drop,
         ensures value { IfOk result (λ old. old ≡ lookup (has_bytes K.bytes (K.bytes key)) self.old.pairs) }
         ensures pairs { OnOk result (self.new.pairs ≡ with_pair_put K.bytes key value self.old.pairs) }
         ensures stored { HasKey (key_of K.bytes) (K.bytes key) self.old.pairs → IsOk result }
+        ensures names { OnOk result (KeepsAllLeaves K.bytes self.old self.new) }
         ensures err { OnErr result (self.new.pairs ≡ self.old.pairs) }
         ensures kept { OnErr result (IsUntouched self.old self.new) }
         ensures handed_back { HandsPairBack key value result }
+        ensures succeeds { HasRoom self.old.nodes 2 → IsOk result }
+        ensures room { UsesRoom 2 self.old.nodes self.new.nodes }
     {
         match self.replace_entry(key, value) {
             Ok(old) => Ok(value_of(old)),
@@ -300,16 +350,22 @@ impl<K: NoPrefixesBytes, V, const PREFIX_LEN: usize> TreeMap<K, V, PREFIX_LEN> {
         }
     }
 
-    /// Puts a pair in, in the place of the one whose key has the same bytes if there is one, and answers that one, its
-    /// key too.
+    /// Inserts a pair. It replaces a pair whose key has the same bytes, and returns that pair with its key.
     ///
-    /// It is refused only where there is no memory: the pair is handed back, and the map is as it was. A key that is
-    /// stored is never refused, and where the nodes have room for two more, no key is.
+    /// Fails only if out of memory, and never if the key is stored or the nodes have room for two more. The error
+    /// returns the pair, and the map is unchanged.
+    ///
+    /// ```
+    /// let mut map = TreeMap::new(rt.alloc());
+    /// assert_eq!(rt; map.replace_entry(*b"ab", 1)?, None);
+    /// assert_eq!(rt; map.replace_entry(*b"ab", 2)?, Some((*b"ab", 1)));
+    /// ```
     #[inline(always)]
     pub fn replace_entry(&mut self, key: K, value: V) -> Result<Option<(K, V)>, InsertRefused<K, V>>
         ensures old { IfOk result (λ old. old ≡ lookup_entry (has_bytes K.bytes (K.bytes key)) self.old.pairs) }
         ensures pairs { OnOk result (self.new.pairs ≡ with_pair_put K.bytes key value self.old.pairs) }
         ensures stored { HasKey (key_of K.bytes) (K.bytes key) self.old.pairs → IsOk result }
+        ensures names { OnOk result (KeepsAllLeaves K.bytes self.old self.new) }
         ensures err { OnErr result (self.new.pairs ≡ self.old.pairs) }
         ensures kept { OnErr result (IsUntouched self.old self.new) }
         ensures handed_back { HandsPairBack key value result }

@@ -8,12 +8,20 @@ use art_bytes::CloneBytes;
 use std::alloc::AllocError;
 
 impl<K: CloneBytes, V: Clone, const PREFIX_LEN: usize> TreeMap<K, V, PREFIX_LEN> {
-    /// A map of clones of the pairs, in the same order, whose tree has the same shape, with nodes of its own. Where a
+    /// Makes a map of clones of the pairs, in the same order. Its tree has the same shape, and nodes of its own. If a
     /// clone of a key or a value equals its original, it has the same pairs. A clone of a key has to be a key of its
-    /// type, as it is where it equals its original.
+    /// type, as it is if it equals its original.
     ///
-    /// It is refused where a key or a value can't be cloned, or where there is no memory for the nodes; what was made
-    /// is let go of then. The map is only read.
+    /// Fails if a key or a value can't be cloned, or if out of memory. What was made is dropped then. The map is only
+    /// read.
+    ///
+    /// ```
+    /// let mut map = TreeMap::new(rt.alloc());
+    /// map.insert(*b"ab", 1)?;
+    /// let mut copy = map.clone()?;
+    /// copy.insert(*b"ab", 2)?;
+    /// assert_eq!(rt; map.get(b"ab"), Some(&1));
+    /// ```
     pub fn clone(&self) -> Result<Self, AllocError>
         requires { (k c : K) → K.is_key k → K.is_clone k c → K.is_key c }
         ensures clones { IfOk result (λ copy. AreClones K.is_clone V.is_clone self.now.pairs copy.pairs) }

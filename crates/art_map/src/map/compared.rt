@@ -16,7 +16,7 @@ use std::cmp::Ordering;
 use std::fmt;
 use std::hash::{Hash, Hasher};
 
-// Whether two walks give the same pairs.
+// Whether two iterators give the same pairs.
 fn same<K: PartialEq, V: PartialEq, const PREFIX_LEN: usize>(
     left: Iter<'_, K, V, PREFIX_LEN>,
     right: Iter<'_, K, V, PREFIX_LEN>,
@@ -44,7 +44,8 @@ fn same_pair<K: PartialEq, V: PartialEq>(a: &K, x: &V, b: &K, y: &V) -> bool
     a.eq(b) && x.eq(y)
 }
 
-// The order of the pairs of two walks, the first that differ first; a walk that ends before the other comes before it.
+// The order of the pairs that two iterators give: the first that differ decide. One that ends before the other comes
+// before it.
 fn partial_order<K: PartialOrd, V: PartialOrd, const PREFIX_LEN: usize>(
     left: Iter<'_, K, V, PREFIX_LEN>,
     right: Iter<'_, K, V, PREFIX_LEN>,
@@ -87,7 +88,7 @@ fn partial_pair<K: PartialOrd, V: PartialOrd>(a: &K, x: &V, b: &K, y: &V) -> Opt
     }
 }
 
-// The same where the order is total.
+// The order of the pairs of two iterators, as in `partial_order`, where the order of keys and values is total.
 fn order<K: Ord, V: Ord, const PREFIX_LEN: usize>(
     left: Iter<'_, K, V, PREFIX_LEN>,
     right: Iter<'_, K, V, PREFIX_LEN>,
@@ -112,6 +113,7 @@ fn order<K: Ord, V: Ord, const PREFIX_LEN: usize>(
     }
 }
 
+// The order of two pairs, as in `partial_pair`, where the order of keys and values is total.
 fn total_pair<K: Ord, V: Ord>(a: &K, x: &V, b: &K, y: &V) -> Ordering
     ensures { result ≡ ordering_then (K.cmp a.now b.now) (V.cmp x.now y.now) }
 {
@@ -138,7 +140,13 @@ fn feed<K: Hash, V: Hash, H: Hasher, const PREFIX_LEN: usize>(
     }
 }
 
-/// Maps are equal where their pairs are, in order.
+/// Maps are equal if their pairs are, in order.
+///
+/// ```
+/// let mut map = TreeMap::new(rt.alloc());
+/// map.insert(*b"ab", 1)?;
+/// assert!(rt; map == map.clone()?);
+/// ```
 impl<K: AsBytes + PartialEq, V: PartialEq, const PREFIX_LEN: usize> PartialEq
     for TreeMap<K, V, PREFIX_LEN> {
     ghost eq = { λ m n. pointwise (λ p q. K.eq p.0 q.0 && V.eq p.1 q.1) m.pairs n.pairs };
@@ -156,8 +164,16 @@ impl<K: AsBytes + Eq, V: Eq, const PREFIX_LEN: usize> Eq for TreeMap<K, V, PREFI
         (lists_equiv (and_equiv (on_equiv (λ p. p.0) K.Eq.laws) (on_equiv (λ p. p.1) V.Eq.laws))) };
 }
 
-/// The order of maps is that of their pairs: the first that differ decide, and a map whose pairs are the first of
-/// another's comes before it.
+/// The order of maps is that of their pairs: the first that differ decide. A map whose pairs are the first of another's
+/// comes before it.
+///
+/// ```
+/// let mut map = TreeMap::new(rt.alloc());
+/// map.insert(*b"ab", 1)?;
+/// let mut longer = map.clone()?;
+/// longer.insert(*b"cd", 2)?;
+/// assert!(rt; map < longer);
+/// ```
 impl<K: AsBytes + PartialOrd, V: PartialOrd, const PREFIX_LEN: usize> PartialOrd
     for TreeMap<K, V, PREFIX_LEN> {
     ghost partial_cmp = { λ m n. slice_partial_cmp
@@ -205,7 +221,14 @@ impl<K: AsBytes + Hash, V: Hash, const PREFIX_LEN: usize> Hash for TreeMap<K, V,
     }
 }
 
-/// The pairs in order.
+/// The text of a map: its pairs in order.
+///
+/// ```
+/// let mut map = TreeMap::new(rt.alloc());
+/// map.extend([([2], true), ([1], false)])?;
+/// let text = format!(in rt.alloc(); "{map:?}")?;
+/// assert_eq!(rt; text.as_str(), "{[1]: false, [2]: true}");
+/// ```
 impl<K: AsBytes + fmt::Debug, V: fmt::Debug, const PREFIX_LEN: usize> fmt::Debug
     for TreeMap<K, V, PREFIX_LEN> {
     fn fmt<W: fmt::Write>(&self, f: &mut fmt::Formatter<W>) -> fmt::Result {

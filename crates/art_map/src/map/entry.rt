@@ -14,6 +14,15 @@ use art_operations::InsertPoint;
 use std::marker::{Model, PhantomData};
 
 /// The entry of a key.
+///
+/// ```
+/// let mut map = TreeMap::new(rt.alloc());
+/// map.insert(*b"ab", 1)?;
+/// match map.entry(*b"ab") {
+///     Entry::Occupied(entry) => assert_eq!(rt; *entry.get(), 1),
+///     Entry::Vacant(entry) => assert_eq!(rt; entry.into_key(), *b"cd"),
+/// }
+/// ```
 #[derive(Drop)]
 pub enum Entry<'a, K: AsBytes, V, const PREFIX_LEN: usize, M: 'a = TreeMap<K, V, PREFIX_LEN>> {
     /// The key is stored.
@@ -39,7 +48,7 @@ pub struct OccupiedEntry<
     ghost held: { HasPairUnder map.now leaf },
 }
 
-// The place that was found for a key. It is a struct with a model of its own, so that who moves an entry needs to know
+// The place that was found for a key. It is a struct with a model of its own: so who moves an entry needs to know
 // nothing of the kinds of nodes that the place names.
 #[derive(Clone, Copy)]
 pub(super) struct KnownPlace {
@@ -71,7 +80,7 @@ impl KnownPlace {
     }
 }
 
-/// The entry of a key that is not stored, and may be put in.
+/// The entry of a key that is not stored, and may be inserted.
 ///
 /// The last parameter is never written: it tells the borrow check that the map lives as long as it is lent.
 #[derive(Drop)]

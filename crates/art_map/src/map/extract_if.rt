@@ -7,6 +7,7 @@ ghost use Rattle.art_arena.specs.arena.Shapes.{key_of};
 ghost use Rattle.art_arena.specs.declared.ends.End.TheVariants.{First, Last};
 ghost use Rattle.art_arena.specs.tree.Shrinks.{Shrinks};
 ghost use Rattle.art_walks.specs.Bounds.{AreValidKeyBounds};
+ghost use Rattle.art_map.specs.LeafNames.{AddsNoLeaf, KeepsLeaves};
 ghost use Rattle.art_map.specs.Ranges.{pairs_between};
 
 use crate::map::TreeMap;
@@ -17,13 +18,13 @@ use std::alloc::AllocError;
 use std::iter::FusedIterator;
 use std::ops::Bound;
 
-/// The pairs of a range of a map for which a closure says true, which leave the map one by one. The closure is asked of
-/// each pair once, in turn from the end of the call, and may change its value: so the pairs for which it says false
-/// stay.
+/// An iterator over the pairs of a range of a map for which a closure returns true: these leave the map one by one. The
+/// closure is called on each pair once, in turn from the end of the call, and may change its value. Pairs for which it
+/// returns false stay.
 ///
-/// Where the removal of a pair is refused, that is told once, and then nothing more comes. The pair stays, with its
-/// value as the closure left it; pairs that were taken out before are gone, and those that were not asked yet stay as
-/// they are. So do these where an `ExtractIf` is dropped.
+/// If the removal of a pair fails, the iterator returns that once, and then nothing more. The pair stays, with its
+/// value as the closure left it. Pairs that left before are gone, and those that come after stay as they are. If an
+/// `ExtractIf` is dropped, the pairs still to come stay too.
 #[derive(Drop)]
 pub struct ExtractIf<'a, K: AsBytes, V, F, const PREFIX_LEN: usize> {
     extraction: Extraction<'a, K, V, PREFIX_LEN>,
@@ -39,7 +40,7 @@ impl<'a, K: AsBytes, V, F: FnMut(&K, &mut V) -> bool, const PREFIX_LEN: usize> E
 > {
     ghost use Rattle.art_map.specs.Asked.{asking, CanExtractIf, ExtractsIf};
 
-    // Asks the pairs in turn from an end, until the closure says true, and takes that one out.
+    // Calls the closure on the pairs in turn from an end, until it returns true, and takes that pair out.
     fn extract(&mut self, end: End) -> Option<Result<(K, V), AllocError>>
         requires { CanExtractIf F.FnMut self.old }
         ensures steps { ExtractsIf F.FnMut end self.old result self.new }
@@ -100,11 +101,22 @@ impl<
 impl<K: AsBytes, V, const PREFIX_LEN: usize> TreeMap<K, V, PREFIX_LEN> {
     ghost use Rattle.art_map.specs.Asked.{asking, extract_map, CallableFromEnds, CanExtractIf, StopsAt};
 
-    /// The pairs whose keys are between two bounds, by their bytes, and for which the closure says true: they leave the
-    /// map one by one as they are asked for, from either end. The bounds' keys need not be stored.
+    /// Returns an iterator over the pairs whose keys are between two bounds, by their bytes, and for which the closure
+    /// returns true. They leave the map as they are asked for, from either end. It allocates nothing. The bounds' keys
+    /// need not be stored.
     ///
-    /// Where the map has a pair, the bounds have to be valid, as `bounds_are_valid` tells. The closure has to be
-    /// callable on each pair of the range, in whatever state its earlier calls leave it. It takes no memory.
+    /// If the map has a pair, the bounds have to be valid, as `bounds_are_valid` tells. The closure has to be callable
+    /// on each pair of the range, in whatever state its earlier calls leave it.
+    ///
+    /// ```
+    /// use std::ops::Bound;
+    /// let mut map = TreeMap::new(rt.alloc());
+    /// map.extend([(*b"ab", 1), (*b"cd", 2), (*b"ef", 3)])?;
+    /// let mut odd = map.extract_if(Bound::Included(b"ab"), Bound::Excluded(b"ef"), |_, value| *value % 2 == 1);
+    /// assert_eq!(rt; odd.next(), Some(Ok((*b"ab", 1))));
+    /// assert_eq!(rt; odd.next(), None);
+    /// assert!(rt; map.values().eq([&2, &3]));
+    /// ```
     pub fn extract_if<Q: AsBytes, F: FnMut(&K, &mut V) -> bool>(
         &mut self,
         start: Bound<&Q>,
@@ -128,12 +140,20 @@ impl<K: AsBytes, V, const PREFIX_LEN: usize> TreeMap<K, V, PREFIX_LEN> {
         }
     }
 
-    /// Keeps the pairs for which the closure says true. It is asked of each in ascending order, has to be callable
-    /// there whatever it answered before, and may change the value. The others are dropped.
+    /// Keeps the pairs for which the closure returns true, and drops the others. The closure is called on each pair in
+    /// ascending order, and may change its value. It has to be callable there, whatever it returned before.
     ///
-    /// It is refused where the removal of a pair is, as that of `remove_entry`. That pair then stays, with its value as
-    /// the closure left it, and so do those behind it, which were not asked; what was dropped before is gone.
-    pub fn retain<F: FnMut(&K, &mut V) -> bool>(&mut self, mut keep: F) -> Result<(), AllocError>
+    /// Fails if the removal of a pair does, as that of `remove_entry`. That pair then stays, with its value as the
+    /// closure left it. So do the pairs behind it, on which the closure was not called. What was dropped before is
+    /// gone.
+    ///
+    /// ```
+    /// let mut map = TreeMap::new(rt.alloc());
+    /// map.extend([(*b"ab", 1), (*b"cd", 2), (*b"ef", 3)])?;
+    /// map.retain(|_key, value| *value != 2)?;
+    /// assert!(rt; map.values().eq([&1, &3]));
+    /// ```
+    pub fn retain<F: FnMut(&K, &mut V) -> bool>(&mut self, keep: F) -> Result<(), AllocError>
     where
         K: Drop,
         V: Drop,
@@ -142,6 +162,25 @@ impl<K: AsBytes, V, const PREFIX_LEN: usize> TreeMap<K, V, PREFIX_LEN> {
         ensures refused { OnErr result ((key : K)
             × StopsAt (CalledAtPair F.FnMut) keep self.old.pairs key self.new.pairs
             × Shrinks (key_of K.bytes) self.new.pairs (K.bytes key)) }
+        ensures names { KeepsLeaves K.bytes self.old self.new }
+    {
+        self.name_leaves();
+        let retained = self.drop_others(keep);
+        self.name_leaves();
+        retained
+    }
+
+    // Drops the pairs for which the closure returns false.
+    fn drop_others<F: FnMut(&K, &mut V) -> bool>(&mut self, mut keep: F) -> Result<(), AllocError>
+    where
+        K: Drop,
+        V: Drop,
+        requires { CallableOnEachPair (CalledAtPair F.FnMut) (TakesPair F.FnMut) keep self.old.pairs }
+        ensures retained { OnOk result (RetainsPairs (CalledAtPair F.FnMut) keep self.old.pairs self.new.pairs) }
+        ensures refused { OnErr result ((key : K)
+            × StopsAt (CalledAtPair F.FnMut) keep self.old.pairs key self.new.pairs
+            × Shrinks (key_of K.bytes) self.new.pairs (K.bytes key)) }
+        ensures none_new { AddsNoLeaf K.bytes self.old self.new }
     {
         let (_arena, _root) = self.nodes();
         let mut pairs = self.extraction_of_all();
@@ -149,7 +188,7 @@ impl<K: AsBytes, V, const PREFIX_LEN: usize> TreeMap<K, V, PREFIX_LEN> {
             if pairs.ask(End::First, &mut keep) {
                 pairs.pass_front();
             } else {
-                let _pair = pairs.take_front()?;
+                let _pair = pairs.take(End::First)?;
             }
         }
         Ok(())

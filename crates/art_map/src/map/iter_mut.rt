@@ -1,4 +1,4 @@
-//! Walks that lend the values of all pairs of a map for writing, one at a time.
+//! Iterators over all pairs of a map, which lend its values for writing one at a time.
 ghost use Rattle.std.specs.Prelude.{◌≡◌, ◌==◌, ◌<◌, length};
 ghost use Rattle.std.specs.Borrow.{sem};
 ghost use Rattle.std.specs.Map.Iter.{deref_pair_mut};
@@ -9,7 +9,7 @@ use crate::map::TreeMap;
 use art_bytes::AsBytes;
 use art_walks::RawIterator;
 
-/// The pairs of a map in order, from either end, their values lent for writing one at a time.
+/// An iterator over all pairs of a map in order, from either end. It lends their values for writing, one at a time.
 #[derive(Drop)]
 pub struct IterMut<'a, K: AsBytes, V, const PREFIX_LEN: usize> {
     map: &'a mut TreeMap<K, V, PREFIX_LEN>,
@@ -19,13 +19,26 @@ pub struct IterMut<'a, K: AsBytes, V, const PREFIX_LEN: usize> {
     ghost counted: { len ≡ left_in map.now.nodes leaves },
 }
 
-/// The values of a map in the order of their keys, from either end, lent for writing one at a time.
+/// An iterator over all values of a map in the order of their keys, from either end. It lends them for writing, one at
+/// a time.
 pub type ValuesMut<'a, K, V, const PREFIX_LEN: usize> = IterMut<'a, K, V, PREFIX_LEN>;
 
 impl<K: AsBytes, V, const PREFIX_LEN: usize> TreeMap<K, V, PREFIX_LEN> {
     ghost use Rattle.art_map.specs.LentIters.{iter_rest};
 
-    /// The pairs, their values lent for writing one at a time, ascending by the bytes of their keys, from either end.
+    /// Returns an iterator over the pairs. It ascends by the bytes of their keys, and lends values for writing from
+    /// either end, one at a time.
+    ///
+    /// ```
+    /// let mut map = TreeMap::new(rt.alloc());
+    /// map.extend([(*b"ab", 1), (*b"cd", 2)])?;
+    /// let mut pairs = map.iter_mut();
+    /// while !pairs.is_empty() {
+    ///     let (key, value) = pairs.next_pair();
+    ///     *value += i32::from(key[0] == b'c');
+    /// }
+    /// assert!(rt; map.values().eq([&1, &3]));
+    /// ```
     pub fn iter_mut(&mut self) -> IterMut<'_, K, V, PREFIX_LEN>
         ensures same_map { (result.map.ghost_name ≡ self.entry.ghost_name) × (result.map.now ≡ self.old) }
         ensures rest { iter_rest result ≡ self.old.pairs }
@@ -39,7 +52,18 @@ impl<K: AsBytes, V, const PREFIX_LEN: usize> TreeMap<K, V, PREFIX_LEN> {
         }
     }
 
-    /// The values, lent for writing one at a time, ascending by the bytes of their keys, from either end.
+    /// Returns an iterator over the values. It ascends by the bytes of their keys, and lends values for writing from
+    /// either end, one at a time.
+    ///
+    /// ```
+    /// let mut map = TreeMap::new(rt.alloc());
+    /// map.extend([(*b"ab", 1), (*b"cd", 2)])?;
+    /// let mut values = map.values_mut();
+    /// while let Some(value) = values.next() {
+    ///     *value += 10;
+    /// }
+    /// assert!(rt; map.values().eq([&11, &12]));
+    /// ```
     pub fn values_mut(&mut self) -> ValuesMut<'_, K, V, PREFIX_LEN>
         ensures same_map { (result.map.ghost_name ≡ self.entry.ghost_name) × (result.map.now ≡ self.old) }
         ensures rest { iter_rest result ≡ self.old.pairs }
@@ -53,21 +77,47 @@ impl<'a, K: AsBytes, V, const PREFIX_LEN: usize> IterMut<'a, K, V, PREFIX_LEN> {
     ghost use Rattle.art_map.specs.LentWalks.{LendsValue};
     ghost use Rattle.art_map.specs.LentIters.{iter_before, iter_behind, iter_rest};
 
-    /// Whether no pair is still to come.
+    /// Returns whether no pair is still to come.
+    ///
+    /// ```
+    /// let mut map = TreeMap::new(rt.alloc());
+    /// map.insert(*b"ab", 1)?;
+    /// let mut pairs = map.iter_mut();
+    /// assert!(rt; !pairs.is_empty());
+    /// pairs.next();
+    /// assert!(rt; pairs.is_empty());
+    /// ```
     pub fn is_empty(&self) -> bool
         ensures { result ≡ (length (iter_rest self.now) == 0) }
     {
         self.len == 0
     }
 
-    /// How many pairs are still to come.
+    /// Returns how many pairs are still to come.
+    ///
+    /// ```
+    /// let mut map = TreeMap::new(rt.alloc());
+    /// map.extend([(*b"ab", 1), (*b"cd", 2)])?;
+    /// let mut pairs = map.iter_mut();
+    /// pairs.next_back();
+    /// assert_eq!(rt; pairs.len(), 1);
+    /// ```
     pub fn len(&self) -> usize
         ensures { result ≡ length (iter_rest self.now) }
     {
         self.len
     }
 
-    /// Lends the value of the first pair still to come for writing, or `None` where none is, as it then stays.
+    /// Lends the value of the first pair still to come for writing. It returns `None` if none is, and from then on.
+    ///
+    /// ```
+    /// let mut map = TreeMap::new(rt.alloc());
+    /// map.extend([(*b"ab", 1), (*b"cd", 2)])?;
+    /// if let Some(value) = map.iter_mut().next() {
+    ///     *value = 7;
+    /// }
+    /// assert!(rt; map.values().eq([&7, &2]));
+    /// ```
     pub fn next(&mut self) -> Option<&mut V>
         ensures* writes_back { sem 𝓛 (lends_if_in_iter K.row V.row PREFIX_LEN K.AsBytes self.entry
             (iter_behind self.old) result) }
@@ -80,7 +130,16 @@ impl<'a, K: AsBytes, V, const PREFIX_LEN: usize> IterMut<'a, K, V, PREFIX_LEN> {
         Some(value)
     }
 
-    /// Lends the value of the last pair still to come for writing, or `None` where none is, as it then stays.
+    /// Lends the value of the last pair still to come for writing. It returns `None` if none is, and from then on.
+    ///
+    /// ```
+    /// let mut map = TreeMap::new(rt.alloc());
+    /// map.extend([(*b"ab", 1), (*b"cd", 2)])?;
+    /// if let Some(value) = map.iter_mut().next_back() {
+    ///     *value = 7;
+    /// }
+    /// assert!(rt; map.values().eq([&1, &7]));
+    /// ```
     pub fn next_back(&mut self) -> Option<&mut V>
         ensures* writes_back { sem 𝓛 (lends_if_in_iter K.row V.row PREFIX_LEN K.AsBytes self.entry
             (iter_before self.old) result) }
@@ -93,9 +152,17 @@ impl<'a, K: AsBytes, V, const PREFIX_LEN: usize> IterMut<'a, K, V, PREFIX_LEN> {
         Some(value)
     }
 
-    /// Lends the first pair still to come, its value for writing.
+    /// Lends the first pair still to come, its value for writing. A pair has to be left, as `is_empty` tells.
     ///
-    /// A pair has to be left, as `is_empty` tells.
+    /// ```
+    /// let mut map = TreeMap::new(rt.alloc());
+    /// map.insert(*b"ab", 1)?;
+    /// let mut pairs = map.iter_mut();
+    /// let (key, value) = pairs.next_pair();
+    /// assert_eq!(rt; key, b"ab");
+    /// *value = 7;
+    /// assert_eq!(rt; map.get(b"ab"), Some(&7));
+    /// ```
     pub fn next_pair(&mut self) -> (&K, &mut V)
         requires { 0 < length (iter_rest self.old) }
         ensures* writes_back { sem 𝓛 (lends_in_iter K.row V.row PREFIX_LEN K.AsBytes self.entry
@@ -112,9 +179,17 @@ impl<'a, K: AsBytes, V, const PREFIX_LEN: usize> IterMut<'a, K, V, PREFIX_LEN> {
         self.map.pair_mut_at(leaf)
     }
 
-    /// Lends the last pair still to come, its value for writing.
+    /// Lends the last pair still to come, its value for writing. A pair has to be left, as `is_empty` tells.
     ///
-    /// A pair has to be left, as `is_empty` tells.
+    /// ```
+    /// let mut map = TreeMap::new(rt.alloc());
+    /// map.extend([(*b"ab", 1), (*b"cd", 2)])?;
+    /// let mut pairs = map.iter_mut();
+    /// let (key, value) = pairs.next_back_pair();
+    /// assert_eq!(rt; key, b"cd");
+    /// *value = 7;
+    /// assert_eq!(rt; map.get(b"cd"), Some(&7));
+    /// ```
     pub fn next_back_pair(&mut self) -> (&K, &mut V)
         requires { 0 < length (iter_rest self.old) }
         ensures* writes_back { sem 𝓛 (lends_in_iter K.row V.row PREFIX_LEN K.AsBytes self.entry

@@ -1,4 +1,4 @@
-//! Look-ups of a key, of the key that is a front of a query, and of the ends.
+//! Look-ups: of a key, of the key that is a prefix of a query, and of the first and the last pair.
 ghost use Rattle.std.specs.Prelude.{◌≡◌, Some, IfSome, IsSome, is_some, option_copied, option_map};
 ghost use Rattle.std.specs.Borrow.{sem};
 ghost use Rattle.std.specs.Option.{option_copied_mut};
@@ -31,7 +31,7 @@ impl<K: AsBytes, V, const PREFIX_LEN: usize> TreeMap<K, V, PREFIX_LEN> {
         }
     }
 
-    // The leaf of the pair whose key is a front of these bytes, or equals them.
+    // The leaf of the pair whose key is a prefix of these bytes, or equals them.
     fn prefix_find(&self, key: &[u8]) -> Option<LeafPtr>
         ensures { IsFound (is_front K.bytes key.now) self.now result }
     {
@@ -42,7 +42,7 @@ impl<K: AsBytes, V, const PREFIX_LEN: usize> TreeMap<K, V, PREFIX_LEN> {
     }
 
     // The leaf of the first pair.
-    fn first(&self) -> Option<LeafPtr>
+    pub(super) fn first(&self) -> Option<LeafPtr>
         ensures { IsAt (first_item self.now.pairs) self.now result }
     {
         match self.root {
@@ -52,7 +52,7 @@ impl<K: AsBytes, V, const PREFIX_LEN: usize> TreeMap<K, V, PREFIX_LEN> {
     }
 
     // The leaf of the last pair.
-    fn last(&self) -> Option<LeafPtr>
+    pub(super) fn last(&self) -> Option<LeafPtr>
         ensures { IsAt (last_item self.now.pairs) self.now result }
     {
         match self.root {
@@ -93,7 +93,15 @@ impl<K: AsBytes, V, const PREFIX_LEN: usize> TreeMap<K, V, PREFIX_LEN> {
         *old = value;
     }
 
-    /// The value of the pair whose key has the query's bytes, if there is one.
+    /// Returns the value of the pair whose key has the query's bytes, if there is one.
+    ///
+    /// ```
+    /// let mut map = TreeMap::new(rt.alloc());
+    /// map.insert(*b"ab", 1)?;
+    /// assert_eq!(rt; map.get(b"ab"), Some(&1));
+    /// assert_eq!(rt; map.get(&StrKey("ab")), Some(&1));
+    /// assert_eq!(rt; map.get(b"ac"), None);
+    /// ```
     pub fn get<Q: AsBytes>(&self, key: &Q) -> Option<&V>
         ensures { option_copied result ≡ lookup (has_bytes K.bytes (Q.bytes key.now)) self.now.pairs }
     {
@@ -103,7 +111,13 @@ impl<K: AsBytes, V, const PREFIX_LEN: usize> TreeMap<K, V, PREFIX_LEN> {
         }
     }
 
-    /// The pair whose key has the query's bytes, if there is one.
+    /// Returns the pair whose key has the query's bytes, if there is one.
+    ///
+    /// ```
+    /// let mut map = TreeMap::new(rt.alloc());
+    /// map.insert(*b"ab", 1)?;
+    /// assert_eq!(rt; map.get_key_value(&StrKey("ab")), Some((b"ab", &1)));
+    /// ```
     pub fn get_key_value<Q: AsBytes>(&self, key: &Q) -> Option<(&K, &V)>
         ensures { option_map deref_pair result ≡ lookup_entry (has_bytes K.bytes (Q.bytes key.now)) self.now.pairs }
     {
@@ -113,14 +127,30 @@ impl<K: AsBytes, V, const PREFIX_LEN: usize> TreeMap<K, V, PREFIX_LEN> {
         }
     }
 
-    /// Whether there is a pair whose key has the query's bytes.
+    /// Returns whether a pair's key has the query's bytes.
+    ///
+    /// ```
+    /// let mut map = TreeMap::new(rt.alloc());
+    /// map.insert(*b"ab", 1)?;
+    /// assert!(rt; map.contains_key(b"ab"));
+    /// assert!(rt; !map.contains_key(b"a"));
+    /// ```
     pub fn contains_key<Q: AsBytes>(&self, key: &Q) -> bool
         ensures { result ≡ is_some (lookup (has_bytes K.bytes (Q.bytes key.now)) self.now.pairs) }
     {
         self.get(key).is_some()
     }
 
-    /// The value of the pair whose key has the query's bytes, for writing, if there is one.
+    /// Lends the value of the pair whose key has the query's bytes for writing, if there is one.
+    ///
+    /// ```
+    /// let mut map = TreeMap::new(rt.alloc());
+    /// map.insert(*b"ab", 1)?;
+    /// if let Some(value) = map.get_mut(b"ab") {
+    ///     *value += 1;
+    /// }
+    /// assert_eq!(rt; map.get(b"ab"), Some(&2));
+    /// ```
     pub fn get_mut<Q: AsBytes>(&mut self, key: &Q) -> Option<&mut V>
         ensures* writes_back { sem 𝓛 (lends_get K.row V.row PREFIX_LEN.row K.AsBytes self.entry
             (has_bytes K.bytes (Q.bytes key.now)) result) }
@@ -135,7 +165,14 @@ impl<K: AsBytes, V, const PREFIX_LEN: usize> TreeMap<K, V, PREFIX_LEN> {
         }
     }
 
-    /// The value of the one pair whose key is a front of the query's bytes, or equals them, if there is one.
+    /// Returns the value of the one pair whose key is a prefix of the query's bytes, or equals them, if there is one.
+    ///
+    /// ```
+    /// let mut blocks = TreeMap::new(rt.alloc());
+    /// blocks.try_insert(SliceKey(&[10, 1]), "lab")?;
+    /// assert_eq!(rt; blocks.prefix_get(&[10, 1, 0, 7]), Some(&"lab"));
+    /// assert_eq!(rt; blocks.prefix_get(&[10, 2, 0, 7]), None);
+    /// ```
     pub fn prefix_get<Q: AsBytes>(&self, key: &Q) -> Option<&V>
         ensures { option_copied result ≡ lookup (is_front K.bytes (Q.bytes key.now)) self.now.pairs }
     {
@@ -145,7 +182,13 @@ impl<K: AsBytes, V, const PREFIX_LEN: usize> TreeMap<K, V, PREFIX_LEN> {
         }
     }
 
-    /// The one pair whose key is a front of the query's bytes, or equals them, if there is one.
+    /// Returns the one pair whose key is a prefix of the query's bytes, or equals them, if there is one.
+    ///
+    /// ```
+    /// let mut map = TreeMap::new(rt.alloc());
+    /// map.try_insert(StrKey("ab"), 1)?;
+    /// assert_eq!(rt; map.prefix_get_key_value(&StrKey("abc")), Some((&StrKey("ab"), &1)));
+    /// ```
     pub fn prefix_get_key_value<Q: AsBytes>(&self, key: &Q) -> Option<(&K, &V)>
         ensures { option_map deref_pair result ≡ lookup_entry (is_front K.bytes (Q.bytes key.now)) self.now.pairs }
     {
@@ -155,8 +198,17 @@ impl<K: AsBytes, V, const PREFIX_LEN: usize> TreeMap<K, V, PREFIX_LEN> {
         }
     }
 
-    /// The value of the one pair whose key is a front of the query's bytes, or equals them, for writing, if there is
-    /// one.
+    /// Lends the value of the one pair whose key is a prefix of the query's bytes, or equals them, for writing, if
+    /// there is one.
+    ///
+    /// ```
+    /// let mut map = TreeMap::new(rt.alloc());
+    /// map.try_insert(StrKey("ab"), 1)?;
+    /// if let Some(value) = map.prefix_get_mut(&StrKey("abc")) {
+    ///     *value = 7;
+    /// }
+    /// assert_eq!(rt; map.get(&StrKey("ab")), Some(&7));
+    /// ```
     pub fn prefix_get_mut<Q: AsBytes>(&mut self, key: &Q) -> Option<&mut V>
         ensures* writes_back { sem 𝓛 (lends_get K.row V.row PREFIX_LEN.row K.AsBytes self.entry
             (is_front K.bytes (Q.bytes key.now)) result) }
@@ -171,8 +223,17 @@ impl<K: AsBytes, V, const PREFIX_LEN: usize> TreeMap<K, V, PREFIX_LEN> {
         }
     }
 
-    /// The entry of the one pair whose key is a front of the query's bytes, or equals them, if there is one. It shows
-    /// the pair's key, and lends its value for writing.
+    /// Returns the entry of the one pair whose key is a prefix of the query's bytes, or equals them, if there is one.
+    /// The entry shows the pair's key and lends its value for writing.
+    ///
+    /// ```
+    /// let mut map = TreeMap::new(rt.alloc());
+    /// map.insert(*b"ab", 1)?;
+    /// if let Some(mut entry) = map.prefix_get_key_value_mut(b"abc") {
+    ///     assert_eq!(rt; entry.key(), b"ab");
+    ///     *entry.get_mut() = 7;
+    /// }
+    /// ```
     pub fn prefix_get_key_value_mut<Q: AsBytes>(
         &mut self,
         key: &Q,
@@ -188,7 +249,13 @@ impl<K: AsBytes, V, const PREFIX_LEN: usize> TreeMap<K, V, PREFIX_LEN> {
         }
     }
 
-    /// The first pair, whose key is the least, if there is one.
+    /// Returns the first pair, whose key is the least, if there is one.
+    ///
+    /// ```
+    /// let mut map = TreeMap::new(rt.alloc());
+    /// map.extend([(*b"cd", 2), (*b"ab", 1)])?;
+    /// assert_eq!(rt; map.first_key_value(), Some((b"ab", &1)));
+    /// ```
     pub fn first_key_value(&self) -> Option<(&K, &V)>
         ensures { option_map deref_pair result ≡ first_item self.now.pairs }
     {
@@ -198,7 +265,13 @@ impl<K: AsBytes, V, const PREFIX_LEN: usize> TreeMap<K, V, PREFIX_LEN> {
         }
     }
 
-    /// The last pair, whose key is the greatest, if there is one.
+    /// Returns the last pair, whose key is the greatest, if there is one.
+    ///
+    /// ```
+    /// let mut map = TreeMap::new(rt.alloc());
+    /// map.extend([(*b"cd", 2), (*b"ab", 1)])?;
+    /// assert_eq!(rt; map.last_key_value(), Some((b"cd", &2)));
+    /// ```
     pub fn last_key_value(&self) -> Option<(&K, &V)>
         ensures { option_map deref_pair result ≡ last_item self.now.pairs }
     {
@@ -209,7 +282,13 @@ impl<K: AsBytes, V, const PREFIX_LEN: usize> TreeMap<K, V, PREFIX_LEN> {
     }
 }
 
-/// The value of a key that is stored, as `contains_key` tells.
+/// `map[key]` is the value of a key. The key has to be stored, as `contains_key` tells.
+///
+/// ```
+/// let mut map = TreeMap::new(rt.alloc());
+/// map.insert(*b"ab", 1)?;
+/// assert_eq!(rt; map[b"ab"], 1);
+/// ```
 impl<K: AsBytes, V, Q: AsBytes, const PREFIX_LEN: usize> Index<&Q> for TreeMap<K, V, PREFIX_LEN> {
     ghost use Rattle.art_map.specs.Contents.{has_bytes};
 

@@ -1,8 +1,11 @@
-//! A key's place among the pairs whose keys overlap it, in whose place it would be put in.
+//! The prefix entry of a key: the key goes in place of the pairs whose keys overlap it.
+//!
+//! Two keys overlap if they have the same bytes, or one is a prefix of the other.
 ghost use Rattle.std.specs.Prelude.{◌≡◌, true};
 ghost use Rattle.art_map.specs.Found.{is_held};
 
 mod inner;
+pub mod lone;
 mod methods;
 mod occupied;
 mod overlapped;
@@ -13,7 +16,16 @@ use art_arena::LeafPtr;
 use art_bytes::AsBytes;
 use std::marker::PhantomData;
 
-/// The entry of a key that takes the place of all stored keys that overlap it.
+/// The entry of a key that goes in place of all stored keys that overlap it.
+///
+/// ```
+/// let mut map = TreeMap::new(rt.alloc());
+/// map.try_insert(StrKey("abc"), 1)?;
+/// match map.prefix_entry(StrKey("ab")) {
+///     PrefixEntry::Occupied(entry) => assert_eq!(rt; entry.get(), Some(&1)),
+///     PrefixEntry::Vacant(entry) => assert_eq!(rt; *entry.key(), StrKey("cd")),
+/// }
+/// ```
 #[derive(Drop)]
 pub enum PrefixEntry<
     'a,
@@ -24,11 +36,11 @@ pub enum PrefixEntry<
 > {
     /// A stored key overlaps the key.
     Occupied(PrefixOccupied<'a, K, V, PREFIX_LEN, M>),
-    /// No stored key does.
+    /// No stored key overlaps the key.
     Vacant(VacantEntry<'a, K, V, PREFIX_LEN, M>),
 }
 
-/// The entry of a key that stored keys overlap: `kind` tells whether it is one of them.
+/// The entry of a key that stored keys overlap. `kind` tells whether it is one of them.
 ///
 /// The last parameter is never written: it tells the borrow check that the map lives as long as it is lent.
 #[derive(Drop)]
@@ -63,11 +75,11 @@ pub enum PrefixOccupiedKind<
 > {
     /// The key is stored.
     Leaf(OccupiedEntry<'a, K, V, PREFIX_LEN, M>),
-    /// It is not, but a stored key is a front of it, or it is one of stored keys.
+    /// The key is not stored, but a stored key is a prefix of it, or it is a prefix of stored keys.
     Inner(InnerOccupiedEntry<'a, K, V, PREFIX_LEN, M>),
 }
 
-/// The entry of a key that is not stored, where a stored key is a front of it, or it is one of stored keys. An
+/// The entry of a key that is not stored. A stored key is a prefix of it, or it is a prefix of stored keys. An
 /// insertion removes the pairs of these.
 ///
 /// The last parameter is never written: it tells the borrow check that the map lives as long as it is lent.
@@ -84,7 +96,7 @@ pub struct InnerOccupiedEntry<
     mark: PhantomData<M>,
 }
 
-/// The only pair that an insertion would remove, its value lent for writing.
+/// The only pair that an insertion would remove. Its value is lent for writing.
 #[derive(Drop)]
 pub struct LonePair<'a, K, V> {
     /// The stored key.

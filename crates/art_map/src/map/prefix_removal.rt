@@ -1,12 +1,13 @@
-//! `PrefixRemoval`: all pairs whose keys begin with a prefix, which are taken out in one cut.
-ghost use Rattle.std.specs.Prelude.{◌≡◌, ◌+◌, ◌*◌, ◌≤◌, ℕ, [], List, length, IfOk, OnErr, OnOk};
+//! Removal of all pairs whose keys begin with a prefix, in one cut. `prepare_remove_prefix` takes the memory, `apply`
+//! cuts.
+ghost use Rattle.std.specs.Prelude.{◌≡◌, ◌≢◌, ◌+◌, ◌*◌, ◌≤◌, ℕ, [], List, length, IfOk, OnErr, OnOk};
 ghost use Rattle.std.specs.Borrow.{sem};
 ghost use Rattle.art_arena.specs.arena.Shapes.{key_of};
 ghost use Rattle.art_arena.specs.tree.Tenants.{with_front, without_front};
 ghost use Rattle.art_operations.specs.Openings.{OpeningReads};
 ghost use Rattle.art_walks.specs.MapReads.{PairsWithin};
 ghost use Rattle.art_map.specs.Contents.{IsUntouched};
-ghost use Rattle.art_map.specs.PrefixBlocks.{IsFoundPart, IsReadyPart, ShrinksAtCut};
+ghost use Rattle.art_map.specs.PrefixBlocks.{AreCutVisits, IsFoundPart, IsReadyPart, ShrinksAtCut, cut_visits};
 
 mod front;
 
@@ -18,20 +19,20 @@ use front::{Front, Prefix};
 use std::alloc::AllocError;
 use std::marker::{Model, PhantomData};
 
-/// What the removal of all keys behind a prefix did.
+/// What the removal of all keys that begin with a prefix did.
 #[derive(Clone, Copy, Debug)]
 pub struct Removed {
     /// How many pairs were removed.
     pub pairs: usize,
-    /// How many nodes were read to find them, and freed. A count that reaches the greatest number stays there.
+    /// How many nodes were read to find the pairs, or freed. A count that reaches the greatest number stays there.
     pub visits: u64,
 }
 
-// The part of a tree that is to be cut, and how many nodes were read to find it. It is a struct with a model of its
-// own, so that who moves it needs to know nothing of the kinds of nodes that the part names.
-#[derive(Clone, Copy)]
+// The part of a tree that is to be cut, and how many nodes were read to find it. What the cut needs is allocated. It is
+// a struct with a model of its own: so who moves it needs to know nothing of the kinds of nodes that it names.
+#[derive(Drop)]
 struct KnownBlock {
-    part: Option<SubtreeDeletePoint>,
+    part: Option<PreparedSubtreeDelete>,
     visits: u64,
 }
 
@@ -46,17 +47,17 @@ impl Model for KnownBlock {
 }
 
 impl KnownBlock {
-    fn new(part: Option<SubtreeDeletePoint>, visits: u64) -> Self
+    fn new(part: Option<PreparedSubtreeDelete>, visits: u64) -> Self
         ensures { result ≡ record { part = part; reads = visits } }
     {
         KnownBlock { part, visits }
     }
 }
 
-/// All pairs of a map whose keys begin with a prefix, to be taken out in one cut. There is room for what the cut needs.
+/// All pairs of a map whose keys begin with a prefix, to be removed in one cut. What the cut needs is allocated.
 ///
-/// Where it is dropped, the map's pairs are what they were. The last parameter is never written: it tells the borrow
-/// check that the map lives as long as it is lent.
+/// If it is dropped, the map keeps its pairs. The last parameter is never written: it tells the borrow check that the
+/// map lives as long as it is lent.
 #[derive(Drop)]
 pub struct PrefixRemoval<
     'a,
@@ -75,9 +76,19 @@ pub struct PrefixRemoval<
 impl<'a, K: AsBytes, V, const PREFIX_LEN: usize> PrefixRemoval<'a, K, V, PREFIX_LEN> {
     ghost use Rattle.art_map.specs.PrefixRemovals.{removal_map, removal_prefix, removal_reads};
 
-    /// Takes the pairs out of the map. It is never refused.
+    /// Removes the pairs from the map. It never fails.
     ///
-    /// The nodes that are freed are at least as many as the pairs, and fewer than twice as many.
+    /// It counts the nodes that were read to find the pairs, and those that are freed. One is freed for each pair, and
+    /// one for each of the different longest common prefixes of neighbours among them. So they are fewer than twice as
+    /// many as pairs.
+    ///
+    /// ```
+    /// let mut map = TreeMap::new(rt.alloc());
+    /// map.extend([(*b"ab", 1), (*b"ac", 2), (*b"ba", 3)])?;
+    /// let removed = map.prepare_remove_prefix(b"a")?.apply();
+    /// assert_eq!(rt; removed.pairs, 2);
+    /// assert!(rt; map.keys().eq([b"ba"]));
+    /// ```
     pub fn apply(self) -> Removed
     where
         K: Drop,
@@ -86,6 +97,8 @@ impl<'a, K: AsBytes, V, const PREFIX_LEN: usize> PrefixRemoval<'a, K, V, PREFIX_
             ≡ without_front (key_of K.bytes) (removal_prefix self.entry) (removal_map self.entry).now.pairs }
         ensures count { result.pairs
             ≡ length (with_front (key_of K.bytes) (removal_prefix self.entry) (removal_map self.entry).now.pairs) }
+        ensures visits { result.visits ≡ cut_visits K.bytes (removal_prefix self.entry)
+            (removal_map self.entry).now.pairs (removal_reads self.entry) }
         ensures all_counted { result.pairs ≤ result.visits }
         ensures few { result.visits ≤ removal_reads self.entry + 2 * result.pairs }
     {
@@ -102,6 +115,8 @@ impl<K: AsBytes, V, const PREFIX_LEN: usize> TreeMap<K, V, PREFIX_LEN> {
         ensures part { IsFoundPart K.bytes PREFIX_LEN self.now prefix.now result.0 }
         ensures few { (longest : ℕ) → PairsWithin K.bytes longest self.now.pairs
             → OpeningReads longest (length prefix.now) 0 result.1 }
+        ensures least { self.now.pairs ≢ [] → 1 ≤ result.1 }
+        ensures none { self.now.pairs ≡ [] → result.1 ≡ 0 }
     {
         match self.root {
             Some(root) => {
@@ -113,12 +128,12 @@ impl<K: AsBytes, V, const PREFIX_LEN: usize> TreeMap<K, V, PREFIX_LEN> {
         }
     }
 
-    // Makes room for the loss of the part of the tree whose keys begin with a prefix.
+    // Allocates what the loss of the part of the tree needs whose keys begin with a prefix.
     fn ready_part(&mut self, part: SubtreeDeletePoint) -> Result<PreparedSubtreeDelete, AllocError>
         requires { (front : List ℕ) × IsFoundPart K.bytes PREFIX_LEN self.old front (Some part) }
         ensures ready { IfOk result (λ ready. (front : List ℕ)
             → IsFoundPart K.bytes PREFIX_LEN self.old front (Some part)
-            → IsReadyPart K.bytes PREFIX_LEN self.new front (Some ready.point)) }
+            → IsReadyPart K.bytes PREFIX_LEN self.new front (Some ready)) }
         ensures pairs { self.new.pairs ≡ self.old.pairs }
         ensures kept { IsUntouched self.old self.new }
         ensures shrinks { OnErr result ((front : List ℕ) → IsFoundPart K.bytes PREFIX_LEN self.old front (Some part)
@@ -127,11 +142,13 @@ impl<K: AsBytes, V, const PREFIX_LEN: usize> TreeMap<K, V, PREFIX_LEN> {
         part.prepare(&mut self.arena)
     }
 
-    // Finds the part of the tree whose keys begin with a prefix, and makes room for its loss.
+    // Finds the part of the tree whose keys begin with a prefix, and allocates what its loss needs.
     fn block_behind(&mut self, prefix: &[u8]) -> Result<KnownBlock, AllocError>
         ensures ready { IfOk result (λ block. IsReadyPart K.bytes PREFIX_LEN self.new prefix.now block.part) }
         ensures few { IfOk result (λ block. (longest : ℕ) → PairsWithin K.bytes longest self.old.pairs
             → OpeningReads longest (length prefix.now) 0 block.reads) }
+        ensures least { IfOk result (λ block. self.old.pairs ≢ [] → 1 ≤ block.reads) }
+        ensures none { IfOk result (λ block. self.old.pairs ≡ [] → block.reads ≡ 0) }
         ensures pairs { self.new.pairs ≡ self.old.pairs }
         ensures kept { IsUntouched self.old self.new }
         ensures shrinks { OnErr result (ShrinksAtCut K.bytes prefix.now self.old.pairs) }
@@ -139,27 +156,29 @@ impl<K: AsBytes, V, const PREFIX_LEN: usize> TreeMap<K, V, PREFIX_LEN> {
         let (found, visits) = self.part_behind(prefix);
         match found {
             Some(part) => match self.ready_part(part) {
-                Ok(ready) => Ok(KnownBlock::new(Some(ready.point), visits)),
+                Ok(ready) => Ok(KnownBlock::new(Some(ready), visits)),
                 Err(refused) => Err(refused),
             },
             None => Ok(KnownBlock::new(None, visits)),
         }
     }
 
-    // Takes a part out of the tree, in which it was found and for whose loss there is room.
-    fn cut(&mut self, point: SubtreeDeletePoint, visits: u64) -> Removed
+    // Removes a part from the tree, in which it was found. What its loss needs is allocated.
+    fn cut(&mut self, ready: PreparedSubtreeDelete, visits: u64) -> Removed
     where
         K: Drop,
         V: Drop,
-        requires { (front : List ℕ) × ∥ IsReadyPart K.bytes PREFIX_LEN self.old front (Some point) ∥₁ }
-        ensures pairs { (front : List ℕ) → ∥ IsReadyPart K.bytes PREFIX_LEN self.old front (Some point) ∥₁
+        requires { (front : List ℕ) × ∥ IsReadyPart K.bytes PREFIX_LEN self.old front (Some ready) ∥₁ }
+        ensures pairs { (front : List ℕ) → ∥ IsReadyPart K.bytes PREFIX_LEN self.old front (Some ready) ∥₁
             → self.new.pairs ≡ without_front (key_of K.bytes) front self.old.pairs }
-        ensures count { (front : List ℕ) → ∥ IsReadyPart K.bytes PREFIX_LEN self.old front (Some point) ∥₁
+        ensures count { (front : List ℕ) → ∥ IsReadyPart K.bytes PREFIX_LEN self.old front (Some ready) ∥₁
             → result.pairs ≡ length (with_front (key_of K.bytes) front self.old.pairs) }
+        ensures visits { (front : List ℕ) → ∥ IsReadyPart K.bytes PREFIX_LEN self.old front (Some ready) ∥₁
+            → result.visits ≡ cut_visits K.bytes front self.old.pairs visits }
         ensures all_counted { result.pairs ≤ result.visits }
         ensures few { result.visits ≤ visits + 2 * result.pairs }
     {
-        let cut = PreparedSubtreeDelete { point }.apply(&mut self.arena);
+        let cut = ready.apply(&mut self.arena);
         self.root = cut.new_root;
         Removed {
             pairs: cut.leafs_removed,
@@ -167,7 +186,7 @@ impl<K: AsBytes, V, const PREFIX_LEN: usize> TreeMap<K, V, PREFIX_LEN> {
         }
     }
 
-    // Takes a part out of the tree, as above, or nothing where no key begins with the prefix.
+    // Removes a part from the tree, as `cut` does, or nothing if no key begins with the prefix.
     fn cut_block(&mut self, block: KnownBlock) -> Removed
     where
         K: Drop,
@@ -177,24 +196,34 @@ impl<K: AsBytes, V, const PREFIX_LEN: usize> TreeMap<K, V, PREFIX_LEN> {
             → self.new.pairs ≡ without_front (key_of K.bytes) front self.old.pairs }
         ensures count { (front : List ℕ) → ∥ IsReadyPart K.bytes PREFIX_LEN self.old front block.part ∥₁
             → result.pairs ≡ length (with_front (key_of K.bytes) front self.old.pairs) }
+        ensures visits { (front : List ℕ) → ∥ IsReadyPart K.bytes PREFIX_LEN self.old front block.part ∥₁
+            → result.visits ≡ cut_visits K.bytes front self.old.pairs block.reads }
         ensures all_counted { result.pairs ≤ result.visits }
         ensures few { result.visits ≤ block.reads + 2 * result.pairs }
     {
         let KnownBlock { part, visits } = block;
         match part {
-            Some(point) => self.cut(point, visits),
+            Some(ready) => self.cut(ready, visits),
             None => Removed { pairs: 0, visits },
         }
     }
 
-    /// Finds all pairs whose keys begin with a prefix, and makes room for what it needs to take them out: the result
-    /// does that, and is then never refused. Where it is dropped, the map's pairs are what they were.
+    /// Finds all pairs whose keys begin with a prefix, and allocates what their removal needs. The result removes them
+    /// and can't fail. If it is dropped, the map keeps its pairs.
     ///
-    /// It is refused only where keys begin with the prefix, and their loss makes a node one of the next smaller kind,
-    /// and there is no memory for that one. The map is then as it was. An empty prefix is never refused.
+    /// Fails only if keys begin with the prefix, their removal turns a node into one of the next smaller kind, and
+    /// there is no memory for that one. The map is unchanged then. An empty prefix never fails.
     ///
-    /// The nodes that are read are at most as many as the longest key and two have, for each byte of the prefix and for
-    /// six.
+    /// If the map has a pair, at least one node is read, the root. At most (n + 6) * (k + 2) nodes are read, where n is
+    /// the length of the prefix and k that of the longest key.
+    ///
+    /// ```
+    /// let mut map = TreeMap::new(rt.alloc());
+    /// map.extend([(*b"ab", 1), (*b"ac", 2)])?;
+    /// let removal = map.prepare_remove_prefix(b"a")?;
+    /// drop(removal);
+    /// assert_eq!(rt; map.len(), 2);
+    /// ```
     pub fn prepare_remove_prefix(
         &mut self,
         prefix: &[u8],
@@ -206,6 +235,8 @@ impl<K: AsBytes, V, const PREFIX_LEN: usize> TreeMap<K, V, PREFIX_LEN> {
         ensures prefix { IfOk result (λ r. removal_prefix r ≡ prefix.now) }
         ensures few { IfOk result (λ r. (longest : ℕ) → PairsWithin K.bytes longest self.old.pairs
             → OpeningReads longest (length prefix.now) 0 (removal_reads r)) }
+        ensures least { IfOk result (λ r. self.old.pairs ≢ [] → 1 ≤ removal_reads r) }
+        ensures none { IfOk result (λ r. self.old.pairs ≡ [] → removal_reads r ≡ 0) }
         ensures shrinks { OnErr result (ShrinksAtCut K.bytes prefix.now self.old.pairs) }
     {
         let front = Front::of(&Prefix { bytes: prefix });
@@ -220,9 +251,17 @@ impl<K: AsBytes, V, const PREFIX_LEN: usize> TreeMap<K, V, PREFIX_LEN> {
         }
     }
 
-    /// Takes all pairs out of the map whose keys begin with a prefix. It is refused as `prepare_remove_prefix` is, and
-    /// counts the nodes that are read to find them and those that are freed: these are at least as many as the pairs,
-    /// and fewer than twice as many.
+    /// Removes all pairs whose keys begin with a prefix. It fails as `prepare_remove_prefix` does.
+    ///
+    /// It counts the nodes that are read to find the pairs, and those that are freed. At least one is freed for each
+    /// pair, and fewer than twice as many as pairs.
+    ///
+    /// ```
+    /// let mut map = TreeMap::new(rt.alloc());
+    /// map.extend([(*b"ab", 1), (*b"ac", 2), (*b"ba", 3)])?;
+    /// assert_eq!(rt; map.remove_prefix(b"a")?.pairs, 2);
+    /// assert_eq!(rt; map.get(b"ba"), Some(&3));
+    /// ```
     pub fn remove_prefix(&mut self, prefix: &[u8]) -> Result<Removed, AllocError>
     where
         K: Drop,
@@ -230,6 +269,7 @@ impl<K: AsBytes, V, const PREFIX_LEN: usize> TreeMap<K, V, PREFIX_LEN> {
         ensures pairs { OnOk result (self.new.pairs ≡ without_front (key_of K.bytes) prefix.now self.old.pairs) }
         ensures count { IfOk result (λ done.
             done.pairs ≡ length (with_front (key_of K.bytes) prefix.now self.old.pairs)) }
+        ensures visits { IfOk result (λ done. AreCutVisits K.bytes prefix.now self.old.pairs done.visits) }
         ensures all_counted { IfOk result (λ done. done.pairs ≤ done.visits) }
         ensures few { IfOk result (λ done. (longest : ℕ) → PairsWithin K.bytes longest self.old.pairs
             → OpeningReads longest (length prefix.now) (2 * done.pairs) done.visits) }

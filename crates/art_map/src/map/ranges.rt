@@ -1,4 +1,4 @@
-//! Walks over the pairs between two bounds, and over those whose keys begin with a prefix.
+//! Iterators over the pairs between two bounds, and over those whose keys begin with a prefix.
 ghost use Rattle.std.specs.Prelude.{◌≡◌, ◌⊎◌, []};
 ghost use Rattle.std.specs.Range.Bound.{bound_map};
 ghost use Rattle.art_arena.specs.arena.Shapes.{key_of};
@@ -61,10 +61,19 @@ impl<K: AsBytes, V, const PREFIX_LEN: usize> TreeMap<K, V, PREFIX_LEN> {
         }
     }
 
-    /// The pairs whose keys are between two bounds, by their bytes, ascending, from either end. The bounds' keys need
-    /// not be stored.
+    /// Returns an iterator over the pairs whose keys are between two bounds, by their bytes. It ascends, and gives
+    /// pairs from either end. It allocates nothing. The bounds' keys need not be stored.
     ///
-    /// Where the map has a pair, the bounds have to be valid, as `bounds_are_valid` tells. It takes no memory.
+    /// If the map has a pair, the bounds have to be valid, as `bounds_are_valid` tells.
+    ///
+    /// ```
+    /// use std::ops::Bound;
+    /// let mut map = TreeMap::new(rt.alloc());
+    /// map.extend([(*b"ab", 1), (*b"cd", 2), (*b"ef", 3)])?;
+    /// let mut range = map.range(Bound::Included(b"b"), Bound::Included(b"f"));
+    /// assert_eq!(rt; range.next(), Some((b"cd", &2)));
+    /// assert_eq!(rt; range.next_back(), Some((b"ef", &3)));
+    /// ```
     pub fn range<Q: AsBytes>(&self, start: Bound<&Q>, end: Bound<&Q>) -> Range<'_, K, V, PREFIX_LEN>
         requires { (self.now.pairs ≡ []) ⊎ AreValidKeyBounds (bound_map (λ key. Q.bytes key.now) start)
             (bound_map (λ key. Q.bytes key.now) end) }
@@ -89,7 +98,14 @@ impl<K: AsBytes, V, const PREFIX_LEN: usize> TreeMap<K, V, PREFIX_LEN> {
         Range::new(&self.arena, walk)
     }
 
-    /// The pairs whose keys begin with a prefix's bytes, ascending, from either end. It takes no memory.
+    /// Returns an iterator over the pairs whose keys begin with a prefix's bytes. It ascends, and gives pairs from
+    /// either end. It allocates nothing.
+    ///
+    /// ```
+    /// let mut map = TreeMap::new(rt.alloc());
+    /// map.extend([(*b"ab", 1), (*b"ac", 2), (*b"bc", 3)])?;
+    /// assert!(rt; map.prefix(b"a").eq([(b"ab", &1), (b"ac", &2)]));
+    /// ```
     pub fn prefix<Q: AsBytes>(&self, prefix: &Q) -> Prefix<'_, K, V, PREFIX_LEN>
         ensures rest { result ≡ with_front (key_of K.bytes) (Q.bytes prefix.now) self.now.pairs }
         ensures ordered { AscendsByKey (key_of K.bytes) self.now.pairs }

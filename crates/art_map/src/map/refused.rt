@@ -1,12 +1,12 @@
-//! Why a pair is not put in, or the entry of a key is not given.
+//! The errors of insertions and entries.
 
 use art_operations::InsertPrefixError;
 use thiserror::Error;
 
-/// Why a pair was not put in. It is handed back, and the map is as it was.
+/// Why a pair was not inserted. The error returns the pair, and the map is unchanged.
 #[derive(Debug, Drop, Error)]
 pub enum TryInsertError<K, V> {
-    /// The key is a front of a stored key, or a stored key is one of it.
+    /// The key is a prefix of a stored key, or a stored key is a prefix of it.
     #[error("the key is a front of a stored key, or a stored key is one of it")]
     Prefix {
         /// The key.
@@ -16,7 +16,7 @@ pub enum TryInsertError<K, V> {
         /// The bytes of the key.
         error: InsertPrefixError,
     },
-    /// No memory was found.
+    /// The call was out of memory.
     #[error("no memory for a pair, or for the bytes of a key that can't be put in")]
     Memory {
         /// The key.
@@ -26,10 +26,10 @@ pub enum TryInsertError<K, V> {
     },
 }
 
-/// Why the entry of a key was not given. The key is handed back, and the map is as it was.
+/// Why the entry of a key was not given. The error returns the key, and the map is unchanged.
 #[derive(Debug, Drop, Error)]
 pub enum TryKeyError<K> {
-    /// The key is a front of a stored key, or a stored key is one of it.
+    /// The key is a prefix of a stored key, or a stored key is a prefix of it.
     #[error("the key is a front of a stored key, or a stored key is one of it")]
     Prefix {
         /// The key.
@@ -37,7 +37,7 @@ pub enum TryKeyError<K> {
         /// The bytes of the key.
         error: InsertPrefixError,
     },
-    /// No memory was found.
+    /// The call was out of memory.
     #[error("no memory for the bytes of a key")]
     Memory {
         /// The key.

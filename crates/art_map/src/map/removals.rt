@@ -1,10 +1,11 @@
-//! Pairs are taken out.
+//! Removals: of a key, of the first pair, and of the last.
 ghost use Rattle.std.specs.Prelude.{◌≡◌, List, ◌∷◌, ◌++◌, [], IfNone, IfOk, IsOk, MatchOption, OnErr, OnOk};
 ghost use Rattle.std.specs.Map.{lookup, lookup_entry};
 ghost use Rattle.art_arena.specs.arena.Arena.{HasRoom, UsesRoom};
 ghost use Rattle.art_arena.specs.arena.Shapes.{key_of, LeafAt};
 ghost use Rattle.art_arena.specs.tree.Shrinks.{Shrinks};
 ghost use Rattle.art_map.specs.Contents.{IsUntouched};
+ghost use Rattle.art_map.specs.LeafNames.{AddsNoLeaf, KeepsLeaves};
 ghost use Rattle.art_operations.specs.Deletions.{IsAmong};
 ghost use Rattle.art_operations.specs.KeyedLists.{HasKey, without_key};
 ghost use Rattle.art_operations.specs.Pairs.{IsAtEnd, ShrinksAtEnd};
@@ -21,13 +22,21 @@ impl<K: AsBytes, V, const PREFIX_LEN: usize> TreeMap<K, V, PREFIX_LEN> {
     ghost use Rattle.art_map.specs.Found.{HasPairAt};
     ghost use Rattle.art_map.specs.Leaves.{AreLeaves};
 
-    /// Takes the pair out whose key has the query's bytes, and answers its value, if there is one. It is refused as
-    /// `remove_entry` is.
+    /// Removes the pair whose key has the query's bytes, and returns its value, if there is one. It fails as
+    /// `remove_entry` does.
+    ///
+    /// ```
+    /// let mut map = TreeMap::new(rt.alloc());
+    /// map.insert(*b"ab", 1)?;
+    /// assert_eq!(rt; map.remove(b"ab")?, Some(1));
+    /// assert_eq!(rt; map.remove(b"ab")?, None);
+    /// ```
     pub fn remove<Q: AsBytes>(&mut self, key: &Q) -> Result<Option<V>, AllocError>
     where
         K: Drop,
         ensures value { IfOk result (λ old. old ≡ lookup (has_bytes K.bytes (Q.bytes key.now)) self.old.pairs) }
         ensures pairs { OnOk result (self.new.pairs ≡ without_key (key_of K.bytes) (Q.bytes key.now) self.old.pairs) }
+        ensures names { OnOk result (KeepsLeaves K.bytes self.old self.new) }
         ensures err { OnErr result (self.new.pairs ≡ self.old.pairs) }
         ensures kept { OnErr result (IsUntouched self.old self.new) }
         ensures shrinks { OnErr result (HasKey (key_of K.bytes) (Q.bytes key.now) self.old.pairs
@@ -39,14 +48,22 @@ impl<K: AsBytes, V, const PREFIX_LEN: usize> TreeMap<K, V, PREFIX_LEN> {
         }
     }
 
-    /// Takes the pair out whose key has the query's bytes, and answers it, if there is one.
+    /// Removes the pair whose key has the query's bytes, and returns it, if there is one.
     ///
-    /// It is refused only where the loss of the key makes a node one of the next smaller kind, and there is no memory
-    /// for that one. The map is then as it was.
+    /// Fails only if the removal turns a node into one of the next smaller kind, and there is no memory for that one.
+    /// The map is unchanged then.
+    ///
+    /// ```
+    /// let mut map = TreeMap::new(rt.alloc());
+    /// map.insert(*b"ab", 1)?;
+    /// assert_eq!(rt; map.remove_entry(b"ab")?, Some((*b"ab", 1)));
+    /// assert!(rt; map.is_empty());
+    /// ```
     pub fn remove_entry<Q: AsBytes>(&mut self, key: &Q) -> Result<Option<(K, V)>, AllocError>
         ensures value { IfOk result (λ old.
             old ≡ lookup_entry (has_bytes K.bytes (Q.bytes key.now)) self.old.pairs) }
         ensures pairs { OnOk result (self.new.pairs ≡ without_key (key_of K.bytes) (Q.bytes key.now) self.old.pairs) }
+        ensures names { OnOk result (KeepsLeaves K.bytes self.old self.new) }
         ensures err { OnErr result (self.new.pairs ≡ self.old.pairs) }
         ensures kept { OnErr result (IsUntouched self.old self.new) }
         ensures shrinks { OnErr result (HasKey (key_of K.bytes) (Q.bytes key.now) self.old.pairs
@@ -64,12 +81,20 @@ impl<K: AsBytes, V, const PREFIX_LEN: usize> TreeMap<K, V, PREFIX_LEN> {
         }
     }
 
-    /// Takes the first pair out, whose key is the least, and answers it, if there is one. It is refused as
-    /// `remove_entry` is.
+    /// Removes the first pair, whose key is the least, and returns it, if there is one. It fails as `remove_entry`
+    /// does.
+    ///
+    /// ```
+    /// let mut map = TreeMap::new(rt.alloc());
+    /// map.extend([(*b"cd", 2), (*b"ab", 1)])?;
+    /// assert_eq!(rt; map.pop_first()?, Some((*b"ab", 1)));
+    /// assert_eq!(rt; map.len(), 1);
+    /// ```
     pub fn pop_first(&mut self) -> Result<Option<(K, V)>, AllocError>
         ensures value { IfOk result (λ taken. MatchOption taken (self.old.pairs ≡ [])
             (λ pair. self.old.pairs ≡ pair ∷ self.new.pairs)) }
         ensures none { IfOk result (λ taken. IfNone taken (self.new.pairs ≡ [])) }
+        ensures names { OnOk result (KeepsLeaves K.bytes self.old self.new) }
         ensures err { OnErr result (self.new.pairs ≡ self.old.pairs) }
         ensures kept { OnErr result (IsUntouched self.old self.new) }
         ensures shrinks { OnErr result (ShrinksAtEnd K.bytes End.First self.old.pairs) }
@@ -77,12 +102,20 @@ impl<K: AsBytes, V, const PREFIX_LEN: usize> TreeMap<K, V, PREFIX_LEN> {
         self.pop(End::First)
     }
 
-    /// Takes the last pair out, whose key is the greatest, and answers it, if there is one. It is refused as
-    /// `remove_entry` is.
+    /// Removes the last pair, whose key is the greatest, and returns it, if there is one. It fails as `remove_entry`
+    /// does.
+    ///
+    /// ```
+    /// let mut map = TreeMap::new(rt.alloc());
+    /// map.extend([(*b"cd", 2), (*b"ab", 1)])?;
+    /// assert_eq!(rt; map.pop_last()?, Some((*b"cd", 2)));
+    /// assert_eq!(rt; map.len(), 1);
+    /// ```
     pub fn pop_last(&mut self) -> Result<Option<(K, V)>, AllocError>
         ensures value { IfOk result (λ taken. MatchOption taken (self.old.pairs ≡ [])
             (λ pair. self.old.pairs ≡ self.new.pairs ++ pair ∷ [])) }
         ensures none { IfOk result (λ taken. IfNone taken (self.new.pairs ≡ [])) }
+        ensures names { OnOk result (KeepsLeaves K.bytes self.old self.new) }
         ensures err { OnErr result (self.new.pairs ≡ self.old.pairs) }
         ensures kept { OnErr result (IsUntouched self.old self.new) }
         ensures shrinks { OnErr result (ShrinksAtEnd K.bytes End.Last self.old.pairs) }
@@ -90,8 +123,8 @@ impl<K: AsBytes, V, const PREFIX_LEN: usize> TreeMap<K, V, PREFIX_LEN> {
         self.pop(End::Last)
     }
 
-    // Takes the pair of a leaf out, and answers it. The other leaves stay what they are, and are linked in order. It is
-    // refused as `remove_entry` is.
+    // Removes the pair of a leaf, and returns it. The other leaves stay what they are, and are linked in order. It
+    // fails as `remove_entry` does.
     pub(crate) fn take_at(&mut self, leaf: LeafPtr) -> Result<(K, V), AllocError>
         requires { HasLeafAt self.old leaf }
         ensures value { IfOk result (λ pair. HasPairAt self.old leaf pair) }
@@ -99,9 +132,12 @@ impl<K: AsBytes, V, const PREFIX_LEN: usize> TreeMap<K, V, PREFIX_LEN> {
             self.new.pairs ≡ without_key (key_of K.bytes) (K.bytes pair.0) self.old.pairs) }
         ensures leaves { OnOk result ((ls : List (LeafAt K V)) → AreLeaves K.bytes PREFIX_LEN self.old ls
             → (there : IsAmong leaf ls) → AreLeaves K.bytes PREFIX_LEN self.new (there.front ++ there.back)) }
+        ensures names { OnOk result (KeepsLeaves K.bytes self.old self.new) }
+        ensures none_new { AddsNoLeaf K.bytes self.old self.new }
         ensures err { OnErr result (self.new.pairs ≡ self.old.pairs) }
         ensures kept { OnErr result ((ls : List (LeafAt K V)) → AreLeaves K.bytes PREFIX_LEN self.old ls
             → AreLeaves K.bytes PREFIX_LEN self.new ls) }
+        ensures untouched { OnErr result (IsUntouched self.old self.new) }
         ensures shrinks { OnErr result ((pair : K × V) → HasPairAt self.old leaf pair
             → Shrinks (key_of K.bytes) self.old.pairs (K.bytes pair.0)) }
     {
@@ -117,11 +153,13 @@ impl<K: AsBytes, V, const PREFIX_LEN: usize> TreeMap<K, V, PREFIX_LEN> {
         }
     }
 
-    // Takes the pair at an end out.
+    // Removes the pair at an end.
     pub(super) fn pop(&mut self, end: End) -> Result<Option<(K, V)>, AllocError>
         ensures value { IfOk result (λ taken. MatchOption taken (self.old.pairs ≡ [])
             (λ pair. IsAtEnd end pair self.new.pairs self.old.pairs)) }
         ensures none { IfOk result (λ taken. IfNone taken (self.new.pairs ≡ [])) }
+        ensures names { OnOk result (KeepsLeaves K.bytes self.old self.new) }
+        ensures none_new { OnOk result (AddsNoLeaf K.bytes self.old self.new) }
         ensures err { OnErr result (self.new.pairs ≡ self.old.pairs) }
         ensures kept { OnErr result (IsUntouched self.old self.new) }
         ensures shrinks { OnErr result (ShrinksAtEnd K.bytes end self.old.pairs) }

@@ -1,4 +1,4 @@
-//! Room for nodes that are still to be made.
+//! Memory for nodes that are still to be made.
 ghost use Rattle.std.specs.Prelude.{◌≡◌, ◌↔◌, ◌*◌, ◌<◌, ◌^◌, IsTrue, OnOk};
 ghost use Rattle.art_arena.specs.arena.Arena.{HasRoom, KeepsRoom};
 ghost use Rattle.art_map.specs.Contents.{IsUntouched};
@@ -7,13 +7,18 @@ use crate::map::TreeMap;
 use art_bytes::AsBytes;
 use std::alloc::AllocError;
 
-// An inner node of so long a stored front fits in no memory.
+// An inner node that stores so long a prefix fits in no memory.
 const NO_MEMORY_HOLDS: usize = 1 << 62;
 
-/// Whether an inner node that stores so long a front of its prefix fits in memory. A call that makes a map and may let
-/// go of it asks this first; a type over the map does the same.
+/// Returns whether an inner node that stores `PREFIX_LEN` bytes of a prefix fits in memory: exactly if `PREFIX_LEN` is
+/// less than 2^62.
 ///
-/// It answers true exactly where `PREFIX_LEN` is less than 2^62.
+/// A call that makes a map and may drop it asks this first. A type over the map does so too.
+///
+/// ```
+/// assert!(rt; nodes_fit::<16>());
+/// assert!(rt; !nodes_fit::<0x7fff_ffff_ffff_ffff>());
+/// ```
 pub fn nodes_fit<const PREFIX_LEN: usize>() -> bool
     ensures { IsTrue result ↔ PREFIX_LEN < 2 ^ 62 }
 {
@@ -21,7 +26,7 @@ pub fn nodes_fit<const PREFIX_LEN: usize>() -> bool
 }
 
 impl<K: AsBytes, V, const PREFIX_LEN: usize> TreeMap<K, V, PREFIX_LEN> {
-    // Makes room for so many removals, each of which makes a node at most.
+    // Allocates the nodes of so many removals, each of which makes a node at most.
     pub(super) fn reserve_removals(&mut self, count: usize) -> Result<(), AllocError>
         ensures room { OnOk result (HasRoom self.new.nodes count) }
         ensures pairs { self.new.pairs ≡ self.old.pairs }
@@ -30,7 +35,27 @@ impl<K: AsBytes, V, const PREFIX_LEN: usize> TreeMap<K, V, PREFIX_LEN> {
         self.arena.reserve(count)
     }
 
-    // Makes room for so many insertions, each of which makes two nodes at most.
+    /// Allocates the nodes of so many more insertions, whatever their keys are. While there is room for two nodes,
+    /// `insert`, `try_insert` and `replace_entry` are never out of memory, and each uses room for two at most.
+    ///
+    /// A node of any kind may be needed, so that many of each kind are allocated, some kilobytes for each insertion. It
+    /// serves a few insertions that must not fail. Fails if out of memory. The map is unchanged.
+    ///
+    /// ```
+    /// let mut map = TreeMap::new(rt.alloc());
+    /// map.reserve(2)?;
+    /// map.extend([(*b"ab", 1), (*b"cd", 2)])?;
+    /// assert_eq!(rt; map.len(), 2);
+    /// ```
+    pub fn reserve(&mut self, additional: usize) -> Result<(), AllocError>
+        ensures room { OnOk result (HasRoom self.new.nodes (2 * additional)) }
+        ensures pairs { self.new.pairs ≡ self.old.pairs }
+        ensures kept { IsUntouched self.old self.new }
+    {
+        self.reserve_insertions(additional)
+    }
+
+    // Allocates the nodes of so many insertions, each of which makes two nodes at most.
     pub(super) fn reserve_insertions(&mut self, count: usize) -> Result<(), AllocError>
         ensures room { OnOk result (HasRoom self.new.nodes (2 * count)) }
         ensures pairs { self.new.pairs ≡ self.old.pairs }

@@ -1,4 +1,4 @@
-//! Walks over the pairs, the keys and the values.
+//! Iterators over the pairs, the keys and the values.
 ghost use Rattle.std.specs.Prelude.{◌≡◌, length};
 ghost use Rattle.std.specs.Map.{keys_of, values_of};
 ghost use Rattle.art_arena.specs.arena.Shapes.{key_of};
@@ -24,7 +24,15 @@ impl<K: AsBytes, V, const PREFIX_LEN: usize> TreeMap<K, V, PREFIX_LEN> {
         }
     }
 
-    /// The pairs, ascending by the bytes of their keys, from either end.
+    /// Returns an iterator over the pairs. It ascends by the bytes of their keys, and gives pairs from either end.
+    ///
+    /// ```
+    /// let mut map = TreeMap::new(rt.alloc());
+    /// map.extend([(*b"cd", 2), (*b"ab", 1)])?;
+    /// let mut pairs = map.iter();
+    /// assert_eq!(rt; pairs.next_back(), Some((b"cd", &2)));
+    /// assert_eq!(rt; pairs.len(), 1);
+    /// ```
     pub fn iter(&self) -> Iter<'_, K, V, PREFIX_LEN>
         ensures rest { result ≡ self.now.pairs }
         ensures ordered { AscendsByKey (key_of K.bytes) self.now.pairs }
@@ -34,14 +42,26 @@ impl<K: AsBytes, V, const PREFIX_LEN: usize> TreeMap<K, V, PREFIX_LEN> {
         Iter::new(&self.arena, walk, len)
     }
 
-    /// The keys, ascending by their bytes, from either end.
+    /// Returns an iterator over the keys. It ascends by their bytes, and gives keys from either end.
+    ///
+    /// ```
+    /// let mut map = TreeMap::new(rt.alloc());
+    /// map.extend([(*b"cd", 2), (*b"ab", 1)])?;
+    /// assert!(rt; map.keys().eq([b"ab", b"cd"]));
+    /// ```
     pub fn keys(&self) -> Keys<'_, K, V, PREFIX_LEN>
         ensures { result ≡ keys_of self.now.pairs }
     {
         Keys::new(self.iter())
     }
 
-    /// The values, ascending by the bytes of their keys, from either end.
+    /// Returns an iterator over the values. It ascends by the bytes of their keys, and gives values from either end.
+    ///
+    /// ```
+    /// let mut map = TreeMap::new(rt.alloc());
+    /// map.extend([(*b"cd", 2), (*b"ab", 1)])?;
+    /// assert!(rt; map.values().eq([&1, &2]));
+    /// ```
     pub fn values(&self) -> Values<'_, K, V, PREFIX_LEN>
         ensures { result ≡ values_of self.now.pairs }
     {

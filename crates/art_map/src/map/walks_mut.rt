@@ -1,4 +1,4 @@
-//! Walks that lend the values of a map's pairs for writing, one at a time.
+//! Iterators over a part of a map, which lend its values for writing one at a time.
 ghost use Rattle.std.specs.Prelude.{◌≡◌, ◌==◌, ◌<◌, ◌⊎◌, ◌∷◌, ◌++◌, [], length, IfSome};
 ghost use Rattle.std.specs.Range.Bound.{bound_map};
 ghost use Rattle.std.specs.Borrow.{sem};
@@ -17,7 +17,7 @@ use art_bytes::AsBytes;
 use art_walks::RawIterator;
 use std::ops::Bound;
 
-/// The pairs of a run of a map's leaves in order, from either end, their values lent for writing one at a time.
+/// An iterator over a run of a map's pairs in order, from either end. It lends their values for writing, one at a time.
 #[derive(Drop)]
 pub struct RangeMut<'a, K: AsBytes, V, const PREFIX_LEN: usize> {
     map: &'a mut TreeMap<K, V, PREFIX_LEN>,
@@ -25,11 +25,12 @@ pub struct RangeMut<'a, K: AsBytes, V, const PREFIX_LEN: usize> {
     ghost valid: { ∥ IsRunIn map.now leaves ∥₁ },
 }
 
-/// The pairs of the leaves behind a prefix in order, from either end, their values lent for writing one at a time.
+/// An iterator over the pairs whose keys begin with a prefix, in order, from either end. It lends their values for
+/// writing, one at a time.
 pub type PrefixMut<'a, K, V, const PREFIX_LEN: usize> = RangeMut<'a, K, V, PREFIX_LEN>;
 
-/// The pairs of the leaves below a node in order, from either end, their values lent for writing one at a time: those
-/// behind the prefix that leads to it.
+/// An iterator over the pairs of the leaves below a node, in order, from either end. It lends their values for writing,
+/// one at a time.
 pub type SubtreeIterMut<'a, K, V, const PREFIX_LEN: usize> = RangeMut<'a, K, V, PREFIX_LEN>;
 
 impl<K: AsBytes, V, const PREFIX_LEN: usize> TreeMap<K, V, PREFIX_LEN> {
@@ -60,10 +61,20 @@ impl<K: AsBytes, V, const PREFIX_LEN: usize> TreeMap<K, V, PREFIX_LEN> {
         leaves.next_back(&self.arena)
     }
 
-    /// The pairs whose keys are between two bounds, by their bytes, their values lent for writing one at a time,
-    /// ascending, from either end. The bounds' keys need not be stored.
+    /// Returns an iterator over the pairs whose keys are between two bounds, by their bytes. It ascends, and lends
+    /// values for writing from either end, one at a time. It allocates nothing. The bounds' keys need not be stored.
     ///
-    /// Where the map has a pair, the bounds have to be valid, as `bounds_are_valid` tells. It takes no memory.
+    /// If the map has a pair, the bounds have to be valid, as `bounds_are_valid` tells.
+    ///
+    /// ```
+    /// use std::ops::Bound;
+    /// let mut map = TreeMap::new(rt.alloc());
+    /// map.extend([(*b"ab", 1), (*b"cd", 2)])?;
+    /// if let Some(value) = map.range_mut(Bound::Excluded(b"ab"), Bound::Included(b"cd")).next() {
+    ///     *value = 7;
+    /// }
+    /// assert!(rt; map.values().eq([&1, &7]));
+    /// ```
     pub fn range_mut<Q: AsBytes>(
         &mut self,
         start: Bound<&Q>,
@@ -79,8 +90,18 @@ impl<K: AsBytes, V, const PREFIX_LEN: usize> TreeMap<K, V, PREFIX_LEN> {
         RangeMut { map: self, leaves }
     }
 
-    /// The pairs whose keys begin with a prefix's bytes, their values lent for writing one at a time, ascending, from
-    /// either end. It takes no memory.
+    /// Returns an iterator over the pairs whose keys begin with a prefix's bytes. It ascends, and lends values for
+    /// writing from either end, one at a time. It allocates nothing.
+    ///
+    /// ```
+    /// let mut map = TreeMap::new(rt.alloc());
+    /// map.extend([(*b"ab", 1), (*b"ac", 2), (*b"bc", 3)])?;
+    /// let mut pairs = map.prefix_mut(b"a");
+    /// while let Some(value) = pairs.next() {
+    ///     *value += 10;
+    /// }
+    /// assert!(rt; map.values().eq([&11, &12, &3]));
+    /// ```
     pub fn prefix_mut<Q: AsBytes>(&mut self, prefix: &Q) -> PrefixMut<'_, K, V, PREFIX_LEN>
         ensures same_map { (result.map.ghost_name ≡ self.entry.ghost_name) × (result.map.now ≡ self.old) }
         ensures rest { range_rest result ≡ with_front (key_of K.bytes) (Q.bytes prefix.now) self.old.pairs }
@@ -103,7 +124,14 @@ impl<'a, K: AsBytes, V, const PREFIX_LEN: usize> RangeMut<'a, K, V, PREFIX_LEN> 
     ghost use Rattle.art_map.specs.LentWalks.{IsRangeFirst, IsRangeLast, LendsValue, lends_if_in_range, lends_in_range};
     ghost use Rattle.art_map.specs.LentWalks.{range_before, range_behind, range_rest};
 
-    /// Whether no pair is still to come.
+    /// Returns whether no pair is still to come.
+    ///
+    /// ```
+    /// let mut map = TreeMap::new(rt.alloc());
+    /// map.extend([(*b"ab", 1), (*b"bc", 2)])?;
+    /// assert!(rt; map.prefix_mut(b"c").is_empty());
+    /// assert!(rt; !map.prefix_mut(b"b").is_empty());
+    /// ```
     pub fn is_empty(&self) -> bool
         ensures { result ≡ (length (range_rest self.now) == 0) }
     {
@@ -111,7 +139,16 @@ impl<'a, K: AsBytes, V, const PREFIX_LEN: usize> RangeMut<'a, K, V, PREFIX_LEN> 
         self.map.first_of(&mut ahead).is_none()
     }
 
-    /// Lends the value of the first pair still to come for writing, or `None` where none is, as it then stays.
+    /// Lends the value of the first pair still to come for writing. It returns `None` if none is, and from then on.
+    ///
+    /// ```
+    /// let mut map = TreeMap::new(rt.alloc());
+    /// map.extend([(*b"ab", 1), (*b"ac", 2)])?;
+    /// if let Some(value) = map.prefix_mut(b"a").next() {
+    ///     *value = 7;
+    /// }
+    /// assert!(rt; map.values().eq([&7, &2]));
+    /// ```
     pub fn next(&mut self) -> Option<&mut V>
         ensures* writes_back { sem 𝓛 (lends_if_in_range K.row V.row PREFIX_LEN K.AsBytes self.entry
             (range_behind self.old) result) }
@@ -124,7 +161,16 @@ impl<'a, K: AsBytes, V, const PREFIX_LEN: usize> RangeMut<'a, K, V, PREFIX_LEN> 
         Some(value)
     }
 
-    /// Lends the value of the last pair still to come for writing, or `None` where none is, as it then stays.
+    /// Lends the value of the last pair still to come for writing. It returns `None` if none is, and from then on.
+    ///
+    /// ```
+    /// let mut map = TreeMap::new(rt.alloc());
+    /// map.extend([(*b"ab", 1), (*b"ac", 2)])?;
+    /// if let Some(value) = map.prefix_mut(b"a").next_back() {
+    ///     *value = 7;
+    /// }
+    /// assert!(rt; map.values().eq([&1, &7]));
+    /// ```
     pub fn next_back(&mut self) -> Option<&mut V>
         ensures* writes_back { sem 𝓛 (lends_if_in_range K.row V.row PREFIX_LEN K.AsBytes self.entry
             (range_before self.old) result) }
@@ -137,9 +183,17 @@ impl<'a, K: AsBytes, V, const PREFIX_LEN: usize> RangeMut<'a, K, V, PREFIX_LEN> 
         Some(value)
     }
 
-    /// Lends the first pair still to come, its value for writing.
+    /// Lends the first pair still to come, its value for writing. A pair has to be left, as `is_empty` tells.
     ///
-    /// A pair has to be left, as `is_empty` tells.
+    /// ```
+    /// let mut map = TreeMap::new(rt.alloc());
+    /// map.extend([(*b"ab", 1), (*b"ac", 2)])?;
+    /// let mut pairs = map.prefix_mut(b"a");
+    /// let (key, value) = pairs.next_pair();
+    /// assert_eq!(rt; key, b"ab");
+    /// *value = 7;
+    /// assert_eq!(rt; map.get(b"ab"), Some(&7));
+    /// ```
     pub fn next_pair(&mut self) -> (&K, &mut V)
         requires { 0 < length (range_rest self.old) }
         ensures* writes_back { sem 𝓛 (lends_in_range K.row V.row PREFIX_LEN K.AsBytes self.entry
@@ -153,9 +207,17 @@ impl<'a, K: AsBytes, V, const PREFIX_LEN: usize> RangeMut<'a, K, V, PREFIX_LEN> 
         self.map.pair_mut_at(leaf)
     }
 
-    /// Lends the last pair still to come, its value for writing.
+    /// Lends the last pair still to come, its value for writing. A pair has to be left, as `is_empty` tells.
     ///
-    /// A pair has to be left, as `is_empty` tells.
+    /// ```
+    /// let mut map = TreeMap::new(rt.alloc());
+    /// map.extend([(*b"ab", 1), (*b"ac", 2)])?;
+    /// let mut pairs = map.prefix_mut(b"a");
+    /// let (key, value) = pairs.next_back_pair();
+    /// assert_eq!(rt; key, b"ac");
+    /// *value = 7;
+    /// assert_eq!(rt; map.get(b"ac"), Some(&7));
+    /// ```
     pub fn next_back_pair(&mut self) -> (&K, &mut V)
         requires { 0 < length (range_rest self.old) }
         ensures* writes_back { sem 𝓛 (lends_in_range K.row V.row PREFIX_LEN K.AsBytes self.entry

@@ -1,4 +1,4 @@
-//! A leaf is taken out of a tree.
+//! A leaf is removed from a tree.
 ghost use Rattle.std.specs.Prelude.{◌≡◌, List, None, IfOk, IsOk, OnErr};
 ghost use Rattle.art_nodes.specs.Name.{Name};
 ghost use Rattle.art_arena.specs.arena.Arena.{HasRoom, KeepsNodes, SameNodes, UsesRoom};
@@ -21,11 +21,11 @@ use art_nodes::{LeafNode, OpaqueNodePtr};
 use std::alloc::AllocError;
 
 impl DeletePoint {
-    /// Takes its leaf out of the tree below this root, in which it was found, and answers the leaf, with open
-    /// ends, and the root of what is left. Whatever stands beside the tree stays as it is.
+    /// Removes its leaf from the tree below this root, in which it was found. Returns the leaf, with open ends, and the
+    /// root of what is left. Whatever stands beside the tree is unchanged.
     ///
-    /// It is refused only where the loss of the leaf makes a node one of the next smaller kind, and there is no memory
-    /// for that one. The arena is then as it was. A node that is left with one child takes no memory to go.
+    /// Fails only if the removal turns a node into one of the next smaller kind, and there is no memory for that one.
+    /// The arena is unchanged then. A node that is left with one child needs no memory to go.
     pub fn apply<K: AsBytes, V, const PREFIX_LEN: usize>(
         self,
         arena: &mut NodeArena<K, V, PREFIX_LEN>,

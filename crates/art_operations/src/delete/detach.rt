@@ -1,4 +1,4 @@
-//! A part of a tree is taken out of the inner nodes above it.
+//! A part of a tree is removed from the inner nodes above it.
 ghost use Rattle.std.specs.Prelude.{◌≡◌, ◌≢◌, ◌<◌, ◌≤◌, ◌+◌, suc, List, Some, IsSome, IfOk, IsOk, OnErr, length};
 ghost use Rattle.art_nodes.specs.Name.{Name};
 ghost use Rattle.art_nodes.specs.InnerNode as node;
@@ -113,9 +113,11 @@ fn point_at<K, V, const PREFIX_LEN: usize>(
     arena.edit_inner(above, &NodeEdit::Write { byte, child: new });
 }
 
-/// Takes a part of a tree out of the inner nodes above it, and answers the root of what is left, if it isn't the root
-/// itself. The nodes of the part stay in the arena, and its leaves in the list of leaves. It is refused where the node
-/// above it becomes one of the next smaller kind and there is no memory for that one; nothing changes then.
+/// Removes a part of a tree from the inner nodes above it, and returns the root of what is left, if the part isn't the
+/// root itself. The nodes of the part stay in the arena, and its leaves in the list of leaves.
+///
+/// Fails if the node above it becomes one of the next smaller kind and there is no memory for that one. Nothing changes
+/// then.
 pub(crate) fn detach<K: AsBytes, V, const PREFIX_LEN: usize>(
     arena: &mut NodeArena<K, V, PREFIX_LEN>,
     root: OpaqueNodePtr,
@@ -166,7 +168,7 @@ pub(crate) fn detach<K: AsBytes, V, const PREFIX_LEN: usize>(
     }
 }
 
-/// The same, where there is room for what the node above the part becomes: it is then never refused.
+/// Removes a part of a tree as `detach` does, if what the node above the part becomes is allocated. It never fails.
 pub(crate) fn detach_in_room<K: AsBytes, V, const PREFIX_LEN: usize>(
     arena: &mut NodeArena<K, V, PREFIX_LEN>,
     root: OpaqueNodePtr,

@@ -1,5 +1,5 @@
-//! A leaf that is known by its name is taken out of a tree.
-ghost use Rattle.std.specs.Prelude.{◌≡◌, List, None, IfOk, IsOk, OnErr};
+//! A leaf that is known by its name is removed from a tree.
+ghost use Rattle.std.specs.Prelude.{◌≡◌, List, None, IfOk, IsOk, OnErr, OnOk};
 ghost use Rattle.art_nodes.specs.Name.{Name};
 ghost use Rattle.art_arena.specs.arena.Arena.{HasRoom, KeepsNodes, SameNodes, UsesRoom};
 ghost use Rattle.art_arena.specs.arena.Cells.{Cell};
@@ -9,6 +9,7 @@ ghost use Rattle.art_arena.specs.arena.Stores.{StoresBeside};
 ghost use Rattle.art_arena.specs.tree.Shrinks.{Shrinks};
 ghost use Rattle.art_operations.specs.DeletePoints.{IsLeafPlace};
 ghost use Rattle.art_operations.specs.Deletions.{IsAmong, IsDeletedBeside};
+ghost use Rattle.art_operations.specs.LeafNames.{HasLeavesOf};
 
 use crate::delete::point::{DeletePoint, search_for_delete_point};
 use crate::delete::result::DeleteResult;
@@ -17,11 +18,11 @@ use art_bytes::AsBytes;
 use art_nodes::OpaqueNodePtr;
 use std::alloc::AllocError;
 
-/// Takes a leaf of the tree below a root out, and answers it, with open ends, and the root of what is left. The way to
-/// it is found by its own key, of which no copy is made. Whatever stands beside the tree stays as it is.
+/// Removes a leaf of the tree below a root. Returns the leaf, with open ends, and the root of what is left. The way to
+/// it is found by its own key, of which no copy is made. Whatever stands beside the tree is unchanged.
 ///
-/// It is refused only where the loss of the leaf makes a node one of the next smaller kind, and there is no memory for
-/// that one. The arena is then as it was.
+/// Fails only if the removal turns a node into one of the next smaller kind, and there is no memory for that one. The
+/// arena is unchanged then.
 pub fn take_leaf<K: AsBytes, V, const PREFIX_LEN: usize>(
     arena: &mut NodeArena<K, V, PREFIX_LEN>,
     root: OpaqueNodePtr,
@@ -37,6 +38,7 @@ pub fn take_leaf<K: AsBytes, V, const PREFIX_LEN: usize>(
     ensures others { IfOk result (λ deleted. (s : Shape K V) (rest : List (Name × Cell K V))
         → StoresBeside K.bytes PREFIX_LEN arena.old root rest s → IsAmong leaf (leaves s)
         → KeepsNodes rest arena.old arena.new) }
+    ensures names { OnOk result (HasLeavesOf K.bytes arena.old arena.new) }
     ensures err { OnErr result (SameNodes arena.old arena.new) }
     ensures shrinks { OnErr result ((s : Shape K V) (rest : List (Name × Cell K V))
         → StoresBeside K.bytes PREFIX_LEN arena.old root rest s

@@ -1,4 +1,4 @@
-//! A node of two children loses one, and the other one stands for it.
+//! A node of two children loses one, and the other one takes its place.
 ghost use Rattle.std.specs.Prelude.{◌≡◌, ◌≢◌, ◌<◌, ◌+◌, ◌^◌, ℕ, List, ◌∷◌, ◌++◌, Some, None, length, take};
 ghost use Rattle.art_nodes.specs.InnerNode as node;
 ghost use Rattle.art_nodes.specs.Name.{Name};
@@ -108,8 +108,7 @@ fn lengthen<K: AsBytes, V, const PREFIX_LEN: usize>(
     arena.edit_inner(child, &NodeEdit::CopyPrefix { header: &header });
 }
 
-/// Drops a node of two children without the one under a byte, so that the other one, which it answers, can stand for
-/// it.
+/// Drops a node of two children without the one under a byte. It returns the other one, which can take its place.
 pub(crate) fn merge<K: AsBytes, V, const PREFIX_LEN: usize>(
     arena: &mut NodeArena<K, V, PREFIX_LEN>,
     parent: OpaqueNodePtr,

@@ -20,7 +20,7 @@ pub struct DeletePoint {
     pub leaf_node_ptr: LeafPtr,
 }
 
-/// Finds the leaf with exactly this key in the tree below a name, if there is one. It takes no memory.
+/// Finds the leaf with exactly this key in the tree below a name, if there is one. It allocates nothing.
 pub fn search_for_delete_point<K: AsBytes, V, const PREFIX_LEN: usize>(
     arena: &NodeArena<K, V, PREFIX_LEN>,
     root: OpaqueNodePtr,
@@ -41,7 +41,7 @@ pub fn search_for_delete_point<K: AsBytes, V, const PREFIX_LEN: usize>(
     }
 }
 
-/// Finds the first leaf of the tree below a name. It takes no memory.
+/// Finds the first leaf of the tree below a name. It allocates nothing.
 pub fn find_minimum_to_delete<K: AsBytes, V, const PREFIX_LEN: usize>(
     arena: &NodeArena<K, V, PREFIX_LEN>,
     root: OpaqueNodePtr,
@@ -59,7 +59,7 @@ pub fn find_minimum_to_delete<K: AsBytes, V, const PREFIX_LEN: usize>(
     }
 }
 
-/// Finds the last leaf of the tree below a name. It takes no memory.
+/// Finds the last leaf of the tree below a name. It allocates nothing.
 pub fn find_maximum_to_delete<K: AsBytes, V, const PREFIX_LEN: usize>(
     arena: &NodeArena<K, V, PREFIX_LEN>,
     root: OpaqueNodePtr,

@@ -1,5 +1,5 @@
-//! The part of a tree whose keys begin with a prefix is deleted in one cut: it is found, room is made for what the cut
-//! needs, and then it goes.
+//! The part of a tree whose keys begin with a prefix is deleted in one cut. It is found, what the cut needs is
+//! allocated, and then it goes.
 ghost use Rattle.std.specs.Prelude.{◌≡◌, ◌≢◌, ◌+◌, ◌-◌, ◌*◌, ◌≤◌, ℕ, List, length};
 ghost use Rattle.std.specs.Prelude.{IfOk, IfSome, IsOk, MatchOption, OnErr, OnOk};
 ghost use Rattle.art_nodes.specs.Name.{Name};
@@ -9,7 +9,7 @@ ghost use Rattle.art_arena.specs.arena.Arena.{HasRoom, KeepsNodes, KeepsRoom, Sa
 ghost use Rattle.art_arena.specs.arena.Shapes.{leaves};
 ghost use Rattle.art_arena.specs.arena.Steps.{steps_of};
 ghost use Rattle.art_operations.specs.Held.{HasInner};
-ghost use Rattle.art_operations.specs.Openings.{ForLongest, OpeningReads};
+ghost use Rattle.art_operations.specs.Openings.{ForLongest, OpeningReads, ReadsAtLeast};
 ghost use Rattle.art_operations.specs.Subtrees.{CanLoseChild, HasRoomAbove, IsCutBeside, IsSubtreeAnswer};
 ghost use Rattle.art_operations.specs.Subtrees.{IsSubtreePoint, ShrinksWithout};
 ghost use Rattle.art_operations.specs.declared.insert.point.InsertKind.TheVariants as kind;
@@ -42,22 +42,22 @@ pub struct SubtreeDeletePoint {
     pub last_leaf: LeafPtr,
 }
 
-/// A part that can be deleted with no more memory.
+/// A part that can be deleted without an allocation. Only `prepare` makes one.
 #[derive(Debug, Drop)]
 pub struct PreparedSubtreeDelete {
-    /// The part.
-    pub point: SubtreeDeletePoint,
+    point: SubtreeDeletePoint,
 }
 
-/// What the deletion of a part answers.
+/// What the deletion of a part returns.
 #[derive(Clone, Copy, Debug)]
 pub struct SubtreeDeleteResult {
     /// The root of the tree without the part, if a leaf is left.
     pub new_root: Option<OpaqueNodePtr>,
     /// How many leaves the part had.
     pub leafs_removed: usize,
-    /// How many nodes the part had, its leaves among them: fewer than twice as many as leaves. A count that reaches the
-    /// greatest number stays there.
+    /// How many nodes the part had, its leaves among them: one for each leaf, and one for each of the different longest
+    /// common prefixes of neighbours. So they are fewer than twice as many as leaves. A count that reaches the greatest
+    /// number stays there.
     pub nodes_freed: u64,
 }
 
@@ -79,9 +79,11 @@ fn leaf_part(root: OpaqueNodePtr, point: InsertPoint) -> Option<SubtreeDeletePoi
     }
 }
 
-/// Finds the part of the tree below a name whose keys begin with a prefix; there is none where no key does. The prefix
-/// need not end where a node's does. Each node that is read is counted by the reader: they are at most as many as the
-/// longest key and two have, for each byte of the prefix and for six. It takes no memory.
+/// Finds the part of the tree below a name whose keys begin with a prefix, if any does. The prefix need not end where a
+/// node's does. It allocates nothing.
+///
+/// The reader counts each node that is read. They are at most (n + 6) * (k + 2), where n is the length of the prefix
+/// and k that of the longest key.
 pub fn search_for_subtree_delete_point<K: AsBytes, V, const PREFIX_LEN: usize>(
     reader: &mut ArenaReader<'_, K, V, PREFIX_LEN>,
     root: OpaqueNodePtr,
@@ -92,6 +94,7 @@ pub fn search_for_subtree_delete_point<K: AsBytes, V, const PREFIX_LEN: usize>(
         (λ s. IsSubtreeAnswer K.bytes prefix.now s result) }
     ensures root { IfSome result (λ point. point.root ≡ root) }
     ensures kept { reader.new.arena.now ≡ reader.old.arena.now }
+    ensures least { ReadsAtLeast 1 reader.old.count reader.new.count }
     ensures few { OfTree K.bytes PREFIX_LEN reader.old.arena.now root (λ s. ForLongest K.bytes s
         (λ longest. OpeningReads longest (length prefix.now) reader.old.count reader.new.count)) }
 {
@@ -137,11 +140,11 @@ fn make_room<K, V, const PREFIX_LEN: usize>(
 }
 
 impl SubtreeDeletePoint {
-    /// Makes room for what the deletion of the part needs, which was found in the tree of this arena. No name changes,
-    /// and what room there was stays.
+    /// Allocates what the deletion of the part needs, which was found in the tree of this arena. No name changes, and
+    /// what room there was stays.
     ///
-    /// It is refused only where the loss of the part makes the node above it one of the next smaller kind, and there is
-    /// no memory for that one. A part that is the whole tree needs none.
+    /// Fails only if the removal turns the node above the part into one of the next smaller kind, and there is no
+    /// memory for that one. A part that is the whole tree needs none.
     pub fn prepare<K: AsBytes, V, const PREFIX_LEN: usize>(
         self,
         arena: &mut NodeArena<K, V, PREFIX_LEN>,
@@ -166,8 +169,8 @@ impl SubtreeDeletePoint {
 }
 
 impl PreparedSubtreeDelete {
-    /// Takes the part out of the tree, in which it was found and for which room was made, and frees its nodes. It is
-    /// never refused. The leaves that stay keep their names, and whatever stands beside the tree stays as it is.
+    /// Removes the part from the tree, in which it was found, and frees its nodes. What it needs is allocated, so it
+    /// never fails. The leaves that stay keep their names, and whatever stands beside the tree is unchanged.
     pub fn apply<K: AsBytes + Drop, V: Drop, const PREFIX_LEN: usize>(
         self,
         arena: &mut NodeArena<K, V, PREFIX_LEN>,
@@ -195,6 +198,11 @@ impl PreparedSubtreeDelete {
         }
     }
 
-    /// Leaves the tree as it is. The room that was made stays with the arena, for nodes to come.
-    pub fn abandon(self) {}
+    /// Returns the part as it was found. The tree is unchanged, and what was allocated stays with the arena, for nodes
+    /// to come. To delete the part later, prepare it again.
+    pub fn abandon(self) -> SubtreeDeletePoint
+        ensures { result ≡ self.point }
+    {
+        self.point
+    }
 }

@@ -1,4 +1,4 @@
-//! The change of a tree that puts a new key in.
+//! The change of a tree that inserts a new key.
 ghost use Rattle.std.specs.Prelude.{◌≡◌, ℕ, IfOk, OnErr, IsOk};
 ghost use Rattle.art_arena.specs.arena.Arena.{HasRoom, KeepsNodes, SameNodes, UsesRoom};
 ghost use Rattle.art_arena.specs.arena.Steps.{steps_of};
@@ -16,12 +16,12 @@ use art_arena::NodeArena;
 use art_bytes::AsBytes;
 
 impl InsertPoint {
-    /// Puts a key and its value in at its place, which was found by `search_for_insert_point` in this tree. Whatever
-    /// stands beside the tree stays as it is.
+    /// Inserts a key and its value at the key's place, which was found by `search_for_insert_point` in this tree.
+    /// Whatever stands beside the tree is unchanged.
     ///
-    /// Where a leaf has the key already, it takes the new key and value, and the answer has what it had: this takes no
-    /// memory and is never refused. Otherwise a leaf is made, and at most one inner node. Where there is no memory for
-    /// them, the key and the value are handed back, and the tree is as it was.
+    /// If a leaf has the key already, it takes the new key and value, and the result has what it had. This allocates
+    /// nothing and never fails. Otherwise a leaf is made, and at most one inner node. Fails if there is no memory for
+    /// them: the error returns the key and the value, and the tree is unchanged.
     #[inline(always)]
     pub fn apply<K: AsBytes, V, const PREFIX_LEN: usize>(
         self,

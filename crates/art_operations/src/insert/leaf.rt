@@ -11,7 +11,7 @@ use crate::insert::result::InsertRefused;
 use art_arena::{LeafPtr, NodeArena};
 use art_nodes::LeafNode;
 
-/// Stores a leaf with no links. Where there is no memory the key and the value are handed back.
+/// Stores a leaf with no links. Fails if out of memory; the error returns the key and the value.
 pub(crate) fn store_leaf<K, V, const PREFIX_LEN: usize>(
     arena: &mut NodeArena<K, V, PREFIX_LEN>,
     key: K,
@@ -32,7 +32,7 @@ pub(crate) fn store_leaf<K, V, const PREFIX_LEN: usize>(
     }
 }
 
-/// Takes a leaf out of the arena again, and hands its key and value back.
+/// Removes a leaf from the arena again, and returns its key and value in an error.
 pub(crate) fn take_back<K, V, const PREFIX_LEN: usize>(
     arena: &mut NodeArena<K, V, PREFIX_LEN>,
     leaf: LeafPtr,

@@ -4,7 +4,7 @@ ghost use Rattle.std.specs.Prelude.{MatchOption};
 ghost use Rattle.art_bytes.specs.Keys.{BeginsWith};
 ghost use Rattle.art_arena.specs.arena.Cells.{leaf_name};
 ghost use Rattle.art_arena.specs.arena.Shapes.{Shape};
-ghost use Rattle.art_operations.specs.Openings.{DescentReads, ForLongest, PlaceReads};
+ghost use Rattle.art_operations.specs.Openings.{DescentReads, ForLongest, PlaceReads, ReadsAtLeast};
 ghost use Rattle.art_operations.specs.Points.{IsInTheWay, IsPlaceOrConflict, Refuses};
 ghost use Rattle.art_operations.specs.declared.insert.point.InsertKind.TheVariants as kind;
 ghost use Rattle.art_operations.specs.declared.insert.point.Way.TheVariants as way;
@@ -26,7 +26,7 @@ use std::alloc::{AllocError, Global};
 use std::marker::Model;
 use thiserror::Error;
 
-/// The bytes of a key that can't be put in, since it is a front of a stored key, or a stored key is one of it.
+/// The bytes of a key that can't be inserted, since it is a prefix of a stored key, or a stored key is a prefix of it.
 #[derive(Debug, Drop)]
 pub struct KeyPrefix {
     bytes: Vec<u8>,
@@ -41,7 +41,7 @@ impl Model for KeyPrefix {
 }
 
 impl KeyPrefix {
-    /// A copy of these bytes. It is refused where there is no memory.
+    /// Makes a copy of these bytes. Fails if out of memory.
     pub fn new(alloc: Global, bytes: &[u8]) -> Result<Self, AllocError>
         ensures { IfOk result (λ prefix. prefix ≡ bytes.now) }
     {
@@ -49,7 +49,7 @@ impl KeyPrefix {
         Ok(KeyPrefix { bytes })
     }
 
-    /// The bytes.
+    /// Returns the bytes.
     pub fn bytes(&self) -> &[u8]
         ensures { result.now ≡ self.now }
     {
@@ -57,8 +57,8 @@ impl KeyPrefix {
     }
 }
 
-/// A key can't be put in, since it is a front of a stored key, or a stored key is one of it. The stored keys of which
-/// that holds are those of one part of the tree.
+/// A key can't be inserted, since it is a prefix of a stored key, or a stored key is a prefix of it. The stored keys of
+/// which that holds are those of one part of the tree.
 #[derive(Clone, Copy, Debug, Error)]
 #[error("the key is a front of a stored key, or a stored key is one of it")]
 pub struct PrefixConflict {
@@ -70,7 +70,7 @@ pub struct PrefixConflict {
     pub part: OpaqueNodePtr,
 }
 
-/// A key can't be put in, since it is a front of a stored key, or a stored key is one of it.
+/// A key can't be inserted, since it is a prefix of a stored key, or a stored key is a prefix of it.
 #[derive(Debug, Drop, Error)]
 #[error("the key is a front of a stored key, or a stored key is one of it")]
 pub struct InsertPrefixError {
@@ -81,7 +81,7 @@ pub struct InsertPrefixError {
 /// Why no place was found for a key.
 #[derive(Debug, Drop, Error)]
 pub enum InsertSearchError {
-    /// It is a front of a stored key, or a stored key is one of it.
+    /// It is a prefix of a stored key, or a stored key is a prefix of it.
     #[error("the key is a front of a stored key, or a stored key is one of it")]
     Prefix(InsertPrefixError),
     /// So it is, and there was no memory for its bytes.
@@ -134,7 +134,7 @@ pub struct InsertPoint {
 }
 
 impl InsertPoint {
-    /// The leaf that has the key already, if there is one.
+    /// Returns the leaf that has the key already, if there is one.
     pub fn stored_leaf(self) -> Option<LeafPtr>
         ensures { MatchOption result ((slot : ℕ) → self.insert_kind ≡ kind.Exact slot → ⊥)
             (λ slot. self.insert_kind ≡ kind.Exact slot) }
@@ -212,6 +212,7 @@ fn way_at_leaf<K: AsBytes, V, const PREFIX_LEN: usize>(
         → StoresAt K.bytes PREFIX_LEN reader.old.arena.now (leaf_name leaf) depth path s
         → BeginsWith path key.now → IsWay K.bytes key.now path s (leaf_name leaf) result }
     ensures kept { reader.new.arena.now ≡ reader.old.arena.now }
+    ensures least { ReadsAtLeast 1 reader.old.count reader.new.count }
     ensures one { reader.new.count ≤ reader.old.count + 1 }
 {
     let stored = reader.visit_leaf(leaf).key_ref().as_bytes();
@@ -241,6 +242,7 @@ fn way_at_inner<K: AsBytes, V, const PREFIX_LEN: usize>(
         → StoresAt K.bytes PREFIX_LEN reader.old.arena.now node depth path s
         → BeginsWith path key.now → IsWay K.bytes key.now path s node result }
     ensures kept { reader.new.arena.now ≡ reader.old.arena.now }
+    ensures least { ReadsAtLeast 1 reader.old.count reader.new.count }
     ensures few { (path : List ℕ) (s : Shape K V)
         → StoresAt K.bytes PREFIX_LEN reader.old.arena.now node depth path s
         → ForLongest K.bytes s (λ longest. reader.new.count ≤ reader.old.count + (longest + 1)) }
@@ -272,6 +274,7 @@ fn way_with<K: AsBytes, V, const PREFIX_LEN: usize>(
         → StoresAt K.bytes PREFIX_LEN reader.old.arena.now node depth path s
         → BeginsWith path key.now → IsWay K.bytes key.now path s node result }
     ensures kept { reader.new.arena.now ≡ reader.old.arena.now }
+    ensures least { ReadsAtLeast 1 reader.old.count reader.new.count }
     ensures few { (path : List ℕ) (s : Shape K V)
         → StoresAt K.bytes PREFIX_LEN reader.old.arena.now node depth path s
         → ForLongest K.bytes s (λ longest. reader.new.count ≤ reader.old.count + (longest + 1)) }
@@ -320,7 +323,7 @@ pub(crate) fn stop_of<K: AsBytes, V, const PREFIX_LEN: usize>(
     stop_with(&mut reader, root, key)
 }
 
-// The same, by a reader that counts each node that is read.
+// Where the search for a key stops, by a reader that counts each node that is read.
 #[inline(always)]
 fn stop_with<K: AsBytes, V, const PREFIX_LEN: usize>(
     reader: &mut ArenaReader<'_, K, V, PREFIX_LEN>,
@@ -335,6 +338,7 @@ fn stop_with<K: AsBytes, V, const PREFIX_LEN: usize>(
         → StoresAt K.bytes PREFIX_LEN reader.old.arena.now result.node result.depth path s
         → BeginsWith path key.now → Stops K.bytes key.now path s }
     ensures kept { reader.new.arena.now ≡ reader.old.arena.now }
+    ensures least { ReadsAtLeast 1 reader.old.count reader.new.count }
     ensures few { OfTree K.bytes PREFIX_LEN reader.old.arena.now root (λ s. ForLongest K.bytes s
         (λ longest. DescentReads longest key.now reader.old.count reader.new.count)) }
 {
@@ -347,8 +351,10 @@ fn stop_with<K: AsBytes, V, const PREFIX_LEN: usize>(
     }
 }
 
-/// Finds where a new key goes in the tree below a name. It is refused where the key is a front of a stored key, or a
-/// stored key is one of it: the refusal tells the part of the tree that has these keys. It takes no memory.
+/// Finds where a new key goes in the tree below a name. It allocates nothing.
+///
+/// Fails if the key is a prefix of a stored key, or a stored key is a prefix of it. The error names the part of the
+/// tree that has these keys.
 #[inline(always)]
 pub fn find_insert_point<K: AsBytes, V, const PREFIX_LEN: usize>(
     arena: &NodeArena<K, V, PREFIX_LEN>,
@@ -377,6 +383,7 @@ pub(crate) fn find_insert_point_with<K: AsBytes, V, const PREFIX_LEN: usize>(
     ensures part { IfErr result (λ e. OfTree K.bytes PREFIX_LEN reader.old.arena.now root
         (λ s. IsInTheWay K.bytes key.now s e.root e.part (steps_of e.path))) }
     ensures kept { reader.new.arena.now ≡ reader.old.arena.now }
+    ensures least { ReadsAtLeast 1 reader.old.count reader.new.count }
     ensures few { OfTree K.bytes PREFIX_LEN reader.old.arena.now root (λ s. ForLongest K.bytes s
         (λ longest. PlaceReads longest key.now reader.old.count reader.new.count)) }
 {
@@ -429,8 +436,8 @@ fn refusal(alloc: Global, key: &[u8]) -> InsertSearchError
     }
 }
 
-/// What `find_insert_point` answers, but where the key is in conflict with a copy of its bytes, if there is memory for
-/// one. Otherwise it takes no memory.
+/// Returns what `find_insert_point` does, but if the key is in conflict, a copy of its bytes, if there is memory for
+/// one. Otherwise it allocates nothing.
 pub fn search_for_insert_point<K: AsBytes, V, const PREFIX_LEN: usize>(
     alloc: Global,
     arena: &NodeArena<K, V, PREFIX_LEN>,

@@ -1,4 +1,4 @@
-//! What an insertion answers.
+//! What an insertion returns.
 
 use art_arena::LeafPtr;
 use art_nodes::{ConcreteInnerNodePtr, LeafNode, OpaqueNodePtr};
@@ -7,7 +7,7 @@ use thiserror::Error;
 /// What an insertion changed above the leaf.
 #[derive(Clone, Copy, Debug)]
 pub enum InsertParentNodeChange {
-    /// The leaf is a child of this inner node under this byte. The node is new, took one more child, or took the place
+    /// The leaf is a child of this inner node under this byte. The node is new, got one more child, or took the place
     /// of a smaller one.
     NewParent {
         /// The node.
@@ -19,7 +19,7 @@ pub enum InsertParentNodeChange {
     NoChange,
 }
 
-/// What an insertion answers.
+/// What an insertion returns.
 #[derive(Debug, Drop)]
 pub struct InsertResult<K, V> {
     /// The leaf with the new key and value.
@@ -32,7 +32,7 @@ pub struct InsertResult<K, V> {
     pub parent_node_change: InsertParentNodeChange,
 }
 
-/// No memory was found for a leaf, or for an inner node above it. The key and the value are handed back.
+/// The call was out of memory for a leaf, or for an inner node above it. The error returns the key and the value.
 #[derive(Debug, Drop, Error)]
 #[error("no memory for a leaf, or for an inner node above it")]
 pub struct InsertRefused<K, V> {
@@ -42,10 +42,10 @@ pub struct InsertRefused<K, V> {
     pub value: V,
 }
 
-/// Why a pair was not put in. It is handed back.
+/// Why a pair was not inserted. The error returns it.
 #[derive(Debug, Drop, Error)]
 pub enum PairRefused<K, V> {
-    /// The key is a front of a stored key, or a stored key is one of it.
+    /// The key is a prefix of a stored key, or a stored key is a prefix of it.
     #[error("the key is a front of a stored key, or a stored key is one of it")]
     Conflict {
         /// The key.
@@ -53,7 +53,7 @@ pub enum PairRefused<K, V> {
         /// The value.
         value: V,
     },
-    /// No memory was found for a leaf, or for an inner node above it.
+    /// The call was out of memory for a leaf, or for an inner node above it.
     #[error("no memory for a leaf, or for an inner node above it")]
     Memory {
         /// The key.

@@ -1,4 +1,4 @@
-//! A key that parts from the prefix of an inner node or from the key of a leaf: a new inner node takes that node's
+//! A key that parts from the prefix of an inner node or from the key of a leaf. A new inner node takes that node's
 //! place, over it and over the new leaf.
 ghost use Rattle.std.specs.Prelude.{◌≡◌, ◌≢◌, ◌+◌, ◌<◌, ◌≤◌, ◌^◌, ◌∷◌, ◌++◌, ℕ, List, None, Some, length, take, drop};
 ghost use Rattle.std.specs.Prelude.{IsSome, IsOk, IfOk, OnErr};

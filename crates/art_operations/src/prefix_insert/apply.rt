@@ -1,4 +1,4 @@
-//! The change of a tree that puts a new key in the place of those with which it is in conflict.
+//! The change of a tree that inserts a new key in place of those with which it is in conflict.
 ghost use Rattle.std.specs.Prelude.{ℕ, List, IfOk, OnErr, IsOk};
 ghost use Rattle.art_nodes.specs.Name.{Name};
 ghost use Rattle.art_arena.specs.arena.Arena.{node_at, HasRoom, KeepsNodes, KeepsRoom, SameNodes, UsesRoom};
@@ -6,8 +6,10 @@ ghost use Rattle.art_arena.specs.arena.Cells.{Cell, Holds};
 ghost use Rattle.art_arena.specs.arena.Shapes.{Shape, IsUnder, cells, leaves, pairs_of};
 ghost use Rattle.art_arena.specs.arena.Steps.{steps_of};
 ghost use Rattle.art_operations.specs.Frees.{HoldsBeside, KeepsAllBut};
+ghost use Rattle.art_operations.specs.LeafNames.{KeepsLeavesOf};
 ghost use Rattle.art_operations.specs.Overwrites.{AreRemoved, IsExact, IsOverwrittenBeside, IsPrefixPoint};
 ghost use Rattle.art_operations.specs.Overwrites.{root_at, steps_at};
+ghost use Rattle.art_operations.specs.Pairs.{with_pair_over};
 ghost use Rattle.art_operations.specs.Points.{IsInTheWay};
 ghost use Rattle.art_operations.specs.Whichever.{HasTreeWhere, OfTreeWhere};
 ghost use Rattle.art_operations.specs.Insertions.{HandsPairBack};
@@ -63,12 +65,11 @@ fn remove_part<K: AsBytes + Drop, V: Drop, const PREFIX_LEN: usize>(
 }
 
 impl OverwritePoint {
-    /// Puts a key and its value in the place of the part that is in its way, which was found by
-    /// `search_for_prefix_insert_point` in this tree, and frees that part. Whatever stands beside the tree stays as it
-    /// is.
+    /// Inserts a key and its value in place of the part that is in its way, and frees that part. The part was found by
+    /// `search_for_prefix_insert_point` in this tree. Whatever stands beside the tree is unchanged.
     ///
-    /// Only the new leaf needs memory. Where there is none for it, the key and the value are handed back, and the tree
-    /// is as it was.
+    /// Only the new leaf needs memory. Fails if there is none for it: the error returns the key and the value, and the
+    /// tree is unchanged.
     pub fn apply<K: AsBytes + Drop, V: Drop, const PREFIX_LEN: usize>(
         self,
         arena: &mut NodeArena<K, V, PREFIX_LEN>,
@@ -108,13 +109,13 @@ impl OverwritePoint {
 }
 
 impl PrefixInsertPoint {
-    /// Puts a key and its value in at its place, which was found by `search_for_prefix_insert_point` in this tree. The
-    /// leaf that has the key, or those that are in conflict with it, give way. Whatever stands beside the tree stays as
-    /// it is.
+    /// Inserts a key and its value at the key's place, which was found by `search_for_prefix_insert_point` in this
+    /// tree. The leaf that has the key, or those that are in conflict with it, give way. Whatever stands beside the
+    /// tree is unchanged.
     ///
-    /// A leaf with the key takes the new pair, which is never refused. Otherwise a leaf is made, and where none gives
-    /// way at most one inner node. Where there is no memory for them, the key and the value are handed back, and the
-    /// tree is as it was.
+    /// A leaf with the key takes the new pair, and this never fails. Otherwise a leaf is made, and if none gives way at
+    /// most one inner node. Fails if there is no memory for them: the error returns the key and the value, and the tree
+    /// is unchanged.
     pub fn apply<K: AsBytes + Drop, V: Drop, const PREFIX_LEN: usize>(
         self,
         arena: &mut NodeArena<K, V, PREFIX_LEN>,
@@ -128,6 +129,10 @@ impl PrefixInsertPoint {
             (λ s rest. IsOverwrittenBeside K.bytes PREFIX_LEN arena.new rest s (steps_at self) key value put)) }
         ensures others { IfOk result (λ put. OfTreeWhere K.bytes PREFIX_LEN arena.old (root_at self)
             (λ s. IsPrefixPoint K.bytes (K.bytes key) s self) (λ s rest. KeepsNodes rest arena.old arena.new)) }
+        ensures names { IfOk result (λ put. OfTreeWhere K.bytes PREFIX_LEN arena.old (root_at self)
+            (λ s. IsPrefixPoint K.bytes (K.bytes key) s self)
+            (λ s rest. KeepsLeavesOf K.bytes (with_pair_over K.bytes key value (pairs_of (leaves s))) arena.old
+            arena.new)) }
         ensures err { OnErr result (SameNodes arena.old arena.new) }
         ensures handed_back { HandsPairBack key value result }
         ensures exact { IsExact self → IsOk result }

@@ -1,4 +1,4 @@
-//! The place of a new key that takes the place of those with which it is in conflict.
+//! The place of a new key that is inserted in place of those with which it is in conflict.
 ghost use Rattle.art_arena.specs.arena.Shapes.{leaves};
 ghost use Rattle.art_operations.specs.Overwrites.{IsPrefixPoint, TellsConflict};
 ghost use Rattle.art_operations.specs.Whichever.{HasTree, OfTree};
@@ -8,8 +8,8 @@ use art_arena::{NodeArena, TreePath};
 use art_bytes::AsBytes;
 use art_nodes::OpaqueNodePtr;
 
-/// The part of a tree that gives way to a new leaf: those keys are below it that are in conflict with the new one, and
-/// no others.
+/// The part of a tree that gives way to a new leaf. Below it are the keys that are in conflict with the new one, and no
+/// others.
 #[derive(Clone, Copy, Debug)]
 pub struct OverwritePoint {
     /// The root of the tree.
@@ -29,9 +29,9 @@ pub enum PrefixInsertPoint {
     OverwritePoint(OverwritePoint),
 }
 
-/// Finds where a new key goes in the tree below a name: an `InsertPoint`, of kind `Exact` where the key is stored, or
-/// an `OverwritePoint` where it is in conflict with a stored key. An empty key so overwrites the whole tree, unless it
-/// is stored. This is never refused, and takes no memory.
+/// Finds where a new key goes in the tree below a name. It returns an `InsertPoint`, of kind `Exact` if the key is
+/// stored. If the key is in conflict with a stored one, it returns an `OverwritePoint`. So an empty key overwrites the
+/// whole tree, unless it is stored. It never fails, and allocates nothing.
 pub fn search_for_prefix_insert_point<K: AsBytes, V, const PREFIX_LEN: usize>(
     arena: &NodeArena<K, V, PREFIX_LEN>,
     root: OpaqueNodePtr,

@@ -1,7 +1,8 @@
 -- Two lists of keys that are walked side by side.
-use Rattle.std.specs.Prelude.{◌≡◌, ℕ, ◌+◌, ◌≤◌, Bool, false, not, if◌then◌else◌, List, ◌∷◌, filter, length}
+use Rattle.std.specs.Prelude.{◌≡◌, ℕ, ◌+◌, ◌-◌, ◌^◌, ◌≤◌, min, Bool, false, not}
+use Rattle.std.specs.Prelude.{if◌then◌else◌, List, ◌∷◌, filter, length}
 use Rattle.art_set.specs.Members.{is_member}
-use Rattle.art_set.specs.Merges.{Merge, put_among}
+use Rattle.art_set.specs.Merges.{Merge, comparisons_of, put_among}
 use Rattle.art_set.specs.declared.merges.sides.Met.{Met}
 use Rattle.art_set.specs.declared.merges.sides.Met.TheVariants.{First, Both, Second}
 use Rattle.art_set.specs.declared.merges.sides.Wanted.{Wanted}
@@ -16,13 +17,25 @@ pub record Beside (K : Type 0) : Type 0 where
 abbrev pub keys_left : {K : Type 0} → Beside K → ℕ
 keys_left s = length s.first + length s.second
 
--- what is left of a merge that gives these keys of both
-abbrev pub merge_of : {K : Type 0} → (List K → List K → List K) → Beside K → Merge K
-merge_of of s = record { rest = of s.first s.second; comparisons = s.comparisons; unmet = keys_left s }
+-- how many comparisons are still to be made
+abbrev pub steps_left : {K : Type 0} → (K → List ℕ) → Beside K → ℕ
+steps_left bytes s = comparisons_of bytes s.first s.second
 
--- between these, comparisons were made for keys that were met, one for a key at most
-pub record IsCompared {K : Type 0} (s t : Beside K) : Type 0 where
-  pub counted : s.comparisons ≤ t.comparisons
+-- what is left of a merge that gives these keys of both
+abbrev pub merge_of : {K : Type 0} → (K → List ℕ) → (List K → List K → List K) → Beside K → Merge K
+merge_of bytes of s = record {
+  rest = of s.first s.second;
+  comparisons = s.comparisons;
+  to_compare = steps_left bytes s;
+  unmet = keys_left s;
+}
+
+-- between these, the comparisons were made and counted that are no longer to be made, until the greatest count; for a
+-- key that was met one at most
+pub record IsCompared {K : Type 0} (bytes : K → List ℕ) (s t : Beside K) : Type 0 where
+  pub fewer : steps_left bytes t ≤ steps_left bytes s
+  pub counted : min (s.comparisons + (steps_left bytes s - steps_left bytes t)) (2 ^ 64 - 1) ≤ t.comparisons
+  pub most : t.comparisons ≤ s.comparisons + (steps_left bytes s - steps_left bytes t)
   pub bound : t.comparisons + keys_left t ≤ s.comparisons + keys_left s
 
 module _ {K : Type 0} where

@@ -29,11 +29,11 @@ fn key_of<K>(pair: Result<(K, ()), AllocError>) -> Result<K, AllocError>
     }
 }
 
-/// The keys of a range of a set for which a closure says true, which leave the set one by one. The closure is asked of
-/// each key once, in turn: those for which it says false stay.
+/// An iterator over the keys of a range of a set for which a closure returns true: these leave the set one by one. The
+/// closure is called on each key once, in turn. Keys for which it returns false stay.
 ///
-/// Where the removal of a key is refused, that is told once, and then nothing more comes. The key stays; keys that were
-/// taken out before are gone, and those that were not asked yet stay. So do these where an `ExtractIf` is dropped.
+/// If the removal of a key fails, the iterator returns that once, and then nothing more. The key stays. Keys that left
+/// before are gone, and those that come after stay. If an `ExtractIf` is dropped, the keys still to come stay too.
 #[derive(Drop)]
 pub struct ExtractIf<'a, K: AsBytes, F, const PREFIX_LEN: usize> {
     extraction: Extraction<'a, K, (), PREFIX_LEN>,
@@ -83,11 +83,21 @@ impl<K: AsBytes, const PREFIX_LEN: usize> TreeSet<K, PREFIX_LEN> {
     ghost use Rattle.art_set.specs.Asked.{asking_keys, extract_set, CallableOnEachKey, CanExtractKeys, StopsAtKey};
     ghost use Rattle.art_set.specs.Lends.{lends_keys};
 
-    /// The keys between two bounds, by their bytes, and for which the closure says true: they leave the set one by one
-    /// as they are asked for. The bounds' keys need not be stored.
+    /// Returns an iterator over the keys between two bounds, by their bytes, for which the closure returns true. They
+    /// leave the set as they are asked for. It allocates nothing. The bounds' keys need not be stored.
     ///
-    /// Where the set has a key, the bounds have to be valid, as `bounds_are_valid` tells. The closure has to be
-    /// callable on each key of the range, in whatever state its earlier calls leave it. It takes no memory.
+    /// If the set has a key, the bounds have to be valid, as `bounds_are_valid` tells. The closure has to be callable
+    /// on each key of the range, in whatever state its earlier calls leave it.
+    ///
+    /// ```
+    /// use std::ops::Bound;
+    /// let mut set = TreeSet::new(rt.alloc());
+    /// set.extend([*b"ab", *b"cd", *b"cf"])?;
+    /// let mut taken = set.extract_if(Bound::Included(b"ab"), Bound::Included(b"cd"), |key| key[0] == b'c');
+    /// assert_eq!(rt; taken.next(), Some(Ok(*b"cd")));
+    /// assert_eq!(rt; taken.next(), None);
+    /// assert!(rt; set.iter().eq([b"ab", b"cf"]));
+    /// ```
     pub fn extract_if<Q: AsBytes, F: FnMut(&K) -> bool>(
         &mut self,
         start: Bound<&Q>,
@@ -121,11 +131,18 @@ impl<K: AsBytes, const PREFIX_LEN: usize> TreeSet<K, PREFIX_LEN> {
         &mut self.map
     }
 
-    /// Keeps the keys for which the closure says true. It is asked of each in ascending order, and has to be callable
-    /// there whatever it answered before. The others are dropped.
+    /// Keeps the keys for which the closure returns true, and drops the others. The closure is called on each key in
+    /// ascending order. It has to be callable there, whatever it returned before.
     ///
-    /// It is refused where the removal of a key is, as that of `take`. That key then stays, and so do those behind it,
-    /// which were not asked; what was dropped before is gone.
+    /// Fails if the removal of a key does, as that of `take`. That key then stays. So do the keys behind it, on which
+    /// the closure was not called. What was dropped before is gone.
+    ///
+    /// ```
+    /// let mut set = TreeSet::new(rt.alloc());
+    /// set.extend([*b"ab", *b"cd"])?;
+    /// set.retain(|key| key[0] == b'c')?;
+    /// assert!(rt; set.iter().eq([b"cd"]));
+    /// ```
     pub fn retain<F: FnMut(&K) -> bool>(&mut self, mut keep: F) -> Result<(), AllocError>
     where
         K: Drop,

@@ -1,4 +1,4 @@
-//! A walk over the keys of a set that shows the next one.
+//! An iterator over the keys of a set that shows the next one.
 ghost use Rattle.std.specs.Prelude.{◌≡◌, ◌==◌, drop, length};
 ghost use Rattle.std.specs.Map.Iter.{TakesFirst, deref};
 
@@ -6,7 +6,7 @@ use crate::iterators::Iter;
 use art_arena::NodeArena;
 use std::marker::Model;
 
-/// The keys of a set that are still to come, in order. It is seen as the list of them.
+/// The keys of a set that are still to come, in order. A contract sees it as the list of them.
 #[derive(Drop)]
 pub(crate) struct Peeked<'a, K, const PREFIX_LEN: usize, M: 'a = NodeArena<K, (), PREFIX_LEN>> {
     head: Option<&'a K>,

@@ -1,5 +1,5 @@
 //! Two sets side by side: which key comes next, and which of them have it.
-ghost use Rattle.std.specs.Prelude.{◌≡◌, ◌+◌, ◌<◌, ◌≤◌, [], length, Some, None, if◌then◌else◌};
+ghost use Rattle.std.specs.Prelude.{◌≡◌, ◌+◌, ◌-◌, ◌^◌, ◌<◌, min, [], length, Some, None, IfNone, if◌then◌else◌};
 ghost use Rattle.std.specs.Option.{option_copied};
 ghost use Rattle.std.specs.Bool.{OnFalse, OnTrue};
 ghost use Rattle.std.specs.Map.Iter.{TakesFirst, deref};
@@ -46,7 +46,7 @@ impl Wanted {
 
 // A count that stays at the greatest number.
 fn one_more(count: usize) -> usize
-    ensures { (count ≤ result) × (result ≤ count + 1) }
+    ensures { result ≡ min (count + 1) (2 ^ 64 - 1) }
 {
     count.saturating_add(1)
 }
@@ -76,7 +76,7 @@ impl<'a, K: OrderedBytes, const PREFIX_LEN: usize, M: 'a> Model for Sides<'a, K,
 }
 
 impl<'a, K: OrderedBytes, const PREFIX_LEN: usize> Sides<'a, K, PREFIX_LEN> {
-    ghost use Rattle.art_set.specs.inner.Merging.{keys_left, merging, IsCompared, IsMet};
+    ghost use Rattle.art_set.specs.inner.Merging.{keys_left, merging, steps_left, IsCompared, IsMet};
 
     pub(crate) fn new(first: Peeked<'a, K, PREFIX_LEN>, second: Peeked<'a, K, PREFIX_LEN>) -> Self
         requires first { AscendsInBytes K.bytes first }
@@ -92,7 +92,7 @@ impl<'a, K: OrderedBytes, const PREFIX_LEN: usize> Sides<'a, K, PREFIX_LEN> {
         }
     }
 
-    /// How many comparisons were made. The count stays at the greatest `usize`.
+    /// Returns how many comparisons were made. The count stays at the greatest `usize`.
     pub(super) fn comparisons(&self) -> usize
         ensures { result ≡ self.now.comparisons }
     {
@@ -103,6 +103,7 @@ impl<'a, K: OrderedBytes, const PREFIX_LEN: usize> Sides<'a, K, PREFIX_LEN> {
     fn goes_on(&self, wanted: Wanted) -> bool
         ensures on { OnTrue result (0 < keys_left self.now) }
         ensures off { OnFalse result (merging K.bytes wanted self.now ≡ []) }
+        ensures ended { OnFalse result (steps_left K.bytes self.now ≡ 0) }
     {
         match (self.first.is_empty(), self.second.is_empty()) {
             (false, false) => true,
@@ -116,7 +117,7 @@ impl<'a, K: OrderedBytes, const PREFIX_LEN: usize> Sides<'a, K, PREFIX_LEN> {
     fn advance(&mut self) -> Met<'a, K>
         requires { 0 < keys_left self.old }
         ensures met { (w : _) → IsMet K.bytes w self.old result self.new }
-        ensures compared { IsCompared self.old self.new }
+        ensures compared { IsCompared K.bytes self.old self.new }
         ensures fewer { keys_left self.new < keys_left self.old }
     {
         let x = match self.first.peek() {
@@ -157,7 +158,8 @@ impl<'a, K: OrderedBytes, const PREFIX_LEN: usize> Sides<'a, K, PREFIX_LEN> {
     // The next key that is wanted, if one comes.
     pub(crate) fn next_wanted(&mut self, wanted: Wanted) -> Option<&'a K>
         ensures takes { TakesFirst deref (merging K.bytes wanted self.old) result (merging K.bytes wanted self.new) }
-        ensures compared { IsCompared self.old self.new }
+        ensures compared { IsCompared K.bytes self.old self.new }
+        ensures ended { IfNone result (steps_left K.bytes self.new ≡ 0) }
     {
         while self.goes_on(wanted) {
             let met = self.advance();

@@ -1,4 +1,4 @@
-//! Many keys are put in, one after another; and sets are made of them.
+//! Sets that are made of many keys, and many keys that are inserted one after another.
 ghost use Rattle.std.specs.Prelude.{◌≡◌, [], IfErr, IfOk};
 ghost use Rattle.std.specs.Iterator.{IsFinite};
 ghost use Rattle.std.specs.Map.Iter.{deref};
@@ -12,11 +12,17 @@ use art_map::nodes_fit;
 use std::alloc::Global;
 
 impl<K: NoPrefixesBytes + Drop, const PREFIX_LEN: usize> TreeSet<K, PREFIX_LEN> {
-    /// Puts the keys in that an iterator gives, one after another, each in the place of the one with the same bytes if
-    /// there is one. The iterator has to end.
+    /// Inserts the keys that an iterator gives, one after another. Each replaces a key with the same bytes. The
+    /// iterator has to end.
     ///
-    /// Where there is no memory for a key, it is handed back. The keys that came before it stay, and the iterator is
-    /// dropped.
+    /// Fails if there is no memory for a key, which the error returns. The keys before it stay in the set, and the
+    /// iterator is dropped.
+    ///
+    /// ```
+    /// let mut set = TreeSet::new(rt.alloc());
+    /// set.extend([*b"cd", *b"ab", *b"cd"])?;
+    /// assert!(rt; set.iter().eq([b"ab", b"cd"]));
+    /// ```
     pub fn extend<U: IntoIterator<Item = K>>(&mut self, iter: U) -> Result<(), RefusedKey<K>>
         requires { (it : U.IntoIter) → U.into_iter_gives iter it
             → U.IntoIter.can_next it × IsFinite (U.IntoIter.remaining it) }
@@ -29,7 +35,15 @@ impl<K: NoPrefixesBytes + Drop, const PREFIX_LEN: usize> TreeSet<K, PREFIX_LEN> 
         Ok(())
     }
 
-    /// The same with an iterator that lends keys, which are copied.
+    /// Inserts copies of the keys that an iterator lends, as `extend` does.
+    ///
+    /// ```
+    /// let mut first = TreeSet::new(rt.alloc());
+    /// first.insert(*b"ab")?;
+    /// let mut second = TreeSet::new(rt.alloc());
+    /// second.extend_from_refs(first.iter())?;
+    /// assert!(rt; second.contains(b"ab"));
+    /// ```
     pub fn extend_from_refs<'a, U: IntoIterator<Item = &'a K>>(
         &mut self,
         iter: U,
@@ -46,9 +60,15 @@ impl<K: NoPrefixesBytes + Drop, const PREFIX_LEN: usize> TreeSet<K, PREFIX_LEN> 
         Ok(())
     }
 
-    /// A set of the keys that an iterator gives: of keys with the same bytes the last. The iterator has to end.
+    /// Makes a set of the keys that an iterator gives. Of keys with the same bytes the last counts. The iterator has to
+    /// end.
     ///
-    /// Where there is no memory for a key, it is handed back, and the rest is dropped.
+    /// Fails if there is no memory for a key, which the error returns. All else is dropped.
+    ///
+    /// ```
+    /// let set: TreeSet<_, 16> = TreeSet::from_iter(rt.alloc(), [*b"cd", *b"ab"])?;
+    /// assert!(rt; set.iter().eq([b"ab", b"cd"]));
+    /// ```
     pub fn from_iter<U: IntoIterator<Item = K>>(
         alloc: Global,
         iter: U,
@@ -69,9 +89,15 @@ impl<K: NoPrefixesBytes + Drop, const PREFIX_LEN: usize> TreeSet<K, PREFIX_LEN> 
         Ok(set)
     }
 
-    /// A set of the keys of a vector: of keys with the same bytes the last.
+    /// Makes a set of the keys of a vector. Of keys with the same bytes the last counts.
     ///
-    /// Where there is no memory for a key, it is handed back, and the rest is dropped.
+    /// Fails if there is no memory for a key, which the error returns. All else is dropped.
+    ///
+    /// ```
+    /// let keys = vec![in rt.alloc(); *b"cd", *b"ab"]?;
+    /// let set: TreeSet<_, 16> = TreeSet::from_vec(rt.alloc(), keys)?;
+    /// assert!(rt; set.iter().eq([b"ab", b"cd"]));
+    /// ```
     pub fn from_vec(alloc: Global, keys: Vec<K>) -> Result<Self, RefusedKey<K>>
         ensures ok { IfOk result (λ made. made ≡ with_keys_put K.bytes keys.items []) }
         ensures err { IfErr result (IsKeyOfList keys.items) }

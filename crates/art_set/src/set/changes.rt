@@ -1,4 +1,4 @@
-//! Keys are put in.
+//! Insertions: of a key that overlaps no other, or in place of a key with the same bytes.
 ghost use Rattle.std.specs.Prelude.{◌≡◌, List, find, not, IfErr, IfOk, IsOk, OnErr, OnOk};
 ghost use Rattle.art_operations.specs.KeyedLists.{HasKey, IsBlocked};
 ghost use Rattle.std.specs.Map.{keys_of};
@@ -13,7 +13,7 @@ use crate::set::removals::key_of;
 use art_bytes::{AsBytes, NoPrefixesBytes};
 use art_map::{TryInsertError, TryKeyError};
 
-// Why a pair of a key is not put in, told of the key.
+// Why a key was not inserted, from why its pair was not.
 fn without_value<K: AsBytes>(refused: TryInsertError<K, ()>) -> TryKeyError<K>
     ensures { (pairs : List (K × Unit {0})) (key : K) → IsPairRefused K.bytes pairs key tt refused
         → IsKeyTurnedAway K.bytes (keys_of pairs) key result }
@@ -25,11 +25,18 @@ fn without_value<K: AsBytes>(refused: TryInsertError<K, ()>) -> TryKeyError<K>
 }
 
 impl<K: AsBytes, const PREFIX_LEN: usize> TreeSet<K, PREFIX_LEN> {
-    /// Puts a key in, in the place of the one with the same bytes if there is one, and answers whether there was none.
+    /// Inserts a key. It replaces a key with the same bytes, and returns whether there was none.
     ///
-    /// It is refused with `Prefix` where the key is a front of a key of the set, or one of these is a front of it, and
-    /// with `Memory` where there is no memory for the key, or for the bytes that `Prefix` tells. The key is handed
-    /// back, and the set is as it was. A key whose bytes are stored is never refused.
+    /// Fails with `Prefix` if the key is a prefix of a key of the set, or one of these is a prefix of it. Fails with
+    /// `Memory` if out of memory, for the key or for the bytes that `Prefix` tells. The error returns the key, and the
+    /// set is unchanged. A key whose bytes are stored never fails.
+    ///
+    /// ```
+    /// let mut set = TreeSet::new(rt.alloc());
+    /// assert!(rt; set.try_insert(StrKey("ab"))?);
+    /// assert!(rt; !set.try_insert(StrKey("ab"))?);
+    /// assert!(rt; set.try_insert(StrKey("abc")).is_err());
+    /// ```
     pub fn try_insert(&mut self, key: K) -> Result<bool, TryKeyError<K>>
     where
         K: Drop,
@@ -49,10 +56,16 @@ impl<K: AsBytes, const PREFIX_LEN: usize> TreeSet<K, PREFIX_LEN> {
 }
 
 impl<K: NoPrefixesBytes, const PREFIX_LEN: usize> TreeSet<K, PREFIX_LEN> {
-    /// Puts a key in, in the place of the one with the same bytes if there is one, and answers whether there was none.
+    /// Inserts a key. It replaces a key with the same bytes, and returns whether there was none.
     ///
-    /// It is refused only where there is no memory. The key is handed back, and the set is as it was. A key whose bytes
-    /// are stored is never refused.
+    /// Fails only if out of memory, and never if the key's bytes are stored. The error returns the key, and the set is
+    /// unchanged.
+    ///
+    /// ```
+    /// let mut set = TreeSet::new(rt.alloc());
+    /// assert!(rt; set.insert(*b"ab")?);
+    /// assert!(rt; !set.insert(*b"ab")?);
+    /// ```
     pub fn insert(&mut self, key: K) -> Result<bool, RefusedKey<K>>
     where
         K: Drop,
@@ -69,10 +82,16 @@ impl<K: NoPrefixesBytes, const PREFIX_LEN: usize> TreeSet<K, PREFIX_LEN> {
         Ok(old.is_none())
     }
 
-    /// Puts a key in, in the place of the one with the same bytes if there is one, and answers that one.
+    /// Inserts a key. It replaces a key with the same bytes, and returns that one.
     ///
-    /// It is refused only where there is no memory. The key is handed back, and the set is as it was. A key whose bytes
-    /// are stored is never refused.
+    /// Fails only if out of memory, and never if the key's bytes are stored. The error returns the key, and the set is
+    /// unchanged.
+    ///
+    /// ```
+    /// let mut set = TreeSet::new(rt.alloc());
+    /// assert_eq!(rt; set.replace(*b"ab")?, None);
+    /// assert_eq!(rt; set.replace(*b"ab")?, Some(*b"ab"));
+    /// ```
     pub fn replace(&mut self, key: K) -> Result<Option<K>, RefusedKey<K>>
         ensures old { IfOk result (λ old. old ≡ find (has_bytes K.bytes (K.bytes key)) self.old) }
         ensures keys { OnOk result (self.new ≡ with_key_put K.bytes key self.old) }

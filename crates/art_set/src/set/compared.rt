@@ -10,7 +10,13 @@ use std::cmp::Ordering;
 use std::fmt;
 use std::hash::{Hash, Hasher};
 
-/// Sets are equal where their keys are, in order.
+/// Sets are equal if their keys are, in order.
+///
+/// ```
+/// let mut set = TreeSet::new(rt.alloc());
+/// set.insert(*b"ab")?;
+/// assert!(rt; set == set.clone()?);
+/// ```
 impl<K: AsBytes + PartialEq, const PREFIX_LEN: usize> PartialEq for TreeSet<K, PREFIX_LEN> {
     ghost eq = { λ s t. pointwise K.eq s t };
 
@@ -25,8 +31,8 @@ impl<K: AsBytes + Eq, const PREFIX_LEN: usize> Eq for TreeSet<K, PREFIX_LEN> {
     ghost laws = { lists_equiv K.Eq.laws };
 }
 
-/// The order of sets is that of their keys: the first that differ decide, and a set whose keys are the first of
-/// another's comes before it.
+/// The order of sets is that of their keys: the first that differ decide. A set whose keys are the first of another's
+/// comes before it.
 impl<K: AsBytes + PartialOrd, const PREFIX_LEN: usize> PartialOrd for TreeSet<K, PREFIX_LEN> {
     ghost partial_cmp = { λ s t. slice_partial_cmp K.partial_cmp s t };
 
@@ -62,7 +68,14 @@ impl<K: AsBytes + Hash, const PREFIX_LEN: usize> Hash for TreeSet<K, PREFIX_LEN>
     }
 }
 
-/// The keys in order.
+/// The text of a set: its keys in order.
+///
+/// ```
+/// let mut set = TreeSet::new(rt.alloc());
+/// set.extend([[2], [1]])?;
+/// let text = format!(in rt.alloc(); "{set:?}")?;
+/// assert_eq!(rt; text.as_str(), "{[1], [2]}");
+/// ```
 impl<K: AsBytes + fmt::Debug, const PREFIX_LEN: usize> fmt::Debug for TreeSet<K, PREFIX_LEN> {
     fn fmt<W: fmt::Write>(&self, f: &mut fmt::Formatter<W>) -> fmt::Result {
         let mut out = f.debug_set();

@@ -1,4 +1,4 @@
-//! All keys of a set go into another, or those from a key on; and a set of the same keys.
+//! `append`, `split_off` and `clone`: all keys of a set move into another, or those from a key on; and a set of clones.
 ghost use Rattle.std.specs.Prelude.{◌≡◌, ◌⊎◌, [], IfOk, IsOk, OnErr, OnOk};
 ghost use Rattle.std.specs.List.{AllZip};
 ghost use Rattle.std.specs.declared.ops.Bound.TheVariants.{Included, Excluded, Unbounded};
@@ -9,10 +9,18 @@ use art_bytes::{AsBytes, CloneBytes, NoPrefixesBytes};
 use std::alloc::AllocError;
 
 impl<K: AsBytes, const PREFIX_LEN: usize> TreeSet<K, PREFIX_LEN> {
-    /// Takes the keys out whose bytes are not less than the query's, and answers a set of them.
+    /// Moves the keys whose bytes are not less than the query's into a set of their own, and returns that set.
     ///
-    /// It is refused where there is no memory for the nodes that are made meanwhile: all room for them is taken first.
-    /// The set is then as it was.
+    /// Fails if there is no memory for the nodes that the moves need. All of it is allocated first, and the set is
+    /// unchanged then.
+    ///
+    /// ```
+    /// let mut set = TreeSet::new(rt.alloc());
+    /// set.extend([*b"ab", *b"cd", *b"ef"])?;
+    /// let off = set.split_off(b"cd")?;
+    /// assert!(rt; set.iter().eq([b"ab"]));
+    /// assert!(rt; off.iter().eq([b"cd", b"ef"]));
+    /// ```
     pub fn split_off<Q: AsBytes>(&mut self, key: &Q) -> Result<Self, AllocError>
     where
         K: Drop,
@@ -27,12 +35,19 @@ impl<K: AsBytes, const PREFIX_LEN: usize> TreeSet<K, PREFIX_LEN> {
         Ok(TreeSet { alloc, map })
     }
 
-    /// A set of clones of the keys, in the same order, with nodes of its own. Where a clone of a key equals its
-    /// original, it has the same keys. A clone of a key has to be a key of its type, as it is where it equals its
+    /// Makes a set of clones of the keys, in the same order, with nodes of its own. If a clone of a key equals its
+    /// original, it has the same keys. A clone of a key has to be a key of its type, as it is if it equals its
     /// original.
     ///
-    /// It is refused where a key can't be cloned, or where there is no memory for the nodes; what was made is let go of
-    /// then. The set is only read.
+    /// Fails if a key can't be cloned, or if out of memory. What was made is dropped then. The set is only read.
+    ///
+    /// ```
+    /// let mut set = TreeSet::new(rt.alloc());
+    /// set.insert(*b"ab")?;
+    /// let mut copy = set.clone()?;
+    /// copy.insert(*b"cd")?;
+    /// assert_eq!(rt; set.len(), 1);
+    /// ```
     pub fn clone(&self) -> Result<Self, AllocError>
     where
         K: CloneBytes,
@@ -49,11 +64,20 @@ impl<K: AsBytes, const PREFIX_LEN: usize> TreeSet<K, PREFIX_LEN> {
 }
 
 impl<K: NoPrefixesBytes + Drop, const PREFIX_LEN: usize> TreeSet<K, PREFIX_LEN> {
-    /// Puts all keys of another set in, each in the place of the one with the same bytes if there is one. The other set
-    /// is empty then.
+    /// Moves all keys of another set into this one. Each replaces a key with the same bytes. The other set is empty
+    /// then.
     ///
-    /// It is refused where there is no memory for the nodes that are made meanwhile: all room for them is taken first.
-    /// Both sets are then as they were. Where one of them is empty, it takes no memory and is never refused.
+    /// Fails if there is no memory for the nodes that the moves need. All of it is allocated first, and both sets are
+    /// unchanged then. If one of them is empty, it allocates nothing and can't fail.
+    ///
+    /// ```
+    /// let mut set = TreeSet::new(rt.alloc());
+    /// set.extend([*b"ab", *b"cd"])?;
+    /// let mut other = TreeSet::new(rt.alloc());
+    /// other.extend([*b"cd", *b"ef"])?;
+    /// set.append(&mut other)?;
+    /// assert!(rt; set.iter().eq([b"ab", b"cd", b"ef"]));
+    /// ```
     pub fn append(&mut self, other: &mut Self) -> Result<(), AllocError>
         ensures keys { OnOk result (self.new ≡ with_keys_put K.bytes other.old self.old) }
         ensures emptied { OnOk result (other.new ≡ []) }

@@ -1,8 +1,8 @@
-//! Why a key is not put in.
+//! Why a key was not inserted.
 
 use thiserror::Error;
 
-/// No memory was found for a key. It is handed back, and the set is as it was.
+/// The call was out of memory for a key. The error returns the key, and the set is unchanged.
 #[derive(Debug, Drop, Error)]
 #[error("no memory for a key")]
 pub struct RefusedKey<K> {

@@ -1,4 +1,4 @@
-//! Keys are taken out.
+//! Removals: of a key, of the first key, and of the last.
 ghost use Rattle.std.specs.Prelude.{◌≡◌, ◌∷◌, ◌++◌, [], find, IfNone, IfOk, MatchOption, OnErr, OnOk};
 ghost use Rattle.art_arena.specs.declared.ends.End.TheVariants.{First, Last};
 ghost use Rattle.art_arena.specs.tree.Shrinks.{Shrinks};
@@ -21,10 +21,17 @@ pub(super) fn key_of<K>(pair: Option<(K, ())>) -> Option<K>
 }
 
 impl<K: AsBytes, const PREFIX_LEN: usize> TreeSet<K, PREFIX_LEN> {
-    /// Takes the key with the query's bytes out, and answers it, if there is one.
+    /// Removes the key with the query's bytes, and returns it, if there is one.
     ///
-    /// It is refused only where the loss of the key makes a node one of the next smaller kind, and there is no memory
-    /// for that one. The set is then as it was.
+    /// Fails only if the removal turns a node into one of the next smaller kind, and there is no memory for that one.
+    /// The set is unchanged then.
+    ///
+    /// ```
+    /// let mut set = TreeSet::new(rt.alloc());
+    /// set.insert(*b"ab")?;
+    /// assert_eq!(rt; set.take(b"ab")?, Some(*b"ab"));
+    /// assert_eq!(rt; set.take(b"ab")?, None);
+    /// ```
     pub fn take<Q: AsBytes>(&mut self, key: &Q) -> Result<Option<K>, AllocError>
         ensures key { IfOk result (λ old. old ≡ find (has_bytes K.bytes (Q.bytes key.now)) self.old) }
         ensures keys { OnOk result (self.new ≡ without_key K.bytes (Q.bytes key.now) self.old) }
@@ -36,7 +43,14 @@ impl<K: AsBytes, const PREFIX_LEN: usize> TreeSet<K, PREFIX_LEN> {
         Ok(key_of(pair))
     }
 
-    /// Takes the key with the query's bytes out, and answers whether there was one. It is refused as `take` is.
+    /// Removes the key with the query's bytes, and returns whether there was one. It fails as `take` does.
+    ///
+    /// ```
+    /// let mut set = TreeSet::new(rt.alloc());
+    /// set.insert(*b"ab")?;
+    /// assert!(rt; set.remove(b"ab")?);
+    /// assert!(rt; !set.remove(b"ab")?);
+    /// ```
     pub fn remove<Q: AsBytes>(&mut self, key: &Q) -> Result<bool, AllocError>
     where
         K: Drop,
@@ -50,7 +64,13 @@ impl<K: AsBytes, const PREFIX_LEN: usize> TreeSet<K, PREFIX_LEN> {
         Ok(found.is_some())
     }
 
-    /// Takes the first key out, which is the least, and answers it, if there is one. It is refused as `take` is.
+    /// Removes the first key, which is the least, and returns it, if there is one. It fails as `take` does.
+    ///
+    /// ```
+    /// let mut set = TreeSet::new(rt.alloc());
+    /// set.extend([*b"cd", *b"ab"])?;
+    /// assert_eq!(rt; set.pop_first()?, Some(*b"ab"));
+    /// ```
     pub fn pop_first(&mut self) -> Result<Option<K>, AllocError>
         ensures key { IfOk result (λ taken. MatchOption taken (self.old ≡ []) (λ k. self.old ≡ k ∷ self.new)) }
         ensures none { IfOk result (λ taken. IfNone taken (self.new ≡ [])) }
@@ -61,7 +81,13 @@ impl<K: AsBytes, const PREFIX_LEN: usize> TreeSet<K, PREFIX_LEN> {
         Ok(key_of(pair))
     }
 
-    /// Takes the last key out, which is the greatest, and answers it, if there is one. It is refused as `take` is.
+    /// Removes the last key, which is the greatest, and returns it, if there is one. It fails as `take` does.
+    ///
+    /// ```
+    /// let mut set = TreeSet::new(rt.alloc());
+    /// set.extend([*b"cd", *b"ab"])?;
+    /// assert_eq!(rt; set.pop_last()?, Some(*b"cd"));
+    /// ```
     pub fn pop_last(&mut self) -> Result<Option<K>, AllocError>
         ensures key { IfOk result (λ taken. MatchOption taken (self.old ≡ []) (λ k. self.old ≡ self.new ++ k ∷ [])) }
         ensures none { IfOk result (λ taken. IfNone taken (self.new ≡ [])) }

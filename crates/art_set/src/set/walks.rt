@@ -1,4 +1,4 @@
-//! Walks over the keys.
+//! Iterators over the keys.
 ghost use Rattle.std.specs.Prelude.{◌≡◌, ◌⊎◌, []};
 ghost use Rattle.std.specs.Range.Bound.{bound_map};
 ghost use Rattle.art_arena.specs.tree.Order.{AscendsByKey};
@@ -11,7 +11,16 @@ use art_bytes::AsBytes;
 use std::ops::Bound;
 
 impl<K: AsBytes, const PREFIX_LEN: usize> TreeSet<K, PREFIX_LEN> {
-    /// The keys, ascending by their bytes, from either end. It takes no memory.
+    /// Returns an iterator over the keys. It ascends by their bytes, and gives keys from either end. It allocates
+    /// nothing.
+    ///
+    /// ```
+    /// let mut set = TreeSet::new(rt.alloc());
+    /// set.extend([*b"cd", *b"ab"])?;
+    /// let mut keys = set.iter();
+    /// assert_eq!(rt; keys.next_back(), Some(b"cd"));
+    /// assert_eq!(rt; keys.len(), 1);
+    /// ```
     pub fn iter(&self) -> Iter<'_, K, PREFIX_LEN>
         ensures rest { result ≡ self.now }
         ensures ordered { AscendsByKey K.bytes self.now }
@@ -19,9 +28,17 @@ impl<K: AsBytes, const PREFIX_LEN: usize> TreeSet<K, PREFIX_LEN> {
         Iter::new(self.map.iter())
     }
 
-    /// The keys between two bounds, by their bytes, ascending, from either end. The bounds' keys need not be stored.
+    /// Returns an iterator over the keys between two bounds, by their bytes. It ascends, and gives keys from either
+    /// end. It allocates nothing. The bounds' keys need not be stored.
     ///
-    /// Where the set has a key, the bounds have to be valid, as `bounds_are_valid` tells. It takes no memory.
+    /// If the set has a key, the bounds have to be valid, as `bounds_are_valid` tells.
+    ///
+    /// ```
+    /// use std::ops::Bound;
+    /// let mut set = TreeSet::new(rt.alloc());
+    /// set.extend([*b"ab", *b"cd", *b"ef"])?;
+    /// assert!(rt; set.range(Bound::Excluded(b"ab"), Bound::Included(b"ef")).eq([b"cd", b"ef"]));
+    /// ```
     pub fn range<Q: AsBytes>(&self, start: Bound<&Q>, end: Bound<&Q>) -> Range<'_, K, PREFIX_LEN>
         requires { (self.now ≡ []) ⊎ AreValidKeyBounds (bound_map (λ key. Q.bytes key.now) start)
             (bound_map (λ key. Q.bytes key.now) end) }
@@ -45,8 +62,14 @@ impl<'a, K: AsBytes, const PREFIX_LEN: usize> IntoIterator for &'a TreeSet<K, PR
     }
 }
 
-/// The keys, ascending by their bytes, from either end. Where the walk is dropped, so are the keys still to come. It
-/// takes no memory.
+/// An iterator over the keys, which it owns. It ascends by their bytes, and gives keys from either end. It allocates
+/// nothing. If it is dropped, so are the keys still to come.
+///
+/// ```
+/// let mut set = TreeSet::new(rt.alloc());
+/// set.extend([*b"cd", *b"ab"])?;
+/// assert!(rt; set.into_iter().eq([*b"ab", *b"cd"]));
+/// ```
 impl<K: AsBytes + Drop, const PREFIX_LEN: usize> IntoIterator for TreeSet<K, PREFIX_LEN> {
     type Item = K;
 

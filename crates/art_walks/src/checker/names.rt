@@ -57,7 +57,8 @@ fn note(seen: &mut HashSet<OpaqueNodePtr>, name: OpaqueNodePtr) -> Result<bool, 
     }
 }
 
-// Lets the children of an inner node wait, if they are as many as one of its kind has.
+// Lets the children of an inner node wait, if they are as many as one of its kind has. More than that it has no room
+// for.
 fn open<K, V, const PREFIX_LEN: usize>(
     arena: &NodeArena<K, V, PREFIX_LEN>,
     name: OpaqueNodePtr,
@@ -74,9 +75,6 @@ fn open<K, V, const PREFIX_LEN: usize>(
     let row = name.node_type().row();
     let children = inner.num_children();
     if children < row.fewest {
-        return Err(MalformedTreeError::WrongChildrenCount);
-    }
-    if children > row.most {
         return Err(MalformedTreeError::WrongChildrenCount);
     }
     put_in_turn(inner.children(), waiting)

@@ -16,6 +16,7 @@ down-init g c = record {
   room = omega arith;
   kept = refl;
   way = λ s tree. (_, rw c.requires.fresh (way-starts g.K.AsBytes.bytes c.args.key.now s c.args.reader.now.count g.row.PREFIX_LEN (node_at c.args.reader.now.arena.now) c.args.root tree _), λ mode. refl);
+  least = omega arith;
   reads = λ s tree longest short. omega arith;
 }
 
@@ -126,9 +127,16 @@ down-preserved g c =
                 (λ mode. c.in-Some.ensures.by_bytes mode c.down.current (path_to way.1.0.ctx) way.1.0.part (is_read g d s tree way.0 way.1.0) (way.1.1 mode))),
             λ mode. c.in-Some.ensures.by_length mode ∙ c.visit.ensures.counts ∙ ap (λ m. min (m + 1) (2 ^ 64 - 1)) (way.2 mode),
           );
+      least = omega (arith, c.in-Some.ensures.least, c.visit.ensures.counts, c.down.invariant.least);
       reads = λ s tree longest short.
           let way = c.down.invariant.way s tree in
           let within = part_within g.K.AsBytes.bytes longest s way.1.0.ctx way.1.0.part way.1.0.place.is short in
           let step = c.in-Some.ensures.few c.down.current (path_to way.1.0.ctx) way.1.0.part (is_read g d s tree way.0 way.1.0) longest within in
           descent_goes_on longest c.down.depth c.in-Some.step.depth c.args.reader.now.count c.down.reader.count _ _ (c.down.invariant.reads s tree longest short) (omega (arith, c.visit.ensures.counts)) step;
     }
+
+pub returns-in-Ok-clause-least : goal.returns-in-Ok-clause-least
+returns-in-Ok-clause-least g c = omega (arith, c.visit.ensures.counts, c.down.invariant.least)
+
+pub returns-in-None-clause-least : goal.returns-in-None-clause-least
+returns-in-None-clause-least g c = omega (arith, c.in-None.ensures.least, c.visit.ensures.counts, c.down.invariant.least)

@@ -1,13 +1,14 @@
-use Rattle.std.proofs.Common.{◌≡◌, ◌≢◌, lit<, sym, ap, ◌∙◌, refl, ℕ, List, [], Some}
+use Rattle.std.proofs.Common.{◌≡◌, ◌≢◌, lit<, sym, ap, ◌∙◌, refl, ℕ, List, [], Some, drop, length}
 use Rattle.art_nodes.specs.declared.kind.NodeType.TheVariants.{Leaf}
 use Rattle.art_nodes.specs.InnerNode.{InnerNode}
 use Rattle.art_arena.specs.arena.Arena.{held_at, inner_held, node_at}
 use Rattle.art_arena.specs.arena.Cells.{leaf_name}
 use Rattle.art_arena.specs.arena.EndLeaves.{end_child}
 use Rattle.art_arena.specs.arena.Meaning.{IsSubtree}
-use Rattle.art_arena.specs.arena.Shapes.{Shape}
+use Rattle.art_arena.specs.arena.Shapes.{Shape, erase}
 use Rattle.art_arena.specs.arena.Visited.{held_of}
 use Rattle.art_arena.proofs.shapes.LinkedLists.{some_of}
+use Rattle.art_arena.proofs.shapes.Reads.{reads_some}
 use Rattle.art_arena.proofs.shapes.EndWalks.{EndsAtLeaf, EndStep, end_at, end_step, on_end-start, same_inner}
 use Rattle.art_arena.proofs.shapes.Subtrees.{subtree-held}
 use Rattle.art_arena.proofs.shapes.Walking.{lent-leaf, node-there}
@@ -47,6 +48,11 @@ returns-in-Ok-clause-place g c = λ s tree.
 
 pub returns-in-Ok-clause-counts : goal.returns-in-Ok-clause-counts
 returns-in-Ok-clause-counts g c = λ path s tree. c.visit.ensures.counts ∙ (at_end g c path s tree).reads
+
+pub returns-in-Ok-clause-least : goal.returns-in-Ok-clause-least
+returns-in-Ok-clause-least g c =
+    let r = c.requires in
+    reads_some (erase r.1) (drop (length r.0) (g.K.AsBytes.bytes c.in-Ok.leaf.now.key)) c.args.reader.now.count c.visit.new.self.count (c.visit.ensures.counts ∙ (at_end g c r.0 r.1 r.2).reads)
 
 pub returns-in-Ok-clause-few : goal.returns-in-Ok-clause-few
 returns-in-Ok-clause-few g c = λ path s tree longest short. rw c.visit.ensures.counts ((at_end g c path s tree).few longest short)

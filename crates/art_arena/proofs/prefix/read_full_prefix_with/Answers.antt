@@ -1,7 +1,11 @@
-use Rattle.std.proofs.Common.{ap, sym, subst, ◌∙◌, arith}
-use Rattle.art_arena.specs.arena.Arena.{held_at}
+use Rattle.std.proofs.Common.{◌≡◌, ℕ, List, Some, ap, sym, subst, ◌∙◌, arith}
+use Rattle.art_arena.specs.arena.Arena.{held_at, leaf_held}
+use Rattle.art_arena.specs.arena.Cells.{leaf_name}
+use Rattle.art_arena.specs.arena.Reads.{IsReadAt}
+use Rattle.art_arena.specs.arena.Shapes.{Shape}
 use Rattle.art_arena.specs.arena.Stores.{StoresAt}
 use Rattle.art_arena.proofs.prefix.read_full_prefix_with.Goals as goal
+use Rattle.art_arena.proofs.prefix.read_full_prefix_with.Goals.{After-visit_inner-inner}
 
 pub returns-clause-few : goal.returns-clause-few
 returns-clause-few g c = λ path s at longest short.
@@ -10,3 +14,25 @@ returns-clause-few g c = λ path s at longest short.
       held = ap (λ a. held_at a c.args.node) c.visit_inner-inner.ensures.kept ∙ c.visit_inner-inner.ensures.value;
     }) longest short in
     omega (arith, few, c.visit_inner-inner.ensures.counts)
+
+-- the node that was read
+is_read : (g : _) (c : After-visit_inner-inner g) (path : List ℕ) (s : Shape g.row.K.Denot g.row.V.Denot) → StoresAt g.K.AsBytes.bytes g.row.PREFIX_LEN c.args.reader.now.arena.now c.args.node c.args.depth path s
+    → IsReadAt g.K.AsBytes.bytes g.row.PREFIX_LEN c.visit_inner-inner.new.self.arena.now c.visit_inner-inner.result.node c.args.node c.args.depth path s
+is_read g c path s at = record {
+  stands = subst (λ a. StoresAt g.K.AsBytes.bytes g.row.PREFIX_LEN a c.args.node c.args.depth path s) (sym c.visit_inner-inner.ensures.kept) at;
+  held = ap (λ a. held_at a c.args.node) c.visit_inner-inner.ensures.kept ∙ c.visit_inner-inner.ensures.value;
+}
+
+pub returns-clause-stored : goal.returns-clause-stored
+returns-clause-stored g c = λ path s at stored.
+    let d = (goal.at.returns-clause-stored g c).After-visit_inner-inner in
+    c.full_prefix_of.ensures.stored c.args.node path s (is_read g d path s at) stored ∙ c.visit_inner-inner.ensures.counts
+
+pub returns-clause-lent : goal.returns-clause-lent
+returns-clause-lent g c = λ path s at more slot leaf first held.
+    let d = (goal.at.returns-clause-lent g c).After-visit_inner-inner in
+    let reads = c.full_prefix_of.ensures.lent c.args.node path s (is_read g d path s at) more slot leaf first (subst (λ a. held_at a (leaf_name slot) ≡ Some (leaf_held leaf)) (sym c.visit_inner-inner.ensures.kept) held) in
+    omega (arith, reads, c.visit_inner-inner.ensures.counts)
+
+pub returns-clause-least : goal.returns-clause-least
+returns-clause-least g c = omega (arith, c.full_prefix_of.ensures.least, c.visit_inner-inner.ensures.counts)

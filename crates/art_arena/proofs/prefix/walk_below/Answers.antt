@@ -1,7 +1,7 @@
 use Rattle.std.proofs.Common.{sym, ◌∙◌, arith, lit<}
 use Rattle.art_arena.specs.declared.ends.End.TheVariants.{First}
 use Rattle.art_arena.proofs.shapes.LinkedLists.{some_of}
-use Rattle.art_arena.proofs.shapes.Reads.{read_child, read_some}
+use Rattle.art_arena.proofs.shapes.Reads.{read_child, read_first, read_some}
 use Rattle.art_arena.proofs.prefix.walk_below.Goals as goal
 
 pub known-requires : goal.known-requires
@@ -26,3 +26,12 @@ returns-clause-few g c = λ root depth path s at longest short.
     let child = read_child g.K.AsBytes.bytes g.row.PREFIX_LEN c.args.reader.now.arena.now c.args.inner.now.node root depth path s at First c.in-Some.child (sym c.end_child.ensures ∙ c.in-Some.is) in
     let few = c.end_leaf_with.ensures.few child.below child.part child.subtree longest (child.within longest short) in
     omega (arith, few, child.deeper)
+
+pub returns-clause-counts : goal.returns-clause-counts
+returns-clause-counts g c = λ root depth path s at.
+    let child = read_child g.K.AsBytes.bytes g.row.PREFIX_LEN c.args.reader.now.arena.now c.args.inner.now.node root depth path s at First c.in-Some.child (sym c.end_child.ensures ∙ c.in-Some.is) in
+    let first = sym child.same_end ∙ c.end_leaf_with.ensures.value child.below child.part child.subtree in
+    read_first g.K.AsBytes.bytes g.row.PREFIX_LEN c.args.reader.now.arena.now c.args.inner.now.node root depth path s at c.in-Some.child child c.end_leaf_with.result.name c.end_leaf_with.result.leaf.now _ _ first c.end_leaf_with.ensures.leaf (c.end_leaf_with.ensures.counts child.below child.part child.subtree)
+
+pub returns-clause-least : goal.returns-clause-least
+returns-clause-least g c = omega (arith, c.end_leaf_with.ensures.least)

@@ -19,11 +19,18 @@ impl<K: AsBytes, V, const PREFIX_LEN: usize> TreeMap<K, V, PREFIX_LEN> {
     ghost use Rattle.art_map.specs.Changes.{IsKeyRefused};
     ghost use Rattle.art_map.specs.Entries.{entry_map, rests_if_blocked, IsEntryOf};
 
-    /// The entry of a key. Where an equal key is stored, the one handed in is let go.
+    /// Returns the entry of a key. If an equal key is stored, the one that was passed is dropped.
     ///
-    /// It is refused with `Prefix` where the key is a front of a stored key, or a stored key is one of it, and with
-    /// `Memory` where there is no memory for the bytes that `Prefix` tells. The key is handed back, and the map is as
-    /// it was. A key that is stored is never refused.
+    /// Fails with `Prefix` if the key is a prefix of a stored key, or a stored key is a prefix of it. Fails with
+    /// `Memory` if there is no memory for the bytes that `Prefix` tells. The error returns the key, and the map is
+    /// unchanged. A key that is stored never fails.
+    ///
+    /// ```
+    /// let mut map = TreeMap::new(rt.alloc());
+    /// map.try_entry(StrKey("ab"))?.or_insert(1)?;
+    /// assert!(rt; matches!(map.try_entry(StrKey("abc")), Err(TryKeyError::Prefix { .. })));
+    /// assert_eq!(rt; map.get(&StrKey("ab")), Some(&1));
+    /// ```
     pub fn try_entry(&mut self, key: K) -> Result<Entry<'_, K, V, PREFIX_LEN>, TryKeyError<K>>
     where
         K: Drop,
@@ -59,7 +66,15 @@ impl<K: AsBytes, V, const PREFIX_LEN: usize> TreeMap<K, V, PREFIX_LEN> {
 impl<K: NoPrefixesBytes, V, const PREFIX_LEN: usize> TreeMap<K, V, PREFIX_LEN> {
     ghost use Rattle.art_map.specs.Entries.{entry_map, IsEntryOf};
 
-    /// The entry of a key. Where an equal key is stored, the one handed in is let go.
+    /// Returns the entry of a key. If an equal key is stored, the one that was passed is dropped.
+    ///
+    /// ```
+    /// let mut counts = TreeMap::new(rt.alloc());
+    /// for word in [*b"ab", *b"cd", *b"ab"] {
+    ///     *counts.entry(word).or_insert(0)? += 1;
+    /// }
+    /// assert!(rt; counts.values().eq([&2, &1]));
+    /// ```
     pub fn entry(&mut self, key: K) -> Entry<'_, K, V, PREFIX_LEN>
     where
         K: Drop,
@@ -84,7 +99,12 @@ impl<'a, K: AsBytes, V, const PREFIX_LEN: usize> Entry<'a, K, V, PREFIX_LEN> {
     ghost use Rattle.art_map.specs.Entries.{Occupied, entry_key, entry_map, entry_value, lends_entry, entry_pairs};
     ghost use Rattle.art_map.specs.Entries.{pairs_without, rests_if_refused, IsFilled, IsSame, IsWritten};
 
-    /// The stored key, or where none is stored the one that would go in.
+    /// Returns the stored key, or the one that would be inserted if none is stored.
+    ///
+    /// ```
+    /// let mut map: TreeMap<_, u32, 16> = TreeMap::new(rt.alloc());
+    /// assert_eq!(rt; map.entry(*b"ab").key(), b"ab");
+    /// ```
     pub fn key(&self) -> &K
         ensures { result.now ≡ entry_key self.now }
     {
@@ -94,8 +114,16 @@ impl<'a, K: AsBytes, V, const PREFIX_LEN: usize> Entry<'a, K, V, PREFIX_LEN> {
         }
     }
 
-    /// Calls `f` on the value, if the key is stored; `f` has to be callable on it. Where it is not stored, the entry is
-    /// as it was.
+    /// Calls `f` on the value, if the key is stored; `f` has to be callable on it. If the key is not stored, the entry
+    /// is unchanged.
+    ///
+    /// ```
+    /// let mut map = TreeMap::new(rt.alloc());
+    /// for _ in 0..3 {
+    ///     map.entry(*b"ab").and_modify(|value| *value += 1).or_insert(0)?;
+    /// }
+    /// assert_eq!(rt; map.get(b"ab"), Some(&2));
+    /// ```
     pub fn and_modify<F: FnOnce(&mut V)>(self, f: F) -> Self
         requires { (p : MutBor V) → entry_value self ≡ Some p.now → F.pre f p }
         ensures same_map { (entry_map result).ghost_name ≡ (entry_map self.entry).ghost_name }
@@ -116,11 +144,18 @@ impl<'a, K: AsBytes, V, const PREFIX_LEN: usize> Entry<'a, K, V, PREFIX_LEN> {
         }
     }
 
-    /// The stored value, or where none is stored this one, which is put in. It is lent for writing as long as the map
-    /// is lent.
+    /// Returns the stored value, or inserts this one if the key is not stored. The value is lent for writing as long as
+    /// the map is lent.
     ///
-    /// It is refused only where the key is not stored and there is no memory. The pair is handed back, and the map is
-    /// as it was.
+    /// Fails only if the key is not stored, and only if out of memory. The error returns the pair, and the map is
+    /// unchanged.
+    ///
+    /// ```
+    /// let mut map = TreeMap::new(rt.alloc());
+    /// *map.entry(*b"ab").or_insert(1)? += 10;
+    /// *map.entry(*b"ab").or_insert(1)? += 10;
+    /// assert_eq!(rt; map.get(b"ab"), Some(&21));
+    /// ```
     pub fn or_insert(self, default: V) -> Result<&'a mut V, InsertRefused<K, V>>
     where
         K: Drop,
@@ -136,7 +171,13 @@ impl<'a, K: AsBytes, V, const PREFIX_LEN: usize> Entry<'a, K, V, PREFIX_LEN> {
         }
     }
 
-    /// As `or_insert`, with the default value of its type.
+    /// Does as `or_insert`, with the default value of its type.
+    ///
+    /// ```
+    /// let mut map: TreeMap<_, u32, 16> = TreeMap::new(rt.alloc());
+    /// *map.entry(*b"ab").or_default()? += 1;
+    /// assert_eq!(rt; map.get(b"ab"), Some(&1));
+    /// ```
     pub fn or_default(self) -> Result<&'a mut V, InsertRefused<K, V>>
     where
         K: Drop,
@@ -152,8 +193,13 @@ impl<'a, K: AsBytes, V, const PREFIX_LEN: usize> Entry<'a, K, V, PREFIX_LEN> {
         }
     }
 
-    /// As `or_insert`, with a value that `default` gives. It is called only where the key is not stored, and has to be
-    /// callable there.
+    /// Does as `or_insert`, with a value that `default` returns. It is called only if the key is not stored, and has to
+    /// be callable there.
+    ///
+    /// ```
+    /// let mut map = TreeMap::new(rt.alloc());
+    /// assert_eq!(rt; *map.entry(*b"ab").or_insert_with(|| 3 * 7)?, 21);
+    /// ```
     pub fn or_insert_with<F: FnOnce() -> V>(
         self,
         default: F,
@@ -173,8 +219,13 @@ impl<'a, K: AsBytes, V, const PREFIX_LEN: usize> Entry<'a, K, V, PREFIX_LEN> {
         }
     }
 
-    /// As `or_insert`, with a value that `default` gives for the key. It is called only where the key is not stored,
-    /// and has to be callable there.
+    /// Does as `or_insert`, with a value that `default` returns for the key. It is called only if the key is not
+    /// stored, and has to be callable there.
+    ///
+    /// ```
+    /// let mut map = TreeMap::new(rt.alloc());
+    /// assert_eq!(rt; *map.entry(*b"ab").or_insert_with_key(|key| key[0])?, b'a');
+    /// ```
     pub fn or_insert_with_key<F: FnOnce(&K) -> V>(
         self,
         default: F,
@@ -199,8 +250,15 @@ impl<'a, K: AsBytes, V, const PREFIX_LEN: usize> Entry<'a, K, V, PREFIX_LEN> {
         }
     }
 
-    /// The entry with this value, which is put in, or takes the place of the stored one. It is refused only where the
-    /// key is not stored and there is no memory. The pair is handed back, and the map is as it was.
+    /// Inserts this value, or replaces the stored one by it, and returns the entry. Fails only if the key is not
+    /// stored, and only if out of memory. The error returns the pair, and the map is unchanged.
+    ///
+    /// ```
+    /// let mut map = TreeMap::new(rt.alloc());
+    /// map.insert(*b"ab", 1)?;
+    /// assert_eq!(rt; *map.entry(*b"ab").insert_entry(2)?.get(), 2);
+    /// assert_eq!(rt; map.len(), 1);
+    /// ```
     pub fn insert_entry(
         self,
         value: V,
@@ -223,7 +281,14 @@ impl<'a, K: AsBytes, V, const PREFIX_LEN: usize> Entry<'a, K, V, PREFIX_LEN> {
         }
     }
 
-    /// The entry, which is put in with this value where none is stored. It is refused as `or_insert` is.
+    /// Inserts this value if the key is not stored, and returns the entry. It fails as `or_insert` does.
+    ///
+    /// ```
+    /// let mut map = TreeMap::new(rt.alloc());
+    /// let entry = map.entry(*b"ab").or_insert_entry(1)?;
+    /// assert_eq!(rt; entry.remove()?, 1);
+    /// assert!(rt; map.is_empty());
+    /// ```
     pub fn or_insert_entry(
         self,
         default: V,
@@ -242,7 +307,13 @@ impl<'a, K: AsBytes, V, const PREFIX_LEN: usize> Entry<'a, K, V, PREFIX_LEN> {
         }
     }
 
-    /// As `or_insert_entry`, with the default value of its type.
+    /// Does as `or_insert_entry`, with the default value of its type.
+    ///
+    /// ```
+    /// let mut map: TreeMap<_, u32, 16> = TreeMap::new(rt.alloc());
+    /// let entry = map.entry(*b"ab").or_default_entry()?;
+    /// assert_eq!(rt; *entry.get(), 0);
+    /// ```
     pub fn or_default_entry(
         self,
     ) -> Result<OccupiedEntry<'a, K, V, PREFIX_LEN>, InsertRefused<K, V>>
@@ -260,8 +331,14 @@ impl<'a, K: AsBytes, V, const PREFIX_LEN: usize> Entry<'a, K, V, PREFIX_LEN> {
         }
     }
 
-    /// As `or_insert_entry`, with a value that `default` gives. It is called only where the key is not stored, and has
-    /// to be callable there.
+    /// Does as `or_insert_entry`, with a value that `default` returns. It is called only if the key is not stored, and
+    /// has to be callable there.
+    ///
+    /// ```
+    /// let mut map = TreeMap::new(rt.alloc());
+    /// let entry = map.entry(*b"ab").or_insert_with_entry(|| 3 * 7)?;
+    /// assert_eq!(rt; *entry.get(), 21);
+    /// ```
     pub fn or_insert_with_entry<F: FnOnce() -> V>(
         self,
         default: F,
@@ -281,8 +358,14 @@ impl<'a, K: AsBytes, V, const PREFIX_LEN: usize> Entry<'a, K, V, PREFIX_LEN> {
         }
     }
 
-    /// As `or_insert_entry`, with a value that `default` gives for the key. It is called only where the key is not
+    /// Does as `or_insert_entry`, with a value that `default` returns for the key. It is called only if the key is not
     /// stored, and has to be callable there.
+    ///
+    /// ```
+    /// let mut map = TreeMap::new(rt.alloc());
+    /// let entry = map.entry(*b"ab").or_insert_with_key_entry(|key| key[1])?;
+    /// assert_eq!(rt; *entry.get(), b'b');
+    /// ```
     pub fn or_insert_with_key_entry<F: FnOnce(&K) -> V>(
         self,
         default: F,

@@ -15,6 +15,7 @@ use std::mem::replace;
 
 impl<'a, K: AsBytes, V, const PREFIX_LEN: usize> OccupiedEntry<'a, K, V, PREFIX_LEN> {
     ghost use Rattle.art_map.specs.Found.{HasPairAt, HasPairUnder};
+    ghost use Rattle.art_map.specs.LeafNames.{KeepsLeaves};
     ghost use Rattle.art_map.specs.Lends.{lends_value_at};
     ghost use Rattle.art_map.specs.Entries.{Occupied, entry_key, entry_value, lends_entry_value, entry_pairs};
     ghost use Rattle.art_map.specs.Entries.{pairs_without, rests_if_refused, with_entry_value, IsSame, IsWritten};
@@ -43,21 +44,40 @@ impl<'a, K: AsBytes, V, const PREFIX_LEN: usize> OccupiedEntry<'a, K, V, PREFIX_
         Ok(OccupiedEntry::new(map, leaf))
     }
 
-    /// The stored key.
+    /// Returns the stored key.
+    ///
+    /// ```
+    /// let mut map = TreeMap::new(rt.alloc());
+    /// let entry = map.entry(*b"ab").insert_entry(1)?;
+    /// assert_eq!(rt; entry.key(), b"ab");
+    /// ```
     pub fn key(&self) -> &K
         ensures { result.now ≡ entry_key (Occupied self.now) }
     {
         self.map.pair_at(self.leaf).0
     }
 
-    /// The value.
+    /// Returns the value.
+    ///
+    /// ```
+    /// let mut map = TreeMap::new(rt.alloc());
+    /// let entry = map.entry(*b"ab").insert_entry(1)?;
+    /// assert_eq!(rt; *entry.get(), 1);
+    /// ```
     pub fn get(&self) -> &V
         ensures { entry_value (Occupied self.now) ≡ Some result.now }
     {
         self.map.pair_at(self.leaf).1
     }
 
-    /// The value, for writing.
+    /// Lends the value for writing.
+    ///
+    /// ```
+    /// let mut map = TreeMap::new(rt.alloc());
+    /// let mut entry = map.entry(*b"ab").insert_entry(1)?;
+    /// *entry.get_mut() += 10;
+    /// assert_eq!(rt; map.get(b"ab"), Some(&11));
+    /// ```
     pub fn get_mut(&mut self) -> &mut V
         ensures* writes_back { sem 𝓛 (lends_entry_value K.row V.row PREFIX_LEN K.AsBytes self.entry result) }
         ensures value { entry_value (Occupied self.old) ≡ Some result.now }
@@ -68,7 +88,14 @@ impl<'a, K: AsBytes, V, const PREFIX_LEN: usize> OccupiedEntry<'a, K, V, PREFIX_
         value
     }
 
-    /// The value, for writing, as long as the map is lent.
+    /// Lends the value for writing, as long as the map is lent.
+    ///
+    /// ```
+    /// let mut map = TreeMap::new(rt.alloc());
+    /// let value = map.entry(*b"ab").insert_entry(1)?.into_mut();
+    /// *value += 10;
+    /// assert_eq!(rt; map.get(b"ab"), Some(&11));
+    /// ```
     pub fn into_mut(self) -> &'a mut V
         ensures* writes_back { sem 𝓛 (lends_value_at K.row V.row PREFIX_LEN.row K.AsBytes
             self.entry.map self.entry.leaf result) }
@@ -80,7 +107,14 @@ impl<'a, K: AsBytes, V, const PREFIX_LEN: usize> OccupiedEntry<'a, K, V, PREFIX_
         value
     }
 
-    /// Replaces the value, and answers the old one. The stored key stays.
+    /// Replaces the value, and returns the old one. The stored key stays.
+    ///
+    /// ```
+    /// let mut map = TreeMap::new(rt.alloc());
+    /// let mut entry = map.entry(*b"ab").insert_entry(1)?;
+    /// assert_eq!(rt; entry.insert(2), 1);
+    /// assert_eq!(rt; map.get(b"ab"), Some(&2));
+    /// ```
     pub fn insert(&mut self, value: V) -> V
         ensures old { entry_value (Occupied self.old) ≡ Some result }
         ensures written { IsWritten (Occupied self.old) value (Occupied self.new) }
@@ -88,12 +122,20 @@ impl<'a, K: AsBytes, V, const PREFIX_LEN: usize> OccupiedEntry<'a, K, V, PREFIX_
         replace(self.get_mut(), value)
     }
 
-    /// Takes the pair out of the map, and answers its value. It is refused as `remove_entry` is.
+    /// Removes the pair from the map, and returns its value. It fails as `remove_entry` does.
+    ///
+    /// ```
+    /// let mut map = TreeMap::new(rt.alloc());
+    /// let entry = map.entry(*b"ab").insert_entry(1)?;
+    /// assert_eq!(rt; entry.remove()?, 1);
+    /// assert!(rt; map.is_empty());
+    /// ```
     pub fn remove(self) -> Result<V, AllocError>
     where
         K: Drop,
         ensures value { IfOk result (λ value. entry_value (Occupied self.entry) ≡ Some value) }
         ensures pairs { OnOk result (self.exit.0.now.pairs ≡ pairs_without (Occupied self.entry)) }
+        ensures names { OnOk result (KeepsLeaves K.bytes self.entry.map.now self.exit.0.now) }
         ensures err { OnErr result (self.exit.0.now.pairs ≡ self.entry.map.now.pairs) }
         ensures shrinks { OnErr result (Shrinks (key_of K.bytes) self.entry.map.now.pairs
             (K.bytes (entry_key (Occupied self.entry)))) }
@@ -104,14 +146,22 @@ impl<'a, K: AsBytes, V, const PREFIX_LEN: usize> OccupiedEntry<'a, K, V, PREFIX_
         }
     }
 
-    /// Takes the pair out of the map, and answers it.
+    /// Removes the pair from the map, and returns it.
     ///
-    /// It is refused only where the loss of the key makes a node one of the next smaller kind, and there is no memory
-    /// for that one. The map is then as it was.
+    /// Fails only if the removal turns a node into one of the next smaller kind, and there is no memory for that one.
+    /// The map is unchanged then.
+    ///
+    /// ```
+    /// let mut map = TreeMap::new(rt.alloc());
+    /// let entry = map.entry(*b"ab").insert_entry(1)?;
+    /// assert_eq!(rt; entry.remove_entry()?, (*b"ab", 1));
+    /// assert!(rt; map.is_empty());
+    /// ```
     pub fn remove_entry(self) -> Result<(K, V), AllocError>
         ensures pair { IfOk result (λ pair. (pair.0 ≡ entry_key (Occupied self.entry))
             × (entry_value (Occupied self.entry) ≡ Some pair.1)) }
         ensures pairs { OnOk result (self.exit.0.now.pairs ≡ pairs_without (Occupied self.entry)) }
+        ensures names { OnOk result (KeepsLeaves K.bytes self.entry.map.now self.exit.0.now) }
         ensures err { OnErr result (self.exit.0.now.pairs ≡ self.entry.map.now.pairs) }
         ensures shrinks { OnErr result (Shrinks (key_of K.bytes) self.entry.map.now.pairs
             (K.bytes (entry_key (Occupied self.entry)))) }

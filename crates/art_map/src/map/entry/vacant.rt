@@ -10,14 +10,29 @@ use art_operations::InsertRefused;
 impl<'a, K: AsBytes, V, const PREFIX_LEN: usize> VacantEntry<'a, K, V, PREFIX_LEN> {
     ghost use Rattle.art_map.specs.Entries.{Occupied, Vacant, entry_key, lends_entry, rests_if_refused, IsWritten};
 
-    /// The key that would go in.
+    /// Returns the key that would be inserted.
+    ///
+    /// ```
+    /// let mut map: TreeMap<_, u32, 16> = TreeMap::new(rt.alloc());
+    /// if let Entry::Vacant(entry) = map.entry(*b"ab") {
+    ///     assert_eq!(rt; entry.key(), b"ab");
+    /// }
+    /// ```
     pub fn key(&self) -> &K
         ensures { result.now ≡ entry_key (Vacant self.now) }
     {
         &self.key
     }
 
-    /// The key that would go in, which is given back. The map is as it was.
+    /// Returns the key that would be inserted, by value. The map is unchanged.
+    ///
+    /// ```
+    /// let mut map: TreeMap<_, u32, 16> = TreeMap::new(rt.alloc());
+    /// if let Entry::Vacant(entry) = map.entry(*b"ab") {
+    ///     assert_eq!(rt; entry.into_key(), *b"ab");
+    /// }
+    /// assert!(rt; map.is_empty());
+    /// ```
     pub fn into_key(self) -> K
         ensures key { result ≡ entry_key (Vacant self.entry) }
         ensures unchanged { self.exit.0.now ≡ self.entry.map.now }
@@ -25,9 +40,17 @@ impl<'a, K: AsBytes, V, const PREFIX_LEN: usize> VacantEntry<'a, K, V, PREFIX_LE
         self.key
     }
 
-    /// Puts the key in with this value, which is lent for writing as long as the map is lent.
+    /// Inserts the key with this value, which is lent for writing as long as the map is lent.
     ///
-    /// It is refused only where there is no memory. The pair is handed back, and the map is as it was.
+    /// Fails only if out of memory. The error returns the pair, and the map is unchanged.
+    ///
+    /// ```
+    /// let mut map = TreeMap::new(rt.alloc());
+    /// if let Entry::Vacant(entry) = map.entry(*b"ab") {
+    ///     *entry.insert(1)? += 10;
+    /// }
+    /// assert_eq!(rt; map.get(b"ab"), Some(&11));
+    /// ```
     pub fn insert(self, value: V) -> Result<&'a mut V, InsertRefused<K, V>>
     where
         K: Drop,
@@ -50,7 +73,15 @@ impl<'a, K: AsBytes, V, const PREFIX_LEN: usize> VacantEntry<'a, K, V, PREFIX_LE
         Ok(value)
     }
 
-    /// Puts the key in with this value, and answers its entry. It is refused as `insert` is.
+    /// Inserts the key with this value, and returns its entry. It fails as `insert` does.
+    ///
+    /// ```
+    /// let mut map = TreeMap::new(rt.alloc());
+    /// if let Entry::Vacant(entry) = map.entry(*b"ab") {
+    ///     assert_eq!(rt; entry.insert_entry(1)?.key(), b"ab");
+    /// }
+    /// assert_eq!(rt; map.get(b"ab"), Some(&1));
+    /// ```
     pub fn insert_entry(
         self,
         value: V,

@@ -1,7 +1,6 @@
 //! The methods of `InnerOccupiedEntry`.
-ghost use Rattle.std.specs.Prelude.{◌≡◌, option_copied, option_map, Some, IfOk, IsSome};
+ghost use Rattle.std.specs.Prelude.{◌≡◌, option_copied, Some, IfOk, IsSome};
 ghost use Rattle.std.specs.Borrow.{sem};
-ghost use Rattle.std.specs.Map.Iter.{deref_pair_mut};
 ghost use Rattle.std.specs.Option.{option_copied_mut};
 ghost use Rattle.art_operations.specs.Insertions.{HandsPairBack};
 ghost use Rattle.art_map.specs.Contents.{option_value};
@@ -9,6 +8,7 @@ ghost use Rattle.art_map.specs.Overlapped.{lone_item};
 
 use super::{InnerOccupiedEntry, LonePair};
 use crate::map::entry::OccupiedEntry;
+use crate::map::prefix_entry::lone::LonePairMut;
 use crate::map::walks_mut::SubtreeIterMut;
 use art_bytes::AsBytes;
 use art_operations::InsertRefused;
@@ -18,18 +18,39 @@ impl<'a, K: AsBytes, V, const PREFIX_LEN: usize> InnerOccupiedEntry<'a, K, V, PR
     ghost use Rattle.art_map.specs.Entries.{option_key};
     ghost use Rattle.art_map.specs.Lends.{with_value_at};
     ghost use Rattle.art_map.specs.LentWalks.{range_rest};
+    ghost use Rattle.art_map.specs.LonePairs.{shown_pair};
     ghost use Rattle.art_map.specs.PrefixEntries.{lends_from_inner, lends_inner, lends_lone, map_row};
     ghost use Rattle.art_map.specs.PrefixEntries.{inner_rests, removed_pairs, with_contents, with_lone_value};
     ghost use Rattle.art_map.specs.PrefixEntries.{IsInnerWritten, IsWithPairs};
 
-    /// The key that would go in.
+    /// Returns the key that would be inserted.
+    ///
+    /// ```
+    /// let mut map = TreeMap::new(rt.alloc());
+    /// map.try_insert(StrKey("abc"), 1)?;
+    /// if let PrefixEntry::Occupied(entry) = map.prefix_entry(StrKey("ab")) {
+    ///     if let PrefixOccupiedKind::Inner(entry) = entry.kind() {
+    ///         assert_eq!(rt; *entry.key(), StrKey("ab"));
+    ///     }
+    /// }
+    /// ```
     pub fn key(&self) -> &K
         ensures { result.now ≡ self.now.key }
     {
         &self.key
     }
 
-    /// The value of the pair that an insertion would remove, if it is one alone.
+    /// Returns the value of the pair that an insertion would remove, if it is one alone.
+    ///
+    /// ```
+    /// let mut map = TreeMap::new(rt.alloc());
+    /// map.try_insert(StrKey("abc"), 1)?;
+    /// if let PrefixEntry::Occupied(entry) = map.prefix_entry(StrKey("ab")) {
+    ///     if let PrefixOccupiedKind::Inner(entry) = entry.kind() {
+    ///         assert_eq!(rt; entry.get(), Some(&1));
+    ///     }
+    /// }
+    /// ```
     pub fn get(&self) -> Option<&V>
         ensures { option_copied result ≡ option_value (lone_item (removed_pairs K.bytes self.now)) }
     {
@@ -37,7 +58,17 @@ impl<'a, K: AsBytes, V, const PREFIX_LEN: usize> InnerOccupiedEntry<'a, K, V, PR
         Some(self.map.pair_at(leaf).1)
     }
 
-    /// The stored key of the pair that an insertion would remove, if it is one alone.
+    /// Returns the stored key of the pair that an insertion would remove, if it is one alone.
+    ///
+    /// ```
+    /// let mut map = TreeMap::new(rt.alloc());
+    /// map.try_insert(StrKey("abc"), 1)?;
+    /// if let PrefixEntry::Occupied(entry) = map.prefix_entry(StrKey("ab")) {
+    ///     if let PrefixOccupiedKind::Inner(entry) = entry.kind() {
+    ///         assert_eq!(rt; entry.get_key(), Some(&StrKey("abc")));
+    ///     }
+    /// }
+    /// ```
     pub fn get_key(&self) -> Option<&K>
         ensures { option_copied result ≡ option_key (lone_item (removed_pairs K.bytes self.now)) }
     {
@@ -45,7 +76,18 @@ impl<'a, K: AsBytes, V, const PREFIX_LEN: usize> InnerOccupiedEntry<'a, K, V, PR
         Some(self.map.pair_at(leaf).0)
     }
 
-    /// The value of the pair that an insertion would remove, for writing, if it is one alone.
+    /// Lends the value of the pair that an insertion would remove for writing, if it is one alone.
+    ///
+    /// ```
+    /// let mut map = TreeMap::new(rt.alloc());
+    /// map.try_insert(StrKey("abc"), 1)?;
+    /// if let PrefixEntry::Occupied(entry) = map.prefix_entry(StrKey("ab")) {
+    ///     if let PrefixOccupiedKind::Inner(mut entry) = entry.kind() {
+    ///         entry.get_mut().into_iter().for_each(|value| *value = 7);
+    ///     }
+    /// }
+    /// assert_eq!(rt; map.get(&StrKey("abc")), Some(&7));
+    /// ```
     pub fn get_mut(&mut self) -> Option<&mut V>
         ensures* writes_back { sem 𝓛 (lends_lone K.row V.row PREFIX_LEN K.AsBytes self.entry result) }
         ensures value { option_copied_mut result ≡ option_value (lone_item (removed_pairs K.bytes self.old)) }
@@ -59,20 +101,40 @@ impl<'a, K: AsBytes, V, const PREFIX_LEN: usize> InnerOccupiedEntry<'a, K, V, PR
         }
     }
 
-    /// The stored key, and the value for writing, of the pair that an insertion would remove, if it is one alone.
-    /// The contract says which pair that is, not what the entry ends as; those of `get_mut` and `lone_pair_mut` do.
-    pub fn get_key_value_mut(&mut self) -> Option<(&K, &mut V)>
-        ensures { option_map deref_pair_mut result ≡ lone_item (removed_pairs K.bytes self.old) }
+    /// Returns the pair that an insertion would remove, if it is one alone: its stored key, and its value for writing.
+    ///
+    /// ```
+    /// let mut map = TreeMap::new(rt.alloc());
+    /// map.try_insert(StrKey("abc"), 1)?;
+    /// if let PrefixEntry::Occupied(entry) = map.prefix_entry(StrKey("ab")) {
+    ///     if let PrefixOccupiedKind::Inner(mut entry) = entry.kind() {
+    ///         entry.get_key_value_mut().value_mut().into_iter().for_each(|value| *value = 7);
+    ///     }
+    /// }
+    /// assert_eq!(rt; map.get(&StrKey("abc")), Some(&7));
+    /// ```
+    pub fn get_key_value_mut(&mut self) -> LonePairMut<'_, K, V, PREFIX_LEN>
+        ensures* writes_back { sem 𝓛 (lends_from_inner K.row V.row PREFIX_LEN K.AsBytes
+            (map_row K.row V.row PREFIX_LEN K.AsBytes) self.entry result.map (with_contents self.old)) }
+        ensures unchanged { result.map.now ≡ self.old.map.now }
+        ensures pair { shown_pair result ≡ lone_item (removed_pairs K.bytes self.old) }
     {
-        match self.map.lone_over(self.key.as_bytes()) {
-            Some(leaf) => Some(self.map.pair_mut_at(leaf)),
-            None => None,
-        }
+        let leaf = self.map.lone_over(self.key.as_bytes());
+        self.map.lone_pair_at(leaf)
     }
 
-    /// Lends the pair that an insertion would remove, its value for writing.
+    /// Lends the pair that an insertion would remove, its value for writing. It has to be one alone, as `get` tells.
     ///
-    /// It has to be one alone, as `get` tells.
+    /// ```
+    /// let mut map = TreeMap::new(rt.alloc());
+    /// map.try_insert(StrKey("abc"), 1)?;
+    /// if let PrefixEntry::Occupied(entry) = map.prefix_entry(StrKey("ab")) {
+    ///     if let PrefixOccupiedKind::Inner(mut entry) = entry.kind() {
+    ///         *entry.lone_pair_mut().value = 7;
+    ///     }
+    /// }
+    /// assert_eq!(rt; map.get(&StrKey("abc")), Some(&7));
+    /// ```
     pub fn lone_pair_mut(&mut self) -> LonePair<'_, K, V>
         requires { IsSome (option_value (lone_item (removed_pairs K.bytes self.old))) }
         ensures* writes_back { sem 𝓛 (lends_from_inner K.row V.row PREFIX_LEN K.AsBytes V.row self.entry result.value
@@ -89,15 +151,38 @@ impl<'a, K: AsBytes, V, const PREFIX_LEN: usize> InnerOccupiedEntry<'a, K, V, PR
         LonePair { key, value, leaf }
     }
 
-    /// The pairs that an insertion would remove, ascending by the bytes of their keys, from either end.
+    /// Returns an iterator over the pairs that an insertion would remove. It ascends by the bytes of their keys, and
+    /// gives pairs from either end.
+    ///
+    /// ```
+    /// let mut map = TreeMap::new(rt.alloc());
+    /// map.try_insert(StrKey("abc"), 1)?;
+    /// map.try_insert(StrKey("abd"), 2)?;
+    /// if let PrefixEntry::Occupied(entry) = map.prefix_entry(StrKey("ab")) {
+    ///     if let PrefixOccupiedKind::Inner(entry) = entry.kind() {
+    ///         assert_eq!(rt; entry.iter().count(), 2);
+    ///     }
+    /// }
+    /// ```
     pub fn iter(&self) -> SubtreeIter<'_, K, V, PREFIX_LEN>
         ensures { result ≡ removed_pairs K.bytes self.now }
     {
         self.map.pairs_over(self.key.as_bytes())
     }
 
-    /// The pairs that an insertion would remove, their values lent for writing one at a time, ascending by the bytes of
-    /// their keys, from either end.
+    /// Returns an iterator over the pairs that an insertion would remove. It ascends by the bytes of their keys, and
+    /// lends values for writing from either end, one at a time.
+    ///
+    /// ```
+    /// let mut map = TreeMap::new(rt.alloc());
+    /// map.try_insert(StrKey("abc"), 1)?;
+    /// if let PrefixEntry::Occupied(entry) = map.prefix_entry(StrKey("ab")) {
+    ///     if let PrefixOccupiedKind::Inner(mut entry) = entry.kind() {
+    ///         entry.iter_mut().next().into_iter().for_each(|value| *value = 7);
+    ///     }
+    /// }
+    /// assert_eq!(rt; map.get(&StrKey("abc")), Some(&7));
+    /// ```
     pub fn iter_mut(&mut self) -> SubtreeIterMut<'_, K, V, PREFIX_LEN>
         ensures* writes_back { sem 𝓛 (lends_from_inner K.row V.row PREFIX_LEN K.AsBytes
             (map_row K.row V.row PREFIX_LEN K.AsBytes) self.entry result.map (with_contents self.old)) }
@@ -108,9 +193,21 @@ impl<'a, K: AsBytes, V, const PREFIX_LEN: usize> InnerOccupiedEntry<'a, K, V, PR
         self.map.run_mut(leaves)
     }
 
-    /// Puts the key in with this value, and removes the pairs of `iter`.
+    /// Inserts the key with this value, and removes the pairs of `iter`. The value is lent for writing as long as the
+    /// map is lent.
     ///
-    /// It is refused only where there is no memory. Key and value are then handed back, and the map is as it was.
+    /// Fails only if out of memory. The error returns key and value, and the map is unchanged.
+    ///
+    /// ```
+    /// let mut map = TreeMap::new(rt.alloc());
+    /// map.try_insert(StrKey("abc"), 1)?;
+    /// if let PrefixEntry::Occupied(entry) = map.prefix_entry(StrKey("ab")) {
+    ///     if let PrefixOccupiedKind::Inner(entry) = entry.kind() {
+    ///         assert_eq!(rt; *entry.insert(2)?, 2);
+    ///     }
+    /// }
+    /// assert!(rt; map.keys().eq([&StrKey("ab")]));
+    /// ```
     pub fn insert(self, value: V) -> Result<&'a mut V, InsertRefused<K, V>>
     where
         K: Drop,
@@ -128,8 +225,18 @@ impl<'a, K: AsBytes, V, const PREFIX_LEN: usize> InnerOccupiedEntry<'a, K, V, PR
         Ok(stored)
     }
 
-    /// Puts the key in with this value, removes the pairs of `iter`, and answers the key's entry. It is refused as
-    /// `insert` is.
+    /// Inserts the key with this value, removes the pairs of `iter`, and returns the key's entry. It fails as `insert`
+    /// does.
+    ///
+    /// ```
+    /// let mut map = TreeMap::new(rt.alloc());
+    /// map.try_insert(StrKey("abc"), 1)?;
+    /// if let PrefixEntry::Occupied(entry) = map.prefix_entry(StrKey("ab")) {
+    ///     if let PrefixOccupiedKind::Inner(entry) = entry.kind() {
+    ///         assert_eq!(rt; *entry.insert_entry(2)?.key(), StrKey("ab"));
+    ///     }
+    /// }
+    /// ```
     pub fn insert_entry(
         self,
         value: V,

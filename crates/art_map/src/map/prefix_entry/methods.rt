@@ -14,8 +14,16 @@ use std::marker::PhantomData;
 impl<K: AsBytes, V, const PREFIX_LEN: usize> TreeMap<K, V, PREFIX_LEN> {
     ghost use Rattle.art_map.specs.PrefixEntries.{prefix_map, IsPrefixEntryOf};
 
-    /// The entry of a key that takes the place of all stored keys that overlap it: those with the same bytes, a front
-    /// of them, or these as a front. Where an equal key is stored, the one handed in is let go. It takes no memory.
+    /// Returns the entry of a key that goes in place of all stored keys that overlap it. These have the same bytes, or
+    /// a prefix of them, or begin with them. If an equal key is stored, the one that was passed is dropped. It
+    /// allocates nothing.
+    ///
+    /// ```
+    /// let mut map = TreeMap::new(rt.alloc());
+    /// map.try_insert(StrKey("abc"), 1)?;
+    /// map.prefix_entry(StrKey("ab")).or_insert(2)?;
+    /// assert!(rt; map.keys().eq([&StrKey("ab")]));
+    /// ```
     pub fn prefix_entry(&mut self, key: K) -> PrefixEntry<'_, K, V, PREFIX_LEN>
     where
         K: Drop,
@@ -50,7 +58,12 @@ impl<'a, K: AsBytes, V, const PREFIX_LEN: usize> PrefixEntry<'a, K, V, PREFIX_LE
     ghost use Rattle.art_map.specs.PrefixEntries.{lends_prefix, prefix_key, prefix_rests, prefix_value, shown_key};
     ghost use Rattle.art_map.specs.PrefixEntries.{IsPrefixFilled, IsPrefixWritten};
 
-    /// The stored key, or where it is not stored the one that would go in.
+    /// Returns the stored key, or the one that would be inserted if it is not stored.
+    ///
+    /// ```
+    /// let mut map: TreeMap<_, u32, 16> = TreeMap::new(rt.alloc());
+    /// assert_eq!(rt; *map.prefix_entry(StrKey("ab")).key(), StrKey("ab"));
+    /// ```
     pub fn key(&self) -> &K
         ensures { result.now ≡ prefix_key self.now }
     {
@@ -60,8 +73,14 @@ impl<'a, K: AsBytes, V, const PREFIX_LEN: usize> PrefixEntry<'a, K, V, PREFIX_LE
         }
     }
 
-    /// The stored key of the pair that an insertion would change or remove, if it is one alone; where no stored key
-    /// overlaps it, the one that would go in.
+    /// Returns the stored key of the pair that an insertion would change or remove, if it is one alone. If no stored
+    /// key overlaps the key, it returns the one that would be inserted.
+    ///
+    /// ```
+    /// let mut map = TreeMap::new(rt.alloc());
+    /// map.try_insert(StrKey("abc"), 1)?;
+    /// assert_eq!(rt; map.prefix_entry(StrKey("ab")).get_key(), Some(&StrKey("abc")));
+    /// ```
     pub fn get_key(&self) -> Option<&K>
         ensures { option_copied result ≡ shown_key self.now }
     {
@@ -71,11 +90,18 @@ impl<'a, K: AsBytes, V, const PREFIX_LEN: usize> PrefixEntry<'a, K, V, PREFIX_LE
         }
     }
 
-    /// The entry of the key with this value, which takes the place of the stored one, or is put in in the place of the
-    /// pairs that the key overlaps.
+    /// Replaces the stored value by this one, or inserts the key with it in place of the pairs that the key overlaps.
+    /// It returns the key's entry.
     ///
-    /// It is refused only where the key is not stored and there is no memory. Key and value are then handed back, and
-    /// the map is as it was.
+    /// Fails only if the key is not stored, and only if out of memory. The error returns key and value, and the map is
+    /// unchanged.
+    ///
+    /// ```
+    /// let mut map = TreeMap::new(rt.alloc());
+    /// map.try_insert(StrKey("abc"), 1)?;
+    /// assert_eq!(rt; *map.prefix_entry(StrKey("ab")).insert_entry(2)?.get(), 2);
+    /// assert_eq!(rt; map.len(), 1);
+    /// ```
     pub fn insert_entry(
         self,
         value: V,
@@ -94,10 +120,18 @@ impl<'a, K: AsBytes, V, const PREFIX_LEN: usize> PrefixEntry<'a, K, V, PREFIX_LE
         }
     }
 
-    /// The stored value, or where the key is not stored this one, which is put in in the place of the pairs that the
-    /// key overlaps. It is lent for writing as long as the map is lent.
+    /// Returns the stored value. If the key is not stored, it inserts this one in place of the pairs that the key
+    /// overlaps. The value is lent for writing as long as the map is lent.
     ///
-    /// It is refused as `insert_entry` is.
+    /// It fails as `insert_entry` does.
+    ///
+    /// ```
+    /// let mut map = TreeMap::new(rt.alloc());
+    /// map.try_insert(StrKey("ab"), 1)?;
+    /// assert_eq!(rt; *map.prefix_entry(StrKey("ab")).or_insert(2)?, 1);
+    /// assert_eq!(rt; *map.prefix_entry(StrKey("abc")).or_insert(2)?, 2);
+    /// assert!(rt; map.keys().eq([&StrKey("abc")]));
+    /// ```
     pub fn or_insert(self, default: V) -> Result<&'a mut V, InsertRefused<K, V>>
     where
         K: Drop,
@@ -116,7 +150,13 @@ impl<'a, K: AsBytes, V, const PREFIX_LEN: usize> PrefixEntry<'a, K, V, PREFIX_LE
         }
     }
 
-    /// As `or_insert`, with the default value of its type.
+    /// Does as `or_insert`, with the default value of its type.
+    ///
+    /// ```
+    /// let mut map: TreeMap<_, u32, 16> = TreeMap::new(rt.alloc());
+    /// *map.prefix_entry(StrKey("ab")).or_default()? += 1;
+    /// assert_eq!(rt; map.get(&StrKey("ab")), Some(&1));
+    /// ```
     pub fn or_default(self) -> Result<&'a mut V, InsertRefused<K, V>>
     where
         K: Drop,
@@ -135,8 +175,13 @@ impl<'a, K: AsBytes, V, const PREFIX_LEN: usize> PrefixEntry<'a, K, V, PREFIX_LE
         }
     }
 
-    /// As `or_insert`, with a value that `default` gives. It is called only where the key is not stored, and has to be
-    /// callable there.
+    /// Does as `or_insert`, with a value that `default` returns. It is called only if the key is not stored, and has to
+    /// be callable there.
+    ///
+    /// ```
+    /// let mut map = TreeMap::new(rt.alloc());
+    /// assert_eq!(rt; *map.prefix_entry(StrKey("ab")).or_insert_with(|| 3 * 7)?, 21);
+    /// ```
     pub fn or_insert_with<F: FnOnce() -> V>(
         self,
         default: F,
@@ -159,8 +204,13 @@ impl<'a, K: AsBytes, V, const PREFIX_LEN: usize> PrefixEntry<'a, K, V, PREFIX_LE
         }
     }
 
-    /// As `or_insert`, with a value that `default` gives for the key. It is called only where the key is not stored,
-    /// and has to be callable there.
+    /// Does as `or_insert`, with a value that `default` returns for the key. It is called only if the key is not
+    /// stored, and has to be callable there.
+    ///
+    /// ```
+    /// let mut map = TreeMap::new(rt.alloc());
+    /// assert_eq!(rt; *map.prefix_entry(StrKey("ab")).or_insert_with_key(|key| key.0.len())?, 2);
+    /// ```
     pub fn or_insert_with_key<F: FnOnce(&K) -> V>(
         self,
         default: F,
@@ -191,8 +241,14 @@ impl<'a, K: AsBytes, V, const PREFIX_LEN: usize> PrefixEntry<'a, K, V, PREFIX_LE
         }
     }
 
-    /// The entry of the key, which is put in with this value, in the place of the pairs that it overlaps, where it is
-    /// not stored. It is refused as `insert_entry` is.
+    /// Returns the key's entry. If the key is not stored, it is inserted with this value, in place of the pairs that it
+    /// overlaps. It fails as `insert_entry` does.
+    ///
+    /// ```
+    /// let mut map = TreeMap::new(rt.alloc());
+    /// let entry = map.prefix_entry(StrKey("ab")).or_insert_entry(1)?;
+    /// assert_eq!(rt; *entry.get(), 1);
+    /// ```
     pub fn or_insert_entry(
         self,
         default: V,
@@ -214,7 +270,13 @@ impl<'a, K: AsBytes, V, const PREFIX_LEN: usize> PrefixEntry<'a, K, V, PREFIX_LE
         }
     }
 
-    /// As `or_insert_entry`, with the default value of its type.
+    /// Does as `or_insert_entry`, with the default value of its type.
+    ///
+    /// ```
+    /// let mut map: TreeMap<_, u32, 16> = TreeMap::new(rt.alloc());
+    /// let entry = map.prefix_entry(StrKey("ab")).or_default_entry()?;
+    /// assert_eq!(rt; *entry.get(), 0);
+    /// ```
     pub fn or_default_entry(
         self,
     ) -> Result<OccupiedEntry<'a, K, V, PREFIX_LEN>, InsertRefused<K, V>>
@@ -235,8 +297,14 @@ impl<'a, K: AsBytes, V, const PREFIX_LEN: usize> PrefixEntry<'a, K, V, PREFIX_LE
         }
     }
 
-    /// As `or_insert_entry`, with a value that `default` gives. It is called only where the key is not stored, and has
-    /// to be callable there.
+    /// Does as `or_insert_entry`, with a value that `default` returns. It is called only if the key is not stored, and
+    /// has to be callable there.
+    ///
+    /// ```
+    /// let mut map = TreeMap::new(rt.alloc());
+    /// let entry = map.prefix_entry(StrKey("ab")).or_insert_with_entry(|| 3 * 7)?;
+    /// assert_eq!(rt; *entry.get(), 21);
+    /// ```
     pub fn or_insert_with_entry<F: FnOnce() -> V>(
         self,
         default: F,
@@ -259,8 +327,14 @@ impl<'a, K: AsBytes, V, const PREFIX_LEN: usize> PrefixEntry<'a, K, V, PREFIX_LE
         }
     }
 
-    /// As `or_insert_entry`, with a value that `default` gives for the key. It is called only where the key is not
+    /// Does as `or_insert_entry`, with a value that `default` returns for the key. It is called only if the key is not
     /// stored, and has to be callable there.
+    ///
+    /// ```
+    /// let mut map = TreeMap::new(rt.alloc());
+    /// let entry = map.prefix_entry(StrKey("ab")).or_insert_with_key_entry(|key| key.0.len())?;
+    /// assert_eq!(rt; *entry.get(), 2);
+    /// ```
     pub fn or_insert_with_key_entry<F: FnOnce(&K) -> V>(
         self,
         default: F,

@@ -18,7 +18,15 @@ impl<'a, K: AsBytes, V, const PREFIX_LEN: usize> PrefixOccupied<'a, K, V, PREFIX
     ghost use Rattle.art_map.specs.PrefixEntries.{prefix_key, prefix_pairs_with, prefix_rests, prefix_value};
     ghost use Rattle.art_map.specs.PrefixEntries.{Occupied, IsPrefixFilled, IsPrefixWritten};
 
-    /// The entry of the stored key, or that of a key in conflict with stored ones, in the same map.
+    /// Returns the entry of the stored key, or that of a key in conflict with stored ones, in the same map.
+    ///
+    /// ```
+    /// let mut map = TreeMap::new(rt.alloc());
+    /// map.try_insert(StrKey("ab"), 1)?;
+    /// if let PrefixEntry::Occupied(entry) = map.prefix_entry(StrKey("ab")) {
+    ///     assert!(rt; matches!(entry.kind(), PrefixOccupiedKind::Leaf(_)));
+    /// }
+    /// ```
     pub fn kind(self) -> PrefixOccupiedKind<'a, K, V, PREFIX_LEN>
         ensures same_map { (occupied_map result).ghost_name ≡ self.entry.map.ghost_name }
         ensures kind { result ≡ occupied_kind self.entry }
@@ -76,7 +84,15 @@ impl<'a, K: AsBytes, V, const PREFIX_LEN: usize> PrefixOccupied<'a, K, V, PREFIX
         Ok(OccupiedEntry::new(map, leaf))
     }
 
-    /// The stored key, or for `Inner` the one that would go in.
+    /// Returns the stored key, or for `Inner` the one that would be inserted.
+    ///
+    /// ```
+    /// let mut map = TreeMap::new(rt.alloc());
+    /// map.try_insert(StrKey("abc"), 1)?;
+    /// if let PrefixEntry::Occupied(entry) = map.prefix_entry(StrKey("ab")) {
+    ///     assert_eq!(rt; *entry.key(), StrKey("ab"));
+    /// }
+    /// ```
     pub fn key(&self) -> &K
         ensures { result.now ≡ prefix_key (Occupied self.now) }
     {
@@ -96,7 +112,15 @@ impl<'a, K: AsBytes, V, const PREFIX_LEN: usize> PrefixOccupied<'a, K, V, PREFIX
         }
     }
 
-    /// The value of the pair that an insertion would change or remove, if it is one alone.
+    /// Returns the value of the pair that an insertion would change or remove, if it is one alone.
+    ///
+    /// ```
+    /// let mut map = TreeMap::new(rt.alloc());
+    /// map.try_insert(StrKey("abc"), 1)?;
+    /// if let PrefixEntry::Occupied(entry) = map.prefix_entry(StrKey("ab")) {
+    ///     assert_eq!(rt; entry.get(), Some(&1));
+    /// }
+    /// ```
     pub fn get(&self) -> Option<&V>
         ensures { option_copied result ≡ option_value (lone_pair (occupied_kind self.now)) }
     {
@@ -104,7 +128,16 @@ impl<'a, K: AsBytes, V, const PREFIX_LEN: usize> PrefixOccupied<'a, K, V, PREFIX
         Some(self.map.pair_at(leaf).1)
     }
 
-    /// The value of the pair that an insertion would change or remove, for writing, if it is one alone.
+    /// Lends the value of the pair that an insertion would change or remove for writing, if it is one alone.
+    ///
+    /// ```
+    /// let mut map = TreeMap::new(rt.alloc());
+    /// map.try_insert(StrKey("abc"), 1)?;
+    /// if let PrefixEntry::Occupied(mut entry) = map.prefix_entry(StrKey("ab")) {
+    ///     entry.get_mut().into_iter().for_each(|value| *value = 7);
+    /// }
+    /// assert_eq!(rt; map.get(&StrKey("abc")), Some(&7));
+    /// ```
     pub fn get_mut(&mut self) -> Option<&mut V>
         ensures* writes_back { sem 𝓛 (lends_shown K.row V.row PREFIX_LEN K.AsBytes self.entry result) }
         ensures value { option_copied_mut result ≡ option_value (lone_pair (occupied_kind self.old)) }
@@ -125,7 +158,15 @@ impl<'a, K: AsBytes, V, const PREFIX_LEN: usize> PrefixOccupied<'a, K, V, PREFIX
         }
     }
 
-    /// The stored key of the pair that an insertion would change or remove, if it is one alone.
+    /// Returns the stored key of the pair that an insertion would change or remove, if it is one alone.
+    ///
+    /// ```
+    /// let mut map = TreeMap::new(rt.alloc());
+    /// map.try_insert(StrKey("abc"), 1)?;
+    /// if let PrefixEntry::Occupied(entry) = map.prefix_entry(StrKey("ab")) {
+    ///     assert_eq!(rt; entry.get_key(), Some(&StrKey("abc")));
+    /// }
+    /// ```
     pub fn get_key(&self) -> Option<&K>
         ensures { option_copied result ≡ option_key (lone_pair (occupied_kind self.now)) }
     {
@@ -133,11 +174,19 @@ impl<'a, K: AsBytes, V, const PREFIX_LEN: usize> PrefixOccupied<'a, K, V, PREFIX
         Some(self.map.pair_at(leaf).0)
     }
 
-    /// Makes this the value of the key, which for `Inner` is put in in the place of the pairs that it overlaps. The
+    /// Makes this the value of the key. For `Inner` the key is inserted, in place of the pairs that it overlaps. The
     /// value is lent for writing as long as the map is lent.
     ///
-    /// It is refused only for `Inner`, and only where there is no memory. Key and value are then handed back, and the
-    /// map is as it was.
+    /// Fails only for `Inner`, and only if out of memory. The error returns key and value, and the map is unchanged.
+    ///
+    /// ```
+    /// let mut map = TreeMap::new(rt.alloc());
+    /// map.try_insert(StrKey("abc"), 1)?;
+    /// if let PrefixEntry::Occupied(entry) = map.prefix_entry(StrKey("ab")) {
+    ///     assert_eq!(rt; *entry.insert(2)?, 2);
+    /// }
+    /// assert!(rt; map.keys().eq([&StrKey("ab")]));
+    /// ```
     pub fn insert(self, value: V) -> Result<&'a mut V, InsertRefused<K, V>>
     where
         K: Drop,
@@ -165,7 +214,15 @@ impl<'a, K: AsBytes, V, const PREFIX_LEN: usize> PrefixOccupied<'a, K, V, PREFIX
         }
     }
 
-    /// Makes this the value of the key, as `insert` does, and answers the key's entry.
+    /// Makes this the value of the key, as `insert` does, and returns the key's entry.
+    ///
+    /// ```
+    /// let mut map = TreeMap::new(rt.alloc());
+    /// map.try_insert(StrKey("abc"), 1)?;
+    /// if let PrefixEntry::Occupied(entry) = map.prefix_entry(StrKey("ab")) {
+    ///     assert_eq!(rt; *entry.insert_entry(2)?.key(), StrKey("ab"));
+    /// }
+    /// ```
     pub fn insert_entry(
         self,
         value: V,

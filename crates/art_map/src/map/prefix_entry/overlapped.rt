@@ -1,7 +1,8 @@
-//! The leaves of the pairs whose keys overlap a key, and the pair that is put in in their place.
+//! The leaves of the pairs whose keys overlap a key, and the pair that is inserted in their place.
 ghost use Rattle.std.specs.Prelude.{◌≡◌, length, option_map, IfOk, IsOk, OnErr, OnOk};
 ghost use Rattle.art_arena.specs.arena.Shapes.{key_of};
 ghost use Rattle.art_map.specs.Contents.{IsUntouched};
+ghost use Rattle.art_map.specs.LeafNames.{KeepsLeaves};
 ghost use Rattle.art_map.specs.Walked.{IsWalkOf};
 ghost use Rattle.art_operations.specs.Insertions.{HandsPairBack};
 ghost use Rattle.art_operations.specs.KeyedLists.{HasKey, overlapping};
@@ -27,7 +28,7 @@ pub(crate) struct Overwritten {
     pub(crate) count: usize,
 }
 
-// What a prefix insertion answers, without the pair that it may hold.
+// What a prefix insertion leaves, without the pair that it may hold.
 fn left_by<K, V>(put: &PrefixInsertResult<K, V>) -> Overwritten
     ensures root { result.root ≡ put.now.insert_result.new_root }
     ensures leaf { result.leaf ≡ put.now.insert_result.leaf_node_ptr }
@@ -40,7 +41,7 @@ fn left_by<K, V>(put: &PrefixInsertResult<K, V>) -> Overwritten
     }
 }
 
-// The same, and the pair that it may hold is let go.
+// What a prefix insertion leaves, as `left_by` tells. The pair that it may hold is dropped.
 fn told_of<K: Drop, V: Drop>(put: PrefixInsertResult<K, V>) -> Overwritten
     ensures root { result.root ≡ put.insert_result.new_root }
     ensures leaf { result.leaf ≡ put.insert_result.leaf_node_ptr }
@@ -53,8 +54,8 @@ impl<K: AsBytes, V, const PREFIX_LEN: usize> TreeMap<K, V, PREFIX_LEN> {
     ghost use Rattle.art_map.specs.Found.{HasPairAt, IsFound};
     ghost use Rattle.art_map.specs.Overlapped.{IsLoneAt, overlaps_query};
 
-    // The first and the last leaf of the pairs whose keys overlap these bytes. A key that is a front of them does so
-    // alone, and where there is none, those do that begin with them.
+    // The first and the last leaf of the pairs whose keys overlap these bytes. A key that is a prefix of them does so
+    // alone. If there is none, those do that begin with them.
     pub(crate) fn ends_over(&self, key: &[u8]) -> Option<(LeafPtr, LeafPtr)>
         ensures walk { IsWalkOf self.now.nodes result (overlapping (key_of K.bytes) key.now self.now.pairs) }
         ensures first { IsFound (overlaps_query K.bytes key.now) self.now (option_map (λ ends. ends.0) result) }
@@ -94,8 +95,8 @@ impl<K: AsBytes, V, const PREFIX_LEN: usize> TreeMap<K, V, PREFIX_LEN> {
         None
     }
 
-    // Puts a pair in, in the place of all whose keys overlap its key, and answers its leaf and how many they were. It
-    // is refused as `prefix_insert` is.
+    // Inserts a pair in place of all whose keys overlap its key, and returns its leaf and how many they were. It fails
+    // as `prefix_insert` does.
     pub(crate) fn prefix_put(
         &mut self,
         key: K,
@@ -109,6 +110,7 @@ impl<K: AsBytes, V, const PREFIX_LEN: usize> TreeMap<K, V, PREFIX_LEN> {
         ensures leaf { IfOk result (λ put. HasPairAt self.new put.leaf (key, value)) }
         ensures pairs { OnOk result (self.new.pairs ≡ with_pair_over K.bytes key value self.old.pairs) }
         ensures stored { HasKey (key_of K.bytes) (K.bytes key) self.old.pairs → IsOk result }
+        ensures names { OnOk result (KeepsLeaves K.bytes self.old self.new) }
         ensures err { OnErr result (self.new.pairs ≡ self.old.pairs) }
         ensures kept { OnErr result (IsUntouched self.old self.new) }
         ensures handed_back { HandsPairBack key value result }

@@ -1,4 +1,4 @@
-//! The bytes of a prefix, which only proofs read. They take no room, and what keeps them does nothing at run time.
+//! The bytes of a prefix, which only proofs read. They take no room, and keeping them does nothing at run time.
 ghost use Rattle.std.specs.Prelude.{◌≡◌, ℕ, List};
 ghost use Rattle.std.specs.Borrow.{ftrue};
 

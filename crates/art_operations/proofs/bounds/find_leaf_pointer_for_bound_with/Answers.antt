@@ -48,22 +48,22 @@ returns-else-is_start-3-clause-value g c = λ s stores linked.
 pub returns-then-is_start-2-clause-few : goal.returns-then-is_start-2-clause-few
 returns-then-is_start-2-clause-few g c = λ s stores longest short.
     subst (λ b. EndReads longest (bound_len (bound_map (λ key. key.now) b)) c.args.reader.now.count c.first_from.new.reader.count) (sym c.in-Included.is)
-    (end_reads longest (length c.in-Included.key.now) c.args.reader.now.count c.nearest_leaf-nearest.new.reader.count c.first_from.new.reader.count (c.nearest_leaf-nearest.ensures.few s stores longest short) c.first_from.ensures.one)
+    (end_reads longest (length c.in-Included.key.now) c.args.reader.now.count c.nearest_leaf-nearest.new.reader.count c.first_from.new.reader.count (c.nearest_leaf-nearest.ensures.few s stores longest short) (omega (arith, c.first_from.ensures.counts)))
 
 pub returns-else-is_start-2-clause-few : goal.returns-else-is_start-2-clause-few
 returns-else-is_start-2-clause-few g c = λ s stores longest short.
     subst (λ b. EndReads longest (bound_len (bound_map (λ key. key.now) b)) c.args.reader.now.count c.last_to.new.reader.count) (sym c.in-Included.is)
-    (end_reads longest (length c.in-Included.key.now) c.args.reader.now.count c.nearest_leaf-nearest.new.reader.count c.last_to.new.reader.count (c.nearest_leaf-nearest.ensures.few s stores longest short) c.last_to.ensures.one)
+    (end_reads longest (length c.in-Included.key.now) c.args.reader.now.count c.nearest_leaf-nearest.new.reader.count c.last_to.new.reader.count (c.nearest_leaf-nearest.ensures.few s stores longest short) (omega (arith, c.last_to.ensures.counts)))
 
 pub returns-then-is_start-3-clause-few : goal.returns-then-is_start-3-clause-few
 returns-then-is_start-3-clause-few g c = λ s stores longest short.
     subst (λ b. EndReads longest (bound_len (bound_map (λ key. key.now) b)) c.args.reader.now.count c.first_from-then-is_start-3.new.reader.count) (sym c.in-Excluded.is)
-    (end_reads longest (length c.in-Excluded.key.now) c.args.reader.now.count c.nearest_leaf-nearest-in-Excluded.new.reader.count c.first_from-then-is_start-3.new.reader.count (c.nearest_leaf-nearest-in-Excluded.ensures.few s stores longest short) c.first_from-then-is_start-3.ensures.one)
+    (end_reads longest (length c.in-Excluded.key.now) c.args.reader.now.count c.nearest_leaf-nearest-in-Excluded.new.reader.count c.first_from-then-is_start-3.new.reader.count (c.nearest_leaf-nearest-in-Excluded.ensures.few s stores longest short) (omega (arith, c.first_from-then-is_start-3.ensures.counts)))
 
 pub returns-else-is_start-3-clause-few : goal.returns-else-is_start-3-clause-few
 returns-else-is_start-3-clause-few g c = λ s stores longest short.
     subst (λ b. EndReads longest (bound_len (bound_map (λ key. key.now) b)) c.args.reader.now.count c.last_to-in-Excluded.new.reader.count) (sym c.in-Excluded.is)
-    (end_reads longest (length c.in-Excluded.key.now) c.args.reader.now.count c.nearest_leaf-nearest-in-Excluded.new.reader.count c.last_to-in-Excluded.new.reader.count (c.nearest_leaf-nearest-in-Excluded.ensures.few s stores longest short) c.last_to-in-Excluded.ensures.one)
+    (end_reads longest (length c.in-Excluded.key.now) c.args.reader.now.count c.nearest_leaf-nearest-in-Excluded.new.reader.count c.last_to-in-Excluded.new.reader.count (c.nearest_leaf-nearest-in-Excluded.ensures.few s stores longest short) (omega (arith, c.last_to-in-Excluded.ensures.counts)))
 
 pub first_from-requires : goal.first_from-requires
 first_from-requires g c =
@@ -94,3 +94,15 @@ pub returns-else-is_start-clause-few : goal.returns-else-is_start-clause-few
 returns-else-is_start-clause-few g c = λ s stores longest short.
     subst (λ b. EndReads longest (bound_len (bound_map (λ key. key.now) b)) c.args.reader.now.count c.maximum_with.new.reader.count) (sym c.in-Unbounded.is)
     (unbounded_reads longest c.args.reader.now.count c.maximum_with.new.reader.count (c.maximum_with.ensures.few [] s stores longest short))
+
+pub returns-then-is_start-2-clause-least : goal.returns-then-is_start-2-clause-least
+returns-then-is_start-2-clause-least g c = omega (arith, c.nearest_leaf-nearest.ensures.least, c.first_from.ensures.counts)
+
+pub returns-else-is_start-2-clause-least : goal.returns-else-is_start-2-clause-least
+returns-else-is_start-2-clause-least g c = omega (arith, c.nearest_leaf-nearest.ensures.least, c.last_to.ensures.counts)
+
+pub returns-then-is_start-3-clause-least : goal.returns-then-is_start-3-clause-least
+returns-then-is_start-3-clause-least g c = omega (arith, c.nearest_leaf-nearest-in-Excluded.ensures.least, c.first_from-then-is_start-3.ensures.counts)
+
+pub returns-else-is_start-3-clause-least : goal.returns-else-is_start-3-clause-least
+returns-else-is_start-3-clause-least g c = omega (arith, c.nearest_leaf-nearest-in-Excluded.ensures.least, c.last_to-in-Excluded.ensures.counts)

@@ -50,3 +50,6 @@ returns-in-Some-clause-few g c = λ s stores longest short.
 pub returns-in-None-clause-few : goal.returns-in-None-clause-few
 returns-in-None-clause-few g c = λ s stores longest short.
     part_reads longest c.args.prefix.now c.args.reader.now.count c.find_insert_point_with.new.reader.count c.find_insert_point_with.new.reader.count (c.in-Ok.ensures.few s stores longest short) (omega arith)
+
+pub returns-in-Err-clause-least : goal.returns-in-Err-clause-least
+returns-in-Err-clause-least g c = omega (arith, c.in-Err.ensures.least, c.segment_at.ensures.least)

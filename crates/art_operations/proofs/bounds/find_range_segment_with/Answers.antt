@@ -76,3 +76,15 @@ pub returns-in-None-find_leaf_pointer_for_bound_with-clause-few : goal.returns-i
 returns-in-None-find_leaf_pointer_for_bound_with-clause-few g c = λ s stores longest short most within within_too.
     both_read longest (bound_len (bound_map (λ key. key.now) c.args.start)) (bound_len (bound_map (λ key. key.now) c.args.end)) most c.args.reader.now.count c.find_leaf_pointer_for_bound_with.new.reader.count c.visit_leaf.new.self.count _ (c.in-Some.ensures.few s stores longest short) within (omega (arith, c.visit_leaf.ensures.counts))
     (c.in-None-find_leaf_pointer_for_bound_with.ensures.few s (subst (λ a. Stores g.K.AsBytes.bytes g.row.PREFIX_LEN a c.args.root s) (sym (c.visit_leaf.ensures.kept ∙ c.in-Some.ensures.kept)) stores) longest short) within_too
+
+pub returns-in-None-clause-least : goal.returns-in-None-clause-least
+returns-in-None-clause-least g c = omega (arith, c.in-None.ensures.least)
+
+pub returns-then-is_past-clause-least : goal.returns-then-is_past-clause-least
+returns-then-is_past-clause-least g c = omega (arith, c.in-Some.ensures.least, c.visit_leaf.ensures.counts)
+
+pub returns-in-Some-find_leaf_pointer_for_bound_with-clause-least : goal.returns-in-Some-find_leaf_pointer_for_bound_with-clause-least
+returns-in-Some-find_leaf_pointer_for_bound_with-clause-least g c = omega (arith, c.in-Some.ensures.least, c.visit_leaf.ensures.counts, c.in-Some-find_leaf_pointer_for_bound_with.ensures.least)
+
+pub returns-in-None-find_leaf_pointer_for_bound_with-clause-least : goal.returns-in-None-find_leaf_pointer_for_bound_with-clause-least
+returns-in-None-find_leaf_pointer_for_bound_with-clause-least g c = omega (arith, c.in-Some.ensures.least, c.visit_leaf.ensures.counts, c.in-None-find_leaf_pointer_for_bound_with.ensures.least)

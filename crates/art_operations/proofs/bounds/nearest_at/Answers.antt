@@ -84,3 +84,9 @@ returns-in-IntoExisting-clause-few g c = λ s stores at longest short.
     let sub = point_subtree g.K.AsBytes.bytes g.row.PREFIX_LEN c.args.reader.now.arena.now c.args.key.now c.args.root c.in-IntoExisting.inner_node_ptr s c.args.point stores at (ap name_of meets.2) in
     c.nearest_child.ensures.few (path_to at.ctx) meets.0 meets.1 (subst (IsSubtree g.K.AsBytes.bytes g.row.PREFIX_LEN (node_at c.args.reader.now.arena.now) c.in-IntoExisting.inner_node_ptr (path_to at.ctx)) meets.2 sub) meets.3
     longest (subst (λ t. KeysWithin g.K.AsBytes.bytes longest (leaves t)) meets.2 (part_within g.K.AsBytes.bytes longest s at.ctx at.part at.toward.place.is short))
+
+pub returns-in-Exact-clause-least : goal.returns-in-Exact-clause-least
+returns-in-Exact-clause-least g c = omega (arith, c.visit_leaf.ensures.counts)
+
+pub returns-in-SplitLeaf-clause-least : goal.returns-in-SplitLeaf-clause-least
+returns-in-SplitLeaf-clause-least g c = omega (arith, c.visit_leaf-in-SplitLeaf.ensures.counts)

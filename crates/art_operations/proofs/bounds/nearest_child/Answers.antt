@@ -47,3 +47,9 @@ pub maximum_with-requires : goal.maximum_with-requires
 maximum_with-requires g c =
     let r = c.requires in
     (omega arith, (r.0, inner_at c.args.node r.1 r.2, subst (λ a. IsSubtree g.K.AsBytes.bytes g.row.PREFIX_LEN (node_at a) c.args.node r.0 (inner_at c.args.node r.1 r.2)) (sym c.visit_inner.ensures.kept) r.3))
+
+pub returns-in-Some-clause-least : goal.returns-in-Some-clause-least
+returns-in-Some-clause-least g c = omega (arith, c.minimum_with.ensures.least, c.visit_inner.ensures.counts)
+
+pub returns-in-None-clause-least : goal.returns-in-None-clause-least
+returns-in-None-clause-least g c = omega (arith, c.maximum_with.ensures.least, c.visit_inner.ensures.counts)

@@ -63,3 +63,9 @@ returns-in-Ok-clause-few g c = λ s stores longest short.
     let few = c.nearest_at.ensures.few s (subst (λ a. Stores g.K.AsBytes.bytes g.row.PREFIX_LEN a c.args.root s) (sym c.in-Ok.ensures.kept) stores) (c.in-Ok.ensures.answer s stores).0 longest short in
     let place = c.in-Ok.ensures.few s stores longest short in
     omega (arith, few, place)
+
+pub returns-in-Err-clause-least : goal.returns-in-Err-clause-least
+returns-in-Err-clause-least g c = omega (arith, c.in-Err.ensures.least, c.end_leaf_with-first.ensures.least)
+
+pub returns-in-Ok-clause-least : goal.returns-in-Ok-clause-least
+returns-in-Ok-clause-least g c = omega (arith, c.in-Ok.ensures.least, c.nearest_at.ensures.least)

@@ -49,3 +49,6 @@ returns-then-starts_with-clause-all g c = λ path s sub conflicts.
     let begins = begins_of c.starts_with.result _ (g.K.AsBytes.bytes first.first.key) _ c.args.prefix.now stored refl c.starts_with.ensures.value c.if-starts_with.true in
     let all = begin_all g.K.AsBytes.bytes c.args.prefix.now first.first first.others (subst (AllConflict g.K.AsBytes.bytes c.args.prefix.now) first.are conflicts) first.before begins in
     ap (passing g.K.AsBytes.bytes (λ k. begins_with c.args.prefix.now k)) first.are ∙ all ∙ sym first.are
+
+pub returns-then-starts_with-clause-least : goal.returns-then-starts_with-clause-least
+returns-then-starts_with-clause-least g c = omega (arith, c.end_leaf_with-first.ensures.least, c.maximum_with.ensures.least)

@@ -8,6 +8,7 @@ use Rattle.art_arena.specs.arena.Stores.{Stores, StoresAt}
 use Rattle.art_bytes.specs.Keys.{BeginsWith}
 use Rattle.art_operations.specs.inner.Ways.{IsWay, point_at}
 use Rattle.art_operations.proofs.HeldPairs.{put-at, some-tree, stored-exact}
+use Rattle.art_operations.proofs.LeafNames.{inserted-names}
 use Rattle.art_operations.proofs.NewNodes.{fewer}
 use Rattle.art_operations.proofs.Points.{way_at_depth}
 use Rattle.art_operations.proofs.StopPairs.{met-at, met-conflict, not-stored-there, something-met}
@@ -78,3 +79,11 @@ returns-in-Err-insert_at_stop-clause-stored g c = λ pairs rest has stored.
     let f = met-at g.K.AsBytes.bytes g.row.PREFIX_LEN c.args.arena.now c.args.root c.in-Some.top c.in-Some.is (g.K.AsBytes.bytes c.args.key) c.stop_of-stop.result c.way_at-way.result (on g (goal.at.returns-in-Err-insert_at_stop-clause-stored g c).After-way_at-way) (ends g (goal.at.returns-in-Err-insert_at_stop-clause-stored g c).After-way_at-way) pairs rest has m.0 m.1 in
     let exact = stored-exact g.K.AsBytes.bytes g.row.PREFIX_LEN c.args.arena.now (point_at c.in-Some.top c.stop_of-stop.result m.0) (g.K.AsBytes.bytes c.args.key) pairs f.0 stored in
     c.in-Err-insert_at_stop.ensures.exact exact.0 (m.1 ∙ ap Some exact.1)
+
+pub returns-in-Ok-insert_at_stop-clause-names : goal.returns-in-Ok-insert_at_stop-clause-names
+returns-in-Ok-insert_at_stop-clause-names g c =
+    let rest = c.requires.1 in
+    let m = something-met c.stop_of-stop.result.node c.way_at-way.result (λ e. let t = c.is_conflict.ensures.1 e in let f = c.if-is_conflict.false in absurd (cc)) in
+    let f = met-at g.K.AsBytes.bytes g.row.PREFIX_LEN c.args.arena.now c.args.root c.in-Some.top c.in-Some.is (g.K.AsBytes.bytes c.args.key) c.stop_of-stop.result c.way_at-way.result (on g (goal.at.returns-in-Ok-insert_at_stop-clause-names g c).After-way_at-way) (ends g (goal.at.returns-in-Ok-insert_at_stop-clause-names g c).After-way_at-way) c.requires.0 rest c.requires.2 m.0 m.1 in
+    inserted-names g.K.AsBytes.bytes g.row.PREFIX_LEN c.args.arena.now c.insert_at_stop.new.arena c.in-Some.top rest f.0.shape f.0.is_tree (c.in-Ok-insert_at_stop.ensures.others m.0 m.1 f.0.shape rest f.0.is_tree f.0.place)
+    (steps_of c.stop_of-stop.result.path) c.args.key c.args.value c.in-Ok-insert_at_stop.put (c.in-Ok-insert_at_stop.ensures.ok m.0 m.1 f.0.shape rest f.0.is_tree f.0.place)

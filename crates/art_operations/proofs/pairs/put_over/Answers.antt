@@ -1,6 +1,7 @@
 use Rattle.std.proofs.Common.{◌+◌, subst, arith}
+use Rattle.art_operations.specs.LeafNames.{KeepsLeavesOf}
 use Rattle.art_operations.specs.Overwrites.{steps_at}
-use Rattle.art_operations.specs.Pairs.{CanPutOverBeside, HasPrefixPointBeside}
+use Rattle.art_operations.specs.Pairs.{CanPutOverBeside, HasPrefixPointBeside, with_pair_over}
 use Rattle.art_operations.proofs.NewNodes.{fewer}
 use Rattle.art_operations.proofs.PutOver.{none-removed, put-over-at, stored-over}
 use Rattle.art_operations.proofs.Results.{map_ok}
@@ -41,3 +42,12 @@ returns-in_ok-put_first-in-None-clause-ok g c = λ pairs rest can.
     let none = rw c.in-None.is at can in
     let put = c.in_ok-put_first-in-None.ensures.ok rest none.1 in
     rw none.0 (record { has = put.has; removed = none-removed _ put.old; leaf = put.leaf })
+
+pub returns-in-Some-clause-names : goal.returns-in-Some-clause-names
+returns-in-Some-clause-names g c = map_ok c.apply.result _ _ c.apply.ensures.names (λ put keeps. λ pairs rest can.
+    let bytes = g.K.AsBytes.bytes in
+    let has : HasPrefixPointBeside bytes g.row.PREFIX_LEN c.args.arena.now rest c.in-Some.over (bytes c.args.key) pairs = subst (λ p. CanPutOverBeside bytes g.row.PREFIX_LEN c.args.arena.now rest p (bytes c.args.key) pairs) c.in-Some.is can in
+    subst (λ ps. KeepsLeavesOf bytes (with_pair_over bytes c.args.key c.args.value ps) c.args.arena.now c.apply.new.arena) has.pairs_are (keeps has.shape rest has.is_tree has.place))
+
+pub returns-in_ok-put_first-in-None-clause-names : goal.returns-in_ok-put_first-in-None-clause-names
+returns-in_ok-put_first-in-None-clause-names g c = λ pairs rest can slot key has still. c.in_ok-put_first-in-None.ensures.names slot key has

@@ -2,8 +2,9 @@ use Rattle.std.proofs.Common.{◌+◌, subst, arith}
 use Rattle.art_arena.specs.arena.Steps.{steps_of}
 use Rattle.art_operations.specs.Pairs.{CanPutBeside, HasPointBeside}
 use Rattle.art_operations.proofs.HeldPairs.{put-at, stored-exact}
+use Rattle.art_operations.proofs.LeafNames.{inserted-names}
 use Rattle.art_operations.proofs.NewNodes.{fewer}
-use Rattle.art_operations.proofs.Results.{map_ok}
+use Rattle.art_operations.proofs.Results.{both_ok, map_ok}
 use Rattle.art_operations.proofs.pairs.put_pair.Goals as goal
 
 pub apply-requires : goal.apply-requires
@@ -40,3 +41,10 @@ returns-in-None-clause-others g c = map_ok c.put_first.result _ _ c.put_first.en
 
 pub returns-in-None-clause-room : goal.returns-in-None-clause-room
 returns-in-None-clause-room g c = λ n room. c.put_first.ensures.room n (fewer c.args.arena.now (n + 1) (n + 2) (omega arith) room)
+
+pub returns-in-Some-clause-names : goal.returns-in-Some-clause-names
+returns-in-Some-clause-names g c =
+    let bytes = g.K.AsBytes.bytes in
+    let has : HasPointBeside bytes g.row.PREFIX_LEN c.args.arena.now c.requires.1 c.in-Some.point (bytes c.args.key) c.requires.0 = subst (λ p. CanPutBeside bytes g.row.PREFIX_LEN c.args.arena.now c.requires.1 p (bytes c.args.key) c.requires.0) c.in-Some.is c.requires.2 in
+    both_ok c.apply.result _ _ _ c.apply.ensures.ok c.apply.ensures.others (λ put inserted kept.
+    inserted-names bytes g.row.PREFIX_LEN c.args.arena.now c.apply.new.arena c.in-Some.point.root c.requires.1 has.shape has.is_tree (kept has.shape c.requires.1 has.is_tree has.place) (steps_of c.in-Some.point.path) c.args.key c.args.value put (inserted has.shape c.requires.1 has.is_tree has.place))

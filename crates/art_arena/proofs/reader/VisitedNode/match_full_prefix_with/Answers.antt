@@ -44,3 +44,13 @@ pub returns-clause-few : goal.returns-clause-few
 returns-clause-few g c = λ root path s there at.
     let d = (goal.at.returns-clause-few g c).After-inner-inner in
     c.full_prefix_of.ensures.few root path s (is_read g d root path s there at)
+
+pub returns-then-starts_with-clause-lent : goal.returns-then-starts_with-clause-lent
+returns-then-starts_with-clause-lent g c = λ root path s there at.
+    let d = (goal.at.returns-then-starts_with-clause-lent g c).After-inner-inner in
+    c.full_prefix_of.ensures.lent root path s (is_read g d root path s there at)
+
+pub returns-clause-lent : goal.returns-clause-lent
+returns-clause-lent g c = λ root path s there at.
+    let d = (goal.at.returns-clause-lent g c).After-inner-inner in
+    c.full_prefix_of.ensures.lent root path s (is_read g d root path s there at)

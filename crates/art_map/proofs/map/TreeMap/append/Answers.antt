@@ -1,5 +1,7 @@
 use Rattle.std.proofs.Common.{[], refl, sym, ap, subst, length, ◌∙◌, ◌*◌, arith}
 use Rattle.art_arena.specs.arena.Arena.{HasRoom}
+use Rattle.art_arena.specs.tree.Changes.{IsIn}
+use Rattle.art_operations.proofs.LeafNames.{same-names}
 use Rattle.art_map.specs.Asked.{with_pairs_put}
 use Rattle.art_map.proofs.Asks.{none-left}
 use Rattle.art_map.proofs.Puts.{put-behind}
@@ -19,3 +21,13 @@ put_pairs-requires g c =
         (c.if-not-nodes_fit.ensures.0 refl, subst (λ n. HasRoom c.reserve_insertions.new.self.nodes (2 * n)) (c.len.ensures ∙ ap length (sym all)) c.in_ok-reserve_insertions.ensures.room),
       ),
     )
+
+pub returns-then-is_empty-2-clause-names : goal.returns-then-is_empty-2-clause-names
+returns-then-is_empty-2-clause-names g c = λ slot key has.
+    let listed = c.name_leaves.ensures.listed slot key has in
+    let none = subst (IsIn listed.0) (none-left c.args.self.now.pairs c.is_empty-2.ensures c.if-is_empty-2.true) listed.1 in
+    absurd none
+
+pub returns-clause-names : goal.returns-clause-names
+returns-clause-names g c = λ slot key has.
+    c.put_pairs.ensures.names slot key (same-names g.K.AsBytes.bytes c.args.self.now.nodes c.reserve_insertions.new.self.nodes c.reserve_insertions.ensures.kept.0 slot key has)

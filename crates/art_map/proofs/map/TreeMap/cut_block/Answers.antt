@@ -1,7 +1,7 @@
-use Rattle.std.proofs.Common.{length, sym, ap, ◌∙◌}
+use Rattle.std.proofs.Common.{arith, length, sym, ap, ◌∙◌}
 use Rattle.art_arena.specs.arena.Shapes.{key_of}
 use Rattle.art_map.specs.PrefixBlocks.{Block}
-use Rattle.art_map.proofs.PrefixBlocks.{all-left, none-ready}
+use Rattle.art_map.proofs.PrefixBlocks.{all-left, none-ready, none-visits}
 use Rattle.art_map.proofs.map.TreeMap.cut_block.Goals as goal
 
 pub returns-in-None-clause-pairs : goal.returns-in-None-clause-pairs
@@ -11,3 +11,8 @@ returns-in-None-clause-pairs g c = λ front known.
 pub returns-in-None-clause-count : goal.returns-in-None-clause-count
 returns-in-None-clause-count g c = λ front known.
     sym (ap length (none-ready g.K.AsBytes.bytes g.row.PREFIX_LEN c.args.self.now front c.args.block.part (ap (λ (b : Block). b.part) (sym c.block.view_is) ∙ c.in-None.is) known))
+
+pub returns-in-None-clause-visits : goal.returns-in-None-clause-visits
+returns-in-None-clause-visits g c = λ front known.
+    ap (λ (b : Block). b.reads) c.block.view_is
+    ∙ none-visits g.K.AsBytes.bytes front c.args.self.now.pairs (none-ready g.K.AsBytes.bytes g.row.PREFIX_LEN c.args.self.now front c.args.block.part (ap (λ (b : Block). b.part) (sym c.block.view_is) ∙ c.in-None.is) known) c.args.block.reads (omega arith)

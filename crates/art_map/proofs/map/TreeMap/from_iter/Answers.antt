@@ -8,7 +8,7 @@ use Rattle.art_map.proofs.map.TreeMap.from_iter.Goals as goal
 pub returns-in_err-extend : goal.returns-in_err-extend
 returns-in_err-extend g c =
     let it = c.into_iter-pairs in
-    let ran = c.in_err-extend.ensures in
+    let ran = c.in_err-extend.ensures.pairs in
     made-refused g.K.AsBytes.bytes (λ pair. pair) g.U.IntoIterator.into_iter_gives g.U.IntoIter.Iterator.next_gives c.args.iter it.result ran.1 c.in_err-extend.field-0.0 c.from_residual.result it.ensures.into_iter_gives
     (subst (λ s. HandsNextBack g.K.AsBytes.bytes (λ pair. pair) g.U.IntoIterator.into_iter_gives g.U.IntoIter.Iterator.next_gives s ran.1 c.in_err-extend.field-0.0) ran.2 ran.4)
     c.from_residual.ensures.1
@@ -16,7 +16,7 @@ returns-in_err-extend g c =
 pub returns : goal.returns
 returns g c =
     let it = c.into_iter-pairs in
-    let ran = c.in_ok-extend.ensures in (
+    let ran = c.in_ok-extend.ensures.pairs in (
       it.result,
       ran.1,
       it.ensures.into_iter_gives,

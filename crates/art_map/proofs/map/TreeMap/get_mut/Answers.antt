@@ -1,10 +1,11 @@
 use Rattle.std.proofs.Common.{refl, sym}
+use Rattle.art_map.proofs.LeafNames.{written-all}
 use Rattle.art_map.proofs.LookedUp.{found-value, lookup-value, set-none}
 use Rattle.art_map.proofs.map.TreeMap.get_mut.Goals as goal
 
 pub returns-in-Some : goal.returns-in-Some
 returns-in-Some g c = (
-  (refl, (λ w. rw (← c.as_bytes.ensures.value) (c.in-Some.ensures.3 w)), refl),
+  (refl, (λ w. (rw (← c.as_bytes.ensures.value) (c.in-Some.ensures.3 w), written-all g.K.AsBytes.bytes c.args.self.now c.in-Some.leaf (c.pair_mut_at-value.result.0.now, c.pair_mut_at-value.result.1.now) c.pair_mut_at-value.ensures.value w)), refl),
   record {
     writes_back = tt;
     value = rw (← c.as_bytes.ensures.value) (found-value _ c.args.self.now c.in-Some.leaf (c.pair_mut_at-value.result.0.now, c.pair_mut_at-value.result.1.now) c.in-Some.ensures c.pair_mut_at-value.ensures.value);
@@ -13,7 +14,7 @@ returns-in-Some g c = (
 
 pub returns-in-None : goal.returns-in-None
 returns-in-None g c = (
-  (refl, (λ w. rw (← c.as_bytes.ensures.value) (sym (set-none _ c.args.self.now.pairs w c.in-None.ensures))), refl),
+  (refl, (λ w. (rw (← c.as_bytes.ensures.value) (sym (set-none _ c.args.self.now.pairs w c.in-None.ensures)), λ slot key has. has)), refl),
   record {
     writes_back = tt;
     value = rw (← c.as_bytes.ensures.value) (sym (lookup-value _ c.args.self.now.pairs _ c.in-None.ensures));

@@ -1,6 +1,8 @@
 use Rattle.std.proofs.Common.{[], subst}
 use Rattle.art_operations.specs.Pairs.{HasTakenEnd}
 use Rattle.art_map.proofs.Maps.{end-map, end-pairs, end-none-map, end-none-pairs, same-map, same-pairs}
+use Rattle.art_map.specs.Contents.{contents}
+use Rattle.art_map.proofs.LeafNames.{kept-names, named}
 use Rattle.art_map.proofs.map.TreeMap.pop.Goals as goal
 
 pub invariant_of-self : goal.invariant_of-self
@@ -39,3 +41,31 @@ returns-in-Ok-Some-clause-room g c = rw (← c.self.view_is) c.take_end.ensures.
 
 pub returns-in-Ok-None-clause-room : goal.returns-in-Ok-None-clause-room
 returns-in-Ok-None-clause-room g c = rw (← c.self.view_is) c.take_end.ensures.room
+
+pub returns-in-Ok-Some-clause-none_new : goal.returns-in-Ok-Some-clause-none_new
+returns-in-Ok-Some-clause-none_new g c = rw (← c.self.view_is) c.in-Ok-Some.ensures.names
+
+pub returns-in-Ok-None-clause-none_new : goal.returns-in-Ok-None-clause-none_new
+returns-in-Ok-None-clause-none_new g c = rw (← c.self.view_is) c.in-Ok-None.ensures.names
+
+pub returns-in-Ok-Some-clause-names : goal.returns-in-Ok-Some-clause-names
+returns-in-Ok-Some-clause-names g c =
+    let bytes = g.K.AsBytes.bytes in
+    let is_key = g.K.AsBytes.is_key in
+    let P = g.row.PREFIX_LEN in
+    let old = c.self.inside.arena in
+    let root = c.self.inside.root in
+    let new = c.take_end.new.arena in
+    let map = end-map bytes is_key P old root c.self.invariant new c.args.end c.in-Ok-Some.deleted (subst (HasTakenEnd bytes P new root c.args.end _) c.in-Ok-Some.field-0-is (c.in-Ok-Some.ensures.ok _ [] c.self.invariant.has)) in
+    rw (← c.self.view_is) (kept-names bytes (contents old root) (contents new c.in-Ok-Some.deleted.new_root) (named bytes P old is_key root c.self.invariant) (named bytes P new is_key c.in-Ok-Some.deleted.new_root map) c.in-Ok-Some.ensures.names)
+
+pub returns-in-Ok-None-clause-names : goal.returns-in-Ok-None-clause-names
+returns-in-Ok-None-clause-names g c =
+    let bytes = g.K.AsBytes.bytes in
+    let is_key = g.K.AsBytes.is_key in
+    let P = g.row.PREFIX_LEN in
+    let old = c.self.inside.arena in
+    let root = c.self.inside.root in
+    let new = c.take_end.new.arena in
+    let map = end-none-map bytes is_key P old root c.self.invariant new c.args.end (subst (HasTakenEnd bytes P new root c.args.end _) c.in-Ok-None.field-0-is (c.in-Ok-None.ensures.ok _ [] c.self.invariant.has)) in
+    rw (← c.self.view_is) (kept-names bytes (contents old root) (contents new root) (named bytes P old is_key root c.self.invariant) (named bytes P new is_key root map) c.in-Ok-None.ensures.names)

@@ -1,4 +1,5 @@
-use Rattle.std.proofs.Common.{[], subst, arith, ◌∙◌}
+use Rattle.std.proofs.Common.{[], sym, subst, arith, ◌∙◌}
+use Rattle.art_operations.specs.LeafNames.{KeepsLeavesOf}
 use Rattle.art_operations.specs.Pairs.{CanPutOver}
 use Rattle.art_map.specs.Contents.{pairs_from}
 use Rattle.art_map.proofs.Maps.{over-count, over-map, over-pairs, same-map, same-pairs}
@@ -43,3 +44,12 @@ pub returns-in-Ok-clause-leaf : goal.returns-in-Ok-clause-leaf
 returns-in-Ok-clause-leaf g c =
     rw c.told_of-left.ensures.leaf
     (c.in-Ok.ensures.ok (pairs_from c.self.inside.arena c.self.inside.root) [] (subst (λ k. CanPutOver g.K.AsBytes.bytes g.row.PREFIX_LEN c.self.inside.arena c.find_place_over-place.result k (pairs_from c.self.inside.arena c.self.inside.root)) c.as_bytes.ensures.value (c.find_place_over-place.ensures (pairs_from c.self.inside.arena c.self.inside.root) [] c.self.invariant.has))).leaf
+
+pub returns-in-Ok-clause-names : goal.returns-in-Ok-clause-names
+returns-in-Ok-clause-names g c =
+    let bytes = g.K.AsBytes.bytes in
+    let arena = c.self.inside.arena in
+    let pairs = pairs_from arena c.self.inside.root in
+    let can = subst (λ k. CanPutOver bytes g.row.PREFIX_LEN arena c.find_place_over-place.result k pairs) c.as_bytes.ensures.value (c.find_place_over-place.ensures pairs [] c.self.invariant.has) in
+    let has = over-pairs bytes g.K.AsBytes.is_key g.row.PREFIX_LEN arena c.self.inside.root c.self.invariant c.put_over.new.arena c.args.key c.args.value c.in-Ok.put (c.in-Ok.ensures.ok pairs [] can) in
+    rw (← c.self.view_is, c.told_of-left.ensures.root) (subst (λ ps. KeepsLeavesOf bytes ps arena c.put_over.new.arena) (sym has) (c.in-Ok.ensures.names pairs [] can))

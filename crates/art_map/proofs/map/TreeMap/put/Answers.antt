@@ -45,3 +45,6 @@ returns-in-Ok-clause-room g c = rw (← c.self.view_is) c.insert_pair.ensures.ro
 
 pub returns-in-Err-clause-room : goal.returns-in-Err-clause-room
 returns-in-Err-clause-room g c = rw (← c.self.view_is) c.insert_pair.ensures.room
+
+pub returns-in-Ok-clause-names : goal.returns-in-Ok-clause-names
+returns-in-Ok-clause-names g c = rw (← c.self.view_is) c.in-Ok.ensures.names

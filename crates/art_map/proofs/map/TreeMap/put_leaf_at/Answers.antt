@@ -28,3 +28,6 @@ returns-in-Err-clause-err g c =
 
 pub returns-in-Ok-clause-leaf : goal.returns-in-Ok-clause-leaf
 returns-in-Ok-clause-leaf g c = (c.in-Ok.ensures.ok _ [] (rw (← c.self.view_is) at c.requires)).leaf
+
+pub returns-in-Ok-clause-names : goal.returns-in-Ok-clause-names
+returns-in-Ok-clause-names g c = rw (← c.self.view_is) c.in-Ok.ensures.names

@@ -1,7 +1,8 @@
-use Rattle.std.proofs.Common.{sym, ap, subst, length, ◌∙◌, ◌*◌, arith}
+use Rattle.std.proofs.Common.{refl, sym, ap, subst, length, ◌∙◌, ◌*◌, arith}
 use Rattle.art_arena.specs.arena.Arena.{HasRoom}
 use Rattle.art_operations.proofs.NewNodes.{fewer}
 use Rattle.art_map.specs.Asked.{with_pairs_put}
+use Rattle.art_map.proofs.LeafNames.{then-names}
 use Rattle.art_map.proofs.map.TreeMap.put_pairs.Goals as goal
 
 pub unreachable-requires : goal.unreachable-requires
@@ -14,6 +15,7 @@ pub loop-key-preserved : goal.loop-key-preserved
 loop-key-preserved g c =
     let long = ap length c.in-Some.ensures.steps in record {
       put = ap (with_pairs_put g.K.AsBytes.bytes c.next.new.self) c.in-Ok.ensures.pairs ∙ ap (λ ps. with_pairs_put g.K.AsBytes.bytes ps c.loop-key.self.pairs) (sym c.in-Some.ensures.steps) ∙ c.loop-key.invariant.put;
+      names = then-names g.K.AsBytes.bytes c.replace_entry.new.self.nodes c.loop-key.self.nodes c.args.self.now.nodes c.in-Ok.ensures.names c.loop-key.invariant.names;
       room = c.replace_entry.ensures.room _ (subst (HasRoom c.loop-key.self.nodes) (omega (arith, long)) c.loop-key.invariant.room);
     }
 
@@ -21,5 +23,9 @@ pub loop-key-preserved-in-Ok : goal.loop-key-preserved-in-Ok
 loop-key-preserved-in-Ok g c =
     let long = ap length c.in-Some.ensures.steps in record {
       put = ap (with_pairs_put g.K.AsBytes.bytes c.next.new.self) c.in-Ok.ensures.pairs ∙ ap (λ ps. with_pairs_put g.K.AsBytes.bytes ps c.loop-key.self.pairs) (sym c.in-Some.ensures.steps) ∙ c.loop-key.invariant.put;
+      names = then-names g.K.AsBytes.bytes c.replace_entry.new.self.nodes c.loop-key.self.nodes c.args.self.now.nodes c.in-Ok.ensures.names c.loop-key.invariant.names;
       room = c.replace_entry.ensures.room _ (subst (HasRoom c.loop-key.self.nodes) (omega (arith, long)) c.loop-key.invariant.room);
     }
+
+pub loop-key-init : goal.loop-key-init
+loop-key-init g c = record { put = refl; names = λ slot key has. has; room = c.requires.room }

@@ -1,11 +1,13 @@
 use Rattle.std.proofs.Common.{◌≡◌, ◌*◌, length}
 use Rattle.art_arena.specs.arena.Arena.{HasRoom}
 use Rattle.art_map.specs.Asked.{with_pairs_put}
+use Rattle.art_map.specs.LeafNames.{KeepsAllLeaves}
 use Rattle.art_map.proofs.map.TreeMap.put_pairs.Given as goal
 
 abbrev pub invariant-loop-key : goal.invariant-loop-key
 invariant-loop-key g l = record {
   put : with_pairs_put g.K.AsBytes.bytes l.pairs l.self.pairs ≡ with_pairs_put g.K.AsBytes.bytes l.initial.pairs l.initial.self.pairs;
+  names : KeepsAllLeaves g.K.AsBytes.bytes l.initial.self l.self;
   room : HasRoom l.self.nodes (2 * length l.pairs);
 }
 

@@ -18,7 +18,7 @@ invariant_of-self g c = same-map g.K.AsBytes.bytes g.K.AsBytes.is_key g.row.PREF
 pub returns-clause-ready : goal.returns-clause-ready
 returns-clause-ready g c =
     subst
-    (λ m. IfOk c.prepare.result (λ ready. (front : List ℕ) → IsFoundPart g.K.AsBytes.bytes g.row.PREFIX_LEN m front (Some c.args.part) → IsReadyPart g.K.AsBytes.bytes g.row.PREFIX_LEN (contents c.prepare.new.arena c.self.inside.root) front (Some ready.point)))
+    (λ m. IfOk c.prepare.result (λ ready. (front : List ℕ) → IsFoundPart g.K.AsBytes.bytes g.row.PREFIX_LEN m front (Some c.args.part) → IsReadyPart g.K.AsBytes.bytes g.row.PREFIX_LEN (contents c.prepare.new.arena c.self.inside.root) front (Some ready)))
     c.self.view_is
     (ready-same g.K.AsBytes.bytes g.row.PREFIX_LEN c.self.inside.arena c.prepare.new.arena c.prepare.ensures.kept c.self.inside.root c.args.part c.prepare.result c.prepare.ensures.point c.prepare.ensures.ready)
 

@@ -1,6 +1,8 @@
 use Rattle.std.proofs.Common.{[], sym, subst, ap₂, Some, ◌∙◌}
 use Rattle.art_operations.specs.Pairs.{HasTaken}
 use Rattle.art_map.proofs.Maps.{taken-map, taken-pairs, taken-entry, none-map, none-pairs, none-entry, same-map, same-pairs}
+use Rattle.art_map.specs.Contents.{contents}
+use Rattle.art_map.proofs.LeafNames.{kept-names, named}
 use Rattle.art_map.proofs.map.TreeMap.remove_entry.Goals as goal
 
 pub invariant_of-self : goal.invariant_of-self
@@ -48,3 +50,25 @@ returns-in-Err-clause-err g c =
 pub returns-in-Err-clause-shrinks : goal.returns-in-Err-clause-shrinks
 returns-in-Err-clause-shrinks g c =
     rw (← c.as_bytes.ensures.value, ← c.self.view_is) (c.in-Err.ensures.shrinks _ [] c.self.invariant.has)
+
+pub returns-in-Ok-Some-clause-names : goal.returns-in-Ok-Some-clause-names
+returns-in-Ok-Some-clause-names g c =
+    let bytes = g.K.AsBytes.bytes in
+    let is_key = g.K.AsBytes.is_key in
+    let P = g.row.PREFIX_LEN in
+    let old = c.self.inside.arena in
+    let root = c.self.inside.root in
+    let new = c.take_pair.new.arena in
+    let map = taken-map bytes is_key P old root c.self.invariant new c.as_bytes.result.now c.in-Ok-Some.deleted (subst (HasTaken bytes P new root c.as_bytes.result.now _) c.in-Ok-Some.field-0-is (c.in-Ok-Some.ensures.ok _ [] c.self.invariant.has)) in
+    rw (← c.self.view_is) (kept-names bytes (contents old root) (contents new c.in-Ok-Some.deleted.new_root) (named bytes P old is_key root c.self.invariant) (named bytes P new is_key c.in-Ok-Some.deleted.new_root map) c.in-Ok-Some.ensures.names)
+
+pub returns-in-Ok-None-clause-names : goal.returns-in-Ok-None-clause-names
+returns-in-Ok-None-clause-names g c =
+    let bytes = g.K.AsBytes.bytes in
+    let is_key = g.K.AsBytes.is_key in
+    let P = g.row.PREFIX_LEN in
+    let old = c.self.inside.arena in
+    let root = c.self.inside.root in
+    let new = c.take_pair.new.arena in
+    let map = none-map bytes is_key P old root c.self.invariant new c.as_bytes.result.now (subst (HasTaken bytes P new root c.as_bytes.result.now _) c.in-Ok-None.field-0-is (c.in-Ok-None.ensures.ok _ [] c.self.invariant.has)) in
+    rw (← c.self.view_is) (kept-names bytes (contents old root) (contents new root) (named bytes P old is_key root c.self.invariant) (named bytes P new is_key root map) c.in-Ok-None.ensures.names)

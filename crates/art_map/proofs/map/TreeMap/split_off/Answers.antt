@@ -1,82 +1,57 @@
-use Rattle.std.proofs.Common.{◌*◌, length, sym, ap, subst, ◌∙◌, arith}
+use Rattle.std.proofs.Common.{◌≡◌, length, sym, ap, ◌∙◌, arith}
+use Rattle.std.proofs.lemmas.Bool.Decides.{nat_tests}
 use Rattle.std.proofs.lemmas.List.{append-nil}
-use Rattle.art_arena.specs.arena.Arena.{HasRoom}
-use Rattle.art_arena.specs.declared.ends.End.TheVariants.{First, Last}
-use Rattle.art_map.specs.Joins.{side_at}
-use Rattle.art_map.proofs.Joins.{first-off, last-off, part-fits}
-use Rattle.art_map.proofs.map.TreeMap.split_off.Goals.{in-First, in-Last}
+use Rattle.art_map.proofs.Joins.{all-from, below, from, last-moved, parts-long}
+use Rattle.art_map.proofs.LeafNames.{kept-names}
 use Rattle.art_map.proofs.map.TreeMap.split_off.Goals as goal
+use Rattle.art_map.proofs.map.TreeMap.split_off.Goals.{After-move_last}
+use Rattle.art_operations.proofs.LeafNames.{same-names}
 
-pub move_pairs-requires : goal.move_pairs-requires
-move_pairs-requires g c =
-    let part = c.smaller_part-end in
-    let fits = (part-fits g.K.AsBytes.bytes c.as_bytes.result.now part.result.end c.args.self.now.pairs part.ensures.ordered).1 in
-    let counted = part.ensures.count in
-    let all = ap (λ m. m.pairs) c.swap.ensures.y_after ∙ c.reserve_removals.ensures.pairs in
-    let none = ap (λ m. m.pairs) c.swap.ensures.x_after ∙ c.reserve_insertions.ensures.pairs ∙ c.with_prefix_len-off.ensures in
-    let long = ap length all in (
-      omega arith,
-      (
-        omega (arith, fits, counted, long),
-        (
-          rw (none, all) part.ensures.ordered,
-          (
-            subst (λ m. HasRoom m.nodes part.result.count) (sym c.swap.ensures.y_after) c.in_ok-reserve_removals.ensures.room,
-            subst (λ m. HasRoom m.nodes (2 * part.result.count)) (sym c.swap.ensures.x_after) c.in_ok-reserve_insertions.ensures.room,
-          ),
-        ),
-      ),
-    )
+pub returns-then-count-len-clause-off : goal.returns-then-count-len-clause-off
+returns-then-count-len-clause-off g c =
+    let count = c.count_from-count in
+    let same : count.result ≡ c.len.result = omega (arith, nat_tests, c.if-count-len.true) in
+    let all = all-from g.K.AsBytes.bytes c.as_bytes.result.now c.args.self.now.pairs count.ensures.ordered (sym count.ensures.count ∙ same ∙ c.len.ensures) in
+    ap (λ m. m.pairs) c.swap.ensures.y_after ∙ sym all.1 ∙ ap (λ q. from g.K.AsBytes.bytes q c.args.self.now.pairs) c.as_bytes.ensures.value
 
-pub move_pairs-requires-in-Last : goal.move_pairs-requires-in-Last
-move_pairs-requires-in-Last g c =
-    let part = c.smaller_part-end in
-    let fits = (part-fits g.K.AsBytes.bytes c.as_bytes.result.now part.result.end c.args.self.now.pairs part.ensures.ordered).1 in
-    let counted = part.ensures.count in
+pub returns-then-count-len-clause-pairs : goal.returns-then-count-len-clause-pairs
+returns-then-count-len-clause-pairs g c =
+    let count = c.count_from-count in
+    let same : count.result ≡ c.len.result = omega (arith, nat_tests, c.if-count-len.true) in
+    let all = all-from g.K.AsBytes.bytes c.as_bytes.result.now c.args.self.now.pairs count.ensures.ordered (sym count.ensures.count ∙ same ∙ c.len.ensures) in
+    ap (λ m. m.pairs) c.swap.ensures.x_after ∙ c.with_prefix_len-off.ensures ∙ sym all.0 ∙ ap (λ q. below g.K.AsBytes.bytes q c.args.self.now.pairs) c.as_bytes.ensures.value
+
+pub move_last-requires : goal.move_last-requires
+move_last-requires g c =
+    let count = c.count_from-count in
+    let parts = parts-long g.K.AsBytes.bytes c.as_bytes.result.now c.args.self.now.pairs count.ensures.ordered in
+    let counted = count.ensures.count in
     let none = c.reserve_insertions.ensures.pairs ∙ c.with_prefix_len-off.ensures in
     let long = ap length c.reserve_removals.ensures.pairs in (
       omega arith,
       (
-        omega (arith, fits, counted, long),
+        omega (arith, parts, counted, long),
         (
-          rw (none, append-nil c.reserve_removals.new.self.pairs, c.reserve_removals.ensures.pairs) part.ensures.ordered,
+          rw (none, append-nil c.reserve_removals.new.self.pairs, c.reserve_removals.ensures.pairs) count.ensures.ordered,
           (c.in_ok-reserve_removals.ensures.room, c.in_ok-reserve_insertions.ensures.room),
         ),
       ),
     )
 
+-- what stayed, and what was moved
+moved : (g : _) (c : After-move_last g) → (c.move_last.new.self.pairs ≡ below g.K.AsBytes.bytes c.as_bytes.result.now c.args.self.now.pairs) × (c.move_last.new.to.pairs ≡ from g.K.AsBytes.bytes c.as_bytes.result.now c.args.self.now.pairs)
+moved g c =
+    let count = c.count_from-count in
+    last-moved g.K.AsBytes.bytes c.as_bytes.result.now c.args.self.now.pairs c.move_last.new.self.pairs c.move_last.new.to.pairs c.reserve_removals.new.self.pairs c.reserve_insertions.new.self.pairs count.result count.ensures.ordered count.ensures.count
+    c.reserve_removals.ensures.pairs (c.reserve_insertions.ensures.pairs ∙ c.with_prefix_len-off.ensures) c.move_last.ensures.joined c.move_last.ensures.moved
+
 pub returns-clause-off : goal.returns-clause-off
-returns-clause-off g c =
-    let part = c.smaller_part-end in
-    let query = ap (λ q. side_at g.K.AsBytes.bytes q Last c.args.self.now.pairs) c.as_bytes.ensures.value in
-    elim c.match-end.branch [
-      | in-First w ↦
-          let from = ap (λ m. m.pairs) w.swap.ensures.y_after ∙ c.reserve_removals.ensures.pairs in
-          let to = ap (λ m. m.pairs) w.swap.ensures.x_after ∙ c.reserve_insertions.ensures.pairs ∙ c.with_prefix_len-off.ensures in
-          ap (λ m. m.pairs) w.off-is
-          ∙ (first-off g.K.AsBytes.bytes c.as_bytes.result.now c.args.self.now.pairs w.move_pairs.new.self.pairs w.move_pairs.new.to.pairs w.swap.new.y.pairs w.swap.new.x.pairs part.result.end part.result.count part.ensures.ordered part.ensures.count from to w.move_pairs.ensures.moved w.in-First.is w.move_pairs.ensures.joined).1
-          ∙ query
-      | in-Last w ↦
-          let to = c.reserve_insertions.ensures.pairs ∙ c.with_prefix_len-off.ensures in
-          ap (λ m. m.pairs) w.off-is
-          ∙ (last-off g.K.AsBytes.bytes c.as_bytes.result.now c.args.self.now.pairs w.move_pairs-in-Last.new.self.pairs w.move_pairs-in-Last.new.to.pairs c.reserve_removals.new.self.pairs c.reserve_insertions.new.self.pairs part.result.end part.result.count part.ensures.ordered part.ensures.count c.reserve_removals.ensures.pairs to w.move_pairs-in-Last.ensures.moved w.in-Last.is w.move_pairs-in-Last.ensures.joined).1
-          ∙ query
-    ]
+returns-clause-off g c = (moved g (goal.at.returns-clause-off g c).After-move_last).1 ∙ ap (λ q. from g.K.AsBytes.bytes q c.args.self.now.pairs) c.as_bytes.ensures.value
 
 pub returns-clause-pairs : goal.returns-clause-pairs
-returns-clause-pairs g c =
-    let part = c.smaller_part-end in
-    let query = ap (λ q. side_at g.K.AsBytes.bytes q First c.args.self.now.pairs) c.as_bytes.ensures.value in
-    elim c.match-end.branch [
-      | in-First w ↦
-          let from = ap (λ m. m.pairs) w.swap.ensures.y_after ∙ c.reserve_removals.ensures.pairs in
-          let to = ap (λ m. m.pairs) w.swap.ensures.x_after ∙ c.reserve_insertions.ensures.pairs ∙ c.with_prefix_len-off.ensures in
-          ap (λ m. m.pairs) w.self-is
-          ∙ (first-off g.K.AsBytes.bytes c.as_bytes.result.now c.args.self.now.pairs w.move_pairs.new.self.pairs w.move_pairs.new.to.pairs w.swap.new.y.pairs w.swap.new.x.pairs part.result.end part.result.count part.ensures.ordered part.ensures.count from to w.move_pairs.ensures.moved w.in-First.is w.move_pairs.ensures.joined).0
-          ∙ query
-      | in-Last w ↦
-          let to = c.reserve_insertions.ensures.pairs ∙ c.with_prefix_len-off.ensures in
-          ap (λ m. m.pairs) w.self-is
-          ∙ (last-off g.K.AsBytes.bytes c.as_bytes.result.now c.args.self.now.pairs w.move_pairs-in-Last.new.self.pairs w.move_pairs-in-Last.new.to.pairs c.reserve_removals.new.self.pairs c.reserve_insertions.new.self.pairs part.result.end part.result.count part.ensures.ordered part.ensures.count c.reserve_removals.ensures.pairs to w.move_pairs-in-Last.ensures.moved w.in-Last.is w.move_pairs-in-Last.ensures.joined).0
-          ∙ query
-    ]
+returns-clause-pairs g c = (moved g (goal.at.returns-clause-pairs g c).After-move_last).0 ∙ ap (λ q. below g.K.AsBytes.bytes q c.args.self.now.pairs) c.as_bytes.ensures.value
+
+pub returns-clause-names : goal.returns-clause-names
+returns-clause-names g c = λ slot key has still.
+    kept-names g.K.AsBytes.bytes c.reserve_removals.new.self c.move_last.new.self c.name_leaves.ensures c.name_leaves-2.ensures c.move_last.ensures.none_new slot key
+    (same-names g.K.AsBytes.bytes c.args.self.now.nodes c.reserve_removals.new.self.nodes c.reserve_removals.ensures.kept.0 slot key has) still

@@ -53,3 +53,9 @@ returns-clause-few g c = λ s stores longest short.
     let way = c.in-Err.ensures.part s stores in
     part_reads longest c.args.prefix.now c.args.reader.now.count c.find_insert_point_with.new.reader.count c.segment_at.new.reader.count (c.in-Err.ensures.few s stores longest short)
     (c.segment_at.ensures.few (path_to way.ctx) way.part (subst (λ a. IsSubtree g.K.AsBytes.bytes g.row.PREFIX_LEN (node_at a) c.in-Err.conflict.part (path_to way.ctx) way.part) (sym c.in-Err.ensures.kept) (subst (λ n. IsSubtree g.K.AsBytes.bytes g.row.PREFIX_LEN (node_at c.args.reader.now.arena.now) n (path_to way.ctx) way.part) way.here (place-subtree g.K.AsBytes.bytes g.row.PREFIX_LEN (node_at c.args.reader.now.arena.now) c.args.root s way.ctx way.part stores way.toward.place))) longest (part_within g.K.AsBytes.bytes longest s way.ctx way.part way.toward.place.is short))
+
+pub returns-in_default-clause-least : goal.returns-in_default-clause-least
+returns-in_default-clause-least g c = omega (arith, c.in-Err.ensures.least, c.segment_at.ensures.least)
+
+pub returns-clause-least : goal.returns-clause-least
+returns-clause-least g c = omega (arith, c.in-Err.ensures.least, c.segment_at.ensures.least)

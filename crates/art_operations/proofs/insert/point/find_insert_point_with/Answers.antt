@@ -5,7 +5,7 @@ use Rattle.art_arena.specs.arena.Shapes.{Shape}
 use Rattle.art_arena.specs.arena.Steps.{steps_of}
 use Rattle.art_arena.specs.arena.Stores.{Stores, StoresAt}
 use Rattle.art_arena.proofs.shapes.Reads.{part_within}
-use Rattle.art_operations.specs.Openings.{ForLongest, PlaceReads}
+use Rattle.art_operations.specs.Openings.{ForLongest, PlaceReads, ReadsAtLeast}
 use Rattle.art_operations.proofs.Points.{way_at_depth}
 use Rattle.art_operations.proofs.Stops.{placed, blocked, in-the-way}
 use Rattle.art_operations.proofs.insert.point.find_insert_point_with.Goals as goal
@@ -90,3 +90,22 @@ returns-in-NoChild-clause-few g c = reads g (goal.at.returns-in-NoChild-clause-f
 
 pub returns-in-Conflict-clause-few : goal.returns-in-Conflict-clause-few
 returns-in-Conflict-clause-few g c = reads g (goal.at.returns-in-Conflict-clause-few g c).After-way_with
+
+-- the root was read
+read : (g : _) (c : After-way_with g) → ReadsAtLeast 1 c.args.reader.now.count c.way_with.new.reader.count
+read g c = omega (arith, c.stop_with-stop.ensures.least, c.way_with.ensures.least)
+
+pub returns-in-Same-clause-least : goal.returns-in-Same-clause-least
+returns-in-Same-clause-least g c = read g (goal.at.returns-in-Same-clause-least g c).After-way_with
+
+pub returns-in-PartsFromLeaf-clause-least : goal.returns-in-PartsFromLeaf-clause-least
+returns-in-PartsFromLeaf-clause-least g c = read g (goal.at.returns-in-PartsFromLeaf-clause-least g c).After-way_with
+
+pub returns-in-PartsFromPrefix-clause-least : goal.returns-in-PartsFromPrefix-clause-least
+returns-in-PartsFromPrefix-clause-least g c = read g (goal.at.returns-in-PartsFromPrefix-clause-least g c).After-way_with
+
+pub returns-in-NoChild-clause-least : goal.returns-in-NoChild-clause-least
+returns-in-NoChild-clause-least g c = read g (goal.at.returns-in-NoChild-clause-least g c).After-way_with
+
+pub returns-in-Conflict-clause-least : goal.returns-in-Conflict-clause-least
+returns-in-Conflict-clause-least g c = read g (goal.at.returns-in-Conflict-clause-least g c).After-way_with

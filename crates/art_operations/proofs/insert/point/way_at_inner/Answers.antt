@@ -53,3 +53,15 @@ returns-in-NewEnds-clause-few g c = c.read_full_prefix_with.ensures.few
 
 pub returns-in-Parts-clause-few : goal.returns-in-Parts-clause-few
 returns-in-Parts-clause-few g c = c.read_full_prefix_with.ensures.few
+
+pub returns-in-Same-clause-least : goal.returns-in-Same-clause-least
+returns-in-Same-clause-least g c = c.read_full_prefix_with.ensures.least
+
+pub returns-in-OldEnds-clause-least : goal.returns-in-OldEnds-clause-least
+returns-in-OldEnds-clause-least g c = c.read_full_prefix_with.ensures.least
+
+pub returns-in-NewEnds-clause-least : goal.returns-in-NewEnds-clause-least
+returns-in-NewEnds-clause-least g c = c.read_full_prefix_with.ensures.least
+
+pub returns-in-Parts-clause-least : goal.returns-in-Parts-clause-least
+returns-in-Parts-clause-least g c = c.read_full_prefix_with.ensures.least

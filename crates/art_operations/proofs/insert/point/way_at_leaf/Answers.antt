@@ -1,4 +1,4 @@
-use Rattle.std.proofs.Common.{refl, lit<}
+use Rattle.std.proofs.Common.{refl, lit<, arith}
 use Rattle.art_arena.proofs.shapes.Prefixes.{tail}
 use Rattle.art_operations.proofs.Points.{stored_is, leaf_there, leaf_same, leaf_old_ends, leaf_new_ends, leaf_parts}
 use Rattle.art_operations.proofs.insert.point.way_at_leaf.Goals as goal
@@ -38,3 +38,15 @@ returns-in-Parts-clause-way g c = λ path s at begins.
     let r = leaf_parts g.K.AsBytes.bytes c.args.key.now path c.args.depth at.behind begins c.args.leaf l.leaf.key l.value s l.is l.begins c.in-Parts.parted
     (rw (tail c.args.depth c.as_bytes-stored.result.now, tail c.args.depth c.args.key.now, stored) at c.in-Parts.ensures) in
     ((l.leaf.key, l.value, l.is, r.0), r.1)
+
+pub returns-in-Same-clause-least : goal.returns-in-Same-clause-least
+returns-in-Same-clause-least g c = omega (arith, c.visit_leaf.ensures.counts)
+
+pub returns-in-OldEnds-clause-least : goal.returns-in-OldEnds-clause-least
+returns-in-OldEnds-clause-least g c = omega (arith, c.visit_leaf.ensures.counts)
+
+pub returns-in-NewEnds-clause-least : goal.returns-in-NewEnds-clause-least
+returns-in-NewEnds-clause-least g c = omega (arith, c.visit_leaf.ensures.counts)
+
+pub returns-in-Parts-clause-least : goal.returns-in-Parts-clause-least
+returns-in-Parts-clause-least g c = omega (arith, c.visit_leaf.ensures.counts)

@@ -1,8 +1,8 @@
-use Rattle.std.proofs.Common.{arith, filter, subst, sym}
+use Rattle.std.proofs.Common.{arith, filter, subst, sym, refl}
 use Rattle.art_arena.specs.tree.Tenants.{begins_with}
 use Rattle.art_operations.proofs.Stretches.{front_convex}
 use Rattle.art_walks.specs.MapReads.{IsSpanOf, ReadsPairs}
-use Rattle.art_walks.proofs.MapReads.{keys-within, no-span, span-of, the-shape, the-stores}
+use Rattle.art_walks.proofs.MapReads.{keys-within, no-span, span-of, the-shape, the-stores, where_none, where_some}
 use Rattle.art_walks.proofs.map_reader.MapReader+K+V+PREFIX_LEN.prefix.Goals as goal
 
 pub find_prefix_segment_with-requires : goal.find_prefix_segment_with-requires
@@ -32,3 +32,9 @@ returns-in-Some-clause-span g c = (
 
 pub returns-in-None-clause-span : goal.returns-in-None-clause-span
 returns-in-None-clause-span g c = rw (← c.self.view_is) (c.self.invariant.0, _, (subst (λ ends. IsSpanOf c.self.inside.reader.arena.now c.self.invariant.0 ends (filter (λ p. begins_with (g.Q.AsBytes.bytes c.args.prefix.now) (g.K.AsBytes.bytes p.0)) c.self.invariant.0)) (sym c.of-in-None.ensures) (no-span c.self.inside.reader.arena.now c.self.invariant.0 (subst (λ r. ReadsPairs g.K.AsBytes.bytes g.row.PREFIX_LEN c.self.inside.reader.arena.now r c.self.invariant.0) c.in-None.is c.self.invariant.1).1.0 (λ p. begins_with (g.Q.AsBytes.bytes c.args.prefix.now) (g.K.AsBytes.bytes p.0)))))
+
+pub returns-in-Some-clause-least : goal.returns-in-Some-clause-least
+returns-in-Some-clause-least g c = rw (← c.self.view_is) (where_some _ c.in-Some.is c.find_prefix_segment_with.ensures.least)
+
+pub returns-in-None-clause-least : goal.returns-in-None-clause-least
+returns-in-None-clause-least g c = rw (← c.self.view_is) (where_none _ c.in-None.is refl)

@@ -2,7 +2,9 @@ use Rattle.std.proofs.Common.{subst}
 use base.Stored.{Coded-set, coded_list, coded×}
 use Rattle.art_arena.specs.arena.Shapes.{key_of}
 use Rattle.art_arena.specs.tree.Shrinks.{Shrinks}
+use Rattle.art_map.specs.Contents.{IsUntouched}
 use Rattle.art_map.specs.Extractions.{left_of}
+use Rattle.art_map.specs.LeafNames.{AddsNoLeaf, KeepsLeaves}
 use Rattle.art_map.proofs.Extractions.{either-some, empty-some, left-taken}
 use Rattle.art_map.proofs.map.extraction.Extraction.take.Goals as goal
 
@@ -30,3 +32,15 @@ returns-in-Err-clause-shrinks g c =
       left.2,
       subst (λ m. Shrinks (key_of g.K.AsBytes.bytes) m.now.pairs (g.K.AsBytes.bytes left.0.0)) c.next_leaf-leaf.ensures.same (c.in-Err.ensures.shrinks left.0 left.1),
     )
+
+pub returns-in-Err-clause-untouched : goal.returns-in-Err-clause-untouched
+returns-in-Err-clause-untouched g c = subst (λ m. IsUntouched m.now c.take_at.new.self) c.next_leaf-leaf.ensures.same c.in-Err.ensures.untouched
+
+pub returns-in-Ok-clause-names : goal.returns-in-Ok-clause-names
+returns-in-Ok-clause-names g c = subst (λ m. KeepsLeaves g.K.AsBytes.bytes m.now c.take_at.new.self) c.next_leaf-leaf.ensures.same c.in-Ok.ensures.names
+
+pub returns-in-Ok-clause-none_new : goal.returns-in-Ok-clause-none_new
+returns-in-Ok-clause-none_new g c = subst (λ m. AddsNoLeaf g.K.AsBytes.bytes m.now c.take_at.new.self) c.next_leaf-leaf.ensures.same c.in-Ok.ensures.none_new
+
+pub returns-in-Err-clause-none_new : goal.returns-in-Err-clause-none_new
+returns-in-Err-clause-none_new g c = subst (λ m. AddsNoLeaf g.K.AsBytes.bytes m.now c.take_at.new.self) c.next_leaf-leaf.ensures.same c.take_at.ensures.none_new

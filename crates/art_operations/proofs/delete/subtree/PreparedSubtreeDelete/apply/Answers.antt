@@ -1,10 +1,12 @@
-use Rattle.std.proofs.Common.{length, ap, ◌∙◌, subst, lit<}
+use Rattle.std.proofs.Common.{◌-◌, ◌^◌, min, length, ap, ◌∙◌, subst, lit<}
 use Rattle.art_arena.specs.arena.Arena.{links_at}
 use Rattle.art_arena.specs.arena.Context.{path_to, leaves_before, leaves_after}
-use Rattle.art_arena.specs.arena.Shapes.{leaves}
+use Rattle.art_arena.specs.arena.Shapes.{leaves, pairs_of, key_of}
 use Rattle.art_arena.proofs.shapes.LinkedLists.{kept-without_run}
 use Rattle.art_operations.specs.Deletions.{HasLeavesBeside}
 use Rattle.art_operations.specs.Frees.{HoldsBeside}
+use Rattle.art_operations.specs.NodeCounts.{nodes_counted}
+use Rattle.art_operations.proofs.NodeCounts.{shape-nodes}
 use Rattle.art_operations.proofs.Deleted.{beside_part, part_beside, still_listed, others_left, kept_beside}
 use Rattle.art_operations.proofs.PartSizes.{many_nodes, few_nodes}
 use Rattle.art_operations.proofs.delete.subtree.PreparedSubtreeDelete.apply.Goals as goal
@@ -44,6 +46,10 @@ returns-clause-cut g c = λ front s rest tree is.
     (c.free_tree-freed.ensures.kept is.at.part around beside) left apart linked (c.free_tree-freed.ensures.freed is.at.part around beside) in
     record {
       removed = c.free_tree-freed.ensures.leaves is.at.part around beside ∙ ap length is.block;
+      freed =
+          c.free_tree-freed.ensures.nodes is.at.part around beside
+          ∙ ap (λ n. min n (2 ^ 64 - 1)) (shape-nodes g.K.AsBytes.bytes g.row.PREFIX_LEN (path_to is.at.ctx) is.at.part is.at.place.under)
+          ∙ ap (λ ls. nodes_counted (key_of g.K.AsBytes.bytes) (pairs_of ls)) is.block;
       left = subst (HasLeavesBeside g.K.AsBytes.bytes g.row.PREFIX_LEN new rest left) is.others others;
     }
 

@@ -6,7 +6,7 @@ use Rattle.art_set.proofs.merges.sides.Sides+K+PREFIX_LEN.next_wanted.Given as g
 abbrev pub invariant-loop-wanted : goal.invariant-loop-wanted
 invariant-loop-wanted g l = record {
   same : merging g.K.AsBytes.bytes l.wanted l.self ≡ merging g.K.AsBytes.bytes l.wanted l.initial.self;
-  compared : IsCompared l.initial.self l.self;
+  compared : IsCompared g.K.AsBytes.bytes l.initial.self l.self;
 }
 
 abbrev pub decreases-loop-wanted : goal.decreases-loop-wanted

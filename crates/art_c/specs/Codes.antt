@@ -1,0 +1,13 @@
+-- The numbers of the codes, as `bindings/c/art.h` has them.
+use Rattle.std.specs.Prelude.{ℕ}
+use Rattle.art_c.specs.declared.code.Code.{Code}
+use Rattle.art_c.specs.declared.code.Code.TheVariants.{Done, Replaced, NotFound, Conflict, NoRoom, NoMemory, NoMap}
+
+abbrev pub code_number : Code → ℕ
+code_number Done = 0
+code_number Replaced = 1
+code_number NotFound = 2
+code_number Conflict = 3
+code_number NoRoom = 4
+code_number NoMemory = 5
+code_number NoMap = 6

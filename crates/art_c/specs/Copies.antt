@@ -1,0 +1,54 @@
+-- How pairs and values are copied out to a caller.
+use Rattle.std.specs.Prelude.{ℕ, nat_le, ◌&&◌, Bool, if◌then◌else◌, List, ◌++◌, length, drop, Option, Some, None}
+use Rattle.art_c.specs.declared.code.Code.{Code}
+use Rattle.art_c.specs.declared.code.Code.TheVariants.{Done, NotFound, NoRoom}
+
+-- the rooms that a caller lends for a pair, and where its lengths are told
+pub record Rooms : Type 0 where
+  pub key : List ℕ
+  pub key_len : ℕ
+  pub value : List ℕ
+  pub value_len : ℕ
+
+-- a room with these bytes at its start, whose rest is what it was
+abbrev pub written : List ℕ → List ℕ → List ℕ
+written bytes room = bytes ++ drop (length bytes) room
+
+-- the test that both parts of a pair go into their rooms
+abbrev pub fits_in : List ℕ × List ℕ → Rooms → Bool
+fits_in p rooms = nat_le (length p.0) (length rooms.key) && nat_le (length p.1) (length rooms.value)
+
+-- the rooms with a pair in them, and as they were but that its lengths are told
+abbrev pub with_pair_written : List ℕ × List ℕ → Rooms → Rooms
+with_pair_written p rooms = record {
+  key = written p.0 rooms.key;
+  key_len = length p.0;
+  value = written p.1 rooms.value;
+  value_len = length p.1;
+}
+
+abbrev pub with_lengths : List ℕ × List ℕ → Rooms → Rooms
+with_lengths p rooms =
+    record { key = rooms.key; key_len = length p.0; value = rooms.value; value_len = length p.1 }
+
+-- what is answered of a pair, or of none, and the rooms then
+abbrev pub pair_code : Option (List ℕ × List ℕ) → Rooms → Code
+pair_code None rooms = NotFound
+pair_code (Some p) rooms = if fits_in p rooms then Done else NoRoom
+
+abbrev pub pair_out : Option (List ℕ × List ℕ) → Rooms → Rooms
+pair_out None rooms = rooms
+pair_out (Some p) rooms = if fits_in p rooms then with_pair_written p rooms else with_lengths p rooms
+
+-- the same of a value alone: what is answered, the room then, and the length that is told
+abbrev pub value_code : Option (List ℕ) → List ℕ → Code
+value_code None room = NotFound
+value_code (Some v) room = if nat_le (length v) (length room) then Done else NoRoom
+
+abbrev pub value_out : Option (List ℕ) → List ℕ → List ℕ
+value_out None room = room
+value_out (Some v) room = if nat_le (length v) (length room) then written v room else room
+
+abbrev pub length_out : Option (List ℕ) → ℕ → ℕ
+length_out None len = len
+length_out (Some v) len = length v

@@ -1,0 +1,33 @@
+//! The nodes of a map are counted.
+ghost use Rattle.std.specs.Prelude.{◌≡◌};
+ghost use Rattle.art_c.specs.Calls.{as_told, IsAudited};
+
+use crate::audit::ArtAudit;
+use crate::code::Code;
+use crate::handle::Map;
+use art_walks::WellFormedTreeStats;
+
+fn told_of(stats: WellFormedTreeStats) -> ArtAudit
+    ensures { result ≡ as_told stats }
+{
+    ArtAudit {
+        nodes4: stats.num_node4,
+        nodes16: stats.num_node16,
+        nodes32: stats.num_node32,
+        nodes48: stats.num_node48,
+        nodes256: stats.num_node256,
+        leaves: stats.num_leaf,
+    }
+}
+
+pub(super) fn audit(map: &Map, told: &mut ArtAudit) -> Code
+    ensures { IsAudited map.now.pairs told.old result map.now.pairs told.new }
+{
+    match map.audit() {
+        Ok(stats) => {
+            *told = told_of(stats);
+            Code::Done
+        }
+        Err(_) => Code::NoMemory,
+    }
+}

@@ -1,0 +1,124 @@
+//! The pairs that a caller asks for.
+ghost use Rattle.std.specs.Prelude.{◌≡◌, option_map};
+ghost use Rattle.std.specs.Map.Iter.{deref_pair};
+ghost use Rattle.std.specs.declared.ops.Bound.TheVariants.{Excluded, Unbounded};
+ghost use Rattle.art_arena.specs.arena.Shapes.{key_of};
+ghost use Rattle.art_arena.specs.tree.Tenants.{with_front};
+ghost use Rattle.art_map.specs.Contents.{first_item, last_item};
+ghost use Rattle.art_map.specs.Ranges.{pairs_between};
+ghost use Rattle.art_c.specs.Calls.{Answers, IsPairRead, wanted_of, whole};
+ghost use Rattle.art_c.specs.Handles.{pairs_behind};
+
+use crate::bytes::Bytes;
+use crate::code::Code;
+use crate::copies::give_pair;
+use crate::handle::{Art, Map};
+use art_bytes::SliceKey;
+use std::alloc::Global;
+use std::ops::Bound;
+
+/// Which pair of a map is wanted.
+#[derive(Clone, Copy)]
+pub(super) enum Wanted<'a> {
+    /// The one with the least key.
+    First,
+    /// The one with the greatest key.
+    Last,
+    /// The one with the least key that begins with these bytes.
+    FirstBehind(&'a [u8]),
+    /// The one with the greatest key that begins with these bytes.
+    LastBehind(&'a [u8]),
+    /// The one whose key is a front of these bytes, or equals them.
+    FrontOf(&'a [u8]),
+    /// The one with the least key above this one.
+    Above(&'a [u8]),
+    /// The one with the greatest key below this one.
+    Below(&'a [u8]),
+}
+
+fn above<'m>(map: &'m Map, key: &[u8]) -> Option<(&'m Bytes, &'m Bytes)>
+    ensures { option_map deref_pair result
+        ≡ first_item (pairs_between whole (Excluded key.now) Unbounded map.now.pairs) }
+{
+    let key = SliceKey(key);
+    let mut pairs = map.range(Bound::Excluded(&key), Bound::Unbounded);
+    pairs.next()
+}
+
+fn below<'m>(map: &'m Map, key: &[u8]) -> Option<(&'m Bytes, &'m Bytes)>
+    ensures { option_map deref_pair result
+        ≡ last_item (pairs_between whole Unbounded (Excluded key.now) map.now.pairs) }
+{
+    let key = SliceKey(key);
+    let mut pairs = map.range(Bound::Unbounded, Bound::Excluded(&key));
+    pairs.next_back()
+}
+
+fn first_behind<'m>(map: &'m Map, prefix: &[u8]) -> Option<(&'m Bytes, &'m Bytes)>
+    ensures { option_map deref_pair result ≡ first_item (with_front (key_of whole) prefix.now map.now.pairs) }
+{
+    let prefix = SliceKey(prefix);
+    let mut pairs = map.prefix(&prefix);
+    pairs.next()
+}
+
+fn last_behind<'m>(map: &'m Map, prefix: &[u8]) -> Option<(&'m Bytes, &'m Bytes)>
+    ensures { option_map deref_pair result ≡ last_item (with_front (key_of whole) prefix.now map.now.pairs) }
+{
+    let prefix = SliceKey(prefix);
+    let mut pairs = map.prefix(&prefix);
+    pairs.next_back()
+}
+
+fn pair_of<'m>(map: &'m Map, wanted: Wanted<'_>) -> Option<(&'m Bytes, &'m Bytes)>
+    ensures { option_map deref_pair result ≡ wanted_of wanted.entry map.now.pairs }
+{
+    match wanted {
+        Wanted::First => map.first_key_value(),
+        Wanted::Last => map.last_key_value(),
+        Wanted::FirstBehind(prefix) => first_behind(map, prefix),
+        Wanted::LastBehind(prefix) => last_behind(map, prefix),
+        Wanted::FrontOf(query) => map.prefix_get_key_value(&SliceKey(query)),
+        Wanted::Above(key) => above(map, key),
+        Wanted::Below(key) => below(map, key),
+    }
+}
+
+/// Copies the pair out that is wanted.
+pub(super) fn read(
+    alloc: Global,
+    art: &mut Art,
+    wanted: Wanted<'_>,
+    key_room: &mut [u8],
+    key_len: &mut usize,
+    value_room: &mut [u8],
+    value_len: &mut usize,
+) -> u32
+    ensures { Answers (IsPairRead (wanted_of wanted.entry)) (pairs_behind art.old) (record {
+      key = key_room.old;
+      key_len = key_len.old;
+      value = value_room.old;
+      value_len = value_len.old;
+    })
+        result (pairs_behind art.new) (record {
+          key = key_room.new;
+          key_len = key_len.new;
+          value = value_room.new;
+          value_len = value_len.new;
+        }) }
+{
+    match art.take(alloc) {
+        Some(store) => {
+            let code = give_pair(
+                pair_of(&store.map, wanted),
+                key_room,
+                key_len,
+                value_room,
+                value_len,
+            );
+            *art = Art::of(store);
+            code.number()
+        }
+        None => Code::NoMap.number(),
+    }
+}

@@ -1,0 +1,38 @@
+//! What a call answers.
+ghost use Rattle.std.specs.Prelude.{◌≡◌};
+ghost use Rattle.art_c.specs.Codes.{code_number};
+
+/// What a call answers. `bindings/c/art.h` has their numbers.
+#[derive(Clone, Copy, PartialEq, Eq, Debug)]
+pub enum Code {
+    /// What was asked for was found, or done.
+    Done,
+    /// A pair was put in the place of the one with its key.
+    Replaced,
+    /// There is no such pair.
+    NotFound,
+    /// The key is a front of a stored key, or a stored key is one of it.
+    Conflict,
+    /// The room for what is copied out is too small. Its length is told.
+    NoRoom,
+    /// No memory was found.
+    NoMemory,
+    /// No map is made in the handle.
+    NoMap,
+}
+
+impl Code {
+    pub(crate) fn number(self) -> u32
+        ensures { result ≡ code_number self }
+    {
+        match self {
+            Code::Done => 0,
+            Code::Replaced => 1,
+            Code::NotFound => 2,
+            Code::Conflict => 3,
+            Code::NoRoom => 4,
+            Code::NoMemory => 5,
+            Code::NoMap => 6,
+        }
+    }
+}

@@ -1,0 +1,79 @@
+//! How a pair or a value is copied out to a caller.
+ghost use Rattle.std.specs.Prelude.{◌≡◌, ◌≤◌, length, option_map};
+ghost use Rattle.std.specs.Option.{option_copied};
+ghost use Rattle.std.specs.Map.Iter.{deref_pair};
+ghost use Rattle.art_c.specs.Copies.{length_out, pair_code, pair_out, value_code, value_out, written};
+
+use crate::bytes::Bytes;
+use crate::code::Code;
+use art_bytes::AsBytes;
+
+/// Copies the bytes to the start of a room, whose rest is left alone.
+fn write(bytes: &[u8], room: &mut [u8])
+    requires { length bytes.now ≤ length room.old }
+    ensures { room.new ≡ written bytes.now room.old }
+{
+    let (front, _rest) = room.split_at_mut(bytes.len());
+    front.copy_from_slice(bytes);
+}
+
+/// Copies a value out, if there is one and it goes into the room, and tells its length.
+pub(crate) fn give_value(found: Option<&Bytes>, room: &mut [u8], len: &mut usize) -> Code
+    ensures code { result ≡ value_code (option_copied found.entry) room.old }
+    ensures room { room.new ≡ value_out (option_copied found.entry) room.old }
+    ensures len { len.new ≡ length_out (option_copied found.entry) len.old }
+{
+    let Some(value) = found else {
+        return Code::NotFound;
+    };
+    let bytes = value.as_bytes();
+    *len = bytes.len();
+    if bytes.len() <= room.len() {
+        write(bytes, room);
+        Code::Done
+    } else {
+        Code::NoRoom
+    }
+}
+
+/// Copies a pair out, if there is one and both parts go into their rooms, and tells their lengths.
+pub(crate) fn give_pair(
+    found: Option<(&Bytes, &Bytes)>,
+    key_room: &mut [u8],
+    key_len: &mut usize,
+    value_room: &mut [u8],
+    value_len: &mut usize,
+) -> Code
+    ensures code { result ≡ pair_code (option_map deref_pair found.entry) (record {
+      key = key_room.old;
+      key_len = key_len.old;
+      value = value_room.old;
+      value_len = value_len.old;
+    }) }
+    ensures rooms { (record {
+      key = key_room.new;
+      key_len = key_len.new;
+      value = value_room.new;
+      value_len = value_len.new;
+    })
+        ≡ pair_out (option_map deref_pair found.entry) (record {
+          key = key_room.old;
+          key_len = key_len.old;
+          value = value_room.old;
+          value_len = value_len.old;
+        }) }
+{
+    let Some((key, value)) = found else {
+        return Code::NotFound;
+    };
+    let (key, value) = (key.as_bytes(), value.as_bytes());
+    *key_len = key.len();
+    *value_len = value.len();
+    if key.len() <= key_room.len() && value.len() <= value_room.len() {
+        write(key, key_room);
+        write(value, value_room);
+        Code::Done
+    } else {
+        Code::NoRoom
+    }
+}

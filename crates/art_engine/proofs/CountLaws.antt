@@ -1,0 +1,153 @@
+-- What a look-up reads, told by what is known of its count: it is short, and the tenant's own path where it finds a record.
+use Rattle.std.proofs.Common.{◌≡◌, ℕ, ℤ, ◌+◌, ◌<◌, ◌≤◌, ◌^◌, List, [], ◌∷◌, length, refl, sym, ap, ◌∙◌, subst, Bool, true, arith, inl, inr, bytes_eq, append_assoc, append-nil, Option, Some, None}
+use Rattle.std.specs.Prelude.{IsSome, option_map, nat_lt}
+use Rattle.std.specs.Ordering.{int_eq}
+use Rattle.std.proofs.lemmas.Bool.{eq-eqb, lt-ltb, or_left, or_right, and_from}
+use Rattle.std.proofs.lemmas.Bool.Decides.{Decides-int_eq}
+use Rattle.art_bytes.specs.Laws.{pair_key}
+use Rattle.art_bytes.specs.Numbers.{big_endian, flipped}
+use Rattle.std.specs.List.{AllByRecursion, find}
+use Rattle.std.specs.Int.{to_be_bytes, w32, w64}
+use Rattle.std.proofs.lemmas.Slice.Eq.{bytes_eq-Decides}
+use Rattle.art_bytes.specs.Keys.{BeginsWith, IsBefore}
+use Rattle.art_arena.specs.tree.Order.{AscendsByKey}
+use Rattle.art_arena.specs.tree.Tenants.{begins_with}
+use Rattle.art_arena.proofs.tree.Insert.{all_at}
+use Rattle.art_arena.proofs.tree.Tenants.{begins_true}
+use Rattle.art_lines.specs.Commands.{put, over, del, get, find as find_front, list, span, nput, nget, ndel, nspan, drop}
+use Rattle.art_lines.specs.Commands.{Command, of_tenant, dump, audit}
+use Rattle.art_engine.specs.Counts.{path_nodes, visits_of, IsWithin, IsShort, IsOwnPath, ReadsOwnPath}
+use Rattle.art_lines.specs.Keys.{full_key}
+use Rattle.art_engine.specs.Keys.{full_key_of, number_key_of}
+use Rattle.art_engine.specs.Records.{KeyRecord, NumberRecord, Records, AreRecords, InOrder, KeyComesBefore, NumberComesBefore, KeyFits, NumberFits, own}
+use Rattle.art_engine.proofs.Counting.{own_path, path_is_short, found_record}
+use Rattle.art_engine.proofs.Filters.{All-map}
+use Rattle.art_engine.proofs.FullKeys.{full_before}
+use Rattle.art_engine.proofs.NumberKeys.{HaveBytes, tested_before}
+use Rattle.art_engine.proofs.OwnLaws.{key_part, number_part}
+
+-- so many, and no more
+same_number : (n m : ℕ) → m ≤ n → n ≤ m → n ≡ m
+same_number n m low high = omega arith
+
+abbrev IsOfTenant : KeyRecord → Type 0
+IsOfTenant r = r.tenant < 2 ^ 32
+
+-- records ascend by their full keys
+before_all : (r : KeyRecord) (rs : List KeyRecord) → IsOfTenant r → AllByRecursion IsOfTenant rs → AllByRecursion (KeyComesBefore r) rs → AllByRecursion (λ s. IsBefore (full_key_of r) (full_key_of s)) rs
+before_all r [] small fits order = tt
+before_all r (s ∷ rs) small fits order = (full_before r s small fits.0 order.0, before_all r rs small fits.1 order.1)
+
+records_ascend : (rs : List KeyRecord) → AllByRecursion IsOfTenant rs → InOrder KeyComesBefore rs → AscendsByKey full_key_of rs
+records_ascend [] fits order = tt
+records_ascend (r ∷ rs) fits order = (before_all r rs fits.0 fits.1 order.0, records_ascend rs fits.1 order.1)
+
+are_small : (records : Records) → AreRecords records → AllByRecursion IsOfTenant records.keys
+are_small records are = All-map KeyFits IsOfTenant (λ r fits. fits.tenant_fits) records.keys are.keys_fit
+
+-- of a tenant's key behind a front, the full key is behind the front's
+begins_fully : (t : ℕ) (j k : List ℕ) → BeginsWith j k → BeginsWith (full_key t j) (full_key t k)
+begins_fully t j k (s, e) = (s, ap (full_key t) e ∙ sym (append_assoc (to_be_bytes w32 t) j s))
+
+found_some : {A B : Type 0} (f : A → B) (o : Option A) → IsSome (option_map f o) → IsSome o
+found_some f None some = absurd (cc)
+found_some f (Some a) some = refl
+
+-- a record whose key is a front of what is looked for
+path_of_found : (t : ℕ) (k : List ℕ) (T : List ℕ → Bool) → ((j : List ℕ) → T j ≡ true → BeginsWith j k) → (records : Records) → AreRecords records → IsSome (find (λ p. T p.0) (own t records).keys)
+    → IsOwnPath full_key_of (λ r. r.tenant) t (full_key t k) records.keys (path_nodes full_key_of records.keys (full_key t k))
+path_of_found t k T fronts records are some =
+    let rs = records.keys in
+    let small = are_small records are in
+    let f = found_record (λ (r : KeyRecord). r.tenant) key_part t T rs some in
+    let mine : f.0.tenant ≡ t = f.2 in
+    let fits : t < 2 ^ 32 = subst (λ u. u < 2 ^ 32) mine (all_at IsOfTenant f.0 rs small f.1) in
+    let full : full_key_of f.0 ≡ full_key t f.0.key = ap (λ u. full_key u f.0.key) mine in
+    own_path full_key_of (λ r. r.tenant) (λ r. r.key) (λ r. refl) t fits rs (records_ascend rs small are.keys_in_order) small f.0 f.1 mine (full_key t k)
+    (subst (λ q. BeginsWith q (full_key t k)) (sym full) (begins_fully t f.0.key k (fronts f.0.key f.3)))
+
+-- likewise of records under numbers
+abbrev HasBytes : NumberRecord → Type 0
+HasBytes r = HaveBytes r.tenant r.number
+
+abbrev IsSmall : NumberRecord → Type 0
+IsSmall r = r.tenant < 2 ^ 32
+
+number_before : (r s : NumberRecord) → HasBytes r → HasBytes s → NumberComesBefore r s → IsBefore (number_key_of r) (number_key_of s)
+number_before r s hr hs (inl low) = tested_before r.tenant s.tenant r.number s.number hr hs (or_left _ _ (lt-ltb r.tenant s.tenant low))
+number_before r s hr hs (inr up) = tested_before r.tenant s.tenant r.number s.number hr hs (or_right (nat_lt r.tenant s.tenant) _ (and_from _ _ (eq-eqb r.tenant s.tenant up.0) up.1))
+
+numbers_before : (r : NumberRecord) (rs : List NumberRecord) → HasBytes r → AllByRecursion HasBytes rs → AllByRecursion (NumberComesBefore r) rs → AllByRecursion (λ s. IsBefore (number_key_of r) (number_key_of s)) rs
+numbers_before r [] here fits order = tt
+numbers_before r (s ∷ rs) here fits order = (number_before r s here fits.0 order.0, numbers_before r rs here fits.1 order.1)
+
+numbers_ascend : (rs : List NumberRecord) → AllByRecursion HasBytes rs → InOrder NumberComesBefore rs → AscendsByKey number_key_of rs
+numbers_ascend [] fits order = tt
+numbers_ascend (r ∷ rs) fits order = (numbers_before r rs fits.0 fits.1 order.0, numbers_ascend rs fits.1 order.1)
+
+path_of_number : (t : ℕ) (n : ℤ) (records : Records) → AreRecords records → IsSome (find (λ p. int_eq p.0 n) (own t records).numbers)
+    → IsOwnPath number_key_of (λ r. r.tenant) t (pair_key (t, n)) records.numbers (path_nodes number_key_of records.numbers (pair_key (t, n)))
+path_of_number t n records are some =
+    let rs = records.numbers in
+    let fits : AllByRecursion HasBytes rs = All-map NumberFits HasBytes (λ r h. (h.tenant_fits, h.number_fits)) rs are.numbers_fit in
+    let small : AllByRecursion IsSmall rs = All-map NumberFits IsSmall (λ r h. h.tenant_fits) rs are.numbers_fit in
+    let f = found_record (λ (r : NumberRecord). r.tenant) number_part t (λ m. int_eq m n) rs some in
+    let mine : f.0.tenant ≡ t = f.2 in
+    let at : f.0.number ≡ n = (Decides-int_eq f.0.number n).0 f.3 in
+    let low : t < 2 ^ 32 = subst (λ u. u < 2 ^ 32) mine (all_at IsSmall f.0 rs small f.1) in
+    let same : number_key_of f.0 ≡ pair_key (t, n) = ap (λ u. pair_key (u, f.0.number)) mine ∙ ap (λ m. pair_key (t, m)) at in
+    own_path number_key_of (λ r. r.tenant) (λ r. big_endian 8 (flipped w64 r.number)) (λ r. refl) t low rs (numbers_ascend rs fits are.numbers_in_order) small f.0 f.1 mine (pair_key (t, n))
+    ([], sym same ∙ sym (append-nil (number_key_of f.0)))
+
+equal_front : (k j : List ℕ) → bytes_eq j k ≡ true → BeginsWith j k
+equal_front k j e = ([], sym ((bytes_eq-Decides j k).0 e) ∙ sym (append-nil j))
+
+short_key : (t : ℕ) (k : List ℕ) (records : Records) (n : ℕ) → n ≤ path_nodes full_key_of records.keys (full_key t k) → n ≤ length k + 5
+short_key t k records n few = let short = path_is_short full_key_of records.keys (full_key t k) in omega arith
+
+pub short_of : (c : Option Command) (records : Records) (n : ℕ) → IsWithin (visits_of c records) n → IsShort c n
+short_of None records n w = tt
+short_of (Some dump) records n w = tt
+short_of (Some audit) records n w = tt
+short_of (Some (of_tenant t (put k v))) records n w = tt
+short_of (Some (of_tenant t (over k v))) records n w = tt
+short_of (Some (of_tenant t (del k))) records n w = tt
+short_of (Some (of_tenant t (get k))) records n w = short_key t k records n w.1
+short_of (Some (of_tenant t (find_front k))) records n w = short_key t k records n w.1
+short_of (Some (of_tenant t (nput m v))) records n w = tt
+short_of (Some (of_tenant t (ndel m))) records n w = tt
+short_of (Some (of_tenant t (nspan l h))) records n w = tt
+short_of (Some (of_tenant t drop)) records n w = tt
+short_of (Some (of_tenant t (nget m))) records n w =
+    let short = path_is_short number_key_of records.numbers (pair_key (t, m)) in
+    let long : length (pair_key (t, m)) ≡ 12 = refl in
+    let few = w.1 in
+    omega arith
+short_of (Some (of_tenant t (list p))) records n w = tt
+short_of (Some (of_tenant t (span l h))) records n w = tt
+
+-- a count that is the path's
+own_count : (t : ℕ) (k : List ℕ) (records : Records) (n : ℕ) → path_nodes full_key_of records.keys (full_key t k) ≤ n → n ≤ path_nodes full_key_of records.keys (full_key t k)
+    → IsOwnPath full_key_of (λ r. r.tenant) t (full_key t k) records.keys (path_nodes full_key_of records.keys (full_key t k)) → IsOwnPath full_key_of (λ r. r.tenant) t (full_key t k) records.keys n
+own_count t k records n low high own = subst (IsOwnPath full_key_of (λ r. r.tenant) t (full_key t k) records.keys) (sym (same_number n _ low high)) own
+
+pub own_path_of : (c : Option Command) (records : Records) (n : ℕ) → AreRecords records → IsWithin (visits_of c records) n → ReadsOwnPath c records n
+own_path_of None records n are w = tt
+own_path_of (Some dump) records n are w = tt
+own_path_of (Some audit) records n are w = tt
+own_path_of (Some (of_tenant t (put k v))) records n are w = tt
+own_path_of (Some (of_tenant t (over k v))) records n are w = tt
+own_path_of (Some (of_tenant t (del k))) records n are w = tt
+own_path_of (Some (of_tenant t (get k))) records n are w = λ some.
+    own_count t k records n w.0 w.1 (path_of_found t k (λ j. bytes_eq j k) (equal_front k) records are (found_some (λ (p : List ℕ × List ℕ). p.1) (find (λ p. bytes_eq p.0 k) (own t records).keys) some))
+own_path_of (Some (of_tenant t (find_front k))) records n are w = λ some.
+    own_count t k records n w.0 w.1 (path_of_found t k (λ j. begins_with j k) (λ j e. begins_true j k e) records are some)
+own_path_of (Some (of_tenant t (nput m v))) records n are w = tt
+own_path_of (Some (of_tenant t (ndel m))) records n are w = tt
+own_path_of (Some (of_tenant t (nspan l h))) records n are w = tt
+own_path_of (Some (of_tenant t drop)) records n are w = tt
+own_path_of (Some (of_tenant t (nget m))) records n are w = λ some.
+    subst (IsOwnPath number_key_of (λ r. r.tenant) t (pair_key (t, m)) records.numbers) (sym (same_number n _ w.0 w.1))
+    (path_of_number t m records are (found_some (λ (p : ℤ × List ℕ). p.1) (find (λ p. int_eq p.0 m) (own t records).numbers) some))
+own_path_of (Some (of_tenant t (list p))) records n are w = tt
+own_path_of (Some (of_tenant t (span l h))) records n are w = tt

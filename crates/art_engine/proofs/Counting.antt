@@ -1,0 +1,137 @@
+-- How many nodes a look-up reads: the path of its full key, which is short, and is the tenant's own and what it shares
+-- with others.
+use Rattle.std.proofs.Common.{◌≡◌, ℕ, ◌+◌, ◌<◌, ◌≤◌, ◌^◌, List, [], ◌∷◌, length, map, refl, sym, ap, ◌∙◌, subst, inl, inr, Bool, true, false, not, cond, arith, bytes_eq, Option, Some, None}
+use Rattle.std.specs.Prelude.{◌==◌, ◌&&◌, filter, IsSome}
+use Rattle.std.specs.List.{AllByRecursion, find}
+use Rattle.std.specs.Int.{to_be_bytes, w32}
+use Rattle.std.proofs.lemmas.Bool.{eq-eqb, eqb-true}
+use Rattle.art_bytes.specs.Keys.{BeginsWith, common_prefix}
+use Rattle.art_arena.specs.tree.Changes.{IsIn}
+use Rattle.art_arena.specs.tree.Fronts.{distinct}
+use Rattle.art_arena.specs.tree.Order.{AscendsByKey}
+use Rattle.art_arena.specs.tree.Paths.{path_of}
+use Rattle.art_arena.specs.tree.Tenants.{begins_with, with_front, without_front, crossings}
+use Rattle.art_arena.specs.tree.TreeOf.{tree_of}
+use Rattle.art_arena.specs.tree.Trees.{Tree, items, IsCanonical}
+use Rattle.art_arena.proofs.tree.Blocks.{front_is_block}
+use Rattle.art_arena.proofs.tree.Exists.{tree_of_ascending}
+use Rattle.art_arena.proofs.tree.Landing.{path_same}
+use Rattle.art_arena.proofs.tree.Sizes.{path_length as path_short}
+use Rattle.art_arena.proofs.tree.Tenants.{tenant_path, few_crossings}
+use Rattle.art_walks.specs.MapReads.{path_length}
+use Rattle.art_engine.specs.Counts.{path_nodes, fronts_shared, IsOwnPath}
+use Rattle.art_lines.specs.Keys.{full_key}
+use Rattle.art_engine.proofs.FullTests.{begins_full}
+
+module _ {X : Type 0} (key : X → List ℕ) (tenant_of : X → ℕ) (rest_of : X → List ℕ) (keys_are : (x : X) → key x ≡ full_key (tenant_of x) (rest_of x)) (t : ℕ) (small : t < 2 ^ 32) where
+  abbrev pub AreSmall : List X → Type 0
+  AreSmall xs = AllByRecursion (λ x. tenant_of x < 2 ^ 32) xs
+
+  abbrev mine : List X → List X
+  mine xs = filter (λ x. tenant_of x == t) xs
+
+  abbrev front : List ℕ
+  front = full_key t []
+
+  -- the tenant's front is that of its records
+  begins : (x : X) → tenant_of x < 2 ^ 32 → begins_with front (key x) ≡ ((tenant_of x == t) && true)
+  begins x fits = ap (begins_with front) (keys_are x) ∙ begins_full t (tenant_of x) [] (rest_of x) small fits
+
+  own_records : (xs : List X) → AreSmall xs → with_front key front xs ≡ mine xs
+  own_records [] fits = refl
+  own_records (x ∷ xs) fits = go (begins_with front (key x)) (tenant_of x == t) (begins x fits.0) (own_records xs fits.1)
+    where
+      go : (a b : Bool) → a ≡ (b && true) → with_front key front xs ≡ mine xs → cond a (x ∷ with_front key front xs) (with_front key front xs) ≡ cond b (x ∷ mine xs) (mine xs)
+      go a true e ih = rw e (ap (λ l. x ∷ l) ih)
+      go a false e ih = rw e ih
+
+  -- what it shares with other records is what it shares with their tenants
+  abbrev others : List X → List X
+  others xs = filter (λ x. not (tenant_of x == t)) xs
+
+  abbrev met_key : X → List ℕ
+  met_key x = common_prefix front (key x)
+
+  abbrev met_tenant : X → List ℕ
+  met_tenant x = common_prefix (to_be_bytes w32 t) (to_be_bytes w32 (tenant_of x))
+
+  others_met : (xs : List X) → AreSmall xs → map met_key (without_front key front xs) ≡ map met_tenant (others xs)
+  others_met [] fits = refl
+  others_met (x ∷ xs) fits = go (begins_with front (key x)) (tenant_of x == t) (begins x fits.0) (others_met xs fits.1)
+    where
+      go : (a b : Bool) → a ≡ (b && true) → map met_key (without_front key front xs) ≡ map met_tenant (others xs)
+          → map met_key (cond (not a) (x ∷ without_front key front xs) (without_front key front xs)) ≡ map met_tenant (cond (not b) (x ∷ others xs) (others xs))
+      go a true e ih = rw e ih
+      go a false e ih = rw e (ap (λ l. met_key x ∷ l) ih ∙ ap (λ (k : List ℕ). common_prefix front k ∷ map met_tenant (others xs)) (keys_are x))
+
+  shares : (xs : List X) → AreSmall xs → crossings key front xs ≡ fronts_shared tenant_of t xs
+  shares xs fits = ap (λ ms. length (distinct bytes_eq ms)) (others_met xs fits)
+
+  -- no more than four fronts are shared
+  pub few_shared : (xs : List X) → AreSmall xs → fronts_shared tenant_of t xs ≤ 4
+  few_shared xs fits = subst (λ n. n ≤ 4) (shares xs fits) (few_crossings key front xs)
+
+  is_mine : (x : X) (xs : List X) → tenant_of x ≡ t → IsIn x xs → IsIn x (mine xs)
+  is_mine x [] own i = absurd i
+  is_mine x (y ∷ ys) own i = go (tenant_of y == t) refl (is_mine x ys own) i
+    where
+      go : (b : Bool) → (tenant_of y == t) ≡ b → (IsIn x ys → IsIn x (mine ys)) → IsIn x (y ∷ ys) → IsIn x (cond b (y ∷ mine ys) (mine ys))
+      go true e ih (inl same) = inl same
+      go true e ih (inr later) = inr (ih later)
+      go false e ih (inl same) = absurd (let met : (tenant_of y == t) ≡ true = eq-eqb (tenant_of y) t (ap tenant_of same ∙ own) in cc)
+      go false e ih (inr later) = ih later
+
+  -- the path of a key that goes on behind a stored one
+  path_in_tree : (xs : List X) → AscendsByKey key xs → (x : X) → IsIn x xs → (k : List ℕ) → BeginsWith (key x) k
+      → (u : Tree X) × (tree_of key xs ≡ Some u) × IsCanonical key [] u × (items u ≡ xs) × (path_of u k ≡ path_of u (key x))
+  path_in_tree [] order x i k begins = absurd i
+  path_in_tree (y ∷ ys) order x i k begins =
+      let u = tree_of_ascending key y ys order in
+      (u.0, u.1, u.2, u.3, path_same key u.0 u.2 k x (subst (IsIn x) (sym u.3) i) begins)
+
+  pub own_path : (xs : List X) → AscendsByKey key xs → AreSmall xs → (x : X) → IsIn x xs → tenant_of x ≡ t → (k : List ℕ) → BeginsWith (key x) k
+      → IsOwnPath key tenant_of t k xs (path_nodes key xs k)
+  own_path xs order fits x i own k begins =
+      let own_order = subst (AscendsByKey key) (own_records xs fits) (front_is_block X key front xs order).0 in
+      let all = path_in_tree xs order x i k begins in
+      let part = path_in_tree (mine xs) own_order x (is_mine x xs own i) k begins in
+      let within : items part.0 ≡ with_front key front (items all.0) = part.3 ∙ sym (own_records xs fits) ∙ ap (with_front key front) (sym all.3) in
+      let split = tenant_path key front all.0 part.0 all.2 part.2 within x (subst (IsIn x) (sym part.3) (is_mine x xs own i)) in
+      let whole : path_nodes key xs k ≡ length (path_of all.0 (key x)) = ap (path_length k) all.1 ∙ ap length all.4 in
+      let mine_is : path_nodes key (mine xs) k ≡ length (path_of part.0 (key x)) = ap (path_length k) part.1 ∙ ap length part.4 in
+      let shared : crossings key front (items all.0) ≡ fronts_shared tenant_of t xs = ap (crossings key front) all.3 ∙ shares xs fits in
+      record { path = omega (arith, whole, mine_is, shared, split); few = few_shared xs fits }
+
+-- a path has at most one node more than its key has bytes
+pub path_is_short : {X : Type 0} (key : X → List ℕ) (xs : List X) (k : List ℕ) → path_nodes key xs k ≤ length k + 1
+path_is_short {X = X} key xs k = go (tree_of key xs)
+  where
+    go : (o : Option (Tree X)) → path_length k o ≤ length k + 1
+    go None = omega arith
+    go (Some t) = path_short t k
+
+-- a record that is found among a tenant's by a test of its key, or of its number
+module _ {X A : Type 0} (tenant_of : X → ℕ) (part : X → A × List ℕ) (t : ℕ) (T : A → Bool) where
+  abbrev pub IsFoundAmong : List X → Type 0
+  IsFoundAmong xs = (x : X) × IsIn x xs × (tenant_of x ≡ t) × (T (part x).0 ≡ true)
+
+  behind : (x : X) (xs : List X) → IsFoundAmong xs → IsFoundAmong (x ∷ xs)
+  behind x xs f = (f.0, inr f.1, f.2, f.3)
+
+  abbrev IsMet : List (A × List ℕ) → Type 0
+  IsMet pairs = IsSome (find (λ p. T p.0) pairs)
+
+  abbrev parts : List X → List (A × List ℕ)
+  parts xs = map part (filter (λ x. tenant_of x == t) xs)
+
+  pub found_record : (xs : List X) → IsMet (parts xs) → IsFoundAmong xs
+  found_record [] some = absurd (cc)
+  found_record (x ∷ xs) some = go (tenant_of x == t) refl (λ s. behind x xs (found_record xs s)) some
+    where
+      here : (b : Bool) → T (part x).0 ≡ b → tenant_of x ≡ t → (IsMet (parts xs) → IsFoundAmong (x ∷ xs)) → IsSome (cond b (Some (part x)) (find (λ p. T p.0) (parts xs))) → IsFoundAmong (x ∷ xs)
+      here true e own later some = (x, inl refl, own, e)
+      here false e own later some = later some
+
+      go : (b : Bool) → (tenant_of x == t) ≡ b → (IsMet (parts xs) → IsFoundAmong (x ∷ xs)) → IsMet (map part (cond b (x ∷ filter (λ x. tenant_of x == t) xs) (filter (λ x. tenant_of x == t) xs))) → IsFoundAmong (x ∷ xs)
+      go true e later some = here (T (part x).0) refl (eqb-true (tenant_of x) t e) later some
+      go false e later some = later some

@@ -1,0 +1,209 @@
+-- All that a tenant has is dropped: how that is answered, what it leaves, and when it may find no memory.
+use Rattle.std.proofs.Common.{◌≡◌, ◌≢◌, ℕ, ℤ, ◌+◌, ◌-◌, ◌*◌, ◌<◌, ◌≤◌, ◌^◌, min, List, [], ◌∷◌, ◌++◌, length, map, refl, ap, ap₂, sym, ◌∙◌, subst, true, not, arith, inl, inr}
+use Rattle.std.specs.Prelude.{◌==◌, ◌&&◌, nat_lt, filter, codes}
+use Rattle.std.specs.Int.{w64}
+use Rattle.std.specs.List.{AllByRecursion}
+use Rattle.art_bytes.specs.Keys.{BeginsWith, common_prefix}
+use Rattle.art_bytes.specs.Laws.{pair_key}
+use Rattle.art_bytes.specs.Numbers.{big_endian, flipped}
+use Rattle.art_arena.specs.tree.Kinds.{IsLimit}
+use Rattle.art_arena.specs.tree.Tenants.{begins_with, with_front, without_front}
+use Rattle.art_arena.proofs.tree.Paths.{in_map, in_unmap}
+use Rattle.art_map.specs.PrefixBlocks.{cut_visits}
+use Rattle.art_operations.specs.NodeCounts.{node_count}
+use Rattle.art_operations.specs.Openings.{OpeningReads}
+use Rattle.art_operations.specs.Subtrees.{ShrinksWithout}
+use Rattle.art_operations.proofs.NodeCounts.{counted-map}
+use Rattle.art_operations.proofs.LeafPairs.{width_of-map, without-shrinks}
+use Rattle.art_engine.specs.declared.dropped.Dropped.{Dropped}
+use Rattle.art_engine.specs.declared.dropped.Dropped.TheVariants as dropped
+use Rattle.art_lines.specs.Words.{name, natural}
+use Rattle.art_engine.specs.Counts.{longest, dropping, one_if_any, IsWithin}
+use Rattle.art_engine.specs.Dropped.{IsDropDone}
+use Rattle.art_lines.specs.Keys.{full_key}
+use Rattle.art_engine.specs.Keys.{full_key_of, number_key_of}
+use Rattle.art_engine.specs.Records.{Own, KeyFits, KeyRecord, NumberFits, NumberRecord, Records, own, with_own}
+use Rattle.art_engine.specs.Stored.{Pair, NumberPair, record_of, number_record_of, all_records_of, IsFull, IsOfTenant, IsNumberPair, ArePairs, AreNumberPairs}
+use Rattle.art_engine.proofs.Changing.{itself, keys_are}
+use Rattle.art_engine.proofs.Conflicts.{bytes_of}
+use Rattle.art_engine.proofs.Dropping.{All-filter, All-left_out}
+use Rattle.art_engine.proofs.Filters.{length-map}
+use Rattle.art_engine.proofs.FullKeys.{begins-full_key, keeps_both}
+use Rattle.art_engine.proofs.FullTests.{begins_full}
+use Rattle.art_engine.proofs.Listings.{longest_by_keys, within_longest}
+use Rattle.art_engine.proofs.NumberKeys.{HaveBytes}
+use Rattle.art_engine.proofs.NumberPlaces.{number_bytes, number_keys_are, StandsUnder, stand_all, numbers_without, ascends-filter}
+use Rattle.art_engine.proofs.OwnFronts.{begins_number, own_is_behind_front}
+use Rattle.art_engine.proofs.OwnLaws.{key_made, number_made, records_from_lists}
+use Rattle.art_engine.proofs.Putting.{pairs_of_tenant}
+use Rattle.art_engine.proofs.Removing.{IsFullTest, without_keeps, without_is}
+
+-- where all pass, none is left
+none_left : {X : Type 0} (xs : List X) → filter (λ (x : X). not true) xs ≡ []
+none_left [] = refl
+none_left (x ∷ xs) = none_left xs
+
+-- what has no length is empty
+no_length : {X : Type 0} (xs : List X) → length xs ≡ 0 → xs ≡ []
+no_length [] e = refl
+no_length (x ∷ xs) e = absurd (omega arith)
+
+-- the loss of what begins with a front shrinks as much, whether items or what they are mapped to have the keys
+without-unmapped : {X Y : Type 0} (f : X → Y) (key : Y → List ℕ) (xs : List X) (front : List ℕ) → ShrinksWithout key (map f xs) front → ShrinksWithout (λ x. key (f x)) xs front
+without-unmapped f key xs front (m, ((z, i, apart, meets), longest), limit) =
+    let back = in_unmap f z xs i in (
+      m,
+      (
+        (back.0, back.1, subst (λ w. BeginsWith front (key w) → ⊥) (sym back.2) apart, ap (λ w. common_prefix front (key w)) back.2 ∙ meets),
+        λ w j other. longest (f w) (in_map f w xs j) other,
+      ),
+      subst IsLimit (width_of-map f key m xs) limit,
+    )
+
+-- so that goes by the keys alone
+without_by_keys : {X Y : Type 0} (key : X → List ℕ) (other : Y → List ℕ) (xs : List X) (ys : List Y) (front : List ℕ) → map key xs ≡ map other ys → ShrinksWithout key xs front → ShrinksWithout other ys front
+without_by_keys key other xs ys front same h =
+    without-unmapped other itself ys front (subst (λ ks. ShrinksWithout itself ks front) same (without-shrinks key itself xs front h))
+
+-- pairs that an index may hold, in another way
+pub same_pairs : (ps qs : List Pair) → ps ≡ qs → ArePairs qs → ArePairs ps
+same_pairs ps qs same are = subst ArePairs (sym same) are
+
+pub same_number_pairs : (ns ms : List NumberPair) → ns ≡ ms → AreNumberPairs ms → AreNumberPairs ns
+same_number_pairs ns ms same are = subst AreNumberPairs (sym same) are
+
+-- what is answered in another way
+pub drop_same : (d e : Dropped) (t : ℕ) (old new : Records) → d ≡ e → IsDropDone e t old new → IsDropDone d t old new
+drop_same d e t old new same h = subst (λ x. IsDropDone x t old new) (sym same) h
+
+-- what is read to find what begins with the four bytes of a tenant
+pub front_reads : (longest len reads : ℕ) → len ≡ 4 → OpeningReads longest len 0 reads → OpeningReads longest 4 0 reads
+front_reads longest len reads four h = subst (λ n. OpeningReads longest n 0 reads) four h
+
+-- the same of another prefix and other pairs, where they are these
+pub visits_same : {K V : Type 0} (bytes : K → List ℕ) (visits reads : ℕ) (f g : List ℕ) (qs ps : List (K × V)) → f ≡ g → qs ≡ ps → visits ≡ cut_visits bytes f qs reads → visits ≡ cut_visits bytes g ps reads
+visits_same bytes visits reads f g qs ps same are is = is ∙ ap₂ (λ h xs. cut_visits bytes h xs reads) same are
+
+-- where there is a pair, the root was read
+root_read : {X Y : Type 0} (f : X → Y) (xs : List X) (reads : ℕ) → (xs ≢ [] → 1 ≤ reads) → one_if_any (map f xs) ≤ reads
+root_read f [] reads some = omega arith
+root_read f (x ∷ xs) reads some = some (λ e. cc)
+
+-- the full keys of a tenant are those that begin with its four bytes
+full_behind : (t : ℕ) → t < 2 ^ 32 → (ps : List Pair) → AllByRecursion IsFull ps → AllByRecursion IsOfTenant (map record_of ps)
+    → map full_key_of (filter (λ (r : KeyRecord). r.tenant == t) (map record_of ps)) ≡ map bytes_of (with_front bytes_of (full_key t []) ps)
+full_behind t small [] full fits = refl
+full_behind t small (p ∷ ps) full fits =
+    let r = record_of p in
+    let here : begins_with (full_key t []) p.0.items ≡ (r.tenant == t) = ap (begins_with (full_key t [])) full.0 ∙ begins-full_key t r.tenant r.key small fits.0 in
+    keeps_both full_key_of bytes_of (r.tenant == t) (begins_with (full_key t []) p.0.items) r p
+    (filter (λ (r : KeyRecord). r.tenant == t) (map record_of ps)) (with_front bytes_of (full_key t []) ps) (sym here) (sym full.0) (full_behind t small ps full.1 fits.1)
+
+-- and so are the bytes of its numbers
+numbers_behind : (t : ℕ) → t < 2 ^ 32 → (ns : List NumberPair) → AllByRecursion StandsUnder ns
+    → map number_key_of (filter (λ (r : NumberRecord). r.tenant == t) (map number_record_of ns)) ≡ map number_bytes (with_front number_bytes (full_key t []) ns)
+numbers_behind t small [] stand = refl
+numbers_behind t small (p ∷ ns) stand =
+    let r = number_record_of p in
+    keeps_both number_key_of number_bytes (r.tenant == t) (begins_with (full_key t []) p.0) r p
+    (filter (λ (r : NumberRecord). r.tenant == t) (map number_record_of ns)) (with_front number_bytes (full_key t []) ns) (sym (begins_number t p small stand.0)) (sym stand.0.key) (numbers_behind t small ns stand.1)
+
+-- no bytes of a number are longer than the longest of the records
+pub all_numbers_within : (ns : List NumberPair) → AllByRecursion IsNumberPair ns → AllByRecursion (λ p. length p.0 ≤ longest number_key_of (map number_record_of ns)) ns
+all_numbers_within ns stand =
+    subst (λ n. AllByRecursion (λ (p : NumberPair). length p.0 ≤ n) ns) (longest_by_keys number_bytes number_key_of ns (map number_record_of ns) (number_keys_are ns stand)) (within_longest number_bytes ns)
+
+module _ (t : ℕ) (small : t < 2 ^ 32) (ps : List Pair) (ns : List NumberPair) (are : ArePairs ps) (nums : AreNumberPairs ns) where
+  -- what the tenant's full keys begin with, and the pairs of others
+  abbrev pub front : List ℕ
+  front = full_key t []
+
+  abbrev pub keys_left : List Pair
+  keys_left = without_front bytes_of front ps
+
+  abbrev pub numbers_left : List NumberPair
+  numbers_left = without_front number_bytes front ns
+
+  abbrev old : Records
+  old = all_records_of ps ns
+
+  tests : IsFullTest t (begins_with front) (λ j. true)
+  tests u j fits = begins_full t u [] j small fits
+
+  number_tests : (u : ℕ) (m : ℤ) → HaveBytes u m → begins_with front (pair_key (u, m)) ≡ ((u == t) && true)
+  number_tests u m h = begins_full t u [] (big_endian 8 (flipped w64 m)) small h.0
+
+  stand : AllByRecursion StandsUnder ns
+  stand = stand_all ns nums.stand nums.fit
+
+  -- they are as an index holds them
+  pub keys_kept : ArePairs keys_left
+  keys_kept = record {
+    stand = without_keeps t (begins_with front) (λ j. true) tests ps are.stand;
+    fit = All-left_out KeyFits record_of (λ p. not (begins_with front (bytes_of p))) ps are.fit;
+  }
+
+  pub numbers_kept : AreNumberPairs numbers_left
+  numbers_kept = record {
+    stand = All-filter IsNumberPair (λ p. not (begins_with front p.0)) ns nums.stand;
+    ascend = ascends-filter (λ p. not (begins_with front p.0)) ns nums.ascend;
+    fit = All-left_out NumberFits number_record_of (λ p. not (begins_with front p.0)) ns nums.fit;
+  }
+
+  -- and their records are those where the tenant has nothing
+  records_left : all_records_of keys_left numbers_left ≡ with_own t (record { keys = []; numbers = [] }) old
+  records_left = records_from_lists _ _ _ _
+      (without_is t (begins_with front) (λ j. true) tests ps are.stand
+      ∙ ap (λ l. filter (λ r. nat_lt r.tenant t) (map record_of ps) ++ map (key_made t) l ++ filter (λ r. nat_lt t r.tenant) (map record_of ps)) (none_left (pairs_of_tenant t (map record_of ps))))
+      (numbers_without t (begins_with front) (λ m. true) number_tests ns stand nums.ascend
+      ∙ ap (λ l. filter (λ r. nat_lt r.tenant t) (map number_record_of ns) ++ map (number_made t) l ++ filter (λ r. nat_lt t r.tenant) (map number_record_of ns)) (none_left (own t old).numbers))
+
+  -- the tenant has as many as begin so
+  keys_counted : length (own t old).keys ≡ length (with_front bytes_of front ps)
+  keys_counted = ap (λ (o : Own). length o.keys) (own_is_behind_front t ps ns small are.stand nums) ∙ length-map _ (with_front bytes_of front ps)
+
+  numbers_counted : length (own t old).numbers ≡ length (with_front number_bytes front ns)
+  numbers_counted = ap (λ (o : Own). length o.numbers) (own_is_behind_front t ps ns small are.stand nums) ∙ length-map _ (with_front number_bytes front ns)
+
+  module _ (new_ps : List Pair) (new_ns : List NumberPair) where
+    pub drop_done : (k n v : ℕ) → new_ps ≡ keys_left → new_ns ≡ numbers_left → k ≡ length (with_front bytes_of front ps) → n ≡ length (with_front number_bytes front ns)
+        → IsWithin (dropping t old) v → IsDropDone (dropped.Gone k n v) t old (all_records_of new_ps new_ns)
+    drop_done k n v is_left are_left keys numbers within = record {
+      told = ap (λ c. (name (codes "dropped") ∷ natural c ∷ []) ∷ []) (ap₂ (λ a b. a + b) (keys ∙ sym keys_counted) (numbers ∙ sym numbers_counted));
+      left = ap₂ all_records_of is_left are_left ∙ records_left;
+      counted = within;
+    }
+
+    -- where it finds no memory, the loss of what begins so makes a node smaller
+    pub keys_refused : new_ps ≡ ps → new_ns ≡ ns → (with_front bytes_of front ps ≢ []) × ShrinksWithout bytes_of ps front → IsDropDone dropped.Memory t old (all_records_of new_ps new_ns)
+    keys_refused same same_numbers h = (
+      ap₂ all_records_of same same_numbers,
+      inl ((λ none. h.0 (no_length _ (sym keys_counted ∙ ap length none))), without_by_keys bytes_of full_key_of ps (map record_of ps) front (keys_are ps are.stand.full) h.1),
+    )
+
+    pub numbers_refused : new_ps ≡ ps → new_ns ≡ ns → (with_front number_bytes front ns ≢ []) × ShrinksWithout number_bytes ns front → IsDropDone dropped.Memory t old (all_records_of new_ps new_ns)
+    numbers_refused same same_numbers h = (
+      ap₂ all_records_of same same_numbers,
+      inr ((λ none. h.0 (no_length _ (sym numbers_counted ∙ ap length none))), without_by_keys number_bytes number_key_of ns (map number_record_of ns) front (number_keys_are ns nums.stand) h.1),
+    )
+
+  -- the nodes behind the front are told by the tenant's records
+  keys_freed : node_count bytes_of (with_front bytes_of front ps) ≡ node_count full_key_of (filter (λ (r : KeyRecord). r.tenant == t) (map record_of ps))
+  keys_freed =
+      counted-map bytes_of (with_front bytes_of front ps) ∙ ap (node_count itself) (sym (full_behind t small ps are.stand.full are.stand.tenants))
+      ∙ sym (counted-map full_key_of (filter (λ (r : KeyRecord). r.tenant == t) (map record_of ps)))
+
+  numbers_freed : node_count number_bytes (with_front number_bytes front ns) ≡ node_count number_key_of (filter (λ (r : NumberRecord). r.tenant == t) (map number_record_of ns))
+  numbers_freed =
+      counted-map number_bytes (with_front number_bytes front ns) ∙ ap (node_count itself) (sym (numbers_behind t small ns stand))
+      ∙ sym (counted-map number_key_of (filter (λ (r : NumberRecord). r.tenant == t) (map number_record_of ns)))
+
+  -- so many nodes are read to find what begins so, r in the one tree and s in the other, and those behind are freed
+  pub drop_counts : (x y r s v : ℕ) → x ≡ min (r + node_count bytes_of (with_front bytes_of front ps)) (2 ^ 64 - 1) → y ≡ min (s + node_count number_bytes (with_front number_bytes front ns)) (2 ^ 64 - 1)
+      → (ps ≢ [] → 1 ≤ r) → (ns ≢ [] → 1 ≤ s) → OpeningReads (longest full_key_of old.keys) 4 0 r → OpeningReads (longest number_key_of old.numbers) 4 0 s → v ≡ min (x + y) (2 ^ 64 - 1) → IsWithin (dropping t old) v
+  drop_counts x y r s v keys numbers some_keys some_numbers first second is =
+      let a = keys_freed in
+      let b = numbers_freed in
+      let d = root_read record_of ps r some_keys in
+      let e = root_read number_record_of ns s some_numbers in
+      (omega (arith, a, b, keys, numbers, is, d, e), omega (arith, a, b, keys, numbers, first, second, is))

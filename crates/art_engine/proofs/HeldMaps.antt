@@ -1,0 +1,165 @@
+-- Pairs that an index may be made of: under full keys of bytes that ascend, each with a line that is short enough.
+use Rattle.std.proofs.Common.{◌≡◌, ℕ, ℤ, ◌-◌, min, ap₂, take-append-drop, length-drop, ◌+◌, ◌*◌, ◌<◌, ◌≤◌, ◌^◌, ◌⊎◌, List, [], ◌∷◌, ◌++◌, length, take, drop, map, get_or, refl, ap, sym, ◌∙◌, subst, true, false, inl, inr, arith, length-append}
+use Rattle.std.specs.Prelude.{◌==◌, ◌&&◌, nat_lt, decimal, FitsSigned, bit_xor}
+use Rattle.std.specs.Fmt.{signed_decimal}
+use Rattle.std.specs.List.{AllByRecursion}
+use Rattle.std.specs.Int.{to_be_bytes, from_be_bytes, cast_signed, w32, w64}
+use Rattle.std.specs.Int.Bits.{xor_assoc, xor_self, xor_zero_r}
+use Rattle.std.proofs.lemmas.Int.{of_z-to_z}
+use borrow.Author.Gap.{read_sfits}
+use Rattle.std.proofs.lemmas.Nat.{be_bytes_4, be_bytes_8, xor_lt}
+use Rattle.std.specs.Ordering.{is_lt}
+use Rattle.std.proofs.lemmas.Bool.{eqb-true, ltb-true, or_cases, and_parts, false_from_ne_true, true≢false}
+use Rattle.std.proofs.lemmas.List.{get_or-drop, length-take-le}
+use Rattle.art_bytes.specs.Keys.{IsBefore, is_below, conflicts}
+use Rattle.art_bytes.specs.Laws.{pair_key}
+use Rattle.art_bytes.specs.Numbers.{flipped, top_bit}
+use Rattle.art_bytes.proofs.Conflicts.{told_conflict}
+use Rattle.art_arena.specs.tree.Order.{AscendsByKey}
+use Rattle.art_arena.proofs.tree.Lexicographic.{order_is_lexicographic}
+use Rattle.art_lines.specs.Commands.{put_words, nput_words}
+use Rattle.art_engine.specs.Held.{IsShortRecord, IsShortNumber, IsRecordIn, IsNumberRecordIn}
+use Rattle.art_engine.specs.Keys.{full_key_of, number_of_bytes}
+use Rattle.art_lines.specs.ReplyWords.{number_words}
+use Rattle.art_engine.specs.Records.{KeyRecord, InOrder, KeyComesBefore, KeyFits, NumberFits}
+use Rattle.art_engine.specs.Stored.{Pair, NumberPair, record_of, number_record_of, IsFull, IsOfTenant, ArePairs, IsNumberPair, AreNumberPairs}
+use Rattle.art_lines.specs.Words.{bytes, shown, text_of, line_of}
+use Rattle.art_engine.proofs.Conflicts.{bytes_of}
+use Rattle.art_engine.proofs.FieldLengths.{length-encode}
+use Rattle.art_engine.proofs.FullKeys.{full_keys_keep_order, full_keys_keep_conflicts}
+use Rattle.art_lines.proofs.FullKeys.{full_key_again, tenant_small, front_small}
+use Rattle.art_lines.proofs.ReplyLines.{put_parts, nput_parts, number_parts}
+
+-- records are in order where their full keys are
+comes_before : (r s : KeyRecord) → IsOfTenant r → IsOfTenant s → IsBefore (full_key_of r) (full_key_of s) → KeyComesBefore r s
+comes_before r s rs ss before =
+    let lex = (order_is_lexicographic (full_key_of r) (full_key_of s)).0 before in
+    let below : is_below (full_key_of r) (full_key_of s) ≡ true = ap is_lt lex.0 in
+    let free : conflicts (full_key_of r) (full_key_of s) ≡ false = false_from_ne_true _ (λ e. lex.1 (told_conflict (full_key_of r) (full_key_of s) e)) in
+    go (or_cases _ _ (sym (full_keys_keep_order r.tenant s.tenant r.key s.key rs ss) ∙ below)) (sym (full_keys_keep_conflicts r.tenant s.tenant r.key s.key rs ss) ∙ free)
+  where
+    go : (nat_lt r.tenant s.tenant ≡ true) ⊎ (((r.tenant == s.tenant) && is_below r.key s.key) ≡ true) → ((r.tenant == s.tenant) && conflicts r.key s.key) ≡ false → KeyComesBefore r s
+    go (inl low) free = inl (ltb-true r.tenant s.tenant low)
+    go (inr same) free =
+        let p = and_parts _ _ same in
+        inr (eqb-true r.tenant s.tenant p.0, p.1, (let e = p.0 in rw e at free))
+
+behind_first : (p : Pair) (ps : List Pair) → IsFull p → IsOfTenant (record_of p) → AllByRecursion IsFull ps → AllByRecursion IsOfTenant (map record_of ps)
+    → AllByRecursion (λ q. IsBefore (bytes_of p) (bytes_of q)) ps → AllByRecursion (KeyComesBefore (record_of p)) (map record_of ps)
+behind_first p [] full fits fulls small order = tt
+behind_first p (q ∷ qs) full fits fulls small order =
+    (comes_before (record_of p) (record_of q) fits small.0 (subst (λ k. IsBefore k (full_key_of (record_of q))) full (subst (IsBefore (bytes_of p)) fulls.0 order.0)), behind_first p qs full fits fulls.1 small.1 order.1)
+
+records_in_order : (ps : List Pair) → AllByRecursion IsFull ps → AllByRecursion IsOfTenant (map record_of ps) → AscendsByKey bytes_of ps → InOrder KeyComesBefore (map record_of ps)
+records_in_order [] full small order = tt
+records_in_order (p ∷ ps) full small order = (behind_first p ps full.0 small.0 full.1 small.1 order.0, records_in_order ps full.1 small.1 order.1)
+
+-- a pair under a full key, whose record fits
+abbrev pub IsRecord : Pair → Type 0
+IsRecord p = IsFull p × KeyFits (record_of p)
+
+pub are_pairs : (ps : List Pair) → AscendsByKey bytes_of ps → AllByRecursion IsRecord ps → ArePairs ps
+are_pairs ps order all =
+    let full = fulls ps all in let fit = fits ps all in let small = tenants ps all in
+    record { stand = record { full = full; in_order = records_in_order ps full small order; tenants = small }; fit = fit }
+  where
+    fulls : (ps : List Pair) → AllByRecursion IsRecord ps → AllByRecursion IsFull ps
+    fulls [] h = tt
+    fulls (p ∷ ps) h = (h.0.0, fulls ps h.1)
+
+    fits : (ps : List Pair) → AllByRecursion IsRecord ps → AllByRecursion KeyFits (map record_of ps)
+    fits [] h = tt
+    fits (p ∷ ps) h = (h.0.1, fits ps h.1)
+
+    tenants : (ps : List Pair) → AllByRecursion IsRecord ps → AllByRecursion IsOfTenant (map record_of ps)
+    tenants [] h = tt
+    tenants (p ∷ ps) h = (h.0.1.tenant_fits, tenants ps h.1)
+
+-- bytes behind a tenant's four
+behind_small : (n : ℕ) (xs : List ℕ) → ((i : ℕ) → get_or xs i 0 < 256) → (i : ℕ) → get_or (drop n xs) i 0 < 256
+behind_small n xs small i = subst (λ b. b < 256) (sym (get_or-drop n xs i 0)) (small (n + i))
+
+pub is_record : (full value : List ℕ) → ((i : ℕ) → get_or full i 0 < 256) → ((i : ℕ) → get_or value i 0 < 256) → IsShortRecord full value → IsRecordIn full value
+is_record full value small fine (long, short) =
+    (full_key_again full long small, record { tenant_fits = tenant_small full small; key_fits = behind_small 4 full small; value_fits = fine; line_fits = short })
+
+-- how long some bytes are as they are shown
+pub length-shown : (v : List ℕ) → (length v == 0) ≡ false → length (shown (bytes v)) ≡ 2 * length v
+length-shown [] some = absurd (true≢false some)
+length-shown (b ∷ bs) some = length-encode (b ∷ bs)
+
+-- how long the line is that makes a record
+pub length-put : (t : ℕ) (k v : List ℕ) → length (text_of (put_words t k v)) ≡ length (decimal t) + length (shown (bytes k)) + length (shown (bytes v)) + 6
+length-put t k v =
+    let ended = length-append (text_of (put_words t k v)) (10 ∷ []) in
+    let whole = ap length (put_parts t t k v refl) in
+    let first = length-append (decimal t) (32 ∷ (shown (bytes k) ++ 32 ∷ (shown (bytes v) ++ 10 ∷ []))) in
+    let second = length-append (shown (bytes k)) (32 ∷ (shown (bytes v) ++ 10 ∷ [])) in
+    let third = length-append (shown (bytes v)) (10 ∷ []) in
+    omega arith
+
+-- lengths are added up, and what is past the greatest number is too long in any case
+pub short_told : (t : ℕ) (k v : List ℕ) (a b x : ℕ) → a ≡ min (length (shown (bytes k))) (2 ^ 64 - 1) → b ≡ min (length (shown (bytes v))) (2 ^ 64 - 1)
+    → x ≡ min (min (min (length (decimal t) + a) (2 ^ 64 - 1) + 6) (2 ^ 64 - 1) + b) (2 ^ 64 - 1)
+    → (x ≤ 4096 → length (text_of (put_words t k v)) ≤ 4096) × (length (text_of (put_words t k v)) ≤ 4096 → x ≤ 4096)
+short_told t k v a b x ka vb is = let long = length-put t k v in (λ low. omega arith, λ low. omega arith)
+
+pub length-nput : (t : ℕ) (n : ℤ) (v : List ℕ) → length (text_of (nput_words t n v)) ≡ length (decimal t) + length (signed_decimal n) + length (shown (bytes v)) + 7
+length-nput t n v =
+    let ended = length-append (text_of (nput_words t n v)) (10 ∷ []) in
+    let whole = ap length (nput_parts t n v) in
+    let first = length-append (decimal t) (32 ∷ line_of (number_words (n, v))) in
+    let line = ap length (number_parts n v) in
+    let second = length-append (signed_decimal n) (32 ∷ (shown (bytes v) ++ 10 ∷ [])) in
+    let third = length-append (shown (bytes v)) (10 ∷ []) in
+    omega arith
+
+pub number_short_told : (t : ℕ) (n : ℤ) (v : List ℕ) (b x : ℕ) → b ≡ min (length (shown (bytes v))) (2 ^ 64 - 1)
+    → x ≡ min (min (min (length (decimal t) + length (signed_decimal n)) (2 ^ 64 - 1) + 7) (2 ^ 64 - 1) + b) (2 ^ 64 - 1)
+    → (x ≤ 4096 → length (text_of (nput_words t n v)) ≤ 4096) × (length (text_of (nput_words t n v)) ≤ 4096 → x ≤ 4096)
+number_short_told t n v b x vb is = let long = length-nput t n v in (λ low. omega arith, λ low. omega arith)
+
+-- the bytes of a number, read and written again
+flip_again : (x top : ℕ) → bit_xor (bit_xor x top) top ≡ x
+flip_again x top = xor_assoc x top top ∙ ap (bit_xor x) (xor_self top) ∙ xor_zero_r x
+
+signed_fits : (y : ℕ) → y < 2 ^ 64 → FitsSigned w64 (cast_signed w64 y)
+signed_fits y small = read_sfits w64 y
+
+pub number_again : (xs : List ℕ) → length xs ≡ 12 → ((i : ℕ) → get_or xs i 0 < 256)
+    → (xs ≡ pair_key (from_be_bytes w32 (take 4 xs), number_of_bytes (drop 4 xs))) × FitsSigned w64 (number_of_bytes (drop 4 xs))
+number_again xs twelve small =
+    let rest : List ℕ = drop 4 xs in
+    let x : ℕ = from_be_bytes w64 rest in
+    let front : length (take 4 xs) ≡ 4 = length-take-le 4 xs (omega arith) in
+    let eight : length rest ≡ 8 = length-drop 4 xs ∙ omega arith in
+    let tenant = be_bytes_4 (take 4 xs) (from_be_bytes w32 (take 4 xs)) front (λ i. front_small 4 xs small i) refl in
+    let number : to_be_bytes w64 x ≡ rest = be_bytes_8 rest x eight (behind_small 4 xs small) refl in
+    let at = behind_small 4 xs small in
+    let a = at 0 in let b = at 1 in let c = at 2 in let d = at 3 in let e = at 4 in let f = at 5 in let g = at 6 in let h = at 7 in
+    let low : x < 2 ^ 64 = omega arith in
+    let turned : bit_xor x (top_bit w64) < 2 ^ 64 = xor_lt 64 x (top_bit w64) low (omega arith) in
+    let back : flipped w64 (number_of_bytes rest) ≡ x = ap (λ y. bit_xor y (top_bit w64)) (of_z-to_z w64 (bit_xor x (top_bit w64)) turned) ∙ flip_again x (top_bit w64) in (
+      sym (ap₂ (λ a b. a ++ b) tenant (ap (to_be_bytes w64) back ∙ number) ∙ take-append-drop 4 xs),
+      signed_fits (bit_xor x (top_bit w64)) turned,
+    )
+
+pub is_number_record : (xs value : List ℕ) → length xs ≡ 12 → ((i : ℕ) → get_or xs i 0 < 256) → ((i : ℕ) → get_or value i 0 < 256) → IsShortNumber xs value → IsNumberRecordIn xs value
+is_number_record xs value twelve small fine short =
+    let again = number_again xs twelve small in
+    (again.0, record { tenant_fits = tenant_small xs small; number_fits = again.1; value_fits = fine; line_fits = short })
+
+-- a pair under the bytes of its record, which fits
+abbrev pub IsNumberRecord : NumberPair → Type 0
+IsNumberRecord p = IsNumberPair p × NumberFits (number_record_of p)
+
+pub are_number_pairs : (ns : List NumberPair) → AscendsByKey (λ p. p.0) ns → AllByRecursion IsNumberRecord ns → AreNumberPairs ns
+are_number_pairs ns order all = record { stand = stands ns all; ascend = order; fit = fits ns all }
+  where
+    stands : (ns : List NumberPair) → AllByRecursion IsNumberRecord ns → AllByRecursion IsNumberPair ns
+    stands [] h = tt
+    stands (p ∷ ns) h = (h.0.0, stands ns h.1)
+
+    fits : (ns : List NumberPair) → AllByRecursion IsNumberRecord ns → AllByRecursion NumberFits (map number_record_of ns)
+    fits [] h = tt
+    fits (p ∷ ns) h = (h.0.1, fits ns h.1)

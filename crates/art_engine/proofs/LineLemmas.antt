@@ -1,0 +1,156 @@
+-- What one more byte does to the lines of a text.
+use Rattle.std.proofs.Math.Seq.{drop-cons}
+use Rattle.std.proofs.lemmas.List.{take_all, take_rest, take-append-drop}
+use Rattle.std.proofs.Common.{◌≡◌, ℕ, zero, suc, ◌-◌, subst, add-one, append-nil, append_assoc, ◌+◌, ◌<◌, ◌≤◌, List, [], ◌∷◌, ◌++◌, length, take, drop, get_or, refl, ap, sym, ◌∙◌, Bool, true, false, cond, arith}
+use Rattle.std.specs.Prelude.{◌==◌}
+use Rattle.art_engine.specs.Progress.{NoNewline}
+use Rattle.std.proofs.lemmas.Bool.{eqb-true}
+use Rattle.std.specs.List.{onto_first}
+use Rattle.art_lines.specs.Lines.{pieces_of, last_of, all_but_last, whole_lines_of, unfinished_line_of}
+
+-- the pieces with a byte behind the last
+abbrev onto_last : List (List ℕ) → ℕ → List (List ℕ)
+onto_last [] b = (b ∷ []) ∷ []
+onto_last (p ∷ []) b = (p ++ b ∷ []) ∷ []
+onto_last (p ∷ q ∷ ps) b = p ∷ onto_last (q ∷ ps) b
+
+onto_last-onto_first : (x : ℕ) (ps : List (List ℕ)) (b : ℕ) (p : List ℕ) → onto_last (onto_first x (p ∷ ps)) b ≡ onto_first x (onto_last (p ∷ ps) b)
+onto_last-onto_first x [] b p = refl
+onto_last-onto_first x (q ∷ ps) b p = refl
+
+-- a text has a piece
+data SomePieces : List (List ℕ) → Type 0 where
+  some : {p : List ℕ} {ps : List (List ℕ)} → SomePieces (p ∷ ps)
+
+some_onto : (x : ℕ) (ps : List (List ℕ)) → SomePieces (onto_first x ps)
+some_onto x [] = some
+some_onto x (p ∷ ps) = some
+
+some_pieces : (text : List ℕ) → SomePieces (pieces_of text)
+some_pieces [] = some
+some_pieces (x ∷ xs) = elim (x == 10) as (λ v. SomePieces (cond v ([] ∷ pieces_of xs) (onto_first x (pieces_of xs)))) [ true ↦ some | false ↦ some_onto x (pieces_of xs) ]
+
+onto_both : (x b : ℕ) (ps : List (List ℕ)) → SomePieces ps → onto_last (onto_first x ps) b ≡ onto_first x (onto_last ps b)
+onto_both x b [] h = elim h [ ]
+onto_both x b (p ∷ ps) some = onto_last-onto_first x ps b p
+
+onto_last-cons : (b : ℕ) (p : List ℕ) (ps : List (List ℕ)) → SomePieces ps → onto_last (p ∷ ps) b ≡ p ∷ onto_last ps b
+onto_last-cons b p [] h = elim h [ ]
+onto_last-cons b p (q ∷ ps) some = refl
+
+onto_first-append : (x : ℕ) (ps qs : List (List ℕ)) → SomePieces ps → onto_first x (ps ++ qs) ≡ onto_first x ps ++ qs
+onto_first-append x [] qs h = elim h [ ]
+onto_first-append x (p ∷ ps) qs some = refl
+
+pieces_of-newline : (text : List ℕ) → pieces_of (text ++ 10 ∷ []) ≡ pieces_of text ++ [] ∷ []
+pieces_of-newline [] = refl
+pieces_of-newline (x ∷ xs) =
+    elim (x == 10) as (λ v. cond v ([] ∷ pieces_of (xs ++ 10 ∷ [])) (onto_first x (pieces_of (xs ++ 10 ∷ []))) ≡ cond v ([] ∷ pieces_of xs) (onto_first x (pieces_of xs)) ++ [] ∷ []) [
+      | true ↦ ap (λ ps. [] ∷ ps) (pieces_of-newline xs)
+      | false ↦ ap (onto_first x) (pieces_of-newline xs) ∙ onto_first-append x (pieces_of xs) ([] ∷ []) (some_pieces xs)
+    ]
+
+pieces_of-byte : (text : List ℕ) (b : ℕ) → (b == 10) ≡ false → pieces_of (text ++ b ∷ []) ≡ onto_last (pieces_of text) b
+pieces_of-byte [] b other = rw other refl
+pieces_of-byte (x ∷ xs) b other =
+    elim (x == 10) as (λ v. cond v ([] ∷ pieces_of (xs ++ b ∷ [])) (onto_first x (pieces_of (xs ++ b ∷ []))) ≡ onto_last (cond v ([] ∷ pieces_of xs) (onto_first x (pieces_of xs))) b) [
+      | true ↦ ap (λ ps. [] ∷ ps) (pieces_of-byte xs b other) ∙ sym (onto_last-cons b [] (pieces_of xs) (some_pieces xs))
+      | false ↦ ap (onto_first x) (pieces_of-byte xs b other) ∙ sym (onto_both x b (pieces_of xs) (some_pieces xs))
+    ]
+
+last_of-append : (ps : List (List ℕ)) → last_of (ps ++ [] ∷ []) ≡ []
+last_of-append [] = refl
+last_of-append (p ∷ []) = refl
+last_of-append (p ∷ q ∷ ps) = last_of-append (q ∷ ps)
+
+all_but_last-append : (ps : List (List ℕ)) → SomePieces ps → all_but_last (ps ++ [] ∷ []) ≡ all_but_last ps ++ last_of ps ∷ []
+all_but_last-append [] h = elim h [ ]
+all_but_last-append (p ∷ []) some = refl
+all_but_last-append (p ∷ q ∷ ps) some = ap (λ qs. p ∷ qs) (all_but_last-append (q ∷ ps) some)
+
+last_of-onto : (ps : List (List ℕ)) (b : ℕ) → SomePieces ps → last_of (onto_last ps b) ≡ last_of ps ++ b ∷ []
+last_of-onto [] b h = elim h [ ]
+last_of-onto (p ∷ []) b some = refl
+last_of-onto (p ∷ q ∷ []) b some = refl
+last_of-onto (p ∷ q ∷ r ∷ ps) b some = last_of-onto (q ∷ r ∷ ps) b some
+
+all_but_last-onto : (ps : List (List ℕ)) (b : ℕ) → all_but_last (onto_last ps b) ≡ all_but_last ps
+all_but_last-onto [] b = refl
+all_but_last-onto (p ∷ []) b = refl
+all_but_last-onto (p ∷ q ∷ []) b = refl
+all_but_last-onto (p ∷ q ∷ r ∷ ps) b = ap (λ qs. p ∷ qs) (all_but_last-onto (q ∷ r ∷ ps) b)
+
+pub whole_lines_of-newline : (text : List ℕ) → whole_lines_of (text ++ 10 ∷ []) ≡ whole_lines_of text ++ unfinished_line_of text ∷ []
+unfolding whole_lines_of unfinished_line_of
+whole_lines_of-newline text = ap all_but_last (pieces_of-newline text) ∙ all_but_last-append (pieces_of text) (some_pieces text)
+
+pub unfinished_line_of-newline : (text : List ℕ) → unfinished_line_of (text ++ 10 ∷ []) ≡ []
+unfolding unfinished_line_of
+unfinished_line_of-newline text = ap last_of (pieces_of-newline text) ∙ last_of-append (pieces_of text)
+
+pub whole_lines_of-byte : (text : List ℕ) (b : ℕ) → (b == 10) ≡ false → whole_lines_of (text ++ b ∷ []) ≡ whole_lines_of text
+unfolding whole_lines_of
+whole_lines_of-byte text b other = ap all_but_last (pieces_of-byte text b other) ∙ all_but_last-onto (pieces_of text) b
+
+pub unfinished_line_of-byte : (text : List ℕ) (b : ℕ) → (b == 10) ≡ false → unfinished_line_of (text ++ b ∷ []) ≡ unfinished_line_of text ++ b ∷ []
+unfolding unfinished_line_of
+unfinished_line_of-byte text b other = ap last_of (pieces_of-byte text b other) ∙ last_of-onto (pieces_of text) b (some_pieces text)
+
+-- more bytes with no newline, one by one
+moved_on : (text : List ℕ) (b : ℕ) (part : List ℕ) → text ++ b ∷ part ≡ (text ++ b ∷ []) ++ part
+moved_on text b part = sym (append_assoc text (b ∷ []) part)
+
+pub whole_lines_of-part : (text part : List ℕ) → NoNewline part → whole_lines_of (text ++ part) ≡ whole_lines_of text
+whole_lines_of-part text [] none = ap whole_lines_of (append-nil text)
+whole_lines_of-part text (b ∷ part) none = ap whole_lines_of (moved_on text b part) ∙ whole_lines_of-part (text ++ b ∷ []) part none.1 ∙ whole_lines_of-byte text b none.0
+
+pub unfinished_line_of-part : (text part : List ℕ) → NoNewline part → unfinished_line_of (text ++ part) ≡ unfinished_line_of text ++ part
+unfinished_line_of-part text [] none = ap unfinished_line_of (append-nil text) ∙ sym (append-nil (unfinished_line_of text))
+unfinished_line_of-part text (b ∷ part) none =
+    ap unfinished_line_of (moved_on text b part) ∙ unfinished_line_of-part (text ++ b ∷ []) part none.1
+    ∙ ap (λ t. t ++ part) (unfinished_line_of-byte text b none.0) ∙ sym (moved_on (unfinished_line_of text) b part)
+
+-- a line that its newline ends
+pub whole_lines_of-line : (text part : List ℕ) → NoNewline part → whole_lines_of (text ++ part ++ 10 ∷ []) ≡ whole_lines_of text ++ (unfinished_line_of text ++ part) ∷ []
+whole_lines_of-line text part none =
+    whole_lines_of-newline (text ++ part) ∙ ap (λ ls. ls ++ unfinished_line_of (text ++ part) ∷ []) (whole_lines_of-part text part none)
+    ∙ ap (λ l. whole_lines_of text ++ l ∷ []) (unfinished_line_of-part text part none)
+
+next_line : (text : List ℕ) (b : ℕ) (ends : Bool) → (b == 10) ≡ ends → (others : List (List ℕ)) × (whole_lines_of (text ++ b ∷ []) ≡ whole_lines_of text ++ others)
+next_line text b true e = (unfinished_line_of text ∷ [], ap (λ x. whole_lines_of (text ++ x ∷ [])) (eqb-true b 10 e) ∙ whole_lines_of-newline text)
+next_line text b false e = ([], whole_lines_of-byte text b e ∙ sym (append-nil (whole_lines_of text)))
+
+-- more bytes leave the whole lines as they are, and may bring others behind them
+pub whole_lines_of-more : (text more : List ℕ) → (others : List (List ℕ)) × (whole_lines_of (text ++ more) ≡ whole_lines_of text ++ others)
+whole_lines_of-more text [] = ([], ap whole_lines_of (append-nil text) ∙ sym (append-nil (whole_lines_of text)))
+whole_lines_of-more text (b ∷ more) =
+    let again = whole_lines_of-more (text ++ b ∷ []) more in let next = next_line text b (b == 10) refl in (
+      next.0 ++ again.0,
+      ap whole_lines_of (moved_on text b more) ∙ again.1 ∙ ap (λ ls. ls ++ again.0) next.1 ∙ append_assoc (whole_lines_of text) next.0 again.0,
+    )
+
+-- the bytes before the first newline
+pub no_newline_before : (bytes : List ℕ) (i : ℕ) → ((k : ℕ) → k < i → k < length bytes → (get_or bytes k 0 == 10) ≡ false) → NoNewline (take i bytes)
+no_newline_before [] zero none = tt
+no_newline_before [] (suc i) none = tt
+no_newline_before (b ∷ bytes) zero none = tt
+no_newline_before (b ∷ bytes) (suc i) none = (none 0 (omega arith) (omega arith), no_newline_before bytes i (λ k low within. none (suc k) (omega arith) (omega arith)))
+
+not_true : (b : Bool) → (b ≡ true → ⊥) → b ≡ false
+not_true false h = refl
+not_true true h = absurd (h refl)
+
+-- the bytes before the first newline, and a text without one, as a search tells them
+pub none_before : (bytes : List ℕ) (i : ℕ) → ((k : ℕ) → 0 ≤ k → k < i → (get_or bytes k 0 == 10) ≡ true → ⊥) → NoNewline (take i bytes)
+none_before bytes i none = no_newline_before bytes i (λ k low within. not_true (get_or bytes k 0 == 10) (none k (omega arith) low))
+
+pub none_at_all : (bytes : List ℕ) → ((k : ℕ) → 0 ≤ k → k < length bytes → (get_or bytes k 0 == 10) ≡ true → ⊥) → NoNewline bytes
+none_at_all bytes none = subst NoNewline (take_all (length bytes) bytes (omega arith)) (none_before bytes (length bytes) none)
+
+-- what is left behind a newline
+pub behind_newline : (rest : List ℕ) (i n : ℕ) → n ≡ length rest → i < length rest → (get_or rest i 0 == 10) ≡ true
+    → rest ≡ (take i rest ++ 10 ∷ []) ++ take (n - (i + 1)) (drop (i + 1) rest)
+behind_newline rest i n long within here =
+    let e : drop i rest ≡ 10 ∷ drop (i + 1) rest = drop-cons rest i 0 within ∙ ap (λ b. b ∷ drop (suc i) rest) (eqb-true (get_or rest i 0) 10 here) ∙ ap (λ k. 10 ∷ drop k rest) (sym (add-one i)) in
+    let whole : take (n - (i + 1)) (drop (i + 1) rest) ≡ drop (i + 1) rest = ap (λ m. take (m - (i + 1)) (drop (i + 1) rest)) long ∙ take_rest rest (i + 1) in
+    sym (take-append-drop i rest) ∙ ap (λ l. take i rest ++ l) e ∙ ap (λ l. take i rest ++ 10 ∷ l) (sym whole) ∙ sym (append_assoc (take i rest) (10 ∷ []) (take (n - (i + 1)) (drop (i + 1) rest)))

@@ -1,0 +1,92 @@
+-- The tree of some items, and that of what each of them is turned into: a path has as many nodes in one as in the other.
+use Rattle.std.proofs.Common.{◌≡◌, ℕ, zero, suc, List, [], ◌∷◌, length, drop, map, refl, sym, ap, ap₂, ◌∙◌, true, false, cond}
+use Rattle.std.specs.Prelude.{◌==◌, slice_index}
+use Rattle.art_bytes.specs.Keys.{common_prefix, shared_prefix}
+use Rattle.art_arena.specs.tree.Trees.{Tree, Forest, leaf, inner, no_child, child}
+use Rattle.art_arena.specs.tree.TreeOf.{Group, add_to, grouped, children_of, tree_below, tree_of}
+use Rattle.art_arena.specs.tree.Paths.{path_of, path_in}
+use Rattle.art_walks.specs.MapReads.{path_length}
+use Rattle.art_engine.proofs.Filters.{length-map}
+
+module _ {X Y : Type 0} (f : X → Y) (key : Y → List ℕ) where
+  -- the key of what an item is turned into
+  abbrev key_behind : X → List ℕ
+  key_behind x = key (f x)
+
+  -- each item turned
+  abbrev mutual
+    turned : Tree X → Tree Y
+    turned (leaf x) = leaf (f x)
+    turned (inner prefix children) = inner prefix (turned_in children)
+
+    turned_in : Forest X → Forest Y
+    turned_in no_child = no_child
+    turned_in (child byte t others) = child byte (turned t) (turned_in others)
+
+  mutual
+    path-turned : (t : Tree X) (k : List ℕ) → length (path_of (turned t) k) ≡ length (path_of t k)
+    path-turned (leaf x) k = refl
+    path-turned (inner prefix children) k = ap suc (path_in-turned children (drop (length prefix) k))
+
+    path_in-turned : (cs : Forest X) (k : List ℕ) → length (path_in (turned_in cs) k) ≡ length (path_in cs k)
+    path_in-turned no_child k = refl
+    path_in-turned (child byte t others) [] = refl
+    path_in-turned (child byte t others) (b ∷ k) =
+        elim (b == byte) as (λ c. length (cond c (path_of (turned t) k) (path_in (turned_in others) (b ∷ k))) ≡ length (cond c (path_of t k) (path_in others (b ∷ k)))) [
+          | true ↦ path-turned t k
+          | false ↦ path_in-turned others (b ∷ k)
+        ]
+
+  abbrev group : Group X → Group Y
+  group g = (g.0, map f g.1)
+
+  add_to-turned : (b : ℕ) (x : X) (gs : List (Group X)) → add_to b (f x) (map group gs) ≡ map group (add_to b x gs)
+  add_to-turned b x [] = refl
+  add_to-turned b x ((first, xs) ∷ gs) =
+      elim (b == first) as (λ c. cond c ((first, f x ∷ map f xs) ∷ map group gs) ((b, f x ∷ []) ∷ (first, map f xs) ∷ map group gs)
+      ≡ map group (cond c ((first, x ∷ xs) ∷ gs) ((b, x ∷ []) ∷ (first, xs) ∷ gs))) [
+        | true ↦ refl
+        | false ↦ refl
+      ]
+
+  grouped-turned : (depth : ℕ) (xs : List X) → grouped key depth (map f xs) ≡ map group (grouped key_behind depth xs)
+  grouped-turned depth [] = refl
+  grouped-turned depth (x ∷ xs) =
+      ap (add_to (slice_index (key (f x)) depth) (f x)) (grouped-turned depth xs) ∙ add_to-turned (slice_index (key (f x)) depth) x (grouped key_behind depth xs)
+
+  children-turned : (T : List X → Tree X) (U : List Y → Tree Y) → ((xs : List X) → U (map f xs) ≡ turned (T xs)) → (gs : List (Group X))
+      → children_of U (map group gs) ≡ turned_in (children_of T gs)
+  children-turned T U same [] = refl
+  children-turned T U same ((byte, xs) ∷ gs) = ap₂ (λ t cs. child byte t cs) (same xs) (children-turned T U same gs)
+
+  shared-turned : (xs : List X) → shared_prefix key (map f xs) ≡ shared_prefix key_behind xs
+  shared-turned [] = refl
+  shared-turned (x ∷ []) = refl
+  shared-turned (x ∷ y ∷ ys) = ap (common_prefix (key (f x))) (shared-turned (y ∷ ys))
+
+  below-turned : (fuel depth : ℕ) (xs : List X) → tree_below key fuel depth (map f xs) ≡ turned (tree_below key_behind fuel depth xs)
+  below-turned zero depth xs = refl
+  below-turned (suc fuel) depth [] = refl
+  below-turned (suc fuel) depth (x ∷ []) = refl
+  below-turned (suc fuel) depth (x ∷ y ∷ ys) =
+      let xs = x ∷ y ∷ ys in
+      let front = shared_prefix key_behind xs in
+      let tree = tree_below key fuel (suc (length front)) in
+      ap (λ p. inner (drop depth p) (children_of (tree_below key fuel (suc (length p))) (grouped key (length p) (map f xs)))) (shared-turned xs)
+      ∙ ap (λ gs. inner (drop depth front) (children_of tree gs)) (grouped-turned (length front) xs)
+      ∙ ap (inner (drop depth front)) (children-turned (tree_below key_behind fuel (suc (length front))) tree (below-turned fuel (suc (length front))) (grouped key_behind (length front) xs))
+
+  paths-turned : (k : List ℕ) (xs : List X) → path_length k (tree_of key (map f xs)) ≡ path_length k (tree_of key_behind xs)
+  paths-turned k [] = refl
+  paths-turned k (x ∷ xs) =
+      ap (λ n. length (path_of (tree_below key n 0 (map f (x ∷ xs))) k)) (length-map f (x ∷ xs))
+      ∙ ap (λ t. length (path_of t k)) (below-turned (length (x ∷ xs)) 0 (x ∷ xs)) ∙ path-turned (tree_below key_behind (length (x ∷ xs)) 0 (x ∷ xs)) k
+
+-- a list of keys is its own
+abbrev itself : List ℕ → List ℕ
+itself k = k
+
+-- a path goes by the keys alone
+pub paths_by_keys : {X Y : Type 0} (key : X → List ℕ) (other : Y → List ℕ) (xs : List X) (ys : List Y) → map key xs ≡ map other ys → (k : List ℕ)
+    → path_length k (tree_of key xs) ≡ path_length k (tree_of other ys)
+paths_by_keys key other xs ys same k = sym (paths-turned key itself k xs) ∙ ap (λ keys. path_length k (tree_of itself keys)) same ∙ paths-turned other itself k ys

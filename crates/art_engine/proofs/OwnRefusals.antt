@@ -1,0 +1,78 @@
+-- Whether a deletion may find no memory goes by the tenant's own keys, or numbers, while it has another one.
+use Rattle.std.proofs.Common.{◌≡◌, ◌≢◌, ℕ, ◌<◌, ◌^◌, List, [], ◌∷◌, drop, map, refl, ap, sym, ◌∙◌, subst, Bool, true, false, cond, append-nil}
+use Rattle.std.specs.Prelude.{◌==◌, ◌&&◌, filter, IsSome}
+use Rattle.std.specs.List.{AllByRecursion}
+use Rattle.art_bytes.specs.Keys.{BeginsWith}
+use Rattle.art_arena.specs.tree.Shrinks.{Shrinks}
+use Rattle.art_arena.specs.tree.Tenants.{begins_with, with_front}
+use Rattle.art_arena.proofs.tree.FrontShrinks.{own_shrinks}
+use Rattle.art_bytes.specs.Numbers.{big_endian, flipped}
+use Rattle.art_bytes.specs.Laws.{pair_key}
+use Rattle.std.specs.Int.{w64}
+use Rattle.art_arena.proofs.tree.Insert.{all_at}
+use Rattle.art_lines.specs.Keys.{full_key}
+use Rattle.art_engine.specs.Keys.{full_key_of, number_key_of, number_of_bytes}
+use Rattle.art_engine.specs.Records.{KeyRecord, NumberRecord, KeyFits, NumberFits, Records, no_records, own, with_own}
+use Rattle.art_engine.specs.Replies.{value_at, value_at_number}
+use Rattle.art_engine.specs.Laws.{DeletionsGoByOwnKeys, DeletionsGoByOwnNumbers}
+use Rattle.art_engine.proofs.FullTests.{begins_full}
+use Rattle.art_engine.proofs.NumberKeys.{number_back}
+use Rattle.art_engine.proofs.OwnLaws.{key_part, key_made, number_part, number_made, made_from_mine, own_reads_back}
+
+own_front : (t : ℕ) → t < 2 ^ 32 → (rs : List KeyRecord) → AllByRecursion KeyFits rs → with_front full_key_of (full_key t []) rs ≡ filter (λ r. r.tenant == t) rs
+own_front t small [] fits = refl
+own_front t small (r ∷ rs) fits = go (begins_with (full_key t []) (full_key_of r)) (r.tenant == t) (begins_full t r.tenant [] r.key small fits.0.tenant_fits) (own_front t small rs fits.1)
+  where
+    go : (a b : Bool) → a ≡ (b && true) → with_front full_key_of (full_key t []) rs ≡ filter (λ s. s.tenant == t) rs
+        → cond a (r ∷ with_front full_key_of (full_key t []) rs) (with_front full_key_of (full_key t []) rs) ≡ cond b (r ∷ filter (λ s. s.tenant == t) rs) (filter (λ s. s.tenant == t) rs)
+    go a true e ih = rw e (ap (λ l. r ∷ l) ih)
+    go a false e ih = rw e ih
+
+-- the tenant's records, as if there were no others
+alone_is : (t : ℕ) (records : Records) → filter (λ r. r.tenant == t) records.keys ≡ (with_own t (own t records) no_records).keys
+alone_is t records =
+    sym (append-nil (map (key_made t) (map key_part (filter (λ r. r.tenant == t) records.keys)))
+    ∙ made_from_mine (λ (x : KeyRecord). x.tenant) key_part key_made (λ t p. refl) (λ t p. refl) (λ x. refl) t records.keys)
+
+pub deletions_go_by_own_keys : DeletionsGoByOwnKeys
+deletions_go_by_own_keys t key records other small are i mine differs =
+    let front : List ℕ = full_key t [] in
+    let same_front : full_key other.tenant other.key ≡ full_key t other.key = ap (λ u. full_key u other.key) mine in
+    let begins : BeginsWith front (full_key_of other) = (other.key, same_front) in
+    let apart : full_key_of other ≢ full_key t key = λ e. differs (ap (drop 4) (sym same_front ∙ e)) in
+    let shrinks = own_shrinks full_key_of front (full_key t key) records.keys (key, refl) other i begins apart in
+    let keys : with_front full_key_of front records.keys ≡ (with_own t (own t records) no_records).keys = own_front t small records.keys are.keys_fit ∙ alone_is t records in
+    let reads : own t (with_own t (own t records) no_records) ≡ own t records = own_reads_back t (own t records) no_records in (
+      λ h. (subst (λ o. IsSome (value_at key o.keys)) (sym reads) h.0, subst (λ rs. Shrinks full_key_of rs (full_key t key)) keys (shrinks.0 h.1)),
+      λ h. (subst (λ o. IsSome (value_at key o.keys)) reads h.0, shrinks.1 (subst (λ rs. Shrinks full_key_of rs (full_key t key)) (sym keys) h.1)),
+    )
+
+own_number_front : (t : ℕ) → t < 2 ^ 32 → (rs : List NumberRecord) → AllByRecursion NumberFits rs → with_front number_key_of (full_key t []) rs ≡ filter (λ r. r.tenant == t) rs
+own_number_front t small [] fits = refl
+own_number_front t small (r ∷ rs) fits =
+    go (begins_with (full_key t []) (number_key_of r)) (r.tenant == t) (begins_full t r.tenant [] (big_endian 8 (flipped w64 r.number)) small fits.0.tenant_fits) (own_number_front t small rs fits.1)
+  where
+    go : (a b : Bool) → a ≡ (b && true) → with_front number_key_of (full_key t []) rs ≡ filter (λ s. s.tenant == t) rs
+        → cond a (r ∷ with_front number_key_of (full_key t []) rs) (with_front number_key_of (full_key t []) rs) ≡ cond b (r ∷ filter (λ s. s.tenant == t) rs) (filter (λ s. s.tenant == t) rs)
+    go a true e ih = rw e (ap (λ l. r ∷ l) ih)
+    go a false e ih = rw e ih
+
+alone_numbers : (t : ℕ) (records : Records) → filter (λ r. r.tenant == t) records.numbers ≡ (with_own t (own t records) no_records).numbers
+alone_numbers t records =
+    sym (append-nil (map (number_made t) (map number_part (filter (λ r. r.tenant == t) records.numbers)))
+    ∙ made_from_mine (λ (x : NumberRecord). x.tenant) number_part number_made (λ t p. refl) (λ t p. refl) (λ x. refl) t records.numbers)
+
+pub deletions_go_by_own_numbers : DeletionsGoByOwnNumbers
+deletions_go_by_own_numbers t number records other small number_fits are i mine differs =
+    let front : List ℕ = full_key t [] in
+    let same_front : number_key_of other ≡ pair_key (t, other.number) = ap (λ u. pair_key (u, other.number)) mine in
+    let other_fits : NumberFits other = all_at NumberFits other records.numbers are.numbers_fit i in
+    let begins : BeginsWith front (number_key_of other) = (big_endian 8 (flipped w64 other.number), same_front) in
+    let apart : number_key_of other ≢ pair_key (t, number) =
+    λ e. differs (sym (number_back t other.number other_fits.number_fits) ∙ ap (λ k. number_of_bytes (drop 4 k)) (sym same_front ∙ e) ∙ number_back t number number_fits) in
+    let shrinks = own_shrinks number_key_of front (pair_key (t, number)) records.numbers (big_endian 8 (flipped w64 number), refl) other i begins apart in
+    let keys : with_front number_key_of front records.numbers ≡ (with_own t (own t records) no_records).numbers = own_number_front t small records.numbers are.numbers_fit ∙ alone_numbers t records in
+    let reads : own t (with_own t (own t records) no_records) ≡ own t records = own_reads_back t (own t records) no_records in (
+      λ h. (subst (λ o. IsSome (value_at_number number o.numbers)) (sym reads) h.0, subst (λ rs. Shrinks number_key_of rs (pair_key (t, number))) keys (shrinks.0 h.1)),
+      λ h. (subst (λ o. IsSome (value_at_number number o.numbers)) reads h.0, shrinks.1 (subst (λ rs. Shrinks number_key_of rs (pair_key (t, number))) (sym keys) h.1)),
+    )

@@ -1,0 +1,159 @@
+-- The reply to a command, from what the line spells.
+use Rattle.std.proofs.Common.{◌≡◌, ℕ, List, [], ◌∷◌, refl, ap, sym, subst, ◌∙◌, append-nil, arith, Bool, true}
+use Rattle.std.proofs.lemmas.Bool.{false≢true}
+use Rattle.std.specs.Prelude.{Option, Some, None, flat_map, codes}
+use Rattle.art_lines.specs.Words.{Word, line_of, name}
+use Rattle.art_lines.specs.Commands.{put, drop, Command, of_tenant}
+use Rattle.art_lines.specs.Reading.{command_of}
+use Rattle.art_engine.specs.Records.{Records}
+use Rattle.art_engine.specs.Replies.{reply_to, records_after, command_reply, command_after}
+use Rattle.art_engine.specs.Refusals.{MayRefuse}
+use Rattle.art_engine.specs.Outcome.{answer, left_by}
+use Rattle.art_engine.specs.Changed.{IsPutDone, IsChangeDone, placed_words, found_no_memory}
+use Rattle.art_engine.specs.Counts.{visits_of, line_visits, IsWithin}
+use Rattle.art_engine.specs.Dropped.{IsDropDone, dropped_words, was_refused, visits_told}
+use Rattle.art_engine.specs.Told.{IsTold, told_words, tells_no_memory}
+use Rattle.art_engine.specs.declared.dropped.Dropped.{Dropped}
+use Rattle.art_engine.specs.declared.dropped.Dropped.TheVariants as dropped
+use Rattle.art_engine.specs.declared.told.Told.{Told}
+use Rattle.art_engine.specs.declared.told.Told.TheVariants as told
+use Rattle.art_engine.specs.declared.placed.Placed.{Placed}
+use Rattle.art_engine.specs.declared.placed.Placed.TheVariants as placed
+
+reply_is : (o : Option Command) (r : Records) (line : List ℕ) → o ≡ command_of line → flat_map line_of (command_reply o r) ≡ reply_to r line
+unfolding reply_to
+reply_is o r line e = ap (λ p. flat_map line_of (command_reply p r)) e
+
+after_is : (o : Option Command) (r : Records) (line : List ℕ) → o ≡ command_of line → command_after o r ≡ records_after r line
+unfolding records_after
+after_is o r line e = ap (λ p. command_after p r) e
+
+told_once : (ws : List Word) (o : Option Command) (r : Records) (line : List ℕ) → o ≡ command_of line → ws ∷ [] ≡ command_reply o r → line_of ws ≡ reply_to r line
+told_once ws o r line e h = sym (append-nil (line_of ws)) ∙ ap (flat_map line_of) h ∙ reply_is o r line e
+
+-- what a change is answered by, and what it leaves
+done_reply : (p : Placed) (c : Command) (old new : Records) (line : List ℕ) → Some c ≡ command_of line → IsChangeDone p c old new → line_of (placed_words p) ≡ answer (found_no_memory p) old line
+done_reply placed.Memory c old new line e h = refl
+done_reply (placed.Old o) c old new line e h = told_once (placed_words (placed.Old o)) (Some c) old line e h.0
+done_reply placed.New c old new line e h = told_once (placed_words placed.New) (Some c) old line e h.0
+done_reply placed.Conflict c old new line e h = told_once (placed_words placed.Conflict) (Some c) old line e h.0
+done_reply (placed.Over n) c old new line e h = told_once (placed_words (placed.Over n)) (Some c) old line e h.0
+done_reply (placed.Gone o) c old new line e h = told_once (placed_words (placed.Gone o)) (Some c) old line e h.0
+done_reply placed.Absent c old new line e h = told_once (placed_words placed.Absent) (Some c) old line e h.0
+
+done_after : (p : Placed) (c : Command) (old new : Records) (line : List ℕ) → Some c ≡ command_of line → IsChangeDone p c old new → new ≡ left_by (found_no_memory p) old line
+done_after placed.Memory c old new line e h = h.0
+done_after (placed.Old o) c old new line e h = h.1 ∙ after_is (Some c) old line e
+done_after placed.New c old new line e h = h.1 ∙ after_is (Some c) old line e
+done_after placed.Conflict c old new line e h = h.1 ∙ after_is (Some c) old line e
+done_after (placed.Over n) c old new line e h = h.1 ∙ after_is (Some c) old line e
+done_after (placed.Gone o) c old new line e h = h.1 ∙ after_is (Some c) old line e
+done_after placed.Absent c old new line e h = h.1 ∙ after_is (Some c) old line e
+
+-- where it found no memory, it may do so
+done_may : (p : Placed) (c : Command) (old new : Records) → IsChangeDone p c old new → found_no_memory p ≡ true → MayRefuse old c
+done_may placed.Memory c old new h m = h.1
+done_may (placed.Old o) c old new h m = absurd (false≢true m)
+done_may placed.New c old new h m = absurd (false≢true m)
+done_may placed.Conflict c old new h m = absurd (false≢true m)
+done_may (placed.Over n) c old new h m = absurd (false≢true m)
+done_may (placed.Gone o) c old new h m = absurd (false≢true m)
+done_may placed.Absent c old new h m = absurd (false≢true m)
+
+module _ (p : Placed) (memory : Bool) (c : Command) (held old new : Records) (line : List ℕ) (found : memory ≡ found_no_memory p) (same : held ≡ old)
+    (e : Some c ≡ command_of line) (h : IsChangeDone p c held new) where
+  pub done_told : line_of (placed_words p) ≡ answer memory old line
+  done_told = done_reply p c held new line e h ∙ ap (λ b. answer b held line) (sym found) ∙ ap (λ r. answer memory r line) same
+
+  pub done_left : new ≡ left_by memory old line
+  done_left = done_after p c held new line e h ∙ ap (λ b. left_by b held line) (sym found) ∙ ap (λ r. left_by memory r line) same
+
+  pub done_lawful : memory ≡ true → MayRefuse old c
+  done_lawful m = subst (λ r. MayRefuse r c) same (done_may p c held new h (sym found ∙ m))
+
+-- a put is a change
+pub put_done : (p : Placed) (old new : Records) (t : ℕ) (k v : List ℕ) → IsPutDone p old t k v new → IsChangeDone p (of_tenant t (put k v)) old new
+put_done placed.Memory old new t k v h = (h, tt)
+put_done (placed.Old o) old new t k v h = h
+put_done placed.New old new t k v h = h
+put_done placed.Conflict old new t k v h = h
+put_done (placed.Over n) old new t k v h = h
+put_done (placed.Gone o) old new t k v h = h
+put_done placed.Absent old new t k v h = h
+
+-- what is written of the records that are held
+pub told_of : (held r : Records) (c : Command) (line : List ℕ) → Some c ≡ command_of line → held ≡ r
+    → flat_map line_of (command_reply (Some c) held) ≡ reply_to r line
+told_of held r c line e view = ap (λ x. flat_map line_of (command_reply (Some c) x)) view ∙ reply_is (Some c) r line e
+
+pub bad_told : (r : Records) (line : List ℕ) → None ≡ command_of line → line_of (name (codes "bad") ∷ []) ≡ reply_to r line
+bad_told r line e = told_once (name (codes "bad") ∷ []) None r line e refl
+
+pub bad_left : (r : Records) (line : List ℕ) → None ≡ command_of line → r ≡ records_after r line
+bad_left r line e = after_is None r line e
+
+pub same_left : (r : Records) (c : Command) (line : List ℕ) → Some c ≡ command_of line → command_after (Some c) r ≡ r → r ≡ records_after r line
+same_left r c line e h = sym h ∙ after_is (Some c) r line e
+
+-- what is told of all records, and what that leaves
+told_answer : (t : Told) (c : Command) (r : Records) (line : List ℕ) → Some c ≡ command_of line → IsTold t c r
+    → flat_map line_of (told_words t r) ≡ answer (tells_no_memory t) r line
+told_answer told.Memory c r line e h = append-nil (line_of (name (codes "memory") ∷ []))
+told_answer told.Lines c r line e h = ap (flat_map line_of) h ∙ reply_is (Some c) r line e
+told_answer (told.Counts n m) c r line e h = ap (flat_map line_of) h ∙ reply_is (Some c) r line e
+
+told_leaves : (t : Told) (c : Command) (r : Records) (line : List ℕ) → Some c ≡ command_of line → command_after (Some c) r ≡ r
+    → r ≡ left_by (tells_no_memory t) r line
+told_leaves told.Memory c r line e h = refl
+told_leaves told.Lines c r line e h = same_left r c line e h
+told_leaves (told.Counts n m) c r line e h = same_left r c line e h
+
+told_may : (t : Told) (c : Command) (r : Records) → IsTold t c r → tells_no_memory t ≡ true → MayRefuse r c
+told_may told.Memory c r h m = h
+told_may told.Lines c r h m = absurd (false≢true m)
+told_may (told.Counts n k) c r h m = absurd (false≢true m)
+
+module _ (t : Told) (memory : Bool) (c : Command) (held old : Records) (line : List ℕ) (found : memory ≡ tells_no_memory t) (same : held ≡ old)
+    (e : Some c ≡ command_of line) (h : IsTold t c held) where
+  pub all_told : flat_map line_of (told_words t held) ≡ answer memory old line
+  all_told = told_answer t c held line e h ∙ ap (λ b. answer b held line) (sym found) ∙ ap (λ r. answer memory r line) same
+
+  pub all_left : command_after (Some c) held ≡ held → held ≡ left_by memory old line
+  all_left leaves = told_leaves t c held line e leaves ∙ ap (λ b. left_by b held line) (sym found) ∙ ap (λ r. left_by memory r line) same
+
+  pub all_lawful : memory ≡ true → MayRefuse old c
+  all_lawful m = subst (λ r. MayRefuse r c) same (told_may t c held h (sym found ∙ m))
+
+-- how the drop of a tenant went, what that leaves, and how many nodes it read and freed
+dropped_reply : (d : Dropped) (t : ℕ) (old new : Records) (line : List ℕ) → Some (of_tenant t drop) ≡ command_of line → IsDropDone d t old new → line_of (dropped_words d) ≡ answer (was_refused d) old line
+dropped_reply dropped.Memory t old new line e h = refl
+dropped_reply (dropped.Gone k n v) t old new line e h = told_once (dropped_words (dropped.Gone k n v)) (Some (of_tenant t drop)) old line e h.told
+
+dropped_after : (d : Dropped) (t : ℕ) (old new : Records) (line : List ℕ) → Some (of_tenant t drop) ≡ command_of line → IsDropDone d t old new → new ≡ left_by (was_refused d) old line
+dropped_after dropped.Memory t old new line e h = h.0
+dropped_after (dropped.Gone k n v) t old new line e h = h.left ∙ after_is (Some (of_tenant t drop)) old line e
+
+dropped_may : (d : Dropped) (t : ℕ) (old new : Records) → IsDropDone d t old new → was_refused d ≡ true → MayRefuse old (of_tenant t drop)
+dropped_may dropped.Memory t old new h m = h.1
+dropped_may (dropped.Gone k n v) t old new h m = absurd (false≢true m)
+
+dropped_counts : (d : Dropped) (t : ℕ) (old new : Records) (line : List ℕ) → Some (of_tenant t drop) ≡ command_of line → IsDropDone d t old new → IsWithin (line_visits (was_refused d) line old) (visits_told d)
+dropped_counts dropped.Memory t old new line e h = (omega arith, omega arith)
+dropped_counts (dropped.Gone k n v) t old new line e h = subst (λ o. IsWithin (visits_of o old) v) e h.counted
+
+module _ (d : Dropped) (memory : Bool) (t : ℕ) (held old new : Records) (line : List ℕ) (found : memory ≡ was_refused d) (same : held ≡ old)
+    (e : Some (of_tenant t drop) ≡ command_of line) (h : IsDropDone d t held new) where
+  pub drop_told : line_of (dropped_words d) ≡ answer memory old line
+  drop_told = dropped_reply d t held new line e h ∙ ap (λ b. answer b held line) (sym found) ∙ ap (λ r. answer memory r line) same
+
+  pub drop_left : new ≡ left_by memory old line
+  drop_left = dropped_after d t held new line e h ∙ ap (λ b. left_by b held line) (sym found) ∙ ap (λ r. left_by memory r line) same
+
+  pub drop_lawful : memory ≡ true → MayRefuse old (of_tenant t drop)
+  drop_lawful m = subst (λ r. MayRefuse r (of_tenant t drop)) same (dropped_may d t held new h (sym found ∙ m))
+
+  pub drop_reads : (n : ℕ) → n ≡ visits_told d → IsWithin (line_visits memory line old) n
+  drop_reads n is =
+      subst (λ r. IsWithin (line_visits memory line r) n) same
+      (subst (λ b. IsWithin (line_visits b line held) n) (sym found)
+      (subst (IsWithin (line_visits (was_refused d) line held)) (sym is) (dropped_counts d t held new line e h)))

@@ -1,0 +1,57 @@
+-- A step of a span: its first pair is given, and the others are left.
+use Rattle.std.proofs.Common.{◌≡◌, ℕ, ◌+◌, ◌-◌, ◌^◌, min, List, [], ◌∷◌, length, Option, Some, None, sym, ap, ◌∙◌, arith}
+use Rattle.std.specs.Prelude.{option_map, MatchOption, Result, Ok, Err, OnOk}
+use Rattle.art_arena.specs.arena.Arena.{Arena}
+use Rattle.art_walks.specs.MapReads.{IsSpan, IsSpanOf}
+use Rattle.art_walks.specs.Runs.{Ends}
+use Rattle.art_walks.proofs.RunLengths.{run-pairs}
+use Rattle.art_engine.specs.Counts.{GrewBy}
+use Rattle.art_engine.specs.Spans.{pending, span_pairs}
+
+module _ {K V : Type 0} where
+  -- what a span has to give is what is left of it
+  pub span_left : (arena : Arena K V) (pairs : List (K × V)) (ends : Ends) (left : List (K × V)) → IsSpanOf arena pairs ends left → span_pairs arena ends ≡ left
+  span_left arena pairs ends left span = run-pairs arena ends (length left) span.run ∙ span.pairs_are
+
+  module _ {R : Type 0} (read : R → K × V) (old new : Arena K V) (ends next : Ends) (result : Option R)
+      (first : (pairs : List (K × V)) (p : K × V) (left : List (K × V)) → IsSpanOf old pairs ends (p ∷ left) → (option_map read result ≡ Some p) × IsSpanOf new pairs next left)
+      (end : (pairs : List (K × V)) → IsSpanOf old pairs ends [] → (result ≡ None) × IsSpanOf new pairs next []) where
+    pub span_some : IsSpan old ends → (r : R) → result ≡ Some r → span_pairs old ends ≡ read r ∷ span_pairs new next
+    span_some (pairs, [], span) r is = let none = (end pairs span).0 in absurd (cc)
+    span_some (pairs, p ∷ left, span) r is =
+        let given = first pairs p left span in
+        let same : read r ≡ p = some_same (sym (ap (option_map read) is) ∙ given.0) in
+        span_left old pairs ends (p ∷ left) span ∙ ap (λ q. q ∷ left) (sym same) ∙ ap (λ l. read r ∷ l) (sym (span_left new pairs next left given.1))
+      where
+        some_same : {A : Type 0} {a b : A} → ◌≡◌ {A = Option A} (Some a) (Some b) → a ≡ b
+        some_same e = cc
+
+    pub span_none : IsSpan old ends → result ≡ None → span_pairs old ends ≡ []
+    span_none (pairs, [], span) is = span_left old pairs ends [] span
+    span_none (pairs, p ∷ left, span) is = let given = (first pairs p left span).0 in let none = ap (option_map read) is in absurd (cc)
+
+    -- so what is left of a span is the pair that is given, and what is left of the next one
+    pub span_next : IsSpan old ends → span_pairs old ends ≡ pending (option_map read result) (span_pairs new next)
+    span_next (pairs, [], span) =
+        let e = end pairs span in
+        span_left old pairs ends [] span ∙ sym (ap (λ o. pending (option_map read o) (span_pairs new next)) e.0 ∙ span_left new pairs next [] e.1)
+    span_next (pairs, p ∷ left, span) =
+        let given = first pairs p left span in
+        span_left old pairs ends (p ∷ left) span ∙ ap (λ l. p ∷ l) (sym (span_left new pairs next left given.1))
+        ∙ ap (λ o. pending o (span_pairs new next)) (sym given.0)
+
+    -- and nothing, where none is given
+    pub span_ended : IsSpan old ends → result ≡ None → span_pairs new next ≡ []
+    span_ended (pairs, [], span) is = span_left new pairs next [] (end pairs span).1
+    span_ended (pairs, p ∷ left, span) is = let given = (first pairs p left span).0 in let none = ap (option_map read) is in absurd (cc)
+
+-- each pair that is given is counted
+pub given_count : {R X : Type 0} (read : R → X) (o : Option R) (n first old new : ℕ) → GrewBy n first old → MatchOption o (new ≡ old) (λ r. new ≡ min (old + 1) (2 ^ 64 - 1))
+    → GrewBy (n + length (pending (option_map read o) [])) first new
+given_count read None n first old new is h = let low = is.0 in let high = is.1 in let same : new ≡ old = h in (omega arith, omega arith)
+given_count read (Some r) n first old new is h = let low = is.0 in let high = is.1 in let same : new ≡ min (old + 1) (2 ^ 64 - 1) = h in (omega arith, omega arith)
+
+-- what holds anyway holds of an answer
+pub when_ok : {T E P : Type 0} (r : Result T E) → P → OnOk r P
+when_ok (Ok x) p = p
+when_ok (Err e) p = tt

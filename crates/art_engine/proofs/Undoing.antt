@@ -1,0 +1,164 @@
+-- A value that is put in where none was, and is then taken out, leaves the records as they were.
+use Rattle.art_engine.specs.Laws.{PutsAreUndone, NumberPutsAreUndone}
+use Rattle.std.proofs.Common.{◌≡◌, ℕ, ℤ, List, [], ◌∷◌, ◌++◌, Option, Some, None, refl, ap, ap₂, sym, ◌∙◌, Bool, true, false, cond, arith, inl, inr, true≢false}
+use Rattle.std.specs.Prelude.{◌==◌, int_lt, map, filter, not, option_map, codes, if◌then◌else◌}
+use Rattle.std.specs.List.{AllByRecursion, find}
+use Rattle.std.specs.Str.{bytes_eq}
+use Rattle.std.specs.Ordering.{int_eq, int_cmp, nat_cmp, is_lt}
+use Rattle.std.specs.Cmp.Lexicographic.{slice_cmp}
+use Rattle.std.proofs.lemmas.Bool.Decides.{Decides-int_eq}
+use Rattle.std.proofs.lemmas.Cmp.{int_cmp_total}
+use Rattle.std.proofs.lemmas.Slice.Eq.{bytes_eq-Decides}
+use Rattle.std.specs.declared.cmp.Ordering.{Ordering}
+use Rattle.std.specs.declared.cmp.Ordering.TheVariants.{Less, Equal, Greater}
+use Rattle.std.proofs.lemmas.Bool.{eqb-true}
+use Rattle.std.proofs.lemmas.List.Elements.{filter-append}
+use Rattle.art_bytes.specs.Keys.{is_below}
+use Rattle.art_lines.specs.Words.{name}
+use Rattle.art_lines.specs.Commands.{put, del, of_tenant}
+use Rattle.art_engine.specs.Records.{Own, KeyRecord, NumberRecord, InOrder, KeyComesBefore, NumberComesBefore, own, with_own}
+use Rattle.art_lines.specs.ReplyWords.{put_reply}
+use Rattle.art_engine.specs.Replies.{puts, value_at, value_at_number, has_conflict, with_pair, without_pair, with_number, without_number, with_changed, command_after}
+use Rattle.art_engine.proofs.Filters.{filter-all, filter-none, All-map}
+use Rattle.art_engine.proofs.OwnLaws.{own_reads_back, own_is_in_place, with_own_again, key_part, number_part}
+use Rattle.art_engine.proofs.Standing.{cmp_equal, cmp_greater, below_trans, not_both_below}
+use Rattle.art_engine.proofs.NumberKeys.{lt-int_cmp, int_lt_turned}
+
+-- what a tenant holds is in order where all records are
+module _ {X P : Type 0} (tenant_of : X → ℕ) (part_of : X → P) (Before : X → X → Type 0) (Comes : P → P → Type 0)
+    (own_comes : (x y : X) → Before x y → tenant_of x ≡ tenant_of y → Comes (part_of x) (part_of y)) where
+  abbrev parts : ℕ → List X → List P
+  parts t xs = map part_of (filter (λ x. tenant_of x == t) xs)
+
+  all_behind : (t : ℕ) (x : X) (xs : List X) → tenant_of x ≡ t → AllByRecursion (Before x) xs → AllByRecursion (Comes (part_of x)) (parts t xs)
+  all_behind t x [] is all = tt
+  all_behind t x (y ∷ xs) is all = go (tenant_of y == t) refl (all_behind t x xs is all.1)
+    where
+      go : (b : Bool) → (tenant_of y == t) ≡ b → AllByRecursion (Comes (part_of x)) (parts t xs) → AllByRecursion (Comes (part_of x)) (map part_of (cond b (y ∷ filter (λ x. tenant_of x == t) xs) (filter (λ x. tenant_of x == t) xs)))
+      go true e ih = (own_comes x y all.0 (is ∙ sym (eqb-true (tenant_of y) t e)), ih)
+      go false e ih = ih
+
+  pub own_in_order : (t : ℕ) (xs : List X) → InOrder Before xs → InOrder Comes (parts t xs)
+  own_in_order t [] order = tt
+  own_in_order t (x ∷ xs) order = go (tenant_of x == t) refl (own_in_order t xs order.1)
+    where
+      go : (b : Bool) → (tenant_of x == t) ≡ b → InOrder Comes (parts t xs) → InOrder Comes (map part_of (cond b (x ∷ filter (λ x. tenant_of x == t) xs) (filter (λ x. tenant_of x == t) xs)))
+      go true e ih = (all_behind t x xs (eqb-true (tenant_of x) t e) order.0, ih)
+      go false e ih = ih
+
+-- where nothing is found nothing passes the test
+pub none_passes : {X Y : Type 0} (f : X → Y) (test : X → Bool) (xs : List X) → option_map f (find test xs) ≡ None → AllByRecursion (λ x. test x ≡ false) xs
+none_passes f test [] none = tt
+none_passes f test (x ∷ xs) none = go (test x) refl none (none_passes f test xs)
+  where
+    go : (b : Bool) → test x ≡ b → option_map f (if b then Some x else find test xs) ≡ None → (option_map f (find test xs) ≡ None → AllByRecursion (λ x. test x ≡ false) xs) → AllByRecursion (λ x. test x ≡ false) (x ∷ xs)
+    go true e none ih = absurd (cc)
+    go false e none ih = (e, ih none)
+
+-- an ascending list, cut at a key that it hasn't
+module _ {K V : Type 0} (lt same : K → K → Bool) (k : K) (itself : same k k ≡ true)
+    (apart : (j : K) → same j k ≡ false → lt j k ≡ false → lt k j ≡ true) (turned : (i j : K) → lt i j ≡ true → lt j i ≡ false)
+    (upward : (i j : K) → lt k i ≡ true → lt i j ≡ true → lt k j ≡ true) where
+  abbrev Ascend : List (K × V) → Type 0
+  Ascend ps = InOrder (λ p q. lt p.0 q.0 ≡ true) ps
+
+  abbrev AreOthers : List (K × V) → Type 0
+  AreOthers ps = AllByRecursion (λ p. same p.0 k ≡ false) ps
+
+  kept : (t : K × V → Bool) (ps : List (K × V)) → AreOthers ps → filter (λ p. not (same p.0 k)) (filter t ps) ≡ filter t ps
+  kept t [] others = refl
+  kept t (p ∷ ps) others = go (t p) (kept t ps others.1)
+    where
+      go : (b : Bool) → filter (λ p. not (same p.0 k)) (filter t ps) ≡ filter t ps → filter (λ p. not (same p.0 k)) (cond b (p ∷ filter t ps) (filter t ps)) ≡ cond b (p ∷ filter t ps) (filter t ps)
+      go true ih = let other = others.0 in rw other (ap (λ l. p ∷ l) ih)
+      go false ih = ih
+
+  joined : (ps : List (K × V)) → Ascend ps → AreOthers ps → filter (λ p. lt p.0 k) ps ++ filter (λ p. lt k p.0) ps ≡ ps
+  joined [] order others = refl
+  joined (p ∷ ps) order others = go (lt p.0 k) refl (joined ps order.1 others.1)
+    where
+      go : (b : Bool) → lt p.0 k ≡ b → filter (λ p. lt p.0 k) ps ++ filter (λ p. lt k p.0) ps ≡ ps → filter (λ p. lt p.0 k) (p ∷ ps) ++ filter (λ p. lt k p.0) (p ∷ ps) ≡ p ∷ ps
+      go true e ih = let up = turned p.0 k e in rw (e, up) (ap (λ l. p ∷ l) ih)
+      go false e ih =
+          let up = apart p.0 others.0 e in
+          let high = All-map (λ (q : K × V). lt p.0 q.0 ≡ true) (λ q. lt k q.0 ≡ true) (λ q h. upward p.0 q.0 up h) ps order.0 in
+          let none = filter-none (λ (q : K × V). lt q.0 k) ps (All-map (λ (q : K × V). lt k q.0 ≡ true) (λ q. lt q.0 k ≡ false) (λ q h. turned k q.0 h) ps high) in
+          let all = filter-all (λ (q : K × V). lt k q.0) ps high in
+          rw (e, up, none, all) refl
+
+  pub undone : (v : V) (ps : List (K × V)) → Ascend ps → AreOthers ps → filter (λ p. not (same p.0 k)) (filter (λ p. lt p.0 k) ps ++ (k, v) ∷ filter (λ p. lt k p.0) ps) ≡ ps
+  undone v ps order others =
+      filter-append (λ p. not (same p.0 k)) (filter (λ p. lt p.0 k) ps) ((k, v) ∷ filter (λ p. lt k p.0) ps)
+      ∙ rw itself (ap₂ (λ a b. a ++ b) (kept (λ p. lt p.0 k) ps others) (kept (λ p. lt k p.0) ps others))
+      ∙ joined ps order others
+
+-- keys
+
+key_apart : (k j : List ℕ) → bytes_eq j k ≡ false → is_below j k ≡ false → is_below k j ≡ true
+key_apart k j other low = go (slice_cmp nat_cmp j k) refl
+  where
+    go : (o : Ordering) → slice_cmp nat_cmp j k ≡ o → is_below k j ≡ true
+    go Less e = absurd (true≢false (sym (ap is_lt e) ∙ low))
+    go Equal e = absurd (true≢false (sym ((bytes_eq-Decides j k).1 (cmp_equal j k e)) ∙ other))
+    go Greater e = cmp_greater j k e
+
+key_comes : (r s : KeyRecord) → KeyComesBefore r s → r.tenant ≡ s.tenant → is_below r.key s.key ≡ true
+key_comes r s (inl lt) same = absurd (omega (arith, lt, same))
+key_comes r s (inr up) same = up.1
+
+new_means : (old : Option (List ℕ)) (conflict : Bool) → put_reply old conflict ∷ [] ≡ (name (codes "new") ∷ []) ∷ [] → (old ≡ None) × (conflict ≡ false)
+new_means (Some w) conflict is = absurd (cc)
+new_means None false is = (refl, refl)
+new_means None true is = absurd (cc)
+
+pub puts_are_undone : PutsAreUndone
+puts_are_undone t k v r are new =
+    let mine : Own = own t r in
+    let made : Own = record { keys = with_pair k v mine.keys; numbers = mine.numbers } in
+    let is = new_means (value_at k mine.keys) (has_conflict k mine.keys) new in
+    let put_is : command_after (Some (of_tenant t (put k v))) r ≡ with_own t made r =
+    ap₂ (λ old conflict. with_changed t (if puts old conflict then Some made else None) r) is.0 is.1 in
+    let order = own_in_order (λ (x : KeyRecord). x.tenant) key_part KeyComesBefore (λ p q. is_below p.0 q.0 ≡ true) key_comes t r.keys are.keys_in_order in
+    let others = none_passes (λ (p : List ℕ × List ℕ). p.1) (λ p. bytes_eq p.0 k) mine.keys is.0 in
+    let keys_are : without_pair k made.keys ≡ mine.keys =
+    undone is_below bytes_eq k ((bytes_eq-Decides k k).1 refl) (key_apart k) not_both_below (below_trans k) v mine.keys order others in
+    let behind : Own → Own = λ o. record { keys = without_pair k o.keys; numbers = o.numbers } in
+    ap (command_after (Some (of_tenant t (del k)))) put_is
+    ∙ ap (λ o. with_own t (behind o) (with_own t made r)) (own_reads_back t made r)
+    ∙ with_own_again t made (behind made) r
+    ∙ ap (λ keys. with_own t (record { keys = keys; numbers = mine.numbers }) r) keys_are
+    ∙ own_is_in_place t r are
+
+-- numbers
+
+number_apart : (k j : ℤ) → int_eq j k ≡ false → int_lt j k ≡ false → int_lt k j ≡ true
+number_apart k j other low = go (int_lt k j) refl
+  where
+    go : (b : Bool) → int_lt k j ≡ b → int_lt k j ≡ true
+    go true e = e
+    go false e = let equal : int_eq j k ≡ true = rw (low, e) refl in absurd (true≢false (sym equal ∙ other))
+
+number_upward : (k i j : ℤ) → int_lt k i ≡ true → int_lt i j ≡ true → int_lt k j ≡ true
+number_upward k i j h l =
+    let low : int_cmp k i ≡ Less = rw h refl in
+    let high : int_cmp i j ≡ Less = rw l refl in
+    sym (lt-int_cmp k j) ∙ ap is_lt (int_cmp_total.trans k i j low high)
+
+number_comes : (r s : NumberRecord) → NumberComesBefore r s → r.tenant ≡ s.tenant → int_lt r.number s.number ≡ true
+number_comes r s (inl lt) same = absurd (omega (arith, lt, same))
+number_comes r s (inr up) same = up.1
+
+pub number_puts_are_undone : NumberPutsAreUndone
+number_puts_are_undone t n v r are new =
+    let mine : Own = own t r in
+    let made : Own = record { keys = mine.keys; numbers = with_number n v mine.numbers } in
+    let is = new_means (value_at_number n mine.numbers) false new in
+    let order = own_in_order (λ (x : NumberRecord). x.tenant) number_part NumberComesBefore (λ p q. int_lt p.0 q.0 ≡ true) number_comes t r.numbers are.numbers_in_order in
+    let others = none_passes (λ (p : ℤ × List ℕ). p.1) (λ p. int_eq p.0 n) mine.numbers is.0 in
+    let numbers_are : without_number n made.numbers ≡ mine.numbers =
+    undone int_lt int_eq n ((Decides-int_eq n n).1 refl) (number_apart n) int_lt_turned (number_upward n) v mine.numbers order others in
+    let behind : Own → Own = λ o. record { keys = o.keys; numbers = without_number n o.numbers } in
+    ap (λ o. with_own t (behind o) (with_own t made r)) (own_reads_back t made r)
+    ∙ with_own_again t made (behind made) r
+    ∙ ap (λ numbers. with_own t (record { keys = mine.keys; numbers = numbers }) r) numbers_are
+    ∙ own_is_in_place t r are

@@ -1,0 +1,13 @@
+use Rattle.std.proofs.Common.{ap, subst}
+use Rattle.art_engine.specs.Records.{AreRecords}
+use Rattle.art_engine.specs.State.{State}
+use Rattle.art_engine.proofs.NumberPlaces.{are_in_order}
+use Rattle.art_engine.proofs.index.Index.holds_records.Goals as goal
+
+pub returns : goal.returns
+returns g c = subst AreRecords (ap (λ (s : State). s.records) c.self.view_is) (record {
+  keys_in_order = c.self.invariant.0.stand.in_order;
+  numbers_in_order = are_in_order c.self.inside.numbers.pairs c.self.invariant.1;
+  keys_fit = c.self.invariant.0.fit;
+  numbers_fit = c.self.invariant.1.fit;
+})

@@ -1,0 +1,16 @@
+use Rattle.std.proofs.Common.{◌≡◌, ℕ, List, ◌++◌, length, false}
+use Rattle.art_engine.specs.State.{State}
+use Rattle.art_engine.specs.Progress.{Carried}
+use Rattle.art_engine.proofs.running.feed.Given as goal
+
+-- the part of the piece before the rest is carried
+abbrev pub invariant-lines : goal.invariant-lines
+invariant-lines g l = record {
+  carried : (done : List ℕ) × (l.piece ≡ done ++ l.rest) × ((start : State) (text before : List ℕ)
+      → Carried start l.fn.index text l.fn.held.items before (g.W.Sink.taken l.fn.sink)
+      → Carried start l.index (text ++ done) l.held.items before (g.W.Sink.taken l.sink));
+  fine : g.W.Sink.has_failed l.sink ≡ false;
+}
+
+abbrev pub decreases-lines : goal.decreases-lines
+decreases-lines g l = length l.rest

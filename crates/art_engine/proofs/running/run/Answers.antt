@@ -1,0 +1,69 @@
+use Rattle.std.proofs.Common.{◌≡◌, ℕ, ◌<◌, ◌++◌, [], List, length, take, sym, ◌∙◌, ap, arith, append-nil, append_assoc, subst, true, false, Ok}
+use Rattle.std.proofs.lemmas.Bool.{eqb-false}
+use Rattle.art_lines.specs.Lines.{lines_so_far}
+use Rattle.art_engine.specs.Outcome.{answer}
+use Rattle.art_engine.specs.Faults.{AfterWriteFault}
+use Rattle.art_engine.specs.Progress.{Carried}
+use Rattle.art_engine.proofs.Carrying.{carried_none, outcome_last}
+use Rattle.art_engine.proofs.CutRuns.{cut_run-last}
+use Rattle.art_engine.proofs.running.run.Goals as goal
+
+-- a read of no byte gives nothing
+given_end : (start text old new : List ℕ) (n : ℕ) (buf : List ℕ) → old ≡ start ++ text → new ≡ old ++ take n buf → n ≡ 0 → new ≡ start ++ text
+given_end start text old new n buf e h none = h ∙ ap (λ k. old ++ take k buf) none ∙ append-nil old ∙ e
+
+pub reads-init : goal.reads-init
+reads-init g c = record {
+  carried = ([], sym (append-nil (g.S.Source.given c.args.source.now)), rw c.new-held.ensures (carried_none c.args.index.now (g.W.Sink.taken c.args.sink.now)));
+  source_open = c.requires.source_open;
+  source_goes_on = c.requires.source_goes_on;
+  sink_open = c.requires.sink_open;
+}
+
+pub returns-in_ok-handle-clause-outcome : goal.returns-in_ok-handle-clause-outcome
+returns-in_ok-handle-clause-outcome g c =
+    let i = c.reads.invariant.carried in let text : List ℕ = i.0 in
+    let carried = i.2 in let e = c.in_ok-handle.ensures in let memory = c.in_ok-handle.field-0.memory in
+    let held : List ℕ = c.reads.held.items in let line = c.as_slice.ensures.value in
+    let some : 0 < length held = let h = eqb-false _ _ (sym c.if-not-is_empty.ensures) in omega arith in
+    let last = outcome_last c.args.index.now c.reads.index c.handle.new.self text held (g.W.Sink.taken c.args.sink.now) (g.W.Sink.taken c.reads.sink) c.as_slice.result.now carried some line memory
+    (record { lawful = e.lawful; left = e.left; visits = c.in_ok-handle.field-0.visits; count = record { within = e.visits; short = e.short; own_path = e.own_path }; reads = e.counted }) in (
+      text,
+      carried.written ++ answer memory c.reads.index.records c.as_slice.result.now,
+      given_end (g.S.Source.given c.args.source.now) text (g.S.Source.given c.reads.source) (g.S.Source.given c.read.new.self) c.in-Ok.n c.read.new.buf i.1 c.in-Ok.ensures.gives c.if-n-eq0.true,
+      e.told ∙ ap (λ t. t ++ answer memory c.reads.index.records c.as_slice.result.now) (c.send.ensures.keeps ∙ carried.told) ∙ append_assoc (g.W.Sink.taken c.args.sink.now) carried.written (answer memory c.reads.index.records c.as_slice.result.now),
+      last,
+    )
+
+pub returns-in_err-feed-clause-after_write_fault :
+    goal.returns-in_err-feed-clause-after_write_fault
+returns-in_err-feed-clause-after_write_fault g c = λ _.
+    let i = c.reads.invariant.carried in let text : List ℕ = i.0 in let n : ℕ = c.in-Ok.n in
+    let more : List ℕ = take n c.read.new.buf in
+    let sent = subst (Carried c.args.index.now c.reads.index text c.reads.held.items (g.W.Sink.taken c.args.sink.now)) (sym c.send.ensures.keeps) i.2 in
+    let run = c.in_err-feed.ensures.cut c.args.index.now text (g.W.Sink.taken c.args.sink.now) sent in
+    let some : 0 < n = let other = c.if-n-eq0.false in omega arith in
+    let goes_on : g.S.Source.has_ended c.read.new.self ≡ false = c.in-Ok.ensures.goes_on some ∙ c.reads.invariant.source_goes_on in (
+      text ++ more,
+      run.written,
+      c.in-Ok.ensures.gives ∙ ap (λ t. t ++ more) i.1 ∙ append_assoc (g.S.Source.given c.args.source.now) text more,
+      run.told,
+      subst (λ b. AfterWriteFault c.args.index.now (lines_so_far b (text ++ more)) run.written c.feed.new.index) (sym goes_on) run.fault,
+    )
+
+pub returns-in_err-handle-clause-after_write_fault :
+    goal.returns-in_err-handle-clause-after_write_fault
+returns-in_err-handle-clause-after_write_fault g c = λ _.
+    let i = c.reads.invariant.carried in let text : List ℕ = i.0 in
+    let held : List ℕ = c.reads.held.items in
+    let some : 0 < length held = let h = eqb-false _ _ (sym c.if-not-is_empty.ensures) in omega arith in
+    let sent = subst (Carried c.args.index.now c.reads.index text held (g.W.Sink.taken c.args.sink.now)) (sym c.send.ensures.keeps) i.2 in
+    let run = cut_run-last c.args.index.now c.reads.index c.handle.new.self text held (g.W.Sink.taken c.args.sink.now) (g.W.Sink.taken c.send.new.self) (g.W.Sink.taken c.handle.new.sink) c.as_slice.result.now
+    sent some c.as_slice.ensures.value c.in_err-handle.ensures.cut in
+    let ended : g.S.Source.has_ended c.read.new.self ≡ true = c.in-Ok.ensures.ends (ap (λ n. Ok n) c.if-n-eq0.true) in (
+      text,
+      run.written,
+      given_end (g.S.Source.given c.args.source.now) text (g.S.Source.given c.reads.source) (g.S.Source.given c.read.new.self) c.in-Ok.n c.read.new.buf i.1 c.in-Ok.ensures.gives c.if-n-eq0.true,
+      run.told,
+      subst (λ b. AfterWriteFault c.args.index.now (lines_so_far b text) run.written c.handle.new.self) (sym ended) run.fault,
+    )

@@ -1,0 +1,37 @@
+-- How the drop of a tenant went: how that is told, and what it left.
+use Rattle.std.specs.Prelude.{◌≡◌, ℕ, ◌+◌, Bool, true, false, List, [], ◌∷◌, codes, Some}
+use Rattle.art_engine.specs.declared.dropped.Dropped.{Dropped}
+use Rattle.art_engine.specs.declared.dropped.Dropped.TheVariants as dropped
+use Rattle.art_lines.specs.Words.{Word, name, natural}
+use Rattle.art_lines.specs.Commands.{of_tenant, drop}
+use Rattle.art_engine.specs.Records.{Records}
+use Rattle.art_engine.specs.Refusals.{MayRefuse}
+use Rattle.art_engine.specs.Replies.{command_reply, command_after}
+use Rattle.art_engine.specs.Counts.{IsWithin, request_visits}
+
+-- the words that tell how it went
+abbrev pub dropped_words : Dropped → List Word
+dropped_words (dropped.Gone keys numbers visits) = name (codes "dropped") ∷ natural (keys + numbers) ∷ []
+dropped_words dropped.Memory = name (codes "memory") ∷ []
+
+-- whether there was no memory for it
+abbrev pub was_refused : Dropped → Bool
+was_refused (dropped.Gone keys numbers visits) = false
+was_refused dropped.Memory = true
+
+-- how many nodes were read and freed
+abbrev pub visits_told : Dropped → ℕ
+visits_told (dropped.Gone keys numbers visits) = visits
+visits_told dropped.Memory = 0
+
+-- All of a tenant's records were dropped: it is told how many they were, nothing of them is left, and so many nodes
+-- were read and freed.
+pub record AreGone (d : Dropped) (tenant : ℕ) (old new : Records) : Type 0 where
+  pub told : dropped_words d ∷ [] ≡ command_reply (Some (of_tenant tenant drop)) old
+  pub left : new ≡ command_after (Some (of_tenant tenant drop)) old
+  pub counted : IsWithin (request_visits tenant drop old) (visits_told d)
+
+-- So it was done; where there was no memory for it, there may be none, and nothing is changed.
+abbrev pub IsDropDone : Dropped → ℕ → Records → Records → Type 0
+IsDropDone dropped.Memory tenant old new = (new ≡ old) × MayRefuse old (of_tenant tenant drop)
+IsDropDone d tenant old new = AreGone d tenant old new

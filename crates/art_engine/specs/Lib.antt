@@ -1,0 +1,16 @@
+pub mod Keys
+pub mod Records
+pub mod State
+pub mod Replies
+pub mod Refusals
+pub mod Outcome
+pub mod Faults
+pub mod Counts
+pub mod Laws
+pub mod Stored
+pub mod Changed
+pub mod Told
+pub mod Dropped
+pub mod Progress
+pub mod Spans
+pub mod Held

@@ -1,0 +1,86 @@
+//! Laws of the definitions. Each function does nothing, and its contract is the law.
+ghost use Rattle.art_engine.specs.Laws.{OwnReadsBack, OthersAreUntouched, OwnIsInPlace};
+ghost use Rattle.art_engine.specs.Laws.{RequestsLeaveOthers, TenantsStandAlone, DeletionsGoByOwnKeys};
+ghost use Rattle.art_engine.specs.Laws.{DeletionsGoByOwnNumbers, DropsReadFew, DumpsTellRecords, DumpsAreReadBack};
+ghost use Rattle.art_engine.specs.Laws.{FullKeysKeepOrder, FullKeysKeepConflicts, OwnIsBehindFront};
+ghost use Rattle.art_engine.specs.Laws.{PutsAreUndone, NumberPutsAreUndone};
+
+/// What is put in place for a tenant is what it holds then.
+pub fn own_reads_back()
+    ensures { OwnReadsBack }
+{}
+
+/// What another tenant holds is untouched by it.
+pub fn others_are_untouched()
+    ensures { OthersAreUntouched }
+{}
+
+/// What a tenant holds, put in place again, changes nothing.
+pub fn own_is_in_place()
+    ensures { OwnIsInPlace }
+{}
+
+/// Full keys are in order if their tenants are, and within a tenant if its keys are.
+pub fn full_keys_keep_order()
+    ensures { FullKeysKeepOrder }
+{}
+
+/// Full keys conflict if they are one tenant's and its keys do.
+pub fn full_keys_keep_conflicts()
+    ensures { FullKeysKeepConflicts }
+{}
+
+/// What a tenant holds is what the two maps have after the tenant's prefix, with the prefix cut off.
+pub fn own_is_behind_front()
+    ensures { OwnIsBehindFront }
+{}
+
+/// A request of one tenant leaves what all others hold.
+pub fn requests_leave_others()
+    ensures { RequestsLeaveOthers }
+{}
+
+/// The replies to a tenant's lines, and what it holds after them, are those of these lines alone from what it held.
+/// Whatever others send changes nothing of that, if the same lines are answered `memory`.
+pub fn tenants_stand_alone()
+    ensures { TenantsStandAlone }
+{}
+
+/// While a tenant has another key, whether the deletion of one may be out of memory depends on what it holds alone.
+pub fn deletions_go_by_own_keys()
+    ensures { DeletionsGoByOwnKeys }
+{}
+
+/// While a tenant has another number, whether the deletion of one may be out of memory depends on what it holds alone.
+pub fn deletions_go_by_own_numbers()
+    ensures { DeletionsGoByOwnNumbers }
+{}
+
+/// A `put` is answered `new`, and then a `del` of that key is not answered `memory`: the records are then as they were.
+/// So is what a `dump` and an `audit` write.
+pub fn puts_are_undone()
+    ensures { PutsAreUndone }
+{}
+
+/// A `nput` is answered `new`, and then a `ndel` of that number is not answered `memory`: the records are then as they
+/// were. So is what a `dump` and an `audit` write.
+pub fn number_puts_are_undone()
+    ensures { NumberPutsAreUndone }
+{}
+
+/// Two dumps are equal exactly if their records are.
+pub fn dumps_tell_records()
+    ensures { DumpsTellRecords }
+{}
+
+/// An empty index with memory to spare carries out the lines of a dump. They are answered `new` once a record and then
+/// `bad`, and leave the records that were dumped.
+pub fn dumps_are_read_back()
+    ensures { DumpsAreReadBack }
+{}
+
+/// A drop reads and frees at least as many nodes as the tenant has records. At most they are twice as many, and 20 for
+/// each byte of the longest full key and for two.
+pub fn drops_read_few()
+    ensures { DropsReadFew }
+{}

@@ -1,0 +1,35 @@
+//! The engine: the records of many tenants, and what each line does to them. The contract of `run` is what it rests on:
+//! what is written is the definition's replies to the lines read, however they are cut.
+//!
+//! To believe it, believe these definitions, in this order: `Lines`, `Words`, `Commands` and `Keys` of art_lines;
+//! `Records` and `Keys`; `ReplyWords` of art_lines; `Replies`, `Refusals`, `Outcome` and `Faults`. `Replies` reads a
+//! line by `Reading` of art_lines, which need not be believed: the law `reading_is_spelling` there says that it is the
+//! grammar of `Commands`.
+#![tactic(auto)]
+
+pub mod ahead;
+mod audit;
+mod carry;
+mod dropped;
+mod history;
+mod index;
+pub mod laws;
+mod lists;
+mod looked;
+mod lookup;
+mod maps;
+mod numbers;
+mod piece;
+mod placed;
+mod readers;
+mod records;
+mod running;
+mod tenants;
+mod told;
+pub mod upcoming;
+mod whole;
+
+pub use index::{Handled, Index, RunFault};
+pub use lookup::look;
+pub use maps::are_records;
+pub use running::{flushed, run};

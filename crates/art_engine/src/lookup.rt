@@ -1,0 +1,97 @@
+//! Look-ups. They are given a reader of each map and what was read of the line, and nothing else to answer from. The
+//! readers count each node that they read.
+ghost use Rattle.std.specs.Prelude.{◌≡◌, List, Some, false, flat_map, IfErr, OnOk};
+ghost use Rattle.art_walks.specs.MapReads.{IsSameMap};
+ghost use Rattle.art_lines.specs.Words.{line_of};
+ghost use Rattle.art_engine.specs.Replies.{command_reply};
+ghost use Rattle.art_lines.specs.Writes.{Writes};
+ghost use Rattle.art_engine.specs.Counts.{key_visits, number_visits, Grew};
+ghost use Rattle.art_lines.specs.Parsed.{looks_up};
+ghost use Rattle.art_engine.specs.Spans.{ReadsRecords, ReadsNumbers};
+ghost use Rattle.art_engine.specs.Stored.{Pair, NumberPair, all_records_of};
+
+use crate::index::RunFault;
+use crate::lists::{write_list, write_number_span, write_span};
+use crate::looked::{front_of, value_at_number, value_of};
+use art_lines::command::fields::{Fields, NUMBER_KEY};
+use art_lines::command::word::LookUp;
+use art_lines::reply::{write_front, write_value};
+use art_lines::{Sink, WriteFailed};
+use art_walks::MapReader;
+
+/// Answers a look-up, which changes nothing, through a reader of each map: those of an index's records. It requires a
+/// sink that has not failed, and returns `RunFault::Write` if the sink fails.
+///
+/// The readers count what they read, each by itself, whatever they had read before. If it returns `Ok`, `Grew` says how
+/// many nodes these are, told by the records alone: one of both maps is read, and nothing of the other.
+///
+/// ```
+/// use art_lines::command::{fields::Fields, read_line, word::LookUp};
+/// let mut index: Index<16> = Index::new(rt.alloc());
+/// let mut replies = Vec::new(rt.alloc());
+/// index.handle(b"put 7 0a 6869", &mut ToWriter::new(&mut replies))?;
+/// let mut fields = Fields::new();
+/// read_line(b"get 7 0a", &mut fields);
+/// let (mut bytes, mut numbers) = (index.byte_map().reader(), index.number_map().reader());
+/// look(&mut bytes, &mut numbers, LookUp::Get, &fields, &mut ToWriter::new(&mut replies))?;
+/// assert_eq!(rt; replies.as_slice(), b"new\nis 6869\n".as_slice());
+/// ```
+pub fn look<W: Sink, const PREFIX_LEN: usize>(
+    bytes: &mut MapReader<'_, Vec<u8>, Vec<u8>, PREFIX_LEN>,
+    numbers: &mut MapReader<'_, [u8; NUMBER_KEY], Vec<u8>, PREFIX_LEN>,
+    word: LookUp,
+    fields: &Fields,
+    sink: &mut W,
+) -> Result<(), RunFault>
+    requires open { W.has_failed sink.old ≡ false }
+    requires bytes { (ps : List Pair) × ReadsRecords PREFIX_LEN bytes.old ps }
+    requires numbers { (ns : List NumberPair) × ReadsNumbers PREFIX_LEN numbers.old ns }
+    ensures told { (ps : List Pair) (ns : List NumberPair) → ReadsRecords PREFIX_LEN bytes.old ps
+        → ReadsNumbers PREFIX_LEN numbers.old ns → Writes result (W.taken sink.old) (W.taken sink.new)
+        (flat_map line_of (command_reply (Some (looks_up word fields.now)) (all_records_of ps ns)))
+        (W.has_failed sink.new) }
+    ensures err { IfErr result (λ fault. fault ≡ RunFault.Write) }
+    ensures kept { IsSameMap bytes.old bytes.new × IsSameMap numbers.old numbers.new }
+    ensures bytes_read { (ps : List Pair) (ns : List NumberPair) → ReadsRecords PREFIX_LEN bytes.old ps
+        → ReadsNumbers PREFIX_LEN numbers.old ns → OnOk result (Grew
+        (key_visits (Some (looks_up word fields.now)) (all_records_of ps ns)) bytes.old.count bytes.new.count) }
+    ensures numbers_read { (ps : List Pair) (ns : List NumberPair) → ReadsRecords PREFIX_LEN bytes.old ps
+        → ReadsNumbers PREFIX_LEN numbers.old ns → OnOk result (Grew
+        (number_visits (Some (looks_up word fields.now)) (all_records_of ps ns)) numbers.old.count numbers.new.count) }
+{
+    look_up(bytes, numbers, word, fields, sink)?;
+    Ok(())
+}
+
+// Answers a look-up as `look` does, and returns the sink's own fault.
+fn look_up<W: Sink, const PREFIX_LEN: usize>(
+    bytes: &mut MapReader<'_, Vec<u8>, Vec<u8>, PREFIX_LEN>,
+    numbers: &mut MapReader<'_, [u8; NUMBER_KEY], Vec<u8>, PREFIX_LEN>,
+    word: LookUp,
+    fields: &Fields,
+    sink: &mut W,
+) -> Result<(), WriteFailed>
+    requires open { W.has_failed sink.old ≡ false }
+    requires bytes { (ps : List Pair) × ReadsRecords PREFIX_LEN bytes.old ps }
+    requires numbers { (ns : List NumberPair) × ReadsNumbers PREFIX_LEN numbers.old ns }
+    ensures told { (ps : List Pair) (ns : List NumberPair) → ReadsRecords PREFIX_LEN bytes.old ps
+        → ReadsNumbers PREFIX_LEN numbers.old ns → Writes result (W.taken sink.old) (W.taken sink.new)
+        (flat_map line_of (command_reply (Some (looks_up word fields.now)) (all_records_of ps ns)))
+        (W.has_failed sink.new) }
+    ensures kept { IsSameMap bytes.old bytes.new × IsSameMap numbers.old numbers.new }
+    ensures bytes_read { (ps : List Pair) (ns : List NumberPair) → ReadsRecords PREFIX_LEN bytes.old ps
+        → ReadsNumbers PREFIX_LEN numbers.old ns → OnOk result (Grew
+        (key_visits (Some (looks_up word fields.now)) (all_records_of ps ns)) bytes.old.count bytes.new.count) }
+    ensures numbers_read { (ps : List Pair) (ns : List NumberPair) → ReadsRecords PREFIX_LEN bytes.old ps
+        → ReadsNumbers PREFIX_LEN numbers.old ns → OnOk result (Grew
+        (number_visits (Some (looks_up word fields.now)) (all_records_of ps ns)) numbers.old.count numbers.new.count) }
+{
+    match word {
+        LookUp::Get => write_value(sink, value_of(bytes, fields)),
+        LookUp::Find => write_front(sink, front_of(bytes, fields)),
+        LookUp::List => write_list(bytes, fields, sink),
+        LookUp::Span => write_span(bytes, fields, sink),
+        LookUp::NGet => write_value(sink, value_at_number(numbers, fields)),
+        LookUp::NSpan => write_number_span(numbers, fields, sink),
+    }
+}

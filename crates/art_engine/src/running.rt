@@ -1,0 +1,166 @@
+//! From a source to a sink.
+ghost use Rattle.std.specs.Prelude.{◌≡◌, ℕ, ◌<◌, ◌++◌, ◌∷◌, ◌↔◌, [], List, take, OnOk, OnErr, IfErr, is_err};
+ghost use Rattle.std.specs.Prelude.{true, false, Err};
+ghost use Rattle.art_lines.specs.Lines.{lines_of, whole_lines_of, lines_so_far};
+ghost use Rattle.art_engine.specs.State.{State};
+ghost use Rattle.art_engine.specs.Outcome.{IsOutcome};
+ghost use Rattle.art_engine.specs.Faults.{AfterReadFault, AfterWriteFault};
+ghost use Rattle.art_engine.specs.Progress.{Carried, IsCutRun, NoNewline};
+
+use crate::index::{Index, RunFault};
+use crate::piece::PieceRoom;
+use crate::upcoming::Upcoming;
+use arrayvec::ArrayVec;
+use art_lines::{Sink, Source};
+use memchr::memchr;
+use std::io::Write;
+
+/// The bytes of an unfinished line that are held: one more than a line may have, so that a longer one is known as such.
+const HELD: usize = 4097;
+
+/// Reads lines to the end of the input, and writes the reply to each. Before each read, the replies to all whole lines
+/// so far have been written. A last line without a newline counts, unless it is empty. After a failed read it doesn't.
+///
+/// ```
+/// let mut index: Index<16> = Index::new(rt.alloc());
+/// let mut source = FromReader::new(b"put 7 0a0b 6869\nget 7 0a0b\n".as_slice());
+/// let mut replies = Vec::new(rt.alloc());
+/// run(&mut index, &mut source, &mut ToWriter::new(&mut replies))?;
+/// assert_eq!(rt; replies.as_slice(), b"new\nis 6869\n".as_slice());
+/// ```
+pub fn run<S: Source, W: Sink, const PREFIX_LEN: usize>(
+    index: &mut Index<PREFIX_LEN>,
+    source: &mut S,
+    sink: &mut W,
+) -> Result<(), RunFault>
+    requires source_open { S.has_failed source.old ≡ false }
+    requires source_goes_on { S.has_ended source.old ≡ false }
+    requires sink_open { W.has_failed sink.old ≡ false }
+
+    // Where it answers Ok, the source has ended, and what was written is the replies to the lines of the text given.
+    // What each line has read of the trees is counted.
+    ensures ended { OnOk result (S.has_ended source.new ≡ true) }
+    ensures outcome { OnOk result ((text written : List ℕ)
+        × (S.given source.new ≡ S.given source.old ++ text)
+        × (W.taken sink.new ≡ W.taken sink.old ++ written)
+        × IsOutcome index.old (lines_of text) written index.new) }
+
+    // A fault is that of the end that failed.
+    ensures read { (result ≡ Err RunFault.Read) ↔ (S.has_failed source.new ≡ true) }
+    ensures write { (result ≡ Err RunFault.Write) ↔ (W.has_failed sink.new ≡ true) }
+
+    // After a failed read, the whole lines of the text given are answered.
+    ensures after_read_fault { result ≡ Err RunFault.Read → (text written : List ℕ)
+        × (S.given source.new ≡ S.given source.old ++ text)
+        × (W.taken sink.new ≡ W.taken sink.old ++ written)
+        × AfterReadFault index.old text written index.new }
+
+    // After a failed write, one line more is carried out than is answered whole. Of its answer a beginning is written.
+    ensures after_write_fault { result ≡ Err RunFault.Write → (text written : List ℕ)
+        × (S.given source.new ≡ S.given source.old ++ text)
+        × (W.taken sink.new ≡ W.taken sink.old ++ written)
+        × AfterWriteFault index.old (lines_so_far (S.has_ended source.new) text) written index.new }
+{
+    let mut held: ArrayVec<u8, HELD> = ArrayVec::new();
+    let mut room = PieceRoom::new(index.alloc());
+    let mut upcoming = Upcoming::new();
+    'reads: loop {
+        sink.send();
+        let buf = room.as_mut_slice();
+        let Ok(n) = source.read(buf) else {
+            return Err(RunFault::Read);
+        };
+        if n == 0 {
+            break 'reads;
+        }
+        feed(index, &mut held, &mut upcoming, &buf[..n], sink)?;
+    }
+    drop(room);
+    if !held.is_empty() {
+        index.handle(held.as_slice(), sink)?;
+    }
+    Ok(())
+}
+
+/// Carries out the lines that the piece ends, and holds what stands behind them. A line that lies whole in the piece is
+/// handled there; only a line that was cut is put together. What the look-ups among them read is read ahead.
+fn feed<W: Sink, const PREFIX_LEN: usize>(
+    index: &mut Index<PREFIX_LEN>,
+    held: &mut ArrayVec<u8, HELD>,
+    upcoming: &mut Upcoming,
+    piece: &[u8],
+    sink: &mut W,
+) -> Result<(), RunFault>
+    requires { W.has_failed sink.old ≡ false }
+    ensures carried { OnOk result ((start : State) (text before : List ℕ)
+        → Carried start index.old text held.old.items before (W.taken sink.old)
+        → Carried start index.new (text ++ piece.now) held.new.items before (W.taken sink.new)) }
+    ensures cut { OnErr result ((start : State) (text before : List ℕ)
+        → Carried start index.old text held.old.items before (W.taken sink.old)
+        → IsCutRun start index.new (whole_lines_of (text ++ piece.now)) before (W.taken sink.new)) }
+    ensures err { IfErr result (λ fault. fault ≡ RunFault.Write) }
+    ensures failed { is_err result ≡ W.has_failed sink.new }
+{
+    let mut rest = piece;
+    'lines: while let Some(at) = memchr(b'\n', rest) {
+        upcoming.step(index.byte_map(), index.number_map(), rest);
+        finish(index, held, &rest[..at], sink)?;
+        rest = &rest[at + 1..];
+    }
+    hold(held, rest);
+    Ok(())
+}
+
+/// Carries out the line that is held and then ends with the part.
+fn finish<W: Sink, const PREFIX_LEN: usize>(
+    index: &mut Index<PREFIX_LEN>,
+    held: &mut ArrayVec<u8, HELD>,
+    part: &[u8],
+    sink: &mut W,
+) -> Result<(), RunFault>
+    requires { W.has_failed sink.old ≡ false }
+    ensures carried { OnOk result ((start : State) (text before : List ℕ)
+        → NoNewline part.now
+        → Carried start index.old text held.old.items before (W.taken sink.old)
+        → Carried start index.new (text ++ part.now ++ 10 ∷ []) held.new.items before (W.taken sink.new)) }
+    ensures cut { OnErr result ((start : State) (text before : List ℕ)
+        → NoNewline part.now
+        → Carried start index.old text held.old.items before (W.taken sink.old)
+        → IsCutRun start index.new (whole_lines_of (text ++ part.now ++ 10 ∷ [])) before (W.taken sink.new)) }
+    ensures err { IfErr result (λ fault. fault ≡ RunFault.Write) }
+    ensures failed { is_err result ≡ W.has_failed sink.new }
+{
+    if held.is_empty() {
+        index.handle(part, sink)?;
+        return Ok(());
+    }
+    hold(held, part);
+    index.handle(held.as_slice(), sink)?;
+    held.clear();
+    Ok(())
+}
+
+/// Adds the part to what is held, as far as there is room.
+fn hold(held: &mut ArrayVec<u8, HELD>, part: &[u8])
+    ensures { held.new.items ≡ take 4097 (held.old.items ++ part.now) }
+{
+    let room = part.len().min(HELD - held.len());
+    let _ = held.try_extend_from_slice(&part[..room]);
+}
+
+/// Flushes a writer if all went well, and returns how it went then.
+///
+/// ```
+/// assert!(rt; flushed(Ok(()), &mut rt.stdout()).is_ok());
+/// assert!(rt; flushed(Err(RunFault::Read), &mut rt.stdout()).is_err());
+/// ```
+pub fn flushed<W: Write>(done: Result<(), RunFault>, writer: &mut W) -> Result<(), RunFault>
+    ensures kept { IfErr done (λ fault. result ≡ Err fault) }
+    ensures write { OnOk done (IfErr result (λ fault. fault ≡ RunFault.Write)) }
+{
+    done?;
+    match writer.flush() {
+        Ok(()) => Ok(()),
+        Err(_) => Err(RunFault::Write),
+    }
+}

@@ -1,8 +1,0 @@
-use Rattle.std.proofs.Common.{map, ap, ◌∙◌}
-use Rattle.art_index.specs.Keys.{full_pair}
-use Rattle.art_index.specs.State.{State}
-use Rattle.art_index.proofs.Placing.{pairs_are}
-use Rattle.art_index.proofs.index.Index.byte_map.Goals as goal
-
-pub returns : goal.returns
-returns g c = pairs_are c.self.inside.records.pairs c.self.invariant.0.stand.full ∙ ap (λ (s : State). map full_pair s.records.keys) c.self.view_is

@@ -1,8 +1,0 @@
-use Rattle.std.proofs.Common.{map, ap, ◌∙◌}
-use Rattle.art_index.specs.Keys.{number_pair}
-use Rattle.art_index.specs.State.{State}
-use Rattle.art_index.proofs.NumberPlaces.{number_pairs_are}
-use Rattle.art_index.proofs.index.Index.number_map.Goals as goal
-
-pub returns : goal.returns
-returns g c = number_pairs_are c.self.inside.numbers.pairs c.self.invariant.1.stand ∙ ap (λ (s : State). map number_pair s.records.numbers) c.self.view_is

@@ -1,5 +1,0 @@
-use Rattle.art_index.proofs.OwnRefusals.{deletions_go_by_own_keys}
-use Rattle.art_index.proofs.laws.deletions_go_by_own_keys.Goals as goal
-
-pub returns : goal.returns
-returns c = deletions_go_by_own_keys

@@ -1,5 +1,0 @@
-use Rattle.art_index.proofs.ReadBack.{dumps_are_read_back}
-use Rattle.art_index.proofs.laws.dumps_are_read_back.Goals as goal
-
-pub returns : goal.returns
-returns c = dumps_are_read_back

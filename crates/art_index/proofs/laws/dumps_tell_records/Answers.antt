@@ -1,5 +1,0 @@
-use Rattle.art_index.proofs.ReadBack.{dumps_tell_records}
-use Rattle.art_index.proofs.laws.dumps_tell_records.Goals as goal
-
-pub returns : goal.returns
-returns c = dumps_tell_records

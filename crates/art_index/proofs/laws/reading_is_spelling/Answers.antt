@@ -1,7 +1,0 @@
-use Rattle.std.proofs.Common.{refl}
-use Rattle.art_index.specs.Reading.{command_of}
-use Rattle.art_index.proofs.Spelling.{read_back}
-use Rattle.art_index.proofs.laws.reading_is_spelling.Goals as goal
-
-pub returns : goal.returns
-returns c = λ line. read_back line (command_of line) refl

@@ -1,5 +1,0 @@
-use Rattle.art_index.proofs.Isolation.{tenants_stand_alone}
-use Rattle.art_index.proofs.laws.tenants_stand_alone.Goals as goal
-
-pub returns : goal.returns
-returns c = tenants_stand_alone

@@ -1,5 +1,0 @@
-use Rattle.art_index.proofs.Gathering.{head_put}
-use Rattle.art_index.proofs.room.Head.put.Goals as goal
-
-pub returns : goal.returns
-returns c = head_put _ _ _ _ _ _ _ c.requires c.args.self.now.held c.put_text-behind.ensures

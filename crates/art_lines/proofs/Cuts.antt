@@ -1,0 +1,80 @@
+-- Texts that are taken part by part, and where a write fails within one.
+use Rattle.std.proofs.Common.{◌≡◌, ℕ, ◌≢◌, List, [], ◌∷◌, ◌++◌, length, refl, ap, sym, ◌∙◌, arith, subst, Result, Ok, Err, OnErr, append_assoc, append-nil}
+use Rattle.art_lines.specs.Writes.{IsCut}
+use Rattle.art_lines.specs.Gathered.{IsPartTaken}
+
+not_empty : (missing rest : List ℕ) → missing ≢ [] → missing ++ rest ≢ []
+not_empty [] rest some = absurd (some refl)
+not_empty (x ∷ xs) rest some = λ e. let long = ap length e in absurd (omega arith)
+
+-- a cut of a part is a cut of the text that begins with it
+pub cut_before : (before after part rest : List ℕ) → IsCut before after part → IsCut before after (part ++ rest)
+cut_before before after part rest c = record {
+  begun = c.begun;
+  missing = c.missing ++ rest;
+  is_cut = not_empty c.missing rest c.is_cut;
+  parts = sym (append_assoc c.begun c.missing rest) ∙ ap (λ t. t ++ rest) c.parts;
+  told = c.told;
+}
+
+-- a cut behind a part that is taken whole
+pub cut_behind : (before between after part rest : List ℕ) → between ≡ before ++ part → IsCut between after rest → IsCut before after (part ++ rest)
+cut_behind before between after part rest e c = record {
+  begun = part ++ c.begun;
+  missing = c.missing;
+  is_cut = c.is_cut;
+  parts = append_assoc part c.begun c.missing ∙ ap (λ t. part ++ t) c.parts;
+  told = c.told ∙ ap (λ t. t ++ c.begun) e ∙ append_assoc before part c.begun;
+}
+
+-- a cut of a text that is written in another way
+pub cut_same : (before after text text' : List ℕ) → text ≡ text' → IsCut before after text → IsCut before after text'
+cut_same before after text text' e c = subst (IsCut before after) e c
+
+-- what holds anyway holds of an error
+pub when_err : {T E P : Type 0} (r : Result T E) → P → OnErr r P
+when_err (Ok x) p = tt
+when_err (Err e) p = p
+
+-- at first nothing is taken
+pub taken_none : (before rest text : List ℕ) → rest ≡ text → IsPartTaken before before rest text
+taken_none before rest text e = record { begun = []; parts = e; told = sym (append-nil before) }
+
+-- the rest in another way
+pub taken_from : (before now rest rest' text : List ℕ) → rest ≡ rest' → IsPartTaken before now rest text → IsPartTaken before now rest' text
+taken_from before now rest rest' text e t = subst (λ r. IsPartTaken before now r text) e t
+
+-- a text that goes on, of whose beginning so much is left
+pub taken_longer : (before now part rest text : List ℕ) → IsPartTaken before now part text → IsPartTaken before now (part ++ rest) (text ++ rest)
+taken_longer before now part rest text t = record {
+  begun = t.begun;
+  parts = sym (append_assoc t.begun part rest) ∙ ap (λ p. p ++ rest) t.parts;
+  told = t.told;
+}
+
+-- one part more is taken
+pub taken_more : (before now now' part rest text : List ℕ) → IsPartTaken before now (part ++ rest) text → now' ≡ now ++ part → IsPartTaken before now' rest text
+taken_more before now now' part rest text t more = record {
+  begun = t.begun ++ part;
+  parts = append_assoc t.begun part rest ∙ t.parts;
+  told = more ∙ ap (λ n. n ++ part) t.told ∙ append_assoc before t.begun part;
+}
+
+-- of a part that was left, some is taken and some is left
+pub taken_through : (before now now' part left rest text : List ℕ) → IsPartTaken before now (part ++ rest) text → IsPartTaken now now' left part → IsPartTaken before now' (left ++ rest) text
+taken_through before now now' part left rest text t more = record {
+  begun = t.begun ++ more.begun;
+  parts = append_assoc t.begun more.begun (left ++ rest) ∙ ap (λ p. t.begun ++ p) (sym (append_assoc more.begun left rest))
+      ∙ ap (λ p. t.begun ++ (p ++ rest)) more.parts ∙ t.parts;
+  told = more.told ∙ ap (λ n. n ++ more.begun) t.told ∙ append_assoc before t.begun more.begun;
+}
+
+-- where nothing is left, all is taken
+pub taken_all : (before now text : List ℕ) → IsPartTaken before now [] text → now ≡ before ++ text
+taken_all before now text t = t.told ∙ ap (λ b. before ++ b) (sym (append-nil t.begun) ∙ t.parts)
+
+-- a cut of the next part is a cut of the whole
+pub taken_cut : (before now after part rest text : List ℕ) → IsPartTaken before now (part ++ rest) text → IsCut now after part → IsCut before after text
+taken_cut before now after part rest text t c =
+    let whole = cut_behind before now after t.begun (part ++ rest) t.told (cut_before now after part rest c) in
+    record { begun = whole.begun; missing = whole.missing; is_cut = whole.is_cut; parts = whole.parts ∙ t.parts; told = whole.told }

@@ -1,0 +1,135 @@
+-- Texts that are put into a room one behind another, and the pairs of digits.
+use Rattle.std.proofs.Common.{◌≡◌, ℕ, zero, suc, ◌+◌, ◌*◌, ◌/◌, ◌%◌, ◌<◌, ◌≤◌, Bool, true, false, List, [], ◌∷◌, ◌++◌, length, take, codes, refl, ap, sym, ◌∙◌, subst, arith, append_assoc, append-nil, length-append, length-set}
+use Rattle.std.specs.Prelude.{◌==◌, ◌&&◌, slice_index, slice_set, decimal}
+use Rattle.std.proofs.lemmas.Bool.{eqb-true, and_parts}
+use Rattle.std.proofs.lemmas.List.{take_more, take_more_set, take_all, take-take, length-take-le}
+use Rattle.std.proofs.Math.Seq.{take-append-add}
+use Rattle.std.proofs.lemmas.Slice.{take-put_mid}
+use borrow.Rule.Slice.PartMut.{put_mid}
+use Rattle.hex.specs.Hex.{encode_lower, lower_digits}
+use Rattle.hex.proofs.HexLemmas.{length-encode_with}
+use Rattle.art_lines.specs.declared.room.TheConstants.{PAIRS}
+use Rattle.art_lines.specs.Words.{shown, name, bytes, line_of}
+use Rattle.art_lines.specs.Commands.{put_words}
+use Rattle.art_lines.specs.Gathered.{Puts, IsHead, head_of}
+use Rattle.art_lines.proofs.HexText.{encode_lower-more, encode_lower-nil}
+use Rattle.art_lines.proofs.ReplyLines.{found_parts, put_parts}
+
+-- whether a list is the pairs of digits of the bytes from n on
+abbrev are_pairs : ℕ → List ℕ → Bool
+are_pairs n [] = true
+are_pairs n (h ∷ []) = false
+are_pairs n (h ∷ l ∷ ps) = ((h == slice_index lower_digits (n / 16)) && (l == slice_index lower_digits (n % 16))) && are_pairs (suc n) ps
+
+pub record IsPair (b high low : ℕ) : Type 0 where
+  pub high_is : high ≡ slice_index lower_digits (b / 16)
+  pub low_is : low ≡ slice_index lower_digits (b % 16)
+
+pair_in : (ps : List ℕ) (n k : ℕ) → are_pairs n ps ≡ true → 2 * k + 1 < length ps → IsPair (n + k) (slice_index ps (2 * k)) (slice_index ps (2 * k + 1))
+pair_in [] n k t h = absurd (omega arith)
+pair_in (a ∷ []) n k t h = absurd (omega arith)
+pair_in (a ∷ b ∷ ps) n zero t h =
+    let here = and_parts ((a == slice_index lower_digits (n / 16)) && (b == slice_index lower_digits (n % 16))) (are_pairs (suc n) ps) t in
+    let both = and_parts (a == slice_index lower_digits (n / 16)) (b == slice_index lower_digits (n % 16)) here.0 in
+    let same : n ≡ n + 0 = omega arith in
+    subst (λ m. IsPair m a b) same (record { high_is = eqb-true a _ both.0; low_is = eqb-true b _ both.1 })
+pair_in (a ∷ b ∷ ps) n (suc k) t h =
+    let here = and_parts ((a == slice_index lower_digits (n / 16)) && (b == slice_index lower_digits (n % 16))) (are_pairs (suc n) ps) t in
+    let ih = pair_in ps (suc n) k here.1 (omega arith) in
+    let even : 2 * suc k ≡ suc (suc (2 * k)) = omega arith in
+    let odd : 2 * suc k + 1 ≡ suc (suc (2 * k + 1)) = omega arith in
+    let same : suc n + k ≡ n + suc k = omega arith in
+    rw (odd, even, ← same) ih
+
+PAIRS_are_pairs : are_pairs 0 PAIRS ≡ true
+PAIRS_are_pairs = refl
+
+-- the pair of a byte
+pub pair_of : (b at : ℕ) → at ≡ b → b < 256 → IsPair b (slice_index PAIRS (2 * at)) (slice_index PAIRS (2 * at + 1))
+pair_of b at e low =
+    let same : 0 + at ≡ b = omega arith in
+    subst (λ m. IsPair m (slice_index PAIRS (2 * at)) (slice_index PAIRS (2 * at + 1))) same (pair_in PAIRS 0 at PAIRS_are_pairs (omega arith))
+
+-- the digits of one byte more
+pub digits_more : (room value front : List ℕ) (next i high low : ℕ) → next + 1 < length room → i < length value → IsPair (slice_index value i) high low
+    → take next room ≡ front ++ encode_lower (take i value)
+    → take (next + 2) (slice_set (slice_set room next high) (next + 1) low) ≡ front ++ encode_lower (take (i + 1) value)
+digits_more room value front next i high low fits within pair told =
+    let once : List ℕ = slice_set room next high in
+    let long = length-set room next high in
+    let second = take_more_set once (next + 1) low (omega arith) in
+    let first = take_more_set room next high (omega arith) in
+    let more = ap encode_lower (take_more value i 0 within) ∙ encode_lower-more (take i value) (slice_index value i) in
+    let e : next + 2 ≡ next + 1 + 1 = omega arith in
+    rw e (second ∙ ap (λ t. t ++ low ∷ []) (first ∙ ap (λ t. t ++ high ∷ []) told)
+    ∙ append_assoc (front ++ encode_lower (take i value)) (high ∷ []) (low ∷ []) ∙ append_assoc front (encode_lower (take i value)) (high ∷ low ∷ [])
+    ∙ ap (λ h. front ++ (encode_lower (take i value) ++ h ∷ low ∷ [])) pair.high_is
+    ∙ ap (λ l. front ++ (encode_lower (take i value) ++ slice_index lower_digits (slice_index value i / 16) ∷ l ∷ [])) pair.low_is
+    ∙ ap (λ t. front ++ t) (sym more))
+
+pub digits_none : (room value : List ℕ) (at : ℕ) → take at room ≡ take at room ++ encode_lower (take 0 value)
+digits_none room value at = sym (append-nil (take at room)) ∙ ap (λ t. take at room ++ t) (sym encode_lower-nil)
+
+pub digits_all : (old new value : List ℕ) (next at i : ℕ) → length value ≤ i → i ≤ length value → next ≡ at + 2 * i → take next new ≡ take at old ++ encode_lower (take i value) → Puts next at (encode_lower value) old new
+digits_all old new value next at i done within place told =
+    let long = length-encode_with lower_digits value in
+    record { next_is = omega arith; told = told ∙ ap (λ v. take at old ++ encode_lower v) (take_all i value done) }
+
+-- a text that was copied
+pub text_put : (room text part : List ℕ) (at k : ℕ) → part ≡ text → at + length text ≤ length room → Puts (at + length text) at text room (put_mid at k room part)
+text_put room text part at k same fits =
+    let long = ap length same in
+    record { next_is = refl; told = take-put_mid at k room part (at + length text) (omega arith) (omega arith) ∙ ap (λ t. take at room ++ t) same }
+
+-- a text behind another
+pub puts_then : (next mid at : ℕ) (a b old between new : List ℕ) → Puts mid at a old between → Puts next mid b between new → Puts next at (a ++ b) old new
+puts_then next mid at a b old between new p q =
+    let long = length-append a b in let first = p.next_is in let second = q.next_is in
+    record { next_is = omega arith; told = q.told ∙ ap (λ t. t ++ b) p.told ∙ append_assoc (take at old) a b }
+
+-- a text that is written in another way
+pub puts_same : (next at : ℕ) (text text' old new : List ℕ) → text ≡ text' → Puts next at text old new → Puts next at text' old new
+puts_same next at text text' old new e p = subst (λ t. Puts next at t old new) e p
+
+-- a head that was put with the bytes behind it
+pub head_put : (tenant len at behind : ℕ) (text old new : List ℕ) → at + 16 ≤ length old → IsHead tenant text len → Puts behind at text old new → Puts (at + len) at (head_of tenant) old new
+head_put tenant len at behind text old new room head put =
+    let front : List ℕ = take at old in
+    let far = length-take-le at old (omega arith) in
+    let whole = head.long in let fits = head.fits in let next = put.next_is in
+    let long = length-take-le len text (omega arith) in
+    let few = ap length head.told in
+    let shorter = take-take (at + len) behind new in
+    let seam = take-append-add front text len in
+    let here : length front + len ≡ at + len = omega arith in
+    record {
+      next_is = omega arith;
+      told = sym (shorter (omega arith)) ∙ ap (take (at + len)) put.told ∙ ap (λ n. take n (front ++ text)) (sym here) ∙ seam ∙ ap (λ t. front ++ t) head.told;
+    }
+
+-- the line of a record, by its head
+pub line_by_head : (tenant : ℕ) (key value : List ℕ) → head_of tenant ++ (shown (bytes key) ++ (32 ∷ [] ++ (shown (bytes value) ++ 10 ∷ []))) ≡ line_of (put_words tenant key value)
+line_by_head tenant key value = ap (λ t. codes "put " ++ t) (append_assoc (decimal tenant) (32 ∷ []) _) ∙ put_parts tenant tenant key value refl
+
+-- how long the line of a record is
+pub length-line : (number tenant : ℕ) (key value : List ℕ) → number ≡ tenant
+    → length (line_of (put_words tenant key value)) ≡ 4 + length (decimal number) + 1 + length (shown (bytes key)) + 1 + length (shown (bytes value)) + 1
+length-line number tenant key value same =
+    let whole = ap length (put_parts number tenant key value same) in
+    let first = length-append (decimal number) (32 ∷ (shown (bytes key) ++ 32 ∷ (shown (bytes value) ++ 10 ∷ []))) in
+    let second = length-append (shown (bytes key)) (32 ∷ (shown (bytes value) ++ 10 ∷ [])) in
+    let third = length-append (shown (bytes value)) (10 ∷ []) in
+    omega arith
+
+-- how long a line of a word and bytes is
+pub length-found : (word value : List ℕ) → length (line_of (name word ∷ bytes value ∷ [])) ≡ length word + 1 + length (shown (bytes value)) + 1
+length-found word value =
+    let whole = ap length (found_parts word value) in
+    let first = length-append word (32 ∷ (shown (bytes value) ++ 10 ∷ [])) in
+    let second = length-append (shown (bytes value)) (10 ∷ []) in
+    omega arith
+
+-- and how long bytes are as they are shown
+pub length-shown : (value : List ℕ) → length (shown (bytes value)) ≤ 2 * length value + 1
+length-shown [] = omega arith
+length-shown (b ∷ bs) = let long = length-encode_with lower_digits (b ∷ bs) in omega arith

@@ -1,0 +1,13 @@
+pub mod Lines
+pub mod Words
+pub mod Commands
+pub mod Reading
+pub mod Keys
+pub mod ReplyWords
+pub mod Writes
+pub mod Laws
+pub mod InPlace
+pub mod Parsed
+pub mod Gathered
+pub mod Ends
+pub mod Digits

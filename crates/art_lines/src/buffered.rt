@@ -1,0 +1,156 @@
+//! A sink that gathers what it takes, so that it leaves in large writes.
+ghost use Rattle.std.specs.Prelude.{◌≡◌, ◌<◌, ◌≤◌, ◌++◌, [], length, take, false, true, IfOk};
+ghost use Rattle.std.specs.List.{between};
+
+use crate::room::put_text;
+use crate::stream::{Sink, WriteFailed};
+use std::alloc::{AllocError, Global};
+
+/// The bytes that leave at a time, at most.
+const ROOM: usize = 65_536;
+
+/// The bytes that leave at a time, at most, if there is no memory for `ROOM` of them.
+const LEAST: usize = 512;
+
+/// Makes room for bytes on their way out: for 65,536, or for 512 if there is no memory for them. It is filled with a
+/// byte. Fails if out of memory.
+///
+/// ```
+/// let room = art_lines::buffered::make_room(rt.alloc(), 0)?;
+/// assert_eq!(rt; room.len(), 65_536);
+/// ```
+pub fn make_room(alloc: Global, filler: u8) -> Result<Vec<u8>, AllocError>
+    ensures { IfOk result (λ room. 0 < length room.items) }
+{
+    match vec![in alloc; filler; ROOM] {
+        Ok(room) => Ok(room),
+        Err(_) => vec![in alloc; filler; LEAST],
+    }
+}
+
+/// A sink in front of another one. What it took is what the other one has taken, followed by what it still holds in its
+/// room. What the other one fails to take is held for good.
+#[derive(Drop)]
+pub struct Buffered<S: Sink> {
+    sink: S,
+    room: Vec<u8>,
+    from: usize,
+    to: usize,
+    failed: bool,
+    ghost begins: { from ≤ to },
+    ghost fits: { to ≤ length room.items },
+    ghost has_room: { 0 < length room.items },
+}
+
+impl<S: Sink> Buffered<S> {
+    ghost use Rattle.art_lines.specs.Ends.{sink_behind};
+
+    /// Makes a sink in front of this one, which holds nothing. The room must not be empty.
+    ///
+    /// ```
+    /// let mut replies = Vec::new(rt.alloc());
+    /// let room = art_lines::buffered::make_room(rt.alloc(), 0)?;
+    /// let mut sink = Buffered::new(ToWriter::new(&mut replies), room);
+    /// art_lines::reply::write_number(&mut sink, 42)?;
+    /// assert!(rt; sink.finish());
+    /// assert_eq!(rt; replies.as_slice(), b"42".as_slice());
+    /// ```
+    pub fn new(sink: S, room: Vec<u8>) -> Self
+        requires { 0 < length room.items }
+        ensures taken { ⟦<Buffered<S> as Sink>⟧.taken result ≡ S.taken sink }
+        ensures failed { ⟦<Buffered<S> as Sink>⟧.has_failed result ≡ false }
+        ensures over { sink_behind result ≡ sink }
+    {
+        Buffered {
+            sink,
+            room,
+            from: 0,
+            to: 0,
+            failed: false,
+        }
+    }
+
+    /// Writes out what is held, until all is out or a write fails.
+    fn write_out(&mut self)
+        ensures same { S.taken self.new.sink ++ between self.new.from self.new.to self.new.room.items
+            ≡ S.taken self.old.sink ++ between self.old.from self.old.to self.old.room.items }
+        ensures out { S.has_failed self.new.sink ≡ false → self.new.to ≡ 0 }
+        ensures kept { self.new.failed ≡ self.old.failed }
+    {
+        let part = &self.room.as_slice()[self.from..self.to];
+        self.from += write_to(&mut self.sink, part);
+        if self.from == self.to {
+            self.from = 0;
+            self.to = 0;
+        }
+    }
+
+    /// Writes out what is left, and returns whether the sink behind it has taken all.
+    ///
+    /// ```
+    /// let mut replies = Vec::new(rt.alloc());
+    /// let room = art_lines::buffered::make_room(rt.alloc(), 0)?;
+    /// let mut sink = Buffered::new(ToWriter::new(&mut replies), room);
+    /// assert!(rt; sink.finish());
+    /// assert!(rt; replies.is_empty());
+    /// ```
+    pub fn finish(&mut self) -> bool
+        ensures same { ⟦<Buffered<S> as Sink>⟧.taken self.new ≡ ⟦<Buffered<S> as Sink>⟧.taken self.old }
+        ensures all { result ≡ true → S.taken (sink_behind self.new) ≡ ⟦<Buffered<S> as Sink>⟧.taken self.old }
+        ensures failed { S.has_failed (sink_behind self.new) ≡ true → result ≡ false }
+        ensures exact { S.has_failed (sink_behind self.new) ≡ false → result ≡ true }
+    {
+        self.write_out();
+        !self.sink.failed()
+    }
+}
+
+impl<S: Sink> Sink for Buffered<S> {
+    ghost use Rattle.art_lines.specs.Ends.{sink_behind, held_back, has_stopped};
+
+    ghost taken = { λ s. S.taken (sink_behind s) ++ held_back s };
+
+    ghost has_failed = { λ s. has_stopped s };
+
+    fn write(&mut self, piece: &[u8]) -> Result<usize, WriteFailed> {
+        if self.to == self.room.len() {
+            self.write_out();
+        }
+        if self.failed || self.sink.failed() {
+            self.failed = true;
+            return Err(WriteFailed);
+        }
+        let n = piece.len().min(self.room.len() - self.to);
+        self.to = put_text(self.room.as_mut_slice(), self.to, &piece[..n]);
+        Ok(n)
+    }
+
+    fn send(&mut self)
+        ensures keeps { S.taken (sink_behind self.new) ++ held_back self.new
+            ≡ S.taken (sink_behind self.old) ++ held_back self.old }
+        ensures stays_open { has_stopped self.new ≡ has_stopped self.old }
+        ensures sent { S.has_failed (sink_behind self.new) ≡ false → held_back self.new ≡ [] }
+    {
+        self.write_out();
+    }
+
+    fn failed(&self) -> bool {
+        self.failed
+    }
+}
+
+/// Writes bytes until all are written or a write fails, and returns how many were written.
+fn write_to<S: Sink>(sink: &mut S, bytes: &[u8]) -> usize
+    ensures bound { result ≤ length bytes.now }
+    ensures told { S.taken sink.new ≡ S.taken sink.old ++ take result bytes.now }
+    ensures all { S.has_failed sink.new ≡ false → result ≡ length bytes.now }
+{
+    let mut at = 0;
+    while at < bytes.len() {
+        let Ok(n) = sink.write(&bytes[at..]) else {
+            return at;
+        };
+        at += n;
+    }
+    at
+}

@@ -1,0 +1,312 @@
+//! The fields of a line: a tenant, bytes, and signed numbers, read in place of what was there.
+ghost use Rattle.std.specs.Prelude.{◌≡◌, ◌+◌, ◌/◌, ◌^◌, ◌<◌, ◌≤◌, length, take, drop, IsSome, true, FitsSigned};
+ghost use Rattle.std.specs.Int.{from_be_bytes, w32, w64};
+ghost use Rattle.art_bytes.specs.Laws.{pair_key};
+ghost use Rattle.art_lines.specs.Keys.{full_key as full_key_of};
+ghost use Rattle.art_lines.specs.Reading.{natural_in, tenant_in, negated as negated_by, number_in, bytes_in};
+ghost use Rattle.art_lines.specs.InPlace.{IsRead};
+
+use crate::command::digits::decode_digits;
+use arrayvec::ArrayVec;
+use art_bytes::FixedBytes;
+
+/// The bytes of a tenant, which stand before those of its keys.
+const FRONT: usize = 4;
+
+/// The longest field of bytes, which `get 0 k` may have.
+pub const FIELD: usize = 2045;
+
+/// The longest full key: a tenant's bytes and then a field of bytes.
+const FULL_KEY: usize = 2049;
+
+/// The bytes of a tenant and of a number, under which a value stands.
+pub const NUMBER_KEY: usize = 12;
+
+/// What stands after a word. Fields are decoded where they stay, and each keeps what it had until the next of its kind
+/// is read.
+///
+/// A key stands after the four bytes of its tenant, the highest first, so the full key is there without a copy. So does
+/// a value, since the upper one of two bounds is read in its place.
+#[derive(Drop)]
+pub struct Fields {
+    full_key: ArrayVec<u8, FULL_KEY>,
+    value: ArrayVec<u8, FULL_KEY>,
+    number: i64,
+    bound: i64,
+    ghost front: { 4 ≤ length full_key.items },
+    ghost same_front: { (4 ≤ length value.items) × (take 4 value.items ≡ take 4 full_key.items) },
+}
+
+impl Fields {
+    ghost use Rattle.art_lines.specs.Parsed.{tenant_in_place, key_in_place, value_in_place};
+    ghost use Rattle.art_lines.specs.Parsed.{number_in_place, bound_in_place};
+
+    /// Room for fields. What stands in it does not matter.
+    pub fn new() -> Fields {
+        let mut full_key = ArrayVec::new();
+        let _ = full_key.try_extend_from_slice(&[0; FRONT]);
+        let mut value = ArrayVec::new();
+        let _ = value.try_extend_from_slice(&[0; FRONT]);
+        Fields {
+            full_key,
+            value,
+            number: 0,
+            bound: 0,
+        }
+    }
+
+    #[inline]
+    pub fn tenant(&self) -> u32
+        ensures { result ≡ tenant_in_place self.now }
+    {
+        let full = self.full_key.as_slice();
+        u32::from_be_bytes([full[0], full[1], full[2], full[3]])
+    }
+
+    #[inline]
+    pub fn key(&self) -> &[u8]
+        ensures value { result.now ≡ key_in_place self.now }
+        ensures short { length result.now ≤ 2045 }
+    {
+        &self.full_key.as_slice()[FRONT..]
+    }
+
+    /// Returns the tenant's four bytes, and then the key.
+    #[inline]
+    pub fn full_key(&self) -> &[u8]
+        ensures value { result.now ≡ full_key_of (tenant_in_place self.now) (key_in_place self.now) }
+        ensures tenant { tenant_in_place self.now < 2 ^ 32 }
+        ensures short { length result.now ≤ 2049 }
+    {
+        split_of(self.full_key.as_slice())
+    }
+
+    #[inline]
+    pub fn value(&self) -> &[u8]
+        ensures value { result.now ≡ value_in_place self.now }
+        ensures short { length result.now ≤ 2045 }
+    {
+        &self.value.as_slice()[FRONT..]
+    }
+
+    /// Returns the tenant's four bytes, and then the upper bound, which is read as a value.
+    #[inline]
+    pub fn full_bound(&self) -> &[u8]
+        ensures { result.now ≡ full_key_of (tenant_in_place self.now) (value_in_place self.now) }
+    {
+        split_of(self.value.as_slice())
+    }
+
+    #[inline]
+    pub fn number(&self) -> i64
+        ensures { result ≡ number_in_place self.now }
+    {
+        self.number
+    }
+
+    /// Returns the upper one of two numbers.
+    #[inline]
+    pub fn bound(&self) -> i64
+        ensures { result ≡ bound_in_place self.now }
+    {
+        self.bound
+    }
+
+    /// Returns the bytes of the tenant and of the number, under which a value stands.
+    #[inline]
+    pub fn number_key(&self) -> [u8; NUMBER_KEY]
+        ensures value { result ≡ pair_key (tenant_in_place self.now, number_in_place self.now) }
+        ensures tenant { tenant_in_place self.now < 2 ^ 32 }
+        ensures number { FitsSigned w64 (number_in_place self.now) }
+    {
+        key_of_number(self.tenant(), self.number)
+    }
+
+    /// Returns the bytes of the tenant and of the upper one of two numbers.
+    pub fn bound_key(&self) -> [u8; NUMBER_KEY]
+        ensures value { result ≡ pair_key (tenant_in_place self.now, bound_in_place self.now) }
+        ensures bound { FitsSigned w64 (bound_in_place self.now) }
+    {
+        key_of_number(self.tenant(), self.bound)
+    }
+
+    /// Reads the tenant. It returns false if the field is read as none.
+    #[inline(always)]
+    pub fn read_tenant(&mut self, field: &[u8]) -> bool
+        ensures read { IsRead result (tenant_in_place self.new) (tenant_in field.now) }
+        ensures some { result ≡ true → 0 < length field.now }
+    {
+        let Some(tenant) = parse_tenant(field) else {
+            return false;
+        };
+        let front = tenant.to_be_bytes();
+        let full = self.full_key.as_mut_slice();
+        full[0] = front[0];
+        full[1] = front[1];
+        full[2] = front[2];
+        full[3] = front[3];
+        let value = self.value.as_mut_slice();
+        value[0] = front[0];
+        value[1] = front[1];
+        value[2] = front[2];
+        value[3] = front[3];
+        true
+    }
+
+    /// Reads the key, after the tenant that is there. It returns false if the field is read as no bytes.
+    #[inline(always)]
+    pub fn read_key(&mut self, field: &[u8]) -> bool
+        requires { length field.now ≤ 4090 }
+        ensures read { IsRead result (key_in_place self.new) (bytes_in field.now) }
+        ensures tenant { tenant_in_place self.new ≡ tenant_in_place self.old }
+    {
+        decode_bytes(field, &mut self.full_key, FRONT)
+    }
+
+    /// Reads the value. It returns false if the field is read as no bytes.
+    pub fn read_value(&mut self, field: &[u8]) -> bool
+        requires { length field.now ≤ 4090 }
+        ensures read { IsRead result (value_in_place self.new) (bytes_in field.now) }
+        ensures tenant { tenant_in_place self.new ≡ tenant_in_place self.old }
+        ensures key { key_in_place self.new ≡ key_in_place self.old }
+        ensures number { number_in_place self.new ≡ number_in_place self.old }
+    {
+        decode_bytes(field, &mut self.value, FRONT)
+    }
+
+    /// Reads the number. It returns false if the field is read as none.
+    pub fn read_number(&mut self, field: &[u8]) -> bool
+        ensures read { IsRead result (number_in_place self.new) (number_in field.now) }
+        ensures tenant { tenant_in_place self.new ≡ tenant_in_place self.old }
+    {
+        let Some(number) = parse_number(field) else {
+            return false;
+        };
+        self.number = number;
+        true
+    }
+
+    /// Reads the upper one of two numbers. It returns false if the field is read as none.
+    pub fn read_bound(&mut self, field: &[u8]) -> bool
+        ensures read { IsRead result (bound_in_place self.new) (number_in field.now) }
+        ensures tenant { tenant_in_place self.new ≡ tenant_in_place self.old }
+        ensures number { number_in_place self.new ≡ number_in_place self.old }
+    {
+        let Some(bound) = parse_number(field) else {
+            return false;
+        };
+        self.bound = bound;
+        true
+    }
+}
+
+/// Four bytes of the tenant, the highest first, and eight of the number with its top bit flipped. They ascend by tenant
+/// and then by number.
+fn key_of_number(tenant: u32, number: i64) -> [u8; NUMBER_KEY]
+    ensures value { result ≡ pair_key (tenant, number) }
+    ensures tenant { tenant < 2 ^ 32 }
+    ensures number { FitsSigned w64 number }
+{
+    let (front, rest) = (tenant.to_array(), number.to_array());
+    let mut key = [0; NUMBER_KEY];
+    key[..FRONT].copy_from_slice(&front);
+    key[FRONT..].copy_from_slice(&rest);
+    key
+}
+
+/// A law, which does nothing: bytes are the full key of the tenant that stands at their front, and of the key behind.
+fn split_of(full: &[u8]) -> &[u8]
+    requires { 4 ≤ length full.now }
+    ensures same { result.now ≡ full.now }
+    ensures split { result.now ≡ full_key_of (from_be_bytes w32 (take 4 full.now)) (drop 4 full.now) }
+    ensures tenant { from_be_bytes w32 (take 4 full.now) < 2 ^ 32 }
+{
+    full
+}
+
+/// The natural number of at most 2^63 that the field is read as.
+#[inline(always)]
+fn parse_natural(field: &[u8]) -> Option<u64>
+    ensures natural { result ≡ natural_in (2 ^ 63 + 1) field.now }
+    ensures some { IsSome result → 0 < length field.now }
+{
+    if field.is_empty() {
+        return None;
+    }
+    if field.len() > 19 {
+        return None;
+    }
+    if field.len() > 1 && field[0] == b'0' {
+        return None; // `01`
+    }
+    let mut number: u64 = 0;
+    for digit in field {
+        if !digit.is_ascii_digit() {
+            return None;
+        }
+        number = number * 10 + u64::from(*digit - b'0');
+    }
+    if number > 1 << 63 {
+        return None;
+    }
+    Some(number)
+}
+
+/// The tenant that the field is read as.
+#[inline(always)]
+fn parse_tenant(field: &[u8]) -> Option<u32>
+    ensures tenant { result ≡ tenant_in field.now }
+    ensures some { IsSome result → 0 < length field.now }
+{
+    let natural = parse_natural(field)?;
+    u32::try_from(natural).ok()
+}
+
+/// The number that the field is read as.
+fn parse_number(field: &[u8]) -> Option<i64>
+    ensures { result ≡ number_in field.now }
+{
+    let (first, rest) = field.split_first()?;
+    if *first == b'-' {
+        return negated(parse_natural(rest)?);
+    }
+    i64::try_from(parse_natural(field)?).ok()
+}
+
+/// The number below 0 by so much, if that is not 0.
+fn negated(natural: u64) -> Option<i64>
+    requires { natural ≤ 2 ^ 63 }
+    ensures { result ≡ negated_by natural }
+{
+    let less = natural.checked_sub(1)?;
+    Some(-1 - less as i64)
+}
+
+/// Decodes the bytes that the field is read as, after some at the front, which stay. Returns false if the field is read
+/// as no bytes.
+#[inline(always)]
+fn decode_bytes<const N: usize>(field: &[u8], bytes: &mut ArrayVec<u8, N>, front: usize) -> bool
+    requires front_in { front ≤ length bytes.old.items }
+    requires fits { front + length field.now / 2 ≤ N }
+    ensures read { IsRead result (drop front bytes.new.items) (bytes_in field.now) }
+    ensures kept { take front bytes.new.items ≡ take front bytes.old.items }
+    ensures front_in { front ≤ length bytes.new.items }
+{
+    if field == b"-".as_slice() {
+        bytes.truncate(front);
+        return true;
+    }
+    let len = field.len() / 2;
+    if len == 0 {
+        return false;
+    }
+    if field.len() % 2 != 0 {
+        return false;
+    }
+    // As many bytes as are decoded; what they are does not matter, since they are decoded over. Where the field before
+    // had as many, nothing is moved.
+    bytes.truncate(front + len);
+    let more = front + len - bytes.len();
+    let _ = bytes.try_extend_from_slice(&field[..more]);
+    decode_digits(field, &mut bytes.as_mut_slice()[front..])
+}

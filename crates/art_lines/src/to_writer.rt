@@ -1,0 +1,77 @@
+//! A writer as a sink.
+ghost use Rattle.std.specs.Prelude.{◌≡◌, ◌<◌, ◌≤◌, ◌++◌, [], length, take, is_err, IsTrue, IsErr, IfOk, OnErr};
+ghost use Rattle.std.specs.Prelude.{false};
+ghost use Rattle.std.specs.Io.KnownBytes.{WriteAppends};
+ghost use Rattle.art_lines.specs.Ends.{writer_of, bytes_taken, has_write_failed};
+
+use crate::history::{History, Piece};
+use crate::stream::{Sink, WriteFailed};
+use std::io::Write;
+
+/// A writer as a sink. Any error is the failure, and so is a write that takes nothing of a piece. Neither is tried
+/// again.
+#[derive(Drop)]
+pub struct ToWriter<W> {
+    writer: W,
+    failed: bool,
+    taken: History,
+}
+
+impl<W: Write> ToWriter<W> {
+    /// Makes a sink over this writer. Nothing has been written yet. It allocates nothing.
+    ///
+    /// ```
+    /// use art_lines::Sink;
+    /// let mut replies = Vec::new(rt.alloc());
+    /// assert_eq!(rt; ToWriter::new(&mut replies).write(b"new\n").ok(), Some(4));
+    /// assert_eq!(rt; replies.as_slice(), b"new\n".as_slice());
+    /// ```
+    pub fn new(writer: W) -> Self
+        ensures taken { ⟦<ToWriter<W> as Sink>⟧.taken result ≡ [] }
+        ensures failed { ⟦<ToWriter<W> as Sink>⟧.has_failed result ≡ false }
+        ensures over { writer_of result ≡ writer }
+    {
+        ToWriter {
+            writer,
+            failed: false,
+            taken: History::new(),
+        }
+    }
+}
+
+impl<W: Write> Sink for ToWriter<W> {
+    ghost taken = { λ s. bytes_taken s };
+
+    ghost has_failed = { λ s. has_write_failed s };
+
+    fn write(&mut self, piece: &[u8]) -> Result<usize, WriteFailed>
+        ensures bound { IfOk result (λ n. n ≤ length piece.now) }
+        ensures some { IfOk result (λ n. 0 < length piece.now → 0 < n) }
+        ensures takes { IfOk result (λ n. bytes_taken self.new ≡ bytes_taken self.old ++ take n piece.now) }
+        ensures takes_none { OnErr result (bytes_taken self.new ≡ bytes_taken self.old) }
+        ensures failed { is_err result ≡ has_write_failed self.new }
+        ensures stays_failed { IsTrue (has_write_failed self.old) → IsErr result }
+
+        // The writer gets what is taken, and nothing else.
+        ensures passed { WriteAppends
+            (W.contents (writer_of self.old)) (W.contents (writer_of self.new)) result piece.now }
+    {
+        if self.failed {
+            return Err(WriteFailed);
+        }
+        match self.writer.write(piece) {
+            Ok(n) if n > 0 || piece.is_empty() => {
+                self.taken = self.taken.then(&Piece { bytes: &piece[..n] });
+                Ok(n)
+            }
+            _ => {
+                self.failed = true;
+                Err(WriteFailed)
+            }
+        }
+    }
+
+    fn failed(&self) -> bool {
+        self.failed
+    }
+}

@@ -1,0 +1,37 @@
+use Rattle.std.proofs.Common.{sym, subst, ◌∙◌, ◌-◌, ◌*◌, arith}
+use Rattle.art_arena.specs.arena.Arena.{HasRoom}
+use Rattle.art_arena.specs.arena.Shapes.{key_of}
+use Rattle.art_arena.specs.tree.Order.{AscendsByKey}
+use Rattle.art_operations.proofs.NewNodes.{fewer}
+use Rattle.art_map.proofs.LeafNames.{then-names}
+use Rattle.art_map.proofs.map.TreeMap.move_last.Goals as goal
+
+pub move_pair-requires : goal.move_pair-requires
+move_pair-requires g c =
+    let kept = c.loop.invariant in
+    let moved = kept.moved in
+    let many = c.requires.many in (
+      omega arith,
+      (
+        omega (arith, moved, many),
+        (
+          subst (AscendsByKey (key_of g.K.AsBytes.bytes)) (sym kept.joined) c.requires.ordered,
+          (
+            fewer c.loop.self.nodes 1 (c.args.count - c.loop.counter) (omega arith) kept.from_room,
+            fewer c.loop.to.nodes 2 (2 * (c.args.count - c.loop.counter)) (omega arith) kept.to_room,
+          ),
+        ),
+      ),
+    )
+
+pub loop-preserved : goal.loop-preserved
+loop-preserved g c =
+    let kept = c.loop.invariant in
+    let moved = kept.moved in
+    let one = c.move_pair.ensures.moved in record {
+      joined = c.move_pair.ensures.joined ∙ kept.joined;
+      moved = omega (arith, moved, one);
+      none_new = then-names g.K.AsBytes.bytes c.args.self.now.nodes c.loop.self.nodes c.move_pair.new.self.nodes kept.none_new c.move_pair.ensures.none_new;
+      from_room = c.move_pair.ensures.from_room _ (subst (HasRoom c.loop.self.nodes) (omega arith) kept.from_room);
+      to_room = c.move_pair.ensures.to_room _ (subst (HasRoom c.loop.to.nodes) (omega arith) kept.to_room);
+    }

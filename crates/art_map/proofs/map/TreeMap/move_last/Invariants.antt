@@ -1,0 +1,13 @@
+use Rattle.std.proofs.Common.{◌≡◌, ◌+◌, ◌++◌, ◌-◌, ◌*◌, length}
+use Rattle.art_arena.specs.arena.Arena.{HasRoom}
+use Rattle.art_map.specs.LeafNames.{AddsNoLeaf}
+use Rattle.art_map.proofs.map.TreeMap.move_last.Given as goal
+
+abbrev pub invariant-loop : goal.invariant-loop
+invariant-loop g l = record {
+  joined : l.self.pairs ++ l.to.pairs ≡ l.fn.self.pairs ++ l.fn.to.pairs;
+  moved : length l.self.pairs + l.counter ≡ length l.fn.self.pairs;
+  none_new : AddsNoLeaf g.K.AsBytes.bytes l.fn.self l.self;
+  from_room : HasRoom l.self.nodes (l.count - l.counter);
+  to_room : HasRoom l.to.nodes (2 * (l.count - l.counter));
+}

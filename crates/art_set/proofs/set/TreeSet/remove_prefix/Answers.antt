@@ -1,0 +1,34 @@
+use Rattle.std.proofs.Common.{ℕ, ◌*◌, length, ap, subst, ◌∙◌}
+use Rattle.std.specs.Prelude.{IfOk, OnErr}
+use Rattle.std.specs.Map.{keys_of}
+use Rattle.art_operations.specs.Openings.{OpeningReads}
+use Rattle.art_walks.specs.MapReads.{PairsWithin}
+use Rattle.art_map.specs.PrefixBlocks.{AreCutVisits, ShrinksAtCut}
+use Rattle.art_set.proofs.KeyPairs.{keys-beside, many-behind, with-units}
+use Rattle.art_set.proofs.Seen.{if-ok, on-ok}
+use Rattle.art_set.proofs.set.TreeSet.remove_prefix.Goals as goal
+
+pub returns-clause-keys : goal.returns-clause-keys
+returns-clause-keys g c =
+    rw (← c.self.view_is)
+    (on-ok c.remove_prefix.result (λ e. ap keys_of e ∙ keys-beside g.K.AsBytes.bytes c.args.prefix.now c.self.inside.map.pairs) c.remove_prefix.ensures.pairs)
+
+pub returns-clause-count : goal.returns-clause-count
+returns-clause-count g c =
+    rw (← c.self.view_is)
+    (if-ok c.remove_prefix.result _ _ (λ done e. e ∙ many-behind g.K.AsBytes.bytes c.args.prefix.now c.self.inside.map.pairs) c.remove_prefix.ensures.count)
+
+pub returns-clause-visits : goal.returns-clause-visits
+returns-clause-visits g c =
+    rw (← c.self.view_is)
+    (subst (λ ps. IfOk c.remove_prefix.result (λ done. AreCutVisits g.K.AsBytes.bytes c.args.prefix.now ps done.visits)) (with-units c.self.inside.map.pairs) c.remove_prefix.ensures.visits)
+
+pub returns-clause-few : goal.returns-clause-few
+returns-clause-few g c =
+    rw (← c.self.view_is)
+    (subst (λ ps. IfOk c.remove_prefix.result (λ done. (longest : ℕ) → PairsWithin g.K.AsBytes.bytes longest ps → OpeningReads longest (length c.args.prefix.now) (2 * done.pairs) done.visits)) (with-units c.self.inside.map.pairs) c.remove_prefix.ensures.few)
+
+pub returns-clause-shrinks : goal.returns-clause-shrinks
+returns-clause-shrinks g c =
+    rw (← c.self.view_is)
+    (subst (λ ps. OnErr c.remove_prefix.result (ShrinksAtCut g.K.AsBytes.bytes c.args.prefix.now ps)) (with-units c.self.inside.map.pairs) c.remove_prefix.ensures.shrinks)

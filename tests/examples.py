@@ -1,0 +1,302 @@
+#!/usr/bin/env python3
+"""Runs the examples of the doc comments, and tells which public call has none.
+
+    tests/examples.py          at the top of the repository; the last line is 'N passed, M failed'
+    tests/examples.py --list   prints the calls that need an example, each with the number that it has
+    tests/examples.py --show   prints the crate that is made of the examples
+An example is a fenced block of code in a doc comment. It is the body of a test:
+
+    fn example(rt: HostRuntime) -> Result<(), Fail> { .. Ok(()) }
+
+So `rt.alloc()` is the allocator, `assert_eq!(rt; a, b)` compares, and `?` passes on any error. A name that one of the
+repository's libraries exports is imported if an example uses it. Traits whose methods it calls, and names of std, it
+imports itself, by lines `use`.
+
+The examples become the tests of one crate in a scratch folder. `rt try --test` builds it without proofs, under the
+address sanitizer, and runs each test in a process of its own. An example fails that doesn't compile, that returns an
+error, or whose assertion is false. So does a call that needs an example and has none. Controls show that each of these
+is told.
+"""
+import collections
+import os
+import re
+import shutil
+import subprocess
+import sys
+import tempfile
+
+TOP = os.path.dirname(os.path.dirname(os.path.abspath(__file__)))
+# Libraries that a user reaches through those above them: their calls need no example. Those of all others do, so far as
+# the crate's root exports them, by themselves or with their type. A law, whose comment begins so, needs none.
+INNER = ("art_nodes", "art_arena", "art_operations")
+# Of these only the calls of some types do, '' for functions; the map makes the other calls.
+TYPES = {"art_walks": ("MapReader", "WellFormedChecker", "WellFormedTreeStats", "")}
+# How often the crate is built again, without the examples that did not compile; and for how many seconds each time.
+ROUNDS, LIMIT = 4, 900
+MODULE = """#[cfg(test)]
+mod e{number} {{
+{uses}    use std::test::Fail;
+
+    #[test]
+    fn example(rt: HostRuntime) -> Result<(), Fail> {{
+{code}
+        Ok(())
+    }}
+}}
+"""
+WRONG = "let sum = 1 + 1;\nassert_eq!(rt; sum, 3);"
+NOT_RATTLE = "let sum = 1 + nothing;\nassert_eq!(rt; sum, 3);"
+NO_EXAMPLE = """pub use table::Table;
+
+impl<K: Drop> Table<K> {
+    /// It has no example.
+    pub fn bare(&self) {}
+
+    /// It has one.
+    ///
+    /// ```
+    /// assert!(rt; true);
+    /// ```
+    #[inline]
+    pub fn shown(&self) {}
+
+    fn private(&self) {}
+}
+
+impl<K: Drop> Inner<K> {
+    pub fn unseen(&self) {}
+}
+"""
+
+
+class Example:
+    """The code of a block, the item whose comment it stands in, and its place."""
+
+    def __init__(self, crate, item, code, place=""):
+        self.crate, self.item, self.code, self.place = crate, item, code, place
+
+
+def without_generics(head):
+    """The words of the head of an item, without what stands in angle brackets."""
+    head, before = head.replace("->", ""), None
+    while before != head:
+        before, head = head, re.sub(r"<[^<>]*>", "", head)
+    return head
+
+
+def owner_of(head):
+    """The type whose `impl` block begins with this line, or None where the block is a trait's."""
+    head = without_generics(head)
+    found = re.match(r"impl\s+(\w+)\s*(?:\{|where|$)", head)
+    return found and found[1]
+
+
+def items_of(path):
+    """Gives what a file's doc comments stand above, and the file itself: the owner of a call, the head, the comment as
+    pairs of a line's number and its text."""
+    lines = open(path, encoding="utf-8").read().split("\n")
+    owner, comment, inner = None, [], []
+    for number, line in enumerate(lines, 1):
+        word = line.strip()
+        if word.startswith("//!"):
+            inner.append((number, word[3:]))
+        elif word.startswith("///"):
+            comment.append((number, word[3:]))
+        elif line.startswith("}"):
+            owner, comment = None, []
+        elif word and not word.startswith("#["):
+            if line.startswith("impl"):
+                head, at = line, number
+                while "{" not in without_generics(head) and at < len(lines):
+                    head += " " + lines[at].strip()
+                    at += 1
+                owner = owner_of(head)
+            yield owner, word, comment
+            comment = []
+    yield None, "", inner
+
+
+def blocks_of(comment):
+    """The code of each fenced block of a comment, with the number of its first line; not those of another language."""
+    code, first, of_rattle = None, 0, True
+    for number, text in comment:
+        fence = text.strip().startswith("```")
+        if fence and code is None:
+            code, first, of_rattle = [], number + 1, text.strip()[3:] in ("", "rattle")
+        elif fence:
+            if of_rattle:
+                yield first, "\n".join(it[1:] if it.startswith(" ") else it for it in code)
+            code = None
+        elif code is not None:
+            code.append(text)
+    if code is not None:
+        yield first, "the block is not closed"
+
+
+def read(top, crate):
+    """The examples of a crate of a repository, and how many each of its public calls has, by owner and name."""
+    examples, calls = [], {}
+    for folder, below, files in sorted(os.walk(f"{top}/crates/{crate}/src")):
+        below.sort()
+        for file in sorted(files):
+            path = f"{folder}/{file}"
+            for owner, head, comment in items_of(path) if file.endswith(".rt") else ():
+                found = [
+                    Example(crate, head, code, f"{os.path.relpath(path, top)}:{first}")
+                    for first, code in blocks_of(comment)
+                ]
+                call = re.match(r"pub (?:final )?(?:const )?(?:unsafe )?fn (\w+)", head)
+                named = re.match(r"(?:pub )?(?:struct|enum|trait|type|fn|const) (\w+)", head)
+                name = call[1] if call else named[1] if named else without_generics(head)[:60].rstrip(" {")
+                for it in found:
+                    it.item = "::".join(filter(None, (crate, owner, name or f"{file}")))
+                examples += found
+                is_law = comment and comment[0][1].startswith(" A law")
+                if call and not is_law:
+                    calls[owner or "", call[1]] = calls.get((owner or "", call[1]), 0) + len(found)
+    return examples, calls
+
+
+def needed(crate, calls, exports):
+    """The calls of a crate that need an example, each with the number that it has."""
+    types, names = TYPES.get(crate), exports[crate]
+    wanted = [it for it in calls if (it[0] or it[1]) in names and (types is None or it[0] in types)]
+    return {"::".join(filter(None, (crate, *it))): calls[it] for it in wanted}
+
+
+def libraries():
+    """The libraries of the repository, lowest first: all but those of tests, and those for another language."""
+    with open(f"{TOP}/crates.txt", encoding="utf-8") as file:
+        names = [it.split("#")[0].partition(":")[0].strip() for it in file]
+    return [it for it in names if os.path.isfile(f"{TOP}/crates/{it}/src/lib.rt") and not it.endswith("_tests")]
+
+
+def exported(top, crate):
+    """The names that a library exports."""
+    with open(f"{top}/crates/{crate}/src/lib.rt", encoding="utf-8") as file:
+        text = file.read()
+    return [
+        name
+        for words in re.findall(r"(?m)^pub use ([^;]+);", text)
+        for name in re.findall(r"(\w+)\s*(?=[,}]|$)", words)
+    ]
+
+
+def uses_of(example, exports):
+    """The lines that import the libraries' names that an example uses: those of its own crate, else of the highest."""
+    text = re.sub(r'"(?:\\.|[^"\\])*"', '""', example.code)
+    own = set(re.findall(r"\w+", " ".join(re.findall(r"(?m)^\s*use [^;]+;", text))))
+    used = [it for it in dict.fromkeys(re.findall(r"(?<![\w.:])\w+", text)) if it not in own]
+    order = [example.crate, *reversed(exports)]
+    found = {name: next((crate for crate in order if name in exports.get(crate, ())), None) for name in used}
+    return "".join(f"    use {crate}::{name};\n" for name, crate in found.items() if crate)
+
+
+def crate_of(examples, exports):
+    """The text of a crate with these examples as tests, and of which example each of its lines is."""
+    lines, owners = ["#![tactic(auto)]"], [None]
+    for number, example in examples.items():
+        code = "\n".join(" " * 8 + it if it.strip() else "" for it in example.code.split("\n"))
+        made = MODULE.format(number=number, uses=uses_of(example, exports), code=code).split("\n")[:-1]
+        lines += made
+        owners += [number] * len(made)
+    return "\n".join(lines) + "\n", owners
+
+
+def tried(room, name, uses, text):
+    """What `rt try --test` says of a crate of this text, in a scratch repository over the libraries as they stand."""
+    with open(f"{TOP}/crates.txt", encoding="utf-8") as file:
+        rows = [it.strip() for it in file if it.split(":")[0] in uses]
+    for it in uses:
+        if not os.path.exists(f"{room}/crates/{it}"):
+            shutil.copytree(f"{TOP}/crates/{it}/src", f"{room}/crates/{it}/src")
+    with open(f"{room}/crates.txt", "w", encoding="utf-8") as file:
+        file.write("\n".join([*rows, f"{name}: {' '.join(uses)}"]) + "\n")
+    os.makedirs(f"{room}/crates/{name}/src", exist_ok=True)
+    with open(f"{room}/crates/{name}/src/lib.rt", "w", encoding="utf-8") as file:
+        file.write(text)
+    how = {"stdin": subprocess.DEVNULL, "stdout": subprocess.PIPE, "stderr": subprocess.STDOUT, "errors": "replace"}
+    try:
+        return subprocess.run(["rt", "try", "--test"], cwd=f"{room}/crates/{name}", timeout=LIMIT, **how).stdout
+    except subprocess.TimeoutExpired:
+        return f"it took more than {LIMIT} seconds"
+
+
+def ran(room, name, uses, examples, exports):
+    """Why each example failed, by its number: '' where it passed. What doesn't compile is left out of a next round."""
+    left, why = dict(examples), {}
+    for _ in range(ROUNDS):
+        text, owners = crate_of(left, exports)
+        said = tried(room, name, uses, text)
+        wrong = collections.defaultdict(list)
+        for line, reason in re.findall(r"(?m)^src/lib\.rt:(\d+):\d+: (error.*)", said):
+            wrong[owners[int(line) - 1]].append(reason)
+        if not wrong or None in wrong:
+            break
+        why |= {it: "; ".join(reasons) for it, reasons in wrong.items()}
+        left = {it: left[it] for it in left if it not in wrong}
+        if not left:
+            return why
+    parts = re.split(r"(?m)^test e(\d+)::example \.\.\. (\w+)$", said)
+    told = {int(number): (word, rest) for number, word, rest in zip(parts[1::3], parts[2::3], parts[3::3])}
+    for it in left:
+        word, rest = told.get(it, ("not run", f"\n{said[-600:]}"))
+        reason = " ".join(rest.split("test result:")[0].split())
+        why[it] = "" if word == "ok" else f"{word}: {reason}"
+    return why
+
+
+def case(name, why):
+    print(f"FAILED {name}: {why}" if why else f"ok {name}", flush=True)
+    return not why
+
+
+def shows_failures(why_wrong, room):
+    """Whether this script tells what is wrong: a false assertion, what doesn't compile, a call without an example."""
+    done = [case("control: a false assertion fails", "" if "left: 2" in why_wrong else f"it did not: {why_wrong}")]
+    why = ran(room, "control", [], {0: Example("control", "control", NOT_RATTLE)}, {})[0]
+    done.append(case("control: what doesn't compile fails", "" if "nothing" in why else f"it did not: {why}"))
+    os.makedirs(f"{room}/none/crates/control/src")
+    with open(f"{room}/none/crates/control/src/lib.rt", "w", encoding="utf-8") as file:
+        file.write(NO_EXAMPLE)
+    needs = needed("control", read(f"{room}/none", "control")[1], {"control": exported(f"{room}/none", "control")})
+    wrong = "" if needs == {"control::Table::bare": 0, "control::Table::shown": 1} else f"it needs {needs}"
+    done.append(case("control: a call without an example is told", wrong))
+    return done
+
+
+def main():
+    if not shutil.which("rt"):
+        sys.exit("examples: the toolchain's command rt is not on the PATH")
+    every_library = libraries()
+    exports = {it: exported(TOP, it) for it in every_library}
+    found, counts = {}, {}
+    for crate in every_library:
+        examples, calls = read(TOP, crate)
+        found |= dict(enumerate(examples, len(found)))
+        counts |= {} if crate in INNER else {crate: needed(crate, calls, exports)}
+    if sys.argv[1:] == ["--list"]:
+        for count in counts.values():
+            print("\n".join(f"{number} {title}" for title, number in count.items()))
+        return
+    control = len(found)
+    every = {**found, control: Example("control", "control", WRONG)}
+    if sys.argv[1:] == ["--show"]:
+        print(crate_of(every, exports)[0], end="")
+        return
+    if sys.argv[1:]:
+        sys.exit(__doc__)
+    done = []
+    for crate, count in counts.items():
+        done += [case(f"an example of {title}", "there is none") for title, number in count.items() if not number]
+        print(f"   {crate}: {sum(map(bool, count.values()))} of {len(count)} calls that need an example have one")
+    with tempfile.TemporaryDirectory() as room:
+        why = ran(room, "examples", every_library, every, exports)
+        done += [case(f"{it.place} {it.item}", why[number]) for number, it in found.items()]
+        done += shows_failures(why[control], room)
+    print(f"{done.count(True)} passed, {done.count(False)} failed")
+    sys.exit(not all(done))
+
+
+if __name__ == "__main__":
+    main()

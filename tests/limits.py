@@ -1,0 +1,186 @@
+#!/usr/bin/env python3
+"""Runs art_index where memory or the stack is short: nobody dies, no reply is lost, and what was stored is dumped.
+
+    tests/limits.py [WORD [PROGRAM..]]      at the top of the repository, after rt ci; WORD: only what has it in its name
+The address space is limited by the page, from the least at which the program answers to where all that is put has room.
+Under each limit some thousand puts are answered `new` or `memory`, and then a line is answered, of each kind in turn; a
+dump tells exactly what was answered `new`. And the stack is limited: 64 KiB are enough for any line, and 72
+where Rattle's own compiler made the program, whose frames are larger.
+"""
+import ctypes
+import functools
+import os
+import random
+import resource
+import signal
+import subprocess
+import sys
+
+from reference import WORDS, Reference
+
+PROGRAM = "crates/art_index/out/art_index"
+PAGE = resource.getpagesize()
+PUTS, SEED = 3000, 7
+# Pages beyond the least, at each of which a dump is asked for; for other lines, each so many of them.
+PAGES, STEP = 200, 9
+# KiB. (Frames of Rattle's own compiler are larger.)
+STACKS, STACKS_BY_RATTLE = (64, 96, 128), (72, 96, 128)
+# (Linux's ADDR_NO_RANDOMIZE: what a program takes to begin with is then the same in each run)
+IN_PLACE = 0x0040000
+LIBC = ctypes.CDLL(None)
+
+
+def fill():
+    """Puts that make nodes of each kind and long prefixes, in no order."""
+    of = random.Random(SEED)
+    keys = [it.to_bytes(2) + b"\x07" * of.choice((0, 0, 0, 30)) for it in of.sample(range(1 << 16), PUTS)]
+    values = [of.randbytes(of.choice((1, 9, 40))) for _ in keys]
+    return [b"put %d %b %b" % (key[0] % 3, *(it.hex().encode() for it in (key, value))) for key, value in zip(keys, values)]
+
+
+FILL = fill()
+ONE = FILL[0].split()[2]
+# A line of each word, on a key of the first put or beside it, and one that spells nothing.
+LAST = {
+    "put": b"put 0 %b 61" % (b"ab" * 2000),
+    "over": b"over 0 07 62",
+    "get": b"get 0 %b" % ONE,
+    "find": b"find 0 %b00" % ONE,
+    "del": b"del %d %b" % (int(ONE[:2], 16) % 3, ONE),
+    "list": b"list 1 -",
+    "span": b"span 2 00 ff",
+    "nput": b"nput 1 -5 61",
+    "nget": b"nget 1 -5",
+    "ndel": b"ndel 1 -5",
+    "nspan": b"nspan 1 -9 9",
+    "drop": b"drop 1",
+    "dump": b"dump",
+    "audit": b"audit",
+    "bad": b"x" * 9000,
+}
+
+WHOLE = b"ab" * 2040
+LONG = [*FILL, *LAST.values(), b"put 9 %b -" % WHOLE, b"find 9 %b00" % WHOLE, b"list 9 %b" % WHOLE, b"audit", b"dump"]
+LONG += [b"put 8 0a %b" % WHOLE, b"get 8 0a", b"over 8 0a0b %b" % WHOLE[:4000], b"dump", b"drop 8", b"dump"]
+
+
+def in_place():
+    """Has the program that is started next have the same addresses in each run."""
+    LIBC.personality(IN_PLACE)
+
+
+@functools.cache
+def wanted():
+    model = Reference()
+    return b"".join(map(model.reply, LONG))
+
+
+def run(program, text, space=None, stack=None, words=()):
+    """Runs the program under limits of bytes, where its addresses are the same in each run."""
+
+    def limit():
+        in_place()
+        resource.setrlimit(resource.RLIMIT_CORE, (0, 0))
+        for kind, most in ((resource.RLIMIT_STACK, stack), (resource.RLIMIT_AS, space)):
+            if most:
+                resource.setrlimit(kind, (most, most))
+
+    how = {"input": text, "capture_output": True, "preexec_fn": limit, "env": {}, "timeout": 60}
+    ran = subprocess.run([program, *words], **how)
+    return ran.stdout, ran.stderr, ran.returncode
+
+
+def follows(said, last):
+    """Holds replies to the puts and some lines against the definition, where any that may be refused can be. It returns
+    how many puts were."""
+    model, at = Reference(), 0
+    *replies, said = said.split(b"\n", len(FILL))
+    assert len(replies) == len(FILL), f"{len(replies)} replies to {len(FILL)} puts"
+    for line, reply in zip(FILL, replies):
+        assert reply in (b"new", b"memory"), f"to {line} it says {reply[:200]}"
+        if reply == b"new":
+            _, tenant, key, value = line.split()
+            model.keys[int(tenant), bytes.fromhex(key.decode())] = bytes.fromhex(value.decode())
+    refused = len(FILL) - len(model.keys)
+    for line in last:
+        if said.startswith(b"memory\n", at) and model.may_refuse(line):
+            at += len(b"memory\n")
+            continue
+        reply = model.reply(line)
+        assert said.startswith(reply, at), f"to {line[:100]} it says {said[at:][:300]} and not {reply[:300]}"
+        at += len(reply)
+    assert at == len(said), f"behind the last reply it says {said[at:][:300]}"
+    return refused
+
+
+def is_answered(program, last, **limits):
+    said, told, status = run(program, b"\n".join([*FILL, *last]) + b"\n", **limits)
+    name = signal.Signals(-status).name if status < 0 else status
+    assert (told, status) == (b"", 0), f"under {limits} it ends with {name} and {told}, behind {len(said)} bytes"
+    return follows(said, last)
+
+
+def least_of(answers):
+    """The least number of pages with which it answers, as a call tells."""
+    low, high = 1, 1 << 15
+    while low < high:
+        middle = (low + high) // 2
+        try:
+            is_enough = answers(middle)
+        except (OSError, subprocess.SubprocessError):
+            is_enough = False
+        low, high = (low, middle) if is_enough else (middle + 1, high)
+    return low
+
+
+def is_answering(program, pages):
+    return run(program, b"bad\n", space=pages * PAGE) == (b"bad\n", b"", 0)
+
+
+def space_is_short(program, word):
+    """A line of this word is answered behind the puts at each limit, or at each so many. At first most puts find no
+    memory, in the end none."""
+    least, last = least_of(functools.partial(is_answering, program)), [LAST[word], b"dump"]
+    pages = range(PAGES) if word == "dump" else range(list(LAST).index(word) % STEP, PAGES, STEP)
+    refused = [is_answered(program, last, space=(least + it) * PAGE) for it in pages]
+    assert refused[0] > 0, "no put finds no memory"
+    assert refused[-1] == 0, "the last limit is not ample"
+
+
+def stack_is_short(program, kib):
+    """Each line, with keys and values of any length, and what is said to an argument."""
+    found = run(program, b"\n".join(LONG), stack=kib << 10)
+    assert found == (wanted(), b"", 0), f"{found[0][-100:], *found[1:]} under {kib} KiB"
+    told = (b"", b"art_index: takes no arguments\n", 2)
+    for words in (["-"], ["x" * 100] * 8):
+        found = run(program, b"", stack=kib << 10, words=words)
+        assert found == told, f"{words} under {kib} KiB: {found}"
+
+
+def tests():
+    named = [(f"the stack has {it} KiB", stack_is_short, it) for it in sorted({*STACKS, *STACKS_BY_RATTLE})]
+    return named + [(f"space is short for {it}", space_is_short, it) for it in LAST]
+
+
+def main():
+    word, counts = sys.argv[1] if len(sys.argv) > 1 else "", {True: 0, False: 0}
+    missing = set(WORDS) - set(LAST)
+    assert not missing, f"no line of {missing}"
+    for name, test, of in tests():
+        for program in sys.argv[2:] or (PROGRAM, f"{PROGRAM}.by-rattle"):
+            stacks = STACKS_BY_RATTLE if program.endswith(".by-rattle") else STACKS
+            if word not in name or test is stack_is_short and of not in stacks:
+                continue
+            said = "ok"
+            try:
+                test(os.path.abspath(program), of)
+            except (AssertionError, OSError, subprocess.SubprocessError) as why:
+                said = f"FAILED: {str(why)[:600]}"
+            counts[said == "ok"] += 1
+            print(f"{os.path.basename(program)} {name}: {said}", flush=True)
+    print(f"{counts[True]} passed, {counts[False]} failed")
+    sys.exit(bool(counts[False]) or not counts[True])
+
+
+if __name__ == "__main__":
+    main()

@@ -1,0 +1,355 @@
+#!/usr/bin/env python3
+"""Tries wrong bodies: each must be refused by an open goal of the function that it stands in.
+
+    tests/must_fail.py [--all] [WORD..]   those of the gate, or all; WORD: only those whose CRATE/NAME has it in it
+    tests/must_fail.py --after-ci         those of the gate, over the libraries that rt ci has just proved (out/rlibs)
+    tests/must_fail.py --anew ..          tries also what an earlier run saw refused (out/must_fail.json), of the same
+                                          sources and by the same script
+All edits of a crate are carried out on one copy, and one `rattle check` judges their functions, each named by `--only`
+(tests/edits.py has their form; two of one function go in two rounds). An edit is refused where a goal of its function
+stays open, or where a written answer no longer fits its goal. It is no refusal, and fails, where the function is proved
+with it (whatever else it calls), where the text no longer applies or compiles, or where the proof only names what the
+edit took away. What rattle says stands in out/must_fail-CRATE-ROUND.log; the last line is 'N passed, M failed'.
+"""
+import concurrent.futures
+import hashlib
+import json
+import os
+import re
+import shutil
+import subprocess
+import sys
+import tempfile
+import threading
+from glob import glob
+
+import edits
+
+sys.path.insert(0, os.path.join(os.path.dirname(os.path.dirname(os.path.abspath(__file__))), "tools"))
+import quick
+
+TOP = os.getcwd()
+PARTS = ("src", "specs", "proofs")
+# What rattle says of an answer that names what is not there, or rests on what is not proved.
+GONE = re.compile(r"is not in scope|has no field|has no `|that can be named|was not admitted|is no name")
+
+
+class Said:
+    """What rattle said of a function: `proved`, or not; its goals that are open, and the errors in its proof."""
+
+    def __init__(self):
+        self.state, self.open, self.false, self.errors = None, [], [], []
+
+    def waits(self):
+        """Whether it was not judged, since another edit's function that it calls can't be stated: it is tried again."""
+        return bool(self.state) and "part in its proof is not made yet" in self.state
+
+    def verdict(self, answers=""):
+        """Whether the edit of the function is refused, and by what. `answers`: what the proof of the right body has."""
+        gone = [it for it in self.errors if GONE.search(it)]
+        fits = list(dict.fromkeys(goal_of(it) for it in self.errors if it not in gone))
+        none = "could not tell|no proof: expected `|.*the borrow checker does not cover|.*is not made yet"
+        if self.state is None or re.match(none, self.state):
+            return False, f"NOT JUDGED: rattle says of its function: {(self.state or 'nothing')[:300]}"
+        if self.false:
+            return True, f"open, and false at some values: {', '.join(self.false)}"
+        # (search proves these of the right body: it has another clause's answer at the same way out, and none for them)
+        ways = set(re.findall(r"(?m)^pub (\S+-clause)-\S+ :", answers))
+        own = [it for it in self.open if re.sub(r"-clause-.*", "-clause", it) in ways and f"pub {it} :" not in answers]
+        if gone and not fits and own:
+            return True, f"open: {', '.join(own)} (its proof also names what the edit took away)"
+        if gone and not fits:
+            told = f"; goals without an answer beside it: {', '.join(self.open)}" if self.open else ""
+            return False, f"REFUSED BY A NAME ALONE, which its proof has and the edit took away: {gone[0][:200]}{told}"
+        if self.open or fits:
+            told = [f"open: {', '.join(self.open)}"] * bool(self.open)
+            return True, "; ".join(told + [f"its answer no longer fits: {', '.join(fits)}"] * bool(fits))
+        why = "is proved" if self.state == "proved" else "has no open goal of its own"
+        return False, f"LET THROUGH: the function {why} with it ({self.state[:160]})"
+
+
+def goal_of(error):
+    """The goal of which an error in a function's proof is, or else what is said."""
+    named = re.match(r"`([^`]+)`", error) or re.search(r"in `([^`]+)`", error)
+    return named[1] if named else error[:120]
+
+
+def said_by(text, crate):
+    """What rattle printed, by function. The notes of a function's open goals stand before its line."""
+    found, waiting, errors = {}, [], []
+    for line in text.split("\n"):
+        note = re.match(r"note: \S+: it is not proved that .*?\(`([^`]+)`\)(.*)", line)
+        error = re.match(r"(?:\./)?proofs/(\S+)/\w+\.antt:\d+:\d+: error: (.*)", line)
+        made = re.match(rf"fn {crate}::(\S+): (.*)", line)
+        if note:
+            waiting.append((note[1], "at which this goal is false" in note[2]))
+        elif error and not re.match(r"\d+ declarations? that depend", error[2]):
+            errors.append((error[1].replace("/", "::"), error[2]))
+        elif made:
+            it = found.setdefault(made[1], Said())
+            it.state, it.open = made[2], [name for name, _ in waiting]
+            it.false = [name for name, false in waiting if false]
+            waiting = []
+    for function, error in errors:
+        found.setdefault(function, Said()).errors.append(error)
+    return found
+
+
+def below(crates, name):
+    """The libraries of the repository below a crate, lowest first."""
+    found = []
+    for it in crates[name]:
+        if it in crates:
+            found += [at for at in [*below(crates, it), it] if at not in found]
+    return found
+
+
+def sum_of_tree(crates=("*",), more=()):
+    """A sum of all that a proof of the crates reads, by which out/rlibs is known to be of this tree."""
+    made = hashlib.sha256()
+    files = [glob(f"crates/{crate}/{part}/**", recursive=True) for crate in crates for part in PARTS]
+    files = sorted(it for found in files for it in found if os.path.isfile(it))
+    for path in [*files, "crates.txt", f"{quick.kit()}/KIT-ID", *more]:
+        with open(path, "rb") as file:
+            made.update(repr((path, file.read())).encode())
+    return made.hexdigest()
+
+
+class Kept:
+    """What edits were refused by in earlier runs here, by a sum of all that this rests on."""
+
+    def __init__(self, anew):
+        self.file, self.lock, self.sums, self.known = "out/must_fail.json", threading.Lock(), {}, {}
+        if not anew and os.path.isfile(self.file):
+            with open(self.file, encoding="utf-8") as file:
+                self.known = json.load(file)
+
+    def sum(self, crate, edit):
+        if crate.name not in self.sums:
+            names = [crate.name, *below(crate.libraries.crates, crate.name)]
+            self.sums[crate.name] = sum_of_tree(names, [__file__])
+        return f"{self.sums[crate.name]} {edit.function} {edit.pairs}"
+
+    def told(self, crate, edit):
+        found = self.known.get(edit.title(), ["", ""])
+        return found[1] if found[0] == self.sum(crate, edit) else None
+
+    def keep(self, crate, edit, text):
+        with self.lock:
+            self.known[edit.title()] = [self.sum(crate, edit), text]
+            with open(f"{self.file}.new", "w", encoding="utf-8") as file:
+                json.dump(self.known, file)
+            os.replace(f"{self.file}.new", self.file)
+
+
+class Libraries:
+    """Where the libraries stand that were proved: those of rt ci, or those that `rt lib` builds in the crates."""
+
+    def __init__(self, after_ci):
+        self.crates, self.after_ci, self.built = quick.crates_of(TOP), after_ci, {}
+
+    def of(self, name):
+        return f"{TOP}/out/rlibs/{name}.rlib" if self.after_ci else f"{TOP}/crates/{name}/out/rlib/{name}.rlib"
+
+    def build(self, name):
+        """Builds the libraries below a crate, where that is to be done, and returns what is lacking, or None."""
+        if self.after_ci:
+            mark = "out/rlibs/tree"
+            if not os.path.isfile(mark) or open(mark, encoding="utf-8").read() != sum_of_tree():
+                return "rt ci has not proved this tree just now"
+        for it in below(self.crates, name):
+            if self.after_ci and not os.path.isdir(self.of(it)):
+                return f"rt ci has not proved {it}"
+            if not self.after_ci and self.built.setdefault(it, self.lib(it)):
+                return f"rt lib did not build {it}: {self.built[it]}"
+        return None
+
+    def lib(self, name):
+        how = {"cwd": f"{TOP}/crates/{name}", "stdin": subprocess.DEVNULL, "text": True}
+        ran = subprocess.run(["rt", "lib"], stdout=subprocess.PIPE, stderr=subprocess.STDOUT, **how)
+        return ran.stdout[-300:] if ran.returncode else None
+
+    def words(self, name):
+        """The words by which rattle checks a crate, as rt says them."""
+        kit, root = quick.kit(), "main" if os.path.isfile(f"{TOP}/crates/{name}/src/main.rt") else "lib"
+        words = [f"{kit}/bin/rattle", "check", "--crate-name", name, f"src/{root}.rt"]
+        for it in ["std", *self.crates[name]]:
+            words += ["--extern", f"{it}={self.of(it) if it in self.crates else f'{kit}/rlibs/{it}.rlib'}"]
+        folders = [os.path.dirname(self.of(it)) for it in below(self.crates, name)]
+        for folder in dict.fromkeys([f"{kit}/rlibs", *folders]):
+            words += ["-L", f"dependency={folder}"]
+        words += ["--antt-project", f"{kit}/rattle/logic/antt-project.json", "--logic-built", f"{kit}/logic_built"]
+        words += ["--crate-type", "staticlib"] * quick.is_static(TOP, name)
+        return [*words, "--jobs", "1", "--links", f"{name}="]
+
+
+class Crate:
+    """A crate whose edits are tried: a copy of it, and what its checks keep there from one round to the next."""
+
+    def __init__(self, name, chosen, libraries, kept, room):
+        self.name, self.edits, self.libraries, self.kept, self.room = name, chosen, libraries, kept, f"{room}/{name}"
+        self.told, self.number = {}, 0
+
+    def run(self):
+        """Tries all edits, and gives each with whether it is refused and by what."""
+        todo = []
+        for edit in self.edits:
+            why = edits.fault_of(edit) or (None if edit.function else "it has no line in:")
+            told = None if why else self.kept.told(self, edit)
+            if why:
+                self.tell(edit, False, f"IT NO LONGER APPLIES: {why}")
+            elif told:
+                self.told[edit.name] = True, told
+                print(f"{edit.title()}: refused, as an earlier run saw: {told}", flush=True)
+            else:
+                todo.append(edit)
+        lacking = self.libraries.build(self.name) if todo else None
+        for edit in todo if lacking else ():
+            self.tell(edit, False, f"NOT TRIED: {lacking}")
+        if todo and not lacking:
+            self.copy()
+            for chosen in rounds(todo):
+                self.try_round(chosen)
+            shutil.rmtree(self.room, ignore_errors=True)
+        return self.told
+
+    def tell(self, edit, refused, text):
+        self.told[edit.name] = refused, text
+        if refused:
+            self.kept.keep(self, edit, text)
+        print(f"{edit.title()}: {'refused' if refused else 'FAILED'}: {text}", flush=True)
+
+    def copy(self):
+        for it in PARTS:
+            if os.path.isdir(f"{TOP}/crates/{self.name}/{it}"):
+                shutil.copytree(f"{TOP}/crates/{self.name}/{it}", f"{self.room}/{it}")
+        kept = f"{TOP}/crates/{self.name}/out/incremental"
+        if os.path.isdir(kept) and not self.libraries.after_ci:
+            shutil.copytree(kept, f"{self.room}/kept", copy_function=link)
+
+    def try_round(self, chosen):
+        """Tries edits that touch no function twice, in one check. Those that do not compile are told, and the rest are
+        tried again; so are those that the others kept from being judged."""
+        while chosen:
+            text, bad = self.check(chosen)
+            if not bad:
+                found = said_by(text, self.name)
+                waits = [it for it in chosen if found.get(it.function, Said()).waits()]
+                waits = waits if len(waits) < len(chosen) else []
+                for edit in (it for it in chosen if it not in waits):
+                    file = f"{self.room}/proofs/{edit.function.replace('::', '/')}/Answers.antt"
+                    answers = open(file, encoding="utf-8").read() if os.path.isfile(file) else ""
+                    self.tell(edit, *found.get(edit.function, Said()).verdict(answers))
+                chosen = waits
+                continue
+            for edit, why in bad:
+                self.tell(edit, False, why)
+            chosen = [it for it in chosen if it not in [edit for edit, _ in bad]]
+
+    def check(self, chosen):
+        """What rattle says of a copy with these edits, and the edits that keep it from judging, each with why."""
+        texts = {}
+        for edit in chosen:
+            texts = edit.carried_out(texts)
+        was = {path: open(f"{self.room}/{path}", encoding="utf-8").read() for path in texts}
+        write(self.room, texts)
+        self.number += 1
+        words = [*self.libraries.words(self.name), "--incremental", "kept"]
+        for it in dict.fromkeys(edit.function for edit in chosen):
+            words += ["--only", it]
+        how = {"cwd": self.room, "stdin": subprocess.DEVNULL, "errors": "replace"}
+        ran = subprocess.run(words, stdout=subprocess.PIPE, stderr=subprocess.STDOUT, **how)
+        write(self.room, was)
+        with open(f"{TOP}/out/must_fail-{self.name}-{self.number}.log", "w", encoding="utf-8") as log:
+            log.write(f"{' '.join(it.name for it in chosen)}\n{ran.stdout}")
+        judged = re.search(r"(?m)^only=\d+ ", ran.stdout)
+        return ran.stdout, [] if judged else blamed(ran, chosen, texts)
+
+
+def blamed(ran, chosen, texts):
+    """The edits for which a check came to no verdict: those in whose text rattle found an error, else all."""
+    none = r"rattle: error: (?:`\w+` has no function `([^`]+)`|several functions are named `([^`]+)`).*"
+    lost = re.search(none, ran.stdout)
+    if lost:
+        name = lost[1] or lost[2]
+        return [(it, f"NO SUCH FUNCTION: {lost[0][:600]}") for it in chosen if it.function == name]
+    found = {}
+    for path, line, why in re.findall(r"(?m)^(?:\./)?(\S+?):(\d+):\d+: (error\[.*|error: .*)", ran.stdout):
+        of_file = [it for it in chosen if path in [at for at, _, _ in it.pairs]]
+        near = sorted((distance(it, path, int(line), texts), it.name) for it in of_file)
+        if near:
+            found.setdefault(near[0][1], f"IT DOES NOT COMPILE: {path}:{line}: {why[:200]}")
+    if found:
+        return [(it, found[it.name]) for it in chosen if it.name in found]
+    end = ([""] + ran.stdout.strip().split("\n"))[-1]
+    return [(it, f"NOT JUDGED: the check ended with status {ran.returncode}: {end[:200]}") for it in chosen]
+
+
+def distance(edit, path, line, texts):
+    """How many lines a line of a file stands from the edit's text in it."""
+    places = [texts[path].find(new) for at, _, new in edit.pairs if at == path]
+    lines = [texts[path][:at].count("\n") + 1 for at in places if at >= 0]
+    return min((abs(line - it) for it in lines), default=1 << 20)
+
+
+def write(folder, texts):
+    for path, text in texts.items():
+        with open(f"{folder}/{path}", "w", encoding="utf-8") as file:
+            file.write(text)
+
+
+def link(one, other):
+    """Gives what was proved a second name (a check replaces such a file, and changes none), and copies the rest."""
+    try:
+        if one.endswith(".oantt"):
+            return os.link(one, other)
+    except OSError:
+        pass
+    return shutil.copy2(one, other)
+
+
+def rounds(todo):
+    """Puts the edits into rounds, none of which touches a function twice, or has a text that another took."""
+    found = []
+    for edit in todo:
+        touched = {(path, at) for path, _, at in edit.places()} | {edit.function}
+        for one in found:
+            try:
+                if not touched & one[0]:
+                    texts = edit.carried_out(one[2])
+                    one[0] |= touched
+                    one[1].append(edit)
+                    one[2] = texts
+                    break
+            except ValueError:
+                continue
+        else:
+            found.append([touched, [edit], edit.carried_out({})])
+    return [chosen for _, chosen, _ in found]
+
+
+def main():
+    flags = [it for it in sys.argv[1:] if it.startswith("--")]
+    words = [it for it in sys.argv[1:] if it not in flags]
+    if set(flags) - {"--all", "--after-ci", "--anew"}:
+        sys.exit(__doc__)
+    libraries, kept, chosen = Libraries("--after-ci" in flags), Kept("--anew" in flags), {}
+    for name in libraries.crates:
+        every = [it for it in edits.of_crate(f"crates/{name}") if it.gate or "--all" in flags]
+        every = [it for it in every if not it.place.startswith("tests/")]
+        every = [it for it in every if not words or any(word in it.title() for word in words)]
+        chosen.update({name: every} if every else {})
+    os.makedirs("out", exist_ok=True)
+    number = os.environ.get("RT_JOBS", "")
+    lanes = int(number) if number.isdigit() and int(number) else len(os.sched_getaffinity(0))
+    with tempfile.TemporaryDirectory() as room, concurrent.futures.ThreadPoolExecutor(lanes) as pool:
+        # (the libraries are built one by one; the crates that take longest begin first)
+        order = [Crate(name, every, libraries, kept, room) for name, every in chosen.items()][::-1]
+        told = [it for tries in pool.map(Crate.run, order) for it in tries.values()]
+    failed = sum(not refused for refused, _ in told)
+    print(f"{len(told) - failed} passed, {failed} failed")
+    sys.exit(failed > 0 or not told)
+
+
+if __name__ == "__main__":
+    main()
