@@ -68,7 +68,7 @@ WORDS = {
     "__setitem__": "kv", "__getitem__": "k", "__delitem__": "k", "__contains__": "k", "__len__": "", "get": "kv",
     "setdefault": "kv", "pop": "kv", "popitem": "", "find": "k", "first": "", "last": "", "next": "k", "previous": "k",
     "range": "kkr", "prefix": "pr", "remove_prefix": "p", "clear": "", "copy": "", "update": "u", "walked": "wr",
-    "__eq__": "m",
+    "__eq__": "m", "load": "s",
 }  # fmt: skip
 OFTEN = {"__setitem__": 12, "clear": 0.1, "remove_prefix": 0.5, "update": 0.5}
 
@@ -90,6 +90,9 @@ def one_script(seed, model):
             return rng.randbytes(rng.choice([0, 3, 3, 40, 300, 3000]))
         if kind == "u":
             return [(word("k"), word("v")) for _ in range(rng.randint(0, 4))]
+        if kind == "s":
+            pairs = [(word("k") + b"." * rng.randint(0, 2), word("v")) for _ in range(rng.randint(0, 9))]
+            return sorted(pairs) if rng.random() < 0.3 else sorted(dict(pairs).items())
         if kind == "w":
             return rng.choice(["keys", "values", "items"])
         return dict(model) if kind == "m" else rng.random() < 0.5
@@ -370,6 +373,48 @@ def walks():
     it.update({bytes([number]): b"" for number in range(200)})
     down = [it.remove_prefix(key) for key, _ in it.items().__reversed__()]
     told("and downwards", down == [1] * 200 and not it, repr(down))
+    long = {b"%03d" % at: b"%d" % at * (at % 50 * 8) for at in range(300)}
+    it.load(long)
+    told("300 pairs of all lengths", [*it.items()] == [*long.items()] and [*reversed(it)] == [*reversed(long)])
+    fits = all([*it.range(b"%03d" % at, b"%03d" % (at + 70))] == [*long.items()][at : at + 70] for at in range(231))
+    told("ranges of 70 of them", fits)
+    seen, wanted = [], [b"%03d" % at for at in range(300) if at % 7 != 3]
+    for key in it:
+        seen.append(key)
+        if int(key) % 7 == 2:
+            it.pop(b"%03d" % (int(key) + 1))  # (one ahead goes, which may be copied out already)
+    told("a walk that takes out what is ahead", seen == wanted == [*it], repr(seen))
+
+
+def many():
+    """Pairs go in many at a time."""
+    it, pairs = art.Art(), [(b"%05d" % at, b"%d" % at) for at in range(1500)]
+    it.load(iter(pairs))
+    told("1500 pairs from an iterator", [*it.items()] == pairs)
+    for name, more, why, left in (
+        ("a key that is not above", [(b"a", b""), (b"c", b""), (b"b", b"")], "NotAboveError", [b"a", b"c"]),
+        ("the same key twice", [(b"a", b""), (b"a", b"1")], "NotAboveError", [b"a"]),
+        ("a conflict", [(b"a", b""), (b"b", b""), (b"ba", b""), (b"c", b"")], "ConflictError", [b"a", b"b"]),
+        ("no bytes", [(b"a", b""), (b"b", b""), ("c", b""), (b"d", b"")], "TypeError", [b"a", b"b"]),
+    ):
+        for call in ("load", "update"):
+            it.clear()
+            if (name, call) in (("a key that is not above", "update"), ("the same key twice", "update")):
+                continue
+            told(f"{call}, {name}", outcome(getattr(it, call), more) == why and [*it] == left, repr(it))
+    it.clear()
+    it.update([(b"b", b"1"), (b"a", b"2"), (b"b", b"3")])
+    told("an update in any order", dict(it) == {b"a": b"2", b"b": b"3"}, repr(it))
+    it.update((key, it.get(b"a") + b"!") for key in [b"a", b"c", b"a"])
+    told("an update that reads the map", dict(it) == {b"a": b"2!!", b"b": b"3", b"c": b"2!!"}, repr(it))
+    told("no names", outcome(lambda: it.update(a=b"")) == "TypeError" and outcome(it.update, it) is None, repr(it))
+
+    def broken():
+        yield b"x", b"1"
+        yield b"y", b"2"
+        raise KeyError
+
+    told("an iterator that fails", outcome(it.load, broken()) == "KeyError" and b"y" in it, repr(it))
 
 
 def life():
@@ -418,6 +463,7 @@ def main():
         examples(room)
         words_of_all_kinds()
         walks()
+        many()
         life()
         scripts()
         of_maps()

@@ -5,7 +5,7 @@
 """
 import os
 import sys
-import types
+from collections.abc import Iterator
 
 import art
 
@@ -38,6 +38,8 @@ CALLS = {
     "pop": lambda it: it.pop(b"ac"),
     "pop a long one": lambda it: it.pop(b"d1"),
     "popitem": lambda it: it.popitem(),
+    "load one": lambda it: it.load([(b"af", b"new")]),
+    "update by one": lambda it: it.update({b"aa": b"other"}),
     "remove_prefix": lambda it: it.remove_prefix(b"ac"),
     "clear": lambda it: it.clear(),
     "copy": lambda it: it.copy(),
@@ -53,7 +55,7 @@ def outcome(call, *words):
     """What a call returns, a walk as a list; or the name of what it raises."""
     try:
         found = call(*words)
-        return [*found] if isinstance(found, types.GeneratorType) else found
+        return [*found] if isinstance(found, Iterator) else found
     except (ArithmeticError, LookupError, MemoryError, RuntimeError, TypeError, ValueError) as why:
         return type(why).__name__
 

@@ -1,5 +1,5 @@
 """What the class of bindings/python/art.py does, by a dictionary that knows no tree; and models that are wrong."""
-from art import ConflictError
+from art import ConflictError, NotAboveError
 
 
 class Model(dict):
@@ -23,6 +23,12 @@ class Model(dict):
 
     def update(self, pairs):
         for key, value in pairs:
+            self[key] = value
+
+    def load(self, pairs):
+        for at, (key, value) in enumerate(pairs):
+            if at and key <= pairs[at - 1][0]:
+                raise NotAboveError
             self[key] = value
 
     def copy(self):
@@ -78,6 +84,11 @@ class Wrong:
     class Find(Model):
         def find(self, query):
             return next((pair for pair in self.range() if pair[0].startswith(query)), None)
+
+    class Load(Model):
+        def load(self, pairs):
+            for key, value in pairs:
+                self[key] = value
 
     class Popitem(Model):
         def popitem(self):

@@ -9,6 +9,7 @@ from glob import glob
 
 MARKS = "pub abbrev unfoldable opaque private".split()
 NOT_A_NAME = re.compile(r"[\s(){};,@\"⟦⟧]+")
+PROOFS = re.compile(r"Rattle\.art_\w+\.proofs\.\S+?\.\{([^}]*)\}\s*;?$")
 IMPORT = re.compile(r"Rattle\.(\w+)\.specs\.(\S+?)(?:\.\{([^}]*)\}| as (\S+)|)\s*;?$", re.S)
 
 
@@ -18,8 +19,12 @@ def counted(lines):
     return len(kept), sum(len(it.split()) for it in kept)
 
 
-def imports_of(text, names, aliases, lines=None):
-    """Reads one import: names to (crate, module, name), aliases of modules to (crate, module)."""
+def imports_of(text, names, aliases, hidden):
+    """Reads one import: names to (crate, module, name), aliases of modules to (crate, module). What comes from proofs/
+    is hidden: no definition may rest on it, since nobody would count it."""
+    away = PROOFS.search(" ".join(text.split()))
+    if away:
+        hidden.update(it.strip() for it in away[1].split(","))
     found = IMPORT.search(" ".join(text.split()))
     if not found:
         return
@@ -38,6 +43,7 @@ class Spec:
     def __init__(self, crate, file):
         self.key = crate, os.path.relpath(file, f"crates/{crate}/specs")[: -len(".antt")].replace("/", ".")
         self.names, self.aliases, self.lines, self.owner, self.is_lemma = {}, {}, {}, {}, set()
+        self.hidden = set()
         text = re.sub(r"\{-.*?-\}", "", open(file, encoding="utf-8").read(), flags=re.S)
         rooms, piece, opening, last = [(0, None)], [], [], None
         for line in [*text.split("\n"), "end"]:
@@ -71,7 +77,7 @@ class Spec:
         while words[0] in MARKS:
             marks.append(words.pop(0))
         if words[0] == "use":
-            imports_of("\n".join(piece), self.names, self.aliases)
+            imports_of("\n".join(piece), self.names, self.aliases, self.hidden)
             return last
         if words[0] in ("record", "data"):
             name = words[1]
@@ -128,6 +134,13 @@ def read_specs():
             SPECS[spec.key] = spec
 
 
+def refuse_hidden(where, text, hidden):
+    """Ends the count where a definition or a clause names what stands in proofs/."""
+    found = sorted(hidden & {*words_in(text)})
+    if found:
+        raise SystemExit(f"believed: {where} rests on {found[0]}, which stands in proofs/\n0 passed, 1 failed")
+
+
 def closure(found, tied):
     """All definitions that these name in turn, with those that a law ties to others read as the others. A name that is
     imported and stands nowhere stops the count."""
@@ -153,6 +166,7 @@ def closure(found, tied):
             continue
         reached.add(key)
         text = "\n".join(it.partition(" --")[0] for it in spec.lines[name])
+        refuse_hidden(f"{crate}.{module}.{name}", text, spec.hidden)
         todo += [it for it in map(spec.resolve, words_in(text)) if it]
         if spec.owner.get(name):
             todo.append((crate, module, spec.owner[name]))
@@ -209,13 +223,14 @@ class Source:
             around = [(a, b, h) for a, b, h in self.blocks if a < it.start() < b]
             owner = self.owner(file, text, it, around)
             if owner:
-                names, aliases = {}, {}
+                names, aliases, hidden = {}, {}, set()
                 for at, use in uses:
                     # (an import holds in the block that it stands in)
                     inner = [(a, b) for a, b, _ in self.blocks if a < at < b and not use.startswith("{")]
                     if all(a < it.start() < b for a, b in inner):
-                        imports_of(use, names, aliases)
+                        imports_of(use, names, aliases, hidden)
                 body = text[it.start() : pairs[it.end()] + 1]
+                refuse_hidden(f"{file}, {owner}", body, hidden)
                 found = {at for at in (resolve(w, names, aliases) for w in words_in(body)) if at}
                 self.contracts.append((file, owner, body.split("\n"), found))
 

@@ -278,6 +278,9 @@ def of_one(crate):
             yield file, str(why)
     names = [it.name for it in every]
     yield from ((f"crates/{name}", f"two edits are named {it}") for it in sorted({*names}) if names.count(it) > 1)
+    for it in every:
+        same = [at.name for at in every if at.pairs == it.pairs and at is not it]
+        yield from [(it.title(), f"it is the same as {', '.join(same)}")] * bool(same)
     if len(of_rt) > AT_MOST:
         told = f"{len(of_rt)} edits stand in must-fail/, which cost rt ci a check each: {AT_MOST} at most should"
         yield f"crates/{name}", told

@@ -1,6 +1,5 @@
 #!/usr/bin/env python3
 """./test --long [MINUTES]: tries all wrong bodies, and rt plant with so many minutes for each crate (10 if left out).
-Programs that are built with some of the wrong bodies must fail in the gate's runs, too (tests/wrong.py).
 
 The edits of a crate are tried by tests/must_fail.py --all; plants on a copy of the repository outside it, which goes at
 the end. Standard error tells how far it is; what is printed stands in out/long-*.log, and the summary in out/long.md.
@@ -25,7 +24,7 @@ COLUMNS += ("Same as the body", "Not judged", "Not run")
 
 
 class Task:
-    """The edits of a crate, or its plants: one command of rt in the copy. Or programs that are wrong."""
+    """The edits of a crate, or its plants: one command of rt in the copy."""
 
     def __init__(self, crate, kind, words, folder, size=0):
         self.crate, self.kind, self.words, self.folder, self.size = crate, kind, words, folder, size
@@ -41,8 +40,6 @@ class Task:
 
     def state(self):
         """How far it is: an edit has a line once it was tried."""
-        if self.kind == "wrong":
-            return f"wrong programs, {len(self.lines())} tried"
         if self.kind == "edits":
             return f"edits of {self.crate} {len(self.lines())} of {self.size}"
         left = [it[1] for it in (re.match(r"rt: (\d+) plants left", line) for line in self.lines()) if it]
@@ -50,7 +47,6 @@ class Task:
 
 
 def tasks_in(copy, minutes):
-    yield Task("programs", "wrong", [sys.executable, "-uB", "tests/wrong.py"], TOP)
     crates = re.findall(r"(?m)^([\w-]+)[^#\n]*", open(f"{copy}/crates.txt", encoding="utf-8").read())
     for crate in crates:
         size = sum(not it.place.startswith("tests/") for it in edits.of_crate(f"crates/{crate}"))
@@ -86,10 +82,7 @@ def run_all(tasks):
 def summary(tasks):
     """Gives the lines of the summary, and counts what passed and failed."""
     counts, rows, lists = [0, 0], [], []
-    programs = [line for it in tasks if it.kind == "wrong" for line in it.lines()]
-    last = re.fullmatch(r"(\d+) passed, (\d+) failed", "".join(programs[-1:]))
-    counts[:] = [int(last[1]), int(last[2])] if last else [0, 1]
-    for crate in dict.fromkeys(it.crate for it in tasks if it.kind != "wrong"):
+    for crate in dict.fromkeys(it.crate for it in tasks):
         row, told = {}, []
         for task in (it for it in tasks if it.crate == crate):
             lines = task.lines()
@@ -118,7 +111,6 @@ def summary(tasks):
         lists += ["", f"{crate}: let through, without a contract, or untested:", "", *told] if told else []
     head = [f"## {processes.when_and_where()}, {(time.monotonic() - START) / 60:.0f} minutes", ""]
     head.append(f"| {' | '.join(COLUMNS)} |")
-    lists += ["", "Programs with wrong bodies, in the runs of the gate:", "", *(f"- {it}" for it in programs)]
     return [*head, "|---|" + "---:|" * 9, *rows, *lists], counts
 
 

@@ -184,19 +184,19 @@ def extractions():
         yield from (*fill, f"extraction (0102 [0501 {steps}", "check", "iter fffffff")
 
 
-def scripts():
-    """Each script with its name, the kind of its keys, and its lines, but for long ones."""
-    for file in sorted(glob("tests/maps/*.lines")):
+def scripts(word=""):
+    """Each script that has the word in its name: its name, the kind of its keys, and its lines; but for long ones."""
+    for file in sorted(it for it in glob("tests/maps/*.lines") if word in os.path.basename(it)):
         yield os.path.basename(file), *rows(file)
-    for seed in range(60):
+    for seed in (it for it in range(60) if word in f"random {it}"):
         kind = KINDS[seed % 3]
         yield f"random {seed}", kind, script(seed, kind, 600)
 
 
-def long_scripts():
-    for kind in KINDS:
+def long_scripts(word):
+    for kind in KINDS if word in "small maps" else ():
         yield "small maps", kind, list(small_maps(kind))
-    for seed in range(60, 75):
+    for seed in (it for it in range(60, 75) if word in f"random {it}, long"):
         kind = KINDS[seed % 3]
         yield f"random {seed}, long", kind, script(seed, kind, 20_000)
 
@@ -206,9 +206,7 @@ def main():
         print(wanted(sys.argv[2].split(".")[-2], open(sys.argv[2]).read().splitlines()), end="")
         return
     word, counts, played = sys.argv[1] if len(sys.argv) > 1 else "", {True: 0, False: 0}, 0
-    for name, kind, lines in itertools.chain(scripts(), long_scripts()):
-        if word not in name:
-            continue
+    for name, kind, lines in itertools.chain(scripts(word), long_scripts(word)):
         model = wanted(kind, lines)
         for prefix_len, by in itertools.product(PREFIX_LENS, ("", ".by-rattle")):
             ended = "ok"

@@ -41,8 +41,11 @@ class Said:
         self.state, self.open, self.false, self.errors = None, [], [], []
 
     def waits(self):
-        """Whether it was not judged, since another edit's function that it calls can't be stated: it is tried again."""
-        return bool(self.state) and "part in its proof is not made yet" in self.state
+        """Whether it was not judged, since another edit's function that it calls can't be stated, or is not proved: it is
+        tried again."""
+        if not self.state or self.open or self.errors:
+            return False
+        return bool(re.search(r"part in its proof is not made yet|it calls `[^`]+`, which is not proved", self.state))
 
     def verdict(self, answers=""):
         """Whether the edit of the function is refused, and by what. `answers`: what the proof of the right body has."""
@@ -88,6 +91,9 @@ def said_by(text, crate):
         elif made:
             it = found.setdefault(made[1], Said())
             it.state, it.open = made[2], [name for name, _ in waiting]
+            # (where search alone proves a function, its goals stand in its line)
+            for names in re.findall(r"`search` did not prove ((?:(?:, | and )?`[^`]+`)+)", made[2]):
+                it.open += [name for name in re.findall(r"`([^`]+)`", names) if name not in it.open]
             it.false = [name for name, false in waiting if false]
             waiting = []
     for function, error in errors:

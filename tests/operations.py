@@ -281,20 +281,21 @@ def rows(file, prefix_len):
     return lines
 
 
-def scripts(prefix_len, number=60, length=250, rounds=12):
-    """Each script with its name and its lines. A row with a number in its name is one of that length of prefixes."""
+def scripts(prefix_len, number=60, length=250, rounds=12, word=""):
+    """Each script that has the word in its name: its name and its lines. A row with a number in its name is one of that
+    length of prefixes."""
     for file in sorted(glob("tests/operations/*.lines")):
         name, *stored, _ = os.path.basename(file).split(".")
-        if not stored or int(stored[0]) == prefix_len:
+        if word in name and (not stored or int(stored[0]) == prefix_len):
             yield name, rows(file, prefix_len)
-    for seed in range(number):
+    for seed in (it for it in range(number) if word in f"random {it}"):
         yield f"random {seed}", script(seed, prefix_len, length, rounds)
 
 
-def long_scripts():
-    yield "replay", replay(1, 20_000)
-    yield "deep commands", deep_commands(3000)
-    yield "deep nodes by hand", deep_nodes(2400)
+def long_scripts(word):
+    made = {"replay": (replay, 1, 20_000), "deep commands": (deep_commands, 3000)}
+    made["deep nodes by hand"] = deep_nodes, 2400
+    yield from ((name, make(*of)) for name, (make, *of) in made.items() if word in name)
 
 
 def main():
@@ -305,9 +306,7 @@ def main():
     word, counts, told = sys.argv[1] if len(sys.argv) > 1 else "", Counter(), Counter()
     sys.setrecursionlimit(50_000)
     for prefix_len in PREFIX_LENS:
-        for name, lines in itertools.chain(scripts(prefix_len), long_scripts()):
-            if word not in name:
-                continue
+        for name, lines in itertools.chain(scripts(prefix_len, word=word), long_scripts(word)):
             allowed = wanted(prefix_len, lines)
             for line, those in zip(lines, allowed):
                 told.update(those if line.startswith("check") and not any("leaves" in it for it in those) else ())

@@ -1,11 +1,16 @@
 #!/usr/bin/env python3
-"""Builds programs with wrong bodies, which nothing proves, and looks that the runs of the gate fail by them.
+"""Programs with wrong bodies, which nothing proves: a run of the gate must fail by each.
 
     tests/wrong.py [WORD]      at the top of the repository; WORD: only rows that have it in them
-It is a part of ./test --long. Each row of tests/wrong/programs.lines names an edit as CRATE/NAME (tests/edits.py has
-their form and their places), the program that is built with it on a copy of the repository, from sources as
-tools/quick.py tells, and a run of tests/ with its word. The run must pass with the program as it is, and fail with
-the edit; what it says is in out/wrong-NAME-PROGRAM.log.
+It is a part of ./test. Each row of tests/wrong/programs.lines names an edit as CRATE/NAME (tests/edits.py has their form
+and their places), the program that is built with it, and a run of tests/ with its word. The run must pass with the
+program as it is, and fail with the edit. What it says is in out/wrong-NAME-PROGRAM.log; at the end stands how much
+processor time all took. Of a crate of tests, `rt try --test` runs the tests: those that are named must fail.
+
+A program is built once for all its edits, on a copy of the repository, from sources as tools/quick.py tells. Each
+function that an edit stands in begins with a wrong body beside its own, which runs only where `art_bytes::wrong_body`
+returns the edit's number. What it returns is a number that stands nowhere else in the program (it is compiled so that
+no call is folded); a copy of the program in which another number stands there is the program with that edit.
 """
 import os
 import re
@@ -14,14 +19,19 @@ import shutil
 import subprocess
 import sys
 import tempfile
+from glob import glob
 
 sys.path.insert(0, os.path.join(os.path.dirname(os.path.dirname(os.path.abspath(__file__))), "tools"))
 import edits
 import quick
 
 TOP, ROWS = os.getcwd(), "tests/wrong/programs.lines"
-# A wrong body may run for ever, and fill what memory there is.
-SPACE, SECONDS = 4 << 30, 3600
+# A wrong body may run for ever, and fill what memory there is. So each process has so much space, and so many seconds of
+# processor time.
+SPACE, SECONDS = 1 << 29, 20
+# The number of the program as it is, in the text of a program and in its bytes.
+RIGHT = 0x2B6F_7577_726F_6E67
+SWITCH = f"\n/// The number of the wrong body that is played.\npub fn wrong_body() -> u64 {{\n    {RIGHT}\n}}\n"
 
 
 def rows(word):
@@ -31,90 +41,187 @@ def rows(word):
             yield parts[0], parts[1], parts[2], parts[3].strip() if len(parts) > 3 else ""
 
 
+def body_around(text, at):
+    """Where the body begins and ends that a place of a source stands in, between its braces; None where it is in none."""
+    above = [it.start() for it in edits.FUNCTION.finditer(text) if it.start() < at]
+    indent = re.match(r"[ \t]*", text[above[-1] :])[0] if above else ""
+    end = re.compile(rf"^{indent}}}$", re.M).search(text, above[-1]) if above else None
+    if not end:
+        return None
+    # (the brace of a body stands alone where clauses stand before it)
+    alone, any_brace = (re.compile(it, re.M) for it in (rf"^{indent}\{{$", r"\{$"))
+    brace = alone.search(text, above[-1], end.start()) or any_brace.search(text, above[-1], end.start())
+    return (brace.end(), end.start()) if brace and brace.end() <= at < end.start() else None
+
+
+class Switched:
+    """A copy of the repository whose functions have wrong bodies beside their own, each under its number."""
+
+    def __init__(self, top, chosen):
+        self.top, self.wrong = top, {}
+        # (what an edit puts outside of bodies is there for all; only its own bodies use it)
+        for edit in chosen.values():
+            for path, old, new in self.pairs(edit):
+                if not self.place(edit, path, old):
+                    text = self.read(f"{edit.crate}/{path}")
+                    self.put(f"{edit.crate}/{path}", text.replace(old, new))
+        for number, edit in chosen.items():
+            for path, old, new in self.pairs(edit):
+                if place := self.place(edit, path, old):
+                    text = self.read(f"{edit.crate}/{path}")
+                    bodies = self.wrong.setdefault((f"{edit.crate}/{path}", *place), {})
+                    bodies[number] = bodies.get(number, text[slice(*place)]).replace(old, new)
+
+    @staticmethod
+    def pairs(edit):
+        edit.carried_out({})
+        return [it for it in edit.pairs if it[0].startswith("src/")]
+
+    def read(self, file):
+        with open(f"{self.top}/{file}", encoding="utf-8") as of:
+            return of.read()
+
+    def put(self, file, text):
+        with open(f"{self.top}/{file}", "w", encoding="utf-8") as of:
+            of.write(text)
+
+    def place(self, edit, path, old):
+        """The body that a text stands in, or None; behind an earlier pair it may stand in what that one put there."""
+        text = self.read(f"{edit.crate}/{path}")
+        for it in (old, *(first for _, first, new in edit.pairs if old in new)):
+            if it in text:
+                return body_around(text, text.index(it) + len(it) - 1)
+        return None
+
+    def write(self):
+        """Writes the sources with all bodies that were taken."""
+        for file, begin, end in sorted(self.wrong, reverse=True):
+            bodies = self.wrong[file, begin, end].items()
+            said = "".join(f"if art_bytes::wrong_body() == {n} {{ return {{{it}}}; }}\n" for n, it in bodies)
+            text = self.read(file)
+            self.put(file, f"{text[:begin]}\n{said}{text[begin:end]}{text[end:]}")
+        self.put("crates/art_bytes/src/lib.rt", self.read("crates/art_bytes/src/lib.rt") + SWITCH)
+
+
+def plain_toolchain(room, kept, toolchain_in=quick.toolchain_in):
+    """A toolchain whose compiler folds no call."""
+    return toolchain_in(room, kept, quick.CLANG.replace("-O3", "-O0"))
+
+
+def built(room, program, chosen):
+    """Gives the bytes of the program with wrong bodies, each under its number. What was built is kept in out/wrong."""
+    switched = Switched(quick.copied(TOP, f"{room}/{program}"), chosen)
+    switched.write()
+    kept = f"{TOP}/out/wrong/{program}-{quick.digest(switched.top, quick.BUILT_OF)[:16]}"
+    if not os.path.exists(kept):
+        quick.toolchain_in = plain_toolchain
+        said = quick.build(switched.top, program, f"{room}/{program}.made")
+        if said:
+            raise ValueError(f"{program} was not built: {said}")
+        for it in glob(f"{TOP}/out/wrong/{program}-*"):
+            os.remove(it)
+        os.makedirs(f"{TOP}/out/wrong", exist_ok=True)
+        shutil.copy(f"{room}/{program}.made", kept)
+    with open(kept, "rb") as file:
+        made = file.read()
+    if RIGHT.to_bytes(8, "little") not in made:
+        raise ValueError(f"the number of the program as it is stands nowhere in {program}")
+    return made
+
+
 def limit():
     resource.setrlimit(resource.RLIMIT_AS, (SPACE, SPACE))
+    resource.setrlimit(resource.RLIMIT_CPU, (SECONDS, SECONDS))
     resource.setrlimit(resource.RLIMIT_CORE, (0, 0))
 
 
-def build(copy, program):
-    """Builds the program of the copy, where the runs look for what both compilers make."""
+def counts_of(copy, made, number, row, log):
+    """Plays the run of a row with the wrong body of a number, and returns how many of its cases passed and failed."""
+    _, program, runner, word = row
     out = f"{copy}/crates/{program}/out"
     os.makedirs(out, exist_ok=True)
-    said = quick.build(copy, program, f"{out}/{program}")
-    assert said is None, f"not built: {said}"
-    shutil.copy(f"{out}/{program}", f"{out}/{program}.by-rattle")
-
-
-def keep(copy, program, kept):
-    for it in (program, f"{program}.by-rattle"):
-        shutil.copy(f"{copy}/crates/{program}/out/{it}", f"{kept}/{it}")
-
-
-def put_back(copy, program, kept):
-    for it in (program, f"{program}.by-rattle"):
-        shutil.copy(f"{kept}/{it}", f"{copy}/crates/{program}/out/{it}")
-
-
-def counts_of(copy, runner, word, log):
-    """Runs it, and returns how many of its cases passed and failed."""
+    # (a run plays what both compilers make; in place of the other one's it has the program as it is)
+    bodies = {program: number, f"{program}.by-rattle": RIGHT}
+    for it, of_it in bodies.items():
+        with open(f"{out}/{it}", "wb") as file:
+            file.write(made.replace(RIGHT.to_bytes(8, "little"), of_it.to_bytes(8, "little")))
+        os.chmod(f"{out}/{it}", 0o755)
     words = [sys.executable, "-uB", f"tests/{runner}", *([word] if word else [])]
     how = {"cwd": copy, "stdin": subprocess.DEVNULL, "stderr": subprocess.STDOUT, "preexec_fn": limit}
     with open(log, "wb") as file:
-        subprocess.run(words, stdout=file, timeout=SECONDS, **how)
+        subprocess.run(words, stdout=file, **how)
     last = open(log, encoding="utf-8", errors="replace").read().splitlines()[-1:]
     found = re.fullmatch(r"(\d+) passed, (\d+) failed", "".join(last))
-    assert found, f"{runner} ends with {last}"
+    if not found:
+        raise ValueError(f"{runner} ends with {last}")
     return int(found[1]), int(found[2])
 
 
-def wrong(copy, title, program, runner, word):
-    """Builds the program with the edit, and runs what must fail."""
-    edit = edits.named(title)
-    crate = f"{copy}/{edit.crate}"
-    texts = edit.carried_out({})
-    whole = {path: open(f"{crate}/{path}", encoding="utf-8").read() for path in texts}
-    try:
-        for path, text in texts.items():
-            with open(f"{crate}/{path}", "w", encoding="utf-8") as file:
-                file.write(text)
-        build(copy, program)
-    finally:
-        for path, text in whole.items():
-            with open(f"{crate}/{path}", "w", encoding="utf-8") as file:
-                file.write(text)
-    passed, failed = counts_of(copy, runner, word, f"{TOP}/out/wrong-{edit.name}-{program}.log")
-    assert failed, f"LET THROUGH by {runner} {word}: {passed} passed"
+def play(copy, made, number, row, right):
+    """Plays the run of a row without its wrong body and with it. Returns how it went, or raises ValueError."""
+    edit, program, runner, word = row
+    name = edit.partition("/")[2]
+    if (program, runner, word) not in right:
+        right[program, runner, word] = counts_of(copy, made, RIGHT, row, f"{TOP}/out/wrong-right-{program}.log")
+    passed, failed = right[program, runner, word]
+    if not passed or failed:
+        raise ValueError(f"{runner} {word} fails without the edit: {passed} passed, {failed} failed")
+    passed, failed = counts_of(copy, made, number, row, f"{TOP}/out/wrong-{name}-{program}.log")
+    if not failed:
+        raise ValueError(f"LET THROUGH by {runner} {word}: {passed} passed")
     return f"refused by {runner} {word}: {passed} passed, {failed} failed"
 
 
-def play(copy, kept, counts, row):
-    edit, program, runner, word = row
-    title = f"{edit} in {program}"
-    try:
-        if not os.path.exists(f"{kept}/{program}"):
-            build(copy, program)
-            keep(copy, program, kept)
-        put_back(copy, program, kept)
-        passed, failed = counts_of(copy, runner, word, f"{TOP}/out/wrong-right-{program}.log")
-        assert passed and not failed, f"{runner} {word} fails without the edit: {passed} passed, {failed} failed"
-        ended = wrong(copy, edit, program, runner, word)
-        counts[0] += 1
-    except (AssertionError, ValueError, OSError, subprocess.TimeoutExpired) as why:
-        ended = f"FAILED: {str(why)[:500]}"
-        counts[1] += 1
-    print(f"{title}: {ended}", flush=True)
+def play_test(copy, row):
+    """Runs the tests of a crate with the wrong body: those that are named must fail. Without it, rt ci runs them."""
+    title, crate, _, words = row
+    edit = edits.named(title)
+    texts = edit.carried_out({})
+    for path, text in texts.items():
+        with open(f"{copy}/{edit.crate}/{path}", "w", encoding="utf-8") as file:
+            file.write(text)
+    how = {"cwd": f"{copy}/crates/{crate}", "stdin": subprocess.DEVNULL, "text": True, "errors": "replace"}
+    ran = subprocess.run(["rt", "try", "--test"], stdout=subprocess.PIPE, stderr=subprocess.STDOUT, **how)
+    for path in texts:
+        shutil.copy(f"{edit.crate}/{path}", f"{copy}/{edit.crate}/{path}")
+    with open(f"{TOP}/out/wrong-{edit.name}-{crate}.log", "w", encoding="utf-8") as log:
+        log.write(ran.stdout)
+    found = re.findall(r"(?m)^test (\S+) \.\.\. (ok)?", ran.stdout)
+    failed = [name for name, is_ok in found if not is_ok]
+    if set(words.split()) - {it.split("::")[-1] for it in failed}:
+        last = ([""] + ran.stdout.strip().splitlines())[-1][:200]
+        raise ValueError(f"of {len(found)} tests these fail: {', '.join(failed) or 'none'}; the last line is {last}")
+    return f"refused by the tests {words}: {len(found) - len(failed)} passed, {len(failed)} failed"
 
 
 def main():
-    word, counts = sys.argv[1] if len(sys.argv) > 1 else "", [0, 0]
+    word, counts, programs, right = sys.argv[1] if len(sys.argv) > 1 else "", [0, 0], {}, {}
+    for row in rows(word):
+        programs.setdefault(row[1], []).append(row)
     os.makedirs("out", exist_ok=True)
     with tempfile.TemporaryDirectory() as room:
-        copy, kept = f"{room}/copy", f"{room}/kept"
-        os.makedirs(kept)
+        copy = f"{room}/copy"
         shutil.copytree(TOP, copy, ignore=lambda at, names: {".git", "out", "__pycache__"})
         os.makedirs(f"{copy}/out")
-        for row in rows(word):
-            play(copy, kept, counts, row)
+        for program, of_program in programs.items():
+            numbers = {title: number for number, title in enumerate(dict.fromkeys(it[0] for it in of_program), 1)}
+            made = None
+            for row in of_program:
+                try:
+                    if row[2] == "rt":
+                        ended = play_test(copy, row)
+                    else:
+                        made = made or built(room, program, {n: edits.named(it) for it, n in numbers.items()})
+                        ended = play(copy, made, numbers[row[0]], row, right)
+                    counts[0] += 1
+                except (ValueError, OSError) as why:
+                    ended = f"FAILED: {str(why)[:500]}"
+                    counts[1] += 1
+                print(f"{row[0]} in {program}: {ended}", flush=True)
+                if not made and row[2] != "rt":
+                    break
+    spent = sum(os.times()[:4])
+    print(f"{spent:.0f} s of processor time")
     print(f"{counts[0]} passed, {counts[1]} failed")
     sys.exit(bool(counts[1]) or not counts[0])
 

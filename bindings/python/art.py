@@ -13,9 +13,9 @@ with a byte that is in none of them. An empty key begins every other, so it is s
 
 A call that finds no memory raises `MemoryError`. Behind that, and behind a `ConflictError`, the map is as it was.
 
-A walk (`for`, `items`, `prefix`, `range`) holds nothing of the map. Each step looks for the pair next to the key that
-was told last, so the map may change meanwhile. A pair that is put in ahead of the walk is told, one that is taken out
-ahead is not, and none is told twice.
+A walk (`for`, `items`, `prefix`, `range`) holds nothing of the map. Pairs are copied out many at a time. Where the map
+has changed since, the walk goes on from the key that was told last: a pair that is put in ahead of the walk is told, one
+that is taken out ahead is not, and none is told twice.
 
 One call at a time goes into a map: a lock sees to it. The library is proved for maps that stay on one thread. So a call
 from another thread raises `RuntimeError`, but not where the map was made by `Art(check_thread=False)`: then the lock
@@ -28,23 +28,31 @@ threads: a lock that is held there stays held.
 from __future__ import annotations
 
 import ctypes
+import itertools
 import os
 import threading
 import weakref
 from collections.abc import ItemsView, Iterable, Iterator, KeysView, Mapping, MutableMapping, ValuesView
-from typing import Any, Callable, Optional, Tuple, Union
+from typing import Any, Callable, List, Optional, Tuple, Union
 
-__all__ = ["Art", "ConflictError"]
+__all__ = ["Art", "ConflictError", "NotAboveError"]
 
 Buffer, Pair = Union[bytes, bytearray, memoryview], Tuple[bytes, bytes]
 Bound = Optional[Buffer]
-DONE, REPLACED, NOT_FOUND, CONFLICT, NO_ROOM, NO_MEMORY, NO_MAP = range(7)
+DONE, REPLACED, NOT_FOUND, CONFLICT, NO_ROOM, NO_MEMORY, NO_MAP, NOT_ABOVE, CUT_OFF = range(9)
+FROM_END, FROM_KEY, BEHIND_KEY = range(3)
 FIRST_ROOM = 256
+# How many pairs a walk copies out first and at most; the room for each, and for all; how many pairs go in at once.
+FIRST_WALKED, MOST_WALKED, WALKED_ROOM, MOST_ROOM, LOADED = 4, 64, 48, 1 << 14, 256
 MISSING: Any = object()
 
 
 class ConflictError(ValueError):
     """The key begins a stored key, or a stored key begins it. The map is as it was."""
+
+
+class NotAboveError(ValueError):
+    """The key is not above the one before it. The pairs before it are in the map."""
 
 
 class Handle(ctypes.Structure):  # `struct art` of art.h
@@ -62,12 +70,16 @@ def loaded() -> ctypes.CDLL:
     room = [ctypes.POINTER(ctypes.c_char), size, *told]
     pair = room + room
     types = {"new": [], "free": [], "len": [], "put": some + some, "get": some + room, "remove": some}
-    types |= {"remove_prefix": some + told, "first": pair, "last": pair}
-    types |= {"find": some + pair, "next": some + pair, "previous": some + pair}
+    types |= {"remove_prefix": some + told, "first": pair, "last": pair, "find": some + pair}
+    types |= {"next": some + pair, "previous": some + pair}
+    lens = [told[0], size, *told]  # (two lengths for each pair)
+    types["load"] = some + lens
+    types["walk"] = types["walk_back"] = [ctypes.c_uint32, *some, *room[:2], *lens]
     for name, words in types.items():
         call = getattr(library, f"art_{name}")
         call.argtypes = [ctypes.POINTER(Handle), *words]
         call.restype = {"free": None, "len": size}.get(name, ctypes.c_uint)
+        call.is_change = name in ("put", "remove", "remove_prefix", "load")  # type: ignore[attr-defined]
     return library
 
 
@@ -78,6 +90,26 @@ def words_of(it: Buffer) -> tuple[bytes, int]:
     """Bytes and their length, as a call is given them. (A class over bytes may tell another length: it is copied.)"""
     held = it if type(it) is bytes else memoryview(it).tobytes()
     return held, len(held)
+
+
+def runs_of(pairs: Iterable) -> Iterator[List[Pair]]:
+    """Pairs in lists, in each of which the keys ascend. Where a pair is none, those before it are told first."""
+    run: List[Pair] = []
+    try:
+        for key, value in pairs:
+            pair = words_of(key)[0], words_of(value)[0]
+            if len(run) == LOADED or (run and pair[0] <= run[-1][0]):
+                yield run
+                run = []
+            run.append(pair)
+    except GeneratorExit:
+        raise
+    except BaseException:
+        if run:
+            yield run
+        raise
+    if run:
+        yield run
 
 
 class Room:
@@ -111,7 +143,7 @@ class Art(MutableMapping[bytes, bytes]):
     """
 
     def __init__(self, pairs: Union[Mapping, Iterable] = (), /, *, check_thread: bool = True) -> None:
-        self._handle, self._key, self._value = Handle(), Room(), Room()
+        self._handle, self._key, self._value, self._changes = Handle(), Room(), Room(), 0
         self._thread = threading.get_ident() if check_thread else None
         self._free = weakref.finalize(self, LIBRARY.art_free, self._handle)
         self._free.atexit = False
@@ -147,6 +179,7 @@ class Art(MutableMapping[bytes, bytes]):
     def _call(self, call: Callable[..., int], *words: object, fails: Optional[int] = NO_MEMORY) -> int:
         """What a call returns, but for want of memory."""
         self._check()
+        self._changes += call.is_change  # type: ignore[attr-defined]
         try:
             code = call(self._handle, *words)
         except ctypes.ArgumentError as why:  # (each word is of its type: no memory for it)
@@ -241,6 +274,56 @@ class Art(MutableMapping[bytes, bytes]):
             self._call(LIBRARY.art_remove, *words_of(pair[0]))
             return pair
 
+    def update(self, pairs: Union[Mapping, Iterable] = (), /, **more: Buffer) -> None:
+        """Puts pairs in, one after the other. Where one fails, those before it stay. Those of a `dict`, a list, a tuple
+        or a map go in many at a time as long as their keys ascend."""
+        if more:
+            raise TypeError("keys are bytes, and no names")
+        if isinstance(pairs, Mapping):
+            pairs = pairs.items()
+        elif hasattr(pairs, "keys"):
+            pairs = [(key, pairs[key]) for key in pairs.keys()]
+        elif not isinstance(pairs, (list, tuple)):
+            for key, value in pairs:  # (what is put in may decide what comes next)
+                self[key] = value
+            return
+        for run in runs_of(pairs):
+            self._load(run)
+
+    def load(self, pairs: Union[Mapping, Iterable]) -> None:
+        """Puts in pairs whose keys ascend, many in one call of the library. It stops at the first that is refused: by
+        `NotAboveError`, `ConflictError` or `MemoryError`. The pairs before it are in the map.
+
+        >>> squares = Art()
+        >>> squares.load((b"%03d" % it, b"%d" % (it * it)) for it in range(1000))
+        >>> len(squares), squares[b"012"]
+        (1000, b'144')
+        >>> squares.load([(b"a", b"1"), (b"c", b"2"), (b"b", b"3")])
+        Traceback (most recent call last):
+        art.NotAboveError: b'b' is not above the key before it
+        >>> len(squares)
+        1002
+        """
+        before = None
+        for run in runs_of(pairs.items() if isinstance(pairs, Mapping) else pairs):
+            if before is not None and run[0][0] <= before:
+                raise NotAboveError(f"{run[0][0]!r} is not above the key before it")
+            self._load(run)
+            before = run[-1][0]
+
+    def _load(self, run: List[Pair]) -> None:
+        """Puts in a run of ascending pairs, up to the first that is refused."""
+        taken = ctypes.c_size_t()
+        try:
+            held = b"".join(part for pair in run for part in pair)
+            lens = (ctypes.c_size_t * (2 * len(run)))(*(len(part) for pair in run for part in pair))
+        except ctypes.ArgumentError as why:
+            raise MemoryError from why
+        with self._lock:
+            code = self._call(LIBRARY.art_load, held, len(held), lens, len(run), taken)
+        if code == CONFLICT:
+            raise ConflictError(f"{run[taken.value][0]!r} begins a stored key, or a stored key begins it")
+
     def clear(self) -> None:
         """Takes all pairs out."""
         self.remove_prefix(b"")
@@ -324,20 +407,40 @@ class Art(MutableMapping[bytes, bytes]):
         """
         low = words_of(b"" if start is None else start)[0]
         high = None if end is None else words_of(end)[0]
-        return self._falling(low, high) if reverse else self._rising(low, high)
+        if reverse:
+            down = self._walked(LIBRARY.art_walk_back, FROM_END if high is None else BEHIND_KEY, high or b"")
+            return itertools.takewhile(lambda pair: pair[0] >= low, down)
+        return itertools.takewhile(lambda pair: high is None or pair[0] < high, self._walked(LIBRARY.art_walk, FROM_KEY, low))
 
-    def _rising(self, start: bytes, end: Optional[bytes]) -> Iterator[Pair]:
-        value = self.get(start)
-        pair = self.next(start) if value is None else (start, value)
-        while pair and (end is None or pair[0] < end):
-            yield pair
-            pair = self.next(pair[0])
+    def _walked(self, call: Callable[..., int], kind: int, key: bytes) -> Iterator[Pair]:
+        """The pairs from a key on. Some are copied out ahead, and again where the map has changed since."""
+        places, room = FIRST_WALKED, FIRST_WALKED * WALKED_ROOM
+        while True:
+            seen, pairs, wanted = self._copied(call, kind, key, places, room)
+            if not pairs and not wanted:
+                return
+            for pair in pairs:
+                yield pair
+                kind, key = BEHIND_KEY, pair[0]
+                if self._changes != seen:
+                    break
+            if len(pairs) == places:
+                places = min(2 * places, MOST_WALKED)
+                room = max(room, places * WALKED_ROOM)
+            else:  # (it was the room that ended it, or the map has no more)
+                room = max(room, wanted, min(2 * room, MOST_ROOM))
 
-    def _falling(self, start: bytes, end: Optional[bytes]) -> Iterator[Pair]:
-        pair = self.last() if end is None else self.previous(end)
-        while pair and pair[0] >= start:
-            yield pair
-            pair = self.previous(pair[0])
+    def _copied(self, call: Callable[..., int], kind: int, key: bytes, places: int, size: int) -> tuple:
+        """The number of changes so far; as many pairs as go into so many bytes; if none does, the bytes that it takes."""
+        room, lens, count = ctypes.create_string_buffer(size), (ctypes.c_size_t * (2 * places))(), ctypes.c_size_t()
+        with self._lock:
+            code = self._call(call, kind, key, len(key), room, size, lens, places, count)
+            seen = self._changes
+        if code == NO_ROOM:
+            return seen, [], lens[0] + lens[1]
+        held, ends = room.raw, [0, *itertools.accumulate(lens[: 2 * count.value])]
+        parts = [held[at:end] for at, end in zip(ends, ends[1:])]
+        return seen, [*zip(parts[::2], parts[1::2])], 0
 
     def prefix(self, prefix: Buffer, *, reverse: bool = False) -> Iterator[Pair]:
         """The pairs whose keys begin with a prefix: ascending, or descending where `reverse` is.

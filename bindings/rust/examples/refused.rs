@@ -75,6 +75,10 @@ fn call(map: &mut Map, which: usize, given: &mut Given) -> Result<usize, AllocEr
             })?;
             Ok(map.len())
         }
+        11 => map.load(given.first.take()).map(|()| map.len()).map_err(|why| {
+            given.first = Some(why.into_pair());
+            AllocError
+        }),
         9 => {
             map.clear();
             Ok(map.len())

@@ -35,6 +35,12 @@ extern "C" {
     fn art_put(map: *mut Handle, key: *const u8, key_len: usize, value: *const u8, value_len: usize) -> u32;
     fn art_get(map: *mut Handle, key: *const u8, key_len: usize, room: *mut u8, room_len: usize, value_len: *mut usize)
         -> u32;
+    fn art_load(map: *mut Handle, bytes: *const u8, bytes_len: usize, lens: *const Lens, count: usize, taken: *mut usize)
+        -> u32;
+    fn art_walk(map: *mut Handle, from: u32, key: *const u8, key_len: usize, room: *mut u8, room_len: usize,
+        lens: *mut Lens, lens_len: usize, count: *mut usize) -> u32;
+    fn art_walk_back(map: *mut Handle, from: u32, key: *const u8, key_len: usize, room: *mut u8, room_len: usize,
+        lens: *mut Lens, lens_len: usize, count: *mut usize) -> u32;
     fn art_remove(map: *mut Handle, key: *const u8, key_len: usize) -> u32;
     fn art_remove_prefix(map: *mut Handle, prefix: *const u8, prefix_len: usize, count: *mut usize) -> u32;
     fn art_find(map: *mut Handle, query: *const u8, query_len: usize, key_room: *mut u8, key_room_len: usize,
@@ -43,10 +49,6 @@ extern "C" {
         value_room_len: usize, value_len: *mut usize) -> u32;
     fn art_last(map: *mut Handle, key_room: *mut u8, key_room_len: usize, key_len: *mut usize, value_room: *mut u8,
         value_room_len: usize, value_len: *mut usize) -> u32;
-    fn art_next(map: *mut Handle, key: *const u8, key_len: usize, key_room: *mut u8, key_room_len: usize,
-        found_len: *mut usize, value_room: *mut u8, value_room_len: usize, value_len: *mut usize) -> u32;
-    fn art_previous(map: *mut Handle, key: *const u8, key_len: usize, key_room: *mut u8, key_room_len: usize,
-        found_len: *mut usize, value_room: *mut u8, value_room_len: usize, value_len: *mut usize) -> u32;
 }
 
 // `art_code` of the header.
@@ -57,6 +59,21 @@ const CONFLICT: u32 = 3;
 const NO_ROOM: u32 = 4;
 const NO_MEMORY: u32 = 5;
 const NO_MAP: u32 = 6;
+const NOT_ABOVE: u32 = 7;
+const CUT_OFF: u32 = 8;
+
+// `art_from` of the header.
+const FROM_END: u32 = 0;
+const FROM_KEY: u32 = 1;
+const BEHIND_KEY: u32 = 2;
+
+/// `art_lens` of the header: how long a key and its value are.
+#[repr(C)]
+#[derive(Clone, Copy)]
+pub(crate) struct Lens {
+    pub(crate) key: usize,
+    pub(crate) value: usize,
+}
 
 /// A code that the call's clause does not have.
 #[cold]
@@ -71,10 +88,42 @@ pub(crate) enum Wanted<'a> {
     Last,
     /// The one whose key begins the query, or equals it.
     FrontOf(&'a [u8]),
-    /// The least above the key.
-    Above(&'a [u8]),
-    /// The greatest below the key.
-    Below(&'a [u8]),
+}
+
+/// Where a walk goes on.
+#[derive(Clone, Copy, PartialEq, Eq)]
+pub(crate) enum From {
+    /// At its end of the map.
+    End,
+    /// With the pair of the key, if it is stored.
+    Key,
+    /// With the pair behind the key.
+    Behind,
+}
+
+/// Which way a walk goes.
+#[derive(Clone, Copy, PartialEq, Eq)]
+pub(crate) enum Way {
+    Up,
+    Down,
+}
+
+/// What came of copying pairs out.
+#[derive(Clone, Copy, PartialEq, Eq, Debug)]
+pub(crate) enum Walked {
+    /// So many are in the room, one at least.
+    Pairs(usize),
+    /// There is none from there on.
+    End,
+    /// The first takes so many bytes.
+    NoRoom(usize),
+}
+
+/// Why pairs were not all put in.
+#[derive(Clone, Copy, PartialEq, Eq, Debug)]
+pub(crate) enum Stop {
+    Conflict,
+    Memory,
 }
 
 /// What came of putting a pair in.
@@ -129,6 +178,50 @@ impl Art {
             REPLACED => Ok(Put::Replaced),
             CONFLICT => Ok(Put::Conflict),
             NO_MEMORY => Err(AllocError),
+            code => not_told(code),
+        }
+    }
+
+    /// Puts in the pairs of a buffer, whose keys ascend, up to the first that is refused. Tells how many went in, and why
+    /// not all did, if so.
+    pub(crate) fn load(&mut self, bytes: &[u8], lens: &[Lens]) -> (usize, Option<Stop>) {
+        let mut taken = 0;
+        if self.make().is_err() {
+            return (taken, Some(Stop::Memory));
+        }
+        let (to, at, count) = (self.handle.get(), bytes.as_ptr(), lens.len());
+        // SAFETY: rules 1 to 4; both slices are read alone, `taken` is a local. Clause of `art_load`: IsLoaded.
+        match unsafe { art_load(to, at, bytes.len(), lens.as_ptr(), count, &mut taken) } {
+            DONE => (taken, None),
+            CONFLICT => (taken, Some(Stop::Conflict)),
+            NO_MEMORY => (taken, Some(Stop::Memory)),
+            // (the buffer is made by `Run`, which sees to both)
+            code @ (NOT_ABOVE | CUT_OFF) => unreachable!("a run of pairs is no run: {code}"),
+            code => not_told(code),
+        }
+    }
+
+    /// Copies out the pairs that come next, as many as go in.
+    pub(crate) fn walk(&self, way: Way, from: From, key: &[u8], room: &mut [u8], lens: &mut [Lens]) -> Walked {
+        let (at, key_at, key_len, mut count) = (self.handle.get(), key.as_ptr(), key.len(), 0);
+        let (to, len, lens_at, places) = (room.as_mut_ptr(), room.len(), lens.as_mut_ptr(), lens.len());
+        let from = match from {
+            From::End => FROM_END,
+            From::Key => FROM_KEY,
+            From::Behind => BEHIND_KEY,
+        };
+        // SAFETY: rules 1 to 4; the room and the places are lent alone, the key is lent beside them, and `count` is a
+        // local. Clauses of `art_walk`, `art_walk_back`: IsWalked.
+        let code = unsafe {
+            match way {
+                Way::Up => art_walk(at, from, key_at, key_len, to, len, lens_at, places, &mut count),
+                Way::Down => art_walk_back(at, from, key_at, key_len, to, len, lens_at, places, &mut count),
+            }
+        };
+        match code {
+            DONE => Walked::Pairs(count),
+            NOT_FOUND | NO_MAP => Walked::End,
+            NO_ROOM => Walked::NoRoom(lens.first().map_or(0, |it| it.key + it.value)),
             code => not_told(code),
         }
     }
@@ -214,19 +307,13 @@ impl Art {
         let (at, key_to, key_room) = (self.handle.get(), key.as_mut_ptr(), key.len());
         let (value_to, room) = (value.as_mut_ptr(), value.len());
         // SAFETY: rules 1 to 4; both rooms and both lengths are lent alone, and what is read is lent beside them. Clauses
-        // of `art_first`, `art_last`, `art_find`, `art_next`, `art_previous`: IsPairRead.
+        // of `art_first`, `art_last`, `art_find`: IsPairRead.
         unsafe {
             match wanted {
                 Wanted::First => art_first(at, key_to, key_room, key_len, value_to, room, value_len),
                 Wanted::Last => art_last(at, key_to, key_room, key_len, value_to, room, value_len),
                 Wanted::FrontOf(query) => {
                     art_find(at, query.as_ptr(), query.len(), key_to, key_room, key_len, value_to, room, value_len)
-                }
-                Wanted::Above(key) => {
-                    art_next(at, key.as_ptr(), key.len(), key_to, key_room, key_len, value_to, room, value_len)
-                }
-                Wanted::Below(key) => {
-                    art_previous(at, key.as_ptr(), key.len(), key_to, key_room, key_len, value_to, room, value_len)
                 }
             }
         }
@@ -257,13 +344,22 @@ mod tests {
         assert!(art.get(b"ab", &mut value).unwrap() && value.bytes() == [7; 5000]);
         assert!(art.has(b"ab") && art.has(&[b'b'; 300]) && !art.has(b"b"));
         assert!(art.read(Wanted::FrontOf(b"abc"), &mut key, &mut value).unwrap() && key.bytes() == b"ab");
-        assert!(art.read(Wanted::Above(b"ab"), &mut key, &mut value).unwrap());
+        assert!(art.read(Wanted::Last, &mut key, &mut value).unwrap());
         assert_eq!((key.bytes(), value.bytes()), (&[b'b'; 300][..], &b""[..]));
-        assert!(art.read(Wanted::Below(b"b"), &mut key, &mut value).unwrap() && key.bytes() == b"ab");
-        assert!(!art.read(Wanted::Above(b"c"), &mut key, &mut value).unwrap());
         assert_eq!((art.len(), art.remove_prefix(b"b"), art.len()), (2, Ok(1), 1));
+        let mut lens = [Lens { key: 0, value: 0 }; 2];
+        assert_eq!(art.walk(Way::Up, From::End, b"", &mut [0; 9], &mut lens), Walked::NoRoom(5002));
+        assert_eq!(art.load(b"acxad", &[Lens { key: 2, value: 1 }, Lens { key: 2, value: 0 }]), (2, None));
+        let stopped =
+            art.load(b"aeaexf", &[Lens { key: 2, value: 0 }, Lens { key: 3, value: 0 }, Lens { key: 1, value: 0 }]);
+        assert_eq!(stopped, (1, Some(Stop::Conflict)));
+        let mut room = [0; 9];
+        assert_eq!(art.walk(Way::Down, From::Behind, b"ae", &mut room, &mut lens), Walked::Pairs(2));
+        assert_eq!((&room[..5], lens[1].value), (&b"adacx"[..], 1));
+        assert_eq!(art.walk(Way::Up, From::Key, b"af", &mut room, &mut lens), Walked::End);
         art.clear();
         assert!(art.len() == 0 && !art.has(b"ab"));
+        assert_eq!(art.walk(Way::Up, From::End, b"", &mut room, &mut lens), Walked::End);
         assert_eq!(art.put(b"", b""), Ok(Put::New));
         assert!(art.read(Wanted::Last, &mut key, &mut value).unwrap() && key.bytes() == b"");
     }

@@ -1,9 +1,9 @@
 //! The iterators of a map.
 use crate::error::{or_end, AllocError};
-use crate::ffi::Art;
+use crate::ffi::{Art, Way};
 use crate::key::Key;
 use crate::value::Value;
-use crate::walk::{Walk, Way};
+use crate::walk::Walk;
 use std::borrow::Borrow;
 use std::fmt;
 use std::iter::FusedIterator;

@@ -33,7 +33,7 @@
 //!
 //! # Want of memory
 //!
-//! A call that changes the map says [`AllocError`] where memory lacks, and leaves the map as it was. `retain` and
+//! A call that changes the map says [`AllocError`] where memory lacks, and leaves the map as it was. `retain`, `load` and
 //! `try_extend` stop where they are. A call that only reads, `clone`, `extend` and `collect` end the program then, as
 //! those of Rust's own collections do.
 //!
@@ -58,13 +58,14 @@ mod error;
 mod ffi;
 mod iter;
 mod key;
+mod load;
 mod map;
 mod room;
 mod traits;
 mod value;
 mod walk;
 
-pub use error::{AllocError, InsertRefused, TryInsertError};
+pub use error::{AllocError, InsertRefused, LoadError, TryInsertError};
 pub use iter::{IntoIter, IntoKeys, IntoValues, Iter, Keys, Prefix, Range, Values};
 pub use key::{text_prefix, Key, KeyBytes, NoPrefixes, TextBytes};
 pub use map::ArtMap;

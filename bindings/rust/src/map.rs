@@ -1,11 +1,11 @@
 //! The map.
 use crate::error::{or_end, AllocError, InsertRefused, TryInsertError};
-use crate::ffi::{Art, Put, Wanted};
+use crate::ffi::{Art, Put, Wanted, Way};
 use crate::iter::{IntoIter, IntoKeys, IntoValues, Iter, Keys, Prefix, Range, Values};
 use crate::key::{Key, KeyBytes, NoPrefixes};
 use crate::room::Room;
 use crate::value::Value;
-use crate::walk::{Walk, Way};
+use crate::walk::Walk;
 use std::borrow::Borrow;
 use std::marker::PhantomData;
 use std::ops::{Bound, RangeBounds};
@@ -29,9 +29,12 @@ use std::ops::{Bound, RangeBounds};
 /// # }
 /// ```
 pub struct ArtMap<K, V> {
-    art: Art,
+    pub(crate) art: Art,
     of: PhantomData<(K, V)>,
 }
+
+/// What a panic says where a type of keys is not what it says.
+pub(crate) const NO_PREFIXES: &str = "the type of the keys says NoPrefixes, and a key begins another one";
 
 /// Why a pair was not put in.
 enum Refusal {
@@ -201,7 +204,7 @@ impl<K: Key, V: Value> ArtMap<K, V> {
         match self.put(&key, &value) {
             Ok(old) => Ok(old),
             Err(Refusal::Memory) => Err(InsertRefused { key, value }),
-            Err(Refusal::Prefix) => panic!("the type of the keys says NoPrefixes, and a key begins another one"),
+            Err(Refusal::Prefix) => panic!("{NO_PREFIXES}"),
         }
     }
 
@@ -223,21 +226,6 @@ impl<K: Key, V: Value> ArtMap<K, V> {
             Err(Refusal::Memory) => Err(TryInsertError::Memory { key, value }),
             Err(Refusal::Prefix) => Err(TryInsertError::Prefix { key, value }),
         }
-    }
-
-    /// Stores pairs one by one. It stops at the first that is refused and hands it back; those before it are stored.
-    ///
-    /// ```
-    /// let mut map = art_map::ArtMap::<Vec<u8>, u32>::new();
-    /// let refused = map.try_extend([(vec![1], 1), (vec![1, 2], 2), (vec![3], 3)]).unwrap_err();
-    /// assert_eq!(refused.into_pair(), (vec![1, 2], 2));
-    /// assert_eq!(map.len(), 1);
-    /// ```
-    pub fn try_extend<I: IntoIterator<Item = (K, V)>>(&mut self, pairs: I) -> Result<(), TryInsertError<K, V>> {
-        for (key, value) in pairs {
-            self.try_insert(key, value)?;
-        }
-        Ok(())
     }
 
     /// Takes a pair out, and answers its value. Where memory lacks, the map is as it was.

@@ -55,12 +55,10 @@ impl<K: Key + Hash, V: Value + Hash> Hash for ArtMap<K, V> {
     }
 }
 
-/// Ends the program where memory lacks, as `extend` of a `BTreeMap` does. [`ArtMap::try_extend`] doesn't.
+/// Pairs with ascending keys go in many at a time. Ends the program where memory lacks, as `extend` of a `BTreeMap` does. [`ArtMap::try_extend`] doesn't.
 impl<K: NoPrefixes, V: Value> Extend<(K, V)> for ArtMap<K, V> {
     fn extend<I: IntoIterator<Item = (K, V)>>(&mut self, pairs: I) {
-        for (key, value) in pairs {
-            or_end(self.insert(key, value).map_err(Into::into));
-        }
+        self.put_in_runs(pairs);
     }
 }
 

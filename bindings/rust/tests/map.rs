@@ -1,6 +1,6 @@
 //! What a user of `BTreeMap` or blart looks for: insertion, replacement, conflicts, removal, ranges in all bounds,
 //! prefixes, both ends, texts, integers in order, and what traits of std give.
-use art_map::{AllocError, ArtMap, InsertRefused, Key, KeyBytes, NoPrefixes, TryInsertError, Value};
+use art_map::{AllocError, ArtMap, InsertRefused, Key, KeyBytes, LoadError, NoPrefixes, TryInsertError, Value};
 use std::cmp::Ordering::{Equal, Greater, Less};
 use std::collections::hash_map::DefaultHasher;
 use std::collections::BTreeMap;
@@ -338,6 +338,11 @@ fn a_value_that_finds_no_memory_is_handed_back() {
     let mut map = ArtMap::from([(1, Heavy(false)), (2, Heavy(false))]);
     assert_eq!(map.insert(1, Heavy(true)), Err(InsertRefused { key: 1, value: Heavy(true) }));
     assert_eq!(map.try_insert(3, Heavy(true)), Err(TryInsertError::Memory { key: 3, value: Heavy(true) }));
+    let heavy = |at: i32| (at, Heavy(at == 70));
+    assert_eq!(map.load((1..99).map(heavy)), Err(LoadError::Memory { key: 70, value: Heavy(true) }));
+    assert_eq!(map.len(), 69);
+    assert_eq!(map.load((1..70).map(heavy)), Ok(()));
+    map.retain(|key, _| *key < 3).unwrap();
     let mut seen = 0;
     let stopped = map.retain(|_, value| {
         seen += 1;
@@ -345,6 +350,52 @@ fn a_value_that_finds_no_memory_is_handed_back() {
         true
     });
     assert_eq!((stopped, map.len()), (Err(AllocError), 2));
+}
+
+#[test]
+fn ascending_pairs_are_loaded() {
+    let pairs = || (0..1000u32).map(|it| (it, vec![it as u8; it as usize % 700]));
+    let mut map = ArtMap::<u32, Vec<u8>>::new();
+    assert_eq!(map.load([]), Ok(()));
+    assert_eq!(map.load(pairs()), Ok(()));
+    assert!(map.iter().eq(pairs()) && map.iter().rev().eq(pairs().rev()));
+    // (those of one call of the library, of several, and at their seams)
+    for stop in [1, 5, 63, 64, 65, 128, 500] {
+        let mut map = ArtMap::<u32, u32>::new();
+        let refused = map.load((0..stop).chain([stop - 1]).chain(5000..5100).map(|it| (it, it)));
+        assert_eq!(refused, Err(LoadError::NotAbove { key: stop - 1, value: stop - 1 }));
+        assert!(map.keys().eq(0..stop));
+    }
+}
+
+#[test]
+fn a_load_stops_at_a_conflict() {
+    for stop in [1u8, 63, 64, 65, 200] {
+        let mut map = ArtMap::<Vec<u8>, u8>::new();
+        map.try_insert(vec![stop - 1, 7], 0).unwrap();
+        let pairs = (0..=255).map(|it| (vec![it, 7, if it == stop - 1 { 0 } else { 1 }], it));
+        let refused = map.load(pairs).unwrap_err();
+        assert_eq!(refused.to_string(), "the key begins a stored one, or a stored one begins it");
+        assert_eq!(refused.into_pair(), (vec![stop - 1, 7, 0], stop - 1));
+        assert!(map.len() == usize::from(stop) && map.values().eq((0..stop - 1).chain([0])));
+    }
+    assert_eq!(LoadError::NotAbove { key: 1, value: 2 }.to_string(), "the key is not above the one before it");
+    assert_eq!(LoadError::Memory { key: 1, value: 2 }.to_string(), "there is no memory");
+}
+
+#[test]
+fn a_load_goes_into_a_map_that_has_pairs() {
+    let mut map = squares();
+    map.load((0..3000).step_by(3).map(|it| (it, 1))).unwrap();
+    assert_eq!((map.len(), map.get(&3), map.get(&4), map.get(&2997)), (1666, Some(1), Some(16), Some(1)));
+}
+
+#[test]
+fn an_extension_may_have_any_order() {
+    let order = || (0..2000u64).map(|it| it * 7919 % 1009);
+    let map: ArtMap<u64, u64> = order().zip(0..).collect();
+    let model: BTreeMap<u64, u64> = order().zip(0..).collect();
+    assert!(map.iter().eq(model));
 }
 
 #[test]

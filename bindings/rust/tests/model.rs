@@ -1,5 +1,5 @@
 //! Calls at random beside a `BTreeMap` that refuses keys which begin others.
-use art_map::{ArtMap, TryInsertError};
+use art_map::{ArtMap, LoadError, TryInsertError};
 use std::collections::BTreeMap;
 use std::ops::Bound;
 
@@ -71,6 +71,31 @@ fn insert(map: &mut ArtMap<Bytes, Bytes>, model: &mut Model, key: Bytes, value: 
     }
 }
 
+/// Ascending pairs, or nearly so, are loaded: those before the first that is refused go in.
+fn load(random: &mut Random, map: &mut ArtMap<Bytes, Bytes>, model: &mut Model) {
+    let mut pairs: Vec<_> = (0..random.below(90)).map(|_| (random.bytes(6), random.bytes(3))).collect();
+    pairs.sort();
+    if random.below(3) != 0 {
+        pairs.dedup_by(|one, other| one.0.starts_with(&other.0));
+    }
+    let answer = map.load(pairs.clone());
+    let mut before: Option<Bytes> = None;
+    for (key, value) in pairs {
+        let meets = |it: &Bytes| *it != key && (it.starts_with(&key) || key.starts_with(it));
+        if before.is_some_and(|it| it >= key) {
+            assert_eq!(answer, Err(LoadError::NotAbove { key, value }));
+            return;
+        }
+        if model.keys().any(meets) {
+            assert_eq!(answer, Err(LoadError::Prefix { key, value }));
+            return;
+        }
+        model.insert(key.clone(), value);
+        before = Some(key);
+    }
+    assert_eq!(answer, Ok(()));
+}
+
 fn step(random: &mut Random, map: &mut ArtMap<Bytes, Bytes>, model: &mut Model) {
     let mut key = random.bytes(5);
     if random.below(2) == 0 {
@@ -135,6 +160,7 @@ fn step(random: &mut Random, map: &mut ArtMap<Bytes, Bytes>, model: &mut Model) 
             let copy = map.clone();
             assert!(copy == *map && copy.into_iter().eq(model.clone()));
         }
+        13 => load(random, map, model),
         _ => {}
     }
     assert_eq!((map.len(), map.is_empty()), (model.len(), model.is_empty()));

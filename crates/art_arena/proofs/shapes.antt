@@ -58,3 +58,5 @@ pub mod LeafPlaces
 pub mod LeafValues
 -- The clones of the slabs of an arena are a clone of the arena.
 pub mod ClonedArenas
+-- An arena whose slabs end with a node has as few slots as its nodes allow.
+pub mod TrimmedArenas

@@ -67,7 +67,7 @@ impl<K, V, const PREFIX_LEN: usize> NodeArena<K, V, PREFIX_LEN> {
     ghost use Rattle.art_arena.specs.arena.Arena.{HasRoom, SameNodes, leaves_held};
     ghost use Rattle.art_arena.specs.arena.Shapes.{Shape, leaves};
     ghost use Rattle.art_arena.specs.arena.Stores.{StoresOnly};
-    ghost use Rattle.art_arena.specs.arena.Arena.{HasRoomOf, KeepsRoom, KeepsRoomOf, UsesRoom};
+    ghost use Rattle.art_arena.specs.arena.Arena.{HasRoomOf, IsTrimmed, KeepsRoom, KeepsRoomOf, UsesRoom};
     ghost use Rattle.art_arena.specs.arena.ArenaClones.{IsArenaClone};
 
     /// Makes an arena that holds no node. It allocates nothing.
@@ -205,6 +205,24 @@ impl<K, V, const PREFIX_LEN: usize> NodeArena<K, V, PREFIX_LEN> {
             NodeType::Node256 => self.nodes256.reserve(additional),
             NodeType::Leaf => self.leaves.reserve(additional),
         }
+    }
+
+    /// Gives memory back: of each kind, what lies behind its last node. No node moves, and no name changes. So little
+    /// goes back while the last nodes stay.
+    pub fn shrink_to_fit(&mut self)
+    where
+        K: Drop,
+        V: Drop,
+        ensures kept { SameNodes self.old self.new }
+        ensures no_more { KeepsRoomOf self.new self.old }
+        ensures trimmed { PREFIX_LEN < 2 ^ 62 → IsTrimmed self.new }
+    {
+        self.leaves.shrink_to_fit();
+        self.nodes4.shrink_to_fit();
+        self.nodes16.shrink_to_fit();
+        self.nodes32.shrink_to_fit();
+        self.nodes48.shrink_to_fit();
+        self.nodes256.shrink_to_fit();
     }
 
     /// Stores a node, and returns its name. Fails if out of memory; the error returns the node.

@@ -2,7 +2,7 @@
 ghost use Rattle.std.specs.Prelude.{◌≡◌, ℕ, ◌<◌, ◌≤◌, ◌^◌, ◌↔◌, ◌+◌};
 ghost use Rattle.std.specs.Prelude.{[], Some, None, IfOk, IfErr, IsOk, IsSome, IsTrue, OnErr, OnOk};
 ghost use Rattle.std.specs.Borrow.{sem};
-ghost use Rattle.slab.specs.Slab.{get, slab_len, HasRoomFor, Updates, IsSlotClone};
+ghost use Rattle.slab.specs.Slab.{get, slab_len, EndsWithValue, HasRoomFor, SameValues, Updates, IsSlotClone};
 ghost use Rattle.art_arena.specs.inner.NodesLends.{lends_in};
 
 use art_nodes::known;
@@ -101,6 +101,20 @@ impl<N, const PREFIX_LEN: usize> Nodes<N, PREFIX_LEN> {
             return Err(AllocError);
         }
         slab.reserve(additional)
+    }
+
+    // Gives back the memory behind the last node. No key changes.
+    pub(crate) fn shrink_to_fit(&mut self)
+    where
+        N: Drop,
+        ensures values { SameValues self.old self.new }
+        ensures capacity { (n : ℕ) → HasRoomFor self.new n → HasRoomFor self.old n }
+        ensures trimmed { PREFIX_LEN < 2 ^ 62 → EndsWithValue self.new }
+    {
+        if PREFIX_LEN >= NO_MEMORY_HOLDS {
+            return;
+        }
+        self.slab.shrink_to_fit();
     }
 
     // Stores a node, or hands it back where there is no memory.

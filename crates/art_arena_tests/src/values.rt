@@ -4,7 +4,7 @@ use crate::calling::store;
 use art_arena::{NodeArena, TreePath, TreePathSearch};
 use art_nodes::{ConcreteInnerNodePtr, LeafNode, NodePtr};
 
-// Stores a leaf, and answers whether it has its value, and then another that is written.
+// Stores a leaf, and returns whether it has its value, and then another that is written.
 fn is_rewritten<K: Drop>(arena: &mut NodeArena<K, u8, 4>, key: K) -> bool {
     let leaf = match store(arena, LeafNode::with_no_siblings(key, 4)) {
         Ok(leaf) => leaf,

@@ -17,7 +17,7 @@ pub(crate) fn is<K: AsBytes>(rt: &impl Abort, key: &K, bytes: &[u8]) {
     assert!(rt; bytes_are(key, bytes));
 }
 
-// The same of a key that no other begins.
+// Asserts that these are the bytes of a key that no other begins.
 fn ends<K: NoPrefixesBytes>(rt: &impl Abort, key: &K, bytes: &[u8]) {
     laws::no_conflict(key, key);
     is(rt, key, bytes);

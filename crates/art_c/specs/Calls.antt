@@ -12,11 +12,13 @@ use Rattle.art_map.specs.Contents.{has_bytes, is_front, first_item, last_item}
 use Rattle.art_map.specs.PrefixBlocks.{ShrinksAtCut}
 use Rattle.art_map.specs.Ranges.{pairs_between}
 use Rattle.art_c.specs.Codes.{code_number}
+use Rattle.art_c.specs.Handles.{pairs_behind}
 use Rattle.art_c.specs.Copies.{Rooms, pair_code, pair_out, value_code, value_out, length_out}
 use Rattle.art_walks.specs.declared.stats.WellFormedTreeStats.{WellFormedTreeStats}
+use Rattle.art_c.specs.declared.handle.Art.{Art}
 use Rattle.art_c.specs.declared.audit.ArtAudit.{ArtAudit}
 use Rattle.art_c.specs.declared.code.Code.{Code}
-use Rattle.art_c.specs.declared.code.Code.TheVariants.{Done, Replaced, NotFound, Conflict, NoRoom, NoMemory, NoMap}
+use Rattle.art_c.specs.declared.code.Code.TheVariants.{Done, Replaced, NotFound, Conflict, NoMemory, NoMap}
 use Rattle.art_c.specs.declared.calls.reads.Wanted.{Wanted}
 use Rattle.art_c.specs.declared.calls.reads.Wanted.TheVariants.{First, Last, FirstBehind, LastBehind}
 use Rattle.art_c.specs.declared.calls.reads.Wanted.TheVariants.{FrontOf, Above, Below}
@@ -38,9 +40,10 @@ module _ {X : Type 0} (Fits : Pairs → X → Code → Pairs → X → Type 0) w
   OnMade None x code (Some new) y = ⊥
   OnMade (Some old) x code None y = ⊥
 
-  -- the same, and the number of the code is returned
-  abbrev pub Answers : Option Pairs → X → ℕ → Option Pairs → X → Type 0
-  Answers old x result new y = (code : Code) × (result ≡ code_number code) × OnMade old x code new y
+  -- the same of a handle, and the number of the code is returned
+  abbrev pub Answers : Art → X → ℕ → Art → X → Type 0
+  Answers old x result new y =
+      (code : Code) × (result ≡ code_number code) × OnMade (pairs_behind old) x code (pairs_behind new) y
 
 -- an empty map is made, or there is no memory and the handle has what it had
 abbrev pub IsNew : Option Pairs → ℕ → Option Pairs → Type 0
@@ -60,9 +63,7 @@ IsPairPut key value old _ Done new _ =
 IsPairPut key value old _ Replaced new _ = HasKey (key_of whole) key old × (new ≡ with_pair_put whole key value old)
 IsPairPut key value old _ Conflict new _ = IsBlocked (key_of whole) key old × (new ≡ old)
 IsPairPut key value old _ NoMemory new _ = new ≡ old
-IsPairPut key value old _ NotFound new _ = ⊥
-IsPairPut key value old _ NoRoom new _ = ⊥
-IsPairPut key value old _ NoMap new _ = ⊥
+IsPairPut key value old _ _ new _ = ⊥
 
 -- The pair with the key is gone, or there was none. Want of memory is told only where its loss makes a node smaller.
 -- Nothing is changed then.
@@ -71,10 +72,7 @@ IsRemoved key old _ Done new _ = HasKey (key_of whole) key old × (new ≡ witho
 IsRemoved key old _ NotFound new _ = (HasKey (key_of whole) key old → ⊥) × (new ≡ old)
 IsRemoved key old _ NoMemory new _ =
     HasKey (key_of whole) key old × Shrinks (key_of whole) old key × (new ≡ old)
-IsRemoved key old _ Replaced new _ = ⊥
-IsRemoved key old _ Conflict new _ = ⊥
-IsRemoved key old _ NoRoom new _ = ⊥
-IsRemoved key old _ NoMap new _ = ⊥
+IsRemoved key old _ _ new _ = ⊥
 
 -- The pairs whose keys begin with the prefix are gone, and their number is told. Want of memory is told only where
 -- their loss makes a node smaller. Nothing is changed then.
@@ -83,11 +81,7 @@ IsPrefixRemoved front old x Done new y =
     (new ≡ without_front (key_of whole) front old) × (y ≡ length (with_front (key_of whole) front old))
 IsPrefixRemoved front old x NoMemory new y =
     ShrinksAtCut whole front old × (new ≡ old) × (y ≡ x)
-IsPrefixRemoved front old x Replaced new y = ⊥
-IsPrefixRemoved front old x NotFound new y = ⊥
-IsPrefixRemoved front old x Conflict new y = ⊥
-IsPrefixRemoved front old x NoRoom new y = ⊥
-IsPrefixRemoved front old x NoMap new y = ⊥
+IsPrefixRemoved front old x _ new y = ⊥
 
 -- how many nodes of each kind there are, as C has them
 abbrev pub as_told : WellFormedTreeStats → ArtAudit
@@ -104,11 +98,7 @@ as_told stats = record {
 abbrev pub IsAudited : Pairs → ArtAudit → Code → Pairs → ArtAudit → Type 0
 IsAudited old x Done new y = (new ≡ old) × (y ≡ as_told (audit_of (key_of whole) old))
 IsAudited old x NoMemory new y = (new ≡ old) × (y ≡ x)
-IsAudited old x Replaced new y = ⊥
-IsAudited old x NotFound new y = ⊥
-IsAudited old x Conflict new y = ⊥
-IsAudited old x NoRoom new y = ⊥
-IsAudited old x NoMap new y = ⊥
+IsAudited old x _ new y = ⊥
 
 -- the value of a key is copied out, if there is one and it goes into the room; its length is told
 abbrev pub IsValueRead : List ℕ → Pairs → List ℕ × ℕ → Code → Pairs → List ℕ × ℕ → Type 0
@@ -116,16 +106,33 @@ IsValueRead key old x code new y =
     (new ≡ old) × (code ≡ value_code (lookup (has_bytes whole key) old) x.0)
     × (y ≡ (value_out (lookup (has_bytes whole key) old) x.0, length_out (lookup (has_bytes whole key) old) x.1))
 
--- the pair that is wanted: the first, the last, the same of those whose keys begin with a prefix, the one whose key is
--- a front of a query, the least above a key, the greatest below one
+-- the pair whose key is a front of a query, or equals it
+abbrev pub pair_of_front : List ℕ → Pairs → Option (List ℕ × List ℕ)
+pair_of_front query pairs = lookup_entry (is_front whole query) pairs
+
+-- the pair with the least key above a key, and the one with the greatest below
+abbrev pub pair_above : List ℕ → Pairs → Option (List ℕ × List ℕ)
+pair_above key pairs = first_item (pairs_between whole (Excluded key) Unbounded pairs)
+
+abbrev pub pair_below : List ℕ → Pairs → Option (List ℕ × List ℕ)
+pair_below key pairs = last_item (pairs_between whole Unbounded (Excluded key) pairs)
+
+-- the first pair of those whose keys begin with a prefix, and the last
+abbrev pub first_behind : List ℕ → Pairs → Option (List ℕ × List ℕ)
+first_behind prefix pairs = first_item (with_front (key_of whole) prefix pairs)
+
+abbrev pub last_behind : List ℕ → Pairs → Option (List ℕ × List ℕ)
+last_behind prefix pairs = last_item (with_front (key_of whole) prefix pairs)
+
+-- the pair that is wanted
 abbrev pub wanted_of : Wanted → Pairs → Option (List ℕ × List ℕ)
 wanted_of First pairs = first_item pairs
 wanted_of Last pairs = last_item pairs
-wanted_of (FirstBehind prefix) pairs = first_item (with_front (key_of whole) prefix.now pairs)
-wanted_of (LastBehind prefix) pairs = last_item (with_front (key_of whole) prefix.now pairs)
-wanted_of (FrontOf query) pairs = lookup_entry (is_front whole query.now) pairs
-wanted_of (Above key) pairs = first_item (pairs_between whole (Excluded key.now) Unbounded pairs)
-wanted_of (Below key) pairs = last_item (pairs_between whole Unbounded (Excluded key.now) pairs)
+wanted_of (FirstBehind prefix) pairs = first_behind prefix.now pairs
+wanted_of (LastBehind prefix) pairs = last_behind prefix.now pairs
+wanted_of (FrontOf query) pairs = pair_of_front query.now pairs
+wanted_of (Above key) pairs = pair_above key.now pairs
+wanted_of (Below key) pairs = pair_below key.now pairs
 
 -- a pair is copied out, if it is there and both parts go into their rooms; their lengths are told
 abbrev pub IsPairRead : (Pairs → Option (List ℕ × List ℕ)) → Pairs → Rooms → Code → Pairs → Rooms → Type 0

@@ -2,6 +2,7 @@
 use Rattle.std.specs.Prelude.{ℕ}
 use Rattle.art_c.specs.declared.code.Code.{Code}
 use Rattle.art_c.specs.declared.code.Code.TheVariants.{Done, Replaced, NotFound, Conflict, NoRoom, NoMemory, NoMap}
+use Rattle.art_c.specs.declared.code.Code.TheVariants.{NotAbove, CutOff}
 
 abbrev pub code_number : Code → ℕ
 code_number Done = 0
@@ -11,3 +12,5 @@ code_number Conflict = 3
 code_number NoRoom = 4
 code_number NoMemory = 5
 code_number NoMap = 6
+code_number NotAbove = 7
+code_number CutOff = 8

@@ -10,9 +10,12 @@ pub record Rooms : Type 0 where
   pub value : List ℕ
   pub value_len : ℕ
 
--- a room with these bytes at its start, whose rest is what it was
-abbrev pub written : List ℕ → List ℕ → List ℕ
-written bytes room = bytes ++ drop (length bytes) room
+abbrev pub rooms : List ℕ → ℕ → List ℕ → ℕ → Rooms
+rooms key key_len value value_len = record { key = key; key_len = key_len; value = value; value_len = value_len }
+
+-- a room with these items at its start, whose rest is what it was
+abbrev pub written : {X : Type 0} → List X → List X → List X
+written items room = items ++ drop (length items) room
 
 -- the test that both parts of a pair go into their rooms
 abbrev pub fits_in : List ℕ × List ℕ → Rooms → Bool

@@ -1,23 +1,27 @@
 //! The exports. What each says to a caller in C stands in `bindings/c/art.h`.
 ghost use Rattle.std.specs.Prelude.{◌≡◌, [], length, None, unwrap_or};
-ghost use Rattle.std.specs.Map.{lookup_entry};
-ghost use Rattle.std.specs.declared.ops.Bound.TheVariants.{Excluded, Unbounded};
-ghost use Rattle.art_arena.specs.arena.Shapes.{key_of};
-ghost use Rattle.art_arena.specs.tree.Tenants.{with_front};
-ghost use Rattle.art_map.specs.Contents.{first_item, is_front, last_item};
-ghost use Rattle.art_map.specs.Ranges.{pairs_between};
+ghost use Rattle.art_arena.specs.declared.ends.End.TheVariants.{First, Last};
+ghost use Rattle.art_map.specs.Contents.{first_item, last_item};
 ghost use Rattle.art_c.specs.Calls.{Answers, IsAudited, IsNew, IsPairRead, IsPrefixRemoved};
-ghost use Rattle.art_c.specs.Calls.{IsPairPut, IsRemoved, IsValueRead, whole};
+ghost use Rattle.art_c.specs.Calls.{IsPairPut, IsRemoved, IsValueRead};
+ghost use Rattle.art_c.specs.Calls.{first_behind, last_behind, pair_above, pair_below, pair_of_front};
+ghost use Rattle.art_c.specs.Copies.{rooms};
 ghost use Rattle.art_c.specs.Handles.{pairs_behind};
+ghost use Rattle.art_c.specs.Loads.{IsLoaded};
+ghost use Rattle.art_c.specs.Walks.{bound_of, IsWalked, many_rooms};
 
 mod changes;
 mod counts;
+mod loads;
 mod reads;
+mod walks;
 
 use crate::audit::ArtAudit;
 use crate::code::Code;
 use crate::copies::give_value;
 use crate::handle::{Art, Store};
+use crate::many::ArtLens;
+use art_arena::End;
 use art_bytes::SliceKey;
 use art_map::TreeMap;
 use reads::{Wanted, read};
@@ -68,11 +72,32 @@ pub extern "C" fn art_len(alloc: Global, art: &mut Art) -> usize
 /// Puts a pair in.
 #[unsafe(no_mangle)]
 pub extern "C" fn art_put(alloc: Global, art: &mut Art, key: &[u8], value: &[u8]) -> u32
-    ensures { Answers (IsPairPut key.now value.now) (pairs_behind art.old) tt result (pairs_behind art.new) tt }
+    ensures { Answers (IsPairPut key.now value.now) art.old tt result art.new tt }
 {
     match art.take(alloc) {
         Some(mut store) => {
             let code = changes::put(&mut store.map, alloc, key, value);
+            *art = Art::of(store);
+            code.number()
+        }
+        None => Code::NoMap.number(),
+    }
+}
+
+/// Puts in the pairs of a buffer, whose keys ascend, up to the first that is refused.
+#[unsafe(no_mangle)]
+pub extern "C" fn art_load(
+    alloc: Global,
+    art: &mut Art,
+    bytes: &[u8],
+    lens: &[ArtLens],
+    taken: &mut usize,
+) -> u32
+    ensures { Answers (IsLoaded bytes.now lens.now) art.old taken.old result art.new taken.new }
+{
+    match art.take(alloc) {
+        Some(mut store) => {
+            let code = loads::load(&mut store.map, alloc, bytes, lens, taken);
             *art = Art::of(store);
             code.number()
         }
@@ -89,8 +114,7 @@ pub extern "C" fn art_get(
     room: &mut [u8],
     len: &mut usize,
 ) -> u32
-    ensures { Answers (IsValueRead key.now) (pairs_behind art.old) (room.old, len.old) result
-        (pairs_behind art.new) (room.new, len.new) }
+    ensures { Answers (IsValueRead key.now) art.old (room.old, len.old) result art.new (room.new, len.new) }
 {
     match art.take(alloc) {
         Some(store) => {
@@ -105,7 +129,7 @@ pub extern "C" fn art_get(
 /// Takes out the pair with a key.
 #[unsafe(no_mangle)]
 pub extern "C" fn art_remove(alloc: Global, art: &mut Art, key: &[u8]) -> u32
-    ensures { Answers (IsRemoved key.now) (pairs_behind art.old) tt result (pairs_behind art.new) tt }
+    ensures { Answers (IsRemoved key.now) art.old tt result art.new tt }
 {
     match art.take(alloc) {
         Some(mut store) => {
@@ -125,8 +149,7 @@ pub extern "C" fn art_remove_prefix(
     prefix: &[u8],
     count: &mut usize,
 ) -> u32
-    ensures { Answers (IsPrefixRemoved prefix.now) (pairs_behind art.old) count.old result
-        (pairs_behind art.new) count.new }
+    ensures { Answers (IsPrefixRemoved prefix.now) art.old count.old result art.new count.new }
 {
     match art.take(alloc) {
         Some(mut store) => {
@@ -149,19 +172,9 @@ pub extern "C" fn art_find(
     value_room: &mut [u8],
     value_len: &mut usize,
 ) -> u32
-    ensures { Answers (IsPairRead (λ pairs. lookup_entry (is_front whole query.now) pairs))
-        (pairs_behind art.old) (record {
-          key = key_room.old;
-          key_len = key_len.old;
-          value = value_room.old;
-          value_len = value_len.old;
-        })
-        result (pairs_behind art.new) (record {
-          key = key_room.new;
-          key_len = key_len.new;
-          value = value_room.new;
-          value_len = value_len.new;
-        }) }
+    ensures { Answers (IsPairRead (pair_of_front query.now)) art.old
+        (rooms key_room.old key_len.old value_room.old value_len.old) result
+        art.new (rooms key_room.new key_len.new value_room.new value_len.new) }
 {
     let wanted = Wanted::FrontOf(query);
     read(alloc, art, wanted, key_room, key_len, value_room, value_len)
@@ -177,19 +190,9 @@ pub extern "C" fn art_first(
     value_room: &mut [u8],
     value_len: &mut usize,
 ) -> u32
-    ensures { Answers (IsPairRead (first_item))
-        (pairs_behind art.old) (record {
-          key = key_room.old;
-          key_len = key_len.old;
-          value = value_room.old;
-          value_len = value_len.old;
-        })
-        result (pairs_behind art.new) (record {
-          key = key_room.new;
-          key_len = key_len.new;
-          value = value_room.new;
-          value_len = value_len.new;
-        }) }
+    ensures { Answers (IsPairRead first_item) art.old
+        (rooms key_room.old key_len.old value_room.old value_len.old) result
+        art.new (rooms key_room.new key_len.new value_room.new value_len.new) }
 {
     let wanted = Wanted::First;
     read(alloc, art, wanted, key_room, key_len, value_room, value_len)
@@ -205,19 +208,9 @@ pub extern "C" fn art_last(
     value_room: &mut [u8],
     value_len: &mut usize,
 ) -> u32
-    ensures { Answers (IsPairRead (last_item))
-        (pairs_behind art.old) (record {
-          key = key_room.old;
-          key_len = key_len.old;
-          value = value_room.old;
-          value_len = value_len.old;
-        })
-        result (pairs_behind art.new) (record {
-          key = key_room.new;
-          key_len = key_len.new;
-          value = value_room.new;
-          value_len = value_len.new;
-        }) }
+    ensures { Answers (IsPairRead last_item) art.old
+        (rooms key_room.old key_len.old value_room.old value_len.old) result
+        art.new (rooms key_room.new key_len.new value_room.new value_len.new) }
 {
     let wanted = Wanted::Last;
     read(alloc, art, wanted, key_room, key_len, value_room, value_len)
@@ -234,19 +227,9 @@ pub extern "C" fn art_next(
     value_room: &mut [u8],
     value_len: &mut usize,
 ) -> u32
-    ensures { Answers (IsPairRead (λ pairs. first_item (pairs_between whole (Excluded key.now) Unbounded pairs)))
-        (pairs_behind art.old) (record {
-          key = key_room.old;
-          key_len = key_len.old;
-          value = value_room.old;
-          value_len = value_len.old;
-        })
-        result (pairs_behind art.new) (record {
-          key = key_room.new;
-          key_len = key_len.new;
-          value = value_room.new;
-          value_len = value_len.new;
-        }) }
+    ensures { Answers (IsPairRead (pair_above key.now)) art.old
+        (rooms key_room.old key_len.old value_room.old value_len.old) result
+        art.new (rooms key_room.new key_len.new value_room.new value_len.new) }
 {
     let wanted = Wanted::Above(key);
     read(alloc, art, wanted, key_room, key_len, value_room, value_len)
@@ -263,19 +246,9 @@ pub extern "C" fn art_previous(
     value_room: &mut [u8],
     value_len: &mut usize,
 ) -> u32
-    ensures { Answers (IsPairRead (λ pairs. last_item (pairs_between whole Unbounded (Excluded key.now) pairs)))
-        (pairs_behind art.old) (record {
-          key = key_room.old;
-          key_len = key_len.old;
-          value = value_room.old;
-          value_len = value_len.old;
-        })
-        result (pairs_behind art.new) (record {
-          key = key_room.new;
-          key_len = key_len.new;
-          value = value_room.new;
-          value_len = value_len.new;
-        }) }
+    ensures { Answers (IsPairRead (pair_below key.now)) art.old
+        (rooms key_room.old key_len.old value_room.old value_len.old) result
+        art.new (rooms key_room.new key_len.new value_room.new value_len.new) }
 {
     let wanted = Wanted::Below(key);
     read(alloc, art, wanted, key_room, key_len, value_room, value_len)
@@ -292,19 +265,9 @@ pub extern "C" fn art_first_behind(
     value_room: &mut [u8],
     value_len: &mut usize,
 ) -> u32
-    ensures { Answers (IsPairRead (λ pairs. first_item (with_front (key_of whole) prefix.now pairs)))
-        (pairs_behind art.old) (record {
-          key = key_room.old;
-          key_len = key_len.old;
-          value = value_room.old;
-          value_len = value_len.old;
-        })
-        result (pairs_behind art.new) (record {
-          key = key_room.new;
-          key_len = key_len.new;
-          value = value_room.new;
-          value_len = value_len.new;
-        }) }
+    ensures { Answers (IsPairRead (first_behind prefix.now)) art.old
+        (rooms key_room.old key_len.old value_room.old value_len.old) result
+        art.new (rooms key_room.new key_len.new value_room.new value_len.new) }
 {
     let wanted = Wanted::FirstBehind(prefix);
     read(alloc, art, wanted, key_room, key_len, value_room, value_len)
@@ -321,28 +284,52 @@ pub extern "C" fn art_last_behind(
     value_room: &mut [u8],
     value_len: &mut usize,
 ) -> u32
-    ensures { Answers (IsPairRead (λ pairs. last_item (with_front (key_of whole) prefix.now pairs)))
-        (pairs_behind art.old) (record {
-          key = key_room.old;
-          key_len = key_len.old;
-          value = value_room.old;
-          value_len = value_len.old;
-        })
-        result (pairs_behind art.new) (record {
-          key = key_room.new;
-          key_len = key_len.new;
-          value = value_room.new;
-          value_len = value_len.new;
-        }) }
+    ensures { Answers (IsPairRead (last_behind prefix.now)) art.old
+        (rooms key_room.old key_len.old value_room.old value_len.old) result
+        art.new (rooms key_room.new key_len.new value_room.new value_len.new) }
 {
     let wanted = Wanted::LastBehind(prefix);
     read(alloc, art, wanted, key_room, key_len, value_room, value_len)
 }
 
+/// Copies out as many pairs as go in, ascending, from an end of the map, from a key on, or behind it.
+#[unsafe(no_mangle)]
+pub extern "C" fn art_walk(
+    alloc: Global,
+    art: &mut Art,
+    from: u32,
+    key: &[u8],
+    room: &mut [u8],
+    lens: &mut [ArtLens],
+    count: &mut usize,
+) -> u32
+    ensures { Answers (IsWalked First (bound_of from key.now)) art.old (many_rooms room.old lens.old count.old)
+        result art.new (many_rooms room.new lens.new count.new) }
+{
+    walks::walk_in(alloc, art, End::First, from, key, room, lens, count)
+}
+
+/// The same downwards.
+#[unsafe(no_mangle)]
+pub extern "C" fn art_walk_back(
+    alloc: Global,
+    art: &mut Art,
+    from: u32,
+    key: &[u8],
+    room: &mut [u8],
+    lens: &mut [ArtLens],
+    count: &mut usize,
+) -> u32
+    ensures { Answers (IsWalked Last (bound_of from key.now)) art.old (many_rooms room.old lens.old count.old)
+        result art.new (many_rooms room.new lens.new count.new) }
+{
+    walks::walk_in(alloc, art, End::Last, from, key, room, lens, count)
+}
+
 /// Counts the nodes of the tree.
 #[unsafe(no_mangle)]
 pub extern "C" fn art_audit(alloc: Global, art: &mut Art, told: &mut ArtAudit) -> u32
-    ensures { Answers IsAudited (pairs_behind art.old) told.old result (pairs_behind art.new) told.new }
+    ensures { Answers IsAudited art.old told.old result art.new told.new }
 {
     match art.take(alloc) {
         Some(store) => {

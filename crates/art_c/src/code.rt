@@ -19,6 +19,10 @@ pub enum Code {
     NoMemory,
     /// No map is made in the handle.
     NoMap,
+    /// The key is not above the one before it.
+    NotAbove,
+    /// The bytes end before the pair does.
+    CutOff,
 }
 
 impl Code {
@@ -33,6 +37,8 @@ impl Code {
             Code::NoRoom => 4,
             Code::NoMemory => 5,
             Code::NoMap => 6,
+            Code::NotAbove => 7,
+            Code::CutOff => 8,
         }
     }
 }

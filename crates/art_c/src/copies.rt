@@ -2,14 +2,14 @@
 ghost use Rattle.std.specs.Prelude.{◌≡◌, ◌≤◌, length, option_map};
 ghost use Rattle.std.specs.Option.{option_copied};
 ghost use Rattle.std.specs.Map.Iter.{deref_pair};
-ghost use Rattle.art_c.specs.Copies.{length_out, pair_code, pair_out, value_code, value_out, written};
+ghost use Rattle.art_c.specs.Copies.{length_out, pair_code, pair_out, rooms, value_code, value_out, written};
 
 use crate::bytes::Bytes;
 use crate::code::Code;
 use art_bytes::AsBytes;
 
 /// Copies the bytes to the start of a room, whose rest is left alone.
-fn write(bytes: &[u8], room: &mut [u8])
+pub(crate) fn write(bytes: &[u8], room: &mut [u8])
     requires { length bytes.now ≤ length room.old }
     ensures { room.new ≡ written bytes.now room.old }
 {
@@ -44,24 +44,10 @@ pub(crate) fn give_pair(
     value_room: &mut [u8],
     value_len: &mut usize,
 ) -> Code
-    ensures code { result ≡ pair_code (option_map deref_pair found.entry) (record {
-      key = key_room.old;
-      key_len = key_len.old;
-      value = value_room.old;
-      value_len = value_len.old;
-    }) }
-    ensures rooms { (record {
-      key = key_room.new;
-      key_len = key_len.new;
-      value = value_room.new;
-      value_len = value_len.new;
-    })
-        ≡ pair_out (option_map deref_pair found.entry) (record {
-          key = key_room.old;
-          key_len = key_len.old;
-          value = value_room.old;
-          value_len = value_len.old;
-        }) }
+    ensures code { result ≡ pair_code (option_map deref_pair found.entry)
+        (rooms key_room.old key_len.old value_room.old value_len.old) }
+    ensures rooms { (rooms key_room.new key_len.new value_room.new value_len.new)
+        ≡ pair_out (option_map deref_pair found.entry) (rooms key_room.old key_len.old value_room.old value_len.old) }
 {
     let Some((key, value)) = found else {
         return Code::NotFound;

@@ -9,3 +9,4 @@ mod calls;
 mod code;
 mod copies;
 mod handle;
+mod many;

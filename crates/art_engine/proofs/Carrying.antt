@@ -7,6 +7,7 @@ use Rattle.std.proofs.lemmas.List.{take-append-le, take_all, length-take-le, len
 use Rattle.art_lines.specs.Lines.{whole_lines_of, unfinished_line_of, lines_of, unless_empty}
 use Rattle.art_lines.specs.Commands.{Command, Spells}
 use Rattle.art_lines.specs.Reading.{command_of}
+use Rattle.art_engine.specs.Ahead.{most_ahead}
 use Rattle.art_engine.specs.Counts.{IsCount, IsShort, ReadsOwnPath, IsWithin, visits_of}
 use Rattle.art_engine.specs.Records.{Records}
 use Rattle.art_engine.specs.State.{State}
@@ -85,7 +86,7 @@ goes_on start now text held before taken line handled c s memory lawful =
 counts_on : (start now new : State) (text held before taken line handled : List ℕ) (c : Carried start now text held before taken) → IsReadAs handled line
     → (memory : Bool) → IsLineDone memory now handled new → HaveRead start (whole_lines_of text ++ line ∷ []) (with_place memory c.refused (length (whole_lines_of text))) new
 counts_on start now new text held before taken line handled c s memory d =
-    have_read-more start now new (whole_lines_of text) c.refused c.written memory line d.visits c.ran c.counted (same_count memory now.records handled line d.visits s d.count) d.reads
+    have_read-more start now new (whole_lines_of text) c.refused c.written memory line d.visits d.count_ahead c.ran c.counted (same_count memory now.records handled line d.visits s d.count) d.reads (subst (λ o. d.count_ahead ≤ most_ahead o) s.command d.few) d.ahead
 
 pub carried_line : (start now now' : State) (text part handled held held' before taken taken' : List ℕ) (memory : Bool)
     → Carried start now text held before taken → NoNewline part → IsReadAs handled (unfinished_line_of text ++ part)

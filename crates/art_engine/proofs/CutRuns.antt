@@ -69,7 +69,7 @@ cut_next start now new text held before taken taken' line handled c s l =
         told = rw front (ap (λ t. t ++ l.told.begun) first);
         cut = rw through (append_assoc c.written l.told.begun l.told.missing ∙ ap (λ t. c.written ++ t) l.told.parts ∙ ran.told);
         left = rw through (l.left ∙ ran.left);
-        counted = rw front (record { counts = read.counts; counted = read.counted; reads = l.uncounted ∙ read.reads });
+        counted = rw front (record { counts = read.counts; counted = read.counted; reads = l.uncounted.0 ∙ read.reads; counts_ahead = read.counts_ahead; counted_ahead = read.counted_ahead; ahead = l.uncounted.1 ∙ read.ahead });
       };
     }
 
@@ -90,6 +90,6 @@ cut_run-last start now new text held before taken taken' handled c some same l =
 
 -- a line that was carried out, and whose answer was cut
 pub cut_line : (memory : Bool) (old new : State) (line before after told : List ℕ) → told ≡ answer memory old.records line → IsCut before after told
-    → new.records ≡ left_by memory old.records line → (memory ≡ true → LineMayRefuse old.records line) → new.reads ≡ old.reads → IsCutLine old line before after new
+    → new.records ≡ left_by memory old.records line → (memory ≡ true → LineMayRefuse old.records line) → (new.reads ≡ old.reads) × (new.ahead ≡ old.ahead) → IsCutLine old line before after new
 cut_line memory old new line before after told is cut left lawful same =
     record { memory = memory; lawful = lawful; told = cut_same before after told (answer memory old.records line) is cut; left = left; uncounted = same }

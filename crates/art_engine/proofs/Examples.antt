@@ -3,7 +3,7 @@ use Rattle.std.proofs.Common.{◌≡◌, ℕ, ◌<◌, List, [], ◌∷◌, ◌+
 use Rattle.std.specs.Prelude.{codes, flat_map, replicate, Some, None, IsTrue}
 use Rattle.art_lines.specs.Lines.{lines_of, whole_lines_of, unfinished_line_of, lines_so_far}
 use Rattle.art_lines.specs.Words.{name, natural, signed, bytes, shown, line_of}
-use Rattle.art_lines.specs.Commands.{put, get, nget, drop, of_tenant, dump, Spells, list}
+use Rattle.art_lines.specs.Commands.{span, put, get, nget, drop, of_tenant, dump, Spells, list}
 use Rattle.art_lines.specs.Reading.{command_of, natural_in, tenant_in, number_in, bytes_in}
 use Rattle.art_bytes.specs.Keys.{is_below, conflicts}
 use Rattle.art_lines.specs.Keys.{full_key}
@@ -11,6 +11,7 @@ use Rattle.art_engine.specs.Keys.{number_key_of, number_of_bytes, full_key_of}
 use Rattle.art_engine.specs.Counts.{exactly, listing, visits_of, path_nodes, fronts_shared, IsCount}
 use Rattle.art_engine.specs.Records.{KeyRecord, KeyFits, Records, no_records, own, with_own}
 use Rattle.art_engine.specs.State.{at_first, unread}
+use Rattle.art_engine.specs.Ahead.{most_ahead}
 use Rattle.art_engine.specs.Replies.{reply_to, records_after, dump_of, audit_lines}
 use Rattle.art_engine.specs.Refusals.{MayRefuse, LineMayRefuse}
 use Rattle.art_engine.specs.Outcome.{outcome_of, IsLawful}
@@ -284,14 +285,14 @@ no_count : IsCount false no_records (codes "put 1 0a 61") 0
 unfolding one_record IsLawful outcome_of whole_lines_of unfinished_line_of reply_to records_after command_of natural_in tenant_in number_in bytes_in hex_on_literals digits
 no_count = record { within = (lit≤ tt, lit≤ tt); short = tt; own_path = tt }
 
-read_fault-behind_a_line : AfterReadFault at_first (codes "put 1 0a 61" ++ 10 ∷ codes "get 1 0") (codes "new" ++ 10 ∷ []) (record { records = one_record; reads = 0 ∷ [] })
+read_fault-behind_a_line : AfterReadFault at_first (codes "put 1 0a 61" ++ 10 ∷ codes "get 1 0") (codes "new" ++ 10 ∷ []) (record { records = one_record; reads = 0 ∷ []; ahead = 0 ∷ [] })
 unfolding one_record IsLawful outcome_of whole_lines_of unfinished_line_of reply_to records_after command_of natural_in tenant_in number_in bytes_in hex_on_literals digits
 read_fault-behind_a_line = record {
   refused = [];
   lawful = (λ no_line. absurd (false≢true no_line), tt);
   told = refl;
   left = refl;
-  counted = record { counts = 0 ∷ []; counted = (no_count, tt); reads = refl };
+  counted = record { counts = 0 ∷ []; counted = (no_count, tt); reads = refl; counts_ahead = 0 ∷ []; counted_ahead = (lit≤ tt, tt); ahead = refl };
 }
 
 write_fault-within_a_reply : AfterWriteFault at_first (codes "put 1 0a 61" ∷ codes "get 1 0a" ∷ []) (codes "ne") (unread one_record)
@@ -307,7 +308,7 @@ write_fault-within_a_reply = record {
   told = refl;
   cut = refl;
   left = refl;
-  counted = record { counts = []; counted = tt; reads = refl };
+  counted = record { counts = []; counted = tt; reads = refl; counts_ahead = []; counted_ahead = tt; ahead = refl };
 }
 
 -- one byte of three was taken, behind another
@@ -322,7 +323,7 @@ line-cut_at_once = record {
   lawful = λ no_memory. absurd (false≢true no_memory);
   told = record { begun = []; missing = codes "new" ++ 10 ∷ []; is_cut = λ e. cc; parts = refl; told = refl };
   left = refl;
-  uncounted = refl;
+  uncounted = (refl, refl);
 }
 
 -- Records: a key is bytes, so that no record has 256 in its key.
@@ -358,3 +359,18 @@ path-of_its_own = refl
 
 shares-one_front : fronts_shared (λ r. r.tenant) 1 of_two.keys ≡ 1
 shares-one_front = refl
+
+-- What is read ahead of a line: six nodes at most of a key of one byte, and none of bounds out of order, of a line that is
+-- bad or of one that puts.
+
+ahead-of_a_key : most_ahead (Some (of_tenant 1 (get (170 ∷ [])))) ≡ 6
+ahead-of_a_key = refl
+
+ahead-of_a_tenant : most_ahead (Some (of_tenant 1 (list []))) ≡ 5
+ahead-of_a_tenant = refl
+
+ahead-of_bounds : most_ahead (Some (of_tenant 1 (span (2 ∷ []) (1 ∷ [])))) ≡ 0
+ahead-of_bounds = refl
+
+ahead-of_a_bad_line : most_ahead None ≡ 0
+ahead-of_a_bad_line = refl

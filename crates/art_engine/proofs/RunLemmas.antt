@@ -2,8 +2,10 @@
 use Rattle.std.proofs.Common.{◌≡◌, ℕ, suc, ◌+◌, ◌<◌, ◌≤◌, List, [], ◌∷◌, ◌++◌, length, refl, ap, sym, ◌∙◌, subst, Bool, true, false, arith, append_assoc, append-nil, add-zero, zero-add, add-one, length-append}
 use Rattle.std.specs.Prelude.{◌==◌, ◌||◌, IsTrue}
 use Rattle.std.proofs.lemmas.Bool.{ne_eqb, eq-eqb, true≢false}
+use Rattle.art_engine.specs.Ahead.{most_ahead, AreReadAhead}
 use Rattle.art_engine.specs.Counts.{IsCount}
 use Rattle.art_engine.specs.Records.{Records}
+use Rattle.art_lines.specs.Reading.{command_of}
 use Rattle.art_engine.specs.Refusals.{LineMayRefuse}
 use Rattle.art_engine.specs.Progress.{AllBelow, Ran}
 use Rattle.art_engine.specs.Outcome.{is_refused, answer, left_by, answers_from, records_from, IsLawfulFrom, AreCountsFrom, HaveRead, outcome_of, IsLawful}
@@ -151,26 +153,42 @@ outcome-with_place start ls refused false = refl
 -- what lines have read that were counted, whether the next one finds no memory or does
 pub have_read-with_place : (start now : State) (ls : List (List ℕ)) (refused : List ℕ) (memory : Bool) → HaveRead start ls refused now → HaveRead start ls (with_place memory refused (length ls)) now
 have_read-with_place start now ls refused true h =
-    record { counts = h.counts; counted = AreCountsFrom-more 0 start.records ls refused h.counts (length ls) (omega arith) h.counted; reads = h.reads }
+    record {
+      counts = h.counts;
+      counted = AreCountsFrom-more 0 start.records ls refused h.counts (length ls) (omega arith) h.counted;
+      reads = h.reads;
+      counts_ahead = h.counts_ahead;
+      counted_ahead = h.counted_ahead;
+      ahead = h.ahead;
+    }
 have_read-with_place start now ls refused false h = h
 
 pub have_read-none : (start : State) → HaveRead start [] [] start
-have_read-none start = record { counts = []; counted = tt; reads = sym (append-nil start.reads) }
+have_read-none start = record { counts = []; counted = tt; reads = sym (append-nil start.reads); counts_ahead = []; counted_ahead = tt; ahead = sym (append-nil start.ahead) }
 
--- A line that was carried out, and what it has read is counted.
+-- A line that was carried out, and what it has read is counted, as is what was read ahead of it.
 pub record IsLineDone (memory : Bool) (old : State) (line : List ℕ) (new : State) : Type 0 where
   pub lawful : memory ≡ true → LineMayRefuse old.records line
   pub left : new.records ≡ left_by memory old.records line
   pub visits : ℕ
   pub count : IsCount memory old.records line visits
   pub reads : new.reads ≡ old.reads ++ visits ∷ []
+  pub count_ahead : ℕ
+  pub few : count_ahead ≤ most_ahead (command_of line)
+  pub ahead : new.ahead ≡ old.ahead ++ count_ahead ∷ []
 
-pub have_read-more : (start now new : State) (ls : List (List ℕ)) (refused written : List ℕ) (memory : Bool) (l : List ℕ) (n : ℕ)
+AreReadAhead-snoc : (ls : List (List ℕ)) (l : List ℕ) (counts : List ℕ) (n : ℕ) → AreReadAhead ls counts → n ≤ most_ahead (command_of l) → AreReadAhead (ls ++ l ∷ []) (counts ++ n ∷ [])
+AreReadAhead-snoc [] l [] n h few = (few, tt)
+AreReadAhead-snoc [] l (m ∷ counts) n h few = absurd h
+AreReadAhead-snoc (k ∷ ls) l [] n h few = absurd h
+AreReadAhead-snoc (k ∷ ls) l (m ∷ counts) n h few = (h.0, AreReadAhead-snoc ls l counts n h.1 few)
+
+pub have_read-more : (start now new : State) (ls : List (List ℕ)) (refused written : List ℕ) (memory : Bool) (l : List ℕ) (n m : ℕ)
     → Ran start.records ls refused written now.records → HaveRead start ls refused now
-    → IsCount memory now.records l n → new.reads ≡ now.reads ++ n ∷ []
+    → IsCount memory now.records l n → new.reads ≡ now.reads ++ n ∷ [] → m ≤ most_ahead (command_of l) → new.ahead ≡ now.ahead ++ m ∷ []
     → HaveRead start (ls ++ l ∷ []) (with_place memory refused (length ls)) new
 unfolding outcome_of
-have_read-more start now new ls refused written true l n ran h count grew =
+have_read-more start now new ls refused written true l n m ran h count grew few ahead =
     let k : ℕ = length ls in let more : List ℕ = refused ++ k ∷ [] in
     let same : 0 + k ≡ k = zero-add k in let all : 0 + k ≤ k = omega arith in
     let itself : is_refused more (0 + k) ≡ true = ap (is_refused more) same ∙ among-itself refused k in
@@ -181,8 +199,11 @@ have_read-more start now new ls refused written true l n ran h count grew =
       counts = h.counts ++ n ∷ [];
       counted = AreCountsFrom-snoc 0 start.records ls l more h.counts n before here;
       reads = grew ∙ ap (λ t. t ++ n ∷ []) h.reads ∙ append_assoc start.reads h.counts (n ∷ []);
+      counts_ahead = h.counts_ahead ++ m ∷ [];
+      counted_ahead = AreReadAhead-snoc ls l h.counts_ahead m h.counted_ahead few;
+      ahead = ahead ∙ ap (λ t. t ++ m ∷ []) h.ahead ∙ append_assoc start.ahead h.counts_ahead (m ∷ []);
     }
-have_read-more start now new ls refused written false l n ran h count grew =
+have_read-more start now new ls refused written false l n m ran h count grew few ahead =
     let k : ℕ = length ls in let same : 0 + k ≡ k = zero-add k in
     let none : is_refused refused (0 + k) ≡ false = ap (is_refused refused) same ∙ fresh refused k ran.below in
     let left : records_from 0 start.records ls refused ≡ now.records = sym ran.left in
@@ -191,4 +212,7 @@ have_read-more start now new ls refused written false l n ran h count grew =
       counts = h.counts ++ n ∷ [];
       counted = AreCountsFrom-snoc 0 start.records ls l refused h.counts n h.counted here;
       reads = grew ∙ ap (λ t. t ++ n ∷ []) h.reads ∙ append_assoc start.reads h.counts (n ∷ []);
+      counts_ahead = h.counts_ahead ++ m ∷ [];
+      counted_ahead = AreReadAhead-snoc ls l h.counts_ahead m h.counted_ahead few;
+      ahead = ahead ∙ ap (λ t. t ++ m ∷ []) h.ahead ∙ append_assoc start.ahead h.counts_ahead (m ∷ []);
     }

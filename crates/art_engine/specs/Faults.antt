@@ -32,4 +32,4 @@ pub record IsCutLine (old : State) (line before after : List ℕ) (new : State) 
   pub lawful : memory ≡ true → LineMayRefuse old.records line
   pub told : IsCut before after (answer memory old.records line)
   pub left : new.records ≡ left_by memory old.records line
-  pub uncounted : new.reads ≡ old.reads
+  pub uncounted : (new.reads ≡ old.reads) × (new.ahead ≡ old.ahead)

@@ -1,6 +1,7 @@
 pub mod Keys
 pub mod Records
 pub mod State
+pub mod Ahead
 pub mod Replies
 pub mod Refusals
 pub mod Outcome

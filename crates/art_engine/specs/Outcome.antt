@@ -2,6 +2,7 @@
 use Rattle.std.specs.Prelude.{◌≡◌, ℕ, suc, ◌==◌, Bool, true, false, IsTrue, List, [], ◌∷◌, ◌++◌, codes}
 use Rattle.std.specs.List.{list_any}
 use Rattle.art_lines.specs.Words.{name, line_of}
+use Rattle.art_engine.specs.Ahead.{AreReadAhead}
 use Rattle.art_engine.specs.Counts.{IsCount}
 use Rattle.art_engine.specs.Records.{Records}
 use Rattle.art_engine.specs.Replies.{reply_to, records_after}
@@ -65,11 +66,15 @@ outcome_of records lines refused = record {
 unfoldable pub IsLawful : Records → List (List ℕ) → List ℕ → Type 0
 IsLawful records lines refused = IsLawfulFrom 0 records lines refused
 
--- Some lines have read so many nodes, each of them counted behind what was read before.
+-- Some lines have read so many nodes, each of them counted behind what was read before. So is what was read ahead of
+-- them.
 pub record HaveRead (start : State) (lines : List (List ℕ)) (refused : List ℕ) (now : State) : Type 0 where
   pub counts : List ℕ
   pub counted : AreCountsFrom 0 start.records lines refused counts
   pub reads : now.reads ≡ start.reads ++ counts
+  pub counts_ahead : List ℕ
+  pub counted_ahead : AreReadAhead lines counts_ahead
+  pub ahead : now.ahead ≡ start.ahead ++ counts_ahead
 
 -- From the records at the start, some lines were answered by this and left these records, for some lawful refused
 -- positions, and so many nodes were read by each.

@@ -4,7 +4,7 @@ use Rattle.std.specs.Prelude.{length, map, filter, flat_map, codes, Option, Some
 use Rattle.std.specs.List.{list_any, find}
 use Rattle.std.specs.Str.{bytes_eq}
 use Rattle.std.specs.Ordering.{int_eq}
-use Rattle.art_lines.specs.Words.{Word, name, natural, bytes, line_of}
+use Rattle.art_lines.specs.Words.{Word, name, natural, line_of}
 use Rattle.art_lines.specs.Commands.{Request, put, over, del, get, find as find_front, list, span}
 use Rattle.art_lines.specs.Commands.{nput, nget, ndel, nspan, drop}
 use Rattle.art_lines.specs.Commands.{Command, of_tenant, dump, audit, put_words, nput_words}

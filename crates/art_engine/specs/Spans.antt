@@ -1,13 +1,12 @@
 -- What a reader of the records' map reads, and what is left of a span of it.
-use Rattle.std.specs.Prelude.{◌≡◌, ℕ, ◌+◌, ◌-◌, ◌^◌, ◌<◌, ◌≤◌, ℤ, FitsSigned, List, ◌∷◌, length, drop}
+use Rattle.std.specs.Prelude.{ℕ, ◌+◌, ◌^◌, ◌<◌, ◌≤◌, ℤ, FitsSigned, List, ◌∷◌, length, drop}
 use Rattle.std.specs.Prelude.{Option, Some, None}
 use Rattle.std.specs.Global.{Vec}
 use Rattle.std.specs.Int.{w64}
 use Rattle.art_arena.specs.arena.Arena.{Arena}
-use Rattle.art_arena.proofs.shapes.Measures.{slots_of}
 use Rattle.art_walks.specs.MapReads.{ReadMap, ReadsPairs}
 use Rattle.art_walks.specs.Runs.{Ends}
-use Rattle.art_walks.specs.Walked.{pairs_along, run_length, start_of}
+use Rattle.art_walks.specs.Walked.{pairs_left}
 use Rattle.art_lines.specs.Words.{line_of}
 use Rattle.art_engine.specs.Keys.{number_of_bytes}
 use Rattle.art_lines.specs.ReplyWords.{pair_words, number_words}
@@ -32,7 +31,7 @@ pending (Some x) rest = x ∷ rest
 
 -- the pairs that a span has still to give
 abbrev pub span_pairs : {K V : Type 0} → Arena K V → Ends → List (K × V)
-span_pairs arena ends = pairs_along (run_length (slots_of arena) arena ends) arena (start_of ends)
+span_pairs arena ends = pairs_left arena ends
 
 -- a pair without its tenant
 abbrev pub own_pair : Pair → List ℕ × List ℕ

@@ -1,10 +1,10 @@
 //! An index, and what a line does to it.
 ghost use Rattle.std.specs.Prelude.{◌≡◌, ◌+◌, ◌<◌, ◌∷◌, [], ◌++◌, map, take, OnErr, IfOk, IfErr, is_err, true};
-ghost use Rattle.std.specs.Prelude.{false, Some, None, flat_map};
+ghost use Rattle.std.specs.Prelude.{option_map, false, Some, None, flat_map};
 ghost use Rattle.art_lines.specs.Words.{line_of};
 ghost use Rattle.art_engine.specs.Counts.{IsWithin, line_visits, visits_of};
 ghost use Rattle.art_lines.specs.Writes.{Writes};
-ghost use Rattle.art_lines.specs.Parsed.{looks_up};
+ghost use Rattle.art_lines.specs.Parsed.{looks_up, command_with};
 ghost use Rattle.art_engine.specs.Replies.{command_reply};
 ghost use Rattle.art_engine.specs.Stored.{all_records_of, ArePairs, AreNumberPairs};
 
@@ -55,7 +55,8 @@ pub struct Handled {
     pub visits: u64,
 }
 
-/// The records of all tenants. For proofs alone, it also keeps how many nodes each line has read.
+/// The records of all tenants. For proofs alone, it also keeps how many nodes each line has read, and how many were
+/// read ahead of it.
 ///
 /// ```
 /// let mut index: Index<16> = Index::new(rt.alloc());
@@ -69,8 +70,8 @@ pub struct Index<const PREFIX_LEN: usize> {
     alloc: Global,
     records: TreeMap<Vec<u8>, Vec<u8>, PREFIX_LEN>,
     numbers: TreeMap<[u8; NUMBER_KEY], Vec<u8>, PREFIX_LEN>,
-    fields: Fields,
     reads: Reads,
+    ahead: Reads,
 }
 
 impl<const PREFIX_LEN: usize> Model for Index<PREFIX_LEN> {
@@ -80,7 +81,11 @@ impl<const PREFIX_LEN: usize> Model for Index<PREFIX_LEN> {
 
     ghost use Rattle.art_engine.specs.Stored.{all_records_of, ArePairs, AreNumberPairs};
 
-    ghost view = { λ s. record { records = all_records_of s.records.pairs s.numbers.pairs; reads = s.reads.counts } };
+    ghost view = { λ s. record {
+      records = all_records_of s.records.pairs s.numbers.pairs;
+      reads = s.reads.counts;
+      ahead = s.ahead.counts;
+    } };
 
     ghost invariant = { λ s. ArePairs s.records.pairs × AreNumberPairs s.numbers.pairs };
 }
@@ -113,8 +118,8 @@ impl<const PREFIX_LEN: usize> Index<PREFIX_LEN> {
             alloc,
             records: TreeMap::with_prefix_len(alloc),
             numbers: TreeMap::with_prefix_len(alloc),
-            fields: Fields::new(),
             reads: Reads::new(),
+            ahead: Reads::new(),
         }
     }
 
@@ -142,8 +147,8 @@ impl<const PREFIX_LEN: usize> Index<PREFIX_LEN> {
             alloc,
             records: byte_map,
             numbers: number_map,
-            fields: Fields::new(),
             reads: Reads::new(),
+            ahead: Reads::new(),
         }
     }
 
@@ -216,18 +221,29 @@ impl<const PREFIX_LEN: usize> Index<PREFIX_LEN> {
         ensures own_path { IfOk result (λ done. ReadsOwnPath (command_of line.now) self.old.records done.visits) }
         ensures counted { IfOk result (λ done. self.new.reads ≡ self.old.reads ++ done.visits ∷ []) }
 
+        // Nothing is read ahead of it.
+        ensures ahead { IfOk result (λ done. self.new.ahead ≡ self.old.ahead ++ 0 ∷ []) }
+
         ensures err { IfErr result (λ fault. fault ≡ RunFault.Write) }
         ensures failed { is_err result ≡ W.has_failed sink.new }
         ensures cut { OnErr result (IsCutLine self.old line.now (W.taken sink.old) (W.taken sink.new) self.new) }
     {
-        let handled = self.answer(line, sink)?;
-        self.reads = self.reads.then(&handled);
-        Ok(handled)
+        let mut fields = Fields::new();
+        let word = read_line(line, &mut fields);
+        self.carry_out(line, word, &fields, 0, sink)
     }
 
-    // Carries out one line as `handle` does, and doesn't count what was read.
-    fn answer<W: Sink>(&mut self, line: &[u8], sink: &mut W) -> Result<Handled, RunFault>
-        requires { W.has_failed sink.old ≡ false }
+    /// Carries out one line as `handle` does, whose word and fields were read, as were so many nodes ahead of it.
+    pub(crate) fn carry_out<W: Sink>(
+        &mut self,
+        line: &[u8],
+        word: Option<Word>,
+        fields: &Fields,
+        ahead: u64,
+        sink: &mut W,
+    ) -> Result<Handled, RunFault>
+        requires open { W.has_failed sink.old ≡ false }
+        requires read { option_map (λ word. command_with word fields.now) word ≡ command_of line.now }
         ensures told { IfOk result (λ done.
             W.taken sink.new ≡ W.taken sink.old ++ answer done.memory self.old.records line.now) }
         ensures left { IfOk result (λ done. self.new.records ≡ left_by done.memory self.old.records line.now) }
@@ -236,16 +252,49 @@ impl<const PREFIX_LEN: usize> Index<PREFIX_LEN> {
             IsWithin (line_visits done.memory line.now self.old.records) done.visits) }
         ensures short { IfOk result (λ done. IsShort (command_of line.now) done.visits) }
         ensures own_path { IfOk result (λ done. ReadsOwnPath (command_of line.now) self.old.records done.visits) }
-        ensures uncounted { self.new.reads ≡ self.old.reads }
+        ensures counted { IfOk result (λ done. self.new.reads ≡ self.old.reads ++ done.visits ∷ []) }
+        ensures ahead { IfOk result (λ done. self.new.ahead ≡ self.old.ahead ++ ahead ∷ []) }
         ensures err { IfErr result (λ fault. fault ≡ RunFault.Write) }
         ensures failed { is_err result ≡ W.has_failed sink.new }
         ensures cut { OnErr result (IsCutLine self.old line.now (W.taken sink.old) (W.taken sink.new) self.new) }
     {
+        let handled = self.answer(line, word, fields, sink)?;
+        self.reads = self.reads.then(&handled);
+        self.ahead = self.ahead.then(&Handled {
+            memory: false,
+            visits: ahead,
+        });
+        Ok(handled)
+    }
+
+    // Carries out a line as `carry_out` does, and doesn't count what was read.
+    fn answer<W: Sink>(
+        &mut self,
+        _line: &[u8],
+        word: Option<Word>,
+        fields: &Fields,
+        sink: &mut W,
+    ) -> Result<Handled, RunFault>
+        requires open { W.has_failed sink.old ≡ false }
+        requires read { option_map (λ word. command_with word fields.now) word ≡ command_of _line.now }
+        ensures told { IfOk result (λ done.
+            W.taken sink.new ≡ W.taken sink.old ++ answer done.memory self.old.records _line.now) }
+        ensures left { IfOk result (λ done. self.new.records ≡ left_by done.memory self.old.records _line.now) }
+        ensures lawful { IfOk result (λ done. done.memory ≡ true → LineMayRefuse self.old.records _line.now) }
+        ensures visits { IfOk result (λ done.
+            IsWithin (line_visits done.memory _line.now self.old.records) done.visits) }
+        ensures short { IfOk result (λ done. IsShort (command_of _line.now) done.visits) }
+        ensures own_path { IfOk result (λ done. ReadsOwnPath (command_of _line.now) self.old.records done.visits) }
+        ensures uncounted { (self.new.reads ≡ self.old.reads) × (self.new.ahead ≡ self.old.ahead) }
+        ensures err { IfErr result (λ fault. fault ≡ RunFault.Write) }
+        ensures failed { is_err result ≡ W.has_failed sink.new }
+        ensures cut { OnErr result (IsCutLine self.old _line.now (W.taken sink.old) (W.taken sink.new) self.new) }
+    {
         let (mut memory, mut visits) = (false, 0);
-        match read_line(line, &mut self.fields) {
+        match word {
             Some(Word::LookUp(word)) => {
                 let readers = Readers::of(&self.records, &self.numbers);
-                visits = look_in(readers, word, &self.fields, sink)?;
+                visits = look_in(readers, word, fields, sink)?;
             }
             Some(Word::Change(word)) => {
                 let done = change(
@@ -253,13 +302,13 @@ impl<const PREFIX_LEN: usize> Index<PREFIX_LEN> {
                     &mut self.records,
                     &mut self.numbers,
                     word,
-                    &self.fields,
+                    fields,
                 );
                 memory = done.is_memory();
                 write_placed(sink, &done)?;
             }
             Some(Word::Drop) => {
-                let dropped = drop_tenant(&mut self.records, &mut self.numbers, &self.fields);
+                let dropped = drop_tenant(&mut self.records, &mut self.numbers, fields);
                 memory = dropped.is_memory();
                 visits = dropped.visits();
                 write_dropped(sink, dropped)?;

@@ -38,7 +38,7 @@ pub fn run<S: Source, W: Sink, const PREFIX_LEN: usize>(
     requires sink_open { W.has_failed sink.old ≡ false }
 
     // Where it answers Ok, the source has ended, and what was written is the replies to the lines of the text given.
-    // What each line has read of the trees is counted.
+    // What each line has read of the trees is counted, and so is what was read ahead of it.
     ensures ended { OnOk result (S.has_ended source.new ≡ true) }
     ensures outcome { OnOk result ((text written : List ℕ)
         × (S.given source.new ≡ S.given source.old ++ text)
@@ -63,7 +63,7 @@ pub fn run<S: Source, W: Sink, const PREFIX_LEN: usize>(
 {
     let mut held: ArrayVec<u8, HELD> = ArrayVec::new();
     let mut room = PieceRoom::new(index.alloc());
-    let mut upcoming = Upcoming::new();
+    let mut upcoming = Upcoming::new(index.alloc());
     'reads: loop {
         sink.send();
         let buf = room.as_mut_slice();
@@ -76,6 +76,7 @@ pub fn run<S: Source, W: Sink, const PREFIX_LEN: usize>(
         feed(index, &mut held, &mut upcoming, &buf[..n], sink)?;
     }
     drop(room);
+    drop(upcoming);
     if !held.is_empty() {
         index.handle(held.as_slice(), sink)?;
     }
@@ -103,18 +104,19 @@ fn feed<W: Sink, const PREFIX_LEN: usize>(
 {
     let mut rest = piece;
     'lines: while let Some(at) = memchr(b'\n', rest) {
-        upcoming.step(index.byte_map(), index.number_map(), rest);
-        finish(index, held, &rest[..at], sink)?;
+        finish(index, held, upcoming, rest, &rest[..at], sink)?;
         rest = &rest[at + 1..];
     }
     hold(held, rest);
     Ok(())
 }
 
-/// Carries out the line that is held and then ends with the part.
+/// Carries out the line that is held and then ends with the part, with which the rest of the piece begins.
 fn finish<W: Sink, const PREFIX_LEN: usize>(
     index: &mut Index<PREFIX_LEN>,
     held: &mut ArrayVec<u8, HELD>,
+    upcoming: &mut Upcoming,
+    rest: &[u8],
     part: &[u8],
     sink: &mut W,
 ) -> Result<(), RunFault>
@@ -131,7 +133,8 @@ fn finish<W: Sink, const PREFIX_LEN: usize>(
     ensures failed { is_err result ≡ W.has_failed sink.new }
 {
     if held.is_empty() {
-        index.handle(part, sink)?;
+        let asked = upcoming.next(index.byte_map(), index.number_map(), rest, part);
+        index.carry_out(part, asked.word, asked.fields, asked.ahead, sink)?;
         return Ok(());
     }
     hold(held, part);

@@ -1,5 +1,5 @@
-//! What no clause says: the ways of the lines that look a key up are gone to its leaf, and lines are read ahead by
-//! groups, for a map that is large enough.
+//! What no clause says: the ways of lines are gone to their leaves and no further, lines are read ahead by groups for a
+//! map that is large enough, and not for a while where it doesn't pay.
 ghost use Rattle.std.specs.Prelude.{◌≤◌};
 
 use crate::ahead::is_filled;
@@ -22,46 +22,39 @@ fn put_line(text: &mut Text, word: &[u8], number: u64) {
     let _ = text.try_extend_from_slice(b"\n");
 }
 
-/// How many of the ways end at the leaf of their key.
-fn count_reached<const PREFIX_LEN: usize>(
-    upcoming: &Upcoming,
+/// How many nodes the path of such a key has.
+fn path_nodes<const PREFIX_LEN: usize>(
     map: &TreeMap<Vec<u8>, Vec<u8>, PREFIX_LEN>,
-) -> usize {
-    let (arena, _) = map.nodes();
-    let mut reached: usize = 0;
-    for at in 0..LINES {
-        if at >= upcoming.len() {
-            break;
-        }
-        if let Some((front, leaf)) = upcoming.reached(at) {
-            if arena.holds(leaf.to_opaque()) {
-                let (key, _) = arena.as_key_value_ref(leaf);
-                reached = reached.saturating_add(usize::from(key.as_slice() == front));
-            }
-        }
-    }
-    reached
+    number: u64,
+) -> u64 {
+    let mut key = [7; 12];
+    key[4..].copy_from_slice(&number.to_be_bytes());
+    let mut reader = map.reader();
+    let _ = reader.get_key_value(&key);
+    reader.visits()
 }
 
-/// Whether the ways of ten lines, or of as many as there are keys, end at the leaves of their keys. Of a line that puts
-/// and of one that asks for nothing no way is gone.
+/// Whether the ways of ten lines, or of as many as there are keys, end at leaves, and have the nodes of their keys'
+/// paths. Of a line that puts and of one that asks for nothing no node is read.
 fn do_ways_end<const PREFIX_LEN: usize>(
+    alloc: Global,
     map: &TreeMap<Vec<u8>, Vec<u8>, PREFIX_LEN>,
     numbers: &TreeMap<[u8; NUMBER_KEY], Vec<u8>, PREFIX_LEN>,
     count: u64,
     factor: u64,
 ) -> bool {
-    let mut text = Text::new();
-    put_line(&mut text, b"put", 0);
-    for number in 0..count {
-        put_line(&mut text, b"get", number.wrapping_mul(factor));
+    let (mut text, mut nodes) = (Text::new(), 0_u64);
+    for word in [b"put".as_slice(), b"nput", b"got", b"drop"] {
+        put_line(&mut text, word, 0);
     }
-    put_line(&mut text, b"got", 0);
-    let mut upcoming = Upcoming::new();
+    for at in 0..count {
+        let number = at.wrapping_mul(factor);
+        put_line(&mut text, b"get", number);
+        nodes = nodes.saturating_add(path_nodes(map, number));
+    }
+    let mut upcoming = Upcoming::new(alloc);
     upcoming.read_maps(map, numbers, 0, text.as_slice());
-    upcoming.len() as u64 == count
-        && upcoming.left() as u64 == count.saturating_add(1)
-        && count_reached(&upcoming, map) == upcoming.len()
+    upcoming.leaves() as u64 == count && upcoming.nodes() == nodes
 }
 
 /// Of a map: how many keys, and their factor.
@@ -84,7 +77,7 @@ fn is_row_gone<const PREFIX_LEN: usize>(
     let (count, factor) = row;
     let mut map: TreeMap<Vec<u8>, Vec<u8>, PREFIX_LEN> = TreeMap::with_prefix_len(alloc);
     is_filled(alloc, &mut map, count, factor, 4)
-        && do_ways_end(&map, numbers, count.min(10), factor)
+        && do_ways_end(alloc, &map, numbers, count.min(10), factor)
 }
 
 /// Puts so many numbers of a tenant, each a thousand after the one before.
@@ -101,40 +94,86 @@ fn fill_numbers<const PREFIX_LEN: usize>(
     }
 }
 
-/// Whether of five lines under numbers those are read ahead that look one up and are spelled right.
-fn are_numbers_taken<const PREFIX_LEN: usize>(
-    map: &TreeMap<Vec<u8>, Vec<u8>, PREFIX_LEN>,
+/// Lines of tenants, how many leaves are reached ahead of them, and how many nodes are read. Tenant 5 has 300 numbers,
+/// and tenant 117901063 a chain of keys.
+type Row = (&'static [u8], usize, u64);
+
+const LINE_ROWS: [Row; 4] = [
+    (
+        b"nget 5 7000\nndel 5 0\nnput 5 7 -\nnspan 5 9000 99000\nnget 5 01\n",
+        3,
+        9,
+    ),
+    (
+        b"span 5 02 01\nnspan 5 2 1\nlist 5\nget 5 0\nGET 5 00\nfind 5  00\n",
+        0,
+        0,
+    ),
+    (b"dump\naudit\nput 5 00 00\ndrop 5\nnput 5 2 00\n", 0, 0),
+    (
+        b"list 5 -\nlist 5 0707\nget 5 -\nget 5 070707070707\n",
+        0,
+        4,
+    ),
+];
+
+/// Whether so many leaves are reached ahead of each of these, and no other tenant's part is gone into.
+fn are_lines_read<const PREFIX_LEN: usize>(
+    alloc: Global,
+    chain: &TreeMap<Vec<u8>, Vec<u8>, PREFIX_LEN>,
     numbers: &TreeMap<[u8; NUMBER_KEY], Vec<u8>, PREFIX_LEN>,
 ) -> bool {
-    let text = b"nget 5 7000\nndel 5 0\nnput 5 7 -\nnspan 5 9000 99000\nnget 5 01\n";
-    let mut upcoming = Upcoming::new();
-    upcoming.read_maps(map, numbers, 0, text);
-    upcoming.len() == 3
+    let mut are_read = true;
+    for (text, leaves, nodes) in LINE_ROWS {
+        let mut upcoming = Upcoming::new(alloc);
+        upcoming.read_maps(chain, numbers, 0, text);
+        are_read &= upcoming.leaves() == leaves && upcoming.nodes() == nodes;
+    }
+    are_read
 }
 
-/// Whether lines are read ahead by groups once there are enough records, and their ways are gone.
+/// How many of so many lines `get` are read ahead, which are fed one by one. Their numbers follow a first one.
+fn count_ahead<const PREFIX_LEN: usize>(
+    upcoming: &mut Upcoming,
+    map: &TreeMap<Vec<u8>, Vec<u8>, PREFIX_LEN>,
+    numbers: &TreeMap<[u8; NUMBER_KEY], Vec<u8>, PREFIX_LEN>,
+    first: u64,
+    count: u64,
+) -> u64 {
+    let mut ahead: u64 = 0;
+    let mut text = Text::new();
+    for at in 0..count {
+        if at % 16 == 0 {
+            text.clear();
+            for next in at..at.saturating_add(16).min(count) {
+                put_line(&mut text, b"get", first.wrapping_add(next));
+            }
+        }
+        let behind = text
+            .as_slice()
+            .get((at % 16) as usize * 31..)
+            .unwrap_or_default();
+        let line = behind.get(..30).unwrap_or_default();
+        let asked = upcoming.next(map, numbers, behind, line);
+        ahead = ahead.saturating_add(u64::from(asked.ahead > 0 && asked.word.is_some()));
+    }
+    ahead
+}
+
+/// Whether lines are read ahead by groups once there are enough records, and not for 128 lines once it doesn't pay.
 fn are_grouped<const PREFIX_LEN: usize>(
     alloc: Global,
     map: &mut TreeMap<Vec<u8>, Vec<u8>, PREFIX_LEN>,
     numbers: &TreeMap<[u8; NUMBER_KEY], Vec<u8>, PREFIX_LEN>,
 ) -> bool {
-    let mut text = Text::new();
-    for number in 0..20 {
-        put_line(&mut text, b"get", number);
-    }
-    let mut upcoming = Upcoming::new();
-    upcoming.step(map, numbers, text.as_slice());
-    let mut are_grouped = upcoming.len() == 0 && is_filled(alloc, map, FEW as u64, 1, 4);
-    for left in [15, 14, 13] {
-        upcoming.step(map, numbers, text.as_slice());
-        are_grouped &= upcoming.left() == left && upcoming.len() == LINES;
-    }
-    are_grouped &= count_reached(&upcoming, map) == LINES;
-    for _ in 0..13 {
-        upcoming.step(map, numbers, text.as_slice());
-    }
-    upcoming.step(map, numbers, b"get 117901063 00\nget");
-    are_grouped && upcoming.left() == 0 && upcoming.len() == 1
+    let mut upcoming = Upcoming::new(alloc);
+    let small = count_ahead(&mut upcoming, map, numbers, 0, 20) == 0;
+    small
+        && is_filled(alloc, map, FEW as u64, 1, 4)
+        && count_ahead(&mut upcoming, map, numbers, 0, 20) == 20
+        && count_ahead(&mut upcoming, map, numbers, 0, 3) == 0
+        && count_ahead(&mut upcoming, map, numbers, FEW as u64, 16 + 128) == LINES as u64
+        && count_ahead(&mut upcoming, map, numbers, 0, 32) == 32
 }
 
 /// Whether lines are read ahead: of small maps, under numbers, and by groups of a large one.
@@ -150,7 +189,10 @@ fn are_read_ahead<const PREFIX_LEN: usize>(
         are_gone &= is_row_gone(alloc, numbers, row);
     }
     fill_numbers(alloc, numbers, 300);
-    are_gone && are_numbers_taken(map, numbers) && are_grouped(alloc, map, numbers)
+    are_gone
+        && is_filled(alloc, map, 150, 1, 4)
+        && are_lines_read(alloc, map, numbers)
+        && are_grouped(alloc, map, numbers)
 }
 
 #[test]

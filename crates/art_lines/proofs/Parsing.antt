@@ -1,6 +1,6 @@
 -- What the parser's steps say of the definitions.
 use Rattle.std.proofs.Common.{◌≡◌, ℕ, zero, suc, ◌+◌, ◌-◌, ◌*◌, ◌/◌, ◌^◌, ◌<◌, ◌≤◌, List, [], ◌∷◌, ◌++◌, length, take, drop, get_or, append_assoc, append-nil, length-append, refl, ap, sym, ◌∙◌, Bool, true, false, cond, arith, add-one, Some, None, Option, Ok, Err, Result, IsOk, OnOk, drop_of_length-le}
-use Rattle.std.specs.Prelude.{◌==◌, decimal, nat_lt, ◌&&◌, codes}
+use Rattle.std.specs.Prelude.{◌==◌, decimal, nat_lt, nat_le, ◌&&◌, codes, IfSome}
 use Rattle.std.specs.List.{onto_first}
 use Rattle.std.specs.Str.{bytes_eq}
 use Rattle.std.proofs.lemmas.Bool.{ne_eqb, eq-eqb}
@@ -10,11 +10,11 @@ use Rattle.std.specs.Prelude.{MatchBool, is_ok}
 use Rattle.std.proofs.Math.Seq.{drop-cons, take-append_seam, drop-append_seam}
 use Rattle.std.specs.Str.Parse.{digits_value, digits_value_after, AllDigits}
 use Rattle.std.specs.Char.{digit_value}
-use Rattle.std.proofs.lemmas.Bool.{lt-leb, le-leb, true≢false, cases_lt, ltb-true, lt-ltb, le-ltb}
+use Rattle.std.proofs.lemmas.Bool.{lt-leb, le-leb, leb-true, true≢false, cases_lt, ltb-true, lt-ltb, le-ltb}
 use Rattle.std.proofs.lemmas.Slice.Eq.{bytes_eq-Decides}
 use Rattle.std.proofs.lemmas.Str.Parse.{numerals_by_value, tells_digits, digit_at}
 use Rattle.std.proofs.lemmas.Fmt.{decimal_is_IsNumeral, decimal_nonempty, length-decimal-le, first_decimal, decimal_digit, decimal-digits_value}
-use Rattle.std.specs.Prelude.{option_copied, option_map, option_and_then, is_some, not, ℤ, pos, FitsSigned}
+use Rattle.std.specs.Prelude.{option_map, option_and_then, ℤ, pos, FitsSigned}
 use Rattle.std.specs.Int.{w64}
 use Rattle.std.specs.Borrow.{Bor}
 use Rattle.std.specs.Result.{OkIff, result_ok}
@@ -24,14 +24,11 @@ use Rattle.hex.proofs.HexLemmas.{decode_of-odd}
 use Rattle.std.specs.Prelude.{◌%◌}
 use Rattle.hex.specs.declared.error.FromHexError.{FromHexError}
 use Rattle.art_lines.specs.declared.command.word.Word.{Word}
-use Rattle.art_lines.specs.declared.command.word.Word.TheVariants.{LookUp, Change, Whole, Drop}
-use Rattle.art_lines.specs.declared.command.word.LookUp.TheVariants as look_up
-use Rattle.art_lines.specs.declared.command.word.Change.TheVariants as change
-use Rattle.art_lines.specs.declared.command.word.Whole.TheVariants as whole
-use Rattle.art_lines.specs.Commands.{Command, fields_of}
-use Rattle.art_lines.specs.Reading.{natural_in, tenant_in, negated, number_in, bytes_in, some_bytes, nothing_in, put_in, over_in, del_in, get_in, find_in, list_in, span_in, nput_in, nget_in, ndel_in, nspan_in, drop_in, dump_in, audit_in, command_in, command_of}
-use Rattle.art_lines.specs.Parsed.{word_in}
-use Rattle.art_lines.specs.InPlace.{fields_behind, IsRead}
+use Rattle.art_lines.specs.declared.command.word.Shape.{Shape}
+use Rattle.art_lines.specs.Commands.{fields_of}
+use Rattle.art_lines.specs.Reading.{natural_in, tenant_in, negated, number_in, bytes_in, some_bytes, command_by, command_in, command_of}
+use Rattle.art_lines.specs.Table.{called, found_among, all_words, word_in, shape_of, with_shape}
+use Rattle.art_lines.specs.InPlace.{IsRead}
 
 -- the fields_of of a line whose first space is at a place
 fields_at : (line : List ℕ) (i : ℕ) → i < length line → get_or line i 0 ≡ 32 → ((k : ℕ) → k < i → get_or line k 0 ≡ 32 → ⊥)
@@ -220,50 +217,37 @@ pub too_long : (line : List ℕ) → 4096 < length line → None ≡ command_of 
 unfolding command_of
 too_long line h = rw (lt-leb (length line) 4096 h) refl
 
--- the command that the fields behind a word make
-abbrev pub command_by : Word → List (List ℕ) → Option Command
-command_by (Change change.Put) rest = put_in rest
-command_by (Change change.Over) rest = over_in rest
-command_by (Change change.Del) rest = del_in rest
-command_by (LookUp look_up.Get) rest = get_in rest
-command_by (LookUp look_up.Find) rest = find_in rest
-command_by (LookUp look_up.List) rest = list_in rest
-command_by (LookUp look_up.Span) rest = span_in rest
-command_by (Change change.NPut) rest = nput_in rest
-command_by (Change change.NDel) rest = ndel_in rest
-command_by (LookUp look_up.NGet) rest = nget_in rest
-command_by (LookUp look_up.NSpan) rest = nspan_in rest
-command_by Drop rest = drop_in rest
-command_by (Whole whole.Dump) rest = dump_in rest
-command_by (Whole whole.Audit) rest = audit_in rest
+-- the word of a row, and its shape
+pub row_found : (o : Option Word) (w : Word) (s : Shape) → ◌≡◌ {A = Option (Word × Shape)} (Some (w, s)) (option_map with_shape o) → (Some w ≡ o) × (s ≡ shape_of w)
+row_found None w s e = cc
+row_found (Some x) w s e =
+    let row : ◌≡◌ {A = Word × Shape} (w, s) (with_shape x) = cc in
+    let same = ap (λ (r : Word × Shape). r.0) row in
+    (ap (λ y. Some y) same, ap (λ (r : Word × Shape). r.1) row ∙ ap shape_of (sym same))
 
--- the same where there may be no word
-abbrev by_option : Option Word → List (List ℕ) → Option Command
-by_option None rest = None
-by_option (Some w) rest = command_by w rest
+pub no_row : (o : Option Word) → ◌≡◌ {A = Option (Word × Shape)} None (option_map with_shape o) → None ≡ o
+no_row None e = refl
+no_row (Some x) e = cc
 
--- one word more
-by_choice : (rest : List (List ℕ)) (b : Bool) (w : Word) (o : Option Word) (others : Option Command) → others ≡ by_option o rest
-    → cond b (command_by w rest) others ≡ by_option (cond b (Some w) o) rest
-by_choice rest true w o others e = refl
-by_choice rest false w o others e = e
+-- a word has three letters at least, so what stands behind it has its bound
+abbrev are_long : List Word → Bool
+are_long [] = true
+are_long (w ∷ ws) = nat_le 3 (length (called w)) && are_long ws
 
-by_word : (word : List ℕ) (rest : List (List ℕ)) → command_in (word ∷ rest) ≡ by_option (word_in word) rest
-by_word word rest =
-    by_choice rest (bytes_eq word (codes "put")) (Change change.Put) _ _
-    (by_choice rest (bytes_eq word (codes "get")) (LookUp look_up.Get) _ _
-    (by_choice rest (bytes_eq word (codes "over")) (Change change.Over) _ _
-    (by_choice rest (bytes_eq word (codes "del")) (Change change.Del) _ _
-    (by_choice rest (bytes_eq word (codes "find")) (LookUp look_up.Find) _ _
-    (by_choice rest (bytes_eq word (codes "list")) (LookUp look_up.List) _ _
-    (by_choice rest (bytes_eq word (codes "span")) (LookUp look_up.Span) _ _
-    (by_choice rest (bytes_eq word (codes "nput")) (Change change.NPut) _ _
-    (by_choice rest (bytes_eq word (codes "nget")) (LookUp look_up.NGet) _ _
-    (by_choice rest (bytes_eq word (codes "ndel")) (Change change.NDel) _ _
-    (by_choice rest (bytes_eq word (codes "nspan")) (LookUp look_up.NSpan) _ _
-    (by_choice rest (bytes_eq word (codes "drop")) Drop _ _
-    (by_choice rest (bytes_eq word (codes "dump")) (Whole whole.Dump) _ _
-    (by_choice rest (bytes_eq word (codes "audit")) (Whole whole.Audit) None None refl)))))))))))))
+long_found : (ws : List Word) (field : List ℕ) (w : Word) → are_long ws ≡ true → Some w ≡ found_among ws field → 3 ≤ length field
+long_found [] field w long found = cc
+long_found (x ∷ ws) field w long found = go (bytes_eq field (called x)) (nat_le 3 (length (called x))) refl refl long found (long_found ws field w)
+  where
+    go : (b l : Bool) → bytes_eq field (called x) ≡ b → nat_le 3 (length (called x)) ≡ l → (l && are_long ws) ≡ true → Some w ≡ cond b (Some x) (found_among ws field)
+        → (are_long ws ≡ true → Some w ≡ found_among ws field → 3 ≤ length field) → 3 ≤ length field
+    go true true same three all found others = subst (λ (t : List ℕ). 3 ≤ length t) (sym ((bytes_eq-Decides field (called x)).0 same)) (leb-true 3 (length (called x)) three)
+    go false true same three all found others = others all found
+    go b false same three all found others = absurd (true≢false (sym all))
+
+pub fits_behind : (r : Option (Bor (List ℕ))) (field line : List ℕ) (w : Word) → Some w ≡ word_in field
+    → IfSome r (λ rest. length field + 1 + length rest.now ≡ length line) → length line ≤ 4096 → IfSome r (λ rest. length rest.now ≤ 4092)
+fits_behind None field line w found parts short = tt
+fits_behind (Some rest) field line w found parts short = let three = long_found all_words field w refl found in omega arith
 
 module _ (line word : List ℕ) (rest : List (List ℕ)) (short : length line ≤ 4096) (split : fields_of line ≡ word ∷ rest) where
   says : command_in (word ∷ rest) ≡ command_of line
@@ -272,16 +256,10 @@ module _ (line word : List ℕ) (rest : List (List ℕ)) (short : length line �
 
   -- what a word makes of the fields behind it
   pub says_word : (w : Word) → Some w ≡ word_in word → command_by w rest ≡ command_of line
-  says_word w e = ap (λ o. by_option o rest) e ∙ sym (by_word word rest) ∙ says
+  says_word w e = ap (option_and_then (λ w. command_by w rest)) e ∙ says
 
   pub says_nothing : None ≡ word_in word → None ≡ command_of line
-  says_nothing e = ap (λ o. by_option o rest) e ∙ sym (by_word word rest) ∙ says
-
-pub nothing_read : (r : Option (Bor (List ℕ))) (b : Bool) → is_some r ≡ not b → IsRead b tt (nothing_in (fields_behind (option_copied r)))
-nothing_read None true h = refl
-nothing_read None false h = cc
-nothing_read (Some w) true h = cc
-nothing_read (Some w) false h = let some = fields_some w.now in rw some.2 refl
+  says_nothing e = ap (option_and_then (λ w. command_by w rest)) e ∙ says
 
 pub bytes_dash : (text : List ℕ) → true ≡ bytes_eq text (codes "-") → Some [] ≡ bytes_in text
 unfolding bytes_in

@@ -9,11 +9,18 @@ use Rattle.std.proofs.lemmas.Fmt.{decimal_is_IsNumeral, decimal_nonempty}
 use Rattle.std.proofs.lemmas.Str.Parse.{digit_at}
 use Rattle.hex.specs.Hex.{decode_of, decode_pairs}
 use Rattle.art_lines.specs.Words.{Word, name, natural, signed, bytes, Reads}
+use Rattle.art_lines.specs.declared.command.word.Word.{Word as Called}
+use Rattle.art_lines.specs.declared.command.word.Word.TheVariants.{LookUp, Change, Whole, Drop}
+use Rattle.art_lines.specs.declared.command.word.LookUp.TheVariants as look_up
+use Rattle.art_lines.specs.declared.command.word.Change.TheVariants as change
+use Rattle.art_lines.specs.declared.command.word.Whole.TheVariants as whole
+use Rattle.art_lines.specs.declared.command.word.Shape.{Shape}
+use Rattle.art_lines.specs.declared.command.word.Shape.TheVariants.{Key, KeyAndValue, Number, NumberAndValue, TwoNumbers, Tenant, Nothing}
 use Rattle.art_lines.specs.Commands.{put, over, del, get, find, list, span, nput, nget, ndel, nspan, drop, Command, of_tenant, dump, audit, words_of, AllRead, fields_of, Spells}
+use Rattle.art_lines.specs.Table.{Behind, shape_of, made_by, called, found_among, all_words, word_in}
 use Rattle.art_lines.proofs.Parsing.{natural_is, natural_reads}
 use Rattle.art_lines.proofs.Shapes.{one_from, two_from}
-use Rattle.art_lines.specs.Reading.{natural_in, tenant_in, negated, number_in, bytes_in, some_bytes, one_in, two_in, key_in, key_and_value_in, tenant_number_in, number_and_value_in, two_numbers_in, tenant_alone_in, nothing_in}
-use Rattle.art_lines.specs.Reading.{put_in, over_in, del_in, get_in, find_in, list_in, span_in, nput_in, nget_in, ndel_in, nspan_in, drop_in, dump_in, audit_in, command_in, command_of}
+use Rattle.art_lines.specs.Reading.{natural_in, tenant_in, negated, number_in, bytes_in, some_bytes, one_in, two_in, tenant_alone_in, nothing_in, behind_in, command_by, command_in, command_of}
 
 tenant_reads : (text : List ℕ) (n : ℕ) → Reads text (natural n) → tenant_in text ≡ Some n
 unfolding tenant_in
@@ -72,21 +79,6 @@ of_bytes bs = bytes bs
 abbrev of_number : ℤ → Word
 of_number z = signed z
 
-key_reads : (fields : List (List ℕ)) (n : ℕ) (k : List ℕ) → AllRead fields (natural n ∷ bytes k ∷ []) → key_in fields ≡ Some (n, k)
-key_reads = one_reads bytes_in of_bytes bytes_reads
-
-key_and_value_reads : (fields : List (List ℕ)) (n : ℕ) (k v : List ℕ) → AllRead fields (natural n ∷ bytes k ∷ bytes v ∷ []) → key_and_value_in fields ≡ Some (n, k, v)
-key_and_value_reads = two_reads bytes_in of_bytes bytes_reads bytes_in of_bytes bytes_reads
-
-tenant_number_reads : (fields : List (List ℕ)) (n : ℕ) (z : ℤ) → AllRead fields (natural n ∷ signed z ∷ []) → tenant_number_in fields ≡ Some (n, z)
-tenant_number_reads = one_reads number_in of_number number_reads
-
-number_and_value_reads : (fields : List (List ℕ)) (n : ℕ) (z : ℤ) (v : List ℕ) → AllRead fields (natural n ∷ signed z ∷ bytes v ∷ []) → number_and_value_in fields ≡ Some (n, z, v)
-number_and_value_reads = two_reads number_in of_number number_reads bytes_in of_bytes bytes_reads
-
-two_numbers_reads : (fields : List (List ℕ)) (n : ℕ) (low high : ℤ) → AllRead fields (natural n ∷ signed low ∷ signed high ∷ []) → two_numbers_in fields ≡ Some (n, low, high)
-two_numbers_reads = two_reads number_in of_number number_reads number_in of_number number_reads
-
 tenant_alone_reads : (fields : List (List ℕ)) (n : ℕ) → AllRead fields (natural n ∷ []) → tenant_alone_in fields ≡ Some n
 tenant_alone_reads [] n h = absurd h
 tenant_alone_reads (t ∷ []) n h = tenant_reads t n h.0
@@ -96,35 +88,61 @@ nothing_reads : (fields : List (List ℕ)) → AllRead fields [] → nothing_in 
 nothing_reads [] h = refl
 nothing_reads (f ∷ fs) h = absurd h
 
-all_read : (ts : List (List ℕ)) (c : Command) → AllRead ts (words_of c) → command_in ts ≡ Some c
-all_read [] (of_tenant n (put key value)) h = absurd h
-all_read [] (of_tenant n (over key value)) h = absurd h
-all_read [] (of_tenant n (del key)) h = absurd h
-all_read [] (of_tenant n (get key)) h = absurd h
-all_read [] (of_tenant n (find key)) h = absurd h
-all_read [] (of_tenant n (list front)) h = absurd h
-all_read [] (of_tenant n (span low high)) h = absurd h
-all_read [] (of_tenant n (nput number value)) h = absurd h
-all_read [] (of_tenant n (nget number)) h = absurd h
-all_read [] (of_tenant n (ndel number)) h = absurd h
-all_read [] (of_tenant n (nspan low high)) h = absurd h
-all_read [] (of_tenant n drop) h = absurd h
-all_read [] dump h = absurd h
-all_read [] audit h = absurd h
-all_read (w ∷ fs) (of_tenant n (put key value)) h = rw (h.0, key_and_value_reads fs n key value h.1) refl
-all_read (w ∷ fs) (of_tenant n (over key value)) h = rw (h.0, key_and_value_reads fs n key value h.1) refl
-all_read (w ∷ fs) (of_tenant n (del key)) h = rw (h.0, key_reads fs n key h.1) refl
-all_read (w ∷ fs) (of_tenant n (get key)) h = rw (h.0, key_reads fs n key h.1) refl
-all_read (w ∷ fs) (of_tenant n (find key)) h = rw (h.0, key_reads fs n key h.1) refl
-all_read (w ∷ fs) (of_tenant n (list front)) h = rw (h.0, key_reads fs n front h.1) refl
-all_read (w ∷ fs) (of_tenant n (span low high)) h = rw (h.0, key_and_value_reads fs n low high h.1) refl
-all_read (w ∷ fs) (of_tenant n (nput number value)) h = rw (h.0, number_and_value_reads fs n number value h.1) refl
-all_read (w ∷ fs) (of_tenant n (nget number)) h = rw (h.0, tenant_number_reads fs n number h.1) refl
-all_read (w ∷ fs) (of_tenant n (ndel number)) h = rw (h.0, tenant_number_reads fs n number h.1) refl
-all_read (w ∷ fs) (of_tenant n (nspan low high)) h = rw (h.0, two_numbers_reads fs n low high h.1) refl
-all_read (w ∷ fs) (of_tenant n drop) h = rw (h.0, tenant_alone_reads fs n h.1) refl
-all_read (w ∷ fs) dump h = rw (h.0, nothing_reads fs h.1) refl
-all_read (w ∷ fs) audit h = rw (h.0, nothing_reads fs h.1) refl
+-- what stands behind a word, as words of a line
+abbrev words_behind : (shape : Shape) → Behind shape → List Word
+words_behind Key v = natural v.0 ∷ bytes v.1 ∷ []
+words_behind KeyAndValue v = natural v.0 ∷ bytes v.1 ∷ bytes v.2 ∷ []
+words_behind Number v = natural v.0 ∷ signed v.1 ∷ []
+words_behind NumberAndValue v = natural v.0 ∷ signed v.1 ∷ bytes v.2 ∷ []
+words_behind TwoNumbers v = natural v.0 ∷ signed v.1 ∷ signed v.2 ∷ []
+words_behind Tenant n = natural n ∷ []
+words_behind Nothing v = []
+
+behind_reads : (shape : Shape) (v : Behind shape) (fs : List (List ℕ)) → AllRead fs (words_behind shape v) → behind_in shape fs ≡ Some v
+behind_reads Key v fs h = one_reads bytes_in of_bytes bytes_reads fs v.0 v.1 h
+behind_reads KeyAndValue v fs h = two_reads bytes_in of_bytes bytes_reads bytes_in of_bytes bytes_reads fs v.0 v.1 v.2 h
+behind_reads Number v fs h = one_reads number_in of_number number_reads fs v.0 v.1 h
+behind_reads NumberAndValue v fs h = two_reads number_in of_number number_reads bytes_in of_bytes bytes_reads fs v.0 v.1 v.2 h
+behind_reads TwoNumbers v fs h = two_reads number_in of_number number_reads number_in of_number number_reads fs v.0 v.1 v.2 h
+behind_reads Tenant n fs h = tenant_alone_reads fs n h
+behind_reads Nothing v fs h = nothing_reads fs h
+
+-- The word of a command: the table finds it by what it is called, and makes this command of what stands behind it.
+record HasWord (c : Command) : Type 0 where
+  pub word : Called
+  pub behind : Behind (shape_of word)
+  pub found : word_in (called word) ≡ Some word
+  pub words : words_of c ≡ name (called word) ∷ words_behind (shape_of word) behind
+  pub makes : made_by word behind ≡ c
+
+of_word : (w : Called) (v : Behind (shape_of w)) → word_in (called w) ≡ Some w → words_of (made_by w v) ≡ name (called w) ∷ words_behind (shape_of w) v → HasWord (made_by w v)
+of_word w v found words = record { word = w; behind = v; found = found; words = words; makes = refl }
+
+has_word : (c : Command) → HasWord c
+has_word (of_tenant n (put key value)) = of_word (Change change.Put) (n, key, value) refl refl
+has_word (of_tenant n (over key value)) = of_word (Change change.Over) (n, key, value) refl refl
+has_word (of_tenant n (del key)) = of_word (Change change.Del) (n, key) refl refl
+has_word (of_tenant n (get key)) = of_word (LookUp look_up.Get) (n, key) refl refl
+has_word (of_tenant n (find key)) = of_word (LookUp look_up.Find) (n, key) refl refl
+has_word (of_tenant n (list front)) = of_word (LookUp look_up.List) (n, front) refl refl
+has_word (of_tenant n (span low high)) = of_word (LookUp look_up.Span) (n, low, high) refl refl
+has_word (of_tenant n (nput number value)) = of_word (Change change.NPut) (n, number, value) refl refl
+has_word (of_tenant n (nget number)) = of_word (LookUp look_up.NGet) (n, number) refl refl
+has_word (of_tenant n (ndel number)) = of_word (Change change.NDel) (n, number) refl refl
+has_word (of_tenant n (nspan low high)) = of_word (LookUp look_up.NSpan) (n, low, high) refl refl
+has_word (of_tenant n drop) = of_word Drop n refl refl
+has_word dump = of_word (Whole whole.Dump) tt refl refl
+has_word audit = of_word (Whole whole.Audit) tt refl refl
+
+all_read : (fields : List (List ℕ)) (c : Command) → AllRead fields (words_of c) → command_in fields ≡ Some c
+all_read fields c h = let has = has_word c in go has.word has.behind has.found fields (subst (AllRead fields) has.words h) ∙ ap (λ c. Some c) has.makes
+  where
+    go : (w : Called) (v : Behind (shape_of w)) → word_in (called w) ≡ Some w → (fields : List (List ℕ)) → AllRead fields (name (called w) ∷ words_behind (shape_of w) v)
+        → command_in fields ≡ Some (made_by w v)
+    go w v found [] h = absurd h
+    go w v found (word ∷ rest) h =
+        ap (λ t. option_and_then (λ w. command_by w rest) (word_in t)) h.0 ∙ ap (option_and_then (λ w. command_by w rest)) found
+        ∙ ap (option_map (made_by w)) (behind_reads (shape_of w) v rest h.1)
 
 pub spelled : (line : List ℕ) (c : Command) → Spells line c → command_of line ≡ Some c
 unfolding command_of
@@ -216,81 +234,56 @@ nothing_spelled : (fields : List (List ℕ)) → nothing_in fields ≡ Some tt �
 nothing_spelled [] h = tt
 nothing_spelled (x ∷ xs) h = cc
 
--- by word
-word_spelled : {A : Type 0} (o : Option A) (make : A → Command) (text : List ℕ) (fields : List (List ℕ))
-    → ((a : A) → o ≡ Some a → AllRead (text ∷ fields) (words_of (make a)))
-    → (c : Command) → option_map make o ≡ Some c → AllRead (text ∷ fields) (words_of c)
-word_spelled None make text fields read c h = cc
-word_spelled (Some a) make text fields read c h = let is : make a ≡ c = cc in subst (λ x. AllRead (text ∷ fields) (words_of x)) is (read a refl)
+behind_spelled : (shape : Shape) (fs : List (List ℕ)) (v : Behind shape) → behind_in shape fs ≡ Some v → AllRead fs (words_behind shape v)
+behind_spelled Key fs v h = one_spelled bytes_in of_bytes bytes_spelled fs v h
+behind_spelled KeyAndValue fs v h = two_spelled bytes_in of_bytes bytes_spelled bytes_in of_bytes bytes_spelled fs v h
+behind_spelled Number fs v h = one_spelled number_in of_number number_spelled fs v h
+behind_spelled NumberAndValue fs v h = two_spelled number_in of_number number_spelled bytes_in of_bytes bytes_spelled fs v h
+behind_spelled TwoNumbers fs v h = two_spelled number_in of_number number_spelled number_in of_number number_spelled fs v h
+behind_spelled Tenant fs v h = alone_spelled fs v h
+behind_spelled Nothing fs v h = nothing_spelled fs h
 
-module _ (rest : List (List ℕ)) where
-  module _ {A : Type 0} (read : List ℕ → Option A) (word : A → Word) (spelled : (text : List ℕ) (a : A) → read text ≡ Some a → Reads text (word a)) where
-    one_word : (text : List ℕ) (make : ℕ × A → Command) → ((f : ℕ × A) → words_of (make f) ≡ name text ∷ natural f.0 ∷ word f.1 ∷ [])
-        → (c : Command) → option_map make (one_in read rest) ≡ Some c → AllRead (text ∷ rest) (words_of c)
-    one_word text make is = word_spelled (one_in read rest) make text rest (λ f e. subst (AllRead (text ∷ rest)) (sym (is f)) (refl, one_spelled read word spelled rest f e))
+-- a word is found by what it is called
+found_called : (ws : List Called) (field : List ℕ) (w : Called) → found_among ws field ≡ Some w → field ≡ called w
+found_called [] field w h = cc
+found_called (x ∷ ws) field w h = go (bytes_eq field (called x)) refl (found_called ws field w) h
+  where
+    go : (b : Bool) → bytes_eq field (called x) ≡ b → (found_among ws field ≡ Some w → field ≡ called w) → cond b (Some x) (found_among ws field) ≡ Some w → field ≡ called w
+    go true same others e = let is : x ≡ w = cc in (bytes_eq-Decides field (called x)).0 same ∙ ap called is
+    go false same others e = others e
 
-    module _ {B : Type 0} (then_read : List ℕ → Option B) (then_word : B → Word) (then_spelled : (text : List ℕ) (b : B) → then_read text ≡ Some b → Reads text (then_word b)) where
-      two_words : (text : List ℕ) (make : ℕ × A × B → Command)
-          → ((f : ℕ × A × B) → words_of (make f) ≡ name text ∷ natural f.0 ∷ word f.1 ∷ then_word f.2 ∷ [])
-          → (c : Command) → option_map make (two_in read then_read rest) ≡ Some c → AllRead (text ∷ rest) (words_of c)
-      two_words text make is =
-          word_spelled (two_in read then_read rest) make text rest
-          (λ f e. subst (AllRead (text ∷ rest)) (sym (is f)) (refl, two_spelled read word spelled then_read then_word then_spelled rest f e))
-
-  key_word : (text : List ℕ) (make : ℕ × List ℕ → Command) → ((f : ℕ × List ℕ) → words_of (make f) ≡ name text ∷ natural f.0 ∷ bytes f.1 ∷ [])
-      → (c : Command) → option_map make (key_in rest) ≡ Some c → AllRead (text ∷ rest) (words_of c)
-  key_word = one_word bytes_in of_bytes bytes_spelled
-
-  key_and_value_word : (text : List ℕ) (make : ℕ × List ℕ × List ℕ → Command)
-      → ((f : ℕ × List ℕ × List ℕ) → words_of (make f) ≡ name text ∷ natural f.0 ∷ bytes f.1 ∷ bytes f.2 ∷ [])
-      → (c : Command) → option_map make (key_and_value_in rest) ≡ Some c → AllRead (text ∷ rest) (words_of c)
-  key_and_value_word = two_words bytes_in of_bytes bytes_spelled bytes_in of_bytes bytes_spelled
-
-  number_word : (text : List ℕ) (make : ℕ × ℤ → Command) → ((f : ℕ × ℤ) → words_of (make f) ≡ name text ∷ natural f.0 ∷ signed f.1 ∷ [])
-      → (c : Command) → option_map make (tenant_number_in rest) ≡ Some c → AllRead (text ∷ rest) (words_of c)
-  number_word = one_word number_in of_number number_spelled
-
-  drop_word : (c : Command) → drop_in rest ≡ Some c → AllRead (codes "drop" ∷ rest) (words_of c)
-  drop_word = word_spelled (tenant_alone_in rest) (λ n. of_tenant n drop) (codes "drop") rest (λ n e. (refl, alone_spelled rest n e))
-
-  dump_word : (c : Command) → dump_in rest ≡ Some c → AllRead (codes "dump" ∷ rest) (words_of c)
-  dump_word = word_spelled (nothing_in rest) (λ f. dump) (codes "dump") rest (λ f e. (refl, nothing_spelled rest e))
-
-  audit_word : (c : Command) → audit_in rest ≡ Some c → AllRead (codes "audit" ∷ rest) (words_of c)
-  audit_word = word_spelled (nothing_in rest) (λ f. audit) (codes "audit") rest (λ f e. (refl, nothing_spelled rest e))
-
-  module _ (word : List ℕ) (c : Command) where
-    -- one word more
-    or_word : (text : List ℕ) (o others : Option Command) → (o ≡ Some c → AllRead (text ∷ rest) (words_of c)) → (others ≡ Some c → AllRead (word ∷ rest) (words_of c))
-        → cond (bytes_eq word text) o others ≡ Some c → AllRead (word ∷ rest) (words_of c)
-    or_word text o others this other h = go (bytes_eq word text) refl h
-      where
-        go : (b : Bool) → bytes_eq word text ≡ b → cond b o others ≡ Some c → AllRead (word ∷ rest) (words_of c)
-        go true same e = subst (λ w. AllRead (w ∷ rest) (words_of c)) (sym ((bytes_eq-Decides word text).0 same)) (this e)
-        go false same e = other e
-
-    some_word : command_in (word ∷ rest) ≡ Some c → AllRead (word ∷ rest) (words_of c)
-    some_word =
-        or_word (codes "put") (put_in rest) _ (key_and_value_word (codes "put") (λ f. of_tenant f.0 (put f.1 f.2)) (λ f. refl) c)
-        (or_word (codes "get") (get_in rest) _ (key_word (codes "get") (λ f. of_tenant f.0 (get f.1)) (λ f. refl) c)
-        (or_word (codes "over") (over_in rest) _ (key_and_value_word (codes "over") (λ f. of_tenant f.0 (over f.1 f.2)) (λ f. refl) c)
-        (or_word (codes "del") (del_in rest) _ (key_word (codes "del") (λ f. of_tenant f.0 (del f.1)) (λ f. refl) c)
-        (or_word (codes "find") (find_in rest) _ (key_word (codes "find") (λ f. of_tenant f.0 (find f.1)) (λ f. refl) c)
-        (or_word (codes "list") (list_in rest) _ (key_word (codes "list") (λ f. of_tenant f.0 (list f.1)) (λ f. refl) c)
-        (or_word (codes "span") (span_in rest) _ (key_and_value_word (codes "span") (λ f. of_tenant f.0 (span f.1 f.2)) (λ f. refl) c)
-        (or_word (codes "nput") (nput_in rest) _
-        (two_words number_in of_number number_spelled bytes_in of_bytes bytes_spelled (codes "nput") (λ f. of_tenant f.0 (nput f.1 f.2)) (λ f. refl) c)
-        (or_word (codes "nget") (nget_in rest) _ (number_word (codes "nget") (λ f. of_tenant f.0 (nget f.1)) (λ f. refl) c)
-        (or_word (codes "ndel") (ndel_in rest) _ (number_word (codes "ndel") (λ f. of_tenant f.0 (ndel f.1)) (λ f. refl) c)
-        (or_word (codes "nspan") (nspan_in rest) _
-        (two_words number_in of_number number_spelled number_in of_number number_spelled (codes "nspan") (λ f. of_tenant f.0 (nspan f.1 f.2)) (λ f. refl) c)
-        (or_word (codes "drop") (drop_in rest) _ (drop_word c)
-        (or_word (codes "dump") (dump_in rest) _ (dump_word c)
-        (or_word (codes "audit") (audit_in rest) None (audit_word c) (λ e. cc))))))))))))))
+-- and the line of what it makes begins with that
+words_made : (w : Called) (v : Behind (shape_of w)) → words_of (made_by w v) ≡ name (called w) ∷ words_behind (shape_of w) v
+words_made (LookUp look_up.Get) v = refl
+words_made (LookUp look_up.Find) v = refl
+words_made (LookUp look_up.List) v = refl
+words_made (LookUp look_up.Span) v = refl
+words_made (LookUp look_up.NGet) v = refl
+words_made (LookUp look_up.NSpan) v = refl
+words_made (Change change.Put) v = refl
+words_made (Change change.Over) v = refl
+words_made (Change change.Del) v = refl
+words_made (Change change.NPut) v = refl
+words_made (Change change.NDel) v = refl
+words_made (Whole whole.Dump) v = refl
+words_made (Whole whole.Audit) v = refl
+words_made Drop v = refl
 
 all_spelled : (fields : List (List ℕ)) (c : Command) → command_in fields ≡ Some c → AllRead fields (words_of c)
 all_spelled [] c h = cc
-all_spelled (word ∷ rest) c h = some_word rest word c h
+all_spelled (word ∷ rest) c h = go (word_in word) refl h
+  where
+    made : (w : Called) → word ≡ called w → (o : Option (Behind (shape_of w))) → behind_in (shape_of w) rest ≡ o → option_map (made_by w) o ≡ Some c
+        → AllRead (word ∷ rest) (words_of c)
+    made w is None read e = cc
+    made w is (Some v) read e =
+        let same : made_by w v ≡ c = cc in
+        subst (λ c. AllRead (word ∷ rest) (words_of c)) same
+        (subst (AllRead (word ∷ rest)) (sym (words_made w v)) (is, behind_spelled (shape_of w) rest v read))
+
+    go : (o : Option Called) → word_in word ≡ o → option_and_then (λ w. command_by w rest) o ≡ Some c → AllRead (word ∷ rest) (words_of c)
+    go None found e = cc
+    go (Some w) found e = made w (found_called all_words word w found) (behind_in (shape_of w) rest) refl e
 
 pub spells : (line : List ℕ) (c : Command) → command_of line ≡ Some c → Spells line c
 unfolding command_of

@@ -1,6 +1,7 @@
 pub mod Lines
 pub mod Words
 pub mod Commands
+pub mod Table
 pub mod Reading
 pub mod Keys
 pub mod ReplyWords

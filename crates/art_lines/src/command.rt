@@ -13,11 +13,8 @@ pub mod word;
 
 use arrayvec::ArrayVec;
 use fields::{FIELD, Fields};
-use shapes::{
-    read_key, read_key_and_value, read_number, read_number_and_value, read_tenant_alone,
-    read_two_numbers, split_field,
-};
-use word::{Change, LookUp, Shape, Whole, Word, word_of};
+use shapes::{read_behind, split_field};
+use word::{Change, LookUp, Whole, Word, row_of};
 
 /// The longest line in bytes, without its newline.
 pub const LINE: usize = 4096;
@@ -113,7 +110,7 @@ pub fn parse_line(line: &[u8]) -> Option<Command>
     Some(command_of_fields(word, &fields))
 }
 
-/// The command of a word and of what was read behind it.
+/// The command of a word and of what was read after it.
 fn command_of_fields(word: Word, fields: &Fields) -> Command
     ensures { meaning result ≡ command_with word fields.now }
 {
@@ -204,17 +201,8 @@ pub fn read_line(line: &[u8], fields: &mut Fields) -> Option<Word>
         return None;
     }
     let (field, rest) = split_field(line);
-    let word = word_of(field)?;
-    let is_read = match word.shape() {
-        Shape::Key => read_key(rest, fields),
-        Shape::KeyAndValue => read_key_and_value(rest, fields),
-        Shape::Number => read_number(rest, fields),
-        Shape::NumberAndValue => read_number_and_value(rest, fields),
-        Shape::TwoNumbers => read_two_numbers(rest, fields),
-        Shape::Tenant => read_tenant_alone(rest, fields),
-        Shape::Nothing => rest.is_none(),
-    };
-    if !is_read {
+    let (word, shape) = row_of(field)?;
+    if !read_behind(shape, rest, fields) {
         return None;
     }
     Some(word)

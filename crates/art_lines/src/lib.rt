@@ -1,8 +1,8 @@
-//! The line language: what a line asks for and how it is spelled, the words of replies, and where bytes come from and
-//! where they go. No records are known here.
+//! The line language: what a line asks for and how it is spelled, and the words of replies. Also where bytes come from
+//! and where they go. No records are known here.
 //!
 //! A line is read in place (`command`), a reply is put together in a room (`room`, `gather`) and written to a sink
-//! (`reply`). `Source` and `Sink` are what gives and takes bytes, `FromReader` and `ToWriter` make them of any reader
+//! (`reply`). `Source` and `Sink` are what gives and takes bytes. `FromReader` and `ToWriter` make them of any reader
 //! and writer, and `Buffered` gathers what a sink takes.
 #![tactic(auto)]
 

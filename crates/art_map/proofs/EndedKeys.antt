@@ -1,6 +1,6 @@
 -- What a look-up finds of keys that end with a zero and have no other: those of `ZeroEnded`. Such a key is seen without
 -- its zero.
-use Rattle.std.proofs.Common.{◌≡◌, ℕ, Bool, true, false, cond, List, [], ◌∷◌, ◌++◌, Option, Some, None, bytes_eq}
+use Rattle.std.proofs.Common.{◌≡◌, ℕ, Bool, true, false, cond, List, [], ◌∷◌, Some, None, bytes_eq}
 use Rattle.std.proofs.Common.{refl, sym, ap, ◌∙◌}
 use Rattle.std.specs.Map.{lookup}
 use Rattle.art_bytes.specs.inner.KeyLaws.{before_zero}

@@ -19,7 +19,7 @@ use Rattle.art_operations.specs.Pairs.{IsAtEnd}
 use Rattle.art_operations.proofs.LeafPairs.{leaf_pair}
 use Rattle.art_operations.proofs.NamedLeaves.{held-some}
 use Rattle.art_walks.specs.Runs.{Ends, HasEnds, IsWalk}
-use Rattle.art_walks.specs.Walked.{AreStored}
+use Rattle.art_walks.specs.Walked.{AreStored, pairs_left}
 use Rattle.art_walks.proofs.RunLengths.{run-pairs}
 use Rattle.art_map.specs.Contents.{Contents, HasLeafAt, first_item, last_item}
 use Rattle.art_map.specs.Found.{HasPairAt}
@@ -27,7 +27,6 @@ use Rattle.art_arena.proofs.shapes.LinkedLists.{ends_with-first}
 use Rattle.art_map.specs.Leaves.{AreLeaves, IsRun, IsNextAt, slot_at, with_end, with_value_where}
 use Rattle.art_map.specs.Lends.{with_value_at}
 use Rattle.art_map.proofs.WrittenRuns.{WrittenRun, snoc-same, still-run, written-run}
-use Rattle.art_map.specs.Walked.{pairs_between_ends}
 
 -- the item at an end of a list, and the others
 pub record AtEnd {X : Type 0} (end : End) (xs : List X) : Type 0 where
@@ -106,7 +105,7 @@ module _ {K V : Type 0} (bytes : K → List ℕ) (P : ℕ) where
           all_left held r.run r.back (all_right held r.front (r.run ++ r.back) (leaves-stored _ r.leaves))
 
       -- the pairs that are left are those of the run
-      run-left : (r : IsRun bytes P m ends) → pairs_between_ends m.nodes ends ≡ pairs_of r.run
+      run-left : (r : IsRun bytes P m ends) → pairs_left m.nodes ends ≡ pairs_of r.run
       run-left r = run-pairs m.nodes ends (length r.run) (record { leaves = r.run; walk = run-walk r; stored = run-stored r; len_is = refl })
 
     -- behind a step the leaves between the ends are a run
@@ -128,7 +127,7 @@ module _ {K V : Type 0} (bytes : K → List ℕ) (P : ℕ) where
     pub behind-some : (end : End) (slot : ℕ) (ends : Ends) → ∥ IsNextAt bytes P m end slot ends ∥₁ → ∥ IsRun bytes P m ends ∥₁
     behind-some end slot ends some = ∥∥₁_map some (run-behind end slot ends)
 
-    step-left : (end : End) (slot : ℕ) (ends : Ends) (s : IsNextAt bytes P m end slot ends) → pairs_between_ends m.nodes ends ≡ pairs_of s.run
+    step-left : (end : End) (slot : ℕ) (ends : Ends) (s : IsNextAt bytes P m end slot ends) → pairs_left m.nodes ends ≡ pairs_of s.run
     step-left end slot ends s = run-left ends (run-behind end slot ends s) ∙ ap pairs_of (run-is end slot ends s)
 
     -- a step at an end
@@ -152,29 +151,29 @@ module _ {K V : Type 0} (bytes : K → List ℕ) (P : ℕ) where
             ends_are = it.1.ends_are;
           }
 
-      the-end : (r : IsRun bytes P m old) → 0 < length (pairs_between_ends m.nodes old) → AtEnd end r.run
+      the-end : (r : IsRun bytes P m old) → 0 < length (pairs_left m.nodes old) → AtEnd end r.run
       the-end r low = go r.run (run-left old r)
         where
-          go : (ys : List (LeafAt K V)) → pairs_between_ends m.nodes old ≡ pairs_of ys → AtEnd end ys
+          go : (ys : List (LeafAt K V)) → pairs_left m.nodes old ≡ pairs_of ys → AtEnd end ys
           go [] e = let f = ap length e in absurd (omega (arith, low, f))
           go (y ∷ ys) e = at-end end y ys
 
       -- one is left, so a leaf is answered
-      pub not-none : ∥ IsRun bytes P m old ∥₁ → 0 < length (pairs_between_ends m.nodes old) → result ≡ None → ⊥
+      pub not-none : ∥ IsRun bytes P m old ∥₁ → 0 < length (pairs_left m.nodes old) → result ≡ None → ⊥
       not-none some low none = ∥∥₁_elim some (λ x y. absurd x) (λ r.
           let at = the-end r low in
           let e = sym (next at.item at.rest r.run at.is (run-walk old r)).0 ∙ none in
           absurd (cc))
 
-      pub run-again : ∥ IsRun bytes P m old ∥₁ → 0 < length (pairs_between_ends m.nodes old) → ∥ IsRun bytes P m new ∥₁
+      pub run-again : ∥ IsRun bytes P m old ∥₁ → 0 < length (pairs_left m.nodes old) → ∥ IsRun bytes P m new ∥₁
       run-again some low = ∥∥₁_map some (λ r.
           let at = the-end r low in
           run-behind end at.item.slot new (stepped r at at.item.slot (next at.item at.rest r.run at.is (run-walk old r)).0))
 
-      pub some-step : ∥ IsRun bytes P m old ∥₁ → 0 < length (pairs_between_ends m.nodes old) → (slot : ℕ) → result ≡ Some slot → ∥ IsNextAt bytes P m end slot new ∥₁
+      pub some-step : ∥ IsRun bytes P m old ∥₁ → 0 < length (pairs_left m.nodes old) → (slot : ℕ) → result ≡ Some slot → ∥ IsNextAt bytes P m end slot new ∥₁
       some-step some low slot e = ∥∥₁_map some (λ r. stepped r (the-end r low) slot e)
 
-      taken-at : (r : IsRun bytes P m old) (at : AtEnd end r.run) (slot : ℕ) → result ≡ Some slot → (p : K × V) × HasPairAt m slot p × IsAtEnd end p (pairs_between_ends m.nodes new) (pairs_between_ends m.nodes old)
+      taken-at : (r : IsRun bytes P m old) (at : AtEnd end r.run) (slot : ℕ) → result ≡ Some slot → (p : K × V) × HasPairAt m slot p × IsAtEnd end p (pairs_left m.nodes new) (pairs_left m.nodes old)
       unfolding stepped
       taken-at r at slot e =
           let s = stepped r at slot e in
@@ -190,20 +189,20 @@ module _ {K V : Type 0} (bytes : K → List ℕ) (P : ℕ) where
           held-at First l ys zs e stored = (subst (AreStored m.nodes) e stored).0
           held-at Last l ys zs e stored = (all_right (λ (l : LeafAt K V). node_at m.nodes (leaf_name l.slot) ≡ Some (pair l.key l.value)) ys (l ∷ []) (subst (AreStored m.nodes) e stored)).0
 
-          ends-at : (end : End) (l : LeafAt K V) (ys zs : List (LeafAt K V)) → IsAtEnd end l ys zs → pairs_between_ends m.nodes old ≡ pairs_of zs → pairs_between_ends m.nodes new ≡ pairs_of ys
-              → IsAtEnd end (leaf_pair l) (pairs_between_ends m.nodes new) (pairs_between_ends m.nodes old)
+          ends-at : (end : End) (l : LeafAt K V) (ys zs : List (LeafAt K V)) → IsAtEnd end l ys zs → pairs_left m.nodes old ≡ pairs_of zs → pairs_left m.nodes new ≡ pairs_of ys
+              → IsAtEnd end (leaf_pair l) (pairs_left m.nodes new) (pairs_left m.nodes old)
           ends-at end l ys zs is e f = rw (e, f) (pairs-end end l ys zs is)
 
       -- the pair of the leaf is at the end, and the others are left
-      pub pair-taken : IsSet (List (K × V)) → ∥ IsRun bytes P m old ∥₁ → 0 < length (pairs_between_ends m.nodes old) → (slot : ℕ) → result ≡ Some slot
-          → (p : K × V) × HasPairAt m slot p × IsAtEnd end p (pairs_between_ends m.nodes new) (pairs_between_ends m.nodes old)
+      pub pair-taken : IsSet (List (K × V)) → ∥ IsRun bytes P m old ∥₁ → 0 < length (pairs_left m.nodes old) → (slot : ℕ) → result ≡ Some slot
+          → (p : K × V) × HasPairAt m slot p × IsAtEnd end p (pairs_left m.nodes new) (pairs_left m.nodes old)
       pair-taken sets some low slot e =
-          the-pair m slot (λ p. IsAtEnd end p (pairs_between_ends m.nodes new) (pairs_between_ends m.nodes old)) (λ p. end-prop sets end p _ _)
+          the-pair m slot (λ p. IsAtEnd end p (pairs_left m.nodes new) (pairs_left m.nodes old)) (λ p. end-prop sets end p _ _)
           (∥∥₁_map some (λ r. taken-at r (the-end r low) slot e))
 
       -- where none is left, none is answered, and where a leaf is answered, one was left
       pub leaf-there : (old ≡ None → result ≡ None) → IsSet (List (K × V)) → ∥ IsRun bytes P m old ∥₁
-          → MatchOption result (pairs_between_ends m.nodes old ≡ []) (λ slot. (p : K × V) × (rest : List (K × V)) × HasPairAt m slot p × IsAtEnd end p rest (pairs_between_ends m.nodes old))
+          → MatchOption result (pairs_left m.nodes old ≡ []) (λ slot. (p : K × V) × (rest : List (K × V)) × HasPairAt m slot p × IsAtEnd end p rest (pairs_left m.nodes old))
       leaf-there nowhere sets some = go result refl
         where
           no-end : (r : IsRun bytes P m old) → r.run ≡ [] → old ≡ None
@@ -213,10 +212,10 @@ module _ {K V : Type 0} (bytes : K → List ℕ) (P : ℕ) where
               here None h = refl
               here (Some ends) h = let f = subst (λ ys. first_slot ys None ≡ Some ends.0) e h.0 in absurd (cc)
 
-          empty-run : (r : IsRun bytes P m old) → result ≡ None → pairs_between_ends m.nodes old ≡ []
+          empty-run : (r : IsRun bytes P m old) → result ≡ None → pairs_left m.nodes old ≡ []
           empty-run r none = here r.run refl
             where
-              here : (ys : List (LeafAt K V)) → r.run ≡ ys → pairs_between_ends m.nodes old ≡ []
+              here : (ys : List (LeafAt K V)) → r.run ≡ ys → pairs_left m.nodes old ≡ []
               here [] f = run-left old r ∙ ap pairs_of f
               here (y ∷ ys) f =
                   let at = at-end end y ys in
@@ -231,11 +230,11 @@ module _ {K V : Type 0} (bytes : K → List ℕ) (P : ℕ) where
               here (y ∷ ys) f = at-end end y ys
 
           go : (o : Option ℕ) → result ≡ o
-              → MatchOption o (pairs_between_ends m.nodes old ≡ []) (λ slot. (p : K × V) × (rest : List (K × V)) × HasPairAt m slot p × IsAtEnd end p rest (pairs_between_ends m.nodes old))
+              → MatchOption o (pairs_left m.nodes old ≡ []) (λ slot. (p : K × V) × (rest : List (K × V)) × HasPairAt m slot p × IsAtEnd end p rest (pairs_left m.nodes old))
           go None e = ∥∥₁_elim some (sets _ _) (λ r. empty-run r e)
           go (Some slot) e =
-              let it = the-pair m slot (λ p. IsAtEnd end p (pairs_between_ends m.nodes new) (pairs_between_ends m.nodes old)) (λ p. end-prop sets end p _ _) (∥∥₁_map some (λ r. taken-at r (some-end slot e r) slot e)) in
-              (it.0, pairs_between_ends m.nodes new, it.1, it.2)
+              let it = the-pair m slot (λ p. IsAtEnd end p (pairs_left m.nodes new) (pairs_left m.nodes old)) (λ p. end-prop sets end p _ _) (∥∥₁_map some (λ r. taken-at r (some-end slot e r) slot e)) in
+              (it.0, pairs_left m.nodes new, it.1, it.2)
 
     -- the leaf that was stepped over is there
     pub has-leaf : (slot : ℕ) (p : K × V) → HasPairAt m slot p → HasLeafAt m slot
@@ -273,16 +272,16 @@ module _ {K V : Type 0} (bytes : K → List ℕ) (P : ℕ) where
       pub after-some : ∥ IsNextAt bytes P m end slot ends ∥₁ → ∥ IsRun bytes P n ends ∥₁
       after-some some = ∥∥₁_map some (λ s. (run-after s).0)
 
-      same-left : IsSet (List (K × V)) → ∥ IsNextAt bytes P m end slot ends ∥₁ → pairs_between_ends n.nodes ends ≡ pairs_between_ends m.nodes ends
+      same-left : IsSet (List (K × V)) → ∥ IsNextAt bytes P m end slot ends ∥₁ → pairs_left n.nodes ends ≡ pairs_left m.nodes ends
       same-left sets some = ∥∥₁_elim some (sets _ _) (λ s.
           let r = run-after s in
           run-left n ends r.0 ∙ ap pairs_of r.1 ∙ sym (step-left m end slot ends s))
 
       -- the pair that is answered was at the end of those that were left
-      pub left-taken : IsSet (List (K × V)) → ∥ IsNextAt bytes P m end slot ends ∥₁ → (was : List (K × V)) → ((p : K × V) × HasPairAt m slot p × IsAtEnd end p (pairs_between_ends m.nodes ends) was) → (q : K × V) → HasPairAt m slot q
-          → IsAtEnd end q (pairs_between_ends n.nodes ends) was
+      pub left-taken : IsSet (List (K × V)) → ∥ IsNextAt bytes P m end slot ends ∥₁ → (was : List (K × V)) → ((p : K × V) × HasPairAt m slot p × IsAtEnd end p (pairs_left m.nodes ends) was) → (q : K × V) → HasPairAt m slot q
+          → IsAtEnd end q (pairs_left n.nodes ends) was
       left-taken sets some was (p, has, at) q it =
-          rw (same-left sets some) (subst (λ x. IsAtEnd end x (pairs_between_ends m.nodes ends) was) (same-pair-at m slot p q has it) at)
+          rw (same-left sets some) (subst (λ x. IsAtEnd end x (pairs_left m.nodes ends) was) (same-pair-at m slot p q has it) at)
 
     -- or where it was refused
     module _ (kept : (ls : List (LeafAt K V)) → AreLeaves bytes P m ls → AreLeaves bytes P n ls) where
@@ -303,7 +302,7 @@ module _ {K V : Type 0} (bytes : K → List ℕ) (P : ℕ) where
           subst (IsRun bytes P n) (sym e) (record { front = all; run = []; back = []; leaves = subst (AreLeaves bytes P n) (sym (append-nil all)) (kept all r.leaves); ends_are = refl }))
 
   -- of no leaves none is left
-  pub empty-left : (n : Contents K V) (nowhere : Ends) → IsSet (List (K × V)) → nowhere ≡ None → ∥ IsRun bytes P n nowhere ∥₁ → pairs_between_ends n.nodes nowhere ≡ []
+  pub empty-left : (n : Contents K V) (nowhere : Ends) → IsSet (List (K × V)) → nowhere ≡ None → ∥ IsRun bytes P n nowhere ∥₁ → pairs_left n.nodes nowhere ≡ []
   empty-left n nowhere sets e some = ∥∥₁_elim some (sets _ _) (λ r. run-left n nowhere r ∙ ap pairs_of (subst (HasEnds r.run) e r.ends_are))
 
 -- The pair at an end, lent.
@@ -341,21 +340,21 @@ module _ {K V : Type 0} (bytes : K → List ℕ) (P : ℕ) (m : Contents K V) wh
       go Last next r = let e = ends_with-first r.run b r.ends_are.1 in (next e.1 e.0 r.run e.2 (walk r)).0 ∙ ap Some e.3
 
   -- once its value is written, the pair is still there
-  pub left-written : IsSet (List (K × V)) → (end : End) (ends : Ends) → ∥ IsRun bytes P m ends ∥₁ → (p : K × V) (rest : List (K × V)) → IsAtEnd end p rest (pairs_between_ends m.nodes ends) → (w : V)
-      → IsAtEnd end (p.0, w) rest (pairs_between_ends (with_value_where m (slot_at end ends) w).nodes ends)
+  pub left-written : IsSet (List (K × V)) → (end : End) (ends : Ends) → ∥ IsRun bytes P m ends ∥₁ → (p : K × V) (rest : List (K × V)) → IsAtEnd end p rest (pairs_left m.nodes ends) → (w : V)
+      → IsAtEnd end (p.0, w) rest (pairs_left (with_value_where m (slot_at end ends) w).nodes ends)
   left-written sets end ends some p rest at w = ∥∥₁_elim some (end-prop sets end (p.0, w) rest _) (λ r. go end ends r (written-run bytes P m end ends r w) at)
     where
-      go : (end : End) (ends : Ends) (r : IsRun bytes P m ends) → WrittenRun bytes P m end ends r.run w → IsAtEnd end p rest (pairs_between_ends m.nodes ends)
-          → IsAtEnd end (p.0, w) rest (pairs_between_ends (with_value_where m (slot_at end ends) w).nodes ends)
+      go : (end : End) (ends : Ends) (r : IsRun bytes P m ends) → WrittenRun bytes P m end ends r.run w → IsAtEnd end p rest (pairs_left m.nodes ends)
+          → IsAtEnd end (p.0, w) rest (pairs_left (with_value_where m (slot_at end ends) w).nodes ends)
       go end ends r is at = here end is.now.run is.same r.run at (run-left bytes P m ends r) (run-left bytes P (with_value_where m (slot_at end ends) w) ends is.now)
         where
           here : (e : End) (now : List (LeafAt K V)) → ((l : LeafAt K V) (ys : List (LeafAt K V)) → IsAtEnd e l ys r.run → IsAtEnd e (record { slot = l.slot; key = l.key; value = w }) ys now)
-              → (run : List (LeafAt K V)) → IsAtEnd e p rest (pairs_between_ends m.nodes ends) → pairs_between_ends m.nodes ends ≡ pairs_of r.run → pairs_between_ends (with_value_where m (slot_at end ends) w).nodes ends ≡ pairs_of now
-              → IsAtEnd e (p.0, w) rest (pairs_between_ends (with_value_where m (slot_at end ends) w).nodes ends)
+              → (run : List (LeafAt K V)) → IsAtEnd e p rest (pairs_left m.nodes ends) → pairs_left m.nodes ends ≡ pairs_of r.run → pairs_left (with_value_where m (slot_at end ends) w).nodes ends ≡ pairs_of now
+              → IsAtEnd e (p.0, w) rest (pairs_left (with_value_where m (slot_at end ends) w).nodes ends)
           here e now same run at f g =
               let it = unpaired e r.run p rest (subst (IsAtEnd e p rest) f at) in
               let written = pairs-end e (record { slot = it.0.slot; key = it.0.key; value = w }) it.1 now (same it.0 it.1 it.2) in
-              let whole = pairs_between_ends (with_value_where m (slot_at end ends) w).nodes ends in
+              let whole = pairs_left (with_value_where m (slot_at end ends) w).nodes ends in
               subst (λ k. IsAtEnd e (k, w) rest whole) (ap (λ (q : K × V). q.0) it.3)
               (subst (λ ys. IsAtEnd e (it.0.key, w) ys whole) it.4 (subst (IsAtEnd e (it.0.key, w) (pairs_of it.1)) (sym g) written))
 
@@ -364,9 +363,9 @@ module _ {K V : Type 0} (bytes : K → List ℕ) (P : ℕ) (m : Contents K V) wh
     pub still-written : ∥ IsRun bytes P m ends ∥₁ → (w : V) → ∥ IsRun bytes P (with_value_at m slot w) ends ∥₁
     still-written some w = subst (λ o. ∥ IsRun bytes P (with_value_where m o w) ends ∥₁) at (still-run bytes P m end ends some w)
 
-    pub left-still : IsSet (List (K × V)) → ∥ IsRun bytes P m ends ∥₁ → (w : V) (k : K) (v : V) (rest : List (K × V)) → IsAtEnd end (k, v) rest (pairs_between_ends m.nodes ends)
-        → IsAtEnd end (k, w) rest (pairs_between_ends (with_value_at m slot w).nodes ends)
-    left-still sets some w k v rest is = subst (λ o. IsAtEnd end (k, w) rest (pairs_between_ends (with_value_where m o w).nodes ends)) at (left-written sets end ends some (k, v) rest is w)
+    pub left-still : IsSet (List (K × V)) → ∥ IsRun bytes P m ends ∥₁ → (w : V) (k : K) (v : V) (rest : List (K × V)) → IsAtEnd end (k, v) rest (pairs_left m.nodes ends)
+        → IsAtEnd end (k, w) rest (pairs_left (with_value_at m slot w).nodes ends)
+    left-still sets some w k v rest is = subst (λ o. IsAtEnd end (k, w) rest (pairs_left (with_value_where m o w).nodes ends)) at (left-written sets end ends some (k, v) rest is w)
 
   -- the pair of the leaf is the one at the end, and so is the key
   pub key-at-end : (slot : ℕ) (end : End) (q : K × V) (ps : List (K × V)) → ((p : K × V) × (rest : List (K × V)) × HasPairAt m slot p × IsAtEnd end p rest ps) → HasPairAt m slot q → (rest : List (K × V)) × IsAtEnd end q rest ps

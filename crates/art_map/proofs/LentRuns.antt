@@ -18,9 +18,9 @@ use Rattle.art_arena.proofs.shapes.Surroundings.{tree-list}
 use Rattle.art_arena.proofs.tree.Order.{all_left, all_right}
 use Rattle.art_operations.proofs.WrittenValues.{written}
 use Rattle.art_walks.specs.Runs.{Ends, HasEnds, IsWalk}
-use Rattle.art_walks.specs.Walked.{IsCounted, start_of}
+use Rattle.art_walks.specs.Walked.{IsCounted, start_of, leaves_left}
 use Rattle.art_walks.proofs.Counted.{EndsWalk}
-use Rattle.art_walks.proofs.RunLengths.{left_in, recounted, run-pairs}
+use Rattle.art_walks.proofs.RunLengths.{recounted, run-pairs}
 use Rattle.art_walks.proofs.RunSteps.{back-is, back-parts, first-held, front-is}
 use Rattle.art_map.specs.Contents.{Contents, IsMap, HasLeafAt, contents}
 use Rattle.art_map.specs.Found.{HasPairAt}
@@ -89,7 +89,7 @@ module _ {K V : Type 0} where
 
 module _ {K V : Type 0} (bytes : K → List ℕ) (is_key : K → Type 0) (P : ℕ) (arena : Arena K V) where
   -- a run that is remembered between two leaves of a map stands among its leaves
-  between : (root : Option Name) → IsMap bytes is_key P arena root → (a b n : ℕ) → ∥ IsCounted arena (Some (a, b)) n ∥₁ → IsSome (held_at arena (leaf_name a)) → IsCounted arena (Some (a, b)) (left_in arena (Some (a, b)))
+  between : (root : Option Name) → IsMap bytes is_key P arena root → (a b n : ℕ) → ∥ IsCounted arena (Some (a, b)) n ∥₁ → IsSome (held_at arena (leaf_name a)) → IsCounted arena (Some (a, b)) (leaves_left arena (Some (a, b)))
   between None map a b n run there = let none = map.has.1 (leaf_name a) in let some = cell-some (held_at arena (leaf_name a)) there in absurd (cc)
   between (Some top) map a b n run there =
       let Q = λ (x : LeafAt K V). node_at arena (leaf_name x.slot) ≡ Some (pair x.key x.value) in
@@ -122,7 +122,7 @@ module _ {K V : Type 0} (bytes : K → List ℕ) (is_key : K → Type 0) (P : �
   remembered root map None run =
       recounted arena None 0 (record { leaves = []; walk = record { xs = []; zs = []; list = record { linked = tt; once = λ n. omega arith }; ends_are = refl }; stored = tt; len_is = refl })
   remembered root map (Some (a, b)) run =
-      between root map a b (left_in arena (Some (a, b))) run (first-held arena (Some (a, b)) a b refl (∥∥₁_map run (λ r. (r.leaves, r.walk))))
+      between root map a b (leaves_left arena (Some (a, b))) run (first-held arena (Some (a, b)) a b refl (∥∥₁_map run (λ r. (r.leaves, r.walk))))
 
 module _ {K V : Type 0} (m : Contents K V) (ends : Ends) where
   -- a leaf of the map that has no pair left behind it, and those of which it takes the first, or the last
@@ -169,7 +169,7 @@ module _ {K V : Type 0} (m : Contents K V) (ends after : Ends) (slot : ℕ) (ord
       let e : pair parted.key parted.value ≡ pair p.0 p.1 = let f = sym parted.here ∙ has in cc in
       let same : (parted.key, parted.value) ≡ p = ap₂ (λ k v. (k, v)) (cc) (cc) in
       let left = run-pairs (with_leaf_value m.nodes slot w) after (length parted.rest) (run-written m.nodes after slot (pairs_of run.leaves) order parted w) in
-      run-pairs m.nodes ends (left_in m.nodes ends) run ∙ parted.parts ∙ ap₂ order same (sym (left ∙ ap pairs_of (leaves-left m.nodes after slot (pairs_of run.leaves) order parted w)))
+      run-pairs m.nodes ends (leaves_left m.nodes ends) run ∙ parted.parts ∙ ap₂ order same (sym (left ∙ ap pairs_of (leaves-left m.nodes after slot (pairs_of run.leaves) order parted w)))
 
 -- what a step tells
 abbrev Tells : {K V : Type 0} → Contents K V → Ends → Ends → (K × V → List (K × V) → List (K × V)) → ℕ → Type 0
@@ -181,7 +181,7 @@ module _ {K V : Type 0} (m : Contents K V) where
   told-first None run (Some slot) new step = let e = step.0 in absurd (cc)
   told-first (Some (a, b)) run None new step = tt
   told-first (Some (a, b)) run (Some slot) new step =
-      let parted = parted-first m.nodes a b (left_in m.nodes (Some (a, b))) run in
+      let parted = parted-first m.nodes a b (leaves_left m.nodes (Some (a, b))) run in
       let same : a ≡ slot = let e = step.0 in cc in
       subst (λ n. Tells m (Some (a, b)) new (λ p ps. p ∷ ps) n) same
       (subst (λ e. Tells m (Some (a, b)) e (λ p ps. p ∷ ps) a) (sym step.1)
@@ -192,7 +192,7 @@ module _ {K V : Type 0} (m : Contents K V) where
   told-last None run (Some slot) new step = let e = step.0 in absurd (cc)
   told-last (Some (a, b)) run None new step = tt
   told-last (Some (a, b)) run (Some slot) new step =
-      let parted = parted-last m.nodes a b (left_in m.nodes (Some (a, b))) run in
+      let parted = parted-last m.nodes a b (leaves_left m.nodes (Some (a, b))) run in
       let same : b ≡ slot = let e = step.0 in cc in
       subst (λ n. Tells m (Some (a, b)) new (λ p ps. ps ++ p ∷ []) n) same
       (subst (λ e. Tells m (Some (a, b)) e (λ p ps. ps ++ p ∷ []) b) (sym step.1)

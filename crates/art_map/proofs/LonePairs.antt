@@ -1,9 +1,9 @@
 -- What the pair that an insertion would remove shows, before and after it is written.
-use Rattle.std.proofs.Common.{◌≡◌, ℕ, Option, Some, sym, ap, ap₂, subst, ◌∙◌}
+use Rattle.std.proofs.Common.{◌≡◌, ℕ, Some, sym, ap, ap₂, subst, ◌∙◌}
 use Rattle.std.specs.Prelude.{MatchOption, option_map}
 use Rattle.std.specs.Borrow.{MutBor}
 use Rattle.art_bytes.specs.declared.as_bytes.AsBytes as as_bytes
-use Rattle.art_arena.specs.arena.Arena.{cell_of, held_at, node_at}
+use Rattle.art_arena.specs.arena.Arena.{cell_of, held_at}
 use Rattle.art_arena.specs.arena.Cells.{leaf_name}
 use Rattle.art_arena.proofs.shapes.LeafValues.{leaf-there}
 use Rattle.art_operations.specs.Pairs.{with_pair_put}

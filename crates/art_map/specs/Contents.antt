@@ -3,10 +3,9 @@ use Rattle.std.specs.Prelude.{◌≡◌, ℕ, zero, suc, Bool, bytes_eq, List, [
 use Rattle.std.specs.List.{AllByRecursion}
 use Rattle.art_nodes.specs.Name.{Name}
 use Rattle.art_nodes.specs.declared.leaf.LeafNode.{LeafNode}
-use Rattle.art_arena.specs.arena.Arena.{Arena, SameNodes, node_at, held_at}
+use Rattle.art_arena.specs.arena.Arena.{Arena, SameNodes, node_at, held_at, slots_of}
 use Rattle.art_arena.specs.arena.Cells.{Cell, pair, branches, leaf_name}
 use Rattle.art_arena.specs.tree.Tenants.{begins_with}
-use Rattle.art_arena.proofs.shapes.Measures.{slots_of}
 use Rattle.art_operations.specs.Pairs.{HasPairs}
 
 -- the pairs, ascending by the bytes of their keys; the nodes that hold them, and the name of the root

@@ -7,7 +7,7 @@ use Rattle.art_arena.specs.declared.ends.End.{End}
 use Rattle.art_bytes.specs.declared.as_bytes.AsBytes as as_bytes
 use Rattle.art_operations.specs.Pairs.{IsAtEnd, with_pair_put}
 use Rattle.art_map.specs.Contents.{Contents}
-use Rattle.art_map.specs.Walked.{pairs_between_ends}
+use Rattle.art_walks.specs.Walked.{pairs_left}
 use Rattle.art_map.specs.declared.map.extraction.Extraction.{Extraction}
 use Rattle.art_map.specs.contracts.map.extraction.Extraction as extraction
 
@@ -18,7 +18,7 @@ module _ {K V : Type 0} {P : ℕ} {g : as_bytes.Ghosts K} where
 
   -- the pairs that are still to be asked
   abbrev pub left_of : Extraction K V P g → List (K × V)
-  left_of e = pairs_between_ends e.map.now.nodes e.leaves
+  left_of e = pairs_left e.map.now.nodes e.leaves
 
   -- d is e, once w is the value of the pair at this end of those
   pub record IsWrittenAt (end : End) (e d : Extraction K V P g) (w : V) : Type 0 where

@@ -3,8 +3,7 @@ use Rattle.std.specs.Prelude.{◌==◌, ℕ, List, Option, Some, None, option_ma
 use Rattle.art_arena.specs.arena.Arena.{links_at}
 use Rattle.art_arena.specs.arena.Linked.{Links}
 use Rattle.art_walks.specs.Runs.{Ends}
-use Rattle.art_walks.specs.Walked.{IsCounted, ends_behind, pairs_along, start_of}
-use Rattle.art_walks.proofs.RunLengths.{left_in}
+use Rattle.art_walks.specs.Walked.{IsCounted, ends_behind, leaves_left, pairs_left}
 use Rattle.art_map.specs.Contents.{Contents}
 use Rattle.art_map.specs.Lends.{with_value_at}
 
@@ -30,11 +29,11 @@ before_last links (Some ends) = if ends.0 == ends.1 then None else ends_before (
 module _ {K V : Type 0} where
   -- the leaves between these ends are a run of the map
   abbrev pub IsRunIn : Contents K V → Ends → Type 0
-  IsRunIn m ends = IsCounted m.nodes ends (left_in m.nodes ends)
+  IsRunIn m ends = IsCounted m.nodes ends (leaves_left m.nodes ends)
 
   -- their pairs
   abbrev pub run_pairs : Contents K V → Ends → List (K × V)
-  run_pairs m ends = pairs_along (left_in m.nodes ends) m.nodes (start_of ends)
+  run_pairs m ends = pairs_left m.nodes ends
 
   -- the map with another value in the leaf, if there is one
   abbrev pub with_lent_value : Contents K V → Option ℕ → V → Contents K V

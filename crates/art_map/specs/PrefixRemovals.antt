@@ -1,5 +1,5 @@
 -- What a contract says of the removal of all keys behind a prefix.
-use Rattle.std.specs.Prelude.{◌≡◌, ℕ, List, Result}
+use Rattle.std.specs.Prelude.{ℕ, List, Result}
 use Rattle.std.specs.Borrow.{Fml, RattleType, MutBor, RestsIfErr}
 use denote.Param.{number}
 use Rattle.art_bytes.specs.declared.as_bytes.AsBytes as as_bytes

@@ -3,12 +3,7 @@ use Rattle.std.specs.Prelude.{◌≡◌, List, length}
 use Rattle.art_arena.specs.arena.Arena.{Arena}
 use Rattle.art_arena.specs.arena.Shapes.{pairs_of}
 use Rattle.art_walks.specs.Runs.{Ends}
-use Rattle.art_arena.proofs.shapes.Measures.{slots_of}
-use Rattle.art_walks.specs.Walked.{IsCounted, pairs_along, run_length, start_of}
-
--- the pairs along the links between these ends
-abbrev pub pairs_between_ends : {K V : Type 0} → Arena K V → Ends → List (K × V)
-pairs_between_ends arena ends = pairs_along (run_length (slots_of arena) arena ends) arena (start_of ends)
+use Rattle.art_walks.specs.Walked.{IsCounted}
 
 -- the walk between these ends has these pairs
 pub record IsWalkOf {K V : Type 0} (arena : Arena K V) (ends : Ends) (pairs : List (K × V)) : Type 0 where

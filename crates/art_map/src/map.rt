@@ -167,6 +167,14 @@ impl<K: AsBytes, V, const PREFIX_LEN: usize> TreeMap<K, V, PREFIX_LEN> {
     }
 }
 
+/// An empty map, where std makes a default value: as the value of an entry, or in place of what is taken.
+///
+/// ```
+/// use std::collections::BTreeMap;
+/// let mut shelves: BTreeMap<u8, TreeMap<[u8; 2], u32, 16>> = BTreeMap::new(rt.alloc());
+/// shelves.entry(7)?.or_default().insert(*b"ab", 1)?;
+/// assert_eq!(rt; shelves[&7].len(), 1);
+/// ```
 impl<K: AsBytes, V, const PREFIX_LEN: usize> MadeWith<Global> for TreeMap<K, V, PREFIX_LEN> {
     ghost is_made_with = { λ m. m.pairs ≡ [] };
 

@@ -1,4 +1,4 @@
-//! What the callers of README.md answer, of whom no row from outside is told.
+//! What the callers of README.md return, of whom no row from outside is told.
 use crate::calling::{
     claim, count_ends, count_front, count_of, give_free, hand_over, nodes_of, outline, restart,
     toggle, total, trim, weigh,

@@ -1,4 +1,4 @@
-//! What the callers of README.md answer, one after the other.
+//! What the callers of README.md return, one after the other.
 use crate::calling::{
     age, block_of, blocks_within, count, count_between, count_down, films, forget_rare, give,
     into_list, keep_last, last_word, owner_of, raise_between, spread, tally,

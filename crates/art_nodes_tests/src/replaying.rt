@@ -9,7 +9,7 @@ fn leaf(byte: u8) -> OpaqueNodePtr {
     NodePtr::<KindLeaf>::from_slot(usize::from(byte) + 1000).to_opaque()
 }
 
-// Whether the answer is this child, or none.
+// Whether the result is this child, or none.
 fn is_child(answer: Option<&ChildAnswer>, child: Option<(u8, OpaqueNodePtr)>) -> bool {
     match answer {
         Some(ChildAnswer::Child(held)) => *held == child,

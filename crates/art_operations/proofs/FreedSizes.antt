@@ -2,13 +2,13 @@
 -- of frees.
 use Rattle.std.proofs.Common.{◌≡◌, ℕ, zero, suc, ◌≤◌, Bool, cond, List, length, Option, Some, None, is_some, refl, sym, ap, ◌∙◌, arith, length-append}
 use Rattle.art_nodes.specs.Name.{Name}
-use Rattle.art_arena.specs.arena.Arena.{Arena, node_at}
+use Rattle.art_arena.specs.arena.Arena.{Arena, node_at, slots_of}
 use Rattle.art_arena.specs.arena.Cells.{Cell, pair, branches, leaf_name, AreHeld}
 use Rattle.art_arena.specs.arena.Shapes.{Shape, Branches, leaf_at, inner_at, no_branch, branch, name_of, children_at, cells, cells_in}
 use Rattle.art_arena.proofs.tree.Order.{all_left, all_right}
 use Rattle.art_arena.proofs.shapes.CellLists.{copies-append}
 use Rattle.art_arena.proofs.shapes.HeldLeaves.{no_inner}
-use Rattle.art_arena.proofs.shapes.Measures.{slots_of, held_few, total}
+use Rattle.art_arena.proofs.shapes.Measures.{held_few, total}
 use Rattle.art_operations.specs.Frees.{cells_with, cells_with_in}
 use Rattle.art_operations.specs.inner.Freeing.{HoldsPart}
 

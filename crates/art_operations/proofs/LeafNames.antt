@@ -18,7 +18,9 @@ use Rattle.art_operations.specs.KeyedLists.{overlaps, without_overlapping}
 use Rattle.art_operations.specs.LeafNames.{HasKeyAt, HasLeavesOf, KeepsLeavesOf}
 use Rattle.art_operations.specs.Overwrites.{IsOverwrittenBeside}
 use Rattle.art_operations.specs.Pairs.{with_pair_over}
+use Rattle.art_operations.specs.Subtrees.{leaves_without, IsCutBeside}
 use Rattle.art_operations.specs.declared.delete.result.DeleteResult.{DeleteResult}
+use Rattle.art_operations.specs.declared.delete.subtree.SubtreeDeleteResult.{SubtreeDeleteResult}
 use Rattle.art_operations.specs.declared.insert.result.InsertResult.{InsertResult}
 use Rattle.art_operations.specs.declared.prefix_insert.result.PrefixInsertResult.{PrefixInsertResult}
 use Rattle.art_operations.proofs.LeafPairs.{held_leaf}
@@ -59,6 +61,16 @@ module _ {X : Type 0} where
       here true e later (inl f) = ap test (sym f) ∙ e
       here true e later (inr i) = later i
       here false e later i = later i
+
+  -- and stands in that list
+  of-filter : (test : X → Bool) (y : X) (xs : List X) → IsIn y (filter test xs) → IsIn y xs
+  of-filter test y [] i = i
+  of-filter test y (x ∷ xs) i = here (test x) (of-filter test y xs) i
+    where
+      here : (b : Bool) → (IsIn y (filter test xs) → IsIn y xs) → IsIn y (cond b (x ∷ filter test xs) (filter test xs)) → IsIn y (x ∷ xs)
+      here true later (inl e) = inl e
+      here true later (inr i) = inr (later i)
+      here false later i = inr (later i)
 
 module _ {K V : Type 0} (P : ℕ) where
   -- the cell of a leaf is that of one of the shape's
@@ -156,6 +168,14 @@ module _ {K V : Type 0} (bytes : K → List ℕ) where
           let back : List (LeafAt K V) = record { slot = gone; key = result.deleted_leaf.key; value = result.deleted_leaf.value } ∷ is.back in
           let stood : IsIn (record { slot = slot; key = k; value = v }) (is.front ++ back) = elim (in_cases (record { slot = slot; key = k; value = v }) is.front is.back j) [ inl i ↦ in_left (record { slot = slot; key = k; value = v }) is.front back i | inr i ↦ in_right (record { slot = slot; key = k; value = v }) is.front back (inr i) ] in
           (k, v, leaf-of old root rest s tree slot k v (subst (IsIn (record { slot = slot; key = k; value = v })) (sym is.was) stood), same)
+    ]
+
+    -- where those behind a prefix were cut off, each leaf that is left had its key
+    pub cut-names : (old new : Arena K V) (root : Name) (rest : List (Name × Cell K V)) (s : Shape K V) → StoresBeside bytes P old root rest s → KeepsNodes rest old new
+        → (front : List ℕ) (result : SubtreeDeleteResult) → IsCutBeside bytes front P new rest s result → HasLeavesOf bytes old new
+    cut-names old new root rest s tree keeps front result is slot bs (k, v, e, same) = elim (among-left new rest result.new_root (leaves_without bytes front (leaves s)) is.left slot k v e) [
+      | inl j ↦ (k, v, sym (beside-kept old new rest keeps (leaf_name slot) (pair k v) j) ∙ e, same)
+      | inr j ↦ (k, v, leaf-of old root rest s tree slot k v (of-filter _ (record { slot = slot; key = k; value = v }) (leaves s) j), same)
     ]
 
     -- where one took the place of those whose keys overlap its key, of which none had that key, each leaf that stays has the key that it had

@@ -65,3 +65,6 @@ pub mod WrittenValues
 pub mod TakenEnds
 pub mod ClonedTrees
 pub mod RepeatedClones
+pub mod Spines
+pub mod Closing
+pub mod Building

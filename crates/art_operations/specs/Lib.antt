@@ -14,6 +14,7 @@ pub mod KeyedLists
 pub mod LeafNames
 pub mod Overwrites
 pub mod Pairs
+pub mod Builders
 pub mod Commands
 pub mod Runs
 pub mod Frees

@@ -9,3 +9,4 @@ pub mod Runs
 pub mod Freeing
 pub mod Nearest
 pub mod LeafParts
+pub mod Spines

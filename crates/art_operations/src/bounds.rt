@@ -36,8 +36,8 @@ struct Nearest {
     order: Ordering,
 }
 
-/// Finds a leaf in the tree below a name: the first whose key is inside a bound as a start, or the last whose key is
-/// inside it as an end. It returns `None` if there is none. The bound's key need not be stored.
+/// Finds a leaf in the tree below a name. For a bound as a start that is the first whose key is inside it, for one as
+/// an end the last. It returns `None` if there is none. The bound's key need not be stored.
 ///
 /// It allocates nothing: it finds the place of the bound's key, and a leaf beside it.
 pub fn find_leaf_pointer_for_bound<K: AsBytes, V, const PREFIX_LEN: usize>(

@@ -4,6 +4,7 @@
 #![tactic(auto)]
 
 pub mod bounds;
+pub mod build;
 pub mod clone;
 pub mod deallocate;
 pub mod delete;
@@ -21,6 +22,7 @@ pub use bounds::{
     find_leaf_pointer_for_bound, find_leaf_pointer_for_bound_with, find_prefix_segment,
     find_prefix_segment_with, find_range_segment, find_range_segment_with,
 };
+pub use build::{PushRefused, TreeBuilder};
 pub use clone::{CloneResult, clone_unchecked};
 pub use deallocate::{deallocate_leaves, deallocate_tree, deallocate_tree_non_leaves};
 pub use delete::leaf::take_leaf;

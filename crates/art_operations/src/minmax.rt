@@ -39,8 +39,8 @@ pub fn maximum_unchecked<K: AsBytes, V, const PREFIX_LEN: usize>(
     maximum_with(&mut reader, root)
 }
 
-/// Returns what `minimum_unchecked` does, by a reader that counts each node that is read: those of the path of the
-/// leaf's key below the node, the leaf included. The count stays at the greatest number.
+/// Returns what `minimum_unchecked` does, by a reader that counts each node that is read. These are the nodes of the
+/// path of the leaf's key below the node, the leaf included. The count stays at the greatest number.
 #[inline(always)]
 pub fn minimum_with<K: AsBytes, V, const PREFIX_LEN: usize>(
     reader: &mut ArenaReader<'_, K, V, PREFIX_LEN>,
@@ -60,8 +60,8 @@ pub fn minimum_with<K: AsBytes, V, const PREFIX_LEN: usize>(
     end_leaf_with(reader, root, End::First).name
 }
 
-/// Returns what `maximum_unchecked` does, by a reader that counts each node that is read: those of the path of the
-/// leaf's key below the node, the leaf included. The count stays at the greatest number.
+/// Returns what `maximum_unchecked` does, by a reader that counts each node that is read. These are the nodes of the
+/// path of the leaf's key below the node, the leaf included. The count stays at the greatest number.
 #[inline(always)]
 pub fn maximum_with<K: AsBytes, V, const PREFIX_LEN: usize>(
     reader: &mut ArenaReader<'_, K, V, PREFIX_LEN>,

@@ -76,7 +76,7 @@ fn meets<K: AsBytes, V>(arena: &NodeArena<K, V, 4>, root: OpaqueNodePtr, key: &K
     (leaf.is_some(), matched.is_ok())
 }
 
-// The same of a root that may be a leaf, of which none is told.
+// Whether a key is found and begins with the whole prefix of the root. Of a root that is a leaf nothing is told.
 fn meets_inner<K: AsBytes, V>(
     arena: &NodeArena<K, V, 4>,
     root: OpaqueNodePtr,
@@ -162,7 +162,7 @@ fn is_so<K: AsBytes + Drop, V: Drop>(
     }
 }
 
-// The same of the tree that commands make.
+// Whether what is asked holds of the tree that commands make.
 fn is_so_in<K: CloneBytes + Drop, V: Clone + Drop>(
     alloc: Global,
     commands: &[Command<K, V>],
@@ -174,7 +174,7 @@ fn is_so_in<K: CloneBytes + Drop, V: Clone + Drop>(
     }
 }
 
-// The same of a tree of three keys of two bytes.
+// Whether what is asked holds of a tree of three keys of two bytes.
 fn is_so_of_three(alloc: Global, ask: Ask<'_, [u8; 2], u8>) -> bool {
     let commands = [
         Command::Insert([1u8, 2], 7u8),

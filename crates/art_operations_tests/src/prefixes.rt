@@ -4,8 +4,8 @@ use art_nodes::{InnerNode4, InnerNodeInit, LeafNode};
 use art_operations::{KeyPrefix, PrefixMatchBehavior};
 use std::alloc::AllocError;
 
-// How a prefix that is stored whole is matched by a key with its front and by one without, and what comes of the
-// behavior behind one that isn't: by then the length alone counts.
+// How a prefix that is stored whole is matched by a key that begins with it, and by one that doesn't. Once a prefix is
+// met that is not stored whole, the length alone counts.
 fn matches(behavior: &mut PrefixMatchBehavior) -> [bool; 4] {
     let short = InnerNode4::<[u8; 3], u64, 4>::from_prefix(b"ab", 2);
     let long = InnerNode4::<[u8; 3], u64, 4>::from_prefix(b"abcdef", 6);
@@ -17,8 +17,8 @@ fn matches(behavior: &mut PrefixMatchBehavior) -> [bool; 4] {
     ]
 }
 
-// Whether a leaf with the key 1, 2, 3 has a key that differs in its first byte, behind that byte, and is a front of a
-// longer one.
+// Whether the key of a leaf, 1, 2, 3, is taken for 9, 2, 3, and for a prefix of 9, 2, 3, 4. Both are compared behind
+// their first byte.
 fn compares(behavior: PrefixMatchBehavior) -> (bool, bool) {
     let leaf: LeafNode<[u8; 3], u64> = LeafNode::with_no_siblings([1, 2, 3], 7);
     (

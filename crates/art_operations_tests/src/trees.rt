@@ -10,7 +10,7 @@ use art_bytes::AsBytes;
 use art_nodes::OpaqueNodePtr;
 use art_operations::{put_pair, search_unchecked, take_pair};
 
-// Stores a pair as a tree of its own beside another tree, and answers its root.
+// Stores a pair as a tree of its own beside another tree, and returns its root.
 fn put_beside<K: AsBytes + Drop, V: Drop>(
     arena: &mut NodeArena<K, V, 4>,
     root: OpaqueNodePtr,
@@ -27,7 +27,7 @@ fn put_beside<K: AsBytes + Drop, V: Drop>(
     }
 }
 
-// Takes a key out of one tree, and answers whether the other, which stands beside it, has the key then.
+// Takes a key out of one tree, and returns whether the other, which stands beside it, has the key then.
 fn takes_from_one<K: AsBytes + Drop, V: Drop>(
     arena: &mut NodeArena<K, V, 4>,
     root: OpaqueNodePtr,

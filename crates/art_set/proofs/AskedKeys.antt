@@ -1,7 +1,7 @@
 -- A closure that is asked of keys in turn, and what is left behind a call.
 use Rattle.std.proofs.Common.{◌≡◌, ℕ, Bool, true, false, cond, List, [], ◌∷◌, ◌++◌, Option, Some, None, Result, Ok, Err, refl, sym, ap, ◌∙◌, subst, inl, inr, arith, append_assoc}
 use Rattle.std.specs.Prelude.{IfOk, OnErr, filter}
-use Rattle.std.specs.List.{AllByRecursion, items_where_true}
+use Rattle.std.specs.List.{items_where_true}
 use Rattle.std.specs.List.Retain.{ExtractsNext, IsFiltered}
 use Rattle.art_arena.specs.tree.Order.{AscendsByKey}
 use Rattle.art_arena.specs.tree.Shrinks.{Shrinks}
@@ -9,23 +9,16 @@ use Rattle.art_bytes.specs.Keys.{IsBefore}
 use Rattle.art_operations.specs.KeyedLists.{without_key}
 use Rattle.art_operations.proofs.KeyedLists.{taken}
 use Rattle.art_set.specs.Asked.{AnswersForKey, AskingKeys, CallableOnEachKey, KeysComeOf, ExtractsKey, StopsAtKey}
+use Rattle.art_set.proofs.MergeLemmas.{all-filter}
 
 module _ {X : Type 0} (key : X → List ℕ) where
-  all-kept : (P : X → Type 0) (p : X → Bool) (xs : List X) → AllByRecursion P xs → AllByRecursion P (filter p xs)
-  all-kept P p [] h = tt
-  all-kept P p (x ∷ xs) h = pick (p x) (all-kept P p xs h.1)
-    where
-      pick : (b : Bool) → AllByRecursion P (filter p xs) → AllByRecursion P (cond b (x ∷ filter p xs) (filter p xs))
-      pick true rest = (h.0, rest)
-      pick false rest = rest
-
   -- part of an ascending list ascends
   pub ascending-filter : (p : X → Bool) (xs : List X) → AscendsByKey key xs → AscendsByKey key (filter p xs)
   ascending-filter p [] h = tt
   ascending-filter p (x ∷ xs) h = pick (p x) (ascending-filter p xs h.1)
     where
       pick : (b : Bool) → AscendsByKey key (filter p xs) → AscendsByKey key (cond b (x ∷ filter p xs) (filter p xs))
-      pick true rest = (all-kept (λ y. IsBefore (key x) (key y)) p xs h.0, rest)
+      pick true rest = (all-filter (λ y. IsBefore (key x) (key y)) p xs h.0, rest)
       pick false rest = rest
 
 module _ {K F : Type 0} (T : F → K → Bool → F → Type 0) where

@@ -1,15 +1,17 @@
 -- How many comparisons a merge of two ascending lists needs, step by step.
-use Rattle.std.proofs.Common.{◌≡◌, ℕ, suc, ◌+◌, Bool, true, false, not, cond, ◌||◌, List, [], ◌∷◌, refl, sym, ap, ap₂, ◌∙◌, subst, arith, length}
+use Rattle.std.proofs.Common.{◌≡◌, ℕ, ◌+◌, Bool, true, false, not, cond, ◌||◌, List, [], ◌∷◌, refl, sym, ap, ap₂, ◌∙◌, subst, arith, length}
 use Rattle.std.specs.Prelude.{filter}
 use Rattle.std.specs.Bool.{OnFalse}
 use Rattle.std.specs.List.{AllByRecursion}
-use Rattle.std.specs.Ordering.{is_lt, ordering_reverse}
+use Rattle.std.specs.Ordering.{is_lt}
 use Rattle.std.specs.declared.cmp.Ordering.{Ordering}
 use Rattle.std.specs.declared.cmp.Ordering.TheVariants.{Less, Equal, Greater}
 use Rattle.art_bytes.specs.Keys.{bytes_cmp, is_below}
 use Rattle.art_set.specs.Members.{is_member}
 use Rattle.art_set.specs.Merges.{comparisons_of, difference_of, has_not_below, AscendsInBytes}
-use Rattle.art_set.proofs.MergeLemmas.{AreAbove, above-lack, above-next, above-next-turned, above-same, agrees, all-filter, all-map, behind, filter-none, filter-same, turned}
+use Rattle.art_operations.proofs.Nearest.{turned}
+use Rattle.art_set.specs.inner.KindLaws.{filter-none, filter-same}
+use Rattle.art_set.proofs.MergeLemmas.{AreAbove, above-lack, above-next, above-next-turned, above-same, agrees, all-filter, all-map, behind}
 
 -- what holds is so where a test fails
 pub on-false : {P : Type 0} (b : Bool) → P → OnFalse b P

@@ -1,10 +1,9 @@
 -- The first key of two ascending lists, and what a merge of them has behind it.
-use Rattle.std.proofs.Common.{◌≡◌, ℕ, ◌+◌, ◌-◌, ◌^◌, ◌<◌, ◌≤◌, ◌==◌, min, Bool, true, false, not, cond, ◌&&◌, ◌||◌, bytes_eq, List, [], ◌∷◌, refl, sym, ap, ap₂, ◌∙◌, subst, arith, length, eqb-true, Option, Some, None}
+use Rattle.std.proofs.Common.{◌≡◌, ℕ, ◌+◌, ◌-◌, ◌^◌, ◌<◌, ◌==◌, min, Bool, true, false, not, cond, ◌&&◌, ◌||◌, bytes_eq, List, [], ◌∷◌, refl, sym, ap, ap₂, ◌∙◌, subst, arith, length, eqb-true, Option, Some, None}
 use Rattle.std.specs.Prelude.{filter, is_some, ⊤, IfNone}
 use Rattle.std.specs.Bool.{OnFalse}
 use Rattle.std.specs.List.{AllByRecursion, list_all}
-use Rattle.std.specs.Ordering.{is_lt, ordering_reverse}
-use Rattle.std.specs.declared.cmp.Ordering.{Ordering}
+use Rattle.std.specs.Ordering.{is_lt}
 use Rattle.std.specs.declared.cmp.Ordering.TheVariants.{Less, Equal, Greater}
 use Rattle.std.proofs.lemmas.Cmp.{nat_list_cmp_total}
 use Rattle.std.proofs.lemmas.Map.Text.{is_eq-slice_cmp}
@@ -16,11 +15,9 @@ use Rattle.std.specs.Borrow.{Bor}
 use Rattle.std.specs.Iterator.{MakesProgress, at_most}
 use Rattle.std.specs.Map.Iter.{TakesFirst, deref}
 use Rattle.art_set.specs.Members.{is_member}
-use Rattle.art_set.specs.Merges.{GivesNext, Merge, intersection_of, difference_of, put_below, put_among, union_of, symmetric_difference_of, AscendsInBytes}
-
--- the other way round, the order is turned
-pub turned : (k l : List ℕ) (o : Ordering) → bytes_cmp k l ≡ o → bytes_cmp l k ≡ ordering_reverse o
-turned k l o e = nat_list_cmp_total.antisymm l k ∙ ap ordering_reverse e
+use Rattle.art_operations.proofs.Nearest.{turned}
+use Rattle.art_set.specs.inner.KindLaws.{filter-none, filter-same}
+use Rattle.art_set.specs.Merges.{GivesNext, Merge, put_below, put_among, AscendsInBytes}
 
 -- keys that are not equal in the order have other bytes
 differs : (k l : List ℕ) → bytes_cmp k l ≡ Less → bytes_eq k l ≡ false
@@ -33,23 +30,6 @@ pub agrees : (k l : List ℕ) → bytes_cmp k l ≡ Equal → bytes_eq k l ≡ t
 agrees k l e = sym (is_eq-slice_cmp k l) ∙ ap is_eq e
 
 module _ {X : Type 0} where
-  -- lists of items that pass the same
-  pub filter-same : (p q : X → Bool) (xs : List X) → AllByRecursion (λ x. p x ≡ q x) xs → filter p xs ≡ filter q xs
-  filter-same p q [] h = refl
-  filter-same p q (x ∷ xs) h = ap₂ (λ b ys. cond b (x ∷ ys) ys) h.0 (filter-same p q xs h.1)
-
-  all-always : (P : X → Type 0) → ((x : X) → P x) → (xs : List X) → AllByRecursion P xs
-  all-always P h [] = tt
-  all-always P h (x ∷ xs) = (h x, all-always P h xs)
-
-  pub filter-none : (p : X → Bool) (xs : List X) → ((x : X) → p x ≡ false) → filter p xs ≡ []
-  filter-none p [] h = refl
-  filter-none p (x ∷ xs) h = ap (λ b. cond b (x ∷ filter p xs) (filter p xs)) (h x) ∙ filter-none p xs h
-
-  filter-all : (p : X → Bool) (xs : List X) → ((x : X) → p x ≡ true) → filter p xs ≡ xs
-  filter-all p [] h = refl
-  filter-all p (x ∷ xs) h = ap (λ b. cond b (x ∷ filter p xs) (filter p xs)) (h x) ∙ ap (λ ys. x ∷ ys) (filter-all p xs h)
-
   pub all-filter : (P : X → Type 0) (p : X → Bool) (xs : List X) → AllByRecursion P xs → AllByRecursion P (filter p xs)
   all-filter P p [] h = tt
   all-filter P p (x ∷ xs) h = pick (p x) (all-filter P p xs h.1)
@@ -152,37 +132,6 @@ module _ {K : Type 0} (bytes : K → List ℕ) where
 
   pub merged-no_second : (both second : Bool) (xs : List K) → merged bytes false both second xs [] ≡ []
   merged-no_second both second xs = filter-none _ xs (λ x. refl)
-
-  pub difference-merged : (xs ys : List K) → merged bytes true false false xs ys ≡ difference_of bytes xs ys
-  difference-merged xs ys =
-      ap₂ (put_among bytes) (filter-none _ ys (λ y. refl)) (filter-same _ _ xs (all-always (λ x. cond (is_member bytes (bytes x) ys) false true ≡ not (is_member bytes (bytes x) ys)) (λ x. lacks (is_member bytes (bytes x) ys)) xs))
-    where
-      lacks : (b : Bool) → cond b false true ≡ not b
-      lacks true = refl
-      lacks false = refl
-
-  pub intersection-merged : (xs ys : List K) → merged bytes false true false xs ys ≡ intersection_of bytes xs ys
-  intersection-merged xs ys =
-      ap₂ (put_among bytes) (filter-none _ ys (λ y. refl)) (filter-same _ _ xs (all-always (λ x. cond (is_member bytes (bytes x) ys) true false ≡ is_member bytes (bytes x) ys) (λ x. kept (is_member bytes (bytes x) ys)) xs))
-    where
-      kept : (b : Bool) → cond b true false ≡ b
-      kept true = refl
-      kept false = refl
-
-  pub union-merged : (xs ys : List K) → merged bytes true true true xs ys ≡ union_of bytes xs ys
-  union-merged xs ys = ap (put_among bytes (difference_of bytes ys xs)) (filter-all _ xs (λ x. always (is_member bytes (bytes x) ys)))
-    where
-      always : (b : Bool) → cond b true true ≡ true
-      always true = refl
-      always false = refl
-
-  pub symmetric-merged : (xs ys : List K) → merged bytes true false true xs ys ≡ symmetric_difference_of bytes xs ys
-  symmetric-merged xs ys =
-      ap (put_among bytes (difference_of bytes ys xs)) (filter-same _ _ xs (all-always (λ x. cond (is_member bytes (bytes x) ys) false true ≡ not (is_member bytes (bytes x) ys)) (λ x. lacks (is_member bytes (bytes x) ys)) xs))
-    where
-      lacks : (b : Bool) → cond b false true ≡ not b
-      lacks true = refl
-      lacks false = refl
 
   -- two lists, of which the next key of one or of each is gone past
   pub step-first : (w : Wanted) (x : K) (xs ys on : List K) → xs ≡ x ∷ on → AscendsInBytes bytes xs → AreAbove x ys

@@ -14,7 +14,9 @@ use Rattle.art_set.specs.Members.{is_member, with_key_put}
 use Rattle.art_set.specs.inner.Merging.{merged, of_first, of_second}
 use Rattle.art_set.proofs.KeyPuts.{put-last}
 use Rattle.art_set.specs.Merges.{AscendsInBytes, difference_of, intersection_of, put_among, put_below, union_of, symmetric_difference_of}
-use Rattle.art_set.proofs.MergeLemmas.{AreAbove, above-below, all-filter, all-joined, all-map, all-put, differs-turned, filter-none, turned}
+use Rattle.art_operations.proofs.Nearest.{turned}
+use Rattle.art_set.specs.inner.KindLaws.{filter-none}
+use Rattle.art_set.proofs.MergeLemmas.{AreAbove, above-below, all-filter, all-joined, all-map, all-put, differs-turned}
 
 module _ {K : Type 0} (bytes : K → List ℕ) where
   -- keys in the order of a set ascend by their bytes

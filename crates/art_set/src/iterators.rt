@@ -39,6 +39,17 @@ impl<'a, K, const PREFIX_LEN: usize> Iter<'a, K, PREFIX_LEN> {
     }
 }
 
+/// Another iterator over the keys still to come. It allocates nothing, and never fails.
+///
+/// ```
+/// let mut set = TreeSet::new(rt.alloc());
+/// set.extend([*b"ab", *b"ac"])?;
+/// let mut keys = set.iter();
+/// keys.next();
+/// let again = keys.clone()?;
+/// assert_eq!(rt; keys.next_back(), Some(b"ac"));
+/// assert!(rt; again.eq([b"ac"]));
+/// ```
 impl<'a, K, const PREFIX_LEN: usize> Clone for Iter<'a, K, PREFIX_LEN> {
     ghost is_clone = { λ original copy. copy ≡ original };
 
@@ -176,6 +187,18 @@ impl<'a, K, const PREFIX_LEN: usize> Range<'a, K, PREFIX_LEN> {
     }
 }
 
+/// Another iterator over the keys still to come. It allocates nothing, and never fails.
+///
+/// ```
+/// use std::ops::Bound;
+/// let mut set = TreeSet::new(rt.alloc());
+/// set.extend([*b"ab", *b"ac"])?;
+/// let mut keys = set.range(Bound::Included(b"ab"), Bound::Unbounded);
+/// keys.next();
+/// let again = keys.clone()?;
+/// assert_eq!(rt; keys.next_back(), Some(b"ac"));
+/// assert!(rt; again.eq([b"ac"]));
+/// ```
 impl<'a, K, const PREFIX_LEN: usize> Clone for Range<'a, K, PREFIX_LEN> {
     ghost is_clone = { λ original copy. copy ≡ original };
 

@@ -19,6 +19,6 @@ mod set;
 pub use iterators::extract_if::ExtractIf;
 pub use iterators::prefix::Prefix;
 pub use iterators::{IntoIter, Iter, Range};
-pub use merges::{Difference, Intersection, SymmetricDifference, Union};
+pub use merges::{Difference, Intersection, Merged, SymmetricDifference, Union};
 pub use set::TreeSet;
 pub use set::refused::RefusedKey;

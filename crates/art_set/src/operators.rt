@@ -1,30 +1,28 @@
 //! `&`, `|`, `^` and `-` of two sets: sets of clones of the keys that a merge gives.
 ghost use Rattle.std.specs.Prelude.{◌≡◌, IfOk};
-ghost use Rattle.art_set.specs.Merges.{AscendsInBytes, difference_of, intersection_of};
-ghost use Rattle.art_set.specs.Merges.{symmetric_difference_of, union_of};
-ghost use Rattle.art_set.specs.inner.Merging.{merging};
+ghost use Rattle.art_set.specs.Merges.{difference_of, intersection_of, symmetric_difference_of, union_of};
 
-use crate::merges::{Sides, Wanted};
+use crate::merges::{FirstAlone, InBoth, InEither, Kind, OneAlone};
 use crate::set::TreeSet;
 use art_bytes::{NoPrefixesBytes, OrderedBytes};
 use art_map::nodes_fit;
-use std::alloc::{AllocError, Global};
+use std::alloc::AllocError;
 use std::ops::{BitAnd, BitOr, BitXor, Sub};
 
-// A set of clones of the keys of two sets that are wanted. It fails if a key can't be cloned, or if out of memory. What
-// was made is dropped then.
-fn collected<K: OrderedBytes + NoPrefixesBytes + Clone + Drop, const PREFIX_LEN: usize>(
-    alloc: Global,
-    mut sides: Sides<'_, K, PREFIX_LEN>,
-    wanted: Wanted,
+// A set of clones of the keys that a merge of this kind gives. It fails if a key can't be cloned, or if out of memory.
+// What was made is dropped then.
+fn collected<W: Kind<K>, K: OrderedBytes + NoPrefixesBytes + Clone + Drop, const PREFIX_LEN: usize>(
+    first: &TreeSet<K, PREFIX_LEN>,
+    second: &TreeSet<K, PREFIX_LEN>,
 ) -> Result<TreeSet<K, PREFIX_LEN>, AllocError>
-    requires { AscendsInBytes K.bytes sides.first × AscendsInBytes K.bytes sides.second }
-    ensures { ((k c : K) → K.is_clone k c → c ≡ k) → IfOk result (λ s. s ≡ merging K.bytes wanted sides.entry) }
+    ensures { ((k c : K) → K.is_clone k c → c ≡ k) → IfOk result (λ s. s ≡ W.keys first.now second.now) }
 {
     if !nodes_fit::<PREFIX_LEN>() {
         return Err(AllocError);
     }
-    let mut set = TreeSet::with_prefix_len(alloc);
+    let mut set = TreeSet::with_prefix_len(first.alloc);
+    let mut sides = first.beside(second);
+    let wanted = W::wanted();
     while let Some(key) = sides.next_wanted(wanted) {
         let _known = key.as_bytes();
         let clone = key.clone()?;
@@ -58,12 +56,7 @@ impl<'a, 'b, K: OrderedBytes + NoPrefixesBytes + Clone + Drop, const PREFIX_LEN:
         self,
         other: &'b TreeSet<K, PREFIX_LEN>,
     ) -> Result<TreeSet<K, PREFIX_LEN>, AllocError> {
-        let wanted = Wanted {
-            first: false,
-            both: true,
-            second: false,
-        };
-        collected(self.alloc, self.beside(other), wanted)
+        collected::<InBoth, _, _>(self, other)
     }
 }
 
@@ -89,12 +82,7 @@ impl<'a, 'b, K: OrderedBytes + NoPrefixesBytes + Clone + Drop, const PREFIX_LEN:
         self,
         other: &'b TreeSet<K, PREFIX_LEN>,
     ) -> Result<TreeSet<K, PREFIX_LEN>, AllocError> {
-        let wanted = Wanted {
-            first: true,
-            both: true,
-            second: true,
-        };
-        collected(self.alloc, self.beside(other), wanted)
+        collected::<InEither, _, _>(self, other)
     }
 }
 
@@ -120,12 +108,7 @@ impl<'a, 'b, K: OrderedBytes + NoPrefixesBytes + Clone + Drop, const PREFIX_LEN:
         self,
         other: &'b TreeSet<K, PREFIX_LEN>,
     ) -> Result<TreeSet<K, PREFIX_LEN>, AllocError> {
-        let wanted = Wanted {
-            first: true,
-            both: false,
-            second: true,
-        };
-        collected(self.alloc, self.beside(other), wanted)
+        collected::<OneAlone, _, _>(self, other)
     }
 }
 
@@ -148,11 +131,6 @@ impl<'a, 'b, K: OrderedBytes + NoPrefixesBytes + Clone + Drop, const PREFIX_LEN:
         → IfOk r (λ s. s ≡ difference_of K.bytes a.now b.now) };
 
     fn sub(self, other: &'b TreeSet<K, PREFIX_LEN>) -> Result<TreeSet<K, PREFIX_LEN>, AllocError> {
-        let wanted = Wanted {
-            first: true,
-            both: false,
-            second: false,
-        };
-        collected(self.alloc, self.beside(other), wanted)
+        collected::<FirstAlone, _, _>(self, other)
     }
 }

@@ -119,8 +119,33 @@ impl<K: AsBytes, const PREFIX_LEN: usize> TreeSet<K, PREFIX_LEN> {
     {
         self.map.clear();
     }
+
+    /// Gives memory back that the nodes don't need, as `TreeMap::shrink_to_fit` does. It never fails.
+    ///
+    /// ```
+    /// let mut set = TreeSet::new(rt.alloc());
+    /// set.extend([*b"ab", *b"cd"])?;
+    /// set.pop_last()?;
+    /// set.shrink_to_fit();
+    /// assert_eq!(rt; set.last(), Some(b"ab"));
+    /// ```
+    pub fn shrink_to_fit(&mut self)
+    where
+        K: Drop,
+        ensures { self.new ≡ self.old }
+    {
+        self.map.shrink_to_fit();
+    }
 }
 
+/// An empty set, where std makes a default value: as the value of an entry, or in place of what is taken.
+///
+/// ```
+/// use std::collections::BTreeMap;
+/// let mut shelves: BTreeMap<u8, TreeSet<[u8; 2], 16>> = BTreeMap::new(rt.alloc());
+/// shelves.entry(7)?.or_default().insert(*b"ab")?;
+/// assert!(rt; shelves[&7].contains(b"ab"));
+/// ```
 impl<K: AsBytes, const PREFIX_LEN: usize> MadeWith<Global> for TreeSet<K, PREFIX_LEN> {
     ghost is_made_with = { λ s. s ≡ [] };
 

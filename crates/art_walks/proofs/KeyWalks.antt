@@ -8,13 +8,13 @@ use Rattle.art_nodes.specs.declared.kind.NodeType.TheVariants.{Leaf}
 use Rattle.art_nodes.specs.Name.{Name}
 use Rattle.art_nodes.specs.InnerNode.{InnerNode, IsAscendingFrom, names_of, first_child}
 use Rattle.art_nodes.specs.declared.leaf.LeafNode.{LeafNode}
-use Rattle.art_arena.specs.arena.Arena.{Arena, Held, leaf_held, inner_held, held_at, cell_of, node_at}
+use Rattle.art_arena.specs.arena.Arena.{Arena, Held, leaf_held, inner_held, held_at, cell_of, node_at, slots_of}
 use Rattle.art_arena.specs.arena.Cells.{Cell, pair, branches, leaf_name, copies, AreHeld}
 use Rattle.art_arena.specs.arena.Meaning.{IsPart}
 use Rattle.art_arena.specs.arena.Shapes.{Shape, Branches, leaf_at, inner_at, no_branch, branch, name_of, children_at, width, cells, cells_in, node_of}
 use Rattle.art_arena.specs.tree.Kinds.{IsKindOf}
 use Rattle.art_arena.proofs.shapes.CellLists.{copies-append, cell_children, same_cell}
-use Rattle.art_arena.proofs.shapes.Measures.{cells_few, nodes_below, nodes_below-held, slots_of, total}
+use Rattle.art_arena.proofs.shapes.Measures.{cells_few, nodes_below, nodes_below-held, total}
 use Rattle.art_arena.proofs.tree.Order.{all_left, all_right, all_append}
 use Rattle.art_walks.specs.declared.checker.keys.Place.{Place}
 use Rattle.art_walks.specs.inner.Skeletons.{HasKinds, HaveKinds}

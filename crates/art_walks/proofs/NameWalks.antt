@@ -6,13 +6,13 @@ use Rattle.std.proofs.lemmas.List.{reverse-append, reverse-reverse, take_at}
 use Rattle.art_nodes.specs.declared.kind.NodeType.TheVariants.{Leaf}
 use Rattle.art_nodes.specs.Name.{Name}
 use Rattle.art_nodes.specs.InnerNode.{InnerNode, IsInnerNode, IsAscending, IsAscendingFrom, names_of, child_at}
-use Rattle.art_arena.specs.arena.Arena.{Arena, node_at}
+use Rattle.art_arena.specs.arena.Arena.{Arena, node_at, slots_of}
 use Rattle.art_arena.specs.arena.Cells.{Cell, pair, branches, leaf_name, copies, same_name, AreHeld}
 use Rattle.art_arena.specs.arena.Linked.{Links}
 use Rattle.art_arena.specs.arena.Shapes.{node_of}
 use Rattle.art_arena.proofs.shapes.CellLists.{same_name_tells, same_name-self}
 use Rattle.art_arena.proofs.shapes.LinkedLists.{some_of}
-use Rattle.art_arena.proofs.shapes.Measures.{held_few, slots_of}
+use Rattle.art_arena.proofs.shapes.Measures.{held_few}
 use Rattle.art_walks.specs.Faults.{child_in, led_to, HasDeadName, HasLoop, HasWrongCount}
 use Rattle.art_walks.specs.inner.Names.{has_name, meets, AreOnce, IsOpened, IsMiscounted}
 use Rattle.art_walks.specs.inner.Skeletons.{cell_names, IsSkeleton}

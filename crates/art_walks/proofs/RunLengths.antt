@@ -4,14 +4,14 @@ use Rattle.std.proofs.lemmas.Bool.Decides.{eqb_tells}
 use Rattle.art_nodes.specs.declared.kind.NodeType.TheVariants.{Leaf}
 use Rattle.art_nodes.specs.declared.leaf.LeafNode.{LeafNode}
 use Rattle.art_nodes.specs.Name.{Name}
-use Rattle.art_arena.specs.arena.Arena.{Arena, leaf_held, held_at, node_at, links_at}
+use Rattle.art_arena.specs.arena.Arena.{Arena, leaf_held, held_at, node_at, links_at, slots_of}
 use Rattle.art_arena.specs.arena.Cells.{AreHeld, Cell, leaf_name, pair}
 use Rattle.art_arena.specs.arena.Linked.{AreLinked, last_slot, times}
 use Rattle.art_arena.specs.arena.Shapes.{LeafAt, pairs_of}
 use Rattle.art_arena.proofs.shapes.LinkedLists.{AreLinked-right, eqb-self}
-use Rattle.art_arena.proofs.shapes.Measures.{occurrences, few, slots_as, slots_in, slots_of, slots_within}
+use Rattle.art_arena.proofs.shapes.Measures.{occurrences, few, slots_as, slots_in, slots_within}
 use Rattle.art_walks.specs.Runs.{Ends, IsWalk}
-use Rattle.art_walks.specs.Walked.{AreStored, IsCounted, ends_behind, pairs_along, run_length, start_of}
+use Rattle.art_walks.specs.Walked.{AreStored, IsCounted, ends_behind, leaves_left, pairs_along, run_length, start_of}
 use Rattle.art_walks.proofs.Counted.{EndsWalk, Took, counted-pairs, fewer-left, none-ends, pair-read}
 use Rattle.art_walks.proofs.RunSteps.{ends_there, once_in}
 
@@ -77,38 +77,34 @@ module _ {K V : Type 0} (arena : Arena K V) where
           subst (λ a. run_length (slots_of arena) arena (Some (a, last)) ≡ length (l ∷ ls)) same
           (long (slots_of arena) (last_slot None walk.xs) l ls walk.zs last (AreLinked-right (links_at arena) None walk.xs ((l ∷ ls) ++ walk.zs) None walk.list.linked) once walk.ends_are.1 (run-few (l ∷ ls) stored once))
 
-  -- the leaves that are still to come of a run with these ends
-  abbrev pub left_in : Ends → ℕ
-  left_in ends = run_length (slots_of arena) arena ends
-
-  pub recounted : (ends : Ends) (n : ℕ) → IsCounted arena ends n → IsCounted arena ends (left_in ends)
+  pub recounted : (ends : Ends) (n : ℕ) → IsCounted arena ends n → IsCounted arena ends (leaves_left arena ends)
   recounted ends n run = subst (IsCounted arena ends) (sym (measured ends n run)) run
 
-  pub run-pairs : (ends : Ends) (n : ℕ) (run : IsCounted arena ends n) → pairs_along (left_in ends) arena (start_of ends) ≡ pairs_of run.leaves
+  pub run-pairs : (ends : Ends) (n : ℕ) (run : IsCounted arena ends n) → pairs_along (leaves_left arena ends) arena (start_of ends) ≡ pairs_of run.leaves
   run-pairs ends n run = ap (λ m. pairs_along m arena (start_of ends)) (measured ends n run) ∙ counted-pairs arena ends n run
 
   -- behind a step
-  module _ (old new : Ends) (slot : ℕ) (order : K × V → List (K × V) → List (K × V)) (took : Took arena old new (left_in old) slot order) where
-    left_is : left_in new ≡ left_in old - 1
-    left_is = measured new (left_in old - 1) took.rest
+  module _ (old new : Ends) (slot : ℕ) (order : K × V → List (K × V) → List (K × V)) (took : Took arena old new (leaves_left arena old) slot order) where
+    left_is : leaves_left arena new ≡ leaves_left arena old - 1
+    left_is = measured new (leaves_left arena old - 1) took.rest
 
-    pub run-kept : IsCounted arena new (left_in new)
-    run-kept = recounted new (left_in old - 1) took.rest
+    pub run-kept : IsCounted arena new (leaves_left arena new)
+    run-kept = recounted new (leaves_left arena old - 1) took.rest
 
-    pub run-fewer : IsCounted arena old (left_in old) → length (pairs_along (left_in new) arena (start_of new)) < length (pairs_along (left_in old) arena (start_of old))
-    run-fewer run = subst (λ n. length (pairs_along n arena (start_of new)) < length (pairs_along (left_in old) arena (start_of old))) (sym left_is) (fewer-left arena old new (left_in old) slot order took run)
+    pub run-fewer : IsCounted arena old (leaves_left arena old) → length (pairs_along (leaves_left arena new) arena (start_of new)) < length (pairs_along (leaves_left arena old) arena (start_of old))
+    run-fewer run = subst (λ n. length (pairs_along n arena (start_of new)) < length (pairs_along (leaves_left arena old) arena (start_of old))) (sym left_is) (fewer-left arena old new (leaves_left arena old) slot order took run)
 
     pub run-read : (k : K) (v : V) → ((l : LeafNode K V) → held_at arena (leaf_name slot) ≡ Some (leaf_held l) → k ≡ l.key) → ((l : LeafNode K V) → held_at arena (leaf_name slot) ≡ Some (leaf_held l) → v ≡ l.value)
-        → pairs_along (left_in old) arena (start_of old) ≡ order (k, v) (pairs_along (left_in new) arena (start_of new))
-    run-read k v key value = pair-read arena old new (left_in old) slot order took k v key value ∙ ap (λ n. order (k, v) (pairs_along n arena (start_of new))) (sym left_is)
+        → pairs_along (leaves_left arena old) arena (start_of old) ≡ order (k, v) (pairs_along (leaves_left arena new) arena (start_of new))
+    run-read k v key value = pair-read arena old new (leaves_left arena old) slot order took k v key value ∙ ap (λ n. order (k, v) (pairs_along n arena (start_of new))) (sym left_is)
 
   -- behind the last one
-  module _ (old new : Ends) (run : IsCounted arena old (left_in old)) (none : left_in old ≡ 0) (end : EndsWalk arena old new None) where
+  module _ (old new : Ends) (run : IsCounted arena old (leaves_left arena old)) (none : leaves_left arena old ≡ 0) (end : EndsWalk arena old new None) where
     was : old ≡ None
-    was = none-ends arena old new (left_in old) run none
+    was = none-ends arena old new (leaves_left arena old) run none
 
-    pub end-kept : IsCounted arena new (left_in new)
-    end-kept = subst (λ e. IsCounted arena e (left_in e)) (was ∙ sym (end was).1) run
+    pub end-kept : IsCounted arena new (leaves_left arena new)
+    end-kept = subst (λ e. IsCounted arena e (leaves_left arena e)) (was ∙ sym (end was).1) run
 
-    pub end-empty : pairs_along (left_in new) arena (start_of new) ≡ []
-    end-empty = subst (λ e. pairs_along (left_in e) arena (start_of e) ≡ []) (sym (end was).1) (ap (λ n. pairs_along n arena None) (none-long (slots_of arena)))
+    pub end-empty : pairs_along (leaves_left arena new) arena (start_of new) ≡ []
+    end-empty = subst (λ e. pairs_along (leaves_left arena e) arena (start_of e) ≡ []) (sym (end was).1) (ap (λ n. pairs_along n arena None) (none-long (slots_of arena)))

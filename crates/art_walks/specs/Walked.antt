@@ -2,7 +2,7 @@
 use Rattle.std.specs.Prelude.{◌≡◌, ◌≤◌, ◌==◌, ℕ, zero, suc, List, [], ◌∷◌, length, Option, Some, None, option_map}
 use Rattle.std.specs.Prelude.{if◌then◌else◌}
 use Rattle.std.specs.List.{AllByRecursion}
-use Rattle.art_arena.specs.arena.Arena.{Arena, Held, leaf_held, inner_held, held_at, node_at, links_at}
+use Rattle.art_arena.specs.arena.Arena.{Arena, Held, leaf_held, inner_held, held_at, node_at, links_at, slots_of}
 use Rattle.art_arena.specs.arena.Cells.{pair, leaf_name}
 use Rattle.art_arena.specs.arena.Linked.{AreLinked, Links, times}
 use Rattle.art_arena.specs.arena.Shapes.{LeafAt}
@@ -59,3 +59,11 @@ module _ {K V : Type 0} where
   run_length (suc n) arena None = 0
   run_length (suc n) arena (Some ends) =
       suc (if ends.0 == ends.1 then 0 else run_length n arena (ends_behind (links_at arena ends.0) ends.1))
+
+  -- the leaves that are still to come between these ends
+  abbrev pub leaves_left : Arena K V → Ends → ℕ
+  leaves_left arena ends = run_length (slots_of arena) arena ends
+
+  -- their pairs
+  abbrev pub pairs_left : Arena K V → Ends → List (K × V)
+  pairs_left arena ends = pairs_along (leaves_left arena ends) arena (start_of ends)

@@ -27,7 +27,7 @@ use std::alloc::Global;
 pub struct WellFormedChecker;
 
 impl WellFormedChecker {
-    /// Returns how many nodes of each kind the tree below a name has, if that is a canonical tree with its leaves
+    /// Returns how many nodes of each kind the tree below a name has. That must be a canonical tree with its leaves
     /// linked in order and open ends. Other nodes may stand beside it.
     ///
     /// Else it returns a fault that is there, or `Memory` if there was no memory for the names that it saw. It takes

@@ -24,16 +24,13 @@ pub struct Range<'a, K, V, const PREFIX_LEN: usize, M: 'a = NodeArena<K, V, PREF
 
 impl<'a, K, V, const PREFIX_LEN: usize, M: 'a> Model for Range<'a, K, V, PREFIX_LEN, M> {
     ghost use Rattle.std.specs.Prelude.{List};
-    ghost use Rattle.art_arena.proofs.shapes.Measures.{slots_of};
-    ghost use Rattle.art_walks.specs.Walked.{IsCounted, pairs_along, run_length, start_of};
+    ghost use Rattle.art_walks.specs.Walked.{IsCounted, leaves_left, pairs_left};
 
     ghost Value = { List (K × V) };
 
-    ghost view = { λ it. pairs_along (run_length (slots_of it.arena.now) it.arena.now it.leaves) it.arena.now
-        (start_of it.leaves) };
+    ghost view = { λ it. pairs_left it.arena.now it.leaves };
 
-    ghost invariant = { λ it. IsCounted it.arena.now it.leaves
-        (run_length (slots_of it.arena.now) it.arena.now it.leaves) };
+    ghost invariant = { λ it. IsCounted it.arena.now it.leaves (leaves_left it.arena.now it.leaves) };
 }
 
 impl<'a, K, V, const PREFIX_LEN: usize> Range<'a, K, V, PREFIX_LEN> {

@@ -94,7 +94,7 @@ fn are_told<K: AsBytes>(
         && ends(arena, root, row.prefix, row.bounds) == row.ends
 }
 
-// The same of the tree that commands make.
+// Whether a row is true of the tree that commands make.
 fn tells<K: CloneBytes + Drop>(alloc: Global, commands: &[Command<K, u8>], row: &Row<'_>) -> bool {
     match tree_of(alloc, commands) {
         Some(tree) => are_told(alloc, &tree.0, tree.1, row),

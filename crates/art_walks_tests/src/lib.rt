@@ -1,5 +1,5 @@
 //! Tests of art_walks: the callers of its README.md, a visitor, sums of counts and the text of a fault. What a check
-//! answers of trees and of broken arenas is shown by scripts, through play_operations.
+//! returns of trees and of broken arenas is shown by scripts, through play_operations.
 #![tactic(auto)]
 
 #[cfg(test)]

@@ -22,8 +22,7 @@ fn counts_are_summed_and_a_fault_has_a_text(rt: HostRuntime) {
     assert_eq!(rt; sum.num_node4, 3);
     assert_eq!(rt; sum.num_leaf, usize::MAX);
     assert_eq!(rt; sum.total_nodes(), usize::MAX);
-    // What the checker counts of the 24 keys of three bytes of which the first is one of 4, the second of 3, the third
-    // of 2.
+    // What the checker counts of the 24 keys of three bytes: the first is one of 4, the second of 3, the third of 2.
     let of_24_keys = WellFormedTreeStats {
         num_node4: 17,
         num_node16: 0,

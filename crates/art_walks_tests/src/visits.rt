@@ -142,7 +142,7 @@ fn met_below<K, const PREFIX_LEN: usize>(
     }
 }
 
-// The same of what commands made.
+// Goes over the tree that commands make: the digits of its inner nodes, its leaves and the last one.
 fn met<K: CloneBytes>(
     alloc: Global,
     commands: &[Command<K, u8>],

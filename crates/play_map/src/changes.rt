@@ -110,7 +110,7 @@ fn prefix_insert<K: PlayedKey, const PREFIX_LEN: usize>(
 }
 
 // Puts in each tail of the bytes, the longest first, with values from 0 to 6 by turns, and prints how many were new.
-// (Where tails part at each byte, each goes in above those before it, so that its place is soon found.)
+// Where tails part at each byte, each goes in above those before it. So its place is soon found.
 fn put_tails<K: PlayedKey, const PREFIX_LEN: usize>(
     rt: &(impl Print + AllocGlobal),
     map: &mut TreeMap<K, u64, PREFIX_LEN>,

@@ -28,7 +28,7 @@ fn copy_pairs<'a, const PREFIX_LEN: usize>(
     }
 }
 
-/// A map that is lent all keys of this one is copied over one that is lent those of the other, whose text then shows
+/// A map that is lent all keys of this one is copied over one that is lent those of the other. Its text then shows
 /// which of two equal keys it has.
 pub fn copy_map<'a, const PREFIX_LEN: usize>(
     rt: &(impl Print + AllocGlobal),
@@ -66,7 +66,8 @@ fn copy_keys<'a, const PREFIX_LEN: usize>(
     }
 }
 
-/// The same of a set.
+/// A set that is lent all keys of this one is copied over one that is lent those of the other. Its text then shows
+/// which of two equal keys it has.
 pub fn copy_set<'a, const PREFIX_LEN: usize>(
     rt: &(impl Print + AllocGlobal),
     set: &'a TreeSet<EndedKey, PREFIX_LEN>,

@@ -29,7 +29,7 @@ fn lend<const PREFIX_LEN: usize>(
     }
 }
 
-// Calls that answer the entry of what stands at a key then.
+// Calls that return the entry of what stands at a key then.
 fn fill<const PREFIX_LEN: usize>(
     rt: &impl Print,
     map: &mut TreeMap<EndedKey, u64, PREFIX_LEN>,

@@ -26,7 +26,7 @@ fn show_end<K: PlayedKey, const PREFIX_LEN: usize>(
 }
 
 // Looks at the pair at an end and then takes it out or passes it, as a letter tells: `f` and `b` take it out, `p` and
-// `q` pass it, from the front and from the back; before that its key is shown, and one is added to its value.
+// `q` pass it, from the front and from the back. Before that its key is shown, and one is added to its value.
 fn step<K: PlayedKey, const PREFIX_LEN: usize>(
     rt: &impl Print,
     pairs: &mut Extraction<'_, K, u64, PREFIX_LEN>,

@@ -1,7 +1,7 @@
-// Plays a script of calls of the map or of the set, and prints what each answers. Its lines stand in tests/maps; what
-// is wanted of them is made from a model apart from the code (tests/maps.py), and the runner that refuses memory opens
-// a window at each line in turn. The first line says of what: `map PREFIX_LEN free` (keys of any bytes), `ended` (keys
-// with a zero at the end, so that none is a front of another), or `set` (a set of the latter).
+// Plays a script of calls of the map or of the set, and prints what each returns. Its lines stand in tests/maps. What
+// is wanted of them is made from a model apart from the code (tests/maps.py). The runner that refuses memory opens a
+// window at each line in turn. The first line says of what: `map PREFIX_LEN free` has keys of any bytes. `ended` has
+// keys with a zero at the end, so that none is a prefix of another. `set` is a set of the latter.
 //
 // A line is a word and up to four others, parted by single spaces. Bytes are written in lower case digits, in parts
 // with a point between them, each behind a `*` so many times: `aa*20.01`; `-` is no bytes. A key that is handed in may
@@ -67,7 +67,7 @@ fn play_free<const PREFIX_LEN: usize>(
     Ok(())
 }
 
-// The same over a map of keys none of which is a front of another, which has more calls, and a second one.
+// Plays lines over two maps of keys none of which is a prefix of another. Such maps have more calls.
 fn play_ended<const PREFIX_LEN: usize>(
     rt: &(impl Print + AllocGlobal),
     script: &mut Script,

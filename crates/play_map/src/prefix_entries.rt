@@ -63,7 +63,7 @@ fn lend<const PREFIX_LEN: usize>(
     }
 }
 
-// The same with the entry that is occupied then.
+// Puts a value in where there is none, and shows the entry that is occupied then.
 fn fill<const PREFIX_LEN: usize>(
     rt: &impl Print,
     map: &mut TreeMap<FreeKey, u64, PREFIX_LEN>,
@@ -93,7 +93,7 @@ fn fill<const PREFIX_LEN: usize>(
     }
 }
 
-// Sets the value of an occupied entry, or of one in conflict alone, by what lends the value or answers the entry.
+// Sets the value of an occupied entry, or of one in conflict alone, by what lends the value or returns the entry.
 fn set<const PREFIX_LEN: usize>(
     rt: &impl Print,
     map: &mut TreeMap<FreeKey, u64, PREFIX_LEN>,
@@ -201,7 +201,7 @@ fn write_pair<const PREFIX_LEN: usize>(
     )
 }
 
-// The same where there is one, beside its own key.
+// Sets the value of the one entry in conflict, beside its own key.
 fn write_lone_pair<const PREFIX_LEN: usize>(
     rt: &impl Print,
     map: &mut TreeMap<FreeKey, u64, PREFIX_LEN>,

@@ -1,5 +1,5 @@
-// The lines of a script. Room for a line and for the bytes that it names is taken before the first, so that a line
-// asks for no memory until its call is made.
+// The lines of a script. Room for a line and for the bytes that it names is taken before the first. So a line asks for
+// no memory until its call is made.
 
 use std::alloc::{AllocError, Global};
 use std::io::{Read, Stdin};

@@ -155,7 +155,7 @@ fn replace<const PREFIX_LEN: usize>(
     }
 }
 
-// The same of a set that is made of keys.
+// Puts a set that was made of keys in the place of the first, or tells why it was not made.
 fn replace_by_keys<const PREFIX_LEN: usize>(
     rt: &impl Print,
     set: &mut TreeSet<EndedKey, PREFIX_LEN>,

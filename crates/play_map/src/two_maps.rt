@@ -35,7 +35,7 @@ fn replace<const PREFIX_LEN: usize>(
     }
 }
 
-// The same of a map that is made of pairs.
+// Puts a map that was made of pairs in the place of the first, or tells why it was not made.
 fn replace_by_pairs<const PREFIX_LEN: usize>(
     rt: &impl Print,
     map: &mut TreeMap<EndedKey, u64, PREFIX_LEN>,
@@ -78,8 +78,8 @@ fn show_given_key(rt: &impl Print, left: usize, key: Option<EndedKey>) -> io::Re
     }
 }
 
-// Takes the map's pairs from the ends that letters tell; the others are dropped. (What owns a walk has one way out:
-// each other one would have a proof that the walk may be dropped there.)
+// Takes the map's pairs from the ends that letters tell. The others are dropped. What owns a walk has one way out:
+// each other one would have a proof that the walk may be dropped there.
 fn into_iter<const PREFIX_LEN: usize>(
     rt: &(impl Print + AllocGlobal),
     map: &mut TreeMap<EndedKey, u64, PREFIX_LEN>,
@@ -102,7 +102,7 @@ fn into_iter<const PREFIX_LEN: usize>(
     println!(rt; "end")
 }
 
-// The same of its keys alone.
+// Takes the keys of a map from its ends, and prints each.
 fn into_keys<const PREFIX_LEN: usize>(
     rt: &(impl Print + AllocGlobal),
     map: &mut TreeMap<EndedKey, u64, PREFIX_LEN>,
@@ -124,7 +124,7 @@ fn into_keys<const PREFIX_LEN: usize>(
     println!(rt; "end")
 }
 
-// The same of its values alone.
+// Takes the values of a map from its ends, and prints each.
 fn into_values<const PREFIX_LEN: usize>(
     rt: &(impl Print + AllocGlobal),
     map: &mut TreeMap<EndedKey, u64, PREFIX_LEN>,

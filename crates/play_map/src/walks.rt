@@ -197,7 +197,7 @@ fn step_between<K: PlayedKey, const PREFIX_LEN: usize>(
     }
 }
 
-// The same of a walk over all pairs.
+// Takes a step of a walk over all pairs.
 fn step<K: PlayedKey, const PREFIX_LEN: usize>(
     rt: &impl Print,
     walk: &mut IterMut<'_, K, u64, PREFIX_LEN>,

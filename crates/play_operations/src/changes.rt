@@ -1,4 +1,4 @@
-// Calls that change the tree, and what they answer.
+// Calls that change the tree, and what they return.
 ghost use Rattle.std.specs.Prelude.{◌≤◌};
 
 use crate::kept::Kept;
@@ -184,7 +184,7 @@ fn cut<K: PlayedKey, const PREFIX_LEN: usize>(
     Ok(true)
 }
 
-// Prints what a list of commands answers.
+// Prints what a list of commands returns.
 fn show_answers(rt: &impl Print, ran: Result<Vec<Answer>, AllocError>) -> io::Result<()> {
     let Ok(answers) = ran else {
         return println!(rt; "memory");

@@ -14,7 +14,7 @@ use art_operations::{
     minimum_unchecked,
 };
 
-// Frees it, and answers how many leaves it had.
+// Frees it, and returns how many leaves it had.
 fn free_all<K: AsBytes + Drop, V: Drop, const PREFIX_LEN: usize>(
     arena: &mut NodeArena<K, V, PREFIX_LEN>,
     root: OpaqueNodePtr,
@@ -25,7 +25,7 @@ fn free_all<K: AsBytes + Drop, V: Drop, const PREFIX_LEN: usize>(
     deallocate_tree(arena, root)
 }
 
-// Frees its leaves, and then its inner nodes, and answers how many leaves were left in between.
+// Frees its leaves, and then its inner nodes, and returns how many leaves were left in between.
 fn free_apart<K: AsBytes + Drop, V: Drop, const PREFIX_LEN: usize>(
     arena: &mut NodeArena<K, V, PREFIX_LEN>,
     root: OpaqueNodePtr,
@@ -42,7 +42,7 @@ fn free_apart<K: AsBytes + Drop, V: Drop, const PREFIX_LEN: usize>(
 }
 
 impl<K: AsBytes + Drop, V: Drop, const PREFIX_LEN: usize> Tree<K, V, PREFIX_LEN> {
-    /// The tree is freed. Answers how many leaves it had.
+    /// The tree is freed. Returns how many leaves it had.
     pub fn free(&mut self) -> usize {
         let Some(root) = self.root else {
             return 0;
@@ -51,7 +51,7 @@ impl<K: AsBytes + Drop, V: Drop, const PREFIX_LEN: usize> Tree<K, V, PREFIX_LEN>
         free_all(&mut self.arena, root)
     }
 
-    /// The tree is freed, its leaves first. Answers how many were left in between.
+    /// The tree is freed, its leaves first. Returns how many were left in between.
     pub fn free_apart(&mut self) -> usize {
         let Some(root) = self.root else {
             return 0;

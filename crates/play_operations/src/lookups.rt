@@ -1,4 +1,4 @@
-// Calls that read the tree. Where a call counts what it reads, the one that doesn't must answer the same.
+// Calls that read the tree. Where a call counts what it reads, the one that doesn't must return the same.
 
 use crate::script::{Asked, bound_of};
 use crate::show::{show_ends, show_leaf, show_path, show_stats};
@@ -120,7 +120,7 @@ impl<K: AsBytes, V, const PREFIX_LEN: usize> Tree<K, V, PREFIX_LEN> {
         }
     }
 
-    // What the checker answers.
+    // What the checker returns.
     fn check(&self, alloc: Global) -> Result<WellFormedTreeStats, MalformedTreeError> {
         WellFormedChecker::check(alloc, &self.arena, self.root, self.arena.leaf_count())
     }

@@ -1,7 +1,7 @@
-// Plays a script of calls of the tree and its nodes, and prints what each answers. Its lines stand in
-// tests/operations; what is wanted of them is made from a model apart from the code (tests/operations.py), and the
-// runner that refuses memory opens a window at each line in turn. The first line says how many bytes of a prefix the
-// nodes store: `tree PREFIX_LEN`.
+// Plays a script of calls of the tree and its nodes, and prints what each returns. Its lines stand in
+// tests/operations. What is wanted of them is made from a model apart from the code (tests/operations.py). The runner
+// that refuses memory opens a window at each line in turn. The first line says how many bytes of a prefix the nodes
+// store: `tree PREFIX_LEN`.
 //
 // Up to the line `by_hand` the arena holds one tree, and each line is a call of art_operations that asks for one.
 // Behind it the nodes are edited by hand, one by one, and only what asks for no tree is called: the checker above all.

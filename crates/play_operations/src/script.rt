@@ -1,5 +1,5 @@
-// The lines of a script. Room for a line and for the bytes that it names is taken before the first, so that a line
-// asks for no memory until its call is made.
+// The lines of a script. Room for a line and for the bytes that it names is taken before the first. So a line asks for
+// no memory until its call is made.
 
 use std::alloc::{AllocError, Global};
 use std::io::{Read, Stdin};
@@ -129,12 +129,12 @@ impl Asked<'_> {
         }
     }
 
-    /// The same as a byte, and 0 where it is above that.
+    /// Returns a word's number as a byte, and 0 where it is above that.
     pub fn byte(&self, at: usize) -> u8 {
         u8::try_from(self.number(at)).unwrap_or(0)
     }
 
-    /// The same as a count or a place.
+    /// Returns a word's number as a count or a place.
     pub fn size(&self, at: usize) -> usize {
         self.number(at) as usize
     }

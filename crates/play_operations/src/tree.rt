@@ -40,7 +40,7 @@ pub fn root_over<K, V>(put: &PrefixInsertResult<K, V>) -> OpaqueNodePtr
     put.insert_result.new_root
 }
 
-// Lets a clone take the place of a tree, and answers its root.
+// Lets a clone take the place of a tree, and returns its root.
 fn clone_over<K: CloneBytes, V: Clone, const PREFIX_LEN: usize>(
     alloc: Global,
     arena: &mut NodeArena<K, V, PREFIX_LEN>,
@@ -187,7 +187,7 @@ impl<K: CloneBytes + Drop, V: Clone + Drop, const PREFIX_LEN: usize> Tree<K, V, 
         }
     }
 
-    /// The tree that commands make takes the tree's place, and what they answer is told.
+    /// The tree that commands make takes the tree's place, and what they return is told.
     pub fn run(
         &mut self,
         alloc: Global,

@@ -7,7 +7,7 @@ use Rattle.art_nodes.specs.declared.kind.NodeType.TheVariants.{Leaf}
 use Rattle.art_nodes.specs.InnerNode.{InnerNode}
 use Rattle.art_nodes.specs.Name.{Name}
 use Rattle.art_arena.specs.tree.Kinds.{IsKindOf}
-use Rattle.art_arena.specs.arena.Arena.{Arena, Held, inner_held, held_at, node_at}
+use Rattle.art_arena.specs.arena.Arena.{Arena, Held, inner_held, held_at, node_at, slots_of}
 use Rattle.art_arena.specs.arena.Shapes.{Shape, Branches, LeafAt, leaf_at, inner_at, name_of, no_branch, branch, join, width, leaves, leaves_in, erase, erase_in, IsUnder, AreUnder}
 use Rattle.art_arena.specs.arena.Cells.{leaf_name, pair}
 use Rattle.art_arena.specs.arena.Descents.{ReadsPath}
@@ -27,7 +27,7 @@ use Rattle.art_arena.proofs.shapes.Places.{at-root, leaf-there}
 use Rattle.art_arena.specs.arena.EndLeaves.{end_slot, end_child, IsLeafPlace}
 use Rattle.art_arena.specs.declared.ends.End.{End}
 use Rattle.art_arena.specs.declared.ends.End.TheVariants.{First, Last}
-use Rattle.art_arena.proofs.shapes.Measures.{slots_of, nodes_below}
+use Rattle.art_arena.proofs.shapes.Measures.{nodes_below}
 use Rattle.art_arena.proofs.shapes.Subtrees.{subtree-inner, subtree-branch, root_held, measure_is}
 use Rattle.art_arena.proofs.shapes.EndBranches.{EndBranch, end_branch}
 

@@ -10,7 +10,7 @@ use Rattle.art_nodes.specs.declared.leaf.LeafNode.{LeafNode}
 use Rattle.art_nodes.specs.InnerNode.{InnerNode}
 use Rattle.art_nodes.specs.Name.{Name}
 use Rattle.art_arena.specs.arena.Cells.{Cell, pair, branches, same_kind, copies, AreHeld}
-use Rattle.art_arena.specs.arena.Arena.{Arena, Held, as_leaf, as_inner, held_as, held_at, cell_of, node_at}
+use Rattle.art_arena.specs.arena.Arena.{Arena, Held, as_leaf, as_inner, held_as, held_at, cell_of, node_at, slots_of}
 use Rattle.art_arena.specs.arena.Shapes.{Shape, Branches, leaf_at, inner_at, no_branch, branch, name_of, children_at, cells, cells_in}
 use Rattle.art_arena.specs.arena.Meaning.{IsPart}
 use Rattle.art_arena.proofs.tree.Order.{all_left, all_right}
@@ -102,9 +102,6 @@ module _ {K V : Type 0} where
   slots_in arena Node32 = length arena.nodes32.slots
   slots_in arena Node48 = length arena.nodes48.slots
   slots_in arena Node256 = length arena.nodes256.slots
-
-  abbrev pub slots_of : Arena K V → ℕ
-  slots_of arena = slots_in arena Leaf + (slots_in arena Node4 + (slots_in arena Node16 + (slots_in arena Node32 + (slots_in arena Node48 + slots_in arena Node256))))
 
   leaf_there : (o : Option (LeafNode K V)) (c : Cell K V) → cell_of (as_leaf o) ≡ Some c → IsSome o
   leaf_there None c e = absurd (cc)

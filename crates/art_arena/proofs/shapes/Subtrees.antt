@@ -6,7 +6,7 @@ use Rattle.art_nodes.specs.InnerNode.{InnerNode, first_child, last_child}
 use Rattle.art_nodes.specs.Name.{Name}
 use Rattle.art_arena.specs.tree.Kinds.{IsKindOf}
 use Rattle.art_arena.specs.arena.Cells.{Cell, pair, branches, copies, AreHeld}
-use Rattle.art_arena.specs.arena.Arena.{Arena, Held, leaf_held, inner_held, cell_of, held_at, node_at}
+use Rattle.art_arena.specs.arena.Arena.{Arena, Held, leaf_held, inner_held, cell_of, held_at, node_at, slots_of}
 use Rattle.art_arena.specs.arena.Shapes.{Shape, Branches, leaf_at, inner_at, no_branch, branch, LeafAt, name_of, children_at, join, leaves, leaves_in, cells, cells_in, IsUnder, AreUnder, width}
 use Rattle.art_arena.proofs.tree.Order.{all_left, all_right}
 use Rattle.std.specs.List.{AllByRecursion}
@@ -17,7 +17,7 @@ use Rattle.art_arena.proofs.shapes.CellLists.{copies-append}
 use Rattle.art_arena.proofs.shapes.Contexts.{cells_in-join}
 use Rattle.art_arena.proofs.shapes.Places.{leaves_in-begin}
 use Rattle.art_arena.specs.arena.Meaning.{IsSubtree}
-use Rattle.art_arena.proofs.shapes.Measures.{slots_of, cells_few, nodes_below, nodes_below-held}
+use Rattle.art_arena.proofs.shapes.Measures.{cells_few, nodes_below, nodes_below-held}
 
 module _ {K V : Type 0} where
   -- what the arena holds where a cell of this form stands

@@ -1,5 +1,5 @@
 -- What a contract sees of an arena: the nodes of each kind under their slab keys, and so one map from names to nodes.
-use Rattle.std.specs.Prelude.{◌≡◌, ℕ, ◌+◌, List, Option, Some, None}
+use Rattle.std.specs.Prelude.{◌≡◌, ℕ, ◌+◌, ◌≤◌, List, length, Option, Some, None}
 use Rattle.std.specs.List.{AllByRecursion}
 use Rattle.slab.specs.Slab.{Slab, get, slab_len, HasRoomFor, with_value}
 use Rattle.art_nodes.specs.declared.kind.NodeType.{NodeType}
@@ -130,3 +130,13 @@ module _ {K V : Type 0} where
   -- every name has what it had, the links of leaves aside
   abbrev pub SameCells : Arena K V → Arena K V → Type 0
   SameCells old new = (n : Name) → node_at new n ≡ node_at old n
+
+  -- how many slots an arena has: no list of its nodes, each once, is longer
+  abbrev pub slots_of : Arena K V → ℕ
+  slots_of arena =
+      length arena.leaves.slots + (length arena.nodes4.slots + (length arena.nodes16.slots
+      + (length arena.nodes32.slots + (length arena.nodes48.slots + length arena.nodes256.slots))))
+
+  -- no arena with the same nodes has fewer slots
+  abbrev pub IsTrimmed : Arena K V → Type 0
+  IsTrimmed arena = (other : Arena K V) → SameNodes arena other → slots_of arena ≤ slots_of other

@@ -1,13 +1,9 @@
 //! The pairs that a caller asks for.
 ghost use Rattle.std.specs.Prelude.{◌≡◌, option_map};
 ghost use Rattle.std.specs.Map.Iter.{deref_pair};
-ghost use Rattle.std.specs.declared.ops.Bound.TheVariants.{Excluded, Unbounded};
-ghost use Rattle.art_arena.specs.arena.Shapes.{key_of};
-ghost use Rattle.art_arena.specs.tree.Tenants.{with_front};
-ghost use Rattle.art_map.specs.Contents.{first_item, last_item};
-ghost use Rattle.art_map.specs.Ranges.{pairs_between};
-ghost use Rattle.art_c.specs.Calls.{Answers, IsPairRead, wanted_of, whole};
-ghost use Rattle.art_c.specs.Handles.{pairs_behind};
+ghost use Rattle.art_c.specs.Calls.{Answers, first_behind, IsPairRead, last_behind, pair_above, pair_below};
+ghost use Rattle.art_c.specs.Calls.{wanted_of};
+ghost use Rattle.art_c.specs.Copies.{rooms};
 
 use crate::bytes::Bytes;
 use crate::code::Code;
@@ -37,8 +33,7 @@ pub(super) enum Wanted<'a> {
 }
 
 fn above<'m>(map: &'m Map, key: &[u8]) -> Option<(&'m Bytes, &'m Bytes)>
-    ensures { option_map deref_pair result
-        ≡ first_item (pairs_between whole (Excluded key.now) Unbounded map.now.pairs) }
+    ensures { option_map deref_pair result ≡ pair_above key.now map.now.pairs }
 {
     let key = SliceKey(key);
     let mut pairs = map.range(Bound::Excluded(&key), Bound::Unbounded);
@@ -46,8 +41,7 @@ fn above<'m>(map: &'m Map, key: &[u8]) -> Option<(&'m Bytes, &'m Bytes)>
 }
 
 fn below<'m>(map: &'m Map, key: &[u8]) -> Option<(&'m Bytes, &'m Bytes)>
-    ensures { option_map deref_pair result
-        ≡ last_item (pairs_between whole Unbounded (Excluded key.now) map.now.pairs) }
+    ensures { option_map deref_pair result ≡ pair_below key.now map.now.pairs }
 {
     let key = SliceKey(key);
     let mut pairs = map.range(Bound::Unbounded, Bound::Excluded(&key));
@@ -55,7 +49,7 @@ fn below<'m>(map: &'m Map, key: &[u8]) -> Option<(&'m Bytes, &'m Bytes)>
 }
 
 fn first_behind<'m>(map: &'m Map, prefix: &[u8]) -> Option<(&'m Bytes, &'m Bytes)>
-    ensures { option_map deref_pair result ≡ first_item (with_front (key_of whole) prefix.now map.now.pairs) }
+    ensures { option_map deref_pair result ≡ first_behind prefix.now map.now.pairs }
 {
     let prefix = SliceKey(prefix);
     let mut pairs = map.prefix(&prefix);
@@ -63,7 +57,7 @@ fn first_behind<'m>(map: &'m Map, prefix: &[u8]) -> Option<(&'m Bytes, &'m Bytes
 }
 
 fn last_behind<'m>(map: &'m Map, prefix: &[u8]) -> Option<(&'m Bytes, &'m Bytes)>
-    ensures { option_map deref_pair result ≡ last_item (with_front (key_of whole) prefix.now map.now.pairs) }
+    ensures { option_map deref_pair result ≡ last_behind prefix.now map.now.pairs }
 {
     let prefix = SliceKey(prefix);
     let mut pairs = map.prefix(&prefix);
@@ -94,18 +88,9 @@ pub(super) fn read(
     value_room: &mut [u8],
     value_len: &mut usize,
 ) -> u32
-    ensures { Answers (IsPairRead (wanted_of wanted.entry)) (pairs_behind art.old) (record {
-      key = key_room.old;
-      key_len = key_len.old;
-      value = value_room.old;
-      value_len = value_len.old;
-    })
-        result (pairs_behind art.new) (record {
-          key = key_room.new;
-          key_len = key_len.new;
-          value = value_room.new;
-          value_len = value_len.new;
-        }) }
+    ensures { Answers (IsPairRead (wanted_of wanted.entry)) art.old
+        (rooms key_room.old key_len.old value_room.old value_len.old)
+        result art.new (rooms key_room.new key_len.new value_room.new value_len.new) }
 {
     match art.take(alloc) {
         Some(store) => {

@@ -1,29 +1,47 @@
 //! What stands after a word, by its shape: a reader in place for each.
 //!
-//! A prefix is read as a key is, two bounds as a key and a value are.
-ghost use Rattle.std.specs.Prelude.{◌≡◌, ◌+◌, ◌≤◌, ◌∷◌, length, IfSome, IfNone, option_copied};
+//! A prefix is read as a key is, two bounds as a key and a value are. The last field is not looked through for a space,
+//! which is no digit.
+ghost use Rattle.std.specs.Prelude.{◌≡◌, ◌+◌, ◌<◌, ◌≤◌, ◌∷◌, [], length, IfSome, IfNone, option_copied};
+ghost use Rattle.art_lines.specs.declared.command.word.Shape.TheVariants.{Key, KeyAndValue, Number, NumberAndValue};
+ghost use Rattle.art_lines.specs.declared.command.word.Shape.TheVariants.{TwoNumbers};
 ghost use Rattle.art_lines.specs.Commands.{fields_of};
-ghost use Rattle.art_lines.specs.Reading.{key_in, key_and_value_in, tenant_number_in, number_and_value_in};
-ghost use Rattle.art_lines.specs.Reading.{two_numbers_in, tenant_alone_in};
+ghost use Rattle.art_lines.specs.Reading.{behind_in};
 ghost use Rattle.art_lines.specs.InPlace.{fields_behind, IsRead};
-ghost use Rattle.art_lines.specs.Parsed.{tenant_in_place, key_in_place, value_in_place};
-ghost use Rattle.art_lines.specs.Parsed.{number_in_place, bound_in_place};
+ghost use Rattle.art_lines.specs.Parsed.{behind_in_place};
 
 use crate::command::fields::Fields;
+use crate::command::word::Shape;
 use memchr::memchr;
 
-/// Reads a tenant and a key. The key is not looked through for a space, which is no digit.
+/// Reads what stands after a word of this shape.
 #[inline(always)]
-pub(crate) fn read_key(rest: Option<&[u8]>, fields: &mut Fields) -> bool
+pub(crate) fn read_behind(shape: Shape, rest: Option<&[u8]>, fields: &mut Fields) -> bool
     requires { IfSome rest (λ text. length text.now ≤ 4092) }
-    ensures { IsRead result (tenant_in_place fields.new, key_in_place fields.new)
-        (key_in (fields_behind (option_copied rest.entry))) }
+    ensures { IsRead result (behind_in_place shape fields.new)
+        (behind_in shape (fields_behind (option_copied rest.entry))) }
 {
     let Some(text) = rest else {
-        return false;
+        return matches!(shape, Shape::Nothing);
     };
-    let (tenant, rest) = split_field(text);
-    let Some(key) = rest else {
+    match shape {
+        Shape::Key => read_key(text, fields),
+        Shape::KeyAndValue => read_key_and_value(text, fields),
+        Shape::Number => read_number(text, fields),
+        Shape::NumberAndValue => read_number_and_value(text, fields),
+        Shape::TwoNumbers => read_two_numbers(text, fields),
+        Shape::Tenant => fields.read_tenant(text),
+        Shape::Nothing => false,
+    }
+}
+
+/// Reads a tenant and a key.
+#[inline(always)]
+fn read_key(text: &[u8], fields: &mut Fields) -> bool
+    requires { length text.now ≤ 4092 }
+    ensures { IsRead result (behind_in_place Key fields.new) (behind_in Key (fields_of text.now)) }
+{
+    let Some((tenant, key)) = split_once(text) else {
         return false;
     };
     if !fields.read_tenant(tenant) {
@@ -32,21 +50,12 @@ pub(crate) fn read_key(rest: Option<&[u8]>, fields: &mut Fields) -> bool
     fields.read_key(key)
 }
 
-/// Reads a tenant, a key and a value. The value is not looked through for a space, which is no digit.
-pub(crate) fn read_key_and_value(rest: Option<&[u8]>, fields: &mut Fields) -> bool
-    requires { IfSome rest (λ text. length text.now ≤ 4092) }
-    ensures { IsRead result (tenant_in_place fields.new, key_in_place fields.new, value_in_place fields.new)
-        (key_and_value_in (fields_behind (option_copied rest.entry))) }
+/// Reads a tenant, a key and a value.
+fn read_key_and_value(text: &[u8], fields: &mut Fields) -> bool
+    requires { length text.now ≤ 4092 }
+    ensures { IsRead result (behind_in_place KeyAndValue fields.new) (behind_in KeyAndValue (fields_of text.now)) }
 {
-    let Some(text) = rest else {
-        return false;
-    };
-    let (tenant, rest) = split_field(text);
-    let Some(text) = rest else {
-        return false;
-    };
-    let (key, rest) = split_field(text);
-    let Some(value) = rest else {
+    let Some((tenant, key, value)) = split_twice(text) else {
         return false;
     };
     if !fields.read_tenant(tenant) {
@@ -59,15 +68,10 @@ pub(crate) fn read_key_and_value(rest: Option<&[u8]>, fields: &mut Fields) -> bo
 }
 
 /// Reads a tenant and a number.
-pub(crate) fn read_number(rest: Option<&[u8]>, fields: &mut Fields) -> bool
-    ensures { IsRead result (tenant_in_place fields.new, number_in_place fields.new)
-        (tenant_number_in (fields_behind (option_copied rest.entry))) }
+fn read_number(text: &[u8], fields: &mut Fields) -> bool
+    ensures { IsRead result (behind_in_place Number fields.new) (behind_in Number (fields_of text.now)) }
 {
-    let Some(text) = rest else {
-        return false;
-    };
-    let (tenant, rest) = split_field(text);
-    let Some(number) = rest else {
+    let Some((tenant, number)) = split_once(text) else {
         return false;
     };
     if !fields.read_tenant(tenant) {
@@ -77,20 +81,12 @@ pub(crate) fn read_number(rest: Option<&[u8]>, fields: &mut Fields) -> bool
 }
 
 /// Reads a tenant, a number and a value.
-pub(crate) fn read_number_and_value(rest: Option<&[u8]>, fields: &mut Fields) -> bool
-    requires { IfSome rest (λ text. length text.now ≤ 4092) }
-    ensures { IsRead result (tenant_in_place fields.new, number_in_place fields.new, value_in_place fields.new)
-        (number_and_value_in (fields_behind (option_copied rest.entry))) }
+fn read_number_and_value(text: &[u8], fields: &mut Fields) -> bool
+    requires { length text.now ≤ 4092 }
+    ensures { IsRead result (behind_in_place NumberAndValue fields.new)
+        (behind_in NumberAndValue (fields_of text.now)) }
 {
-    let Some(text) = rest else {
-        return false;
-    };
-    let (tenant, rest) = split_field(text);
-    let Some(text) = rest else {
-        return false;
-    };
-    let (number, rest) = split_field(text);
-    let Some(value) = rest else {
+    let Some((tenant, number, value)) = split_twice(text) else {
         return false;
     };
     if !fields.read_tenant(tenant) {
@@ -103,19 +99,10 @@ pub(crate) fn read_number_and_value(rest: Option<&[u8]>, fields: &mut Fields) ->
 }
 
 /// Reads a tenant and two numbers.
-pub(crate) fn read_two_numbers(rest: Option<&[u8]>, fields: &mut Fields) -> bool
-    ensures { IsRead result (tenant_in_place fields.new, number_in_place fields.new, bound_in_place fields.new)
-        (two_numbers_in (fields_behind (option_copied rest.entry))) }
+fn read_two_numbers(text: &[u8], fields: &mut Fields) -> bool
+    ensures { IsRead result (behind_in_place TwoNumbers fields.new) (behind_in TwoNumbers (fields_of text.now)) }
 {
-    let Some(text) = rest else {
-        return false;
-    };
-    let (tenant, rest) = split_field(text);
-    let Some(text) = rest else {
-        return false;
-    };
-    let (low, rest) = split_field(text);
-    let Some(high) = rest else {
+    let Some((tenant, low, high)) = split_twice(text) else {
         return false;
     };
     if !fields.read_tenant(tenant) {
@@ -127,17 +114,6 @@ pub(crate) fn read_two_numbers(rest: Option<&[u8]>, fields: &mut Fields) -> bool
     fields.read_bound(high)
 }
 
-/// Reads a tenant alone. It is not looked through for a space, which is no digit.
-pub(crate) fn read_tenant_alone(rest: Option<&[u8]>, fields: &mut Fields) -> bool
-    ensures { IsRead result (tenant_in_place fields.new)
-        (tenant_alone_in (fields_behind (option_copied rest.entry))) }
-{
-    let Some(tenant) = rest else {
-        return false;
-    };
-    fields.read_tenant(tenant)
-}
-
 /// Returns the field before the first space, and what stands after that space.
 #[inline]
 pub fn split_field(line: &[u8]) -> (&[u8], Option<&[u8]>)
@@ -145,8 +121,35 @@ pub fn split_field(line: &[u8]) -> (&[u8], Option<&[u8]>)
     ensures shorter { IfSome result.1 (λ rest. length result.0.now + 1 + length rest.now ≡ length line.now) }
     ensures whole { IfNone result.1 (result.0.now ≡ line.now) }
 {
-    match memchr(b' ', line) {
-        Some(i) => (&line[..i], Some(&line[i + 1..])),
+    match split_once(line) {
+        Some((field, rest)) => (field, Some(rest)),
         None => (line, None),
     }
+}
+
+/// Returns what stands before the first space, and what stands after it.
+#[inline(always)]
+fn split_once(text: &[u8]) -> Option<(&[u8], &[u8])>
+    ensures fields { IfSome result (λ parts. fields_of text.now ≡ parts.0.now ∷ fields_of parts.1.now) }
+    ensures shorter { IfSome result (λ parts. length parts.0.now + 1 + length parts.1.now ≡ length text.now) }
+    ensures one { IfNone result (fields_of text.now ≡ text.now ∷ []) }
+{
+    match memchr(b' ', text) {
+        Some(i) => Some((&text[..i], &text[i + 1..])),
+        None => None,
+    }
+}
+
+/// Returns what stands before the first space, between it and the second one, and after that.
+#[inline(always)]
+fn split_twice(text: &[u8]) -> Option<(&[u8], &[u8], &[u8])>
+    ensures fields { IfSome result (λ parts.
+        fields_of text.now ≡ parts.0.now ∷ parts.1.now ∷ fields_of parts.2.now) }
+    ensures shorter { IfSome result (λ parts.
+        length parts.0.now + 1 + length parts.1.now + 1 + length parts.2.now ≡ length text.now) }
+    ensures few { IfNone result (length (fields_of text.now) < 3) }
+{
+    let (first, rest) = split_once(text)?;
+    let (second, third) = split_once(rest)?;
+    Some((first, second, third))
 }

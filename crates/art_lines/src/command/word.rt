@@ -1,9 +1,9 @@
-//! The words that a line may begin with, the family of each, and what stands after it. Any other word makes a line bad.
+//! The words that a line may begin with. Any other word makes a line bad.
 //!
-//! A later word is a variant of its family, a line of `word_of` and a line of `shape`. In the definitions it is an
-//! equation of `word_in`, of `shape_of` and of its family's command.
-ghost use Rattle.std.specs.Prelude.{◌≡◌};
-ghost use Rattle.art_lines.specs.Parsed.{word_in, shape_of};
+//! `row_of` is the table of words: what each is called, its family, and what stands after it. The definitions have a
+//! table, too, in `specs/Table`, which says what each word asks for.
+ghost use Rattle.std.specs.Prelude.{◌≡◌, option_map};
+ghost use Rattle.art_lines.specs.Table.{word_in, with_shape};
 
 /// A word that asks for something of a tenant's records and changes nothing.
 #[derive(Clone, Copy)]
@@ -75,76 +75,35 @@ pub enum Shape {
     Nothing,
 }
 
-impl Word {
-    /// Returns what stands after the word.
-    #[inline]
-    pub fn shape(self) -> Shape
-        ensures { result ≡ shape_of self }
-    {
-        match self {
-            Word::LookUp(LookUp::Get) => Shape::Key,
-            Word::LookUp(LookUp::Find) => Shape::Key,
-            Word::LookUp(LookUp::List) => Shape::Key,
-            Word::LookUp(LookUp::Span) => Shape::KeyAndValue,
-            Word::LookUp(LookUp::NGet) => Shape::Number,
-            Word::LookUp(LookUp::NSpan) => Shape::TwoNumbers,
-            Word::Change(Change::Put) => Shape::KeyAndValue,
-            Word::Change(Change::Over) => Shape::KeyAndValue,
-            Word::Change(Change::Del) => Shape::Key,
-            Word::Change(Change::NPut) => Shape::NumberAndValue,
-            Word::Change(Change::NDel) => Shape::Number,
-            Word::Whole(Whole::Dump) => Shape::Nothing,
-            Word::Whole(Whole::Audit) => Shape::Nothing,
-            Word::Drop => Shape::Tenant,
-        }
-    }
+/// The table of words. Returns the word that a field is, by its letters, which are lower case, and what stands after
+/// it.
+#[inline(always)]
+pub fn row_of(field: &[u8]) -> Option<(Word, Shape)>
+    ensures { result ≡ option_map with_shape (word_in field.now) }
+{
+    Some(match field {
+        b"put" => (Word::Change(Change::Put), Shape::KeyAndValue),
+        b"get" => (Word::LookUp(LookUp::Get), Shape::Key),
+        b"over" => (Word::Change(Change::Over), Shape::KeyAndValue),
+        b"del" => (Word::Change(Change::Del), Shape::Key),
+        b"find" => (Word::LookUp(LookUp::Find), Shape::Key),
+        b"list" => (Word::LookUp(LookUp::List), Shape::Key),
+        b"span" => (Word::LookUp(LookUp::Span), Shape::KeyAndValue),
+        b"nput" => (Word::Change(Change::NPut), Shape::NumberAndValue),
+        b"nget" => (Word::LookUp(LookUp::NGet), Shape::Number),
+        b"ndel" => (Word::Change(Change::NDel), Shape::Number),
+        b"nspan" => (Word::LookUp(LookUp::NSpan), Shape::TwoNumbers),
+        b"drop" => (Word::Drop, Shape::Tenant),
+        b"dump" => (Word::Whole(Whole::Dump), Shape::Nothing),
+        b"audit" => (Word::Whole(Whole::Audit), Shape::Nothing),
+        _ => return None,
+    })
 }
 
 /// Returns the word that a field is, by its letters, which are lower case.
 pub fn word_of(field: &[u8]) -> Option<Word>
     ensures { result ≡ word_in field.now }
 {
-    if field == b"put".as_slice() {
-        return Some(Word::Change(Change::Put));
-    }
-    if field == b"get".as_slice() {
-        return Some(Word::LookUp(LookUp::Get));
-    }
-    if field == b"over".as_slice() {
-        return Some(Word::Change(Change::Over));
-    }
-    if field == b"del".as_slice() {
-        return Some(Word::Change(Change::Del));
-    }
-    if field == b"find".as_slice() {
-        return Some(Word::LookUp(LookUp::Find));
-    }
-    if field == b"list".as_slice() {
-        return Some(Word::LookUp(LookUp::List));
-    }
-    if field == b"span".as_slice() {
-        return Some(Word::LookUp(LookUp::Span));
-    }
-    if field == b"nput".as_slice() {
-        return Some(Word::Change(Change::NPut));
-    }
-    if field == b"nget".as_slice() {
-        return Some(Word::LookUp(LookUp::NGet));
-    }
-    if field == b"ndel".as_slice() {
-        return Some(Word::Change(Change::NDel));
-    }
-    if field == b"nspan".as_slice() {
-        return Some(Word::LookUp(LookUp::NSpan));
-    }
-    if field == b"drop".as_slice() {
-        return Some(Word::Drop);
-    }
-    if field == b"dump".as_slice() {
-        return Some(Word::Whole(Whole::Dump));
-    }
-    if field == b"audit".as_slice() {
-        return Some(Word::Whole(Whole::Audit));
-    }
-    None
+    let (word, _) = row_of(field)?;
+    Some(word)
 }

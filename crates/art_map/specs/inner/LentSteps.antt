@@ -18,8 +18,8 @@ use Rattle.art_arena.proofs.shapes.LinkedLists.{eqb-self, times-append}
 use Rattle.art_arena.proofs.shapes.Subtrees.{cell_held}
 use Rattle.art_arena.proofs.tree.Order.{all_left, all_right}
 use Rattle.art_walks.specs.Runs.{Ends, IsWalk}
-use Rattle.art_walks.specs.Walked.{AreStored, IsCounted, ends_behind, start_of}
-use Rattle.art_walks.proofs.RunLengths.{left_in, measured, recounted}
+use Rattle.art_walks.specs.Walked.{AreStored, IsCounted, ends_behind, start_of, leaves_left}
+use Rattle.art_walks.proofs.RunLengths.{measured, recounted}
 use Rattle.art_walks.proofs.RunSteps.{eqb-apart, front-is, front-alone, front-step, back-parts, back-is, back-alone}
 use Rattle.art_walks.proofs.RunSteps.{back-step, once_in}
 use Rattle.art_map.specs.Contents.{Contents}
@@ -162,7 +162,7 @@ module _ {K V : Type 0} (m : Contents K V) where
       → IsRunIn (with_lent_value m (start_of ends) w) (left_behind m ends)
   behind-written None run w = run
   behind-written (Some (a, b)) run w =
-      let parted = parted-first m.nodes a b (left_in m.nodes (Some (a, b))) run in
+      let parted = parted-first m.nodes a b (leaves_left m.nodes (Some (a, b))) run in
       recounted (with_leaf_value m.nodes a w) (left_behind m (Some (a, b))) (length parted.rest) (run-written m.nodes
       (left_behind m (Some (a, b))) a (pairs_of run.leaves) (λ p ps. p ∷ ps) parted w)
 
@@ -170,7 +170,7 @@ module _ {K V : Type 0} (m : Contents K V) where
       → IsRunIn (with_lent_value m (end_of ends) w) (left_before m ends)
   before-written None run w = run
   before-written (Some (a, b)) run w =
-      let parted = parted-last m.nodes a b (left_in m.nodes (Some (a, b))) run in
+      let parted = parted-last m.nodes a b (leaves_left m.nodes (Some (a, b))) run in
       recounted (with_leaf_value m.nodes b w) (left_before m (Some (a, b))) (length parted.rest) (run-written m.nodes
       (left_before m (Some (a, b))) b (pairs_of run.leaves) (λ p ps. ps ++ p ∷ []) parted w)
 
@@ -189,7 +189,7 @@ module _ {K V : Type 0} (m : Contents K V) where
   left-run (Some (a, b)) run =
       ∥∥₁_map run
       (λ r.
-      let parted = parted-first m.nodes a b (left_in m.nodes (Some (a, b))) r in
+      let parted = parted-first m.nodes a b (leaves_left m.nodes (Some (a, b))) r in
       recounted m.nodes (left_behind m (Some (a, b))) (length parted.rest)
       (record { leaves = parted.rest; walk = parted.walk; stored = parted.stored; len_is = refl }))
 
@@ -198,20 +198,20 @@ module _ {K V : Type 0} (m : Contents K V) where
   left-run-back (Some (a, b)) run =
       ∥∥₁_map run
       (λ r.
-      let parted = parted-last m.nodes a b (left_in m.nodes (Some (a, b))) r in
+      let parted = parted-last m.nodes a b (leaves_left m.nodes (Some (a, b))) r in
       recounted m.nodes (left_before m (Some (a, b))) (length parted.rest)
       (record { leaves = parted.rest; walk = parted.walk; stored = parted.stored; len_is = refl }))
 
   -- where they are counted, one fewer is left
-  pub counted_behind : (ends : Ends) → ∥ IsRunIn m ends ∥₁ → (len : ℕ) → len ≡ left_in m.nodes ends → (w : V)
-      → len - 1 ≡ left_in (with_lent_value m (start_of ends) w).nodes (left_behind m ends)
+  pub counted_behind : (ends : Ends) → ∥ IsRunIn m ends ∥₁ → (len : ℕ) → len ≡ leaves_left m.nodes ends → (w : V)
+      → len - 1 ≡ leaves_left (with_lent_value m (start_of ends) w).nodes (left_behind m ends)
   counted_behind None run len counted w = ∥∥₁_elim run (Coded-set coded_ℕ _ _) (λ r.
-      let none : left_in m.nodes None ≡ 0 = r.len_is ∙ ap length r.walk.ends_are in let fewer : len - 1 ≡ 0 = omega
+      let none : leaves_left m.nodes None ≡ 0 = r.len_is ∙ ap length r.walk.ends_are in let fewer : len - 1 ≡ 0 = omega
       (arith, counted, none) in fewer ∙ sym none)
   counted_behind (Some (a, b)) run len counted w =
       ∥∥₁_elim run (Coded-set coded_ℕ _ _)
       (λ r.
-      let parted = parted-first m.nodes a b (left_in m.nodes (Some (a, b))) r in
+      let parted = parted-first m.nodes a b (leaves_left m.nodes (Some (a, b))) r in
       let now = measured (with_leaf_value m.nodes a w) (left_behind m (Some (a, b))) (length parted.rest)
       (run-written m.nodes (left_behind m (Some (a, b))) a (pairs_of r.leaves) (λ p ps. p ∷ ps) parted w) in
       let were = r.len_is ∙ sym (length-map {B = K × V} r.leaves (λ (l : LeafAt K V). (l.key, l.value)))
@@ -225,15 +225,15 @@ module _ {K V : Type 0} (m : Contents K V) where
       ) in
       fewer ∙ sym now)
 
-  pub counted_before : (ends : Ends) → ∥ IsRunIn m ends ∥₁ → (len : ℕ) → len ≡ left_in m.nodes ends → (w : V)
-      → len - 1 ≡ left_in (with_lent_value m (end_of ends) w).nodes (left_before m ends)
+  pub counted_before : (ends : Ends) → ∥ IsRunIn m ends ∥₁ → (len : ℕ) → len ≡ leaves_left m.nodes ends → (w : V)
+      → len - 1 ≡ leaves_left (with_lent_value m (end_of ends) w).nodes (left_before m ends)
   counted_before None run len counted w = ∥∥₁_elim run (Coded-set coded_ℕ _ _) (λ r.
-      let none : left_in m.nodes None ≡ 0 = r.len_is ∙ ap length r.walk.ends_are in let fewer : len - 1 ≡ 0 = omega
+      let none : leaves_left m.nodes None ≡ 0 = r.len_is ∙ ap length r.walk.ends_are in let fewer : len - 1 ≡ 0 = omega
       (arith, counted, none) in fewer ∙ sym none)
   counted_before (Some (a, b)) run len counted w =
       ∥∥₁_elim run (Coded-set coded_ℕ _ _)
       (λ r.
-      let parted = parted-last m.nodes a b (left_in m.nodes (Some (a, b))) r in
+      let parted = parted-last m.nodes a b (leaves_left m.nodes (Some (a, b))) r in
       let now = measured (with_leaf_value m.nodes b w) (left_before m (Some (a, b))) (length parted.rest)
       (run-written m.nodes (left_before m (Some (a, b))) b (pairs_of r.leaves) (λ p ps. ps ++ p ∷ []) parted w) in
       let were = r.len_is ∙ sym (length-map {B = K × V} r.leaves (λ (l : LeafAt K V). (l.key, l.value)))
@@ -249,15 +249,15 @@ module _ {K V : Type 0} (m : Contents K V) where
       ) in
       fewer ∙ sym now)
 
-  pub counted_left : (ends : Ends) → ∥ IsRunIn m ends ∥₁ → (len : ℕ) → len ≡ left_in m.nodes ends
-      → len - 1 ≡ left_in m.nodes (left_behind m ends)
+  pub counted_left : (ends : Ends) → ∥ IsRunIn m ends ∥₁ → (len : ℕ) → len ≡ leaves_left m.nodes ends
+      → len - 1 ≡ leaves_left m.nodes (left_behind m ends)
   counted_left None run len counted = ∥∥₁_elim run (Coded-set coded_ℕ _ _) (λ r.
-      let none : left_in m.nodes None ≡ 0 = r.len_is ∙ ap length r.walk.ends_are in let fewer : len - 1 ≡ 0 = omega
+      let none : leaves_left m.nodes None ≡ 0 = r.len_is ∙ ap length r.walk.ends_are in let fewer : len - 1 ≡ 0 = omega
       (arith, counted, none) in fewer ∙ sym none)
   counted_left (Some (a, b)) run len counted =
       ∥∥₁_elim run (Coded-set coded_ℕ _ _)
       (λ r.
-      let parted = parted-first m.nodes a b (left_in m.nodes (Some (a, b))) r in
+      let parted = parted-first m.nodes a b (leaves_left m.nodes (Some (a, b))) r in
       let now = measured m.nodes (left_behind m (Some (a, b))) (length parted.rest)
       (record { leaves = parted.rest; walk = parted.walk; stored = parted.stored; len_is = refl }) in
       let were = r.len_is ∙ sym (length-map {B = K × V} r.leaves (λ (l : LeafAt K V). (l.key, l.value)))
@@ -271,15 +271,15 @@ module _ {K V : Type 0} (m : Contents K V) where
       ) in
       fewer ∙ sym now)
 
-  pub counted_left_back : (ends : Ends) → ∥ IsRunIn m ends ∥₁ → (len : ℕ) → len ≡ left_in m.nodes ends
-      → len - 1 ≡ left_in m.nodes (left_before m ends)
+  pub counted_left_back : (ends : Ends) → ∥ IsRunIn m ends ∥₁ → (len : ℕ) → len ≡ leaves_left m.nodes ends
+      → len - 1 ≡ leaves_left m.nodes (left_before m ends)
   counted_left_back None run len counted = ∥∥₁_elim run (Coded-set coded_ℕ _ _) (λ r.
-      let none : left_in m.nodes None ≡ 0 = r.len_is ∙ ap length r.walk.ends_are in let fewer : len - 1 ≡ 0 = omega
+      let none : leaves_left m.nodes None ≡ 0 = r.len_is ∙ ap length r.walk.ends_are in let fewer : len - 1 ≡ 0 = omega
       (arith, counted, none) in fewer ∙ sym none)
   counted_left_back (Some (a, b)) run len counted =
       ∥∥₁_elim run (Coded-set coded_ℕ _ _)
       (λ r.
-      let parted = parted-last m.nodes a b (left_in m.nodes (Some (a, b))) r in
+      let parted = parted-last m.nodes a b (leaves_left m.nodes (Some (a, b))) r in
       let now = measured m.nodes (left_before m (Some (a, b))) (length parted.rest)
       (record { leaves = parted.rest; walk = parted.walk; stored = parted.stored; len_is = refl }) in
       let were = r.len_is ∙ sym (length-map {B = K × V} r.leaves (λ (l : LeafAt K V). (l.key, l.value)))

@@ -2,7 +2,7 @@
 ghost use Rattle.std.specs.Prelude.{◌≡◌, ◌==◌, ◌<◌, length};
 ghost use Rattle.std.specs.Borrow.{sem};
 ghost use Rattle.std.specs.Map.Iter.{deref_pair_mut};
-ghost use Rattle.art_walks.proofs.RunLengths.{left_in};
+ghost use Rattle.art_walks.specs.Walked.{leaves_left};
 ghost use Rattle.art_map.specs.LentRuns.{IsRunIn};
 
 use crate::map::TreeMap;
@@ -16,7 +16,7 @@ pub struct IterMut<'a, K: AsBytes, V, const PREFIX_LEN: usize> {
     leaves: RawIterator,
     len: usize,
     ghost valid: { ∥ IsRunIn map.now leaves ∥₁ },
-    ghost counted: { len ≡ left_in map.now.nodes leaves },
+    ghost counted: { len ≡ leaves_left map.now.nodes leaves },
 }
 
 /// An iterator over all values of a map in the order of their keys, from either end. It lends them for writing, one at

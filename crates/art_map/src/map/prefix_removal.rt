@@ -7,6 +7,7 @@ ghost use Rattle.art_arena.specs.tree.Tenants.{with_front, without_front};
 ghost use Rattle.art_operations.specs.Openings.{OpeningReads};
 ghost use Rattle.art_walks.specs.MapReads.{PairsWithin};
 ghost use Rattle.art_map.specs.Contents.{IsUntouched};
+ghost use Rattle.art_map.specs.LeafNames.{KeepsLeaves};
 ghost use Rattle.art_map.specs.PrefixBlocks.{AreCutVisits, IsFoundPart, IsReadyPart, ShrinksAtCut, cut_visits};
 
 mod front;
@@ -99,6 +100,7 @@ impl<'a, K: AsBytes, V, const PREFIX_LEN: usize> PrefixRemoval<'a, K, V, PREFIX_
             ≡ length (with_front (key_of K.bytes) (removal_prefix self.entry) (removal_map self.entry).now.pairs) }
         ensures visits { result.visits ≡ cut_visits K.bytes (removal_prefix self.entry)
             (removal_map self.entry).now.pairs (removal_reads self.entry) }
+        ensures names { KeepsLeaves K.bytes (removal_map self.entry).now self.exit.0.now }
         ensures all_counted { result.pairs ≤ result.visits }
         ensures few { result.visits ≤ removal_reads self.entry + 2 * result.pairs }
     {
@@ -175,6 +177,7 @@ impl<K: AsBytes, V, const PREFIX_LEN: usize> TreeMap<K, V, PREFIX_LEN> {
             → result.pairs ≡ length (with_front (key_of K.bytes) front self.old.pairs) }
         ensures visits { (front : List ℕ) → ∥ IsReadyPart K.bytes PREFIX_LEN self.old front (Some ready) ∥₁
             → result.visits ≡ cut_visits K.bytes front self.old.pairs visits }
+        ensures names { KeepsLeaves K.bytes self.old self.new }
         ensures all_counted { result.pairs ≤ result.visits }
         ensures few { result.visits ≤ visits + 2 * result.pairs }
     {
@@ -198,6 +201,7 @@ impl<K: AsBytes, V, const PREFIX_LEN: usize> TreeMap<K, V, PREFIX_LEN> {
             → result.pairs ≡ length (with_front (key_of K.bytes) front self.old.pairs) }
         ensures visits { (front : List ℕ) → ∥ IsReadyPart K.bytes PREFIX_LEN self.old front block.part ∥₁
             → result.visits ≡ cut_visits K.bytes front self.old.pairs block.reads }
+        ensures names { KeepsLeaves K.bytes self.old self.new }
         ensures all_counted { result.pairs ≤ result.visits }
         ensures few { result.visits ≤ block.reads + 2 * result.pairs }
     {
@@ -270,6 +274,7 @@ impl<K: AsBytes, V, const PREFIX_LEN: usize> TreeMap<K, V, PREFIX_LEN> {
         ensures count { IfOk result (λ done.
             done.pairs ≡ length (with_front (key_of K.bytes) prefix.now self.old.pairs)) }
         ensures visits { IfOk result (λ done. AreCutVisits K.bytes prefix.now self.old.pairs done.visits) }
+        ensures names { OnOk result (KeepsLeaves K.bytes self.old self.new) }
         ensures all_counted { IfOk result (λ done. done.pairs ≤ done.visits) }
         ensures few { IfOk result (λ done. (longest : ℕ) → PairsWithin K.bytes longest self.old.pairs
             → OpeningReads longest (length prefix.now) (2 * done.pairs) done.visits) }

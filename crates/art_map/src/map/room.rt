@@ -1,6 +1,6 @@
 //! Memory for nodes that are still to be made.
-ghost use Rattle.std.specs.Prelude.{◌≡◌, ◌↔◌, ◌*◌, ◌<◌, ◌^◌, IsTrue, OnOk};
-ghost use Rattle.art_arena.specs.arena.Arena.{HasRoom, KeepsRoom};
+ghost use Rattle.std.specs.Prelude.{◌≡◌, ◌↔◌, ◌*◌, ◌<◌, ◌^◌, IsOk, IsTrue, OnOk};
+ghost use Rattle.art_arena.specs.arena.Arena.{HasRoom, IsTrimmed, KeepsRoomOf};
 ghost use Rattle.art_map.specs.Contents.{IsUntouched};
 
 use crate::map::TreeMap;
@@ -29,6 +29,7 @@ impl<K: AsBytes, V, const PREFIX_LEN: usize> TreeMap<K, V, PREFIX_LEN> {
     // Allocates the nodes of so many removals, each of which makes a node at most.
     pub(super) fn reserve_removals(&mut self, count: usize) -> Result<(), AllocError>
         ensures room { OnOk result (HasRoom self.new.nodes count) }
+        ensures succeeds { HasRoom self.old.nodes count → IsOk result }
         ensures pairs { self.new.pairs ≡ self.old.pairs }
         ensures kept { IsUntouched self.old self.new }
     {
@@ -39,7 +40,8 @@ impl<K: AsBytes, V, const PREFIX_LEN: usize> TreeMap<K, V, PREFIX_LEN> {
     /// `insert`, `try_insert` and `replace_entry` are never out of memory, and each uses room for two at most.
     ///
     /// A node of any kind may be needed, so that many of each kind are allocated, some kilobytes for each insertion. It
-    /// serves a few insertions that must not fail. Fails if out of memory. The map is unchanged.
+    /// serves a few insertions that must not fail. Fails only if there is no room for so many, and no memory. Either
+    /// way the map is unchanged.
     ///
     /// ```
     /// let mut map = TreeMap::new(rt.alloc());
@@ -49,15 +51,40 @@ impl<K: AsBytes, V, const PREFIX_LEN: usize> TreeMap<K, V, PREFIX_LEN> {
     /// ```
     pub fn reserve(&mut self, additional: usize) -> Result<(), AllocError>
         ensures room { OnOk result (HasRoom self.new.nodes (2 * additional)) }
+        ensures succeeds { 2 * additional < 2 ^ 64 → HasRoom self.old.nodes (2 * additional) → IsOk result }
         ensures pairs { self.new.pairs ≡ self.old.pairs }
         ensures kept { IsUntouched self.old self.new }
     {
         self.reserve_insertions(additional)
     }
 
+    /// Gives memory back that the nodes don't need: of each kind of node, what lies behind the last one. It never
+    /// fails. No node moves, so that each leaf keeps its name: where the last nodes stay, little goes back. `clear`
+    /// before it gives all back.
+    ///
+    /// ```
+    /// let mut map = TreeMap::new(rt.alloc());
+    /// map.extend([(*b"ab", 1), (*b"cd", 2), (*b"ef", 3)])?;
+    /// map.pop_last()?;
+    /// map.shrink_to_fit();
+    /// assert!(rt; map.keys().eq([b"ab", b"cd"]));
+    /// ```
+    pub fn shrink_to_fit(&mut self)
+    where
+        K: Drop,
+        V: Drop,
+        ensures pairs { self.new.pairs ≡ self.old.pairs }
+        ensures kept { IsUntouched self.old self.new }
+        ensures no_more { KeepsRoomOf self.new.nodes self.old.nodes }
+        ensures trimmed { PREFIX_LEN < 2 ^ 62 → IsTrimmed self.new.nodes }
+    {
+        self.arena.shrink_to_fit();
+    }
+
     // Allocates the nodes of so many insertions, each of which makes two nodes at most.
     pub(super) fn reserve_insertions(&mut self, count: usize) -> Result<(), AllocError>
         ensures room { OnOk result (HasRoom self.new.nodes (2 * count)) }
+        ensures succeeds { 2 * count < 2 ^ 64 → HasRoom self.old.nodes (2 * count) → IsOk result }
         ensures pairs { self.new.pairs ≡ self.old.pairs }
         ensures kept { IsUntouched self.old self.new }
     {

@@ -69,6 +69,17 @@ impl<K: AsBytes, V, const PREFIX_LEN: usize> TreeMap<K, V, PREFIX_LEN> {
     }
 }
 
+/// The iterator of a loop over a map: that of `iter`.
+///
+/// ```
+/// let mut map = TreeMap::new(rt.alloc());
+/// map.extend([(*b"cd", 2), (*b"ab", 1)])?;
+/// let mut told = 0;
+/// for (_key, value) in &map {
+///     told = 10 * told + *value;
+/// }
+/// assert_eq!(rt; told, 12);
+/// ```
 impl<'a, K: AsBytes, V, const PREFIX_LEN: usize> IntoIterator for &'a TreeMap<K, V, PREFIX_LEN> {
     type Item = (&'a K, &'a V);
 

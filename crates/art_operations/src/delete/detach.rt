@@ -113,8 +113,8 @@ fn point_at<K, V, const PREFIX_LEN: usize>(
     arena.edit_inner(above, &NodeEdit::Write { byte, child: new });
 }
 
-/// Removes a part of a tree from the inner nodes above it, and returns the root of what is left, if the part isn't the
-/// root itself. The nodes of the part stay in the arena, and its leaves in the list of leaves.
+/// Removes a part of a tree from the inner nodes above it. It returns the root of what is left, or `None` if the part
+/// is the root itself. The nodes of the part stay in the arena, and its leaves in the list of leaves.
 ///
 /// Fails if the node above it becomes one of the next smaller kind and there is no memory for that one. Nothing changes
 /// then.

@@ -9,6 +9,7 @@ ghost use Rattle.art_arena.specs.arena.Arena.{HasRoom, KeepsNodes, KeepsRoom, Sa
 ghost use Rattle.art_arena.specs.arena.Shapes.{leaves};
 ghost use Rattle.art_arena.specs.arena.Steps.{steps_of};
 ghost use Rattle.art_operations.specs.Held.{HasInner};
+ghost use Rattle.art_operations.specs.LeafNames.{HasLeavesOf};
 ghost use Rattle.art_operations.specs.Openings.{ForLongest, OpeningReads, ReadsAtLeast};
 ghost use Rattle.art_operations.specs.Subtrees.{CanLoseChild, HasRoomAbove, IsCutBeside, IsSubtreeAnswer};
 ghost use Rattle.art_operations.specs.Subtrees.{IsSubtreePoint, ShrinksWithout};
@@ -183,6 +184,7 @@ impl PreparedSubtreeDelete {
             (λ s rest. IsCutBeside K.bytes front PREFIX_LEN arena.new rest s result) }
         ensures others { (front : List ℕ) → OfTreeWhere K.bytes PREFIX_LEN arena.old self.point.root
             (λ s. IsSubtreePoint K.bytes front s self.point) (λ s rest. KeepsNodes rest arena.old arena.new) }
+        ensures names { HasLeavesOf K.bytes arena.old arena.new }
         ensures all_freed { result.leafs_removed ≤ result.nodes_freed }
         ensures few_freed { result.nodes_freed + 1 ≤ 2 * result.leafs_removed }
         ensures room { UsesRoom 1 arena.old arena.new }

@@ -19,8 +19,8 @@ use art_arena::NodeArena;
 use art_bytes::AsBytes;
 use art_nodes::{NodePtr, OpaqueNodePtr, known};
 
-/// Puts a key and its value in where the search for the key's place below this root stopped, which ended in this way
-/// and in no conflict: it does what `InsertPoint::apply` does at that place.
+/// Puts a key and its value in where the search for the key's place below this root stopped. It does what
+/// `InsertPoint::apply` does at that place. The search ended in this way, and in no conflict.
 #[inline(always)]
 pub(crate) fn insert_at_stop<K: AsBytes, V, const PREFIX_LEN: usize>(
     arena: &mut NodeArena<K, V, PREFIX_LEN>,

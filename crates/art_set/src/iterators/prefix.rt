@@ -33,6 +33,17 @@ impl<'a, K, const PREFIX_LEN: usize> Prefix<'a, K, PREFIX_LEN> {
     }
 }
 
+/// Another iterator over the keys still to come. It allocates nothing, and never fails.
+///
+/// ```
+/// let mut set = TreeSet::new(rt.alloc());
+/// set.extend([*b"ab", *b"ac"])?;
+/// let mut keys = set.prefix(b"a");
+/// keys.next();
+/// let again = keys.clone()?;
+/// assert_eq!(rt; keys.next_back(), Some(b"ac"));
+/// assert!(rt; again.eq([b"ac"]));
+/// ```
 impl<'a, K, const PREFIX_LEN: usize> Clone for Prefix<'a, K, PREFIX_LEN> {
     ghost is_clone = { λ original copy. copy ≡ original };
 

@@ -14,7 +14,7 @@ use std::marker::Model;
 
 /// Which keys a merge gives: those that the first set has alone, those that both have, those that the second has alone.
 #[derive(Clone, Copy)]
-pub(crate) struct Wanted {
+pub struct Wanted {
     pub(crate) first: bool,
     pub(crate) both: bool,
     pub(crate) second: bool,

@@ -4,7 +4,7 @@ ghost use Rattle.art_set.specs.Merges.{comparisons_of, difference_of, intersecti
 ghost use Rattle.art_set.specs.Merges.{symmetric_difference_of, union_of};
 ghost use Rattle.art_set.specs.Merges.{are_disjoint, is_subset_of, AscendsInBytes};
 
-use crate::merges::{Difference, Intersection, Peeked, Sides, SymmetricDifference, Union};
+use crate::merges::{Difference, Intersection, Merged, Peeked, Sides, SymmetricDifference, Union};
 use crate::set::TreeSet;
 use art_bytes::OrderedBytes;
 
@@ -40,7 +40,7 @@ impl<K: OrderedBytes, const PREFIX_LEN: usize> TreeSet<K, PREFIX_LEN> {
         ensures to_compare { result.to_compare ≡ comparisons_of K.bytes self.now other.now }
         ensures unmet { result.unmet ≡ length self.now + length other.now }
     {
-        Difference::new(self.beside(other))
+        Merged::new(self.beside(other))
     }
 
     /// Returns an iterator over the keys that one of the two sets has and the other lacks. It allocates nothing.
@@ -61,7 +61,7 @@ impl<K: OrderedBytes, const PREFIX_LEN: usize> TreeSet<K, PREFIX_LEN> {
         ensures to_compare { result.to_compare ≡ comparisons_of K.bytes self.now other.now }
         ensures unmet { result.unmet ≡ length self.now + length other.now }
     {
-        SymmetricDifference::new(self.beside(other))
+        Merged::new(self.beside(other))
     }
 
     /// Returns an iterator over the keys that both sets have, as this set has them. It allocates nothing.
@@ -82,7 +82,7 @@ impl<K: OrderedBytes, const PREFIX_LEN: usize> TreeSet<K, PREFIX_LEN> {
         ensures to_compare { result.to_compare ≡ comparisons_of K.bytes self.now other.now }
         ensures unmet { result.unmet ≡ length self.now + length other.now }
     {
-        Intersection::new(self.beside(other))
+        Merged::new(self.beside(other))
     }
 
     /// Returns an iterator over the keys of this set, and those of the other that it lacks. It allocates nothing.
@@ -100,7 +100,7 @@ impl<K: OrderedBytes, const PREFIX_LEN: usize> TreeSet<K, PREFIX_LEN> {
         ensures to_compare { result.to_compare ≡ comparisons_of K.bytes self.now other.now }
         ensures unmet { result.unmet ≡ length self.now + length other.now }
     {
-        Union::new(self.beside(other))
+        Merged::new(self.beside(other))
     }
 
     /// Returns whether the other set has no key of this one.

@@ -50,6 +50,17 @@ impl<K: AsBytes, const PREFIX_LEN: usize> TreeSet<K, PREFIX_LEN> {
     }
 }
 
+/// The iterator of a loop over a set: that of `iter`.
+///
+/// ```
+/// let mut set = TreeSet::new(rt.alloc());
+/// set.extend([*b"cd", *b"ab"])?;
+/// let mut firsts = Vec::new(rt.alloc());
+/// for key in &set {
+///     firsts.push(key[0])?;
+/// }
+/// assert_eq!(rt; firsts.as_slice(), b"ac".as_slice());
+/// ```
 impl<'a, K: AsBytes, const PREFIX_LEN: usize> IntoIterator for &'a TreeSet<K, PREFIX_LEN> {
     type Item = &'a K;
 

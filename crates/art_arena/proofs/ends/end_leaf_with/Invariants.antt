@@ -1,8 +1,8 @@
 use Rattle.std.proofs.Common.{◌≡◌, ℕ, List}
-use Rattle.art_arena.specs.arena.Arena.{node_at}
+use Rattle.art_arena.specs.arena.Arena.{node_at, slots_of}
 use Rattle.art_arena.specs.arena.Shapes.{Shape}
 use Rattle.art_arena.specs.arena.Meaning.{IsSubtree}
-use Rattle.art_arena.proofs.shapes.Measures.{slots_of, nodes_below}
+use Rattle.art_arena.proofs.shapes.Measures.{nodes_below}
 use Rattle.art_arena.proofs.shapes.EndWalks.{OnEnd}
 use Rattle.art_arena.proofs.ends.end_leaf_with.Given as goal
 

@@ -27,7 +27,7 @@ returns-in_ok-handle-clause-outcome g c =
     let held : List ℕ = c.reads.held.items in let line = c.as_slice.ensures.value in
     let some : 0 < length held = let h = eqb-false _ _ (sym c.if-not-is_empty.ensures) in omega arith in
     let last = outcome_last c.args.index.now c.reads.index c.handle.new.self text held (g.W.Sink.taken c.args.sink.now) (g.W.Sink.taken c.reads.sink) c.as_slice.result.now carried some line memory
-    (record { lawful = e.lawful; left = e.left; visits = c.in_ok-handle.field-0.visits; count = record { within = e.visits; short = e.short; own_path = e.own_path }; reads = e.counted }) in (
+    (record { lawful = e.lawful; left = e.left; visits = c.in_ok-handle.field-0.visits; count = record { within = e.visits; short = e.short; own_path = e.own_path }; reads = e.counted; count_ahead = 0; few = omega arith; ahead = e.ahead }) in (
       text,
       carried.written ++ answer memory c.reads.index.records c.as_slice.result.now,
       given_end (g.S.Source.given c.args.source.now) text (g.S.Source.given c.reads.source) (g.S.Source.given c.read.new.self) c.in-Ok.n c.read.new.buf i.1 c.in-Ok.ensures.gives c.if-n-eq0.true,

@@ -165,10 +165,7 @@ impl<'a, K: AsBytes, V, const PREFIX_LEN: usize> Entry<'a, K, V, PREFIX_LEN> {
         ensures handed_back { IfErr result (λ refused. (entry_value self.entry ≡ None)
             × (refused.key ≡ entry_key self.entry) × (refused.value ≡ default)) }
     {
-        match self {
-            Entry::Occupied(entry) => Ok(entry.into_mut()),
-            Entry::Vacant(entry) => entry.insert(default),
-        }
+        self.or_insert_with_key(|_key| default)
     }
 
     /// Does as `or_insert`, with the default value of its type.
@@ -187,10 +184,7 @@ impl<'a, K: AsBytes, V, const PREFIX_LEN: usize> Entry<'a, K, V, PREFIX_LEN> {
         ensures handed_back { IfErr result (λ refused. (entry_value self.entry ≡ None)
             × (refused.key ≡ entry_key self.entry) × V.is_default refused.value) }
     {
-        match self {
-            Entry::Occupied(entry) => Ok(entry.into_mut()),
-            Entry::Vacant(entry) => entry.insert(V::default()),
-        }
+        self.or_insert_with_key(|_key| V::default())
     }
 
     /// Does as `or_insert`, with a value that `default` returns. It is called only if the key is not stored, and has to
@@ -213,10 +207,7 @@ impl<'a, K: AsBytes, V, const PREFIX_LEN: usize> Entry<'a, K, V, PREFIX_LEN> {
         ensures handed_back { IfErr result (λ refused. (entry_value self.entry ≡ None)
             × (refused.key ≡ entry_key self.entry) × F.post default refused.value) }
     {
-        match self {
-            Entry::Occupied(entry) => Ok(entry.into_mut()),
-            Entry::Vacant(entry) => entry.insert(default()),
-        }
+        self.or_insert_with_key(|_key| default())
     }
 
     /// Does as `or_insert`, with a value that `default` returns for the key. It is called only if the key is not
@@ -301,10 +292,7 @@ impl<'a, K: AsBytes, V, const PREFIX_LEN: usize> Entry<'a, K, V, PREFIX_LEN> {
         ensures handed_back { IfErr result (λ refused. (entry_value self.entry ≡ None)
             × (refused.key ≡ entry_key self.entry) × (refused.value ≡ default)) }
     {
-        match self {
-            Entry::Occupied(entry) => entry.as_it_is(),
-            Entry::Vacant(entry) => entry.insert_entry(default),
-        }
+        self.or_insert_with_key_entry(|_key| default)
     }
 
     /// Does as `or_insert_entry`, with the default value of its type.
@@ -325,10 +313,7 @@ impl<'a, K: AsBytes, V, const PREFIX_LEN: usize> Entry<'a, K, V, PREFIX_LEN> {
         ensures handed_back { IfErr result (λ refused. (entry_value self.entry ≡ None)
             × (refused.key ≡ entry_key self.entry) × V.is_default refused.value) }
     {
-        match self {
-            Entry::Occupied(entry) => entry.as_it_is(),
-            Entry::Vacant(entry) => entry.insert_entry(V::default()),
-        }
+        self.or_insert_with_key_entry(|_key| V::default())
     }
 
     /// Does as `or_insert_entry`, with a value that `default` returns. It is called only if the key is not stored, and
@@ -352,10 +337,7 @@ impl<'a, K: AsBytes, V, const PREFIX_LEN: usize> Entry<'a, K, V, PREFIX_LEN> {
         ensures handed_back { IfErr result (λ refused. (entry_value self.entry ≡ None)
             × (refused.key ≡ entry_key self.entry) × F.post default refused.value) }
     {
-        match self {
-            Entry::Occupied(entry) => entry.as_it_is(),
-            Entry::Vacant(entry) => entry.insert_entry(default()),
-        }
+        self.or_insert_with_key_entry(|_key| default())
     }
 
     /// Does as `or_insert_entry`, with a value that `default` returns for the key. It is called only if the key is not

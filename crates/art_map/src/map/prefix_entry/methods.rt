@@ -141,13 +141,7 @@ impl<'a, K: AsBytes, V, const PREFIX_LEN: usize> PrefixEntry<'a, K, V, PREFIX_LE
         ensures handed_back { IfErr result (λ refused. (prefix_value self.entry ≡ None)
             × (refused.key ≡ prefix_key self.entry) × (refused.value ≡ default)) }
     {
-        match self {
-            PrefixEntry::Occupied(entry) => match entry.stored() {
-                Some(leaf) => Ok(entry.lend(leaf)),
-                None => entry.insert(default),
-            },
-            PrefixEntry::Vacant(entry) => entry.insert(default),
-        }
+        self.or_insert_with_key(|_key| default)
     }
 
     /// Does as `or_insert`, with the default value of its type.
@@ -166,13 +160,7 @@ impl<'a, K: AsBytes, V, const PREFIX_LEN: usize> PrefixEntry<'a, K, V, PREFIX_LE
         ensures handed_back { IfErr result (λ refused. (prefix_value self.entry ≡ None)
             × (refused.key ≡ prefix_key self.entry) × V.is_default refused.value) }
     {
-        match self {
-            PrefixEntry::Occupied(entry) => match entry.stored() {
-                Some(leaf) => Ok(entry.lend(leaf)),
-                None => entry.insert(V::default()),
-            },
-            PrefixEntry::Vacant(entry) => entry.insert(V::default()),
-        }
+        self.or_insert_with_key(|_key| V::default())
     }
 
     /// Does as `or_insert`, with a value that `default` returns. It is called only if the key is not stored, and has to
@@ -195,13 +183,7 @@ impl<'a, K: AsBytes, V, const PREFIX_LEN: usize> PrefixEntry<'a, K, V, PREFIX_LE
         ensures handed_back { IfErr result (λ refused. (prefix_value self.entry ≡ None)
             × (refused.key ≡ prefix_key self.entry) × F.post default refused.value) }
     {
-        match self {
-            PrefixEntry::Occupied(entry) => match entry.stored() {
-                Some(leaf) => Ok(entry.lend(leaf)),
-                None => entry.insert(default()),
-            },
-            PrefixEntry::Vacant(entry) => entry.insert(default()),
-        }
+        self.or_insert_with_key(|_key| default())
     }
 
     /// Does as `or_insert`, with a value that `default` returns for the key. It is called only if the key is not
@@ -261,13 +243,7 @@ impl<'a, K: AsBytes, V, const PREFIX_LEN: usize> PrefixEntry<'a, K, V, PREFIX_LE
         ensures handed_back { IfErr result (λ refused. (prefix_value self.entry ≡ None)
             × (refused.key ≡ prefix_key self.entry) × (refused.value ≡ default)) }
     {
-        match self {
-            PrefixEntry::Occupied(entry) => match entry.stored() {
-                Some(leaf) => entry.give(leaf),
-                None => entry.insert_entry(default),
-            },
-            PrefixEntry::Vacant(entry) => entry.insert_entry(default),
-        }
+        self.or_insert_with_key_entry(|_key| default)
     }
 
     /// Does as `or_insert_entry`, with the default value of its type.
@@ -288,13 +264,7 @@ impl<'a, K: AsBytes, V, const PREFIX_LEN: usize> PrefixEntry<'a, K, V, PREFIX_LE
         ensures handed_back { IfErr result (λ refused. (prefix_value self.entry ≡ None)
             × (refused.key ≡ prefix_key self.entry) × V.is_default refused.value) }
     {
-        match self {
-            PrefixEntry::Occupied(entry) => match entry.stored() {
-                Some(leaf) => entry.give(leaf),
-                None => entry.insert_entry(V::default()),
-            },
-            PrefixEntry::Vacant(entry) => entry.insert_entry(V::default()),
-        }
+        self.or_insert_with_key_entry(|_key| V::default())
     }
 
     /// Does as `or_insert_entry`, with a value that `default` returns. It is called only if the key is not stored, and
@@ -318,13 +288,7 @@ impl<'a, K: AsBytes, V, const PREFIX_LEN: usize> PrefixEntry<'a, K, V, PREFIX_LE
         ensures handed_back { IfErr result (λ refused. (prefix_value self.entry ≡ None)
             × (refused.key ≡ prefix_key self.entry) × F.post default refused.value) }
     {
-        match self {
-            PrefixEntry::Occupied(entry) => match entry.stored() {
-                Some(leaf) => entry.give(leaf),
-                None => entry.insert_entry(default()),
-            },
-            PrefixEntry::Vacant(entry) => entry.insert_entry(default()),
-        }
+        self.or_insert_with_key_entry(|_key| default())
     }
 
     /// Does as `or_insert_entry`, with a value that `default` returns for the key. It is called only if the key is not

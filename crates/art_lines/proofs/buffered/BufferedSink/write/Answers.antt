@@ -1,4 +1,4 @@
-use Rattle.std.proofs.Common.{rules, ◌≡◌, ◌≤◌, ◌++◌, ℕ, List, length, ap, sym, ◌∙◌, take, append_assoc, arith}
+use Rattle.std.proofs.Common.{rules, ◌≡◌, ◌++◌, ℕ, List, ap, sym, ◌∙◌, take, append_assoc}
 use Rattle.std.specs.List.{between}
 use Rattle.art_lines.proofs.Buffering.{put_behind}
 use Rattle.art_lines.proofs.buffered.BufferedSink.write.Goals as goal

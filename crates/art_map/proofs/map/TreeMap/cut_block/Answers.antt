@@ -16,3 +16,6 @@ pub returns-in-None-clause-visits : goal.returns-in-None-clause-visits
 returns-in-None-clause-visits g c = λ front known.
     ap (λ (b : Block). b.reads) c.block.view_is
     ∙ none-visits g.K.AsBytes.bytes front c.args.self.now.pairs (none-ready g.K.AsBytes.bytes g.row.PREFIX_LEN c.args.self.now front c.args.block.part (ap (λ (b : Block). b.part) (sym c.block.view_is) ∙ c.in-None.is) known) c.args.block.reads (omega arith)
+
+pub returns-in-None-clause-names : goal.returns-in-None-clause-names
+returns-in-None-clause-names g c = λ slot key has still. has

@@ -1,8 +1,8 @@
 use Rattle.std.proofs.Common.{◌≡◌}
-use Rattle.art_arena.specs.arena.Arena.{node_at}
+use Rattle.art_arena.specs.arena.Arena.{node_at, slots_of}
 use Rattle.art_arena.specs.arena.Meaning.{IsPart}
 use Rattle.art_arena.specs.arena.Shapes.{Shape}
-use Rattle.art_arena.proofs.shapes.Measures.{slots_of, nodes_below}
+use Rattle.art_arena.proofs.shapes.Measures.{nodes_below}
 use Rattle.art_walks.specs.inner.Fillings.{first_key, HasShape}
 use Rattle.art_walks.proofs.checker.keys.first_below.Given as goal
 

@@ -1,6 +1,6 @@
 use Rattle.std.proofs.Common.{◌≡◌, ℕ, Bool, true, false, not, List, [], ◌∷◌, ◌++◌, length, ◌-◌, take, length-append, sym, ap, subst, ◌∙◌, refl, inl, inr}
-use Rattle.art_arena.specs.arena.Arena.{links_at, node_at}
-use Rattle.art_arena.proofs.shapes.Measures.{slots_of, pair_there, nothing_there}
+use Rattle.art_arena.specs.arena.Arena.{links_at, node_at, slots_of}
+use Rattle.art_arena.proofs.shapes.Measures.{pair_there, nothing_there}
 use Rattle.art_walks.specs.declared.malformed.MalformedTreeError.{MalformedTreeError}
 use Rattle.art_walks.specs.declared.malformed.MalformedTreeError.TheVariants.{WrongChildrenCount, Memory}
 use Rattle.art_walks.specs.Faults.{HasWrongCount, Stands}

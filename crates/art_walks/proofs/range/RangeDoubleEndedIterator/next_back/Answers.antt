@@ -1,6 +1,7 @@
 use Rattle.std.proofs.Common.{◌∷◌, ◌++◌, [], arith}
 use Rattle.art_walks.proofs.Counted.{took-last, held-there, none-last}
-use Rattle.art_walks.proofs.RunLengths.{end-empty, end-kept, left_in, run-fewer, run-kept, run-read}
+use Rattle.art_walks.specs.Walked.{leaves_left}
+use Rattle.art_walks.proofs.RunLengths.{end-empty, end-kept, run-fewer, run-kept, run-read}
 use Rattle.art_walks.proofs.range.RangeDoubleEndedIterator.next_back.Goals as goal
 
 pub as_key_value_ref-requires : goal.as_key_value_ref-requires
@@ -8,8 +9,8 @@ as_key_value_ref-requires g c =
     let arena = c.self.inside.arena.now in
     let old = c.self.inside.leaves in (
       omega arith,
-      held-there arena old c.next_back.new.self (left_in arena old) c.in-Some.leaf (λ p ps. ps ++ p ∷ [])
-          (took-last arena old c.next_back.new.self (left_in arena old) c.self.invariant c.in-Some.leaf c.in-Some.ensures.last c.in-Some.ensures.end),
+      held-there arena old c.next_back.new.self (leaves_left arena old) c.in-Some.leaf (λ p ps. ps ++ p ∷ [])
+          (took-last arena old c.next_back.new.self (leaves_left arena old) c.self.invariant c.in-Some.leaf c.in-Some.ensures.last c.in-Some.ensures.end),
     )
 
 pub invariant_of-self-2 : goal.invariant_of-self-2
@@ -17,13 +18,13 @@ invariant_of-self-2 g c =
     let arena = c.self.inside.arena.now in
     let old = c.self.inside.leaves in
     run-kept arena old c.next_back.new.self c.in-Some.leaf (λ p ps. ps ++ p ∷ [])
-    (took-last arena old c.next_back.new.self (left_in arena old) c.self.invariant c.in-Some.leaf c.in-Some.ensures.last c.in-Some.ensures.end)
+    (took-last arena old c.next_back.new.self (leaves_left arena old) c.self.invariant c.in-Some.leaf c.in-Some.ensures.last c.in-Some.ensures.end)
 
 pub invariant_of-self : goal.invariant_of-self
 invariant_of-self g c =
     let arena = c.self.inside.arena.now in
     let old = c.self.inside.leaves in
-    end-kept arena old c.next_back.new.self c.self.invariant (none-last arena old c.next_back.new.self (left_in arena old) c.self.invariant c.in-None.ensures.last).0 c.in-None.ensures.end
+    end-kept arena old c.next_back.new.self c.self.invariant (none-last arena old c.next_back.new.self (leaves_left arena old) c.self.invariant c.in-None.ensures.last).0 c.in-None.ensures.end
 
 pub returns-clause-steps : goal.returns-clause-steps
 returns-clause-steps g c =
@@ -31,7 +32,7 @@ returns-clause-steps g c =
     let old = c.self.inside.leaves in
     rw (← c.self.view_is)
     (run-read arena old c.next_back.new.self c.in-Some.leaf (λ p ps. ps ++ p ∷ [])
-    (took-last arena old c.next_back.new.self (left_in arena old) c.self.invariant c.in-Some.leaf c.in-Some.ensures.last c.in-Some.ensures.end)
+    (took-last arena old c.next_back.new.self (leaves_left arena old) c.self.invariant c.in-Some.leaf c.in-Some.ensures.last c.in-Some.ensures.end)
     c.as_key_value_ref.result.0.now c.as_key_value_ref.result.1.now c.as_key_value_ref.ensures.key c.as_key_value_ref.ensures.value)
 
 pub returns-clause-goes : goal.returns-clause-goes
@@ -44,7 +45,7 @@ returns-clause-goes g c =
         tt,
         rw (← c.self.view_is)
             (run-fewer arena old c.next_back.new.self c.in-Some.leaf (λ p ps. ps ++ p ∷ [])
-            (took-last arena old c.next_back.new.self (left_in arena old) c.self.invariant c.in-Some.leaf c.in-Some.ensures.last c.in-Some.ensures.end) c.self.invariant),
+            (took-last arena old c.next_back.new.self (leaves_left arena old) c.self.invariant c.in-Some.leaf c.in-Some.ensures.last c.in-Some.ensures.end) c.self.invariant),
       );
       keeps = tt;
       rests = λ fin. tt;
@@ -54,5 +55,5 @@ pub returns-in-None-clause-steps : goal.returns-in-None-clause-steps
 returns-in-None-clause-steps g c =
     let arena = c.self.inside.arena.now in
     let old = c.self.inside.leaves in
-    let none = none-last arena old c.next_back.new.self (left_in arena old) c.self.invariant c.in-None.ensures.last in
+    let none = none-last arena old c.next_back.new.self (leaves_left arena old) c.self.invariant c.in-None.ensures.last in
     (rw (← c.self.view_is) none.1, end-empty arena old c.next_back.new.self c.self.invariant none.0 c.in-None.ensures.end)

@@ -7,6 +7,7 @@ use Rattle.art_operations.specs.Deletions.{HasLeavesBeside}
 use Rattle.art_operations.specs.Frees.{HoldsBeside}
 use Rattle.art_operations.specs.NodeCounts.{nodes_counted}
 use Rattle.art_operations.proofs.NodeCounts.{shape-nodes}
+use Rattle.art_operations.proofs.LeafNames.{cut-names}
 use Rattle.art_operations.proofs.Deleted.{beside_part, part_beside, still_listed, others_left, kept_beside}
 use Rattle.art_operations.proofs.PartSizes.{many_nodes, few_nodes}
 use Rattle.art_operations.proofs.delete.subtree.PreparedSubtreeDelete.apply.Goals as goal
@@ -90,3 +91,10 @@ returns-clause-few_freed g c =
 
 pub returns-clause-room : goal.returns-clause-room
 returns-clause-room g c = λ n room. c.free_tree-freed.ensures.room n (c.remove_segment.ensures.room n (c.detach_in_room-new_root.ensures.room n room))
+
+pub returns-clause-names : goal.returns-clause-names
+returns-clause-names g c =
+    let r = c.requires.place in
+    let others = returns-clause-others g c r.0 r.1.0 r.1.1 r.1.2 r.1.3 in
+    let cut = returns-clause-cut g c r.0 r.1.0 r.1.1 r.1.2 r.1.3 in
+    cut-names g.K.AsBytes.bytes g.row.PREFIX_LEN c.args.arena.now c.free_tree-freed.new.arena c.args.self.point.root r.1.1 r.1.0 r.1.2 others r.0 _ cut

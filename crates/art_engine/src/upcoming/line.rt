@@ -1,0 +1,211 @@
+//! A line that is read before its turn: what it asks for, and how far the way of its key is gone.
+ghost use Rattle.std.specs.Prelude.{◌≡◌, ◌+◌, ◌-◌, ◌^◌, ◌≤◌, ◌⊎◌, true, IsTrue, IfSome, min, drop, option_map};
+ghost use Rattle.std.specs.Prelude.{Some, nat_eq};
+ghost use Rattle.art_arena.specs.arena.Visited.{count_of};
+ghost use Rattle.art_arena.specs.arena.Descents.{GoesOn};
+ghost use Rattle.std.specs.List.{starts_with};
+ghost use Rattle.art_lines.specs.Parsed.{command_with};
+ghost use Rattle.art_lines.specs.Reading.{command_of};
+ghost use Rattle.art_engine.specs.Ahead.{way_ahead, most_ahead, IsStepAhead};
+
+use crate::upcoming::door::Door;
+use crate::upcoming::{Asked, Roots};
+use arrayvec::ArrayVec;
+use art_arena::{InnerRef, NextStep};
+use art_lines::command::fields::Fields;
+use art_lines::command::read_line;
+use art_lines::command::word::{Change, LookUp, Word};
+use art_nodes::{LeafNode, OpaqueNodePtr};
+
+/// The longest line that is read before its turn.
+pub(crate) const SHORT: usize = 256;
+
+/// Room for a full key of such a line.
+pub(crate) const KEY: usize = 132;
+
+/// A line that is read before its turn. Its way has the node that comes next on the path of its key, how many bytes of
+/// the key lead there, how many nodes were read, and how many may be still.
+#[derive(Drop)]
+pub(crate) struct Line {
+    text: ArrayVec<u8, SHORT>,
+    word: Option<Word>,
+    fields: Fields,
+    key: ArrayVec<u8, KEY>,
+    of_number: bool,
+    node: OpaqueNodePtr,
+    depth: usize,
+    read: u64,
+    left: u64,
+    ghost spelled: { option_map (λ word. command_with word fields) word ≡ command_of text.items },
+    ghost few: { read + left ≤ most_ahead (command_of text.items) },
+    ghost small: { read + left ≤ 133 },
+}
+
+/// The child to which a key goes on from an inner node after so many of its bytes. It goes no further where it doesn't
+/// meet the prefix, as much of it as is stored.
+#[inline(always)]
+fn next_of<K, const PREFIX_LEN: usize>(
+    inner: &InnerRef<'_, K, Vec<u8>, PREFIX_LEN>,
+    key: &[u8],
+    depth: usize,
+) -> Option<NextStep>
+    ensures goes { IfSome result (λ step. GoesOn key.now depth inner.now.node step.byte step.child step.depth) }
+    ensures meets { IfSome result (λ step.
+        starts_with nat_eq (drop depth key.now) inner.now.node.header.stored ≡ true) }
+{
+    if depth > key.len() {
+        return None;
+    }
+    let rest = &key[depth..];
+    if !rest.starts_with(inner.read_prefix()) {
+        return None;
+    }
+    inner.next_step(key, depth)
+}
+
+/// Puts bytes in place of a key, if there is room for them.
+fn is_put(key: &mut ArrayVec<u8, KEY>, bytes: &[u8]) -> bool
+    ensures { IsTrue result → key.new.items ≡ bytes.now }
+{
+    key.clear();
+    key.try_extend_from_slice(bytes).is_ok()
+}
+
+/// Finds the key along which nodes are read ahead of a command, if there is one and it is short.
+fn find_way(word: Word, fields: &Fields, key: &mut ArrayVec<u8, KEY>) -> bool
+    ensures { IsTrue result → way_ahead (Some (command_with word fields.now)) ≡ Some key.new.items }
+{
+    match word {
+        Word::LookUp(LookUp::Get) => is_put(key, fields.full_key()),
+        Word::LookUp(LookUp::Find) => is_put(key, fields.full_key()),
+        Word::LookUp(LookUp::List) => is_put(key, fields.full_key()),
+        Word::LookUp(LookUp::Span) => {
+            !fields.value().cmp(fields.key()).is_lt() && is_put(key, fields.full_key())
+        }
+        Word::LookUp(LookUp::NGet) => is_put(key, &fields.number_key()),
+        Word::LookUp(LookUp::NSpan) => {
+            fields.number() <= fields.bound() && is_put(key, &fields.number_key())
+        }
+        Word::Change(Change::Over) => is_put(key, fields.full_key()),
+        Word::Change(Change::Del) => is_put(key, fields.full_key()),
+        Word::Change(Change::NDel) => is_put(key, &fields.number_key()),
+        Word::Change(Change::Put) => false,
+        Word::Change(Change::NPut) => false,
+        Word::Whole(_) => false,
+        Word::Drop => false,
+    }
+}
+
+/// Whether a word asks for something under a number.
+fn is_of_number(word: Word) -> bool {
+    matches!(
+        word,
+        Word::LookUp(LookUp::NGet | LookUp::NSpan) | Word::Change(Change::NDel)
+    )
+}
+
+impl Line {
+    /// The empty line.
+    pub(crate) fn new() -> Self {
+        let text: ArrayVec<u8, SHORT> = ArrayVec::new();
+        let mut fields = Fields::new();
+        let word = read_line(text.as_slice(), &mut fields);
+        Line {
+            text,
+            word,
+            fields,
+            key: ArrayVec::new(),
+            of_number: false,
+            node: OpaqueNodePtr::default(),
+            depth: 0,
+            read: 0,
+            left: 0,
+        }
+    }
+
+    /// Reads a line that is short. Its way begins at the root of a map that is given, if any.
+    pub(crate) fn read(&mut self, text: &[u8], roots: &Roots) {
+        self.text.clear();
+        let _ = self.text.try_extend_from_slice(text);
+        self.word = read_line(self.text.as_slice(), &mut self.fields);
+        self.read = 0;
+        self.left = 0;
+        self.depth = 0;
+        let Some(word) = self.word else {
+            return;
+        };
+        self.of_number = is_of_number(word);
+        let Some(root) = roots.of(self.of_number) else {
+            return;
+        };
+        if find_way(word, &self.fields, &mut self.key) {
+            self.node = root;
+            self.left = self.key.len() as u64 + 1;
+        }
+    }
+
+    /// Whether this is the line.
+    pub(crate) fn is(&self, line: &[u8]) -> bool
+        ensures { IsTrue result → self.now.text.items ≡ line.now }
+    {
+        self.text.as_slice() == line
+    }
+
+    /// What it asks for.
+    pub(crate) fn asked(&self) -> Asked<'_>
+        ensures read { option_map (λ word. command_with word result.fields.now) result.word
+            ≡ command_of self.now.text.items }
+        ensures few { result.ahead ≤ most_ahead (command_of self.now.text.items) }
+    {
+        Asked {
+            word: self.word,
+            fields: &self.fields,
+            ahead: self.read,
+        }
+    }
+
+    /// Whether its way goes on in the map of numbers, or in that of keys.
+    #[inline(always)]
+    pub(crate) fn goes_on(&self, of_number: bool) -> bool {
+        self.left != 0 && self.of_number == of_number
+    }
+
+    /// Reads the next node of the way, if there is one, and returns it if it is a leaf.
+    #[inline(always)]
+    pub(crate) fn step<'a, K, const PREFIX_LEN: usize>(
+        &mut self,
+        door: &mut Door<'a, K, PREFIX_LEN>,
+    ) -> Option<&'a LeafNode<K, Vec<u8>>>
+        ensures counted { ((self.new.read ≡ self.old.read) × (count_of door.new.reader ≡ count_of door.old.reader))
+            ⊎ ((self.new.read ≡ self.old.read + 1)
+            × (count_of door.new.reader ≡ min (count_of door.old.reader + 1) (2 ^ 64 - 1))) }
+        ensures along { IsStepAhead door.old.arena.now self.old.key.items (self.old.node, self.old.depth)
+            (self.new.node, self.new.depth) }
+    {
+        if self.left == 0 {
+            return None;
+        }
+        let Some(node) = door.visit(self.node) else {
+            self.left = 0;
+            return None;
+        };
+        self.left -= 1;
+        self.read += 1;
+        match node.leaf() {
+            Ok(leaf) => {
+                self.left = 0;
+                Some(leaf)
+            }
+            Err(inner) => {
+                match next_of(&inner, self.key.as_slice(), self.depth) {
+                    Some(next) => {
+                        self.node = next.child;
+                        self.depth = next.depth;
+                    }
+                    None => self.left = 0,
+                }
+                None
+            }
+        }
+    }
+}

@@ -1,0 +1,358 @@
+-- A tree that is built of ascending pairs: from the pairs taken to the ways nodes, and back with one pair more.
+use Rattle.std.proofs.Common.{◌≡◌, ℕ, suc, ◌<◌, ◌≤◌, cond, List, [], ◌∷◌, ◌++◌, length, take, drop, slice_index, refl, sym, ap, ap₂, subst, ◌∙◌, inl, inr, arith, append_assoc, append-nil, length-append, zero-le, Option, Some, None, IsSome, is_some}
+use Rattle.std.specs.List.{AllByRecursion}
+use Rattle.std.proofs.lemmas.Bool.Decides.{leb_tells}
+use Rattle.std.proofs.lemmas.List.{take-append-drop, take-append-le}
+use Rattle.std.proofs.Math.ListN.{get_or-append}
+use Rattle.std.proofs.Math.Seq.{take-suc, get_or-append_seam}
+use Rattle.art_bytes.specs.Keys.{IsBefore, IsProperFront, Conflict}
+use Rattle.art_bytes.proofs.Order.{before_at, before_trans, before_not_self, conflict_not_before, conflict_turned}
+use Rattle.art_nodes.specs.InnerNode.{IsAscending}
+use Rattle.art_nodes.specs.Name.{Name}
+use Rattle.art_nodes.specs.declared.leaf.LeafNode.{LeafNode}
+use Rattle.art_arena.specs.arena.Arena.{Arena, leaf_held, cell_of, links_of, held_at, node_at, links_at, Allocates, SameCells}
+use Rattle.art_arena.specs.arena.Cells.{Cell, pair, leaf_name, copies, Holds}
+use Rattle.art_arena.specs.arena.Context.{AreBelow}
+use Rattle.art_arena.specs.arena.Linked.{AreLinked, times, IsBeside}
+use Rattle.art_arena.specs.arena.Shapes.{Shape, Branches, LeafAt, leaf_at, no_branch, branch, name_of, children_at, join, leaves, leaves_in, cells, cells_in, pairs_of, key_of, IsUnder, AreUnder}
+use Rattle.art_arena.specs.tree.Order.{AscendsByKey}
+use Rattle.art_arena.proofs.shapes.CellLists.{Holds-add, Holds-same, copies-append, copies-vacant}
+use Rattle.art_arena.proofs.shapes.Contexts.{AreUnder-join}
+use Rattle.art_arena.proofs.shapes.LinkedLists.{times-append, AreLinked-frame, AreLinked-same}
+use Rattle.art_arena.proofs.shapes.Surroundings.{times-leaves_in}
+use Rattle.art_arena.proofs.shapes.Subtrees.{HoldsPair, holds_pair}
+use Rattle.art_arena.proofs.shapes.Updates.{nodes-update, links-update}
+use Rattle.art_arena.proofs.tree.Order.{all_append, all_right, all_weaker, ascending_append}
+use Rattle.art_operations.specs.Builders.{Builds, BuildsTo, BuildsUpTo, GoesBehind}
+use Rattle.art_operations.specs.Meetings.{PartAt}
+use Rattle.art_operations.specs.Pairs.{HasPairs}
+use Rattle.art_operations.specs.declared.build.spine.Open.{Open}
+use Rattle.art_operations.specs.declared.build.spine.Spine.{Spine}
+use Rattle.art_operations.specs.declared.build.TreeBuilder.{TreeBuilder}
+use Rattle.art_operations.specs.declared.meeting.Meeting.{Meeting}
+use Rattle.art_operations.specs.declared.meeting.Meeting.TheVariants as meeting
+use Rattle.art_operations.specs.declared.meeting.Parted.{Parted}
+use Rattle.art_operations.specs.inner.Meetings.{Meets}
+use Rattle.art_operations.specs.inner.Edits.{lone_leaf}
+use Rattle.art_operations.specs.inner.Spines.{Level, begin, begin_of, opened, open_children, open_leaves, open_cells, open_at, AddsChild, IsOpen, AreOpen, IsSpine, HasSpine, SameLeaves, PartsFromLast, IsEmptySpine}
+use Rattle.art_operations.proofs.HeldPairs.{first-leaf}
+use Rattle.art_operations.proofs.KeyedLists.{before}
+use Rattle.art_operations.proofs.LeafPairs.{pairs-parts}
+use Rattle.art_operations.proofs.Spines.{begin-opened, ascending-behind, below-behind, children-behind, width-behind, leaves-behind, cells-behind}
+
+-- two keys that part agree on each front up to there
+module _ (old new : List ℕ) (p : Parted) (part : PartAt old new p) where
+  pub same-front : (n : ℕ) → n ≤ p.matched → take n new ≡ take n old
+  same-front n few =
+      let len = part.len in
+      let within : n ≤ length part.front = omega (arith, len, few) in
+      ap (take n) part.new_is ∙ take-append-le n part.front (p.new_byte ∷ part.new_rest) within
+      ∙ sym (ap (take n) part.old_is ∙ take-append-le n part.front (p.old_byte ∷ part.old_rest) within)
+
+  pub same-byte : (n : ℕ) → n < p.matched → slice_index new n ≡ slice_index old n
+  same-byte n few =
+      let len = part.len in
+      let within : n < length part.front = omega (arith, len, few) in
+      ap (λ k. slice_index k n) part.new_is ∙ get_or-append part.front (p.new_byte ∷ part.new_rest) 0 n within
+      ∙ sym (ap (λ k. slice_index k n) part.old_is ∙ get_or-append part.front (p.old_byte ∷ part.old_rest) 0 n within)
+
+  pub new-byte : slice_index new p.matched ≡ p.new_byte
+  new-byte = ap (λ k. slice_index k p.matched) part.new_is ∙ ap (slice_index (part.front ++ p.new_byte ∷ part.new_rest)) (sym part.len) ∙ get_or-append_seam part.front p.new_byte part.new_rest 0
+
+  pub old-byte : slice_index old p.matched ≡ p.old_byte
+  old-byte = ap (λ k. slice_index k p.matched) part.old_is ∙ ap (slice_index (part.front ++ p.old_byte ∷ part.old_rest)) (sym part.len) ∙ get_or-append_seam part.front p.old_byte part.old_rest 0
+
+  pub old-inside : p.matched < length old
+  old-inside = let len = part.len in let whole = ap length part.old_is ∙ length-append part.front (p.old_byte ∷ part.old_rest) in omega (arith, whole, len)
+
+  pub new-inside : p.matched < length new
+  new-inside = let len = part.len in let whole = ap length part.new_is ∙ length-append part.front (p.new_byte ∷ part.new_rest) in omega (arith, whole, len)
+
+  pub is-before : p.old_byte < p.new_byte → IsBefore old new
+  is-before less = subst (λ k. IsBefore k new) (sym part.old_is) (subst (IsBefore (part.front ++ p.old_byte ∷ part.old_rest)) (sym part.new_is) (before_at part.front p.old_byte p.new_byte part.old_rest part.new_rest less))
+
+proper-conflict : (k l : List ℕ) → IsProperFront k l → Conflict k l
+proper-conflict k l (b, rest, e) = (λ same. let s = ap length e ∙ length-append k (b ∷ rest) in let t = ap length same in absurd (omega (arith, s, t)), inl (b ∷ rest, e))
+
+-- a key that meets the last one otherwise doesn't go behind it
+pub not-behind : (k key : List ℕ) (m : Meeting) → Meets k key m → ((p : Parted) → m ≡ meeting.Parts p → p.new_byte < p.old_byte) → IsBefore k key → ⊥
+not-behind k key meeting.Same same above less = before_not_self key (subst (λ l. IsBefore l key) same less)
+not-behind k key meeting.OldEnds (b, rest, e) above less = conflict_not_before k key (proper-conflict k key (b, rest, e)) less
+not-behind k key meeting.NewEnds (b, rest, e) above less = conflict_not_before k key (conflict_turned key k (proper-conflict key k (b, rest, e))) less
+not-behind k key (meeting.Parts p) part above less =
+    let after : IsBefore key k = subst (λ l. IsBefore l k) (sym part.new_is) (subst (IsBefore (part.front ++ p.new_byte ∷ part.new_rest)) (sym part.old_is) (before_at part.front p.new_byte p.old_byte part.new_rest part.old_rest (above p refl))) in
+    before_not_self key (before_trans key k key after less)
+
+module _ {K V : Type 0} (bytes : K → List ℕ) (P : ℕ) where
+  -- the leaves of ways nodes are those of their cells
+  times-of : (n : ℕ) (key : List ℕ) (levels : List (Level K V)) → AreOpen bytes key levels → times n (open_leaves levels) ≡ copies (leaf_name n) (open_cells P levels)
+  times-of n key [] ways = refl
+  times-of n key (l ∷ outer) ways =
+      let here = ways.0.under in
+      omega (arith, times-of n key outer ways.2, times-leaves_in bytes P n (take l.depth key) 0 l.kids here, times-append n (open_leaves outer) (leaves_in l.kids), copies-append (leaf_name n) (open_cells P outer) (cells_in P l.kids))
+
+  -- the ways nodes on the way to the new last leaf, which isn't stored yet
+  pub record Added (arena : Arena K V) (spine : Spine) (key : List ℕ) (ls : List (LeafAt K V)) : Type 0 where
+    pub levels : List (Level K V)
+    pub stack_is : spine.stack.items ≡ opened levels
+    pub children_are : spine.children.items ≡ open_children levels
+    pub holds : Holds (node_at arena) (open_cells P levels)
+    pub ways : AreOpen bytes key levels
+    pub leaves_are : open_leaves levels ≡ ls
+
+  -- the next key parts so from the last one
+  module _ (old new : List ℕ) (p : Parted) (part_at : PartAt old new p) (less : p.old_byte < p.new_byte) (fits : p.old_byte < 256) where
+    -- what branches before them is on the way to either
+    shift : (levels : List (Level K V)) → AreOpen bytes old levels → begin 0 levels ≤ p.matched → AreOpen bytes new levels
+    shift [] ways few = tt
+    shift (l ∷ outer) ways few =
+        let before : l.depth < p.matched = omega (arith, few) in
+        let above = ways.1 in
+        let o = ways.0 in (
+          record {
+            inside = (let there = new-inside old new p part_at in omega (arith, there, before));
+            some = o.some;
+            under = subst (λ q. AreUnder bytes q 0 l.kids) (sym (same-front old new p part_at l.depth (omega (arith, before)))) o.under;
+            below = subst (λ b. AreBelow b l.kids) (sym (same-byte old new p part_at l.depth before)) o.below;
+            ascending = o.ascending;
+          },
+          above,
+          shift outer ways.2 (omega (arith, above, before)),
+        )
+
+    module _ (arena : Arena K V) (was now : Spine) (root : Name) (part : Shape K V) (ls : List (LeafAt K V)) (named : name_of part ≡ root) (under : IsUnder bytes (take (suc p.matched) old) part) where
+      -- the node at the parting has the part as its last child
+      grown : (kids : Branches K V) → AreUnder bytes (take p.matched old) 0 kids → AreBelow p.old_byte kids → IsAscending (children_at kids) → IsOpen bytes new (record { depth = p.matched; kids = join kids (branch p.old_byte part no_branch) })
+      grown kids kids_under below rises =
+          let path : take (suc p.matched) old ≡ take p.matched old ++ p.old_byte ∷ [] =
+          take-suc old p.matched 0 (old-inside old new p part_at) ∙ ap (λ b. take p.matched old ++ b ∷ []) (old-byte old new p part_at) in
+          let wide = width-behind p.old_byte part kids in
+          record {
+            inside = new-inside old new p part_at;
+            some = omega (arith, wide);
+            under = subst (λ q. AreUnder bytes q 0 (join kids (branch p.old_byte part no_branch))) (sym (same-front old new p part_at p.matched (omega arith)))
+                (AreUnder-join bytes (take p.matched old) 0 p.old_byte kids part no_branch kids_under below zero-le (subst (λ q. IsUnder bytes q part) path under) tt);
+            below = subst (λ b. AreBelow b (join kids (branch p.old_byte part no_branch))) (sym (new-byte old new p part_at)) (below-behind p.old_byte p.new_byte part kids below less);
+            ascending = subst IsAscending (sym (children-behind p.old_byte part kids)) (ascending-behind 0 p.old_byte (name_of part) kids rises below zero-le fits);
+          }
+
+      add_to : (outer : List (Level K V)) (kids : Branches K V) → now.stack.items ≡ opened outer ++ record { behind = suc p.matched; first = length (open_children outer) } ∷ [] → now.children.items ≡ (open_children outer ++ children_at kids) ++ (p.old_byte, root) ∷ []
+          → Holds (node_at arena) (open_cells P outer ++ (cells_in P kids ++ cells P part)) → AreOpen bytes old outer → begin 0 outer ≤ p.matched
+          → AreUnder bytes (take p.matched old) 0 kids → AreBelow p.old_byte kids → IsAscending (children_at kids) → open_leaves outer ++ (leaves_in kids ++ leaves part) ≡ ls → Added arena now new ls
+      add_to outer kids stack_is children_are holds ways above kids_under below rises leaves_are = record {
+        levels = record { depth = p.matched; kids = join kids (branch p.old_byte part no_branch) } ∷ outer;
+        stack_is = stack_is;
+        children_are = children_are ∙ append_assoc (open_children outer) (children_at kids) ((p.old_byte, root) ∷ [])
+            ∙ ap (λ n. open_children outer ++ (children_at kids ++ (p.old_byte, n) ∷ [])) (sym named) ∙ ap (λ cs. open_children outer ++ cs) (sym (children-behind p.old_byte part kids));
+        holds = subst (λ cs. Holds (node_at arena) (open_cells P outer ++ cs)) (sym (cells-behind P p.old_byte part kids)) holds;
+        ways = (grown kids kids_under below rises, above, shift outer ways above);
+        leaves_are = ap (λ xs. open_leaves outer ++ xs) (leaves-behind p.old_byte part kids) ∙ leaves_are;
+      }
+
+      -- a node is opened for it
+      add_new : (levels : List (Level K V)) → now.stack.items ≡ opened levels ++ record { behind = suc p.matched; first = length (open_children levels) } ∷ [] → now.children.items ≡ open_children levels ++ (p.old_byte, root) ∷ []
+          → Holds (node_at arena) (open_cells P levels ++ cells P part) → AreOpen bytes old levels → begin 0 levels ≤ p.matched → open_leaves levels ++ leaves part ≡ ls → Added arena now new ls
+      add_new levels stack_is children_are holds ways above leaves_are =
+          add_to levels no_branch stack_is (children_are ∙ ap (λ cs. cs ++ (p.old_byte, root) ∷ []) (sym (append-nil (open_children levels)))) holds ways above tt tt tt leaves_are
+
+      add : (levels : List (Level K V)) → now.stack.items ≡ open_at (suc p.matched) (length (open_children levels)) (opened levels) → now.children.items ≡ open_children levels ++ (p.old_byte, root) ∷ []
+          → Holds (node_at arena) (open_cells P levels ++ cells P part) → AreOpen bytes old levels → begin (suc p.matched) levels ≡ suc p.matched → open_leaves levels ++ leaves part ≡ ls → Added arena now new ls
+      add levels stack_is children_are holds ways closed leaves_are = elim (leb_tells (suc p.matched) (begin 0 levels)) [
+        | inl there ↦ at_top levels (stack_is ∙ rw (begin-opened, there.0) refl) children_are holds ways closed leaves_are there.1
+        | inr less_deep ↦ add_new levels (stack_is ∙ rw (begin-opened, less_deep.0) refl) children_are holds ways (let few = less_deep.1 in omega (arith, few)) leaves_are
+      ]
+        where
+          at_top : (levels : List (Level K V)) → now.stack.items ≡ opened levels → now.children.items ≡ open_children levels ++ (p.old_byte, root) ∷ [] → Holds (node_at arena) (open_cells P levels ++ cells P part) → AreOpen bytes old levels
+              → begin (suc p.matched) levels ≡ suc p.matched → open_leaves levels ++ leaves part ≡ ls → suc p.matched ≤ begin 0 levels → Added arena now new ls
+          at_top [] stack_is children_are holds ways closed leaves_are there = absurd (omega (arith, there))
+          at_top (l ∷ outer) stack_is children_are holds ways closed leaves_are there =
+              let depth : l.depth ≡ p.matched = omega (arith, closed, there) in
+              let o = ways.0 in
+              let above = ways.1 in
+              add_to outer l.kids (stack_is ∙ ap (λ d. opened outer ++ record { behind = suc d; first = length (open_children outer) } ∷ []) depth) children_are
+              (subst (Holds (node_at arena)) (append_assoc (open_cells P outer) (cells_in P l.kids) (cells P part)) holds) ways.2 (omega (arith, above, depth))
+              (subst (λ d. AreUnder bytes (take d old) 0 l.kids) depth o.under) (subst (λ b. AreBelow b l.kids) (ap (slice_index old) depth ∙ old-byte old new p part_at) o.below) o.ascending
+              (sym (append_assoc (open_leaves outer) (leaves_in l.kids) (leaves part)) ∙ leaves_are)
+
+    -- the closed part becomes a child of the node at the parting
+    pub added : (arena : Arena K V) (was now : Spine) (behind : ℕ) (root : Name) (ls : List (LeafAt K V)) → behind ≡ suc p.matched → IsSpine bytes P arena was behind root old ls → begin_of behind was.stack.items ≡ behind → AddsChild behind (p.old_byte, root) was now → Added arena now new ls
+    added arena was now behind root ls behind_is spine closed adds =
+        let at : begin (suc p.matched) spine.levels ≡ suc p.matched =
+        ap (λ b. begin b spine.levels) (sym behind_is) ∙ sym (begin-opened behind spine.levels) ∙ ap (begin_of behind) (sym spine.stack_is) ∙ closed ∙ behind_is in
+        let under : IsUnder bytes (take (suc p.matched) old) spine.part = subst (λ n. IsUnder bytes (take n old) spine.part) (ap (λ b. begin b spine.levels) behind_is ∙ at) spine.under in
+        add arena was now root spine.part ls spine.named under spine.levels
+        (adds.stack ∙ ap₂ (λ b (o : List Open). open_at b (length was.children.items) o) behind_is spine.stack_is ∙ ap (λ (cs : List (ℕ × Name)). open_at (suc p.matched) (length cs) (opened spine.levels)) spine.children_are)
+        (adds.children ∙ ap (λ cs. cs ++ (p.old_byte, root) ∷ []) spine.children_are) spine.holds spine.ways at spine.leaves_are
+
+  -- the last leaf stands beside those that are linked
+  module _ (before middle after : Arena K V) (spine : Spine) (key : K) (value : V) (ls : List (LeafAt K V)) (add : Added middle spine (bytes key) ls) (slot : ℕ) (same : SameLeaves before middle) (linked : AreLinked (links_at before) None ls None)
+      (allocates : Allocates middle after (leaf_name slot) (lone_leaf key value)) where
+    absent : copies (leaf_name slot) (open_cells P add.levels) ≡ 0
+    absent = copies-vacant (node_at middle) (open_cells P add.levels) (leaf_name slot) add.holds (ap cell_of allocates.vacant)
+
+    counted : (n : ℕ) → times n ls ≡ copies (leaf_name n) (open_cells P add.levels)
+    counted n = ap (times n) (sym add.leaves_are) ∙ times-of n (bytes key) add.levels add.ways
+
+    pub pushed-beside : IsBeside (links_at after) ls slot
+    pushed-beside =
+        let update = links-update middle after slot _ allocates.updates in
+        let none : times slot ls ≡ 0 = counted slot ∙ absent in
+        let still = AreLinked-same (links_at before) (links_at middle) (λ n. ap links_of (same n)) None ls None linked in
+        record {
+          list = record {
+            linked = AreLinked-frame (links_at middle) (links_at after) slot _ update None ls None none still;
+            once = λ n. subst (λ m. m ≤ 1) (sym (counted n)) (at_most_one (node_at middle (leaf_name n)) _ (add.holds.once (leaf_name n)));
+          };
+          apart = none;
+          held = rw update.changed refl;
+        }
+      where
+        at_most_one : (o : Option (Cell K V)) (n : ℕ) → n ≡ cond (is_some o) 1 0 → n ≤ 1
+        at_most_one None n e = omega (arith, e)
+        at_most_one (Some c) n e = omega (arith, e)
+
+    -- and is linked behind them
+    pub pushed : (linked_in : Arena K V) (pairs : List (K × V)) → SameCells after linked_in → AreLinked (links_at linked_in) None (ls ++ record { slot = slot; key = key; value = value } ∷ []) None
+        → AscendsByKey (key_of bytes) pairs → GoesBehind bytes (bytes key) pairs → pairs_of ls ≡ pairs → BuildsUpTo bytes P linked_in spine slot (pairs ++ (key, value) ∷ [])
+    pushed linked_in pairs same_cells links ascends behind pairs_are =
+        let nodes = nodes-update middle after (leaf_name slot) _ allocates.updates in
+        let added = Holds-add (node_at middle) (node_at after) (leaf_name slot) _ (open_cells P add.levels) [] nodes (ap cell_of allocates.vacant) (subst (Holds (node_at middle)) (sym (append-nil (open_cells P add.levels))) add.holds) in
+        let m : LeafAt K V = record { slot = slot; key = key; value = value } in
+        record {
+          key = key;
+          value = value;
+          levels = add.levels;
+          stack_is = add.stack_is;
+          children_are = add.children_are;
+          holds = Holds-same (node_at after) (node_at linked_in) same_cells _ added;
+          ways = add.ways;
+          linked = subst (λ xs. AreLinked (links_at linked_in) None (xs ++ m ∷ []) None) (sym add.leaves_are) links;
+          ascends = ascending_append (key_of bytes) pairs ((key, value) ∷ []) ascends (tt, tt) (all_weaker (λ (q : K × V). IsBefore (bytes q.0) (bytes key)) (λ (q : K × V). AllByRecursion (λ (y : K × V). IsBefore (key_of bytes q) (key_of bytes y)) ((key, value) ∷ [])) (λ q less. (less, tt)) pairs behind);
+          pairs_are = ap (λ xs. pairs_of (xs ++ m ∷ [])) add.leaves_are ∙ pairs-parts bytes ls m [] ∙ ap (λ ps. ps ++ (key, value) ∷ []) pairs_are;
+        }
+
+  -- what a builder has, by its last leaf
+  module _ (arena : Arena K V) (spine : Spine) (last : ℕ) (pairs : List (K × V)) (is : BuildsUpTo bytes P arena spine last pairs) where
+    abbrev pub last_leaf : LeafAt K V
+    last_leaf = record { slot = last; key = is.key; value = is.value }
+
+    abbrev pub all_leaves : List (LeafAt K V)
+    all_leaves = open_leaves is.levels ++ last_leaf ∷ []
+
+    last-held : node_at arena (leaf_name last) ≡ Some (pair is.key is.value)
+    last-held = (all_right (λ (c : Name × Cell K V). node_at arena c.0 ≡ Some c.1) (open_cells P is.levels) ((leaf_name last, pair is.key is.value) ∷ []) is.holds.held).0
+
+    pub there : HoldsPair (held_at arena (leaf_name last)) is.key is.value
+    there = holds_pair (held_at arena (leaf_name last)) is.key is.value last-held
+
+    pub is-held : IsSome (held_at arena (leaf_name last))
+    is-held = subst IsSome (sym there.is) refl
+
+    -- what was read of the last key is that key
+    pub last-bytes : (stored : K) (read_bytes : List ℕ) → ((l : LeafNode K V) → held_at arena (leaf_name last) ≡ Some (leaf_held l) → stored ≡ l.key) → read_bytes ≡ bytes stored → read_bytes ≡ bytes is.key
+    last-bytes stored read_bytes read e = e ∙ ap bytes (read there.leaf there.is ∙ there.key)
+
+    -- a key that parts from that of the last leaf parts so from the last key
+    pub parts-last : (key : List ℕ) (p : Parted) → PartsFromLast bytes arena last key p → PartAt (bytes is.key) key p
+    parts-last key p (leaf, held, part) =
+        let h = there.is in
+        let same : leaf ≡ there.leaf = cc in
+        subst (λ o. PartAt o key p) (ap (λ (l : LeafNode K V). bytes l.key) same ∙ ap bytes there.key) part
+
+    pub spine-of : (low : ℕ) → HasSpine bytes P arena spine last low (leaf_name last) (bytes is.key) all_leaves
+    spine-of low = record {
+      leaf = there.leaf;
+      there = there.is;
+      key_is = ap bytes there.key;
+      stands = record {
+        levels = is.levels;
+        part = leaf_at last is.key is.value;
+        stack_is = is.stack_is;
+        children_are = is.children_are;
+        named = refl;
+        holds = is.holds;
+        ways = is.ways;
+        under = (drop (begin low is.levels) (bytes is.key), sym (take-append-drop (begin low is.levels) (bytes is.key)));
+        leaves_are = refl;
+      };
+    }
+
+    pairs-end : pairs ≡ pairs_of (open_leaves is.levels) ++ (is.key, is.value) ∷ []
+    pairs-end = sym is.pairs_are ∙ pairs-parts bytes (open_leaves is.levels) last_leaf []
+
+    -- a key that goes behind the last goes behind all
+    pub behind-all : (key : List ℕ) → IsBefore (bytes is.key) key → GoesBehind bytes key pairs
+    behind-all key less =
+        let q : K × V = (is.key, is.value) in
+        let front = pairs_of (open_leaves is.levels) in
+        let firsts = before (key_of bytes) q front [] (subst (AscendsByKey (key_of bytes)) pairs-end is.ascends) in
+        subst (GoesBehind bytes key) (sym pairs-end)
+        (all_append (λ (p : K × V). IsBefore (bytes p.0) key) front (q ∷ []) (all_weaker (λ (p : K × V). IsBefore (bytes p.0) (bytes is.key)) (λ (p : K × V). IsBefore (bytes p.0) key) (λ p first. before_trans (bytes p.0) (bytes is.key) key first less) front firsts) (less, tt))
+
+    -- so one that goes behind all goes behind the last
+    pub behind-last : (key : List ℕ) → GoesBehind bytes key pairs → IsBefore (bytes is.key) key
+    behind-last key behind =
+        (all_right (λ (p : K × V). IsBefore (bytes p.0) key) (pairs_of (open_leaves is.levels)) ((is.key, is.value) ∷ []) (subst (GoesBehind bytes key) pairs-end behind)).0
+
+    -- a leaf of that name has the last pair
+    pub last-pair : (k : K) (v : V) → ((l : LeafNode K V) → held_at arena (leaf_name last) ≡ Some (leaf_held l) → (k ≡ l.key) × (v ≡ l.value)) → (front : List (K × V)) × (pairs ≡ front ++ (k, v) ∷ [])
+    last-pair k v same =
+        let e = same there.leaf there.is in
+        (pairs_of (open_leaves is.levels), pairs-end ∙ ap₂ (λ x y. pairs_of (open_leaves is.levels) ++ (x, y) ∷ []) (sym there.key ∙ sym e.0) (sym there.value ∙ sym e.1))
+
+    -- where all nodes are made, the arena has the tree
+    pub finished : (new : Arena K V) (now : Spine) (root : Name) → HasSpine bytes P new now last 0 root (bytes is.key) all_leaves → begin_of 0 now.stack.items ≡ 0 → SameLeaves arena new → HasPairs bytes P new (Some root) pairs
+    finished new now root has closed same = whole has.stands.levels has.stands.part has.stands.named has.stands.holds has.stands.under has.stands.leaves_are (sym (begin-opened 0 has.stands.levels) ∙ ap (begin_of 0) (sym has.stands.stack_is) ∙ closed)
+      where
+        whole : (levels : List (Level K V)) (part : Shape K V) → name_of part ≡ root → Holds (node_at new) (open_cells P levels ++ cells P part) → IsUnder bytes (take (begin 0 levels) (bytes is.key)) part → open_leaves levels ++ leaves part ≡ all_leaves
+            → begin 0 levels ≡ 0 → HasPairs bytes P new (Some root) pairs
+        whole [] part named holds under leaves_are none = (
+          part,
+          record {
+            nodes = record { named = named; holds = holds; under = under };
+            linked = subst (λ ls. AreLinked (links_at new) None ls None) (sym leaves_are) (AreLinked-same (links_at arena) (links_at new) (λ n. ap links_of (same n)) None all_leaves None is.linked);
+          },
+          ap pairs_of leaves_are ∙ is.pairs_are,
+        )
+        whole (l ∷ outer) part named holds under leaves_are none = absurd (omega (arith, none))
+
+  -- the first pair
+  pub first-pair : (old new : Arena K V) (spine : Spine) (slot : ℕ) (key : K) (value : V) → ((n : Name) → held_at old n ≡ None) → (spine.stack.items ≡ []) × (spine.children.items ≡ []) → Allocates old new (leaf_name slot) (lone_leaf key value)
+      → BuildsUpTo bytes P new spine slot ((key, value) ∷ [])
+  first-pair old new spine slot key value empty none allocates =
+      let tree = first-leaf bytes P old new [] slot (record { key = key; value = value; previous = None; next = None }) (λ n. ap cell_of (empty n)) allocates refl refl in
+      record {
+        key = key;
+        value = value;
+        levels = [];
+        stack_is = none.0;
+        children_are = none.1;
+        holds = tree.nodes.holds;
+        ways = tt;
+        linked = tree.linked;
+        ascends = (tt, tt);
+        pairs_are = refl;
+      }
+
+  -- what a builder has is told by its last leaf
+  module _ (arena : Arena K V) (builder : TreeBuilder) (pairs : List (K × V)) (builds : Builds bytes P arena builder pairs) where
+    pub builds-some : (last : ℕ) → builder.last ≡ Some last → BuildsUpTo bytes P arena builder.spine last pairs
+    builds-some last e = subst (λ o. BuildsTo bytes P arena builder.spine o pairs) e builds
+
+    pub builds-none : builder.last ≡ None → BuildsTo bytes P arena builder.spine None pairs
+    builds-none e = subst (λ o. BuildsTo bytes P arena builder.spine o pairs) e builds
+
+  -- a new builder has no pair
+  pub fresh : (arena : Arena K V) (builder : TreeBuilder) → builder.last ≡ None → IsEmptySpine builder.spine → ((n : Name) → held_at arena n ≡ None) → Builds bytes P arena builder []
+  fresh arena builder last spine empty = subst (λ o. BuildsTo bytes P arena builder.spine o []) (sym last) (refl, empty, spine)
+
+  -- one that has none has an arena of none
+  pub none-held : (arena : Arena K V) (spine : Spine) (pairs : List (K × V)) → BuildsTo bytes P arena spine None pairs → HasPairs bytes P arena None pairs
+  none-held arena spine pairs (none, empty, lists) = (none, λ n. ap cell_of (empty n))
+
+  -- a key that was compared parts so from the last
+  pub parts-from : (arena : Arena K V) (spine : Spine) (last : ℕ) (pairs : List (K × V)) (is : BuildsUpTo bytes P arena spine last pairs) (stored : K) (old new key : List ℕ) (p : Parted)
+      → ((l : LeafNode K V) → held_at arena (leaf_name last) ≡ Some (leaf_held l) → stored ≡ l.key) → old ≡ bytes stored → new ≡ key → PartAt old new p → PartsFromLast bytes arena last key p
+  parts-from arena spine last pairs is stored old new key p read old_is new_is part =
+      let h = there arena spine last pairs is in
+      (h.leaf, h.is, subst (λ o. PartAt o key p) (old_is ∙ ap bytes (read h.leaf h.is)) (subst (λ n. PartAt old n p) new_is part))

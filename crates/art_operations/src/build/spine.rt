@@ -1,0 +1,146 @@
+//! The inner nodes that are still open while a tree is built: those on the way to its last leaf.
+ghost use Rattle.std.specs.Prelude.{◌≡◌, ◌<◌, ◌≤◌, ◌^◌, ◌∷◌, ◌++◌, ℕ, suc, List, [], length, IfOk, OnOk, OnErr};
+ghost use Rattle.art_arena.specs.arena.Shapes.{LeafAt};
+ghost use Rattle.art_arena.specs.arena.Cells.{leaf_name};
+ghost use Rattle.art_operations.specs.inner.Spines.{begin_of, AddsChild, OpensAt, IsEmptySpine, HasSpine, SameLeaves};
+ghost use Rattle.art_operations.specs.Whichever.{HasSome, OfEach};
+
+use crate::build::made::store_over;
+use art_arena::{LeafPtr, NodeArena};
+use art_bytes::AsBytes;
+use art_nodes::OpaqueNodePtr;
+use std::alloc::{AllocError, Global};
+
+/// An inner node that is not made yet.
+#[derive(Clone, Copy)]
+pub(super) struct Open {
+    /// How many bytes of a key lead to its children: those before the byte by which it branches, and that byte.
+    behind: usize,
+    /// How many children of other open nodes come before its own.
+    first: usize,
+}
+
+/// The open nodes, from the root down, and the children that they have so far, one node's behind those of the node
+/// above. What is still to come below the last child of each is not among them.
+#[derive(Drop)]
+pub(super) struct Spine {
+    stack: Vec<Open>,
+    children: Vec<(u8, OpaqueNodePtr)>,
+}
+
+impl Spine {
+    /// No node is open.
+    pub(super) fn new(alloc: Global) -> Self
+        ensures { IsEmptySpine result }
+    {
+        Spine {
+            stack: Vec::new(alloc),
+            children: Vec::new(alloc),
+        }
+    }
+
+    /// Lets all open nodes go.
+    pub(super) fn clear(&mut self)
+        ensures { IsEmptySpine self.new }
+    {
+        self.stack.clear();
+        self.children.clear();
+    }
+
+    // How many bytes lead to what comes below the last open node: so many at least.
+    #[inline(always)]
+    fn begin(&self, low: usize) -> usize
+        ensures { result ≡ begin_of low self.now.stack.items }
+    {
+        match self.stack.last() {
+            Some(top) => low.max(top.behind),
+            None => low,
+        }
+    }
+
+    // Opens the node that branches by the last of so many bytes, if it isn't open.
+    #[inline(always)]
+    fn open_at(&mut self, behind: usize) -> Result<(), AllocError>
+        ensures ok { OnOk result (OpensAt behind self.old self.new) }
+    {
+        if behind <= self.begin(0) {
+            return Ok(());
+        }
+        let first = self.children.len();
+        match self.stack.push(Open { behind, first }) {
+            Ok(()) => Ok(()),
+            Err(_) => Err(AllocError),
+        }
+    }
+
+    /// Gives the node that branches by the last of so many bytes another child, and opens it if it isn't open.
+    #[inline(always)]
+    pub(super) fn add_child(
+        &mut self,
+        behind: usize,
+        byte: u8,
+        child: OpaqueNodePtr,
+    ) -> Result<(), AllocError>
+        ensures ok { OnOk result (AddsChild behind (byte, child) self.old self.new) }
+    {
+        self.open_at(behind)?;
+        match self.children.push((byte, child)) {
+            Ok(()) => Ok(()),
+            Err(_) => Err(AllocError),
+        }
+    }
+}
+
+// Makes the last open node, whose last child is this part.
+fn close_top<K: AsBytes, V, const PREFIX_LEN: usize>(
+    arena: &mut NodeArena<K, V, PREFIX_LEN>,
+    spine: &mut Spine,
+    last: LeafPtr,
+    low: usize,
+    part: OpaqueNodePtr,
+) -> Result<OpaqueNodePtr, AllocError>
+    requires above { low < begin_of low spine.old.stack.items }
+    requires stands { HasSome (HasSpine K.bytes PREFIX_LEN arena.old spine.old last low part) }
+    ensures ok { IfOk result (λ node. OfEach (HasSpine K.bytes PREFIX_LEN arena.old spine.old last low part)
+        (HasSpine K.bytes PREFIX_LEN arena.new spine.new last low node)) }
+    ensures fewer { OnOk result (suc (length spine.new.stack.items) ≡ length spine.old.stack.items) }
+    ensures leaves { SameLeaves arena.old arena.new }
+{
+    let Some(top) = spine.stack.pop() else {
+        unreachable!();
+    };
+    let from = spine.begin(low);
+    let depth = top.behind - 1;
+    let byte = arena.as_key_ref(last).as_bytes()[depth];
+    let Ok(()) = spine.children.push((byte, part)) else {
+        return Err(AllocError);
+    };
+    let children = &spine.children.as_slice()[top.first..];
+    let node = store_over(arena, last, from, depth, children)?;
+    spine.children.truncate(top.first);
+    Ok(node)
+}
+
+/// Makes the open nodes to which more bytes lead than these, from the last one up. It returns the root of the part that
+/// they and the last leaf are.
+pub(super) fn close<K: AsBytes, V, const PREFIX_LEN: usize>(
+    arena: &mut NodeArena<K, V, PREFIX_LEN>,
+    spine: &mut Spine,
+    last: LeafPtr,
+    low: usize,
+) -> Result<OpaqueNodePtr, AllocError>
+    requires { HasSome (HasSpine K.bytes PREFIX_LEN arena.old spine.old last low (leaf_name last)) }
+    ensures ok { IfOk result (λ root. OfEach
+        (HasSpine K.bytes PREFIX_LEN arena.old spine.old last low (leaf_name last))
+        (HasSpine K.bytes PREFIX_LEN arena.new spine.new last low root)) }
+    ensures closed { OnOk result (begin_of low spine.new.stack.items ≡ low) }
+    ensures leaves { SameLeaves arena.old arena.new }
+{
+    let mut part = last.to_opaque();
+    'close: loop {
+        if spine.begin(low) <= low {
+            return Ok(part);
+        }
+        part = close_top(arena, spine, last, low, part)?;
+    }
+}

@@ -1,9 +1,0 @@
-use Rattle.std.proofs.Common.{ap₂, ◌∙◌}
-use Rattle.art_set.specs.Merges.{union_of}
-use Rattle.art_set.proofs.MergeLemmas.{union-merged}
-use Rattle.art_set.proofs.Seen.{if-ok}
-use Rattle.art_set.proofs.operators.RefTreeSetBitOr.bitor.Goals as goal
-
-pub returns : goal.returns
-returns g c = λ same.
-    if-ok c.collected.result _ _ (λ s e. e ∙ union-merged g.K.AsBytes.bytes c.beside.result.first c.beside.result.second ∙ ap₂ (union_of g.K.AsBytes.bytes) c.beside.ensures.first c.beside.ensures.second) (c.collected.ensures same)
