@@ -42,9 +42,6 @@ WITH_OTHER = ("append", "swap", "extend", "extend_from_refs")
 # Calls before which the other one has all keys but two, and calls before which it has these two.
 WITH_MORE = ("difference", "symmetric_difference", "xor", "minus", "compare", "is_subset", "is_superset", "is_disjoint")
 WITH_TWO = ("intersection", "and")
-# The call that goes down once for each key. (In any order that puts each above the others in turn, the least key, which
-# is looked at for a prefix that is not stored, would be the deepest.)
-SQUARE = "or"
 OPERATORS = ("and", "or", "xor", "minus")
 # Calls behind which the checker counts the nodes of the deepest maps too.
 CHECKED = ("try_insert", "prefix_insert", "remove", "extraction", "remove_prefix", "split_off", "append", "from_vec")
@@ -240,18 +237,16 @@ def before(script, call, size):
         return two
     if call in WITH_TWO:
         return [*two, "xor"]
-    if call in (SQUARE, "union"):
+    if call in ("or", "union"):
         return [part]
     return ["clone"] * (call in EMPTYING and script.kind != "free")
 
 
 @functools.lru_cache(maxsize=1)
-def script_of(kind, size, has_square):
+def script_of(kind, size):
     """Every call of a kind, with a tree of all keys before it, and the checker behind what first changes keys."""
     script = Script(kind, size)
     for call in tables(kind):
-        if call == SQUARE and not has_square:
-            continue
         checked = kind == "set" or size == DEEP and call not in CHECKED
         for words in words_for(script, call, size):
             script.ready()
@@ -292,7 +287,7 @@ def main():
         name, ended = f"play_map{by} {kind} keys of {size + 1} bytes, prefixes of {prefix_len}", "ok"
         if word not in name:
             continue
-        lines, wanted = script_of(kind, size, kind == "set" and (size == SMALL or prefix_len == 16))
+        lines, wanted = script_of(kind, size)
         try:
             play(maps.PROGRAM + by, prefix_len, kind, lines, wanted)
         except (AssertionError, OSError, subprocess.TimeoutExpired) as why:

@@ -4,8 +4,7 @@
     tests/limits.py [WORD [PROGRAM..]]      at the top of the repository, after rt ci; WORD: only what has it in its name
 The address space is limited by the page, from the least at which the program answers to where all that is put has room.
 Under each limit some thousand puts are answered `new` or `memory`, and then a line is answered, of each kind in turn; a
-dump tells exactly what was answered `new`. And the stack is limited: 64 KiB are enough for any line, and 88
-where Rattle's own compiler made the program, whose frames are larger.
+dump tells exactly what was answered `new`. And the stack is limited: 64 KiB are enough for any line.
 """
 import ctypes
 import functools
@@ -23,8 +22,8 @@ PAGE = resource.getpagesize()
 PUTS, SEED = 3000, 7
 # Pages beyond the least, at each of which a dump is asked for; for other lines, each so many of them.
 PAGES, STEP = 200, 9
-# KiB. (Frames of Rattle's own compiler are larger.)
-STACKS, STACKS_BY_RATTLE = (64, 96, 128), (88, 96, 128)
+# KiB.
+STACKS = (64, 96, 128)
 # (Linux's ADDR_NO_RANDOMIZE: what a program takes to begin with is then the same in each run)
 IN_PLACE = 0x0040000
 LIBC = ctypes.CDLL(None)
@@ -158,7 +157,7 @@ def stack_is_short(program, kib):
 
 
 def tests():
-    named = [(f"the stack has {it} KiB", stack_is_short, it) for it in sorted({*STACKS, *STACKS_BY_RATTLE})]
+    named = [(f"the stack has {it} KiB", stack_is_short, it) for it in STACKS]
     return named + [(f"space is short for {it}", space_is_short, it) for it in LAST]
 
 
@@ -168,8 +167,7 @@ def main():
     assert not missing, f"no line of {missing}"
     for name, test, of in tests():
         for program in sys.argv[2:] or (PROGRAM, f"{PROGRAM}.by-rattle"):
-            stacks = STACKS_BY_RATTLE if program.endswith(".by-rattle") else STACKS
-            if word not in name or test is stack_is_short and of not in stacks:
+            if word not in name:
                 continue
             said = "ok"
             try:

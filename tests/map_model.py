@@ -232,12 +232,14 @@ class Model(Entries):
         self.other = Pairs()
         return "done"
 
-    def put_bag(self, pairs):
-        """Puts the bag's pairs into these, one by one, and tells which found no memory if one did."""
+    def put_bag(self, pairs, any_key=False):
+        """Puts the bag's pairs into these, one by one, and tells which found no memory if one did: one with a new key,
+        or, where nodes wait for the next pair, any."""
         given, self.bag = self.bag, []
         for key, value in given:
-            self.changes += key not in pairs
-            if key not in pairs and self.changes == self.refuse:
+            may_ask = any_key or key not in pairs
+            self.changes += may_ask
+            if may_ask and self.changes == self.refuse:
                 return f"memory {shown(key)} {value}"
             pairs.put(key, value)
         return "done"
@@ -247,7 +249,7 @@ class Model(Entries):
 
     def call_from_vec(self, *_):
         made = Pairs()
-        told = self.put_bag(made)
+        told = self.put_bag(made, any_key=True)
         self.pairs = made if told == "done" else self.pairs
         return told
 

@@ -45,7 +45,7 @@ class Said:
         tried again."""
         if not self.state or self.open or self.errors:
             return False
-        return bool(re.search(r"part in its proof is not made yet|it calls `[^`]+`, which is not proved", self.state))
+        return bool(re.search(r"part in its proof is not made yet|it calls `.*, which (is|are) not proved", self.state))
 
     def verdict(self, answers=""):
         """Whether the edit of the function is refused, and by what. `answers`: what the proof of the right body has."""

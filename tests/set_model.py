@@ -202,11 +202,12 @@ class SetModel:
         self.bag += sorted(self.other, reverse=end == "b")
         return self.made(self.keys, set())
 
-    def put_bag(self, keys):
+    def put_bag(self, keys, any_key=False):
         given, self.bag = self.bag, []
         for key in given:
-            self.changes += key not in keys
-            if key not in keys and self.changes == self.refuse:
+            may_ask = any_key or key not in keys
+            self.changes += may_ask
+            if may_ask and self.changes == self.refuse:
                 return f"memory {shown(key)}"
             self.put_key(keys, key)
         return "done"
@@ -216,7 +217,7 @@ class SetModel:
 
     def call_from_vec(self, *_):
         made = set()
-        told = self.put_bag(made)
+        told = self.put_bag(made, any_key=True)
         self.keys = made if told == "done" else self.keys
         return told
 

@@ -34,6 +34,8 @@ pub mod EndBranches
 pub mod EndWalks
 -- What is read of an inner node, and on a way down from it to a first or last leaf.
 pub mod Reads
+-- A guide: how it is found by a way down, and what it tells at each node on the key's way.
+pub mod Guides
 -- The whole prefix of a node stands in its header or in the key of its first leaf, and orders all keys below.
 pub mod Prefixes
 -- The parent of a place is pointed at another node: the one write that every edit of a part's root makes.

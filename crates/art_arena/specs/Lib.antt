@@ -2,3 +2,4 @@ pub mod tree
 pub mod arena
 pub mod Laws
 pub mod inner
+pub mod lemmas

@@ -1,12 +1,13 @@
 //! The way of a key down the tree below a name: to the one leaf that can be meant, or as far as it agrees.
 ghost use Rattle.std.specs.Prelude.{◌≡◌, ◌+◌, ◌-◌, ◌^◌, ◌≤◌, ◌↔◌, ◌++◌, ◌∷◌, [], ℕ, List, drop, length, min};
-ghost use Rattle.std.specs.Prelude.{IsTrue, MatchOption};
+ghost use Rattle.std.specs.Prelude.{IfSome, IsTrue, MatchOption};
 ghost use Rattle.art_bytes.specs.Keys.{BeginsWith};
 ghost use Rattle.art_nodes.specs.Name.{Name};
 ghost use Rattle.art_arena.specs.arena.Arena.{node_at};
-ghost use Rattle.art_arena.specs.arena.Descents.{GoesNoFurther, GoesOn, HasNoFront, Lands, LandsAt, OnWayTo, Stops};
+ghost use Rattle.art_arena.specs.arena.Descents.{GoesNoFurther, GoesOn, HasNoFront, IsGuide, Lands, LandsAt, OnWayTo};
+ghost use Rattle.art_arena.specs.arena.Descents.{Stops};
 ghost use Rattle.art_arena.specs.arena.Prefixes.{prefix_of};
-ghost use Rattle.art_arena.specs.arena.Reads.{DescentReads, IsReadAt, KeysWithin, ReadsAtLeast, StepReads};
+ghost use Rattle.art_arena.specs.arena.Reads.{DescentReads, IsReadAt, KeysWithin, ReadsAtLeast, unguided};
 ghost use Rattle.art_arena.specs.arena.Shapes.{Shape, erase, leaves};
 ghost use Rattle.art_arena.specs.arena.Stores.{Stores, StoresAt};
 ghost use Rattle.art_arena.specs.arena.Visited.{arena_of, count_of};
@@ -14,9 +15,9 @@ ghost use Rattle.art_arena.specs.tree.Paths.{path_of};
 
 use crate::arena::LeafPtr;
 use crate::front::begins_with;
+use crate::guide::guided_prefix;
 use crate::inner_ref::{InnerRef, NextStep};
 use crate::path::{TreePath, TreePathSearch};
-use crate::prefix::full_prefix_of;
 use crate::reader::ArenaReader;
 use art_bytes::AsBytes;
 use art_nodes::{LeafNode, NodePtr, OpaqueNodePtr};
@@ -27,8 +28,8 @@ pub enum Passing {
     /// By its length alone. It reads the nodes of the key's path and nothing else, and its caller compares the key of
     /// the leaf at which it ends.
     ByLength,
-    /// Only if all its bytes are the key's: so the way is a prefix of the key. A prefix that isn't wholly stored is
-    /// read from the first leaf below.
+    /// Only if all its bytes are the key's: so the way is a prefix of the key. Prefixes that aren't wholly stored are
+    /// all read from one leaf, to which the descent goes down once.
     ByBytes,
 }
 
@@ -63,30 +64,37 @@ fn passes_prefix<'a, K: AsBytes, V, const PREFIX_LEN: usize>(
     inner: &InnerRef<'a, K, V, PREFIX_LEN>,
     key: &[u8],
     depth: usize,
+    guide: &mut Option<&'a LeafNode<K, V>>,
 ) -> bool
     requires stands { (root : Name) × (path : List ℕ) × (s : Shape K V)
-        × IsReadAt K.bytes PREFIX_LEN (arena_of reader.old) inner.now.node root depth path s }
+        × IsReadAt K.bytes PREFIX_LEN (arena_of reader.old) inner.now.node root depth path s
+        × IfSome guide.old (λ leaf. IsGuide key.now (K.bytes leaf.now.key) path s) }
     requires within { depth ≤ length key.now }
     ensures passes { (root : Name) (path : List ℕ) (s : Shape K V)
         → IsReadAt K.bytes PREFIX_LEN (arena_of reader.old) inner.now.node root depth path s
+        → IfSome guide.old (λ leaf. IsGuide key.now (K.bytes leaf.now.key) path s)
         → IsTrue result ↔ BeginsWith (prefix_of s) (drop depth key.now) }
+    ensures keeps { (root : Name) (path : List ℕ) (s : Shape K V)
+        → IsReadAt K.bytes PREFIX_LEN (arena_of reader.old) inner.now.node root depth path s
+        → IfSome guide.old (λ leaf. IsGuide key.now (K.bytes leaf.now.key) path s)
+        → IfSome guide.new (λ leaf. IsGuide key.now (K.bytes leaf.now.key) path s) }
     ensures kept { arena_of reader.new ≡ arena_of reader.old }
     ensures none { inner.now.node.header.prefix_len ≡ 0 → count_of reader.new ≡ count_of reader.old }
     ensures least { ReadsAtLeast 0 (count_of reader.old) (count_of reader.new) }
     ensures few { (root : Name) (path : List ℕ) (s : Shape K V)
         → IsReadAt K.bytes PREFIX_LEN (arena_of reader.old) inner.now.node root depth path s
         → (longest : ℕ) → KeysWithin K.bytes longest (leaves s)
-        → count_of reader.new ≤ count_of reader.old + longest }
+        → count_of reader.new + unguided guide.new longest ≤ count_of reader.old + unguided guide.old longest }
 {
     if inner.prefix_len() == 0 {
         return true;
     }
-    let prefix = full_prefix_of(reader, inner, depth).prefix;
+    let prefix = guided_prefix(reader, inner, key, depth, guide);
     begins_with(&key[depth..], prefix)
 }
 
-// The child to which a key goes on from an inner node, which stands behind so many of its bytes. What is read for a
-// step by bytes is at most half a longest key for each byte of the step.
+// The child to which a key goes on from an inner node, which stands behind so many of its bytes. Nothing is read for a
+// step, but where a step by bytes needs a guide and there is none yet, one way down to a leaf.
 #[inline(always)]
 fn step_at<'a, K: AsBytes, V, const PREFIX_LEN: usize>(
     reader: &mut ArenaReader<'a, K, V, PREFIX_LEN>,
@@ -94,29 +102,35 @@ fn step_at<'a, K: AsBytes, V, const PREFIX_LEN: usize>(
     key: &[u8],
     depth: usize,
     passing: Passing,
+    guide: &mut Option<&'a LeafNode<K, V>>,
 ) -> Option<NextStep>
     requires stands { (root : Name) × (path : List ℕ) × (s : Shape K V)
-        × IsReadAt K.bytes PREFIX_LEN (arena_of reader.old) inner.now.node root depth path s }
+        × IsReadAt K.bytes PREFIX_LEN (arena_of reader.old) inner.now.node root depth path s
+        × (passing ≡ Passing.ByBytes → IfSome guide.old (λ leaf. IsGuide key.now (K.bytes leaf.now.key) path s)) }
     requires within { depth ≤ length key.now }
     ensures goes { MatchOption result (passing ≡ Passing.ByLength → GoesNoFurther key.now depth inner.now.node)
         (λ step. GoesOn key.now depth inner.now.node step.byte step.child step.depth) }
     ensures by_bytes { passing ≡ Passing.ByBytes → (root : Name) (path : List ℕ) (s : Shape K V)
-        → IsReadAt K.bytes PREFIX_LEN (arena_of reader.old) inner.now.node root depth path s → BeginsWith path key.now
+        → IsReadAt K.bytes PREFIX_LEN (arena_of reader.old) inner.now.node root depth path s
+        → IfSome guide.old (λ leaf. IsGuide key.now (K.bytes leaf.now.key) path s) → BeginsWith path key.now
         → MatchOption result (Stops K.bytes key.now path s)
         (λ step. BeginsWith ((path ++ prefix_of s) ++ step.byte ∷ []) key.now) }
+    ensures keeps { passing ≡ Passing.ByBytes → (root : Name) (path : List ℕ) (s : Shape K V)
+        → IsReadAt K.bytes PREFIX_LEN (arena_of reader.old) inner.now.node root depth path s
+        → IfSome guide.old (λ leaf. IsGuide key.now (K.bytes leaf.now.key) path s)
+        → IfSome guide.new (λ leaf. IsGuide key.now (K.bytes leaf.now.key) path s) }
     ensures kept { arena_of reader.new ≡ arena_of reader.old }
     ensures by_length { passing ≡ Passing.ByLength → count_of reader.new ≡ count_of reader.old }
     ensures least { ReadsAtLeast 0 (count_of reader.old) (count_of reader.new) }
     ensures few { (root : Name) (path : List ℕ) (s : Shape K V)
         → IsReadAt K.bytes PREFIX_LEN (arena_of reader.old) inner.now.node root depth path s
         → (longest : ℕ) → KeysWithin K.bytes longest (leaves s)
-        → MatchOption result (count_of reader.new ≤ count_of reader.old + longest)
-        (λ step. StepReads longest depth step.depth (count_of reader.old) (count_of reader.new)) }
+        → count_of reader.new + unguided guide.new longest ≤ count_of reader.old + unguided guide.old longest }
 {
     match passing {
         Passing::ByLength => inner.next_step(key, depth),
         Passing::ByBytes => {
-            if passes_prefix(reader, inner, key, depth) {
+            if passes_prefix(reader, inner, key, depth, guide) {
                 return inner.next_step(key, depth);
             }
             None
@@ -127,8 +141,9 @@ fn step_at<'a, K: AsBytes, V, const PREFIX_LEN: usize>(
 /// Goes down for a key in the canonical tree below a name, as far as it goes. It ends at a leaf, at a node where the
 /// key ends or has no child, or at one whose prefix it doesn't pass.
 ///
-/// Each node of the way is read once. By bytes, so are the nodes from there down to a first leaf, for each prefix that
-/// isn't wholly stored. Nothing is copied or allocated. The last steps of the way are left in `search`.
+/// Each node of the way is read once. By bytes, so are the nodes from the first whose prefix isn't wholly stored down
+/// to a leaf, from which this prefix and all others behind it are read. So at most two ways down are read. Nothing is
+/// copied or allocated. The last steps of the way are left in `search`.
 #[inline(always)]
 pub fn descend<'a, K: AsBytes, V, const PREFIX_LEN: usize>(
     reader: &mut ArenaReader<'a, K, V, PREFIX_LEN>,
@@ -153,13 +168,15 @@ pub fn descend<'a, K: AsBytes, V, const PREFIX_LEN: usize>(
         → StoresAt K.bytes PREFIX_LEN (arena_of reader.old) result.node result.depth path s
         → BeginsWith path key.now → Stops K.bytes key.now path s }
     ensures kept { arena_of reader.new ≡ arena_of reader.old }
+    ensures within { result.depth ≤ length key.now }
     ensures least { ReadsAtLeast 1 (count_of reader.old) (count_of reader.new) }
     ensures few { (s : Shape K V) → Stores K.bytes PREFIX_LEN (arena_of reader.old) root s
         → (longest : ℕ) → KeysWithin K.bytes longest (leaves s)
-        → DescentReads longest key.now (count_of reader.old) (count_of reader.new) }
+        → DescentReads longest result.depth (count_of reader.old) (count_of reader.new) }
 {
     let mut current = root;
     let mut depth = 0;
+    let mut guide = None;
     'down: loop {
         match reader.visit(current).leaf() {
             Ok(leaf) => {
@@ -169,7 +186,7 @@ pub fn descend<'a, K: AsBytes, V, const PREFIX_LEN: usize>(
                     depth,
                 };
             }
-            Err(inner) => match step_at(reader, &inner, key, depth, passing) {
+            Err(inner) => match step_at(reader, &inner, key, depth, passing, &mut guide) {
                 None => {
                     return Stop {
                         node: current,

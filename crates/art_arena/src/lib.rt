@@ -8,6 +8,7 @@ mod descent;
 mod ends;
 mod find;
 mod front;
+mod guide;
 mod inner_ref;
 pub mod laws;
 pub mod links;

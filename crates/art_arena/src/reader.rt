@@ -1,8 +1,10 @@
 //! A reader of an arena, which counts each node that it reads.
-ghost use Rattle.std.specs.Prelude.{◌≡◌, ◌≢◌, ◌+◌, ◌-◌, ◌^◌, ◌<◌, ◌≤◌, ℕ, List, min, None, Some, IsSome, MatchResult};
+ghost use Rattle.std.specs.Prelude.{◌≡◌, ◌≢◌, ◌+◌, ◌-◌, ◌^◌, ◌<◌, ◌≤◌, ℕ, List, length, min};
+ghost use Rattle.std.specs.Prelude.{None, Some, IsSome, MatchResult};
 ghost use Rattle.art_nodes.specs.Name.{Name};
 ghost use Rattle.art_arena.specs.arena.Arena.{held_at, leaf_held, inner_held};
 ghost use Rattle.art_arena.specs.arena.Cells.{leaf_name};
+ghost use Rattle.art_arena.specs.arena.Descents.{IsGuide};
 ghost use Rattle.art_arena.specs.arena.Linked.{first_slot};
 ghost use Rattle.art_arena.specs.arena.Reads.{IsReadAt, KeysWithin, ReadsAtLeast, ReadsToFirst};
 ghost use Rattle.art_arena.specs.arena.Shapes.{Shape, leaves};
@@ -10,6 +12,7 @@ ghost use Rattle.art_arena.specs.arena.Visited.{arena_of, count_of, held_of, kin
 
 use crate::arena::{LeafPtr, NodeArena};
 use crate::descent::Landed;
+use crate::guide::walk_on;
 use crate::inner_ref::{InnerArm, InnerRef};
 use crate::prefix::walk_below;
 use art_bytes::AsBytes;
@@ -207,12 +210,40 @@ pub(crate) fn first_below<'a, K: AsBytes, V, const PREFIX_LEN: usize>(
     ensures few { (root : Name) (depth : ℕ) (path : List ℕ) (s : Shape K V)
         → IsReadAt K.bytes PREFIX_LEN (arena_of reader.old) inner.now.node root depth path s
         → (longest : ℕ) → KeysWithin K.bytes longest (leaves s)
-        → count_of reader.new ≤ count_of reader.old + longest }
+        → count_of reader.new + depth ≤ count_of reader.old + longest }
 {
     let mut further = Reader::new(reader.arena);
     let first = walk_below(&mut further, inner);
     reader.count = reader.count.saturating_add(further.count);
     first
+}
+
+// A guide for a key, so many bytes of which lead to an inner node that was read already. It is looked for by a reader
+// of its own, too.
+#[inline(always)]
+pub(crate) fn guide_below<'a, K: AsBytes, V, const PREFIX_LEN: usize>(
+    reader: &mut ArenaReader<'a, K, V, PREFIX_LEN>,
+    inner: &InnerRef<'a, K, V, PREFIX_LEN>,
+    key: &[u8],
+    depth: usize,
+) -> &'a LeafNode<K, V>
+    requires stands { (root : Name) × (path : List ℕ) × (s : Shape K V)
+        × IsReadAt K.bytes PREFIX_LEN (arena_of reader.old) inner.now.node root depth path s }
+    requires within { depth ≤ length key.now }
+    ensures guide { (root : Name) (path : List ℕ) (s : Shape K V)
+        → IsReadAt K.bytes PREFIX_LEN (arena_of reader.old) inner.now.node root depth path s
+        → IsGuide key.now (K.bytes result.now.key) path s }
+    ensures kept { arena_of reader.new ≡ arena_of reader.old }
+    ensures least { ReadsAtLeast 1 (count_of reader.old) (count_of reader.new) }
+    ensures few { (root : Name) (path : List ℕ) (s : Shape K V)
+        → IsReadAt K.bytes PREFIX_LEN (arena_of reader.old) inner.now.node root depth path s
+        → (longest : ℕ) → KeysWithin K.bytes longest (leaves s)
+        → count_of reader.new + depth ≤ count_of reader.old + longest }
+{
+    let mut along = Reader::new(reader.arena);
+    let leaf = walk_on(&mut along, inner, key, depth);
+    reader.count = reader.count.saturating_add(along.count);
+    leaf
 }
 
 // The node under this name.

@@ -4,4 +4,4 @@ pub mod Lists
 pub mod Mappings
 pub mod Numbers
 pub mod ZeroEnded
-pub mod inner
+pub mod lemmas

@@ -4,7 +4,7 @@ ghost use Rattle.std.specs.String.{string_bytes};
 ghost use Rattle.std.proofs.Common.{ap};
 ghost use Rattle.std.specs.List.{each_same};
 ghost use Rattle.art_bytes.specs.Keys.{AreBytes};
-ghost use Rattle.art_bytes.specs.inner.KeyLaws.{BeginsWith-same_length};
+ghost use Rattle.art_bytes.specs.lemmas.KeyLaws.{BeginsWith-same_length};
 
 mod slices;
 mod zero_ended;

@@ -7,7 +7,7 @@ ghost use Rattle.std.specs.Cmp.Lexicographic.{pointwise, nat_list_eq_equiv, on_t
 ghost use Rattle.std.specs.Cmp.Lexicographic.{texts_ties};
 ghost use Rattle.std.specs.Hash as fed;
 ghost use Rattle.art_bytes.specs.Keys.{bytes_cmp};
-ghost use Rattle.art_bytes.specs.inner.KeyLaws.{front_of_mapped};
+ghost use Rattle.art_bytes.specs.lemmas.KeyLaws.{front_of_mapped};
 
 use crate::as_bytes::{AsBytes, CloneBytes, NoPrefixesBytes, OrderedBytes};
 use crate::mapping::{BytesMapping, NoPrefixesMapping, OrderedMapping};

@@ -2,32 +2,25 @@
 use Rattle.std.proofs.Common.{◌≡◌, ℕ, ◌+◌, ◌<◌, ◌≤◌, List, [], ◌∷◌, ◌++◌, length, take, refl, ap, sym, ◌∙◌, subst, Bool, true, false, arith, append_assoc, append-nil, min}
 use Rattle.std.proofs.Common.{inl, inr, ◌-◌}
 use Rattle.std.proofs.Math.Seq.{take-append-add}
-use Rattle.std.proofs.lemmas.Bool.{lt-leb, cases_lt}
+use Rattle.std.specs.Prelude.{filter, nat_lt}
+use Rattle.std.proofs.lemmas.Bool.{lt-leb, lt-ltb, cases_lt}
 use Rattle.std.proofs.lemmas.List.{take-append-le, take_all, length-take-le, length-take, take_min}
-use Rattle.art_lines.specs.Lines.{whole_lines_of, unfinished_line_of, lines_of, unless_empty}
+use Rattle.art_lines.specs.Lines.{whole_lines_of, unfinished_line_of, lines_of}
 use Rattle.art_lines.specs.Commands.{Command, Spells}
 use Rattle.art_lines.specs.Reading.{command_of}
 use Rattle.art_engine.specs.Ahead.{most_ahead}
-use Rattle.art_engine.specs.Counts.{IsCount, IsShort, ReadsOwnPath, IsWithin, visits_of}
+use Rattle.art_engine.specs.Counts.{IsShort, ReadsOwnPath, IsWithin, visits_of, line_visits}
 use Rattle.art_engine.specs.Records.{Records}
 use Rattle.art_engine.specs.State.{State}
-use Rattle.art_engine.specs.Replies.{reply_to, records_after}
 use Rattle.art_engine.specs.Refusals.{LineMayRefuse}
-use Rattle.art_engine.specs.Outcome.{answer, left_by, HaveRead, IsOutcome}
-use Rattle.art_engine.specs.Progress.{Ran, Carried, NoNewline}
+use Rattle.art_engine.specs.Outcome.{answer, left_by, IsLineDone, IsOutcome}
+use Rattle.art_engine.specs.Progress.{Carried, NoNewline}
 use Rattle.art_engine.proofs.LineLemmas.{whole_lines_of-part, unfinished_line_of-part, whole_lines_of-line, unfinished_line_of-newline}
-use Rattle.art_engine.proofs.RunLemmas.{Ran-none, Ran-more, with_place, IsLineDone, have_read-none, have_read-more}
+use Rattle.art_engine.proofs.RunLemmas.{outcome-none, outcome-more}
 
 pub carried_none : (start : State) (before : List ℕ) → Carried start start [] [] before before
 unfolding whole_lines_of unfinished_line_of
-carried_none start before = record {
-  refused = [];
-  written = [];
-  ran = Ran-none start.records;
-  counted = have_read-none start;
-  told = sym (append-nil before);
-  rest = refl;
-}
+carried_none start before = record { written = []; outcome = outcome-none start; told = sym (append-nil before); rest = refl }
 
 -- A line that stands for another: as long as a command may be it is that line, and both spell nothing otherwise.
 pub record IsReadAs (held line : List ℕ) : Type 0 where
@@ -52,51 +45,51 @@ cut line held e = elim (cases_lt (length line) 4097) [
       }
 ]
 
-same_answer : (memory : Bool) (now : Records) (held line : List ℕ) → IsReadAs held line → answer memory now held ≡ answer memory now line
-unfolding reply_to
+pub same_answer : (memory : Bool) (now : Records) (held line : List ℕ) → IsReadAs held line → answer memory now held ≡ answer memory now line
 same_answer true now held line s = refl
 same_answer false now held line s = rw s.command refl
 
-same_left : (memory : Bool) (now : Records) (held line : List ℕ) → IsReadAs held line → left_by memory now held ≡ left_by memory now line
-unfolding records_after
+pub same_left : (memory : Bool) (now : Records) (held line : List ℕ) → IsReadAs held line → left_by memory now held ≡ left_by memory now line
 same_left true now held line s = refl
 same_left false now held line s = rw s.command refl
 
-same_refusal : (now : Records) (held line : List ℕ) → IsReadAs held line → LineMayRefuse now held → LineMayRefuse now line
+pub same_refusal : (now : Records) (held line : List ℕ) → IsReadAs held line → LineMayRefuse now held → LineMayRefuse now line
 same_refusal now held line s may = (may.0, s.spelled may.0 may.1, may.2)
 
-same_count : (memory : Bool) (now : Records) (held line : List ℕ) (n : ℕ) → IsReadAs held line → IsCount memory now held n → IsCount memory now line n
-same_count true now held line n s c =
-    record { within = c.within; short = subst (λ o. IsShort o n) s.command c.short; own_path = subst (λ o. ReadsOwnPath o now n) s.command c.own_path }
-same_count false now held line n s c = record {
-  within = subst (λ o. IsWithin (visits_of o now) n) s.command c.within;
-  short = subst (λ o. IsShort o n) s.command c.short;
-  own_path = subst (λ o. ReadsOwnPath o now n) s.command c.own_path;
-}
+same_visits : (memory : Bool) (now : Records) (held line : List ℕ) (n : ℕ) → IsReadAs held line → IsWithin (line_visits memory held now) n → IsWithin (line_visits memory line now) n
+same_visits true now held line n s within = within
+same_visits false now held line n s within = subst (λ o. IsWithin (visits_of o now) n) s.command within
+
+same_done : (memory : Bool) (now new : State) (held line : List ℕ) → IsReadAs held line → IsLineDone memory now held new → IsLineDone memory now line new
+same_done memory now new held line s d =
+    record {
+      lawful = λ yes. same_refusal now.records held line s (d.lawful yes);
+      left = d.left ∙ same_left memory now.records held line s;
+      visits = d.visits;
+      within = same_visits memory now.records held line d.visits s d.within;
+      short = subst (λ o. IsShort o d.visits) s.command d.short;
+      own_path = subst (λ o. ReadsOwnPath o now.records d.visits) s.command d.own_path;
+      counted = d.counted;
+      visits_ahead = d.visits_ahead;
+      few = subst (λ o. d.visits_ahead ≤ most_ahead o) s.command d.few;
+      counted_ahead = d.counted_ahead;
+    }
 
 -- a run that goes on by a line
-pub goes_on : (start now : State) (text held before taken line handled : List ℕ) (c : Carried start now text held before taken) → IsReadAs handled line
-    → (memory : Bool) → (memory ≡ true → LineMayRefuse now.records handled)
-    → Ran start.records (whole_lines_of text ++ line ∷ []) (with_place memory c.refused (length (whole_lines_of text))) (c.written ++ answer memory now.records handled) (left_by memory now.records handled)
-goes_on start now text held before taken line handled c s memory lawful =
-    rw (same_answer memory now.records handled line s, same_left memory now.records handled line s)
-    (Ran-more start.records (whole_lines_of text) c.refused c.written now.records memory line c.ran (λ yes. same_refusal now.records handled line s (lawful yes)))
-
--- and what it has read then
-counts_on : (start now new : State) (text held before taken line handled : List ℕ) (c : Carried start now text held before taken) → IsReadAs handled line
-    → (memory : Bool) → IsLineDone memory now handled new → HaveRead start (whole_lines_of text ++ line ∷ []) (with_place memory c.refused (length (whole_lines_of text))) new
-counts_on start now new text held before taken line handled c s memory d =
-    have_read-more start now new (whole_lines_of text) c.refused c.written memory line d.visits d.count_ahead c.ran c.counted (same_count memory now.records handled line d.visits s d.count) d.reads (subst (λ o. d.count_ahead ≤ most_ahead o) s.command d.few) d.ahead
+goes_on : (start now new : State) (text held before taken line handled : List ℕ) (c : Carried start now text held before taken) → IsReadAs handled line
+    → (memory : Bool) → IsLineDone memory now handled new → IsOutcome start (whole_lines_of text ++ line ∷ []) (c.written ++ answer memory now.records handled) new
+goes_on start now new text held before taken line handled c s memory d =
+    subst (λ t. IsOutcome start (whole_lines_of text ++ line ∷ []) (c.written ++ t) new) (sym (same_answer memory now.records handled line s))
+    (outcome-more start now new (whole_lines_of text) c.written memory line c.outcome (same_done memory now new handled line s d))
 
 pub carried_line : (start now now' : State) (text part handled held held' before taken taken' : List ℕ) (memory : Bool)
     → Carried start now text held before taken → NoNewline part → IsReadAs handled (unfinished_line_of text ++ part)
     → IsLineDone memory now handled now' → taken' ≡ taken ++ answer memory now.records handled → held' ≡ []
     → Carried start now' (text ++ part ++ 10 ∷ []) held' before taken'
 carried_line start now now' text part handled held held' before taken taken' memory c none s d told empty = record {
-  refused = with_place memory c.refused (length (whole_lines_of text));
   written = c.written ++ answer memory now.records handled;
-  ran = rw (d.left, whole_lines_of-line text part none) (goes_on start now text held before taken (unfinished_line_of text ++ part) handled c s memory d.lawful);
-  counted = rw (whole_lines_of-line text part none) (counts_on start now now' text held before taken (unfinished_line_of text ++ part) handled c s memory d);
+  outcome = subst (λ ls. IsOutcome start ls (c.written ++ answer memory now.records handled) now') (sym (whole_lines_of-line text part none))
+      (goes_on start now now' text held before taken (unfinished_line_of text ++ part) handled c s memory d);
   told = told ∙ ap (λ t. t ++ answer memory now.records handled) c.told ∙ append_assoc before c.written (answer memory now.records handled);
   rest = empty ∙ sym (ap (take 4097) (unfinished_line_of-newline (text ++ part)));
 }
@@ -114,10 +107,8 @@ pub carried_part : (start now now' : State) (text part held held' before taken t
     → Carried start now text held before taken → NoNewline part → now' ≡ now → held' ≡ take 4097 (held ++ part) → taken' ≡ taken
     → Carried start now' (text ++ part) held' before taken'
 carried_part start now now' text part held held' before taken taken' c none same longer told = record {
-  refused = c.refused;
   written = c.written;
-  ran = rw (same, whole_lines_of-part text part none) c.ran;
-  counted = rw (same, whole_lines_of-part text part none) c.counted;
+  outcome = rw (same, whole_lines_of-part text part none) c.outcome;
   told = told ∙ c.told;
   rest = longer ∙ ap (λ t. take 4097 (t ++ part)) c.rest ∙ take-take 4097 (unfinished_line_of text) part ∙ sym (ap (take 4097) (unfinished_line_of-part text part none));
 }
@@ -138,23 +129,15 @@ pub put_together : (start now : State) (text held before taken part handled : Li
 put_together start now text held before taken part handled c same =
     cut (unfinished_line_of text ++ part) handled (same ∙ ap (λ t. take 4097 (t ++ part)) c.rest ∙ take-take 4097 (unfinished_line_of text) part)
 
-outcome_of_run : (start now : State) (ls : List (List ℕ)) (refused written : List ℕ) → Ran start.records ls refused written now.records → HaveRead start ls refused now → IsOutcome start ls written now
-outcome_of_run start now ls refused written r h = record { refused = refused; lawful = r.lawful; told = r.told; left = r.left; counted = h }
-
--- after a failed read, with whatever is held
-pub outcome_whole : (start now : State) (text held before taken : List ℕ) (c : Carried start now text held before taken) → IsOutcome start (whole_lines_of text) c.written now
-outcome_whole start now text held before taken c = outcome_of_run start now (whole_lines_of text) c.refused c.written c.ran c.counted
-
 -- the end of the input, with nothing held
 pub outcome_end : (start now : State) (text held before taken : List ℕ) (c : Carried start now text held before taken) → held ≡ []
     → IsOutcome start (lines_of text) c.written now
 outcome_end start now text held before taken c nothing =
     let none : unfinished_line_of text ≡ [] = nothing_held (unfinished_line_of text) (sym c.rest ∙ nothing) in
-    outcome_of_run start now (lines_of text) c.refused c.written (rw (none, append-nil) c.ran) (rw (none, append-nil) c.counted)
+    rw (none, append-nil) c.outcome
 
-pub closed : (l : List ℕ) → 0 < length l → unless_empty l ≡ l ∷ []
-closed [] h = absurd (omega arith)
-closed (x ∷ xs) h = refl
+pub closed : (l : List ℕ) → 0 < length l → filter (λ (line : List ℕ). nat_lt 0 (length line)) (l ∷ []) ≡ l ∷ []
+closed l some = rw (lt-ltb 0 (length l) some) refl
 
 -- the end of the input, behind a line that no newline ends
 pub outcome_last : (start now new : State) (text held before taken handled : List ℕ) (c : Carried start now text held before taken) → 0 < length held → handled ≡ held → (memory : Bool)
@@ -162,10 +145,8 @@ pub outcome_last : (start now new : State) (text held before taken handled : Lis
 outcome_last start now new text held before taken handled c some same memory d =
     let shorter = ap length c.rest ∙ length-take 4097 (unfinished_line_of text) in
     let long : 0 < length (unfinished_line_of text) = omega arith in
-    let s : IsReadAs handled (unfinished_line_of text) = cut (unfinished_line_of text) handled (same ∙ c.rest) in
-    outcome_of_run start new (lines_of text) (with_place memory c.refused (length (whole_lines_of text))) (c.written ++ answer memory now.records handled)
-    (rw (closed (unfinished_line_of text) long, d.left) (goes_on start now text held before taken (unfinished_line_of text) handled c s memory d.lawful))
-    (rw (closed (unfinished_line_of text) long) (counts_on start now new text held before taken (unfinished_line_of text) handled c s memory d))
+    subst (λ ls. IsOutcome start (whole_lines_of text ++ ls) (c.written ++ answer memory now.records handled) new) (sym (closed (unfinished_line_of text) long))
+    (goes_on start now new text held before taken (unfinished_line_of text) handled c (cut (unfinished_line_of text) handled (same ∙ c.rest)) memory d)
 
 -- as much of a part as there is room for
 pub held_as_fits : (held part : List ℕ) (room : ℕ) → length held ≤ 4097 → room ≤ length part → min (length part) (4097 - length held) ≡ room

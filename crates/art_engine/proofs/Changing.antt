@@ -9,7 +9,7 @@ use Rattle.art_arena.specs.tree.Changes.{IsIn, put_in_order}
 use Rattle.art_arena.specs.tree.Shrinks.{Shrinks}
 use Rattle.art_operations.specs.KeyedLists.{HasKey, overlapping, without_key, without_overlapping}
 use Rattle.art_operations.proofs.LeafPairs.{shrinks-map, shrinks-unmap}
-use Rattle.art_engine.specs.declared.placed.Placed.TheVariants as placed
+use Rattle.art_engine.specs.declared.change.Changed.TheVariants as changed
 use Rattle.art_lines.specs.Words.{name, natural}
 use Rattle.art_lines.specs.Commands.{of_tenant, over, del}
 use Rattle.art_lines.specs.Keys.{full_key}
@@ -18,7 +18,7 @@ use Rattle.art_engine.specs.Records.{KeyFits, own}
 use Rattle.art_engine.specs.Replies.{value_at}
 use Rattle.art_lines.specs.ReplyWords.{found_or}
 use Rattle.art_engine.specs.Stored.{Pair, record_of, records_of, IsFull, AreFull, ArePairs}
-use Rattle.art_engine.specs.Changed.{IsChangeDone, placed_words}
+use Rattle.art_engine.specs.Changed.{IsChangeDone, changed_words}
 use Rattle.art_engine.proofs.Conflicts.{bytes_of}
 use Rattle.art_engine.proofs.Dropping.{All-left_out}
 use Rattle.art_engine.proofs.FullTests.{same_full}
@@ -29,7 +29,7 @@ use Rattle.art_engine.proofs.Removing.{IsFullTest, without_keeps, without_is}
 
 pub over_done : (t : ℕ) (k v : List ℕ) (ps new : List Pair) (e : Pair) → AreFull ps → t < 2 ^ 32 → bytes_of e ≡ full_key t k → e.1.items ≡ v
     → (n : ℕ) → n ≡ length (overlapping bytes_of (bytes_of e) ps) → new ≡ put_in_order bytes_of e (without_overlapping bytes_of (bytes_of e) ps)
-    → IsChangeDone (placed.Over n) (of_tenant t (over k v)) (records_of ps) (records_of new)
+    → IsChangeDone (changed.Over n) (of_tenant t (over k v)) (records_of ps) (records_of new)
 over_done t k v ps new e are fits full value n counted is = (
   ap (λ m. (name (codes "over") ∷ natural m ∷ []) ∷ []) (counted ∙ over_count t k v ps new e are fits full value is),
   over_records t k v ps new e are fits full value is,
@@ -58,10 +58,10 @@ keys_are (p ∷ ps) full = rw (← full.0) (ap (λ l. p.0.items ∷ l) (keys_are
 abbrev pub itself : List ℕ → List ℕ
 itself k = k
 
-gone_words : (v : Vec ℕ) (o : Option (List ℕ)) → o ≡ Some v.items → placed_words (placed.Gone v) ∷ [] ≡ found_or o (codes "gone") (codes "none") ∷ []
+pub gone_words : (v : Vec ℕ) (o : Option (List ℕ)) → o ≡ Some v.items → changed_words (changed.Gone v) ∷ [] ≡ found_or o (codes "gone") (codes "none") ∷ []
 gone_words v o e = rw e refl
 
-absent_words : (o : Option (List ℕ)) → o ≡ None → placed_words placed.Absent ∷ [] ≡ found_or o (codes "gone") (codes "none") ∷ []
+pub absent_words : (o : Option (List ℕ)) → o ≡ None → changed_words changed.Absent ∷ [] ≡ found_or o (codes "gone") (codes "none") ∷ []
 absent_words o e = rw e refl
 
 module _ (t : ℕ) (k : List ℕ) (small : t < 2 ^ 32) (ps new : List Pair) (are : AreFull ps) where
@@ -74,20 +74,20 @@ module _ (t : ℕ) (k : List ℕ) (small : t < 2 ^ 32) (ps new : List Pair) (are
     fit = subst (λ l. AllByRecursion KeyFits (map record_of l)) (sym is) (All-left_out KeyFits record_of (λ p. not (bytes_eq (bytes_of p) (full_key t k))) ps fit);
   }
 
-  pub gone_done : (v : Vec ℕ) → Some v ≡ lookup (is_full_key t k) ps → new ≡ without_key bytes_of (full_key t k) ps → IsChangeDone (placed.Gone v) (of_tenant t (del k)) (records_of ps) (records_of new)
+  pub gone_done : (v : Vec ℕ) → Some v ≡ lookup (is_full_key t k) ps → new ≡ without_key bytes_of (full_key t k) ps → IsChangeDone (changed.Gone v) (of_tenant t (del k)) (records_of ps) (records_of new)
   gone_done v some is = (
-    gone_words v (value_at k (own t (records_of ps)).keys) (sym (ap (option_map (λ (w : Vec ℕ). w.items)) some ∙ found t k small ps are)),
+    gone_words v (value_at bytes_eq k (own t (records_of ps)).keys) (sym (ap (option_map (λ (w : Vec ℕ). w.items)) some ∙ found t k small ps are)),
     records_from_lists _ _ _ _ (ap (map record_of) is ∙ without_is t (λ j. bytes_eq j (full_key t k)) (λ j. bytes_eq j k) tests ps are) refl,
   )
 
-  pub absent_done : None ≡ lookup (is_full_key t k) ps → new ≡ without_key bytes_of (full_key t k) ps → IsChangeDone placed.Absent (of_tenant t (del k)) (records_of ps) (records_of new)
+  pub absent_done : None ≡ lookup (is_full_key t k) ps → new ≡ without_key bytes_of (full_key t k) ps → IsChangeDone changed.Absent (of_tenant t (del k)) (records_of ps) (records_of new)
   absent_done none is = (
-    absent_words (value_at k (own t (records_of ps)).keys) (sym (ap (option_map (λ (w : Vec ℕ). w.items)) none ∙ found t k small ps are)),
+    absent_words (value_at bytes_eq k (own t (records_of ps)).keys) (sym (ap (option_map (λ (w : Vec ℕ). w.items)) none ∙ found t k small ps are)),
     records_from_lists _ _ _ _ (ap (map record_of) is ∙ without_is t (λ j. bytes_eq j (full_key t k)) (λ j. bytes_eq j k) tests ps are) refl,
   )
 
   -- it may find no memory where the loss of the full key makes a node smaller
-  pub del_refused : new ≡ ps → HasKey bytes_of (full_key t k) ps × Shrinks bytes_of ps (full_key t k) → IsChangeDone placed.Memory (of_tenant t (del k)) (records_of ps) (records_of new)
+  pub del_refused : new ≡ ps → HasKey bytes_of (full_key t k) ps × Shrinks bytes_of ps (full_key t k) → IsChangeDone changed.Memory (of_tenant t (del k)) (records_of ps) (records_of new)
   del_refused same h = (
     ap records_of same,
     (

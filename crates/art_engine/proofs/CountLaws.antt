@@ -68,14 +68,14 @@ path_of_found t k T fronts records are some =
 
 -- likewise of records under numbers
 abbrev HasBytes : NumberRecord → Type 0
-HasBytes r = HaveBytes r.tenant r.number
+HasBytes r = HaveBytes r.tenant r.key
 
 abbrev IsSmall : NumberRecord → Type 0
 IsSmall r = r.tenant < 2 ^ 32
 
 number_before : (r s : NumberRecord) → HasBytes r → HasBytes s → NumberComesBefore r s → IsBefore (number_key_of r) (number_key_of s)
-number_before r s hr hs (inl low) = tested_before r.tenant s.tenant r.number s.number hr hs (or_left _ _ (lt-ltb r.tenant s.tenant low))
-number_before r s hr hs (inr up) = tested_before r.tenant s.tenant r.number s.number hr hs (or_right (nat_lt r.tenant s.tenant) _ (and_from _ _ (eq-eqb r.tenant s.tenant up.0) up.1))
+number_before r s hr hs (inl low) = tested_before r.tenant s.tenant r.key s.key hr hs (or_left _ _ (lt-ltb r.tenant s.tenant low))
+number_before r s hr hs (inr up) = tested_before r.tenant s.tenant r.key s.key hr hs (or_right (nat_lt r.tenant s.tenant) _ (and_from _ _ (eq-eqb r.tenant s.tenant up.0) up.1))
 
 numbers_before : (r : NumberRecord) (rs : List NumberRecord) → HasBytes r → AllByRecursion HasBytes rs → AllByRecursion (NumberComesBefore r) rs → AllByRecursion (λ s. IsBefore (number_key_of r) (number_key_of s)) rs
 numbers_before r [] here fits order = tt
@@ -93,10 +93,10 @@ path_of_number t n records are some =
     let small : AllByRecursion IsSmall rs = All-map NumberFits IsSmall (λ r h. h.tenant_fits) rs are.numbers_fit in
     let f = found_record (λ (r : NumberRecord). r.tenant) number_part t (λ m. int_eq m n) rs some in
     let mine : f.0.tenant ≡ t = f.2 in
-    let at : f.0.number ≡ n = (Decides-int_eq f.0.number n).0 f.3 in
+    let at : f.0.key ≡ n = (Decides-int_eq f.0.key n).0 f.3 in
     let low : t < 2 ^ 32 = subst (λ u. u < 2 ^ 32) mine (all_at IsSmall f.0 rs small f.1) in
-    let same : number_key_of f.0 ≡ pair_key (t, n) = ap (λ u. pair_key (u, f.0.number)) mine ∙ ap (λ m. pair_key (t, m)) at in
-    own_path number_key_of (λ r. r.tenant) (λ r. big_endian 8 (flipped w64 r.number)) (λ r. refl) t low rs (numbers_ascend rs fits are.numbers_in_order) small f.0 f.1 mine (pair_key (t, n))
+    let same : number_key_of f.0 ≡ pair_key (t, n) = ap (λ u. pair_key (u, f.0.key)) mine ∙ ap (λ m. pair_key (t, m)) at in
+    own_path number_key_of (λ r. r.tenant) (λ r. big_endian 8 (flipped w64 r.key)) (λ r. refl) t low rs (numbers_ascend rs fits are.numbers_in_order) small f.0 f.1 mine (pair_key (t, n))
     ([], sym same ∙ sym (append-nil (number_key_of f.0)))
 
 equal_front : (k j : List ℕ) → bytes_eq j k ≡ true → BeginsWith j k

@@ -1,37 +1,26 @@
 -- A run whose last write failed.
-use Rattle.std.proofs.Common.{◌≡◌, ℕ, suc, ◌<◌, List, [], ◌∷◌, ◌++◌, Bool, true, length, take, ap, sym, ◌∙◌, subst, arith, append_assoc, length-append, add-one}
-use Rattle.std.proofs.lemmas.List.{take-append-le, take_all, length-take}
+use Rattle.std.proofs.Common.{◌≡◌, ◌≢◌, ℕ, ◌<◌, List, [], ◌∷◌, ◌++◌, Bool, true, length, refl, ap, sym, ◌∙◌, subst, arith, append_assoc, length-append}
+use Rattle.std.specs.Prelude.{IsTrue}
+use Rattle.std.proofs.lemmas.Bool.{and_from, lt-ltb}
+use Rattle.std.proofs.lemmas.Bool.Decides.{Decides-eqb}
+use Rattle.std.proofs.lemmas.Slice.Eq.{starts_is}
+use Rattle.std.proofs.lemmas.List.{length-take}
+use Rattle.art_bytes.specs.Keys.{is_proper_front}
 use Rattle.art_lines.specs.Lines.{whole_lines_of, unfinished_line_of, lines_of}
+use Rattle.art_lines.specs.Writes.{IsCut}
+use Rattle.art_engine.specs.Records.{Records}
 use Rattle.art_engine.specs.State.{State}
 use Rattle.art_engine.specs.Refusals.{LineMayRefuse}
-use Rattle.art_engine.specs.Outcome.{answer, left_by, outcome_of, HaveRead}
-use Rattle.art_lines.specs.Writes.{IsCut}
-use Rattle.art_lines.proofs.Cuts.{cut_same}
+use Rattle.art_engine.specs.Outcome.{answer, left_by}
 use Rattle.art_engine.specs.Faults.{IsCutLine, AfterWriteFault}
 use Rattle.art_engine.specs.Progress.{Carried, IsCutRun, NoNewline}
 use Rattle.art_engine.proofs.LineLemmas.{whole_lines_of-line, whole_lines_of-more}
-use Rattle.art_engine.proofs.RunLemmas.{with_place, outcome-with_place, have_read-with_place}
-use Rattle.art_engine.proofs.Carrying.{IsReadAs, goes_on, closed, cut}
+use Rattle.art_engine.proofs.Carrying.{IsReadAs, same_answer, same_left, same_refusal, closed, cut}
 
 -- other lines behind do not matter
-fault_more : (start : State) (ls others : List (List ℕ)) (written : List ℕ) (now : State) → AfterWriteFault start ls written now → AfterWriteFault start (ls ++ others) written now
-fault_more start ls others written now f =
-    let within = f.within in let total = length-append ls others in
-    let before : take f.answered (ls ++ others) ≡ take f.answered ls = take-append-le f.answered ls others (omega arith) in
-    let through : take (suc f.answered) (ls ++ others) ≡ take (suc f.answered) ls = take-append-le (suc f.answered) ls others within in
-    record {
-      refused = f.refused;
-      answered = f.answered;
-      within = omega arith;
-      lawful = rw through f.lawful;
-      begun = f.begun;
-      missing = f.missing;
-      is_cut = f.is_cut;
-      told = rw before f.told;
-      cut = rw through f.cut;
-      left = rw through f.left;
-      counted = rw before f.counted;
-    }
+fault_more : (start : State) (ls more : List (List ℕ)) (written : List ℕ) (now : State) → AfterWriteFault start ls written now → AfterWriteFault start (ls ++ more) written now
+fault_more start ls more written now (answered, others, line, told, middle, are, outcome, cut) =
+    (answered, others ++ more, line, told, middle, ap (λ t. t ++ more) are ∙ append_assoc answered (line ∷ others) more, outcome, cut)
 
 pub cut_run-more : (start now : State) (text more all before taken : List ℕ) → text ++ more ≡ all
     → IsCutRun start now (whole_lines_of text) before taken → IsCutRun start now (whole_lines_of all) before taken
@@ -47,30 +36,19 @@ cut_run-more start now text more all before taken e r =
 cut_next : (start now new : State) (text held before taken taken' line handled : List ℕ) → Carried start now text held before taken → IsReadAs handled line
     → IsCutLine now handled taken taken' new → IsCutRun start new (whole_lines_of text ++ line ∷ []) before taken'
 cut_next start now new text held before taken taken' line handled c s l =
-    let ls : List (List ℕ) = whole_lines_of text in let n : ℕ = length ls in
-    let all : List (List ℕ) = ls ++ line ∷ [] in
-    let ran = goes_on start now text held before taken line handled c s l.memory l.lawful in
-    let long : length all ≡ suc n = length-append ls (line ∷ []) ∙ add-one n in
-    let front : take n all ≡ ls = take-append-le n ls (line ∷ []) (omega arith) ∙ take_all n ls (omega arith) in
-    let through : take (suc n) all ≡ all = take_all (suc n) all (omega arith) in
-    let first : c.written ≡ (outcome_of start.records ls (with_place l.memory c.refused n)).written = c.ran.told ∙ sym (outcome-with_place start.records ls c.refused l.memory) in
-    let read : HaveRead start ls (with_place l.memory c.refused n) now = have_read-with_place start now ls c.refused l.memory c.counted in
+    let written : List ℕ = c.written ++ l.begun in
+    let is_cut : IsCutLine now line c.written written new = record {
+      memory = l.memory;
+      lawful = λ yes. same_refusal now.records handled line s (l.lawful yes);
+      begun = l.begun;
+      is_cut = subst (λ a. IsTrue (is_proper_front l.begun a)) (same_answer l.memory now.records handled line s) l.is_cut;
+      told = refl;
+      left = l.left ∙ ap (λ (r : Records). record now { records = r }) (same_left l.memory now.records handled line s);
+    } in
     record {
-      written = c.written ++ l.told.begun;
-      told = l.told.told ∙ ap (λ t. t ++ l.told.begun) c.told ∙ append_assoc before c.written l.told.begun;
-      fault = record {
-        refused = with_place l.memory c.refused n;
-        answered = n;
-        within = omega arith;
-        lawful = rw through ran.lawful;
-        begun = l.told.begun;
-        missing = l.told.missing;
-        is_cut = l.told.is_cut;
-        told = rw front (ap (λ t. t ++ l.told.begun) first);
-        cut = rw through (append_assoc c.written l.told.begun l.told.missing ∙ ap (λ t. c.written ++ t) l.told.parts ∙ ran.told);
-        left = rw through (l.left ∙ ran.left);
-        counted = rw front (record { counts = read.counts; counted = read.counted; reads = l.uncounted.0 ∙ read.reads; counts_ahead = read.counts_ahead; counted_ahead = read.counted_ahead; ahead = l.uncounted.1 ∙ read.ahead });
-      };
+      written = written;
+      told = l.told ∙ ap (λ t. t ++ l.begun) c.told ∙ append_assoc before c.written l.begun;
+      fault = (whole_lines_of text, [], line, c.written, now, refl, c.outcome, is_cut);
     }
 
 -- a line that a newline ends
@@ -85,11 +63,30 @@ pub cut_run-last : (start now new : State) (text held before taken taken' handle
 cut_run-last start now new text held before taken taken' handled c some same l =
     let shorter = ap length c.rest ∙ length-take 4097 (unfinished_line_of text) in
     let long : 0 < length (unfinished_line_of text) = omega arith in
-    rw (closed (unfinished_line_of text) long)
+    subst (λ ls. IsCutRun start new (whole_lines_of text ++ ls) before taken') (sym (closed (unfinished_line_of text) long))
     (cut_next start now new text held before taken taken' (unfinished_line_of text) handled c (cut (unfinished_line_of text) handled (same ∙ c.rest)) l)
+
+-- nothing but the records changed
+with_records : (old new : State) (r : Records) → new.records ≡ r → new.reads ≡ old.reads → new.ahead ≡ old.ahead → new ≡ record old { records = r }
+with_records old new r e f g = λ i. record { records = e i; reads = f i; ahead = g i }
+
+-- a beginning behind which some bytes are missing
+is_proper : (begun missing text : List ℕ) → missing ≢ [] → begun ++ missing ≡ text → IsTrue (is_proper_front begun text)
+is_proper begun [] text some e = absurd (some refl)
+is_proper begun (b ∷ rest) text some e =
+    let long = ap length e in let parts = length-append begun (b ∷ rest) in
+    let longer : length begun < length text = omega arith in
+    and_from _ _ (lt-ltb (length begun) (length text) longer) ((starts_is Decides-eqb text begun _ refl).1 (b ∷ rest) (sym e))
 
 -- a line that was carried out, and whose answer was cut
 pub cut_line : (memory : Bool) (old new : State) (line before after told : List ℕ) → told ≡ answer memory old.records line → IsCut before after told
     → new.records ≡ left_by memory old.records line → (memory ≡ true → LineMayRefuse old.records line) → (new.reads ≡ old.reads) × (new.ahead ≡ old.ahead) → IsCutLine old line before after new
 cut_line memory old new line before after told is cut left lawful same =
-    record { memory = memory; lawful = lawful; told = cut_same before after told (answer memory old.records line) is cut; left = left; uncounted = same }
+    record {
+      memory = memory;
+      lawful = lawful;
+      begun = cut.begun;
+      is_cut = is_proper cut.begun cut.missing (answer memory old.records line) cut.is_cut (cut.parts ∙ is);
+      told = cut.told;
+      left = with_records old new (left_by memory old.records line) left same.0 same.1;
+    }

@@ -15,10 +15,10 @@ use Rattle.art_operations.specs.Openings.{OpeningReads}
 use Rattle.art_operations.specs.Subtrees.{ShrinksWithout}
 use Rattle.art_operations.proofs.NodeCounts.{counted-map}
 use Rattle.art_operations.proofs.LeafPairs.{width_of-map, without-shrinks}
-use Rattle.art_engine.specs.declared.dropped.Dropped.{Dropped}
-use Rattle.art_engine.specs.declared.dropped.Dropped.TheVariants as dropped
+use Rattle.art_engine.specs.declared.drop_tenant.Dropped.{Dropped}
+use Rattle.art_engine.specs.declared.drop_tenant.Dropped.TheVariants as dropped
 use Rattle.art_lines.specs.Words.{name, natural}
-use Rattle.art_engine.specs.Counts.{longest, dropping, one_if_any, IsWithin}
+use Rattle.art_engine.specs.Counts.{longest, dropping, IsWithin}
 use Rattle.art_engine.specs.Dropped.{IsDropDone}
 use Rattle.art_lines.specs.Keys.{full_key}
 use Rattle.art_engine.specs.Keys.{full_key_of, number_key_of}
@@ -85,9 +85,9 @@ pub visits_same : {K V : Type 0} (bytes : K → List ℕ) (visits reads : ℕ) (
 visits_same bytes visits reads f g qs ps same are is = is ∙ ap₂ (λ h xs. cut_visits bytes h xs reads) same are
 
 -- where there is a pair, the root was read
-root_read : {X Y : Type 0} (f : X → Y) (xs : List X) (reads : ℕ) → (xs ≢ [] → 1 ≤ reads) → one_if_any (map f xs) ≤ reads
+root_read : {X Y : Type 0} (f : X → Y) (xs : List X) (reads : ℕ) → (xs ≢ [] → 1 ≤ reads) → min 1 (length (map f xs)) ≤ reads
 root_read f [] reads some = omega arith
-root_read f (x ∷ xs) reads some = some (λ e. cc)
+root_read f (x ∷ xs) reads some = let read = some (λ e. cc) in omega arith
 
 -- the full keys of a tenant are those that begin with its four bytes
 full_behind : (t : ℕ) → t < 2 ^ 32 → (ps : List Pair) → AllByRecursion IsFull ps → AllByRecursion IsOfTenant (map record_of ps)

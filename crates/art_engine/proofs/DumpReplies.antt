@@ -7,7 +7,7 @@ use Rattle.art_lines.specs.Reading.{command_of}
 use Rattle.art_lines.proofs.Spelling.{spells, spells_one}
 use Rattle.art_engine.specs.Records.{Records}
 use Rattle.art_engine.specs.Refusals.{LineMayRefuse, MayRefuse}
-use Rattle.art_engine.specs.Replies.{dump_of, reply_to, records_after}
+use Rattle.art_engine.specs.Replies.{dump_of}
 use Rattle.art_engine.specs.Outcome.{answer, left_by}
 
 reads-dump : command_of (codes "dump") ≡ Some dump
@@ -21,12 +21,12 @@ never_refused records (c, spelled, may) =
 -- it is answered by the lines of all records
 pub dump_answer : (memory : Bool) (records : Records) → (memory ≡ true → LineMayRefuse records (codes "dump"))
     → answer memory records (codes "dump") ≡ flat_map line_of (dump_of records)
-unfolding reply_to command_of
+unfolding command_of
 dump_answer true records may = absurd (never_refused records (may refl))
 dump_answer false records may = refl
 
 -- and leaves them
 pub dump_left : (memory : Bool) (records : Records) → left_by memory records (codes "dump") ≡ records
-unfolding records_after command_of
+unfolding command_of
 dump_left true records = refl
 dump_left false records = refl

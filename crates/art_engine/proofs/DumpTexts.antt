@@ -2,17 +2,18 @@
 use Rattle.std.proofs.Common.{◌≡◌, ℕ, zero, suc, ℤ, pos, negsuc, ◌/◌, ◌%◌, ◌<◌, ◌≤◌, List, [], ◌∷◌, ◌++◌, length, get_or, map, refl, ap, sym, ◌∙◌, subst, Bool, true, false, cond, arith, append_assoc, append-nil, inl, inr}
 use Rattle.std.specs.Prelude.{◌==◌, nat_lt, nat_le, codes, flat_map, Some, None}
 use Rattle.std.specs.Fmt.{digits, digits_onto, digit_glyph}
-use Rattle.std.specs.List.{AllByRecursion, onto_first, slice_split}
+use Rattle.std.specs.List.{AllByRecursion, AllZip, onto_first, slice_split}
 use Rattle.std.proofs.lemmas.Bool.{ne_eqb, eq-eqb, true≢false, cases_lt, lt-leb}
 use Rattle.hex.specs.Hex.{IsBytes, encode_lower, is_hex_digit}
 use Rattle.hex.proofs.HexLemmas.{decode_of-ok, decode_of-encode_lower}
-use Rattle.art_lines.specs.Lines.{pieces_of, last_of, all_but_last, whole_lines_of, unfinished_line_of, unless_empty, lines_of}
+use Rattle.art_lines.specs.Lines.{pieces_of, whole_lines_of, unfinished_line_of, lines_of}
 use Rattle.art_lines.specs.Words.{Word, name, natural, signed, bytes, shown, Reads, text_of, line_of}
-use Rattle.art_lines.specs.Commands.{put, nput, of_tenant, fields_of, AllRead}
+use Rattle.art_lines.specs.Commands.{put, nput, of_tenant, fields_of}
 use Rattle.art_lines.specs.Reading.{command_in, command_of}
 use Rattle.art_engine.specs.Records.{KeyRecord, NumberRecord, KeyFits, NumberFits}
 use Rattle.art_lines.specs.ReplyWords.{end_words}
 use Rattle.art_engine.proofs.Dumping.{words_put, words_nput}
+use Rattle.art_engine.proofs.LineLemmas.{last_of, all_but_last, whole_are, unfinished_is}
 use Rattle.art_engine.proofs.Filters.{All-map, All-append}
 use Rattle.art_lines.proofs.Spelling.{spelled}
 
@@ -89,7 +90,7 @@ fields_are : (w : Word) (ws : List Word) → AllByRecursion ReadBack (w ∷ ws) 
 fields_are w [] h = split_none 32 (shown w) (free_of 32 (omega arith) (shown w) h.0.0)
 fields_are w (v ∷ ws) h = split_at 32 (shown w) (text_of (v ∷ ws)) (free_of 32 (omega arith) (shown w) h.0.0) ∙ ap (λ l. shown w ∷ l) (fields_are v ws h.1)
 
-all_read_back : (ws : List Word) → AllByRecursion ReadBack ws → AllRead (map shown ws) ws
+all_read_back : (ws : List Word) → AllByRecursion ReadBack ws → AllZip Reads (map shown ws) ws
 all_read_back [] h = tt
 all_read_back (w ∷ ws) h = (h.0.1, all_read_back ws h.1)
 
@@ -114,7 +115,7 @@ nput_back : (r : NumberRecord) → NumberFits r → AllByRecursion ReadBack (wor
 nput_back r fits =
     let small = fits.tenant_fits in (
       ((omega arith, (omega arith, (omega arith, (omega arith, tt)))), refl),
-      ((natural_plain r.tenant, (refl, small)), ((signed_plain r.number, (refl, fits.number_fits)), (bytes_back r.value fits.value_fits, tt))),
+      ((natural_plain r.tenant, (refl, small)), ((signed_plain r.key, (refl, fits.number_fits)), (bytes_back r.value fits.value_fits, tt))),
     )
 
 -- so the line of a record spells the put that makes it
@@ -123,15 +124,15 @@ put_spelled r fits =
     let back = put_back r fits in
     spelled (text_of (words_put r)) (of_tenant r.tenant (put r.key r.value)) (record {
       short = fits.line_fits;
-      read = subst (λ fs. AllRead fs (words_put r)) (sym (fields_are (name (codes "put")) (natural r.tenant ∷ bytes r.key ∷ bytes r.value ∷ []) back)) (all_read_back (words_put r) back);
+      read = subst (λ fs. AllZip Reads fs (words_put r)) (sym (fields_are (name (codes "put")) (natural r.tenant ∷ bytes r.key ∷ bytes r.value ∷ []) back)) (all_read_back (words_put r) back);
     })
 
-pub nput_spelled : (r : NumberRecord) → NumberFits r → command_of (text_of (words_nput r)) ≡ Some (of_tenant r.tenant (nput r.number r.value))
+pub nput_spelled : (r : NumberRecord) → NumberFits r → command_of (text_of (words_nput r)) ≡ Some (of_tenant r.tenant (nput r.key r.value))
 nput_spelled r fits =
     let back = nput_back r fits in
-    spelled (text_of (words_nput r)) (of_tenant r.tenant (nput r.number r.value)) (record {
+    spelled (text_of (words_nput r)) (of_tenant r.tenant (nput r.key r.value)) (record {
       short = fits.line_fits;
-      read = subst (λ fs. AllRead fs (words_nput r)) (sym (fields_are (name (codes "nput")) (natural r.tenant ∷ signed r.number ∷ bytes r.value ∷ []) back)) (all_read_back (words_nput r) back);
+      read = subst (λ fs. AllZip Reads fs (words_nput r)) (sym (fields_are (name (codes "nput")) (natural r.tenant ∷ signed r.key ∷ bytes r.value ∷ []) back)) (all_read_back (words_nput r) back);
     })
 
 -- and the end spells nothing
@@ -150,7 +151,7 @@ put_lines (r ∷ rs) fits = (one_line (name (codes "put")) (natural r.tenant ∷
 
 pub nput_lines : (rs : List NumberRecord) → AllByRecursion NumberFits rs → AllByRecursion OneLine (map words_nput rs)
 nput_lines [] fits = tt
-nput_lines (r ∷ rs) fits = (one_line (name (codes "nput")) (natural r.tenant ∷ signed r.number ∷ bytes r.value ∷ []) (plain_back (words_nput r) (nput_back r fits.0)), nput_lines rs fits.1)
+nput_lines (r ∷ rs) fits = (one_line (name (codes "nput")) (natural r.tenant ∷ signed r.key ∷ bytes r.value ∷ []) (plain_back (words_nput r) (nput_back r fits.0)), nput_lines rs fits.1)
 
 pub end_line : (n : ℕ) → OneLine (end_words n)
 end_line n = one_line (name (codes "end")) (natural n ∷ []) ((omega arith, (omega arith, (omega arith, tt))), (natural_plain n, tt))
@@ -172,8 +173,8 @@ last_one (l ∷ []) = refl
 last_one (l ∷ m ∷ ls) = last_one (m ∷ ls)
 
 pub lines_are : (wss : List (List Word)) → AllByRecursion OneLine wss → lines_of (flat_map line_of wss) ≡ map text_of wss
-unfolding whole_lines_of unfinished_line_of
 lines_are wss h =
-    let pieces = pieces_are wss h in
-    ap (λ ps. all_but_last ps ++ unless_empty (last_of ps)) pieces ∙ ap (λ l. l ++ unless_empty (last_of (map text_of wss ++ [] ∷ []))) (but_last (map text_of wss))
-    ∙ ap (λ l. map text_of wss ++ unless_empty l) (last_one (map text_of wss)) ∙ append-nil (map text_of wss)
+    let text : List ℕ = flat_map line_of wss in let ls : List (List ℕ) = map text_of wss in let pieces = pieces_are wss h in
+    let whole : whole_lines_of text ≡ ls = whole_are text ∙ ap all_but_last pieces ∙ but_last ls in
+    let nothing : unfinished_line_of text ≡ [] = unfinished_is text ∙ ap last_of pieces ∙ last_one ls in
+    rw (whole, nothing) (append-nil ls)

@@ -16,7 +16,7 @@ abbrev pub words_put : KeyRecord → List Word
 words_put r = put_words r.tenant r.key r.value
 
 abbrev pub words_nput : NumberRecord → List Word
-words_nput r = nput_words r.tenant r.number r.value
+words_nput r = nput_words r.tenant r.key r.value
 
 module _ {X R : Type 0} (made : X → R) (words : R → List Word) where
   -- the lines that make the records of some pairs

@@ -2,12 +2,12 @@
 use Rattle.std.proofs.Common.{◌≡◌, ℕ, ℤ, ◌*◌, ◌^◌, ◌<◌, List, [], ◌∷◌, length, refl, ap, sym, ◌∙◌, arith, length-append}
 use Rattle.std.specs.Prelude.{map, codes, FitsSigned}
 use Rattle.std.specs.Int.{w64}
-use Rattle.std.specs.List.{join_with_byte}
+use Rattle.std.specs.List.{AllZip, join_with_byte}
 use Rattle.hex.specs.Hex.{encode_with, encode_lower, IsBytes}
 use Rattle.art_lines.specs.Words.{Word, name, natural, signed, bytes, shown, Reads, text_of}
 use Rattle.hex.proofs.HexLemmas.{decode_of-ok}
 use Rattle.std.proofs.lemmas.List.Splits.{join_with_byte-slice_split}
-use Rattle.art_lines.specs.Commands.{Command, of_tenant, put, over, nput, words_of, AllRead, fields_of, Spells}
+use Rattle.art_lines.specs.Commands.{Command, of_tenant, put, over, nput, words_of, fields_of, Spells}
 use Rattle.art_engine.specs.Records.{KeyFits, NumberFits}
 
 pub length-encode : (bs : List ℕ) → length (encode_lower bs) ≡ 2 * length bs
@@ -22,7 +22,7 @@ length-read field (signed n) h = ap length (sym h.0)
 length-read field (bytes []) h = ap length (sym h)
 length-read field (bytes (b ∷ bs)) h = let decoded = (decode_of-ok field (b ∷ bs) h).2 in length-encode (b ∷ bs) ∙ sym decoded
 
-length-joined : (fields : List (List ℕ)) (ws : List Word) → AllRead fields ws → length (join_with_byte 32 (map shown ws)) ≡ length (join_with_byte 32 fields)
+length-joined : (fields : List (List ℕ)) (ws : List Word) → AllZip Reads fields ws → length (join_with_byte 32 (map shown ws)) ≡ length (join_with_byte 32 fields)
 length-joined [] [] h = refl
 length-joined (f ∷ []) (w ∷ []) h = length-read f w h.0
 length-joined (f ∷ g ∷ fs) (w ∷ x ∷ ws) h =
@@ -46,7 +46,7 @@ bytes_read field [] h = λ k. omega arith
 bytes_read field (b ∷ bs) h = (decode_of-ok field (b ∷ bs) h).3
 
 -- what a line with a key and a value says of them
-parts_fit : (word : List ℕ) (t : ℕ) (k v : List ℕ) (fields : List (List ℕ)) → AllRead fields (name word ∷ natural t ∷ bytes k ∷ bytes v ∷ []) → (t < 2 ^ 32) × IsBytes k × IsBytes v
+parts_fit : (word : List ℕ) (t : ℕ) (k v : List ℕ) (fields : List (List ℕ)) → AllZip Reads fields (name word ∷ natural t ∷ bytes k ∷ bytes v ∷ []) → (t < 2 ^ 32) × IsBytes k × IsBytes v
 parts_fit word t k v [] r = absurd r
 parts_fit word t k v (f ∷ []) r = absurd r.1
 parts_fit word t k v (f ∷ g ∷ []) r = absurd r.1.1
@@ -65,14 +65,14 @@ over_fits line t k v h =
     record { tenant_fits = parts.0; key_fits = parts.1; value_fits = parts.2; line_fits = omega arith }
 
 -- likewise under a number
-number_parts_fit : (t : ℕ) (n : ℤ) (v : List ℕ) (fields : List (List ℕ)) → AllRead fields (name (codes "nput") ∷ natural t ∷ signed n ∷ bytes v ∷ []) → (t < 2 ^ 32) × FitsSigned w64 n × IsBytes v
+number_parts_fit : (t : ℕ) (n : ℤ) (v : List ℕ) (fields : List (List ℕ)) → AllZip Reads fields (name (codes "nput") ∷ natural t ∷ signed n ∷ bytes v ∷ []) → (t < 2 ^ 32) × FitsSigned w64 n × IsBytes v
 number_parts_fit t n v [] r = absurd r
 number_parts_fit t n v (f ∷ []) r = absurd r.1
 number_parts_fit t n v (f ∷ g ∷ []) r = absurd r.1.1
 number_parts_fit t n v (f ∷ g ∷ i ∷ []) r = absurd r.1.1.1
 number_parts_fit t n v (f ∷ g ∷ i ∷ j ∷ fs) r = (r.1.0.1, r.1.1.0.1, bytes_read j v r.1.1.1.0)
 
-pub nput_fits : (line : List ℕ) (t : ℕ) (n : ℤ) (v : List ℕ) → Spells line (of_tenant t (nput n v)) → NumberFits (record { tenant = t; number = n; value = v })
+pub nput_fits : (line : List ℕ) (t : ℕ) (n : ℤ) (v : List ℕ) → Spells line (of_tenant t (nput n v)) → NumberFits (record { tenant = t; key = n; value = v })
 nput_fits line t n v h =
     let same = length-spelled line (of_tenant t (nput n v)) h in let short = h.short in let parts = number_parts_fit t n v (fields_of line) h.read in
     record { tenant_fits = parts.0; number_fits = parts.1; value_fits = parts.2; line_fits = omega arith }

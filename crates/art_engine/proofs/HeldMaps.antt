@@ -4,7 +4,6 @@ use Rattle.std.specs.Prelude.{◌==◌, ◌&&◌, nat_lt, decimal, FitsSigned, b
 use Rattle.std.specs.Fmt.{signed_decimal}
 use Rattle.std.specs.List.{AllByRecursion}
 use Rattle.std.specs.Int.{to_be_bytes, from_be_bytes, cast_signed, w32, w64}
-use Rattle.std.specs.Int.Bits.{xor_assoc, xor_self, xor_zero_r}
 use Rattle.std.proofs.lemmas.Int.{of_z-to_z}
 use borrow.Author.Gap.{read_sfits}
 use Rattle.std.proofs.lemmas.Nat.{be_bytes_4, be_bytes_8, xor_lt}
@@ -27,6 +26,7 @@ use Rattle.art_lines.specs.Words.{bytes, shown, text_of, line_of}
 use Rattle.art_engine.proofs.Conflicts.{bytes_of}
 use Rattle.art_engine.proofs.FieldLengths.{length-encode}
 use Rattle.art_engine.proofs.FullKeys.{full_keys_keep_order, full_keys_keep_conflicts}
+use Rattle.art_engine.proofs.NumberKeys.{flip_back}
 use Rattle.art_lines.proofs.FullKeys.{full_key_again, tenant_small, front_small}
 use Rattle.art_lines.proofs.ReplyLines.{put_parts, nput_parts, number_parts}
 
@@ -120,9 +120,6 @@ pub number_short_told : (t : ℕ) (n : ℤ) (v : List ℕ) (b x : ℕ) → b ≡
 number_short_told t n v b x vb is = let long = length-nput t n v in (λ low. omega arith, λ low. omega arith)
 
 -- the bytes of a number, read and written again
-flip_again : (x top : ℕ) → bit_xor (bit_xor x top) top ≡ x
-flip_again x top = xor_assoc x top top ∙ ap (bit_xor x) (xor_self top) ∙ xor_zero_r x
-
 signed_fits : (y : ℕ) → y < 2 ^ 64 → FitsSigned w64 (cast_signed w64 y)
 signed_fits y small = read_sfits w64 y
 
@@ -139,7 +136,7 @@ number_again xs twelve small =
     let a = at 0 in let b = at 1 in let c = at 2 in let d = at 3 in let e = at 4 in let f = at 5 in let g = at 6 in let h = at 7 in
     let low : x < 2 ^ 64 = omega arith in
     let turned : bit_xor x (top_bit w64) < 2 ^ 64 = xor_lt 64 x (top_bit w64) low (omega arith) in
-    let back : flipped w64 (number_of_bytes rest) ≡ x = ap (λ y. bit_xor y (top_bit w64)) (of_z-to_z w64 (bit_xor x (top_bit w64)) turned) ∙ flip_again x (top_bit w64) in (
+    let back : flipped w64 (number_of_bytes rest) ≡ x = ap (λ y. bit_xor y (top_bit w64)) (of_z-to_z w64 (bit_xor x (top_bit w64)) turned) ∙ flip_back x (top_bit w64) in (
       sym (ap₂ (λ a b. a ++ b) tenant (ap (to_be_bytes w64) back ∙ number) ∙ take-append-drop 4 xs),
       signed_fits (bit_xor x (top_bit w64)) turned,
     )

@@ -1,13 +1,13 @@
 -- Whatever other tenants send, a tenant is answered from what it holds alone.
-use Rattle.std.proofs.Common.{◌≡◌, ◌≢◌, ℕ, suc, List, [], ◌∷◌, refl, ap, sym, subst, ◌∙◌, Bool, true, false, cond, Option, Some, None}
+use Rattle.std.proofs.Common.{◌≡◌, ◌≢◌, ℕ, List, [], ◌∷◌, refl, ap, sym, subst, ◌∙◌, Bool, true, false, cond, Option, Some, None}
 use Rattle.std.specs.Prelude.{◌==◌, flat_map}
 use Rattle.std.proofs.lemmas.Bool.{eqb-true, eq-eqb, true≢false}
 use Rattle.art_lines.specs.Words.{line_of}
 use Rattle.art_lines.specs.Commands.{Command, of_tenant, dump, audit}
 use Rattle.art_lines.specs.Reading.{command_of}
 use Rattle.art_engine.specs.Records.{Own, Records, own}
-use Rattle.art_engine.specs.Replies.{own_reply, own_after, with_changed, command_reply, command_after, reply_to, records_after}
-use Rattle.art_engine.specs.Outcome.{is_refused, left_by}
+use Rattle.art_engine.specs.Replies.{own_reply, own_after, with_changed, command_reply, command_after}
+use Rattle.art_engine.specs.Outcome.{left_by, reply_to}
 use Rattle.art_engine.specs.Laws.{request_to, own_changed, with_reply, own_behind, own_told, own_replies, own_at_end, RequestsLeaveOthers, TenantsStandAlone}
 use Rattle.art_engine.proofs.OwnLaws.{own_reads_back, others_are_untouched}
 
@@ -50,25 +50,22 @@ told_own tenant (Some (of_tenant other request)) records rest = go (other == ten
     go false e = refl
 
 left_is : (b : Bool) (tenant : ℕ) (records : Records) (line : List ℕ) → own tenant (left_by b records line) ≡ own_behind b (request_to tenant (command_of line)) (own tenant records)
-unfolding records_after
 left_is true tenant records line = refl
 left_is false tenant records line = left_own tenant (command_of line) records
 
 told_is : (b : Bool) (tenant : ℕ) (records : Records) (line : List ℕ) (rest : List (List ℕ))
     → with_reply b (request_to tenant (command_of line)) (reply_to records line) rest
     ≡ with_reply b (request_to tenant (command_of line)) (own_told (request_to tenant (command_of line)) (own tenant records)) rest
-unfolding reply_to
 told_is true tenant records line rest = refl
 told_is false tenant records line rest = told_own tenant (command_of line) records rest
 
 pub tenants_stand_alone : TenantsStandAlone
-tenants_stand_alone tenant position records [] refused = (refl, refl)
-tenants_stand_alone tenant position records (line ∷ lines) refused =
-    let b = is_refused refused position in
-    let later = tenants_stand_alone tenant (suc position) (left_by b records line) lines refused in
-    let mine = left_is b tenant records line in
-    let request = request_to tenant (command_of line) in (
-      ap (with_reply b request (reply_to records line)) (later.0 ∙ ap (λ m. own_replies tenant (suc position) m lines refused) mine)
-          ∙ told_is b tenant records line (own_replies tenant (suc position) (own_behind b request (own tenant records)) lines refused),
-      later.1 ∙ ap (λ m. own_at_end tenant (suc position) m lines refused) mine,
+tenants_stand_alone tenant records [] = (refl, refl)
+tenants_stand_alone tenant records (l ∷ lines) =
+    let later = tenants_stand_alone tenant (left_by l.1 records l.0) lines in
+    let mine = left_is l.1 tenant records l.0 in
+    let request = request_to tenant (command_of l.0) in (
+      ap (with_reply l.1 request (reply_to records l.0)) (later.0 ∙ ap (λ m. own_replies tenant m lines) mine)
+          ∙ told_is l.1 tenant records l.0 (own_replies tenant (own_behind l.1 request (own tenant records)) lines),
+      later.1 ∙ ap (λ m. own_at_end tenant m lines) mine,
     )

@@ -20,7 +20,7 @@ pub mod Dropping
 pub mod Removing
 pub mod Overwriting
 pub mod Changing
-pub mod Listing
+pub mod ListedLines
 pub mod Finding
 pub mod Isolation
 pub mod OwnRefusals

@@ -1,12 +1,46 @@
 -- What one more byte does to the lines of a text.
 use Rattle.std.proofs.Math.Seq.{drop-cons}
 use Rattle.std.proofs.lemmas.List.{take_all, take_rest, take-append-drop}
-use Rattle.std.proofs.Common.{◌≡◌, ℕ, zero, suc, ◌-◌, subst, add-one, append-nil, append_assoc, ◌+◌, ◌<◌, ◌≤◌, List, [], ◌∷◌, ◌++◌, length, take, drop, get_or, refl, ap, sym, ◌∙◌, Bool, true, false, cond, arith}
-use Rattle.std.specs.Prelude.{◌==◌}
+use Rattle.std.proofs.Common.{◌≡◌, ℕ, zero, suc, ◌-◌, subst, add-one, append-nil, append_assoc, ◌+◌, ◌<◌, ◌≤◌, List, [], ◌∷◌, ◌++◌, length, take, drop, get_or, refl, ap, ap₂, sym, ◌∙◌, Bool, true, false, cond, arith, Some, None}
+use Rattle.std.specs.Prelude.{◌==◌, unwrap_or}
 use Rattle.art_engine.specs.Progress.{NoNewline}
 use Rattle.std.proofs.lemmas.Bool.{eqb-true}
-use Rattle.std.specs.List.{onto_first}
-use Rattle.art_lines.specs.Lines.{pieces_of, last_of, all_but_last, whole_lines_of, unfinished_line_of}
+use Rattle.std.specs.List.{last_or, onto_first}
+use Rattle.art_lines.specs.Lines.{pieces_of, whole_lines_of, unfinished_line_of}
+
+-- the last of some pieces, and all but it
+abbrev pub last_of : List (List ℕ) → List ℕ
+last_of [] = []
+last_of (x ∷ []) = x
+last_of (x ∷ y ∷ ys) = last_of (y ∷ ys)
+
+abbrev pub all_but_last : List (List ℕ) → List (List ℕ)
+all_but_last [] = []
+all_but_last (x ∷ []) = []
+all_but_last (x ∷ y ∷ ys) = x ∷ all_but_last (y ∷ ys)
+
+last_is : (x : List ℕ) (xs : List (List ℕ)) → unwrap_or (last_or (Some x) xs) [] ≡ last_of (x ∷ xs)
+last_is x [] = refl
+last_is x (y ∷ ys) = last_is y ys
+
+pub unfinished_is : (text : List ℕ) → unfinished_line_of text ≡ last_of (pieces_of text)
+unfolding unfinished_line_of
+unfinished_is text = go (pieces_of text)
+  where
+    go : (ps : List (List ℕ)) → unwrap_or (last_or None ps) [] ≡ last_of ps
+    go [] = refl
+    go (x ∷ xs) = last_is x xs
+
+pub whole_are : (text : List ℕ) → whole_lines_of text ≡ all_but_last (pieces_of text)
+unfolding whole_lines_of
+whole_are text = go (pieces_of text)
+  where
+    go : (ps : List (List ℕ)) → take (length ps - 1) ps ≡ all_but_last ps
+    go [] = refl
+    go (x ∷ []) = refl
+    go (x ∷ y ∷ ys) =
+        let n : ℕ = length ys in let one : suc (suc n) - 1 ≡ suc n = omega arith in let none : suc n - 1 ≡ n = omega arith in
+        ap (λ k. take k (x ∷ y ∷ ys)) one ∙ ap (λ k. x ∷ take k (y ∷ ys)) (sym none) ∙ ap (λ qs. x ∷ qs) (go (y ∷ ys))
 
 -- the pieces with a byte behind the last
 abbrev onto_last : List (List ℕ) → ℕ → List (List ℕ)
@@ -81,20 +115,21 @@ all_but_last-onto (p ∷ q ∷ []) b = refl
 all_but_last-onto (p ∷ q ∷ r ∷ ps) b = ap (λ qs. p ∷ qs) (all_but_last-onto (q ∷ r ∷ ps) b)
 
 pub whole_lines_of-newline : (text : List ℕ) → whole_lines_of (text ++ 10 ∷ []) ≡ whole_lines_of text ++ unfinished_line_of text ∷ []
-unfolding whole_lines_of unfinished_line_of
-whole_lines_of-newline text = ap all_but_last (pieces_of-newline text) ∙ all_but_last-append (pieces_of text) (some_pieces text)
+whole_lines_of-newline text =
+    whole_are (text ++ 10 ∷ []) ∙ ap all_but_last (pieces_of-newline text) ∙ all_but_last-append (pieces_of text) (some_pieces text)
+    ∙ sym (ap₂ (λ ls l. ls ++ l ∷ []) (whole_are text) (unfinished_is text))
 
 pub unfinished_line_of-newline : (text : List ℕ) → unfinished_line_of (text ++ 10 ∷ []) ≡ []
-unfolding unfinished_line_of
-unfinished_line_of-newline text = ap last_of (pieces_of-newline text) ∙ last_of-append (pieces_of text)
+unfinished_line_of-newline text = unfinished_is (text ++ 10 ∷ []) ∙ ap last_of (pieces_of-newline text) ∙ last_of-append (pieces_of text)
 
 pub whole_lines_of-byte : (text : List ℕ) (b : ℕ) → (b == 10) ≡ false → whole_lines_of (text ++ b ∷ []) ≡ whole_lines_of text
-unfolding whole_lines_of
-whole_lines_of-byte text b other = ap all_but_last (pieces_of-byte text b other) ∙ all_but_last-onto (pieces_of text) b
+whole_lines_of-byte text b other =
+    whole_are (text ++ b ∷ []) ∙ ap all_but_last (pieces_of-byte text b other) ∙ all_but_last-onto (pieces_of text) b ∙ sym (whole_are text)
 
 pub unfinished_line_of-byte : (text : List ℕ) (b : ℕ) → (b == 10) ≡ false → unfinished_line_of (text ++ b ∷ []) ≡ unfinished_line_of text ++ b ∷ []
-unfolding unfinished_line_of
-unfinished_line_of-byte text b other = ap last_of (pieces_of-byte text b other) ∙ last_of-onto (pieces_of text) b (some_pieces text)
+unfinished_line_of-byte text b other =
+    unfinished_is (text ++ b ∷ []) ∙ ap last_of (pieces_of-byte text b other) ∙ last_of-onto (pieces_of text) b (some_pieces text)
+    ∙ ap (λ l. l ++ b ∷ []) (sym (unfinished_is text))
 
 -- more bytes with no newline, one by one
 moved_on : (text : List ℕ) (b : ℕ) (part : List ℕ) → text ++ b ∷ part ≡ (text ++ b ∷ []) ++ part

@@ -4,7 +4,7 @@ use Rattle.std.specs.Prelude.{max, MatchOption, None, Option, Some}
 use Rattle.std.specs.List.{AllByRecursion}
 use Rattle.std.proofs.lemmas.Nat.{mul-le}
 use Rattle.art_operations.specs.Openings.{ReadsAtLeast}
-use Rattle.art_engine.specs.Counts.{longest, listing, exactly, opening, GrewBy, Grew}
+use Rattle.art_engine.specs.Counts.{longest, listing, exactly, GrewBy, Grew}
 use Rattle.art_engine.proofs.Filters.{All-map}
 
 module _ {X : Type 0} (key : X → List ℕ) where
@@ -23,7 +23,7 @@ pub longest_by_keys : {X Y : Type 0} (key : X → List ℕ) (other : Y → List 
 longest_by_keys key other xs ys same = longest-map key xs ∙ ap (longest (λ (k : List ℕ). k)) same ∙ sym (longest-map other ys)
 
 -- both ends of a run are found, and then a leaf is read for each record
-pub listing_grew : (bound full longest old mid new m : ℕ) → ReadsAtLeast 0 old mid → mid ≤ old + (full + 6) * (longest + 2) → full ≡ bound + 4 → m < 2 ^ 64 → GrewBy m mid new → Grew (listing m (opening bound longest)) old new
+pub listing_grew : (bound full longest old mid new m : ℕ) → ReadsAtLeast 0 old mid → mid ≤ old + (full + 6) * (longest + 2) → full ≡ bound + 4 → m < 2 ^ 64 → GrewBy m mid new → Grew (listing m bound longest) old new
 listing_grew bound full longest old mid new m kept few whole fits is =
     let cost : (full + 6) * (longest + 2) ≤ 2 * (bound + 6) * (longest + 2) = mul-le (full + 6) (longest + 2) (2 * (bound + 6)) (longest + 2) (omega arith) (omega arith) in
     let before : min (old + 0) (2 ^ 64 - 1) ≤ mid = kept in let low = is.0 in let high = is.1 in

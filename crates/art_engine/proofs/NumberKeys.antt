@@ -18,12 +18,13 @@ use Rattle.std.proofs.Math.Seq.{take-append_seam, drop-append_seam}
 use Rattle.art_bytes.specs.Keys.{bytes_cmp, Conflict, IsBefore}
 use Rattle.art_bytes.specs.Numbers.{big_endian, flipped, top_bit}
 use Rattle.art_bytes.specs.Laws.{pair_key}
-use Rattle.art_bytes.specs.inner.FlipLaws.{flipped-bound}
-use Rattle.art_bytes.specs.inner.KeyLaws.{BeginsWith-same_length}
-use Rattle.art_bytes.specs.inner.PairLaws.{pair_keys}
+use Rattle.art_bytes.specs.lemmas.FlipLaws.{flipped-bound}
+use Rattle.art_bytes.specs.lemmas.KeyLaws.{BeginsWith-same_length}
+use Rattle.art_bytes.specs.lemmas.PairLaws.{pair_keys}
 use Rattle.art_bytes.proofs.Order.{cmp_before, before_cmp}
 use Rattle.art_engine.specs.Keys.{number_of_bytes}
 use Rattle.art_engine.proofs.FullKeys.{cmp_low, cmp_high, cmp_itself}
+use Rattle.art_engine.proofs.Standing.{lt_is}
 
 -- a tenant and a number have bytes of their own
 abbrev pub HaveBytes : ℕ → ℤ → Type 0
@@ -41,7 +42,7 @@ tenant_back t n small =
     let front : take 4 (to_be_bytes w32 t ++ big_endian 8 (flipped w64 n)) ≡ to_be_bytes w32 t = take-append_seam (to_be_bytes w32 t) (big_endian 8 (flipped w64 n)) in
     ap (from_be_bytes w32) front ∙ from_be_bytes-to_be_bytes_4 t small
 
-flip_back : (x top : ℕ) → bit_xor (bit_xor x top) top ≡ x
+pub flip_back : (x top : ℕ) → bit_xor (bit_xor x top) top ≡ x
 flip_back x top = xor_assoc x top top ∙ ap (bit_xor x) (xor_self top) ∙ xor_zero_r x
 
 pub number_back : (t : ℕ) (n : ℤ) → FitsSigned w64 n → number_of_bytes (drop 4 (pair_key (t, n))) ≡ n
@@ -120,17 +121,12 @@ lt-stands_before u t m n = elim (cases_lt u t) [
   ]
 ]
 
-is_less : (o : Ordering) → is_lt o ≡ true → o ≡ Less
-is_less Less h = refl
-is_less Equal h = cc
-is_less Greater h = cc
-
 -- so one is before another exactly where the test says so
 pub before_tested : (u t : ℕ) (m n : ℤ) → HaveBytes u m → HaveBytes t n → IsBefore (pair_key (u, m)) (pair_key (t, n)) → stands_before u m t n ≡ true
 before_tested u t m n hu ht b = sym (lt-stands_before u t m n) ∙ ap is_lt (before_lower u t m n hu ht b)
 
 pub tested_before : (u t : ℕ) (m n : ℤ) → HaveBytes u m → HaveBytes t n → stands_before u m t n ≡ true → IsBefore (pair_key (u, m)) (pair_key (t, n))
-tested_before u t m n hu ht e = lower_before u t m n hu ht (is_less _ (lt-stands_before u t m n ∙ e))
+tested_before u t m n hu ht e = lower_before u t m n hu ht (lt_is _ (lt-stands_before u t m n ∙ e))
 
 -- of two that are not the same, one is before the other
 pub one_is_before : (u t : ℕ) (m n : ℤ) → stands_before u m t n ≡ false → ((u == t) && int_eq m n) ≡ false → stands_before t n u m ≡ true

@@ -1,6 +1,6 @@
 -- How a look-up, a put and a deletion at a tenant's number are answered, and what they leave, from what the map says of its pairs.
 use Rattle.std.proofs.Common.{◌≡◌, ℕ, ℤ, List, [], ◌∷◌, ◌++◌, map, take, drop, refl, ap, ap₂, sym, ◌∙◌, subst, Bool, true, false, not, cond, Option, Some, None, bytes_eq, inl, inr}
-use Rattle.std.specs.Prelude.{◌==◌, ◌||◌, ◌&&◌, nat_lt, int_lt, filter, option_map, codes, IsSome}
+use Rattle.std.specs.Prelude.{◌==◌, ◌||◌, ◌&&◌, nat_lt, int_lt, filter, option_map, IsSome}
 use Rattle.std.specs.Global.{Vec}
 use Rattle.std.specs.Int.{from_be_bytes, w32}
 use Rattle.std.specs.List.{AllByRecursion, find}
@@ -18,15 +18,15 @@ use Rattle.art_arena.specs.tree.Shrinks.{Shrinks}
 use Rattle.art_arena.proofs.tree.Exists.{before_true, true_before, put_is}
 use Rattle.art_operations.specs.KeyedLists.{HasKey, without_key}
 use Rattle.art_operations.proofs.LeafPairs.{shrinks-map, shrinks-unmap}
-use Rattle.art_engine.specs.declared.placed.Placed.TheVariants as placed
+use Rattle.art_engine.specs.declared.change.Changed.TheVariants as changed
 use Rattle.art_lines.specs.Commands.{of_tenant, nput, ndel}
 use Rattle.art_engine.specs.Keys.{number_key_of, number_of_bytes, number_pair}
 use Rattle.art_engine.specs.Records.{NumberRecord, NumberFits, own, InOrder, NumberComesBefore}
-use Rattle.art_engine.specs.Replies.{value_at_number, with_number, without_number}
-use Rattle.art_lines.specs.ReplyWords.{found_or, put_reply}
+use Rattle.art_engine.specs.Replies.{value_at, with_pair, without_at}
+use Rattle.art_lines.specs.ReplyWords.{put_reply}
 use Rattle.art_engine.specs.Stored.{NumberPair, number_record_of, number_records_of, IsNumberPair, AreNumberPairs}
-use Rattle.art_engine.specs.Changed.{IsChangeDone, placed_words}
-use Rattle.art_engine.proofs.Changing.{itself, some_mapped}
+use Rattle.art_engine.specs.Changed.{IsChangeDone, changed_words}
+use Rattle.art_engine.proofs.Changing.{itself, some_mapped, gone_words, absent_words}
 use Rattle.art_engine.proofs.Dropping.{All-filter, All-left_out, All-put, IsOwnTest, own_filter, own_find, left_in_place}
 use Rattle.art_engine.proofs.Filters.{filter-none, All-map, All-append}
 use Rattle.art_engine.proofs.OwnLaws.{number_part, number_made, number_ascends, records_from_lists}
@@ -41,7 +41,7 @@ number_bytes p = p.0
 -- a pair stands under the bytes of its record, which fits
 pub record StandsUnder (p : NumberPair) : Type 0 where
   pub key : IsNumberPair p
-  pub fits : HaveBytes (number_record_of p).tenant (number_record_of p).number
+  pub fits : HaveBytes (number_record_of p).tenant (number_record_of p).key
 
 pub stand_all : (ns : List NumberPair) → AllByRecursion IsNumberPair ns → AllByRecursion NumberFits (map number_record_of ns) → AllByRecursion StandsUnder ns
 stand_all [] full fits = tt
@@ -69,10 +69,10 @@ order_behind : (p : NumberPair) (ns : List NumberPair) → StandsUnder p → All
 order_behind p [] here stand order = tt
 order_behind p (q ∷ ns) here stand order =
     let r = number_record_of p in let s = number_record_of q in
-    let before = subst (λ a. IsBefore a (pair_key (s.tenant, s.number))) here.key (subst (IsBefore p.0) stand.0.key order.0) in
-    (comes r s (nat_lt r.tenant s.tenant) (r.tenant == s.tenant) (int_lt r.number s.number) refl refl refl (before_tested r.tenant s.tenant r.number s.number here.fits stand.0.fits before), order_behind p ns here stand.1 order.1)
+    let before = subst (λ a. IsBefore a (pair_key (s.tenant, s.key))) here.key (subst (IsBefore p.0) stand.0.key order.0) in
+    (comes r s (nat_lt r.tenant s.tenant) (r.tenant == s.tenant) (int_lt r.key s.key) refl refl refl (before_tested r.tenant s.tenant r.key s.key here.fits stand.0.fits before), order_behind p ns here stand.1 order.1)
   where
-    comes : (r s : NumberRecord) (a b c : Bool) → nat_lt r.tenant s.tenant ≡ a → (r.tenant == s.tenant) ≡ b → int_lt r.number s.number ≡ c → (a || (b && c)) ≡ true → NumberComesBefore r s
+    comes : (r s : NumberRecord) (a b c : Bool) → nat_lt r.tenant s.tenant ≡ a → (r.tenant == s.tenant) ≡ b → int_lt r.key s.key ≡ c → (a || (b && c)) ≡ true → NumberComesBefore r s
     comes r s true b c e f g h = inl (ltb-true r.tenant s.tenant e)
     comes r s false true true e f g h = inr (eqb-true r.tenant s.tenant f, g)
     comes r s false true false e f g h = cc
@@ -116,13 +116,13 @@ module _ (T : List ℕ → Bool) (Q : NumberRecord → Bool) where
 -- a test of the bytes of a tenant's numbers
 module _ (t : ℕ) (T : List ℕ → Bool) (G : ℤ → Bool) (tests : (u : ℕ) (m : ℤ) → HaveBytes u m → T (pair_key (u, m)) ≡ ((u == t) && G m)) where
   abbrev pub of_mine : NumberRecord → Bool
-  of_mine r = (r.tenant == t) && G r.number
+  of_mine r = (r.tenant == t) && G r.key
 
   pub tests_same : (ns : List NumberPair) → AllByRecursion StandsUnder ns → AllByRecursion (λ p. T p.0 ≡ of_mine (number_record_of p)) ns
   tests_same [] stand = tt
   tests_same (p ∷ ns) stand =
       let r = number_record_of p in
-      (ap T stand.0.key ∙ tests r.tenant r.number stand.0.fits, tests_same ns stand.1)
+      (ap T stand.0.key ∙ tests r.tenant r.key stand.0.fits, tests_same ns stand.1)
 
   own_tests : (rs : List NumberRecord) → AllByRecursion (IsOwnTest (λ (r : NumberRecord). r.tenant) number_part t of_mine (λ p. G p.0)) rs
   own_tests [] = tt
@@ -162,7 +162,7 @@ module _ (t : ℕ) (n : ℤ) (fits : HaveBytes t n) where
   key_tests u m h = same_numbers u t m n h fits
 
   -- the value under the bytes of a tenant's number is the one at it
-  pub number_found : (ns : List NumberPair) → AllByRecursion StandsUnder ns → option_map (λ v. v.items) (lookup is_number_key ns) ≡ value_at_number n (own t (number_records_of ns)).numbers
+  pub number_found : (ns : List NumberPair) → AllByRecursion StandsUnder ns → option_map (λ v. v.items) (lookup is_number_key ns) ≡ value_at int_eq n (own t (number_records_of ns)).numbers
   number_found ns stand =
       let Q : NumberRecord → Bool = of_mine t is_number_key (λ m. int_eq m n) key_tests in
       numbers_lookup is_number_key Q ns (tests_same t is_number_key (λ m. int_eq m n) key_tests ns stand)
@@ -211,9 +211,9 @@ module _ (t : ℕ) (n : ℤ) (fits : HaveBytes t n) where
   else_higher : (p : NumberPair) → StandsUnder p → lower p ≡ false → is_number_key p.0 ≡ false → higher p ≡ true
   else_higher p stand e f =
       let r = number_record_of p in
-      let no : stands_before r.tenant r.number t n ≡ false = sym (tested r.tenant t r.number n stand.fits fits) ∙ ap (λ k. is_before k (pair_key (t, n))) (sym stand.key) ∙ e in
-      let other : ((r.tenant == t) && int_eq r.number n) ≡ false = sym (key_tests r.tenant r.number stand.fits) ∙ ap is_number_key (sym stand.key) ∙ f in
-      ap (is_before (pair_key (t, n))) stand.key ∙ tested t r.tenant n r.number fits stand.fits ∙ one_is_before r.tenant t r.number n no other
+      let no : stands_before r.tenant r.key t n ≡ false = sym (tested r.tenant t r.key n stand.fits fits) ∙ ap (λ k. is_before k (pair_key (t, n))) (sym stand.key) ∙ e in
+      let other : ((r.tenant == t) && int_eq r.key n) ≡ false = sym (key_tests r.tenant r.key stand.fits) ∙ ap is_number_key (sym stand.key) ∙ f in
+      ap (is_before (pair_key (t, n))) stand.key ∙ tested t r.tenant n r.key fits stand.fits ∙ one_is_before r.tenant t r.key n no other
 
   -- so the pairs without one at it are those before it and those behind it
   pub parts_of : (ns : List NumberPair) → AllByRecursion StandsUnder ns → AscendsByKey number_bytes ns → filter (λ p. not (is_number_key p.0)) ns ≡ filter lower ns ++ filter higher ns
@@ -282,14 +282,14 @@ module _ (t : ℕ) (n : ℤ) (fits : HaveBytes t n) where
           (All-put NumberFits number_record_of number_bytes (λ p. not (bytes_eq (number_bytes p) (number_bytes e))) e ns are.fit (subst NumberFits (sym made_is) fit));
     }
 
-    lower_same : (ns : List NumberPair) → AllByRecursion StandsUnder ns → AllByRecursion (λ p. is_before p.0 (pair_key (t, n)) ≡ stands_before (number_record_of p).tenant (number_record_of p).number t n) ns
+    lower_same : (ns : List NumberPair) → AllByRecursion StandsUnder ns → AllByRecursion (λ p. is_before p.0 (pair_key (t, n)) ≡ stands_before (number_record_of p).tenant (number_record_of p).key t n) ns
     lower_same [] h = tt
     lower_same (p ∷ ns) h =
         let r = number_record_of p in
-        (ap (λ k. is_before k (pair_key (t, n))) h.0.key ∙ tested r.tenant t r.number n h.0.fits fits, lower_same ns h.1)
+        (ap (λ k. is_before k (pair_key (t, n))) h.0.key ∙ tested r.tenant t r.key n h.0.fits fits, lower_same ns h.1)
 
     abbrev stands_behind : NumberRecord → Bool
-    stands_behind r = nat_lt t r.tenant || ((r.tenant == t) && int_lt n r.number)
+    stands_behind r = nat_lt t r.tenant || ((r.tenant == t) && int_lt n r.key)
 
     turned : (u : ℕ) (m : ℤ) → stands_before t n u m ≡ (nat_lt t u || ((u == t) && int_lt n m))
     turned u m = ap (λ b. nat_lt t u || (b && int_lt n m)) (eq_turned t u)
@@ -298,46 +298,40 @@ module _ (t : ℕ) (n : ℤ) (fits : HaveBytes t n) where
     higher_same [] h = tt
     higher_same (p ∷ ns) h =
         let r = number_record_of p in
-        (ap (is_before (pair_key (t, n))) h.0.key ∙ tested t r.tenant n r.number fits h.0.fits ∙ turned r.tenant r.number, higher_same ns h.1)
+        (ap (is_before (pair_key (t, n))) h.0.key ∙ tested t r.tenant n r.key fits h.0.fits ∙ turned r.tenant r.key, higher_same ns h.1)
 
     pub nput_records : map number_record_of new
-        ≡ filter (λ r. nat_lt r.tenant t) (map number_record_of ns) ++ map (number_made t) (with_number n v (own t (number_records_of ns)).numbers) ++ filter (λ r. nat_lt t r.tenant) (map number_record_of ns)
+        ≡ filter (λ r. nat_lt r.tenant t) (map number_record_of ns) ++ map (number_made t) (with_pair int_lt n v (own t (number_records_of ns)).numbers) ++ filter (λ r. nat_lt t r.tenant) (map number_record_of ns)
     nput_records =
         let rs : List NumberRecord = map number_record_of ns in
         ap (map number_record_of) new_is ∙ map-append number_record_of (filter lower ns) (e ∷ filter higher ns)
         ∙ ap₂ (λ a b. a ++ number_record_of e ∷ b)
-        (numbers_filter (λ k. is_before k (pair_key (t, n))) (λ r. stands_before r.tenant r.number t n) ns (lower_same ns stand))
+        (numbers_filter (λ k. is_before k (pair_key (t, n))) (λ r. stands_before r.tenant r.key t n) ns (lower_same ns stand))
         (numbers_filter (is_before (pair_key (t, n))) stands_behind ns (higher_same ns stand))
-        ∙ ap (λ r. filter (λ r. stands_before r.tenant r.number t n) rs ++ r ∷ filter stands_behind rs) made_is
+        ∙ ap (λ r. filter (λ r. stands_before r.tenant r.key t n) rs ++ r ∷ filter stands_behind rs) made_is
         ∙ cut_put (λ (r : NumberRecord). r.tenant) number_part number_made (λ t p. refl) (λ t p. refl) (λ x. refl) t rs (number_ascends rs (numbers_order ns stand are.ascend))
         (λ p. int_lt p.0 n) (λ p. int_lt n p.0) (n, v)
 
-    old_words : (w : Vec ℕ) (o : Option (List ℕ)) → o ≡ Some w.items → placed_words (placed.Old w) ∷ [] ≡ put_reply o false ∷ []
+    old_words : (w : Vec ℕ) (o : Option (List ℕ)) → o ≡ Some w.items → changed_words (changed.Old w) ∷ [] ≡ put_reply o false ∷ []
     old_words w o e = rw e refl
 
-    new_words : (o : Option (List ℕ)) → o ≡ None → placed_words placed.New ∷ [] ≡ put_reply o false ∷ []
+    new_words : (o : Option (List ℕ)) → o ≡ None → changed_words changed.New ∷ [] ≡ put_reply o false ∷ []
     new_words o e = rw e refl
 
-    pub nput_old : (old : Vec ℕ) → Some old ≡ lookup is_number_key ns → IsChangeDone (placed.Old old) (of_tenant t (nput n v)) (number_records_of ns) (number_records_of new)
+    pub nput_old : (old : Vec ℕ) → Some old ≡ lookup is_number_key ns → IsChangeDone (changed.Old old) (of_tenant t (nput n v)) (number_records_of ns) (number_records_of new)
     nput_old old some = (
-      old_words old (value_at_number n (own t (number_records_of ns)).numbers) (sym (ap (option_map (λ (w : Vec ℕ). w.items)) some ∙ number_found ns stand)),
+      old_words old (value_at int_eq n (own t (number_records_of ns)).numbers) (sym (ap (option_map (λ (w : Vec ℕ). w.items)) some ∙ number_found ns stand)),
       records_from_lists _ _ _ _ refl nput_records,
     )
 
-    pub nput_new : None ≡ lookup is_number_key ns → IsChangeDone placed.New (of_tenant t (nput n v)) (number_records_of ns) (number_records_of new)
+    pub nput_new : None ≡ lookup is_number_key ns → IsChangeDone changed.New (of_tenant t (nput n v)) (number_records_of ns) (number_records_of new)
     nput_new none = (
-      new_words (value_at_number n (own t (number_records_of ns)).numbers) (sym (ap (option_map (λ (w : Vec ℕ). w.items)) none ∙ number_found ns stand)),
+      new_words (value_at int_eq n (own t (number_records_of ns)).numbers) (sym (ap (option_map (λ (w : Vec ℕ). w.items)) none ∙ number_found ns stand)),
       records_from_lists _ _ _ _ refl nput_records,
     )
 
   -- the pairs without the one at it
   module _ (ns new : List NumberPair) (are : AreNumberPairs ns) where
-    gone_words : (v : Vec ℕ) (o : Option (List ℕ)) → o ≡ Some v.items → placed_words (placed.Gone v) ∷ [] ≡ found_or o (codes "gone") (codes "none") ∷ []
-    gone_words v o e = rw e refl
-
-    absent_words : (o : Option (List ℕ)) → o ≡ None → placed_words placed.Absent ∷ [] ≡ found_or o (codes "gone") (codes "none") ∷ []
-    absent_words o e = rw e refl
-
     all_stand : AllByRecursion StandsUnder ns
     all_stand = stand_all ns are.stand are.fit
 
@@ -349,20 +343,20 @@ module _ (t : ℕ) (n : ℤ) (fits : HaveBytes t n) where
     })
 
     ndel_records : new ≡ without_key number_bytes (pair_key (t, n)) ns → map number_record_of new
-        ≡ filter (λ r. nat_lt r.tenant t) (map number_record_of ns) ++ map (number_made t) (without_number n (own t (number_records_of ns)).numbers) ++ filter (λ r. nat_lt t r.tenant) (map number_record_of ns)
+        ≡ filter (λ r. nat_lt r.tenant t) (map number_record_of ns) ++ map (number_made t) (without_at int_eq n (own t (number_records_of ns)).numbers) ++ filter (λ r. nat_lt t r.tenant) (map number_record_of ns)
     ndel_records is = ap (map number_record_of) is ∙ numbers_without t is_number_key (λ m. int_eq m n) key_tests ns all_stand are.ascend
 
     pub ndel_gone : (v : Vec ℕ) → Some v ≡ lookup is_number_key ns → new ≡ without_key number_bytes (pair_key (t, n)) ns
-        → IsChangeDone (placed.Gone v) (of_tenant t (ndel n)) (number_records_of ns) (number_records_of new)
+        → IsChangeDone (changed.Gone v) (of_tenant t (ndel n)) (number_records_of ns) (number_records_of new)
     ndel_gone v some is = (
-      gone_words v (value_at_number n (own t (number_records_of ns)).numbers) (sym (ap (option_map (λ (w : Vec ℕ). w.items)) some ∙ number_found ns all_stand)),
+      gone_words v (value_at int_eq n (own t (number_records_of ns)).numbers) (sym (ap (option_map (λ (w : Vec ℕ). w.items)) some ∙ number_found ns all_stand)),
       records_from_lists _ _ _ _ refl (ndel_records is),
     )
 
     pub ndel_absent : None ≡ lookup is_number_key ns → new ≡ without_key number_bytes (pair_key (t, n)) ns
-        → IsChangeDone placed.Absent (of_tenant t (ndel n)) (number_records_of ns) (number_records_of new)
+        → IsChangeDone changed.Absent (of_tenant t (ndel n)) (number_records_of ns) (number_records_of new)
     ndel_absent none is = (
-      absent_words (value_at_number n (own t (number_records_of ns)).numbers) (sym (ap (option_map (λ (w : Vec ℕ). w.items)) none ∙ number_found ns all_stand)),
+      absent_words (value_at int_eq n (own t (number_records_of ns)).numbers) (sym (ap (option_map (λ (w : Vec ℕ). w.items)) none ∙ number_found ns all_stand)),
       records_from_lists _ _ _ _ refl (ndel_records is),
     )
 
@@ -376,7 +370,7 @@ module _ (t : ℕ) (n : ℤ) (fits : HaveBytes t n) where
         go false e (inr later) rest = rest later
 
     pub ndel_refused : new ≡ ns → HasKey number_bytes (pair_key (t, n)) ns × Shrinks number_bytes ns (pair_key (t, n))
-        → IsChangeDone placed.Memory (of_tenant t (ndel n)) (number_records_of ns) (number_records_of new)
+        → IsChangeDone changed.Memory (of_tenant t (ndel n)) (number_records_of ns) (number_records_of new)
     ndel_refused same h = (
       ap number_records_of same,
       (

@@ -1,15 +1,15 @@
 -- A pair that is put in the place of all whose keys overlap its key.
-use Rattle.std.proofs.Common.{◌≡◌, ℕ, ◌<◌, ◌^◌, List, [], ◌∷◌, ◌++◌, length, map, refl, ap, sym, ◌∙◌, subst, Bool, true, false, not, cond, inl, inr}
+use Rattle.std.proofs.Common.{◌≡◌, ℕ, ◌<◌, ◌^◌, List, [], ◌∷◌, ◌++◌, length, map, refl, ap, sym, ◌∙◌, subst, Bool, true, false, not, cond}
 use Rattle.std.specs.Prelude.{nat_lt, filter}
 use Rattle.std.specs.List.{AllByRecursion}
 use Rattle.std.specs.Str.{bytes_eq}
-use Rattle.std.proofs.lemmas.Bool.{eq-eqb, true≢false, or_left, or_right}
+use Rattle.std.proofs.lemmas.Bool.{true≢false}
 use Rattle.std.proofs.lemmas.Slice.Eq.{bytes_eq-Decides}
-use Rattle.art_bytes.specs.Keys.{BeginsWith, Conflict}
+use Rattle.art_bytes.specs.Keys.{is_below}
 use Rattle.art_arena.specs.tree.Changes.{put_in_order}
-use Rattle.art_arena.specs.tree.Tenants.{begins_with}
 use Rattle.art_arena.proofs.tree.Insert.{all_at}
 use Rattle.art_operations.specs.KeyedLists.{IsBlocked, overlaps, overlapping, without_key, without_overlapping}
+use Rattle.art_operations.proofs.Overlaps.{overlaps_same, overlaps_conflict}
 use Rattle.art_lines.specs.Keys.{full_key}
 use Rattle.art_engine.specs.Records.{KeyRecord, KeyFits, own, with_own}
 use Rattle.art_engine.specs.Replies.{overlapped, with_pair, with_value_over}
@@ -22,25 +22,6 @@ use Rattle.art_engine.proofs.OwnLaws.{key_part, key_made, records_from_lists}
 use Rattle.art_engine.proofs.Placing.{full_record, IsPutAmong, put_among}
 use Rattle.art_engine.proofs.Putting.{pairs_of_tenant}
 use Rattle.art_engine.proofs.Removing.{IsFullTest, passing, without_keeps, without_mine, without_before, without_behind}
-
-begins_itself : (k rest : List ℕ) → begins_with k (k ++ rest) ≡ true
-begins_itself [] rest = refl
-begins_itself (b ∷ k) rest = rw (eq-eqb b b refl) (begins_itself k rest)
-
-begun : (front k : List ℕ) → BeginsWith front k → begins_with front k ≡ true
-begun front k (rest, e) = ap (begins_with front) e ∙ begins_itself front rest
-
--- keys that are the same or in conflict overlap
-conflict_overlaps : (k l : List ℕ) → Conflict k l → overlaps k l ≡ true
-conflict_overlaps k l (differ, inl front) = or_left _ _ (begun k l front)
-conflict_overlaps k l (differ, inr front) = or_right _ _ (begun l k front)
-
-same_overlaps : (k l : List ℕ) → k ≡ l → overlaps k l ≡ true
-same_overlaps k l e = or_left _ _ (begun k l ([], sym e ∙ sym (end k)))
-  where
-    end : (k : List ℕ) → k ++ [] ≡ k
-    end [] = refl
-    end (b ∷ k) = ap (λ r. b ∷ r) (end k)
 
 module _ {X : Type 0} where
   All-passes : (p : X → Bool) (xs : List X) → AllByRecursion (λ x. p x ≡ true) (filter p xs)
@@ -66,12 +47,12 @@ module _ (k : List ℕ) (ps : List Pair) where
         where
           go : (b : Bool) → bytes_eq (bytes_of p) k ≡ b → not b ≡ true
           go false e = refl
-          go true e = absurd (not_true _ h (same_overlaps k (bytes_of p) (sym ((bytes_eq-Decides (bytes_of p) k).0 e))))
+          go true e = absurd (not_true _ h (overlaps_same k (bytes_of p) ((bytes_eq-Decides (bytes_of p) k).0 e)))
 
   none_blocks : IsBlocked bytes_of k (without_overlapping bytes_of k ps) → ⊥
   none_blocks (p, i, c) =
       not_true _ (all_at (λ p. not (overlaps k (bytes_of p)) ≡ true) p (without_overlapping bytes_of k ps) (All-passes (λ p. not (overlaps k (bytes_of p))) ps) i)
-      (conflict_overlaps k (bytes_of p) c)
+      (overlaps_conflict k (bytes_of p) c)
 
 module _ (t : ℕ) (k v : List ℕ) (ps new : List Pair) (e : Pair) (are : AreFull ps) (fits : t < 2 ^ 32) (full : bytes_of e ≡ full_key t k) (value : e.1.items ≡ v)
     (is : new ≡ put_in_order bytes_of e (without_overlapping bytes_of (bytes_of e) ps)) where
@@ -98,7 +79,7 @@ module _ (t : ℕ) (k v : List ℕ) (ps new : List Pair) (e : Pair) (are : AreFu
   pub over_records : records_of new
       ≡ with_own t (record { keys = with_value_over k v (own t (records_of ps)).keys; numbers = (own t (records_of ps)).numbers }) (records_of ps)
   over_records =
-      let F : List KeyRecord → List (List ℕ × List ℕ) → List KeyRecord → List KeyRecord = λ a b c. a ++ map (key_made t) (with_pair k v b) ++ c in
+      let F : List KeyRecord → List (List ℕ × List ℕ) → List KeyRecord → List KeyRecord = λ a b c. a ++ map (key_made t) (with_pair is_below k v b) ++ c in
       let rs : List KeyRecord = map record_of ps in
       let qs : List KeyRecord = map record_of (without_overlapping bytes_of (full_key t k) ps) in
       done.records_are ∙ records_from_lists _ _ _ _

@@ -7,12 +7,12 @@ use Rattle.std.specs.Int.{w64}
 use Rattle.art_arena.specs.tree.Tenants.{begins_with, with_front}
 use Rattle.art_lines.specs.Keys.{full_key}
 use Rattle.art_engine.specs.Keys.{number_of_bytes}
-use Rattle.art_engine.specs.Records.{Own, NumberRecord}
+use Rattle.art_engine.specs.Records.{NumberRecord}
 use Rattle.art_engine.specs.Stored.{NumberPair, number_record_of}
 use Rattle.art_engine.specs.Laws.{OwnIsBehindFront}
 use Rattle.art_engine.proofs.FullKeys.{begins-full_key, behind_front, keeps_both}
 use Rattle.art_engine.proofs.NumberPlaces.{StandsUnder, stand_all}
-use Rattle.art_engine.proofs.OwnLaws.{number_part}
+use Rattle.art_engine.proofs.OwnLaws.{number_part, own_from}
 
 abbrev cut_off : NumberPair → ℤ × List ℕ
 cut_off p = (number_of_bytes (drop 4 p.0), p.1.items)
@@ -21,7 +21,7 @@ cut_off p = (number_of_bytes (drop 4 p.0), p.1.items)
 pub begins_number : (t : ℕ) (p : NumberPair) → t < 2 ^ 32 → StandsUnder p → begins_with (full_key t []) p.0 ≡ ((number_record_of p).tenant == t)
 begins_number t p small stand =
     let r = number_record_of p in
-    ap (begins_with (full_key t [])) stand.key ∙ begins-full_key t r.tenant (big_endian 8 (flipped w64 r.number)) small stand.fits.0
+    ap (begins_with (full_key t [])) stand.key ∙ begins-full_key t r.tenant (big_endian 8 (flipped w64 r.key)) small stand.fits.0
 
 numbers_behind : (t : ℕ) → t < 2 ^ 32 → (ns : List NumberPair) → AllByRecursion StandsUnder ns
     → map number_part (filter (λ (r : NumberRecord). r.tenant == t) (map number_record_of ns)) ≡ map cut_off (with_front (λ (p : NumberPair). p.0) (full_key t []) ns)
@@ -31,10 +31,6 @@ numbers_behind t small (p ∷ ns) stand =
     keeps_both number_part cut_off (r.tenant == t) (begins_with (full_key t []) p.0) r p
     (filter (λ (r : NumberRecord). r.tenant == t) (map number_record_of ns)) (with_front (λ (p : NumberPair). p.0) (full_key t []) ns) (sym (begins_number t p small stand.0)) refl (numbers_behind t small ns stand.1)
 
-both : (k k' : List (List ℕ × List ℕ)) (n n' : List (ℤ × List ℕ)) → k ≡ k' → n ≡ n'
-    → (let o : Own = record { keys = k; numbers = n } in o) ≡ (let o : Own = record { keys = k'; numbers = n' } in o)
-both k k' n n' e f = rw (e, f) refl
-
 pub own_is_behind_front : OwnIsBehindFront
 own_is_behind_front t ps ns small are_keys are_numbers =
-    both _ _ _ _ (behind_front t small ps are_keys.full are_keys.tenants) (numbers_behind t small ns (stand_all ns are_numbers.stand are_numbers.fit))
+    own_from _ _ _ _ (behind_front t small ps are_keys.full are_keys.tenants) (numbers_behind t small ns (stand_all ns are_numbers.stand are_numbers.fit))

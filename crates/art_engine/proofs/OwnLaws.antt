@@ -135,12 +135,12 @@ abbrev pub key_made : ℕ → List ℕ × List ℕ → KeyRecord
 key_made t p = record { tenant = t; key = p.0; value = p.1 }
 
 abbrev pub number_part : NumberRecord → ℤ × List ℕ
-number_part r = (r.number, r.value)
+number_part r = (r.key, r.value)
 
 abbrev pub number_made : ℕ → ℤ × List ℕ → NumberRecord
-number_made t p = record { tenant = t; number = p.0; value = p.1 }
+number_made t p = record { tenant = t; key = p.0; value = p.1 }
 
-own_from : (k k' : List (List ℕ × List ℕ)) (n n' : List (ℤ × List ℕ)) → k ≡ k' → n ≡ n'
+pub own_from : (k k' : List (List ℕ × List ℕ)) (n n' : List (ℤ × List ℕ)) → k ≡ k' → n ≡ n'
     → (let o : Own = record { keys = k; numbers = n } in o) ≡ (let o : Own = record { keys = k'; numbers = n' } in o)
 own_from k k' n n' e f = rw (e, f) refl
 

@@ -13,11 +13,13 @@ use Rattle.art_arena.proofs.tree.Insert.{all_at}
 use Rattle.art_lines.specs.Keys.{full_key}
 use Rattle.art_engine.specs.Keys.{full_key_of, number_key_of, number_of_bytes}
 use Rattle.art_engine.specs.Records.{KeyRecord, NumberRecord, KeyFits, NumberFits, Records, no_records, own, with_own}
-use Rattle.art_engine.specs.Replies.{value_at, value_at_number}
+use Rattle.art_engine.specs.Replies.{value_at}
 use Rattle.art_engine.specs.Laws.{DeletionsGoByOwnKeys, DeletionsGoByOwnNumbers}
 use Rattle.art_engine.proofs.FullTests.{begins_full}
 use Rattle.art_engine.proofs.NumberKeys.{number_back}
 use Rattle.art_engine.proofs.OwnLaws.{key_part, key_made, number_part, number_made, made_from_mine, own_reads_back}
+use Rattle.std.specs.Str.{bytes_eq}
+use Rattle.std.specs.Ordering.{int_eq}
 
 own_front : (t : ℕ) → t < 2 ^ 32 → (rs : List KeyRecord) → AllByRecursion KeyFits rs → with_front full_key_of (full_key t []) rs ≡ filter (λ r. r.tenant == t) rs
 own_front t small [] fits = refl
@@ -43,14 +45,14 @@ deletions_go_by_own_keys t key records other small are i mine differs =
     let shrinks = own_shrinks full_key_of front (full_key t key) records.keys (key, refl) other i begins apart in
     let keys : with_front full_key_of front records.keys ≡ (with_own t (own t records) no_records).keys = own_front t small records.keys are.keys_fit ∙ alone_is t records in
     let reads : own t (with_own t (own t records) no_records) ≡ own t records = own_reads_back t (own t records) no_records in (
-      λ h. (subst (λ o. IsSome (value_at key o.keys)) (sym reads) h.0, subst (λ rs. Shrinks full_key_of rs (full_key t key)) keys (shrinks.0 h.1)),
-      λ h. (subst (λ o. IsSome (value_at key o.keys)) reads h.0, shrinks.1 (subst (λ rs. Shrinks full_key_of rs (full_key t key)) (sym keys) h.1)),
+      λ h. (subst (λ o. IsSome (value_at bytes_eq key o.keys)) (sym reads) h.0, subst (λ rs. Shrinks full_key_of rs (full_key t key)) keys (shrinks.0 h.1)),
+      λ h. (subst (λ o. IsSome (value_at bytes_eq key o.keys)) reads h.0, shrinks.1 (subst (λ rs. Shrinks full_key_of rs (full_key t key)) (sym keys) h.1)),
     )
 
 own_number_front : (t : ℕ) → t < 2 ^ 32 → (rs : List NumberRecord) → AllByRecursion NumberFits rs → with_front number_key_of (full_key t []) rs ≡ filter (λ r. r.tenant == t) rs
 own_number_front t small [] fits = refl
 own_number_front t small (r ∷ rs) fits =
-    go (begins_with (full_key t []) (number_key_of r)) (r.tenant == t) (begins_full t r.tenant [] (big_endian 8 (flipped w64 r.number)) small fits.0.tenant_fits) (own_number_front t small rs fits.1)
+    go (begins_with (full_key t []) (number_key_of r)) (r.tenant == t) (begins_full t r.tenant [] (big_endian 8 (flipped w64 r.key)) small fits.0.tenant_fits) (own_number_front t small rs fits.1)
   where
     go : (a b : Bool) → a ≡ (b && true) → with_front number_key_of (full_key t []) rs ≡ filter (λ s. s.tenant == t) rs
         → cond a (r ∷ with_front number_key_of (full_key t []) rs) (with_front number_key_of (full_key t []) rs) ≡ cond b (r ∷ filter (λ s. s.tenant == t) rs) (filter (λ s. s.tenant == t) rs)
@@ -65,14 +67,14 @@ alone_numbers t records =
 pub deletions_go_by_own_numbers : DeletionsGoByOwnNumbers
 deletions_go_by_own_numbers t number records other small number_fits are i mine differs =
     let front : List ℕ = full_key t [] in
-    let same_front : number_key_of other ≡ pair_key (t, other.number) = ap (λ u. pair_key (u, other.number)) mine in
+    let same_front : number_key_of other ≡ pair_key (t, other.key) = ap (λ u. pair_key (u, other.key)) mine in
     let other_fits : NumberFits other = all_at NumberFits other records.numbers are.numbers_fit i in
-    let begins : BeginsWith front (number_key_of other) = (big_endian 8 (flipped w64 other.number), same_front) in
+    let begins : BeginsWith front (number_key_of other) = (big_endian 8 (flipped w64 other.key), same_front) in
     let apart : number_key_of other ≢ pair_key (t, number) =
-    λ e. differs (sym (number_back t other.number other_fits.number_fits) ∙ ap (λ k. number_of_bytes (drop 4 k)) (sym same_front ∙ e) ∙ number_back t number number_fits) in
+    λ e. differs (sym (number_back t other.key other_fits.number_fits) ∙ ap (λ k. number_of_bytes (drop 4 k)) (sym same_front ∙ e) ∙ number_back t number number_fits) in
     let shrinks = own_shrinks number_key_of front (pair_key (t, number)) records.numbers (big_endian 8 (flipped w64 number), refl) other i begins apart in
     let keys : with_front number_key_of front records.numbers ≡ (with_own t (own t records) no_records).numbers = own_number_front t small records.numbers are.numbers_fit ∙ alone_numbers t records in
     let reads : own t (with_own t (own t records) no_records) ≡ own t records = own_reads_back t (own t records) no_records in (
-      λ h. (subst (λ o. IsSome (value_at_number number o.numbers)) (sym reads) h.0, subst (λ rs. Shrinks number_key_of rs (pair_key (t, number))) keys (shrinks.0 h.1)),
-      λ h. (subst (λ o. IsSome (value_at_number number o.numbers)) reads h.0, shrinks.1 (subst (λ rs. Shrinks number_key_of rs (pair_key (t, number))) (sym keys) h.1)),
+      λ h. (subst (λ o. IsSome (value_at int_eq number o.numbers)) (sym reads) h.0, subst (λ rs. Shrinks number_key_of rs (pair_key (t, number))) keys (shrinks.0 h.1)),
+      λ h. (subst (λ o. IsSome (value_at int_eq number o.numbers)) reads h.0, shrinks.1 (subst (λ rs. Shrinks number_key_of rs (pair_key (t, number))) (sym keys) h.1)),
     )

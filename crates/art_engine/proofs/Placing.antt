@@ -10,20 +10,20 @@ use Rattle.std.specs.declared.cmp.Ordering.TheVariants.{Less, Equal, Greater}
 use Rattle.std.proofs.lemmas.List.{map-append}
 use Rattle.std.proofs.lemmas.Nat.{from_be_bytes-to_be_bytes_4}
 use Rattle.std.proofs.Math.Seq.{take-append_seam, drop-append_seam}
-use Rattle.art_bytes.specs.Keys.{IsBefore}
+use Rattle.art_bytes.specs.Keys.{IsBefore, is_below}
 use Rattle.art_arena.specs.tree.Changes.{put_in_order}
 use Rattle.art_arena.specs.tree.Order.{AscendsByKey}
 use Rattle.art_arena.proofs.shapes.Finding.{same_key, other_key}
 use Rattle.art_operations.specs.KeyedLists.{without_key, IsBlocked}
 use Rattle.art_operations.proofs.KeyedLists.{put_new, put_replaced}
-use Rattle.art_engine.specs.declared.placed.Placed.TheVariants as placed
+use Rattle.art_engine.specs.declared.change.Changed.TheVariants as changed
 use Rattle.art_lines.specs.Keys.{full_key}
 use Rattle.art_engine.specs.Keys.{full_pair}
 use Rattle.art_engine.specs.Records.{Own, KeyRecord, Records, own, with_own, InOrder, KeyComesBefore, KeyFits}
 use Rattle.art_engine.specs.Replies.{value_at, has_conflict, with_pair, puts, with_changed}
 use Rattle.art_lines.specs.ReplyWords.{put_reply}
 use Rattle.art_engine.specs.Stored.{Pair, record_of, records_of, IsFull, AreFull, ArePairs, IsOfTenant}
-use Rattle.art_engine.specs.Changed.{IsPutDone, placed_words}
+use Rattle.art_engine.specs.Changed.{IsPutDone, changed_words}
 use Rattle.art_engine.proofs.Conflicts.{bytes_of, blocked_told, free_told}
 use Rattle.art_engine.proofs.Dropping.{All-put}
 use Rattle.art_engine.proofs.Filters.{All-left, All-right}
@@ -91,25 +91,25 @@ module _ (t : ℕ) (k : List ℕ) (small : t < 2 ^ 32) where
   none [] high = refl
   none (p ∷ bs) high = rw (not_there p Greater high.0 (λ e. cc)) (none bs high.1)
 
-  found_among : (ps : List Pair) → AllByRecursion IsFull ps → Parted t k ps → option_map (λ v. v.items) (lookup (is_full_key t k) ps) ≡ value_at k (own t (records_of ps)).keys
+  found_among : (ps : List Pair) → AllByRecursion IsFull ps → Parted t k ps → option_map (λ v. v.items) (lookup (is_full_key t k) ps) ≡ value_at bytes_eq k (own t (records_of ps)).keys
   found_among ps full (absent fs bs e low high) =
       let split : map record_of ps ≡ map record_of fs ++ map record_of bs = ap (map record_of) e ∙ map-append record_of fs bs in
       ap (λ l. option_map (λ v. v.items) (lookup (is_full_key t k) l)) e ∙ ap (option_map (λ v. v.items)) (skips fs bs low ∙ none bs high)
-      ∙ sym (ap (λ l. value_at k (pairs_of_tenant t l)) split ∙ value_in_gap t k (map record_of fs) (map record_of bs) low high)
+      ∙ sym (ap (λ l. value_at bytes_eq k (pairs_of_tenant t l)) split ∙ value_in_gap t k (map record_of fs) (map record_of bs) low high)
   found_among ps full (present fs m bs e low here high) =
       let split : map record_of ps ≡ map record_of fs ++ record_of m ∷ map record_of bs = ap (map record_of) e ∙ map-append record_of fs (m ∷ bs) in
       let is = full_there m (All-right IsFull fs (m ∷ bs) (subst (AllByRecursion IsFull) e full)).0 here in
       let hit : lookup (is_full_key t k) (m ∷ bs) ≡ Some m.1 = rw (same_key (bytes_of m) (full_key t k) is) refl in
       ap (λ l. option_map (λ v. v.items) (lookup (is_full_key t k) l)) e ∙ ap (option_map (λ v. v.items)) (skips fs (m ∷ bs) low ∙ hit)
-      ∙ sym (ap (λ l. value_at k (pairs_of_tenant t l)) split ∙ value_there t k (map record_of fs) (map record_of bs) (record_of m) low here)
+      ∙ sym (ap (λ l. value_at bytes_eq k (pairs_of_tenant t l)) split ∙ value_there t k (map record_of fs) (map record_of bs) (record_of m) low here)
 
   -- the value under a full key is that at the tenant's key
-  pub found : (ps : List Pair) → AreFull ps → option_map (λ v. v.items) (lookup (is_full_key t k) ps) ≡ value_at k (own t (records_of ps)).keys
+  pub found : (ps : List Pair) → AreFull ps → option_map (λ v. v.items) (lookup (is_full_key t k) ps) ≡ value_at bytes_eq k (own t (records_of ps)).keys
   found ps are = found_among ps are.full (parted t k ps are.in_order)
 
 -- what a tenant holds with a value put at a key
 abbrev with_mine : List ℕ → List ℕ → Own → Own
-with_mine k v mine = record { keys = with_pair k v mine.keys; numbers = mine.numbers }
+with_mine k v mine = record { keys = with_pair is_below k v mine.keys; numbers = mine.numbers }
 
 -- Among some pairs one was put: they are as an index holds them, and their records are those with the tenant's key put.
 pub record IsPutAmong (t : ℕ) (k v : List ℕ) (old new : List Pair) : Type 0 where
@@ -174,19 +174,19 @@ module _ (t : ℕ) (k v : List ℕ) (e : Pair) (fits : t < 2 ^ 32) (full : bytes
   put_among ps new are free is = put_parted ps new are free is (parted t k ps are.in_order)
 
 -- how it is answered
-conflict_words : (o : Option (List ℕ)) (c : Bool) → o ≡ None → c ≡ true → placed_words placed.Conflict ∷ [] ≡ put_reply o c ∷ []
+conflict_words : (o : Option (List ℕ)) (c : Bool) → o ≡ None → c ≡ true → changed_words changed.Conflict ∷ [] ≡ put_reply o c ∷ []
 conflict_words o c e f = rw (e, f) refl
 
 conflict_left : (t : ℕ) (mine : Own) (r : Records) (o : Option (List ℕ)) (c : Bool) → o ≡ None → c ≡ true → r ≡ with_changed t (if puts o c then Some mine else None) r
 conflict_left t mine r o c e f = rw (e, f) refl
 
-new_words : (o : Option (List ℕ)) (c : Bool) → o ≡ None → c ≡ false → placed_words placed.New ∷ [] ≡ put_reply o c ∷ []
+new_words : (o : Option (List ℕ)) (c : Bool) → o ≡ None → c ≡ false → changed_words changed.New ∷ [] ≡ put_reply o c ∷ []
 new_words o c e f = rw (e, f) refl
 
 new_left : (t : ℕ) (mine : Own) (r : Records) (o : Option (List ℕ)) (c : Bool) → o ≡ None → c ≡ false → with_own t mine r ≡ with_changed t (if puts o c then Some mine else None) r
 new_left t mine r o c e f = rw (e, f) refl
 
-old_words : (v : Vec ℕ) (o : Option (List ℕ)) (c : Bool) → o ≡ Some v.items → placed_words (placed.Old v) ∷ [] ≡ put_reply o c ∷ []
+old_words : (v : Vec ℕ) (o : Option (List ℕ)) (c : Bool) → o ≡ Some v.items → changed_words (changed.Old v) ∷ [] ≡ put_reply o c ∷ []
 old_words v o c e = rw e refl
 
 old_left : (t : ℕ) (mine : Own) (r : Records) (o : Option (List ℕ)) (c : Bool) (v : List ℕ) → o ≡ Some v → with_own t mine r ≡ with_changed t (if puts o c then Some mine else None) r
@@ -195,7 +195,7 @@ old_left t mine r o c v e = rw e refl
 module _ (ps : List Pair) (t : ℕ) (k v : List ℕ) (are : AreFull ps) (fits : t < 2 ^ 32) where
   -- the tenant's value at the key, and whether the key conflicts with one of the tenant's
   abbrev at_key : Option (List ℕ)
-  at_key = value_at k (own t (records_of ps)).keys
+  at_key = value_at bytes_eq k (own t (records_of ps)).keys
 
   abbrev in_conflict : Bool
   in_conflict = has_conflict k (own t (records_of ps)).keys
@@ -206,13 +206,13 @@ module _ (ps : List Pair) (t : ℕ) (k v : List ℕ) (are : AreFull ps) (fits : 
     where
       go : Parted t k ps → at_key ≡ None
       go (absent fs bs e low high) =
-          ap (λ l. value_at k (pairs_of_tenant t l)) (ap (map record_of) e ∙ map-append record_of fs bs) ∙ value_in_gap t k (map record_of fs) (map record_of bs) low high
+          ap (λ l. value_at bytes_eq k (pairs_of_tenant t l)) (ap (map record_of) e ∙ map-append record_of fs bs) ∙ value_in_gap t k (map record_of fs) (map record_of bs) low high
       go (present fs m bs e low here high) =
           let held = subst AreFull e are in
           let same = full_there t k fits m (All-right IsFull fs (m ∷ bs) held.full).0 here in
           absurd ((put_replaced bytes_of m fs m bs refl (pairs_ascend (fs ++ m ∷ bs) held)).free (subst (λ j. IsBlocked bytes_of j (fs ++ m ∷ bs)) (sym same) (subst (IsBlocked bytes_of (full_key t k)) e blocked)))
 
-  pub conflict_placed : IsBlocked bytes_of (full_key t k) ps → IsPutDone placed.Conflict (records_of ps) t k v (records_of ps)
+  pub conflict_placed : IsBlocked bytes_of (full_key t k) ps → IsPutDone changed.Conflict (records_of ps) t k v (records_of ps)
   conflict_placed blocked =
       let told = blocked_told t k fits ps are.full are.tenants blocked in
       let there = blocked_absent blocked in
@@ -231,13 +231,13 @@ module _ (ps : List Pair) (t : ℕ) (k v : List ℕ) (are : AreFull ps) (fits : 
           (All-put KeyFits record_of bytes_of (λ p. not (bytes_eq (bytes_of p) (bytes_of e))) e ps fit (subst KeyFits (sym (full_record t k v e fits full value)) record_fits));
     }
 
-    pub new_placed : None ≡ lookup (is_full_key t k) ps → IsPutDone placed.New (records_of ps) t k v (records_of new)
+    pub new_placed : None ≡ lookup (is_full_key t k) ps → IsPutDone changed.New (records_of ps) t k v (records_of new)
     new_placed none =
         let there : at_key ≡ None = sym (ap (option_map (λ (w : Vec ℕ). w.items)) none ∙ found t k fits ps are) in
         let told = free_told t k fits ps are.full are.tenants free in
         (new_words at_key in_conflict there told, done.records_are ∙ new_left t (with_mine k v (own t (records_of ps))) (records_of ps) at_key in_conflict there told)
 
-    pub old_placed : (old : Vec ℕ) → Some old ≡ lookup (is_full_key t k) ps → IsPutDone (placed.Old old) (records_of ps) t k v (records_of new)
+    pub old_placed : (old : Vec ℕ) → Some old ≡ lookup (is_full_key t k) ps → IsPutDone (changed.Old old) (records_of ps) t k v (records_of new)
     old_placed old some =
         let there : at_key ≡ Some old.items = sym (ap (option_map (λ (w : Vec ℕ). w.items)) some ∙ found t k fits ps are) in
         (old_words old at_key in_conflict there, done.records_are ∙ old_left t (with_mine k v (own t (records_of ps))) (records_of ps) at_key in_conflict old.items there)

@@ -109,17 +109,17 @@ module _ (t : ℕ) (k : List ℕ) where
       go true e = let same = (bytes_eq-Decides j k).0 e in let no = not_below_itself k in absurd (true≢false (sym (subst (λ x. IsTrue (is_below k x)) same h) ∙ no))
 
   -- the value at a key that is in a gap, and at one that is there
-  pub value_in_gap : (fs bs : List KeyRecord) → AllBefore t k fs → AllBehind t k bs → value_at k (pairs_of_tenant t (fs ++ bs)) ≡ None
-  value_in_gap fs bs low high = ap (λ ps. value_at k ps) (pairs_append fs bs) ∙ ap (option_map (λ p. p.1))
+  pub value_in_gap : (fs bs : List KeyRecord) → AllBefore t k fs → AllBehind t k bs → value_at bytes_eq k (pairs_of_tenant t (fs ++ bs)) ≡ None
+  value_in_gap fs bs low high = ap (λ ps. value_at bytes_eq k ps) (pairs_append fs bs) ∙ ap (option_map (λ p. p.1))
       (find-skips (λ p. bytes_eq p.0 k) (pairs_of_tenant t fs) (pairs_of_tenant t bs) (All-map (λ p. IsTrue (is_below p.0 k)) (λ p. bytes_eq p.0 k ≡ false) (λ p. below_other p.0) (pairs_of_tenant t fs) (pairs_before fs low))
       ∙ find-none (λ p. bytes_eq p.0 k) (pairs_of_tenant t bs) (All-map (λ p. IsTrue (is_below k p.0)) (λ p. bytes_eq p.0 k ≡ false) (λ p. above_other p.0) (pairs_of_tenant t bs) (pairs_behind bs high)))
 
-  pub value_there : (fs bs : List KeyRecord) (r : KeyRecord) → AllBefore t k fs → stands_to t k r ≡ Equal → value_at k (pairs_of_tenant t (fs ++ r ∷ bs)) ≡ Some r.value
+  pub value_there : (fs bs : List KeyRecord) (r : KeyRecord) → AllBefore t k fs → stands_to t k r ≡ Equal → value_at bytes_eq k (pairs_of_tenant t (fs ++ r ∷ bs)) ≡ Some r.value
   value_there fs bs r low here =
       let is = standing t k r Equal here in
       let mine : (r.tenant == t) ≡ true = eq-eqb r.tenant t is.0 in
       let same : bytes_eq r.key k ≡ true = (bytes_eq-Decides r.key k).1 is.1 in
-      ap (λ ps. value_at k ps) (pairs_append fs (r ∷ bs)) ∙ ap (option_map (λ p. p.1))
+      ap (λ ps. value_at bytes_eq k ps) (pairs_append fs (r ∷ bs)) ∙ ap (option_map (λ p. p.1))
       (find-skips (λ p. bytes_eq p.0 k) (pairs_of_tenant t fs) (pairs_of_tenant t (r ∷ bs)) (All-map (λ p. IsTrue (is_below p.0 k)) (λ p. bytes_eq p.0 k ≡ false) (λ p. below_other p.0) (pairs_of_tenant t fs) (pairs_before fs low)))
       ∙ rw (mine, same) refl
 
@@ -131,7 +131,7 @@ module _ (t : ℕ) (k : List ℕ) where
 
   -- the tenant's pairs with the key's value put in place
   pairs_put : (v : List ℕ) (fs ms bs : List KeyRecord) → AllBefore t k fs → AllAt t k ms → AllBehind t k bs
-      → with_pair k v (pairs_of_tenant t (fs ++ (ms ++ bs))) ≡ pairs_of_tenant t fs ++ (k, v) ∷ pairs_of_tenant t bs
+      → with_pair is_below k v (pairs_of_tenant t (fs ++ (ms ++ bs))) ≡ pairs_of_tenant t fs ++ (k, v) ∷ pairs_of_tenant t bs
   pairs_put v fs ms bs low here high =
       let A = pairs_of_tenant t fs in let M = pairs_of_tenant t ms in let B = pairs_of_tenant t bs in
       let parts : pairs_of_tenant t (fs ++ (ms ++ bs)) ≡ A ++ (M ++ B) = pairs_append fs (ms ++ bs) ∙ ap (λ l. A ++ l) (pairs_append ms bs) in
@@ -149,11 +149,11 @@ module _ (t : ℕ) (k : List ℕ) where
         filter-none (λ p. is_below k p.0) M (All-map (λ p. p.0 ≡ k) (λ p. is_below k p.0 ≡ false) above_itself_not M (pairs_at ms here)),
         filter-all (λ p. is_below k p.0) B (pairs_behind bs high),
       ) refl in
-      ap (with_pair k v) parts ∙ rw (lower, upper) refl
+      ap (with_pair is_below k v) parts ∙ rw (lower, upper) refl
 
   -- and all records with the tenant's put back
   pub records_put : (v : List ℕ) (fs ms bs : List KeyRecord) → InOrder KeyComesBefore (fs ++ (ms ++ bs)) → AllBefore t k fs → AllAt t k ms → AllBehind t k bs
-      → filter (λ r. nat_lt r.tenant t) (fs ++ (ms ++ bs)) ++ map (key_made t) (with_pair k v (pairs_of_tenant t (fs ++ (ms ++ bs)))) ++ filter (λ r. nat_lt t r.tenant) (fs ++ (ms ++ bs))
+      → filter (λ r. nat_lt r.tenant t) (fs ++ (ms ++ bs)) ++ map (key_made t) (with_pair is_below k v (pairs_of_tenant t (fs ++ (ms ++ bs)))) ++ filter (λ r. nat_lt t r.tenant) (fs ++ (ms ++ bs))
       ≡ fs ++ key_made t (k, v) ∷ bs
   records_put v fs ms bs order low here high =
       let lt : KeyRecord → Bool = λ r. nat_lt r.tenant t in let gt : KeyRecord → Bool = λ r. nat_lt t r.tenant in let eq : KeyRecord → Bool = λ r. r.tenant == t in
@@ -167,7 +167,7 @@ module _ (t : ℕ) (k : List ℕ) where
       filter-append gt fs (ms ++ bs) ∙ ap (λ l. filter gt fs ++ l) (filter-append gt ms bs) ∙ rw (no_gt_ms, no_gt_fs) refl in
       let from_mine : (xs : List KeyRecord) → map (key_made t) (pairs_of_tenant t xs) ≡ filter eq xs =
       λ xs. made_from_mine (λ (x : KeyRecord). x.tenant) key_part key_made (λ t p. refl) (λ t p. refl) (λ x. refl) t xs in
-      let mines : map (key_made t) (with_pair k v (pairs_of_tenant t (fs ++ (ms ++ bs)))) ≡ filter eq fs ++ key_made t (k, v) ∷ filter eq bs =
+      let mines : map (key_made t) (with_pair is_below k v (pairs_of_tenant t (fs ++ (ms ++ bs)))) ≡ filter eq fs ++ key_made t (k, v) ∷ filter eq bs =
       ap (map (key_made t)) (pairs_put v fs ms bs low here high) ∙ map-append (key_made t) (pairs_of_tenant t fs) ((k, v) ∷ pairs_of_tenant t bs)
       ∙ rw (from_mine fs, from_mine bs) refl in
       let all_fs : filter lt fs ++ filter eq fs ≡ fs =
@@ -279,8 +279,8 @@ module _ (t : ℕ) (k v : List ℕ) (fs ms bs : List Pair) (e : Pair) (are : Are
         (All-append IsOfTenant F (key_made t (k, v) ∷ B) (All-left IsOfTenant F (M ++ B) fit) (f.fits, All-right IsOfTenant M B (All-right IsOfTenant F (M ++ B) fit)));
   }
 
-  pub put_records : records_of (fs ++ e ∷ bs) ≡ with_own t (record { keys = with_pair k v (own t (records_of (fs ++ (ms ++ bs)))).keys; numbers = (own t (records_of (fs ++ (ms ++ bs)))).numbers }) (records_of (fs ++ (ms ++ bs)))
+  pub put_records : records_of (fs ++ e ∷ bs) ≡ with_own t (record { keys = with_pair is_below k v (own t (records_of (fs ++ (ms ++ bs)))).keys; numbers = (own t (records_of (fs ++ (ms ++ bs)))).numbers }) (records_of (fs ++ (ms ++ bs)))
   put_records =
       let all : F ++ (M ++ B) ≡ map record_of (fs ++ (ms ++ bs)) = sym (three_lists fs ms bs) in
-      let P : List KeyRecord → Type 0 = λ rs. filter (λ r. nat_lt r.tenant t) rs ++ map (key_made t) (with_pair k v (pairs_of_tenant t rs)) ++ filter (λ r. nat_lt t r.tenant) rs ≡ F ++ key_made t (k, v) ∷ B in
+      let P : List KeyRecord → Type 0 = λ rs. filter (λ r. nat_lt r.tenant t) rs ++ map (key_made t) (with_pair is_below k v (pairs_of_tenant t rs)) ++ filter (λ r. nat_lt t r.tenant) rs ≡ F ++ key_made t (k, v) ∷ B in
       records_from_lists _ _ _ _ (new_list ∙ sym (subst P all (records_put t k v F M B order f.low f.here f.high))) refl

@@ -1,21 +1,21 @@
 -- The lines of a dump, carried out from no records: what they are answered, and what they leave.
 use Rattle.std.proofs.Common.{◌≡◌, ℕ, zero, suc, ℤ, ◌+◌, List, [], ◌∷◌, ◌++◌, length, map, refl, ap, ap₂, sym, ◌∙◌, subst, Bool, true, false, cond, arith, append-nil, append_assoc, inl, inr, Option, Some, None}
 use Rattle.std.specs.Prelude.{◌==◌, ◌||◌, ◌&&◌, nat_lt, int_lt, filter, flat_map, replicate, codes, IsTrue, option_map}
-use Rattle.std.specs.List.{AllByRecursion}
+use Rattle.std.specs.List.{AllByRecursion, fold}
 use Rattle.std.specs.Ordering.{int_eq}
 use Rattle.std.specs.declared.cmp.Ordering.TheVariants.{Less}
 use Rattle.std.proofs.lemmas.Bool.{eq-eqb, ne_eqb, eqb-true, lt-ltb, le-ltb}
 use Rattle.std.proofs.lemmas.Grind.{flat_map-append}
 use Rattle.std.proofs.lemmas.List.{map-append}
-use Rattle.art_bytes.specs.Keys.{conflicts}
+use Rattle.art_bytes.specs.Keys.{conflicts, is_below}
 use Rattle.art_lines.specs.Lines.{lines_of}
 use Rattle.art_lines.specs.Words.{Word, name, text_of, line_of}
 use Rattle.art_lines.specs.Commands.{put, nput, Command, of_tenant}
 use Rattle.art_lines.specs.Reading.{command_of}
 use Rattle.art_engine.specs.Records.{Own, KeyRecord, NumberRecord, Records, no_records, own, with_own, InOrder, KeyComesBefore, NumberComesBefore, KeyFits, NumberFits, AreRecords}
-use Rattle.art_engine.specs.Replies.{value_at, has_conflict, value_at_number, with_pair, puts, command_reply, command_after, with_changed, reply_to, records_after, key_lines, number_lines, dump_of}
+use Rattle.art_engine.specs.Replies.{value_at, has_conflict, with_pair, puts, command_reply, command_after, with_changed, key_lines, number_lines, dump_of}
 use Rattle.art_lines.specs.ReplyWords.{put_reply, end_words}
-use Rattle.art_engine.specs.Outcome.{Outcome, answers_from, records_from, outcome_of}
+use Rattle.art_engine.specs.Outcome.{answers, reply_to, records_after}
 use Rattle.art_engine.specs.Laws.{dump_text, DumpsTellRecords, DumpsAreReadBack}
 use Rattle.art_engine.proofs.Dropping.{IsOwnTest, own_find}
 use Rattle.art_engine.proofs.Dumping.{words_put, words_nput}
@@ -26,23 +26,19 @@ use Rattle.art_engine.proofs.NumberKeys.{int_lt_turned}
 use Rattle.art_engine.proofs.OwnParts.{cut_put}
 use Rattle.art_engine.proofs.Putting.{pairs_of_tenant, value_in_gap, records_put, find-none, conflicts_back, InOrder-left, InOrder-before}
 use Rattle.art_engine.proofs.Standing.{AllBefore, stands_to, stands_before}
+use Rattle.std.specs.Str.{bytes_eq}
 
--- what lines are answered, and what they leave, where none is refused
-abbrev replies : Records → List (List ℕ) → List ℕ
+-- what lines are answered, and what they leave, where each finds memory
+abbrev pub replies : Records → List (List ℕ) → List ℕ
 replies r [] = []
 replies r (l ∷ ls) = reply_to r l ++ replies (records_after r l) ls
 
-abbrev after : Records → List (List ℕ) → Records
-after r [] = r
-after r (l ∷ ls) = after (records_after r l) ls
+abbrev pub after : Records → List (List ℕ) → Records
+after r ls = fold records_after r ls
 
-answers_are : (at : ℕ) (r : Records) (ls : List (List ℕ)) → answers_from at r ls [] ≡ replies r ls
-answers_are at r [] = refl
-answers_are at r (l ∷ ls) = ap (λ t. reply_to r l ++ t) (answers_are (suc at) (records_after r l) ls)
-
-records_are : (at : ℕ) (r : Records) (ls : List (List ℕ)) → records_from at r ls [] ≡ after r ls
-records_are at r [] = refl
-records_are at r (l ∷ ls) = records_are (suc at) (records_after r l) ls
+answers_are : (r : Records) (ls : List (List ℕ)) → answers r (map (λ l. (l, false)) ls) ≡ replies r ls
+answers_are r [] = refl
+answers_are r (l ∷ ls) = ap (λ t. reply_to r l ++ t) (answers_are (records_after r l) ls)
 
 replies-append : (r : Records) (ls ms : List (List ℕ)) → replies r (ls ++ ms) ≡ replies r ls ++ replies (after r ls) ms
 replies-append r [] ms = refl
@@ -54,11 +50,9 @@ after-append r (l ∷ ls) ms = after-append (records_after r l) ls ms
 
 -- a line by the command that it spells
 reply_by : (r : Records) (line : List ℕ) (o : Option Command) → command_of line ≡ o → reply_to r line ≡ flat_map line_of (command_reply o r)
-unfolding reply_to
 reply_by r line o e = ap (λ x. flat_map line_of (command_reply x r)) e
 
 after_by : (r : Records) (line : List ℕ) (o : Option Command) → command_of line ≡ o → records_after r line ≡ command_after o r
-unfolding records_after
 after_by r line o e = ap (λ x. command_after x r) e
 
 abbrev new_line : List ℕ
@@ -89,8 +83,8 @@ module _ (fs : List KeyRecord) (x : KeyRecord) (order : InOrder KeyComesBefore (
       go true e ih = rw (apart h.0 (eqb-true r.tenant x.tenant e)) ih
       go false e ih = ih
 
-  absent : value_at x.key (pairs_of_tenant x.tenant fs) ≡ None
-  absent = ap (λ l. value_at x.key (pairs_of_tenant x.tenant l)) (sym (append-nil fs)) ∙ value_in_gap x.tenant x.key fs [] low tt
+  absent : value_at bytes_eq x.key (pairs_of_tenant x.tenant fs) ≡ None
+  absent = ap (λ l. value_at bytes_eq x.key (pairs_of_tenant x.tenant l)) (sym (append-nil fs)) ∙ value_in_gap x.tenant x.key fs [] low tt
 
   key_new : KeyFits x → reply_to (record { keys = fs; numbers = [] }) (text_of (words_put x)) ≡ new_line
   key_new fits =
@@ -104,10 +98,10 @@ module _ (fs : List KeyRecord) (x : KeyRecord) (order : InOrder KeyComesBefore (
   key_put fits =
       let old : Records = record { keys = fs; numbers = [] } in
       after_by old (text_of (words_put x)) (Some (of_tenant x.tenant (put x.key x.value))) (put_spelled x fits)
-      ∙ changed (value_at x.key (own x.tenant old).keys) (has_conflict x.key (own x.tenant old).keys)
-      (record { keys = with_pair x.key x.value (own x.tenant old).keys; numbers = (own x.tenant old).numbers }) old absent (free fs befores)
+      ∙ changed (value_at bytes_eq x.key (own x.tenant old).keys) (has_conflict x.key (own x.tenant old).keys)
+      (record { keys = with_pair is_below x.key x.value (own x.tenant old).keys; numbers = (own x.tenant old).numbers }) old absent (free fs befores)
       ∙ records_from_lists _ _ _ _
-      (ap (λ l. filter (λ r. nat_lt r.tenant x.tenant) l ++ map (key_made x.tenant) (with_pair x.key x.value (pairs_of_tenant x.tenant l)) ++ filter (λ r. nat_lt x.tenant r.tenant) l) (sym (append-nil fs))
+      (ap (λ l. filter (λ r. nat_lt r.tenant x.tenant) l ++ map (key_made x.tenant) (with_pair is_below x.key x.value (pairs_of_tenant x.tenant l)) ++ filter (λ r. nat_lt x.tenant r.tenant) l) (sym (append-nil fs))
       ∙ records_put x.tenant x.key x.value fs [] [] (subst (InOrder KeyComesBefore) (sym (append-nil fs)) (InOrder-left KeyComesBefore fs (x ∷ []) order)) low tt tt)
       refl
 
@@ -131,47 +125,47 @@ module _ (ks : List KeyRecord) (keys_order : InOrder KeyComesBefore ks) (fs : Li
   all_before : AllByRecursion (λ r. NumberComesBefore r x) fs
   all_before = InOrder-before NumberComesBefore fs [] x order
 
-  is_lower : (r : NumberRecord) → NumberComesBefore r x → (nat_lt r.tenant x.tenant || ((r.tenant == x.tenant) && int_lt r.number x.number)) ≡ true
+  is_lower : (r : NumberRecord) → NumberComesBefore r x → (nat_lt r.tenant x.tenant || ((r.tenant == x.tenant) && int_lt r.key x.key)) ≡ true
   is_lower r (inl lt) = rw (lt-ltb r.tenant x.tenant lt) refl
   is_lower r (inr up) = let e = up.0 in rw (le-ltb r.tenant x.tenant (omega arith), eq-eqb r.tenant x.tenant e) up.1
 
-  not_higher : (r : NumberRecord) → NumberComesBefore r x → (nat_lt x.tenant r.tenant || ((r.tenant == x.tenant) && int_lt x.number r.number)) ≡ false
+  not_higher : (r : NumberRecord) → NumberComesBefore r x → (nat_lt x.tenant r.tenant || ((r.tenant == x.tenant) && int_lt x.key r.key)) ≡ false
   not_higher r (inl lt) = rw (le-ltb x.tenant r.tenant (omega arith), ne_eqb r.tenant x.tenant (λ e. omega arith)) refl
-  not_higher r (inr up) = let e = up.0 in rw (le-ltb x.tenant r.tenant (omega arith), eq-eqb r.tenant x.tenant e) (int_lt_turned r.number x.number up.1)
+  not_higher r (inr up) = let e = up.0 in rw (le-ltb x.tenant r.tenant (omega arith), eq-eqb r.tenant x.tenant e) (int_lt_turned r.key x.key up.1)
 
-  not_same : (r : NumberRecord) → NumberComesBefore r x → ((r.tenant == x.tenant) && int_eq r.number x.number) ≡ false
+  not_same : (r : NumberRecord) → NumberComesBefore r x → ((r.tenant == x.tenant) && int_eq r.key x.key) ≡ false
   not_same r (inl lt) = rw (ne_eqb r.tenant x.tenant (λ e. omega arith)) refl
-  not_same r (inr up) = let e = up.0 in rw (eq-eqb r.tenant x.tenant e) (differ r.number x.number up.1)
+  not_same r (inr up) = let e = up.0 in rw (eq-eqb r.tenant x.tenant e) (differ r.key x.key up.1)
     where
       differ : (m n : ℤ) → IsTrue (int_lt m n) → int_eq m n ≡ false
       differ m n h = rw h refl
 
-  none_there : value_at_number x.number (map number_part (filter (λ r. r.tenant == x.tenant) fs)) ≡ None
+  none_there : value_at int_eq x.key (map number_part (filter (λ r. r.tenant == x.tenant) fs)) ≡ None
   none_there =
-      let Q : NumberRecord → Bool = λ r. (r.tenant == x.tenant) && int_eq r.number x.number in
+      let Q : NumberRecord → Bool = λ r. (r.tenant == x.tenant) && int_eq r.key x.key in
       ap (option_map (λ (p : ℤ × List ℕ). p.1))
-      (sym (own_find (λ (r : NumberRecord). r.tenant) number_part x.tenant Q (λ p. int_eq p.0 x.number) fs (all_own fs))
+      (sym (own_find (λ (r : NumberRecord). r.tenant) number_part x.tenant Q (λ p. int_eq p.0 x.key) fs (all_own fs))
       ∙ ap (option_map number_part) (find-none Q fs (All-map (λ r. NumberComesBefore r x) (λ r. Q r ≡ false) not_same fs all_before)))
     where
-      all_own : (rs : List NumberRecord) → AllByRecursion (IsOwnTest (λ (r : NumberRecord). r.tenant) number_part x.tenant (λ r. (r.tenant == x.tenant) && int_eq r.number x.number) (λ p. int_eq p.0 x.number)) rs
+      all_own : (rs : List NumberRecord) → AllByRecursion (IsOwnTest (λ (r : NumberRecord). r.tenant) number_part x.tenant (λ r. (r.tenant == x.tenant) && int_eq r.key x.key) (λ p. int_eq p.0 x.key)) rs
       all_own [] = tt
       all_own (r ∷ rs) = (refl, all_own rs)
 
   number_new : NumberFits x → reply_to (record { keys = ks; numbers = fs }) (text_of (words_nput x)) ≡ new_line
   number_new fits =
-      reply_by (record { keys = ks; numbers = fs }) (text_of (words_nput x)) (Some (of_tenant x.tenant (nput x.number x.value))) (nput_spelled x fits)
+      reply_by (record { keys = ks; numbers = fs }) (text_of (words_nput x)) (Some (of_tenant x.tenant (nput x.key x.value))) (nput_spelled x fits)
       ∙ ap (λ o. line_of (put_reply o false) ++ []) none_there ∙ append-nil new_line
 
   number_put : NumberFits x → records_after (record { keys = ks; numbers = fs }) (text_of (words_nput x)) ≡ (let r : Records = record { keys = ks; numbers = fs ++ x ∷ [] } in r)
   number_put fits =
-      after_by (record { keys = ks; numbers = fs }) (text_of (words_nput x)) (Some (of_tenant x.tenant (nput x.number x.value))) (nput_spelled x fits)
+      after_by (record { keys = ks; numbers = fs }) (text_of (words_nput x)) (Some (of_tenant x.tenant (nput x.key x.value))) (nput_spelled x fits)
       ∙ records_from_lists _ _ _ _
       (in_place (λ (x : KeyRecord). x.tenant) key_part key_made (λ t p. refl) (λ t p. refl) (λ x. refl) x.tenant ks (key_ascends ks keys_order))
       (sym (cut_put (λ (r : NumberRecord). r.tenant) number_part number_made (λ t p. refl) (λ t p. refl) (λ x. refl) x.tenant fs
-      (number_ascends fs (InOrder-left NumberComesBefore fs (x ∷ []) order)) (λ p. int_lt p.0 x.number) (λ p. int_lt x.number p.0) (x.number, x.value))
+      (number_ascends fs (InOrder-left NumberComesBefore fs (x ∷ []) order)) (λ p. int_lt p.0 x.key) (λ p. int_lt x.key p.0) (x.key, x.value))
       ∙ ap₂ (λ a b. a ++ x ∷ b)
-      (filter-all (λ r. nat_lt r.tenant x.tenant || ((r.tenant == x.tenant) && int_lt r.number x.number)) fs (All-map (λ r. NumberComesBefore r x) (λ r. (nat_lt r.tenant x.tenant || ((r.tenant == x.tenant) && int_lt r.number x.number)) ≡ true) is_lower fs all_before))
-      (filter-none (λ r. nat_lt x.tenant r.tenant || ((r.tenant == x.tenant) && int_lt x.number r.number)) fs (All-map (λ r. NumberComesBefore r x) (λ r. (nat_lt x.tenant r.tenant || ((r.tenant == x.tenant) && int_lt x.number r.number)) ≡ false) not_higher fs all_before)))
+      (filter-all (λ r. nat_lt r.tenant x.tenant || ((r.tenant == x.tenant) && int_lt r.key x.key)) fs (All-map (λ r. NumberComesBefore r x) (λ r. (nat_lt r.tenant x.tenant || ((r.tenant == x.tenant) && int_lt r.key x.key)) ≡ true) is_lower fs all_before))
+      (filter-none (λ r. nat_lt x.tenant r.tenant || ((r.tenant == x.tenant) && int_lt x.key r.key)) fs (All-map (λ r. NumberComesBefore r x) (λ r. (nat_lt x.tenant r.tenant || ((r.tenant == x.tenant) && int_lt x.key r.key)) ≡ false) not_higher fs all_before)))
 
 numbers_back : (ks : List KeyRecord) → InOrder KeyComesBefore ks → (fs rs : List NumberRecord) → InOrder NumberComesBefore (fs ++ rs) → AllByRecursion NumberFits rs
     → (replies (record { keys = ks; numbers = fs }) (map text_of (map words_nput rs)) ≡ flat_map line_of (replicate (length rs) (name (codes "new") ∷ [])))
@@ -198,10 +192,6 @@ replicate-append : {X : Type 0} (m n : ℕ) (x : X) → replicate m x ++ replica
 replicate-append zero n x = let e : n ≡ 0 + n = omega arith in ap (λ k. replicate k x) e
 replicate-append (suc m) n x = let e : suc m + n ≡ suc (m + n) = omega arith in ap (λ l. x ∷ l) (replicate-append m n x) ∙ ap (λ k. replicate k x) (sym e)
 
-outcome_from : (w w' : List ℕ) (r r' : Records) → w ≡ w' → r ≡ r'
-    → (let o : Outcome = record { written = w; records = r } in o) ≡ (let o : Outcome = record { written = w'; records = r' } in o)
-outcome_from w w' r r' e f = rw (e, f) refl
-
 module _ (r : Records) (are : AreRecords r) where
   dump_lines : lines_of (dump_text r) ≡ map text_of (map words_put r.keys) ++ (map text_of (map words_nput r.numbers) ++ text_of (end_words (length r.keys + length r.numbers)) ∷ [])
   dump_lines =
@@ -210,11 +200,9 @@ module _ (r : Records) (are : AreRecords r) where
       ∙ map-append text_of (key_lines r ++ number_lines r) (e ∷ []) ∙ ap (λ l. l ++ text_of e ∷ []) (map-append text_of (key_lines r) (number_lines r))
       ∙ append_assoc (map text_of (key_lines r)) (map text_of (number_lines r)) (text_of e ∷ [])
 
-  pub read_back : outcome_of no_records (lines_of (dump_text r)) [] ≡ record {
-    written = flat_map line_of (replicate (length r.keys + length r.numbers) (name (codes "new") ∷ []) ++ (name (codes "bad") ∷ []) ∷ []);
-    records = r;
-  }
-  unfolding outcome_of
+  pub read_back : (answers no_records (map (λ l. (l, false)) (lines_of (dump_text r)))
+      ≡ flat_map line_of (replicate (length r.keys + length r.numbers) (name (codes "new") ∷ []) ++ (name (codes "bad") ∷ []) ∷ []))
+      × (after no_records (lines_of (dump_text r)) ≡ r)
   read_back =
       let K : List (List ℕ) = map text_of (map words_put r.keys) in
       let N : List (List ℕ) = map text_of (map words_nput r.numbers) in
@@ -223,23 +211,23 @@ module _ (r : Records) (are : AreRecords r) where
       let keys = keys_back [] r.keys are.keys_in_order are.keys_fit in
       let numbers = numbers_back r.keys are.keys_in_order [] r.numbers are.numbers_in_order are.numbers_fit in
       let news : ℕ → List (List Word) = λ n. replicate n (name (codes "new") ∷ []) in
-      let bad : List (List Word) = (name (codes "bad") ∷ []) ∷ [] in
-      outcome_from _ _ _ _
-      (ap (λ ls. answers_from 0 no_records ls []) dump_lines ∙ answers_are 0 no_records (K ++ (N ++ E ∷ [])) ∙ replies-append no_records K (N ++ E ∷ [])
-      ∙ ap₂ (λ a r. a ++ replies r (N ++ E ∷ [])) keys.0 keys.1
-      ∙ ap (λ t. flat_map line_of (news (length r.keys)) ++ t)
-      (replies-append middle N (E ∷ []) ∙ ap₂ (λ a r. a ++ replies r (E ∷ [])) numbers.0 numbers.1 ∙ ap (λ t. flat_map line_of (news (length r.numbers)) ++ t) (ap (λ t. t ++ []) (end_reply r (length r.keys + length r.numbers)) ∙ append-nil _))
-      ∙ sym (append_assoc (flat_map line_of (news (length r.keys))) (flat_map line_of (news (length r.numbers))) (flat_map line_of bad))
-      ∙ ap (λ t. t ++ flat_map line_of bad) (sym (flat_map-append line_of (news (length r.keys)) (news (length r.numbers))) ∙ ap (flat_map line_of) (replicate-append (length r.keys) (length r.numbers) (name (codes "new") ∷ [])))
-      ∙ sym (flat_map-append line_of (news (length r.keys + length r.numbers)) bad))
-      (ap (λ ls. records_from 0 no_records ls []) dump_lines ∙ records_are 0 no_records (K ++ (N ++ E ∷ [])) ∙ after-append no_records K (N ++ E ∷ [])
-      ∙ ap (λ r. after r (N ++ E ∷ [])) keys.1 ∙ after-append middle N (E ∷ []) ∙ ap (λ r. after r (E ∷ [])) numbers.1 ∙ end_after r (length r.keys + length r.numbers))
+      let bad : List (List Word) = (name (codes "bad") ∷ []) ∷ [] in (
+        ap (λ ls. answers no_records (map (λ l. (l, false)) ls)) dump_lines ∙ answers_are no_records (K ++ (N ++ E ∷ [])) ∙ replies-append no_records K (N ++ E ∷ [])
+            ∙ ap₂ (λ a r. a ++ replies r (N ++ E ∷ [])) keys.0 keys.1
+            ∙ ap (λ t. flat_map line_of (news (length r.keys)) ++ t)
+            (replies-append middle N (E ∷ []) ∙ ap₂ (λ a r. a ++ replies r (E ∷ [])) numbers.0 numbers.1 ∙ ap (λ t. flat_map line_of (news (length r.numbers)) ++ t) (ap (λ t. t ++ []) (end_reply r (length r.keys + length r.numbers)) ∙ append-nil _))
+            ∙ sym (append_assoc (flat_map line_of (news (length r.keys))) (flat_map line_of (news (length r.numbers))) (flat_map line_of bad))
+            ∙ ap (λ t. t ++ flat_map line_of bad) (sym (flat_map-append line_of (news (length r.keys)) (news (length r.numbers))) ∙ ap (flat_map line_of) (replicate-append (length r.keys) (length r.numbers) (name (codes "new") ∷ [])))
+            ∙ sym (flat_map-append line_of (news (length r.keys + length r.numbers)) bad),
+        ap (after no_records) dump_lines ∙ after-append no_records K (N ++ E ∷ [])
+            ∙ ap (λ r. after r (N ++ E ∷ [])) keys.1 ∙ after-append middle N (E ∷ []) ∙ ap (λ r. after r (E ∷ [])) numbers.1 ∙ end_after r (length r.keys + length r.numbers),
+      )
 
 pub dumps_are_read_back : DumpsAreReadBack
 dumps_are_read_back r are = read_back r are
 
 pub dumps_tell_records : DumpsTellRecords
 dumps_tell_records r s are_r are_s = (
-  λ e. ap (λ (o : Outcome). o.records) (sym (read_back r are_r) ∙ ap (λ t. outcome_of no_records (lines_of t) []) e ∙ read_back s are_s),
+  λ e. sym (read_back r are_r).1 ∙ ap (λ t. after no_records (lines_of t)) e ∙ (read_back s are_s).1,
   λ e. ap dump_text e,
 )

@@ -10,12 +10,12 @@ use Rattle.art_bytes.specs.Keys.{is_below, bytes_cmp}
 use Rattle.art_arena.specs.tree.Tenants.{begins_with}
 use Rattle.art_operations.specs.Openings.{OpeningReads, ReadsAtLeast}
 use Rattle.art_walks.specs.MapReads.{ReadsPathOf}
-use Rattle.art_engine.specs.Counts.{exactly, listing, opening, longest, path_nodes, GrewBy, Grew}
+use Rattle.art_engine.specs.Counts.{exactly, listing, longest, path_nodes, GrewBy, Grew}
 use Rattle.art_bytes.specs.Laws.{pair_key}
 use Rattle.art_lines.specs.Keys.{full_key}
 use Rattle.art_engine.specs.Keys.{full_key_of, number_key_of}
 use Rattle.art_engine.specs.Records.{own}
-use Rattle.art_engine.specs.Replies.{value_at, value_at_number, numbers_from_to}
+use Rattle.art_engine.specs.Replies.{value_at, numbers_from_to}
 use Rattle.art_engine.specs.Spans.{own_pair, IsListed, own_number, IsNumbered}
 use Rattle.art_engine.specs.Stored.{Pair, NumberPair, record_of, records_of, number_record_of, number_records_of, IsNumberPair, AreFull, ArePairs, AreNumberPairs}
 use Rattle.art_engine.proofs.Changing.{keys_are}
@@ -24,13 +24,14 @@ use Rattle.art_engine.proofs.Counting.{path_is_short}
 use Rattle.art_engine.proofs.Dropping.{All-filter}
 use Rattle.art_engine.proofs.Filters.{length-map}
 use Rattle.art_engine.proofs.FullTests.{begins_full, between_full, same_full}
-use Rattle.art_engine.proofs.Listing.{are_listed, are_numbered, filter_shorter}
+use Rattle.art_engine.proofs.ListedLines.{are_listed, are_numbered, filter_shorter}
 use Rattle.art_engine.proofs.Listings.{listing_grew, path_grew, longest_by_keys, within_longest}
 use Rattle.art_engine.proofs.MappedTrees.{paths_by_keys}
 use Rattle.art_engine.proofs.NumberKeys.{HaveBytes, between_numbers}
 use Rattle.art_engine.proofs.NumberPlaces.{number_bytes, number_keys_are, number_found, numbers_passing, stand_all}
 use Rattle.art_engine.proofs.OwnLaws.{key_part, number_part}
 use Rattle.art_engine.proofs.Removing.{passing, first_passing, IsFullTest}
+use Rattle.std.specs.Ordering.{int_eq}
 
 -- pairs without their tenant
 pub own_pairs : (ps : List Pair) → map key_part (map record_of ps) ≡ map own_pair ps
@@ -67,10 +68,10 @@ module _ (t : ℕ) (T G : List ℕ → Bool) (tests : IsFullTest t T G) (ps : Li
   -- it is listed by so many reads
   pub left_grew : (bound full old mid new : ℕ) → length ps < 2 ^ 64 → full ≡ bound + 4 → ReadsAtLeast 0 old mid → OpeningReads (longest full_key_of (map record_of ps)) full old mid
       → GrewBy (length left) mid new
-      → Grew (listing (length (filter (λ p. G p.0) (own t (records_of ps)).keys)) (opening bound (longest full_key_of (map record_of ps)))) old new
+      → Grew (listing (length (filter (λ p. G p.0) (own t (records_of ps)).keys)) bound (longest full_key_of (map record_of ps))) old new
   left_grew bound full old mid new few whole kept opens is =
       let number : length left ≡ length (filter (λ p. G p.0) (own t (records_of ps)).keys) = sym (length-map own_pair left) ∙ ap length own_left in
-      subst (λ n. Grew (listing n (opening bound (longest full_key_of (map record_of ps)))) old new) number
+      subst (λ n. Grew (listing n bound (longest full_key_of (map record_of ps))) old new) number
       (listing_grew bound full (longest full_key_of (map record_of ps)) old mid new (length left) kept opens whole (left_few few) is)
 
 -- the tests of the two listings
@@ -83,7 +84,7 @@ span_tests t low high small u j s = between_full t u low high j small s
 
 -- the value at the tenant's key is that under the full key
 pub value_found : (t : ℕ) (k q : List ℕ) → t < 2 ^ 32 → q ≡ full_key t k → (ps : List Pair) → AreFull ps
-    → option_map (λ p. p.1.items) (lookup_entry (λ j. bytes_eq j.items q) ps) ≡ value_at k (own t (records_of ps)).keys
+    → option_map (λ p. p.1.items) (lookup_entry (λ j. bytes_eq j.items q) ps) ≡ value_at bytes_eq k (own t (records_of ps)).keys
 value_found t k q small same ps are =
     let T : List ℕ → Bool = λ j. bytes_eq j (full_key t k) in
     ap (λ f. option_map (λ (p : Pair). p.1.items) (lookup_entry (λ j. bytes_eq j.items f) ps)) same
@@ -104,7 +105,7 @@ entry_value {K} {V} T (p ∷ ps) = go (T p.0) (entry_value T ps)
 
 -- the value at the tenant's number is that under its bytes
 pub number_value_found : (t : ℕ) (n : ℤ) (q : List ℕ) → HaveBytes t n → q ≡ pair_key (t, n) → (ns : List NumberPair) → AreNumberPairs ns
-    → option_map (λ p. p.1.items) (lookup_entry (λ j. bytes_eq j q) ns) ≡ value_at_number n (own t (number_records_of ns)).numbers
+    → option_map (λ p. p.1.items) (lookup_entry (λ j. bytes_eq j q) ns) ≡ value_at int_eq n (own t (number_records_of ns)).numbers
 number_value_found t n q fits same ns are =
     parts (lookup_entry (λ j. bytes_eq j q) ns)
     ∙ ap (option_map (λ (v : Vec ℕ). v.items)) (sym (entry_value (λ j. bytes_eq j q) ns) ∙ ap (λ f. lookup (λ (j : List ℕ). bytes_eq j f) ns) same)
@@ -153,7 +154,7 @@ module _ (t : ℕ) (low high : ℤ) (fits_low : HaveBytes t low) (fits_high : Ha
   numbers_left_few few = let less = filter_shorter (λ (p : NumberPair). between p.0) ns in omega arith
 
   pub numbers_left_grew : (old mid new : ℕ) → length ns < 2 ^ 64 → ReadsAtLeast 0 old mid → OpeningReads 12 12 old mid → GrewBy (length numbers_left) mid new
-      → Grew (listing (length (numbers_from_to low high (own t (number_records_of ns)).numbers)) (opening 8 12)) old new
+      → Grew (listing (length (numbers_from_to low high (own t (number_records_of ns)).numbers)) 8 12) old new
   numbers_left_grew old mid new few kept opens is =
       let number : length numbers_left ≡ length (numbers_from_to low high (own t (number_records_of ns)).numbers) = sym (length-map own_number numbers_left) ∙ ap length own_numbers_left in
-      subst (λ n. Grew (listing n (opening 8 12)) old new) number (listing_grew 8 12 12 old mid new (length numbers_left) kept opens (omega arith) (numbers_left_few few) is)
+      subst (λ n. Grew (listing n 8 12) old new) number (listing_grew 8 12 12 old mid new (length numbers_left) kept opens (omega arith) (numbers_left_few few) is)

@@ -6,63 +6,61 @@ use Rattle.art_lines.specs.Words.{Word, line_of, name}
 use Rattle.art_lines.specs.Commands.{put, drop, Command, of_tenant}
 use Rattle.art_lines.specs.Reading.{command_of}
 use Rattle.art_engine.specs.Records.{Records}
-use Rattle.art_engine.specs.Replies.{reply_to, records_after, command_reply, command_after}
+use Rattle.art_engine.specs.Replies.{command_reply, command_after}
 use Rattle.art_engine.specs.Refusals.{MayRefuse}
-use Rattle.art_engine.specs.Outcome.{answer, left_by}
-use Rattle.art_engine.specs.Changed.{IsPutDone, IsChangeDone, placed_words, found_no_memory}
+use Rattle.art_engine.specs.Outcome.{answer, left_by, reply_to, records_after}
+use Rattle.art_engine.specs.Changed.{IsPutDone, IsChangeDone, changed_words, found_no_memory}
 use Rattle.art_engine.specs.Counts.{visits_of, line_visits, IsWithin}
 use Rattle.art_engine.specs.Dropped.{IsDropDone, dropped_words, was_refused, visits_told}
-use Rattle.art_engine.specs.Told.{IsTold, told_words, tells_no_memory}
-use Rattle.art_engine.specs.declared.dropped.Dropped.{Dropped}
-use Rattle.art_engine.specs.declared.dropped.Dropped.TheVariants as dropped
-use Rattle.art_engine.specs.declared.told.Told.{Told}
-use Rattle.art_engine.specs.declared.told.Told.TheVariants as told
-use Rattle.art_engine.specs.declared.placed.Placed.{Placed}
-use Rattle.art_engine.specs.declared.placed.Placed.TheVariants as placed
+use Rattle.art_engine.specs.Survey.{IsSurvey, survey_words, finds_no_memory}
+use Rattle.art_engine.specs.declared.drop_tenant.Dropped.{Dropped}
+use Rattle.art_engine.specs.declared.drop_tenant.Dropped.TheVariants as dropped
+use Rattle.art_engine.specs.declared.survey.Survey.{Survey}
+use Rattle.art_engine.specs.declared.survey.Survey.TheVariants as survey
+use Rattle.art_engine.specs.declared.change.Changed.{Changed}
+use Rattle.art_engine.specs.declared.change.Changed.TheVariants as changed
 
 reply_is : (o : Option Command) (r : Records) (line : List ℕ) → o ≡ command_of line → flat_map line_of (command_reply o r) ≡ reply_to r line
-unfolding reply_to
 reply_is o r line e = ap (λ p. flat_map line_of (command_reply p r)) e
 
 after_is : (o : Option Command) (r : Records) (line : List ℕ) → o ≡ command_of line → command_after o r ≡ records_after r line
-unfolding records_after
 after_is o r line e = ap (λ p. command_after p r) e
 
 told_once : (ws : List Word) (o : Option Command) (r : Records) (line : List ℕ) → o ≡ command_of line → ws ∷ [] ≡ command_reply o r → line_of ws ≡ reply_to r line
 told_once ws o r line e h = sym (append-nil (line_of ws)) ∙ ap (flat_map line_of) h ∙ reply_is o r line e
 
 -- what a change is answered by, and what it leaves
-done_reply : (p : Placed) (c : Command) (old new : Records) (line : List ℕ) → Some c ≡ command_of line → IsChangeDone p c old new → line_of (placed_words p) ≡ answer (found_no_memory p) old line
-done_reply placed.Memory c old new line e h = refl
-done_reply (placed.Old o) c old new line e h = told_once (placed_words (placed.Old o)) (Some c) old line e h.0
-done_reply placed.New c old new line e h = told_once (placed_words placed.New) (Some c) old line e h.0
-done_reply placed.Conflict c old new line e h = told_once (placed_words placed.Conflict) (Some c) old line e h.0
-done_reply (placed.Over n) c old new line e h = told_once (placed_words (placed.Over n)) (Some c) old line e h.0
-done_reply (placed.Gone o) c old new line e h = told_once (placed_words (placed.Gone o)) (Some c) old line e h.0
-done_reply placed.Absent c old new line e h = told_once (placed_words placed.Absent) (Some c) old line e h.0
+done_reply : (p : Changed) (c : Command) (old new : Records) (line : List ℕ) → Some c ≡ command_of line → IsChangeDone p c old new → line_of (changed_words p) ≡ answer (found_no_memory p) old line
+done_reply changed.Memory c old new line e h = refl
+done_reply (changed.Old o) c old new line e h = told_once (changed_words (changed.Old o)) (Some c) old line e h.0
+done_reply changed.New c old new line e h = told_once (changed_words changed.New) (Some c) old line e h.0
+done_reply changed.Conflict c old new line e h = told_once (changed_words changed.Conflict) (Some c) old line e h.0
+done_reply (changed.Over n) c old new line e h = told_once (changed_words (changed.Over n)) (Some c) old line e h.0
+done_reply (changed.Gone o) c old new line e h = told_once (changed_words (changed.Gone o)) (Some c) old line e h.0
+done_reply changed.Absent c old new line e h = told_once (changed_words changed.Absent) (Some c) old line e h.0
 
-done_after : (p : Placed) (c : Command) (old new : Records) (line : List ℕ) → Some c ≡ command_of line → IsChangeDone p c old new → new ≡ left_by (found_no_memory p) old line
-done_after placed.Memory c old new line e h = h.0
-done_after (placed.Old o) c old new line e h = h.1 ∙ after_is (Some c) old line e
-done_after placed.New c old new line e h = h.1 ∙ after_is (Some c) old line e
-done_after placed.Conflict c old new line e h = h.1 ∙ after_is (Some c) old line e
-done_after (placed.Over n) c old new line e h = h.1 ∙ after_is (Some c) old line e
-done_after (placed.Gone o) c old new line e h = h.1 ∙ after_is (Some c) old line e
-done_after placed.Absent c old new line e h = h.1 ∙ after_is (Some c) old line e
+done_after : (p : Changed) (c : Command) (old new : Records) (line : List ℕ) → Some c ≡ command_of line → IsChangeDone p c old new → new ≡ left_by (found_no_memory p) old line
+done_after changed.Memory c old new line e h = h.0
+done_after (changed.Old o) c old new line e h = h.1 ∙ after_is (Some c) old line e
+done_after changed.New c old new line e h = h.1 ∙ after_is (Some c) old line e
+done_after changed.Conflict c old new line e h = h.1 ∙ after_is (Some c) old line e
+done_after (changed.Over n) c old new line e h = h.1 ∙ after_is (Some c) old line e
+done_after (changed.Gone o) c old new line e h = h.1 ∙ after_is (Some c) old line e
+done_after changed.Absent c old new line e h = h.1 ∙ after_is (Some c) old line e
 
 -- where it found no memory, it may do so
-done_may : (p : Placed) (c : Command) (old new : Records) → IsChangeDone p c old new → found_no_memory p ≡ true → MayRefuse old c
-done_may placed.Memory c old new h m = h.1
-done_may (placed.Old o) c old new h m = absurd (false≢true m)
-done_may placed.New c old new h m = absurd (false≢true m)
-done_may placed.Conflict c old new h m = absurd (false≢true m)
-done_may (placed.Over n) c old new h m = absurd (false≢true m)
-done_may (placed.Gone o) c old new h m = absurd (false≢true m)
-done_may placed.Absent c old new h m = absurd (false≢true m)
+done_may : (p : Changed) (c : Command) (old new : Records) → IsChangeDone p c old new → found_no_memory p ≡ true → MayRefuse old c
+done_may changed.Memory c old new h m = h.1
+done_may (changed.Old o) c old new h m = absurd (false≢true m)
+done_may changed.New c old new h m = absurd (false≢true m)
+done_may changed.Conflict c old new h m = absurd (false≢true m)
+done_may (changed.Over n) c old new h m = absurd (false≢true m)
+done_may (changed.Gone o) c old new h m = absurd (false≢true m)
+done_may changed.Absent c old new h m = absurd (false≢true m)
 
-module _ (p : Placed) (memory : Bool) (c : Command) (held old new : Records) (line : List ℕ) (found : memory ≡ found_no_memory p) (same : held ≡ old)
+module _ (p : Changed) (memory : Bool) (c : Command) (held old new : Records) (line : List ℕ) (found : memory ≡ found_no_memory p) (same : held ≡ old)
     (e : Some c ≡ command_of line) (h : IsChangeDone p c held new) where
-  pub done_told : line_of (placed_words p) ≡ answer memory old line
+  pub done_told : line_of (changed_words p) ≡ answer memory old line
   done_told = done_reply p c held new line e h ∙ ap (λ b. answer b held line) (sym found) ∙ ap (λ r. answer memory r line) same
 
   pub done_left : new ≡ left_by memory old line
@@ -72,14 +70,14 @@ module _ (p : Placed) (memory : Bool) (c : Command) (held old new : Records) (li
   done_lawful m = subst (λ r. MayRefuse r c) same (done_may p c held new h (sym found ∙ m))
 
 -- a put is a change
-pub put_done : (p : Placed) (old new : Records) (t : ℕ) (k v : List ℕ) → IsPutDone p old t k v new → IsChangeDone p (of_tenant t (put k v)) old new
-put_done placed.Memory old new t k v h = (h, tt)
-put_done (placed.Old o) old new t k v h = h
-put_done placed.New old new t k v h = h
-put_done placed.Conflict old new t k v h = h
-put_done (placed.Over n) old new t k v h = h
-put_done (placed.Gone o) old new t k v h = h
-put_done placed.Absent old new t k v h = h
+pub put_done : (p : Changed) (old new : Records) (t : ℕ) (k v : List ℕ) → IsPutDone p old t k v new → IsChangeDone p (of_tenant t (put k v)) old new
+put_done changed.Memory old new t k v h = (h, tt)
+put_done (changed.Old o) old new t k v h = h
+put_done changed.New old new t k v h = h
+put_done changed.Conflict old new t k v h = h
+put_done (changed.Over n) old new t k v h = h
+put_done (changed.Gone o) old new t k v h = h
+put_done changed.Absent old new t k v h = h
 
 -- what is written of the records that are held
 pub told_of : (held r : Records) (c : Command) (line : List ℕ) → Some c ≡ command_of line → held ≡ r
@@ -96,26 +94,26 @@ pub same_left : (r : Records) (c : Command) (line : List ℕ) → Some c ≡ com
 same_left r c line e h = sym h ∙ after_is (Some c) r line e
 
 -- what is told of all records, and what that leaves
-told_answer : (t : Told) (c : Command) (r : Records) (line : List ℕ) → Some c ≡ command_of line → IsTold t c r
-    → flat_map line_of (told_words t r) ≡ answer (tells_no_memory t) r line
-told_answer told.Memory c r line e h = append-nil (line_of (name (codes "memory") ∷ []))
-told_answer told.Lines c r line e h = ap (flat_map line_of) h ∙ reply_is (Some c) r line e
-told_answer (told.Counts n m) c r line e h = ap (flat_map line_of) h ∙ reply_is (Some c) r line e
+told_answer : (t : Survey) (c : Command) (r : Records) (line : List ℕ) → Some c ≡ command_of line → IsSurvey t c r
+    → flat_map line_of (survey_words t r) ≡ answer (finds_no_memory t) r line
+told_answer survey.Memory c r line e h = append-nil (line_of (name (codes "memory") ∷ []))
+told_answer survey.Lines c r line e h = ap (flat_map line_of) h ∙ reply_is (Some c) r line e
+told_answer (survey.Counts n m) c r line e h = ap (flat_map line_of) h ∙ reply_is (Some c) r line e
 
-told_leaves : (t : Told) (c : Command) (r : Records) (line : List ℕ) → Some c ≡ command_of line → command_after (Some c) r ≡ r
-    → r ≡ left_by (tells_no_memory t) r line
-told_leaves told.Memory c r line e h = refl
-told_leaves told.Lines c r line e h = same_left r c line e h
-told_leaves (told.Counts n m) c r line e h = same_left r c line e h
+told_leaves : (t : Survey) (c : Command) (r : Records) (line : List ℕ) → Some c ≡ command_of line → command_after (Some c) r ≡ r
+    → r ≡ left_by (finds_no_memory t) r line
+told_leaves survey.Memory c r line e h = refl
+told_leaves survey.Lines c r line e h = same_left r c line e h
+told_leaves (survey.Counts n m) c r line e h = same_left r c line e h
 
-told_may : (t : Told) (c : Command) (r : Records) → IsTold t c r → tells_no_memory t ≡ true → MayRefuse r c
-told_may told.Memory c r h m = h
-told_may told.Lines c r h m = absurd (false≢true m)
-told_may (told.Counts n k) c r h m = absurd (false≢true m)
+told_may : (t : Survey) (c : Command) (r : Records) → IsSurvey t c r → finds_no_memory t ≡ true → MayRefuse r c
+told_may survey.Memory c r h m = h
+told_may survey.Lines c r h m = absurd (false≢true m)
+told_may (survey.Counts n k) c r h m = absurd (false≢true m)
 
-module _ (t : Told) (memory : Bool) (c : Command) (held old : Records) (line : List ℕ) (found : memory ≡ tells_no_memory t) (same : held ≡ old)
-    (e : Some c ≡ command_of line) (h : IsTold t c held) where
-  pub all_told : flat_map line_of (told_words t held) ≡ answer memory old line
+module _ (t : Survey) (memory : Bool) (c : Command) (held old : Records) (line : List ℕ) (found : memory ≡ finds_no_memory t) (same : held ≡ old)
+    (e : Some c ≡ command_of line) (h : IsSurvey t c held) where
+  pub all_told : flat_map line_of (survey_words t held) ≡ answer memory old line
   all_told = told_answer t c held line e h ∙ ap (λ b. answer b held line) (sym found) ∙ ap (λ r. answer memory r line) same
 
   pub all_left : command_after (Some c) held ≡ held → held ≡ left_by memory old line

@@ -26,7 +26,7 @@ StandsBefore t k r = (r.tenant < t) ⊎ ((r.tenant ≡ t) × IsTrue (is_below r.
 abbrev pub StandsBehind : ℕ → List ℕ → KeyRecord → Type 0
 StandsBehind t k r = (t < r.tenant) ⊎ ((r.tenant ≡ t) × IsTrue (is_below k r.key))
 
-lt_is : (o : Ordering) → is_lt o ≡ true → o ≡ Less
+pub lt_is : (o : Ordering) → is_lt o ≡ true → o ≡ Less
 lt_is Less h = refl
 lt_is Equal h = cc
 lt_is Greater h = cc

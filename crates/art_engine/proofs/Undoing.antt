@@ -18,7 +18,7 @@ use Rattle.art_lines.specs.Words.{name}
 use Rattle.art_lines.specs.Commands.{put, del, of_tenant}
 use Rattle.art_engine.specs.Records.{Own, KeyRecord, NumberRecord, InOrder, KeyComesBefore, NumberComesBefore, own, with_own}
 use Rattle.art_lines.specs.ReplyWords.{put_reply}
-use Rattle.art_engine.specs.Replies.{puts, value_at, value_at_number, has_conflict, with_pair, without_pair, with_number, without_number, with_changed, command_after}
+use Rattle.art_engine.specs.Replies.{puts, value_at, has_conflict, with_pair, without_at, with_changed, command_after}
 use Rattle.art_engine.proofs.Filters.{filter-all, filter-none, All-map}
 use Rattle.art_engine.proofs.OwnLaws.{own_reads_back, own_is_in_place, with_own_again, key_part, number_part}
 use Rattle.art_engine.proofs.Standing.{cmp_equal, cmp_greater, below_trans, not_both_below}
@@ -114,15 +114,15 @@ new_means None true is = absurd (cc)
 pub puts_are_undone : PutsAreUndone
 puts_are_undone t k v r are new =
     let mine : Own = own t r in
-    let made : Own = record { keys = with_pair k v mine.keys; numbers = mine.numbers } in
-    let is = new_means (value_at k mine.keys) (has_conflict k mine.keys) new in
+    let made : Own = record { keys = with_pair is_below k v mine.keys; numbers = mine.numbers } in
+    let is = new_means (value_at bytes_eq k mine.keys) (has_conflict k mine.keys) new in
     let put_is : command_after (Some (of_tenant t (put k v))) r ≡ with_own t made r =
     ap₂ (λ old conflict. with_changed t (if puts old conflict then Some made else None) r) is.0 is.1 in
     let order = own_in_order (λ (x : KeyRecord). x.tenant) key_part KeyComesBefore (λ p q. is_below p.0 q.0 ≡ true) key_comes t r.keys are.keys_in_order in
     let others = none_passes (λ (p : List ℕ × List ℕ). p.1) (λ p. bytes_eq p.0 k) mine.keys is.0 in
-    let keys_are : without_pair k made.keys ≡ mine.keys =
+    let keys_are : without_at bytes_eq k made.keys ≡ mine.keys =
     undone is_below bytes_eq k ((bytes_eq-Decides k k).1 refl) (key_apart k) not_both_below (below_trans k) v mine.keys order others in
-    let behind : Own → Own = λ o. record { keys = without_pair k o.keys; numbers = o.numbers } in
+    let behind : Own → Own = λ o. record { keys = without_at bytes_eq k o.keys; numbers = o.numbers } in
     ap (command_after (Some (of_tenant t (del k)))) put_is
     ∙ ap (λ o. with_own t (behind o) (with_own t made r)) (own_reads_back t made r)
     ∙ with_own_again t made (behind made) r
@@ -144,20 +144,20 @@ number_upward k i j h l =
     let high : int_cmp i j ≡ Less = rw l refl in
     sym (lt-int_cmp k j) ∙ ap is_lt (int_cmp_total.trans k i j low high)
 
-number_comes : (r s : NumberRecord) → NumberComesBefore r s → r.tenant ≡ s.tenant → int_lt r.number s.number ≡ true
+number_comes : (r s : NumberRecord) → NumberComesBefore r s → r.tenant ≡ s.tenant → int_lt r.key s.key ≡ true
 number_comes r s (inl lt) same = absurd (omega (arith, lt, same))
 number_comes r s (inr up) same = up.1
 
 pub number_puts_are_undone : NumberPutsAreUndone
 number_puts_are_undone t n v r are new =
     let mine : Own = own t r in
-    let made : Own = record { keys = mine.keys; numbers = with_number n v mine.numbers } in
-    let is = new_means (value_at_number n mine.numbers) false new in
+    let made : Own = record { keys = mine.keys; numbers = with_pair int_lt n v mine.numbers } in
+    let is = new_means (value_at int_eq n mine.numbers) false new in
     let order = own_in_order (λ (x : NumberRecord). x.tenant) number_part NumberComesBefore (λ p q. int_lt p.0 q.0 ≡ true) number_comes t r.numbers are.numbers_in_order in
     let others = none_passes (λ (p : ℤ × List ℕ). p.1) (λ p. int_eq p.0 n) mine.numbers is.0 in
-    let numbers_are : without_number n made.numbers ≡ mine.numbers =
+    let numbers_are : without_at int_eq n made.numbers ≡ mine.numbers =
     undone int_lt int_eq n ((Decides-int_eq n n).1 refl) (number_apart n) int_lt_turned (number_upward n) v mine.numbers order others in
-    let behind : Own → Own = λ o. record { keys = o.keys; numbers = without_number n o.numbers } in
+    let behind : Own → Own = λ o. record { keys = o.keys; numbers = without_at int_eq n o.numbers } in
     ap (λ o. with_own t (behind o) (with_own t made r)) (own_reads_back t made r)
     ∙ with_own_again t made (behind made) r
     ∙ ap (λ numbers. with_own t (record { keys = mine.keys; numbers = numbers }) r) numbers_are

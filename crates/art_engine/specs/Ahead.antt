@@ -1,5 +1,5 @@
 -- What is read ahead of a line.
-use Rattle.std.specs.Prelude.{◌≡◌, ◌≤◌, ◌⊎◌, ℕ, suc, int_lt, if◌then◌else◌, List, [], ◌∷◌, length, drop}
+use Rattle.std.specs.Prelude.{◌≡◌, ◌⊎◌, ℕ, suc, int_lt, if◌then◌else◌, List, length, drop}
 use Rattle.std.specs.Prelude.{Option, Some, None, option_map, unwrap_or, nat_eq, true}
 use Rattle.std.specs.List.{starts_with}
 use Rattle.art_bytes.specs.Keys.{is_below}
@@ -10,7 +10,6 @@ use Rattle.art_arena.specs.arena.Arena.{Arena, held_at, inner_held}
 use Rattle.art_arena.specs.arena.Descents.{GoesOn}
 use Rattle.art_lines.specs.Commands.{Command, of_tenant, over, del, get, find, list, span, nget, ndel, nspan}
 use Rattle.art_lines.specs.Keys.{full_key}
-use Rattle.art_lines.specs.Reading.{command_of}
 
 -- The full key along whose path nodes may be read ahead of a command: its own, or that of its prefix or lower bound. Of
 -- other commands, and where bounds are out of order, there is none.
@@ -29,13 +28,6 @@ way_ahead other = None
 -- at most as many nodes as the path of that key may have
 abbrev pub most_ahead : Option Command → ℕ
 most_ahead command = unwrap_or (option_map (λ full. suc (length full)) (way_ahead command)) 0
-
--- so many nodes were read ahead of each of some lines
-abbrev pub AreReadAhead : List (List ℕ) → List ℕ → Type 0
-AreReadAhead [] [] = Unit {0}
-AreReadAhead (line ∷ lines) (n ∷ counts) = (n ≤ most_ahead (command_of line)) × AreReadAhead lines counts
-AreReadAhead [] (n ∷ counts) = ⊥
-AreReadAhead (line ∷ lines) [] = ⊥
 
 -- From one place of a way, a node and how many bytes of the key lead there, to the next: there is none, or the node is
 -- an inner one whose prefix the key meets, as much of it as is stored, and goes on from by its next byte.

@@ -1,21 +1,21 @@
 -- How many nodes a line reads, told by the records alone.
 use Rattle.std.specs.Prelude.{◌≡◌, ℕ, int_lt, ◌+◌, ◌-◌, ◌*◌, ◌^◌, ◌≤◌, ◌==◌, not, min, max, bytes_eq}
 use Rattle.std.specs.Prelude.{if◌then◌else◌, List, [], ◌∷◌, length}
-use Rattle.std.specs.Prelude.{Bool, true, false, map, filter, Option, Some, None, IsSome}
+use Rattle.std.specs.Prelude.{Bool, map, filter, Option, Some, IsSome}
 use Rattle.std.specs.Int.{to_be_bytes, w32}
+use Rattle.std.specs.Ordering.{int_eq}
 use Rattle.art_bytes.specs.Keys.{common_prefix, is_below}
 use Rattle.art_arena.specs.tree.Fronts.{distinct}
 use Rattle.art_arena.specs.tree.TreeOf.{tree_of}
 use Rattle.art_operations.specs.NodeCounts.{node_count}
 use Rattle.art_walks.specs.MapReads.{path_length}
-use Rattle.art_lines.specs.Commands.{Request, put, over, del, get, find, list, span, nput, nget, ndel, nspan, drop}
-use Rattle.art_lines.specs.Commands.{Command, of_tenant, dump, audit}
+use Rattle.art_lines.specs.Commands.{get, find, list, span, nget, nspan, drop, Command, of_tenant}
 use Rattle.art_bytes.specs.Laws.{pair_key}
 use Rattle.art_lines.specs.Keys.{full_key}
 use Rattle.art_engine.specs.Keys.{full_key_of, number_key_of}
 use Rattle.art_lines.specs.Reading.{command_of}
-use Rattle.art_engine.specs.Records.{KeyRecord, NumberRecord, Records, own}
-use Rattle.art_engine.specs.Replies.{value_at, front_at, behind_front, pairs_from_to, value_at_number, numbers_from_to}
+use Rattle.art_engine.specs.Records.{Records, own}
+use Rattle.art_engine.specs.Replies.{value_at, front_at, behind_front, pairs_from_to, numbers_from_to}
 
 -- At least so many nodes are read, and at most so many.
 pub record Visits : Type 0 where
@@ -25,14 +25,10 @@ pub record Visits : Type 0 where
 abbrev pub exactly : ℕ → Visits
 exactly n = record { least = n; most = n }
 
--- a leaf for each record that is listed, and what is read to find the first and the last of them
-abbrev pub listing : ℕ → ℕ → Visits
-listing records opening = record { least = records; most = records + opening }
-
--- how many nodes both ends of a listing take at most: told by the bytes of the prefix or of the longer bound, and by
--- those of the longest full key
-abbrev pub opening : ℕ → ℕ → ℕ
-opening bound longest = 2 * (bound + 6) * (longest + 2)
+-- A listing reads a leaf for each record that is listed, and what finds the first and the last of them: at most so many
+-- nodes by the bytes of the prefix or of the longer bound, and by those of the longest full key.
+abbrev pub listing : ℕ → ℕ → ℕ → Visits
+listing records bound longest = record { least = records; most = records + 2 * (bound + 6) * (longest + 2) }
 
 module _ {X : Type 0} (key : X → List ℕ) where
   -- how many nodes the path of a full key has in the tree of some records
@@ -44,73 +40,51 @@ module _ {X : Type 0} (key : X → List ℕ) where
   longest [] = 0
   longest (x ∷ xs) = max (length (key x)) (longest xs)
 
--- what a listing between two bounds reads that are in order
-abbrev pub span_visits : ℕ → List ℕ → List ℕ → Records → Visits
-span_visits tenant low high records =
-    listing (length (pairs_from_to low high (own tenant records).keys))
-    (opening (max (length low) (length high)) (longest full_key_of records.keys))
-
--- 1 where the list has an item
-abbrev pub one_if_any : {X : Type 0} → List X → ℕ
-one_if_any [] = 0
-one_if_any (x ∷ xs) = 1
-
 -- What dropping what a tenant holds reads and frees: the nodes that lie behind its four bytes in both trees, a leaf for
 -- each of its records and an inner node for each of the different longest fronts that neighbours among them share, and
 -- what is read to find the first and the last of them: in each tree that is there its root at least. The greatest count
 -- stays.
 abbrev pub dropping : ℕ → Records → Visits
 dropping tenant records =
-    let keys : List KeyRecord = filter (λ r. r.tenant == tenant) records.keys in
-    let numbers : List NumberRecord = filter (λ r. r.tenant == tenant) records.numbers in
-    let freed : ℕ = node_count full_key_of keys + node_count number_key_of numbers in
-    let roots : ℕ = one_if_any records.keys + one_if_any records.numbers in
+    let freed : ℕ = node_count full_key_of (filter (λ r. r.tenant == tenant) records.keys)
+    + node_count number_key_of (filter (λ r. r.tenant == tenant) records.numbers) in
+    let roots : ℕ = min 1 (length records.keys) + min 1 (length records.numbers) in
     let L : ℕ = max (longest full_key_of records.keys) (longest number_key_of records.numbers) in
     record { least = min (roots + freed) (2 ^ 64 - 1); most = 20 * (L + 2) + freed }
 
--- What a tenant's request reads: the path of its full key, or what a listing reads; a change reads nothing that counts,
--- save a drop.
-abbrev pub request_visits : ℕ → Request → Records → Visits
-request_visits tenant (get key) records = exactly (path_nodes full_key_of records.keys (full_key tenant key))
-request_visits tenant (find key) records = exactly (path_nodes full_key_of records.keys (full_key tenant key))
-request_visits tenant (list front) records =
-    listing (length (behind_front front (own tenant records).keys))
-    (opening (length front) (longest full_key_of records.keys))
-request_visits tenant (span low high) records =
-    if is_below high low then exactly 0 else span_visits tenant low high records
-request_visits tenant (nget number) records =
-    exactly (path_nodes number_key_of records.numbers (pair_key (tenant, number)))
-request_visits tenant (nspan low high) records =
-    if int_lt high low then exactly 0
-    else listing (length (numbers_from_to low high (own tenant records).numbers)) (opening 8 12)
-request_visits tenant (put key value) records = exactly 0
-request_visits tenant (over key value) records = exactly 0
-request_visits tenant (del key) records = exactly 0
-request_visits tenant (nput number value) records = exactly 0
-request_visits tenant (ndel number) records = exactly 0
-request_visits tenant drop records = dropping tenant records
-
+-- What a command reads: a look-up the path of its full key, or what its listing reads; a drop as above; all others
+-- nothing that counts.
 abbrev pub visits_of : Option Command → Records → Visits
-visits_of None records = exactly 0
-visits_of (Some (of_tenant tenant request)) records = request_visits tenant request records
-visits_of (Some dump) records = exactly 0
-visits_of (Some audit) records = exactly 0
+visits_of (Some (of_tenant t (get key))) records = exactly (path_nodes full_key_of records.keys (full_key t key))
+visits_of (Some (of_tenant t (find key))) records = exactly (path_nodes full_key_of records.keys (full_key t key))
+visits_of (Some (of_tenant t (list front))) records =
+    listing (length (behind_front front (own t records).keys)) (length front) (longest full_key_of records.keys)
+visits_of (Some (of_tenant t (span low high))) records =
+    if is_below high low then exactly 0
+    else listing (length (pairs_from_to low high (own t records).keys)) (max (length low) (length high))
+    (longest full_key_of records.keys)
+visits_of (Some (of_tenant t (nget number))) records =
+    exactly (path_nodes number_key_of records.numbers (pair_key (t, number)))
+visits_of (Some (of_tenant t (nspan low high))) records =
+    if int_lt high low then exactly 0
+    else listing (length (numbers_from_to low high (own t records).numbers)) 8 12
+visits_of (Some (of_tenant t drop)) records = dropping t records
+visits_of other records = exactly 0
 
 -- What a look-up reads of the records under keys, and what of those under numbers: it reads one of both maps alone.
 abbrev pub key_visits : Option Command → Records → Visits
-key_visits (Some (of_tenant tenant (nget number))) records = exactly 0
-key_visits (Some (of_tenant tenant (nspan low high))) records = exactly 0
+key_visits (Some (of_tenant t (nget number))) records = exactly 0
+key_visits (Some (of_tenant t (nspan low high))) records = exactly 0
 key_visits command records = visits_of command records
 
 abbrev pub number_visits : Option Command → Records → Visits
-number_visits (Some (of_tenant tenant (nget number))) records = request_visits tenant (nget number) records
-number_visits (Some (of_tenant tenant (nspan low high))) records = request_visits tenant (nspan low high) records
+number_visits (Some (of_tenant t (nget number))) records = visits_of (Some (of_tenant t (nget number))) records
+number_visits (Some (of_tenant t (nspan low high))) records = visits_of (Some (of_tenant t (nspan low high))) records
 number_visits command records = exactly 0
 
 -- what a line reads: one that finds no memory reads nothing that counts
 abbrev pub line_visits : Bool → List ℕ → Records → Visits
-line_visits true line records = exactly 0
-line_visits false line records = visits_of (command_of line) records
+line_visits memory line records = if memory then exactly 0 else visits_of (command_of line) records
 
 -- so many nodes
 abbrev pub IsWithin : Visits → ℕ → Type 0
@@ -148,17 +122,11 @@ pub record IsOwnPath {X : Type 0} (key : X → List ℕ) (tenant_of : X → ℕ)
 
 -- What a look-up reads that finds a record.
 abbrev pub ReadsOwnPath : Option Command → Records → ℕ → Type 0
-ReadsOwnPath (Some (of_tenant tenant (get key))) records n = IsSome (value_at key (own tenant records).keys)
+ReadsOwnPath (Some (of_tenant tenant (get key))) records n = IsSome (value_at bytes_eq key (own tenant records).keys)
     → IsOwnPath full_key_of (λ r. r.tenant) tenant (full_key tenant key) records.keys n
 ReadsOwnPath (Some (of_tenant tenant (find key))) records n = IsSome (front_at key (own tenant records).keys)
     → IsOwnPath full_key_of (λ r. r.tenant) tenant (full_key tenant key) records.keys n
 ReadsOwnPath (Some (of_tenant tenant (nget number))) records n =
-    IsSome (value_at_number number (own tenant records).numbers)
+    IsSome (value_at int_eq number (own tenant records).numbers)
     → IsOwnPath number_key_of (λ r. r.tenant) tenant (pair_key (tenant, number)) records.numbers n
 ReadsOwnPath other records n = Unit {0}
-
--- So many nodes a line has read, which found no memory or did.
-pub record IsCount (memory : Bool) (records : Records) (line : List ℕ) (n : ℕ) : Type 0 where
-  pub within : IsWithin (line_visits memory line records) n
-  pub short : IsShort (command_of line) n
-  pub own_path : ReadsOwnPath (command_of line) records n

@@ -1,13 +1,13 @@
 -- How the drop of a tenant went: how that is told, and what it left.
 use Rattle.std.specs.Prelude.{◌≡◌, ℕ, ◌+◌, Bool, true, false, List, [], ◌∷◌, codes, Some}
-use Rattle.art_engine.specs.declared.dropped.Dropped.{Dropped}
-use Rattle.art_engine.specs.declared.dropped.Dropped.TheVariants as dropped
+use Rattle.art_engine.specs.declared.drop_tenant.Dropped.{Dropped}
+use Rattle.art_engine.specs.declared.drop_tenant.Dropped.TheVariants as dropped
 use Rattle.art_lines.specs.Words.{Word, name, natural}
 use Rattle.art_lines.specs.Commands.{of_tenant, drop}
 use Rattle.art_engine.specs.Records.{Records}
 use Rattle.art_engine.specs.Refusals.{MayRefuse}
 use Rattle.art_engine.specs.Replies.{command_reply, command_after}
-use Rattle.art_engine.specs.Counts.{IsWithin, request_visits}
+use Rattle.art_engine.specs.Counts.{IsWithin, visits_of}
 
 -- the words that tell how it went
 abbrev pub dropped_words : Dropped → List Word
@@ -29,7 +29,7 @@ visits_told dropped.Memory = 0
 pub record AreGone (d : Dropped) (tenant : ℕ) (old new : Records) : Type 0 where
   pub told : dropped_words d ∷ [] ≡ command_reply (Some (of_tenant tenant drop)) old
   pub left : new ≡ command_after (Some (of_tenant tenant drop)) old
-  pub counted : IsWithin (request_visits tenant drop old) (visits_told d)
+  pub counted : IsWithin (visits_of (Some (of_tenant tenant drop)) old) (visits_told d)
 
 -- So it was done; where there was no memory for it, there may be none, and nothing is changed.
 abbrev pub IsDropDone : Dropped → ℕ → Records → Records → Type 0

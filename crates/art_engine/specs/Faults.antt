@@ -1,35 +1,24 @@
--- What was written and what is held where a run ends by a fault.
-use Rattle.std.specs.Prelude.{◌≡◌, ℕ, suc, ◌≤◌, ◌≢◌, Bool, true, List, [], ◌++◌, length, take}
-use Rattle.art_lines.specs.Lines.{whole_lines_of}
-use Rattle.art_lines.specs.Writes.{IsCut}
+-- What was written and what is held where a write fails.
+use Rattle.std.specs.Prelude.{◌≡◌, ℕ, Bool, true, IsTrue, List, ◌∷◌, ◌++◌}
+use Rattle.art_bytes.specs.Keys.{is_proper_front}
 use Rattle.art_engine.specs.State.{State}
 use Rattle.art_engine.specs.Refusals.{LineMayRefuse}
-use Rattle.art_engine.specs.Outcome.{answer, left_by, outcome_of, HaveRead, IsLawful, IsOutcome}
+use Rattle.art_engine.specs.Outcome.{answer, left_by, IsOutcome}
 
--- After a failed read, all whole lines of the text were answered, and nothing else: an unfinished line is not carried
--- out.
-abbrev pub AfterReadFault : State → List ℕ → List ℕ → State → Type 0
-AfterReadFault start text written now = IsOutcome start (whole_lines_of text) written now
-
--- After a failed write, one line more than `answered` ones was carried out. Their answers were written whole,
--- and of the answer to the last a beginning that is not all of it. What the answered ones have read is counted.
-pub record AfterWriteFault (start : State) (lines : List (List ℕ)) (written : List ℕ) (now : State) : Type 0 where
-  pub refused : List ℕ
-  pub answered : ℕ
-  pub within : suc answered ≤ length lines
-  pub lawful : IsLawful start.records (take (suc answered) lines) refused
-  pub begun : List ℕ
-  pub missing : List ℕ
-  pub is_cut : missing ≢ []
-  pub told : written ≡ (outcome_of start.records (take answered lines) refused).written ++ begun
-  pub cut : written ++ missing ≡ (outcome_of start.records (take (suc answered) lines) refused).written
-  pub left : now.records ≡ (outcome_of start.records (take (suc answered) lines) refused).records
-  pub counted : HaveRead start (take answered lines) refused now
-
--- A line was carried out, and its answer was cut. What it has read is not counted.
+-- A line was carried out, and of its answer a beginning was taken that is not all of it. What it has read is not
+-- counted.
 pub record IsCutLine (old : State) (line before after : List ℕ) (new : State) : Type 0 where
   pub memory : Bool
   pub lawful : memory ≡ true → LineMayRefuse old.records line
-  pub told : IsCut before after (answer memory old.records line)
-  pub left : new.records ≡ left_by memory old.records line
-  pub uncounted : (new.reads ≡ old.reads) × (new.ahead ≡ old.ahead)
+  pub begun : List ℕ
+  pub is_cut : IsTrue (is_proper_front begun (answer memory old.records line))
+  pub told : after ≡ before ++ begun
+  pub left : new ≡ record old { records = left_by memory old.records line }
+
+-- After a failed write, one line more than the `answered` ones was carried out. Their answers were written whole,
+-- and of the answer to the last a beginning that is not all of it.
+abbrev pub AfterWriteFault : State → List (List ℕ) → List ℕ → State → Type 0
+AfterWriteFault start lines written now =
+    (answered others : List (List ℕ)) × (line told : List ℕ) × (middle : State)
+    × (lines ≡ answered ++ line ∷ others) × IsOutcome start answered told middle
+    × IsCutLine middle line told written now

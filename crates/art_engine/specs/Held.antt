@@ -13,7 +13,7 @@ record_in full value = record { tenant = from_be_bytes w32 (take 4 full); key = 
 
 abbrev pub number_record_in : List ℕ → List ℕ → NumberRecord
 number_record_in bytes value =
-    record { tenant = from_be_bytes w32 (take 4 bytes); number = number_of_bytes (drop 4 bytes); value = value }
+    record { tenant = from_be_bytes w32 (take 4 bytes); key = number_of_bytes (drop 4 bytes); value = value }
 
 -- a key has the four bytes of a tenant, and the line that makes its record is no longer than a line may be
 abbrev pub IsShortRecord : List ℕ → List ℕ → Type 0
@@ -23,7 +23,7 @@ IsShortRecord full value = (4 ≤ length full)
 abbrev pub IsShortNumber : List ℕ → List ℕ → Type 0
 IsShortNumber bytes value =
     length (text_of (nput_words (number_record_in bytes value).tenant
-    (number_record_in bytes value).number value)) ≤ 4096
+    (number_record_in bytes value).key value)) ≤ 4096
 
 -- the same of a pair
 abbrev pub IsShortPair : Pair → Type 0

@@ -1,11 +1,12 @@
 -- Laws of the definitions, each proved on a function of `laws`.
-use Rattle.std.specs.Prelude.{◌≡◌, ◌≢◌, ℕ, suc, ℤ, FitsSigned, ◌^◌, ◌<◌, ◌==◌, ◌||◌, ◌&&◌, ◌↔◌, nat_lt, if◌then◌else◌}
+use Rattle.std.specs.Prelude.{◌≡◌, ◌≢◌, ℕ, ℤ, FitsSigned, ◌^◌, ◌<◌, ◌==◌, ◌||◌, ◌&&◌, ◌↔◌, nat_lt, if◌then◌else◌}
 use Rattle.std.specs.Prelude.{Bool, true, false, List, [], ◌∷◌, ◌++◌, Option, Some, None, drop, map, flat_map}
 use Rattle.std.specs.Prelude.{length, replicate, codes, ◌+◌, ◌*◌, ◌-◌, ◌≤◌, min, max}
 use Rattle.std.specs.Int.{w64}
+use Rattle.std.specs.List.{fold}
 use Rattle.art_arena.specs.tree.Changes.{IsIn}
 use Rattle.art_arena.specs.tree.Tenants.{with_front}
-use Rattle.art_lines.specs.Commands.{Request, put, del, nput, ndel, Command, of_tenant, dump, audit}
+use Rattle.art_lines.specs.Commands.{Request, put, del, nput, ndel, Command, of_tenant}
 use Rattle.art_lines.specs.Reading.{command_of}
 use Rattle.art_bytes.specs.Keys.{is_below, conflicts}
 use Rattle.art_engine.specs.Counts.{dropping, longest}
@@ -15,8 +16,8 @@ use Rattle.art_engine.specs.Records.{Own, KeyRecord, NumberRecord, Records, AreR
 use Rattle.art_engine.specs.Refusals.{MayRefuse}
 use Rattle.art_lines.specs.Lines.{lines_of}
 use Rattle.art_lines.specs.Words.{name, line_of}
-use Rattle.art_engine.specs.Replies.{own_reply, own_after, command_after, reply_to, dump_of}
-use Rattle.art_engine.specs.Outcome.{is_refused, left_by, records_from, outcome_of}
+use Rattle.art_engine.specs.Replies.{own_reply, own_after, command_after, dump_of}
+use Rattle.art_engine.specs.Outcome.{left_by, answers, reply_to, records_after}
 use Rattle.art_engine.specs.Stored.{Pair, NumberPair, AreFull, AreNumberPairs, all_records_of}
 
 -- what is put in place for a tenant is what it holds then
@@ -53,10 +54,8 @@ OwnIsBehindFront = (tenant : ℕ) (ps : List Pair) (ns : List NumberPair) → te
 
 -- the request of a tenant that a line asks for, if it asks for one of this tenant's
 abbrev pub request_to : ℕ → Option Command → Option Request
-request_to tenant None = None
 request_to tenant (Some (of_tenant other request)) = if other == tenant then Some request else None
-request_to tenant (Some dump) = None
-request_to tenant (Some audit) = None
+request_to tenant other = None
 
 -- what a tenant holds after a request of its own
 abbrev pub own_changed : Option Own → Own → Own
@@ -69,12 +68,13 @@ with_reply false (Some request) reply rest = reply ∷ rest
 with_reply false None reply rest = rest
 with_reply true request reply rest = rest
 
--- Of the answers to some lines, the replies to those of a tenant's that are not refused.
-abbrev pub replies_among : ℕ → ℕ → Records → List (List ℕ) → List ℕ → List (List ℕ)
-replies_among tenant position records [] refused = []
-replies_among tenant position records (line ∷ lines) refused =
-    with_reply (is_refused refused position) (request_to tenant (command_of line)) (reply_to records line)
-    (replies_among tenant (suc position) (left_by (is_refused refused position) records line) lines refused)
+-- Of the answers to some lines, each of which finds no memory where `true` stands beside it, the replies to those of a
+-- tenant's.
+abbrev pub replies_among : ℕ → Records → List (List ℕ × Bool) → List (List ℕ)
+replies_among tenant records [] = []
+replies_among tenant records (l ∷ lines) =
+    with_reply l.1 (request_to tenant (command_of l.0)) (reply_to records l.0)
+    (replies_among tenant (left_by l.1 records l.0) lines)
 
 -- what a tenant holds after a line: what its request leaves, where the line asks for one and is not refused
 abbrev pub own_behind : Bool → Option Request → Own → Own
@@ -88,19 +88,14 @@ own_told None mine = []
 own_told (Some request) mine = flat_map line_of (own_reply request mine)
 
 -- The same replies from what the tenant holds alone, and what it holds then: the lines of others are passed over.
-abbrev pub own_replies : ℕ → ℕ → Own → List (List ℕ) → List ℕ → List (List ℕ)
-own_replies tenant position mine [] refused = []
-own_replies tenant position mine (line ∷ lines) refused =
-    with_reply (is_refused refused position) (request_to tenant (command_of line))
-    (own_told (request_to tenant (command_of line)) mine)
-    (own_replies tenant (suc position)
-    (own_behind (is_refused refused position) (request_to tenant (command_of line)) mine) lines refused)
+abbrev pub own_replies : ℕ → Own → List (List ℕ × Bool) → List (List ℕ)
+own_replies tenant mine [] = []
+own_replies tenant mine (l ∷ lines) =
+    with_reply l.1 (request_to tenant (command_of l.0)) (own_told (request_to tenant (command_of l.0)) mine)
+    (own_replies tenant (own_behind l.1 (request_to tenant (command_of l.0)) mine) lines)
 
-abbrev pub own_at_end : ℕ → ℕ → Own → List (List ℕ) → List ℕ → Own
-own_at_end tenant position mine [] refused = mine
-own_at_end tenant position mine (line ∷ lines) refused =
-    own_at_end tenant (suc position)
-    (own_behind (is_refused refused position) (request_to tenant (command_of line)) mine) lines refused
+abbrev pub own_at_end : ℕ → Own → List (List ℕ × Bool) → Own
+own_at_end tenant mine lines = fold (λ m l. own_behind l.1 (request_to tenant (command_of l.0)) m) mine lines
 
 -- a request of one tenant leaves what all others hold
 abbrev pub RequestsLeaveOthers : Type 0
@@ -109,11 +104,9 @@ RequestsLeaveOthers = (other tenant : ℕ) (request : Request) (records : Record
 
 -- whatever others send, the replies to a tenant's lines and what it holds then are those of its lines alone
 abbrev pub TenantsStandAlone : Type 0
-TenantsStandAlone = (tenant position : ℕ) (records : Records) (lines : List (List ℕ)) (refused : List ℕ)
-    → (replies_among tenant position records lines refused
-    ≡ own_replies tenant position (own tenant records) lines refused)
-    × (own tenant (records_from position records lines refused)
-    ≡ own_at_end tenant position (own tenant records) lines refused)
+TenantsStandAlone = (tenant : ℕ) (records : Records) (lines : List (List ℕ × Bool))
+    → (replies_among tenant records lines ≡ own_replies tenant (own tenant records) lines)
+    × (own tenant (fold (λ r l. left_by l.1 r l.0) records lines) ≡ own_at_end tenant (own tenant records) lines)
 
 -- while a tenant has another key, whether the deletion of one may find no memory goes by what it holds alone
 abbrev pub DeletionsGoByOwnKeys : Type 0
@@ -126,7 +119,7 @@ DeletionsGoByOwnKeys = (tenant : ℕ) (key : List ℕ) (records : Records) (othe
 abbrev pub DeletionsGoByOwnNumbers : Type 0
 DeletionsGoByOwnNumbers = (tenant : ℕ) (number : ℤ) (records : Records) (other : NumberRecord) → tenant < 2 ^ 32
     → FitsSigned w64 number → AreRecords records → IsIn other records.numbers → other.tenant ≡ tenant
-    → other.number ≢ number → MayRefuse records (of_tenant tenant (ndel number))
+    → other.key ≢ number → MayRefuse records (of_tenant tenant (ndel number))
     ↔ MayRefuse (with_own tenant (own tenant records) no_records) (of_tenant tenant (ndel number))
 
 -- A key that is put in and answered `new`, and is then deleted, leaves the records as they were; so what a dump and an
@@ -152,15 +145,15 @@ dump_text records = flat_map line_of (dump_of records)
 abbrev pub DumpsTellRecords : Type 0
 DumpsTellRecords = (r s : Records) → AreRecords r → AreRecords s → (dump_text r ≡ dump_text s) ↔ (r ≡ s)
 
--- The lines of a dump, where no record is and none of them is refused, are answered `new` once a record and then `bad`,
--- and leave the records.
+-- The lines of a dump, where no record is and each finds memory, are answered `new` once a record and then `bad`, and
+-- leave the records.
 abbrev pub DumpsAreReadBack : Type 0
 DumpsAreReadBack = (records : Records) → AreRecords records
-    → outcome_of no_records (lines_of (dump_text records)) [] ≡ record {
-      written = flat_map line_of (replicate (length records.keys + length records.numbers) (name (codes "new") ∷ [])
-          ++ (name (codes "bad") ∷ []) ∷ []);
-      records = records;
-    }
+    → let lines : List (List ℕ) = lines_of (dump_text records) in
+    (answers no_records (map (λ line. (line, false)) lines)
+    ≡ flat_map line_of (replicate (length records.keys + length records.numbers) (name (codes "new") ∷ [])
+    ++ (name (codes "bad") ∷ []) ∷ []))
+    × (fold records_after no_records lines ≡ records)
 
 -- A drop reads and frees at least as many nodes as the tenant has records, the greatest count stays, and at most twice
 -- as many, and 20 for each byte of the longest full key and for two.

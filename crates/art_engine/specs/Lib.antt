@@ -10,7 +10,7 @@ pub mod Counts
 pub mod Laws
 pub mod Stored
 pub mod Changed
-pub mod Told
+pub mod Survey
 pub mod Dropped
 pub mod Progress
 pub mod Spans

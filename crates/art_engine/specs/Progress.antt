@@ -1,30 +1,15 @@
 -- How far a run has come with the bytes given so far.
-use Rattle.std.specs.Prelude.{◌≡◌, ℕ, ◌<◌, ◌==◌, false, List, [], ◌∷◌, ◌++◌, length, take}
+use Rattle.std.specs.Prelude.{◌≡◌, ℕ, ◌==◌, false, List, ◌++◌, take}
 use Rattle.std.specs.List.{AllByRecursion}
 use Rattle.art_lines.specs.Lines.{whole_lines_of, unfinished_line_of}
-use Rattle.art_engine.specs.Records.{Records}
 use Rattle.art_engine.specs.State.{State}
-use Rattle.art_engine.specs.Outcome.{HaveRead, IsLawful, outcome_of}
+use Rattle.art_engine.specs.Outcome.{IsOutcome}
 use Rattle.art_engine.specs.Faults.{AfterWriteFault}
-
--- each position is below a number
-abbrev pub AllBelow : List ℕ → ℕ → Type 0
-AllBelow [] n = Unit {0}
-AllBelow (p ∷ ps) n = (p < n) × AllBelow ps n
-
--- These lines came to this outcome, where those at the refused positions found no memory.
-pub record Ran (start : Records) (ls : List (List ℕ)) (refused written : List ℕ) (now : Records) : Type 0 where
-  pub lawful : IsLawful start ls refused
-  pub told : written ≡ (outcome_of start ls refused).written
-  pub left : now ≡ (outcome_of start ls refused).records
-  pub below : AllBelow refused (length ls)
 
 -- All whole lines of a text are carried out and counted, and the unfinished one is held, as far as it can be a command.
 pub record Carried (start now : State) (text held before taken : List ℕ) : Type 0 where
-  pub refused : List ℕ
   pub written : List ℕ
-  pub ran : Ran start.records (whole_lines_of text) refused written now.records
-  pub counted : HaveRead start (whole_lines_of text) refused now
+  pub outcome : IsOutcome start (whole_lines_of text) written now
   pub told : taken ≡ before ++ written
   pub rest : held ≡ take 4097 (unfinished_line_of text)
 

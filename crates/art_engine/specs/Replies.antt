@@ -1,45 +1,44 @@
 -- The reply to a line, and the records after it.
-use Rattle.std.specs.Prelude.{ℕ, ℤ, ◌+◌, int_lt, not, ◌&&◌, Bool, true, if◌then◌else◌, List, [], ◌∷◌, ◌++◌}
-use Rattle.std.specs.Prelude.{length, map, filter, flat_map, codes, Option, Some, None, option_map}
+use Rattle.std.specs.Prelude.{ℕ, ℤ, ◌+◌, int_lt, not, ◌&&◌, ◌||◌, Bool, false, if◌then◌else◌, List, [], ◌∷◌, ◌++◌}
+use Rattle.std.specs.Prelude.{length, map, filter, codes, Option, Some, None, is_some, option_map}
 use Rattle.std.specs.List.{list_any, find}
 use Rattle.std.specs.Str.{bytes_eq}
 use Rattle.std.specs.Ordering.{int_eq}
-use Rattle.art_lines.specs.Words.{Word, name, natural, line_of}
+use Rattle.art_lines.specs.Words.{Word, name, natural, signed, bytes}
 use Rattle.art_lines.specs.Commands.{Request, put, over, del, get, find as find_front, list, span}
 use Rattle.art_lines.specs.Commands.{nput, nget, ndel, nspan, drop}
-use Rattle.art_lines.specs.Commands.{Command, of_tenant, dump, audit, put_words, nput_words}
-use Rattle.art_lines.specs.Reading.{command_of}
+use Rattle.art_lines.specs.Commands.{Command, of_tenant, dump, audit, request_words}
 use Rattle.art_bytes.specs.Keys.{is_below, conflicts}
 use Rattle.art_arena.specs.tree.Tenants.{begins_with}
 use Rattle.art_operations.specs.KeyedLists.{overlaps}
 use Rattle.art_walks.specs.declared.stats.WellFormedTreeStats.{WellFormedTreeStats}
 use Rattle.art_map.specs.Audit.{audit_of}
-use Rattle.art_lines.specs.ReplyWords.{found_or, put_reply, nput_reply, front_reply, end_words, listed, numbers_listed}
+use Rattle.art_lines.specs.ReplyWords.{found_or, put_reply, front_reply, end_words, listed_as}
 use Rattle.art_engine.specs.Keys.{full_key_of, number_key_of}
-use Rattle.art_engine.specs.Records.{Own, Records, own, with_own}
+use Rattle.art_engine.specs.Records.{Own, Record, Records, own, with_own}
 
 -- the value at a key
-abbrev pub value_at : List ℕ → List (List ℕ × List ℕ) → Option (List ℕ)
-value_at key pairs = option_map (λ p. p.1) (find (λ p. bytes_eq p.0 key) pairs)
+abbrev pub value_at : {K : Type 0} → (K → K → Bool) → K → List (K × List ℕ) → Option (List ℕ)
+value_at same key pairs = option_map (λ p. p.1) (find (λ p. same p.0 key) pairs)
+
+-- the pairs with a value at a key, which stands at its place in the order, and no other value at it
+abbrev pub with_pair : {K : Type 0} → (K → K → Bool) → K → List ℕ → List (K × List ℕ) → List (K × List ℕ)
+with_pair below key value pairs = filter (λ p. below p.0 key) pairs ++ (key, value) ∷ filter (λ p. below key p.0) pairs
+
+-- the pairs without the one at a key
+abbrev pub without_at : {K : Type 0} → (K → K → Bool) → K → List (K × List ℕ) → List (K × List ℕ)
+without_at same key pairs = filter (λ p. not (same p.0 key)) pairs
 
 -- whether a key conflicts with one of these
 abbrev pub has_conflict : List ℕ → List (List ℕ × List ℕ) → Bool
 has_conflict key pairs = list_any (λ p. conflicts key p.0) pairs
-
--- the pairs with a value at a key, which stands at its place in the order, and no other value at it
-abbrev pub with_pair : List ℕ → List ℕ → List (List ℕ × List ℕ) → List (List ℕ × List ℕ)
-with_pair key value pairs = filter (λ p. is_below p.0 key) pairs ++ (key, value) ∷ filter (λ p. is_below key p.0) pairs
 
 -- the pairs whose keys overlap a key, and the pairs with a value at it in the place of these
 abbrev pub overlapped : List ℕ → List (List ℕ × List ℕ) → List (List ℕ × List ℕ)
 overlapped key pairs = filter (λ p. overlaps key p.0) pairs
 
 abbrev pub with_value_over : List ℕ → List ℕ → List (List ℕ × List ℕ) → List (List ℕ × List ℕ)
-with_value_over key value pairs = with_pair key value (filter (λ p. not (overlaps key p.0)) pairs)
-
--- the pairs without the one at a key
-abbrev pub without_pair : List ℕ → List (List ℕ × List ℕ) → List (List ℕ × List ℕ)
-without_pair key pairs = filter (λ p. not (bytes_eq p.0 key)) pairs
+with_value_over key value pairs = with_pair is_below key value (filter (λ p. not (overlaps key p.0)) pairs)
 
 -- the pair whose key is a front of this one, or equals it
 abbrev pub front_at : List ℕ → List (List ℕ × List ℕ) → Option (List ℕ × List ℕ)
@@ -52,73 +51,58 @@ behind_front front pairs = filter (λ p. begins_with front p.0) pairs
 abbrev pub pairs_from_to : List ℕ → List ℕ → List (List ℕ × List ℕ) → List (List ℕ × List ℕ)
 pairs_from_to low high pairs = filter (λ p. not (is_below p.0 low) && is_below p.0 high) pairs
 
--- the value at a number
-abbrev pub value_at_number : ℤ → List (ℤ × List ℕ) → Option (List ℕ)
-value_at_number number pairs = option_map (λ p. p.1) (find (λ p. int_eq p.0 number) pairs)
-
--- the pairs with a value at a number, at its place in the order, and no other value at it; and without the one there
-abbrev pub with_number : ℤ → List ℕ → List (ℤ × List ℕ) → List (ℤ × List ℕ)
-with_number number value pairs =
-    filter (λ p. int_lt p.0 number) pairs ++ (number, value) ∷ filter (λ p. int_lt number p.0) pairs
-
-abbrev pub without_number : ℤ → List (ℤ × List ℕ) → List (ℤ × List ℕ)
-without_number number pairs = filter (λ p. not (int_eq p.0 number)) pairs
-
 -- the pairs from a low number on and up to a high one
 abbrev pub numbers_from_to : ℤ → ℤ → List (ℤ × List ℕ) → List (ℤ × List ℕ)
 numbers_from_to low high pairs = filter (λ p. not (int_lt p.0 low) && not (int_lt high p.0)) pairs
 
 -- It puts the value in place, unless there is a conflict and no old value.
 abbrev pub puts : Option (List ℕ) → Bool → Bool
-puts (Some old) conflict = true
-puts None conflict = not conflict
+puts old conflict = is_some old || not conflict
 
 -- the reply to a tenant's request, line by line, from what the tenant holds and nothing else
 abbrev pub own_reply : Request → Own → List (List Word)
-own_reply (put key value) mine = put_reply (value_at key mine.keys) (has_conflict key mine.keys) ∷ []
+own_reply (put key value) mine = put_reply (value_at bytes_eq key mine.keys) (has_conflict key mine.keys) ∷ []
 own_reply (over key value) mine = (name (codes "over") ∷ natural (length (overlapped key mine.keys)) ∷ []) ∷ []
-own_reply (del key) mine = found_or (value_at key mine.keys) (codes "gone") (codes "none") ∷ []
-own_reply (get key) mine = found_or (value_at key mine.keys) (codes "is") (codes "none") ∷ []
+own_reply (del key) mine = found_or (value_at bytes_eq key mine.keys) (codes "gone") (codes "none") ∷ []
+own_reply (get key) mine = found_or (value_at bytes_eq key mine.keys) (codes "is") (codes "none") ∷ []
 own_reply (find_front key) mine = front_reply (front_at key mine.keys) ∷ []
-own_reply (list front) mine = listed (behind_front front mine.keys)
+own_reply (list front) mine = listed_as bytes (behind_front front mine.keys)
 own_reply (span low high) mine =
-    if is_below high low then (name (codes "bounds") ∷ []) ∷ [] else listed (pairs_from_to low high mine.keys)
-own_reply (nput number value) mine = nput_reply (value_at_number number mine.numbers) ∷ []
-own_reply (nget number) mine = found_or (value_at_number number mine.numbers) (codes "is") (codes "none") ∷ []
-own_reply (ndel number) mine = found_or (value_at_number number mine.numbers) (codes "gone") (codes "none") ∷ []
+    if is_below high low then (name (codes "bounds") ∷ []) ∷ [] else listed_as bytes (pairs_from_to low high mine.keys)
+own_reply (nput number value) mine = put_reply (value_at int_eq number mine.numbers) false ∷ []
+own_reply (nget number) mine = found_or (value_at int_eq number mine.numbers) (codes "is") (codes "none") ∷ []
+own_reply (ndel number) mine = found_or (value_at int_eq number mine.numbers) (codes "gone") (codes "none") ∷ []
 own_reply (nspan low high) mine =
     if int_lt high low then (name (codes "bounds") ∷ []) ∷ []
-    else numbers_listed (numbers_from_to low high mine.numbers)
+    else listed_as signed (numbers_from_to low high mine.numbers)
 own_reply drop mine = (name (codes "dropped") ∷ natural (length mine.keys + length mine.numbers) ∷ []) ∷ []
 
 -- what the tenant holds after its request, where the request changes that
 abbrev pub own_after : Request → Own → Option Own
 own_after (put key value) mine =
-    if puts (value_at key mine.keys) (has_conflict key mine.keys)
-    then Some (record { keys = with_pair key value mine.keys; numbers = mine.numbers })
-    else None
-own_after (over key value) mine = Some (record { keys = with_value_over key value mine.keys; numbers = mine.numbers })
-own_after (del key) mine = Some (record { keys = without_pair key mine.keys; numbers = mine.numbers })
-own_after (get key) mine = None
-own_after (find_front key) mine = None
-own_after (list front) mine = None
-own_after (span low high) mine = None
-own_after (nput number value) mine = Some (record { keys = mine.keys; numbers = with_number number value mine.numbers })
-own_after (nget number) mine = None
-own_after (ndel number) mine = Some (record { keys = mine.keys; numbers = without_number number mine.numbers })
-own_after (nspan low high) mine = None
+    if puts (value_at bytes_eq key mine.keys) (has_conflict key mine.keys)
+    then Some (record mine { keys = with_pair is_below key value mine.keys }) else None
+own_after (over key value) mine = Some (record mine { keys = with_value_over key value mine.keys })
+own_after (del key) mine = Some (record mine { keys = without_at bytes_eq key mine.keys })
+own_after (nput number value) mine = Some (record mine { numbers = with_pair int_lt number value mine.numbers })
+own_after (ndel number) mine = Some (record mine { numbers = without_at int_eq number mine.numbers })
 own_after drop mine = Some (record { keys = []; numbers = [] })
+own_after other mine = None
 
--- the lines that would make the records under keys, and those under numbers
+-- the lines that would make some records, each by a request for its key and value
+abbrev pub lines_by : {K : Type 0} → (K → List ℕ → Request) → List (Record K) → List (List Word)
+lines_by request records = map (λ r. request_words r.tenant (request r.key r.value)) records
+
+-- those of the records under keys, and of those under numbers
 abbrev pub key_lines : Records → List (List Word)
-key_lines records = map (λ r. put_words r.tenant r.key r.value) records.keys
+key_lines records = lines_by put records.keys
 
 abbrev pub number_lines : Records → List (List Word)
-number_lines records = map (λ r. nput_words r.tenant r.number r.value) records.numbers
+number_lines records = lines_by nput records.numbers
 
 -- A dump is the lines that would make all records, by tenant and key, then by tenant and number, then their count.
 abbrev pub dump_of : Records → List (List Word)
-dump_of records = key_lines records ++ number_lines records
+dump_of records = lines_by put records.keys ++ lines_by nput records.numbers
     ++ end_words (length records.keys + length records.numbers) ∷ []
 
 -- what tells of a tree: its leaves, and its inner nodes of 2 to 4, 5 to 16, 17 to 32, 33 to 48 and 49 to 256 children
@@ -145,16 +129,6 @@ with_changed tenant (Some mine) records = with_own tenant mine records
 
 -- the records after a command
 abbrev pub command_after : Option Command → Records → Records
-command_after None records = records
 command_after (Some (of_tenant tenant request)) records =
     with_changed tenant (own_after request (own tenant records)) records
-command_after (Some dump) records = records
-command_after (Some audit) records = records
-
--- the reply to a line
-unfoldable pub reply_to : Records → List ℕ → List ℕ
-reply_to records line = flat_map line_of (command_reply (command_of line) records)
-
--- the records after a line
-unfoldable pub records_after : Records → List ℕ → Records
-records_after records line = command_after (command_of line) records
+command_after other records = records

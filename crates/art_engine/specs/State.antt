@@ -1,6 +1,6 @@
 -- What an index holds, and what its lines have read.
 use Rattle.std.specs.Prelude.{ℕ, List, []}
-use Rattle.art_engine.specs.Records.{Records, no_records}
+use Rattle.art_engine.specs.Records.{Records}
 
 -- the records of all tenants; how many nodes each line has read that was answered so far, in order; and how many were
 -- read ahead of each
@@ -12,6 +12,3 @@ pub record State : Type 0 where
 -- nothing was read yet
 abbrev pub unread : Records → State
 unread records = record { records = records; reads = []; ahead = [] }
-
-abbrev pub at_first : State
-at_first = unread no_records

@@ -32,7 +32,7 @@ NumberPair = List ℕ × Vec ℕ
 abbrev pub number_record_of : NumberPair → NumberRecord
 number_record_of p = record {
   tenant = from_be_bytes w32 (take 4 p.0);
-  number = number_of_bytes (drop 4 p.0);
+  key = number_of_bytes (drop 4 p.0);
   value = p.1.items;
 }
 

@@ -5,8 +5,8 @@ ghost use Rattle.art_engine.specs.Records.{no_records};
 ghost use Rattle.art_engine.specs.Replies.{count_words};
 ghost use Rattle.art_lines.specs.Writes.{Writes};
 ghost use Rattle.art_lines.specs.Gathered.{Puts};
-ghost use Rattle.art_engine.specs.Told.{told_words};
-ghost use Rattle.art_engine.specs.declared.told.Told.TheVariants.{Counts};
+ghost use Rattle.art_engine.specs.Survey.{survey_words};
+ghost use Rattle.art_engine.specs.declared.survey.Survey.TheVariants.{Counts};
 
 use art_lines::reply::write_piece;
 use art_lines::room::{put_number, put_text};
@@ -51,7 +51,7 @@ pub(crate) fn write_audit<W: Sink>(
 ) -> Result<(), WriteFailed>
     requires { W.has_failed sink.old ≡ false }
     ensures { Writes result (W.taken sink.old) (W.taken sink.new)
-        (flat_map line_of (told_words (Counts keys.now numbers.now) no_records))
+        (flat_map line_of (survey_words (Counts keys.now numbers.now) no_records))
         (W.has_failed sink.new) }
 {
     let mut room = [0; ROOM];

@@ -8,11 +8,11 @@ ghost use Rattle.art_lines.specs.Parsed.{looks_up, command_with};
 ghost use Rattle.art_engine.specs.Replies.{command_reply};
 ghost use Rattle.art_engine.specs.Stored.{all_records_of, ArePairs, AreNumberPairs};
 
-use crate::carry::{ask_all, change, tell_all};
+use crate::change::{change, write_changed};
+use crate::drop_tenant::{drop_tenant, write_dropped};
 use crate::history::Reads;
-use crate::readers::{Readers, look_in};
-use crate::records::write_placed;
-use crate::tenants::{drop_tenant, write_dropped};
+use crate::readers::Readers;
+use crate::survey::{take_survey, write_survey};
 use art_lines::command::fields::{Fields, NUMBER_KEY};
 use art_lines::command::read_line;
 use art_lines::command::word::Word;
@@ -93,8 +93,8 @@ impl<const PREFIX_LEN: usize> Model for Index<PREFIX_LEN> {
 impl<const PREFIX_LEN: usize> Index<PREFIX_LEN> {
     ghost use Rattle.art_lines.specs.Commands.{put, get};
     ghost use Rattle.art_engine.specs.Keys.{full_pair, number_pair};
-    ghost use Rattle.art_engine.specs.Records.{AreRecords, KeyFits, own};
-    ghost use Rattle.art_engine.specs.State.{at_first, unread};
+    ghost use Rattle.art_engine.specs.Records.{AreRecords, KeyFits, no_records, own};
+    ghost use Rattle.art_engine.specs.State.{unread};
     ghost use Rattle.art_engine.specs.Replies.{own_reply};
     ghost use Rattle.art_engine.specs.Refusals.{LineMayRefuse};
     ghost use Rattle.art_engine.specs.Outcome.{answer, left_by};
@@ -112,7 +112,7 @@ impl<const PREFIX_LEN: usize> Index<PREFIX_LEN> {
     /// assert_eq!(rt; replies.as_slice(), b"end 0\n".as_slice());
     /// ```
     pub fn new(alloc: Global) -> Self
-        ensures { result ≡ at_first }
+        ensures { result ≡ unread no_records }
     {
         Index {
             alloc,
@@ -294,7 +294,7 @@ impl<const PREFIX_LEN: usize> Index<PREFIX_LEN> {
         match word {
             Some(Word::LookUp(word)) => {
                 let readers = Readers::of(&self.records, &self.numbers);
-                visits = look_in(readers, word, fields, sink)?;
+                visits = readers.answer(word, fields, sink)?;
             }
             Some(Word::Change(word)) => {
                 let done = change(
@@ -305,7 +305,7 @@ impl<const PREFIX_LEN: usize> Index<PREFIX_LEN> {
                     fields,
                 );
                 memory = done.is_memory();
-                write_placed(sink, &done)?;
+                write_changed(sink, &done)?;
             }
             Some(Word::Drop) => {
                 let dropped = drop_tenant(&mut self.records, &mut self.numbers, fields);
@@ -314,9 +314,9 @@ impl<const PREFIX_LEN: usize> Index<PREFIX_LEN> {
                 write_dropped(sink, dropped)?;
             }
             Some(Word::Whole(word)) => {
-                let told = ask_all(&self.records, &self.numbers, word);
-                memory = told.is_memory();
-                tell_all(&self.records, &self.numbers, told, sink)?;
+                let found = take_survey(&self.records, &self.numbers, word);
+                memory = found.is_memory();
+                write_survey(&self.records, &self.numbers, found, sink)?;
             }
             None => write_piece(sink, b"bad\n")?,
         }

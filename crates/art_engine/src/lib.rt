@@ -2,32 +2,27 @@
 //! what is written is the definition's replies to the lines read, however they are cut.
 //!
 //! To believe it, believe these definitions, in this order: `Lines`, `Words`, `Commands` and `Keys` of art_lines;
-//! `Records` and `Keys`; `ReplyWords` of art_lines; `Replies`, `Refusals`, `Outcome` and `Faults`. `Replies` reads a
+//! `Records` and `Keys`; `ReplyWords` of art_lines; `Replies`, `Refusals`, `Outcome` and `Faults`. `Outcome` reads a
 //! line by `Reading` of art_lines, which need not be believed: the law `reading_is_spelling` there says that it is the
 //! grammar of `Commands`.
 #![tactic(auto)]
 
 pub mod ahead;
 mod audit;
-mod carry;
-mod dropped;
+mod change;
+mod drop_tenant;
+mod dump;
 mod history;
 mod index;
 pub mod laws;
-mod lists;
-mod looked;
+mod listing;
 mod lookup;
 mod maps;
-mod numbers;
 mod piece;
-mod placed;
 mod readers;
-mod records;
 mod running;
-mod tenants;
-mod told;
+mod survey;
 pub mod upcoming;
-mod whole;
 
 pub use index::{Handled, Index, RunFault};
 pub use lookup::look;

@@ -10,14 +10,16 @@ ghost use Rattle.art_lines.specs.Parsed.{looks_up};
 ghost use Rattle.art_engine.specs.Spans.{ReadsRecords, ReadsNumbers};
 ghost use Rattle.art_engine.specs.Stored.{Pair, NumberPair, all_records_of};
 
+mod record;
+
 use crate::index::RunFault;
-use crate::lists::{write_list, write_number_span, write_span};
-use crate::looked::{front_of, value_at_number, value_of};
+use crate::listing::{write_list, write_number_span, write_span};
 use art_lines::command::fields::{Fields, NUMBER_KEY};
 use art_lines::command::word::LookUp;
 use art_lines::reply::{write_front, write_value};
 use art_lines::{Sink, WriteFailed};
 use art_walks::MapReader;
+use record::{front_of, value_at_number, value_of};
 
 /// Answers a look-up, which changes nothing, through a reader of each map: those of an index's records. It requires a
 /// sink that has not failed, and returns `RunFault::Write` if the sink fails.
@@ -63,8 +65,8 @@ pub fn look<W: Sink, const PREFIX_LEN: usize>(
     Ok(())
 }
 
-// Answers a look-up as `look` does, and returns the sink's own fault.
-fn look_up<W: Sink, const PREFIX_LEN: usize>(
+/// Answers a look-up as `look` does, and returns the sink's own fault.
+pub(crate) fn look_up<W: Sink, const PREFIX_LEN: usize>(
     bytes: &mut MapReader<'_, Vec<u8>, Vec<u8>, PREFIX_LEN>,
     numbers: &mut MapReader<'_, [u8; NUMBER_KEY], Vec<u8>, PREFIX_LEN>,
     word: LookUp,

@@ -7,7 +7,7 @@ ghost use Rattle.art_engine.specs.Held.{IsRecordIn, IsNumberRecordIn};
 ghost use Rattle.art_engine.specs.Stored.{ArePairs, AreNumberPairs};
 ghost use Rattle.art_lines.specs.Words.{shown, bytes};
 
-use crate::numbers::numbers_of;
+use crate::change::numbers::numbers_of;
 use art_lines::command::LINE;
 use art_lines::command::fields::NUMBER_KEY;
 use art_map::TreeMap;

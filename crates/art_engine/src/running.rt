@@ -4,7 +4,7 @@ ghost use Rattle.std.specs.Prelude.{true, false, Err};
 ghost use Rattle.art_lines.specs.Lines.{lines_of, whole_lines_of, lines_so_far};
 ghost use Rattle.art_engine.specs.State.{State};
 ghost use Rattle.art_engine.specs.Outcome.{IsOutcome};
-ghost use Rattle.art_engine.specs.Faults.{AfterReadFault, AfterWriteFault};
+ghost use Rattle.art_engine.specs.Faults.{AfterWriteFault};
 ghost use Rattle.art_engine.specs.Progress.{Carried, IsCutRun, NoNewline};
 
 use crate::index::{Index, RunFault};
@@ -49,11 +49,11 @@ pub fn run<S: Source, W: Sink, const PREFIX_LEN: usize>(
     ensures read { (result ≡ Err RunFault.Read) ↔ (S.has_failed source.new ≡ true) }
     ensures write { (result ≡ Err RunFault.Write) ↔ (W.has_failed sink.new ≡ true) }
 
-    // After a failed read, the whole lines of the text given are answered.
+    // After a failed read, the whole lines of the text given are answered, and nothing else.
     ensures after_read_fault { result ≡ Err RunFault.Read → (text written : List ℕ)
         × (S.given source.new ≡ S.given source.old ++ text)
         × (W.taken sink.new ≡ W.taken sink.old ++ written)
-        × AfterReadFault index.old text written index.new }
+        × IsOutcome index.old (whole_lines_of text) written index.new }
 
     // After a failed write, one line more is carried out than is answered whole. Of its answer a beginning is written.
     ensures after_write_fault { result ≡ Err RunFault.Write → (text written : List ℕ)
@@ -76,10 +76,12 @@ pub fn run<S: Source, W: Sink, const PREFIX_LEN: usize>(
         feed(index, &mut held, &mut upcoming, &buf[..n], sink)?;
     }
     drop(room);
-    drop(upcoming);
-    if !held.is_empty() {
-        index.handle(held.as_slice(), sink)?;
+    if held.is_empty() {
+        return Ok(());
     }
+    let line = held.as_slice();
+    let asked = upcoming.read_now(line);
+    index.carry_out(line, asked.word, asked.fields, 0, sink)?;
     Ok(())
 }
 
@@ -138,7 +140,9 @@ fn finish<W: Sink, const PREFIX_LEN: usize>(
         return Ok(());
     }
     hold(held, part);
-    index.handle(held.as_slice(), sink)?;
+    let line = held.as_slice();
+    let asked = upcoming.read_now(line);
+    index.carry_out(line, asked.word, asked.fields, 0, sink)?;
     held.clear();
     Ok(())
 }

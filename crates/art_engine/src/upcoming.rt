@@ -43,8 +43,11 @@ pub const FEW: usize = 16_384;
 /// What a line asks for, and how many nodes were read ahead of it.
 #[derive(Clone, Copy, Drop)]
 pub struct Asked<'a> {
+    /// Its word, or `None` if the line spells no command.
     pub word: Option<Word>,
+    /// What was read behind the word. If there is no word, it doesn't matter.
     pub fields: &'a Fields,
+    /// How many nodes were read ahead of it: 0 if it was not read before its turn.
     pub ahead: u64,
 }
 
@@ -171,6 +174,15 @@ impl Upcoming {
             let this = &*self;
             return this.lines[at].asked();
         }
+        self.read_now(line)
+    }
+
+    /// Returns what a line asks for that is read in its turn.
+    #[inline]
+    pub(crate) fn read_now(&mut self, line: &[u8]) -> Asked<'_>
+        ensures read { option_map (λ word. command_with word result.fields.now) result.word ≡ command_of line.now }
+        ensures ahead { result.ahead ≡ 0 }
+    {
         let word = read_line(line, &mut self.fields);
         let this = &*self;
         Asked {
@@ -206,7 +218,9 @@ impl Upcoming {
         at
     }
 
-    /// Reads the next lines, and what they will read of maps that have as many records as `few`, or more.
+    /// Reads the next lines of the text, 16 at most and up to one that is not whole or longer than 256 bytes. Goes the
+    /// ways of these lines down the maps that have as many records as `few`, or more. If they are fewer than four
+    /// lines, no way is gone.
     #[inline(never)]
     pub fn read_maps<const PREFIX_LEN: usize>(
         &mut self,
@@ -245,24 +259,31 @@ impl Upcoming {
         }
     }
 
-    /// How many nodes were read ahead of the lines that were read together last.
+    /// Returns how many nodes were read ahead of the lines that were read together last.
     pub fn nodes(&self) -> u64 {
         self.nodes
     }
 
-    /// How many leaves their ways ended at.
+    /// Returns how many leaves their ways ended at.
     pub fn leaves(&self) -> usize {
         self.leaves
     }
 
-    /// Makes room for lines, if there is memory for it.
+    /// Makes room for one line more, if there is memory for it.
     #[inline(never)]
+    fn add_line(&mut self) -> bool {
+        self.lines.push(Line::new()).is_ok()
+    }
+
+    /// Makes room for four lines more, or for as many as there is memory for.
+    fn add_four(&mut self) -> bool {
+        self.add_line() && self.add_line() && self.add_line() && self.add_line()
+    }
+
+    /// Makes room for `LINES` lines, or for as many as there is memory for. (Not by a loop: Rattle's own compiler puts
+    /// what is called in a loop into the frame around it, and the frame of `run` would have three lines more.)
     fn make_room(&mut self) {
-        for _ in 0..LINES {
-            if self.lines.push(Line::new()).is_err() {
-                break;
-            }
-        }
+        let _is_made = self.add_four() && self.add_four() && self.add_four() && self.add_four();
     }
 
     /// Reads the next lines, up to one that is not whole or not short.

@@ -4,7 +4,7 @@
 //!
 //! To believe it, believe these definitions, in this order: `Lines`, `Words`, `Commands` and `Keys` of art_lines;
 //! `Records` and `Keys` of art_engine; `ReplyWords` of art_lines; `Replies`, `Refusals`, `Outcome` and `Faults` of
-//! art_engine. `Replies` reads a line by `Reading` of art_lines, which need not be believed: its law
+//! art_engine. `Outcome` reads a line by `Reading` of art_lines, which need not be believed: its law
 //! `reading_is_spelling` says that it is the grammar of `Commands`. What passes between `run` and the program's two
 //! ends is a clause of `FromReader::read` and of `ToWriter::write`; what a file, a pipe or a terminal gave or took no
 //! contract can say.

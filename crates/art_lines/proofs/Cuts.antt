@@ -1,6 +1,7 @@
 -- Texts that are taken part by part, and where a write fails within one.
-use Rattle.std.proofs.Common.{◌≡◌, ℕ, ◌≢◌, List, [], ◌∷◌, ◌++◌, length, refl, ap, sym, ◌∙◌, arith, subst, Result, Ok, Err, OnErr, append_assoc, append-nil}
-use Rattle.art_lines.specs.Writes.{IsCut}
+use Rattle.std.proofs.Common.{◌≡◌, ℕ, ◌≢◌, Bool, List, [], ◌∷◌, ◌++◌, length, take, refl, ap, sym, ◌∙◌, arith, subst, Result, Ok, Err, OnErr, append_assoc, append-nil}
+use Rattle.std.proofs.lemmas.Result.{on_err_weaker, on_ok_weaker}
+use Rattle.art_lines.specs.Writes.{IsCut, Writes}
 use Rattle.art_lines.specs.Gathered.{IsPartTaken}
 
 not_empty : (missing rest : List ℕ) → missing ≢ [] → missing ++ rest ≢ []
@@ -78,3 +79,24 @@ pub taken_cut : (before now after part rest text : List ℕ) → IsPartTaken bef
 taken_cut before now after part rest text t c =
     let whole = cut_behind before now after t.begun (part ++ rest) t.told (cut_before now after part rest c) in
     record { begun = whole.begun; missing = whole.missing; is_cut = whole.is_cut; parts = whole.parts ∙ t.parts; told = whole.told }
+
+-- where a first part is taken, and then what writes the rest says how that went
+pub writes_then : {T E : Type 0} (r : Result T E) (before between after part rest text : List ℕ) (failed : Bool) → between ≡ before ++ part → part ++ rest ≡ text
+    → Writes r between after rest failed → Writes r before after text failed
+writes_then r before between after part rest text failed first whole w = record {
+  ok = on_ok_weaker r (λ told. told ∙ ap (λ t. t ++ rest) first ∙ append_assoc before part rest ∙ ap (λ t. before ++ t) whole) w.ok;
+  cut = on_err_weaker r (λ cut. cut_same before after (part ++ rest) text whole (cut_behind before between after part rest first cut)) w.cut;
+  failed = w.failed;
+}
+
+-- where a part is taken of a text, and then what writes the rest says how that went
+pub writes_rest : {T E : Type 0} (r : Result T E) (before now after rest text : List ℕ) (failed : Bool) → IsPartTaken before now rest text
+    → Writes r now after rest failed → Writes r before after text failed
+writes_rest r before now after rest text failed t w = writes_then r before now after t.begun rest text failed t.told t.parts w
+
+-- a cut of what is put behind a part, of which nothing is left
+pub cut_alone : (before now after part line room : List ℕ) (at : ℕ) → at ≡ 0 → IsPartTaken before now (take at room) part → IsCut now after line → IsCut before after (part ++ line)
+cut_alone before now after part line room at none t c =
+    let left = taken_longer before now (take at room) line part t in
+    let begun = taken_from before now (take at room ++ line) line (part ++ line) (ap (λ n. take n room ++ line) none) left in
+    cut_same before after (begun.begun ++ line) (part ++ line) begun.parts (cut_behind before now after begun.begun line begun.told c)

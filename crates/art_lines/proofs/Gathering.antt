@@ -13,7 +13,8 @@ use Rattle.art_lines.specs.Words.{shown, name, bytes, line_of}
 use Rattle.art_lines.specs.Commands.{put_words}
 use Rattle.art_lines.specs.Gathered.{Puts, IsHead, head_of}
 use Rattle.art_lines.proofs.HexText.{encode_lower-more, encode_lower-nil}
-use Rattle.art_lines.proofs.ReplyLines.{found_parts, put_parts}
+use Rattle.art_lines.specs.ReplyWords.{pair_words}
+use Rattle.art_lines.proofs.ReplyLines.{found_parts, put_parts, length-pair}
 
 -- whether a list is the pairs of digits of the bytes from n on
 abbrev are_pairs : ℕ → List ℕ → Bool
@@ -133,3 +134,24 @@ length-found word value =
 pub length-shown : (value : List ℕ) → length (shown (bytes value)) ≤ 2 * length value + 1
 length-shown [] = omega arith
 length-shown (b ∷ bs) = let long = length-encode_with lower_digits (b ∷ bs) in omega arith
+
+pub length-shown-least : (value : List ℕ) → 2 * length value ≤ length (shown (bytes value))
+length-shown-least [] = omega arith
+length-shown-least (b ∷ bs) = let long = length-encode_with lower_digits (b ∷ bs) in omega arith
+
+-- A line takes so many bytes, or up to two fewer.
+pub record IsAbout (len line : ℕ) : Type 0 where
+  pub most : line ≤ len
+  pub least : len ≤ line + 2
+
+-- the line of a pair, and that of a word and bytes
+pub length-about : (key value : List ℕ) → IsAbout (2 * (length key + length value) + 4) (length (line_of (pair_words (key, value))))
+length-about key value =
+    let whole = length-pair key value in let k = length-shown key in let v = length-shown value in
+    let k' = length-shown-least key in let v' = length-shown-least value in
+    record { most = omega arith; least = omega arith }
+
+pub found-about : (word value : List ℕ) → IsAbout (length word + 2 * length value + 3) (length (line_of (name word ∷ bytes value ∷ [])))
+found-about word value =
+    let whole = length-found word value in let v = length-shown value in let v' = length-shown-least value in
+    record { most = omega arith; least = omega arith }

@@ -4,7 +4,7 @@ use Rattle.std.specs.Prelude.{codes, decimal}
 use Rattle.std.specs.Fmt.{signed_decimal}
 use Rattle.art_lines.specs.Words.{Word, name, natural, signed, bytes, shown, text_of, line_of}
 use Rattle.art_lines.specs.Commands.{put_words, nput_words}
-use Rattle.art_lines.specs.ReplyWords.{pair_words, number_words}
+use Rattle.art_lines.specs.ReplyWords.{end_words, pair_words, number_words}
 
 pub line_more : (w v : Word) (ws : List Word) → shown w ++ 32 ∷ line_of (v ∷ ws) ≡ line_of (w ∷ v ∷ ws)
 line_more w v ws = sym (append_assoc (shown w) (32 ∷ text_of (v ∷ ws)) (10 ∷ []))
@@ -42,3 +42,7 @@ length-pair key value =
     let first = length-append (shown (bytes key)) (32 ∷ (shown (bytes value) ++ 10 ∷ [])) in
     let second = length-append (shown (bytes value)) (10 ∷ []) in
     omega arith
+
+-- what ends a list
+pub end_parts : (count : ℕ) → line_of (end_words count) ≡ codes "end " ++ (decimal count ++ 10 ∷ [])
+end_parts count = sym (line_more (name (codes "end")) (natural count) [])

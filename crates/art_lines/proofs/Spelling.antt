@@ -2,6 +2,7 @@
 use Rattle.std.proofs.Common.{◌≡◌, ℕ, zero, suc, ℤ, pos, negsuc, ◌+◌, ◌^◌, ◌<◌, List, [], ◌∷◌, length, drop as drop_first, get_or, refl, ap, sym, ◌∙◌, subst, Bool, true, false, cond, arith, Some, None, Option, Ok, Err}
 use Rattle.std.specs.Prelude.{◌==◌, ◌↔◌, decimal, codes, nat_le, Result, option_map, option_and_then}
 use Rattle.hex.specs.declared.error.FromHexError.{FromHexError}
+use Rattle.std.specs.List.{AllZip}
 use Rattle.std.specs.Str.{bytes_eq}
 use Rattle.std.proofs.lemmas.Bool.{le-leb, leb-true, eqb-true, eq-eqb, ne_eqb}
 use Rattle.std.proofs.lemmas.Slice.Eq.{bytes_eq-Decides}
@@ -16,7 +17,7 @@ use Rattle.art_lines.specs.declared.command.word.Change.TheVariants as change
 use Rattle.art_lines.specs.declared.command.word.Whole.TheVariants as whole
 use Rattle.art_lines.specs.declared.command.word.Shape.{Shape}
 use Rattle.art_lines.specs.declared.command.word.Shape.TheVariants.{Key, KeyAndValue, Number, NumberAndValue, TwoNumbers, Tenant, Nothing}
-use Rattle.art_lines.specs.Commands.{put, over, del, get, find, list, span, nput, nget, ndel, nspan, drop, Command, of_tenant, dump, audit, words_of, AllRead, fields_of, Spells}
+use Rattle.art_lines.specs.Commands.{put, over, del, get, find, list, span, nput, nget, ndel, nspan, drop, Command, of_tenant, dump, audit, words_of, fields_of, Spells}
 use Rattle.art_lines.specs.Table.{Behind, shape_of, made_by, called, found_among, all_words, word_in}
 use Rattle.art_lines.proofs.Parsing.{natural_is, natural_reads}
 use Rattle.art_lines.proofs.Shapes.{one_from, two_from}
@@ -59,14 +60,14 @@ bytes_reads text (b ∷ bs) h = go (bytes_eq text (codes "-")) refl
 
 -- by shape
 module _ {A : Type 0} (read : List ℕ → Option A) (word : A → Word) (reads : (text : List ℕ) (a : A) → Reads text (word a) → read text ≡ Some a) where
-  one_reads : (fields : List (List ℕ)) (n : ℕ) (a : A) → AllRead fields (natural n ∷ word a ∷ []) → one_in read fields ≡ Some (n, a)
+  one_reads : (fields : List (List ℕ)) (n : ℕ) (a : A) → AllZip Reads fields (natural n ∷ word a ∷ []) → one_in read fields ≡ Some (n, a)
   one_reads [] n a h = absurd h
   one_reads (t ∷ []) n a h = absurd h.1
   one_reads (t ∷ f ∷ []) n a h = rw (tenant_reads t n h.0, reads f a h.1.0) refl
   one_reads (t ∷ f ∷ g ∷ fs) n a h = absurd h.1.1
 
   module _ {B : Type 0} (then_read : List ℕ → Option B) (then_word : B → Word) (then_reads : (text : List ℕ) (b : B) → Reads text (then_word b) → then_read text ≡ Some b) where
-    two_reads : (fields : List (List ℕ)) (n : ℕ) (a : A) (b : B) → AllRead fields (natural n ∷ word a ∷ then_word b ∷ []) → two_in read then_read fields ≡ Some (n, a, b)
+    two_reads : (fields : List (List ℕ)) (n : ℕ) (a : A) (b : B) → AllZip Reads fields (natural n ∷ word a ∷ then_word b ∷ []) → two_in read then_read fields ≡ Some (n, a, b)
     two_reads [] n a b h = absurd h
     two_reads (t ∷ []) n a b h = absurd h.1
     two_reads (t ∷ f ∷ []) n a b h = absurd h.1.1
@@ -79,12 +80,12 @@ of_bytes bs = bytes bs
 abbrev of_number : ℤ → Word
 of_number z = signed z
 
-tenant_alone_reads : (fields : List (List ℕ)) (n : ℕ) → AllRead fields (natural n ∷ []) → tenant_alone_in fields ≡ Some n
+tenant_alone_reads : (fields : List (List ℕ)) (n : ℕ) → AllZip Reads fields (natural n ∷ []) → tenant_alone_in fields ≡ Some n
 tenant_alone_reads [] n h = absurd h
 tenant_alone_reads (t ∷ []) n h = tenant_reads t n h.0
 tenant_alone_reads (t ∷ f ∷ fs) n h = absurd h.1
 
-nothing_reads : (fields : List (List ℕ)) → AllRead fields [] → nothing_in fields ≡ Some tt
+nothing_reads : (fields : List (List ℕ)) → AllZip Reads fields [] → nothing_in fields ≡ Some tt
 nothing_reads [] h = refl
 nothing_reads (f ∷ fs) h = absurd h
 
@@ -98,7 +99,7 @@ words_behind TwoNumbers v = natural v.0 ∷ signed v.1 ∷ signed v.2 ∷ []
 words_behind Tenant n = natural n ∷ []
 words_behind Nothing v = []
 
-behind_reads : (shape : Shape) (v : Behind shape) (fs : List (List ℕ)) → AllRead fs (words_behind shape v) → behind_in shape fs ≡ Some v
+behind_reads : (shape : Shape) (v : Behind shape) (fs : List (List ℕ)) → AllZip Reads fs (words_behind shape v) → behind_in shape fs ≡ Some v
 behind_reads Key v fs h = one_reads bytes_in of_bytes bytes_reads fs v.0 v.1 h
 behind_reads KeyAndValue v fs h = two_reads bytes_in of_bytes bytes_reads bytes_in of_bytes bytes_reads fs v.0 v.1 v.2 h
 behind_reads Number v fs h = one_reads number_in of_number number_reads fs v.0 v.1 h
@@ -134,10 +135,10 @@ has_word (of_tenant n drop) = of_word Drop n refl refl
 has_word dump = of_word (Whole whole.Dump) tt refl refl
 has_word audit = of_word (Whole whole.Audit) tt refl refl
 
-all_read : (fields : List (List ℕ)) (c : Command) → AllRead fields (words_of c) → command_in fields ≡ Some c
-all_read fields c h = let has = has_word c in go has.word has.behind has.found fields (subst (AllRead fields) has.words h) ∙ ap (λ c. Some c) has.makes
+all_read : (fields : List (List ℕ)) (c : Command) → AllZip Reads fields (words_of c) → command_in fields ≡ Some c
+all_read fields c h = let has = has_word c in go has.word has.behind has.found fields (subst (AllZip Reads fields) has.words h) ∙ ap (λ c. Some c) has.makes
   where
-    go : (w : Called) (v : Behind (shape_of w)) → word_in (called w) ≡ Some w → (fields : List (List ℕ)) → AllRead fields (name (called w) ∷ words_behind (shape_of w) v)
+    go : (w : Called) (v : Behind (shape_of w)) → word_in (called w) ≡ Some w → (fields : List (List ℕ)) → AllZip Reads fields (name (called w) ∷ words_behind (shape_of w) v)
         → command_in fields ≡ Some (made_by w v)
     go w v found [] h = absurd h
     go w v found (word ∷ rest) h =
@@ -194,21 +195,21 @@ bytes_spelled field bs h = go (bytes_eq field (codes "-")) refl h
 
 -- by shape
 module _ {A : Type 0} (read : List ℕ → Option A) (word : A → Word) (spelled : (text : List ℕ) (a : A) → read text ≡ Some a → Reads text (word a)) where
-  one_spelled : (fields : List (List ℕ)) (f : ℕ × A) → one_in read fields ≡ Some f → AllRead fields (natural f.0 ∷ word f.1 ∷ [])
+  one_spelled : (fields : List (List ℕ)) (f : ℕ × A) → one_in read fields ≡ Some f → AllZip Reads fields (natural f.0 ∷ word f.1 ∷ [])
   one_spelled [] f h = cc
   one_spelled (t ∷ []) f h = cc
   one_spelled (t ∷ k ∷ x ∷ xs) f h = cc
   one_spelled (t ∷ k ∷ []) f h = go (tenant_in t) (read k) refl refl h
     where
-      go : (a : Option ℕ) (x : Option A) → tenant_in t ≡ a → read k ≡ x → one_from a x ≡ Some f → AllRead (t ∷ k ∷ []) (natural f.0 ∷ word f.1 ∷ [])
+      go : (a : Option ℕ) (x : Option A) → tenant_in t ≡ a → read k ≡ x → one_from a x ≡ Some f → AllZip Reads (t ∷ k ∷ []) (natural f.0 ∷ word f.1 ∷ [])
       go None x p q e = cc
       go (Some n) None p q e = cc
       go (Some n) (Some key) p q e =
           let is : (n, key) ≡ f = cc in
-          subst (λ (f : ℕ × A). AllRead (t ∷ k ∷ []) (natural f.0 ∷ word f.1 ∷ [])) is (tenant_spelled t n p, (spelled k key q, tt))
+          subst (λ (f : ℕ × A). AllZip Reads (t ∷ k ∷ []) (natural f.0 ∷ word f.1 ∷ [])) is (tenant_spelled t n p, (spelled k key q, tt))
 
   module _ {B : Type 0} (then_read : List ℕ → Option B) (then_word : B → Word) (then_spelled : (text : List ℕ) (b : B) → then_read text ≡ Some b → Reads text (then_word b)) where
-    two_spelled : (fields : List (List ℕ)) (f : ℕ × A × B) → two_in read then_read fields ≡ Some f → AllRead fields (natural f.0 ∷ word f.1 ∷ then_word f.2 ∷ [])
+    two_spelled : (fields : List (List ℕ)) (f : ℕ × A × B) → two_in read then_read fields ≡ Some f → AllZip Reads fields (natural f.0 ∷ word f.1 ∷ then_word f.2 ∷ [])
     two_spelled [] f h = cc
     two_spelled (t ∷ []) f h = cc
     two_spelled (t ∷ k ∷ []) f h = cc
@@ -216,25 +217,25 @@ module _ {A : Type 0} (read : List ℕ → Option A) (word : A → Word) (spelle
     two_spelled (t ∷ k ∷ v ∷ []) f h = go (tenant_in t) (read k) (then_read v) refl refl refl h
       where
         go : (a : Option ℕ) (x : Option A) (y : Option B) → tenant_in t ≡ a → read k ≡ x → then_read v ≡ y → two_from a x y ≡ Some f
-            → AllRead (t ∷ k ∷ v ∷ []) (natural f.0 ∷ word f.1 ∷ then_word f.2 ∷ [])
+            → AllZip Reads (t ∷ k ∷ v ∷ []) (natural f.0 ∷ word f.1 ∷ then_word f.2 ∷ [])
         go None x y p q r e = cc
         go (Some n) None y p q r e = cc
         go (Some n) (Some key) None p q r e = cc
         go (Some n) (Some key) (Some value) p q r e =
             let is : (n, key, value) ≡ f = cc in
-            subst (λ (f : ℕ × A × B). AllRead (t ∷ k ∷ v ∷ []) (natural f.0 ∷ word f.1 ∷ then_word f.2 ∷ [])) is
+            subst (λ (f : ℕ × A × B). AllZip Reads (t ∷ k ∷ v ∷ []) (natural f.0 ∷ word f.1 ∷ then_word f.2 ∷ [])) is
             (tenant_spelled t n p, (spelled k key q, (then_spelled v value r, tt)))
 
-alone_spelled : (fields : List (List ℕ)) (n : ℕ) → tenant_alone_in fields ≡ Some n → AllRead fields (natural n ∷ [])
+alone_spelled : (fields : List (List ℕ)) (n : ℕ) → tenant_alone_in fields ≡ Some n → AllZip Reads fields (natural n ∷ [])
 alone_spelled [] n h = cc
 alone_spelled (t ∷ []) n h = (tenant_spelled t n h, tt)
 alone_spelled (t ∷ f ∷ fs) n h = cc
 
-nothing_spelled : (fields : List (List ℕ)) → nothing_in fields ≡ Some tt → AllRead fields []
+nothing_spelled : (fields : List (List ℕ)) → nothing_in fields ≡ Some tt → AllZip Reads fields []
 nothing_spelled [] h = tt
 nothing_spelled (x ∷ xs) h = cc
 
-behind_spelled : (shape : Shape) (fs : List (List ℕ)) (v : Behind shape) → behind_in shape fs ≡ Some v → AllRead fs (words_behind shape v)
+behind_spelled : (shape : Shape) (fs : List (List ℕ)) (v : Behind shape) → behind_in shape fs ≡ Some v → AllZip Reads fs (words_behind shape v)
 behind_spelled Key fs v h = one_spelled bytes_in of_bytes bytes_spelled fs v h
 behind_spelled KeyAndValue fs v h = two_spelled bytes_in of_bytes bytes_spelled bytes_in of_bytes bytes_spelled fs v h
 behind_spelled Number fs v h = one_spelled number_in of_number number_spelled fs v h
@@ -269,19 +270,19 @@ words_made (Whole whole.Dump) v = refl
 words_made (Whole whole.Audit) v = refl
 words_made Drop v = refl
 
-all_spelled : (fields : List (List ℕ)) (c : Command) → command_in fields ≡ Some c → AllRead fields (words_of c)
+all_spelled : (fields : List (List ℕ)) (c : Command) → command_in fields ≡ Some c → AllZip Reads fields (words_of c)
 all_spelled [] c h = cc
 all_spelled (word ∷ rest) c h = go (word_in word) refl h
   where
     made : (w : Called) → word ≡ called w → (o : Option (Behind (shape_of w))) → behind_in (shape_of w) rest ≡ o → option_map (made_by w) o ≡ Some c
-        → AllRead (word ∷ rest) (words_of c)
+        → AllZip Reads (word ∷ rest) (words_of c)
     made w is None read e = cc
     made w is (Some v) read e =
         let same : made_by w v ≡ c = cc in
-        subst (λ c. AllRead (word ∷ rest) (words_of c)) same
-        (subst (AllRead (word ∷ rest)) (sym (words_made w v)) (is, behind_spelled (shape_of w) rest v read))
+        subst (λ c. AllZip Reads (word ∷ rest) (words_of c)) same
+        (subst (AllZip Reads (word ∷ rest)) (sym (words_made w v)) (is, behind_spelled (shape_of w) rest v read))
 
-    go : (o : Option Called) → word_in word ≡ o → option_and_then (λ w. command_by w rest) o ≡ Some c → AllRead (word ∷ rest) (words_of c)
+    go : (o : Option Called) → word_in word ≡ o → option_and_then (λ w. command_by w rest) o ≡ Some c → AllZip Reads (word ∷ rest) (words_of c)
     go None found e = cc
     go (Some w) found e = made w (found_called all_words word w found) (behind_in (shape_of w) rest) refl e
 

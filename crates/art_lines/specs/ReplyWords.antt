@@ -13,10 +13,6 @@ put_reply (Some old) conflict = name (codes "old") ∷ bytes old ∷ []
 put_reply None true = name (codes "conflict") ∷ []
 put_reply None false = name (codes "new") ∷ []
 
--- A put at a number is answered by the old value, or that there was none: numbers do not conflict.
-abbrev pub nput_reply : Option (List ℕ) → List Word
-nput_reply old = put_reply old false
-
 -- A find is answered by the key that was found and its value.
 abbrev pub front_reply : Option (List ℕ × List ℕ) → List Word
 front_reply (Some pair) = name (codes "at") ∷ bytes pair.0 ∷ bytes pair.1 ∷ []
@@ -26,16 +22,22 @@ front_reply None = name (codes "none") ∷ []
 abbrev pub end_words : ℕ → List Word
 end_words count = name (codes "end") ∷ natural count ∷ []
 
--- a line for each pair, and then their number
+-- a line for each pair, whose key is shown as a word of this kind, and then their number
+abbrev pub words_as : {K : Type 0} → (K → Word) → K × List ℕ → List Word
+words_as word pair = word pair.0 ∷ bytes pair.1 ∷ []
+
+abbrev pub listed_as : {K : Type 0} → (K → Word) → List (K × List ℕ) → List (List Word)
+listed_as word pairs = map (words_as word) pairs ++ end_words (length pairs) ∷ []
+
+-- so under keys, and under numbers
 abbrev pub pair_words : List ℕ × List ℕ → List Word
-pair_words pair = bytes pair.0 ∷ bytes pair.1 ∷ []
+pair_words pair = words_as bytes pair
 
 abbrev pub listed : List (List ℕ × List ℕ) → List (List Word)
-listed pairs = map pair_words pairs ++ end_words (length pairs) ∷ []
+listed pairs = listed_as bytes pairs
 
--- likewise under numbers
 abbrev pub number_words : ℤ × List ℕ → List Word
-number_words pair = signed pair.0 ∷ bytes pair.1 ∷ []
+number_words pair = words_as signed pair
 
 abbrev pub numbers_listed : List (ℤ × List ℕ) → List (List Word)
-numbers_listed pairs = map number_words pairs ++ end_words (length pairs) ∷ []
+numbers_listed pairs = listed_as signed pairs

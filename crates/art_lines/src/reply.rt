@@ -95,17 +95,42 @@ pub fn write_found<W: Sink>(sink: &mut W, word: &[u8], value: &[u8]) -> Result<(
     write_piece(sink, &room[..len])
 }
 
+/// Writes a space, bytes and a newline, in pieces.
+fn write_behind<W: Sink>(sink: &mut W, value: &[u8]) -> Result<(), WriteFailed>
+    requires { W.has_failed sink.old ≡ false }
+    ensures { Writes result (W.taken sink.old) (W.taken sink.new)
+        (32 ∷ [] ++ (shown (bytes value.now) ++ 10 ∷ []))
+        (W.has_failed sink.new) }
+{
+    write_piece(sink, b" ")?;
+    write_bytes(sink, value)?;
+    write_piece(sink, b"\n")
+}
+
 /// Writes a line of a word and bytes in pieces.
-fn write_long<W: Sink>(sink: &mut W, word: &[u8], value: &[u8]) -> Result<(), WriteFailed>
+pub(crate) fn write_long<W: Sink>(
+    sink: &mut W,
+    word: &[u8],
+    value: &[u8],
+) -> Result<(), WriteFailed>
     requires { W.has_failed sink.old ≡ false }
     ensures { Writes result (W.taken sink.old) (W.taken sink.new)
         (line_of (name word.now ∷ bytes value.now ∷ []))
         (W.has_failed sink.new) }
 {
     write_piece(sink, word)?;
-    write_piece(sink, b" ")?;
-    write_bytes(sink, value)?;
-    write_piece(sink, b"\n")
+    write_behind(sink, value)
+}
+
+/// Writes a line of two lots of bytes in pieces.
+pub(crate) fn write_pair<W: Sink>(sink: &mut W, key: &[u8], value: &[u8]) -> Result<(), WriteFailed>
+    requires { W.has_failed sink.old ≡ false }
+    ensures { Writes result (W.taken sink.old) (W.taken sink.new)
+        (line_of (pair_words (key.now, value.now)))
+        (W.has_failed sink.new) }
+{
+    write_bytes(sink, key)?;
+    write_behind(sink, value)
 }
 
 /// Writes the line of a value that was looked for.
@@ -119,16 +144,6 @@ pub fn write_value<W: Sink>(sink: &mut W, value: Option<&[u8]>) -> Result<(), Wr
         Some(value) => write_found(sink, b"is", value),
         None => write_piece(sink, b"none\n"),
     }
-}
-
-/// Writes the line that ends a list.
-pub fn write_end<W: Sink>(sink: &mut W, count: usize) -> Result<(), WriteFailed>
-    requires { W.has_failed sink.old ≡ false }
-    ensures { Writes result (W.taken sink.old) (W.taken sink.new) (line_of (end_words count)) (W.has_failed sink.new) }
-{
-    write_piece(sink, b"end ")?;
-    write_number(sink, count as u64)?;
-    write_piece(sink, b"\n")
 }
 
 /// Writes a word and a space, the number of records under keys and of those under numbers, and a newline.

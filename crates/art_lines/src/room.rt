@@ -108,16 +108,6 @@ pub fn put_number(room: &mut [u8], at: usize, number: u64) -> usize
     put_text(room, at, digits.format(number).as_bytes())
 }
 
-/// Puts a number in digits, after a `-` if it is less than 0.
-#[inline]
-fn put_signed(room: &mut [u8], at: usize, number: i64) -> usize
-    requires { at + length (signed_decimal number) ≤ length room.old }
-    ensures { Puts result at (signed_decimal number) room.old room.new }
-{
-    let mut digits = Buffer::new();
-    put_text(room, at, digits.format(number).as_bytes())
-}
-
 /// Puts the line that makes a record of the tenant with this head.
 #[inline]
 pub fn put_record(room: &mut [u8], at: usize, head: &Head, key: &[u8], value: &[u8]) -> usize
@@ -150,10 +140,8 @@ pub fn put_number_pair(room: &mut [u8], at: usize, number: i64, value: &[u8]) ->
     requires { at + length (line_of (number_words (number, value.now))) ≤ length room.old }
     ensures { Puts result at (line_of (number_words (number, value.now))) room.old room.new }
 {
-    let space = put_signed(room, at, number);
-    let digits = put_text(room, space, b" ");
-    let newline = put_bytes(room, digits, value);
-    put_text(room, newline, b"\n")
+    let mut digits = Buffer::new();
+    put_found(room, at, digits.format(number).as_bytes(), value)
 }
 
 /// Puts the line that makes a record of a tenant's under a number.

@@ -18,7 +18,7 @@ use Rattle.art_operations.proofs.KeyedLists.{put_replaced, taken}
 use Rattle.art_map.specs.Asked.{AnswersAt, AreMet, Asking, CallableFromEnds, ComesOf, Extracts, StopsAt, from_end, with_pairs_put}
 use Rattle.art_map.specs.inner.Asks.{IsAsked}
 use Rattle.art_map.proofs.Written.{without-again, without-put}
-use Rattle.art_map.proofs.WrittenRuns.{snoc-same}
+use Rattle.art_operations.proofs.Spines.{last-same}
 
 -- a fact holds where there is an error
 pub on-err : {A E T : Type 0} (r : Result A E) → T → OnErr r T
@@ -48,7 +48,7 @@ module _ {X : Type 0} where
       let head : x ≡ y = cc in
       let tail : xs ≡ ys = cc in
       (head, tail)
-  same-end Last x y xs ys zs e f = let g = snoc-same xs ys x y (sym e ∙ f) in (g.1, g.0)
+  same-end Last x y xs ys zs e f = let g = last-same xs ys x y (sym e ∙ f) in (g.1, g.0)
 
   -- the item at an end is met first
   from-end : (end : End) (x : X) (rest xs : List X) → IsAtEnd end x rest xs → from_end end xs ≡ x ∷ from_end end rest

@@ -3,7 +3,7 @@
 use Rattle.std.proofs.Common.{◌≡◌, ℕ, Bool, true, false, cond, List, [], ◌∷◌, Some, None, bytes_eq}
 use Rattle.std.proofs.Common.{refl, sym, ap, ◌∙◌}
 use Rattle.std.specs.Map.{lookup}
-use Rattle.art_bytes.specs.inner.KeyLaws.{before_zero}
+use Rattle.art_bytes.specs.lemmas.KeyLaws.{before_zero}
 use Rattle.art_arena.specs.arena.Shapes.{key_of}
 use Rattle.art_arena.proofs.shapes.Finding.{same_key, other_key}
 use Rattle.art_arena.proofs.tree.Distinct.{bytes_from_same}

@@ -26,7 +26,8 @@ use Rattle.art_map.specs.Found.{HasPairAt}
 use Rattle.art_arena.proofs.shapes.LinkedLists.{ends_with-first}
 use Rattle.art_map.specs.Leaves.{AreLeaves, IsRun, IsNextAt, slot_at, with_end, with_value_where}
 use Rattle.art_map.specs.Lends.{with_value_at}
-use Rattle.art_map.proofs.WrittenRuns.{WrittenRun, snoc-same, still-run, written-run}
+use Rattle.art_operations.proofs.Spines.{last-same}
+use Rattle.art_map.proofs.WrittenRuns.{WrittenRun, still-run, written-run}
 
 -- the item at an end of a list, and the others
 pub record AtEnd {X : Type 0} (end : End) (xs : List X) : Type 0 where
@@ -317,7 +318,7 @@ module _ {K V : Type 0} (bytes : K → List ℕ) (P : ℕ) (m : Contents K V) wh
   unpaired Last [] p (q ∷ rest) e = absurd (cc)
   unpaired Last (z ∷ zs) p rest e =
       let at = at-end Last z zs in
-      let same = snoc-same (pairs_of at.rest) rest (leaf_pair at.item) p (sym (pairs-end Last at.item at.rest (z ∷ zs) at.is) ∙ e) in
+      let same = last-same (pairs_of at.rest) rest (leaf_pair at.item) p (sym (pairs-end Last at.item at.rest (z ∷ zs) at.is) ∙ e) in
       (at.item, at.rest, at.is, same.1, same.0)
 
   -- the leaf that is answered is the one at the end of the run
@@ -373,7 +374,7 @@ module _ {K V : Type 0} (bytes : K → List ℕ) (P : ℕ) (m : Contents K V) wh
 
   pub same-key-at : (end : End) (k l : K) (v w : V) (rest others ps : List (K × V)) → IsAtEnd end (k, v) rest ps → IsAtEnd end (l, w) others ps → k ≡ l
   same-key-at First k l v w rest others ps e f = let same : ◌≡◌ {A = List (K × V)} ((k, v) ∷ rest) ((l, w) ∷ others) = sym e ∙ f in let head : ◌≡◌ {A = K × V} (k, v) (l, w) = cc in ap (λ (p : K × V). p.0) head
-  same-key-at Last k l v w rest others ps e f = ap (λ (p : K × V). p.0) (snoc-same rest others (k, v) (l, w) (sym e ∙ f)).1
+  same-key-at Last k l v w rest others ps e f = ap (λ (p : K × V). p.0) (last-same rest others (k, v) (l, w) (sym e ∙ f)).1
 
 -- the pair that is shown at an end is the first item, or the last
 last-is : {X : Type 0} (xs : List X) (x : X) → last_item (xs ++ x ∷ []) ≡ Some x

@@ -13,14 +13,15 @@ use Rattle.art_map.specs.Lends.{with_value_at}
 use Rattle.art_map.specs.LentRuns.{end_of, left_behind, left_before, run_pairs, IsRunIn, with_lent_value}
 use Rattle.art_map.specs.LentIters.{iter_before, iter_behind, IsIterFirst, IsIterLast}
 use Rattle.art_map.specs.declared.map.iter_mut.IterMut.{IterMut}
-use Rattle.art_map.specs.inner.LentSteps.{counted_behind, counted_before, counted_left, counted_left_back}
+use Rattle.art_map.proofs.LentWalks.{LendsAt, at-end, of-end}
+use Rattle.art_map.specs.lemmas.LentSteps.{counted_behind, counted_before, counted_left, counted_left_back}
 
 module _ {K V : Type 0} (m : Contents K V) (ends new : Ends) (run : ∥ IsRunIn m ends ∥₁) (len : ℕ) (counted : len ≡ leaves_left m.nodes ends) (slot : ℕ) where
   pub fewer-first : Some slot ≡ start_of ends → new ≡ left_behind m ends → (w : V) → len - 1 ≡ leaves_left (with_value_at m slot w).nodes new
-  fewer-first first behind w = subst (λ o. len - 1 ≡ leaves_left (with_lent_value m o w).nodes new) (sym first) (subst (λ e. len - 1 ≡ leaves_left (with_lent_value m (start_of ends) w).nodes e) (sym behind) (counted_behind m ends run len counted w))
+  fewer-first first behind w = at-end slot new (λ o e. len - 1 ≡ leaves_left (with_lent_value m o w).nodes e) first behind (counted_behind m ends run len counted w)
 
   pub fewer-last : Some slot ≡ end_of ends → new ≡ left_before m ends → (w : V) → len - 1 ≡ leaves_left (with_value_at m slot w).nodes new
-  fewer-last last before w = subst (λ o. len - 1 ≡ leaves_left (with_lent_value m o w).nodes new) (sym last) (subst (λ e. len - 1 ≡ leaves_left (with_lent_value m (end_of ends) w).nodes e) (sym before) (counted_before m ends run len counted w))
+  fewer-last last before w = at-end slot new (λ o e. len - 1 ≡ leaves_left (with_lent_value m o w).nodes e) last before (counted_before m ends run len counted w)
 
 -- and where nothing is written
 module _ {K V : Type 0} (m : Contents K V) (ends new : Ends) (run : ∥ IsRunIn m ends ∥₁) (len : ℕ) (counted : len ≡ leaves_left m.nodes ends) where
@@ -44,26 +45,20 @@ module _ {K V : Type 0} {P : ℕ} {g : as_bytes.Ghosts K} (walk : IterMut K V P 
       → ◌≡◌ {A = IterMut K V P g} (record { map = record walk.map { now = with_value_at walk.map.now slot w }; leaves = new; len = walk.len - 1; valid = valid; counted = counted }) (iter_behind walk w)
   same-behind slot new first behind w =
       let d = iter_behind walk w in
-      subst (λ o. Lands w d o new) (sym first)
-      (subst (λ e. Lands w d (start_of walk.leaves) e) (sym behind) (λ valid counted i. record { map = d.map; leaves = d.leaves; len = d.len; valid = ∥∥₁_prop valid d.valid i; counted = Coded-set coded_ℕ _ _ counted d.counted i }))
+      at-end slot new (Lands w d) first behind (λ valid counted i. record { map = d.map; leaves = d.leaves; len = d.len; valid = ∥∥₁_prop valid d.valid i; counted = Coded-set coded_ℕ _ _ counted d.counted i })
 
   pub same-before : (slot : ℕ) (new : Ends) → Some slot ≡ end_of walk.leaves → new ≡ left_before walk.map.now walk.leaves → (w : V) → (valid : ∥ IsRunIn (with_value_at walk.map.now slot w) new ∥₁) (counted : walk.len - 1 ≡ leaves_left (with_value_at walk.map.now slot w).nodes new)
       → ◌≡◌ {A = IterMut K V P g} (record { map = record walk.map { now = with_value_at walk.map.now slot w }; leaves = new; len = walk.len - 1; valid = valid; counted = counted }) (iter_before walk w)
   same-before slot new last before w =
       let d = iter_before walk w in
-      subst (λ o. Lands w d o new) (sym last)
-      (subst (λ e. Lands w d (end_of walk.leaves) e) (sym before) (λ valid counted i. record { map = d.map; leaves = d.leaves; len = d.len; valid = ∥∥₁_prop valid d.valid i; counted = Coded-set coded_ℕ _ _ counted d.counted i }))
+      at-end slot new (Lands w d) last before (λ valid counted i. record { map = d.map; leaves = d.leaves; len = d.len; valid = ∥∥₁_prop valid d.valid i; counted = Coded-set coded_ℕ _ _ counted d.counted i })
 
   -- the pair that is lent
   module _ (slot : ℕ) (new : Ends) (p : K × V) (pairs : (w : V) → (with_value_at walk.map.now slot w).pairs ≡ with_pair_put g.bytes p.0 w walk.map.now.pairs) where
     pub is-first : Some slot ≡ start_of walk.leaves → new ≡ left_behind walk.map.now walk.leaves → ((w : V) → run_pairs walk.map.now walk.leaves ≡ p ∷ run_pairs (with_value_at walk.map.now slot w) new) → IsIterFirst walk p
-    is-first first behind rest = record {
-      rest_is = λ w. subst (λ o. run_pairs walk.map.now walk.leaves ≡ p ∷ run_pairs (with_lent_value walk.map.now o w) (left_behind walk.map.now walk.leaves)) first (subst (λ e. run_pairs walk.map.now walk.leaves ≡ p ∷ run_pairs (with_value_at walk.map.now slot w) e) behind (rest w));
-      pairs = λ w. subst (λ o. (with_lent_value walk.map.now o w).pairs ≡ with_pair_put g.bytes p.0 w walk.map.now.pairs) first (pairs w);
-    }
+    is-first first behind rest =
+        let is = of-end slot new (LendsAt g.bytes walk.map.now walk.leaves (λ p ps. p ∷ ps) p) first behind (rest, pairs) in record { rest_is = is.0; pairs = is.1 }
 
     pub is-last : Some slot ≡ end_of walk.leaves → new ≡ left_before walk.map.now walk.leaves → ((w : V) → run_pairs walk.map.now walk.leaves ≡ run_pairs (with_value_at walk.map.now slot w) new ++ p ∷ []) → IsIterLast walk p
-    is-last last before rest = record {
-      rest_is = λ w. subst (λ o. run_pairs walk.map.now walk.leaves ≡ run_pairs (with_lent_value walk.map.now o w) (left_before walk.map.now walk.leaves) ++ p ∷ []) last (subst (λ e. run_pairs walk.map.now walk.leaves ≡ run_pairs (with_value_at walk.map.now slot w) e ++ p ∷ []) before (rest w));
-      pairs = λ w. subst (λ o. (with_lent_value walk.map.now o w).pairs ≡ with_pair_put g.bytes p.0 w walk.map.now.pairs) last (pairs w);
-    }
+    is-last last before rest =
+        let is = of-end slot new (LendsAt g.bytes walk.map.now walk.leaves (λ p ps. ps ++ p ∷ []) p) last before (rest, pairs) in record { rest_is = is.0; pairs = is.1 }

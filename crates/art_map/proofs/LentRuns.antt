@@ -26,7 +26,7 @@ use Rattle.art_map.specs.Contents.{Contents, IsMap, HasLeafAt, contents}
 use Rattle.art_map.specs.Found.{HasPairAt}
 use Rattle.art_map.specs.LentRuns.{end_of, left_behind, left_before, run_pairs, IsRunIn}
 use Rattle.art_map.specs.Lends.{with_value_at}
-use Rattle.art_map.specs.inner.LentSteps.{RunParted, back-walk, front-walk, parted-first, parted-last, leaves-left, run-written}
+use Rattle.art_map.specs.lemmas.LentSteps.{RunParted, back-walk, front-walk, parted-first, parted-last, leaves-left, run-written}
 
 module _ {K V : Type 0} where
   -- the test that a slab key stands in the list

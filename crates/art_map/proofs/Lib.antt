@@ -20,6 +20,7 @@ pub mod PrefixEntries
 pub mod Audits
 pub mod Clones
 pub mod Puts
+pub mod Built
 pub mod VecPairs
 pub mod Joins
 pub mod PrefixBlocks

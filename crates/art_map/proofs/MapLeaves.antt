@@ -81,7 +81,7 @@ module _ {K V : Type 0} (bytes : K → List ℕ) (P : ℕ) where
         left_top : HasLeaves bytes P new deleted.new_root (at_top.front ++ at_top.back) × (at_top.leaf ≡ record { slot = slot; key = deleted.deleted_leaf.key; value = deleted.deleted_leaf.value })
         left_top = others-left has_top.0 has_top.1 at_top
 
-        pub taken-leaf : HasTaken bytes P new root (bytes deleted.deleted_leaf.key) (pairs_from old root) (Some deleted)
+        pub taken-leaf : HasTaken bytes P new root (bytes deleted.deleted_leaf.key) (Some deleted) (pairs_from old root) []
         taken-leaf =
             let parts = sym has_top.2 ∙ ap pairs_of at_top.is in
             let taken = taken_pair bytes at_top.front at_top.leaf at_top.back (leaves has_top.0) (subst (AscendsByKey (key_of bytes)) (sym has_top.2) (ascending-map bytes is_key P old root map)) at_top.is in

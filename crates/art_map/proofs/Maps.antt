@@ -1,13 +1,13 @@
 -- What a map's nodes have, before and after a call.
-use Rattle.std.proofs.Common.{◌≡◌, ℕ, Bool, true, false, cond, not, bytes_eq, filter, List, [], ◌∷◌, ◌++◌, length, Option, Some, None, IsSome, Ok, Err, IsOk, Result, refl, sym, ap, subst, ◌∙◌, arith, ◌≤◌, inl, inr}
+use Rattle.std.proofs.Common.{◌≡◌, ℕ, Bool, true, false, cond, not, bytes_eq, List, [], ◌∷◌, ◌++◌, length, Option, Some, None, IsSome, Ok, Err, IsOk, Result, refl, sym, ap, subst, ◌∙◌, arith, ◌≤◌, inl, inr}
 use Rattle.std.specs.List.{AllByRecursion}
 use Rattle.std.specs.Map.{lookup, lookup_entry, set_value}
 use Rattle.std.proofs.lemmas.List.{append-nil, length-map}
 use Rattle.art_bytes.specs.Keys.{BeginsWith}
 use Rattle.art_nodes.specs.Name.{Name}
 use Rattle.art_nodes.specs.declared.leaf.LeafNode.{LeafNode}
-use Rattle.art_arena.specs.arena.Arena.{Arena, Held, held_at, node_at, links_at, SameNodes, cell_of}
-use Rattle.art_arena.specs.arena.Cells.{Cell, pair, leaf_name}
+use Rattle.art_arena.specs.arena.Arena.{Arena, held_at, node_at, links_at, SameNodes}
+use Rattle.art_arena.specs.arena.Cells.{pair, leaf_name}
 use Rattle.art_arena.specs.arena.Descents.{leaf_where}
 use Rattle.art_arena.specs.arena.Lends.{with_leaf_value}
 use Rattle.art_arena.specs.arena.Linked.{first_slot, last_slot, times, IsList}
@@ -29,6 +29,8 @@ use Rattle.art_operations.specs.declared.insert.point.InsertPoint.{InsertPoint}
 use Rattle.art_operations.specs.declared.delete.result.DeleteResult.{DeleteResult}
 use Rattle.art_operations.specs.declared.insert.result.InsertResult.{InsertResult}
 use Rattle.art_operations.specs.declared.prefix_insert.result.PrefixInsertResult.{PrefixInsertResult}
+use Rattle.art_walks.proofs.Spans.{all-filter}
+use Rattle.art_operations.proofs.NamedLeaves.{held-some}
 use Rattle.art_operations.proofs.HeldPairs.{pairs-same}
 use Rattle.art_operations.proofs.KeyedLists.{nothing_taken, stored-free}
 use Rattle.art_operations.proofs.LeafPairs.{leaf_pair, pairs_ascend, held_leaf, pairs-parts}
@@ -71,23 +73,12 @@ module _ {K V : Type 0} (is_key : K → Type 0) where
     | false ↦ (all.0, keys-put key p qs one all.1)
   ]
 
-  pub keys-filter : (keep : K × V → Bool) (pairs : List (K × V)) → AreKeys pairs → AreKeys (filter keep pairs)
-  keys-filter keep [] all = tt
-  keys-filter keep (q ∷ qs) all = elim (keep q) as (λ b. AreKeys (cond b (q ∷ filter keep qs) (filter keep qs))) [
-    | true ↦ (all.0, keys-filter keep qs all.1)
-    | false ↦ keys-filter keep qs all.1
-  ]
-
   pub keys-without : (key : K × V → List ℕ) (k : List ℕ) (pairs : List (K × V)) → AreKeys pairs → AreKeys (without_key key k pairs)
-  keys-without key k pairs all = keys-filter (λ q. not (bytes_eq (key q) k)) pairs all
+  keys-without key k pairs all = all-filter (λ q. is_key q.0) (λ q. not (bytes_eq (key q) k)) pairs all
 
   pub keys-end : (end : End) (p : K × V) (rest pairs : List (K × V)) → IsAtEnd end p rest pairs → AreKeys pairs → AreKeys rest
   keys-end First p rest pairs at all = (subst AreKeys at all).1
   keys-end Last p rest pairs at all = all_left (λ q. is_key q.0) rest (p ∷ []) (subst AreKeys at all)
-
-held-some : {K V : Type 0} (o : Option (Held K V)) (c : Cell K V) → cell_of o ≡ Some c → IsSome o
-held-some None c e = absurd (cc)
-held-some (Some h) c e = refl
 
 module _ {K V : Type 0} (bytes : K → List ℕ) where
   -- no pair blocks a key, where no key of its type is a front of another
@@ -101,7 +92,7 @@ module _ {K V : Type 0} (bytes : K → List ℕ) where
       ]
 
   -- a place is found for a key that a pair has
-  pub stored-placed : {E : Type 0} (P : ℕ) (arena : Arena K V) (pairs : List (K × V)) → AscendsByKey (key_of bytes) pairs → (key : List ℕ) (result : Result (Option InsertPoint) E) → IsPlaced bytes P arena key pairs result → HasKey (key_of bytes) key pairs → IsOk result
+  pub stored-placed : {E : Type 0} (P : ℕ) (arena : Arena K V) (pairs : List (K × V)) → AscendsByKey (key_of bytes) pairs → (key : List ℕ) (result : Result (Option InsertPoint) E) → IsPlaced bytes P arena key result pairs [] → HasKey (key_of bytes) key pairs → IsOk result
   stored-placed P arena pairs up key (Ok place) placed has = refl
   stored-placed P arena pairs up key (Err e) blocked has = absurd (stored-free (key_of bytes) pairs up key has blocked)
 
@@ -129,65 +120,65 @@ module _ {K V : Type 0} (bytes : K → List ℕ) (is_key : K → Type 0) (P : �
     same-pairs new same = has-seen bytes P new root the_pairs (pairs-same bytes P old new same root the_pairs map.has)
 
     -- with a pair more
-    pub put-map : (new : Arena K V) (key : K) (value : V) (result : InsertResult K V) → is_key key → HasPut bytes P new the_pairs key value result → IsMap bytes is_key P new (Some result.new_root)
+    pub put-map : (new : Arena K V) (key : K) (value : V) (result : InsertResult K V) → is_key key → HasPut bytes P new key value result the_pairs [] → IsMap bytes is_key P new (Some result.new_root)
     put-map new key value result one has =
         make new (Some result.new_root) (with_pair_put bytes key value the_pairs) has.has (keys-put is_key (key_of bytes) (key, value) _ one (keys-without is_key (key_of bytes) (bytes key) the_pairs map.keys))
 
     -- the pair that was there
-    pub put-entry : (new : Arena K V) (key : K) (value : V) (result : InsertResult K V) → HasPut bytes P new the_pairs key value result → entry_in result.existing_leaf ≡ lookup_entry (has_bytes bytes (bytes key)) the_pairs
+    pub put-entry : (new : Arena K V) (key : K) (value : V) (result : InsertResult K V) → HasPut bytes P new key value result the_pairs [] → entry_in result.existing_leaf ≡ lookup_entry (has_bytes bytes (bytes key)) the_pairs
     put-entry new key value result has = leaf-entry result.existing_leaf ∙ ap first_item has.old ∙ sym (entry-first bytes (bytes key) the_pairs)
 
-    pub put-value : (new : Arena K V) (key : K) (value : V) (result : InsertResult K V) → HasPut bytes P new the_pairs key value result → option_value (entry_in result.existing_leaf) ≡ lookup (has_bytes bytes (bytes key)) the_pairs
+    pub put-value : (new : Arena K V) (key : K) (value : V) (result : InsertResult K V) → HasPut bytes P new key value result the_pairs [] → option_value (entry_in result.existing_leaf) ≡ lookup (has_bytes bytes (bytes key)) the_pairs
     put-value new key value result has =
         sym (lookup-value (has_bytes bytes (bytes key)) the_pairs (entry_in result.existing_leaf) (sym (put-entry new key value result has)))
 
-    pub put-pairs : (new : Arena K V) (key : K) (value : V) (result : InsertResult K V) → HasPut bytes P new the_pairs key value result → pairs_from new (Some result.new_root) ≡ with_pair_put bytes key value the_pairs
+    pub put-pairs : (new : Arena K V) (key : K) (value : V) (result : InsertResult K V) → HasPut bytes P new key value result the_pairs [] → pairs_from new (Some result.new_root) ≡ with_pair_put bytes key value the_pairs
     put-pairs new key value result has = has-seen bytes P new (Some result.new_root) _ has.has
 
     -- with a pair in the place of those whose keys overlap its key
-    pub over-map : (new : Arena K V) (key : K) (value : V) (result : PrefixInsertResult K V) → is_key key → HasPutOver bytes P new the_pairs key value result → IsMap bytes is_key P new (Some result.insert_result.new_root)
+    pub over-map : (new : Arena K V) (key : K) (value : V) (result : PrefixInsertResult K V) → is_key key → HasPutOver bytes P new key value result the_pairs [] → IsMap bytes is_key P new (Some result.insert_result.new_root)
     over-map new key value result one has =
         make new (Some result.insert_result.new_root) (with_pair_over bytes key value the_pairs) has.has
-        (keys-put is_key (key_of bytes) (key, value) _ one (keys-filter is_key (λ q. not (overlaps (bytes key) (key_of bytes q))) the_pairs map.keys))
+        (keys-put is_key (key_of bytes) (key, value) _ one (all-filter (λ q. is_key q.0) (λ q. not (overlaps (bytes key) (key_of bytes q))) the_pairs map.keys))
 
-    pub over-pairs : (new : Arena K V) (key : K) (value : V) (result : PrefixInsertResult K V) → HasPutOver bytes P new the_pairs key value result → pairs_from new (Some result.insert_result.new_root) ≡ with_pair_over bytes key value the_pairs
+    pub over-pairs : (new : Arena K V) (key : K) (value : V) (result : PrefixInsertResult K V) → HasPutOver bytes P new key value result the_pairs [] → pairs_from new (Some result.insert_result.new_root) ≡ with_pair_over bytes key value the_pairs
     over-pairs new key value result has = has-seen bytes P new (Some result.insert_result.new_root) _ has.has
 
-    pub over-count : (new : Arena K V) (key : K) (value : V) (result : PrefixInsertResult K V) → HasPutOver bytes P new the_pairs key value result → removed_by result ≡ length (overlapping (key_of bytes) (bytes key) the_pairs)
+    pub over-count : (new : Arena K V) (key : K) (value : V) (result : PrefixInsertResult K V) → HasPutOver bytes P new key value result the_pairs [] → removed_by result ≡ length (overlapping (key_of bytes) (bytes key) the_pairs)
     over-count new key value result has = how_many (overlapping (key_of bytes) (bytes key) the_pairs) result has.removed
 
     -- with a pair less
-    pub taken-map : (new : Arena K V) (key : List ℕ) (deleted : DeleteResult K V) → HasTaken bytes P new root key the_pairs (Some deleted) → IsMap bytes is_key P new deleted.new_root
+    pub taken-map : (new : Arena K V) (key : List ℕ) (deleted : DeleteResult K V) → HasTaken bytes P new root key (Some deleted) the_pairs [] → IsMap bytes is_key P new deleted.new_root
     taken-map new key deleted has = make new deleted.new_root (without_key (key_of bytes) key the_pairs) has.1 (keys-without is_key (key_of bytes) key the_pairs map.keys)
 
-    pub taken-pairs : (new : Arena K V) (key : List ℕ) (deleted : DeleteResult K V) → HasTaken bytes P new root key the_pairs (Some deleted) → pairs_from new deleted.new_root ≡ without_key (key_of bytes) key the_pairs
+    pub taken-pairs : (new : Arena K V) (key : List ℕ) (deleted : DeleteResult K V) → HasTaken bytes P new root key (Some deleted) the_pairs [] → pairs_from new deleted.new_root ≡ without_key (key_of bytes) key the_pairs
     taken-pairs new key deleted has = has-seen bytes P new deleted.new_root _ has.1
 
-    pub taken-entry : (new : Arena K V) (key : List ℕ) (deleted : DeleteResult K V) → HasTaken bytes P new root key the_pairs (Some deleted) → lookup_entry (has_bytes bytes key) the_pairs ≡ Some (deleted.deleted_leaf.key, deleted.deleted_leaf.value)
+    pub taken-entry : (new : Arena K V) (key : List ℕ) (deleted : DeleteResult K V) → HasTaken bytes P new root key (Some deleted) the_pairs [] → lookup_entry (has_bytes bytes key) the_pairs ≡ Some (deleted.deleted_leaf.key, deleted.deleted_leaf.value)
     taken-entry new key deleted has = entry-first bytes key the_pairs ∙ ap first_item has.0
 
     -- with the pair at an end less
-    pub end-map : (new : Arena K V) (end : End) (deleted : DeleteResult K V) → HasTakenEnd bytes P new root end the_pairs (Some deleted) → IsMap bytes is_key P new deleted.new_root
+    pub end-map : (new : Arena K V) (end : End) (deleted : DeleteResult K V) → HasTakenEnd bytes P new root end (Some deleted) the_pairs [] → IsMap bytes is_key P new deleted.new_root
     end-map new end deleted (rest, at, has) = make new deleted.new_root rest has (keys-end is_key end (deleted.deleted_leaf.key, deleted.deleted_leaf.value) rest the_pairs at map.keys)
 
-    pub end-pairs : (new : Arena K V) (end : End) (deleted : DeleteResult K V) → HasTakenEnd bytes P new root end the_pairs (Some deleted) → (k : K) (v : V) → k ≡ deleted.deleted_leaf.key → v ≡ deleted.deleted_leaf.value
+    pub end-pairs : (new : Arena K V) (end : End) (deleted : DeleteResult K V) → HasTakenEnd bytes P new root end (Some deleted) the_pairs [] → (k : K) (v : V) → k ≡ deleted.deleted_leaf.key → v ≡ deleted.deleted_leaf.value
         → IsAtEnd end (k, v) (pairs_from new deleted.new_root) the_pairs
     end-pairs new end deleted (rest, at, has) k v key value = rw (has-seen bytes P new deleted.new_root rest has, key, value) at
 
-    pub end-none-map : (new : Arena K V) (end : End) → HasTakenEnd bytes P new root end the_pairs None → IsMap bytes is_key P new root
+    pub end-none-map : (new : Arena K V) (end : End) → HasTakenEnd bytes P new root end None the_pairs [] → IsMap bytes is_key P new root
     end-none-map new end has = make new root the_pairs has.1 map.keys
 
-    pub end-none-pairs : (new : Arena K V) (end : End) → HasTakenEnd bytes P new root end the_pairs None → pairs_from new root ≡ []
+    pub end-none-pairs : (new : Arena K V) (end : End) → HasTakenEnd bytes P new root end None the_pairs [] → pairs_from new root ≡ []
     end-none-pairs new end has = has-seen bytes P new root the_pairs has.1 ∙ has.0
 
     -- or with none to be taken
-    pub none-map : (new : Arena K V) (key : List ℕ) → HasTaken bytes P new root key the_pairs None → IsMap bytes is_key P new root
+    pub none-map : (new : Arena K V) (key : List ℕ) → HasTaken bytes P new root key None the_pairs [] → IsMap bytes is_key P new root
     none-map new key has = make new root the_pairs has.1 map.keys
 
-    pub none-pairs : (new : Arena K V) (key : List ℕ) → HasTaken bytes P new root key the_pairs None → pairs_from new root ≡ without_key (key_of bytes) key the_pairs
+    pub none-pairs : (new : Arena K V) (key : List ℕ) → HasTaken bytes P new root key None the_pairs [] → pairs_from new root ≡ without_key (key_of bytes) key the_pairs
     none-pairs new key has = has-seen bytes P new root the_pairs has.1 ∙ sym (nothing_taken (key_of bytes) key the_pairs has.0)
 
-    pub none-entry : (new : Arena K V) (key : List ℕ) → HasTaken bytes P new root key the_pairs None → lookup_entry (has_bytes bytes key) the_pairs ≡ None
+    pub none-entry : (new : Arena K V) (key : List ℕ) → HasTaken bytes P new root key None the_pairs [] → lookup_entry (has_bytes bytes key) the_pairs ≡ None
     none-entry new key has = entry-first bytes key the_pairs ∙ ap first_item has.0
 
     -- its keys ascend

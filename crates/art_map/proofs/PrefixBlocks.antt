@@ -1,5 +1,5 @@
 -- The part of a map's tree whose keys begin with a prefix: it is found, room is made for its loss, and it is cut.
-use Rattle.std.proofs.Common.{◌≡◌, ℕ, ◌+◌, ◌-◌, ◌^◌, ◌<◌, min, Bool, true, false, cond, not, List, [], ◌∷◌, length, map, Option, Some, None, Result, Ok, Err, IfOk, OnOk, refl, sym, ap, subst, ◌∙◌, inl, inr, arith}
+use Rattle.std.proofs.Common.{◌≡◌, ℕ, ◌+◌, ◌-◌, ◌^◌, ◌<◌, min, not, List, [], ◌∷◌, length, map, Option, Some, None, Result, Ok, Err, IfOk, OnOk, refl, sym, ap, subst, ◌∙◌, inl, inr, arith}
 use Rattle.std.proofs.lemmas.Bool.{cases_Bool}
 use mathlib.Core.HLevel.{⊥_prop}
 use mathlib.Core.Logic.{∥∥₁_elim}
@@ -16,7 +16,7 @@ use Rattle.art_arena.proofs.shapes.Subtrees.{some_leaf}
 use Rattle.art_arena.proofs.shapes.Updates.{nodes-same}
 use Rattle.art_operations.specs.NodeCounts.{node_count}
 use Rattle.art_operations.specs.Openings.{ForLongest, OpeningReads}
-use Rattle.art_operations.specs.Pairs.{HasCutBeside, HasPairs, HasPlaceBeside}
+use Rattle.art_operations.specs.Pairs.{HasCut, HasPairs, HasPairsWhere}
 use Rattle.art_operations.specs.Subtrees.{HasRoomAbove, IsCutBeside, IsSubtreeAnswer, IsSubtreePoint, leaves_with, ShrinksWithout}
 use Rattle.art_operations.specs.Whichever.{HasTreeWhere, OfTree, OfTreeWhere}
 use Rattle.art_operations.specs.declared.delete.subtree.PreparedSubtreeDelete.{PreparedSubtreeDelete}
@@ -30,7 +30,8 @@ use Rattle.art_walks.proofs.MapReads.{keys-within}
 use Rattle.art_map.specs.Contents.{Contents, contents, pairs_from, IsMap}
 use Rattle.art_map.specs.PrefixBlocks.{cut_visits, IsFoundPart, IsPrefixPart, IsReadyPart, ShrinksAtCut}
 use Rattle.art_map.proofs.Below.{has-seen}
-use Rattle.art_map.proofs.Maps.{keys-filter, make}
+use Rattle.art_map.proofs.Maps.{make}
+use Rattle.art_walks.proofs.Spans.{all-filter}
 
 -- nothing is mapped to nothing
 from-nothing : {X Y : Type 0} (f : X → Y) (xs : List X) → map f xs ≡ [] → xs ≡ []
@@ -38,16 +39,7 @@ from-nothing f [] e = refl
 from-nothing f (x ∷ xs) e = absurd (cc)
 
 module _ {X : Type 0} (key : X → List ℕ) (front : List ℕ) where
-  -- where no item begins with the prefix, all are left
-  pub all-left : (xs : List X) → with_front key front xs ≡ [] → without_front key front xs ≡ xs
-  all-left [] none = refl
-  all-left (x ∷ xs) none = step (begins_with front (key x)) (all-left xs) none
-    where
-      step : (b : Bool) → (with_front key front xs ≡ [] → without_front key front xs ≡ xs) → cond b (x ∷ with_front key front xs) (with_front key front xs) ≡ [] → cond (not b) (x ∷ without_front key front xs) (without_front key front xs) ≡ x ∷ xs
-      step true later none = absurd (cc)
-      step false later none = ap (λ ys. x ∷ ys) (later none)
-
-  -- and of those that are left none begins with it
+  -- of those that are left none begins with the prefix
   pub none-left : (xs : List X) → with_front key front (without_front key front xs) ≡ []
   none-left [] = refl
   none-left (x ∷ xs) = elim (cases_Bool (begins_with front (key x))) [ inl t ↦ rw t (none-left xs) | inr n ↦ rw (n, n) (none-left xs) ]
@@ -126,7 +118,7 @@ module _ {K V : Type 0} (bytes : K → List ℕ) (P : ℕ) (front : List ℕ) wh
 
     -- a part stands in the tree
     pub part-there : (root : Option Name) → IsMap bytes is_key P arena root → (point : SubtreeDeletePoint) → ∥ IsPrefixPart bytes P (contents arena root) front root point ∥₁
-        → HasPlaceBeside bytes P arena [] point.root (λ s. IsSubtreePoint bytes front s point) (pairs_from arena root)
+        → HasPairsWhere bytes P arena point.root (λ s. IsSubtreePoint bytes front s point) (pairs_from arena root) []
     part-there None map point part = absurd (∥∥₁_elim part ⊥_prop (λ x. x))
     part-there (Some top) map point part =
         let s = map.has.0 in
@@ -135,7 +127,7 @@ module _ {K V : Type 0} (bytes : K → List ℕ) (P : ℕ) (front : List ℕ) wh
         record { shape = s; is_tree = subst (λ n. StoresBeside bytes P arena n [] s) (sym tree.nodes.named ∙ is.named) tree; place = is; pairs_are = map.has.2 }
 
     module _ (root : Option Name) (map : IsMap bytes is_key P arena root) (point : SubtreeDeletePoint) (part : ∥ IsPrefixPart bytes P (contents arena root) front root point ∥₁) where
-      at : HasPlaceBeside bytes P arena [] point.root (λ s. IsSubtreePoint bytes front s point) (pairs_from arena root)
+      at : HasPairsWhere bytes P arena point.root (λ s. IsSubtreePoint bytes front s point) (pairs_from arena root) []
       at = part-there root map point part
 
       pub place-there : (other : List ℕ) × HasTreeWhere bytes P arena point.root (λ s. IsSubtreePoint bytes other s point)
@@ -149,11 +141,11 @@ module _ {K V : Type 0} (bytes : K → List ℕ) (P : ℕ) (front : List ℕ) wh
 
       -- once it is cut
       module _ (new : Arena K V) (result : SubtreeDeleteResult) (gone : (other : List ℕ) → OfTreeWhere bytes P arena point.root (λ s. IsSubtreePoint bytes other s point) (λ s rest. IsCutBeside bytes other P new rest s result)) where
-        cut : HasCutBeside bytes P new [] front (pairs_from arena root) result
+        cut : HasCut bytes P new front result (pairs_from arena root) []
         cut = cut-pairs bytes P new [] at.shape (pairs_from arena root) at.pairs_are front result (gone front at.shape [] at.is_tree at.place)
 
         pub cut-map : IsMap bytes is_key P new result.new_root
-        cut-map = make bytes is_key P new result.new_root (without_front (key_of bytes) front (pairs_from arena root)) cut.left (keys-filter is_key (λ q. not (begins_with front (key_of bytes q))) (pairs_from arena root) map.keys)
+        cut-map = make bytes is_key P new result.new_root (without_front (key_of bytes) front (pairs_from arena root)) cut.left (all-filter (λ q. is_key q.0) (λ q. not (begins_with front (key_of bytes q))) (pairs_from arena root) map.keys)
 
         pub cut-left : pairs_from new result.new_root ≡ without_front (key_of bytes) front (pairs_from arena root)
         cut-left = has-seen bytes P new result.new_root _ cut.left

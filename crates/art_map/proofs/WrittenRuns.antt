@@ -1,6 +1,5 @@
 -- The leaves of a map and a run of them, once the value of a leaf is written.
-use Rattle.std.proofs.Common.{◌≡◌, ℕ, ◌≤◌, List, [], ◌∷◌, ◌++◌, Option, Some, None, refl, sym, ap, subst, ◌∙◌, append_assoc, reverse}
-use Rattle.std.proofs.lemmas.List.{reverse-append, reverse-reverse}
+use Rattle.std.proofs.Common.{◌≡◌, ℕ, ◌≤◌, List, [], ◌∷◌, ◌++◌, Option, Some, None, refl, sym, ap, subst, ◌∙◌, append_assoc}
 use Rattle.std.proofs.Math.Logic.{∥∥₁_map}
 use Rattle.art_nodes.specs.Name.{Name}
 use Rattle.art_arena.specs.arena.Arena.{node_at, links_at}
@@ -14,6 +13,7 @@ use Rattle.art_arena.proofs.shapes.Surroundings.{tree-list}
 use Rattle.art_operations.specs.Deletions.{HasLeaves, IsAmong}
 use Rattle.art_operations.specs.Pairs.{IsAtEnd}
 use Rattle.art_operations.proofs.NamedLeaves.{leaf-held}
+use Rattle.art_operations.proofs.Spines.{last-same}
 use Rattle.art_operations.proofs.WrittenValues.{written}
 use Rattle.art_walks.specs.Runs.{Ends, HasEnds}
 use Rattle.art_map.specs.Contents.{Contents}
@@ -21,14 +21,6 @@ use Rattle.art_map.specs.Leaves.{AreLeaves, IsRun, slot_at, with_value_where}
 use Rattle.art_map.specs.Lends.{with_value_at}
 use Rattle.art_map.proofs.LookedUp.{same-place}
 use Rattle.art_map.proofs.MapLeaves.{map-leaves}
-
--- two lists that end with one item are the same where the lists are, and the items
-pub snoc-same : {X : Type 0} (xs ys : List X) (x y : X) → xs ++ x ∷ [] ≡ ys ++ y ∷ [] → (xs ≡ ys) × (x ≡ y)
-snoc-same xs ys x y e =
-    let f : x ∷ reverse xs ≡ y ∷ reverse ys = sym (reverse-append xs (x ∷ [])) ∙ ap reverse e ∙ reverse-append ys (y ∷ []) in
-    let rest : reverse xs ≡ reverse ys = cc in
-    let last : x ≡ y = cc in
-    (sym (reverse-reverse xs) ∙ ap reverse rest ∙ reverse-reverse ys, last)
 
 module _ {K V : Type 0} (bytes : K → List ℕ) (P : ℕ) (m : Contents K V) where
   -- the leaves of the map, one of which has another value
@@ -100,7 +92,7 @@ module _ {K V : Type 0} (bytes : K → List ℕ) (P : ℕ) (m : Contents K V) wh
             leaves = subst (AreLeaves bytes P (with_value_at m b w)) again (written-leaves b _ r.leaves there w);
             ends_are = (starts slot ys (subst (λ xs. first_slot xs None ≡ Some a) is h.0), last_slot-append None ys (new ∷ []));
           };
-          same = λ k zs at. ends slot (snoc-same zs ys k l (sym at ∙ is));
+          same = λ k zs at. ends slot (last-same zs ys k l (sym at ∙ is));
         }
       where
         starts : l.slot ≡ b → (ys : List (LeafAt K V)) → first_slot (ys ++ l ∷ []) None ≡ Some a → first_slot (ys ++ record { slot = b; key = l.key; value = w } ∷ []) None ≡ Some a

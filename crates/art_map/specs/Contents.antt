@@ -1,6 +1,7 @@
 -- What a contract sees of a map: its pairs in order, and the nodes that hold them.
 use Rattle.std.specs.Prelude.{◌≡◌, ℕ, zero, suc, Bool, bytes_eq, List, [], ◌∷◌, ◌++◌, Option, Some, None, IsSome}
 use Rattle.std.specs.List.{AllByRecursion}
+use Rattle.std.specs.Map.{lookup, lookup_entry}
 use Rattle.art_nodes.specs.Name.{Name}
 use Rattle.art_nodes.specs.declared.leaf.LeafNode.{LeafNode}
 use Rattle.art_arena.specs.arena.Arena.{Arena, SameNodes, node_at, held_at, slots_of}
@@ -21,6 +22,13 @@ has_bytes bytes query k = bytes_eq (bytes k) query
 -- the test that a key is a front of these bytes, or equals them
 abbrev pub is_front : {K : Type 0} → (K → List ℕ) → List ℕ → K → Bool
 is_front bytes query k = begins_with (bytes k) query
+
+-- the pair whose key has these bytes, and its value, if there is one
+abbrev pub found_pair : {K V : Type 0} → (K → List ℕ) → List ℕ → List (K × V) → Option (K × V)
+found_pair bytes query pairs = lookup_entry (has_bytes bytes query) pairs
+
+abbrev pub found_value : {K V : Type 0} → (K → List ℕ) → List ℕ → List (K × V) → Option V
+found_value bytes query pairs = lookup (has_bytes bytes query) pairs
 
 -- the value of a pair, if there is one
 abbrev pub option_value : {K V : Type 0} → Option (K × V) → Option V

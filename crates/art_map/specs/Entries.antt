@@ -1,7 +1,6 @@
 -- What a contract says of an entry. The words serve its halves too, as `entry_key (Occupied o)`.
 pub use Rattle.art_map.specs.declared.map.entry.Entry.TheVariants.{Occupied, Vacant}
-use Rattle.std.specs.Prelude.{◌≡◌, ℕ, List, [], Option, Some, None, IsSome, option_map, Result}
-use Rattle.std.specs.Map.{lookup, lookup_entry}
+use Rattle.std.specs.Prelude.{◌≡◌, ℕ, List, [], Option, Some, None, IsSome, option_map, Result, IfErr}
 use Rattle.std.specs.Option.{unwrap_or}
 use Rattle.std.specs.Borrow.{Fml, RattleType, MutBor, follows, LendsSoOk, RestsIfErr, RestsIfNone}
 use Rattle.std.proofs.Common.{sym}
@@ -12,7 +11,8 @@ use Rattle.art_bytes.specs.declared.as_bytes.AsBytes as as_bytes
 use Rattle.art_arena.specs.arena.Shapes.{key_of}
 use Rattle.art_operations.specs.KeyedLists.{without_key}
 use Rattle.art_operations.specs.Pairs.{with_pair_put}
-use Rattle.art_map.specs.Contents.{Contents, has_bytes, IsKept}
+use Rattle.art_operations.specs.declared.insert.result.InsertRefused.{InsertRefused}
+use Rattle.art_map.specs.Contents.{Contents, found_pair, found_value, IsKept}
 use Rattle.art_map.specs.Found.{pair_under, still_held}
 use Rattle.art_map.specs.LeafNames.{KeepsAllLeaves}
 use Rattle.art_map.specs.Lends.{with_value_at}
@@ -47,6 +47,11 @@ module _ {K V : Type 0} {P : ℕ} {M : Type 0} {g : as_bytes.Ghosts K} where
   entry_value (Occupied o) = Some (the (pair_under o.map.now o.leaf) o.held).1
   entry_value (Vacant e) = None
 
+  -- a refusal is of a key that is not stored: it hands the key back, and a value that is one of these
+  abbrev pub IsRefusedEntry : {A : Type 0} → Entry K V P M g → (V → Type 0) → Result A (InsertRefused K V) → Type 0
+  IsRefusedEntry e Gives result =
+      IfErr result (λ refused. (entry_value e ≡ None) × (refused.key ≡ entry_key e) × Gives refused.value)
+
   -- the entry has this pair, or there is neither
   abbrev pub IsPairOf : Option (K × V) → Option (OccupiedEntry K V P M g) → Type 0
   IsPairOf wanted None = wanted ≡ None
@@ -54,9 +59,9 @@ module _ {K V : Type 0} {P : ℕ} {M : Type 0} {g : as_bytes.Ghosts K} where
 
   -- the entry is that of this key in these pairs
   pub record IsEntryOf (pairs : List (K × V)) (k : K) (e : Entry K V P M g) : Type 0 where
-    pub key : entry_key e ≡ unwrap_or (option_key (lookup_entry (has_bytes g.bytes (g.bytes k)) pairs)) k
+    pub key : entry_key e ≡ unwrap_or (option_key (found_pair g.bytes (g.bytes k) pairs)) k
     pub same_key : g.bytes (entry_key e) ≡ g.bytes k
-    pub value : entry_value e ≡ lookup (has_bytes g.bytes (g.bytes k)) pairs
+    pub value : entry_value e ≡ found_value g.bytes (g.bytes k) pairs
 
   -- the pairs of the map, once w is the value of the key
   abbrev pub entry_pairs : Entry K V P M g → V → List (K × V)

@@ -7,7 +7,7 @@ use Rattle.art_bytes.specs.declared.as_bytes.AsBytes as as_bytes
 use Rattle.art_walks.specs.Walked.{start_of}
 use Rattle.art_map.specs.LentRuns.{end_of, left_behind, left_before, run_pairs, with_lent_value}
 use Rattle.art_map.specs.LentWalks.{IsLent}
-use Rattle.art_map.specs.inner.LentSteps.{counted_behind, counted_before, still_behind, still_before}
+use Rattle.art_map.specs.lemmas.LentSteps.{counted_behind, counted_before, still_behind, still_before}
 use Rattle.art_map.specs.declared.map.iter_mut.IterMut.{IterMut}
 use Rattle.art_map.specs.contracts.map.iter_mut.IterMut as iter
 

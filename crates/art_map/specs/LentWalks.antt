@@ -9,7 +9,7 @@ use Rattle.art_operations.specs.Pairs.{with_pair_put}
 use Rattle.art_walks.specs.Walked.{start_of}
 use Rattle.art_map.specs.Contents.{Contents}
 use Rattle.art_map.specs.LentRuns.{end_of, left_behind, left_before, run_pairs, with_lent_value}
-use Rattle.art_map.specs.inner.LentSteps.{still_behind, still_before}
+use Rattle.art_map.specs.lemmas.LentSteps.{still_behind, still_before}
 use Rattle.art_map.specs.declared.map.walks_mut.RangeMut.{RangeMut}
 use Rattle.art_map.specs.contracts.map.walks_mut.RangeMut as range
 

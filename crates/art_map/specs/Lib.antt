@@ -21,4 +21,6 @@ pub mod LentRuns
 pub mod LentWalks
 pub mod LentIters
 pub mod Bulk
+pub mod Builders
 pub mod inner
+pub mod lemmas

@@ -1,7 +1,7 @@
 -- What a contract says of a prefix entry. The words serve its kinds too, as `occupied_key (Inner e)`.
 pub use Rattle.art_map.specs.declared.map.prefix_entry.PrefixEntry.TheVariants.{Occupied, Vacant}
 pub use Rattle.art_map.specs.declared.map.prefix_entry.PrefixOccupiedKind.TheVariants.{Leaf, Inner}
-use Rattle.std.specs.Prelude.{◌≡◌, ℕ, true, List, [], Option, Some, None, option_map, Result}
+use Rattle.std.specs.Prelude.{◌≡◌, ℕ, true, List, [], Option, Some, None, option_map, Result, IfErr}
 use Rattle.std.specs.Borrow.{Fml, RattleType, MutBor, Lends, LendsSo, LendsSoOk, RestsIfErr}
 use Rattle.std.specs.Map.{set_value}
 use Rattle.std.specs.Option.{OnSome}
@@ -11,6 +11,7 @@ use Rattle.art_arena.specs.arena.Shapes.{key_of}
 use Rattle.art_bytes.specs.declared.as_bytes.AsBytes as as_bytes
 use Rattle.art_operations.specs.KeyedLists.{IsBlocked, overlapping}
 use Rattle.art_operations.specs.Pairs.{with_pair_over}
+use Rattle.art_operations.specs.declared.insert.result.InsertRefused.{InsertRefused}
 use Rattle.art_map.specs.Contents.{Contents, IsKept}
 use Rattle.art_map.specs.LeafNames.{KeepsLeaves}
 use Rattle.art_map.specs.Entries as entry
@@ -83,6 +84,12 @@ module _ {K V : Type 0} {P : ℕ} {M : Type 0} {g : as_bytes.Ghosts K} where
   abbrev pub prefix_value : PrefixEntry K V P M g → Option V
   prefix_value (Occupied o) = occupied_value (occupied_kind o)
   prefix_value (Vacant e) = None
+
+  -- a refusal is of a key that is not stored: it hands the key back, and a value that is one of these
+  abbrev pub IsRefusedPrefix : {A : Type 0} → PrefixEntry K V P M g → (V → Type 0) → Result A (InsertRefused K V)
+      → Type 0
+  IsRefusedPrefix e Gives result =
+      IfErr result (λ refused. (prefix_value e ≡ None) × (refused.key ≡ prefix_key e) × Gives refused.value)
 
   -- the pairs of the map, once w is the value of the key
   abbrev pub occupied_pairs_with : PrefixOccupiedKind K V P M g → V → List (K × V)

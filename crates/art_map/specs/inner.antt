@@ -1,3 +1,2 @@
 -- Words of private contracts.
 pub mod Asks
-pub mod LentSteps

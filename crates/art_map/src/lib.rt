@@ -14,6 +14,7 @@
 pub mod laws;
 mod map;
 
+pub use map::builder::TreeMapBuilder;
 pub use map::entry::{Entry, OccupiedEntry, VacantEntry};
 pub use map::extract_if::ExtractIf;
 pub use map::extraction::Extraction;

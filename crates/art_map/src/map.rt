@@ -6,6 +6,7 @@ ghost use Rattle.art_arena.specs.tree.Order.{AscendsByKey};
 ghost use Rattle.art_operations.specs.Runs.{HoldsTreeOf};
 
 mod audit;
+pub mod builder;
 mod bulk;
 mod changes;
 mod clones;

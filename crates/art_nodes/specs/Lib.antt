@@ -7,3 +7,4 @@ pub mod Name
 pub mod PrefixMatch
 pub mod Replay
 pub mod inner
+pub mod lemmas

@@ -1,5 +1,4 @@
 pub mod ChildIter
-pub mod KindLaws
 pub mod Mask
 pub mod Place
 pub mod Replayed

@@ -2,7 +2,7 @@
 ghost use Rattle.std.specs.Prelude.{◌≡◌, ◌≢◌, ◌≤◌, ◌+◌, ◌↔◌, IsTrue, IsSomeAnd};
 ghost use Rattle.std.proofs.Common.{lit<};
 ghost use Rattle.art_nodes.specs.Kind.{row_of, CanShrink};
-ghost use Rattle.art_nodes.specs.inner.KindLaws.{has_room};
+ghost use Rattle.art_nodes.specs.lemmas.KindLaws.{has_room};
 ghost use Rattle.art_nodes.specs.declared.kind.NodeType.{NodeType};
 ghost use Rattle.art_nodes.specs.declared.kind.NodeType.TheVariants.{Node4, Node16, Node32, Node48, Node256, Leaf};
 

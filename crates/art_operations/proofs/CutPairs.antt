@@ -8,7 +8,7 @@ use Rattle.art_arena.specs.arena.Cells.{Cell}
 use Rattle.art_arena.specs.arena.Shapes.{Shape, leaves, pairs_of, key_of}
 use Rattle.art_arena.specs.tree.Tenants.{begins_with, with_front, without_front}
 use Rattle.art_operations.specs.NodeCounts.{nodes_counted}
-use Rattle.art_operations.specs.Pairs.{HasCutBeside}
+use Rattle.art_operations.specs.Pairs.{HasCut}
 use Rattle.art_operations.specs.Subtrees.{leaves_with, leaves_without, IsCutBeside}
 use Rattle.art_operations.specs.declared.delete.subtree.SubtreeDeleteResult.{SubtreeDeleteResult}
 use Rattle.art_operations.proofs.HeldPairs.{leaves-pairs}
@@ -30,7 +30,7 @@ module _ {X Y : Type 0} (f : X → Y) (key : Y → List ℕ) (front : List ℕ) 
 module _ {K V : Type 0} (bytes : K → List ℕ) (P : ℕ) where
   -- the pairs whose keys don't begin with the prefix are left
   pub cut-pairs : (new : Arena K V) (rest : List (Name × Cell K V)) (s : Shape K V) (pairs : List (K × V)) → pairs_of (leaves s) ≡ pairs → (front : List ℕ) (result : SubtreeDeleteResult)
-      → IsCutBeside bytes front P new rest s result → HasCutBeside bytes P new rest front pairs result
+      → IsCutBeside bytes front P new rest s result → HasCut bytes P new front result pairs rest
   cut-pairs new rest s pairs are front result cut =
       let gone : pairs_of (leaves_with bytes front (leaves s)) ≡ with_front (key_of bytes) front pairs = sym (with-map leaf_pair (key_of bytes) front (leaves s)) ∙ ap (with_front (key_of bytes) front) are in
       record {

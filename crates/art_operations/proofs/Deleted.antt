@@ -64,7 +64,7 @@ module _ {K V : Type 0} (bytes : K → List ℕ) (P : ℕ) (mid : Arena K V) (re
 
       -- the arena holds the other leaves beside what stood beside the tree
       pub others_left : (left : Option Name) (apart : IsDetached bytes P mid rest ctx part left) → AreLinked (links_at unlinked) None (leaves_before ctx ++ leaves_after ctx) None → Holds (node_at new) (beside_part left apart)
-          → HasLeavesBeside bytes P new rest left (leaves_before ctx ++ leaves_after ctx)
+          → HasLeavesBeside bytes P new left (leaves_before ctx ++ leaves_after ctx) rest
       others_left None apart linked freed = (ap (λ c. leaves_before c ++ leaves_after c) apart.0, holds-only (node_at new) rest freed)
       others_left (Some top) apart linked freed = (
         apart.remains,
@@ -134,7 +134,7 @@ module _ {K V : Type 0} (bytes : K → List ℕ) (P : ℕ) (mid unlinked : Arena
         ap₂ (λ k v. record { slot = slot; key = k; value = v }) same_key same_value
 
     -- and the answer has it
-    pub deleted : (s : Shape K V) → leaves s ≡ leaves_before ctx ++ record { slot = slot; key = key; value = value } ∷ leaves_after ctx → HasLeavesBeside bytes P new rest left (leaves_before ctx ++ leaves_after ctx)
+    pub deleted : (s : Shape K V) → leaves s ≡ leaves_before ctx ++ record { slot = slot; key = key; value = value } ∷ leaves_after ctx → HasLeavesBeside bytes P new left (leaves_before ctx ++ leaves_after ctx) rest
         → IsDeletedBeside bytes P new rest s slot (record { new_root = left; deleted_leaf = node })
     deleted s all others = record {
       front = leaves_before ctx;

@@ -30,7 +30,7 @@ use Rattle.art_operations.specs.declared.delete.result.DeleteResult.{DeleteResul
 use Rattle.art_operations.specs.declared.insert.point.InsertPoint.{InsertPoint}
 use Rattle.art_operations.specs.declared.insert.result.InsertResult.{InsertResult}
 use Rattle.art_operations.specs.KeyedLists.{HasKey, IsBlocked, with_key}
-use Rattle.art_operations.specs.Pairs.{HasPairs, HasPairsBeside, HasPointBeside, HasPutBeside, HasTakenBeside}
+use Rattle.art_operations.specs.Pairs.{HasPairs, HasPairsBeside, CanPut, HasPut, HasTaken}
 use Rattle.art_operations.specs.Runs.{HoldsTreeOf}
 use Rattle.art_operations.specs.declared.insert.point.InsertKind.TheVariants as kind
 use Rattle.art_operations.specs.declared.insert.result.InsertParentNodeChange.TheVariants.{NoChange}
@@ -51,7 +51,7 @@ module _ {K V : Type 0} (bytes : K → List ℕ) (P : ℕ) where
   pairs-same old new same (Some root) pairs (s, tree, e) = (s, tree-same old new same root s tree, e)
 
   -- the pairs of these leaves
-  pub leaves-pairs : (arena : Arena K V) (rest : List (Name × Cell K V)) (root : Option Name) (ls : List (LeafAt K V)) (pairs : List (K × V)) → pairs_of ls ≡ pairs → HasLeavesBeside bytes P arena rest root ls → HasPairsBeside bytes P arena rest root pairs
+  pub leaves-pairs : (arena : Arena K V) (rest : List (Name × Cell K V)) (root : Option Name) (ls : List (LeafAt K V)) (pairs : List (K × V)) → pairs_of ls ≡ pairs → HasLeavesBeside bytes P arena root ls rest → HasPairsBeside bytes P arena root pairs rest
   leaves-pairs arena rest None ls pairs e (none, empty) = (sym e ∙ ap pairs_of none, empty)
   leaves-pairs arena rest (Some root) ls pairs e (s, tree, same) = (s, tree, ap pairs_of same ∙ e)
 
@@ -84,8 +84,8 @@ module _ {K V : Type 0} (bytes : K → List ℕ) (P : ℕ) where
       }
 
   -- a pair that was put in at a point
-  pub put-at : {rest : List (Name × Cell K V)} (old new : Arena K V) (point : InsertPoint) (key : K) (value : V) (pairs : List (K × V)) (has : HasPointBeside bytes P old rest point (bytes key) pairs) (last : List Step) (result : InsertResult K V)
-      → IsInsertedBeside bytes P new rest has.shape last key value result → HasPutBeside bytes P new rest pairs key value result
+  pub put-at : {rest : List (Name × Cell K V)} (old new : Arena K V) (point : InsertPoint) (key : K) (value : V) (pairs : List (K × V)) (has : CanPut bytes P old (Some point) (bytes key) pairs rest) (last : List Step) (result : InsertResult K V)
+      → IsInsertedBeside bytes P new rest has.shape last key value result → HasPut bytes P new key value result pairs rest
   put-at old new point key value pairs has last result is =
       let leaf : LeafAt K V = record { slot = result.leaf_node_ptr; key = key; value = value } in
       let put = stored_pair bytes leaf result.existing_leaf (leaves has.shape) (leaves is.shape) (pairs_ascend bytes is.shape is.is_tree.nodes.under) is.stored in
@@ -97,7 +97,7 @@ module _ {K V : Type 0} (bytes : K → List ℕ) (P : ℕ) where
       }
 
   -- where a pair has the key, the point is its leaf
-  pub stored-exact : {rest : List (Name × Cell K V)} (old : Arena K V) (point : InsertPoint) (key : List ℕ) (pairs : List (K × V)) → HasPointBeside bytes P old rest point key pairs → HasKey (key_of bytes) key pairs → (slot : ℕ) × (point.insert_kind ≡ kind.Exact slot)
+  pub stored-exact : {rest : List (Name × Cell K V)} (old : Arena K V) (point : InsertPoint) (key : List ℕ) (pairs : List (K × V)) → CanPut bytes P old (Some point) key pairs rest → HasKey (key_of bytes) key pairs → (slot : ℕ) × (point.insert_kind ≡ kind.Exact slot)
   stored-exact old point key pairs has (x, i, same) = elim (which point.insert_kind) [
     | inl exact ↦ exact
     | inr differs ↦
@@ -111,7 +111,7 @@ module _ {K V : Type 0} (bytes : K → List ℕ) (P : ℕ) where
     first : IsTreeBeside bytes P (node_at new) (leaf_name slot) (links_at new) rest (leaf_at slot key value)
     first = first-leaf old new rest slot (record { key = key; value = value; previous = None; next = None }) before allocates refl refl
 
-    pub put-first : HasPutBeside bytes P new rest [] key value (record { leaf_node_ptr = slot; existing_leaf = None; new_root = leaf_name slot; parent_node_change = NoChange })
+    pub put-first : HasPut bytes P new key value (record { leaf_node_ptr = slot; existing_leaf = None; new_root = leaf_name slot; parent_node_change = NoChange }) [] rest
     put-first = record { has = (leaf_at slot key value, first, refl); old = refl; leaf = (nodes-update old new (leaf_name slot) _ allocates.updates).changed }
 
     -- what stood there is kept
@@ -122,9 +122,9 @@ module _ {K V : Type 0} (bytes : K → List ℕ) (P : ℕ) where
         (λ n none. (links-update old new slot _ allocates.updates).others n (outside-apart n [] (record { slot = slot; key = key; value = value }) [] none))
 
   -- where the arena has a tree below a root, in which a key is looked for
-  module _ (old : Arena K V) (rest : List (Name × Cell K V)) (root : Option Name) (top : Name) (root_is : root ≡ Some top) (key : List ℕ) (pairs : List (K × V)) (has : HasPairsBeside bytes P old rest root pairs) where
-    below : HasPairsBeside bytes P old rest (Some top) pairs
-    below = subst (λ r. HasPairsBeside bytes P old rest r pairs) root_is has
+  module _ (old : Arena K V) (rest : List (Name × Cell K V)) (root : Option Name) (top : Name) (root_is : root ≡ Some top) (key : List ℕ) (pairs : List (K × V)) (has : HasPairsBeside bytes P old root pairs rest) where
+    below : HasPairsBeside bytes P old (Some top) pairs rest
+    below = subst (λ r. HasPairsBeside bytes P old r pairs rest) root_is has
 
     subtree : IsSubtree bytes P (node_at old) top [] below.0
     subtree = nodes-subtree bytes P (node_at old) top below.0 below.1.nodes
@@ -134,7 +134,7 @@ module _ {K V : Type 0} (bytes : K → List ℕ) (P : ℕ) where
 
     -- the place that was found is one for this key, and no pair blocks it
     pub place_is_free : (point : InsertPoint) → ((s : Shape K V) → IsSubtree bytes P (node_at old) top [] s → IsPoint bytes key s point × NoConflict bytes key (leaves s))
-        → HasPointBeside bytes P old rest point key pairs × (IsBlocked (key_of bytes) key pairs → ⊥)
+        → CanPut bytes P old (Some point) key pairs rest × (IsBlocked (key_of bytes) key pairs → ⊥)
     place_is_free point found =
         let is = found below.0 subtree in (
           record {
@@ -170,7 +170,7 @@ module _ {K V : Type 0} (bytes : K → List ℕ) (P : ℕ) where
 
       -- its pair was taken out
       pub taken-pair : (new : Arena K V) (deleted : DeleteResult K V) → ((s : Shape K V) → IsTreeBeside bytes P (node_at old) top (links_at old) rest s → IsLeafPlace bytes s slot last → IsDeletedBeside bytes P new rest s slot deleted)
-          → HasTakenBeside bytes P new rest root key pairs (Some deleted)
+          → HasTaken bytes P new root key (Some deleted) pairs rest
       taken-pair new deleted result =
           let is = result below.0 below.1 place in
           let leaf : LeafAt K V = record { slot = slot; key = deleted.deleted_leaf.key; value = deleted.deleted_leaf.value } in

@@ -1,5 +1,5 @@
 -- An ascending list into which an item is put, in which one is replaced, or from which one is taken, and the list without its key.
-use Rattle.std.proofs.Common.{◌≡◌, ◌≢◌, ℕ, not, true, false, Bool, cond, List, [], ◌∷◌, ◌++◌, bytes_eq, refl, sym, ap, ap₂, subst, ◌∙◌, inl, inr}
+use Rattle.std.proofs.Common.{◌≡◌, ◌≢◌, ℕ, not, true, false, Bool, cond, filter, List, [], ◌∷◌, ◌++◌, bytes_eq, refl, sym, ap, ap₂, subst, ◌∙◌, inl, inr}
 use Rattle.std.specs.List.{AllByRecursion}
 use Rattle.std.proofs.lemmas.List.Elements.{filter-append}
 use Rattle.art_bytes.specs.Keys.{Conflict, IsBefore}
@@ -11,6 +11,15 @@ use Rattle.art_arena.proofs.tree.Exists.{in_middle, put_is}
 use Rattle.art_arena.proofs.shapes.Finding.{same_key, other_key}
 use Rattle.art_operations.specs.KeyedLists.{HasKey, with_key, without_key, IsBlocked}
 use Rattle.art_bytes.proofs.Order.{before_not_self, conflict_not_before, conflict_turned}
+
+-- where no item passes a test, those that don't are all
+pub all-but-none : {X : Type 0} (test : X → Bool) (xs : List X) → filter test xs ≡ [] → filter (λ x. not (test x)) xs ≡ xs
+all-but-none test [] none = refl
+all-but-none test (x ∷ xs) none = step (test x) (all-but-none test xs) none
+  where
+    step : (b : Bool) → (filter test xs ≡ [] → filter (λ y. not (test y)) xs ≡ xs) → cond b (x ∷ filter test xs) (filter test xs) ≡ [] → cond (not b) (x ∷ filter (λ y. not (test y)) xs) (filter (λ y. not (test y)) xs) ≡ x ∷ xs
+    step true later none = absurd (cc)
+    step false later none = ap (λ ys. x ∷ ys) (later none)
 
 module _ {X : Type 0} (key : X → List ℕ) where
   -- new is old with x in the place of those that had its key, which were these; none is in conflict with it
@@ -26,12 +35,7 @@ module _ {X : Type 0} (key : X → List ℕ) where
 
   -- where none has the key, nothing is taken out
   pub nothing_taken : (k : List ℕ) (xs : List X) → with_key key k xs ≡ [] → without_key key k xs ≡ xs
-  nothing_taken k [] h = refl
-  nothing_taken k (x ∷ xs) h = step (bytes_eq (key x) k) (nothing_taken k xs) h
-    where
-      step : (b : Bool) → (with_key key k xs ≡ [] → without_key key k xs ≡ xs) → cond b (x ∷ with_key key k xs) (with_key key k xs) ≡ [] → cond (not b) (x ∷ without_key key k xs) (without_key key k xs) ≡ x ∷ xs
-      step true later none = absurd (cc)
-      step false later none = ap (λ ys. x ∷ ys) (later none)
+  nothing_taken k xs h = all-but-none (λ x. bytes_eq (key x) k) xs h
 
   -- of two items in ascending order none is in conflict with the other
   apart : (xs : List X) → AscendsByKey key xs → (x y : X) → IsIn x xs → IsIn y xs → Conflict (key x) (key y) → ⊥

@@ -19,7 +19,7 @@ use Rattle.art_arena.proofs.shapes.Finding.{same_key, other_key}
 use Rattle.art_arena.proofs.shapes.Meanings.{nodes-subtree}
 use Rattle.art_arena.proofs.shapes.Surroundings.{ctx-before}
 use Rattle.art_arena.proofs.tree.Order.{all_weaker}
-use Rattle.art_operations.specs.Pairs.{CanPutBeside, HasPairsBeside, IsPlaceFor}
+use Rattle.art_operations.specs.Pairs.{CanPut, HasPairsBeside, IsPlaceFor}
 use Rattle.art_operations.specs.Points.{IsPoint, MeetsAt}
 use Rattle.art_operations.specs.declared.insert.point.InsertKind.TheVariants as kind
 use Rattle.art_operations.specs.declared.insert.point.InsertPoint.{InsertPoint}
@@ -51,8 +51,8 @@ module _ {K V : Type 0} (bytes : K → List ℕ) (key : List ℕ) where
 
 module _ {K V : Type 0} (bytes : K → List ℕ) (P : ℕ) (arena : Arena K V) (key : List ℕ) where
   -- where the key goes, it can be put
-  pub can-put : (rest : List (Name × Cell K V)) (root : Option Name) (pairs : List (K × V)) → HasPairsBeside bytes P arena rest root pairs → (place : Option InsertPoint) → ∥ IsPlaceFor bytes P arena root key place ∥₁
-      → CanPutBeside bytes P arena rest place key pairs
+  pub can-put : (rest : List (Name × Cell K V)) (root : Option Name) (pairs : List (K × V)) → HasPairsBeside bytes P arena root pairs rest → (place : Option InsertPoint) → ∥ IsPlaceFor bytes P arena root key place ∥₁
+      → CanPut bytes P arena place key pairs rest
   can-put rest None pairs has None known = has
   can-put rest None pairs has (Some point) known = absurd (∥∥₁_elim known ⊥_prop (λ x. x))
   can-put rest (Some root) pairs has None known = absurd (∥∥₁_elim known ⊥_prop (λ x. x))

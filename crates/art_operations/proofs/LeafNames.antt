@@ -144,7 +144,7 @@ module _ {K V : Type 0} (bytes : K → List ℕ) where
         → node_at arena (leaf_name slot) ≡ Some (pair k v)
     leaf-of arena root rest s tree slot k v i = held_leaf P (node_at arena) s (record { slot = slot; key = k; value = v }) i (nodes-part bytes P (node_at arena) root s tree.nodes).held
 
-    among-left : (arena : Arena K V) (rest : List (Name × Cell K V)) (root : Option Name) (ls : List (LeafAt K V)) → HasLeavesBeside bytes P arena rest root ls → (slot : ℕ) (k : K) (v : V) → node_at arena (leaf_name slot) ≡ Some (pair k v)
+    among-left : (arena : Arena K V) (rest : List (Name × Cell K V)) (root : Option Name) (ls : List (LeafAt K V)) → HasLeavesBeside bytes P arena root ls rest → (slot : ℕ) (k : K) (v : V) → node_at arena (leaf_name slot) ≡ Some (pair k v)
         → IsIn (leaf_name slot, pair k v) rest ⊎ IsIn (record { slot = slot; key = k; value = v }) ls
     among-left arena rest None ls (none, only) slot k v e = inl (held-in (node_at arena) rest (only-holds (node_at arena) rest only) (leaf_name slot) (pair k v) e)
     among-left arena rest (Some root) ls (s, tree, are) slot k v e = subst (λ xs. IsIn (leaf_name slot, pair k v) rest ⊎ IsIn (record { slot = slot; key = k; value = v }) xs) are (among-all arena root rest s tree slot k v e)

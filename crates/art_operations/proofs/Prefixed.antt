@@ -13,6 +13,7 @@ use Rattle.art_arena.proofs.shapes.Contexts.{leaves-plug}
 use Rattle.art_arena.proofs.shapes.Surroundings.{ctx-after, ctx-before}
 use Rattle.art_operations.specs.Subtrees.{leaves_with, leaves_without}
 use Rattle.art_operations.proofs.Segments.{before_none, after_none, begin_in}
+use Rattle.art_operations.proofs.KeyedLists.{all-but-none}
 
 module _ {X : Type 0} (key : X → List ℕ) (front : List ℕ) where
   with-fewer : (xs : List X) → length (with_front key front xs) ≤ length xs
@@ -45,16 +46,6 @@ module _ {X : Type 0} (key : X → List ℕ) (front : List ℕ) where
         | inr f ↦ let e = ap length (sym (cond-false _ (x ∷ with_front key front xs) (with_front key front xs) f) ∙ all) in absurd (omega (arith, few, e))
       ]
 
-  -- where none does these are all
-  pub without-all : (xs : List X) → with_front key front xs ≡ [] → without_front key front xs ≡ xs
-  without-all [] none = refl
-  without-all (x ∷ xs) none =
-      let later = λ (e : with_front key front xs ≡ []). without-all xs e in
-      elim (cases_Bool (begins_with front (key x))) [
-        | inl t ↦ let e = sym (cond-true _ (x ∷ with_front key front xs) (with_front key front xs) t) ∙ none in absurd (cc)
-        | inr f ↦ let e = sym (cond-false _ (x ∷ with_front key front xs) (with_front key front xs) f) ∙ none in rw f (ap (λ ys. x ∷ ys) (later e))
-      ]
-
 module _ {K V : Type 0} (bytes : K → List ℕ) (front : List ℕ) (whole part : Shape K V) (ctx : List (Frame K V)) (place : IsPlace bytes whole ctx part) (begins : BeginsWith (path_to ctx) front) where
   abbrev slot_key : LeafAt K V → List ℕ
   slot_key l = bytes l.key
@@ -67,8 +58,8 @@ module _ {K V : Type 0} (bytes : K → List ℕ) (front : List ℕ) (whole part 
     -- and around it are the others
     pub others_are : leaves_before ctx ++ leaves_after ctx ≡ leaves_without bytes front (leaves whole)
     others_are =
-        let before = without-all slot_key front (leaves_before ctx) (before_none bytes front (leaves_before ctx) (ctx-before bytes front ctx place.around begins)) in
-        let after = without-all slot_key front (leaves_after ctx) (after_none bytes front (leaves_after ctx) (ctx-after bytes front ctx place.around begins)) in
+        let before = all-but-none (λ l. begins_with front (slot_key l)) (leaves_before ctx) (before_none bytes front (leaves_before ctx) (ctx-before bytes front ctx place.around begins)) in
+        let after = all-but-none (λ l. begins_with front (slot_key l)) (leaves_after ctx) (after_none bytes front (leaves_after ctx) (ctx-after bytes front ctx place.around begins)) in
         let none = without-none slot_key front (leaves part) all in
         sym (
         ap (λ s. leaves_without bytes front (leaves s)) place.is ∙ ap (leaves_without bytes front) (leaves-plug ctx part)

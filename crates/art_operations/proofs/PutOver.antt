@@ -15,7 +15,7 @@ use Rattle.art_arena.proofs.tree.Exists.{in_middle}
 use Rattle.art_arena.proofs.tree.Insert.{all_at}
 use Rattle.art_operations.specs.KeyedLists.{HasKey, overlaps, overlapping}
 use Rattle.art_operations.specs.Overwrites.{AreRemoved, IsExact, IsOverwrittenBeside, IsPrefixPoint, root_at, removed_by}
-use Rattle.art_operations.specs.Pairs.{HasPairsBeside, HasPointBeside, HasPrefixPointBeside, HasPutBeside, HasPutOver, HasPutOverBeside, pair_in}
+use Rattle.art_operations.specs.Pairs.{HasPairsBeside, CanPut, CanPutOver, HasPut, HasPutOver, pair_in}
 use Rattle.art_operations.specs.declared.insert.result.InsertResult.{InsertResult}
 use Rattle.art_operations.specs.declared.prefix_insert.point.PrefixInsertPoint.{PrefixInsertPoint}
 use Rattle.art_operations.specs.declared.prefix_insert.point.PrefixInsertPoint.TheVariants as at
@@ -52,8 +52,8 @@ module _ {K V : Type 0} (bytes : K → List ℕ) (P : ℕ) where
   pair_overlap key (l ∷ ls) h = (h.0, pair_overlap key ls h.1)
 
   -- a pair that took the place of others at a point
-  pub put-over-at : {rest : List (Name × Cell K V)} (old new : Arena K V) (point : PrefixInsertPoint) (key : K) (value : V) (pairs : List (K × V)) (has : HasPrefixPointBeside bytes P old rest point (bytes key) pairs) (last : List Step) (result : PrefixInsertResult K V)
-      → IsOverwrittenBeside bytes P new rest has.shape last key value result → HasPutOverBeside bytes P new rest pairs key value result
+  pub put-over-at : {rest : List (Name × Cell K V)} (old new : Arena K V) (point : PrefixInsertPoint) (key : K) (value : V) (pairs : List (K × V)) (has : CanPutOver bytes P old (Some point) (bytes key) pairs rest) (last : List Step) (result : PrefixInsertResult K V)
+      → IsOverwrittenBeside bytes P new rest has.shape last key value result → HasPutOver bytes P new key value result pairs rest
   put-over-at old new point key value pairs has last result is =
       let leaf : LeafAt K V = record { slot = result.insert_result.leaf_node_ptr; key = key; value = value } in
       let new_is : pairs_of (leaves is.shape) ≡ pairs_of is.front ++ (key, value) ∷ pairs_of is.back = ap pairs_of is.are ∙ map-append leaf_pair is.front (leaf ∷ is.back) in
@@ -69,7 +69,7 @@ module _ {K V : Type 0} (bytes : K → List ℕ) (P : ℕ) where
       }
 
   -- the first pair takes the place of none
-  pub put-first-over : {rest : List (Name × Cell K V)} (new : Arena K V) (key : K) (value : V) (result : InsertResult K V) → HasPutBeside bytes P new rest [] key value result → HasPutOverBeside bytes P new rest [] key value (record { insert_result = result; leafs_removed = 0 })
+  pub put-first-over : {rest : List (Name × Cell K V)} (new : Arena K V) (key : K) (value : V) (result : InsertResult K V) → HasPut bytes P new key value result [] rest → HasPutOver bytes P new key value (record { insert_result = result; leafs_removed = 0 }) [] rest
   put-first-over new key value result put = record { has = put.has; removed = none result.existing_leaf put.old; leaf = put.leaf }
     where
       none : (was : Option (LeafNode K V)) → pair_in was ≡ [] → AreRemoved {K = K} {V = V} [] was 0
@@ -77,9 +77,9 @@ module _ {K V : Type 0} (bytes : K → List ℕ) (P : ℕ) where
       none (Some was) e = absurd (cc)
 
   -- where a pair has the key, the point is its leaf
-  pub stored-over : {rest : List (Name × Cell K V)} (old : Arena K V) (point : PrefixInsertPoint) (key : List ℕ) (pairs : List (K × V)) → HasPrefixPointBeside bytes P old rest point key pairs → HasKey (key_of bytes) key pairs → IsExact point
+  pub stored-over : {rest : List (Name × Cell K V)} (old : Arena K V) (point : PrefixInsertPoint) (key : List ℕ) (pairs : List (K × V)) → CanPutOver bytes P old (Some point) key pairs rest → HasKey (key_of bytes) key pairs → IsExact point
   stored-over {rest} old (at.InsertPoint point) key pairs has stored =
-      let here : HasPointBeside bytes P old rest point key pairs = record { shape = has.shape; is_tree = has.is_tree; place = has.place; pairs_are = has.pairs_are } in
+      let here : CanPut bytes P old (Some point) key pairs rest = record { shape = has.shape; is_tree = has.is_tree; place = has.place; pairs_are = has.pairs_are } in
       stored-exact bytes P old point key pairs here stored
   stored-over old (at.OverwritePoint point) key pairs has (x, i, same) =
       let back = in_unmap leaf_pair x (leaves has.shape) (subst (IsIn x) (sym has.pairs_are) i) in
@@ -91,10 +91,10 @@ module _ {K V : Type 0} (bytes : K → List ℕ) (P : ℕ) where
   named-root key s (at.OverwritePoint point) is = is.named
 
   -- the point that was found is one for this key
-  pub placed-over : (old : Arena K V) (rest : List (Name × Cell K V)) (root : Option Name) (top : Name) (key : List ℕ) (pairs : List (K × V)) (point : PrefixInsertPoint) → root ≡ Some top → HasPairsBeside bytes P old rest root pairs
-      → ((s : Shape K V) → IsSubtree bytes P (node_at old) top [] s → IsPrefixPoint bytes key s point) → HasPrefixPointBeside bytes P old rest point key pairs
+  pub placed-over : (old : Arena K V) (rest : List (Name × Cell K V)) (root : Option Name) (top : Name) (key : List ℕ) (pairs : List (K × V)) (point : PrefixInsertPoint) → root ≡ Some top → HasPairsBeside bytes P old root pairs rest
+      → ((s : Shape K V) → IsSubtree bytes P (node_at old) top [] s → IsPrefixPoint bytes key s point) → CanPutOver bytes P old (Some point) key pairs rest
   placed-over old rest root top key pairs point is has found =
-      let below : HasPairsBeside bytes P old rest (Some top) pairs = subst (λ r. HasPairsBeside bytes P old rest r pairs) is has in
+      let below : HasPairsBeside bytes P old (Some top) pairs rest = subst (λ r. HasPairsBeside bytes P old r pairs rest) is has in
       let here = found below.0 (nodes-subtree bytes P (node_at old) top below.0 below.1.nodes) in
       record {
         shape = below.0;
@@ -104,6 +104,6 @@ module _ {K V : Type 0} (bytes : K → List ℕ) (P : ℕ) where
       }
 
   -- what an arena has after a prefix insertion
-  pub done-over : (arena : Arena K V) (pairs : List (K × V)) (key : K) (value : V) (put : PrefixInsertResult K V) (n : ℕ) → HasPutOver bytes P arena pairs key value put → n ≡ removed_by put
+  pub done-over : (arena : Arena K V) (pairs : List (K × V)) (key : K) (value : V) (put : PrefixInsertResult K V) (n : ℕ) → HasPutOver bytes P arena key value put pairs [] → n ≡ removed_by put
       → IsDone bytes P arena pairs (PrefixInsert key value) (record { root = Some put.insert_result.new_root; answer = Done n })
   done-over arena pairs key value put n has counted = (counted ∙ how_many (overlapping (key_of bytes) (bytes key) pairs) put has.removed, has.has)

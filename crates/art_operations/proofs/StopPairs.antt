@@ -10,7 +10,7 @@ use Rattle.art_arena.specs.arena.Steps.{steps_of}
 use Rattle.art_arena.specs.arena.Stores.{Stores, StoresAt}
 use Rattle.art_arena.specs.tree.Order.{AscendsByKey}
 use Rattle.art_operations.specs.KeyedLists.{HasKey, IsBlocked}
-use Rattle.art_operations.specs.Pairs.{HasPairsBeside, HasPointBeside}
+use Rattle.art_operations.specs.Pairs.{HasPairsBeside, CanPut}
 use Rattle.art_operations.specs.Points.{IsPoint, NoConflict}
 use Rattle.art_operations.specs.inner.Ways.{IsEndAt, IsWay, met_by, point_at}
 use Rattle.art_operations.specs.declared.insert.point.InsertKind.{InsertKind}
@@ -33,9 +33,9 @@ something-met name way.Conflict free = absurd (free refl)
 module _ {K V : Type 0} (bytes : K → List ℕ) (P : ℕ) (arena : Arena K V) (root : Option Name) (top : Name) (root_is : root ≡ Some top) (key : List ℕ) (stop : Stop) (end : Way)
     (on : (s : Shape K V) → Stores bytes P arena top s → OnWayTo bytes P (node_at arena) key s stop.node (steps_of stop.path) stop.depth)
     (ends : (path : List ℕ) (part : Shape K V) → StoresAt bytes P arena stop.node stop.depth path part → BeginsWith path key → IsWay bytes key path part stop.node end)
-    (pairs : List (K × V)) (rest : List (Name × Cell K V)) (has : HasPairsBeside bytes P arena rest root pairs) where
+    (pairs : List (K × V)) (rest : List (Name × Cell K V)) (has : HasPairsBeside bytes P arena root pairs rest) where
   -- what is met is at the key's place, and no pair blocks the key
-  pub met-at : (met : InsertKind) → met_by stop.node end ≡ Some met → HasPointBeside bytes P arena rest (point_at top stop met) key pairs × (IsBlocked (key_of bytes) key pairs → ⊥)
+  pub met-at : (met : InsertKind) → met_by stop.node end ≡ Some met → CanPut bytes P arena (Some (point_at top stop met)) key pairs rest × (IsBlocked (key_of bytes) key pairs → ⊥)
   met-at met e = place_is_free bytes P arena rest root top root_is key pairs has (point_at top stop met) found
     where
       found : (s : Shape K V) → Stores bytes P arena top s → IsPoint bytes key s (point_at top stop met) × NoConflict bytes key (leaves s)
@@ -49,5 +49,5 @@ module _ {K V : Type 0} (bytes : K → List ℕ) (P : ℕ) (arena : Arena K V) (
 
     pub not-stored-there : HasKey (key_of bytes) key pairs → ⊥
     not-stored-there stored =
-        let below = subst (λ r. HasPairsBeside bytes P arena rest r pairs) root_is has in
+        let below = subst (λ r. HasPairsBeside bytes P arena r pairs rest) root_is has in
         stored-free (key_of bytes) pairs (subst (AscendsByKey (key_of bytes)) below.2 (pairs_ascend bytes below.0 below.1.nodes.under)) key stored met-conflict

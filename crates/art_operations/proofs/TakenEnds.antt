@@ -18,7 +18,7 @@ use Rattle.art_arena.proofs.shapes.Meanings.{nodes-subtree}
 use Rattle.art_arena.proofs.shapes.Surroundings.{tree-list}
 use Rattle.art_operations.specs.DeletePoints.{IsLeafPlace}
 use Rattle.art_operations.specs.Deletions.{IsDeletedBeside}
-use Rattle.art_operations.specs.Pairs.{HasPairsBeside, HasTakenEndBeside, IsAtEnd, ShrinksAtEnd}
+use Rattle.art_operations.specs.Pairs.{HasPairsBeside, HasTakenEnd, IsAtEnd, ShrinksAtEnd}
 use Rattle.art_operations.specs.declared.delete.result.DeleteResult.{DeleteResult}
 use Rattle.art_operations.proofs.HeldPairs.{leaves-pairs}
 use Rattle.art_operations.proofs.LeafPairs.{leaf_pair, shrinks-map, pairs-parts}
@@ -47,10 +47,10 @@ module _ {K V : Type 0} where
           later before [] = refl
           later before (g ∷ gs) = later (Some g.slot) gs
 
-module _ {K V : Type 0} (bytes : K → List ℕ) (P : ℕ) (old : Arena K V) (rest : List (Name × Cell K V)) (root : Option Name) (top : Name) (is : root ≡ Some top) (pairs : List (K × V)) (has : HasPairsBeside bytes P old rest root pairs) (end : End) (slot : ℕ) (last : List Step)
+module _ {K V : Type 0} (bytes : K → List ℕ) (P : ℕ) (old : Arena K V) (rest : List (Name × Cell K V)) (root : Option Name) (top : Name) (is : root ≡ Some top) (pairs : List (K × V)) (has : HasPairsBeside bytes P old root pairs rest) (end : End) (slot : ℕ) (last : List Step)
     (value : (s : Shape K V) → Stores bytes P old top s → end_slot end (leaves s) ≡ Some slot) (place : (s : Shape K V) → Stores bytes P old top s → IsLeafPlace bytes s slot last) where
-  abbrev below : HasPairsBeside bytes P old rest (Some top) pairs
-  below = subst (λ r. HasPairsBeside bytes P old rest r pairs) is has
+  abbrev below : HasPairsBeside bytes P old (Some top) pairs rest
+  below = subst (λ r. HasPairsBeside bytes P old r pairs rest) is has
 
   stored : Stores bytes P old top below.0
   stored = nodes-subtree bytes P (node_at old) top below.0 below.1.nodes
@@ -77,7 +77,7 @@ module _ {K V : Type 0} (bytes : K → List ℕ) (P : ℕ) (old : Arena K V) (re
           whole ∙ ap (λ xs. pairs_of front ++ leaf_pair l ∷ pairs_of xs) none ∙ ap (λ xs. xs ++ leaf_pair l ∷ []) (sym (map-append leaf_pair front [] ∙ append-nil (pairs_of front)) ∙ ap (λ xs. pairs_of (front ++ xs)) (sym none))
 
   -- it was taken out
-  pub taken-end : (new : Arena K V) (deleted : DeleteResult K V) → ((s : Shape K V) → StoresBeside bytes P old top rest s → IsLeafPlace bytes s slot last → IsDeletedBeside bytes P new rest s slot deleted) → HasTakenEndBeside bytes P new rest root end pairs (Some deleted)
+  pub taken-end : (new : Arena K V) (deleted : DeleteResult K V) → ((s : Shape K V) → StoresBeside bytes P old top rest s → IsLeafPlace bytes s slot last → IsDeletedBeside bytes P new rest s slot deleted) → HasTakenEnd bytes P new root end (Some deleted) pairs rest
   taken-end new deleted result =
       let it = result below.0 below.1 (place below.0 stored) in
       (pairs_of (it.front ++ it.back), end-pair it.front _ it.back refl it.was, leaves-pairs bytes P new rest deleted.new_root (it.front ++ it.back) _ refl it.left)

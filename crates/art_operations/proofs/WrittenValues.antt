@@ -11,7 +11,7 @@ use Rattle.art_arena.specs.arena.Stores.{StoresOnly}
 use Rattle.art_arena.proofs.shapes.LeafValues.{LeafThere, leaf-there, cell-some}
 use Rattle.art_arena.proofs.shapes.LeafPlaces.{HasPlace, leaf-stands}
 use Rattle.art_arena.proofs.shapes.Surroundings.{times-leaves}
-use Rattle.art_operations.specs.Insertions.{IsInserted}
+use Rattle.art_operations.specs.Insertions.{IsInsertedBeside}
 use Rattle.art_operations.specs.declared.insert.result.InsertParentNodeChange.TheVariants.{NoChange}
 use Rattle.art_operations.proofs.Inserted.{IsExactPlace, exact_there, replaced}
 
@@ -65,6 +65,6 @@ module _ {K V : Type 0} (bytes : K → List ℕ) (P : ℕ) (old : Arena K V) (ro
     one = once;
   }
     where
-      is : IsInserted bytes P (with_leaf_value old slot w) s stands.last is_there.leaf.key w (record { leaf_node_ptr = slot; existing_leaf = Some (record is_there.leaf { previous = None; next = None }); new_root = root; parent_node_change = NoChange })
+      is : IsInsertedBeside bytes P (with_leaf_value old slot w) [] s stands.last is_there.leaf.key w (record { leaf_node_ptr = slot; existing_leaf = Some (record is_there.leaf { previous = None; next = None }); new_root = root; parent_node_change = NoChange })
       is = replaced bytes P old root s tree slot (with_leaf_value old slot w) is_there.leaf.key w stands.last place is_there.leaf (record is_there.leaf { value = w }) is_there.held
           (is_there.written w) refl refl refl refl

@@ -20,10 +20,10 @@ abbrev pub IsForPlace : {K V : Type 0} → PushRefused K V → Type 0
 IsForPlace (NotBehind k v) = Unit {0}
 IsForPlace (Memory k v) = ⊥
 
--- a refusal hands this key and this value back, and where it is for the place this isn't behind all
+-- a refusal hands this key and this value back, and it is for the place exactly where this isn't behind all
 abbrev pub IsPushRefused : {K V : Type 0} → K → V → Type 0 → PushRefused K V → Type 0
 IsPushRefused key value IsBehind (NotBehind k v) = (k ≡ key) × (v ≡ value) × (IsBehind → ⊥)
-IsPushRefused key value IsBehind (Memory k v) = (k ≡ key) × (v ≡ value)
+IsPushRefused key value IsBehind (Memory k v) = (k ≡ key) × (v ≡ value) × IsBehind
 
 module _ {K V : Type 0} (bytes : K → List ℕ) where
   -- the key goes behind those of all pairs: each parts from it, and goes on by a smaller byte

@@ -16,14 +16,14 @@ pub record IsAmong {K V : Type 0} (slot : ℕ) (ls : List (LeafAt K V)) : Type 0
   pub slot_is : leaf.slot ≡ slot
 
 module _ {K V : Type 0} (bytes : K → List ℕ) (P : ℕ) (arena : Arena K V) where
-  -- beside these nodes the arena holds nothing but the tree of these leaves, or nothing where there are none
-  abbrev pub HasLeavesBeside : List (Name × Cell K V) → Option Name → List (LeafAt K V) → Type 0
-  HasLeavesBeside rest None ls = (ls ≡ []) × HoldsOnly (node_at arena) rest
-  HasLeavesBeside rest (Some root) ls =
+  -- beside the nodes of the list the arena holds nothing but the tree of these leaves, or nothing where there are none
+  abbrev pub HasLeavesBeside : Option Name → List (LeafAt K V) → List (Name × Cell K V) → Type 0
+  HasLeavesBeside None ls rest = (ls ≡ []) × HoldsOnly (node_at arena) rest
+  HasLeavesBeside (Some root) ls rest =
       (s : Shape K V) × StoresBeside bytes P arena root rest s × (leaves s ≡ ls)
 
   abbrev pub HasLeaves : Option Name → List (LeafAt K V) → Type 0
-  HasLeaves root ls = HasLeavesBeside [] root ls
+  HasLeaves root ls = HasLeavesBeside root ls []
 
   -- beside these nodes the arena has these leaves without the one with this slab key, whose key and value are in the
   -- answer
@@ -33,7 +33,4 @@ module _ {K V : Type 0} (bytes : K → List ℕ) (P : ℕ) (arena : Arena K V) w
     pub back : List (LeafAt K V)
     pub was : leaves s
         ≡ front ++ record { slot = slot; key = result.deleted_leaf.key; value = result.deleted_leaf.value } ∷ back
-    pub left : HasLeavesBeside rest result.new_root (front ++ back)
-
-  abbrev pub IsDeleted : Shape K V → ℕ → DeleteResult K V → Type 0
-  IsDeleted s slot result = IsDeletedBeside [] s slot result
+    pub left : HasLeavesBeside result.new_root (front ++ back) rest

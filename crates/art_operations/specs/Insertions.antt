@@ -1,5 +1,5 @@
 -- What an insertion leaves.
-use Rattle.std.specs.Prelude.{◌≡◌, ℕ, List, [], ◌∷◌, ◌++◌, take, Option, Some, None, IfErr}
+use Rattle.std.specs.Prelude.{◌≡◌, ℕ, List, ◌∷◌, ◌++◌, take, Option, Some, None, IfErr}
 use Rattle.std.specs.declared.result.Result.{Result}
 use Rattle.art_nodes.specs.Name.{Name}
 use Rattle.art_nodes.specs.Concrete.{inner_name_of}
@@ -59,6 +59,3 @@ module _ {K V : Type 0} (bytes : K → List ℕ) where
     pub stored : IsPutOrReplaced (record { slot = result.leaf_node_ptr; key = key; value = value })
         result.existing_leaf (leaves s) (leaves shape)
     pub place : IsLeafPlace bytes shape result.leaf_node_ptr (steps_after result.parent_node_change last)
-
-  abbrev pub IsInserted : ℕ → Arena K V → Shape K V → List Step → K → V → InsertResult K V → Type 0
-  IsInserted P arena s last key value result = IsInsertedBeside P arena [] s last key value result

@@ -5,16 +5,19 @@ use Rattle.std.specs.declared.ops.Bound.{Bound}
 use Rattle.std.specs.declared.ops.Bound.TheVariants.{Included, Excluded, Unbounded}
 use Rattle.art_arena.specs.arena.Shapes.{Shape, leaves}
 
--- a key's place: the descent, and what is read once more where it ends
-abbrev pub PlaceReads : ℕ → List ℕ → ℕ → ℕ → Type 0
-PlaceReads longest key old new = 2 * new ≤ 2 * old + (length key * (longest + 2) + 4 * (longest + 1))
+-- a key's place: two ways down at most, of which each has at most one node more than the longest key has bytes
+abbrev pub PlaceReads : ℕ → ℕ → ℕ → Type 0
+PlaceReads longest old new = new ≤ old + 2 * (longest + 1)
 
--- An end of a range, told by how many bytes its bound has: so many nodes, and one more, are at most half as many as the
--- longest key and two have for each byte of the bound, and for six.
-abbrev pub EndReads : ℕ → ℕ → ℕ → ℕ → Type 0
-EndReads longest len old new = 2 * (new + 1) ≤ 2 * old + (len + 6) * (longest + 2)
+-- an end of a range: fewer nodes than three times the bytes of the longest key and two
+abbrev pub EndReads : ℕ → ℕ → ℕ → Type 0
+EndReads longest old new = new + 1 ≤ old + 3 * (longest + 2)
 
--- both ends of a range
+-- both ends of a range, or of the part behind a prefix: six times as many at most
+abbrev pub SpanReads : ℕ → ℕ → ℕ → Type 0
+SpanReads longest old new = new ≤ old + 6 * (longest + 2)
+
+-- what the counts of the program are told by: as many again for each byte that the bound has
 abbrev pub OpeningReads : ℕ → ℕ → ℕ → ℕ → Type 0
 OpeningReads longest len old new = new ≤ old + (len + 6) * (longest + 2)
 

@@ -71,6 +71,3 @@ module _ {K V : Type 0} (bytes : K → List ℕ) where
     pub removed : AreRemoved (pairs_of block) result.insert_result.existing_leaf result.leafs_removed
     pub place : IsLeafPlace bytes shape result.insert_result.leaf_node_ptr
         (steps_after result.insert_result.parent_node_change last)
-
-  abbrev pub IsOverwritten : ℕ → Arena K V → Shape K V → List Step → K → V → PrefixInsertResult K V → Type 0
-  IsOverwritten P arena s last key value result = IsOverwrittenBeside P arena [] s last key value result

@@ -28,6 +28,10 @@ use Rattle.art_operations.specs.declared.insert.result.InsertResult.{InsertResul
 use Rattle.art_operations.specs.declared.prefix_insert.point.PrefixInsertPoint.{PrefixInsertPoint}
 use Rattle.art_operations.specs.declared.prefix_insert.result.PrefixInsertResult.{PrefixInsertResult}
 
+-- nodes of an arena, each under its name
+abbrev pub Nodes : Type 0 → Type 0 → Type 0
+Nodes K V = List (Name × Cell K V)
+
 -- the pair of a leaf, if there is one
 abbrev pub pair_in : {K V : Type 0} → Option (LeafNode K V) → List (K × V)
 pair_in None = []
@@ -52,86 +56,76 @@ module _ {K V : Type 0} (bytes : K → List ℕ) where
   abbrev pub with_pair_over : K → V → List (K × V) → List (K × V)
   with_pair_over k v pairs = put_in_order (key_of bytes) (k, v) (without_overlapping (key_of bytes) (bytes k) pairs)
 
-module _ {K V : Type 0} (bytes : K → List ℕ) (P : ℕ) (arena : Arena K V) (rest : List (Name × Cell K V)) where
-  -- Beside these nodes the arena holds nothing but the tree of these pairs, and its leaves are linked in order. Where
-  -- there are no pairs it has no root, and holds nothing but these nodes.
-  abbrev pub HasPairsBeside : Option Name → List (K × V) → Type 0
-  HasPairsBeside None pairs = (pairs ≡ []) × HoldsOnly (node_at arena) rest
-  HasPairsBeside (Some root) pairs =
-      (s : Shape K V) × StoresBeside bytes P arena root rest s × (pairs_of (leaves s) ≡ pairs)
+module _ {K V : Type 0} (bytes : K → List ℕ) (P : ℕ) (arena : Arena K V) where
+  -- Beside the nodes of the list the arena holds nothing but the tree of these pairs, and its leaves are linked in
+  -- order. Where there are no pairs it has no root, and holds nothing but these nodes.
+  abbrev pub HasPairsBeside : Option Name → List (K × V) → Nodes K V → Type 0
+  HasPairsBeside None pairs rest = (pairs ≡ []) × HoldsOnly (node_at arena) rest
+  HasPairsBeside (Some top) pairs rest = (s : _) × StoresBeside bytes P arena top rest s × (pairs_of (leaves s) ≡ pairs)
 
-  -- it has these pairs, and this is so of their tree: where a key goes in it
-  pub record HasPlaceBeside (root : Name) (IsAt : Shape K V → Type 0) (pairs : List (K × V)) : Type 0 where
+  -- the same with nothing beside
+  abbrev pub HasPairs : Option Name → List (K × V) → Type 0
+  HasPairs root pairs = HasPairsBeside root pairs []
+
+  -- it has these pairs beside the nodes, and this is so of their tree: where a key goes in it
+  pub record HasPairsWhere (root : Name) (IsAt : Shape K V → Type 0) (pairs : List (K × V))
+      (rest : Nodes K V) : Type 0 where
     pub shape : Shape K V
     pub is_tree : StoresBeside bytes P arena root rest shape
     pub place : IsAt shape
     pub pairs_are : pairs_of (leaves shape) ≡ pairs
 
-  -- it has these pairs, and the key's place among them is known: it is a point, or nowhere where there is no pair
-  abbrev pub CanPutBeside : Option InsertPoint → List ℕ → List (K × V) → Type 0
-  CanPutBeside None key pairs = HasPairsBeside None pairs
-  CanPutBeside (Some point) key pairs = HasPlaceBeside point.root (λ s. IsPoint bytes key s point) pairs
+  -- and the key's place among them is this point; without one there is no pair, and so no place
+  abbrev pub CanPut : Option InsertPoint → List ℕ → List (K × V) → Nodes K V → Type 0
+  CanPut None key pairs rest = HasPairsBeside None pairs rest
+  CanPut (Some point) key pairs rest = HasPairsWhere point.root (λ s. IsPoint bytes key s point) pairs rest
 
-  -- the same of one point
-  abbrev pub HasPointBeside : InsertPoint → List ℕ → List (K × V) → Type 0
-  HasPointBeside point key pairs = HasPlaceBeside point.root (λ s. IsPoint bytes key s point) pairs
-
-  abbrev pub HasPrefixPointBeside : PrefixInsertPoint → List ℕ → List (K × V) → Type 0
-  HasPrefixPointBeside point key pairs = HasPlaceBeside (root_at point) (λ s. IsPrefixPoint bytes key s point) pairs
+  -- the same of where the key goes whichever keys it is in conflict with
+  abbrev pub CanPutOver : Option PrefixInsertPoint → List ℕ → List (K × V) → Nodes K V → Type 0
+  CanPutOver None key pairs rest = HasPairsBeside None pairs rest
+  CanPutOver (Some over) key pairs rest = HasPairsWhere (root_at over) (λ s. IsPrefixPoint bytes key s over) pairs rest
 
   -- a place for a key with which no pair is in conflict, or a conflict
-  abbrev pub IsPlacedBeside : {E : Type 0} → List ℕ → List (K × V) → Result (Option InsertPoint) E → Type 0
-  IsPlacedBeside key pairs (Ok place) = CanPutBeside place key pairs × (IsBlocked (key_of bytes) key pairs → ⊥)
-  IsPlacedBeside key pairs (Err e) = IsBlocked (key_of bytes) key pairs
+  abbrev pub IsPlaced : {E : Type 0} → List ℕ → Result (Option InsertPoint) E → List (K × V) → Nodes K V → Type 0
+  IsPlaced key (Ok place) pairs rest = CanPut place key pairs rest × (IsBlocked (key_of bytes) key pairs → ⊥)
+  IsPlaced key (Err e) pairs rest = IsBlocked (key_of bytes) key pairs
 
   -- it has the pairs with this one, in the leaf that is answered, and the pair that had the key is answered
-  pub record HasPutBeside (pairs : List (K × V)) (key : K) (value : V) (result : InsertResult K V) : Type 0 where
-    pub has : HasPairsBeside (Some result.new_root) (with_pair_put bytes key value pairs)
+  pub record HasPut (key : K) (value : V) (result : InsertResult K V) (pairs : List (K × V))
+      (rest : Nodes K V) : Type 0 where
+    pub has : HasPairsBeside (Some result.new_root) (with_pair_put bytes key value pairs) rest
     pub old : pair_in result.existing_leaf ≡ with_key (key_of bytes) (bytes key) pairs
     pub leaf : node_at arena (leaf_name result.leaf_node_ptr) ≡ Some (pair key value)
 
   -- it has the pairs without the one with the key, which is answered; or no pair had the key, and it has them all
-  abbrev pub HasTakenBeside : Option Name → List ℕ → List (K × V) → Option (DeleteResult K V) → Type 0
-  HasTakenBeside root key pairs None = (with_key (key_of bytes) key pairs ≡ []) × HasPairsBeside root pairs
-  HasTakenBeside root key pairs (Some deleted) =
+  abbrev pub HasTaken : Option Name → List ℕ → Option (DeleteResult K V) → List (K × V) → Nodes K V → Type 0
+  HasTaken root key None pairs rest = (with_key (key_of bytes) key pairs ≡ []) × HasPairsBeside root pairs rest
+  HasTaken root key (Some deleted) pairs rest =
       (with_key (key_of bytes) key pairs ≡ pair_in (Some deleted.deleted_leaf))
-      × HasPairsBeside deleted.new_root (without_key (key_of bytes) key pairs)
+      × HasPairsBeside deleted.new_root (without_key (key_of bytes) key pairs) rest
 
   -- it has the pairs without the one at this end, which is answered; or there was none
-  abbrev pub HasTakenEndBeside : Option Name → End → List (K × V) → Option (DeleteResult K V) → Type 0
-  HasTakenEndBeside root end pairs None = (pairs ≡ []) × HasPairsBeside root pairs
-  HasTakenEndBeside root end pairs (Some deleted) =
+  abbrev pub HasTakenEnd : Option Name → End → Option (DeleteResult K V) → List (K × V) → Nodes K V → Type 0
+  HasTakenEnd root end None pairs rest = (pairs ≡ []) × HasPairsBeside root pairs rest
+  HasTakenEnd root end (Some deleted) pairs rest =
       (others : List (K × V)) × IsAtEnd end (deleted.deleted_leaf.key, deleted.deleted_leaf.value) others pairs
-      × HasPairsBeside deleted.new_root others
+      × HasPairsBeside deleted.new_root others rest
 
   -- it has the pairs whose keys don't begin with the prefix; so many others are no more, and so many nodes
-  pub record HasCutBeside (front : List ℕ) (pairs : List (K × V)) (result : SubtreeDeleteResult) : Type 0 where
+  pub record HasCut (front : List ℕ) (result : SubtreeDeleteResult) (pairs : List (K × V))
+      (rest : Nodes K V) : Type 0 where
     pub removed : result.leafs_removed ≡ length (with_front (key_of bytes) front pairs)
     pub freed : result.nodes_freed ≡ nodes_counted (key_of bytes) (with_front (key_of bytes) front pairs)
-    pub left : HasPairsBeside result.new_root (without_front (key_of bytes) front pairs)
-
-  -- the same of where the key goes whichever keys it is in conflict with
-  abbrev pub CanPutOverBeside : Option PrefixInsertPoint → List ℕ → List (K × V) → Type 0
-  CanPutOverBeside None key pairs = HasPairsBeside None pairs
-  CanPutOverBeside (Some point) key pairs = HasPlaceBeside (root_at point) (λ s. IsPrefixPoint bytes key s point) pairs
+    pub left : HasPairsBeside result.new_root (without_front (key_of bytes) front pairs) rest
 
   -- it has the pairs with this one, in the leaf that is answered, in the place of those whose keys overlap its key, and
   -- these are told
-  pub record HasPutOverBeside (pairs : List (K × V)) (key : K) (value : V) (result : PrefixInsertResult K V)
-      : Type 0 where
-    pub has : HasPairsBeside (Some result.insert_result.new_root) (with_pair_over bytes key value pairs)
+  pub record HasPutOver (key : K) (value : V) (result : PrefixInsertResult K V) (pairs : List (K × V))
+      (rest : Nodes K V) : Type 0 where
+    pub has : HasPairsBeside (Some result.insert_result.new_root) (with_pair_over bytes key value pairs) rest
     pub removed : AreRemoved (overlapping (key_of bytes) (bytes key) pairs)
         result.insert_result.existing_leaf result.leafs_removed
     pub leaf : node_at arena (leaf_name result.insert_result.leaf_node_ptr) ≡ Some (pair key value)
-
-module _ {K V : Type 0} (bytes : K → List ℕ) (P : ℕ) (arena : Arena K V) where
-  -- it has these pairs, with these nodes beside them
-  abbrev pub HasPairsAt : Option Name → List (K × V) → List (Name × Cell K V) → Type 0
-  HasPairsAt root pairs rest = HasPairsBeside bytes P arena rest root pairs
-
-  -- the same with nothing beside
-  abbrev pub HasPairs : Option Name → List (K × V) → Type 0
-  HasPairs root pairs = HasPairsBeside bytes P arena [] root pairs
 
   -- where this key goes below the root, whatever tree stands there; without a root it is nowhere. The word holds in one
   -- way at most, so it can be remembered beside a loan of the arena
@@ -150,24 +144,3 @@ module _ {K V : Type 0} (bytes : K → List ℕ) (P : ℕ) (arena : Arena K V) w
   TellsConflict None key conflict = ⊥
   TellsConflict (Some root) key conflict = OfTree bytes P arena root
       (λ s. IsInTheWay bytes key s conflict.root conflict.part (steps_of conflict.path))
-
-  abbrev pub CanPut : Option InsertPoint → List ℕ → List (K × V) → Type 0
-  CanPut place key pairs = CanPutBeside bytes P arena [] place key pairs
-
-  abbrev pub IsPlaced : {E : Type 0} → List ℕ → List (K × V) → Result (Option InsertPoint) E → Type 0
-  IsPlaced key pairs result = IsPlacedBeside bytes P arena [] key pairs result
-
-  abbrev pub HasPut : List (K × V) → K → V → InsertResult K V → Type 0
-  HasPut pairs key value result = HasPutBeside bytes P arena [] pairs key value result
-
-  abbrev pub HasTaken : Option Name → List ℕ → List (K × V) → Option (DeleteResult K V) → Type 0
-  HasTaken root key pairs result = HasTakenBeside bytes P arena [] root key pairs result
-
-  abbrev pub HasTakenEnd : Option Name → End → List (K × V) → Option (DeleteResult K V) → Type 0
-  HasTakenEnd root end pairs result = HasTakenEndBeside bytes P arena [] root end pairs result
-
-  abbrev pub CanPutOver : Option PrefixInsertPoint → List ℕ → List (K × V) → Type 0
-  CanPutOver place key pairs = CanPutOverBeside bytes P arena [] place key pairs
-
-  abbrev pub HasPutOver : List (K × V) → K → V → PrefixInsertResult K V → Type 0
-  HasPutOver pairs key value result = HasPutOverBeside bytes P arena [] pairs key value result

@@ -64,7 +64,7 @@ module _ {K V : Type 0} (bytes : K → List ℕ) where
         (result : SubtreeDeleteResult) : Type 0 where
       pub removed : result.leafs_removed ≡ length (leaves_with (leaves s))
       pub freed : result.nodes_freed ≡ nodes_counted (key_of bytes) (pairs_of (leaves_with (leaves s)))
-      pub left : HasLeavesBeside bytes P arena rest result.new_root (leaves_without (leaves s))
+      pub left : HasLeavesBeside bytes P arena result.new_root (leaves_without (leaves s)) rest
 
 module _ {K V : Type 0} (arena : Arena K V) where
   -- the inner node of this name can lose a child without memory: where what is left of it belongs in the next smaller

@@ -14,7 +14,7 @@ ghost use Rattle.art_arena.specs.arena.Stores.{Stores, StoresBelow};
 ghost use Rattle.art_arena.specs.tree.Tenants.{begins_with};
 ghost use Rattle.art_operations.specs.Bounds.{AreEndsWhere, slot_inside};
 ghost use Rattle.art_operations.specs.Meetings.{PartAt};
-ghost use Rattle.art_operations.specs.Openings.{bound_len, EndReads, ForLongest, OpeningReads, ReadsAtLeast};
+ghost use Rattle.art_operations.specs.Openings.{EndReads, ForLongest, ReadsAtLeast, SpanReads};
 ghost use Rattle.art_operations.specs.Points.{AllConflict, IsPoint};
 ghost use Rattle.art_operations.specs.declared.insert.point.InsertKind.TheVariants as kind;
 ghost use Rattle.art_operations.specs.inner.Nearest.{IsNearest};
@@ -56,8 +56,7 @@ pub fn find_leaf_pointer_for_bound<K: AsBytes, V, const PREFIX_LEN: usize>(
 }
 
 /// Returns what `find_leaf_pointer_for_bound` does, by a reader that counts each node that is read. At least one is,
-/// the root. They are fewer than half of (n + 6) * (k + 2), where n is the length of the bound and k that of the
-/// longest key.
+/// the root. They are fewer than 3 * (k + 2), where k is the length of the longest key.
 pub fn find_leaf_pointer_for_bound_with<K: AsBytes, V, const PREFIX_LEN: usize>(
     reader: &mut ArenaReader<'_, K, V, PREFIX_LEN>,
     root: OpaqueNodePtr,
@@ -72,8 +71,7 @@ pub fn find_leaf_pointer_for_bound_with<K: AsBytes, V, const PREFIX_LEN: usize>(
     ensures kept { reader.new.arena.now ≡ reader.old.arena.now }
     ensures least { ReadsAtLeast 1 reader.old.count reader.new.count }
     ensures few { OfTree K.bytes PREFIX_LEN reader.old.arena.now root (λ s. ForLongest K.bytes s
-        (λ longest. EndReads longest (bound_len (bound_map (λ key. key.now) bound.entry))
-        reader.old.count reader.new.count)) }
+        (λ longest. EndReads longest reader.old.count reader.new.count)) }
 {
     match bound {
         Bound::Unbounded => {
@@ -160,8 +158,7 @@ fn nearest_leaf<K: AsBytes, V, const PREFIX_LEN: usize>(
     ensures kept { reader.new.arena.now ≡ reader.old.arena.now }
     ensures least { ReadsAtLeast 1 reader.old.count reader.new.count }
     ensures few { OfTree K.bytes PREFIX_LEN reader.old.arena.now root (λ s. ForLongest K.bytes s
-        (λ longest. 2 * reader.new.count
-        ≤ 2 * reader.old.count + (length key.now * (longest + 2) + (6 * longest + 8)))) }
+        (λ longest. reader.new.count ≤ reader.old.count + (3 * longest + 4))) }
 {
     match find_insert_point_with(reader, root, key) {
         Err(conflict) => {
@@ -313,7 +310,7 @@ pub fn find_range_segment<K: AsBytes, V, const PREFIX_LEN: usize>(
 }
 
 /// Returns what `find_range_segment` does, by a reader that counts each node that is read. At least one is, the root.
-/// They are at most (n + 6) * (k + 2), where n is the length of the longer bound and k that of the longest key.
+/// They are at most 6 * (k + 2), where k is the length of the longest key.
 pub fn find_range_segment_with<K: AsBytes, V, const PREFIX_LEN: usize>(
     reader: &mut ArenaReader<'_, K, V, PREFIX_LEN>,
     root: OpaqueNodePtr,
@@ -328,10 +325,8 @@ pub fn find_range_segment_with<K: AsBytes, V, const PREFIX_LEN: usize>(
         (bound_map (λ key. key.now) end.entry) k) (leaves s) result) }
     ensures kept { reader.new.arena.now ≡ reader.old.arena.now }
     ensures least { ReadsAtLeast 1 reader.old.count reader.new.count }
-    ensures few { OfTree K.bytes PREFIX_LEN reader.old.arena.now root (λ s. ForLongest K.bytes s (λ longest. (most : ℕ)
-        → bound_len (bound_map (λ key. key.now) start.entry) ≤ most
-        → bound_len (bound_map (λ key. key.now) end.entry) ≤ most
-        → OpeningReads longest most reader.old.count reader.new.count)) }
+    ensures few { OfTree K.bytes PREFIX_LEN reader.old.arena.now root (λ s. ForLongest K.bytes s
+        (λ longest. SpanReads longest reader.old.count reader.new.count)) }
 {
     let first = match find_leaf_pointer_for_bound_with(reader, root, start, true) {
         Some(first) => first,
@@ -364,7 +359,7 @@ pub fn find_prefix_segment<K: AsBytes, V, const PREFIX_LEN: usize>(
 }
 
 /// Returns what `find_prefix_segment` does, by a reader that counts each node that is read. At least one is, the root.
-/// They are at most (n + 6) * (k + 2), where n is the length of the prefix and k that of the longest key.
+/// They are at most 6 * (k + 2), where k is the length of the longest key.
 pub fn find_prefix_segment_with<K: AsBytes, V, const PREFIX_LEN: usize>(
     reader: &mut ArenaReader<'_, K, V, PREFIX_LEN>,
     root: OpaqueNodePtr,
@@ -376,7 +371,7 @@ pub fn find_prefix_segment_with<K: AsBytes, V, const PREFIX_LEN: usize>(
     ensures kept { reader.new.arena.now ≡ reader.old.arena.now }
     ensures least { ReadsAtLeast 1 reader.old.count reader.new.count }
     ensures few { OfTree K.bytes PREFIX_LEN reader.old.arena.now root (λ s. ForLongest K.bytes s
-        (λ longest. OpeningReads longest (length prefix.now) reader.old.count reader.new.count)) }
+        (λ longest. SpanReads longest reader.old.count reader.new.count)) }
 {
     match find_insert_point_with(reader, root, prefix) {
         Err(conflict) => segment_at(reader, conflict.part, prefix),

@@ -1,8 +1,9 @@
 //! A tree that is built of ascending pairs, each of which goes behind the last. An inner node is made once, when no
 //! child of it can come any more. So it has the kind of its children's number at once, and no place is looked for.
-ghost use Rattle.std.specs.Prelude.{◌≡◌, ◌<◌, ◌+◌, ◌^◌, ◌∷◌, ◌++◌, ℕ, List, [], None, Some, IfOk, IfErr, OnOk, OnErr};
+ghost use Rattle.std.specs.Prelude.{◌≡◌, ◌<◌, ◌+◌, ◌^◌, ◌∷◌, ◌++◌, ℕ, List, [], None, Some, IfOk, IfErr, IsOk};
+ghost use Rattle.std.specs.Prelude.{OnOk, OnErr};
 ghost use Rattle.art_nodes.specs.Name.{Name};
-ghost use Rattle.art_arena.specs.arena.Arena.{held_at, SameNodes};
+ghost use Rattle.art_arena.specs.arena.Arena.{held_at, HasRoom, SameNodes};
 ghost use Rattle.art_operations.specs.Builders.{Builds, BuildsUpTo, GoesBehind, IsForPlace, IsPushRefused};
 ghost use Rattle.art_operations.specs.Insertions.{HandsPairBack};
 ghost use Rattle.art_operations.specs.Pairs.{HasPairs};
@@ -92,8 +93,9 @@ impl TreeBuilder {
 
     /// Takes a pair, whose key must go behind the last one: from each key it must part, and go on by a greater byte.
     ///
-    /// Fails if it doesn't, and nothing changed then. Fails if out of memory: then the builder has no pair any more,
-    /// and the arena no node. Either error returns the pair.
+    /// Fails if it doesn't, and nothing changed then. Otherwise it fails only if out of memory: then the builder has no
+    /// pair any more, and the arena no node. Either error returns the pair. The first pair is always taken if the arena
+    /// has room for its leaf.
     pub fn push<K: AsBytes + Drop, V: Drop, const PREFIX_LEN: usize>(
         &mut self,
         arena: &mut NodeArena<K, V, PREFIX_LEN>,
@@ -107,6 +109,7 @@ impl TreeBuilder {
             → IsPushRefused key value (GoesBehind K.bytes (K.bytes key) pairs) e) }
         ensures kept { IfErr result (λ e. IsForPlace e → SameNodes arena.old arena.new × (self.new ≡ self.old)) }
         ensures emptied { IfErr result (λ e. (IsForPlace e → ⊥) → Builds K.bytes PREFIX_LEN arena.new self.new []) }
+        ensures succeeds { self.old.last ≡ None → HasRoom arena.old 1 → IsOk result }
     {
         let Some(last) = self.last else {
             return match store_leaf(arena, key, value) {

@@ -11,8 +11,8 @@ ghost use Rattle.art_operations.specs.DeletePoints.{IsLeafPlace};
 ghost use Rattle.art_operations.specs.Insertions.{HandsPairBack, IsForConflict, IsPairRefused};
 ghost use Rattle.art_operations.specs.KeyedLists.{HasKey, IsBlocked};
 ghost use Rattle.art_operations.specs.LeafNames.{HasLeavesOf, KeepsLeavesOf};
-ghost use Rattle.art_operations.specs.Pairs.{CanPutBeside, CanPutOverBeside, HasPairsAt, HasPutBeside};
-ghost use Rattle.art_operations.specs.Pairs.{HasPutOverBeside, HasTakenBeside, HasTakenEndBeside, IsPlacedBeside};
+ghost use Rattle.art_operations.specs.Pairs.{CanPut, CanPutOver, HasPairsBeside, HasPut};
+ghost use Rattle.art_operations.specs.Pairs.{HasPutOver, HasTaken, HasTakenEnd, IsPlaced};
 ghost use Rattle.art_operations.specs.Pairs.{IsPlaceFor, ShrinksAtEnd, TellsConflict, with_pair_over};
 ghost use Rattle.art_operations.specs.Whichever.{HasSome, HasTree, OfEach, OfTree};
 
@@ -41,9 +41,9 @@ pub fn find_place<K: AsBytes, V, const PREFIX_LEN: usize>(
     root: Option<OpaqueNodePtr>,
     key: &[u8],
 ) -> Result<Option<InsertPoint>, PrefixConflict>
-    requires { HasSome (HasPairsAt K.bytes PREFIX_LEN arena.now root) }
-    ensures placed { OfEach (HasPairsAt K.bytes PREFIX_LEN arena.now root)
-        (λ pairs rest. IsPlacedBeside K.bytes PREFIX_LEN arena.now rest key.now pairs result) }
+    requires { HasSome (HasPairsBeside K.bytes PREFIX_LEN arena.now root) }
+    ensures placed { OfEach (HasPairsBeside K.bytes PREFIX_LEN arena.now root)
+        (IsPlaced K.bytes PREFIX_LEN arena.now key.now result) }
     ensures place { IfOk result (IsPlaceFor K.bytes PREFIX_LEN arena.now root key.now) }
     ensures part { IfErr result (TellsConflict K.bytes PREFIX_LEN arena.now root key.now) }
 {
@@ -63,7 +63,7 @@ fn put_first<K: AsBytes, V, const PREFIX_LEN: usize>(
     value: V,
 ) -> Result<InsertResult<K, V>, InsertRefused<K, V>>
     ensures ok { IfOk result (λ put. (rest : List (Name × Cell K V)) → HoldsOnly (node_at arena.old) rest
-        → HasPutBeside K.bytes PREFIX_LEN arena.new rest [] key value put) }
+        → HasPut K.bytes PREFIX_LEN arena.new key value put [] rest) }
     ensures others { IfOk result (λ put. (rest : List (Name × Cell K V)) → HoldsOnly (node_at arena.old) rest
         → KeepsNodes rest arena.old arena.new) }
     ensures names { OnOk result (HasLeavesOf K.bytes arena.new arena.old) }
@@ -92,14 +92,12 @@ pub fn put_pair<K: AsBytes, V, const PREFIX_LEN: usize>(
     key: K,
     value: V,
 ) -> Result<InsertResult<K, V>, InsertRefused<K, V>>
-    requires { HasSome (λ pairs rest. CanPutBeside K.bytes PREFIX_LEN arena.old rest place (K.bytes key) pairs) }
-    ensures ok { IfOk result (λ put. OfEach
-        (λ pairs rest. CanPutBeside K.bytes PREFIX_LEN arena.old rest place (K.bytes key) pairs)
-        (λ pairs rest. HasPutBeside K.bytes PREFIX_LEN arena.new rest pairs key value put)) }
-    ensures others { IfOk result (λ put. OfEach
-        (λ pairs rest. CanPutBeside K.bytes PREFIX_LEN arena.old rest place (K.bytes key) pairs)
+    requires { HasSome (CanPut K.bytes PREFIX_LEN arena.old place (K.bytes key)) }
+    ensures ok { IfOk result (λ put. OfEach (CanPut K.bytes PREFIX_LEN arena.old place (K.bytes key))
+        (HasPut K.bytes PREFIX_LEN arena.new key value put)) }
+    ensures others { IfOk result (λ put. OfEach (CanPut K.bytes PREFIX_LEN arena.old place (K.bytes key))
         (λ pairs rest. KeepsNodes rest arena.old arena.new)) }
-    ensures stored { OfEach (λ pairs rest. CanPutBeside K.bytes PREFIX_LEN arena.old rest place (K.bytes key) pairs)
+    ensures stored { OfEach (CanPut K.bytes PREFIX_LEN arena.old place (K.bytes key))
         (λ pairs rest. HasKey (key_of K.bytes) (K.bytes key) pairs → IsOk result) }
     ensures names { OnOk result (HasLeavesOf K.bytes arena.new arena.old) }
     ensures err { OnErr result (SameNodes arena.old arena.new) }
@@ -136,18 +134,18 @@ pub fn insert_pair<K: AsBytes, V, const PREFIX_LEN: usize>(
     key: K,
     value: V,
 ) -> Result<InsertResult<K, V>, PairRefused<K, V>>
-    requires { HasSome (HasPairsAt K.bytes PREFIX_LEN arena.old root) }
-    ensures ok { IfOk result (λ put. OfEach (HasPairsAt K.bytes PREFIX_LEN arena.old root)
-        (λ pairs rest. HasPutBeside K.bytes PREFIX_LEN arena.new rest pairs key value put)) }
-    ensures others { IfOk result (λ put. OfEach (HasPairsAt K.bytes PREFIX_LEN arena.old root)
+    requires { HasSome (HasPairsBeside K.bytes PREFIX_LEN arena.old root) }
+    ensures ok { IfOk result (λ put. OfEach (HasPairsBeside K.bytes PREFIX_LEN arena.old root)
+        (HasPut K.bytes PREFIX_LEN arena.new key value put)) }
+    ensures others { IfOk result (λ put. OfEach (HasPairsBeside K.bytes PREFIX_LEN arena.old root)
         (λ pairs rest. KeepsNodes rest arena.old arena.new)) }
-    ensures free { IfOk result (λ put. OfEach (HasPairsAt K.bytes PREFIX_LEN arena.old root)
+    ensures free { IfOk result (λ put. OfEach (HasPairsBeside K.bytes PREFIX_LEN arena.old root)
         (λ pairs rest. IsBlocked (key_of K.bytes) (K.bytes key) pairs → ⊥)) }
-    ensures stored { OfEach (HasPairsAt K.bytes PREFIX_LEN arena.old root)
+    ensures stored { OfEach (HasPairsBeside K.bytes PREFIX_LEN arena.old root)
         (λ pairs rest. HasKey (key_of K.bytes) (K.bytes key) pairs → IsOk result) }
     ensures names { OnOk result (HasLeavesOf K.bytes arena.new arena.old) }
     ensures err { OnErr result (SameNodes arena.old arena.new) }
-    ensures refused { IfErr result (λ e. OfEach (HasPairsAt K.bytes PREFIX_LEN arena.old root)
+    ensures refused { IfErr result (λ e. OfEach (HasPairsBeside K.bytes PREFIX_LEN arena.old root)
         (λ pairs rest. IsPairRefused key value (IsBlocked (key_of K.bytes) (K.bytes key) pairs) e)) }
     ensures succeeds { IfErr result (λ e. HasRoom arena.old 2 → IsForConflict e) }
     ensures room { UsesRoom 2 arena.old arena.new }
@@ -177,9 +175,9 @@ pub fn find_place_over<K: AsBytes, V, const PREFIX_LEN: usize>(
     root: Option<OpaqueNodePtr>,
     key: &[u8],
 ) -> Option<PrefixInsertPoint>
-    requires { HasSome (HasPairsAt K.bytes PREFIX_LEN arena.now root) }
-    ensures { OfEach (HasPairsAt K.bytes PREFIX_LEN arena.now root)
-        (λ pairs rest. CanPutOverBeside K.bytes PREFIX_LEN arena.now rest result key.now pairs) }
+    requires { HasSome (HasPairsBeside K.bytes PREFIX_LEN arena.now root) }
+    ensures { OfEach (HasPairsBeside K.bytes PREFIX_LEN arena.now root)
+        (CanPutOver K.bytes PREFIX_LEN arena.now result key.now) }
 {
     match root {
         Some(top) => Some(search_for_prefix_insert_point(arena, top, key)),
@@ -198,17 +196,14 @@ pub fn put_over<K: AsBytes + Drop, V: Drop, const PREFIX_LEN: usize>(
     key: K,
     value: V,
 ) -> Result<PrefixInsertResult<K, V>, InsertRefused<K, V>>
-    requires { HasSome (λ pairs rest. CanPutOverBeside K.bytes PREFIX_LEN arena.old rest place (K.bytes key) pairs) }
-    ensures ok { IfOk result (λ put. OfEach
-        (λ pairs rest. CanPutOverBeside K.bytes PREFIX_LEN arena.old rest place (K.bytes key) pairs)
-        (λ pairs rest. HasPutOverBeside K.bytes PREFIX_LEN arena.new rest pairs key value put)) }
-    ensures others { IfOk result (λ put. OfEach
-        (λ pairs rest. CanPutOverBeside K.bytes PREFIX_LEN arena.old rest place (K.bytes key) pairs)
+    requires { HasSome (CanPutOver K.bytes PREFIX_LEN arena.old place (K.bytes key)) }
+    ensures ok { IfOk result (λ put. OfEach (CanPutOver K.bytes PREFIX_LEN arena.old place (K.bytes key))
+        (HasPutOver K.bytes PREFIX_LEN arena.new key value put)) }
+    ensures others { IfOk result (λ put. OfEach (CanPutOver K.bytes PREFIX_LEN arena.old place (K.bytes key))
         (λ pairs rest. KeepsNodes rest arena.old arena.new)) }
-    ensures names { IfOk result (λ put. OfEach
-        (λ pairs rest. CanPutOverBeside K.bytes PREFIX_LEN arena.old rest place (K.bytes key) pairs)
+    ensures names { IfOk result (λ put. OfEach (CanPutOver K.bytes PREFIX_LEN arena.old place (K.bytes key))
         (λ pairs rest. KeepsLeavesOf K.bytes (with_pair_over K.bytes key value pairs) arena.old arena.new)) }
-    ensures stored { OfEach (λ pairs rest. CanPutOverBeside K.bytes PREFIX_LEN arena.old rest place (K.bytes key) pairs)
+    ensures stored { OfEach (CanPutOver K.bytes PREFIX_LEN arena.old place (K.bytes key))
         (λ pairs rest. HasKey (key_of K.bytes) (K.bytes key) pairs → IsOk result) }
     ensures err { OnErr result (SameNodes arena.old arena.new) }
     ensures handed_back { HandsPairBack key value result }
@@ -234,16 +229,16 @@ pub fn take_pair<K: AsBytes, V, const PREFIX_LEN: usize>(
     root: Option<OpaqueNodePtr>,
     key: &[u8],
 ) -> Result<Option<DeleteResult<K, V>>, AllocError>
-    requires { HasSome (HasPairsAt K.bytes PREFIX_LEN arena.old root) }
-    ensures ok { IfOk result (λ taken. OfEach (HasPairsAt K.bytes PREFIX_LEN arena.old root)
-        (λ pairs rest. HasTakenBeside K.bytes PREFIX_LEN arena.new rest root key.now pairs taken)) }
+    requires { HasSome (HasPairsBeside K.bytes PREFIX_LEN arena.old root) }
+    ensures ok { IfOk result (λ taken. OfEach (HasPairsBeside K.bytes PREFIX_LEN arena.old root)
+        (HasTaken K.bytes PREFIX_LEN arena.new root key.now taken)) }
     ensures open { IfOk result (λ taken. IfSome taken (λ deleted.
         (deleted.deleted_leaf.previous ≡ None) × (deleted.deleted_leaf.next ≡ None))) }
-    ensures others { IfOk result (λ taken. OfEach (HasPairsAt K.bytes PREFIX_LEN arena.old root)
+    ensures others { IfOk result (λ taken. OfEach (HasPairsBeside K.bytes PREFIX_LEN arena.old root)
         (λ pairs rest. KeepsNodes rest arena.old arena.new)) }
     ensures names { OnOk result (HasLeavesOf K.bytes arena.old arena.new) }
     ensures err { OnErr result (SameNodes arena.old arena.new) }
-    ensures shrinks { OnErr result (OfEach (HasPairsAt K.bytes PREFIX_LEN arena.old root)
+    ensures shrinks { OnErr result (OfEach (HasPairsBeside K.bytes PREFIX_LEN arena.old root)
         (λ pairs rest. HasKey (key_of K.bytes) key.now pairs × Shrinks (key_of K.bytes) pairs key.now)) }
     ensures succeeds { HasRoom arena.old 1 → IsOk result }
     ensures room { UsesRoom 1 arena.old arena.new }
@@ -270,16 +265,16 @@ pub fn take_end<K: AsBytes, V, const PREFIX_LEN: usize>(
     root: Option<OpaqueNodePtr>,
     end: End,
 ) -> Result<Option<DeleteResult<K, V>>, AllocError>
-    requires { HasSome (HasPairsAt K.bytes PREFIX_LEN arena.old root) }
-    ensures ok { IfOk result (λ taken. OfEach (HasPairsAt K.bytes PREFIX_LEN arena.old root)
-        (λ pairs rest. HasTakenEndBeside K.bytes PREFIX_LEN arena.new rest root end pairs taken)) }
+    requires { HasSome (HasPairsBeside K.bytes PREFIX_LEN arena.old root) }
+    ensures ok { IfOk result (λ taken. OfEach (HasPairsBeside K.bytes PREFIX_LEN arena.old root)
+        (HasTakenEnd K.bytes PREFIX_LEN arena.new root end taken)) }
     ensures open { IfOk result (λ taken. IfSome taken (λ deleted.
         (deleted.deleted_leaf.previous ≡ None) × (deleted.deleted_leaf.next ≡ None))) }
-    ensures others { IfOk result (λ taken. OfEach (HasPairsAt K.bytes PREFIX_LEN arena.old root)
+    ensures others { IfOk result (λ taken. OfEach (HasPairsBeside K.bytes PREFIX_LEN arena.old root)
         (λ pairs rest. KeepsNodes rest arena.old arena.new)) }
     ensures names { OnOk result (HasLeavesOf K.bytes arena.old arena.new) }
     ensures err { OnErr result (SameNodes arena.old arena.new) }
-    ensures shrinks { OnErr result (OfEach (HasPairsAt K.bytes PREFIX_LEN arena.old root)
+    ensures shrinks { OnErr result (OfEach (HasPairsBeside K.bytes PREFIX_LEN arena.old root)
         (λ pairs rest. ShrinksAtEnd K.bytes end pairs)) }
     ensures succeeds { HasRoom arena.old 1 → IsOk result }
     ensures room { UsesRoom 1 arena.old arena.new }

@@ -74,9 +74,9 @@ fn insert_at<K: AsBytes + Drop, V: Drop, const PREFIX_LEN: usize>(
     key: K,
     value: V,
 ) -> Change
-    requires { (pairs : List (K × V)) × CanPut K.bytes PREFIX_LEN arena.old place (K.bytes key) pairs }
+    requires { (pairs : List (K × V)) × CanPut K.bytes PREFIX_LEN arena.old place (K.bytes key) pairs [] }
     ensures { (pairs : List (K × V)) → HasPairs K.bytes PREFIX_LEN arena.old root pairs
-        → CanPut K.bytes PREFIX_LEN arena.old place (K.bytes key) pairs
+        → CanPut K.bytes PREFIX_LEN arena.old place (K.bytes key) pairs []
         → (IsBlocked (key_of K.bytes) (K.bytes key) pairs → ⊥)
         → IsDone K.bytes PREFIX_LEN arena.new pairs (Command.Insert key value) result }
 {

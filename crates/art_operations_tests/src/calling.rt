@@ -12,7 +12,7 @@ ghost use Rattle.art_arena.specs.arena.Shapes.{Shape, key_of, leaves, pairs_of};
 ghost use Rattle.art_arena.specs.arena.Stores.{StoresOnly};
 ghost use Rattle.art_arena.specs.tree.Changes.{IsIn};
 ghost use Rattle.art_arena.specs.tree.Tenants.{begins_with};
-ghost use Rattle.art_operations.specs.Deletions.{IsDeleted};
+ghost use Rattle.art_operations.specs.Deletions.{IsDeletedBeside};
 ghost use Rattle.art_operations.specs.KeyedLists.{without_key};
 ghost use Rattle.art_operations.specs.Lookups.{leaf_where};
 ghost use Rattle.art_operations.specs.Pairs.{HasPairs, with_pair_put};
@@ -112,7 +112,7 @@ pub fn take_at<K: AsBytes, V, const PREFIX_LEN: usize>(
     requires { (s : Shape K V) × StoresOnly K.bytes PREFIX_LEN arena.old root s }
     ensures ok { IfOk result (λ taken. IfSome taken (λ deleted. (s : Shape K V)
         → StoresOnly K.bytes PREFIX_LEN arena.old root s
-        → (slot : ℕ) × IsDeleted K.bytes PREFIX_LEN arena.new s slot deleted)) }
+        → (slot : ℕ) × IsDeletedBeside K.bytes PREFIX_LEN arena.new [] s slot deleted)) }
     ensures err { OnErr result (SameNodes arena.old arena.new) }
 {
     let Some(point) = search_for_delete_point(arena, root, key) else {
@@ -132,7 +132,7 @@ pub fn take_from<K: AsBytes, V, const PREFIX_LEN: usize>(
     requires { (s : Shape K V) × StoresOnly K.bytes PREFIX_LEN arena.old root s }
     ensures ok { IfOk result (λ taken. IfSome taken (λ deleted. (s : Shape K V)
         → StoresOnly K.bytes PREFIX_LEN arena.old root s
-        → (slot : ℕ) × IsDeleted K.bytes PREFIX_LEN arena.new s slot deleted)) }
+        → (slot : ℕ) × IsDeletedBeside K.bytes PREFIX_LEN arena.new [] s slot deleted)) }
     ensures err { OnErr result (SameNodes arena.old arena.new) }
 {
     let bound = Bound::Included(key);

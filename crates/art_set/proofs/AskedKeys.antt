@@ -9,7 +9,7 @@ use Rattle.art_bytes.specs.Keys.{IsBefore}
 use Rattle.art_operations.specs.KeyedLists.{without_key}
 use Rattle.art_operations.proofs.KeyedLists.{taken}
 use Rattle.art_set.specs.Asked.{AnswersForKey, AskingKeys, CallableOnEachKey, KeysComeOf, ExtractsKey, StopsAtKey}
-use Rattle.art_set.proofs.MergeLemmas.{all-filter}
+use Rattle.art_walks.proofs.Spans.{all-filter}
 
 module _ {X : Type 0} (key : X → List ℕ) where
   -- part of an ascending list ascends

@@ -10,8 +10,10 @@ use Rattle.art_bytes.specs.Keys.{bytes_cmp, is_below}
 use Rattle.art_set.specs.Members.{is_member}
 use Rattle.art_set.specs.Merges.{comparisons_of, difference_of, has_not_below, AscendsInBytes}
 use Rattle.art_operations.proofs.Nearest.{turned}
-use Rattle.art_set.specs.inner.KindLaws.{filter-none, filter-same}
-use Rattle.art_set.proofs.MergeLemmas.{AreAbove, above-lack, above-next, above-next-turned, above-same, agrees, all-filter, all-map, behind}
+use Rattle.art_set.specs.lemmas.KindLaws.{filter-none, filter-same}
+use Rattle.art_walks.proofs.Spans.{all-filter}
+use Rattle.art_arena.proofs.tree.Order.{all_weaker}
+use Rattle.art_set.proofs.MergeLemmas.{AreAbove, above-lack, above-next, above-next-turned, above-same, agrees, behind}
 
 -- what holds is so where a test fails
 pub on-false : {P : Type 0} (b : Bool) → P → OnFalse b P
@@ -35,7 +37,7 @@ module _ {K : Type 0} (bytes : K → List ℕ) where
   skips x y ys e = ap (λ b. not b || has_not_below bytes x ys) e
 
   below-all : (x : K) (ys zs : List K) → AreAbove bytes x zs → AllByRecursion (λ z. has_not_below bytes z (x ∷ ys) ≡ has_not_below bytes z ys) zs
-  below-all x ys zs h = all-map _ (λ z. has_not_below bytes z (x ∷ ys) ≡ has_not_below bytes z ys) (λ z e. skips z x ys (lt-is (bytes x) (bytes z) Less e)) zs h
+  below-all x ys zs h = all_weaker _ (λ z. has_not_below bytes z (x ∷ ys) ≡ has_not_below bytes z ys) (λ z e. skips z x ys (lt-is (bytes x) (bytes z) Less e)) zs h
 
   pub none-of-first : (ys : List K) → comparisons_of bytes [] ys ≡ 0
   none-of-first ys = let e = ap length (filter-none (λ y. has_not_below bytes y []) (difference_of bytes ys []) (λ y. refl)) in omega (arith, e)
@@ -45,7 +47,7 @@ module _ {K : Type 0} (bytes : K → List ℕ) where
 
   -- the keys of the second list that the first lacks, without the first's next key
   lacks-same : (x : K) (xs ys : List K) → AreAbove bytes x ys → difference_of bytes ys (x ∷ xs) ≡ difference_of bytes ys xs
-  lacks-same x xs ys beside = filter-same _ _ ys (all-map _ (λ y. not (is_member bytes (bytes y) (x ∷ xs)) ≡ not (is_member bytes (bytes y) xs)) (λ y e. ap not e) ys (behind bytes x xs ys beside))
+  lacks-same x xs ys beside = filter-same _ _ ys (all_weaker _ (λ y. not (is_member bytes (bytes y) (x ∷ xs)) ≡ not (is_member bytes (bytes y) xs)) (λ y e. ap not e) ys (behind bytes x xs ys beside))
 
   -- the first list's next key is below all of the second
   pub one-first : (x y : K) (xs ys : List K) → AreAbove bytes x xs → AreAbove bytes x (y ∷ ys) → comparisons_of bytes (x ∷ xs) (y ∷ ys) ≡ 1 + comparisons_of bytes xs (y ∷ ys)

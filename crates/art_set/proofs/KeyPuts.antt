@@ -1,6 +1,7 @@
 -- Many keys that are put in, one after another.
 use Rattle.std.proofs.Common.{◌≡◌, ℕ, List, [], ◌∷◌, ◌++◌, map, Option, Some, Ok, Err, Result, IfErr, IfOk, MatchResult, refl, sym, ap, subst, ◌∙◌, map-id}
 use Rattle.std.specs.Iterator.{Drains, Yields, YieldsThen}
+use Rattle.std.specs.Map.{keys_of}
 use Rattle.std.specs.Result.{IsErrAnd}
 use Rattle.std.specs.Vec.Iter.{into_iter_items, into_iter_steps}
 use Rattle.std.specs.declared.vec.IntoIter.{IntoIter}
@@ -8,10 +9,23 @@ use Rattle.std.proofs.IntoIterSteps.{All-taken}
 use Rattle.std.proofs.lemmas.List.{append-nil, map-append}
 use Rattle.art_arena.specs.tree.Order.{AscendsByKey}
 use Rattle.art_operations.proofs.KeyedLists.{put_new}
+use Rattle.art_operations.specs.declared.insert.result.InsertRefused.{InsertRefused}
+use Rattle.art_map.specs.Bulk.{IsMadeOf}
+use Rattle.art_map.specs.Contents.{Contents}
 use Rattle.art_map.proofs.VecPairs.{taken-front}
 use Rattle.art_set.specs.Bulk.{ExtendsWithKeys, HandsNextKeyBack, IsMadeOfKeys, IsKeyOfList}
 use Rattle.art_set.specs.Members.{with_key_put, with_keys_put}
 use Rattle.art_set.specs.declared.set.refused.RefusedKey.{RefusedKey}
+use Rattle.art_set.proofs.Seen.{keys-put-all}
+
+-- the keys of a map, or the key that is handed back
+abbrev pub set_of : {K : Type 0} → Result (Contents K (Unit {0})) (InsertRefused K (Unit {0})) → Result (List K) (RefusedKey K)
+set_of (Ok made) = Ok (keys_of made.pairs)
+set_of (Err e) = Err (record { key = e.key })
+
+keys-shown : {K A : Type 0} (key_of : A → K) (xs : List A) → keys_of (map (λ x. (key_of x, tt {0})) xs) ≡ map key_of xs
+keys-shown key_of [] = refl
+keys-shown key_of (x ∷ xs) = ap (λ ks. key_of x ∷ ks) (keys-shown key_of xs)
 
 module _ {K : Type 0} (bytes : K → List ℕ) where
   -- one more
@@ -43,6 +57,16 @@ module _ {K : Type 0} (bytes : K → List ℕ) where
         → IsErrAnd r (λ x. x ≡ e) → IsMadeOfKeys bytes key_of becomes steps iter r
     made-refused iter it given e (Ok x) b back h = absurd h
     made-refused iter it given e (Err x) b back h = (it, given, b, subst (HandsNextKeyBack bytes key_of becomes steps it given) (sym h) back)
+
+    -- what comes of the map of the keys beside the unit comes of the set
+    pub keys-made : (iter : U) (r : Result (Contents K (Unit {0})) (InsertRefused K (Unit {0}))) → IsMadeOf bytes (λ x. (key_of x, tt)) becomes steps iter r → IsMadeOfKeys bytes key_of becomes steps iter (set_of r)
+    keys-made iter (Ok made) (it, given, b, (drains, put)) = (
+      it,
+      given,
+      b,
+      (drains, ap keys_of put ∙ keys-put-all bytes (map (λ x. (key_of x, tt)) given) [] ∙ ap (λ ks. with_keys_put bytes ks []) (keys-shown key_of given)),
+    )
+    keys-made iter (Err e) (it, given, b, (item, rest, came, is)) = (it, given, b, (item, rest, came, ap (λ (p : K × Unit {0}). p.0) is))
 
 module _ {K Z : Type 0} (bytes : K → List ℕ) (it : IntoIter K Z) (given items : List K) (has : into_iter_items it ≡ items) where
   -- what comes of a set that is made of the vector's keys

@@ -15,8 +15,10 @@ use Rattle.std.specs.Borrow.{Bor}
 use Rattle.std.specs.Iterator.{MakesProgress, at_most}
 use Rattle.std.specs.Map.Iter.{TakesFirst, deref}
 use Rattle.art_set.specs.Members.{is_member}
+use Rattle.art_arena.proofs.tree.Order.{all_weaker}
 use Rattle.art_operations.proofs.Nearest.{turned}
-use Rattle.art_set.specs.inner.KindLaws.{filter-none, filter-same}
+use Rattle.art_walks.proofs.Spans.{all-filter}
+use Rattle.art_set.specs.lemmas.KindLaws.{filter-none, filter-same}
 use Rattle.art_set.specs.Merges.{GivesNext, Merge, put_below, put_among, AscendsInBytes}
 
 -- keys that are not equal in the order have other bytes
@@ -28,19 +30,6 @@ differs-turned k l e = sym (is_eq-slice_cmp l k) ∙ ap is_eq (turned k l Less e
 
 pub agrees : (k l : List ℕ) → bytes_cmp k l ≡ Equal → bytes_eq k l ≡ true
 agrees k l e = sym (is_eq-slice_cmp k l) ∙ ap is_eq e
-
-module _ {X : Type 0} where
-  pub all-filter : (P : X → Type 0) (p : X → Bool) (xs : List X) → AllByRecursion P xs → AllByRecursion P (filter p xs)
-  all-filter P p [] h = tt
-  all-filter P p (x ∷ xs) h = pick (p x) (all-filter P p xs h.1)
-    where
-      pick : (b : Bool) → AllByRecursion P (filter p xs) → AllByRecursion P (cond b (x ∷ filter p xs) (filter p xs))
-      pick true rest = (h.0, rest)
-      pick false rest = rest
-
-  pub all-map : (P Q : X → Type 0) → ((x : X) → P x → Q x) → (xs : List X) → AllByRecursion P xs → AllByRecursion Q xs
-  all-map P Q f [] h = tt
-  all-map P Q f (x ∷ xs) h = (f x h.0, all-map P Q f xs h.1)
 
 module _ {K : Type 0} (bytes : K → List ℕ) where
   -- x is below all of these
@@ -54,14 +43,14 @@ module _ {K : Type 0} (bytes : K → List ℕ) where
 
   -- and one that is below the first of them is below all
   pub above-below : (x y : K) (ys : List K) → bytes_cmp (bytes x) (bytes y) ≡ Less → AreAbove y ys → AreAbove x ys
-  above-below x y ys e h = all-map _ _ (λ z f. nat_list_cmp_total.trans (bytes x) (bytes y) (bytes z) e f) ys h
+  above-below x y ys e h = all_weaker _ _ (λ z f. nat_list_cmp_total.trans (bytes x) (bytes y) (bytes z) e f) ys h
 
   pub above-same : (x y : K) (ys : List K) → bytes_cmp (bytes x) (bytes y) ≡ Equal → AreAbove y ys → AreAbove x ys
-  above-same x y ys e h = all-map _ _ (λ z f. nat_list_cmp_total.congr (bytes x) (bytes y) (bytes z) e ∙ f) ys h
+  above-same x y ys e h = all_weaker _ _ (λ z f. nat_list_cmp_total.congr (bytes x) (bytes y) (bytes z) e ∙ f) ys h
 
   -- a key below all that are asked is not what they are asked for
   pub behind : (x : K) (xs ys : List K) → AreAbove x ys → AllByRecursion (λ y. is_member bytes (bytes y) (x ∷ xs) ≡ is_member bytes (bytes y) xs) ys
-  behind x xs ys h = all-map _ (λ y. is_member bytes (bytes y) (x ∷ xs) ≡ is_member bytes (bytes y) xs) (λ y e. rw (differs (bytes x) (bytes y) e) refl) ys h
+  behind x xs ys h = all_weaker _ (λ y. is_member bytes (bytes y) (x ∷ xs) ≡ is_member bytes (bytes y) xs) (λ y e. rw (differs (bytes x) (bytes y) e) refl) ys h
 
   put-first : (x : K) (ys : List K) → AreAbove x ys → put_below bytes x ys ≡ x ∷ ys
   put-first x [] h = refl
@@ -89,7 +78,7 @@ module _ {K : Type 0} (bytes : K → List ℕ) where
     -- of the first list's next key, which is below all others, none of the second is lost
     pub merged-first : (x : K) (xs ys : List K) → AreAbove x xs → AreAbove x ys → merged bytes first both second (x ∷ xs) ys ≡ cond first (x ∷ merged bytes first both second xs ys) (merged bytes first both second xs ys)
     merged-first x xs ys up beside =
-        ap₂ (put_among bytes) (filter-same _ _ ys (all-map _ _ (λ y e. ap (λ b. cond second (not b) false) e) ys (behind x xs ys beside)))
+        ap₂ (put_among bytes) (filter-same _ _ ys (all_weaker _ _ (λ y e. ap (λ b. cond second (not b) false) e) ys (behind x xs ys beside)))
         (ap (λ b. cond (cond b both first) (x ∷ of_first bytes first both second xs ys) (of_first bytes first both second xs ys)) (above-lack x ys beside))
         ∙ pick first
       where
@@ -100,7 +89,7 @@ module _ {K : Type 0} (bytes : K → List ℕ) where
     pub merged-second : (y : K) (xs ys : List K) → AreAbove y xs → AreAbove y ys → merged bytes first both second xs (y ∷ ys) ≡ cond second (y ∷ merged bytes first both second xs ys) (merged bytes first both second xs ys)
     merged-second y xs ys beside up =
         ap₂ (put_among bytes) (ap (λ b. cond (cond second (not b) false) (y ∷ of_second bytes first both second xs ys) (of_second bytes first both second xs ys)) (above-lack y xs beside))
-        (filter-same _ _ xs (all-map _ _ (λ x e. ap (λ b. cond b both first) e) xs (behind y ys xs beside)))
+        (filter-same _ _ xs (all_weaker _ _ (λ x e. ap (λ b. cond b both first) e) xs (behind y ys xs beside)))
         ∙ pick second
       where
         pick : (b : Bool) → put_among bytes (cond (cond b true false) (y ∷ of_second bytes first both second xs ys) (of_second bytes first both second xs ys)) (of_first bytes first both second xs ys) ≡ cond b (y ∷ merged bytes first both second xs ys) (merged bytes first both second xs ys)
@@ -113,9 +102,9 @@ module _ {K : Type 0} (bytes : K → List ℕ) where
         let back : AreAbove y xs = above-same y x xs (turned (bytes x) (bytes y) Equal same) up in
         ap₂ (put_among bytes)
         (ap (λ b. cond (cond second (not (b || is_member bytes (bytes y) xs)) false) (y ∷ of_second bytes first both second (x ∷ xs) ys) (of_second bytes first both second (x ∷ xs) ys)) (agrees (bytes x) (bytes y) same)
-        ∙ pick second (of_second bytes first both second (x ∷ xs) ys) ∙ filter-same _ _ ys (all-map _ _ (λ z e. ap (λ b. cond second (not b) false) e) ys (behind x xs ys ahead)))
+        ∙ pick second (of_second bytes first both second (x ∷ xs) ys) ∙ filter-same _ _ ys (all_weaker _ _ (λ z e. ap (λ b. cond second (not b) false) e) ys (behind x xs ys ahead)))
         (ap₂ (λ b zs. cond (cond (b || is_member bytes (bytes x) ys) both first) (x ∷ zs) zs) (agrees (bytes y) (bytes x) (turned (bytes x) (bytes y) Equal same))
-        (filter-same _ _ xs (all-map _ _ (λ z e. ap (λ b. cond b both first) e) xs (behind y ys xs back))))
+        (filter-same _ _ xs (all_weaker _ _ (λ z e. ap (λ b. cond b both first) e) xs (behind y ys xs back))))
         ∙ give both
       where
         pick : (b : Bool) (zs : List K) → cond (cond b false false) (y ∷ zs) zs ≡ zs

@@ -15,14 +15,16 @@ use Rattle.art_set.specs.inner.Merging.{merged, of_first, of_second}
 use Rattle.art_set.proofs.KeyPuts.{put-last}
 use Rattle.art_set.specs.Merges.{AscendsInBytes, difference_of, intersection_of, put_among, put_below, union_of, symmetric_difference_of}
 use Rattle.art_operations.proofs.Nearest.{turned}
-use Rattle.art_set.specs.inner.KindLaws.{filter-none}
-use Rattle.art_set.proofs.MergeLemmas.{AreAbove, above-below, all-filter, all-joined, all-map, all-put, differs-turned}
+use Rattle.art_set.specs.lemmas.KindLaws.{filter-none}
+use Rattle.art_walks.proofs.Spans.{all-filter}
+use Rattle.art_arena.proofs.tree.Order.{all_weaker}
+use Rattle.art_set.proofs.MergeLemmas.{AreAbove, above-below, all-joined, all-put, differs-turned}
 
 module _ {K : Type 0} (bytes : K → List ℕ) where
   -- keys in the order of a set ascend by their bytes
   pub ascends-in-bytes : (keys : List K) → AscendsByKey bytes keys → AscendsInBytes bytes keys
   ascends-in-bytes [] h = tt
-  ascends-in-bytes (x ∷ xs) h = (all-map (λ y. IsBefore (bytes x) (bytes y)) (λ y. bytes_cmp (bytes x) (bytes y) ≡ Less) (λ y b. before_cmp (bytes x) (bytes y) b) xs h.0, ascends-in-bytes xs h.1)
+  ascends-in-bytes (x ∷ xs) h = (all_weaker (λ y. IsBefore (bytes x) (bytes y)) (λ y. bytes_cmp (bytes x) (bytes y) ≡ Less) (λ y b. before_cmp (bytes x) (bytes y) b) xs h.0, ascends-in-bytes xs h.1)
 
   -- and where none is a front of another, the other way round
   pub ascends-by-key : (is_key : K → Type 0) → ((k l : K) → is_key k → is_key l → BeginsWith (bytes k) (bytes l) → bytes k ≡ bytes l)
@@ -59,7 +61,7 @@ module _ {K : Type 0} (bytes : K → List ℕ) where
   ascending-joined [] ys others up h = h
   ascending-joined (z ∷ zs) ys others up h =
       ascending-put z (put_among bytes zs ys)
-      (all-joined bytes (λ y. bytes_eq (bytes y) (bytes z) ≡ false) zs ys (all-map _ _ (λ y e. differs-turned (bytes z) (bytes y) e) zs up.0) others.0)
+      (all-joined bytes (λ y. bytes_eq (bytes y) (bytes z) ≡ false) zs ys (all_weaker _ _ (λ y e. differs-turned (bytes z) (bytes y) e) zs up.0) others.0)
       (ascending-joined zs ys others.1 up.1 h)
 
   -- part of an ascending list ascends
@@ -102,7 +104,7 @@ module _ {K : Type 0} (bytes : K → List ℕ) where
 
     pub ascending-symmetric : AscendsInBytes bytes (symmetric_difference_of bytes xs ys)
     ascending-symmetric = ascending-joined (difference_of bytes ys xs) (difference_of bytes xs ys)
-        (all-map _ _ (λ z others. all-filter _ _ xs others) (difference_of bytes ys xs) (difference-others ys xs))
+        (all_weaker _ _ (λ z others. all-filter _ _ xs others) (difference_of bytes ys xs) (difference-others ys xs))
         (ascending-part _ ys beside) (ascending-part _ xs up)
 
   -- of the keys that are wanted of the second list alone the first has others
@@ -112,7 +114,7 @@ module _ {K : Type 0} (bytes : K → List ℕ) where
 
   pub ascending-merged : (first both second : Bool) (xs ys : List K) → AscendsInBytes bytes xs → AscendsInBytes bytes ys → AscendsInBytes bytes (merged bytes first both second xs ys)
   ascending-merged first both second xs ys up beside = ascending-joined (of_second bytes first both second xs ys) (of_first bytes first both second xs ys)
-      (all-map _ _ (λ z others. all-filter _ _ xs others) (of_second bytes first both second xs ys) (second-others first both second xs ys))
+      (all_weaker _ _ (λ z others. all-filter _ _ xs others) (of_second bytes first both second xs ys) (second-others first both second xs ys))
       (ascending-part _ ys beside) (ascending-part _ xs up)
 
   pub ascending-left : (xs ys : List K) → AscendsInBytes bytes (xs ++ ys) → AscendsInBytes bytes xs

@@ -7,3 +7,4 @@ pub mod Lends
 pub mod Laws
 pub mod Bulk
 pub mod inner
+pub mod lemmas

@@ -9,6 +9,7 @@ pub mod extract_if;
 pub mod prefix;
 
 use art_arena::NodeArena;
+use art_bytes::AsBytes;
 use std::alloc::AllocError;
 use std::iter::FusedIterator;
 use std::marker::Model;
@@ -62,7 +63,7 @@ impl<'a, K, const PREFIX_LEN: usize> Clone for Iter<'a, K, PREFIX_LEN> {
     }
 }
 
-impl<'a, K, const PREFIX_LEN: usize> Iterator for Iter<'a, K, PREFIX_LEN> {
+impl<'a, K: AsBytes, const PREFIX_LEN: usize> Iterator for Iter<'a, K, PREFIX_LEN> {
     type Item = &'a K;
 
     ghost next_gives = { TakesFirst deref };
@@ -83,9 +84,9 @@ impl<'a, K, const PREFIX_LEN: usize> Iterator for Iter<'a, K, PREFIX_LEN> {
     }
 }
 
-impl<'a, K, const PREFIX_LEN: usize> FusedIterator for Iter<'a, K, PREFIX_LEN> {}
+impl<'a, K: AsBytes, const PREFIX_LEN: usize> FusedIterator for Iter<'a, K, PREFIX_LEN> {}
 
-impl<'a, K, const PREFIX_LEN: usize> DoubleEndedIterator for Iter<'a, K, PREFIX_LEN> {
+impl<'a, K: AsBytes, const PREFIX_LEN: usize> DoubleEndedIterator for Iter<'a, K, PREFIX_LEN> {
     ghost next_back_gives = { TakesLast deref };
 
     #[inline]
@@ -94,7 +95,7 @@ impl<'a, K, const PREFIX_LEN: usize> DoubleEndedIterator for Iter<'a, K, PREFIX_
     }
 }
 
-impl<'a, K, const PREFIX_LEN: usize> ExactSizeIterator for Iter<'a, K, PREFIX_LEN> {
+impl<'a, K: AsBytes, const PREFIX_LEN: usize> ExactSizeIterator for Iter<'a, K, PREFIX_LEN> {
     fn len(&self) -> usize {
         self.inner.len()
     }
@@ -211,7 +212,7 @@ impl<'a, K, const PREFIX_LEN: usize> Clone for Range<'a, K, PREFIX_LEN> {
     }
 }
 
-impl<'a, K, const PREFIX_LEN: usize> Iterator for Range<'a, K, PREFIX_LEN> {
+impl<'a, K: AsBytes, const PREFIX_LEN: usize> Iterator for Range<'a, K, PREFIX_LEN> {
     type Item = &'a K;
 
     ghost next_gives = { TakesFirst deref };
@@ -227,9 +228,9 @@ impl<'a, K, const PREFIX_LEN: usize> Iterator for Range<'a, K, PREFIX_LEN> {
     }
 }
 
-impl<'a, K, const PREFIX_LEN: usize> FusedIterator for Range<'a, K, PREFIX_LEN> {}
+impl<'a, K: AsBytes, const PREFIX_LEN: usize> FusedIterator for Range<'a, K, PREFIX_LEN> {}
 
-impl<'a, K, const PREFIX_LEN: usize> DoubleEndedIterator for Range<'a, K, PREFIX_LEN> {
+impl<'a, K: AsBytes, const PREFIX_LEN: usize> DoubleEndedIterator for Range<'a, K, PREFIX_LEN> {
     ghost next_back_gives = { TakesLast deref };
 
     #[inline]

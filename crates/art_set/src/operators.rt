@@ -5,12 +5,12 @@ ghost use Rattle.art_set.specs.Merges.{difference_of, intersection_of, symmetric
 use crate::merges::{FirstAlone, InBoth, InEither, Kind, OneAlone};
 use crate::set::TreeSet;
 use art_bytes::{NoPrefixesBytes, OrderedBytes};
-use art_map::nodes_fit;
+use art_map::{TreeMapBuilder, nodes_fit};
 use std::alloc::AllocError;
 use std::ops::{BitAnd, BitOr, BitXor, Sub};
 
-// A set of clones of the keys that a merge of this kind gives. It fails if a key can't be cloned, or if out of memory.
-// What was made is dropped then.
+// A set of clones of the keys that a merge of this kind gives, which come in order. It fails if a key can't be cloned,
+// or if out of memory. What was made is dropped then.
 fn collected<W: Kind<K>, K: OrderedBytes + NoPrefixesBytes + Clone + Drop, const PREFIX_LEN: usize>(
     first: &TreeSet<K, PREFIX_LEN>,
     second: &TreeSet<K, PREFIX_LEN>,
@@ -20,18 +20,24 @@ fn collected<W: Kind<K>, K: OrderedBytes + NoPrefixesBytes + Clone + Drop, const
     if !nodes_fit::<PREFIX_LEN>() {
         return Err(AllocError);
     }
-    let mut set = TreeSet::with_prefix_len(first.alloc);
+    let mut builder = TreeMapBuilder::new(first.alloc);
     let mut sides = first.beside(second);
     let wanted = W::wanted();
     while let Some(key) = sides.next_wanted(wanted) {
         let _known = key.as_bytes();
         let clone = key.clone()?;
-        match set.insert(clone) {
-            Ok(_) => {}
+        match builder.put(clone, ()) {
+            Ok(()) => {}
             Err(_) => return Err(AllocError),
         }
     }
-    Ok(set)
+    match builder.finish() {
+        Ok(map) => Ok(TreeSet {
+            alloc: first.alloc,
+            map,
+        }),
+        Err(_) => Err(AllocError),
+    }
 }
 
 /// The keys that both sets have, as this one has them. Fails if a key can't be cloned, or if out of memory. The

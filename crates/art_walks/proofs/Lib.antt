@@ -12,4 +12,5 @@ pub mod Verdicts
 pub mod Counted
 pub mod RunLengths
 pub mod Rests
+pub mod Spans
 pub mod MapReads

@@ -1,15 +1,14 @@
 -- What a reader of a map answers, told by the pairs of the map.
 use Rattle.std.proofs.Common.{◌≡◌, ◌≢◌, ℕ, ◌+◌, ◌-◌, ◌^◌, min, Bool, true, false, cond, filter, List, [], ◌∷◌, ◌++◌, length, Option, Some, None, MatchOption, refl, sym, ap, subst, ◌∙◌, inl, inr, arith, append_assoc}
-use Rattle.std.specs.List.{AllByRecursion}
 use Rattle.std.specs.Map.{lookup_entry}
 use Rattle.std.proofs.lemmas.Bool.Decides.{eqb_tells}
-use Rattle.std.proofs.lemmas.List.{length-map, map-append}
+use Rattle.std.proofs.lemmas.List.{length-map}
 use Rattle.art_nodes.specs.Name.{Name}
 use Rattle.art_nodes.specs.declared.leaf.LeafNode.{LeafNode}
 use Rattle.art_arena.specs.arena.Arena.{Arena, cell_of, held_at, leaf_held, links_at, node_at}
-use Rattle.art_arena.specs.arena.Cells.{leaf_name, pair}
+use Rattle.art_arena.specs.arena.Cells.{leaf_name}
 use Rattle.art_arena.specs.arena.Descents.{HasNoFront, LandsAt, ReadsPath, TakesFronts, passing}
-use Rattle.art_arena.specs.arena.Linked.{AreLinked, IsList}
+use Rattle.art_arena.specs.arena.Linked.{AreLinked}
 use Rattle.art_arena.specs.arena.Reads.{KeysWithin}
 use Rattle.art_arena.specs.arena.Shapes.{Shape, LeafAt, erase, key_of, leaves, pairs_of}
 use Rattle.art_arena.specs.arena.Steps.{Step}
@@ -18,17 +17,15 @@ use Rattle.art_arena.specs.tree.TreeOf.{tree_of}
 use Rattle.art_arena.proofs.shapes.Erased.{canonical-erase, items-erase}
 use Rattle.art_arena.proofs.shapes.FoundLeaves.{leaves_of, located-fails, located-passes, passing-located}
 use Rattle.art_arena.proofs.shapes.Meanings.{nodes-subtree}
-use Rattle.art_arena.proofs.shapes.Prefixes.{leaves_are_held}
-use Rattle.art_arena.proofs.shapes.Surroundings.{tree-list}
 use Rattle.art_arena.proofs.tree.Unique.{tree_of_items}
 use Rattle.art_operations.specs.Bounds.{AreEndsWhere}
 use Rattle.art_operations.proofs.LeafPairs.{leaf_pair}
-use Rattle.art_operations.proofs.RangeEnds.{tree_ascends}
-use Rattle.art_operations.proofs.Stretches.{IsConvex, stretch}
+use Rattle.art_operations.proofs.Stretches.{IsConvex}
 use Rattle.art_walks.specs.MapReads.{IsSpan, IsSpanOf, PairsWithin, ReadsPathOf, ReadsPairs, path_length}
 use Rattle.art_walks.specs.Runs.{Ends, HasEnds, IsWalk}
 use Rattle.art_walks.specs.Walked.{AreStored}
 use Rattle.art_walks.proofs.RunSteps.{front-alone, front-is, front-step, next_of}
+use Rattle.art_walks.proofs.Spans.{passing-pairs, span-in}
 
 -- the first item
 abbrev first_of : {X : Type 0} → List X → Option X
@@ -44,29 +41,9 @@ module _ {K V : Type 0} (bytes : K → List ℕ) (test : List ℕ → Bool) wher
     | false ↦ entry-first ps
   ]
 
-  -- the pairs that pass are those of the leaves that pass
-  passing-pairs : (ls : List (LeafAt K V)) → pairs_of (passing bytes test ls) ≡ filter (λ p. test (bytes p.0)) (pairs_of ls)
-  passing-pairs [] = refl
-  passing-pairs (l ∷ ls) = here (test (bytes l.key)) refl (passing-pairs ls)
-    where
-      here : (b : Bool) → test (bytes l.key) ≡ b → pairs_of (passing bytes test ls) ≡ filter (λ p. test (bytes p.0)) (pairs_of ls) → pairs_of (passing bytes test (l ∷ ls)) ≡ filter (λ p. test (bytes p.0)) (pairs_of (l ∷ ls))
-      here true t rest = rw t (ap (λ ps. (l.key, l.value) ∷ ps) rest)
-      here false t rest = rw t rest
-
-  all-passing : (Q : LeafAt K V → Type 0) (ls : List (LeafAt K V)) → AllByRecursion Q ls → AllByRecursion Q (passing bytes test ls)
-  all-passing Q [] h = tt
-  all-passing Q (l ∷ ls) h = elim (test (bytes l.key)) as (λ b. AllByRecursion Q (cond b (l ∷ passing bytes test ls) (passing bytes test ls))) [
-    | true ↦ (h.0, all-passing Q ls h.1)
-    | false ↦ all-passing Q ls h.1
-  ]
-
-  ends-walk : (ls : List (LeafAt K V)) (ends : Ends) → AreEndsWhere bytes test ls ends → HasEnds (passing bytes test ls) ends
-  ends-walk ls None h = h
-  ends-walk ls (Some ends) h = h
-
   -- what is found of the pairs is the first of the leaves that pass
   found : (ls leaves : List (LeafAt K V)) → passing bytes test leaves ≡ ls → lookup_entry (λ k. test (bytes k)) (pairs_of leaves) ≡ first_of (pairs_of ls)
-  found ls leaves are = entry-first (pairs_of leaves) ∙ ap first_of (sym (passing-pairs leaves) ∙ ap pairs_of are)
+  found ls leaves are = entry-first (pairs_of leaves) ∙ ap first_of (sym (passing-pairs bytes test leaves) ∙ ap pairs_of are)
 
   module _ (key : List ℕ) (takes : TakesFronts key test) (s : Shape K V) (pairs : List (K × V)) (seen : pairs_of (leaves s) ≡ pairs) where
     pub landed-entry : (slot : ℕ) (leaf : LeafNode K V) (last : List Step) → LandsAt bytes key s slot leaf last → test (bytes leaf.key) ≡ true → Some (leaf.key, leaf.value) ≡ lookup_entry (λ k. test (bytes k)) pairs
@@ -111,27 +88,7 @@ module _ {K V : Type 0} (bytes : K → List ℕ) (P : ℕ) (arena : Arena K V) (
 
   -- the pairs that pass stand together, between the ends of their leaves
   pub span-of : (test : List ℕ → Bool) → IsConvex test → (ends : Ends) → AreEndsWhere bytes test (leaves the-shape) ends → IsSpanOf arena pairs ends (filter (λ p. test (bytes p.0)) pairs)
-  span-of test convex ends answer =
-      let run = stretch bytes test convex (leaves the-shape) (tree_ascends bytes P arena root the-shape the-stores) in
-      let pairs_are : pairs_of (passing bytes test (leaves the-shape)) ≡ filter (λ p. test (bytes p.0)) pairs = passing-pairs bytes test (leaves the-shape) ∙ ap (filter (λ p. test (bytes p.0))) the-pairs in
-      record {
-        front = pairs_of run.front;
-        back = pairs_of run.back;
-        parts = sym the-pairs ∙ ap pairs_of run.parts ∙ map-append leaf_pair run.front (passing bytes test (leaves the-shape) ++ run.back)
-            ∙ ap (λ ps. pairs_of run.front ++ ps) (map-append leaf_pair (passing bytes test (leaves the-shape)) run.back ∙ ap (λ ps. ps ++ pairs_of run.back) pairs_are);
-        run = record {
-          leaves = passing bytes test (leaves the-shape);
-          walk = record {
-            xs = run.front;
-            zs = run.back;
-            list = subst (IsList (links_at arena)) run.parts (tree-list bytes P (node_at arena) root (links_at arena) the-shape has.1.1);
-            ends_are = ends-walk bytes test (leaves the-shape) ends answer;
-          };
-          stored = all-passing bytes test (λ l. node_at arena (leaf_name l.slot) ≡ Some (pair l.key l.value)) (leaves the-shape) (leaves_are_held bytes P arena the-shape the-stores.part.held);
-          len_is = ap length (sym pairs_are) ∙ length-map (passing bytes test (leaves the-shape)) leaf_pair;
-        };
-        pairs_are = pairs_are;
-      }
+  span-of test convex ends answer = span-in bytes P arena root the-shape has.1.1 test convex pairs the-pairs ends answer
 
 -- a span without a pair
 pub no-span : {K V : Type 0} (arena : Arena K V) (pairs : List (K × V)) → pairs ≡ [] → (test : K × V → Bool) → IsSpanOf arena pairs None (filter test pairs)

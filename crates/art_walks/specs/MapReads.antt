@@ -25,7 +25,7 @@ IsSameMap old new = (new.nodes ≡ old.nodes) × (new.root ≡ old.root)
 module _ {K V : Type 0} (bytes : K → List ℕ) (P : ℕ) (arena : Arena K V) (root : Option Name) where
   -- the root is that of the tree of these pairs, or there is none, and no pair; other nodes may stand beside it
   abbrev pub ReadsPairs : List (K × V) → Type 0
-  ReadsPairs pairs = (rest : List (Name × Cell K V)) × HasPairsBeside bytes P arena rest root pairs
+  ReadsPairs pairs = (rest : List (Name × Cell K V)) × HasPairsBeside bytes P arena root pairs rest
 
   -- of some pairs
   abbrev pub ReadsMap : Type 0

@@ -7,8 +7,11 @@ ghost use Rattle.std.specs.Map.Iter.{TakesFirst, TakesLast, deref, deref_pair};
 ghost use Rattle.art_arena.specs.arena.Shapes.{pairs_of};
 ghost use Rattle.art_walks.specs.Walked.{IsCounted};
 
+use crate::ahead::Ahead;
 use crate::raw_iterator::RawIterator;
 use art_arena::NodeArena;
+use art_bytes::AsBytes;
+use art_nodes::OpaqueNodePtr;
 use std::alloc::AllocError;
 use std::iter::FusedIterator;
 use std::marker::{Model, PhantomData};
@@ -22,6 +25,7 @@ pub struct Iter<'a, K, V, const PREFIX_LEN: usize, M: 'a = NodeArena<K, V, PREFI
     arena: &'a NodeArena<K, V, PREFIX_LEN>,
     leaves: RawIterator,
     len: usize,
+    ahead: Ahead,
     mark: PhantomData<M>,
 }
 
@@ -36,9 +40,14 @@ impl<'a, K, V, const PREFIX_LEN: usize, M: 'a> Model for Iter<'a, K, V, PREFIX_L
     ghost invariant = { λ it. IsCounted it.arena.now it.leaves it.len };
 }
 
-impl<'a, K, V, const PREFIX_LEN: usize> Iter<'a, K, V, PREFIX_LEN> {
+impl<'a, K: AsBytes, V, const PREFIX_LEN: usize> Iter<'a, K, V, PREFIX_LEN> {
     /// Returns an iterator over a run of exactly so many leaves, which are linked neighbours in this arena.
-    pub fn new(arena: &'a NodeArena<K, V, PREFIX_LEN>, leaves: RawIterator, len: usize) -> Self
+    pub fn new(
+        arena: &'a NodeArena<K, V, PREFIX_LEN>,
+        leaves: RawIterator,
+        len: usize,
+        root: Option<OpaqueNodePtr>,
+    ) -> Self
         requires { IsCounted arena.now leaves len }
         ensures { (run : IsCounted arena.now leaves len) → result ≡ pairs_of run.leaves }
     {
@@ -46,6 +55,20 @@ impl<'a, K, V, const PREFIX_LEN: usize> Iter<'a, K, V, PREFIX_LEN> {
             arena,
             leaves,
             len,
+            ahead: Ahead::new(root),
+            mark: PhantomData,
+        }
+    }
+
+    /// Returns the same iterator, which reads nothing ahead: for a caller that does so itself.
+    pub fn one_by_one(self) -> Self
+        ensures { result ≡ self.entry }
+    {
+        Iter {
+            arena: self.arena,
+            leaves: self.leaves,
+            len: self.len,
+            ahead: Ahead::new(None),
             mark: PhantomData,
         }
     }
@@ -61,12 +84,13 @@ impl<'a, K, V, const PREFIX_LEN: usize> Clone for Iter<'a, K, V, PREFIX_LEN> {
             arena: self.arena,
             leaves: self.leaves,
             len: self.len,
+            ahead: self.ahead,
             mark: PhantomData,
         })
     }
 }
 
-impl<'a, K, V, const PREFIX_LEN: usize> Iterator for Iter<'a, K, V, PREFIX_LEN> {
+impl<'a, K: AsBytes, V, const PREFIX_LEN: usize> Iterator for Iter<'a, K, V, PREFIX_LEN> {
     type Item = (&'a K, &'a V);
 
     ghost next_gives = { TakesFirst deref_pair };
@@ -76,6 +100,7 @@ impl<'a, K, V, const PREFIX_LEN: usize> Iterator for Iter<'a, K, V, PREFIX_LEN> 
     #[inline]
     fn next(&mut self) -> Option<(&'a K, &'a V)> {
         let arena = self.arena;
+        self.ahead.step(arena, self.leaves);
         match self.leaves.next(arena) {
             Some(leaf) => {
                 self.len -= 1;
@@ -95,14 +120,16 @@ impl<'a, K, V, const PREFIX_LEN: usize> Iterator for Iter<'a, K, V, PREFIX_LEN> 
     }
 }
 
-impl<'a, K, V, const PREFIX_LEN: usize> FusedIterator for Iter<'a, K, V, PREFIX_LEN> {}
+impl<'a, K: AsBytes, V, const PREFIX_LEN: usize> FusedIterator for Iter<'a, K, V, PREFIX_LEN> {}
 
-impl<'a, K, V, const PREFIX_LEN: usize> DoubleEndedIterator for Iter<'a, K, V, PREFIX_LEN> {
+impl<'a, K: AsBytes, V, const PREFIX_LEN: usize> DoubleEndedIterator
+    for Iter<'a, K, V, PREFIX_LEN> {
     ghost next_back_gives = { TakesLast deref_pair };
 
     #[inline]
     fn next_back(&mut self) -> Option<(&'a K, &'a V)> {
         let arena = self.arena;
+        self.ahead.stop();
         match self.leaves.next_back(arena) {
             Some(leaf) => {
                 self.len -= 1;
@@ -113,7 +140,7 @@ impl<'a, K, V, const PREFIX_LEN: usize> DoubleEndedIterator for Iter<'a, K, V, P
     }
 }
 
-impl<'a, K, V, const PREFIX_LEN: usize> ExactSizeIterator for Iter<'a, K, V, PREFIX_LEN> {
+impl<'a, K: AsBytes, V, const PREFIX_LEN: usize> ExactSizeIterator for Iter<'a, K, V, PREFIX_LEN> {
     fn len(&self) -> usize {
         self.len
     }
@@ -156,7 +183,7 @@ impl<'a, K, V, const PREFIX_LEN: usize> Clone for Keys<'a, K, V, PREFIX_LEN> {
     }
 }
 
-impl<'a, K, V, const PREFIX_LEN: usize> Iterator for Keys<'a, K, V, PREFIX_LEN> {
+impl<'a, K: AsBytes, V, const PREFIX_LEN: usize> Iterator for Keys<'a, K, V, PREFIX_LEN> {
     type Item = &'a K;
 
     ghost next_gives = { TakesFirst deref };
@@ -180,9 +207,10 @@ impl<'a, K, V, const PREFIX_LEN: usize> Iterator for Keys<'a, K, V, PREFIX_LEN> 
     }
 }
 
-impl<'a, K, V, const PREFIX_LEN: usize> FusedIterator for Keys<'a, K, V, PREFIX_LEN> {}
+impl<'a, K: AsBytes, V, const PREFIX_LEN: usize> FusedIterator for Keys<'a, K, V, PREFIX_LEN> {}
 
-impl<'a, K, V, const PREFIX_LEN: usize> DoubleEndedIterator for Keys<'a, K, V, PREFIX_LEN> {
+impl<'a, K: AsBytes, V, const PREFIX_LEN: usize> DoubleEndedIterator
+    for Keys<'a, K, V, PREFIX_LEN> {
     ghost next_back_gives = { TakesLast deref };
 
     #[inline]
@@ -194,7 +222,7 @@ impl<'a, K, V, const PREFIX_LEN: usize> DoubleEndedIterator for Keys<'a, K, V, P
     }
 }
 
-impl<'a, K, V, const PREFIX_LEN: usize> ExactSizeIterator for Keys<'a, K, V, PREFIX_LEN> {
+impl<'a, K: AsBytes, V, const PREFIX_LEN: usize> ExactSizeIterator for Keys<'a, K, V, PREFIX_LEN> {
     fn len(&self) -> usize {
         self.inner.len()
     }
@@ -237,7 +265,7 @@ impl<'a, K, V, const PREFIX_LEN: usize> Clone for Values<'a, K, V, PREFIX_LEN> {
     }
 }
 
-impl<'a, K, V, const PREFIX_LEN: usize> Iterator for Values<'a, K, V, PREFIX_LEN> {
+impl<'a, K: AsBytes, V, const PREFIX_LEN: usize> Iterator for Values<'a, K, V, PREFIX_LEN> {
     type Item = &'a V;
 
     ghost next_gives = { TakesFirst deref };
@@ -261,9 +289,10 @@ impl<'a, K, V, const PREFIX_LEN: usize> Iterator for Values<'a, K, V, PREFIX_LEN
     }
 }
 
-impl<'a, K, V, const PREFIX_LEN: usize> FusedIterator for Values<'a, K, V, PREFIX_LEN> {}
+impl<'a, K: AsBytes, V, const PREFIX_LEN: usize> FusedIterator for Values<'a, K, V, PREFIX_LEN> {}
 
-impl<'a, K, V, const PREFIX_LEN: usize> DoubleEndedIterator for Values<'a, K, V, PREFIX_LEN> {
+impl<'a, K: AsBytes, V, const PREFIX_LEN: usize> DoubleEndedIterator
+    for Values<'a, K, V, PREFIX_LEN> {
     ghost next_back_gives = { TakesLast deref };
 
     #[inline]
@@ -275,7 +304,8 @@ impl<'a, K, V, const PREFIX_LEN: usize> DoubleEndedIterator for Values<'a, K, V,
     }
 }
 
-impl<'a, K, V, const PREFIX_LEN: usize> ExactSizeIterator for Values<'a, K, V, PREFIX_LEN> {
+impl<'a, K: AsBytes, V, const PREFIX_LEN: usize> ExactSizeIterator
+    for Values<'a, K, V, PREFIX_LEN> {
     fn len(&self) -> usize {
         self.inner.len()
     }

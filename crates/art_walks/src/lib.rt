@@ -3,6 +3,7 @@
 //! `specs/`.
 #![tactic(auto)]
 
+mod ahead;
 mod bounds;
 mod checker;
 mod into_iter;
@@ -16,6 +17,7 @@ mod stats;
 mod subtree;
 mod visitor;
 
+pub use ahead::Ahead;
 pub use bounds::bounds_are_valid;
 pub use checker::WellFormedChecker;
 pub use into_iter::{IntoIter, IntoKeys, IntoValues};

@@ -7,8 +7,8 @@ ghost use Rattle.std.specs.Map.Iter.{deref_pair};
 ghost use Rattle.std.specs.Range.Bound.{bound_map};
 ghost use Rattle.art_bytes.specs.Keys.{bytes_cmp};
 ghost use Rattle.art_arena.specs.tree.Tenants.{begins_with};
-ghost use Rattle.art_operations.specs.Openings.{bound_len, OpeningReads, ReadsAtLeast};
-ghost use Rattle.art_operations.specs.Pairs.{HasPairsAt};
+ghost use Rattle.art_operations.specs.Openings.{bound_len, OpeningReads, ReadsAtLeast, SpanReads};
+ghost use Rattle.art_operations.specs.Pairs.{HasPairsBeside};
 ghost use Rattle.art_operations.specs.Whichever.{HasSome};
 ghost use Rattle.art_walks.specs.Bounds.{AreValidKeyBounds};
 ghost use Rattle.art_walks.specs.MapReads.{IsSameMap, IsSpan, IsSpanOf, OfPairs, PairsWithin, ReadsMap, ReadsPathOf};
@@ -165,7 +165,7 @@ impl<'a, K: AsBytes, V, const PREFIX_LEN: usize> MapReader<'a, K, V, PREFIX_LEN>
     /// assert_eq!(rt; MapReader::new(arena, root).get_key_value(b"ab"), Some((b"ab", &1)));
     /// ```
     pub fn new(arena: &'a NodeArena<K, V, PREFIX_LEN>, root: Option<OpaqueNodePtr>) -> Self
-        requires { HasSome (HasPairsAt K.bytes PREFIX_LEN arena.now root) }
+        requires { HasSome (HasPairsBeside K.bytes PREFIX_LEN arena.now root) }
         ensures nodes { result.nodes ≡ arena.now }
         ensures root { result.root ≡ root }
         ensures count { result.count ≡ 0 }
@@ -250,8 +250,8 @@ impl<'a, K: AsBytes, V, const PREFIX_LEN: usize> MapReader<'a, K, V, PREFIX_LEN>
     /// Returns a span over the pairs whose keys are between two bounds, by their bytes, ascending. If the map has a
     /// pair, the bounds have to be valid, as `bounds_are_valid` tells.
     ///
-    /// If the map has a pair, at least one node is read, the root. At most (n + 6) * (k + 2) nodes are read, where n is
-    /// the length of the longer bound and k that of the longest key.
+    /// If the map has a pair, at least one node is read, the root. At most 6 * (k + 2) nodes are read, where k is the
+    /// length of the longest key.
     ///
     /// ```
     /// use art_map::TreeMap;
@@ -278,6 +278,8 @@ impl<'a, K: AsBytes, V, const PREFIX_LEN: usize> MapReader<'a, K, V, PREFIX_LEN>
             → bound_len (bound_map (λ key. Q.bytes key.now) start.entry) ≤ most
             → bound_len (bound_map (λ key. Q.bytes key.now) end.entry) ≤ most
             → OpeningReads longest most self.old.count self.new.count) }
+        ensures linear { OfPairs K.bytes PREFIX_LEN self.old.nodes self.old.root (λ pairs. (longest : ℕ)
+            → PairsWithin K.bytes longest pairs → SpanReads longest self.old.count self.new.count) }
     {
         match self.root {
             Some(root) => ReadSpan::of(find_range_segment_with(
@@ -292,8 +294,8 @@ impl<'a, K: AsBytes, V, const PREFIX_LEN: usize> MapReader<'a, K, V, PREFIX_LEN>
 
     /// Returns a span over the pairs whose keys begin with a prefix's bytes, ascending.
     ///
-    /// If the map has a pair, at least one node is read, the root. At most (n + 6) * (k + 2) nodes are read, where n is
-    /// the length of the prefix and k that of the longest key.
+    /// If the map has a pair, at least one node is read, the root. At most 6 * (k + 2) nodes are read, where k is the
+    /// length of the longest key.
     ///
     /// ```
     /// use art_map::TreeMap;
@@ -314,6 +316,8 @@ impl<'a, K: AsBytes, V, const PREFIX_LEN: usize> MapReader<'a, K, V, PREFIX_LEN>
         ensures few { OfPairs K.bytes PREFIX_LEN self.old.nodes self.old.root (λ pairs. (longest : ℕ)
             → PairsWithin K.bytes longest pairs
             → OpeningReads longest (length (Q.bytes prefix.now)) self.old.count self.new.count) }
+        ensures linear { OfPairs K.bytes PREFIX_LEN self.old.nodes self.old.root (λ pairs. (longest : ℕ)
+            → PairsWithin K.bytes longest pairs → SpanReads longest self.old.count self.new.count) }
     {
         match self.root {
             Some(root) => ReadSpan::of(find_prefix_segment_with(

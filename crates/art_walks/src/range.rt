@@ -5,8 +5,11 @@ ghost use Rattle.std.specs.Map.Iter.{TakesFirst, TakesLast, deref_pair};
 ghost use Rattle.art_arena.specs.arena.Shapes.{pairs_of};
 ghost use Rattle.art_walks.specs.Walked.{IsCounted};
 
+use crate::ahead::Ahead;
 use crate::raw_iterator::RawIterator;
 use art_arena::NodeArena;
+use art_bytes::AsBytes;
+use art_nodes::OpaqueNodePtr;
 use std::alloc::AllocError;
 use std::iter::FusedIterator;
 use std::marker::{Model, PhantomData};
@@ -19,6 +22,7 @@ use std::marker::{Model, PhantomData};
 pub struct Range<'a, K, V, const PREFIX_LEN: usize, M: 'a = NodeArena<K, V, PREFIX_LEN>> {
     arena: &'a NodeArena<K, V, PREFIX_LEN>,
     leaves: RawIterator,
+    ahead: Ahead,
     mark: PhantomData<M>,
 }
 
@@ -33,15 +37,20 @@ impl<'a, K, V, const PREFIX_LEN: usize, M: 'a> Model for Range<'a, K, V, PREFIX_
     ghost invariant = { λ it. IsCounted it.arena.now it.leaves (leaves_left it.arena.now it.leaves) };
 }
 
-impl<'a, K, V, const PREFIX_LEN: usize> Range<'a, K, V, PREFIX_LEN> {
+impl<'a, K: AsBytes, V, const PREFIX_LEN: usize> Range<'a, K, V, PREFIX_LEN> {
     /// Returns an iterator over a run of leaves, which are linked neighbours in this arena.
-    pub fn new(arena: &'a NodeArena<K, V, PREFIX_LEN>, leaves: RawIterator) -> Self
+    pub fn new(
+        arena: &'a NodeArena<K, V, PREFIX_LEN>,
+        leaves: RawIterator,
+        root: Option<OpaqueNodePtr>,
+    ) -> Self
         requires { (n : ℕ) × IsCounted arena.now leaves n }
         ensures { (n : ℕ) (run : IsCounted arena.now leaves n) → result ≡ pairs_of run.leaves }
     {
         Range {
             arena,
             leaves,
+            ahead: Ahead::new(root),
             mark: PhantomData,
         }
     }
@@ -56,12 +65,13 @@ impl<'a, K, V, const PREFIX_LEN: usize> Clone for Range<'a, K, V, PREFIX_LEN> {
         Ok(Range {
             arena: self.arena,
             leaves: self.leaves,
+            ahead: self.ahead,
             mark: PhantomData,
         })
     }
 }
 
-impl<'a, K, V, const PREFIX_LEN: usize> Iterator for Range<'a, K, V, PREFIX_LEN> {
+impl<'a, K: AsBytes, V, const PREFIX_LEN: usize> Iterator for Range<'a, K, V, PREFIX_LEN> {
     type Item = (&'a K, &'a V);
 
     ghost next_gives = { TakesFirst deref_pair };
@@ -71,6 +81,7 @@ impl<'a, K, V, const PREFIX_LEN: usize> Iterator for Range<'a, K, V, PREFIX_LEN>
     #[inline]
     fn next(&mut self) -> Option<(&'a K, &'a V)> {
         let arena = self.arena;
+        self.ahead.step(arena, self.leaves);
         let leaf = match self.leaves.next(arena) {
             Some(leaf) => leaf,
             None => return None,
@@ -79,14 +90,16 @@ impl<'a, K, V, const PREFIX_LEN: usize> Iterator for Range<'a, K, V, PREFIX_LEN>
     }
 }
 
-impl<'a, K, V, const PREFIX_LEN: usize> FusedIterator for Range<'a, K, V, PREFIX_LEN> {}
+impl<'a, K: AsBytes, V, const PREFIX_LEN: usize> FusedIterator for Range<'a, K, V, PREFIX_LEN> {}
 
-impl<'a, K, V, const PREFIX_LEN: usize> DoubleEndedIterator for Range<'a, K, V, PREFIX_LEN> {
+impl<'a, K: AsBytes, V, const PREFIX_LEN: usize> DoubleEndedIterator
+    for Range<'a, K, V, PREFIX_LEN> {
     ghost next_back_gives = { TakesLast deref_pair };
 
     #[inline]
     fn next_back(&mut self) -> Option<(&'a K, &'a V)> {
         let arena = self.arena;
+        self.ahead.stop();
         let leaf = match self.leaves.next_back(arena) {
             Some(leaf) => leaf,
             None => return None,
@@ -110,14 +123,18 @@ impl<'a, K, V, const PREFIX_LEN: usize, M: 'a> Model for Prefix<'a, K, V, PREFIX
     ghost view = { λ it. it.inner };
 }
 
-impl<'a, K, V, const PREFIX_LEN: usize> Prefix<'a, K, V, PREFIX_LEN> {
+impl<'a, K: AsBytes, V, const PREFIX_LEN: usize> Prefix<'a, K, V, PREFIX_LEN> {
     /// Returns an iterator over a run of leaves, which are linked neighbours in this arena.
-    pub fn new(arena: &'a NodeArena<K, V, PREFIX_LEN>, leaves: RawIterator) -> Self
+    pub fn new(
+        arena: &'a NodeArena<K, V, PREFIX_LEN>,
+        leaves: RawIterator,
+        root: Option<OpaqueNodePtr>,
+    ) -> Self
         requires { (n : ℕ) × IsCounted arena.now leaves n }
         ensures { (n : ℕ) (run : IsCounted arena.now leaves n) → result ≡ pairs_of run.leaves }
     {
         Prefix {
-            inner: Range::new(arena, leaves),
+            inner: Range::new(arena, leaves, root),
         }
     }
 }
@@ -134,7 +151,7 @@ impl<'a, K, V, const PREFIX_LEN: usize> Clone for Prefix<'a, K, V, PREFIX_LEN> {
     }
 }
 
-impl<'a, K, V, const PREFIX_LEN: usize> Iterator for Prefix<'a, K, V, PREFIX_LEN> {
+impl<'a, K: AsBytes, V, const PREFIX_LEN: usize> Iterator for Prefix<'a, K, V, PREFIX_LEN> {
     type Item = (&'a K, &'a V);
 
     ghost next_gives = { TakesFirst deref_pair };
@@ -147,9 +164,10 @@ impl<'a, K, V, const PREFIX_LEN: usize> Iterator for Prefix<'a, K, V, PREFIX_LEN
     }
 }
 
-impl<'a, K, V, const PREFIX_LEN: usize> FusedIterator for Prefix<'a, K, V, PREFIX_LEN> {}
+impl<'a, K: AsBytes, V, const PREFIX_LEN: usize> FusedIterator for Prefix<'a, K, V, PREFIX_LEN> {}
 
-impl<'a, K, V, const PREFIX_LEN: usize> DoubleEndedIterator for Prefix<'a, K, V, PREFIX_LEN> {
+impl<'a, K: AsBytes, V, const PREFIX_LEN: usize> DoubleEndedIterator
+    for Prefix<'a, K, V, PREFIX_LEN> {
     ghost next_back_gives = { TakesLast deref_pair };
 
     #[inline]

@@ -76,8 +76,8 @@ pub fn pairs_behind<'a, K: AsBytes, V>(
         → result ≡ pairs_of (passing K.bytes (λ k. begins_with prefix.now k) (leaves s)) }
 {
     match find_prefix_segment(arena, root, prefix) {
-        Some((first, last)) => Prefix::new(arena, RawIterator::new(first, last)),
-        None => Prefix::new(arena, RawIterator::empty()),
+        Some((first, last)) => Prefix::new(arena, RawIterator::new(first, last), Some(root)),
+        None => Prefix::new(arena, RawIterator::empty(), None),
     }
 }
 
@@ -94,13 +94,13 @@ pub fn pairs_between<'a, K: AsBytes, V>(
         (bound_map (λ key. key.now) end.entry) k) (leaves s)) }
 {
     match find_range_segment(arena, root, start, end) {
-        Some((first, last)) => Range::new(arena, RawIterator::new(first, last)),
-        None => Range::new(arena, RawIterator::empty()),
+        Some((first, last)) => Range::new(arena, RawIterator::new(first, last), Some(root)),
+        None => Range::new(arena, RawIterator::empty(), None),
     }
 }
 
 /// Copies of the values of a run of so many leaves, in order, for which room is made at once.
-pub fn values_of<K, V: Copy>(
+pub fn values_of<K: AsBytes, V: Copy>(
     alloc: Global,
     arena: &NodeArena<K, V, 4>,
     run: RawIterator,
@@ -108,7 +108,7 @@ pub fn values_of<K, V: Copy>(
 ) -> Result<Vec<V>, AllocError>
     requires { IsCounted arena.now run len }
 {
-    let pairs = Iter::new(arena, run, len);
+    let pairs = Iter::new(arena, run, len, None);
     let mut values = Vec::with_capacity(alloc, pairs.len())?;
     for (_, value) in pairs {
         values.push(*value)?;

@@ -10,7 +10,7 @@ ghost use Rattle.std.specs.Cmp.Rules.{hashing};
 ghost use Rattle.std.proofs.Common.{rules};
 ghost use Rattle.art_bytes.specs.Keys.{AreBytes, HasNoZero, bytes_cmp};
 ghost use Rattle.play_map.specs.Key.{held};
-ghost use Rattle.art_bytes.specs.inner.KeyLaws.{zero_ended_front, AreBytes-zero_ended};
+ghost use Rattle.art_bytes.specs.lemmas.KeyLaws.{zero_ended_front, AreBytes-zero_ended};
 
 use art_bytes::{AsBytes, CloneBytes, NoPrefixesBytes, OrderedBytes, ZeroEnded};
 use std::alloc::{AllocError, Global};

@@ -5,7 +5,7 @@ use Rattle.art_arena.specs.arena.Arena.{Arena, node_at, SameNodes}
 use Rattle.art_arena.specs.arena.Cells.{HoldsOnly}
 use Rattle.art_arena.specs.arena.Shapes.{Shape, leaves, pairs_of}
 use Rattle.art_arena.specs.arena.Stores.{StoresOnly}
-use Rattle.art_operations.specs.Deletions.{IsDeleted}
+use Rattle.art_operations.specs.Deletions.{IsDeletedBeside}
 use Rattle.art_operations.specs.Pairs.{HasPairs}
 use Rattle.art_operations.specs.Runs.{HoldsTreeOf}
 use Rattle.art_operations.specs.declared.delete.result.DeleteResult.{DeleteResult}
@@ -27,7 +27,7 @@ module _ {K V : Type 0} (bytes : K → List ℕ) (P : ℕ) where
       let there : HasPairs bytes P arena (Some top) has.0 = subst (λ r. HasPairs bytes P arena r has.0) is has.1 in
       (there.0, there.1)
 
-  pub of-deleted : (arena : Arena K V) (s : Shape K V) (slot : ℕ) (deleted : DeleteResult K V) → IsDeleted bytes P arena s slot deleted → HasSomePairs arena deleted.new_root
+  pub of-deleted : (arena : Arena K V) (s : Shape K V) (slot : ℕ) (deleted : DeleteResult K V) → IsDeletedBeside bytes P arena [] s slot deleted → HasSomePairs arena deleted.new_root
   of-deleted arena s slot deleted is =
       (pairs_of (is.front ++ is.back), leaves-pairs bytes P arena [] deleted.new_root (is.front ++ is.back) (pairs_of (is.front ++ is.back)) refl is.left)
 

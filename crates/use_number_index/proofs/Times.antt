@@ -10,7 +10,7 @@ use Rattle.std.proofs.lemmas.Bool.{cond-false, cases_lt}
 use Rattle.art_bytes.specs.Keys.{IsBefore}
 use Rattle.art_bytes.specs.Numbers.{big_endian}
 use Rattle.art_bytes.specs.Mappings.{HaveFixedBytes}
-use Rattle.art_bytes.specs.inner.FixedLaws.{unsigned_bytes}
+use Rattle.art_bytes.specs.lemmas.FixedLaws.{unsigned_bytes}
 use Rattle.art_bytes.proofs.Order.{before_cmp}
 use Rattle.art_arena.specs.tree.Changes.{IsIn, put_in_order, is_before}
 use Rattle.art_arena.specs.tree.Order.{AscendsByKey}

@@ -5,7 +5,7 @@ use Rattle.art_nodes.specs.declared.leaf.LeafNode.{LeafNode}
 use Rattle.art_arena.specs.arena.Arena.{Arena, Held, leaf_held, inner_held, as_leaf, held_at, cell_of}
 use Rattle.art_arena.specs.arena.Cells.{UpdatesAt, leaf_name}
 use Rattle.art_arena.specs.arena.Lends.{with_value_in, with_leaf_value}
-use Rattle.art_arena.specs.inner.WrittenNodes.{written_leaf}
+use Rattle.art_arena.specs.lemmas.WrittenNodes.{written_leaf}
 
 module _ {K V : Type 0} where
   -- what is held is a cell

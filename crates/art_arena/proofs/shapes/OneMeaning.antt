@@ -30,7 +30,7 @@ module _ {K V : Type 0} (bytes : K → List ℕ) (P : ℕ) (at : Name → Option
       cancel_front p a b (wholes ∙ ap (λ r. r ++ b) (sym paths))
 
   mutual
-    same_shape : (p q : List ℕ) (s t : Shape K V) → length p ≡ length q → IsUnder bytes p s → IsUnder bytes q t → AreHeld at (cells P s) → AreHeld at (cells P t) → name_of s ≡ name_of t → s ≡ t
+    pub same_shape : (p q : List ℕ) (s t : Shape K V) → length p ≡ length q → IsUnder bytes p s → IsUnder bytes q t → AreHeld at (cells P s) → AreHeld at (cells P t) → name_of s ≡ name_of t → s ≡ t
     same_shape p q (leaf_at m j u) (leaf_at n k v) len a b h i e =
         let same = same_cell at _ _ _ _ e h.0 i.0 in
         let slots : m ≡ n = ap (λ (x : Name). x.slot) e in

@@ -1,7 +1,6 @@
 -- What is read of an inner node, and on a way down from it to a first or last leaf.
-use Rattle.std.proofs.Common.{◌≡◌, ◌≢◌, ℕ, zero, suc, ◌+◌, ◌-◌, ◌*◌, ◌^◌, ◌≤◌, min, List, [], ◌++◌, length, drop, take, IfErr, MatchOption, None, Option, Some, IsSome, Ok, Err, refl, sym, ap, subst, ◌∙◌, arith}
+use Rattle.std.proofs.Common.{◌≡◌, ◌≢◌, ℕ, suc, ◌+◌, ◌-◌, ◌^◌, ◌≤◌, min, List, [], ◌++◌, length, drop, take, IfErr, IfSome, None, Option, Some, IsSome, Ok, Err, sym, ap, subst, ◌∙◌, arith}
 use Rattle.std.specs.declared.result.Result.{Result}
-use Rattle.std.proofs.Math.Nat.{add-mul, mul-le-mul_right}
 use Rattle.art_bytes.specs.Keys.{BeginsWith}
 use Rattle.art_bytes.proofs.Order.{begins_append}
 use Rattle.art_nodes.specs.declared.kind.NodeType.TheVariants.{Leaf}
@@ -16,7 +15,7 @@ use Rattle.art_arena.specs.arena.EndLeaves.{end_slot, end_child}
 use Rattle.art_arena.specs.arena.Linked.{first_slot}
 use Rattle.art_arena.specs.arena.Meaning.{IsSubtree}
 use Rattle.art_arena.specs.arena.Prefixes.{prefix_of}
-use Rattle.art_arena.specs.arena.Reads.{DescentReads, IsReadAt, KeysWithin, ReadsAtLeast, ReadsToFirst, StepReads}
+use Rattle.art_arena.specs.arena.Reads.{IsReadAt, KeysWithin, ReadsAtLeast, ReadsToFirst}
 use Rattle.art_arena.specs.arena.Shapes.{Shape, LeafAt, erase, leaves}
 use Rattle.art_arena.specs.tree.Paths.{path_of}
 use Rattle.art_arena.specs.tree.Trees.{Tree}
@@ -35,40 +34,14 @@ pub err_weaker : {A E : Type 0} (r : Result A E) (B C : E → Type 0) → ((e : 
 err_weaker (Ok a) B C f h = h
 err_weaker (Err e) B C f h = f e h
 
-pub option_weaker : {X : Type 0} (r : Option X) (A B : Type 0) (C D : X → Type 0) → (A → B) → ((x : X) → C x → D x) → MatchOption r A C → MatchOption r B D
-option_weaker None A B C D f h a = f a
-option_weaker (Some x) A B C D f h c = h x c
+pub some_weaker : {X : Type 0} (r : Option X) (B C : X → Type 0) → ((x : X) → B x → C x) → IfSome r B → IfSome r C
+some_weaker None B C f h = tt
+some_weaker (Some x) B C f h = f x h
 
 -- a path has a node
 pub reads_some : {X : Type 0} (t : Tree X) (key : List ℕ) (old new : ℕ) → new ≡ min (old + length (path_of t key)) (2 ^ 64 - 1) → ReadsAtLeast 1 old new
 reads_some (tree.leaf x) key old new reads = omega (arith, reads)
 reads_some (tree.inner prefix children) key old new reads = omega (arith, reads)
-
--- what a step reads, told by how many bytes it has
-pub step_reads : (longest depth prefix next old new : ℕ) → next ≡ depth + prefix + 1 → (prefix ≡ 0 → new ≡ old) → new ≤ old + longest → StepReads longest depth next old new
-step_reads longest depth zero next old new step none few =
-    let same = none refl in
-    let products = ap (λ m. m * (longest + 2)) (step ∙ arrange) ∙ add-mul depth 1 (longest + 2) in
-    omega (arith, same, products)
-  where
-    arrange : depth + 0 + 1 ≡ depth + 1
-    arrange = omega arith
-step_reads longest depth (suc prefix) next old new step none few =
-    let products = ap (λ m. m * (longest + 2)) (step ∙ arrange) ∙ add-mul depth (prefix + 2) (longest + 2) in
-    let twice = ap (λ m. m) (add-mul prefix 2 (longest + 2)) in
-    omega (arith, few, products, twice)
-  where
-    arrange : depth + suc prefix + 1 ≡ depth + (prefix + 2)
-    arrange = omega arith
-
--- a descent, so far, and where it ends
-pub descent_goes_on : (longest depth next start at read new : ℕ) → 2 * at ≤ 2 * start + depth * (longest + 2) → read ≤ at + 1 → StepReads longest depth next read new → 2 * new ≤ 2 * start + next * (longest + 2)
-descent_goes_on longest depth next start at read new so_far one step = omega (arith, so_far, one, step)
-
-pub descent_ends : (longest depth : ℕ) (key : List ℕ) (start at new : ℕ) → 2 * at ≤ 2 * start + depth * (longest + 2) → depth ≤ length key → new ≤ at + (longest + 1) → DescentReads longest key start new
-descent_ends longest depth key start at new so_far within more =
-    let products : depth * (longest + 2) ≤ length key * (longest + 2) = mul-le-mul_right (longest + 2) within in
-    omega (arith, so_far, more, products)
 
 -- the keys of a part are among those of the whole
 pub part_within : {K V : Type 0} (bytes : K → List ℕ) (longest : ℕ) (whole : Shape K V) (ctx : List (Frame K V)) (part : Shape K V) → whole ≡ plug ctx part → KeysWithin bytes longest (leaves whole) → KeysWithin bytes longest (leaves part)

@@ -1,5 +1,5 @@
 -- The walk of a descent from the root to a leaf.
-use Rattle.std.proofs.Common.{◌≡◌, ℕ, suc, ◌+◌, ◌-◌, ◌^◌, ◌<◌, ◌≤◌, min, Bool, List, [], ◌∷◌, ◌++◌, length, get_or, take, drop, Option, Some, None, IsSome, refl, sym, ap, ap₂, subst, ◌∙◌, inl, inr, arith, length-append}
+use Rattle.std.proofs.Common.{◌≡◌, ℕ, suc, ◌+◌, ◌-◌, ◌^◌, ◌<◌, ◌≤◌, min, Bool, List, [], ◌∷◌, ◌++◌, length, get_or, take, drop, Option, Some, None, IsSome, IfSome, refl, sym, ap, ap₂, subst, ◌∙◌, inl, inr, arith, length-append}
 use Rattle.std.proofs.Math.ListN.{drop_of_length-le}
 use Rattle.std.proofs.lemmas.Bool.Decides.{leb_tells}
 use Rattle.std.proofs.lemmas.List.{drop-drop}
@@ -15,13 +15,15 @@ use Rattle.art_arena.specs.arena.Steps.{Step, steps_to}
 use Rattle.art_arena.specs.arena.Places.{IsPlace}
 use Rattle.art_arena.specs.arena.Prefixes.{prefix_of}
 use Rattle.art_arena.specs.arena.Found.{located, located_in}
-use Rattle.art_arena.specs.arena.Descents.{GoesOn, GoesNoFurther, TakesFronts, located_where, LandsAt, HasNoFront, OnWayTo, ReadsPath}
+use Rattle.art_arena.specs.arena.Descents.{GoesOn, GoesNoFurther, GuidesBelow, IsGuide, TakesFronts, located_where, LandsAt, HasNoFront, OnWayTo, ReadsPath}
 use Rattle.art_nodes.specs.declared.leaf.LeafNode.{LeafNode}
 use Rattle.art_arena.specs.arena.Arena.{Arena, Held, leaf_held, inner_held, held_at, cell_of, node_at}
+use Rattle.art_arena.proofs.shapes.Guides.{guide_down}
 use Rattle.art_arena.proofs.shapes.LastSteps.{last_two}
+use Rattle.art_arena.proofs.shapes.Reads.{some_weaker}
 use Rattle.art_arena.proofs.shapes.CellLists.{copies-append}
 use Rattle.art_arena.proofs.shapes.Contexts.{cells-plug}
-use Rattle.art_arena.proofs.shapes.Places.{held-below, leaf-there, inner-there, step-down, at-root}
+use Rattle.art_arena.proofs.shapes.Places.{StepsDown, held-below, leaf-there, inner-there, step-down, at-root}
 use Rattle.art_arena.proofs.shapes.Finding.{NoneFits, dropped, counted_more, located-step, none-located_in, none-avoid, none-short, avoid-missing, path_in-step, path_in-missing, path_in-ended}
 
 -- how many nodes are counted after so many more
@@ -54,9 +56,10 @@ module _ {K V : Type 0} (bytes : K → List ℕ) (key : List ℕ) (whole : Shape
     pub long : length (path_of (erase whole) key) ≡ length ctx + length (path_of (erase part) (drop depth key))
     pub reads : min (count + 1) (2 ^ 64 - 1) ≡ counted start (suc (length ctx))
 
-  -- and where so, the way is a front of the key
-  abbrev pub IsOnWayIf : Type 0 → Name → List Step → ℕ → ℕ → Type 0
-  IsOnWayIf so current last depth count = (on : IsOnWay current last depth count) × (so → BeginsWith (path_to on.ctx) key)
+  -- and where so, the way is a front of the key, and what was found stands for the prefixes that the key meets from there on
+  abbrev pub IsOnWayIf : {X : Type 0} → Type 0 → Option X → (X → List ℕ) → Name → List Step → ℕ → ℕ → Type 0
+  IsOnWayIf so found bytes_of current last depth count =
+      (on : IsOnWay current last depth count) × (so → BeginsWith (path_to on.ctx) key) × (so → IfSome found (λ x. IsGuide key (bytes_of x) (path_to on.ctx) on.part))
 
   module _ (P : ℕ) (at : Name → Option (Cell K V)) (root : Name) (tree : IsSubtree bytes P at root [] whole) where
     pub way-start : IsOnWay root [] 0 start
@@ -72,9 +75,9 @@ module _ {K V : Type 0} (bytes : K → List ℕ) (key : List ℕ) (whole : Shape
       reads = omega arith;
     }
 
-    pub way-starts : (so : Type 0) → IsOnWayIf so root [] 0 start
+    pub way-starts : (so : Type 0) → (on : IsOnWay root [] 0 start) × (so → BeginsWith (path_to on.ctx) key) × (so → Unit {0})
     unfolding way-start
-    way-starts so = (way-start, λ h. (key, refl))
+    way-starts so = (way-start, λ h. (key, refl), λ h. tt)
 
     module _ (current : Name) (last : List Step) (depth count : ℕ) (way : IsOnWay current last depth count) where
       pub part-held : AreHeld at (cells P way.part)
@@ -147,14 +150,17 @@ module _ {K V : Type 0} (bytes : K → List ℕ) (key : List ℕ) (whole : Shape
         part-path : length (path_of (erase way.part) (drop depth key)) ≡ suc (length (path_in (erase_in here.kids) (drop (depth + node.header.prefix_len) key)))
         part-path = ap (λ s. length (path_of (erase s) (drop depth key))) here.is ∙ ap (λ k. suc (length (path_in (erase_in here.kids) k))) behind
 
+        -- the child to which it goes on
+        way-down : (b : ℕ) (child : Name) (next : ℕ) → GoesOn key depth node b child next → StepsDown bytes whole way.ctx current here.prefix here.kids b child
+        way-down b child next goes = step-down bytes whole way.ctx current here.prefix here.kids b child here.place (ap (λ n. child_at n.children b) (sym here.node_is) ∙ goes.child_is)
+
         -- it goes on to a child
         pub way-step : (b : ℕ) (child : Name) (next : ℕ) → GoesOn key depth node b child next
             → IsOnWay child (take 2 (record { node = current; byte = b } ∷ last)) next (min (count + 1) (2 ^ 64 - 1))
         way-step b child next goes =
             let h = here in
             let at_b : get_or key (length path) 0 ≡ b = ap (λ i. get_or key i 0) path-long ∙ goes.byte_is in
-            let found : child_at (children_at h.kids) b ≡ Some child = ap (λ n. child_at n.children b) (sym h.node_is) ∙ goes.child_is in
-            let sd = step-down bytes whole way.ctx current h.prefix h.kids b child h.place found in
+            let sd = way-down b child next goes in
             let rest : drop (depth + node.header.prefix_len) key ≡ b ∷ drop next key =
             dropped (depth + node.header.prefix_len) key (omega (arith, goes.within, goes.next_is)) ∙ ap₂ (λ c n. c ∷ drop n key) goes.byte_is (sym goes.next_is) in
             let inner_path : path_in (erase_in h.kids) (drop (depth + node.header.prefix_len) key) ≡ path_of (erase sd.here) (drop next key) =
@@ -174,12 +180,31 @@ module _ {K V : Type 0} (bytes : K → List ℕ) (key : List ℕ) (whole : Shape
               reads = ap (λ c. min (c + 1) (2 ^ 64 - 1)) way.reads ∙ counted_more start (suc (length way.ctx)) (2 ^ 64 - 1);
             }
 
-        -- by its bytes too
-        pub way-steps : (so : Type 0) (b : ℕ) (child : Name) (next : ℕ) → GoesOn key depth node b child next → (so → BeginsWith ((path_to way.ctx ++ prefix_of way.part) ++ b ∷ []) key)
-            → IsOnWayIf so child (take 2 (record { node = current; byte = b } ∷ last)) next (min (count + 1) (2 ^ 64 - 1))
+        -- and what was found stands for the prefixes that the key meets from there on
+        way-guides : (b : ℕ) (child : Name) (next : ℕ) (goes : GoesOn key depth node b child next) → BeginsWith ((path_to way.ctx ++ here.prefix) ++ b ∷ []) key → (guide : List ℕ)
+            → IsGuide key guide (path_to way.ctx) way.part → IsGuide key guide (path_to (way-step b child next goes).ctx) (way-step b child next goes).part
         unfolding way-step
-        way-steps so b child next goes begins =
-            (way-step b child next goes, λ h. subst (λ p. BeginsWith ((path_to way.ctx ++ p) ++ b ∷ []) key) (ap prefix_of here.is) (begins h))
+        way-guides b child next goes begins guide h =
+            let sd = way-down b child next goes in
+            let below = (subst (IsGuide key guide (path_to way.ctx)) here.is h).1 in
+            guide_down key guide (path_to way.ctx ++ here.prefix) sd.before b sd.here sd.after (subst (GuidesBelow key guide (path_to way.ctx ++ here.prefix)) sd.kids_are below) begins
+
+        passes : (b : ℕ) → BeginsWith ((path_to way.ctx ++ prefix_of way.part) ++ b ∷ []) key → BeginsWith ((path_to way.ctx ++ here.prefix) ++ b ∷ []) key
+        passes b begins = subst (λ p. BeginsWith ((path_to way.ctx ++ p) ++ b ∷ []) key) (ap prefix_of here.is) begins
+
+        way-front : (b : ℕ) (child : Name) (next : ℕ) (goes : GoesOn key depth node b child next) → BeginsWith ((path_to way.ctx ++ here.prefix) ++ b ∷ []) key → BeginsWith (path_to (way-step b child next goes).ctx) key
+        unfolding way-step
+        way-front b child next goes begins = begins
+
+        -- by its bytes too
+        pub way-steps : {X : Type 0} (so : Type 0) (found : Option X) (bytes_of : X → List ℕ) (b : ℕ) (child : Name) (next : ℕ) → GoesOn key depth node b child next
+            → (so → BeginsWith ((path_to way.ctx ++ prefix_of way.part) ++ b ∷ []) key) → (so → IfSome found (λ x. IsGuide key (bytes_of x) (path_to way.ctx) way.part))
+            → IsOnWayIf so found bytes_of child (take 2 (record { node = current; byte = b } ∷ last)) next (min (count + 1) (2 ^ 64 - 1))
+        way-steps so found bytes_of b child next goes begins guided = (
+          way-step b child next goes,
+          λ h. way-front b child next goes (passes b (begins h)),
+          λ h. some_weaker found _ _ (λ x. way-guides b child next goes (passes b (begins h)) (bytes_of x)) (guided h),
+        )
 
         -- where no leaf below can be meant, and the path has no further node, it ends
         pub record HasEnded (total : ℕ) : Type 0 where

@@ -9,7 +9,8 @@ use Rattle.art_nodes.specs.declared.leaf.LeafNode.{LeafNode}
 use Rattle.art_arena.specs.tree.Changes.{IsIn}
 use Rattle.art_arena.specs.tree.Paths.{path_of}
 use Rattle.art_arena.specs.arena.Cells.{Cell}
-use Rattle.art_arena.specs.arena.Shapes.{Shape, Branches, leaf_at, inner_at, children_at, erase, LeafAt}
+use Rattle.art_arena.specs.arena.Shapes.{Shape, Branches, leaf_at, inner_at, no_branch, branch, children_at, erase}
+use Rattle.art_arena.specs.arena.Shapes.{LeafAt}
 use Rattle.art_arena.specs.arena.Linked.{first_slot}
 use Rattle.art_arena.specs.arena.Context.{Frame, path_to}
 use Rattle.art_arena.specs.arena.Meaning.{IsSubtree}
@@ -35,6 +36,19 @@ GoesNoFurther key depth node =
 -- so many nodes were read as the key's path has; the greatest count stays
 abbrev pub ReadsPath : {K V : Type 0} → List ℕ → Shape K V → ℕ → ℕ → Type 0
 ReadsPath key s old new = new ≡ min (old + length (path_of (erase s) key)) (2 ^ 64 - 1)
+
+-- A guide stands for prefixes that aren't wholly stored. Wherever the key leads from here by all its bytes, the guide
+-- begins with the path there, and with the whole prefix of the node there behind it.
+module _ {K V : Type 0} (key guide : List ℕ) where
+  abbrev mutual
+    pub IsGuide : List ℕ → Shape K V → Type 0
+    IsGuide path (leaf_at slot k v) = BeginsWith path guide
+    IsGuide path (inner_at n prefix kids) = BeginsWith (path ++ prefix) guide × GuidesBelow (path ++ prefix) kids
+
+    pub GuidesBelow : List ℕ → Branches K V → Type 0
+    GuidesBelow path no_branch = Unit {0}
+    GuidesBelow path (branch byte s rest) =
+        (BeginsWith (path ++ byte ∷ []) key → IsGuide (path ++ byte ∷ []) s) × GuidesBelow path rest
 
 -- only fronts of the key pass the test
 abbrev pub TakesFronts : List ℕ → (List ℕ → Bool) → Type 0

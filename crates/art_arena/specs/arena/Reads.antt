@@ -1,5 +1,5 @@
 -- How many nodes a walk reads, told by the keys.
-use Rattle.std.specs.Prelude.{◌≡◌, ℕ, ◌+◌, ◌-◌, ◌*◌, ◌^◌, ◌≤◌, min, List, length, drop, None, Some}
+use Rattle.std.specs.Prelude.{◌≡◌, ℕ, ◌+◌, ◌-◌, ◌^◌, ◌≤◌, min, List, length, drop, Option, None, Some}
 use Rattle.std.specs.List.{AllByRecursion}
 use Rattle.art_nodes.specs.Name.{Name}
 use Rattle.art_nodes.specs.InnerNode.{InnerNode}
@@ -19,14 +19,15 @@ ReadsAtLeast n old new = min (old + n) (2 ^ 64 - 1) ≤ new
 abbrev pub ReadsBehind : {K V : Type 0} → List ℕ → Shape K V → ℕ → ℕ → Type 0
 ReadsBehind key s old new = new ≡ min (old + (length (path_of (erase s) key) - 1)) (2 ^ 64 - 1)
 
--- A step of a descent, which leads from one depth to another, reads this many nodes at most, and with the node itself
--- half as many for each byte as the longest key and two have.
-abbrev pub StepReads : ℕ → ℕ → ℕ → ℕ → ℕ → Type 0
-StepReads longest depth next old new = 2 * (new + 1) + depth * (longest + 2) ≤ 2 * old + next * (longest + 2)
+-- A descent that ends behind so many bytes of its key: a node for each of them, the node there, and one way down to a
+-- leaf.
+abbrev pub DescentReads : ℕ → ℕ → ℕ → ℕ → Type 0
+DescentReads longest depth old new = new ≤ old + (depth + (longest + 1))
 
--- so does a descent for each byte of the key, and at its end the node there and a way down from it
-abbrev pub DescentReads : ℕ → List ℕ → ℕ → ℕ → Type 0
-DescentReads longest key old new = 2 * new ≤ 2 * old + (length key * (longest + 2) + 2 * (longest + 1))
+-- how much a descent may yet read for prefixes that aren't wholly stored: one way down to a leaf, until it has a guide
+abbrev pub unguided : {X : Type 0} → Option X → ℕ → ℕ
+unguided None longest = longest
+unguided (Some guide) longest = 0
 
 module _ {K V : Type 0} (bytes : K → List ℕ) where
   -- no leaf's key has more bytes than this

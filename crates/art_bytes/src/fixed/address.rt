@@ -2,7 +2,7 @@
 ghost use Rattle.std.specs.Prelude.{◌≡◌, length};
 ghost use Rattle.std.specs.Net.Addr.{ipv4_octets, ipv6_octets};
 ghost use Rattle.art_bytes.specs.Keys.{AreBytes};
-ghost use Rattle.art_bytes.specs.inner.AddressLaws.{ipv4_bytes, ipv6_bytes};
+ghost use Rattle.art_bytes.specs.lemmas.AddressLaws.{ipv4_bytes, ipv6_bytes};
 
 use super::{FixedBytes, array_of};
 use std::net::{Ipv4Addr, Ipv6Addr};

@@ -2,10 +2,10 @@
 ghost use Rattle.std.specs.Prelude.{◌<◌, ◌^◌, FitsSigned};
 ghost use Rattle.std.specs.Ordering.{int_cmp};
 ghost use Rattle.std.proofs.Common.{lit<};
-ghost use Rattle.art_bytes.specs.inner.FixedLaws.{stored_bytes, unsigned_bytes};
+ghost use Rattle.art_bytes.specs.lemmas.FixedLaws.{stored_bytes, unsigned_bytes};
 ghost use Rattle.std.specs.Int.{w8, w16, w32, w64, w128};
 ghost use Rattle.art_bytes.specs.Numbers.{big_endian, flipped};
-ghost use Rattle.art_bytes.specs.inner.FlipLaws.{flipped-injective, int_cmp-flipped};
+ghost use Rattle.art_bytes.specs.lemmas.FlipLaws.{flipped-injective, int_cmp-flipped};
 
 use super::stored::read_stored;
 use super::{FixedBytes, StoredAsNumber};

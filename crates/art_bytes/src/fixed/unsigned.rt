@@ -1,10 +1,10 @@
 //! The unsigned numbers.
-#![tactic(auto, using(crate::specs::inner::NumberLaws::be_bytes_16))]
+#![tactic(auto, using(crate::specs::lemmas::NumberLaws::be_bytes_16))]
 
 ghost use Rattle.std.specs.Prelude.{◌<◌, ◌^◌};
 ghost use Rattle.art_bytes.specs.Numbers.{big_endian};
 ghost use Rattle.std.proofs.Common.{lit<};
-ghost use Rattle.art_bytes.specs.inner.FixedLaws.{unsigned_bytes};
+ghost use Rattle.art_bytes.specs.lemmas.FixedLaws.{unsigned_bytes};
 
 use super::{FixedBytes, array_of};
 use crate::mapping::BytesMapping;

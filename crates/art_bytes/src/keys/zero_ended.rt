@@ -8,7 +8,7 @@ ghost use Rattle.std.specs.Cmp.Lexicographic.{texts_ties};
 ghost use Rattle.std.specs.Hash as fed;
 ghost use Rattle.std.specs.List.{each_same};
 ghost use Rattle.art_bytes.specs.Keys.{AreBytes, HasNoZero, bytes_cmp};
-ghost use Rattle.art_bytes.specs.inner.KeyLaws.{zero_ended_front, AreBytes-zero_ended};
+ghost use Rattle.art_bytes.specs.lemmas.KeyLaws.{zero_ended_front, AreBytes-zero_ended};
 
 use crate::as_bytes::{AsBytes, CloneBytes, NoPrefixesBytes, OrderedBytes, known_bytes};
 use std::alloc::AllocError;

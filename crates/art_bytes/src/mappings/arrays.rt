@@ -3,9 +3,9 @@ ghost use Rattle.std.specs.Prelude.{◌≡◌, ◌*◌, ◌+◌, ◌≤◌, List
 ghost use Rattle.std.specs.List.{flat_map};
 ghost use Rattle.std.proofs.Common.{◌∙◌, sym, subst, ap};
 ghost use Rattle.art_bytes.specs.Keys.{AreBytes};
-ghost use Rattle.art_bytes.specs.inner.KeyLaws.{BeginsWith-same_length};
+ghost use Rattle.art_bytes.specs.lemmas.KeyLaws.{BeginsWith-same_length};
 ghost use Rattle.art_bytes.specs.Lists.{HaveListBytes, part_at};
-ghost use Rattle.art_bytes.specs.inner.ConcatLaws.{AreBytes-list, one_list, bytes_cmp-list, length-list};
+ghost use Rattle.art_bytes.specs.lemmas.ConcatLaws.{AreBytes-list, one_list, bytes_cmp-list, length-list};
 
 use super::lists::write_list;
 use crate::fixed::{FixedBytes, Signed, Unsigned};

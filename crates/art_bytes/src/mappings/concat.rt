@@ -2,9 +2,9 @@
 ghost use Rattle.std.specs.Prelude.{◌≡◌, ◌++◌, ◌+◌, ◌<◌, ◌^◌, ℕ, List, OnOk, MatchOption};
 ghost use Rattle.std.proofs.Common.{◌∙◌, sym, subst, refl, ap};
 ghost use Rattle.art_bytes.specs.Keys.{AreBytes};
-ghost use Rattle.art_bytes.specs.inner.KeyLaws.{BeginsWith-same_length};
+ghost use Rattle.art_bytes.specs.lemmas.KeyLaws.{BeginsWith-same_length};
 ghost use Rattle.art_bytes.specs.Mappings.{HaveFixedBytes};
-ghost use Rattle.art_bytes.specs.inner.ConcatLaws.{pair_bytes, regrouped_bytes};
+ghost use Rattle.art_bytes.specs.lemmas.ConcatLaws.{pair_bytes, regrouped_bytes};
 
 use crate::as_bytes::AsBytes;
 use crate::mapping::{BytesMapping, NoPrefixesMapping, OrderedMapping};

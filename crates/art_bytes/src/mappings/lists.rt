@@ -4,7 +4,7 @@ ghost use Rattle.std.specs.List.{AllByRecursion, flat_map};
 ghost use Rattle.std.proofs.Common.{◌∙◌, sym, subst};
 ghost use Rattle.art_bytes.specs.Keys.{AreBytes};
 ghost use Rattle.art_bytes.specs.Lists.{HaveListBytes};
-ghost use Rattle.art_bytes.specs.inner.ConcatLaws.{AreBytes-list, one_list, bytes_cmp-list};
+ghost use Rattle.art_bytes.specs.lemmas.ConcatLaws.{AreBytes-list, one_list, bytes_cmp-list};
 
 use crate::as_bytes::AsBytes;
 use crate::fixed::{FixedBytes, Signed, Unsigned};

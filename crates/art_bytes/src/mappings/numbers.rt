@@ -3,7 +3,7 @@ ghost use Rattle.std.specs.Prelude.{◌≡◌, ◌++◌, IfOk, OnErr, OnOk, Matc
 ghost use Rattle.std.proofs.Common.{◌∙◌, ap, refl, subst, sym};
 ghost use Rattle.art_bytes.specs.Keys.{AreBytes};
 ghost use Rattle.art_bytes.specs.Mappings.{HaveFixedBytes};
-ghost use Rattle.art_bytes.specs.inner.KeyLaws.{BeginsWith-same_length};
+ghost use Rattle.art_bytes.specs.lemmas.KeyLaws.{BeginsWith-same_length};
 
 use super::concat::Parts;
 use crate::as_bytes::AsBytes;

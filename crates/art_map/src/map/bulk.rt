@@ -7,6 +7,7 @@ ghost use Rattle.art_map.specs.Bulk.{ExtendsWith, IsMadeOf, IsOfList};
 ghost use Rattle.art_map.specs.LeafNames.{KeepsAllLeaves};
 
 use crate::map::TreeMap;
+use crate::map::builder::TreeMapBuilder;
 use crate::map::room::nodes_fit;
 use art_bytes::NoPrefixesBytes;
 use art_operations::InsertRefused;
@@ -69,7 +70,7 @@ impl<K: NoPrefixesBytes + Drop, V: Drop, const PREFIX_LEN: usize> TreeMap<K, V, 
     }
 
     /// Makes a map of the pairs that an iterator gives. Of pairs whose keys have the same bytes the last counts. The
-    /// iterator has to end.
+    /// iterator has to end. As long as the keys ascend, no place is looked for: see `TreeMapBuilder`.
     ///
     /// Fails if there is no memory for a pair, which the error returns. All else is dropped.
     ///
@@ -85,19 +86,22 @@ impl<K: NoPrefixesBytes + Drop, V: Drop, const PREFIX_LEN: usize> TreeMap<K, V, 
             → U.IntoIter.can_next it × IsFinite (U.IntoIter.remaining it) }
         ensures { IsMadeOf K.bytes (λ pair. pair) U.into_iter_gives U.IntoIter.next_gives iter result }
     {
-        let mut pairs = iter.into_iter();
         if !nodes_fit::<PREFIX_LEN>() {
+            let mut pairs = iter.into_iter();
             let Some((key, value)) = pairs.next() else {
                 return Ok(TreeMap::with_prefix_len(alloc));
             };
             return Err(InsertRefused { key, value });
         }
-        let mut map = TreeMap::with_prefix_len(alloc);
-        map.extend(pairs)?;
-        Ok(map)
+        let mut builder = TreeMapBuilder::new(alloc);
+        for (key, value) in iter {
+            builder.put(key, value)?;
+        }
+        builder.finish()
     }
 
-    /// Makes a map of the pairs of a vector. Of pairs whose keys have the same bytes the last counts.
+    /// Makes a map of the pairs of a vector, as `from_iter` does. Of pairs whose keys have the same bytes the last
+    /// counts.
     ///
     /// Fails if there is no memory for a pair, which the error returns. All else is dropped.
     ///

@@ -1,13 +1,12 @@
 //! Insertions: of a pair whose key overlaps no other, in place of an equal key, or in place of all that overlap.
-ghost use Rattle.std.specs.Prelude.{◌≡◌, ℕ, List, length, IfOk, IfErr, IsOk, OnErr, OnOk};
+ghost use Rattle.std.specs.Prelude.{◌≡◌, ℕ, List, [], length, IfOk, IfErr, IsOk, OnErr, OnOk};
 ghost use Rattle.std.specs.List.{AllByRecursion};
-ghost use Rattle.std.specs.Map.{lookup, lookup_entry};
 ghost use Rattle.art_arena.specs.arena.Arena.{HasRoom, UsesRoom};
 ghost use Rattle.art_arena.specs.arena.Shapes.{key_of};
 ghost use Rattle.art_operations.specs.Insertions.{HandsPairBack, IsForConflict, IsPairRefused};
 ghost use Rattle.art_operations.specs.KeyedLists.{HasKey, IsBlocked, overlapping};
 ghost use Rattle.art_operations.specs.Pairs.{CanPut, IsPlaceFor, TellsConflict, with_pair_put, with_pair_over};
-ghost use Rattle.art_map.specs.Contents.{entry_in, option_value, IsUntouched};
+ghost use Rattle.art_map.specs.Contents.{entry_in, found_pair, found_value, option_value, IsUntouched};
 ghost use Rattle.art_map.specs.Found.{HasPairAt};
 ghost use Rattle.art_map.specs.LeafNames.{KeepsAllLeaves, KeepsLeaves};
 
@@ -62,7 +61,7 @@ impl<K: AsBytes, V, const PREFIX_LEN: usize> TreeMap<K, V, PREFIX_LEN> {
     /// ```
     #[inline(always)]
     pub fn place<Q: AsBytes>(&self, key: &Q) -> Result<Option<InsertPoint>, PrefixConflict>
-        ensures placed { IsPlaced K.bytes PREFIX_LEN self.now.nodes (Q.bytes key.now) self.now.pairs result }
+        ensures placed { IsPlaced K.bytes PREFIX_LEN self.now.nodes (Q.bytes key.now) result self.now.pairs [] }
         ensures place { IfOk result (IsPlaceFor K.bytes PREFIX_LEN self.now.nodes self.now.root (Q.bytes key.now)) }
         ensures part { IfErr result
             (TellsConflict K.bytes PREFIX_LEN self.now.nodes self.now.root (Q.bytes key.now)) }
@@ -109,8 +108,8 @@ impl<K: AsBytes, V, const PREFIX_LEN: usize> TreeMap<K, V, PREFIX_LEN> {
     ) -> Result<Option<V>, InsertRefused<K, V>>
     where
         K: Drop,
-        requires { CanPut K.bytes PREFIX_LEN self.old.nodes place (K.bytes key) self.old.pairs }
-        ensures value { IfOk result (λ old. old ≡ lookup (has_bytes K.bytes (K.bytes key)) self.old.pairs) }
+        requires { CanPut K.bytes PREFIX_LEN self.old.nodes place (K.bytes key) self.old.pairs [] }
+        ensures value { IfOk result (λ old. old ≡ found_value K.bytes (K.bytes key) self.old.pairs) }
         ensures pairs { OnOk result (self.new.pairs ≡ with_pair_put K.bytes key value self.old.pairs) }
         ensures stored { HasKey (key_of K.bytes) (K.bytes key) self.old.pairs → IsOk result }
         ensures names { OnOk result (KeepsAllLeaves K.bytes self.old self.new) }
@@ -134,9 +133,9 @@ impl<K: AsBytes, V, const PREFIX_LEN: usize> TreeMap<K, V, PREFIX_LEN> {
     ) -> Result<(LeafPtr, Option<V>), InsertRefused<K, V>>
     where
         K: Drop,
-        requires { CanPut K.bytes PREFIX_LEN self.old.nodes place (K.bytes key) self.old.pairs }
+        requires { CanPut K.bytes PREFIX_LEN self.old.nodes place (K.bytes key) self.old.pairs [] }
         ensures leaf { IfOk result (λ put. HasPairAt self.new put.0 (key, value)) }
-        ensures value { IfOk result (λ put. put.1 ≡ lookup (has_bytes K.bytes (K.bytes key)) self.old.pairs) }
+        ensures value { IfOk result (λ put. put.1 ≡ found_value K.bytes (K.bytes key) self.old.pairs) }
         ensures pairs { OnOk result (self.new.pairs ≡ with_pair_put K.bytes key value self.old.pairs) }
         ensures stored { HasKey (key_of K.bytes) (K.bytes key) self.old.pairs → IsOk result }
         ensures names { OnOk result (KeepsAllLeaves K.bytes self.old self.new) }
@@ -184,7 +183,7 @@ impl<K: AsBytes, V, const PREFIX_LEN: usize> TreeMap<K, V, PREFIX_LEN> {
     // unchanged.
     #[inline(always)]
     pub(super) fn put(&mut self, key: K, value: V) -> Result<Option<(K, V)>, PairRefused<K, V>>
-        ensures old { IfOk result (λ old. old ≡ lookup_entry (has_bytes K.bytes (K.bytes key)) self.old.pairs) }
+        ensures old { IfOk result (λ old. old ≡ found_pair K.bytes (K.bytes key) self.old.pairs) }
         ensures pairs { OnOk result (self.new.pairs ≡ with_pair_put K.bytes key value self.old.pairs) }
         ensures free { OnOk result (IsBlocked (key_of K.bytes) (K.bytes key) self.old.pairs → ⊥) }
         ensures stored { HasKey (key_of K.bytes) (K.bytes key) self.old.pairs → IsOk result }
@@ -226,7 +225,7 @@ impl<K: AsBytes, V, const PREFIX_LEN: usize> TreeMap<K, V, PREFIX_LEN> {
     pub fn try_insert(&mut self, key: K, value: V) -> Result<Option<V>, TryInsertError<K, V>>
     where
         K: Drop,
-        ensures value { IfOk result (λ old. old ≡ lookup (has_bytes K.bytes (K.bytes key)) self.old.pairs) }
+        ensures value { IfOk result (λ old. old ≡ found_value K.bytes (K.bytes key) self.old.pairs) }
         ensures pairs { OnOk result (self.new.pairs ≡ with_pair_put K.bytes key value self.old.pairs) }
         ensures free { OnOk result (IsBlocked (key_of K.bytes) (K.bytes key) self.old.pairs → ⊥) }
         ensures stored { HasKey (key_of K.bytes) (K.bytes key) self.old.pairs → IsOk result }
@@ -307,11 +306,9 @@ impl<K: AsBytes, V, const PREFIX_LEN: usize> TreeMap<K, V, PREFIX_LEN> {
 }
 
 impl<K: NoPrefixesBytes, V, const PREFIX_LEN: usize> TreeMap<K, V, PREFIX_LEN> {
-    ghost use Rattle.art_map.specs.Contents.{has_bytes};
-
     // Where a key goes: no key of its type is a prefix of another.
     pub(super) fn place_free(&self, key: &K) -> Option<InsertPoint>
-        ensures placed { CanPut K.bytes PREFIX_LEN self.now.nodes result (K.bytes key.now) self.now.pairs }
+        ensures placed { CanPut K.bytes PREFIX_LEN self.now.nodes result (K.bytes key.now) self.now.pairs [] }
         ensures place { IsPlaceFor K.bytes PREFIX_LEN self.now.nodes self.now.root (K.bytes key.now) result }
     {
         match self.place(key) {
@@ -334,7 +331,7 @@ impl<K: NoPrefixesBytes, V, const PREFIX_LEN: usize> TreeMap<K, V, PREFIX_LEN> {
     pub fn insert(&mut self, key: K, value: V) -> Result<Option<V>, InsertRefused<K, V>>
     where
         K: Drop,
-        ensures value { IfOk result (λ old. old ≡ lookup (has_bytes K.bytes (K.bytes key)) self.old.pairs) }
+        ensures value { IfOk result (λ old. old ≡ found_value K.bytes (K.bytes key) self.old.pairs) }
         ensures pairs { OnOk result (self.new.pairs ≡ with_pair_put K.bytes key value self.old.pairs) }
         ensures stored { HasKey (key_of K.bytes) (K.bytes key) self.old.pairs → IsOk result }
         ensures names { OnOk result (KeepsAllLeaves K.bytes self.old self.new) }
@@ -362,7 +359,7 @@ impl<K: NoPrefixesBytes, V, const PREFIX_LEN: usize> TreeMap<K, V, PREFIX_LEN> {
     /// ```
     #[inline(always)]
     pub fn replace_entry(&mut self, key: K, value: V) -> Result<Option<(K, V)>, InsertRefused<K, V>>
-        ensures old { IfOk result (λ old. old ≡ lookup_entry (has_bytes K.bytes (K.bytes key)) self.old.pairs) }
+        ensures old { IfOk result (λ old. old ≡ found_pair K.bytes (K.bytes key) self.old.pairs) }
         ensures pairs { OnOk result (self.new.pairs ≡ with_pair_put K.bytes key value self.old.pairs) }
         ensures stored { HasKey (key_of K.bytes) (K.bytes key) self.old.pairs → IsOk result }
         ensures names { OnOk result (KeepsAllLeaves K.bytes self.old self.new) }

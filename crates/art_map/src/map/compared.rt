@@ -17,7 +17,7 @@ use std::fmt;
 use std::hash::{Hash, Hasher};
 
 // Whether two iterators give the same pairs.
-fn same<K: PartialEq, V: PartialEq, const PREFIX_LEN: usize>(
+fn same<K: AsBytes + PartialEq, V: PartialEq, const PREFIX_LEN: usize>(
     left: Iter<'_, K, V, PREFIX_LEN>,
     right: Iter<'_, K, V, PREFIX_LEN>,
 ) -> bool
@@ -46,7 +46,7 @@ fn same_pair<K: PartialEq, V: PartialEq>(a: &K, x: &V, b: &K, y: &V) -> bool
 
 // The order of the pairs that two iterators give: the first that differ decide. One that ends before the other comes
 // before it.
-fn partial_order<K: PartialOrd, V: PartialOrd, const PREFIX_LEN: usize>(
+fn partial_order<K: AsBytes + PartialOrd, V: PartialOrd, const PREFIX_LEN: usize>(
     left: Iter<'_, K, V, PREFIX_LEN>,
     right: Iter<'_, K, V, PREFIX_LEN>,
 ) -> Option<Ordering>
@@ -89,7 +89,7 @@ fn partial_pair<K: PartialOrd, V: PartialOrd>(a: &K, x: &V, b: &K, y: &V) -> Opt
 }
 
 // The order of the pairs of two iterators, as in `partial_order`, where the order of keys and values is total.
-fn order<K: Ord, V: Ord, const PREFIX_LEN: usize>(
+fn order<K: AsBytes + Ord, V: Ord, const PREFIX_LEN: usize>(
     left: Iter<'_, K, V, PREFIX_LEN>,
     right: Iter<'_, K, V, PREFIX_LEN>,
 ) -> Ordering
@@ -125,7 +125,7 @@ fn total_pair<K: Ord, V: Ord>(a: &K, x: &V, b: &K, y: &V) -> Ordering
 }
 
 // Feeds a hasher with the number of pairs, and then with each pair.
-fn feed<K: Hash, V: Hash, H: Hasher, const PREFIX_LEN: usize>(
+fn feed<K: AsBytes + Hash, V: Hash, H: Hasher, const PREFIX_LEN: usize>(
     pairs: Iter<'_, K, V, PREFIX_LEN>,
     state: &mut H,
 )

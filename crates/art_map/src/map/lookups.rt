@@ -16,7 +16,8 @@ use art_operations::{
 use std::ops::Index;
 
 impl<K: AsBytes, V, const PREFIX_LEN: usize> TreeMap<K, V, PREFIX_LEN> {
-    ghost use Rattle.art_map.specs.Contents.{first_item, has_bytes, HasLeafAt, is_front, last_item};
+    ghost use Rattle.art_map.specs.Contents.{first_item, found_pair, found_value, has_bytes, HasLeafAt};
+    ghost use Rattle.art_map.specs.Contents.{is_front, last_item};
     ghost use Rattle.art_map.specs.Entries.{rests_if_none, IsPairOf};
     ghost use Rattle.art_map.specs.Found.{IsAt, IsFound, HasPairAt};
     ghost use Rattle.art_map.specs.Lends.{lends_get, lends_value_at, with_value_at};
@@ -103,7 +104,7 @@ impl<K: AsBytes, V, const PREFIX_LEN: usize> TreeMap<K, V, PREFIX_LEN> {
     /// assert_eq!(rt; map.get(b"ac"), None);
     /// ```
     pub fn get<Q: AsBytes>(&self, key: &Q) -> Option<&V>
-        ensures { option_copied result ≡ lookup (has_bytes K.bytes (Q.bytes key.now)) self.now.pairs }
+        ensures { option_copied result ≡ found_value K.bytes (Q.bytes key.now) self.now.pairs }
     {
         match self.get_key_value(key) {
             Some((_key, value)) => Some(value),
@@ -119,7 +120,7 @@ impl<K: AsBytes, V, const PREFIX_LEN: usize> TreeMap<K, V, PREFIX_LEN> {
     /// assert_eq!(rt; map.get_key_value(&StrKey("ab")), Some((b"ab", &1)));
     /// ```
     pub fn get_key_value<Q: AsBytes>(&self, key: &Q) -> Option<(&K, &V)>
-        ensures { option_map deref_pair result ≡ lookup_entry (has_bytes K.bytes (Q.bytes key.now)) self.now.pairs }
+        ensures { option_map deref_pair result ≡ found_pair K.bytes (Q.bytes key.now) self.now.pairs }
     {
         match self.find(key.as_bytes()) {
             Some(leaf) => Some(self.pair_at(leaf)),
@@ -136,7 +137,7 @@ impl<K: AsBytes, V, const PREFIX_LEN: usize> TreeMap<K, V, PREFIX_LEN> {
     /// assert!(rt; !map.contains_key(b"a"));
     /// ```
     pub fn contains_key<Q: AsBytes>(&self, key: &Q) -> bool
-        ensures { result ≡ is_some (lookup (has_bytes K.bytes (Q.bytes key.now)) self.now.pairs) }
+        ensures { result ≡ is_some (found_value K.bytes (Q.bytes key.now) self.now.pairs) }
     {
         self.get(key).is_some()
     }
@@ -154,7 +155,7 @@ impl<K: AsBytes, V, const PREFIX_LEN: usize> TreeMap<K, V, PREFIX_LEN> {
     pub fn get_mut<Q: AsBytes>(&mut self, key: &Q) -> Option<&mut V>
         ensures* writes_back { sem 𝓛 (lends_get K.row V.row PREFIX_LEN.row K.AsBytes self.entry
             (has_bytes K.bytes (Q.bytes key.now)) result) }
-        ensures value { option_copied_mut result ≡ lookup (has_bytes K.bytes (Q.bytes key.now)) self.old.pairs }
+        ensures value { option_copied_mut result ≡ found_value K.bytes (Q.bytes key.now) self.old.pairs }
     {
         match self.find(key.as_bytes()) {
             Some(leaf) => {
@@ -290,13 +291,13 @@ impl<K: AsBytes, V, const PREFIX_LEN: usize> TreeMap<K, V, PREFIX_LEN> {
 /// assert_eq!(rt; map[b"ab"], 1);
 /// ```
 impl<K: AsBytes, V, Q: AsBytes, const PREFIX_LEN: usize> Index<&Q> for TreeMap<K, V, PREFIX_LEN> {
-    ghost use Rattle.art_map.specs.Contents.{has_bytes};
+    ghost use Rattle.art_map.specs.Contents.{found_value};
 
     type Output = V;
 
-    ghost can_index = { λ m q. IsSome (lookup (has_bytes K.bytes (Q.bytes q.now)) m.pairs) };
+    ghost can_index = { λ m q. IsSome (found_value K.bytes (Q.bytes q.now) m.pairs) };
 
-    ghost index_gives = { λ m q v. lookup (has_bytes K.bytes (Q.bytes q.now)) m.pairs ≡ Some v };
+    ghost index_gives = { λ m q v. found_value K.bytes (Q.bytes q.now) m.pairs ≡ Some v };
 
     fn index(&self, key: &Q) -> &V {
         self.get(key).unwrap()

@@ -95,7 +95,7 @@ impl<K: AsBytes, V, const PREFIX_LEN: usize> TreeMap<K, V, PREFIX_LEN> {
         ensures ordered { AscendsByKey (key_of K.bytes) self.now.pairs }
     {
         let walk = self.walk_between(start, end);
-        Range::new(&self.arena, walk)
+        Range::new(&self.arena, walk, self.root)
     }
 
     /// Returns an iterator over the pairs whose keys begin with a prefix's bytes. It ascends, and gives pairs from
@@ -111,6 +111,6 @@ impl<K: AsBytes, V, const PREFIX_LEN: usize> TreeMap<K, V, PREFIX_LEN> {
         ensures ordered { AscendsByKey (key_of K.bytes) self.now.pairs }
     {
         let walk = self.walk_behind(prefix.as_bytes());
-        Prefix::new(&self.arena, walk)
+        Prefix::new(&self.arena, walk, self.root)
     }
 }

@@ -1,6 +1,5 @@
 //! Removals: of a key, of the first pair, and of the last.
 ghost use Rattle.std.specs.Prelude.{◌≡◌, List, ◌∷◌, ◌++◌, [], IfNone, IfOk, IsOk, MatchOption, OnErr, OnOk};
-ghost use Rattle.std.specs.Map.{lookup, lookup_entry};
 ghost use Rattle.art_arena.specs.arena.Arena.{HasRoom, UsesRoom};
 ghost use Rattle.art_arena.specs.arena.Shapes.{key_of, LeafAt};
 ghost use Rattle.art_arena.specs.tree.Shrinks.{Shrinks};
@@ -18,7 +17,7 @@ use art_operations::{take_end, take_leaf, take_pair};
 use std::alloc::AllocError;
 
 impl<K: AsBytes, V, const PREFIX_LEN: usize> TreeMap<K, V, PREFIX_LEN> {
-    ghost use Rattle.art_map.specs.Contents.{has_bytes, HasLeafAt};
+    ghost use Rattle.art_map.specs.Contents.{found_pair, found_value, HasLeafAt};
     ghost use Rattle.art_map.specs.Found.{HasPairAt};
     ghost use Rattle.art_map.specs.Leaves.{AreLeaves};
 
@@ -34,7 +33,7 @@ impl<K: AsBytes, V, const PREFIX_LEN: usize> TreeMap<K, V, PREFIX_LEN> {
     pub fn remove<Q: AsBytes>(&mut self, key: &Q) -> Result<Option<V>, AllocError>
     where
         K: Drop,
-        ensures value { IfOk result (λ old. old ≡ lookup (has_bytes K.bytes (Q.bytes key.now)) self.old.pairs) }
+        ensures value { IfOk result (λ old. old ≡ found_value K.bytes (Q.bytes key.now) self.old.pairs) }
         ensures pairs { OnOk result (self.new.pairs ≡ without_key (key_of K.bytes) (Q.bytes key.now) self.old.pairs) }
         ensures names { OnOk result (KeepsLeaves K.bytes self.old self.new) }
         ensures err { OnErr result (self.new.pairs ≡ self.old.pairs) }
@@ -61,7 +60,7 @@ impl<K: AsBytes, V, const PREFIX_LEN: usize> TreeMap<K, V, PREFIX_LEN> {
     /// ```
     pub fn remove_entry<Q: AsBytes>(&mut self, key: &Q) -> Result<Option<(K, V)>, AllocError>
         ensures value { IfOk result (λ old.
-            old ≡ lookup_entry (has_bytes K.bytes (Q.bytes key.now)) self.old.pairs) }
+            old ≡ found_pair K.bytes (Q.bytes key.now) self.old.pairs) }
         ensures pairs { OnOk result (self.new.pairs ≡ without_key (key_of K.bytes) (Q.bytes key.now) self.old.pairs) }
         ensures names { OnOk result (KeepsLeaves K.bytes self.old self.new) }
         ensures err { OnErr result (self.new.pairs ≡ self.old.pairs) }

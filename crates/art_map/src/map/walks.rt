@@ -39,7 +39,7 @@ impl<K: AsBytes, V, const PREFIX_LEN: usize> TreeMap<K, V, PREFIX_LEN> {
     {
         let walk = self.walk();
         let len = self.len();
-        Iter::new(&self.arena, walk, len)
+        Iter::new(&self.arena, walk, len, self.root)
     }
 
     /// Returns an iterator over the keys. It ascends by their bytes, and gives keys from either end.

@@ -10,7 +10,7 @@ ghost use Rattle.art_arena.specs.arena.Shapes.{leaves};
 ghost use Rattle.art_arena.specs.arena.Steps.{steps_of};
 ghost use Rattle.art_operations.specs.Held.{HasInner};
 ghost use Rattle.art_operations.specs.LeafNames.{HasLeavesOf};
-ghost use Rattle.art_operations.specs.Openings.{ForLongest, OpeningReads, ReadsAtLeast};
+ghost use Rattle.art_operations.specs.Openings.{ForLongest, OpeningReads, ReadsAtLeast, SpanReads};
 ghost use Rattle.art_operations.specs.Subtrees.{CanLoseChild, HasRoomAbove, IsCutBeside, IsSubtreeAnswer};
 ghost use Rattle.art_operations.specs.Subtrees.{IsSubtreePoint, ShrinksWithout};
 ghost use Rattle.art_operations.specs.declared.insert.point.InsertKind.TheVariants as kind;
@@ -83,8 +83,7 @@ fn leaf_part(root: OpaqueNodePtr, point: InsertPoint) -> Option<SubtreeDeletePoi
 /// Finds the part of the tree below a name whose keys begin with a prefix, if any does. The prefix need not end where a
 /// node's does. It allocates nothing.
 ///
-/// The reader counts each node that is read. They are at most (n + 6) * (k + 2), where n is the length of the prefix
-/// and k that of the longest key.
+/// The reader counts each node that is read. They are at most 6 * (k + 2), where k is the length of the longest key.
 pub fn search_for_subtree_delete_point<K: AsBytes, V, const PREFIX_LEN: usize>(
     reader: &mut ArenaReader<'_, K, V, PREFIX_LEN>,
     root: OpaqueNodePtr,
@@ -98,6 +97,8 @@ pub fn search_for_subtree_delete_point<K: AsBytes, V, const PREFIX_LEN: usize>(
     ensures least { ReadsAtLeast 1 reader.old.count reader.new.count }
     ensures few { OfTree K.bytes PREFIX_LEN reader.old.arena.now root (λ s. ForLongest K.bytes s
         (λ longest. OpeningReads longest (length prefix.now) reader.old.count reader.new.count)) }
+    ensures linear { OfTree K.bytes PREFIX_LEN reader.old.arena.now root (λ s. ForLongest K.bytes s
+        (λ longest. SpanReads longest reader.old.count reader.new.count)) }
 {
     let conflict = match find_insert_point_with(reader, root, prefix) {
         Ok(point) => return leaf_part(root, point),

@@ -245,7 +245,7 @@ fn way_at_inner<K: AsBytes, V, const PREFIX_LEN: usize>(
     ensures least { ReadsAtLeast 1 reader.old.count reader.new.count }
     ensures few { (path : List ℕ) (s : Shape K V)
         → StoresAt K.bytes PREFIX_LEN reader.old.arena.now node depth path s
-        → ForLongest K.bytes s (λ longest. reader.new.count ≤ reader.old.count + (longest + 1)) }
+        → ForLongest K.bytes s (λ longest. reader.new.count + depth ≤ reader.old.count + (longest + 1)) }
 {
     let prefix = read_full_prefix_with(reader, node, depth).prefix;
     let rest = &key[depth..];
@@ -277,7 +277,7 @@ fn way_with<K: AsBytes, V, const PREFIX_LEN: usize>(
     ensures least { ReadsAtLeast 1 reader.old.count reader.new.count }
     ensures few { (path : List ℕ) (s : Shape K V)
         → StoresAt K.bytes PREFIX_LEN reader.old.arena.now node depth path s
-        → ForLongest K.bytes s (λ longest. reader.new.count ≤ reader.old.count + (longest + 1)) }
+        → ForLongest K.bytes s (λ longest. reader.new.count + depth ≤ reader.old.count + (longest + 1)) }
 {
     match node.cast::<KindLeaf>() {
         Some(leaf) => way_at_leaf(reader, leaf, key, depth),
@@ -340,7 +340,7 @@ fn stop_with<K: AsBytes, V, const PREFIX_LEN: usize>(
     ensures kept { reader.new.arena.now ≡ reader.old.arena.now }
     ensures least { ReadsAtLeast 1 reader.old.count reader.new.count }
     ensures few { OfTree K.bytes PREFIX_LEN reader.old.arena.now root (λ s. ForLongest K.bytes s
-        (λ longest. DescentReads longest key.now reader.old.count reader.new.count)) }
+        (λ longest. DescentReads longest result.depth reader.old.count reader.new.count)) }
 {
     let mut search = TreePathSearch::default();
     let stop = descend(reader, &mut search, root, key, Passing::ByBytes);
@@ -370,7 +370,8 @@ pub fn find_insert_point<K: AsBytes, V, const PREFIX_LEN: usize>(
     find_insert_point_with(&mut reader, root, key)
 }
 
-// What `find_insert_point` answers, by a reader that counts each node that is read.
+// What `find_insert_point` answers, by a reader that counts each node that is read. They are at most 2 * (k + 1), where
+// k is the length of the longest key: two ways down from the root, of which one is that of the key.
 #[inline(always)]
 pub(crate) fn find_insert_point_with<K: AsBytes, V, const PREFIX_LEN: usize>(
     reader: &mut ArenaReader<'_, K, V, PREFIX_LEN>,
@@ -385,7 +386,7 @@ pub(crate) fn find_insert_point_with<K: AsBytes, V, const PREFIX_LEN: usize>(
     ensures kept { reader.new.arena.now ≡ reader.old.arena.now }
     ensures least { ReadsAtLeast 1 reader.old.count reader.new.count }
     ensures few { OfTree K.bytes PREFIX_LEN reader.old.arena.now root (λ s. ForLongest K.bytes s
-        (λ longest. PlaceReads longest key.now reader.old.count reader.new.count)) }
+        (λ longest. PlaceReads longest reader.old.count reader.new.count)) }
 {
     let stop = stop_with(reader, root, key);
     let node = stop.node;

@@ -5,6 +5,7 @@ ghost use Rattle.std.specs.Map.{keys_of};
 ghost use Rattle.std.specs.Map.Iter.{TakesFirst, TakesLast, deref};
 
 use art_arena::NodeArena;
+use art_bytes::AsBytes;
 use std::alloc::AllocError;
 use std::iter::FusedIterator;
 use std::marker::Model;
@@ -56,7 +57,7 @@ impl<'a, K, const PREFIX_LEN: usize> Clone for Prefix<'a, K, PREFIX_LEN> {
     }
 }
 
-impl<'a, K, const PREFIX_LEN: usize> Iterator for Prefix<'a, K, PREFIX_LEN> {
+impl<'a, K: AsBytes, const PREFIX_LEN: usize> Iterator for Prefix<'a, K, PREFIX_LEN> {
     type Item = &'a K;
 
     ghost next_gives = { TakesFirst deref };
@@ -72,9 +73,9 @@ impl<'a, K, const PREFIX_LEN: usize> Iterator for Prefix<'a, K, PREFIX_LEN> {
     }
 }
 
-impl<'a, K, const PREFIX_LEN: usize> FusedIterator for Prefix<'a, K, PREFIX_LEN> {}
+impl<'a, K: AsBytes, const PREFIX_LEN: usize> FusedIterator for Prefix<'a, K, PREFIX_LEN> {}
 
-impl<'a, K, const PREFIX_LEN: usize> DoubleEndedIterator for Prefix<'a, K, PREFIX_LEN> {
+impl<'a, K: AsBytes, const PREFIX_LEN: usize> DoubleEndedIterator for Prefix<'a, K, PREFIX_LEN> {
     ghost next_back_gives = { TakesLast deref };
 
     #[inline]

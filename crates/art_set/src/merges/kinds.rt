@@ -2,7 +2,7 @@
 ghost use Rattle.std.specs.Prelude.{◌≡◌, List, true, false};
 ghost use Rattle.art_set.specs.Merges.{difference_of, intersection_of, symmetric_difference_of, union_of};
 ghost use Rattle.art_set.specs.inner.Merging.{merged};
-ghost use Rattle.art_set.specs.inner.KindLaws.{difference-merged, intersection-merged, symmetric-merged, union-merged};
+ghost use Rattle.art_set.specs.lemmas.KindLaws.{difference-merged, intersection-merged, symmetric-merged, union-merged};
 
 use crate::merges::sides::Wanted;
 use art_bytes::AsBytes;

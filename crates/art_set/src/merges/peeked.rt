@@ -4,6 +4,7 @@ ghost use Rattle.std.specs.Map.Iter.{TakesFirst, deref};
 
 use crate::iterators::Iter;
 use art_arena::NodeArena;
+use art_bytes::AsBytes;
 use std::marker::Model;
 
 /// The keys of a set that are still to come, in order. A contract sees it as the list of them.
@@ -25,7 +26,7 @@ impl<'a, K, const PREFIX_LEN: usize, M: 'a> Model for Peeked<'a, K, PREFIX_LEN, 
     ghost invariant = { λ it. IfNone it.head (it.rest ≡ []) };
 }
 
-impl<'a, K, const PREFIX_LEN: usize> Peeked<'a, K, PREFIX_LEN> {
+impl<'a, K: AsBytes, const PREFIX_LEN: usize> Peeked<'a, K, PREFIX_LEN> {
     pub(crate) fn new(mut rest: Iter<'a, K, PREFIX_LEN>) -> Self
         ensures { result ≡ rest.entry }
     {

@@ -8,7 +8,7 @@ ghost use Rattle.art_set.specs.Members.{with_keys_put};
 use crate::set::TreeSet;
 use crate::set::refused::RefusedKey;
 use art_bytes::NoPrefixesBytes;
-use art_map::nodes_fit;
+use art_map::{TreeMapBuilder, nodes_fit};
 use std::alloc::Global;
 
 impl<K: NoPrefixesBytes + Drop, const PREFIX_LEN: usize> TreeSet<K, PREFIX_LEN> {
@@ -61,7 +61,7 @@ impl<K: NoPrefixesBytes + Drop, const PREFIX_LEN: usize> TreeSet<K, PREFIX_LEN> 
     }
 
     /// Makes a set of the keys that an iterator gives. Of keys with the same bytes the last counts. The iterator has to
-    /// end.
+    /// end. As long as the keys ascend, no place is looked for.
     ///
     /// Fails if there is no memory for a key, which the error returns. All else is dropped.
     ///
@@ -77,19 +77,27 @@ impl<K: NoPrefixesBytes + Drop, const PREFIX_LEN: usize> TreeSet<K, PREFIX_LEN> 
             → U.IntoIter.can_next it × IsFinite (U.IntoIter.remaining it) }
         ensures { IsMadeOfKeys K.bytes (λ key. key) U.into_iter_gives U.IntoIter.next_gives iter result }
     {
-        let mut keys = iter.into_iter();
         if !nodes_fit::<PREFIX_LEN>() {
+            let mut keys = iter.into_iter();
             let Some(key) = keys.next() else {
                 return Ok(TreeSet::with_prefix_len(alloc));
             };
             return Err(RefusedKey { key });
         }
-        let mut set = TreeSet::with_prefix_len(alloc);
-        set.extend(keys)?;
-        Ok(set)
+        let mut builder = TreeMapBuilder::new(alloc);
+        for key in iter {
+            match builder.put(key, ()) {
+                Ok(()) => {}
+                Err(refused) => return Err(RefusedKey { key: refused.key }),
+            }
+        }
+        match builder.finish() {
+            Ok(map) => Ok(TreeSet { alloc, map }),
+            Err(refused) => Err(RefusedKey { key: refused.key }),
+        }
     }
 
-    /// Makes a set of the keys of a vector. Of keys with the same bytes the last counts.
+    /// Makes a set of the keys of a vector, as `from_iter` does. Of keys with the same bytes the last counts.
     ///
     /// Fails if there is no memory for a key, which the error returns. All else is dropped.
     ///

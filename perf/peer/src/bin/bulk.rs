@@ -37,6 +37,25 @@ fn tell(step: &str, start: u64, answer: usize) {
     println!("{step} {} {answer}", now() - start);
 }
 
+fn shuffled_below(below: u64) -> Vec<(Key, u64)> {
+    let by = below / 1000 * 618 + 1;
+    (0..below).map(|at| at.wrapping_mul(by) % below).map(|it| (it.to_be_bytes(), it)).collect()
+}
+
+fn load(order: &str, pairs_of: impl Fn() -> Vec<(Key, u64)>) {
+    let pairs = pairs_of();
+    let start = now();
+    let map: BTreeMap<Key, u64> = pairs.into_iter().collect();
+    tell(&format!("from_vec,{order}"), start, map.len());
+    let pairs = pairs_of();
+    let start = now();
+    let mut map = BTreeMap::new();
+    for (key, value) in pairs {
+        map.insert(key, value);
+    }
+    tell(&format!("insert,{order}"), start, map.len());
+}
+
 fn append(step: &str, map: &mut BTreeMap<Key, u64>, other: &mut BTreeMap<Key, u64>) {
     let start = now();
     map.append(other);
@@ -54,17 +73,8 @@ fn main() {
     let mut text = String::new();
     std::io::stdin().read_to_string(&mut text).unwrap();
     let size: u64 = text.trim().parse().unwrap();
-    let pairs = pairs_of(0, size, 1);
-    let start = now();
-    let map: BTreeMap<Key, u64> = pairs.into_iter().collect();
-    tell("from_vec,ascending", start, map.len());
-    let pairs = pairs_of(0, size, 1);
-    let start = now();
-    let mut map = BTreeMap::new();
-    for (key, value) in pairs {
-        map.insert(key, value);
-    }
-    tell("insert,ascending", start, map.len());
+    load("ascending", || pairs_of(0, size, 1));
+    load("shuffled", || shuffled_below(size));
     let (mut low, mut high) = (map_of(0, size / 2, 1), map_of(size / 2, size, 1));
     append("append,behind", &mut low, &mut high);
     let (mut even, mut odd) = (map_of(0, size, 2), map_of(1, size, 2));
@@ -79,4 +89,7 @@ fn main() {
     let start = now();
     let sum = first.intersection(&second).fold(0, |sum, key| sum + usize::from(key[7]) + 1);
     tell("intersection", start, sum);
+    let start = now();
+    let both = &first | &second;
+    tell("or", start, both.len());
 }

@@ -5,8 +5,9 @@ use Rattle.art_arena.specs.arena.Meaning.{IsAtDepth, IsSubtree}
 use Rattle.art_arena.specs.arena.Reads.{IsReadAt}
 use Rattle.art_arena.specs.arena.Shapes.{Shape}
 use Rattle.art_arena.specs.arena.Visited.{held_of}
+use Rattle.art_arena.proofs.shapes.Guides.{guide_any}
 use Rattle.art_arena.proofs.shapes.Passing.{leaf-stops}
-use Rattle.art_arena.proofs.shapes.Reads.{descent_ends, descent_goes_on, part_within}
+use Rattle.art_arena.proofs.shapes.Reads.{part_within, some_weaker}
 use Rattle.art_arena.proofs.shapes.Walking.{IsOnWay, way-starts, way-there, way-subtree, on-way-to, way-steps, way-ends, way-lands, reads-leaf, lent-leaf, lent-inner, node-there}
 use Rattle.art_arena.proofs.descent.descend.Goals as goal
 use Rattle.art_arena.proofs.descent.descend.Goals.{In-Err}
@@ -54,7 +55,7 @@ returns-in-Ok-clause-stops g c = λ mode path s at begins.
 
 pub returns-in-Ok-clause-few : goal.returns-in-Ok-clause-few
 returns-in-Ok-clause-few g c = λ s tree longest short.
-    descent_ends longest c.down.depth c.args.key.now c.args.reader.now.count c.down.reader.count _ (c.down.invariant.reads s tree longest short) c.down.invariant.room (omega (arith, c.visit.ensures.counts))
+    omega (arith, c.down.invariant.reads s tree longest short, c.visit.ensures.counts)
 
 -- the inner node that was read, in the part where it stands
 is_read : (g : _) (c : In-Err g) (s : Shape g.row.K.Denot g.row.V.Denot) → IsSubtree g.K.AsBytes.bytes g.row.PREFIX_LEN (node_at c.args.reader.now.arena.now) c.args.root [] s
@@ -71,7 +72,7 @@ pub step_at-requires : goal.step_at-requires
 step_at-requires g c =
     let d = (goal.at.step_at-requires g c).In-Err in
     let way = c.down.invariant.way c.requires.tree.0 c.requires.tree.1 in
-    (lit< tt, (lit< tt, ((c.down.current, path_to way.1.0.ctx, way.1.0.part, is_read g d c.requires.tree.0 c.requires.tree.1 way.0 way.1.0), c.down.invariant.room)))
+    (lit< tt, (lit< tt, ((c.down.current, path_to way.1.0.ctx, way.1.0.part, is_read g d c.requires.tree.0 c.requires.tree.1 way.0 way.1.0, way.1.2), c.down.invariant.room)))
 
 pub returns-in-None-clause-lands : goal.returns-in-None-clause-lands
 returns-in-None-clause-lands g c = λ mode s tree.
@@ -97,10 +98,13 @@ returns-in-None-clause-way g c = λ mode s tree.
 pub returns-in-None-clause-stops : goal.returns-in-None-clause-stops
 returns-in-None-clause-stops g c = λ mode path s at begins.
     let arena_is = c.visit.ensures.kept ∙ c.down.invariant.kept in
+    let way = c.down.invariant.way c.requires.tree.0 c.requires.tree.1 in
+    let sub = way-subtree g.K.AsBytes.bytes c.args.key.now c.requires.tree.0 c.args.reader.now.count g.row.PREFIX_LEN (node_at c.args.reader.now.arena.now) c.args.root c.requires.tree.1 c.down.current c.down.search c.down.depth way.0 way.1.0 in
     c.in-None.ensures.by_bytes mode c.down.current path s (record {
       stands = subst (λ a. IsAtDepth g.K.AsBytes.bytes g.row.PREFIX_LEN (node_at a) c.down.current c.down.depth path s) (sym arena_is) at;
       held = ap (λ a. held_at a c.down.current) c.visit.ensures.kept ∙ c.visit.ensures.value ∙ ap Some c.in-Err.ensures.0;
-    }) begins
+    }) (some_weaker c.down.guide _ _ (λ leaf. guide_any g.K.AsBytes.bytes g.row.PREFIX_LEN (node_at c.args.reader.now.arena.now) c.args.key.now c.down.current c.down.depth (path_to way.1.0.ctx) path way.1.0.part s
+    (record { subtree = sub; behind = way.1.0.depth_is }) at (way.1.1 mode) begins (g.K.AsBytes.bytes leaf.now.key)) (way.1.2 mode)) begins
 
 pub returns-in-None-clause-few : goal.returns-in-None-clause-few
 returns-in-None-clause-few g c = λ s tree longest short.
@@ -108,7 +112,7 @@ returns-in-None-clause-few g c = λ s tree longest short.
     let way = c.down.invariant.way s tree in
     let within = part_within g.K.AsBytes.bytes longest s way.1.0.ctx way.1.0.part way.1.0.place.is short in
     let more = c.in-None.ensures.few c.down.current (path_to way.1.0.ctx) way.1.0.part (is_read g d s tree way.0 way.1.0) longest within in
-    descent_ends longest c.down.depth c.args.key.now c.args.reader.now.count c.down.reader.count _ (c.down.invariant.reads s tree longest short) c.down.invariant.room (omega (arith, more, c.visit.ensures.counts))
+    omega (arith, c.down.invariant.reads s tree longest short, more, c.visit.ensures.counts)
 
 pub down-preserved : goal.down-preserved
 down-preserved g c =
@@ -119,12 +123,14 @@ down-preserved g c =
       room = goes.within;
       kept = c.in-Some.ensures.kept ∙ c.visit.ensures.kept ∙ c.down.invariant.kept;
       way = λ s tree.
-          let way = c.down.invariant.way s tree in (
+          let way = c.down.invariant.way s tree in
+          let read = is_read g d s tree way.0 way.1.0 in (
             _,
             rw c.go_down.ensures
                 (way-steps g.K.AsBytes.bytes c.args.key.now s c.args.reader.now.count g.row.PREFIX_LEN (node_at c.args.reader.now.arena.now) c.args.root tree
-                c.down.current c.down.search c.down.depth way.0 way.1.0 c.in-Err.inner.node there _ c.in-Some.step.byte c.in-Some.step.child c.in-Some.step.depth goes
-                (λ mode. c.in-Some.ensures.by_bytes mode c.down.current (path_to way.1.0.ctx) way.1.0.part (is_read g d s tree way.0 way.1.0) (way.1.1 mode))),
+                c.down.current c.down.search c.down.depth way.0 way.1.0 c.in-Err.inner.node there _ _ _ c.in-Some.step.byte c.in-Some.step.child c.in-Some.step.depth goes
+                (λ mode. c.in-Some.ensures.by_bytes mode c.down.current (path_to way.1.0.ctx) way.1.0.part read (way.1.2 mode) (way.1.1 mode))
+                (λ mode. c.in-Some.ensures.keeps mode c.down.current (path_to way.1.0.ctx) way.1.0.part read (way.1.2 mode))),
             λ mode. c.in-Some.ensures.by_length mode ∙ c.visit.ensures.counts ∙ ap (λ m. min (m + 1) (2 ^ 64 - 1)) (way.2 mode),
           );
       least = omega (arith, c.in-Some.ensures.least, c.visit.ensures.counts, c.down.invariant.least);
@@ -132,7 +138,7 @@ down-preserved g c =
           let way = c.down.invariant.way s tree in
           let within = part_within g.K.AsBytes.bytes longest s way.1.0.ctx way.1.0.part way.1.0.place.is short in
           let step = c.in-Some.ensures.few c.down.current (path_to way.1.0.ctx) way.1.0.part (is_read g d s tree way.0 way.1.0) longest within in
-          descent_goes_on longest c.down.depth c.in-Some.step.depth c.args.reader.now.count c.down.reader.count _ _ (c.down.invariant.reads s tree longest short) (omega (arith, c.visit.ensures.counts)) step;
+          omega (arith, c.down.invariant.reads s tree longest short, c.visit.ensures.counts, step, goes.next_is);
     }
 
 pub returns-in-Ok-clause-least : goal.returns-in-Ok-clause-least

@@ -6,15 +6,12 @@ use Rattle.art_arena.proofs.Words.{begins_empty}
 use Rattle.art_arena.proofs.descent.passes_prefix.Goals as goal
 
 pub returns-then-prefix_len-eq0-clause-passes : goal.returns-then-prefix_len-eq0-clause-passes
-returns-then-prefix_len-eq0-clause-passes g c = λ root path s at.
+returns-then-prefix_len-eq0-clause-passes g c = λ root path s at guided.
     let len = read_len g.K.AsBytes.bytes g.row.PREFIX_LEN c.args.reader.now.arena.now c.args.inner.now.node root c.args.depth path s at in
     let none : length (prefix_of s) ≡ 0 = sym len ∙ sym c.prefix_len.ensures ∙ c.if-prefix_len-eq0.true in
     (λ _. begins_empty (prefix_of s) none _, λ _. refl)
 
 pub returns-clause-passes : goal.returns-clause-passes
-returns-clause-passes g c = λ root path s at.
-    let same = c.full_prefix_of.ensures.prefix root path s at in
+returns-clause-passes g c = λ root path s at guided.
+    let same = c.guided_prefix-prefix.ensures.prefix root path s at guided in
     rw (← same, ← tail c.args.depth c.args.key.now) c.begins_with.ensures
-
-pub returns-clause-few : goal.returns-clause-few
-returns-clause-few g c = λ root path s at longest short. c.full_prefix_of.ensures.few root path s at longest short

@@ -2,8 +2,8 @@
 use Rattle.std.proofs.Common.{rules, ◌<◌, ◌^◌, ◌∙◌}
 use Rattle.std.specs.Int.{w64}
 use Rattle.std.specs.Int.RustNames.{FitsSigned}
-use Rattle.art_bytes.specs.inner.FlipLaws.{flipped-bound}
-use Rattle.art_bytes.specs.inner.PairLaws.{pair_keys}
+use Rattle.art_bytes.specs.lemmas.FlipLaws.{flipped-bound}
+use Rattle.art_bytes.specs.lemmas.PairLaws.{pair_keys}
 use Rattle.art_bytes.proofs.laws.pair_keys_are_ordered.Goals as goal
 
 pub returns : goal.returns

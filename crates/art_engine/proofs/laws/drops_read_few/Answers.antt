@@ -12,7 +12,7 @@ few tenant records =
     let keys : List KeyRecord = filter (λ r. r.tenant == tenant) records.keys in
     let numbers : List NumberRecord = filter (λ r. r.tenant == tenant) records.numbers in
     let a = length-map {B = List ℕ × List ℕ} keys (λ r. (r.key, r.value)) in
-    let b = length-map {B = ℤ × List ℕ} numbers (λ r. (r.number, r.value)) in
+    let b = length-map {B = ℤ × List ℕ} numbers (λ r. (r.key, r.value)) in
     let many_keys = many-nodes full_key_of keys in
     let many_numbers = many-nodes number_key_of numbers in
     let few_keys = few-nodes full_key_of keys in

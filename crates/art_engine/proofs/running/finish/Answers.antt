@@ -13,15 +13,15 @@ returns-then-is_empty-clause-carried g c = λ start text before none h.
     let empty : held ≡ [] = length_nil held (eqb-true _ _ (sym c.if-is_empty.ensures)) in
     carried_line start c.args.index.now c.carry_out.new.self text c.args.part.now c.args.part.now held held before (g.W.Sink.taken c.args.sink.now) (g.W.Sink.taken c.carry_out.new.sink) c.in_ok-carry_out.field-0.memory
     h none (whole_in_piece start c.args.index.now text held before (g.W.Sink.taken c.args.sink.now) c.args.part.now c.args.part.now h empty refl)
-    (record { lawful = e.lawful; left = e.left; visits = c.in_ok-carry_out.field-0.visits; count = record { within = e.visits; short = e.short; own_path = e.own_path }; reads = e.counted; count_ahead = c.next-asked.result.ahead; few = c.next-asked.ensures.few; ahead = e.ahead }) e.told empty
+    (record { lawful = e.lawful; left = e.left; visits = c.in_ok-carry_out.field-0.visits; within = e.visits; short = e.short; own_path = e.own_path; counted = e.counted; visits_ahead = c.next-asked.result.ahead; few = c.next-asked.ensures.few; counted_ahead = e.ahead }) e.told empty
 
 pub returns-clause-carried : goal.returns-clause-carried
 returns-clause-carried g c = λ start text before none h.
-    let e = c.in_ok-handle.ensures in
-    let held : List ℕ = c.args.held.now.items in let handled : List ℕ = c.as_slice.result.now in
-    carried_line start c.args.index.now c.handle.new.self text c.args.part.now handled held c.clear.new.self.items before (g.W.Sink.taken c.args.sink.now) (g.W.Sink.taken c.handle.new.sink) c.in_ok-handle.field-0.memory
-    h none (put_together start c.args.index.now text held before (g.W.Sink.taken c.args.sink.now) c.args.part.now handled h (c.as_slice.ensures.value ∙ c.hold.ensures))
-    (record { lawful = e.lawful; left = e.left; visits = c.in_ok-handle.field-0.visits; count = record { within = e.visits; short = e.short; own_path = e.own_path }; reads = e.counted; count_ahead = 0; few = omega arith; ahead = e.ahead }) e.told c.clear.ensures
+    let e = c.in_ok-carry_out-2.ensures in
+    let held : List ℕ = c.args.held.now.items in let handled : List ℕ = c.as_slice-line.result.now in
+    carried_line start c.args.index.now c.carry_out-2.new.self text c.args.part.now handled held c.clear.new.self.items before (g.W.Sink.taken c.args.sink.now) (g.W.Sink.taken c.carry_out-2.new.sink) c.in_ok-carry_out-2.field-0.memory
+    h none (put_together start c.args.index.now text held before (g.W.Sink.taken c.args.sink.now) c.args.part.now handled h (c.as_slice-line.ensures.value ∙ c.hold.ensures))
+    (record { lawful = e.lawful; left = e.left; visits = c.in_ok-carry_out-2.field-0.visits; within = e.visits; short = e.short; own_path = e.own_path; counted = e.counted; visits_ahead = 0; few = omega arith; counted_ahead = e.ahead }) e.told c.clear.ensures
 
 pub returns-in_err-carry_out-clause-cut : goal.returns-in_err-carry_out-clause-cut
 returns-in_err-carry_out-clause-cut g c = when_err c.from_residual.result (λ start text before none h.
@@ -30,8 +30,8 @@ returns-in_err-carry_out-clause-cut g c = when_err c.from_residual.result (λ st
     cut_run-line start c.args.index.now c.carry_out.new.self text c.args.part.now c.args.part.now held before (g.W.Sink.taken c.args.sink.now) (g.W.Sink.taken c.carry_out.new.sink)
     h none (whole_in_piece start c.args.index.now text held before (g.W.Sink.taken c.args.sink.now) c.args.part.now c.args.part.now h empty refl) c.in_err-carry_out.ensures.cut)
 
-pub returns-in_err-handle-clause-cut : goal.returns-in_err-handle-clause-cut
-returns-in_err-handle-clause-cut g c = when_err c.from_residual-in_err-handle.result (λ start text before none h.
-    let held : List ℕ = c.args.held.now.items in let handled : List ℕ = c.as_slice.result.now in
-    cut_run-line start c.args.index.now c.handle.new.self text c.args.part.now handled held before (g.W.Sink.taken c.args.sink.now) (g.W.Sink.taken c.handle.new.sink)
-    h none (put_together start c.args.index.now text held before (g.W.Sink.taken c.args.sink.now) c.args.part.now handled h (c.as_slice.ensures.value ∙ c.hold.ensures)) c.in_err-handle.ensures.cut)
+pub returns-in_err-carry_out-2-clause-cut : goal.returns-in_err-carry_out-2-clause-cut
+returns-in_err-carry_out-2-clause-cut g c = when_err c.from_residual-in_err-carry_out-2.result (λ start text before none h.
+    let held : List ℕ = c.args.held.now.items in let handled : List ℕ = c.as_slice-line.result.now in
+    cut_run-line start c.args.index.now c.carry_out-2.new.self text c.args.part.now handled held before (g.W.Sink.taken c.args.sink.now) (g.W.Sink.taken c.carry_out-2.new.sink)
+    h none (put_together start c.args.index.now text held before (g.W.Sink.taken c.args.sink.now) c.args.part.now handled h (c.as_slice-line.ensures.value ∙ c.hold.ensures)) c.in_err-carry_out-2.ensures.cut)

@@ -20,18 +20,18 @@ reads-init g c = record {
   sink_open = c.requires.sink_open;
 }
 
-pub returns-in_ok-handle-clause-outcome : goal.returns-in_ok-handle-clause-outcome
-returns-in_ok-handle-clause-outcome g c =
+pub returns-clause-outcome : goal.returns-clause-outcome
+returns-clause-outcome g c =
     let i = c.reads.invariant.carried in let text : List ℕ = i.0 in
-    let carried = i.2 in let e = c.in_ok-handle.ensures in let memory = c.in_ok-handle.field-0.memory in
-    let held : List ℕ = c.reads.held.items in let line = c.as_slice.ensures.value in
-    let some : 0 < length held = let h = eqb-false _ _ (sym c.if-not-is_empty.ensures) in omega arith in
-    let last = outcome_last c.args.index.now c.reads.index c.handle.new.self text held (g.W.Sink.taken c.args.sink.now) (g.W.Sink.taken c.reads.sink) c.as_slice.result.now carried some line memory
-    (record { lawful = e.lawful; left = e.left; visits = c.in_ok-handle.field-0.visits; count = record { within = e.visits; short = e.short; own_path = e.own_path }; reads = e.counted; count_ahead = 0; few = omega arith; ahead = e.ahead }) in (
+    let carried = i.2 in let e = c.in_ok-carry_out.ensures in let memory = c.in_ok-carry_out.field-0.memory in
+    let held : List ℕ = c.reads.held.items in let line = c.as_slice-line.ensures.value in
+    let some : 0 < length held = let h = eqb-false _ _ (sym c.if-is_empty.ensures) in omega arith in
+    let last = outcome_last c.args.index.now c.reads.index c.carry_out.new.self text held (g.W.Sink.taken c.args.sink.now) (g.W.Sink.taken c.reads.sink) c.as_slice-line.result.now carried some line memory
+    (record { lawful = e.lawful; left = e.left; visits = c.in_ok-carry_out.field-0.visits; within = e.visits; short = e.short; own_path = e.own_path; counted = e.counted; visits_ahead = 0; few = omega arith; counted_ahead = e.ahead }) in (
       text,
-      carried.written ++ answer memory c.reads.index.records c.as_slice.result.now,
+      carried.written ++ answer memory c.reads.index.records c.as_slice-line.result.now,
       given_end (g.S.Source.given c.args.source.now) text (g.S.Source.given c.reads.source) (g.S.Source.given c.read.new.self) c.in-Ok.n c.read.new.buf i.1 c.in-Ok.ensures.gives c.if-n-eq0.true,
-      e.told ∙ ap (λ t. t ++ answer memory c.reads.index.records c.as_slice.result.now) (c.send.ensures.keeps ∙ carried.told) ∙ append_assoc (g.W.Sink.taken c.args.sink.now) carried.written (answer memory c.reads.index.records c.as_slice.result.now),
+      e.told ∙ ap (λ t. t ++ answer memory c.reads.index.records c.as_slice-line.result.now) (c.send.ensures.keeps ∙ carried.told) ∙ append_assoc (g.W.Sink.taken c.args.sink.now) carried.written (answer memory c.reads.index.records c.as_slice-line.result.now),
       last,
     )
 
@@ -51,19 +51,19 @@ returns-in_err-feed-clause-after_write_fault g c = λ _.
       subst (λ b. AfterWriteFault c.args.index.now (lines_so_far b (text ++ more)) run.written c.feed.new.index) (sym goes_on) run.fault,
     )
 
-pub returns-in_err-handle-clause-after_write_fault :
-    goal.returns-in_err-handle-clause-after_write_fault
-returns-in_err-handle-clause-after_write_fault g c = λ _.
+pub returns-in_err-carry_out-clause-after_write_fault :
+    goal.returns-in_err-carry_out-clause-after_write_fault
+returns-in_err-carry_out-clause-after_write_fault g c = λ _.
     let i = c.reads.invariant.carried in let text : List ℕ = i.0 in
     let held : List ℕ = c.reads.held.items in
-    let some : 0 < length held = let h = eqb-false _ _ (sym c.if-not-is_empty.ensures) in omega arith in
+    let some : 0 < length held = let h = eqb-false _ _ (sym c.if-is_empty.ensures) in omega arith in
     let sent = subst (Carried c.args.index.now c.reads.index text held (g.W.Sink.taken c.args.sink.now)) (sym c.send.ensures.keeps) i.2 in
-    let run = cut_run-last c.args.index.now c.reads.index c.handle.new.self text held (g.W.Sink.taken c.args.sink.now) (g.W.Sink.taken c.send.new.self) (g.W.Sink.taken c.handle.new.sink) c.as_slice.result.now
-    sent some c.as_slice.ensures.value c.in_err-handle.ensures.cut in
+    let run = cut_run-last c.args.index.now c.reads.index c.carry_out.new.self text held (g.W.Sink.taken c.args.sink.now) (g.W.Sink.taken c.send.new.self) (g.W.Sink.taken c.carry_out.new.sink) c.as_slice-line.result.now
+    sent some c.as_slice-line.ensures.value c.in_err-carry_out.ensures.cut in
     let ended : g.S.Source.has_ended c.read.new.self ≡ true = c.in-Ok.ensures.ends (ap (λ n. Ok n) c.if-n-eq0.true) in (
       text,
       run.written,
       given_end (g.S.Source.given c.args.source.now) text (g.S.Source.given c.reads.source) (g.S.Source.given c.read.new.self) c.in-Ok.n c.read.new.buf i.1 c.in-Ok.ensures.gives c.if-n-eq0.true,
       run.told,
-      subst (λ b. AfterWriteFault c.args.index.now (lines_so_far b text) run.written c.handle.new.self) (sym ended) run.fault,
+      subst (λ b. AfterWriteFault c.args.index.now (lines_so_far b text) run.written c.carry_out.new.self) (sym ended) run.fault,
     )

@@ -1,7 +1,5 @@
-use Rattle.std.proofs.lemmas.Grind.{common_steps}
-use Rattle.std.proofs.Common.{arith, rules}
-use Rattle.std.proofs.lemmas.Result.{on_err_weaker}
-use Rattle.art_lines.proofs.Cuts.{cut_before, cut_behind, cut_same, when_err}
+use Rattle.std.proofs.Common.{rules}
+use Rattle.art_lines.proofs.Cuts.{cut_before, cut_same, when_err, writes_then}
 use Rattle.art_lines.proofs.ReplyLines.{found_parts}
 use Rattle.art_lines.proofs.reply.write_long.Goals as goal
 
@@ -13,29 +11,5 @@ returns-in_err-write_piece g c =
       failed = search rules;
     }
 
-pub returns-in_err-write_piece-2 : goal.returns-in_err-write_piece-2
-returns-in_err-write_piece-2 g c =
-    record {
-      ok = search rules;
-      cut = when_err _ (cut_same _ _ _ _ (found_parts c.args.word.now c.args.value.now)
-          (cut_behind _ _ _ _ _ c.in_ok-write_piece.ensures.ok (cut_before _ _ _ _ c.in_err-write_piece-2.ensures.cut)));
-      failed = search rules;
-    }
-
-pub returns-in_err-write_bytes : goal.returns-in_err-write_bytes
-returns-in_err-write_bytes g c =
-    record {
-      ok = search rules;
-      cut = when_err _ (cut_same _ _ _ _ (found_parts c.args.word.now c.args.value.now)
-          (cut_behind _ _ _ _ _ c.in_ok-write_piece.ensures.ok (cut_behind _ _ _ _ _ c.in_ok-write_piece-2.ensures.ok (cut_before _ _ _ _ c.in_err-write_bytes.ensures.cut))));
-      failed = search rules;
-    }
-
 pub returns : goal.returns
-returns g c =
-    record {
-      ok = grind (arith, common_steps);
-      cut = on_err_weaker c.write_piece-3.result (λ cut. cut_same _ _ _ _ (found_parts c.args.word.now c.args.value.now)
-          (cut_behind _ _ _ _ _ c.in_ok-write_piece.ensures.ok (cut_behind _ _ _ _ _ c.in_ok-write_piece-2.ensures.ok (cut_behind _ _ _ _ _ c.in_ok-write_bytes.ensures.ok cut)))) c.write_piece-3.ensures.cut;
-      failed = search rules;
-    }
+returns g c = writes_then _ _ _ _ _ _ _ _ c.in_ok-write_piece.ensures.ok (found_parts c.args.word.now c.args.value.now) c.write_behind.ensures

@@ -97,7 +97,8 @@ impl<K: NoPrefixesBytes, V, const PREFIX_LEN: usize> TreeMap<K, V, PREFIX_LEN> {
 
 impl<'a, K: AsBytes, V, const PREFIX_LEN: usize> Entry<'a, K, V, PREFIX_LEN> {
     ghost use Rattle.art_map.specs.Entries.{Occupied, entry_key, entry_map, entry_value, lends_entry, entry_pairs};
-    ghost use Rattle.art_map.specs.Entries.{pairs_without, rests_if_refused, IsFilled, IsSame, IsWritten};
+    ghost use Rattle.art_map.specs.Entries.{pairs_without, rests_if_refused, IsFilled, IsRefusedEntry, IsSame};
+    ghost use Rattle.art_map.specs.Entries.{IsWritten};
 
     /// Returns the stored key, or the one that would be inserted if none is stored.
     ///
@@ -162,8 +163,7 @@ impl<'a, K: AsBytes, V, const PREFIX_LEN: usize> Entry<'a, K, V, PREFIX_LEN> {
         V: Drop,
         ensures* writes_back { sem 𝓛 (lends_entry K.row V.row PREFIX_LEN K.AsBytes self.entry result) }
         ensures value { IfOk result (λ lent. lent.now ≡ unwrap_or (entry_value self.entry) default) }
-        ensures handed_back { IfErr result (λ refused. (entry_value self.entry ≡ None)
-            × (refused.key ≡ entry_key self.entry) × (refused.value ≡ default)) }
+        ensures handed_back { IsRefusedEntry self.entry (λ v. v ≡ default) result }
     {
         self.or_insert_with_key(|_key| default)
     }
@@ -181,8 +181,7 @@ impl<'a, K: AsBytes, V, const PREFIX_LEN: usize> Entry<'a, K, V, PREFIX_LEN> {
         V: Drop + Default,
         ensures* writes_back { sem 𝓛 (lends_entry K.row V.row PREFIX_LEN K.AsBytes self.entry result) }
         ensures value { IfOk result (λ lent. UnwrapsOrElse (entry_value self.entry) V.is_default lent.now) }
-        ensures handed_back { IfErr result (λ refused. (entry_value self.entry ≡ None)
-            × (refused.key ≡ entry_key self.entry) × V.is_default refused.value) }
+        ensures handed_back { IsRefusedEntry self.entry V.is_default result }
     {
         self.or_insert_with_key(|_key| V::default())
     }
@@ -204,8 +203,7 @@ impl<'a, K: AsBytes, V, const PREFIX_LEN: usize> Entry<'a, K, V, PREFIX_LEN> {
         requires { entry_value self ≡ None → F.pre default }
         ensures* writes_back { sem 𝓛 (lends_entry K.row V.row PREFIX_LEN K.AsBytes self.entry result) }
         ensures value { IfOk result (λ lent. UnwrapsOrElse (entry_value self.entry) (F.post default) lent.now) }
-        ensures handed_back { IfErr result (λ refused. (entry_value self.entry ≡ None)
-            × (refused.key ≡ entry_key self.entry) × F.post default refused.value) }
+        ensures handed_back { IsRefusedEntry self.entry (F.post default) result }
     {
         self.or_insert_with_key(|_key| default())
     }
@@ -228,9 +226,8 @@ impl<'a, K: AsBytes, V, const PREFIX_LEN: usize> Entry<'a, K, V, PREFIX_LEN> {
         ensures* writes_back { sem 𝓛 (lends_entry K.row V.row PREFIX_LEN K.AsBytes self.entry result) }
         ensures value { IfOk result (λ lent. UnwrapsOrElse (entry_value self.entry)
             (FnOnceReturnsAt F.FnOnce default (entry_key self.entry)) lent.now) }
-        ensures handed_back { IfErr result (λ refused. (entry_value self.entry ≡ None)
-            × (refused.key ≡ entry_key self.entry)
-            × FnOnceReturnsAt F.FnOnce default (entry_key self.entry) refused.value) }
+        ensures handed_back { IsRefusedEntry self.entry
+            (FnOnceReturnsAt F.FnOnce default (entry_key self.entry)) result }
     {
         match self {
             Entry::Occupied(entry) => Ok(entry.into_mut()),
@@ -259,8 +256,7 @@ impl<'a, K: AsBytes, V, const PREFIX_LEN: usize> Entry<'a, K, V, PREFIX_LEN> {
         V: Drop,
         ensures* rests { sem 𝓛 (rests_if_refused K.row V.row PREFIX_LEN K.AsBytes self.entry result) }
         ensures written { IfOk result (λ entry. IsWritten self.entry value (Occupied entry)) }
-        ensures handed_back { IfErr result (λ refused. (entry_value self.entry ≡ None)
-            × (refused.key ≡ entry_key self.entry) × (refused.value ≡ value)) }
+        ensures handed_back { IsRefusedEntry self.entry (λ v. v ≡ value) result }
     {
         match self {
             Entry::Occupied(entry) => {
@@ -289,8 +285,7 @@ impl<'a, K: AsBytes, V, const PREFIX_LEN: usize> Entry<'a, K, V, PREFIX_LEN> {
         V: Drop,
         ensures* rests { sem 𝓛 (rests_if_refused K.row V.row PREFIX_LEN K.AsBytes self.entry result) }
         ensures filled { IfOk result (IsFilled self.entry (λ v. v ≡ default)) }
-        ensures handed_back { IfErr result (λ refused. (entry_value self.entry ≡ None)
-            × (refused.key ≡ entry_key self.entry) × (refused.value ≡ default)) }
+        ensures handed_back { IsRefusedEntry self.entry (λ v. v ≡ default) result }
     {
         self.or_insert_with_key_entry(|_key| default)
     }
@@ -310,8 +305,7 @@ impl<'a, K: AsBytes, V, const PREFIX_LEN: usize> Entry<'a, K, V, PREFIX_LEN> {
         V: Drop + Default,
         ensures* rests { sem 𝓛 (rests_if_refused K.row V.row PREFIX_LEN K.AsBytes self.entry result) }
         ensures filled { IfOk result (IsFilled self.entry V.is_default) }
-        ensures handed_back { IfErr result (λ refused. (entry_value self.entry ≡ None)
-            × (refused.key ≡ entry_key self.entry) × V.is_default refused.value) }
+        ensures handed_back { IsRefusedEntry self.entry V.is_default result }
     {
         self.or_insert_with_key_entry(|_key| V::default())
     }
@@ -334,8 +328,7 @@ impl<'a, K: AsBytes, V, const PREFIX_LEN: usize> Entry<'a, K, V, PREFIX_LEN> {
         requires { entry_value self ≡ None → F.pre default }
         ensures* rests { sem 𝓛 (rests_if_refused K.row V.row PREFIX_LEN K.AsBytes self.entry result) }
         ensures filled { IfOk result (IsFilled self.entry (F.post default)) }
-        ensures handed_back { IfErr result (λ refused. (entry_value self.entry ≡ None)
-            × (refused.key ≡ entry_key self.entry) × F.post default refused.value) }
+        ensures handed_back { IsRefusedEntry self.entry (F.post default) result }
     {
         self.or_insert_with_key_entry(|_key| default())
     }
@@ -359,9 +352,8 @@ impl<'a, K: AsBytes, V, const PREFIX_LEN: usize> Entry<'a, K, V, PREFIX_LEN> {
         ensures* rests { sem 𝓛 (rests_if_refused K.row V.row PREFIX_LEN K.AsBytes self.entry result) }
         ensures filled { IfOk result (IsFilled self.entry
             (FnOnceReturnsAt F.FnOnce default (entry_key self.entry))) }
-        ensures handed_back { IfErr result (λ refused. (entry_value self.entry ≡ None)
-            × (refused.key ≡ entry_key self.entry)
-            × FnOnceReturnsAt F.FnOnce default (entry_key self.entry) refused.value) }
+        ensures handed_back { IsRefusedEntry self.entry
+            (FnOnceReturnsAt F.FnOnce default (entry_key self.entry)) result }
     {
         match self {
             Entry::Occupied(entry) => entry.as_it_is(),

@@ -1,5 +1,5 @@
 //! The prefix entry of a key, and the methods of `PrefixEntry`.
-ghost use Rattle.std.specs.Prelude.{◌≡◌, option_copied, None, IfErr, IfOk};
+ghost use Rattle.std.specs.Prelude.{◌≡◌, option_copied, None, IfOk};
 ghost use Rattle.std.specs.Borrow.{sem, Bor};
 ghost use Rattle.std.specs.Fn.{FnOnceReturnsAt};
 ghost use Rattle.std.specs.Option.{unwrap_or, UnwrapsOrElse};
@@ -56,7 +56,7 @@ impl<K: AsBytes, V, const PREFIX_LEN: usize> TreeMap<K, V, PREFIX_LEN> {
 
 impl<'a, K: AsBytes, V, const PREFIX_LEN: usize> PrefixEntry<'a, K, V, PREFIX_LEN> {
     ghost use Rattle.art_map.specs.PrefixEntries.{lends_prefix, prefix_key, prefix_rests, prefix_value, shown_key};
-    ghost use Rattle.art_map.specs.PrefixEntries.{IsPrefixFilled, IsPrefixWritten};
+    ghost use Rattle.art_map.specs.PrefixEntries.{IsPrefixFilled, IsPrefixWritten, IsRefusedPrefix};
 
     /// Returns the stored key, or the one that would be inserted if it is not stored.
     ///
@@ -111,8 +111,7 @@ impl<'a, K: AsBytes, V, const PREFIX_LEN: usize> PrefixEntry<'a, K, V, PREFIX_LE
         V: Drop,
         ensures* rests { sem 𝓛 (prefix_rests K.row V.row PREFIX_LEN K.AsBytes self.entry result) }
         ensures written { IfOk result (IsPrefixWritten self.entry value) }
-        ensures handed_back { IfErr result (λ refused. (prefix_value self.entry ≡ None)
-            × (refused.key ≡ prefix_key self.entry) × (refused.value ≡ value)) }
+        ensures handed_back { IsRefusedPrefix self.entry (λ v. v ≡ value) result }
     {
         match self {
             PrefixEntry::Occupied(entry) => entry.insert_entry(value),
@@ -138,8 +137,7 @@ impl<'a, K: AsBytes, V, const PREFIX_LEN: usize> PrefixEntry<'a, K, V, PREFIX_LE
         V: Drop,
         ensures* writes_back { sem 𝓛 (lends_prefix K.row V.row PREFIX_LEN K.AsBytes self.entry result) }
         ensures value { IfOk result (λ lent. lent.now ≡ unwrap_or (prefix_value self.entry) default) }
-        ensures handed_back { IfErr result (λ refused. (prefix_value self.entry ≡ None)
-            × (refused.key ≡ prefix_key self.entry) × (refused.value ≡ default)) }
+        ensures handed_back { IsRefusedPrefix self.entry (λ v. v ≡ default) result }
     {
         self.or_insert_with_key(|_key| default)
     }
@@ -157,8 +155,7 @@ impl<'a, K: AsBytes, V, const PREFIX_LEN: usize> PrefixEntry<'a, K, V, PREFIX_LE
         V: Drop + Default,
         ensures* writes_back { sem 𝓛 (lends_prefix K.row V.row PREFIX_LEN K.AsBytes self.entry result) }
         ensures value { IfOk result (λ lent. UnwrapsOrElse (prefix_value self.entry) V.is_default lent.now) }
-        ensures handed_back { IfErr result (λ refused. (prefix_value self.entry ≡ None)
-            × (refused.key ≡ prefix_key self.entry) × V.is_default refused.value) }
+        ensures handed_back { IsRefusedPrefix self.entry V.is_default result }
     {
         self.or_insert_with_key(|_key| V::default())
     }
@@ -180,8 +177,7 @@ impl<'a, K: AsBytes, V, const PREFIX_LEN: usize> PrefixEntry<'a, K, V, PREFIX_LE
         requires { prefix_value self ≡ None → F.pre default }
         ensures* writes_back { sem 𝓛 (lends_prefix K.row V.row PREFIX_LEN K.AsBytes self.entry result) }
         ensures value { IfOk result (λ lent. UnwrapsOrElse (prefix_value self.entry) (F.post default) lent.now) }
-        ensures handed_back { IfErr result (λ refused. (prefix_value self.entry ≡ None)
-            × (refused.key ≡ prefix_key self.entry) × F.post default refused.value) }
+        ensures handed_back { IsRefusedPrefix self.entry (F.post default) result }
     {
         self.or_insert_with_key(|_key| default())
     }
@@ -204,9 +200,8 @@ impl<'a, K: AsBytes, V, const PREFIX_LEN: usize> PrefixEntry<'a, K, V, PREFIX_LE
         ensures* writes_back { sem 𝓛 (lends_prefix K.row V.row PREFIX_LEN K.AsBytes self.entry result) }
         ensures value { IfOk result (λ lent. UnwrapsOrElse (prefix_value self.entry)
             (FnOnceReturnsAt F.FnOnce default (prefix_key self.entry)) lent.now) }
-        ensures handed_back { IfErr result (λ refused. (prefix_value self.entry ≡ None)
-            × (refused.key ≡ prefix_key self.entry)
-            × FnOnceReturnsAt F.FnOnce default (prefix_key self.entry) refused.value) }
+        ensures handed_back { IsRefusedPrefix self.entry
+            (FnOnceReturnsAt F.FnOnce default (prefix_key self.entry)) result }
     {
         match self {
             PrefixEntry::Occupied(entry) => match entry.stored() {
@@ -240,8 +235,7 @@ impl<'a, K: AsBytes, V, const PREFIX_LEN: usize> PrefixEntry<'a, K, V, PREFIX_LE
         V: Drop,
         ensures* rests { sem 𝓛 (prefix_rests K.row V.row PREFIX_LEN K.AsBytes self.entry result) }
         ensures filled { IfOk result (IsPrefixFilled self.entry (λ v. v ≡ default)) }
-        ensures handed_back { IfErr result (λ refused. (prefix_value self.entry ≡ None)
-            × (refused.key ≡ prefix_key self.entry) × (refused.value ≡ default)) }
+        ensures handed_back { IsRefusedPrefix self.entry (λ v. v ≡ default) result }
     {
         self.or_insert_with_key_entry(|_key| default)
     }
@@ -261,8 +255,7 @@ impl<'a, K: AsBytes, V, const PREFIX_LEN: usize> PrefixEntry<'a, K, V, PREFIX_LE
         V: Drop + Default,
         ensures* rests { sem 𝓛 (prefix_rests K.row V.row PREFIX_LEN K.AsBytes self.entry result) }
         ensures filled { IfOk result (IsPrefixFilled self.entry V.is_default) }
-        ensures handed_back { IfErr result (λ refused. (prefix_value self.entry ≡ None)
-            × (refused.key ≡ prefix_key self.entry) × V.is_default refused.value) }
+        ensures handed_back { IsRefusedPrefix self.entry V.is_default result }
     {
         self.or_insert_with_key_entry(|_key| V::default())
     }
@@ -285,8 +278,7 @@ impl<'a, K: AsBytes, V, const PREFIX_LEN: usize> PrefixEntry<'a, K, V, PREFIX_LE
         requires { prefix_value self ≡ None → F.pre default }
         ensures* rests { sem 𝓛 (prefix_rests K.row V.row PREFIX_LEN K.AsBytes self.entry result) }
         ensures filled { IfOk result (IsPrefixFilled self.entry (F.post default)) }
-        ensures handed_back { IfErr result (λ refused. (prefix_value self.entry ≡ None)
-            × (refused.key ≡ prefix_key self.entry) × F.post default refused.value) }
+        ensures handed_back { IsRefusedPrefix self.entry (F.post default) result }
     {
         self.or_insert_with_key_entry(|_key| default())
     }
@@ -310,9 +302,8 @@ impl<'a, K: AsBytes, V, const PREFIX_LEN: usize> PrefixEntry<'a, K, V, PREFIX_LE
         ensures* rests { sem 𝓛 (prefix_rests K.row V.row PREFIX_LEN K.AsBytes self.entry result) }
         ensures filled { IfOk result (IsPrefixFilled self.entry
             (FnOnceReturnsAt F.FnOnce default (prefix_key self.entry))) }
-        ensures handed_back { IfErr result (λ refused. (prefix_value self.entry ≡ None)
-            × (refused.key ≡ prefix_key self.entry)
-            × FnOnceReturnsAt F.FnOnce default (prefix_key self.entry) refused.value) }
+        ensures handed_back { IsRefusedPrefix self.entry
+            (FnOnceReturnsAt F.FnOnce default (prefix_key self.entry)) result }
     {
         match self {
             PrefixEntry::Occupied(entry) => match entry.stored() {

@@ -81,7 +81,7 @@ impl<K: AsBytes, V, const PREFIX_LEN: usize> TreeMap<K, V, PREFIX_LEN> {
         ensures { result ≡ overlapping (key_of K.bytes) key.now self.now.pairs }
     {
         let walk = walk_of(self.ends_over(key));
-        SubtreeIter::new(&self.arena, walk)
+        SubtreeIter::new(&self.arena, walk, self.root)
     }
 
     // The leaf of the one pair whose key overlaps these bytes, where it is one alone.

@@ -1,4 +1,4 @@
-use Rattle.std.proofs.Common.{[], None, length, not, sym, ap, ap₂, subst, ◌∙◌, arith}
+use Rattle.std.proofs.Common.{[], None, not, sym, ap, ap₂, subst, ◌∙◌, arith}
 use Rattle.std.specs.BTreeMap.Range.{is_from_start, is_past_end}
 use Rattle.std.specs.Range.Bound.{bound_map}
 use Rattle.std.specs.declared.cmp.Ordering.TheVariants.{Less, Greater}
@@ -8,8 +8,6 @@ use Rattle.art_arena.specs.arena.Arena.{links_at}
 use Rattle.art_arena.specs.arena.Linked.{AreLinked, last_slot}
 use Rattle.art_arena.specs.arena.Shapes.{leaves}
 use Rattle.art_operations.specs.Bounds.{slot_inside}
-use Rattle.art_operations.specs.Openings.{EndReads, bound_len}
-use Rattle.art_operations.proofs.Openings.{end_reads, unbounded_reads}
 use Rattle.art_operations.proofs.Nearest.{end_excluded, end_included, every_passes, start_excluded, start_included}
 use Rattle.art_operations.proofs.bounds.find_leaf_pointer_for_bound_with.Goals as goal
 
@@ -46,24 +44,16 @@ returns-else-is_start-3-clause-value g c = λ s stores linked.
     ∙ sym (ap₂ (λ b bound. slot_inside g.K.AsBytes.bytes b (bound_map (λ key. key.now) bound) (leaves s)) c.if-is_start-3.false c.in-Excluded.is)
 
 pub returns-then-is_start-2-clause-few : goal.returns-then-is_start-2-clause-few
-returns-then-is_start-2-clause-few g c = λ s stores longest short.
-    subst (λ b. EndReads longest (bound_len (bound_map (λ key. key.now) b)) c.args.reader.now.count c.first_from.new.reader.count) (sym c.in-Included.is)
-    (end_reads longest (length c.in-Included.key.now) c.args.reader.now.count c.nearest_leaf-nearest.new.reader.count c.first_from.new.reader.count (c.nearest_leaf-nearest.ensures.few s stores longest short) (omega (arith, c.first_from.ensures.counts)))
+returns-then-is_start-2-clause-few g c = λ s stores longest short. omega (arith, c.nearest_leaf-nearest.ensures.few s stores longest short, c.first_from.ensures.counts)
 
 pub returns-else-is_start-2-clause-few : goal.returns-else-is_start-2-clause-few
-returns-else-is_start-2-clause-few g c = λ s stores longest short.
-    subst (λ b. EndReads longest (bound_len (bound_map (λ key. key.now) b)) c.args.reader.now.count c.last_to.new.reader.count) (sym c.in-Included.is)
-    (end_reads longest (length c.in-Included.key.now) c.args.reader.now.count c.nearest_leaf-nearest.new.reader.count c.last_to.new.reader.count (c.nearest_leaf-nearest.ensures.few s stores longest short) (omega (arith, c.last_to.ensures.counts)))
+returns-else-is_start-2-clause-few g c = λ s stores longest short. omega (arith, c.nearest_leaf-nearest.ensures.few s stores longest short, c.last_to.ensures.counts)
 
 pub returns-then-is_start-3-clause-few : goal.returns-then-is_start-3-clause-few
-returns-then-is_start-3-clause-few g c = λ s stores longest short.
-    subst (λ b. EndReads longest (bound_len (bound_map (λ key. key.now) b)) c.args.reader.now.count c.first_from-then-is_start-3.new.reader.count) (sym c.in-Excluded.is)
-    (end_reads longest (length c.in-Excluded.key.now) c.args.reader.now.count c.nearest_leaf-nearest-in-Excluded.new.reader.count c.first_from-then-is_start-3.new.reader.count (c.nearest_leaf-nearest-in-Excluded.ensures.few s stores longest short) (omega (arith, c.first_from-then-is_start-3.ensures.counts)))
+returns-then-is_start-3-clause-few g c = λ s stores longest short. omega (arith, c.nearest_leaf-nearest-in-Excluded.ensures.few s stores longest short, c.first_from-then-is_start-3.ensures.counts)
 
 pub returns-else-is_start-3-clause-few : goal.returns-else-is_start-3-clause-few
-returns-else-is_start-3-clause-few g c = λ s stores longest short.
-    subst (λ b. EndReads longest (bound_len (bound_map (λ key. key.now) b)) c.args.reader.now.count c.last_to-in-Excluded.new.reader.count) (sym c.in-Excluded.is)
-    (end_reads longest (length c.in-Excluded.key.now) c.args.reader.now.count c.nearest_leaf-nearest-in-Excluded.new.reader.count c.last_to-in-Excluded.new.reader.count (c.nearest_leaf-nearest-in-Excluded.ensures.few s stores longest short) (omega (arith, c.last_to-in-Excluded.ensures.counts)))
+returns-else-is_start-3-clause-few g c = λ s stores longest short. omega (arith, c.nearest_leaf-nearest-in-Excluded.ensures.few s stores longest short, c.last_to-in-Excluded.ensures.counts)
 
 pub first_from-requires : goal.first_from-requires
 first_from-requires g c =
@@ -86,14 +76,10 @@ last_to-requires-in-Excluded g c =
     (omega arith, (c.in-Excluded.key.now, leaves r.0, subst (λ a. AreLinked (links_at a) None (leaves r.0) None) (sym c.nearest_leaf-nearest-in-Excluded.ensures.kept) r.2, c.nearest_leaf-nearest-in-Excluded.ensures.nearest r.0 r.1))
 
 pub returns-then-is_start-clause-few : goal.returns-then-is_start-clause-few
-returns-then-is_start-clause-few g c = λ s stores longest short.
-    subst (λ b. EndReads longest (bound_len (bound_map (λ key. key.now) b)) c.args.reader.now.count c.minimum_with.new.reader.count) (sym c.in-Unbounded.is)
-    (unbounded_reads longest c.args.reader.now.count c.minimum_with.new.reader.count (c.minimum_with.ensures.few [] s stores longest short))
+returns-then-is_start-clause-few g c = λ s stores longest short. omega (arith, c.minimum_with.ensures.few [] s stores longest short)
 
 pub returns-else-is_start-clause-few : goal.returns-else-is_start-clause-few
-returns-else-is_start-clause-few g c = λ s stores longest short.
-    subst (λ b. EndReads longest (bound_len (bound_map (λ key. key.now) b)) c.args.reader.now.count c.maximum_with.new.reader.count) (sym c.in-Unbounded.is)
-    (unbounded_reads longest c.args.reader.now.count c.maximum_with.new.reader.count (c.maximum_with.ensures.few [] s stores longest short))
+returns-else-is_start-clause-few g c = λ s stores longest short. omega (arith, c.maximum_with.ensures.few [] s stores longest short)
 
 pub returns-then-is_start-2-clause-least : goal.returns-then-is_start-2-clause-least
 returns-then-is_start-2-clause-least g c = omega (arith, c.nearest_leaf-nearest.ensures.least, c.first_from.ensures.counts)

@@ -8,7 +8,6 @@ use Rattle.art_operations.specs.Bounds.{AreEndsWhere}
 use Rattle.art_operations.specs.Points.{MeetsAt}
 use Rattle.art_operations.proofs.NotStored.{not-stored}
 use Rattle.art_arena.proofs.shapes.Reads.{part_within}
-use Rattle.art_operations.proofs.Openings.{part_reads}
 use Rattle.art_operations.proofs.Segments.{begin_in, begin_nowhere, begin_same, ends_same}
 use Rattle.art_operations.proofs.bounds.find_prefix_segment_with.Goals as goal
 use Rattle.art_arena.proofs.shapes.Walking.{place-subtree}
@@ -28,8 +27,11 @@ returns-in-Err-clause-value g c = λ s stores.
 pub returns-in-Err-clause-few : goal.returns-in-Err-clause-few
 returns-in-Err-clause-few g c = λ s stores longest short.
     let way = c.in-Err.ensures.part s stores in
-    part_reads longest c.args.prefix.now c.args.reader.now.count c.find_insert_point_with.new.reader.count c.segment_at.new.reader.count (c.in-Err.ensures.few s stores longest short)
-    (c.segment_at.ensures.few (path_to way.ctx) way.part (subst (λ a. IsSubtree g.K.AsBytes.bytes g.row.PREFIX_LEN (node_at a) c.in-Err.conflict.part (path_to way.ctx) way.part) (sym c.in-Err.ensures.kept) (subst (λ n. IsSubtree g.K.AsBytes.bytes g.row.PREFIX_LEN (node_at c.args.reader.now.arena.now) n (path_to way.ctx) way.part) way.here (place-subtree g.K.AsBytes.bytes g.row.PREFIX_LEN (node_at c.args.reader.now.arena.now) c.args.root s way.ctx way.part stores way.toward.place))) longest (part_within g.K.AsBytes.bytes longest s way.ctx way.part way.toward.place.is short))
+    omega (
+      arith,
+      c.in-Err.ensures.few s stores longest short,
+      c.segment_at.ensures.few (path_to way.ctx) way.part (subst (λ a. IsSubtree g.K.AsBytes.bytes g.row.PREFIX_LEN (node_at a) c.in-Err.conflict.part (path_to way.ctx) way.part) (sym c.in-Err.ensures.kept) (subst (λ n. IsSubtree g.K.AsBytes.bytes g.row.PREFIX_LEN (node_at c.args.reader.now.arena.now) n (path_to way.ctx) way.part) way.here (place-subtree g.K.AsBytes.bytes g.row.PREFIX_LEN (node_at c.args.reader.now.arena.now) c.args.root s way.ctx way.part stores way.toward.place))) longest (part_within g.K.AsBytes.bytes longest s way.ctx way.part way.toward.place.is short),
+    )
 
 pub returns-in-Some-clause-value : goal.returns-in-Some-clause-value
 returns-in-Some-clause-value g c = λ s stores.
@@ -44,12 +46,10 @@ returns-in-None-clause-value g c = λ s stores.
     begin_nowhere g.K.AsBytes.bytes c.args.prefix.now (leaves s) answer.1 (not-stored g.K.AsBytes.bytes c.args.prefix.now s c.in-Ok.point answer.0 c.in-None.ensures)
 
 pub returns-in-Some-clause-few : goal.returns-in-Some-clause-few
-returns-in-Some-clause-few g c = λ s stores longest short.
-    part_reads longest c.args.prefix.now c.args.reader.now.count c.find_insert_point_with.new.reader.count c.find_insert_point_with.new.reader.count (c.in-Ok.ensures.few s stores longest short) (omega arith)
+returns-in-Some-clause-few g c = λ s stores longest short. omega (arith, c.in-Ok.ensures.few s stores longest short)
 
 pub returns-in-None-clause-few : goal.returns-in-None-clause-few
-returns-in-None-clause-few g c = λ s stores longest short.
-    part_reads longest c.args.prefix.now c.args.reader.now.count c.find_insert_point_with.new.reader.count c.find_insert_point_with.new.reader.count (c.in-Ok.ensures.few s stores longest short) (omega arith)
+returns-in-None-clause-few g c = λ s stores longest short. omega (arith, c.in-Ok.ensures.few s stores longest short)
 
 pub returns-in-Err-clause-least : goal.returns-in-Err-clause-least
 returns-in-Err-clause-least g c = omega (arith, c.in-Err.ensures.least, c.segment_at.ensures.least)

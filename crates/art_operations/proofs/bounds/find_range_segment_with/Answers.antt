@@ -8,8 +8,6 @@ use Rattle.art_arena.specs.arena.Cells.{leaf_name}
 use Rattle.art_arena.specs.arena.Linked.{AreLinked}
 use Rattle.art_arena.specs.arena.Shapes.{leaves}
 use Rattle.art_arena.specs.arena.Stores.{Stores}
-use Rattle.art_operations.specs.Openings.{bound_len}
-use Rattle.art_operations.proofs.Openings.{both_read, first_reads}
 use Rattle.art_operations.proofs.Points.{stored_is}
 use Rattle.art_operations.proofs.RangeEnds.{ends-between, first-from, first-held, has-last, key-read, none-between, none-from}
 use Rattle.art_operations.proofs.bounds.find_range_segment_with.Goals as goal
@@ -60,22 +58,20 @@ find_leaf_pointer_for_bound_with-requires-2 g c =
     (omega arith, (r.0, subst (λ a. Stores g.K.AsBytes.bytes g.row.PREFIX_LEN a c.args.root r.0) kept r.1, subst (λ a. AreLinked (links_at a) None (leaves r.0) None) kept r.2))
 
 pub returns-in-None-clause-few : goal.returns-in-None-clause-few
-returns-in-None-clause-few g c = λ s stores longest short most within within_too.
-    first_reads longest (bound_len (bound_map (λ key. key.now) c.args.start)) most c.args.reader.now.count c.find_leaf_pointer_for_bound_with.new.reader.count c.find_leaf_pointer_for_bound_with.new.reader.count (c.in-None.ensures.few s stores longest short) within (omega arith)
+returns-in-None-clause-few g c = λ s stores longest short. omega (arith, c.in-None.ensures.few s stores longest short)
 
 pub returns-then-is_past-clause-few : goal.returns-then-is_past-clause-few
-returns-then-is_past-clause-few g c = λ s stores longest short most within within_too.
-    first_reads longest (bound_len (bound_map (λ key. key.now) c.args.start)) most c.args.reader.now.count c.find_leaf_pointer_for_bound_with.new.reader.count c.visit_leaf.new.self.count (c.in-Some.ensures.few s stores longest short) within (omega (arith, c.visit_leaf.ensures.counts))
+returns-then-is_past-clause-few g c = λ s stores longest short. omega (arith, c.in-Some.ensures.few s stores longest short, c.visit_leaf.ensures.counts)
 
 pub returns-in-Some-find_leaf_pointer_for_bound_with-clause-few : goal.returns-in-Some-find_leaf_pointer_for_bound_with-clause-few
-returns-in-Some-find_leaf_pointer_for_bound_with-clause-few g c = λ s stores longest short most within within_too.
-    both_read longest (bound_len (bound_map (λ key. key.now) c.args.start)) (bound_len (bound_map (λ key. key.now) c.args.end)) most c.args.reader.now.count c.find_leaf_pointer_for_bound_with.new.reader.count c.visit_leaf.new.self.count _ (c.in-Some.ensures.few s stores longest short) within (omega (arith, c.visit_leaf.ensures.counts))
-    (c.in-Some-find_leaf_pointer_for_bound_with.ensures.few s (subst (λ a. Stores g.K.AsBytes.bytes g.row.PREFIX_LEN a c.args.root s) (sym (c.visit_leaf.ensures.kept ∙ c.in-Some.ensures.kept)) stores) longest short) within_too
+returns-in-Some-find_leaf_pointer_for_bound_with-clause-few g c = λ s stores longest short.
+    let there = subst (λ a. Stores g.K.AsBytes.bytes g.row.PREFIX_LEN a c.args.root s) (sym (c.visit_leaf.ensures.kept ∙ c.in-Some.ensures.kept)) stores in
+    omega (arith, c.in-Some.ensures.few s stores longest short, c.visit_leaf.ensures.counts, c.in-Some-find_leaf_pointer_for_bound_with.ensures.few s there longest short)
 
 pub returns-in-None-find_leaf_pointer_for_bound_with-clause-few : goal.returns-in-None-find_leaf_pointer_for_bound_with-clause-few
-returns-in-None-find_leaf_pointer_for_bound_with-clause-few g c = λ s stores longest short most within within_too.
-    both_read longest (bound_len (bound_map (λ key. key.now) c.args.start)) (bound_len (bound_map (λ key. key.now) c.args.end)) most c.args.reader.now.count c.find_leaf_pointer_for_bound_with.new.reader.count c.visit_leaf.new.self.count _ (c.in-Some.ensures.few s stores longest short) within (omega (arith, c.visit_leaf.ensures.counts))
-    (c.in-None-find_leaf_pointer_for_bound_with.ensures.few s (subst (λ a. Stores g.K.AsBytes.bytes g.row.PREFIX_LEN a c.args.root s) (sym (c.visit_leaf.ensures.kept ∙ c.in-Some.ensures.kept)) stores) longest short) within_too
+returns-in-None-find_leaf_pointer_for_bound_with-clause-few g c = λ s stores longest short.
+    let there = subst (λ a. Stores g.K.AsBytes.bytes g.row.PREFIX_LEN a c.args.root s) (sym (c.visit_leaf.ensures.kept ∙ c.in-Some.ensures.kept)) stores in
+    omega (arith, c.in-Some.ensures.few s stores longest short, c.visit_leaf.ensures.counts, c.in-None-find_leaf_pointer_for_bound_with.ensures.few s there longest short)
 
 pub returns-in-None-clause-least : goal.returns-in-None-clause-least
 returns-in-None-clause-least g c = omega (arith, c.in-None.ensures.least)

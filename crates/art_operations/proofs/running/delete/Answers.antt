@@ -7,12 +7,12 @@ use Rattle.art_operations.proofs.running.delete.Goals as goal
 pub returns-in-Ok-Some : goal.returns-in-Ok-Some
 returns-in-Ok-Some g c pairs has =
     done-taken g.K.AsBytes.bytes g.row.PREFIX_LEN c.take_pair.new.arena pairs c.args.root c.args.key.now c.in-Ok-Some.deleted
-    (subst (HasTaken g.K.AsBytes.bytes g.row.PREFIX_LEN c.take_pair.new.arena c.args.root (g.K.AsBytes.bytes c.args.key.now) pairs) c.in-Ok-Some.field-0-is (rw c.as_bytes.ensures.value at (c.in-Ok-Some.ensures.ok pairs [] has)))
+    (subst (λ taken. HasTaken g.K.AsBytes.bytes g.row.PREFIX_LEN c.take_pair.new.arena c.args.root (g.K.AsBytes.bytes c.args.key.now) taken pairs []) c.in-Ok-Some.field-0-is (rw c.as_bytes.ensures.value at (c.in-Ok-Some.ensures.ok pairs [] has)))
 
 pub returns-in-Ok-None : goal.returns-in-Ok-None
 returns-in-Ok-None g c pairs has =
     done-none g.K.AsBytes.bytes g.row.PREFIX_LEN c.take_pair.new.arena pairs c.args.root c.args.key.now
-    (subst (HasTaken g.K.AsBytes.bytes g.row.PREFIX_LEN c.take_pair.new.arena c.args.root (g.K.AsBytes.bytes c.args.key.now) pairs) c.in-Ok-None.field-0-is (rw c.as_bytes.ensures.value at (c.in-Ok-None.ensures.ok pairs [] has)))
+    (subst (λ taken. HasTaken g.K.AsBytes.bytes g.row.PREFIX_LEN c.take_pair.new.arena c.args.root (g.K.AsBytes.bytes c.args.key.now) taken pairs []) c.in-Ok-None.field-0-is (rw c.as_bytes.ensures.value at (c.in-Ok-None.ensures.ok pairs [] has)))
 
 pub returns-in-Err : goal.returns-in-Err
 returns-in-Err g c pairs has = (

@@ -20,7 +20,7 @@ pub insert_at-requires : goal.insert_at-requires
 insert_at-requires g c =
     let same = c.as_bytes.ensures.value ∙ sym (c.requires.keys c.args.key.now c.in-Ok-cloned.key c.in-Ok-cloned.ensures.0) in (
       omega arith,
-      (c.requires.pairs.2.0, subst (λ k. CanPut g.K.AsBytes.bytes g.row.PREFIX_LEN c.args.arena.now c.in-Ok.place k c.requires.pairs.2.0) same (c.in-Ok.ensures.placed c.requires.pairs.2.0 [] c.requires.pairs.2.2).0),
+      (c.requires.pairs.2.0, subst (λ k. CanPut g.K.AsBytes.bytes g.row.PREFIX_LEN c.args.arena.now c.in-Ok.place k c.requires.pairs.2.0 []) same (c.in-Ok.ensures.placed c.requires.pairs.2.0 [] c.requires.pairs.2.2).0),
     )
 
 pub returns-in-Ok-cloned : goal.returns-in-Ok-cloned
@@ -31,7 +31,7 @@ returns-in-Ok-cloned g c n pairs has =
     (λ stored there.
     let placed = c.in-Ok.ensures.placed stored [] there in
     c.insert_at.ensures stored there
-    (subst (λ k. CanPut g.K.AsBytes.bytes g.row.PREFIX_LEN c.args.arena.now c.in-Ok.place k stored) same placed.0)
+    (subst (λ k. CanPut g.K.AsBytes.bytes g.row.PREFIX_LEN c.args.arena.now c.in-Ok.place k stored []) same placed.0)
     (subst (λ k. IsBlocked (key_of g.K.AsBytes.bytes) k stored → ⊥) same placed.1))
     has
 

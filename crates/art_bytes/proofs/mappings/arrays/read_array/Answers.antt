@@ -1,7 +1,7 @@
 -- An array that had these bytes would have their number, and each part of them would be its element's.
 use Rattle.std.proofs.Common.{◌≡◌, ◌<◌, ◌*◌, length, arith, ◌^◌, ◌∙◌, sym, ap, subst, rules, true≢false, eq-eqb}
 use Rattle.std.proofs.lemmas.Grind.{common_steps}
-use Rattle.art_bytes.specs.inner.PartLaws.{long_list, part_of_list, list_of_parts}
+use Rattle.art_bytes.specs.lemmas.PartLaws.{long_list, part_of_list, list_of_parts}
 use Rattle.art_bytes.proofs.mappings.arrays.read_array.Goals as goal
 use Rattle.art_bytes.proofs.mappings.arrays.read_array.Goals.{in-Some, in-None}
 

@@ -1,6 +1,6 @@
 -- A list that had these bytes would go on with a value that has the next of them.
 use Rattle.std.proofs.Common.{◌<◌, ◌≤◌, length, take, ◌∙◌, sym, ap, rules}
-use Rattle.art_bytes.specs.inner.ConcatLaws.{no_next, too_few}
+use Rattle.art_bytes.specs.lemmas.ConcatLaws.{no_next, too_few}
 use Rattle.art_bytes.proofs.mappings.lists.read_list.Goals as goal
 
 pub returns-in-None : goal.returns-in-None

@@ -66,34 +66,34 @@ returns-in_ok-visits-in-Some-LookUp-clause-own_path g c =
     own_path_of (command_of c.args._line.now) c.args.self.now.records _ (are_records _ _ c.args.self.now.records (ap stored c.self.view_is) c.self.invariant.0 c.self.invariant.1)
     (line_reads (Some (looks_up w F)) c.args._line.now _ c.args.self.now.records _ meant (ap stored c.self.view_is) (c.in_ok-visits-in-Some-LookUp.ensures.visits _ _ c.of-readers.ensures.bytes c.of-readers.ensures.numbers))
 
-pub returns-in_ok-tell_all-in-Some-Whole-clause-told : goal.returns-in_ok-tell_all-in-Some-Whole-clause-told
-returns-in_ok-tell_all-in-Some-Whole-clause-told g c =
+pub returns-in_ok-write_survey-in-Some-Whole-clause-told : goal.returns-in_ok-write_survey-in-Some-Whole-clause-told
+returns-in_ok-write_survey-in-Some-Whole-clause-told g c =
     let F = c.args.fields.now in let w = c.in-Some-Whole.word in
     let meant : Some (asks_all w) ≡ command_of c.args._line.now = ap (λ x. Some (command_with x F)) (sym (rw c.in-Some-Whole.is at c.in-Some-Whole.field-0-is)) ∙ asked F c.args.word _ c.args._line.now c.in-Some-Whole.is c.requires.read in
-    c.in_ok-tell_all-in-Some-Whole.ensures.ok ∙ ap (λ t. g.W.Sink.taken c.args.sink.now ++ t)
-    (all_told c.ask_all-told.result c.is_memory-memory-in-Some-Whole.result (asks_all w) _ _ c.args._line.now c.is_memory-memory-in-Some-Whole.ensures (ap stored c.self.view_is) meant c.ask_all-told.ensures)
+    c.in_ok-write_survey-in-Some-Whole.ensures.ok ∙ ap (λ t. g.W.Sink.taken c.args.sink.now ++ t)
+    (all_told c.take_survey-found.result c.is_memory-memory-in-Some-Whole.result (asks_all w) _ _ c.args._line.now c.is_memory-memory-in-Some-Whole.ensures (ap stored c.self.view_is) meant c.take_survey-found.ensures)
 
-pub returns-in_ok-tell_all-in-Some-Whole-clause-left : goal.returns-in_ok-tell_all-in-Some-Whole-clause-left
-returns-in_ok-tell_all-in-Some-Whole-clause-left g c =
+pub returns-in_ok-write_survey-in-Some-Whole-clause-left : goal.returns-in_ok-write_survey-in-Some-Whole-clause-left
+returns-in_ok-write_survey-in-Some-Whole-clause-left g c =
     let F = c.args.fields.now in let w = c.in-Some-Whole.word in
     let meant : Some (asks_all w) ≡ command_of c.args._line.now = ap (λ x. Some (command_with x F)) (sym (rw c.in-Some-Whole.is at c.in-Some-Whole.field-0-is)) ∙ asked F c.args.word _ c.args._line.now c.in-Some-Whole.is c.requires.read in
-    sym (ap stored c.self.view_is) ∙ all_left c.ask_all-told.result c.is_memory-memory-in-Some-Whole.result (asks_all w) _ _ c.args._line.now c.is_memory-memory-in-Some-Whole.ensures (ap stored c.self.view_is) meant c.ask_all-told.ensures (all_leaves w _)
+    sym (ap stored c.self.view_is) ∙ all_left c.take_survey-found.result c.is_memory-memory-in-Some-Whole.result (asks_all w) _ _ c.args._line.now c.is_memory-memory-in-Some-Whole.ensures (ap stored c.self.view_is) meant c.take_survey-found.ensures (all_leaves w _)
 
-pub returns-in_ok-tell_all-in-Some-Whole-clause-lawful : goal.returns-in_ok-tell_all-in-Some-Whole-clause-lawful
-returns-in_ok-tell_all-in-Some-Whole-clause-lawful g c =
+pub returns-in_ok-write_survey-in-Some-Whole-clause-lawful : goal.returns-in_ok-write_survey-in-Some-Whole-clause-lawful
+returns-in_ok-write_survey-in-Some-Whole-clause-lawful g c =
     let F = c.args.fields.now in let w = c.in-Some-Whole.word in
     let meant : Some (asks_all w) ≡ command_of c.args._line.now = ap (λ x. Some (command_with x F)) (sym (rw c.in-Some-Whole.is at c.in-Some-Whole.field-0-is)) ∙ asked F c.args.word _ c.args._line.now c.in-Some-Whole.is c.requires.read in
-    let may = all_lawful c.ask_all-told.result c.is_memory-memory-in-Some-Whole.result (asks_all w) _ _ c.args._line.now c.is_memory-memory-in-Some-Whole.ensures (ap stored c.self.view_is) meant c.ask_all-told.ensures in
+    let may = all_lawful c.take_survey-found.result c.is_memory-memory-in-Some-Whole.result (asks_all w) _ _ c.args._line.now c.is_memory-memory-in-Some-Whole.ensures (ap stored c.self.view_is) meant c.take_survey-found.ensures in
     λ m. (asks_all w, spells c.args._line.now (asks_all w) (sym meant), may m)
 
-pub returns-in_err-tell_all-in-Some-Whole-clause-cut : goal.returns-in_err-tell_all-in-Some-Whole-clause-cut
-returns-in_err-tell_all-in-Some-Whole-clause-cut g c =
+pub returns-in_err-write_survey-in-Some-Whole-clause-cut : goal.returns-in_err-write_survey-in-Some-Whole-clause-cut
+returns-in_err-write_survey-in-Some-Whole-clause-cut g c =
     let F = c.args.fields.now in let w = c.in-Some-Whole.word in
     let meant : Some (asks_all w) ≡ command_of c.args._line.now = ap (λ x. Some (command_with x F)) (sym (rw c.in-Some-Whole.is at c.in-Some-Whole.field-0-is)) ∙ asked F c.args.word _ c.args._line.now c.in-Some-Whole.is c.requires.read in
-    let told = all_told c.ask_all-told.result c.is_memory-memory-in-Some-Whole.result (asks_all w) _ _ c.args._line.now c.is_memory-memory-in-Some-Whole.ensures (ap stored c.self.view_is) meant c.ask_all-told.ensures in
-    let left = sym (ap stored c.self.view_is) ∙ all_left c.ask_all-told.result c.is_memory-memory-in-Some-Whole.result (asks_all w) _ _ c.args._line.now c.is_memory-memory-in-Some-Whole.ensures (ap stored c.self.view_is) meant c.ask_all-told.ensures (all_leaves w _) in
-    let may = all_lawful c.ask_all-told.result c.is_memory-memory-in-Some-Whole.result (asks_all w) _ _ c.args._line.now c.is_memory-memory-in-Some-Whole.ensures (ap stored c.self.view_is) meant c.ask_all-told.ensures in
-    when_err _ (cut_line c.is_memory-memory-in-Some-Whole.result _ _ _ _ _ _ told c.in_err-tell_all-in-Some-Whole.ensures.cut left
+    let told = all_told c.take_survey-found.result c.is_memory-memory-in-Some-Whole.result (asks_all w) _ _ c.args._line.now c.is_memory-memory-in-Some-Whole.ensures (ap stored c.self.view_is) meant c.take_survey-found.ensures in
+    let left = sym (ap stored c.self.view_is) ∙ all_left c.take_survey-found.result c.is_memory-memory-in-Some-Whole.result (asks_all w) _ _ c.args._line.now c.is_memory-memory-in-Some-Whole.ensures (ap stored c.self.view_is) meant c.take_survey-found.ensures (all_leaves w _) in
+    let may = all_lawful c.take_survey-found.result c.is_memory-memory-in-Some-Whole.result (asks_all w) _ _ c.args._line.now c.is_memory-memory-in-Some-Whole.ensures (ap stored c.self.view_is) meant c.take_survey-found.ensures in
+    when_err _ (cut_line c.is_memory-memory-in-Some-Whole.result _ _ _ _ _ _ told c.in_err-write_survey-in-Some-Whole.ensures.cut left
     (λ m. (asks_all w, spells c.args._line.now (asks_all w) (sym meant), may m)) (refl, refl))
 
 pub change-done-requires : goal.change-done-requires
@@ -102,34 +102,34 @@ change-done-requires g c =
     let meant : Some (changes w F) ≡ command_of c.args._line.now = ap (λ x. Some (command_with x F)) (sym (rw c.in-Some-Change.is at c.in-Some-Change.field-0-is)) ∙ asked F c.args.word _ c.args._line.now c.in-Some-Change.is c.requires.read in
     (search rules, (search rules, (c.self.invariant.0, (c.self.invariant.1, (c.args._line.now, spells c.args._line.now (changes w F) (sym meant))))))
 
-pub returns-in_ok-write_placed-in-Some-Change-clause-told : goal.returns-in_ok-write_placed-in-Some-Change-clause-told
-returns-in_ok-write_placed-in-Some-Change-clause-told g c =
+pub returns-in_ok-write_changed-in-Some-Change-clause-told : goal.returns-in_ok-write_changed-in-Some-Change-clause-told
+returns-in_ok-write_changed-in-Some-Change-clause-told g c =
     let F = c.args.fields.now in let w = c.in-Some-Change.word in
     let meant : Some (changes w F) ≡ command_of c.args._line.now = ap (λ x. Some (command_with x F)) (sym (rw c.in-Some-Change.is at c.in-Some-Change.field-0-is)) ∙ asked F c.args.word _ c.args._line.now c.in-Some-Change.is c.requires.read in
-    c.in_ok-write_placed-in-Some-Change.ensures.ok ∙ ap (λ t. g.W.Sink.taken c.args.sink.now ++ t) (done_told c.change-done.result c.is_memory-memory.result (changes w F) _ _ (all_records_of c.change-done.new.records.pairs c.change-done.new.numbers.pairs) c.args._line.now c.is_memory-memory.ensures (ap stored c.self.view_is) meant c.change-done.ensures.done)
+    c.in_ok-write_changed-in-Some-Change.ensures.ok ∙ ap (λ t. g.W.Sink.taken c.args.sink.now ++ t) (done_told c.change-done.result c.is_memory-memory.result (changes w F) _ _ (all_records_of c.change-done.new.records.pairs c.change-done.new.numbers.pairs) c.args._line.now c.is_memory-memory.ensures (ap stored c.self.view_is) meant c.change-done.ensures.done)
 
-pub returns-in_ok-write_placed-in-Some-Change-clause-left : goal.returns-in_ok-write_placed-in-Some-Change-clause-left
-returns-in_ok-write_placed-in-Some-Change-clause-left g c =
+pub returns-in_ok-write_changed-in-Some-Change-clause-left : goal.returns-in_ok-write_changed-in-Some-Change-clause-left
+returns-in_ok-write_changed-in-Some-Change-clause-left g c =
     let F = c.args.fields.now in let w = c.in-Some-Change.word in
     let meant : Some (changes w F) ≡ command_of c.args._line.now = ap (λ x. Some (command_with x F)) (sym (rw c.in-Some-Change.is at c.in-Some-Change.field-0-is)) ∙ asked F c.args.word _ c.args._line.now c.in-Some-Change.is c.requires.read in
     let left = done_left c.change-done.result c.is_memory-memory.result (changes w F) _ _ (all_records_of c.change-done.new.records.pairs c.change-done.new.numbers.pairs) c.args._line.now c.is_memory-memory.ensures (ap stored c.self.view_is) meant c.change-done.ensures.done in
     elim c.match-done-2.branch [ in-Old-2 w ↦ ap stored w.self-is ∙ left | in-New-2 w ↦ ap stored w.self-is ∙ left | in-Gone-2 w ↦ ap stored w.self-is ∙ left ]
 
-pub returns-in_ok-write_placed-in-Some-Change-clause-lawful : goal.returns-in_ok-write_placed-in-Some-Change-clause-lawful
-returns-in_ok-write_placed-in-Some-Change-clause-lawful g c =
+pub returns-in_ok-write_changed-in-Some-Change-clause-lawful : goal.returns-in_ok-write_changed-in-Some-Change-clause-lawful
+returns-in_ok-write_changed-in-Some-Change-clause-lawful g c =
     let F = c.args.fields.now in let w = c.in-Some-Change.word in
     let meant : Some (changes w F) ≡ command_of c.args._line.now = ap (λ x. Some (command_with x F)) (sym (rw c.in-Some-Change.is at c.in-Some-Change.field-0-is)) ∙ asked F c.args.word _ c.args._line.now c.in-Some-Change.is c.requires.read in
     let may = done_lawful c.change-done.result c.is_memory-memory.result (changes w F) _ _ (all_records_of c.change-done.new.records.pairs c.change-done.new.numbers.pairs) c.args._line.now c.is_memory-memory.ensures (ap stored c.self.view_is) meant c.change-done.ensures.done in
     λ m. (changes w F, spells c.args._line.now (changes w F) (sym meant), may m)
 
-pub returns-in_err-write_placed-in-Some-Change-clause-cut : goal.returns-in_err-write_placed-in-Some-Change-clause-cut
-returns-in_err-write_placed-in-Some-Change-clause-cut g c =
+pub returns-in_err-write_changed-in-Some-Change-clause-cut : goal.returns-in_err-write_changed-in-Some-Change-clause-cut
+returns-in_err-write_changed-in-Some-Change-clause-cut g c =
     let F = c.args.fields.now in let w = c.in-Some-Change.word in
     let meant : Some (changes w F) ≡ command_of c.args._line.now = ap (λ x. Some (command_with x F)) (sym (rw c.in-Some-Change.is at c.in-Some-Change.field-0-is)) ∙ asked F c.args.word _ c.args._line.now c.in-Some-Change.is c.requires.read in
     let told = done_told c.change-done.result c.is_memory-memory.result (changes w F) _ _ (all_records_of c.change-done.new.records.pairs c.change-done.new.numbers.pairs) c.args._line.now c.is_memory-memory.ensures (ap stored c.self.view_is) meant c.change-done.ensures.done in
     let left = done_left c.change-done.result c.is_memory-memory.result (changes w F) _ _ (all_records_of c.change-done.new.records.pairs c.change-done.new.numbers.pairs) c.args._line.now c.is_memory-memory.ensures (ap stored c.self.view_is) meant c.change-done.ensures.done in
     let may = done_lawful c.change-done.result c.is_memory-memory.result (changes w F) _ _ (all_records_of c.change-done.new.records.pairs c.change-done.new.numbers.pairs) c.args._line.now c.is_memory-memory.ensures (ap stored c.self.view_is) meant c.change-done.ensures.done in
-    when_err _ (cut_line c.is_memory-memory.result _ _ _ _ _ _ told c.in_err-write_placed-in-Some-Change.ensures.cut left
+    when_err _ (cut_line c.is_memory-memory.result _ _ _ _ _ _ told c.in_err-write_changed-in-Some-Change.ensures.cut left
     (λ m. (changes w F, spells c.args._line.now (changes w F) (sym meant), may m)) (ap reads c.self.view_is, ap ahead c.self.view_is))
 
 pub returns-in_ok-write_piece-in-None-clause-told :

@@ -1,12 +1,14 @@
 use Rattle.std.proofs.Common.{arith, length, sym, ap, ◌∙◌}
 use Rattle.art_arena.specs.arena.Shapes.{key_of}
+use Rattle.art_arena.specs.tree.Tenants.{begins_with}
+use Rattle.art_operations.proofs.KeyedLists.{all-but-none}
 use Rattle.art_map.specs.PrefixBlocks.{Block}
-use Rattle.art_map.proofs.PrefixBlocks.{all-left, none-ready, none-visits}
+use Rattle.art_map.proofs.PrefixBlocks.{none-ready, none-visits}
 use Rattle.art_map.proofs.map.TreeMap.cut_block.Goals as goal
 
 pub returns-in-None-clause-pairs : goal.returns-in-None-clause-pairs
 returns-in-None-clause-pairs g c = λ front known.
-    sym (all-left (key_of g.K.AsBytes.bytes) front c.args.self.now.pairs (none-ready g.K.AsBytes.bytes g.row.PREFIX_LEN c.args.self.now front c.args.block.part (ap (λ (b : Block). b.part) (sym c.block.view_is) ∙ c.in-None.is) known))
+    sym (all-but-none (λ p. begins_with front (key_of g.K.AsBytes.bytes p)) c.args.self.now.pairs (none-ready g.K.AsBytes.bytes g.row.PREFIX_LEN c.args.self.now front c.args.block.part (ap (λ (b : Block). b.part) (sym c.block.view_is) ∙ c.in-None.is) known))
 
 pub returns-in-None-clause-count : goal.returns-in-None-clause-count
 returns-in-None-clause-count g c = λ front known.

@@ -1,19 +1,31 @@
-use Rattle.std.proofs.Common.{[], subst}
+use Rattle.std.proofs.Common.{[], Some, None, subst}
 use Rattle.art_operations.specs.Pairs.{HasTakenEnd}
 use Rattle.art_map.proofs.Maps.{end-map, end-pairs, end-none-map, end-none-pairs, same-map, same-pairs}
-use Rattle.art_map.specs.Contents.{contents}
+use Rattle.art_map.specs.Contents.{contents, pairs_from}
 use Rattle.art_map.proofs.LeafNames.{kept-names, named}
+use Rattle.art_map.proofs.map.TreeMap.pop.Goals.{After-into_entry, In-Ok-None}
 use Rattle.art_map.proofs.map.TreeMap.pop.Goals as goal
+
+-- what the arena has once a pair was taken, and where there was none
+one-taken : (g : _) (c : After-into_entry g) → HasTakenEnd g.K.AsBytes.bytes g.row.PREFIX_LEN c.take_end.new.arena c.self.inside.root c.args.end (Some c.in-Ok-Some.deleted) (pairs_from c.self.inside.arena c.self.inside.root) []
+one-taken g c =
+    subst (λ taken. HasTakenEnd g.K.AsBytes.bytes g.row.PREFIX_LEN c.take_end.new.arena c.self.inside.root c.args.end taken (pairs_from c.self.inside.arena c.self.inside.root) [])
+    c.in-Ok-Some.field-0-is (c.in-Ok-Some.ensures.ok _ [] c.self.invariant.has)
+
+none-taken : (g : _) (c : In-Ok-None g) → HasTakenEnd g.K.AsBytes.bytes g.row.PREFIX_LEN c.take_end.new.arena c.self.inside.root c.args.end None (pairs_from c.self.inside.arena c.self.inside.root) []
+none-taken g c =
+    subst (λ taken. HasTakenEnd g.K.AsBytes.bytes g.row.PREFIX_LEN c.take_end.new.arena c.self.inside.root c.args.end taken (pairs_from c.self.inside.arena c.self.inside.root) [])
+    c.in-Ok-None.field-0-is (c.in-Ok-None.ensures.ok _ [] c.self.invariant.has)
 
 pub invariant_of-self : goal.invariant_of-self
 invariant_of-self g c =
     end-map g.K.AsBytes.bytes g.K.AsBytes.is_key g.row.PREFIX_LEN c.self.inside.arena c.self.inside.root c.self.invariant c.take_end.new.arena c.args.end c.in-Ok-Some.deleted
-    (subst (HasTakenEnd g.K.AsBytes.bytes g.row.PREFIX_LEN c.take_end.new.arena c.self.inside.root c.args.end _) c.in-Ok-Some.field-0-is (c.in-Ok-Some.ensures.ok _ [] c.self.invariant.has))
+    (one-taken g c)
 
 pub invariant_of-self-in-Ok-None : goal.invariant_of-self-in-Ok-None
 invariant_of-self-in-Ok-None g c =
     end-none-map g.K.AsBytes.bytes g.K.AsBytes.is_key g.row.PREFIX_LEN c.self.inside.arena c.self.inside.root c.self.invariant c.take_end.new.arena c.args.end
-    (subst (HasTakenEnd g.K.AsBytes.bytes g.row.PREFIX_LEN c.take_end.new.arena c.self.inside.root c.args.end _) c.in-Ok-None.field-0-is (c.in-Ok-None.ensures.ok _ [] c.self.invariant.has))
+    (none-taken g c)
 
 pub invariant_of-self-in-Err : goal.invariant_of-self-in-Err
 invariant_of-self-in-Err g c = same-map g.K.AsBytes.bytes g.K.AsBytes.is_key g.row.PREFIX_LEN c.self.inside.arena c.self.inside.root c.self.invariant c.take_end.new.arena c.in-Err.ensures.err
@@ -22,13 +34,13 @@ pub returns-in-Ok-Some-clause-value : goal.returns-in-Ok-Some-clause-value
 returns-in-Ok-Some-clause-value g c =
     rw (← c.self.view_is)
     (end-pairs g.K.AsBytes.bytes g.K.AsBytes.is_key g.row.PREFIX_LEN c.self.inside.arena c.self.inside.root c.self.invariant c.take_end.new.arena c.args.end c.in-Ok-Some.deleted
-    (subst (HasTakenEnd g.K.AsBytes.bytes g.row.PREFIX_LEN c.take_end.new.arena c.self.inside.root c.args.end _) c.in-Ok-Some.field-0-is (c.in-Ok-Some.ensures.ok _ [] c.self.invariant.has))
+    (one-taken g c)
     c.into_entry.result.0 c.into_entry.result.1 c.into_entry.ensures.key c.into_entry.ensures.value)
 
 pub returns-in-Ok-None-clause-none : goal.returns-in-Ok-None-clause-none
 returns-in-Ok-None-clause-none g c =
     end-none-pairs g.K.AsBytes.bytes g.K.AsBytes.is_key g.row.PREFIX_LEN c.self.inside.arena c.self.inside.root c.self.invariant c.take_end.new.arena c.args.end
-    (subst (HasTakenEnd g.K.AsBytes.bytes g.row.PREFIX_LEN c.take_end.new.arena c.self.inside.root c.args.end _) c.in-Ok-None.field-0-is (c.in-Ok-None.ensures.ok _ [] c.self.invariant.has))
+    (none-taken g c)
 
 pub returns-in-Err-clause-err : goal.returns-in-Err-clause-err
 returns-in-Err-clause-err g c = rw (← c.self.view_is) (same-pairs g.K.AsBytes.bytes g.K.AsBytes.is_key g.row.PREFIX_LEN c.self.inside.arena c.self.inside.root c.self.invariant c.take_end.new.arena c.in-Err.ensures.err)
@@ -56,7 +68,7 @@ returns-in-Ok-Some-clause-names g c =
     let old = c.self.inside.arena in
     let root = c.self.inside.root in
     let new = c.take_end.new.arena in
-    let map = end-map bytes is_key P old root c.self.invariant new c.args.end c.in-Ok-Some.deleted (subst (HasTakenEnd bytes P new root c.args.end _) c.in-Ok-Some.field-0-is (c.in-Ok-Some.ensures.ok _ [] c.self.invariant.has)) in
+    let map = end-map bytes is_key P old root c.self.invariant new c.args.end c.in-Ok-Some.deleted (one-taken g c) in
     rw (← c.self.view_is) (kept-names bytes (contents old root) (contents new c.in-Ok-Some.deleted.new_root) (named bytes P old is_key root c.self.invariant) (named bytes P new is_key c.in-Ok-Some.deleted.new_root map) c.in-Ok-Some.ensures.names)
 
 pub returns-in-Ok-None-clause-names : goal.returns-in-Ok-None-clause-names
@@ -67,5 +79,5 @@ returns-in-Ok-None-clause-names g c =
     let old = c.self.inside.arena in
     let root = c.self.inside.root in
     let new = c.take_end.new.arena in
-    let map = end-none-map bytes is_key P old root c.self.invariant new c.args.end (subst (HasTakenEnd bytes P new root c.args.end _) c.in-Ok-None.field-0-is (c.in-Ok-None.ensures.ok _ [] c.self.invariant.has)) in
+    let map = end-none-map bytes is_key P old root c.self.invariant new c.args.end (none-taken g c) in
     rw (← c.self.view_is) (kept-names bytes (contents old root) (contents new root) (named bytes P old is_key root c.self.invariant) (named bytes P new is_key root map) c.in-Ok-None.ensures.names)

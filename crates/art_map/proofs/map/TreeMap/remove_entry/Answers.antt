@@ -1,19 +1,31 @@
-use Rattle.std.proofs.Common.{[], sym, subst, ap₂, Some, ◌∙◌}
+use Rattle.std.proofs.Common.{[], sym, subst, ap₂, Some, None, ◌∙◌}
 use Rattle.art_operations.specs.Pairs.{HasTaken}
 use Rattle.art_map.proofs.Maps.{taken-map, taken-pairs, taken-entry, none-map, none-pairs, none-entry, same-map, same-pairs}
-use Rattle.art_map.specs.Contents.{contents}
+use Rattle.art_map.specs.Contents.{contents, pairs_from}
 use Rattle.art_map.proofs.LeafNames.{kept-names, named}
+use Rattle.art_map.proofs.map.TreeMap.remove_entry.Goals.{After-into_entry, In-Ok-None}
 use Rattle.art_map.proofs.map.TreeMap.remove_entry.Goals as goal
+
+-- what the arena has once the pair was taken, and where there was none
+one-taken : (g : _) (c : After-into_entry g) → HasTaken g.K.AsBytes.bytes g.row.PREFIX_LEN c.take_pair.new.arena c.self.inside.root c.as_bytes.result.now (Some c.in-Ok-Some.deleted) (pairs_from c.self.inside.arena c.self.inside.root) []
+one-taken g c =
+    subst (λ taken. HasTaken g.K.AsBytes.bytes g.row.PREFIX_LEN c.take_pair.new.arena c.self.inside.root c.as_bytes.result.now taken (pairs_from c.self.inside.arena c.self.inside.root) [])
+    c.in-Ok-Some.field-0-is (c.in-Ok-Some.ensures.ok _ [] c.self.invariant.has)
+
+none-taken : (g : _) (c : In-Ok-None g) → HasTaken g.K.AsBytes.bytes g.row.PREFIX_LEN c.take_pair.new.arena c.self.inside.root c.as_bytes.result.now None (pairs_from c.self.inside.arena c.self.inside.root) []
+none-taken g c =
+    subst (λ taken. HasTaken g.K.AsBytes.bytes g.row.PREFIX_LEN c.take_pair.new.arena c.self.inside.root c.as_bytes.result.now taken (pairs_from c.self.inside.arena c.self.inside.root) [])
+    c.in-Ok-None.field-0-is (c.in-Ok-None.ensures.ok _ [] c.self.invariant.has)
 
 pub invariant_of-self : goal.invariant_of-self
 invariant_of-self g c =
     taken-map g.K.AsBytes.bytes g.K.AsBytes.is_key g.row.PREFIX_LEN c.self.inside.arena c.self.inside.root c.self.invariant c.take_pair.new.arena c.as_bytes.result.now c.in-Ok-Some.deleted
-    (subst (HasTaken g.K.AsBytes.bytes g.row.PREFIX_LEN c.take_pair.new.arena c.self.inside.root c.as_bytes.result.now _) c.in-Ok-Some.field-0-is (c.in-Ok-Some.ensures.ok _ [] c.self.invariant.has))
+    (one-taken g c)
 
 pub invariant_of-self-in-Ok-None : goal.invariant_of-self-in-Ok-None
 invariant_of-self-in-Ok-None g c =
     none-map g.K.AsBytes.bytes g.K.AsBytes.is_key g.row.PREFIX_LEN c.self.inside.arena c.self.inside.root c.self.invariant c.take_pair.new.arena c.as_bytes.result.now
-    (subst (HasTaken g.K.AsBytes.bytes g.row.PREFIX_LEN c.take_pair.new.arena c.self.inside.root c.as_bytes.result.now _) c.in-Ok-None.field-0-is (c.in-Ok-None.ensures.ok _ [] c.self.invariant.has))
+    (none-taken g c)
 
 pub invariant_of-self-in-Err : goal.invariant_of-self-in-Err
 invariant_of-self-in-Err g c = same-map g.K.AsBytes.bytes g.K.AsBytes.is_key g.row.PREFIX_LEN c.self.inside.arena c.self.inside.root c.self.invariant c.take_pair.new.arena c.in-Err.ensures.err
@@ -23,25 +35,25 @@ returns-in-Ok-Some-clause-value g c =
     rw (← c.as_bytes.ensures.value, ← c.self.view_is)
     (ap₂ (λ k v. Some (k, v)) c.into_entry.ensures.key c.into_entry.ensures.value
     ∙ sym (taken-entry g.K.AsBytes.bytes g.K.AsBytes.is_key g.row.PREFIX_LEN c.self.inside.arena c.self.inside.root c.self.invariant c.take_pair.new.arena c.as_bytes.result.now c.in-Ok-Some.deleted
-    (subst (HasTaken g.K.AsBytes.bytes g.row.PREFIX_LEN c.take_pair.new.arena c.self.inside.root c.as_bytes.result.now _) c.in-Ok-Some.field-0-is (c.in-Ok-Some.ensures.ok _ [] c.self.invariant.has))))
+    (one-taken g c)))
 
 pub returns-in-Ok-Some-clause-pairs : goal.returns-in-Ok-Some-clause-pairs
 returns-in-Ok-Some-clause-pairs g c =
     rw (← c.as_bytes.ensures.value, ← c.self.view_is)
     (taken-pairs g.K.AsBytes.bytes g.K.AsBytes.is_key g.row.PREFIX_LEN c.self.inside.arena c.self.inside.root c.self.invariant c.take_pair.new.arena c.as_bytes.result.now c.in-Ok-Some.deleted
-    (subst (HasTaken g.K.AsBytes.bytes g.row.PREFIX_LEN c.take_pair.new.arena c.self.inside.root c.as_bytes.result.now _) c.in-Ok-Some.field-0-is (c.in-Ok-Some.ensures.ok _ [] c.self.invariant.has)))
+    (one-taken g c))
 
 pub returns-in-Ok-None-clause-value : goal.returns-in-Ok-None-clause-value
 returns-in-Ok-None-clause-value g c =
     rw (← c.as_bytes.ensures.value, ← c.self.view_is)
     (sym (none-entry g.K.AsBytes.bytes g.K.AsBytes.is_key g.row.PREFIX_LEN c.self.inside.arena c.self.inside.root c.self.invariant c.take_pair.new.arena c.as_bytes.result.now
-    (subst (HasTaken g.K.AsBytes.bytes g.row.PREFIX_LEN c.take_pair.new.arena c.self.inside.root c.as_bytes.result.now _) c.in-Ok-None.field-0-is (c.in-Ok-None.ensures.ok _ [] c.self.invariant.has))))
+    (none-taken g c)))
 
 pub returns-in-Ok-None-clause-pairs : goal.returns-in-Ok-None-clause-pairs
 returns-in-Ok-None-clause-pairs g c =
     rw (← c.as_bytes.ensures.value, ← c.self.view_is)
     (none-pairs g.K.AsBytes.bytes g.K.AsBytes.is_key g.row.PREFIX_LEN c.self.inside.arena c.self.inside.root c.self.invariant c.take_pair.new.arena c.as_bytes.result.now
-    (subst (HasTaken g.K.AsBytes.bytes g.row.PREFIX_LEN c.take_pair.new.arena c.self.inside.root c.as_bytes.result.now _) c.in-Ok-None.field-0-is (c.in-Ok-None.ensures.ok _ [] c.self.invariant.has)))
+    (none-taken g c))
 
 pub returns-in-Err-clause-err : goal.returns-in-Err-clause-err
 returns-in-Err-clause-err g c =
@@ -59,7 +71,7 @@ returns-in-Ok-Some-clause-names g c =
     let old = c.self.inside.arena in
     let root = c.self.inside.root in
     let new = c.take_pair.new.arena in
-    let map = taken-map bytes is_key P old root c.self.invariant new c.as_bytes.result.now c.in-Ok-Some.deleted (subst (HasTaken bytes P new root c.as_bytes.result.now _) c.in-Ok-Some.field-0-is (c.in-Ok-Some.ensures.ok _ [] c.self.invariant.has)) in
+    let map = taken-map bytes is_key P old root c.self.invariant new c.as_bytes.result.now c.in-Ok-Some.deleted (one-taken g c) in
     rw (← c.self.view_is) (kept-names bytes (contents old root) (contents new c.in-Ok-Some.deleted.new_root) (named bytes P old is_key root c.self.invariant) (named bytes P new is_key c.in-Ok-Some.deleted.new_root map) c.in-Ok-Some.ensures.names)
 
 pub returns-in-Ok-None-clause-names : goal.returns-in-Ok-None-clause-names
@@ -70,5 +82,5 @@ returns-in-Ok-None-clause-names g c =
     let old = c.self.inside.arena in
     let root = c.self.inside.root in
     let new = c.take_pair.new.arena in
-    let map = none-map bytes is_key P old root c.self.invariant new c.as_bytes.result.now (subst (HasTaken bytes P new root c.as_bytes.result.now _) c.in-Ok-None.field-0-is (c.in-Ok-None.ensures.ok _ [] c.self.invariant.has)) in
+    let map = none-map bytes is_key P old root c.self.invariant new c.as_bytes.result.now (none-taken g c) in
     rw (← c.self.view_is) (kept-names bytes (contents old root) (contents new root) (named bytes P old is_key root c.self.invariant) (named bytes P new is_key root map) c.in-Ok-None.ensures.names)

@@ -1,10 +1,11 @@
 use Rattle.std.proofs.Common.{◌≡◌, ◌<◌, ◌∷◌, [], ◌++◌, ℕ, All, refl, sym, subst, arith}
 use Rattle.std.proofs.lemmas.List.Elements.{All-get_or}
-use Rattle.art_operations.specs.Builders.{BuildsUpTo}
+use Rattle.art_operations.specs.Builders.{BuildsUpTo, GoesBehind, IsPushRefused}
+use Rattle.art_operations.specs.Meetings.{PartAt}
 use Rattle.art_operations.specs.declared.meeting.Meeting.TheVariants as meeting
 use Rattle.art_operations.specs.declared.meeting.Parted.{Parted}
 use Rattle.art_operations.specs.inner.Meetings.{Meets}
-use Rattle.art_operations.proofs.Building.{behind-last, builds-none, builds-some, first-pair, is-held, last-bytes, new-inside, not-behind, old-byte, old-inside, parts-from}
+use Rattle.art_operations.proofs.Building.{behind-all, behind-last, builds-none, builds-some, first-pair, is-before, is-held, last-bytes, new-inside, not-behind, old-byte, old-inside, parts-from}
 use Rattle.art_operations.proofs.build.TreeBuilder.push.Goals as goal
 
 pub returns-in-Ok-clause-ok : goal.returns-in-Ok-clause-ok
@@ -33,6 +34,7 @@ returns-in_default-met g c = record {
       );
   kept = λ place. ((λ n. refl), refl);
   emptied = λ other. absurd (other tt);
+  succeeds = λ none room. absurd (cc);
 }
 
 pub returns-then-parted-clause-refused : goal.returns-then-parted-clause-refused
@@ -68,3 +70,16 @@ push_behind-requires g c =
         ),
       ),
     )
+
+pub returns-in-Err-push_behind-clause-refused : goal.returns-in-Err-push_behind-clause-refused
+returns-in-Err-push_behind-clause-refused g c = λ pairs builds.
+    let p = c.in-Parts.parted in
+    let part = c.in-Parts.ensures in
+    let is = builds-some g.K.AsBytes.bytes g.row.PREFIX_LEN c.args.arena.now c.args.self.now pairs builds c.in-Some.last c.in-Some.is in
+    let old_is = last-bytes g.K.AsBytes.bytes g.row.PREFIX_LEN c.args.arena.now c.args.self.now.spine c.in-Some.last pairs is c.as_key_ref.result.now c.as_bytes.result.now c.as_key_ref.ensures c.as_bytes.ensures.value in
+    let parts = subst (λ o. PartAt o (g.K.AsBytes.bytes c.args.key) p) old_is (subst (λ n. PartAt c.as_bytes.result.now n p) c.as_bytes-2.ensures.value part) in
+    let differs = part.differs in
+    let less = is-before (g.K.AsBytes.bytes is.key) (g.K.AsBytes.bytes c.args.key) p parts (omega (arith, differs)) in
+    let back = c.in-Err-push_behind.ensures.handed_back in
+    subst (IsPushRefused c.args.key c.args.value (GoesBehind g.K.AsBytes.bytes (g.K.AsBytes.bytes c.args.key) pairs)) (sym c.out_of_memory-in-Err-push_behind.ensures.value)
+    (back.0, back.1, behind-all g.K.AsBytes.bytes g.row.PREFIX_LEN c.args.arena.now c.args.self.now.spine c.in-Some.last pairs is (g.K.AsBytes.bytes c.args.key) less)

@@ -1,15 +1,18 @@
-use Rattle.std.proofs.Common.{None, subst, sym, arith}
+use Rattle.std.proofs.Common.{None, length, subst, sym, arith}
 use Rattle.art_arena.specs.arena.Arena.{node_at}
 use Rattle.art_arena.specs.arena.Context.{path_to}
 use Rattle.art_arena.specs.arena.Meaning.{IsSubtree}
-use Rattle.art_arena.specs.arena.Shapes.{leaves}
+use Rattle.art_arena.specs.arena.Shapes.{Shape, leaves}
+use Rattle.art_arena.specs.arena.Stores.{Stores}
 use Rattle.art_arena.specs.tree.Tenants.{begins_with}
 use Rattle.art_arena.proofs.shapes.Reads.{part_within}
 use Rattle.art_arena.proofs.shapes.Walking.{place-subtree}
+use Rattle.art_operations.specs.Openings.{ForLongest, SpanReads}
 use Rattle.art_operations.proofs.FoundParts.{conflict_point, found_leaf, leaf_root}
-use Rattle.art_operations.proofs.Openings.{part_reads}
+use Rattle.art_operations.proofs.Openings.{opening_of}
 use Rattle.art_operations.proofs.Segments.{begin_in, ends_same}
 use Rattle.art_operations.proofs.delete.subtree.search_for_subtree_delete_point.Goals as goal
+use Rattle.art_operations.proofs.delete.subtree.search_for_subtree_delete_point.Goals.{After-segment_at}
 
 pub returns-in-Ok-clause-answer : goal.returns-in-Ok-clause-answer
 returns-in-Ok-clause-answer g c = λ s stores.
@@ -21,7 +24,10 @@ returns-in-Ok-clause-root g c = leaf_root c.args.root c.in-Ok.point c.leaf_part.
 
 pub returns-in-Ok-clause-few : goal.returns-in-Ok-clause-few
 returns-in-Ok-clause-few g c = λ s stores longest short.
-    part_reads longest c.args.prefix.now c.args.reader.now.count c.find_insert_point_with.new.reader.count c.find_insert_point_with.new.reader.count (c.in-Ok.ensures.few s stores longest short) (omega arith)
+    opening_of longest (length c.args.prefix.now) c.args.reader.now.count c.find_insert_point_with.new.reader.count (omega (arith, c.in-Ok.ensures.few s stores longest short))
+
+pub returns-in-Ok-clause-linear : goal.returns-in-Ok-clause-linear
+returns-in-Ok-clause-linear g c = λ s stores longest short. omega (arith, c.in-Ok.ensures.few s stores longest short)
 
 pub segment_at-requires : goal.segment_at-requires
 segment_at-requires g c =
@@ -35,11 +41,22 @@ returns-in_default-clause-answer g c = λ s stores.
     ends_same g.K.AsBytes.bytes (λ k. begins_with c.args.prefix.now k) (leaves s) (leaves way.part) None (begin_in g.K.AsBytes.bytes c.args.prefix.now s way.part way.ctx way.toward.place way.toward.begins)
     (c.in_default.ensures.value (path_to way.ctx) way.part (subst (λ a. IsSubtree g.K.AsBytes.bytes g.row.PREFIX_LEN (node_at a) c.in-Err.conflict.part (path_to way.ctx) way.part) (sym c.in-Err.ensures.kept) (subst (λ n. IsSubtree g.K.AsBytes.bytes g.row.PREFIX_LEN (node_at c.args.reader.now.arena.now) n (path_to way.ctx) way.part) way.here (place-subtree g.K.AsBytes.bytes g.row.PREFIX_LEN (node_at c.args.reader.now.arena.now) c.args.root s way.ctx way.part stores way.toward.place))) way.conflicts)
 
-pub returns-in_default-clause-few : goal.returns-in_default-clause-few
-returns-in_default-clause-few g c = λ s stores longest short.
+-- how much was read
+reads : (g : _) (c : After-segment_at g) (s : Shape g.row.K.Denot g.row.V.Denot) → Stores g.K.AsBytes.bytes g.row.PREFIX_LEN c.args.reader.now.arena.now c.args.root s
+    → ForLongest g.K.AsBytes.bytes s (λ longest. SpanReads longest c.args.reader.now.count c.segment_at.new.reader.count)
+reads g c s stores longest short =
     let way = c.in-Err.ensures.part s stores in
-    part_reads longest c.args.prefix.now c.args.reader.now.count c.find_insert_point_with.new.reader.count c.segment_at.new.reader.count (c.in-Err.ensures.few s stores longest short)
-    (c.segment_at.ensures.few (path_to way.ctx) way.part (subst (λ a. IsSubtree g.K.AsBytes.bytes g.row.PREFIX_LEN (node_at a) c.in-Err.conflict.part (path_to way.ctx) way.part) (sym c.in-Err.ensures.kept) (subst (λ n. IsSubtree g.K.AsBytes.bytes g.row.PREFIX_LEN (node_at c.args.reader.now.arena.now) n (path_to way.ctx) way.part) way.here (place-subtree g.K.AsBytes.bytes g.row.PREFIX_LEN (node_at c.args.reader.now.arena.now) c.args.root s way.ctx way.part stores way.toward.place))) longest (part_within g.K.AsBytes.bytes longest s way.ctx way.part way.toward.place.is short))
+    omega (
+      arith,
+      c.in-Err.ensures.few s stores longest short,
+      c.segment_at.ensures.few (path_to way.ctx) way.part (subst (λ a. IsSubtree g.K.AsBytes.bytes g.row.PREFIX_LEN (node_at a) c.in-Err.conflict.part (path_to way.ctx) way.part) (sym c.in-Err.ensures.kept) (subst (λ n. IsSubtree g.K.AsBytes.bytes g.row.PREFIX_LEN (node_at c.args.reader.now.arena.now) n (path_to way.ctx) way.part) way.here (place-subtree g.K.AsBytes.bytes g.row.PREFIX_LEN (node_at c.args.reader.now.arena.now) c.args.root s way.ctx way.part stores way.toward.place))) longest (part_within g.K.AsBytes.bytes longest s way.ctx way.part way.toward.place.is short),
+    )
+
+pub returns-in_default-clause-linear : goal.returns-in_default-clause-linear
+returns-in_default-clause-linear g c = reads g (goal.at.returns-in_default-clause-linear g c).After-segment_at
+
+pub returns-in_default-clause-few : goal.returns-in_default-clause-few
+returns-in_default-clause-few g c = λ s stores longest short. opening_of longest (length c.args.prefix.now) _ _ (reads g (goal.at.returns-in_default-clause-few g c).After-segment_at s stores longest short)
 
 pub returns-clause-answer : goal.returns-clause-answer
 returns-clause-answer g c = λ s stores.
@@ -48,11 +65,11 @@ returns-clause-answer g c = λ s stores.
     (c.in-Some.ensures.value (path_to way.ctx) way.part (subst (λ a. IsSubtree g.K.AsBytes.bytes g.row.PREFIX_LEN (node_at a) c.in-Err.conflict.part (path_to way.ctx) way.part) (sym c.in-Err.ensures.kept) (subst (λ n. IsSubtree g.K.AsBytes.bytes g.row.PREFIX_LEN (node_at c.args.reader.now.arena.now) n (path_to way.ctx) way.part) way.here (place-subtree g.K.AsBytes.bytes g.row.PREFIX_LEN (node_at c.args.reader.now.arena.now) c.args.root s way.ctx way.part stores way.toward.place))) way.conflicts)
     (c.in-Some.ensures.all (path_to way.ctx) way.part (subst (λ a. IsSubtree g.K.AsBytes.bytes g.row.PREFIX_LEN (node_at a) c.in-Err.conflict.part (path_to way.ctx) way.part) (sym c.in-Err.ensures.kept) (subst (λ n. IsSubtree g.K.AsBytes.bytes g.row.PREFIX_LEN (node_at c.args.reader.now.arena.now) n (path_to way.ctx) way.part) way.here (place-subtree g.K.AsBytes.bytes g.row.PREFIX_LEN (node_at c.args.reader.now.arena.now) c.args.root s way.ctx way.part stores way.toward.place))) way.conflicts)
 
+pub returns-clause-linear : goal.returns-clause-linear
+returns-clause-linear g c = reads g (goal.at.returns-clause-linear g c).After-segment_at
+
 pub returns-clause-few : goal.returns-clause-few
-returns-clause-few g c = λ s stores longest short.
-    let way = c.in-Err.ensures.part s stores in
-    part_reads longest c.args.prefix.now c.args.reader.now.count c.find_insert_point_with.new.reader.count c.segment_at.new.reader.count (c.in-Err.ensures.few s stores longest short)
-    (c.segment_at.ensures.few (path_to way.ctx) way.part (subst (λ a. IsSubtree g.K.AsBytes.bytes g.row.PREFIX_LEN (node_at a) c.in-Err.conflict.part (path_to way.ctx) way.part) (sym c.in-Err.ensures.kept) (subst (λ n. IsSubtree g.K.AsBytes.bytes g.row.PREFIX_LEN (node_at c.args.reader.now.arena.now) n (path_to way.ctx) way.part) way.here (place-subtree g.K.AsBytes.bytes g.row.PREFIX_LEN (node_at c.args.reader.now.arena.now) c.args.root s way.ctx way.part stores way.toward.place))) longest (part_within g.K.AsBytes.bytes longest s way.ctx way.part way.toward.place.is short))
+returns-clause-few g c = λ s stores longest short. opening_of longest (length c.args.prefix.now) _ _ (reads g (goal.at.returns-clause-few g c).After-segment_at s stores longest short)
 
 pub returns-in_default-clause-least : goal.returns-in_default-clause-least
 returns-in_default-clause-least g c = omega (arith, c.in-Err.ensures.least, c.segment_at.ensures.least)

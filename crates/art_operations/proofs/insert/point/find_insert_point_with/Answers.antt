@@ -31,7 +31,7 @@ later g c path s at = subst (λ a. StoresAt g.K.AsBytes.bytes g.row.PREFIX_LEN a
 
 -- how much was read
 reads : (g : _) (c : After-way_with g) (s : Shape g.row.K.Denot g.row.V.Denot) → Stores g.K.AsBytes.bytes g.row.PREFIX_LEN c.args.reader.now.arena.now c.args.root s
-    → ForLongest g.K.AsBytes.bytes s (λ longest. PlaceReads longest c.args.key.now c.args.reader.now.count c.way_with.new.reader.count)
+    → ForLongest g.K.AsBytes.bytes s (λ longest. PlaceReads longest c.args.reader.now.count c.way_with.new.reader.count)
 reads g c s tree longest short =
     let stop = c.stop_with-stop.result in
     let way = c.stop_with-stop.ensures.way s tree in

@@ -1,30 +1,9 @@
-use Rattle.std.proofs.Common.{[], map, refl, subst, ap, ◌∙◌}
-use Rattle.std.specs.Iterator.{Drains}
-use Rattle.art_set.specs.Bulk.{HandsNextKeyBack}
-use Rattle.art_set.specs.Members.{with_keys_put}
-use Rattle.art_set.proofs.KeyPuts.{made-refused, next-back}
+use Rattle.std.proofs.Common.{[], map, refl, sym, subst, arith, Ok, Err}
+use Rattle.art_map.specs.Asked.{with_pairs_put}
+use Rattle.art_map.specs.Builders.{HasGathered}
+use Rattle.art_map.proofs.Puts.{made-finished, put-item}
+use Rattle.art_set.proofs.KeyPuts.{keys-made, next-back}
 use Rattle.art_set.proofs.set.TreeSet.from_iter.Goals as goal
-
-pub returns-in_err-extend : goal.returns-in_err-extend
-returns-in_err-extend g c =
-    let it = c.into_iter-keys in
-    let ran = c.in_err-extend.ensures in
-    made-refused g.K.AsBytes.bytes (λ key. key) g.U.IntoIterator.into_iter_gives g.U.IntoIter.Iterator.next_gives c.args.iter it.result ran.1 c.in_err-extend.field-0.0 c.from_residual.result it.ensures.into_iter_gives
-    (subst (λ s. HandsNextKeyBack g.K.AsBytes.bytes (λ key. key) g.U.IntoIterator.into_iter_gives g.U.IntoIter.Iterator.next_gives s ran.1 c.in_err-extend.field-0.0) ran.2 ran.4)
-    c.from_residual.ensures.1
-
-pub returns : goal.returns
-returns g c =
-    let it = c.into_iter-keys in
-    let ran = c.in_ok-extend.ensures in (
-      it.result,
-      ran.1,
-      it.ensures.into_iter_gives,
-      (
-        subst (λ s. Drains g.U.IntoIter.Iterator.next_gives s ran.1) ran.2 ran.4,
-        ran.3 ∙ ap (with_keys_put g.K.AsBytes.bytes (map (λ k. k) ran.1)) c.with_prefix_len-set.ensures,
-      ),
-    )
 
 pub returns-then-not-nodes_fit : goal.returns-then-not-nodes_fit
 returns-then-not-nodes_fit g c =
@@ -35,3 +14,39 @@ returns-then-not-nodes_fit g c =
       next-back g.K.AsBytes.bytes (λ key. key) g.U.IntoIterator.into_iter_gives g.U.IntoIter.Iterator.next_gives it.result it.result c.next.new.self [] c.in-Some.key (record { key = c.in-Some.key })
           c.in-Some.key refl c.in-Some.ensures.steps refl refl,
     )
+
+pub loop-key-init : goal.loop-key-init
+loop-key-init g c = c.new-builder.ensures
+
+pub loop-key-preserved : goal.loop-key-preserved
+loop-key-preserved g c =
+    subst (HasGathered g.K.AsBytes.bytes g.K.AsBytes.is_key c.put.new.self) (sym (put-item g.K.AsBytes.bytes (λ k. (k, tt)) c.loop-key.yielded c.in-Some-key.key []))
+    (c.in-Ok.ensures.ok (with_pairs_put g.K.AsBytes.bytes (map (λ k. (k, tt)) c.loop-key.yielded) []) c.loop-key.invariant)
+
+pub returns-in-Err : goal.returns-in-Err
+returns-in-Err g c =
+    let it = c.into_iter-key-iterator in (
+      it.result,
+      c.loop-key.yielded,
+      it.ensures.into_iter_gives,
+      next-back g.K.AsBytes.bytes (λ key. key) g.U.IntoIterator.into_iter_gives g.U.IntoIter.Iterator.next_gives it.result c.loop-key.key-iterator c.next-in-loop-key.new.self c.loop-key.yielded c.in-Some-key.key (record { key = c.in-Err.refused.key })
+          c.in-Some-key.key c.loop-key.yielded_by c.in-Some-key.ensures.steps refl c.in-Err.ensures.handed_back.0,
+    )
+
+pub finish-requires : goal.finish-requires
+finish-requires g c =
+    (omega arith, (omega arith, (c.if-not-nodes_fit.ensures.0 refl, (with_pairs_put g.K.AsBytes.bytes (map (λ k. (k, tt)) c.loop-key.yielded) [], c.loop-key.invariant))))
+
+pub returns-in-Ok-finish : goal.returns-in-Ok-finish
+returns-in-Ok-finish g c =
+    let it = c.into_iter-key-iterator in
+    keys-made g.K.AsBytes.bytes (λ key. key) g.U.IntoIterator.into_iter_gives g.U.IntoIter.Iterator.next_gives c.args.iter (Ok c.in-Ok-finish.map)
+    (made-finished g.K.AsBytes.bytes (λ k. (k, tt)) g.U.IntoIterator.into_iter_gives g.U.IntoIter.Iterator.next_gives (HasGathered g.K.AsBytes.bytes g.K.AsBytes.is_key c.loop-key.builder) c.args.iter it.result c.loop-key.yielded (Ok c.in-Ok-finish.map)
+    it.ensures.into_iter_gives (c.next-in-loop-key.new.self, (c.loop-key.key-iterator, c.loop-key.yielded_by, c.in-None.ensures.steps)) c.loop-key.invariant c.in-Ok-finish.ensures.ok tt)
+
+pub returns-in-Err-finish : goal.returns-in-Err-finish
+returns-in-Err-finish g c =
+    let it = c.into_iter-key-iterator in
+    keys-made g.K.AsBytes.bytes (λ key. key) g.U.IntoIterator.into_iter_gives g.U.IntoIter.Iterator.next_gives c.args.iter (Err c.in-Err-finish.refused)
+    (made-finished g.K.AsBytes.bytes (λ k. (k, tt)) g.U.IntoIterator.into_iter_gives g.U.IntoIter.Iterator.next_gives (HasGathered g.K.AsBytes.bytes g.K.AsBytes.is_key c.loop-key.builder) c.args.iter it.result c.loop-key.yielded (Err c.in-Err-finish.refused)
+    it.ensures.into_iter_gives (c.next-in-loop-key.new.self, (c.loop-key.key-iterator, c.loop-key.yielded_by, c.in-None.ensures.steps)) c.loop-key.invariant tt c.in-Err-finish.ensures.handed_back)

@@ -1,9 +1,12 @@
-use Rattle.std.proofs.Common.{arith, filter, subst, sym, refl}
+use Rattle.std.proofs.Common.{ℕ, List, length, arith, filter, subst, sym, refl}
 use Rattle.art_arena.specs.tree.Tenants.{begins_with}
 use Rattle.art_operations.proofs.Stretches.{front_convex}
-use Rattle.art_walks.specs.MapReads.{IsSpanOf, ReadsPairs}
+use Rattle.art_operations.specs.Openings.{SpanReads}
+use Rattle.art_operations.proofs.Openings.{opening_of}
+use Rattle.art_walks.specs.MapReads.{IsSpanOf, PairsWithin, ReadsPairs}
 use Rattle.art_walks.proofs.MapReads.{keys-within, no-span, span-of, the-shape, the-stores, where_none, where_some}
 use Rattle.art_walks.proofs.map_reader.MapReader+K+V+PREFIX_LEN.prefix.Goals as goal
+use Rattle.art_walks.proofs.map_reader.MapReader+K+V+PREFIX_LEN.prefix.Goals.{After-find_prefix_segment_with}
 
 pub find_prefix_segment_with-requires : goal.find_prefix_segment_with-requires
 find_prefix_segment_with-requires g c = (omega arith, (the-shape g.K.AsBytes.bytes g.row.PREFIX_LEN c.self.inside.reader.arena.now c.in-Some.root c.self.invariant.0 (subst (λ r. ReadsPairs g.K.AsBytes.bytes g.row.PREFIX_LEN c.self.inside.reader.arena.now r c.self.invariant.0) c.in-Some.is c.self.invariant.1), the-stores g.K.AsBytes.bytes g.row.PREFIX_LEN c.self.inside.reader.arena.now c.in-Some.root c.self.invariant.0 (subst (λ r. ReadsPairs g.K.AsBytes.bytes g.row.PREFIX_LEN c.self.inside.reader.arena.now r c.self.invariant.0) c.in-Some.is c.self.invariant.1)))
@@ -14,9 +17,17 @@ returns-in-Some-clause-value g c = rw (← c.self.view_is, ← c.as_bytes.ensure
     (subst (λ ends. IsSpanOf c.self.inside.reader.arena.now pairs ends (filter (λ p. begins_with c.as_bytes.result.now (g.K.AsBytes.bytes p.0)) pairs)) (sym c.of.ensures)
     (span-of g.K.AsBytes.bytes g.row.PREFIX_LEN c.self.inside.reader.arena.now c.in-Some.root pairs (subst (λ r. ReadsPairs g.K.AsBytes.bytes g.row.PREFIX_LEN c.self.inside.reader.arena.now r pairs) c.in-Some.is has) (λ k. begins_with c.as_bytes.result.now k) (front_convex c.as_bytes.result.now) c.find_prefix_segment_with.result (c.find_prefix_segment_with.ensures.value (the-shape g.K.AsBytes.bytes g.row.PREFIX_LEN c.self.inside.reader.arena.now c.in-Some.root pairs (subst (λ r. ReadsPairs g.K.AsBytes.bytes g.row.PREFIX_LEN c.self.inside.reader.arena.now r pairs) c.in-Some.is has)) (the-stores g.K.AsBytes.bytes g.row.PREFIX_LEN c.self.inside.reader.arena.now c.in-Some.root pairs (subst (λ r. ReadsPairs g.K.AsBytes.bytes g.row.PREFIX_LEN c.self.inside.reader.arena.now r pairs) c.in-Some.is has))))))
 
+-- how much was read
+reads : (g : _) (c : After-find_prefix_segment_with g) (pairs : List (g.row.K.Denot × g.row.V.Denot)) → ReadsPairs g.K.AsBytes.bytes g.row.PREFIX_LEN c.self.inside.reader.arena.now c.self.inside.root pairs
+    → (longest : ℕ) → PairsWithin g.K.AsBytes.bytes longest pairs → SpanReads longest c.self.inside.reader.count c.find_prefix_segment_with.new.reader.count
+reads g c pairs has longest short =
+    c.find_prefix_segment_with.ensures.few (the-shape g.K.AsBytes.bytes g.row.PREFIX_LEN c.self.inside.reader.arena.now c.in-Some.root pairs (subst (λ r. ReadsPairs g.K.AsBytes.bytes g.row.PREFIX_LEN c.self.inside.reader.arena.now r pairs) c.in-Some.is has)) (the-stores g.K.AsBytes.bytes g.row.PREFIX_LEN c.self.inside.reader.arena.now c.in-Some.root pairs (subst (λ r. ReadsPairs g.K.AsBytes.bytes g.row.PREFIX_LEN c.self.inside.reader.arena.now r pairs) c.in-Some.is has)) longest (keys-within g.K.AsBytes.bytes g.row.PREFIX_LEN c.self.inside.reader.arena.now c.in-Some.root pairs (subst (λ r. ReadsPairs g.K.AsBytes.bytes g.row.PREFIX_LEN c.self.inside.reader.arena.now r pairs) c.in-Some.is has) longest short)
+
 pub returns-in-Some-clause-few : goal.returns-in-Some-clause-few
-returns-in-Some-clause-few g c = rw (← c.self.view_is, ← c.as_bytes.ensures.value) (λ pairs has longest short.
-    c.find_prefix_segment_with.ensures.few (the-shape g.K.AsBytes.bytes g.row.PREFIX_LEN c.self.inside.reader.arena.now c.in-Some.root pairs (subst (λ r. ReadsPairs g.K.AsBytes.bytes g.row.PREFIX_LEN c.self.inside.reader.arena.now r pairs) c.in-Some.is has)) (the-stores g.K.AsBytes.bytes g.row.PREFIX_LEN c.self.inside.reader.arena.now c.in-Some.root pairs (subst (λ r. ReadsPairs g.K.AsBytes.bytes g.row.PREFIX_LEN c.self.inside.reader.arena.now r pairs) c.in-Some.is has)) longest (keys-within g.K.AsBytes.bytes g.row.PREFIX_LEN c.self.inside.reader.arena.now c.in-Some.root pairs (subst (λ r. ReadsPairs g.K.AsBytes.bytes g.row.PREFIX_LEN c.self.inside.reader.arena.now r pairs) c.in-Some.is has) longest short))
+returns-in-Some-clause-few g c = rw (← c.self.view_is, ← c.as_bytes.ensures.value) (λ pairs has longest short. opening_of longest (length c.as_bytes.result.now) _ _ (reads g (goal.at.returns-in-Some-clause-few g c).After-find_prefix_segment_with pairs has longest short))
+
+pub returns-in-Some-clause-linear : goal.returns-in-Some-clause-linear
+returns-in-Some-clause-linear g c = rw (← c.self.view_is) (reads g (goal.at.returns-in-Some-clause-linear g c).After-find_prefix_segment_with)
 
 pub returns-in-None-clause-value : goal.returns-in-None-clause-value
 returns-in-None-clause-value g c = rw (← c.self.view_is) (λ pairs has. (subst (λ ends. IsSpanOf c.self.inside.reader.arena.now pairs ends (filter (λ p. begins_with (g.Q.AsBytes.bytes c.args.prefix.now) (g.K.AsBytes.bytes p.0)) pairs)) (sym c.of-in-None.ensures) (no-span c.self.inside.reader.arena.now pairs (subst (λ r. ReadsPairs g.K.AsBytes.bytes g.row.PREFIX_LEN c.self.inside.reader.arena.now r pairs) c.in-None.is has).1.0 (λ p. begins_with (g.Q.AsBytes.bytes c.args.prefix.now) (g.K.AsBytes.bytes p.0)))))

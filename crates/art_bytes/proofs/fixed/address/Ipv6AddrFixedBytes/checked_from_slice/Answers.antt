@@ -2,8 +2,8 @@
 use Rattle.std.proofs.Common.{rules, ◌≡◌, ◌<◌, ℕ, length, get_or, subst, sym, ◌∙◌}
 use Rattle.std.specs.Net.Addr.{ipv6_octets, ipv6_segments}
 use Rattle.art_bytes.specs.Keys.{AreBytes}
-use Rattle.art_bytes.specs.inner.KeyLaws.{AreBytes-by_index}
-use Rattle.art_bytes.specs.inner.AddressLaws.{octets_read}
+use Rattle.art_bytes.specs.lemmas.KeyLaws.{AreBytes-by_index}
+use Rattle.art_bytes.specs.lemmas.AddressLaws.{octets_read}
 use Rattle.art_bytes.proofs.fixed.address.Ipv6AddrFixedBytes.checked_from_slice.Goals as goal
 
 pub returns : goal.returns

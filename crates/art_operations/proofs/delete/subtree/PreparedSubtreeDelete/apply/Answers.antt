@@ -51,7 +51,7 @@ returns-clause-cut g c = λ front s rest tree is.
           c.free_tree-freed.ensures.nodes is.at.part around beside
           ∙ ap (λ n. min n (2 ^ 64 - 1)) (shape-nodes g.K.AsBytes.bytes g.row.PREFIX_LEN (path_to is.at.ctx) is.at.part is.at.place.under)
           ∙ ap (λ ls. nodes_counted (key_of g.K.AsBytes.bytes) (pairs_of ls)) is.block;
-      left = subst (HasLeavesBeside g.K.AsBytes.bytes g.row.PREFIX_LEN new rest left) is.others others;
+      left = subst (λ ls. HasLeavesBeside g.K.AsBytes.bytes g.row.PREFIX_LEN new left ls rest) is.others others;
     }
 
 pub returns-clause-others : goal.returns-clause-others

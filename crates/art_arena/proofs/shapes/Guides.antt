@@ -1,0 +1,199 @@
+-- A guide: how it is found by a way down, and what it tells at each node on the key's way.
+use Rattle.std.proofs.Common.{◌≡◌, ℕ, ◌+◌, ◌≤◌, List, [], ◌∷◌, ◌++◌, length, get_or, Option, Some, None, sym, ap, subst, ◌∙◌, inl, inr, arith, length-append}
+use Rattle.art_bytes.specs.Keys.{BeginsWith}
+use Rattle.art_bytes.proofs.Order.{begins_append, begins_step}
+use Rattle.art_nodes.specs.InnerNode.{InnerNode, child_at}
+use Rattle.art_nodes.specs.Name.{Name}
+use Rattle.art_nodes.specs.declared.leaf.LeafNode.{LeafNode}
+use Rattle.art_arena.specs.arena.Arena.{Arena, cell_of, held_at, leaf_held, node_at}
+use Rattle.art_arena.specs.arena.Cells.{Cell, pair, branches, leaf_name}
+use Rattle.art_arena.specs.arena.Descents.{GoesOn, GoesNoFurther, IsGuide, GuidesBelow}
+use Rattle.art_arena.specs.arena.Meaning.{IsAtDepth, IsSubtree}
+use Rattle.art_arena.specs.arena.Prefixes.{prefix_of}
+use Rattle.art_arena.specs.arena.Linked.{first_slot}
+use Rattle.art_arena.specs.arena.Reads.{IsReadAt, KeysWithin}
+use Rattle.art_arena.specs.arena.Shapes.{Shape, Branches, leaf_at, inner_at, no_branch, branch, join, name_of, children_at, leaves, IsUnder}
+use Rattle.std.specs.List.{AllByRecursion}
+use Rattle.art_arena.proofs.tree.Shrinks.{same_front}
+use Rattle.art_arena.proofs.shapes.EndWalks.{within_branch}
+use Rattle.art_arena.proofs.shapes.Finding.{Avoid, avoid-above, avoid-below, avoid-missing, byte_behind}
+use Rattle.art_arena.proofs.shapes.OneMeaning.{same_shape}
+use Rattle.art_arena.proofs.shapes.Places.{inner-there, leaf-there, leaves-begin, split}
+use Rattle.art_arena.proofs.shapes.Prefixes.{first_leaf}
+use Rattle.art_arena.proofs.shapes.Subtrees.{some_leaf, subtree-branch}
+
+module _ {K V : Type 0} (key guide : List ℕ) where
+  -- it begins with the path
+  pub guide_path : (path : List ℕ) (s : Shape K V) → IsGuide key guide path s → BeginsWith path guide
+  guide_path path (leaf_at slot k v) h = h
+  guide_path path (inner_at n prefix kids) h = begins_append path prefix guide h.0
+
+  -- and with the prefix of an inner node behind it
+  pub guide_prefix : (path : List ℕ) (s : Shape K V) (n : Name) (prefix : List ℕ) (kids : Branches K V) → s ≡ inner_at n prefix kids → IsGuide key guide path s → BeginsWith (path ++ prefix_of s) guide
+  guide_prefix path (leaf_at slot k v) n prefix kids is h = absurd (cc)
+  guide_prefix path (inner_at m other f) n prefix kids is h = h.0
+
+  -- it is one below the child to which the key leads
+  pub guide_down : (front : List ℕ) (before : Branches K V) (b : ℕ) (t : Shape K V) (after : Branches K V) → GuidesBelow key guide front (join before (branch b t after)) → BeginsWith (front ++ b ∷ []) key → IsGuide key guide (front ++ b ∷ []) t
+  guide_down front no_branch b t after h begins = h.0 begins
+  guide_down front (branch c u before) b t after h begins = guide_down front before b t after h.1 begins
+
+  -- where no branch stands under the key's next byte, the key leads to none, and where it has no next byte
+  guides_avoid : (bytes : K → List ℕ) (front : List ℕ) (b : ℕ) (f : Branches K V) → get_or key (length front) 0 ≡ b → Avoid bytes key b f → GuidesBelow key guide front f
+  guides_avoid bytes front b no_branch here avoid = tt
+  guides_avoid bytes front b (branch c s rest) here avoid = (
+    λ begins.
+        let on = begins_step front c key begins in
+        absurd (avoid.0 (sym (byte_behind front on.0 c) ∙ sym (ap (λ k. get_or k (length front) 0) on.1) ∙ here)),
+    guides_avoid bytes front b rest here avoid.1,
+  )
+
+  guides_short : (front : List ℕ) (f : Branches K V) → length key ≤ length front → GuidesBelow key guide front f
+  guides_short front no_branch short = tt
+  guides_short front (branch c s rest) short = (
+    λ begins.
+        let on = begins_step front c key begins in
+        absurd (omega (arith, short, ap length on.1, length-append front (c ∷ on.0))),
+    guides_short front rest short,
+  )
+
+  -- where one does, it leads there alone
+  guides_up : (bytes : K → List ℕ) (front : List ℕ) (before : Branches K V) (b : ℕ) (t : Shape K V) (after : Branches K V) → get_or key (length front) 0 ≡ b → Avoid bytes key b before → Avoid bytes key b after
+      → IsGuide key guide (front ++ b ∷ []) t → GuidesBelow key guide front (join before (branch b t after))
+  guides_up bytes front no_branch b t after here avoid avoid_after h = (λ begins. h, guides_avoid bytes front b after here avoid_after)
+  guides_up bytes front (branch c u before) b t after here avoid avoid_after h =
+      ((guides_avoid bytes front b (branch c u no_branch) here (avoid.0, tt)).0, guides_up bytes front before b t after here avoid.1 avoid_after h)
+
+-- a path has no more bytes than the longest key below it
+pub deep_within : {K V : Type 0} (bytes : K → List ℕ) (path : List ℕ) (s : Shape K V) → IsUnder bytes path s → (longest : ℕ) → KeysWithin bytes longest (leaves s) → length path ≤ longest
+deep_within bytes path s under longest short =
+    let l = some_leaf bytes path s under in
+    let begins : BeginsWith path (bytes l.0.key) = (subst (AllByRecursion (λ x. BeginsWith path (bytes x.key))) l.2 (leaves-begin bytes path s under)).0 in
+    let own : length (bytes l.0.key) ≤ longest = (subst (KeysWithin bytes longest) l.2 short).0 in
+    omega (arith, own, ap length begins.1, length-append path begins.0)
+
+module _ {K V : Type 0} (bytes : K → List ℕ) (P : ℕ) (at : Name → Option (Cell K V)) (key : List ℕ) where
+  -- Below this name stands a part of this one, behind so many bytes of the key. A guide below it is one below the whole.
+  pub record IsAlong (path : List ℕ) (s : Shape K V) (current : Name) (used : ℕ) : Type 0 where
+    pub below : List ℕ
+    pub part : Shape K V
+    pub stands : IsAtDepth bytes P at current used below part
+    pub up : (guide : List ℕ) → IsGuide key guide below part → IsGuide key guide path s
+    pub within : (longest : ℕ) → KeysWithin bytes longest (leaves s) → KeysWithin bytes longest (leaves part)
+
+  pub along-start : (path : List ℕ) (s : Shape K V) (root : Name) (depth : ℕ) → IsAtDepth bytes P at root depth path s → IsAlong path s root depth
+  along-start path s root depth stands = record {
+    below = path;
+    part = s;
+    stands = stands;
+    up = λ guide h. h;
+    within = λ longest short. short;
+  }
+
+  -- at a leaf its own key is a guide
+  pub guide_leaf : (n : Name) (path : List ℕ) (s : Shape K V) (k : K) (v : V) → IsSubtree bytes P at n path s → at n ≡ Some (pair k v) → IsGuide key (bytes k) path s
+  guide_leaf n path s k v sub there =
+      let is = leaf-there P at s k v sub.part.held (ap at sub.part.named ∙ there) in
+      subst (IsGuide key (bytes k) path) (sym is) (subst (IsUnder bytes path) is sub.under)
+
+  module _ (n : Name) (depth : ℕ) (path : List ℕ) (s : Shape K V) (stands : IsAtDepth bytes P at n depth path s) (node : InnerNode) (there : at n ≡ Some (branches node)) where
+    record Here : Type 0 where
+      pub prefix : List ℕ
+      pub kids : Branches K V
+      pub is : s ≡ inner_at n prefix kids
+      pub front_len : length (path ++ prefix) ≡ depth + node.header.prefix_len
+      pub kids_are : node.children ≡ children_at kids
+      pub subtree : IsSubtree bytes P at n path (inner_at n prefix kids)
+
+    here : Here
+    here =
+        let i = inner-there P at s node stands.subtree.part.held (ap at stands.subtree.part.named ∙ there) in
+        let is : s ≡ inner_at n i.prefix i.kids = i.is ∙ ap (λ m. inner_at m i.prefix i.kids) stands.subtree.part.named in
+        record {
+          prefix = i.prefix;
+          kids = i.kids;
+          is = is;
+          front_len = omega (arith, length-append path i.prefix, stands.behind, ap (λ (m : InnerNode). m.header.prefix_len) i.node_is);
+          kids_are = ap (λ (m : InnerNode). m.children) i.node_is;
+          subtree = subst (IsSubtree bytes P at n path) is stands.subtree;
+        }
+
+    -- where the key goes no further, any leaf below is a guide
+    pub guide_ends : GoesNoFurther key depth node → (guide : List ℕ) → BeginsWith (path ++ prefix_of s) guide → IsGuide key guide path s
+    guide_ends ends guide begins =
+        let h = here in
+        subst (IsGuide key guide path) (sym h.is) (subst (λ t. BeginsWith (path ++ prefix_of t) guide) h.is begins, none ends)
+      where
+        none : GoesNoFurther key depth node → GuidesBelow key guide (path ++ here.prefix) here.kids
+        none (inl short) = guides_short key guide (path ++ here.prefix) here.kids (omega (arith, short, here.front_len))
+        none (inr missing) =
+            let b = get_or key (depth + node.header.prefix_len) 0 in
+            guides_avoid key guide bytes (path ++ here.prefix) b here.kids (ap (λ i. get_or key i 0) here.front_len)
+            (avoid-missing bytes key b here.kids (ap (λ cs. child_at cs b) (sym here.kids_are) ∙ missing))
+
+    -- where it goes on, it goes on along the child
+    pub along-child : (b : ℕ) (child : Name) (next : ℕ) → GoesOn key depth node b child next → IsAlong path s child next
+    along-child b child next goes =
+        let h = here in
+        let front = path ++ h.prefix in
+        let sp = split bytes h.kids b child front 0 h.subtree.under.1 (ap (λ cs. child_at cs b) (sym h.kids_are) ∙ goes.child_is) in
+        let below = subtree-branch bytes P at n path h.prefix h.kids sp.before b sp.here sp.after h.subtree sp.kids_are in
+        let at_b : get_or key (length front) 0 ≡ b = ap (λ i. get_or key i 0) h.front_len ∙ goes.byte_is in
+        record {
+          below = front ++ b ∷ [];
+          part = sp.here;
+          stands = record {
+            subtree = subst (λ m. IsSubtree bytes P at m (front ++ b ∷ []) sp.here) sp.named below.subtree;
+            behind = omega (arith, length-append front (b ∷ []), h.front_len, goes.next_is);
+          };
+          up = λ guide g.
+              subst (IsGuide key guide path) (sym h.is) (
+                begins_append front (b ∷ []) guide (guide_path key guide (front ++ b ∷ []) sp.here g),
+                subst (GuidesBelow key guide front) (sym sp.kids_are)
+                    (guides_up key guide bytes front sp.before b sp.here sp.after at_b (avoid-below bytes key b sp.before sp.below) (avoid-above bytes key front b (b + 1) sp.after (omega arith) sp.after_under) g),
+              );
+          within = λ longest short. within_branch bytes longest h.kids sp.before b sp.here sp.after sp.kids_are (subst (λ t. KeysWithin bytes longest (leaves t)) h.is short);
+        }
+
+  -- the way goes on
+  pub along-goes : (path : List ℕ) (s : Shape K V) (current : Name) (used : ℕ) → IsAlong path s current used → (node : InnerNode) → at current ≡ Some (branches node)
+      → (b : ℕ) (child : Name) (next : ℕ) → GoesOn key used node b child next → IsAlong path s child next
+  along-goes path s current used along node there b child next goes =
+      let more = along-child current used along.below along.part along.stands node there b child next goes in
+      record {
+        below = more.below;
+        part = more.part;
+        stands = more.stands;
+        up = λ guide h. along.up guide (more.up guide h);
+        within = λ longest short. more.within longest (along.within longest short);
+      }
+
+  -- what stands behind so many bytes of the key under a name is one part
+  pub guide_any : (n : Name) (depth : ℕ) (p q : List ℕ) (s t : Shape K V) → IsAtDepth bytes P at n depth p s → IsAtDepth bytes P at n depth q t → BeginsWith p key → BeginsWith q key → (guide : List ℕ) → IsGuide key guide p s → IsGuide key guide q t
+  guide_any n depth p q s t a b on on_too guide h =
+      let len : length p ≡ length q = a.behind ∙ sym b.behind in
+      let paths = same_front p q key on on_too len in
+      let shapes = same_shape bytes P at p q s t len a.subtree.under b.subtree.under a.subtree.part.held b.subtree.part.held (a.subtree.part.named ∙ sym b.subtree.part.named) in
+      subst (λ x. IsGuide key guide x t) paths (subst (IsGuide key guide p) shapes h)
+
+module _ {K V : Type 0} (bytes : K → List ℕ) (P : ℕ) (arena : Arena K V) (node : InnerNode) (root : Name) (depth : ℕ) (path : List ℕ) (s : Shape K V) (at : IsReadAt bytes P arena node root depth path s) (key : List ℕ) where
+  -- from an inner node that was read the way goes on along a child
+  pub read_along : (b : ℕ) (child : Name) (next : ℕ) → GoesOn key depth node b child next → IsAlong bytes P (node_at arena) key path s child next
+  read_along b child next goes = along-child bytes P (node_at arena) key root depth path s at.stands node (ap cell_of at.held) b child next goes
+
+  -- or the first leaf below is a guide
+  pub read_ends : GoesNoFurther key depth node → (slot : ℕ) (leaf : LeafNode K V) → first_slot (leaves s) None ≡ Some slot → held_at arena (leaf_name slot) ≡ Some (leaf_held leaf) → IsGuide key (bytes leaf.key) path s
+  read_ends ends slot leaf first held =
+      let found = first_leaf bytes P arena root path s slot at.stands.subtree first in
+      let same : found.leaf ≡ leaf = let e = found.there in cc in
+      guide_ends bytes P (node_at arena) key root depth path s at.stands node (ap cell_of at.held) ends (bytes leaf.key) (subst (λ (l : LeafNode K V). BeginsWith (path ++ prefix_of s) (bytes l.key)) same found.begins)
+
+  -- a guide begins with its whole prefix
+  pub read_begins : (guide : List ℕ) → IsGuide key guide path s → BeginsWith (path ++ prefix_of s) guide
+  read_begins guide h =
+      let i = inner-there P (node_at arena) s node at.stands.subtree.part.held (ap (node_at arena) at.stands.subtree.part.named ∙ ap cell_of at.held) in
+      guide_prefix key guide path s (name_of s) i.prefix i.kids i.is h
+
+  -- a path to it has no more bytes than the longest key below it
+  pub read_deep : (longest : ℕ) → KeysWithin bytes longest (leaves s) → depth ≤ longest
+  read_deep longest short = subst (λ d. d ≤ longest) at.stands.behind (deep_within bytes path s at.stands.subtree.under longest short)

@@ -1,8 +1,0 @@
-pub mod AddressLaws
-pub mod ConcatLaws
-pub mod FixedLaws
-pub mod FlipLaws
-pub mod KeyLaws
-pub mod NumberLaws
-pub mod PairLaws
-pub mod PartLaws

@@ -1,0 +1,57 @@
+use Rattle.std.proofs.Common.{rules, ℕ, ◌+◌, ◌^◌, ◌<◌, List, length, map, ap, ap₂, sym, ◌∙◌, subst, arith, inr}
+use Rattle.std.specs.Prelude.{filter, flat_map, max}
+use Rattle.std.specs.List.{AllByRecursion}
+use Rattle.std.specs.declared.ops.Bound.TheVariants.{Included, Excluded}
+use Rattle.std.specs.BTreeMap.Range.{IsLeBy, range_contains}
+use Rattle.std.proofs.lemmas.Result.{on_ok_weaker}
+use Rattle.art_bytes.specs.Keys.{bytes_cmp}
+use Rattle.art_lines.specs.Words.{line_of}
+use Rattle.art_lines.specs.ReplyWords.{listed}
+use Rattle.art_lines.specs.Writes.{Writes}
+use Rattle.art_engine.specs.Counts.{longest, GrewBy}
+use Rattle.art_engine.specs.Keys.{full_key_of}
+use Rattle.art_engine.specs.Spans.{span_pairs, own_pair, IsListed}
+use Rattle.art_engine.specs.Stored.{Pair, record_of}
+use Rattle.art_lines.specs.Parsed.{tenant_in_place, key_in_place, value_in_place}
+use Rattle.art_engine.proofs.Listings.{never_falls}
+use Rattle.art_engine.proofs.FullTests.{in_order_full}
+use Rattle.art_engine.proofs.RecordCounts.{own_left, left_listed, left_few, left_grew, span_tests, pairs_within}
+use Rattle.art_engine.proofs.SpanLemmas.{span_left}
+use Rattle.art_engine.proofs.listing.write_between.Goals as goal
+
+pub range-span-requires : goal.range-span-requires
+range-span-requires g c =
+    let F = c.args.fields.now in
+    let valid = in_order_full (tenant_in_place F) (key_in_place F) (value_in_place F) c.full_key.ensures.tenant c.requires.order in
+    let ends = sym (ap₂ (λ a b. (a, b)) c.full_key.ensures.value c.full_bound.ensures) in
+    (search rules, (search rules, λ ps r. inr (subst (λ (q : List ℕ × List ℕ). IsLeBy bytes_cmp q.0 q.1) ends valid)))
+
+pub write_pairs-requires : goal.write_pairs-requires
+write_pairs-requires g c =
+    let F = c.args.fields.now in let t = tenant_in_place F in let low = key_in_place F in let high = value_in_place F in
+    let ps = c.requires.reads.0 in let r = c.requires.reads.1 in
+    let left = span_left _ ps _ _ (c.range-span.ensures.value ps r.read)
+    ∙ ap₂ (λ a b. filter (λ (p : Pair). range_contains bytes_cmp (Included a) (Excluded b) p.0.items) ps) c.full_key.ensures.value c.full_bound.ensures in
+    let listed : AllByRecursion IsListed (span_pairs c.range-span.new.self.nodes c.range-span.result) = subst (AllByRecursion IsListed) (sym left) (left_listed t _ _ (span_tests t low high c.full_key.ensures.tenant) ps r.are) in
+    let few : length (span_pairs c.range-span.new.self.nodes c.range-span.result) < 2 ^ 64 = subst (λ (l : List Pair). length l < 2 ^ 64) (sym left) (left_few t _ _ (span_tests t low high c.full_key.ensures.tenant) ps r.are r.few) in
+    search (rules, listed, few)
+
+pub returns-clause-told : goal.returns-clause-told
+returns-clause-told g c = λ ps r.
+    let F = c.args.fields.now in let t = tenant_in_place F in let low = key_in_place F in let high = value_in_place F in
+    let left = span_left _ ps _ _ (c.range-span.ensures.value ps r.read)
+    ∙ ap₂ (λ a b. filter (λ (p : Pair). range_contains bytes_cmp (Included a) (Excluded b) p.0.items) ps) c.full_key.ensures.value c.full_bound.ensures in
+    let own = ap (map own_pair) left ∙ own_left t _ _ (span_tests t low high c.full_key.ensures.tenant) ps r.are in
+    subst (λ pairs. Writes c.write_pairs.result (g.W.Sink.taken c.args.sink.now) (g.W.Sink.taken c.write_pairs.new.sink) (flat_map line_of (listed pairs)) (g.W.Sink.has_failed c.write_pairs.new.sink)) own c.write_pairs.ensures.written
+
+pub returns-clause-visits : goal.returns-clause-visits
+returns-clause-visits g c = λ ps r.
+    let F = c.args.fields.now in let t = tenant_in_place F in let low = key_in_place F in let high = value_in_place F in
+    let left = span_left _ ps _ _ (c.range-span.ensures.value ps r.read)
+    ∙ ap₂ (λ a b. filter (λ (p : Pair). range_contains bytes_cmp (Included a) (Excluded b) p.0.items) ps) c.full_key.ensures.value c.full_bound.ensures in
+    let first = ap length c.full_key.ensures.value in
+    let second = ap length c.full_bound.ensures in
+    let bound = max (length low) (length high) in
+    on_ok_weaker c.write_pairs.result (λ is. left_grew t _ _ (span_tests t low high c.full_key.ensures.tenant) ps r.are bound (bound + 4) _ _ _ r.few (omega arith) (never_falls c.args.records.now.root _ _ c.range-span.ensures.least)
+    (c.range-span.ensures.few ps r.read (longest full_key_of (map record_of ps)) (bound + 4) (pairs_within ps r.are.stand) (omega arith) (omega arith))
+    (subst (λ (l : List Pair). GrewBy (length l) c.range-span.new.self.count c.write_pairs.new.records.count) left is)) c.write_pairs.ensures.counts

@@ -1,0 +1,97 @@
+//! The drop of a tenant: all of its records are removed.
+ghost use Rattle.std.specs.Prelude.{◌≡◌, ◌+◌, ◌-◌, ◌^◌, false, min};
+ghost use Rattle.art_lines.specs.Words.{line_of};
+ghost use Rattle.art_engine.specs.Dropped.{IsDropDone, dropped_words};
+ghost use Rattle.art_engine.specs.declared.drop_tenant.Dropped.TheVariants.{Gone};
+ghost use Rattle.art_lines.specs.Writes.{Writes};
+ghost use Rattle.art_lines.specs.Parsed.{tenant_in_place};
+ghost use Rattle.art_engine.specs.Stored.{all_records_of, ArePairs, AreNumberPairs};
+
+use art_lines::command::fields::{Fields, NUMBER_KEY};
+use art_lines::reply::{write_piece, write_sum};
+use art_lines::{Sink, WriteFailed};
+use art_map::{Removed, TreeMap};
+
+/// How the drop of a tenant went.
+#[derive(Clone, Copy)]
+pub(crate) enum Dropped {
+    /// So many records of the tenant are gone, those under keys and those under numbers. So many nodes were read to
+    /// find them, and freed.
+    Gone {
+        keys: usize,
+        numbers: usize,
+        visits: u64,
+    },
+    /// No memory was found.
+    Memory,
+}
+
+impl Dropped {
+    ghost use Rattle.std.specs.Prelude.{◌≡◌};
+    ghost use Rattle.art_engine.specs.Dropped.{was_refused, visits_told};
+
+    pub(crate) fn is_memory(self) -> bool
+        ensures { result ≡ was_refused self }
+    {
+        matches!(self, Dropped::Memory)
+    }
+
+    /// How many nodes were read and freed.
+    pub(crate) fn visits(self) -> u64
+        ensures { result ≡ visits_told self }
+    {
+        match self {
+            Dropped::Gone { visits, .. } => visits,
+            Dropped::Memory => 0,
+        }
+    }
+}
+
+/// Removes all records of the tenant that was read, those under keys and those under numbers. Both removals are
+/// prepared before either is made: so if one is out of memory, nothing is changed. They allocate only if the loss of
+/// all that the tenant has in one tree makes a node of it one of the next smaller kind.
+pub(crate) fn drop_tenant<const PREFIX_LEN: usize>(
+    records: &mut TreeMap<Vec<u8>, Vec<u8>, PREFIX_LEN>,
+    numbers: &mut TreeMap<[u8; NUMBER_KEY], Vec<u8>, PREFIX_LEN>,
+    fields: &Fields,
+) -> Dropped
+    requires held { ArePairs records.old.pairs }
+    requires numbers { AreNumberPairs numbers.old.pairs }
+    ensures held { ArePairs records.new.pairs }
+    ensures numbers { AreNumberPairs numbers.new.pairs }
+    ensures done { IsDropDone result (tenant_in_place fields.now) (all_records_of records.old.pairs numbers.old.pairs)
+        (all_records_of records.new.pairs numbers.new.pairs) }
+{
+    let front = fields.tenant().to_be_bytes();
+    let Ok(keys) = records.prepare_remove_prefix(&front) else {
+        return Dropped::Memory;
+    };
+    match numbers.prepare_remove_prefix(&front) {
+        Ok(others) => gone(keys.apply(), others.apply()),
+        Err(_) => Dropped::Memory,
+    }
+}
+
+// What both removals did.
+fn gone(keys: Removed, others: Removed) -> Dropped
+    ensures { result ≡ Gone keys.pairs others.pairs (min (keys.visits + others.visits) (2 ^ 64 - 1)) }
+{
+    Dropped::Gone {
+        keys: keys.pairs,
+        numbers: others.pairs,
+        visits: keys.visits.saturating_add(others.visits),
+    }
+}
+
+/// Writes how the drop of a tenant went.
+pub(crate) fn write_dropped<W: Sink>(sink: &mut W, dropped: Dropped) -> Result<(), WriteFailed>
+    requires { W.has_failed sink.old ≡ false }
+    ensures { Writes result (W.taken sink.old) (W.taken sink.new)
+        (line_of (dropped_words dropped))
+        (W.has_failed sink.new) }
+{
+    match dropped {
+        Dropped::Gone { keys, numbers, .. } => write_sum(sink, b"dropped ", keys, numbers),
+        Dropped::Memory => write_piece(sink, b"memory\n"),
+    }
+}

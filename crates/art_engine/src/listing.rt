@@ -1,0 +1,232 @@
+//! Walks over a tenant's records, each leaf that is read counted. A span is opened, and then read and written as lines.
+ghost use Rattle.std.specs.Prelude.{◌≡◌, ◌+◌, ◌^◌, ◌<◌, List, Some, false, flat_map, int_lt, length, map, max, OnOk};
+ghost use Rattle.std.specs.List.{AllByRecursion};
+ghost use Rattle.art_bytes.specs.Keys.{is_below};
+ghost use Rattle.art_walks.specs.MapReads.{IsSameMap, IsSpan};
+ghost use Rattle.art_lines.specs.Words.{line_of};
+ghost use Rattle.art_lines.specs.Commands.{list, span, nspan, of_tenant};
+ghost use Rattle.art_engine.specs.Keys.{full_key_of};
+ghost use Rattle.art_engine.specs.Records.{own};
+ghost use Rattle.art_lines.specs.ReplyWords.{listed, numbers_listed};
+ghost use Rattle.art_engine.specs.Replies.{own_reply, pairs_from_to, numbers_from_to};
+ghost use Rattle.art_lines.specs.Writes.{Writes};
+ghost use Rattle.art_engine.specs.Counts.{visits_of, listing, longest, GrewBy, Grew};
+ghost use Rattle.art_lines.specs.Parsed.{tenant_in_place, key_in_place, value_in_place};
+ghost use Rattle.art_lines.specs.Parsed.{number_in_place, bound_in_place};
+ghost use Rattle.art_engine.specs.Stored.{Pair, NumberPair, records_of, number_records_of};
+ghost use Rattle.art_engine.specs.Spans.{span_pairs, own_pair, IsListed, ReadsRecords};
+ghost use Rattle.art_engine.specs.Spans.{own_number, IsNumbered, ReadsNumbers};
+
+use crate::change::numbers::numbers_of;
+use art_bytes::SliceKey;
+use art_lines::command::fields::{Fields, NUMBER_KEY};
+use art_lines::gather::{gather_number, gather_pair, write_end};
+use art_lines::reply::write_piece;
+use art_lines::{Sink, WriteFailed};
+use art_walks::{MapReader, ReadSpan};
+use std::ops::Bound;
+
+/// The bytes of lines that are gathered before they are written, at most. They are cleared for each list, so they are
+/// few.
+const ROOM: usize = 1024;
+
+/// A byte that can't be told without having read a pair's key and its value, so that no compiler leaves the reads out.
+#[inline(always)]
+fn first_bytes(pair: Option<(&Vec<u8>, &Vec<u8>)>) -> u8 {
+    let Some((key, value)) = pair else {
+        return 0;
+    };
+    let (key, value) = (key.first().copied(), value.first().copied());
+    key.unwrap_or_default() ^ value.unwrap_or_default()
+}
+
+/// Writes the pairs of a span without their tenant, and how many they are. The lines are gathered, and leave in few
+/// pieces. A leaf is read for each pair, and before the line of the pair before it is put together. So the processor
+/// doesn't wait for it. What is seen of it is kept after what is gathered.
+#[inline(never)]
+fn write_pairs<W: Sink, const PREFIX_LEN: usize>(
+    records: &mut MapReader<'_, Vec<u8>, Vec<u8>, PREFIX_LEN>,
+    span: &mut ReadSpan,
+    sink: &mut W,
+) -> Result<(), WriteFailed>
+    requires open { W.has_failed sink.old ≡ false }
+    requires span { IsSpan records.old.nodes span.old }
+    requires listed { AllByRecursion IsListed (span_pairs records.old.nodes span.old) }
+    requires few { length (span_pairs records.old.nodes span.old) < 2 ^ 64 }
+    ensures written { Writes result (W.taken sink.old) (W.taken sink.new)
+        (flat_map line_of (listed (map own_pair (span_pairs records.old.nodes span.old))))
+        (W.has_failed sink.new) }
+    ensures kept { IsSameMap records.old records.new }
+    ensures counts { OnOk result
+        (GrewBy (length (span_pairs records.old.nodes span.old)) records.old.count records.new.count) }
+{
+    let mut room = [0; ROOM];
+    let (mut held, mut count) = (0, 0);
+    let mut ahead = records.next(span);
+    'pairs: while let Some((full, value)) = ahead {
+        let key = full.as_slice();
+        let text = value.as_slice();
+        ahead = records.next(span);
+        room[ROOM - 1] = first_bytes(ahead);
+        let next = gather_pair(sink, &mut room, held, key, text)?;
+        held = next;
+        count += 1;
+    }
+    write_end(sink, &mut room, held, count)
+}
+
+/// Writes the tenant's pairs whose keys begin with the prefix that was read, and how many they are.
+pub(crate) fn write_list<W: Sink, const PREFIX_LEN: usize>(
+    records: &mut MapReader<'_, Vec<u8>, Vec<u8>, PREFIX_LEN>,
+    fields: &Fields,
+    sink: &mut W,
+) -> Result<(), WriteFailed>
+    requires open { W.has_failed sink.old ≡ false }
+    requires reads { (ps : List Pair) × ReadsRecords PREFIX_LEN records.old ps }
+    ensures told { (ps : List Pair) → ReadsRecords PREFIX_LEN records.old ps
+        → Writes result (W.taken sink.old) (W.taken sink.new)
+        (flat_map line_of (own_reply (list (key_in_place fields.now))
+        (own (tenant_in_place fields.now) (records_of ps))))
+        (W.has_failed sink.new) }
+    ensures kept { IsSameMap records.old records.new }
+    ensures visits { (ps : List Pair) → ReadsRecords PREFIX_LEN records.old ps → OnOk result (Grew
+        (visits_of (Some (of_tenant (tenant_in_place fields.now) (list (key_in_place fields.now)))) (records_of ps))
+        records.old.count records.new.count) }
+{
+    let mut span = records.prefix(&SliceKey(fields.full_key()));
+    write_pairs(records, &mut span, sink)
+}
+
+/// Writes the tenant's pairs from the low key on that was read and below the high one, and how many they are. It checks
+/// that the bounds are in order before it reads the map.
+pub(crate) fn write_span<W: Sink, const PREFIX_LEN: usize>(
+    records: &mut MapReader<'_, Vec<u8>, Vec<u8>, PREFIX_LEN>,
+    fields: &Fields,
+    sink: &mut W,
+) -> Result<(), WriteFailed>
+    requires open { W.has_failed sink.old ≡ false }
+    requires reads { (ps : List Pair) × ReadsRecords PREFIX_LEN records.old ps }
+    ensures told { (ps : List Pair) → ReadsRecords PREFIX_LEN records.old ps
+        → Writes result (W.taken sink.old) (W.taken sink.new)
+        (flat_map line_of (own_reply (span (key_in_place fields.now) (value_in_place fields.now))
+        (own (tenant_in_place fields.now) (records_of ps))))
+        (W.has_failed sink.new) }
+    ensures kept { IsSameMap records.old records.new }
+    ensures visits { (ps : List Pair) → ReadsRecords PREFIX_LEN records.old ps → OnOk result (Grew
+        (visits_of (Some (of_tenant (tenant_in_place fields.now)
+        (span (key_in_place fields.now) (value_in_place fields.now)))) (records_of ps))
+        records.old.count records.new.count) }
+{
+    if fields.value().cmp(fields.key()).is_lt() {
+        return write_piece(sink, b"bounds\n");
+    }
+    write_between(records, fields, sink)
+}
+
+/// Writes the tenant's pairs between two keys, as `write_span` does, if the bounds are in order.
+fn write_between<W: Sink, const PREFIX_LEN: usize>(
+    records: &mut MapReader<'_, Vec<u8>, Vec<u8>, PREFIX_LEN>,
+    fields: &Fields,
+    sink: &mut W,
+) -> Result<(), WriteFailed>
+    requires open { W.has_failed sink.old ≡ false }
+    requires reads { (ps : List Pair) × ReadsRecords PREFIX_LEN records.old ps }
+    requires order { is_below (value_in_place fields.now) (key_in_place fields.now) ≡ false }
+    ensures told { (ps : List Pair) → ReadsRecords PREFIX_LEN records.old ps
+        → Writes result (W.taken sink.old) (W.taken sink.new)
+        (flat_map line_of (listed (pairs_from_to (key_in_place fields.now) (value_in_place fields.now)
+        (own (tenant_in_place fields.now) (records_of ps)).keys)))
+        (W.has_failed sink.new) }
+    ensures kept { IsSameMap records.old records.new }
+    ensures visits { (ps : List Pair) → ReadsRecords PREFIX_LEN records.old ps → OnOk result (Grew
+        (listing (length (pairs_from_to (key_in_place fields.now) (value_in_place fields.now)
+        (own (tenant_in_place fields.now) (records_of ps)).keys))
+        (max (length (key_in_place fields.now)) (length (value_in_place fields.now)))
+        (longest full_key_of (records_of ps).keys))
+        records.old.count records.new.count) }
+{
+    let (low, high) = (SliceKey(fields.full_key()), SliceKey(fields.full_bound()));
+    let mut span = records.range(Bound::Included(&low), Bound::Excluded(&high));
+    write_pairs(records, &mut span, sink)
+}
+
+/// Writes the pairs of a span of numbers without their tenant, and how many they are. A leaf is read for each.
+#[inline(never)]
+fn write_numbers<W: Sink, const PREFIX_LEN: usize>(
+    numbers: &mut MapReader<'_, [u8; NUMBER_KEY], Vec<u8>, PREFIX_LEN>,
+    span: &mut ReadSpan,
+    sink: &mut W,
+) -> Result<(), WriteFailed>
+    requires open { W.has_failed sink.old ≡ false }
+    requires span { IsSpan numbers.old.nodes span.old }
+    requires listed { AllByRecursion IsNumbered (span_pairs numbers.old.nodes span.old) }
+    requires few { length (span_pairs numbers.old.nodes span.old) < 2 ^ 64 }
+    ensures written { Writes result (W.taken sink.old) (W.taken sink.new)
+        (flat_map line_of (numbers_listed (map own_number (span_pairs numbers.old.nodes span.old))))
+        (W.has_failed sink.new) }
+    ensures kept { IsSameMap numbers.old numbers.new }
+    ensures counts { OnOk result
+        (GrewBy (length (span_pairs numbers.old.nodes span.old)) numbers.old.count numbers.new.count) }
+{
+    let mut room = [0; ROOM];
+    let (mut held, mut count) = (0, 0);
+    'pairs: while let Some((key, value)) = numbers.next(span) {
+        let (_tenant, number) = numbers_of(key);
+        let text = value.as_slice();
+        let next = gather_number(sink, &mut room, held, number, text)?;
+        held = next;
+        count += 1;
+    }
+    write_end(sink, &mut room, held, count)
+}
+
+/// Writes the tenant's numbers from the low one that was read up to the high one, with their values, and how many they
+/// are. It checks that the bounds are in order before it reads the map.
+pub(crate) fn write_number_span<W: Sink, const PREFIX_LEN: usize>(
+    numbers: &mut MapReader<'_, [u8; NUMBER_KEY], Vec<u8>, PREFIX_LEN>,
+    fields: &Fields,
+    sink: &mut W,
+) -> Result<(), WriteFailed>
+    requires open { W.has_failed sink.old ≡ false }
+    requires reads { (ns : List NumberPair) × ReadsNumbers PREFIX_LEN numbers.old ns }
+    ensures told { (ns : List NumberPair) → ReadsNumbers PREFIX_LEN numbers.old ns
+        → Writes result (W.taken sink.old) (W.taken sink.new)
+        (flat_map line_of (own_reply (nspan (number_in_place fields.now) (bound_in_place fields.now))
+        (own (tenant_in_place fields.now) (number_records_of ns))))
+        (W.has_failed sink.new) }
+    ensures kept { IsSameMap numbers.old numbers.new }
+    ensures visits { (ns : List NumberPair) → ReadsNumbers PREFIX_LEN numbers.old ns → OnOk result (Grew
+        (visits_of (Some (of_tenant (tenant_in_place fields.now)
+        (nspan (number_in_place fields.now) (bound_in_place fields.now)))) (number_records_of ns))
+        numbers.old.count numbers.new.count) }
+{
+    if fields.bound() < fields.number() {
+        return write_piece(sink, b"bounds\n");
+    }
+    write_numbers_between(numbers, fields, sink)
+}
+
+/// Writes the tenant's numbers between two, as `write_number_span` does, if the bounds are in order.
+fn write_numbers_between<W: Sink, const PREFIX_LEN: usize>(
+    numbers: &mut MapReader<'_, [u8; NUMBER_KEY], Vec<u8>, PREFIX_LEN>,
+    fields: &Fields,
+    sink: &mut W,
+) -> Result<(), WriteFailed>
+    requires open { W.has_failed sink.old ≡ false }
+    requires reads { (ns : List NumberPair) × ReadsNumbers PREFIX_LEN numbers.old ns }
+    requires order { int_lt (bound_in_place fields.now) (number_in_place fields.now) ≡ false }
+    ensures told { (ns : List NumberPair) → ReadsNumbers PREFIX_LEN numbers.old ns
+        → Writes result (W.taken sink.old) (W.taken sink.new)
+        (flat_map line_of (numbers_listed (numbers_from_to (number_in_place fields.now) (bound_in_place fields.now)
+        (own (tenant_in_place fields.now) (number_records_of ns)).numbers)))
+        (W.has_failed sink.new) }
+    ensures kept { IsSameMap numbers.old numbers.new }
+    ensures visits { (ns : List NumberPair) → ReadsNumbers PREFIX_LEN numbers.old ns → OnOk result (Grew
+        (listing (length (numbers_from_to (number_in_place fields.now) (bound_in_place fields.now)
+        (own (tenant_in_place fields.now) (number_records_of ns)).numbers)) 8 12)
+        numbers.old.count numbers.new.count) }
+{
+    let (low, high) = (fields.number_key(), fields.bound_key());
+    let mut span = numbers.range(Bound::Included(&low), Bound::Included(&high));
+    write_numbers(numbers, &mut span, sink)
+}

@@ -1,0 +1,2 @@
+-- Lemmas that sources cite: the laws of traits, and facts that ghost code names.
+pub mod KindLaws
