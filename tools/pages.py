@@ -20,7 +20,7 @@ FUNCTION = re.compile(
     r"(\s*)(pub )?(?:pub\(\w+\) )?(?:final )?(?:const )?(?:unsafe )?(?:extern \"C\" )?fn (\w+)"
 )
 CLAUSE = re.compile(r"\s*(?:(?:requires|ensures)\*?\s+(\w+)?|(passed)\b)")
-OF_TESTS = ("_tests", "play_map", "play_operations", "refusals")
+OF_TESTS = ("_tests", "play_script", "play_map", "play_operations", "refusals")
 
 
 def read(path):

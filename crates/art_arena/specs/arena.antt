@@ -22,6 +22,8 @@ pub mod Found
 pub mod Descents
 -- What a contract sees of an arena: the nodes of each kind under their slab keys, and so one map from names to nodes.
 pub mod Arena
+-- What a change of inner nodes leaves of an arena: its leaves, and room by kind.
+pub mod Rooms
 -- What an arena stores below a name: the words of contracts, over the arena itself.
 pub mod Stores
 -- How many nodes a walk reads at most, told by the keys.

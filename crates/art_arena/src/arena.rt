@@ -1,5 +1,5 @@
 //! The nodes of a tree, under their names.
-ghost use Rattle.std.specs.Prelude.{◌≡◌, ℕ, ◌<◌, ◌^◌, ◌↔◌, List, length};
+ghost use Rattle.std.specs.Prelude.{◌≡◌, ◌≢◌, ℕ, ◌<◌, ◌^◌, ◌↔◌, List, length};
 ghost use Rattle.std.specs.Prelude.{Some, None, IfOk, OnErr, IfErr, OnOk, IsSome, IsTrue, IsOk};
 
 use crate::nodes::{NO_MEMORY_HOLDS, Nodes};
@@ -68,6 +68,7 @@ impl<K, V, const PREFIX_LEN: usize> NodeArena<K, V, PREFIX_LEN> {
     ghost use Rattle.art_arena.specs.arena.Shapes.{Shape, leaves};
     ghost use Rattle.art_arena.specs.arena.Stores.{StoresOnly};
     ghost use Rattle.art_arena.specs.arena.Arena.{HasRoomOf, IsTrimmed, KeepsRoom, KeepsRoomOf, UsesRoom};
+    ghost use Rattle.art_arena.specs.arena.Rooms.{UsesRoomOf, SameLeaves};
     ghost use Rattle.art_arena.specs.arena.ArenaClones.{IsArenaClone};
 
     /// Makes an arena that holds no node. It allocates nothing.
@@ -118,6 +119,20 @@ impl<K, V, const PREFIX_LEN: usize> NodeArena<K, V, PREFIX_LEN> {
         ensures room { KeepsRoom self.old self.new }
     {
         self.leaves.clear();
+        self.clear_inner();
+    }
+
+    /// Removes and drops all inner nodes. Every leaf stays where it stood, with its links, and the memory of the nodes
+    /// stays with the arena.
+    pub fn clear_inner(&mut self)
+    where
+        K: Drop,
+        V: Drop,
+        ensures leaves { SameLeaves self.old self.new }
+        ensures vacant { (n : Name) → n.kind ≢ NodeType.Leaf → held_at self.new n ≡ None }
+        ensures room { KeepsRoom self.old self.new }
+        ensures room_of { KeepsRoomOf self.old self.new }
+    {
         if PREFIX_LEN >= NO_MEMORY_HOLDS {
             self.nodes4.none_fits();
             self.nodes16.none_fits();
@@ -195,6 +210,7 @@ impl<K, V, const PREFIX_LEN: usize> NodeArena<K, V, PREFIX_LEN> {
         ensures room { OnOk result (HasRoomOf self.new kind additional) }
         ensures succeeds { HasRoomOf self.old kind additional → IsOk result }
         ensures kept_room { KeepsRoom self.old self.new }
+        ensures room_of { KeepsRoomOf self.old self.new }
         ensures kept { SameNodes self.old self.new }
     {
         match kind {
@@ -237,6 +253,7 @@ impl<K, V, const PREFIX_LEN: usize> NodeArena<K, V, PREFIX_LEN> {
         ensures succeeds { HasRoom self.old 1 → IsOk result }
         ensures succeeds_of { HasRoomOf self.old N.Kind.TYPE 1 → IsOk result }
         ensures room { UsesRoom 1 self.old self.new }
+        ensures room_of { UsesRoomOf N.Kind.TYPE self.old self.new }
     {
         match N::insert(self, node) {
             Ok(slot) => Ok(NodePtr::from_slot(slot)),
@@ -281,8 +298,16 @@ impl<K, V, const PREFIX_LEN: usize> NodeArena<K, V, PREFIX_LEN> {
         ensures value { IsTrue result → PREFIX_LEN < 2 ^ 62 }
         ensures exact { PREFIX_LEN < 2 ^ 62 → IsTrue result }
         ensures room { HasRoom self.now 1 → IsTrue result }
+        ensures room_of { HasRoomOf self.now NodeType.Node4 1 → IsTrue result }
     {
         self.nodes4.fits_in_memory()
+    }
+
+    /// No arena has room for 2^64 nodes or more. The call does nothing: a caller has this from its contract.
+    pub fn room_is_bounded(&self)
+        ensures { (n : ℕ) → HasRoom self.now n → n < 2 ^ 64 }
+    {
+        self.leaves.room_is_bounded();
     }
 
     /// Lends the node under this name for writing.

@@ -103,6 +103,13 @@ impl<N, const PREFIX_LEN: usize> Nodes<N, PREFIX_LEN> {
         slab.reserve(additional)
     }
 
+    // There is no room for 2^64 nodes or more. Nothing is done.
+    pub(crate) fn room_is_bounded(&self)
+        ensures { (n : ℕ) → HasRoomFor self.now n → n < 2 ^ 64 }
+    {
+        let _capacity = self.slab.capacity();
+    }
+
     // Gives back the memory behind the last node. No key changes.
     pub(crate) fn shrink_to_fit(&mut self)
     where

@@ -39,6 +39,7 @@ pub mod Listings
 pub mod RecordCounts
 pub mod HeldMaps
 pub mod SpanLemmas
+pub mod ReadTogether
 pub mod LineCounts
 pub mod DroppedTenants
 pub mod Undoing

@@ -16,21 +16,7 @@ module _ {K V : Type 0} where
   module _ {R : Type 0} (read : R → K × V) (old new : Arena K V) (ends next : Ends) (result : Option R)
       (first : (pairs : List (K × V)) (p : K × V) (left : List (K × V)) → IsSpanOf old pairs ends (p ∷ left) → (option_map read result ≡ Some p) × IsSpanOf new pairs next left)
       (end : (pairs : List (K × V)) → IsSpanOf old pairs ends [] → (result ≡ None) × IsSpanOf new pairs next []) where
-    pub span_some : IsSpan old ends → (r : R) → result ≡ Some r → span_pairs old ends ≡ read r ∷ span_pairs new next
-    span_some (pairs, [], span) r is = let none = (end pairs span).0 in absurd (cc)
-    span_some (pairs, p ∷ left, span) r is =
-        let given = first pairs p left span in
-        let same : read r ≡ p = some_same (sym (ap (option_map read) is) ∙ given.0) in
-        span_left old pairs ends (p ∷ left) span ∙ ap (λ q. q ∷ left) (sym same) ∙ ap (λ l. read r ∷ l) (sym (span_left new pairs next left given.1))
-      where
-        some_same : {A : Type 0} {a b : A} → ◌≡◌ {A = Option A} (Some a) (Some b) → a ≡ b
-        some_same e = cc
-
-    pub span_none : IsSpan old ends → result ≡ None → span_pairs old ends ≡ []
-    span_none (pairs, [], span) is = span_left old pairs ends [] span
-    span_none (pairs, p ∷ left, span) is = let given = (first pairs p left span).0 in let none = ap (option_map read) is in absurd (cc)
-
-    -- so what is left of a span is the pair that is given, and what is left of the next one
+    -- what is left of a span is the pair that is given, and what is left of the next one
     pub span_next : IsSpan old ends → span_pairs old ends ≡ pending (option_map read result) (span_pairs new next)
     span_next (pairs, [], span) =
         let e = end pairs span in

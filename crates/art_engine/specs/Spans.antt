@@ -1,6 +1,6 @@
 -- What a reader of the records' map reads, and what is left of a span of it.
-use Rattle.std.specs.Prelude.{ℕ, ◌+◌, ◌^◌, ◌<◌, ◌≤◌, ℤ, FitsSigned, List, ◌∷◌, length, drop}
-use Rattle.std.specs.Prelude.{Option, Some, None}
+use Rattle.std.specs.Prelude.{ℕ, ◌≡◌, ◌+◌, ◌^◌, ◌<◌, ◌≤◌, ℤ, FitsSigned, List, [], ◌∷◌, length, drop}
+use Rattle.std.specs.Prelude.{Option, Some, None, option_map}
 use Rattle.std.specs.Global.{Vec}
 use Rattle.std.specs.Int.{w64}
 use Rattle.art_arena.specs.arena.Arena.{Arena}
@@ -28,6 +28,17 @@ pub record ReadsNumbers (P : ℕ) (map : ReadMap (List ℕ) (Vec ℕ)) (pairs : 
 abbrev pub pending : {X : Type 0} → Option X → List X → List X
 pending None rest = rest
 pending (Some x) rest = x ∷ rest
+
+-- those that were read ahead, each if there is one, and those behind them
+abbrev pub pending_all : {R X : Type 0} → (R → X) → List (Option R) → List X → List X
+pending_all read [] rest = rest
+pending_all read (o ∷ os) rest = pending (option_map read o) (pending_all read os rest)
+
+-- where there is none, there is none behind it
+abbrev pub IsClosed : {R X : Type 0} → (R → X) → List (Option R) → List X → Type 0
+IsClosed read [] rest = Unit {0}
+IsClosed read (None ∷ os) rest = pending_all read os rest ≡ []
+IsClosed read (Some r ∷ os) rest = IsClosed read os rest
 
 -- the pairs that a span has still to give
 abbrev pub span_pairs : {K V : Type 0} → Arena K V → Ends → List (K × V)

@@ -22,6 +22,7 @@ mod piece;
 mod readers;
 mod running;
 mod survey;
+mod together;
 pub mod upcoming;
 
 pub use index::{Handled, Index, RunFault};

@@ -18,6 +18,7 @@ ghost use Rattle.art_engine.specs.Spans.{span_pairs, own_pair, IsListed, ReadsRe
 ghost use Rattle.art_engine.specs.Spans.{own_number, IsNumbered, ReadsNumbers};
 
 use crate::change::numbers::numbers_of;
+use crate::together::Together;
 use art_bytes::SliceKey;
 use art_lines::command::fields::{Fields, NUMBER_KEY};
 use art_lines::gather::{gather_number, gather_pair, write_end};
@@ -30,19 +31,8 @@ use std::ops::Bound;
 /// few.
 const ROOM: usize = 1024;
 
-/// A byte that can't be told without having read a pair's key and its value, so that no compiler leaves the reads out.
-#[inline(always)]
-fn first_bytes(pair: Option<(&Vec<u8>, &Vec<u8>)>) -> u8 {
-    let Some((key, value)) = pair else {
-        return 0;
-    };
-    let (key, value) = (key.first().copied(), value.first().copied());
-    key.unwrap_or_default() ^ value.unwrap_or_default()
-}
-
 /// Writes the pairs of a span without their tenant, and how many they are. The lines are gathered, and leave in few
-/// pieces. A leaf is read for each pair, and before the line of the pair before it is put together. So the processor
-/// doesn't wait for it. What is seen of it is kept after what is gathered.
+/// pieces. A leaf is read for each pair, many at a time. What is seen of them is kept after what is gathered.
 #[inline(never)]
 fn write_pairs<W: Sink, const PREFIX_LEN: usize>(
     records: &mut MapReader<'_, Vec<u8>, Vec<u8>, PREFIX_LEN>,
@@ -62,12 +52,11 @@ fn write_pairs<W: Sink, const PREFIX_LEN: usize>(
 {
     let mut room = [0; ROOM];
     let (mut held, mut count) = (0, 0);
-    let mut ahead = records.next(span);
-    'pairs: while let Some((full, value)) = ahead {
+    let mut together = Together::new();
+    'pairs: while let Some((full, value)) = together.next(records, span) {
         let key = full.as_slice();
         let text = value.as_slice();
-        ahead = records.next(span);
-        room[ROOM - 1] = first_bytes(ahead);
+        room[ROOM - 1] = together.seen();
         let next = gather_pair(sink, &mut room, held, key, text)?;
         held = next;
         count += 1;
@@ -170,9 +159,11 @@ fn write_numbers<W: Sink, const PREFIX_LEN: usize>(
 {
     let mut room = [0; ROOM];
     let (mut held, mut count) = (0, 0);
-    'pairs: while let Some((key, value)) = numbers.next(span) {
+    let mut together = Together::new();
+    'pairs: while let Some((key, value)) = together.next(numbers, span) {
         let (_tenant, number) = numbers_of(key);
         let text = value.as_slice();
+        room[ROOM - 1] = together.seen();
         let next = gather_number(sink, &mut room, held, number, text)?;
         held = next;
         count += 1;

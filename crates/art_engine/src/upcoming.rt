@@ -260,12 +260,16 @@ impl Upcoming {
     }
 
     /// Returns how many nodes were read ahead of the lines that were read together last.
-    pub fn nodes(&self) -> u64 {
+    pub fn nodes(&self) -> u64
+        ensures { result ≡ self.now.nodes }
+    {
         self.nodes
     }
 
     /// Returns how many leaves their ways ended at.
-    pub fn leaves(&self) -> usize {
+    pub fn leaves(&self) -> usize
+        ensures { result ≡ self.now.leaves }
+    {
         self.leaves
     }
 

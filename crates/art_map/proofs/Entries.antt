@@ -18,7 +18,7 @@ use Rattle.art_map.specs.Contents.{Contents, has_bytes}
 use Rattle.art_map.specs.Entries.{Occupied, Vacant, the, option_key, entry_key, entry_value, entry_pairs, pairs_without, with_entry_value, IsEntryOf, IsSame, IsWritten}
 use Rattle.art_map.specs.declared.map.entry.OccupiedEntry.{OccupiedEntry}
 use Rattle.art_map.specs.declared.map.entry.VacantEntry.{VacantEntry}
-use Rattle.art_map.proofs.LeafNames.{written-all}
+use Rattle.art_map.proofs.LeafNames.{then-names, written-all}
 use Rattle.art_map.proofs.LookedUp.{lookup-value}
 use Rattle.art_map.proofs.Written.{one-pair, put-again, without-again, without-put}
 
@@ -104,8 +104,12 @@ module _ {K V : Type 0} {P : ℕ} {M : Type 0} {g : as_bytes.Ghosts K} where
 
 module _ {K V : Type 0} (m : Contents K V) (slot : ℕ) (p q : K × V) (has : HasPairAt m slot p) (lent : HasPairAt m slot q) where
   -- the leaf of a pair that was put in, with another value
-  pub put-lent : (bytes : K → List ℕ) (pairs : List (K × V)) → m.pairs ≡ with_pair_put bytes p.0 p.1 pairs → ((w : V) → (with_value_at m slot w).pairs ≡ with_pair_put bytes q.0 w m.pairs) → (w : V) → (with_value_at m slot w).pairs ≡ with_pair_put bytes p.0 w pairs
-  put-lent bytes pairs put written w = written w ∙ rw ((one-pair m slot p q has lent).0, put) (put-again bytes p.0 p.1 w pairs)
+  pub put-lent : (bytes : K → List ℕ) (old : Contents K V) → m.pairs ≡ with_pair_put bytes p.0 p.1 old.pairs → KeepsAllLeaves bytes old m → ((w : V) → (with_value_at m slot w).pairs ≡ with_pair_put bytes q.0 w m.pairs) → (w : V)
+      → ((with_value_at m slot w).pairs ≡ with_pair_put bytes p.0 w old.pairs) × KeepsAllLeaves bytes old (with_value_at m slot w)
+  put-lent bytes old put names written w = (
+    written w ∙ rw ((one-pair m slot p q has lent).0, put) (put-again bytes p.0 p.1 w old.pairs),
+    then-names bytes (with_value_at m slot w).nodes m.nodes old.nodes (written-all bytes m slot p has w) names,
+  )
 
 module _ {K V : Type 0} where
   -- the pair that is found passes

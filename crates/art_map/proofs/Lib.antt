@@ -27,3 +27,5 @@ pub mod PrefixBlocks
 pub mod LonePairs
 pub mod FoundBehind
 pub mod EndedKeys
+pub mod Merged
+pub mod CutLeaves

@@ -1,9 +1,9 @@
 -- A pair that took the place of those whose keys overlap its key, once its value is written.
-use Rattle.std.proofs.Common.{◌≡◌, ℕ, Bool, true, false, cond, not, List, [], ◌∷◌, Some, refl, sym, ap, subst, ◌∙◌}
+use Rattle.std.proofs.Common.{◌≡◌, ℕ, Bool, true, false, cond, not, List, [], ◌∷◌, Some, refl, sym, ap, subst, ◌∙◌, inl, inr}
 use Rattle.art_arena.specs.arena.Shapes.{key_of}
-use Rattle.art_arena.specs.tree.Changes.{put_in_order}
+use Rattle.art_arena.specs.tree.Changes.{is_before, put_in_order}
 use Rattle.art_arena.proofs.shapes.Finding.{other_key}
-use Rattle.art_operations.specs.KeyedLists.{overlaps, without_key, without_overlapping}
+use Rattle.art_operations.specs.KeyedLists.{HasKey, overlaps, without_key, without_overlapping}
 use Rattle.art_operations.specs.Pairs.{with_pair_over, with_pair_put}
 use Rattle.art_operations.proofs.Overlaps.{overlaps_same}
 use Rattle.art_map.specs.LeafNames.{KeepsLeaves}
@@ -15,6 +15,7 @@ use Rattle.art_map.specs.Lends.{with_value_at}
 use Rattle.art_map.specs.PrefixEntries.{IsInnerWritten}
 use Rattle.art_map.specs.declared.map.entry.OccupiedEntry.{OccupiedEntry}
 use Rattle.art_map.specs.declared.map.prefix_entry.InnerOccupiedEntry.{InnerOccupiedEntry}
+use Rattle.art_map.proofs.LeafNames.{written-all}
 use Rattle.art_map.proofs.Written.{one-pair, without-put}
 
 -- where no key overlaps a key, none is it
@@ -27,6 +28,22 @@ without-both key k (x ∷ xs) = here (overlaps k (key x)) refl (without-both key
     here true o later = later
     here false o later = rw (other_key (key x) k (λ e. let f = overlaps_same k (key x) e in absurd (cc))) (ap (λ ys. x ∷ ys) later)
 
+-- put in with another value, a pair leaves the same keys
+has-again : {K V : Type 0} (bytes : K → List ℕ) (k : K) (v w : V) (key : List ℕ) (ps : List (K × V)) → HasKey (key_of bytes) key (put_in_order (key_of bytes) (k, v) ps) → HasKey (key_of bytes) key (put_in_order (key_of bytes) (k, w) ps)
+has-again bytes k v w key [] (x, inl e, same) = ((k, w), inl refl, ap (key_of bytes) e ∙ same)
+has-again bytes k v w key [] (x, inr none, same) = absurd none
+has-again {K} {V} bytes k v w key (p ∷ ps) has = here (is_before (bytes k) (key_of bytes p)) (has-again bytes k v w key ps) has
+  where
+    Has : List (K × V) → Type 0
+    Has = HasKey (key_of bytes) key
+
+    here : (b : Bool) → (Has (put_in_order (key_of bytes) (k, v) ps) → Has (put_in_order (key_of bytes) (k, w) ps))
+        → Has (cond b ((k, v) ∷ p ∷ ps) (p ∷ put_in_order (key_of bytes) (k, v) ps)) → Has (cond b ((k, w) ∷ p ∷ ps) (p ∷ put_in_order (key_of bytes) (k, w) ps))
+    here true later (x, inl e, same) = ((k, w), inl refl, ap (key_of bytes) e ∙ same)
+    here true later (x, inr i, same) = (x, inr i, same)
+    here false later (x, inl e, same) = (x, inl e, same)
+    here false later (x, inr i, same) = let found = later (x, i, same) in (found.0, inr found.1, found.2)
+
 module _ {K V : Type 0} (bytes : K → List ℕ) where
   pub over-again : (k : K) (v w : V) (pairs : List (K × V)) → with_pair_put bytes k w (with_pair_over bytes k v pairs) ≡ with_pair_over bytes k w pairs
   over-again k v w pairs =
@@ -34,11 +51,13 @@ module _ {K V : Type 0} (bytes : K → List ℕ) where
       (without-put (key_of bytes) (bytes k) (k, v) refl (without_overlapping (key_of bytes) (bytes k) pairs) ∙ without-both (key_of bytes) (bytes k) pairs)
 
   -- what a map has, once the leaf of the pair that was put in is written
-  pub over-written : (m : Contents K V) (slot : ℕ) (k l : K) (v u : V) (pairs : List (K × V)) → m.pairs ≡ with_pair_over bytes k v pairs → HasPairAt m slot (k, v) → HasPairAt m slot (l, u)
-      → ((w : V) → (with_value_at m slot w).pairs ≡ with_pair_put bytes l w m.pairs) → (w : V) → (with_value_at m slot w).pairs ≡ with_pair_over bytes k w pairs
-  over-written m slot k l v u pairs is put read writes w =
+  pub over-written : (m : Contents K V) (slot : ℕ) (k l : K) (v u : V) (old : Contents K V) → m.pairs ≡ with_pair_over bytes k v old.pairs → KeepsLeaves bytes old m → HasPairAt m slot (k, v) → HasPairAt m slot (l, u)
+      → ((w : V) → (with_value_at m slot w).pairs ≡ with_pair_put bytes l w m.pairs) → (w : V) → ((with_value_at m slot w).pairs ≡ with_pair_over bytes k w old.pairs) × KeepsLeaves bytes old (with_value_at m slot w)
+  over-written m slot k l v u old is names put read writes w =
       let same : l ≡ k = (one-pair m slot (k, v) (l, u) put read).0 in
-      writes w ∙ ap (λ key. with_pair_put bytes key w m.pairs) same ∙ ap (with_pair_put bytes k w) is ∙ over-again k v w pairs
+      let now : (with_value_at m slot w).pairs ≡ with_pair_over bytes k w old.pairs = writes w ∙ ap (λ key. with_pair_put bytes key w m.pairs) same ∙ ap (with_pair_put bytes k w) is ∙ over-again k v w old.pairs in
+      let others = without_overlapping (key_of bytes) (bytes k) old.pairs in
+      (now, λ slot_of key has still. written-all bytes m slot (k, v) put w slot_of key (names slot_of key has (subst (HasKey (key_of bytes) key) (sym is) (has-again bytes k w v key others (subst (HasKey (key_of bytes) key) now still)))))
 
 module _ {K V : Type 0} {P : ℕ} {M : Type 0} {g : as_bytes.Ghosts K} where
   -- an entry whose pair took the place of those that its key overlaps is written

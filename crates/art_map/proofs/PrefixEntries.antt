@@ -8,6 +8,7 @@ use Rattle.std.specs.Map.{set_value}
 use Rattle.art_map.specs.Contents.{Contents, has_bytes}
 use Rattle.art_map.specs.Found.{HasPairAt, HasPairUnder, IsAt, IsFound, is_held, still_held, stored_slot}
 use Rattle.art_map.specs.Overlapped.{IsLoneAt, lone_item, overlaps_query}
+use Rattle.art_map.specs.LeafNames.{KeepsAllLeaves, KeepsLeaves}
 use Rattle.art_map.specs.Lends.{with_value_at}
 use Rattle.art_map.specs.PrefixEntries.{Inner, IsOccupiedFilled, IsOccupiedWritten, IsShownWritten, Leaf, Occupied, kind_at, occupied_kind, occupied_value, prefix_pairs_with, prefix_value}
 use Rattle.art_map.specs.declared.map.entry.OccupiedEntry.{OccupiedEntry}
@@ -16,6 +17,7 @@ use Rattle.art_map.specs.declared.map.prefix_entry.PrefixOccupiedKind.{PrefixOcc
 use Rattle.art_map.specs.declared.map.prefix_entry.Spot.{Spot}
 use Rattle.art_map.specs.declared.map.prefix_entry.Spot.TheVariants.{New, Stored}
 use Rattle.std.specs.Borrow.{MutBor}
+use Rattle.art_map.proofs.LeafNames.{all-names, written-all}
 use Rattle.art_map.proofs.Entries.{found-entry, is-written, key-is, same-written, value-is}
 
 pub slot-of : {K : Type 0} (s : Spot K) (slot : ℕ) → stored_slot s ≡ Some slot → s ≡ Stored slot
@@ -65,6 +67,9 @@ module _ {K V : Type 0} {P : ℕ} {M : Type 0} {g : as_bytes.Ghosts K} (e : Pref
         let o = leaf-entry e slot (held-at e slot is) in
         rw (kind-stored e slot is (held-at e slot is)) (written w ∙ sym (ap (λ l. with_pair_put g.bytes l w e.map.now.pairs) (key-is o k v has)))
 
+    pub names-shown : (w : V) → KeepsLeaves g.bytes e.map.now (with_value_at e.map.now slot w)
+    names-shown w = all-names g.bytes e.map.now (with_value_at e.map.now slot w) (written-all g.bytes e.map.now slot (k, v) has w)
+
     -- the entry, once the value is written
     pub shown-stored : ((w : V) → (with_value_at e.map.now slot w).pairs ≡ with_pair_put g.bytes k w e.map.now.pairs) → (w : V) (n : PrefixOccupied K V P M g) → n.map ≡ record e.map { now = with_value_at e.map.now slot w } → n.spot ≡ e.spot → IsShownWritten (occupied_kind e) w (occupied_kind n)
     shown-stored written w n map spot =
@@ -79,8 +84,9 @@ module _ {K V : Type 0} {P : ℕ} {M : Type 0} {g : as_bytes.Ghosts K} (e : Pref
         (subst (λ d. IsShownWritten (Leaf o) w d) (sym (kind-stored n slot on there)) (subst (λ (m : MutBor (Contents K V)). (h : HasPairUnder m.now slot) → So (record { map = m; leaf = slot; mark = n.mark; held = h })) (sym map) did there))
 
   module _ (k : K) (is : e.spot ≡ New k) where
-    pub shown-new : (n : PrefixOccupied K V P M g) → n.map.ghost_name ≡ e.map.ghost_name → n.spot ≡ e.spot → (w : V) → n.map.now.pairs ≡ set_value (overlaps_query g.bytes (g.bytes k)) e.map.now.pairs w → IsShownWritten (occupied_kind e) w (occupied_kind n)
-    shown-new n map spot w pairs = subst (λ (p : PrefixOccupiedKind K V P M g × PrefixOccupiedKind K V P M g). IsShownWritten p.0 w p.1) (λ i. (sym (kind-new e k is) i, sym (kind-new n k (spot ∙ is)) i)) (record { same_map = map; key = refl; pairs_are = pairs })
+    pub shown-new : (n : PrefixOccupied K V P M g) → n.map.ghost_name ≡ e.map.ghost_name → n.spot ≡ e.spot → (w : V) → n.map.now.pairs ≡ set_value (overlaps_query g.bytes (g.bytes k)) e.map.now.pairs w → KeepsAllLeaves g.bytes e.map.now n.map.now
+        → IsShownWritten (occupied_kind e) w (occupied_kind n)
+    shown-new n map spot w pairs names = subst (λ (p : PrefixOccupiedKind K V P M g × PrefixOccupiedKind K V P M g). IsShownWritten p.0 w p.1) (λ i. (sym (kind-new e k is) i, sym (kind-new n k (spot ∙ is)) i)) (record { same_map = map; key = refl; pairs = pairs; names = names })
 
 module _ {K V : Type 0} (test : K → Bool) (m : Contents K V) where
   -- the leaf of a lone pair has it

@@ -112,11 +112,12 @@ module _ (K V : RattleType) (P : ℕ) (key : as_bytes.Ghosts K.Denot) where
       let row = occupied.the_row (record { mir = named 1; lft = [] }) K V (number P) map_row key in
       follows row V o.ghost_name r.ghost_name (with_entry_value o.now)
 
-  -- once the borrow r ends, the map has the last value written through r under the entry's key; where there is no
-  -- borrow, its pairs and nodes are as they were
+  -- once the borrow r ends, the map has the last value written through r under the entry's key, and each leaf has the
+  -- key that it had; where there is no borrow, its pairs and nodes are as they were
   abbrev pub lends_entry : {E : Type 0} → Entry K.Denot V.Denot P map_row.Denot key → Result (MutBor V.Denot) E → Fml
   lends_entry e r =
-      LendsSoOk map_row V (entry_map e) r (λ n w. n.pairs ≡ entry_pairs e w) (IsKept (entry_map e).now)
+      LendsSoOk map_row V (entry_map e) r
+      (λ n w. (n.pairs ≡ entry_pairs e w) × KeepsAllLeaves key.bytes (entry_map e).now n) (IsKept (entry_map e).now)
 
   -- where r has no entry, the pairs and the nodes of the map are as they were
   abbrev pub rests_if_refused : {E : Type 0} → Entry K.Denot V.Denot P map_row.Denot key

@@ -7,6 +7,7 @@ use Rattle.art_arena.specs.declared.ends.End.{End}
 use Rattle.art_bytes.specs.declared.as_bytes.AsBytes as as_bytes
 use Rattle.art_operations.specs.Pairs.{IsAtEnd, with_pair_put}
 use Rattle.art_map.specs.Contents.{Contents}
+use Rattle.art_map.specs.LeafNames.{KeepsAllLeaves}
 use Rattle.art_walks.specs.Walked.{pairs_left}
 use Rattle.art_map.specs.declared.map.extraction.Extraction.{Extraction}
 use Rattle.art_map.specs.contracts.map.extraction.Extraction as extraction
@@ -20,11 +21,12 @@ module _ {K V : Type 0} {P : ℕ} {g : as_bytes.Ghosts K} where
   abbrev pub left_of : Extraction K V P g → List (K × V)
   left_of e = pairs_left e.map.now.nodes e.leaves
 
-  -- d is e, once w is the value of the pair at this end of those
+  -- d is e, once w is the value of the pair at this end of those; each leaf has the key that it had
   pub record IsWrittenAt (end : End) (e d : Extraction K V P g) (w : V) : Type 0 where
     pub same_map : (map_of d).ghost_name ≡ (map_of e).ghost_name
     pub left : (k : K) (v : V) (rest : List (K × V)) → IsAtEnd end (k, v) rest (left_of e)
         → IsAtEnd end (k, w) rest (left_of d) × ((map_of d).now.pairs ≡ with_pair_put g.bytes k w (map_of e).now.pairs)
+    pub names : KeepsAllLeaves g.bytes (map_of e).now (map_of d).now
 
 -- the value of the pair at this end is lent, or there is no pair
 abbrev pub IsLentAt : {K V : Type 0} → End → List (K × V) → Option (MutBor V) → Type 0
@@ -32,13 +34,9 @@ IsLentAt end left None = left ≡ []
 IsLentAt {K} {V} end left (Some value) = (k : K) × (rest : List (K × V)) × IsAtEnd end (k, value.now) rest left
 
 module _ (K V : RattleType) (P : ℕ) (key : as_bytes.Ghosts K.Denot) where
-  -- the extraction's type, as the logic holds it. Its lifetime is the second of the signature
-  abbrev extraction_row : RattleType
-  extraction_row = extraction.the_row (record { mir = named 1; lft = [] }) K V (number P) key
-
   -- once the borrow r ends, the pair at this end has the last value written through r; where there is none, all is as
-  -- it was
+  -- it was. The lifetime of the extraction is the second of the signature
   abbrev pub lends_end : End → MutBor (Extraction K.Denot V.Denot P key) → Option (MutBor V.Denot) → Fml
   lends_end end e r =
-      LendsSo extraction_row V e r (λ d w. OnSome r (IsWrittenAt end e.now d w))
-      (λ d. (map_of d ≡ map_of e.now) × (left_of d ≡ left_of e.now))
+      LendsSo (extraction.the_row (record { mir = named 1; lft = [] }) K V (number P) key) V e r
+      (λ d w. OnSome r (IsWrittenAt end e.now d w)) (λ d. (map_of d ≡ map_of e.now) × (left_of d ≡ left_of e.now))

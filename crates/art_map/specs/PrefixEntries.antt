@@ -13,7 +13,7 @@ use Rattle.art_operations.specs.KeyedLists.{IsBlocked, overlapping}
 use Rattle.art_operations.specs.Pairs.{with_pair_over}
 use Rattle.art_operations.specs.declared.insert.result.InsertRefused.{InsertRefused}
 use Rattle.art_map.specs.Contents.{Contents, IsKept}
-use Rattle.art_map.specs.LeafNames.{KeepsLeaves}
+use Rattle.art_map.specs.LeafNames.{KeepsAllLeaves, KeepsLeaves}
 use Rattle.art_map.specs.Entries as entry
 use Rattle.art_map.specs.Overlapped.{lone_item, overlaps_query}
 use Rattle.art_map.specs.declared.map.entry.OccupiedEntry.{OccupiedEntry}
@@ -37,16 +37,14 @@ module _ {K V : Type 0} {P : ℕ} {M : Type 0} where
   abbrev pub with_contents : InnerOccupiedEntry K V P M → Contents K V → InnerOccupiedEntry K V P M
   with_contents e m = record { map = record e.map { now = m }; key = e.key; mark = e.mark }
 
-  -- the pairs of the map, once w is the value of the only one that an insertion would remove
-  abbrev pub with_lone_value : (K → List ℕ) → InnerOccupiedEntry K V P M → V → List (K × V)
-  with_lone_value bytes e w = set_value (overlaps_query bytes (bytes e.key)) e.map.now.pairs w
-
-  -- n is the entry e, once the map has these pairs
-  pub record IsWithPairs (e : InnerOccupiedEntry K V P M) (pairs : List (K × V)) (n : InnerOccupiedEntry K V P M)
-      : Type 0 where
+  -- n is the entry e, once w is the value of the only pair that an insertion would remove; each leaf has the key that
+  -- it had
+  pub record IsWithLoneValue (bytes : K → List ℕ) (e : InnerOccupiedEntry K V P M) (w : V)
+      (n : InnerOccupiedEntry K V P M) : Type 0 where
     pub same_map : n.map.ghost_name ≡ e.map.ghost_name
     pub key : n.key ≡ e.key
-    pub pairs_are : n.map.now.pairs ≡ pairs
+    pub pairs : n.map.now.pairs ≡ set_value (overlaps_query bytes (bytes e.key)) e.map.now.pairs w
+    pub names : KeepsAllLeaves bytes e.map.now n.map.now
 
 module _ {K V : Type 0} {P : ℕ} {M : Type 0} {g : as_bytes.Ghosts K} where
   -- the entry of its own kind that a prefix entry is, where stored keys overlap its key
@@ -131,7 +129,7 @@ module _ {K V : Type 0} {P : ℕ} {M : Type 0} {g : as_bytes.Ghosts K} where
   -- n is the entry e, once w is the value of the pair that it shows
   abbrev pub IsShownWritten : PrefixOccupiedKind K V P M g → V → PrefixOccupiedKind K V P M g → Type 0
   IsShownWritten (Leaf o) w (Leaf n) = entry.IsWritten (entry.Occupied o) w (entry.Occupied n)
-  IsShownWritten (Inner e) w (Inner n) = IsWithPairs e (with_lone_value g.bytes e w) n
+  IsShownWritten (Inner e) w (Inner n) = IsWithLoneValue g.bytes e w n
   IsShownWritten (Leaf o) w (Inner n) = ⊥
   IsShownWritten (Inner e) w (Leaf n) = ⊥
 
@@ -165,8 +163,7 @@ module _ (K V : RattleType) (P : ℕ) (key : as_bytes.Ghosts K.Denot) where
   abbrev pub lends_lone : MutBor (InnerOccupiedEntry K.Denot V.Denot P map_row.Denot) → Option (MutBor V.Denot) → Fml
   lends_lone e r =
       LendsSo (inner.the_row (record { mir = named 1; lft = [] }) K V (number P) map_row key) V e r
-      (λ n w. OnSome r (IsWithPairs e.now (with_lone_value key.bytes e.now w) n))
-      (λ n. IsWithPairs e.now e.now.map.now.pairs n)
+      (λ n w. OnSome r (IsWithLoneValue key.bytes e.now w n)) (λ n. (n.map ≡ e.now.map) × (n.key ≡ e.now.key))
 
   -- the same of the only pair that a `PrefixOccupied` shows
   abbrev pub lends_shown : MutBor (PrefixOccupied K.Denot V.Denot P map_row.Denot key) → Option (MutBor V.Denot) → Fml
@@ -180,12 +177,13 @@ module _ (K V : RattleType) (P : ℕ) (key : as_bytes.Ghosts K.Denot) where
       → MutBor T.Denot → (T.Denot → InnerOccupiedEntry K.Denot V.Denot P map_row.Denot) → Fml
   lends_from_inner T = Lends (inner.the_row (record { mir = named 1; lft = [] }) K V (number P) map_row key) T
 
-  -- once the borrow r ends, the map has the last value written through r under the entry's key; where there is none,
-  -- its pairs and nodes are as they were
+  -- once the borrow r ends, the map has the last value written through r under the entry's key, and each key that stays
+  -- has its leaf; where there is none, its pairs and nodes are as they were
   abbrev pub lends_prefix : {E : Type 0} → PrefixEntry K.Denot V.Denot P map_row.Denot key
       → Result (MutBor V.Denot) E → Fml
   lends_prefix e r =
-      LendsSoOk map_row V (prefix_map e) r (λ n w. n.pairs ≡ prefix_pairs_with e w)
+      LendsSoOk map_row V (prefix_map e) r
+      (λ n w. (n.pairs ≡ prefix_pairs_with e w) × KeepsLeaves key.bytes (prefix_map e).now n)
       (IsKept (prefix_map e).now)
 
   -- where r has no entry, the pairs and the nodes of the map are as they were
@@ -198,8 +196,8 @@ module _ (K V : RattleType) (P : ℕ) (key : as_bytes.Ghosts K.Denot) where
   abbrev pub lends_inner : {E : Type 0} → InnerOccupiedEntry K.Denot V.Denot P map_row.Denot
       → Result (MutBor V.Denot) E → Fml
   lends_inner e r =
-      LendsSoOk map_row V e.map r (λ n w. n.pairs ≡ with_pair_over key.bytes e.key w e.map.now.pairs)
-      (IsKept e.map.now)
+      LendsSoOk map_row V e.map r (λ n w. (n.pairs ≡ with_pair_over key.bytes e.key w e.map.now.pairs)
+      × KeepsLeaves key.bytes e.map.now n) (IsKept e.map.now)
 
   abbrev pub inner_rests : {E : Type 0} → InnerOccupiedEntry K.Denot V.Denot P map_row.Denot
       → Result (OccupiedEntry K.Denot V.Denot P map_row.Denot key) E → Fml

@@ -1,8 +1,8 @@
 -- A tree that is built of ascending pairs: from the pairs taken to the ways nodes, and back with one pair more.
-use Rattle.std.proofs.Common.{◌≡◌, ℕ, suc, ◌<◌, ◌≤◌, cond, List, [], ◌∷◌, ◌++◌, length, take, drop, slice_index, refl, sym, ap, ap₂, subst, ◌∙◌, inl, inr, arith, append_assoc, append-nil, length-append, zero-le, Option, Some, None, IsSome, is_some}
+use Rattle.std.proofs.Common.{◌≡◌, ℕ, suc, ◌<◌, ◌≤◌, cond, List, [], ◌∷◌, ◌++◌, length, take, slice_index, refl, sym, ap, ap₂, subst, ◌∙◌, inl, inr, arith, append_assoc, append-nil, length-append, zero-le, Option, Some, None, IsSome, is_some}
 use Rattle.std.specs.List.{AllByRecursion}
 use Rattle.std.proofs.lemmas.Bool.Decides.{leb_tells}
-use Rattle.std.proofs.lemmas.List.{take-append-drop, take-append-le}
+use Rattle.std.proofs.lemmas.List.{take-append-le}
 use Rattle.std.proofs.Math.ListN.{get_or-append}
 use Rattle.std.proofs.Math.Seq.{take-suc, get_or-append_seam}
 use Rattle.art_bytes.specs.Keys.{IsBefore, IsProperFront, Conflict}
@@ -11,16 +11,17 @@ use Rattle.art_nodes.specs.InnerNode.{IsAscending}
 use Rattle.art_nodes.specs.Name.{Name}
 use Rattle.art_nodes.specs.declared.leaf.LeafNode.{LeafNode}
 use Rattle.art_arena.specs.arena.Arena.{Arena, leaf_held, cell_of, links_of, held_at, node_at, links_at, Allocates, SameCells}
-use Rattle.art_arena.specs.arena.Cells.{Cell, pair, leaf_name, copies, Holds}
+use Rattle.art_arena.specs.arena.Rooms.{SameLeaves}
+use Rattle.art_arena.specs.arena.Cells.{Cell, leaf_name, copies, Holds}
 use Rattle.art_arena.specs.arena.Context.{AreBelow}
 use Rattle.art_arena.specs.arena.Linked.{AreLinked, times, IsBeside}
-use Rattle.art_arena.specs.arena.Shapes.{Shape, Branches, LeafAt, leaf_at, no_branch, branch, name_of, children_at, join, leaves, leaves_in, cells, cells_in, pairs_of, key_of, IsUnder, AreUnder}
+use Rattle.art_arena.specs.arena.Shapes.{Shape, Branches, LeafAt, no_branch, branch, name_of, children_at, join, leaves, leaves_in, cells, cells_in, pairs_of, key_of, IsUnder, AreUnder}
 use Rattle.art_arena.specs.tree.Order.{AscendsByKey}
 use Rattle.art_arena.proofs.shapes.CellLists.{Holds-add, Holds-same, copies-append, copies-vacant}
 use Rattle.art_arena.proofs.shapes.Contexts.{AreUnder-join}
 use Rattle.art_arena.proofs.shapes.LinkedLists.{times-append, AreLinked-frame, AreLinked-same}
 use Rattle.art_arena.proofs.shapes.Surroundings.{times-leaves_in}
-use Rattle.art_arena.proofs.shapes.Subtrees.{HoldsPair, holds_pair}
+use Rattle.art_arena.proofs.shapes.Subtrees.{HoldsPair}
 use Rattle.art_arena.proofs.shapes.Updates.{nodes-update, links-update}
 use Rattle.art_arena.proofs.tree.Order.{all_append, all_right, all_weaker, ascending_append}
 use Rattle.art_operations.specs.Builders.{Builds, BuildsTo, BuildsUpTo, GoesBehind}
@@ -34,10 +35,12 @@ use Rattle.art_operations.specs.declared.meeting.Meeting.TheVariants as meeting
 use Rattle.art_operations.specs.declared.meeting.Parted.{Parted}
 use Rattle.art_operations.specs.inner.Meetings.{Meets}
 use Rattle.art_operations.specs.inner.Edits.{lone_leaf}
-use Rattle.art_operations.specs.inner.Spines.{Level, begin, begin_of, opened, open_children, open_leaves, open_cells, open_at, AddsChild, IsOpen, AreOpen, IsSpine, HasSpine, SameLeaves, PartsFromLast, IsEmptySpine}
+use Rattle.art_operations.specs.inner.Rebuilding.{RebuildsUpTo}
+use Rattle.art_operations.specs.inner.Spines.{Level, begin, begin_of, opened, open_children, open_leaves, open_cells, open_at, AddsChild, IsOpen, AreOpen, IsSpine, HasSpine, PartsFromLast, IsEmptySpine}
 use Rattle.art_operations.proofs.HeldPairs.{first-leaf}
 use Rattle.art_operations.proofs.KeyedLists.{before}
 use Rattle.art_operations.proofs.LeafPairs.{pairs-parts}
+use Rattle.art_operations.proofs.Rebuilding.{last-there, last-is-held, last-read, last-stands, whole}
 use Rattle.art_operations.proofs.Spines.{begin-opened, ascending-behind, below-behind, children-behind, width-behind, leaves-behind, cells-behind}
 
 -- two keys that part agree on each front up to there
@@ -92,11 +95,11 @@ module _ {K V : Type 0} (bytes : K → List ℕ) (P : ℕ) where
       omega (arith, times-of n key outer ways.2, times-leaves_in bytes P n (take l.depth key) 0 l.kids here, times-append n (open_leaves outer) (leaves_in l.kids), copies-append (leaf_name n) (open_cells P outer) (cells_in P l.kids))
 
   -- the ways nodes on the way to the new last leaf, which isn't stored yet
-  pub record Added (arena : Arena K V) (spine : Spine) (key : List ℕ) (ls : List (LeafAt K V)) : Type 0 where
+  pub record Added (arena : Arena K V) (spine : Spine) (rest : List (Name × Cell K V)) (key : List ℕ) (ls : List (LeafAt K V)) : Type 0 where
     pub levels : List (Level K V)
     pub stack_is : spine.stack.items ≡ opened levels
     pub children_are : spine.children.items ≡ open_children levels
-    pub holds : Holds (node_at arena) (open_cells P levels)
+    pub holds : Holds (node_at arena) (open_cells P levels ++ rest)
     pub ways : AreOpen bytes key levels
     pub leaves_are : open_leaves levels ≡ ls
 
@@ -120,7 +123,7 @@ module _ {K V : Type 0} (bytes : K → List ℕ) (P : ℕ) where
           shift outer ways.2 (omega (arith, above, before)),
         )
 
-    module _ (arena : Arena K V) (was now : Spine) (root : Name) (part : Shape K V) (ls : List (LeafAt K V)) (named : name_of part ≡ root) (under : IsUnder bytes (take (suc p.matched) old) part) where
+    module _ (arena : Arena K V) (was now : Spine) (rest : List (Name × Cell K V)) (root : Name) (part : Shape K V) (ls : List (LeafAt K V)) (named : name_of part ≡ root) (under : IsUnder bytes (take (suc p.matched) old) part) where
       -- the node at the parting has the part as its last child
       grown : (kids : Branches K V) → AreUnder bytes (take p.matched old) 0 kids → AreBelow p.old_byte kids → IsAscending (children_at kids) → IsOpen bytes new (record { depth = p.matched; kids = join kids (branch p.old_byte part no_branch) })
       grown kids kids_under below rises =
@@ -137,58 +140,62 @@ module _ {K V : Type 0} (bytes : K → List ℕ) (P : ℕ) where
           }
 
       add_to : (outer : List (Level K V)) (kids : Branches K V) → now.stack.items ≡ opened outer ++ record { behind = suc p.matched; first = length (open_children outer) } ∷ [] → now.children.items ≡ (open_children outer ++ children_at kids) ++ (p.old_byte, root) ∷ []
-          → Holds (node_at arena) (open_cells P outer ++ (cells_in P kids ++ cells P part)) → AreOpen bytes old outer → begin 0 outer ≤ p.matched
-          → AreUnder bytes (take p.matched old) 0 kids → AreBelow p.old_byte kids → IsAscending (children_at kids) → open_leaves outer ++ (leaves_in kids ++ leaves part) ≡ ls → Added arena now new ls
+          → Holds (node_at arena) (open_cells P outer ++ (cells_in P kids ++ (cells P part ++ rest))) → AreOpen bytes old outer → begin 0 outer ≤ p.matched
+          → AreUnder bytes (take p.matched old) 0 kids → AreBelow p.old_byte kids → IsAscending (children_at kids) → open_leaves outer ++ (leaves_in kids ++ leaves part) ≡ ls → Added arena now rest new ls
       add_to outer kids stack_is children_are holds ways above kids_under below rises leaves_are = record {
         levels = record { depth = p.matched; kids = join kids (branch p.old_byte part no_branch) } ∷ outer;
         stack_is = stack_is;
         children_are = children_are ∙ append_assoc (open_children outer) (children_at kids) ((p.old_byte, root) ∷ [])
             ∙ ap (λ n. open_children outer ++ (children_at kids ++ (p.old_byte, n) ∷ [])) (sym named) ∙ ap (λ cs. open_children outer ++ cs) (sym (children-behind p.old_byte part kids));
-        holds = subst (λ cs. Holds (node_at arena) (open_cells P outer ++ cs)) (sym (cells-behind P p.old_byte part kids)) holds;
+        holds = subst (Holds (node_at arena)) (ap (λ cs. open_cells P outer ++ cs) (sym (append_assoc (cells_in P kids) (cells P part) rest) ∙ ap (λ cs. cs ++ rest) (sym (cells-behind P p.old_byte part kids)))
+            ∙ sym (append_assoc (open_cells P outer) (cells_in P (join kids (branch p.old_byte part no_branch))) rest)) holds;
         ways = (grown kids kids_under below rises, above, shift outer ways above);
         leaves_are = ap (λ xs. open_leaves outer ++ xs) (leaves-behind p.old_byte part kids) ∙ leaves_are;
       }
 
       -- a node is opened for it
       add_new : (levels : List (Level K V)) → now.stack.items ≡ opened levels ++ record { behind = suc p.matched; first = length (open_children levels) } ∷ [] → now.children.items ≡ open_children levels ++ (p.old_byte, root) ∷ []
-          → Holds (node_at arena) (open_cells P levels ++ cells P part) → AreOpen bytes old levels → begin 0 levels ≤ p.matched → open_leaves levels ++ leaves part ≡ ls → Added arena now new ls
+          → Holds (node_at arena) (open_cells P levels ++ (cells P part ++ rest)) → AreOpen bytes old levels → begin 0 levels ≤ p.matched → open_leaves levels ++ leaves part ≡ ls → Added arena now rest new ls
       add_new levels stack_is children_are holds ways above leaves_are =
           add_to levels no_branch stack_is (children_are ∙ ap (λ cs. cs ++ (p.old_byte, root) ∷ []) (sym (append-nil (open_children levels)))) holds ways above tt tt tt leaves_are
 
       add : (levels : List (Level K V)) → now.stack.items ≡ open_at (suc p.matched) (length (open_children levels)) (opened levels) → now.children.items ≡ open_children levels ++ (p.old_byte, root) ∷ []
-          → Holds (node_at arena) (open_cells P levels ++ cells P part) → AreOpen bytes old levels → begin (suc p.matched) levels ≡ suc p.matched → open_leaves levels ++ leaves part ≡ ls → Added arena now new ls
+          → Holds (node_at arena) (open_cells P levels ++ (cells P part ++ rest)) → AreOpen bytes old levels → begin (suc p.matched) levels ≡ suc p.matched → open_leaves levels ++ leaves part ≡ ls → Added arena now rest new ls
       add levels stack_is children_are holds ways closed leaves_are = elim (leb_tells (suc p.matched) (begin 0 levels)) [
         | inl there ↦ at_top levels (stack_is ∙ rw (begin-opened, there.0) refl) children_are holds ways closed leaves_are there.1
         | inr less_deep ↦ add_new levels (stack_is ∙ rw (begin-opened, less_deep.0) refl) children_are holds ways (let few = less_deep.1 in omega (arith, few)) leaves_are
       ]
         where
-          at_top : (levels : List (Level K V)) → now.stack.items ≡ opened levels → now.children.items ≡ open_children levels ++ (p.old_byte, root) ∷ [] → Holds (node_at arena) (open_cells P levels ++ cells P part) → AreOpen bytes old levels
-              → begin (suc p.matched) levels ≡ suc p.matched → open_leaves levels ++ leaves part ≡ ls → suc p.matched ≤ begin 0 levels → Added arena now new ls
+          at_top : (levels : List (Level K V)) → now.stack.items ≡ opened levels → now.children.items ≡ open_children levels ++ (p.old_byte, root) ∷ [] → Holds (node_at arena) (open_cells P levels ++ (cells P part ++ rest)) → AreOpen bytes old levels
+              → begin (suc p.matched) levels ≡ suc p.matched → open_leaves levels ++ leaves part ≡ ls → suc p.matched ≤ begin 0 levels → Added arena now rest new ls
           at_top [] stack_is children_are holds ways closed leaves_are there = absurd (omega (arith, there))
           at_top (l ∷ outer) stack_is children_are holds ways closed leaves_are there =
               let depth : l.depth ≡ p.matched = omega (arith, closed, there) in
               let o = ways.0 in
               let above = ways.1 in
               add_to outer l.kids (stack_is ∙ ap (λ d. opened outer ++ record { behind = suc d; first = length (open_children outer) } ∷ []) depth) children_are
-              (subst (Holds (node_at arena)) (append_assoc (open_cells P outer) (cells_in P l.kids) (cells P part)) holds) ways.2 (omega (arith, above, depth))
+              (subst (Holds (node_at arena)) (append_assoc (open_cells P outer) (cells_in P l.kids) (cells P part ++ rest)) holds) ways.2 (omega (arith, above, depth))
               (subst (λ d. AreUnder bytes (take d old) 0 l.kids) depth o.under) (subst (λ b. AreBelow b l.kids) (ap (slice_index old) depth ∙ old-byte old new p part_at) o.below) o.ascending
               (sym (append_assoc (open_leaves outer) (leaves_in l.kids) (leaves part)) ∙ leaves_are)
 
     -- the closed part becomes a child of the node at the parting
-    pub added : (arena : Arena K V) (was now : Spine) (behind : ℕ) (root : Name) (ls : List (LeafAt K V)) → behind ≡ suc p.matched → IsSpine bytes P arena was behind root old ls → begin_of behind was.stack.items ≡ behind → AddsChild behind (p.old_byte, root) was now → Added arena now new ls
-    added arena was now behind root ls behind_is spine closed adds =
+    pub added : (arena : Arena K V) (was now : Spine) (rest : List (Name × Cell K V)) (behind : ℕ) (root : Name) (ls : List (LeafAt K V)) → behind ≡ suc p.matched → IsSpine bytes P arena was rest behind root old ls → begin_of behind was.stack.items ≡ behind → AddsChild behind (p.old_byte, root) was now → Added arena now rest new ls
+    added arena was now rest behind root ls behind_is spine closed adds =
         let at : begin (suc p.matched) spine.levels ≡ suc p.matched =
         ap (λ b. begin b spine.levels) (sym behind_is) ∙ sym (begin-opened behind spine.levels) ∙ ap (begin_of behind) (sym spine.stack_is) ∙ closed ∙ behind_is in
         let under : IsUnder bytes (take (suc p.matched) old) spine.part = subst (λ n. IsUnder bytes (take n old) spine.part) (ap (λ b. begin b spine.levels) behind_is ∙ at) spine.under in
-        add arena was now root spine.part ls spine.named under spine.levels
+        add arena was now rest root spine.part ls spine.named under spine.levels
         (adds.stack ∙ ap₂ (λ b (o : List Open). open_at b (length was.children.items) o) behind_is spine.stack_is ∙ ap (λ (cs : List (ℕ × Name)). open_at (suc p.matched) (length cs) (opened spine.levels)) spine.children_are)
         (adds.children ∙ ap (λ cs. cs ++ (p.old_byte, root) ∷ []) spine.children_are) spine.holds spine.ways at spine.leaves_are
 
   -- the last leaf stands beside those that are linked
-  module _ (before middle after : Arena K V) (spine : Spine) (key : K) (value : V) (ls : List (LeafAt K V)) (add : Added middle spine (bytes key) ls) (slot : ℕ) (same : SameLeaves before middle) (linked : AreLinked (links_at before) None ls None)
+  module _ (before middle after : Arena K V) (spine : Spine) (key : K) (value : V) (ls : List (LeafAt K V)) (add : Added middle spine [] (bytes key) ls) (slot : ℕ) (same : SameLeaves before middle) (linked : AreLinked (links_at before) None ls None)
       (allocates : Allocates middle after (leaf_name slot) (lone_leaf key value)) where
+    only : Holds (node_at middle) (open_cells P add.levels)
+    only = subst (Holds (node_at middle)) (append-nil (open_cells P add.levels)) add.holds
+
     absent : copies (leaf_name slot) (open_cells P add.levels) ≡ 0
-    absent = copies-vacant (node_at middle) (open_cells P add.levels) (leaf_name slot) add.holds (ap cell_of allocates.vacant)
+    absent = copies-vacant (node_at middle) (open_cells P add.levels) (leaf_name slot) only (ap cell_of allocates.vacant)
 
     counted : (n : ℕ) → times n ls ≡ copies (leaf_name n) (open_cells P add.levels)
     counted n = ap (times n) (sym add.leaves_are) ∙ times-of n (bytes key) add.levels add.ways
@@ -201,7 +208,7 @@ module _ {K V : Type 0} (bytes : K → List ℕ) (P : ℕ) where
         record {
           list = record {
             linked = AreLinked-frame (links_at middle) (links_at after) slot _ update None ls None none still;
-            once = λ n. subst (λ m. m ≤ 1) (sym (counted n)) (at_most_one (node_at middle (leaf_name n)) _ (add.holds.once (leaf_name n)));
+            once = λ n. subst (λ m. m ≤ 1) (sym (counted n)) (at_most_one (node_at middle (leaf_name n)) _ (only.once (leaf_name n)));
           };
           apart = none;
           held = rw update.changed refl;
@@ -216,7 +223,7 @@ module _ {K V : Type 0} (bytes : K → List ℕ) (P : ℕ) where
         → AscendsByKey (key_of bytes) pairs → GoesBehind bytes (bytes key) pairs → pairs_of ls ≡ pairs → BuildsUpTo bytes P linked_in spine slot (pairs ++ (key, value) ∷ [])
     pushed linked_in pairs same_cells links ascends behind pairs_are =
         let nodes = nodes-update middle after (leaf_name slot) _ allocates.updates in
-        let added = Holds-add (node_at middle) (node_at after) (leaf_name slot) _ (open_cells P add.levels) [] nodes (ap cell_of allocates.vacant) (subst (Holds (node_at middle)) (sym (append-nil (open_cells P add.levels))) add.holds) in
+        let added = Holds-add (node_at middle) (node_at after) (leaf_name slot) _ (open_cells P add.levels) [] nodes (ap cell_of allocates.vacant) add.holds in
         let m : LeafAt K V = record { slot = slot; key = key; value = value } in
         record {
           key = key;
@@ -239,18 +246,19 @@ module _ {K V : Type 0} (bytes : K → List ℕ) (P : ℕ) where
     abbrev pub all_leaves : List (LeafAt K V)
     all_leaves = open_leaves is.levels ++ last_leaf ∷ []
 
-    last-held : node_at arena (leaf_name last) ≡ Some (pair is.key is.value)
-    last-held = (all_right (λ (c : Name × Cell K V). node_at arena c.0 ≡ Some c.1) (open_cells P is.levels) ((leaf_name last, pair is.key is.value) ∷ []) is.holds.held).0
+    -- no leaf is still to come
+    abbrev pub up_to : RebuildsUpTo bytes P arena spine last [] all_leaves
+    up_to = record { key = is.key; value = is.value; levels = is.levels; stack_is = is.stack_is; children_are = is.children_are; holds = is.holds; ways = is.ways; leaves_are = refl }
 
     pub there : HoldsPair (held_at arena (leaf_name last)) is.key is.value
-    there = holds_pair (held_at arena (leaf_name last)) is.key is.value last-held
+    there = last-there bytes P arena spine last [] all_leaves up_to
 
     pub is-held : IsSome (held_at arena (leaf_name last))
-    is-held = subst IsSome (sym there.is) refl
+    is-held = last-is-held bytes P arena spine last [] all_leaves up_to
 
     -- what was read of the last key is that key
     pub last-bytes : (stored : K) (read_bytes : List ℕ) → ((l : LeafNode K V) → held_at arena (leaf_name last) ≡ Some (leaf_held l) → stored ≡ l.key) → read_bytes ≡ bytes stored → read_bytes ≡ bytes is.key
-    last-bytes stored read_bytes read e = e ∙ ap bytes (read there.leaf there.is ∙ there.key)
+    last-bytes = last-read bytes P arena spine last [] all_leaves up_to
 
     -- a key that parts from that of the last leaf parts so from the last key
     pub parts-last : (key : List ℕ) (p : Parted) → PartsFromLast bytes arena last key p → PartAt (bytes is.key) key p
@@ -259,23 +267,8 @@ module _ {K V : Type 0} (bytes : K → List ℕ) (P : ℕ) where
         let same : leaf ≡ there.leaf = cc in
         subst (λ o. PartAt o key p) (ap (λ (l : LeafNode K V). bytes l.key) same ∙ ap bytes there.key) part
 
-    pub spine-of : (low : ℕ) → HasSpine bytes P arena spine last low (leaf_name last) (bytes is.key) all_leaves
-    spine-of low = record {
-      leaf = there.leaf;
-      there = there.is;
-      key_is = ap bytes there.key;
-      stands = record {
-        levels = is.levels;
-        part = leaf_at last is.key is.value;
-        stack_is = is.stack_is;
-        children_are = is.children_are;
-        named = refl;
-        holds = is.holds;
-        ways = is.ways;
-        under = (drop (begin low is.levels) (bytes is.key), sym (take-append-drop (begin low is.levels) (bytes is.key)));
-        leaves_are = refl;
-      };
-    }
+    pub spine-of : (low : ℕ) → HasSpine bytes P arena spine [] last low (leaf_name last) (bytes is.key) all_leaves
+    spine-of = last-stands bytes P arena spine last [] all_leaves up_to
 
     pairs-end : pairs ≡ pairs_of (open_leaves is.levels) ++ (is.key, is.value) ∷ []
     pairs-end = sym is.pairs_are ∙ pairs-parts bytes (open_leaves is.levels) last_leaf []
@@ -301,20 +294,10 @@ module _ {K V : Type 0} (bytes : K → List ℕ) (P : ℕ) where
         (pairs_of (open_leaves is.levels), pairs-end ∙ ap₂ (λ x y. pairs_of (open_leaves is.levels) ++ (x, y) ∷ []) (sym there.key ∙ sym e.0) (sym there.value ∙ sym e.1))
 
     -- where all nodes are made, the arena has the tree
-    pub finished : (new : Arena K V) (now : Spine) (root : Name) → HasSpine bytes P new now last 0 root (bytes is.key) all_leaves → begin_of 0 now.stack.items ≡ 0 → SameLeaves arena new → HasPairs bytes P new (Some root) pairs
-    finished new now root has closed same = whole has.stands.levels has.stands.part has.stands.named has.stands.holds has.stands.under has.stands.leaves_are (sym (begin-opened 0 has.stands.levels) ∙ ap (begin_of 0) (sym has.stands.stack_is) ∙ closed)
-      where
-        whole : (levels : List (Level K V)) (part : Shape K V) → name_of part ≡ root → Holds (node_at new) (open_cells P levels ++ cells P part) → IsUnder bytes (take (begin 0 levels) (bytes is.key)) part → open_leaves levels ++ leaves part ≡ all_leaves
-            → begin 0 levels ≡ 0 → HasPairs bytes P new (Some root) pairs
-        whole [] part named holds under leaves_are none = (
-          part,
-          record {
-            nodes = record { named = named; holds = holds; under = under };
-            linked = subst (λ ls. AreLinked (links_at new) None ls None) (sym leaves_are) (AreLinked-same (links_at arena) (links_at new) (λ n. ap links_of (same n)) None all_leaves None is.linked);
-          },
-          ap pairs_of leaves_are ∙ is.pairs_are,
-        )
-        whole (l ∷ outer) part named holds under leaves_are none = absurd (omega (arith, none))
+    pub finished : (new : Arena K V) (now : Spine) (root : Name) → HasSpine bytes P new now [] last 0 root (bytes is.key) all_leaves → begin_of 0 now.stack.items ≡ 0 → SameLeaves arena new → HasPairs bytes P new (Some root) pairs
+    finished new now root has closed same =
+        subst (HasPairs bytes P new (Some root)) is.pairs_are
+        (whole bytes P new now last root (bytes is.key) all_leaves has closed (AreLinked-same (links_at arena) (links_at new) (λ n. ap links_of (same n)) None all_leaves None is.linked))
 
   -- the first pair
   pub first-pair : (old new : Arena K V) (spine : Spine) (slot : ℕ) (key : K) (value : V) → ((n : Name) → held_at old n ≡ None) → (spine.stack.items ≡ []) × (spine.children.items ≡ []) → Allocates old new (leaf_name slot) (lone_leaf key value)

@@ -1,9 +1,10 @@
 -- The last open node of a tree that is built is made: what the code reads of it, and what is then left.
-use Rattle.std.proofs.Common.{◌≡◌, ℕ, ◌-◌, ◌<◌, ◌≤◌, max, List, [], ◌∷◌, ◌++◌, length, take, drop, slice_index, refl, sym, ap, ap₂, subst, ◌∙◌, arith, append_assoc, length-append, zero-le}
+use Rattle.std.proofs.Common.{◌≡◌, ℕ, ◌+◌, ◌-◌, ◌<◌, ◌≤◌, max, List, [], ◌∷◌, ◌++◌, length, take, drop, slice_index, refl, sym, ap, ap₂, subst, ◌∙◌, arith, append_assoc, length-append, zero-le}
 use Rattle.art_nodes.specs.InnerNode.{IsAscending}
 use Rattle.art_nodes.specs.Name.{Name}
 use Rattle.art_arena.specs.arena.Arena.{Arena, node_at, inner_held, Allocates}
-use Rattle.art_arena.specs.arena.Cells.{Holds}
+use Rattle.art_arena.specs.arena.Rooms.{SameLeaves}
+use Rattle.art_arena.specs.arena.Cells.{Cell, Holds}
 use Rattle.art_arena.specs.arena.Context.{AreBelow}
 use Rattle.art_arena.specs.arena.Shapes.{LeafAt, children_at, leaves, cells, IsUnder}
 use Rattle.art_arena.specs.tree.Kinds.{IsKindOf}
@@ -11,10 +12,10 @@ use Rattle.art_arena.proofs.shapes.Contexts.{length-children}
 use Rattle.std.proofs.Math.Seq.{drop-append_seam, take-append_seam}
 use Rattle.art_operations.specs.declared.build.spine.Open.{Open}
 use Rattle.art_operations.specs.declared.build.spine.Spine.{Spine}
-use Rattle.art_operations.specs.inner.Spines.{Level, begin, begin_of, open_children, open_leaves, open_cells, inner_over, AreOpen, HasSpine, SameLeaves}
+use Rattle.art_operations.specs.inner.Spines.{Level, begin, begin_of, open_children, open_leaves, open_cells, inner_over, AreOpen, HasSpine}
 use Rattle.art_operations.proofs.Spines.{IsTop, top-level, begin-behind, begin-opened, begin-least, ascending-behind, made, made-under, made-holds, made-leaves}
 
-module _ {K V : Type 0} (bytes : K → List ℕ) (P : ℕ) (arena : Arena K V) (spine : Spine) (last low : ℕ) (root : Name) (key : List ℕ) (ls : List (LeafAt K V)) (has : HasSpine bytes P arena spine last low root key ls)
+module _ {K V : Type 0} (bytes : K → List ℕ) (P : ℕ) (arena : Arena K V) (spine : Spine) (rest : List (Name × Cell K V)) (last low : ℕ) (root : Name) (key : List ℕ) (ls : List (LeafAt K V)) (has : HasSpine bytes P arena spine rest last low root key ls)
     (outer : List Open) (top : Open) (stack : spine.stack.items ≡ outer ++ top ∷ []) (deep : low < begin_of low spine.stack.items) where
   pub top-is : IsTop has.stands.levels outer top
   top-is = top-level has.stands.levels outer top (sym stack ∙ has.stands.stack_is)
@@ -67,6 +68,17 @@ module _ {K V : Type 0} (bytes : K → List ℕ) (P : ℕ) (arena : Arena K V) (
     pub other-children : take top.first (spine.children.items ++ (byte, root) ∷ []) ≡ open_children top-is.above
     other-children = ap₂ take top-is.first_is all-children ∙ take-append_seam (open_children top-is.above) own
 
+    -- how many they are, and how many others
+    pub all-count : top.first + length own ≡ length spine.children.items + 1
+    all-count =
+        let first = top-is.first_is in
+        let count = sym (ap length all-children) ∙ length-append spine.children.items ((byte, root) ∷ []) in
+        let parts = length-append (open_children top-is.above) own in
+        omega (arith, first, count, parts)
+
+    pub left-count : {children : List (ℕ × Name)} → children ≡ take top.first (spine.children.items ++ (byte, root) ∷ []) → length children ≡ top.first
+    left-count is = ap length is ∙ ap length other-children ∙ sym top-is.first_is
+
     at_depth : byte ≡ slice_index key top-is.level.depth
     at_depth = byte_is ∙ ap (slice_index key) depth-is
 
@@ -80,14 +92,14 @@ module _ {K V : Type 0} (bytes : K → List ℕ) (P : ℕ) (arena : Arena K V) (
 
     -- the spine without it, whose part the new node is
     pub closed : (new : Arena K V) (now : Spine) (node : Name) → now.stack.items ≡ outer → now.children.items ≡ open_children top-is.above → IsKindOf node.kind (length own)
-        → Allocates arena new node (inner_held (inner_over P (take (top.behind - 1 - begin_of low outer) (drop (begin_of low outer) key)) own)) → SameLeaves arena new → HasSpine bytes P new now last low node key ls
+        → Allocates arena new node (inner_held (inner_over P (take (top.behind - 1 - begin_of low outer) (drop (begin_of low outer) key)) own)) → SameLeaves arena new → HasSpine bytes P new now rest last low node key ls
     closed new now node stack_now children_now kind allocates same =
         let level = top-is.level in
         let above = top-is.above in
         let part = has.stands.part in
         let own_is : own ≡ children_at level.kids ++ (slice_index key level.depth, root) ∷ [] = ap (λ b. children_at level.kids ++ (b, root) ∷ []) at_depth in
         let under : IsUnder bytes (take (begin low (level ∷ above)) key) part = subst (λ (ws : List (Level K V)). IsUnder bytes (take (begin low ws) key) part) top-is.is has.stands.under in
-        let holds = subst (λ (ws : List (Level K V)). Holds (node_at arena) (open_cells P ws ++ cells P part)) top-is.is has.stands.holds in
+        let holds = subst (λ (ws : List (Level K V)). Holds (node_at arena) (open_cells P ws ++ (cells P part ++ rest))) top-is.is has.stands.holds in
         let leaves_are = ap (λ (ws : List (Level K V)). open_leaves ws ++ leaves part) (sym top-is.is) ∙ has.stands.leaves_are in
         let prefix_is : take (top.behind - 1 - begin_of low outer) (drop (begin_of low outer) key) ≡ take (level.depth - begin low above) (drop (begin low above) key) = ap₂ (λ d f. take (d - f) (drop f key)) depth-is from-is in
         let put = subst (λ cs. Allocates arena new node (inner_held (inner_over P (take (level.depth - begin low above) (drop (begin low above) key)) cs))) own_is
@@ -102,7 +114,7 @@ module _ {K V : Type 0} (bytes : K → List ℕ) (P : ℕ) (arena : Arena K V) (
             stack_is = stack_now ∙ top-is.outer_is;
             children_are = children_now;
             named = refl;
-            holds = made-holds bytes P arena new key low level above part root node ls has.stands.named low-within ways.0 ways.1 holds put;
+            holds = made-holds bytes P arena new key low level above part root node ls has.stands.named low-within ways.0 ways.1 rest holds put;
             ways = ways.2;
             under = made-under bytes P arena new key low level above part root node ls has.stands.named low-within ways.0 ways.1 under (subst (λ cs. IsKindOf node.kind (length cs)) own_is kind);
             leaves_are = made-leaves bytes P arena new key low level above part root node ls has.stands.named low-within ways.0 ways.1 leaves_are;

@@ -56,7 +56,7 @@ module _ {K V : Type 0} where
   last-in f m l [] e = let same : l.slot ≡ f = cc in rw (same, same_name-self (leaf_name f)) (omega arith)
   last-in f m l (x ∷ ls) e = omega (arith, last-in f l.slot x ls e)
 
-  times-copies : (n : ℕ) (ls : List (LeafAt K V)) → times n ls ≡ copies (leaf_name n) (leaf_cells ls)
+  pub times-copies : (n : ℕ) (ls : List (LeafAt K V)) → times n ls ≡ copies (leaf_name n) (leaf_cells ls)
   times-copies n [] = refl
   times-copies n (l ∷ ls) = ap (λ k. (if nat_eq n l.slot then 1 else 0) + k) (times-copies n ls)
 

@@ -66,5 +66,14 @@ pub mod TakenEnds
 pub mod ClonedTrees
 pub mod RepeatedClones
 pub mod Spines
+pub mod Rebuilding
+pub mod InnerRooms
+pub mod PassedLeaves
+pub mod KeptLeaves
 pub mod Closing
 pub mod Building
+pub mod LeafListsParted
+pub mod LeafListsPassed
+pub mod LeafListsPut
+pub mod LeafListsMoved
+pub mod LeafListsOrdered

@@ -8,6 +8,7 @@ use Rattle.art_nodes.specs.Name.{Name}
 use Rattle.art_nodes.specs.declared.kind.NodeType.{NodeType}
 use Rattle.art_nodes.specs.declared.kind.NodeType.TheVariants.{Leaf}
 use Rattle.art_arena.specs.arena.Arena.{Arena, inner_held, cell_of, node_at, Allocates, SameNodes}
+use Rattle.art_arena.specs.arena.Rooms.{SameLeaves}
 use Rattle.art_arena.specs.arena.Cells.{Cell, branches, leaf_name, Holds}
 use Rattle.art_arena.specs.arena.Context.{AreBelow}
 use Rattle.art_arena.specs.arena.Shapes.{Shape, Branches, LeafAt, no_branch, branch, inner_at, name_of, children_at, join, width, leaves, leaves_in, cells, cells_in, IsUnder, AreUnder}
@@ -16,7 +17,7 @@ use Rattle.art_arena.proofs.shapes.CellLists.{Holds-add}
 use Rattle.art_arena.proofs.shapes.Contexts.{children_at-join, leaves_in-join, cells_in-join, width-join, length-children, AreUnder-join}
 use Rattle.art_arena.proofs.shapes.Updates.{nodes-update}
 use Rattle.art_operations.specs.declared.build.spine.Open.{Open}
-use Rattle.art_operations.specs.inner.Spines.{Level, begin, begin_of, opened, open_children, open_leaves, open_cells, inner_over, IsOpen, SameLeaves}
+use Rattle.art_operations.specs.inner.Spines.{Level, begin, begin_of, opened, open_children, open_leaves, open_cells, inner_over, IsOpen}
 
 -- lists with an item behind them
 
@@ -133,14 +134,16 @@ module _ {K V : Type 0} (bytes : K → List ℕ) (P : ℕ) where
               (AreUnder-join bytes (take l.depth key) 0 byte l.kids part no_branch is_open.under is_open.below zero-le part_under tt),
         )
 
-    pub made-holds : Holds (node_at old) (open_cells P (l ∷ outer) ++ cells P part) → Allocates old new node (inner_held (inner_over P prefix (children_at l.kids ++ (byte, root) ∷ []))) → Holds (node_at new) (open_cells P outer ++ cells P made)
-    made-holds holds allocates =
-        let below = cells_in P l.kids ++ cells P part in
+    pub made-holds : (rest : List (Name × Cell K V)) → Holds (node_at old) (open_cells P (l ∷ outer) ++ (cells P part ++ rest)) → Allocates old new node (inner_held (inner_over P prefix (children_at l.kids ++ (byte, root) ∷ []))) → Holds (node_at new) (open_cells P outer ++ (cells P made ++ rest))
+    made-holds rest holds allocates =
+        let below = cells_in P l.kids ++ (cells P part ++ rest) in
         let added = Holds-add (node_at old) (node_at new) node _ (open_cells P outer) below (nodes-update old new node _ allocates.updates) (ap cell_of allocates.vacant)
-        (subst (Holds (node_at old)) (append_assoc (open_cells P outer) (cells_in P l.kids) (cells P part)) holds) in
+        (subst (Holds (node_at old)) (append_assoc (open_cells P outer) (cells_in P l.kids) (cells P part ++ rest)) holds) in
         let children : children_at l.kids ++ (byte, root) ∷ [] ≡ children_at (join l.kids (branch byte part no_branch)) =
         ap (λ n. children_at l.kids ++ (byte, n) ∷ []) (sym named) ∙ sym (children-behind byte part l.kids) in
-        subst (λ c. Holds (node_at new) (open_cells P outer ++ c)) (ap₂ (λ (cs : List (ℕ × Name)) (xs : List (Name × Cell K V)). (node, branches (inner_over P prefix cs)) ∷ xs) children (sym (cells-behind P byte part l.kids))) added
+        let kept : below ≡ cells_in P (join l.kids (branch byte part no_branch)) ++ rest =
+        sym (append_assoc (cells_in P l.kids) (cells P part) rest) ∙ ap (λ xs. xs ++ rest) (sym (cells-behind P byte part l.kids)) in
+        subst (λ c. Holds (node_at new) (open_cells P outer ++ c)) (ap₂ (λ (cs : List (ℕ × Name)) (xs : List (Name × Cell K V)). (node, branches (inner_over P prefix cs)) ∷ xs) children kept) added
 
     pub made-leaves : open_leaves (l ∷ outer) ++ leaves part ≡ ls → open_leaves outer ++ leaves made ≡ ls
     made-leaves e = ap (λ xs. open_leaves outer ++ xs) (leaves-behind byte part l.kids) ∙ sym (append_assoc (open_leaves outer) (leaves_in l.kids) (leaves part)) ∙ e

@@ -18,6 +18,9 @@ pub mod Builders
 pub mod Commands
 pub mod Runs
 pub mod Frees
+pub mod LeafLists
+pub mod Rebuilds
+pub mod LeafCursors
 pub mod Clones
 pub mod Laws
 pub mod inner

@@ -10,3 +10,5 @@ pub mod Freeing
 pub mod Nearest
 pub mod LeafParts
 pub mod Spines
+pub mod Rebuilding
+pub mod Cursors

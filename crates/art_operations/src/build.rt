@@ -10,6 +10,7 @@ ghost use Rattle.art_operations.specs.Pairs.{HasPairs};
 ghost use Rattle.art_operations.specs.inner.Spines.{IsEmptySpine, PartsFromLast};
 
 mod made;
+mod over_leaves;
 mod spine;
 
 use crate::build::spine::{Spine, close};
@@ -20,6 +21,7 @@ use art_arena::links::insert_after;
 use art_arena::{LeafPtr, NodeArena};
 use art_bytes::AsBytes;
 use art_nodes::OpaqueNodePtr;
+pub use over_leaves::{SpineRoom, keep_leaves, rebuild};
 use std::alloc::Global;
 
 /// A tree in the making, in an arena of its own. Its pairs ascend, and each new one goes behind the last.

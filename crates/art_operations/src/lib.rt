@@ -10,6 +10,7 @@ pub mod deallocate;
 pub mod delete;
 pub mod insert;
 pub mod laws;
+pub mod leaf_list;
 pub mod lookup;
 pub mod meeting;
 pub mod minmax;
@@ -22,7 +23,7 @@ pub use bounds::{
     find_leaf_pointer_for_bound, find_leaf_pointer_for_bound_with, find_prefix_segment,
     find_prefix_segment_with, find_range_segment, find_range_segment_with,
 };
-pub use build::{PushRefused, TreeBuilder};
+pub use build::{PushRefused, SpineRoom, TreeBuilder, keep_leaves, rebuild};
 pub use clone::{CloneResult, clone_unchecked};
 pub use deallocate::{deallocate_leaves, deallocate_tree, deallocate_tree_non_leaves};
 pub use delete::leaf::take_leaf;
@@ -38,6 +39,7 @@ pub use insert::point::{
     find_insert_point, search_for_insert_point,
 };
 pub use insert::result::{InsertParentNodeChange, InsertRefused, InsertResult, PairRefused};
+pub use leaf_list::{LeafCursor, move_leaves};
 pub use lookup::{
     PrefixMatchBehavior, prefix_search_unchecked, prefix_search_with, search_unchecked, search_with,
 };

@@ -1,1 +1,2 @@
 mod FirstLeaf
+mod Counted

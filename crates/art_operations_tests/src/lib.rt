@@ -11,4 +11,6 @@ mod calling;
 #[cfg(test)]
 mod prefixes;
 #[cfg(test)]
+mod rebuilding;
+#[cfg(test)]
 mod trees;

@@ -43,7 +43,7 @@ const NONE: usize = usize::MAX;
 
 /// What a walk reads ahead: from time to time the leaves to come of the tree below a root.
 #[derive(Clone, Copy, Debug)]
-pub struct Ahead {
+pub(crate) struct Ahead {
     root: Option<OpaqueNodePtr>,
     // It reads ahead behind so many leaves, or at the leaf of this slot.
     left: usize,
@@ -53,7 +53,7 @@ pub struct Ahead {
 
 impl Ahead {
     /// Returns what reads ahead in the tree below this root. Without a root it reads nothing.
-    pub fn new(root: Option<OpaqueNodePtr>) -> Self {
+    pub(crate) fn new(root: Option<OpaqueNodePtr>) -> Self {
         Ahead {
             root,
             left: FIRST,
@@ -64,13 +64,13 @@ impl Ahead {
 
     /// Reads nothing from now on. A walk from both ends waits for two leaves at a time anyway.
     #[inline(always)]
-    pub fn stop(&mut self) {
+    pub(crate) fn stop(&mut self) {
         self.root = None;
     }
 
     /// Goes on by the first leaf of a run. If those that were read together are used up, it reads the next ones.
     #[inline(always)]
-    pub fn step<K: AsBytes, V, const PREFIX_LEN: usize>(
+    pub(crate) fn step<K: AsBytes, V, const PREFIX_LEN: usize>(
         &mut self,
         arena: &NodeArena<K, V, PREFIX_LEN>,
         leaves: RawIterator,

@@ -1,9 +1,10 @@
 // Insertions and removals.
 
 use crate::key::PlayedKey;
-use crate::script::Asked;
+use crate::told::{Told, say, show_number, show_old};
 use art_bytes::{AsBytes, SliceKey};
 use art_map::{TreeMap, TryInsertError};
+use play_script::Asked;
 use std::alloc::AllocError;
 use std::io;
 
@@ -14,8 +15,8 @@ pub fn show_taken<K: PlayedKey>(
 ) -> io::Result<()> {
     match taken {
         Ok(Some((key, value))) => println!(rt; "{key} {value}"),
-        Ok(None) => println!(rt; "None"),
-        Err(_) => println!(rt; "memory"),
+        Ok(None) => say(rt, "None"),
+        Err(_) => say(rt, "memory"),
     }
 }
 
@@ -34,15 +35,18 @@ pub fn show_refused<K: PlayedKey>(rt: &impl Print, key: K, value: u64) -> io::Re
     println!(rt; "memory {key} {value}")
 }
 
+/// Writes a number over a value, and prints the one that was there.
+pub fn write_over(rt: &impl Print, value: &mut u64, number: u64) -> io::Result<()> {
+    let old = *value;
+    *value = number;
+    show_number(rt, old)
+}
+
 // Prints the value that an entry lends, and writes another.
 macro_rules! show_lent {
     ($rt:ident, $lent:expr, $next:ident) => {
         match $lent {
-            Ok(value) => {
-                let old = *value;
-                *value = $next;
-                println!($rt; "{old}")
-            }
+            Ok(value) => write_over($rt, value, $next),
             Err(refused) => show_refused($rt, refused.key, refused.value),
         }
     };
@@ -53,9 +57,9 @@ macro_rules! show_filled {
     ($rt:ident, $filled:expr, $next:ident) => {
         match $filled {
             Ok(mut entry) => {
-                show_stored($rt, entry.key(), *entry.get())?;
+                let old = *entry.get();
                 *entry.get_mut() = $next;
-                Ok(())
+                show_stored($rt, entry.key(), old)
             }
             Err(refused) => show_refused($rt, refused.key, refused.value),
         }
@@ -65,6 +69,16 @@ macro_rules! show_filled {
 pub(crate) use show_filled;
 pub(crate) use show_lent;
 
+// Prints the pair of a key that is in conflict, and the bytes of the key.
+fn show_conflict<K: PlayedKey>(
+    rt: &impl Print,
+    key: &K,
+    value: u64,
+    bytes: &[u8],
+) -> io::Result<()> {
+    println!(rt; "prefix {key} {value}, {bytes:?}")
+}
+
 fn try_insert<K: PlayedKey, const PREFIX_LEN: usize>(
     rt: &impl Print,
     map: &mut TreeMap<K, u64, PREFIX_LEN>,
@@ -72,11 +86,10 @@ fn try_insert<K: PlayedKey, const PREFIX_LEN: usize>(
     value: u64,
 ) -> io::Result<()> {
     match map.try_insert(key, value) {
-        Ok(old) => println!(rt; "{old:?}"),
-        Err(TryInsertError::Prefix { key, value, error }) => println!(rt;
-            "prefix {key} {value}, {:?}",
-            error.byte_repr.bytes()
-        ),
+        Ok(old) => show_old(rt, old),
+        Err(TryInsertError::Prefix { key, value, error }) => {
+            show_conflict(rt, &key, value, error.byte_repr.bytes())
+        }
         Err(TryInsertError::Memory { key, value }) => show_refused(rt, key, value),
     }
 }
@@ -90,7 +103,7 @@ fn put_at<K: PlayedKey, const PREFIX_LEN: usize>(
 ) -> io::Result<()> {
     match map.place(&key) {
         Ok(place) => match map.put_at(place, key, value) {
-            Ok(old) => println!(rt; "{old:?}"),
+            Ok(old) => show_old(rt, old),
             Err(refused) => show_refused(rt, refused.key, refused.value),
         },
         Err(_) => println!(rt; "prefix {key}"),
@@ -104,7 +117,7 @@ fn prefix_insert<K: PlayedKey, const PREFIX_LEN: usize>(
     value: u64,
 ) -> io::Result<()> {
     match map.prefix_insert(key, value) {
-        Ok(removed) => println!(rt; "{removed}"),
+        Ok(removed) => show_number(rt, removed as u64),
         Err(refused) => show_refused(rt, refused.key, refused.value),
     }
 }
@@ -117,18 +130,35 @@ fn put_tails<K: PlayedKey, const PREFIX_LEN: usize>(
     bytes: &[u8],
 ) -> io::Result<()> {
     let Ok(shared) = K::shared(rt.alloc(), bytes) else {
-        return println!(rt; "no key");
+        return say(rt, "no key");
     };
     let (mut value, mut new) = (0_u64, 0_u64);
     for from in 0..shared.as_bytes().len() {
         match map.try_insert(K::tail(&shared, from)?, value % 7) {
             Ok(None) => new = new.wrapping_add(1),
             Ok(Some(_)) => {}
-            Err(_) => return println!(rt; "memory"),
+            Err(_) => return say(rt, "memory"),
         }
         value = value.wrapping_add(1);
     }
-    println!(rt; "{new}")
+    show_number(rt, new)
+}
+
+// The map loses all its pairs.
+fn clear<K: PlayedKey, const PREFIX_LEN: usize>(
+    rt: &impl Print,
+    map: &mut TreeMap<K, u64, PREFIX_LEN>,
+) -> io::Result<()> {
+    map.clear();
+    say(rt, "done")
+}
+
+// Prints a value that left the map, or why none did.
+fn show_removed(rt: &impl Print, removed: Result<Option<u64>, AllocError>) -> io::Result<()> {
+    match removed {
+        Ok(value) => show_old(rt, value),
+        Err(_) => say(rt, "memory"),
+    }
 }
 
 // Removals, which hand in no key.
@@ -136,43 +166,41 @@ fn remove<K: PlayedKey, const PREFIX_LEN: usize>(
     rt: &impl Print,
     map: &mut TreeMap<K, u64, PREFIX_LEN>,
     asked: &Asked<'_>,
-) -> io::Result<bool> {
+) -> Told {
     let query = SliceKey(asked.first);
-    match asked.call {
-        "clear" => {
-            map.clear();
-            println!(rt; "done")?;
-        }
-        "remove" => match map.remove(&query) {
-            Ok(value) => println!(rt; "{value:?}")?,
-            Err(_) => println!(rt; "memory")?,
-        },
-        "remove_entry" => show_taken(rt, map.remove_entry(&query))?,
-        "pop_first" => show_taken(rt, map.pop_first())?,
-        "pop_last" => show_taken(rt, map.pop_last())?,
-        _ => return Ok(false),
+    Some(match asked.call {
+        "clear" => clear(rt, map),
+        "remove" => show_removed(rt, map.remove(&query)),
+        "remove_entry" => show_taken(rt, map.remove_entry(&query)),
+        "pop_first" => show_taken(rt, map.pop_first()),
+        "pop_last" => show_taken(rt, map.pop_last()),
+        _ => return None,
+    })
+}
+
+// Puts a key in, if it can be made.
+fn put_made<K: PlayedKey, const PREFIX_LEN: usize>(
+    rt: &(impl Print + AllocGlobal),
+    map: &mut TreeMap<K, u64, PREFIX_LEN>,
+    asked: &Asked<'_>,
+) -> io::Result<()> {
+    let (call, number) = (asked.call, asked.number(1));
+    match K::made(rt.alloc(), asked.first, asked.tag()) {
+        Ok(key) if call == "try_insert" => try_insert(rt, map, key, number),
+        Ok(key) if call == "put_at" => put_at(rt, map, key, number),
+        Ok(key) => prefix_insert(rt, map, key, number),
+        Err(_) => say(rt, "no key"),
     }
-    Ok(true)
 }
 
 pub fn answer<K: PlayedKey, const PREFIX_LEN: usize>(
     rt: &(impl Print + AllocGlobal),
     map: &mut TreeMap<K, u64, PREFIX_LEN>,
     asked: &Asked<'_>,
-) -> io::Result<bool> {
-    match asked.call {
-        "tails" => {
-            put_tails(rt, map, asked.first)?;
-            return Ok(true);
-        }
-        "try_insert" | "put_at" | "prefix_insert" => {}
+) -> Told {
+    Some(match asked.call {
+        "tails" => put_tails(rt, map, asked.first),
+        "try_insert" | "put_at" | "prefix_insert" => put_made(rt, map, asked),
         _ => return remove(rt, map, asked),
-    }
-    match K::made(rt.alloc(), asked.first, asked.tag()) {
-        Ok(key) if asked.call == "try_insert" => try_insert(rt, map, key, asked.number(1))?,
-        Ok(key) if asked.call == "put_at" => put_at(rt, map, key, asked.number(1))?,
-        Ok(key) => prefix_insert(rt, map, key, asked.number(1))?,
-        Err(_) => println!(rt; "no key")?,
-    }
-    Ok(true)
+    })
 }

@@ -3,7 +3,7 @@
 ghost use Rattle.std.specs.Prelude.{◌≤◌};
 
 use crate::key::EndedKey;
-use crate::told::show_text;
+use crate::told::{say, show_text};
 use art_map::TreeMap;
 use art_set::TreeSet;
 use std::io;
@@ -19,7 +19,7 @@ fn copy_pairs<'a, const PREFIX_LEN: usize>(
     let mut copied: TreeMap<&'a EndedKey, u64, PREFIX_LEN> = TreeMap::with_prefix_len(rt.alloc());
     for (key, value) in other.iter().rev() {
         if copied.insert(key, *value).is_err() {
-            return println!(rt; "memory");
+            return say(rt, "memory");
         }
     }
     match copied.extend_from_refs(lent.iter().rev()) {
@@ -40,7 +40,7 @@ pub fn copy_map<'a, const PREFIX_LEN: usize>(
     let mut lent: TreeMap<&'a EndedKey, u64, PREFIX_LEN> = TreeMap::with_prefix_len(rt.alloc());
     for (key, value) in map.iter().rev() {
         if lent.insert(key, *value).is_err() {
-            return println!(rt; "memory");
+            return say(rt, "memory");
         }
     }
     copy_pairs(rt, &lent, other)
@@ -57,7 +57,7 @@ fn copy_keys<'a, const PREFIX_LEN: usize>(
     let mut copied: TreeSet<&'a EndedKey, PREFIX_LEN> = TreeSet::with_prefix_len(rt.alloc());
     for key in other.iter().rev() {
         if copied.insert(key).is_err() {
-            return println!(rt; "memory");
+            return say(rt, "memory");
         }
     }
     match copied.extend_from_refs(lent.iter().rev()) {
@@ -78,7 +78,7 @@ pub fn copy_set<'a, const PREFIX_LEN: usize>(
     let mut lent: TreeSet<&'a EndedKey, PREFIX_LEN> = TreeSet::with_prefix_len(rt.alloc());
     for key in set.iter().rev() {
         if lent.insert(key).is_err() {
-            return println!(rt; "memory");
+            return say(rt, "memory");
         }
     }
     copy_keys(rt, &lent, other)

@@ -1,10 +1,11 @@
 // Entries of keys none of which is a front of another, and `insert`.
 
-use crate::changes::{show_filled, show_key, show_lent, show_refused, show_stored};
+use crate::changes::{show_filled, show_key, show_lent, show_refused, show_stored, write_over};
 use crate::key::{EndedKey, PlayedKey};
-use crate::script::Asked;
+use crate::told::{Told, say, show_number, show_old};
 use art_bytes::AsBytes;
 use art_map::{Entry, TreeMap};
+use play_script::Asked;
 use std::io;
 
 // Calls that lend the value that stands at a key then.
@@ -67,12 +68,12 @@ fn remove<const PREFIX_LEN: usize>(
 ) -> io::Result<()> {
     match map.entry(key) {
         Entry::Occupied(entry) if call == "entry_remove" => match entry.remove() {
-            Ok(value) => println!(rt; "{value}"),
-            Err(_) => println!(rt; "memory"),
+            Ok(value) => show_number(rt, value),
+            Err(_) => say(rt, "memory"),
         },
         Entry::Occupied(entry) => match entry.remove_entry() {
-            Ok((key, value)) => println!(rt; "{key} {value}"),
-            Err(_) => println!(rt; "memory"),
+            Ok((key, value)) => show_stored(rt, &key, value),
+            Err(_) => say(rt, "memory"),
         },
         Entry::Vacant(entry) => show_key(rt, "vacant ", entry.key()),
     }
@@ -86,9 +87,9 @@ fn write<const PREFIX_LEN: usize>(
     number: u64,
 ) -> io::Result<()> {
     match map.entry(key) {
-        Entry::Occupied(mut entry) => println!(rt; "{}", entry.insert(number)),
+        Entry::Occupied(mut entry) => show_number(rt, entry.insert(number)),
         Entry::Vacant(entry) => match entry.insert(number) {
-            Ok(value) => println!(rt; "{value}"),
+            Ok(value) => show_number(rt, *value),
             Err(refused) => show_refused(rt, refused.key, refused.value),
         },
     }
@@ -120,12 +121,7 @@ fn lend_occupied<const PREFIX_LEN: usize>(
     number: u64,
 ) -> io::Result<()> {
     match map.entry(key) {
-        Entry::Occupied(entry) => {
-            let value = entry.into_mut();
-            let old = *value;
-            *value = number;
-            println!(rt; "{old}")
-        }
+        Entry::Occupied(entry) => { write_over(rt, entry.into_mut(), number) }
         Entry::Vacant(entry) => show_key(rt, "vacant ", entry.key()),
     }
 }
@@ -137,7 +133,7 @@ fn insert<const PREFIX_LEN: usize>(
     number: u64,
 ) -> io::Result<()> {
     match map.insert(key, number) {
-        Ok(old) => println!(rt; "{old:?}"),
+        Ok(old) => show_old(rt, old),
         Err(refused) => show_refused(rt, refused.key, refused.value),
     }
 }
@@ -182,8 +178,8 @@ fn with_key<const PREFIX_LEN: usize>(
     match call {
         "insert" => insert(rt, map, key, number),
         "replace_entry" => match map.replace_entry(key, number) {
-            Ok(Some((key, value))) => println!(rt; "{key} {value}"),
-            Ok(None) => println!(rt; "None"),
+            Ok(Some((key, value))) => show_stored(rt, &key, value),
+            Ok(None) => say(rt, "None"),
             Err(refused) => show_refused(rt, refused.key, refused.value),
         },
         "and_modify" => {
@@ -204,14 +200,13 @@ pub fn answer<const PREFIX_LEN: usize>(
     rt: &(impl Print + AllocGlobal),
     map: &mut TreeMap<EndedKey, u64, PREFIX_LEN>,
     asked: &Asked<'_>,
-) -> io::Result<bool> {
+) -> Told {
     let call = asked.call;
     if !LENDING.contains(&call) && !FILLING.contains(&call) && !OTHERS.contains(&call) {
-        return Ok(false);
+        return None;
     }
-    match EndedKey::made(rt.alloc(), asked.first, asked.tag()) {
-        Ok(key) => with_key(rt, map, key, call, asked.number(1))?,
-        Err(_) => println!(rt; "no key")?,
-    }
-    Ok(true)
+    Some(match EndedKey::made(rt.alloc(), asked.first, asked.tag()) {
+        Ok(key) => with_key(rt, map, key, call, asked.number(1)),
+        Err(_) => say(rt, "no key"),
+    })
 }

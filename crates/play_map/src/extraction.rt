@@ -2,10 +2,12 @@
 
 use crate::changes::show_taken;
 use crate::key::PlayedKey;
-use crate::script::{Asked, bound_of};
+use crate::told::{Told, say};
 use crate::walks::has_range;
 use art_bytes::{AsBytes, SliceKey};
 use art_map::{Extraction, TreeMap};
+use play_script::{Asked, bound_of};
+use std::alloc::AllocError;
 use std::io;
 
 // Prints the key at an end, if there is one.
@@ -60,13 +62,29 @@ fn extract<K: PlayedKey, const PREFIX_LEN: usize>(
     let start = bound_of(asked.words[0], &first);
     let end = bound_of(asked.words[1], &second);
     if !has_range(map, start, end) {
-        return println!(rt; "invalid");
+        return say(rt, "invalid");
     }
     let mut pairs = map.extraction(start, end);
     for letter in asked.words[2].bytes() {
         step(rt, &mut pairs, letter)?;
     }
-    println!(rt; "end")
+    say(rt, "end")
+}
+
+// Prints a pair that left the map by a closure, or why none did.
+fn show_extracted<K: PlayedKey>(
+    rt: &impl Print,
+    taken: Option<Result<(K, u64), AllocError>>,
+) -> io::Result<()> {
+    match taken {
+        Some(taken) => show_taken(rt, taken.map(Some)),
+        None => say(rt, "None"),
+    }
+}
+
+// Prints how often a closure was called, behind a word.
+fn show_calls(rt: &impl Print, word: &str, calls: u64) -> io::Result<()> {
+    println!(rt; "{word} {calls}")
 }
 
 // Takes out what is at least a number, from the ends that letters tell. The closure counts its calls.
@@ -79,7 +97,7 @@ fn extract_if<K: PlayedKey, const PREFIX_LEN: usize>(
     let start = bound_of(asked.words[0], &first);
     let end = bound_of(asked.words[1], &second);
     if !has_range(map, start, end) {
-        return println!(rt; "invalid");
+        return say(rt, "invalid");
     }
     let least = asked.number(3);
     let mut calls = 0u64;
@@ -94,34 +112,36 @@ fn extract_if<K: PlayedKey, const PREFIX_LEN: usize>(
         } else {
             pairs.next()
         };
-        match taken {
-            Some(taken) => show_taken(rt, taken.map(Some))?,
-            None => println!(rt; "None")?,
-        }
+        show_extracted(rt, taken)?;
     }
     drop(pairs);
-    println!(rt; "end {calls}")
+    show_calls(rt, "end", calls)
+}
+
+// Keeps what is at least a number. The closure counts its calls.
+fn retain<K: PlayedKey, const PREFIX_LEN: usize>(
+    rt: &impl Print,
+    map: &mut TreeMap<K, u64, PREFIX_LEN>,
+    least: u64,
+) -> io::Result<()> {
+    let mut calls = 0u64;
+    let kept = map.retain(|_, value| {
+        calls = calls.wrapping_add(1);
+        *value = value.wrapping_add(1);
+        *value >= least
+    });
+    show_calls(rt, if kept.is_ok() { "done" } else { "memory" }, calls)
 }
 
 pub fn answer<K: PlayedKey, const PREFIX_LEN: usize>(
-    rt: &(impl Print + AllocGlobal),
+    rt: &impl Print,
     map: &mut TreeMap<K, u64, PREFIX_LEN>,
     asked: &Asked<'_>,
-) -> io::Result<bool> {
-    match asked.call {
-        "extraction" => extract(rt, map, asked)?,
-        "extract_if" => extract_if(rt, map, asked)?,
-        "retain" => {
-            let least = asked.number(0);
-            let mut calls = 0u64;
-            let kept = map.retain(|_, value| {
-                calls = calls.wrapping_add(1);
-                *value = value.wrapping_add(1);
-                *value >= least
-            });
-            println!(rt; "{} {calls}", if kept.is_ok() { "done" } else { "memory" })?;
-        }
-        _ => return Ok(false),
-    }
-    Ok(true)
+) -> Told {
+    Some(match asked.call {
+        "extraction" => extract(rt, map, asked),
+        "extract_if" => extract_if(rt, map, asked),
+        "retain" => retain(rt, map, asked.number(0)),
+        _ => return None,
+    })
 }

@@ -17,35 +17,85 @@ mod entries;
 mod extraction;
 mod key;
 mod lookups;
+mod merges;
 mod prefix_entries;
 mod prefix_removals;
 mod readers;
-mod script;
 mod sets;
 mod told;
 mod two_maps;
+mod two_sets;
 mod walks;
 
 use art_map::TreeMap;
 use art_set::TreeSet;
 use key::{EndedKey, FreeKey, PlayedKey};
-use script::{Asked, Script};
+use play_script::{Asked, Script};
 use std::io;
+use told::{Told, say};
+use two_maps::Bag;
 
 // Answers a line, of calls that any map has.
 fn answer<K: PlayedKey, const PREFIX_LEN: usize>(
     rt: &(impl Print + AllocGlobal),
     map: &mut TreeMap<K, u64, PREFIX_LEN>,
     asked: &Asked<'_>,
-) -> io::Result<bool> {
-    Ok(
-        lookups::answer(rt, map, asked)?
-            || readers::answer(rt, map, asked)?
-            || changes::answer(rt, map, asked)?
-            || walks::answer(rt, map, asked)?
-            || extraction::answer(rt, map, asked)?
-            || prefix_removals::answer(rt, map, asked)?,
-    )
+) -> Told {
+    if let Some(told) = lookups::answer(rt, map, asked) {
+        return Some(told);
+    }
+    if let Some(told) = readers::answer(rt, map, asked) {
+        return Some(told);
+    }
+    if let Some(told) = changes::answer(rt, map, asked) {
+        return Some(told);
+    }
+    if let Some(told) = walks::answer(rt, map, asked) {
+        return Some(told);
+    }
+    if let Some(told) = extraction::answer(rt, map, asked) {
+        return Some(told);
+    }
+    prefix_removals::answer(rt, map, asked)
+}
+
+// Answers a line over a map of keys of any bytes.
+fn answer_free<const PREFIX_LEN: usize>(
+    rt: &(impl Print + AllocGlobal),
+    map: &mut TreeMap<FreeKey, u64, PREFIX_LEN>,
+    asked: &Asked<'_>,
+) -> Told {
+    if let Some(told) = prefix_entries::answer(rt, map, asked) {
+        return Some(told);
+    }
+    answer(rt, map, asked)
+}
+
+// Answers a line over two maps of keys none of which is a prefix of another. Such maps have more calls.
+fn answer_ended<const PREFIX_LEN: usize>(
+    rt: &(impl Print + AllocGlobal),
+    map: &mut TreeMap<EndedKey, u64, PREFIX_LEN>,
+    other: &mut TreeMap<EndedKey, u64, PREFIX_LEN>,
+    bag: &mut Bag,
+    asked: &Asked<'_>,
+) -> Told
+    requires { PREFIX_LEN ≤ 16 }
+{
+    if let Some(told) = entries::answer(rt, map, asked) {
+        return Some(told);
+    }
+    if let Some(told) = two_maps::answer(rt, map, other, bag, asked) {
+        return Some(told);
+    }
+    answer(rt, map, asked)
+}
+
+// Ends the answer to a line, which may not be understood.
+fn end_answer(rt: &impl Print, told: Told) -> io::Result<()> {
+    match told {
+        Some(told) => told,
+        None => say(rt, "not understood"),
+    }
 }
 
 // Plays all lines over a map of keys of any bytes.
@@ -59,15 +109,12 @@ fn play_free<const PREFIX_LEN: usize>(
             break;
         }
         let asked = script.asked();
-        let known = prefix_entries::answer(rt, map, &asked)? || answer(rt, map, &asked)?;
-        if !known {
-            println!(rt; "not understood")?;
-        }
+        end_answer(rt, answer_free(rt, map, &asked))?;
     }
     Ok(())
 }
 
-// Plays lines over two maps of keys none of which is a prefix of another. Such maps have more calls.
+// Plays lines over two maps of keys none of which is a prefix of another.
 fn play_ended<const PREFIX_LEN: usize>(
     rt: &(impl Print + AllocGlobal),
     script: &mut Script,
@@ -82,12 +129,7 @@ fn play_ended<const PREFIX_LEN: usize>(
             break;
         }
         let asked = script.asked();
-        let known = entries::answer(rt, map, &asked)?
-            || two_maps::answer(rt, map, other, &mut bag, &asked)?
-            || answer(rt, map, &asked)?;
-        if !known {
-            println!(rt; "not understood")?;
-        }
+        end_answer(rt, answer_ended(rt, map, other, &mut bag, &asked))?;
     }
     Ok(())
 }
@@ -140,7 +182,7 @@ fn play_sets<const PREFIX_LEN: usize>(
             break;
         }
         let asked = script.asked();
-        sets::answer(rt, set, other, &mut bag, &asked)?;
+        end_answer(rt, sets::answer(rt, set, other, &mut bag, &asked))?;
     }
     Ok(())
 }
@@ -178,6 +220,6 @@ fn main(rt: HostRuntime) -> io::Result<()> {
         "map 0 set" => set_0(&rt, &mut script),
         "map 4 set" => set_4(&rt, &mut script),
         "map 16 set" => set_16(&rt, &mut script),
-        _ => println!(rt; "not understood"),
+        _ => say(&rt, "not understood"),
     }
 }

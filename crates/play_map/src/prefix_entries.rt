@@ -1,11 +1,12 @@
 // Entries of keys that may be in conflict: `try_entry`, and prefix entries.
 
-use crate::changes::{show_filled, show_key, show_lent, show_refused, show_stored};
+use crate::changes::{show_filled, show_key, show_lent, show_refused, show_stored, write_over};
 use crate::key::{FreeKey, PlayedKey};
-use crate::script::Asked;
+use crate::told::{Told, say, show_bool, show_value};
 use crate::walks::{raise, show_in_list};
 use art_bytes::AsBytes;
 use art_map::{PrefixEntry, PrefixOccupiedKind, TreeMap, TryKeyError};
+use play_script::Asked;
 use std::io;
 
 fn try_entry<const PREFIX_LEN: usize>(
@@ -19,8 +20,8 @@ fn try_entry<const PREFIX_LEN: usize>(
             Ok(entry) => show_stored(rt, entry.key(), *entry.get()),
             Err(refused) => show_refused(rt, refused.key, refused.value),
         },
-        Err(TryKeyError::Prefix { key, .. }) => println!(rt; "prefix {key}"),
-        Err(TryKeyError::Memory { key }) => println!(rt; "memory {key}"),
+        Err(TryKeyError::Prefix { key, .. }) => show_key(rt, "prefix ", &key),
+        Err(TryKeyError::Memory { key }) => show_key(rt, "memory ", &key),
     }
 }
 
@@ -111,35 +112,26 @@ fn set<const PREFIX_LEN: usize>(
                     "inner_insert" => show_lent!(rt, entry.insert(number), next),
                     _ => show_filled!(rt, entry.insert_entry(number), next),
                 },
-                PrefixOccupiedKind::Leaf(_) => println!(rt; "leaf"),
+                PrefixOccupiedKind::Leaf(_) => say(rt, "leaf"),
             },
         },
-        PrefixEntry::Vacant(_) => println!(rt; "vacant"),
+        PrefixEntry::Vacant(_) => say(rt, "vacant"),
     }
 }
 
 // Prints a stored key, or that none is shown.
 fn show_stored_key(rt: &impl Print, key: Option<&FreeKey>) -> io::Result<()> {
     match key {
-        Some(key) => println!(rt; "{key}"),
-        None => println!(rt; "None"),
+        Some(key) => show_key(rt, "", key),
+        None => say(rt, "None"),
     }
-}
-
-// Prints a value, or that none is shown.
-fn show_value(rt: &impl Print, value: Option<&u64>) -> io::Result<()> {
-    println!(rt; "{value:?}")
 }
 
 // Writes a number over the value that an entry shows, and prints the one that was there.
 fn write(rt: &impl Print, lent: Option<&mut u64>, number: u64) -> io::Result<()> {
     match lent {
-        Some(value) => {
-            let old = *value;
-            *value = number;
-            println!(rt; "{old}")
-        }
-        None => println!(rt; "None"),
+        Some(value) => write_over(rt, value, number),
+        None => say(rt, "None"),
     }
 }
 
@@ -149,9 +141,9 @@ macro_rules! with_inner {
         match $map.prefix_entry($key) {
             PrefixEntry::Occupied(entry) => match entry.kind() {
                 PrefixOccupiedKind::Inner(mut $entry) => $done,
-                PrefixOccupiedKind::Leaf(_) => println!($rt; "leaf"),
+                PrefixOccupiedKind::Leaf(_) => say($rt, "leaf"),
             },
-            PrefixEntry::Vacant(_) => println!($rt; "vacant"),
+            PrefixEntry::Vacant(_) => say($rt, "vacant"),
         }
     };
 }
@@ -191,11 +183,11 @@ fn write_pair<const PREFIX_LEN: usize>(
             let mut pair = entry.get_key_value_mut();
             match pair.value_mut() {
                 Some(value) => *value = number,
-                None => return println!(rt; "None"),
+                None => return say(rt, "None"),
             }
             match pair.key() {
                 Some(key) => show_key(rt, "", key),
-                None => println!(rt; "None"),
+                None => say(rt, "None"),
             }
         }
     )
@@ -216,7 +208,7 @@ fn write_lone_pair<const PREFIX_LEN: usize>(
         {
             show_key(rt, "", entry.key())?;
             if entry.get().is_none() {
-                return println!(rt; "None");
+                return say(rt, "None");
             }
             let pair = entry.lone_pair_mut();
             *pair.value = number;
@@ -242,7 +234,7 @@ fn raise_inner<const PREFIX_LEN: usize>(
             raise(rt, values.next_back(), number)?;
             raise(rt, values.next(), number)?;
             raise(rt, values.next(), number)?;
-            println!(rt; "{}", values.is_empty())
+            show_bool(rt, values.is_empty())
         }
     )
 }
@@ -272,7 +264,7 @@ fn show_occupied<const PREFIX_LEN: usize>(
             show_value(rt, entry.get())?;
             write(rt, entry.get_mut(), number)
         }
-        PrefixEntry::Vacant(_) => println!(rt; "vacant"),
+        PrefixEntry::Vacant(_) => say(rt, "vacant"),
     }
 }
 
@@ -297,7 +289,7 @@ fn show_place<const PREFIX_LEN: usize>(
                         show_in_list(rt, Some(pair))?;
                     }
                 }
-                println!(rt; "end")
+                say(rt, "end")
             }
         },
     }
@@ -380,13 +372,12 @@ pub fn answer<const PREFIX_LEN: usize>(
     rt: &(impl Print + AllocGlobal),
     map: &mut TreeMap<FreeKey, u64, PREFIX_LEN>,
     asked: &Asked<'_>,
-) -> io::Result<bool> {
+) -> Told {
     if !is_known(asked.call) {
-        return Ok(false);
+        return None;
     }
-    match FreeKey::made(rt.alloc(), asked.first, asked.tag()) {
-        Ok(key) => with_key(rt, map, key, asked.call, asked.number(1))?,
-        Err(_) => println!(rt; "no key")?,
-    }
-    Ok(true)
+    Some(match FreeKey::made(rt.alloc(), asked.first, asked.tag()) {
+        Ok(key) => with_key(rt, map, key, asked.call, asked.number(1)),
+        Err(_) => say(rt, "no key"),
+    })
 }

@@ -1,9 +1,10 @@
 // All pairs behind a prefix leave the map in one cut.
 
 use crate::key::PlayedKey;
-use crate::script::Asked;
+use crate::told::{Told, say};
 use art_bytes::AsBytes;
 use art_map::{Removed, TreeMap};
+use play_script::Asked;
 use std::io;
 
 /// How many nodes may be read at most to find what begins with a prefix.
@@ -39,8 +40,21 @@ fn prepare<K: PlayedKey, const PREFIX_LEN: usize>(
     let most = most_read(map, prefix);
     match map.prepare_remove_prefix(prefix) {
         Ok(removal) if is_applied => show_removed(rt, removal.apply(), most),
-        Ok(_) => println!(rt; "ready"),
-        Err(_) => println!(rt; "memory"),
+        Ok(_) => say(rt, "ready"),
+        Err(_) => say(rt, "memory"),
+    }
+}
+
+// All pairs behind a prefix leave the map by one call.
+fn remove<K: PlayedKey, const PREFIX_LEN: usize>(
+    rt: &impl Print,
+    map: &mut TreeMap<K, u64, PREFIX_LEN>,
+    prefix: &[u8],
+) -> io::Result<()> {
+    let most = most_read(map, prefix);
+    match map.remove_prefix(prefix) {
+        Ok(removed) => show_removed(rt, removed, most),
+        Err(_) => say(rt, "memory"),
     }
 }
 
@@ -48,18 +62,11 @@ pub fn answer<K: PlayedKey, const PREFIX_LEN: usize>(
     rt: &impl Print,
     map: &mut TreeMap<K, u64, PREFIX_LEN>,
     asked: &Asked<'_>,
-) -> io::Result<bool> {
-    match asked.call {
-        "remove_prefix" => {
-            let most = most_read(map, asked.first);
-            match map.remove_prefix(asked.first) {
-                Ok(removed) => show_removed(rt, removed, most)?,
-                Err(_) => println!(rt; "memory")?,
-            }
-        }
-        "prepare_prefix" => prepare(rt, map, asked.first, false)?,
-        "apply_prefix" => prepare(rt, map, asked.first, true)?,
-        _ => return Ok(false),
-    }
-    Ok(true)
+) -> Told {
+    Some(match asked.call {
+        "remove_prefix" => remove(rt, map, asked.first),
+        "prepare_prefix" => prepare(rt, map, asked.first, false),
+        "apply_prefix" => prepare(rt, map, asked.first, true),
+        _ => return None,
+    })
 }

@@ -7,6 +7,9 @@ use std::cmp::Ordering;
 use std::hash::{Hash, Hasher};
 use std::{fmt, io};
 
+/// How printing the reply to a line went; nothing where a room doesn't know the line.
+pub type Told = Option<io::Result<()>>;
+
 /// A hasher that goes by the number of bytes of each write, and by its first.
 #[derive(Drop)]
 struct FirstBytes(u64);
@@ -44,6 +47,36 @@ pub fn show_order(rt: &impl Print, order: Ordering, is_equal: bool) -> io::Resul
         Ordering::Equal => println!(rt; "equal {is_equal}"),
         Ordering::Greater => println!(rt; "greater {is_equal}"),
     }
+}
+
+/// Prints a line.
+pub fn say(rt: &impl Print, line: &str) -> io::Result<()> {
+    println!(rt; "{line}")
+}
+
+/// Prints that a call was done, or that it found no memory.
+pub fn show_done(rt: &impl Print, is_done: bool) -> io::Result<()> {
+    say(rt, if is_done { "done" } else { "memory" })
+}
+
+/// Prints whether something is so.
+pub fn show_bool(rt: &impl Print, shown: bool) -> io::Result<()> {
+    println!(rt; "{shown}")
+}
+
+/// Prints a number.
+pub fn show_number(rt: &impl Print, shown: u64) -> io::Result<()> {
+    println!(rt; "{shown}")
+}
+
+/// Prints a value that is lent, or that none is.
+pub fn show_value(rt: &impl Print, shown: Option<&u64>) -> io::Result<()> {
+    println!(rt; "{shown:?}")
+}
+
+/// Prints a value that was stored, or that none was.
+pub fn show_old(rt: &impl Print, shown: Option<u64>) -> io::Result<()> {
+    println!(rt; "{shown:?}")
 }
 
 /// Prints a text.

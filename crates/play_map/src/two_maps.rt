@@ -6,12 +6,12 @@ use crate::changes::show_refused;
 use crate::copies::copy_map;
 use crate::key::EndedKey;
 use crate::prefix_removals::{most_read, show_removed};
-use crate::script::Asked;
-use crate::told::{show_hash, show_order, show_text};
+use crate::told::{Told, say, show_done, show_hash, show_order, show_text};
 use crate::walks::left;
 use art_bytes::SliceKey;
 use art_map::TreeMap;
 use art_operations::InsertRefused;
+use play_script::Asked;
 use std::alloc::{AllocError, Global};
 use std::{io, mem};
 
@@ -29,9 +29,9 @@ fn replace<const PREFIX_LEN: usize>(
     match made {
         Ok(made) => {
             *map = made;
-            println!(rt; "done")
+            say(rt, "done")
         }
-        Err(_) => println!(rt; "memory"),
+        Err(_) => say(rt, "memory"),
     }
 }
 
@@ -46,7 +46,7 @@ fn replace_by_pairs<const PREFIX_LEN: usize>(
     match made {
         Ok(made) => {
             *map = made;
-            println!(rt; "done")
+            say(rt, "done")
         }
         Err(refused) => show_refused(rt, refused.key, refused.value),
     }
@@ -78,6 +78,11 @@ fn show_given_key(rt: &impl Print, left: usize, key: Option<EndedKey>) -> io::Re
     }
 }
 
+// Prints how many values are left and one that a walk gives, or that it gives none.
+fn show_given_value(rt: &impl Print, left: usize, value: Option<u64>) -> io::Result<()> {
+    print!(rt; "{left} {value:?}, ")
+}
+
 // Takes the map's pairs from the ends that letters tell. The others are dropped. What owns a walk has one way out:
 // each other one would have a proof that the walk may be dropped there.
 fn into_iter<const PREFIX_LEN: usize>(
@@ -99,7 +104,7 @@ fn into_iter<const PREFIX_LEN: usize>(
             break;
         }
     }
-    println!(rt; "end")
+    say(rt, "end")
 }
 
 // Takes the keys of a map from its ends, and prints each.
@@ -121,7 +126,7 @@ fn into_keys<const PREFIX_LEN: usize>(
             break;
         }
     }
-    println!(rt; "end")
+    say(rt, "end")
 }
 
 // Takes the values of a map from its ends, and prints each.
@@ -140,11 +145,11 @@ fn into_values<const PREFIX_LEN: usize>(
             values.next()
         };
         let left = left(values.len(), values.size_hint());
-        if print!(rt; "{left} {value:?}, ").is_err() {
+        if show_given_value(rt, left, value).is_err() {
             break;
         }
     }
-    println!(rt; "end")
+    say(rt, "end")
 }
 
 // The second map's pairs go behind those in the bag, from its front or from its back, and it is empty then. So a call
@@ -169,7 +174,7 @@ fn drain<const PREFIX_LEN: usize>(
             is_done = bag.push(pair).is_ok() && is_done;
         }
     }
-    println!(rt; "{}", if is_done { "done" } else { "memory" })
+    show_done(rt, is_done)
 }
 
 // The bag's pairs are put in one by one.
@@ -179,7 +184,7 @@ fn extend<const PREFIX_LEN: usize>(
     bag: &mut Bag,
 ) -> io::Result<()> {
     match map.extend(mem::replace(bag, Vec::new(rt.alloc()))) {
-        Ok(()) => println!(rt; "done"),
+        Ok(()) => say(rt, "done"),
         Err(refused) => show_refused(rt, refused.key, refused.value),
     }
 }
@@ -194,10 +199,10 @@ fn remove_from_both<const PREFIX_LEN: usize>(
     let most = most_read(map, prefix);
     let most_of_other = most_read(other, prefix);
     let Ok(first) = map.prepare_remove_prefix(prefix) else {
-        return println!(rt; "memory");
+        return say(rt, "memory");
     };
     let Ok(second) = other.prepare_remove_prefix(prefix) else {
-        return println!(rt; "memory");
+        return say(rt, "memory");
     };
     show_removed(rt, first.apply(), most)?;
     show_removed(rt, second.apply(), most_of_other)
@@ -213,49 +218,102 @@ fn compare<const PREFIX_LEN: usize>(
     if map.partial_cmp(other) == Some(order) {
         show_order(rt, order, map == other)
     } else {
-        println!(rt; "another order")
+        say(rt, "another order")
     }
 }
 
+// The two maps change places.
+fn swap<const PREFIX_LEN: usize>(
+    rt: &impl Print,
+    map: &mut TreeMap<EndedKey, u64, PREFIX_LEN>,
+    other: &mut TreeMap<EndedKey, u64, PREFIX_LEN>,
+) -> io::Result<()> {
+    mem::swap(map, other);
+    say(rt, "done")
+}
+
+// The pairs of the second map go over to the first.
+fn append<const PREFIX_LEN: usize>(
+    rt: &impl Print,
+    map: &mut TreeMap<EndedKey, u64, PREFIX_LEN>,
+    other: &mut TreeMap<EndedKey, u64, PREFIX_LEN>,
+) -> io::Result<()> {
+    let done = map.append(other);
+    show_done(rt, done.is_ok())
+}
+
+// The bag's pairs make a map.
+fn from_bag<const PREFIX_LEN: usize>(
+    rt: &(impl Print + AllocGlobal),
+    map: &mut TreeMap<EndedKey, u64, PREFIX_LEN>,
+    bag: &mut Bag,
+    call: &str,
+) -> io::Result<()>
+    requires { PREFIX_LEN ≤ 16 }
+{
+    let pairs = mem::replace(bag, Vec::new(rt.alloc()));
+    let made = if call == "from_vec" {
+        TreeMap::from_vec(rt.alloc(), pairs)
+    } else {
+        TreeMap::from_iter(rt.alloc(), pairs)
+    };
+    replace_by_pairs(rt, map, made)
+}
+
+// Calls of one map: what is told of it, and calls that use it up.
+fn call_one<const PREFIX_LEN: usize>(
+    rt: &(impl Print + AllocGlobal),
+    map: &mut TreeMap<EndedKey, u64, PREFIX_LEN>,
+    asked: &Asked<'_>,
+) -> Told
+    requires { PREFIX_LEN ≤ 16 }
+{
+    let ends = asked.words[0];
+    Some(match asked.call {
+        "debug" => show_text(rt, map),
+        "hash" => show_hash(rt, map),
+        "into_iter" => into_iter(rt, map, ends),
+        "into_keys" => into_keys(rt, map, ends),
+        "into_values" => into_values(rt, map, ends),
+        _ => return None,
+    })
+}
+
+// Calls of both maps, or of the first.
+fn call_both<const PREFIX_LEN: usize>(
+    rt: &(impl Print + AllocGlobal),
+    map: &mut TreeMap<EndedKey, u64, PREFIX_LEN>,
+    other: &mut TreeMap<EndedKey, u64, PREFIX_LEN>,
+    asked: &Asked<'_>,
+) -> Told
+    requires { PREFIX_LEN ≤ 16 }
+{
+    Some(match asked.call {
+        "append" => append(rt, map, other),
+        "clone" => replace(rt, other, map.clone()),
+        "compare" => compare(rt, map, other),
+        "extend_from_refs" => copy_map(rt, map, other),
+        "remove_from_both" => remove_from_both(rt, map, other, asked.first),
+        "swap" => swap(rt, map, other),
+        "split_off" => replace(rt, other, map.split_off(&SliceKey(asked.first))),
+        _ => return call_one(rt, map, asked),
+    })
+}
+
+/// Answers a call of two maps, of the bag, or of what uses a map up.
 pub fn answer<const PREFIX_LEN: usize>(
     rt: &(impl Print + AllocGlobal),
     map: &mut TreeMap<EndedKey, u64, PREFIX_LEN>,
     other: &mut TreeMap<EndedKey, u64, PREFIX_LEN>,
     bag: &mut Bag,
     asked: &Asked<'_>,
-) -> io::Result<bool>
+) -> Told
     requires { PREFIX_LEN ≤ 16 }
 {
-    match asked.call {
-        "append" => match map.append(other) {
-            Ok(()) => println!(rt; "done")?,
-            Err(_) => println!(rt; "memory")?,
-        },
-        "drain" => drain(rt, other, bag, asked.words[0])?,
-        "extend" => extend(rt, map, bag)?,
-        "from_vec" => {
-            let pairs = mem::replace(bag, Vec::new(rt.alloc()));
-            replace_by_pairs(rt, map, TreeMap::from_vec(rt.alloc(), pairs))?;
-        }
-        "from_iter" => {
-            let pairs = mem::replace(bag, Vec::new(rt.alloc()));
-            replace_by_pairs(rt, map, TreeMap::from_iter(rt.alloc(), pairs))?;
-        }
-        "clone" => replace(rt, other, map.clone())?,
-        "compare" => compare(rt, map, other)?,
-        "debug" => show_text(rt, map)?,
-        "extend_from_refs" => copy_map(rt, map, other)?,
-        "hash" => show_hash(rt, map)?,
-        "remove_from_both" => remove_from_both(rt, map, other, asked.first)?,
-        "swap" => {
-            mem::swap(map, other);
-            println!(rt; "done")?;
-        }
-        "split_off" => replace(rt, other, map.split_off(&SliceKey(asked.first)))?,
-        "into_iter" => into_iter(rt, map, asked.words[0])?,
-        "into_keys" => into_keys(rt, map, asked.words[0])?,
-        "into_values" => into_values(rt, map, asked.words[0])?,
-        _ => return Ok(false),
-    }
-    Ok(true)
+    Some(match asked.call {
+        "drain" => drain(rt, other, bag, asked.words[0]),
+        "extend" => extend(rt, map, bag),
+        "from_vec" | "from_iter" => from_bag(rt, map, bag, asked.call),
+        _ => return call_both(rt, map, other, asked),
+    })
 }

@@ -5,10 +5,11 @@ ghost use Rattle.std.specs.Range.Bound.{bound_map};
 ghost use Rattle.art_walks.specs.Bounds.{AreValidKeyBounds};
 
 use crate::key::PlayedKey;
-use crate::script::{Asked, bound_of};
+use crate::told::{Told, say};
 use art_bytes::{AsBytes, SliceKey};
-use art_map::{IterMut, RangeMut, TreeMap};
+use art_map::{IterMut, RangeMut, TreeMap, ValuesMut};
 use art_walks::{Iter, Keys, Prefix, Range, Values, bounds_are_valid};
+use play_script::{Asked, bound_of};
 use std::io;
 use std::ops::Bound;
 
@@ -41,21 +42,46 @@ pub fn show_in_list<K: PlayedKey>(rt: &impl Print, pair: Option<(&K, &u64)>) -> 
     }
 }
 
+// Prints a pair in a list, behind how many were left.
+fn show_counted<K: PlayedKey>(
+    rt: &impl Print,
+    left: usize,
+    pair: Option<(&K, &u64)>,
+) -> io::Result<()> {
+    match pair {
+        Some((key, value)) => print!(rt; "{left} {key} {value}, "),
+        None => print!(rt; "{left} None, "),
+    }
+}
+
+// Prints a key in a list, behind how many are left, or that there is none.
+fn show_counted_key<K: PlayedKey>(rt: &impl Print, left: usize, key: Option<&K>) -> io::Result<()> {
+    match key {
+        Some(key) => print!(rt; "{left} {key}, "),
+        None => print!(rt; "None, "),
+    }
+}
+
+// Prints a value in a list, behind how many are left.
+fn show_counted_value(rt: &impl Print, left: usize, value: Option<&u64>) -> io::Result<()> {
+    print!(rt; "{left} {value:?}, ")
+}
+
 fn show_iter<K: PlayedKey, const PREFIX_LEN: usize>(
     rt: &impl Print,
     mut walk: Iter<'_, K, u64, PREFIX_LEN>,
     ends: &str,
 ) -> io::Result<()> {
     for end in ends.bytes() {
-        print!(rt; "{} ", left(walk.len(), walk.size_hint()))?;
+        let left = left(walk.len(), walk.size_hint());
         let pair = if end == b'b' {
             walk.next_back()
         } else {
             walk.next()
         };
-        show_in_list(rt, pair)?;
+        show_counted(rt, left, pair)?;
     }
-    println!(rt; "end")
+    say(rt, "end")
 }
 
 fn show_keys<K: PlayedKey, const PREFIX_LEN: usize>(
@@ -69,15 +95,9 @@ fn show_keys<K: PlayedKey, const PREFIX_LEN: usize>(
         } else {
             walk.next()
         };
-        match key {
-            Some(key) => {
-                let left = left(walk.len(), walk.size_hint());
-                print!(rt; "{left} {key}, ")?
-            }
-            None => print!(rt; "None, ")?,
-        }
+        show_counted_key(rt, left(walk.len(), walk.size_hint()), key)?;
     }
-    println!(rt; "end")
+    say(rt, "end")
 }
 
 fn show_values<K: PlayedKey, const PREFIX_LEN: usize>(
@@ -91,9 +111,9 @@ fn show_values<K: PlayedKey, const PREFIX_LEN: usize>(
         } else {
             walk.next()
         };
-        print!(rt; "{} {value:?}, ", left(walk.len(), walk.size_hint()))?;
+        show_counted_value(rt, left(walk.len(), walk.size_hint()), value)?;
     }
-    println!(rt; "end")
+    say(rt, "end")
 }
 
 fn show_range<K: PlayedKey, const PREFIX_LEN: usize>(
@@ -109,7 +129,7 @@ fn show_range<K: PlayedKey, const PREFIX_LEN: usize>(
         };
         show_in_list(rt, pair)?;
     }
-    println!(rt; "end")
+    say(rt, "end")
 }
 
 fn show_prefix<K: PlayedKey, const PREFIX_LEN: usize>(
@@ -125,7 +145,7 @@ fn show_prefix<K: PlayedKey, const PREFIX_LEN: usize>(
         };
         show_in_list(rt, pair)?;
     }
-    println!(rt; "end")
+    say(rt, "end")
 }
 
 // A range, where its bounds are valid.
@@ -140,7 +160,7 @@ fn range<K: PlayedKey, const PREFIX_LEN: usize>(
     if has_range(map, start, end) {
         show_range(rt, map.range(start, end), asked.words[2])
     } else {
-        println!(rt; "invalid")
+        say(rt, "invalid")
     }
 }
 
@@ -154,13 +174,10 @@ fn range_mut<K: PlayedKey, const PREFIX_LEN: usize>(
     let start = bound_of(asked.words[0], &first);
     let end = bound_of(asked.words[1], &second);
     if !has_range(map, start, end) {
-        return println!(rt; "invalid");
+        return say(rt, "invalid");
     }
     let mut walk = map.range_mut(start, end);
-    for letter in asked.words[2].bytes() {
-        step_between(rt, &mut walk, letter, asked.number(3))?;
-    }
-    println!(rt; "end")
+    raise_between(rt, &mut walk, asked.words[2], asked.number(3))
 }
 
 // Adds a number to a value that is lent with its key, and prints what was there.
@@ -197,6 +214,19 @@ fn step_between<K: PlayedKey, const PREFIX_LEN: usize>(
     }
 }
 
+// Takes the steps of such a range that letters tell.
+fn raise_between<K: PlayedKey, const PREFIX_LEN: usize>(
+    rt: &impl Print,
+    walk: &mut RangeMut<'_, K, u64, PREFIX_LEN>,
+    letters: &str,
+    number: u64,
+) -> io::Result<()> {
+    for letter in letters.bytes() {
+        step_between(rt, walk, letter, number)?;
+    }
+    say(rt, "end")
+}
+
 // Takes a step of a walk over all pairs.
 fn step<K: PlayedKey, const PREFIX_LEN: usize>(
     rt: &impl Print,
@@ -219,6 +249,44 @@ fn step<K: PlayedKey, const PREFIX_LEN: usize>(
     }
 }
 
+// Takes the steps of a walk over all pairs that letters tell, and prints how many pairs are left before each.
+fn raise_all<K: PlayedKey, const PREFIX_LEN: usize>(
+    rt: &impl Print,
+    walk: &mut IterMut<'_, K, u64, PREFIX_LEN>,
+    letters: &str,
+    number: u64,
+) -> io::Result<()> {
+    for letter in letters.bytes() {
+        show_left(rt, walk.len())?;
+        step(rt, walk, letter, number)?;
+    }
+    say(rt, "end")
+}
+
+// Adds a number to the values at the ends that letters tell, and prints how many are left before each.
+fn raise_values<K: PlayedKey, const PREFIX_LEN: usize>(
+    rt: &impl Print,
+    walk: &mut ValuesMut<'_, K, u64, PREFIX_LEN>,
+    ends: &str,
+    number: u64,
+) -> io::Result<()> {
+    for end in ends.bytes() {
+        show_left(rt, walk.len())?;
+        let value = if end == b'b' {
+            walk.next_back()
+        } else {
+            walk.next()
+        };
+        raise(rt, value, number)?;
+    }
+    say(rt, "end")
+}
+
+// Prints how many are left of a walk.
+fn show_left(rt: &impl Print, left: usize) -> io::Result<()> {
+    print!(rt; "{left} ")
+}
+
 /// Adds a number to a value that is lent, and prints what was there.
 pub fn raise(rt: &impl Print, lent: Option<&mut u64>, number: u64) -> io::Result<()> {
     match lent {
@@ -231,61 +299,46 @@ pub fn raise(rt: &impl Print, lent: Option<&mut u64>, number: u64) -> io::Result
     }
 }
 
-// Walks that lend values for writing.
-fn write<K: PlayedKey, const PREFIX_LEN: usize>(
+// Walks that read.
+fn read<K: PlayedKey, const PREFIX_LEN: usize>(
+    rt: &impl Print,
+    map: &TreeMap<K, u64, PREFIX_LEN>,
+    asked: &Asked<'_>,
+) -> Told {
+    let ends = asked.words[0];
+    Some(match asked.call {
+        "iter" => show_iter(rt, map.iter(), ends),
+        "keys" => show_keys(rt, map.keys(), ends),
+        "values" => show_values(rt, map.values(), ends),
+        "range" => range(rt, map, asked),
+        "prefix" => show_prefix(rt, map.prefix(&SliceKey(asked.first)), asked.words[1]),
+        _ => return None,
+    })
+}
+
+// Adds a number to values behind a prefix.
+fn prefix_mut<K: PlayedKey, const PREFIX_LEN: usize>(
     rt: &impl Print,
     map: &mut TreeMap<K, u64, PREFIX_LEN>,
     asked: &Asked<'_>,
-) -> io::Result<bool> {
-    let number = asked.number(1);
-    match asked.call {
-        "range_mut" => range_mut(rt, map, asked)?,
-        "prefix_mut" => {
-            let query = SliceKey(asked.first);
-            let mut walk = map.prefix_mut(&query);
-            for letter in asked.words[2].bytes() {
-                step_between(rt, &mut walk, letter, number)?;
-            }
-            println!(rt; "end")?;
-        }
-        "iter_mut" => {
-            let mut walk = map.iter_mut();
-            for letter in asked.words[0].bytes() {
-                print!(rt; "{} ", walk.len())?;
-                step(rt, &mut walk, letter, number)?;
-            }
-            println!(rt; "end")?;
-        }
-        "values_mut" => {
-            let mut walk = map.values_mut();
-            for end in asked.words[0].bytes() {
-                print!(rt; "{} ", walk.len())?;
-                let value = if end == b'b' {
-                    walk.next_back()
-                } else {
-                    walk.next()
-                };
-                raise(rt, value, number)?;
-            }
-            println!(rt; "end")?;
-        }
-        _ => return Ok(false),
-    }
-    Ok(true)
+) -> io::Result<()> {
+    let query = SliceKey(asked.first);
+    let mut walk = map.prefix_mut(&query);
+    raise_between(rt, &mut walk, asked.words[2], asked.number(1))
 }
 
+/// Answers a walk; among them are those that lend values for writing.
 pub fn answer<K: PlayedKey, const PREFIX_LEN: usize>(
-    rt: &(impl Print + AllocGlobal),
+    rt: &impl Print,
     map: &mut TreeMap<K, u64, PREFIX_LEN>,
     asked: &Asked<'_>,
-) -> io::Result<bool> {
-    match asked.call {
-        "iter" => show_iter(rt, map.iter(), asked.words[0])?,
-        "keys" => show_keys(rt, map.keys(), asked.words[0])?,
-        "values" => show_values(rt, map.values(), asked.words[0])?,
-        "range" => range(rt, map, asked)?,
-        "prefix" => show_prefix(rt, map.prefix(&SliceKey(asked.first)), asked.words[1])?,
-        _ => return write(rt, map, asked),
-    }
-    Ok(true)
+) -> Told {
+    let (letters, number) = (asked.words[0], asked.number(1));
+    Some(match asked.call {
+        "range_mut" => range_mut(rt, map, asked),
+        "prefix_mut" => prefix_mut(rt, map, asked),
+        "iter_mut" => raise_all(rt, &mut map.iter_mut(), letters, number),
+        "values_mut" => raise_values(rt, &mut map.values_mut(), letters, number),
+        _ => return read(rt, map, asked),
+    })
 }

@@ -3,7 +3,6 @@ ghost use Rattle.std.specs.Prelude.{◌≤◌};
 
 use crate::kept::Kept;
 use crate::key::PlayedKey;
-use crate::script::Asked;
 use crate::show::show_node;
 use crate::tree::Tree;
 use art_arena::End;
@@ -13,6 +12,7 @@ use art_operations::{
     Answer, InsertParentNodeChange, InsertRefused, InsertResult, PairRefused, PrefixInsertResult,
     SubtreeDeleteResult,
 };
+use play_script::Asked;
 use std::alloc::AllocError;
 use std::io;
 

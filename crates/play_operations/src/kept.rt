@@ -2,8 +2,8 @@
 // together.
 
 use crate::key::PlayedKey;
-use crate::script::Asked;
 use art_operations::Command;
+use play_script::Asked;
 use std::alloc::{AllocError, Global};
 use std::io;
 

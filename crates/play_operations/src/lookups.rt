@@ -1,6 +1,5 @@
 // Calls that read the tree. Where a call counts what it reads, the one that doesn't must return the same.
 
-use crate::script::{Asked, bound_of};
 use crate::show::{show_ends, show_leaf, show_path, show_stats};
 use crate::tree::Tree;
 use art_arena::{ArenaReader, LeafPtr, TreePath, find_leaf};
@@ -11,6 +10,7 @@ use art_operations::{
     search_unchecked, search_with,
 };
 use art_walks::{MalformedTreeError, WellFormedChecker, WellFormedTreeStats};
+use play_script::{Asked, bound_of};
 use std::alloc::Global;
 use std::io;
 

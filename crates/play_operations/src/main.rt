@@ -21,14 +21,13 @@ mod key;
 mod lookups;
 mod nodes;
 mod points;
-mod script;
 mod show;
 mod tree;
 
 use kept::Kept;
 use key::PlayedKey;
 use nodes::Nodes;
-use script::Script;
+use play_script::Script;
 use std::io;
 use tree::Tree;
 

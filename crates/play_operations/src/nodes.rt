@@ -7,7 +7,6 @@ use crate::edits::{
     write_prefix,
 };
 use crate::key::PlayedKey;
-use crate::script::Asked;
 use crate::show::{show_node, show_stats};
 use art_arena::{InnerRef, LeafPtr, NodeArena};
 use art_bytes::AsBytes;
@@ -15,6 +14,7 @@ use art_nodes::{
     Kind4, Kind16, Kind32, Kind48, Kind256, KindLeaf, LeafNode, NodePtr, OpaqueNodePtr,
 };
 use art_walks::WellFormedChecker;
+use play_script::Asked;
 use std::alloc::{AllocError, Global};
 use std::io;
 

@@ -51,7 +51,7 @@ impl<K: AsBytes, V, const PREFIX_LEN: usize> TreeMap<K, V, PREFIX_LEN> {
     /// ```
     pub fn reserve(&mut self, additional: usize) -> Result<(), AllocError>
         ensures room { OnOk result (HasRoom self.new.nodes (2 * additional)) }
-        ensures succeeds { 2 * additional < 2 ^ 64 → HasRoom self.old.nodes (2 * additional) → IsOk result }
+        ensures succeeds { HasRoom self.old.nodes (2 * additional) → IsOk result }
         ensures pairs { self.new.pairs ≡ self.old.pairs }
         ensures kept { IsUntouched self.old self.new }
     {
@@ -84,10 +84,12 @@ impl<K: AsBytes, V, const PREFIX_LEN: usize> TreeMap<K, V, PREFIX_LEN> {
     // Allocates the nodes of so many insertions, each of which makes two nodes at most.
     pub(super) fn reserve_insertions(&mut self, count: usize) -> Result<(), AllocError>
         ensures room { OnOk result (HasRoom self.new.nodes (2 * count)) }
-        ensures succeeds { 2 * count < 2 ^ 64 → HasRoom self.old.nodes (2 * count) → IsOk result }
+        ensures succeeds { HasRoom self.old.nodes (2 * count) → IsOk result }
         ensures pairs { self.new.pairs ≡ self.old.pairs }
         ensures kept { IsUntouched self.old self.new }
     {
+        // So there is no room for more than can be counted.
+        self.arena.room_is_bounded();
         match count.checked_mul(2) {
             Some(nodes) => self.reserve_removals(nodes),
             None => Err(AllocError),

@@ -4,8 +4,8 @@ use Rattle.std.specs.Prelude.{slice_index}
 use Rattle.art_nodes.specs.InnerNode.{InnerNode, IsAscending}
 use Rattle.art_nodes.specs.Name.{Name}
 use Rattle.art_nodes.specs.declared.leaf.LeafNode.{LeafNode}
-use Rattle.art_arena.specs.arena.Arena.{Arena, node_at, held_at}
-use Rattle.art_arena.specs.arena.Cells.{Cell, leaf_name, Holds}
+use Rattle.art_arena.specs.arena.Arena.{Arena, node_at}
+use Rattle.art_arena.specs.arena.Cells.{Cell, Holds}
 use Rattle.art_arena.specs.arena.Context.{AreBelow}
 use Rattle.art_arena.specs.arena.Shapes.{Shape, Branches, LeafAt, name_of, children_at, width, leaves, leaves_in, cells}
 use Rattle.art_arena.specs.arena.Shapes.{cells_in, IsUnder, AreUnder}
@@ -46,10 +46,6 @@ pub record OpensAt (behind : ℕ) (old new : Spine) : Type 0 where
 pub record AddsChild (behind : ℕ) (child : ℕ × Name) (old new : Spine) : Type 0 where
   pub stack : new.stack.items ≡ open_at behind (length old.children.items) old.stack.items
   pub children : new.children.items ≡ old.children.items ++ child ∷ []
-
--- every leaf stands where it stood, with its links
-abbrev pub SameLeaves : {K V : Type 0} → Arena K V → Arena K V → Type 0
-SameLeaves old new = (slot : ℕ) → held_at new (leaf_name slot) ≡ held_at old (leaf_name slot)
 
 -- an open node: how many bytes of the last key stand before the byte by which it branches, and the children that it has
 -- so far
@@ -95,16 +91,16 @@ module _ {K V : Type 0} (bytes : K → List ℕ) where
   AreOpen key [] = Unit {0}
   AreOpen key (l ∷ outer) = IsOpen key l × (begin 0 outer ≤ l.depth) × AreOpen key outer
 
-  module _ (P : ℕ) (arena : Arena K V) (spine : Spine) where
+  module _ (P : ℕ) (arena : Arena K V) (spine : Spine) (rest : List (Name × Cell K V)) where
     -- The arena holds the children of the open nodes and this part, which stands below the last of them on the way to
-    -- the last key, behind so many bytes at least, and nothing else; and these are the leaves.
+    -- the last key, behind so many bytes at least, beside them the rest, and nothing else; and these are the leaves.
     pub record IsSpine (low : ℕ) (root : Name) (key : List ℕ) (ls : List (LeafAt K V)) : Type 0 where
       pub levels : List (Level K V)
       pub part : Shape K V
       pub stack_is : spine.stack.items ≡ opened levels
       pub children_are : spine.children.items ≡ open_children levels
       pub named : name_of part ≡ root
-      pub holds : Holds (node_at arena) (open_cells P levels ++ cells P part)
+      pub holds : Holds (node_at arena) (open_cells P levels ++ (cells P part ++ rest))
       pub ways : AreOpen key levels
       pub under : IsUnder bytes (take (begin low levels) key) part
       pub leaves_are : open_leaves levels ++ leaves part ≡ ls

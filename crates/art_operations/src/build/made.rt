@@ -1,11 +1,13 @@
 //! An inner node that is made at once, with all its children.
-ghost use Rattle.std.specs.Prelude.{◌≡◌, ◌≤◌, ◌-◌, length, take, drop, IfOk, OnErr};
+ghost use Rattle.std.specs.Prelude.{◌≡◌, ◌≤◌, ◌+◌, ◌-◌, ℕ, suc, length, take, drop, IsOk, IfOk, OnErr};
 ghost use Rattle.art_nodes.specs.InnerNode.{IsAscending};
 ghost use Rattle.art_nodes.specs.declared.leaf.LeafNode as node;
-ghost use Rattle.art_arena.specs.arena.Arena.{inner_held, Allocates, SameNodes};
+ghost use Rattle.art_arena.specs.arena.Arena.{inner_held, Allocates, HasRoomOf, SameNodes};
+ghost use Rattle.art_arena.specs.arena.Rooms.{SameLeaves, UsesRoomOf};
 ghost use Rattle.art_arena.specs.tree.Kinds.{IsKindOf};
 ghost use Rattle.art_operations.specs.Held.{HasLeaf};
-ghost use Rattle.art_operations.specs.inner.Spines.{inner_over, SameLeaves};
+ghost use Rattle.art_operations.specs.Rebuilds.{HasInnerRoom};
+ghost use Rattle.art_operations.specs.inner.Spines.{inner_over};
 
 use art_arena::{LeafPtr, NodeArena, StoredInner};
 use art_bytes::AsBytes;
@@ -42,6 +44,8 @@ fn store_inner<
     ensures ok { IfOk result (λ name. (name.kind ≡ N.Kind.TYPE)
         × Allocates arena.old arena.new name (inner_held (N.inner node))) }
     ensures err { OnErr result (SameNodes arena.old arena.new) }
+    ensures succeeds { HasRoomOf arena.old N.Kind.TYPE 1 → IsOk result }
+    ensures room { UsesRoomOf N.Kind.TYPE arena.old arena.new }
 {
     Ok(arena.allocate_node_ptr(node)?.to_opaque())
 }
@@ -65,6 +69,9 @@ pub(super) fn store_over<K: AsBytes, V, const PREFIX_LEN: usize>(
         → Allocates arena.old arena.new name
         (inner_held (inner_over PREFIX_LEN (take (depth - from) (drop from (K.bytes l.key))) children.now))) }
     ensures err { OnErr result (SameNodes arena.old arena.new) }
+    ensures succeeds { (more : ℕ) → HasInnerRoom arena.old (length children.now + more) → IsOk result }
+    ensures room { (more : ℕ) → HasInnerRoom arena.old (length children.now + more)
+        → HasInnerRoom arena.new (suc more) }
 {
     if !arena.fits_in_memory() {
         return Err(AllocError);

@@ -1,8 +1,12 @@
 //! The inner nodes that are still open while a tree is built: those on the way to its last leaf.
-ghost use Rattle.std.specs.Prelude.{◌≡◌, ◌<◌, ◌≤◌, ◌^◌, ◌∷◌, ◌++◌, ℕ, suc, List, [], length, IfOk, OnOk, OnErr};
+ghost use Rattle.std.specs.Prelude.{◌≡◌, ◌<◌, ◌≤◌, ◌^◌, ◌∷◌, ◌++◌, ℕ, suc, List, [], length, IsOk, IfOk, OnOk};
+ghost use Rattle.std.specs.Prelude.{◌+◌, OnErr, vec_capacity};
+ghost use Rattle.art_nodes.specs.Name.{Name};
+ghost use Rattle.art_arena.specs.arena.Rooms.{SameLeaves};
 ghost use Rattle.art_arena.specs.arena.Shapes.{LeafAt};
-ghost use Rattle.art_arena.specs.arena.Cells.{leaf_name};
-ghost use Rattle.art_operations.specs.inner.Spines.{begin_of, AddsChild, OpensAt, IsEmptySpine, HasSpine, SameLeaves};
+ghost use Rattle.art_arena.specs.arena.Cells.{Cell, leaf_name};
+ghost use Rattle.art_operations.specs.inner.Rebuilding.{HasPlaces, HasSpineRoom, IsFresh};
+ghost use Rattle.art_operations.specs.inner.Spines.{begin_of, AddsChild, OpensAt, IsEmptySpine, HasSpine};
 ghost use Rattle.art_operations.specs.Whichever.{HasSome, OfEach};
 
 use crate::build::made::store_over;
@@ -39,6 +43,16 @@ impl Spine {
         }
     }
 
+    /// No node is open, and so many leaves can be passed without memory.
+    pub(super) fn with_places(alloc: Global, places: usize) -> Result<Self, AllocError>
+        ensures { IfOk result (λ spine. IsFresh spine places) }
+    {
+        Ok(Spine {
+            stack: Vec::with_capacity(alloc, places)?,
+            children: Vec::with_capacity(alloc, places)?,
+        })
+    }
+
     /// Lets all open nodes go.
     pub(super) fn clear(&mut self)
         ensures { IsEmptySpine self.new }
@@ -62,6 +76,10 @@ impl Spine {
     #[inline(always)]
     fn open_at(&mut self, behind: usize) -> Result<(), AllocError>
         ensures ok { OnOk result (OpensAt behind self.old self.new) }
+        ensures succeeds { (more : ℕ) → HasPlaces self.old (suc more) → IsOk result }
+        ensures places { OnOk result ((more : ℕ) → HasPlaces self.old (suc more)
+            → length self.new.stack.items + more ≤ vec_capacity self.new.stack) }
+        ensures children { self.new.children ≡ self.old.children }
     {
         if behind <= self.begin(0) {
             return Ok(());
@@ -82,6 +100,8 @@ impl Spine {
         child: OpaqueNodePtr,
     ) -> Result<(), AllocError>
         ensures ok { OnOk result (AddsChild behind (byte, child) self.old self.new) }
+        ensures succeeds { (more : ℕ) → HasPlaces self.old (suc more) → IsOk result }
+        ensures places { OnOk result ((more : ℕ) → HasPlaces self.old (suc more) → HasPlaces self.new more) }
     {
         self.open_at(behind)?;
         match self.children.push((byte, child)) {
@@ -100,11 +120,16 @@ fn close_top<K: AsBytes, V, const PREFIX_LEN: usize>(
     part: OpaqueNodePtr,
 ) -> Result<OpaqueNodePtr, AllocError>
     requires above { low < begin_of low spine.old.stack.items }
-    requires stands { HasSome (HasSpine K.bytes PREFIX_LEN arena.old spine.old last low part) }
-    ensures ok { IfOk result (λ node. OfEach (HasSpine K.bytes PREFIX_LEN arena.old spine.old last low part)
-        (HasSpine K.bytes PREFIX_LEN arena.new spine.new last low node)) }
+    requires stands { (rest : List (Name × Cell K V))
+        × HasSome (HasSpine K.bytes PREFIX_LEN arena.old spine.old rest last low part) }
+    ensures ok { IfOk result (λ node. (rest : List (Name × Cell K V))
+        → OfEach (HasSpine K.bytes PREFIX_LEN arena.old spine.old rest last low part)
+        (HasSpine K.bytes PREFIX_LEN arena.new spine.new rest last low node)) }
     ensures fewer { OnOk result (suc (length spine.new.stack.items) ≡ length spine.old.stack.items) }
     ensures leaves { SameLeaves arena.old arena.new }
+    ensures succeeds { (more : ℕ) → HasSpineRoom arena.old spine.old (suc more) → IsOk result }
+    ensures room { OnOk result ((more : ℕ) → HasSpineRoom arena.old spine.old (suc more)
+        → HasSpineRoom arena.new spine.new (suc more)) }
 {
     let Some(top) = spine.stack.pop() else {
         unreachable!();
@@ -129,12 +154,16 @@ pub(super) fn close<K: AsBytes, V, const PREFIX_LEN: usize>(
     last: LeafPtr,
     low: usize,
 ) -> Result<OpaqueNodePtr, AllocError>
-    requires { HasSome (HasSpine K.bytes PREFIX_LEN arena.old spine.old last low (leaf_name last)) }
-    ensures ok { IfOk result (λ root. OfEach
-        (HasSpine K.bytes PREFIX_LEN arena.old spine.old last low (leaf_name last))
-        (HasSpine K.bytes PREFIX_LEN arena.new spine.new last low root)) }
+    requires { (rest : List (Name × Cell K V))
+        × HasSome (HasSpine K.bytes PREFIX_LEN arena.old spine.old rest last low (leaf_name last)) }
+    ensures ok { IfOk result (λ root. (rest : List (Name × Cell K V))
+        → OfEach (HasSpine K.bytes PREFIX_LEN arena.old spine.old rest last low (leaf_name last))
+        (HasSpine K.bytes PREFIX_LEN arena.new spine.new rest last low root)) }
     ensures closed { OnOk result (begin_of low spine.new.stack.items ≡ low) }
     ensures leaves { SameLeaves arena.old arena.new }
+    ensures succeeds { (more : ℕ) → HasSpineRoom arena.old spine.old (suc more) → IsOk result }
+    ensures room { OnOk result ((more : ℕ) → HasSpineRoom arena.old spine.old (suc more)
+        → HasSpineRoom arena.new spine.new (suc more)) }
 {
     let mut part = last.to_opaque();
     'close: loop {

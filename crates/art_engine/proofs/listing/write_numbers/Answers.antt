@@ -1,30 +1,39 @@
-use Rattle.std.proofs.Common.{arith, rules, ◌≡◌, ◌+◌, ◌++◌, ◌≤◌, ℕ, ℤ, List, [], length, take, drop, map, refl, ap, ap₂, sym, ◌∙◌, subst}
+use Rattle.std.proofs.Common.{arith, rules, ◌≡◌, ◌+◌, ◌++◌, ◌∷◌, ◌≤◌, ℕ, ℤ, List, [], length, take, drop, map, refl, ap, ap₂, sym, ◌∙◌, subst}
 use Rattle.std.specs.List.{AllByRecursion}
+use Rattle.std.specs.Prelude.{option_map}
 use Rattle.std.specs.Map.Iter.{deref_pair}
 use Rattle.std.specs.Int.{cast_signed, cast_unsigned, w64}
 use Rattle.std.proofs.lemmas.Int.{to_z-of_z}
+use Rattle.std.proofs.lemmas.List.{take-set-le}
 use Rattle.art_engine.specs.Keys.{number_of_bytes}
 use Rattle.art_lines.specs.Words.{line_of}
 use Rattle.art_lines.specs.ReplyWords.{number_words}
-use Rattle.art_engine.specs.Counts.{GrewBy}
-use Rattle.art_engine.specs.Spans.{span_pairs, own_number, IsNumbered}
+use Rattle.art_engine.specs.Spans.{pending, pending_all, IsClosed, span_pairs, own_number, IsNumbered}
 use Rattle.art_engine.specs.Stored.{NumberPair}
 use Rattle.art_lines.proofs.Cuts.{taken_none, taken_from, taken_through, taken_cut, when_err, writes_rest}
 use Rattle.art_engine.proofs.ListedLines.{lines_from, lines_next, words_numbered, list_end, numbers_all}
+use Rattle.art_engine.proofs.ReadTogether.{length_all}
 use Rattle.art_engine.proofs.RecordCounts.{own_numbers}
-use Rattle.art_engine.proofs.SpanLemmas.{span_some, span_none, when_ok}
+use Rattle.art_engine.proofs.SpanLemmas.{when_ok}
 use Rattle.art_engine.proofs.listing.write_numbers.Goals as goal
 
 pub pairs-init : goal.pairs-init
 pairs-init g c =
     let L : List NumberPair = span_pairs c.args.numbers.now.nodes c.args.span.now in
+    let none = c.new-together.ensures.none in
+    let start = ap (λ os. pending_all deref_pair os L) none in
+    let few = ap length start in
+    let read = ap (λ os. length (pending_all deref_pair os [])) none in
     let zero : 0 + length L ≡ length L = omega arith in
     record {
-      taken = taken_none _ _ _ (ap (λ n. lines_from words_numbered (list_end n) L) zero ∙ numbers_all L (map own_number L) (own_numbers L));
+      taken = taken_none _ _ _ (ap (λ (l : List NumberPair). lines_from words_numbered (list_end (0 + length l)) l) start
+          ∙ ap (λ n. lines_from words_numbered (list_end n) L) zero ∙ numbers_all L (map own_number L) (own_numbers L));
       fine = c.requires.open;
-      listed = c.requires.listed;
+      listed = subst (AllByRecursion IsNumbered) (sym start) c.requires.listed;
       held = omega arith;
+      within = c.new-together.ensures.within;
       span = c.requires.span;
+      closed = subst (λ os. IsClosed deref_pair os L) (sym none) tt;
       counted = omega arith;
       same = (refl, refl);
       visits = (omega arith, omega arith);
@@ -32,30 +41,29 @@ pairs-init g c =
 
 pub gather_number-requires-clause-line : goal.gather_number-requires-clause-line
 gather_number-requires-clause-line g c =
-    let step = span_some deref_pair _ _ _ _ _ c.in-Some.ensures.first c.in-Some.ensures.end c.pairs.invariant.span _ refl in
-    let listed = (subst (AllByRecursion IsNumbered) step c.pairs.invariant.listed).0 in
+    let listed = (subst (AllByRecursion IsNumbered) c.in-Some.ensures.gives c.pairs.invariant.listed).0 in
     let back = ap (λ z. cast_signed w64 (cast_unsigned w64 z)) c.numbers_of-tenant.ensures.number ∙ to_z-of_z w64 (number_of_bytes (drop 4 c.in-Some.key.now)) listed.1 in
     subst (λ (q : ℤ × List ℕ). length (line_of (number_words q)) ≤ 4097) (sym (ap₂ (λ (a : ℤ) (b : List ℕ). (a, b)) back c.as_slice-text.ensures.value)) listed.0
 
 pub returns-in_err-next-clause-written : goal.returns-in_err-next-clause-written
 returns-in_err-next-clause-written g c =
     let p : NumberPair = (c.in-Some.key.now, c.in-Some.value.now) in
-    let step = span_some deref_pair _ _ _ _ _ c.in-Some.ensures.first c.in-Some.ensures.end c.pairs.invariant.span _ refl in
-    let listed = (subst (AllByRecursion IsNumbered) step c.pairs.invariant.listed).0 in
+    let listed = (subst (AllByRecursion IsNumbered) c.in-Some.ensures.gives c.pairs.invariant.listed).0 in
     let back = ap (λ z. cast_signed w64 (cast_unsigned w64 z)) c.numbers_of-tenant.ensures.number ∙ to_z-of_z w64 (number_of_bytes (drop 4 c.in-Some.key.now)) listed.1 in
     let parts = ap₂ (λ (a : ℤ) (b : List ℕ). (a, b)) back c.as_slice-text.ensures.value in
-    let left : List NumberPair = span_pairs c.pairs.numbers.nodes c.pairs.span in
-    let rest : List NumberPair = span_pairs c.next.new.self.nodes c.next.new.span in
-    let next = lines_next words_numbered (list_end (c.pairs.count + length left)) p rest left _ (take c.pairs.held c.pairs.room) step (ap (λ (q : ℤ × List ℕ). line_of (number_words q)) parts) in
+    let left : List NumberPair = pending_all deref_pair (drop c.pairs.together.at (take c.pairs.together.len c.pairs.together.pairs)) (span_pairs c.pairs.numbers.nodes c.pairs.span) in
+    let rest : List NumberPair = pending_all deref_pair (drop c.next.new.self.at (take c.next.new.self.len c.next.new.self.pairs)) (span_pairs c.next.new.records.nodes c.next.new.span) in
+    let kept = take-set-le c.pairs.held c.pairs.room 1023 c.seen.result c.pairs.invariant.held in
+    let next = lines_next words_numbered (list_end (c.pairs.count + length left)) p rest left _ (take c.pairs.held c.pairs.room) c.in-Some.ensures.gives (ap (λ (q : ℤ × List ℕ). line_of (number_words q)) parts) in
     record {
       ok = search rules;
-      cut = when_err _ (taken_cut _ _ _ _ _ _ (taken_from _ _ _ _ _ next c.pairs.invariant.taken) c.in_err-next.ensures.cut);
+      cut = when_err _ (taken_cut _ _ _ _ _ _ (taken_from _ _ _ _ _ next c.pairs.invariant.taken) (rw kept at c.in_err-next.ensures.cut));
       failed = search rules;
     }
 
 pub overflow_add-count : goal.overflow_add-count
 overflow_add-count g c =
-    let step = ap length (span_some deref_pair _ _ _ _ _ c.in-Some.ensures.first c.in-Some.ensures.end c.pairs.invariant.span _ refl) in
+    let step = ap length c.in-Some.ensures.gives in
     let counted = c.pairs.invariant.counted in
     let few = c.requires.few in
     let fits : c.pairs.count + 1 ≤ 18446744073709551615 = omega arith in
@@ -63,43 +71,47 @@ overflow_add-count g c =
 
 pub pairs-smaller : goal.pairs-smaller
 pairs-smaller g c =
-    let step = ap length (span_some deref_pair _ _ _ _ _ c.in-Some.ensures.first c.in-Some.ensures.end c.pairs.invariant.span _ refl) in
+    let step = ap length c.in-Some.ensures.gives in
     omega arith
 
 pub pairs-preserved : goal.pairs-preserved
 pairs-preserved g c =
     let p : NumberPair = (c.in-Some.key.now, c.in-Some.value.now) in
-    let step = span_some deref_pair _ _ _ _ _ c.in-Some.ensures.first c.in-Some.ensures.end c.pairs.invariant.span _ refl in
+    let read = drop c.next.new.self.at (take c.next.new.self.len c.next.new.self.pairs) in
+    let left : List NumberPair = pending_all deref_pair (drop c.pairs.together.at (take c.pairs.together.len c.pairs.together.pairs)) (span_pairs c.pairs.numbers.nodes c.pairs.span) in
+    let rest : List NumberPair = pending_all deref_pair read (span_pairs c.next.new.records.nodes c.next.new.span) in
+    let step : left ≡ p ∷ rest = c.in-Some.ensures.gives in
     let listed = subst (AllByRecursion IsNumbered) step c.pairs.invariant.listed in
     let back = ap (λ z. cast_signed w64 (cast_unsigned w64 z)) c.numbers_of-tenant.ensures.number ∙ to_z-of_z w64 (number_of_bytes (drop 4 c.in-Some.key.now)) listed.0.1 in
     let parts = ap₂ (λ (a : ℤ) (b : List ℕ). (a, b)) back c.as_slice-text.ensures.value in
-    let left : List NumberPair = span_pairs c.pairs.numbers.nodes c.pairs.span in
-    let rest : List NumberPair = span_pairs c.next.new.self.nodes c.next.new.span in
     let one = ap length step in
     let counted = c.pairs.invariant.counted in
     let total : c.pairs.count + 1 + length rest ≡ c.pairs.count + length left = omega arith in
     let last = list_end (c.pairs.count + length left) in
+    let kept = take-set-le c.pairs.held c.pairs.room 1023 c.seen.result c.pairs.invariant.held in
     let next = lines_next words_numbered last p rest left _ (take c.pairs.held c.pairs.room) step (ap (λ (q : ℤ × List ℕ). line_of (number_words q)) parts) in
-    let taken = taken_through _ _ _ _ _ _ _ (taken_from _ _ _ _ _ next c.pairs.invariant.taken) c.in_ok-next.ensures.taken in
+    let taken = taken_through _ _ _ _ _ _ _ (taken_from _ _ _ _ _ next c.pairs.invariant.taken) (rw kept at c.in_ok-next.ensures.taken) in
     let same = c.pairs.invariant.same in
-    let kept = c.next.ensures.kept in
-    let low = c.pairs.invariant.visits.0 in let high = c.pairs.invariant.visits.1 in
-    let read = c.in-Some.ensures.counts in
+    let visits = c.in-Some.ensures.counts c.pairs.count c.args.numbers.now.count c.pairs.invariant.visits in
+    let low = visits.0 in let high = visits.1 in
     record {
       taken = taken_from _ _ _ _ _ (ap (λ n. take c.in_ok-next.next c.gather_number.new.room ++ lines_from words_numbered (list_end n) rest) (sym total)) taken;
       fine = sym c.in_ok-next.ensures.failed;
       listed = listed.1;
       held = search rules;
+      within = c.next.ensures.within;
       span = c.next.ensures.span;
+      closed = c.next.ensures.closed;
       counted = omega arith;
-      same = (kept.0 ∙ same.0, kept.1 ∙ same.1);
+      same = (c.next.ensures.kept.0 ∙ same.0, c.next.ensures.kept.1 ∙ same.1);
       visits = (omega arith, omega arith);
     }
 
 pub returns-clause-written : goal.returns-clause-written
 returns-clause-written g c =
-    let left : List NumberPair = span_pairs c.pairs.numbers.nodes c.pairs.span in
-    let none : left ≡ [] = span_none deref_pair _ _ _ _ _ c.next.ensures.first c.next.ensures.end c.pairs.invariant.span c.in_default.is in
+    let left : List NumberPair = pending_all deref_pair (drop c.pairs.together.at (take c.pairs.together.len c.pairs.together.pairs)) (span_pairs c.pairs.numbers.nodes c.pairs.span) in
+    let rest : List NumberPair = pending_all deref_pair (drop c.next.new.self.at (take c.next.new.self.len c.next.new.self.pairs)) (span_pairs c.next.new.records.nodes c.next.new.span) in
+    let none : left ≡ [] = c.next.ensures.gives ∙ ap (λ o. pending (option_map deref_pair o) rest) c.in_default.is ∙ c.next.ensures.ended c.in_default.is in
     let few = ap length none in
     let all : c.pairs.count + length left ≡ c.pairs.count = omega arith in
     let last = ap (λ d. take c.pairs.held c.pairs.room ++ lines_from words_numbered (list_end (c.pairs.count + length left)) d) none
@@ -108,10 +120,15 @@ returns-clause-written g c =
 
 pub returns-clause-counts : goal.returns-clause-counts
 returns-clause-counts g c =
-    let left : List NumberPair = span_pairs c.pairs.numbers.nodes c.pairs.span in
-    let few = ap length (span_none deref_pair _ _ _ _ _ c.next.ensures.first c.next.ensures.end c.pairs.invariant.span c.in_default.is) in
+    let read = drop c.next.new.self.at (take c.next.new.self.len c.next.new.self.pairs) in
+    let left : List NumberPair = pending_all deref_pair (drop c.pairs.together.at (take c.pairs.together.len c.pairs.together.pairs)) (span_pairs c.pairs.numbers.nodes c.pairs.span) in
+    let rest : List NumberPair = pending_all deref_pair read (span_pairs c.next.new.records.nodes c.next.new.span) in
+    let ended : rest ≡ [] = c.next.ensures.ended c.in_default.is in
+    let few = ap length (c.next.ensures.gives ∙ ap (λ o. pending (option_map deref_pair o) rest) c.in_default.is ∙ ended) in
+    let no = ap length ended in
+    let parts = length_all deref_pair read (span_pairs c.next.new.records.nodes c.next.new.span) in
+    let given = ap (λ o. length (pending (option_map deref_pair o) (pending_all deref_pair read []))) c.in_default.is in
     let counted = c.pairs.invariant.counted in
-    let all : c.pairs.count ≡ length (span_pairs c.args.numbers.now.nodes c.args.span.now) = omega arith in
-    let read = c.in_default.ensures.counts in
-    when_ok c.write_end.result (subst (λ n. GrewBy n c.args.numbers.now.count c.next.new.self.count) all
-    (subst (λ m. GrewBy c.pairs.count c.args.numbers.now.count m) (sym read) c.pairs.invariant.visits))
+    let visits = c.next.ensures.counts c.pairs.count c.args.numbers.now.count c.pairs.invariant.visits in
+    let low = visits.0 in let high = visits.1 in
+    when_ok c.write_end.result (omega arith, omega arith)

@@ -99,6 +99,7 @@ impl<'a, K: AsBytes, V, const PREFIX_LEN: usize> Entry<'a, K, V, PREFIX_LEN> {
     ghost use Rattle.art_map.specs.Entries.{Occupied, entry_key, entry_map, entry_value, lends_entry, entry_pairs};
     ghost use Rattle.art_map.specs.Entries.{pairs_without, rests_if_refused, IsFilled, IsRefusedEntry, IsSame};
     ghost use Rattle.art_map.specs.Entries.{IsWritten};
+    ghost use Rattle.art_map.specs.LeafNames.{KeepsAllLeaves};
 
     /// Returns the stored key, or the one that would be inserted if none is stored.
     ///
@@ -132,6 +133,7 @@ impl<'a, K: AsBytes, V, const PREFIX_LEN: usize> Entry<'a, K, V, PREFIX_LEN> {
         ensures same_writes { (w : V) → entry_pairs result w ≡ entry_pairs self.entry w }
         ensures pairs { (w : V) → entry_value result ≡ Some w
             → (entry_map result).now.pairs ≡ entry_pairs self.entry w }
+        ensures names { KeepsAllLeaves K.bytes (entry_map self.entry).now (entry_map result).now }
         ensures same_removal { pairs_without result ≡ pairs_without self.entry }
         ensures vacant { entry_value self.entry ≡ None → IsSame self.entry result }
         ensures update { ModifiesValue F.FnOnce f (entry_value self.entry) (entry_value result) }

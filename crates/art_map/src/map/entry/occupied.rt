@@ -14,8 +14,9 @@ use std::marker::PhantomData;
 use std::mem::replace;
 
 impl<'a, K: AsBytes, V, const PREFIX_LEN: usize> OccupiedEntry<'a, K, V, PREFIX_LEN> {
+    ghost use Rattle.art_map.specs.Contents.{IsUntouched};
     ghost use Rattle.art_map.specs.Found.{HasPairAt, HasPairUnder};
-    ghost use Rattle.art_map.specs.LeafNames.{KeepsLeaves};
+    ghost use Rattle.art_map.specs.LeafNames.{KeepsAllLeaves, KeepsLeaves};
     ghost use Rattle.art_map.specs.Lends.{lends_value_at};
     ghost use Rattle.art_map.specs.Entries.{Occupied, entry_key, entry_value, lends_entry_value, entry_pairs};
     ghost use Rattle.art_map.specs.Entries.{pairs_without, rests_if_refused, with_entry_value, IsSame, IsWritten};
@@ -101,6 +102,7 @@ impl<'a, K: AsBytes, V, const PREFIX_LEN: usize> OccupiedEntry<'a, K, V, PREFIX_
             self.entry.map self.entry.leaf result) }
         ensures value { entry_value (Occupied self.entry) ≡ Some result.now }
         ensures pairs { (w : V) → (with_entry_value self.entry w).map.now.pairs ≡ entry_pairs (Occupied self.entry) w }
+        ensures names { (w : V) → KeepsAllLeaves K.bytes self.entry.map.now (with_entry_value self.entry w).map.now }
     {
         let OccupiedEntry { map, leaf, mark: _ } = self;
         let (_key, value) = map.pair_mut_at(leaf);
@@ -137,6 +139,7 @@ impl<'a, K: AsBytes, V, const PREFIX_LEN: usize> OccupiedEntry<'a, K, V, PREFIX_
         ensures pairs { OnOk result (self.exit.0.now.pairs ≡ pairs_without (Occupied self.entry)) }
         ensures names { OnOk result (KeepsLeaves K.bytes self.entry.map.now self.exit.0.now) }
         ensures err { OnErr result (self.exit.0.now.pairs ≡ self.entry.map.now.pairs) }
+        ensures kept { OnErr result (IsUntouched self.entry.map.now self.exit.0.now) }
         ensures shrinks { OnErr result (Shrinks (key_of K.bytes) self.entry.map.now.pairs
             (K.bytes (entry_key (Occupied self.entry)))) }
     {
@@ -163,6 +166,7 @@ impl<'a, K: AsBytes, V, const PREFIX_LEN: usize> OccupiedEntry<'a, K, V, PREFIX_
         ensures pairs { OnOk result (self.exit.0.now.pairs ≡ pairs_without (Occupied self.entry)) }
         ensures names { OnOk result (KeepsLeaves K.bytes self.entry.map.now self.exit.0.now) }
         ensures err { OnErr result (self.exit.0.now.pairs ≡ self.entry.map.now.pairs) }
+        ensures kept { OnErr result (IsUntouched self.entry.map.now self.exit.0.now) }
         ensures shrinks { OnErr result (Shrinks (key_of K.bytes) self.entry.map.now.pairs
             (K.bytes (entry_key (Occupied self.entry)))) }
     {

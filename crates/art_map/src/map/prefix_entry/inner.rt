@@ -20,8 +20,8 @@ impl<'a, K: AsBytes, V, const PREFIX_LEN: usize> InnerOccupiedEntry<'a, K, V, PR
     ghost use Rattle.art_map.specs.LentWalks.{range_rest};
     ghost use Rattle.art_map.specs.LonePairs.{shown_pair};
     ghost use Rattle.art_map.specs.PrefixEntries.{lends_from_inner, lends_inner, lends_lone, map_row};
-    ghost use Rattle.art_map.specs.PrefixEntries.{inner_rests, removed_pairs, with_contents, with_lone_value};
-    ghost use Rattle.art_map.specs.PrefixEntries.{IsInnerWritten, IsWithPairs};
+    ghost use Rattle.art_map.specs.PrefixEntries.{inner_rests, removed_pairs, with_contents};
+    ghost use Rattle.art_map.specs.PrefixEntries.{IsInnerWritten, IsWithLoneValue};
 
     /// Returns the key that would be inserted.
     ///
@@ -140,7 +140,7 @@ impl<'a, K: AsBytes, V, const PREFIX_LEN: usize> InnerOccupiedEntry<'a, K, V, PR
         ensures* writes_back { sem 𝓛 (lends_from_inner K.row V.row PREFIX_LEN K.AsBytes V.row self.entry result.value
             (λ w. with_contents self.old (with_value_at self.old.map.now result.leaf w))) }
         ensures pair { lone_item (removed_pairs K.bytes self.old) ≡ Some (result.key.now, result.value.now) }
-        ensures written { (w : V) → IsWithPairs self.old (with_lone_value K.bytes self.old w)
+        ensures written { (w : V) → IsWithLoneValue K.bytes self.old w
             (with_contents self.old (with_value_at self.old.map.now result.leaf w)) }
     {
         let leaf = match self.map.lone_over(self.key.as_bytes()) {

@@ -13,6 +13,7 @@ use art_operations::InsertRefused;
 impl<'a, K: AsBytes, V, const PREFIX_LEN: usize> PrefixOccupied<'a, K, V, PREFIX_LEN> {
     ghost use Rattle.art_map.specs.Entries.{option_key};
     ghost use Rattle.art_map.specs.Found.{stored_slot, IsAt};
+    ghost use Rattle.art_map.specs.LeafNames.{KeepsLeaves};
     ghost use Rattle.art_map.specs.Lends.{lends_value_at, with_value_at};
     ghost use Rattle.art_map.specs.PrefixEntries.{occupied_kind, lends_prefix, lends_shown, lone_pair, occupied_map};
     ghost use Rattle.art_map.specs.PrefixEntries.{prefix_key, prefix_pairs_with, prefix_rests, prefix_value};
@@ -57,6 +58,7 @@ impl<'a, K: AsBytes, V, const PREFIX_LEN: usize> PrefixOccupied<'a, K, V, PREFIX
         ensures value { prefix_value (Occupied self.entry) ≡ Some result.now }
         ensures pairs { (w : V) → (with_value_at self.entry.map.now leaf w).pairs
             ≡ prefix_pairs_with (Occupied self.entry) w }
+        ensures names { (w : V) → KeepsLeaves K.bytes self.entry.map.now (with_value_at self.entry.map.now leaf w) }
     {
         let PrefixOccupied {
             map,

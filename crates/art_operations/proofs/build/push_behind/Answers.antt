@@ -11,19 +11,19 @@ use Rattle.art_operations.proofs.build.push_behind.Goals.{In_ok-leaf}
 pub close-requires : goal.close-requires
 close-requires g c =
     let b = c.requires.builds in
-    (omega arith, (_, _, spine-of g.K.AsBytes.bytes g.row.PREFIX_LEN c.args.arena.now c.args.spine.now c.args.last b.0 b.1 (c.args.parted.matched + 1)))
+    (omega arith, ([], (_, _, spine-of g.K.AsBytes.bytes g.row.PREFIX_LEN c.args.arena.now c.args.spine.now c.args.last b.0 b.1 (c.args.parted.matched + 1))))
 
 module _ (g : _) (c : In_ok-leaf g) (pairs : List (g.row.K.Denot × g.row.V.Denot)) (is : BuildsUpTo g.K.AsBytes.bytes g.row.PREFIX_LEN c.args.arena.now c.args.spine.now c.args.last pairs) where
   abbrev ls : List (LeafAt g.row.K.Denot g.row.V.Denot)
   ls = all_leaves g.K.AsBytes.bytes g.row.PREFIX_LEN c.args.arena.now c.args.spine.now c.args.last pairs is
 
-  add : Added g.K.AsBytes.bytes g.row.PREFIX_LEN c.close.new.arena c.add_child.new.self (g.K.AsBytes.bytes c.args.key) ls
+  add : Added g.K.AsBytes.bytes g.row.PREFIX_LEN c.close.new.arena c.add_child.new.self [] (g.K.AsBytes.bytes c.args.key) ls
   add =
       let behind : c.args.parted.matched + 1 ≡ suc c.args.parted.matched = omega arith in
       let part = parts-last g.K.AsBytes.bytes g.row.PREFIX_LEN c.args.arena.now c.args.spine.now c.args.last pairs is (g.K.AsBytes.bytes c.args.key) c.args.parted c.requires.parts in
-      let has = c.in-Ok.ensures.ok _ _ (spine-of g.K.AsBytes.bytes g.row.PREFIX_LEN c.args.arena.now c.args.spine.now c.args.last pairs is (c.args.parted.matched + 1)) in
+      let has = c.in-Ok.ensures.ok [] _ _ (spine-of g.K.AsBytes.bytes g.row.PREFIX_LEN c.args.arena.now c.args.spine.now c.args.last pairs is (c.args.parted.matched + 1)) in
       added g.K.AsBytes.bytes g.row.PREFIX_LEN (g.K.AsBytes.bytes is.key) (g.K.AsBytes.bytes c.args.key) c.args.parted part c.requires.above c.requires.fits
-      c.close.new.arena c.close.new.spine c.add_child.new.self (c.args.parted.matched + 1) c.in-Ok.part ls behind has.stands c.in-Ok.ensures.closed c.in-Ok-add_child.ensures.ok
+      c.close.new.arena c.close.new.spine c.add_child.new.self [] (c.args.parted.matched + 1) c.in-Ok.part ls behind has.stands c.in-Ok.ensures.closed c.in-Ok-add_child.ensures.ok
 
   beside : IsBeside (links_at c.store_leaf.new.arena) ls c.in_ok-leaf.leaf
   beside = pushed-beside g.K.AsBytes.bytes g.row.PREFIX_LEN c.args.arena.now c.close.new.arena c.store_leaf.new.arena c.add_child.new.self c.args.key c.args.value ls add c.in_ok-leaf.leaf c.in-Ok.ensures.leaves is.linked c.in_ok-leaf.ensures.ok

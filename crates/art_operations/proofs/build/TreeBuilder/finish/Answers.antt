@@ -1,4 +1,4 @@
-use Rattle.std.proofs.Common.{IsSome, sym, subst, ◌∙◌, arith}
+use Rattle.std.proofs.Common.{[], IsSome, sym, subst, ◌∙◌, arith}
 use Rattle.art_operations.proofs.Building.{builds-some, finished, is-held, last-pair, spine-of}
 use Rattle.art_operations.proofs.build.TreeBuilder.finish.Goals as goal
 
@@ -6,13 +6,13 @@ pub close-requires : goal.close-requires
 close-requires g c =
     let r = c.requires in
     let is = builds-some g.K.AsBytes.bytes g.row.PREFIX_LEN c.args.arena.now c.args.self r.0 r.1 c.in-Some.last c.in-Some.is in
-    (omega arith, (_, _, spine-of g.K.AsBytes.bytes g.row.PREFIX_LEN c.args.arena.now c.args.self.spine c.in-Some.last r.0 is 0))
+    (omega arith, ([], (_, _, spine-of g.K.AsBytes.bytes g.row.PREFIX_LEN c.args.arena.now c.args.self.spine c.in-Some.last r.0 is 0)))
 
 pub returns-in-Ok-clause-ok : goal.returns-in-Ok-clause-ok
 returns-in-Ok-clause-ok g c = λ pairs builds.
     let is = builds-some g.K.AsBytes.bytes g.row.PREFIX_LEN c.args.arena.now c.args.self pairs builds c.in-Some.last c.in-Some.is in
     finished g.K.AsBytes.bytes g.row.PREFIX_LEN c.args.arena.now c.args.self.spine c.in-Some.last pairs is c.close.new.arena c.close.new.spine c.in-Ok.root
-    (c.in-Ok.ensures.ok _ _ (spine-of g.K.AsBytes.bytes g.row.PREFIX_LEN c.args.arena.now c.args.self.spine c.in-Some.last pairs is 0)) c.in-Ok.ensures.closed c.in-Ok.ensures.leaves
+    (c.in-Ok.ensures.ok [] _ _ (spine-of g.K.AsBytes.bytes g.row.PREFIX_LEN c.args.arena.now c.args.self.spine c.in-Some.last pairs is 0)) c.in-Ok.ensures.closed c.in-Ok.ensures.leaves
 
 pub take_back-refused-requires : goal.take_back-refused-requires
 take_back-refused-requires g c =

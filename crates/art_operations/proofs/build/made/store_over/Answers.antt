@@ -1,6 +1,7 @@
-use Rattle.std.proofs.Common.{arith}
+use Rattle.std.proofs.Common.{◌+◌, suc, length, arith}
 use Rattle.art_nodes.specs.declared.kind.NodeType.TheVariants.{Node4, Node16, Node32, Node48, Node256}
 use Rattle.art_nodes.proofs.ChildLemmas.{length-ascending}
+use Rattle.art_operations.proofs.InnerRooms.{fewer-leaves, first-room, stored}
 use Rattle.art_operations.proofs.Spines.{stored-leaves}
 use Rattle.art_operations.proofs.build.made.store_over.Goals as goal
 
@@ -23,3 +24,42 @@ node_over-node-requires-2-clause-room g c =
 
 pub returns-clause-leaves : goal.returns-clause-leaves
 returns-clause-leaves g c = stored-leaves c.args.arena.now c.store_inner-2.new.arena c.store_inner-2.result Node256 _ (λ e. cc) c.store_inner-2.ensures.ok c.store_inner-2.ensures.err
+
+pub returns-then-count-le4-clause-succeeds : goal.returns-then-count-le4-clause-succeeds
+returns-then-count-le4-clause-succeeds g c = λ more room. c.store_inner.ensures.succeeds (first-room c.args.arena.now Node4 (length c.args.children.now) more (λ e. cc) (omega arith) room)
+
+pub returns-then-count-le4-clause-room : goal.returns-then-count-le4-clause-room
+returns-then-count-le4-clause-room g c = λ more room. stored c.args.arena.now c.store_inner.new.arena Node4 (length c.args.children.now) more (λ e. cc) (omega arith) c.store_inner.ensures.room room
+
+pub returns-then-count-le16-clause-succeeds : goal.returns-then-count-le16-clause-succeeds
+returns-then-count-le16-clause-succeeds g c = λ more room. c.store_inner-then-count-le16.ensures.succeeds (first-room c.args.arena.now Node16 (length c.args.children.now) more (λ e. cc) (omega arith) room)
+
+pub returns-then-count-le16-clause-room : goal.returns-then-count-le16-clause-room
+returns-then-count-le16-clause-room g c = λ more room. stored c.args.arena.now c.store_inner-then-count-le16.new.arena Node16 (length c.args.children.now) more (λ e. cc) (omega arith) c.store_inner-then-count-le16.ensures.room room
+
+pub returns-then-count-le32-clause-succeeds : goal.returns-then-count-le32-clause-succeeds
+returns-then-count-le32-clause-succeeds g c = λ more room. c.store_inner-then-count-le32.ensures.succeeds (first-room c.args.arena.now Node32 (length c.args.children.now) more (λ e. cc) (omega arith) room)
+
+pub returns-then-count-le32-clause-room : goal.returns-then-count-le32-clause-room
+returns-then-count-le32-clause-room g c = λ more room. stored c.args.arena.now c.store_inner-then-count-le32.new.arena Node32 (length c.args.children.now) more (λ e. cc) (omega arith) c.store_inner-then-count-le32.ensures.room room
+
+pub returns-then-count-le48-clause-succeeds : goal.returns-then-count-le48-clause-succeeds
+returns-then-count-le48-clause-succeeds g c = λ more room. c.store_inner-then-count-le48.ensures.succeeds (first-room c.args.arena.now Node48 (length c.args.children.now) more (λ e. cc) (omega arith) room)
+
+pub returns-then-count-le48-clause-room : goal.returns-then-count-le48-clause-room
+returns-then-count-le48-clause-room g c = λ more room. stored c.args.arena.now c.store_inner-then-count-le48.new.arena Node48 (length c.args.children.now) more (λ e. cc) (omega arith) c.store_inner-then-count-le48.ensures.room room
+
+pub returns-clause-succeeds : goal.returns-clause-succeeds
+returns-clause-succeeds g c = λ more room. c.store_inner-2.ensures.succeeds (first-room c.args.arena.now Node256 (length c.args.children.now) more (λ e. cc) (omega arith) room)
+
+pub returns-clause-room : goal.returns-clause-room
+returns-clause-room g c = λ more room. stored c.args.arena.now c.store_inner-2.new.arena Node256 (length c.args.children.now) more (λ e. cc) (omega arith) c.store_inner-2.ensures.room room
+
+pub returns-then-not-fits_in_memory-clause-succeeds : goal.returns-then-not-fits_in_memory-clause-succeeds
+returns-then-not-fits_in_memory-clause-succeeds g c = λ more room.
+    let fits = c.fits_in_memory.ensures.room_of (first-room c.args.arena.now Node4 (length c.args.children.now) more (λ e. cc) c.requires.two room) in
+    let other = c.if-not-fits_in_memory.true in
+    absurd (cc)
+
+pub returns-then-not-fits_in_memory-clause-room : goal.returns-then-not-fits_in_memory-clause-room
+returns-then-not-fits_in_memory-clause-room g c = λ more room. fewer-leaves c.args.arena.now (suc more) (length c.args.children.now + more) (let two = c.requires.two in omega (arith, two)) room

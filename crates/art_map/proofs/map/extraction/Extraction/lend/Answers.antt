@@ -3,6 +3,7 @@ use base.Stored.{Coded-set, coded_list, coded×}
 use Rattle.art_operations.specs.Pairs.{with_pair_put}
 use Rattle.art_map.specs.Extractions.{left_of}
 use Rattle.art_map.proofs.Extractions.{key-at-end, left-still, same-key-at, still-written}
+use Rattle.art_map.proofs.LeafNames.{written-all}
 use Rattle.art_map.proofs.map.extraction.Extraction.lend.Goals as goal
 
 pub invariant_of-self-lent : goal.invariant_of-self-lent
@@ -21,6 +22,7 @@ returns-in-Some g c =
             c.pair_mut_at-value.ensures.pairs w
                 ∙ ap (λ l. with_pair_put g.K.AsBytes.bytes l w c.args.self.now.map.now.pairs) (same-key-at g.K.AsBytes.bytes g.row.PREFIX_LEN c.args.self.now.map.now c.args.end pair.0 k pair.1 v at.0 rest (left_of c.args.self.now) at.1 is),
           );
+          names = written-all g.K.AsBytes.bytes c.args.self.now.map.now c.in-Some.leaf pair c.pair_mut_at-value.ensures.value w;
         }),
         (refl, refl),
       ),

@@ -8,7 +8,7 @@ use Rattle.art_map.proofs.map.prefix_entry.methods.PrefixEntry+K+V+PREFIX_LEN.or
 pub returns-in-Some : goal.returns-in-Some
 returns-in-Some g c =
     rw c.in-Occupied.is (
-      (refl, (λ w _. c.lend.ensures.pairs w), tt),
+      (refl, (λ w _. (c.lend.ensures.pairs w, c.lend.ensures.names w)), tt),
       record { writes_back = tt; value = rw c.lend.ensures.value refl; handed_back = tt },
     )
 
@@ -31,7 +31,7 @@ returns-in-Vacant g c =
     let Gives = FnOnceReturnsAt g.F.FnOnce c.args.default (c.in-Vacant.entry.key) in
     let gave : Gives c.default-value-in-Vacant.result = (c.key-in-Vacant.result, c.default-value-in-Vacant.ensures, c.key-in-Vacant.ensures) in
     rw c.in-Vacant.is (
-      (refl, c.insert-in-Vacant.follows.holds, c.insert-in-Vacant.follows.holds-at-none),
+      (refl, (λ w ok. let put = c.insert-in-Vacant.follows.holds w ok in (put.0, λ slot key has still. put.1 slot key has)), c.insert-in-Vacant.follows.holds-at-none),
       record {
         writes_back = tt;
         value = ok-more c.insert-in-Vacant.result (λ lent same. subst Gives (sym same) gave) c.insert-in-Vacant.ensures.value;

@@ -1,5 +1,10 @@
-// The lines of a script. Room for a line and for the bytes that it names is taken before the first. So a line asks for
-// no memory until its call is made.
+//! The lines of a script, as the players `play_map` and `play_operations` read them. Room for a line and for the bytes
+//! that it names is taken before the first. So a line asks for no memory until its call is made.
+//!
+//! A line is a word and up to four others, parted by single spaces. Bytes are written in lower case digits, in parts
+//! with a point between them, each behind a `*` so many times: `aa*20.01`; `-` is no bytes. Behind a `#` stands a tag.
+//! A bound is `[` or `(` and bytes, or `*`.
+#![tactic(auto)]
 
 use std::alloc::{AllocError, Global};
 use std::io::{Read, Stdin};
@@ -9,10 +14,16 @@ use std::{io, str};
 /// The longest line, and the most bytes that it names.
 const ROOM: usize = 250_000;
 
-/// The script, and the line that was read last.
+/// How many bytes are read at a time.
+const CHUNK: usize = 4096;
+
+/// The script, what was read of it, and the line that was read last.
 #[derive(Drop)]
 pub struct Script {
     stdin: Stdin,
+    chunk: [u8; CHUNK],
+    at: usize,
+    end: usize,
     line: Vec<u8>,
     first: Vec<u8>,
     second: Vec<u8>,
@@ -53,9 +64,10 @@ fn add_part(part: &str, bytes: &mut Vec<u8>) -> Result<(), AllocError> {
     Ok(())
 }
 
-// Reads bytes, with the sign of a bound before them or without.
+// Reads bytes, with the sign of a bound before them or without, and with a tag behind them or without.
 fn read_bytes(text: &str, bytes: &mut Vec<u8>) -> Result<(), AllocError> {
     bytes.clear();
+    let (text, _) = text.split_once('#').unwrap_or((text, ""));
     let digits = text.trim_start_matches(['[', '(']);
     for part in digits.split('.') {
         add_part(part, bytes)?;
@@ -64,28 +76,45 @@ fn read_bytes(text: &str, bytes: &mut Vec<u8>) -> Result<(), AllocError> {
 }
 
 impl Script {
+    /// Allocates the room. Fails if out of memory.
     pub fn new(alloc: Global, stdin: Stdin) -> Result<Script, AllocError> {
         Ok(Script {
             stdin,
+            chunk: [0; CHUNK],
+            at: 0,
+            end: 0,
             line: Vec::with_capacity(alloc, ROOM)?,
             first: Vec::with_capacity(alloc, ROOM)?,
             second: Vec::with_capacity(alloc, ROOM)?,
         })
     }
 
-    /// Reads a line, byte by byte: false at the end of the input. What stands behind its last newline is left out.
+    // Reads a byte: `None` at the end of the input.
+    fn read_byte(&mut self) -> io::Result<Option<u8>> {
+        if self.at >= self.end {
+            self.end = self.stdin.read(&mut self.chunk)?;
+            self.at = 0;
+        }
+        if self.at >= self.end {
+            return Ok(None);
+        }
+        let byte = self.chunk.get(self.at).copied();
+        self.at = self.at.saturating_add(1);
+        Ok(byte)
+    }
+
+    /// Reads a line: false at the end of the input. What stands behind its last newline is left out.
     pub fn read(&mut self) -> io::Result<bool> {
         self.line.clear();
-        let mut byte = [0u8];
         for _ in 0..ROOM {
-            if self.stdin.read(&mut byte)? == 0 {
-                return Ok(false);
+            match self.read_byte()? {
+                Some(b'\n') => {
+                    self.read_words()?;
+                    return Ok(true);
+                }
+                Some(byte) => self.line.push(byte)?,
+                None => return Ok(false),
             }
-            if byte[0] == b'\n' {
-                self.read_words()?;
-                return Ok(true);
-            }
-            self.line.push(byte[0])?;
         }
         Ok(false)
     }
@@ -121,6 +150,15 @@ impl Script {
 }
 
 impl Asked<'_> {
+    /// The tag behind the bytes of the first word, and 0 where there is none.
+    pub fn tag(&self) -> u8 {
+        let [word, ..] = self.words;
+        match word.split_once('#') {
+            Some((_, tag)) => tag.parse().unwrap_or(0),
+            None => 0,
+        }
+    }
+
     /// The number that a word is, and 0 where it is none.
     pub fn number(&self, at: usize) -> u64 {
         match self.words.get(at) {
@@ -141,7 +179,7 @@ impl Asked<'_> {
 }
 
 /// A bound, as a word tells it.
-pub fn bound_of<'a>(word: &str, key: &'a [u8]) -> Bound<&'a [u8]> {
+pub fn bound_of<Q: Copy>(word: &str, key: Q) -> Bound<Q> {
     match word.bytes().next() {
         Some(b'[') => Bound::Included(key),
         Some(b'(') => Bound::Excluded(key),

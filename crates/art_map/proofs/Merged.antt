@@ -1,0 +1,86 @@
+-- Ascending pairs that are put into the leaves of a tree, one after another.
+use Rattle.std.proofs.Common.{◌≡◌, ℕ, suc, ◌+◌, ◌≤◌, Bool, true, false, cond, filter, not, bytes_eq, List, [], ◌∷◌, length, Option, refl, sym, ap, subst, ◌∙◌, arith}
+use Rattle.std.specs.List.{AllByRecursion}
+use Rattle.art_bytes.specs.Keys.{IsBefore}
+use Rattle.art_arena.specs.arena.Arena.{Arena, cell_of}
+use Rattle.art_arena.specs.arena.Cells.{leaf_name, pair}
+use Rattle.art_arena.specs.arena.Rooms.{SameLeaves}
+use Rattle.art_arena.specs.arena.Shapes.{key_of}
+use Rattle.art_arena.specs.tree.Changes.{is_before, put_in_order}
+use Rattle.art_arena.specs.tree.Order.{AscendsByKey}
+use Rattle.art_operations.specs.KeyedLists.{without_key}
+use Rattle.art_operations.specs.LeafCursors.{HasPutIn, KeepsCells, StandsAhead, StandsInList}
+use Rattle.art_operations.specs.LeafNames.{HasLeavesOf}
+use Rattle.art_operations.specs.Pairs.{with_pair_put}
+use Rattle.art_operations.specs.declared.leaf_list.LeafCursor.{LeafCursor}
+use Rattle.art_map.specs.Asked.{with_pairs_put}
+use Rattle.art_map.proofs.Maps.{AreKeys, keys-put, keys-without}
+
+-- what is kept of a list is no longer than the list, and an item that is put in makes it longer by one
+filter-long : {X : Type 0} (test : X → Bool) (xs : List X) → length (filter test xs) ≤ length xs
+filter-long test [] = omega arith
+filter-long test (x ∷ xs) = here (test x) (filter-long test xs)
+  where
+    here : (b : Bool) → length (filter test xs) ≤ length xs → length (cond b (x ∷ filter test xs) (filter test xs)) ≤ length (x ∷ xs)
+    here true few = omega (arith, few)
+    here false few = omega (arith, few)
+
+placed-long : {X : Type 0} (key : X → List ℕ) (x : X) (xs : List X) → length (put_in_order key x xs) ≡ suc (length xs)
+placed-long key x [] = refl
+placed-long key x (y ∷ ys) = here (is_before (key x) (key y)) (placed-long key x ys)
+  where
+    here : (b : Bool) → length (put_in_order key x ys) ≡ suc (length ys) → length (cond b (x ∷ y ∷ ys) (y ∷ put_in_order key x ys)) ≡ suc (length (y ∷ ys))
+    here true e = refl
+    here false e = ap suc e
+
+module _ {K V : Type 0} (bytes : K → List ℕ) where
+  -- so many pairs there are at most when these were put in
+  pub put-long : (ps had : List (K × V)) → length (with_pairs_put bytes ps had) ≤ length had + length ps
+  put-long [] had = omega arith
+  put-long (p ∷ ps) had =
+      let rest = put-long ps (with_pair_put bytes p.0 p.1 had) in
+      let placed = placed-long (key_of bytes) (p.0, p.1) (without_key (key_of bytes) (bytes p.0) had) in
+      let fewer = filter-long (λ (x : K × V). not (bytes_eq (key_of bytes x) (bytes p.0))) had in
+      omega (arith, rest, placed, fewer)
+
+  -- which leaves stand where all do
+  pub same-leaf-names : (old new : Arena K V) → SameLeaves old new → HasLeavesOf bytes new old
+  same-leaf-names old new same slot key (k, v, there, is) = (k, v, ap cell_of (same slot) ∙ there, is)
+
+  pub same-leaf-names-back : (old new : Arena K V) → SameLeaves old new → HasLeavesOf bytes old new
+  same-leaf-names-back old new same slot key (k, v, there, is) = (k, v, sym (ap cell_of (same slot)) ∙ there, is)
+
+  -- or where what stood stands
+  pub kept-leaf-names : (old new : Arena K V) → KeepsCells old new → HasLeavesOf bytes new old
+  kept-leaf-names old new kept slot key (k, v, there, is) = (k, v, kept (leaf_name slot) (pair k v) there, is)
+
+  module _ (is_key : K → Type 0) where
+    -- some of these pairs were put in, and these are left
+    pub record MergesOn (arena : Arena K V) (cursor : LeafCursor) (left all had : List (K × V)) : Type 0 where
+      pub now : List (K × V)
+      pub ahead : StandsAhead arena cursor bytes now left
+      pub keys : AreKeys is_key now
+      pub put : with_pairs_put bytes left now ≡ with_pairs_put bytes all had
+
+    pub none-merged : (arena : Arena K V) (cursor : LeafCursor) (all had : List (K × V)) → StandsAhead arena cursor bytes had all → AreKeys is_key had → MergesOn arena cursor all all had
+    none-merged arena cursor all had ahead keys = record { now = had; ahead = ahead; keys = keys; put = refl }
+
+    pub one-merged : (arena after : Arena K V) (cursor then : LeafCursor) (p : K × V) (left rest all had : List (K × V)) (is : MergesOn arena cursor left all had) → left ≡ p ∷ rest → AscendsByKey (key_of bytes) left → is_key p.0 → (old : Option (K × V))
+        → HasPutIn after then bytes p.0 p.1 old is.now → MergesOn after then rest all had
+    one-merged arena after cursor then p left rest all had is e up one old has =
+        let ascends = subst (AscendsByKey (key_of bytes)) e up in
+        record {
+          now = with_pair_put bytes p.0 p.1 is.now;
+          ahead = record {
+            among = has.among;
+            ahead = λ q more f. has.passed (bytes q.0) (subst (AllByRecursion (λ (y : K × V). IsBefore (bytes p.0) (bytes y.0))) f ascends.0).0;
+          };
+          keys = keys-put is_key (key_of bytes) (p.0, p.1) _ one (keys-without is_key (key_of bytes) (bytes p.0) is.now is.keys);
+          put = ap (λ ps. with_pairs_put bytes ps is.now) (sym e) ∙ is.put;
+        }
+
+    -- where none is left all were put in
+    pub all-merged : (arena : Arena K V) (cursor : LeafCursor) (left all had : List (K × V)) → left ≡ [] → MergesOn arena cursor left all had → StandsInList arena cursor bytes (with_pairs_put bytes all had) × AreKeys is_key (with_pairs_put bytes all had)
+    all-merged arena cursor left all had none is =
+        let e : is.now ≡ with_pairs_put bytes all had = ap (λ ps. with_pairs_put bytes ps is.now) (sym none) ∙ is.put in
+        (subst (StandsInList arena cursor bytes) e is.ahead.among, subst (AreKeys is_key) e is.keys)

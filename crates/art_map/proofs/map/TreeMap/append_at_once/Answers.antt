@@ -1,0 +1,32 @@
+use Rattle.std.proofs.Common.{length, sym, ap, subst, ◌∙◌, arith}
+use Rattle.art_nodes.specs.declared.kind.NodeType.TheVariants.{Leaf}
+use Rattle.art_arena.specs.arena.Arena.{HasRoomOf}
+use Rattle.art_arena.specs.arena.Shapes.{key_of}
+use Rattle.art_arena.specs.tree.Order.{AscendsByKey}
+use Rattle.art_operations.specs.Rebuilds.{HasInnerRoom}
+use Rattle.art_operations.proofs.LeafNames.{same-names}
+use Rattle.art_map.proofs.map.TreeMap.append_at_once.Goals as goal
+
+pub merge-requires : goal.merge-requires
+merge-requires g c =
+    let all = c.into_iter.ensures.into_iter_gives ∙ ap (λ m. m.pairs) c.replace.ensures.value in
+    let long = ap length all in
+    let same = ap length c.reserve_anew.ensures.pairs in
+    let over = c.in_ok-room.ensures.over in
+    let added = c.in-Some.ensures in (
+      omega arith,
+      (
+        omega arith,
+        (
+          subst (AscendsByKey (key_of g.K.AsBytes.bytes)) (sym all) c.nodes-root.ensures.ordered,
+          (
+            subst (HasRoomOf c.reserve_anew.new.self.nodes Leaf) (c.len-more.ensures ∙ sym long) c.in_ok-room.ensures.leaves,
+            (omega (arith, long, same, over, added), subst (HasInnerRoom c.reserve_anew.new.self.nodes) (sym over) c.in_ok-room.ensures.inner),
+          ),
+        ),
+      ),
+    )
+
+pub returns-clause-names : goal.returns-clause-names
+returns-clause-names g c = λ slot key has.
+    c.merge.ensures.names slot key (same-names g.K.AsBytes.bytes c.args.self.now.nodes c.reserve_anew.new.self.nodes c.reserve_anew.ensures.kept.0 slot key has)

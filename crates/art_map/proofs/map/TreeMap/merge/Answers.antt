@@ -1,0 +1,32 @@
+use Rattle.std.proofs.Common.{arith}
+use Rattle.art_map.specs.Asked.{with_pairs_put}
+use Rattle.art_map.specs.Contents.{pairs_from}
+use Rattle.art_map.proofs.Below.{has-seen}
+use Rattle.art_map.proofs.Maps.{make}
+use Rattle.art_map.proofs.map.TreeMap.merge.Goals as goal
+
+pub merge_leaves-root-requires : goal.merge_leaves-root-requires
+merge_leaves-root-requires g c = (
+  omega arith,
+  (
+    omega arith,
+    (
+      (pairs_from c.self.inside.arena c.self.inside.root, c.self.invariant.has, c.self.invariant.keys, rw (← c.self.view_is) at c.requires.over),
+      (c.requires.ordered, (rw (← c.self.view_is) at c.requires.leaves, rw (← c.self.view_is) at c.requires.inner)),
+    ),
+  ),
+)
+
+pub invariant_of-self : goal.invariant_of-self
+invariant_of-self g c =
+    let tree = c.merge_leaves-root.ensures.tree (pairs_from c.self.inside.arena c.self.inside.root) c.self.invariant.has c.self.invariant.keys in
+    make g.K.AsBytes.bytes g.K.AsBytes.is_key g.row.PREFIX_LEN c.merge_leaves-root.new.arena c.merge_leaves-root.result (with_pairs_put g.K.AsBytes.bytes c.args.pairs (pairs_from c.self.inside.arena c.self.inside.root)) tree.0 tree.1
+
+pub returns-clause-pairs : goal.returns-clause-pairs
+returns-clause-pairs g c =
+    let tree = c.merge_leaves-root.ensures.tree (pairs_from c.self.inside.arena c.self.inside.root) c.self.invariant.has c.self.invariant.keys in
+    rw (← c.self.view_is)
+    (has-seen g.K.AsBytes.bytes g.row.PREFIX_LEN c.merge_leaves-root.new.arena c.merge_leaves-root.result (with_pairs_put g.K.AsBytes.bytes c.args.pairs (pairs_from c.self.inside.arena c.self.inside.root)) tree.0)
+
+pub returns-clause-names : goal.returns-clause-names
+returns-clause-names g c = rw (← c.self.view_is) c.merge_leaves-root.ensures.names

@@ -1,0 +1,28 @@
+use Rattle.std.proofs.Common.{length, sym, ap, subst, ◌∙◌, arith}
+use Rattle.art_operations.specs.Rebuilds.{HasInnerRoom}
+use Rattle.art_operations.proofs.LeafNames.{same-names}
+use Rattle.art_map.proofs.map.TreeMap.split_at_once.Goals as goal
+
+pub split_into-requires : goal.split_into-requires
+split_into-requires g c =
+    let over = c.in_ok-room.ensures.over in
+    let long = ap length c.reserve_anew.ensures.pairs in
+    let len = c.len.ensures in
+    let many = c.requires.many in
+    let off = c.in_ok-off_room.ensures.over in (
+      omega arith,
+      (
+        omega arith,
+        (
+          c.requires.fits,
+          (
+            (λ n. c.reserve_leaves.ensures.kept n ∙ c.new-arena.ensures n),
+            (omega (arith, over, long, len, many), (off, (c.in_ok-off_room.ensures.leaves, (c.in_ok-off_room.ensures.inner, subst (HasInnerRoom c.reserve_anew.new.self.nodes) (sym over) c.in_ok-room.ensures.inner)))),
+          ),
+        ),
+      ),
+    )
+
+pub returns-clause-none_new : goal.returns-clause-none_new
+returns-clause-none_new g c = λ slot key has.
+    same-names g.K.AsBytes.bytes c.reserve_anew.new.self.nodes c.args.self.now.nodes (λ n. sym (c.reserve_anew.ensures.kept.0 n)) slot key (c.split_into.ensures.none_new slot key has)

@@ -1,0 +1,37 @@
+use Rattle.std.proofs.Common.{◌≤◌, length, [], Some, sym, subst, arith}
+use Rattle.art_operations.specs.Rebuilds.{HasInnerRoom, HoldsInOrder}
+use Rattle.art_operations.proofs.InnerRooms.{fresh-room}
+use Rattle.art_operations.proofs.PassedLeaves.{never, none-rebuilt, rebuilt}
+use Rattle.art_operations.proofs.Rebuilding.{last-stands}
+use Rattle.art_operations.proofs.build.over_leaves.rebuild.Goals as goal
+
+pub returns-in_default-clause-tree : goal.returns-in_default-clause-tree
+returns-in_default-clause-tree g c = λ ls order. none-rebuilt g.K.AsBytes.bytes g.row.PREFIX_LEN c.args.arena.now ls (subst (λ f. HoldsInOrder g.K.AsBytes.bytes c.args.arena.now f ls) c.in_default.is order)
+
+pub pass_all-last-requires : goal.pass_all-last-requires
+pass_all-last-requires g c =
+    let r = c.requires.order in
+    let view = c.room.view_is in
+    let fresh = c.room.invariant in (
+      omega arith,
+      (
+        (r.0, subst (λ f. HoldsInOrder g.K.AsBytes.bytes c.args.arena.now f r.0) c.in-Some.is r.1, subst (λ n. length r.0 ≤ n) (sym view) r.2),
+        (fresh.empty, fresh-room c.args.arena.now c.room.inside.spine c.room.inside.leaves fresh (subst (HasInnerRoom c.args.arena.now) (sym view) c.requires.room)),
+      ),
+    )
+
+pub close-requires : goal.close-requires
+close-requires g c =
+    let r = c.requires.order in
+    let up = c.pass_all-last.ensures.passed r.0 (subst (λ f. HoldsInOrder g.K.AsBytes.bytes c.args.arena.now f r.0) c.in-Some.is r.1) in
+    (omega arith, ([], (_, _, last-stands g.K.AsBytes.bytes g.row.PREFIX_LEN c.pass_all-last.new.arena c.pass_all-last.new.spine c.pass_all-last.result [] r.0 up 0)))
+
+pub unreachable-requires : goal.unreachable-requires
+unreachable-requires g c = never c.close.result (c.close.ensures.succeeds 0 c.pass_all-last.ensures.room) (λ x e. c.in_default-close.not-Ok x e)
+
+pub returns-clause-tree : goal.returns-clause-tree
+returns-clause-tree g c = λ ls order.
+    let here = subst (λ f. HoldsInOrder g.K.AsBytes.bytes c.args.arena.now f ls) c.in-Some.is order in
+    let up = c.pass_all-last.ensures.passed ls here in
+    rebuilt g.K.AsBytes.bytes g.row.PREFIX_LEN c.args.arena.now c.pass_all-last.new.arena c.close.new.arena c.pass_all-last.new.spine c.close.new.spine (Some c.in-Some.start) c.pass_all-last.result c.in-Ok.root ls here up
+    (c.in-Ok.ensures.ok [] _ _ (last-stands g.K.AsBytes.bytes g.row.PREFIX_LEN c.pass_all-last.new.arena c.pass_all-last.new.spine c.pass_all-last.result [] ls up 0)) c.in-Ok.ensures.closed c.pass_all-last.ensures.leaves c.in-Ok.ensures.leaves

@@ -1,0 +1,197 @@
+//! The inner nodes of a tree that are made anew over its leaves, which stand linked in their arena. It is the walk of a
+//! builder, but the leaves are there already.
+ghost use Rattle.std.specs.Prelude.{◌≡◌, ◌≢◌, ◌+◌, ◌*◌, ◌-◌, ◌^◌, ◌<◌, ◌≤◌, ℕ, suc, List, [], length, Some, OnOk, IfOk};
+ghost use Rattle.art_bytes.specs.Keys.{IsBefore};
+ghost use Rattle.art_nodes.specs.Kind.{row_of};
+ghost use Rattle.art_arena.specs.arena.Arena.{HasRoomOf, KeepsRoomOf, SameNodes};
+ghost use Rattle.art_arena.specs.arena.Rooms.{SameLeaves};
+ghost use Rattle.art_arena.specs.arena.Shapes.{LeafAt, pairs_of};
+ghost use Rattle.art_operations.specs.Meetings.{PartAt};
+ghost use Rattle.art_operations.specs.Pairs.{HasPairs};
+ghost use Rattle.art_operations.specs.Rebuilds.{HasInnerRoom, HoldsInOrder};
+ghost use Rattle.art_operations.specs.inner.Rebuilding.{CanPass, HasSpineRoom, RebuildsUpTo};
+ghost use Rattle.art_operations.specs.inner.Spines.{IsEmptySpine};
+ghost use Rattle.art_operations.specs.Whichever.{HasSome, OfEach};
+
+use crate::build::spine::{Spine, close};
+use crate::meeting::{Meeting, Parted, meet};
+use crate::minmax::minimum_unchecked;
+use art_arena::{LeafPtr, NodeArena};
+use art_bytes::AsBytes;
+use art_nodes::{LeafNode, NodeType, OpaqueNodePtr};
+use std::alloc::{AllocError, Global};
+use std::marker::Model;
+
+/// Room for what is noted while the inner nodes over so many leaves are made.
+#[derive(Drop)]
+pub struct SpineRoom {
+    spine: Spine,
+    leaves: usize,
+}
+
+impl Model for SpineRoom {
+    ghost use Rattle.std.specs.Prelude.{ℕ};
+    ghost use Rattle.art_operations.specs.inner.Rebuilding.{IsFresh};
+
+    ghost Value = { ℕ };
+
+    ghost view = { λ room. room.leaves };
+
+    ghost invariant = { λ room. IsFresh room.spine room.leaves };
+}
+
+// Allocates so many nodes of one kind as can stand over so many leaves.
+fn reserve_over<K, V, const PREFIX_LEN: usize>(
+    arena: &mut NodeArena<K, V, PREFIX_LEN>,
+    kind: NodeType,
+    leaves: usize,
+) -> Result<(), AllocError>
+    requires { kind ≢ NodeType.Leaf }
+    ensures room { OnOk result ((n : ℕ) → n * ((row_of kind).fewest - 1) < leaves → HasRoomOf arena.new kind n) }
+    ensures kept_room { KeepsRoomOf arena.old arena.new }
+    ensures kept { SameNodes arena.old arena.new }
+{
+    arena.reserve_kind(kind, leaves.saturating_sub(1) / (kind.row().fewest - 1))
+}
+
+impl SpineRoom {
+    /// Allocates all that `rebuild` needs over so many leaves: nodes of each kind, and room for what is noted
+    /// meanwhile.
+    ///
+    /// Fails only if out of memory. Either way, room that was there stays, and no name changes.
+    pub fn new<K, V, const PREFIX_LEN: usize>(
+        alloc: Global,
+        arena: &mut NodeArena<K, V, PREFIX_LEN>,
+        leaves: usize,
+    ) -> Result<SpineRoom, AllocError>
+        ensures leaves { IfOk result (λ room. room ≡ leaves) }
+        ensures room { OnOk result (HasInnerRoom arena.new leaves) }
+        ensures kept_room { KeepsRoomOf arena.old arena.new }
+        ensures kept { SameNodes arena.old arena.new }
+    {
+        let spine = Spine::with_places(alloc, leaves)?;
+        reserve_over(arena, NodeType::Node4, leaves)?;
+        reserve_over(arena, NodeType::Node16, leaves)?;
+        reserve_over(arena, NodeType::Node32, leaves)?;
+        reserve_over(arena, NodeType::Node48, leaves)?;
+        reserve_over(arena, NodeType::Node256, leaves)?;
+        Ok(SpineRoom { spine, leaves })
+    }
+}
+
+/// Drops all inner nodes of a tree that an arena holds alone, and returns its first leaf. The leaves stand as they
+/// stood, linked in key order: `rebuild` makes their tree again. Room that was there stays.
+pub fn keep_leaves<K: AsBytes + Drop, V: Drop, const PREFIX_LEN: usize>(
+    arena: &mut NodeArena<K, V, PREFIX_LEN>,
+    root: Option<OpaqueNodePtr>,
+) -> Option<LeafPtr>
+    requires { (pairs : List (K × V)) × HasPairs K.bytes PREFIX_LEN arena.old root pairs }
+    ensures order { (pairs : List (K × V)) → HasPairs K.bytes PREFIX_LEN arena.old root pairs
+        → (ls : List (LeafAt K V)) × HoldsInOrder K.bytes arena.new result ls × (pairs_of ls ≡ pairs) }
+    ensures leaves { SameLeaves arena.old arena.new }
+    ensures room { KeepsRoomOf arena.old arena.new }
+{
+    let Some(top) = root else {
+        arena.clear_inner();
+        return None;
+    };
+    let first = minimum_unchecked(arena, top);
+    arena.clear_inner();
+    Some(first)
+}
+
+// Where two keys part, the first of which comes before the second.
+fn parting(old: &[u8], new: &[u8]) -> Parted
+    requires { IsBefore old.now new.now }
+    ensures part { PartAt old.now new.now result }
+    ensures rises { result.old_byte < result.new_byte }
+    ensures counts { result.matched + 1 < 2 ^ 64 }
+{
+    let met = meet(old, new);
+    let Meeting::Parts(parted) = met else {
+        unreachable!();
+    };
+    parted
+}
+
+// Goes on from one leaf to the next one: makes what is whole before it, and hangs that below the node at which their
+// keys part.
+fn pass_to<K: AsBytes, V, const PREFIX_LEN: usize>(
+    arena: &mut NodeArena<K, V, PREFIX_LEN>,
+    spine: &mut Spine,
+    last: LeafPtr,
+    next: LeafPtr,
+)
+    requires stands { HasSome (CanPass K.bytes PREFIX_LEN arena.old spine.old last next) }
+    requires room { (more : ℕ) × HasSpineRoom arena.old spine.old (suc more) }
+    ensures passes { OfEach (CanPass K.bytes PREFIX_LEN arena.old spine.old last next)
+        (RebuildsUpTo K.bytes PREFIX_LEN arena.new spine.new next) }
+    ensures leaves { SameLeaves arena.old arena.new }
+    ensures room { (more : ℕ) → HasSpineRoom arena.old spine.old (suc more) → HasSpineRoom arena.new spine.new more }
+{
+    let parted = parting(
+        arena.as_key_ref(last).as_bytes(),
+        arena.as_key_ref(next).as_bytes(),
+    );
+    let behind = parted.matched + 1;
+    let Ok(part) = close(arena, spine, last, behind) else {
+        unreachable!();
+    };
+    let Ok(()) = spine.add_child(behind, parted.old_byte, part) else {
+        unreachable!();
+    };
+}
+
+// Passes all leaves from the first one on, of which there are so many at most. It returns the last.
+fn pass_all<K: AsBytes, V, const PREFIX_LEN: usize>(
+    arena: &mut NodeArena<K, V, PREFIX_LEN>,
+    spine: &mut Spine,
+    first: LeafPtr,
+    leaves: usize,
+) -> LeafPtr
+    requires order { (ls : List (LeafAt K V)) × HoldsInOrder K.bytes arena.old (Some first) ls × (length ls ≤ leaves) }
+    requires empty { IsEmptySpine spine.old }
+    requires room { HasSpineRoom arena.old spine.old leaves }
+    ensures passed { (ls : List (LeafAt K V)) → HoldsInOrder K.bytes arena.old (Some first) ls
+        → RebuildsUpTo K.bytes PREFIX_LEN arena.new spine.new result [] ls }
+    ensures leaves { SameLeaves arena.old arena.new }
+    ensures room { HasSpineRoom arena.new spine.new 1 }
+{
+    let mut last = first;
+    let mut left = leaves;
+    'walk: loop {
+        let Some(next) = arena.as_ref::<LeafNode<K, V>>(last).next() else {
+            return last;
+        };
+        pass_to(arena, spine, last, next);
+        last = next;
+        left -= 1;
+    }
+}
+
+/// Makes the inner nodes of the tree over leaves that stand linked, in key order, in an arena which holds nothing else.
+/// It returns the name of the root, or `None` if there is no leaf. No leaf moves, and none is linked anew.
+///
+/// The caller allocated room for as many leaves or more, by `SpineRoom::new`. So it never fails, and allocates nothing.
+pub fn rebuild<K: AsBytes, V, const PREFIX_LEN: usize>(
+    arena: &mut NodeArena<K, V, PREFIX_LEN>,
+    room: SpineRoom,
+    first: Option<LeafPtr>,
+) -> Option<OpaqueNodePtr>
+    requires order { (ls : List (LeafAt K V)) × HoldsInOrder K.bytes arena.old first ls × (length ls ≤ room) }
+    requires room { HasInnerRoom arena.old room }
+    ensures tree { (ls : List (LeafAt K V)) → HoldsInOrder K.bytes arena.old first ls
+        → HasPairs K.bytes PREFIX_LEN arena.new result (pairs_of ls) }
+    ensures leaves { SameLeaves arena.old arena.new }
+{
+    let Some(start) = first else {
+        return None;
+    };
+    let leaves = room.leaves;
+    let mut spine = room.spine;
+    let last = pass_all(arena, &mut spine, start, leaves);
+    let Ok(root) = close(arena, &mut spine, last, 0) else {
+        unreachable!();
+    };
+    Some(root)
+}

@@ -1,0 +1,127 @@
+// What two sets have in common, alone and together, and how they compare.
+
+use crate::key::EndedKey;
+use crate::sets::show_in_list;
+use crate::told::{Told, say, show_bool, show_order};
+use art_set::TreeSet;
+use play_script::Asked;
+use std::io;
+
+// Counts a key that a merge gives, and prints it unless keys are only counted.
+fn show_met(
+    rt: &impl Print,
+    key: Option<&EndedKey>,
+    is_counted: bool,
+    count: &mut u64,
+) -> io::Result<()> {
+    if key.is_none() {
+        return Ok(());
+    }
+    *count = count.wrapping_add(1);
+    if is_counted {
+        return Ok(());
+    }
+    show_in_list(rt, key)
+}
+
+// Prints how many keys a merge gave, if they are only counted, and how many comparisons it took.
+fn show_comparisons(
+    rt: &impl Print,
+    is_counted: bool,
+    count: u64,
+    comparisons: usize,
+) -> io::Result<()> {
+    if is_counted {
+        println!(rt; "{count} {comparisons}")
+    } else {
+        println!(rt; "{comparisons}")
+    }
+}
+
+// What two sets have, from the front, or how many keys that are, and how many comparisons it took.
+macro_rules! show_merge {
+    ($rt:ident, $merge:expr, $most:ident, $is_counted:ident) => {{
+        let mut keys = $merge;
+        let mut count = 0_u64;
+        for _ in 0..$most {
+            show_met($rt, keys.next(), $is_counted, &mut count)?;
+        }
+        show_comparisons($rt, $is_counted, count, keys.comparisons())
+    }};
+}
+
+fn difference<const PREFIX_LEN: usize>(
+    rt: &impl Print,
+    set: &TreeSet<EndedKey, PREFIX_LEN>,
+    other: &TreeSet<EndedKey, PREFIX_LEN>,
+    most: usize,
+    is_counted: bool,
+) -> io::Result<()> {
+    show_merge!(rt, set.difference(other), most, is_counted)
+}
+
+fn symmetric_difference<const PREFIX_LEN: usize>(
+    rt: &impl Print,
+    set: &TreeSet<EndedKey, PREFIX_LEN>,
+    other: &TreeSet<EndedKey, PREFIX_LEN>,
+    most: usize,
+    is_counted: bool,
+) -> io::Result<()> {
+    show_merge!(rt, set.symmetric_difference(other), most, is_counted)
+}
+
+fn intersection<const PREFIX_LEN: usize>(
+    rt: &impl Print,
+    set: &TreeSet<EndedKey, PREFIX_LEN>,
+    other: &TreeSet<EndedKey, PREFIX_LEN>,
+    most: usize,
+    is_counted: bool,
+) -> io::Result<()> {
+    show_merge!(rt, set.intersection(other), most, is_counted)
+}
+
+fn union<const PREFIX_LEN: usize>(
+    rt: &impl Print,
+    set: &TreeSet<EndedKey, PREFIX_LEN>,
+    other: &TreeSet<EndedKey, PREFIX_LEN>,
+    most: usize,
+    is_counted: bool,
+) -> io::Result<()> {
+    show_merge!(rt, set.union(other), most, is_counted)
+}
+
+// How the two sets compare.
+fn compare<const PREFIX_LEN: usize>(
+    rt: &impl Print,
+    set: &TreeSet<EndedKey, PREFIX_LEN>,
+    other: &TreeSet<EndedKey, PREFIX_LEN>,
+) -> io::Result<()> {
+    let order = set.cmp(other);
+    if set.partial_cmp(other) == Some(order) {
+        show_order(rt, order, set == other)
+    } else {
+        say(rt, "another order")
+    }
+}
+
+/// What is told of two sets.
+pub fn answer<const PREFIX_LEN: usize>(
+    rt: &impl Print,
+    set: &TreeSet<EndedKey, PREFIX_LEN>,
+    other: &TreeSet<EndedKey, PREFIX_LEN>,
+    asked: &Asked<'_>,
+) -> Told {
+    let most = set.len().saturating_add(other.len());
+    let is_counted = asked.words[0] == "count";
+    Some(match asked.call {
+        "is_disjoint" => show_bool(rt, set.is_disjoint(other)),
+        "is_subset" => show_bool(rt, set.is_subset(other)),
+        "is_superset" => show_bool(rt, set.is_superset(other)),
+        "difference" => difference(rt, set, other, most, is_counted),
+        "symmetric_difference" => symmetric_difference(rt, set, other, most, is_counted),
+        "intersection" => intersection(rt, set, other, most, is_counted),
+        "union" => union(rt, set, other, most, is_counted),
+        "compare" => compare(rt, set, other),
+        _ => return None,
+    })
+}
