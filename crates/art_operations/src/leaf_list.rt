@@ -286,7 +286,8 @@ impl LeafCursor {
     ///
     /// Pairs whose keys ascend are put in by one walk along the list.
     ///
-    /// Fails if out of memory for a leaf. The error returns the pair, and no node changed.
+    /// Fails if out of memory for a leaf. The error returns the pair, and no node changed. The cursor may have gone on
+    /// over leaves with lesser keys.
     pub fn put<K: AsBytes, V, const PREFIX_LEN: usize>(
         &mut self,
         arena: &mut NodeArena<K, V, PREFIX_LEN>,

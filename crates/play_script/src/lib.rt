@@ -32,9 +32,13 @@ pub struct Script {
 /// What a line asks for: its words, and the bytes that the first two behind the call's name.
 #[derive(Drop)]
 pub struct Asked<'a> {
+    /// The name of the call.
     pub call: &'a str,
+    /// The words behind it, each empty where there is none.
     pub words: [&'a str; 4],
+    /// The bytes that the first of them names.
     pub first: &'a [u8],
+    /// Those that the second names.
     pub second: &'a [u8],
 }
 
@@ -103,7 +107,8 @@ impl Script {
         Ok(byte)
     }
 
-    /// Reads a line: false at the end of the input. What stands behind its last newline is left out.
+    /// Reads a line: false at the end of the input. What stands behind its last newline is left out. Fails if a read
+    /// fails, or the line names more bytes than the room holds and no memory is there.
     pub fn read(&mut self) -> io::Result<bool> {
         self.line.clear();
         for _ in 0..ROOM {

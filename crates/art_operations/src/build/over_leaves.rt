@@ -22,7 +22,8 @@ use art_nodes::{LeafNode, NodeType, OpaqueNodePtr};
 use std::alloc::{AllocError, Global};
 use std::marker::Model;
 
-/// Room for what is noted while the inner nodes over so many leaves are made.
+/// Room for what `rebuild` notes while it makes the inner nodes over so many leaves. `SpineRoom::new` allocates it, and
+/// the nodes in their arena.
 #[derive(Drop)]
 pub struct SpineRoom {
     spine: Spine,
