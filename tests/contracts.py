@@ -260,8 +260,16 @@ class Source:
             shown = not type_name[:1].isupper() or self.is_shown(file, type_name) or self.of_kit(type_name)
             if kind == "impl" and " for " not in of and function and not is_pub:
                 return None
+            if kind == "impl" and " for " in of and self.is_private_trait(of.partition(" for ")[0]):
+                return None
             return f"{type_name}::{function}" if shown and function else type_name if shown else None
         return function if function and is_pub and self.is_shown(file, function) else None
+
+    def is_private_trait(self, words):
+        """Whether the last of these words is a trait of the crate that it doesn't show."""
+        name = re.findall(r"[A-Z]\w*", words)[-1]
+        files = [file for file, text in self.files.items() if re.search(rf"\btrait {name}\b", text)]
+        return any(not re.search(rf"\bpub (?:unsafe )?trait {name}\b", self.files[f]) or not self.is_shown(f, name) for f in files)
 
     def of_kit(self, name):
         """A type that no file of the crate declares."""

@@ -1,3 +1,4 @@
 pub mod Examples
 pub mod Order
 pub mod Conflicts
+pub mod Walks

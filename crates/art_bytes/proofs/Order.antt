@@ -1,14 +1,12 @@
 -- Lemmas on byte strings: divergence, fronts, conflicts, byte order and longest common prefixes.
-use Rattle.std.proofs.Common.{◌≡◌, ℕ, suc, ◌<◌, true, List, [], ◌∷◌, ◌++◌, length, refl, sym, ap, ap₂, ◌∙◌, subst, inl}
+use Rattle.std.proofs.Common.{◌≡◌, ℕ, ◌<◌, List, [], ◌∷◌, ◌++◌, length, refl, sym, ap, ap₂, ◌∙◌, subst, inl}
 use Rattle.std.proofs.Common.{inr}
 use Rattle.std.proofs.Common.{append_assoc, append-nil, length-append, arith, eq-eqb, ne_eqb, lt-ltb, le-ltb}
 use Rattle.std.specs.List.{AllByRecursion}
-use Rattle.std.specs.Ordering.{is_lt}
 use Rattle.std.specs.declared.cmp.Ordering.TheVariants.{Less, Greater}
 use Rattle.std.proofs.lemmas.Bool.{cond-true, cond-false, cases_order}
-use Rattle.std.proofs.lemmas.Bool.Decides.{eqb_tells}
-use Rattle.art_bytes.specs.Keys.{bytes_cmp, is_below, BeginsWith, IsProperFront, Conflict, IsBefore}
-use Rattle.art_bytes.specs.Keys.{common_prefix, shared_prefix, agreeing}
+use Rattle.art_bytes.specs.Keys.{bytes_cmp, BeginsWith, IsProperFront, Conflict, IsBefore}
+use Rattle.art_bytes.specs.Keys.{common_prefix, shared_prefix}
 
 -- the order
 
@@ -141,15 +139,3 @@ cmp_before (a ∷ k) (b ∷ l) e n =
           let d = ne_eqb a b (λ f. omega arith) in
           let g : Greater ≡ Less = rw (c, d) at e in absurd (cc)
     ]
-
-pub before_below : (k l : List ℕ) → IsBefore k l → is_below k l ≡ true
-before_below k l h = ap is_lt (before_cmp k l h)
-
--- two agree on as many bytes as their longest common prefix has
-pub agreeing-common_prefix : (k l : List ℕ) → agreeing k l ≡ length (common_prefix k l)
-agreeing-common_prefix [] l = refl
-agreeing-common_prefix (a ∷ k) [] = refl
-agreeing-common_prefix (a ∷ k) (b ∷ l) = elim (eqb_tells a b) [
-  | inl same ↦ rw same.0 (ap suc (agreeing-common_prefix k l))
-  | inr apart ↦ rw apart.0 refl
-]

@@ -13,6 +13,7 @@
 
 mod as_bytes;
 mod fixed;
+mod history;
 mod keys;
 pub mod laws;
 mod mapped;
@@ -21,6 +22,7 @@ mod mappings;
 
 pub use as_bytes::{AsBytes, CloneBytes, NoPrefixesBytes, OrderedBytes};
 pub use fixed::{Address, FixedBytes, Signed, StoredAsNumber, Unsigned};
+pub use history::{Count, History, Piece};
 pub use keys::{SliceKey, StrKey, ZeroEnded, ZeroEndedError};
 pub use mapped::Mapped;
 pub use mapping::{BytesMapping, FixedBytesMapping, NoPrefixesMapping, OrderedMapping};

@@ -129,13 +129,6 @@ pub put_together : (start now : State) (text held before taken part handled : Li
 put_together start now text held before taken part handled c same =
     cut (unfinished_line_of text ++ part) handled (same ∙ ap (λ t. take 4097 (t ++ part)) c.rest ∙ take-take 4097 (unfinished_line_of text) part)
 
--- the end of the input, with nothing held
-pub outcome_end : (start now : State) (text held before taken : List ℕ) (c : Carried start now text held before taken) → held ≡ []
-    → IsOutcome start (lines_of text) c.written now
-outcome_end start now text held before taken c nothing =
-    let none : unfinished_line_of text ≡ [] = nothing_held (unfinished_line_of text) (sym c.rest ∙ nothing) in
-    rw (none, append-nil) c.outcome
-
 pub closed : (l : List ℕ) → 0 < length l → filter (λ (line : List ℕ). nat_lt 0 (length line)) (l ∷ []) ≡ l ∷ []
 closed l some = rw (lt-ltb 0 (length l) some) refl
 

@@ -1,7 +1,7 @@
 -- Filters of lists, one within another, and what holds of all elements.
-use Rattle.std.proofs.Common.{◌≡◌, ℕ, zero, suc, ◌<◌, List, [], ◌∷◌, ◌++◌, length, take, drop, get_or, refl, ap, sym, ◌∙◌, Bool, true, false, cond, arith}
+use Rattle.std.proofs.Common.{◌≡◌, suc, List, [], ◌∷◌, ◌++◌, length, refl, ap, sym, ◌∙◌, Bool, true, false, cond}
 use Rattle.std.specs.Prelude.{map, filter}
-use Rattle.std.specs.List.{AllByRecursion, HoldsAt}
+use Rattle.std.specs.List.{AllByRecursion}
 
 module _ {X : Type 0} where
   pub filter-apart : (p q : X → Bool) → ((x : X) → q x ≡ true → p x ≡ false) → (xs : List X) → filter p (filter q xs) ≡ []
@@ -47,27 +47,7 @@ module _ {X : Type 0} where
   All-right P [] ys h = h
   All-right P (x ∷ xs) ys h = All-right P xs ys h.1
 
-  pub All-at : (P : X → Type 0) (xs : List X) (i : ℕ) (d : X) → AllByRecursion P xs → i < length xs → P (get_or xs i d)
-  All-at P [] i d h within = absurd (omega arith)
-  All-at P (x ∷ xs) zero d h within = h.0
-  All-at P (x ∷ xs) (suc i) d h within = All-at P xs i d h.1 (omega arith)
-
 module _ {X Y : Type 0} where
-  pub HoldsAt-map : (f : X → Y) (P : Y → Type 0) (xs : List X) (i : ℕ) (x : X) → i < length xs → x ≡ get_or xs i x → P (f x) → HoldsAt P (map f xs) i
-  HoldsAt-map f P [] i x within is holds d = absurd (omega arith)
-  HoldsAt-map f P (y ∷ xs) zero x within is holds d = let same : y ≡ x = sym is in rw same holds
-  HoldsAt-map f P (y ∷ xs) (suc i) x within is holds d = HoldsAt-map f P xs i x (omega arith) is holds d
-
   pub length-map : (f : X → Y) (xs : List X) → length (map f xs) ≡ length xs
   length-map f [] = refl
   length-map f (x ∷ xs) = ap suc (length-map f xs)
-
-  pub take-map : (f : X → Y) (i : ℕ) (xs : List X) → take i (map f xs) ≡ map f (take i xs)
-  take-map f zero xs = refl
-  take-map f (suc i) [] = refl
-  take-map f (suc i) (x ∷ xs) = ap (λ l. f x ∷ l) (take-map f i xs)
-
-  pub drop-map : (f : X → Y) (i : ℕ) (xs : List X) → drop i (map f xs) ≡ map f (drop i xs)
-  drop-map f zero xs = refl
-  drop-map f (suc i) [] = refl
-  drop-map f (suc i) (x ∷ xs) = drop-map f i xs

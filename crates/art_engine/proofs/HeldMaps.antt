@@ -88,22 +88,6 @@ pub length-shown : (v : List ℕ) → (length v == 0) ≡ false → length (show
 length-shown [] some = absurd (true≢false some)
 length-shown (b ∷ bs) some = length-encode (b ∷ bs)
 
--- how long the line is that makes a record
-pub length-put : (t : ℕ) (k v : List ℕ) → length (text_of (put_words t k v)) ≡ length (decimal t) + length (shown (bytes k)) + length (shown (bytes v)) + 6
-length-put t k v =
-    let ended = length-append (text_of (put_words t k v)) (10 ∷ []) in
-    let whole = ap length (put_parts t t k v refl) in
-    let first = length-append (decimal t) (32 ∷ (shown (bytes k) ++ 32 ∷ (shown (bytes v) ++ 10 ∷ []))) in
-    let second = length-append (shown (bytes k)) (32 ∷ (shown (bytes v) ++ 10 ∷ [])) in
-    let third = length-append (shown (bytes v)) (10 ∷ []) in
-    omega arith
-
--- lengths are added up, and what is past the greatest number is too long in any case
-pub short_told : (t : ℕ) (k v : List ℕ) (a b x : ℕ) → a ≡ min (length (shown (bytes k))) (2 ^ 64 - 1) → b ≡ min (length (shown (bytes v))) (2 ^ 64 - 1)
-    → x ≡ min (min (min (length (decimal t) + a) (2 ^ 64 - 1) + 6) (2 ^ 64 - 1) + b) (2 ^ 64 - 1)
-    → (x ≤ 4096 → length (text_of (put_words t k v)) ≤ 4096) × (length (text_of (put_words t k v)) ≤ 4096 → x ≤ 4096)
-short_told t k v a b x ka vb is = let long = length-put t k v in (λ low. omega arith, λ low. omega arith)
-
 pub length-nput : (t : ℕ) (n : ℤ) (v : List ℕ) → length (text_of (nput_words t n v)) ≡ length (decimal t) + length (signed_decimal n) + length (shown (bytes v)) + 7
 length-nput t n v =
     let ended = length-append (text_of (nput_words t n v)) (10 ∷ []) in

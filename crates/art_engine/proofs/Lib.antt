@@ -43,3 +43,4 @@ pub mod ReadTogether
 pub mod LineCounts
 pub mod DroppedTenants
 pub mod Undoing
+pub mod LinesAhead

@@ -1,47 +1,20 @@
 -- How many nodes a line reads, by the family of its word.
 use Rattle.std.proofs.Common.{◌≡◌, ℕ, ◌+◌, ◌-◌, ◌^◌, min, subst, ◌∙◌, arith}
-use Rattle.std.specs.Prelude.{Bool, true, false, List, Option, Some, None}
+use Rattle.std.specs.Prelude.{List, Option, Some}
 use Rattle.art_lines.specs.declared.command.fields.Fields.{Fields}
-use Rattle.art_lines.specs.declared.command.word.Change.{Change}
 use Rattle.art_lines.specs.declared.command.word.LookUp.{LookUp}
 use Rattle.art_lines.specs.declared.command.word.LookUp.TheVariants as look_up
-use Rattle.art_lines.specs.declared.command.word.Whole.{Whole}
-use Rattle.art_lines.specs.declared.command.word.Change.TheVariants as change
-use Rattle.art_lines.specs.declared.command.word.Whole.TheVariants as whole
 use Rattle.art_lines.specs.Commands.{Command}
-use Rattle.art_engine.specs.Counts.{Visits, exactly, key_visits, number_visits, visits_of, line_visits, IsWithin, Grew}
-use Rattle.art_lines.specs.Parsed.{changes, asks_all, looks_up}
+use Rattle.art_engine.specs.Counts.{Visits, exactly, key_visits, number_visits, visits_of, IsWithin, Grew}
+use Rattle.art_lines.specs.Parsed.{looks_up}
 use Rattle.art_lines.specs.Reading.{command_of}
 use Rattle.art_engine.specs.Records.{Records, AreRecords}
 use Rattle.art_engine.specs.Stored.{Pair, NumberPair, all_records_of, ArePairs, AreNumberPairs}
 use Rattle.art_engine.proofs.NumberPlaces.{are_in_order}
 
-none_read : IsWithin (exactly 0) 0
-none_read = (omega arith, omega arith)
-
--- a change reads nothing that counts, nor does what is told of all records
-pub change_reads : (w : Change) (f : Fields) (r : Records) → IsWithin (visits_of (Some (changes w f)) r) 0
-change_reads change.Put f r = none_read
-change_reads change.Over f r = none_read
-change_reads change.Del f r = none_read
-change_reads change.NPut f r = none_read
-change_reads change.NDel f r = none_read
-
-pub whole_reads : (w : Whole) (r : Records) → IsWithin (visits_of (Some (asks_all w)) r) 0
-whole_reads whole.Dump r = none_read
-whole_reads whole.Audit r = none_read
-
-pub bad_reads : (r : Records) → IsWithin (visits_of None r) 0
-bad_reads r = none_read
-
 -- so a line reads what its command does
 pub line_reads : (o : Option Command) (line : List ℕ) (held old : Records) (n : ℕ) → o ≡ command_of line → held ≡ old → IsWithin (visits_of o held) n → IsWithin (visits_of (command_of line) old) n
 line_reads o line held old n meant same within = subst (λ r. IsWithin (visits_of (command_of line) r) n) same (subst (λ p. IsWithin (visits_of p held) n) meant within)
-
--- a line that may find no memory reads nothing that counts, whether it does
-pub nothing_read : (memory : Bool) (line : List ℕ) (r : Records) → IsWithin (visits_of (command_of line) r) 0 → IsWithin (line_visits memory line r) 0
-nothing_read true line r h = none_read
-nothing_read false line r h = h
 
 -- what an index holds are records
 pub are_records : (ps : List Pair) (ns : List NumberPair) (old : Records) → all_records_of ps ns ≡ old → ArePairs ps → AreNumberPairs ns → AreRecords old

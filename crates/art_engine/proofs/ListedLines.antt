@@ -1,7 +1,6 @@
 -- The lines of a list, one pair after another.
 use Rattle.std.proofs.Common.{◌≡◌, ℕ, ℤ, suc, ◌+◌, ◌≤◌, List, [], ◌∷◌, ◌++◌, length, drop, map, refl, ap, sym, ◌∙◌, Bool, true, false, cond, arith, append_assoc, append-nil, length-append}
-use Rattle.std.specs.Prelude.{flat_map, filter, decimal, FitsSigned}
-use Rattle.std.specs.Int.{w64}
+use Rattle.std.specs.Prelude.{flat_map, filter, decimal}
 use Rattle.std.specs.List.{AllByRecursion}
 use Rattle.std.proofs.lemmas.Grind.{flat_map-append}
 use Rattle.art_lines.specs.Words.{Word, shown, bytes, text_of, line_of}
@@ -9,6 +8,7 @@ use Rattle.art_lines.specs.Commands.{put_words, nput_words}
 use Rattle.art_engine.specs.Keys.{number_of_bytes}
 use Rattle.art_engine.specs.Records.{KeyRecord, NumberRecord, KeyFits, NumberFits}
 use Rattle.art_lines.specs.ReplyWords.{end_words, pair_words, number_words, listed, numbers_listed}
+use Rattle.art_engine.specs.Spans.{IsListed, IsNumbered}
 use Rattle.art_engine.specs.Stored.{Pair, NumberPair, record_of, number_record_of, IsFull}
 use Rattle.art_engine.proofs.Filters.{length-map}
 use Rattle.art_engine.proofs.OwnLaws.{key_part, number_part}
@@ -47,13 +47,6 @@ list_all ps mine same =
     words_are : (ps : List Pair) → map words_listed ps ≡ map pair_words (map key_part (map record_of ps))
     words_are [] = refl
     words_are (p ∷ ps) = ap (λ l. words_listed p ∷ l) (words_are ps)
-
--- a pair has a tenant before its key, and its line is shorter than the one that made it
-abbrev pub IsListed : Pair → Type 0
-IsListed p = (4 ≤ length p.0.items) × (3 + length (line_of (words_listed p)) ≤ 4097)
-
-pub listed_fits : (p : Pair) → IsListed p → length (line_of (words_listed p)) ≤ 4097
-listed_fits p h = let short = h.1 in omega arith
 
 shorter : (r : KeyRecord) → KeyFits r → 3 + length (line_of (pair_words (r.key, r.value))) ≤ 4097
 shorter r fits =
@@ -95,10 +88,6 @@ numbers_all ns mine same =
     words_are : (ns : List NumberPair) → map words_numbered ns ≡ map number_words (map number_part (map number_record_of ns))
     words_are [] = refl
     words_are (p ∷ ns) = ap (λ l. words_numbered p ∷ l) (words_are ns)
-
--- its line is shorter than the one that made it, and its number has 64 bits
-abbrev pub IsNumbered : NumberPair → Type 0
-IsNumbered p = (length (line_of (words_numbered p)) ≤ 4097) × FitsSigned w64 (number_of_bytes (drop 4 p.0))
 
 number_shorter : (r : NumberRecord) → NumberFits r → length (line_of (number_words (r.key, r.value))) ≤ 4097
 number_shorter r fits =

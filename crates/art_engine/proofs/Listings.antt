@@ -34,10 +34,6 @@ listing_grew bound full longest old mid new m kept few whole fits is =
       fits = omega arith;
     }
 
--- nothing is read
-pub nothing_grew : (n : ℕ) → Grew (exactly 0) n n
-nothing_grew n = record { most = omega arith; least = omega arith; fits = omega arith }
-
 -- a path is read
 pub path_grew : (path old new : ℕ) → path < 2 ^ 64 → new ≡ min (old + path) (2 ^ 64 - 1) → Grew (exactly path) old new
 path_grew path old new fits is = record { most = omega arith; least = omega arith; fits = omega arith }

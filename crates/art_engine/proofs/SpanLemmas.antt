@@ -1,11 +1,10 @@
 -- A step of a span: its first pair is given, and the others are left.
-use Rattle.std.proofs.Common.{◌≡◌, ℕ, ◌+◌, ◌-◌, ◌^◌, min, List, [], ◌∷◌, length, Option, Some, None, sym, ap, ◌∙◌, arith}
-use Rattle.std.specs.Prelude.{option_map, MatchOption, Result, Ok, Err, OnOk}
+use Rattle.std.proofs.Common.{◌≡◌, ◌-◌, List, [], ◌∷◌, length, Option, Some, None, sym, ap, ◌∙◌}
+use Rattle.std.specs.Prelude.{option_map, Result, Ok, Err, OnOk}
 use Rattle.art_arena.specs.arena.Arena.{Arena}
 use Rattle.art_walks.specs.MapReads.{IsSpan, IsSpanOf}
 use Rattle.art_walks.specs.Runs.{Ends}
 use Rattle.art_walks.proofs.RunLengths.{run-pairs}
-use Rattle.art_engine.specs.Counts.{GrewBy}
 use Rattle.art_engine.specs.Spans.{pending, span_pairs}
 
 module _ {K V : Type 0} where
@@ -30,12 +29,6 @@ module _ {K V : Type 0} where
     pub span_ended : IsSpan old ends → result ≡ None → span_pairs new next ≡ []
     span_ended (pairs, [], span) is = span_left new pairs next [] (end pairs span).1
     span_ended (pairs, p ∷ left, span) is = let given = (first pairs p left span).0 in let none = ap (option_map read) is in absurd (cc)
-
--- each pair that is given is counted
-pub given_count : {R X : Type 0} (read : R → X) (o : Option R) (n first old new : ℕ) → GrewBy n first old → MatchOption o (new ≡ old) (λ r. new ≡ min (old + 1) (2 ^ 64 - 1))
-    → GrewBy (n + length (pending (option_map read o) [])) first new
-given_count read None n first old new is h = let low = is.0 in let high = is.1 in let same : new ≡ old = h in (omega arith, omega arith)
-given_count read (Some r) n first old new is h = let low = is.0 in let high = is.1 in let same : new ≡ min (old + 1) (2 ^ 64 - 1) = h in (omega arith, omega arith)
 
 -- what holds anyway holds of an answer
 pub when_ok : {T E P : Type 0} (r : Result T E) → P → OnOk r P

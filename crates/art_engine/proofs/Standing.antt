@@ -97,13 +97,6 @@ stands_behind t k r (inr h) =
     let e = h.0 in let no : nat_lt r.tenant t ≡ false = le-ltb r.tenant t (omega arith) in
     rw (no, eq-eqb r.tenant t e) (cmp_above r.key k h.1)
 
--- what comes before a record that stands before a key stands before it too, and likewise behind
-pub before_before : (t : ℕ) (k : List ℕ) (r s : KeyRecord) → KeyComesBefore r s → StandsBefore t k s → StandsBefore t k r
-before_before t k r s (inl low) (inl lt) = inl (omega arith)
-before_before t k r s (inl low) (inr same) = let e = same.0 in inl (omega arith)
-before_before t k r s (inr up) (inl lt) = let e = up.0 in inl (omega arith)
-before_before t k r s (inr up) (inr same) = inr (up.0 ∙ same.0, below_trans r.key s.key k up.1 same.1)
-
 pub behind_behind : (t : ℕ) (k : List ℕ) (r s : KeyRecord) → KeyComesBefore r s → StandsBehind t k r → StandsBehind t k s
 behind_behind t k r s (inl low) (inl lt) = inl (omega arith)
 behind_behind t k r s (inl low) (inr same) = let e = same.0 in inl (omega arith)

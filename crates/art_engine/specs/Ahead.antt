@@ -1,7 +1,7 @@
 -- What is read ahead of a line.
-use Rattle.std.specs.Prelude.{◌≡◌, ◌⊎◌, ℕ, suc, int_lt, if◌then◌else◌, List, length, drop}
+use Rattle.std.specs.Prelude.{◌≡◌, ◌⊎◌, ℕ, suc, ◌-◌, ◌≤◌, int_lt, if◌then◌else◌, List, length, drop}
 use Rattle.std.specs.Prelude.{Option, Some, None, option_map, unwrap_or, nat_eq, true}
-use Rattle.std.specs.List.{starts_with}
+use Rattle.std.specs.List.{starts_with, slice_get}
 use Rattle.art_bytes.specs.Keys.{is_below}
 use Rattle.art_bytes.specs.Laws.{pair_key}
 use Rattle.art_nodes.specs.Name.{Name}
@@ -10,6 +10,7 @@ use Rattle.art_arena.specs.arena.Arena.{Arena, held_at, inner_held}
 use Rattle.art_arena.specs.arena.Descents.{GoesOn}
 use Rattle.art_lines.specs.Commands.{Command, of_tenant, over, del, get, find, list, span, nget, ndel, nspan}
 use Rattle.art_lines.specs.Keys.{full_key}
+use Rattle.art_engine.specs.Counts.{GrewBy}
 
 -- The full key along whose path nodes may be read ahead of a command: its own, or that of its prefix or lower bound. Of
 -- other commands, and where bounds are out of order, there is none.
@@ -35,3 +36,13 @@ abbrev pub IsStepAhead : {K V : Type 0} → Arena K V → List ℕ → Name × �
 IsStepAhead arena key from to = (to ≡ from)
     ⊎ ((node : InnerNode) × (byte : ℕ) × (held_at arena from.0 ≡ Some (inner_held node))
     × GoesOn key from.1 node byte to.0 to.1 × (starts_with nat_eq (drop from.1 key) node.header.stored ≡ true))
+
+-- Two counts grew by the same: what some lines tell of what was read ahead of them, and what was counted where it was
+-- read, whose greatest count stays.
+abbrev pub GrewAlike : ℕ → ℕ → ℕ → ℕ → Type 0
+GrewAlike told now count counted = (told ≤ now) × GrewBy (now - told) count counted
+
+-- what is told by the one at this place, if there is one: by none 0
+abbrev pub told_at : {X : Type 0} → (X → ℕ) → List X → Option ℕ → ℕ
+told_at told xs None = 0
+told_at told xs (Some at) = unwrap_or (option_map told (slice_get xs at)) 0

@@ -9,8 +9,8 @@ ghost use Rattle.art_lines.specs.Gathered.{IsPartTaken};
 ghost use Rattle.art_engine.specs.Stored.{records_of, number_records_of, all_records_of, ArePairs, AreNumberPairs};
 ghost use Rattle.art_engine.specs.Stored.{IsFullKey};
 
-use crate::ahead::Ahead;
 use crate::change::numbers::numbers_of;
+use crate::together::Together;
 use art_lines::command::fields::NUMBER_KEY;
 use art_lines::gather::{ROOM, make_room};
 use art_lines::head::Head;
@@ -29,9 +29,8 @@ fn parts_of(full: &[u8]) -> (u32, &[u8])
     (tenant, &full[4..])
 }
 
-/// Gathers the lines of all records under keys, and returns how much is gathered then. The leaves of many records are
-/// read ahead of their lines. What that tells goes to the end of the room, where no line comes, so that the reads are
-/// not left out.
+/// Gathers the lines of all records under keys, and returns how much is gathered then. Many records are read at a time.
+/// What is seen of them goes to the end of the room, where no line comes, so that the reads are not left out.
 fn gather_keys<W: Sink, const PREFIX_LEN: usize>(
     records: &TreeMap<Vec<u8>, Vec<u8>, PREFIX_LEN>,
     sink: &mut W,
@@ -48,13 +47,13 @@ fn gather_keys<W: Sink, const PREFIX_LEN: usize>(
     ensures failed { is_err result ≡ W.has_failed sink.new }
 {
     let mut held = 0;
-    let (arena, root) = records.nodes();
-    let mut ahead = Ahead::new(root);
     let mut head = Head::new(0);
-    for (full, value) in records.iter().one_by_one() {
+    let mut pairs = records.iter();
+    let mut together = Together::new();
+    'pairs: while let Some((full, value)) = together.next(&mut pairs, &mut ()) {
         let (tenant, key) = parts_of(full.as_slice());
         let at = make_room(sink, room, held)?;
-        room[ROOM - 1] = ahead.step(arena);
+        room[ROOM - 1] = together.seen();
         head.turn_to(tenant);
         held = put_record(room, at, &head, key, value.as_slice());
     }
@@ -80,9 +79,12 @@ fn gather_numbers<W: Sink, const PREFIX_LEN: usize>(
     ensures failed { is_err result ≡ W.has_failed sink.new }
 {
     let mut held = before;
-    for (key, value) in numbers.iter() {
+    let mut pairs = numbers.iter();
+    let mut together = Together::new();
+    'pairs: while let Some((key, value)) = together.next(&mut pairs, &mut ()) {
         let (tenant, number) = numbers_of(key);
         let at = make_room(sink, room, held)?;
+        room[ROOM - 1] = together.seen();
         held = put_number_record(room, at, tenant, number, value.as_slice());
     }
     Ok(held)

@@ -10,9 +10,9 @@ ghost use Rattle.art_engine.specs.Stored.{all_records_of, ArePairs, AreNumberPai
 
 use crate::change::{change, write_changed};
 use crate::drop_tenant::{drop_tenant, write_dropped};
-use crate::history::Reads;
 use crate::readers::Readers;
 use crate::survey::{take_survey, write_survey};
+use art_bytes::{Count, History};
 use art_lines::command::fields::{Fields, NUMBER_KEY};
 use art_lines::command::read_line;
 use art_lines::command::word::Word;
@@ -70,8 +70,8 @@ pub struct Index<const PREFIX_LEN: usize> {
     alloc: Global,
     records: TreeMap<Vec<u8>, Vec<u8>, PREFIX_LEN>,
     numbers: TreeMap<[u8; NUMBER_KEY], Vec<u8>, PREFIX_LEN>,
-    reads: Reads,
-    ahead: Reads,
+    reads: History,
+    ahead: History,
 }
 
 impl<const PREFIX_LEN: usize> Model for Index<PREFIX_LEN> {
@@ -83,8 +83,8 @@ impl<const PREFIX_LEN: usize> Model for Index<PREFIX_LEN> {
 
     ghost view = { λ s. record {
       records = all_records_of s.records.pairs s.numbers.pairs;
-      reads = s.reads.counts;
-      ahead = s.ahead.counts;
+      reads = s.reads.items;
+      ahead = s.ahead.items;
     } };
 
     ghost invariant = { λ s. ArePairs s.records.pairs × AreNumberPairs s.numbers.pairs };
@@ -118,8 +118,8 @@ impl<const PREFIX_LEN: usize> Index<PREFIX_LEN> {
             alloc,
             records: TreeMap::with_prefix_len(alloc),
             numbers: TreeMap::with_prefix_len(alloc),
-            reads: Reads::new(),
-            ahead: Reads::new(),
+            reads: History::new(),
+            ahead: History::new(),
         }
     }
 
@@ -147,8 +147,8 @@ impl<const PREFIX_LEN: usize> Index<PREFIX_LEN> {
             alloc,
             records: byte_map,
             numbers: number_map,
-            reads: Reads::new(),
-            ahead: Reads::new(),
+            reads: History::new(),
+            ahead: History::new(),
         }
     }
 
@@ -259,11 +259,10 @@ impl<const PREFIX_LEN: usize> Index<PREFIX_LEN> {
         ensures cut { OnErr result (IsCutLine self.old line.now (W.taken sink.old) (W.taken sink.new) self.new) }
     {
         let handled = self.answer(line, word, fields, sink)?;
-        self.reads = self.reads.then(&handled);
-        self.ahead = self.ahead.then(&Handled {
-            memory: false,
-            visits: ahead,
+        self.reads = self.reads.then_count(&Count {
+            number: handled.visits,
         });
+        self.ahead = self.ahead.then_count(&Count { number: ahead });
         Ok(handled)
     }
 

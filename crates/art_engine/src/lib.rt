@@ -7,12 +7,10 @@
 //! grammar of `Commands`.
 #![tactic(auto)]
 
-pub mod ahead;
 mod audit;
 mod change;
 mod drop_tenant;
 mod dump;
-mod history;
 mod index;
 pub mod laws;
 mod listing;

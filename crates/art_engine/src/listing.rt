@@ -1,15 +1,18 @@
 //! Walks over a tenant's records, each leaf that is read counted. A span is opened, and then read and written as lines.
-ghost use Rattle.std.specs.Prelude.{◌≡◌, ◌+◌, ◌^◌, ◌<◌, List, Some, false, flat_map, int_lt, length, map, max, OnOk};
+ghost use Rattle.std.specs.Prelude.{◌≡◌, ◌+◌, ◌++◌, ◌^◌, ◌<◌, ℕ, IfOk, List, OnErr, OnOk, Some, false, flat_map};
+ghost use Rattle.std.specs.Prelude.{int_lt, is_err, length, map, max, take};
+ghost use Rattle.std.specs.Global.{Vec};
 ghost use Rattle.std.specs.List.{AllByRecursion};
 ghost use Rattle.art_bytes.specs.Keys.{is_below};
 ghost use Rattle.art_walks.specs.MapReads.{IsSameMap, IsSpan};
-ghost use Rattle.art_lines.specs.Words.{line_of};
+ghost use Rattle.art_lines.specs.Words.{Word, line_of};
 ghost use Rattle.art_lines.specs.Commands.{list, span, nspan, of_tenant};
 ghost use Rattle.art_engine.specs.Keys.{full_key_of};
 ghost use Rattle.art_engine.specs.Records.{own};
-ghost use Rattle.art_lines.specs.ReplyWords.{listed, numbers_listed};
+ghost use Rattle.art_lines.specs.ReplyWords.{end_words, listed, number_words, numbers_listed, pair_words};
+ghost use Rattle.art_lines.specs.Gathered.{IsPartTaken};
 ghost use Rattle.art_engine.specs.Replies.{own_reply, pairs_from_to, numbers_from_to};
-ghost use Rattle.art_lines.specs.Writes.{Writes};
+ghost use Rattle.art_lines.specs.Writes.{IsCut, Writes};
 ghost use Rattle.art_engine.specs.Counts.{visits_of, listing, longest, GrewBy, Grew};
 ghost use Rattle.art_lines.specs.Parsed.{tenant_in_place, key_in_place, value_in_place};
 ghost use Rattle.art_lines.specs.Parsed.{number_in_place, bound_in_place};
@@ -19,7 +22,7 @@ ghost use Rattle.art_engine.specs.Spans.{own_number, IsNumbered, ReadsNumbers};
 
 use crate::change::numbers::numbers_of;
 use crate::together::Together;
-use art_bytes::SliceKey;
+use art_bytes::{AsBytes, SliceKey};
 use art_lines::command::fields::{Fields, NUMBER_KEY};
 use art_lines::gather::{gather_number, gather_pair, write_end};
 use art_lines::reply::write_piece;
@@ -31,20 +34,85 @@ use std::ops::Bound;
 /// few.
 const ROOM: usize = 1024;
 
+/// The key of a pair that is listed: its line has no tenant.
+pub(crate) trait ListedKey: AsBytes {
+    /// The words of a pair's line.
+    ghost words: { Self × Vec ℕ → List Word };
+
+    /// Whether a pair has such a line, which is no longer than one may be.
+    ghost is_listed: { Self × Vec ℕ → Type 0 };
+
+    /// Gathers the line of the pair of this key and a value, and returns how much is gathered then. A byte at least is
+    /// left of the room. What doesn't fit is written before.
+    fn gather<W: Sink>(
+        &self,
+        value: &Vec<u8>,
+        sink: &mut W,
+        room: &mut [u8],
+        held: usize,
+    ) -> Result<usize, WriteFailed>
+        requires open { W.has_failed sink.old ≡ false }
+        requires held { held < length room.old }
+        requires listed { is_listed (self.now, value.now) }
+        ensures fits { IfOk result (λ next. next < length room.new) }
+        ensures taken { IfOk result (λ next. IsPartTaken (W.taken sink.old) (W.taken sink.new) (take next room.new)
+            (take held room.old ++ line_of (words (self.now, value.now)))) }
+        ensures cut { OnErr result (IsCut (W.taken sink.old) (W.taken sink.new)
+            (take held room.old ++ line_of (words (self.now, value.now)))) }
+        ensures failed { is_err result ≡ W.has_failed sink.new };
+}
+
+impl ListedKey for Vec<u8> {
+    ghost words = { λ p. pair_words (own_pair p) };
+
+    ghost is_listed = { λ p. IsListed p };
+
+    #[inline(always)]
+    fn gather<W: Sink>(
+        &self,
+        value: &Vec<u8>,
+        sink: &mut W,
+        room: &mut [u8],
+        held: usize,
+    ) -> Result<usize, WriteFailed> {
+        let key = self.as_slice();
+        gather_pair(sink, room, held, key, value.as_slice())
+    }
+}
+
+impl ListedKey for [u8; NUMBER_KEY] {
+    ghost words = { λ p. number_words (own_number p) };
+
+    ghost is_listed = { λ p. IsNumbered p };
+
+    #[inline(always)]
+    fn gather<W: Sink>(
+        &self,
+        value: &Vec<u8>,
+        sink: &mut W,
+        room: &mut [u8],
+        held: usize,
+    ) -> Result<usize, WriteFailed> {
+        let (_tenant, number) = numbers_of(self);
+        gather_number(sink, room, held, number, value.as_slice())
+    }
+}
+
 /// Writes the pairs of a span without their tenant, and how many they are. The lines are gathered, and leave in few
 /// pieces. A leaf is read for each pair, many at a time. What is seen of them is kept after what is gathered.
 #[inline(never)]
-fn write_pairs<W: Sink, const PREFIX_LEN: usize>(
-    records: &mut MapReader<'_, Vec<u8>, Vec<u8>, PREFIX_LEN>,
+fn write_pairs<K: ListedKey, W: Sink, const PREFIX_LEN: usize>(
+    records: &mut MapReader<'_, K, Vec<u8>, PREFIX_LEN>,
     span: &mut ReadSpan,
     sink: &mut W,
 ) -> Result<(), WriteFailed>
     requires open { W.has_failed sink.old ≡ false }
     requires span { IsSpan records.old.nodes span.old }
-    requires listed { AllByRecursion IsListed (span_pairs records.old.nodes span.old) }
+    requires listed { AllByRecursion K.is_listed (span_pairs records.old.nodes span.old) }
     requires few { length (span_pairs records.old.nodes span.old) < 2 ^ 64 }
     ensures written { Writes result (W.taken sink.old) (W.taken sink.new)
-        (flat_map line_of (listed (map own_pair (span_pairs records.old.nodes span.old))))
+        (flat_map line_of (map K.words (span_pairs records.old.nodes span.old))
+        ++ line_of (end_words (length (span_pairs records.old.nodes span.old))))
         (W.has_failed sink.new) }
     ensures kept { IsSameMap records.old records.new }
     ensures counts { OnOk result
@@ -53,11 +121,9 @@ fn write_pairs<W: Sink, const PREFIX_LEN: usize>(
     let mut room = [0; ROOM];
     let (mut held, mut count) = (0, 0);
     let mut together = Together::new();
-    'pairs: while let Some((full, value)) = together.next(records, span) {
-        let key = full.as_slice();
-        let text = value.as_slice();
+    'pairs: while let Some((key, value)) = together.next(records, span) {
         room[ROOM - 1] = together.seen();
-        let next = gather_pair(sink, &mut room, held, key, text)?;
+        let next = key.gather(value, sink, &mut room, held)?;
         held = next;
         count += 1;
     }
@@ -139,38 +205,6 @@ fn write_between<W: Sink, const PREFIX_LEN: usize>(
     write_pairs(records, &mut span, sink)
 }
 
-/// Writes the pairs of a span of numbers without their tenant, and how many they are. A leaf is read for each.
-#[inline(never)]
-fn write_numbers<W: Sink, const PREFIX_LEN: usize>(
-    numbers: &mut MapReader<'_, [u8; NUMBER_KEY], Vec<u8>, PREFIX_LEN>,
-    span: &mut ReadSpan,
-    sink: &mut W,
-) -> Result<(), WriteFailed>
-    requires open { W.has_failed sink.old ≡ false }
-    requires span { IsSpan numbers.old.nodes span.old }
-    requires listed { AllByRecursion IsNumbered (span_pairs numbers.old.nodes span.old) }
-    requires few { length (span_pairs numbers.old.nodes span.old) < 2 ^ 64 }
-    ensures written { Writes result (W.taken sink.old) (W.taken sink.new)
-        (flat_map line_of (numbers_listed (map own_number (span_pairs numbers.old.nodes span.old))))
-        (W.has_failed sink.new) }
-    ensures kept { IsSameMap numbers.old numbers.new }
-    ensures counts { OnOk result
-        (GrewBy (length (span_pairs numbers.old.nodes span.old)) numbers.old.count numbers.new.count) }
-{
-    let mut room = [0; ROOM];
-    let (mut held, mut count) = (0, 0);
-    let mut together = Together::new();
-    'pairs: while let Some((key, value)) = together.next(numbers, span) {
-        let (_tenant, number) = numbers_of(key);
-        let text = value.as_slice();
-        room[ROOM - 1] = together.seen();
-        let next = gather_number(sink, &mut room, held, number, text)?;
-        held = next;
-        count += 1;
-    }
-    write_end(sink, &mut room, held, count)
-}
-
 /// Writes the tenant's numbers from the low one that was read up to the high one, with their values, and how many they
 /// are. It checks that the bounds are in order before it reads the map.
 pub(crate) fn write_number_span<W: Sink, const PREFIX_LEN: usize>(
@@ -219,5 +253,5 @@ fn write_numbers_between<W: Sink, const PREFIX_LEN: usize>(
 {
     let (low, high) = (fields.number_key(), fields.bound_key());
     let mut span = numbers.range(Bound::Included(&low), Bound::Included(&high));
-    write_numbers(numbers, &mut span, sink)
+    write_pairs(numbers, &mut span, sink)
 }

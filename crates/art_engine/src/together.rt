@@ -1,6 +1,6 @@
-//! Pairs of a span, of which many are read at a time. The leaves are linked, so that one is read after another. But
-//! then the bytes of all their keys and values are asked for together, and the processor waits for them at once.
-ghost use Rattle.std.specs.Prelude.{◌≡◌, ◌+◌, ◌<◌, ◌≤◌, ℕ, List, None, [], drop, length, option_map, take};
+//! Pairs of a map, of which many are read at a time. The leaves are linked, so that one is read after another. But then
+//! the bytes of all their keys and values are asked for together, and the processor waits for them at once.
+ghost use Rattle.std.specs.Prelude.{◌≡◌, ◌+◌, ◌<◌, ◌≤◌, ℕ, List, None, [], ⊤, drop, length, option_map, take};
 ghost use Rattle.std.specs.Global.{Vec};
 ghost use Rattle.std.specs.Map.Iter.{deref_pair};
 ghost use Rattle.art_walks.specs.MapReads.{IsSameMap, IsSpan};
@@ -8,10 +8,69 @@ ghost use Rattle.art_engine.specs.Counts.{GrewBy};
 ghost use Rattle.art_engine.specs.Spans.{pending, pending_all, IsClosed, span_pairs};
 
 use art_bytes::AsBytes;
-use art_walks::{MapReader, ReadSpan};
+use art_walks::{Iter, MapReader, ReadSpan};
 
 /// How many pairs are read at a time.
 const MOST: usize = 8;
+
+/// What gives the pairs of a map one after another, from a place on.
+pub(crate) trait GivesPairs<'a, K, P> {
+    /// The pairs from a place on.
+    ghost left: { Self → P → List (K × Vec ℕ) };
+
+    /// Whether this is a place of it.
+    ghost is_place: { Self → P → Type 0 };
+
+    /// Whether the same is read as before.
+    ghost is_same: { Self → Self → Type 0 };
+
+    /// Whether its count grew by so many from a first one.
+    ghost has_grown: { ℕ → ℕ → Self → Type 0 };
+
+    /// The pair at a place, if there is one. The place goes on behind it.
+    fn give(&mut self, place: &mut P) -> Option<(&'a K, &'a Vec<u8>)>
+        requires place { is_place self.old place.old }
+        ensures gives { left self.old place.old ≡ pending (option_map deref_pair result) (left self.new place.new) }
+        ensures ended { result ≡ None → left self.new place.new ≡ [] }
+        ensures place { is_place self.new place.new }
+        ensures kept { (first : Self) → is_same first self.old → is_same first self.new }
+        ensures counts { (given first : ℕ) → has_grown given first self.old
+            → has_grown (given + length (pending (option_map deref_pair result) [])) first self.new };
+}
+
+/// A reader gives the pairs of a span, and counts each.
+impl<'a, K: AsBytes, const PREFIX_LEN: usize> GivesPairs<'a, K, ReadSpan>
+    for MapReader<'a, K, Vec<u8>, PREFIX_LEN> {
+    ghost left = { λ map span. span_pairs map.nodes span };
+
+    ghost is_place = { λ map span. IsSpan map.nodes span };
+
+    ghost is_same = { λ first map. IsSameMap first map };
+
+    ghost has_grown = { λ given first map. GrewBy given first map.count };
+
+    #[inline(always)]
+    fn give(&mut self, span: &mut ReadSpan) -> Option<(&'a K, &'a Vec<u8>)> {
+        self.next(span)
+    }
+}
+
+/// A walk gives the pairs that it has still to give, wherever it is told to begin.
+impl<'a, K: AsBytes, const PREFIX_LEN: usize> GivesPairs<'a, K, ()>
+    for Iter<'a, K, Vec<u8>, PREFIX_LEN> {
+    ghost left = { λ pairs _. pairs };
+
+    ghost is_place = { λ _ _. ⊤ };
+
+    ghost is_same = { λ _ _. ⊤ };
+
+    ghost has_grown = { λ _ _ _. ⊤ };
+
+    #[inline(always)]
+    fn give(&mut self, _place: &mut ()) -> Option<(&'a K, &'a Vec<u8>)> {
+        self.next()
+    }
+}
 
 /// The pairs that were read and not given yet: those from one place up to another. Where there was none, there is none
 /// behind it.
@@ -24,12 +83,14 @@ pub(crate) struct Together<'a, K> {
 }
 
 /// A byte that can't be told without having read the bytes of these pairs, so that no compiler leaves the reads out.
-fn first_bytes<K: AsBytes>(pairs: &[Option<(&K, &Vec<u8>)>]) -> u8 {
+fn end_bytes<K: AsBytes>(pairs: &[Option<(&K, &Vec<u8>)>]) -> u8 {
     let mut seen = 0;
     for pair in pairs {
         if let Some((key, value)) = *pair {
-            let (key, value) = (key.as_bytes().first().copied(), value.first().copied());
-            seen ^= key.unwrap_or_default() ^ value.unwrap_or_default();
+            let bytes = key.as_bytes();
+            for end in [bytes.first(), bytes.last(), value.first()] {
+                seen ^= end.copied().unwrap_or_default();
+            }
         }
     }
     seen
@@ -41,6 +102,7 @@ fn end_behind<K>(pair: Option<(&K, &Vec<u8>)>, at: usize, end: usize) -> usize
     requires { at < end }
     ensures least { at < result }
     ensures most { result ≤ end }
+    ensures none { pair.entry ≡ None → result ≡ at + 1 }
 {
     match pair {
         Some(_) => end,
@@ -49,27 +111,27 @@ fn end_behind<K>(pair: Option<(&K, &Vec<u8>)>, at: usize, end: usize) -> usize
 }
 
 /// Reads the next pairs into these places, up to the first that is none, and returns how many places that are.
-fn read_all<'a, K: AsBytes, const PREFIX_LEN: usize>(
+fn read_all<'a, K, P, R: GivesPairs<'a, K, P>>(
     pairs: &mut [Option<(&'a K, &'a Vec<u8>)>],
-    records: &mut MapReader<'a, K, Vec<u8>, PREFIX_LEN>,
-    span: &mut ReadSpan,
+    records: &mut R,
+    place: &mut P,
 ) -> usize
     requires some { 0 < length pairs.old }
-    requires span { IsSpan records.old.nodes span.old }
+    requires place { R.is_place records.old place.old }
     ensures some { 0 < result }
     ensures within { result ≤ length pairs.new }
     ensures length { length pairs.new ≡ length pairs.old }
-    ensures gives { span_pairs records.old.nodes span.old
-        ≡ pending_all deref_pair (take result pairs.new) (span_pairs records.new.nodes span.new) }
-    ensures span { IsSpan records.new.nodes span.new }
-    ensures closed { IsClosed deref_pair (take result pairs.new) (span_pairs records.new.nodes span.new) }
-    ensures kept { IsSameMap records.old records.new }
-    ensures counts { (given first : ℕ) → GrewBy given first records.old.count
-        → GrewBy (given + length (pending_all deref_pair (take result pairs.new) [])) first records.new.count }
+    ensures gives { R.left records.old place.old
+        ≡ pending_all deref_pair (take result pairs.new) (R.left records.new place.new) }
+    ensures place { R.is_place records.new place.new }
+    ensures closed { IsClosed deref_pair (take result pairs.new) (R.left records.new place.new) }
+    ensures kept { (first : R) → R.is_same first records.old → R.is_same first records.new }
+    ensures counts { (given first : ℕ) → R.has_grown given first records.old
+        → R.has_grown (given + length (pending_all deref_pair (take result pairs.new) [])) first records.new }
 {
     let (mut len, mut end) = (0, pairs.len());
     'pairs: while len < end {
-        let pair = records.next(span);
+        let pair = records.give(place);
         end = end_behind(pair, len, end);
         pairs[len] = pair;
         len += 1;
@@ -98,34 +160,34 @@ impl<'a, K: AsBytes> Together<'a, K> {
 
     /// The next pair, if there is one: of those that were read, or of the next ones, which then are read.
     #[inline]
-    pub(crate) fn next<const PREFIX_LEN: usize>(
+    pub(crate) fn next<P, R: GivesPairs<'a, K, P>>(
         &mut self,
-        records: &mut MapReader<'a, K, Vec<u8>, PREFIX_LEN>,
-        span: &mut ReadSpan,
+        records: &mut R,
+        place: &mut P,
     ) -> Option<(&'a K, &'a Vec<u8>)>
         requires within { self.old.len ≤ 8 }
-        requires span { IsSpan records.old.nodes span.old }
+        requires place { R.is_place records.old place.old }
         requires closed { IsClosed deref_pair (drop self.old.at (take self.old.len self.old.pairs))
-            (span_pairs records.old.nodes span.old) }
+            (R.left records.old place.old) }
         ensures within { self.new.len ≤ 8 }
         ensures gives { pending_all deref_pair (drop self.old.at (take self.old.len self.old.pairs))
-            (span_pairs records.old.nodes span.old) ≡ pending (option_map deref_pair result)
+            (R.left records.old place.old) ≡ pending (option_map deref_pair result)
             (pending_all deref_pair (drop self.new.at (take self.new.len self.new.pairs))
-            (span_pairs records.new.nodes span.new)) }
+            (R.left records.new place.new)) }
         ensures ended { result ≡ None → pending_all deref_pair (drop self.new.at (take self.new.len self.new.pairs))
-            (span_pairs records.new.nodes span.new) ≡ [] }
-        ensures span { IsSpan records.new.nodes span.new }
+            (R.left records.new place.new) ≡ [] }
+        ensures place { R.is_place records.new place.new }
         ensures closed { IsClosed deref_pair (drop self.new.at (take self.new.len self.new.pairs))
-            (span_pairs records.new.nodes span.new) }
-        ensures kept { IsSameMap records.old records.new }
-        ensures counts { (given first : ℕ) → GrewBy (given
+            (R.left records.new place.new) }
+        ensures kept { (first : R) → R.is_same first records.old → R.is_same first records.new }
+        ensures counts { (given first : ℕ) → R.has_grown (given
             + length (pending_all deref_pair (drop self.old.at (take self.old.len self.old.pairs)) [])) first
-            records.old.count → GrewBy (given + length (pending (option_map deref_pair result)
+            records.old → R.has_grown (given + length (pending (option_map deref_pair result)
             (pending_all deref_pair (drop self.new.at (take self.new.len self.new.pairs)) []))) first
-            records.new.count }
+            records.new }
     {
         if self.at >= self.len {
-            self.fill(records, span);
+            self.fill(records, place);
             return self.take_next();
         }
         self.take_next()
@@ -159,27 +221,22 @@ impl<'a, K: AsBytes> Together<'a, K> {
 
     /// Reads the next pairs.
     #[inline(never)]
-    fn fill<const PREFIX_LEN: usize>(
-        &mut self,
-        records: &mut MapReader<'a, K, Vec<u8>, PREFIX_LEN>,
-        span: &mut ReadSpan,
-    )
-        requires span { IsSpan records.old.nodes span.old }
+    fn fill<P, R: GivesPairs<'a, K, P>>(&mut self, records: &mut R, place: &mut P)
+        requires place { R.is_place records.old place.old }
         ensures at { self.new.at ≡ 0 }
         ensures some { 0 < self.new.len }
         ensures within { self.new.len ≤ 8 }
-        ensures gives { span_pairs records.old.nodes span.old
-            ≡ pending_all deref_pair (take self.new.len self.new.pairs) (span_pairs records.new.nodes span.new) }
-        ensures span { IsSpan records.new.nodes span.new }
-        ensures closed { IsClosed deref_pair (take self.new.len self.new.pairs)
-            (span_pairs records.new.nodes span.new) }
-        ensures kept { IsSameMap records.old records.new }
-        ensures counts { (given first : ℕ) → GrewBy given first records.old.count
-            → GrewBy (given + length (pending_all deref_pair (take self.new.len self.new.pairs) [])) first
-            records.new.count }
+        ensures gives { R.left records.old place.old
+            ≡ pending_all deref_pair (take self.new.len self.new.pairs) (R.left records.new place.new) }
+        ensures place { R.is_place records.new place.new }
+        ensures closed { IsClosed deref_pair (take self.new.len self.new.pairs) (R.left records.new place.new) }
+        ensures kept { (first : R) → R.is_same first records.old → R.is_same first records.new }
+        ensures counts { (given first : ℕ) → R.has_grown given first records.old
+            → R.has_grown (given + length (pending_all deref_pair (take self.new.len self.new.pairs) [])) first
+            records.new }
     {
         self.at = 0;
-        self.len = read_all(&mut self.pairs[..], records, span);
-        self.seen ^= first_bytes(&self.pairs[..self.len]);
+        self.len = read_all(&mut self.pairs[..], records, place);
+        self.seen ^= end_bytes(&self.pairs[..self.len]);
     }
 }

@@ -3,8 +3,6 @@
 #![tactic(auto)]
 
 #[cfg(test)]
-mod ahead;
-#[cfg(test)]
 mod calling;
 #[cfg(test)]
 mod calls;

@@ -2,7 +2,6 @@
 //! map that is large enough, and not for a while where it doesn't pay.
 ghost use Rattle.std.specs.Prelude.{◌≤◌};
 
-use crate::ahead::is_filled;
 use arrayvec::ArrayVec;
 use art_engine::upcoming::{FEW, LINES, Upcoming};
 use art_lines::command::fields::NUMBER_KEY;
@@ -11,6 +10,25 @@ use std::alloc::Global;
 
 /// Lines, as many as are looked at.
 type Text = ArrayVec<u8, 1024>;
+
+/// Puts so many keys in a map, each of four sevens and a number, spread by a factor.
+fn is_filled<const PREFIX_LEN: usize>(
+    alloc: Global,
+    map: &mut TreeMap<Vec<u8>, Vec<u8>, PREFIX_LEN>,
+    count: u64,
+    factor: u64,
+) -> bool {
+    let mut is_filled = true;
+    for i in 0..count {
+        let mut bytes = [7; 12];
+        bytes[4..].copy_from_slice(&i.wrapping_mul(factor).to_be_bytes());
+        is_filled &= match Vec::from_slice(alloc, &bytes) {
+            Ok(key) => map.try_insert(key, Vec::new(alloc)).is_ok(),
+            Err(_) => false,
+        };
+    }
+    is_filled
+}
 
 /// A line with this word and, in digits, the four bytes of a tenant and the key that `is_filled` gives a number.
 fn put_line(text: &mut Text, word: &[u8], number: u64) {
@@ -76,7 +94,7 @@ fn is_row_gone<const PREFIX_LEN: usize>(
 {
     let (count, factor) = row;
     let mut map: TreeMap<Vec<u8>, Vec<u8>, PREFIX_LEN> = TreeMap::with_prefix_len(alloc);
-    is_filled(alloc, &mut map, count, factor, 4)
+    is_filled(alloc, &mut map, count, factor)
         && do_ways_end(alloc, &map, numbers, count.min(10), factor)
 }
 
@@ -169,7 +187,7 @@ fn are_grouped<const PREFIX_LEN: usize>(
     let mut upcoming = Upcoming::new(alloc);
     let small = count_ahead(&mut upcoming, map, numbers, 0, 20) == 0;
     small
-        && is_filled(alloc, map, FEW as u64, 1, 4)
+        && is_filled(alloc, map, FEW as u64, 1)
         && count_ahead(&mut upcoming, map, numbers, 0, 20) == 20
         && count_ahead(&mut upcoming, map, numbers, 0, 3) == 0
         && count_ahead(&mut upcoming, map, numbers, FEW as u64, 16 + 128) == LINES as u64
@@ -190,7 +208,7 @@ fn are_read_ahead<const PREFIX_LEN: usize>(
     }
     fill_numbers(alloc, numbers, 300);
     are_gone
-        && is_filled(alloc, map, 150, 1, 4)
+        && is_filled(alloc, map, 150, 1)
         && are_lines_read(alloc, map, numbers)
         && are_grouped(alloc, map, numbers)
 }

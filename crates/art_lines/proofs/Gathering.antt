@@ -112,16 +112,6 @@ head_put tenant len at behind text old new room head put =
 pub line_by_head : (tenant : ℕ) (key value : List ℕ) → head_of tenant ++ (shown (bytes key) ++ (32 ∷ [] ++ (shown (bytes value) ++ 10 ∷ []))) ≡ line_of (put_words tenant key value)
 line_by_head tenant key value = ap (λ t. codes "put " ++ t) (append_assoc (decimal tenant) (32 ∷ []) _) ∙ put_parts tenant tenant key value refl
 
--- how long the line of a record is
-pub length-line : (number tenant : ℕ) (key value : List ℕ) → number ≡ tenant
-    → length (line_of (put_words tenant key value)) ≡ 4 + length (decimal number) + 1 + length (shown (bytes key)) + 1 + length (shown (bytes value)) + 1
-length-line number tenant key value same =
-    let whole = ap length (put_parts number tenant key value same) in
-    let first = length-append (decimal number) (32 ∷ (shown (bytes key) ++ 32 ∷ (shown (bytes value) ++ 10 ∷ []))) in
-    let second = length-append (shown (bytes key)) (32 ∷ (shown (bytes value) ++ 10 ∷ [])) in
-    let third = length-append (shown (bytes value)) (10 ∷ []) in
-    omega arith
-
 -- how long a line of a word and bytes is
 pub length-found : (word value : List ℕ) → length (line_of (name word ∷ bytes value ∷ [])) ≡ length word + 1 + length (shown (bytes value)) + 1
 length-found word value =

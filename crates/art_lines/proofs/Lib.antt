@@ -11,4 +11,3 @@ pub mod DigitPairs
 pub mod Spelling
 pub mod DigitGroups
 pub mod Buffering
-pub mod Walks

@@ -1,5 +1,5 @@
 -- What the parser's steps say of the definitions.
-use Rattle.std.proofs.Common.{◌≡◌, ℕ, zero, suc, ◌+◌, ◌-◌, ◌*◌, ◌/◌, ◌^◌, ◌<◌, ◌≤◌, List, [], ◌∷◌, ◌++◌, length, take, drop, get_or, append_assoc, append-nil, length-append, refl, ap, sym, ◌∙◌, Bool, true, false, cond, arith, add-one, Some, None, Option, Ok, Err, Result, IsOk, OnOk, drop_of_length-le}
+use Rattle.std.proofs.Common.{◌≡◌, ℕ, zero, suc, ◌+◌, ◌-◌, ◌/◌, ◌^◌, ◌<◌, ◌≤◌, List, [], ◌∷◌, ◌++◌, length, take, drop, get_or, append_assoc, append-nil, length-append, refl, ap, sym, ◌∙◌, Bool, true, false, cond, arith, add-one, Some, None, Option, Ok, Err, Result, IsOk, OnOk, drop_of_length-le}
 use Rattle.std.specs.Prelude.{◌==◌, decimal, nat_lt, nat_le, ◌&&◌, codes, IfSome}
 use Rattle.std.specs.List.{onto_first}
 use Rattle.std.specs.Str.{bytes_eq}
@@ -7,7 +7,7 @@ use Rattle.std.proofs.lemmas.Bool.{ne_eqb, eq-eqb}
 use Rattle.std.proofs.lemmas.List.{take_rest, length-take}
 use Rattle.std.specs.List.{refill}
 use Rattle.std.specs.Prelude.{MatchBool, is_ok}
-use Rattle.std.proofs.Math.Seq.{drop-cons, take-append_seam, drop-append_seam}
+use Rattle.std.proofs.Math.Seq.{take-append_seam, drop-append_seam}
 use Rattle.std.specs.Str.Parse.{digits_value, digits_value_after, AllDigits}
 use Rattle.std.specs.Char.{digit_value}
 use Rattle.std.proofs.lemmas.Bool.{lt-leb, le-leb, leb-true, true≢false, cases_lt, ltb-true, lt-ltb, le-ltb}
@@ -124,12 +124,6 @@ natural_other text i h other = no_natural (2 ^ 63 + 1) text (λ n lt e.
 
 digit_is : (b : ℕ) → 48 ≤ b → b ≤ 57 → digit_value b ≡ b - 48
 digit_is b low high = let below : b < 58 = omega arith in rw (le-ltb b 48 low, lt-ltb b 58 below) refl
-
-pub read_more : (text : List ℕ) (i number b v : ℕ) → i < length text → get_or text i 0 ≡ b → 48 ≤ b → b ≤ 57
-    → digits_value_after 10 number (drop i text) ≡ v → digits_value_after 10 (number * 10 + (b - 48)) (drop (i + 1) text) ≡ v
-read_more text i number b v h here low high e =
-    let cell : drop i text ≡ b ∷ drop (i + 1) text = drop-cons text i 0 h ∙ ap (λ x. x ∷ drop (suc i) text) here ∙ ap (λ k. b ∷ drop k text) (sym (add-one i)) in
-    ap (λ d. digits_value_after 10 (number * 10 + d) (drop (i + 1) text)) (sym (digit_is b low high)) ∙ ap (digits_value_after 10 number) (sym cell) ∙ e
 
 all_digits : (text : List ℕ) → ((k : ℕ) → k < length text → (48 ≤ get_or text k 0) × (get_or text k 0 ≤ 57)) → AllDigits 10 text
 all_digits [] h = tt

@@ -12,7 +12,7 @@ abbrev pub reader_of : {R : Type 0} → FromReader R → R
 reader_of s = s.reader
 
 abbrev pub bytes_given : {R : Type 0} → FromReader R → List ℕ
-bytes_given s = s.given.bytes
+bytes_given s = s.given.items
 
 abbrev pub has_run_out : {R : Type 0} → FromReader R → Bool
 has_run_out s = s.ended
@@ -28,7 +28,7 @@ abbrev pub writer_of : {W : Type 0} → ToWriter W → W
 writer_of s = s.writer
 
 abbrev pub bytes_taken : {W : Type 0} → ToWriter W → List ℕ
-bytes_taken s = s.taken.bytes
+bytes_taken s = s.taken.items
 
 abbrev pub has_write_failed : {W : Type 0} → ToWriter W → Bool
 has_write_failed s = s.failed

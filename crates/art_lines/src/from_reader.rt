@@ -4,8 +4,8 @@ ghost use Rattle.std.specs.Prelude.{IfOk, OnErr, Ok, false};
 ghost use Rattle.std.specs.Io.KnownBytes.{Consumes, Keeps, IsAtEnd};
 ghost use Rattle.art_lines.specs.Ends.{reader_of, bytes_given, has_run_out, has_read_failed, reads_to_come};
 
-use crate::history::{History, Piece};
 use crate::stream::{ReadFailed, Source};
+use art_bytes::{History, Piece};
 use std::io::Read;
 
 /// A reader as a source. Any error is the failure, and a read of no byte is the end. Neither is tried again, so no

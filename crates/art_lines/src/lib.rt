@@ -11,7 +11,6 @@ pub mod command;
 mod from_reader;
 pub mod gather;
 pub mod head;
-mod history;
 pub mod laws;
 pub mod reply;
 pub mod room;

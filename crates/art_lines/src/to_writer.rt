@@ -4,8 +4,8 @@ ghost use Rattle.std.specs.Prelude.{false};
 ghost use Rattle.std.specs.Io.KnownBytes.{WriteAppends};
 ghost use Rattle.art_lines.specs.Ends.{writer_of, bytes_taken, has_write_failed};
 
-use crate::history::{History, Piece};
 use crate::stream::{Sink, WriteFailed};
+use art_bytes::{History, Piece};
 use std::io::Write;
 
 /// A writer as a sink. Any error is the failure, and so is a write that takes nothing of a piece. Neither is tried

@@ -4,7 +4,7 @@ use Rattle.std.proofs.lemmas.List.{append-nil, map-append}
 use Rattle.std.proofs.Math.Logic.{∥∥₁_elim, ∥∥₁_map}
 use Rattle.std.specs.Prelude.{MatchOption, option_map}
 use Rattle.art_nodes.specs.Name.{Name}
-use Rattle.art_arena.specs.arena.Arena.{node_at, links_at, held_at}
+use Rattle.art_arena.specs.arena.Arena.{node_at, links_at}
 use Rattle.art_arena.specs.arena.Cells.{Cell, pair, branches, leaf_name}
 use Rattle.art_arena.specs.arena.Linked.{first_slot, IsList}
 use Rattle.art_arena.specs.arena.Shapes.{LeafAt, pairs_of}
@@ -17,11 +17,10 @@ use Rattle.art_arena.proofs.tree.Order.{all_left, all_right}
 use Rattle.art_operations.specs.Deletions.{HasLeaves, IsAmong}
 use Rattle.art_operations.specs.Pairs.{IsAtEnd}
 use Rattle.art_operations.proofs.LeafPairs.{leaf_pair}
-use Rattle.art_operations.proofs.NamedLeaves.{held-some}
 use Rattle.art_walks.specs.Runs.{Ends, HasEnds, IsWalk}
 use Rattle.art_walks.specs.Walked.{AreStored, pairs_left}
 use Rattle.art_walks.proofs.RunLengths.{run-pairs}
-use Rattle.art_map.specs.Contents.{Contents, HasLeafAt, first_item, last_item}
+use Rattle.art_map.specs.Contents.{Contents, first_item, last_item}
 use Rattle.art_map.specs.Found.{HasPairAt}
 use Rattle.art_arena.proofs.shapes.LinkedLists.{ends_with-first}
 use Rattle.art_map.specs.Leaves.{AreLeaves, IsRun, IsNextAt, slot_at, with_end, with_value_where}
@@ -237,10 +236,6 @@ module _ {K V : Type 0} (bytes : K → List ℕ) (P : ℕ) where
               let it = the-pair m slot (λ p. IsAtEnd end p (pairs_left m.nodes new) (pairs_left m.nodes old)) (λ p. end-prop sets end p _ _) (∥∥₁_map some (λ r. taken-at r (some-end slot e r) slot e)) in
               (it.0, pairs_left m.nodes new, it.1, it.2)
 
-    -- the leaf that was stepped over is there
-    pub has-leaf : (slot : ℕ) (p : K × V) → HasPairAt m slot p → HasLeafAt m slot
-    has-leaf slot p has = held-some (held_at m.nodes (leaf_name slot)) _ has
-
   -- once the leaf is taken out of the map
   module _ (m n : Contents K V) (end : End) (slot : ℕ) (ends : Ends) where
     module _ (gone : (ls : List (LeafAt K V)) → AreLeaves bytes P m ls → (there : IsAmong slot ls) → AreLeaves bytes P n (there.front ++ there.back)) where
@@ -301,10 +296,6 @@ module _ {K V : Type 0} (bytes : K → List ℕ) (P : ℕ) where
           let r = run-behind m end slot ends s in
           let all = r.front ++ (r.run ++ r.back) in
           subst (IsRun bytes P n) (sym e) (record { front = all; run = []; back = []; leaves = subst (AreLeaves bytes P n) (sym (append-nil all)) (kept all r.leaves); ends_are = refl }))
-
-  -- of no leaves none is left
-  pub empty-left : (n : Contents K V) (nowhere : Ends) → IsSet (List (K × V)) → nowhere ≡ None → ∥ IsRun bytes P n nowhere ∥₁ → pairs_left n.nodes nowhere ≡ []
-  empty-left n nowhere sets e some = ∥∥₁_elim some (sets _ _) (λ r. run-left n nowhere r ∙ ap pairs_of (subst (HasEnds r.run) e r.ends_are))
 
 -- The pair at an end, lent.
 module _ {K V : Type 0} (bytes : K → List ℕ) (P : ℕ) (m : Contents K V) where

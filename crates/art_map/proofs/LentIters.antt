@@ -39,19 +39,19 @@ module _ {K V : Type 0} (m : Contents K V) (ends : Ends) (run : ∥ IsRunIn m en
 module _ {K V : Type 0} {P : ℕ} {g : as_bytes.Ghosts K} (walk : IterMut K V P g) where
   -- what a walk remembers does not tell it from another
   abbrev Lands : V → IterMut K V P g → Option ℕ → Ends → Type 0
-  Lands w d o e = (valid : ∥ IsRunIn (with_lent_value walk.map.now o w) e ∥₁) (counted : walk.len - 1 ≡ leaves_left (with_lent_value walk.map.now o w).nodes e) → ◌≡◌ {A = IterMut K V P g} (record { map = record walk.map { now = with_lent_value walk.map.now o w }; leaves = e; len = walk.len - 1; valid = valid; counted = counted }) d
+  Lands w d o e = (valid : ∥ IsRunIn (with_lent_value walk.map.now o w) e ∥₁) (counted : walk.len - 1 ≡ leaves_left (with_lent_value walk.map.now o w).nodes e) → ◌≡◌ {A = IterMut K V P g} (record { map = record walk.map { now = with_lent_value walk.map.now o w }; leaves = e; len = walk.len - 1; ahead = walk.ahead; valid = valid; counted = counted }) d
 
   pub same-behind : (slot : ℕ) (new : Ends) → Some slot ≡ start_of walk.leaves → new ≡ left_behind walk.map.now walk.leaves → (w : V) → (valid : ∥ IsRunIn (with_value_at walk.map.now slot w) new ∥₁) (counted : walk.len - 1 ≡ leaves_left (with_value_at walk.map.now slot w).nodes new)
-      → ◌≡◌ {A = IterMut K V P g} (record { map = record walk.map { now = with_value_at walk.map.now slot w }; leaves = new; len = walk.len - 1; valid = valid; counted = counted }) (iter_behind walk w)
+      → ◌≡◌ {A = IterMut K V P g} (record { map = record walk.map { now = with_value_at walk.map.now slot w }; leaves = new; len = walk.len - 1; ahead = walk.ahead; valid = valid; counted = counted }) (iter_behind walk w)
   same-behind slot new first behind w =
       let d = iter_behind walk w in
-      at-end slot new (Lands w d) first behind (λ valid counted i. record { map = d.map; leaves = d.leaves; len = d.len; valid = ∥∥₁_prop valid d.valid i; counted = Coded-set coded_ℕ _ _ counted d.counted i })
+      at-end slot new (Lands w d) first behind (λ valid counted i. record { map = d.map; leaves = d.leaves; len = d.len; ahead = d.ahead; valid = ∥∥₁_prop valid d.valid i; counted = Coded-set coded_ℕ _ _ counted d.counted i })
 
   pub same-before : (slot : ℕ) (new : Ends) → Some slot ≡ end_of walk.leaves → new ≡ left_before walk.map.now walk.leaves → (w : V) → (valid : ∥ IsRunIn (with_value_at walk.map.now slot w) new ∥₁) (counted : walk.len - 1 ≡ leaves_left (with_value_at walk.map.now slot w).nodes new)
-      → ◌≡◌ {A = IterMut K V P g} (record { map = record walk.map { now = with_value_at walk.map.now slot w }; leaves = new; len = walk.len - 1; valid = valid; counted = counted }) (iter_before walk w)
+      → ◌≡◌ {A = IterMut K V P g} (record { map = record walk.map { now = with_value_at walk.map.now slot w }; leaves = new; len = walk.len - 1; ahead = walk.ahead; valid = valid; counted = counted }) (iter_before walk w)
   same-before slot new last before w =
       let d = iter_before walk w in
-      at-end slot new (Lands w d) last before (λ valid counted i. record { map = d.map; leaves = d.leaves; len = d.len; valid = ∥∥₁_prop valid d.valid i; counted = Coded-set coded_ℕ _ _ counted d.counted i })
+      at-end slot new (Lands w d) last before (λ valid counted i. record { map = d.map; leaves = d.leaves; len = d.len; ahead = d.ahead; valid = ∥∥₁_prop valid d.valid i; counted = Coded-set coded_ℕ _ _ counted d.counted i })
 
   -- the pair that is lent
   module _ (slot : ℕ) (new : Ends) (p : K × V) (pairs : (w : V) → (with_value_at walk.map.now slot w).pairs ≡ with_pair_put g.bytes p.0 w walk.map.now.pairs) where

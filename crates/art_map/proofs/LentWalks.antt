@@ -43,19 +43,19 @@ LendsAt {K} {V} bytes m ends order p o e =
 module _ {K V : Type 0} {P : ℕ} {g : as_bytes.Ghosts K} (walk : RangeMut K V P g) where
   -- what a walk remembers does not tell it from another
   abbrev Lands : V → RangeMut K V P g → Option ℕ → Ends → Type 0
-  Lands w d o e = (valid : ∥ IsRunIn (with_lent_value walk.map.now o w) e ∥₁) → ◌≡◌ {A = RangeMut K V P g} (record { map = record walk.map { now = with_lent_value walk.map.now o w }; leaves = e; valid = valid }) d
+  Lands w d o e = (valid : ∥ IsRunIn (with_lent_value walk.map.now o w) e ∥₁) → ◌≡◌ {A = RangeMut K V P g} (record { map = record walk.map { now = with_lent_value walk.map.now o w }; leaves = e; ahead = walk.ahead; valid = valid }) d
 
   pub same-behind : (slot : ℕ) (new : Ends) → Some slot ≡ start_of walk.leaves → new ≡ left_behind walk.map.now walk.leaves → (w : V) → (valid : ∥ IsRunIn (with_value_at walk.map.now slot w) new ∥₁)
-      → ◌≡◌ {A = RangeMut K V P g} (record { map = record walk.map { now = with_value_at walk.map.now slot w }; leaves = new; valid = valid }) (range_behind walk w)
+      → ◌≡◌ {A = RangeMut K V P g} (record { map = record walk.map { now = with_value_at walk.map.now slot w }; leaves = new; ahead = walk.ahead; valid = valid }) (range_behind walk w)
   same-behind slot new first behind w =
       let d = range_behind walk w in
-      at-end slot new (Lands w d) first behind (λ valid i. record { map = d.map; leaves = d.leaves; valid = ∥∥₁_prop valid d.valid i })
+      at-end slot new (Lands w d) first behind (λ valid i. record { map = d.map; leaves = d.leaves; ahead = d.ahead; valid = ∥∥₁_prop valid d.valid i })
 
   pub same-before : (slot : ℕ) (new : Ends) → Some slot ≡ end_of walk.leaves → new ≡ left_before walk.map.now walk.leaves → (w : V) → (valid : ∥ IsRunIn (with_value_at walk.map.now slot w) new ∥₁)
-      → ◌≡◌ {A = RangeMut K V P g} (record { map = record walk.map { now = with_value_at walk.map.now slot w }; leaves = new; valid = valid }) (range_before walk w)
+      → ◌≡◌ {A = RangeMut K V P g} (record { map = record walk.map { now = with_value_at walk.map.now slot w }; leaves = new; ahead = walk.ahead; valid = valid }) (range_before walk w)
   same-before slot new last before w =
       let d = range_before walk w in
-      at-end slot new (Lands w d) last before (λ valid i. record { map = d.map; leaves = d.leaves; valid = ∥∥₁_prop valid d.valid i })
+      at-end slot new (Lands w d) last before (λ valid i. record { map = d.map; leaves = d.leaves; ahead = d.ahead; valid = ∥∥₁_prop valid d.valid i })
 
   -- the pair that is lent
   module _ (slot : ℕ) (new : Ends) (p : K × V) (pairs : (w : V) → (with_value_at walk.map.now slot w).pairs ≡ with_pair_put g.bytes p.0 w walk.map.now.pairs) where

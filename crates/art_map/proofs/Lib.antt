@@ -1,4 +1,3 @@
-pub mod Walks
 pub mod Below
 pub mod Entries
 pub mod LentRuns

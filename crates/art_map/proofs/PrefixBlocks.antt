@@ -1,6 +1,5 @@
 -- The part of a map's tree whose keys begin with a prefix: it is found, room is made for its loss, and it is cut.
-use Rattle.std.proofs.Common.{◌≡◌, ℕ, ◌+◌, ◌-◌, ◌^◌, ◌<◌, min, not, List, [], ◌∷◌, length, map, Option, Some, None, Result, Ok, Err, IfOk, OnOk, refl, sym, ap, subst, ◌∙◌, inl, inr, arith}
-use Rattle.std.proofs.lemmas.Bool.{cases_Bool}
+use Rattle.std.proofs.Common.{◌≡◌, ℕ, ◌+◌, ◌-◌, ◌^◌, ◌<◌, min, not, List, [], ◌∷◌, length, map, Option, Some, None, Result, Ok, Err, IfOk, OnOk, refl, sym, ap, subst, ◌∙◌, arith}
 use mathlib.Core.HLevel.{⊥_prop}
 use mathlib.Core.Logic.{∥∥₁_elim}
 use Rattle.art_nodes.specs.Name.{Name}
@@ -9,7 +8,7 @@ use Rattle.art_arena.specs.arena.Linked.{first_slot}
 use Rattle.art_arena.specs.arena.Meaning.{IsSubtree}
 use Rattle.art_arena.specs.arena.Shapes.{Shape, LeafAt, leaves, pairs_of, key_of}
 use Rattle.art_arena.specs.arena.Steps.{steps_of}
-use Rattle.art_arena.specs.arena.Stores.{Stores, StoresBeside}
+use Rattle.art_arena.specs.arena.Stores.{StoresBeside}
 use Rattle.art_arena.specs.tree.Tenants.{begins_with, with_front, without_front}
 use Rattle.art_arena.proofs.shapes.Meanings.{nodes-subtree}
 use Rattle.art_arena.proofs.shapes.Subtrees.{some_leaf}
@@ -38,19 +37,14 @@ from-nothing : {X Y : Type 0} (f : X → Y) (xs : List X) → map f xs ≡ [] �
 from-nothing f [] e = refl
 from-nothing f (x ∷ xs) e = absurd (cc)
 
-module _ {X : Type 0} (key : X → List ℕ) (front : List ℕ) where
-  -- of those that are left none begins with the prefix
-  pub none-left : (xs : List X) → with_front key front (without_front key front xs) ≡ []
-  none-left [] = refl
-  none-left (x ∷ xs) = elim (cases_Bool (begins_with front (key x))) [ inl t ↦ rw t (none-left xs) | inr n ↦ rw (n, n) (none-left xs) ]
-
-  none-there : (xs : List X) → ∥ xs ≡ [] ∥₁ → xs ≡ []
-  none-there [] known = refl
-  none-there (x ∷ xs) known = absurd (∥∥₁_elim known ⊥_prop (λ e. cc))
+-- a list that is empty in truncated form is empty
+none-there : {X : Type 0} (xs : List X) → ∥ xs ≡ [] ∥₁ → xs ≡ []
+none-there [] known = refl
+none-there (x ∷ xs) known = absurd (∥∥₁_elim known ⊥_prop (λ e. cc))
 
 -- where there is no part, no pair begins with the prefix
 pub none-ready : {K V : Type 0} (bytes : K → List ℕ) (P : ℕ) (m : Contents K V) (front : List ℕ) (part : Option PreparedSubtreeDelete) → part ≡ None → ∥ IsReadyPart bytes P m front part ∥₁ → with_front (key_of bytes) front m.pairs ≡ []
-none-ready bytes P m front None is known = none-there (key_of bytes) front (with_front (key_of bytes) front m.pairs) known
+none-ready bytes P m front None is known = none-there (with_front (key_of bytes) front m.pairs) known
 none-ready bytes P m front (Some ready) is known = absurd (cc)
 
 -- and what was read is all that is counted
@@ -108,13 +102,6 @@ module _ {K V : Type 0} (bytes : K → List ℕ) (P : ℕ) (front : List ℕ) wh
       pub few-reads : (old new : ℕ) → OfTree bytes P arena top (λ s. ForLongest bytes s (λ longest. OpeningReads longest (length front) old new)) → (longest : ℕ) → PairsWithin bytes longest (pairs_from arena root) → OpeningReads longest (length front) old new
       few-reads old new few longest short =
           few has_top.0 (nodes-subtree bytes P (node_at arena) top has_top.0 has_top.1.nodes) longest (keys-within bytes P arena top (pairs_from arena root) ([], has_top) longest short)
-
-      pub tree-there : (s : Shape K V) × Stores bytes P arena top s
-      tree-there = (has_top.0, nodes-subtree bytes P (node_at arena) top has_top.0 has_top.1.nodes)
-
-    -- and where there is no tree
-    pub found-none : (root : Option Name) → root ≡ None → IsFoundPart bytes P (contents arena root) front None
-    found-none root is = rw is refl
 
     -- a part stands in the tree
     pub part-there : (root : Option Name) → IsMap bytes is_key P arena root → (point : SubtreeDeletePoint) → ∥ IsPrefixPart bytes P (contents arena root) front root point ∥₁

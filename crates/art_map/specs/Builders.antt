@@ -1,7 +1,12 @@
 -- A map in the making: what it has of the pairs that were put into it.
-use Rattle.std.specs.Prelude.{◌≡◌, ℕ, Bool, true, false, List, []}
+use Rattle.std.specs.Prelude.{◌≡◌, ℕ, cond, List, [], map, Option, MatchBool, MatchResult, Result}
+use Rattle.std.specs.Iterator.{Drains}
 use Rattle.std.specs.List.{AllByRecursion}
+use Rattle.art_arena.specs.arena.Arena.{Arena}
 use Rattle.art_operations.specs.Builders.{Builds}
+use Rattle.art_operations.specs.declared.insert.result.InsertRefused.{InsertRefused}
+use Rattle.art_map.specs.Asked.{with_pairs_put}
+use Rattle.art_map.specs.Bulk.{HandsNextBack}
 use Rattle.art_map.specs.declared.map.builder.TreeMapBuilder.{TreeMapBuilder}
 
 module _ {K V : Type 0} {P : ℕ} (bytes : K → List ℕ) (is_key : K → Type 0) where
@@ -10,11 +15,22 @@ module _ {K V : Type 0} {P : ℕ} (bytes : K → List ℕ) (is_key : K → Type 
   HasGatheredInOrder b pairs =
       Builds bytes P b.arena b.builder pairs × AllByRecursion (λ p. is_key p.0) pairs × (b.map.pairs ≡ [])
 
-  -- as long as they came in order, a tree of the pairs is being built; else the map has them
-  abbrev pub HasGatheredBy : Bool → TreeMapBuilder K V P → List (K × V) → Type 0
-  HasGatheredBy true b pairs = HasGatheredInOrder b pairs
-  HasGatheredBy false b pairs = b.map.pairs ≡ pairs
-
-  -- a map in the making has these pairs
+  -- a map in the making has these pairs: a tree of them is being built, as long as they came in order; else the map has
+  -- them
   abbrev pub HasGathered : TreeMapBuilder K V P → List (K × V) → Type 0
-  HasGathered b pairs = HasGatheredBy b.in_order b pairs
+  HasGathered b pairs = MatchBool b.in_order (HasGatheredInOrder b pairs) (b.map.pairs ≡ pairs)
+
+-- the nodes that hold the pairs of a map in the making
+abbrev pub nodes_of : {K V : Type 0} {P : ℕ} → TreeMapBuilder K V P → Arena K V
+nodes_of b = cond b.in_order b.arena b.map.nodes
+
+-- Whatever pairs the map in the making had, those of the items that came were put in behind each other: of all items,
+-- or of those before one that was refused and is handed back.
+abbrev pub GathersWith : {K V U S A : Type 0} {P : ℕ} → (K → List ℕ) → (K → Type 0) → (A → K × V) → (U → S → Type 0)
+    → (S → Option A → S → Type 0) → U → TreeMapBuilder K V P → Result (Unit {0}) (InsertRefused K V)
+    → TreeMapBuilder K V P → Type 0
+GathersWith {K} {V} {U} {S} {A} bytes is_key pair_of becomes steps iter old result new =
+    (it : S) × (given : List A) × becomes iter it
+    × ((pairs : List (K × V)) → HasGathered bytes is_key old pairs
+    → HasGathered bytes is_key new (with_pairs_put bytes (map pair_of given) pairs))
+    × MatchResult result (λ _. Drains steps it given) (HandsNextBack bytes pair_of becomes steps it given)

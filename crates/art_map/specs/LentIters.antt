@@ -18,7 +18,7 @@ module _ {K V : Type 0} {P : ℕ} {g : as_bytes.Ghosts K} where
 
   -- the walk behind its first pair, and before its last, once w is the value of that pair
   abbrev pub iter_behind : IterMut K V P g → V → IterMut K V P g
-  iter_behind walk w = record {
+  iter_behind walk w = record walk {
     map = record walk.map { now = with_lent_value walk.map.now (start_of walk.leaves) w };
     leaves = left_behind walk.map.now walk.leaves;
     len = walk.len - 1;
@@ -27,7 +27,7 @@ module _ {K V : Type 0} {P : ℕ} {g : as_bytes.Ghosts K} where
   }
 
   abbrev pub iter_before : IterMut K V P g → V → IterMut K V P g
-  iter_before walk w = record {
+  iter_before walk w = record walk {
     map = record walk.map { now = with_lent_value walk.map.now (end_of walk.leaves) w };
     leaves = left_before walk.map.now walk.leaves;
     len = walk.len - 1;

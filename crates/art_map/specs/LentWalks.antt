@@ -31,14 +31,14 @@ module _ {K V : Type 0} {P : ℕ} {g : as_bytes.Ghosts K} where
 
   -- the walk behind its first pair, and before its last, once w is the value of that pair
   abbrev pub range_behind : RangeMut K V P g → V → RangeMut K V P g
-  range_behind walk w = record {
+  range_behind walk w = record walk {
     map = record walk.map { now = with_lent_value walk.map.now (start_of walk.leaves) w };
     leaves = left_behind walk.map.now walk.leaves;
     valid = still_behind walk.map.now walk.leaves walk.valid w;
   }
 
   abbrev pub range_before : RangeMut K V P g → V → RangeMut K V P g
-  range_before walk w = record {
+  range_before walk w = record walk {
     map = record walk.map { now = with_lent_value walk.map.now (end_of walk.leaves) w };
     leaves = left_before walk.map.now walk.leaves;
     valid = still_before walk.map.now walk.leaves walk.valid w;

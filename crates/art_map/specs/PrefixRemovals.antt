@@ -14,7 +14,7 @@ module _ {K V : Type 0} {P : ℕ} {M : Type 0} {g : as_bytes.Ghosts K} where
 
   -- the prefix
   abbrev pub removal_prefix : PrefixRemoval K V P M g → List ℕ
-  removal_prefix r = r.front.bytes
+  removal_prefix r = r.front.items
 
   -- how many nodes were read to find the keys behind it
   abbrev pub removal_reads : PrefixRemoval K V P M g → ℕ

@@ -10,16 +10,6 @@ use Rattle.art_nodes.specs.InnerNode.{IsAscendingFrom, is_from, is_to, children_
 use Rattle.art_nodes.specs.inner.Place.{place, children_within, bytes_within, IsFirstFrom, IsLastBelow}
 use Rattle.art_nodes.specs.inner.Table.{bytes_of}
 
-pub place-drop : (ks : List ℕ) (from to : ℕ) → from ≤ to → place (drop (place ks from) ks) to ≡ place ks to - place ks from
-place-drop [] from to h = refl
-place-drop (k ∷ ks) from to h = elim (leb_tells (suc k) from) [
-  | inl below ↦ elim (leb_tells (suc k) to) [
-    | inl below_to ↦ let e : suc (place ks to) - suc (place ks from) ≡ place ks to - place ks from = omega arith in rw (below.0, below_to.0, e) (place-drop ks from to h)
-    | inr past ↦ absurd (omega (arith, past.1, below.1))
-  ]
-  | inr above ↦ rw above.0 (omega arith)
-]
-
 pub place-le : (ks : List ℕ) (from to : ℕ) → from ≤ to → place ks from ≤ place ks to
 place-le [] from to h = omega arith
 place-le (k ∷ ks) from to h = elim (leb_tells (suc k) from) [

@@ -36,7 +36,8 @@ use Rattle.art_operations.specs.declared.meeting.Parted.{Parted}
 use Rattle.art_operations.specs.inner.Meetings.{Meets}
 use Rattle.art_operations.specs.inner.Edits.{lone_leaf}
 use Rattle.art_operations.specs.inner.Rebuilding.{RebuildsUpTo}
-use Rattle.art_operations.specs.inner.Spines.{Level, begin, begin_of, opened, open_children, open_leaves, open_cells, open_at, AddsChild, IsOpen, AreOpen, IsSpine, HasSpine, PartsFromLast, IsEmptySpine}
+use Rattle.art_operations.specs.inner.Spines.{Level, begin, begin_of, opened, open_children, open_leaves, open_cells, open_at, AddsChild, IsOpen, AreOpen, IsSpine, HasSpine, IsEmptySpine}
+use Rattle.art_operations.proofs.InnerRooms.{no-room}
 use Rattle.art_operations.proofs.HeldPairs.{first-leaf}
 use Rattle.art_operations.proofs.KeyedLists.{before}
 use Rattle.art_operations.proofs.LeafPairs.{pairs-parts}
@@ -87,13 +88,6 @@ not-behind k key (meeting.Parts p) part above less =
     before_not_self key (before_trans key k key after less)
 
 module _ {K V : Type 0} (bytes : K → List ℕ) (P : ℕ) where
-  -- the leaves of ways nodes are those of their cells
-  times-of : (n : ℕ) (key : List ℕ) (levels : List (Level K V)) → AreOpen bytes key levels → times n (open_leaves levels) ≡ copies (leaf_name n) (open_cells P levels)
-  times-of n key [] ways = refl
-  times-of n key (l ∷ outer) ways =
-      let here = ways.0.under in
-      omega (arith, times-of n key outer ways.2, times-leaves_in bytes P n (take l.depth key) 0 l.kids here, times-append n (open_leaves outer) (leaves_in l.kids), copies-append (leaf_name n) (open_cells P outer) (cells_in P l.kids))
-
   -- the ways nodes on the way to the new last leaf, which isn't stored yet
   pub record Added (arena : Arena K V) (spine : Spine) (rest : List (Name × Cell K V)) (key : List ℕ) (ls : List (LeafAt K V)) : Type 0 where
     pub levels : List (Level K V)
@@ -188,56 +182,6 @@ module _ {K V : Type 0} (bytes : K → List ℕ) (P : ℕ) where
         (adds.stack ∙ ap₂ (λ b (o : List Open). open_at b (length was.children.items) o) behind_is spine.stack_is ∙ ap (λ (cs : List (ℕ × Name)). open_at (suc p.matched) (length cs) (opened spine.levels)) spine.children_are)
         (adds.children ∙ ap (λ cs. cs ++ (p.old_byte, root) ∷ []) spine.children_are) spine.holds spine.ways at spine.leaves_are
 
-  -- the last leaf stands beside those that are linked
-  module _ (before middle after : Arena K V) (spine : Spine) (key : K) (value : V) (ls : List (LeafAt K V)) (add : Added middle spine [] (bytes key) ls) (slot : ℕ) (same : SameLeaves before middle) (linked : AreLinked (links_at before) None ls None)
-      (allocates : Allocates middle after (leaf_name slot) (lone_leaf key value)) where
-    only : Holds (node_at middle) (open_cells P add.levels)
-    only = subst (Holds (node_at middle)) (append-nil (open_cells P add.levels)) add.holds
-
-    absent : copies (leaf_name slot) (open_cells P add.levels) ≡ 0
-    absent = copies-vacant (node_at middle) (open_cells P add.levels) (leaf_name slot) only (ap cell_of allocates.vacant)
-
-    counted : (n : ℕ) → times n ls ≡ copies (leaf_name n) (open_cells P add.levels)
-    counted n = ap (times n) (sym add.leaves_are) ∙ times-of n (bytes key) add.levels add.ways
-
-    pub pushed-beside : IsBeside (links_at after) ls slot
-    pushed-beside =
-        let update = links-update middle after slot _ allocates.updates in
-        let none : times slot ls ≡ 0 = counted slot ∙ absent in
-        let still = AreLinked-same (links_at before) (links_at middle) (λ n. ap links_of (same n)) None ls None linked in
-        record {
-          list = record {
-            linked = AreLinked-frame (links_at middle) (links_at after) slot _ update None ls None none still;
-            once = λ n. subst (λ m. m ≤ 1) (sym (counted n)) (at_most_one (node_at middle (leaf_name n)) _ (only.once (leaf_name n)));
-          };
-          apart = none;
-          held = rw update.changed refl;
-        }
-      where
-        at_most_one : (o : Option (Cell K V)) (n : ℕ) → n ≡ cond (is_some o) 1 0 → n ≤ 1
-        at_most_one None n e = omega (arith, e)
-        at_most_one (Some c) n e = omega (arith, e)
-
-    -- and is linked behind them
-    pub pushed : (linked_in : Arena K V) (pairs : List (K × V)) → SameCells after linked_in → AreLinked (links_at linked_in) None (ls ++ record { slot = slot; key = key; value = value } ∷ []) None
-        → AscendsByKey (key_of bytes) pairs → GoesBehind bytes (bytes key) pairs → pairs_of ls ≡ pairs → BuildsUpTo bytes P linked_in spine slot (pairs ++ (key, value) ∷ [])
-    pushed linked_in pairs same_cells links ascends behind pairs_are =
-        let nodes = nodes-update middle after (leaf_name slot) _ allocates.updates in
-        let added = Holds-add (node_at middle) (node_at after) (leaf_name slot) _ (open_cells P add.levels) [] nodes (ap cell_of allocates.vacant) add.holds in
-        let m : LeafAt K V = record { slot = slot; key = key; value = value } in
-        record {
-          key = key;
-          value = value;
-          levels = add.levels;
-          stack_is = add.stack_is;
-          children_are = add.children_are;
-          holds = Holds-same (node_at after) (node_at linked_in) same_cells _ added;
-          ways = add.ways;
-          linked = subst (λ xs. AreLinked (links_at linked_in) None (xs ++ m ∷ []) None) (sym add.leaves_are) links;
-          ascends = ascending_append (key_of bytes) pairs ((key, value) ∷ []) ascends (tt, tt) (all_weaker (λ (q : K × V). IsBefore (bytes q.0) (bytes key)) (λ (q : K × V). AllByRecursion (λ (y : K × V). IsBefore (key_of bytes q) (key_of bytes y)) ((key, value) ∷ [])) (λ q less. (less, tt)) pairs behind);
-          pairs_are = ap (λ xs. pairs_of (xs ++ m ∷ [])) add.leaves_are ∙ pairs-parts bytes ls m [] ∙ ap (λ ps. ps ++ (key, value) ∷ []) pairs_are;
-        }
-
   -- what a builder has, by its last leaf
   module _ (arena : Arena K V) (spine : Spine) (last : ℕ) (pairs : List (K × V)) (is : BuildsUpTo bytes P arena spine last pairs) where
     abbrev pub last_leaf : LeafAt K V
@@ -260,13 +204,6 @@ module _ {K V : Type 0} (bytes : K → List ℕ) (P : ℕ) where
     pub last-bytes : (stored : K) (read_bytes : List ℕ) → ((l : LeafNode K V) → held_at arena (leaf_name last) ≡ Some (leaf_held l) → stored ≡ l.key) → read_bytes ≡ bytes stored → read_bytes ≡ bytes is.key
     last-bytes = last-read bytes P arena spine last [] all_leaves up_to
 
-    -- a key that parts from that of the last leaf parts so from the last key
-    pub parts-last : (key : List ℕ) (p : Parted) → PartsFromLast bytes arena last key p → PartAt (bytes is.key) key p
-    parts-last key p (leaf, held, part) =
-        let h = there.is in
-        let same : leaf ≡ there.leaf = cc in
-        subst (λ o. PartAt o key p) (ap (λ (l : LeafNode K V). bytes l.key) same ∙ ap bytes there.key) part
-
     pub spine-of : (low : ℕ) → HasSpine bytes P arena spine [] last low (leaf_name last) (bytes is.key) all_leaves
     spine-of = last-stands bytes P arena spine last [] all_leaves up_to
 
@@ -287,55 +224,28 @@ module _ {K V : Type 0} (bytes : K → List ℕ) (P : ℕ) where
     behind-last key behind =
         (all_right (λ (p : K × V). IsBefore (bytes p.0) key) (pairs_of (open_leaves is.levels)) ((is.key, is.value) ∷ []) (subst (GoesBehind bytes key) pairs-end behind)).0
 
-    -- a leaf of that name has the last pair
-    pub last-pair : (k : K) (v : V) → ((l : LeafNode K V) → held_at arena (leaf_name last) ≡ Some (leaf_held l) → (k ≡ l.key) × (v ≡ l.value)) → (front : List (K × V)) × (pairs ≡ front ++ (k, v) ∷ [])
-    last-pair k v same =
-        let e = same there.leaf there.is in
-        (pairs_of (open_leaves is.levels), pairs-end ∙ ap₂ (λ x y. pairs_of (open_leaves is.levels) ++ (x, y) ∷ []) (sym there.key ∙ sym e.0) (sym there.value ∙ sym e.1))
-
     -- where all nodes are made, the arena has the tree
     pub finished : (new : Arena K V) (now : Spine) (root : Name) → HasSpine bytes P new now [] last 0 root (bytes is.key) all_leaves → begin_of 0 now.stack.items ≡ 0 → SameLeaves arena new → HasPairs bytes P new (Some root) pairs
     finished new now root has closed same =
         subst (HasPairs bytes P new (Some root)) is.pairs_are
         (whole bytes P new now last root (bytes is.key) all_leaves has closed (AreLinked-same (links_at arena) (links_at new) (λ n. ap links_of (same n)) None all_leaves None is.linked))
 
-  -- the first pair
-  pub first-pair : (old new : Arena K V) (spine : Spine) (slot : ℕ) (key : K) (value : V) → ((n : Name) → held_at old n ≡ None) → (spine.stack.items ≡ []) × (spine.children.items ≡ []) → Allocates old new (leaf_name slot) (lone_leaf key value)
-      → BuildsUpTo bytes P new spine slot ((key, value) ∷ [])
-  first-pair old new spine slot key value empty none allocates =
-      let tree = first-leaf bytes P old new [] slot (record { key = key; value = value; previous = None; next = None }) (λ n. ap cell_of (empty n)) allocates refl refl in
-      record {
-        key = key;
-        value = value;
-        levels = [];
-        stack_is = none.0;
-        children_are = none.1;
-        holds = tree.nodes.holds;
-        ways = tt;
-        linked = tree.linked;
-        ascends = (tt, tt);
-        pairs_are = refl;
-      }
-
   -- what a builder has is told by its last leaf
   module _ (arena : Arena K V) (builder : TreeBuilder) (pairs : List (K × V)) (builds : Builds bytes P arena builder pairs) where
     pub builds-some : (last : ℕ) → builder.last ≡ Some last → BuildsUpTo bytes P arena builder.spine last pairs
-    builds-some last e = subst (λ o. BuildsTo bytes P arena builder.spine o pairs) e builds
+    builds-some last e = subst (λ o. BuildsTo bytes P arena builder.spine o pairs) e builds.built
 
     pub builds-none : builder.last ≡ None → BuildsTo bytes P arena builder.spine None pairs
-    builds-none e = subst (λ o. BuildsTo bytes P arena builder.spine o pairs) e builds
+    builds-none e = subst (λ o. BuildsTo bytes P arena builder.spine o pairs) e builds.built
 
   -- a new builder has no pair
-  pub fresh : (arena : Arena K V) (builder : TreeBuilder) → builder.last ≡ None → IsEmptySpine builder.spine → ((n : Name) → held_at arena n ≡ None) → Builds bytes P arena builder []
-  fresh arena builder last spine empty = subst (λ o. BuildsTo bytes P arena builder.spine o []) (sym last) (refl, empty, spine)
+  pub fresh : (arena : Arena K V) (builder : TreeBuilder) → builder.last ≡ None → IsEmptySpine builder.spine → builder.room ≡ 0 → ((n : Name) → held_at arena n ≡ None) → Builds bytes P arena builder []
+  fresh arena builder last spine room empty = record {
+    built = subst (λ o. BuildsTo bytes P arena builder.spine o []) (sym last) (refl, empty, spine);
+    room = no-room arena builder.spine builder.room spine room;
+    closed = λ e. spine.0;
+  }
 
   -- one that has none has an arena of none
   pub none-held : (arena : Arena K V) (spine : Spine) (pairs : List (K × V)) → BuildsTo bytes P arena spine None pairs → HasPairs bytes P arena None pairs
   none-held arena spine pairs (none, empty, lists) = (none, λ n. ap cell_of (empty n))
-
-  -- a key that was compared parts so from the last
-  pub parts-from : (arena : Arena K V) (spine : Spine) (last : ℕ) (pairs : List (K × V)) (is : BuildsUpTo bytes P arena spine last pairs) (stored : K) (old new key : List ℕ) (p : Parted)
-      → ((l : LeafNode K V) → held_at arena (leaf_name last) ≡ Some (leaf_held l) → stored ≡ l.key) → old ≡ bytes stored → new ≡ key → PartAt old new p → PartsFromLast bytes arena last key p
-  parts-from arena spine last pairs is stored old new key p read old_is new_is part =
-      let h = there arena spine last pairs is in
-      (h.leaf, h.is, subst (λ o. PartAt o key p) (old_is ∙ ap bytes (read h.leaf h.is)) (subst (λ n. PartAt old n p) new_is part))

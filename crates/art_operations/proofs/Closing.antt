@@ -56,12 +56,6 @@ module _ {K V : Type 0} (bytes : K → List ℕ) (P : ℕ) (arena : Arena K V) (
         ap (λ cs. cs ++ (byte, root) ∷ []) (has.stands.children_are ∙ ap open_children top-is.is)
         ∙ append_assoc (open_children top-is.above) (children_at top-is.level.kids) ((byte, root) ∷ [])
 
-    pub first-within : top.first ≤ length (spine.children.items ++ (byte, root) ∷ [])
-    first-within =
-        let first = top-is.first_is in
-        let count = ap length all-children ∙ length-append (open_children top-is.above) own in
-        omega (arith, first, count)
-
     pub own-children : drop top.first (spine.children.items ++ (byte, root) ∷ []) ≡ own
     own-children = ap₂ drop top-is.first_is all-children ∙ drop-append_seam (open_children top-is.above) own
 

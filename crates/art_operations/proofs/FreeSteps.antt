@@ -111,16 +111,3 @@ module _ {K V : Type 0} (P : ℕ) (w : Bool) (arena : Arena K V) where
           childless-kids : (kids : Branches K V) (prefix : List ℕ) → first_child (children_at kids) ≡ None → on.part ≡ inner_at n prefix kids → IsChildless on.part
           childless-kids no_branch prefix none is = subst IsChildless (sym is) tt
           childless-kids (branch b t more) prefix none is = absurd (cc)
-
-  pub first-leaf : (s : Shape K V) (rest : List (Name × Cell K V)) (n : Name) (place : Option (Name × ℕ)) → OnFirst s rest n place → n.kind ≡ Leaf → (b : Bottom) → b.node ≡ n → b.place ≡ place → IsBottom s b
-  first-leaf s rest n place on kind b node place_is =
-      let leaf = part-leaf n on.part _ on.holds kind in
-      record {
-        ctx = on.ctx;
-        end = on.part;
-        whole = on.whole;
-        first = on.first;
-        childless = subst IsChildless (sym leaf.3) tt;
-        named = on.holds.named ∙ sym node;
-        place = on.place_is ∙ ap step_in (sym place_is);
-      }

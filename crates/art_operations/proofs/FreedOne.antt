@@ -12,7 +12,7 @@ use Rattle.art_arena.proofs.shapes.Contexts.{children_at-join, cells_in-join}
 use Rattle.art_arena.proofs.shapes.Updates.{nodes-update}
 use Rattle.art_operations.specs.Frees.{cells_with, cells_with_in, KeepsAllBut}
 use Rattle.art_operations.specs.inner.Freeing.{IsChildIn, IsChildless, FreesRoot, HoldsPart, HoldsBoth, HoldsOneLess}
-use Rattle.art_operations.proofs.Freeing.{without-among, branch-among, with-join, childless-cells, freed_root, apart-from, kept_root}
+use Rattle.art_operations.proofs.Freeing.{without-among, branch-among, with-join, childless-cells, freed_root, apart-from}
 use Rattle.art_operations.proofs.FreeSteps.{part-leaf, node_in, HasInnerPart}
 
 module _ {K V : Type 0} (P : ℕ) (w : Bool) (old : Arena K V) (n : Name) (s : Shape K V) (rest : List (Name × Cell K V)) (part : HoldsPart P w old n s rest) where
@@ -38,9 +38,6 @@ module _ {K V : Type 0} (P : ℕ) (w : Bool) (old : Arena K V) (n : Name) (s : S
     alone s childless,
     freed_root P w old new s [] rest frees (subst (λ xs. Holds (node_at old) (xs ++ rest)) (childless-cells P w s childless) part.holds),
   )
-
-  pub kept-childless : (new : Arena K V) → IsChildless s → FreesRoot w old new s → KeepsAllBut (cells_with P w s) old new
-  kept-childless new childless frees k none = kept_root P w old new s frees k (ap (copies k) (sym (childless-cells P w s childless)) ∙ none)
 
   -- where there is one child it is what is left
 
@@ -78,10 +75,6 @@ module _ {K V : Type 0} (P : ℕ) (w : Bool) (old : Arena K V) (n : Name) (s : S
       less = ap (λ x. length (cells P x)) only.is ∙ ap (λ xs. suc (length xs)) (append-nil (cells P only.child));
       names = λ k. omega (arith, ap (copies k) single-cells);
     }
-
-    pub kept-single : KeepsAllBut (cells_with P w s) old new
-    kept-single k none =
-        single-frees.others k (apart-from k n (node_of {K = K} {V = V} P inner.prefix ((last.0, name_of only.child) ∷ [])) (cells_with P w only.child) (ap (copies k) (sym single-cells) ∙ none))
 
   -- else a child is taken out, and stands apart
   module _ (mid : Arena K V) (inner : HasInnerPart P w old n s) (child : ℕ × Name) (found : IsChildIn (children_at inner.kids) (Some child)) (up : IsAscending (children_at inner.kids)) (removes : (m : InnerNode) → held_at old n ≡ Some (inner_held m) → UpdatesAt (held_at old) (held_at mid) n (Some (inner_held (with_children m (without_child m.children child.0))))) where

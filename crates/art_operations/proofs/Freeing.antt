@@ -94,15 +94,6 @@ module _ {K V : Type 0} (P : ℕ) (w : Bool) where
   root_cells (leaf_at slot k v) = cond w ((leaf_name slot, pair k v) ∷ []) []
   root_cells (inner_at n prefix kids) = (n, node_of P prefix (children_at kids)) ∷ []
 
-  -- and those below it
-  abbrev pub below_root : Shape K V → List (Name × Cell K V)
-  below_root (leaf_at slot k v) = []
-  below_root (inner_at n prefix kids) = cells_with_in P w kids
-
-  pub with-root : (s : Shape K V) → cells_with P w s ≡ root_cells s ++ below_root s
-  with-root (leaf_at slot k v) = sym (append-nil (root_cells (leaf_at slot k v)))
-  with-root (inner_at n prefix kids) = refl
-
   pub childless-cells : (s : Shape K V) → IsChildless s → cells_with P w s ≡ root_cells s
   childless-cells (leaf_at slot k v) none = refl
   childless-cells (inner_at n prefix no_branch) none = refl

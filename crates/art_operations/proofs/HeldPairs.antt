@@ -15,7 +15,7 @@ use Rattle.art_arena.specs.tree.TreeOf.{tree_of}
 use Rattle.art_arena.proofs.shapes.Besides.{keeps-beside}
 use Rattle.art_arena.proofs.shapes.CellLists.{Holds-add, Holds-same, only-holds}
 use Rattle.art_arena.proofs.shapes.Erased.{shape_means}
-use Rattle.art_arena.proofs.shapes.Meanings.{nodes-part, nodes-subtree, all-subtree}
+use Rattle.art_arena.proofs.shapes.Meanings.{nodes-part, nodes-subtree}
 use Rattle.art_arena.proofs.shapes.LinkedLists.{outside-apart, AreLinked-same}
 use Rattle.art_arena.proofs.tree.Order.{all_left}
 use Rattle.art_arena.proofs.tree.Paths.{in_map, in_unmap}
@@ -61,12 +61,6 @@ module _ {K V : Type 0} (bytes : K → List ℕ) (P : ℕ) where
   pairs-tree arena (Some root) pairs (s, tree, e) =
       let m = shape_means K V bytes P (node_at arena) root (links_at arena) s [] tree in
       (m.0, ap (tree_of (key_of bytes)) (sym e) ∙ m.1, m.2)
-
-  -- a root names a tree
-  pub root-tree : (arena : Arena K V) (root : Option Name) (top : Name) (pairs : List (K × V)) → root ≡ Some top → HoldsTreeOf bytes P arena root pairs → (s : Shape K V) × IsSubtree bytes P (node_at arena) top [] s
-  root-tree arena root top pairs is holds =
-      let tree : HoldsTreeOf bytes P arena (Some top) pairs = subst (λ r. HoldsTreeOf bytes P arena r pairs) is holds in
-      (tree.2.shape, all-subtree bytes P (node_at arena) top (links_at arena) tree.0 tree.2)
 
   -- the first leaf is a tree
   pub first-leaf : (old new : Arena K V) (rest : List (Name × Cell K V)) (slot : ℕ) (leaf : LeafNode K V) → HoldsOnly (node_at old) rest → Allocates old new (leaf_name slot) (leaf_held leaf) → leaf.previous ≡ None → leaf.next ≡ None

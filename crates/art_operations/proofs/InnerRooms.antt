@@ -12,7 +12,7 @@ use Rattle.art_arena.proofs.shapes.CellLists.{same_kind_tells}
 use Rattle.art_operations.specs.Rebuilds.{HasInnerRoom}
 use Rattle.art_operations.specs.declared.build.spine.Spine.{Spine}
 use Rattle.art_operations.specs.inner.Rebuilding.{HasPlaces, HasSpineRoom, IsFresh}
-use Rattle.art_operations.specs.inner.Spines.{AddsChild}
+use Rattle.art_operations.specs.inner.Spines.{AddsChild, IsEmptySpine}
 
 less : (n a b : ℕ) → n < a → a ≤ b → n < b
 less n a b few fewer = omega (arith, few, fewer)
@@ -75,6 +75,19 @@ module _ {K V : Type 0} where
         places = record { stack = omega (arith, none, stack); children = omega (arith, no_child, children) };
         nodes = room-at arena leaves (length spine.children.items + leaves) (omega (arith, no_child)) room;
       }
+
+  -- an empty spine takes no room for none
+  pub no-room : (arena : Arena K V) (spine : Spine) (more : ℕ) → IsEmptySpine spine → more ≡ 0 → HasSpineRoom arena spine more
+  no-room arena spine more empty zero =
+      let none : length spine.stack.items ≡ 0 = ap length empty.0 in
+      let no_child : length spine.children.items ≡ 0 = ap length empty.1 in
+      record {
+        places = record { stack = omega (arith, none, zero); children = omega (arith, no_child, zero) };
+        nodes = room-at arena 0 (length spine.children.items + more) (omega (arith, no_child, zero)) (λ kind inner n few. absurd (omega (arith, few)));
+      }
+
+  pub beside-leaf : (old new : Arena K V) (spine : Spine) (more : ℕ) → UsesRoomOf Leaf old new → HasSpineRoom old spine more → HasSpineRoom new spine more
+  beside-leaf old new spine more uses room = record { places = room.places; nodes = λ kind inner n few. uses.others kind inner n (room.nodes kind inner n few) }
 
   -- room for more is enough
   pub fewer-to-come : (arena : Arena K V) (spine : Spine) (m n : ℕ) → m ≤ n → HasSpineRoom arena spine n → HasSpineRoom arena spine m

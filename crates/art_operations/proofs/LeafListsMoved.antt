@@ -1,5 +1,5 @@
 -- The last leaves of a list move to the front of another arena's list.
-use Rattle.std.proofs.Common.{◌≡◌, ℕ, ◌+◌, ◌<◌, cond, List, [], ◌∷◌, ◌++◌, length, Option, None, Some, is_some, refl, sym, ap, ◌∙◌, arith, append_assoc, append-nil, length-append}
+use Rattle.std.proofs.Common.{◌≡◌, ℕ, ◌+◌, cond, List, [], ◌∷◌, ◌++◌, length, Option, None, Some, is_some, refl, sym, ap, ◌∙◌, arith, append_assoc, append-nil, length-append}
 use Rattle.std.proofs.lemmas.List.{map-append}
 use Rattle.art_nodes.specs.Name.{Name}
 use Rattle.art_arena.specs.arena.Arena.{Arena, cell_of, held_at}
@@ -15,10 +15,6 @@ start_of first = record { first = first; before = None; after = first }
 module _ {K V : Type 0} where
   pub at-start : (arena : Arena K V) (first : Option ℕ) (ls : List (LeafAt K V)) → HoldsFrom arena first ls → StandsBetween arena (start_of first) [] ls
   at-start arena first ls is = record { leaves = is.holds; first = is.first_is; before = refl; after = is.first_is }
-
-  -- there is a leaf before the cursor
-  pub some-removed : (arena : Arena K V) (now : LeafCursor) (front back : List (LeafAt K V)) → HasRemoved arena now None front back → 0 < length front → ⊥
-  some-removed arena now front back has some = let none = ap length has.0 in omega (arith, none, some)
 
   -- it is gone, and one of its pair stands in the other arena
   pub moved-one : (from to : Arena K V) (cursor start : LeafCursor) (key : K) (value : V) (ls moved : List (LeafAt K V)) → HasRemoved from cursor (Some (key, value)) ls [] → HasInserted to start key value [] moved

@@ -108,14 +108,6 @@ module _ {K V : Type 0} where
           less = all_append (λ (l : LeafAt K V). bytes_cmp (bytes l.key) key ≡ Less) is.passed (m ∷ []) is.less (less, tt);
         }
 
-    -- it ends where nothing is behind it, or a key that isn't less
-    pub passed-all : (now : LeafCursor) (is : HasStepped now) → now.after ≡ None → HasPassed bytes key arena now None front back
-    passed-all now is at = record { passed = is.passed; rest = is.rest; parts = is.parts; stands = is.stands; less = is.less; stops = over is.rest (is.stands.after ∙ at) }
-      where
-        over : (rest : List (LeafAt K V)) → first_slot rest None ≡ None → StopsBehindLess bytes key None rest
-        over [] e = tt
-        over (l ∷ rest) e = absurd (cc)
-
     pub passed-to : (now : LeafCursor) (is : HasStepped now) (slot : ℕ) (at : now.after ≡ Some slot) (leaf : LeafNode K V) (held : held_at arena (leaf_name slot) ≡ Some (leaf_held leaf)) (found : Option ℕ)
         → ((rest : List (LeafAt K V)) → StopsBehindLess bytes key found (record { slot = slot; key = leaf.key; value = leaf.value } ∷ rest)) → HasPassed bytes key arena now found front back
     passed-to now is slot at leaf held found stops =

@@ -49,6 +49,7 @@ pub mod KnownRooms
 pub mod Overlaps
 pub mod Overwrites
 pub mod PutOver
+pub mod Pushed
 pub mod Done
 pub mod Clones
 pub mod CommandLists

@@ -68,14 +68,6 @@ module _ {K V : Type 0} (bytes : K → List ℕ) (P : ℕ) where
         leaf = held_leaf P (node_at new) is.shape leaf (subst (IsIn leaf) (sym is.are) (in_middle (λ (m : LeafAt K V). bytes m.key) is.front leaf is.back)) (nodes-part bytes P (node_at new) result.insert_result.new_root is.shape is.is_tree.nodes).held;
       }
 
-  -- the first pair takes the place of none
-  pub put-first-over : {rest : List (Name × Cell K V)} (new : Arena K V) (key : K) (value : V) (result : InsertResult K V) → HasPut bytes P new key value result [] rest → HasPutOver bytes P new key value (record { insert_result = result; leafs_removed = 0 }) [] rest
-  put-first-over new key value result put = record { has = put.has; removed = none result.existing_leaf put.old; leaf = put.leaf }
-    where
-      none : (was : Option (LeafNode K V)) → pair_in was ≡ [] → AreRemoved {K = K} {V = V} [] was 0
-      none None e = (refl, none-alone 0 refl)
-      none (Some was) e = absurd (cc)
-
   -- where a pair has the key, the point is its leaf
   pub stored-over : {rest : List (Name × Cell K V)} (old : Arena K V) (point : PrefixInsertPoint) (key : List ℕ) (pairs : List (K × V)) → CanPutOver bytes P old (Some point) key pairs rest → HasKey (key_of bytes) key pairs → IsExact point
   stored-over {rest} old (at.InsertPoint point) key pairs has stored =

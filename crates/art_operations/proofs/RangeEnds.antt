@@ -36,9 +36,6 @@ module _ {K V : Type 0} where
   last-kept true l (m ∷ ls) slot rs e = e
 
 module _ {K V : Type 0} (bytes : K → List ℕ) (start end : Bound (List ℕ)) where
-  abbrev From : List (LeafAt K V) → List (LeafAt K V)
-  From ls = passing bytes (λ k. is_from_start bytes_cmp start k) ls
-
   abbrev UpTo : List (LeafAt K V) → List (LeafAt K V)
   UpTo ls = passing bytes (λ k. not (is_past_end bytes_cmp end k)) ls
 

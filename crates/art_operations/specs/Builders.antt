@@ -8,17 +8,13 @@ use Rattle.art_arena.specs.arena.Cells.{pair, leaf_name, Holds}
 use Rattle.art_arena.specs.arena.Linked.{AreLinked}
 use Rattle.art_arena.specs.arena.Shapes.{pairs_of, key_of}
 use Rattle.art_arena.specs.tree.Order.{AscendsByKey}
+use Rattle.art_operations.specs.inner.Rebuilding.{HasSpineRoom}
 use Rattle.art_operations.specs.inner.Spines.{Level, AreOpen, IsEmptySpine, open_cells, open_children, open_leaves}
 use Rattle.art_operations.specs.inner.Spines.{opened}
 use Rattle.art_operations.specs.declared.build.PushRefused.{PushRefused}
 use Rattle.art_operations.specs.declared.build.PushRefused.TheVariants.{NotBehind, Memory}
 use Rattle.art_operations.specs.declared.build.TreeBuilder.{TreeBuilder}
 use Rattle.art_operations.specs.declared.build.spine.Spine.{Spine}
-
--- the refusal is for the place of the key, and not for want of memory
-abbrev pub IsForPlace : {K V : Type 0} → PushRefused K V → Type 0
-IsForPlace (NotBehind k v) = Unit {0}
-IsForPlace (Memory k v) = ⊥
 
 -- a refusal hands this key and this value back, and it is for the place exactly where this isn't behind all
 abbrev pub IsPushRefused : {K V : Type 0} → K → V → Type 0 → PushRefused K V → Type 0
@@ -51,5 +47,8 @@ module _ {K V : Type 0} (bytes : K → List ℕ) where
     BuildsTo spine (Some last) pairs = BuildsUpTo spine last pairs
 
     -- The builder has taken these pairs, which ascend. The arena holds what is made of their tree, and nothing else.
-    abbrev pub Builds : TreeBuilder → List (K × V) → Type 0
-    Builds builder pairs = BuildsTo builder.spine builder.last pairs
+    -- There is room to make the nodes that are open.
+    pub record Builds (builder : TreeBuilder) (pairs : List (K × V)) : Type 0 where
+      pub built : BuildsTo builder.spine builder.last pairs
+      pub room : HasSpineRoom arena builder.spine builder.room
+      pub closed : builder.room ≡ 0 → builder.spine.stack.items ≡ []

@@ -18,8 +18,8 @@ ghost use Rattle.art_operations.specs.LeafCursors.{StandsBetween};
 ghost use Rattle.art_operations.specs.LeafNames.{HasLeavesOf};
 ghost use Rattle.art_operations.specs.Pairs.{HasPairs};
 ghost use Rattle.art_operations.specs.Whichever.{HasSome, OfEach};
-ghost use Rattle.art_operations.specs.inner.Cursors.{HasMovedOne, HasPassed, HasReplaced, HoldsFrom};
-ghost use Rattle.art_operations.specs.inner.Cursors.{StandsParted};
+ghost use Rattle.art_operations.specs.inner.Cursors.{HasMovedOne, HasPassed, HasReplaced, HasStoredLast, HoldsFrom};
+ghost use Rattle.art_operations.specs.inner.Cursors.{IsListTo, StandsParted};
 
 use crate::insert::result::InsertRefused;
 use crate::minmax::{maximum_unchecked, minimum_unchecked};
@@ -55,6 +55,37 @@ fn set_previous<K, V, const PREFIX_LEN: usize>(
     ensures room_of { KeepsRoomOf arena.old arena.new }
 {
     arena.as_mut::<LeafNode<K, V>>(leaf).set_previous(previous);
+}
+
+/// Stores a leaf behind the last one of a list, or the first of all. Inner nodes may stand over the list.
+///
+/// Fails if out of memory. The error returns the pair, and nothing changed.
+pub(crate) fn store_last<K, V, const PREFIX_LEN: usize>(
+    arena: &mut NodeArena<K, V, PREFIX_LEN>,
+    last: Option<LeafPtr>,
+    key: K,
+    value: V,
+) -> Result<LeafPtr, InsertRefused<K, V>>
+    requires { (ls : List (LeafAt K V)) × IsListTo (links_at arena.old) last ls }
+    ensures ok { IfOk result (λ leaf. (ls : List (LeafAt K V)) → IsListTo (links_at arena.old) last ls
+        → HasStoredLast arena.old arena.new leaf key value ls) }
+    ensures err { OnErr result (SameNodes arena.old arena.new) }
+    ensures handed_back { HandsPairBack key value result }
+    ensures succeeds { HasRoomOf arena.old Leaf 1 → IsOk result }
+    ensures room_of { UsesRoomOf Leaf arena.old arena.new }
+{
+    let before = last;
+    let cursor = LeafCursor {
+        first: None,
+        before,
+        after: None,
+    };
+    let leaf = cursor.store(arena, key, value)?;
+    let Some(end) = last else {
+        return Ok(leaf);
+    };
+    set_next(arena, end, Some(leaf));
+    Ok(leaf)
 }
 
 /// A place in the list of an arena that holds leaves alone: between two that are linked, or at an end of the list. It

@@ -24,10 +24,8 @@ fn built<K: AsBytes + Drop, V: Drop>(
     let Ok(()) = builder.push(&mut arena, second.0, second.1) else {
         return None;
     };
-    match builder.finish(&mut arena) {
-        Ok(root) => Some((arena, root)),
-        Err(_) => None,
-    }
+    let root = builder.finish(&mut arena);
+    Some((arena, root))
 }
 
 // Whether two pairs are taken, and a key then has a place beside them.

@@ -53,11 +53,6 @@ module _ {K : Type 0} (bytes : K → List ℕ) where
     extend-refused iter it given old now e (Ok x) b put back h = absurd h
     extend-refused iter it given old now e (Err x) b put back h = (it, given, b, put, subst (HandsNextKeyBack bytes key_of becomes steps it given) (sym h) back)
 
-    pub made-refused : (iter : U) (it : S) (given : List A) (e : RefusedKey K) (r : Result (List K) (RefusedKey K)) → becomes iter it → HandsNextKeyBack bytes key_of becomes steps it given e
-        → IsErrAnd r (λ x. x ≡ e) → IsMadeOfKeys bytes key_of becomes steps iter r
-    made-refused iter it given e (Ok x) b back h = absurd h
-    made-refused iter it given e (Err x) b back h = (it, given, b, subst (HandsNextKeyBack bytes key_of becomes steps it given) (sym h) back)
-
     -- what comes of the map of the keys beside the unit comes of the set
     pub keys-made : (iter : U) (r : Result (Contents K (Unit {0})) (InsertRefused K (Unit {0}))) → IsMadeOf bytes (λ x. (key_of x, tt)) becomes steps iter r → IsMadeOfKeys bytes key_of becomes steps iter (set_of r)
     keys-made iter (Ok made) (it, given, b, (drains, put)) = (

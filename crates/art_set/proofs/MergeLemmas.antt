@@ -164,13 +164,6 @@ not-compared bytes s t e none left less = record { fewer = omega (arith, none, l
 pub compared-none : {K : Type 0} (bytes : K → List ℕ) (s : Beside K) → IsCompared bytes s s
 compared-none bytes s = record { fewer = omega arith; counted = omega arith; most = omega arith; bound = omega arith }
 
--- and so from one step to a later one
-pub compared-on : {K : Type 0} (bytes : K → List ℕ) (s t u : Beside K) → IsCompared bytes s t → IsCompared bytes t u → IsCompared bytes s u
-compared-on bytes s t u first second =
-    let a = first.fewer in let b = first.counted in let c = first.most in let d = first.bound in
-    let e = second.fewer in let f = second.counted in let g = second.most in let h = second.bound in
-    record { fewer = omega (arith, a, e); counted = omega (arith, a, b, e, f); most = omega (arith, a, c, e, g); bound = omega (arith, d, h) }
-
 pub one-less : {X : Type 0} (x : X) (xs on : List X) (n : ℕ) → xs ≡ x ∷ on → length on + n < length xs + n
 one-less x xs on n e = let l = ap length e in omega (arith, l)
 

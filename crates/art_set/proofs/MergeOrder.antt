@@ -13,7 +13,7 @@ use Rattle.art_arena.proofs.tree.Order.{all_append, all_left}
 use Rattle.art_set.specs.Members.{is_member, with_key_put}
 use Rattle.art_set.specs.inner.Merging.{merged, of_first, of_second}
 use Rattle.art_set.proofs.KeyPuts.{put-last}
-use Rattle.art_set.specs.Merges.{AscendsInBytes, difference_of, intersection_of, put_among, put_below, union_of, symmetric_difference_of}
+use Rattle.art_set.specs.Merges.{AscendsInBytes, difference_of, put_among, put_below}
 use Rattle.art_operations.proofs.Nearest.{turned}
 use Rattle.art_set.specs.lemmas.KindLaws.{filter-none}
 use Rattle.art_walks.proofs.Spans.{all-filter}
@@ -91,21 +91,6 @@ module _ {K : Type 0} (bytes : K → List ℕ) where
           → AllByRecursion (λ y. AreOthers y xs) (cond (not b) (y ∷ difference_of bytes ys xs) (difference_of bytes ys xs))
       pick true e rest = rest
       pick false e rest = (lacks-others y xs e, rest)
-
-  module _ (xs ys : List K) (up : AscendsInBytes bytes xs) (beside : AscendsInBytes bytes ys) where
-    pub ascending-difference : AscendsInBytes bytes (difference_of bytes xs ys)
-    ascending-difference = ascending-part _ xs up
-
-    pub ascending-intersection : AscendsInBytes bytes (intersection_of bytes xs ys)
-    ascending-intersection = ascending-part _ xs up
-
-    pub ascending-union : AscendsInBytes bytes (union_of bytes xs ys)
-    ascending-union = ascending-joined (difference_of bytes ys xs) xs (difference-others ys xs) (ascending-part _ ys beside) up
-
-    pub ascending-symmetric : AscendsInBytes bytes (symmetric_difference_of bytes xs ys)
-    ascending-symmetric = ascending-joined (difference_of bytes ys xs) (difference_of bytes xs ys)
-        (all_weaker _ _ (λ z others. all-filter _ _ xs others) (difference_of bytes ys xs) (difference-others ys xs))
-        (ascending-part _ ys beside) (ascending-part _ xs up)
 
   -- of the keys that are wanted of the second list alone the first has others
   second-others : (first both second : Bool) (xs ys : List K) → AllByRecursion (λ y. AreOthers y xs) (of_second bytes first both second xs ys)

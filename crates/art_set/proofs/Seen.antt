@@ -14,7 +14,7 @@ use Rattle.art_arena.specs.tree.Order.{AscendsByKey}
 use Rattle.art_arena.specs.tree.Shrinks.{Shrinks}
 use Rattle.art_bytes.specs.Keys.{Conflict, IsBefore, common_prefix}
 use Rattle.art_map.specs.Asked.{with_pairs_put}
-use Rattle.art_map.specs.Contents.{first_item, has_bytes, last_item}
+use Rattle.art_map.specs.Contents.{has_bytes, last_item}
 use Rattle.art_map.specs.Ranges.{pairs_between}
 use Rattle.art_operations.specs.KeyedLists.{HasKey, IsBlocked, without_key}
 use Rattle.art_operations.specs.Pairs.{IsAtEnd, ShrinksAtEnd, with_pair_put}
@@ -51,10 +51,6 @@ module _ {K V : Type 0} where
   pub was-added : (test : K → Bool) (ps : List (K × V)) (old : Option V) (b : Bool) → is_some old ≡ not b → old ≡ lookup test ps → b ≡ not (list_any test (keys_of ps))
   was-added test ps old true e f = ap not (sym e ∙ ap is_some f ∙ is-found test ps)
   was-added test ps old false e f = ap not (sym e ∙ ap is_some f ∙ is-found test ps)
-
-  pub first-key : (ps : List (K × V)) → key_if_some (first_item ps) ≡ first_item (keys_of ps)
-  first-key [] = refl
-  first-key (p ∷ ps) = refl
 
   pub last-key : (ps : List (K × V)) → key_if_some (last_item ps) ≡ last_item (keys_of ps)
   last-key [] = refl

@@ -126,7 +126,7 @@ impl<K, const PREFIX_LEN: usize> IntoIter<K, PREFIX_LEN> {
     }
 }
 
-impl<K: Drop, const PREFIX_LEN: usize> Iterator for IntoIter<K, PREFIX_LEN> {
+impl<K: AsBytes + Drop, const PREFIX_LEN: usize> Iterator for IntoIter<K, PREFIX_LEN> {
     type Item = K;
 
     ghost next_gives = { TakesFirst (λ key. key) };
@@ -147,9 +147,9 @@ impl<K: Drop, const PREFIX_LEN: usize> Iterator for IntoIter<K, PREFIX_LEN> {
     }
 }
 
-impl<K: Drop, const PREFIX_LEN: usize> FusedIterator for IntoIter<K, PREFIX_LEN> {}
+impl<K: AsBytes + Drop, const PREFIX_LEN: usize> FusedIterator for IntoIter<K, PREFIX_LEN> {}
 
-impl<K: Drop, const PREFIX_LEN: usize> DoubleEndedIterator for IntoIter<K, PREFIX_LEN> {
+impl<K: AsBytes + Drop, const PREFIX_LEN: usize> DoubleEndedIterator for IntoIter<K, PREFIX_LEN> {
     ghost next_back_gives = { TakesLast (λ key. key) };
 
     #[inline]
@@ -158,7 +158,7 @@ impl<K: Drop, const PREFIX_LEN: usize> DoubleEndedIterator for IntoIter<K, PREFI
     }
 }
 
-impl<K: Drop, const PREFIX_LEN: usize> ExactSizeIterator for IntoIter<K, PREFIX_LEN> {
+impl<K: AsBytes + Drop, const PREFIX_LEN: usize> ExactSizeIterator for IntoIter<K, PREFIX_LEN> {
     fn len(&self) -> usize {
         self.inner.len()
     }

@@ -31,13 +31,10 @@ fn collected<W: Kind<K>, K: OrderedBytes + NoPrefixesBytes + Clone + Drop, const
             Err(_) => return Err(AllocError),
         }
     }
-    match builder.finish() {
-        Ok(map) => Ok(TreeSet {
-            alloc: first.alloc,
-            map,
-        }),
-        Err(_) => Err(AllocError),
-    }
+    Ok(TreeSet {
+        alloc: first.alloc,
+        map: builder.finish(),
+    })
 }
 
 /// The keys that both sets have, as this one has them. Fails if a key can't be cloned, or if out of memory. The

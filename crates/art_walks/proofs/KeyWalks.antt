@@ -184,9 +184,6 @@ module _ {K V : Type 0} (bytes : K → List ℕ) (P : ℕ) (at : Name → Option
 
   -- a child whose first key goes on as it must: its place waits
   module _ (e : ℕ) (key : List ℕ) where
-    pub await-none : Await bytes P at e key [] []
-    await-none = record { stand = tt; names = refl; enough = λ h. tt; needed = λ h. tt }
-
     pub await-join : (cs ds : List (ℕ × Name)) (ps qs : List Place) → Await bytes P at e key cs ps → Await bytes P at e key ds qs → Await bytes P at e key (cs ++ ds) (ps ++ qs)
     await-join cs ds ps qs one two = record {
       stand = all_append (StandsAsTold bytes P at) ps qs one.stand two.stand;

@@ -2,19 +2,27 @@
 //! after another. So from time to time a few of the leaves to come are found by the inner nodes, and then one goes
 //! along the links from all of these in turn: none waits for the others.
 //!
-//! Nothing rests on what is read here, so no contract says what it is.
+//! Nothing rests on what is read here, so a contract sees nothing of it.
+ghost use Rattle.std.specs.Prelude.{⊤};
 
 use crate::raw_iterator::RawIterator;
 use art_arena::{ArenaReader, InnerRef, LeafPtr, NodeArena};
 use art_bytes::AsBytes;
 use art_nodes::{LeafNode, NodePtr, NodeType, OpaqueNodePtr};
+use std::marker::Model;
 use std::ops::Bound;
+
+/// How many leaves an arena has at least where a walk reads ahead. Where there are fewer, they are near anyway.
+const LEAST: usize = 131_072;
 
 /// How many leaves a walk goes along before it reads ahead, so that a short one pays nothing for it.
 const FIRST: usize = 128;
 
 /// How many leaves it goes along where leaves stand in line, so that they are at hand anyway.
 const IN_LINE: usize = 1024;
+
+/// How many of these are looked at.
+const IN_LINE_LOOKS: usize = 8;
 
 /// From how many leaves one goes along the links in turn.
 const STARTS: usize = 16;
@@ -41,76 +49,108 @@ const LEVELS: usize = 4;
 /// The slot of no leaf.
 const NONE: usize = usize::MAX;
 
-/// What a walk reads ahead: from time to time the leaves to come of the tree below a root.
-#[derive(Clone, Copy, Debug)]
-pub(crate) struct Ahead {
-    root: Option<OpaqueNodePtr>,
-    // It reads ahead behind so many leaves, or at the leaf of this slot.
+/// What a walk along leaves reads ahead: from time to time the leaves to come. It changes nothing, and each call names
+/// the arena, and the root of the tree as it is then.
+#[derive(Debug, Drop)]
+pub struct Ahead {
+    // It reads ahead behind so many leaves, or never if it is none.
     left: usize,
-    until: usize,
     seen: u8,
 }
 
+impl Model for Ahead {
+    ghost Value = { ⊤ };
+
+    ghost view = { λ _. tt };
+}
+
 impl Ahead {
-    /// Returns what reads ahead in the tree below this root. Without a root it reads nothing.
-    pub(crate) fn new(root: Option<OpaqueNodePtr>) -> Self {
+    /// Returns what reads ahead for a walk that begins.
+    pub fn new() -> Self {
         Ahead {
-            root,
             left: FIRST,
-            until: NONE,
             seen: 0,
+        }
+    }
+
+    // Another that goes on as this one does.
+    pub(crate) fn another(&self) -> Self {
+        Ahead {
+            left: self.left,
+            seen: self.seen,
         }
     }
 
     /// Reads nothing from now on. A walk from both ends waits for two leaves at a time anyway.
     #[inline(always)]
-    pub(crate) fn stop(&mut self) {
-        self.root = None;
+    pub fn stop(&mut self) {
+        self.left = 0;
     }
 
-    /// Goes on by the first leaf of a run. If those that were read together are used up, it reads the next ones.
+    /// Goes on by the first leaf of a run. If those that were read together are used up, it reads the next ones in the
+    /// tree below this root. Without a root it reads nothing.
     #[inline(always)]
-    pub(crate) fn step<K: AsBytes, V, const PREFIX_LEN: usize>(
+    pub fn step<K: AsBytes, V, const PREFIX_LEN: usize>(
         &mut self,
         arena: &NodeArena<K, V, PREFIX_LEN>,
+        root: Option<OpaqueNodePtr>,
         leaves: RawIterator,
     ) {
         self.left = self.left.wrapping_sub(1);
-        if let Some((first, _)) = leaves.ends() {
-            if self.left == 0 || first.slot() == self.until {
-                self.read(arena, first);
-            }
+        if self.left == 0 {
+            // At two places, and by values alone. So it stays a call, and the caller keeps what it has in registers.
+            // Below a leaf it reads nothing.
+            (self.left, self.seen) = match (root, leaves.ends()) {
+                (Some(root), Some((first, _))) => read(arena, root, first, self.seen),
+                (_, Some((_, last))) => read(arena, last.to_opaque(), last, self.seen),
+                _ => (0, self.seen),
+            };
         }
     }
+}
 
-    // Reads the leaves behind one together.
-    #[inline(never)]
-    fn read<K: AsBytes, V, const PREFIX_LEN: usize>(
-        &mut self,
-        arena: &NodeArena<K, V, PREFIX_LEN>,
-        first: LeafPtr,
-    ) {
-        self.left = FIRST;
-        self.until = NONE;
-        let Some(root) = self.root else {
-            return;
-        };
-        if !arena.holds(first.to_opaque()) {
-            return;
+// Reads the leaves behind one together. Returns behind how many it goes on so, if at all, and a byte that can't be told
+// without having read them, so that no compiler leaves the reads out.
+#[inline(never)]
+fn read<K: AsBytes, V, const PREFIX_LEN: usize>(
+    arena: &NodeArena<K, V, PREFIX_LEN>,
+    root: OpaqueNodePtr,
+    first: LeafPtr,
+    seen: u8,
+) -> (usize, u8) {
+    let is_leaf = root.node_type() == NodeType::Leaf;
+    if is_leaf || arena.leaf_count() < LEAST || !arena.holds(first.to_opaque()) {
+        return (0, seen);
+    }
+    if are_in_line(arena, first) {
+        return (IN_LINE, seen);
+    }
+    let key = arena.as_key_ref(first).as_bytes();
+    let mut starts = Starts::new(first);
+    starts.find(arena, way_to(arena, root, key));
+    starts.go_below(arena);
+    let mut chains = starts.chains();
+    let (read, seen) = chains.read(arena, seen);
+    (if chains.has_end { read } else { FIRST }, seen)
+}
+
+// Whether the leaves to come stand in the slots behind this one, as some of them tell.
+fn are_in_line<K, V, const PREFIX_LEN: usize>(
+    arena: &NodeArena<K, V, PREFIX_LEN>,
+    first: LeafPtr,
+) -> bool {
+    for i in 0..IN_LINE_LOOKS {
+        let slot = first.slot().wrapping_add(i * (IN_LINE / IN_LINE_LOOKS));
+        let leaf = LeafPtr::from_slot(slot);
+        if !arena.holds(leaf.to_opaque()) {
+            return false;
         }
-        let key = arena.as_key_ref(first).as_bytes();
-        let mut starts = Starts::new(first);
-        starts.find(arena, way_to(arena, root, key));
-        starts.go_below(arena);
-        let mut chains = starts.chains();
-        let read = chains.read(arena, &mut self.seen);
-        if chains.until == first.slot().wrapping_add(read) {
-            self.left = IN_LINE;
-        } else if chains.until != NONE {
-            self.left = 0;
-            self.until = chains.until;
+        match arena.as_ref::<LeafNode<K, V>>(leaf).next() {
+            Some(next) if next.slot() == slot.wrapping_add(1) => {}
+            _ => return false,
         }
     }
+    true
 }
 
 // The inner nodes above a leaf, each with the first byte whose child is still to come: the lowest, in places in turn.
@@ -316,15 +356,15 @@ impl Starts {
             at: [LeafPtr::from_slot(self.names[0].slot()); STARTS],
             ends: [NONE; STARTS],
             len: 1,
-            until: NONE,
+            has_end: false,
         };
         for i in 1..self.len.min(STARTS) {
             if self.names[i].node_type() != NodeType::Leaf {
                 break;
             }
             chains.at[i] = LeafPtr::from_slot(self.names[i].slot());
-            chains.until = self.names[i].slot();
-            chains.ends[i - 1] = chains.until;
+            chains.ends[i - 1] = self.names[i].slot();
+            chains.has_end = true;
             chains.len = i;
         }
         chains
@@ -337,20 +377,20 @@ struct Chains {
     at: [LeafPtr; STARTS],
     ends: [usize; STARTS],
     len: usize,
-    // The slot of the leaf behind the last.
-    until: usize,
+    // Whether one is known behind the last.
+    has_end: bool,
 }
 
 impl Chains {
-    // Reads the leaves, and returns how many of them come before the last end, or fewer.
+    // Reads the leaves, and returns how many of them come before the last end, or fewer, and what was seen.
     fn read<K: AsBytes, V, const PREFIX_LEN: usize>(
         &mut self,
         arena: &NodeArena<K, V, PREFIX_LEN>,
-        seen: &mut u8,
-    ) -> usize {
+        seen: u8,
+    ) -> (usize, u8) {
         let mut met = [false; STARTS];
         let mut len = 0usize;
-        let mut bits = *seen;
+        let mut bits = seen;
         for _ in 0..MOST {
             for i in 0..self.len.min(STARTS) {
                 let leaf = self.at[i];
@@ -364,7 +404,6 @@ impl Chains {
                 }
             }
         }
-        *seen = bits;
-        len
+        (len, bits)
     }
 }

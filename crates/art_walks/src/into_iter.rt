@@ -7,9 +7,11 @@ ghost use Rattle.std.specs.Map.Iter.{TakesFirst, TakesLast};
 ghost use Rattle.art_arena.specs.arena.Shapes.{pairs_of};
 ghost use Rattle.art_walks.specs.Walked.{IsCounted};
 
+use crate::ahead::Ahead;
 use crate::raw_iterator::RawIterator;
 use art_arena::NodeArena;
-use art_nodes::LeafNode;
+use art_bytes::AsBytes;
+use art_nodes::{LeafNode, OpaqueNodePtr};
 use std::iter::FusedIterator;
 use std::marker::Model;
 
@@ -23,6 +25,8 @@ pub struct IntoIter<K, V, const PREFIX_LEN: usize> {
     arena: NodeArena<K, V, PREFIX_LEN>,
     leaves: RawIterator,
     len: usize,
+    root: Option<OpaqueNodePtr>,
+    ahead: Ahead,
 }
 
 impl<K, V, const PREFIX_LEN: usize> Model for IntoIter<K, V, PREFIX_LEN> {
@@ -37,16 +41,29 @@ impl<K, V, const PREFIX_LEN: usize> Model for IntoIter<K, V, PREFIX_LEN> {
 }
 
 impl<K, V, const PREFIX_LEN: usize> IntoIter<K, V, PREFIX_LEN> {
-    /// Returns an iterator over a run of exactly so many leaves, which are linked neighbours in this arena.
-    pub fn new(arena: NodeArena<K, V, PREFIX_LEN>, leaves: RawIterator, len: usize) -> Self
+    /// Returns an iterator over a run of exactly so many leaves, which are linked neighbours in this arena. It reads
+    /// ahead in the tree below this root, if there is one.
+    pub fn new(
+        arena: NodeArena<K, V, PREFIX_LEN>,
+        leaves: RawIterator,
+        len: usize,
+        root: Option<OpaqueNodePtr>,
+    ) -> Self
         requires { IsCounted arena leaves len }
         ensures { (run : IsCounted arena leaves len) → result ≡ pairs_of run.leaves }
     {
-        IntoIter { arena, leaves, len }
+        let ahead = Ahead::new();
+        IntoIter {
+            arena,
+            leaves,
+            len,
+            root,
+            ahead,
+        }
     }
 }
 
-impl<K: Drop, V: Drop, const PREFIX_LEN: usize> Iterator for IntoIter<K, V, PREFIX_LEN> {
+impl<K: AsBytes + Drop, V: Drop, const PREFIX_LEN: usize> Iterator for IntoIter<K, V, PREFIX_LEN> {
     type Item = (K, V);
 
     ghost next_gives = { TakesFirst (λ pair. pair) };
@@ -56,6 +73,7 @@ impl<K: Drop, V: Drop, const PREFIX_LEN: usize> Iterator for IntoIter<K, V, PREF
     #[inline]
     fn next(&mut self) -> Option<(K, V)> {
         let (first, last) = self.leaves.ends()?;
+        self.ahead.step(&self.arena, self.root, self.leaves);
         let leaf = self.arena.deallocate_node_ptr::<LeafNode<K, V>>(first);
         self.leaves = RawIterator::behind(first, last, leaf.next());
         self.len -= 1;
@@ -72,14 +90,17 @@ impl<K: Drop, V: Drop, const PREFIX_LEN: usize> Iterator for IntoIter<K, V, PREF
     }
 }
 
-impl<K: Drop, V: Drop, const PREFIX_LEN: usize> FusedIterator for IntoIter<K, V, PREFIX_LEN> {}
+impl<K: AsBytes + Drop, V: Drop, const PREFIX_LEN: usize> FusedIterator
+    for IntoIter<K, V, PREFIX_LEN> {}
 
-impl<K: Drop, V: Drop, const PREFIX_LEN: usize> DoubleEndedIterator for IntoIter<K, V, PREFIX_LEN> {
+impl<K: AsBytes + Drop, V: Drop, const PREFIX_LEN: usize> DoubleEndedIterator
+    for IntoIter<K, V, PREFIX_LEN> {
     ghost next_back_gives = { TakesLast (λ pair. pair) };
 
     #[inline]
     fn next_back(&mut self) -> Option<(K, V)> {
         let (first, last) = self.leaves.ends()?;
+        self.ahead.stop();
         let leaf = self.arena.deallocate_node_ptr::<LeafNode<K, V>>(last);
         self.leaves = RawIterator::before(first, last, leaf.previous());
         self.len -= 1;
@@ -87,7 +108,8 @@ impl<K: Drop, V: Drop, const PREFIX_LEN: usize> DoubleEndedIterator for IntoIter
     }
 }
 
-impl<K: Drop, V: Drop, const PREFIX_LEN: usize> ExactSizeIterator for IntoIter<K, V, PREFIX_LEN> {
+impl<K: AsBytes + Drop, V: Drop, const PREFIX_LEN: usize> ExactSizeIterator
+    for IntoIter<K, V, PREFIX_LEN> {
     fn len(&self) -> usize {
         self.len
     }
@@ -120,7 +142,7 @@ impl<K, V, const PREFIX_LEN: usize> IntoKeys<K, V, PREFIX_LEN> {
     }
 }
 
-impl<K: Drop, V: Drop, const PREFIX_LEN: usize> Iterator for IntoKeys<K, V, PREFIX_LEN> {
+impl<K: AsBytes + Drop, V: Drop, const PREFIX_LEN: usize> Iterator for IntoKeys<K, V, PREFIX_LEN> {
     type Item = K;
 
     ghost next_gives = { TakesFirst (λ key. key) };
@@ -144,9 +166,11 @@ impl<K: Drop, V: Drop, const PREFIX_LEN: usize> Iterator for IntoKeys<K, V, PREF
     }
 }
 
-impl<K: Drop, V: Drop, const PREFIX_LEN: usize> FusedIterator for IntoKeys<K, V, PREFIX_LEN> {}
+impl<K: AsBytes + Drop, V: Drop, const PREFIX_LEN: usize> FusedIterator
+    for IntoKeys<K, V, PREFIX_LEN> {}
 
-impl<K: Drop, V: Drop, const PREFIX_LEN: usize> DoubleEndedIterator for IntoKeys<K, V, PREFIX_LEN> {
+impl<K: AsBytes + Drop, V: Drop, const PREFIX_LEN: usize> DoubleEndedIterator
+    for IntoKeys<K, V, PREFIX_LEN> {
     ghost next_back_gives = { TakesLast (λ key. key) };
 
     #[inline]
@@ -158,7 +182,8 @@ impl<K: Drop, V: Drop, const PREFIX_LEN: usize> DoubleEndedIterator for IntoKeys
     }
 }
 
-impl<K: Drop, V: Drop, const PREFIX_LEN: usize> ExactSizeIterator for IntoKeys<K, V, PREFIX_LEN> {
+impl<K: AsBytes + Drop, V: Drop, const PREFIX_LEN: usize> ExactSizeIterator
+    for IntoKeys<K, V, PREFIX_LEN> {
     fn len(&self) -> usize {
         self.inner.len()
     }
@@ -191,7 +216,8 @@ impl<K, V, const PREFIX_LEN: usize> IntoValues<K, V, PREFIX_LEN> {
     }
 }
 
-impl<K: Drop, V: Drop, const PREFIX_LEN: usize> Iterator for IntoValues<K, V, PREFIX_LEN> {
+impl<K: AsBytes + Drop, V: Drop, const PREFIX_LEN: usize> Iterator
+    for IntoValues<K, V, PREFIX_LEN> {
     type Item = V;
 
     ghost next_gives = { TakesFirst (λ value. value) };
@@ -215,9 +241,10 @@ impl<K: Drop, V: Drop, const PREFIX_LEN: usize> Iterator for IntoValues<K, V, PR
     }
 }
 
-impl<K: Drop, V: Drop, const PREFIX_LEN: usize> FusedIterator for IntoValues<K, V, PREFIX_LEN> {}
+impl<K: AsBytes + Drop, V: Drop, const PREFIX_LEN: usize> FusedIterator
+    for IntoValues<K, V, PREFIX_LEN> {}
 
-impl<K: Drop, V: Drop, const PREFIX_LEN: usize> DoubleEndedIterator
+impl<K: AsBytes + Drop, V: Drop, const PREFIX_LEN: usize> DoubleEndedIterator
     for IntoValues<K, V, PREFIX_LEN> {
     ghost next_back_gives = { TakesLast (λ value. value) };
 
@@ -230,7 +257,8 @@ impl<K: Drop, V: Drop, const PREFIX_LEN: usize> DoubleEndedIterator
     }
 }
 
-impl<K: Drop, V: Drop, const PREFIX_LEN: usize> ExactSizeIterator for IntoValues<K, V, PREFIX_LEN> {
+impl<K: AsBytes + Drop, V: Drop, const PREFIX_LEN: usize> ExactSizeIterator
+    for IntoValues<K, V, PREFIX_LEN> {
     fn len(&self) -> usize {
         self.inner.len()
     }

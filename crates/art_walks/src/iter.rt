@@ -25,6 +25,7 @@ pub struct Iter<'a, K, V, const PREFIX_LEN: usize, M: 'a = NodeArena<K, V, PREFI
     arena: &'a NodeArena<K, V, PREFIX_LEN>,
     leaves: RawIterator,
     len: usize,
+    root: Option<OpaqueNodePtr>,
     ahead: Ahead,
     mark: PhantomData<M>,
 }
@@ -55,7 +56,8 @@ impl<'a, K: AsBytes, V, const PREFIX_LEN: usize> Iter<'a, K, V, PREFIX_LEN> {
             arena,
             leaves,
             len,
-            ahead: Ahead::new(root),
+            root,
+            ahead: Ahead::new(),
             mark: PhantomData,
         }
     }
@@ -68,7 +70,8 @@ impl<'a, K: AsBytes, V, const PREFIX_LEN: usize> Iter<'a, K, V, PREFIX_LEN> {
             arena: self.arena,
             leaves: self.leaves,
             len: self.len,
-            ahead: Ahead::new(None),
+            root: None,
+            ahead: Ahead::new(),
             mark: PhantomData,
         }
     }
@@ -84,7 +87,8 @@ impl<'a, K, V, const PREFIX_LEN: usize> Clone for Iter<'a, K, V, PREFIX_LEN> {
             arena: self.arena,
             leaves: self.leaves,
             len: self.len,
-            ahead: self.ahead,
+            root: self.root,
+            ahead: self.ahead.another(),
             mark: PhantomData,
         })
     }
@@ -100,7 +104,7 @@ impl<'a, K: AsBytes, V, const PREFIX_LEN: usize> Iterator for Iter<'a, K, V, PRE
     #[inline]
     fn next(&mut self) -> Option<(&'a K, &'a V)> {
         let arena = self.arena;
-        self.ahead.step(arena, self.leaves);
+        self.ahead.step(arena, self.root, self.leaves);
         match self.leaves.next(arena) {
             Some(leaf) => {
                 self.len -= 1;

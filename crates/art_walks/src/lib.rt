@@ -17,6 +17,7 @@ mod stats;
 mod subtree;
 mod visitor;
 
+pub use ahead::Ahead;
 pub use bounds::bounds_are_valid;
 pub use checker::WellFormedChecker;
 pub use into_iter::{IntoIter, IntoKeys, IntoValues};

@@ -22,6 +22,7 @@ use std::marker::{Model, PhantomData};
 pub struct Range<'a, K, V, const PREFIX_LEN: usize, M: 'a = NodeArena<K, V, PREFIX_LEN>> {
     arena: &'a NodeArena<K, V, PREFIX_LEN>,
     leaves: RawIterator,
+    root: Option<OpaqueNodePtr>,
     ahead: Ahead,
     mark: PhantomData<M>,
 }
@@ -50,7 +51,8 @@ impl<'a, K: AsBytes, V, const PREFIX_LEN: usize> Range<'a, K, V, PREFIX_LEN> {
         Range {
             arena,
             leaves,
-            ahead: Ahead::new(root),
+            root,
+            ahead: Ahead::new(),
             mark: PhantomData,
         }
     }
@@ -65,7 +67,8 @@ impl<'a, K, V, const PREFIX_LEN: usize> Clone for Range<'a, K, V, PREFIX_LEN> {
         Ok(Range {
             arena: self.arena,
             leaves: self.leaves,
-            ahead: self.ahead,
+            root: self.root,
+            ahead: self.ahead.another(),
             mark: PhantomData,
         })
     }
@@ -81,7 +84,7 @@ impl<'a, K: AsBytes, V, const PREFIX_LEN: usize> Iterator for Range<'a, K, V, PR
     #[inline]
     fn next(&mut self) -> Option<(&'a K, &'a V)> {
         let arena = self.arena;
-        self.ahead.step(arena, self.leaves);
+        self.ahead.step(arena, self.root, self.leaves);
         let leaf = match self.leaves.next(arena) {
             Some(leaf) => leaf,
             None => return None,

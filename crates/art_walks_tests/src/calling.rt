@@ -117,39 +117,39 @@ pub fn values_of<K: AsBytes, V: Copy>(
 }
 
 /// The first pair of a run of so many leaves and the last, which leave the arena; all others are dropped.
-pub fn into_ends<K: Drop, V: Drop>(
+pub fn into_ends<K: AsBytes + Drop, V: Drop>(
     arena: NodeArena<K, V, 4>,
     run: RawIterator,
     len: usize,
 ) -> (Option<(K, V)>, Option<(K, V)>)
     requires { IsCounted arena run len }
 {
-    let mut pairs = IntoIter::new(arena, run, len);
+    let mut pairs = IntoIter::new(arena, run, len, None);
     let first = pairs.next();
     let last = pairs.next_back();
     (first, last)
 }
 
 /// The last key of a run of so many leaves; all others are dropped.
-pub fn last_key<K: Drop, V: Drop>(
+pub fn last_key<K: AsBytes + Drop, V: Drop>(
     arena: NodeArena<K, V, 4>,
     run: RawIterator,
     len: usize,
 ) -> Option<K>
     requires { IsCounted arena run len }
 {
-    IntoKeys::new(IntoIter::new(arena, run, len)).next_back()
+    IntoKeys::new(IntoIter::new(arena, run, len, None)).next_back()
 }
 
 /// The first value of a run of so many leaves; all others are dropped.
-pub fn first_value<K: Drop, V: Drop>(
+pub fn first_value<K: AsBytes + Drop, V: Drop>(
     arena: NodeArena<K, V, 4>,
     run: RawIterator,
     len: usize,
 ) -> Option<V>
     requires { IsCounted arena run len }
 {
-    IntoValues::new(IntoIter::new(arena, run, len)).next()
+    IntoValues::new(IntoIter::new(arena, run, len, None)).next()
 }
 
 /// How many leaves a tree has that may be damaged, or a fault that it has.

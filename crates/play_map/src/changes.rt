@@ -66,6 +66,34 @@ macro_rules! show_filled {
     };
 }
 
+// Puts a value in at an entry that has none, by the one of four calls that is told, and shows what it lends.
+macro_rules! lend_by {
+    ($rt:ident, $entry:expr, $number:ident, $call:ident: $plain:literal, $default:literal, $with:literal) => {{
+        let next = $number.wrapping_add(1);
+        match $call {
+            $plain => show_lent!($rt, $entry.or_insert($number), next),
+            $default => show_lent!($rt, $entry.or_default(), next),
+            $with => show_lent!($rt, $entry.or_insert_with(|| $number), next),
+            _ => show_lent!($rt, $entry.or_insert_with_key(|key| key.as_bytes().len() as u64), next),
+        }
+    }};
+}
+
+// Does the same by the calls that return the entry which is occupied then, and shows that.
+macro_rules! fill_by {
+    ($rt:ident, $entry:expr, $number:ident, $call:ident: $plain:literal, $default:literal, $with:literal) => {{
+        let next = $number.wrapping_add(1);
+        match $call {
+            $plain => show_filled!($rt, $entry.or_insert_entry($number), next),
+            $default => show_filled!($rt, $entry.or_default_entry(), next),
+            $with => show_filled!($rt, $entry.or_insert_with_entry(|| $number), next),
+            _ => show_filled!($rt, $entry.or_insert_with_key_entry(|key| key.as_bytes().len() as u64), next),
+        }
+    }};
+}
+
+pub(crate) use fill_by;
+pub(crate) use lend_by;
 pub(crate) use show_filled;
 pub(crate) use show_lent;
 

@@ -1,6 +1,8 @@
 // Entries of keys none of which is a front of another, and `insert`.
 
-use crate::changes::{show_filled, show_key, show_lent, show_refused, show_stored, write_over};
+use crate::changes::{
+    fill_by, lend_by, show_filled, show_key, show_lent, show_refused, show_stored, write_over,
+};
 use crate::key::{EndedKey, PlayedKey};
 use crate::told::{Told, say, show_number, show_old};
 use art_bytes::AsBytes;
@@ -16,18 +18,14 @@ fn lend<const PREFIX_LEN: usize>(
     call: &str,
     number: u64,
 ) -> io::Result<()> {
-    let next = number.wrapping_add(1);
-    match call {
-        "or_insert" => show_lent!(rt, map.entry(key).or_insert(number), next),
-        "or_default" => show_lent!(rt, map.entry(key).or_default(), next),
-        "or_insert_with" => show_lent!(rt, map.entry(key).or_insert_with(|| number), next),
-        _ => show_lent!(
-            rt,
-            map.entry(key)
-                .or_insert_with_key(|key| key.as_bytes().len() as u64),
-            next
-        ),
-    }
+    lend_by!(
+        rt,
+        map.entry(key),
+        number,
+        call: "or_insert",
+        "or_default",
+        "or_insert_with"
+    )
 }
 
 // Calls that return the entry of what stands at a key then.
@@ -38,25 +36,25 @@ fn fill<const PREFIX_LEN: usize>(
     call: &str,
     number: u64,
 ) -> io::Result<()> {
+    fill_by!(
+        rt,
+        map.entry(key),
+        number,
+        call: "or_insert_entry",
+        "or_default_entry",
+        "or_insert_with_entry"
+    )
+}
+
+// Puts a value in, or over the stored one, and shows the entry.
+fn insert_entry<const PREFIX_LEN: usize>(
+    rt: &impl Print,
+    map: &mut TreeMap<EndedKey, u64, PREFIX_LEN>,
+    key: EndedKey,
+    number: u64,
+) -> io::Result<()> {
     let next = number.wrapping_add(1);
-    match call {
-        "or_insert_entry" => show_filled!(rt, map.entry(key).or_insert_entry(number), next),
-        "or_default_entry" => show_filled!(rt, map.entry(key).or_default_entry(), next),
-        "or_insert_with_entry" => show_filled!(
-            rt,
-            map.entry(key).or_insert_with_entry(|| number),
-            next
-        ),
-        "or_insert_with_key_entry" => {
-            show_filled!(
-                rt,
-                map.entry(key)
-                    .or_insert_with_key_entry(|key| key.as_bytes().len() as u64),
-                next
-            )
-        }
-        _ => show_filled!(rt, map.entry(key).insert_entry(number), next),
-    }
+    show_filled!(rt, map.entry(key).insert_entry(number), next)
 }
 
 // Takes the pair of an entry out, its key with it or not.
@@ -177,6 +175,7 @@ fn with_key<const PREFIX_LEN: usize>(
     }
     match call {
         "insert" => insert(rt, map, key, number),
+        "insert_entry" => insert_entry(rt, map, key, number),
         "replace_entry" => match map.replace_entry(key, number) {
             Ok(Some((key, value))) => show_stored(rt, &key, value),
             Ok(None) => say(rt, "None"),

@@ -3,7 +3,7 @@
 use crate::changes::show_taken;
 use crate::key::PlayedKey;
 use crate::told::{Told, say};
-use crate::walks::has_range;
+use crate::walks::{has_range, in_range};
 use art_bytes::{AsBytes, SliceKey};
 use art_map::{Extraction, TreeMap};
 use play_script::{Asked, bound_of};
@@ -58,17 +58,13 @@ fn extract<K: PlayedKey, const PREFIX_LEN: usize>(
     map: &mut TreeMap<K, u64, PREFIX_LEN>,
     asked: &Asked<'_>,
 ) -> io::Result<()> {
-    let (first, second) = (SliceKey(asked.first), SliceKey(asked.second));
-    let start = bound_of(asked.words[0], &first);
-    let end = bound_of(asked.words[1], &second);
-    if !has_range(map, start, end) {
-        return say(rt, "invalid");
-    }
-    let mut pairs = map.extraction(start, end);
-    for letter in asked.words[2].bytes() {
-        step(rt, &mut pairs, letter)?;
-    }
-    say(rt, "end")
+    in_range!(rt, map, asked, |start, end| {
+        let mut pairs = map.extraction(start, end);
+        for letter in asked.words[2].bytes() {
+            step(rt, &mut pairs, letter)?;
+        }
+        say(rt, "end")
+    })
 }
 
 // Prints a pair that left the map by a closure, or why none did.
@@ -93,29 +89,25 @@ fn extract_if<K: PlayedKey, const PREFIX_LEN: usize>(
     map: &mut TreeMap<K, u64, PREFIX_LEN>,
     asked: &Asked<'_>,
 ) -> io::Result<()> {
-    let (first, second) = (SliceKey(asked.first), SliceKey(asked.second));
-    let start = bound_of(asked.words[0], &first);
-    let end = bound_of(asked.words[1], &second);
-    if !has_range(map, start, end) {
-        return say(rt, "invalid");
-    }
-    let least = asked.number(3);
-    let mut calls = 0u64;
-    let mut pairs = map.extract_if(start, end, |_, value| {
-        calls = calls.wrapping_add(1);
-        *value = value.wrapping_add(1);
-        *value >= least
-    });
-    for letter in asked.words[2].bytes() {
-        let taken = if letter == b'b' {
-            pairs.next_back()
-        } else {
-            pairs.next()
-        };
-        show_extracted(rt, taken)?;
-    }
-    drop(pairs);
-    show_calls(rt, "end", calls)
+    in_range!(rt, map, asked, |start, end| {
+        let least = asked.number(3);
+        let mut calls = 0u64;
+        let mut pairs = map.extract_if(start, end, |_, value| {
+            calls = calls.wrapping_add(1);
+            *value = value.wrapping_add(1);
+            *value >= least
+        });
+        for letter in asked.words[2].bytes() {
+            let taken = if letter == b'b' {
+                pairs.next_back()
+            } else {
+                pairs.next()
+            };
+            show_extracted(rt, taken)?;
+        }
+        drop(pairs);
+        show_calls(rt, "end", calls)
+    })
 }
 
 // Keeps what is at least a number. The closure counts its calls.

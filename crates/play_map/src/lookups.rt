@@ -17,8 +17,8 @@ pub fn show_pair<K: PlayedKey>(rt: &impl Print, pair: Option<(&K, &u64)>) -> io:
     }
 }
 
-// Writes a value where it is lent, and prints the one that was there.
-fn write(rt: &impl Print, lent: Option<&mut u64>, number: u64) -> io::Result<()> {
+/// Writes a value where it is lent, and prints the one that was there.
+pub fn write(rt: &impl Print, lent: Option<&mut u64>, number: u64) -> io::Result<()> {
     match lent {
         Some(value) => write_over(rt, value, number),
         None => say(rt, "None"),

@@ -50,44 +50,26 @@ macro_rules! show_merge {
     }};
 }
 
-fn difference<const PREFIX_LEN: usize>(
+// What a merge of the two sets gives.
+fn merge<const PREFIX_LEN: usize>(
     rt: &impl Print,
     set: &TreeSet<EndedKey, PREFIX_LEN>,
     other: &TreeSet<EndedKey, PREFIX_LEN>,
-    most: usize,
-    is_counted: bool,
+    asked: &Asked<'_>,
 ) -> io::Result<()> {
-    show_merge!(rt, set.difference(other), most, is_counted)
-}
-
-fn symmetric_difference<const PREFIX_LEN: usize>(
-    rt: &impl Print,
-    set: &TreeSet<EndedKey, PREFIX_LEN>,
-    other: &TreeSet<EndedKey, PREFIX_LEN>,
-    most: usize,
-    is_counted: bool,
-) -> io::Result<()> {
-    show_merge!(rt, set.symmetric_difference(other), most, is_counted)
-}
-
-fn intersection<const PREFIX_LEN: usize>(
-    rt: &impl Print,
-    set: &TreeSet<EndedKey, PREFIX_LEN>,
-    other: &TreeSet<EndedKey, PREFIX_LEN>,
-    most: usize,
-    is_counted: bool,
-) -> io::Result<()> {
-    show_merge!(rt, set.intersection(other), most, is_counted)
-}
-
-fn union<const PREFIX_LEN: usize>(
-    rt: &impl Print,
-    set: &TreeSet<EndedKey, PREFIX_LEN>,
-    other: &TreeSet<EndedKey, PREFIX_LEN>,
-    most: usize,
-    is_counted: bool,
-) -> io::Result<()> {
-    show_merge!(rt, set.union(other), most, is_counted)
+    let most = set.len().saturating_add(other.len());
+    let is_counted = asked.words[0] == "count";
+    match asked.call {
+        "difference" => show_merge!(rt, set.difference(other), most, is_counted),
+        "symmetric_difference" => show_merge!(
+            rt,
+            set.symmetric_difference(other),
+            most,
+            is_counted
+        ),
+        "intersection" => show_merge!(rt, set.intersection(other), most, is_counted),
+        _ => show_merge!(rt, set.union(other), most, is_counted),
+    }
 }
 
 // How the two sets compare.
@@ -111,16 +93,13 @@ pub fn answer<const PREFIX_LEN: usize>(
     other: &TreeSet<EndedKey, PREFIX_LEN>,
     asked: &Asked<'_>,
 ) -> Told {
-    let most = set.len().saturating_add(other.len());
-    let is_counted = asked.words[0] == "count";
     Some(match asked.call {
         "is_disjoint" => show_bool(rt, set.is_disjoint(other)),
         "is_subset" => show_bool(rt, set.is_subset(other)),
         "is_superset" => show_bool(rt, set.is_superset(other)),
-        "difference" => difference(rt, set, other, most, is_counted),
-        "symmetric_difference" => symmetric_difference(rt, set, other, most, is_counted),
-        "intersection" => intersection(rt, set, other, most, is_counted),
-        "union" => union(rt, set, other, most, is_counted),
+        "difference" | "symmetric_difference" | "intersection" | "union" => merge(
+            rt, set, other, asked,
+        ),
         "compare" => compare(rt, set, other),
         _ => return None,
     })

@@ -1,7 +1,10 @@
 // Entries of keys that may be in conflict: `try_entry`, and prefix entries.
 
-use crate::changes::{show_filled, show_key, show_lent, show_refused, show_stored, write_over};
+use crate::changes::{
+    fill_by, lend_by, show_filled, show_key, show_lent, show_refused, show_stored, write_over,
+};
 use crate::key::{FreeKey, PlayedKey};
+use crate::lookups::write;
 use crate::told::{Told, say, show_bool, show_value};
 use crate::walks::{raise, show_in_list};
 use art_bytes::AsBytes;
@@ -46,22 +49,14 @@ fn lend<const PREFIX_LEN: usize>(
     call: &str,
     number: u64,
 ) -> io::Result<()> {
-    let next = number.wrapping_add(1);
-    match call {
-        "prefix_or_insert" => show_lent!(rt, map.prefix_entry(key).or_insert(number), next),
-        "prefix_or_default" => show_lent!(rt, map.prefix_entry(key).or_default(), next),
-        "prefix_or_insert_with" => show_lent!(
-            rt,
-            map.prefix_entry(key).or_insert_with(|| number),
-            next
-        ),
-        _ => show_lent!(
-            rt,
-            map.prefix_entry(key)
-                .or_insert_with_key(|key| key.as_bytes().len() as u64),
-            next
-        ),
-    }
+    lend_by!(
+        rt,
+        map.prefix_entry(key),
+        number,
+        call: "prefix_or_insert",
+        "prefix_or_default",
+        "prefix_or_insert_with"
+    )
 }
 
 // Puts a value in where there is none, and shows the entry that is occupied then.
@@ -72,26 +67,14 @@ fn fill<const PREFIX_LEN: usize>(
     call: &str,
     number: u64,
 ) -> io::Result<()> {
-    let next = number.wrapping_add(1);
-    match call {
-        "prefix_or_insert_entry" => {
-            show_filled!(rt, map.prefix_entry(key).or_insert_entry(number), next)
-        }
-        "prefix_or_default_entry" => {
-            show_filled!(rt, map.prefix_entry(key).or_default_entry(), next)
-        }
-        "prefix_or_insert_with_entry" => show_filled!(
-            rt,
-            map.prefix_entry(key).or_insert_with_entry(|| number),
-            next
-        ),
-        _ => show_filled!(
-            rt,
-            map.prefix_entry(key)
-                .or_insert_with_key_entry(|key| key.as_bytes().len() as u64),
-            next
-        ),
-    }
+    fill_by!(
+        rt,
+        map.prefix_entry(key),
+        number,
+        call: "prefix_or_insert_entry",
+        "prefix_or_default_entry",
+        "prefix_or_insert_with_entry"
+    )
 }
 
 // Sets the value of an occupied entry, or of one in conflict alone, by what lends the value or returns the entry.
@@ -123,14 +106,6 @@ fn set<const PREFIX_LEN: usize>(
 fn show_stored_key(rt: &impl Print, key: Option<&FreeKey>) -> io::Result<()> {
     match key {
         Some(key) => show_key(rt, "", key),
-        None => say(rt, "None"),
-    }
-}
-
-// Writes a number over the value that an entry shows, and prints the one that was there.
-fn write(rt: &impl Print, lent: Option<&mut u64>, number: u64) -> io::Result<()> {
-    match lent {
-        Some(value) => write_over(rt, value, number),
         None => say(rt, "None"),
     }
 }

@@ -6,7 +6,7 @@ ghost use Rattle.art_walks.specs.Bounds.{AreValidKeyBounds};
 use crate::key::{EndedKey, PlayedKey};
 use crate::told::{Told, say, show_bool, show_done, show_hash, show_number, show_text};
 use crate::two_sets;
-use crate::walks::left;
+use crate::walks::{count, in_range, list};
 use art_bytes::{AsBytes, SliceKey};
 use art_set::{RefusedKey, TreeSet};
 use art_walks::bounds_are_valid;
@@ -58,8 +58,8 @@ fn show_taken(rt: &impl Print, taken: Result<Option<EndedKey>, AllocError>) -> i
     }
 }
 
-// Prints a key in a list, behind how many were left.
-fn show_counted(rt: &impl Print, left: usize, key: Option<&EndedKey>) -> io::Result<()> {
+/// Prints a key in a list, behind how many were left.
+pub fn show_counted(rt: &impl Print, left: usize, key: Option<&EndedKey>) -> io::Result<()> {
     match key {
         Some(key) => print!(rt; "{left} {key}, "),
         None => print!(rt; "{left} None, "),
@@ -76,45 +76,19 @@ fn show_len(rt: &impl Print, len: usize, is_empty: bool) -> io::Result<()> {
     println!(rt; "{len} {is_empty}")
 }
 
-fn show_keys<const PREFIX_LEN: usize>(
-    rt: &impl Print,
-    set: &TreeSet<EndedKey, PREFIX_LEN>,
-    ends: &str,
-) -> io::Result<()> {
-    let mut keys = set.iter();
-    for end in ends.bytes() {
-        let left = left(keys.len(), keys.size_hint());
-        let key = if end == b'b' {
-            keys.next_back()
-        } else {
-            keys.next()
-        };
-        show_counted(rt, left, key)?;
-    }
-    say(rt, "end")
-}
-
 fn show_range<const PREFIX_LEN: usize>(
     rt: &impl Print,
     set: &TreeSet<EndedKey, PREFIX_LEN>,
     asked: &Asked<'_>,
 ) -> io::Result<()> {
-    let (first, second) = (SliceKey(asked.first), SliceKey(asked.second));
-    let start = bound_of(asked.words[0], &first);
-    let end = bound_of(asked.words[1], &second);
-    if !has_range(set, start, end) {
-        return say(rt, "invalid");
-    }
-    let mut keys = set.range(start, end);
-    for end in asked.words[2].bytes() {
-        let key = if end == b'b' {
-            keys.next_back()
-        } else {
-            keys.next()
-        };
-        show_in_list(rt, key)?;
-    }
-    say(rt, "end")
+    in_range!(rt, set, asked, |start, end| {
+        list(
+            rt,
+            set.range(start, end),
+            asked.words[2],
+            |key| show_in_list(rt, key),
+        )
+    })
 }
 
 // Prints a key that left the set by a closure, or why none did.
@@ -130,17 +104,13 @@ fn extract<const PREFIX_LEN: usize>(
     set: &mut TreeSet<EndedKey, PREFIX_LEN>,
     asked: &Asked<'_>,
 ) -> io::Result<()> {
-    let (first, second) = (SliceKey(asked.first), SliceKey(asked.second));
-    let start = bound_of(asked.words[0], &first);
-    let end = bound_of(asked.words[1], &second);
-    if !has_range(set, start, end) {
-        return say(rt, "invalid");
-    }
-    let mut keys = set.extract_if(start, end, |key| is_even(key));
-    for _ in asked.words[2].bytes() {
-        show_extracted(rt, keys.next())?;
-    }
-    say(rt, "end")
+    in_range!(rt, set, asked, |start, end| {
+        let mut keys = set.extract_if(start, end, |key| is_even(key));
+        for _ in asked.words[2].bytes() {
+            show_extracted(rt, keys.next())?;
+        }
+        say(rt, "end")
+    })
 }
 
 // Look-ups and walks.
@@ -156,7 +126,12 @@ fn read<const PREFIX_LEN: usize>(
         "get" => show(rt, set.get(&query)),
         "first" => show(rt, set.first()),
         "last" => show(rt, set.last()),
-        "iter" => show_keys(rt, set, asked.words[0]),
+        "iter" => count(
+            rt,
+            set.iter(),
+            asked.words[0],
+            |before, _, key| show_counted(rt, before, key),
+        ),
         "range" => show_range(rt, set, asked),
         "debug" => show_text(rt, set),
         "hash" => show_hash(rt, set),

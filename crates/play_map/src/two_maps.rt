@@ -7,7 +7,7 @@ use crate::copies::copy_map;
 use crate::key::EndedKey;
 use crate::prefix_removals::{most_read, show_removed};
 use crate::told::{Told, say, show_done, show_hash, show_order, show_text};
-use crate::walks::left;
+use crate::walks::{count, drain, show_counted_key, show_counted_value};
 use art_bytes::SliceKey;
 use art_map::TreeMap;
 use art_operations::InsertRefused;
@@ -68,113 +68,6 @@ fn show_given(rt: &impl Print, left: usize, pair: Option<(EndedKey, u64)>) -> io
         Some((key, value)) => print!(rt; "{left} {key} {value}, "),
         None => print!(rt; "{left} None, "),
     }
-}
-
-// Prints how many keys are left and one that a walk gives, or that it gives none.
-fn show_given_key(rt: &impl Print, left: usize, key: Option<EndedKey>) -> io::Result<()> {
-    match key {
-        Some(key) => print!(rt; "{left} {key}, "),
-        None => print!(rt; "None, "),
-    }
-}
-
-// Prints how many values are left and one that a walk gives, or that it gives none.
-fn show_given_value(rt: &impl Print, left: usize, value: Option<u64>) -> io::Result<()> {
-    print!(rt; "{left} {value:?}, ")
-}
-
-// Takes the map's pairs from the ends that letters tell. The others are dropped. What owns a walk has one way out:
-// each other one would have a proof that the walk may be dropped there.
-fn into_iter<const PREFIX_LEN: usize>(
-    rt: &(impl Print + AllocGlobal),
-    map: &mut TreeMap<EndedKey, u64, PREFIX_LEN>,
-    ends: &str,
-) -> io::Result<()>
-    requires { PREFIX_LEN ≤ 16 }
-{
-    let mut pairs = taken(rt.alloc(), map).into_iter();
-    for end in ends.bytes() {
-        let left = left(pairs.len(), pairs.size_hint());
-        let pair = if end == b'b' {
-            pairs.next_back()
-        } else {
-            pairs.next()
-        };
-        if show_given(rt, left, pair).is_err() {
-            break;
-        }
-    }
-    say(rt, "end")
-}
-
-// Takes the keys of a map from its ends, and prints each.
-fn into_keys<const PREFIX_LEN: usize>(
-    rt: &(impl Print + AllocGlobal),
-    map: &mut TreeMap<EndedKey, u64, PREFIX_LEN>,
-    ends: &str,
-) -> io::Result<()>
-    requires { PREFIX_LEN ≤ 16 }
-{
-    let mut keys = taken(rt.alloc(), map).into_keys();
-    for end in ends.bytes() {
-        let key = if end == b'b' {
-            keys.next_back()
-        } else {
-            keys.next()
-        };
-        if show_given_key(rt, left(keys.len(), keys.size_hint()), key).is_err() {
-            break;
-        }
-    }
-    say(rt, "end")
-}
-
-// Takes the values of a map from its ends, and prints each.
-fn into_values<const PREFIX_LEN: usize>(
-    rt: &(impl Print + AllocGlobal),
-    map: &mut TreeMap<EndedKey, u64, PREFIX_LEN>,
-    ends: &str,
-) -> io::Result<()>
-    requires { PREFIX_LEN ≤ 16 }
-{
-    let mut values = taken(rt.alloc(), map).into_values();
-    for end in ends.bytes() {
-        let value = if end == b'b' {
-            values.next_back()
-        } else {
-            values.next()
-        };
-        let left = left(values.len(), values.size_hint());
-        if show_given_value(rt, left, value).is_err() {
-            break;
-        }
-    }
-    say(rt, "end")
-}
-
-// The second map's pairs go behind those in the bag, from its front or from its back, and it is empty then. So a call
-// that is given the bag takes no memory but its own.
-fn drain<const PREFIX_LEN: usize>(
-    rt: &(impl Print + AllocGlobal),
-    other: &mut TreeMap<EndedKey, u64, PREFIX_LEN>,
-    bag: &mut Bag,
-    end: &str,
-) -> io::Result<()>
-    requires { PREFIX_LEN ≤ 16 }
-{
-    let mut is_done = true;
-    let mut walk = taken(rt.alloc(), other).into_iter();
-    for _ in 0..walk.len() {
-        let pair = if end == "b" {
-            walk.next_back()
-        } else {
-            walk.next()
-        };
-        if let Some(pair) = pair {
-            is_done = bag.push(pair).is_ok() && is_done;
-        }
-    }
-    show_done(rt, is_done)
 }
 
 // The bag's pairs are put in one by one.
@@ -272,9 +165,24 @@ fn call_one<const PREFIX_LEN: usize>(
     Some(match asked.call {
         "debug" => show_text(rt, map),
         "hash" => show_hash(rt, map),
-        "into_iter" => into_iter(rt, map, ends),
-        "into_keys" => into_keys(rt, map, ends),
-        "into_values" => into_values(rt, map, ends),
+        "into_iter" => count(
+            rt,
+            taken(rt.alloc(), map).into_iter(),
+            ends,
+            |before, _, pair| show_given(rt, before, pair),
+        ),
+        "into_keys" => count(
+            rt,
+            taken(rt.alloc(), map).into_keys(),
+            ends,
+            |_, after, key| show_counted_key(rt, after, key.as_ref()),
+        ),
+        "into_values" => count(
+            rt,
+            taken(rt.alloc(), map).into_values(),
+            ends,
+            |_, after, value| show_counted_value(rt, after, value.as_ref()),
+        ),
         _ => return None,
     })
 }
@@ -311,7 +219,12 @@ pub fn answer<const PREFIX_LEN: usize>(
     requires { PREFIX_LEN ≤ 16 }
 {
     Some(match asked.call {
-        "drain" => drain(rt, other, bag, asked.words[0]),
+        "drain" => drain(
+            rt,
+            taken(rt.alloc(), other).into_iter(),
+            bag,
+            asked.words[0],
+        ),
         "extend" => extend(rt, map, bag),
         "from_vec" | "from_iter" => from_bag(rt, map, bag, asked.call),
         _ => return call_both(rt, map, other, asked),

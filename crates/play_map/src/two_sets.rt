@@ -4,9 +4,9 @@ ghost use Rattle.std.specs.Prelude.{◌≤◌};
 use crate::copies::copy_set;
 use crate::key::EndedKey;
 use crate::merges;
-use crate::sets::show_refused;
+use crate::sets::{show_counted, show_refused};
 use crate::told::{Told, say, show_done};
-use crate::walks::left;
+use crate::walks::{count, drain};
 use art_bytes::SliceKey;
 use art_set::{RefusedKey, TreeSet};
 use play_script::Asked;
@@ -71,62 +71,6 @@ fn taken<const PREFIX_LEN: usize>(
     requires { PREFIX_LEN ≤ 16 }
 {
     mem::replace(set, TreeSet::with_prefix_len(alloc))
-}
-
-// Prints how many keys were left and one that a walk gives, or that it gives none.
-fn show_given(rt: &impl Print, left: usize, key: Option<EndedKey>) -> io::Result<()> {
-    match key {
-        Some(key) => print!(rt; "{left} {key}, "),
-        None => print!(rt; "{left} None, "),
-    }
-}
-
-// Takes the set's keys from the ends that letters tell; the others are dropped.
-fn into_iter<const PREFIX_LEN: usize>(
-    rt: &(impl Print + AllocGlobal),
-    set: &mut TreeSet<EndedKey, PREFIX_LEN>,
-    ends: &str,
-) -> io::Result<()>
-    requires { PREFIX_LEN ≤ 16 }
-{
-    let mut keys = taken(rt.alloc(), set).into_iter();
-    for end in ends.bytes() {
-        let left = left(keys.len(), keys.size_hint());
-        let key = if end == b'b' {
-            keys.next_back()
-        } else {
-            keys.next()
-        };
-        if show_given(rt, left, key).is_err() {
-            break;
-        }
-    }
-    say(rt, "end")
-}
-
-// The second set's keys go behind those in the bag, from its front or from its back, and it is empty then. So a call
-// that is given the bag takes no memory but its own.
-fn drain<const PREFIX_LEN: usize>(
-    rt: &(impl Print + AllocGlobal),
-    other: &mut TreeSet<EndedKey, PREFIX_LEN>,
-    bag: &mut Vec<EndedKey>,
-    end: &str,
-) -> io::Result<()>
-    requires { PREFIX_LEN ≤ 16 }
-{
-    let mut is_done = true;
-    let mut walk = taken(rt.alloc(), other).into_iter();
-    for _ in 0..walk.len() {
-        let key = if end == "b" {
-            walk.next_back()
-        } else {
-            walk.next()
-        };
-        if let Some(key) = key {
-            is_done = bag.push(key).is_ok() && is_done;
-        }
-    }
-    show_done(rt, is_done)
 }
 
 // The bag's keys are put in one by one.
@@ -211,8 +155,18 @@ pub fn answer<const PREFIX_LEN: usize>(
     requires { PREFIX_LEN ≤ 16 }
 {
     Some(match asked.call {
-        "into_iter" => into_iter(rt, set, asked.words[0]),
-        "drain" => drain(rt, other, bag, asked.words[0]),
+        "into_iter" => count(
+            rt,
+            taken(rt.alloc(), set).into_iter(),
+            asked.words[0],
+            |before, _, key| show_counted(rt, before, key.as_ref()),
+        ),
+        "drain" => drain(
+            rt,
+            taken(rt.alloc(), other).into_iter(),
+            bag,
+            asked.words[0],
+        ),
         "extend" => extend(rt, set, bag),
         "from_vec" | "from_iter" => from_bag(rt, set, bag, asked.call),
         _ => return change_both(rt, set, other, asked),

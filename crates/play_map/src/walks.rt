@@ -1,14 +1,14 @@
 // Walks, from both ends as letters tell: pairs, keys, values, ranges and prefixes, and those that lend values.
 
-ghost use Rattle.std.specs.Prelude.{◌≡◌, ◌⊎◌, [], IsTrue};
+ghost use Rattle.std.specs.Prelude.{◌≡◌, ◌⊎◌, ℕ, [], IsTrue, Option};
 ghost use Rattle.std.specs.Range.Bound.{bound_map};
 ghost use Rattle.art_walks.specs.Bounds.{AreValidKeyBounds};
 
 use crate::key::PlayedKey;
-use crate::told::{Told, say};
+use crate::told::{Told, say, show_done};
 use art_bytes::{AsBytes, SliceKey};
 use art_map::{IterMut, RangeMut, TreeMap, ValuesMut};
-use art_walks::{Iter, Keys, Prefix, Range, Values, bounds_are_valid};
+use art_walks::bounds_are_valid;
 use play_script::{Asked, bound_of};
 use std::io;
 use std::ops::Bound;
@@ -24,6 +24,22 @@ pub fn has_range<K: AsBytes, Q: AsBytes, const PREFIX_LEN: usize>(
 {
     map.is_empty() || bounds_are_valid(start, end)
 }
+
+// What is done with the range between the two bounds that a line names, where its bounds are valid.
+macro_rules! in_range {
+    ($rt:ident, $map:ident, $asked:ident, |$start:ident, $end:ident| $done:expr) => {{
+        let (first, second) = (SliceKey($asked.first), SliceKey($asked.second));
+        let $start = bound_of($asked.words[0], &first);
+        let $end = bound_of($asked.words[1], &second);
+        if has_range($map, $start, $end) {
+            $done
+        } else {
+            say($rt, "invalid")
+        }
+    }};
+}
+
+pub(crate) use in_range;
 
 /// How many are left of a walk, where its hint is that too; else a number that no walk has.
 pub fn left(len: usize, hint: (usize, Option<usize>)) -> usize {
@@ -48,104 +64,91 @@ fn show_counted<K: PlayedKey>(
     left: usize,
     pair: Option<(&K, &u64)>,
 ) -> io::Result<()> {
-    match pair {
-        Some((key, value)) => print!(rt; "{left} {key} {value}, "),
-        None => print!(rt; "{left} None, "),
-    }
+    show_left(rt, left)?;
+    show_in_list(rt, pair)
 }
 
-// Prints a key in a list, behind how many are left, or that there is none.
-fn show_counted_key<K: PlayedKey>(rt: &impl Print, left: usize, key: Option<&K>) -> io::Result<()> {
+/// Prints a key in a list, behind how many are left, or that there is none.
+pub fn show_counted_key<K: PlayedKey>(
+    rt: &impl Print,
+    left: usize,
+    key: Option<&K>,
+) -> io::Result<()> {
     match key {
         Some(key) => print!(rt; "{left} {key}, "),
         None => print!(rt; "None, "),
     }
 }
 
-// Prints a value in a list, behind how many are left.
-fn show_counted_value(rt: &impl Print, left: usize, value: Option<&u64>) -> io::Result<()> {
+/// Prints a value in a list, behind how many are left.
+pub fn show_counted_value(rt: &impl Print, left: usize, value: Option<&u64>) -> io::Result<()> {
     print!(rt; "{left} {value:?}, ")
 }
 
-fn show_iter<K: PlayedKey, const PREFIX_LEN: usize>(
+/// Takes a step of a walk: at `b` from the back.
+pub fn take<W: DoubleEndedIterator>(walk: &mut W, end: u8) -> Option<W::Item>
+    requires front { W.can_next walk.old }
+    requires back { W.can_next_back walk.old }
+{
+    if end == b'b' {
+        walk.next_back()
+    } else {
+        walk.next()
+    }
+}
+
+/// Takes the steps of a walk that letters tell, and shows what each gives.
+pub fn list<W: DoubleEndedIterator + Drop, F: Fn(Option<W::Item>) -> io::Result<()> + Drop>(
     rt: &impl Print,
-    mut walk: Iter<'_, K, u64, PREFIX_LEN>,
+    mut walk: W,
     ends: &str,
-) -> io::Result<()> {
+    show: F,
+) -> io::Result<()>
+    requires steps { (w : W) → W.can_next w × W.can_next_back w }
+    requires shown { (item : Option W.Item) → F.pre show item }
+{
     for end in ends.bytes() {
-        let left = left(walk.len(), walk.size_hint());
-        let pair = if end == b'b' {
-            walk.next_back()
-        } else {
-            walk.next()
-        };
-        show_counted(rt, left, pair)?;
+        show(take(&mut walk, end))?;
     }
     say(rt, "end")
 }
 
-fn show_keys<K: PlayedKey, const PREFIX_LEN: usize>(
-    rt: &impl Print,
-    mut walk: Keys<'_, K, u64, PREFIX_LEN>,
-    ends: &str,
-) -> io::Result<()> {
+/// Does as `list`, and tells also how many were left before each step and are left behind it.
+pub fn count<
+    W: DoubleEndedIterator + ExactSizeIterator + Drop,
+    F: Fn(usize, usize, Option<W::Item>) -> io::Result<()> + Drop,
+>(rt: &impl Print, mut walk: W, ends: &str, show: F) -> io::Result<()>
+    requires steps { (w : W) → W.can_next w × W.can_next_back w }
+    requires shown { (before after : ℕ) → (item : Option W.Item) → F.pre show before after item }
+{
     for end in ends.bytes() {
-        let key = if end == b'b' {
-            walk.next_back()
-        } else {
-            walk.next()
-        };
-        show_counted_key(rt, left(walk.len(), walk.size_hint()), key)?;
+        let before = left(walk.len(), walk.size_hint());
+        let item = take(&mut walk, end);
+        show(before, left(walk.len(), walk.size_hint()), item)?;
     }
     say(rt, "end")
 }
 
-fn show_values<K: PlayedKey, const PREFIX_LEN: usize>(
+/// What a walk gives goes behind what is in the bag: from the front, or at `b` from the back. A call that is given the
+/// bag then takes no memory but its own.
+pub fn drain<W: DoubleEndedIterator + ExactSizeIterator + Drop>(
     rt: &impl Print,
-    mut walk: Values<'_, K, u64, PREFIX_LEN>,
-    ends: &str,
-) -> io::Result<()> {
-    for end in ends.bytes() {
-        let value = if end == b'b' {
-            walk.next_back()
-        } else {
-            walk.next()
-        };
-        show_counted_value(rt, left(walk.len(), walk.size_hint()), value)?;
+    mut walk: W,
+    bag: &mut Vec<W::Item>,
+    end: &str,
+) -> io::Result<()>
+where
+    W::Item: Drop,
+    requires steps { (w : W) → W.can_next w × W.can_next_back w }
+{
+    let end = end.bytes().next().unwrap_or(b'f');
+    let mut is_done = true;
+    for _ in 0..walk.len() {
+        if let Some(item) = take(&mut walk, end) {
+            is_done = bag.push(item).is_ok() && is_done;
+        }
     }
-    say(rt, "end")
-}
-
-fn show_range<K: PlayedKey, const PREFIX_LEN: usize>(
-    rt: &impl Print,
-    mut walk: Range<'_, K, u64, PREFIX_LEN>,
-    ends: &str,
-) -> io::Result<()> {
-    for end in ends.bytes() {
-        let pair = if end == b'b' {
-            walk.next_back()
-        } else {
-            walk.next()
-        };
-        show_in_list(rt, pair)?;
-    }
-    say(rt, "end")
-}
-
-fn show_prefix<K: PlayedKey, const PREFIX_LEN: usize>(
-    rt: &impl Print,
-    mut walk: Prefix<'_, K, u64, PREFIX_LEN>,
-    ends: &str,
-) -> io::Result<()> {
-    for end in ends.bytes() {
-        let pair = if end == b'b' {
-            walk.next_back()
-        } else {
-            walk.next()
-        };
-        show_in_list(rt, pair)?;
-    }
-    say(rt, "end")
+    show_done(rt, is_done)
 }
 
 // A range, where its bounds are valid.
@@ -154,14 +157,14 @@ fn range<K: PlayedKey, const PREFIX_LEN: usize>(
     map: &TreeMap<K, u64, PREFIX_LEN>,
     asked: &Asked<'_>,
 ) -> io::Result<()> {
-    let (first, second) = (SliceKey(asked.first), SliceKey(asked.second));
-    let start = bound_of(asked.words[0], &first);
-    let end = bound_of(asked.words[1], &second);
-    if has_range(map, start, end) {
-        show_range(rt, map.range(start, end), asked.words[2])
-    } else {
-        say(rt, "invalid")
-    }
+    in_range!(rt, map, asked, |start, end| {
+        list(
+            rt,
+            map.range(start, end),
+            asked.words[2],
+            |pair| show_in_list(rt, pair),
+        )
+    })
 }
 
 // Adds a number to each value that a range lends, from the ends that are told, and prints what was there.
@@ -170,14 +173,10 @@ fn range_mut<K: PlayedKey, const PREFIX_LEN: usize>(
     map: &mut TreeMap<K, u64, PREFIX_LEN>,
     asked: &Asked<'_>,
 ) -> io::Result<()> {
-    let (first, second) = (SliceKey(asked.first), SliceKey(asked.second));
-    let start = bound_of(asked.words[0], &first);
-    let end = bound_of(asked.words[1], &second);
-    if !has_range(map, start, end) {
-        return say(rt, "invalid");
-    }
-    let mut walk = map.range_mut(start, end);
-    raise_between(rt, &mut walk, asked.words[2], asked.number(3))
+    in_range!(rt, map, asked, |start, end| {
+        let mut walk = map.range_mut(start, end);
+        raise_between(rt, &mut walk, asked.words[2], asked.number(3))
+    })
 }
 
 // Adds a number to a value that is lent with its key, and prints what was there.
@@ -191,27 +190,18 @@ fn raise_pair<K: PlayedKey>(
     print!(rt; "{key} {old}, ")
 }
 
-// Takes a step of a range that lends values: `f` and `b` lend one, `p` and `q` one with its key, from the front and
-// from the back.
-fn step_between<K: PlayedKey, const PREFIX_LEN: usize>(
-    rt: &impl Print,
-    walk: &mut RangeMut<'_, K, u64, PREFIX_LEN>,
-    letter: u8,
-    number: u64,
-) -> io::Result<()> {
-    match letter {
-        b'f' => return raise(rt, walk.next(), number),
-        b'b' => return raise(rt, walk.next_back(), number),
-        _ => {}
-    }
-    if walk.is_empty() {
-        return print!(rt; "None, ");
-    }
-    if letter == b'p' {
-        raise_pair(rt, walk.next_pair(), number)
-    } else {
-        raise_pair(rt, walk.next_back_pair(), number)
-    }
+// Takes a step of a walk that lends values: `f` and `b` lend one, `p` and `q` one with its key, from the front and from
+// the back.
+macro_rules! step {
+    ($rt:ident, $walk:ident, $letter:ident, $number:ident) => {
+        match $letter {
+            b'f' => raise($rt, $walk.next(), $number),
+            b'b' => raise($rt, $walk.next_back(), $number),
+            _ if $walk.is_empty() => print!($rt; "None, "),
+            b'p' => raise_pair($rt, $walk.next_pair(), $number),
+            _ => raise_pair($rt, $walk.next_back_pair(), $number),
+        }
+    };
 }
 
 // Takes the steps of such a range that letters tell.
@@ -222,31 +212,9 @@ fn raise_between<K: PlayedKey, const PREFIX_LEN: usize>(
     number: u64,
 ) -> io::Result<()> {
     for letter in letters.bytes() {
-        step_between(rt, walk, letter, number)?;
+        step!(rt, walk, letter, number)?;
     }
     say(rt, "end")
-}
-
-// Takes a step of a walk over all pairs.
-fn step<K: PlayedKey, const PREFIX_LEN: usize>(
-    rt: &impl Print,
-    walk: &mut IterMut<'_, K, u64, PREFIX_LEN>,
-    letter: u8,
-    number: u64,
-) -> io::Result<()> {
-    match letter {
-        b'f' => return raise(rt, walk.next(), number),
-        b'b' => return raise(rt, walk.next_back(), number),
-        _ => {}
-    }
-    if walk.is_empty() {
-        return print!(rt; "None, ");
-    }
-    if letter == b'p' {
-        raise_pair(rt, walk.next_pair(), number)
-    } else {
-        raise_pair(rt, walk.next_back_pair(), number)
-    }
 }
 
 // Takes the steps of a walk over all pairs that letters tell, and prints how many pairs are left before each.
@@ -258,7 +226,7 @@ fn raise_all<K: PlayedKey, const PREFIX_LEN: usize>(
 ) -> io::Result<()> {
     for letter in letters.bytes() {
         show_left(rt, walk.len())?;
-        step(rt, walk, letter, number)?;
+        step!(rt, walk, letter, number)?;
     }
     say(rt, "end")
 }
@@ -307,11 +275,31 @@ fn read<K: PlayedKey, const PREFIX_LEN: usize>(
 ) -> Told {
     let ends = asked.words[0];
     Some(match asked.call {
-        "iter" => show_iter(rt, map.iter(), ends),
-        "keys" => show_keys(rt, map.keys(), ends),
-        "values" => show_values(rt, map.values(), ends),
+        "iter" => count(
+            rt,
+            map.iter(),
+            ends,
+            |before, _, pair| show_counted(rt, before, pair),
+        ),
+        "keys" => count(
+            rt,
+            map.keys(),
+            ends,
+            |_, after, key| show_counted_key(rt, after, key),
+        ),
+        "values" => count(
+            rt,
+            map.values(),
+            ends,
+            |_, after, value| show_counted_value(rt, after, value),
+        ),
         "range" => range(rt, map, asked),
-        "prefix" => show_prefix(rt, map.prefix(&SliceKey(asked.first)), asked.words[1]),
+        "prefix" => list(
+            rt,
+            map.prefix(&SliceKey(asked.first)),
+            asked.words[1],
+            |pair| show_in_list(rt, pair),
+        ),
         _ => return None,
     })
 }

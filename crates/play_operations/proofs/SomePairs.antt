@@ -1,8 +1,7 @@
 -- That an arena holds one tree, by its pairs or by its shape, and what keeps that so.
-use Rattle.std.proofs.Common.{◌≡◌, ℕ, List, [], ◌++◌, Option, Some, None, refl, subst}
+use Rattle.std.proofs.Common.{ℕ, List, [], ◌++◌, Option, Some, None, refl}
 use Rattle.art_nodes.specs.Name.{Name}
-use Rattle.art_arena.specs.arena.Arena.{Arena, node_at, SameNodes}
-use Rattle.art_arena.specs.arena.Cells.{HoldsOnly}
+use Rattle.art_arena.specs.arena.Arena.{Arena, SameNodes}
 use Rattle.art_arena.specs.arena.Shapes.{Shape, leaves, pairs_of}
 use Rattle.art_arena.specs.arena.Stores.{StoresOnly}
 use Rattle.art_operations.specs.Deletions.{IsDeletedBeside}
@@ -22,11 +21,6 @@ module _ {K V : Type 0} (bytes : K → List ℕ) (P : ℕ) where
   pub of-shape : (arena : Arena K V) (root : Name) (s : Shape K V) → StoresOnly bytes P arena root s → HasSomePairs arena (Some root)
   of-shape arena root s tree = (pairs_of (leaves s), (s, tree, refl))
 
-  pub shape-of : (arena : Arena K V) (root : Option Name) (top : Name) → root ≡ Some top → HasSomePairs arena root → (s : Shape K V) × StoresOnly bytes P arena top s
-  shape-of arena root top is has =
-      let there : HasPairs bytes P arena (Some top) has.0 = subst (λ r. HasPairs bytes P arena r has.0) is has.1 in
-      (there.0, there.1)
-
   pub of-deleted : (arena : Arena K V) (s : Shape K V) (slot : ℕ) (deleted : DeleteResult K V) → IsDeletedBeside bytes P arena [] s slot deleted → HasSomePairs arena deleted.new_root
   of-deleted arena s slot deleted is =
       (pairs_of (is.front ++ is.back), leaves-pairs bytes P arena [] deleted.new_root (is.front ++ is.back) (pairs_of (is.front ++ is.back)) refl is.left)
@@ -34,6 +28,3 @@ module _ {K V : Type 0} (bytes : K → List ℕ) (P : ℕ) where
   pub of-tree : (arena : Arena K V) (root : Option Name) (pairs : List (K × V)) → HoldsTreeOf bytes P arena root pairs → HasSomePairs arena root
   of-tree arena None pairs (e, empty) = ([], (refl, empty))
   of-tree arena (Some root) pairs (t, e, means) = (pairs_of (leaves means.shape), (means.shape, means.is_tree, refl))
-
-  pub of-none : (arena : Arena K V) → HoldsOnly (node_at arena) [] → HasSomePairs arena None
-  of-none arena empty = ([], (refl, empty))

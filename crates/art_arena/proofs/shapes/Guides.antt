@@ -6,7 +6,7 @@ use Rattle.art_nodes.specs.InnerNode.{InnerNode, child_at}
 use Rattle.art_nodes.specs.Name.{Name}
 use Rattle.art_nodes.specs.declared.leaf.LeafNode.{LeafNode}
 use Rattle.art_arena.specs.arena.Arena.{Arena, cell_of, held_at, leaf_held, node_at}
-use Rattle.art_arena.specs.arena.Cells.{Cell, pair, branches, leaf_name}
+use Rattle.art_arena.specs.arena.Cells.{Cell, branches, leaf_name}
 use Rattle.art_arena.specs.arena.Descents.{GoesOn, GoesNoFurther, IsGuide, GuidesBelow}
 use Rattle.art_arena.specs.arena.Meaning.{IsAtDepth, IsSubtree}
 use Rattle.art_arena.specs.arena.Prefixes.{prefix_of}
@@ -18,7 +18,7 @@ use Rattle.art_arena.proofs.tree.Shrinks.{same_front}
 use Rattle.art_arena.proofs.shapes.EndWalks.{within_branch}
 use Rattle.art_arena.proofs.shapes.Finding.{Avoid, avoid-above, avoid-below, avoid-missing, byte_behind}
 use Rattle.art_arena.proofs.shapes.OneMeaning.{same_shape}
-use Rattle.art_arena.proofs.shapes.Places.{inner-there, leaf-there, leaves-begin, split}
+use Rattle.art_arena.proofs.shapes.Places.{inner-there, leaves-begin, split}
 use Rattle.art_arena.proofs.shapes.Prefixes.{first_leaf}
 use Rattle.art_arena.proofs.shapes.Subtrees.{some_leaf, subtree-branch}
 
@@ -89,12 +89,6 @@ module _ {K V : Type 0} (bytes : K → List ℕ) (P : ℕ) (at : Name → Option
     up = λ guide h. h;
     within = λ longest short. short;
   }
-
-  -- at a leaf its own key is a guide
-  pub guide_leaf : (n : Name) (path : List ℕ) (s : Shape K V) (k : K) (v : V) → IsSubtree bytes P at n path s → at n ≡ Some (pair k v) → IsGuide key (bytes k) path s
-  guide_leaf n path s k v sub there =
-      let is = leaf-there P at s k v sub.part.held (ap at sub.part.named ∙ there) in
-      subst (IsGuide key (bytes k) path) (sym is) (subst (IsUnder bytes path) is sub.under)
 
   module _ (n : Name) (depth : ℕ) (path : List ℕ) (s : Shape K V) (stands : IsAtDepth bytes P at n depth path s) (node : InnerNode) (there : at n ≡ Some (branches node)) where
     record Here : Type 0 where

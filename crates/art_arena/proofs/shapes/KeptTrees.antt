@@ -4,9 +4,8 @@ use Rattle.art_nodes.specs.Name.{Name}
 use Rattle.art_arena.specs.arena.Arena.{Arena, cell_of, links_of, held_at, node_at, links_at, KeepsNodes}
 use Rattle.art_arena.specs.arena.Cells.{Cell, leaf_name, copies}
 use Rattle.art_arena.specs.arena.Linked.{AreLinked}
-use Rattle.art_arena.specs.arena.Meaning.{IsSubtree, IsTreeBeside, Means}
+use Rattle.art_arena.specs.arena.Meaning.{IsSubtree, IsTreeBeside}
 use Rattle.art_arena.specs.arena.Shapes.{Shape, leaves, cells, IsUnder}
-use Rattle.art_arena.specs.tree.Trees.{Tree}
 use Rattle.art_arena.proofs.shapes.CellLists.{same_name_tells, AreHeld-kept, Holds-swap}
 use Rattle.art_arena.proofs.shapes.LinkedLists.{AreLinked-kept}
 use Rattle.art_arena.proofs.shapes.Surroundings.{times-leaves}
@@ -32,16 +31,6 @@ module _ {K V : Type 0} where
     pub kept-linked : (path : List ℕ) (t : Shape K V) → IsUnder bytes path t → KeepsNodes (cells P t) old new → AreLinked (links_at old) None (leaves t) None → AreLinked (links_at new) None (leaves t) None
     kept-linked path t under kept linked =
         AreLinked-kept (links_at old) (links_at new) None (leaves t) None (λ n some. ap links_of (kept-name old new (cells P t) kept (leaf_name n) (omega (arith, some, times-leaves bytes P n path t under)))) linked
-
-    -- the root of a tree whose nodes are kept means that tree still
-    pub kept-means : (root : Name) (t : Tree (K × V)) (m : Means bytes P (node_at old) root (links_at old) t) → KeepsNodes (cells P m.shape) old new → Means bytes P (node_at new) root (links_at new) t
-    kept-means root t m kept = record {
-      shape = m.shape;
-      part = (kept-subtree root [] m.shape (record { part = m.part; under = m.under }) kept).part;
-      under = m.under;
-      linked = kept-linked [] m.shape m.under kept m.linked;
-      erased = m.erased;
-    }
 
     -- beside a tree that was changed, or made, the other one stands as it stood, and the changed one beside it
     pub other-tree : {rest : List (Name × Cell K V)} (root top : Name) (s t : Shape K V) → IsTreeBeside bytes P (node_at old) root (links_at old) rest s → KeepsNodes (cells P s) old new

@@ -1,9 +1,9 @@
 -- From what a name means to what is held below it, and back.
-use Rattle.std.proofs.Common.{◌≡◌, ℕ, ◌≤◌, cond, List, [], Option, Some, None, is_some, arith, ◌+◌, Bool, true, false, refl, sym, ◌∙◌}
+use Rattle.std.proofs.Common.{◌≡◌, ℕ, ◌≤◌, cond, List, [], Option, Some, None, is_some, arith, ◌+◌, sym, ◌∙◌}
 use Rattle.art_nodes.specs.Name.{Name}
 use Rattle.art_arena.specs.tree.Trees.{Tree}
-use Rattle.art_arena.specs.arena.Cells.{Cell, pair, leaf_name, same_name, copies}
-use Rattle.art_arena.specs.arena.Shapes.{Shape, leaf_at, cells}
+use Rattle.art_arena.specs.arena.Cells.{Cell, copies}
+use Rattle.art_arena.specs.arena.Shapes.{Shape, cells}
 use Rattle.art_arena.specs.arena.Linked.{Links}
 use Rattle.art_arena.specs.arena.Meaning.{IsPart, IsSubtree, IsNodesBeside, Means, MeansBeside}
 use Rattle.art_arena.specs.Laws.{AllIsMeant}
@@ -28,9 +28,6 @@ module _ {K V : Type 0} (bytes : K → List ℕ) (P : ℕ) (at : Name → Option
   pub means-subtree : (links : ℕ → Option Links) (t : Tree (K × V)) (m : Means bytes P at root links t) → IsSubtree bytes P at root [] m.shape
   means-subtree links t m = record { part = m.part; under = m.under }
 
-  pub all-subtree : {rest : List (Name × Cell K V)} (links : ℕ → Option Links) (t : Tree (K × V)) (m : MeansBeside bytes P at root links rest t) → IsSubtree bytes P at root [] m.shape
-  all-subtree links t m = nodes-subtree m.shape m.is_tree.nodes
-
   pub all-means : {rest : List (Name × Cell K V)} (links : ℕ → Option Links) (t : Tree (K × V)) → MeansBeside bytes P at root links rest t → Means bytes P at root links t
   all-means links t m = record {
     shape = m.shape;
@@ -42,14 +39,3 @@ module _ {K V : Type 0} (bytes : K → List ℕ) (P : ℕ) (at : Name → Option
 
 pub all_is_meant : (K V : Type 0) → AllIsMeant K V
 all_is_meant K V bytes P at root links t rest m = all-means bytes P at root links t m
-
--- a leaf alone is the tree of its pair
-pub leaf-subtree : {K V : Type 0} (bytes : K → List ℕ) (P : ℕ) (at : Name → Option (Cell K V)) (slot : ℕ) (k : K) (v : V) → at (leaf_name slot) ≡ Some (pair k v) → IsSubtree bytes P at (leaf_name slot) [] (leaf_at slot k v)
-leaf-subtree bytes P at slot k v there = record {
-  part = record { named = refl; held = (there, tt); once = λ n. at_most (same_name n (leaf_name slot)) };
-  under = (bytes k, refl);
-}
-  where
-    at_most : (b : Bool) → cond b 1 0 + 0 ≤ 1
-    at_most true = omega arith
-    at_most false = omega arith

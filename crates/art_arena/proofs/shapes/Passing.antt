@@ -89,8 +89,3 @@ module _ {K V : Type 0} (bytes : K → List ℕ) (P : ℕ) (arena : Arena K V) (
   mismatch_stops differs n prefix kids is byte on =
       let next = next_byte path prefix key depth byte at.behind on in
       absurd (differs (subst (λ t. BeginsWith (prefix_of t) (drop depth key)) (sym is) (byte ∷ next.0, next.1)))
-
--- what holds of nothing may be weaker
-pub none_weaker : {X : Type 0} (r : Option X) (A B : Type 0) (C : X → Type 0) → (A → B) → MatchOption r A C → MatchOption r B C
-none_weaker None A B C f a = f a
-none_weaker (Some x) A B C f c = c

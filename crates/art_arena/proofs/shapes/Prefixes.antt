@@ -2,8 +2,6 @@
 use Rattle.std.proofs.Common.{◌≡◌, ◌≢◌, ℕ, Bool, true, false, ◌+◌, ◌-◌, ◌<◌, ◌≤◌, List, [], ◌∷◌, ◌++◌, length, take, drop, Some, None, refl, sym, ap, subst, ◌∙◌, inl, inr, arith, append_assoc, length-append, length-drop, lt-ltb, le-ltb, eq-eqb, ne_eqb}
 use Rattle.std.specs.List.{AllByRecursion, starts_with}
 use Rattle.std.specs.Prelude.{◌==◌, IsTrue}
-use Rattle.std.specs.Str.{bytes_eq}
-use Rattle.std.proofs.lemmas.Slice.Eq.{bytes_eq-Decides}
 use Rattle.std.specs.Ordering.{nat_cmp}
 use Rattle.std.specs.declared.cmp.Ordering.{Ordering}
 use Rattle.std.specs.declared.cmp.Ordering.TheVariants.{Less, Equal, Greater}
@@ -58,14 +56,6 @@ begins_tells r xs ys p q same same_front test =
     let starts : r ≡ starts_with ◌==◌ ys q = rw (← same, ← same_front) test in
     let tells = starts_is Decides-eqb ys q r starts in
     (λ passed. (drop (length q) ys, tells.0 passed), λ begins. tells.1 begins.0 begins.1)
-
--- what the test of equal bytes behind a depth tells
-pub same_behind : (r : Bool) (d : ℕ) (xs ys zs : List ℕ) → xs ≡ zs → r ≡ bytes_eq (take (length xs - d) (drop d xs)) (take (length ys - d) (drop d ys))
-    → (IsTrue r → drop d zs ≡ drop d ys) × (drop d zs ≡ drop d ys → IsTrue r)
-same_behind r d xs ys zs same test =
-    let e : r ≡ bytes_eq (drop d zs) (drop d ys) = rw (same, tail, tail) at test in
-    let tells = bytes_eq-Decides (drop d zs) (drop d ys) in
-    (λ passed. tells.0 (sym e ∙ passed), λ alike. e ∙ tells.1 alike)
 
 -- a prefix, read from a key that begins with the path to it and then goes on with it
 pub record Read (depth len : ℕ) (prefix key : List ℕ) : Type 0 where

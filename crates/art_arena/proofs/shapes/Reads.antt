@@ -1,5 +1,5 @@
 -- What is read of an inner node, and on a way down from it to a first or last leaf.
-use Rattle.std.proofs.Common.{◌≡◌, ◌≢◌, ℕ, suc, ◌+◌, ◌-◌, ◌^◌, ◌≤◌, min, List, [], ◌++◌, length, drop, take, IfErr, IfSome, None, Option, Some, IsSome, Ok, Err, sym, ap, subst, ◌∙◌, arith}
+use Rattle.std.proofs.Common.{◌≡◌, ◌≢◌, ℕ, suc, ◌+◌, ◌-◌, ◌^◌, ◌≤◌, min, List, [], ◌++◌, length, drop, IfErr, IfSome, None, Option, Some, IsSome, Ok, Err, sym, ap, subst, ◌∙◌, arith}
 use Rattle.std.specs.declared.result.Result.{Result}
 use Rattle.art_bytes.specs.Keys.{BeginsWith}
 use Rattle.art_bytes.proofs.Order.{begins_append}
@@ -58,9 +58,6 @@ module _ {K V : Type 0} (bytes : K → List ℕ) (P : ℕ) (arena : Arena K V) (
 
   pub read_len : node.header.prefix_len ≡ length (prefix_of s)
   read_len = ap (λ (n : InnerNode). n.header.prefix_len) here.node_is ∙ ap (λ t. length (prefix_of t)) (sym here.is)
-
-  pub read_stored : node.header.stored ≡ take P (prefix_of s)
-  read_stored = ap (λ (n : InnerNode). n.header.stored) here.node_is ∙ ap (λ t. take P (prefix_of t)) (sym here.is)
 
   module _ (end : End) where
     step : EndStep bytes P arena end path s 0 root [] 0

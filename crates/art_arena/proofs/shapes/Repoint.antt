@@ -1,6 +1,5 @@
 -- The parent of a place is pointed at another node: the one write that every edit of a part's root makes.
 use Rattle.std.proofs.Common.{◌≡◌, ◌≢◌, ℕ, suc, ◌+◌, List, [], ◌∷◌, ◌++◌, length, take, Option, Some, refl, sym, ap, subst, ◌∙◌, inl, inr, arith, append_assoc}
-use Rattle.std.proofs.lemmas.List.{append-nil}
 use Rattle.std.proofs.lemmas.Bool.Decides.{eqb_tells, leb_tells}
 use Rattle.art_nodes.specs.declared.kind.NodeType.TheVariants.{Leaf}
 use Rattle.art_nodes.specs.Name.{Name}
@@ -9,7 +8,7 @@ use Rattle.art_arena.specs.tree.Kinds.{IsKindOf}
 use Rattle.art_arena.specs.arena.Cells.{Cell, branches, UpdatesAt, Holds}
 use Rattle.art_arena.specs.arena.Shapes.{Shape, Branches, no_branch, branch, name_of, children_at, width, cells, cells_in, IsUnder}
 use Rattle.art_arena.specs.arena.Context.{Frame, plug, path_to, root_of, frame_cell, AreAround, AreBelow, cells_before, cells_after}
-use Rattle.art_arena.specs.arena.Meaning.{IsNodes, IsNodesBeside}
+use Rattle.art_arena.specs.arena.Meaning.{IsNodesBeside}
 use Rattle.art_arena.specs.arena.Steps.{Step, steps_to}
 use Rattle.art_arena.proofs.tree.Order.{all_right}
 use Rattle.art_arena.proofs.shapes.CellLists.{Holds-write, Holds-swap}
@@ -103,10 +102,6 @@ module _ {K V : Type 0} where
   no-grandparent [] e = refl
   no-grandparent (f ∷ outer) e = absurd (cc)
 
-  -- with a parent the root keeps its name
-  pub root_of-same : (f : Frame K V) (outer : List (Frame K V)) (m n : Name) → root_of (f ∷ outer) m ≡ root_of (f ∷ outer) n
-  root_of-same f outer m n = refl
-
 -- the cells of a tree beside others are those around a place, those of what stands there, and the others
 pub unplugged : {K V : Type 0} (P : ℕ) (at : Name → Option (Cell K V)) (rest : List (Name × Cell K V)) (ctx : List (Frame K V)) (part : Shape K V)
     → Holds at (rest ++ cells P (plug ctx part)) → Holds at (cells_before P ctx (name_of part) ++ (cells P part ++ (cells_after P ctx ++ rest)))
@@ -125,8 +120,3 @@ IsNodesBeside-plug bytes P at rest ctx part holds around under = record {
   holds = plugged P at rest ctx part holds;
   under = IsUnder-plug bytes ctx part around under;
 }
-
-pub IsNodes-plug : {K V : Type 0} (bytes : K → List ℕ) (P : ℕ) (at : Name → Option (Cell K V)) (ctx : List (Frame K V)) (part : Shape K V) → Holds at (cells_before P ctx (name_of part) ++ (cells P part ++ cells_after P ctx))
-    → AreAround bytes ctx → IsUnder bytes (path_to ctx) part → IsNodes bytes P at (root_of ctx (name_of part)) (plug ctx part)
-IsNodes-plug bytes P at ctx part holds around under =
-    IsNodesBeside-plug bytes P at [] ctx part (subst (λ cs. Holds at (cells_before P ctx (name_of part) ++ (cells P part ++ cs))) (sym (append-nil (cells_after P ctx))) holds) around under

@@ -201,9 +201,6 @@ pub last_more : {X : Type 0} (t : Tree X) (x : X) (nodes : List (Tree X)) → la
 last_more t x [] e = absurd (cc)
 last_more t x (u ∷ nodes) e = e
 
-some_leaf : {X : Type 0} (t : Tree X) (x : X) → (t ≡ leaf x) → last_leaf (t ∷ []) ≡ Some x
-some_leaf t x e = ap (λ u. last_leaf (u ∷ [])) e
-
 module _ {X : Type 0} (key : X → List ℕ) where
   last_into : (prefix : List ℕ) (cs : Forest X) (x : X) (nodes : List (Tree X)) → last_leaf nodes ≡ Some x → last_leaf (inner prefix cs ∷ nodes) ≡ Some x
   last_into prefix cs x nodes e = last_more (inner prefix cs) x nodes e

@@ -38,9 +38,6 @@ module _ {X : Type 0} (key : X → List ℕ) (k : List ℕ) where
   abbrev shared_fronts : List X → List (List ℕ)
   shared_fronts xs = map (λ x. common_prefix k (key x)) xs
 
-  one : List ℕ → ℕ
-  one f = 1
-
   abbrev Number : List (List ℕ) → ℕ
   Number fs = sum_by (λ f. 1) (distinct bytes_eq fs)
 

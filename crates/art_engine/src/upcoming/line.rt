@@ -1,12 +1,12 @@
 //! A line that is read before its turn: what it asks for, and how far the way of its key is gone.
-ghost use Rattle.std.specs.Prelude.{◌≡◌, ◌+◌, ◌-◌, ◌^◌, ◌≤◌, ◌⊎◌, true, IsTrue, IfSome, min, drop, option_map};
+ghost use Rattle.std.specs.Prelude.{◌≡◌, ◌+◌, ◌≤◌, true, IsTrue, IfSome, drop, option_map};
 ghost use Rattle.std.specs.Prelude.{Some, nat_eq};
 ghost use Rattle.art_arena.specs.arena.Visited.{count_of};
 ghost use Rattle.art_arena.specs.arena.Descents.{GoesOn};
 ghost use Rattle.std.specs.List.{starts_with};
 ghost use Rattle.art_lines.specs.Parsed.{command_with};
 ghost use Rattle.art_lines.specs.Reading.{command_of};
-ghost use Rattle.art_engine.specs.Ahead.{way_ahead, most_ahead, IsStepAhead};
+ghost use Rattle.art_engine.specs.Ahead.{way_ahead, most_ahead, GrewAlike, IsStepAhead};
 
 use crate::upcoming::door::Door;
 use crate::upcoming::{Asked, Roots};
@@ -124,7 +124,9 @@ impl Line {
     }
 
     /// Reads a line that is short. Its way begins at the root of a map that is given, if any.
-    pub(crate) fn read(&mut self, text: &[u8], roots: &Roots) {
+    pub(crate) fn read(&mut self, text: &[u8], roots: &Roots)
+        ensures none { self.new.read ≡ 0 }
+    {
         self.text.clear();
         let _ = self.text.try_extend_from_slice(text);
         self.word = read_line(self.text.as_slice(), &mut self.fields);
@@ -156,6 +158,7 @@ impl Line {
         ensures read { option_map (λ word. command_with word result.fields.now) result.word
             ≡ command_of self.now.text.items }
         ensures few { result.ahead ≤ most_ahead (command_of self.now.text.items) }
+        ensures own { result.ahead ≡ self.now.read }
     {
         Asked {
             word: self.word,
@@ -176,9 +179,9 @@ impl Line {
         &mut self,
         door: &mut Door<'a, K, PREFIX_LEN>,
     ) -> Option<&'a LeafNode<K, Vec<u8>>>
-        ensures counted { ((self.new.read ≡ self.old.read) × (count_of door.new.reader ≡ count_of door.old.reader))
-            ⊎ ((self.new.read ≡ self.old.read + 1)
-            × (count_of door.new.reader ≡ min (count_of door.old.reader + 1) (2 ^ 64 - 1))) }
+        ensures counted { GrewAlike self.old.read self.new.read (count_of door.old.reader)
+            (count_of door.new.reader) }
+        ensures one { self.new.read ≤ self.old.read + 1 }
         ensures along { IsStepAhead door.old.arena.now self.old.key.items (self.old.node, self.old.depth)
             (self.new.node, self.new.depth) }
     {

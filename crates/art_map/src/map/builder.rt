@@ -1,10 +1,13 @@
 //! `TreeMapBuilder`: a map that is made of pairs which come one after another.
-ghost use Rattle.std.specs.Prelude.{◌≡◌, ◌<◌, ◌^◌, ◌∷◌, ◌++◌, List, [], false, IfErr, IfOk, OnErr, OnOk};
+ghost use Rattle.std.specs.Prelude.{◌≡◌, ◌<◌, ◌^◌, List, [], false, OnErr, OnOk};
+ghost use Rattle.std.specs.Iterator.{IsFinite};
 ghost use Rattle.std.specs.List.{AllByRecursion};
+ghost use Rattle.std.specs.Map.Iter.{deref_pair};
 ghost use Rattle.art_operations.specs.Builders.{Builds};
 ghost use Rattle.art_operations.specs.Insertions.{HandsPairBack};
+ghost use Rattle.art_operations.specs.LeafNames.{HasLeavesOf};
 ghost use Rattle.art_operations.specs.Pairs.{with_pair_put};
-ghost use Rattle.art_map.specs.Builders.{HasGathered, HasGatheredInOrder};
+ghost use Rattle.art_map.specs.Builders.{GathersWith, HasGathered, HasGatheredInOrder, nodes_of};
 
 use crate::map::TreeMap;
 use art_arena::NodeArena;
@@ -21,7 +24,7 @@ use std::mem;
 /// let mut builder: TreeMapBuilder<_, _, 16> = TreeMapBuilder::new(rt.alloc());
 /// builder.put(*b"ab", 1)?;
 /// builder.put(*b"cd", 2)?;
-/// let map = builder.finish()?;
+/// let map = builder.finish();
 /// assert!(rt; map.keys().eq([b"ab", b"cd"]));
 /// ```
 #[derive(Drop)]
@@ -34,31 +37,12 @@ pub struct TreeMapBuilder<K: AsBytes, V, const PREFIX_LEN: usize> {
     map: TreeMap<K, V, PREFIX_LEN>,
 }
 
-// Inserts a pair into a map. If there is no memory for it, all other pairs are dropped.
-fn insert_or_clear<K: NoPrefixesBytes + Drop, V: Drop, const PREFIX_LEN: usize>(
-    map: &mut TreeMap<K, V, PREFIX_LEN>,
-    key: K,
-    value: V,
-) -> Result<(), InsertRefused<K, V>>
-    ensures pairs { OnOk result (map.new.pairs ≡ with_pair_put K.bytes key value map.old.pairs) }
-    ensures handed_back { HandsPairBack key value result }
-    ensures emptied { OnErr result (map.new.pairs ≡ []) }
-{
-    match map.insert(key, value) {
-        Ok(_) => Ok(()),
-        Err(refused) => {
-            map.clear();
-            Err(refused)
-        }
-    }
-}
-
 impl<K: NoPrefixesBytes + Drop, V: Drop, const PREFIX_LEN: usize> TreeMapBuilder<K, V, PREFIX_LEN> {
     /// Makes a builder that has no pair. It allocates nothing.
     ///
     /// ```
     /// let builder: TreeMapBuilder<[u8; 2], u32, 16> = TreeMapBuilder::new(rt.alloc());
-    /// assert!(rt; builder.finish()?.is_empty());
+    /// assert!(rt; builder.finish().is_empty());
     /// ```
     pub fn new(alloc: Global) -> Self
         ensures { HasGathered K.bytes K.is_key result [] }
@@ -75,16 +59,82 @@ impl<K: NoPrefixesBytes + Drop, V: Drop, const PREFIX_LEN: usize> TreeMapBuilder
         }
     }
 
+    // A builder that goes on from a map.
+    pub(super) fn of_map(map: TreeMap<K, V, PREFIX_LEN>) -> Self
+        requires fits_in_memory { PREFIX_LEN < 2 ^ 62 }
+        ensures pairs { HasGathered K.bytes K.is_key result map.pairs }
+        ensures names { HasLeavesOf K.bytes (nodes_of result) map.nodes }
+    {
+        let alloc = map.alloc;
+        match map.root {
+            None => TreeMapBuilder {
+                alloc,
+                in_order: true,
+                arena: map.arena,
+                builder: TreeBuilder::new(alloc),
+                map: TreeMap::with_prefix_len(alloc),
+            },
+            Some(_) => TreeMapBuilder {
+                alloc,
+                in_order: false,
+                arena: NodeArena::new(alloc),
+                builder: TreeBuilder::new(alloc),
+                map,
+            },
+        }
+    }
+
+    // Puts in the pairs that an iterator gives, one after another, up to the first that is refused.
+    pub(super) fn put_all<U: IntoIterator<Item = (K, V)>>(
+        &mut self,
+        iter: U,
+    ) -> Result<(), InsertRefused<K, V>>
+        requires fits_in_memory { PREFIX_LEN < 2 ^ 62 }
+        requires taken { (pairs : List (K × V)) × HasGathered K.bytes K.is_key self.old pairs }
+        requires ends { (it : U.IntoIter) → U.into_iter_gives iter it
+            → U.IntoIter.can_next it × IsFinite (U.IntoIter.remaining it) }
+        ensures pairs { GathersWith K.bytes K.is_key (λ pair. pair) U.into_iter_gives U.IntoIter.next_gives iter
+            self.old result self.new }
+        ensures names { HasLeavesOf K.bytes (nodes_of self.new) (nodes_of self.old) }
+    {
+        for (key, value) in iter {
+            self.put(key, value)?;
+        }
+        Ok(())
+    }
+
+    // Puts in copies of the pairs that an iterator lends, as `put_all` does.
+    pub(super) fn put_copies<'a, U: IntoIterator<Item = (&'a K, &'a V)>>(
+        &mut self,
+        iter: U,
+    ) -> Result<(), InsertRefused<K, V>>
+    where
+        K: Copy + 'a,
+        V: Copy + 'a,
+        requires fits_in_memory { PREFIX_LEN < 2 ^ 62 }
+        requires taken { (pairs : List (K × V)) × HasGathered K.bytes K.is_key self.old pairs }
+        requires ends { (it : U.IntoIter) → U.into_iter_gives iter it
+            → U.IntoIter.can_next it × IsFinite (U.IntoIter.remaining it) }
+        ensures pairs { GathersWith K.bytes K.is_key deref_pair U.into_iter_gives U.IntoIter.next_gives iter
+            self.old result self.new }
+        ensures names { HasLeavesOf K.bytes (nodes_of self.new) (nodes_of self.old) }
+    {
+        for (key, value) in iter {
+            self.put(*key, *value)?;
+        }
+        Ok(())
+    }
+
     /// Takes a pair. It replaces a pair whose key has the same bytes.
     ///
-    /// Fails only if out of memory. The error returns the pair. All others are dropped, and the builder has none then.
+    /// Fails only if out of memory. The error returns the pair, and the builder has the pairs that it had.
     ///
     /// ```
     /// let mut builder: TreeMapBuilder<_, _, 16> = TreeMapBuilder::new(rt.alloc());
     /// builder.put(*b"cd", 1)?;
     /// builder.put(*b"ab", 2)?;
     /// builder.put(*b"cd", 3)?;
-    /// assert!(rt; builder.finish()?.iter().eq([(b"ab", &2), (b"cd", &3)]));
+    /// assert!(rt; builder.finish().iter().eq([(b"ab", &2), (b"cd", &3)]));
     /// ```
     pub fn put(&mut self, key: K, value: V) -> Result<(), InsertRefused<K, V>>
         requires fits_in_memory { PREFIX_LEN < 2 ^ 62 }
@@ -92,93 +142,106 @@ impl<K: NoPrefixesBytes + Drop, V: Drop, const PREFIX_LEN: usize> TreeMapBuilder
         ensures ok { OnOk result ((pairs : List (K × V)) → HasGathered K.bytes K.is_key self.old pairs
             → HasGathered K.bytes K.is_key self.new (with_pair_put K.bytes key value pairs)) }
         ensures handed_back { HandsPairBack key value result }
-        ensures emptied { OnErr result (HasGathered K.bytes K.is_key self.new []) }
+        ensures kept { OnErr result ((pairs : List (K × V)) → HasGathered K.bytes K.is_key self.old pairs
+            → HasGathered K.bytes K.is_key self.new pairs) }
+        ensures names { HasLeavesOf K.bytes (nodes_of self.new) (nodes_of self.old) }
     {
         // Its bytes tell that it is a key.
         let _known = key.as_bytes();
         if !self.in_order {
-            return insert_or_clear(&mut self.map, key, value);
+            return self.insert(key, value);
         }
         match self.builder.push(&mut self.arena, key, value) {
             Ok(()) => Ok(()),
             Err(PushRefused::Memory { key, value }) => Err(InsertRefused { key, value }),
-            Err(PushRefused::NotBehind { key, value }) => self.settle_and_put(key, value),
+            Err(PushRefused::NotBehind { key, value }) => {
+                self.settle();
+                self.insert(key, value)
+            }
         }
     }
 
-    // Takes a pair whose key doesn't go behind the last.
-    fn settle_and_put(&mut self, key: K, value: V) -> Result<(), InsertRefused<K, V>>
-        requires fits_in_memory { PREFIX_LEN < 2 ^ 62 }
-        requires taken { (pairs : List (K × V)) × HasGatheredInOrder K.bytes K.is_key self.old pairs }
-        ensures ok { OnOk result ((pairs : List (K × V)) → HasGatheredInOrder K.bytes K.is_key self.old pairs
-            → HasGathered K.bytes K.is_key self.new (with_pair_put K.bytes key value pairs)) }
+    // Inserts a pair into the map that has the others.
+    fn insert(&mut self, key: K, value: V) -> Result<(), InsertRefused<K, V>>
+        requires settled { self.old.in_order ≡ false }
+        ensures settled { self.new.in_order ≡ false }
+        ensures pairs { OnOk result (self.new.map.pairs ≡ with_pair_put K.bytes key value self.old.map.pairs) }
         ensures handed_back { HandsPairBack key value result }
-        ensures emptied { OnErr result (HasGathered K.bytes K.is_key self.new []) }
+        ensures kept { OnErr result (self.new.map.pairs ≡ self.old.map.pairs) }
+        ensures names { HasLeavesOf K.bytes self.new.map.nodes self.old.map.nodes }
     {
-        match self.settle() {
-            Ok(()) => insert_or_clear(&mut self.map, key, value),
-            Err(_) => Err(InsertRefused { key, value }),
-        }
+        self.map.insert(key, value)?;
+        Ok(())
     }
 
     // Makes the map of the pairs that came in order.
-    fn settle(&mut self) -> Result<(), InsertRefused<K, V>>
+    fn settle(&mut self)
         requires fits_in_memory { PREFIX_LEN < 2 ^ 62 }
         requires taken { (pairs : List (K × V)) × HasGatheredInOrder K.bytes K.is_key self.old pairs }
         ensures settled { self.new.in_order ≡ false }
-        ensures ok { OnOk result ((pairs : List (K × V)) → HasGatheredInOrder K.bytes K.is_key self.old pairs
-            → self.new.map.pairs ≡ pairs) }
-        ensures emptied { OnErr result (self.new.map.pairs ≡ []) }
+        ensures pairs { (pairs : List (K × V)) → HasGatheredInOrder K.bytes K.is_key self.old pairs
+            → self.new.map.pairs ≡ pairs }
+        ensures names { HasLeavesOf K.bytes self.new.map.nodes self.old.arena }
     {
         self.in_order = false;
         let arena = mem::replace(&mut self.arena, NodeArena::new(self.alloc));
         let builder = mem::replace(&mut self.builder, TreeBuilder::new(self.alloc));
-        self.map = TreeMap::of_tree(self.alloc, arena, builder)?;
-        Ok(())
+        self.map = TreeMap::of_tree(self.alloc, arena, builder);
     }
 
-    /// Returns the map of the pairs. Of pairs whose keys have the same bytes it has the last.
-    ///
-    /// Fails only if out of memory. The error returns one of the pairs, and all others are dropped.
+    /// Returns the map of the pairs. Of pairs whose keys have the same bytes it has the last. It never fails, and
+    /// allocates nothing.
     ///
     /// ```
     /// let mut builder: TreeMapBuilder<_, _, 16> = TreeMapBuilder::new(rt.alloc());
     /// builder.put(*b"ab", 1)?;
-    /// assert_eq!(rt; builder.finish()?.get(b"ab"), Some(&1));
+    /// assert_eq!(rt; builder.finish().get(b"ab"), Some(&1));
     /// ```
-    pub fn finish(self) -> Result<TreeMap<K, V, PREFIX_LEN>, InsertRefused<K, V>>
+    pub fn finish(self) -> TreeMap<K, V, PREFIX_LEN>
         requires fits_in_memory { PREFIX_LEN < 2 ^ 62 }
         requires taken { (pairs : List (K × V)) × HasGathered K.bytes K.is_key self pairs }
-        ensures ok { IfOk result (λ made. (pairs : List (K × V)) → HasGathered K.bytes K.is_key self pairs
-            → made.pairs ≡ pairs) }
-        ensures handed_back { IfErr result (λ refused. (pairs : List (K × V)) → HasGathered K.bytes K.is_key self pairs
-            → (front : List (K × V)) × (pairs ≡ front ++ (refused.key, refused.value) ∷ [])) }
+        ensures pairs { (pairs : List (K × V)) → HasGathered K.bytes K.is_key self pairs → result.pairs ≡ pairs }
+        ensures names { HasLeavesOf K.bytes result.nodes (nodes_of self) }
     {
         if !self.in_order {
-            return Ok(self.map);
+            return self.map;
         }
         TreeMap::of_tree(self.alloc, self.arena, self.builder)
     }
 }
 
 impl<K: NoPrefixesBytes + Drop, V: Drop, const PREFIX_LEN: usize> TreeMap<K, V, PREFIX_LEN> {
-    // The map of the pairs of which a tree is being built. If out of memory, the error returns the last of them.
-    fn of_tree(
-        alloc: Global,
-        arena: NodeArena<K, V, PREFIX_LEN>,
-        builder: TreeBuilder,
-    ) -> Result<Self, InsertRefused<K, V>>
+    // Moves the pairs into a builder, which goes on from them. The map is empty then.
+    pub(super) fn take_into_builder(&mut self) -> TreeMapBuilder<K, V, PREFIX_LEN>
+        requires fits_in_memory { PREFIX_LEN < 2 ^ 62 }
+        ensures pairs { HasGathered K.bytes K.is_key result self.old.pairs }
+        ensures names { HasLeavesOf K.bytes (nodes_of result) self.old.nodes }
+    {
+        let empty = TreeMap::with_prefix_len(self.alloc);
+        TreeMapBuilder::of_map(mem::replace(self, empty))
+    }
+
+    // Takes the pairs of a builder, in place of those that are there.
+    pub(super) fn put_back(&mut self, builder: TreeMapBuilder<K, V, PREFIX_LEN>)
+        requires fits_in_memory { PREFIX_LEN < 2 ^ 62 }
+        requires taken { (pairs : List (K × V)) × HasGathered K.bytes K.is_key builder pairs }
+        ensures pairs { (pairs : List (K × V)) → HasGathered K.bytes K.is_key builder pairs → self.new.pairs ≡ pairs }
+        ensures names { HasLeavesOf K.bytes self.new.nodes (nodes_of builder) }
+    {
+        *self = builder.finish();
+    }
+
+    // The map of the pairs of which a tree is being built.
+    fn of_tree(alloc: Global, arena: NodeArena<K, V, PREFIX_LEN>, builder: TreeBuilder) -> Self
         requires fits_in_memory { PREFIX_LEN < 2 ^ 62 }
         requires builds { (pairs : List (K × V)) × Builds K.bytes PREFIX_LEN arena builder pairs
             × AllByRecursion (λ p. K.is_key p.0) pairs }
-        ensures ok { IfOk result (λ made. (pairs : List (K × V)) → Builds K.bytes PREFIX_LEN arena builder pairs
-            → made.pairs ≡ pairs) }
-        ensures handed_back { IfErr result (λ refused. (pairs : List (K × V))
-            → Builds K.bytes PREFIX_LEN arena builder pairs
-            → (front : List (K × V)) × (pairs ≡ front ++ (refused.key, refused.value) ∷ [])) }
+        ensures pairs { (pairs : List (K × V)) → Builds K.bytes PREFIX_LEN arena builder pairs
+            → result.pairs ≡ pairs }
+        ensures names { HasLeavesOf K.bytes result.nodes arena }
     {
         let mut arena = arena;
-        let root = builder.finish(&mut arena)?;
-        Ok(TreeMap { alloc, arena, root })
+        let root = builder.finish(&mut arena);
+        TreeMap { alloc, arena, root }
     }
 }

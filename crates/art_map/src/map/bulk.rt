@@ -15,7 +15,8 @@ use std::alloc::Global;
 
 impl<K: NoPrefixesBytes + Drop, V: Drop, const PREFIX_LEN: usize> TreeMap<K, V, PREFIX_LEN> {
     /// Inserts the pairs that an iterator gives, one after another. Each replaces a pair whose key has the same bytes.
-    /// The iterator has to end.
+    /// The iterator has to end. If the map is empty, no place is looked for as long as the keys ascend: see
+    /// `TreeMapBuilder`.
     ///
     /// Fails if there is no memory for a pair, which the error returns. The pairs before it stay in the map, and the
     /// iterator is dropped.
@@ -35,10 +36,17 @@ impl<K: NoPrefixesBytes + Drop, V: Drop, const PREFIX_LEN: usize> TreeMap<K, V, 
         ensures pairs { ExtendsWith K.bytes (λ pair. pair) U.into_iter_gives U.IntoIter.next_gives iter self.old.pairs
             result self.new.pairs }
     {
-        for (key, value) in iter {
-            self.insert(key, value)?;
+        if !nodes_fit::<PREFIX_LEN>() {
+            let mut pairs = iter.into_iter();
+            let Some((key, value)) = pairs.next() else {
+                return Ok(());
+            };
+            return Err(InsertRefused { key, value });
         }
-        Ok(())
+        let mut builder = self.take_into_builder();
+        let result = builder.put_all(iter);
+        self.put_back(builder);
+        result
     }
 
     /// Inserts copies of the keys and values that an iterator lends, as `extend` does.
@@ -63,10 +71,20 @@ impl<K: NoPrefixesBytes + Drop, V: Drop, const PREFIX_LEN: usize> TreeMap<K, V, 
         ensures pairs { ExtendsWith K.bytes deref_pair U.into_iter_gives U.IntoIter.next_gives iter self.old.pairs
             result self.new.pairs }
     {
-        for (key, value) in iter {
-            self.insert(*key, *value)?;
+        if !nodes_fit::<PREFIX_LEN>() {
+            let mut pairs = iter.into_iter();
+            let Some((key, value)) = pairs.next() else {
+                return Ok(());
+            };
+            return Err(InsertRefused {
+                key: *key,
+                value: *value,
+            });
         }
-        Ok(())
+        let mut builder = self.take_into_builder();
+        let result = builder.put_copies(iter);
+        self.put_back(builder);
+        result
     }
 
     /// Makes a map of the pairs that an iterator gives. Of pairs whose keys have the same bytes the last counts. The
@@ -94,10 +112,8 @@ impl<K: NoPrefixesBytes + Drop, V: Drop, const PREFIX_LEN: usize> TreeMap<K, V, 
             return Err(InsertRefused { key, value });
         }
         let mut builder = TreeMapBuilder::new(alloc);
-        for (key, value) in iter {
-            builder.put(key, value)?;
-        }
-        builder.finish()
+        builder.put_all(iter)?;
+        Ok(builder.finish())
     }
 
     /// Makes a map of the pairs of a vector, as `from_iter` does. Of pairs whose keys have the same bytes the last

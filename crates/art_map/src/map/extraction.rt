@@ -21,7 +21,7 @@ use crate::map::TreeMap;
 use crate::map::ranges::bytes_of;
 use art_arena::{End, LeafPtr, NodeArena};
 use art_bytes::AsBytes;
-use art_walks::RawIterator;
+use art_walks::{Ahead, RawIterator};
 use std::alloc::AllocError;
 use std::ops::Bound;
 
@@ -33,6 +33,7 @@ use std::ops::Bound;
 pub struct Extraction<'a, K: AsBytes, V, const PREFIX_LEN: usize> {
     map: &'a mut TreeMap<K, V, PREFIX_LEN>,
     leaves: RawIterator,
+    ahead: Ahead,
     ghost run: { ∥ IsRun K.bytes PREFIX_LEN map.now leaves ∥₁ },
 }
 
@@ -203,6 +204,7 @@ impl<'a, K: AsBytes, V, const PREFIX_LEN: usize> Extraction<'a, K, V, PREFIX_LEN
             × IsAtEnd end pair (left_of self.new) (left_of self.old) }
         ensures step { ∥ IsNextAt K.bytes PREFIX_LEN (map_of self.new).now end result self.new.leaves ∥₁ }
     {
+        self.map.read_ahead(&mut self.ahead, self.leaves, end);
         let (arena, _root) = self.map.nodes();
         match next_of(&mut self.leaves, arena, end) {
             Some(leaf) => leaf,
@@ -351,7 +353,11 @@ impl<K: AsBytes, V, const PREFIX_LEN: usize> TreeMap<K, V, PREFIX_LEN> {
         ensures left { left_of result ≡ self.old.pairs }
     {
         let leaves = self.walk_between(Bound::Unbounded, Bound::Unbounded);
-        Extraction { map: self, leaves }
+        Extraction {
+            map: self,
+            leaves,
+            ahead: Ahead::new(),
+        }
     }
 
     /// Returns the pairs whose keys are between two bounds, by their bytes. From either end, each is left in the map or
@@ -380,6 +386,10 @@ impl<K: AsBytes, V, const PREFIX_LEN: usize> TreeMap<K, V, PREFIX_LEN> {
             (bound_map (λ key. Q.bytes key.now) end.entry) self.old.pairs }
     {
         let leaves = self.walk_between(bytes_of(start), bytes_of(end));
-        Extraction { map: self, leaves }
+        Extraction {
+            map: self,
+            leaves,
+            ahead: Ahead::new(),
+        }
     }
 }

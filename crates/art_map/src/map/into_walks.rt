@@ -16,9 +16,9 @@ impl<K: AsBytes, V, const PREFIX_LEN: usize> TreeMap<K, V, PREFIX_LEN> {
         let TreeMap {
             alloc: _,
             arena,
-            root: _,
+            root,
         } = self;
-        IntoIter::new(arena, walk, len)
+        IntoIter::new(arena, walk, len, root)
     }
 
     /// Returns an iterator over the keys, which it owns. It ascends by their bytes, and gives keys from either end. It

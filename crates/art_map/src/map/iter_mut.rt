@@ -6,8 +6,9 @@ ghost use Rattle.art_walks.specs.Walked.{leaves_left};
 ghost use Rattle.art_map.specs.LentRuns.{IsRunIn};
 
 use crate::map::TreeMap;
+use art_arena::End;
 use art_bytes::AsBytes;
-use art_walks::RawIterator;
+use art_walks::{Ahead, RawIterator};
 
 /// An iterator over all pairs of a map in order, from either end. It lends their values for writing, one at a time.
 #[derive(Drop)]
@@ -15,6 +16,7 @@ pub struct IterMut<'a, K: AsBytes, V, const PREFIX_LEN: usize> {
     map: &'a mut TreeMap<K, V, PREFIX_LEN>,
     leaves: RawIterator,
     len: usize,
+    ahead: Ahead,
     ghost valid: { ∥ IsRunIn map.now leaves ∥₁ },
     ghost counted: { len ≡ leaves_left map.now.nodes leaves },
 }
@@ -49,6 +51,7 @@ impl<K: AsBytes, V, const PREFIX_LEN: usize> TreeMap<K, V, PREFIX_LEN> {
             map: self,
             leaves,
             len,
+            ahead: Ahead::new(),
         }
     }
 
@@ -170,6 +173,7 @@ impl<'a, K: AsBytes, V, const PREFIX_LEN: usize> IterMut<'a, K, V, PREFIX_LEN> {
         ensures lent { IsIterFirst self.old (deref_pair_mut result) }
     {
         let mut leaves = self.leaves;
+        self.map.read_ahead(&mut self.ahead, leaves, End::First);
         let leaf = match self.map.first_of(&mut leaves) {
             Some(leaf) => leaf,
             None => unreachable!(),
@@ -197,6 +201,7 @@ impl<'a, K: AsBytes, V, const PREFIX_LEN: usize> IterMut<'a, K, V, PREFIX_LEN> {
         ensures lent { IsIterLast self.old (deref_pair_mut result) }
     {
         let mut leaves = self.leaves;
+        self.map.read_ahead(&mut self.ahead, leaves, End::Last);
         let leaf = match self.map.last_of(&mut leaves) {
             Some(leaf) => leaf,
             None => unreachable!(),

@@ -10,13 +10,10 @@ ghost use Rattle.art_map.specs.Contents.{IsUntouched};
 ghost use Rattle.art_map.specs.LeafNames.{KeepsLeaves};
 ghost use Rattle.art_map.specs.PrefixBlocks.{AreCutVisits, IsFoundPart, IsReadyPart, ShrinksAtCut, cut_visits};
 
-mod front;
-
 use crate::map::TreeMap;
 use art_arena::ArenaReader;
-use art_bytes::AsBytes;
+use art_bytes::{AsBytes, History, Piece};
 use art_operations::{PreparedSubtreeDelete, SubtreeDeletePoint, search_for_subtree_delete_point};
-use front::{Front, Prefix};
 use std::alloc::AllocError;
 use std::marker::{Model, PhantomData};
 
@@ -69,9 +66,9 @@ pub struct PrefixRemoval<
 > {
     map: &'a mut TreeMap<K, V, PREFIX_LEN>,
     block: KnownBlock,
-    front: Front,
+    front: History,
     mark: PhantomData<M>,
-    ghost known: { ∥ IsReadyPart K.bytes PREFIX_LEN map.now front.bytes block.part ∥₁ },
+    ghost known: { ∥ IsReadyPart K.bytes PREFIX_LEN map.now front.items block.part ∥₁ },
 }
 
 impl<'a, K: AsBytes, V, const PREFIX_LEN: usize> PrefixRemoval<'a, K, V, PREFIX_LEN> {
@@ -243,7 +240,7 @@ impl<K: AsBytes, V, const PREFIX_LEN: usize> TreeMap<K, V, PREFIX_LEN> {
         ensures none { IfOk result (λ r. self.old.pairs ≡ [] → removal_reads r ≡ 0) }
         ensures shrinks { OnErr result (ShrinksAtCut K.bytes prefix.now self.old.pairs) }
     {
-        let front = Front::of(&Prefix { bytes: prefix });
+        let front = History::new().then(&Piece { bytes: prefix });
         match self.block_behind(prefix) {
             Ok(block) => Ok(PrefixRemoval {
                 map: self,

@@ -12,9 +12,9 @@ ghost use Rattle.art_map.specs.Ranges.{pairs_between};
 
 use crate::map::TreeMap;
 use crate::map::ranges::bytes_of;
-use art_arena::LeafPtr;
+use art_arena::{End, LeafPtr};
 use art_bytes::AsBytes;
-use art_walks::RawIterator;
+use art_walks::{Ahead, RawIterator};
 use std::ops::Bound;
 
 /// An iterator over a run of a map's pairs in order, from either end. It lends their values for writing, one at a time.
@@ -22,6 +22,7 @@ use std::ops::Bound;
 pub struct RangeMut<'a, K: AsBytes, V, const PREFIX_LEN: usize> {
     map: &'a mut TreeMap<K, V, PREFIX_LEN>,
     leaves: RawIterator,
+    ahead: Ahead,
     ghost valid: { ∥ IsRunIn map.now leaves ∥₁ },
 }
 
@@ -61,6 +62,15 @@ impl<K: AsBytes, V, const PREFIX_LEN: usize> TreeMap<K, V, PREFIX_LEN> {
         leaves.next_back(&self.arena)
     }
 
+    // Goes on by the leaf at an end of a run. From the front it reads ahead.
+    #[inline]
+    pub(super) fn read_ahead(&self, ahead: &mut Ahead, leaves: RawIterator, end: End) {
+        match end {
+            End::First => ahead.step(&self.arena, self.root, leaves),
+            End::Last => ahead.stop(),
+        }
+    }
+
     /// Returns an iterator over the pairs whose keys are between two bounds, by their bytes. It ascends, and lends
     /// values for writing from either end, one at a time. It allocates nothing. The bounds' keys need not be stored.
     ///
@@ -87,7 +97,11 @@ impl<K: AsBytes, V, const PREFIX_LEN: usize> TreeMap<K, V, PREFIX_LEN> {
             (bound_map (λ key. Q.bytes key.now) end.entry) self.old.pairs }
     {
         let leaves = self.walk_between(bytes_of(start), bytes_of(end));
-        RangeMut { map: self, leaves }
+        RangeMut {
+            map: self,
+            leaves,
+            ahead: Ahead::new(),
+        }
     }
 
     /// Returns an iterator over the pairs whose keys begin with a prefix's bytes. It ascends, and lends values for
@@ -107,7 +121,11 @@ impl<K: AsBytes, V, const PREFIX_LEN: usize> TreeMap<K, V, PREFIX_LEN> {
         ensures rest { range_rest result ≡ with_front (key_of K.bytes) (Q.bytes prefix.now) self.old.pairs }
     {
         let leaves = self.walk_behind(prefix.as_bytes());
-        RangeMut { map: self, leaves }
+        RangeMut {
+            map: self,
+            leaves,
+            ahead: Ahead::new(),
+        }
     }
 
     // The pairs of a run, their values lent for writing one at a time.
@@ -116,7 +134,11 @@ impl<K: AsBytes, V, const PREFIX_LEN: usize> TreeMap<K, V, PREFIX_LEN> {
         ensures same_map { (result.map.ghost_name ≡ self.entry.ghost_name) × (result.map.now ≡ self.old) }
         ensures rest { range_rest result ≡ run_pairs self.old leaves }
     {
-        RangeMut { map: self, leaves }
+        RangeMut {
+            map: self,
+            leaves,
+            ahead: Ahead::new(),
+        }
     }
 }
 
@@ -200,6 +222,8 @@ impl<'a, K: AsBytes, V, const PREFIX_LEN: usize> RangeMut<'a, K, V, PREFIX_LEN> 
             (range_behind self.old) result.1) }
         ensures lent { IsRangeFirst self.old (deref_pair_mut result) }
     {
+        self.map
+            .read_ahead(&mut self.ahead, self.leaves, End::First);
         let leaf = match self.map.first_of(&mut self.leaves) {
             Some(leaf) => leaf,
             None => unreachable!(),
@@ -224,6 +248,7 @@ impl<'a, K: AsBytes, V, const PREFIX_LEN: usize> RangeMut<'a, K, V, PREFIX_LEN> 
             (range_before self.old) result.1) }
         ensures lent { IsRangeLast self.old (deref_pair_mut result) }
     {
+        self.map.read_ahead(&mut self.ahead, self.leaves, End::Last);
         let leaf = match self.map.last_of(&mut self.leaves) {
             Some(leaf) => leaf,
             None => unreachable!(),

@@ -2,8 +2,9 @@
 use Rattle.std.specs.Prelude.{◌≡◌, ℕ, List, [], ◌∷◌, ◌++◌, Option, None, Some}
 use Rattle.std.specs.declared.cmp.Ordering.TheVariants.{Less, Greater}
 use Rattle.art_bytes.specs.Keys.{bytes_cmp}
-use Rattle.art_arena.specs.arena.Arena.{Arena, links_at}
-use Rattle.art_arena.specs.arena.Linked.{AreHalves, first_slot, last_slot}
+use Rattle.art_arena.specs.arena.Arena.{Arena, links_at, node_at}
+use Rattle.art_arena.specs.arena.Cells.{leaf_name, pair, UpdatesAt}
+use Rattle.art_arena.specs.arena.Linked.{AreHalves, AreLinked, IsList, Links, first_slot, last_slot}
 use Rattle.art_arena.specs.arena.Shapes.{LeafAt}
 use Rattle.art_operations.specs.LeafCursors.{StandsBetween}
 use Rattle.art_operations.specs.LeafLists.{HoldsLeaves}
@@ -58,3 +59,16 @@ pub record HasMovedOne {K V : Type 0} (from : Arena K V) (cursor : LeafCursor) (
   pub had : ls ≡ rest ++ was ∷ []
   pub stands : StandsBetween from cursor rest []
   pub held : HoldsFrom to first (record { slot = slot; key = was.key; value = was.value } ∷ moved)
+
+-- these leaves are a list with open ends, whose last leaf is this one; or there is none
+pub record IsListTo {K V : Type 0} (links : ℕ → Option Links) (last : Option ℕ) (ls : List (LeafAt K V))
+    : Type 0 where
+  pub list : IsList links ls
+  pub last_is : last_slot None ls ≡ last
+
+-- a leaf of this pair stands now behind the list, and all other nodes as they did, the links of leaves aside
+pub record HasStoredLast {K V : Type 0} (old new : Arena K V) (slot : ℕ) (key : K) (value : V) (ls : List (LeafAt K V))
+    : Type 0 where
+  pub vacant : node_at old (leaf_name slot) ≡ None
+  pub cells : UpdatesAt (node_at old) (node_at new) (leaf_name slot) (Some (pair key value))
+  pub linked : AreLinked (links_at new) None (ls ++ record { slot = slot; key = key; value = value } ∷ []) None

@@ -5,10 +5,12 @@ use Rattle.art_arena.specs.arena.Cells.{pair, leaf_name, Holds}
 use Rattle.art_arena.specs.arena.Shapes.{LeafAt, key_of, pairs_of}
 use Rattle.art_arena.specs.tree.Order.{AscendsByKey}
 use Rattle.art_operations.specs.Frees.{leaf_cells}
+use Rattle.art_operations.specs.Meetings.{PartAt}
 use Rattle.art_operations.specs.Rebuilds.{HasInnerRoom}
 use Rattle.art_operations.specs.inner.Spines.{Level, AreOpen, IsEmptySpine, open_cells, open_children, open_leaves}
 use Rattle.art_operations.specs.inner.Spines.{opened}
 use Rattle.art_operations.specs.declared.build.spine.Spine.{Spine}
+use Rattle.art_operations.specs.declared.meeting.Parted.{Parted}
 
 -- no node is open, and so many leaves can be passed without memory
 pub record IsFresh (spine : Spine) (leaves : ℕ) : Type 0 where
@@ -45,3 +47,8 @@ module _ {K V : Type 0} (bytes : K → List ℕ) (P : ℕ) (arena : Arena K V) w
     pub named : leaf.slot ≡ next
     pub up_to : RebuildsUpTo spine last (leaf ∷ rest) ls
     pub ascends : AscendsByKey (key_of bytes) (pairs_of ls)
+
+  -- and their keys part so
+  pub record CanPassAt (spine : Spine) (last next : ℕ) (parted : Parted) (rest ls : List (LeafAt K V)) : Type 0 where
+    pub can : CanPass spine last next rest ls
+    pub parts : PartAt (bytes can.up_to.key) (bytes can.leaf.key) parted

@@ -10,8 +10,6 @@ use Rattle.art_arena.specs.arena.Context.{AreBelow}
 use Rattle.art_arena.specs.arena.Shapes.{Shape, Branches, LeafAt, name_of, children_at, width, leaves, leaves_in, cells}
 use Rattle.art_arena.specs.arena.Shapes.{cells_in, IsUnder, AreUnder}
 use Rattle.art_operations.specs.Held.{HasLeaf}
-use Rattle.art_operations.specs.Meetings.{PartAt}
-use Rattle.art_operations.specs.declared.meeting.Parted.{Parted}
 use Rattle.art_operations.specs.declared.build.spine.Open.{Open}
 use Rattle.art_operations.specs.declared.build.spine.Spine.{Spine}
 
@@ -111,8 +109,3 @@ module _ {K V : Type 0} (bytes : K → List ℕ) where
       pub there : HasLeaf arena last leaf
       pub key_is : bytes leaf.key ≡ key
       pub stands : IsSpine low root key ls
-
--- a key parts so from that of this leaf
-abbrev pub PartsFromLast : {K V : Type 0} → (K → List ℕ) → Arena K V → ℕ → List ℕ → Parted → Type 0
-PartsFromLast {K} {V} bytes arena last key parted =
-    (leaf : LeafNode K V) × HasLeaf arena last leaf × PartAt (bytes leaf.key) key parted

@@ -1,9 +1,8 @@
 //! The inner nodes of a tree that are made anew over its leaves, which stand linked in their arena. It is the walk of a
 //! builder, but the leaves are there already.
-ghost use Rattle.std.specs.Prelude.{◌≡◌, ◌≢◌, ◌+◌, ◌*◌, ◌-◌, ◌^◌, ◌<◌, ◌≤◌, ℕ, suc, List, [], length, Some, OnOk, IfOk};
+ghost use Rattle.std.specs.Prelude.{◌≡◌, ◌+◌, ◌^◌, ◌<◌, ◌≤◌, ℕ, suc, List, [], length, Some, OnOk, IfOk};
 ghost use Rattle.art_bytes.specs.Keys.{IsBefore};
-ghost use Rattle.art_nodes.specs.Kind.{row_of};
-ghost use Rattle.art_arena.specs.arena.Arena.{HasRoomOf, KeepsRoomOf, SameNodes};
+ghost use Rattle.art_arena.specs.arena.Arena.{KeepsRoomOf, SameNodes};
 ghost use Rattle.art_arena.specs.arena.Rooms.{SameLeaves};
 ghost use Rattle.art_arena.specs.arena.Shapes.{LeafAt, pairs_of};
 ghost use Rattle.art_operations.specs.Meetings.{PartAt};
@@ -13,12 +12,12 @@ ghost use Rattle.art_operations.specs.inner.Rebuilding.{CanPass, HasSpineRoom, R
 ghost use Rattle.art_operations.specs.inner.Spines.{IsEmptySpine};
 ghost use Rattle.art_operations.specs.Whichever.{HasSome, OfEach};
 
-use crate::build::spine::{Spine, close};
+use crate::build::spine::{Spine, close, pass_at};
 use crate::meeting::{Meeting, Parted, meet};
 use crate::minmax::minimum_unchecked;
 use art_arena::{LeafPtr, NodeArena};
 use art_bytes::AsBytes;
-use art_nodes::{LeafNode, NodeType, OpaqueNodePtr};
+use art_nodes::{LeafNode, OpaqueNodePtr};
 use std::alloc::{AllocError, Global};
 use std::marker::Model;
 
@@ -41,20 +40,6 @@ impl Model for SpineRoom {
     ghost invariant = { λ room. IsFresh room.spine room.leaves };
 }
 
-// Allocates so many nodes of one kind as can stand over so many leaves.
-fn reserve_over<K, V, const PREFIX_LEN: usize>(
-    arena: &mut NodeArena<K, V, PREFIX_LEN>,
-    kind: NodeType,
-    leaves: usize,
-) -> Result<(), AllocError>
-    requires { kind ≢ NodeType.Leaf }
-    ensures room { OnOk result ((n : ℕ) → n * ((row_of kind).fewest - 1) < leaves → HasRoomOf arena.new kind n) }
-    ensures kept_room { KeepsRoomOf arena.old arena.new }
-    ensures kept { SameNodes arena.old arena.new }
-{
-    arena.reserve_kind(kind, leaves.saturating_sub(1) / (kind.row().fewest - 1))
-}
-
 impl SpineRoom {
     /// Allocates all that `rebuild` needs over so many leaves: nodes of each kind, and room for what is noted
     /// meanwhile.
@@ -70,12 +55,8 @@ impl SpineRoom {
         ensures kept_room { KeepsRoomOf arena.old arena.new }
         ensures kept { SameNodes arena.old arena.new }
     {
-        let spine = Spine::with_places(alloc, leaves)?;
-        reserve_over(arena, NodeType::Node4, leaves)?;
-        reserve_over(arena, NodeType::Node16, leaves)?;
-        reserve_over(arena, NodeType::Node32, leaves)?;
-        reserve_over(arena, NodeType::Node48, leaves)?;
-        reserve_over(arena, NodeType::Node256, leaves)?;
+        let mut spine = Spine::new(alloc);
+        spine.reserve(arena, leaves)?;
         Ok(SpineRoom { spine, leaves })
     }
 }
@@ -134,13 +115,7 @@ fn pass_to<K: AsBytes, V, const PREFIX_LEN: usize>(
         arena.as_key_ref(last).as_bytes(),
         arena.as_key_ref(next).as_bytes(),
     );
-    let behind = parted.matched + 1;
-    let Ok(part) = close(arena, spine, last, behind) else {
-        unreachable!();
-    };
-    let Ok(()) = spine.add_child(behind, parted.old_byte, part) else {
-        unreachable!();
-    };
+    pass_at(arena, spine, last, next, parted);
 }
 
 // Passes all leaves from the first one on, of which there are so many at most. It returns the last.

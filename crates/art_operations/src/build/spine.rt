@@ -1,18 +1,22 @@
 //! The inner nodes that are still open while a tree is built: those on the way to its last leaf.
-ghost use Rattle.std.specs.Prelude.{◌≡◌, ◌<◌, ◌≤◌, ◌^◌, ◌∷◌, ◌++◌, ℕ, suc, List, [], length, IsOk, IfOk, OnOk};
-ghost use Rattle.std.specs.Prelude.{◌+◌, OnErr, vec_capacity};
+ghost use Rattle.std.specs.Prelude.{◌≡◌, ◌≢◌, ◌<◌, ◌≤◌, ◌*◌, ◌-◌, ◌^◌, ◌∷◌, ◌++◌, ℕ, suc, List, length};
+ghost use Rattle.std.specs.Prelude.{◌+◌, IsOk, IfOk, OnOk, OnErr, vec_capacity};
+ghost use Rattle.art_nodes.specs.Kind.{row_of};
 ghost use Rattle.art_nodes.specs.Name.{Name};
+ghost use Rattle.art_arena.specs.arena.Arena.{HasRoomOf, KeepsRoomOf, SameNodes};
 ghost use Rattle.art_arena.specs.arena.Rooms.{SameLeaves};
 ghost use Rattle.art_arena.specs.arena.Shapes.{LeafAt};
 ghost use Rattle.art_arena.specs.arena.Cells.{Cell, leaf_name};
-ghost use Rattle.art_operations.specs.inner.Rebuilding.{HasPlaces, HasSpineRoom, IsFresh};
+ghost use Rattle.art_operations.specs.Rebuilds.{HasInnerRoom};
+ghost use Rattle.art_operations.specs.inner.Rebuilding.{CanPassAt, HasPlaces, HasSpineRoom, RebuildsUpTo};
 ghost use Rattle.art_operations.specs.inner.Spines.{begin_of, AddsChild, OpensAt, IsEmptySpine, HasSpine};
 ghost use Rattle.art_operations.specs.Whichever.{HasSome, OfEach};
 
 use crate::build::made::store_over;
+use crate::meeting::Parted;
 use art_arena::{LeafPtr, NodeArena};
 use art_bytes::AsBytes;
-use art_nodes::OpaqueNodePtr;
+use art_nodes::{NodeType, OpaqueNodePtr};
 use std::alloc::{AllocError, Global};
 
 /// An inner node that is not made yet.
@@ -32,6 +36,37 @@ pub(super) struct Spine {
     children: Vec<(u8, OpaqueNodePtr)>,
 }
 
+// Allocates so many nodes of one kind as can stand over so many leaves.
+fn reserve_over<K, V, const PREFIX_LEN: usize>(
+    arena: &mut NodeArena<K, V, PREFIX_LEN>,
+    kind: NodeType,
+    leaves: usize,
+) -> Result<(), AllocError>
+    requires { kind ≢ NodeType.Leaf }
+    ensures room { OnOk result ((n : ℕ) → n * ((row_of kind).fewest - 1) < leaves → HasRoomOf arena.new kind n) }
+    ensures kept_room { KeepsRoomOf arena.old arena.new }
+    ensures kept { SameNodes arena.old arena.new }
+{
+    arena.reserve_kind(kind, leaves.saturating_sub(1) / (kind.row().fewest - 1))
+}
+
+// Allocates the inner nodes of any tree of so many leaves.
+fn reserve_inner<K, V, const PREFIX_LEN: usize>(
+    arena: &mut NodeArena<K, V, PREFIX_LEN>,
+    leaves: usize,
+) -> Result<(), AllocError>
+    ensures room { OnOk result (HasInnerRoom arena.new leaves) }
+    ensures kept_room { KeepsRoomOf arena.old arena.new }
+    ensures kept { SameNodes arena.old arena.new }
+{
+    reserve_over(arena, NodeType::Node4, leaves)?;
+    reserve_over(arena, NodeType::Node16, leaves)?;
+    reserve_over(arena, NodeType::Node32, leaves)?;
+    reserve_over(arena, NodeType::Node48, leaves)?;
+    reserve_over(arena, NodeType::Node256, leaves)?;
+    Ok(())
+}
+
 impl Spine {
     /// No node is open.
     pub(super) fn new(alloc: Global) -> Self
@@ -43,22 +78,25 @@ impl Spine {
         }
     }
 
-    /// No node is open, and so many leaves can be passed without memory.
-    pub(super) fn with_places(alloc: Global, places: usize) -> Result<Self, AllocError>
-        ensures { IfOk result (λ spine. IsFresh spine places) }
+    /// Allocates what it takes to pass so many leaves more: nodes of each kind, and places for what is noted meanwhile.
+    ///
+    /// Fails only if out of memory. Either way, room that was there stays, and nothing else changes.
+    pub(super) fn reserve<K, V, const PREFIX_LEN: usize>(
+        &mut self,
+        arena: &mut NodeArena<K, V, PREFIX_LEN>,
+        more: usize,
+    ) -> Result<(), AllocError>
+        ensures room { OnOk result (HasSpineRoom arena.new self.new more) }
+        ensures kept_room { (n : ℕ) → HasSpineRoom arena.old self.old n → HasSpineRoom arena.new self.new n }
+        ensures room_of { KeepsRoomOf arena.old arena.new }
+        ensures stack { self.new.stack.items ≡ self.old.stack.items }
+        ensures children { self.new.children.items ≡ self.old.children.items }
+        ensures kept { SameNodes arena.old arena.new }
     {
-        Ok(Spine {
-            stack: Vec::with_capacity(alloc, places)?,
-            children: Vec::with_capacity(alloc, places)?,
-        })
-    }
-
-    /// Lets all open nodes go.
-    pub(super) fn clear(&mut self)
-        ensures { IsEmptySpine self.new }
-    {
-        self.stack.clear();
-        self.children.clear();
+        self.stack.reserve(more)?;
+        self.children.reserve(more)?;
+        reserve_inner(arena, self.children.len() + more)?;
+        Ok(())
     }
 
     // How many bytes lead to what comes below the last open node: so many at least.
@@ -172,4 +210,31 @@ pub(super) fn close<K: AsBytes, V, const PREFIX_LEN: usize>(
         }
         part = close_top(arena, spine, last, low, part)?;
     }
+}
+
+/// Goes on from the last leaf to the next one, from whose key the last one's parts so: makes what is whole before the
+/// next, and hangs that below the node at which the keys part. With room for it this never fails.
+pub(super) fn pass_at<K: AsBytes, V, const PREFIX_LEN: usize>(
+    arena: &mut NodeArena<K, V, PREFIX_LEN>,
+    spine: &mut Spine,
+    last: LeafPtr,
+    next: LeafPtr,
+    parted: Parted,
+)
+    requires stands { HasSome (CanPassAt K.bytes PREFIX_LEN arena.old spine.old last next parted) }
+    requires room { (more : ℕ) × HasSpineRoom arena.old spine.old (suc more) }
+    requires counts { parted.matched + 1 < 2 ^ 64 }
+    requires fits { parted.old_byte < 256 }
+    ensures passes { OfEach (CanPassAt K.bytes PREFIX_LEN arena.old spine.old last next parted)
+        (RebuildsUpTo K.bytes PREFIX_LEN arena.new spine.new next) }
+    ensures leaves { SameLeaves arena.old arena.new }
+    ensures room { (more : ℕ) → HasSpineRoom arena.old spine.old (suc more) → HasSpineRoom arena.new spine.new more }
+{
+    let behind = parted.matched + 1;
+    let Ok(part) = close(arena, spine, last, behind) else {
+        unreachable!();
+    };
+    let Ok(()) = spine.add_child(behind, parted.old_byte, part) else {
+        unreachable!();
+    };
 }

@@ -91,10 +91,8 @@ impl<K: NoPrefixesBytes + Drop, const PREFIX_LEN: usize> TreeSet<K, PREFIX_LEN> 
                 Err(refused) => return Err(RefusedKey { key: refused.key }),
             }
         }
-        match builder.finish() {
-            Ok(map) => Ok(TreeSet { alloc, map }),
-            Err(refused) => Err(RefusedKey { key: refused.key }),
-        }
+        let map = builder.finish();
+        Ok(TreeSet { alloc, map })
     }
 
     /// Makes a set of the keys of a vector, as `from_iter` does. Of keys with the same bytes the last counts.

@@ -1,18 +1,26 @@
-use Rattle.std.proofs.Common.{◌≡◌, ◌≤◌, ◌++◌, length, take, map, false}
+use Rattle.std.proofs.Common.{◌≡◌, ◌≤◌, ◌++◌, drop, length, take, map, false}
 use Rattle.std.specs.List.{AllByRecursion}
+use Rattle.std.specs.Map.Iter.{deref_pair}
 use Rattle.art_engine.specs.Records.{NumberFits}
+use Rattle.art_engine.specs.Spans.{pending_all, IsClosed}
 use Rattle.art_engine.specs.Stored.{number_record_of}
 use Rattle.art_lines.specs.Gathered.{IsPartTaken}
 use Rattle.art_engine.proofs.Dumping.{dumped, words_nput}
 use Rattle.art_engine.proofs.dump.gather_numbers.Given as goal
 
--- the pairs so far are told, or gathered
-abbrev pub invariant-loop-key : goal.invariant-loop-key
-invariant-loop-key g l = record {
-  taken : IsPartTaken (g.W.Sink.taken l.fn.sink) (g.W.Sink.taken l.sink) (take l.held l.room ++ dumped number_record_of words_nput l.key-iterator)
-      (take l.before l.fn.room ++ dumped number_record_of words_nput l.numbers.pairs);
-  fine : g.W.Sink.has_failed l.sink ≡ false;
-  fit : AllByRecursion NumberFits (map number_record_of l.key-iterator);
-  held : l.held ≤ 8192;
-  whole : length l.room ≡ 8192;
-}
+-- the pairs so far are told, or gathered, and some are read
+abbrev pub invariant-pairs : goal.invariant-pairs
+invariant-pairs g l =
+    let read = drop l.together.at (take l.together.len l.together.pairs) in let left = pending_all deref_pair read l.pairs in record {
+      taken : IsPartTaken (g.W.Sink.taken l.fn.sink) (g.W.Sink.taken l.sink) (take l.held l.room ++ dumped number_record_of words_nput left)
+          (take l.before l.fn.room ++ dumped number_record_of words_nput l.numbers.pairs);
+      fine : g.W.Sink.has_failed l.sink ≡ false;
+      fit : AllByRecursion NumberFits (map number_record_of left);
+      held : l.held ≤ 8192;
+      whole : length l.room ≡ 8192;
+      within : l.together.len ≤ 8;
+      closed : IsClosed deref_pair read l.pairs;
+    }
+
+abbrev pub decreases-pairs : goal.decreases-pairs
+decreases-pairs g l = length (pending_all deref_pair (drop l.together.at (take l.together.len l.together.pairs)) l.pairs)

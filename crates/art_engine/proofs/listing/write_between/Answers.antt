@@ -6,7 +6,6 @@ use Rattle.std.specs.BTreeMap.Range.{IsLeBy, range_contains}
 use Rattle.std.proofs.lemmas.Result.{on_ok_weaker}
 use Rattle.art_bytes.specs.Keys.{bytes_cmp}
 use Rattle.art_lines.specs.Words.{line_of}
-use Rattle.art_lines.specs.ReplyWords.{listed}
 use Rattle.art_lines.specs.Writes.{Writes}
 use Rattle.art_engine.specs.Counts.{longest, GrewBy}
 use Rattle.art_engine.specs.Keys.{full_key_of}
@@ -15,7 +14,8 @@ use Rattle.art_engine.specs.Stored.{Pair, record_of}
 use Rattle.art_lines.specs.Parsed.{tenant_in_place, key_in_place, value_in_place}
 use Rattle.art_engine.proofs.Listings.{never_falls}
 use Rattle.art_engine.proofs.FullTests.{in_order_full}
-use Rattle.art_engine.proofs.RecordCounts.{own_left, left_listed, left_few, left_grew, span_tests, pairs_within}
+use Rattle.art_engine.proofs.ListedLines.{list_all}
+use Rattle.art_engine.proofs.RecordCounts.{own_pairs, own_left, left_listed, left_few, left_grew, span_tests, pairs_within}
 use Rattle.art_engine.proofs.SpanLemmas.{span_left}
 use Rattle.art_engine.proofs.listing.write_between.Goals as goal
 
@@ -42,7 +42,7 @@ returns-clause-told g c = λ ps r.
     let left = span_left _ ps _ _ (c.range-span.ensures.value ps r.read)
     ∙ ap₂ (λ a b. filter (λ (p : Pair). range_contains bytes_cmp (Included a) (Excluded b) p.0.items) ps) c.full_key.ensures.value c.full_bound.ensures in
     let own = ap (map own_pair) left ∙ own_left t _ _ (span_tests t low high c.full_key.ensures.tenant) ps r.are in
-    subst (λ pairs. Writes c.write_pairs.result (g.W.Sink.taken c.args.sink.now) (g.W.Sink.taken c.write_pairs.new.sink) (flat_map line_of (listed pairs)) (g.W.Sink.has_failed c.write_pairs.new.sink)) own c.write_pairs.ensures.written
+    subst (λ (text : List ℕ). Writes c.write_pairs.result (g.W.Sink.taken c.args.sink.now) (g.W.Sink.taken c.write_pairs.new.sink) text (g.W.Sink.has_failed c.write_pairs.new.sink)) (list_all _ _ (own_pairs _ ∙ own)) c.write_pairs.ensures.written
 
 pub returns-clause-visits : goal.returns-clause-visits
 returns-clause-visits g c = λ ps r.

@@ -1,10 +1,9 @@
-use Rattle.std.proofs.Common.{rules, ◌≡◌, ◌+◌, ◌^◌, ◌<◌, List, length, map, ap, sym, ◌∙◌, subst, arith}
+use Rattle.std.proofs.Common.{ℕ, rules, ◌≡◌, ◌+◌, ◌^◌, ◌<◌, List, length, map, ap, sym, ◌∙◌, subst, arith}
 use Rattle.std.specs.Prelude.{filter, flat_map}
 use Rattle.std.specs.List.{AllByRecursion}
 use Rattle.std.proofs.lemmas.Result.{on_ok_weaker}
 use Rattle.art_arena.specs.tree.Tenants.{begins_with}
 use Rattle.art_lines.specs.Words.{line_of}
-use Rattle.art_lines.specs.ReplyWords.{listed}
 use Rattle.art_lines.specs.Writes.{Writes}
 use Rattle.art_engine.specs.Counts.{longest, GrewBy}
 use Rattle.art_engine.specs.Keys.{full_key_of}
@@ -12,7 +11,8 @@ use Rattle.art_engine.specs.Spans.{span_pairs, own_pair, IsListed}
 use Rattle.art_engine.specs.Stored.{Pair, record_of}
 use Rattle.art_lines.specs.Parsed.{tenant_in_place, key_in_place}
 use Rattle.art_engine.proofs.Listings.{never_falls}
-use Rattle.art_engine.proofs.RecordCounts.{own_left, left_listed, left_few, left_grew, list_tests, pairs_within}
+use Rattle.art_engine.proofs.ListedLines.{list_all}
+use Rattle.art_engine.proofs.RecordCounts.{own_pairs, own_left, left_listed, left_few, left_grew, list_tests, pairs_within}
 use Rattle.art_engine.proofs.SpanLemmas.{span_left}
 use Rattle.art_engine.proofs.listing.write_list.Goals as goal
 
@@ -30,7 +30,7 @@ returns-clause-told g c = λ ps r.
     let t = tenant_in_place c.args.fields.now in let k = key_in_place c.args.fields.now in
     let left = span_left _ ps _ _ (c.prefix-span.ensures.value ps r.read) ∙ ap (λ q. filter (λ (p : Pair). begins_with q p.0.items) ps) c.full_key.ensures.value in
     let own = ap (map own_pair) left ∙ own_left t _ _ (list_tests t k c.full_key.ensures.tenant) ps r.are in
-    subst (λ pairs. Writes c.write_pairs.result (g.W.Sink.taken c.args.sink.now) (g.W.Sink.taken c.write_pairs.new.sink) (flat_map line_of (listed pairs)) (g.W.Sink.has_failed c.write_pairs.new.sink)) own c.write_pairs.ensures.written
+    subst (λ (text : List ℕ). Writes c.write_pairs.result (g.W.Sink.taken c.args.sink.now) (g.W.Sink.taken c.write_pairs.new.sink) text (g.W.Sink.has_failed c.write_pairs.new.sink)) (list_all _ _ (own_pairs _ ∙ own)) c.write_pairs.ensures.written
 
 pub returns-clause-visits : goal.returns-clause-visits
 returns-clause-visits g c = λ ps r.

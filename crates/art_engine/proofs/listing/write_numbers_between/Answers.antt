@@ -6,7 +6,6 @@ use Rattle.std.specs.BTreeMap.Range.{IsLeBy, range_contains}
 use Rattle.std.proofs.lemmas.Result.{on_ok_weaker}
 use Rattle.art_bytes.specs.Keys.{bytes_cmp}
 use Rattle.art_lines.specs.Words.{line_of}
-use Rattle.art_lines.specs.ReplyWords.{numbers_listed}
 use Rattle.art_lines.specs.Writes.{Writes}
 use Rattle.art_engine.specs.Counts.{GrewBy}
 use Rattle.art_engine.specs.Spans.{span_pairs, own_number, IsNumbered}
@@ -14,7 +13,8 @@ use Rattle.art_engine.specs.Stored.{NumberPair}
 use Rattle.art_lines.specs.Parsed.{tenant_in_place, number_in_place, bound_in_place}
 use Rattle.art_engine.proofs.Listings.{never_falls}
 use Rattle.art_engine.proofs.NumberKeys.{HaveBytes, numbers_in_order}
-use Rattle.art_engine.proofs.RecordCounts.{own_numbers_left, numbers_left_listed, numbers_left_few, numbers_left_grew, numbers_within}
+use Rattle.art_engine.proofs.ListedLines.{numbers_all}
+use Rattle.art_engine.proofs.RecordCounts.{own_numbers, own_numbers_left, numbers_left_listed, numbers_left_few, numbers_left_grew, numbers_within}
 use Rattle.art_engine.proofs.SpanLemmas.{span_left}
 use Rattle.art_engine.proofs.listing.write_numbers_between.Goals as goal
 
@@ -25,8 +25,8 @@ range-span-requires g c =
     let ends = sym (ap₂ (λ a b. (a, b)) c.number_key-low.ensures.value c.bound_key-high.ensures.value) in
     (search rules, (search rules, λ ns r. inr (subst (λ (q : List ℕ × List ℕ). IsLeBy bytes_cmp q.0 q.1) ends valid)))
 
-pub write_numbers-requires : goal.write_numbers-requires
-write_numbers-requires g c =
+pub write_pairs-requires : goal.write_pairs-requires
+write_pairs-requires g c =
     let F = c.args.fields.now in let t = tenant_in_place F in let low = number_in_place F in let high = bound_in_place F in
     let fits_low : HaveBytes t low = (c.number_key-low.ensures.tenant, c.number_key-low.ensures.number) in
     let fits_high : HaveBytes t high = (c.number_key-low.ensures.tenant, c.bound_key-high.ensures.bound) in
@@ -45,7 +45,7 @@ returns-clause-told g c = λ ns r.
     let left = span_left _ ns _ _ (c.range-span.ensures.value ns r.read)
     ∙ ap₂ (λ a b. filter (λ (p : NumberPair). range_contains bytes_cmp (Included a) (Included b) p.0) ns) c.number_key-low.ensures.value c.bound_key-high.ensures.value in
     let own = ap (map own_number) left ∙ own_numbers_left t low high fits_low fits_high ns r.are in
-    subst (λ pairs. Writes c.write_numbers.result (g.W.Sink.taken c.args.sink.now) (g.W.Sink.taken c.write_numbers.new.sink) (flat_map line_of (numbers_listed pairs)) (g.W.Sink.has_failed c.write_numbers.new.sink)) own c.write_numbers.ensures.written
+    subst (λ (text : List ℕ). Writes c.write_pairs.result (g.W.Sink.taken c.args.sink.now) (g.W.Sink.taken c.write_pairs.new.sink) text (g.W.Sink.has_failed c.write_pairs.new.sink)) (numbers_all _ _ (own_numbers _ ∙ own)) c.write_pairs.ensures.written
 
 pub returns-clause-visits : goal.returns-clause-visits
 returns-clause-visits g c = λ ns r.
@@ -56,6 +56,6 @@ returns-clause-visits g c = λ ns r.
     ∙ ap₂ (λ a b. filter (λ (p : NumberPair). range_contains bytes_cmp (Included a) (Included b) p.0) ns) c.number_key-low.ensures.value c.bound_key-high.ensures.value in
     let first = ap length c.number_key-low.ensures.value in
     let second = ap length c.bound_key-high.ensures.value in
-    on_ok_weaker c.write_numbers.result (λ is. numbers_left_grew t low high fits_low fits_high ns r.are _ _ _ r.few (never_falls c.args.numbers.now.root _ _ c.range-span.ensures.least)
+    on_ok_weaker c.write_pairs.result (λ is. numbers_left_grew t low high fits_low fits_high ns r.are _ _ _ r.few (never_falls c.args.numbers.now.root _ _ c.range-span.ensures.least)
     (c.range-span.ensures.few ns r.read 12 12 (numbers_within ns r.are.stand) (omega arith) (omega arith))
-    (subst (λ (l : List NumberPair). GrewBy (length l) c.range-span.new.self.count c.write_numbers.new.numbers.count) left is)) c.write_numbers.ensures.counts
+    (subst (λ (l : List NumberPair). GrewBy (length l) c.range-span.new.self.count c.write_pairs.new.records.count) left is)) c.write_pairs.ensures.counts

@@ -1,34 +1,31 @@
-use Rattle.std.proofs.Common.{◌+◌, [], length, take, ap, sym, subst, ◌∙◌, arith}
+use Rattle.std.proofs.Common.{◌≡◌, ◌+◌, [], length, take, set, ap, sym, subst, ◌∙◌, arith}
+use Rattle.std.specs.Prelude.{option_map}
 use Rattle.std.proofs.lemmas.List.{take_more_set, length-set}
 use Rattle.std.specs.Map.Iter.{deref_pair}
-use Rattle.art_engine.specs.Spans.{pending_all, IsClosed, span_pairs}
-use Rattle.art_engine.proofs.SpanLemmas.{span_next, span_ended, given_count}
+use Rattle.art_engine.specs.Spans.{pending, pending_all, IsClosed}
 use Rattle.art_engine.proofs.ReadTogether.{pending_more, closed_more, length_more}
 use Rattle.art_engine.proofs.together.read_all.Goals as goal
 
 pub pairs-preserved : goal.pairs-preserved
 pairs-preserved g c =
-    let next = c.next-pair.ensures in
+    let next = c.give-pair.ensures in
     let inv = c.pairs.invariant in
-    let o = c.next-pair.result in
+    let o = c.give-pair.result in
     let more = take_more_set c.pairs.pairs c.pairs.len o (omega arith) in
-    let step = span_next deref_pair _ _ _ _ _ next.first next.end inv.span in
+    let rest = g.R.GivesPairs.left c.give-pair.new.self c.give-pair.new.place in
     record {
       long = length-set c.pairs.pairs c.pairs.len o ∙ inv.long;
       few = omega arith;
       end = let same = length-set c.pairs.pairs c.pairs.len o in omega arith;
       some = omega arith;
-      gives = inv.gives ∙ ap (pending_all deref_pair (take c.pairs.len c.pairs.pairs)) step
-          ∙ sym (pending_more deref_pair (take c.pairs.len c.pairs.pairs) o (span_pairs c.next-pair.new.self.nodes c.next-pair.new.span))
-          ∙ ap (λ os. pending_all deref_pair os (span_pairs c.next-pair.new.self.nodes c.next-pair.new.span)) (sym more);
-      span = next.span;
-      closed = subst (λ os. IsClosed deref_pair os (span_pairs c.next-pair.new.self.nodes c.next-pair.new.span)) (sym more)
-          (closed_more deref_pair (take c.pairs.len c.pairs.pairs) o _ _ step (span_ended deref_pair _ _ _ _ _ next.first next.end inv.span) inv.closed);
-      same = (next.kept.0 ∙ inv.same.0, next.kept.1 ∙ inv.same.1);
+      gives = inv.gives ∙ ap (pending_all deref_pair (take c.pairs.len c.pairs.pairs)) next.gives
+          ∙ sym (pending_more deref_pair (take c.pairs.len c.pairs.pairs) o rest) ∙ ap (λ os. pending_all deref_pair os rest) (sym more);
+      place = next.place;
+      closed = subst (λ os. IsClosed deref_pair os rest) (sym more) (closed_more deref_pair (take c.pairs.len c.pairs.pairs) o _ _ next.gives next.ended inv.closed);
+      kept = λ first is. next.kept first (inv.kept first is);
       counts = λ given first is.
           let read = take c.pairs.len c.pairs.pairs in
-          let grew = given_count deref_pair o (given + length (pending_all deref_pair read [])) first c.pairs.records.count _ (inv.counts given first is) next.counts in
           let longer = ap (λ os. length (pending_all deref_pair os [])) more ∙ length_more deref_pair read o in
-          let low = grew.0 in let high = grew.1 in
-          (omega arith, omega arith);
+          let total : given + length (pending_all deref_pair read []) + length (pending (option_map deref_pair o) []) ≡ given + length (pending_all deref_pair (take (c.pairs.len + 1) (set c.pairs.pairs c.pairs.len o)) []) = omega arith in
+          subst (λ n. g.R.GivesPairs.has_grown n first c.give-pair.new.self) total (next.counts (given + length (pending_all deref_pair read [])) first (inv.counts given first is));
     }

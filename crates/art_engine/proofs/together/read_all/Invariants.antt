@@ -1,23 +1,21 @@
 use Rattle.std.proofs.Common.{◌≡◌, ◌+◌, ◌-◌, ◌≤◌, ◌<◌, ℕ, [], length, take}
 use Rattle.std.specs.Map.Iter.{deref_pair}
-use Rattle.art_walks.specs.MapReads.{IsSameMap, IsSpan}
-use Rattle.art_engine.specs.Counts.{GrewBy}
-use Rattle.art_engine.specs.Spans.{pending_all, IsClosed, span_pairs}
+use Rattle.art_engine.specs.Spans.{pending_all, IsClosed}
 use Rattle.art_engine.proofs.together.read_all.Given as goal
 
--- those read so far stand before what is left of the span
+-- those read so far stand before what is left
 abbrev pub invariant-pairs : goal.invariant-pairs
 invariant-pairs g l = record {
   long : length l.pairs ≡ length l.fn.pairs;
   few : l.len ≤ l.end;
   end : l.end ≤ length l.pairs;
   some : 0 < l.end;
-  gives : span_pairs l.fn.records.nodes l.fn.span ≡ pending_all deref_pair (take l.len l.pairs) (span_pairs l.records.nodes l.span);
-  span : IsSpan l.records.nodes l.span;
-  closed : IsClosed deref_pair (take l.len l.pairs) (span_pairs l.records.nodes l.span);
-  same : IsSameMap l.fn.records l.records;
-  counts : (given first : ℕ) → GrewBy given first l.fn.records.count
-      → GrewBy (given + length (pending_all deref_pair (take l.len l.pairs) [])) first l.records.count;
+  gives : g.R.GivesPairs.left l.fn.records l.fn.place ≡ pending_all deref_pair (take l.len l.pairs) (g.R.GivesPairs.left l.records l.place);
+  place : g.R.GivesPairs.is_place l.records l.place;
+  closed : IsClosed deref_pair (take l.len l.pairs) (g.R.GivesPairs.left l.records l.place);
+  kept : (first : g.row.R.Denot) → g.R.GivesPairs.is_same first l.fn.records → g.R.GivesPairs.is_same first l.records;
+  counts : (given first : ℕ) → g.R.GivesPairs.has_grown given first l.fn.records
+      → g.R.GivesPairs.has_grown (given + length (pending_all deref_pair (take l.len l.pairs) [])) first l.records;
 }
 
 abbrev pub decreases-pairs : goal.decreases-pairs

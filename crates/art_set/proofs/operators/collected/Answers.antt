@@ -35,7 +35,7 @@ loop-key-preserved g c =
           up so.0 so.1 c.in-Some.ensures.takes c.as_bytes-known.ensures.key (same k clone c.in_ok-clone.ensures.cases) (keys-put bytes clone tt inv.0),
     )
 
-pub returns-in-Ok-finish : goal.returns-in-Ok-finish
-returns-in-Ok-finish g c = λ same.
+pub returns : goal.returns
+returns g c = λ same.
     let inv = c.loop-key.invariant in
-    ap keys_of (c.in-Ok-finish.ensures.ok inv.0 inv.1) ∙ sym (append-nil (keys_of inv.0)) ∙ ap (λ ks. keys_of inv.0 ++ ks) (sym c.in_default.ensures.takes.0) ∙ (inv.2 same).1
+    ap keys_of (c.finish.ensures.pairs inv.0 inv.1) ∙ sym (append-nil (keys_of inv.0)) ∙ ap (λ ks. keys_of inv.0 ++ ks) (sym c.in_default.ensures.takes.0) ∙ (inv.2 same).1

@@ -1,36 +1,32 @@
-use Rattle.std.proofs.Common.{refl, sym, ap, ◌∙◌}
-use Rattle.art_operations.specs.Pairs.{with_pair_put}
-use Rattle.art_operations.proofs.LeafNames.{same-names}
+use Rattle.std.proofs.Common.{[], map, refl, arith}
+use Rattle.art_map.specs.Asked.{with_pairs_put}
+use Rattle.art_map.specs.Builders.{nodes_of}
 use Rattle.art_map.proofs.LeafNames.{then-names}
-use Rattle.art_map.proofs.Puts.{extend-refused, next-back, put-item}
+use Rattle.art_map.proofs.Puts.{gather-extends, next-back}
 use Rattle.art_map.proofs.map.TreeMap.extend.Goals as goal
 
-pub returns-in_err-insert-clause-pairs : goal.returns-in_err-insert-clause-pairs
-returns-in_err-insert-clause-pairs g c =
-    let it = c.into_iter-key-iterator in
-    extend-refused g.K.AsBytes.bytes (λ pair. pair) g.U.IntoIterator.into_iter_gives g.U.IntoIter.Iterator.next_gives c.args.iter it.result c.loop-key.yielded c.args.self.now.pairs c.insert.new.self.pairs _ c.from_residual.result
-    it.ensures.into_iter_gives (c.in_err-insert.ensures.err ∙ c.loop-key.invariant.put)
-    (next-back g.K.AsBytes.bytes (λ pair. pair) g.U.IntoIterator.into_iter_gives g.U.IntoIter.Iterator.next_gives it.result c.loop-key.key-iterator c.next.new.self c.loop-key.yielded (c.in-Some.key, c.in-Some.value) _ c.in-Some.key c.in-Some.value
-    c.loop-key.yielded_by c.in-Some.ensures.steps refl c.in_err-insert.ensures.handed_back)
-    c.from_residual.ensures.1
+pub returns-then-not-nodes_fit-clause-pairs : goal.returns-then-not-nodes_fit-clause-pairs
+returns-then-not-nodes_fit-clause-pairs g c =
+    let it = c.into_iter-pairs in (
+      it.result,
+      [],
+      it.ensures.into_iter_gives,
+      refl,
+      next-back g.K.AsBytes.bytes (λ pair. pair) g.U.IntoIterator.into_iter_gives g.U.IntoIter.Iterator.next_gives it.result it.result c.next.new.self [] (c.in-Some.key, c.in-Some.value) (record { key = c.in-Some.key; value = c.in-Some.value })
+          c.in-Some.key c.in-Some.value refl c.in-Some.ensures.steps refl (refl, refl),
+    )
 
-pub loop-key-preserved-in_ok-insert : goal.loop-key-preserved-in_ok-insert
-loop-key-preserved-in_ok-insert g c = record {
-  put = c.in_ok-insert.ensures.pairs ∙ ap (with_pair_put g.K.AsBytes.bytes c.in-Some.key c.in-Some.value) c.loop-key.invariant.put
-      ∙ sym (put-item g.K.AsBytes.bytes (λ p. p) c.loop-key.yielded (c.in-Some.key, c.in-Some.value) c.args.self.now.pairs);
-  names = then-names g.K.AsBytes.bytes c.insert.new.self.nodes c.loop-key.self.nodes c.args.self.now.nodes c.in_ok-insert.ensures.names c.loop-key.invariant.names;
-}
+pub put_back-requires : goal.put_back-requires
+put_back-requires g c =
+    let (it, given, gives, put, outcome) = c.put_all-result.ensures.pairs in
+    (omega arith, (omega arith, (c.if-not-nodes_fit.ensures.0 refl, (with_pairs_put g.K.AsBytes.bytes (map (λ p. p) given) c.args.self.now.pairs, put c.args.self.now.pairs c.take_into_builder-builder.ensures.pairs))))
 
-pub loop-key-preserved : goal.loop-key-preserved
-loop-key-preserved g c = record {
-  put = c.in_ok-insert.ensures.pairs ∙ ap (with_pair_put g.K.AsBytes.bytes c.in-Some.key c.in-Some.value) c.loop-key.invariant.put
-      ∙ sym (put-item g.K.AsBytes.bytes (λ p. p) c.loop-key.yielded (c.in-Some.key, c.in-Some.value) c.args.self.now.pairs);
-  names = then-names g.K.AsBytes.bytes c.insert.new.self.nodes c.loop-key.self.nodes c.args.self.now.nodes c.in_ok-insert.ensures.names c.loop-key.invariant.names;
-}
+pub returns-clause-pairs : goal.returns-clause-pairs
+returns-clause-pairs g c =
+    gather-extends g.K.AsBytes.bytes (λ pair. pair) g.U.IntoIterator.into_iter_gives g.U.IntoIter.Iterator.next_gives g.K.AsBytes.is_key c.take_into_builder-builder.result c.put_all-result.new.self c.args.iter c.put_all-result.result
+    c.args.self.now.pairs c.put_back.new.self.pairs c.put_all-result.ensures.pairs c.take_into_builder-builder.ensures.pairs c.put_back.ensures.pairs
 
-pub returns-in_err-insert-clause-names : goal.returns-in_err-insert-clause-names
-returns-in_err-insert-clause-names g c =
-    then-names g.K.AsBytes.bytes c.insert.new.self.nodes c.loop-key.self.nodes c.args.self.now.nodes (same-names g.K.AsBytes.bytes c.loop-key.self.nodes c.insert.new.self.nodes c.in_err-insert.ensures.kept.0) c.loop-key.invariant.names
-
-pub loop-key-init : goal.loop-key-init
-loop-key-init g c = record { put = refl; names = λ slot key has. has }
+pub returns-clause-names : goal.returns-clause-names
+returns-clause-names g c =
+    then-names g.K.AsBytes.bytes c.put_back.new.self.nodes (nodes_of c.put_all-result.new.self) c.args.self.now.nodes c.put_back.ensures.names
+    (then-names g.K.AsBytes.bytes (nodes_of c.put_all-result.new.self) (nodes_of c.take_into_builder-builder.result) c.args.self.now.nodes c.put_all-result.ensures.names c.take_into_builder-builder.ensures.names)

@@ -1,6 +1,18 @@
-use Rattle.std.proofs.Common.{[], IsSome, sym, subst, ◌∙◌, arith}
-use Rattle.art_operations.proofs.Building.{builds-some, finished, is-held, last-pair, spine-of}
+use Rattle.std.proofs.Common.{[], ◌-◌, ◌+◌, suc, Some, None, refl, subst, ap, sym, ◌∙◌, arith}
+use Rattle.art_arena.specs.arena.Cells.{leaf_name}
+use Rattle.art_operations.specs.Pairs.{HasPairs}
+use Rattle.art_operations.specs.inner.Rebuilding.{HasSpineRoom}
+use Rattle.art_operations.specs.inner.Spines.{begin_of}
+use Rattle.art_operations.proofs.Building.{builds-none, builds-some, finished, none-held, spine-of}
+use Rattle.art_operations.proofs.PassedLeaves.{never}
 use Rattle.art_operations.proofs.build.TreeBuilder.finish.Goals as goal
+
+pub returns-then-self-eq0-clause-tree : goal.returns-then-self-eq0-clause-tree
+returns-then-self-eq0-clause-tree g c = λ pairs builds.
+    let is = builds-some g.K.AsBytes.bytes g.row.PREFIX_LEN c.args.arena.now c.args.self pairs builds c.in-Some.last c.in-Some.is in
+    subst (λ n. HasPairs g.K.AsBytes.bytes g.row.PREFIX_LEN c.args.arena.now (Some n) pairs) (sym c.to_opaque.ensures)
+    (finished g.K.AsBytes.bytes g.row.PREFIX_LEN c.args.arena.now c.args.self.spine c.in-Some.last pairs is c.args.arena.now c.args.self.spine (leaf_name c.in-Some.last)
+    (spine-of g.K.AsBytes.bytes g.row.PREFIX_LEN c.args.arena.now c.args.self.spine c.in-Some.last pairs is 0) (ap (begin_of 0) (builds.closed c.if-self-eq0.true)) (λ n. refl))
 
 pub close-requires : goal.close-requires
 close-requires g c =
@@ -8,20 +20,17 @@ close-requires g c =
     let is = builds-some g.K.AsBytes.bytes g.row.PREFIX_LEN c.args.arena.now c.args.self r.0 r.1 c.in-Some.last c.in-Some.is in
     (omega arith, ([], (_, _, spine-of g.K.AsBytes.bytes g.row.PREFIX_LEN c.args.arena.now c.args.self.spine c.in-Some.last r.0 is 0)))
 
-pub returns-in-Ok-clause-ok : goal.returns-in-Ok-clause-ok
-returns-in-Ok-clause-ok g c = λ pairs builds.
+pub unreachable-requires : goal.unreachable-requires
+unreachable-requires g c =
+    let r = c.requires in
+    let some = c.if-self-eq0.false in
+    never c.close.result (c.close.ensures.succeeds (c.args.self.room - 1) (subst (HasSpineRoom c.args.arena.now c.args.self.spine) (omega (arith, some)) r.1.room)) (λ x e. c.in_default-close.not-Ok x e)
+
+pub returns-clause-tree : goal.returns-clause-tree
+returns-clause-tree g c = λ pairs builds.
     let is = builds-some g.K.AsBytes.bytes g.row.PREFIX_LEN c.args.arena.now c.args.self pairs builds c.in-Some.last c.in-Some.is in
     finished g.K.AsBytes.bytes g.row.PREFIX_LEN c.args.arena.now c.args.self.spine c.in-Some.last pairs is c.close.new.arena c.close.new.spine c.in-Ok.root
     (c.in-Ok.ensures.ok [] _ _ (spine-of g.K.AsBytes.bytes g.row.PREFIX_LEN c.args.arena.now c.args.self.spine c.in-Some.last pairs is 0)) c.in-Ok.ensures.closed c.in-Ok.ensures.leaves
 
-pub take_back-refused-requires : goal.take_back-refused-requires
-take_back-refused-requires g c =
-    let r = c.requires in
-    let is = builds-some g.K.AsBytes.bytes g.row.PREFIX_LEN c.args.arena.now c.args.self r.0 r.1 c.in-Some.last c.in-Some.is in
-    (omega arith, subst IsSome (sym (c.in-Err.ensures.leaves c.in-Some.last)) (is-held g.K.AsBytes.bytes g.row.PREFIX_LEN c.args.arena.now c.args.self.spine c.in-Some.last r.0 is))
-
-pub returns-clause-handed_back : goal.returns-clause-handed_back
-returns-clause-handed_back g c = λ pairs builds.
-    let is = builds-some g.K.AsBytes.bytes g.row.PREFIX_LEN c.args.arena.now c.args.self pairs builds c.in-Some.last c.in-Some.is in
-    last-pair g.K.AsBytes.bytes g.row.PREFIX_LEN c.args.arena.now c.args.self.spine c.in-Some.last pairs is c.take_back-refused.result.key c.take_back-refused.result.value
-    (λ l held. c.take_back-refused.ensures.pair l (c.in-Err.ensures.leaves c.in-Some.last ∙ held))
+pub returns-in_default-clause-tree : goal.returns-in_default-clause-tree
+returns-in_default-clause-tree g c = λ pairs builds. none-held g.K.AsBytes.bytes g.row.PREFIX_LEN c.args.arena.now c.args.self.spine pairs (builds-none g.K.AsBytes.bytes g.row.PREFIX_LEN c.args.arena.now c.args.self pairs builds c.in_default.is)

@@ -1,18 +1,24 @@
-use Rattle.std.proofs.Common.{◌≡◌, ◌<◌, ◌∷◌, [], ◌++◌, ℕ, All, refl, sym, subst, arith}
+use Rattle.std.proofs.Common.{◌≡◌, ◌<◌, ◌≤◌, ◌-◌, ◌∷◌, [], ◌++◌, ℕ, suc, Some, List, All, refl, sym, ap, subst, ◌∙◌, arith}
 use Rattle.std.proofs.lemmas.List.Elements.{All-get_or}
-use Rattle.art_operations.specs.Builders.{BuildsUpTo, GoesBehind, IsPushRefused}
+use Rattle.art_bytes.specs.Keys.{IsBefore}
+use Rattle.art_nodes.specs.declared.kind.NodeType.TheVariants.{Leaf}
+use Rattle.art_arena.specs.arena.Arena.{Arena, links_at}
+use Rattle.art_arena.specs.arena.Rooms.{UsesRoomOf}
+use Rattle.art_arena.specs.arena.Cells.{leaf_name}
+use Rattle.art_arena.specs.arena.Shapes.{LeafAt}
+use Rattle.art_operations.specs.Builders.{Builds, BuildsUpTo, GoesBehind, IsPushRefused}
 use Rattle.art_operations.specs.Meetings.{PartAt}
 use Rattle.art_operations.specs.declared.meeting.Meeting.TheVariants as meeting
 use Rattle.art_operations.specs.declared.meeting.Parted.{Parted}
+use Rattle.art_operations.specs.inner.Cursors.{HasStoredLast, IsListTo}
 use Rattle.art_operations.specs.inner.Meetings.{Meets}
-use Rattle.art_operations.proofs.Building.{behind-all, behind-last, builds-none, builds-some, first-pair, is-before, is-held, last-bytes, new-inside, not-behind, old-byte, old-inside, parts-from}
+use Rattle.art_operations.specs.inner.Rebuilding.{CanPassAt, HasSpineRoom}
+use Rattle.art_operations.proofs.Building.{all_leaves, behind-all, behind-last, builds-some, is-before, is-held, last-bytes, new-inside, not-behind, old-byte, old-inside}
+use Rattle.art_operations.proofs.InnerRooms.{beside-leaf}
+use Rattle.art_operations.proofs.LeafNames.{same-names}
+use Rattle.art_operations.proofs.Pushed.{can-at as last-can, list-to, passed-on, refused-builds, same-leaves-names, stored-names}
 use Rattle.art_operations.proofs.build.TreeBuilder.push.Goals as goal
-
-pub returns-in-Ok-clause-ok : goal.returns-in-Ok-clause-ok
-returns-in-Ok-clause-ok g c = λ pairs builds.
-    let none = builds-none g.K.AsBytes.bytes g.row.PREFIX_LEN c.args.arena.now c.args.self.now pairs builds c.in_default.is in
-    subst (λ ps. BuildsUpTo g.K.AsBytes.bytes g.row.PREFIX_LEN c.store_leaf.new.arena c.args.self.now.spine c.in-Ok.leaf (ps ++ (c.args.key, c.args.value) ∷ [])) (sym none.0)
-    (first-pair g.K.AsBytes.bytes g.row.PREFIX_LEN c.args.arena.now c.store_leaf.new.arena c.args.self.now.spine c.in-Ok.leaf c.args.key c.args.value none.1 none.2 c.in-Ok.ensures.ok)
+use Rattle.art_operations.proofs.build.TreeBuilder.push.Goals.{After-make_room}
 
 pub as_key_ref-requires : goal.as_key_ref-requires
 as_key_ref-requires g c =
@@ -32,8 +38,9 @@ returns-in_default-met g c = record {
         λ behind. not-behind (g.K.AsBytes.bytes is.key) (g.K.AsBytes.bytes c.args.key) c.meet-met.result meets (λ p e. absurd (c.in_default-met.not-Parts p e))
             (behind-last g.K.AsBytes.bytes g.row.PREFIX_LEN c.args.arena.now c.args.self.now.spine c.in-Some.last pairs is (g.K.AsBytes.bytes c.args.key) behind),
       );
-  kept = λ place. ((λ n. refl), refl);
-  emptied = λ other. absurd (other tt);
+  kept = λ n. refl;
+  left = λ pairs builds. builds;
+  names = λ slot key has. has;
   succeeds = λ none room. absurd (cc);
 }
 
@@ -51,35 +58,101 @@ returns-then-parted-clause-refused g c = λ pairs builds.
           (behind-last g.K.AsBytes.bytes g.row.PREFIX_LEN c.args.arena.now c.args.self.now.spine c.in-Some.last pairs is (g.K.AsBytes.bytes c.args.key) behind),
     )
 
-pub push_behind-requires : goal.push_behind-requires
-push_behind-requires g c =
+-- where there is room, or was none
+module _ (g : _) (c : After-make_room g) (pairs : List (g.row.K.Denot × g.row.V.Denot)) (builds : Builds g.K.AsBytes.bytes g.row.PREFIX_LEN c.args.arena.now c.args.self.now pairs) where
+  now : Builds g.K.AsBytes.bytes g.row.PREFIX_LEN c.make_room.new.arena c.make_room.new.self pairs
+  now = c.make_room.ensures.left pairs builds
+
+  is : BuildsUpTo g.K.AsBytes.bytes g.row.PREFIX_LEN c.make_room.new.arena c.make_room.new.self.spine c.in-Some.last pairs
+  is = builds-some g.K.AsBytes.bytes g.row.PREFIX_LEN c.make_room.new.arena c.make_room.new.self pairs now c.in-Some.last (c.make_room.ensures.last ∙ c.in-Some.is)
+
+  part : PartAt (g.K.AsBytes.bytes is.key) (g.K.AsBytes.bytes c.args.key) c.in-Parts.parted
+  part =
+      let old_is = last-bytes g.K.AsBytes.bytes g.row.PREFIX_LEN c.make_room.new.arena c.make_room.new.self.spine c.in-Some.last pairs is c.as_key_ref.result.now c.as_bytes.result.now
+      (λ l held. c.as_key_ref.ensures l (sym (c.make_room.ensures.kept (leaf_name c.in-Some.last)) ∙ held)) c.as_bytes.ensures.value in
+      subst (λ o. PartAt o (g.K.AsBytes.bytes c.args.key) c.in-Parts.parted) old_is (subst (λ n. PartAt c.as_bytes.result.now n c.in-Parts.parted) c.as_bytes-2.ensures.value c.in-Parts.ensures)
+
+  less : IsBefore (g.K.AsBytes.bytes is.key) (g.K.AsBytes.bytes c.args.key)
+  less =
+      let differs = part.differs in
+      let above = c.if-parted.false in
+      is-before (g.K.AsBytes.bytes is.key) (g.K.AsBytes.bytes c.args.key) c.in-Parts.parted part (omega (arith, differs, above))
+
+  behind : GoesBehind g.K.AsBytes.bytes (g.K.AsBytes.bytes c.args.key) pairs
+  behind = behind-all g.K.AsBytes.bytes g.row.PREFIX_LEN c.make_room.new.arena c.make_room.new.self.spine c.in-Some.last pairs is (g.K.AsBytes.bytes c.args.key) less
+
+  abbrev whole : List (LeafAt g.row.K.Denot g.row.V.Denot)
+  whole = all_leaves g.K.AsBytes.bytes g.row.PREFIX_LEN c.make_room.new.arena c.make_room.new.self.spine c.in-Some.last pairs is
+
+pub returns-in_default-make_room-clause-refused : goal.returns-in_default-make_room-clause-refused
+returns-in_default-make_room-clause-refused g c = λ pairs builds. (refl, refl, behind g (goal.at.returns-in_default-make_room-clause-refused g c).After-make_room pairs builds)
+
+pub returns-in_default-make_room-clause-names : goal.returns-in_default-make_room-clause-names
+returns-in_default-make_room-clause-names g c = same-names g.K.AsBytes.bytes c.args.arena.now c.make_room.new.arena c.make_room.ensures.kept
+
+pub store_last-requires : goal.store_last-requires
+store_last-requires g c =
     let r = c.requires in
+    let d = (goal.at.store_last-requires g c).After-make_room in
+    (omega arith, (whole g d r.0 r.1, list-to g.K.AsBytes.bytes g.row.PREFIX_LEN c.make_room.new.arena c.make_room.new.self.spine c.in-Some.last r.0 (is g d r.0 r.1)))
+
+-- the leaf is stored
+module _ (g : _) (c : After-make_room g) (pairs : List (g.row.K.Denot × g.row.V.Denot)) (builds : Builds g.K.AsBytes.bytes g.row.PREFIX_LEN c.args.arena.now c.args.self.now pairs) (arena : Arena g.row.K.Denot g.row.V.Denot) (leaf : ℕ)
+    (stores : (ls : List (LeafAt g.row.K.Denot g.row.V.Denot)) → IsListTo (links_at c.make_room.new.arena) (Some c.in-Some.last) ls → HasStoredLast c.make_room.new.arena arena leaf c.args.key c.args.value ls) where
+  stored : HasStoredLast c.make_room.new.arena arena leaf c.args.key c.args.value (whole g c pairs builds)
+  stored = stores _ (list-to g.K.AsBytes.bytes g.row.PREFIX_LEN c.make_room.new.arena c.make_room.new.self.spine c.in-Some.last pairs (is g c pairs builds))
+
+  can-at : CanPassAt g.K.AsBytes.bytes g.row.PREFIX_LEN arena c.make_room.new.self.spine c.in-Some.last leaf c.in-Parts.parted [] (whole g c pairs builds ++ record { slot = leaf; key = c.args.key; value = c.args.value } ∷ [])
+  can-at = last-can g.K.AsBytes.bytes g.row.PREFIX_LEN c.make_room.new.arena c.make_room.new.self.spine c.in-Some.last pairs (is g c pairs builds) arena leaf c.args.key c.args.value stored (less g c pairs builds) c.in-Parts.parted (part g c pairs builds)
+
+  room : 2 ≤ c.make_room.new.self.room → UsesRoomOf Leaf c.make_room.new.arena arena → HasSpineRoom arena c.make_room.new.self.spine (suc (c.make_room.new.self.room - 1))
+  room two uses =
+      subst (HasSpineRoom arena c.make_room.new.self.spine) (omega (arith, two)) (beside-leaf c.make_room.new.arena arena c.make_room.new.self.spine c.make_room.new.self.room uses (now g c pairs builds).room)
+
+pub pass_at-requires : goal.pass_at-requires
+pass_at-requires g c =
+    let r = c.requires in
+    let d = (goal.at.pass_at-requires g c).After-make_room in
     let p = c.in-Parts.parted in
-    let part = c.in-Parts.ensures in
-    let is = builds-some g.K.AsBytes.bytes g.row.PREFIX_LEN c.args.arena.now c.args.self.now r.0 r.1 c.in-Some.last c.in-Some.is in
-    let within = new-inside c.as_bytes.result.now c.as_bytes-2.result.now p part in
-    let differs = part.differs in
+    let within = new-inside c.as_bytes.result.now c.as_bytes-2.result.now p c.in-Parts.ensures in
     let all = subst (λ k. All (λ b. b < 256) k) (sym c.as_bytes.ensures.value) (g.met.K.AsBytes.bytes_fit c.as_key_ref.result.now c.as_bytes.ensures.key) in
-    let byte = All-get_or (λ (b : ℕ). b < 256) c.as_bytes.result.now p.matched 0 (old-inside c.as_bytes.result.now c.as_bytes-2.result.now p part) all in (
+    let byte = All-get_or (λ (b : ℕ). b < 256) c.as_bytes.result.now p.matched 0 (old-inside c.as_bytes.result.now c.as_bytes-2.result.now p c.in-Parts.ensures) all in (
       omega arith,
       (
-        (r.0, is),
-        (
-          parts-from g.K.AsBytes.bytes g.row.PREFIX_LEN c.args.arena.now c.args.self.now.spine c.in-Some.last r.0 is c.as_key_ref.result.now c.as_bytes.result.now c.as_bytes-2.result.now (g.K.AsBytes.bytes c.args.key) p c.as_key_ref.ensures c.as_bytes.ensures.value c.as_bytes-2.ensures.value part,
-          (omega (arith, differs), (omega (arith, within), subst (λ b. b < 256) (old-byte c.as_bytes.result.now c.as_bytes-2.result.now p part) byte)),
-        ),
+        ([], _, can-at g d r.0 r.1 c.store_last.new.arena c.in-Ok-store_last.leaf c.in-Ok-store_last.ensures.ok),
+        ((c.make_room.new.self.room - 1, room g d r.0 r.1 c.store_last.new.arena c.in-Ok-store_last.leaf c.in-Ok-store_last.ensures.ok c.in-Ok.ensures.ok c.store_last.ensures.room_of), (omega (arith, within), subst (λ b. b < 256) (old-byte c.as_bytes.result.now c.as_bytes-2.result.now p c.in-Parts.ensures) byte)),
       ),
     )
 
-pub returns-in-Err-push_behind-clause-refused : goal.returns-in-Err-push_behind-clause-refused
-returns-in-Err-push_behind-clause-refused g c = λ pairs builds.
-    let p = c.in-Parts.parted in
-    let part = c.in-Parts.ensures in
-    let is = builds-some g.K.AsBytes.bytes g.row.PREFIX_LEN c.args.arena.now c.args.self.now pairs builds c.in-Some.last c.in-Some.is in
-    let old_is = last-bytes g.K.AsBytes.bytes g.row.PREFIX_LEN c.args.arena.now c.args.self.now.spine c.in-Some.last pairs is c.as_key_ref.result.now c.as_bytes.result.now c.as_key_ref.ensures c.as_bytes.ensures.value in
-    let parts = subst (λ o. PartAt o (g.K.AsBytes.bytes c.args.key) p) old_is (subst (λ n. PartAt c.as_bytes.result.now n p) c.as_bytes-2.ensures.value part) in
-    let differs = part.differs in
-    let less = is-before (g.K.AsBytes.bytes is.key) (g.K.AsBytes.bytes c.args.key) p parts (omega (arith, differs)) in
-    let back = c.in-Err-push_behind.ensures.handed_back in
-    subst (IsPushRefused c.args.key c.args.value (GoesBehind g.K.AsBytes.bytes (g.K.AsBytes.bytes c.args.key) pairs)) (sym c.out_of_memory-in-Err-push_behind.ensures.value)
-    (back.0, back.1, behind-all g.K.AsBytes.bytes g.row.PREFIX_LEN c.args.arena.now c.args.self.now.spine c.in-Some.last pairs is (g.K.AsBytes.bytes c.args.key) less)
+pub returns-in-Ok-store_last-clause-ok : goal.returns-in-Ok-store_last-clause-ok
+returns-in-Ok-store_last-clause-ok g c = λ pairs builds.
+    let d = (goal.at.returns-in-Ok-store_last-clause-ok g c).After-make_room in
+    let stores = c.in-Ok-store_last.ensures.ok in
+    let two = c.in-Ok.ensures.ok in
+    record {
+      built = passed-on g.K.AsBytes.bytes g.row.PREFIX_LEN c.make_room.new.arena c.make_room.new.self.spine c.in-Some.last pairs (is g d pairs builds) c.store_last.new.arena c.in-Ok-store_last.leaf c.args.key c.args.value (stored g d pairs builds c.store_last.new.arena c.in-Ok-store_last.leaf stores) (less g d pairs builds)
+          c.pass_at.new.arena c.pass_at.new.spine c.pass_at.ensures.leaves (c.pass_at.ensures.passes [] _ (can-at g d pairs builds c.store_last.new.arena c.in-Ok-store_last.leaf stores));
+      room = c.pass_at.ensures.room (c.make_room.new.self.room - 1) (room g d pairs builds c.store_last.new.arena c.in-Ok-store_last.leaf stores two c.store_last.ensures.room_of);
+      closed = λ none. absurd (omega (arith, none, two));
+    }
+
+pub returns-in-Ok-store_last-clause-names : goal.returns-in-Ok-store_last-clause-names
+returns-in-Ok-store_last-clause-names g c = λ slot key has.
+    let r = c.requires in
+    let d = (goal.at.returns-in-Ok-store_last-clause-names g c).After-make_room in
+    same-leaves-names g.K.AsBytes.bytes c.store_last.new.arena c.pass_at.new.arena c.pass_at.ensures.leaves slot key
+    (stored-names g.K.AsBytes.bytes c.make_room.new.arena c.store_last.new.arena c.in-Ok-store_last.leaf c.args.key c.args.value _ (stored g d r.0 r.1 c.store_last.new.arena c.in-Ok-store_last.leaf c.in-Ok-store_last.ensures.ok) slot key
+    (same-names g.K.AsBytes.bytes c.args.arena.now c.make_room.new.arena c.make_room.ensures.kept slot key has))
+
+pub returns-in-Err-clause-refused : goal.returns-in-Err-clause-refused
+returns-in-Err-clause-refused g c = λ pairs builds.
+    let back = c.in-Err.ensures.handed_back in
+    (back.0, back.1, behind g (goal.at.returns-in-Err-clause-refused g c).After-make_room pairs builds)
+
+pub returns-in-Err-clause-left : goal.returns-in-Err-clause-left
+returns-in-Err-clause-left g c = λ pairs builds.
+    refused-builds g.K.AsBytes.bytes g.row.PREFIX_LEN c.make_room.new.arena c.store_last.new.arena c.make_room.new.self pairs c.in-Err.ensures.err c.store_last.ensures.room_of (c.make_room.ensures.left pairs builds)
+
+pub returns-in-Err-clause-names : goal.returns-in-Err-clause-names
+returns-in-Err-clause-names g c = λ slot key has.
+    same-names g.K.AsBytes.bytes c.make_room.new.arena c.store_last.new.arena c.in-Err.ensures.err slot key (same-names g.K.AsBytes.bytes c.args.arena.now c.make_room.new.arena c.make_room.ensures.kept slot key has)

@@ -1,7 +1,7 @@
-use Rattle.std.proofs.Common.{[], map, refl, sym, subst, arith, Ok, Err}
+use Rattle.std.proofs.Common.{[], map, refl, sym, subst, arith, Ok}
 use Rattle.art_map.specs.Asked.{with_pairs_put}
 use Rattle.art_map.specs.Builders.{HasGathered}
-use Rattle.art_map.proofs.Puts.{made-finished, put-item}
+use Rattle.art_map.proofs.Puts.{put-item}
 use Rattle.art_set.proofs.KeyPuts.{keys-made, next-back}
 use Rattle.art_set.proofs.set.TreeSet.from_iter.Goals as goal
 
@@ -33,20 +33,13 @@ returns-in-Err g c =
           c.in-Some-key.key c.loop-key.yielded_by c.in-Some-key.ensures.steps refl c.in-Err.ensures.handed_back.0,
     )
 
-pub finish-requires : goal.finish-requires
-finish-requires g c =
+pub finish-map-requires : goal.finish-map-requires
+finish-map-requires g c =
     (omega arith, (omega arith, (c.if-not-nodes_fit.ensures.0 refl, (with_pairs_put g.K.AsBytes.bytes (map (λ k. (k, tt)) c.loop-key.yielded) [], c.loop-key.invariant))))
 
-pub returns-in-Ok-finish : goal.returns-in-Ok-finish
-returns-in-Ok-finish g c =
+pub returns : goal.returns
+returns g c =
     let it = c.into_iter-key-iterator in
-    keys-made g.K.AsBytes.bytes (λ key. key) g.U.IntoIterator.into_iter_gives g.U.IntoIter.Iterator.next_gives c.args.iter (Ok c.in-Ok-finish.map)
-    (made-finished g.K.AsBytes.bytes (λ k. (k, tt)) g.U.IntoIterator.into_iter_gives g.U.IntoIter.Iterator.next_gives (HasGathered g.K.AsBytes.bytes g.K.AsBytes.is_key c.loop-key.builder) c.args.iter it.result c.loop-key.yielded (Ok c.in-Ok-finish.map)
-    it.ensures.into_iter_gives (c.next-in-loop-key.new.self, (c.loop-key.key-iterator, c.loop-key.yielded_by, c.in-None.ensures.steps)) c.loop-key.invariant c.in-Ok-finish.ensures.ok tt)
-
-pub returns-in-Err-finish : goal.returns-in-Err-finish
-returns-in-Err-finish g c =
-    let it = c.into_iter-key-iterator in
-    keys-made g.K.AsBytes.bytes (λ key. key) g.U.IntoIterator.into_iter_gives g.U.IntoIter.Iterator.next_gives c.args.iter (Err c.in-Err-finish.refused)
-    (made-finished g.K.AsBytes.bytes (λ k. (k, tt)) g.U.IntoIterator.into_iter_gives g.U.IntoIter.Iterator.next_gives (HasGathered g.K.AsBytes.bytes g.K.AsBytes.is_key c.loop-key.builder) c.args.iter it.result c.loop-key.yielded (Err c.in-Err-finish.refused)
-    it.ensures.into_iter_gives (c.next-in-loop-key.new.self, (c.loop-key.key-iterator, c.loop-key.yielded_by, c.in-None.ensures.steps)) c.loop-key.invariant tt c.in-Err-finish.ensures.handed_back)
+    let bytes = g.K.AsBytes.bytes in
+    keys-made bytes (λ key. key) g.U.IntoIterator.into_iter_gives g.U.IntoIter.Iterator.next_gives c.args.iter (Ok c.finish-map.result)
+    (it.result, c.loop-key.yielded, it.ensures.into_iter_gives, ((c.next-in-loop-key.new.self, (c.loop-key.key-iterator, c.loop-key.yielded_by, c.in-None.ensures.steps)), c.finish-map.ensures.pairs _ c.loop-key.invariant))

@@ -1,12 +1,24 @@
-use Rattle.std.proofs.Common.{arith}
-use Rattle.art_map.proofs.Built.{in-order, is-false, is-true, settled}
+use Rattle.std.proofs.Common.{sym, subst, arith}
+use Rattle.art_operations.specs.LeafNames.{HasLeavesOf}
+use Rattle.art_map.proofs.Built.{in-order, is-false, is-true, nodes-in-order, nodes-settled, settled}
 use Rattle.art_map.proofs.map.builder.TreeMapBuilder.finish.Goals as goal
 
-pub returns-then-not-self-clause-ok : goal.returns-then-not-self-clause-ok
-returns-then-not-self-clause-ok g c = λ pairs taken. settled g.K.AsBytes.bytes g.K.AsBytes.is_key c.args.self pairs (is-false c.args.self.in_order c.if-not-self.true) taken
+pub returns-then-not-self-clause-pairs : goal.returns-then-not-self-clause-pairs
+returns-then-not-self-clause-pairs g c = λ pairs taken. settled g.K.AsBytes.bytes g.K.AsBytes.is_key c.args.self pairs (is-false c.args.self.in_order c.if-not-self.true) taken
+
+pub returns-then-not-self-clause-names : goal.returns-then-not-self-clause-names
+returns-then-not-self-clause-names g c =
+    subst (HasLeavesOf g.K.AsBytes.bytes c.args.self.map.nodes) (sym (nodes-settled g.K.AsBytes.bytes c.args.self (is-false c.args.self.in_order c.if-not-self.true))) (λ slot key has. has)
 
 pub of_tree-requires : goal.of_tree-requires
 of_tree-requires g c =
     let r = c.requires.taken in
     let taken = in-order g.K.AsBytes.bytes g.K.AsBytes.is_key c.args.self r.0 (is-true c.args.self.in_order c.if-not-self.false) r.1 in
     (omega arith, (omega arith, (c.requires.fits_in_memory, (r.0, taken.0, taken.1))))
+
+pub returns-clause-pairs : goal.returns-clause-pairs
+returns-clause-pairs g c = λ pairs taken. c.of_tree.ensures.pairs pairs (in-order g.K.AsBytes.bytes g.K.AsBytes.is_key c.args.self pairs (is-true c.args.self.in_order c.if-not-self.false) taken).0
+
+pub returns-clause-names : goal.returns-clause-names
+returns-clause-names g c =
+    subst (HasLeavesOf g.K.AsBytes.bytes c.of_tree.result.nodes) (sym (nodes-in-order g.K.AsBytes.bytes c.args.self (is-true c.args.self.in_order c.if-not-self.false))) c.of_tree.ensures.names

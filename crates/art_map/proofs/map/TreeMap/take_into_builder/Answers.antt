@@ -1,0 +1,10 @@
+use Rattle.std.proofs.Common.{subst}
+use Rattle.art_operations.specs.LeafNames.{HasLeavesOf}
+use Rattle.art_map.specs.Builders.{HasGathered, nodes_of}
+use Rattle.art_map.proofs.map.TreeMap.take_into_builder.Goals as goal
+
+pub returns-clause-pairs : goal.returns-clause-pairs
+returns-clause-pairs g c = subst (λ m. HasGathered g.K.AsBytes.bytes g.K.AsBytes.is_key c.of_map.result m.pairs) c.replace.ensures.value c.of_map.ensures.pairs
+
+pub returns-clause-names : goal.returns-clause-names
+returns-clause-names g c = subst (λ m. HasLeavesOf g.K.AsBytes.bytes (nodes_of c.of_map.result) m.nodes) c.replace.ensures.value c.of_map.ensures.names

@@ -1,0 +1,39 @@
+use Rattle.std.proofs.Common.{map, refl, sym, subst, arith}
+use Rattle.art_map.specs.Asked.{with_pairs_put}
+use Rattle.art_map.specs.Builders.{HasGathered, nodes_of}
+use Rattle.art_map.proofs.LeafNames.{then-names}
+use Rattle.art_map.proofs.Puts.{gather-refused, next-back, put-item}
+use Rattle.art_map.proofs.map.builder.TreeMapBuilder.put_all.Goals as goal
+
+pub loop-key-init : goal.loop-key-init
+loop-key-init g c = record { put = λ pairs has. has; names = λ slot key has. has }
+
+pub put-requires : goal.put-requires
+put-requires g c =
+    let r = c.requires.taken in
+    (omega arith, (c.requires.fits_in_memory, (with_pairs_put g.K.AsBytes.bytes (map (λ p. p) c.loop-key.yielded) r.0, c.loop-key.invariant.put r.0 r.1)))
+
+pub loop-key-preserved : goal.loop-key-preserved
+loop-key-preserved g c = record {
+  put = λ pairs has.
+      subst (HasGathered g.K.AsBytes.bytes g.K.AsBytes.is_key c.put.new.self) (sym (put-item g.K.AsBytes.bytes (λ p. p) c.loop-key.yielded (c.in-Some.key, c.in-Some.value) pairs))
+      (c.in_ok-put.ensures.ok (with_pairs_put g.K.AsBytes.bytes (map (λ p. p) c.loop-key.yielded) pairs) (c.loop-key.invariant.put pairs has));
+  names = then-names g.K.AsBytes.bytes (nodes_of c.put.new.self) (nodes_of c.loop-key.self) (nodes_of c.args.self.now) c.put.ensures.names c.loop-key.invariant.names;
+}
+
+pub returns-in_err-put-clause-pairs : goal.returns-in_err-put-clause-pairs
+returns-in_err-put-clause-pairs g c =
+    let it = c.into_iter-key-iterator in
+    gather-refused g.K.AsBytes.bytes (λ pair. pair) g.U.IntoIterator.into_iter_gives g.U.IntoIter.Iterator.next_gives g.K.AsBytes.is_key c.args.self.now c.put.new.self c.args.iter it.result c.loop-key.yielded _ c.from_residual.result
+    it.ensures.into_iter_gives (λ pairs has. c.in_err-put.ensures.kept _ (c.loop-key.invariant.put pairs has))
+    (next-back g.K.AsBytes.bytes (λ pair. pair) g.U.IntoIterator.into_iter_gives g.U.IntoIter.Iterator.next_gives it.result c.loop-key.key-iterator c.next.new.self c.loop-key.yielded (c.in-Some.key, c.in-Some.value) _ c.in-Some.key c.in-Some.value
+    c.loop-key.yielded_by c.in-Some.ensures.steps refl c.in_err-put.ensures.handed_back)
+    c.from_residual.ensures.1
+
+pub returns-in_err-put-clause-names : goal.returns-in_err-put-clause-names
+returns-in_err-put-clause-names g c = then-names g.K.AsBytes.bytes (nodes_of c.put.new.self) (nodes_of c.loop-key.self) (nodes_of c.args.self.now) c.put.ensures.names c.loop-key.invariant.names
+
+pub returns-clause-pairs : goal.returns-clause-pairs
+returns-clause-pairs g c =
+    let it = c.into_iter-key-iterator in
+    (it.result, c.loop-key.yielded, it.ensures.into_iter_gives, c.loop-key.invariant.put, (c.next.new.self, (c.loop-key.key-iterator, c.loop-key.yielded_by, c.in-None.ensures.steps)))
