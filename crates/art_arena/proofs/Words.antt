@@ -6,7 +6,7 @@ use Rattle.std.proofs.lemmas.Bool.Decides.{eqb_tells}
 use Rattle.std.proofs.lemmas.List.{drop-append-le, length-drop, take-append-drop, take-append-le, take-take, take_all}
 use Rattle.std.proofs.lemmas.Simd.{length-zip2, mask_l-mod, tops_compared}
 use lib.Lanes.{mask_l, top, zip2}
-use Rattle.art_bytes.specs.Keys.{BeginsWith}
+use Rattle.art_bytes.proofs.Common.{BeginsWith}
 
 -- where no lane is marked as other, all are the same
 same_lanes : (xs ys : List ℕ) → length xs ≡ length ys → mask_l (zip2 (λ x y. not (eqb x y)) xs ys) ≡ 0 → xs ≡ ys

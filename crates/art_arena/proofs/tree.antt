@@ -14,6 +14,8 @@ pub mod Delete
 pub mod Edits
 -- How long a path is, and how many inner nodes there are.
 pub mod Sizes
+-- What a filter keeps.
+pub mod Filters
 -- Sums over the distinct elements of a list.
 pub mod Distinct
 -- The fronts of neighbours are those of the inner nodes.

@@ -4,7 +4,7 @@ use Rattle.std.proofs.Common.{append-nil, length-append, arith, lt-ltb}
 use Rattle.std.proofs.lemmas.Bool.{ltb-true, or_left, or_right, or_cases, and_from, and_parts}
 use Rattle.std.proofs.lemmas.Bool.Decides.{Decides-eqb}
 use Rattle.std.proofs.lemmas.Slice.Eq.{starts_is}
-use Rattle.art_bytes.specs.Keys.{IsProperFront, Conflict, is_proper_front, conflicts}
+use Rattle.art_bytes.proofs.Terms.{IsProperFront, Conflict, is_proper_front, conflicts}
 use Rattle.art_bytes.proofs.Order.{conflict_first, conflict_second}
 
 front_told : (k l : List ℕ) → IsProperFront k l → is_proper_front k l ≡ true

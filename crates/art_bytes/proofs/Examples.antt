@@ -1,8 +1,7 @@
 -- Worked examples of the words on byte strings, computed by the checker.
 use Rattle.std.proofs.Common.{◌≡◌, ℕ, List, [], ◌∷◌, true, false, refl, inl, inr, lit<}
 use Rattle.std.specs.declared.cmp.Ordering.TheVariants.{Less, Equal, Greater}
-use Rattle.art_bytes.specs.Keys.{bytes_cmp, is_below, is_proper_front, conflicts, BeginsWith, IsProperFront, IsBefore}
-use Rattle.art_bytes.specs.Keys.{common_prefix, shared_prefix, agreeing}
+use Rattle.art_bytes.proofs.Terms.{bytes_cmp, is_below, is_proper_front, conflicts, BeginsWith, IsProperFront, IsBefore, common_prefix, shared_prefix, agreeing}
 
 -- the first pair of different bytes decides, however long the keys are
 first_difference : bytes_cmp (1 ∷ 2 ∷ 255 ∷ []) (1 ∷ 3 ∷ []) ≡ Less

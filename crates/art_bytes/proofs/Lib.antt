@@ -2,3 +2,5 @@ pub mod Examples
 pub mod Order
 pub mod Conflicts
 pub mod Walks
+pub mod Terms
+pub mod Common

@@ -5,8 +5,7 @@ use Rattle.std.proofs.Common.{append_assoc, append-nil, length-append, arith, eq
 use Rattle.std.specs.List.{AllByRecursion}
 use Rattle.std.specs.declared.cmp.Ordering.TheVariants.{Less, Greater}
 use Rattle.std.proofs.lemmas.Bool.{cond-true, cond-false, cases_order}
-use Rattle.art_bytes.specs.Keys.{bytes_cmp, BeginsWith, IsProperFront, Conflict, IsBefore}
-use Rattle.art_bytes.specs.Keys.{common_prefix, shared_prefix}
+use Rattle.art_bytes.proofs.Terms.{bytes_cmp, BeginsWith, IsProperFront, Conflict, IsBefore, common_prefix, shared_prefix}
 
 -- the order
 

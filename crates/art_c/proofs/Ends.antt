@@ -3,7 +3,7 @@ use Rattle.std.proofs.Common.{◌≡◌, List, Option, Some, None}
 use Rattle.std.specs.Prelude.{option_map}
 use Rattle.std.specs.Map.Iter.{TakesLast}
 use Rattle.art_map.proofs.Extractions.{last-shown}
-use Rattle.art_map.specs.Contents.{last_item}
+use Rattle.art_map.proofs.Common.{last_item}
 
 pub last-taken : {A X : Type 0} (shows : A → X) (xs : List X) (r : Option A) (rest : List X) → TakesLast shows xs r rest → option_map shows r ≡ last_item xs
 last-taken shows xs None rest is = last-shown shows xs None is.0

@@ -2,8 +2,8 @@
 use Rattle.std.proofs.Common.{◌≡◌, ℕ, ◌+◌, List, [], ◌∷◌, ◌++◌, length, Option, Some, refl, sym, ap, ◌∙◌, subst, append_assoc, arith}
 use Rattle.std.proofs.lemmas.List.{length-append}
 use Rattle.std.specs.Prelude.{IsTrue}
-use Rattle.art_operations.specs.Pairs.{with_pair_put}
-use Rattle.art_map.specs.Asked.{with_pairs_put}
+use Rattle.art_operations.proofs.Common.{with_pair_put}
+use Rattle.art_map.proofs.Common.{with_pairs_put}
 use Rattle.art_map.proofs.Puts.{put-more}
 use Rattle.art_c.specs.Calls.{Pairs, whole}
 use Rattle.art_c.specs.Layouts.{end_to_end, lens_of, lengths_of}

@@ -2,11 +2,9 @@
 use Rattle.std.proofs.Common.{◌≡◌, ℕ, Bool, true, false, cond, not, List, [], ◌∷◌, Some, None, bytes_eq, refl, ap, ◌∙◌, subst, inl, inr}
 use Rattle.std.specs.Map.{lookup}
 use Rattle.std.proofs.lemmas.Slice.Eq.{bytes_eq-Decides}
-use Rattle.art_arena.specs.arena.Shapes.{key_of}
-use Rattle.art_arena.specs.tree.Changes.{IsIn}
-use Rattle.art_map.specs.Contents.{has_bytes}
-use Rattle.art_operations.specs.KeyedLists.{HasKey, IsBlocked, without_key}
-use Rattle.art_operations.specs.Pairs.{with_pair_put}
+use Rattle.art_arena.proofs.Common.{key_of, IsIn}
+use Rattle.art_map.proofs.Common.{has_bytes}
+use Rattle.art_operations.proofs.Common.{HasKey, IsBlocked, without_key, with_pair_put}
 use Rattle.art_c.specs.declared.code.Code.TheVariants as code
 use Rattle.art_c.specs.Calls.{IsPairPut, Pairs, whole}
 

@@ -4,8 +4,7 @@ use Rattle.std.proofs.Math.ListN.{set}
 use Rattle.std.proofs.lemmas.List.{length-append, length-drop, length-map, length-reverse}
 use Rattle.art_arena.specs.declared.ends.End.{End}
 use Rattle.art_arena.specs.declared.ends.End.TheVariants.{First, Last}
-use Rattle.art_map.specs.Asked.{from_end}
-use Rattle.art_map.specs.Contents.{first_item}
+use Rattle.art_map.proofs.Common.{from_end, first_item}
 use Rattle.art_c.specs.Calls.{Pairs}
 use Rattle.art_c.specs.Copies.{written}
 use Rattle.art_c.specs.Layouts.{end_to_end, lens_of, lengths_of}

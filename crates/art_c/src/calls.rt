@@ -1,4 +1,6 @@
 //! The exports. What each says to a caller in C stands in `bindings/c/art.h`.
+#![tactic(auto, using(crate::proofs::Unmade::no_map))]
+
 ghost use Rattle.std.specs.Prelude.{◌≡◌, [], length, None, unwrap_or};
 ghost use Rattle.art_arena.specs.declared.ends.End.TheVariants.{First, Last};
 ghost use Rattle.art_map.specs.Contents.{first_item, last_item};
@@ -19,7 +21,7 @@ mod walks;
 use crate::audit::ArtAudit;
 use crate::code::Code;
 use crate::copies::give_value;
-use crate::handle::{Art, Store};
+use crate::handle::{Art, Store, with_store};
 use crate::many::ArtLens;
 use art_arena::End;
 use art_bytes::SliceKey;
@@ -74,14 +76,9 @@ pub extern "C" fn art_len(alloc: Global, art: &mut Art) -> usize
 pub extern "C" fn art_put(alloc: Global, art: &mut Art, key: &[u8], value: &[u8]) -> u32
     ensures { Answers (IsPairPut key.now value.now) art.old tt result art.new tt }
 {
-    match art.take(alloc) {
-        Some(mut store) => {
-            let code = changes::put(&mut store.map, alloc, key, value);
-            *art = Art::of(store);
-            code.number()
-        }
-        None => Code::NoMap.number(),
-    }
+    with_store!(alloc, art, |store| {
+        changes::put(&mut store.map, alloc, key, value)
+    })
 }
 
 /// Puts in the pairs of a buffer, whose keys ascend, up to the first that is refused.
@@ -95,14 +92,9 @@ pub extern "C" fn art_load(
 ) -> u32
     ensures { Answers (IsLoaded bytes.now lens.now) art.old taken.old result art.new taken.new }
 {
-    match art.take(alloc) {
-        Some(mut store) => {
-            let code = loads::load(&mut store.map, alloc, bytes, lens, taken);
-            *art = Art::of(store);
-            code.number()
-        }
-        None => Code::NoMap.number(),
-    }
+    with_store!(alloc, art, |store| {
+        loads::load(&mut store.map, alloc, bytes, lens, taken)
+    })
 }
 
 /// Copies out the value of a key.
@@ -116,14 +108,9 @@ pub extern "C" fn art_get(
 ) -> u32
     ensures { Answers (IsValueRead key.now) art.old (room.old, len.old) result art.new (room.new, len.new) }
 {
-    match art.take(alloc) {
-        Some(store) => {
-            let code = give_value(store.map.get(&SliceKey(key)), room, len);
-            *art = Art::of(store);
-            code.number()
-        }
-        None => Code::NoMap.number(),
-    }
+    with_store!(alloc, art, |store| {
+        give_value(store.map.get(&SliceKey(key)), room, len)
+    })
 }
 
 /// Takes out the pair with a key.
@@ -131,14 +118,7 @@ pub extern "C" fn art_get(
 pub extern "C" fn art_remove(alloc: Global, art: &mut Art, key: &[u8]) -> u32
     ensures { Answers (IsRemoved key.now) art.old tt result art.new tt }
 {
-    match art.take(alloc) {
-        Some(mut store) => {
-            let code = changes::remove(&mut store.map, key);
-            *art = Art::of(store);
-            code.number()
-        }
-        None => Code::NoMap.number(),
-    }
+    with_store!(alloc, art, |store| { changes::remove(&mut store.map, key) })
 }
 
 /// Takes out all pairs whose keys begin with a prefix.
@@ -151,14 +131,9 @@ pub extern "C" fn art_remove_prefix(
 ) -> u32
     ensures { Answers (IsPrefixRemoved prefix.now) art.old count.old result art.new count.new }
 {
-    match art.take(alloc) {
-        Some(mut store) => {
-            let code = changes::remove_prefix(&mut store.map, prefix, count);
-            *art = Art::of(store);
-            code.number()
-        }
-        None => Code::NoMap.number(),
-    }
+    with_store!(alloc, art, |store| {
+        changes::remove_prefix(&mut store.map, prefix, count)
+    })
 }
 
 /// Copies out the pair whose key is a front of a query, or equals it.
@@ -331,12 +306,5 @@ pub extern "C" fn art_walk_back(
 pub extern "C" fn art_audit(alloc: Global, art: &mut Art, told: &mut ArtAudit) -> u32
     ensures { Answers IsAudited art.old told.old result art.new told.new }
 {
-    match art.take(alloc) {
-        Some(store) => {
-            let code = counts::audit(&store.map, told);
-            *art = Art::of(store);
-            code.number()
-        }
-        None => Code::NoMap.number(),
-    }
+    with_store!(alloc, art, |store| { counts::audit(&store.map, told) })
 }

@@ -17,3 +17,19 @@ pub struct Art {
     is_made: bool,
     ghost known: { is_made ≡ is_some held.store },
 }
+
+// What is done with the map behind a handle, if one is made: the number of the code that it gives.
+macro_rules! with_store {
+    ($alloc:ident, $art:ident, |$store:ident| $done:expr) => {
+        match $art.take($alloc) {
+            Some(mut $store) => {
+                let code = $done;
+                *$art = Art::of($store);
+                code.number()
+            }
+            None => Code::NoMap.number(),
+        }
+    };
+}
+
+pub(crate) use with_store;

@@ -3,20 +3,17 @@ use Rattle.std.proofs.Common.{◌≡◌, ℕ, ◌+◌, List, [], ◌∷◌, ◌+
 use Rattle.std.specs.Prelude.{nat_eq, bytes_eq, count_by, decimal}
 use Rattle.std.specs.List.{AllByRecursion, cons_option, fold}
 use Rattle.std.proofs.lemmas.List.{length-map}
-use Rattle.art_bytes.specs.Keys.{common_prefix}
-use Rattle.art_arena.specs.tree.Fronts.{distinct, neighbour_fronts, fronts_of, byte_after, bytes_after, width_of, fronts_with}
+use Rattle.art_bytes.proofs.Common.{common_prefix}
+use Rattle.art_arena.proofs.Common.{distinct, neighbour_fronts, fronts_of, byte_after, bytes_after, width_of, fronts_with}
 use Rattle.art_nodes.specs.declared.kind.NodeType.TheVariants.{Node4, Node16, Node32, Node48, Node256}
-use Rattle.art_walks.specs.Stats.{in_range}
+use Rattle.art_walks.proofs.Common.{in_range}
 use Rattle.art_walks.specs.declared.stats.WellFormedTreeStats.{WellFormedTreeStats}
-use Rattle.art_map.specs.Audit.{audit_of}
-use Rattle.art_lines.specs.Words.{name, natural, line_of}
-use Rattle.art_engine.specs.Keys.{full_key_of, number_key_of}
-use Rattle.art_engine.specs.Replies.{count_words}
-use Rattle.art_engine.specs.Stored.{Pair, record_of, IsFull, NumberPair, number_record_of, IsNumberPair}
+use Rattle.art_map.proofs.Common.{audit_of}
+use Rattle.art_lines.proofs.Common.{name, natural, line_of, line_more}
+use Rattle.art_engine.proofs.Terms.{full_key_of, number_key_of, count_words, Pair, record_of, IsFull, NumberPair, number_record_of, IsNumberPair}
 use Rattle.art_engine.proofs.Changing.{itself, keys_are}
 use Rattle.art_engine.proofs.Conflicts.{bytes_of}
 use Rattle.art_engine.proofs.NumberPlaces.{number_bytes, number_keys_are}
-use Rattle.art_lines.proofs.ReplyLines.{line_more}
 
 -- tests that say the same count the same
 count_same : (p q : List ℕ → Bool) → ((f : List ℕ) → p f ≡ q f) → (fs : List (List ℕ)) → count_by p fs ≡ count_by q fs

@@ -3,15 +3,12 @@ use Rattle.std.proofs.Common.{◌≡◌, ℕ, ℤ, List, map, refl, ap, sym, Boo
 use Rattle.std.specs.Prelude.{Some, None, int_lt}
 use Rattle.art_engine.specs.declared.change.Changed.{Changed}
 use Rattle.art_engine.specs.declared.change.Changed.TheVariants as changed
-use Rattle.art_lines.specs.Commands.{put, over, del, nput, ndel, of_tenant}
-use Rattle.art_engine.specs.Records.{KeyRecord, NumberRecord, InOrder, KeyComesBefore, NumberComesBefore, own, with_own}
-use Rattle.art_engine.specs.Replies.{value_at, has_conflict, with_pair, with_value_over, without_at, puts, with_changed}
-use Rattle.art_engine.specs.Stored.{Pair, NumberPair, record_of, number_record_of, records_of, number_records_of, all_records_of}
-use Rattle.art_engine.specs.Changed.{IsChangeDone}
+use Rattle.art_lines.proofs.Common.{put, over, del, nput, ndel, of_tenant}
+use Rattle.art_engine.proofs.Terms.{KeyRecord, NumberRecord, InOrder, KeyComesBefore, NumberComesBefore, own, with_own, value_at, has_conflict, with_pair, with_value_over, without_at, puts, with_changed, Pair, NumberPair, record_of, number_record_of, records_of, number_records_of, all_records_of, IsChangeDone}
 use Rattle.art_engine.proofs.OwnLaws.{key_part, key_made, key_ascends, number_part, number_made, number_ascends, in_place, records_from_lists}
 use Rattle.std.specs.Str.{bytes_eq}
 use Rattle.std.specs.Ordering.{int_eq}
-use Rattle.art_bytes.specs.Keys.{is_below}
+use Rattle.art_bytes.proofs.Common.{is_below}
 
 module _ (ps new : List Pair) (ns : List NumberPair) (order : InOrder NumberComesBefore (map number_record_of ns)) where
   -- what a tenant holds under keys is changed
@@ -31,32 +28,17 @@ module _ (ps new : List Pair) (ns : List NumberPair) (order : InOrder NumberCome
   pub put_in_both : (p : Changed) (t : ℕ) (k v : List ℕ) → IsChangeDone p (of_tenant t (put k v)) (records_of ps) (records_of new)
       → IsChangeDone p (of_tenant t (put k v)) (all_records_of ps ns) (all_records_of new ns)
   put_in_both changed.Memory t k v h = (same_keys h.0, tt)
-  put_in_both (changed.Old w) t k v h = (h.0, keys_maybe (puts (value_at bytes_eq k (own t (records_of ps)).keys) (has_conflict k (own t (records_of ps)).keys)) t (with_pair is_below k v (own t (records_of ps)).keys) h.1)
-  put_in_both changed.New t k v h = (h.0, keys_maybe (puts (value_at bytes_eq k (own t (records_of ps)).keys) (has_conflict k (own t (records_of ps)).keys)) t (with_pair is_below k v (own t (records_of ps)).keys) h.1)
-  put_in_both changed.Conflict t k v h = (h.0, keys_maybe (puts (value_at bytes_eq k (own t (records_of ps)).keys) (has_conflict k (own t (records_of ps)).keys)) t (with_pair is_below k v (own t (records_of ps)).keys) h.1)
-  put_in_both (changed.Over n) t k v h = (h.0, keys_maybe (puts (value_at bytes_eq k (own t (records_of ps)).keys) (has_conflict k (own t (records_of ps)).keys)) t (with_pair is_below k v (own t (records_of ps)).keys) h.1)
-  put_in_both (changed.Gone w) t k v h = (h.0, keys_maybe (puts (value_at bytes_eq k (own t (records_of ps)).keys) (has_conflict k (own t (records_of ps)).keys)) t (with_pair is_below k v (own t (records_of ps)).keys) h.1)
-  put_in_both changed.Absent t k v h = (h.0, keys_maybe (puts (value_at bytes_eq k (own t (records_of ps)).keys) (has_conflict k (own t (records_of ps)).keys)) t (with_pair is_below k v (own t (records_of ps)).keys) h.1)
+  put_in_both p t k v h = (h.0, keys_maybe (puts (value_at bytes_eq k (own t (records_of ps)).keys) (has_conflict k (own t (records_of ps)).keys)) t (with_pair is_below k v (own t (records_of ps)).keys) h.1)
 
   pub over_in_both : (p : Changed) (t : ℕ) (k v : List ℕ) → IsChangeDone p (of_tenant t (over k v)) (records_of ps) (records_of new)
       → IsChangeDone p (of_tenant t (over k v)) (all_records_of ps ns) (all_records_of new ns)
   over_in_both changed.Memory t k v h = (same_keys h.0, tt)
-  over_in_both (changed.Old w) t k v h = (h.0, keys_changed t (with_value_over k v (own t (records_of ps)).keys) h.1)
-  over_in_both changed.New t k v h = (h.0, keys_changed t (with_value_over k v (own t (records_of ps)).keys) h.1)
-  over_in_both changed.Conflict t k v h = (h.0, keys_changed t (with_value_over k v (own t (records_of ps)).keys) h.1)
-  over_in_both (changed.Over n) t k v h = (h.0, keys_changed t (with_value_over k v (own t (records_of ps)).keys) h.1)
-  over_in_both (changed.Gone w) t k v h = (h.0, keys_changed t (with_value_over k v (own t (records_of ps)).keys) h.1)
-  over_in_both changed.Absent t k v h = (h.0, keys_changed t (with_value_over k v (own t (records_of ps)).keys) h.1)
+  over_in_both p t k v h = (h.0, keys_changed t (with_value_over k v (own t (records_of ps)).keys) h.1)
 
   pub del_in_both : (p : Changed) (t : ℕ) (k : List ℕ) → IsChangeDone p (of_tenant t (del k)) (records_of ps) (records_of new)
       → IsChangeDone p (of_tenant t (del k)) (all_records_of ps ns) (all_records_of new ns)
   del_in_both changed.Memory t k h = (same_keys h.0, h.1)
-  del_in_both (changed.Old w) t k h = (h.0, keys_changed t (without_at bytes_eq k (own t (records_of ps)).keys) h.1)
-  del_in_both changed.New t k h = (h.0, keys_changed t (without_at bytes_eq k (own t (records_of ps)).keys) h.1)
-  del_in_both changed.Conflict t k h = (h.0, keys_changed t (without_at bytes_eq k (own t (records_of ps)).keys) h.1)
-  del_in_both (changed.Over n) t k h = (h.0, keys_changed t (without_at bytes_eq k (own t (records_of ps)).keys) h.1)
-  del_in_both (changed.Gone w) t k h = (h.0, keys_changed t (without_at bytes_eq k (own t (records_of ps)).keys) h.1)
-  del_in_both changed.Absent t k h = (h.0, keys_changed t (without_at bytes_eq k (own t (records_of ps)).keys) h.1)
+  del_in_both p t k h = (h.0, keys_changed t (without_at bytes_eq k (own t (records_of ps)).keys) h.1)
 
 module _ (ps : List Pair) (ns new : List NumberPair) (order : InOrder KeyComesBefore (map record_of ps)) where
   -- what a tenant holds under numbers is changed
@@ -72,19 +54,9 @@ module _ (ps : List Pair) (ns new : List NumberPair) (order : InOrder KeyComesBe
   pub nput_in_both : (p : Changed) (t : ℕ) (n : ℤ) (v : List ℕ) → IsChangeDone p (of_tenant t (nput n v)) (number_records_of ns) (number_records_of new)
       → IsChangeDone p (of_tenant t (nput n v)) (all_records_of ps ns) (all_records_of ps new)
   nput_in_both changed.Memory t n v h = (same_numbers h.0, tt)
-  nput_in_both (changed.Old w) t n v h = (h.0, numbers_changed t (with_pair int_lt n v (own t (number_records_of ns)).numbers) h.1)
-  nput_in_both changed.New t n v h = (h.0, numbers_changed t (with_pair int_lt n v (own t (number_records_of ns)).numbers) h.1)
-  nput_in_both changed.Conflict t n v h = (h.0, numbers_changed t (with_pair int_lt n v (own t (number_records_of ns)).numbers) h.1)
-  nput_in_both (changed.Over m) t n v h = (h.0, numbers_changed t (with_pair int_lt n v (own t (number_records_of ns)).numbers) h.1)
-  nput_in_both (changed.Gone w) t n v h = (h.0, numbers_changed t (with_pair int_lt n v (own t (number_records_of ns)).numbers) h.1)
-  nput_in_both changed.Absent t n v h = (h.0, numbers_changed t (with_pair int_lt n v (own t (number_records_of ns)).numbers) h.1)
+  nput_in_both p t n v h = (h.0, numbers_changed t (with_pair int_lt n v (own t (number_records_of ns)).numbers) h.1)
 
   pub ndel_in_both : (p : Changed) (t : ℕ) (n : ℤ) → IsChangeDone p (of_tenant t (ndel n)) (number_records_of ns) (number_records_of new)
       → IsChangeDone p (of_tenant t (ndel n)) (all_records_of ps ns) (all_records_of ps new)
   ndel_in_both changed.Memory t n h = (same_numbers h.0, h.1)
-  ndel_in_both (changed.Old w) t n h = (h.0, numbers_changed t (without_at int_eq n (own t (number_records_of ns)).numbers) h.1)
-  ndel_in_both changed.New t n h = (h.0, numbers_changed t (without_at int_eq n (own t (number_records_of ns)).numbers) h.1)
-  ndel_in_both changed.Conflict t n h = (h.0, numbers_changed t (without_at int_eq n (own t (number_records_of ns)).numbers) h.1)
-  ndel_in_both (changed.Over m) t n h = (h.0, numbers_changed t (without_at int_eq n (own t (number_records_of ns)).numbers) h.1)
-  ndel_in_both (changed.Gone w) t n h = (h.0, numbers_changed t (without_at int_eq n (own t (number_records_of ns)).numbers) h.1)
-  ndel_in_both changed.Absent t n h = (h.0, numbers_changed t (without_at int_eq n (own t (number_records_of ns)).numbers) h.1)
+  ndel_in_both p t n h = (h.0, numbers_changed t (without_at int_eq n (own t (number_records_of ns)).numbers) h.1)

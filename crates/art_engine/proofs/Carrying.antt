@@ -5,16 +5,10 @@ use Rattle.std.proofs.Math.Seq.{take-append-add}
 use Rattle.std.specs.Prelude.{filter, nat_lt}
 use Rattle.std.proofs.lemmas.Bool.{lt-leb, lt-ltb, cases_lt}
 use Rattle.std.proofs.lemmas.List.{take-append-le, take_all, length-take-le, length-take, take_min}
-use Rattle.art_lines.specs.Lines.{whole_lines_of, unfinished_line_of, lines_of}
-use Rattle.art_lines.specs.Commands.{Command, Spells}
+use Rattle.art_lines.specs.Lines.{whole_lines_of, unfinished_line_of}
+use Rattle.art_lines.proofs.Common.{lines_of, Command, Spells}
 use Rattle.art_lines.specs.Reading.{command_of}
-use Rattle.art_engine.specs.Ahead.{most_ahead}
-use Rattle.art_engine.specs.Counts.{IsShort, ReadsOwnPath, IsWithin, visits_of, line_visits}
-use Rattle.art_engine.specs.Records.{Records}
-use Rattle.art_engine.specs.State.{State}
-use Rattle.art_engine.specs.Refusals.{LineMayRefuse}
-use Rattle.art_engine.specs.Outcome.{answer, left_by, IsLineDone, IsOutcome}
-use Rattle.art_engine.specs.Progress.{Carried, NoNewline}
+use Rattle.art_engine.proofs.Terms.{most_ahead, IsShort, ReadsOwnPath, IsWithin, visits_of, line_visits, Records, State, LineMayRefuse, answer, left_by, IsLineDone, IsOutcome, Carried, NoNewline}
 use Rattle.art_engine.proofs.LineLemmas.{whole_lines_of-part, unfinished_line_of-part, whole_lines_of-line, unfinished_line_of-newline}
 use Rattle.art_engine.proofs.RunLemmas.{outcome-none, outcome-more}
 

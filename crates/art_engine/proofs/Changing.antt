@@ -5,20 +5,11 @@ use Rattle.std.specs.Global.{Vec}
 use Rattle.std.specs.List.{AllByRecursion}
 use Rattle.std.specs.Map.{lookup}
 use Rattle.std.proofs.lemmas.Slice.Eq.{bytes_eq-Decides}
-use Rattle.art_arena.specs.tree.Changes.{IsIn, put_in_order}
-use Rattle.art_arena.specs.tree.Shrinks.{Shrinks}
-use Rattle.art_operations.specs.KeyedLists.{HasKey, overlapping, without_key, without_overlapping}
-use Rattle.art_operations.proofs.LeafPairs.{shrinks-map, shrinks-unmap}
+use Rattle.art_arena.proofs.Common.{IsIn, put_in_order, Shrinks}
+use Rattle.art_operations.proofs.Common.{HasKey, overlapping, without_key, without_overlapping, shrinks-map, shrinks-unmap}
 use Rattle.art_engine.specs.declared.change.Changed.TheVariants as changed
-use Rattle.art_lines.specs.Words.{name, natural}
-use Rattle.art_lines.specs.Commands.{of_tenant, over, del}
-use Rattle.art_lines.specs.Keys.{full_key}
-use Rattle.art_engine.specs.Keys.{full_key_of}
-use Rattle.art_engine.specs.Records.{KeyFits, own}
-use Rattle.art_engine.specs.Replies.{value_at}
-use Rattle.art_lines.specs.ReplyWords.{found_or}
-use Rattle.art_engine.specs.Stored.{Pair, record_of, records_of, IsFull, AreFull, ArePairs}
-use Rattle.art_engine.specs.Changed.{IsChangeDone, changed_words}
+use Rattle.art_lines.proofs.Common.{name, natural, of_tenant, over, del, full_key, found_or}
+use Rattle.art_engine.proofs.Terms.{full_key_of, KeyFits, own, value_at, Pair, record_of, records_of, IsFull, AreFull, ArePairs, IsChangeDone, changed_words}
 use Rattle.art_engine.proofs.Conflicts.{bytes_of}
 use Rattle.art_engine.proofs.Dropping.{All-left_out}
 use Rattle.art_engine.proofs.FullTests.{same_full}
@@ -36,19 +27,22 @@ over_done t k v ps new e are fits full value n counted is = (
 )
 
 -- a key that some pair has is found
-has_found : (j : List ℕ) (ps : List Pair) → HasKey bytes_of j ps → IsSome (lookup (λ (q : Vec ℕ). bytes_eq q.items j) ps)
-has_found j [] (x, i, same) = absurd i
-has_found j (p ∷ ps) (x, i, same) = go (bytes_eq p.0.items j) refl i (λ later. has_found j ps (x, later, same))
+pub has_found : {K V : Type 0} (bytes : K → List ℕ) (j : List ℕ) (ps : List (K × V)) → HasKey (λ (p : K × V). bytes p.0) j ps → IsSome (lookup (λ (q : K). bytes_eq (bytes q) j) ps)
+has_found bytes j [] (x, i, same) = absurd i
+has_found {K} {V} bytes j (p ∷ ps) (x, i, same) = go (bytes_eq (bytes p.0) j) refl i (λ later. has_found bytes j ps (x, later, same))
   where
-    go : (b : Bool) → bytes_eq p.0.items j ≡ b → IsIn x (p ∷ ps) → (IsIn x ps → IsSome (lookup (λ (q : Vec ℕ). bytes_eq q.items j) ps))
-        → IsSome (cond b (Some p.1) (lookup (λ (q : Vec ℕ). bytes_eq q.items j) ps))
+    go : (b : Bool) → bytes_eq (bytes p.0) j ≡ b → IsIn x (p ∷ ps) → (IsIn x ps → IsSome (lookup (λ q. bytes_eq (bytes q) j) ps)) → IsSome (cond b (Some p.1) (lookup (λ q. bytes_eq (bytes q) j) ps))
     go true e i rest = refl
-    go false e (inl here) rest = let yes : bytes_eq p.0.items j ≡ true = (bytes_eq-Decides p.0.items j).1 (ap bytes_of here ∙ same) in cc
+    go false e (inl here) rest = let yes : bytes_eq (bytes p.0) j ≡ true = (bytes_eq-Decides (bytes p.0) j).1 (ap (λ (q : K × V). bytes q.0) here ∙ same) in cc
     go false e (inr later) rest = rest later
 
 pub some_mapped : {X Y : Type 0} (f : X → Y) (o : Option X) → IsSome o → IsSome (option_map f o)
 some_mapped f (Some x) h = refl
 some_mapped f None h = h
+
+pub option_map-map : {X Y Z : Type 0} (g : Y → Z) (f : X → Y) (o : Option X) → option_map g (option_map f o) ≡ option_map (λ x. g (f x)) o
+option_map-map g f None = refl
+option_map-map g f (Some x) = refl
 
 -- the full keys of records are those that their pairs stand under
 pub keys_are : (ps : List Pair) → AllByRecursion IsFull ps → map bytes_of ps ≡ map full_key_of (map record_of ps)
@@ -91,7 +85,7 @@ module _ (t : ℕ) (k : List ℕ) (small : t < 2 ^ 32) (ps new : List Pair) (are
   del_refused same h = (
     ap records_of same,
     (
-      subst IsSome (found t k small ps are) (some_mapped (λ (w : Vec ℕ). w.items) (lookup (is_full_key t k) ps) (has_found (full_key t k) ps h.0)),
+      subst IsSome (found t k small ps are) (some_mapped (λ (w : Vec ℕ). w.items) (lookup (is_full_key t k) ps) (has_found (λ (q : Vec ℕ). q.items) (full_key t k) ps h.0)),
       shrinks-unmap full_key_of itself (map record_of ps) (full_key t k)
           (subst (λ ks. Shrinks itself ks (full_key t k)) (keys_are ps are.full) (shrinks-map bytes_of itself ps (full_key t k) h.1)),
     ),

@@ -3,13 +3,10 @@ use Rattle.std.proofs.Common.{◌≡◌, ℕ, ◌<◌, ◌^◌, List, [], ◌∷
 use Rattle.std.specs.Prelude.{◌==◌, ◌||◌, ◌&&◌, filter}
 use Rattle.std.specs.List.{AllByRecursion}
 use Rattle.std.proofs.lemmas.Bool.{eqb-true, eq-eqb, or_left, or_right, or_cases, and_from, and_parts}
-use Rattle.art_bytes.specs.Keys.{Conflict, conflicts}
-use Rattle.art_bytes.proofs.Conflicts.{conflict_told, told_conflict}
-use Rattle.art_operations.specs.KeyedLists.{IsBlocked}
-use Rattle.art_lines.specs.Keys.{full_key}
-use Rattle.art_engine.specs.Records.{KeyRecord}
-use Rattle.art_engine.specs.Replies.{has_conflict}
-use Rattle.art_engine.specs.Stored.{Pair, record_of, IsFull, IsOfTenant}
+use Rattle.art_bytes.proofs.Common.{Conflict, conflicts, conflict_told, told_conflict}
+use Rattle.art_operations.proofs.Common.{IsBlocked}
+use Rattle.art_lines.proofs.Common.{full_key}
+use Rattle.art_engine.proofs.Terms.{KeyRecord, has_conflict, Pair, record_of, IsFull, IsOfTenant}
 use Rattle.art_engine.proofs.FullKeys.{full_keys_keep_conflicts}
 use Rattle.art_engine.proofs.OwnLaws.{key_part}
 use Rattle.art_engine.proofs.Putting.{pairs_of_tenant}

@@ -4,34 +4,18 @@ use Rattle.std.specs.Prelude.{IsSome, option_map, nat_lt}
 use Rattle.std.specs.Ordering.{int_eq}
 use Rattle.std.proofs.lemmas.Bool.{eq-eqb, lt-ltb, or_left, or_right, and_from}
 use Rattle.std.proofs.lemmas.Bool.Decides.{Decides-int_eq}
-use Rattle.art_bytes.specs.Laws.{pair_key}
-use Rattle.art_bytes.specs.Numbers.{big_endian, flipped}
+use Rattle.art_bytes.proofs.Common.{pair_key, big_endian, flipped, BeginsWith, IsBefore}
 use Rattle.std.specs.List.{AllByRecursion, find}
 use Rattle.std.specs.Int.{to_be_bytes, w32, w64}
 use Rattle.std.proofs.lemmas.Slice.Eq.{bytes_eq-Decides}
-use Rattle.art_bytes.specs.Keys.{BeginsWith, IsBefore}
-use Rattle.art_arena.specs.tree.Order.{AscendsByKey}
-use Rattle.art_arena.specs.tree.Tenants.{begins_with}
-use Rattle.art_arena.proofs.tree.Insert.{all_at}
-use Rattle.art_arena.proofs.tree.Tenants.{begins_true}
-use Rattle.art_lines.specs.Commands.{put, over, del, get, find as find_front, list, span, nput, nget, ndel, nspan, drop}
-use Rattle.art_lines.specs.Commands.{Command, of_tenant, dump, audit}
-use Rattle.art_engine.specs.Counts.{path_nodes, visits_of, IsWithin, IsShort, IsOwnPath, ReadsOwnPath}
-use Rattle.art_lines.specs.Keys.{full_key}
-use Rattle.art_engine.specs.Keys.{full_key_of, number_key_of}
-use Rattle.art_engine.specs.Records.{KeyRecord, NumberRecord, Records, AreRecords, InOrder, KeyComesBefore, NumberComesBefore, KeyFits, NumberFits, own}
+use Rattle.art_arena.proofs.Common.{AscendsByKey, begins_with, all_at, begins_true}
+use Rattle.art_lines.proofs.Common.{put, over, del, get, find as find_front, list, span, nput, nget, ndel, nspan, drop, Command, of_tenant, dump, audit, full_key}
+use Rattle.art_engine.proofs.Terms.{exactly, path_nodes, visits_of, IsWithin, IsShort, IsOwnPath, ReadsOwnPath, full_key_of, number_key_of, KeyRecord, NumberRecord, Records, AreRecords, IsOfTenant, InOrder, KeyComesBefore, NumberComesBefore, KeyFits, NumberFits, own}
 use Rattle.art_engine.proofs.Counting.{own_path, path_is_short, found_record}
 use Rattle.art_engine.proofs.Filters.{All-map}
 use Rattle.art_engine.proofs.FullKeys.{full_before}
 use Rattle.art_engine.proofs.NumberKeys.{HaveBytes, tested_before}
 use Rattle.art_engine.proofs.OwnLaws.{key_part, number_part}
-
--- so many, and no more
-same_number : (n m : ℕ) → m ≤ n → n ≤ m → n ≡ m
-same_number n m low high = omega arith
-
-abbrev IsOfTenant : KeyRecord → Type 0
-IsOfTenant r = r.tenant < 2 ^ 32
 
 -- records ascend by their full keys
 before_all : (r : KeyRecord) (rs : List KeyRecord) → IsOfTenant r → AllByRecursion IsOfTenant rs → AllByRecursion (KeyComesBefore r) rs → AllByRecursion (λ s. IsBefore (full_key_of r) (full_key_of s)) rs
@@ -106,48 +90,26 @@ short_key : (t : ℕ) (k : List ℕ) (records : Records) (n : ℕ) → n ≤ pat
 short_key t k records n few = let short = path_is_short full_key_of records.keys (full_key t k) in omega arith
 
 pub short_of : (c : Option Command) (records : Records) (n : ℕ) → IsWithin (visits_of c records) n → IsShort c n
-short_of None records n w = tt
-short_of (Some dump) records n w = tt
-short_of (Some audit) records n w = tt
-short_of (Some (of_tenant t (put k v))) records n w = tt
-short_of (Some (of_tenant t (over k v))) records n w = tt
-short_of (Some (of_tenant t (del k))) records n w = tt
 short_of (Some (of_tenant t (get k))) records n w = short_key t k records n w.1
 short_of (Some (of_tenant t (find_front k))) records n w = short_key t k records n w.1
-short_of (Some (of_tenant t (nput m v))) records n w = tt
-short_of (Some (of_tenant t (ndel m))) records n w = tt
-short_of (Some (of_tenant t (nspan l h))) records n w = tt
-short_of (Some (of_tenant t drop)) records n w = tt
 short_of (Some (of_tenant t (nget m))) records n w =
     let short = path_is_short number_key_of records.numbers (pair_key (t, m)) in
     let long : length (pair_key (t, m)) ≡ 12 = refl in
     let few = w.1 in
     omega arith
-short_of (Some (of_tenant t (list p))) records n w = tt
-short_of (Some (of_tenant t (span l h))) records n w = tt
+short_of c records n w = tt
 
 -- a count that is the path's
-own_count : (t : ℕ) (k : List ℕ) (records : Records) (n : ℕ) → path_nodes full_key_of records.keys (full_key t k) ≤ n → n ≤ path_nodes full_key_of records.keys (full_key t k)
-    → IsOwnPath full_key_of (λ r. r.tenant) t (full_key t k) records.keys (path_nodes full_key_of records.keys (full_key t k)) → IsOwnPath full_key_of (λ r. r.tenant) t (full_key t k) records.keys n
-own_count t k records n low high own = subst (IsOwnPath full_key_of (λ r. r.tenant) t (full_key t k) records.keys) (sym (same_number n _ low high)) own
+own_count : {X : Type 0} (key : X → List ℕ) (tenant_of : X → ℕ) (t : ℕ) (full : List ℕ) (xs : List X) (n : ℕ) → IsWithin (exactly (path_nodes key xs full)) n
+    → IsOwnPath key tenant_of t full xs (path_nodes key xs full) → IsOwnPath key tenant_of t full xs n
+own_count key tenant_of t full xs n w own = let low = w.0 in let high = w.1 in let same : path_nodes key xs full ≡ n = omega arith in subst (IsOwnPath key tenant_of t full xs) same own
 
 pub own_path_of : (c : Option Command) (records : Records) (n : ℕ) → AreRecords records → IsWithin (visits_of c records) n → ReadsOwnPath c records n
-own_path_of None records n are w = tt
-own_path_of (Some dump) records n are w = tt
-own_path_of (Some audit) records n are w = tt
-own_path_of (Some (of_tenant t (put k v))) records n are w = tt
-own_path_of (Some (of_tenant t (over k v))) records n are w = tt
-own_path_of (Some (of_tenant t (del k))) records n are w = tt
 own_path_of (Some (of_tenant t (get k))) records n are w = λ some.
-    own_count t k records n w.0 w.1 (path_of_found t k (λ j. bytes_eq j k) (equal_front k) records are (found_some (λ (p : List ℕ × List ℕ). p.1) (find (λ p. bytes_eq p.0 k) (own t records).keys) some))
+    own_count full_key_of (λ r. r.tenant) t (full_key t k) records.keys n w (path_of_found t k (λ j. bytes_eq j k) (equal_front k) records are (found_some (λ (p : List ℕ × List ℕ). p.1) (find (λ p. bytes_eq p.0 k) (own t records).keys) some))
 own_path_of (Some (of_tenant t (find_front k))) records n are w = λ some.
-    own_count t k records n w.0 w.1 (path_of_found t k (λ j. begins_with j k) (λ j e. begins_true j k e) records are some)
-own_path_of (Some (of_tenant t (nput m v))) records n are w = tt
-own_path_of (Some (of_tenant t (ndel m))) records n are w = tt
-own_path_of (Some (of_tenant t (nspan l h))) records n are w = tt
-own_path_of (Some (of_tenant t drop)) records n are w = tt
+    own_count full_key_of (λ r. r.tenant) t (full_key t k) records.keys n w (path_of_found t k (λ j. begins_with j k) (λ j e. begins_true j k e) records are some)
 own_path_of (Some (of_tenant t (nget m))) records n are w = λ some.
-    subst (IsOwnPath number_key_of (λ r. r.tenant) t (pair_key (t, m)) records.numbers) (sym (same_number n _ w.0 w.1))
+    own_count number_key_of (λ r. r.tenant) t (pair_key (t, m)) records.numbers n w
     (path_of_number t m records are (found_some (λ (p : ℤ × List ℕ). p.1) (find (λ p. int_eq p.0 m) (own t records).numbers) some))
-own_path_of (Some (of_tenant t (list p))) records n are w = tt
-own_path_of (Some (of_tenant t (span l h))) records n are w = tt
+own_path_of c records n are w = tt

@@ -1,27 +1,21 @@
 -- How many nodes a look-up reads: the path of its full key, which is short, and is the tenant's own and what it shares
 -- with others.
-use Rattle.std.proofs.Common.{◌≡◌, ℕ, ◌+◌, ◌<◌, ◌≤◌, ◌^◌, List, [], ◌∷◌, length, map, refl, sym, ap, ◌∙◌, subst, inl, inr, Bool, true, false, not, cond, arith, bytes_eq, Option, Some, None}
-use Rattle.std.specs.Prelude.{◌==◌, ◌&&◌, filter, IsSome}
+use Rattle.std.proofs.Common.{◌≡◌, ℕ, ◌+◌, ◌<◌, ◌≤◌, ◌^◌, List, [], ◌∷◌, length, map, refl, sym, ap, ap₂, ◌∙◌, subst, inl, inr, Bool, true, false, not, cond, arith, bytes_eq, Option, Some, None}
+use Rattle.std.specs.Prelude.{◌==◌, filter, IsSome}
 use Rattle.std.specs.List.{AllByRecursion, find}
 use Rattle.std.specs.Int.{to_be_bytes, w32}
-use Rattle.std.proofs.lemmas.Bool.{eq-eqb, eqb-true}
-use Rattle.art_bytes.specs.Keys.{BeginsWith, common_prefix}
-use Rattle.art_arena.specs.tree.Changes.{IsIn}
-use Rattle.art_arena.specs.tree.Fronts.{distinct}
-use Rattle.art_arena.specs.tree.Order.{AscendsByKey}
-use Rattle.art_arena.specs.tree.Paths.{path_of}
-use Rattle.art_arena.specs.tree.Tenants.{begins_with, with_front, without_front, crossings}
-use Rattle.art_arena.specs.tree.TreeOf.{tree_of}
-use Rattle.art_arena.specs.tree.Trees.{Tree, items, IsCanonical}
+use Rattle.std.proofs.lemmas.Bool.{cond_both, eq-eqb, eqb-true}
+use Rattle.art_bytes.proofs.Common.{BeginsWith, common_prefix}
+use Rattle.art_arena.proofs.Common.{IsIn, distinct, AscendsByKey, path_of, begins_with, with_front, without_front, crossings, tree_of, Tree, items, IsCanonical, tree_of_ascending, tenant_path, few_crossings}
 use Rattle.art_arena.proofs.tree.Blocks.{front_is_block}
-use Rattle.art_arena.proofs.tree.Exists.{tree_of_ascending}
 use Rattle.art_arena.proofs.tree.Landing.{path_same}
 use Rattle.art_arena.proofs.tree.Sizes.{path_length as path_short}
-use Rattle.art_arena.proofs.tree.Tenants.{tenant_path, few_crossings}
-use Rattle.art_walks.specs.MapReads.{path_length}
-use Rattle.art_engine.specs.Counts.{path_nodes, fronts_shared, IsOwnPath}
-use Rattle.art_lines.specs.Keys.{full_key}
+use Rattle.art_walks.proofs.Common.{path_length}
+use Rattle.art_engine.proofs.Terms.{path_nodes, fronts_shared, IsOwnPath}
+use Rattle.art_lines.proofs.Common.{full_key}
+use Rattle.art_engine.proofs.Filters.{All-map, filter-same}
 use Rattle.art_engine.proofs.FullTests.{begins_full}
+use Rattle.std.proofs.Math.Bool.{and-true}
 
 module _ {X : Type 0} (key : X → List ℕ) (tenant_of : X → ℕ) (rest_of : X → List ℕ) (keys_are : (x : X) → key x ≡ full_key (tenant_of x) (rest_of x)) (t : ℕ) (small : t < 2 ^ 32) where
   abbrev pub AreSmall : List X → Type 0
@@ -34,16 +28,11 @@ module _ {X : Type 0} (key : X → List ℕ) (tenant_of : X → ℕ) (rest_of : 
   front = full_key t []
 
   -- the tenant's front is that of its records
-  begins : (x : X) → tenant_of x < 2 ^ 32 → begins_with front (key x) ≡ ((tenant_of x == t) && true)
-  begins x fits = ap (begins_with front) (keys_are x) ∙ begins_full t (tenant_of x) [] (rest_of x) small fits
+  begins : (x : X) → tenant_of x < 2 ^ 32 → begins_with front (key x) ≡ (tenant_of x == t)
+  begins x fits = ap (begins_with front) (keys_are x) ∙ begins_full t (tenant_of x) [] (rest_of x) small fits ∙ and-true (tenant_of x == t)
 
-  own_records : (xs : List X) → AreSmall xs → with_front key front xs ≡ mine xs
-  own_records [] fits = refl
-  own_records (x ∷ xs) fits = go (begins_with front (key x)) (tenant_of x == t) (begins x fits.0) (own_records xs fits.1)
-    where
-      go : (a b : Bool) → a ≡ (b && true) → with_front key front xs ≡ mine xs → cond a (x ∷ with_front key front xs) (with_front key front xs) ≡ cond b (x ∷ mine xs) (mine xs)
-      go a true e ih = rw e (ap (λ l. x ∷ l) ih)
-      go a false e ih = rw e ih
+  pub own_records : (xs : List X) → AreSmall xs → with_front key front xs ≡ mine xs
+  own_records xs fits = filter-same (λ x. begins_with front (key x)) (λ x. tenant_of x == t) xs (All-map (λ x. tenant_of x < 2 ^ 32) (λ x. begins_with front (key x) ≡ (tenant_of x == t)) begins xs fits)
 
   -- what it shares with other records is what it shares with their tenants
   abbrev others : List X → List X
@@ -56,13 +45,14 @@ module _ {X : Type 0} (key : X → List ℕ) (tenant_of : X → ℕ) (rest_of : 
   met_tenant x = common_prefix (to_be_bytes w32 t) (to_be_bytes w32 (tenant_of x))
 
   others_met : (xs : List X) → AreSmall xs → map met_key (without_front key front xs) ≡ map met_tenant (others xs)
-  others_met [] fits = refl
-  others_met (x ∷ xs) fits = go (begins_with front (key x)) (tenant_of x == t) (begins x fits.0) (others_met xs fits.1)
+  others_met xs fits =
+      ap (map met_key) (filter-same (λ x. not (begins_with front (key x))) (λ x. not (tenant_of x == t)) xs
+      (All-map (λ x. tenant_of x < 2 ^ 32) (λ x. not (begins_with front (key x)) ≡ not (tenant_of x == t)) (λ x low. ap not (begins x low)) xs fits))
+      ∙ same_met (others xs)
     where
-      go : (a b : Bool) → a ≡ (b && true) → map met_key (without_front key front xs) ≡ map met_tenant (others xs)
-          → map met_key (cond (not a) (x ∷ without_front key front xs) (without_front key front xs)) ≡ map met_tenant (cond (not b) (x ∷ others xs) (others xs))
-      go a true e ih = rw e ih
-      go a false e ih = rw e (ap (λ l. met_key x ∷ l) ih ∙ ap (λ (k : List ℕ). common_prefix front k ∷ map met_tenant (others xs)) (keys_are x))
+      same_met : (xs : List X) → map met_key xs ≡ map met_tenant xs
+      same_met [] = refl
+      same_met (x ∷ xs) = ap₂ (λ k l. common_prefix front k ∷ l) (keys_are x) (same_met xs)
 
   shares : (xs : List X) → AreSmall xs → crossings key front xs ≡ fronts_shared tenant_of t xs
   shares xs fits = ap (λ ms. length (distinct bytes_eq ms)) (others_met xs fits)
@@ -126,12 +116,8 @@ module _ {X A : Type 0} (tenant_of : X → ℕ) (part : X → A × List ℕ) (t 
 
   pub found_record : (xs : List X) → IsMet (parts xs) → IsFoundAmong xs
   found_record [] some = absurd (cc)
-  found_record (x ∷ xs) some = go (tenant_of x == t) refl (λ s. behind x xs (found_record xs s)) some
-    where
-      here : (b : Bool) → T (part x).0 ≡ b → tenant_of x ≡ t → (IsMet (parts xs) → IsFoundAmong (x ∷ xs)) → IsSome (cond b (Some (part x)) (find (λ p. T p.0) (parts xs))) → IsFoundAmong (x ∷ xs)
-      here true e own later some = (x, inl refl, own, e)
-      here false e own later some = later some
-
-      go : (b : Bool) → (tenant_of x == t) ≡ b → (IsMet (parts xs) → IsFoundAmong (x ∷ xs)) → IsMet (map part (cond b (x ∷ filter (λ x. tenant_of x == t) xs) (filter (λ x. tenant_of x == t) xs))) → IsFoundAmong (x ∷ xs)
-      go true e later some = here (T (part x).0) refl (eqb-true (tenant_of x) t e) later some
-      go false e later some = later some
+  found_record (x ∷ xs) some =
+      let later = λ (s : IsMet (parts xs)). behind x xs (found_record xs s) in
+      cond_both (tenant_of x == t) (x ∷ filter (λ x. tenant_of x == t) xs) (filter (λ x. tenant_of x == t) xs) (λ l. IsMet (map part l) → IsFoundAmong (x ∷ xs))
+      (λ own. cond_both (T (part x).0) (Some (part x)) (find (λ p. T p.0) (parts xs)) (λ o. IsSome o → IsFoundAmong (x ∷ xs))
+      (λ passes s. (x, inl refl, eqb-true (tenant_of x) t own, passes)) (λ fails. later)) (λ other. later) some

@@ -5,15 +5,10 @@ use Rattle.std.proofs.lemmas.Bool.{and_from, lt-ltb}
 use Rattle.std.proofs.lemmas.Bool.Decides.{Decides-eqb}
 use Rattle.std.proofs.lemmas.Slice.Eq.{starts_is}
 use Rattle.std.proofs.lemmas.List.{length-take}
-use Rattle.art_bytes.specs.Keys.{is_proper_front}
-use Rattle.art_lines.specs.Lines.{whole_lines_of, unfinished_line_of, lines_of}
-use Rattle.art_lines.specs.Writes.{IsCut}
-use Rattle.art_engine.specs.Records.{Records}
-use Rattle.art_engine.specs.State.{State}
-use Rattle.art_engine.specs.Refusals.{LineMayRefuse}
-use Rattle.art_engine.specs.Outcome.{answer, left_by}
-use Rattle.art_engine.specs.Faults.{IsCutLine, AfterWriteFault}
-use Rattle.art_engine.specs.Progress.{Carried, IsCutRun, NoNewline}
+use Rattle.art_bytes.proofs.Common.{is_proper_front}
+use Rattle.art_lines.specs.Lines.{whole_lines_of, unfinished_line_of}
+use Rattle.art_lines.proofs.Common.{lines_of, IsCut}
+use Rattle.art_engine.proofs.Terms.{Records, State, LineMayRefuse, answer, left_by, IsCutLine, AfterWriteFault, Carried, IsCutRun, NoNewline}
 use Rattle.art_engine.proofs.LineLemmas.{whole_lines_of-line, whole_lines_of-more}
 use Rattle.art_engine.proofs.Carrying.{IsReadAs, same_answer, same_left, same_refusal, closed, cut}
 

@@ -3,37 +3,25 @@ use Rattle.std.proofs.Common.{◌≡◌, ◌≢◌, ℕ, ℤ, ◌+◌, ◌-◌, 
 use Rattle.std.specs.Prelude.{◌==◌, ◌&&◌, nat_lt, filter, codes}
 use Rattle.std.specs.Int.{w64}
 use Rattle.std.specs.List.{AllByRecursion}
-use Rattle.art_bytes.specs.Keys.{BeginsWith, common_prefix}
-use Rattle.art_bytes.specs.Laws.{pair_key}
-use Rattle.art_bytes.specs.Numbers.{big_endian, flipped}
-use Rattle.art_arena.specs.tree.Kinds.{IsLimit}
-use Rattle.art_arena.specs.tree.Tenants.{begins_with, with_front, without_front}
-use Rattle.art_arena.proofs.tree.Paths.{in_map, in_unmap}
-use Rattle.art_map.specs.PrefixBlocks.{cut_visits}
-use Rattle.art_operations.specs.NodeCounts.{node_count}
-use Rattle.art_operations.specs.Openings.{OpeningReads}
-use Rattle.art_operations.specs.Subtrees.{ShrinksWithout}
+use Rattle.art_bytes.proofs.Common.{BeginsWith, common_prefix, pair_key, big_endian, flipped}
+use Rattle.art_arena.proofs.Common.{IsLimit, begins_with, with_front, without_front, in_map, in_unmap}
+use Rattle.art_map.proofs.Common.{cut_visits}
+use Rattle.art_operations.proofs.Common.{node_count, OpeningReads, ShrinksWithout, width_of-map, without-shrinks}
 use Rattle.art_operations.proofs.NodeCounts.{counted-map}
-use Rattle.art_operations.proofs.LeafPairs.{width_of-map, without-shrinks}
 use Rattle.art_engine.specs.declared.drop_tenant.Dropped.{Dropped}
 use Rattle.art_engine.specs.declared.drop_tenant.Dropped.TheVariants as dropped
-use Rattle.art_lines.specs.Words.{name, natural}
-use Rattle.art_engine.specs.Counts.{longest, dropping, IsWithin}
+use Rattle.art_lines.proofs.Common.{name, natural, full_key}
+use Rattle.art_engine.proofs.Terms.{longest, dropping, IsWithin, full_key_of, number_key_of, Own, KeyFits, KeyRecord, NumberFits, NumberRecord, Records, own, with_own, Pair, NumberPair, record_of, number_record_of, all_records_of, IsFull, IsOfTenant, IsNumberPair, ArePairs, AreNumberPairs}
 use Rattle.art_engine.specs.Dropped.{IsDropDone}
-use Rattle.art_lines.specs.Keys.{full_key}
-use Rattle.art_engine.specs.Keys.{full_key_of, number_key_of}
-use Rattle.art_engine.specs.Records.{Own, KeyFits, KeyRecord, NumberFits, NumberRecord, Records, own, with_own}
-use Rattle.art_engine.specs.Stored.{Pair, NumberPair, record_of, number_record_of, all_records_of, IsFull, IsOfTenant, IsNumberPair, ArePairs, AreNumberPairs}
 use Rattle.art_engine.proofs.Changing.{itself, keys_are}
 use Rattle.art_engine.proofs.Conflicts.{bytes_of}
-use Rattle.art_engine.proofs.Dropping.{All-filter, All-left_out}
-use Rattle.art_engine.proofs.Filters.{length-map}
-use Rattle.art_engine.proofs.FullKeys.{begins-full_key, keeps_both}
+use Rattle.art_engine.proofs.Dropping.{All-left_out}
+use Rattle.art_engine.proofs.Filters.{All-filter, All-map, filter-alike, length-map}
 use Rattle.art_engine.proofs.FullTests.{begins_full}
 use Rattle.art_engine.proofs.Listings.{longest_by_keys, within_longest}
 use Rattle.art_engine.proofs.NumberKeys.{HaveBytes}
 use Rattle.art_engine.proofs.NumberPlaces.{number_bytes, number_keys_are, StandsUnder, stand_all, numbers_without, ascends-filter}
-use Rattle.art_engine.proofs.OwnFronts.{begins_number, own_is_behind_front}
+use Rattle.art_engine.proofs.OwnFronts.{begin_keys, begin_numbers, own_is_behind_front}
 use Rattle.art_engine.proofs.OwnLaws.{key_made, number_made, records_from_lists}
 use Rattle.art_engine.proofs.Putting.{pairs_of_tenant}
 use Rattle.art_engine.proofs.Removing.{IsFullTest, without_keeps, without_is}
@@ -92,21 +80,16 @@ root_read f (x ∷ xs) reads some = let read = some (λ e. cc) in omega arith
 -- the full keys of a tenant are those that begin with its four bytes
 full_behind : (t : ℕ) → t < 2 ^ 32 → (ps : List Pair) → AllByRecursion IsFull ps → AllByRecursion IsOfTenant (map record_of ps)
     → map full_key_of (filter (λ (r : KeyRecord). r.tenant == t) (map record_of ps)) ≡ map bytes_of (with_front bytes_of (full_key t []) ps)
-full_behind t small [] full fits = refl
-full_behind t small (p ∷ ps) full fits =
-    let r = record_of p in
-    let here : begins_with (full_key t []) p.0.items ≡ (r.tenant == t) = ap (begins_with (full_key t [])) full.0 ∙ begins-full_key t r.tenant r.key small fits.0 in
-    keeps_both full_key_of bytes_of (r.tenant == t) (begins_with (full_key t []) p.0.items) r p
-    (filter (λ (r : KeyRecord). r.tenant == t) (map record_of ps)) (with_front bytes_of (full_key t []) ps) (sym here) (sym full.0) (full_behind t small ps full.1 fits.1)
+full_behind t small ps full fits =
+    filter-alike full_key_of record_of bytes_of (λ p. begins_with (full_key t []) p.0.items) (λ r. r.tenant == t) ps
+    (begin_keys t small ps full fits) (All-map IsFull (λ p. full_key_of (record_of p) ≡ bytes_of p) (λ p e. sym e) ps full)
 
 -- and so are the bytes of its numbers
 numbers_behind : (t : ℕ) → t < 2 ^ 32 → (ns : List NumberPair) → AllByRecursion StandsUnder ns
     → map number_key_of (filter (λ (r : NumberRecord). r.tenant == t) (map number_record_of ns)) ≡ map number_bytes (with_front number_bytes (full_key t []) ns)
-numbers_behind t small [] stand = refl
-numbers_behind t small (p ∷ ns) stand =
-    let r = number_record_of p in
-    keeps_both number_key_of number_bytes (r.tenant == t) (begins_with (full_key t []) p.0) r p
-    (filter (λ (r : NumberRecord). r.tenant == t) (map number_record_of ns)) (with_front number_bytes (full_key t []) ns) (sym (begins_number t p small stand.0)) (sym stand.0.key) (numbers_behind t small ns stand.1)
+numbers_behind t small ns stand =
+    filter-alike number_key_of number_record_of number_bytes (λ p. begins_with (full_key t []) p.0) (λ r. r.tenant == t) ns
+    (begin_numbers t small ns stand) (All-map StandsUnder (λ p. number_key_of (number_record_of p) ≡ number_bytes p) (λ p under. sym under.key) ns stand)
 
 -- no bytes of a number are longer than the longest of the records
 pub all_numbers_within : (ns : List NumberPair) → AllByRecursion IsNumberPair ns → AllByRecursion (λ p. length p.0 ≤ longest number_key_of (map number_record_of ns)) ns

@@ -2,48 +2,24 @@
 use Rattle.std.proofs.Common.{◌≡◌, ℕ, ◌≤◌, List, [], ◌∷◌, ◌++◌, refl, ap, sym, ◌∙◌, Bool, true, false, not, cond, arith, Some}
 use Rattle.std.specs.Prelude.{◌==◌, ◌&&◌, nat_lt, map, filter, option_map}
 use Rattle.std.specs.List.{AllByRecursion, find}
-use Rattle.std.proofs.lemmas.Bool.{ne_eqb, ltb-true}
-use Rattle.art_arena.specs.tree.Changes.{put_in_order, is_before}
-use Rattle.art_engine.specs.Records.{InOrder}
+use Rattle.std.proofs.lemmas.Bool.{cond_both, ne_eqb, ltb-true}
+use Rattle.art_engine.proofs.Filters.{All-filter, All-map, filter-both, filter-inside, filter-same, map-filter}
+use Rattle.art_arena.proofs.Common.{put_in_order, is_before}
+use Rattle.art_engine.proofs.Terms.{InOrder}
 use Rattle.art_engine.proofs.OwnLaws.{Ascends, in_place}
 
-module _ {X : Type 0} where
-  -- a test within another one that all pass which pass it
-  pub filter-inside : (p q : X → Bool) (xs : List X) → AllByRecursion (λ x. p x ≡ true → q x ≡ true) xs → filter p (filter q xs) ≡ filter p xs
-  filter-inside p q [] h = refl
-  filter-inside p q (x ∷ xs) h = go (p x) (q x) refl refl (filter-inside p q xs h.1)
-    where
-      go : (a b : Bool) → p x ≡ a → q x ≡ b → filter p (filter q xs) ≡ filter p xs
-          → filter p (cond b (x ∷ filter q xs) (filter q xs)) ≡ cond a (x ∷ filter p xs) (filter p xs)
-      go true true e f ih = rw e (ap (λ l. x ∷ l) ih)
-      go true false e f ih = let g = sym f ∙ h.0 e in cc
-      go false true e f ih = rw e ih
-      go false false e f ih = ih
-
-  pub All-filter : (P : X → Type 0) (p : X → Bool) (xs : List X) → AllByRecursion P xs → AllByRecursion P (filter p xs)
-  All-filter P p [] h = tt
-  All-filter P p (x ∷ xs) h = go (p x) (All-filter P p xs h.1)
-    where
-      go : (b : Bool) → AllByRecursion P (filter p xs) → AllByRecursion P (cond b (x ∷ filter p xs) (filter p xs))
-      go true ih = (h.0, ih)
-      go false ih = ih
-
-  pub InOrder-filter : (B : X → X → Type 0) (p : X → Bool) (xs : List X) → InOrder B xs → InOrder B (filter p xs)
-  InOrder-filter B p [] h = tt
-  InOrder-filter B p (x ∷ xs) h = go (p x) (InOrder-filter B p xs h.1)
-    where
-      go : (b : Bool) → InOrder B (filter p xs) → InOrder B (cond b (x ∷ filter p xs) (filter p xs))
-      go true ih = (All-filter (B x) p xs h.0, ih)
-      go false ih = ih
+pub InOrder-filter : {X : Type 0} (B : X → X → Type 0) (p : X → Bool) (xs : List X) → InOrder B xs → InOrder B (filter p xs)
+InOrder-filter B p [] h = tt
+InOrder-filter B p (x ∷ xs) h =
+    let ih = InOrder-filter B p xs h.1 in
+    cond_both (p x) (x ∷ filter p xs) (filter p xs) (InOrder B) (λ e. (All-filter (B x) p xs h.0, ih)) (λ e. ih)
 
 -- what holds of all holds of all that is left
 pub All-left_out : {X Y : Type 0} (P : Y → Type 0) (f : X → Y) (q : X → Bool) (xs : List X) → AllByRecursion P (map f xs) → AllByRecursion P (map f (filter q xs))
 All-left_out P f q [] h = tt
-All-left_out P f q (x ∷ xs) h = go (q x) (All-left_out P f q xs h.1)
-  where
-    go : (b : Bool) → AllByRecursion P (map f (filter q xs)) → AllByRecursion P (map f (cond b (x ∷ filter q xs) (filter q xs)))
-    go true ih = (h.0, ih)
-    go false ih = ih
+All-left_out P f q (x ∷ xs) h =
+    let ih = All-left_out P f q xs h.1 in
+    cond_both (q x) (x ∷ filter q xs) (filter q xs) (λ l. AllByRecursion P (map f l)) (λ e. (h.0, ih)) (λ e. ih)
 
 -- and with what is put in, if it holds of that
 pub All-put : {X Y : Type 0} (P : Y → Type 0) (f : X → Y) (key : X → List ℕ) (q : X → Bool) (x : X) (xs : List X) → AllByRecursion P (map f xs) → P (f x)
@@ -52,29 +28,23 @@ All-put {X} P f key q x xs h new = put (filter q xs) (All-left_out P f q xs h)
   where
     put : (ys : List X) → AllByRecursion P (map f ys) → AllByRecursion P (map f (put_in_order key x ys))
     put [] h = (new, tt)
-    put (y ∷ ys) h = go (is_before (key x) (key y)) (put ys h.1)
-      where
-        go : (b : Bool) → AllByRecursion P (map f (put_in_order key x ys)) → AllByRecursion P (map f (cond b (x ∷ y ∷ ys) (y ∷ put_in_order key x ys)))
-        go true ih = (new, h)
-        go false ih = (h.0, ih)
+    put (y ∷ ys) h =
+        let ih = put ys h.1 in
+        cond_both (is_before (key x) (key y)) (x ∷ y ∷ ys) (y ∷ put_in_order key x ys) (λ l. AllByRecursion P (map f l)) (λ e. (new, h)) (λ e. (h.0, ih))
 
 module _ {X P : Type 0} (tenant_of : X → ℕ) (part_of : X → P) (t : ℕ) (T : X → Bool) (G : P → Bool) where
   -- the test passes what is the tenant's and has a part that passes
   abbrev pub IsOwnTest : X → Type 0
   IsOwnTest x = T x ≡ ((tenant_of x == t) && G (part_of x))
 
+  abbrev mine : X → Bool
+  mine x = tenant_of x == t
+
   -- what passes is what of the tenant's passes
   pub own_filter : (xs : List X) → AllByRecursion IsOwnTest xs → map part_of (filter T xs) ≡ filter G (map part_of (filter (λ x. tenant_of x == t) xs))
-  own_filter [] h = refl
-  own_filter (x ∷ xs) h = go (T x) (tenant_of x == t) (G (part_of x)) refl refl h.0 (own_filter xs h.1)
-    where
-      go : (a b c : Bool) → (tenant_of x == t) ≡ b → G (part_of x) ≡ c → a ≡ (b && G (part_of x))
-          → map part_of (filter T xs) ≡ filter G (map part_of (filter (λ x. tenant_of x == t) xs))
-          → map part_of (cond a (x ∷ filter T xs) (filter T xs))
-          ≡ filter G (map part_of (cond b (x ∷ filter (λ x. tenant_of x == t) xs) (filter (λ x. tenant_of x == t) xs)))
-      go a true true e f is ih = rw (is, f) (ap (λ l. part_of x ∷ l) ih)
-      go a true false e f is ih = rw (is, f) ih
-      go a false c e f is ih = rw is ih
+  own_filter xs h =
+      ap (map part_of) (filter-same T (λ x. (tenant_of x == t) && G (part_of x)) xs h ∙ filter-both (λ x. tenant_of x == t) (λ x. G (part_of x)) xs)
+      ∙ map-filter part_of G (filter (λ x. tenant_of x == t) xs)
 
   -- the first that passes likewise
   pub own_find : (xs : List X) → AllByRecursion IsOwnTest xs → option_map part_of (find T xs) ≡ find G (map part_of (filter (λ x. tenant_of x == t) xs))
@@ -95,23 +65,20 @@ module _ {X P : Type 0} (tenant_of : X → ℕ) (part_of : X → P) (t : ℕ) (T
 
   pub left_mine : (xs : List X) → AllByRecursion IsOwnTest xs
       → map part_of (filter (λ x. tenant_of x == t) (left xs)) ≡ filter (λ p. not (G p)) (map part_of (filter (λ x. tenant_of x == t) xs))
-  left_mine [] h = refl
-  left_mine (x ∷ xs) h = go (T x) (tenant_of x == t) (G (part_of x)) refl refl h.0 (left_mine xs h.1)
+  left_mine xs h =
+      ap (map part_of)
+      (sym (filter-both (λ x. not (T x)) mine xs) ∙ filter-same (λ x. not (T x) && mine x) (λ x. mine x && not (G (part_of x))) xs
+      (All-map IsOwnTest (λ x. (not (T x) && mine x) ≡ (mine x && not (G (part_of x)))) (λ x is. ap (λ b. not b && mine x) is ∙ of_mine (mine x) (G (part_of x))) xs h)
+      ∙ filter-both mine (λ x. not (G (part_of x))) xs)
+      ∙ map-filter part_of (λ p. not (G p)) (filter mine xs)
     where
-      go : (a b c : Bool) → (tenant_of x == t) ≡ b → G (part_of x) ≡ c → a ≡ (b && G (part_of x))
-          → map part_of (filter (λ x. tenant_of x == t) (left xs)) ≡ filter (λ p. not (G p)) (map part_of (filter (λ x. tenant_of x == t) xs))
-          → map part_of (filter (λ x. tenant_of x == t) (cond (not a) (x ∷ left xs) (left xs)))
-          ≡ filter (λ p. not (G p)) (map part_of (cond b (x ∷ filter (λ x. tenant_of x == t) xs) (filter (λ x. tenant_of x == t) xs)))
-      go a true true e f is ih = rw (is, f) ih
-      go a true false e f is ih = rw (is, f, e) (ap (λ l. part_of x ∷ l) ih)
-      go a false c e f is ih = rw (is, e) ih
+      of_mine : (a b : Bool) → (not (a && b) && a) ≡ (a && not b)
+      of_mine true true = refl
+      of_mine a b = refl
 
   others_stay : (p : X → Bool) → ((x : X) → p x ≡ true → (tenant_of x == t) ≡ false) → (xs : List X) → AllByRecursion IsOwnTest xs → filter p (left xs) ≡ filter p xs
-  others_stay p other xs h = filter-inside p (λ x. not (T x)) xs (passes xs h)
-    where
-      passes : (xs : List X) → AllByRecursion IsOwnTest xs → AllByRecursion (λ x. p x ≡ true → not (T x) ≡ true) xs
-      passes [] h = tt
-      passes (x ∷ xs) h = ((λ e. ap not (h.0 ∙ ap (λ b. b && G (part_of x)) (other x e))), passes xs h.1)
+  others_stay p other xs h = filter-inside p (λ x. not (T x)) xs
+      (All-map IsOwnTest (λ x. p x ≡ true → not (T x) ≡ true) (λ x is e. ap not (is ∙ ap (λ b. b && G (part_of x)) (other x e))) xs h)
 
   pub left_before : (xs : List X) → AllByRecursion IsOwnTest xs → filter (λ x. nat_lt (tenant_of x) t) (left xs) ≡ filter (λ x. nat_lt (tenant_of x) t) xs
   left_before xs h = others_stay (λ x. nat_lt (tenant_of x) t) (λ x e. let lt = ltb-true (tenant_of x) t e in ne_eqb (tenant_of x) t (λ k. omega arith)) xs h
@@ -128,9 +95,6 @@ module _ {X P : Type 0} (tenant_of : X → ℕ) (part_of : X → P) (made : ℕ 
       ≡ filter (λ x. nat_lt (tenant_of x) t) xs ++ map (made t) (filter (λ p. not (G p)) (map part_of (filter (λ x. tenant_of x == t) xs)))
       ++ filter (λ x. nat_lt t (tenant_of x)) xs
   left_in_place xs h up =
-      let F : List X → List P → List X → List X = λ a b c. a ++ map (made t) b ++ c in
       let rest : List X = filter (λ x. not (T x)) xs in
-      sym (in_place tenant_of part_of made makes_tenant makes_part made_again t rest (InOrder-filter (λ x y. tenant_of x ≤ tenant_of y) (λ x. not (T x)) xs up))
-      ∙ ap (λ a. F a (map part_of (filter (λ x. tenant_of x == t) rest)) (filter (λ x. nat_lt t (tenant_of x)) rest)) (left_before tenant_of part_of t T G xs h)
-      ∙ ap (λ b. F (filter (λ x. nat_lt (tenant_of x) t) xs) b (filter (λ x. nat_lt t (tenant_of x)) rest)) (left_mine tenant_of part_of t T G xs h)
-      ∙ ap (λ c. F (filter (λ x. nat_lt (tenant_of x) t) xs) (filter (λ p. not (G p)) (map part_of (filter (λ x. tenant_of x == t) xs))) c) (left_behind tenant_of part_of t T G xs h)
+      rw (← left_before tenant_of part_of t T G xs h, ← left_mine tenant_of part_of t T G xs h, ← left_behind tenant_of part_of t T G xs h)
+      (sym (in_place tenant_of part_of made makes_tenant makes_part made_again t rest (InOrder-filter (λ x y. tenant_of x ≤ tenant_of y) (λ x. not (T x)) xs up)))

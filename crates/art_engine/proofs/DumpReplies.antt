@@ -1,14 +1,9 @@
 -- A `dump` needs no memory and changes nothing.
 use Rattle.std.proofs.Common.{◌≡◌, refl, subst, Bool, true, false}
 use Rattle.std.specs.Prelude.{codes, flat_map, Some}
-use Rattle.art_lines.specs.Words.{line_of}
-use Rattle.art_lines.specs.Commands.{dump}
+use Rattle.art_lines.proofs.Common.{line_of, dump, spells, spells_one}
 use Rattle.art_lines.specs.Reading.{command_of}
-use Rattle.art_lines.proofs.Spelling.{spells, spells_one}
-use Rattle.art_engine.specs.Records.{Records}
-use Rattle.art_engine.specs.Refusals.{LineMayRefuse, MayRefuse}
-use Rattle.art_engine.specs.Replies.{dump_of}
-use Rattle.art_engine.specs.Outcome.{answer, left_by}
+use Rattle.art_engine.proofs.Terms.{Records, LineMayRefuse, MayRefuse, dump_of, answer, left_by}
 
 reads-dump : command_of (codes "dump") ≡ Some dump
 unfolding command_of

@@ -1,21 +1,19 @@
 -- The lines of a dump as text: each is one line, and spells the put of its record.
-use Rattle.std.proofs.Common.{◌≡◌, ℕ, zero, suc, ℤ, pos, negsuc, ◌/◌, ◌%◌, ◌<◌, ◌≤◌, List, [], ◌∷◌, ◌++◌, length, get_or, map, refl, ap, sym, ◌∙◌, subst, Bool, true, false, cond, arith, append_assoc, append-nil, inl, inr}
+use Rattle.std.proofs.Common.{◌≡◌, ℕ, zero, suc, ℤ, pos, negsuc, ◌/◌, ◌%◌, ◌<◌, ◌≤◌, List, [], ◌∷◌, ◌++◌, length, get_or, map, refl, ap, sym, ◌∙◌, subst, true, false, arith, append_assoc, append-nil, inl, inr}
 use Rattle.std.specs.Prelude.{◌==◌, nat_lt, nat_le, codes, flat_map, Some, None}
 use Rattle.std.specs.Fmt.{digits, digits_onto, digit_glyph}
 use Rattle.std.specs.List.{AllByRecursion, AllZip, onto_first, slice_split}
-use Rattle.std.proofs.lemmas.Bool.{ne_eqb, eq-eqb, true≢false, cases_lt, lt-leb}
+use Rattle.std.proofs.lemmas.Bool.{cond_both, ne_eqb, eq-eqb, true≢false, cases_lt, lt-leb}
 use Rattle.hex.specs.Hex.{IsBytes, encode_lower, is_hex_digit}
 use Rattle.hex.proofs.HexLemmas.{decode_of-ok, decode_of-encode_lower}
-use Rattle.art_lines.specs.Lines.{pieces_of, whole_lines_of, unfinished_line_of, lines_of}
-use Rattle.art_lines.specs.Words.{Word, name, natural, signed, bytes, shown, Reads, text_of, line_of}
-use Rattle.art_lines.specs.Commands.{put, nput, of_tenant, fields_of}
-use Rattle.art_lines.specs.Reading.{command_in, command_of}
-use Rattle.art_engine.specs.Records.{KeyRecord, NumberRecord, KeyFits, NumberFits}
-use Rattle.art_lines.specs.ReplyWords.{end_words}
+use Rattle.art_lines.specs.Lines.{whole_lines_of, unfinished_line_of}
+use Rattle.art_lines.proofs.Common.{pieces_of, lines_of, name, natural, signed, bytes, shown, Reads, text_of, line_of, put, nput, of_tenant, fields_of, command_in, end_words, spelled}
+use Rattle.art_lines.specs.Words.{Word}
+use Rattle.art_lines.specs.Reading.{command_of}
+use Rattle.art_engine.proofs.Terms.{KeyRecord, NumberRecord, KeyFits, NumberFits}
 use Rattle.art_engine.proofs.Dumping.{words_put, words_nput}
-use Rattle.art_engine.proofs.LineLemmas.{last_of, all_but_last, whole_are, unfinished_is}
+use Rattle.art_engine.proofs.LineLemmas.{last_of, last_of-append, all_but_last, whole_are, unfinished_is}
 use Rattle.art_engine.proofs.Filters.{All-map, All-append}
-use Rattle.art_lines.proofs.Spelling.{spelled}
 
 -- no byte is this one
 abbrev Free : ℕ → List ℕ → Type 0
@@ -41,21 +39,15 @@ free_of : (c : ℕ) → c < 45 → (xs : List ℕ) → AllByRecursion (λ b. 45 
 free_of c low xs h = All-map (λ b. 45 ≤ b) (λ b. (b == c) ≡ false) (λ b high. ne_eqb b c (λ e. omega arith)) xs h
 
 glyph_high : (d : ℕ) → 45 ≤ digit_glyph false d
-glyph_high d = go (nat_lt d 10) refl
-  where
-    go : (b : Bool) → nat_lt d 10 ≡ b → 45 ≤ digit_glyph false d
-    go true e = rw e (omega arith)
-    go false e = rw e (omega arith)
+glyph_high d = cond_both (nat_lt d 10) _ _ (λ glyph. 45 ≤ glyph) (λ e. omega arith) (λ e. omega arith)
 
 -- digits of any number, however many there are
 digits_plain : (k n : ℕ) (rest : List ℕ) → AllByRecursion (λ b. 45 ≤ b) rest → AllByRecursion (λ b. 45 ≤ b) (digits_onto k 10 false n rest)
 digits_plain zero n rest h = h
-digits_plain (suc k) n rest h = go (n / 10 == 0) (digits_plain k (n / 10) (digit_glyph false (n % 10) ∷ rest) (glyph_high (n % 10), h))
-  where
-    go : (b : Bool) → AllByRecursion (λ b. 45 ≤ b) (digits_onto k 10 false (n / 10) (digit_glyph false (n % 10) ∷ rest))
-        → AllByRecursion (λ b. 45 ≤ b) (cond b (digit_glyph false (n % 10) ∷ rest) (digits_onto k 10 false (n / 10) (digit_glyph false (n % 10) ∷ rest)))
-    go true ih = (glyph_high (n % 10), h)
-    go false ih = ih
+digits_plain (suc k) n rest h =
+    let front : List ℕ = digit_glyph false (n % 10) ∷ rest in
+    let plain : AllByRecursion (λ b. 45 ≤ b) front = (glyph_high (n % 10), h) in
+    cond_both (n / 10 == 0) front (digits_onto k 10 false (n / 10) front) (AllByRecursion (λ b. 45 ≤ b)) (λ e. plain) (λ e. digits_plain k (n / 10) front plain)
 
 natural_plain : (n : ℕ) → Plain (natural n)
 unfolding digits
@@ -138,11 +130,7 @@ nput_spelled r fits =
 -- and the end spells nothing
 pub end_spelled : (n : ℕ) → command_of (text_of (end_words n)) ≡ None
 unfolding command_of
-end_spelled n = go (nat_le (length (text_of (end_words n))) 4096)
-  where
-    go : (b : Bool) → cond b (command_in (fields_of (text_of (end_words n)))) None ≡ None
-    go true = refl
-    go false = refl
+end_spelled n = cond_both (nat_le (length (text_of (end_words n))) 4096) (command_in (fields_of (text_of (end_words n)))) None (λ o. o ≡ None) (λ e. refl) (λ e. refl)
 
 -- each of these is one line
 pub put_lines : (rs : List KeyRecord) → AllByRecursion KeyFits rs → AllByRecursion OneLine (map words_put rs)
@@ -167,14 +155,9 @@ but_last [] = refl
 but_last (l ∷ []) = refl
 but_last (l ∷ m ∷ ls) = ap (λ t. l ∷ t) (but_last (m ∷ ls))
 
-last_one : (ls : List (List ℕ)) → last_of (ls ++ [] ∷ []) ≡ []
-last_one [] = refl
-last_one (l ∷ []) = refl
-last_one (l ∷ m ∷ ls) = last_one (m ∷ ls)
-
 pub lines_are : (wss : List (List Word)) → AllByRecursion OneLine wss → lines_of (flat_map line_of wss) ≡ map text_of wss
 lines_are wss h =
     let text : List ℕ = flat_map line_of wss in let ls : List (List ℕ) = map text_of wss in let pieces = pieces_are wss h in
     let whole : whole_lines_of text ≡ ls = whole_are text ∙ ap all_but_last pieces ∙ but_last ls in
-    let nothing : unfinished_line_of text ≡ [] = unfinished_is text ∙ ap last_of pieces ∙ last_one ls in
+    let nothing : unfinished_line_of text ≡ [] = unfinished_is text ∙ ap last_of pieces ∙ last_of-append ls in
     rw (whole, nothing) (append-nil ls)

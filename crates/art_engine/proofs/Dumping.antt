@@ -2,15 +2,10 @@
 use Rattle.std.proofs.Common.{◌≡◌, ℕ, ◌+◌, ◌≤◌, List, [], ◌∷◌, ◌++◌, length, ap, ap₂, sym, ◌∙◌, subst, append_assoc, append-nil, length-append, map, arith}
 use Rattle.std.specs.Prelude.{flat_map}
 use Rattle.std.proofs.lemmas.Grind.{flat_map-append}
-use Rattle.art_lines.specs.Words.{Word, text_of, line_of}
-use Rattle.art_lines.specs.Commands.{put_words, nput_words}
-use Rattle.art_engine.specs.Records.{KeyRecord, NumberRecord, KeyFits, NumberFits}
-use Rattle.art_lines.specs.ReplyWords.{end_words}
-use Rattle.art_engine.specs.Replies.{key_lines, number_lines, dump_of}
-use Rattle.art_lines.specs.Gathered.{IsPartTaken}
-use Rattle.art_lines.proofs.Cuts.{taken_from, taken_longer}
+use Rattle.art_lines.specs.Words.{Word}
+use Rattle.art_lines.proofs.Common.{text_of, line_of, put_words, nput_words, end_words, IsPartTaken, taken_from, taken_longer}
+use Rattle.art_engine.proofs.Terms.{KeyRecord, NumberRecord, KeyFits, NumberFits, key_lines, number_lines, dump_of, Pair, NumberPair, record_of, number_record_of, all_records_of}
 use Rattle.art_engine.proofs.Filters.{length-map}
-use Rattle.art_engine.specs.Stored.{Pair, NumberPair, record_of, number_record_of, all_records_of}
 
 abbrev pub words_put : KeyRecord → List Word
 words_put r = put_words r.tenant r.key r.value

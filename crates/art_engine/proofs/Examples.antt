@@ -1,22 +1,11 @@
 -- A worked example beside each definition, computed by the checker.
 use Rattle.std.proofs.Common.{◌≡◌, ℕ, ◌<◌, List, [], ◌∷◌, ◌++◌, refl, false, true, negsuc, lit<, lit≤, arith, inl, inr}
 use Rattle.std.specs.Prelude.{codes, flat_map, map, replicate, Some, None, IsTrue}
-use Rattle.art_lines.specs.Lines.{lines_of, whole_lines_of, unfinished_line_of, lines_so_far}
-use Rattle.art_lines.specs.Words.{name, natural, signed, bytes, shown, line_of}
-use Rattle.art_lines.specs.Commands.{span, put, get, nget, drop, of_tenant, dump, Spells, list}
+use Rattle.art_lines.specs.Lines.{whole_lines_of, unfinished_line_of}
+use Rattle.art_lines.proofs.Common.{lines_of, lines_so_far, name, natural, signed, bytes, shown, line_of, span, put, get, nget, drop, of_tenant, dump, Spells, list, full_key, IsCut}
 use Rattle.art_lines.specs.Reading.{command_of, natural_in, tenant_in, number_in, bytes_in}
-use Rattle.art_bytes.specs.Keys.{is_below, conflicts}
-use Rattle.art_lines.specs.Keys.{full_key}
-use Rattle.art_engine.specs.Keys.{number_key_of, number_of_bytes, full_key_of}
-use Rattle.art_engine.specs.Counts.{exactly, visits_of, path_nodes, fronts_shared}
-use Rattle.art_engine.specs.Records.{KeyRecord, KeyFits, Records, no_records, own, with_own}
-use Rattle.art_engine.specs.State.{State, unread}
-use Rattle.art_engine.specs.Ahead.{most_ahead}
-use Rattle.art_engine.specs.Replies.{dump_of, audit_lines}
-use Rattle.art_engine.specs.Refusals.{MayRefuse, LineMayRefuse}
-use Rattle.art_engine.specs.Outcome.{answers, IsLineDone, reply_to, IsOutcome}
-use Rattle.art_engine.specs.Faults.{AfterWriteFault, IsCutLine}
-use Rattle.art_lines.specs.Writes.{IsCut}
+use Rattle.art_bytes.proofs.Common.{is_below, conflicts}
+use Rattle.art_engine.proofs.Terms.{number_key_of, number_of_bytes, full_key_of, exactly, visits_of, path_nodes, fronts_shared, KeyRecord, KeyFits, Records, no_records, own, with_own, State, unread, most_ahead, dump_of, audit_lines, MayRefuse, LineMayRefuse, answers, IsLineDone, reply_to, IsOutcome, AfterWriteFault, IsCutLine}
 use Rattle.hex.proofs.OnLiterals.{hex_on_literals}
 use Rattle.std.specs.Fmt.{digits}
 use mathlib.Core.Bool.{false≢true}
@@ -29,124 +18,67 @@ text ls = flat_map (λ l. l ++ 10 ∷ []) ls
 abbrev told : List ℕ → List ℕ
 told t = answers no_records (map (λ line. (line, false)) (lines_of t))
 
+-- what the examples compute with
+computed : Unit {0}
+unfolding whole_lines_of unfinished_line_of command_of natural_in tenant_in number_in bytes_in hex_on_literals digits
+computed = tt
+
 -- Lines: the last one counts without a newline, unless it is empty.
 
-lines-of_two : lines_of (codes "a" ++ 10 ∷ codes "b") ≡ codes "a" ∷ codes "b" ∷ []
-unfolding whole_lines_of unfinished_line_of command_of natural_in tenant_in number_in bytes_in hex_on_literals digits
-lines-of_two = refl
+lines-of_texts : map lines_of ((codes "a" ++ 10 ∷ codes "b") ∷ (10 ∷ 10 ∷ []) ∷ []) ≡ (codes "a" ∷ codes "b" ∷ []) ∷ ([] ∷ [] ∷ []) ∷ []
+unfolding computed
+lines-of_texts = refl
 
-whole_lines-of_two : whole_lines_of (codes "a" ++ 10 ∷ codes "b") ≡ codes "a" ∷ []
-unfolding whole_lines_of unfinished_line_of command_of natural_in tenant_in number_in bytes_in hex_on_literals digits
-whole_lines-of_two = refl
-
-lines-before_the_end : lines_so_far false (codes "a" ++ 10 ∷ codes "b") ≡ codes "a" ∷ []
-unfolding whole_lines_of unfinished_line_of command_of natural_in tenant_in number_in bytes_in hex_on_literals digits
-lines-before_the_end = refl
-
-lines-at_the_end : lines_so_far true (codes "a" ++ 10 ∷ codes "b") ≡ codes "a" ∷ codes "b" ∷ []
-unfolding whole_lines_of unfinished_line_of command_of natural_in tenant_in number_in bytes_in hex_on_literals digits
-lines-at_the_end = refl
-
-lines-of_empty_ones : lines_of (10 ∷ 10 ∷ []) ≡ [] ∷ [] ∷ []
-unfolding whole_lines_of unfinished_line_of command_of natural_in tenant_in number_in bytes_in hex_on_literals digits
-lines-of_empty_ones = refl
+-- before the end of the bytes and at it
+lines-so_far : map (λ ended. lines_so_far ended (codes "a" ++ 10 ∷ codes "b")) (false ∷ true ∷ []) ≡ (codes "a" ∷ []) ∷ (codes "a" ∷ codes "b" ∷ []) ∷ []
+unfolding computed
+lines-so_far = refl
 
 -- Words: how they are written.
 
-shown-negative : shown (signed (negsuc 4)) ≡ codes "-5"
-unfolding whole_lines_of unfinished_line_of command_of natural_in tenant_in number_in bytes_in hex_on_literals digits
-shown-negative = refl
-
-shown-bytes : shown (bytes (10 ∷ 11 ∷ [])) ≡ codes "0a0b"
-unfolding whole_lines_of unfinished_line_of command_of natural_in tenant_in number_in bytes_in hex_on_literals digits
-shown-bytes = refl
-
-shown-no_bytes : shown (bytes []) ≡ codes "-"
-unfolding whole_lines_of unfinished_line_of command_of natural_in tenant_in number_in bytes_in hex_on_literals digits
-shown-no_bytes = refl
+shown-words : map shown (signed (negsuc 4) ∷ bytes (10 ∷ 11 ∷ []) ∷ bytes [] ∷ []) ≡ codes "-5" ∷ codes "0a0b" ∷ codes "-" ∷ []
+unfolding computed
+shown-words = refl
 
 line-of_words : line_of (name (codes "end") ∷ natural 12 ∷ []) ≡ codes "end 12" ++ 10 ∷ []
-unfolding whole_lines_of unfinished_line_of command_of natural_in tenant_in number_in bytes_in hex_on_literals digits
+unfolding computed
 line-of_words = refl
 
 -- Commands: what spells one, and what does not.
 
 get-spelled : Spells (codes "get 7 0A") (of_tenant 7 (get (10 ∷ [])))
-unfolding whole_lines_of unfinished_line_of command_of natural_in tenant_in number_in bytes_in hex_on_literals digits
+unfolding computed
 get-spelled = record { short = lit≤ tt; read = (refl, ((refl, lit< tt), (refl, tt))) }
 
-dump-read : command_of (codes "dump") ≡ Some dump
-unfolding whole_lines_of unfinished_line_of command_of natural_in tenant_in number_in bytes_in hex_on_literals digits
-dump-read = refl
+commands-read : map command_of (codes "dump" ∷ codes "drop 7" ∷ codes "nget 1 -5" ∷ codes "nget 1 -9223372036854775808" ∷ [])
+    ≡ map (λ c. Some c) (dump ∷ of_tenant 7 drop ∷ of_tenant 1 (nget (negsuc 4)) ∷ of_tenant 1 (nget (negsuc 9223372036854775807)) ∷ [])
+unfolding computed
+commands-read = refl
 
-drop-read : command_of (codes "drop 7") ≡ Some (of_tenant 7 drop)
-unfolding whole_lines_of unfinished_line_of command_of natural_in tenant_in number_in bytes_in hex_on_literals digits
-drop-read = refl
+-- a field too many, a zero in front, a tenant that is too large, an odd digit, and two spaces
+not-read : map command_of (codes "drop 7 8" ∷ codes "get 07 0a" ∷ codes "get 4294967296 0a" ∷ codes "get 7 0" ∷ codes "get  7 0a" ∷ []) ≡ replicate 5 None
+unfolding computed
+not-read = refl
 
-drop_of_two-not_read : command_of (codes "drop 7 8") ≡ None
-unfolding whole_lines_of unfinished_line_of command_of natural_in tenant_in number_in bytes_in hex_on_literals digits
-drop_of_two-not_read = refl
-
-leading_zero-not_read : command_of (codes "get 07 0a") ≡ None
-unfolding whole_lines_of unfinished_line_of command_of natural_in tenant_in number_in bytes_in hex_on_literals digits
-leading_zero-not_read = refl
-
-large_tenant-not_read : command_of (codes "get 4294967296 0a") ≡ None
-unfolding whole_lines_of unfinished_line_of command_of natural_in tenant_in number_in bytes_in hex_on_literals digits
-large_tenant-not_read = refl
-
-odd_digits-not_read : command_of (codes "get 7 0") ≡ None
-unfolding whole_lines_of unfinished_line_of command_of natural_in tenant_in number_in bytes_in hex_on_literals digits
-odd_digits-not_read = refl
-
-two_spaces-not_read : command_of (codes "get  7 0a") ≡ None
-unfolding whole_lines_of unfinished_line_of command_of natural_in tenant_in number_in bytes_in hex_on_literals digits
-two_spaces-not_read = refl
-
-number-read : command_of (codes "nget 1 -5") ≡ Some (of_tenant 1 (nget (negsuc 4)))
-unfolding whole_lines_of unfinished_line_of command_of natural_in tenant_in number_in bytes_in hex_on_literals digits
-number-read = refl
-
-least_number-read : command_of (codes "nget 1 -9223372036854775808") ≡ Some (of_tenant 1 (nget (negsuc 9223372036854775807)))
-unfolding whole_lines_of unfinished_line_of command_of natural_in tenant_in number_in bytes_in hex_on_literals digits
-least_number-read = refl
-
-minus_zero-not_read : command_of (codes "nget 1 -0") ≡ None
-unfolding whole_lines_of unfinished_line_of command_of natural_in tenant_in number_in bytes_in hex_on_literals digits
-minus_zero-not_read = refl
-
-plus-not_read : command_of (codes "nget 1 +1") ≡ None
-unfolding whole_lines_of unfinished_line_of command_of natural_in tenant_in number_in bytes_in hex_on_literals digits
-plus-not_read = refl
-
-large_number-not_read : command_of (codes "nget 1 9223372036854775808") ≡ None
-unfolding whole_lines_of unfinished_line_of command_of natural_in tenant_in number_in bytes_in hex_on_literals digits
-large_number-not_read = refl
+numbers-not_read : map command_of (codes "nget 1 -0" ∷ codes "nget 1 +1" ∷ codes "nget 1 9223372036854775808" ∷ []) ≡ replicate 3 None
+unfolding computed
+numbers-not_read = refl
 
 -- Keys: a front is below a longer key and conflicts with it, a key does not conflict with itself.
 
-front-below : IsTrue (is_below (1 ∷ []) (1 ∷ 0 ∷ []))
-unfolding whole_lines_of unfinished_line_of command_of natural_in tenant_in number_in bytes_in hex_on_literals digits
+front-below : is_below (1 ∷ []) (1 ∷ 0 ∷ []) ≡ true
 front-below = refl
 
-front-conflicts : IsTrue (conflicts (1 ∷ 0 ∷ []) (1 ∷ []))
-unfolding whole_lines_of unfinished_line_of command_of natural_in tenant_in number_in bytes_in hex_on_literals digits
-front-conflicts = refl
-
-itself-no_conflict : conflicts (1 ∷ []) (1 ∷ []) ≡ false
-unfolding whole_lines_of unfinished_line_of command_of natural_in tenant_in number_in bytes_in hex_on_literals digits
-itself-no_conflict = refl
+keys-conflict : map (λ k. conflicts k (1 ∷ [])) ((1 ∷ 0 ∷ []) ∷ (1 ∷ []) ∷ []) ≡ true ∷ false ∷ []
+keys-conflict = refl
 
 full_key-of_258 : full_key 258 (7 ∷ []) ≡ 0 ∷ 0 ∷ 1 ∷ 2 ∷ 7 ∷ []
-unfolding whole_lines_of unfinished_line_of command_of natural_in tenant_in number_in bytes_in hex_on_literals digits
 full_key-of_258 = refl
 
 number_key-below_zero : number_key_of (record { tenant = 258; key = negsuc 0; value = [] }) ≡ 0 ∷ 0 ∷ 1 ∷ 2 ∷ 127 ∷ 255 ∷ 255 ∷ 255 ∷ 255 ∷ 255 ∷ 255 ∷ 255 ∷ []
-unfolding whole_lines_of unfinished_line_of command_of natural_in tenant_in number_in bytes_in hex_on_literals digits
 number_key-below_zero = refl
 
 number-of_bytes : number_of_bytes (127 ∷ 255 ∷ 255 ∷ 255 ∷ 255 ∷ 255 ∷ 255 ∷ 255 ∷ []) ≡ negsuc 0
-unfolding whole_lines_of unfinished_line_of command_of natural_in tenant_in number_in bytes_in hex_on_literals digits
 number-of_bytes = refl
 
 -- Records: two tenants, of whom one is looked up and put in place.
@@ -160,40 +92,30 @@ other = record { tenant = 5; key = 10 ∷ 11 ∷ []; value = [] }
 abbrev two : Records
 two = record { keys = held ∷ other ∷ []; numbers = [] }
 
-own-of_five : (own 5 two).keys ≡ (10 ∷ 11 ∷ [], []) ∷ []
-unfolding whole_lines_of unfinished_line_of command_of natural_in tenant_in number_in bytes_in hex_on_literals digits
-own-of_five = refl
-
-own-of_none : (own 3 two).keys ≡ []
-unfolding whole_lines_of unfinished_line_of command_of natural_in tenant_in number_in bytes_in hex_on_literals digits
-own-of_none = refl
+own-of_two : map (λ t. (own t two).keys) (5 ∷ 3 ∷ []) ≡ ((10 ∷ 11 ∷ [], []) ∷ []) ∷ [] ∷ []
+own-of_two = refl
 
 with_own-of_two : (with_own 2 (record { keys = []; numbers = [] }) two).keys ≡ other ∷ []
-unfolding whole_lines_of unfinished_line_of command_of natural_in tenant_in number_in bytes_in hex_on_literals digits
 with_own-of_two = refl
 
 -- Replies, to one line and as a dump.
 
-reply-of_get : reply_to two (codes "get 2 0a") ≡ codes "is 61" ++ 10 ∷ []
-unfolding whole_lines_of unfinished_line_of command_of natural_in tenant_in number_in bytes_in hex_on_literals digits
-reply-of_get = refl
-
-reply-of_conflict : reply_to two (codes "put 5 0a 00") ≡ codes "conflict" ++ 10 ∷ []
-unfolding whole_lines_of unfinished_line_of command_of natural_in tenant_in number_in bytes_in hex_on_literals digits
-reply-of_conflict = refl
+replies-of_two : map (reply_to two) (codes "get 2 0a" ∷ codes "put 5 0a 00" ∷ []) ≡ (codes "is 61" ++ 10 ∷ []) ∷ (codes "conflict" ++ 10 ∷ []) ∷ []
+unfolding computed
+replies-of_two = refl
 
 dump-of_two : flat_map line_of (dump_of two) ≡ text (codes "put 2 0a 61" ∷ codes "put 5 0a0b -" ∷ codes "end 2" ∷ [])
-unfolding whole_lines_of unfinished_line_of command_of natural_in tenant_in number_in bytes_in hex_on_literals digits
+unfolding computed
 dump-of_two = refl
 
 audit-of_two : flat_map line_of (audit_lines two) ≡ text (codes "bytes 2 1 0 0 0 0" ∷ codes "numbers 0 0 0 0 0 0" ∷ [])
-unfolding whole_lines_of unfinished_line_of command_of natural_in tenant_in number_in bytes_in hex_on_literals digits
+unfolding computed
 audit-of_two = refl
 
 -- Refusals: a put may find no memory, the drop of a tenant that has nothing may not.
 
 put-may_refuse : LineMayRefuse two (codes "put 1 0a -")
-unfolding whole_lines_of unfinished_line_of command_of natural_in tenant_in number_in bytes_in hex_on_literals digits
+unfolding computed
 put-may_refuse = (of_tenant 1 (put (10 ∷ []) []), record { short = lit≤ tt; read = (refl, ((refl, lit< tt), (refl, (refl, tt)))) }, tt)
 
 drop_of_nothing-may_not_refuse : MayRefuse no_records (of_tenant 7 drop) → ⊥
@@ -202,78 +124,72 @@ drop_of_nothing-may_not_refuse (inr numbers) = numbers.0 refl
 
 -- Outcomes of lines.
 
-nothing-gives_nothing : told [] ≡ []
-unfolding whole_lines_of unfinished_line_of command_of natural_in tenant_in number_in bytes_in hex_on_literals digits
-nothing-gives_nothing = refl
-
-empty_line-is_bad : told (10 ∷ []) ≡ text (codes "bad" ∷ [])
-unfolding whole_lines_of unfinished_line_of command_of natural_in tenant_in number_in bytes_in hex_on_literals digits
-empty_line-is_bad = refl
-
-keys-conflict_within_a_tenant : told (text (codes "put 1 0a 61" ∷ codes "put 1 0a0b 62" ∷ codes "put 2 0a0b 63" ∷ codes "put 1 0a 64" ∷ codes "dump" ∷ []))
-    ≡ text (codes "new" ∷ codes "conflict" ∷ codes "new" ∷ codes "old 61" ∷ codes "put 1 0a 64" ∷ codes "put 2 0a0b 63" ∷ codes "end 2" ∷ [])
-unfolding whole_lines_of unfinished_line_of command_of natural_in tenant_in number_in bytes_in hex_on_literals digits
-keys-conflict_within_a_tenant = refl
-
-last_line-without_newline : told (text (codes "put 7 0a0b 6869" ∷ codes "get 7 0a0b" ∷ []) ++ codes "get 8 0a0b")
-    ≡ text (codes "new" ∷ codes "is 6869" ∷ codes "none" ∷ [])
-unfolding whole_lines_of unfinished_line_of command_of natural_in tenant_in number_in bytes_in hex_on_literals digits
-last_line-without_newline = refl
+-- of no line, of an empty one, and of a last one without a newline
+texts-told : map told ([] ∷ (10 ∷ []) ∷ (text (codes "put 7 0a0b 6869" ∷ codes "get 7 0a0b" ∷ []) ++ codes "get 8 0a0b") ∷ [])
+    ≡ [] ∷ text (codes "bad" ∷ []) ∷ text (codes "new" ∷ codes "is 6869" ∷ codes "none" ∷ []) ∷ []
+unfolding computed
+texts-told = refl
 
 misspelt-is_bad : told (text (codes "get  1 0a" ∷ codes "get 1 0" ∷ codes "PUT 1 0a 61" ∷ codes "nget 1 -0" ∷ codes "put 1 0a" ∷ codes "end 2" ∷ []))
-    ≡ text (codes "bad" ∷ codes "bad" ∷ codes "bad" ∷ codes "bad" ∷ codes "bad" ∷ codes "bad" ∷ [])
-unfolding whole_lines_of unfinished_line_of command_of natural_in tenant_in number_in bytes_in hex_on_literals digits
+    ≡ text (replicate 6 (codes "bad"))
+unfolding computed
 misspelt-is_bad = refl
+
+-- keys of one tenant conflict, those of two don't
+keys-conflict_within_a_tenant : told (text (codes "put 1 0a 61" ∷ codes "put 1 0a0b 62" ∷ codes "put 2 0a0b 63" ∷ codes "put 1 0a 64" ∷ codes "dump" ∷ []))
+    ≡ text (codes "new" ∷ codes "conflict" ∷ codes "new" ∷ codes "old 61" ∷ codes "put 1 0a 64" ∷ codes "put 2 0a0b 63" ∷ codes "end 2" ∷ [])
+unfolding computed
+keys-conflict_within_a_tenant = refl
 
 tenants-in_number_order : told (text (codes "put 256 00 61" ∷ codes "put 1 00 62" ∷ codes "put 2 AB 4A" ∷ codes "dump" ∷ []))
     ≡ text (codes "new" ∷ codes "new" ∷ codes "new" ∷ codes "put 1 00 62" ∷ codes "put 2 ab 4a" ∷ codes "put 256 00 61" ∷ codes "end 3" ∷ [])
-unfolding whole_lines_of unfinished_line_of command_of natural_in tenant_in number_in bytes_in hex_on_literals digits
+unfolding computed
 tenants-in_number_order = refl
 
 -- a key takes the place of all that it begins or extends, and is found by a longer one
 keys-put_over_others : told (text (codes "put 3 616262 61" ∷ codes "put 3 62 62" ∷ codes "over 3 6162 6363" ∷ codes "find 3 616263" ∷ codes "list 3 -" ∷ []))
     ≡ text (codes "new" ∷ codes "new" ∷ codes "over 1" ∷ codes "at 6162 6363" ∷ codes "6162 6363" ∷ codes "62 62" ∷ codes "end 2" ∷ [])
-unfolding whole_lines_of unfinished_line_of command_of natural_in tenant_in number_in bytes_in hex_on_literals digits
+unfolding computed
 keys-put_over_others = refl
 
 keys-deleted : told (text (codes "put 1 0a 61" ∷ codes "del 1 0a" ∷ codes "del 1 0a" ∷ codes "dump" ∷ [])) ≡ text (codes "new" ∷ codes "gone 61" ∷ codes "none" ∷ codes "end 0" ∷ [])
-unfolding whole_lines_of unfinished_line_of command_of natural_in tenant_in number_in bytes_in hex_on_literals digits
+unfolding computed
 keys-deleted = refl
 
 -- all that a tenant has is dropped, and another's stays
 tenants-dropped : told (text (codes "put 1 0a 61" ∷ codes "put 2 0a 62" ∷ codes "nput 1 5 63" ∷ codes "drop 1" ∷ codes "drop 1" ∷ codes "dump" ∷ []))
     ≡ text (codes "new" ∷ codes "new" ∷ codes "new" ∷ codes "dropped 2" ∷ codes "dropped 0" ∷ codes "put 2 0a 62" ∷ codes "end 1" ∷ [])
-unfolding whole_lines_of unfinished_line_of command_of natural_in tenant_in number_in bytes_in hex_on_literals digits
+unfolding computed
 tenants-dropped = refl
 
 -- bounds may end within a key, and are told where they are not in order
 keys-between_bounds : told (text (codes "put 1 0a 61" ∷ codes "put 1 0b0101 62" ∷ codes "put 1 0c 63" ∷ codes "span 1 0a 0b02" ∷ codes "span 1 0b 0a" ∷ codes "list 1 0b" ∷ []))
     ≡ text (codes "new" ∷ codes "new" ∷ codes "new" ∷ codes "0a 61" ∷ codes "0b0101 62" ∷ codes "end 2" ∷ codes "bounds" ∷ codes "0b0101 62" ∷ codes "end 1" ∷ [])
-unfolding whole_lines_of unfinished_line_of command_of natural_in tenant_in number_in bytes_in hex_on_literals digits
+unfolding computed
 keys-between_bounds = refl
 
 -- numbers ascend, and are told behind all keys
 numbers-in_order : told (text (codes "nput 5 -1 61" ∷ codes "nput 5 256 62" ∷ codes "nput 5 -300 63" ∷ codes "nput 5 256 64" ∷ codes "put 6 0a 65" ∷ codes "nspan 5 -300 0" ∷ codes "dump" ∷ []))
     ≡ text (codes "new" ∷ codes "new" ∷ codes "new" ∷ codes "old 62" ∷ codes "new" ∷ codes "-300 63" ∷ codes "-1 61" ∷ codes "end 2"
     ∷ codes "put 6 0a 65" ∷ codes "nput 5 -300 63" ∷ codes "nput 5 -1 61" ∷ codes "nput 5 256 64" ∷ codes "end 4" ∷ [])
-unfolding whole_lines_of unfinished_line_of command_of natural_in tenant_in number_in bytes_in hex_on_literals digits
+unfolding computed
 numbers-in_order = refl
 
 numbers-deleted : told (text (codes "nput 1 5 61" ∷ codes "nget 1 5" ∷ codes "ndel 1 5" ∷ codes "ndel 1 5" ∷ codes "nget 1 5" ∷ codes "nspan 1 5 4" ∷ []))
     ≡ text (codes "new" ∷ codes "is 61" ∷ codes "gone 61" ∷ codes "none" ∷ codes "none" ∷ codes "bounds" ∷ [])
-unfolding whole_lines_of unfinished_line_of command_of natural_in tenant_in number_in bytes_in hex_on_literals digits
+unfolding computed
 numbers-deleted = refl
 
 -- a line of 4096 bytes, and one of 4097 behind it
 long_line-is_bad_once : told (text ((codes "put 1 " ++ replicate 4088 97 ++ codes " -") ∷ (codes "put 10 " ++ replicate 4088 97 ++ codes " -") ∷ codes "get 1 00" ∷ []))
     ≡ text (codes "new" ∷ codes "bad" ∷ codes "none" ∷ [])
-unfolding whole_lines_of unfinished_line_of command_of natural_in tenant_in number_in bytes_in hex_on_literals digits
+unfolding computed
 long_line-is_bad_once = refl
 
 -- the second line finds no memory
 refused_line-changes_nothing : answers no_records ((codes "put 1 0a 61", false) ∷ (codes "put 1 0b 62", true) ∷ (codes "dump", false) ∷ [])
     ≡ text (codes "new" ∷ codes "memory" ∷ codes "put 1 0a 61" ∷ codes "end 1" ∷ [])
-unfolding whole_lines_of unfinished_line_of command_of natural_in tenant_in number_in bytes_in hex_on_literals digits
+unfolding computed
 refused_line-changes_nothing = refl
 
 -- Faults: a read that fails behind an unfinished line, and a sink that fails within a reply.
@@ -285,7 +201,7 @@ one_record : Records
 one_record = record { keys = (record { tenant = 1; key = 10 ∷ []; value = 97 ∷ [] }) ∷ []; numbers = [] }
 
 put-done : IsLineDone false empty (codes "put 1 0a 61") (record { records = one_record; reads = 0 ∷ []; ahead = 0 ∷ [] })
-unfolding one_record whole_lines_of unfinished_line_of command_of natural_in tenant_in number_in bytes_in hex_on_literals digits
+unfolding one_record computed
 put-done = record {
   lawful = λ no_memory. absurd (false≢true no_memory);
   left = refl;
@@ -300,7 +216,7 @@ put-done = record {
 }
 
 read_fault-behind_a_line : IsOutcome empty (whole_lines_of (codes "put 1 0a 61" ++ 10 ∷ codes "get 1 0")) (codes "new" ++ 10 ∷ []) (record { records = one_record; reads = 0 ∷ []; ahead = 0 ∷ [] })
-unfolding one_record whole_lines_of unfinished_line_of command_of natural_in tenant_in number_in bytes_in hex_on_literals digits
+unfolding one_record computed
 read_fault-behind_a_line = record { asked = (codes "put 1 0a 61", false) ∷ []; are = refl; told = refl; done = (record { records = one_record; reads = 0 ∷ []; ahead = 0 ∷ [] }, put-done, refl) }
 
 -- one byte of three was taken, behind another
@@ -309,7 +225,7 @@ text-cut_behind_a_byte = record { begun = codes "n"; missing = codes "ew"; is_cu
 
 -- a put was carried out, and of its answer nothing was taken
 line-cut_at_once : IsCutLine empty (codes "put 1 0a 61") (codes "o") (codes "o") (unread one_record)
-unfolding one_record whole_lines_of unfinished_line_of command_of natural_in tenant_in number_in bytes_in hex_on_literals digits
+unfolding one_record computed
 line-cut_at_once = record {
   memory = false;
   lawful = λ no_memory. absurd (false≢true no_memory);
@@ -321,7 +237,7 @@ line-cut_at_once = record {
 
 -- or a beginning was
 line-cut_within : IsCutLine empty (codes "put 1 0a 61") [] (codes "ne") (unread one_record)
-unfolding one_record whole_lines_of unfinished_line_of command_of natural_in tenant_in number_in bytes_in hex_on_literals digits
+unfolding one_record computed
 line-cut_within = record {
   memory = false;
   lawful = λ no_memory. absurd (false≢true no_memory);
@@ -348,20 +264,9 @@ at_key tenant key value = record { tenant = tenant; key = key ∷ []; value = va
 abbrev of_two : Records
 of_two = record { keys = at_key 1 170 97 ∷ at_key 1 187 98 ∷ at_key 2 170 99 ∷ []; numbers = [] }
 
-visits-of_a_key : visits_of (Some (of_tenant 1 (get (170 ∷ [])))) of_two ≡ exactly 3
-visits-of_a_key = refl
-
-visits-of_no_key : visits_of (Some (of_tenant 3 (get (170 ∷ [])))) of_two ≡ exactly 1
-visits-of_no_key = refl
-
-visits-of_a_list : visits_of (Some (of_tenant 1 (list []))) of_two ≡ record { least = 2; most = 86 }
-visits-of_a_list = refl
-
-visits-of_a_drop : visits_of (Some (of_tenant 1 drop)) of_two ≡ record { least = 4; most = 143 }
-visits-of_a_drop = refl
-
-visits-of_a_dump : visits_of (Some dump) of_two ≡ exactly 0
-visits-of_a_dump = refl
+visits-of_commands : map (λ c. visits_of (Some c) of_two) (of_tenant 1 (get (170 ∷ [])) ∷ of_tenant 3 (get (170 ∷ [])) ∷ of_tenant 1 (list []) ∷ of_tenant 1 drop ∷ dump ∷ [])
+    ≡ exactly 3 ∷ exactly 1 ∷ record { least = 2; most = 86 } ∷ record { least = 4; most = 143 } ∷ exactly 0 ∷ []
+visits-of_commands = refl
 
 path-of_its_own : path_nodes full_key_of (at_key 1 170 97 ∷ at_key 1 187 98 ∷ []) (full_key 1 (170 ∷ [])) ≡ 2
 path-of_its_own = refl
@@ -372,14 +277,5 @@ shares-one_front = refl
 -- What is read ahead of a line: six nodes at most of a key of one byte, and none of bounds out of order, of a line that is
 -- bad or of one that puts.
 
-ahead-of_a_key : most_ahead (Some (of_tenant 1 (get (170 ∷ [])))) ≡ 6
-ahead-of_a_key = refl
-
-ahead-of_a_tenant : most_ahead (Some (of_tenant 1 (list []))) ≡ 5
-ahead-of_a_tenant = refl
-
-ahead-of_bounds : most_ahead (Some (of_tenant 1 (span (2 ∷ []) (1 ∷ [])))) ≡ 0
-ahead-of_bounds = refl
-
-ahead-of_a_bad_line : most_ahead None ≡ 0
-ahead-of_a_bad_line = refl
+ahead-of_lines : map most_ahead (Some (of_tenant 1 (get (170 ∷ []))) ∷ Some (of_tenant 1 (list [])) ∷ Some (of_tenant 1 (span (2 ∷ []) (1 ∷ []))) ∷ None ∷ []) ≡ 6 ∷ 5 ∷ 0 ∷ 0 ∷ []
+ahead-of_lines = refl

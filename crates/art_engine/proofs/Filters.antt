@@ -1,27 +1,54 @@
 -- Filters of lists, one within another, and what holds of all elements.
-use Rattle.std.proofs.Common.{◌≡◌, suc, List, [], ◌∷◌, ◌++◌, length, refl, ap, sym, ◌∙◌, Bool, true, false, cond}
-use Rattle.std.specs.Prelude.{map, filter}
+use Rattle.std.proofs.Common.{◌≡◌, suc, List, [], ◌∷◌, ◌++◌, length, refl, ap, ap₂, sym, ◌∙◌, Bool, true, false, cond}
+use Rattle.std.specs.Prelude.{◌&&◌, map, filter}
+use Rattle.std.proofs.lemmas.Bool.{cond_both, false_from_ne_true, true≢false}
 use Rattle.std.specs.List.{AllByRecursion}
 
 module _ {X : Type 0} where
+  -- what holds of each element holds of all in a list
+  pub All-each : (P : X → Type 0) → ((x : X) → P x) → (xs : List X) → AllByRecursion P xs
+  All-each P each [] = tt
+  All-each P each (x ∷ xs) = (each x, All-each P each xs)
+
   pub filter-apart : (p q : X → Bool) → ((x : X) → q x ≡ true → p x ≡ false) → (xs : List X) → filter p (filter q xs) ≡ []
   filter-apart p q apart [] = refl
-  filter-apart p q apart (x ∷ xs) = go (q x) refl (filter-apart p q apart xs)
-    where
-      go : (b : Bool) → q x ≡ b → filter p (filter q xs) ≡ [] → filter p (cond b (x ∷ filter q xs) (filter q xs)) ≡ []
-      go true e ih = rw (apart x e) ih
-      go false e ih = ih
+  filter-apart p q apart (x ∷ xs) =
+      let ih = filter-apart p q apart xs in
+      cond_both (q x) (x ∷ filter q xs) (filter q xs) (λ l. filter p l ≡ []) (λ e. rw (apart x e) ih) (λ e. ih)
+
+  -- a test within another one that all pass which pass it
+  pub filter-inside : (p q : X → Bool) (xs : List X) → AllByRecursion (λ x. p x ≡ true → q x ≡ true) xs → filter p (filter q xs) ≡ filter p xs
+  filter-inside p q [] h = refl
+  filter-inside p q (x ∷ xs) h =
+      let ih = filter-inside p q xs h.1 in
+      cond_both (q x) (x ∷ filter q xs) (filter q xs) (λ l. filter p l ≡ filter p (x ∷ xs)) (λ e. ap (λ l. cond (p x) (x ∷ l) l) ih)
+      (λ e. let not_passed = false_from_ne_true (p x) (λ f. true≢false (sym (h.0 f) ∙ e)) in rw not_passed ih)
 
   pub filter-within : (p q : X → Bool) → ((x : X) → p x ≡ true → q x ≡ true) → (xs : List X) → filter p (filter q xs) ≡ filter p xs
-  filter-within p q within [] = refl
-  filter-within p q within (x ∷ xs) = go (p x) (q x) refl refl (filter-within p q within xs)
+  filter-within p q within xs = filter-inside p q xs (All-each (λ x. p x ≡ true → q x ≡ true) within xs)
+
+  -- two tests that give one answer
+  pub filter-same : (p q : X → Bool) (xs : List X) → AllByRecursion (λ x. p x ≡ q x) xs → filter p xs ≡ filter q xs
+  filter-same p q [] h = refl
+  filter-same p q (x ∷ xs) h = let first = h.0 in rw first (ap (λ l. cond (q x) (x ∷ l) l) (filter-same p q xs h.1))
+
+  -- one test behind another
+  pub filter-both : (p q : X → Bool) (xs : List X) → filter (λ x. p x && q x) xs ≡ filter q (filter p xs)
+  filter-both p q [] = refl
+  filter-both p q (x ∷ xs) = go (p x) (filter-both p q xs)
     where
-      go : (a b : Bool) → p x ≡ a → q x ≡ b → filter p (filter q xs) ≡ filter p xs
-          → filter p (cond b (x ∷ filter q xs) (filter q xs)) ≡ cond a (x ∷ filter p xs) (filter p xs)
-      go true true e f ih = rw e (ap (λ l. x ∷ l) ih)
-      go true false e f ih = let g = sym f ∙ within x e in cc
-      go false true e f ih = rw e ih
-      go false false e f ih = ih
+      go : (b : Bool) → filter (λ x. p x && q x) xs ≡ filter q (filter p xs)
+          → cond (b && q x) (x ∷ filter (λ x. p x && q x) xs) (filter (λ x. p x && q x) xs) ≡ filter q (cond b (x ∷ filter p xs) (filter p xs))
+      go true ih = ap (λ l. cond (q x) (x ∷ l) l) ih
+      go false ih = ih
+
+  pub All-passes : (p : X → Bool) (xs : List X) → AllByRecursion (λ x. p x ≡ true) (filter p xs)
+  All-passes p [] = tt
+  All-passes p (x ∷ xs) = let ih = All-passes p xs in cond_both (p x) (x ∷ filter p xs) (filter p xs) (AllByRecursion (λ x. p x ≡ true)) (λ e. (e, ih)) (λ e. ih)
+
+  pub All-filter : (P : X → Type 0) (p : X → Bool) (xs : List X) → AllByRecursion P xs → AllByRecursion P (filter p xs)
+  All-filter P p [] h = tt
+  All-filter P p (x ∷ xs) h = let ih = All-filter P p xs h.1 in cond_both (p x) (x ∷ filter p xs) (filter p xs) (AllByRecursion P) (λ e. (h.0, ih)) (λ e. ih)
 
   pub filter-all : (p : X → Bool) (xs : List X) → AllByRecursion (λ x. p x ≡ true) xs → filter p xs ≡ xs
   filter-all p [] h = refl
@@ -47,7 +74,36 @@ module _ {X : Type 0} where
   All-right P [] ys h = h
   All-right P (x ∷ xs) ys h = All-right P xs ys h.1
 
-module _ {X Y : Type 0} where
-  pub length-map : (f : X → Y) (xs : List X) → length (map f xs) ≡ length xs
-  length-map f [] = refl
-  length-map f (x ∷ xs) = ap suc (length-map f xs)
+module _ {X Y : Type 0} (f : X → Y) where
+  pub length-map : (xs : List X) → length (map f xs) ≡ length xs
+  length-map [] = refl
+  length-map (x ∷ xs) = ap suc (length-map xs)
+
+  pub All-mapped : (P : Y → Type 0) (xs : List X) → AllByRecursion (λ x. P (f x)) xs → AllByRecursion P (map f xs)
+  All-mapped P [] h = tt
+  All-mapped P (x ∷ xs) h = (h.0, All-mapped P xs h.1)
+
+  -- a test of what is made of the elements
+  pub map-filter : (q : Y → Bool) (xs : List X) → map f (filter (λ x. q (f x)) xs) ≡ filter q (map f xs)
+  map-filter q [] = refl
+  map-filter q (x ∷ xs) = go (q (f x)) (map-filter q xs)
+    where
+      go : (b : Bool) → map f (filter (λ x. q (f x)) xs) ≡ filter q (map f xs)
+          → map f (cond b (x ∷ filter (λ x. q (f x)) xs) (filter (λ x. q (f x)) xs)) ≡ cond b (f x ∷ filter q (map f xs)) (filter q (map f xs))
+      go true ih = ap (λ l. f x ∷ l) ih
+      go false ih = ih
+
+  -- the elements that pass are made into what passes
+  pub filter-mapped : (p : X → Bool) (q : Y → Bool) (xs : List X) → AllByRecursion (λ x. p x ≡ q (f x)) xs → map f (filter p xs) ≡ filter q (map f xs)
+  filter-mapped p q xs same = ap (map f) (filter-same p (λ x. q (f x)) xs same) ∙ map-filter q xs
+
+-- what is made of elements, in two ways that come to the same
+module _ {X Y Z : Type 0} (f : Y → Z) (r : X → Y) (g : X → Z) where
+  pub map-alike : (xs : List X) → AllByRecursion (λ x. f (r x) ≡ g x) xs → map f (map r xs) ≡ map g xs
+  map-alike [] h = refl
+  map-alike (x ∷ xs) h = ap₂ (λ z zs. z ∷ zs) h.0 (map-alike xs h.1)
+
+  -- and of those that pass
+  pub filter-alike : (p : X → Bool) (q : Y → Bool) (xs : List X) → AllByRecursion (λ x. p x ≡ q (r x)) xs → AllByRecursion (λ x. f (r x) ≡ g x) xs
+      → map f (filter q (map r xs)) ≡ map g (filter p xs)
+  filter-alike p q xs same alike = ap (map f) (sym (filter-mapped r p q xs same)) ∙ map-alike (filter p xs) (All-filter (λ x. f (r x) ≡ g x) p xs alike)

@@ -1,21 +1,15 @@
 -- Full keys: their order is that of tenants and then keys, and they conflict where one tenant's keys do.
-use Rattle.std.proofs.Common.{◌≡◌, ℕ, suc, [], ◌∷◌, drop, ◌+◌, ◌*◌, ◌/◌, ◌%◌, ◌^◌, ◌<◌, ◌≤◌, List, length, take, refl, ap, sym, ◌∙◌, subst, Bool, true, false, arith, inl, inr}
-use Rattle.std.specs.Prelude.{◌==◌, ◌||◌, ◌&&◌, nat_lt, nat_eq, map, filter, cond}
-use Rattle.std.specs.List.{AllByRecursion}
+use Rattle.std.proofs.Common.{◌≡◌, ℕ, suc, ◌+◌, ◌*◌, ◌/◌, ◌%◌, ◌^◌, ◌<◌, ◌≤◌, List, length, take, refl, ap, sym, ◌∙◌, subst, Bool, true, false, arith, inl, inr}
+use Rattle.std.specs.Prelude.{◌==◌, ◌||◌, ◌&&◌, nat_lt, nat_eq}
 use Rattle.std.specs.declared.cmp.Ordering.{Ordering}
 use Rattle.std.specs.declared.cmp.Ordering.TheVariants.{Less, Equal, Greater}
 use Rattle.std.specs.Ordering.{nat_cmp, is_lt, ordering_then}
 use Rattle.std.specs.Cmp.Lexicographic.{slice_cmp, pointwise}
-use Rattle.std.proofs.lemmas.Bool.{eq-eqb, ne_eqb, eqb-true, lt-ltb, le-ltb, cases_lt, true≢false, and_parts}
-use Rattle.art_bytes.specs.Keys.{is_proper_front, conflicts, IsBefore}
-use Rattle.art_bytes.proofs.Order.{cmp_before}
-use Rattle.art_bytes.proofs.Conflicts.{conflict_told}
-use Rattle.art_arena.specs.tree.Tenants.{begins_with, with_front}
-use Rattle.art_engine.specs.Records.{KeyRecord, KeyComesBefore}
-use Rattle.art_engine.specs.Stored.{Pair, IsFull, record_of, IsOfTenant}
+use Rattle.std.proofs.lemmas.Bool.{eq-eqb, ne_eqb, eqb-true, lt-ltb, le-ltb, cases_eq, cases_lt, true≢false, and_parts}
+use Rattle.art_bytes.proofs.Common.{is_proper_front, conflicts, IsBefore, cmp_before, conflict_told}
+use Rattle.art_engine.proofs.Terms.{KeyRecord, KeyComesBefore, FullKeysKeepOrder, FullKeysKeepConflicts}
 use Rattle.art_engine.proofs.Standing.{cmp_less}
-use Rattle.art_lines.specs.Keys.{full_key}
-use Rattle.art_engine.specs.Laws.{FullKeysKeepOrder, FullKeysKeepConflicts}
+use Rattle.art_lines.proofs.Common.{full_key}
 
 pub cmp_low : (t u : ℕ) → t < u → nat_cmp t u ≡ Less
 cmp_low t u h = rw (lt-ltb t u h) refl
@@ -123,15 +117,18 @@ front-full_key t u k j ht hu = go (t == u) refl
         ht hu refl refl refl refl (λ same. true≢false (sym (eq-eqb t u same) ∙ e)))
         ∙ and_false (nat_lt (length (full_key t k)) (length (full_key u j)))
 
+pub eq_turned : (t u : ℕ) → (t == u) ≡ (u == t)
+eq_turned t u = elim (cases_eq t u) [
+  | inl same ↦ eq-eqb t u same ∙ sym (eq-eqb u t (sym same))
+  | inr other ↦ ne_eqb t u other ∙ sym (ne_eqb u t (λ e. other (sym e)))
+]
+
+pub both_or : (a b c : Bool) → ((a && b) || (a && c)) ≡ (a && (b || c))
+both_or true b c = refl
+both_or false b c = refl
+
 pub full_keys_keep_conflicts : FullKeysKeepConflicts
-full_keys_keep_conflicts t u k j ht hu =
-    rw (front-full_key t u k j ht hu, front-full_key u t j k hu ht) (go (t == u) (u == t) refl refl)
-  where
-    go : (a b : Bool) → (t == u) ≡ a → (u == t) ≡ b → ((a && is_proper_front k j) || (b && is_proper_front j k)) ≡ (a && (is_proper_front k j || is_proper_front j k))
-    go true true e f = refl
-    go false false e f = refl
-    go true false e f = let same = eqb-true t u e in absurd (true≢false (sym (eq-eqb u t (sym same)) ∙ f))
-    go false true e f = let same = eqb-true u t f in absurd (true≢false (sym (eq-eqb t u (sym same)) ∙ e))
+full_keys_keep_conflicts t u k j ht hu = rw (front-full_key t u k j ht hu, front-full_key u t j k hu ht, eq_turned u t) (both_or (t == u) (is_proper_front k j) (is_proper_front j k))
 
 -- full keys of records in order are in order, and neither is a front of the other
 pub full_before : (r s : KeyRecord) → r.tenant < 2 ^ 32 → s.tenant < 2 ^ 32 → KeyComesBefore r s → IsBefore (full_key r.tenant r.key) (full_key s.tenant s.key)
@@ -148,38 +145,3 @@ full_before r s rs ss before =
     free : KeyComesBefore r s → ((r.tenant == s.tenant) && conflicts r.key s.key) ≡ true → ⊥
     free (inl low) h = true≢false (sym h ∙ rw (ne_eqb r.tenant s.tenant (λ e. omega arith)) refl)
     free (inr up) h = true≢false (sym (and_parts _ _ h).1 ∙ up.2)
-
--- a full key begins with a tenant's front where it is that tenant's
-pub begins-full_key : (t u : ℕ) (j : List ℕ) → t < 2 ^ 32 → u < 2 ^ 32 → begins_with (full_key t []) (full_key u j) ≡ (u == t)
-begins-full_key t u j ht hu = go (u == t) refl
-  where
-    go : (b : Bool) → (u == t) ≡ b → begins_with (full_key t []) (full_key u j) ≡ b
-    go true e = subst (λ v. begins_with (full_key t []) (full_key v j) ≡ true) (sym (eqb-true u t e))
-        (rw (eq-eqb (t / 16777216 % 256) (t / 16777216 % 256) refl, eq-eqb (t / 65536 % 256) (t / 65536 % 256) refl, eq-eqb (t / 256 % 256) (t / 256 % 256) refl, eq-eqb (t % 256) (t % 256) refl) refl)
-    go false e =
-        apart t u (t / 16777216 % 256 == u / 16777216 % 256) (t / 65536 % 256 == u / 65536 % 256) (t / 256 % 256 == u / 256 % 256) (t % 256 == u % 256) true
-        ht hu refl refl refl refl (λ same. true≢false (sym (eq-eqb u t (sym same)) ∙ e))
-
--- two lists of which each item is kept or not by the same test, and comes to the same
-pub keeps_both : {X Y Z : Type 0} (f : X → Z) (g : Y → Z) (b c : Bool) (x : X) (y : Y) (xs : List X) (ys : List Y) → b ≡ c → f x ≡ g y → map f xs ≡ map g ys
-    → map f (cond b (x ∷ xs) xs) ≡ map g (cond c (y ∷ ys) ys)
-keeps_both f g true true x y xs ys e same rest = rw (same, rest) refl
-keeps_both f g false false x y xs ys e same rest = rest
-keeps_both f g true false x y xs ys e same rest = absurd (true≢false e)
-keeps_both f g false true x y xs ys e same rest = absurd (true≢false (sym e))
-
-abbrev under_key : KeyRecord → List ℕ × List ℕ
-under_key r = (r.key, r.value)
-
-abbrev cut_off : Pair → List ℕ × List ℕ
-cut_off p = (drop 4 p.0.items, p.1.items)
-
-pub behind_front : (t : ℕ) → t < 2 ^ 32 → (ps : List Pair) → AllByRecursion IsFull ps → AllByRecursion IsOfTenant (map record_of ps)
-    → map under_key (filter (λ (r : KeyRecord). r.tenant == t) (map record_of ps))
-    ≡ map cut_off (with_front (λ (p : Pair). p.0.items) (full_key t []) ps)
-behind_front t small [] full fits = refl
-behind_front t small (p ∷ ps) full fits =
-    let r = record_of p in
-    let front : begins_with (full_key t []) p.0.items ≡ (r.tenant == t) = ap (begins_with (full_key t [])) full.0 ∙ begins-full_key t r.tenant r.key small fits.0 in
-    keeps_both under_key cut_off (r.tenant == t) (begins_with (full_key t []) p.0.items) r p
-    (filter (λ (r : KeyRecord). r.tenant == t) (map record_of ps)) (with_front (λ (p : Pair). p.0.items) (full_key t []) ps) (sym front) refl (behind_front t small ps full.1 fits.1)

@@ -1,20 +1,20 @@
 -- Tests of full keys: they pass where the tenant is the same and its key passes.
 use Rattle.std.proofs.Common.{◌≡◌, ℕ, ◌<◌, ◌^◌, ◌/◌, ◌%◌, List, refl, ap, sym, ◌∙◌, subst, Bool, true, false, not, arith, inl, inr}
-use Rattle.std.specs.Prelude.{◌==◌, ◌||◌, ◌&&◌}
+use Rattle.std.specs.Prelude.{◌==◌, ◌&&◌}
 use Rattle.std.specs.Str.{bytes_eq}
-use Rattle.std.specs.declared.cmp.Ordering.{Ordering}
-use Rattle.std.specs.declared.cmp.Ordering.TheVariants.{Less, Equal, Greater}
+use Rattle.std.specs.declared.cmp.Ordering.TheVariants.{Equal}
 use Rattle.std.specs.declared.ops.Bound.TheVariants.{Included, Excluded}
-use Rattle.std.specs.Ordering.{nat_cmp, is_le, is_lt, is_gt, ordering_then, ordering_reverse}
+use Rattle.std.specs.Ordering.{nat_cmp, is_le, is_gt, ordering_then}
 use Rattle.std.specs.Cmp.Lexicographic.{slice_cmp}
 use Rattle.std.specs.BTreeMap.Range.{IsLeBy, range_contains}
 use Rattle.std.proofs.lemmas.Bool.{eq-eqb, ne_eqb, eqb-true, cases_lt, true≢false}
 use Rattle.std.proofs.lemmas.Cmp.{nat_list_cmp_total}
-use Rattle.art_bytes.specs.Keys.{is_below, bytes_cmp}
-use Rattle.art_arena.specs.tree.Tenants.{begins_with}
-use Rattle.art_operations.specs.KeyedLists.{overlaps}
-use Rattle.art_lines.specs.Keys.{full_key}
-use Rattle.art_engine.proofs.FullKeys.{apart, cmp-full_key, cmp_low, cmp_high, cmp_itself}
+use Rattle.art_bytes.proofs.Common.{is_below, bytes_cmp}
+use Rattle.art_arena.proofs.Common.{begins_with}
+use Rattle.art_operations.proofs.Common.{overlaps}
+use Rattle.art_lines.proofs.Common.{full_key}
+use Rattle.art_engine.proofs.FullKeys.{apart, both_or, cmp-full_key, cmp_low, cmp_high, cmp_itself, eq_turned}
+use Rattle.art_engine.proofs.Standing.{le-reverse, not_gt-reverse}
 
 -- a front of a full key, with the tenant whole
 pub begins_full : (t u : ℕ) (k j : List ℕ) → t < 2 ^ 32 → u < 2 ^ 32 → begins_with (full_key t k) (full_key u j) ≡ ((u == t) && begins_with k j)
@@ -38,31 +38,13 @@ same_full t u k j ht hu = go (u == t) refl
         apart u t (u / 16777216 % 256 == t / 16777216 % 256) (u / 65536 % 256 == t / 65536 % 256) (u / 256 % 256 == t / 256 % 256) (u % 256 == t % 256) (bytes_eq j k)
         hu ht refl refl refl refl (λ same. true≢false (sym (eq-eqb u t same) ∙ e))
 
-pub eq_turned : (t u : ℕ) → (t == u) ≡ (u == t)
-eq_turned t u = go (t == u) (u == t) refl refl
-  where
-    go : (a b : Bool) → (t == u) ≡ a → (u == t) ≡ b → a ≡ b
-    go true true e f = refl
-    go false false e f = refl
-    go true false e f = absurd (true≢false (sym (eq-eqb u t (sym (eqb-true t u e))) ∙ f))
-    go false true e f = absurd (true≢false (sym (eq-eqb t u (sym (eqb-true u t f))) ∙ e))
-
-both_or : (a b c : Bool) → ((a && b) || (a && c)) ≡ (a && (b || c))
-both_or true b c = refl
-both_or false b c = refl
-
 -- full keys that overlap
 pub overlaps_full : (t u : ℕ) (k j : List ℕ) → t < 2 ^ 32 → u < 2 ^ 32 → overlaps (full_key t k) (full_key u j) ≡ ((u == t) && overlaps k j)
 overlaps_full t u k j ht hu =
     rw (begins_full t u k j ht hu, begins_full u t j k hu ht, eq_turned t u) (both_or (u == t) (begins_with k j) (begins_with j k))
 
 le_turned : (a b : List ℕ) → is_le (slice_cmp nat_cmp a b) ≡ not (is_below b a)
-le_turned a b = ap is_le (nat_list_cmp_total.antisymm a b) ∙ go (slice_cmp nat_cmp b a)
-  where
-    go : (o : Ordering) → is_le (ordering_reverse o) ≡ not (is_lt o)
-    go Less = refl
-    go Equal = refl
-    go Greater = refl
+le_turned a b = ap is_le (nat_list_cmp_total.antisymm a b) ∙ le-reverse (slice_cmp nat_cmp b a)
 
 not_not : (b : Bool) → not (not b) ≡ b
 not_not true = refl
@@ -86,9 +68,4 @@ between_full t u low high j ht hu = rw (cmp-full_key t u low j ht hu, cmp-full_k
 pub in_order_full : (t : ℕ) (low high : List ℕ) → t < 2 ^ 32 → is_below high low ≡ false → IsLeBy bytes_cmp (full_key t low) (full_key t high)
 in_order_full t low high ht h =
     ap is_gt (cmp-full_key t t low high ht ht ∙ ap (λ o. ordering_then o (slice_cmp nat_cmp low high)) (cmp_itself t) ∙ nat_list_cmp_total.antisymm low high)
-    ∙ go (slice_cmp nat_cmp high low) h
-  where
-    go : (o : Ordering) → is_lt o ≡ false → is_gt (ordering_reverse o) ≡ false
-    go Less e = absurd (true≢false e)
-    go Equal e = refl
-    go Greater e = refl
+    ∙ not_gt-reverse (slice_cmp nat_cmp high low) h

@@ -3,32 +3,25 @@ use Rattle.std.proofs.Common.{◌≡◌, ℕ, ℤ, ◌-◌, min, ap₂, take-app
 use Rattle.std.specs.Prelude.{◌==◌, ◌&&◌, nat_lt, decimal, FitsSigned, bit_xor}
 use Rattle.std.specs.Fmt.{signed_decimal}
 use Rattle.std.specs.List.{AllByRecursion}
-use Rattle.std.specs.Int.{to_be_bytes, from_be_bytes, cast_signed, w32, w64}
+use Rattle.std.specs.Int.{to_be_bytes, from_be_bytes, w32, w64}
 use Rattle.std.proofs.lemmas.Int.{of_z-to_z}
 use borrow.Author.Gap.{read_sfits}
 use Rattle.std.proofs.lemmas.Nat.{be_bytes_4, be_bytes_8, xor_lt}
 use Rattle.std.specs.Ordering.{is_lt}
 use Rattle.std.proofs.lemmas.Bool.{eqb-true, ltb-true, or_cases, and_parts, false_from_ne_true, true≢false}
 use Rattle.std.proofs.lemmas.List.{get_or-drop, length-take-le}
-use Rattle.art_bytes.specs.Keys.{IsBefore, is_below, conflicts}
-use Rattle.art_bytes.specs.Laws.{pair_key}
-use Rattle.art_bytes.specs.Numbers.{flipped, top_bit}
-use Rattle.art_bytes.proofs.Conflicts.{told_conflict}
-use Rattle.art_arena.specs.tree.Order.{AscendsByKey}
+use Rattle.art_bytes.proofs.Common.{IsBefore, is_below, conflicts, pair_key, flipped, top_bit, told_conflict}
+use Rattle.art_arena.proofs.Common.{AscendsByKey}
 use Rattle.art_arena.proofs.tree.Lexicographic.{order_is_lexicographic}
-use Rattle.art_lines.specs.Commands.{put_words, nput_words}
-use Rattle.art_engine.specs.Held.{IsShortRecord, IsShortNumber, IsRecordIn, IsNumberRecordIn}
-use Rattle.art_engine.specs.Keys.{full_key_of, number_of_bytes}
-use Rattle.art_lines.specs.ReplyWords.{number_words}
-use Rattle.art_engine.specs.Records.{KeyRecord, InOrder, KeyComesBefore, KeyFits, NumberFits}
-use Rattle.art_engine.specs.Stored.{Pair, NumberPair, record_of, number_record_of, IsFull, IsOfTenant, ArePairs, IsNumberPair, AreNumberPairs}
-use Rattle.art_lines.specs.Words.{bytes, shown, text_of, line_of}
+use Rattle.art_lines.proofs.Common.{nput_words, number_words, bytes, shown, text_of, line_of, nput_parts, number_parts}
+use Rattle.art_engine.proofs.Terms.{IsShortRecord, IsShortNumber, IsRecordIn, IsNumberRecordIn, full_key_of, number_of_bytes, KeyRecord, InOrder, KeyComesBefore, KeyFits, NumberFits, Pair, NumberPair, record_of, number_record_of, IsFull, IsOfTenant, ArePairs, IsNumberPair, AreNumberPairs}
 use Rattle.art_engine.proofs.Conflicts.{bytes_of}
-use Rattle.art_engine.proofs.FieldLengths.{length-encode}
+use Rattle.hex.specs.Hex.{lower_digits}
+use Rattle.hex.proofs.HexLemmas.{length-encode_with}
+use Rattle.art_engine.proofs.Filters.{All-map, All-mapped}
 use Rattle.art_engine.proofs.FullKeys.{full_keys_keep_order, full_keys_keep_conflicts}
 use Rattle.art_engine.proofs.NumberKeys.{flip_back}
 use Rattle.art_lines.proofs.FullKeys.{full_key_again, tenant_small, front_small}
-use Rattle.art_lines.proofs.ReplyLines.{put_parts, nput_parts, number_parts}
 
 -- records are in order where their full keys are
 comes_before : (r s : KeyRecord) → IsOfTenant r → IsOfTenant s → IsBefore (full_key_of r) (full_key_of s) → KeyComesBefore r s
@@ -60,20 +53,10 @@ IsRecord p = IsFull p × KeyFits (record_of p)
 
 pub are_pairs : (ps : List Pair) → AscendsByKey bytes_of ps → AllByRecursion IsRecord ps → ArePairs ps
 are_pairs ps order all =
-    let full = fulls ps all in let fit = fits ps all in let small = tenants ps all in
+    let full = All-map IsRecord IsFull (λ p h. h.0) ps all in
+    let fit = All-mapped record_of KeyFits ps (All-map IsRecord (λ p. KeyFits (record_of p)) (λ p h. h.1) ps all) in
+    let small = All-map KeyFits IsOfTenant (λ r fits. fits.tenant_fits) (map record_of ps) fit in
     record { stand = record { full = full; in_order = records_in_order ps full small order; tenants = small }; fit = fit }
-  where
-    fulls : (ps : List Pair) → AllByRecursion IsRecord ps → AllByRecursion IsFull ps
-    fulls [] h = tt
-    fulls (p ∷ ps) h = (h.0.0, fulls ps h.1)
-
-    fits : (ps : List Pair) → AllByRecursion IsRecord ps → AllByRecursion KeyFits (map record_of ps)
-    fits [] h = tt
-    fits (p ∷ ps) h = (h.0.1, fits ps h.1)
-
-    tenants : (ps : List Pair) → AllByRecursion IsRecord ps → AllByRecursion IsOfTenant (map record_of ps)
-    tenants [] h = tt
-    tenants (p ∷ ps) h = (h.0.1.tenant_fits, tenants ps h.1)
 
 -- bytes behind a tenant's four
 behind_small : (n : ℕ) (xs : List ℕ) → ((i : ℕ) → get_or xs i 0 < 256) → (i : ℕ) → get_or (drop n xs) i 0 < 256
@@ -86,7 +69,7 @@ is_record full value small fine (long, short) =
 -- how long some bytes are as they are shown
 pub length-shown : (v : List ℕ) → (length v == 0) ≡ false → length (shown (bytes v)) ≡ 2 * length v
 length-shown [] some = absurd (true≢false some)
-length-shown (b ∷ bs) some = length-encode (b ∷ bs)
+length-shown (b ∷ bs) some = length-encode_with lower_digits (b ∷ bs)
 
 pub length-nput : (t : ℕ) (n : ℤ) (v : List ℕ) → length (text_of (nput_words t n v)) ≡ length (decimal t) + length (signed_decimal n) + length (shown (bytes v)) + 7
 length-nput t n v =
@@ -104,9 +87,6 @@ pub number_short_told : (t : ℕ) (n : ℤ) (v : List ℕ) (b x : ℕ) → b ≡
 number_short_told t n v b x vb is = let long = length-nput t n v in (λ low. omega arith, λ low. omega arith)
 
 -- the bytes of a number, read and written again
-signed_fits : (y : ℕ) → y < 2 ^ 64 → FitsSigned w64 (cast_signed w64 y)
-signed_fits y small = read_sfits w64 y
-
 pub number_again : (xs : List ℕ) → length xs ≡ 12 → ((i : ℕ) → get_or xs i 0 < 256)
     → (xs ≡ pair_key (from_be_bytes w32 (take 4 xs), number_of_bytes (drop 4 xs))) × FitsSigned w64 (number_of_bytes (drop 4 xs))
 number_again xs twelve small =
@@ -122,7 +102,7 @@ number_again xs twelve small =
     let turned : bit_xor x (top_bit w64) < 2 ^ 64 = xor_lt 64 x (top_bit w64) low (omega arith) in
     let back : flipped w64 (number_of_bytes rest) ≡ x = ap (λ y. bit_xor y (top_bit w64)) (of_z-to_z w64 (bit_xor x (top_bit w64)) turned) ∙ flip_back x (top_bit w64) in (
       sym (ap₂ (λ a b. a ++ b) tenant (ap (to_be_bytes w64) back ∙ number) ∙ take-append-drop 4 xs),
-      signed_fits (bit_xor x (top_bit w64)) turned,
+      read_sfits w64 (bit_xor x (top_bit w64)),
     )
 
 pub is_number_record : (xs value : List ℕ) → length xs ≡ 12 → ((i : ℕ) → get_or xs i 0 < 256) → ((i : ℕ) → get_or value i 0 < 256) → IsShortNumber xs value → IsNumberRecordIn xs value
@@ -135,12 +115,8 @@ abbrev pub IsNumberRecord : NumberPair → Type 0
 IsNumberRecord p = IsNumberPair p × NumberFits (number_record_of p)
 
 pub are_number_pairs : (ns : List NumberPair) → AscendsByKey (λ p. p.0) ns → AllByRecursion IsNumberRecord ns → AreNumberPairs ns
-are_number_pairs ns order all = record { stand = stands ns all; ascend = order; fit = fits ns all }
-  where
-    stands : (ns : List NumberPair) → AllByRecursion IsNumberRecord ns → AllByRecursion IsNumberPair ns
-    stands [] h = tt
-    stands (p ∷ ns) h = (h.0.0, stands ns h.1)
-
-    fits : (ns : List NumberPair) → AllByRecursion IsNumberRecord ns → AllByRecursion NumberFits (map number_record_of ns)
-    fits [] h = tt
-    fits (p ∷ ns) h = (h.0.1, fits ns h.1)
+are_number_pairs ns order all = record {
+  stand = All-map IsNumberRecord IsNumberPair (λ p h. h.0) ns all;
+  ascend = order;
+  fit = All-mapped number_record_of NumberFits ns (All-map IsNumberRecord (λ p. NumberFits (number_record_of p)) (λ p h. h.1) ns all);
+}

@@ -2,13 +2,9 @@
 use Rattle.std.proofs.Common.{◌≡◌, ◌≢◌, ℕ, List, [], ◌∷◌, refl, ap, sym, subst, ◌∙◌, Bool, true, false, cond, Option, Some, None}
 use Rattle.std.specs.Prelude.{◌==◌, flat_map}
 use Rattle.std.proofs.lemmas.Bool.{eqb-true, eq-eqb, true≢false}
-use Rattle.art_lines.specs.Words.{line_of}
-use Rattle.art_lines.specs.Commands.{Command, of_tenant, dump, audit}
+use Rattle.art_lines.proofs.Common.{line_of, Command, of_tenant}
 use Rattle.art_lines.specs.Reading.{command_of}
-use Rattle.art_engine.specs.Records.{Own, Records, own}
-use Rattle.art_engine.specs.Replies.{own_reply, own_after, with_changed, command_reply, command_after}
-use Rattle.art_engine.specs.Outcome.{left_by, reply_to}
-use Rattle.art_engine.specs.Laws.{request_to, own_changed, with_reply, own_behind, own_told, own_replies, own_at_end, RequestsLeaveOthers, TenantsStandAlone}
+use Rattle.art_engine.proofs.Terms.{Own, Records, own, own_reply, own_after, with_changed, command_reply, command_after, left_by, reply_to, request_to, own_changed, with_reply, own_behind, own_told, own_replies, own_at_end, RequestsLeaveOthers, TenantsStandAlone}
 use Rattle.art_engine.proofs.OwnLaws.{own_reads_back, others_are_untouched}
 
 changed_others : (other tenant : ℕ) (o : Option Own) (records : Records) → other ≢ tenant → own other (with_changed tenant o records) ≡ own other records
@@ -24,9 +20,6 @@ changed_own tenant (Some mine) records = own_reads_back tenant mine records
 
 -- what a command leaves a tenant
 left_own : (tenant : ℕ) (o : Option Command) (records : Records) → own tenant (command_after o records) ≡ own_behind false (request_to tenant o) (own tenant records)
-left_own tenant None records = refl
-left_own tenant (Some dump) records = refl
-left_own tenant (Some audit) records = refl
 left_own tenant (Some (of_tenant other request)) records = go (other == tenant) refl
   where
     go : (b : Bool) → (other == tenant) ≡ b
@@ -34,13 +27,11 @@ left_own tenant (Some (of_tenant other request)) records = go (other == tenant) 
     go true e = subst (λ u. own tenant (with_changed u (own_after request (own u records)) records) ≡ own_changed (own_after request (own tenant records)) (own tenant records))
         (sym (eqb-true other tenant e)) (changed_own tenant (own_after request (own tenant records)) records)
     go false e = changed_others tenant other (own_after request (own other records)) records (λ same. absurd (true≢false (sym (eq-eqb other tenant (sym same)) ∙ e)))
+left_own tenant o records = refl
 
 -- what a line is answered, where it is a request of the tenant's
 told_own : (tenant : ℕ) (o : Option Command) (records : Records) (rest : List (List ℕ))
     → with_reply false (request_to tenant o) (flat_map line_of (command_reply o records)) rest ≡ with_reply false (request_to tenant o) (own_told (request_to tenant o) (own tenant records)) rest
-told_own tenant None records rest = refl
-told_own tenant (Some dump) records rest = refl
-told_own tenant (Some audit) records rest = refl
 told_own tenant (Some (of_tenant other request)) records rest = go (other == tenant) refl
   where
     go : (b : Bool) → (other == tenant) ≡ b
@@ -48,6 +39,7 @@ told_own tenant (Some (of_tenant other request)) records rest = go (other == ten
         ≡ with_reply false (cond b (Some request) None) (own_told (cond b (Some request) None) (own tenant records)) rest
     go true e = ap (λ u. flat_map line_of (own_reply request (own u records)) ∷ rest) (eqb-true other tenant e)
     go false e = refl
+told_own tenant o records rest = refl
 
 left_is : (b : Bool) (tenant : ℕ) (records : Records) (line : List ℕ) → own tenant (left_by b records line) ≡ own_behind b (request_to tenant (command_of line)) (own tenant records)
 left_is true tenant records line = refl

@@ -44,3 +44,5 @@ pub mod LineCounts
 pub mod DroppedTenants
 pub mod Undoing
 pub mod LinesAhead
+pub mod Terms
+pub mod Common

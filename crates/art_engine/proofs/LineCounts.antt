@@ -1,15 +1,12 @@
 -- How many nodes a line reads, by the family of its word.
 use Rattle.std.proofs.Common.{◌≡◌, ℕ, ◌+◌, ◌-◌, ◌^◌, min, subst, ◌∙◌, arith}
 use Rattle.std.specs.Prelude.{List, Option, Some}
+use Rattle.art_lines.proofs.Common.{Command, looks_up}
 use Rattle.art_lines.specs.declared.command.fields.Fields.{Fields}
 use Rattle.art_lines.specs.declared.command.word.LookUp.{LookUp}
 use Rattle.art_lines.specs.declared.command.word.LookUp.TheVariants as look_up
-use Rattle.art_lines.specs.Commands.{Command}
-use Rattle.art_engine.specs.Counts.{Visits, exactly, key_visits, number_visits, visits_of, IsWithin, Grew}
-use Rattle.art_lines.specs.Parsed.{looks_up}
+use Rattle.art_engine.proofs.Terms.{Visits, exactly, key_visits, number_visits, visits_of, IsWithin, Grew, Records, AreRecords, Pair, NumberPair, all_records_of, ArePairs, AreNumberPairs}
 use Rattle.art_lines.specs.Reading.{command_of}
-use Rattle.art_engine.specs.Records.{Records, AreRecords}
-use Rattle.art_engine.specs.Stored.{Pair, NumberPair, all_records_of, ArePairs, AreNumberPairs}
 use Rattle.art_engine.proofs.NumberPlaces.{are_in_order}
 
 -- so a line reads what its command does
@@ -29,9 +26,6 @@ keys_alone v x y a b n none nothing is grew stays =
 -- two counts that began at nothing, added up: one of both maps was read alone
 pub counted_within : (w : LookUp) (f : Fields) (r : Records) (x y a b n : ℕ) → x ≡ 0 → y ≡ 0 → n ≡ min (a + b) (2 ^ 64 - 1)
     → Grew (key_visits (Some (looks_up w f)) r) x a → Grew (number_visits (Some (looks_up w f)) r) y b → IsWithin (visits_of (Some (looks_up w f)) r) n
-counted_within look_up.Get f r x y a b n none nothing is keys numbers = keys_alone _ x y a b n none nothing is keys numbers
-counted_within look_up.Find f r x y a b n none nothing is keys numbers = keys_alone _ x y a b n none nothing is keys numbers
-counted_within look_up.List f r x y a b n none nothing is keys numbers = keys_alone _ x y a b n none nothing is keys numbers
-counted_within look_up.Span f r x y a b n none nothing is keys numbers = keys_alone _ x y a b n none nothing is keys numbers
 counted_within look_up.NGet f r x y a b n none nothing is keys numbers = keys_alone _ y x b a n nothing none (is ∙ omega arith) numbers keys
 counted_within look_up.NSpan f r x y a b n none nothing is keys numbers = keys_alone _ y x b a n nothing none (is ∙ omega arith) numbers keys
+counted_within w f r x y a b n none nothing is keys numbers = keys_alone _ x y a b n none nothing is keys numbers

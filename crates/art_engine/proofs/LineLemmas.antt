@@ -3,10 +3,11 @@ use Rattle.std.proofs.Math.Seq.{drop-cons}
 use Rattle.std.proofs.lemmas.List.{take_all, take_rest, take-append-drop}
 use Rattle.std.proofs.Common.{◌≡◌, ℕ, zero, suc, ◌-◌, subst, add-one, append-nil, append_assoc, ◌+◌, ◌<◌, ◌≤◌, List, [], ◌∷◌, ◌++◌, length, take, drop, get_or, refl, ap, ap₂, sym, ◌∙◌, Bool, true, false, cond, arith, Some, None}
 use Rattle.std.specs.Prelude.{◌==◌, unwrap_or}
-use Rattle.art_engine.specs.Progress.{NoNewline}
-use Rattle.std.proofs.lemmas.Bool.{eqb-true}
+use Rattle.art_engine.proofs.Terms.{NoNewline}
+use Rattle.std.proofs.lemmas.Bool.{eqb-true, false_from_ne_true}
 use Rattle.std.specs.List.{last_or, onto_first}
-use Rattle.art_lines.specs.Lines.{pieces_of, whole_lines_of, unfinished_line_of}
+use Rattle.art_lines.specs.Lines.{whole_lines_of, unfinished_line_of}
+use Rattle.art_lines.proofs.Common.{pieces_of}
 
 -- the last of some pieces, and all but it
 abbrev pub last_of : List (List ℕ) → List ℕ
@@ -92,7 +93,7 @@ pieces_of-byte (x ∷ xs) b other =
       | false ↦ ap (onto_first x) (pieces_of-byte xs b other) ∙ sym (onto_both x b (pieces_of xs) (some_pieces xs))
     ]
 
-last_of-append : (ps : List (List ℕ)) → last_of (ps ++ [] ∷ []) ≡ []
+pub last_of-append : (ps : List (List ℕ)) → last_of (ps ++ [] ∷ []) ≡ []
 last_of-append [] = refl
 last_of-append (p ∷ []) = refl
 last_of-append (p ∷ q ∷ ps) = last_of-append (q ∷ ps)
@@ -109,10 +110,8 @@ last_of-onto (p ∷ q ∷ []) b some = refl
 last_of-onto (p ∷ q ∷ r ∷ ps) b some = last_of-onto (q ∷ r ∷ ps) b some
 
 all_but_last-onto : (ps : List (List ℕ)) (b : ℕ) → all_but_last (onto_last ps b) ≡ all_but_last ps
-all_but_last-onto [] b = refl
-all_but_last-onto (p ∷ []) b = refl
-all_but_last-onto (p ∷ q ∷ []) b = refl
 all_but_last-onto (p ∷ q ∷ r ∷ ps) b = ap (λ qs. p ∷ qs) (all_but_last-onto (q ∷ r ∷ ps) b)
+all_but_last-onto ps b = refl
 
 pub whole_lines_of-newline : (text : List ℕ) → whole_lines_of (text ++ 10 ∷ []) ≡ whole_lines_of text ++ unfinished_line_of text ∷ []
 whole_lines_of-newline text =
@@ -166,18 +165,13 @@ whole_lines_of-more text (b ∷ more) =
 
 -- the bytes before the first newline
 pub no_newline_before : (bytes : List ℕ) (i : ℕ) → ((k : ℕ) → k < i → k < length bytes → (get_or bytes k 0 == 10) ≡ false) → NoNewline (take i bytes)
-no_newline_before [] zero none = tt
-no_newline_before [] (suc i) none = tt
-no_newline_before (b ∷ bytes) zero none = tt
 no_newline_before (b ∷ bytes) (suc i) none = (none 0 (omega arith) (omega arith), no_newline_before bytes i (λ k low within. none (suc k) (omega arith) (omega arith)))
-
-not_true : (b : Bool) → (b ≡ true → ⊥) → b ≡ false
-not_true false h = refl
-not_true true h = absurd (h refl)
+no_newline_before [] (suc i) none = tt
+no_newline_before bytes zero none = tt
 
 -- the bytes before the first newline, and a text without one, as a search tells them
 pub none_before : (bytes : List ℕ) (i : ℕ) → ((k : ℕ) → 0 ≤ k → k < i → (get_or bytes k 0 == 10) ≡ true → ⊥) → NoNewline (take i bytes)
-none_before bytes i none = no_newline_before bytes i (λ k low within. not_true (get_or bytes k 0 == 10) (none k (omega arith) low))
+none_before bytes i none = no_newline_before bytes i (λ k low within. false_from_ne_true (get_or bytes k 0 == 10) (none k (omega arith) low))
 
 pub none_at_all : (bytes : List ℕ) → ((k : ℕ) → 0 ≤ k → k < length bytes → (get_or bytes k 0 == 10) ≡ true → ⊥) → NoNewline bytes
 none_at_all bytes none = subst NoNewline (take_all (length bytes) bytes (omega arith)) (none_before bytes (length bytes) none)

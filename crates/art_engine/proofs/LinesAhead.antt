@@ -2,7 +2,7 @@
 use Rattle.std.proofs.Common.{◌≡◌, ℕ, suc, zero, ◌+◌, ◌<◌, List, [], ◌∷◌, take, drop, Option, Some, None, refl, ap, sym, ◌∙◌, arith}
 use Rattle.std.specs.List.{sum_by, slice_get}
 use Rattle.std.proofs.lemmas.List.Sums.{sum_by-cons}
-use Rattle.art_engine.specs.Ahead.{told_at}
+use Rattle.art_engine.proofs.Terms.{told_at}
 
 module _ {X : Type 0} (told : X → ℕ) where
   -- what is left from a place on is what the one there tells, and what is left behind it

@@ -1,18 +1,14 @@
 -- The lines of a list, one pair after another.
-use Rattle.std.proofs.Common.{◌≡◌, ℕ, ℤ, suc, ◌+◌, ◌≤◌, List, [], ◌∷◌, ◌++◌, length, drop, map, refl, ap, sym, ◌∙◌, Bool, true, false, cond, arith, append_assoc, append-nil, length-append}
+use Rattle.std.proofs.Common.{◌≡◌, ℕ, ℤ, suc, ◌+◌, ◌≤◌, List, [], ◌∷◌, ◌++◌, length, drop, map, refl, ap, sym, ◌∙◌, Bool, arith, append_assoc, append-nil, length-append}
 use Rattle.std.specs.Prelude.{flat_map, filter, decimal}
 use Rattle.std.specs.List.{AllByRecursion}
 use Rattle.std.proofs.lemmas.Grind.{flat_map-append}
-use Rattle.art_lines.specs.Words.{Word, shown, bytes, text_of, line_of}
-use Rattle.art_lines.specs.Commands.{put_words, nput_words}
-use Rattle.art_engine.specs.Keys.{number_of_bytes}
-use Rattle.art_engine.specs.Records.{KeyRecord, NumberRecord, KeyFits, NumberFits}
-use Rattle.art_lines.specs.ReplyWords.{end_words, pair_words, number_words, listed, numbers_listed}
-use Rattle.art_engine.specs.Spans.{IsListed, IsNumbered}
-use Rattle.art_engine.specs.Stored.{Pair, NumberPair, record_of, number_record_of, IsFull}
-use Rattle.art_engine.proofs.Filters.{length-map}
+use Rattle.art_lines.specs.Words.{Word}
+use Rattle.art_lines.proofs.Common.{shown, bytes, text_of, line_of, put_words, nput_words, end_words, pair_words, number_words, listed, numbers_listed, pair_parts, put_parts, nput_parts}
+use Rattle.art_engine.proofs.Terms.{number_of_bytes, KeyRecord, NumberRecord, KeyFits, NumberFits, IsListed, IsNumbered, Pair, NumberPair, record_of, number_record_of, IsFull}
+use Rattle.art_engine.proofs.Filters.{All-each, length-map, map-alike}
+use Rattle.std.proofs.lemmas.Bool.{cond_both}
 use Rattle.art_engine.proofs.OwnLaws.{key_part, number_part}
-use Rattle.art_lines.proofs.ReplyLines.{pair_parts, put_parts, nput_parts}
 
 module _ {X : Type 0} (words : X → List Word) (last : List ℕ) where
   -- a line for each, and what ends them
@@ -33,20 +29,19 @@ words_listed p = pair_words (drop 4 p.0.items, p.1.items)
 abbrev pub list_end : ℕ → List ℕ
 list_end count = line_of (end_words count)
 
--- the lines of a list are those of its pairs and its end
+-- the lines of a list are those of its parts and its end
+lines_all : {X P : Type 0} (words : X → List Word) (part_words : P → List Word) (part : X → P) → ((x : X) → words x ≡ part_words (part x)) → (xs : List X) (mine : List P) → map part xs ≡ mine
+    → lines_from words (list_end (length xs)) xs ≡ flat_map line_of (map part_words mine ++ end_words (length mine) ∷ [])
+lines_all words part_words part alike xs mine same =
+    let lines : List (List Word) = map part_words (map part xs) in
+    ap (λ l. flat_map line_of l ++ list_end (length xs)) (sym (map-alike part_words part words xs (All-each (λ x. part_words (part x) ≡ words x) (λ x. sym (alike x)) xs)))
+    ∙ ap (λ n. flat_map line_of lines ++ list_end n) (sym (length-map part xs))
+    ∙ ap (λ e. flat_map line_of lines ++ e) (sym (append-nil (list_end (length (map part xs))))) ∙ sym (flat_map-append line_of lines (end_words (length (map part xs)) ∷ []))
+    ∙ ap (λ m. flat_map line_of (map part_words m ++ end_words (length m) ∷ [])) same
+
 pub list_all : (ps : List Pair) (mine : List (List ℕ × List ℕ)) → map key_part (map record_of ps) ≡ mine
     → lines_from words_listed (list_end (length ps)) ps ≡ flat_map line_of (listed mine)
-list_all ps mine same =
-    let own : List (List ℕ × List ℕ) = map key_part (map record_of ps) in
-    let lines : List (List Word) = map pair_words own in
-    ap (λ l. flat_map line_of l ++ list_end (length ps)) (words_are ps)
-    ∙ ap (λ n. flat_map line_of lines ++ list_end n) (sym (length-map record_of ps) ∙ sym (length-map key_part (map record_of ps)))
-    ∙ ap (λ e. flat_map line_of lines ++ e) (sym (append-nil (list_end (length own)))) ∙ sym (flat_map-append line_of lines (end_words (length own) ∷ []))
-    ∙ ap (λ m. flat_map line_of (listed m)) same
-  where
-    words_are : (ps : List Pair) → map words_listed ps ≡ map pair_words (map key_part (map record_of ps))
-    words_are [] = refl
-    words_are (p ∷ ps) = ap (λ l. words_listed p ∷ l) (words_are ps)
+list_all ps mine same = lines_all words_listed pair_words (λ p. key_part (record_of p)) (λ p. refl) ps mine (sym (map-alike key_part record_of (λ p. key_part (record_of p)) ps (All-each _ (λ p. refl) ps)) ∙ same)
 
 shorter : (r : KeyRecord) → KeyFits r → 3 + length (line_of (pair_words (r.key, r.value))) ≤ 4097
 shorter r fits =
@@ -64,11 +59,9 @@ are_listed (p ∷ ps) full fits = ((let long = ap length full.0 in omega arith, 
 -- of a list no more pass a test than it has
 pub filter_shorter : {X : Type 0} (p : X → Bool) (xs : List X) → length (filter p xs) ≤ length xs
 filter_shorter p [] = omega arith
-filter_shorter p (x ∷ xs) = go (p x) (filter_shorter p xs)
-  where
-    go : (b : Bool) → length (filter p xs) ≤ length xs → length (cond b (x ∷ filter p xs) (filter p xs)) ≤ suc (length xs)
-    go true ih = omega arith
-    go false ih = omega arith
+filter_shorter p (x ∷ xs) =
+    let ih = filter_shorter p xs in
+    cond_both (p x) (x ∷ filter p xs) (filter p xs) (λ l. length l ≤ suc (length xs)) (λ e. omega arith) (λ e. omega arith)
 
 -- the words of the line of a number's pair, without the tenant
 abbrev pub words_numbered : NumberPair → List Word
@@ -78,16 +71,8 @@ words_numbered p = number_words (number_of_bytes (drop 4 p.0), p.1.items)
 pub numbers_all : (ns : List NumberPair) (mine : List (ℤ × List ℕ)) → map number_part (map number_record_of ns) ≡ mine
     → lines_from words_numbered (list_end (length ns)) ns ≡ flat_map line_of (numbers_listed mine)
 numbers_all ns mine same =
-    let own : List (ℤ × List ℕ) = map number_part (map number_record_of ns) in
-    let lines : List (List Word) = map number_words own in
-    ap (λ l. flat_map line_of l ++ list_end (length ns)) (words_are ns)
-    ∙ ap (λ n. flat_map line_of lines ++ list_end n) (sym (length-map number_record_of ns) ∙ sym (length-map number_part (map number_record_of ns)))
-    ∙ ap (λ e. flat_map line_of lines ++ e) (sym (append-nil (list_end (length own)))) ∙ sym (flat_map-append line_of lines (end_words (length own) ∷ []))
-    ∙ ap (λ m. flat_map line_of (numbers_listed m)) same
-  where
-    words_are : (ns : List NumberPair) → map words_numbered ns ≡ map number_words (map number_part (map number_record_of ns))
-    words_are [] = refl
-    words_are (p ∷ ns) = ap (λ l. words_numbered p ∷ l) (words_are ns)
+    lines_all words_numbered number_words (λ p. number_part (number_record_of p)) (λ p. refl) ns mine
+    (sym (map-alike number_part number_record_of (λ p. number_part (number_record_of p)) ns (All-each _ (λ p. refl) ns)) ∙ same)
 
 number_shorter : (r : NumberRecord) → NumberFits r → length (line_of (number_words (r.key, r.value))) ≤ 4097
 number_shorter r fits =

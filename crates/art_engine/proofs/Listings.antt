@@ -3,8 +3,8 @@ use Rattle.std.proofs.Common.{◌≡◌, ℕ, ◌+◌, ◌-◌, ◌*◌, ◌<◌
 use Rattle.std.specs.Prelude.{max, MatchOption, None, Option, Some}
 use Rattle.std.specs.List.{AllByRecursion}
 use Rattle.std.proofs.lemmas.Nat.{mul-le}
-use Rattle.art_operations.specs.Openings.{ReadsAtLeast}
-use Rattle.art_engine.specs.Counts.{longest, listing, exactly, GrewBy, Grew}
+use Rattle.art_operations.proofs.Common.{ReadsAtLeast}
+use Rattle.art_engine.proofs.Terms.{longest, listing, exactly, GrewBy, Grew}
 use Rattle.art_engine.proofs.Filters.{All-map}
 
 module _ {X : Type 0} (key : X → List ℕ) where

@@ -1,11 +1,9 @@
 -- The tree of some items, and that of what each of them is turned into: a path has as many nodes in one as in the other.
 use Rattle.std.proofs.Common.{◌≡◌, ℕ, zero, suc, List, [], ◌∷◌, length, drop, map, refl, sym, ap, ap₂, ◌∙◌, true, false, cond}
 use Rattle.std.specs.Prelude.{◌==◌, slice_index}
-use Rattle.art_bytes.specs.Keys.{common_prefix, shared_prefix}
-use Rattle.art_arena.specs.tree.Trees.{Tree, Forest, leaf, inner, no_child, child}
-use Rattle.art_arena.specs.tree.TreeOf.{Group, add_to, grouped, children_of, tree_below, tree_of}
-use Rattle.art_arena.specs.tree.Paths.{path_of, path_in}
-use Rattle.art_walks.specs.MapReads.{path_length}
+use Rattle.art_bytes.proofs.Common.{common_prefix, shared_prefix}
+use Rattle.art_arena.proofs.Common.{Tree, Forest, leaf, inner, no_child, child, Group, add_to, grouped, children_of, tree_below, tree_of, path_of, path_in}
+use Rattle.art_walks.proofs.Common.{path_length}
 use Rattle.art_engine.proofs.Filters.{length-map}
 
 module _ {X Y : Type 0} (f : X → Y) (key : Y → List ℕ) where

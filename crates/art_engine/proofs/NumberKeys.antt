@@ -3,7 +3,6 @@ use Rattle.std.proofs.Common.{◌≡◌, ℕ, ℤ, ◌^◌, ◌<◌, ◌++◌, l
 use Rattle.std.specs.Prelude.{◌==◌, ◌||◌, ◌&&◌, nat_lt, int_lt, bit_xor, FitsSigned}
 use Rattle.std.specs.Int.{to_be_bytes, from_be_bytes, cast_signed, cast_unsigned, w32, w64}
 use Rattle.std.specs.Int.Bits.{xor_assoc, xor_self, xor_zero_r}
-use Rattle.std.specs.declared.cmp.Ordering.{Ordering}
 use Rattle.std.specs.declared.cmp.Ordering.TheVariants.{Less, Equal, Greater}
 use Rattle.std.specs.declared.ops.Bound.TheVariants.{Included}
 use Rattle.std.specs.Ordering.{nat_cmp, int_cmp, int_eq, is_lt, is_le, is_gt, ordering_then, ordering_reverse}
@@ -15,16 +14,12 @@ use Rattle.std.proofs.lemmas.Int.{to_z-of_z}
 use Rattle.std.proofs.lemmas.Nat.{from_be_bytes-to_be_bytes_4, from_be_bytes-to_be_bytes_8}
 use Rattle.std.proofs.lemmas.Slice.Eq.{bytes_eq-Decides}
 use Rattle.std.proofs.Math.Seq.{take-append_seam, drop-append_seam}
-use Rattle.art_bytes.specs.Keys.{bytes_cmp, Conflict, IsBefore}
-use Rattle.art_bytes.specs.Numbers.{big_endian, flipped, top_bit}
-use Rattle.art_bytes.specs.Laws.{pair_key}
+use Rattle.art_bytes.proofs.Common.{bytes_cmp, Conflict, IsBefore, big_endian, flipped, top_bit, pair_key, BeginsWith-same_length, cmp_before, before_cmp}
 use Rattle.art_bytes.specs.lemmas.FlipLaws.{flipped-bound}
-use Rattle.art_bytes.specs.lemmas.KeyLaws.{BeginsWith-same_length}
 use Rattle.art_bytes.specs.lemmas.PairLaws.{pair_keys}
-use Rattle.art_bytes.proofs.Order.{cmp_before, before_cmp}
-use Rattle.art_engine.specs.Keys.{number_of_bytes}
+use Rattle.art_engine.proofs.Terms.{number_of_bytes}
 use Rattle.art_engine.proofs.FullKeys.{cmp_low, cmp_high, cmp_itself}
-use Rattle.art_engine.proofs.Standing.{lt_is}
+use Rattle.art_engine.proofs.Standing.{le-reverse, lt_is, not_gt-reverse}
 
 -- a tenant and a number have bytes of their own
 abbrev pub HaveBytes : ℕ → ℤ → Type 0
@@ -73,8 +68,7 @@ module _ (t u : ℕ) (n m : ℤ) (ht : HaveBytes t n) (hu : HaveBytes u m) where
       go false true true e f g =
           let same = ap₂ (λ a b. pair_key (a, b)) (eqb-true t u f) ((Decides-int_eq n m).0 g) in
           absurd (true≢false (sym ((bytes_eq-Decides (pair_key (t, n)) (pair_key (u, m))).1 same) ∙ e))
-      go false true false e f g = refl
-      go false false c e f g = refl
+      go false b c e f g = refl
 
   no_conflict : Conflict (pair_key (t, n)) (pair_key (u, m)) → ⊥
   no_conflict (apart, inl front) = apart (BeginsWith-same_length (pair_key (t, n)) (pair_key (u, m)) 12 (length-pair_key t n ht) (length-pair_key u m hu) front)
@@ -91,17 +85,11 @@ pub lt-int_cmp : (n m : ℤ) → is_lt (int_cmp n m) ≡ int_lt n m
 lt-int_cmp n m = go (int_lt n m) (int_lt m n)
   where
     go : (a b : Bool) → is_lt (cond a Less (cond b Greater Equal)) ≡ a
-    go true b = refl
     go false true = refl
-    go false false = refl
+    go a b = refl
 
 le-int_cmp : (n m : ℤ) → is_le (int_cmp n m) ≡ not (int_lt m n)
-le-int_cmp n m = ap is_le (int_cmp_total.antisymm n m) ∙ turned (int_cmp m n) ∙ ap not (lt-int_cmp m n)
-  where
-    turned : (o : Ordering) → is_le (ordering_reverse o) ≡ not (is_lt o)
-    turned Less = refl
-    turned Equal = refl
-    turned Greater = refl
+le-int_cmp n m = ap is_le (int_cmp_total.antisymm n m) ∙ le-reverse (int_cmp m n) ∙ ap not (lt-int_cmp m n)
 
 pub int_lt_turned : (n m : ℤ) → int_lt n m ≡ true → int_lt m n ≡ false
 int_lt_turned n m h =
@@ -167,9 +155,4 @@ between_numbers t u low high m hl hh hm =
 pub numbers_in_order : (t : ℕ) (low high : ℤ) → HaveBytes t low → HaveBytes t high → int_lt high low ≡ false → IsLeBy bytes_cmp (pair_key (t, low)) (pair_key (t, high))
 numbers_in_order t low high hl hh h =
     ap is_gt (cmp-pair_key t t low high hl hh ∙ ap (λ o. ordering_then o (int_cmp low high)) (cmp_itself t) ∙ int_cmp_total.antisymm low high)
-    ∙ turned (int_cmp high low) (lt-int_cmp high low ∙ h)
-  where
-    turned : (o : Ordering) → is_lt o ≡ false → is_gt (ordering_reverse o) ≡ false
-    turned Less e = absurd (true≢false e)
-    turned Equal e = refl
-    turned Greater e = refl
+    ∙ not_gt-reverse (int_cmp high low) (lt-int_cmp high low ∙ h)

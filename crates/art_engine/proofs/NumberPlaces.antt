@@ -6,31 +6,20 @@ use Rattle.std.specs.Int.{from_be_bytes, w32}
 use Rattle.std.specs.List.{AllByRecursion, find}
 use Rattle.std.specs.Map.{lookup}
 use Rattle.std.specs.Ordering.{int_eq}
-use Rattle.std.proofs.lemmas.Bool.{true≢false, false_from_ne_true, ltb-true, eqb-true}
+use Rattle.std.proofs.lemmas.Bool.{cond_both, true≢false, false_from_ne_true, ltb-true, eqb-true}
 use Rattle.std.proofs.lemmas.List.{map-append}
 use Rattle.std.proofs.lemmas.Slice.Eq.{bytes_eq-Decides}
-use Rattle.art_bytes.specs.Keys.{IsBefore}
-use Rattle.art_bytes.specs.Laws.{pair_key}
-use Rattle.art_bytes.proofs.Order.{before_trans, before_not_self}
-use Rattle.art_arena.specs.tree.Changes.{IsIn, is_before, put_in_order}
-use Rattle.art_arena.specs.tree.Order.{AscendsByKey}
-use Rattle.art_arena.specs.tree.Shrinks.{Shrinks}
-use Rattle.art_arena.proofs.tree.Exists.{before_true, true_before, put_is}
-use Rattle.art_operations.specs.KeyedLists.{HasKey, without_key}
-use Rattle.art_operations.proofs.LeafPairs.{shrinks-map, shrinks-unmap}
+use Rattle.art_bytes.proofs.Common.{IsBefore, pair_key, before_trans, before_not_self}
+use Rattle.art_arena.proofs.Common.{is_before, put_in_order, AscendsByKey, Shrinks, before_true, true_before, put_is}
+use Rattle.art_operations.proofs.Common.{HasKey, without_key, shrinks-map, shrinks-unmap}
 use Rattle.art_engine.specs.declared.change.Changed.TheVariants as changed
-use Rattle.art_lines.specs.Commands.{of_tenant, nput, ndel}
-use Rattle.art_engine.specs.Keys.{number_key_of, number_of_bytes, number_pair}
-use Rattle.art_engine.specs.Records.{NumberRecord, NumberFits, own, InOrder, NumberComesBefore}
-use Rattle.art_engine.specs.Replies.{value_at, with_pair, without_at}
-use Rattle.art_lines.specs.ReplyWords.{put_reply}
-use Rattle.art_engine.specs.Stored.{NumberPair, number_record_of, number_records_of, IsNumberPair, AreNumberPairs}
-use Rattle.art_engine.specs.Changed.{IsChangeDone, changed_words}
-use Rattle.art_engine.proofs.Changing.{itself, some_mapped, gone_words, absent_words}
-use Rattle.art_engine.proofs.Dropping.{All-filter, All-left_out, All-put, IsOwnTest, own_filter, own_find, left_in_place}
-use Rattle.art_engine.proofs.Filters.{filter-none, All-map, All-append}
+use Rattle.art_lines.proofs.Common.{of_tenant, nput, ndel, put_reply}
+use Rattle.art_engine.proofs.Terms.{number_key_of, number_of_bytes, number_pair, NumberRecord, NumberFits, own, InOrder, NumberComesBefore, value_at, with_pair, without_at, NumberPair, number_record_of, number_records_of, IsNumberPair, AreNumberPairs, IsChangeDone, changed_words}
+use Rattle.art_engine.proofs.Changing.{itself, has_found, option_map-map, some_mapped, gone_words, absent_words}
+use Rattle.art_engine.proofs.Dropping.{All-left_out, All-put, IsOwnTest, own_filter, own_find, left_in_place}
+use Rattle.art_engine.proofs.Filters.{filter-mapped, filter-none, All-each, All-filter, All-map, All-append, All-passes}
 use Rattle.art_engine.proofs.OwnLaws.{number_part, number_made, number_ascends, records_from_lists}
-use Rattle.art_engine.proofs.FullTests.{eq_turned}
+use Rattle.art_engine.proofs.FullKeys.{eq_turned}
 use Rattle.art_engine.proofs.OwnParts.{cut_put}
 use Rattle.art_engine.proofs.NumberKeys.{HaveBytes, tenant_back, number_back, same_numbers, stands_before, before_tested, tested_before, one_is_before}
 
@@ -75,8 +64,7 @@ order_behind p (q ∷ ns) here stand order =
     comes : (r s : NumberRecord) (a b c : Bool) → nat_lt r.tenant s.tenant ≡ a → (r.tenant == s.tenant) ≡ b → int_lt r.key s.key ≡ c → (a || (b && c)) ≡ true → NumberComesBefore r s
     comes r s true b c e f g h = inl (ltb-true r.tenant s.tenant e)
     comes r s false true true e f g h = inr (eqb-true r.tenant s.tenant f, g)
-    comes r s false true false e f g h = cc
-    comes r s false false c e f g h = cc
+    comes r s a b c e f g h = cc
 
 pub numbers_order : (ns : List NumberPair) → AllByRecursion StandsUnder ns → AscendsByKey number_bytes ns → InOrder NumberComesBefore (map number_record_of ns)
 numbers_order [] stand order = tt
@@ -91,27 +79,16 @@ module _ (T : List ℕ → Bool) (Q : NumberRecord → Bool) where
   TestsSame p = T p.0 ≡ Q (number_record_of p)
 
   pub numbers_filter : (ns : List NumberPair) → AllByRecursion TestsSame ns → map number_record_of (filter (λ p. T p.0) ns) ≡ filter Q (map number_record_of ns)
-  numbers_filter [] same = refl
-  numbers_filter (p ∷ ns) same = go (T p.0) (Q (number_record_of p)) same.0 (numbers_filter ns same.1)
-    where
-      go : (a b : Bool) → a ≡ b → map number_record_of (filter (λ p. T p.0) ns) ≡ filter Q (map number_record_of ns)
-          → map number_record_of (cond a (p ∷ filter (λ p. T p.0) ns) (filter (λ p. T p.0) ns))
-          ≡ cond b (number_record_of p ∷ filter Q (map number_record_of ns)) (filter Q (map number_record_of ns))
-      go true true e ih = ap (λ l. number_record_of p ∷ l) ih
-      go false false e ih = ih
-      go true false e ih = absurd (true≢false e)
-      go false true e ih = absurd (true≢false (sym e))
+  numbers_filter ns same = filter-mapped number_record_of (λ p. T p.0) Q ns same
 
   pub numbers_lookup : (ns : List NumberPair) → AllByRecursion TestsSame ns → option_map (λ v. v.items) (lookup T ns) ≡ option_map (λ r. r.value) (find Q (map number_record_of ns))
   numbers_lookup [] same = refl
-  numbers_lookup (p ∷ ns) same = go (T p.0) (Q (number_record_of p)) same.0 (numbers_lookup ns same.1)
+  numbers_lookup (p ∷ ns) same = let first = same.0 in rw first (go (Q (number_record_of p)) (numbers_lookup ns same.1))
     where
-      go : (a b : Bool) → a ≡ b → option_map (λ v. v.items) (lookup T ns) ≡ option_map (λ r. r.value) (find Q (map number_record_of ns))
-          → option_map (λ v. v.items) (cond a (Some p.1) (lookup T ns)) ≡ option_map (λ r. r.value) (cond b (Some (number_record_of p)) (find Q (map number_record_of ns)))
-      go true true e ih = refl
-      go false false e ih = ih
-      go true false e ih = absurd (true≢false e)
-      go false true e ih = absurd (true≢false (sym e))
+      go : (b : Bool) → option_map (λ v. v.items) (lookup T ns) ≡ option_map (λ r. r.value) (find Q (map number_record_of ns))
+          → option_map (λ v. v.items) (cond b (Some p.1) (lookup T ns)) ≡ option_map (λ r. r.value) (cond b (Some (number_record_of p)) (find Q (map number_record_of ns)))
+      go true ih = refl
+      go false ih = ih
 
 -- a test of the bytes of a tenant's numbers
 module _ (t : ℕ) (T : List ℕ → Bool) (G : ℤ → Bool) (tests : (u : ℕ) (m : ℤ) → HaveBytes u m → T (pair_key (u, m)) ≡ ((u == t) && G m)) where
@@ -119,14 +96,11 @@ module _ (t : ℕ) (T : List ℕ → Bool) (G : ℤ → Bool) (tests : (u : ℕ)
   of_mine r = (r.tenant == t) && G r.key
 
   pub tests_same : (ns : List NumberPair) → AllByRecursion StandsUnder ns → AllByRecursion (λ p. T p.0 ≡ of_mine (number_record_of p)) ns
-  tests_same [] stand = tt
-  tests_same (p ∷ ns) stand =
-      let r = number_record_of p in
-      (ap T stand.0.key ∙ tests r.tenant r.key stand.0.fits, tests_same ns stand.1)
+  tests_same ns stand =
+      All-map StandsUnder (λ p. T p.0 ≡ of_mine (number_record_of p)) (λ p under. let r = number_record_of p in ap T under.key ∙ tests r.tenant r.key under.fits) ns stand
 
   own_tests : (rs : List NumberRecord) → AllByRecursion (IsOwnTest (λ (r : NumberRecord). r.tenant) number_part t of_mine (λ p. G p.0)) rs
-  own_tests [] = tt
-  own_tests (r ∷ rs) = (refl, own_tests rs)
+  own_tests rs = All-each (IsOwnTest (λ (r : NumberRecord). r.tenant) number_part t of_mine (λ p. G p.0)) (λ r. refl) rs
 
   -- what passes is what of the tenant's numbers passes
   pub numbers_passing : (ns : List NumberPair) → AllByRecursion StandsUnder ns
@@ -148,11 +122,15 @@ module _ (t : ℕ) (T : List ℕ → Bool) (G : ℤ → Bool) (tests : (u : ℕ)
 -- what is left of pairs that ascend ascends
 pub ascends-filter : (T : NumberPair → Bool) (ns : List NumberPair) → AscendsByKey number_bytes ns → AscendsByKey number_bytes (filter T ns)
 ascends-filter T [] order = tt
-ascends-filter T (p ∷ ns) order = go (T p) (ascends-filter T ns order.1)
-  where
-    go : (b : Bool) → AscendsByKey number_bytes (filter T ns) → AscendsByKey number_bytes (cond b (p ∷ filter T ns) (filter T ns))
-    go true ih = (All-filter (λ q. IsBefore p.0 q.0) T ns order.0, ih)
-    go false ih = ih
+ascends-filter T (p ∷ ns) order =
+    let ih = ascends-filter T ns order.1 in
+    cond_both (T p) (p ∷ filter T ns) (filter T ns) (AscendsByKey number_bytes) (λ e. (All-filter (λ q. IsBefore p.0 q.0) T ns order.0, ih)) (λ e. ih)
+
+not_before_itself : (k : List ℕ) → is_before k k ≡ false
+not_before_itself k = false_from_ne_true (is_before k k) (λ e. before_not_self k (true_before k k e))
+
+not_before_back : (j k : List ℕ) → IsBefore j k → is_before k j ≡ false
+not_before_back j k b = false_from_ne_true (is_before k j) (λ e. before_not_self j (before_trans j k j b (true_before k j e)))
 
 module _ (t : ℕ) (n : ℤ) (fits : HaveBytes t n) where
   abbrev pub is_number_key : List ℕ → Bool
@@ -166,16 +144,8 @@ module _ (t : ℕ) (n : ℤ) (fits : HaveBytes t n) where
   number_found ns stand =
       let Q : NumberRecord → Bool = of_mine t is_number_key (λ m. int_eq m n) key_tests in
       numbers_lookup is_number_key Q ns (tests_same t is_number_key (λ m. int_eq m n) key_tests ns stand)
-      ∙ values (find Q (map number_record_of ns))
-      ∙ ap (option_map (λ (p : ℤ × List ℕ). p.1)) (own_find (λ (r : NumberRecord). r.tenant) number_part t Q (λ p. int_eq p.0 n) (map number_record_of ns) (all_own (map number_record_of ns)))
-    where
-      values : (o : Option NumberRecord) → option_map (λ (r : NumberRecord). r.value) o ≡ option_map (λ (p : ℤ × List ℕ). p.1) (option_map number_part o)
-      values None = refl
-      values (Some r) = refl
-
-      all_own : (rs : List NumberRecord) → AllByRecursion (IsOwnTest (λ (r : NumberRecord). r.tenant) number_part t (of_mine t is_number_key (λ m. int_eq m n) key_tests) (λ p. int_eq p.0 n)) rs
-      all_own [] = tt
-      all_own (r ∷ rs) = (refl, all_own rs)
+      ∙ sym (option_map-map (λ (p : ℤ × List ℕ). p.1) number_part (find Q (map number_record_of ns)))
+      ∙ ap (option_map (λ (p : ℤ × List ℕ). p.1)) (own_find (λ (r : NumberRecord). r.tenant) number_part t Q (λ p. int_eq p.0 n) (map number_record_of ns) (own_tests t is_number_key (λ m. int_eq m n) key_tests (map number_record_of ns)))
 
   -- the pairs before it, and those behind it
   abbrev lower : NumberPair → Bool
@@ -185,19 +155,16 @@ module _ (t : ℕ) (n : ℤ) (fits : HaveBytes t n) where
   higher p = is_before (pair_key (t, n)) p.0
 
   not_higher : (p : NumberPair) → IsBefore p.0 (pair_key (t, n)) → higher p ≡ false
-  not_higher p b = false_from_ne_true (higher p) (λ e. before_not_self p.0 (before_trans p.0 (pair_key (t, n)) p.0 b (true_before (pair_key (t, n)) p.0 e)))
+  not_higher p b = not_before_back p.0 (pair_key (t, n)) b
 
   not_lower : (p : NumberPair) → IsBefore (pair_key (t, n)) p.0 → lower p ≡ false
-  not_lower p b = false_from_ne_true (lower p) (λ e. before_not_self p.0 (before_trans p.0 (pair_key (t, n)) p.0 (true_before p.0 (pair_key (t, n)) e) b))
-
-  itself_not : (k : List ℕ) → is_before k k ≡ false
-  itself_not k = false_from_ne_true (is_before k k) (λ e. before_not_self k (true_before k k e))
+  not_lower p b = not_before_back (pair_key (t, n)) p.0 b
 
   same_not_lower : (p : NumberPair) → is_number_key p.0 ≡ true → lower p ≡ false
-  same_not_lower p e = let same = (bytes_eq-Decides p.0 (pair_key (t, n))).0 e in ap (λ k. is_before k (pair_key (t, n))) same ∙ itself_not (pair_key (t, n))
+  same_not_lower p e = rw ((bytes_eq-Decides p.0 (pair_key (t, n))).0 e) (not_before_itself (pair_key (t, n)))
 
   same_not_higher : (p : NumberPair) → is_number_key p.0 ≡ true → higher p ≡ false
-  same_not_higher p e = let same = (bytes_eq-Decides p.0 (pair_key (t, n))).0 e in ap (is_before (pair_key (t, n))) same ∙ itself_not (pair_key (t, n))
+  same_not_higher p e = rw ((bytes_eq-Decides p.0 (pair_key (t, n))).0 e) (not_before_itself (pair_key (t, n)))
 
   tested : (u s : ℕ) (m l : ℤ) → HaveBytes u m → HaveBytes s l → is_before (pair_key (u, m)) (pair_key (s, l)) ≡ stands_before u m s l
   tested u s m l hu hs = go (is_before (pair_key (u, m)) (pair_key (s, l))) (stands_before u m s l) refl refl
@@ -232,20 +199,10 @@ module _ (t : ℕ) (n : ℤ) (fits : HaveBytes t n) where
           rw (high, none) (ap (λ l. p ∷ l) (ih ∙ ap (λ l. l ++ filter higher ns) none))
 
   all_lower : (ns : List NumberPair) → AllByRecursion (λ p. IsBefore p.0 (pair_key (t, n))) (filter lower ns)
-  all_lower [] = tt
-  all_lower (p ∷ ns) = go (lower p) refl (all_lower ns)
-    where
-      go : (b : Bool) → lower p ≡ b → AllByRecursion (λ p. IsBefore p.0 (pair_key (t, n))) (filter lower ns) → AllByRecursion (λ p. IsBefore p.0 (pair_key (t, n))) (cond b (p ∷ filter lower ns) (filter lower ns))
-      go true e ih = (true_before p.0 (pair_key (t, n)) e, ih)
-      go false e ih = ih
+  all_lower ns = All-map (λ p. lower p ≡ true) (λ p. IsBefore p.0 (pair_key (t, n))) (λ p e. true_before p.0 (pair_key (t, n)) e) (filter lower ns) (All-passes lower ns)
 
   all_higher : (ns : List NumberPair) → AllByRecursion (λ p. IsBefore (pair_key (t, n)) p.0) (filter higher ns)
-  all_higher [] = tt
-  all_higher (p ∷ ns) = go (higher p) refl (all_higher ns)
-    where
-      go : (b : Bool) → higher p ≡ b → AllByRecursion (λ p. IsBefore (pair_key (t, n)) p.0) (filter higher ns) → AllByRecursion (λ p. IsBefore (pair_key (t, n)) p.0) (cond b (p ∷ filter higher ns) (filter higher ns))
-      go true e ih = (true_before (pair_key (t, n)) p.0 e, ih)
-      go false e ih = ih
+  all_higher ns = All-map (λ p. higher p ≡ true) (λ p. IsBefore (pair_key (t, n)) p.0) (λ p e. true_before (pair_key (t, n)) p.0 e) (filter higher ns) (All-passes higher ns)
 
   ascends-put : (e : NumberPair) → e.0 ≡ pair_key (t, n) → (fs bs : List NumberPair) → AllByRecursion (λ p. IsBefore p.0 (pair_key (t, n))) fs → AllByRecursion (λ p. IsBefore (pair_key (t, n)) p.0) bs
       → AscendsByKey number_bytes fs → AscendsByKey number_bytes bs → AscendsByKey number_bytes (fs ++ e ∷ bs)
@@ -283,10 +240,9 @@ module _ (t : ℕ) (n : ℤ) (fits : HaveBytes t n) where
     }
 
     lower_same : (ns : List NumberPair) → AllByRecursion StandsUnder ns → AllByRecursion (λ p. is_before p.0 (pair_key (t, n)) ≡ stands_before (number_record_of p).tenant (number_record_of p).key t n) ns
-    lower_same [] h = tt
-    lower_same (p ∷ ns) h =
-        let r = number_record_of p in
-        (ap (λ k. is_before k (pair_key (t, n))) h.0.key ∙ tested r.tenant t r.key n h.0.fits fits, lower_same ns h.1)
+    lower_same ns h =
+        All-map StandsUnder (λ p. is_before p.0 (pair_key (t, n)) ≡ stands_before (number_record_of p).tenant (number_record_of p).key t n)
+        (λ p under. let r = number_record_of p in ap (λ k. is_before k (pair_key (t, n))) under.key ∙ tested r.tenant t r.key n under.fits fits) ns h
 
     abbrev stands_behind : NumberRecord → Bool
     stands_behind r = nat_lt t r.tenant || ((r.tenant == t) && int_lt n r.key)
@@ -295,10 +251,9 @@ module _ (t : ℕ) (n : ℤ) (fits : HaveBytes t n) where
     turned u m = ap (λ b. nat_lt t u || (b && int_lt n m)) (eq_turned t u)
 
     higher_same : (ns : List NumberPair) → AllByRecursion StandsUnder ns → AllByRecursion (λ p. is_before (pair_key (t, n)) p.0 ≡ stands_behind (number_record_of p)) ns
-    higher_same [] h = tt
-    higher_same (p ∷ ns) h =
-        let r = number_record_of p in
-        (ap (is_before (pair_key (t, n))) h.0.key ∙ tested t r.tenant n r.key fits h.0.fits ∙ turned r.tenant r.key, higher_same ns h.1)
+    higher_same ns h =
+        All-map StandsUnder (λ p. is_before (pair_key (t, n)) p.0 ≡ stands_behind (number_record_of p))
+        (λ p under. let r = number_record_of p in ap (is_before (pair_key (t, n))) under.key ∙ tested t r.tenant n r.key fits under.fits ∙ turned r.tenant r.key) ns h
 
     pub nput_records : map number_record_of new
         ≡ filter (λ r. nat_lt r.tenant t) (map number_record_of ns) ++ map (number_made t) (with_pair int_lt n v (own t (number_records_of ns)).numbers) ++ filter (λ r. nat_lt t r.tenant) (map number_record_of ns)
@@ -360,21 +315,12 @@ module _ (t : ℕ) (n : ℤ) (fits : HaveBytes t n) where
       records_from_lists _ _ _ _ refl (ndel_records is),
     )
 
-    has_found : (ns : List NumberPair) → HasKey number_bytes (pair_key (t, n)) ns → IsSome (lookup is_number_key ns)
-    has_found [] (x, i, same) = absurd i
-    has_found (p ∷ ns) (x, i, same) = go (is_number_key p.0) refl i (λ later. has_found ns (x, later, same))
-      where
-        go : (b : Bool) → is_number_key p.0 ≡ b → IsIn x (p ∷ ns) → (IsIn x ns → IsSome (lookup is_number_key ns)) → IsSome (cond b (Some p.1) (lookup is_number_key ns))
-        go true e i rest = refl
-        go false e (inl here) rest = let yes : is_number_key p.0 ≡ true = (bytes_eq-Decides p.0 (pair_key (t, n))).1 (ap number_bytes here ∙ same) in cc
-        go false e (inr later) rest = rest later
-
     pub ndel_refused : new ≡ ns → HasKey number_bytes (pair_key (t, n)) ns × Shrinks number_bytes ns (pair_key (t, n))
         → IsChangeDone changed.Memory (of_tenant t (ndel n)) (number_records_of ns) (number_records_of new)
     ndel_refused same h = (
       ap number_records_of same,
       (
-        subst IsSome (number_found ns all_stand) (some_mapped (λ (w : Vec ℕ). w.items) (lookup is_number_key ns) (has_found ns h.0)),
+        subst IsSome (number_found ns all_stand) (some_mapped (λ (w : Vec ℕ). w.items) (lookup is_number_key ns) (has_found itself (pair_key (t, n)) ns h.0)),
         shrinks-unmap number_key_of itself (map number_record_of ns) (pair_key (t, n))
             (subst (λ ks. Shrinks itself ks (pair_key (t, n))) (number_keys_are ns are.stand) (shrinks-map number_bytes itself ns (pair_key (t, n)) h.1)),
       ),

@@ -1,11 +1,10 @@
 -- What a tenant holds, in the flat lists of all records.
-use Rattle.art_engine.specs.Laws.{OwnReadsBack, OthersAreUntouched, OwnIsInPlace}
-use Rattle.std.proofs.Common.{◌≡◌, ◌≢◌, ℕ, ℤ, ◌<◌, ◌≤◌, List, [], ◌∷◌, ◌++◌, refl, ap, ap₂, sym, ◌∙◌, Bool, true, false, cond, arith, append-nil, inl, inr}
+use Rattle.art_engine.proofs.Terms.{OwnReadsBack, OthersAreUntouched, OwnIsInPlace, Own, KeyRecord, NumberRecord, Records, with_own, InOrder, KeyComesBefore, NumberComesBefore}
+use Rattle.std.proofs.Common.{◌≡◌, ◌≢◌, ℕ, ℤ, ◌<◌, ◌≤◌, List, [], ◌∷◌, ◌++◌, refl, ap, ap₂, sym, ◌∙◌, Bool, true, false, arith, append-nil, inl, inr}
 use Rattle.std.specs.Prelude.{◌==◌, nat_lt, map, filter}
-use Rattle.std.proofs.lemmas.Bool.{eq-eqb, ne_eqb, eqb-true, ltb-true, lt-ltb, le-ltb, cases_lt}
+use Rattle.std.proofs.lemmas.Bool.{cond_both, eq-eqb, ne_eqb, eqb-true, ltb-true, lt-ltb, le-ltb, cases_lt}
 use Rattle.std.proofs.lemmas.List.Elements.{filter-append}
-use Rattle.art_engine.specs.Records.{Own, KeyRecord, NumberRecord, Records, with_own, InOrder, KeyComesBefore, NumberComesBefore}
-use Rattle.art_engine.proofs.Filters.{filter-apart, filter-within, filter-none, All-map}
+use Rattle.art_engine.proofs.Filters.{filter-apart, filter-within, filter-none, All-each, All-map, All-mapped}
 
 -- a list of records as it is for each kind: with its tenant, its own part, and back
 module _ {X P : Type 0} (tenant_of : X → ℕ) (part_of : X → P) (made : ℕ → P → X)
@@ -27,9 +26,11 @@ module _ {X P : Type 0} (tenant_of : X → ℕ) (part_of : X → P) (made : ℕ 
   made_mine t [] = refl
   made_mine t (p ∷ ps) = rw (eq-eqb (tenant_of (made t p)) t (makes_tenant t p)) (ap (λ l. made t p ∷ l) (made_mine t ps))
 
+  none_made : (p : X → Bool) (t : ℕ) → ((q : P) → p (made t q) ≡ false) → (qs : List P) → filter p (map (made t) qs) ≡ []
+  none_made p t none qs = filter-none p (map (made t) qs) (All-mapped (made t) (λ x. p x ≡ false) qs (All-each (λ q. p (made t q) ≡ false) none qs))
+
   made_other : (s t : ℕ) → s ≢ t → (ps : List P) → mine s (map (made t) ps) ≡ []
-  made_other s t apart [] = refl
-  made_other s t apart (p ∷ ps) = rw (ne_eqb (tenant_of (made t p)) s (λ e. apart (sym e ∙ makes_tenant t p))) (made_other s t apart ps)
+  made_other s t apart ps = none_made (λ x. tenant_of x == s) t (λ p. ne_eqb (tenant_of (made t p)) s (λ e. apart (sym e ∙ makes_tenant t p))) ps
 
   parts_made : (t : ℕ) (ps : List P) → map part_of (map (made t) ps) ≡ ps
   parts_made t [] = refl
@@ -64,12 +65,10 @@ module _ {X P : Type 0} (tenant_of : X → ℕ) (part_of : X → P) (made : ℕ 
       ]
 
   made_not_before : (t : ℕ) (ps : List P) → before t (map (made t) ps) ≡ []
-  made_not_before t [] = refl
-  made_not_before t (p ∷ ps) = let is = makes_tenant t p in rw (le-ltb (tenant_of (made t p)) t (omega arith)) (made_not_before t ps)
+  made_not_before t ps = none_made (λ x. nat_lt (tenant_of x) t) t (λ p. let is = makes_tenant t p in le-ltb (tenant_of (made t p)) t (omega arith)) ps
 
   made_not_behind : (t : ℕ) (ps : List P) → behind t (map (made t) ps) ≡ []
-  made_not_behind t [] = refl
-  made_not_behind t (p ∷ ps) = let is = makes_tenant t p in rw (le-ltb t (tenant_of (made t p)) (omega arith)) (made_not_behind t ps)
+  made_not_behind t ps = none_made (λ x. nat_lt t (tenant_of x)) t (λ p. let is = makes_tenant t p in le-ltb t (tenant_of (made t p)) (omega arith)) ps
 
   before_again : (t : ℕ) (ps : List P) (xs : List X) → before t (put_back t ps xs) ≡ before t xs
   before_again t ps xs =
@@ -92,12 +91,10 @@ module _ {X P : Type 0} (tenant_of : X → ℕ) (part_of : X → P) (made : ℕ 
 
   pub made_from_mine : (t : ℕ) (xs : List X) → map (made t) (map part_of (mine t xs)) ≡ mine t xs
   made_from_mine t [] = refl
-  made_from_mine t (x ∷ xs) = go (tenant_of x == t) refl (made_from_mine t xs)
-    where
-      go : (b : Bool) → (tenant_of x == t) ≡ b → map (made t) (map part_of (mine t xs)) ≡ mine t xs
-          → map (made t) (map part_of (cond b (x ∷ mine t xs) (mine t xs))) ≡ cond b (x ∷ mine t xs) (mine t xs)
-      go true e ih = let same : made t (part_of x) ≡ x = ap (λ s. made s (part_of x)) (sym (eqb-true (tenant_of x) t e)) ∙ made_again x in rw (same, ih) refl
-      go false e ih = ih
+  made_from_mine t (x ∷ xs) =
+      let ih = made_from_mine t xs in
+      cond_both (tenant_of x == t) (x ∷ mine t xs) (mine t xs) (λ l. map (made t) (map part_of l) ≡ l)
+      (λ e. ap₂ (λ y ys. y ∷ ys) (ap (λ s. made s (part_of x)) (sym (eqb-true (tenant_of x) t e)) ∙ made_again x) ih) (λ e. ih)
 
   -- tenants ascend
   abbrev pub Ascends : List X → Type 0

@@ -1,9 +1,9 @@
 -- A list by tenants, cut within one tenant's part.
-use Rattle.std.proofs.Common.{◌≡◌, ℕ, ◌≤◌, List, [], ◌∷◌, ◌++◌, refl, ap, sym, ◌∙◌, Bool, true, false, cond, arith, append-nil, append_assoc}
+use Rattle.std.proofs.Common.{◌≡◌, ℕ, ◌≤◌, List, [], ◌∷◌, ◌++◌, refl, ap, sym, ◌∙◌, Bool, true, false, arith, append-nil, append_assoc}
 use Rattle.std.specs.Prelude.{◌==◌, ◌||◌, ◌&&◌, nat_lt, map, filter}
-use Rattle.std.proofs.lemmas.Bool.{ne_eqb, eqb-true, ltb-true, le-ltb, true≢false, or_left}
+use Rattle.std.proofs.lemmas.Bool.{ne_eqb, eqb-true, ltb-true, le-ltb, or_left}
 use Rattle.std.proofs.lemmas.List.{map-append}
-use Rattle.art_engine.proofs.Filters.{filter-apart, filter-within}
+use Rattle.art_engine.proofs.Filters.{All-each, filter-apart, filter-both, filter-same, filter-within, map-filter}
 use Rattle.art_engine.proofs.Dropping.{InOrder-filter}
 use Rattle.art_engine.proofs.OwnLaws.{Ascends, in_place}
 
@@ -13,18 +13,23 @@ module _ {X P : Type 0} (tenant_of : X → ℕ) (part_of : X → P) (t : ℕ) (S
   cut x = S x || ((tenant_of x == t) && G (part_of x))
 
   pub cut_mine : (xs : List X) → map part_of (filter (λ x. tenant_of x == t) (filter cut xs)) ≡ filter G (map part_of (filter (λ x. tenant_of x == t) xs))
-  cut_mine [] = refl
-  cut_mine (x ∷ xs) = go (S x) (tenant_of x == t) (G (part_of x)) refl refl refl (cut_mine xs)
+  cut_mine xs =
+      ap (map part_of) (sym (filter-both cut mine xs) ∙ filter-same (λ x. cut x && mine x) passes xs (All-each (λ x. (cut x && mine x) ≡ passes x) cut_is xs) ∙ filter-both mine (λ x. G (part_of x)) xs)
+      ∙ map-filter part_of G (filter mine xs)
     where
-      go : (a b c : Bool) → S x ≡ a → (tenant_of x == t) ≡ b → G (part_of x) ≡ c
-          → map part_of (filter (λ x. tenant_of x == t) (filter cut xs)) ≡ filter G (map part_of (filter (λ x. tenant_of x == t) xs))
-          → map part_of (filter (λ x. tenant_of x == t) (cond (a || (b && c)) (x ∷ filter cut xs) (filter cut xs)))
-          ≡ filter G (map part_of (cond b (x ∷ filter (λ x. tenant_of x == t) xs) (filter (λ x. tenant_of x == t) xs)))
-      go true true c e f g ih = absurd (true≢false (sym f ∙ others x e))
-      go true false c e f g ih = rw f ih
-      go false true true e f g ih = rw (f, g) (ap (λ l. part_of x ∷ l) ih)
-      go false true false e f g ih = rw g ih
-      go false false c e f g ih = ih
+      mine : X → Bool
+      mine x = tenant_of x == t
+
+      passes : X → Bool
+      passes x = mine x && G (part_of x)
+
+      of_both : (a b c : Bool) → (a ≡ true → b ≡ false) → ((a || (b && c)) && b) ≡ (b && c)
+      of_both true b c other = rw (other refl) refl
+      of_both false true true other = refl
+      of_both a b c other = refl
+
+      cut_is : (x : X) → (cut x && mine x) ≡ passes x
+      cut_is x = of_both (S x) (mine x) (G (part_of x)) (others x)
 
 module _ {X P : Type 0} (tenant_of : X → ℕ) (part_of : X → P) (made : ℕ → P → X)
     (makes_tenant : (t : ℕ) (p : P) → tenant_of (made t p) ≡ t) (makes_part : (t : ℕ) (p : P) → part_of (made t p) ≡ p)

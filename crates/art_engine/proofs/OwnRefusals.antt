@@ -1,34 +1,22 @@
 -- Whether a deletion may find no memory goes by the tenant's own keys, or numbers, while it has another one.
-use Rattle.std.proofs.Common.{◌≡◌, ◌≢◌, ℕ, ◌<◌, ◌^◌, List, [], ◌∷◌, drop, map, refl, ap, sym, ◌∙◌, subst, Bool, true, false, cond, append-nil}
-use Rattle.std.specs.Prelude.{◌==◌, ◌&&◌, filter, IsSome}
+use Rattle.std.proofs.Common.{◌≡◌, ◌≢◌, ℕ, ◌<◌, ◌^◌, List, [], drop, map, refl, ap, sym, ◌∙◌, subst, append-nil}
+use Rattle.std.specs.Prelude.{◌==◌, filter, IsSome}
 use Rattle.std.specs.List.{AllByRecursion}
-use Rattle.art_bytes.specs.Keys.{BeginsWith}
-use Rattle.art_arena.specs.tree.Shrinks.{Shrinks}
-use Rattle.art_arena.specs.tree.Tenants.{begins_with, with_front}
+use Rattle.art_bytes.proofs.Common.{BeginsWith, big_endian, flipped, pair_key}
+use Rattle.art_arena.proofs.Common.{Shrinks, with_front, all_at}
 use Rattle.art_arena.proofs.tree.FrontShrinks.{own_shrinks}
-use Rattle.art_bytes.specs.Numbers.{big_endian, flipped}
-use Rattle.art_bytes.specs.Laws.{pair_key}
 use Rattle.std.specs.Int.{w64}
-use Rattle.art_arena.proofs.tree.Insert.{all_at}
-use Rattle.art_lines.specs.Keys.{full_key}
-use Rattle.art_engine.specs.Keys.{full_key_of, number_key_of, number_of_bytes}
-use Rattle.art_engine.specs.Records.{KeyRecord, NumberRecord, KeyFits, NumberFits, Records, no_records, own, with_own}
-use Rattle.art_engine.specs.Replies.{value_at}
-use Rattle.art_engine.specs.Laws.{DeletionsGoByOwnKeys, DeletionsGoByOwnNumbers}
-use Rattle.art_engine.proofs.FullTests.{begins_full}
+use Rattle.art_lines.proofs.Common.{full_key}
+use Rattle.art_engine.proofs.Terms.{full_key_of, number_key_of, number_of_bytes, KeyRecord, NumberRecord, KeyFits, NumberFits, Records, no_records, own, with_own, value_at, DeletionsGoByOwnKeys, DeletionsGoByOwnNumbers}
+use Rattle.art_engine.proofs.Counting.{own_records}
+use Rattle.art_engine.proofs.Filters.{All-map}
 use Rattle.art_engine.proofs.NumberKeys.{number_back}
 use Rattle.art_engine.proofs.OwnLaws.{key_part, key_made, number_part, number_made, made_from_mine, own_reads_back}
 use Rattle.std.specs.Str.{bytes_eq}
 use Rattle.std.specs.Ordering.{int_eq}
 
 own_front : (t : ℕ) → t < 2 ^ 32 → (rs : List KeyRecord) → AllByRecursion KeyFits rs → with_front full_key_of (full_key t []) rs ≡ filter (λ r. r.tenant == t) rs
-own_front t small [] fits = refl
-own_front t small (r ∷ rs) fits = go (begins_with (full_key t []) (full_key_of r)) (r.tenant == t) (begins_full t r.tenant [] r.key small fits.0.tenant_fits) (own_front t small rs fits.1)
-  where
-    go : (a b : Bool) → a ≡ (b && true) → with_front full_key_of (full_key t []) rs ≡ filter (λ s. s.tenant == t) rs
-        → cond a (r ∷ with_front full_key_of (full_key t []) rs) (with_front full_key_of (full_key t []) rs) ≡ cond b (r ∷ filter (λ s. s.tenant == t) rs) (filter (λ s. s.tenant == t) rs)
-    go a true e ih = rw e (ap (λ l. r ∷ l) ih)
-    go a false e ih = rw e ih
+own_front t small rs fits = own_records full_key_of (λ r. r.tenant) (λ r. r.key) (λ r. refl) t small rs (All-map KeyFits (λ r. r.tenant < 2 ^ 32) (λ r fit. fit.tenant_fits) rs fits)
 
 -- the tenant's records, as if there were no others
 alone_is : (t : ℕ) (records : Records) → filter (λ r. r.tenant == t) records.keys ≡ (with_own t (own t records) no_records).keys
@@ -50,14 +38,8 @@ deletions_go_by_own_keys t key records other small are i mine differs =
     )
 
 own_number_front : (t : ℕ) → t < 2 ^ 32 → (rs : List NumberRecord) → AllByRecursion NumberFits rs → with_front number_key_of (full_key t []) rs ≡ filter (λ r. r.tenant == t) rs
-own_number_front t small [] fits = refl
-own_number_front t small (r ∷ rs) fits =
-    go (begins_with (full_key t []) (number_key_of r)) (r.tenant == t) (begins_full t r.tenant [] (big_endian 8 (flipped w64 r.key)) small fits.0.tenant_fits) (own_number_front t small rs fits.1)
-  where
-    go : (a b : Bool) → a ≡ (b && true) → with_front number_key_of (full_key t []) rs ≡ filter (λ s. s.tenant == t) rs
-        → cond a (r ∷ with_front number_key_of (full_key t []) rs) (with_front number_key_of (full_key t []) rs) ≡ cond b (r ∷ filter (λ s. s.tenant == t) rs) (filter (λ s. s.tenant == t) rs)
-    go a true e ih = rw e (ap (λ l. r ∷ l) ih)
-    go a false e ih = rw e ih
+own_number_front t small rs fits =
+    own_records number_key_of (λ r. r.tenant) (λ r. big_endian 8 (flipped w64 r.key)) (λ r. refl) t small rs (All-map NumberFits (λ r. r.tenant < 2 ^ 32) (λ r fit. fit.tenant_fits) rs fits)
 
 alone_numbers : (t : ℕ) (records : Records) → filter (λ r. r.tenant == t) records.numbers ≡ (with_own t (own t records) no_records).numbers
 alone_numbers t records =

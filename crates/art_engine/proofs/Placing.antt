@@ -10,20 +10,12 @@ use Rattle.std.specs.declared.cmp.Ordering.TheVariants.{Less, Equal, Greater}
 use Rattle.std.proofs.lemmas.List.{map-append}
 use Rattle.std.proofs.lemmas.Nat.{from_be_bytes-to_be_bytes_4}
 use Rattle.std.proofs.Math.Seq.{take-append_seam, drop-append_seam}
-use Rattle.art_bytes.specs.Keys.{IsBefore, is_below}
-use Rattle.art_arena.specs.tree.Changes.{put_in_order}
-use Rattle.art_arena.specs.tree.Order.{AscendsByKey}
-use Rattle.art_arena.proofs.shapes.Finding.{same_key, other_key}
-use Rattle.art_operations.specs.KeyedLists.{without_key, IsBlocked}
-use Rattle.art_operations.proofs.KeyedLists.{put_new, put_replaced}
+use Rattle.art_bytes.proofs.Common.{IsBefore, is_below}
+use Rattle.art_arena.proofs.Common.{put_in_order, AscendsByKey, same_key, other_key}
+use Rattle.art_operations.proofs.Common.{without_key, IsBlocked, put_new, put_replaced}
 use Rattle.art_engine.specs.declared.change.Changed.TheVariants as changed
-use Rattle.art_lines.specs.Keys.{full_key}
-use Rattle.art_engine.specs.Keys.{full_pair}
-use Rattle.art_engine.specs.Records.{Own, KeyRecord, Records, own, with_own, InOrder, KeyComesBefore, KeyFits}
-use Rattle.art_engine.specs.Replies.{value_at, has_conflict, with_pair, puts, with_changed}
-use Rattle.art_lines.specs.ReplyWords.{put_reply}
-use Rattle.art_engine.specs.Stored.{Pair, record_of, records_of, IsFull, AreFull, ArePairs, IsOfTenant}
-use Rattle.art_engine.specs.Changed.{IsPutDone, changed_words}
+use Rattle.art_lines.proofs.Common.{full_key, put_reply}
+use Rattle.art_engine.proofs.Terms.{full_pair, Own, KeyRecord, Records, own, with_own, InOrder, KeyComesBefore, KeyFits, value_at, has_conflict, with_pair, puts, with_changed, Pair, record_of, records_of, IsFull, AreFull, ArePairs, IsOfTenant, IsPutDone, changed_words}
 use Rattle.art_engine.proofs.Conflicts.{bytes_of, blocked_told, free_told}
 use Rattle.art_engine.proofs.Dropping.{All-put}
 use Rattle.art_engine.proofs.Filters.{All-left, All-right}
@@ -174,23 +166,17 @@ module _ (t : ℕ) (k v : List ℕ) (e : Pair) (fits : t < 2 ^ 32) (full : bytes
   put_among ps new are free is = put_parted ps new are free is (parted t k ps are.in_order)
 
 -- how it is answered
-conflict_words : (o : Option (List ℕ)) (c : Bool) → o ≡ None → c ≡ true → changed_words changed.Conflict ∷ [] ≡ put_reply o c ∷ []
-conflict_words o c e f = rw (e, f) refl
+conflict_done : (t : ℕ) (mine : Own) (r : Records) (o : Option (List ℕ)) (c : Bool) → o ≡ None → c ≡ true
+    → (changed_words changed.Conflict ∷ [] ≡ put_reply o c ∷ []) × (r ≡ with_changed t (if puts o c then Some mine else None) r)
+conflict_done t mine r o c e f = rw (e, f) (refl, refl)
 
-conflict_left : (t : ℕ) (mine : Own) (r : Records) (o : Option (List ℕ)) (c : Bool) → o ≡ None → c ≡ true → r ≡ with_changed t (if puts o c then Some mine else None) r
-conflict_left t mine r o c e f = rw (e, f) refl
+new_done : (t : ℕ) (mine : Own) (r new : Records) (o : Option (List ℕ)) (c : Bool) → o ≡ None → c ≡ false → new ≡ with_own t mine r
+    → (changed_words changed.New ∷ [] ≡ put_reply o c ∷ []) × (new ≡ with_changed t (if puts o c then Some mine else None) r)
+new_done t mine r new o c e f is = rw (e, f) (refl, is)
 
-new_words : (o : Option (List ℕ)) (c : Bool) → o ≡ None → c ≡ false → changed_words changed.New ∷ [] ≡ put_reply o c ∷ []
-new_words o c e f = rw (e, f) refl
-
-new_left : (t : ℕ) (mine : Own) (r : Records) (o : Option (List ℕ)) (c : Bool) → o ≡ None → c ≡ false → with_own t mine r ≡ with_changed t (if puts o c then Some mine else None) r
-new_left t mine r o c e f = rw (e, f) refl
-
-old_words : (v : Vec ℕ) (o : Option (List ℕ)) (c : Bool) → o ≡ Some v.items → changed_words (changed.Old v) ∷ [] ≡ put_reply o c ∷ []
-old_words v o c e = rw e refl
-
-old_left : (t : ℕ) (mine : Own) (r : Records) (o : Option (List ℕ)) (c : Bool) (v : List ℕ) → o ≡ Some v → with_own t mine r ≡ with_changed t (if puts o c then Some mine else None) r
-old_left t mine r o c v e = rw e refl
+old_done : (t : ℕ) (mine : Own) (r new : Records) (v : Vec ℕ) (o : Option (List ℕ)) (c : Bool) → o ≡ Some v.items → new ≡ with_own t mine r
+    → (changed_words (changed.Old v) ∷ [] ≡ put_reply o c ∷ []) × (new ≡ with_changed t (if puts o c then Some mine else None) r)
+old_done t mine r new v o c e is = rw e (refl, is)
 
 module _ (ps : List Pair) (t : ℕ) (k v : List ℕ) (are : AreFull ps) (fits : t < 2 ^ 32) where
   -- the tenant's value at the key, and whether the key conflicts with one of the tenant's
@@ -216,7 +202,7 @@ module _ (ps : List Pair) (t : ℕ) (k v : List ℕ) (are : AreFull ps) (fits : 
   conflict_placed blocked =
       let told = blocked_told t k fits ps are.full are.tenants blocked in
       let there = blocked_absent blocked in
-      (conflict_words at_key in_conflict there told, conflict_left t (with_mine k v (own t (records_of ps))) (records_of ps) at_key in_conflict there told)
+      conflict_done t (with_mine k v (own t (records_of ps))) (records_of ps) at_key in_conflict there told
 
   module _ (e : Pair) (new : List Pair) (full : bytes_of e ≡ full_key t k) (value : e.1.items ≡ v) (free : IsBlocked bytes_of (full_key t k) ps → ⊥)
       (is : IsNewList e ps new) where
@@ -235,9 +221,9 @@ module _ (ps : List Pair) (t : ℕ) (k v : List ℕ) (are : AreFull ps) (fits : 
     new_placed none =
         let there : at_key ≡ None = sym (ap (option_map (λ (w : Vec ℕ). w.items)) none ∙ found t k fits ps are) in
         let told = free_told t k fits ps are.full are.tenants free in
-        (new_words at_key in_conflict there told, done.records_are ∙ new_left t (with_mine k v (own t (records_of ps))) (records_of ps) at_key in_conflict there told)
+        new_done t (with_mine k v (own t (records_of ps))) (records_of ps) (records_of new) at_key in_conflict there told done.records_are
 
     pub old_placed : (old : Vec ℕ) → Some old ≡ lookup (is_full_key t k) ps → IsPutDone (changed.Old old) (records_of ps) t k v (records_of new)
     old_placed old some =
         let there : at_key ≡ Some old.items = sym (ap (option_map (λ (w : Vec ℕ). w.items)) some ∙ found t k fits ps are) in
-        (old_words old at_key in_conflict there, done.records_are ∙ old_left t (with_mine k v (own t (records_of ps))) (records_of ps) at_key in_conflict old.items there)
+        old_done t (with_mine k v (own t (records_of ps))) (records_of ps) (records_of new) old at_key in_conflict there done.records_are

@@ -4,14 +4,12 @@ use Rattle.std.specs.Prelude.{◌==◌, ◌||◌, nat_lt, map, filter, option_ma
 use Rattle.std.specs.List.{AllByRecursion, find}
 use Rattle.std.specs.Str.{bytes_eq}
 use Rattle.std.specs.declared.cmp.Ordering.TheVariants.{Less, Equal, Greater}
-use Rattle.std.proofs.lemmas.Bool.{eq-eqb, eqb-true, le-ltb, true≢false}
+use Rattle.std.proofs.lemmas.Bool.{both_ways, cond_both, false_from_ne_true, true≢false, eq-eqb, eqb-true, le-ltb}
 use Rattle.std.proofs.lemmas.List.{map-append}
 use Rattle.std.proofs.lemmas.List.Elements.{filter-append}
 use Rattle.std.proofs.lemmas.Slice.Eq.{bytes_eq-Decides}
-use Rattle.art_bytes.specs.Keys.{is_below, is_proper_front, conflicts}
-use Rattle.art_engine.specs.Records.{KeyRecord, own, with_own, InOrder, KeyComesBefore}
-use Rattle.art_engine.specs.Replies.{value_at, has_conflict, with_pair}
-use Rattle.art_engine.specs.Stored.{Pair, record_of, records_of, IsFull, AreFull, IsOfTenant}
+use Rattle.art_bytes.proofs.Common.{is_below, is_proper_front, conflicts}
+use Rattle.art_engine.proofs.Terms.{KeyRecord, own, with_own, InOrder, KeyComesBefore, value_at, has_conflict, with_pair, Pair, record_of, records_of, IsFull, AreFull, IsOfTenant}
 use Rattle.art_engine.proofs.Filters.{filter-all, filter-none, All-map, All-append, All-left, All-right}
 use Rattle.art_engine.proofs.OwnLaws.{key_part, key_made, key_ascends, made_from_mine, three_parts, records_from_lists}
 use Rattle.art_engine.proofs.Standing.{AllBefore, AllBehind, stands_to, standing, not_below_itself, not_both_below}
@@ -63,11 +61,10 @@ module _ {X : Type 0} where
 -- a fact of the keys of a tenant's pairs, from its records
 pairs_all : (P : List ℕ → Type 0) (t : ℕ) (rs : List KeyRecord) → AllByRecursion (λ r. r.tenant ≡ t → P r.key) rs → AllByRecursion (λ p. P p.0) (pairs_of_tenant t rs)
 pairs_all P t [] h = tt
-pairs_all P t (r ∷ rs) h = go (r.tenant == t) refl (pairs_all P t rs h.1)
-  where
-    go : (b : Bool) → (r.tenant == t) ≡ b → AllByRecursion (λ p. P p.0) (pairs_of_tenant t rs) → AllByRecursion (λ p. P p.0) (map key_part (cond b (r ∷ filter (λ s. s.tenant == t) rs) (filter (λ s. s.tenant == t) rs)))
-    go true e ih = (h.0 (eqb-true r.tenant t e), ih)
-    go false e ih = ih
+pairs_all P t (r ∷ rs) h =
+    let ih = pairs_all P t rs h.1 in
+    cond_both (r.tenant == t) (r ∷ filter (λ s. s.tenant == t) rs) (filter (λ s. s.tenant == t) rs) (λ l. AllByRecursion (λ p. P p.0) (map key_part l))
+    (λ e. (h.0 (eqb-true r.tenant t e), ih)) (λ e. ih)
 
 module _ (t : ℕ) (k : List ℕ) where
   before_key : (r : KeyRecord) → stands_to t k r ≡ Less → r.tenant ≡ t → IsTrue (is_below r.key k)
@@ -95,18 +92,10 @@ module _ (t : ℕ) (k : List ℕ) where
   pairs_append fs bs = ap (map key_part) (filter-append (λ r. r.tenant == t) fs bs) ∙ map-append key_part (filter (λ r. r.tenant == t) fs) (filter (λ r. r.tenant == t) bs)
 
   below_other : (j : List ℕ) → IsTrue (is_below j k) → bytes_eq j k ≡ false
-  below_other j h = go (bytes_eq j k) refl
-    where
-      go : (b : Bool) → bytes_eq j k ≡ b → b ≡ false
-      go false e = refl
-      go true e = let same = (bytes_eq-Decides j k).0 e in let no = not_below_itself k in absurd (true≢false (sym (subst (λ x. IsTrue (is_below x k)) same h) ∙ no))
+  below_other j h = false_from_ne_true (bytes_eq j k) (λ e. both_ways _ (not_below_itself k) (subst (λ x. IsTrue (is_below x k)) ((bytes_eq-Decides j k).0 e) h))
 
   above_other : (j : List ℕ) → IsTrue (is_below k j) → bytes_eq j k ≡ false
-  above_other j h = go (bytes_eq j k) refl
-    where
-      go : (b : Bool) → bytes_eq j k ≡ b → b ≡ false
-      go false e = refl
-      go true e = let same = (bytes_eq-Decides j k).0 e in let no = not_below_itself k in absurd (true≢false (sym (subst (λ x. IsTrue (is_below k x)) same h) ∙ no))
+  above_other j h = false_from_ne_true (bytes_eq j k) (λ e. both_ways _ (not_below_itself k) (subst (λ x. IsTrue (is_below k x)) ((bytes_eq-Decides j k).0 e) h))
 
   -- the value at a key that is in a gap, and at one that is there
   pub value_in_gap : (fs bs : List KeyRecord) → AllBefore t k fs → AllBehind t k bs → value_at bytes_eq k (pairs_of_tenant t (fs ++ bs)) ≡ None

@@ -4,23 +4,18 @@ use Rattle.std.specs.Prelude.{◌==◌, ◌||◌, ◌&&◌, nat_lt, int_lt, filt
 use Rattle.std.specs.List.{AllByRecursion, fold}
 use Rattle.std.specs.Ordering.{int_eq}
 use Rattle.std.specs.declared.cmp.Ordering.TheVariants.{Less}
-use Rattle.std.proofs.lemmas.Bool.{eq-eqb, ne_eqb, eqb-true, lt-ltb, le-ltb}
+use Rattle.std.proofs.lemmas.Bool.{cond_both, eq-eqb, ne_eqb, eqb-true, lt-ltb, le-ltb}
 use Rattle.std.proofs.lemmas.Grind.{flat_map-append}
 use Rattle.std.proofs.lemmas.List.{map-append}
-use Rattle.art_bytes.specs.Keys.{conflicts, is_below}
-use Rattle.art_lines.specs.Lines.{lines_of}
-use Rattle.art_lines.specs.Words.{Word, name, text_of, line_of}
-use Rattle.art_lines.specs.Commands.{put, nput, Command, of_tenant}
+use Rattle.art_bytes.proofs.Common.{conflicts, is_below}
+use Rattle.art_lines.proofs.Common.{lines_of, name, text_of, line_of, put, nput, Command, of_tenant, put_reply, end_words}
+use Rattle.art_lines.specs.Words.{Word}
 use Rattle.art_lines.specs.Reading.{command_of}
-use Rattle.art_engine.specs.Records.{Own, KeyRecord, NumberRecord, Records, no_records, own, with_own, InOrder, KeyComesBefore, NumberComesBefore, KeyFits, NumberFits, AreRecords}
-use Rattle.art_engine.specs.Replies.{value_at, has_conflict, with_pair, puts, command_reply, command_after, with_changed, key_lines, number_lines, dump_of}
-use Rattle.art_lines.specs.ReplyWords.{put_reply, end_words}
-use Rattle.art_engine.specs.Outcome.{answers, reply_to, records_after}
-use Rattle.art_engine.specs.Laws.{dump_text, DumpsTellRecords, DumpsAreReadBack}
+use Rattle.art_engine.proofs.Terms.{Own, KeyRecord, NumberRecord, Records, no_records, own, with_own, InOrder, KeyComesBefore, NumberComesBefore, KeyFits, NumberFits, AreRecords, value_at, has_conflict, with_pair, puts, command_reply, command_after, with_changed, key_lines, number_lines, dump_of, answers, reply_to, records_after, dump_text, DumpsTellRecords, DumpsAreReadBack}
 use Rattle.art_engine.proofs.Dropping.{IsOwnTest, own_find}
 use Rattle.art_engine.proofs.Dumping.{words_put, words_nput}
 use Rattle.art_engine.proofs.DumpTexts.{put_spelled, nput_spelled, end_spelled, put_lines, nput_lines, end_line, OneLine, lines_are}
-use Rattle.art_engine.proofs.Filters.{filter-all, filter-none, All-map, All-append}
+use Rattle.art_engine.proofs.Filters.{filter-all, filter-none, All-each, All-map, All-append}
 use Rattle.art_engine.proofs.OwnLaws.{key_part, key_made, key_ascends, number_part, number_made, number_ascends, in_place, records_from_lists}
 use Rattle.art_engine.proofs.NumberKeys.{int_lt_turned}
 use Rattle.art_engine.proofs.OwnParts.{cut_put}
@@ -72,16 +67,14 @@ module _ (fs : List KeyRecord) (x : KeyRecord) (order : InOrder KeyComesBefore (
 
   free : (rs : List KeyRecord) → AllByRecursion (λ r. KeyComesBefore r x) rs → has_conflict x.key (pairs_of_tenant x.tenant rs) ≡ false
   free [] h = refl
-  free (r ∷ rs) h = go (r.tenant == x.tenant) refl (free rs h.1)
+  free (r ∷ rs) h =
+      let ih = free rs h.1 in
+      cond_both (r.tenant == x.tenant) (r ∷ filter (λ s. s.tenant == x.tenant) rs) (filter (λ s. s.tenant == x.tenant) rs) (λ l. has_conflict x.key (map key_part l) ≡ false)
+      (λ e. let none = apart h.0 (eqb-true r.tenant x.tenant e) in rw none ih) (λ e. ih)
     where
       apart : KeyComesBefore r x → r.tenant ≡ x.tenant → conflicts x.key r.key ≡ false
       apart (inl lt) e = absurd (omega arith)
       apart (inr up) e = conflicts_back r.key x.key up.2
-
-      go : (b : Bool) → (r.tenant == x.tenant) ≡ b → has_conflict x.key (pairs_of_tenant x.tenant rs) ≡ false
-          → has_conflict x.key (map key_part (cond b (r ∷ filter (λ s. s.tenant == x.tenant) rs) (filter (λ s. s.tenant == x.tenant) rs))) ≡ false
-      go true e ih = rw (apart h.0 (eqb-true r.tenant x.tenant e)) ih
-      go false e ih = ih
 
   absent : value_at bytes_eq x.key (pairs_of_tenant x.tenant fs) ≡ None
   absent = ap (λ l. value_at bytes_eq x.key (pairs_of_tenant x.tenant l)) (sym (append-nil fs)) ∙ value_in_gap x.tenant x.key fs [] low tt
@@ -105,20 +98,22 @@ module _ (fs : List KeyRecord) (x : KeyRecord) (order : InOrder KeyComesBefore (
       ∙ records_put x.tenant x.key x.value fs [] [] (subst (InOrder KeyComesBefore) (sym (append-nil fs)) (InOrder-left KeyComesBefore fs (x ∷ []) order)) low tt tt)
       refl
 
--- so of all keys
-keys_back : (fs rs : List KeyRecord) → InOrder KeyComesBefore (fs ++ rs) → AllByRecursion KeyFits rs
-    → (replies (record { keys = fs; numbers = [] }) (map text_of (map words_put rs)) ≡ flat_map line_of (replicate (length rs) (name (codes "new") ∷ [])))
-    × (after (record { keys = fs; numbers = [] }) (map text_of (map words_put rs)) ≡ (let r : Records = record { keys = fs ++ rs; numbers = [] } in r))
-keys_back fs [] order fits = (refl, records_from_lists _ _ _ _ (sym (append-nil fs)) refl)
-keys_back fs (x ∷ rs) order fits =
-    let whole : fs ++ x ∷ rs ≡ (fs ++ x ∷ []) ++ rs = sym (append_assoc fs (x ∷ []) rs) in
-    let all = subst (InOrder KeyComesBefore) whole order in
-    let first = InOrder-left KeyComesBefore (fs ++ x ∷ []) rs all in
-    let rest = keys_back (fs ++ x ∷ []) rs all fits.1 in
-    let put_is = key_put fs x first fits.0 in (
-      ap₂ (λ a b. a ++ b) (key_new fs x first fits.0) (ap (λ r. replies r (map text_of (map words_put rs))) put_is ∙ rest.0),
-      ap (λ r. after r (map text_of (map words_put rs))) put_is ∙ rest.1 ∙ records_from_lists _ _ _ _ (sym whole) refl,
-    )
+-- so of all, where the lines of the records behind some are each answered `new` and put one more in
+module _ {X : Type 0} (words : X → List Word) (held : List X → Records) (Before : X → X → Type 0) (Fits : X → Type 0)
+    (new : (fs : List X) (x : X) → InOrder Before (fs ++ x ∷ []) → Fits x → reply_to (held fs) (text_of (words x)) ≡ new_line)
+    (put_in : (fs : List X) (x : X) → InOrder Before (fs ++ x ∷ []) → Fits x → records_after (held fs) (text_of (words x)) ≡ held (fs ++ x ∷ [])) where
+  all_back : (fs rs : List X) → InOrder Before (fs ++ rs) → AllByRecursion Fits rs
+      → (replies (held fs) (map text_of (map words rs)) ≡ flat_map line_of (replicate (length rs) (name (codes "new") ∷ []))) × (after (held fs) (map text_of (map words rs)) ≡ held (fs ++ rs))
+  all_back fs [] order fits = (refl, ap held (sym (append-nil fs)))
+  all_back fs (x ∷ rs) order fits =
+      let whole : fs ++ x ∷ rs ≡ (fs ++ x ∷ []) ++ rs = sym (append_assoc fs (x ∷ []) rs) in
+      let all = subst (InOrder Before) whole order in
+      let first = InOrder-left Before (fs ++ x ∷ []) rs all in
+      let rest = all_back (fs ++ x ∷ []) rs all fits.1 in
+      let put_is = put_in fs x first fits.0 in (
+        ap₂ (λ a b. a ++ b) (new fs x first fits.0) (ap (λ r. replies r (map text_of (map words rs))) put_is ∙ rest.0),
+        ap (λ r. after r (map text_of (map words rs))) put_is ∙ rest.1 ∙ ap held (sym whole),
+      )
 
 -- a put at a number behind all others
 module _ (ks : List KeyRecord) (keys_order : InOrder KeyComesBefore ks) (fs : List NumberRecord) (x : NumberRecord) (order : InOrder NumberComesBefore (fs ++ x ∷ [])) where
@@ -144,12 +139,8 @@ module _ (ks : List KeyRecord) (keys_order : InOrder KeyComesBefore ks) (fs : Li
   none_there =
       let Q : NumberRecord → Bool = λ r. (r.tenant == x.tenant) && int_eq r.key x.key in
       ap (option_map (λ (p : ℤ × List ℕ). p.1))
-      (sym (own_find (λ (r : NumberRecord). r.tenant) number_part x.tenant Q (λ p. int_eq p.0 x.key) fs (all_own fs))
+      (sym (own_find (λ (r : NumberRecord). r.tenant) number_part x.tenant Q (λ p. int_eq p.0 x.key) fs (All-each (IsOwnTest (λ (r : NumberRecord). r.tenant) number_part x.tenant Q (λ p. int_eq p.0 x.key)) (λ r. refl) fs))
       ∙ ap (option_map number_part) (find-none Q fs (All-map (λ r. NumberComesBefore r x) (λ r. Q r ≡ false) not_same fs all_before)))
-    where
-      all_own : (rs : List NumberRecord) → AllByRecursion (IsOwnTest (λ (r : NumberRecord). r.tenant) number_part x.tenant (λ r. (r.tenant == x.tenant) && int_eq r.key x.key) (λ p. int_eq p.0 x.key)) rs
-      all_own [] = tt
-      all_own (r ∷ rs) = (refl, all_own rs)
 
   number_new : NumberFits x → reply_to (record { keys = ks; numbers = fs }) (text_of (words_nput x)) ≡ new_line
   number_new fits =
@@ -166,20 +157,6 @@ module _ (ks : List KeyRecord) (keys_order : InOrder KeyComesBefore ks) (fs : Li
       ∙ ap₂ (λ a b. a ++ x ∷ b)
       (filter-all (λ r. nat_lt r.tenant x.tenant || ((r.tenant == x.tenant) && int_lt r.key x.key)) fs (All-map (λ r. NumberComesBefore r x) (λ r. (nat_lt r.tenant x.tenant || ((r.tenant == x.tenant) && int_lt r.key x.key)) ≡ true) is_lower fs all_before))
       (filter-none (λ r. nat_lt x.tenant r.tenant || ((r.tenant == x.tenant) && int_lt x.key r.key)) fs (All-map (λ r. NumberComesBefore r x) (λ r. (nat_lt x.tenant r.tenant || ((r.tenant == x.tenant) && int_lt x.key r.key)) ≡ false) not_higher fs all_before)))
-
-numbers_back : (ks : List KeyRecord) → InOrder KeyComesBefore ks → (fs rs : List NumberRecord) → InOrder NumberComesBefore (fs ++ rs) → AllByRecursion NumberFits rs
-    → (replies (record { keys = ks; numbers = fs }) (map text_of (map words_nput rs)) ≡ flat_map line_of (replicate (length rs) (name (codes "new") ∷ [])))
-    × (after (record { keys = ks; numbers = fs }) (map text_of (map words_nput rs)) ≡ (let r : Records = record { keys = ks; numbers = fs ++ rs } in r))
-numbers_back ks keys_order fs [] order fits = (refl, records_from_lists _ _ _ _ refl (sym (append-nil fs)))
-numbers_back ks keys_order fs (x ∷ rs) order fits =
-    let whole : fs ++ x ∷ rs ≡ (fs ++ x ∷ []) ++ rs = sym (append_assoc fs (x ∷ []) rs) in
-    let all = subst (InOrder NumberComesBefore) whole order in
-    let first = InOrder-left NumberComesBefore (fs ++ x ∷ []) rs all in
-    let rest = numbers_back ks keys_order (fs ++ x ∷ []) rs all fits.1 in
-    let put_is = number_put ks keys_order fs x first fits.0 in (
-      ap₂ (λ a b. a ++ b) (number_new ks keys_order fs x first fits.0) (ap (λ r. replies r (map text_of (map words_nput rs))) put_is ∙ rest.0),
-      ap (λ r. after r (map text_of (map words_nput rs))) put_is ∙ rest.1 ∙ records_from_lists _ _ _ _ refl (sym whole),
-    )
 
 -- the end is bad
 end_reply : (r : Records) (n : ℕ) → reply_to r (text_of (end_words n)) ≡ line_of (name (codes "bad") ∷ []) ++ []
@@ -208,8 +185,9 @@ module _ (r : Records) (are : AreRecords r) where
       let N : List (List ℕ) = map text_of (map words_nput r.numbers) in
       let E : List ℕ = text_of (end_words (length r.keys + length r.numbers)) in
       let middle : Records = record { keys = r.keys; numbers = [] } in
-      let keys = keys_back [] r.keys are.keys_in_order are.keys_fit in
-      let numbers = numbers_back r.keys are.keys_in_order [] r.numbers are.numbers_in_order are.numbers_fit in
+      let keys = all_back words_put (λ fs. record { keys = fs; numbers = [] }) KeyComesBefore KeyFits key_new key_put [] r.keys are.keys_in_order are.keys_fit in
+      let numbers = all_back words_nput (λ fs. record { keys = r.keys; numbers = fs }) NumberComesBefore NumberFits
+      (number_new r.keys are.keys_in_order) (number_put r.keys are.keys_in_order) [] r.numbers are.numbers_in_order are.numbers_fit in
       let news : ℕ → List (List Word) = λ n. replicate n (name (codes "new") ∷ []) in
       let bad : List (List Word) = (name (codes "bad") ∷ []) ∷ [] in (
         ap (λ ls. answers no_records (map (λ l. (l, false)) ls)) dump_lines ∙ answers_are no_records (K ++ (N ++ E ∷ [])) ∙ replies-append no_records K (N ++ E ∷ [])

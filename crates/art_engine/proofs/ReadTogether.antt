@@ -1,7 +1,7 @@
 -- What was read ahead, each pair if there is one: what one more adds.
 use Rattle.std.proofs.Common.{◌≡◌, ◌+◌, ◌++◌, List, [], ◌∷◌, length, Option, Some, None, refl, ap, sym, ◌∙◌, arith}
 use Rattle.std.specs.Prelude.{option_map}
-use Rattle.art_engine.specs.Spans.{pending, pending_all, IsClosed}
+use Rattle.art_engine.proofs.Terms.{pending, pending_all, IsClosed}
 
 module _ {R X : Type 0} (read : R → X) where
   -- one more stands before the rest

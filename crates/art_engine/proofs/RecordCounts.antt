@@ -1,28 +1,21 @@
 -- What is read of the records under keys, told by the definitions.
-use Rattle.std.proofs.Common.{◌≡◌, ℕ, ◌+◌, ◌-◌, ◌<◌, ◌≤◌, ◌^◌, min, List, [], ◌∷◌, length, map, filter, refl, ap, sym, ◌∙◌, subst, arith, Bool, true, false, not, cond, bytes_eq, Option, Some, None}
+use Rattle.std.proofs.Common.{◌≡◌, ℕ, ◌+◌, ◌-◌, ◌<◌, ◌≤◌, ◌^◌, min, List, [], ◌∷◌, length, map, filter, refl, ap, sym, ◌∙◌, subst, arith, Bool, true, false, not, cond, bytes_eq, Option, Some}
 use Rattle.std.specs.Prelude.{◌&&◌, int_lt, ℤ, option_map}
 use Rattle.std.specs.Map.{lookup, lookup_entry}
 use Rattle.std.specs.Global.{Vec}
 use Rattle.std.specs.List.{AllByRecursion}
 use Rattle.std.specs.declared.ops.Bound.TheVariants.{Included, Excluded}
 use Rattle.std.specs.BTreeMap.Range.{range_contains}
-use Rattle.art_bytes.specs.Keys.{is_below, bytes_cmp}
-use Rattle.art_arena.specs.tree.Tenants.{begins_with}
-use Rattle.art_operations.specs.Openings.{OpeningReads, ReadsAtLeast}
-use Rattle.art_walks.specs.MapReads.{ReadsPathOf}
-use Rattle.art_engine.specs.Counts.{exactly, listing, longest, path_nodes, GrewBy, Grew}
-use Rattle.art_bytes.specs.Laws.{pair_key}
-use Rattle.art_lines.specs.Keys.{full_key}
-use Rattle.art_engine.specs.Keys.{full_key_of, number_key_of}
-use Rattle.art_engine.specs.Records.{own}
-use Rattle.art_engine.specs.Replies.{value_at, numbers_from_to}
-use Rattle.art_engine.specs.Spans.{own_pair, IsListed, own_number, IsNumbered}
-use Rattle.art_engine.specs.Stored.{Pair, NumberPair, record_of, records_of, number_record_of, number_records_of, IsNumberPair, AreFull, ArePairs, AreNumberPairs}
-use Rattle.art_engine.proofs.Changing.{keys_are}
+use Rattle.art_bytes.proofs.Common.{is_below, bytes_cmp, pair_key}
+use Rattle.art_arena.proofs.Common.{begins_with}
+use Rattle.art_operations.proofs.Common.{OpeningReads, ReadsAtLeast}
+use Rattle.art_walks.proofs.Common.{ReadsPathOf}
+use Rattle.art_engine.proofs.Terms.{exactly, listing, longest, path_nodes, GrewBy, Grew, full_key_of, number_key_of, own, value_at, numbers_from_to, own_pair, IsListed, own_number, IsNumbered, Pair, NumberPair, record_of, records_of, number_record_of, number_records_of, IsNumberPair, AreFull, ArePairs, AreNumberPairs}
+use Rattle.art_lines.proofs.Common.{full_key}
+use Rattle.art_engine.proofs.Changing.{keys_are, option_map-map}
 use Rattle.art_engine.proofs.Conflicts.{bytes_of}
 use Rattle.art_engine.proofs.Counting.{path_is_short}
-use Rattle.art_engine.proofs.Dropping.{All-filter}
-use Rattle.art_engine.proofs.Filters.{length-map}
+use Rattle.art_engine.proofs.Filters.{All-each, All-filter, All-map, length-map, map-alike}
 use Rattle.art_engine.proofs.FullTests.{begins_full, between_full, same_full}
 use Rattle.art_engine.proofs.ListedLines.{are_listed, are_numbered, filter_shorter}
 use Rattle.art_engine.proofs.Listings.{listing_grew, path_grew, longest_by_keys, within_longest}
@@ -35,8 +28,7 @@ use Rattle.std.specs.Ordering.{int_eq}
 
 -- pairs without their tenant
 pub own_pairs : (ps : List Pair) → map key_part (map record_of ps) ≡ map own_pair ps
-own_pairs [] = refl
-own_pairs (p ∷ ps) = ap (λ l. own_pair p ∷ l) (own_pairs ps)
+own_pairs ps = map-alike key_part record_of own_pair ps (All-each (λ p. key_part (record_of p) ≡ own_pair p) (λ p. refl) ps)
 
 -- no key is longer than the longest of the records
 pub pairs_within : (ps : List Pair) → AreFull ps → AllByRecursion (λ p. length p.0.items ≤ longest full_key_of (map record_of ps)) ps
@@ -87,12 +79,11 @@ pub value_found : (t : ℕ) (k q : List ℕ) → t < 2 ^ 32 → q ≡ full_key t
     → option_map (λ p. p.1.items) (lookup_entry (λ j. bytes_eq j.items q) ps) ≡ value_at bytes_eq k (own t (records_of ps)).keys
 value_found t k q small same ps are =
     let T : List ℕ → Bool = λ j. bytes_eq j (full_key t k) in
+    let entry : Option Pair = lookup_entry (λ j. T j.items) ps in
+    let second : Option (List ℕ × List ℕ) → Option (List ℕ) = option_map (λ p. p.1) in
     ap (λ f. option_map (λ (p : Pair). p.1.items) (lookup_entry (λ j. bytes_eq j.items f) ps)) same
-    ∙ parts (lookup_entry (λ j. T j.items) ps) ∙ ap (option_map (λ (p : List ℕ × List ℕ). p.1)) (first_passing t T (λ j. bytes_eq j k) (λ u j s. same_full t u k j small s) ps are)
-  where
-    parts : (o : Option Pair) → option_map (λ (p : Pair). p.1.items) o ≡ option_map (λ (p : List ℕ × List ℕ). p.1) (option_map key_part (option_map record_of o))
-    parts None = refl
-    parts (Some p) = refl
+    ∙ sym (ap second (option_map-map key_part record_of entry) ∙ option_map-map (λ (p : List ℕ × List ℕ). p.1) (λ p. key_part (record_of p)) entry)
+    ∙ ap second (first_passing t T (λ j. bytes_eq j k) (λ u j s. same_full t u k j small s) ps are)
 
 -- a value is what an entry has
 pub entry_value : {K V : Type 0} (T : K → Bool) (ps : List (K × V)) → lookup T ps ≡ option_map (λ p. p.1) (lookup_entry T ps)
@@ -107,13 +98,9 @@ entry_value {K} {V} T (p ∷ ps) = go (T p.0) (entry_value T ps)
 pub number_value_found : (t : ℕ) (n : ℤ) (q : List ℕ) → HaveBytes t n → q ≡ pair_key (t, n) → (ns : List NumberPair) → AreNumberPairs ns
     → option_map (λ p. p.1.items) (lookup_entry (λ j. bytes_eq j q) ns) ≡ value_at int_eq n (own t (number_records_of ns)).numbers
 number_value_found t n q fits same ns are =
-    parts (lookup_entry (λ j. bytes_eq j q) ns)
+    sym (option_map-map (λ (v : Vec ℕ). v.items) (λ (p : NumberPair). p.1) (lookup_entry (λ j. bytes_eq j q) ns))
     ∙ ap (option_map (λ (v : Vec ℕ). v.items)) (sym (entry_value (λ j. bytes_eq j q) ns) ∙ ap (λ f. lookup (λ (j : List ℕ). bytes_eq j f) ns) same)
     ∙ number_found t n fits ns (stand_all ns are.stand are.fit)
-  where
-    parts : (o : Option NumberPair) → option_map (λ (p : NumberPair). p.1.items) o ≡ option_map (λ (v : Vec ℕ). v.items) (option_map (λ (p : NumberPair). p.1) o)
-    parts None = refl
-    parts (Some p) = refl
 
 -- a path in the map of numbers is one in the tree of the records
 pub number_path : (t : ℕ) (n : ℤ) (ns : List NumberPair) → AreNumberPairs ns → (old new : ℕ) → ReadsPathOf (λ (k : List ℕ). k) (pair_key (t, n)) ns old new
@@ -126,13 +113,11 @@ number_path t n ns are old new reads =
 
 -- the bytes of a number are twelve
 pub numbers_within : (ns : List NumberPair) → AllByRecursion IsNumberPair ns → AllByRecursion (λ p. length p.0 ≤ 12) ns
-numbers_within [] stand = tt
-numbers_within (p ∷ ns) stand = (let long = ap length stand.0 in omega arith, numbers_within ns stand.1)
+numbers_within ns stand = All-map IsNumberPair (λ p. length p.0 ≤ 12) (λ p is. let long = ap length is in omega arith) ns stand
 
 -- pairs without their tenant
 pub own_numbers : (ns : List NumberPair) → map number_part (map number_record_of ns) ≡ map own_number ns
-own_numbers [] = refl
-own_numbers (p ∷ ns) = ap (λ l. own_number p ∷ l) (own_numbers ns)
+own_numbers ns = map-alike number_part number_record_of own_number ns (All-each (λ p. number_part (number_record_of p) ≡ own_number p) (λ p. refl) ns)
 
 module _ (t : ℕ) (low high : ℤ) (fits_low : HaveBytes t low) (fits_high : HaveBytes t high) (ns : List NumberPair) (are : AreNumberPairs ns) where
   abbrev between : List ℕ → Bool

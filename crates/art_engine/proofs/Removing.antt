@@ -3,34 +3,26 @@ use Rattle.std.proofs.Common.{◌≡◌, ℕ, ◌<◌, ◌^◌, List, [], ◌∷
 use Rattle.std.specs.Prelude.{◌==◌, ◌&&◌, nat_lt, filter, option_map}
 use Rattle.std.specs.List.{AllByRecursion, find}
 use Rattle.std.specs.Map.{lookup_entry}
-use Rattle.art_lines.specs.Keys.{full_key}
-use Rattle.art_engine.specs.Keys.{full_key_of}
-use Rattle.art_engine.specs.Records.{KeyRecord, InOrder, KeyComesBefore}
-use Rattle.art_engine.specs.Stored.{Pair, record_of, IsFull, AreFull, IsOfTenant}
-use Rattle.art_engine.proofs.Dropping.{All-filter, InOrder-filter, IsOwnTest, own_filter, own_find, left_mine, left_before, left_behind, left_in_place}
+use Rattle.art_lines.proofs.Common.{full_key}
+use Rattle.art_engine.proofs.Terms.{full_key_of, KeyRecord, InOrder, KeyComesBefore, Pair, record_of, IsFull, AreFull, IsOfTenant}
+use Rattle.art_engine.proofs.Filters.{All-filter, All-map, filter-mapped}
+use Rattle.art_engine.proofs.Dropping.{InOrder-filter, IsOwnTest, own_filter, own_find, left_mine, left_before, left_behind, left_in_place}
 use Rattle.art_engine.proofs.OwnLaws.{key_part, key_made, key_ascends}
 use Rattle.art_engine.proofs.Putting.{pairs_of_tenant}
 
 module _ (T : List ℕ → Bool) where
   -- what passes of pairs is what passes of their records
   pub records_filter : (ps : List Pair) → AllByRecursion IsFull ps → map record_of (filter (λ p. T p.0.items) ps) ≡ filter (λ r. T (full_key_of r)) (map record_of ps)
-  records_filter [] full = refl
-  records_filter (p ∷ ps) full = go (T p.0.items) (ap T full.0) (records_filter ps full.1)
-    where
-      go : (b : Bool) → b ≡ T (full_key_of (record_of p)) → map record_of (filter (λ p. T p.0.items) ps) ≡ filter (λ r. T (full_key_of r)) (map record_of ps)
-          → map record_of (cond b (p ∷ filter (λ p. T p.0.items) ps) (filter (λ p. T p.0.items) ps))
-          ≡ filter (λ r. T (full_key_of r)) (record_of p ∷ map record_of ps)
-      go true e ih = rw (← e) (ap (λ l. record_of p ∷ l) ih)
-      go false e ih = rw (← e) ih
+  records_filter ps full = filter-mapped record_of (λ p. T p.0.items) (λ r. T (full_key_of r)) ps (All-map IsFull (λ p. T p.0.items ≡ T (full_key_of (record_of p))) (λ p e. ap T e) ps full)
 
   pub records_find : (ps : List Pair) → AllByRecursion IsFull ps → option_map record_of (lookup_entry (λ k. T k.items) ps) ≡ find (λ r. T (full_key_of r)) (map record_of ps)
   records_find [] full = refl
-  records_find (p ∷ ps) full = go (T p.0.items) (ap T full.0) (records_find ps full.1)
+  records_find (p ∷ ps) full = let first = ap T full.0 in rw first (go (T (full_key_of (record_of p))) (records_find ps full.1))
     where
-      go : (b : Bool) → b ≡ T (full_key_of (record_of p)) → option_map record_of (lookup_entry (λ k. T k.items) ps) ≡ find (λ r. T (full_key_of r)) (map record_of ps)
-          → option_map record_of (cond b (Some p) (lookup_entry (λ k. T k.items) ps)) ≡ find (λ r. T (full_key_of r)) (record_of p ∷ map record_of ps)
-      go true e ih = rw (← e) refl
-      go false e ih = rw (← e) ih
+      go : (b : Bool) → option_map record_of (lookup_entry (λ k. T k.items) ps) ≡ find (λ r. T (full_key_of r)) (map record_of ps)
+          → option_map record_of (cond b (Some p) (lookup_entry (λ k. T k.items) ps)) ≡ cond b (Some (record_of p)) (find (λ r. T (full_key_of r)) (map record_of ps))
+      go true ih = refl
+      go false ih = ih
 
 -- a test of full keys passes those of the tenant whose keys pass
 abbrev pub IsFullTest : ℕ → (List ℕ → Bool) → (List ℕ → Bool) → Type 0
@@ -38,8 +30,7 @@ IsFullTest t T G = (u : ℕ) (j : List ℕ) → u < 2 ^ 32 → T (full_key u j) 
 
 module _ (t : ℕ) (T G : List ℕ → Bool) (tests : IsFullTest t T G) where
   own_tests : (rs : List KeyRecord) → AllByRecursion IsOfTenant rs → AllByRecursion (IsOwnTest (λ (r : KeyRecord). r.tenant) key_part t (λ r. T (full_key_of r)) (λ p. G p.0)) rs
-  own_tests [] fits = tt
-  own_tests (r ∷ rs) fits = (tests r.tenant r.key fits.0, own_tests rs fits.1)
+  own_tests rs fits = All-map IsOfTenant (IsOwnTest (λ (r : KeyRecord). r.tenant) key_part t (λ r. T (full_key_of r)) (λ p. G p.0)) (λ r. tests r.tenant r.key) rs fits
 
   -- those that pass are the tenant's whose keys pass
   pub passing : (ps : List Pair) → AreFull ps → map key_part (map record_of (filter (λ p. T p.0.items) ps)) ≡ filter (λ p. G p.0) (pairs_of_tenant t (map record_of ps))

@@ -2,15 +2,10 @@
 use Rattle.std.proofs.Common.{◌≡◌, ℕ, List, [], ◌∷◌, refl, ap, sym, subst, ◌∙◌, append-nil, arith, Bool, true}
 use Rattle.std.proofs.lemmas.Bool.{false≢true}
 use Rattle.std.specs.Prelude.{Option, Some, None, flat_map, codes}
-use Rattle.art_lines.specs.Words.{Word, line_of, name}
-use Rattle.art_lines.specs.Commands.{put, drop, Command, of_tenant}
+use Rattle.art_lines.specs.Words.{Word}
+use Rattle.art_lines.proofs.Common.{line_of, name, put, drop, Command, of_tenant}
 use Rattle.art_lines.specs.Reading.{command_of}
-use Rattle.art_engine.specs.Records.{Records}
-use Rattle.art_engine.specs.Replies.{command_reply, command_after}
-use Rattle.art_engine.specs.Refusals.{MayRefuse}
-use Rattle.art_engine.specs.Outcome.{answer, left_by, reply_to, records_after}
-use Rattle.art_engine.specs.Changed.{IsPutDone, IsChangeDone, changed_words, found_no_memory}
-use Rattle.art_engine.specs.Counts.{visits_of, line_visits, IsWithin}
+use Rattle.art_engine.proofs.Terms.{Records, command_reply, command_after, MayRefuse, answer, left_by, reply_to, records_after, IsPutDone, IsChangeDone, changed_words, found_no_memory, visits_of, line_visits, IsWithin}
 use Rattle.art_engine.specs.Dropped.{IsDropDone, dropped_words, was_refused, visits_told}
 use Rattle.art_engine.specs.Survey.{IsSurvey, survey_words, finds_no_memory}
 use Rattle.art_engine.specs.declared.drop_tenant.Dropped.{Dropped}
@@ -32,31 +27,16 @@ told_once ws o r line e h = sym (append-nil (line_of ws)) ∙ ap (flat_map line_
 -- what a change is answered by, and what it leaves
 done_reply : (p : Changed) (c : Command) (old new : Records) (line : List ℕ) → Some c ≡ command_of line → IsChangeDone p c old new → line_of (changed_words p) ≡ answer (found_no_memory p) old line
 done_reply changed.Memory c old new line e h = refl
-done_reply (changed.Old o) c old new line e h = told_once (changed_words (changed.Old o)) (Some c) old line e h.0
-done_reply changed.New c old new line e h = told_once (changed_words changed.New) (Some c) old line e h.0
-done_reply changed.Conflict c old new line e h = told_once (changed_words changed.Conflict) (Some c) old line e h.0
-done_reply (changed.Over n) c old new line e h = told_once (changed_words (changed.Over n)) (Some c) old line e h.0
-done_reply (changed.Gone o) c old new line e h = told_once (changed_words (changed.Gone o)) (Some c) old line e h.0
-done_reply changed.Absent c old new line e h = told_once (changed_words changed.Absent) (Some c) old line e h.0
+done_reply p c old new line e h = told_once (changed_words p) (Some c) old line e h.0
 
 done_after : (p : Changed) (c : Command) (old new : Records) (line : List ℕ) → Some c ≡ command_of line → IsChangeDone p c old new → new ≡ left_by (found_no_memory p) old line
 done_after changed.Memory c old new line e h = h.0
-done_after (changed.Old o) c old new line e h = h.1 ∙ after_is (Some c) old line e
-done_after changed.New c old new line e h = h.1 ∙ after_is (Some c) old line e
-done_after changed.Conflict c old new line e h = h.1 ∙ after_is (Some c) old line e
-done_after (changed.Over n) c old new line e h = h.1 ∙ after_is (Some c) old line e
-done_after (changed.Gone o) c old new line e h = h.1 ∙ after_is (Some c) old line e
-done_after changed.Absent c old new line e h = h.1 ∙ after_is (Some c) old line e
+done_after p c old new line e h = h.1 ∙ after_is (Some c) old line e
 
 -- where it found no memory, it may do so
 done_may : (p : Changed) (c : Command) (old new : Records) → IsChangeDone p c old new → found_no_memory p ≡ true → MayRefuse old c
 done_may changed.Memory c old new h m = h.1
-done_may (changed.Old o) c old new h m = absurd (false≢true m)
-done_may changed.New c old new h m = absurd (false≢true m)
-done_may changed.Conflict c old new h m = absurd (false≢true m)
-done_may (changed.Over n) c old new h m = absurd (false≢true m)
-done_may (changed.Gone o) c old new h m = absurd (false≢true m)
-done_may changed.Absent c old new h m = absurd (false≢true m)
+done_may p c old new h m = absurd (false≢true m)
 
 module _ (p : Changed) (memory : Bool) (c : Command) (held old new : Records) (line : List ℕ) (found : memory ≡ found_no_memory p) (same : held ≡ old)
     (e : Some c ≡ command_of line) (h : IsChangeDone p c held new) where
@@ -72,12 +52,7 @@ module _ (p : Changed) (memory : Bool) (c : Command) (held old new : Records) (l
 -- a put is a change
 pub put_done : (p : Changed) (old new : Records) (t : ℕ) (k v : List ℕ) → IsPutDone p old t k v new → IsChangeDone p (of_tenant t (put k v)) old new
 put_done changed.Memory old new t k v h = (h, tt)
-put_done (changed.Old o) old new t k v h = h
-put_done changed.New old new t k v h = h
-put_done changed.Conflict old new t k v h = h
-put_done (changed.Over n) old new t k v h = h
-put_done (changed.Gone o) old new t k v h = h
-put_done changed.Absent old new t k v h = h
+put_done p old new t k v h = h
 
 -- what is written of the records that are held
 pub told_of : (held r : Records) (c : Command) (line : List ℕ) → Some c ≡ command_of line → held ≡ r
@@ -97,19 +72,16 @@ same_left r c line e h = sym h ∙ after_is (Some c) r line e
 told_answer : (t : Survey) (c : Command) (r : Records) (line : List ℕ) → Some c ≡ command_of line → IsSurvey t c r
     → flat_map line_of (survey_words t r) ≡ answer (finds_no_memory t) r line
 told_answer survey.Memory c r line e h = append-nil (line_of (name (codes "memory") ∷ []))
-told_answer survey.Lines c r line e h = ap (flat_map line_of) h ∙ reply_is (Some c) r line e
-told_answer (survey.Counts n m) c r line e h = ap (flat_map line_of) h ∙ reply_is (Some c) r line e
+told_answer t c r line e h = ap (flat_map line_of) h ∙ reply_is (Some c) r line e
 
 told_leaves : (t : Survey) (c : Command) (r : Records) (line : List ℕ) → Some c ≡ command_of line → command_after (Some c) r ≡ r
     → r ≡ left_by (finds_no_memory t) r line
 told_leaves survey.Memory c r line e h = refl
-told_leaves survey.Lines c r line e h = same_left r c line e h
-told_leaves (survey.Counts n m) c r line e h = same_left r c line e h
+told_leaves t c r line e h = same_left r c line e h
 
 told_may : (t : Survey) (c : Command) (r : Records) → IsSurvey t c r → finds_no_memory t ≡ true → MayRefuse r c
 told_may survey.Memory c r h m = h
-told_may survey.Lines c r h m = absurd (false≢true m)
-told_may (survey.Counts n k) c r h m = absurd (false≢true m)
+told_may t c r h m = absurd (false≢true m)
 
 module _ (t : Survey) (memory : Bool) (c : Command) (held old : Records) (line : List ℕ) (found : memory ≡ finds_no_memory t) (same : held ≡ old)
     (e : Some c ≡ command_of line) (h : IsSurvey t c held) where

@@ -3,8 +3,7 @@ use Rattle.std.proofs.Common.{◌≡◌, ℕ, List, [], ◌∷◌, ◌++◌, ref
 use Rattle.std.proofs.lemmas.Fn.{FoldsTo-push}
 use Rattle.std.proofs.lemmas.List.{map-append}
 use Rattle.std.specs.List.{FoldsTo}
-use Rattle.art_engine.specs.State.{State}
-use Rattle.art_engine.specs.Outcome.{answer, left_by, answers, IsLineDone, IsOutcome}
+use Rattle.art_engine.proofs.Terms.{State, answer, left_by, answers, IsLineDone, IsOutcome}
 
 -- a line was carried out as it is marked
 abbrev Step : State → List ℕ × Bool → State → Type 0

@@ -1,11 +1,9 @@
 -- A step of a span: its first pair is given, and the others are left.
-use Rattle.std.proofs.Common.{◌≡◌, ◌-◌, List, [], ◌∷◌, length, Option, Some, None, sym, ap, ◌∙◌}
+use Rattle.std.proofs.Common.{◌≡◌, List, [], ◌∷◌, length, Option, Some, None, sym, ap, ◌∙◌}
 use Rattle.std.specs.Prelude.{option_map, Result, Ok, Err, OnOk}
-use Rattle.art_arena.specs.arena.Arena.{Arena}
-use Rattle.art_walks.specs.MapReads.{IsSpan, IsSpanOf}
-use Rattle.art_walks.specs.Runs.{Ends}
-use Rattle.art_walks.proofs.RunLengths.{run-pairs}
-use Rattle.art_engine.specs.Spans.{pending, span_pairs}
+use Rattle.art_arena.proofs.Common.{Arena}
+use Rattle.art_walks.proofs.Common.{IsSpan, IsSpanOf, Ends, run-pairs}
+use Rattle.art_engine.proofs.Terms.{pending, span_pairs}
 
 module _ {K V : Type 0} where
   -- what a span has to give is what is left of it

@@ -1,18 +1,17 @@
 -- How records in order stand to a tenant's key.
 use Rattle.std.proofs.Common.{◌≡◌, ℕ, ◌<◌, ◌⊎◌, List, [], ◌∷◌, ◌++◌, map, refl, ap, sym, ◌∙◌, true, false, arith, inl, inr, subst}
-use Rattle.std.specs.Prelude.{◌==◌, nat_lt, IsTrue}
+use Rattle.std.specs.Prelude.{◌==◌, nat_lt, not, IsTrue}
 use Rattle.std.specs.List.{AllByRecursion}
 use Rattle.std.specs.declared.cmp.Ordering.{Ordering}
 use Rattle.std.specs.declared.cmp.Ordering.TheVariants.{Less, Equal, Greater}
-use Rattle.std.specs.Ordering.{nat_cmp, is_lt, ordering_then, ordering_reverse}
+use Rattle.std.specs.Ordering.{nat_cmp, is_lt, is_le, is_gt, ordering_then, ordering_reverse}
 use Rattle.std.specs.Cmp.Lexicographic.{slice_cmp}
 use Rattle.std.proofs.lemmas.Cmp.{nat_list_cmp_total}
 use Rattle.std.proofs.lemmas.Map.Text.{is_eq-slice_cmp}
 use Rattle.std.proofs.lemmas.Slice.Eq.{bytes_eq-Decides}
 use Rattle.std.proofs.lemmas.Bool.{lt-ltb, eq-eqb, ne_eqb, le-ltb, cases_lt}
-use Rattle.art_bytes.specs.Keys.{is_below}
-use Rattle.art_engine.specs.Records.{KeyRecord, InOrder, KeyComesBefore}
-use Rattle.art_engine.specs.Stored.{Pair, record_of}
+use Rattle.art_bytes.proofs.Common.{is_below}
+use Rattle.art_engine.proofs.Terms.{KeyRecord, InOrder, KeyComesBefore, Pair, record_of}
 use Rattle.art_engine.proofs.Filters.{All-map}
 
 -- how a record stands to a tenant's key: tenants compare first, then keys
@@ -28,8 +27,16 @@ StandsBehind t k r = (t < r.tenant) ⊎ ((r.tenant ≡ t) × IsTrue (is_below k 
 
 pub lt_is : (o : Ordering) → is_lt o ≡ true → o ≡ Less
 lt_is Less h = refl
-lt_is Equal h = cc
-lt_is Greater h = cc
+lt_is o h = cc
+
+-- tests of an answer that is turned
+pub le-reverse : (o : Ordering) → is_le (ordering_reverse o) ≡ not (is_lt o)
+le-reverse Less = refl
+le-reverse o = refl
+
+pub not_gt-reverse : (o : Ordering) → is_lt o ≡ false → is_gt (ordering_reverse o) ≡ false
+not_gt-reverse Less h = cc
+not_gt-reverse o h = refl
 
 pub cmp_less : (a b : List ℕ) → IsTrue (is_below a b) → slice_cmp nat_cmp a b ≡ Less
 cmp_less a b h = lt_is (slice_cmp nat_cmp a b) h

@@ -1,6 +1,6 @@
 -- A value that is put in where none was, and is then taken out, leaves the records as they were.
-use Rattle.art_engine.specs.Laws.{PutsAreUndone, NumberPutsAreUndone}
-use Rattle.std.proofs.Common.{◌≡◌, ℕ, ℤ, List, [], ◌∷◌, ◌++◌, Option, Some, None, refl, ap, ap₂, sym, ◌∙◌, Bool, true, false, cond, arith, inl, inr, true≢false}
+use Rattle.art_engine.proofs.Terms.{PutsAreUndone, NumberPutsAreUndone, Own, KeyRecord, NumberRecord, InOrder, KeyComesBefore, NumberComesBefore, own, with_own, puts, value_at, has_conflict, with_pair, without_at, with_changed, command_after}
+use Rattle.std.proofs.Common.{◌≡◌, ℕ, ℤ, List, [], ◌∷◌, ◌++◌, Option, Some, None, refl, ap, ap₂, sym, ◌∙◌, Bool, true, false, arith, inl, inr, true≢false}
 use Rattle.std.specs.Prelude.{◌==◌, int_lt, map, filter, not, option_map, codes, if◌then◌else◌}
 use Rattle.std.specs.List.{AllByRecursion, find}
 use Rattle.std.specs.Str.{bytes_eq}
@@ -11,15 +11,11 @@ use Rattle.std.proofs.lemmas.Cmp.{int_cmp_total}
 use Rattle.std.proofs.lemmas.Slice.Eq.{bytes_eq-Decides}
 use Rattle.std.specs.declared.cmp.Ordering.{Ordering}
 use Rattle.std.specs.declared.cmp.Ordering.TheVariants.{Less, Equal, Greater}
-use Rattle.std.proofs.lemmas.Bool.{eqb-true}
+use Rattle.std.proofs.lemmas.Bool.{cond_both, eqb-true}
 use Rattle.std.proofs.lemmas.List.Elements.{filter-append}
-use Rattle.art_bytes.specs.Keys.{is_below}
-use Rattle.art_lines.specs.Words.{name}
-use Rattle.art_lines.specs.Commands.{put, del, of_tenant}
-use Rattle.art_engine.specs.Records.{Own, KeyRecord, NumberRecord, InOrder, KeyComesBefore, NumberComesBefore, own, with_own}
-use Rattle.art_lines.specs.ReplyWords.{put_reply}
-use Rattle.art_engine.specs.Replies.{puts, value_at, has_conflict, with_pair, without_at, with_changed, command_after}
-use Rattle.art_engine.proofs.Filters.{filter-all, filter-none, All-map}
+use Rattle.art_bytes.proofs.Common.{is_below}
+use Rattle.art_lines.proofs.Common.{name, put, del, of_tenant, put_reply}
+use Rattle.art_engine.proofs.Filters.{filter-all, filter-none, All-filter, All-map}
 use Rattle.art_engine.proofs.OwnLaws.{own_reads_back, own_is_in_place, with_own_again, key_part, number_part}
 use Rattle.art_engine.proofs.Standing.{cmp_equal, cmp_greater, below_trans, not_both_below}
 use Rattle.art_engine.proofs.NumberKeys.{lt-int_cmp, int_lt_turned}
@@ -32,28 +28,24 @@ module _ {X P : Type 0} (tenant_of : X → ℕ) (part_of : X → P) (Before : X 
 
   all_behind : (t : ℕ) (x : X) (xs : List X) → tenant_of x ≡ t → AllByRecursion (Before x) xs → AllByRecursion (Comes (part_of x)) (parts t xs)
   all_behind t x [] is all = tt
-  all_behind t x (y ∷ xs) is all = go (tenant_of y == t) refl (all_behind t x xs is all.1)
-    where
-      go : (b : Bool) → (tenant_of y == t) ≡ b → AllByRecursion (Comes (part_of x)) (parts t xs) → AllByRecursion (Comes (part_of x)) (map part_of (cond b (y ∷ filter (λ x. tenant_of x == t) xs) (filter (λ x. tenant_of x == t) xs)))
-      go true e ih = (own_comes x y all.0 (is ∙ sym (eqb-true (tenant_of y) t e)), ih)
-      go false e ih = ih
+  all_behind t x (y ∷ xs) is all =
+      let ih = all_behind t x xs is all.1 in
+      cond_both (tenant_of y == t) (y ∷ filter (λ x. tenant_of x == t) xs) (filter (λ x. tenant_of x == t) xs) (λ l. AllByRecursion (Comes (part_of x)) (map part_of l))
+      (λ e. (own_comes x y all.0 (is ∙ sym (eqb-true (tenant_of y) t e)), ih)) (λ e. ih)
 
   pub own_in_order : (t : ℕ) (xs : List X) → InOrder Before xs → InOrder Comes (parts t xs)
   own_in_order t [] order = tt
-  own_in_order t (x ∷ xs) order = go (tenant_of x == t) refl (own_in_order t xs order.1)
-    where
-      go : (b : Bool) → (tenant_of x == t) ≡ b → InOrder Comes (parts t xs) → InOrder Comes (map part_of (cond b (x ∷ filter (λ x. tenant_of x == t) xs) (filter (λ x. tenant_of x == t) xs)))
-      go true e ih = (all_behind t x xs (eqb-true (tenant_of x) t e) order.0, ih)
-      go false e ih = ih
+  own_in_order t (x ∷ xs) order =
+      let ih = own_in_order t xs order.1 in
+      cond_both (tenant_of x == t) (x ∷ filter (λ x. tenant_of x == t) xs) (filter (λ x. tenant_of x == t) xs) (λ l. InOrder Comes (map part_of l))
+      (λ e. (all_behind t x xs (eqb-true (tenant_of x) t e) order.0, ih)) (λ e. ih)
 
 -- where nothing is found nothing passes the test
 pub none_passes : {X Y : Type 0} (f : X → Y) (test : X → Bool) (xs : List X) → option_map f (find test xs) ≡ None → AllByRecursion (λ x. test x ≡ false) xs
 none_passes f test [] none = tt
-none_passes f test (x ∷ xs) none = go (test x) refl none (none_passes f test xs)
-  where
-    go : (b : Bool) → test x ≡ b → option_map f (if b then Some x else find test xs) ≡ None → (option_map f (find test xs) ≡ None → AllByRecursion (λ x. test x ≡ false) xs) → AllByRecursion (λ x. test x ≡ false) (x ∷ xs)
-    go true e none ih = absurd (cc)
-    go false e none ih = (e, ih none)
+none_passes f test (x ∷ xs) none =
+    cond_both (test x) (Some x) (find test xs) (λ o. option_map f o ≡ None → AllByRecursion (λ x. test x ≡ false) (x ∷ xs))
+    (λ e some. absurd (cc)) (λ e rest. (e, none_passes f test xs rest)) none
 
 -- an ascending list, cut at a key that it hasn't
 module _ {K V : Type 0} (lt same : K → K → Bool) (k : K) (itself : same k k ≡ true)
@@ -66,12 +58,8 @@ module _ {K V : Type 0} (lt same : K → K → Bool) (k : K) (itself : same k k 
   AreOthers ps = AllByRecursion (λ p. same p.0 k ≡ false) ps
 
   kept : (t : K × V → Bool) (ps : List (K × V)) → AreOthers ps → filter (λ p. not (same p.0 k)) (filter t ps) ≡ filter t ps
-  kept t [] others = refl
-  kept t (p ∷ ps) others = go (t p) (kept t ps others.1)
-    where
-      go : (b : Bool) → filter (λ p. not (same p.0 k)) (filter t ps) ≡ filter t ps → filter (λ p. not (same p.0 k)) (cond b (p ∷ filter t ps) (filter t ps)) ≡ cond b (p ∷ filter t ps) (filter t ps)
-      go true ih = let other = others.0 in rw other (ap (λ l. p ∷ l) ih)
-      go false ih = ih
+  kept t ps others =
+      filter-all (λ p. not (same p.0 k)) (filter t ps) (All-filter (λ p. not (same p.0 k) ≡ true) t ps (All-map (λ p. same p.0 k ≡ false) (λ p. not (same p.0 k) ≡ true) (λ p e. ap not e) ps others))
 
   joined : (ps : List (K × V)) → Ascend ps → AreOthers ps → filter (λ p. lt p.0 k) ps ++ filter (λ p. lt k p.0) ps ≡ ps
   joined [] order others = refl
@@ -107,9 +95,8 @@ key_comes r s (inl lt) same = absurd (omega (arith, lt, same))
 key_comes r s (inr up) same = up.1
 
 new_means : (old : Option (List ℕ)) (conflict : Bool) → put_reply old conflict ∷ [] ≡ (name (codes "new") ∷ []) ∷ [] → (old ≡ None) × (conflict ≡ false)
-new_means (Some w) conflict is = absurd (cc)
 new_means None false is = (refl, refl)
-new_means None true is = absurd (cc)
+new_means old conflict is = absurd (cc)
 
 pub puts_are_undone : PutsAreUndone
 puts_are_undone t k v r are new =

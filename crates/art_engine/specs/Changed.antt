@@ -21,12 +21,7 @@ changed_words changed.Absent = name (codes "none") ∷ []
 -- whether it found no memory
 abbrev pub found_no_memory : Changed → Bool
 found_no_memory changed.Memory = true
-found_no_memory (changed.Old old) = false
-found_no_memory changed.New = false
-found_no_memory changed.Conflict = false
-found_no_memory (changed.Over count) = false
-found_no_memory (changed.Gone value) = false
-found_no_memory changed.Absent = false
+found_no_memory other = false
 
 -- A put was done as it is answered; where it found no memory, nothing is changed.
 abbrev pub IsPutDone : Changed → Records → ℕ → List ℕ → List ℕ → Records → Type 0

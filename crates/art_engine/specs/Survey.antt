@@ -18,8 +18,7 @@ survey_words survey.Memory records = (name (codes "memory") ∷ []) ∷ []
 -- whether there was no memory for it
 abbrev pub finds_no_memory : Survey → Bool
 finds_no_memory survey.Memory = true
-finds_no_memory survey.Lines = false
-finds_no_memory (survey.Counts keys numbers) = false
+finds_no_memory other = false
 
 -- This is what a command asks for; where there was no memory for it, there may be none.
 abbrev pub IsSurvey : Survey → Command → Records → Type 0

@@ -6,36 +6,43 @@ ghost use Rattle.art_engine.specs.Laws.{FullKeysKeepOrder, FullKeysKeepConflicts
 ghost use Rattle.art_engine.specs.Laws.{PutsAreUndone, NumberPutsAreUndone};
 
 /// What is put in place for a tenant is what it holds then.
+#[tactic(auto, using(crate::proofs::OwnLaws::own_reads_back))]
 pub fn own_reads_back()
     ensures { OwnReadsBack }
 {}
 
 /// What another tenant holds is untouched by it.
+#[tactic(auto, using(crate::proofs::OwnLaws::others_are_untouched))]
 pub fn others_are_untouched()
     ensures { OthersAreUntouched }
 {}
 
 /// What a tenant holds, put in place again, changes nothing.
+#[tactic(auto, using(crate::proofs::OwnLaws::own_is_in_place))]
 pub fn own_is_in_place()
     ensures { OwnIsInPlace }
 {}
 
 /// Full keys are in order if their tenants are, and within a tenant if its keys are.
+#[tactic(auto, using(crate::proofs::FullKeys::full_keys_keep_order))]
 pub fn full_keys_keep_order()
     ensures { FullKeysKeepOrder }
 {}
 
 /// Full keys conflict if they are one tenant's and its keys do.
+#[tactic(auto, using(crate::proofs::FullKeys::full_keys_keep_conflicts))]
 pub fn full_keys_keep_conflicts()
     ensures { FullKeysKeepConflicts }
 {}
 
 /// What a tenant holds is what the two maps have after the tenant's prefix, with the prefix cut off.
+#[tactic(auto, using(crate::proofs::OwnFronts::own_is_behind_front))]
 pub fn own_is_behind_front()
     ensures { OwnIsBehindFront }
 {}
 
 /// A request of one tenant leaves what all others hold.
+#[tactic(auto, using(crate::proofs::Isolation::requests_leave_others))]
 pub fn requests_leave_others()
     ensures { RequestsLeaveOthers }
 {}
@@ -58,12 +65,14 @@ pub fn deletions_go_by_own_numbers()
 
 /// A `put` is answered `new`, and then a `del` of that key is not answered `memory`: the records are then as they were.
 /// So is what a `dump` and an `audit` write.
+#[tactic(auto, using(crate::proofs::Undoing::puts_are_undone))]
 pub fn puts_are_undone()
     ensures { PutsAreUndone }
 {}
 
 /// A `nput` is answered `new`, and then a `ndel` of that number is not answered `memory`: the records are then as they
 /// were. So is what a `dump` and an `audit` write.
+#[tactic(auto, using(crate::proofs::Undoing::number_puts_are_undone))]
 pub fn number_puts_are_undone()
     ensures { NumberPutsAreUndone }
 {}

@@ -58,10 +58,14 @@ pub(crate) fn is_run<const PREFIX_LEN: usize>(
     begins && ran && source.ended() && !source.failed() && !sink.failed()
 }
 
-/// Whether an index holds this, by a dump of it.
-fn holds<const PREFIX_LEN: usize>(index: &mut Index<PREFIX_LEN>, wanted: &[u8]) -> bool {
+/// Whether a line is answered so.
+pub(crate) fn is_answered<const PREFIX_LEN: usize>(
+    index: &mut Index<PREFIX_LEN>,
+    line: &[u8],
+    reply: &[u8],
+) -> bool {
     let mut out = Room::new();
-    is_run(index, b"dump", &mut out) && out.is(wanted)
+    is_run(index, line, &mut out) && out.is(reply)
 }
 
 /// Gives a text at each read but the second, which a signal interrupts, and counts its reads. It ends at the fourth.
@@ -101,7 +105,7 @@ fn a_failed_read_is_the_last<const PREFIX_LEN: usize>(index: &mut Index<PREFIX_L
         && fails
         && reader.reads == 2
         && out.is(b"new\n")
-        && holds(index, b"put 1 0a 61\nend 1\n")
+        && is_answered(index, b"dump", b"put 1 0a 61\nend 1\n")
 }
 
 /// Takes each piece but the second, at which it takes nothing or a signal interrupts it, and counts its writes.
@@ -147,7 +151,7 @@ fn a_failed_write_is_the_last<const PREFIX_LEN: usize>(
         && fails
         && writer.writes == 2
         && writer.taken.is(b"bad\n")
-        && holds(index, b"end 0\n")
+        && is_answered(index, b"dump", b"end 0\n")
 }
 
 /// Whether faults of either end leave what was done.

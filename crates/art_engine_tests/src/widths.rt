@@ -1,7 +1,7 @@
 //! One node of each kind at its fewest children, and with one fewer, for three lengths of stored prefixes.
 ghost use Rattle.std.specs.Prelude.{◌≤◌};
 
-use crate::calls::{Room, is_run};
+use crate::calls::is_answered;
 use art_engine::Index;
 use std::alloc::Global;
 
@@ -39,16 +39,6 @@ fn digits(byte: u8) -> [u8; 2] {
         DIGITS[usize::from(byte / 16)],
         DIGITS[usize::from(byte % 16)],
     ]
-}
-
-/// Whether a line is answered so.
-fn is_answered<const PREFIX_LEN: usize>(
-    index: &mut Index<PREFIX_LEN>,
-    line: &[u8],
-    reply: &[u8],
-) -> bool {
-    let mut out = Room::new();
-    is_run(index, line, &mut out) && out.is(reply)
 }
 
 /// Whether the keys of one byte below this one are new.

@@ -1,8 +1,7 @@
 -- Texts that are taken part by part, and where a write fails within one.
-use Rattle.std.proofs.Common.{◌≡◌, ℕ, ◌≢◌, Bool, List, [], ◌∷◌, ◌++◌, length, take, refl, ap, sym, ◌∙◌, arith, subst, Result, Ok, Err, OnErr, append_assoc, append-nil}
+use Rattle.std.proofs.Common.{◌≡◌, ℕ, ◌≢◌, Bool, List, [], ◌∷◌, ◌++◌, length, take, refl, ap, sym, ◌∙◌, arith, subst, Result, Ok, Err, IsErr, OnErr, true, append_assoc, append-nil}
 use Rattle.std.proofs.lemmas.Result.{on_err_weaker, on_ok_weaker}
-use Rattle.art_lines.specs.Writes.{IsCut, Writes}
-use Rattle.art_lines.specs.Gathered.{IsPartTaken}
+use Rattle.art_lines.proofs.Terms.{IsCut, Writes, IsPartTaken}
 
 not_empty : (missing rest : List ℕ) → missing ≢ [] → missing ++ rest ≢ []
 not_empty [] rest some = absurd (some refl)
@@ -36,6 +35,15 @@ cut_same before after text text' e c = subst (IsCut before after) e c
 pub when_err : {T E P : Type 0} (r : Result T E) → P → OnErr r P
 when_err (Ok x) p = tt
 when_err (Err e) p = p
+
+-- where a write failed, a beginning was taken
+pub writes_cut : {T E : Type 0} (r : Result T E) (before after text : List ℕ) (failed : Bool) → IsErr r → true ≡ failed → IsCut before after text → Writes r before after text failed
+writes_cut (Ok x) before after text failed is f cut = cc
+writes_cut (Err e) before after text failed is f cut = record { ok = tt; cut = cut; failed = f }
+
+-- a text that is written in another way
+pub writes_same : {T E : Type 0} (r : Result T E) (before after text text' : List ℕ) (failed : Bool) → text ≡ text' → Writes r before after text failed → Writes r before after text' failed
+writes_same r before after text text' failed e w = subst (λ t. Writes r before after t failed) e w
 
 -- at first nothing is taken
 pub taken_none : (before rest text : List ℕ) → rest ≡ text → IsPartTaken before before rest text

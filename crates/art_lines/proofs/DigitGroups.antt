@@ -1,7 +1,7 @@
 -- Hexadecimal digits in groups: the values of sixteen side by side, and groups one behind another.
-use Rattle.std.proofs.Common.{◌≡◌, ℕ, zero, suc, ◌+◌, ◌-◌, ◌*◌, ◌%◌, ◌^◌, ◌<◌, ◌≤◌, Bool, true, false, cond, ltb, eqb, w8, Fits, bit_and, bit_or, List, [], ◌∷◌, ◌++◌, map, length, take, drop, replicate, refl, sym, ap, ap₂, ◌∙◌, subst, arith, inl, inr, take-add, take-append-drop}
+use Rattle.std.proofs.Common.{◌≡◌, ℕ, suc, ◌+◌, ◌-◌, ◌*◌, ◌%◌, ◌^◌, ◌<◌, ◌≤◌, Bool, true, false, cond, ltb, eqb, w8, Fits, bit_and, bit_or, List, [], ◌∷◌, ◌++◌, map, length, take, drop, replicate, refl, sym, ap, ap₂, ◌∙◌, subst, arith, inl, inr, take-add, take-append-drop}
 use Rattle.std.specs.Prelude.{Option, Some, None, Result, Ok, Err, ◌==◌, ◌&&◌, nat_lt, is_ok, MatchBool}
-use Rattle.std.proofs.lemmas.Bool.{eqb-true, ltb-true, ltb-false, lt-ltb, le-ltb, eq-eqb, ne_eqb, and_parts, and_left, cases_lt, cases_eq}
+use Rattle.std.proofs.lemmas.Bool.{eqb-true, ltb-true, ltb-false, lt-ltb, le-ltb, eq-eqb, ne_eqb, and_parts, and_left, cases_eq, agree_below_at}
 use Rattle.std.proofs.lemmas.List.{length-map, length-append, length-drop, length-take-le, take_all, take_at}
 use Rattle.std.proofs.lemmas.Nat.{le_or_l, le_or_r, or_lt}
 use Rattle.std.proofs.lemmas.Simd.{mask_l-mod, length-zip2, length-chunk}
@@ -54,21 +54,8 @@ abbrev agrees : ℕ → Option ℕ → Bool
 agrees v (Some w) = (v == w) && nat_lt v 16
 agrees v None = nat_lt 15 v
 
-abbrev all_agree : ℕ → Bool
-all_agree zero = true
-all_agree (suc n) = agrees (value n) (hex_digit_value n) && all_agree n
-
-bytes_agree : all_agree 256 ≡ true
-bytes_agree = refl
-
-agrees_at : (n d : ℕ) → d < n → all_agree n ≡ true → agrees (value d) (hex_digit_value d) ≡ true
-agrees_at zero d low h = absurd (omega arith)
-agrees_at (suc n) d low h =
-    let parts = and_parts (agrees (value n) (hex_digit_value n)) (all_agree n) h in
-    elim (cases_lt d n) [
-      | inl under ↦ agrees_at n d under parts.1
-      | inr high ↦ let same : n ≡ d = omega arith in subst (λ k. agrees (value k) (hex_digit_value k) ≡ true) same parts.0
-    ]
+agrees_at : (d : ℕ) → d < 256 → agrees (value d) (hex_digit_value d) ≡ true
+agrees_at d low = agree_below_at (λ n. agrees (value n) (hex_digit_value n)) (λ n. true) 256 d refl low
 
 told : (d v : ℕ) (o : Option ℕ) → hex_digit_value d ≡ o → agrees v o ≡ true → IsValue d v
 told d v (Some w) is h =
@@ -78,7 +65,7 @@ told d v None is h = let high = ltb-true 15 v h in record { some = λ low. absur
 
 each_is : (ds : List ℕ) → Each1 (Fits w8) ds → AreValues ds (values (length ds) ds)
 each_is [] fits = tt
-each_is (d ∷ ds) fits = (told d (value d) (hex_digit_value d) refl (agrees_at 256 d fits.0.fits bytes_agree), each_is ds fits.1)
+each_is (d ∷ ds) fits = (told d (value d) (hex_digit_value d) refl (agrees_at d fits.0.fits), each_is ds fits.1)
 
 pub values_are : (ds : List ℕ) → length ds ≡ 16 → Each1 (Fits w8) ds → AreValues ds (values 16 ds)
 values_are ds long fits = subst (λ (n : ℕ). AreValues ds (values n ds)) long (each_is ds fits)
@@ -134,25 +121,20 @@ nat_lt_or a b = go (nat_lt a 16) (nat_lt b 16) refl refl
     go false q e f = let high = ltb-false a 16 e in let more = le_or_l a b in le-ltb (bit_or a b) 16 (omega arith)
 
 four : (a b c d : Bool) → ((a && b) && (c && d)) ≡ ((a && c) && (b && d))
-four true b true d = refl
-four true true false d = refl
 four true false false d = refl
-four false b c d = refl
+four a b c d = refl
 
 are_digits_or : (f v : List ℕ) → length f ≡ length v → are_digits (zip2 bit_or f v) ≡ (are_digits f && are_digits v)
 are_digits_or [] [] same = refl
-are_digits_or [] (x ∷ v) same = absurd (omega arith)
-are_digits_or (a ∷ f) [] same = absurd (omega arith)
 are_digits_or (a ∷ f) (x ∷ v) same =
     ap₂ (λ p q. p && q) (nat_lt_or a x) (are_digits_or f v (omega arith)) ∙ four (nat_lt a 16) (nat_lt x 16) (are_digits f) (are_digits v)
+are_digits_or f v same = absurd (omega arith)
 
 -- ---- digits as bytes, with no word of where one is none
 
 abbrev byte_then : Option ℕ → Option ℕ → Option (List ℕ) → Option (List ℕ)
 byte_then (Some high) (Some low) (Some rest) = Some ((high * 16 + low) ∷ rest)
-byte_then (Some high) (Some low) None = None
-byte_then (Some high) None rest = None
-byte_then None low rest = None
+byte_then high low rest = None
 
 abbrev read : List ℕ → Option (List ℕ)
 read [] = Some []
@@ -166,9 +148,7 @@ plain (Err e) = None
 plain_pair : (a b i : ℕ) (high low : Option ℕ) (rest : Result (List ℕ) FromHexError)
     → plain ((digit_or_error a i high >>= (λ h. digit_or_error b (i + 1) low >>= (λ l. Ok (h * 16 + l)))) >>= (λ byte. rest >>= (λ bytes. Ok (byte ∷ bytes)))) ≡ byte_then high low (plain rest)
 plain_pair a b i (Some h) (Some l) (Ok bytes) = refl
-plain_pair a b i (Some h) (Some l) (Err e) = refl
-plain_pair a b i (Some h) None rest = refl
-plain_pair a b i None low rest = refl
+plain_pair a b i high low rest = refl
 
 plain_is : (i : ℕ) (s : List ℕ) → plain (decode_pairs i s) ≡ read s
 unfolding decode_pairs
@@ -211,15 +191,11 @@ reads_by false s out even h = sym (plain_is 0 s) ∙ not_ok (decode_pairs 0 s) (
 
 abbrev joined : Option (List ℕ) → Option (List ℕ) → Option (List ℕ)
 joined (Some x) (Some y) = Some (x ++ y)
-joined (Some x) None = None
-joined None o = None
+joined a b = None
 
 joined_pair : (high low : Option ℕ) (r o : Option (List ℕ)) → byte_then high low (joined r o) ≡ joined (byte_then high low r) o
 joined_pair (Some h) (Some l) (Some x) (Some y) = refl
-joined_pair (Some h) (Some l) (Some x) None = refl
-joined_pair (Some h) (Some l) None o = refl
-joined_pair (Some h) None r o = refl
-joined_pair None low r o = refl
+joined_pair high low r o = refl
 
 joined_none : (o : Option (List ℕ)) → o ≡ joined (Some []) o
 joined_none (Some y) = refl
@@ -232,9 +208,9 @@ read_append (x ∷ y ∷ a) b even =
     ap (byte_then (hex_digit_value x) (hex_digit_value y)) (read_append a b (omega arith)) ∙ joined_pair (hex_digit_value x) (hex_digit_value y) (read a) (read b)
 
 pub reads_then : (p q : Bool) (a b x y : List ℕ) → length a % 2 ≡ 0 → Reads p a x → Reads q b y → Reads (p && q) (a ++ b) (x ++ y)
+reads_then false q a b x y even g h = read_append a b even ∙ ap (λ r. joined r (read b)) g
 reads_then true true a b x y even g h = read_append a b even ∙ ap₂ joined g h
 reads_then true false a b x y even g h = read_append a b even ∙ ap₂ joined g h
-reads_then false q a b x y even g h = read_append a b even ∙ ap (λ r. joined r (read b)) g
 
 -- ---- the digits of a group
 
@@ -254,18 +230,15 @@ pair_read a b h l false q r s out e f high low so =
 
 pub group_read : (ds vs : List ℕ) → length ds % 2 ≡ 0 → AreValues ds vs → Reads (are_digits vs) ds (paired vs)
 group_read [] [] even are = refl
-group_read [] (v ∷ vs) even are = absurd are
-group_read (d ∷ ds) [] even are = absurd are
 group_read (d ∷ []) (v ∷ vs) even are = absurd (omega arith)
-group_read (a ∷ b ∷ ds) (h ∷ []) even are = absurd are.1
 group_read (a ∷ b ∷ ds) (h ∷ l ∷ vs) even are =
     pair_read a b h l (nat_lt h 16) (nat_lt l 16) (are_digits vs) ds (paired vs) refl refl are.0 are.1.0 (group_read ds vs (omega arith) are.1.1)
+group_read ds vs even are = absurd assumption
 
 length-values : (ds vs : List ℕ) → AreValues ds vs → length vs ≡ length ds
 length-values [] [] are = refl
-length-values [] (v ∷ vs) are = absurd are
-length-values (d ∷ ds) [] are = absurd are
 length-values (d ∷ ds) (v ∷ vs) are = ap suc (length-values ds vs are.1)
+length-values ds vs are = absurd are
 
 pub reads_same : (p q : Bool) (s t out all : List ℕ) → p ≡ q → s ≡ t → out ≡ all → Reads p s out → Reads q t all
 reads_same p q s t out all e f g h = subst (λ b. Reads b t all) e (subst (λ l. Reads p l all) f (subst (λ l. Reads p s l) g h))

@@ -1,7 +1,7 @@
 -- Pairs of hexadecimal digits.
-use Rattle.std.proofs.Common.{◌≡◌, ℕ, zero, suc, ◌+◌, ◌*◌, ◌%◌, ◌<◌, ◌≤◌, List, [], ◌∷◌, length, take, drop, refl, sym, ap, ◌∙◌, subst, arith, inl, inr, Bool, true, false}
+use Rattle.std.proofs.Common.{◌≡◌, ℕ, ◌+◌, ◌*◌, ◌%◌, ◌<◌, ◌≤◌, List, [], ◌∷◌, length, take, drop, refl, sym, ap, ◌∙◌, subst, arith, inl, inr, Bool, true, false}
 use Rattle.std.specs.Prelude.{Option, Some, None, Ok, Err, ◌==◌, ◌&&◌, nat_lt, slice_index, slice_index_or, slice_set, bit_or, is_ok, MatchBool}
-use Rattle.std.proofs.lemmas.Bool.{eqb-true, ltb-true, ltb-false, cases_lt, true≢false}
+use Rattle.std.proofs.lemmas.Bool.{eqb-true, ltb-true, ltb-false, cases_lt, and_parts, agree_below_at}
 use Rattle.std.proofs.lemmas.Nat.{le_or_l, le_or_r, or_of_8}
 use Rattle.hex.specs.Hex.{hex_digit_value, pair_value, decode_pairs, decode_of}
 use Rattle.hex.proofs.Pairs.{prepend, decode_start, decode_step, decode_err, decode_done}
@@ -26,23 +26,8 @@ abbrev agrees : ℕ → Option ℕ → Bool
 agrees v (Some w) = (v == w) && nat_lt v 16
 agrees v None = v == 256
 
-abbrev all_agree : ℕ → Bool
-all_agree zero = true
-all_agree (suc n) = agrees (slice_index_or table n 0) (hex_digit_value n) && all_agree n
-
-table_agrees : all_agree 256 ≡ true
-table_agrees = refl
-
-both : (a b : Bool) → (a && b) ≡ true → (a ≡ true) × (b ≡ true)
-both true b h = (refl, h)
-both false b h = absurd (true≢false (sym h))
-
-agrees_at : (n d : ℕ) → d < n → all_agree n ≡ true → agrees (slice_index_or table d 0) (hex_digit_value d) ≡ true
-agrees_at zero d low h = absurd (omega arith)
-agrees_at (suc n) d low h = elim (cases_lt d n) [
-  | inl below ↦ agrees_at n d below (both (agrees (slice_index_or table n 0) (hex_digit_value n)) (all_agree n) h).1
-  | inr high ↦ let same : n ≡ d = omega arith in subst (λ k. agrees (slice_index_or table k 0) (hex_digit_value k) ≡ true) same (both (agrees (slice_index_or table n 0) (hex_digit_value n)) (all_agree n) h).0
-]
+agrees_at : (d : ℕ) → d < 256 → agrees (slice_index_or table d 0) (hex_digit_value d) ≡ true
+agrees_at d low = agree_below_at (λ n. agrees (slice_index_or table n 0) (hex_digit_value n)) (λ n. true) 256 d refl low
 
 pub record IsDigit (d v : ℕ) : Type 0 where
   pub value : v < 16 → hex_digit_value d ≡ Some v
@@ -51,7 +36,7 @@ pub record IsDigit (d v : ℕ) : Type 0 where
 
 told : (d v : ℕ) (o : Option ℕ) → hex_digit_value d ≡ o → agrees v o ≡ true → IsDigit d v
 told d v (Some w) is h =
-    let parts = both (v == w) (nat_lt v 16) h in let same = eqb-true v w parts.0 in let low = ltb-true v 16 parts.1 in
+    let parts = and_parts (v == w) (nat_lt v 16) h in let same = eqb-true v w parts.0 in let low = ltb-true v 16 parts.1 in
     record { value = λ _. is ∙ ap (λ k. Some k) (sym same); none = λ high. absurd (omega arith); mark = λ high. absurd (omega arith) }
 told d v None is h =
     let same = eqb-true v 256 h in
@@ -59,7 +44,7 @@ told d v None is h =
 
 -- what the table says of a byte
 pub is_digit : (d i : ℕ) → d < 256 → i ≡ d → IsDigit d (slice_index_or table i 0)
-is_digit d i low same = subst (λ k. IsDigit d (slice_index_or table k 0)) (sym same) (told d (slice_index_or table d 0) (hex_digit_value d) refl (agrees_at 256 d low table_agrees))
+is_digit d i low same = subst (λ k. IsDigit d (slice_index_or table k 0)) (sym same) (told d (slice_index_or table d 0) (hex_digit_value d) refl (agrees_at d low))
 
 -- what is decoded of the digits s, so far as they are pairs before i; faults is all their pairs, joined
 pub record Decoded (s out : List ℕ) (i faults : ℕ) : Type 0 where

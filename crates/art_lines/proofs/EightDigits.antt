@@ -1,13 +1,13 @@
 -- The digits of eight bytes side by side, and of bytes eight at a time.
-use Rattle.std.proofs.Common.{◌≡◌, ℕ, zero, suc, ◌+◌, ◌*◌, ◌/◌, ◌%◌, ◌^◌, ◌<◌, Bool, true, cond, w8, Fits, bit_and, List, [], ◌∷◌, ◌++◌, length, get_or, take, drop, replicate, refl, ap, sym, ◌∙◌, subst, inl, inr, arith, take-add}
-use Rattle.std.specs.Prelude.{◌==◌, ◌&&◌, slice_index}
-use Rattle.std.proofs.lemmas.Bool.{eqb-true, and_parts, cases_lt}
+use Rattle.std.proofs.Common.{◌≡◌, ℕ, ◌+◌, ◌*◌, ◌/◌, ◌%◌, ◌^◌, ◌<◌, true, cond, w8, Fits, bit_and, List, [], ◌∷◌, ◌++◌, length, get_or, take, drop, replicate, refl, ap, sym, ◌∙◌, arith, take-add}
+use Rattle.std.specs.Prelude.{◌==◌, slice_index}
+use Rattle.std.proofs.lemmas.Bool.{eqb-true, agree_below_at}
 use Rattle.std.proofs.lemmas.Nat.{and_mask}
 use Rattle.std.proofs.lemmas.Simd.{swz_l, SwzOk, SwzOk-from_below}
 use lib.Lanes.{zip2, pick_l, Each1}
 use mir.Val.{zeroes}
 use Rattle.hex.specs.Hex.{encode_with, encode_lower, lower_digits}
-use Rattle.art_lines.specs.Gathered.{Puts}
+use Rattle.art_lines.proofs.Terms.{Puts}
 use Rattle.art_lines.proofs.HexText.{encode_with-append, encode_lower-nil}
 use Rattle.art_lines.proofs.Gathering.{puts_then, puts_same, digits_none}
 
@@ -15,63 +15,26 @@ use Rattle.art_lines.proofs.Gathering.{puts_then, puts_same, digits_none}
 abbrev digit : ℕ → ℕ
 digit n = cond (zeroes 16 w8 n) 0 (get_or lower_digits (16 * (0 / 16) + n) 0)
 
-abbrev are_digits : ℕ → Bool
-are_digits zero = true
-are_digits (suc n) = (digit n == slice_index lower_digits n) && are_digits n
-
-all_are_digits : are_digits 16 ≡ true
-all_are_digits = refl
-
-digit_in : (n d : ℕ) → d < n → are_digits n ≡ true → digit d ≡ slice_index lower_digits d
-digit_in zero d low h = absurd (omega arith)
-digit_in (suc n) d low h =
-    let parts = and_parts (digit n == slice_index lower_digits n) (are_digits n) h in
-    elim (cases_lt d n) [
-      | inl below ↦ digit_in n d below parts.1
-      | inr high ↦ let same : n ≡ d = omega arith in subst (λ k. digit k ≡ slice_index lower_digits k) same (eqb-true _ _ parts.0)
-    ]
+digit_is : (d : ℕ) → d < 16 → digit d ≡ slice_index lower_digits d
+digit_is d low = eqb-true _ _ (agree_below_at (λ n. digit n == slice_index lower_digits n) (λ n. true) 16 d refl low)
 
 high_digit : (b : ℕ) → b < 256 → digit (b / 16) ≡ slice_index lower_digits (b / 16)
-high_digit b low = digit_in 16 (b / 16) (omega arith) all_are_digits
+high_digit b low = digit_is (b / 16) (omega arith)
 
 low_digit : (b : ℕ) → digit (bit_and b 15) ≡ slice_index lower_digits (b % 16)
-low_digit b = let same : bit_and b 15 ≡ b % 16 = and_mask b 4 in ap digit same ∙ digit_in 16 (b % 16) (omega arith) all_are_digits
+low_digit b = let same : bit_and b 15 ≡ b % 16 = and_mask b 4 in ap digit same ∙ digit_is (b % 16) (omega arith)
 
 -- the values of the digits of eight bytes, as they lie side by side
 abbrev pub values : List ℕ → List ℕ
 values v = pick_l 0 (zip2 (λ a b. a / 2 ^ b) v (replicate 8 4) ++ zip2 bit_and v (replicate 8 15)) (0 ∷ 8 ∷ 1 ∷ 9 ∷ 2 ∷ 10 ∷ 3 ∷ 11 ∷ 4 ∷ 12 ∷ 5 ∷ 13 ∷ 6 ∷ 14 ∷ 7 ∷ 15 ∷ [])
 
-low_value : (b : ℕ) → bit_and b 15 < 16
-low_value b = let same : bit_and b 15 ≡ b % 16 = and_mask b 4 in omega arith
+two_values : {P : Type 0} (b : ℕ) → Fits w8 b → P → (b / 16 < 16) × ((bit_and b 15 < 16) × P)
+two_values b fits p = let low = fits.fits in let same : bit_and b 15 ≡ b % 16 = and_mask b 4 in (omega arith, (omega arith, p))
 
 are_values : (v : List ℕ) → length v ≡ 8 → Each1 (Fits w8) v → Each1 (λ n. n < 16) (values v)
 are_values (a ∷ b ∷ c ∷ d ∷ e ∷ f ∷ g ∷ h ∷ []) long fits =
-    let high = λ (b : ℕ) (low : b < 256). (let small : b / 16 < 16 = omega arith in small) in
-    let ones = fits.1 in let twos = ones.1 in let threes = twos.1 in let fours = threes.1 in let fives = fours.1 in let sixes = fives.1 in let sevens = sixes.1 in (
-      high a fits.0.fits,
-      (
-        low_value a,
-        (
-          high b ones.0.fits,
-          (
-            low_value b,
-            (
-              high c twos.0.fits,
-              (
-                low_value c,
-                (
-                  high d threes.0.fits,
-                  (
-                    low_value d,
-                    (high e fours.0.fits, (low_value e, (high f fives.0.fits, (low_value f, (high g sixes.0.fits, (low_value g, (high h sevens.0.fits, (low_value h, tt)))))))),
-                  ),
-                ),
-              ),
-            ),
-          ),
-        ),
-      ),
-    )
+    let ones = fits.1 in let twos = ones.1 in let threes = twos.1 in let fours = threes.1 in let fives = fours.1 in let sixes = fives.1 in let sevens = sixes.1 in
+    two_values a fits.0 (two_values b ones.0 (two_values c twos.0 (two_values d threes.0 (two_values e fours.0 (two_values f fives.0 (two_values g sixes.0 (two_values h sevens.0 tt)))))))
 are_values v long fits = absurd (omega (arith, long))
 
 -- each value has a digit

@@ -1,7 +1,7 @@
 -- Texts that are put into a room one behind another, and the pairs of digits.
-use Rattle.std.proofs.Common.{◌≡◌, ℕ, zero, suc, ◌+◌, ◌*◌, ◌/◌, ◌%◌, ◌<◌, ◌≤◌, Bool, true, false, List, [], ◌∷◌, ◌++◌, length, take, codes, refl, ap, sym, ◌∙◌, subst, arith, append_assoc, append-nil, length-append, length-set}
+use Rattle.std.proofs.Common.{◌≡◌, ℕ, ◌+◌, ◌*◌, ◌/◌, ◌%◌, ◌<◌, ◌≤◌, Bool, true, List, [], ◌∷◌, ◌++◌, length, take, codes, refl, ap, sym, ◌∙◌, subst, arith, append_assoc, append-nil, length-append, length-set}
 use Rattle.std.specs.Prelude.{◌==◌, ◌&&◌, slice_index, slice_set, decimal}
-use Rattle.std.proofs.lemmas.Bool.{eqb-true, and_parts}
+use Rattle.std.proofs.lemmas.Bool.{eqb-true, and_parts, agree_below_at}
 use Rattle.std.proofs.lemmas.List.{take_more, take_more_set, take_all, take-take, length-take-le}
 use Rattle.std.proofs.Math.Seq.{take-append-add}
 use Rattle.std.proofs.lemmas.Slice.{take-put_mid}
@@ -9,47 +9,22 @@ use borrow.Rule.Slice.PartMut.{put_mid}
 use Rattle.hex.specs.Hex.{encode_lower, lower_digits}
 use Rattle.hex.proofs.HexLemmas.{length-encode_with}
 use Rattle.art_lines.specs.declared.room.TheConstants.{PAIRS}
-use Rattle.art_lines.specs.Words.{shown, name, bytes, line_of}
-use Rattle.art_lines.specs.Commands.{put_words}
-use Rattle.art_lines.specs.Gathered.{Puts, IsHead, head_of}
+use Rattle.art_lines.proofs.Terms.{shown, name, bytes, line_of, put_words, Puts, IsHead, head_of, pair_words}
 use Rattle.art_lines.proofs.HexText.{encode_lower-more, encode_lower-nil}
-use Rattle.art_lines.specs.ReplyWords.{pair_words}
 use Rattle.art_lines.proofs.ReplyLines.{found_parts, put_parts, length-pair}
-
--- whether a list is the pairs of digits of the bytes from n on
-abbrev are_pairs : ℕ → List ℕ → Bool
-are_pairs n [] = true
-are_pairs n (h ∷ []) = false
-are_pairs n (h ∷ l ∷ ps) = ((h == slice_index lower_digits (n / 16)) && (l == slice_index lower_digits (n % 16))) && are_pairs (suc n) ps
 
 pub record IsPair (b high low : ℕ) : Type 0 where
   pub high_is : high ≡ slice_index lower_digits (b / 16)
   pub low_is : low ≡ slice_index lower_digits (b % 16)
 
-pair_in : (ps : List ℕ) (n k : ℕ) → are_pairs n ps ≡ true → 2 * k + 1 < length ps → IsPair (n + k) (slice_index ps (2 * k)) (slice_index ps (2 * k + 1))
-pair_in [] n k t h = absurd (omega arith)
-pair_in (a ∷ []) n k t h = absurd (omega arith)
-pair_in (a ∷ b ∷ ps) n zero t h =
-    let here = and_parts ((a == slice_index lower_digits (n / 16)) && (b == slice_index lower_digits (n % 16))) (are_pairs (suc n) ps) t in
-    let both = and_parts (a == slice_index lower_digits (n / 16)) (b == slice_index lower_digits (n % 16)) here.0 in
-    let same : n ≡ n + 0 = omega arith in
-    subst (λ m. IsPair m a b) same (record { high_is = eqb-true a _ both.0; low_is = eqb-true b _ both.1 })
-pair_in (a ∷ b ∷ ps) n (suc k) t h =
-    let here = and_parts ((a == slice_index lower_digits (n / 16)) && (b == slice_index lower_digits (n % 16))) (are_pairs (suc n) ps) t in
-    let ih = pair_in ps (suc n) k here.1 (omega arith) in
-    let even : 2 * suc k ≡ suc (suc (2 * k)) = omega arith in
-    let odd : 2 * suc k + 1 ≡ suc (suc (2 * k + 1)) = omega arith in
-    let same : suc n + k ≡ n + suc k = omega arith in
-    rw (odd, even, ← same) ih
+-- the table of the pairs holds that of each byte
+abbrev is_pair : ℕ → Bool
+is_pair n = (slice_index PAIRS (2 * n) == slice_index lower_digits (n / 16)) && (slice_index PAIRS (2 * n + 1) == slice_index lower_digits (n % 16))
 
-PAIRS_are_pairs : are_pairs 0 PAIRS ≡ true
-PAIRS_are_pairs = refl
-
--- the pair of a byte
 pub pair_of : (b at : ℕ) → at ≡ b → b < 256 → IsPair b (slice_index PAIRS (2 * at)) (slice_index PAIRS (2 * at + 1))
 pair_of b at e low =
-    let same : 0 + at ≡ b = omega arith in
-    subst (λ m. IsPair m (slice_index PAIRS (2 * at)) (slice_index PAIRS (2 * at + 1))) same (pair_in PAIRS 0 at PAIRS_are_pairs (omega arith))
+    let both = and_parts _ _ (agree_below_at is_pair (λ n. true) 256 at refl (omega arith)) in
+    subst (λ m. IsPair m (slice_index PAIRS (2 * at)) (slice_index PAIRS (2 * at + 1))) e (record { high_is = eqb-true _ _ both.0; low_is = eqb-true _ _ both.1 })
 
 -- the digits of one byte more
 pub digits_more : (room value front : List ℕ) (next i high low : ℕ) → next + 1 < length room → i < length value → IsPair (slice_index value i) high low

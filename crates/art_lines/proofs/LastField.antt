@@ -4,15 +4,15 @@ use Rattle.std.proofs.Common.{◌≡◌, ℕ, ℤ, ◌^◌, ◌+◌, ◌<◌, �
 use Rattle.std.specs.Prelude.{◌==◌, codes, decimal, pos, option_map, option_and_then}
 use Rattle.std.specs.List.{onto_first, AllPass}
 use Rattle.std.specs.Str.{bytes_eq}
-use Rattle.std.proofs.lemmas.Bool.{true≢false, eqb-true, ne_eqb}
+use Rattle.std.proofs.lemmas.Bool.{cond_both, true≢false, eqb-true, ne_eqb}
 use Rattle.std.proofs.lemmas.Fmt.{decimal_is_IsNumeral}
 use Rattle.std.proofs.lemmas.Str.Parse.{digit_at}
 use Rattle.std.proofs.lemmas.Slice.Eq.{bytes_eq-Decides}
 use Rattle.hex.specs.Hex.{decode_of, is_hex_digit}
 use Rattle.hex.specs.declared.error.FromHexError.{FromHexError}
 use Rattle.hex.proofs.HexLemmas.{decode_of-ok}
-use Rattle.art_lines.specs.Commands.{fields_of}
-use Rattle.art_lines.specs.Reading.{natural_in, tenant_in, negated, number_in, bytes_in, some_bytes}
+use Rattle.art_lines.proofs.Terms.{fields_of, negated, some_bytes}
+use Rattle.art_lines.specs.Reading.{natural_in, tenant_in, number_in, bytes_in}
 use Rattle.art_lines.proofs.Parsing.{fields_none, fields_some, natural_is}
 
 -- digits are one field
@@ -22,15 +22,13 @@ digits_whole s h = fields_none s (λ k lt e. absurd (true≢false (sym (h k 0 lt
 -- so is what is read as bytes
 bytes_whole : (text bs : List ℕ) → bytes_in text ≡ Some bs → fields_of text ≡ text ∷ []
 unfolding bytes_in
-bytes_whole text bs h = go (bytes_eq text (codes "-")) refl
+bytes_whole text bs h =
+    cond_both (bytes_eq text (codes "-")) (Some []) (some_bytes (decode_of text)) (λ o. o ≡ Some bs → fields_of text ≡ text ∷ [])
+    (λ e f. let dash : text ≡ codes "-" = (bytes_eq-Decides text (codes "-")).0 e in subst (λ t. fields_of t ≡ t ∷ []) (sym dash) refl) (λ e f. decoded (decode_of text) refl f) h
   where
     decoded : (r : Result (List ℕ) FromHexError) → decode_of text ≡ r → some_bytes r ≡ Some bs → fields_of text ≡ text ∷ []
     decoded (Ok all) e f = digits_whole text (decode_of-ok text all e).1
     decoded (Err x) e f = cc f
-
-    go : (b : Bool) → bytes_eq text (codes "-") ≡ b → fields_of text ≡ text ∷ []
-    go true e = let dash : text ≡ codes "-" = (bytes_eq-Decides text (codes "-")).0 e in subst (λ t. fields_of t ≡ t ∷ []) (sym dash) refl
-    go false e = decoded (decode_of text) refl (rw e at h)
 
 -- so is what is read as a number
 decimal_whole : (n : ℕ) → n < 2 ^ 64 → fields_of (decimal n) ≡ decimal n ∷ []
@@ -81,24 +79,19 @@ one_or_more (x ∷ xs) = go (x == 32) refl (one_or_more xs)
 abbrev pub ReadsOneField : {A : Type 0} → (List ℕ → Option A) → Type 0
 ReadsOneField read = (text f g : List ℕ) (fs : List (List ℕ)) → fields_of text ≡ f ∷ g ∷ fs → read text ≡ None
 
-pub no_bytes : ReadsOneField bytes_in
-no_bytes text f g fs more = go (bytes_in text) refl
+one_field : {A : Type 0} (read : List ℕ → Option A) → ((text : List ℕ) (a : A) → read text ≡ Some a → fields_of text ≡ text ∷ []) → ReadsOneField read
+one_field {A} read whole text f g fs more = go (read text) refl
   where
-    go : (o : Option (List ℕ)) → bytes_in text ≡ o → o ≡ None
+    go : (o : Option A) → read text ≡ o → o ≡ None
     go None e = refl
-    go (Some bs) e = cc (sym more ∙ bytes_whole text bs e)
+    go (Some a) e = cc (sym more ∙ whole text a e)
+
+pub no_bytes : ReadsOneField bytes_in
+no_bytes = one_field bytes_in bytes_whole
 
 pub no_number : ReadsOneField number_in
-no_number text f g fs more = go (number_in text) refl
-  where
-    go : (o : Option ℤ) → number_in text ≡ o → o ≡ None
-    go None e = refl
-    go (Some z) e = cc (sym more ∙ number_whole text z e)
+no_number = one_field number_in number_whole
 
 pub no_tenant : ReadsOneField tenant_in
 unfolding tenant_in
-no_tenant text f g fs more = go (tenant_in text) refl
-  where
-    go : (o : Option ℕ) → tenant_in text ≡ o → o ≡ None
-    go None e = refl
-    go (Some n) e = cc (sym more ∙ natural_whole (2 ^ 32) text n (omega arith) e)
+no_tenant = one_field tenant_in (λ text n. natural_whole (2 ^ 32) text n (omega arith))

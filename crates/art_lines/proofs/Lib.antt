@@ -11,3 +11,5 @@ pub mod DigitPairs
 pub mod Spelling
 pub mod DigitGroups
 pub mod Buffering
+pub mod Terms
+pub mod Common

@@ -11,6 +11,7 @@ use Rattle.std.proofs.Math.Seq.{take-append_seam, drop-append_seam}
 use Rattle.std.specs.Str.Parse.{digits_value, digits_value_after, AllDigits}
 use Rattle.std.specs.Char.{digit_value}
 use Rattle.std.proofs.lemmas.Bool.{lt-leb, le-leb, leb-true, true≢false, cases_lt, ltb-true, lt-ltb, le-ltb}
+use Rattle.std.proofs.lemmas.Iterator.Adapters.{option_map_id}
 use Rattle.std.proofs.lemmas.Slice.Eq.{bytes_eq-Decides}
 use Rattle.std.proofs.lemmas.Str.Parse.{numerals_by_value, tells_digits, digit_at}
 use Rattle.std.proofs.lemmas.Fmt.{decimal_is_IsNumeral, decimal_nonempty, length-decimal-le, first_decimal, decimal_digit, decimal-digits_value}
@@ -24,11 +25,8 @@ use Rattle.hex.proofs.HexLemmas.{decode_of-odd}
 use Rattle.std.specs.Prelude.{◌%◌}
 use Rattle.hex.specs.declared.error.FromHexError.{FromHexError}
 use Rattle.art_lines.specs.declared.command.word.Word.{Word}
-use Rattle.art_lines.specs.declared.command.word.Shape.{Shape}
-use Rattle.art_lines.specs.Commands.{fields_of}
-use Rattle.art_lines.specs.Reading.{natural_in, tenant_in, negated, number_in, bytes_in, some_bytes, command_by, command_in, command_of}
-use Rattle.art_lines.specs.Table.{called, found_among, all_words, word_in, shape_of, with_shape}
-use Rattle.art_lines.specs.InPlace.{IsRead}
+use Rattle.art_lines.proofs.Terms.{Shape, fields_of, negated, some_bytes, command_by, command_in, called, found_among, all_words, word_in, shape_of, with_shape, IsRead}
+use Rattle.art_lines.specs.Reading.{natural_in, tenant_in, number_in, bytes_in, command_of}
 
 -- the fields_of of a line whose first space is at a place
 fields_at : (line : List ℕ) (i : ℕ) → i < length line → get_or line i 0 ≡ 32 → ((k : ℕ) → k < i → get_or line k 0 ≡ 32 → ⊥)
@@ -165,11 +163,7 @@ fitted limit n make (Err y) h = rw (le-ltb n limit (elim (cases_lt n limit) [ in
 pub tenant_result : {E : Type 0} (text : List ℕ) (n : ℕ) (r : Result ℕ E) (o : Option ℕ) → Some n ≡ natural_in (2 ^ 63 + 1) text → OkIff r (n < 2 ^ 32) n → o ≡ result_ok r → o ≡ tenant_in text
 unfolding tenant_in
 tenant_result text n r o h fits is =
-    is ∙ fitted (2 ^ 32) n (λ m. m) r fits ∙ itself (narrowed (2 ^ 32) (Some n)) ∙ ap (narrowed (2 ^ 32)) h ∙ sym (natural_narrow (2 ^ 32) (2 ^ 63 + 1) text (omega arith))
-  where
-    itself : (o : Option ℕ) → option_map (λ m. m) o ≡ o
-    itself None = refl
-    itself (Some m) = refl
+    is ∙ fitted (2 ^ 32) n (λ m. m) r fits ∙ option_map_id (narrowed (2 ^ 32) (Some n)) ∙ ap (narrowed (2 ^ 32)) h ∙ sym (natural_narrow (2 ^ 32) (2 ^ 63 + 1) text (omega arith))
 
 -- a number with a sign is one below 0 behind it
 pub number_empty : (text : List ℕ) → length text ≡ 0 → None ≡ number_in text

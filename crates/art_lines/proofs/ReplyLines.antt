@@ -2,9 +2,8 @@
 use Rattle.std.proofs.Common.{◌≡◌, ℕ, ℤ, ◌+◌, List, [], ◌∷◌, ◌++◌, length, ap, sym, ◌∙◌, arith, append_assoc, length-append}
 use Rattle.std.specs.Prelude.{codes, decimal}
 use Rattle.std.specs.Fmt.{signed_decimal}
-use Rattle.art_lines.specs.Words.{Word, name, natural, signed, bytes, shown, text_of, line_of}
-use Rattle.art_lines.specs.Commands.{put_words, nput_words}
-use Rattle.art_lines.specs.ReplyWords.{end_words, pair_words, number_words}
+use Rattle.art_lines.specs.Words.{Word}
+use Rattle.art_lines.proofs.Terms.{name, natural, signed, bytes, shown, text_of, line_of, put_words, nput_words, end_words, pair_words, number_words}
 
 pub line_more : (w v : Word) (ws : List Word) → shown w ++ 32 ∷ line_of (v ∷ ws) ≡ line_of (w ∷ v ∷ ws)
 line_more w v ws = sym (append_assoc (shown w) (32 ∷ text_of (v ∷ ws)) (10 ∷ []))

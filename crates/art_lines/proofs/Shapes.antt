@@ -2,15 +2,9 @@
 use Rattle.std.proofs.Common.{◌≡◌, ℕ, List, [], ◌∷◌, refl, ap, sym, subst, ◌∙◌, true, false, Bool, Some, None, Option, inl, inr}
 use Rattle.std.specs.Prelude.{option_copied, option_map}
 use Rattle.std.specs.Borrow.{Bor}
-use Rattle.art_lines.specs.declared.command.fields.Fields.{Fields}
+use Rattle.art_lines.proofs.Terms.{Fields, Shape, Nothing, fields_of, one_in, two_in, tenant_alone_in, behind_in, command_by, ◌>>=◌, fields_behind, IsRead, Behind, Row, row, shape_in, made_in, row_of_word, shape_of, behind_in_place, command_of_row, command_with}
 use Rattle.art_lines.specs.declared.command.word.Word.{Word}
-use Rattle.art_lines.specs.declared.command.word.Shape.{Shape}
-use Rattle.art_lines.specs.declared.command.word.Shape.TheVariants.{Key, KeyAndValue, Number, NumberAndValue, TwoNumbers, Tenant, Nothing}
-use Rattle.art_lines.specs.Commands.{fields_of}
-use Rattle.art_lines.specs.Reading.{tenant_in, one_in, two_in, tenant_alone_in, behind_in, command_by, ◌>>=◌}
-use Rattle.art_lines.specs.InPlace.{fields_behind, IsRead}
-use Rattle.art_lines.specs.Table.{Behind, Row, row, shape_in, made_in, row_of_word, shape_of}
-use Rattle.art_lines.specs.Parsed.{behind_in_place, command_of_row, command_with}
+use Rattle.art_lines.specs.Reading.{tenant_in}
 use Rattle.art_lines.proofs.LastField.{ReadsOneField, one_or_more, no_tenant}
 use Rattle.art_lines.proofs.Parsing.{fields_some}
 
@@ -47,9 +41,8 @@ two_last {A} {B} read then_read stops t k v = elim (one_or_more v) [
 ]
   where
     nothing : (o : Option ℕ) (p : Option A) (q : Option B) → q ≡ None → two_from o p q ≡ None
-    nothing None p q h = refl
-    nothing (Some n) None q h = refl
     nothing (Some n) (Some a) q h = rw h refl
+    nothing o p q h = refl
 
 -- one behind the tenant, from its two fields, where the tenant stays as it is while the other is read
 module _ (text t k : List ℕ) (split : fields_of text ≡ t ∷ fields_of k) {A : Type 0} (read : List ℕ → Option A) (stops : ReadsOneField read) where
@@ -61,19 +54,16 @@ module _ (text t k : List ℕ) (split : fields_of text ≡ t ∷ fields_of k) {A
     where
       go : (b : Bool) (o : Option ℕ) → IsRead b n o → b ≡ false → None ≡ one_from o (read k)
       go b None h e = refl
-      go true (Some m) h e = cc
-      go false (Some m) h e = cc
+      go true o h e = cc
+      go false o h e = cc
 
   pub one_read : (b d : Bool) (n m : ℕ) (a : A) → IsRead b n (tenant_in t) → b ≡ true → m ≡ n → IsRead d a (read k) → IsRead d (m, a) (one_in read (fields_of text))
   one_read b d n m a h e same last = rw (← one_fields) (go b d (tenant_in t) (read k) h e last)
     where
       go : (b d : Bool) (o : Option ℕ) (p : Option A) → IsRead b n o → b ≡ true → IsRead d a p → IsRead d (m, a) (one_from o p)
-      go false d o p h e last = cc
-      go true d None p h e last = cc
-      go true true (Some i) None h e last = cc
-      go true false (Some i) None h e last = refl
       go true true (Some i) (Some j) h e last = let one : m ≡ i = cc in let two : a ≡ j = cc in rw (one, two) refl
-      go true false (Some i) (Some j) h e last = cc
+      go true false (Some i) None h e last = refl
+      go b d o p h e last = cc
 
 -- two behind the tenant, from three fields
 module _ (text t k v : List ℕ) (split : fields_of text ≡ t ∷ k ∷ fields_of v) {A B : Type 0} (read : List ℕ → Option A) (then_read : List ℕ → Option B) (stops : ReadsOneField then_read) where
@@ -85,17 +75,16 @@ module _ (text t k v : List ℕ) (split : fields_of text ≡ t ∷ k ∷ fields_
     where
       go : (b : Bool) (o : Option ℕ) → IsRead b n o → b ≡ false → None ≡ two_from o (read k) (then_read v)
       go b None h e = refl
-      go true (Some m) h e = cc
-      go false (Some m) h e = cc
+      go true o h e = cc
+      go false o h e = cc
 
   pub middle_not_read : (b : Bool) (a : A) → IsRead b a (read k) → b ≡ false → None ≡ two_in read then_read (fields_of text)
   middle_not_read b a h e = go b (tenant_in t) (read k) h e ∙ two_fields
     where
       go : (b : Bool) (o : Option ℕ) (p : Option A) → IsRead b a p → b ≡ false → None ≡ two_from o p (then_read v)
-      go b None p h e = refl
-      go b (Some n) None h e = refl
       go true (Some n) (Some m) h e = cc
       go false (Some n) (Some m) h e = cc
+      go b o p h e = refl
 
   pub two_read : (a b d : Bool) (n m : ℕ) (key old : A) (value : B) → IsRead a n (tenant_in t) → a ≡ true → IsRead b old (read k) → b ≡ true
       → m ≡ n → key ≡ old → IsRead d value (then_read v) → IsRead d (m, key, value) (two_in read then_read (fields_of text))
@@ -103,14 +92,9 @@ module _ (text t k v : List ℕ) (split : fields_of text ≡ t ∷ k ∷ fields_
     where
       go : (a b d : Bool) (o : Option ℕ) (p : Option A) (q : Option B) → IsRead a n o → a ≡ true → IsRead b old p → b ≡ true → IsRead d value q
           → IsRead d (m, key, value) (two_from o p q)
-      go false b d o p q h e i f last = cc
-      go true false d o p q h e i f last = cc
-      go true true d None p q h e i f last = cc
-      go true true d (Some x) None q h e i f last = cc
-      go true true true (Some x) (Some y) None h e i f last = cc
-      go true true false (Some x) (Some y) None h e i f last = refl
       go true true true (Some x) (Some y) (Some z) h e i f last = let one : m ≡ x = cc in let two : key ≡ y = cc in let three : value ≡ z = cc in rw (one, two, three) refl
-      go true true false (Some x) (Some y) (Some z) h e i f last = cc
+      go true true false (Some x) (Some y) None h e i f last = refl
+      go a b d o p q h e i f last = cc
 
 -- a tenant alone may be all that stands behind the word
 pub alone_read : (text : List ℕ) (b : Bool) (n : ℕ) → IsRead b n (tenant_in text) → IsRead b n (tenant_alone_in (fields_of text))
@@ -123,21 +107,11 @@ alone_read text b n h = subst (IsRead b n) (elim (one_or_more text) [
 pub nothing_behind : (shape : Shape) (f : Fields) (rest : Option (Bor (List ℕ))) → rest ≡ None → shape ≡ Nothing
     → Some (behind_in_place shape f) ≡ behind_in shape (fields_behind (option_copied rest))
 nothing_behind Nothing f rest none is = rw none refl
-nothing_behind Key f rest none is = cc
-nothing_behind KeyAndValue f rest none is = cc
-nothing_behind Number f rest none is = cc
-nothing_behind NumberAndValue f rest none is = cc
-nothing_behind TwoNumbers f rest none is = cc
-nothing_behind Tenant f rest none is = cc
+nothing_behind shape f rest none is = cc
 
 pub something_lacks : (shape : Shape) (rest : Option (Bor (List ℕ))) → rest ≡ None → (shape ≡ Nothing → ⊥) → None ≡ behind_in shape (fields_behind (option_copied rest))
 something_lacks Nothing rest none other = absurd (other refl)
-something_lacks Key rest none other = rw none refl
-something_lacks KeyAndValue rest none other = rw none refl
-something_lacks Number rest none other = rw none refl
-something_lacks NumberAndValue rest none other = rw none refl
-something_lacks TwoNumbers rest none other = rw none refl
-something_lacks Tenant rest none other = rw none refl
+something_lacks shape rest none other = rw none refl
 
 pub by_shape : (shape known : Shape) (f : Fields) (b : Bool) (rest : Option (Bor (List ℕ))) (text : Bor (List ℕ)) → shape ≡ known → rest ≡ Some text
     → IsRead b (behind_in_place known f) (behind_in known (fields_of text.now)) → IsRead b (behind_in_place shape f) (behind_in shape (fields_behind (option_copied rest)))

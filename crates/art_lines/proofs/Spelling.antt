@@ -1,27 +1,24 @@
 -- What spells a command is read as that command, and the other way.
-use Rattle.std.proofs.Common.{◌≡◌, ℕ, zero, suc, ℤ, pos, negsuc, ◌+◌, ◌^◌, ◌<◌, List, [], ◌∷◌, length, drop as drop_first, get_or, refl, ap, sym, ◌∙◌, subst, Bool, true, false, cond, arith, Some, None, Option, Ok, Err}
+use Rattle.std.proofs.Common.{◌≡◌, ℕ, suc, ℤ, pos, negsuc, ◌+◌, ◌^◌, ◌<◌, List, [], ◌∷◌, length, drop as drop_first, get_or, refl, ap, sym, ◌∙◌, subst, Bool, true, false, cond, arith, Some, None, Option, Ok}
 use Rattle.std.specs.Prelude.{◌==◌, ◌↔◌, decimal, codes, nat_le, Result, option_map, option_and_then}
 use Rattle.hex.specs.declared.error.FromHexError.{FromHexError}
 use Rattle.std.specs.List.{AllZip}
 use Rattle.std.specs.Str.{bytes_eq}
-use Rattle.std.proofs.lemmas.Bool.{le-leb, leb-true, eqb-true, eq-eqb, ne_eqb}
+use Rattle.std.proofs.lemmas.Bool.{cond_both, le-leb, leb-true, eqb-true, eq-eqb, ne_eqb}
 use Rattle.std.proofs.lemmas.Slice.Eq.{bytes_eq-Decides}
 use Rattle.std.proofs.lemmas.Fmt.{decimal_is_IsNumeral, decimal_nonempty}
 use Rattle.std.proofs.lemmas.Str.Parse.{digit_at}
 use Rattle.hex.specs.Hex.{decode_of, decode_pairs}
-use Rattle.art_lines.specs.Words.{Word, name, natural, signed, bytes, Reads}
+use Rattle.art_lines.specs.Words.{Word}
+use Rattle.art_lines.proofs.Terms.{name, natural, signed, bytes, Reads, Shape, Key, KeyAndValue, Number, NumberAndValue, TwoNumbers, Tenant, Nothing, put, over, del, get, find, list, span, nput, nget, ndel, nspan, drop, Command, of_tenant, dump, audit, words_of, fields_of, Spells, Behind, shape_of, made_by, called, found_among, all_words, word_in, negated, some_bytes, one_in, two_in, tenant_alone_in, nothing_in, behind_in, command_by, command_in}
 use Rattle.art_lines.specs.declared.command.word.Word.{Word as Called}
 use Rattle.art_lines.specs.declared.command.word.Word.TheVariants.{LookUp, Change, Whole, Drop}
 use Rattle.art_lines.specs.declared.command.word.LookUp.TheVariants as look_up
 use Rattle.art_lines.specs.declared.command.word.Change.TheVariants as change
 use Rattle.art_lines.specs.declared.command.word.Whole.TheVariants as whole
-use Rattle.art_lines.specs.declared.command.word.Shape.{Shape}
-use Rattle.art_lines.specs.declared.command.word.Shape.TheVariants.{Key, KeyAndValue, Number, NumberAndValue, TwoNumbers, Tenant, Nothing}
-use Rattle.art_lines.specs.Commands.{put, over, del, get, find, list, span, nput, nget, ndel, nspan, drop, Command, of_tenant, dump, audit, words_of, fields_of, Spells}
-use Rattle.art_lines.specs.Table.{Behind, shape_of, made_by, called, found_among, all_words, word_in}
 use Rattle.art_lines.proofs.Parsing.{natural_is, natural_reads}
 use Rattle.art_lines.proofs.Shapes.{one_from, two_from}
-use Rattle.art_lines.specs.Reading.{natural_in, tenant_in, negated, number_in, bytes_in, some_bytes, one_in, two_in, tenant_alone_in, nothing_in, behind_in, command_by, command_in, command_of}
+use Rattle.art_lines.specs.Reading.{natural_in, tenant_in, number_in, bytes_in, command_of}
 
 tenant_reads : (text : List ℕ) (n : ℕ) → Reads text (natural n) → tenant_in text ≡ Some n
 unfolding tenant_in
@@ -61,18 +58,13 @@ bytes_reads text (b ∷ bs) h = go (bytes_eq text (codes "-")) refl
 -- by shape
 module _ {A : Type 0} (read : List ℕ → Option A) (word : A → Word) (reads : (text : List ℕ) (a : A) → Reads text (word a) → read text ≡ Some a) where
   one_reads : (fields : List (List ℕ)) (n : ℕ) (a : A) → AllZip Reads fields (natural n ∷ word a ∷ []) → one_in read fields ≡ Some (n, a)
-  one_reads [] n a h = absurd h
-  one_reads (t ∷ []) n a h = absurd h.1
   one_reads (t ∷ f ∷ []) n a h = rw (tenant_reads t n h.0, reads f a h.1.0) refl
-  one_reads (t ∷ f ∷ g ∷ fs) n a h = absurd h.1.1
+  one_reads fields n a h = absurd assumption
 
   module _ {B : Type 0} (then_read : List ℕ → Option B) (then_word : B → Word) (then_reads : (text : List ℕ) (b : B) → Reads text (then_word b) → then_read text ≡ Some b) where
     two_reads : (fields : List (List ℕ)) (n : ℕ) (a : A) (b : B) → AllZip Reads fields (natural n ∷ word a ∷ then_word b ∷ []) → two_in read then_read fields ≡ Some (n, a, b)
-    two_reads [] n a b h = absurd h
-    two_reads (t ∷ []) n a b h = absurd h.1
-    two_reads (t ∷ f ∷ []) n a b h = absurd h.1.1
     two_reads (t ∷ f ∷ g ∷ []) n a b h = rw (tenant_reads t n h.0, reads f a h.1.0, then_reads g b h.1.1.0) refl
-    two_reads (t ∷ f ∷ g ∷ i ∷ fs) n a b h = absurd h.1.1.1
+    two_reads fields n a b h = absurd assumption
 
 abbrev of_bytes : List ℕ → Word
 of_bytes bs = bytes bs
@@ -81,9 +73,8 @@ abbrev of_number : ℤ → Word
 of_number z = signed z
 
 tenant_alone_reads : (fields : List (List ℕ)) (n : ℕ) → AllZip Reads fields (natural n ∷ []) → tenant_alone_in fields ≡ Some n
-tenant_alone_reads [] n h = absurd h
 tenant_alone_reads (t ∷ []) n h = tenant_reads t n h.0
-tenant_alone_reads (t ∷ f ∷ fs) n h = absurd h.1
+tenant_alone_reads fields n h = absurd assumption
 
 nothing_reads : (fields : List (List ℕ)) → AllZip Reads fields [] → nothing_in fields ≡ Some tt
 nothing_reads [] h = refl
@@ -157,16 +148,17 @@ tenant_spelled field n h = natural_is (2 ^ 32) field n h
 number_spelled : (field : List ℕ) (z : ℤ) → number_in field ≡ Some z → Reads field (signed z)
 unfolding number_in
 number_spelled [] z h = cc
-number_spelled (b ∷ rest) z h = go (b == 45) refl h
+number_spelled (b ∷ rest) z h =
+    cond_both (b == 45) (option_and_then negated (natural_in (2 ^ 63 + 1) rest)) (option_map (λ n. pos n) (natural_in (2 ^ 63) (b ∷ rest))) (λ o. o ≡ Some z → Reads (b ∷ rest) (signed z))
+    (λ e f. below (natural_in (2 ^ 63 + 1) rest) refl (eqb-true b 45 e) f) (λ e f. above (natural_in (2 ^ 63) (b ∷ rest)) refl f) h
   where
     below : (o : Option ℕ) → natural_in (2 ^ 63 + 1) rest ≡ o → b ≡ 45 → option_and_then negated o ≡ Some z → Reads (b ∷ rest) (signed z)
-    below None e first f = cc
-    below (Some zero) e first f = cc
     below (Some (suc n)) e first f =
         let is : negsuc n ≡ z = cc in
         let spelled = natural_is (2 ^ 63 + 1) rest (suc n) e in let small = spelled.1 in
         let fits : n < 2 ^ 63 = omega arith in
         subst (λ x. Reads (b ∷ rest) (signed x)) is (ap (λ c. c ∷ rest) first ∙ ap (λ t. 45 ∷ t) spelled.0, record { sfits = fits })
+    below o e first f = cc
 
     above : (o : Option ℕ) → natural_in (2 ^ 63) (b ∷ rest) ≡ o → option_map (λ n. pos n) o ≡ Some z → Reads (b ∷ rest) (signed z)
     above None e f = cc
@@ -175,61 +167,44 @@ number_spelled (b ∷ rest) z h = go (b == 45) refl h
         let spelled = natural_is (2 ^ 63) (b ∷ rest) n e in
         subst (λ x. Reads (b ∷ rest) (signed x)) is (spelled.0, record { sfits = spelled.1 })
 
-    go : (o : Bool) → (b == 45) ≡ o → cond o (option_and_then negated (natural_in (2 ^ 63 + 1) rest)) (option_map (λ n. pos n) (natural_in (2 ^ 63) (b ∷ rest))) ≡ Some z
-        → Reads (b ∷ rest) (signed z)
-    go true e f = below (natural_in (2 ^ 63 + 1) rest) refl (eqb-true b 45 e) f
-    go false e f = above (natural_in (2 ^ 63) (b ∷ rest)) refl f
-
 some_bytes_spelled : (field : List ℕ) (r : Result (List ℕ) FromHexError) (bs : List ℕ) → decode_of field ≡ r → some_bytes r ≡ Some bs → Reads field (bytes bs)
-some_bytes_spelled field (Ok []) bs e h = cc
 some_bytes_spelled field (Ok (b ∷ rest)) bs e h = let is : b ∷ rest ≡ bs = cc in subst (λ x. Reads field (bytes x)) is e
-some_bytes_spelled field (Err x) bs e h = cc
+some_bytes_spelled field r bs e h = cc
 
 bytes_spelled : (field : List ℕ) (bs : List ℕ) → bytes_in field ≡ Some bs → Reads field (bytes bs)
 unfolding bytes_in
-bytes_spelled field bs h = go (bytes_eq field (codes "-")) refl h
-  where
-    go : (b : Bool) → bytes_eq field (codes "-") ≡ b → cond b (Some []) (some_bytes (decode_of field)) ≡ Some bs → Reads field (bytes bs)
-    go true p e = let is : [] ≡ bs = cc in subst (λ x. Reads field (bytes x)) is ((bytes_eq-Decides field (codes "-")).0 p)
-    go false p e = some_bytes_spelled field (decode_of field) bs refl e
+bytes_spelled field bs h =
+    cond_both (bytes_eq field (codes "-")) (Some []) (some_bytes (decode_of field)) (λ o. o ≡ Some bs → Reads field (bytes bs))
+    (λ p e. let is : [] ≡ bs = cc in subst (λ x. Reads field (bytes x)) is ((bytes_eq-Decides field (codes "-")).0 p)) (λ p e. some_bytes_spelled field (decode_of field) bs refl e) h
 
 -- by shape
 module _ {A : Type 0} (read : List ℕ → Option A) (word : A → Word) (spelled : (text : List ℕ) (a : A) → read text ≡ Some a → Reads text (word a)) where
   one_spelled : (fields : List (List ℕ)) (f : ℕ × A) → one_in read fields ≡ Some f → AllZip Reads fields (natural f.0 ∷ word f.1 ∷ [])
-  one_spelled [] f h = cc
-  one_spelled (t ∷ []) f h = cc
-  one_spelled (t ∷ k ∷ x ∷ xs) f h = cc
   one_spelled (t ∷ k ∷ []) f h = go (tenant_in t) (read k) refl refl h
     where
       go : (a : Option ℕ) (x : Option A) → tenant_in t ≡ a → read k ≡ x → one_from a x ≡ Some f → AllZip Reads (t ∷ k ∷ []) (natural f.0 ∷ word f.1 ∷ [])
-      go None x p q e = cc
-      go (Some n) None p q e = cc
       go (Some n) (Some key) p q e =
           let is : (n, key) ≡ f = cc in
           subst (λ (f : ℕ × A). AllZip Reads (t ∷ k ∷ []) (natural f.0 ∷ word f.1 ∷ [])) is (tenant_spelled t n p, (spelled k key q, tt))
+      go a x p q e = cc
+  one_spelled fields f h = cc
 
   module _ {B : Type 0} (then_read : List ℕ → Option B) (then_word : B → Word) (then_spelled : (text : List ℕ) (b : B) → then_read text ≡ Some b → Reads text (then_word b)) where
     two_spelled : (fields : List (List ℕ)) (f : ℕ × A × B) → two_in read then_read fields ≡ Some f → AllZip Reads fields (natural f.0 ∷ word f.1 ∷ then_word f.2 ∷ [])
-    two_spelled [] f h = cc
-    two_spelled (t ∷ []) f h = cc
-    two_spelled (t ∷ k ∷ []) f h = cc
-    two_spelled (t ∷ k ∷ v ∷ x ∷ xs) f h = cc
     two_spelled (t ∷ k ∷ v ∷ []) f h = go (tenant_in t) (read k) (then_read v) refl refl refl h
       where
         go : (a : Option ℕ) (x : Option A) (y : Option B) → tenant_in t ≡ a → read k ≡ x → then_read v ≡ y → two_from a x y ≡ Some f
             → AllZip Reads (t ∷ k ∷ v ∷ []) (natural f.0 ∷ word f.1 ∷ then_word f.2 ∷ [])
-        go None x y p q r e = cc
-        go (Some n) None y p q r e = cc
-        go (Some n) (Some key) None p q r e = cc
         go (Some n) (Some key) (Some value) p q r e =
             let is : (n, key, value) ≡ f = cc in
             subst (λ (f : ℕ × A × B). AllZip Reads (t ∷ k ∷ v ∷ []) (natural f.0 ∷ word f.1 ∷ then_word f.2 ∷ [])) is
             (tenant_spelled t n p, (spelled k key q, (then_spelled v value r, tt)))
+        go a x y p q r e = cc
+    two_spelled fields f h = cc
 
 alone_spelled : (fields : List (List ℕ)) (n : ℕ) → tenant_alone_in fields ≡ Some n → AllZip Reads fields (natural n ∷ [])
-alone_spelled [] n h = cc
 alone_spelled (t ∷ []) n h = (tenant_spelled t n h, tt)
-alone_spelled (t ∷ f ∷ fs) n h = cc
+alone_spelled fields n h = cc
 
 nothing_spelled : (fields : List (List ℕ)) → nothing_in fields ≡ Some tt → AllZip Reads fields []
 nothing_spelled [] h = tt
@@ -247,11 +222,9 @@ behind_spelled Nothing fs v h = nothing_spelled fs h
 -- a word is found by what it is called
 found_called : (ws : List Called) (field : List ℕ) (w : Called) → found_among ws field ≡ Some w → field ≡ called w
 found_called [] field w h = cc
-found_called (x ∷ ws) field w h = go (bytes_eq field (called x)) refl (found_called ws field w) h
-  where
-    go : (b : Bool) → bytes_eq field (called x) ≡ b → (found_among ws field ≡ Some w → field ≡ called w) → cond b (Some x) (found_among ws field) ≡ Some w → field ≡ called w
-    go true same others e = let is : x ≡ w = cc in (bytes_eq-Decides field (called x)).0 same ∙ ap called is
-    go false same others e = others e
+found_called (x ∷ ws) field w h =
+    cond_both (bytes_eq field (called x)) (Some x) (found_among ws field) (λ o. o ≡ Some w → field ≡ called w)
+    (λ same e. let is : x ≡ w = cc in (bytes_eq-Decides field (called x)).0 same ∙ ap called is) (λ other e. found_called ws field w e) h
 
 -- and the line of what it makes begins with that
 words_made : (w : Called) (v : Behind (shape_of w)) → words_of (made_by w v) ≡ name (called w) ∷ words_behind (shape_of w) v
@@ -288,11 +261,9 @@ all_spelled (word ∷ rest) c h = go (word_in word) refl h
 
 pub spells : (line : List ℕ) (c : Command) → command_of line ≡ Some c → Spells line c
 unfolding command_of
-spells line c h = go (nat_le (length line) 4096) refl h
-  where
-    go : (b : Bool) → nat_le (length line) 4096 ≡ b → cond b (command_in (fields_of line)) None ≡ Some c → Spells line c
-    go true p e = record { short = leb-true (length line) 4096 p; read = all_spelled (fields_of line) c e }
-    go false p e = cc
+spells line c h =
+    cond_both (nat_le (length line) 4096) (command_in (fields_of line)) None (λ o. o ≡ Some c → Spells line c)
+    (λ p e. record { short = leb-true (length line) 4096 p; read = all_spelled (fields_of line) c e }) (λ p e. cc) h
 
 -- what is read of a line is what it spells
 pub read_back : (line : List ℕ) (o : Option Command) → o ≡ command_of line → (c : Command) → (o ≡ Some c) ↔ Spells line c

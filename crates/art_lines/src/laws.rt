@@ -8,6 +8,7 @@ pub fn reading_is_spelling()
 {}
 
 /// No line spells two commands.
+#[tactic(auto, using(crate::proofs::Spelling::spells_one))]
 pub fn spells_one_command()
     ensures { SpellsOneCommand }
 {}

@@ -6,19 +6,14 @@ use Rattle.std.specs.List.{AllByRecursion}
 use Rattle.std.specs.List.Retain.{ExtractsNext}
 use Rattle.std.specs.Map.Calls.{CallableOnEachPair, RetainsPairs}
 use Rattle.std.specs.Prelude.{IfOk, OnErr}
-use Rattle.art_arena.specs.arena.Shapes.{key_of}
+use Rattle.art_arena.proofs.Common.{key_of, AscendsByKey, Shrinks}
 use Rattle.art_arena.specs.declared.ends.End.{End}
 use Rattle.art_arena.specs.declared.ends.End.TheVariants.{First, Last}
-use Rattle.art_arena.specs.tree.Order.{AscendsByKey}
-use Rattle.art_arena.specs.tree.Shrinks.{Shrinks}
-use Rattle.art_bytes.specs.Keys.{IsBefore}
-use Rattle.art_operations.specs.KeyedLists.{without_key}
-use Rattle.art_operations.specs.Pairs.{IsAtEnd, with_pair_put}
-use Rattle.art_operations.proofs.KeyedLists.{put_replaced, taken}
-use Rattle.art_map.specs.Asked.{AnswersAt, AreMet, Asking, CallableFromEnds, ComesOf, Extracts, StopsAt, from_end, with_pairs_put}
-use Rattle.art_map.specs.inner.Asks.{IsAsked}
+use Rattle.art_bytes.proofs.Common.{IsBefore}
+use Rattle.art_operations.proofs.Common.{without_key, IsAtEnd, with_pair_put, put_replaced, taken}
+use Rattle.art_map.proofs.Terms.{AnswersAt, AreMet, Asking, CallableFromEnds, ComesOf, Extracts, StopsAt, from_end, with_pairs_put, IsAsked, end-long}
+use Rattle.art_map.proofs.AtEnds.{none-at-end, same-end}
 use Rattle.art_map.proofs.Written.{without-again, without-put}
-use Rattle.art_operations.proofs.Spines.{last-same}
 
 -- a fact holds where there is an error
 pub on-err : {A E T : Type 0} (r : Result A E) → T → OnErr r T
@@ -35,29 +30,13 @@ module _ {X : Type 0} where
   none-left [] e f = refl
   none-left (x ∷ xs) e f = let g = eqb-true (length (x ∷ xs)) 0 (sym e ∙ f) in absurd (omega (arith, g))
 
-  -- an empty list has no end
-  pub none-at-end : (end : End) (x : X) (rest : List X) → IsAtEnd end x rest [] → ⊥
-  none-at-end First x rest e = absurd (cc)
-  none-at-end Last x [] e = absurd (cc)
-  none-at-end Last x (y ∷ ys) e = absurd (cc)
-
-  -- at an end there is one item, and the others are beside it
-  pub same-end : (end : End) (x y : X) (xs ys zs : List X) → IsAtEnd end x xs zs → IsAtEnd end y ys zs → (x ≡ y) × (xs ≡ ys)
-  same-end First x y xs ys zs e f =
-      let g : x ∷ xs ≡ y ∷ ys = sym e ∙ f in
-      let head : x ≡ y = cc in
-      let tail : xs ≡ ys = cc in
-      (head, tail)
-  same-end Last x y xs ys zs e f = let g = last-same xs ys x y (sym e ∙ f) in (g.1, g.0)
-
   -- the item at an end is met first
   from-end : (end : End) (x : X) (rest xs : List X) → IsAtEnd end x rest xs → from_end end xs ≡ x ∷ from_end end rest
   from-end First x rest xs e = e
   from-end Last x rest xs e = ap reverse e ∙ reverse-append rest (x ∷ [])
 
   shorter : (end : End) (x : X) (rest xs : List X) → IsAtEnd end x rest xs → length rest < length xs
-  shorter First x rest xs e = let f = ap length e in omega (arith, f)
-  shorter Last x rest xs e = let f = ap length e in let g = length-append rest (x ∷ []) in omega (arith, f, g)
+  shorter end x rest xs e = omega (arith, end-long end x rest xs e)
 
   from-none : (end : End) → ◌≡◌ {A = List X} (from_end end []) []
   from-none First = refl

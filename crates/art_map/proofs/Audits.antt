@@ -1,24 +1,16 @@
 -- What the checker counts of a map's tree is what the keys tell, and no fault stands in it.
 use Rattle.std.proofs.Common.{◌≡◌, ◌≢◌, ℕ, Bool, List, [], length, Option, Some, None, MatchOption, refl, sym, ap, ◌∙◌}
-use Rattle.art_nodes.specs.Name.{Name}
+use Rattle.art_nodes.proofs.Common.{Name}
 use Rattle.art_nodes.specs.declared.kind.NodeType.TheVariants.{Node4, Node16, Node32, Node48, Node256}
-use Rattle.art_arena.specs.arena.Arena.{Arena, node_at, links_at}
-use Rattle.art_arena.specs.arena.Shapes.{Shape, erase, key_of}
-use Rattle.art_arena.specs.arena.Stores.{IsMeant, StoresOnly}
-use Rattle.art_arena.specs.tree.Fronts.{fronts_with}
-use Rattle.art_arena.specs.tree.Trees.{Tree, items, nodes_with}
-use Rattle.art_arena.proofs.shapes.Erased.{canonical-erase, items-erase}
-use Rattle.art_arena.proofs.shapes.Meanings.{all-means}
+use Rattle.art_arena.proofs.Common.{Arena, node_at, links_at, Shape, erase, key_of, IsMeant, StoresOnly, fronts_with, Tree, items, nodes_with, canonical-erase, items-erase, all-means, kinds_are_fronts}
 use Rattle.art_arena.proofs.shapes.OneMeaning.{one_meaning}
-use Rattle.art_arena.proofs.tree.Fronts.{kinds_are_fronts}
-use Rattle.art_operations.specs.Pairs.{HasPairs}
-use Rattle.art_walks.specs.Faults.{Stands}
-use Rattle.art_walks.specs.Stats.{AreCounts, in_range, no_nodes}
+use Rattle.art_operations.proofs.Common.{HasPairs}
+use Rattle.art_walks.proofs.Common.{Stands, AreCounts, in_range, no_nodes}
 use Rattle.art_walks.specs.declared.malformed.MalformedTreeError.{MalformedTreeError}
 use Rattle.art_walks.specs.declared.malformed.MalformedTreeError.TheVariants.{EmptyTreeWithLen, Memory}
 use Rattle.art_walks.specs.declared.stats.WellFormedTreeStats.{WellFormedTreeStats}
 use Rattle.art_walks.proofs.Ways.{fault_means_no_tree}
-use Rattle.art_map.specs.Audit.{audit_of}
+use Rattle.art_map.proofs.Terms.{audit_of}
 
 -- counts are told apart by their numbers
 abbrev stats_of : ℕ → ℕ → ℕ → ℕ → ℕ → ℕ → WellFormedTreeStats

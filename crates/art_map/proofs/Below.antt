@@ -1,17 +1,10 @@
 -- The pairs that a map shows are those of the leaves of its tree.
 use Rattle.std.proofs.Common.{◌≡◌, ℕ, zero, suc, ◌≤◌, List, ◌++◌, length, Option, Some, None, refl, sym, ap, ap₂, subst, ◌∙◌, arith, length-append}
 use Rattle.std.proofs.lemmas.List.{map-append}
-use Rattle.art_nodes.specs.Name.{Name}
-use Rattle.art_arena.specs.arena.Arena.{Arena, node_at, slots_of}
-use Rattle.art_arena.specs.arena.Cells.{Cell, AreHeld}
-use Rattle.art_arena.specs.arena.Shapes.{Shape, Branches, leaf_at, inner_at, no_branch, branch, name_of, children_at, leaves, leaves_in, pairs_of, cells, cells_in}
-use Rattle.art_arena.specs.arena.Stores.{StoresOnly}
-use Rattle.art_arena.proofs.tree.Order.{all_left, all_right}
-use Rattle.art_arena.proofs.shapes.Measures.{cells_few}
-use Rattle.art_arena.proofs.shapes.Meanings.{nodes-part}
-use Rattle.art_operations.specs.Pairs.{HasPairs}
-use Rattle.art_operations.proofs.LeafPairs.{leaf_pair}
-use Rattle.art_map.specs.Contents.{pairs_under, pairs_in, pairs_below, pairs_from}
+use Rattle.art_nodes.proofs.Common.{Name}
+use Rattle.art_arena.proofs.Common.{Arena, node_at, slots_of, Cell, AreHeld, Shape, Branches, leaf_at, inner_at, no_branch, branch, name_of, children_at, leaves, leaves_in, pairs_of, cells, cells_in, StoresOnly, all_left, all_right, cells_few, nodes-part}
+use Rattle.art_operations.proofs.Common.{HasPairs, leaf_pair}
+use Rattle.art_map.proofs.Terms.{pairs_under, pairs_in, pairs_below, pairs_from}
 
 module _ {K V : Type 0} (P : ℕ) (at : Name → Option (Cell K V)) where
   mutual

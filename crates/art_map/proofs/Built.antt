@@ -1,18 +1,11 @@
 -- What a map in the making has of the pairs that it took.
 use Rattle.std.proofs.Common.{◌≡◌, ℕ, Bool, true, false, cond, not, MatchBool, List, [], ◌∷◌, ◌++◌, Option, Some, None, refl, sym, ap, subst, ◌∙◌}
 use Rattle.std.specs.List.{AllByRecursion}
-use Rattle.art_arena.specs.arena.Arena.{Arena, Held, cell_of, inner_held, leaf_held}
-use Rattle.art_nodes.specs.Name.{Name}
-use Rattle.art_arena.specs.arena.Shapes.{key_of}
-use Rattle.art_arena.specs.tree.Order.{AscendsByKey}
-use Rattle.art_arena.proofs.tree.Order.{all_append}
-use Rattle.art_operations.specs.Builders.{Builds, BuildsTo}
-use Rattle.art_operations.specs.LeafNames.{HasLeavesOf}
-use Rattle.art_operations.specs.Pairs.{HasPairs, with_pair_put}
+use Rattle.art_arena.proofs.Common.{Arena, Held, cell_of, inner_held, leaf_held, key_of, AscendsByKey, all_append}
+use Rattle.art_nodes.proofs.Common.{Name}
+use Rattle.art_operations.proofs.Common.{Builds, BuildsTo, HasLeavesOf, HasPairs, with_pair_put, IsEmptySpine, fresh}
 use Rattle.art_operations.specs.declared.build.TreeBuilder.{TreeBuilder}
-use Rattle.art_operations.specs.inner.Spines.{IsEmptySpine}
-use Rattle.art_operations.proofs.Building.{fresh}
-use Rattle.art_map.specs.Builders.{HasGathered, HasGatheredInOrder, nodes_of}
+use Rattle.art_map.proofs.Terms.{HasGathered, HasGatheredInOrder, nodes_of}
 use Rattle.art_map.specs.declared.map.builder.TreeMapBuilder.{TreeMapBuilder}
 use Rattle.art_map.proofs.Puts.{put-last}
 
@@ -39,12 +32,19 @@ held-none None e = refl
 held-none (Some (leaf_held l)) e = absurd (cc)
 held-none (Some (inner_held n)) e = absurd (cc)
 
--- a new builder goes on from a map of no pair
+-- a new builder goes on from an arena without a root
+pub none-built : {K V : Type 0} (bytes : K → List ℕ) (P : ℕ) (arena : Arena K V) (builder : TreeBuilder) (root : Option Name) (pairs : List (K × V)) → root ≡ None → HasPairs bytes P arena root pairs
+    → builder.last ≡ None → IsEmptySpine builder.spine → builder.room ≡ 0 → (pairs ≡ []) × Builds bytes P arena builder pairs
+none-built bytes P arena builder root pairs none has last spine room =
+    let (no_pair, vacant) = subst (λ r. HasPairs bytes P arena r pairs) none has in
+    (no_pair, subst (Builds bytes P arena builder) (sym no_pair) (fresh bytes P arena builder last spine room (λ n. held-none _ (vacant n))))
+
+-- and so from a map of no pair
 pub goes-on : {K V : Type 0} {P : ℕ} (bytes : K → List ℕ) (is_key : K → Type 0) (b : TreeMapBuilder K V P) (root : Option Name) (pairs : List (K × V)) → root ≡ None → HasPairs bytes P b.arena root pairs
     → b.builder.last ≡ None → IsEmptySpine b.builder.spine → b.builder.room ≡ 0 → b.map.pairs ≡ [] → HasGatheredInOrder bytes is_key b pairs
 goes-on {P = P} bytes is_key b root pairs none has last spine room empty =
-    let (no_pair, vacant) = subst (λ r. HasPairs bytes P b.arena r pairs) none has in
-    subst (HasGatheredInOrder bytes is_key b) (sym no_pair) (fresh bytes P b.arena b.builder last spine room (λ n. held-none _ (vacant n)), tt, empty)
+    let (no_pair, builds) = none-built bytes P b.arena b.builder root pairs none has last spine room in
+    (builds, subst (AllByRecursion (λ p. is_key p.0)) (sym no_pair) tt, empty)
 
 module _ {K V : Type 0} {P : ℕ} (bytes : K → List ℕ) (is_key : K → Type 0) (b : TreeMapBuilder K V P) (pairs : List (K × V)) where
   -- what it has is told by whether they came in order

@@ -1,14 +1,11 @@
 -- A clone of a map's nodes has clones of its pairs.
 use Rattle.std.proofs.Common.{◌≡◌, ℕ, List, [], ◌∷◌, Option, Some, None, refl, sym, ap, ap₂, subst}
-use Rattle.art_nodes.specs.Name.{Name}
-use Rattle.art_arena.specs.arena.Arena.{Arena, Held, leaf_held, inner_held, cell_of, held_at}
-use Rattle.art_arena.specs.arena.ArenaClones.{IsArenaClone, IsHeldClone}
-use Rattle.art_arena.specs.arena.Shapes.{leaves, pairs_of}
-use Rattle.art_operations.specs.Pairs.{HasPairs}
-use Rattle.art_operations.specs.Runs.{AreClones}
+use Rattle.art_nodes.proofs.Common.{Name}
+use Rattle.art_arena.proofs.Common.{Arena, Held, leaf_held, inner_held, cell_of, held_at, IsArenaClone, IsHeldClone, leaves, pairs_of}
+use Rattle.art_operations.proofs.Common.{HasPairs, AreClones}
 use Rattle.art_operations.proofs.ClonedTrees.{cloned-tree}
 use Rattle.art_operations.proofs.RepeatedClones.{shape-pairs}
-use Rattle.art_map.specs.Contents.{IsMap, pairs_from}
+use Rattle.art_map.proofs.Terms.{IsMap, pairs_from}
 use Rattle.art_map.proofs.Below.{has-seen}
 use Rattle.art_map.proofs.Maps.{AreKeys, make}
 

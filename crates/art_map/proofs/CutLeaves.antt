@@ -1,13 +1,9 @@
 -- The last leaves of a tree move into an empty arena: both lists of leaves are in order.
 use Rattle.std.proofs.Common.{◌≡◌, ℕ, ◌+◌, List, [], ◌++◌, length, Option, sym, ap, subst, ◌∙◌, arith, append-nil, length-append}
 use Rattle.std.proofs.lemmas.List.{length-map}
-use Rattle.art_arena.specs.arena.Arena.{Arena}
-use Rattle.art_arena.specs.arena.Shapes.{LeafAt, key_of, pairs_of}
-use Rattle.art_arena.specs.tree.Order.{AscendsByKey}
-use Rattle.art_operations.specs.LeafCursors.{HasMoved, StandsInList, StandsBetween}
-use Rattle.art_operations.specs.Rebuilds.{HoldsInOrder}
+use Rattle.art_arena.proofs.Common.{Arena, LeafAt, key_of, pairs_of, AscendsByKey}
+use Rattle.art_operations.proofs.Common.{HasMoved, StandsInList, StandsBetween, HoldsInOrder, left-in-order}
 use Rattle.art_operations.specs.declared.leaf_list.LeafCursor.{LeafCursor}
-use Rattle.art_operations.proofs.LeafListsOrdered.{left-in-order}
 use Rattle.art_map.proofs.Puts.{ascends-left, ascends-right}
 
 pub pairs-long : {K V : Type 0} (ls : List (LeafAt K V)) → length (pairs_of ls) ≡ length ls

@@ -3,14 +3,10 @@
 use Rattle.std.proofs.Common.{◌≡◌, ℕ, Bool, true, false, cond, List, [], ◌∷◌, Some, None, bytes_eq}
 use Rattle.std.proofs.Common.{refl, sym, ap, ◌∙◌}
 use Rattle.std.specs.Map.{lookup}
-use Rattle.art_bytes.specs.lemmas.KeyLaws.{before_zero}
-use Rattle.art_arena.specs.arena.Shapes.{key_of}
-use Rattle.art_arena.proofs.shapes.Finding.{same_key, other_key}
-use Rattle.art_arena.proofs.tree.Distinct.{bytes_from_same}
-use Rattle.art_operations.specs.KeyedLists.{without_key}
-use Rattle.art_operations.specs.Pairs.{with_pair_put}
-use Rattle.art_map.specs.Contents.{has_bytes}
-use Rattle.art_map.specs.Laws.{ended}
+use Rattle.art_bytes.proofs.Common.{before_zero}
+use Rattle.art_arena.proofs.Common.{key_of, same_key, other_key, bytes_from_same}
+use Rattle.art_operations.proofs.Common.{without_key, with_pair_put}
+use Rattle.art_map.proofs.Terms.{has_bytes, ended}
 use Rattle.art_map.proofs.FoundBehind.{found-inserted, found-removed}
 
 -- with the zero behind both, two are the same where they are without it
@@ -44,3 +40,6 @@ module _ {V : Type 0} where
       ∙ found-removed ended (ended q) (ended k) ps
       ∙ ap (λ t. cond t None (lookup (has_bytes ended (ended q)) ps)) (ended-same k q)
       ∙ ap (cond (bytes_eq k q) None) (ended-found q ps)
+
+-- what the law of such keys says
+pub ruleset ended_laws = (ended-found)

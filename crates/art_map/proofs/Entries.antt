@@ -3,20 +3,12 @@ use Rattle.std.proofs.Common.{◌≡◌, ℕ, Bool, true, false, cond, List, [],
 use mathlib.Core.Bool.{Bool-set}
 use Rattle.std.proofs.lemmas.Slice.Eq.{bytes_eq-Decides}
 use Rattle.art_bytes.specs.declared.as_bytes.AsBytes as as_bytes
-use Rattle.art_arena.specs.arena.Arena.{cell_of, node_at}
-use Rattle.art_arena.specs.arena.Cells.{Cell, branches, leaf_name, pair}
-use Rattle.art_arena.specs.arena.Shapes.{key_of}
-use Rattle.art_operations.specs.KeyedLists.{without_key}
-use Rattle.art_arena.proofs.shapes.LeafValues.{leaf-there}
-use Rattle.art_operations.specs.Pairs.{with_pair_put}
-use Rattle.art_map.specs.Found.{IsFound, HasPairAt, HasPairUnder, leaf_pair, pair_under, has_leaf}
-use Rattle.art_map.specs.LeafNames.{KeepsAllLeaves}
-use Rattle.art_map.specs.Lends.{with_value_at}
+use Rattle.art_arena.proofs.Common.{cell_of, node_at, Cell, branches, leaf_name, pair, key_of, leaf-there}
+use Rattle.art_operations.proofs.Common.{without_key, with_pair_put}
+use Rattle.art_map.proofs.Terms.{IsFound, HasPairAt, HasPairUnder, leaf_pair, pair_under, has_leaf, KeepsAllLeaves, with_value_at, Contents, has_bytes, Vacant, the, option_key, entry_key, entry_value, entry_pairs, pairs_without, with_entry_value, IsEntryOf, IsSame, IsWritten, OccupiedEntry}
 use Rattle.std.specs.Map.{lookup_entry}
 use Rattle.std.specs.Option.{unwrap_or}
-use Rattle.art_map.specs.Contents.{Contents, has_bytes}
-use Rattle.art_map.specs.Entries.{Occupied, Vacant, the, option_key, entry_key, entry_value, entry_pairs, pairs_without, with_entry_value, IsEntryOf, IsSame, IsWritten}
-use Rattle.art_map.specs.declared.map.entry.OccupiedEntry.{OccupiedEntry}
+use Rattle.art_map.specs.Entries.{Occupied}
 use Rattle.art_map.specs.declared.map.entry.VacantEntry.{VacantEntry}
 use Rattle.art_map.proofs.LeafNames.{then-names, written-all}
 use Rattle.art_map.proofs.LookedUp.{lookup-value}

@@ -1,60 +1,24 @@
 -- The run of an extraction: what it has left, and what a step at either end leaves of it.
 use Rattle.std.proofs.Common.{◌≡◌, ℕ, ◌<◌, List, [], ◌∷◌, ◌++◌, length, Option, Some, None, Result, Ok, Err, OnOk, OnErr, refl, sym, ap, ap₂, subst, ◌∙◌, append_assoc, arith}
-use Rattle.std.proofs.lemmas.List.{append-nil, map-append}
+use Rattle.std.proofs.lemmas.List.{append-nil}
 use Rattle.std.proofs.Math.Logic.{∥∥₁_elim, ∥∥₁_map}
 use Rattle.std.specs.Prelude.{MatchOption, option_map}
-use Rattle.art_nodes.specs.Name.{Name}
-use Rattle.art_arena.specs.arena.Arena.{node_at, links_at}
-use Rattle.art_arena.specs.arena.Cells.{Cell, pair, branches, leaf_name}
-use Rattle.art_arena.specs.arena.Linked.{first_slot, IsList}
-use Rattle.art_arena.specs.arena.Shapes.{LeafAt, pairs_of}
+use Rattle.art_nodes.proofs.Common.{Name}
+use Rattle.art_arena.proofs.Common.{node_at, links_at, Cell, pair, branches, leaf_name, first_slot, IsList, LeafAt, pairs_of, nodes-part, leaves_are_held, tree-list, all_left, all_right}
 use Rattle.art_arena.specs.declared.ends.End.{End}
 use Rattle.art_arena.specs.declared.ends.End.TheVariants.{First, Last}
-use Rattle.art_arena.proofs.shapes.Meanings.{nodes-part}
-use Rattle.art_arena.proofs.shapes.Prefixes.{leaves_are_held}
-use Rattle.art_arena.proofs.shapes.Surroundings.{tree-list}
-use Rattle.art_arena.proofs.tree.Order.{all_left, all_right}
-use Rattle.art_operations.specs.Deletions.{HasLeaves, IsAmong}
-use Rattle.art_operations.specs.Pairs.{IsAtEnd}
-use Rattle.art_operations.proofs.LeafPairs.{leaf_pair}
-use Rattle.art_walks.specs.Runs.{Ends, HasEnds, IsWalk}
-use Rattle.art_walks.specs.Walked.{AreStored, pairs_left}
-use Rattle.art_walks.proofs.RunLengths.{run-pairs}
-use Rattle.art_map.specs.Contents.{Contents, first_item, last_item}
-use Rattle.art_map.specs.Found.{HasPairAt}
-use Rattle.art_arena.proofs.shapes.LinkedLists.{ends_with-first}
-use Rattle.art_map.specs.Leaves.{AreLeaves, IsRun, IsNextAt, slot_at, with_end, with_value_where}
-use Rattle.art_map.specs.Lends.{with_value_at}
-use Rattle.art_operations.proofs.Spines.{last-same}
-use Rattle.art_map.proofs.WrittenRuns.{WrittenRun, still-run, written-run}
-
--- the item at an end of a list, and the others
-pub record AtEnd {X : Type 0} (end : End) (xs : List X) : Type 0 where
-  pub item : X
-  pub rest : List X
-  pub is : IsAtEnd end item rest xs
-
-at-end : {X : Type 0} (end : End) (x : X) (xs : List X) → AtEnd end (x ∷ xs)
-at-end First x xs = record { item = x; rest = xs; is = refl }
-at-end Last x [] = record { item = x; rest = []; is = refl }
-at-end Last x (y ∷ ys) = let later = at-end Last y ys in record { item = later.item; rest = x ∷ later.rest; is = ap (λ zs. x ∷ zs) later.is }
+use Rattle.art_operations.proofs.Common.{HasLeaves, IsAmong, IsAtEnd, leaf_pair}
+use Rattle.art_walks.proofs.Common.{Ends, HasEnds, IsWalk, AreStored, pairs_left, run-pairs}
+use Rattle.art_walks.proofs.Counted.{EndsWalk}
+use Rattle.art_map.proofs.Terms.{Contents, first_item, last_item, HasPairAt, AreLeaves, IsRun, IsNextAt, slot_at, with_end, with_lent_value, with_value_at, at-end, run-end, slot-end, stored-end, AtEnd}
+use Rattle.art_map.proofs.AtEnds.{none-at-end, pairs-end, same-end}
+use Rattle.art_map.proofs.Written.{same-pair-at}
+use Rattle.art_map.proofs.WrittenRuns.{WrittenRun, still-run, with-leaf, written-run}
 
 module _ {K V : Type 0} where
-  pairs-end : (end : End) (l : LeafAt K V) (ys zs : List (LeafAt K V)) → IsAtEnd end l ys zs → IsAtEnd end (leaf_pair l) (pairs_of ys) (pairs_of zs)
-  pairs-end First l ys zs e = ap pairs_of e
-  pairs-end Last l ys zs e = ap pairs_of e ∙ map-append leaf_pair ys (l ∷ [])
-
   end-prop : IsSet (List (K × V)) → (end : End) (p : K × V) (ps qs : List (K × V)) → IsProp (IsAtEnd end p ps qs)
   end-prop sets First p ps qs = sets qs (p ∷ ps)
   end-prop sets Last p ps qs = sets qs (ps ++ p ∷ [])
-
-  -- two pairs of one leaf are one
-  pub same-pair-at : (m : Contents K V) (slot : ℕ) (p q : K × V) → HasPairAt m slot p → HasPairAt m slot q → p ≡ q
-  same-pair-at m slot p q has it =
-      let e = sym has ∙ it in
-      let one : p.0 ≡ q.0 = cc in
-      let two : p.1 ≡ q.1 = cc in
-      ap₂ (λ a b. (a, b)) one two
 
   -- where a leaf is known to have some pair, its pair is the one
   the-pair : (m : Contents K V) (slot : ℕ) (Q : K × V → Type 0) → ((p : K × V) → IsProp (Q p)) → ∥ ((p : K × V) × HasPairAt m slot p × Q p) ∥₁ → (p : K × V) × HasPairAt m slot p × Q p
@@ -133,10 +97,6 @@ module _ {K V : Type 0} (bytes : K → List ℕ) (P : ℕ) where
     -- a step at an end
     module _ (end : End) (old new : Ends) (result : Option ℕ)
         (next : (l : LeafAt K V) (ys zs : List (LeafAt K V)) → IsAtEnd end l ys zs → IsWalk (links_at m.nodes) old zs → (result ≡ Some l.slot) × IsWalk (links_at m.nodes) new ys) where
-      with-leaf : (end : End) (front : List (LeafAt K V)) (l : LeafAt K V) (ys zs back : List (LeafAt K V)) → IsAtEnd end l ys zs → front ++ (zs ++ back) ≡ with_end bytes P m end front l ys back
-      with-leaf First front l ys zs back e = ap (λ xs. front ++ (xs ++ back)) e
-      with-leaf Last front l ys zs back e = ap (λ xs. front ++ (xs ++ back)) e ∙ ap (λ xs. front ++ xs) (append_assoc ys (l ∷ []) back)
-
       stepped : (r : IsRun bytes P m old) → (at : AtEnd end r.run) → (slot : ℕ) → result ≡ Some slot → IsNextAt bytes P m end slot new
       stepped r at slot e =
           let it = next at.item at.rest r.run at.is (run-walk old r) in
@@ -146,7 +106,7 @@ module _ {K V : Type 0} (bytes : K → List ℕ) (P : ℕ) where
             leaf = at.item;
             run = at.rest;
             back = r.back;
-            leaves = subst (AreLeaves bytes P m) (with-leaf end r.front at.item at.rest r.run r.back at.is) r.leaves;
+            leaves = subst (AreLeaves bytes P m) (with-leaf bytes P m end r.front at.item at.rest r.run r.back at.is) r.leaves;
             slot_is = (cc);
             ends_are = it.1.ends_are;
           }
@@ -181,14 +141,10 @@ module _ {K V : Type 0} (bytes : K → List ℕ) (P : ℕ) where
           let f = sym it.0 ∙ e in
           let same : at.item.slot ≡ slot = cc in (
             leaf_pair at.item,
-            subst (λ n. node_at m.nodes (leaf_name n) ≡ Some (pair at.item.key at.item.value)) same (held-at end at.item at.rest r.run at.is (run-stored old r)),
+            subst (λ n. node_at m.nodes (leaf_name n) ≡ Some (pair at.item.key at.item.value)) same (stored-end m end at.item at.rest r.run at.is (run-stored old r)).0,
             ends-at end at.item at.rest r.run at.is (run-left old r) (step-left end slot new s),
           )
         where
-          held-at : (end : End) (l : LeafAt K V) (ys zs : List (LeafAt K V)) → IsAtEnd end l ys zs → AreStored m.nodes zs → node_at m.nodes (leaf_name l.slot) ≡ Some (pair l.key l.value)
-          held-at First l ys zs e stored = (subst (AreStored m.nodes) e stored).0
-          held-at Last l ys zs e stored = (all_right (λ (l : LeafAt K V). node_at m.nodes (leaf_name l.slot) ≡ Some (pair l.key l.value)) ys (l ∷ []) (subst (AreStored m.nodes) e stored)).0
-
           ends-at : (end : End) (l : LeafAt K V) (ys zs : List (LeafAt K V)) → IsAtEnd end l ys zs → pairs_left m.nodes old ≡ pairs_of zs → pairs_left m.nodes new ≡ pairs_of ys
               → IsAtEnd end (leaf_pair l) (pairs_left m.nodes new) (pairs_left m.nodes old)
           ends-at end l ys zs is e f = rw (e, f) (pairs-end end l ys zs is)
@@ -201,17 +157,10 @@ module _ {K V : Type 0} (bytes : K → List ℕ) (P : ℕ) where
           (∥∥₁_map some (λ r. taken-at r (the-end r low) slot e))
 
       -- where none is left, none is answered, and where a leaf is answered, one was left
-      pub leaf-there : (old ≡ None → result ≡ None) → IsSet (List (K × V)) → ∥ IsRun bytes P m old ∥₁
+      pub leaf-there : EndsWalk m.nodes old new result → IsSet (List (K × V)) → ∥ IsRun bytes P m old ∥₁
           → MatchOption result (pairs_left m.nodes old ≡ []) (λ slot. (p : K × V) × (rest : List (K × V)) × HasPairAt m slot p × IsAtEnd end p rest (pairs_left m.nodes old))
       leaf-there nowhere sets some = go result refl
         where
-          no-end : (r : IsRun bytes P m old) → r.run ≡ [] → old ≡ None
-          no-end r e = here old r.ends_are
-            where
-              here : (o : Ends) → HasEnds r.run o → o ≡ None
-              here None h = refl
-              here (Some ends) h = let f = subst (λ ys. first_slot ys None ≡ Some ends.0) e h.0 in absurd (cc)
-
           empty-run : (r : IsRun bytes P m old) → result ≡ None → pairs_left m.nodes old ≡ []
           empty-run r none = here r.run refl
             where
@@ -223,11 +172,11 @@ module _ {K V : Type 0} (bytes : K → List ℕ) (P : ℕ) where
                   absurd (cc)
 
           some-end : (slot : ℕ) → result ≡ Some slot → (r : IsRun bytes P m old) → AtEnd end r.run
-          some-end slot e r = here r.run refl
+          some-end slot e r = here old refl r.ends_are
             where
-              here : (ys : List (LeafAt K V)) → r.run ≡ ys → AtEnd end ys
-              here [] f = let g = sym e ∙ nowhere (no-end r f) in absurd (cc)
-              here (y ∷ ys) f = at-end end y ys
+              here : (o : Ends) → old ≡ o → HasEnds r.run o → AtEnd end r.run
+              here None none has = let g = sym e ∙ (nowhere none).0 in absurd (cc)
+              here (Some (a, b)) some has = run-end end a b r.run has
 
           go : (o : Option ℕ) → result ≡ o
               → MatchOption o (pairs_left m.nodes old ≡ []) (λ slot. (p : K × V) × (rest : List (K × V)) × HasPairAt m slot p × IsAtEnd end p rest (pairs_left m.nodes old))
@@ -300,72 +249,56 @@ module _ {K V : Type 0} (bytes : K → List ℕ) (P : ℕ) where
 -- The pair at an end, lent.
 module _ {K V : Type 0} (bytes : K → List ℕ) (P : ℕ) (m : Contents K V) where
   unpaired : (end : End) (zs : List (LeafAt K V)) (p : K × V) (rest : List (K × V)) → IsAtEnd end p rest (pairs_of zs) → (l : LeafAt K V) × (ys : List (LeafAt K V)) × IsAtEnd end l ys zs × (leaf_pair l ≡ p) × (pairs_of ys ≡ rest)
-  unpaired First [] p rest e = absurd (cc)
-  unpaired First (z ∷ zs) p rest e =
-      let head : leaf_pair z ≡ p = cc in
-      let tail : pairs_of zs ≡ rest = cc in
-      (z, zs, refl, head, tail)
-  unpaired Last [] p [] e = absurd (cc)
-  unpaired Last [] p (q ∷ rest) e = absurd (cc)
-  unpaired Last (z ∷ zs) p rest e =
-      let at = at-end Last z zs in
-      let same = last-same (pairs_of at.rest) rest (leaf_pair at.item) p (sym (pairs-end Last at.item at.rest (z ∷ zs) at.is) ∙ e) in
-      (at.item, at.rest, at.is, same.1, same.0)
+  unpaired end [] p rest e = absurd (none-at-end end p rest e)
+  unpaired end (z ∷ zs) p rest e =
+      let at = at-end end z zs in
+      let same = same-end end (leaf_pair at.item) p (pairs_of at.rest) rest (pairs_of (z ∷ zs)) (pairs-end end at.item at.rest (z ∷ zs) at.is) e in
+      (at.item, at.rest, at.is, same.0, same.1)
 
   -- the leaf that is answered is the one at the end of the run
   pub leaf-slot : (end : End) (old new : Ends) (result : Option ℕ)
       → ((l : LeafAt K V) (ys zs : List (LeafAt K V)) → IsAtEnd end l ys zs → IsWalk (links_at m.nodes) old zs → (result ≡ Some l.slot) × IsWalk (links_at m.nodes) new ys)
-      → (old ≡ None → result ≡ None) → IsSet (Option ℕ) → ∥ IsRun bytes P m old ∥₁ → result ≡ slot_at end old
-  leaf-slot end None new result next nowhere sets some = nowhere refl
-  leaf-slot end (Some (a, b)) new result next nowhere sets some = ∥∥₁_elim some (sets _ _) (λ r. go end next r)
-    where
-      walk : (r : IsRun bytes P m (Some (a, b))) → IsWalk (links_at m.nodes) (Some (a, b)) r.run
-      walk r = run-walk bytes P m (Some (a, b)) r
-
-      first : (ys : List (LeafAt K V)) → first_slot ys None ≡ Some a → (l : LeafAt K V) × (zs : List (LeafAt K V)) × (ys ≡ l ∷ zs) × (Some l.slot ≡ Some a)
-      first [] e = absurd (cc)
-      first (y ∷ ys) e = (y, ys, refl, e)
-
-      go : (end : End) → ((l : LeafAt K V) (ys zs : List (LeafAt K V)) → IsAtEnd end l ys zs → IsWalk (links_at m.nodes) (Some (a, b)) zs → (result ≡ Some l.slot) × IsWalk (links_at m.nodes) new ys)
-          → (r : IsRun bytes P m (Some (a, b))) → result ≡ slot_at end (Some (a, b))
-      go First next r = let e = first r.run r.ends_are.0 in (next e.0 e.1 r.run e.2 (walk r)).0 ∙ e.3
-      go Last next r = let e = ends_with-first r.run b r.ends_are.1 in (next e.1 e.0 r.run e.2 (walk r)).0 ∙ ap Some e.3
+      → EndsWalk m.nodes old new result → IsSet (Option ℕ) → ∥ IsRun bytes P m old ∥₁ → result ≡ slot_at end old
+  leaf-slot First None new result next nowhere sets some = (nowhere refl).0
+  leaf-slot Last None new result next nowhere sets some = (nowhere refl).0
+  leaf-slot end (Some (a, b)) new result next nowhere sets some = ∥∥₁_elim some (sets _ _) (λ r.
+      let at = run-end end a b r.run r.ends_are in
+      (next at.item at.rest r.run at.is (run-walk bytes P m (Some (a, b)) r)).0 ∙ sym (slot-end end a b r.run r.ends_are at.item at.rest at.is))
 
   -- once its value is written, the pair is still there
   pub left-written : IsSet (List (K × V)) → (end : End) (ends : Ends) → ∥ IsRun bytes P m ends ∥₁ → (p : K × V) (rest : List (K × V)) → IsAtEnd end p rest (pairs_left m.nodes ends) → (w : V)
-      → IsAtEnd end (p.0, w) rest (pairs_left (with_value_where m (slot_at end ends) w).nodes ends)
+      → IsAtEnd end (p.0, w) rest (pairs_left (with_lent_value m (slot_at end ends) w).nodes ends)
   left-written sets end ends some p rest at w = ∥∥₁_elim some (end-prop sets end (p.0, w) rest _) (λ r. go end ends r (written-run bytes P m end ends r w) at)
     where
-      go : (end : End) (ends : Ends) (r : IsRun bytes P m ends) → WrittenRun bytes P m end ends r.run w → IsAtEnd end p rest (pairs_left m.nodes ends)
-          → IsAtEnd end (p.0, w) rest (pairs_left (with_value_where m (slot_at end ends) w).nodes ends)
-      go end ends r is at = here end is.now.run is.same r.run at (run-left bytes P m ends r) (run-left bytes P (with_value_where m (slot_at end ends) w) ends is.now)
+      go : (end : End) (ends : Ends) (r : IsRun bytes P m ends) → WrittenRun bytes P m end ends r.run w (slot_at end ends) → IsAtEnd end p rest (pairs_left m.nodes ends)
+          → IsAtEnd end (p.0, w) rest (pairs_left (with_lent_value m (slot_at end ends) w).nodes ends)
+      go end ends r is at = here end is.now.run is.same r.run at (run-left bytes P m ends r) (run-left bytes P (with_lent_value m (slot_at end ends) w) ends is.now)
         where
           here : (e : End) (now : List (LeafAt K V)) → ((l : LeafAt K V) (ys : List (LeafAt K V)) → IsAtEnd e l ys r.run → IsAtEnd e (record { slot = l.slot; key = l.key; value = w }) ys now)
-              → (run : List (LeafAt K V)) → IsAtEnd e p rest (pairs_left m.nodes ends) → pairs_left m.nodes ends ≡ pairs_of r.run → pairs_left (with_value_where m (slot_at end ends) w).nodes ends ≡ pairs_of now
-              → IsAtEnd e (p.0, w) rest (pairs_left (with_value_where m (slot_at end ends) w).nodes ends)
+              → (run : List (LeafAt K V)) → IsAtEnd e p rest (pairs_left m.nodes ends) → pairs_left m.nodes ends ≡ pairs_of r.run → pairs_left (with_lent_value m (slot_at end ends) w).nodes ends ≡ pairs_of now
+              → IsAtEnd e (p.0, w) rest (pairs_left (with_lent_value m (slot_at end ends) w).nodes ends)
           here e now same run at f g =
               let it = unpaired e r.run p rest (subst (IsAtEnd e p rest) f at) in
               let written = pairs-end e (record { slot = it.0.slot; key = it.0.key; value = w }) it.1 now (same it.0 it.1 it.2) in
-              let whole = pairs_left (with_value_where m (slot_at end ends) w).nodes ends in
+              let whole = pairs_left (with_lent_value m (slot_at end ends) w).nodes ends in
               subst (λ k. IsAtEnd e (k, w) rest whole) (ap (λ (q : K × V). q.0) it.3)
               (subst (λ ys. IsAtEnd e (it.0.key, w) ys whole) it.4 (subst (IsAtEnd e (it.0.key, w) (pairs_of it.1)) (sym g) written))
 
   -- the run, once the leaf at an end of it is written
   module _ (end : End) (ends : Ends) (slot : ℕ) (at : slot_at end ends ≡ Some slot) where
     pub still-written : ∥ IsRun bytes P m ends ∥₁ → (w : V) → ∥ IsRun bytes P (with_value_at m slot w) ends ∥₁
-    still-written some w = subst (λ o. ∥ IsRun bytes P (with_value_where m o w) ends ∥₁) at (still-run bytes P m end ends some w)
+    still-written some w = subst (λ o. ∥ IsRun bytes P (with_lent_value m o w) ends ∥₁) at (still-run bytes P m end ends some w)
 
     pub left-still : IsSet (List (K × V)) → ∥ IsRun bytes P m ends ∥₁ → (w : V) (k : K) (v : V) (rest : List (K × V)) → IsAtEnd end (k, v) rest (pairs_left m.nodes ends)
         → IsAtEnd end (k, w) rest (pairs_left (with_value_at m slot w).nodes ends)
-    left-still sets some w k v rest is = subst (λ o. IsAtEnd end (k, w) rest (pairs_left (with_value_where m o w).nodes ends)) at (left-written sets end ends some (k, v) rest is w)
+    left-still sets some w k v rest is = subst (λ o. IsAtEnd end (k, w) rest (pairs_left (with_lent_value m o w).nodes ends)) at (left-written sets end ends some (k, v) rest is w)
 
   -- the pair of the leaf is the one at the end, and so is the key
   pub key-at-end : (slot : ℕ) (end : End) (q : K × V) (ps : List (K × V)) → ((p : K × V) × (rest : List (K × V)) × HasPairAt m slot p × IsAtEnd end p rest ps) → HasPairAt m slot q → (rest : List (K × V)) × IsAtEnd end q rest ps
   key-at-end slot end q ps (p, rest, has, at) it = (rest, subst (λ x. IsAtEnd end x rest ps) (same-pair-at m slot p q has it) at)
 
   pub same-key-at : (end : End) (k l : K) (v w : V) (rest others ps : List (K × V)) → IsAtEnd end (k, v) rest ps → IsAtEnd end (l, w) others ps → k ≡ l
-  same-key-at First k l v w rest others ps e f = let same : ◌≡◌ {A = List (K × V)} ((k, v) ∷ rest) ((l, w) ∷ others) = sym e ∙ f in let head : ◌≡◌ {A = K × V} (k, v) (l, w) = cc in ap (λ (p : K × V). p.0) head
-  same-key-at Last k l v w rest others ps e f = ap (λ (p : K × V). p.0) (last-same rest others (k, v) (l, w) (sym e ∙ f)).1
+  same-key-at end k l v w rest others ps e f = ap (λ (p : K × V). p.0) (same-end end (k, v) (l, w) rest others ps e f).0
 
 -- the pair that is shown at an end is the first item, or the last
 last-is : {X : Type 0} (xs : List X) (x : X) → last_item (xs ++ x ∷ []) ≡ Some x

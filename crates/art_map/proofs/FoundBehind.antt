@@ -7,24 +7,10 @@ use Rattle.std.specs.Prelude.{filter}
 use Rattle.std.specs.declared.ops.Bound.{Bound}
 use Rattle.std.proofs.lemmas.Bool.{cond-true, cond-false}
 use Rattle.std.proofs.lemmas.Map.Entries.{lookup-filter-keys}
-use Rattle.art_bytes.specs.Keys.{bytes_cmp}
-use Rattle.art_arena.specs.arena.Shapes.{key_of}
-use Rattle.art_arena.specs.tree.Changes.{put_in_order, is_before}
-use Rattle.art_arena.specs.tree.Tenants.{begins_with, with_front, without_front}
-use Rattle.art_arena.proofs.shapes.Finding.{other_key, same_key}
-use Rattle.art_arena.proofs.tree.Distinct.{bytes_from_same}
-use Rattle.art_map.specs.Contents.{has_bytes}
-use Rattle.art_map.specs.Ranges.{pairs_between}
-use Rattle.art_operations.specs.KeyedLists.{overlaps, without_key}
-use Rattle.art_operations.specs.Pairs.{with_pair_over, with_pair_put}
-
--- a key overlaps itself
-begins-itself : (k : List ℕ) → begins_with k k ≡ true
-begins-itself [] = refl
-begins-itself (a ∷ k) = rw (begins-itself k) grind arith
-
-overlaps-itself : (k : List ℕ) → overlaps k k ≡ true
-overlaps-itself k = rw (begins-itself k) refl
+use Rattle.art_bytes.proofs.Common.{bytes_cmp}
+use Rattle.art_arena.proofs.Common.{key_of, put_in_order, is_before, begins_with, with_front, without_front, other_key, same_key, bytes_from_same}
+use Rattle.art_map.proofs.Terms.{has_bytes, pairs_between}
+use Rattle.art_operations.proofs.Common.{overlaps, without_key, with_pair_over, with_pair_put, overlaps_same}
 
 not-not : (b : Bool) {X : Type 0} (x y : X) → cond (not b) x y ≡ cond b y x
 not-not true x y = refl
@@ -89,7 +75,7 @@ module _ {K V : Type 0} (bytes : K → List ℕ) (query : List ℕ) where
 
   pub found-over : (k : K) (v : V) (ps : List (K × V)) → seen (with_pair_over bytes k v ps) ≡ cond (bytes_eq (bytes k) query) (Some v) (cond (overlaps (bytes k) query) None (seen ps))
   found-over k v ps =
-      found-put (k, v) (λ l. not (overlaps (bytes k) l)) (ap not (overlaps-itself (bytes k))) ps
+      found-put (k, v) (λ l. not (overlaps (bytes k) l)) (ap not (overlaps_same (bytes k) (bytes k) refl)) ps
       ∙ ap (cond (bytes_eq (bytes k) query) (Some v)) (not-not (overlaps (bytes k) query) (seen ps) None)
 
   pub found-cut : (front : List ℕ) (ps : List (K × V)) → seen (without_front (key_of bytes) front ps) ≡ cond (begins_with front query) None (seen ps)
@@ -100,3 +86,6 @@ module _ {K V : Type 0} (bytes : K → List ℕ) (query : List ℕ) where
 
   pub found-between : (start end : Bound (List ℕ)) (ps : List (K × V)) → seen (pairs_between bytes start end ps) ≡ cond (range_contains bytes_cmp start end query) (seen ps) None
   found-between start end ps = found-kept (range_contains bytes_cmp start end) ps
+
+-- what the laws of a map say
+pub ruleset laws = (found-inserted, found-removed, found-over, found-cut, found-behind, found-between)

@@ -5,17 +5,13 @@ use Rattle.std.specs.Ordering.{is_le}
 use Rattle.std.specs.declared.ops.Bound.TheVariants.{Included, Excluded, Unbounded}
 use Rattle.std.proofs.lemmas.List.{append-nil}
 use Rattle.std.proofs.Math.Seq.{take-append_seam, drop-append_seam}
-use Rattle.art_bytes.specs.Keys.{IsBefore, bytes_cmp}
-use Rattle.art_arena.specs.arena.Shapes.{key_of}
-use Rattle.art_arena.specs.tree.Order.{AscendsByKey}
-use Rattle.art_operations.specs.KeyedLists.{IsBlocked}
-use Rattle.art_operations.specs.Pairs.{with_pair_put}
-use Rattle.art_operations.proofs.Stretches.{from_later}
-use Rattle.art_operations.specs.Insertions.{IsForConflict, IsPairRefused}
+use Rattle.art_bytes.proofs.Common.{IsBefore, bytes_cmp}
+use Rattle.art_arena.proofs.Common.{key_of, AscendsByKey}
+use Rattle.art_operations.proofs.Common.{IsBlocked, with_pair_put, from_later, IsForConflict, IsPairRefused}
 use Rattle.art_operations.specs.declared.insert.result.PairRefused.{PairRefused}
 use Rattle.art_operations.specs.declared.insert.result.PairRefused.TheVariants.{Conflict, Memory}
 use Rattle.std.specs.Map.Iter.{TakesFirst}
-use Rattle.art_map.specs.Ranges.{pairs_between}
+use Rattle.art_map.proofs.Terms.{pairs_between}
 use Rattle.art_map.proofs.Puts.{ascends-right, put-first, free-first}
 
 -- lists that are joined are told apart by their lengths
@@ -88,7 +84,7 @@ module _ {K V : Type 0} (bytes : K → List ℕ) (p : K × V) (rest left taken :
   pub put-joined : rest ++ with_pair_put bytes p.0 p.1 taken ≡ left ++ taken
   put-joined = ap (λ xs. rest ++ xs) (put-first bytes p taken behind) ∙ sym (append_assoc rest (p ∷ []) taken) ∙ ap (λ xs. xs ++ taken) (sym at)
 
--- a pair is not refused for which there is room, and which no other blocks
-pub no-refusal : {K V : Type 0} (k : K) (v : V) (Blocked Room : Type 0) (e : PairRefused K V) → IsPairRefused k v Blocked e → (Room → IsForConflict e) → Room → (Blocked → ⊥) → ⊥
-no-refusal k v Blocked Room (Conflict c w) refused told room free = free refused.2
-no-refusal k v Blocked Room (Memory c w) refused told room free = told room
+-- where there is room, a pair is refused for a conflict
+pub blocked : {K V B R : Type 0} (k : K) (v : V) (e : PairRefused K V) → IsPairRefused k v B e → (R → IsForConflict e) → R → B
+blocked k v (Conflict l w) refused conflict room = refused.2
+blocked k v (Memory l w) refused conflict room = absurd (conflict room)

@@ -1,29 +1,10 @@
 -- Each leaf of a map keeps its name.
 use Rattle.std.proofs.Common.{◌≡◌, ℕ, List, [], ◌∷◌, Option, Some, None, sym, ap, subst, ◌∙◌, inl, inr}
-use Rattle.art_bytes.specs.Keys.{IsBefore}
-use Rattle.art_bytes.proofs.Order.{before_not_self}
-use Rattle.art_nodes.specs.Name.{Name}
-use Rattle.art_arena.specs.arena.Arena.{Arena, held_at, node_at, cell_of}
-use Rattle.art_arena.specs.arena.Cells.{leaf_name}
-use Rattle.art_arena.specs.arena.Lends.{with_leaf_value}
-use Rattle.art_arena.specs.arena.Shapes.{Shape, LeafAt, leaves, key_of}
-use Rattle.art_arena.specs.arena.Stores.{StoresOnly}
-use Rattle.art_arena.specs.tree.Changes.{IsIn}
-use Rattle.art_arena.specs.tree.Order.{AscendsByKey}
-use Rattle.art_arena.proofs.shapes.CellLists.{same_name_tells}
-use Rattle.art_arena.proofs.shapes.LeafValues.{leaf-there}
-use Rattle.art_arena.proofs.tree.Insert.{all_at}
-use Rattle.art_arena.proofs.tree.Paths.{in_map, in_unmap}
-use Rattle.art_operations.specs.LeafNames.{HasKeyAt, HasLeavesOf}
-use Rattle.art_operations.specs.Pairs.{HasPairs}
-use Rattle.art_operations.proofs.LeafNames.{among-all, leaf-of}
-use Rattle.art_operations.proofs.NamedLeaves.{held-some}
-use Rattle.art_operations.proofs.LeafPairs.{leaf_pair, pairs_ascend}
-use Rattle.art_operations.proofs.Stretches.{leaves_ascend}
-use Rattle.art_map.specs.Contents.{Contents, contents, pairs_from, IsMap}
-use Rattle.art_map.specs.Found.{HasPairAt}
-use Rattle.art_map.specs.LeafNames.{AddsNoLeaf, AreNamed, KeepsAllLeaves, KeepsLeaves}
-use Rattle.art_map.specs.Lends.{with_value_at}
+use Rattle.art_bytes.proofs.Common.{IsBefore, before_not_self}
+use Rattle.art_nodes.proofs.Common.{Name}
+use Rattle.art_arena.proofs.Common.{Arena, held_at, node_at, cell_of, leaf_name, pair, with_leaf_value, Shape, LeafAt, leaves, key_of, StoresOnly, IsIn, AscendsByKey, same_name_tells, LeafThere, leaf-there, all_at, in_map, in_unmap}
+use Rattle.art_operations.proofs.Common.{HasKeyAt, HasLeavesOf, HasPairs, among-all, leaf-of, held-some, leaf_pair, pairs_ascend, leaves_ascend}
+use Rattle.art_map.proofs.Terms.{Contents, contents, pairs_from, IsMap, HasPairAt, AddsNoLeaf, AreNamed, KeepsAllLeaves, KeepsLeaves, with_value_at}
 
 -- two items of an ascending list are one where they have one key
 one-item : {X : Type 0} (key : X → List ℕ) (xs : List X) → AscendsByKey key xs → (x y : X) → IsIn x xs → IsIn y xs → key x ≡ key y → x ≡ y
@@ -65,6 +46,9 @@ module _ {K V : Type 0} (bytes : K → List ℕ) where
       let there = is.stands key still in
       subst (λ n. HasKeyAt bytes new.nodes n key) (was.once key there.0 slot (none there.0 key there.1) has) there.1
 
+  pub names-between : (P : ℕ) (is_key : K → Type 0) (old new : Arena K V) (root then : Option Name) → IsMap bytes is_key P old root → IsMap bytes is_key P new then → HasLeavesOf bytes old new → KeepsLeaves bytes (contents old root) (contents new then)
+  names-between P is_key old new root then was is none = kept-names (contents old root) (contents new then) (named P old is_key root was) (named P new is_key then is) none
+
   -- where none went, each keeps its name
   pub all-names : (old new : Contents K V) → KeepsAllLeaves bytes old new → KeepsLeaves bytes old new
   all-names old new all slot key has still = all slot key has
@@ -74,22 +58,21 @@ module _ {K V : Type 0} (bytes : K → List ℕ) where
   then-names one two three f g slot key has = f slot key (g slot key has)
 
   -- a leaf with another value keeps its key
-  pub written-names : (m : Contents K V) (slot : ℕ) (p : K × V) → HasPairAt m slot p → (w : V) → AddsNoLeaf bytes m (with_value_at m slot w)
-  written-names m slot p at w n key (k, v, e, same) = elim (same_name_tells (leaf_name n) (leaf_name slot)) [
+  one-leaf : (one two : Arena K V) (slot : ℕ) (k : K) (v w : V) → node_at one (leaf_name slot) ≡ Some (pair k v) → node_at two (leaf_name slot) ≡ Some (pair k w) → ((n : Name) → (n ≡ leaf_name slot → ⊥) → node_at two n ≡ node_at one n) → HasLeavesOf bytes one two
+  one-leaf one two slot k v w here there others n key (l, u, e, same) = elim (same_name_tells (leaf_name n) (leaf_name slot)) [
     | inl s ↦
-        let there = leaf-there m.nodes slot (held-some (held_at m.nodes (leaf_name slot)) _ at) in
-        let f = sym e ∙ ap (node_at (with_leaf_value m.nodes slot w)) s.1 ∙ ap cell_of (there.written w).changed in
-        let is : k ≡ there.leaf.key = cc in
-        (there.leaf.key, there.leaf.value, ap (node_at m.nodes) s.1 ∙ ap cell_of there.held, sym (ap bytes is) ∙ same)
-    | inr o ↦ (k, v, sym (ap cell_of (((leaf-there m.nodes slot (held-some (held_at m.nodes (leaf_name slot)) _ at)).written w).others (leaf_name n) o.1)) ∙ e, same)
+        let f = sym e ∙ ap (node_at two) s.1 ∙ there in
+        let is : l ≡ k = cc in
+        (k, v, ap (node_at one) s.1 ∙ here, sym (ap bytes is) ∙ same)
+    | inr o ↦ (l, u, sym (others (leaf_name n) o.1) ∙ e, same)
   ]
 
-  pub written-all : (m : Contents K V) (slot : ℕ) (p : K × V) → HasPairAt m slot p → (w : V) → KeepsAllLeaves bytes m (with_value_at m slot w)
-  written-all m slot p at w n key (k, v, e, same) = elim (same_name_tells (leaf_name n) (leaf_name slot)) [
-    | inl s ↦
-        let there = leaf-there m.nodes slot (held-some (held_at m.nodes (leaf_name slot)) _ at) in
-        let f = sym e ∙ ap (node_at m.nodes) s.1 ∙ ap cell_of there.held in
-        let is : k ≡ there.leaf.key = cc in
-        (there.leaf.key, w, ap (node_at (with_leaf_value m.nodes slot w)) s.1 ∙ ap cell_of (there.written w).changed, sym (ap bytes is) ∙ same)
-    | inr o ↦ (k, v, ap cell_of (((leaf-there m.nodes slot (held-some (held_at m.nodes (leaf_name slot)) _ at)).written w).others (leaf_name n) o.1) ∙ e, same)
-  ]
+  module _ (m : Contents K V) (slot : ℕ) (p : K × V) (at : HasPairAt m slot p) (w : V) where
+    abbrev is : LeafThere m.nodes slot
+    is = leaf-there m.nodes slot (held-some (held_at m.nodes (leaf_name slot)) _ at)
+
+    pub written-names : AddsNoLeaf bytes m (with_value_at m slot w)
+    written-names = one-leaf m.nodes (with_leaf_value m.nodes slot w) slot is.leaf.key is.leaf.value w (ap cell_of is.held) (ap cell_of (is.written w).changed) (λ n o. ap cell_of ((is.written w).others n o))
+
+    pub written-all : KeepsAllLeaves bytes m (with_value_at m slot w)
+    written-all = one-leaf (with_leaf_value m.nodes slot w) m.nodes slot is.leaf.key w is.leaf.value (ap cell_of (is.written w).changed) (ap cell_of is.held) (λ n o. sym (ap cell_of ((is.written w).others n o)))

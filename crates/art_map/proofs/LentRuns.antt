@@ -3,30 +3,17 @@ use Rattle.std.proofs.Common.{◌≡◌, ℕ, Bool, true, false, cond, eqb, eqb-
 use Rattle.std.proofs.Math.Bool.{Bool-set}
 use Rattle.std.proofs.Math.Logic.{∥∥₁_elim, ∥∥₁_map}
 use Rattle.std.specs.List.{AllByRecursion}
-use Rattle.art_nodes.specs.Name.{Name}
-use Rattle.art_arena.specs.arena.Arena.{Arena, held_at, node_at, links_at}
-use Rattle.art_arena.specs.arena.Cells.{leaf_name, pair}
-use Rattle.art_arena.specs.arena.Lends.{with_leaf_value}
-use Rattle.art_arena.specs.arena.Linked.{Links, AreLinked, IsList, first_slot, last_slot}
-use Rattle.art_arena.specs.arena.Shapes.{LeafAt, pairs_of}
-use Rattle.art_arena.proofs.shapes.LeafValues.{cell-some, leaf-there}
-use Rattle.art_arena.proofs.shapes.LinkedLists.{AreLinked-right, eqb-self}
-use Rattle.art_arena.proofs.shapes.Meanings.{nodes-subtree}
-use Rattle.art_arena.proofs.shapes.Prefixes.{leaves_are_held}
-use Rattle.art_arena.proofs.shapes.Subtrees.{cell_held}
-use Rattle.art_arena.proofs.shapes.Surroundings.{tree-list}
-use Rattle.art_arena.proofs.tree.Order.{all_left, all_right}
-use Rattle.art_operations.proofs.WrittenValues.{written}
-use Rattle.art_walks.specs.Runs.{Ends, HasEnds, IsWalk}
-use Rattle.art_walks.specs.Walked.{IsCounted, start_of, leaves_left}
+use Rattle.art_nodes.proofs.Common.{Name}
+use Rattle.art_arena.proofs.Common.{Arena, held_at, node_at, links_at, leaf_name, pair, Links, AreLinked, IsList, first_slot, last_slot, LeafAt, cell-some, leaf-there, AreLinked-right, eqb-self, nodes-subtree, leaves_are_held, cell_held, tree-list, all_left, all_right}
+use Rattle.art_arena.specs.declared.ends.End.{End}
+use Rattle.art_arena.specs.declared.ends.End.TheVariants.{First, Last}
+use Rattle.art_operations.proofs.Common.{IsAtEnd, leaf_pair, written}
+use Rattle.art_walks.proofs.Common.{Ends, HasEnds, IsWalk, IsCounted, leaves_left, recounted, run-pairs}
 use Rattle.art_walks.proofs.Counted.{EndsWalk}
-use Rattle.art_walks.proofs.RunLengths.{recounted, run-pairs}
-use Rattle.art_walks.proofs.RunSteps.{back-is, back-parts, first-held, front-is}
-use Rattle.art_map.specs.Contents.{Contents, IsMap, HasLeafAt, contents}
-use Rattle.art_map.specs.Found.{HasPairAt}
-use Rattle.art_map.specs.LentRuns.{end_of, left_behind, left_before, run_pairs, IsRunIn}
-use Rattle.art_map.specs.Lends.{with_value_at}
-use Rattle.art_map.specs.lemmas.LentSteps.{RunParted, back-walk, front-walk, parted-first, parted-last, leaves-left, run-written}
+use Rattle.art_walks.proofs.RunSteps.{first-held, front-is}
+use Rattle.art_map.proofs.Terms.{Contents, IsMap, HasLeafAt, contents, HasPairAt, slot_at, left_at, run_pairs, IsRunIn, with_value_at, RunParted, keeps-others, left-counted, no-run, parted}
+use Rattle.art_map.proofs.Written.{same-pair-at}
+use Rattle.art_map.proofs.AtEnds.{pairs-end}
 
 module _ {K V : Type 0} where
   -- the test that a slab key stands in the list
@@ -120,80 +107,41 @@ module _ {K V : Type 0} (bytes : K → List ℕ) (is_key : K → Type 0) (P : �
   -- so a run that a walk remembers is one
   pub remembered : (root : Option Name) → IsMap bytes is_key P arena root → (ends : Ends) → ∥ IsRunIn (contents arena root) ends ∥₁ → IsRunIn (contents arena root) ends
   remembered root map None run =
-      recounted arena None 0 (record { leaves = []; walk = record { xs = []; zs = []; list = record { linked = tt; once = λ n. omega arith }; ends_are = refl }; stored = tt; len_is = refl })
+      recounted arena None 0 (no-run (contents arena root))
   remembered root map (Some (a, b)) run =
       between root map a b (leaves_left arena (Some (a, b))) run (first-held arena (Some (a, b)) a b refl (∥∥₁_map run (λ r. (r.leaves, r.walk))))
 
-module _ {K V : Type 0} (m : Contents K V) (ends : Ends) where
-  -- a leaf of the map that has no pair left behind it, and those of which it takes the first, or the last
-  pub step-first : IsRunIn m ends → (result : Option ℕ) (new : Ends)
-      → ((l : LeafAt K V) (ys : List (LeafAt K V)) → IsWalk (links_at m.nodes) ends (l ∷ ys) → (result ≡ Some l.slot) × IsWalk (links_at m.nodes) new ys)
-      → EndsWalk m.nodes ends new result → (result ≡ start_of ends) × (new ≡ left_behind m ends)
-  step-first run result new answer end = go ends run.leaves run.walk answer end
-    where
-      go : (ends : Ends) (ls : List (LeafAt K V)) → IsWalk (links_at m.nodes) ends ls
-          → ((l : LeafAt K V) (ys : List (LeafAt K V)) → IsWalk (links_at m.nodes) ends (l ∷ ys) → (result ≡ Some l.slot) × IsWalk (links_at m.nodes) new ys)
-          → EndsWalk m.nodes ends new result → (result ≡ start_of ends) × (new ≡ left_behind m ends)
-      go None ls walk answer end = end refl
-      go (Some (a, b)) [] walk answer end = let e = walk.ends_are.0 in absurd (cc)
-      go (Some (a, b)) (l ∷ ys) walk answer end =
-          let step = answer l ys walk in (
-            step.0 ∙ ap Some (front-is (links_at m.nodes) a b l ys walk),
-            same-ends ys new (left_behind m (Some (a, b))) step.1.ends_are (front-walk (links_at m.nodes) a b l ys walk).ends_are,
-          )
-
-  pub step-last : IsRunIn m ends → (result : Option ℕ) (new : Ends)
-      → ((l : LeafAt K V) (ys : List (LeafAt K V)) → IsWalk (links_at m.nodes) ends (ys ++ l ∷ []) → (result ≡ Some l.slot) × IsWalk (links_at m.nodes) new ys)
-      → EndsWalk m.nodes ends new result → (result ≡ end_of ends) × (new ≡ left_before m ends)
-  step-last run result new answer end = go ends run.leaves run.walk answer end
-    where
-      go : (ends : Ends) (ls : List (LeafAt K V)) → IsWalk (links_at m.nodes) ends ls
-          → ((l : LeafAt K V) (ys : List (LeafAt K V)) → IsWalk (links_at m.nodes) ends (ys ++ l ∷ []) → (result ≡ Some l.slot) × IsWalk (links_at m.nodes) new ys)
-          → EndsWalk m.nodes ends new result → (result ≡ end_of ends) × (new ≡ left_before m ends)
-      go None ls walk answer end = end refl
-      go (Some (a, b)) ls walk answer end =
-          let e = back-parts (links_at m.nodes) a b ls walk in
-          let is = subst (IsWalk (links_at m.nodes) (Some (a, b))) e.2 walk in
-          let step = answer e.1 e.0 is in (
-            step.0 ∙ ap Some (back-is (links_at m.nodes) a b e.1 e.0 is),
-            same-ends e.0 new (left_before m (Some (a, b))) step.1.ends_are (back-walk (links_at m.nodes) a b e.1 e.0 is).ends_are,
-          )
-
--- the pairs of a run are that of the leaf and those that are left, whatever is written
-module _ {K V : Type 0} (m : Contents K V) (ends after : Ends) (slot : ℕ) (order : K × V → List (K × V) → List (K × V)) (run : IsRunIn m ends) (parted : RunParted m.nodes after slot (pairs_of run.leaves) order) where
-  parted-held : HasLeafAt m slot
-  parted-held = cell_held (held_at m.nodes (leaf_name slot)) _ parted.here
-
-  parted-rest : (p : K × V) → HasPairAt m slot p → (w : V) → run_pairs m ends ≡ order p (run_pairs (with_value_at m slot w) after)
-  parted-rest p has w =
-      let e : pair parted.key parted.value ≡ pair p.0 p.1 = let f = sym parted.here ∙ has in cc in
-      let same : (parted.key, parted.value) ≡ p = ap₂ (λ k v. (k, v)) (cc) (cc) in
-      let left = run-pairs (with_leaf_value m.nodes slot w) after (length parted.rest) (run-written m.nodes after slot (pairs_of run.leaves) order parted w) in
-      run-pairs m.nodes ends (leaves_left m.nodes ends) run ∙ parted.parts ∙ ap₂ order same (sym (left ∙ ap pairs_of (leaves-left m.nodes after slot (pairs_of run.leaves) order parted w)))
-
--- what a step tells
-abbrev Tells : {K V : Type 0} → Contents K V → Ends → Ends → (K × V → List (K × V) → List (K × V)) → ℕ → Type 0
-Tells {K} {V} m ends after order slot = HasLeafAt m slot × ((p : K × V) → HasPairAt m slot p → (w : V) → run_pairs m ends ≡ order p (run_pairs (with_value_at m slot w) after))
-
 module _ {K V : Type 0} (m : Contents K V) where
-  pub told-first : (ends : Ends) (run : IsRunIn m ends) (result : Option ℕ) (new : Ends) → (result ≡ start_of ends) × (new ≡ left_behind m ends) → IfSome result (Tells m ends new (λ p ps. p ∷ ps))
-  told-first None run None new step = tt
-  told-first None run (Some slot) new step = let e = step.0 in absurd (cc)
-  told-first (Some (a, b)) run None new step = tt
-  told-first (Some (a, b)) run (Some slot) new step =
-      let parted = parted-first m.nodes a b (leaves_left m.nodes (Some (a, b))) run in
-      let same : a ≡ slot = let e = step.0 in cc in
-      subst (λ n. Tells m (Some (a, b)) new (λ p ps. p ∷ ps) n) same
-      (subst (λ e. Tells m (Some (a, b)) e (λ p ps. p ∷ ps) a) (sym step.1)
-      (parted-held m (Some (a, b)) (left_behind m (Some (a, b))) a (λ p ps. p ∷ ps) run parted, parted-rest m (Some (a, b)) (left_behind m (Some (a, b))) a (λ p ps. p ∷ ps) run parted))
+  -- a step at an end answers the leaf there, and leaves the others
+  pub step : (end : End) (ends : Ends) → IsRunIn m ends → (result : Option ℕ) (new : Ends)
+      → ((l : LeafAt K V) (ys zs : List (LeafAt K V)) → IsAtEnd end l ys zs → IsWalk (links_at m.nodes) ends zs → (result ≡ Some l.slot) × IsWalk (links_at m.nodes) new ys)
+      → EndsWalk m.nodes ends new result → (result ≡ slot_at end ends) × (new ≡ left_at end m ends)
+  step First None run result new answer none = none refl
+  step Last None run result new answer none = none refl
+  step end (Some (a, b)) run result new answer none =
+      let p = parted m end a b run in
+      let is = answer p.leaf p.rest run.leaves p.parts run.walk in
+      (is.0 ∙ sym p.slot_is, same-ends p.rest new (left_at end m (Some (a, b))) is.1.ends_are p.walk.ends_are)
 
-  pub told-last : (ends : Ends) (run : IsRunIn m ends) (result : Option ℕ) (new : Ends) → (result ≡ end_of ends) × (new ≡ left_before m ends) → IfSome result (Tells m ends new (λ p ps. ps ++ p ∷ []))
-  told-last None run None new step = tt
-  told-last None run (Some slot) new step = let e = step.0 in absurd (cc)
-  told-last (Some (a, b)) run None new step = tt
-  told-last (Some (a, b)) run (Some slot) new step =
-      let parted = parted-last m.nodes a b (leaves_left m.nodes (Some (a, b))) run in
-      let same : b ≡ slot = let e = step.0 in cc in
-      subst (λ n. Tells m (Some (a, b)) new (λ p ps. ps ++ p ∷ []) n) same
-      (subst (λ e. Tells m (Some (a, b)) e (λ p ps. ps ++ p ∷ []) b) (sym step.1)
-      (parted-held m (Some (a, b)) (left_before m (Some (a, b))) b (λ p ps. ps ++ p ∷ []) run parted, parted-rest m (Some (a, b)) (left_before m (Some (a, b))) b (λ p ps. ps ++ p ∷ []) run parted))
+  -- the pair of the leaf is at the end of the pairs of the run, and those that are left are the others, whatever is written
+  abbrev Tells : End → Ends → Ends → ℕ → Type 0
+  Tells end ends after slot = HasLeafAt m slot × ((p : K × V) → HasPairAt m slot p → (w : V) → IsAtEnd end p (run_pairs (with_value_at m slot w) after) (run_pairs m ends))
+
+  parted-tells : (end : End) (ends : Ends) (run : IsRunIn m ends) (p : RunParted m end ends run.leaves) → Tells end ends (left_at end m ends) p.leaf.slot
+  parted-tells end ends run p =
+      let there = cell_held (held_at m.nodes (leaf_name p.leaf.slot)) _ p.stored.0 in (
+        there,
+        λ q has w.
+            let n = with_value_at m p.leaf.slot w in
+            let left = run-pairs n.nodes (left_at end m ends) (length p.rest) (left-counted m n end ends run.leaves p (keeps-others m p.leaf.slot there w)) in
+            rw (run-pairs m.nodes ends (leaves_left m.nodes ends) run, left, same-pair-at m p.leaf.slot q (leaf_pair p.leaf) has p.stored.0) (pairs-end end p.leaf p.rest run.leaves p.parts),
+      )
+
+  pub told : (end : End) (ends : Ends) → IsRunIn m ends → (result : Option ℕ) (new : Ends) → (result ≡ slot_at end ends) × (new ≡ left_at end m ends) → IfSome result (Tells end ends new)
+  told end ends run None new is = tt
+  told First None run (Some slot) new is = let e = is.0 in absurd (cc)
+  told Last None run (Some slot) new is = let e = is.0 in absurd (cc)
+  told end (Some (a, b)) run (Some slot) new is =
+      let p = parted m end a b run in
+      let same : p.leaf.slot ≡ slot = let e = sym p.slot_is ∙ sym is.0 in cc in
+      subst (Tells end (Some (a, b)) new) same (subst (λ e. Tells end (Some (a, b)) e p.leaf.slot) (sym is.1) (parted-tells end (Some (a, b)) run p))

@@ -1,68 +1,50 @@
 -- The walks that lend values: a step is what the contracts say of it.
-use Rattle.std.proofs.Common.{◌≡◌, ℕ, List, [], ◌∷◌, ◌++◌, Option, Some, sym, subst}
+use Rattle.std.proofs.Common.{◌≡◌, ℕ, List, Option, Some, sym, subst}
 use mathlib.Core.Logic.{∥∥₁_prop}
 use Rattle.art_bytes.specs.declared.as_bytes.AsBytes as as_bytes
-use Rattle.art_operations.specs.Pairs.{with_pair_put}
-use Rattle.art_walks.specs.Runs.{Ends}
-use Rattle.art_walks.specs.Walked.{start_of}
-use Rattle.art_map.specs.Contents.{Contents}
-use Rattle.art_map.specs.Lends.{with_value_at}
-use Rattle.art_map.specs.LentRuns.{end_of, left_behind, left_before, run_pairs, IsRunIn, with_lent_value}
-use Rattle.art_map.specs.LentWalks.{range_before, range_behind, IsRangeFirst, IsRangeLast}
+use Rattle.art_arena.specs.declared.ends.End.{End}
+use Rattle.art_arena.specs.declared.ends.End.TheVariants.{First, Last}
+use Rattle.art_operations.proofs.Common.{IsAtEnd, with_pair_put}
+use Rattle.art_walks.proofs.Common.{Ends}
+use Rattle.art_map.proofs.Terms.{Contents, with_value_at, left_at, run_pairs, slot_at, IsRunIn, with_lent_value, still_left, still_unwritten}
+use Rattle.art_map.specs.LentWalks.{range_before, range_behind, range_left, IsRangeEnd}
 use Rattle.art_map.specs.declared.map.walks_mut.RangeMut.{RangeMut}
-use Rattle.art_map.specs.lemmas.LentSteps.{left-run, left-run-back, still_behind, still_before}
 
 -- what is so of the end of a run, and of what is left of it, is so of the leaf that stands there, and the other way round
-module _ (slot : ℕ) (new : Ends) {o : Option ℕ} {e : Ends} (At : Option ℕ → Ends → Type 0) where
-  pub at-end : Some slot ≡ o → new ≡ e → At o e → At (Some slot) new
-  at-end here left is = subst (λ x. At x new) (sym here) (subst (At o) (sym left) is)
+module _ (slot : ℕ) (new : Ends) {o : Option ℕ} {e : Ends} (At : Option ℕ → Ends → Type 0) (here : Some slot ≡ o) (left : new ≡ e) where
+  pub to-leaf : At o e → At (Some slot) new
+  to-leaf is = subst (λ x. At x new) (sym here) (subst (At o) (sym left) is)
 
-  pub of-end : Some slot ≡ o → new ≡ e → At (Some slot) new → At o e
-  of-end here left is = subst (λ x. At x e) here (subst (At (Some slot)) left is)
+  pub of-leaf : At (Some slot) new → At o e
+  of-leaf is = subst (λ x. At x e) here (subst (At (Some slot)) left is)
 
--- with the value of the leaf at an end written, what is left is a run
-module _ {K V : Type 0} (m : Contents K V) (ends new : Ends) (run : ∥ IsRunIn m ends ∥₁) where
-  pub run-first : new ≡ left_behind m ends → ∥ IsRunIn m new ∥₁
-  run-first behind = subst (λ e. ∥ IsRunIn m e ∥₁) (sym behind) (left-run m ends run)
+-- what is left is a run, whether the value of the leaf at the end is written or not
+module _ {K V : Type 0} (m : Contents K V) (end : End) (ends new : Ends) (run : ∥ IsRunIn m ends ∥₁) (left : new ≡ left_at end m ends) where
+  pub run-left : ∥ IsRunIn m new ∥₁
+  run-left = subst (λ e. ∥ IsRunIn m e ∥₁) (sym left) (still_unwritten m end ends run)
 
-  pub run-last : new ≡ left_before m ends → ∥ IsRunIn m new ∥₁
-  run-last before = subst (λ e. ∥ IsRunIn m e ∥₁) (sym before) (left-run-back m ends run)
-
-  module _ (slot : ℕ) where
-    pub lent-first : Some slot ≡ start_of ends → new ≡ left_behind m ends → (w : V) → ∥ IsRunIn (with_value_at m slot w) new ∥₁
-    lent-first first behind w = at-end slot new (λ o e. ∥ IsRunIn (with_lent_value m o w) e ∥₁) first behind (still_behind m ends run w)
-
-    pub lent-last : Some slot ≡ end_of ends → new ≡ left_before m ends → (w : V) → ∥ IsRunIn (with_value_at m slot w) new ∥₁
-    lent-last last before w = at-end slot new (λ o e. ∥ IsRunIn (with_lent_value m o w) e ∥₁) last before (still_before m ends run w)
+  pub run-lent : (slot : ℕ) → Some slot ≡ slot_at end ends → (w : V) → ∥ IsRunIn (with_value_at m slot w) new ∥₁
+  run-lent slot here w = to-leaf slot new (λ o e. ∥ IsRunIn (with_lent_value m o w) e ∥₁) here left (still_left m end ends run w)
 
 -- a walk whose map and run these are lends the pair
-abbrev pub LendsAt : {K V : Type 0} → (K → List ℕ) → Contents K V → Ends → (K × V → List (K × V) → List (K × V)) → K × V → Option ℕ → Ends → Type 0
-LendsAt {K} {V} bytes m ends order p o e =
-    ((w : V) → run_pairs m ends ≡ order p (run_pairs (with_lent_value m o w) e)) × ((w : V) → (with_lent_value m o w).pairs ≡ with_pair_put bytes p.0 w m.pairs)
+abbrev pub LendsAt : {K V : Type 0} → (K → List ℕ) → Contents K V → End → Ends → K × V → Option ℕ → Ends → Type 0
+LendsAt {K} {V} bytes m end ends p o e =
+    ((w : V) → IsAtEnd end p (run_pairs (with_lent_value m o w) e) (run_pairs m ends)) × ((w : V) → (with_lent_value m o w).pairs ≡ with_pair_put bytes p.0 w m.pairs)
 
-module _ {K V : Type 0} {P : ℕ} {g : as_bytes.Ghosts K} (walk : RangeMut K V P g) where
+module _ {K V : Type 0} {P : ℕ} {g : as_bytes.Ghosts K} (walk : RangeMut K V P g) (slot : ℕ) (new : Ends) where
   -- what a walk remembers does not tell it from another
   abbrev Lands : V → RangeMut K V P g → Option ℕ → Ends → Type 0
   Lands w d o e = (valid : ∥ IsRunIn (with_lent_value walk.map.now o w) e ∥₁) → ◌≡◌ {A = RangeMut K V P g} (record { map = record walk.map { now = with_lent_value walk.map.now o w }; leaves = e; ahead = walk.ahead; valid = valid }) d
 
-  pub same-behind : (slot : ℕ) (new : Ends) → Some slot ≡ start_of walk.leaves → new ≡ left_behind walk.map.now walk.leaves → (w : V) → (valid : ∥ IsRunIn (with_value_at walk.map.now slot w) new ∥₁)
-      → ◌≡◌ {A = RangeMut K V P g} (record { map = record walk.map { now = with_value_at walk.map.now slot w }; leaves = new; ahead = walk.ahead; valid = valid }) (range_behind walk w)
-  same-behind slot new first behind w =
+  pub same-left : (end : End) → Some slot ≡ slot_at end walk.leaves → new ≡ left_at end walk.map.now walk.leaves → (w : V) → Lands w (range_left end walk w) (Some slot) new
+  same-left First here left w =
       let d = range_behind walk w in
-      at-end slot new (Lands w d) first behind (λ valid i. record { map = d.map; leaves = d.leaves; ahead = d.ahead; valid = ∥∥₁_prop valid d.valid i })
-
-  pub same-before : (slot : ℕ) (new : Ends) → Some slot ≡ end_of walk.leaves → new ≡ left_before walk.map.now walk.leaves → (w : V) → (valid : ∥ IsRunIn (with_value_at walk.map.now slot w) new ∥₁)
-      → ◌≡◌ {A = RangeMut K V P g} (record { map = record walk.map { now = with_value_at walk.map.now slot w }; leaves = new; ahead = walk.ahead; valid = valid }) (range_before walk w)
-  same-before slot new last before w =
+      to-leaf slot new (Lands w d) here left (λ valid i. record { map = d.map; leaves = d.leaves; ahead = d.ahead; valid = ∥∥₁_prop valid d.valid i })
+  same-left Last here left w =
       let d = range_before walk w in
-      at-end slot new (Lands w d) last before (λ valid i. record { map = d.map; leaves = d.leaves; ahead = d.ahead; valid = ∥∥₁_prop valid d.valid i })
+      to-leaf slot new (Lands w d) here left (λ valid i. record { map = d.map; leaves = d.leaves; ahead = d.ahead; valid = ∥∥₁_prop valid d.valid i })
 
   -- the pair that is lent
-  module _ (slot : ℕ) (new : Ends) (p : K × V) (pairs : (w : V) → (with_value_at walk.map.now slot w).pairs ≡ with_pair_put g.bytes p.0 w walk.map.now.pairs) where
-    pub is-first : Some slot ≡ start_of walk.leaves → new ≡ left_behind walk.map.now walk.leaves → ((w : V) → run_pairs walk.map.now walk.leaves ≡ p ∷ run_pairs (with_value_at walk.map.now slot w) new) → IsRangeFirst walk p
-    is-first first behind rest =
-        let is = of-end slot new (LendsAt g.bytes walk.map.now walk.leaves (λ p ps. p ∷ ps) p) first behind (rest, pairs) in record { rest_is = is.0; pairs = is.1 }
-
-    pub is-last : Some slot ≡ end_of walk.leaves → new ≡ left_before walk.map.now walk.leaves → ((w : V) → run_pairs walk.map.now walk.leaves ≡ run_pairs (with_value_at walk.map.now slot w) new ++ p ∷ []) → IsRangeLast walk p
-    is-last last before rest =
-        let is = of-end slot new (LendsAt g.bytes walk.map.now walk.leaves (λ p ps. ps ++ p ∷ []) p) last before (rest, pairs) in record { rest_is = is.0; pairs = is.1 }
+  pub is-lent : (end : End) → Some slot ≡ slot_at end walk.leaves → new ≡ left_at end walk.map.now walk.leaves → (p : K × V) → LendsAt g.bytes walk.map.now end walk.leaves p (Some slot) new → IsRangeEnd end walk p
+  is-lent First here left p lent = let is = of-leaf slot new (LendsAt g.bytes walk.map.now First walk.leaves p) here left lent in record { rest_is = is.0; pairs = is.1 }
+  is-lent Last here left p lent = let is = of-leaf slot new (LendsAt g.bytes walk.map.now Last walk.leaves p) here left lent in record { rest_is = is.0; pairs = is.1 }

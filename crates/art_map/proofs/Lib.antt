@@ -1,5 +1,6 @@
 pub mod Below
 pub mod Entries
+pub mod AtEnds
 pub mod LentRuns
 pub mod LentWalks
 pub mod LentIters
@@ -28,3 +29,5 @@ pub mod FoundBehind
 pub mod EndedKeys
 pub mod Merged
 pub mod CutLeaves
+pub mod Terms
+pub mod Common

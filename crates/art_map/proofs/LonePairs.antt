@@ -3,18 +3,12 @@ use Rattle.std.proofs.Common.{◌≡◌, ℕ, Some, sym, ap, ap₂, subst, ◌�
 use Rattle.std.specs.Prelude.{MatchOption, option_map}
 use Rattle.std.specs.Borrow.{MutBor}
 use Rattle.art_bytes.specs.declared.as_bytes.AsBytes as as_bytes
-use Rattle.art_arena.specs.arena.Arena.{cell_of, held_at}
-use Rattle.art_arena.specs.arena.Cells.{leaf_name}
-use Rattle.art_arena.proofs.shapes.LeafValues.{leaf-there}
-use Rattle.art_operations.specs.Pairs.{with_pair_put}
-use Rattle.art_operations.proofs.NamedLeaves.{held-some}
-use Rattle.art_map.specs.Contents.{Contents}
-use Rattle.art_map.specs.Found.{HasPairAt, leaf_pair}
-use Rattle.art_map.specs.LeafNames.{KeepsAllLeaves}
+use Rattle.art_arena.proofs.Common.{cell_of, held_at, leaf_name, leaf-there}
+use Rattle.art_operations.proofs.Common.{with_pair_put, held-some}
+use Rattle.art_map.proofs.Terms.{Contents, HasPairAt, leaf_pair, KeepsAllLeaves, with_value_at}
 use Rattle.art_map.specs.LoneLeaves.{pair_where}
 use Rattle.art_map.specs.LonePairs.{IsLoneWritten, shown_pair}
 use Rattle.art_map.specs.declared.map.prefix_entry.lone.LonePairMut.{LonePairMut}
-use Rattle.art_map.specs.Lends.{with_value_at}
 use Rattle.art_map.proofs.LeafNames.{written-all}
 
 module _ {K V : Type 0} (m : Contents K V) where

@@ -3,17 +3,9 @@ use Rattle.std.proofs.Common.{◌≡◌, ℕ, ◌≤◌, Bool, true, false, cond
 use Rattle.std.specs.List.{AllByRecursion}
 use Rattle.std.specs.Map.{lookup, lookup_entry, set_value}
 use Rattle.std.proofs.lemmas.List.{map-append}
-use Rattle.art_arena.specs.arena.Descents.{leaf_where}
-use Rattle.art_arena.specs.arena.Linked.{first_slot, last_slot, times}
-use Rattle.art_arena.specs.arena.Shapes.{LeafAt, pairs_of}
-use Rattle.art_arena.specs.arena.Shapes.{key_of}
-use Rattle.art_arena.specs.tree.Changes.{IsIn}
-use Rattle.art_operations.specs.KeyedLists.{with_key}
-use Rattle.art_map.specs.Contents.{Contents, first_item, last_item, has_bytes, option_value}
-use Rattle.art_map.specs.Found.{HasPairAt, IsFound}
-use Rattle.art_arena.proofs.shapes.LinkedLists.{eqb-self, ends_with-first, times-here}
-use Rattle.art_arena.proofs.tree.Exists.{in_middle}
-use Rattle.art_operations.proofs.LeafPairs.{leaf_pair}
+use Rattle.art_arena.proofs.Common.{leaf_where, first_slot, last_slot, times, LeafAt, pairs_of, key_of, IsIn, eqb-self, ends_with-first, times-here, in_middle}
+use Rattle.art_operations.proofs.Common.{with_key, leaf_pair}
+use Rattle.art_map.proofs.Terms.{Contents, first_item, last_item, has_bytes, option_value, HasPairAt, IsFound}
 
 -- the test of a key, by its bytes
 abbrev pub key_test : {K : Type 0} → (K → List ℕ) → (List ℕ → Bool) → K → Bool
@@ -109,15 +101,15 @@ module _ {K V : Type 0} where
       }
 
   -- the value of an entry
+  pub lookup-as : (test : K → Bool) (ps : List (K × V)) → lookup test ps ≡ option_value (lookup_entry test ps)
+  lookup-as test [] = refl
+  lookup-as test (p ∷ ps) = elim (test p.0) as (λ b. cond b (Some p.1) (lookup test ps) ≡ option_value (cond b (Some p) (lookup_entry test ps))) [
+    | true ↦ refl
+    | false ↦ lookup-as test ps
+  ]
+
   pub lookup-value : (test : K → Bool) (pairs : List (K × V)) (r : Option (K × V)) → lookup_entry test pairs ≡ r → lookup test pairs ≡ option_value r
-  lookup-value test pairs r e = go pairs ∙ ap option_value e
-    where
-      go : (ps : List (K × V)) → lookup test ps ≡ option_value (lookup_entry test ps)
-      go [] = refl
-      go (p ∷ ps) = elim (test p.0) as (λ b. cond b (Some p.1) (lookup test ps) ≡ option_value (cond b (Some p) (lookup_entry test ps))) [
-        | true ↦ refl
-        | false ↦ go ps
-      ]
+  lookup-value test pairs r e = lookup-as test pairs ∙ ap option_value e
 
   -- a leaf that stands in a list once stands there at one place
   pub same-place : (front : List (LeafAt K V)) (l : LeafAt K V) (back others : List (LeafAt K V)) (m : LeafAt K V) (rest : List (LeafAt K V)) → front ++ l ∷ back ≡ others ++ m ∷ rest → l.slot ≡ m.slot
@@ -140,3 +132,6 @@ module _ {K V : Type 0} where
   found-value test m slot q found has =
       let same : found.0.1 ≡ q.1 = let e = sym found.1 ∙ has in cc in
       ap Some (sym same) ∙ sym (lookup-value test m.pairs (Some found.0) found.2)
+
+-- what is found is the value of what is found with its key
+pub ruleset values = (lookup-as)

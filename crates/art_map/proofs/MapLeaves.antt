@@ -1,25 +1,10 @@
 -- The leaves of a map, before and after one of them is taken out.
 use Rattle.std.proofs.Common.{◌≡◌, ℕ, ◌≤◌, List, [], ◌∷◌, ◌++◌, Option, Some, None, IsSome, refl, sym, ap, ap₂, subst, ◌∙◌}
-use Rattle.art_nodes.specs.Name.{Name}
-use Rattle.art_arena.specs.arena.Arena.{Arena, held_at, node_at, links_at, SameNodes}
-use Rattle.art_arena.specs.arena.Cells.{Cell, pair, leaf_name}
-use Rattle.art_arena.specs.arena.Linked.{times}
-use Rattle.art_arena.specs.arena.Shapes.{Shape, LeafAt, leaves, pairs_of, key_of}
-use Rattle.art_arena.specs.arena.Stores.{StoresBeside, StoresOnly}
-use Rattle.art_arena.specs.tree.Order.{AscendsByKey}
-use Rattle.art_arena.specs.tree.Shrinks.{Shrinks}
-use Rattle.art_arena.proofs.shapes.LeafValues.{cell-some, leaf-there}
-use Rattle.art_arena.proofs.shapes.Surroundings.{tree-list}
-use Rattle.art_arena.proofs.shapes.Updates.{nodes-same}
-use Rattle.art_operations.specs.Deletions.{HasLeaves, IsAmong, IsDeletedBeside}
-use Rattle.art_operations.specs.Pairs.{HasPairs, HasTaken}
+use Rattle.art_nodes.proofs.Common.{Name}
+use Rattle.art_arena.proofs.Common.{Arena, held_at, node_at, links_at, SameNodes, Cell, pair, leaf_name, times, Shape, LeafAt, leaves, pairs_of, key_of, StoresBeside, StoresOnly, AscendsByKey, Shrinks, cell-some, leaf-there, tree-list, nodes-same}
+use Rattle.art_operations.proofs.Common.{HasLeaves, IsAmong, IsDeletedBeside, HasPairs, HasTaken, leaves-pairs, tree-same, leaf_pair, shrinks-map, taken_pair, pair-held, written}
 use Rattle.art_operations.specs.declared.delete.result.DeleteResult.{DeleteResult}
-use Rattle.art_operations.proofs.HeldPairs.{leaves-pairs, tree-same}
-use Rattle.art_operations.proofs.LeafPairs.{leaf_pair, shrinks-map, taken_pair}
-use Rattle.art_operations.proofs.NamedLeaves.{pair-held}
-use Rattle.art_operations.proofs.WrittenValues.{written}
-use Rattle.art_map.specs.Contents.{contents, pairs_from, IsMap}
-use Rattle.art_map.specs.Leaves.{AreLeaves}
+use Rattle.art_map.proofs.Terms.{contents, pairs_from, IsMap, AreLeaves}
 use Rattle.art_map.proofs.Below.{has-seen}
 use Rattle.art_map.proofs.LookedUp.{same-place}
 use Rattle.art_map.proofs.Maps.{ascending-map}

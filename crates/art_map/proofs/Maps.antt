@@ -3,45 +3,20 @@ use Rattle.std.proofs.Common.{◌≡◌, ℕ, Bool, true, false, cond, not, byte
 use Rattle.std.specs.List.{AllByRecursion}
 use Rattle.std.specs.Map.{lookup, lookup_entry, set_value}
 use Rattle.std.proofs.lemmas.List.{append-nil, length-map}
-use Rattle.art_bytes.specs.Keys.{BeginsWith}
-use Rattle.art_nodes.specs.Name.{Name}
+use Rattle.art_bytes.proofs.Common.{BeginsWith}
+use Rattle.art_nodes.proofs.Common.{Name}
 use Rattle.art_nodes.specs.declared.leaf.LeafNode.{LeafNode}
-use Rattle.art_arena.specs.arena.Arena.{Arena, held_at, node_at, links_at, SameNodes}
-use Rattle.art_arena.specs.arena.Cells.{pair, leaf_name}
-use Rattle.art_arena.specs.arena.Descents.{leaf_where}
-use Rattle.art_arena.specs.arena.Lends.{with_leaf_value}
-use Rattle.art_arena.specs.arena.Linked.{first_slot, last_slot, times, IsList}
-use Rattle.art_arena.specs.arena.Shapes.{Shape, LeafAt, leaves, pairs_of, key_of}
+use Rattle.art_arena.proofs.Common.{Arena, held_at, node_at, links_at, SameNodes, pair, leaf_name, leaf_where, with_leaf_value, first_slot, last_slot, times, IsList, Shape, LeafAt, leaves, pairs_of, key_of, Stores, StoresBelow, StoresOnly, IsIn, is_before, put_in_order, AscendsByKey, cell-some, nodes-subtree, in_middle, all_at, all_append, all_left, all_right, tree-list}
 use Rattle.art_arena.specs.declared.ends.End.{End}
 use Rattle.art_arena.specs.declared.ends.End.TheVariants.{First, Last}
-use Rattle.art_arena.specs.arena.Stores.{Stores, StoresBelow, StoresOnly}
-use Rattle.art_arena.specs.tree.Changes.{IsIn, is_before, put_in_order}
-use Rattle.art_arena.specs.tree.Order.{AscendsByKey}
-use Rattle.art_arena.proofs.shapes.LeafValues.{cell-some}
-use Rattle.art_arena.proofs.shapes.Meanings.{nodes-subtree}
-use Rattle.art_arena.proofs.tree.Exists.{in_middle}
-use Rattle.art_arena.proofs.tree.Insert.{all_at}
-use Rattle.art_arena.proofs.tree.Order.{all_append, all_left, all_right}
-use Rattle.art_operations.specs.KeyedLists.{HasKey, IsBlocked, without_key, overlapping, overlaps}
-use Rattle.art_operations.specs.Overwrites.{removed_by}
-use Rattle.art_operations.specs.Pairs.{HasPairs, HasPut, HasPutOver, HasTaken, HasTakenEnd, IsAtEnd, IsPlaced, with_pair_put, with_pair_over, pair_in}
+use Rattle.art_operations.proofs.Common.{HasKey, IsBlocked, without_key, overlapping, overlaps, removed_by, HasPairs, HasPut, HasPutOver, HasTaken, HasTakenEnd, IsAtEnd, IsPlaced, with_pair_put, with_pair_over, pair_in, held-some, pairs-same, nothing_taken, stored-free, leaf_pair, pairs_ascend, held_leaf, pairs-parts, written}
 use Rattle.art_operations.specs.declared.insert.point.InsertPoint.{InsertPoint}
 use Rattle.art_operations.specs.declared.delete.result.DeleteResult.{DeleteResult}
 use Rattle.art_operations.specs.declared.insert.result.InsertResult.{InsertResult}
 use Rattle.art_operations.specs.declared.prefix_insert.result.PrefixInsertResult.{PrefixInsertResult}
-use Rattle.art_walks.proofs.Spans.{all-filter}
-use Rattle.art_operations.proofs.NamedLeaves.{held-some}
-use Rattle.art_operations.proofs.HeldPairs.{pairs-same}
-use Rattle.art_operations.proofs.KeyedLists.{nothing_taken, stored-free}
-use Rattle.art_operations.proofs.LeafPairs.{leaf_pair, pairs_ascend, held_leaf, pairs-parts}
+use Rattle.art_walks.proofs.Common.{all-filter, Ends, IsCounted}
 use Rattle.art_operations.proofs.PutOver.{how_many}
-use Rattle.art_operations.proofs.WrittenValues.{written}
-use Rattle.art_map.specs.Contents.{contents, pairs_from, IsMap, has_bytes, first_item, last_item, option_value, entry_in}
-use Rattle.art_map.specs.Found.{IsAt, IsFound}
-use Rattle.art_walks.specs.Runs.{Ends}
-use Rattle.art_walks.specs.Walked.{IsCounted}
-use Rattle.art_map.specs.Walked.{IsWalkOf}
-use Rattle.art_arena.proofs.shapes.Surroundings.{tree-list}
+use Rattle.art_map.proofs.Terms.{contents, pairs_from, IsMap, has_bytes, first_item, last_item, option_value, entry_in, IsAt, IsFound, IsWalkOf}
 use Rattle.art_map.proofs.Below.{tree-pairs, has-seen, has-there}
 use Rattle.art_map.proofs.LookedUp.{key_test, EndAt, first-end, last-end, first-at, none-at, entry-at, set-at, same-place, entry-first, lookup-value}
 

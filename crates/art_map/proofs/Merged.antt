@@ -1,19 +1,11 @@
 -- Ascending pairs that are put into the leaves of a tree, one after another.
 use Rattle.std.proofs.Common.{◌≡◌, ℕ, suc, ◌+◌, ◌≤◌, Bool, true, false, cond, filter, not, bytes_eq, List, [], ◌∷◌, length, Option, refl, sym, ap, subst, ◌∙◌, arith}
 use Rattle.std.specs.List.{AllByRecursion}
-use Rattle.art_bytes.specs.Keys.{IsBefore}
-use Rattle.art_arena.specs.arena.Arena.{Arena, cell_of}
-use Rattle.art_arena.specs.arena.Cells.{leaf_name, pair}
-use Rattle.art_arena.specs.arena.Rooms.{SameLeaves}
-use Rattle.art_arena.specs.arena.Shapes.{key_of}
-use Rattle.art_arena.specs.tree.Changes.{is_before, put_in_order}
-use Rattle.art_arena.specs.tree.Order.{AscendsByKey}
-use Rattle.art_operations.specs.KeyedLists.{without_key}
-use Rattle.art_operations.specs.LeafCursors.{HasPutIn, KeepsCells, StandsAhead, StandsInList}
-use Rattle.art_operations.specs.LeafNames.{HasLeavesOf}
-use Rattle.art_operations.specs.Pairs.{with_pair_put}
+use Rattle.art_bytes.proofs.Common.{IsBefore}
+use Rattle.art_arena.proofs.Common.{Arena, cell_of, leaf_name, pair, SameLeaves, key_of, is_before, put_in_order, AscendsByKey}
+use Rattle.art_operations.proofs.Common.{without_key, HasPutIn, KeepsCells, StandsAhead, StandsInList, HasLeavesOf, with_pair_put}
 use Rattle.art_operations.specs.declared.leaf_list.LeafCursor.{LeafCursor}
-use Rattle.art_map.specs.Asked.{with_pairs_put}
+use Rattle.art_map.proofs.Terms.{with_pairs_put}
 use Rattle.art_map.proofs.Maps.{AreKeys, keys-put, keys-without}
 
 -- what is kept of a list is no longer than the list, and an item that is put in makes it longer by one

@@ -4,26 +4,10 @@ use Rattle.std.specs.List.{AllByRecursion}
 use Rattle.std.specs.Map.{lookup_entry}
 use Rattle.std.proofs.lemmas.Bool.{cases_order, or_right}
 use Rattle.std.proofs.lemmas.List.Elements.{filter-append}
-use Rattle.art_bytes.specs.Keys.{BeginsWith, IsBefore}
-use Rattle.art_bytes.proofs.Order.{before_trans}
-use Rattle.art_arena.specs.arena.Descents.{leaf_where, passing}
-use Rattle.art_arena.specs.arena.Linked.{first_slot, last_slot, times}
-use Rattle.art_arena.specs.arena.Shapes.{LeafAt, pairs_of}
-use Rattle.art_arena.specs.tree.Order.{AscendsByKey}
-use Rattle.art_arena.specs.tree.Tenants.{begins_with}
-use Rattle.art_arena.proofs.shapes.LinkedLists.{eqb-self, ends_with, times-append, times-here}
-use Rattle.art_arena.proofs.tree.Order.{all_weaker}
-use Rattle.art_arena.proofs.tree.Parts.{begins_same}
-use Rattle.art_arena.proofs.tree.Tenants.{begins_true}
-use Rattle.art_operations.specs.Bounds.{AreEndsWhere}
-use Rattle.art_operations.specs.KeyedLists.{overlaps}
-use Rattle.art_operations.proofs.KeyedLists.{before, behind}
-use Rattle.art_operations.proofs.Overlaps.{before_no_overlap, behind_no_overlap}
-use Rattle.art_operations.proofs.Stretches.{IsConvex}
-use Rattle.art_map.specs.Contents.{Contents, first_item}
-use Rattle.art_map.specs.Found.{IsFound}
-use Rattle.art_map.specs.Overlapped.{IsLoneAt, lone_item}
-use Rattle.art_map.specs.Walked.{IsWalkOf}
+use Rattle.art_bytes.proofs.Common.{BeginsWith, IsBefore, before_trans}
+use Rattle.art_arena.proofs.Common.{leaf_where, passing, first_slot, last_slot, times, LeafAt, pairs_of, AscendsByKey, begins_with, eqb-self, ends_with, times-append, times-here, all_weaker, begins_same, begins_true}
+use Rattle.art_operations.proofs.Common.{AreEndsWhere, overlaps, before, behind, before_no_overlap, behind_no_overlap, IsConvex}
+use Rattle.art_map.proofs.Terms.{Contents, first_item, IsFound, IsLoneAt, lone_item, IsWalkOf}
 use Rattle.art_map.proofs.LookedUp.{first-at}
 
 -- two keys overlap, or one comes before the other

@@ -1,19 +1,10 @@
 -- A pair that took the place of those whose keys overlap its key, once its value is written.
 use Rattle.std.proofs.Common.{◌≡◌, ℕ, Bool, true, false, cond, not, List, [], ◌∷◌, Some, refl, sym, ap, subst, ◌∙◌, inl, inr}
-use Rattle.art_arena.specs.arena.Shapes.{key_of}
-use Rattle.art_arena.specs.tree.Changes.{is_before, put_in_order}
-use Rattle.art_arena.proofs.shapes.Finding.{other_key}
-use Rattle.art_operations.specs.KeyedLists.{HasKey, overlaps, without_key, without_overlapping}
-use Rattle.art_operations.specs.Pairs.{with_pair_over, with_pair_put}
-use Rattle.art_operations.proofs.Overlaps.{overlaps_same}
-use Rattle.art_map.specs.LeafNames.{KeepsLeaves}
-use Rattle.art_map.specs.Contents.{Contents}
+use Rattle.art_arena.proofs.Common.{key_of, is_before, put_in_order, other_key}
+use Rattle.art_operations.proofs.Common.{HasKey, overlaps, without_key, without_overlapping, with_pair_over, with_pair_put, overlaps_same}
+use Rattle.art_map.proofs.Terms.{KeepsLeaves, Contents, entry_key, entry_value, HasPairAt, with_value_at, IsInnerWritten, OccupiedEntry}
 use Rattle.art_bytes.specs.declared.as_bytes.AsBytes as as_bytes
-use Rattle.art_map.specs.Entries.{Occupied, entry_key, entry_value}
-use Rattle.art_map.specs.Found.{HasPairAt}
-use Rattle.art_map.specs.Lends.{with_value_at}
-use Rattle.art_map.specs.PrefixEntries.{IsInnerWritten}
-use Rattle.art_map.specs.declared.map.entry.OccupiedEntry.{OccupiedEntry}
+use Rattle.art_map.specs.Entries.{Occupied}
 use Rattle.art_map.specs.declared.map.prefix_entry.InnerOccupiedEntry.{InnerOccupiedEntry}
 use Rattle.art_map.proofs.LeafNames.{written-all}
 use Rattle.art_map.proofs.Written.{one-pair, without-put}

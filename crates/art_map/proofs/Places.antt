@@ -3,14 +3,13 @@ use Rattle.std.specs.Prelude.{MatchOption}
 use Rattle.std.proofs.Common.{◌≡◌, ℕ, List, bytes_eq, Option, Some, None, refl}
 use mathlib.Core.HLevel.{⊥_prop}
 use mathlib.Core.Logic.{∥∥₁_elim}
-use Rattle.art_nodes.specs.Name.{Name}
-use Rattle.art_arena.specs.arena.Arena.{Arena}
-use Rattle.art_operations.specs.Pairs.{IsPlaceFor}
-use Rattle.art_operations.specs.declared.insert.point.InsertKind.TheVariants as kind
+use Rattle.art_nodes.proofs.Common.{Name}
+use Rattle.art_arena.proofs.Common.{Arena}
+use Rattle.art_operations.proofs.Common.{IsPlaceFor}
 use Rattle.art_operations.specs.declared.insert.point.InsertPoint.{InsertPoint}
+use Rattle.art_operations.specs.declared.insert.point.InsertKind.TheVariants as kind
 use Rattle.art_operations.proofs.KnownPlaces.{met-found}
-use Rattle.art_map.specs.Contents.{contents, has_bytes, IsMap}
-use Rattle.art_map.specs.Found.{IsFound}
+use Rattle.art_map.proofs.Terms.{contents, has_bytes, IsMap, IsFound}
 use Rattle.art_map.proofs.Maps.{looked-up}
 
 module _ {K V : Type 0} (bytes : K → List ℕ) (is_key : K → Type 0) (P : ℕ) (arena : Arena K V) (key : List ℕ) where

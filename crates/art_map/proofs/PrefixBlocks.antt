@@ -2,35 +2,19 @@
 use Rattle.std.proofs.Common.{◌≡◌, ℕ, ◌+◌, ◌-◌, ◌^◌, ◌<◌, min, not, List, [], ◌∷◌, length, map, Option, Some, None, Result, Ok, Err, IfOk, OnOk, refl, sym, ap, subst, ◌∙◌, arith}
 use mathlib.Core.HLevel.{⊥_prop}
 use mathlib.Core.Logic.{∥∥₁_elim}
-use Rattle.art_nodes.specs.Name.{Name}
-use Rattle.art_arena.specs.arena.Arena.{Arena, node_at, SameNodes}
-use Rattle.art_arena.specs.arena.Linked.{first_slot}
-use Rattle.art_arena.specs.arena.Meaning.{IsSubtree}
-use Rattle.art_arena.specs.arena.Shapes.{Shape, LeafAt, leaves, pairs_of, key_of}
-use Rattle.art_arena.specs.arena.Steps.{steps_of}
-use Rattle.art_arena.specs.arena.Stores.{StoresBeside}
-use Rattle.art_arena.specs.tree.Tenants.{begins_with, with_front, without_front}
-use Rattle.art_arena.proofs.shapes.Meanings.{nodes-subtree}
-use Rattle.art_arena.proofs.shapes.Subtrees.{some_leaf}
-use Rattle.art_arena.proofs.shapes.Updates.{nodes-same}
-use Rattle.art_operations.specs.NodeCounts.{node_count}
-use Rattle.art_operations.specs.Openings.{ForLongest, OpeningReads}
-use Rattle.art_operations.specs.Pairs.{HasCut, HasPairs, HasPairsWhere}
-use Rattle.art_operations.specs.Subtrees.{HasRoomAbove, IsCutBeside, IsSubtreeAnswer, IsSubtreePoint, leaves_with, ShrinksWithout}
-use Rattle.art_operations.specs.Whichever.{HasTreeWhere, OfTree, OfTreeWhere}
-use Rattle.art_operations.specs.declared.delete.subtree.PreparedSubtreeDelete.{PreparedSubtreeDelete}
+use Rattle.art_nodes.proofs.Common.{Name}
+use Rattle.art_arena.proofs.Common.{Arena, node_at, SameNodes, first_slot, IsSubtree, Shape, LeafAt, leaves, pairs_of, key_of, steps_of, StoresBeside, begins_with, with_front, without_front, nodes-subtree, some_leaf, nodes-same}
+use Rattle.art_operations.proofs.Common.{node_count, ForLongest, OpeningReads, HasCut, HasPairs, HasPairsWhere, HasRoomAbove, IsCutBeside, IsSubtreeAnswer, IsSubtreePoint, leaves_with, ShrinksWithout, HasTreeWhere, OfTree, OfTreeWhere, leaf_pair, without-shrinks}
 use Rattle.art_operations.specs.declared.delete.subtree.SubtreeDeletePoint.{SubtreeDeletePoint}
 use Rattle.art_operations.specs.declared.delete.subtree.SubtreeDeleteResult.{SubtreeDeleteResult}
+use Rattle.art_operations.specs.declared.delete.subtree.PreparedSubtreeDelete.{PreparedSubtreeDelete}
 use Rattle.art_operations.proofs.CutPairs.{cut-pairs, with-map}
 use Rattle.art_operations.proofs.DecidedParts.{known-subtree}
-use Rattle.art_operations.proofs.LeafPairs.{leaf_pair, without-shrinks}
-use Rattle.art_walks.specs.MapReads.{PairsWithin}
+use Rattle.art_walks.proofs.Common.{PairsWithin, all-filter}
 use Rattle.art_walks.proofs.MapReads.{keys-within}
-use Rattle.art_map.specs.Contents.{Contents, contents, pairs_from, IsMap}
-use Rattle.art_map.specs.PrefixBlocks.{cut_visits, IsFoundPart, IsPrefixPart, IsReadyPart, ShrinksAtCut}
+use Rattle.art_map.proofs.Terms.{Contents, contents, pairs_from, IsMap, cut_visits, IsFoundPart, IsPrefixPart, IsReadyPart, ShrinksAtCut}
 use Rattle.art_map.proofs.Below.{has-seen}
 use Rattle.art_map.proofs.Maps.{make}
-use Rattle.art_walks.proofs.Spans.{all-filter}
 
 -- nothing is mapped to nothing
 from-nothing : {X Y : Type 0} (f : X → Y) (xs : List X) → map f xs ≡ [] → xs ≡ []

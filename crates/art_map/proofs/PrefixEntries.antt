@@ -2,16 +2,11 @@
 use Rattle.std.proofs.Common.{◌≡◌, ℕ, Bool, true, Option, Some, None, filter, Result, Ok, Err, IfErr, IsOk, refl, sym, ap, subst, ◌∙◌}
 use mathlib.Core.Bool.{Bool-set}
 use Rattle.art_bytes.specs.declared.as_bytes.AsBytes as as_bytes
-use Rattle.art_operations.specs.Pairs.{with_pair_put}
+use Rattle.art_operations.proofs.Common.{with_pair_put}
 use Rattle.art_map.specs.Entries as entry
 use Rattle.std.specs.Map.{set_value}
-use Rattle.art_map.specs.Contents.{Contents, has_bytes}
-use Rattle.art_map.specs.Found.{HasPairAt, HasPairUnder, IsAt, IsFound, is_held, still_held, stored_slot}
-use Rattle.art_map.specs.Overlapped.{IsLoneAt, lone_item, overlaps_query}
-use Rattle.art_map.specs.LeafNames.{KeepsAllLeaves, KeepsLeaves}
-use Rattle.art_map.specs.Lends.{with_value_at}
-use Rattle.art_map.specs.PrefixEntries.{Inner, IsOccupiedFilled, IsOccupiedWritten, IsShownWritten, Leaf, Occupied, kind_at, occupied_kind, occupied_value, prefix_pairs_with, prefix_value}
-use Rattle.art_map.specs.declared.map.entry.OccupiedEntry.{OccupiedEntry}
+use Rattle.art_map.proofs.Terms.{Contents, has_bytes, HasPairAt, HasPairUnder, IsAt, IsFound, is_held, still_held, stored_slot, IsLoneAt, lone_item, overlaps_query, KeepsAllLeaves, KeepsLeaves, with_value_at, Inner, IsOccupiedFilled, IsOccupiedWritten, IsShownWritten, Leaf, kind_at, occupied_kind, occupied_value, prefix_pairs_with, prefix_value, OccupiedEntry}
+use Rattle.art_map.specs.PrefixEntries.{Occupied}
 use Rattle.art_map.specs.declared.map.prefix_entry.PrefixOccupied.{PrefixOccupied}
 use Rattle.art_map.specs.declared.map.prefix_entry.PrefixOccupiedKind.{PrefixOccupiedKind}
 use Rattle.art_map.specs.declared.map.prefix_entry.Spot.{Spot}

@@ -3,18 +3,11 @@ use Rattle.std.proofs.Common.{◌≡◌, ℕ, List, [], ◌∷◌, ◌++◌, map
 use Rattle.std.specs.Iterator.{Yields}
 use Rattle.std.specs.Result.{IsErrAnd}
 use Rattle.std.proofs.lemmas.List.{append-nil, map-append}
-use Rattle.art_bytes.specs.Keys.{IsBefore}
-use Rattle.art_arena.specs.arena.Shapes.{key_of}
-use Rattle.art_arena.specs.tree.Order.{AscendsByKey}
-use Rattle.art_arena.proofs.tree.Order.{all_left}
-use Rattle.art_operations.specs.KeyedLists.{IsBlocked}
-use Rattle.art_operations.specs.Pairs.{with_pair_put}
-use Rattle.art_operations.proofs.KeyedLists.{put_new}
+use Rattle.art_bytes.proofs.Common.{IsBefore}
+use Rattle.art_arena.proofs.Common.{key_of, AscendsByKey, all_left}
+use Rattle.art_operations.proofs.Common.{IsBlocked, with_pair_put, put_new}
 use Rattle.art_operations.specs.declared.insert.result.InsertRefused.{InsertRefused}
-use Rattle.art_map.specs.Asked.{with_pairs_put}
-use Rattle.art_map.specs.Builders.{GathersWith, HasGathered}
-use Rattle.art_map.specs.Bulk.{ExtendsWith, HandsNextBack, IsMadeOf}
-use Rattle.art_map.specs.Contents.{Contents}
+use Rattle.art_map.proofs.Terms.{with_pairs_put, GathersWith, HasGathered, ExtendsWith, HandsNextBack, IsMadeOf, Contents}
 use Rattle.art_map.specs.declared.map.builder.TreeMapBuilder.{TreeMapBuilder}
 
 module _ {K V : Type 0} (bytes : K → List ℕ) where

@@ -1,24 +1,12 @@
 -- The walk over the pairs of a map whose keys pass a test: their leaves are a run of neighbours.
 use Rattle.std.proofs.Common.{◌≡◌, ℕ, Bool, filter, List, [], ◌∷◌, Option, Some, None, refl, sym, ap, subst}
-use Rattle.art_nodes.specs.Name.{Name}
-use Rattle.art_arena.specs.arena.Arena.{Arena, node_at, links_at}
-use Rattle.art_arena.specs.arena.Descents.{passing}
-use Rattle.art_arena.specs.arena.Linked.{AreLinked}
-use Rattle.art_arena.specs.arena.Shapes.{Shape, leaves, pairs_of}
-use Rattle.art_arena.specs.arena.Stores.{Stores, StoresOnly}
-use Rattle.art_arena.proofs.shapes.Meanings.{nodes-subtree}
-use Rattle.art_operations.specs.Bounds.{AreEndsWhere}
-use Rattle.art_operations.specs.Pairs.{HasPairs}
-use Rattle.art_operations.proofs.RangeEnds.{tree_ascends}
-use Rattle.art_operations.proofs.Stretches.{IsConvex, stretch}
-use Rattle.art_map.specs.Contents.{contents, IsMap, pairs_from}
-use Rattle.art_map.specs.Leaves.{IsRun}
-use Rattle.art_map.specs.Ranges.{pairs_between}
+use Rattle.art_nodes.proofs.Common.{Name}
+use Rattle.art_arena.proofs.Common.{Arena, node_at, links_at, passing, AreLinked, Shape, leaves, pairs_of, Stores, StoresOnly, nodes-subtree}
+use Rattle.art_operations.proofs.Common.{AreEndsWhere, HasPairs, tree_ascends, IsConvex, stretch}
+use Rattle.art_map.proofs.Terms.{contents, IsMap, pairs_from, IsRun, pairs_between, IsWalkOf}
 use Rattle.std.specs.declared.ops.Bound.TheVariants.{Unbounded}
-use Rattle.art_map.specs.Walked.{IsWalkOf}
-use Rattle.art_walks.specs.Runs.{Ends}
+use Rattle.art_walks.proofs.Common.{Ends, ends-walk, span-in}
 use Rattle.art_walks.proofs.MapReads.{no-span}
-use Rattle.art_walks.proofs.Spans.{ends-walk, span-in}
 use Rattle.art_map.proofs.MapLeaves.{map-leaves}
 
 module _ {K V : Type 0} (bytes : K → List ℕ) (is_key : K → Type 0) (P : ℕ) (arena : Arena K V) where

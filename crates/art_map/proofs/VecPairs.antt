@@ -5,9 +5,7 @@ use Rattle.std.specs.Vec.Iter.{into_iter_items, into_iter_steps}
 use Rattle.std.specs.declared.vec.IntoIter.{IntoIter}
 use Rattle.std.proofs.IntoIterSteps.{All-taken}
 use Rattle.art_operations.specs.declared.insert.result.InsertRefused.{InsertRefused}
-use Rattle.art_map.specs.Asked.{with_pairs_put}
-use Rattle.art_map.specs.Bulk.{IsOfList}
-use Rattle.art_map.specs.Contents.{Contents}
+use Rattle.art_map.proofs.Terms.{with_pairs_put, IsOfList, Contents}
 
 -- what the iterator of a vector has given is a front of its items
 pub taken-front : {X Z : Type 0} (s : IntoIter X Z) (xs : List X) (t : IntoIter X Z) → Yields into_iter_steps s xs t → into_iter_items s ≡ xs ++ into_iter_items t

@@ -1,22 +1,10 @@
 -- The pairs of a map, once the value of a leaf is written.
-use Rattle.std.proofs.Common.{◌≡◌, ℕ, Bool, true, false, cond, not, bytes_eq, List, [], ◌∷◌, ◌++◌, Option, Some, None, IsSome, refl, sym, ap, subst, ◌∙◌}
-use Rattle.art_nodes.specs.Name.{Name}
+use Rattle.std.proofs.Common.{◌≡◌, ℕ, Bool, true, false, cond, not, bytes_eq, List, [], ◌∷◌, ◌++◌, Option, Some, None, IsSome, refl, sym, ap, ap₂, subst, ◌∙◌}
+use Rattle.art_nodes.proofs.Common.{Name}
 use Rattle.art_nodes.specs.declared.leaf.LeafNode.{LeafNode}
-use Rattle.art_arena.specs.arena.Arena.{Arena, leaf_held, cell_of, held_at, node_at}
-use Rattle.art_arena.specs.arena.Cells.{leaf_name, pair}
-use Rattle.art_arena.specs.arena.Lends.{with_leaf_value}
-use Rattle.art_arena.specs.arena.Shapes.{leaves, pairs_of, key_of}
-use Rattle.art_arena.specs.tree.Changes.{is_before, put_in_order}
-use Rattle.art_arena.specs.tree.Order.{AscendsByKey}
-use Rattle.art_arena.proofs.shapes.Finding.{same_key}
-use Rattle.art_arena.proofs.shapes.LeafValues.{cell-some, leaf-there}
-use Rattle.art_operations.specs.KeyedLists.{without_key}
-use Rattle.art_operations.specs.Pairs.{with_pair_put}
-use Rattle.art_operations.proofs.KeyedLists.{put_replaced}
-use Rattle.art_operations.proofs.LeafPairs.{pairs_ascend, pairs-parts}
-use Rattle.art_operations.proofs.WrittenValues.{written}
-use Rattle.art_map.specs.Contents.{Contents, IsMap, pairs_from}
-use Rattle.art_map.specs.Found.{HasPairAt}
+use Rattle.art_arena.proofs.Common.{Arena, leaf_held, cell_of, held_at, node_at, leaf_name, pair, with_leaf_value, leaves, pairs_of, key_of, is_before, put_in_order, AscendsByKey, same_key, cell-some, leaf-there}
+use Rattle.art_operations.proofs.Common.{without_key, with_pair_put, put_replaced, pairs_ascend, pairs-parts, written}
+use Rattle.art_map.proofs.Terms.{Contents, IsMap, pairs_from, HasPairAt}
 use Rattle.art_map.proofs.Below.{tree-pairs}
 
 module _ {X : Type 0} (key : X → List ℕ) where
@@ -74,3 +62,6 @@ module _ {K V : Type 0} where
   -- a leaf has one pair
   pub one-pair : (m : Contents K V) (slot : ℕ) (p q : K × V) → HasPairAt m slot p → HasPairAt m slot q → (q.0 ≡ p.0) × (q.1 ≡ p.1)
   one-pair m slot p q has lent = let e = sym lent ∙ has in ((cc), (cc))
+
+  pub same-pair-at : (m : Contents K V) (slot : ℕ) (p q : K × V) → HasPairAt m slot p → HasPairAt m slot q → p ≡ q
+  same-pair-at m slot p q has it = let e = one-pair m slot p q has it in ap₂ (λ a b. (a, b)) (sym e.0) (sym e.1)

@@ -1,24 +1,14 @@
 -- The leaves of a map and a run of them, once the value of a leaf is written.
 use Rattle.std.proofs.Common.{◌≡◌, ℕ, ◌≤◌, List, [], ◌∷◌, ◌++◌, Option, Some, None, refl, sym, ap, subst, ◌∙◌, append_assoc}
 use Rattle.std.proofs.Math.Logic.{∥∥₁_map}
-use Rattle.art_nodes.specs.Name.{Name}
-use Rattle.art_arena.specs.arena.Arena.{node_at, links_at}
-use Rattle.art_arena.specs.arena.Lends.{with_leaf_value}
-use Rattle.art_arena.specs.arena.Linked.{first_slot, last_slot, times}
-use Rattle.art_arena.specs.arena.Shapes.{LeafAt, leaves}
+use Rattle.art_nodes.proofs.Common.{Name}
+use Rattle.art_arena.proofs.Common.{node_at, links_at, with_leaf_value, first_slot, times, LeafAt, leaves, last_slot-append, tree-list}
 use Rattle.art_arena.specs.declared.ends.End.{End}
 use Rattle.art_arena.specs.declared.ends.End.TheVariants.{First, Last}
-use Rattle.art_arena.proofs.shapes.LinkedLists.{ends_with-first, last_slot-append}
-use Rattle.art_arena.proofs.shapes.Surroundings.{tree-list}
-use Rattle.art_operations.specs.Deletions.{HasLeaves, IsAmong}
-use Rattle.art_operations.specs.Pairs.{IsAtEnd}
-use Rattle.art_operations.proofs.NamedLeaves.{leaf-held}
-use Rattle.art_operations.proofs.Spines.{last-same}
-use Rattle.art_operations.proofs.WrittenValues.{written}
-use Rattle.art_walks.specs.Runs.{Ends, HasEnds}
-use Rattle.art_map.specs.Contents.{Contents}
-use Rattle.art_map.specs.Leaves.{AreLeaves, IsRun, slot_at, with_value_where}
-use Rattle.art_map.specs.Lends.{with_value_at}
+use Rattle.art_operations.proofs.Common.{HasLeaves, IsAmong, IsAtEnd, leaf-held, written}
+use Rattle.art_walks.proofs.Common.{Ends, HasEnds}
+use Rattle.art_map.proofs.Terms.{Contents, AreLeaves, IsRun, slot_at, with_end, with_lent_value, with_value_at, run-end, slot-end}
+use Rattle.art_map.proofs.AtEnds.{none-at-end, same-end}
 use Rattle.art_map.proofs.LookedUp.{same-place}
 use Rattle.art_map.proofs.MapLeaves.{map-leaves}
 
@@ -46,74 +36,60 @@ module _ {K V : Type 0} (bytes : K → List ℕ) (P : ℕ) (m : Contents K V) wh
               → f ++ record { slot = slot; key = k; value = w } ∷ b ≡ g ++ record { slot = slot; key = l; value = w } ∷ c
           rebuilt f g k l b c x y z = rw (x, y, z) refl
 
-  -- a run, the leaf at an end of which has another value
-  pub record WrittenRun (end : End) (ends : Ends) (run : List (LeafAt K V)) (w : V) : Type 0 where
-    pub now : IsRun bytes P (with_value_where m (slot_at end ends) w) ends
+  -- a leaf at an end of a run stands in front of the others, or behind them
+  pub with-leaf : (end : End) (front : List (LeafAt K V)) (l : LeafAt K V) (ys zs back : List (LeafAt K V)) → IsAtEnd end l ys zs → front ++ (zs ++ back) ≡ with_end bytes P m end front l ys back
+  with-leaf First front l ys zs back e = ap (λ xs. front ++ (xs ++ back)) e
+  with-leaf Last front l ys zs back e = ap (λ xs. front ++ (xs ++ back)) e ∙ ap (λ xs. front ++ xs) (append_assoc ys (l ∷ []) back)
+
+  -- a run, where the leaf at an end of it has another value
+  pub record WrittenRun (end : End) (ends : Ends) (run : List (LeafAt K V)) (w : V) (slot : Option ℕ) : Type 0 where
+    pub now : IsRun bytes P (with_lent_value m slot w) ends
     pub same : (l : LeafAt K V) (ys : List (LeafAt K V)) → IsAtEnd end l ys run → IsAtEnd end (record { slot = l.slot; key = l.key; value = w }) ys now.run
 
-  module _ (a b : ℕ) (w : V) (r : IsRun bytes P m (Some (a, b))) where
-    first-run : (run : List (LeafAt K V)) → r.run ≡ run → HasEnds run (Some (a, b)) → WrittenRun First (Some (a, b)) run w
-    first-run [] e h = let f = h.0 in absurd (cc)
-    first-run (l ∷ ys) e h =
-        let f = h.0 in
-        let slot : l.slot ≡ a = cc in
-        let there : IsAmong a (r.front ++ (r.run ++ r.back)) = record { front = r.front; leaf = l; back = ys ++ r.back; is = ap (λ xs. r.front ++ (xs ++ r.back)) e; slot_is = slot } in
-        record {
-          now = record {
-            front = r.front;
-            run = record { slot = a; key = l.key; value = w } ∷ ys;
-            back = r.back;
-            leaves = written-leaves a _ r.leaves there w;
-            ends_are = (refl, subst (λ n. last_slot (Some n) ys ≡ Some b) slot h.1);
-          };
-          same = λ k zs at.
-              let tail : ys ≡ zs = cc in
-              let head : l ≡ k = cc in
-              subst (λ (x : LeafAt K V). record { slot = a; key = l.key; value = w } ∷ ys ≡ record { slot = x.slot; key = x.key; value = w } ∷ zs) head
-              (subst (λ xs. record { slot = a; key = l.key; value = w } ∷ ys ≡ record { slot = l.slot; key = l.key; value = w } ∷ xs) tail
-              (ap (λ n. record { slot = n; key = l.key; value = w } ∷ ys) (sym slot)));
-        }
+  module _ (a b : ℕ) (w : V) (r : IsRun bytes P m (Some (a, b))) (l : LeafAt K V) (ys : List (LeafAt K V)) where
+    abbrev new : LeafAt K V
+    new = record { slot = l.slot; key = l.key; value = w }
 
-    last-run : (run : List (LeafAt K V)) → r.run ≡ run → HasEnds run (Some (a, b)) → (l : LeafAt K V) (ys : List (LeafAt K V)) → run ≡ ys ++ l ∷ [] → WrittenRun Last (Some (a, b)) run w
-    last-run run e h l ys is =
-        let last : last_slot None (ys ++ l ∷ []) ≡ Some b = subst (λ xs. last_slot None xs ≡ Some b) is h.1 in
-        let f = sym (last_slot-append None ys (l ∷ [])) ∙ last in
-        let slot : l.slot ≡ b = cc in
-        let parts : r.front ++ (r.run ++ r.back) ≡ (r.front ++ ys) ++ l ∷ r.back =
-        ap (λ xs. r.front ++ (xs ++ r.back)) (e ∙ is) ∙ ap (λ xs. r.front ++ xs) (append_assoc ys (l ∷ []) r.back) ∙ sym (append_assoc r.front ys (l ∷ r.back)) in
-        let there : IsAmong b (r.front ++ (r.run ++ r.back)) = record { front = r.front ++ ys; leaf = l; back = r.back; is = parts; slot_is = slot } in
-        let new : LeafAt K V = record { slot = b; key = l.key; value = w } in
-        let again : (r.front ++ ys) ++ new ∷ r.back ≡ r.front ++ ((ys ++ new ∷ []) ++ r.back) = append_assoc r.front ys (new ∷ r.back) ∙ ap (λ xs. r.front ++ xs) (sym (append_assoc ys (new ∷ []) r.back)) in
+    at-new : (end : End) → IsAtEnd end l ys r.run → (k : LeafAt K V) (zs : List (LeafAt K V)) → IsAtEnd end k zs r.run → (now : List (LeafAt K V)) → IsAtEnd end new ys now → IsAtEnd end (record { slot = k.slot; key = k.key; value = w }) zs now
+    at-new end is k zs at now e = let same = same-end end l k ys zs r.run is at in rw (← same.0, ← same.1) e
+
+    of-end : (end : End) → IsAtEnd end l ys r.run → WrittenRun end (Some (a, b)) r.run w (Some l.slot)
+    of-end First is = record {
+      now = record {
+        front = r.front;
+        run = new ∷ ys;
+        back = r.back;
+        leaves = written-leaves l.slot _ r.leaves (record { front = r.front; leaf = l; back = ys ++ r.back; is = with-leaf First r.front l ys r.run r.back is; slot_is = refl }) w;
+        ends_are = subst (λ xs. HasEnds xs (Some (a, b))) is r.ends_are;
+      };
+      same = λ k zs at. at-new First is k zs at (new ∷ ys) refl;
+    }
+    of-end Last is =
+        let parts = with-leaf Last r.front l ys r.run r.back is ∙ sym (append_assoc r.front ys (l ∷ r.back)) in
+        let again = append_assoc r.front ys (new ∷ r.back) ∙ sym (with-leaf Last r.front new ys (ys ++ new ∷ []) r.back refl) in
+        let has = subst (λ xs. HasEnds xs (Some (a, b))) is r.ends_are in
         record {
           now = record {
             front = r.front;
             run = ys ++ new ∷ [];
             back = r.back;
-            leaves = subst (AreLeaves bytes P (with_value_at m b w)) again (written-leaves b _ r.leaves there w);
-            ends_are = (starts slot ys (subst (λ xs. first_slot xs None ≡ Some a) is h.0), last_slot-append None ys (new ∷ []));
+            leaves = subst (AreLeaves bytes P (with_value_at m l.slot w)) again (written-leaves l.slot _ r.leaves (record { front = r.front ++ ys; leaf = l; back = r.back; is = parts; slot_is = refl }) w);
+            ends_are = (starts ys has.0, last_slot-append None ys (new ∷ []) ∙ sym (last_slot-append None ys (l ∷ [])) ∙ has.1);
           };
-          same = λ k zs at. ends slot (last-same zs ys k l (sym at ∙ is));
+          same = λ k zs at. at-new Last is k zs at (ys ++ new ∷ []) refl;
         }
       where
-        starts : l.slot ≡ b → (ys : List (LeafAt K V)) → first_slot (ys ++ l ∷ []) None ≡ Some a → first_slot (ys ++ record { slot = b; key = l.key; value = w } ∷ []) None ≡ Some a
-        starts slot [] f = let g : l.slot ≡ a = cc in ap Some (sym slot ∙ g)
-        starts slot (y ∷ ys) f = f
-
-        ends : l.slot ≡ b → {zs : List (LeafAt K V)} {k : LeafAt K V} → (zs ≡ ys) × (k ≡ l) → ys ++ record { slot = b; key = l.key; value = w } ∷ [] ≡ zs ++ record { slot = k.slot; key = k.key; value = w } ∷ []
-        ends slot (e, f) = rw (e, f, slot) refl
+        starts : (ys : List (LeafAt K V)) → first_slot (ys ++ l ∷ []) None ≡ Some a → first_slot (ys ++ new ∷ []) None ≡ Some a
+        starts [] e = e
+        starts (y ∷ ys) e = e
 
   -- so has any run that is written at an end
-  pub written-run : (end : End) (ends : Ends) (r : IsRun bytes P m ends) (w : V) → WrittenRun end ends r.run w
-  written-run end None r w = record { now = r; same = λ l ys at. absurd (none end l ys (subst (IsAtEnd end l ys) r.ends_are at)) }
-    where
-      none : (end : End) (l : LeafAt K V) (ys : List (LeafAt K V)) → IsAtEnd end l ys [] → ⊥
-      none First l ys e = absurd (cc)
-      none Last l [] e = absurd (cc)
-      none Last l (y ∷ ys) e = absurd (cc)
-  written-run First (Some (a, b)) r w = first-run a b w r r.run refl r.ends_are
-  written-run Last (Some (a, b)) r w =
-      let e = ends_with-first r.run b r.ends_are.1 in
-      last-run a b w r r.run refl r.ends_are e.1 e.0 e.2
+  pub written-run : (end : End) (ends : Ends) (r : IsRun bytes P m ends) (w : V) → WrittenRun end ends r.run w (slot_at end ends)
+  written-run First None r w = record { now = r; same = λ l ys at. absurd (none-at-end First l ys (subst (IsAtEnd First l ys) r.ends_are at)) }
+  written-run Last None r w = record { now = r; same = λ l ys at. absurd (none-at-end Last l ys (subst (IsAtEnd Last l ys) r.ends_are at)) }
+  written-run end (Some (a, b)) r w =
+      let at = run-end end a b r.run r.ends_are in
+      subst (WrittenRun end (Some (a, b)) r.run w) (sym (slot-end end a b r.run r.ends_are at.item at.rest at.is)) (of-end a b w r at.item at.rest end at.is)
 
-  pub still-run : (end : End) (ends : Ends) → ∥ IsRun bytes P m ends ∥₁ → (w : V) → ∥ IsRun bytes P (with_value_where m (slot_at end ends) w) ends ∥₁
+  pub still-run : (end : End) (ends : Ends) → ∥ IsRun bytes P m ends ∥₁ → (w : V) → ∥ IsRun bytes P (with_lent_value m (slot_at end ends) w) ends ∥₁
   still-run end ends some w = ∥∥₁_map some (λ r. (written-run end ends r w).now)

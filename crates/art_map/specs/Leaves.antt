@@ -1,23 +1,11 @@
 -- The leaves of a map, and a run of neighbours among them.
-use Rattle.std.specs.Prelude.{◌≡◌, ℕ, List, ◌∷◌, ◌++◌, Option, Some, None}
+use Rattle.std.specs.Prelude.{◌≡◌, ℕ, List, ◌∷◌, ◌++◌}
 use Rattle.art_arena.specs.arena.Shapes.{LeafAt, pairs_of}
 use Rattle.art_arena.specs.declared.ends.End.{End}
 use Rattle.art_arena.specs.declared.ends.End.TheVariants.{First, Last}
 use Rattle.art_operations.specs.Deletions.{HasLeaves}
 use Rattle.art_map.specs.Contents.{Contents}
-use Rattle.art_map.specs.Lends.{with_value_at}
 use Rattle.art_walks.specs.Runs.{Ends, HasEnds}
-
--- the slab key of the leaf at this end of a run, if it has one
-abbrev pub slot_at : End → Ends → Option ℕ
-slot_at end None = None
-slot_at First (Some ends) = Some ends.0
-slot_at Last (Some ends) = Some ends.1
-
--- the map with another value in a leaf, if one is named
-abbrev pub with_value_where : {K V : Type 0} → Contents K V → Option ℕ → V → Contents K V
-with_value_where m None w = m
-with_value_where m (Some slot) w = with_value_at m slot w
 
 module _ {K V : Type 0} (bytes : K → List ℕ) (P : ℕ) (m : Contents K V) where
   -- these are the leaves of the map's tree, in order, which are linked so, and hold its pairs

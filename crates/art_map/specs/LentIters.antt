@@ -4,10 +4,12 @@ use Rattle.std.specs.Borrow.{Fml, RattleType, MutBor, Lends, LendsIf}
 use denote.Param.{number}
 use mir.Syntax.{named}
 use Rattle.art_bytes.specs.declared.as_bytes.AsBytes as as_bytes
+use Rattle.art_arena.specs.declared.ends.End.{End}
+use Rattle.art_arena.specs.declared.ends.End.TheVariants.{First, Last}
 use Rattle.art_walks.specs.Walked.{start_of}
 use Rattle.art_map.specs.LentRuns.{end_of, left_behind, left_before, run_pairs, with_lent_value}
 use Rattle.art_map.specs.LentWalks.{IsLent}
-use Rattle.art_map.specs.lemmas.LentSteps.{counted_behind, counted_before, still_behind, still_before}
+use Rattle.art_map.specs.lemmas.LentSteps.{counted_left, still_left}
 use Rattle.art_map.specs.declared.map.iter_mut.IterMut.{IterMut}
 use Rattle.art_map.specs.contracts.map.iter_mut.IterMut as iter
 
@@ -22,8 +24,8 @@ module _ {K V : Type 0} {P : ℕ} {g : as_bytes.Ghosts K} where
     map = record walk.map { now = with_lent_value walk.map.now (start_of walk.leaves) w };
     leaves = left_behind walk.map.now walk.leaves;
     len = walk.len - 1;
-    valid = still_behind walk.map.now walk.leaves walk.valid w;
-    counted = counted_behind walk.map.now walk.leaves walk.valid walk.len walk.counted w;
+    valid = still_left walk.map.now First walk.leaves walk.valid w;
+    counted = counted_left walk.map.now First walk.leaves walk.valid w walk.len walk.counted;
   }
 
   abbrev pub iter_before : IterMut K V P g → V → IterMut K V P g
@@ -31,9 +33,14 @@ module _ {K V : Type 0} {P : ℕ} {g : as_bytes.Ghosts K} where
     map = record walk.map { now = with_lent_value walk.map.now (end_of walk.leaves) w };
     leaves = left_before walk.map.now walk.leaves;
     len = walk.len - 1;
-    valid = still_before walk.map.now walk.leaves walk.valid w;
-    counted = counted_before walk.map.now walk.leaves walk.valid walk.len walk.counted w;
+    valid = still_left walk.map.now Last walk.leaves walk.valid w;
+    counted = counted_left walk.map.now Last walk.leaves walk.valid w walk.len walk.counted;
   }
+
+  -- and at this end
+  abbrev pub iter_left : End → IterMut K V P g → V → IterMut K V P g
+  iter_left First = iter_behind
+  iter_left Last = iter_before
 
   -- p is the first of the pairs still to come, and the last, and is lent
   abbrev pub IsIterFirst : IterMut K V P g → K × V → Type 0
@@ -41,6 +48,11 @@ module _ {K V : Type 0} {P : ℕ} {g : as_bytes.Ghosts K} where
 
   abbrev pub IsIterLast : IterMut K V P g → K × V → Type 0
   IsIterLast walk = IsLent g.bytes iter_rest (λ d. d.map.now) (λ p ps. ps ++ p ∷ []) walk (iter_before walk)
+
+  -- and at this end
+  abbrev pub IsIterEnd : End → IterMut K V P g → K × V → Type 0
+  IsIterEnd First = IsIterFirst
+  IsIterEnd Last = IsIterLast
 
 module _ (K V : RattleType) (P : ℕ) (key : as_bytes.Ghosts K.Denot) where
   -- the walk's type, as the logic holds it. Its lifetime is the second of the signature

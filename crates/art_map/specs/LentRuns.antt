@@ -2,8 +2,10 @@
 use Rattle.std.specs.Prelude.{◌==◌, ℕ, List, Option, Some, None, option_map, if◌then◌else◌}
 use Rattle.art_arena.specs.arena.Arena.{links_at}
 use Rattle.art_arena.specs.arena.Linked.{Links}
+use Rattle.art_arena.specs.declared.ends.End.{End}
+use Rattle.art_arena.specs.declared.ends.End.TheVariants.{First, Last}
 use Rattle.art_walks.specs.Runs.{Ends}
-use Rattle.art_walks.specs.Walked.{IsCounted, ends_behind, leaves_left, pairs_left}
+use Rattle.art_walks.specs.Walked.{IsCounted, ends_behind, leaves_left, pairs_left, start_of}
 use Rattle.art_map.specs.Contents.{Contents}
 use Rattle.art_map.specs.Lends.{with_value_at}
 
@@ -11,6 +13,11 @@ use Rattle.art_map.specs.Lends.{with_value_at}
 abbrev pub end_of : Ends → Option ℕ
 end_of None = None
 end_of (Some ends) = Some ends.1
+
+-- that of the leaf at this end
+abbrev pub slot_at : End → Ends → Option ℕ
+slot_at First = start_of
+slot_at Last = end_of
 
 -- what is left of a run before its last leaf, which has these links, from its first
 abbrev pub ends_before : Option Links → ℕ → Ends
@@ -46,3 +53,8 @@ module _ {K V : Type 0} where
 
   abbrev pub left_before : Contents K V → Ends → Ends
   left_before m ends = before_last (links_at m.nodes) ends
+
+  -- and at this end
+  abbrev pub left_at : End → Contents K V → Ends → Ends
+  left_at First = left_behind
+  left_at Last = left_before

@@ -1,15 +1,16 @@
 -- The walks that lend values for writing: the pairs still to come, and what a walk is once a value was written.
-use Rattle.std.specs.Prelude.{◌≡◌, [], List, ◌∷◌, ◌++◌, Option, Some, None}
+use Rattle.std.specs.Prelude.{◌≡◌, ℕ, [], List, ◌∷◌, ◌++◌, Option, Some, None}
 use Rattle.std.specs.Borrow.{Fml, RattleType, MutBor, Lends, LendsIf}
 use denote.Param.{number}
 use mir.Syntax.{named}
-use Rattle.std.specs.Prelude.{ℕ}
 use Rattle.art_bytes.specs.declared.as_bytes.AsBytes as as_bytes
+use Rattle.art_arena.specs.declared.ends.End.{End}
+use Rattle.art_arena.specs.declared.ends.End.TheVariants.{First, Last}
 use Rattle.art_operations.specs.Pairs.{with_pair_put}
 use Rattle.art_walks.specs.Walked.{start_of}
 use Rattle.art_map.specs.Contents.{Contents}
 use Rattle.art_map.specs.LentRuns.{end_of, left_behind, left_before, run_pairs, with_lent_value}
-use Rattle.art_map.specs.lemmas.LentSteps.{still_behind, still_before}
+use Rattle.art_map.specs.lemmas.LentSteps.{still_left}
 use Rattle.art_map.specs.declared.map.walks_mut.RangeMut.{RangeMut}
 use Rattle.art_map.specs.contracts.map.walks_mut.RangeMut as range
 
@@ -34,15 +35,20 @@ module _ {K V : Type 0} {P : ℕ} {g : as_bytes.Ghosts K} where
   range_behind walk w = record walk {
     map = record walk.map { now = with_lent_value walk.map.now (start_of walk.leaves) w };
     leaves = left_behind walk.map.now walk.leaves;
-    valid = still_behind walk.map.now walk.leaves walk.valid w;
+    valid = still_left walk.map.now First walk.leaves walk.valid w;
   }
 
   abbrev pub range_before : RangeMut K V P g → V → RangeMut K V P g
   range_before walk w = record walk {
     map = record walk.map { now = with_lent_value walk.map.now (end_of walk.leaves) w };
     leaves = left_before walk.map.now walk.leaves;
-    valid = still_before walk.map.now walk.leaves walk.valid w;
+    valid = still_left walk.map.now Last walk.leaves walk.valid w;
   }
+
+  -- and at this end
+  abbrev pub range_left : End → RangeMut K V P g → V → RangeMut K V P g
+  range_left First = range_behind
+  range_left Last = range_before
 
   -- p is the first of the pairs still to come, and the last, and is lent
   abbrev pub IsRangeFirst : RangeMut K V P g → K × V → Type 0
@@ -50,6 +56,11 @@ module _ {K V : Type 0} {P : ℕ} {g : as_bytes.Ghosts K} where
 
   abbrev pub IsRangeLast : RangeMut K V P g → K × V → Type 0
   IsRangeLast walk = IsLent g.bytes range_rest (λ d. d.map.now) (λ p ps. ps ++ p ∷ []) walk (range_before walk)
+
+  -- and at this end
+  abbrev pub IsRangeEnd : End → RangeMut K V P g → K × V → Type 0
+  IsRangeEnd First = IsRangeFirst
+  IsRangeEnd Last = IsRangeLast
 
 module _ (K V : RattleType) (P : ℕ) (key : as_bytes.Ghosts K.Denot) where
   -- the walk's type, as the logic holds it. Its lifetime is the second of the signature

@@ -1,5 +1,7 @@
 //! The laws of what a look-up finds after a change, in the words of the contracts of `TreeMap`. Each function does
 //! nothing, and its contract is the law.
+#![tactic(auto, using(crate::proofs::FoundBehind::laws, crate::proofs::EndedKeys::ended_laws))]
+
 ghost use Rattle.art_arena.specs.arena.Shapes.{key_of};
 ghost use Rattle.art_arena.specs.tree.Order.{AscendsByKey};
 ghost use Rattle.art_map.specs.Laws.{FoundBehindInsertion, FoundBehindPrefixInsertion, FoundBehindPrefixRemoval};

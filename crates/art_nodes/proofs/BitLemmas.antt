@@ -9,7 +9,8 @@ use lib.Pow.{pow_mono}
 use native.Mathlib.Nat.{pow-suc, le-div_iff_mul-le, div-lt_iff_lt-mul}
 use Rattle.std.proofs.lemmas.Nat.{pow_pos}
 use Rattle.std.proofs.lemmas.Nat.Bits.{bit_at_lowest, bit_at-suc, bit_at_and, bit_at_ones, bit_at_ones_above, bit_at_not, bit_at-lt, bit_at_above, bit_at-trailing_zeros}
-use Rattle.art_nodes.specs.inner.Mask.{those_passing, is_set}
+use Rattle.art_nodes.specs.inner.Mask.{those_passing}
+use Rattle.art_nodes.proofs.Terms.{is_set}
 use Rattle.art_nodes.proofs.PassingLemmas.{passing-same, length-passing_from}
 
 pub and_true : (t : Bool) → (t && true) ≡ t

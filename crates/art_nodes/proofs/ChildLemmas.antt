@@ -1,8 +1,7 @@
 -- Lemmas on children as bytes and names side by side, by ascending byte.
 use Rattle.std.proofs.Common.{◌≡◌, ℕ, suc, ◌+◌, ◌<◌, ◌≤◌, ◌==◌, ◌≢◌, slice_get, slice_set, slice_index, IsTrue, List, [], ◌∷◌, ◌++◌, length, take, drop, Some, None, refl, ap, inl, inr, arith}
 use Rattle.std.specs.List.{zip, insert, remove}
-use Rattle.art_nodes.specs.InnerNode.{IsAscendingFrom, child_at, with_child, without_child, last_child, names_of}
-use Rattle.art_nodes.specs.inner.Place.{place}
+use Rattle.art_nodes.proofs.Terms.{IsAscendingFrom, child_at, with_child, without_child, last_child, names_of, place}
 use Rattle.std.proofs.lemmas.List.{length-drop, length-take}
 use Rattle.std.proofs.lemmas.Bool.Decides.{eqb_tells, leb_tells, nat_tests}
 

@@ -4,11 +4,7 @@ use Rattle.std.specs.List.{insert, remove}
 use Rattle.std.proofs.lemmas.Bool.Decides.{eqb_tells, leb_tells}
 use Rattle.std.proofs.lemmas.List.{length-set}
 use Rattle.std.proofs.lemmas.List.Edits.{length-insert, length-remove}
-use Rattle.art_nodes.specs.Header.{Header, IsHeader}
-use Rattle.art_nodes.specs.Name.{Name}
-use Rattle.art_nodes.specs.InnerNode.{InnerNode, IsInnerNode, with_children, IsAscendingFrom, child_at, with_child, without_child}
-use Rattle.art_nodes.specs.inner.Place.{place, children_within, StandsAt, BelongsAt, IsFirstFrom, IsLastBelow}
-use Rattle.art_nodes.specs.inner.Table.{children_from, entry_at, bytes_of, IsCountedTable, IsPartOfTable}
+use Rattle.art_nodes.proofs.Terms.{Header, IsHeader, Name, InnerNode, IsInnerNode, with_children, IsAscendingFrom, child_at, with_child, without_child, place, children_within, StandsAt, BelongsAt, IsFirstFrom, IsLastBelow, children_from, entry_at, bytes_of, IsCountedTable, IsPartOfTable}
 use Rattle.art_nodes.proofs.ChildLemmas.{IsAscendingFrom-lower, child_at-above, without_child-above, length-ascending, without_child-none}
 use Rattle.art_nodes.proofs.PlaceLemmas.{place-within}
 use Rattle.art_nodes.proofs.TableLemmas.{length-bytes_of, bytes-new, bytes-held, bytes-removed, byte-stands, byte-apart, byte-belongs, length-children_within, none_within, none_from, none_to, first_within, last_within, all_within_bytes}

@@ -9,3 +9,5 @@ pub mod ReplayLemmas
 pub mod RowLemmas
 pub mod SortedLemmas
 pub mod TableLemmas
+pub mod Terms
+pub mod Common

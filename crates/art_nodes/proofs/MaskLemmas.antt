@@ -2,12 +2,13 @@
 use Rattle.std.proofs.Common.{◌≡◌, ℕ, zero, suc, ◌+◌, ◌-◌, ◌*◌, ◌/◌, ◌%◌, ◌^◌, ◌<◌, ◌≤◌, ◌≢◌, ◌==◌, ◌&&◌, nat_lt, nat_le, Bool, true, false, cond, List, [], ◌∷◌, ◌++◌, length, drop, slice_index, slice_set, bit_and, bit_or, w64, refl, sym, ap, ap₂, ◌∙◌, inl, inr, arith, length-append, get_or-set_same, get_or-set_other}
 use Rattle.std.specs.Int.{bit_at, bit_not}
 use Rattle.std.specs.List.{insert, remove}
+use Rattle.std.proofs.lemmas.Bool.{and_parts}
 use Rattle.std.proofs.lemmas.Bool.Decides.{leb_tells, eqb_tells}
 use Rattle.std.proofs.lemmas.List.{take_at, drop_at}
 use lib.Seq.{get_or_at}
 use Rattle.std.proofs.lemmas.Nat.Bits.{bit_at-zero, bit_at_set_same, bit_at_set_other, bit_at_clear_same, bit_at_clear_other}
-use Rattle.art_nodes.specs.inner.Place.{place, StandsAt, BelongsAt, IsFirstFrom, IsLastBelow}
-use Rattle.art_nodes.specs.inner.Mask.{those_passing, is_set, is_marked, marked}
+use Rattle.art_nodes.proofs.Terms.{place, StandsAt, BelongsAt, IsFirstFrom, IsLastBelow, is_set, is_marked, marked}
+use Rattle.art_nodes.specs.inner.Mask.{those_passing}
 use Rattle.art_nodes.proofs.PassingLemmas.{passing-same, passing-none, passing-parts, passing-one, length-passing_from, stands-passes, place_of_bound, with_it, without_it}
 
 -- how many pass up to a number, and so many more
@@ -163,12 +164,6 @@ module _ (words : List ℕ) (byte : ℕ) (within : byte / 64 < length words) whe
   pub others_still : (k : ℕ) → k < 256 → k ≢ byte → is_marked (slice_set words (byte / 64) without_bit) k ≡ is_marked words k
   others_still k less apart = others without_bit k (λ i few differ. bit_at_clear_other w64 word (byte % 64) (omega arith) i few differ) apart
 
--- a test that passes with another passes both
-both : (a b : Bool) → (a && b) ≡ true → (a ≡ true) × (b ≡ true)
-both true true e = (refl, refl)
-both true false e = absurd (let f : false ≡ true = e in cc)
-both false b e = absurd (let f : false ≡ true = e in cc)
-
 neither : (a b : Bool) → (a && b) ≡ false → b ≡ true → a ≡ false
 neither true b none yes_it = sym yes_it ∙ none
 neither false b none yes_it = refl
@@ -193,7 +188,7 @@ module _ (words : List ℕ) (at from : ℕ) (less : at < 4) (w : ℕ) (is : (j :
 
   pub next_of_words : (bit : ℕ) → bit < 64 → is_set w bit ≡ true → ((i : ℕ) → i < bit → is_set w i ≡ false) → IsFirstFrom (marked words) from (64 * at + bit)
   next_of_words bit small set clear =
-      let pair = both _ _ (sym (is bit small) ∙ set) in
+      let pair = and_parts _ _ (sym (is bit small) ∙ set) in
       let byte = 64 * at + bit in
       next_from (is_marked words) byte (omega (arith, small, less)) from (true_le from byte pair.1) (bit_of_word words at bit small ∙ pair.0) (λ k above below. elim (leb_tells (suc k) (64 * at)) [
         | inl before ↦ none k above before.1
@@ -220,7 +215,7 @@ module _ (words : List ℕ) (at to : ℕ) (less : at < 4) (few : to ≤ 256) (w 
 
   pub last_of_words : (bit : ℕ) → bit < 64 → is_set w bit ≡ true → ((i : ℕ) → bit < i → is_set w i ≡ false) → IsLastBelow (marked words) to (64 * at + bit)
   last_of_words bit small set clear =
-      let pair = both _ _ (sym (is bit small) ∙ set) in
+      let pair = and_parts _ _ (sym (is bit small) ∙ set) in
       let byte = 64 * at + bit in
       last_below (is_marked words) byte (omega (arith, small, less)) to (true_le (suc byte) to pair.1) few (bit_of_word words at bit small ∙ pair.0) (λ k above under. elim (leb_tells (64 * (at + 1)) k) [
         | inl after ↦ none k after.1 under

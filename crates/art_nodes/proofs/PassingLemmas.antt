@@ -1,7 +1,7 @@
 -- Lemmas on the numbers of a row that pass a test, by their places.
 use Rattle.std.proofs.Common.{◌≡◌, ℕ, zero, suc, ◌+◌, ◌-◌, ◌<◌, ◌≤◌, Bool, true, false, cond, [], ◌∷◌, ◌++◌, length, slice_index, refl, ap, ap₂, ◌∙◌, inl, inr, arith}
 use Rattle.std.proofs.lemmas.Bool.Decides.{leb_tells}
-use Rattle.art_nodes.specs.inner.Place.{place}
+use Rattle.art_nodes.proofs.Terms.{place}
 use Rattle.art_nodes.specs.inner.Mask.{those_passing}
 
 -- tests that agree on a row pass the same numbers of it

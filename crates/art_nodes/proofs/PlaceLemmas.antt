@@ -6,9 +6,7 @@ use Rattle.std.specs.Range.Bound.{start_index, end_index}
 use Rattle.std.specs.declared.ops.Bound.{Bound}
 use Rattle.std.specs.declared.ops.Bound.TheVariants.{Included, Excluded, Unbounded}
 use Rattle.std.proofs.lemmas.Bool.Decides.{leb_tells, nat_tests}
-use Rattle.art_nodes.specs.InnerNode.{IsAscendingFrom, is_from, is_to, children_between, AreValidBounds}
-use Rattle.art_nodes.specs.inner.Place.{place, children_within, bytes_within, IsFirstFrom, IsLastBelow}
-use Rattle.art_nodes.specs.inner.Table.{bytes_of}
+use Rattle.art_nodes.proofs.Terms.{IsAscendingFrom, is_from, is_to, children_between, AreValidBounds, place, children_within, bytes_within, IsFirstFrom, IsLastBelow, bytes_of}
 
 pub place-le : (ks : List ℕ) (from to : ℕ) → from ≤ to → place ks from ≤ place ks to
 place-le [] from to h = omega arith

@@ -4,8 +4,7 @@ use Rattle.std.specs.List.{copy_within}
 use Rattle.std.proofs.lemmas.Grind.{common_steps, elements}
 use Rattle.std.proofs.lemmas.Bool.Decides.{eqb_tells}
 use Rattle.std.proofs.lemmas.List.{drop-take, length-take, take_all}
-use Rattle.art_nodes.specs.Header.{front_of}
-use Rattle.art_nodes.specs.PrefixMatch.{agreeing}
+use Rattle.art_nodes.proofs.Terms.{front_of, agreeing}
 use Rattle.std.proofs.Math.Seq.{take-append_seam}
 
 take-front : {X : Type 0} (xs ys : List X) (n : ℕ) → length xs ≡ n → take n (xs ++ ys) ≡ xs

@@ -1,14 +1,9 @@
 -- Lemmas on a replay: a full node without a child under a byte isn't of the largest kind, and answers go on one by one.
 use Rattle.std.proofs.Common.{◌≡◌, ◌≢◌, ℕ, ◌+◌, ◌<◌, ◌≤◌, Option, None, lit<, true≢false, List, [], ◌∷◌, ◌++◌, length, IsSome, take, refl, ap, sym, ◌∙◌, subst, inl, inr, arith}
 use Rattle.std.proofs.lemmas.Bool.Decides.{eqb_tells}
-use Rattle.art_nodes.specs.Name.{Name}
-use Rattle.art_nodes.specs.InnerNode.{IsAscending, IsAscendingFrom, child_at}
-use Rattle.art_nodes.specs.Kind.{row_of, grown_kind}
-use Rattle.art_nodes.specs.declared.kind.NodeType.{NodeType}
-use Rattle.art_nodes.specs.declared.kind.NodeType.TheVariants.{Node256, Leaf}
+use Rattle.art_nodes.proofs.Terms.{Name, IsAscending, IsAscendingFrom, child_at, row_of, grown_kind, NodeType, Node256, Leaf, IsChildAnswer, AreChildAnswers, children_after}
 use Rattle.art_nodes.specs.declared.replaying.ChildCommand.{ChildCommand}
 use Rattle.art_nodes.specs.declared.replaying.ChildAnswer.{ChildAnswer}
-use Rattle.art_nodes.specs.Replay.{IsChildAnswer, AreChildAnswers, children_after}
 
 -- ascending bytes from `low` on are at most as many as there are such bytes
 pub at_most_256 : (low : ℕ) (children : List (ℕ × Name)) → low ≤ 256 → IsAscendingFrom low children → low + length children ≤ 256

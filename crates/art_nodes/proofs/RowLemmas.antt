@@ -12,7 +12,7 @@ use lib.Lanes.{mask_l, zip2, top}
 use mir.Syntax.{Width}
 use mir.Val.{bits, hbits}
 use lib.Count.{count_trailing_zeros}
-use Rattle.art_nodes.specs.inner.Place.{place}
+use Rattle.art_nodes.proofs.Terms.{place}
 
 -- a word without a bit has 64 zeros
 no_bit : trailing_zeros w64 0 ≡ 64

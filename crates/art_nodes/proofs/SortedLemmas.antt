@@ -5,11 +5,7 @@ use Rattle.std.proofs.lemmas.Bool.Decides.{eqb_tells, leb_tells}
 use Rattle.std.proofs.lemmas.List.{length-set}
 use Rattle.std.proofs.lemmas.List.Edits.{length-insert, length-remove}
 use Rattle.std.proofs.lemmas.Option.{slice_get_past}
-use Rattle.art_nodes.specs.Header.{Header, IsHeader}
-use Rattle.art_nodes.specs.InnerNode.{InnerNode, IsInnerNode, IsAscendingFrom, child_at, with_child, without_child, with_children}
-use Rattle.art_nodes.specs.Name.{Name}
-use Rattle.art_nodes.specs.inner.Place.{StandsAt, BelongsAt}
-use Rattle.art_nodes.specs.inner.Sorted.{IsSideBySide, InUse, in_use}
+use Rattle.art_nodes.proofs.Terms.{Header, IsHeader, InnerNode, IsInnerNode, IsAscendingFrom, child_at, with_child, without_child, with_children, Name, StandsAt, BelongsAt, IsSideBySide, InUse, in_use}
 use Rattle.art_nodes.proofs.PlaceLemmas.{place-within}
 use Rattle.art_nodes.proofs.ChildLemmas.{StandsAmong, held, Absent, absent, length-zip_same, length-ascending, IsAscendingFrom-with_child, IsAscendingFrom-without_child}
 

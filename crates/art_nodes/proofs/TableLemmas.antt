@@ -1,12 +1,10 @@
 -- Lemmas on children and their bytes: an edit of the children is one of the bytes, and those within bounds are a part
 -- of them, by the places of the bounds.
-use Rattle.std.proofs.Common.{◌≡◌, ◌≢◌, ℕ, zero, suc, ◌+◌, ◌-◌, ◌<◌, ◌≤◌, List, [], ◌∷◌, ◌++◌, length, take, drop, get_or, slice_index, Some, None, refl, ap, ap₂, sym, ◌∙◌, inl, inr, arith}
+use Rattle.std.proofs.Common.{◌≡◌, ◌≢◌, ℕ, zero, suc, ◌+◌, ◌-◌, ◌<◌, ◌≤◌, List, [], ◌∷◌, ◌++◌, length, take, drop, get_or, slice_index, Some, None, true, false, eqb, leb, refl, ap, ap₂, sym, ◌∙◌, ◌⊎◌, inl, inr, arith}
 use Rattle.std.specs.List.{insert, remove}
 use Rattle.std.proofs.lemmas.Bool.Decides.{eqb_tells, leb_tells}
 use Rattle.std.proofs.lemmas.List.{length-map, length-take, length-drop, take_more, drop_more, get_or-drop}
-use Rattle.art_nodes.specs.InnerNode.{IsAscendingFrom, child_at, with_child, without_child}
-use Rattle.art_nodes.specs.inner.Place.{place, children_within, StandsAt, BelongsAt, IsFirstFrom, IsLastBelow}
-use Rattle.art_nodes.specs.inner.Table.{bytes_of}
+use Rattle.art_nodes.proofs.Terms.{IsAscendingFrom, child_at, with_child, without_child, place, children_within, StandsAt, BelongsAt, IsFirstFrom, IsLastBelow, bytes_of}
 use Rattle.art_nodes.proofs.ChildLemmas.{child_at-above}
 use Rattle.art_nodes.proofs.PlaceLemmas.{place-le, place-within, within-part}
 
@@ -22,6 +20,20 @@ module _ {N : Type 0} where
   pub length-bytes_of : (cs : List (ℕ × N)) → length (bytes_of cs) ≡ length cs
   length-bytes_of cs = length-map cs (λ c. c.0)
 
+  -- where a child stands under a byte of ascending children, it is the first, or stands among those behind
+  which : (low : ℕ) (c : ℕ × N) (cs : List (ℕ × N)) (byte : ℕ) {old : N} → IsAscendingFrom low (c ∷ cs) → child_at (c ∷ cs) byte ≡ Some old
+      → ((eqb c.0 byte ≡ true) × (leb (suc c.0) byte ≡ false) × (c.0 ≡ byte) × (c.1 ≡ old)) ⊎ ((eqb c.0 byte ≡ false) × (leb (suc c.0) byte ≡ true) × (child_at cs byte ≡ Some old))
+  which low c cs byte rises some = elim (eqb_tells c.0 byte) [
+    | inl same ↦ elim (leb_tells (suc c.0) byte) [
+      | inl below ↦ absurd (omega (arith, below.1, same.1))
+      | inr above ↦ inl (same.0, above.0, same.1, (let e = rw same.0 at some in cc))
+    ]
+    | inr other ↦ elim (leb_tells (suc c.0) byte) [
+      | inl below ↦ inr (other.0, below.0, rw other.0 at some)
+      | inr above ↦ absurd (let e = child_at-above (c.0 + 1) cs byte (omega (arith, above.1, other.1)) rises.2 in let f = rw other.0 at some in cc)
+    ]
+  ]
+
   -- the bytes after an edit
   pub bytes-new : (cs : List (ℕ × N)) (byte : ℕ) (name : N) → child_at cs byte ≡ None → bytes_of (with_child cs byte name) ≡ insert (bytes_of cs) (place (bytes_of cs) byte) byte
   bytes-new [] byte name none = refl
@@ -35,44 +47,26 @@ module _ {N : Type 0} where
 
   pub bytes-held : (low : ℕ) (cs : List (ℕ × N)) (byte : ℕ) (name old : N) → IsAscendingFrom low cs → child_at cs byte ≡ Some old → bytes_of (with_child cs byte name) ≡ bytes_of cs
   bytes-held low [] byte name old rises some = absurd (cc)
-  bytes-held low (c ∷ cs) byte name old rises some = elim (eqb_tells c.0 byte) [
-    | inl same ↦ elim (leb_tells (suc c.0) byte) [
-      | inl below ↦ absurd (omega (arith, below.1, same.1))
-      | inr above ↦ rw (above.0, same.0) (ap (λ k. k ∷ bytes_of cs) (sym same.1))
-    ]
-    | inr other ↦ elim (leb_tells (suc c.0) byte) [
-      | inl below ↦ rw below.0 (ap (λ ks. c.0 ∷ ks) (bytes-held (c.0 + 1) cs byte name old rises.2 (rw other.0 at some)))
-      | inr above ↦ absurd (let e = child_at-above (c.0 + 1) cs byte (omega (arith, above.1, other.1)) rises.2 in let f = rw other.0 at some in cc)
-    ]
+  bytes-held low (c ∷ cs) byte name old rises some = elim (which low c cs byte rises some) [
+    | inl here ↦ rw (here.1, here.0) (ap (λ k. k ∷ bytes_of cs) (sym here.2))
+    | inr later ↦ rw later.1 (ap (λ ks. c.0 ∷ ks) (bytes-held (c.0 + 1) cs byte name old rises.2 later.2))
   ]
 
   pub bytes-removed : (low : ℕ) (cs : List (ℕ × N)) (byte : ℕ) (old : N) → IsAscendingFrom low cs → child_at cs byte ≡ Some old → bytes_of (without_child cs byte) ≡ remove (bytes_of cs) (place (bytes_of cs) byte)
   bytes-removed low [] byte old rises some = absurd (cc)
-  bytes-removed low (c ∷ cs) byte old rises some = elim (eqb_tells c.0 byte) [
-    | inl same ↦ elim (leb_tells (suc c.0) byte) [
-      | inl below ↦ absurd (omega (arith, below.1, same.1))
-      | inr above ↦ rw (above.0, same.0) refl
-    ]
-    | inr other ↦ elim (leb_tells (suc c.0) byte) [
-      | inl below ↦ rw (below.0, other.0) (ap (λ ks. c.0 ∷ ks) (bytes-removed (c.0 + 1) cs byte old rises.2 (rw other.0 at some)))
-      | inr above ↦ absurd (let e = child_at-above (c.0 + 1) cs byte (omega (arith, above.1, other.1)) rises.2 in let f = rw other.0 at some in cc)
-    ]
+  bytes-removed low (c ∷ cs) byte old rises some = elim (which low c cs byte rises some) [
+    | inl here ↦ rw (here.1, here.0) refl
+    | inr later ↦ rw (later.1, later.0) (ap (λ ks. c.0 ∷ ks) (bytes-removed (c.0 + 1) cs byte old rises.2 later.2))
   ]
 
   -- a byte with a child stands among the bytes, and one without belongs there
   pub byte-stands : (low : ℕ) (cs : List (ℕ × N)) (byte : ℕ) (name : N) → IsAscendingFrom low cs → child_at cs byte ≡ Some name → StandsAt (bytes_of cs) byte (place (bytes_of cs) byte)
   byte-stands low [] byte name rises some = absurd (cc)
-  byte-stands low (c ∷ cs) byte name rises some = elim (eqb_tells c.0 byte) [
-    | inl same ↦ elim (leb_tells (suc c.0) byte) [
-      | inl below ↦ absurd (omega (arith, below.1, same.1))
-      | inr above ↦ record { is_place = refl; within = rw above.0 (omega arith); here = rw above.0 same.1 }
-    ]
-    | inr other ↦ elim (leb_tells (suc c.0) byte) [
-      | inl below ↦
-          let later = byte-stands (c.0 + 1) cs byte name rises.2 (rw other.0 at some) in
-          record { is_place = refl; within = rw below.0 (omega (arith, later.within)); here = rw below.0 later.here }
-      | inr above ↦ absurd (let e = child_at-above (c.0 + 1) cs byte (omega (arith, above.1, other.1)) rises.2 in let f = rw other.0 at some in cc)
-    ]
+  byte-stands low (c ∷ cs) byte name rises some = elim (which low c cs byte rises some) [
+    | inl here ↦ record { is_place = refl; within = rw here.1 (omega arith); here = rw here.1 here.2 }
+    | inr later ↦
+        let behind = byte-stands (c.0 + 1) cs byte name rises.2 later.2 in
+        record { is_place = refl; within = rw later.1 (omega (arith, behind.within)); here = rw later.1 behind.here }
   ]
 
   pub byte-apart : (cs : List (ℕ × N)) (byte : ℕ) → child_at cs byte ≡ None → (at : ℕ) → at < length (bytes_of cs) → slice_index (bytes_of cs) at ≢ byte
@@ -92,15 +86,9 @@ module _ {N : Type 0} where
   -- the child under a byte stands at the byte's place
   child-there : (low : ℕ) (cs : List (ℕ × N)) (byte : ℕ) (name : N) → IsAscendingFrom low cs → child_at cs byte ≡ Some name → get_or cs (place (bytes_of cs) byte) (byte, name) ≡ (byte, name)
   child-there low [] byte name rises some = refl
-  child-there low (c ∷ cs) byte name rises some = elim (eqb_tells c.0 byte) [
-    | inl same ↦ elim (leb_tells (suc c.0) byte) [
-      | inl below ↦ absurd (omega (arith, below.1, same.1))
-      | inr above ↦ let e = rw same.0 at some in let f : c.1 ≡ name = cc in rw above.0 (ap₂ (λ b n. (b, n)) same.1 f)
-    ]
-    | inr other ↦ elim (leb_tells (suc c.0) byte) [
-      | inl below ↦ rw below.0 (child-there (c.0 + 1) cs byte name rises.2 (rw other.0 at some))
-      | inr above ↦ absurd (let e = child_at-above (c.0 + 1) cs byte (omega (arith, above.1, other.1)) rises.2 in let f = rw other.0 at some in cc)
-    ]
+  child-there low (c ∷ cs) byte name rises some = elim (which low c cs byte rises some) [
+    | inl here ↦ rw here.1 (ap₂ (λ b n. (b, n)) here.2 here.3)
+    | inr later ↦ rw later.1 (child-there (c.0 + 1) cs byte name rises.2 later.2)
   ]
 
   -- all of them are within the bounds of all bytes

@@ -1,19 +1,8 @@
 -- A part's cells set apart from those of its tree, and what becomes of the node above it.
 use Rattle.std.proofs.Common.{◌≡◌, ◌≢◌, ℕ, ◌+◌, ◌≤◌, cond, List, ◌∷◌, ◌++◌, Option, Some, None, inl, inr, refl, sym, ap, subst, ◌∙◌, arith, append_assoc}
-use Rattle.art_nodes.specs.Name.{Name}
-use Rattle.art_nodes.specs.InnerNode.{InnerNode, without_child, with_children}
-use Rattle.art_arena.specs.arena.Arena.{Arena, inner_held, held_at, cell_of, node_at}
-use Rattle.art_arena.specs.arena.Cells.{Cell, branches, same_name, Holds, UpdatesAt}
-use Rattle.art_arena.specs.arena.Context.{Frame, plug, path_to, frame_cell, cells_before, cells_after, AreBelow}
-use Rattle.art_arena.specs.tree.Kinds.{IsKindOf}
-use Rattle.art_arena.specs.arena.Shapes.{Shape, Branches, inner_at, no_branch, branch, name_of, children_at, join, width, cells, cells_in, AreUnder}
-use Rattle.art_arena.proofs.tree.Order.{all_right}
-use Rattle.art_arena.proofs.shapes.CellLists.{same_name_tells, same_name-self, Holds-add, Holds-write, Holds-remove, Holds-turn}
-use Rattle.art_arena.proofs.shapes.Contexts.{children_at-join, leaves_in-join, cells_in-join, width-join}
-use Rattle.art_arena.proofs.shapes.Openings.{without_child-frame}
-use Rattle.art_arena.proofs.shapes.Repoint.{frame_node, unplugged}
-use Rattle.art_operations.specs.inner.Detached.{IsHeldAt, StandsFor}
-use Rattle.art_operations.specs.inner.Removals.{Moves}
+use Rattle.art_nodes.proofs.Common.{Name, InnerNode, without_child, with_children}
+use Rattle.art_arena.proofs.Common.{Arena, inner_held, held_at, cell_of, node_at, Cell, branches, same_name, Holds, UpdatesAt, Frame, plug, path_to, frame_cell, cells_before, cells_after, AreBelow, IsKindOf, Shape, Branches, inner_at, no_branch, branch, name_of, children_at, join, width, cells, cells_in, AreUnder, all_right, same_name_tells, same_name-self, Holds-add, Holds-write, Holds-remove, Holds-turn, children_at-join, leaves_in-join, cells_in-join, width-join, without_child-frame, frame_node, unplugged}
+use Rattle.art_operations.proofs.Terms.{IsHeldAt, StandsFor, Moves}
 
 module _ {K V : Type 0} where
   -- a node that moves to another name is a cell that does

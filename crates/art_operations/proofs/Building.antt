@@ -5,38 +5,13 @@ use Rattle.std.proofs.lemmas.Bool.Decides.{leb_tells}
 use Rattle.std.proofs.lemmas.List.{take-append-le}
 use Rattle.std.proofs.Math.ListN.{get_or-append}
 use Rattle.std.proofs.Math.Seq.{take-suc, get_or-append_seam}
-use Rattle.art_bytes.specs.Keys.{IsBefore, IsProperFront, Conflict}
-use Rattle.art_bytes.proofs.Order.{before_at, before_trans, before_not_self, conflict_not_before, conflict_turned}
-use Rattle.art_nodes.specs.InnerNode.{IsAscending}
-use Rattle.art_nodes.specs.Name.{Name}
+use Rattle.art_bytes.proofs.Common.{IsBefore, IsProperFront, Conflict, before_at, before_trans, before_not_self, conflict_not_before, conflict_turned}
+use Rattle.art_nodes.proofs.Common.{IsAscending, Name}
 use Rattle.art_nodes.specs.declared.leaf.LeafNode.{LeafNode}
-use Rattle.art_arena.specs.arena.Arena.{Arena, leaf_held, cell_of, links_of, held_at, node_at, links_at, Allocates, SameCells}
-use Rattle.art_arena.specs.arena.Rooms.{SameLeaves}
-use Rattle.art_arena.specs.arena.Cells.{Cell, leaf_name, copies, Holds}
-use Rattle.art_arena.specs.arena.Context.{AreBelow}
-use Rattle.art_arena.specs.arena.Linked.{AreLinked, times, IsBeside}
-use Rattle.art_arena.specs.arena.Shapes.{Shape, Branches, LeafAt, no_branch, branch, name_of, children_at, join, leaves, leaves_in, cells, cells_in, pairs_of, key_of, IsUnder, AreUnder}
-use Rattle.art_arena.specs.tree.Order.{AscendsByKey}
-use Rattle.art_arena.proofs.shapes.CellLists.{Holds-add, Holds-same, copies-append, copies-vacant}
-use Rattle.art_arena.proofs.shapes.Contexts.{AreUnder-join}
-use Rattle.art_arena.proofs.shapes.LinkedLists.{times-append, AreLinked-frame, AreLinked-same}
-use Rattle.art_arena.proofs.shapes.Surroundings.{times-leaves_in}
-use Rattle.art_arena.proofs.shapes.Subtrees.{HoldsPair}
-use Rattle.art_arena.proofs.shapes.Updates.{nodes-update, links-update}
-use Rattle.art_arena.proofs.tree.Order.{all_append, all_right, all_weaker, ascending_append}
-use Rattle.art_operations.specs.Builders.{Builds, BuildsTo, BuildsUpTo, GoesBehind}
-use Rattle.art_operations.specs.Meetings.{PartAt}
-use Rattle.art_operations.specs.Pairs.{HasPairs}
-use Rattle.art_operations.specs.declared.build.spine.Open.{Open}
-use Rattle.art_operations.specs.declared.build.spine.Spine.{Spine}
-use Rattle.art_operations.specs.declared.build.TreeBuilder.{TreeBuilder}
+use Rattle.art_arena.proofs.Common.{Arena, leaf_held, cell_of, links_of, held_at, node_at, links_at, Allocates, SameCells, SameLeaves, Cell, leaf_name, copies, Holds, AreBelow, AreLinked, times, IsBeside, Shape, Branches, LeafAt, no_branch, branch, name_of, children_at, join, leaves, leaves_in, cells, cells_in, pairs_of, key_of, IsUnder, AreUnder, AscendsByKey, Holds-add, Holds-same, copies-append, copies-vacant, AreUnder-join, times-append, AreLinked-frame, AreLinked-same, times-leaves_in, HoldsPair, nodes-update, links-update, all_append, all_right, all_weaker, ascending_append}
+use Rattle.art_operations.proofs.Terms.{Builds, BuildsTo, BuildsUpTo, GoesBehind, PartAt, HasPairs, Open, Spine, TreeBuilder, Parted, Meets, lone_leaf, RebuildsUpTo, Level, begin, begin_of, opened, open_children, open_leaves, open_cells, open_at, AddsChild, IsOpen, AreOpen, IsSpine, HasSpine, IsEmptySpine}
 use Rattle.art_operations.specs.declared.meeting.Meeting.{Meeting}
 use Rattle.art_operations.specs.declared.meeting.Meeting.TheVariants as meeting
-use Rattle.art_operations.specs.declared.meeting.Parted.{Parted}
-use Rattle.art_operations.specs.inner.Meetings.{Meets}
-use Rattle.art_operations.specs.inner.Edits.{lone_leaf}
-use Rattle.art_operations.specs.inner.Rebuilding.{RebuildsUpTo}
-use Rattle.art_operations.specs.inner.Spines.{Level, begin, begin_of, opened, open_children, open_leaves, open_cells, open_at, AddsChild, IsOpen, AreOpen, IsSpine, HasSpine, IsEmptySpine}
 use Rattle.art_operations.proofs.InnerRooms.{no-room}
 use Rattle.art_operations.proofs.HeldPairs.{first-leaf}
 use Rattle.art_operations.proofs.KeyedLists.{before}

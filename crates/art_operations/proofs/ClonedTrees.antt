@@ -1,20 +1,9 @@
 -- A clone of an arena holds a clone of its tree.
 use Rattle.std.proofs.Common.{◌≡◌, ℕ, ◌+◌, cond, List, [], ◌∷◌, ◌++◌, length, take, Option, Some, None, is_some, refl, sym, ap, ap₂, subst, ◌∙◌, arith}
-use Rattle.art_bytes.specs.Keys.{BeginsWith}
-use Rattle.art_nodes.specs.Name.{Name}
-use Rattle.art_nodes.specs.InnerNode.{InnerNode}
-use Rattle.art_arena.specs.tree.Kinds.{IsKindOf}
-use Rattle.art_arena.specs.arena.Arena.{Arena, Held, leaf_held, inner_held, held_at, cell_of, links_of, node_at, links_at}
-use Rattle.art_arena.specs.arena.ArenaClones.{IsHeldClone, IsArenaClone}
-use Rattle.art_arena.specs.arena.Cells.{Cell, leaf_name, copies, AreHeld}
-use Rattle.art_arena.specs.arena.Linked.{Links, AreLinked, first_slot}
-use Rattle.art_arena.specs.arena.Shapes.{Shape, Branches, leaf_at, inner_at, no_branch, branch, LeafAt, name_of, width, children_at, node_of, leaves, leaves_in, cells, cells_in, IsUnder, AreUnder}
-use Rattle.art_arena.specs.arena.Stores.{StoresOnly}
-use Rattle.art_arena.proofs.tree.Order.{all_append, all_left, all_right}
-use Rattle.art_arena.proofs.shapes.CellLists.{copies-append}
-use Rattle.art_arena.proofs.shapes.Subtrees.{inner_of, holds_pair, HoldsPair}
+use Rattle.art_bytes.proofs.Common.{BeginsWith}
+use Rattle.art_nodes.proofs.Common.{Name, InnerNode}
+use Rattle.art_arena.proofs.Common.{IsKindOf, Arena, Held, leaf_held, inner_held, held_at, cell_of, links_of, node_at, links_at, IsHeldClone, IsArenaClone, Cell, leaf_name, copies, AreHeld, Links, AreLinked, first_slot, Shape, Branches, leaf_at, inner_at, no_branch, branch, LeafAt, name_of, width, children_at, node_of, leaves, leaves_in, cells, cells_in, IsUnder, AreUnder, StoresOnly, all_append, all_left, all_right, copies-append, inner_of, holds_pair, HoldsPair, slot_list}
 use Rattle.art_operations.specs.Clones.{IsShapeClone, AreBranchClones}
-use Rattle.art_arena.proofs.shapes.LinkedLists.{slot_list}
 use Rattle.std.proofs.lemmas.List.{map-append}
 
 module _ {K V : Type 0} where
@@ -41,9 +30,6 @@ module _ {K V : Type 0} (KeyClone : K → K → Type 0) (ValueClone : V → V �
   links-held None c h = ap links_of h
   links-held (Some (leaf_held leaf)) c h = ap links_of h.1 ∙ ap₂ (λ p n. Some (record { previous = p; next = n })) h.2.previous h.2.next
   links-held (Some (inner_held node)) c h = ap links_of h
-
-  links-cloned : (slot : ℕ) → links_at copy slot ≡ links_at arena slot
-  links-cloned slot = links-held (held_at arena (leaf_name slot)) (held_at copy (leaf_name slot)) (is_clone (leaf_name slot))
 
   some-held : (o c : Option (Held K V)) → IsHeldClone KeyClone ValueClone o c → ◌≡◌ {A = ℕ} (cond (is_some (cell_of c)) 1 0) (cond (is_some (cell_of o)) 1 0)
   some-held None c h = ap (λ x. cond (is_some (cell_of x)) 1 0) h
@@ -136,7 +122,7 @@ module _ {K V : Type 0} (KeyClone : K → K → Type 0) (ValueClone : V → V �
             holds = record { held = c.held; once = λ n. c.names n ∙ tree.nodes.holds.once n ∙ sym (some-held (held_at arena n) (held_at copy n) (is_clone n)) };
             under = c.under [] tree.nodes.under;
           };
-          linked = linked-same (links_at arena) (links_at copy) links-cloned None (leaves s) (leaves c.twin) None c.slots tree.linked;
+          linked = linked-same (links_at arena) (links_at copy) (λ slot. links-held (held_at arena (leaf_name slot)) (held_at copy (leaf_name slot)) (is_clone (leaf_name slot))) None (leaves s) (leaves c.twin) None c.slots tree.linked;
         };
         clone = c.clone;
       }

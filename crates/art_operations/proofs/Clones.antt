@@ -1,21 +1,12 @@
 -- Commands on pairs and on clones of them are answered alike, and leave clones.
-use Rattle.std.proofs.Common.{◌≡◌, ℕ, suc, not, Bool, true, false, cond, List, [], ◌∷◌, length, map, filter, bytes_eq, Option, refl, sym, ap, ap₂, subst, ◌∙◌}
+use Rattle.std.proofs.Common.{◌≡◌, ℕ, not, Bool, true, false, cond, List, [], ◌∷◌, length, map, filter, bytes_eq, Option, refl, sym, ap₂, subst, ◌∙◌}
 use Rattle.std.specs.List.{AllZip}
-use Rattle.art_nodes.specs.Name.{Name}
-use Rattle.art_arena.specs.arena.Arena.{Arena}
-use Rattle.art_arena.specs.tree.Changes.{IsIn, is_before, put_in_order}
-use Rattle.art_arena.specs.arena.Shapes.{key_of}
-use Rattle.art_arena.specs.tree.Shrinks.{Shrinks}
-use Rattle.art_arena.proofs.tree.Paths.{in_map, in_unmap}
-use Rattle.art_operations.specs.Commands.{IsAnswered, after}
-use Rattle.art_operations.specs.KeyedLists.{without_key, overlaps, without_overlapping, HasKey, IsBlocked}
-use Rattle.art_operations.specs.Pairs.{HasPairs}
-use Rattle.art_operations.specs.Runs.{AreClones}
-use Rattle.art_operations.specs.inner.Runs.{HasClones, IsCarriedOut, IsDone}
-use Rattle.art_operations.specs.declared.running.Answer.{Answer}
-use Rattle.art_operations.specs.declared.running.Answer.TheVariants.{Done, Prefix, Memory}
+use Rattle.std.proofs.lemmas.List.Elements.{length_all_zip}
+use Rattle.art_nodes.proofs.Common.{Name}
+use Rattle.art_arena.proofs.Common.{Arena, IsIn, is_before, put_in_order, key_of, Shrinks, in_map, in_unmap}
+use Rattle.art_operations.proofs.Terms.{IsAnswered, after, without_key, overlaps, without_overlapping, HasKey, IsBlocked, HasPairs, AreClones, HasClones, IsCarriedOut, IsDone, Answer, Done, Prefix, Insert, PrefixInsert, Delete}
+use Rattle.art_operations.specs.declared.running.Answer.TheVariants.{Memory}
 use Rattle.art_operations.specs.declared.running.Change.{Change}
-use Rattle.art_operations.specs.declared.running.Command.TheVariants.{Insert, PrefixInsert, Delete}
 use Rattle.art_operations.proofs.LeafPairs.{shrinks-map, shrinks-unmap}
 
 abbrev bytes_of : List ℕ → List ℕ
@@ -55,14 +46,8 @@ module _ {X : Type 0} (R : X → X → Type 0) (key : X → List ℕ) (same : (x
       step true both = (h.0, both)
       step false both = both
 
-  as_many : (xs ys : List X) → AllZip R xs ys → length ys ≡ length xs
-  as_many [] [] h = refl
-  as_many [] (y ∷ ys) h = absurd h
-  as_many (x ∷ xs) [] h = absurd h
-  as_many (x ∷ xs) (y ∷ ys) h = ap suc (as_many xs ys h.1)
-
   many_both : (test : List ℕ → Bool) (xs ys : List X) → AllZip R xs ys → length (filter (λ x. test (key x)) ys) ≡ length (filter (λ x. test (key x)) xs)
-  many_both test xs ys h = as_many (filter (λ x. test (key x)) xs) (filter (λ x. test (key x)) ys) (filter_both test xs ys h)
+  many_both test xs ys h = sym (length_all_zip R (filter (λ x. test (key x)) xs) (filter (λ x. test (key x)) ys) (filter_both test xs ys h))
 
   put_both : (x y : X) → R x y → (xs ys : List X) → AllZip R xs ys → AllZip R (put_in_order key x xs) (put_in_order key y ys)
   put_both x y r [] [] h = (r, tt)

@@ -1,18 +1,9 @@
 -- The last open node of a tree that is built is made: what the code reads of it, and what is then left.
 use Rattle.std.proofs.Common.{◌≡◌, ℕ, ◌+◌, ◌-◌, ◌<◌, ◌≤◌, max, List, [], ◌∷◌, ◌++◌, length, take, drop, slice_index, refl, sym, ap, ap₂, subst, ◌∙◌, arith, append_assoc, length-append, zero-le}
-use Rattle.art_nodes.specs.InnerNode.{IsAscending}
-use Rattle.art_nodes.specs.Name.{Name}
-use Rattle.art_arena.specs.arena.Arena.{Arena, node_at, inner_held, Allocates}
-use Rattle.art_arena.specs.arena.Rooms.{SameLeaves}
-use Rattle.art_arena.specs.arena.Cells.{Cell, Holds}
-use Rattle.art_arena.specs.arena.Context.{AreBelow}
-use Rattle.art_arena.specs.arena.Shapes.{LeafAt, children_at, leaves, cells, IsUnder}
-use Rattle.art_arena.specs.tree.Kinds.{IsKindOf}
-use Rattle.art_arena.proofs.shapes.Contexts.{length-children}
+use Rattle.art_nodes.proofs.Common.{IsAscending, Name}
+use Rattle.art_arena.proofs.Common.{Arena, node_at, inner_held, Allocates, SameLeaves, Cell, Holds, AreBelow, LeafAt, children_at, leaves, cells, IsUnder, IsKindOf, length-children}
 use Rattle.std.proofs.Math.Seq.{drop-append_seam, take-append_seam}
-use Rattle.art_operations.specs.declared.build.spine.Open.{Open}
-use Rattle.art_operations.specs.declared.build.spine.Spine.{Spine}
-use Rattle.art_operations.specs.inner.Spines.{Level, begin, begin_of, open_children, open_leaves, open_cells, inner_over, AreOpen, HasSpine}
+use Rattle.art_operations.proofs.Terms.{Open, Spine, Level, begin, begin_of, open_children, open_leaves, open_cells, inner_over, AreOpen, HasSpine}
 use Rattle.art_operations.proofs.Spines.{IsTop, top-level, begin-behind, begin-opened, begin-least, ascending-behind, made, made-under, made-holds, made-leaves}
 
 module _ {K V : Type 0} (bytes : K → List ℕ) (P : ℕ) (arena : Arena K V) (spine : Spine) (rest : List (Name × Cell K V)) (last low : ℕ) (root : Name) (key : List ℕ) (ls : List (LeafAt K V)) (has : HasSpine bytes P arena spine rest last low root key ls)

@@ -1,14 +1,10 @@
 -- A list of commands with one more: what it answers, and the pairs that it leaves.
 use Rattle.std.proofs.Common.{◌≡◌, ℕ, List, [], ◌∷◌, ◌++◌, length, Option, refl, sym, ap, subst, ◌∙◌, arith}
-use Rattle.art_nodes.specs.Name.{Name}
-use Rattle.art_arena.specs.arena.Arena.{Arena}
-use Rattle.art_operations.specs.Commands.{IsAnswered, AreAnswered, after, pairs_after, with_clone, clones_in}
-use Rattle.art_operations.specs.Runs.{IsCloned}
-use Rattle.art_operations.specs.inner.Runs.{HasClones}
-use Rattle.art_operations.specs.declared.running.Answer.{Answer}
+use Rattle.art_nodes.proofs.Common.{Name}
+use Rattle.art_arena.proofs.Common.{Arena}
+use Rattle.art_operations.proofs.Terms.{IsAnswered, AreAnswered, after, pairs_after, with_clone, clones_in, IsCloned, HasClones, Answer, Insert, PrefixInsert, Delete, Clone}
 use Rattle.art_operations.specs.declared.running.Change.{Change}
 use Rattle.art_operations.specs.declared.running.Command.{Command}
-use Rattle.art_operations.specs.declared.running.Command.TheVariants.{Insert, PrefixInsert, Delete, Clone}
 
 module _ {K V : Type 0} (bytes : K → List ℕ) where
   -- the pairs after one command more

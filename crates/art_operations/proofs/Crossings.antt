@@ -2,31 +2,12 @@
 use Rattle.std.proofs.Common.{◌≡◌, ℕ, suc, ◌+◌, ◌≤◌, ◌⊎◌, List, [], ◌∷◌, ◌++◌, length, refl, sym, ap, subst, ◌∙◌, inl, inr, arith, append-nil, length-append}
 use Rattle.std.specs.List.{AllByRecursion}
 use Rattle.std.proofs.lemmas.Bool.Decides.{leb_tells}
-use Rattle.art_bytes.specs.Keys.{BeginsWith, common_prefix}
-use Rattle.art_bytes.proofs.Order.{begins_append, common_begins, front_not_after, front_not_before}
-use Rattle.art_arena.specs.tree.Changes.{IsIn}
-use Rattle.art_arena.specs.arena.Context.{Frame, fill, plug, path_to, leaves_before, leaves_after, AreAround}
-use Rattle.art_arena.specs.tree.Fronts.{width_of}
-use Rattle.art_arena.specs.tree.Kinds.{IsLimit}
-use Rattle.art_arena.specs.tree.Shrinks.{IsCrossing}
-use Rattle.art_arena.specs.tree.Trees.{items, count}
-use Rattle.art_arena.specs.arena.Shapes.{Shape, Branches, no_branch, branch, join, LeafAt, leaves, leaves_in, width, erase, erase_in, key_of, IsUnder, AreUnder}
-use Rattle.art_arena.proofs.shapes.Contexts.{leaves-plug, width-join}
-use Rattle.art_arena.proofs.shapes.Erased.{items-erase, count-erase, canonical-erase}
-use Rattle.art_arena.proofs.shapes.Places.{leaves_in-begin}
-use Rattle.art_arena.proofs.shapes.Subtrees.{some_leaf}
-use Rattle.art_arena.proofs.shapes.Surroundings.{ctx-after, ctx-before}
-use Rattle.art_arena.proofs.tree.Fronts.{Widths, WidthsIn, begins_trans, common_left, widths}
+use Rattle.art_bytes.proofs.Common.{BeginsWith, common_prefix, begins_append, common_begins, front_not_after, front_not_before}
+use Rattle.art_arena.proofs.Common.{IsIn, Frame, fill, plug, path_to, leaves_before, leaves_after, AreAround, width_of, IsLimit, IsCrossing, items, count, Shape, Branches, no_branch, branch, join, LeafAt, leaves, leaves_in, width, erase, erase_in, key_of, IsUnder, AreUnder, leaves-plug, width-join, items-erase, count-erase, canonical-erase, leaves_in-begin, some_leaf, ctx-after, ctx-before, Widths, WidthsIn, begins_trans, common_left, widths, all_at, in_left, in_right, all_append, all_weaker, in_cases, common_right}
 use Rattle.art_arena.proofs.tree.FrontShrinks.{front_le}
-use Rattle.art_arena.proofs.tree.Insert.{all_at, in_left, in_right}
 use Rattle.art_arena.proofs.tree.Limits.{limits_are_kinds}
-use Rattle.art_arena.proofs.tree.Order.{all_append, all_weaker}
-use Rattle.art_arena.proofs.tree.Paths.{in_cases}
 use Rattle.art_arena.proofs.tree.Shrinks.{same_front}
-use Rattle.art_arena.proofs.tree.Tenants.{common_right}
-use Rattle.art_operations.specs.Subtrees.{leaves_with, leaves_without, IsSubtreePoint, ShrinksWithout}
-use Rattle.art_operations.specs.declared.delete.subtree.SubtreeDeletePoint.{SubtreeDeletePoint}
-use Rattle.art_operations.specs.inner.Removals.{LosesKind}
+use Rattle.art_operations.proofs.Terms.{leaves_with, leaves_without, IsSubtreePoint, ShrinksWithout, SubtreeDeletePoint, LosesKind}
 use Rattle.art_operations.proofs.LeafPairs.{leaf_pair, width_of-map}
 use Rattle.art_operations.proofs.Prefixed.{with-begin, without-begin}
 

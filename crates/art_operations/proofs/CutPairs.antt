@@ -2,15 +2,9 @@
 use Rattle.std.proofs.Common.{◌≡◌, ℕ, List, [], ◌∷◌, length, map, refl, sym, ap, ◌∙◌, inl, inr}
 use Rattle.std.proofs.lemmas.Bool.{cases_Bool}
 use Rattle.std.proofs.lemmas.List.{length-map}
-use Rattle.art_nodes.specs.Name.{Name}
-use Rattle.art_arena.specs.arena.Arena.{Arena}
-use Rattle.art_arena.specs.arena.Cells.{Cell}
-use Rattle.art_arena.specs.arena.Shapes.{Shape, leaves, pairs_of, key_of}
-use Rattle.art_arena.specs.tree.Tenants.{begins_with, with_front, without_front}
-use Rattle.art_operations.specs.NodeCounts.{nodes_counted}
-use Rattle.art_operations.specs.Pairs.{HasCut}
-use Rattle.art_operations.specs.Subtrees.{leaves_with, leaves_without, IsCutBeside}
-use Rattle.art_operations.specs.declared.delete.subtree.SubtreeDeleteResult.{SubtreeDeleteResult}
+use Rattle.art_nodes.proofs.Common.{Name}
+use Rattle.art_arena.proofs.Common.{Arena, Cell, Shape, leaves, pairs_of, key_of, begins_with, with_front, without_front}
+use Rattle.art_operations.proofs.Terms.{nodes_counted, HasCut, leaves_with, leaves_without, IsCutBeside, SubtreeDeleteResult}
 use Rattle.art_operations.proofs.HeldPairs.{leaves-pairs}
 use Rattle.art_operations.proofs.LeafPairs.{leaf_pair}
 

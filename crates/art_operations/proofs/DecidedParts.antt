@@ -4,21 +4,10 @@ use Rattle.std.proofs.Math.Decide.{ℕ_discrete, map_dec}
 use Rattle.std.specs.List.{AllByRecursion}
 use mathlib.Core.Logic.{∥∥₁_elim, ∥∥₁_prop}
 use mathlib.Core.Logic.Dec.{and}
-use Rattle.art_bytes.specs.Keys.{BeginsWith}
-use Rattle.art_nodes.specs.Name.{Name}
-use Rattle.art_arena.specs.arena.Arena.{Arena, node_at, links_at}
-use Rattle.art_arena.specs.arena.Cells.{Cell}
-use Rattle.art_arena.specs.arena.Context.{path_to}
-use Rattle.art_arena.specs.arena.Linked.{first_slot, last_slot}
-use Rattle.art_arena.specs.arena.Meaning.{IsTreeBeside}
-use Rattle.art_arena.specs.arena.Shapes.{Shape, LeafAt, name_of, leaves, IsUnder}
-use Rattle.art_arena.specs.arena.Steps.{Step, steps_of, steps_to}
-use Rattle.art_arena.proofs.shapes.Meanings.{nodes-subtree}
-use Rattle.art_arena.proofs.shapes.Places.{at-root}
-use Rattle.art_arena.proofs.tree.Parts.{own_all}
-use Rattle.art_operations.specs.Pairs.{IsSubtreeFor}
-use Rattle.art_operations.specs.Subtrees.{IsSubtreePoint}
-use Rattle.art_operations.specs.declared.delete.subtree.SubtreeDeletePoint.{SubtreeDeletePoint}
+use Rattle.art_bytes.proofs.Common.{BeginsWith}
+use Rattle.art_nodes.proofs.Common.{Name}
+use Rattle.art_arena.proofs.Common.{Arena, node_at, links_at, Cell, path_to, first_slot, last_slot, IsTreeBeside, Shape, LeafAt, name_of, leaves, IsUnder, Step, steps_of, steps_to, nodes-subtree, at-root, own_all}
+use Rattle.art_operations.proofs.Terms.{IsSubtreeFor, IsSubtreePoint, SubtreeDeletePoint}
 use Rattle.art_operations.proofs.DecidedPoints.{decided, lists, names, steps, begins, LiesBelow, below, at-here, outward, inward}
 use Rattle.art_operations.proofs.Prefixed.{block_is, others_are, with-begin}
 

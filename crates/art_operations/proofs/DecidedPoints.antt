@@ -4,23 +4,12 @@ use Rattle.std.proofs.Math.Decide.{ℕ_discrete, map_dec}
 use mathlib.Core.HLevel.{⊥_prop}
 use mathlib.Core.Logic.{∥∥₁_elim}
 use mathlib.Core.Logic.Dec.{and, not}
-use Rattle.art_bytes.specs.Keys.{BeginsWith}
-use Rattle.art_bytes.proofs.Order.{begins_append}
-use Rattle.art_nodes.specs.InnerNode.{child_at}
-use Rattle.art_nodes.specs.Name.{Name}
-use Rattle.art_arena.specs.arena.Context.{Frame, fill, plug, path_to}
-use Rattle.art_arena.specs.arena.Places.{IsPlace}
-use Rattle.art_arena.specs.arena.Shapes.{Shape, Branches, leaf_at, inner_at, no_branch, branch, join, name_of, children_at, IsUnder}
-use Rattle.art_arena.specs.arena.Steps.{Step, steps_of, steps_to}
-use Rattle.art_arena.proofs.shapes.CellLists.{same_name_tells}
+use Rattle.art_bytes.proofs.Common.{BeginsWith, begins_append}
+use Rattle.art_nodes.proofs.Common.{child_at, Name}
+use Rattle.art_arena.proofs.Common.{Frame, fill, plug, path_to, IsPlace, Shape, Branches, leaf_at, inner_at, no_branch, branch, join, name_of, children_at, IsUnder, Step, steps_of, steps_to, same_name_tells, at-root}
 use Rattle.art_arena.proofs.shapes.EndWalks.{place_below}
-use Rattle.art_arena.proofs.shapes.Places.{at-root}
-use Rattle.art_operations.specs.Meetings.{PartAt}
-use Rattle.art_operations.specs.Points.{IsPoint, MeetsAt}
-use Rattle.art_operations.specs.declared.insert.point.InsertKind.{InsertKind}
+use Rattle.art_operations.proofs.Terms.{PartAt, IsPoint, MeetsAt, InsertKind, InsertPoint, Parted}
 use Rattle.art_operations.specs.declared.insert.point.InsertKind.TheVariants as kind
-use Rattle.art_operations.specs.declared.insert.point.InsertPoint.{InsertPoint}
-use Rattle.art_operations.specs.declared.meeting.Parted.{Parted}
 
 -- a decided fact that has a proof
 pub decided : {A : Type 0} → Dec A → ∥ A ∥₁ → A
@@ -112,45 +101,41 @@ parted (x ∷ old) (y ∷ new) (suc m) a b = map_dec longer shorter (and (ℕ_di
 parts : (old new : List ℕ) (p : Parted) → Dec (PartAt old new p)
 parts old new p = parted old new p.matched p.old_byte p.new_byte
 
+-- what is so of an inner node with this name, or of a leaf
+module _ {K V : Type 0} where
+  of-inner : (n name : Name) (prefix : List ℕ) (kids : Branches K V) (IsSo : List ℕ → Branches K V → Type 0) → Dec (IsSo prefix kids) → Dec ((p : List ℕ) × (f : Branches K V) × (inner_at n prefix kids ≡ inner_at name p f) × IsSo p f)
+  of-inner n name prefix kids IsSo d = map_dec (λ h. (prefix, kids, ap (λ m. inner_at m prefix kids) h.0, h.1)) back (and (names n name) d)
+    where
+      back : (p : List ℕ) × (f : Branches K V) × (inner_at n prefix kids ≡ inner_at name p f) × IsSo p f → (n ≡ name) × IsSo prefix kids
+      back (p, f, e, h) =
+          let named : n ≡ name = cc in
+          let same : prefix ≡ p = cc in
+          let all : kids ≡ f = cc in
+          (named, subst (λ q. IsSo q kids) (sym same) (subst (IsSo p) (sym all) h))
+
+  of-leaf : (n slot : ℕ) (k : K) (v : V) (IsSo : K → Type 0) → Dec (IsSo k) → Dec ((j : K) × (u : V) × (leaf_at n k v ≡ leaf_at slot j u) × IsSo j)
+  of-leaf n slot k v IsSo d = map_dec (λ h. (k, v, ap (λ m. leaf_at m k v) h.0, h.1)) back (and (ℕ_discrete n slot) d)
+    where
+      back : (j : K) × (u : V) × (leaf_at n k v ≡ leaf_at slot j u) × IsSo j → (n ≡ slot) × IsSo k
+      back (j, u, e, h) =
+          let named : n ≡ slot = cc in
+          let same : k ≡ j = cc in
+          (named, subst IsSo (sym same) h)
+
 module _ {K V : Type 0} (bytes : K → List ℕ) (key : List ℕ) where
   -- what the key meets in a part
   meets : (path : List ℕ) (s : Shape K V) (k : InsertKind) → Dec (MeetsAt bytes key path s k)
   meets path (leaf_at n k v) (kind.MismatchPrefix name p) = no (λ h. let e = h.2 in absurd (cc))
-  meets path (inner_at n prefix kids) (kind.MismatchPrefix name p) =
-      map_dec (λ h. (prefix, kids, ap (λ m. inner_at m prefix kids) h.0, h.1)) back (and (names n name) (parts prefix (drop (length path) key) p))
-    where
-      back : MeetsAt bytes key path (inner_at n prefix kids) (kind.MismatchPrefix name p) → (n ≡ name) × PartAt prefix (drop (length path) key) p
-      back (other, some, e, h) =
-          let same : prefix ≡ other = cc in
-          let named : n ≡ name = cc in
-          (named, subst (λ x. PartAt x (drop (length path) key) p) (sym same) h)
+  meets path (inner_at n prefix kids) (kind.MismatchPrefix name p) = of-inner n name prefix kids (λ q f. PartAt q (drop (length path) key) p) (parts prefix (drop (length path) key) p)
   meets path (leaf_at n k v) (kind.SplitLeaf slot p) =
-      map_dec (λ h. (k, v, ap (λ m. leaf_at m k v) h.0, h.1)) back (and (ℕ_discrete n slot) (parts (drop (length path) (bytes k)) (drop (length path) key) p))
-    where
-      back : MeetsAt bytes key path (leaf_at n k v) (kind.SplitLeaf slot p) → (n ≡ slot) × PartAt (drop (length path) (bytes k)) (drop (length path) key) p
-      back (j, u, e, h) =
-          let same : k ≡ j = cc in
-          let named : n ≡ slot = cc in
-          (named, subst (λ x. PartAt (drop (length path) (bytes x)) (drop (length path) key) p) (sym same) h)
+      of-leaf n slot k v (λ j. PartAt (drop (length path) (bytes j)) (drop (length path) key) p) (parts (drop (length path) (bytes k)) (drop (length path) key) p)
   meets path (inner_at n prefix kids) (kind.SplitLeaf slot p) = no (λ h. let e = h.2 in absurd (cc))
   meets path (leaf_at n k v) (kind.IntoExisting name byte) = no (λ h. let e = h.2 in absurd (cc))
   meets path (inner_at n prefix kids) (kind.IntoExisting name byte) =
-      map_dec (λ h. (prefix, kids, ap (λ m. inner_at m prefix kids) h.0, h.1.0, h.1.1)) back
-      (and (names n name) (and (none (child_at (children_at kids) byte)) (begins ((path ++ prefix) ++ byte ∷ []) key)))
-    where
-      back : MeetsAt bytes key path (inner_at n prefix kids) (kind.IntoExisting name byte) → (n ≡ name) × ((child_at (children_at kids) byte ≡ None) × BeginsWith ((path ++ prefix) ++ byte ∷ []) key)
-      back (other, some, e, missing, on) =
-          let named : n ≡ name = cc in
-          let same : prefix ≡ other = cc in
-          let all : kids ≡ some = cc in
-          (named, (ap (λ x. child_at (children_at x) byte) all ∙ missing, subst (λ x. BeginsWith ((path ++ x) ++ byte ∷ []) key) (sym same) on))
-  meets path (leaf_at n k v) (kind.Exact slot) = map_dec (λ h. (k, v, ap (λ m. leaf_at m k v) h.0, h.1)) back (and (ℕ_discrete n slot) (lists ℕ_discrete (bytes k) key))
-    where
-      back : MeetsAt bytes key path (leaf_at n k v) (kind.Exact slot) → (n ≡ slot) × (bytes k ≡ key)
-      back (j, u, e, h) =
-          let same : k ≡ j = cc in
-          let named : n ≡ slot = cc in
-          (named, ap bytes same ∙ h)
+      map_dec (λ h. (h.0, h.1, h.2, h.3.0, h.3.1)) (λ h. (h.0, h.1, h.2, (h.3, h.4)))
+      (of-inner n name prefix kids (λ q f. (child_at (children_at f) byte ≡ None) × BeginsWith ((path ++ q) ++ byte ∷ []) key)
+      (and (none (child_at (children_at kids) byte)) (begins ((path ++ prefix) ++ byte ∷ []) key)))
+  meets path (leaf_at n k v) (kind.Exact slot) = of-leaf n slot k v (λ j. bytes j ≡ key) (lists ℕ_discrete (bytes k) key)
   meets path (inner_at n prefix kids) (kind.Exact slot) = no (λ h. let e = h.2 in absurd (cc))
 
 -- a place to which the key leads

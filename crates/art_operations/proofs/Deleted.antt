@@ -1,28 +1,9 @@
 -- A part that stands apart leaves the list, and then the arena.
 use Rattle.std.proofs.Common.{◌≡◌, ℕ, cond, List, [], ◌∷◌, ◌++◌, Option, Some, None, refl, sym, ap, ap₂, subst, ◌∙◌, arith}
-use Rattle.art_nodes.specs.Name.{Name}
+use Rattle.art_nodes.proofs.Common.{Name}
 use Rattle.art_nodes.specs.declared.leaf.LeafNode.{LeafNode}
-use Rattle.art_arena.specs.arena.Arena.{Arena, leaf_held, cell_of, links_of, held_at, node_at, links_at, KeepsNodes, SameCells}
-use Rattle.art_arena.specs.arena.Cells.{Cell, pair, leaf_name, copies, AreHeld, Holds, UpdatesAt}
-use Rattle.art_arena.specs.arena.Context.{Frame, leaves_before, leaves_after}
-use Rattle.art_arena.specs.arena.Linked.{AreLinked, times, IsList, KeepsLinksOutside}
-use Rattle.art_arena.specs.arena.Meaning.{IsTreeBeside}
-use Rattle.art_arena.specs.arena.Places.{IsPlace}
-use Rattle.art_arena.specs.arena.Shapes.{Shape, leaf_at, LeafAt, name_of, leaves, cells}
-use Rattle.art_arena.specs.arena.Steps.{Step}
-use Rattle.art_arena.proofs.shapes.Besides.{keeps-beside}
-use Rattle.art_arena.proofs.shapes.CellLists.{Holds-remove, Holds-same, Holds-swap, Holds-turn, holds-only, same_name-self}
-use Rattle.art_arena.proofs.shapes.Contexts.{leaves-plug}
-use Rattle.art_arena.proofs.shapes.LinkedLists.{times-append, AreLinked-kept, AreLinked-same}
-use Rattle.art_arena.proofs.tree.Order.{all_left, all_right}
-use Rattle.art_arena.proofs.shapes.Subtrees.{HoldsPair, holds_pair}
-use Rattle.art_arena.proofs.shapes.Surroundings.{tree-list, times-leaves}
-use Rattle.art_arena.proofs.shapes.Updates.{nodes-update}
-use Rattle.art_operations.specs.Deletions.{HasLeavesBeside, IsDeletedBeside}
-use Rattle.art_operations.specs.DeletePoints.{IsLeafPlace}
-use Rattle.art_operations.specs.Frees.{HoldsBeside, KeepsAllBut}
-use Rattle.art_operations.specs.Subtrees.{IsPartPlace}
-use Rattle.art_operations.specs.inner.Detached.{IsDetached}
+use Rattle.art_arena.proofs.Common.{Arena, leaf_held, cell_of, links_of, held_at, node_at, links_at, KeepsNodes, SameCells, Cell, pair, leaf_name, copies, AreHeld, Holds, UpdatesAt, Frame, leaves_before, leaves_after, AreLinked, times, IsList, KeepsLinksOutside, IsTreeBeside, IsPlace, Shape, leaf_at, LeafAt, name_of, leaves, cells, Step, keeps-beside, Holds-remove, Holds-same, Holds-swap, Holds-turn, holds-only, same_name-self, leaves-plug, times-append, AreLinked-kept, AreLinked-same, all_left, all_right, HoldsPair, holds_pair, tree-list, times-leaves, nodes-update}
+use Rattle.art_operations.proofs.Terms.{HasLeavesBeside, IsDeletedBeside, IsLeafPlace, HoldsBeside, KeepsAllBut, IsPartPlace, IsDetached}
 
 module _ {K V : Type 0} (bytes : K → List ℕ) (P : ℕ) (mid : Arena K V) (rest : List (Name × Cell K V)) (ctx : List (Frame K V)) (part : Shape K V) where
   -- the cells beside those of the part

@@ -1,23 +1,9 @@
 -- From what stands for the node above a part to the tree without the part.
 use Rattle.std.proofs.Common.{◌≡◌, ◌≢◌, ℕ, suc, ◌+◌, List, [], ◌∷◌, ◌++◌, Some, None, IsSome, inl, inr, refl, sym, ap, subst, ◌∙◌, append_assoc}
-use Rattle.art_nodes.specs.Name.{Name}
-use Rattle.art_nodes.specs.InnerNode.{InnerNode, child_at, with_child, with_children}
+use Rattle.art_nodes.proofs.Common.{Name, InnerNode, child_at, with_child, with_children}
 use Rattle.art_nodes.specs.declared.kind.NodeType.TheVariants.{Leaf}
-use Rattle.art_arena.specs.arena.Arena.{Arena, inner_held, held_at, node_at, links_at, SameNodes}
-use Rattle.art_arena.specs.arena.Cells.{Cell, Holds}
-use Rattle.art_arena.specs.arena.Context.{Frame, plug, path_to, leaves_before, leaves_after, root_of, cells_before, cells_after, AreAround}
-use Rattle.art_arena.specs.arena.Meaning.{IsNodesBeside}
-use Rattle.art_arena.specs.tree.Kinds.{ChangesKind}
-use Rattle.art_arena.specs.arena.Shapes.{Shape, name_of, leaves, leaves_in, width, cells, IsUnder}
-use Rattle.art_arena.specs.arena.Steps.{Step}
-use Rattle.art_arena.proofs.shapes.CellLists.{same_name_tells, Holds-same, Holds-swap}
-use Rattle.art_arena.proofs.shapes.Contexts.{leaves-plug, cells-plug, name_of-plug, IsUnder-plug}
-use Rattle.art_arena.proofs.shapes.Repoint.{frame_node, frame-there, frame-child, frame-inner, repoint, at_root, HasParent, parent-of, HasGrandparent, grandparent-of, no-grandparent}
-use Rattle.art_arena.proofs.shapes.Subtrees.{inner_of}
-use Rattle.art_arena.proofs.shapes.Updates.{nodes-update, nodes-same, links-kept, links-same}
-use Rattle.art_operations.specs.Subtrees.{IsPartPlace}
-use Rattle.art_operations.specs.inner.Detached.{IsHeldAt, IsChildPart, StandsFor, IsApart, IsDetached}
-use Rattle.art_operations.specs.inner.Removals.{EditsNode, LosesKind}
+use Rattle.art_arena.proofs.Common.{Arena, inner_held, held_at, node_at, links_at, SameNodes, Cell, Holds, Frame, plug, path_to, leaves_before, leaves_after, root_of, cells_before, cells_after, AreAround, IsNodesBeside, ChangesKind, Shape, name_of, leaves, leaves_in, width, cells, IsUnder, Step, same_name_tells, Holds-same, Holds-swap, leaves-plug, cells-plug, name_of-plug, IsUnder-plug, frame_node, frame-there, frame-child, frame-inner, repoint, at_root, HasParent, parent-of, HasGrandparent, grandparent-of, no-grandparent, inner_of, nodes-update, nodes-same, links-kept, links-same}
+use Rattle.art_operations.proofs.Terms.{IsPartPlace, IsHeldAt, IsChildPart, StandsFor, IsApart, IsDetached, EditsNode, LosesKind}
 
 module _ {K V : Type 0} (bytes : K → List ℕ) (P : ℕ) where
   -- a part to which no step leads is the whole tree

@@ -1,16 +1,9 @@
 -- What an arena has after a command, from what it has after a pair was put in or taken out.
 use Rattle.std.proofs.Common.{[], ◌≡◌, ℕ, cond, List, length, Option, Some, None, is_some, refl, sym, ap, subst, ◌∙◌}
-use Rattle.art_nodes.specs.Name.{Name}
+use Rattle.art_nodes.proofs.Common.{Name}
 use Rattle.art_nodes.specs.declared.leaf.LeafNode.{LeafNode}
-use Rattle.art_arena.specs.arena.Arena.{Arena}
-use Rattle.art_arena.specs.arena.Shapes.{key_of}
-use Rattle.art_operations.specs.KeyedLists.{IsBlocked}
-use Rattle.art_operations.specs.Pairs.{HasPairs, HasPut, HasTaken, pair_in}
-use Rattle.art_operations.specs.declared.delete.result.DeleteResult.{DeleteResult}
-use Rattle.art_operations.specs.declared.insert.result.InsertResult.{InsertResult}
-use Rattle.art_operations.specs.declared.running.Answer.TheVariants.{Done}
-use Rattle.art_operations.specs.declared.running.Command.TheVariants.{Insert, Delete}
-use Rattle.art_operations.specs.inner.Runs.{IsDone}
+use Rattle.art_arena.proofs.Common.{Arena, key_of}
+use Rattle.art_operations.proofs.Terms.{IsBlocked, HasPairs, HasPut, HasTaken, pair_in, InsertResult, Done, Insert, Delete, IsDone}
 use Rattle.art_operations.proofs.KeyedLists.{nothing_taken}
 
 module _ {K V : Type 0} (bytes : K → List ℕ) (P : ℕ) (arena : Arena K V) (pairs : List (K × V)) where
@@ -23,8 +16,5 @@ module _ {K V : Type 0} (bytes : K → List ℕ) (P : ℕ) (arena : Arena K V) (
   done-put key value put n has free counted = ((counted ∙ count put.existing_leaf ∙ ap length has.old, free), has.has)
 
   module _ (root : Option Name) (key : K) where
-    pub done-taken : (deleted : DeleteResult K V) → HasTaken bytes P arena root (bytes key) (Some deleted) pairs [] → IsDone bytes P arena pairs (Delete key) (record { root = deleted.new_root; answer = Done 1 })
-    done-taken deleted has = (sym (ap length has.0), has.1)
-
     pub done-none : HasTaken bytes P arena root (bytes key) None pairs [] → IsDone bytes P arena pairs (Delete key) (record { root = root; answer = Done 0 })
     done-none has = (sym (ap length has.0), subst (HasPairs bytes P arena root) (sym (nothing_taken (key_of bytes) (bytes key) pairs has.0)) has.1)

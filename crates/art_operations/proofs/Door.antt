@@ -1,8 +1,8 @@
--- What was read of the inner node under a name is so of the node that stands there.
-use Rattle.std.proofs.Common.{◌≡◌, ℕ, List, Option, Some, ap, subst, ◌∙◌}
-use Rattle.art_nodes.specs.InnerNode.{InnerNode}
-use Rattle.art_nodes.specs.Name.{Name}
-use Rattle.art_arena.specs.arena.Arena.{Held, inner_held}
+-- What was read of a node under a name is so of the node that stands there.
+use Rattle.std.proofs.Common.{◌≡◌, ℕ, List, Option, Some, sym, ap, subst, ◌∙◌}
+use Rattle.art_nodes.proofs.Common.{InnerNode, Name}
+use Rattle.art_nodes.specs.declared.leaf.LeafNode.{LeafNode}
+use Rattle.art_arena.proofs.Common.{Held, inner_held, leaf_held, links_of, Links}
 use Rattle.art_operations.proofs.PutBack.{same_inner}
 
 module _ {K V : Type 0} where
@@ -11,3 +11,9 @@ module _ {K V : Type 0} where
 
   pub so_at : (IsSo : List (ℕ × Name) → Type 0) (held : Option (Held K V)) (node seen : InnerNode) → held ≡ Some (inner_held node) → held ≡ Some (inner_held seen) → (children : List (ℕ × Name)) → children ≡ node.children → IsSo children → IsSo seen.children
   so_at IsSo held node seen read there children e so = subst IsSo (e ∙ ap (λ (m : InnerNode). m.children) (same_inner held node seen read there)) so
+
+  -- the links of a leaf that is held
+  pub links-are : (o : Option (Held K V)) (leaf : LeafNode K V) (links : Links) → o ≡ Some (leaf_held leaf) → links_of o ≡ Some links → ◌≡◌ {A = Links} links (record { previous = leaf.previous; next = leaf.next })
+  links-are o leaf links is e =
+      let f : ◌≡◌ {A = Option Links} (Some links) (Some (record { previous = leaf.previous; next = leaf.next })) = sym e ∙ ap links_of is in
+      cc

@@ -1,17 +1,9 @@
 -- The parent of a place gets another child there.
 use Rattle.std.proofs.Common.{◌≡◌, ◌≢◌, ℕ, List, [], ◌∷◌, ◌++◌, take, Option, None, Some, IsSome, refl, sym, ap, subst, ◌∙◌}
+use Rattle.art_nodes.proofs.Common.{InnerNode, child_at, Name}
 use Rattle.art_nodes.specs.declared.kind.NodeType.TheVariants.{Leaf}
-use Rattle.art_nodes.specs.InnerNode.{InnerNode, child_at}
-use Rattle.art_nodes.specs.Name.{Name}
-use Rattle.art_arena.specs.arena.Arena.{Arena, inner_held, held_at, node_at}
-use Rattle.art_arena.specs.arena.Cells.{Cell, Holds, UpdatesAt}
-use Rattle.art_arena.specs.arena.Context.{Frame, root_of, cells_before}
-use Rattle.art_arena.specs.arena.Shapes.{children_at}
-use Rattle.art_arena.specs.arena.Steps.{Step, steps_to}
-use Rattle.art_arena.proofs.shapes.Repoint.{repointed, child_at-frame, frame_node, frame-there, frame-inner, repoint}
-use Rattle.art_arena.proofs.shapes.Subtrees.{inner_of}
-use Rattle.art_arena.proofs.shapes.Updates.{nodes-update}
-use Rattle.art_operations.specs.inner.Edits.{IsLastOf, StandsAround}
+use Rattle.art_arena.proofs.Common.{Arena, inner_held, held_at, node_at, Cell, Holds, UpdatesAt, Frame, root_of, cells_before, children_at, Step, steps_to, repointed, child_at-frame, frame_node, frame-there, frame-inner, repoint, inner_of, nodes-update}
+use Rattle.art_operations.proofs.Terms.{IsLastOf, StandsAround}
 
 -- the last step that is told is one
 pub last-is : (steps : List Step) (last : Option (Name × ℕ)) (step : Name × ℕ) → last ≡ Some step → IsLastOf steps last → (more : List Step) × (steps ≡ record { node = step.0; byte = step.1 } ∷ more)

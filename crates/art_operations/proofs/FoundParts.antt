@@ -1,23 +1,9 @@
 -- The part of a tree that a search for a prefix finds.
 use Rattle.std.proofs.Common.{◌≡◌, ℕ, List, [], Option, Some, None, IfSome, MatchOption, refl, sym, ap, subst, ◌∙◌, append-nil}
-use Rattle.art_nodes.specs.Name.{Name}
-use Rattle.art_arena.specs.arena.Arena.{Arena, node_at, links_at}
-use Rattle.art_arena.specs.arena.Cells.{Cell}
-use Rattle.art_arena.specs.arena.Context.{path_to}
-use Rattle.art_arena.specs.arena.Meaning.{IsSubtree, IsTreeBeside}
-use Rattle.art_arena.proofs.shapes.Meanings.{nodes-subtree}
-use Rattle.art_arena.specs.arena.Descents.{passing}
-use Rattle.art_arena.specs.arena.Linked.{first_slot, last_slot}
-use Rattle.art_arena.specs.arena.Shapes.{Shape, name_of, leaves}
-use Rattle.art_arena.specs.arena.Steps.{steps_of}
-use Rattle.art_arena.specs.tree.Tenants.{begins_with}
+use Rattle.art_nodes.proofs.Common.{Name}
+use Rattle.art_arena.proofs.Common.{Arena, node_at, links_at, Cell, path_to, IsSubtree, IsTreeBeside, nodes-subtree, passing, first_slot, last_slot, Shape, name_of, leaves, steps_of, begins_with, begins_same}
 use Rattle.art_arena.specs.declared.path.TreePath.{TreePath}
-use Rattle.art_arena.proofs.tree.Parts.{begins_same}
-use Rattle.art_operations.specs.Bounds.{AreEndsWhere}
-use Rattle.art_operations.specs.Points.{IsInTheWay, IsPoint, MeetsAt, NoConflict}
-use Rattle.art_operations.specs.Subtrees.{leaves_with, IsSubtreeAnswer, IsSubtreePoint}
-use Rattle.art_operations.specs.declared.delete.subtree.SubtreeDeletePoint.{SubtreeDeletePoint}
-use Rattle.art_operations.specs.declared.insert.point.InsertPoint.{InsertPoint}
+use Rattle.art_operations.proofs.Terms.{AreEndsWhere, IsInTheWay, IsPoint, MeetsAt, NoConflict, leaves_with, IsSubtreeAnswer, IsSubtreePoint, SubtreeDeletePoint, InsertPoint}
 use Rattle.art_operations.specs.declared.insert.point.InsertKind.TheVariants as kind
 use Rattle.art_operations.specs.inner.LeafParts.{IsLeafPart}
 use Rattle.art_operations.proofs.NotStored.{not-stored}

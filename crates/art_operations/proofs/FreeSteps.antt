@@ -1,19 +1,10 @@
 -- What each step of a free leaves.
 use Rattle.std.proofs.Common.{◌≡◌, ◌≢◌, ℕ, suc, ◌+◌, ◌<◌, Bool, List, [], ◌∷◌, ◌++◌, length, take, Option, Some, None, refl, sym, ap, subst, ◌∙◌, arith, append_assoc, length-append}
+use Rattle.art_nodes.proofs.Common.{InnerNode, first_child, Name}
 use Rattle.art_nodes.specs.declared.kind.NodeType.TheVariants.{Leaf}
-use Rattle.art_nodes.specs.InnerNode.{InnerNode, first_child}
-use Rattle.art_nodes.specs.Name.{Name}
-use Rattle.art_arena.specs.arena.Arena.{Arena, inner_held, held_at, node_at}
-use Rattle.art_arena.specs.arena.Cells.{Cell, branches, Holds}
-use Rattle.art_arena.specs.arena.Context.{Frame, plug, cells_before}
-use Rattle.art_arena.specs.arena.Shapes.{Shape, Branches, leaf_at, inner_at, no_branch, branch, name_of, children_at, cells, cells_in}
-use Rattle.art_arena.specs.arena.Steps.{steps_to}
-use Rattle.art_arena.proofs.shapes.HeldLeaves.{no_inner}
-use Rattle.art_arena.proofs.shapes.Subtrees.{inner_of, branch-first}
-use Rattle.art_operations.specs.Frees.{cells_with}
+use Rattle.art_arena.proofs.Common.{Arena, inner_held, held_at, node_at, Cell, branches, Holds, Frame, plug, cells_before, Shape, Branches, leaf_at, inner_at, no_branch, branch, name_of, children_at, cells, cells_in, steps_to, no_inner, inner_of, branch-first, Holds-turn}
+use Rattle.art_operations.proofs.Terms.{cells_with, step_in, IsChildless, AreFirst, IsBottom, HoldsPart}
 use Rattle.art_operations.specs.declared.deallocate.Bottom.{Bottom}
-use Rattle.art_operations.specs.inner.Freeing.{step_in, IsChildless, AreFirst, IsBottom, HoldsPart}
-use Rattle.art_arena.proofs.shapes.CellLists.{Holds-turn}
 use Rattle.art_operations.proofs.Freeing.{after_with, with-plug}
 use Rattle.art_operations.proofs.FreedSizes.{size_of, size-part}
 
@@ -50,9 +41,6 @@ module _ {K V : Type 0} (P : ℕ) (w : Bool) (arena : Arena K V) where
     pub first : AreFirst ctx
     pub holds : HoldsPart P w arena node part (cells_before P ctx (name_of part) ++ (after_with P w ctx ++ rest))
     pub place_is : take 1 (steps_to ctx) ≡ step_in place
-
-  pub first-start : (root : Name) (s : Shape K V) (rest : List (Name × Cell K V)) → HoldsPart P w arena root s rest → OnFirst s rest root None
-  first-start root s rest part = record { ctx = []; part = s; whole = refl; first = tt; holds = part; place_is = refl }
 
   -- a part of a shape, the rest of the shape beside it
   pub part-there : (ctx : List (Frame K V)) (part : Shape K V) (rest : List (Name × Cell K V)) → AreFirst ctx → Holds (node_at arena) (cells_with P w (plug ctx part) ++ rest)

@@ -1,25 +1,17 @@
 -- The nodes of a tree are freed one after the other: what is left meanwhile, and in the end.
-use Rattle.std.proofs.Common.{◌≡◌, ℕ, suc, ◌+◌, ◌-◌, ◌^◌, ◌<◌, ◌≤◌, min, Bool, true, false, List, ◌∷◌, ◌++◌, length, refl, sym, ap, subst, ◌∙◌, arith}
-use Rattle.art_nodes.specs.Name.{Name}
-use Rattle.art_arena.specs.arena.Arena.{Arena, node_at, leaves_held}
-use Rattle.art_arena.specs.arena.Cells.{Cell, copies, Holds}
-use Rattle.art_arena.specs.arena.Shapes.{Shape, Branches, leaf_at, inner_at, no_branch, branch, leaves, children_at, node_of, cells, cells_in}
-use Rattle.art_arena.proofs.shapes.HeldLeaves.{leaves_beside, leaves_counted}
-use Rattle.art_operations.specs.Frees.{cells_with, cells_with_in, KeepsAllBut, HoldsBeside, HoldsInnerBeside}
-use Rattle.art_operations.specs.inner.Freeing.{HoldsPart, HoldsOneLess}
+use Rattle.std.proofs.Common.{◌≡◌, ℕ, suc, ◌+◌, ◌-◌, ◌^◌, ◌<◌, ◌≤◌, min, Bool, true, List, ◌∷◌, ◌++◌, length, refl, sym, ap, subst, ◌∙◌, arith}
+use Rattle.art_nodes.proofs.Common.{Name}
+use Rattle.art_arena.proofs.Common.{Arena, node_at, leaves_held, Cell, copies, Holds, Shape, Branches, leaf_at, inner_at, no_branch, branch, leaves, children_at, node_of, cells, cells_in, leaves_beside, leaves_counted}
+use Rattle.art_operations.proofs.Terms.{cells_with, cells_with_in, KeepsAllBut, HoldsBeside, HoldsPart, HoldsOneLess}
 use Rattle.art_operations.proofs.FreedSizes.{size_of, size-part}
 
 -- one more is counted
 counts : (count more size was left : ℕ) → was ≡ suc left → was ≤ size → count ≡ min (size - was) (2 ^ 64 - 1) → more ≡ min (count + 1) (2 ^ 64 - 1) → more ≡ min (size - left) (2 ^ 64 - 1)
 counts count more size was left less fewer c m = omega (arith, less, fewer, c, m)
 
--- and the last one
-pub counts_all : (count more size : ℕ) (was : ℕ) → was ≡ 1 → was ≤ size → count ≡ min (size - was) (2 ^ 64 - 1) → more ≡ min (count + 1) (2 ^ 64 - 1) → more ≡ min size (2 ^ 64 - 1)
-counts_all count more size was one fewer c m = omega (arith, one, fewer, c, m)
-
 module _ {K V : Type 0} (P : ℕ) where
   mutual
-    with_all : (s : Shape K V) → cells_with P true s ≡ cells P s
+    pub with_all : (s : Shape K V) → cells_with P true s ≡ cells P s
     with_all (leaf_at slot k v) = refl
     with_all (inner_at n prefix kids) = ap (λ xs. (n, node_of P prefix (children_at kids)) ∷ xs) (with_all_in kids)
 
@@ -30,12 +22,6 @@ module _ {K V : Type 0} (P : ℕ) where
   -- all of a shape is held
   pub all-part : (arena : Arena K V) (n : Name) (s : Shape K V) (rest : List (Name × Cell K V)) → HoldsBeside P arena n s rest → HoldsPart P true arena n s rest
   all-part arena n s rest beside = record { named = beside.named; holds = subst (λ xs. Holds (node_at arena) (xs ++ rest)) (sym (with_all s)) beside.holds }
-
-  pub all-kept : (old new : Arena K V) (s : Shape K V) → KeepsAllBut (cells_with P true s) old new → KeepsAllBut (cells P s) old new
-  all-kept old new s kept k none = kept k (ap (copies k) (with_all s) ∙ none)
-
-  pub inner-part : (arena : Arena K V) (n : Name) (s : Shape K V) (rest : List (Name × Cell K V)) → HoldsInnerBeside P arena n s rest → HoldsPart P false arena n s rest
-  inner-part arena n s rest beside = record { named = beside.named; holds = beside.holds }
 
   -- the leaves that are gone were those of the shape
   pub leaves-gone : (old new : Arena K V) (n : Name) (s : Shape K V) (rest : List (Name × Cell K V)) → HoldsBeside P old n s rest → Holds (node_at new) rest

@@ -1,18 +1,11 @@
 -- One node of a tree is freed: what is left under which name.
-use Rattle.std.proofs.Common.{◌≡◌, ℕ, suc, Bool, List, [], ◌∷◌, ◌++◌, length, Some, None, refl, sym, ap, subst, ◌∙◌, arith, append_assoc, length-append}
+use Rattle.std.proofs.Common.{◌≡◌, ℕ, suc, Bool, List, [], ◌∷◌, ◌++◌, length, Some, refl, sym, ap, subst, ◌∙◌, arith, append_assoc, length-append}
 use Rattle.std.proofs.lemmas.List.{append-nil}
+use Rattle.art_nodes.proofs.Common.{InnerNode, IsAscending, without_child, with_children, Name}
 use Rattle.art_nodes.specs.declared.kind.NodeType.TheVariants.{Leaf}
-use Rattle.art_nodes.specs.InnerNode.{InnerNode, IsAscending, without_child, with_children}
-use Rattle.art_nodes.specs.Name.{Name}
-use Rattle.art_arena.specs.arena.Arena.{Arena, inner_held, held_at, node_at}
-use Rattle.art_arena.specs.arena.Cells.{Cell, copies, UpdatesAt, Holds}
-use Rattle.art_arena.specs.arena.Shapes.{Shape, Branches, leaf_at, inner_at, no_branch, branch, name_of, children_at, join, node_of, cells, cells_in}
-use Rattle.art_arena.proofs.shapes.CellLists.{copies-append, Holds-turn, Holds-write}
-use Rattle.art_arena.proofs.shapes.Contexts.{children_at-join, cells_in-join}
-use Rattle.art_arena.proofs.shapes.Updates.{nodes-update}
-use Rattle.art_operations.specs.Frees.{cells_with, cells_with_in, KeepsAllBut}
-use Rattle.art_operations.specs.inner.Freeing.{IsChildIn, IsChildless, FreesRoot, HoldsPart, HoldsBoth, HoldsOneLess}
-use Rattle.art_operations.proofs.Freeing.{without-among, branch-among, with-join, childless-cells, freed_root, apart-from}
+use Rattle.art_arena.proofs.Common.{Arena, inner_held, held_at, node_at, Cell, copies, UpdatesAt, Holds, Shape, Branches, inner_at, no_branch, branch, name_of, children_at, join, node_of, cells, cells_in, copies-append, Holds-turn, Holds-write, children_at-join, cells_in-join, nodes-update}
+use Rattle.art_operations.proofs.Terms.{cells_with, cells_with_in, KeepsAllBut, IsChildIn, IsChildless, FreesRoot, HoldsPart, HoldsBoth, HoldsOneLess}
+use Rattle.art_operations.proofs.Freeing.{without-among, branch-among, with-join, childless-cells, childless-one, freed_root, apart-from}
 use Rattle.art_operations.proofs.FreeSteps.{part-leaf, node_in, HasInnerPart}
 
 module _ {K V : Type 0} (P : ℕ) (w : Bool) (old : Arena K V) (n : Name) (s : Shape K V) (rest : List (Name × Cell K V)) (part : HoldsPart P w old n s rest) where
@@ -28,14 +21,9 @@ module _ {K V : Type 0} (P : ℕ) (w : Bool) (old : Arena K V) (n : Name) (s : S
   pub inner-childless : (inner : HasInnerPart P w old n s) → children_at inner.kids ≡ [] → IsChildless s
   inner-childless inner none = subst IsChildless (sym inner.is) (no-branch inner.prefix inner.kids none)
 
-  alone : (t : Shape K V) → IsChildless t → length (cells P t) ≡ 1
-  alone (leaf_at slot k v) childless = refl
-  alone (inner_at m prefix no_branch) childless = refl
-  alone (inner_at m prefix (branch b t more)) childless = absurd childless
-
   pub freed-childless : (new : Arena K V) → IsChildless s → FreesRoot w old new s → (length (cells P s) ≡ 1) × Holds (node_at new) rest
   freed-childless new childless frees = (
-    alone s childless,
+    childless-one P w s childless,
     freed_root P w old new s [] rest frees (subst (λ xs. Holds (node_at old) (xs ++ rest)) (childless-cells P w s childless) part.holds),
   )
 
@@ -61,15 +49,12 @@ module _ {K V : Type 0} (P : ℕ) (w : Bool) (old : Arena K V) (n : Name) (s : S
     single-cells : cells_with P w s ≡ (n, node_of P inner.prefix ((last.0, name_of only.child) ∷ [])) ∷ cells_with P w only.child
     single-cells = ap (cells_with P w) only.is ∙ ap (λ xs. (n, node_of P inner.prefix ((last.0, name_of only.child) ∷ [])) ∷ xs) (append-nil (cells_with P w only.child))
 
-    single-frees : UpdatesAt (held_at old) (held_at new) n None
-    single-frees = subst (FreesRoot w old new) only.is frees
-
     pub freed-single : HoldsOneLess P w new last.1 (length (cells P s)) (cells_with P w s) rest
     freed-single = record {
       left = only.child;
       part = record {
         named = only.named;
-        holds = freed_root P w old new (inner_at n inner.prefix (branch last.0 only.child no_branch)) [] (cells_with P w only.child ++ rest) single-frees
+        holds = freed_root P w old new (inner_at n inner.prefix (branch last.0 only.child no_branch)) [] (cells_with P w only.child ++ rest) (subst (FreesRoot w old new) only.is frees)
             (subst (λ xs. Holds (node_at old) (xs ++ rest)) single-cells part.holds);
       };
       less = ap (λ x. length (cells P x)) only.is ∙ ap (λ xs. suc (length xs)) (append-nil (cells P only.child));

@@ -1,20 +1,14 @@
 -- A tree that an arena holds alone may be freed: as a whole, its leaves as a run, and its inner nodes then.
-use Rattle.std.proofs.Common.{◌≡◌, ℕ, ◌+◌, false, List, [], ◌∷◌, ◌++◌, Option, Some, None, refl, sym, ap, subst, ◌∙◌, arith}
-use Rattle.std.proofs.lemmas.List.{append-nil}
-use Rattle.art_nodes.specs.Name.{Name}
-use Rattle.art_arena.specs.arena.Arena.{Arena, node_at}
-use Rattle.art_arena.specs.arena.Cells.{Cell, pair, leaf_name, copies, AreHeld, Holds}
-use Rattle.art_arena.specs.arena.Linked.{first_slot, last_slot}
-use Rattle.art_arena.specs.arena.Shapes.{Shape, Branches, leaf_at, inner_at, no_branch, branch, LeafAt, leaves, leaves_in, cells, cells_in}
-use Rattle.art_arena.specs.arena.Stores.{StoresOnly}
-use Rattle.art_arena.proofs.tree.Order.{all_append, all_left, all_right}
-use Rattle.art_arena.proofs.shapes.CellLists.{copies-append}
-use Rattle.art_operations.specs.Frees.{leaf_cells, cells_with_in, inner_cells, HoldsBeside, HoldsInnerBeside, HoldsRun}
+use Rattle.std.proofs.Common.{◌≡◌, ℕ, ◌+◌, false, List, [], ◌++◌, Option, Some, None, sym, ap, subst, ◌∙◌, arith}
+use Rattle.std.proofs.lemmas.List.{append-nil, map-append}
+use Rattle.art_nodes.proofs.Common.{Name}
+use Rattle.art_arena.proofs.Common.{Arena, node_at, Cell, pair, leaf_name, copies, AreHeld, Holds, first_slot, last_slot, Shape, Branches, leaf_at, inner_at, no_branch, branch, LeafAt, leaves, leaves_in, cells, cells_in, StoresOnly, all_append, all_left, all_right, copies-append}
+use Rattle.art_operations.proofs.Terms.{leaf_cells, cells_with_in, inner_cells, HoldsBeside, HoldsInnerBeside, HoldsRun}
 
 module _ {K V : Type 0} where
-  leaf_cells-append : (xs ys : List (LeafAt K V)) → leaf_cells (xs ++ ys) ≡ leaf_cells xs ++ leaf_cells ys
-  leaf_cells-append [] ys = refl
-  leaf_cells-append (x ∷ xs) ys = ap (λ cs. (leaf_name x.slot, pair x.key x.value) ∷ cs) (leaf_cells-append xs ys)
+  -- the cells of two lists of leaves
+  pub cells-parts : (xs ys : List (LeafAt K V)) → leaf_cells (xs ++ ys) ≡ leaf_cells xs ++ leaf_cells ys
+  cells-parts xs ys = map-append (λ (l : LeafAt K V). (leaf_name l.slot, pair l.key l.value)) xs ys
 
 module _ {K V : Type 0} (P : ℕ) where
   -- the cells of a shape are those of its leaves and those of its inner nodes
@@ -26,21 +20,21 @@ module _ {K V : Type 0} (P : ℕ) where
     parts-copies-in : (n : Name) (f : Branches K V) → copies n (cells_in P f) ≡ copies n (leaf_cells (leaves_in f)) + copies n (cells_with_in P false f)
     parts-copies-in n no_branch = omega arith
     parts-copies-in n (branch byte s rest) =
-        omega (arith, parts-copies n s, parts-copies-in n rest, copies-append n (cells P s) (cells_in P rest), copies-append n (inner_cells P s) (cells_with_in P false rest), copies-append n (leaf_cells (leaves s)) (leaf_cells (leaves_in rest)), ap (copies n) (leaf_cells-append (leaves s) (leaves_in rest)))
+        omega (arith, parts-copies n s, parts-copies-in n rest, copies-append n (cells P s) (cells_in P rest), copies-append n (inner_cells P s) (cells_with_in P false rest), copies-append n (leaf_cells (leaves s)) (leaf_cells (leaves_in rest)), ap (copies n) (cells-parts (leaves s) (leaves_in rest)))
 
   module _ (at : Name → Option (Cell K V)) where
     abbrev IsThere : Name × Cell K V → Type 0
     IsThere c = at c.0 ≡ Some c.1
 
     mutual
-      leaves-held : (s : Shape K V) → AreHeld at (cells P s) → AreHeld at (leaf_cells (leaves s))
+      pub leaves-held : (s : Shape K V) → AreHeld at (cells P s) → AreHeld at (leaf_cells (leaves s))
       leaves-held (leaf_at slot k v) held = held
       leaves-held (inner_at m prefix kids) held = leaves-held-in kids held.1
 
       leaves-held-in : (f : Branches K V) → AreHeld at (cells_in P f) → AreHeld at (leaf_cells (leaves_in f))
       leaves-held-in no_branch held = tt
       leaves-held-in (branch byte s rest) held =
-          subst (AreHeld at) (sym (leaf_cells-append (leaves s) (leaves_in rest)))
+          subst (AreHeld at) (sym (cells-parts (leaves s) (leaves_in rest)))
           (all_append IsThere (leaf_cells (leaves s)) (leaf_cells (leaves_in rest)) (leaves-held s (all_left IsThere (cells P s) (cells_in P rest) held)) (leaves-held-in rest (all_right IsThere (cells P s) (cells_in P rest) held)))
 
     mutual

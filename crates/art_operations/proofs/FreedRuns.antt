@@ -1,20 +1,12 @@
 -- The leaves of a linked run are freed from its first to its last.
-use Rattle.std.proofs.Common.{◌≡◌, ◌≢◌, ℕ, ◌+◌, ◌<◌, ◌≤◌, List, [], ◌∷◌, ◌++◌, length, Option, Some, None, IsSome, nat_eq, if◌then◌else◌, refl, sym, ap, subst, ◌∙◌, arith}
+use Rattle.std.proofs.Common.{◌≡◌, ◌≢◌, ℕ, ◌+◌, ◌<◌, ◌≤◌, List, [], ◌∷◌, ◌++◌, length, Some, None, IsSome, nat_eq, if◌then◌else◌, refl, sym, ap, subst, ◌∙◌, arith}
+use Rattle.art_nodes.proofs.Common.{Name}
 use Rattle.art_nodes.specs.declared.kind.NodeType.TheVariants.{Leaf}
 use Rattle.art_nodes.specs.declared.leaf.LeafNode.{LeafNode}
-use Rattle.art_nodes.specs.Name.{Name}
-use Rattle.art_arena.specs.arena.Arena.{Arena, Held, leaf_held, held_at, node_at, links_at, cell_of, links_of, leaves_held}
-use Rattle.art_arena.specs.arena.Cells.{Cell, pair, leaf_name, copies, UpdatesAt, Holds}
-use Rattle.art_arena.specs.arena.Linked.{Links, AreLinked, first_slot, last_slot, times}
-use Rattle.art_arena.specs.arena.Shapes.{LeafAt}
-use Rattle.art_arena.proofs.shapes.CellLists.{same_name-self, copies-append, copies-vacant, Holds-remove}
-use Rattle.art_arena.proofs.shapes.HeldLeaves.{leaves_counted}
-use Rattle.art_arena.proofs.shapes.LinkedLists.{AreLinked-frame}
-use Rattle.art_arena.proofs.shapes.Measures.{slots_as}
-use Rattle.art_arena.proofs.shapes.Updates.{nodes-update, links-update}
-use Rattle.art_operations.specs.Frees.{leaf_cells, HoldsRun, KeepsAllBut}
+use Rattle.art_arena.proofs.Common.{Arena, leaf_held, held_at, node_at, links_at, cell_of, leaves_held, Cell, pair, leaf_name, copies, UpdatesAt, Holds, Links, AreLinked, first_slot, last_slot, times, LeafAt, same_name-self, copies-append, copies-vacant, Holds-remove, leaves_counted, AreLinked-frame, slots_as, nodes-update, links-update, cell_held}
+use Rattle.art_operations.proofs.Terms.{leaf_cells, HoldsRun, KeepsAllBut}
+use Rattle.art_operations.proofs.Door.{links-are}
 use Rattle.art_operations.proofs.Freeing.{apart-from}
-use Rattle.art_arena.proofs.shapes.Subtrees.{cell_held}
 
 module _ {K V : Type 0} where
   -- these leaves of the run are left
@@ -23,9 +15,6 @@ module _ {K V : Type 0} where
     pub run : HoldsRun now first last left rest
     pub names : (n : Name) → copies n (leaf_cells left) ≤ copies n (leaf_cells ls)
     pub kept : KeepsAllBut (leaf_cells ls) old now
-
-  pub run-start : (old : Arena K V) (ls : List (LeafAt K V)) (first last : ℕ) (rest : List (Name × Cell K V)) → HoldsRun old first last ls rest → IsRunLeft old old ls first last rest
-  run-start old ls first last rest run = record { left = ls; run = run; names = λ n. omega arith; kept = λ n none. refl }
 
   -- a run begins with a leaf that is held
   pub record IsRunOf (now : Arena K V) (first last : ℕ) (ls : List (LeafAt K V)) (rest : List (Name × Cell K V)) : Type 0 where
@@ -59,13 +48,6 @@ module _ {K V : Type 0} where
   pub times-copies : (n : ℕ) (ls : List (LeafAt K V)) → times n ls ≡ copies (leaf_name n) (leaf_cells ls)
   times-copies n [] = refl
   times-copies n (l ∷ ls) = ap (λ k. (if nat_eq n l.slot then 1 else 0) + k) (times-copies n ls)
-
-  -- the links of the leaf that is freed
-  links_are : (o : Option (Held K V)) (leaf : LeafNode K V) (before after : Option ℕ) → o ≡ Some (leaf_held leaf) → links_of o ≡ Some (record { previous = before; next = after }) → leaf.next ≡ after
-  links_are o leaf before after is e =
-      let f : ◌≡◌ {A = Option Links} (Some (record { previous = leaf.previous; next = leaf.next })) (Some (record { previous = before; next = after })) = sym (ap links_of is) ∙ e in
-      let same : ◌≡◌ {A = Links} (record { previous = leaf.previous; next = leaf.next }) (record { previous = before; next = after }) = cc in
-      ap (λ (l : Links). l.next) same
 
   module _ (now new : Arena K V) (first last : ℕ) (ls : List (LeafAt K V)) (rest : List (Name × Cell K V)) (run : HoldsRun now first last ls rest) (leaf : LeafNode K V) (value : held_at now (leaf_name first) ≡ Some (leaf_held leaf)) (updates : UpdatesAt (held_at now) (held_at new) (leaf_name first) None) where
     abbrev of : IsRunOf now first last ls rest
@@ -101,7 +83,7 @@ module _ {K V : Type 0} where
     links_of_first = subst (λ xs. AreLinked (links_at now) run.before xs run.after) of.is run.linked
 
     next_is : leaf.next ≡ first_slot of.more run.after
-    next_is = links_are (held_at now (leaf_name first)) leaf run.before (first_slot of.more run.after) value links_of_first.0
+    next_is = sym (ap (λ (l : Links). l.next) (links-are (held_at now (leaf_name first)) leaf _ value links_of_first.0))
 
     -- where the leaf was the last one nothing of the run is left
     pub run-over : first ≡ last → Holds (node_at new) rest

@@ -1,16 +1,14 @@
 -- How many nodes a shape has, told by the arena alone, whether its leaves are held or not: the measure of a walk, and
 -- of frees.
 use Rattle.std.proofs.Common.{◌≡◌, ℕ, zero, suc, ◌≤◌, Bool, cond, List, length, Option, Some, None, is_some, refl, sym, ap, ◌∙◌, arith, length-append}
-use Rattle.art_nodes.specs.Name.{Name}
-use Rattle.art_arena.specs.arena.Arena.{Arena, node_at, slots_of}
-use Rattle.art_arena.specs.arena.Cells.{Cell, pair, branches, leaf_name, AreHeld}
-use Rattle.art_arena.specs.arena.Shapes.{Shape, Branches, leaf_at, inner_at, no_branch, branch, name_of, children_at, cells, cells_in}
-use Rattle.art_arena.proofs.tree.Order.{all_left, all_right}
-use Rattle.art_arena.proofs.shapes.CellLists.{copies-append}
-use Rattle.art_arena.proofs.shapes.HeldLeaves.{no_inner}
-use Rattle.art_arena.proofs.shapes.Measures.{held_few, total}
-use Rattle.art_operations.specs.Frees.{cells_with, cells_with_in}
-use Rattle.art_operations.specs.inner.Freeing.{HoldsPart}
+use Rattle.art_nodes.proofs.Common.{Name}
+use Rattle.art_arena.proofs.Common.{Arena, node_at, slots_of, Cell, pair, branches, leaf_name, AreHeld, Shape, Branches, leaf_at, inner_at, no_branch, branch, name_of, children_at, cells, cells_in, all_left, all_right, copies-append, no_inner, held_few, total}
+use Rattle.art_operations.proofs.Terms.{cells_with, cells_with_in, HoldsPart}
+
+-- what counts once at most
+pub at_most_one : {C : Type 0} (o : Option C) (n : ℕ) → n ≡ cond (is_some o) 1 0 → n ≤ 1
+at_most_one None n e = omega (arith, e)
+at_most_one (Some c) n e = omega (arith, e)
 
 module _ {K V : Type 0} where
   abbrev size_of_held : (Name → ℕ) → Option (Cell K V) → ℕ
@@ -55,12 +53,8 @@ module _ {K V : Type 0} where
           let later = sizes-held fuel rest (all_right Q (cells_with P w s) (cells_with_in P w rest) held) (omega (arith, low, wide)) in
           omega (arith, here, later, length-append (cells P s) (cells_in P rest))
 
-    at_most_one : (o : Option (Cell K V)) → cond (is_some o) 1 0 ≤ 1
-    at_most_one None = omega arith
-    at_most_one (Some c) = omega arith
-
     pub size-part : (n : Name) (s : Shape K V) (rest : List (Name × Cell K V)) → HoldsPart P w arena n s rest → size_of arena n ≡ length (cells P s)
     size-part n s rest part =
         let held = all_left (λ (c : Name × Cell K V). node_at arena c.0 ≡ Some c.1) (cells_with P w s) rest part.holds.held in
-        let few = held_few arena (cells_with P w s) held (λ m. omega (arith, part.holds.once m, copies-append m (cells_with P w s) rest, at_most_one (node_at arena m))) in
+        let few = held_few arena (cells_with P w s) held (λ m. omega (arith, part.holds.once m, copies-append m (cells_with P w s) rest, at_most_one (node_at arena m) _ refl)) in
         ap (size_of arena) (sym part.named) ∙ size-held (slots_of arena) s held few

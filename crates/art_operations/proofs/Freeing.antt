@@ -2,16 +2,9 @@
 use Rattle.std.proofs.Common.{◌≡◌, ◌≢◌, ℕ, ◌+◌, ◌≤◌, Bool, true, false, cond, List, [], ◌∷◌, ◌++◌, filter, length, Option, Some, None, refl, sym, ap, ◌∙◌, inl, inr, arith, append_assoc}
 use Rattle.std.proofs.lemmas.Bool.Decides.{eqb_tells}
 use Rattle.std.proofs.lemmas.List.{append-nil}
-use Rattle.art_nodes.specs.InnerNode.{IsAscendingFrom, last_child, without_child}
-use Rattle.art_nodes.specs.Name.{Name}
-use Rattle.art_arena.specs.arena.Arena.{Arena, node_at}
-use Rattle.art_arena.specs.arena.Cells.{Cell, pair, leaf_name, copies, Holds}
-use Rattle.art_arena.specs.arena.Context.{Frame, fill, plug, frame_cell, cells_before}
-use Rattle.art_arena.specs.arena.Shapes.{Shape, Branches, leaf_at, inner_at, no_branch, branch, name_of, children_at, join, node_of, cells, cells_in}
-use Rattle.art_arena.proofs.shapes.CellLists.{same_name_tells, Holds-remove, Holds-same}
-use Rattle.art_arena.proofs.shapes.Updates.{nodes-update, nodes-same}
-use Rattle.art_operations.specs.Frees.{cells_with, cells_with_in, KeepsAllBut}
-use Rattle.art_operations.specs.inner.Freeing.{IsChildIn, IsChildless, AreFirst, FreesRoot}
+use Rattle.art_nodes.proofs.Common.{IsAscendingFrom, last_child, without_child, Name}
+use Rattle.art_arena.proofs.Common.{Arena, node_at, Cell, pair, leaf_name, copies, Holds, Frame, fill, plug, frame_cell, cells_before, Shape, Branches, leaf_at, inner_at, no_branch, branch, name_of, children_at, join, node_of, cells, cells_in, same_name_tells, Holds-remove, Holds-same, nodes-update, nodes-same}
+use Rattle.art_operations.proofs.Terms.{cells_with, cells_with_in, KeepsAllBut, IsChildIn, IsChildless, AreFirst, FreesRoot}
 
 -- one of the children that pass a test is one of all, and so is the last of all
 pub among-passing : {A : Type 0} (test : A → Bool) (xs ys : List A) (c : A) → filter test xs ≡ ys ++ c ∷ [] → (before : List A) × (after : List A) × (xs ≡ before ++ c ∷ after)

@@ -1,21 +1,10 @@
 -- An inner node gives way to one of the next larger kind.
 use Rattle.std.proofs.Common.{◌≡◌, ℕ, suc, ◌<◌, List, [], ◌∷◌, ◌++◌, take, Some, None, refl, sym, ap, subst, ◌∙◌, arith, append_assoc}
+use Rattle.art_nodes.proofs.Common.{row_of, Name}
 use Rattle.art_nodes.specs.declared.kind.NodeType.{NodeType}
 use Rattle.art_nodes.specs.declared.kind.NodeType.TheVariants.{Node4, Node16, Node32, Node48, Node256, Leaf}
-use Rattle.art_nodes.specs.Kind.{row_of}
-use Rattle.art_nodes.specs.Name.{Name}
-use Rattle.art_arena.specs.arena.Arena.{Arena, inner_held, cell_of, held_at, node_at, links_at, Allocates}
-use Rattle.art_arena.specs.arena.Cells.{Cell, pair, branches, leaf_name, UpdatesAt, Holds}
-use Rattle.art_arena.specs.arena.Context.{Frame, root_of, leaves_before, leaves_after, cells_before, cells_after}
-use Rattle.art_arena.specs.tree.Kinds.{IsKindOf}
-use Rattle.art_arena.specs.arena.Shapes.{LeafAt, cells_in}
-use Rattle.art_arena.specs.arena.Steps.{Step, steps_to}
-use Rattle.art_arena.proofs.tree.Order.{all_right}
-use Rattle.art_arena.proofs.shapes.CellLists.{Holds-add, Holds-remove}
-use Rattle.art_arena.proofs.shapes.Subtrees.{inner_of}
-use Rattle.art_arena.proofs.shapes.Updates.{nodes-update, links-kept}
-use Rattle.art_operations.specs.inner.Edits.{StandsAround}
-use Rattle.art_operations.specs.inner.Waiting.{AwaitsLeaf}
+use Rattle.art_arena.proofs.Common.{Arena, inner_held, cell_of, held_at, node_at, links_at, Allocates, Cell, pair, branches, leaf_name, UpdatesAt, Holds, Frame, root_of, leaves_before, leaves_after, cells_before, cells_after, IsKindOf, LeafAt, cells_in, Step, steps_to, all_right, Holds-add, Holds-remove, inner_of, nodes-update, links-kept}
+use Rattle.art_operations.proofs.Terms.{StandsAround, AwaitsLeaf}
 use Rattle.art_operations.proofs.NewLeaves.{beside-same}
 use Rattle.art_operations.proofs.Waiting.{open_node, inner-kind, node-inner}
 

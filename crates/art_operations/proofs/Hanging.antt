@@ -1,22 +1,10 @@
 -- A shape stands in the place of the first childless node below another one, which was freed.
 use Rattle.std.proofs.Common.{◌≡◌, ◌≢◌, ℕ, ◌+◌, Bool, List, [], ◌∷◌, ◌++◌, length, Some, None, IsSome, refl, sym, ap, subst, ◌∙◌, arith, append_assoc, length-append}
+use Rattle.art_nodes.proofs.Common.{InnerNode, child_at, with_child, with_children, Name}
 use Rattle.art_nodes.specs.declared.kind.NodeType.TheVariants.{Leaf}
-use Rattle.art_nodes.specs.InnerNode.{InnerNode, child_at, with_child, with_children}
-use Rattle.art_nodes.specs.Name.{Name}
-use Rattle.art_arena.specs.arena.Arena.{Arena, inner_held, held_at, node_at}
-use Rattle.art_arena.specs.arena.Cells.{Cell, branches, copies, UpdatesAt, Holds}
-use Rattle.art_arena.specs.arena.Context.{Frame, plug, frame_cell, cells_before, cells_after, AreBelow}
-use Rattle.art_arena.specs.arena.Shapes.{Shape, name_of, cells, cells_in}
-use Rattle.art_arena.proofs.shapes.CellLists.{copies-append}
-use Rattle.art_arena.proofs.shapes.Contexts.{cells-plug, name_of-plug}
-use Rattle.art_arena.proofs.shapes.HeldLeaves.{no_inner}
-use Rattle.art_arena.proofs.shapes.Repoint.{frame_node, frame-there, frame-child, repoint, HasGrandparent, grandparent-of, no-grandparent}
-use Rattle.art_arena.proofs.shapes.Subtrees.{inner_of}
-use Rattle.art_arena.proofs.shapes.Updates.{nodes-update}
-use Rattle.art_operations.specs.Frees.{cells_with, KeepsAllBut}
+use Rattle.art_arena.proofs.Common.{Arena, inner_held, held_at, node_at, Cell, branches, copies, UpdatesAt, Holds, Frame, plug, frame_cell, cells_before, cells_after, AreBelow, Shape, name_of, cells, cells_in, copies-append, cells-plug, name_of-plug, no_inner, frame_node, frame-there, frame-child, repoint, HasGrandparent, grandparent-of, no-grandparent, inner_of, nodes-update, Holds-turn}
+use Rattle.art_operations.proofs.Terms.{cells_with, KeepsAllBut, step_in, AreFirst, IsBottom, FreesRoot, HoldsPart, HoldsBoth, HoldsOneLess}
 use Rattle.art_operations.specs.declared.deallocate.Bottom.{Bottom}
-use Rattle.art_operations.specs.inner.Freeing.{step_in, AreFirst, IsBottom, FreesRoot, HoldsPart, HoldsBoth, HoldsOneLess}
-use Rattle.art_arena.proofs.shapes.CellLists.{Holds-turn}
 use Rattle.art_operations.proofs.Freeing.{after_with, with-plug, childless-cells, childless-one, freed_root, apart-from, kept_root}
 use Rattle.art_operations.proofs.FreeSteps.{part-there}
 
@@ -53,11 +41,20 @@ module _ {K V : Type 0} (P : ℕ) where
       holds = part-there P w arena b.ctx b.end rest b.first (subst (λ x. Holds (node_at arena) (cells_with P w x ++ rest)) b.whole part.holds);
     }
 
-    module _ (old mid : Arena K V) (s t : Shape K V) (node below : Name) (rest : List (Name × Cell K V)) (both : HoldsBoth P w old node s below t rest) (bottom : Bottom) (b : IsBottom t bottom) (frees : FreesRoot w old mid b.end) where
+    module _ (old mid : Arena K V) (s t : Shape K V) (node below : Name) (rest : List (Name × Cell K V)) (both : HoldsBoth P w old node s below t rest) (bottom : Bottom)
+        (find : (x : Shape K V) (others : List (Name × Cell K V)) → HoldsPart P w old below x others → IsBottom x bottom) (free : (x : Shape K V) (others : List (Name × Cell K V)) → HoldsPart P w old bottom.node x others → FreesRoot w old mid x) where
+      abbrev pub b : IsBottom t bottom
+      b = find t (cells_with P w s ++ rest) (both-other old node s below t rest both)
+
+      part : HoldsPart P w old bottom.node b.end (cells_before P b.ctx (name_of b.end) ++ (after_with P w b.ctx ++ (cells_with P w s ++ rest)))
+      part = bottom-part old below t (cells_with P w s ++ rest) (both-other old node s below t rest both) bottom b
+
+      frees : FreesRoot w old mid b.end
+      frees = free b.end (cells_before P b.ctx (name_of b.end) ++ (after_with P w b.ctx ++ (cells_with P w s ++ rest))) part
+
       -- the bottom is gone
       without_bottom : Holds (node_at mid) (cells_before P b.ctx (name_of b.end) ++ (cells_with P w s ++ (after_with P w b.ctx ++ rest)))
       without_bottom =
-          let part = bottom-part old below t (cells_with P w s ++ rest) (both-other old node s below t rest both) bottom b in
           let at_root = subst (λ xs. Holds (node_at old) (xs ++ (cells_before P b.ctx (name_of b.end) ++ (after_with P w b.ctx ++ (cells_with P w s ++ rest))))) (childless-cells P w b.end b.childless) part.holds in
           Holds-turn (node_at mid) (cells_before P b.ctx (name_of b.end)) (after_with P w b.ctx) (cells_with P w s) rest
           (freed_root P w old mid b.end [] (cells_before P b.ctx (name_of b.end) ++ (after_with P w b.ctx ++ (cells_with P w s ++ rest))) frees at_root)
@@ -88,23 +85,17 @@ module _ {K V : Type 0} (P : ℕ) where
           (subst (λ ctx. Holds (node_at mid) (cells_before P ctx (name_of s) ++ (cells_with P w s ++ (after_with P w ctx ++ rest)))) (sym root)
           (subst (λ ctx. Holds (node_at mid) (cells_before P ctx (name_of b.end) ++ (cells_with P w s ++ (after_with P w ctx ++ rest)))) root without_bottom))
 
-      kept-mid : (k : Name) → copies k (cells_with P w s ++ cells_with P w t) ≡ 0 → held_at mid k ≡ held_at old k
-      kept-mid k none =
+      pub kept-alone : KeepsAllBut (cells_with P w s ++ cells_with P w t) old mid
+      kept-alone k none =
           kept_root P w old mid b.end frees k
           (ap (copies k) (sym (childless-cells P w b.end b.childless)) ∙ omega (arith, none, copies-append k (cells_with P w s) (cells_with P w t), t_copies k))
-
-      pub kept-alone : KeepsAllBut (cells_with P w s ++ cells_with P w t) old mid
-      kept-alone = kept-mid
 
       module _ (place : Name × ℕ) (is : bottom.place ≡ Some place) where
         abbrev above : HasGrandparent b.ctx (record { node = place.0; byte = place.1 })
         above = grandparent-of b.ctx (record { node = place.0; byte = place.1 }) (b.place ∙ ap step_in is)
 
-        above_first : AreFirst (above.frame ∷ above.above)
-        above_first = subst AreFirst above.is b.first
-
         above_below : AreBelow above.frame.byte above.frame.before
-        above_below = subst (AreBelow above.frame.byte) (sym above_first.0) tt
+        above_below = subst (AreBelow above.frame.byte) (sym (subst AreFirst above.is b.first).0) tt
 
         at_above : Holds (node_at mid) (cells_before P (above.frame ∷ above.above) (name_of b.end) ++ (cells_with P w s ++ (after_with P w (above.frame ∷ above.above) ++ rest)))
         at_above = subst (λ ctx. Holds (node_at mid) (cells_before P ctx (name_of b.end) ++ (cells_with P w s ++ (after_with P w ctx ++ rest)))) above.is without_bottom
@@ -147,4 +138,4 @@ module _ {K V : Type 0} (P : ℕ) where
               let here : copies k (cells_before P b.ctx (name_of b.end)) ≡ 0 = omega (arith, none, copies-append k (cells_with P w s) (cells_with P w t), t_copies k) in
               let at_frame : copies k (cells_before P (f ∷ above.above) (name_of b.end)) ≡ 0 = subst (λ ctx. copies k (cells_before P ctx (name_of b.end)) ≡ 0) above.is here in
               let apart : k ≢ f.name = apart-from k f.name (frame_cell P f (name_of b.end)).1 (cells_in P f.before) (omega (arith, at_frame, copies-append k (cells_before P above.above f.name) (frame_cell P f (name_of b.end) ∷ cells_in P f.before))) in
-              written.others k (λ e. apart (e ∙ sym above.named)) ∙ kept-mid k none
+              written.others k (λ e. apart (e ∙ sym above.named)) ∙ kept-alone k none

@@ -1,41 +1,13 @@
 -- An arena that has pairs, before and after a command.
 use Rattle.std.proofs.Common.{◌≡◌, ◌≢◌, ℕ, List, [], ◌++◌, Option, Some, None, refl, sym, ap, subst, ◌∙◌, inl, inr}
 use Rattle.std.proofs.lemmas.List.{append-nil}
-use Rattle.art_nodes.specs.Name.{Name}
+use Rattle.art_nodes.proofs.Common.{Name}
 use Rattle.art_nodes.specs.declared.leaf.LeafNode.{LeafNode}
-use Rattle.art_arena.specs.arena.Arena.{Arena, leaf_held, cell_of, node_at, links_at, Allocates, KeepsNodes, SameNodes}
-use Rattle.art_arena.specs.arena.Cells.{Cell, leaf_name, Holds, HoldsOnly}
-use Rattle.art_arena.specs.tree.Changes.{IsIn}
-use Rattle.art_arena.specs.arena.Found.{found_in, IsAtKey}
-use Rattle.art_arena.specs.arena.Meaning.{IsTreeBeside, IsSubtree}
-use Rattle.art_arena.specs.arena.Shapes.{Shape, leaf_at, LeafAt, leaves, pairs_of, key_of, cells}
-use Rattle.art_arena.specs.tree.Shrinks.{Shrinks}
-use Rattle.art_arena.specs.arena.Steps.{Step}
-use Rattle.art_arena.specs.tree.TreeOf.{tree_of}
-use Rattle.art_arena.proofs.shapes.Besides.{keeps-beside}
-use Rattle.art_arena.proofs.shapes.CellLists.{Holds-add, Holds-same, only-holds}
-use Rattle.art_arena.proofs.shapes.Erased.{shape_means}
-use Rattle.art_arena.proofs.shapes.Meanings.{nodes-part, nodes-subtree}
-use Rattle.art_arena.proofs.shapes.LinkedLists.{outside-apart, AreLinked-same}
-use Rattle.art_arena.proofs.tree.Order.{all_left}
-use Rattle.art_arena.proofs.tree.Paths.{in_map, in_unmap}
-use Rattle.art_arena.proofs.tree.Exists.{in_middle}
-use Rattle.art_arena.proofs.tree.Insert.{all_at}
-use Rattle.art_arena.proofs.shapes.Updates.{nodes-update, links-update, nodes-same, links-same}
-use Rattle.art_operations.specs.DeletePoints.{IsLeafPlace}
-use Rattle.art_operations.specs.Deletions.{HasLeavesBeside, IsDeletedBeside}
-use Rattle.art_operations.specs.Insertions.{IsInsertedBeside}
-use Rattle.art_operations.specs.Points.{IsPoint, HasConflict, NoConflict}
-use Rattle.art_operations.specs.declared.delete.result.DeleteResult.{DeleteResult}
-use Rattle.art_operations.specs.declared.insert.point.InsertPoint.{InsertPoint}
-use Rattle.art_operations.specs.declared.insert.result.InsertResult.{InsertResult}
-use Rattle.art_operations.specs.KeyedLists.{HasKey, IsBlocked, with_key}
-use Rattle.art_operations.specs.Pairs.{HasPairs, HasPairsBeside, CanPut, HasPut, HasTaken}
-use Rattle.art_operations.specs.Runs.{HoldsTreeOf}
+use Rattle.art_arena.proofs.Common.{Arena, leaf_held, cell_of, node_at, links_at, Allocates, KeepsNodes, SameNodes, Cell, leaf_name, Holds, HoldsOnly, IsIn, found_in, IsAtKey, IsTreeBeside, IsSubtree, Shape, leaf_at, LeafAt, leaves, pairs_of, key_of, cells, Shrinks, Step, tree_of, keeps-beside, Holds-add, Holds-same, only-holds, shape_means, nodes-part, nodes-subtree, outside-apart, AreLinked-same, all_left, in_map, in_unmap, in_middle, all_at, nodes-update, links-update, nodes-same, links-same}
+use Rattle.art_operations.proofs.Terms.{IsLeafPlace, HasLeavesBeside, IsDeletedBeside, IsInsertedBeside, IsPoint, HasConflict, NoConflict, DeleteResult, InsertPoint, InsertResult, HasKey, IsBlocked, with_key, HasPairs, HasPairsBeside, CanPut, HasPut, HasTaken, HoldsTreeOf, NoChange}
 use Rattle.art_operations.specs.declared.insert.point.InsertKind.TheVariants as kind
-use Rattle.art_operations.specs.declared.insert.result.InsertParentNodeChange.TheVariants.{NoChange}
 use Rattle.art_operations.proofs.NotStored.{not-stored, which}
-use Rattle.art_operations.proofs.LeafPairs.{leaf_pair, pairs_ascend, blocked_pair, free_pairs, none_found, stored_in, stored_pair, taken_pair, shrinks-map, same_leaf, found_leaf, held_leaf}
+use Rattle.art_operations.proofs.LeafPairs.{leaf_pair, pairs_ascend, free_pairs, none_found, stored_in, stored_pair, taken_pair, shrinks-map, same_leaf, found_leaf, held_leaf}
 
 module _ {K V : Type 0} (bytes : K → List ℕ) (P : ℕ) where
   -- an arena with the same nodes has the same tree
@@ -117,7 +89,7 @@ module _ {K V : Type 0} (bytes : K → List ℕ) (P : ℕ) where
 
   -- where the arena has a tree below a root, in which a key is looked for
   module _ (old : Arena K V) (rest : List (Name × Cell K V)) (root : Option Name) (top : Name) (root_is : root ≡ Some top) (key : List ℕ) (pairs : List (K × V)) (has : HasPairsBeside bytes P old root pairs rest) where
-    below : HasPairsBeside bytes P old (Some top) pairs rest
+    pub below : HasPairsBeside bytes P old (Some top) pairs rest
     below = subst (λ r. HasPairsBeside bytes P old r pairs rest) root_is has
 
     subtree : IsSubtree bytes P (node_at old) top [] below.0
@@ -142,7 +114,9 @@ module _ {K V : Type 0} (bytes : K → List ℕ) (P : ℕ) where
 
     -- where a leaf is in conflict with the key, a pair blocks it
     pub blocked-key : ((s : Shape K V) → IsSubtree bytes P (node_at old) top [] s → HasConflict bytes key (leaves s)) → IsBlocked (key_of bytes) key pairs
-    blocked-key found = subst (IsBlocked (key_of bytes) key) below.2 (blocked_pair bytes key (leaves below.0) (found below.0 subtree))
+    blocked-key found =
+        let leaf = found below.0 subtree in
+        subst (IsBlocked (key_of bytes) key) below.2 (leaf_pair leaf.0, in_map leaf_pair leaf.0 (leaves below.0) leaf.1, leaf.2)
 
     -- where no leaf has the key, no pair has it
     pub nothing-found : ((s : Shape K V) → IsSubtree bytes P (node_at old) top [] s → [] ≡ found_in bytes key s) → with_key (key_of bytes) key pairs ≡ []
@@ -153,13 +127,13 @@ module _ {K V : Type 0} (bytes : K → List ℕ) (P : ℕ) where
       there : IsAtKey bytes key below.0 slot last
       there = found below.0 subtree
 
-      place : IsLeafPlace bytes below.0 slot last
+      pub place : IsLeafPlace bytes below.0 slot last
       place = record { ctx = there.ctx; key = there.leaf_key; value = there.value; place = there.place; steps = there.steps }
 
       among : IsIn (record { slot = slot; key = there.leaf_key; value = there.value }) (leaves below.0)
       among = found_leaf bytes key below.0 slot last there
 
-      pub can-delete : (s : Shape K V) × (others : List (Name × Cell K V)) × IsTreeBeside bytes P (node_at old) top (links_at old) others s × IsLeafPlace bytes s slot last
+      abbrev pub can-delete : (s : Shape K V) × (others : List (Name × Cell K V)) × IsTreeBeside bytes P (node_at old) top (links_at old) others s × IsLeafPlace bytes s slot last
       can-delete = (below.0, rest, below.1, place)
 
       -- its pair was taken out
@@ -173,10 +147,6 @@ module _ {K V : Type 0} (bytes : K → List ℕ) (P : ℕ) where
           let taken = taken_pair bytes is.front leaf is.back (leaves below.0) (pairs_ascend bytes below.0 below.1.nodes.under) is.was in
           let gone = rw (same_key, below.2) at taken in
           (gone.had, leaves-pairs new rest deleted.new_root (is.front ++ is.back) _ gone.new_is is.left)
-
-      -- and what stood beside the tree is kept
-      pub taken-keeps : (new : Arena K V) → ((s : Shape K V) → IsTreeBeside bytes P (node_at old) top (links_at old) rest s → IsLeafPlace bytes s slot last → KeepsNodes rest old new) → KeepsNodes rest old new
-      taken-keeps new keeps = keeps below.0 below.1 place
 
       -- or it would make a node smaller
       pub shrinks-pair : ((s : Shape K V) → IsTreeBeside bytes P (node_at old) top (links_at old) rest s → (leaf : IsLeafPlace bytes s slot last) → Shrinks (λ l. bytes l.key) (leaves s) (bytes leaf.key))

@@ -2,17 +2,11 @@
 use Rattle.std.proofs.Common.{◌≡◌, ◌≢◌, ℕ, suc, ◌+◌, ◌*◌, ◌-◌, ◌<◌, ◌≤◌, [], ◌∷◌, length, length-append, sym, ap, subst, ◌∙◌, inl, inr, refl, arith}
 use Rattle.std.specs.Prelude.{vec_capacity}
 use Rattle.std.proofs.Math.Nat.{suc-mul, one-mul}
-use Rattle.art_nodes.specs.Kind.{row_of}
-use Rattle.art_nodes.specs.Name.{Name}
+use Rattle.art_nodes.proofs.Common.{row_of, Name}
 use Rattle.art_nodes.specs.declared.kind.NodeType.{NodeType}
 use Rattle.art_nodes.specs.declared.kind.NodeType.TheVariants.{Node4, Node16, Node32, Node48, Node256, Leaf}
-use Rattle.art_arena.specs.arena.Arena.{Arena, HasRoomOf, KeepsRoomOf}
-use Rattle.art_arena.specs.arena.Rooms.{UsesRoomOf}
-use Rattle.art_arena.proofs.shapes.CellLists.{same_kind_tells}
-use Rattle.art_operations.specs.Rebuilds.{HasInnerRoom}
-use Rattle.art_operations.specs.declared.build.spine.Spine.{Spine}
-use Rattle.art_operations.specs.inner.Rebuilding.{HasPlaces, HasSpineRoom, IsFresh}
-use Rattle.art_operations.specs.inner.Spines.{AddsChild, IsEmptySpine}
+use Rattle.art_arena.proofs.Common.{Arena, HasRoomOf, KeepsRoomOf, UsesRoomOf, same_kind_tells}
+use Rattle.art_operations.proofs.Terms.{HasInnerRoom, Spine, HasPlaces, HasSpineRoom, IsFresh, AddsChild, IsEmptySpine}
 
 less : (n a b : ℕ) → n < a → a ≤ b → n < b
 less n a b few fewer = omega (arith, few, fewer)

@@ -1,36 +1,14 @@
 -- The tree that an insertion leaves, from the cells and the links of an arena.
 use Rattle.std.proofs.Common.{◌≡◌, ◌≢◌, ℕ, List, ◌∷◌, ◌++◌, take, Option, Some, None, refl, sym, ap, ap₂, subst, ◌∙◌, inl, inr, arith}
-use Rattle.art_bytes.specs.Keys.{BeginsWith}
-use Rattle.art_nodes.specs.Concrete.{inner_name_of}
-use Rattle.art_nodes.specs.declared.concrete.ConcreteInnerNodePtr.{ConcreteInnerNodePtr}
+use Rattle.art_bytes.proofs.Common.{BeginsWith}
+use Rattle.art_nodes.proofs.Common.{inner_name_of, Name}
 use Rattle.art_nodes.specs.declared.leaf.LeafNode.{LeafNode}
-use Rattle.art_nodes.specs.Name.{Name}
-use Rattle.art_arena.specs.arena.Arena.{Arena, leaf_held, held_at, node_at, links_at, links_of, KeepsNodes}
-use Rattle.art_arena.specs.arena.Cells.{Cell, pair, leaf_name, AreHeld, Holds, UpdatesAt}
-use Rattle.art_arena.specs.arena.Context.{Frame, plug, path_to, root_of, leaves_before, leaves_after, cells_before, cells_after, AreAround}
-use Rattle.art_arena.specs.arena.Linked.{Links, AreLinked, times, KeepsLinksOutside}
-use Rattle.art_arena.specs.arena.Meaning.{IsNodesBeside, IsTreeBeside}
-use Rattle.art_arena.specs.arena.Places.{IsPlace}
-use Rattle.art_arena.specs.arena.Shapes.{Shape, leaf_at, LeafAt, name_of, leaves, cells}
-use Rattle.art_arena.specs.arena.Steps.{Step, steps_to}
-use Rattle.art_arena.proofs.shapes.Besides.{keeps-beside}
-use Rattle.art_arena.proofs.shapes.CellLists.{Holds-write}
-use Rattle.art_arena.proofs.shapes.Contexts.{leaves-plug, name_of-plug}
-use Rattle.art_arena.proofs.shapes.LinkedLists.{AreLinked-left, AreLinked-right, AreLinked-join, outside-apart, times-append, AreLinked-same}
-use Rattle.art_arena.proofs.shapes.Meanings.{nodes-part}
-use Rattle.art_arena.proofs.shapes.Repoint.{IsNodesBeside-plug, unplugged}
-use Rattle.art_arena.proofs.shapes.Updates.{nodes-update, links-update}
+use Rattle.art_nodes.specs.declared.concrete.ConcreteInnerNodePtr.{ConcreteInnerNodePtr}
+use Rattle.art_arena.proofs.Common.{Arena, leaf_held, held_at, node_at, links_at, links_of, KeepsNodes, Cell, pair, leaf_name, AreHeld, Holds, UpdatesAt, Frame, plug, path_to, root_of, leaves_before, leaves_after, cells_before, cells_after, AreAround, Links, AreLinked, times, KeepsLinksOutside, IsNodesBeside, IsTreeBeside, IsPlace, Shape, leaf_at, LeafAt, name_of, leaves, cells, Step, steps_to, keeps-beside, Holds-write, leaves-plug, name_of-plug, AreLinked-left, AreLinked-right, AreLinked-join, outside-apart, times-append, AreLinked-same, nodes-part, IsNodesBeside-plug, unplugged, nodes-update, links-update, steps_of, held-below, all_left, holds_pair, HoldsPair}
 use Rattle.std.proofs.lemmas.Bool.Decides.{eqb_tells}
-use Rattle.art_operations.specs.Insertions.{IsInsertedBeside}
-use Rattle.art_operations.specs.Points.{IsPoint, MeetsAt}
-use Rattle.art_operations.specs.declared.insert.point.InsertPoint.{InsertPoint}
+use Rattle.art_operations.proofs.Terms.{IsInsertedBeside, IsPoint, MeetsAt, InsertPoint, NewParent, NoChange}
 use Rattle.art_operations.specs.declared.insert.point.InsertKind.TheVariants as kind
-use Rattle.art_operations.specs.declared.insert.result.InsertParentNodeChange.TheVariants.{NewParent, NoChange}
 use Rattle.art_operations.specs.declared.insert.result.InsertParentNodeChange.{InsertParentNodeChange}
-use Rattle.art_arena.specs.arena.Steps.{steps_of}
-use Rattle.art_arena.proofs.shapes.Places.{held-below}
-use Rattle.art_arena.proofs.tree.Order.{all_left}
-use Rattle.art_arena.proofs.shapes.Subtrees.{holds_pair, HoldsPair}
 use Rattle.art_arena.proofs.shapes.LastSteps.{last_two}
 
 module _ {K V : Type 0} where

@@ -1,30 +1,11 @@
 -- From the point of an insertion under an inner node to a leaf that waits there, and from the leaf in its place to what an insertion leaves.
 use Rattle.std.proofs.Common.{◌≡◌, ℕ, suc, ◌+◌, List, [], ◌∷◌, ◌++◌, take, None, refl, sym, ap, ap₂, subst, ◌∙◌, append_assoc}
-use Rattle.art_bytes.specs.Keys.{BeginsWith}
-use Rattle.art_nodes.specs.InnerNode.{child_at}
-use Rattle.art_nodes.specs.Name.{Name}
-use Rattle.art_nodes.specs.Concrete.{inner_name_of}
+use Rattle.art_bytes.proofs.Common.{BeginsWith}
+use Rattle.art_nodes.proofs.Common.{child_at, Name, inner_name_of}
 use Rattle.art_nodes.specs.declared.concrete.ConcreteInnerNodePtr.{ConcreteInnerNodePtr}
-use Rattle.art_arena.specs.arena.Arena.{Arena, cell_of, node_at, links_at, Allocates}
-use Rattle.art_arena.specs.arena.Cells.{Cell, pair, branches, leaf_name, Holds}
-use Rattle.art_arena.specs.arena.Context.{Frame, plug, path_to, leaves_before, leaves_after, cells_before, cells_after}
-use Rattle.art_arena.specs.tree.Kinds.{IsKindOf}
-use Rattle.art_arena.specs.arena.Linked.{IsBeside}
-use Rattle.art_arena.specs.arena.Meaning.{IsTreeBeside}
-use Rattle.art_arena.specs.arena.Shapes.{Shape, Branches, inner_at, leaf_at, LeafAt, name_of, children_at, join, width, leaves, leaves_in, cells, cells_in, IsUnder}
-use Rattle.art_arena.specs.arena.Steps.{steps_to, steps_of}
-use Rattle.art_arena.proofs.shapes.CellLists.{Holds-add, Holds-swap}
-use Rattle.art_arena.proofs.shapes.Contexts.{leaves_in-join, cells_in-join, width-join, leaves-plug, cells-plug, name_of-plug}
-use Rattle.art_arena.proofs.shapes.Openings.{opening}
-use Rattle.art_arena.proofs.shapes.Surroundings.{new-beside}
-use Rattle.art_arena.proofs.shapes.Updates.{nodes-update, links-update}
-use Rattle.art_operations.specs.inner.Edits.{lone_leaf}
-use Rattle.art_operations.specs.Insertions.{IsInsertedBeside}
-use Rattle.art_operations.specs.Points.{IsPoint, MeetsAt}
-use Rattle.art_operations.specs.declared.insert.point.InsertPoint.{InsertPoint}
+use Rattle.art_arena.proofs.Common.{Arena, cell_of, node_at, links_at, Allocates, Cell, pair, branches, leaf_name, Holds, Frame, plug, path_to, leaves_before, leaves_after, cells_before, cells_after, IsKindOf, IsBeside, IsTreeBeside, Shape, Branches, inner_at, leaf_at, LeafAt, name_of, children_at, join, width, leaves, leaves_in, cells, cells_in, IsUnder, steps_to, steps_of, Holds-add, Holds-swap, leaves_in-join, cells_in-join, width-join, leaves-plug, cells-plug, name_of-plug, opening, new-beside, nodes-update, links-update}
+use Rattle.art_operations.proofs.Terms.{lone_leaf, IsInsertedBeside, IsPoint, MeetsAt, InsertPoint, NewParent, AwaitsLeaf}
 use Rattle.art_operations.specs.declared.insert.point.InsertKind.TheVariants.{IntoExisting}
-use Rattle.art_operations.specs.declared.insert.result.InsertParentNodeChange.TheVariants.{NewParent}
-use Rattle.art_operations.specs.inner.Waiting.{AwaitsLeaf}
 use Rattle.art_arena.proofs.shapes.LastSteps.{last_two}
 use Rattle.art_operations.proofs.Waiting.{open_node, regroup_front}
 

@@ -1,7 +1,7 @@
 -- What headers store of prefixes that are joined.
 use Rattle.std.proofs.Common.{◌≡◌, ℕ, suc, zero, ◌+◌, ◌≤◌, List, [], ◌∷◌, ◌++◌, length, take, min, refl, sym, ap, ◌∙◌, arith, length-append, append_assoc}
 use Rattle.std.proofs.lemmas.List.{length-take, take_all}
-use Rattle.art_nodes.specs.Header.{Header}
+use Rattle.art_nodes.proofs.Common.{Header}
 
 -- the front of a list is that of its front and the rest
 pub take_front : {X : Type 0} (n : ℕ) (xs ys : List X) → take n (take n xs ++ ys) ≡ take n (xs ++ ys)

@@ -1,21 +1,11 @@
 -- The inner nodes of a tree are dropped: its leaves are left, linked in the order of their keys.
-use Rattle.std.proofs.Common.{◌≡◌, ℕ, ◌&&◌, Bool, false, if◌then◌else◌, nat_eq, List, [], ◌∷◌, Option, Some, None, is_some, refl, sym, ap, subst, ◌∙◌, arith}
-use Rattle.std.proofs.lemmas.List.{map-append}
-use Rattle.art_nodes.specs.Name.{Name}
+use Rattle.std.proofs.Common.{◌≡◌, ℕ, ◌&&◌, Bool, false, if◌then◌else◌, nat_eq, List, [], ◌∷◌, Option, None, is_some, refl, sym, ap, ◌∙◌, arith}
+use Rattle.art_nodes.proofs.Common.{Name}
 use Rattle.art_nodes.specs.declared.kind.NodeType.{NodeType}
 use Rattle.art_nodes.specs.declared.kind.NodeType.TheVariants.{Leaf}
-use Rattle.art_arena.specs.arena.Arena.{Arena, Held, cell_of, links_of, held_at, node_at, links_at}
-use Rattle.art_arena.specs.arena.Rooms.{SameLeaves}
-use Rattle.art_arena.specs.arena.Cells.{Cell, pair, leaf_name, same_kind, copies, AreHeld}
-use Rattle.art_arena.specs.arena.Linked.{first_slot}
-use Rattle.art_arena.specs.arena.Shapes.{Shape, Branches, LeafAt, leaf_at, inner_at, no_branch, branch, leaves, leaves_in, cells, cells_in}
-use Rattle.art_arena.specs.arena.Stores.{StoresOnly}
-use Rattle.art_arena.proofs.shapes.LinkedLists.{AreLinked-same}
-use Rattle.art_arena.proofs.shapes.Surroundings.{times-leaves}
-use Rattle.art_arena.proofs.tree.Order.{all_append, all_left, all_right}
-use Rattle.art_operations.specs.Frees.{leaf_cells}
-use Rattle.art_operations.specs.Pairs.{HasPairs}
-use Rattle.art_operations.specs.Rebuilds.{HoldsInOrder}
+use Rattle.art_arena.proofs.Common.{Arena, Held, cell_of, links_of, held_at, node_at, links_at, SameLeaves, Cell, leaf_name, same_kind, copies, AreHeld, first_slot, Shape, LeafAt, leaves, StoresOnly, AreLinked-same, times-leaves}
+use Rattle.art_operations.proofs.Terms.{leaf_cells, HasPairs, HoldsInOrder}
+use Rattle.art_operations.proofs.FreedParts.{leaves-held}
 use Rattle.art_operations.proofs.FreedRuns.{times-copies}
 use Rattle.art_operations.proofs.LeafPairs.{pairs_ascend}
 
@@ -26,21 +16,6 @@ module _ {K V : Type 0} where
   none_of kind slot (l ∷ ls) other =
       let here = ap {B = ℕ} (λ (b : Bool). if b && nat_eq slot l.slot then 1 else 0) other in
       omega (arith, here, none_of kind slot ls other)
-
-  -- the cells of leaves are among those of their tree
-  module _ (P : ℕ) (at : Name → Option (Cell K V)) where
-    mutual
-      cells-held : (s : Shape K V) → AreHeld at (cells P s) → AreHeld at (leaf_cells (leaves s))
-      cells-held (leaf_at slot k v) held = held
-      cells-held (inner_at n prefix kids) held = cells-held_in kids held.1
-
-      cells-held_in : (f : Branches K V) → AreHeld at (cells_in P f) → AreHeld at (leaf_cells (leaves_in f))
-      cells-held_in no_branch held = tt
-      cells-held_in (branch b s rest) held =
-          subst (AreHeld at) (sym (map-append (λ (l : LeafAt K V). (leaf_name l.slot, pair l.key l.value)) (leaves s) (leaves_in rest)))
-          (all_append (λ (c : Name × Cell K V). at c.0 ≡ Some c.1) (leaf_cells (leaves s)) (leaf_cells (leaves_in rest))
-          (cells-held s (all_left (λ (c : Name × Cell K V). at c.0 ≡ Some c.1) (cells P s) (cells_in P rest) held))
-          (cells-held_in rest (all_right (λ (c : Name × Cell K V). at c.0 ≡ Some c.1) (cells P s) (cells_in P rest) held)))
 
   held-same : (old new : Name → Option (Cell K V)) (ls : List (LeafAt K V)) → ((slot : ℕ) → new (leaf_name slot) ≡ old (leaf_name slot)) → AreHeld old (leaf_cells ls) → AreHeld new (leaf_cells ls)
   held-same old new [] same held = tt
@@ -58,7 +33,7 @@ module _ {K V : Type 0} (bytes : K → List ℕ) (P : ℕ) (old new : Arena K V)
     kept-leaves first is = record {
       holds = record {
         holds = record {
-          held = held-same (node_at old) (node_at new) (leaves s) (λ slot. ap cell_of (same slot)) (cells-held P (node_at old) s stores.nodes.holds.held);
+          held = held-same (node_at old) (node_at new) (leaves s) (λ slot. ap cell_of (same slot)) (leaves-held P (node_at old) s stores.nodes.holds.held);
           once = λ n. once_as n.kind n.slot;
         };
         linked = AreLinked-same (links_at old) (links_at new) (λ slot. ap links_of (same slot)) None (leaves s) None stores.linked;

@@ -1,16 +1,25 @@
 -- An ascending list into which an item is put, in which one is replaced, or from which one is taken, and the list without its key.
-use Rattle.std.proofs.Common.{◌≡◌, ◌≢◌, ℕ, not, true, false, Bool, cond, filter, List, [], ◌∷◌, ◌++◌, bytes_eq, refl, sym, ap, ap₂, subst, ◌∙◌, inl, inr}
+use Rattle.std.proofs.Common.{◌≡◌, ℕ, not, true, false, Bool, cond, filter, List, [], ◌∷◌, ◌++◌, bytes_eq, refl, sym, ap, ap₂, subst, ◌∙◌, inl, inr}
 use Rattle.std.specs.List.{AllByRecursion}
+use Rattle.std.proofs.lemmas.Bool.{cases_Bool}
 use Rattle.std.proofs.lemmas.List.Elements.{filter-append}
-use Rattle.art_bytes.specs.Keys.{Conflict, IsBefore}
-use Rattle.art_arena.specs.tree.Order.{AscendsByKey}
-use Rattle.art_arena.specs.tree.Changes.{IsIn, put_in_order}
-use Rattle.art_arena.proofs.tree.Order.{all_append, all_weaker}
-use Rattle.art_arena.proofs.tree.Insert.{all_at}
-use Rattle.art_arena.proofs.tree.Exists.{in_middle, put_is}
-use Rattle.art_arena.proofs.shapes.Finding.{same_key, other_key}
-use Rattle.art_operations.specs.KeyedLists.{HasKey, with_key, without_key, IsBlocked}
-use Rattle.art_bytes.proofs.Order.{before_not_self, conflict_not_before, conflict_turned}
+use Rattle.art_bytes.proofs.Common.{Conflict, IsBefore, before_not_self, conflict_not_before, conflict_turned}
+use Rattle.art_arena.proofs.Common.{AscendsByKey, IsIn, put_in_order, all_append, all_weaker, all_at, in_middle, put_is, same_key, other_key}
+use Rattle.art_operations.proofs.Terms.{HasKey, with_key, without_key, IsBlocked}
+
+-- where all items pass a test a filter keeps them, and where none does it keeps none
+pub all-pass : {X : Type 0} (test : X → Bool) (xs : List X) → AllByRecursion (λ x. test x ≡ true) xs → filter test xs ≡ xs
+all-pass test [] h = refl
+all-pass test (x ∷ xs) h = rw h.0 (ap (λ ys. x ∷ ys) (all-pass test xs h.1))
+
+pub none-pass : {X : Type 0} (test : X → Bool) (xs : List X) → AllByRecursion (λ x. test x ≡ false) xs → filter test xs ≡ []
+none-pass test [] h = refl
+none-pass test (x ∷ xs) h = rw h.0 (none-pass test xs h.1)
+
+-- what a filter keeps passes
+pub passes : {X : Type 0} (test : X → Bool) (xs : List X) → AllByRecursion (λ x. test x ≡ true) (filter test xs)
+passes test [] = tt
+passes test (x ∷ xs) = let h = passes test xs in elim (cases_Bool (test x)) [ inl t ↦ rw t (t, h) | inr f ↦ rw f h ]
 
 -- where no item passes a test, those that don't are all
 pub all-but-none : {X : Type 0} (test : X → Bool) (xs : List X) → filter test xs ≡ [] → filter (λ x. not (test x)) xs ≡ xs
@@ -54,19 +63,17 @@ module _ {X : Type 0} (key : X → List ℕ) where
   module _ (k : List ℕ) where
     -- all have other keys
     abbrev AreOthers : List X → Type 0
-    AreOthers xs = AllByRecursion (λ x. key x ≢ k) xs
+    AreOthers xs = AllByRecursion (λ x. bytes_eq (key x) k ≡ false) xs
 
     -- none is in conflict with the key
     abbrev AreFree : List X → Type 0
     AreFree xs = AllByRecursion (λ x. Conflict k (key x) → ⊥) xs
 
     with_none : (xs : List X) → AreOthers xs → with_key key k xs ≡ []
-    with_none [] h = refl
-    with_none (x ∷ xs) h = rw (other_key (key x) k h.0) (with_none xs h.1)
+    with_none = none-pass (λ x. bytes_eq (key x) k)
 
     without_none : (xs : List X) → AreOthers xs → without_key key k xs ≡ xs
-    without_none [] h = refl
-    without_none (x ∷ xs) h = rw (other_key (key x) k h.0) (ap (λ ys. x ∷ ys) (without_none xs h.1))
+    without_none xs h = all-pass (λ x. not (bytes_eq (key x) k)) xs (all_weaker _ _ (λ x e. ap not e) xs h)
 
     with_one : (front : List X) (x : X) (back : List X) → key x ≡ k → AreOthers front → AreOthers back → with_key key k (front ++ x ∷ back) ≡ x ∷ []
     with_one front x back same before behind =
@@ -91,10 +98,10 @@ module _ {X : Type 0} (key : X → List ℕ) where
     behind (z ∷ front) back h = behind front back h.1
 
     others_before : (front back : List X) → AscendsByKey key (front ++ x ∷ back) → AreOthers (key x) front
-    others_before front back h = all_weaker _ _ (λ y b e. before_not_self (key x) (subst (λ k. IsBefore k (key x)) e b)) front (before front back h)
+    others_before front back h = all_weaker _ _ (λ y b. other_key (key y) (key x) (λ e. before_not_self (key x) (subst (λ k. IsBefore k (key x)) e b))) front (before front back h)
 
     others_behind : (front back : List X) → AscendsByKey key (front ++ x ∷ back) → AreOthers (key x) back
-    others_behind front back h = all_weaker _ _ (λ y b e. before_not_self (key x) (subst (λ k. IsBefore (key x) k) e b)) back (behind front back h)
+    others_behind front back h = all_weaker _ _ (λ y b. other_key (key y) (key x) (λ e. before_not_self (key x) (subst (λ k. IsBefore (key x) k) e b))) back (behind front back h)
 
     free_before : (front back : List X) → AscendsByKey key (front ++ x ∷ back) → AreFree (key x) front
     free_before front back h = all_weaker _ _ (λ y b c. conflict_not_before (key y) (key x) (conflict_turned (key x) (key y) c) b) front (before front back h)

@@ -5,26 +5,12 @@ use Rattle.std.specs.Coded.{coded_option}
 use base.Stored.{Coded-set, coded_ℕ}
 use mathlib.Core.HLevel.{⊥_prop}
 use mathlib.Core.Logic.{∥∥₁_elim, ∥∥₁_prop}
-use Rattle.art_bytes.specs.Keys.{IsBefore}
-use Rattle.art_bytes.proofs.Order.{before_not_self}
-use Rattle.art_nodes.specs.Name.{Name}
-use Rattle.art_arena.specs.arena.Arena.{Arena, node_at}
-use Rattle.art_arena.specs.arena.Cells.{Cell}
-use Rattle.art_arena.specs.arena.Context.{path_to, leaves_before, leaves_after}
-use Rattle.art_arena.specs.arena.Descents.{leaf_where}
-use Rattle.art_arena.specs.arena.Shapes.{Shape, LeafAt, leaves}
-use Rattle.art_arena.specs.arena.Stores.{StoresBeside}
-use Rattle.art_arena.proofs.shapes.Contexts.{leaves-plug}
-use Rattle.art_arena.proofs.shapes.Finding.{same_key, other_key}
-use Rattle.art_arena.proofs.shapes.Meanings.{nodes-subtree}
-use Rattle.art_arena.proofs.shapes.Surroundings.{ctx-before}
-use Rattle.art_arena.proofs.tree.Order.{all_weaker}
-use Rattle.art_operations.specs.Pairs.{CanPut, HasPairsBeside, IsPlaceFor}
-use Rattle.art_operations.specs.Points.{IsPoint, MeetsAt}
+use Rattle.art_bytes.proofs.Common.{IsBefore, before_not_self}
+use Rattle.art_nodes.proofs.Common.{Name}
+use Rattle.art_arena.proofs.Common.{Arena, node_at, Cell, path_to, leaves_before, leaves_after, leaf_where, Shape, LeafAt, leaves, StoresBeside, leaves-plug, same_key, other_key, nodes-subtree, ctx-before, all_weaker}
+use Rattle.art_operations.proofs.Terms.{CanPut, HasPairsBeside, IsPlaceFor, IsPoint, MeetsAt, InsertPoint, FindsLeaf}
 use Rattle.art_operations.specs.declared.insert.point.InsertKind.TheVariants as kind
-use Rattle.art_operations.specs.declared.insert.point.InsertPoint.{InsertPoint}
 use Rattle.art_operations.proofs.DecidedPoints.{decided, is-point}
-use Rattle.art_operations.specs.Whichever.{FindsLeaf}
 use Rattle.art_operations.proofs.NotStored.{HaveOthers, not-stored}
 
 module _ {K V : Type 0} (bytes : K → List ℕ) (key : List ℕ) where

@@ -2,12 +2,11 @@
 use Rattle.std.proofs.Common.{ℕ, List, [], ◌∷◌}
 use mathlib.Core.Logic.{∥∥₁_elim}
 use Rattle.std.proofs.Math.Bridge.{le_prop}
-use Rattle.art_nodes.specs.Kind.{shrunk_kind}
+use Rattle.art_nodes.proofs.Common.{shrunk_kind}
 use Rattle.art_nodes.specs.declared.kind.NodeType.{NodeType}
 use Rattle.art_nodes.specs.declared.kind.NodeType.TheVariants.{Leaf, Node4, Node16, Node32, Node48, Node256}
-use Rattle.art_arena.specs.arena.Arena.{Arena, HasRoomOf}
-use Rattle.art_arena.specs.arena.Steps.{Step}
-use Rattle.art_operations.specs.Subtrees.{HasRoomAbove}
+use Rattle.art_arena.proofs.Common.{Arena, HasRoomOf, Step}
+use Rattle.art_operations.proofs.Terms.{HasRoomAbove}
 
 module _ {K V : Type 0} (arena : Arena K V) where
   one_room : (kind : NodeType) (n : ℕ) → IsProp (HasRoomOf arena kind n)

@@ -1,21 +1,15 @@
 -- The last leaves of a list move to the front of another arena's list.
 use Rattle.std.proofs.Common.{◌≡◌, ℕ, ◌+◌, cond, List, [], ◌∷◌, ◌++◌, length, Option, None, Some, is_some, refl, sym, ap, ◌∙◌, arith, append_assoc, append-nil, length-append}
 use Rattle.std.proofs.lemmas.List.{map-append}
-use Rattle.art_nodes.specs.Name.{Name}
-use Rattle.art_arena.specs.arena.Arena.{Arena, cell_of, held_at}
-use Rattle.art_arena.specs.arena.Shapes.{LeafAt, pairs_of}
-use Rattle.art_operations.specs.LeafCursors.{HasInserted, HasRemoved, StandsBetween}
-use Rattle.art_operations.specs.declared.leaf_list.LeafCursor.{LeafCursor}
-use Rattle.art_operations.specs.inner.Cursors.{HasMovedOne, HoldsFrom}
+use Rattle.art_nodes.proofs.Common.{Name}
+use Rattle.art_arena.proofs.Common.{Arena, cell_of, held_at, LeafAt, pairs_of}
+use Rattle.art_operations.proofs.Terms.{HasInserted, HasRemoved, StandsBetween, LeafCursor, HasMovedOne, HoldsFrom}
 
 -- a cursor before all leaves of a list
 abbrev pub start_of : Option ℕ → LeafCursor
 start_of first = record { first = first; before = None; after = first }
 
 module _ {K V : Type 0} where
-  pub at-start : (arena : Arena K V) (first : Option ℕ) (ls : List (LeafAt K V)) → HoldsFrom arena first ls → StandsBetween arena (start_of first) [] ls
-  at-start arena first ls is = record { leaves = is.holds; first = is.first_is; before = refl; after = is.first_is }
-
   -- it is gone, and one of its pair stands in the other arena
   pub moved-one : (from to : Arena K V) (cursor start : LeafCursor) (key : K) (value : V) (ls moved : List (LeafAt K V)) → HasRemoved from cursor (Some (key, value)) ls [] → HasInserted to start key value [] moved
       → HasMovedOne from cursor to start.first ls moved

@@ -1,13 +1,8 @@
 -- Leaves that stand linked in key order: a cursor before them or behind them, and the list in which a cursor stands.
 use Rattle.std.proofs.Common.{◌≡◌, ℕ, List, [], ◌++◌, Option, None, refl, sym, ap, subst, ◌∙◌, append-nil}
-use Rattle.art_arena.specs.arena.Arena.{Arena, KeepsRoomOf}
-use Rattle.art_arena.specs.arena.Linked.{first_slot, last_slot}
-use Rattle.art_arena.specs.arena.Shapes.{LeafAt, key_of, pairs_of}
-use Rattle.art_arena.specs.tree.Order.{AscendsByKey}
-use Rattle.art_operations.specs.LeafCursors.{KeepsInnerRoom, StandsAhead, StandsInList, StandsBetween}
+use Rattle.art_arena.proofs.Common.{Arena, KeepsRoomOf, first_slot, last_slot, LeafAt, key_of, pairs_of, AscendsByKey}
+use Rattle.art_operations.proofs.Terms.{KeepsInnerRoom, StandsAhead, StandsInList, StandsBetween, HasInnerRoom, HoldsInOrder, LeafCursor}
 use Rattle.art_operations.specs.LeafLists.{HoldsLeaves}
-use Rattle.art_operations.specs.Rebuilds.{HasInnerRoom, HoldsInOrder}
-use Rattle.art_operations.specs.declared.leaf_list.LeafCursor.{LeafCursor}
 use Rattle.art_operations.proofs.LeafListsMoved.{start_of}
 
 module _ {K V : Type 0} (bytes : K → List ℕ) where

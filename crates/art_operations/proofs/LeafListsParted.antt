@@ -1,28 +1,15 @@
 -- A list of leaves in two parts, where a cursor stands: what an edit of the links at its place leaves.
-use Rattle.std.proofs.Common.{◌≡◌, ◌≢◌, ℕ, ◌+◌, ◌≤◌, cond, List, [], ◌∷◌, ◌++◌, Option, None, Some, IsSome, is_some, refl, sym, ap, subst, ◌∙◌, inl, inr, arith, append_assoc}
+use Rattle.std.proofs.Common.{◌≡◌, ◌≢◌, ℕ, ◌+◌, ◌≤◌, List, [], ◌∷◌, ◌++◌, Option, None, Some, IsSome, refl, sym, ap, subst, ◌∙◌, inl, inr, arith, append_assoc}
 use Rattle.std.proofs.lemmas.Bool.Decides.{eqb_tells}
-use Rattle.std.proofs.lemmas.List.{map-append}
-use Rattle.art_nodes.specs.Name.{Name}
+use Rattle.art_nodes.proofs.Common.{Name}
 use Rattle.art_nodes.specs.declared.leaf.LeafNode.{LeafNode}
-use Rattle.art_arena.specs.arena.Arena.{Arena, Held, leaf_held, held_at, node_at, links_at, cell_of, links_of, Allocates, SameCells, WritesLinks}
-use Rattle.art_arena.specs.arena.Cells.{Cell, pair, leaf_name, UpdatesAt, Holds}
-use Rattle.art_arena.specs.arena.Linked.{Links, AreHalves, IsList, first_slot, last_slot, times}
-use Rattle.art_arena.specs.arena.Shapes.{LeafAt}
-use Rattle.art_arena.proofs.shapes.CellLists.{Holds-add, Holds-remove, Holds-same, Holds-write, copies-vacant}
-use Rattle.art_arena.proofs.shapes.LinkedLists.{AreLinked-join, AreLinked-left, AreLinked-right, AreLinked-same, around_leaf, empty-first, eqb-self, end_there, ends_with-first, first-apart, first_slot-append, halves-apart, halves-end, halves-no_end, halves-start, joined, last-apart, last_slot-append, link_there, linked_in, parted, some_of, start_there, times-append}
-use Rattle.art_arena.proofs.shapes.Subtrees.{cell_held}
-use Rattle.art_arena.proofs.shapes.Updates.{nodes-update, links-update}
-use Rattle.art_arena.proofs.tree.Order.{all_right}
-use Rattle.art_operations.specs.Frees.{leaf_cells}
-use Rattle.art_operations.specs.LeafCursors.{HasInserted, HasRemoved, StandsBetween}
+use Rattle.art_arena.proofs.Common.{Arena, Held, leaf_held, held_at, node_at, links_at, cell_of, links_of, Allocates, SameCells, WritesLinks, Cell, pair, leaf_name, UpdatesAt, Holds, Links, AreHalves, IsList, first_slot, last_slot, times, LeafAt, Holds-add, Holds-remove, Holds-same, Holds-write, copies-vacant, AreLinked-join, AreLinked-left, AreLinked-right, AreLinked-same, around_leaf, empty-first, eqb-self, end_there, ends_with-first, first-apart, first_slot-append, halves-apart, halves-end, halves-no_end, halves-start, joined, last-apart, last_slot-append, link_there, linked_in, parted, some_of, start_there, times-append, cell_held, nodes-update, links-update, all_right}
+use Rattle.art_operations.proofs.Terms.{leaf_cells, HasInserted, HasRemoved, StandsBetween, LeafCursor, HasReplaced, StandsParted}
 use Rattle.art_operations.specs.LeafLists.{HoldsLeaves}
-use Rattle.art_operations.specs.declared.leaf_list.LeafCursor.{LeafCursor}
-use Rattle.art_operations.specs.inner.Cursors.{HasReplaced, StandsParted}
+use Rattle.art_operations.proofs.Door.{links-are}
+use Rattle.art_operations.proofs.FreedParts.{cells-parts}
 use Rattle.art_operations.proofs.FreedRuns.{times-copies}
-
-pub at_most_one : {C : Type 0} (o : Option C) (n : ℕ) → n ≡ cond (is_some o) 1 0 → n ≤ 1
-at_most_one None n e = omega (arith, e)
-at_most_one (Some c) n e = omega (arith, e)
+pub use Rattle.art_operations.proofs.FreedSizes.{at_most_one}
 
 module _ {K V : Type 0} where
   -- no leaf stands twice in a list that an arena holds
@@ -31,10 +18,6 @@ module _ {K V : Type 0} where
     linked = held.linked;
     once = λ n. at_most_one (node_at arena (leaf_name n)) _ (times-copies n ls ∙ held.holds.once (leaf_name n));
   }
-
-  -- the cells of a list in two parts
-  pub cells-parts : (xs ys : List (LeafAt K V)) → leaf_cells (xs ++ ys) ≡ leaf_cells xs ++ leaf_cells ys
-  cells-parts xs ys = map-append (λ (l : LeafAt K V). (leaf_name l.slot, pair l.key l.value)) xs ys
 
   -- the cursor stands between two parts, each of which leads to the other
   pub stands-parted : (arena : Arena K V) (cursor : LeafCursor) (front back : List (LeafAt K V)) → StandsBetween arena cursor front back → StandsParted arena cursor front (first_slot back None) (last_slot None front) back
@@ -136,12 +119,6 @@ module _ {K V : Type 0} where
   pub pair-is : (o : Option (Held K V)) (leaf : LeafNode K V) (k : K) (v : V) → o ≡ Some (leaf_held leaf) → cell_of o ≡ Some (pair k v) → ◌≡◌ {A = K × V} (k, v) (leaf.key, leaf.value)
   pair-is o leaf k v is e =
       let f : ◌≡◌ {A = Option (Cell K V)} (Some (pair k v)) (Some (pair leaf.key leaf.value)) = sym e ∙ ap cell_of is in
-      cc
-
-  -- its links
-  pub links-are : (o : Option (Held K V)) (leaf : LeafNode K V) (links : Links) → o ≡ Some (leaf_held leaf) → links_of o ≡ Some links → ◌≡◌ {A = Links} links (record { previous = leaf.previous; next = leaf.next })
-  links-are o leaf links is e =
-      let f : ◌≡◌ {A = Option Links} (Some links) (Some (record { previous = leaf.previous; next = leaf.next })) = sym e ∙ ap links_of is in
       cc
 
   -- where there is none before the cursor, none is removed

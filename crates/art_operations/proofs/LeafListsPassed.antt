@@ -3,21 +3,11 @@ use Rattle.std.proofs.Common.{◌≡◌, ℕ, zero, suc, ◌<◌, ◌≤◌, Lis
 use Rattle.std.proofs.lemmas.List.{length-map}
 use Rattle.std.specs.declared.cmp.Ordering.TheVariants.{Less, Equal, Greater}
 use Rattle.std.proofs.lemmas.Bool.{cases_order}
-use Rattle.art_bytes.specs.Keys.{bytes_cmp}
-use Rattle.art_nodes.specs.Name.{Name}
+use Rattle.art_bytes.proofs.Common.{bytes_cmp}
+use Rattle.art_nodes.proofs.Common.{Name}
 use Rattle.art_nodes.specs.declared.leaf.LeafNode.{LeafNode}
-use Rattle.art_arena.specs.arena.Arena.{Arena, leaf_held, held_at, node_at, links_at, slots_of}
-use Rattle.art_arena.specs.arena.Cells.{Cell, pair, leaf_name}
-use Rattle.art_arena.specs.arena.Linked.{Links, AreLinked, first_slot, last_slot}
-use Rattle.art_arena.specs.arena.Shapes.{LeafAt}
-use Rattle.art_arena.proofs.shapes.LinkedLists.{AreLinked-right}
-use Rattle.art_arena.proofs.shapes.Measures.{held_few}
-use Rattle.art_arena.proofs.tree.Order.{all_append}
-use Rattle.art_operations.specs.Frees.{leaf_cells}
-use Rattle.art_operations.specs.LeafCursors.{StandsBetween}
-use Rattle.art_operations.specs.declared.leaf_list.LeafCursor.{LeafCursor}
-use Rattle.art_operations.specs.inner.Cursors.{HasPassed, StopsBehindLess}
-use Rattle.art_operations.specs.inner.Nearest.{Compare}
+use Rattle.art_arena.proofs.Common.{Arena, leaf_held, held_at, node_at, links_at, slots_of, Cell, pair, leaf_name, Links, AreLinked, first_slot, last_slot, LeafAt, AreLinked-right, held_few, all_append}
+use Rattle.art_operations.proofs.Terms.{leaf_cells, StandsBetween, LeafCursor, HasPassed, StopsBehindLess, Compare}
 use Rattle.art_operations.proofs.LeafListsParted.{at_most_one, beyond, first-of}
 
 -- the next leaf that these links name

@@ -3,23 +3,9 @@ use Rattle.std.proofs.Common.{◌≡◌, ℕ, List, [], ◌∷◌, ◌++◌, Opt
 use Rattle.std.specs.List.{AllByRecursion, cons_option}
 use Rattle.std.specs.declared.cmp.Ordering.TheVariants.{Less, Greater}
 use Rattle.std.proofs.lemmas.List.{map-append}
-use Rattle.art_bytes.specs.Keys.{Conflict, IsBefore}
-use Rattle.art_bytes.proofs.Order.{before_trans, cmp_before, conflict_turned}
-use Rattle.art_arena.specs.arena.Arena.{Arena, node_at}
-use Rattle.art_arena.specs.arena.Cells.{Cell, pair, leaf_name, UpdatesAt}
-use Rattle.art_arena.specs.arena.Linked.{first_slot}
-use Rattle.art_arena.specs.arena.Shapes.{LeafAt, pairs_of, key_of}
-use Rattle.art_arena.specs.tree.Order.{AscendsByKey}
-use Rattle.art_arena.proofs.shapes.CellLists.{same_name_tells}
-use Rattle.art_arena.proofs.tree.Order.{all_append, all_left, all_right, all_weaker}
-use Rattle.art_operations.specs.Builders.{GoesBehind}
-use Rattle.art_operations.specs.KeyedLists.{IsBlocked, with_key}
-use Rattle.art_operations.specs.LeafCursors.{HasInserted, HasPutIn, KeepsCells, StandsInList, StandsBetween}
-use Rattle.art_operations.specs.LeafNames.{HasLeavesOf}
-use Rattle.art_operations.specs.Pairs.{with_pair_put}
-use Rattle.art_operations.specs.declared.leaf_list.LeafCursor.{LeafCursor}
-use Rattle.art_operations.specs.inner.Cursors.{HasPassed, HasReplaced, StopsBehindLess}
-use Rattle.art_operations.specs.inner.Nearest.{Compare}
+use Rattle.art_bytes.proofs.Common.{Conflict, IsBefore, before_trans, cmp_before, conflict_turned}
+use Rattle.art_arena.proofs.Common.{Arena, node_at, Cell, pair, leaf_name, UpdatesAt, first_slot, LeafAt, pairs_of, key_of, AscendsByKey, same_name_tells, all_append, all_left, all_right, all_weaker}
+use Rattle.art_operations.proofs.Terms.{GoesBehind, IsBlocked, with_key, HasInserted, HasPutIn, KeepsCells, StandsInList, StandsBetween, HasLeavesOf, with_pair_put, LeafCursor, HasPassed, HasReplaced, StopsBehindLess, Compare}
 use Rattle.art_operations.proofs.KeyedLists.{put_new, put_replaced}
 use Rattle.art_operations.proofs.LeafPairs.{pairs-parts}
 use Rattle.art_operations.proofs.Nearest.{turned}
@@ -89,9 +75,6 @@ module _ {K V : Type 0} (bytes : K → List ℕ) where
     are-free : AreFree (key_of bytes) key (pairs_of before ++ pairs_of pass.rest)
     are-free = subst (AreFree (key_of bytes) key) (sym parts-are) (free-all (key_of bytes) key pairs free)
 
-    rest-free : AreFree (key_of bytes) key (pairs_of pass.rest)
-    rest-free = all_right (λ (p : K × V). Conflict (bytes p.0) key → ⊥) (pairs_of before) (pairs_of pass.rest) are-free
-
     before-parts : pairs_of before ≡ pairs_of below.front ++ pairs_of pass.passed
     before-parts = map-append (λ (l : LeafAt K V). (l.key, l.value)) below.front pass.passed
 
@@ -133,7 +116,7 @@ module _ {K V : Type 0} (bytes : K → List ℕ) where
 
       pub put-inserted : found ≡ None → HasInserted new then k v before pass.rest → HasPutIn new then bytes k v None pairs
       put-inserted none (slot, stands) =
-          let above = greater-behind key pass.rest (subst (λ f. StopsBehindLess bytes key f pass.rest) none pass.stops) rest-free in
+          let above = greater-behind key pass.rest (subst (λ f. StopsBehindLess bytes key f pass.rest) none pass.stops) (all_right (λ (p : K × V). Conflict (bytes p.0) key → ⊥) (pairs_of before) (pairs_of pass.rest) are-free) in
           let up = between (key_of bytes) (k, v) (pairs_of before) (pairs_of pass.rest) ascends (subst (λ b. GoesBehind bytes b (pairs_of before)) (sym is) all-before) (subst (λ b. ComesBefore (key_of bytes) b (pairs_of pass.rest)) (sym is) above) in
           let put = put_new (key_of bytes) (k, v) (pairs_of before) (pairs_of pass.rest) up in
           let put_is = put.new_is ∙ ap (λ ps. with_pair_put bytes k v ps) parts-are in

@@ -1,28 +1,10 @@
 -- Each leaf keeps its name: the leaves that an arena holds, before and after a change of a tree.
 use Rattle.std.proofs.Common.{◌≡◌, ◌≢◌, ℕ, ◌≤◌, ◌⊎◌, Bool, true, false, not, filter, cond, List, [], ◌∷◌, ◌++◌, Option, Some, None, is_some, refl, sym, ap, ap₂, subst, ◌∙◌, inl, inr, arith}
-use Rattle.art_nodes.specs.Name.{Name}
+use Rattle.art_nodes.proofs.Common.{Name}
 use Rattle.art_nodes.specs.declared.leaf.LeafNode.{LeafNode}
-use Rattle.art_arena.specs.arena.Arena.{Arena, Held, held_at, node_at, cell_of, Allocates, KeepsNodes, SameNodes}
-use Rattle.art_arena.specs.arena.Cells.{Cell, pair, leaf_name, copies, Holds}
-use Rattle.art_arena.specs.arena.Shapes.{Shape, Branches, leaf_at, inner_at, no_branch, branch, LeafAt, leaves, leaves_in, pairs_of, key_of, cells, cells_in}
-use Rattle.art_arena.specs.arena.Steps.{Step}
-use Rattle.art_arena.specs.arena.Stores.{StoresBeside}
-use Rattle.art_arena.specs.tree.Changes.{IsIn, is_before, put_in_order}
-use Rattle.art_arena.proofs.shapes.CellLists.{only-holds, same_name_tells}
-use Rattle.art_arena.proofs.shapes.Meanings.{nodes-part}
-use Rattle.art_arena.proofs.tree.Insert.{all_at, in_left, in_right}
-use Rattle.art_arena.proofs.tree.Paths.{in_cases}
-use Rattle.art_operations.specs.Deletions.{HasLeavesBeside, IsDeletedBeside}
-use Rattle.art_operations.specs.Insertions.{IsInsertedBeside, IsPutOrReplaced}
-use Rattle.art_operations.specs.KeyedLists.{overlaps, without_overlapping}
-use Rattle.art_operations.specs.LeafNames.{HasKeyAt, HasLeavesOf, KeepsLeavesOf}
-use Rattle.art_operations.specs.Overwrites.{IsOverwrittenBeside}
-use Rattle.art_operations.specs.Pairs.{with_pair_over}
-use Rattle.art_operations.specs.Subtrees.{leaves_without, IsCutBeside}
-use Rattle.art_operations.specs.declared.delete.result.DeleteResult.{DeleteResult}
-use Rattle.art_operations.specs.declared.delete.subtree.SubtreeDeleteResult.{SubtreeDeleteResult}
-use Rattle.art_operations.specs.declared.insert.result.InsertResult.{InsertResult}
-use Rattle.art_operations.specs.declared.prefix_insert.result.PrefixInsertResult.{PrefixInsertResult}
+use Rattle.art_arena.proofs.Common.{Arena, Held, held_at, node_at, cell_of, Allocates, KeepsNodes, SameNodes, Cell, pair, leaf_name, copies, Holds, Shape, Branches, leaf_at, inner_at, no_branch, branch, LeafAt, leaves, leaves_in, pairs_of, key_of, cells, cells_in, Step, StoresBeside, IsIn, is_before, put_in_order, only-holds, same_name_tells, nodes-part, all_at, in_left, in_right, in_cases}
+use Rattle.art_operations.proofs.Terms.{HasLeavesBeside, IsDeletedBeside, IsInsertedBeside, IsPutOrReplaced, overlaps, without_overlapping, HasKeyAt, HasLeavesOf, KeepsLeavesOf, IsOverwrittenBeside, with_pair_over, leaves_without, IsCutBeside, DeleteResult, SubtreeDeleteResult, InsertResult, PrefixInsertResult}
+use Rattle.art_operations.proofs.KeyedLists.{passes}
 use Rattle.art_operations.proofs.LeafPairs.{held_leaf}
 
 -- a list that counts a name has it
@@ -52,17 +34,7 @@ module _ {X : Type 0} where
       here false later (inl e) = inr (inl e)
       here false later (inr i) = elim (later i) [ inl e ↦ inl e | inr j ↦ inr (inr j) ]
 
-  -- what is kept of a list passes the test
-  in-filter : (test : X → Bool) (y : X) (xs : List X) → IsIn y (filter test xs) → test y ≡ true
-  in-filter test y [] i = absurd i
-  in-filter test y (x ∷ xs) i = here (test x) refl (in-filter test y xs) i
-    where
-      here : (b : Bool) → test x ≡ b → (IsIn y (filter test xs) → test y ≡ true) → IsIn y (cond b (x ∷ filter test xs) (filter test xs)) → test y ≡ true
-      here true e later (inl f) = ap test (sym f) ∙ e
-      here true e later (inr i) = later i
-      here false e later i = later i
-
-  -- and stands in that list
+  -- what a filter keeps of a list stands in it
   of-filter : (test : X → Bool) (y : X) (xs : List X) → IsIn y (filter test xs) → IsIn y xs
   of-filter test y [] i = i
   of-filter test y (x ∷ xs) i = here (test x) (of-filter test y xs) i
@@ -206,7 +178,7 @@ module _ {K V : Type 0} (bytes : K → List ℕ) where
         gone j c = elim (in-put (key_of bytes) (key, value) p (without_overlapping (key_of bytes) (bytes key) (pairs_of (leaves s))) i) [
           | inl f ↦ others x j (same ∙ sym (ap (key_of bytes) f ∙ has))
           | inr g ↦
-              let apart = in-filter (λ q. not (overlaps (bytes key) (key_of bytes q))) p (pairs_of (leaves s)) g in
+              let apart = all_at (λ q. not (overlaps (bytes key) (key_of bytes q)) ≡ true) p _ (passes (λ q. not (overlaps (bytes key) (key_of bytes q))) (pairs_of (leaves s))) g in
               let overlap = all_at (λ (l : LeafAt K V). overlaps (bytes key) (bytes l.key) ≡ true) x is.block is.overlap c in
               let met : overlaps (bytes key) (key_of bytes p) ≡ true = subst (λ b. overlaps (bytes key) b ≡ true) (same ∙ sym has) overlap in
               let never = sym (ap not met) ∙ apart in

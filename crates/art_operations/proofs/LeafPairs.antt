@@ -2,33 +2,13 @@
 use Rattle.std.proofs.Common.{◌≡◌, ◌≢◌, ℕ, ◌≤◌, List, [], ◌∷◌, ◌++◌, length, take, map, nat_eq, Option, Some, None, refl, sym, ap, subst, ◌∙◌, inl, inr}
 use Rattle.std.specs.List.{cons_option}
 use Rattle.std.proofs.lemmas.List.{map-append}
-use Rattle.art_bytes.specs.Keys.{BeginsWith, Conflict, common_prefix}
-use Rattle.art_nodes.specs.Name.{Name}
+use Rattle.art_bytes.proofs.Common.{BeginsWith, Conflict, common_prefix}
+use Rattle.art_nodes.proofs.Common.{Name}
 use Rattle.art_nodes.specs.declared.leaf.LeafNode.{LeafNode}
-use Rattle.art_arena.specs.tree.Order.{AscendsByKey}
-use Rattle.art_arena.specs.tree.Changes.{IsIn, IsPutIn}
-use Rattle.art_arena.specs.arena.Cells.{Cell, pair, leaf_name, AreHeld}
-use Rattle.art_arena.specs.arena.Context.{leaves_before, leaves_after}
-use Rattle.art_arena.specs.tree.Fronts.{byte_after, bytes_after, distinct, width_of}
-use Rattle.art_arena.specs.arena.Found.{found_in, IsAtKey}
-use Rattle.art_arena.specs.tree.Kinds.{IsLimit}
-use Rattle.art_arena.specs.arena.Steps.{Step}
+use Rattle.art_arena.proofs.Common.{AscendsByKey, IsIn, IsPutIn, Cell, pair, leaf_name, AreHeld, leaves_before, leaves_after, byte_after, bytes_after, distinct, width_of, found_in, IsAtKey, IsLimit, Step, Shape, Branches, leaf_at, inner_at, no_branch, branch, LeafAt, leaves, leaves_in, pairs_of, erase, cells, cells_in, IsUnder, key_of, Shrinks, all_left, all_right, items-erase, canonical-erase, pairs-with_key, pair_at, in_middle, all_at, in_right, leaves-plug, in_cases, in_map, in_unmap}
 use Rattle.art_arena.specs.arena.Found as found
-use Rattle.art_arena.specs.arena.Shapes.{Shape, Branches, leaf_at, inner_at, no_branch, branch, LeafAt, leaves, leaves_in, pairs_of, erase, cells, cells_in, IsUnder, key_of}
-use Rattle.art_arena.specs.tree.Shrinks.{Shrinks}
-use Rattle.art_arena.proofs.tree.Order.{all_left, all_right}
 use Rattle.art_arena.proofs.tree.Canonical.{ascending}
-use Rattle.art_arena.proofs.shapes.Erased.{items-erase, canonical-erase}
-use Rattle.art_arena.proofs.shapes.Finding.{pairs-with_key, pair_at}
-use Rattle.art_arena.proofs.tree.Exists.{in_middle}
-use Rattle.art_arena.proofs.tree.Insert.{all_at, in_right}
-use Rattle.art_arena.proofs.shapes.Contexts.{leaves-plug}
-use Rattle.art_arena.proofs.tree.Paths.{in_cases, in_map, in_unmap}
-use Rattle.art_operations.specs.Insertions.{IsReplaced, IsPutOrReplaced}
-use Rattle.art_operations.specs.KeyedLists.{with_key, IsBlocked}
-use Rattle.art_operations.specs.Pairs.{pair_in}
-use Rattle.art_operations.specs.Points.{HasConflict, NoConflict}
-use Rattle.art_operations.specs.Subtrees.{ShrinksWithout}
+use Rattle.art_operations.proofs.Terms.{IsReplaced, IsPutOrReplaced, with_key, IsBlocked, pair_in, NoConflict, ShrinksWithout}
 use Rattle.art_operations.proofs.KeyedLists.{IsPut, IsTaken, put_new, put_replaced, taken}
 
 -- the pair of a leaf
@@ -106,10 +86,6 @@ module _ {K V : Type 0} (bytes : K → List ℕ) where
   taken_pair front l back old h e =
       let old_is : pairs_of old ≡ pairs_of front ++ leaf_pair l ∷ pairs_of back = ap pairs_of e ∙ pairs-parts front l back in
       rw (old_is, map-append leaf_pair front back) (taken (key_of bytes) (leaf_pair l) (pairs_of front) (pairs_of back) (subst (AscendsByKey (key_of bytes)) old_is h))
-
-  -- a leaf in conflict with a key has a pair that blocks it
-  pub blocked_pair : (key : List ℕ) (ls : List (LeafAt K V)) → HasConflict bytes key ls → IsBlocked (key_of bytes) key (pairs_of ls)
-  blocked_pair key ls (l, i, c) = (leaf_pair l, in_map leaf_pair l ls i, c)
 
   -- where no leaf is in conflict with a key, no pair blocks it
   pub free_pairs : (key : List ℕ) (ls : List (LeafAt K V)) → NoConflict bytes key ls → IsBlocked (key_of bytes) key (pairs_of ls) → ⊥

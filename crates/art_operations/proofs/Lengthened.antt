@@ -1,14 +1,9 @@
 -- What a child whose prefix is lengthened leaves of the other nodes.
 use Rattle.std.proofs.Common.{◌≡◌, ◌≢◌, ℕ, List, sym, ap, subst, ◌∙◌, arith}
+use Rattle.art_nodes.proofs.Common.{InnerNode, Name}
 use Rattle.art_nodes.specs.declared.kind.NodeType.TheVariants.{Leaf}
-use Rattle.art_nodes.specs.InnerNode.{InnerNode}
-use Rattle.art_nodes.specs.Name.{Name}
-use Rattle.art_arena.specs.arena.Arena.{Arena, held_at, node_at}
-use Rattle.art_arena.specs.tree.Kinds.{IsKindOf}
-use Rattle.art_arena.specs.arena.Meaning.{IsSubtree}
-use Rattle.art_arena.specs.arena.Shapes.{Shape, leaf_at, inner_at, width}
-use Rattle.art_arena.proofs.shapes.Subtrees.{inner_of}
-use Rattle.art_operations.specs.inner.Removals.{Lengthens}
+use Rattle.art_arena.proofs.Common.{Arena, held_at, node_at, IsKindOf, IsSubtree, Shape, leaf_at, inner_at, width, inner_of}
+use Rattle.art_operations.proofs.Terms.{Lengthens}
 
 -- an inner node's kind is no leaf's
 pub kind_not_leaf : (n : Name) (children : ℕ) → IsKindOf n.kind children → n.kind ≢ Leaf

@@ -73,8 +73,11 @@ pub mod PassedLeaves
 pub mod KeptLeaves
 pub mod Closing
 pub mod Building
+pub mod Reopening
 pub mod LeafListsParted
 pub mod LeafListsPassed
 pub mod LeafListsPut
 pub mod LeafListsMoved
 pub mod LeafListsOrdered
+pub mod Terms
+pub mod Common

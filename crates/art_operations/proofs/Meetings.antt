@@ -1,8 +1,8 @@
 -- Where two lists of bytes end or part.
 use Rattle.std.proofs.Common.{◌≡◌, ◌≢◌, ℕ, zero, suc, ◌<◌, ◌≤◌, List, [], ◌∷◌, ◌++◌, length, get_or, take, drop, refl, sym, ap, ◌∙◌, inl, inr, arith, append-nil, length-append}
 use Rattle.std.proofs.lemmas.Bool.Decides.{eqb_tells}
-use Rattle.art_nodes.specs.PrefixMatch.{agreeing}
-use Rattle.art_bytes.specs.Keys.{IsProperFront}
+use Rattle.art_nodes.proofs.Common.{agreeing}
+use Rattle.art_bytes.proofs.Common.{IsProperFront}
 
 -- the lists differ behind a front of so many bytes
 pub record Parts (xs ys : List ℕ) (n : ℕ) : Type 0 where

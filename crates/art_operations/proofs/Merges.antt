@@ -1,25 +1,15 @@
 -- A node of two children without one: the other child stands for it, behind a longer prefix.
-use Rattle.std.proofs.Common.{◌≡◌, ◌≢◌, ℕ, ◌+◌, ◌≤◌, cond, Option, is_some, List, [], ◌∷◌, ◌++◌, length, take, Some, None, inl, inr, refl, sym, ap, ap₂, subst, ◌∙◌, arith, append_assoc, length-append}
+use Rattle.std.proofs.Common.{◌≡◌, ◌≢◌, ℕ, ◌+◌, ◌≤◌, cond, Option, List, [], ◌∷◌, ◌++◌, length, take, Some, None, inl, inr, refl, sym, ap, ap₂, subst, ◌∙◌, arith, append_assoc, length-append}
 use Rattle.std.proofs.lemmas.List.{append-nil}
-use Rattle.art_nodes.specs.Name.{Name}
-use Rattle.art_nodes.specs.InnerNode.{InnerNode}
-use Rattle.art_arena.specs.arena.Arena.{Arena, held_at, node_at}
-use Rattle.art_arena.specs.arena.Cells.{Cell, branches, leaf_name, copies, Holds, UpdatesAt}
-use Rattle.art_arena.specs.arena.Context.{Frame, path_to, frame_cell, cells_before, cells_after, AreBelow}
-use Rattle.art_arena.specs.arena.Meaning.{IsPart, IsSubtree}
-use Rattle.art_arena.specs.arena.Shapes.{Shape, Branches, leaf_at, inner_at, no_branch, branch, name_of, children_at, join, width, leaves, leaves_in, cells, cells_in, node_of, IsUnder, AreUnder}
-use Rattle.art_arena.proofs.tree.Order.{all_left, all_right}
-use Rattle.art_arena.proofs.shapes.CellLists.{same_name-self, copies-append, Holds-write, Holds-remove, Holds-same}
-use Rattle.art_arena.proofs.shapes.Contexts.{leaves_in-join}
-use Rattle.art_arena.proofs.shapes.Repoint.{frame_node}
-use Rattle.art_arena.proofs.shapes.Subtrees.{inner_of}
-use Rattle.art_arena.proofs.shapes.Updates.{nodes-update, nodes-same}
-use Rattle.art_operations.specs.inner.Detached.{IsHeldAt, StandsFor}
-use Rattle.art_operations.specs.inner.Removals.{Lengthens, lengthened, IsOther}
+use Rattle.art_nodes.proofs.Common.{Name, InnerNode}
+use Rattle.art_arena.proofs.Common.{Arena, held_at, node_at, Cell, branches, leaf_name, copies, Holds, UpdatesAt, Frame, path_to, frame_cell, cells_before, cells_after, AreBelow, IsPart, IsSubtree, Shape, Branches, leaf_at, inner_at, no_branch, branch, name_of, children_at, join, width, leaves, leaves_in, cells, cells_in, node_of, IsUnder, AreUnder, all_right, same_name-self, copies-append, Holds-write, Holds-remove, Holds-same, leaves_in-join, frame_node, inner_of, nodes-update, nodes-same}
+use Rattle.art_operations.proofs.Terms.{IsHeldAt, StandsFor, Lengthens, lengthened, IsOther}
 use Rattle.art_operations.proofs.Apart.{set_apart, AreUnder-closed}
 use Rattle.art_operations.proofs.JoinedPrefixes.{joined}
 use Rattle.art_operations.proofs.Lengthened.{kind_not_leaf}
-use Rattle.art_bytes.proofs.Order.{begins_append}
+use Rattle.art_bytes.proofs.Common.{begins_append}
+use Rattle.art_operations.proofs.FreedSizes.{at_most_one}
+use Rattle.art_operations.proofs.Waiting.{part-within}
 
 module _ {K V : Type 0} where
   -- the shape behind a longer prefix
@@ -70,17 +60,7 @@ module _ {K V : Type 0} where
   -- a shape whose cells stand among others is a part
   pub part_of : (P : ℕ) (at : Name → Option (Cell K V)) (s : Shape K V) (xs : List (Name × Cell K V)) (x : Name × Cell K V) (ys : List (Name × Cell K V))
       → Holds at (xs ++ (x ∷ (cells P s ++ ys))) → IsPart P at (name_of s) s
-  part_of P at s xs x ys holds =
-      let Q = λ (c : Name × Cell K V). at c.0 ≡ Some c.1 in
-      record {
-        named = refl;
-        held = all_left Q (cells P s) ys (all_right Q xs (x ∷ (cells P s ++ ys)) holds.held).1;
-        once = λ n. at_most (at n) _ (copies n (cells P s)) (holds.once n) (omega (arith, copies-append n xs (x ∷ (cells P s ++ ys)), copies-append n (cells P s) ys));
-      }
-    where
-      at_most : (o : Option (Cell K V)) (all some : ℕ) → all ≡ cond (is_some o) 1 0 → some ≤ all → some ≤ 1
-      at_most None all some e less = omega arith
-      at_most (Some c) all some e less = omega arith
+  part_of P at s xs x ys holds = part-within P at (xs ++ x ∷ []) ys s (subst (Holds at) (sym (append_assoc xs (x ∷ []) (cells P s ++ ys))) holds)
 
   copies-root : (P : ℕ) (s : Shape K V) → 1 ≤ copies (name_of s) (cells P s)
   copies-root P (leaf_at slot k v) = omega (arith, ap {B = ℕ} (λ b. cond b 1 0) (same_name-self (leaf_name slot)))
@@ -92,11 +72,7 @@ module _ {K V : Type 0} where
   root_apart P at s xs n c ys holds e =
       let here : 1 ≤ copies n (cells P s) = subst (λ m. 1 ≤ copies m (cells P s)) e (copies-root P s) in
       let parts : copies n (xs ++ ((n, c) ∷ (cells P s ++ ys))) ≡ copies n xs + (1 + copies n (cells P s ++ ys)) = rw same_name-self at (copies-append n xs ((n, c) ∷ (cells P s ++ ys))) in
-      at_most (at n) _ (holds.once n) (omega (arith, here, parts, copies-append n (cells P s) ys))
-    where
-      at_most : (o : Option (Cell K V)) (all : ℕ) → all ≡ cond (is_some o) 1 0 → 2 ≤ all → ⊥
-      at_most None all e two = omega arith
-      at_most (Some d) all e two = omega arith
+      omega (arith, at_most_one (at n) _ (holds.once n), here, parts, copies-append n (cells P s) ys)
 
   -- of two branches, one of which is put aside, one is left
   pub record OneLeft (before : Branches K V) (byte : ℕ) (n : Name) (after : Branches K V) : Type 0 where

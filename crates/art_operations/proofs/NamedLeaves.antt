@@ -1,25 +1,10 @@
 -- A leaf of a tree that is known by its name, found again by its key.
 use Rattle.std.proofs.Common.{◌≡◌, ℕ, List, [], ◌∷◌, ◌++◌, Option, Some, None, IsSome, refl, sym, ap, subst, ◌∙◌, inl, inr}
-use Rattle.art_bytes.specs.Keys.{IsBefore}
-use Rattle.art_bytes.proofs.Order.{before_not_self}
-use Rattle.art_nodes.specs.Name.{Name}
+use Rattle.art_bytes.proofs.Common.{IsBefore, before_not_self}
+use Rattle.art_nodes.proofs.Common.{Name}
 use Rattle.art_nodes.specs.declared.leaf.LeafNode.{LeafNode}
-use Rattle.art_arena.specs.arena.Arena.{Arena, Held, leaf_held, inner_held, held_at, node_at, cell_of}
-use Rattle.art_arena.specs.arena.Cells.{Cell, pair, leaf_name}
-use Rattle.art_arena.specs.arena.Found.{found_in, IsAtKey}
-use Rattle.art_arena.specs.arena.Shapes.{Shape, LeafAt, leaves, pairs_of, key_of}
-use Rattle.art_arena.specs.arena.Steps.{Step}
-use Rattle.art_arena.specs.arena.Stores.{Stores, StoresBeside}
-use Rattle.art_arena.specs.tree.Changes.{IsIn}
-use Rattle.art_arena.specs.tree.Order.{AscendsByKey}
-use Rattle.art_arena.specs.tree.Shrinks.{Shrinks}
-use Rattle.art_arena.proofs.shapes.Meanings.{nodes-part, nodes-subtree}
-use Rattle.art_arena.proofs.tree.Exists.{in_middle}
-use Rattle.art_arena.proofs.tree.Insert.{all_at}
-use Rattle.art_arena.proofs.tree.Paths.{in_cases}
-use Rattle.art_operations.specs.DeletePoints.{IsLeafPlace}
-use Rattle.art_operations.specs.Deletions.{IsAmong}
-use Rattle.art_operations.specs.KeyedLists.{with_key}
+use Rattle.art_arena.proofs.Common.{Arena, Held, leaf_held, inner_held, held_at, node_at, cell_of, Cell, pair, leaf_name, found_in, IsAtKey, Shape, LeafAt, leaves, pairs_of, key_of, Step, Stores, StoresBeside, IsIn, AscendsByKey, Shrinks, nodes-part, nodes-subtree, in_middle, all_at, in_cases}
+use Rattle.art_operations.proofs.Terms.{IsLeafPlace, IsAmong, with_key}
 use Rattle.art_operations.proofs.KeyedLists.{before, behind, taken}
 use Rattle.art_operations.proofs.LeafPairs.{leaf_pair, pairs_ascend, pairs-parts, none_found, same_leaf, found_leaf, held_leaf}
 use Rattle.art_operations.proofs.Stretches.{leaves_ascend}

@@ -1,46 +1,24 @@
 -- The leaf beside the place of a key: where a bound's leaves begin or end.
-use Rattle.std.proofs.Common.{◌≡◌, ℕ, ◌+◌, ◌<◌, ◌≤◌, Bool, true, false, not, List, [], ◌∷◌, ◌++◌, length, drop, Option, Some, None, IsSome, refl, sym, ap, subst, ◌∙◌, inl, inr, arith, append_assoc, append-nil}
+use Rattle.std.proofs.Common.{◌≡◌, ℕ, ◌+◌, ◌<◌, ◌≤◌, Bool, true, false, not, List, [], ◌∷◌, ◌++◌, length, drop, if◌then◌else◌, Option, Some, None, IsSome, refl, sym, ap, subst, ◌∙◌, inl, inr, arith, append_assoc, append-nil}
 use Rattle.std.specs.List.{AllByRecursion}
 use Rattle.std.specs.BTreeMap.Range.{is_from_start, is_past_end}
-use Rattle.std.specs.Ordering.{ordering_reverse, is_ge, is_gt, is_le, is_lt}
+use Rattle.std.specs.Ordering.{ordering_reverse, is_le, is_lt}
 use Rattle.std.specs.declared.cmp.Ordering.{Ordering}
 use Rattle.std.specs.declared.cmp.Ordering.TheVariants.{Less, Equal, Greater}
 use Rattle.std.proofs.lemmas.Bool.{cases_order}
 use Rattle.std.proofs.lemmas.Cmp.{nat_cmp_total, nat_list_cmp_total, tied_itself}
 use Rattle.std.proofs.lemmas.List.Elements.{filter-append}
-use Rattle.art_bytes.specs.Keys.{BeginsWith, Conflict, IsBefore, bytes_cmp}
-use Rattle.art_bytes.proofs.Order.{before_cmp}
-use Rattle.art_nodes.specs.InnerNode.{child_at, children_between, first_child}
+use Rattle.art_bytes.proofs.Common.{BeginsWith, Conflict, IsBefore, bytes_cmp, before_cmp}
+use Rattle.art_nodes.proofs.Common.{child_at, children_between, first_child, Name}
 use Rattle.art_nodes.specs.declared.leaf.LeafNode.{LeafNode}
-use Rattle.art_nodes.specs.Name.{Name}
-use Rattle.art_arena.specs.arena.Arena.{Arena, Held, leaf_held, held_at, links_of, links_at, node_at}
-use Rattle.art_arena.specs.arena.Cells.{pair, leaf_name}
-use Rattle.art_arena.specs.arena.Context.{Frame, path_to, leaves_before, leaves_after}
-use Rattle.art_arena.specs.arena.Descents.{leaf_where, passing}
-use Rattle.art_arena.specs.arena.Linked.{Links, AreLinked, first_slot, last_slot}
-use Rattle.art_arena.specs.arena.Meaning.{IsSubtree}
-use Rattle.art_arena.specs.arena.Places.{IsPlace}
-use Rattle.art_arena.specs.arena.Shapes.{Shape, Branches, inner_at, no_branch, branch, LeafAt, name_of, children_at, join, leaves, leaves_in, pairs_of, erase, IsUnder, AreUnder, key_of}
-use Rattle.art_arena.proofs.tree.Order.{all_append, all_left, all_right, all_weaker}
-use Rattle.art_arena.specs.tree.Order.{AscendsByKey}
+use Rattle.art_arena.proofs.Common.{Arena, Held, leaf_held, held_at, links_of, links_at, node_at, pair, leaf_name, Frame, path_to, leaves_before, leaves_after, leaf_where, passing, Links, AreLinked, first_slot, last_slot, IsSubtree, IsPlace, Shape, Branches, inner_at, no_branch, branch, LeafAt, name_of, children_at, join, leaves, leaves_in, pairs_of, erase, IsUnder, AreUnder, key_of, all_append, all_left, all_right, all_weaker, AscendsByKey, leaves-plug, leaves_in-join, items-erase, canonical-erase, opening, leaves_are_held, branch-first, leaves_begin_prefix, holds_pair, some_leaf, ends_with-first, last_slot-append, link_there, AreAfter, AreBefore, branches-after, branches-before, ctx-after, ctx-before, smaller_byte_first, behind, place-subtree}
 use Rattle.art_arena.proofs.tree.Canonical.{ascending}
-use Rattle.art_arena.proofs.shapes.Contexts.{leaves-plug, leaves_in-join}
-use Rattle.art_arena.proofs.shapes.Erased.{items-erase, canonical-erase}
-use Rattle.art_arena.proofs.shapes.Openings.{opening}
-use Rattle.art_arena.proofs.shapes.Prefixes.{leaves_are_held}
-use Rattle.art_arena.proofs.shapes.Subtrees.{branch-first, leaves_begin_prefix, holds_pair, some_leaf}
-use Rattle.art_arena.proofs.shapes.LinkedLists.{ends_with-first, last_slot-append, link_there}
-use Rattle.art_arena.proofs.shapes.Surroundings.{AreAfter, AreBefore, branches-after, branches-before, ctx-after, ctx-before, smaller_byte_first}
-use Rattle.std.specs.declared.ops.Bound.TheVariants.{Included, Excluded, Unbounded}
-use Rattle.art_operations.specs.Meetings.{PartAt}
-use Rattle.art_operations.specs.Points.{AllConflict, IsPoint}
-use Rattle.art_operations.specs.declared.insert.point.InsertPoint.{InsertPoint}
-use Rattle.art_operations.specs.declared.meeting.Parted.{Parted}
-use Rattle.art_operations.specs.inner.Nearest.{Compare, IsNearest}
-use Rattle.art_arena.proofs.shapes.Passing.{behind}
+use Rattle.std.specs.declared.ops.Bound.TheVariants.{Excluded, Unbounded}
+use Rattle.art_operations.proofs.Terms.{slot_inside, PartAt, AllConflict, IsPoint, InsertPoint, Parted, Compare, IsNearest, bound_at, takes}
+use Rattle.art_operations.proofs.Door.{links-are}
+use Rattle.art_operations.proofs.KeyedLists.{all-pass, none-pass}
 use Rattle.art_operations.proofs.Points.{leaf_there, part_new, part_old}
 use Rattle.art_operations.proofs.Waiting.{children_behind}
-use Rattle.art_arena.proofs.shapes.Walking.{place-subtree}
 
 -- the other way round, the order is turned
 pub turned : (k l : List ℕ) (o : Ordering) → bytes_cmp k l ≡ o → bytes_cmp l k ≡ ordering_reverse o
@@ -48,13 +26,6 @@ turned k l o e = nat_list_cmp_total.antisymm l k ∙ ap ordering_reverse e
 
 pub before_greater : (k l : List ℕ) → IsBefore k l → bytes_cmp l k ≡ Greater
 before_greater k l h = turned k l Less (before_cmp k l h)
-
--- what comes behind a key that isn't below another is above that one
-above_too : (key f r : List ℕ) → bytes_cmp f key ≡ Greater → IsBefore f r → bytes_cmp r key ≡ Greater
-above_too key f r e h = turned key r Less (nat_list_cmp_total.trans key f r (turned f key Greater e) (before_cmp f r h))
-
-above_same : (key f r : List ℕ) → bytes_cmp f key ≡ Equal → IsBefore f r → bytes_cmp r key ≡ Greater
-above_same key f r e h = turned key r Less (sym (nat_list_cmp_total.congr f key r e) ∙ before_cmp f r h)
 
 -- a key that begins with another goes on before what comes behind that one
 front_before : (f key r : List ℕ) → BeginsWith f key → IsBefore f r → IsBefore key r
@@ -131,10 +102,6 @@ module _ {K V : Type 0} (bytes : K → List ℕ) (key : List ℕ) where
       subst (λ ls. IsNearest bytes key ls slot o) (sym (ap leaves place.is ∙ leaves-plug ctx part))
       (nearest_around (leaves_before ctx) (leaves part) (leaves_after ctx) slot o (below_before (leaves_before ctx) (ctx-before bytes key ctx place.around begins)) near (above_after (leaves_after ctx) (ctx-after bytes key ctx place.around begins)))
 
-  -- a lone leaf
-  pub nearest_alone : (l : LeafAt K V) (slot : ℕ) (o : Ordering) → l.slot ≡ slot → bytes_cmp (bytes l.key) key ≡ o → IsNearest bytes key (l ∷ []) slot o
-  nearest_alone l slot o is compares = record { before = []; leaf = l; after = []; parts = refl; is = is; below = tt; compares = compares; above = tt }
-
   -- the first of leaves that are all in conflict with the key
   pub nearest_conflict : (l : LeafAt K V) (ls : List (LeafAt K V)) (slot : ℕ) (o : Ordering) → l.slot ≡ slot → bytes_cmp (bytes l.key) key ≡ o → Conflict key (bytes l.key)
       → AllByRecursion (λ r. IsBefore (bytes l.key) (bytes r.key)) ls → IsNearest bytes key (l ∷ ls) slot o
@@ -142,85 +109,74 @@ module _ {K V : Type 0} (bytes : K → List ℕ) (key : List ℕ) where
       record { before = []; leaf = l; after = ls; parts = refl; is = is; below = tt; compares = compares; above = all_weaker _ _ (λ r b. over o compares (bytes r.key) b) ls behind }
     where
       over : (o : Ordering) → bytes_cmp (bytes l.key) key ≡ o → (r : List ℕ) → IsBefore (bytes l.key) r → bytes_cmp r key ≡ Greater
-      over Greater e r b = above_too key (bytes l.key) r e b
-      over Equal e r b = above_same key (bytes l.key) r e b
+      over Greater e r b = turned key r Less (nat_list_cmp_total.trans key (bytes l.key) r (turned (bytes l.key) key Greater e) (before_cmp (bytes l.key) r b))
+      over Equal e r b = turned key r Less (sym (nat_list_cmp_total.congr (bytes l.key) key r e) ∙ before_cmp (bytes l.key) r b)
       over Less e r b = elim conflict.1 [
         | inl h ↦ absurd (longer_not_below key h.0 (subst (λ k. bytes_cmp k key ≡ Less) h.1 e))
         | inr h ↦ before_greater key r (front_before (bytes l.key) key r h b)
       ]
 
-le_turned : (o : Ordering) → is_le (ordering_reverse o) ≡ is_ge o
-le_turned Less = refl
-le_turned Equal = refl
-le_turned Greater = refl
-
-lt_turned : (o : Ordering) → is_lt (ordering_reverse o) ≡ is_gt o
-lt_turned Less = refl
-lt_turned Equal = refl
-lt_turned Greater = refl
-
-not_lt_turned : (o : Ordering) → not (is_lt (ordering_reverse o)) ≡ is_le o
-not_lt_turned Less = refl
-not_lt_turned Equal = refl
-not_lt_turned Greater = refl
-
-not_le_turned : (o : Ordering) → not (is_le (ordering_reverse o)) ≡ is_lt o
-not_le_turned Less = refl
-not_le_turned Equal = refl
-not_le_turned Greater = refl
-
 -- the test of a bound, by how a key compares with the bound's
-pub start_included : (key k : List ℕ) (o : Ordering) → bytes_cmp k key ≡ o → is_from_start bytes_cmp (Included key) k ≡ is_ge o
-start_included key k o e = ap is_le (turned k key o e) ∙ le_turned o
 
-pub start_excluded : (key k : List ℕ) (o : Ordering) → bytes_cmp k key ≡ o → is_from_start bytes_cmp (Excluded key) k ≡ is_gt o
-start_excluded key k o e = ap is_lt (turned k key o e) ∙ lt_turned o
+from_start : (includes : Bool) (key k : List ℕ) (o : Ordering) → bytes_cmp k key ≡ o → is_from_start bytes_cmp (bound_at includes key) k ≡ takes true includes o
+from_start true key k Less e = ap is_le (turned k key Less e)
+from_start true key k Equal e = ap is_le (turned k key Equal e)
+from_start true key k Greater e = ap is_le (turned k key Greater e)
+from_start false key k Less e = ap is_lt (turned k key Less e)
+from_start false key k Equal e = ap is_lt (turned k key Equal e)
+from_start false key k Greater e = ap is_lt (turned k key Greater e)
 
-pub end_included : (key k : List ℕ) (o : Ordering) → bytes_cmp k key ≡ o → not (is_past_end bytes_cmp (Included key) k) ≡ is_le o
-end_included key k o e = ap (λ p. not (is_lt p)) (turned k key o e) ∙ not_lt_turned o
-
-pub end_excluded : (key k : List ℕ) (o : Ordering) → bytes_cmp k key ≡ o → not (is_past_end bytes_cmp (Excluded key) k) ≡ is_lt o
-end_excluded key k o e = ap (λ p. not (is_le p)) (turned k key o e) ∙ not_le_turned o
+up_to_end : (includes : Bool) (key k : List ℕ) (o : Ordering) → bytes_cmp k key ≡ o → not (is_past_end bytes_cmp (bound_at includes key) k) ≡ takes false includes o
+up_to_end true key k Less e = ap (λ p. not (is_lt p)) (turned k key Less e)
+up_to_end true key k Equal e = ap (λ p. not (is_lt p)) (turned k key Equal e)
+up_to_end true key k Greater e = ap (λ p. not (is_lt p)) (turned k key Greater e)
+up_to_end false key k Less e = ap (λ p. not (is_le p)) (turned k key Less e)
+up_to_end false key k Equal e = ap (λ p. not (is_le p)) (turned k key Equal e)
+up_to_end false key k Greater e = ap (λ p. not (is_le p)) (turned k key Greater e)
 
 pub every_passes : {K V : Type 0} (bytes : K → List ℕ) (ls : List (LeafAt K V)) → passing bytes (λ k. true) ls ≡ ls
 every_passes bytes [] = refl
 every_passes bytes (l ∷ ls) = ap (λ xs. l ∷ xs) (every_passes bytes ls)
 
--- tests that the keys on one side of the key pass
+module _ {K V : Type 0} (bytes : K → List ℕ) (key : List ℕ) where
+  module _ (includes : Bool) (ls : List (LeafAt K V)) (slot : ℕ) (o : Ordering) (near : IsNearest bytes key ls slot o) where
+    -- the leaf itself, or the next one on the side that is inside
+    abbrev pub Inside : Bool → Bool → Option ℕ
+    Inside is_start is_taken = if is_taken then Some slot else if is_start then first_slot near.after None else last_slot None near.before
 
-module _ {K V : Type 0} (bytes : K → List ℕ) (key : List ℕ) (test : List ℕ → Bool) where
-  all_pass : (o : Ordering) → ((k : List ℕ) → bytes_cmp k key ≡ o → test k ≡ true) → (ls : List (LeafAt K V)) → Compare bytes key o ls → passing bytes test ls ≡ ls
-  all_pass o passes [] h = refl
-  all_pass o passes (l ∷ ls) h = rw (passes (bytes l.key) h.0) (ap (λ xs. l ∷ xs) (all_pass o passes ls h.1))
+    parted : (test : List ℕ → Bool) → passing bytes test ls ≡ passing bytes test near.before ++ passing bytes test (near.leaf ∷ near.after)
+    parted test = ap (passing bytes test) near.parts ∙ filter-append (λ l. test (bytes l.key)) near.before (near.leaf ∷ near.after)
 
-  none_passes : (o : Ordering) → ((k : List ℕ) → bytes_cmp k key ≡ o → test k ≡ false) → (ls : List (LeafAt K V)) → Compare bytes key o ls → passing bytes test ls ≡ []
-  none_passes o fails [] h = refl
-  none_passes o fails (l ∷ ls) h = rw (fails (bytes l.key) h.0) (none_passes o fails ls h.1)
+    -- the tests of the bound as a start and as an end
+    abbrev from : List ℕ → Bool
+    from k = is_from_start bytes_cmp (bound_at includes key) k
 
-  module _ (ls : List (LeafAt K V)) (slot : ℕ) (o : Ordering) (near : IsNearest bytes key ls slot o) (passes : Bool) (own : (k : List ℕ) → bytes_cmp k key ≡ o → test k ≡ passes) where
-    parted : passing bytes test ls ≡ passing bytes test near.before ++ passing bytes test (near.leaf ∷ near.after)
-    parted = ap (passing bytes test) near.parts ∙ filter-append (λ l. test (bytes l.key)) near.before (near.leaf ∷ near.after)
+    abbrev up_to : List ℕ → Bool
+    up_to k = not (is_past_end bytes_cmp (bound_at includes key) k)
 
-    module _ (fails : (k : List ℕ) → bytes_cmp k key ≡ Less → test k ≡ false) (holds : (k : List ℕ) → bytes_cmp k key ≡ Greater → test k ≡ true) where
-      from : passing bytes test ls ≡ passing bytes test (near.leaf ∷ near.after)
-      from = parted ∙ ap (λ xs. xs ++ passing bytes test (near.leaf ∷ near.after)) (none_passes Less fails near.before near.below)
+    starts : passing bytes from ls ≡ passing bytes from (near.leaf ∷ near.after)
+    starts = parted from ∙ ap (λ xs. xs ++ passing bytes from (near.leaf ∷ near.after)) (none-pass (λ l. from (bytes l.key)) near.before (all_weaker _ _ (λ l e. from_start includes key (bytes l.key) Less e) near.before near.below))
 
-      pub first_here : passes ≡ true → leaf_where bytes test ls ≡ Some slot
-      first_here e = ap (λ xs. first_slot xs None) from ∙ rw (own (bytes near.leaf.key) near.compares ∙ e) (ap Some near.is)
+    start-inside : (is_taken : Bool) → takes true includes o ≡ is_taken → leaf_where bytes from ls ≡ Inside true is_taken
+    start-inside true e = ap (λ xs. first_slot xs None) starts ∙ rw (from_start includes key (bytes near.leaf.key) o near.compares ∙ e) (ap Some near.is)
+    start-inside false e =
+        ap (λ xs. first_slot xs None) starts
+        ∙ rw (from_start includes key (bytes near.leaf.key) o near.compares ∙ e) (ap (λ xs. first_slot xs None) (all-pass (λ l. from (bytes l.key)) near.after (all_weaker _ _ (λ l f. from_start includes key (bytes l.key) Greater f) near.after near.above)))
 
-      pub first_next : passes ≡ false → leaf_where bytes test ls ≡ first_slot near.after None
-      first_next e = ap (λ xs. first_slot xs None) from ∙ rw (own (bytes near.leaf.key) near.compares ∙ e) (ap (λ xs. first_slot xs None) (all_pass Greater holds near.after near.above))
+    none-behind : passing bytes up_to near.after ≡ []
+    none-behind = none-pass (λ l. up_to (bytes l.key)) near.after (all_weaker _ _ (λ l e. up_to_end includes key (bytes l.key) Greater e) near.after near.above)
 
-    module _ (holds : (k : List ℕ) → bytes_cmp k key ≡ Less → test k ≡ true) (fails : (k : List ℕ) → bytes_cmp k key ≡ Greater → test k ≡ false) where
-      pub last_here : passes ≡ true → last_slot None (passing bytes test ls) ≡ Some slot
-      last_here e =
-          ap (last_slot None) parted
-          ∙ rw (own (bytes near.leaf.key) near.compares ∙ e, none_passes Greater fails near.after near.above) (last_slot-append None (passing bytes test near.before) (near.leaf ∷ []) ∙ ap Some near.is)
+    end-inside : (is_taken : Bool) → takes false includes o ≡ is_taken → last_slot None (passing bytes up_to ls) ≡ Inside false is_taken
+    end-inside true e =
+        ap (last_slot None) (parted up_to)
+        ∙ rw (up_to_end includes key (bytes near.leaf.key) o near.compares ∙ e, none-behind) (last_slot-append None (passing bytes up_to near.before) (near.leaf ∷ []) ∙ ap Some near.is)
+    end-inside false e =
+        ap (last_slot None) (parted up_to)
+        ∙ rw (up_to_end includes key (bytes near.leaf.key) o near.compares ∙ e, none-behind) (ap (last_slot None) (append-nil (passing bytes up_to near.before) ∙ all-pass (λ l. up_to (bytes l.key)) near.before (all_weaker _ _ (λ l f. up_to_end includes key (bytes l.key) Less f) near.before near.below)))
 
-      pub last_previous : passes ≡ false → last_slot None (passing bytes test ls) ≡ last_slot None near.before
-      last_previous e =
-          ap (last_slot None) parted
-          ∙ rw (own (bytes near.leaf.key) near.compares ∙ e, none_passes Greater fails near.after near.above) (ap (last_slot None) (append-nil (passing bytes test near.before) ∙ all_pass Less holds near.before near.below))
+    pub inside-is : (is_start : Bool) → slot_inside bytes is_start (bound_at includes key) ls ≡ Inside is_start (takes is_start includes o)
+    inside-is true = start-inside (takes true includes o) refl
+    inside-is false = end-inside (takes false includes o) refl
 
 -- where the key's place is an inner node, between two of its children or on one side of them all
 
@@ -294,14 +250,6 @@ module _ {K V : Type 0} (bytes : K → List ℕ) (key path prefix : List ℕ) (k
 
 -- what stands in an arena
 
-abbrev next_of : Option Links → Option ℕ
-next_of None = None
-next_of (Some l) = l.next
-
-abbrev previous_of : Option Links → Option ℕ
-previous_of None = None
-previous_of (Some l) = l.previous
-
 module _ {K V : Type 0} (bytes : K → List ℕ) (key : List ℕ) (arena : Arena K V) (ls : List (LeafAt K V)) (slot : ℕ) (o : Ordering) (near : IsNearest bytes key ls slot o) (linked : AreLinked (links_at arena) None ls None) where
   links : links_at arena slot ≡ Some (record { previous = last_slot None near.before; next = first_slot near.after None })
   links = link_there (links_at arena) near.before near.leaf near.after slot (subst (λ xs. AreLinked (links_at arena) None xs None) near.parts linked) near.is
@@ -313,11 +261,11 @@ module _ {K V : Type 0} (bytes : K → List ℕ) (key : List ℕ) (arena : Arena
       some None e = absurd (cc)
       some (Some h) e = refl
 
-  pub next_is : (leaf : LeafNode K V) → held_at arena (leaf_name slot) ≡ Some (leaf_held leaf) → leaf.next ≡ first_slot near.after None
-  next_is leaf held = ap (λ h. next_of (links_of h)) (sym held) ∙ ap next_of links
-
-  pub previous_is : (leaf : LeafNode K V) → held_at arena (leaf_name slot) ≡ Some (leaf_held leaf) → leaf.previous ≡ last_slot None near.before
-  previous_is leaf held = ap (λ h. previous_of (links_of h)) (sym held) ∙ ap previous_of links
+  -- the leaves beside it are those to which it leads
+  pub neighbours_are : (leaf : LeafNode K V) → held_at arena (leaf_name slot) ≡ Some (leaf_held leaf) → (leaf.next ≡ first_slot near.after None) × (leaf.previous ≡ last_slot None near.before)
+  neighbours_are leaf held =
+      let same = links-are (held_at arena (leaf_name slot)) leaf _ held links in
+      (sym (ap (λ (l : Links). l.next) same), sym (ap (λ (l : Links). l.previous) same))
 
 module _ {K V : Type 0} (bytes : K → List ℕ) (P : ℕ) (arena : Arena K V) where
   -- how a key compares with that of the leaf under a name
@@ -334,7 +282,7 @@ module _ {K V : Type 0} (bytes : K → List ℕ) (P : ℕ) (arena : Arena K V) w
   pub nearest_lone : (key : List ℕ) (slot : ℕ) (o : Ordering) (path : List ℕ) (part : Shape K V) → IsSubtree bytes P (node_at arena) (leaf_name slot) path part → Told key slot o → IsNearest bytes key (leaves part) slot o
   nearest_lone key slot o path part sub told =
       let at = leaf_there bytes P arena slot path part sub in
-      subst (λ t. IsNearest bytes key (leaves t) slot o) (sym at.is) (nearest_alone bytes key _ slot o refl (sym (told at.leaf at.there)))
+      subst (λ t. IsNearest bytes key (leaves t) slot o) (sym at.is) (record { before = []; leaf = _; after = []; parts = refl; is = refl; below = tt; compares = sym (told at.leaf at.there); above = tt })
 
   behind_first : (l : LeafAt K V) (ls : List (LeafAt K V)) → AscendsByKey (key_of bytes) (pairs_of (l ∷ ls)) → AllByRecursion (λ r. IsBefore (bytes l.key) (bytes r.key)) ls
   behind_first l ls h = unmapped ls h.0

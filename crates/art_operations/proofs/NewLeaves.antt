@@ -1,12 +1,9 @@
 -- A new leaf goes between two lists of leaves.
 use Rattle.std.proofs.Common.{◌≡◌, ℕ, Bool, true, false, List, [], ◌∷◌, ◌++◌, Option, Some, None, IsSome, refl, sym, subst, ◌∙◌, append_assoc}
-use Rattle.art_arena.specs.arena.Linked.{Links, first_slot, last_slot, IsBeside}
-use Rattle.art_arena.specs.arena.Shapes.{LeafAt}
-use Rattle.art_arena.proofs.shapes.LinkedLists.{ends_with-first, last_slot-append, AreLinked-same}
+use Rattle.art_arena.proofs.Common.{Links, first_slot, last_slot, IsBeside, LeafAt, ends_with-first, last_slot-append, AreLinked-same}
 use Rattle.art_operations.specs.declared.insert.into_existing.Neighbours.{Neighbours}
 use Rattle.art_operations.specs.declared.insert.into_existing.Neighbours.TheVariants.{One, Both}
-use Rattle.art_operations.specs.inner.Splits.{IsBetween}
-use Rattle.art_operations.specs.inner.Waiting.{AreNeighbours}
+use Rattle.art_operations.proofs.Terms.{IsBetween, AreNeighbours}
 
 module _ {K V : Type 0} where
   -- the list behind the place begins with the leaf before which the new one goes

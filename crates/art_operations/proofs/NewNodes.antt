@@ -1,12 +1,9 @@
 -- Nodes that are made in an arena: the room for them, and what is left where one is taken out again.
 use Rattle.std.proofs.Common.{◌≡◌, ◌≢◌, ℕ, ◌≤◌, None, Some, Option, IsSome, refl, sym, ◌∙◌, inl, inr, arith, subst}
-use Rattle.art_nodes.specs.Name.{Name}
-use Rattle.art_nodes.specs.InnerNode.{InnerNode}
+use Rattle.art_nodes.proofs.Common.{Name, InnerNode}
 use Rattle.art_nodes.specs.declared.kind.NodeType.{NodeType}
 use Rattle.art_nodes.specs.declared.kind.NodeType.TheVariants.{Leaf}
-use Rattle.art_arena.specs.arena.Arena.{Arena, Held, inner_held, as_inner, held_as, held_at, Allocates, SameNodes, HasRoom}
-use Rattle.art_arena.specs.arena.Cells.{UpdatesAt}
-use Rattle.art_arena.proofs.shapes.CellLists.{same_name_tells}
+use Rattle.art_arena.proofs.Common.{Arena, Held, inner_held, as_inner, held_as, held_at, Allocates, SameNodes, HasRoom, UpdatesAt, same_name_tells}
 
 module _ {K V : Type 0} where
   -- room for more is room for fewer

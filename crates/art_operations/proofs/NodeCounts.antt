@@ -3,14 +3,9 @@ use Rattle.std.proofs.Common.{◌≡◌, ℕ, ◌+◌, ◌*◌, ◌≤◌, List,
 use Rattle.std.specs.List.{list_any}
 use Rattle.std.proofs.lemmas.Bool.{cond_both}
 use Rattle.std.proofs.lemmas.List.{length-map}
-use Rattle.art_arena.specs.arena.Shapes.{Shape, Branches, leaf_at, inner_at, no_branch, branch, erase, erase_in, leaves, leaves_in, pairs_of, cells, cells_in, IsUnder, key_of}
-use Rattle.art_bytes.specs.Keys.{common_prefix}
-use Rattle.art_arena.specs.tree.Fronts.{distinct, fronts_of, neighbour_fronts}
-use Rattle.art_arena.specs.tree.Trees.{items}
-use Rattle.art_arena.proofs.shapes.Erased.{canonical-erase, items-erase}
-use Rattle.art_arena.proofs.tree.Distinct.{length_sum}
-use Rattle.art_arena.proofs.tree.Fronts.{sum_fronts, weights, weights_in}
-use Rattle.art_operations.specs.NodeCounts.{node_count}
+use Rattle.art_arena.proofs.Common.{Shape, Branches, leaf_at, inner_at, no_branch, branch, erase, erase_in, leaves, leaves_in, pairs_of, cells, cells_in, IsUnder, key_of, distinct, fronts_of, neighbour_fronts, items, canonical-erase, items-erase, length_sum, sum_fronts, weights, weights_in}
+use Rattle.art_bytes.proofs.Common.{common_prefix}
+use Rattle.art_operations.proofs.Terms.{node_count}
 
 module _ {K V : Type 0} (P : ℕ) where
   mutual

@@ -2,25 +2,12 @@
 use Rattle.std.proofs.Common.{◌≡◌, ◌≢◌, ◌⊎◌, ℕ, ◌+◌, List, [], ◌∷◌, ◌++◌, length, drop, None, refl, sym, ap, subst, ◌∙◌, inl, inr, append-nil}
 use Rattle.std.specs.List.{AllByRecursion}
 use Rattle.std.proofs.lemmas.Bool.Decides.{eqb_tells}
-use Rattle.art_bytes.specs.Keys.{BeginsWith, IsBefore}
-use Rattle.art_nodes.specs.InnerNode.{child_at}
-use Rattle.art_nodes.specs.Name.{Name}
-use Rattle.art_arena.specs.arena.Steps.{Step}
-use Rattle.art_arena.specs.arena.Context.{path_to, leaves_before, leaves_after}
-use Rattle.art_arena.specs.arena.Shapes.{Shape, Branches, inner_at, no_branch, branch, LeafAt, children_at, leaves, leaves_in, IsUnder, AreUnder}
-use Rattle.art_arena.proofs.shapes.Contexts.{leaves-plug}
-use Rattle.art_arena.proofs.tree.Fronts.{one_byte}
-use Rattle.art_arena.proofs.tree.Order.{all_append, all_weaker}
-use Rattle.art_arena.proofs.shapes.Places.{leaves-begin}
-use Rattle.art_arena.proofs.shapes.Subtrees.{leaves_begin_prefix}
-use Rattle.art_arena.proofs.shapes.Surroundings.{ctx-before, ctx-after}
-use Rattle.art_operations.specs.Points.{IsInTheWay, IsPoint, MeetsAt}
-use Rattle.art_operations.specs.declared.insert.point.InsertKind.{InsertKind}
+use Rattle.art_bytes.proofs.Common.{BeginsWith, IsBefore, before_not_self}
+use Rattle.art_nodes.proofs.Common.{child_at, Name}
+use Rattle.art_arena.proofs.Common.{Step, path_to, leaves_before, leaves_after, Shape, Branches, inner_at, no_branch, branch, LeafAt, children_at, leaves, leaves_in, IsUnder, AreUnder, leaves-plug, one_byte, all_append, all_weaker, leaves-begin, leaves_begin_prefix, ctx-before, ctx-after, behind, Frame, IsPlace}
+use Rattle.art_operations.proofs.Terms.{IsInTheWay, IsPoint, MeetsAt, InsertKind, InsertPoint}
 use Rattle.art_operations.specs.declared.insert.point.InsertKind.TheVariants as kind
-use Rattle.art_operations.specs.declared.insert.point.InsertPoint.{InsertPoint}
-use Rattle.art_arena.proofs.shapes.Passing.{behind}
 use Rattle.art_operations.proofs.Points.{part_new, part_old}
-use Rattle.art_bytes.proofs.Order.{before_not_self}
 
 -- whether a leaf with the key was met
 pub which : (k : InsertKind) → ((slot : ℕ) × (k ≡ kind.Exact slot)) ⊎ ((slot : ℕ) → k ≡ kind.Exact slot → ⊥)
@@ -70,24 +57,21 @@ module _ {K V : Type 0} (bytes : K → List ℕ) (key : List ℕ) where
       subst (λ t. HaveOthers (leaves t)) (sym is) (none_below_child (path ++ prefix) b 0 kids on here.1 none)
   met path s (kind.Exact slot) under begins m unmet = absurd (unmet slot refl)
 
+  -- around a place to which the key leads are other keys
+  around : (s part : Shape K V) (ctx : List (Frame K V)) → IsPlace bytes s ctx part → BeginsWith (path_to ctx) key → HaveOthers (leaves part) → HaveOthers (leaves s)
+  around s part ctx place begins others =
+      subst HaveOthers (sym (ap leaves place.is ∙ leaves-plug ctx part))
+      (all_append _ (leaves_before ctx) (leaves part ++ leaves_after ctx)
+      (all_weaker _ (λ l. bytes l.key ≢ key) (λ l b e. before_not_self key (subst (λ k. IsBefore k key) e b)) (leaves_before ctx) (ctx-before bytes key ctx place.around begins))
+      (all_append _ (leaves part) (leaves_after ctx) others
+      (all_weaker _ (λ l. bytes l.key ≢ key) (λ l b e. before_not_self key (subst (λ k. IsBefore key k) e b)) (leaves_after ctx) (ctx-after bytes key ctx place.around begins))))
+
   -- in the whole tree
   pub not-stored : (s : Shape K V) (point : InsertPoint) → IsPoint bytes key s point → ((slot : ℕ) → point.insert_kind ≡ kind.Exact slot → ⊥) → HaveOthers (leaves s)
   not-stored s point at unmet =
-      let place = at.toward.place in
-      subst HaveOthers (sym (ap leaves place.is ∙ leaves-plug at.ctx at.part))
-      (all_append _ (leaves_before at.ctx) (leaves at.part ++ leaves_after at.ctx)
-      (all_weaker _ (λ l. bytes l.key ≢ key) (λ l b e. before_not_self key (subst (λ k. IsBefore k key) e b)) (leaves_before at.ctx) (ctx-before bytes key at.ctx place.around at.toward.begins))
-      (all_append _ (leaves at.part) (leaves_after at.ctx)
-      (met (path_to at.ctx) at.part point.insert_kind place.under at.toward.begins at.meets unmet)
-      (all_weaker _ (λ l. bytes l.key ≢ key) (λ l b e. before_not_self key (subst (λ k. IsBefore key k) e b)) (leaves_after at.ctx) (ctx-after bytes key at.ctx place.around at.toward.begins))))
+      around s at.part at.ctx at.toward.place at.toward.begins (met (path_to at.ctx) at.part point.insert_kind at.toward.place.under at.toward.begins at.meets unmet)
 
   -- nor in one that has a part in the way of the key
   pub not-in-way : (s : Shape K V) (root name : Name) (last : List Step) → IsInTheWay bytes key s root name last → HaveOthers (leaves s)
   not-in-way s root name last way =
-      let place = way.toward.place in
-      subst HaveOthers (sym (ap leaves place.is ∙ leaves-plug way.ctx way.part))
-      (all_append _ (leaves_before way.ctx) (leaves way.part ++ leaves_after way.ctx)
-      (all_weaker _ (λ l. bytes l.key ≢ key) (λ l b e. before_not_self key (subst (λ k. IsBefore k key) e b)) (leaves_before way.ctx) (ctx-before bytes key way.ctx place.around way.toward.begins))
-      (all_append _ (leaves way.part) (leaves_after way.ctx)
-      (all_weaker _ (λ l. bytes l.key ≢ key) (λ l c e. c.0 (sym e)) (leaves way.part) way.conflicts)
-      (all_weaker _ (λ l. bytes l.key ≢ key) (λ l b e. before_not_self key (subst (λ k. IsBefore key k) e b)) (leaves_after way.ctx) (ctx-after bytes key way.ctx place.around way.toward.begins))))
+      around s way.part way.ctx way.toward.place way.toward.begins (all_weaker _ (λ l. bytes l.key ≢ key) (λ l c e. c.0 (sym e)) (leaves way.part) way.conflicts)

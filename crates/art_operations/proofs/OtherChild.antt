@@ -1,8 +1,7 @@
 -- The other one of two children.
 use Rattle.std.proofs.Common.{◌≡◌, ◌≢◌, ℕ, List, Option, Some, None, inl, inr, sym, ap, ◌∙◌}
-use Rattle.art_nodes.specs.InnerNode.{first_child, last_child}
-use Rattle.art_nodes.specs.Name.{Name}
-use Rattle.art_operations.specs.inner.Removals.{IsOther}
+use Rattle.art_nodes.proofs.Common.{first_child, last_child, Name}
+use Rattle.art_operations.proofs.Terms.{IsOther}
 
 -- where the first one is under another byte, it is the other one
 pub first-other : (children : List (ℕ × Name)) (byte : ℕ) (other : ℕ × Name) → IsOther children byte other → (first : ℕ × Name) → first_child children ≡ Some first → first.0 ≢ byte → first ≡ other

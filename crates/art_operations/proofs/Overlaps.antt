@@ -3,16 +3,11 @@ use Rattle.std.proofs.Common.{◌≡◌, ℕ, not, true, false, List, [], ◌∷
 use Rattle.std.specs.List.{AllByRecursion}
 use Rattle.std.proofs.lemmas.Bool.{or_left, or_right}
 use Rattle.std.proofs.lemmas.List.Elements.{filter-append}
-use Rattle.art_bytes.specs.Keys.{Conflict, IsBefore}
-use Rattle.art_bytes.proofs.Order.{front_not_before, front_not_after}
-use Rattle.art_arena.specs.tree.Changes.{put_in_order}
-use Rattle.art_arena.specs.tree.Order.{AscendsByKey}
-use Rattle.art_arena.specs.tree.Tenants.{begins_with}
-use Rattle.art_arena.proofs.tree.Exists.{put_is}
-use Rattle.art_arena.proofs.tree.Order.{all_weaker}
-use Rattle.art_arena.proofs.tree.Parts.{begins_not, begins_same}
-use Rattle.art_operations.specs.KeyedLists.{overlaps, overlapping, without_overlapping}
-use Rattle.art_operations.proofs.KeyedLists.{before, behind}
+use Rattle.art_bytes.proofs.Common.{Conflict, IsBefore, front_not_before, front_not_after}
+use Rattle.art_arena.proofs.Common.{put_in_order, AscendsByKey, begins_with, put_is, all_weaker, begins_same}
+use Rattle.art_arena.proofs.tree.Parts.{begins_not}
+use Rattle.art_operations.proofs.Terms.{overlaps, overlapping, without_overlapping}
+use Rattle.art_operations.proofs.KeyedLists.{all-pass, before, behind, none-pass}
 
 -- a key overlaps itself, and each key with which it is in conflict
 pub overlaps_same : (k l : List ℕ) → l ≡ k → overlaps k l ≡ true
@@ -37,32 +32,19 @@ module _ {X : Type 0} (key : X → List ℕ) (k : List ℕ) where
   abbrev NoneOverlaps : List X → Type 0
   NoneOverlaps xs = AllByRecursion (λ x. overlaps k (key x) ≡ false) xs
 
-  all_kept : (xs : List X) → AllOverlap xs → overlapping key k xs ≡ xs
-  all_kept [] h = refl
-  all_kept (x ∷ xs) h = rw h.0 (ap (λ ys. x ∷ ys) (all_kept xs h.1))
-
-  all_gone : (xs : List X) → AllOverlap xs → without_overlapping key k xs ≡ []
-  all_gone [] h = refl
-  all_gone (x ∷ xs) h = rw h.0 (all_gone xs h.1)
-
-  none_kept : (xs : List X) → NoneOverlaps xs → overlapping key k xs ≡ []
-  none_kept [] h = refl
-  none_kept (x ∷ xs) h = rw h.0 (none_kept xs h.1)
-
-  none_gone : (xs : List X) → NoneOverlaps xs → without_overlapping key k xs ≡ xs
-  none_gone [] h = refl
-  none_gone (x ∷ xs) h = rw h.0 (ap (λ ys. x ∷ ys) (none_gone xs h.1))
-
   module _ (front block back : List X) (left : NoneOverlaps front) (here : AllOverlap block) (right : NoneOverlaps back) where
     block_kept : overlapping key k (front ++ (block ++ back)) ≡ block
     block_kept =
         filter-append (λ x. overlaps k (key x)) front (block ++ back)
-        ∙ ap₂ (λ xs ys. xs ++ ys) (none_kept front left) (filter-append (λ x. overlaps k (key x)) block back ∙ ap₂ (λ xs ys. xs ++ ys) (all_kept block here) (none_kept back right) ∙ append-nil block)
+        ∙ ap₂ (λ xs ys. xs ++ ys) (none-pass (λ x. overlaps k (key x)) front left) (filter-append (λ x. overlaps k (key x)) block back ∙ ap₂ (λ xs ys. xs ++ ys) (all-pass (λ x. overlaps k (key x)) block here) (none-pass (λ x. overlaps k (key x)) back right) ∙ append-nil block)
 
     block_gone : without_overlapping key k (front ++ (block ++ back)) ≡ front ++ back
     block_gone =
         filter-append (λ x. not (overlaps k (key x))) front (block ++ back)
-        ∙ ap₂ (λ xs ys. xs ++ ys) (none_gone front left) (filter-append (λ x. not (overlaps k (key x))) block back ∙ ap₂ (λ xs ys. xs ++ ys) (all_gone block here) (none_gone back right))
+        ∙ ap₂ (λ xs ys. xs ++ ys) (stays front left) (filter-append (λ x. not (overlaps k (key x))) block back ∙ ap₂ (λ xs ys. xs ++ ys) (none-pass (λ x. not (overlaps k (key x))) block (all_weaker _ _ (λ x e. ap not e) block here)) (stays back right))
+      where
+        stays : (xs : List X) → NoneOverlaps xs → without_overlapping key k xs ≡ xs
+        stays xs none = all-pass (λ x. not (overlaps k (key x))) xs (all_weaker _ _ (λ x e. ap not e) xs none)
 
 module _ {X : Type 0} (key : X → List ℕ) (x : X) where
   -- new is old with x in the place of those whose keys overlap its key, which were these

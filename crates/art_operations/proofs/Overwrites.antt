@@ -1,39 +1,12 @@
 -- A leaf in the place of a part of a tree, step by step: it is stored, linked, pointed at, and the part is freed.
-use Rattle.std.proofs.Common.{◌≡◌, ℕ, ◌+◌, ◌≤◌, true, cond, List, [], ◌∷◌, ◌++◌, Option, Some, None, is_some, refl, sym, ap, ap₂, subst, ◌∙◌, arith, append_assoc}
-use Rattle.art_nodes.specs.Name.{Name}
-use Rattle.art_nodes.specs.declared.kind.NodeType.TheVariants.{Leaf}
+use Rattle.std.proofs.Common.{◌≡◌, ℕ, ◌+◌, ◌≤◌, true, List, [], ◌∷◌, ◌++◌, Option, Some, None, refl, sym, ap, subst, ◌∙◌, arith, append_assoc}
+use Rattle.art_nodes.proofs.Common.{Name}
 use Rattle.art_nodes.specs.declared.leaf.LeafNode.{LeafNode}
-use Rattle.art_arena.specs.arena.Arena.{Arena, cell_of, links_of, held_at, node_at, links_at, Allocates, KeepsNodes, SameCells}
-use Rattle.art_arena.specs.arena.Cells.{Cell, pair, leaf_name, copies, Holds, UpdatesAt}
-use Rattle.art_arena.specs.arena.Context.{plug, path_to, root_of, leaves_before, leaves_after, cells_before, cells_after}
-use Rattle.art_arena.specs.arena.Linked.{AreLinked, IsBeside, KeepsLinksOutside, times}
-use Rattle.art_arena.specs.arena.Meaning.{IsNodesBeside, IsSubtree, IsTreeBeside}
-use Rattle.art_arena.specs.arena.Shapes.{Shape, leaf_at, inner_at, LeafAt, name_of, leaves, pairs_of, cells, width, IsUnder}
-use Rattle.art_arena.specs.arena.Steps.{Step}
-use Rattle.art_arena.proofs.tree.Order.{all_left, all_weaker}
-use Rattle.art_arena.proofs.shapes.Besides.{keeps-held}
-use Rattle.art_arena.proofs.shapes.CellLists.{copies-append, Holds-add, Holds-remove, Holds-same, Holds-turn}
-use Rattle.art_arena.proofs.shapes.Contexts.{cells-plug, leaves-plug, name_of-plug, IsUnder-plug}
-use Rattle.art_arena.proofs.shapes.LinkedLists.{outside-apart, AreLinked-kept}
-use Rattle.art_arena.proofs.shapes.Meanings.{nodes-subtree}
-use Rattle.art_arena.proofs.shapes.Repoint.{IsNodesBeside-plug, unplugged}
-use Rattle.art_arena.proofs.shapes.Surroundings.{new-beside, times-leaves}
-use Rattle.art_arena.proofs.shapes.Walking.{place-subtree}
-use Rattle.art_arena.proofs.shapes.Updates.{nodes-update, links-update}
-use Rattle.art_operations.specs.Frees.{HoldsBeside, KeepsAllBut}
-use Rattle.art_operations.specs.Insertions.{IsInsertedBeside, IsPutOrReplaced}
-use Rattle.art_operations.specs.KeyedLists.{overlaps}
-use Rattle.art_operations.specs.Overwrites.{AreRemoved, IsOverwrittenBeside}
-use Rattle.art_operations.specs.Points.{IsInTheWay}
-use Rattle.art_operations.specs.inner.Edits.{StandsAround, lone_leaf}
-use Rattle.art_operations.specs.declared.insert.result.InsertResult.{InsertResult}
-use Rattle.art_operations.specs.declared.insert.result.InsertParentNodeChange.TheVariants.{NoChange}
+use Rattle.art_arena.proofs.Common.{Arena, cell_of, links_of, held_at, node_at, links_at, Allocates, KeepsNodes, SameCells, Cell, pair, leaf_name, copies, Holds, UpdatesAt, plug, path_to, root_of, leaves_before, leaves_after, cells_before, cells_after, AreLinked, IsBeside, KeepsLinksOutside, times, IsNodesBeside, IsSubtree, IsTreeBeside, Shape, leaf_at, inner_at, LeafAt, name_of, leaves, pairs_of, cells, width, IsUnder, Step, all_left, all_weaker, keeps-held, copies-append, Holds-add, Holds-remove, Holds-same, Holds-turn, cells-plug, leaves-plug, name_of-plug, IsUnder-plug, outside-apart, AreLinked-kept, nodes-subtree, IsNodesBeside-plug, unplugged, new-beside, times-leaves, place-subtree, nodes-update, links-update}
+use Rattle.art_operations.proofs.Terms.{HoldsBeside, KeepsAllBut, IsInsertedBeside, IsPutOrReplaced, overlaps, AreRemoved, IsOverwrittenBeside, IsInTheWay, StandsAround, lone_leaf, InsertResult, NoChange}
+use Rattle.art_operations.proofs.FreedSizes.{at_most_one}
 use Rattle.art_operations.proofs.Lengthened.{kind_not_leaf}
 use Rattle.art_operations.proofs.Overlaps.{overlaps_same, overlaps_conflict}
-
--- the name of a leaf, from its kind and its slot
-pub leaf_named : (n : Name) (slot : ℕ) → n.kind ≡ Leaf → slot ≡ n.slot → n ≡ leaf_name slot
-leaf_named n slot kind same = ap₂ (λ k m. record { kind = k; slot = m }) kind (sym same)
 
 module _ {K V : Type 0} (bytes : K → List ℕ) (P : ℕ) where
   -- a leaf is taken out from beside other nodes
@@ -100,10 +73,6 @@ module _ {K V : Type 0} (bytes : K → List ℕ) (P : ℕ) where
         pub part_apart : HoldsBeside P moved name way.part around
         part_apart = record { named = way.here; holds = Holds-turn (node_at moved) [] (cells_before P way.ctx (leaf_name leaf)) (cells P way.part) behind there }
 
-        at_most : (o : Option (Cell K V)) (m : ℕ) → m ≡ cond (is_some o) 1 0 → m ≤ 1
-        at_most None m e = omega arith
-        at_most (Some c) m e = omega arith
-
         under : IsUnder bytes [] (plug way.ctx (leaf_at leaf key value))
         under = IsUnder-plug bytes way.ctx (leaf_at leaf key value) way.toward.place.around way.toward.begins
 
@@ -121,7 +90,7 @@ module _ {K V : Type 0} (bytes : K → List ℕ) (P : ℕ) where
             let all = leaves-plug way.ctx (leaf_at leaf key value) in
             let held = cells-plug P way.ctx (leaf_at leaf key value) in
             let counted = sym (ap (times n) all) ∙ times-leaves bytes P n [] (plug way.ctx (leaf_at leaf key value)) under ∙ ap (copies (leaf_name n)) held in
-            let once = at_most (node_at moved (leaf_name n)) _ (part_apart.holds.once (leaf_name n)) in
+            let once = at_most_one (node_at moved (leaf_name n)) _ (part_apart.holds.once (leaf_name n)) in
             ap links_of (kept (leaf_name n) (omega (arith, among, counted, once, whole (leaf_name n))))
 
         pub overwritten : (linked new : Arena K V) (new_root : Name) (was : Option (LeafNode K V)) (count : ℕ) → root_of way.ctx (leaf_name leaf) ≡ new_root
@@ -163,7 +132,7 @@ module _ {K V : Type 0} (bytes : K → List ℕ) (P : ℕ) where
             (all_left held_of rest (cells P (plug way.ctx (leaf_at leaf key value))) tree_holds.holds.held)
             (λ n some.
             let counted = times-leaves bytes P n [] (plug way.ctx (leaf_at leaf key value)) under ∙ ap (copies (leaf_name n)) (cells-plug P way.ctx (leaf_at leaf key value)) in
-            let once = at_most (node_at moved (leaf_name n)) _ (part_apart.holds.once (leaf_name n)) in
+            let once = at_most_one (node_at moved (leaf_name n)) _ (part_apart.holds.once (leaf_name n)) in
             let listed = ap (times n) (leaves-plug way.ctx (leaf_at leaf key value)) in
             let absent : times n (leaves_before way.ctx ++ new_leaf ∷ leaves_after way.ctx) ≡ 0 = omega (arith, some, counted, once, listed, whole (leaf_name n)) in
             let freed = kept (leaf_name n) (omega (arith, some, once, whole (leaf_name n))) in

@@ -1,19 +1,9 @@
 -- The node above a part, and the part taken out of it.
 use Rattle.std.proofs.Common.{◌≡◌, ◌≢◌, ℕ, suc, ◌+◌, List, ◌∷◌, length, Some, sym, ap, ◌∙◌, arith, length-append}
-use Rattle.art_nodes.specs.Name.{Name}
-use Rattle.art_nodes.specs.InnerNode.{InnerNode, with_child, without_child, with_children}
+use Rattle.art_nodes.proofs.Common.{Name, InnerNode, with_child, without_child, with_children}
 use Rattle.art_nodes.specs.declared.kind.NodeType.TheVariants.{Leaf}
-use Rattle.art_arena.specs.arena.Arena.{Arena, inner_held, held_at, links_of, links_at, node_at}
-use Rattle.art_arena.specs.arena.Cells.{Cell, leaf_name}
-use Rattle.art_arena.specs.arena.Context.{Frame}
-use Rattle.art_arena.specs.arena.Meaning.{IsSubtree}
-use Rattle.art_arena.specs.arena.Shapes.{Shape, leaf_at, inner_at, name_of, children_at, join, width}
-use Rattle.art_arena.proofs.shapes.Contexts.{children_at-join, length-children}
-use Rattle.art_arena.proofs.shapes.Openings.{with_child-opening, without_child-frame}
-use Rattle.art_arena.proofs.shapes.Repoint.{frame_node, frame-there, unplugged}
-use Rattle.art_arena.proofs.shapes.Subtrees.{inner_of}
-use Rattle.art_operations.specs.inner.Detached.{IsHeldAt}
-use Rattle.art_operations.specs.inner.Removals.{Moves, PutsBack, Lengthens}
+use Rattle.art_arena.proofs.Common.{Arena, inner_held, held_at, links_of, links_at, node_at, Cell, leaf_name, Frame, IsSubtree, Shape, leaf_at, inner_at, name_of, children_at, join, width, children_at-join, length-children, with_child-opening, without_child-frame, frame_node, frame-there, unplugged, inner_of}
+use Rattle.art_operations.proofs.Terms.{IsHeldAt, Moves, PutsBack, Lengthens}
 use Rattle.art_operations.proofs.Lengthened.{kind_not_leaf, others_kept}
 
 module _ {K V : Type 0} where

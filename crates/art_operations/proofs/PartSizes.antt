@@ -1,7 +1,7 @@
 -- How many nodes a canonical shape has, by its leaves: at least as many, and fewer than twice as many.
 use Rattle.std.proofs.Common.{◌≡◌, ◌≢◌, ℕ, ◌+◌, ◌*◌, ◌-◌, ◌^◌, ◌<◌, ◌≤◌, min, List, [], ◌∷◌, ◌++◌, length, refl, arith, length-append}
 use Rattle.art_nodes.specs.declared.kind.NodeType.TheVariants.{Leaf}
-use Rattle.art_arena.specs.arena.Shapes.{Shape, Branches, leaf_at, inner_at, no_branch, branch, name_of, leaves, leaves_in, width, cells, cells_in, IsUnder, AreUnder}
+use Rattle.art_arena.proofs.Common.{Shape, Branches, leaf_at, inner_at, no_branch, branch, name_of, leaves, leaves_in, width, cells, cells_in, IsUnder, AreUnder}
 
 module _ {K V : Type 0} (bytes : K → List ℕ) (P : ℕ) where
   mutual

@@ -1,28 +1,15 @@
 -- Leaves over which a tree is made are passed one by one: the first of them, the next one, and what is so behind it.
-use Rattle.std.proofs.Common.{◌≡◌, ℕ, suc, ◌-◌, ◌<◌, ◌≤◌, List, [], ◌∷◌, ◌++◌, length, refl, sym, ap, subst, ◌∙◌, inl, inr, arith, append_assoc, cond, Option, Some, None, IsSome, is_some, Result, Ok, Err, IsOk}
+use Rattle.std.proofs.Common.{◌≡◌, ℕ, suc, ◌-◌, ◌<◌, ◌≤◌, List, [], ◌∷◌, ◌++◌, length, refl, sym, ap, subst, ◌∙◌, inl, inr, arith, append_assoc, Option, Some, None, IsSome, Result, Ok, Err, IsOk}
 use Rattle.std.proofs.lemmas.Bool.Decides.{leb_tells}
-use Rattle.art_bytes.specs.Keys.{IsBefore}
-use Rattle.art_nodes.specs.Name.{Name}
+use Rattle.art_bytes.proofs.Common.{IsBefore}
+use Rattle.art_nodes.proofs.Common.{Name}
 use Rattle.art_nodes.specs.declared.leaf.LeafNode.{LeafNode}
-use Rattle.art_arena.specs.arena.Arena.{Arena, leaf_held, links_of, held_at, node_at, links_at}
-use Rattle.art_arena.specs.arena.Rooms.{SameLeaves}
-use Rattle.art_arena.specs.arena.Cells.{Cell, pair, leaf_name}
-use Rattle.art_arena.specs.arena.Linked.{AreLinked, Links, first_slot, last_slot}
-use Rattle.art_arena.specs.arena.Shapes.{LeafAt, pairs_of}
-use Rattle.art_arena.proofs.shapes.LinkedLists.{AreLinked-right, AreLinked-same}
-use Rattle.art_arena.proofs.shapes.Subtrees.{HoldsPair, holds_pair}
-use Rattle.art_arena.proofs.tree.Order.{all_right}
-use Rattle.art_operations.specs.Frees.{leaf_cells}
-use Rattle.art_operations.specs.Meetings.{PartAt}
-use Rattle.art_operations.specs.Pairs.{HasPairs}
-use Rattle.art_operations.specs.Rebuilds.{HoldsInOrder}
-use Rattle.art_operations.specs.declared.build.spine.Spine.{Spine}
+use Rattle.art_arena.proofs.Common.{Arena, leaf_held, links_of, held_at, node_at, links_at, SameLeaves, Cell, pair, leaf_name, AreLinked, Links, first_slot, LeafAt, pairs_of, AreLinked-right, AreLinked-same, HoldsPair, holds_pair, all_right}
+use Rattle.art_arena.proofs.shapes.CellLists.{holds-only}
+use Rattle.art_operations.proofs.Terms.{leaf_cells, PartAt, HasPairs, HoldsInOrder, Spine, Parted, Meets, CanPass, RebuildsUpTo, AddsChild, HasSpine, begin_of, open_cells, open_leaves, IsEmptySpine}
 use Rattle.art_operations.specs.declared.meeting.Meeting.{Meeting}
 use Rattle.art_operations.specs.declared.meeting.Meeting.TheVariants as meeting
-use Rattle.art_operations.specs.declared.meeting.Parted.{Parted}
-use Rattle.art_operations.specs.inner.Meetings.{Meets}
-use Rattle.art_operations.specs.inner.Rebuilding.{CanPass, RebuildsUpTo}
-use Rattle.art_operations.specs.inner.Spines.{AddsChild, HasSpine, begin_of, open_cells, open_leaves, IsEmptySpine}
+use Rattle.art_operations.proofs.Door.{links-are}
 use Rattle.art_operations.proofs.Building.{Added, added, not-behind}
 use Rattle.art_operations.proofs.Rebuilding.{last_of, passed, next-behind, whole}
 
@@ -113,10 +100,7 @@ module _ {K V : Type 0} (bytes : K → List ℕ) (P : ℕ) where
       → held_at now (leaf_name l.slot) ≡ Some (leaf_held node) → node.next ≡ first_slot rest None
   links-on old now front l rest ls node is linked same held =
       let right = AreLinked-right (links_at old) None front (l ∷ rest) None (subst (λ xs. AreLinked (links_at old) None xs None) (sym is) linked) in
-      let here : links_at old l.slot ≡ Some (record { previous = node.previous; next = node.next }) = ap links_of (sym (same l.slot) ∙ held) in
-      let both : ◌≡◌ {A = Option Links} (Some (record { previous = node.previous; next = node.next })) (Some (record { previous = last_slot None front; next = first_slot rest None })) = sym here ∙ right.0 in
-      let links : ◌≡◌ {A = Links} (record { previous = node.previous; next = node.next }) (record { previous = last_slot None front; next = first_slot rest None }) = cc in
-      ap (λ (l : Links). l.next) links
+      ap (λ (n : Links). n.next) (sym (links-are (held_at now (leaf_name l.slot)) node _ held (ap links_of (same l.slot) ∙ right.0)))
 
   pub none-left : (rest : List (LeafAt K V)) → first_slot rest None ≡ None → rest ≡ []
   none-left [] e = refl
@@ -166,9 +150,5 @@ module _ {K V : Type 0} (bytes : K → List ℕ) (P : ℕ) where
 
   -- where there is no leaf there is no tree
   pub none-rebuilt : (arena : Arena K V) (ls : List (LeafAt K V)) → HoldsInOrder bytes arena None ls → HasPairs bytes P arena None (pairs_of ls)
-  none-rebuilt arena [] order = (refl, λ n. vacant (node_at arena n) (order.holds.holds.once n))
-    where
-      vacant : (o : Option (Cell K V)) → ◌≡◌ {A = ℕ} 0 (cond (is_some o) 1 0) → o ≡ None
-      vacant None e = refl
-      vacant (Some c) e = absurd (omega (arith, e))
+  none-rebuilt arena [] order = (refl, holds-only (node_at arena) [] order.holds.holds)
   none-rebuilt arena (l ∷ ls) order = let none = order.first_is in absurd (cc)

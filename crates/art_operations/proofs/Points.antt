@@ -1,28 +1,15 @@
 -- The way to the place of a new key, one node at a time, and where it ends.
-use Rattle.std.proofs.Common.{◌≡◌, ◌≢◌, ℕ, ◌+◌, List, [], ◌∷◌, ◌++◌, length, drop, get_or, Option, Some, None, refl, sym, ap, subst, ◌∙◌, inl, inr, append_assoc, append-nil}
+use Rattle.std.proofs.Common.{◌≡◌, ◌≢◌, ℕ, ◌+◌, List, [], ◌∷◌, ◌++◌, length, drop, Option, Some, None, refl, sym, ap, ap₂, subst, ◌∙◌, inl, inr, append_assoc, append-nil}
 use Rattle.std.proofs.lemmas.Bool.Decides.{eqb_tells}
-use Rattle.art_bytes.specs.Keys.{BeginsWith, Conflict, IsProperFront}
+use Rattle.art_bytes.proofs.Common.{BeginsWith, Conflict, IsProperFront, begins_step, begins_from_step, conflict_first, conflict_second}
+use Rattle.art_nodes.proofs.Common.{InnerNode, child_at, Name}
 use Rattle.art_nodes.specs.declared.kind.NodeType.TheVariants.{Leaf}
 use Rattle.art_nodes.specs.declared.leaf.LeafNode.{LeafNode}
-use Rattle.art_nodes.specs.InnerNode.{InnerNode, child_at}
-use Rattle.art_nodes.specs.Name.{Name}
-use Rattle.art_arena.specs.tree.Changes.{IsIn}
-use Rattle.art_arena.specs.arena.Cells.{Cell, leaf_name}
-use Rattle.art_arena.specs.arena.Arena.{Arena, Held, leaf_held, inner_held, held_at, node_at}
-use Rattle.art_arena.specs.arena.Shapes.{Shape, Branches, leaf_at, inner_at, no_branch, branch, children_at, leaves, leaves_in, IsUnder, AreUnder}
-use Rattle.art_arena.specs.arena.Context.{path_to}
-use Rattle.art_arena.specs.arena.Meaning.{IsAtDepth, IsSubtree}
-use Rattle.art_arena.specs.arena.Steps.{Step}
-use Rattle.art_arena.proofs.tree.Order.{all_append, all_weaker}
-use Rattle.art_arena.proofs.tree.Fronts.{begins_trans, one_byte}
-use Rattle.art_arena.proofs.shapes.Places.{leaves-begin}
-use Rattle.art_operations.specs.Meetings.{PartAt}
-use Rattle.art_operations.specs.declared.meeting.Parted.{Parted}
-use Rattle.art_operations.specs.Points.{AllConflict, HasConflict, NoConflict}
-use Rattle.art_arena.specs.arena.Descents.{OnWayTo}
-use Rattle.art_arena.proofs.shapes.Passing.{behind, byte_behind}
-use Rattle.art_arena.proofs.shapes.Subtrees.{holds_pair, leaves_begin_prefix, some_leaf, subtree-leaf, subtree-inner, root_held}
-use Rattle.art_bytes.proofs.Order.{begins_step, begins_from_step, conflict_first, conflict_second}
+use Rattle.art_arena.proofs.Common.{IsIn, Cell, leaf_name, Arena, Held, leaf_held, inner_held, held_at, node_at, Shape, Branches, leaf_at, inner_at, no_branch, branch, children_at, leaves, leaves_in, IsUnder, AreUnder, path_to, IsAtDepth, IsSubtree, Step, all_append, all_weaker, begins_trans, one_byte, leaves-begin, OnWayTo, behind, holds_pair, leaves_begin_prefix, some_leaf, subtree-leaf, subtree-inner, root_held}
+use Rattle.art_arena.specs.arena.Descents.{Stops}
+use Rattle.art_operations.proofs.Terms.{PartAt, Parted, AllConflict, HasConflict, NoConflict, IsWayAtInner, IsWayAtLeaf, IsWay}
+use Rattle.art_operations.specs.declared.insert.point.Way.{Way}
+use Rattle.art_operations.specs.declared.insert.point.Way.TheVariants as way
 
 -- keys that go on behind a front by different bytes are not in conflict
 apart_free : (q k l : List ℕ) (a b : ℕ) → BeginsWith (q ++ a ∷ []) k → BeginsWith (q ++ b ∷ []) l → a ≢ b → Conflict k l → ⊥
@@ -41,6 +28,10 @@ pub part_old : (path rest old key more : List ℕ) (p : Parted) → key ≡ (pat
 part_old path rest old key more p e part =
     begins_from_step (path ++ part.front) p.old_byte (part.old_rest ++ more) key
     (e ∙ ap (λ x. (path ++ x) ++ more) part.old_is ∙ simp append_assoc)
+
+-- the name of a leaf, from its kind and its slot
+pub leaf_named : (n : Name) (slot : ℕ) → n.kind ≡ Leaf → slot ≡ n.slot → n ≡ leaf_name slot
+leaf_named n slot kind same = ap₂ (λ k m. record { kind = k; slot = m }) kind (sym same)
 
 -- what was read of a leaf is its key
 pub stored_is : {K V : Type 0} (bytes : K → List ℕ) {held : Option (Held K V)} {there found : LeafNode K V} {key : K} {stored : List ℕ} → held ≡ Some (leaf_held there) → held ≡ Some (leaf_held found) → key ≡ found.key → stored ≡ bytes key
@@ -68,6 +59,10 @@ module _ {K V : Type 0} (bytes : K → List ℕ) (P : ℕ) (arena : Arena K V) w
           let p = holds_pair (held_at arena (leaf_name slot)) k v here.part.held.0 in
           record { leaf = p.leaf; value = v; there = p.is; is = e ∙ ap (λ x. leaf_at slot x v) (sym p.key); begins = subst (λ x. BeginsWith path (bytes x)) (sym p.key) here.under }
 
+  -- one whose name is known by its kind and its slot
+  pub seen_leaf : (n : Name) (slot : ℕ) (path : List ℕ) (s : Shape K V) → n.kind ≡ Leaf → slot ≡ n.slot → IsSubtree bytes P (node_at arena) n path s → ReachedLeaf slot path s
+  seen_leaf n slot path s kind same sub = leaf_there slot path s (subst (λ m. IsSubtree bytes P (node_at arena) m path s) (leaf_named n slot kind same) sub)
+
 module _ {K V : Type 0} (bytes : K → List ℕ) (key path : List ℕ) (depth : ℕ) (len : length path ≡ depth) (begins : BeginsWith path key) where
   -- at a leaf
 
@@ -78,33 +73,30 @@ module _ {K V : Type 0} (bytes : K → List ℕ) (key path : List ℕ) (depth : 
     not_in_conflict : (Conflict key (bytes k) → ⊥) → NoConflict bytes key (leaves s)
     not_in_conflict n = subst (λ t. NoConflict bytes key (leaves t)) (sym is) (n, tt)
 
-    pub leaf_same : drop depth (bytes k) ≡ drop depth key → (bytes k ≡ key) × NoConflict bytes key (leaves s)
-    leaf_same e =
+    -- how the search ends there
+    pub leaf_end : (w : Way) → IsWayAtLeaf (drop depth (bytes k)) (drop depth key) w → IsWay bytes key path s (leaf_name slot) w
+    leaf_end way.Same e =
         let same : bytes k ≡ key = behind path (bytes k) depth len leaf_begins ∙ ap (λ r. path ++ r) e ∙ sym (behind path key depth len begins) in
-        (same, not_in_conflict (λ c. c.0 (sym same)))
-
-    pub leaf_old_ends : IsProperFront (drop depth (bytes k)) (drop depth key) → AllConflict bytes key (leaves s)
-    leaf_old_ends (b, r, e) =
-        in_conflict (conflict_second key (bytes k) (b, r, behind path key depth len begins ∙ ap (λ x. path ++ x) e ∙ sym (append_assoc path (drop depth (bytes k)) (b ∷ r)) ∙ ap (λ x. x ++ b ∷ r) (sym (behind path (bytes k) depth len leaf_begins))))
-
-    pub leaf_new_ends : IsProperFront (drop depth key) (drop depth (bytes k)) → AllConflict bytes key (leaves s)
-    leaf_new_ends (b, r, e) =
-        in_conflict (conflict_first key (bytes k) (b, r, behind path (bytes k) depth len leaf_begins ∙ ap (λ x. path ++ x) e ∙ sym (append_assoc path (drop depth key) (b ∷ r)) ∙ ap (λ x. x ++ b ∷ r) (sym (behind path key depth len begins))))
-
-    pub leaf_parts : (p : Parted) → PartAt (drop depth (bytes k)) (drop depth key) p → PartAt (drop (length path) (bytes k)) (drop (length path) key) p × NoConflict bytes key (leaves s)
-    leaf_parts p part = (
-      subst (λ d. PartAt (drop d (bytes k)) (drop d key) p) (sym len) part,
+        ((k, v, is, same), not_in_conflict (λ c. c.0 (sym same)))
+    leaf_end (way.PartsFromLeaf p) part = (
+      (k, v, is, subst (λ d. PartAt (drop d (bytes k)) (drop d key) p) (sym len) part),
       not_in_conflict (apart_free (path ++ part.front) key (bytes k) p.new_byte p.old_byte
           (part_new path (drop depth key) key (drop depth (bytes k)) p (behind path key depth len begins) part)
           (part_old path (drop depth key) (drop depth (bytes k)) (bytes k) [] p (behind path (bytes k) depth len leaf_begins ∙ sym (append-nil (path ++ drop depth (bytes k)))) part)
           (λ e. part.differs (sym e))),
     )
+    leaf_end way.Conflict (inl (b, r, e)) =
+        in_conflict (conflict_second key (bytes k) (b, r, behind path key depth len begins ∙ ap (λ x. path ++ x) e ∙ sym (append_assoc path (drop depth (bytes k)) (b ∷ r)) ∙ ap (λ x. x ++ b ∷ r) (sym (behind path (bytes k) depth len leaf_begins))))
+    leaf_end way.Conflict (inr (b, r, e)) =
+        in_conflict (conflict_first key (bytes k) (b, r, behind path (bytes k) depth len leaf_begins ∙ ap (λ x. path ++ x) e ∙ sym (append_assoc path (drop depth key) (b ∷ r)) ∙ ap (λ x. x ++ b ∷ r) (sym (behind path key depth len begins))))
+    leaf_end (way.PartsFromPrefix p) h = absurd h
+    leaf_end (way.NoChild b) h = absurd h
 
   -- at an inner node
 
   module _ (n : Name) (prefix : List ℕ) (kids : Branches K V) (under : IsUnder bytes path (inner_at n prefix kids)) where
     -- the key ends within the prefix, or with it
-    pub inner_ends : BeginsWith (drop depth key) prefix → AllConflict bytes key (leaves_in kids)
+    inner_ends : BeginsWith (drop depth key) prefix → AllConflict bytes key (leaves_in kids)
     inner_ends (x, e) = each 0 kids under.1
       where
         longer : (c : ℕ) (k : List ℕ) → BeginsWith ((path ++ prefix) ++ c ∷ []) k → Conflict key k
@@ -123,7 +115,7 @@ module _ {K V : Type 0} (bytes : K → List ℕ) (key path : List ℕ) (depth : 
             (each (c + 1) rest h.2)
 
     -- the key has another byte within the prefix
-    pub inner_parts : (p : Parted) → PartAt prefix (drop depth key) p → PartAt prefix (drop (length path) key) p × NoConflict bytes key (leaves_in kids)
+    inner_parts : (p : Parted) → PartAt prefix (drop depth key) p → PartAt prefix (drop (length path) key) p × NoConflict bytes key (leaves_in kids)
     inner_parts p part = (
       subst (λ d. PartAt prefix (drop d key) p) (sym len) part,
       all_weaker _ _ (λ l st. apart_free (path ++ part.front) key (bytes l.key) p.new_byte p.old_byte
@@ -132,15 +124,8 @@ module _ {K V : Type 0} (bytes : K → List ℕ) (key path : List ℕ) (depth : 
           (λ e. part.differs (sym e))) (leaves_in kids) (leaves_begin_prefix bytes path (inner_at n prefix kids) under),
     )
 
-    -- the key goes on behind the prefix
-    pub inner_passes : (b : ℕ) (r : List ℕ) → drop depth key ≡ prefix ++ b ∷ r → BeginsWith ((path ++ prefix) ++ get_or (drop depth key) (length prefix) 0 ∷ []) key
-    inner_passes b r e =
-        let at_b : get_or (drop depth key) (length prefix) 0 ≡ b = ap (λ k. get_or k (length prefix) 0) e ∙ byte_behind prefix r b in
-        subst (λ c. BeginsWith ((path ++ prefix) ++ c ∷ []) key) (sym at_b)
-        (begins_from_step (path ++ prefix) b r key (behind path key depth len begins ∙ ap (λ x. path ++ x) e ∙ sym (append_assoc path prefix (b ∷ r))))
-
     -- no child has its next byte
-    pub inner_missing : (b : ℕ) → BeginsWith ((path ++ prefix) ++ b ∷ []) key → child_at (children_at kids) b ≡ None → NoConflict bytes key (leaves_in kids)
+    inner_missing : (b : ℕ) → BeginsWith ((path ++ prefix) ++ b ∷ []) key → child_at (children_at kids) b ≡ None → NoConflict bytes key (leaves_in kids)
     inner_missing b on none = each 0 kids under.1 none
       where
         each : (low : ℕ) (f : Branches K V) → AreUnder bytes (path ++ prefix) low f → child_at (children_at f) b ≡ None → NoConflict bytes key (leaves_in f)
@@ -152,6 +137,17 @@ module _ {K V : Type 0} (bytes : K → List ℕ) (key path : List ℕ) (depth : 
               (all_weaker _ _ (λ l st. apart_free (path ++ prefix) key (bytes l.key) b c on st (λ same. other.1 (sym same))) (leaves t) (leaves-begin bytes ((path ++ prefix) ++ c ∷ []) t h.1))
               (each (c + 1) rest h.2 (rw other.0 at e))
         ]
+
+    -- how the search ends there, from where the key goes no further
+    pub inner_end : (s : Shape K V) → s ≡ inner_at n prefix kids → Stops bytes key path s → (w : Way) → IsWayAtInner prefix (drop depth key) w → IsWay bytes key path s n w
+    inner_end s is stops way.Conflict ends = subst (λ t. AllConflict bytes key (leaves t)) (sym is) (inner_ends ends)
+    inner_end s is stops (way.PartsFromPrefix p) part = let r = inner_parts p part in ((prefix, kids, is, r.0), subst (λ t. NoConflict bytes key (leaves t)) (sym is) r.1)
+    inner_end s is stops (way.NoChild b) (r, e) =
+        let on = begins_from_step (path ++ prefix) b r key (behind path key depth len begins ∙ ap (λ x. path ++ x) e ∙ sym (append_assoc path prefix (b ∷ r))) in
+        let missing = stops n prefix kids is b on in
+        ((prefix, kids, is, missing, on), subst (λ t. NoConflict bytes key (leaves t)) (sym is) (inner_missing b on missing))
+    inner_end s is stops way.Same h = absurd h
+    inner_end s is stops (way.PartsFromLeaf p) h = absurd h
 
 -- where all leaves below are in conflict with the key, one is
 pub some_conflict : {K V : Type 0} (bytes : K → List ℕ) (key path : List ℕ) (s : Shape K V) → IsUnder bytes path s → AllConflict bytes key (leaves s) → HasConflict bytes key (leaves s)

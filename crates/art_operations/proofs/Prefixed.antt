@@ -1,50 +1,25 @@
 -- The items whose keys begin with a prefix, and the others; the part of a tree that has the former.
-use Rattle.std.proofs.Common.{◌≡◌, ℕ, ◌≤◌, not, List, [], ◌∷◌, ◌++◌, length, refl, sym, ap, ap₂, ◌∙◌, inl, inr, arith}
+use Rattle.std.proofs.Common.{◌≡◌, ℕ, not, List, [], ◌++◌, sym, ap, ap₂, subst, ◌∙◌}
 use Rattle.std.specs.List.{AllByRecursion}
-use Rattle.std.proofs.lemmas.Bool.{cases_Bool, cond-true, cond-false}
 use Rattle.std.proofs.lemmas.List.Elements.{filter-append}
-use Rattle.art_bytes.specs.Keys.{BeginsWith}
-use Rattle.art_arena.specs.arena.Context.{Frame, path_to, leaves_before, leaves_after}
-use Rattle.art_arena.specs.arena.Places.{IsPlace}
-use Rattle.art_arena.specs.arena.Shapes.{Shape, LeafAt, leaves}
-use Rattle.art_arena.specs.tree.Tenants.{begins_with, with_front, without_front}
-use Rattle.art_arena.proofs.tree.Tenants.{begins_true, begins_false}
-use Rattle.art_arena.proofs.shapes.Contexts.{leaves-plug}
-use Rattle.art_arena.proofs.shapes.Surroundings.{ctx-after, ctx-before}
-use Rattle.art_operations.specs.Subtrees.{leaves_with, leaves_without}
+use Rattle.art_bytes.proofs.Common.{BeginsWith}
+use Rattle.art_arena.proofs.Common.{Frame, path_to, leaves_before, leaves_after, IsPlace, Shape, LeafAt, leaves, begins_with, with_front, without_front, begins_true, begins_same, all_weaker, leaves-plug, ctx-after, ctx-before}
+use Rattle.art_operations.proofs.Terms.{leaves_with, leaves_without}
 use Rattle.art_operations.proofs.Segments.{before_none, after_none, begin_in}
-use Rattle.art_operations.proofs.KeyedLists.{all-but-none}
+use Rattle.art_operations.proofs.KeyedLists.{all-but-none, none-pass, passes}
 
 module _ {X : Type 0} (key : X → List ℕ) (front : List ℕ) where
-  with-fewer : (xs : List X) → length (with_front key front xs) ≤ length xs
-  with-fewer [] = omega arith
-  with-fewer (x ∷ xs) =
-      let h = with-fewer xs in
-      elim (cases_Bool (begins_with front (key x))) [ inl t ↦ rw t (omega (arith, h)) | inr f ↦ rw f (omega (arith, h)) ]
-
   -- each of the former begins with it, and none of the others
   pub with-begin : (xs : List X) → AllByRecursion (λ x. BeginsWith front (key x)) (with_front key front xs)
-  with-begin [] = tt
-  with-begin (x ∷ xs) =
-      let h = with-begin xs in
-      elim (cases_Bool (begins_with front (key x))) [ inl t ↦ rw t (begins_true front (key x) t, h) | inr f ↦ rw f h ]
+  with-begin xs = all_weaker _ _ (λ x t. begins_true front (key x) t) _ (passes (λ x. begins_with front (key x)) xs)
 
   pub without-begin : (xs : List X) → AllByRecursion (λ x. BeginsWith front (key x) → ⊥) (without_front key front xs)
-  without-begin [] = tt
-  without-begin (x ∷ xs) =
-      let h = without-begin xs in
-      elim (cases_Bool (begins_with front (key x))) [ inl t ↦ rw t h | inr f ↦ rw f (begins_false front (key x) f, h) ]
+  without-begin xs = all_weaker _ _ (λ x t b. let e = rw (begins_same front (key x) b) at t in absurd (cc)) _ (passes (λ x. not (begins_with front (key x))) xs)
 
   -- where all begin with it there are no others
   pub without-none : (xs : List X) → with_front key front xs ≡ xs → without_front key front xs ≡ []
-  without-none [] all = refl
-  without-none (x ∷ xs) all =
-      let few = with-fewer xs in
-      let later = λ (e : with_front key front xs ≡ xs). without-none xs e in
-      elim (cases_Bool (begins_with front (key x))) [
-        | inl t ↦ let e = sym (cond-true _ (x ∷ with_front key front xs) (with_front key front xs) t) ∙ all in rw t (later (cc))
-        | inr f ↦ let e = ap length (sym (cond-false _ (x ∷ with_front key front xs) (with_front key front xs) f) ∙ all) in absurd (omega (arith, few, e))
-      ]
+  without-none xs all =
+      none-pass (λ x. not (begins_with front (key x))) xs (all_weaker _ _ (λ x b. ap not (begins_same front (key x) b)) xs (subst (AllByRecursion (λ x. BeginsWith front (key x))) all (with-begin xs)))
 
 module _ {K V : Type 0} (bytes : K → List ℕ) (front : List ℕ) (whole part : Shape K V) (ctx : List (Frame K V)) (place : IsPlace bytes whole ctx part) (begins : BeginsWith (path_to ctx) front) where
   abbrev slot_key : LeafAt K V → List ℕ

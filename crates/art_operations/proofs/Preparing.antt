@@ -1,18 +1,10 @@
 -- The node above a part that is to be deleted, before the deletion.
 use Rattle.std.proofs.Common.{◌≡◌, ◌≢◌, ℕ, ◌-◌, ◌≤◌, List, ◌∷◌, length, Some, refl, sym, subst, arith}
-use Rattle.art_nodes.specs.InnerNode.{InnerNode}
-use Rattle.art_nodes.specs.Kind.{CanShrink}
-use Rattle.art_nodes.specs.Name.{Name}
+use Rattle.art_nodes.proofs.Common.{InnerNode, CanShrink, Name}
 use Rattle.art_nodes.specs.declared.kind.NodeType.TheVariants.{Leaf}
-use Rattle.art_arena.specs.arena.Arena.{Arena, node_at, held_at, inner_held}
-use Rattle.art_arena.specs.arena.Cells.{Cell}
-use Rattle.art_arena.specs.arena.Meaning.{IsNodesBeside}
-use Rattle.art_arena.specs.arena.Shapes.{Shape, leaves}
-use Rattle.art_arena.specs.arena.Steps.{Step, steps_of}
+use Rattle.art_arena.proofs.Common.{Arena, node_at, held_at, inner_held, Cell, IsNodesBeside, Shape, leaves, Step, steps_of}
 use Rattle.art_operations.specs.Held.{HasInner}
-use Rattle.art_operations.specs.Subtrees.{IsSubtreePoint, ShrinksWithout}
-use Rattle.art_operations.specs.declared.delete.subtree.SubtreeDeletePoint.{SubtreeDeletePoint}
-use Rattle.art_operations.specs.inner.Detached.{IsChildPart}
+use Rattle.art_operations.proofs.Terms.{IsSubtreePoint, ShrinksWithout, SubtreeDeletePoint, IsChildPart}
 use Rattle.art_operations.proofs.Crossings.{part_shrinks}
 use Rattle.art_operations.proofs.Detaching.{child_part, loses_kind}
 use Rattle.art_operations.proofs.TakenOut.{node, node_there, node_inner, node_count, one_less, limit_kind}

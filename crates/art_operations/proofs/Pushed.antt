@@ -2,29 +2,11 @@
 use Rattle.std.proofs.Common.{◌≡◌, ℕ, ◌+◌, List, [], ◌∷◌, ◌++◌, Option, None, Some, IsSome, take, refl, sym, ap, subst, ◌∙◌, inl, inr, arith, append_assoc, append-nil}
 use Rattle.std.specs.List.{AllByRecursion}
 use Rattle.std.proofs.lemmas.Bool.Decides.{eqb_tells}
-use Rattle.art_bytes.specs.Keys.{IsBefore}
-use Rattle.art_nodes.specs.Name.{Name}
+use Rattle.art_bytes.proofs.Common.{IsBefore}
+use Rattle.art_nodes.proofs.Common.{Name}
 use Rattle.art_nodes.specs.declared.kind.NodeType.TheVariants.{Leaf}
-use Rattle.art_arena.specs.arena.Arena.{Arena, Allocates, SameNodes, WritesLinks, cell_of, leaf_held, links_of, node_at, links_at}
-use Rattle.art_arena.specs.arena.Rooms.{SameLeaves, UsesRoomOf}
-use Rattle.art_arena.specs.arena.Cells.{Cell, leaf_name, pair, copies, Holds, UpdatesAt}
-use Rattle.art_arena.specs.arena.Linked.{AreLinked, Links, first_slot, last_slot, times}
-use Rattle.art_arena.specs.arena.Shapes.{LeafAt, leaves_in, cells_in, pairs_of, key_of}
-use Rattle.art_arena.specs.tree.Order.{AscendsByKey}
-use Rattle.art_arena.proofs.shapes.CellLists.{Holds-add, Holds-same, copies-append, same_name_tells}
-use Rattle.art_arena.proofs.shapes.LinkedLists.{times-append, last_slot-append, last-apart, empty-first, end_there, relink_end, some_of, AreLinked-frame, AreLinked-join, AreLinked-same}
-use Rattle.art_arena.proofs.shapes.Surroundings.{times-leaves_in}
-use Rattle.art_arena.proofs.shapes.Updates.{links-update, nodes-update}
-use Rattle.art_arena.proofs.tree.Order.{all_weaker, ascending_append}
-use Rattle.art_operations.specs.Builders.{Builds, BuildsTo, BuildsUpTo}
-use Rattle.art_operations.specs.LeafNames.{HasLeavesOf}
-use Rattle.art_operations.specs.Meetings.{PartAt}
-use Rattle.art_operations.specs.declared.meeting.Parted.{Parted}
-use Rattle.art_operations.specs.declared.build.TreeBuilder.{TreeBuilder}
-use Rattle.art_operations.specs.declared.build.spine.Spine.{Spine}
-use Rattle.art_operations.specs.inner.Cursors.{HasStoredLast, IsListTo}
-use Rattle.art_operations.specs.inner.Rebuilding.{CanPass, CanPassAt, RebuildsUpTo}
-use Rattle.art_operations.specs.inner.Spines.{Level, AreOpen, open_leaves, open_cells}
+use Rattle.art_arena.proofs.Common.{Arena, Allocates, SameNodes, WritesLinks, cell_of, leaf_held, links_of, node_at, links_at, SameLeaves, UsesRoomOf, Cell, leaf_name, pair, copies, Holds, UpdatesAt, AreLinked, Links, first_slot, last_slot, times, LeafAt, leaves_in, cells_in, pairs_of, key_of, AscendsByKey, Holds-add, Holds-same, copies-append, same_name_tells, times-append, last_slot-append, last-apart, empty-first, end_there, relink_end, some_of, AreLinked-frame, AreLinked-join, AreLinked-same, times-leaves_in, links-update, nodes-update, all_weaker, ascending_append}
+use Rattle.art_operations.proofs.Terms.{Builds, BuildsTo, BuildsUpTo, HasLeavesOf, PartAt, Parted, TreeBuilder, Spine, HasStoredLast, IsListTo, CanPass, CanPassAt, RebuildsUpTo, Level, AreOpen, open_leaves, open_cells}
 use Rattle.art_operations.proofs.Building.{all_leaves, behind-all, last_leaf}
 use Rattle.art_operations.proofs.FreedRuns.{times-copies}
 use Rattle.art_operations.proofs.InnerRooms.{beside-leaf}

@@ -1,10 +1,8 @@
 -- One node of an arena, and one from which a child was taken out and put back.
 use Rattle.std.proofs.Common.{◌≡◌, ℕ, Option, Some, inl, inr, ap, sym, ◌∙◌}
-use Rattle.art_nodes.specs.InnerNode.{InnerNode, with_child, without_child, with_children}
-use Rattle.art_nodes.specs.Name.{Name}
-use Rattle.art_arena.specs.arena.Arena.{Arena, Held, inner_held, held_at, SameNodes}
-use Rattle.art_operations.specs.inner.Removals.{EditsNode, PutsBack}
-use Rattle.art_arena.proofs.shapes.CellLists.{same_name_tells}
+use Rattle.art_nodes.proofs.Common.{InnerNode, with_child, without_child, with_children, Name}
+use Rattle.art_arena.proofs.Common.{Arena, Held, inner_held, held_at, SameNodes, same_name_tells}
+use Rattle.art_operations.proofs.Terms.{EditsNode, PutsBack}
 
 module _ {K V : Type 0} where
   -- a child that was taken out and put back

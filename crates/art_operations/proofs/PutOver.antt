@@ -2,32 +2,16 @@
 use Rattle.std.proofs.Common.{◌≡◌, ◌≢◌, ℕ, true, cond, List, [], ◌∷◌, ◌++◌, length, Option, Some, None, is_some, refl, sym, ap, subst, ◌∙◌, arith}
 use Rattle.std.specs.List.{AllByRecursion}
 use Rattle.std.proofs.lemmas.List.{map-append}
-use Rattle.art_nodes.specs.Name.{Name}
+use Rattle.art_nodes.proofs.Common.{Name}
 use Rattle.art_nodes.specs.declared.leaf.LeafNode.{LeafNode}
-use Rattle.art_arena.specs.tree.Changes.{IsIn}
-use Rattle.art_arena.specs.arena.Arena.{Arena, node_at, links_at}
-use Rattle.art_arena.specs.arena.Cells.{Cell}
-use Rattle.art_arena.specs.arena.Meaning.{IsSubtree, IsTreeBeside}
-use Rattle.art_arena.specs.arena.Shapes.{Shape, LeafAt, name_of, leaves, pairs_of, key_of}
-use Rattle.art_arena.specs.arena.Steps.{Step, steps_of}
-use Rattle.art_arena.proofs.shapes.Meanings.{nodes-part, nodes-subtree}
-use Rattle.art_arena.proofs.tree.Exists.{in_middle}
-use Rattle.art_arena.proofs.tree.Insert.{all_at}
-use Rattle.art_operations.specs.KeyedLists.{HasKey, overlaps, overlapping}
-use Rattle.art_operations.specs.Overwrites.{AreRemoved, IsExact, IsOverwrittenBeside, IsPrefixPoint, root_at, removed_by}
-use Rattle.art_operations.specs.Pairs.{HasPairsBeside, CanPut, CanPutOver, HasPut, HasPutOver, pair_in}
-use Rattle.art_operations.specs.declared.insert.result.InsertResult.{InsertResult}
+use Rattle.art_arena.proofs.Common.{IsIn, Arena, node_at, links_at, Cell, IsSubtree, IsTreeBeside, Shape, LeafAt, name_of, leaves, pairs_of, key_of, Step, steps_of, nodes-part, nodes-subtree, in_middle, all_at, in_unmap}
+use Rattle.art_operations.proofs.Terms.{HasKey, overlaps, overlapping, AreRemoved, IsExact, IsOverwrittenBeside, IsPrefixPoint, root_at, removed_by, HasPairsBeside, CanPut, CanPutOver, HasPutOver, pair_in, PrefixInsertResult, Done, PrefixInsert, IsDone}
 use Rattle.art_operations.specs.declared.prefix_insert.point.PrefixInsertPoint.{PrefixInsertPoint}
 use Rattle.art_operations.specs.declared.prefix_insert.point.PrefixInsertPoint.TheVariants as at
-use Rattle.art_operations.specs.declared.prefix_insert.result.PrefixInsertResult.{PrefixInsertResult}
-use Rattle.art_operations.specs.declared.running.Answer.TheVariants.{Done}
-use Rattle.art_operations.specs.declared.running.Command.TheVariants.{PrefixInsert}
-use Rattle.art_operations.specs.inner.Runs.{IsDone}
 use Rattle.art_operations.proofs.HeldPairs.{stored-exact}
 use Rattle.art_operations.proofs.LeafPairs.{leaf_pair, pairs_ascend, held_leaf}
 use Rattle.art_operations.proofs.NotStored.{not-in-way}
 use Rattle.art_operations.proofs.Overlaps.{put_over}
-use Rattle.art_arena.proofs.tree.Paths.{in_unmap}
 
 -- how many pairs are no more
 pub how_many : {K V : Type 0} (gone : List (K × V)) (result : PrefixInsertResult K V) → AreRemoved gone result.insert_result.existing_leaf result.leafs_removed → removed_by result ≡ length gone
@@ -37,13 +21,9 @@ how_many {K = K} {V = V} gone result removed = number result.insert_result.exist
     number None e = e.0
     number (Some was) e = sym (ap length e.1)
 
--- none is not one
-none-alone : (n : ℕ) → n ≡ 0 → n ≢ 1
-none-alone n none e = omega (arith, none, e)
-
 -- where there was no pair, none is removed
 pub none-removed : {K V : Type 0} (old : Option (LeafNode K V)) → pair_in old ≡ [] → AreRemoved [] old 0
-none-removed None e = (refl, none-alone 0 refl)
+none-removed None e = (refl, λ one. omega (arith, one))
 none-removed (Some leaf) e = absurd (cc)
 
 module _ {K V : Type 0} (bytes : K → List ℕ) (P : ℕ) where

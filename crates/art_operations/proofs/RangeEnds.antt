@@ -4,22 +4,12 @@ use Rattle.std.proofs.Common.{◌≡◌, ℕ, Bool, true, false, cond, not, List
 use Rattle.std.specs.List.{AllByRecursion}
 use Rattle.std.specs.BTreeMap.Range.{is_from_start, is_past_end, range_contains}
 use Rattle.std.specs.declared.ops.Bound.{Bound}
-use Rattle.art_bytes.specs.Keys.{IsBefore, bytes_cmp}
+use Rattle.art_bytes.proofs.Common.{IsBefore, bytes_cmp}
+use Rattle.art_nodes.proofs.Common.{Name}
 use Rattle.art_nodes.specs.declared.leaf.LeafNode.{LeafNode}
-use Rattle.art_nodes.specs.Name.{Name}
-use Rattle.art_arena.specs.arena.Arena.{Arena, leaf_held, held_at, node_at}
-use Rattle.art_arena.specs.arena.Cells.{pair, leaf_name}
-use Rattle.art_arena.specs.arena.Descents.{leaf_where, passing}
-use Rattle.art_arena.specs.arena.Linked.{first_slot, last_slot}
-use Rattle.art_arena.specs.arena.Shapes.{Shape, LeafAt, leaves}
-use Rattle.art_arena.specs.arena.Stores.{Stores}
-use Rattle.art_arena.specs.tree.Changes.{IsIn}
-use Rattle.art_arena.specs.tree.Order.{AscendsByKey}
-use Rattle.art_arena.proofs.shapes.Prefixes.{leaves_are_held}
-use Rattle.art_arena.proofs.shapes.Subtrees.{holds_pair}
-use Rattle.art_arena.proofs.tree.Insert.{all_at}
-use Rattle.art_arena.proofs.tree.Order.{all_weaker}
-use Rattle.art_operations.specs.Bounds.{AreEndsWhere}
+use Rattle.art_arena.proofs.Common.{Arena, leaf_held, held_at, node_at, pair, leaf_name, leaf_where, passing, first_slot, last_slot, Shape, LeafAt, leaves, Stores, IsIn, AscendsByKey, leaves_are_held, holds_pair, all_at, all_weaker}
+use Rattle.art_operations.proofs.Terms.{AreEndsWhere}
+use Rattle.art_operations.proofs.KeyedLists.{none-pass}
 use Rattle.art_operations.proofs.LeafPairs.{pairs_ascend}
 use Rattle.art_operations.proofs.Stretches.{from_later, leaves_ascend, past_later}
 
@@ -46,10 +36,6 @@ module _ {K V : Type 0} (bytes : K → List ℕ) (start end : Bound (List ℕ)) 
   all-from : (ls : List (LeafAt K V)) → AllByRecursion (λ (l : LeafAt K V). is_from_start bytes_cmp start (bytes l.key) ≡ true) ls → Between ls ≡ UpTo ls
   all-from [] h = refl
   all-from (l ∷ ls) h = rw h.0 (ap (λ xs. cond (not (is_past_end bytes_cmp end (bytes l.key))) (l ∷ xs) xs) (all-from ls h.1))
-
-  all-past : (ls : List (LeafAt K V)) → AllByRecursion (λ (l : LeafAt K V). is_past_end bytes_cmp end (bytes l.key) ≡ true) ls → UpTo ls ≡ []
-  all-past [] h = refl
-  all-past (l ∷ ls) h = rw h.0 (all-past ls h.1)
 
   -- none is from the start on, so none is between the bounds
   pub none-from : (ls : List (LeafAt K V)) → leaf_where bytes (λ k. is_from_start bytes_cmp start k) ls ≡ None → Between ls ≡ []
@@ -99,7 +85,7 @@ module _ {K V : Type 0} (bytes : K → List ℕ) (start end : Bound (List ℕ)) 
   module _ (ls : List (LeafAt K V)) (slot : ℕ) (at : StartsAt ls slot) where
     -- where it is past the end, no leaf is between the bounds
     pub none-between : is_past_end bytes_cmp end (bytes at.leaf.key) ≡ true → Between ls ≡ []
-    none-between past = at.inside ∙ all-past (at.leaf ∷ at.others) (past, all_weaker _ _ (λ r b. past_later end (bytes at.leaf.key) (bytes r.key) b past) at.others at.behind)
+    none-between past = at.inside ∙ none-pass (λ l. not (is_past_end bytes_cmp end (bytes l.key))) (at.leaf ∷ at.others) (ap not past, all_weaker _ _ (λ r b. ap not (past_later end (bytes at.leaf.key) (bytes r.key) b past)) at.others at.behind)
 
     -- else they begin with it, and end with the last one up to the end
     pub ends-between : is_past_end bytes_cmp end (bytes at.leaf.key) ≡ false → (last : ℕ) → last_slot None (UpTo ls) ≡ Some last → AreEndsWhere bytes (λ k. range_contains bytes_cmp start end k) ls (Some (slot, last))

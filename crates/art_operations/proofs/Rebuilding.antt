@@ -1,21 +1,11 @@
 -- Inner nodes that are made over leaves which stand: what is so behind each leaf, and where the last node is made.
 use Rattle.std.proofs.Common.{◌≡◌, ℕ, List, [], ◌∷◌, ◌++◌, take, drop, refl, sym, ap, subst, ◌∙◌, arith, append-nil, Some, None, IsSome}
 use Rattle.std.proofs.lemmas.List.{take-append-drop}
-use Rattle.art_bytes.specs.Keys.{IsBefore}
-use Rattle.art_nodes.specs.Name.{Name}
+use Rattle.art_bytes.proofs.Common.{IsBefore}
+use Rattle.art_nodes.proofs.Common.{Name}
 use Rattle.art_nodes.specs.declared.leaf.LeafNode.{LeafNode}
-use Rattle.art_arena.specs.arena.Arena.{Arena, leaf_held, held_at, node_at, links_at}
-use Rattle.art_arena.specs.arena.Cells.{Cell, pair, leaf_name, Holds}
-use Rattle.art_arena.specs.arena.Linked.{AreLinked}
-use Rattle.art_arena.specs.arena.Shapes.{Shape, LeafAt, leaf_at, name_of, leaves, cells, pairs_of, key_of, IsUnder}
-use Rattle.art_arena.specs.tree.Order.{AscendsByKey}
-use Rattle.art_arena.proofs.shapes.Subtrees.{HoldsPair, holds_pair}
-use Rattle.art_arena.proofs.tree.Order.{all_right}
-use Rattle.art_operations.specs.Frees.{leaf_cells}
-use Rattle.art_operations.specs.Pairs.{HasPairs}
-use Rattle.art_operations.specs.declared.build.spine.Spine.{Spine}
-use Rattle.art_operations.specs.inner.Rebuilding.{RebuildsUpTo}
-use Rattle.art_operations.specs.inner.Spines.{Level, begin, begin_of, open_leaves, open_cells, HasSpine}
+use Rattle.art_arena.proofs.Common.{Arena, leaf_held, held_at, node_at, links_at, Cell, pair, leaf_name, Holds, AreLinked, Shape, LeafAt, leaf_at, name_of, leaves, cells, pairs_of, key_of, IsUnder, AscendsByKey, HoldsPair, holds_pair, all_right}
+use Rattle.art_operations.proofs.Terms.{leaf_cells, HasPairs, Spine, RebuildsUpTo, Level, begin, begin_of, open_leaves, open_cells, HasSpine}
 use Rattle.art_operations.proofs.KeyedLists.{behind}
 use Rattle.art_operations.proofs.LeafPairs.{pairs-parts}
 use Rattle.art_operations.proofs.Spines.{begin-opened}

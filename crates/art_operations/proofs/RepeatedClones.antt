@@ -1,13 +1,12 @@
 -- Clones of clones: what they keep, and the pairs of a tree that is cloned once more.
-use Rattle.std.proofs.Common.{◌≡◌, ℕ, zero, suc, List, [], ◌∷◌, ◌++◌, Option, Some, inl, inr, refl, ap, ◌∙◌}
-use Rattle.art_nodes.specs.Name.{Name}
-use Rattle.art_arena.specs.arena.Arena.{Arena}
-use Rattle.art_arena.specs.arena.Shapes.{Shape, Branches, leaf_at, inner_at, no_branch, branch, LeafAt, leaves, leaves_in, pairs_of}
-use Rattle.art_arena.specs.arena.Stores.{StoresOnly}
+use Rattle.std.proofs.Common.{◌≡◌, ℕ, zero, suc, List, [], ◌∷◌, ◌++◌, Option, Some, inl, inr, refl, ◌∙◌}
+use Rattle.std.proofs.lemmas.List.{map-append}
+use Rattle.art_nodes.proofs.Common.{Name}
+use Rattle.art_arena.proofs.Common.{Arena, Shape, Branches, leaf_at, inner_at, no_branch, branch, leaves, leaves_in, pairs_of, StoresOnly}
 use Rattle.art_operations.specs.Clones.{IsShapeClone, AreBranchClones, IsClonedTree}
-use Rattle.art_operations.specs.Runs.{AreClones, IsCloned}
-use Rattle.art_operations.specs.inner.Runs.{HasClones}
+use Rattle.art_operations.proofs.Terms.{AreClones, IsCloned, HasClones}
 use Rattle.art_operations.specs.declared.clone.CloneResult.{CloneResult}
+use Rattle.art_operations.proofs.LeafPairs.{leaf_pair}
 
 module _ {X : Type 0} (IsClone : X → X → Type 0) where
   -- a clone is reached however many more there may be
@@ -28,10 +27,6 @@ module _ {K V : Type 0} (KeyClone : K → K → Type 0) (ValueClone : V → V �
   zip-append (x ∷ xs) [] ys ys' h k = absurd h
   zip-append (x ∷ xs) (x' ∷ xs') ys ys' h k = (h.0, zip-append xs xs' ys ys' h.1 k)
 
-  pairs-append : (xs ys : List (LeafAt K V)) → pairs_of (xs ++ ys) ≡ pairs_of xs ++ pairs_of ys
-  pairs-append [] ys = refl
-  pairs-append (x ∷ xs) ys = ap (λ ps. (x.key, x.value) ∷ ps) (pairs-append xs ys)
-
   -- the pairs of a clone of a shape are clones of its pairs
   mutual
     pub shape-pairs : (s t : Shape K V) → IsShapeClone KeyClone ValueClone s t → AreClones KeyClone ValueClone (pairs_of (leaves s)) (pairs_of (leaves t))
@@ -45,7 +40,7 @@ module _ {K V : Type 0} (KeyClone : K → K → Type 0) (ValueClone : V → V �
     branch-pairs no_branch (branch c t clones) h = absurd h
     branch-pairs (branch b s rest) no_branch h = absurd h
     branch-pairs (branch b s rest) (branch c t clones) h =
-        rw (pairs-append (leaves s) (leaves_in rest), pairs-append (leaves t) (leaves_in clones))
+        rw (map-append leaf_pair (leaves s) (leaves_in rest), map-append leaf_pair (leaves t) (leaves_in clones))
         (zip-append (pairs_of (leaves s)) (pairs_of (leaves t)) (pairs_of (leaves_in rest)) (pairs_of (leaves_in clones)) (shape-pairs s t h.1) (branch-pairs rest clones h.2))
 
   abbrev After : ℕ → List (K × V) → List (K × V) → Type 0

@@ -1,10 +1,8 @@
 -- What commands leave and answer, as the checker computes it.
 use Rattle.std.proofs.Common.{◌≡◌, ℕ, List, [], ◌∷◌, refl, inl}
-use Rattle.art_operations.specs.Commands.{IsAnswered, pairs_after, clones_in}
-use Rattle.art_operations.specs.declared.running.Answer.{Answer}
-use Rattle.art_operations.specs.declared.running.Answer.TheVariants.{Done, Prefix, Memory}
+use Rattle.art_operations.proofs.Terms.{IsAnswered, pairs_after, clones_in, Answer, Done, Prefix, Insert, PrefixInsert, Delete, Clone}
+use Rattle.art_operations.specs.declared.running.Answer.TheVariants.{Memory}
 use Rattle.art_operations.specs.declared.running.Command.{Command}
-use Rattle.art_operations.specs.declared.running.Command.TheVariants.{Insert, PrefixInsert, Delete, Clone}
 
 -- each key is its own bytes
 abbrev itself : List ℕ → List ℕ

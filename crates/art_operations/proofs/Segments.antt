@@ -2,20 +2,11 @@
 use Rattle.std.proofs.Common.{◌≡◌, ℕ, Bool, List, [], ◌∷◌, ◌++◌, Option, Some, None, refl, sym, ap, ◌∙◌, inl, inr, append-nil}
 use Rattle.std.specs.List.{AllByRecursion}
 use Rattle.std.proofs.lemmas.List.Elements.{filter-append}
-use Rattle.art_bytes.specs.Keys.{BeginsWith, Conflict, IsBefore}
-use Rattle.art_bytes.proofs.Order.{front_not_after, front_not_before}
-use Rattle.art_arena.specs.tree.Tenants.{begins_with}
-use Rattle.art_arena.specs.arena.Context.{Frame, path_to, leaves_before, leaves_after}
-use Rattle.art_arena.specs.arena.Descents.{passing}
-use Rattle.art_arena.specs.arena.Linked.{first_slot, last_slot}
-use Rattle.art_arena.specs.arena.Places.{IsPlace}
-use Rattle.art_arena.specs.arena.Shapes.{Shape, leaf_at, LeafAt, leaves}
-use Rattle.art_arena.proofs.tree.Fronts.{begins_trans}
-use Rattle.art_arena.proofs.tree.Parts.{begins_not, begins_same}
-use Rattle.art_arena.proofs.shapes.Contexts.{leaves-plug}
-use Rattle.art_arena.proofs.shapes.Surroundings.{AreAfter, AreBefore, ctx-after, ctx-before}
-use Rattle.art_operations.specs.Bounds.{AreEndsWhere}
-use Rattle.art_operations.specs.Points.{AllConflict, NoConflict}
+use Rattle.art_bytes.proofs.Common.{BeginsWith, Conflict, IsBefore, front_not_after, front_not_before}
+use Rattle.art_arena.proofs.Common.{begins_with, Frame, path_to, leaves_before, leaves_after, passing, first_slot, last_slot, IsPlace, Shape, LeafAt, leaves, begins_trans, begins_same, leaves-plug, AreAfter, AreBefore, ctx-after, ctx-before, all_weaker}
+use Rattle.art_arena.proofs.tree.Parts.{begins_not}
+use Rattle.art_operations.proofs.Terms.{AreEndsWhere, AllConflict, NoConflict}
+use Rattle.art_operations.proofs.KeyedLists.{none-pass}
 use Rattle.art_operations.proofs.NotStored.{HaveOthers}
 
 -- the same leaves pass, so they have the same ends
@@ -29,12 +20,10 @@ module _ {K V : Type 0} (bytes : K → List ℕ) (key : List ℕ) where
 
   -- none of the leaves on either side of a place begins with a key that goes there
   pub before_none : (ls : List (LeafAt K V)) → AreBefore bytes key ls → Begin ls ≡ []
-  before_none [] h = refl
-  before_none (l ∷ ls) h = rw (begins_not key (bytes l.key) (λ b. front_not_after key (bytes l.key) b h.0)) (before_none ls h.1)
+  before_none ls h = none-pass (λ l. begins_with key (bytes l.key)) ls (all_weaker _ _ (λ l a. begins_not key (bytes l.key) (λ b. front_not_after key (bytes l.key) b a)) ls h)
 
   pub after_none : (ls : List (LeafAt K V)) → AreAfter bytes key ls → Begin ls ≡ []
-  after_none [] h = refl
-  after_none (l ∷ ls) h = rw (begins_not key (bytes l.key) (λ b. front_not_before key (bytes l.key) b h.0)) (after_none ls h.1)
+  after_none ls h = none-pass (λ l. begins_with key (bytes l.key)) ls (all_weaker _ _ (λ l a. begins_not key (bytes l.key) (λ b. front_not_before key (bytes l.key) b a)) ls h)
 
   pub begin_in : (whole part : Shape K V) (ctx : List (Frame K V)) → IsPlace bytes whole ctx part → BeginsWith (path_to ctx) key → Begin (leaves whole) ≡ Begin (leaves part)
   begin_in whole part ctx place begins =
@@ -66,10 +55,6 @@ module _ {K V : Type 0} (bytes : K → List ℕ) (key : List ℕ) where
 
   pub begin_none : (l : LeafAt K V) (ls : List (LeafAt K V)) → AllConflict bytes key (l ∷ ls) → AllByRecursion (λ r. IsBefore (bytes l.key) (bytes r.key)) ls → (BeginsWith key (bytes l.key) → ⊥) → Begin (l ∷ ls) ≡ []
   begin_none l ls c h n = rw (begins_not key (bytes l.key) n) (none_begins l n c.0 ls h)
-
-  -- the leaf with the key
-  pub begin_same : (slot : ℕ) (k : K) (v : V) → bytes k ≡ key → AreEndsWhere bytes (λ k. begins_with key k) (leaves (leaf_at slot k v)) (Some (slot, slot))
-  begin_same slot k v e = rw (begins_same key (bytes k) ([], e ∙ sym (append-nil key))) (refl, refl)
 
   -- where no key is this one or in conflict with it, none begins with it
   pub begin_nowhere : (ls : List (LeafAt K V)) → NoConflict bytes key ls → HaveOthers bytes key ls → Begin ls ≡ []

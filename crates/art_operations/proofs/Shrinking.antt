@@ -1,24 +1,11 @@
 -- A leaf whose loss changes the kind of the node above it, by the keys alone.
 use Rattle.std.proofs.Common.{◌≡◌, ℕ, suc, ◌+◌, List, [], ◌∷◌, ◌++◌, length, drop, refl, sym, ap, ap₂, subst, ◌∙◌, inl, inr, arith, append_assoc, drop_at}
 use Rattle.std.proofs.lemmas.Bool.Decides.{eqb_tells}
-use Rattle.art_bytes.specs.Keys.{BeginsWith}
-use Rattle.art_arena.specs.tree.Changes.{IsIn}
-use Rattle.art_arena.specs.arena.Context.{Frame, fill, plug, path_to, leaves_before, leaves_after, AreBelow, AreAround}
-use Rattle.art_arena.specs.tree.Fronts.{width_of}
-use Rattle.art_arena.specs.tree.Kinds.{ChangesKind}
-use Rattle.art_arena.specs.arena.Shapes.{Shape, Branches, leaf_at, no_branch, branch, LeafAt, join, leaves, width, erase, erase_in, key_of, IsUnder}
-use Rattle.art_arena.specs.tree.Shrinks.{Shrinks}
-use Rattle.art_arena.specs.arena.Steps.{Step}
-use Rattle.art_arena.specs.tree.Trees.{items, count, IsCanonical}
-use Rattle.art_arena.proofs.shapes.Contexts.{leaves-plug, width-join}
+use Rattle.art_bytes.proofs.Common.{BeginsWith}
+use Rattle.art_arena.proofs.Common.{IsIn, Frame, fill, plug, path_to, leaves_before, leaves_after, AreBelow, AreAround, width_of, ChangesKind, Shape, Branches, leaf_at, no_branch, branch, LeafAt, join, leaves, width, erase, erase_in, key_of, IsUnder, Shrinks, items, count, IsCanonical, leaves-plug, width-join, items-erase, count-erase, canonical-erase, widths, in_right, in_map}
 use Rattle.art_arena.proofs.tree.Delete.{last_count, last_in}
-use Rattle.art_arena.proofs.shapes.Erased.{items-erase, count-erase, canonical-erase}
-use Rattle.art_arena.proofs.tree.Fronts.{widths}
-use Rattle.art_arena.proofs.tree.Insert.{in_right}
-use Rattle.art_arena.proofs.tree.Paths.{in_map}
 use Rattle.art_arena.proofs.tree.Shrinks.{TreeMeets, tree_meets, shrinks_is_kind_change}
-use Rattle.art_operations.specs.DeletePoints.{IsLeafPlace}
-use Rattle.art_operations.specs.inner.Removals.{LosesKind}
+use Rattle.art_operations.proofs.Terms.{LosesKind}
 use Rattle.art_operations.proofs.LeafPairs.{shrinks-unmap}
 
 -- down to the node above a place
@@ -63,7 +50,8 @@ module _ {K V : Type 0} (bytes : K → List ℕ) where
           (shrinks_is_kind_change (K × V) (key_of bytes) (items (erase s)) (key_of bytes k) m meeting).1 (subst ChangesKind (sym wide) changes)
 
 module _ {K V : Type 0} (bytes : K → List ℕ) (s : Shape K V) (under : IsUnder bytes [] s) (slot : ℕ) (key : K) (value : V) where
-  shrinks_below : (ctx : List (Frame K V)) → s ≡ plug ctx (leaf_at slot key value) → AreAround bytes ctx → BeginsWith (path_to ctx) (bytes key) → LosesKind ctx → Shrinks (λ l. bytes l.key) (leaves s) (bytes key)
+  -- a leaf without which the node above it changes its kind shrinks that node
+  pub shrinks_below : (ctx : List (Frame K V)) → s ≡ plug ctx (leaf_at slot key value) → AreAround bytes ctx → BeginsWith (path_to ctx) (bytes key) → LosesKind ctx → Shrinks (λ l. bytes l.key) (leaves s) (bytes key)
   shrinks_below [] is around begins loses = absurd loses
   shrinks_below (f ∷ outer) is around begins loses =
       let counted = λ (m : ℕ). ap₂ (λ t k. last_count m (erase t) k) is begins.1 ∙ into_place bytes m f outer (leaf_at slot key value) begins.0 around in
@@ -72,7 +60,3 @@ module _ {K V : Type 0} (bytes : K → List ℕ) (s : Shape K V) (under : IsUnde
       let stored : IsIn (key, value) (items (erase s)) = subst (IsIn (key, value)) (sym (items-erase s)) (in_map (λ l. (l.key, l.value)) leaf (leaves s) there) in
       shrinks-unmap (λ l. (l.key, l.value)) (key_of bytes) (leaves s) (bytes key)
       (subst (λ xs. Shrinks (key_of bytes) xs (bytes key)) (items-erase s) (shrinks_at bytes s under (key, value) stored _ counted loses))
-
--- a leaf without which the node above it changes its kind shrinks that node
-pub place_shrinks : {K V : Type 0} (bytes : K → List ℕ) (s : Shape K V) (slot : ℕ) (last : List Step) → IsUnder bytes [] s → (place : IsLeafPlace bytes s slot last) → LosesKind place.ctx → Shrinks (λ l. bytes l.key) (leaves s) (bytes place.key)
-place_shrinks bytes s slot last under place loses = shrinks_below bytes s under slot place.key place.value place.ctx place.place.is place.place.around place.place.under loses

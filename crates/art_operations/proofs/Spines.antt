@@ -3,21 +3,11 @@ use Rattle.std.proofs.Common.{◌≡◌, ◌≢◌, ℕ, suc, ◌+◌, ◌-◌, 
 use Rattle.std.proofs.lemmas.List.{reverse-append, reverse-reverse}
 use native.Mathlib.Numerals.{unary_clauses}
 use Rattle.std.proofs.Math.Seq.{take-add, take-suc}
-use Rattle.art_nodes.specs.InnerNode.{InnerNode, IsAscendingFrom}
-use Rattle.art_nodes.specs.Name.{Name}
+use Rattle.art_nodes.proofs.Common.{InnerNode, IsAscendingFrom, Name}
 use Rattle.art_nodes.specs.declared.kind.NodeType.{NodeType}
 use Rattle.art_nodes.specs.declared.kind.NodeType.TheVariants.{Leaf}
-use Rattle.art_arena.specs.arena.Arena.{Arena, inner_held, cell_of, node_at, Allocates, SameNodes}
-use Rattle.art_arena.specs.arena.Rooms.{SameLeaves}
-use Rattle.art_arena.specs.arena.Cells.{Cell, branches, leaf_name, Holds}
-use Rattle.art_arena.specs.arena.Context.{AreBelow}
-use Rattle.art_arena.specs.arena.Shapes.{Shape, Branches, LeafAt, no_branch, branch, inner_at, name_of, children_at, join, width, leaves, leaves_in, cells, cells_in, IsUnder, AreUnder}
-use Rattle.art_arena.specs.tree.Kinds.{IsKindOf}
-use Rattle.art_arena.proofs.shapes.CellLists.{Holds-add}
-use Rattle.art_arena.proofs.shapes.Contexts.{children_at-join, leaves_in-join, cells_in-join, width-join, length-children, AreUnder-join}
-use Rattle.art_arena.proofs.shapes.Updates.{nodes-update}
-use Rattle.art_operations.specs.declared.build.spine.Open.{Open}
-use Rattle.art_operations.specs.inner.Spines.{Level, begin, begin_of, opened, open_children, open_leaves, open_cells, inner_over, IsOpen}
+use Rattle.art_arena.proofs.Common.{Arena, inner_held, cell_of, node_at, Allocates, SameNodes, SameLeaves, Cell, branches, leaf_name, Holds, AreBelow, Shape, Branches, LeafAt, no_branch, branch, inner_at, name_of, children_at, join, width, leaves, leaves_in, cells, cells_in, IsUnder, AreUnder, IsKindOf, Holds-add, children_at-join, leaves_in-join, cells_in-join, width-join, length-children, AreUnder-join, nodes-update}
+use Rattle.art_operations.proofs.Terms.{Open, Level, begin, begin_of, opened, open_children, open_leaves, open_cells, inner_over, IsOpen}
 
 -- lists with an item behind them
 

@@ -1,35 +1,14 @@
 -- The tree that a split leaves, step by step: two new nodes, a shorter prefix, the links of the new leaf, and the parent's child.
 use Rattle.std.proofs.Common.{◌≡◌, ◌≢◌, ℕ, suc, ◌+◌, ◌<◌, ◌≤◌, Bool, true, false, cond, ltb, List, [], ◌∷◌, ◌++◌, length, take, drop, Option, Some, None, IsSome, refl, sym, ap, ap₂, subst, ◌∙◌, inl, inr, arith, append_assoc, append-nil, zero-le}
 use Rattle.std.proofs.lemmas.Bool.Decides.{eqb_tells, leb_tells}
-use Rattle.art_nodes.specs.InnerNode.{with_child}
-use Rattle.art_nodes.specs.Name.{Name}
+use Rattle.art_nodes.proofs.Common.{with_child, Name}
 use Rattle.art_nodes.specs.declared.kind.NodeType.TheVariants.{Leaf, Node4}
 use Rattle.art_nodes.specs.declared.concrete.ConcreteInnerNodePtr.TheVariants as inner
-use Rattle.art_arena.specs.arena.Arena.{Arena, inner_held, cell_of, held_at, node_at, links_at}
-use Rattle.art_arena.specs.arena.Cells.{Cell, pair, branches, leaf_name, Holds, UpdatesAt}
-use Rattle.art_arena.specs.arena.Context.{Frame, path_to, root_of, frame_cell, leaves_before, leaves_after, cells_before, cells_after, AreAround}
-use Rattle.art_arena.specs.arena.Linked.{AreLinked, IsBeside}
-use Rattle.art_arena.specs.arena.Meaning.{IsAtDepth, IsSubtree, IsTreeBeside}
-use Rattle.art_arena.specs.arena.Shapes.{Shape, no_branch, branch, name_of, leaves, cells, node_of}
-use Rattle.art_arena.specs.arena.Steps.{Step}
-use Rattle.art_arena.proofs.tree.Order.{all_right}
-use Rattle.art_arena.proofs.shapes.CellLists.{Holds-add, Holds-write, Holds-same, Holds-turn}
-use Rattle.art_arena.proofs.shapes.Contexts.{leaves-plug, name_of-plug}
-use Rattle.art_arena.proofs.shapes.Meanings.{nodes-subtree}
-use Rattle.art_arena.proofs.shapes.Repoint.{unplugged}
-use Rattle.art_arena.proofs.shapes.Surroundings.{new-beside}
-use Rattle.art_arena.proofs.shapes.Updates.{nodes-update, links-update, links-kept}
-use Rattle.art_operations.specs.inner.Edits.{StandsAround, lone_leaf, AllocatesBoth}
-use Rattle.art_operations.specs.inner.Splits.{trimmed, root_cell, IsEnd, IsBetween, split_node}
-use Rattle.art_operations.specs.Insertions.{IsInsertedBeside}
-use Rattle.art_operations.specs.declared.insert.result.InsertParentNodeChange.TheVariants.{NewParent}
-use Rattle.art_operations.specs.declared.meeting.Parted.{Parted}
+use Rattle.art_arena.proofs.Common.{Arena, inner_held, cell_of, held_at, node_at, links_at, Cell, pair, branches, leaf_name, Holds, UpdatesAt, Frame, path_to, root_of, frame_cell, leaves_before, leaves_after, cells_before, cells_after, AreAround, AreLinked, IsBeside, IsAtDepth, IsSubtree, IsTreeBeside, Shape, no_branch, branch, name_of, leaves, cells, node_of, Step, all_right, Holds-add, Holds-write, Holds-same, Holds-turn, leaves-plug, name_of-plug, nodes-subtree, unplugged, new-beside, nodes-update, links-update, links-kept, cell_held, place-subtree, AreLinked-same}
+use Rattle.art_operations.proofs.Terms.{StandsAround, lone_leaf, AllocatesBoth, trimmed, root_cell, IsEnd, IsBetween, split_node, IsInsertedBeside, NewParent, Parted}
 use Rattle.art_operations.proofs.Splits.{SplitPlace, below_root, cells-root, below-trimmed, name_of-trimmed, leaves-trimmed}
 use Rattle.art_operations.proofs.Inserted.{inserted_below}
 use Rattle.art_operations.proofs.NewLeaves.{first_of_longer, last_of_longer, beside-same}
-use Rattle.art_arena.proofs.shapes.Subtrees.{cell_held}
-use Rattle.art_arena.proofs.shapes.Walking.{place-subtree}
-use Rattle.art_arena.proofs.shapes.LinkedLists.{AreLinked-same}
 
 -- the order of two bytes
 before_is : (a b : ℕ) → true ≡ ltb a b → a < b

@@ -1,23 +1,11 @@
 -- A split in the place of a part of a tree: its cells, its leaves and their links.
 use Rattle.std.proofs.Common.{◌≡◌, ◌≢◌, ℕ, ◌+◌, ◌≤◌, List, [], ◌∷◌, ◌++◌, length, take, drop, refl, sym, ap, ap₂, subst, ◌∙◌, arith, append_assoc, append-nil, length-append}
-use Rattle.art_bytes.specs.Keys.{BeginsWith}
-use Rattle.art_nodes.specs.Name.{Name}
+use Rattle.art_bytes.proofs.Common.{BeginsWith}
+use Rattle.art_nodes.proofs.Common.{Name}
 use Rattle.art_nodes.specs.declared.kind.NodeType.TheVariants.{Leaf}
-use Rattle.art_arena.specs.arena.Cells.{Cell, leaf_name}
-use Rattle.art_arena.specs.arena.Context.{Frame, path_to}
-use Rattle.art_arena.specs.arena.Places.{IsPlace}
-use Rattle.art_arena.specs.arena.Prefixes.{prefix_of}
-use Rattle.art_arena.specs.arena.Shapes.{Shape, Branches, leaf_at, inner_at, name_of, leaves, cells, cells_in, IsUnder, AreUnder}
-use Rattle.art_arena.specs.arena.Steps.{Step, steps_to, steps_of}
-use Rattle.art_arena.proofs.shapes.Prefixes.{drop-front, take-front}
-use Rattle.art_operations.specs.inner.Splits.{PartsFrom, trimmed, root_cell}
-use Rattle.art_operations.specs.Meetings.{PartAt}
-use Rattle.art_operations.specs.Points.{IsPoint, MeetsAt}
-use Rattle.art_operations.specs.declared.insert.point.InsertPoint.{InsertPoint}
-use Rattle.art_operations.specs.declared.insert.point.InsertKind.{InsertKind}
+use Rattle.art_arena.proofs.Common.{Cell, leaf_name, Frame, path_to, IsPlace, prefix_of, Shape, Branches, leaf_at, inner_at, name_of, leaves, cells, cells_in, IsUnder, AreUnder, Step, steps_to, steps_of, drop-front, take-front, behind}
+use Rattle.art_operations.proofs.Terms.{PartsFrom, trimmed, root_cell, PartAt, IsPoint, MeetsAt, InsertPoint, InsertKind, Parted}
 use Rattle.art_operations.specs.declared.insert.point.InsertKind.TheVariants as kind
-use Rattle.art_operations.specs.declared.meeting.Parted.{Parted}
-use Rattle.art_arena.proofs.shapes.Passing.{behind}
 use Rattle.art_operations.proofs.Points.{part_new, part_old}
 
 module _ {K V : Type 0} where

@@ -1,19 +1,9 @@
 -- Pairs among which a key's place was searched: what the end of the search tells of them.
 use Rattle.std.proofs.Common.{◌≡◌, ℕ, List, Option, Some, refl, subst}
-use Rattle.art_bytes.specs.Keys.{BeginsWith}
-use Rattle.art_nodes.specs.Name.{Name}
-use Rattle.art_arena.specs.arena.Arena.{Arena, node_at}
-use Rattle.art_arena.specs.arena.Cells.{Cell}
-use Rattle.art_arena.specs.arena.Descents.{OnWayTo}
-use Rattle.art_arena.specs.arena.Shapes.{Shape, key_of, leaves}
-use Rattle.art_arena.specs.arena.Steps.{steps_of}
-use Rattle.art_arena.specs.arena.Stores.{Stores, StoresAt}
-use Rattle.art_arena.specs.tree.Order.{AscendsByKey}
-use Rattle.art_operations.specs.KeyedLists.{HasKey, IsBlocked}
-use Rattle.art_operations.specs.Pairs.{HasPairsBeside, CanPut}
-use Rattle.art_operations.specs.Points.{IsPoint, NoConflict}
-use Rattle.art_operations.specs.inner.Ways.{IsEndAt, IsWay, met_by, point_at}
-use Rattle.art_operations.specs.declared.insert.point.InsertKind.{InsertKind}
+use Rattle.art_bytes.proofs.Common.{BeginsWith}
+use Rattle.art_nodes.proofs.Common.{Name}
+use Rattle.art_arena.proofs.Common.{Arena, node_at, Cell, OnWayTo, Shape, key_of, leaves, steps_of, Stores, StoresAt, AscendsByKey}
+use Rattle.art_operations.proofs.Terms.{HasKey, IsBlocked, HasPairsBeside, CanPut, IsPoint, NoConflict, IsEndAt, IsWay, met_by, point_at, InsertKind}
 use Rattle.art_operations.specs.declared.insert.point.Stop.{Stop}
 use Rattle.art_operations.specs.declared.insert.point.Way.{Way}
 use Rattle.art_operations.specs.declared.insert.point.Way.TheVariants as way

@@ -1,17 +1,10 @@
 -- Where the search for a key's place ended below a root, told of the whole tree.
-use Rattle.std.proofs.Common.{ℕ, List, refl}
-use Rattle.art_bytes.specs.Keys.{BeginsWith}
-use Rattle.art_nodes.specs.Name.{Name}
-use Rattle.art_arena.specs.arena.Arena.{Arena, node_at}
-use Rattle.art_arena.specs.arena.Context.{path_to}
-use Rattle.art_arena.specs.arena.Descents.{OnWayTo}
-use Rattle.art_arena.specs.arena.Shapes.{Shape, leaves}
-use Rattle.art_arena.specs.arena.Steps.{steps_of}
-use Rattle.art_arena.specs.arena.Stores.{Stores, StoresAt}
-use Rattle.art_arena.proofs.shapes.Surroundings.{free, conflict}
-use Rattle.art_operations.specs.Points.{AllConflict, HasConflict, IsInTheWay, IsPoint, NoConflict}
-use Rattle.art_operations.specs.inner.Ways.{IsPlaceAt, point_at}
-use Rattle.art_operations.specs.declared.insert.point.InsertKind.{InsertKind}
+use Rattle.std.proofs.Common.{◌≡◌, ℕ, List, Option, Some, None, IfErr, refl, sym, subst}
+use Rattle.art_bytes.proofs.Common.{BeginsWith}
+use Rattle.art_nodes.proofs.Common.{Name}
+use Rattle.art_arena.proofs.Common.{Arena, node_at, path_to, OnWayTo, Shape, leaves, steps_of, Stores, StoresAt, free, conflict, IsSubtree, Step, StoresBelow, place-subtree}
+use Rattle.art_operations.proofs.Terms.{AllConflict, HasConflict, IsInTheWay, IsPoint, NoConflict, IsEndAt, IsPlaceAt, answer_at, point_at, InsertKind}
+use Rattle.art_operations.specs.Points.{IsPlaceOrConflict}
 use Rattle.art_operations.specs.declared.insert.point.Stop.{Stop}
 use Rattle.art_operations.proofs.Points.{way_at_depth, some_conflict}
 
@@ -47,3 +40,24 @@ module _ {K V : Type 0} (bytes : K → List ℕ) (P : ℕ) (arena : Arena K V) (
       here = way.subtree.part.named;
       conflicts = all;
     }
+
+-- what the search answers
+module _ {K V : Type 0} (bytes : K → List ℕ) (P : ℕ) (arena : Arena K V) (root : Name) (key : List ℕ) (stop : Stop) (on : (s : Shape K V) → Stores bytes P arena root s → OnWayTo bytes P (node_at arena) key s stop.node (steps_of stop.path) stop.depth) where
+  -- what is met where it ended
+  abbrev pub EndsThere : Option InsertKind → Type 0
+  EndsThere end = (path : List ℕ) (part : Shape K V) → StoresAt bytes P arena stop.node stop.depth path part → BeginsWith path key → IsEndAt bytes key path part end
+
+  pub answered : (end : Option InsertKind) → EndsThere end → (s : Shape K V) → Stores bytes P arena root s → IsPlaceOrConflict bytes key s (answer_at root stop end)
+  answered (Some met) is s tree = placed bytes P arena root key stop s tree (on s tree) met is
+  answered None is s tree = blocked bytes P arena root key stop s tree (on s tree) is
+
+  pub refused : (end : Option InsertKind) → EndsThere end → IfErr (answer_at root stop end) (λ e. (s : Shape K V) → Stores bytes P arena root s → IsInTheWay bytes key s e.root e.part (steps_of e.path))
+  refused (Some met) is = tt
+  refused None is = λ s tree. in-the-way bytes P arena root key stop s tree (on s tree) is
+
+-- the part in the way of a key stands in an arena that is as it was
+pub way_part : {K V : Type 0} (bytes : K → List ℕ) (P : ℕ) (key : List ℕ) (old new : Arena K V) → new ≡ old → (root name : Name) (s : Shape K V) {top : Name} {last : List Step} → Stores bytes P old root s → (way : IsInTheWay bytes key s top name last)
+    → StoresBelow bytes P new name (path_to way.ctx) way.part
+way_part bytes P key old new same root name s tree way =
+    subst (λ a. IsSubtree bytes P (node_at a) name (path_to way.ctx) way.part) (sym same)
+    (subst (λ n. IsSubtree bytes P (node_at old) n (path_to way.ctx) way.part) way.here (place-subtree bytes P (node_at old) root s way.ctx way.part tree way.toward.place))

@@ -9,12 +9,8 @@ use Rattle.std.specs.declared.ops.Bound.{Bound}
 use Rattle.std.specs.declared.ops.Bound.TheVariants.{Included, Excluded, Unbounded}
 use Rattle.std.proofs.lemmas.Bool.{and_from, and_parts}
 use Rattle.std.proofs.lemmas.Cmp.{nat_list_cmp_total}
-use Rattle.art_bytes.specs.Keys.{IsBefore, bytes_cmp}
-use Rattle.art_bytes.proofs.Order.{before_cmp}
-use Rattle.art_arena.specs.arena.Descents.{passing}
-use Rattle.art_arena.specs.arena.Shapes.{LeafAt, key_of, pairs_of}
-use Rattle.art_arena.specs.tree.Order.{AscendsByKey}
-use Rattle.art_arena.specs.tree.Tenants.{begins_with}
+use Rattle.art_bytes.proofs.Common.{IsBefore, bytes_cmp, before_cmp}
+use Rattle.art_arena.proofs.Common.{passing, LeafAt, key_of, pairs_of, AscendsByKey, begins_with}
 
 -- whatever stands between two keys that pass the test passes it too
 abbrev pub IsConvex : (List ℕ → Bool) → Type 0

@@ -1,25 +1,11 @@
 -- The pair at an end, taken out.
 use Rattle.std.proofs.Common.{◌≡◌, ℕ, ◌+◌, ◌≤◌, cond, List, [], ◌∷◌, ◌++◌, Option, Some, None, refl, sym, ap, subst, ◌∙◌, arith}
 use Rattle.std.proofs.lemmas.List.{append-nil, map-append}
-use Rattle.art_nodes.specs.Name.{Name}
-use Rattle.art_arena.specs.arena.Arena.{Arena, node_at, links_at, KeepsNodes}
-use Rattle.art_arena.specs.arena.EndLeaves.{end_slot}
-use Rattle.art_arena.specs.arena.Linked.{first_slot, last_slot, times}
-use Rattle.art_arena.specs.arena.Shapes.{Shape, LeafAt, leaves, pairs_of, key_of}
-use Rattle.art_arena.specs.arena.Steps.{Step}
-use Rattle.art_arena.specs.arena.Stores.{Stores, StoresBeside}
-use Rattle.art_arena.specs.arena.Cells.{Cell}
+use Rattle.art_nodes.proofs.Common.{Name}
+use Rattle.art_arena.proofs.Common.{Arena, node_at, links_at, end_slot, first_slot, last_slot, times, Shape, LeafAt, leaves, pairs_of, key_of, Step, Stores, StoresBeside, Cell, Shrinks, leaves-plug, eqb-self, ends_with-first, last_slot-append, times-append, times-here, nodes-subtree, tree-list}
 use Rattle.art_arena.specs.declared.ends.End.{End}
 use Rattle.art_arena.specs.declared.ends.End.TheVariants.{First, Last}
-use Rattle.art_arena.specs.tree.Shrinks.{Shrinks}
-use Rattle.art_arena.proofs.shapes.Contexts.{leaves-plug}
-use Rattle.art_arena.proofs.shapes.LinkedLists.{eqb-self, ends_with-first, times-append, times-here}
-use Rattle.art_arena.proofs.shapes.Meanings.{nodes-subtree}
-use Rattle.art_arena.proofs.shapes.Surroundings.{tree-list}
-use Rattle.art_operations.specs.DeletePoints.{IsLeafPlace}
-use Rattle.art_operations.specs.Deletions.{IsDeletedBeside}
-use Rattle.art_operations.specs.Pairs.{HasPairsBeside, HasTakenEnd, IsAtEnd, ShrinksAtEnd}
-use Rattle.art_operations.specs.declared.delete.result.DeleteResult.{DeleteResult}
+use Rattle.art_operations.proofs.Terms.{IsLeafPlace, IsDeletedBeside, HasPairsBeside, HasTakenEnd, IsAtEnd, ShrinksAtEnd, DeleteResult}
 use Rattle.art_operations.proofs.HeldPairs.{leaves-pairs}
 use Rattle.art_operations.proofs.LeafPairs.{leaf_pair, shrinks-map, pairs-parts}
 
@@ -35,27 +21,19 @@ module _ {K V : Type 0} where
   at-last : (front : List (LeafAt K V)) (l : LeafAt K V) (back : List (LeafAt K V)) → last_slot None (front ++ l ∷ back) ≡ Some l.slot → times l.slot (front ++ l ∷ back) ≤ 1 → back ≡ []
   at-last front l [] e once = refl
   at-last front l (b ∷ back) e once =
-      let ends = ends_with-first (b ∷ back) l.slot (sym (behind (b ∷ back) front) ∙ e) in
+      let ends = ends_with-first (b ∷ back) l.slot (sym (last_slot-append None front (l ∷ b ∷ back)) ∙ e) in
       let counted : times l.slot (front ++ l ∷ (b ∷ back)) ≡ times l.slot front + (times l.slot (l ∷ (ends.0 ++ ends.1 ∷ []))) = times-append l.slot front (l ∷ (b ∷ back)) ∙ ap (λ ls. times l.slot front + times l.slot (l ∷ ls)) ends.2 in
       absurd (twice l ends.0 [] ends.1 (sym ends.3) (omega (arith, counted, once)))
-    where
-      behind : (bs fs : List (LeafAt K V)) → last_slot None (fs ++ l ∷ (b ∷ back)) ≡ last_slot None (b ∷ back)
-      behind bs [] = refl
-      behind bs (f ∷ fs) = later (Some f.slot) fs
-        where
-          later : (before : Option ℕ) (gs : List (LeafAt K V)) → last_slot before (gs ++ l ∷ (b ∷ back)) ≡ last_slot None (b ∷ back)
-          later before [] = refl
-          later before (g ∷ gs) = later (Some g.slot) gs
 
 module _ {K V : Type 0} (bytes : K → List ℕ) (P : ℕ) (old : Arena K V) (rest : List (Name × Cell K V)) (root : Option Name) (top : Name) (is : root ≡ Some top) (pairs : List (K × V)) (has : HasPairsBeside bytes P old root pairs rest) (end : End) (slot : ℕ) (last : List Step)
     (value : (s : Shape K V) → Stores bytes P old top s → end_slot end (leaves s) ≡ Some slot) (place : (s : Shape K V) → Stores bytes P old top s → IsLeafPlace bytes s slot last) where
   abbrev below : HasPairsBeside bytes P old (Some top) pairs rest
   below = subst (λ r. HasPairsBeside bytes P old r pairs rest) is has
 
-  stored : Stores bytes P old top below.0
+  pub stored : Stores bytes P old top below.0
   stored = nodes-subtree bytes P (node_at old) top below.0 below.1.nodes
 
-  pub the-place : (s : Shape K V) × (others : List (Name × Cell K V)) × StoresBeside bytes P old top others s × IsLeafPlace bytes s slot last
+  abbrev pub the-place : (s : Shape K V) × (others : List (Name × Cell K V)) × StoresBeside bytes P old top others s × IsLeafPlace bytes s slot last
   the-place = (below.0, rest, below.1, place below.0 stored)
 
   -- the leaf at the end has the pair at the end
@@ -81,10 +59,6 @@ module _ {K V : Type 0} (bytes : K → List ℕ) (P : ℕ) (old : Arena K V) (re
   taken-end new deleted result =
       let it = result below.0 below.1 (place below.0 stored) in
       (pairs_of (it.front ++ it.back), end-pair it.front _ it.back refl it.was, leaves-pairs bytes P new rest deleted.new_root (it.front ++ it.back) _ refl it.left)
-
-  -- and what stood beside the tree is kept
-  pub end-keeps : (new : Arena K V) → ((s : Shape K V) → StoresBeside bytes P old top rest s → IsLeafPlace bytes s slot last → KeepsNodes rest old new) → KeepsNodes rest old new
-  end-keeps new keeps = keeps below.0 below.1 (place below.0 stored)
 
   -- or it would make a node smaller
   pub shrinks-end : ((s : Shape K V) → StoresBeside bytes P old top rest s → (leaf : IsLeafPlace bytes s slot last) → Shrinks (λ l. bytes l.key) (leaves s) (bytes leaf.key)) → ShrinksAtEnd bytes end pairs

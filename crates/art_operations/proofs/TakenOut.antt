@@ -1,18 +1,10 @@
 -- A part below a node, and what its loss makes of the node.
 use Rattle.std.proofs.Common.{◌≡◌, ◌≢◌, ℕ, suc, ◌+◌, ◌-◌, ◌<◌, ◌≤◌, List, [], ◌∷◌, ◌++◌, length, Some, None, sym, ap, subst, ◌∙◌, arith, length-append}
-use Rattle.art_nodes.specs.Name.{Name}
-use Rattle.art_nodes.specs.InnerNode.{InnerNode, without_child, with_children}
-use Rattle.art_nodes.specs.Kind.{row_of, CanShrink}
+use Rattle.art_nodes.proofs.Common.{Name, InnerNode, without_child, with_children, row_of, CanShrink}
 use Rattle.art_nodes.specs.declared.kind.NodeType.{NodeType}
 use Rattle.art_nodes.specs.declared.kind.NodeType.TheVariants.{Node4, Node16, Node32, Node48, Node256, Leaf}
-use Rattle.art_arena.specs.arena.Arena.{Arena, inner_held, held_at, links_at}
-use Rattle.art_arena.specs.arena.Cells.{Cell, UpdatesAt}
-use Rattle.art_arena.specs.arena.Context.{path_to}
-use Rattle.art_arena.specs.tree.Kinds.{IsKindOf, ChangesKind}
-use Rattle.art_arena.specs.arena.Shapes.{name_of, width}
-use Rattle.art_arena.proofs.shapes.Updates.{links-kept}
-use Rattle.art_operations.specs.inner.Detached.{IsChildPart, StandsFor}
-use Rattle.art_operations.specs.inner.Removals.{Moves, PutsBack, Lengthens, IsOther}
+use Rattle.art_arena.proofs.Common.{Arena, inner_held, held_at, links_at, Cell, UpdatesAt, path_to, IsKindOf, ChangesKind, name_of, width, links-kept}
+use Rattle.art_operations.proofs.Terms.{IsChildPart, StandsFor, Moves, PutsBack, Lengthens, IsOther}
 use Rattle.art_operations.proofs.Apart.{taken}
 use Rattle.art_operations.proofs.Lengthened.{kind_not_leaf}
 use Rattle.art_operations.proofs.PutBack.{same_inner}

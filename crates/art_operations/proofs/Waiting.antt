@@ -1,30 +1,16 @@
 -- A leaf that waits beside a tree for its place under an inner node: what the arena holds there, and how the leaf gets its place.
-use Rattle.std.proofs.Common.{◌≡◌, ◌≢◌, ℕ, suc, ◌+◌, ◌<◌, ◌≤◌, ◌⊎◌, List, [], ◌∷◌, ◌++◌, length, take, Option, Some, None, IsSome, is_some, cond, refl, sym, ap, ap₂, subst, ◌∙◌, inl, inr, arith, append_assoc}
+use Rattle.std.proofs.Common.{◌≡◌, ◌≢◌, ℕ, suc, ◌+◌, ◌<◌, ◌≤◌, ◌⊎◌, List, [], ◌∷◌, ◌++◌, length, take, Option, Some, None, IsSome, refl, sym, ap, ap₂, subst, ◌∙◌, inl, inr, arith, append_assoc}
 use Rattle.std.proofs.lemmas.List.{append-nil}
 use Rattle.std.proofs.lemmas.Bool.Decides.{eqb_tells, leb_tells}
 use Rattle.std.specs.declared.ops.Bound.TheVariants.{Excluded, Unbounded}
+use Rattle.art_nodes.proofs.Common.{InnerNode, child_at, first_child, last_child, children_between, with_child, with_children, Name}
 use Rattle.art_nodes.specs.declared.kind.NodeType.TheVariants.{Leaf}
 use Rattle.art_nodes.specs.declared.leaf.LeafNode.{LeafNode}
-use Rattle.art_nodes.specs.InnerNode.{InnerNode, child_at, first_child, last_child, children_between, with_child, with_children}
-use Rattle.art_nodes.specs.Name.{Name}
-use Rattle.art_arena.specs.arena.Arena.{Arena, inner_held, held_as, as_leaf, held_at, node_at, links_at}
-use Rattle.art_arena.specs.arena.Cells.{Cell, pair, branches, leaf_name, UpdatesAt, copies, Holds}
-use Rattle.art_arena.specs.arena.Context.{Frame, AreBelow, plug, path_to, frame_cell, leaves_before, leaves_after, cells_before, cells_after}
-use Rattle.art_arena.specs.tree.Kinds.{IsKindOf}
-use Rattle.art_arena.specs.arena.Linked.{first_slot, last_slot, AreLinked}
-use Rattle.art_arena.specs.arena.Meaning.{IsPart, IsSubtree, IsNodesBeside, IsTreeBeside}
-use Rattle.art_arena.specs.arena.Shapes.{Shape, Branches, leaf_at, no_branch, branch, LeafAt, name_of, children_at, join, width, leaves, leaves_in, cells, cells_in, AreUnder}
-use Rattle.art_arena.proofs.tree.Order.{all_left, all_right}
-use Rattle.art_arena.proofs.shapes.CellLists.{copies-append, Holds-same, Holds-write}
-use Rattle.art_arena.proofs.shapes.Contexts.{leaves_in-join, cells_in-join, width-join, leaves-plug, length-children}
-use Rattle.art_arena.proofs.shapes.Openings.{with_child-opening}
-use Rattle.art_arena.proofs.shapes.Repoint.{IsNodesBeside-plug}
-use Rattle.art_arena.proofs.shapes.Subtrees.{inner_of, branch-first, branch-last, has_last, AreUnder-here}
-use Rattle.art_arena.proofs.shapes.Updates.{nodes-update, links-kept}
-use Rattle.art_operations.specs.inner.Waiting.{AwaitsLeaf}
+use Rattle.art_arena.proofs.Common.{Arena, inner_held, held_as, as_leaf, held_at, node_at, links_at, Cell, pair, branches, leaf_name, UpdatesAt, Holds, Frame, AreBelow, plug, path_to, frame_cell, leaves_before, leaves_after, cells_before, cells_after, IsKindOf, first_slot, last_slot, AreLinked, IsPart, IsSubtree, IsNodesBeside, IsTreeBeside, Shape, Branches, leaf_at, no_branch, branch, LeafAt, name_of, children_at, join, width, leaves, leaves_in, cells, cells_in, AreUnder, all_left, all_right, copies-append, Holds-same, Holds-write, leaves_in-join, cells_in-join, width-join, leaves-plug, length-children, with_child-opening, IsNodesBeside-plug, inner_of, branch-first, branch-last, has_last, AreUnder-here, nodes-update, links-kept, AreLinked-same}
+use Rattle.art_operations.proofs.FreedSizes.{at_most_one}
+use Rattle.art_operations.proofs.Terms.{AwaitsLeaf}
 use Rattle.art_operations.proofs.Door.{read_at}
 use Rattle.art_operations.proofs.NewLeaves.{first_of_longer, last_of_longer}
-use Rattle.art_arena.proofs.shapes.LinkedLists.{AreLinked-same}
 
 -- appended lists, grouped in another way
 regroup_behind : {X : Type 0} (xs bs ts rs cs ds : List X) (n l : X) → xs ++ (n ∷ (bs ++ (l ∷ (((ts ++ rs) ++ cs) ++ ds)))) ≡ (xs ++ (n ∷ (bs ++ (l ∷ [])))) ++ (ts ++ (rs ++ (cs ++ ds)))
@@ -53,19 +39,14 @@ module _ {K V : Type 0} where
       record { header = record { num_children = length kids; prefix_len = length f.prefix; stored = take P f.prefix }; children = kids }
 
   -- a shape whose cells are among those held is held as a part
-  part-within : (P : ℕ) (at : Name → Option (Cell K V)) (xs ys : List (Name × Cell K V)) (t : Shape K V) → Holds at (xs ++ (cells P t ++ ys)) → IsPart P at (name_of t) t
+  pub part-within : (P : ℕ) (at : Name → Option (Cell K V)) (xs ys : List (Name × Cell K V)) (t : Shape K V) → Holds at (xs ++ (cells P t ++ ys)) → IsPart P at (name_of t) t
   part-within P at xs ys t holds =
       let Q = λ (c : Name × Cell K V). at c.0 ≡ Some c.1 in
       record {
         named = refl;
         held = all_left Q (cells P t) ys (all_right Q xs (cells P t ++ ys) holds.held);
-        once = λ n. few (at n) (copies n xs) (copies n (cells P t)) (copies n ys)
-            (ap (λ m. copies n xs + m) (sym (copies-append n (cells P t) ys)) ∙ sym (copies-append n xs (cells P t ++ ys)) ∙ holds.once n);
+        once = λ n. omega (arith, at_most_one (at n) _ (holds.once n), copies-append n xs (cells P t ++ ys), copies-append n (cells P t) ys);
       }
-    where
-      few : {C : Type 0} (o : Option C) (a b c : ℕ) → a + (b + c) ≡ cond (is_some o) 1 0 → b ≤ 1
-      few None a b c e = omega arith
-      few (Some x) a b c e = omega arith
 
 module _ {K V : Type 0} (bytes : K → List ℕ) where
   none_above : (path : List ℕ) (b low : ℕ) (after : Branches K V) → AreUnder bytes path low after → b + 1 ≤ low → children_between (Excluded b) Unbounded (children_at after) ≡ children_at after

@@ -1,18 +1,10 @@
 -- An arena that has pairs, and one of its leaves with another value.
 use Rattle.std.proofs.Common.{◌≡◌, ℕ, cond, List, [], ◌∷◌, ◌++◌, Some, None, IsSome, refl, sym, ap, ◌∙◌, arith}
-use Rattle.art_nodes.specs.Name.{Name}
+use Rattle.art_nodes.proofs.Common.{Name}
 use Rattle.art_nodes.specs.declared.leaf.LeafNode.{LeafNode}
-use Rattle.art_arena.specs.arena.Arena.{Arena, held_at, node_at, cell_of}
-use Rattle.art_arena.specs.arena.Cells.{leaf_name, pair}
-use Rattle.art_arena.specs.arena.Lends.{with_leaf_value}
-use Rattle.art_arena.specs.arena.Linked.{times}
-use Rattle.art_arena.specs.arena.Shapes.{Shape, LeafAt, leaves}
-use Rattle.art_arena.specs.arena.Stores.{StoresOnly}
-use Rattle.art_arena.proofs.shapes.LeafValues.{LeafThere, leaf-there, cell-some}
+use Rattle.art_arena.proofs.Common.{Arena, held_at, node_at, cell_of, leaf_name, pair, with_leaf_value, times, Shape, LeafAt, leaves, StoresOnly, LeafThere, leaf-there, cell-some, times-leaves}
 use Rattle.art_arena.proofs.shapes.LeafPlaces.{HasPlace, leaf-stands}
-use Rattle.art_arena.proofs.shapes.Surroundings.{times-leaves}
-use Rattle.art_operations.specs.Insertions.{IsInsertedBeside}
-use Rattle.art_operations.specs.declared.insert.result.InsertParentNodeChange.TheVariants.{NoChange}
+use Rattle.art_operations.proofs.Terms.{IsInsertedBeside, NoChange}
 use Rattle.art_operations.proofs.Inserted.{IsExactPlace, exact_there, replaced}
 
 module _ {K V : Type 0} (bytes : K → List ℕ) (P : ℕ) (old : Arena K V) (root : Name) (s : Shape K V) (tree : StoresOnly bytes P old root s) (slot : ℕ) (there : IsSome (held_at old (leaf_name slot))) where

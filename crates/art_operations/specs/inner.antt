@@ -11,4 +11,5 @@ pub mod Nearest
 pub mod LeafParts
 pub mod Spines
 pub mod Rebuilding
+pub mod Reopening
 pub mod Cursors

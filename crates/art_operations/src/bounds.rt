@@ -1,15 +1,14 @@
 //! The leaves that a bound or a prefix selects.
-ghost use Rattle.std.specs.Prelude.{◌≡◌, ℕ, ◌+◌, ◌-◌, ◌*◌, ◌^◌, ◌≤◌, ◌++◌, ◌∷◌, [], Bool, true, false, List, drop};
-ghost use Rattle.std.specs.Prelude.{length, min, None, Some, IfSome, MatchOption};
+ghost use Rattle.std.specs.Prelude.{◌≡◌, ℕ, ◌+◌, ◌*◌, ◌≤◌, ◌++◌, ◌∷◌, [], List, drop, if◌then◌else◌, length};
+ghost use Rattle.std.specs.Prelude.{None, Some, IfSome};
 ghost use Rattle.std.specs.BTreeMap.Range.{is_past_end, range_contains};
 ghost use Rattle.std.specs.Range.Bound.{bound_map};
-ghost use Rattle.std.specs.declared.cmp.Ordering.TheVariants.{Less, Greater};
 ghost use Rattle.art_bytes.specs.Keys.{BeginsWith, bytes_cmp};
 ghost use Rattle.art_nodes.specs.InnerNode.{child_at};
 ghost use Rattle.art_arena.specs.arena.Arena.{links_at};
-ghost use Rattle.art_arena.specs.arena.Descents.{leaf_where, passing};
-ghost use Rattle.art_arena.specs.arena.Linked.{AreLinked, last_slot};
-ghost use Rattle.art_arena.specs.arena.Shapes.{Branches, LeafAt, Shape, children_at, inner_at, leaves, leaves_in};
+ghost use Rattle.art_arena.specs.arena.Descents.{passing};
+ghost use Rattle.art_arena.specs.arena.Linked.{AreLinked};
+ghost use Rattle.art_arena.specs.arena.Shapes.{Branches, Shape, children_at, inner_at, leaves, leaves_in};
 ghost use Rattle.art_arena.specs.arena.Stores.{Stores, StoresBelow};
 ghost use Rattle.art_arena.specs.tree.Tenants.{begins_with};
 ghost use Rattle.art_operations.specs.Bounds.{AreEndsWhere, slot_inside};
@@ -17,9 +16,10 @@ ghost use Rattle.art_operations.specs.Meetings.{PartAt};
 ghost use Rattle.art_operations.specs.Openings.{EndReads, ForLongest, ReadsAtLeast, SpanReads};
 ghost use Rattle.art_operations.specs.Points.{AllConflict, IsPoint};
 ghost use Rattle.art_operations.specs.declared.insert.point.InsertKind.TheVariants as kind;
-ghost use Rattle.art_operations.specs.inner.Nearest.{IsNearest};
+ghost use Rattle.art_operations.specs.inner.Nearest.{IsNearest, bound_at, takes};
 ghost use Rattle.art_operations.specs.Whichever.{HasSome, HasTree, OfEach, OfTree};
 
+use crate::delete::subtree::search_for_subtree_delete_point;
 use crate::insert::point::{InsertKind, InsertPoint, find_insert_point_with};
 use crate::meeting::Parted;
 use crate::minmax::{maximum_with, minimum_with};
@@ -80,70 +80,66 @@ pub fn find_leaf_pointer_for_bound_with<K: AsBytes, V, const PREFIX_LEN: usize>(
             }
             Some(maximum_with(reader, root))
         }
-        Bound::Included(key) => {
-            let nearest = nearest_leaf(reader, root, key);
-            if is_start {
-                return first_from(reader, nearest, nearest.order.is_ge());
-            }
-            last_to(reader, nearest, nearest.order.is_le())
-        }
-        Bound::Excluded(key) => {
-            let nearest = nearest_leaf(reader, root, key);
-            if is_start {
-                return first_from(reader, nearest, nearest.order.is_gt());
-            }
-            last_to(reader, nearest, nearest.order.is_lt())
-        }
+        Bound::Included(key) => leaf_inside(reader, root, key, true, is_start),
+        Bound::Excluded(key) => leaf_inside(reader, root, key, false, is_start),
     }
 }
 
-// The first leaf that passes a test which greater keys pass and smaller ones don't: the one beside the key or the next.
-fn first_from<K: AsBytes, V, const PREFIX_LEN: usize>(
+// Returns what `find_leaf_pointer_for_bound` does for a bound at this key, which takes the key itself or not.
+fn leaf_inside<K: AsBytes, V, const PREFIX_LEN: usize>(
     reader: &mut ArenaReader<'_, K, V, PREFIX_LEN>,
-    nearest: Nearest,
-    passes: bool,
+    root: OpaqueNodePtr,
+    key: &[u8],
+    includes: bool,
+    is_start: bool,
 ) -> Option<LeafPtr>
-    requires { (key : List ℕ) × (ls : List (LeafAt K V)) × AreLinked (links_at reader.old.arena.now) None ls None
-        × IsNearest K.bytes key ls nearest.leaf nearest.order }
-    ensures value { (key : List ℕ) (ls : List (LeafAt K V)) (test : List ℕ → Bool)
-        → AreLinked (links_at reader.old.arena.now) None ls None → IsNearest K.bytes key ls nearest.leaf nearest.order
-        → ((k : List ℕ) → bytes_cmp k key ≡ Less → test k ≡ false)
-        → ((k : List ℕ) → bytes_cmp k key ≡ Greater → test k ≡ true)
-        → ((k : List ℕ) → bytes_cmp k key ≡ nearest.order → test k ≡ passes)
-        → result ≡ leaf_where K.bytes test ls }
+    requires { (s : Shape K V) × Stores K.bytes PREFIX_LEN reader.old.arena.now root s
+        × AreLinked (links_at reader.old.arena.now) None (leaves s) None }
+    ensures value { OfTree K.bytes PREFIX_LEN reader.old.arena.now root
+        (λ s. AreLinked (links_at reader.old.arena.now) None (leaves s) None
+        → result ≡ slot_inside K.bytes is_start (bound_at includes key.now) (leaves s)) }
     ensures kept { reader.new.arena.now ≡ reader.old.arena.now }
-    ensures counts { reader.new.count ≡ min (reader.old.count + 1) (2 ^ 64 - 1) }
+    ensures least { ReadsAtLeast 1 reader.old.count reader.new.count }
+    ensures few { OfTree K.bytes PREFIX_LEN reader.old.arena.now root (λ s. ForLongest K.bytes s
+        (λ longest. EndReads longest reader.old.count reader.new.count)) }
 {
+    let nearest = nearest_leaf(reader, root, key);
     let leaf = reader.visit_leaf(nearest.leaf);
-    if passes {
-        return Some(nearest.leaf);
-    }
-    leaf.next()
+    inside(
+        nearest,
+        leaf,
+        takes(is_start, includes, nearest.order),
+        is_start,
+    )
 }
 
-// The last leaf that passes a test which smaller keys pass and greater ones don't: the one beside the key or the one
-// before it.
-fn last_to<K: AsBytes, V, const PREFIX_LEN: usize>(
-    reader: &mut ArenaReader<'_, K, V, PREFIX_LEN>,
+// The leaf beside the place of a bound's key if the bound takes it, or else its neighbour on the side that is inside.
+fn inside<K, V>(
     nearest: Nearest,
-    passes: bool,
+    leaf: &LeafNode<K, V>,
+    is_taken: bool,
+    is_start: bool,
 ) -> Option<LeafPtr>
-    requires { (key : List ℕ) × (ls : List (LeafAt K V)) × AreLinked (links_at reader.old.arena.now) None ls None
-        × IsNearest K.bytes key ls nearest.leaf nearest.order }
-    ensures value { (key : List ℕ) (ls : List (LeafAt K V)) (test : List ℕ → Bool)
-        → AreLinked (links_at reader.old.arena.now) None ls None → IsNearest K.bytes key ls nearest.leaf nearest.order
-        → ((k : List ℕ) → bytes_cmp k key ≡ Less → test k ≡ true)
-        → ((k : List ℕ) → bytes_cmp k key ≡ Greater → test k ≡ false)
-        → ((k : List ℕ) → bytes_cmp k key ≡ nearest.order → test k ≡ passes)
-        → result ≡ last_slot None (passing K.bytes test ls) }
-    ensures kept { reader.new.arena.now ≡ reader.old.arena.now }
-    ensures counts { reader.new.count ≡ min (reader.old.count + 1) (2 ^ 64 - 1) }
+    ensures { result ≡ (if is_taken then Some nearest.leaf else if is_start then leaf.now.next else leaf.now.previous) }
 {
-    let leaf = reader.visit_leaf(nearest.leaf);
-    if passes {
+    if is_taken {
         return Some(nearest.leaf);
+    }
+    if is_start {
+        return leaf.next();
     }
     leaf.previous()
+}
+
+// Whether a bound takes a key that compares so with its own. It is a start or an end, and takes its own key or not.
+fn takes(is_start: bool, includes: bool, order: Ordering) -> bool
+    ensures { result ≡ takes is_start includes order }
+{
+    match order {
+        Ordering::Less => !is_start,
+        Ordering::Equal => includes,
+        Ordering::Greater => is_start,
+    }
 }
 
 // A leaf beside the place of a key.
@@ -373,12 +369,9 @@ pub fn find_prefix_segment_with<K: AsBytes, V, const PREFIX_LEN: usize>(
     ensures few { OfTree K.bytes PREFIX_LEN reader.old.arena.now root (λ s. ForLongest K.bytes s
         (λ longest. SpanReads longest reader.old.count reader.new.count)) }
 {
-    match find_insert_point_with(reader, root, prefix) {
-        Err(conflict) => segment_at(reader, conflict.part, prefix),
-        Ok(point) => match point.stored_leaf() {
-            Some(leaf) => Some((leaf, leaf)),
-            None => None,
-        },
+    match search_for_subtree_delete_point(reader, root, prefix) {
+        Some(part) => Some((part.first_leaf, part.last_leaf)),
+        None => None,
     }
 }
 

@@ -1,5 +1,6 @@
 //! A tree that is built of ascending pairs, each of which goes behind the last. An inner node is made once, when no
-//! child of it can come any more. So it has the kind of its children's number at once, and no place is looked for.
+//! child of it can come any more. So it has the kind of its children's number at once, and no place is looked for. A
+//! builder may go on from a tree: what stands on the way to its last leaf is then to be made once more.
 ghost use Rattle.std.specs.Prelude.{◌≡◌, ◌≤◌, ◌∷◌, ◌++◌, List, [], None, IfErr, IsOk, OnErr, OnOk};
 ghost use Rattle.art_nodes.specs.declared.kind.NodeType.TheVariants.{Leaf};
 ghost use Rattle.art_arena.specs.arena.Arena.{HasRoomOf, SameNodes};
@@ -11,6 +12,7 @@ ghost use Rattle.art_operations.specs.inner.Spines.{IsEmptySpine};
 
 mod made;
 mod over_leaves;
+mod reopen;
 mod spine;
 
 use crate::build::spine::{Spine, close, pass_at};

@@ -3,8 +3,7 @@ ghost use Rattle.std.specs.Prelude.{◌≡◌, ◌<◌, ◌≤◌, ◌⊎◌, �
 ghost use Rattle.std.specs.Str.{bytes_eq};
 ghost use Rattle.art_bytes.specs.Keys.{BeginsWith};
 ghost use Rattle.art_arena.specs.tree.Tenants.{begins_with};
-ghost use Rattle.art_operations.specs.Lookups.{behavior_after, seen_by};
-ghost use Rattle.art_operations.specs.Lookups.{IsMatchedByBytes, IsMatchedByLength, ReadsPath};
+ghost use Rattle.art_operations.specs.Lookups.{behavior_after, seen_by, IsMatchedByBytes, IsMatchedByLength, ReadsPath};
 ghost use Rattle.art_operations.specs.Whichever.{FindsLeaf, HasTree, OfTree};
 
 use art_arena::{ArenaReader, LeafPtr, NodeArena, land};

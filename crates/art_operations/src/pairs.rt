@@ -3,22 +3,17 @@ ghost use Rattle.std.specs.Prelude.{◌≡◌, ◌+◌, List, [], Some, None, If
 ghost use Rattle.art_nodes.specs.Name.{Name};
 ghost use Rattle.art_arena.specs.arena.Arena.{node_at, HasRoom, KeepsNodes, SameNodes, UsesRoom};
 ghost use Rattle.art_arena.specs.arena.Cells.{Cell, HoldsOnly};
-ghost use Rattle.art_arena.specs.arena.EndLeaves.{end_slot};
-ghost use Rattle.art_arena.specs.arena.Shapes.{key_of, leaves};
-ghost use Rattle.art_arena.specs.arena.Steps.{steps_of};
+ghost use Rattle.art_arena.specs.arena.Shapes.{key_of};
 ghost use Rattle.art_arena.specs.tree.Shrinks.{Shrinks};
-ghost use Rattle.art_operations.specs.DeletePoints.{IsLeafPlace};
 ghost use Rattle.art_operations.specs.Insertions.{HandsPairBack, IsForConflict, IsPairRefused};
 ghost use Rattle.art_operations.specs.KeyedLists.{HasKey, IsBlocked};
 ghost use Rattle.art_operations.specs.LeafNames.{HasLeavesOf, KeepsLeavesOf};
 ghost use Rattle.art_operations.specs.Pairs.{CanPut, CanPutOver, HasPairsBeside, HasPut};
 ghost use Rattle.art_operations.specs.Pairs.{HasPutOver, HasTaken, HasTakenEnd, IsPlaced};
 ghost use Rattle.art_operations.specs.Pairs.{IsPlaceFor, ShrinksAtEnd, TellsConflict, with_pair_over};
-ghost use Rattle.art_operations.specs.Whichever.{HasSome, HasTree, OfEach, OfTree};
+ghost use Rattle.art_operations.specs.Whichever.{HasSome, OfEach};
 
-use crate::delete::point::{
-    DeletePoint, find_maximum_to_delete, find_minimum_to_delete, search_for_delete_point,
-};
+use crate::delete::point::{end_point, search_for_delete_point};
 use crate::delete::result::DeleteResult;
 use crate::insert::at_stop::insert_at_stop;
 use crate::insert::leaf::store_leaf;
@@ -286,23 +281,5 @@ pub fn take_end<K: AsBytes, V, const PREFIX_LEN: usize>(
     match point.apply(arena, top) {
         Ok(deleted) => Ok(Some(deleted)),
         Err(failed) => Err(failed),
-    }
-}
-
-// The leaf at an end, which is to be deleted.
-fn end_point<K: AsBytes, V, const PREFIX_LEN: usize>(
-    arena: &NodeArena<K, V, PREFIX_LEN>,
-    root: OpaqueNodePtr,
-    end: End,
-) -> DeletePoint
-    requires { HasTree K.bytes PREFIX_LEN arena.now root }
-    ensures value { OfTree K.bytes PREFIX_LEN arena.now root
-        (λ s. end_slot end (leaves s) ≡ Some result.leaf_node_ptr) }
-    ensures place { OfTree K.bytes PREFIX_LEN arena.now root
-        (λ s. IsLeafPlace K.bytes s result.leaf_node_ptr (steps_of result.path)) }
-{
-    match end {
-        End::First => find_minimum_to_delete(arena, root),
-        End::Last => find_maximum_to_delete(arena, root),
     }
 }

@@ -1,11 +1,9 @@
 -- An arena that holds a tree alone has as many leaves as the tree has pairs.
 use Rattle.std.proofs.Common.{◌≡◌, ℕ, List, length, Option, Some, None, sym, ap, ◌∙◌}
 use Rattle.std.proofs.lemmas.List.{length-map}
-use Rattle.art_nodes.specs.Name.{Name}
-use Rattle.art_arena.specs.arena.Arena.{Arena, node_at}
-use Rattle.art_arena.specs.arena.Shapes.{Shape, LeafAt, leaves, pairs_of}
-use Rattle.art_arena.specs.arena.Stores.{StoresOnly}
-use Rattle.art_operations.specs.Pairs.{HasPairs}
+use Rattle.art_nodes.proofs.Common.{Name}
+use Rattle.art_arena.proofs.Common.{Arena, node_at, Shape, LeafAt, leaves, pairs_of, StoresOnly}
+use Rattle.art_operations.proofs.Common.{HasPairs}
 
 module _ {K V : Type 0} (bytes : K → List ℕ) (P : ℕ) where
   pub length-pairs : (ls : List (LeafAt K V)) → length (pairs_of ls) ≡ length ls

@@ -1,15 +1,10 @@
 -- The first leaf whose key passes a test.
 use Rattle.std.proofs.Common.{◌≡◌, ℕ, Bool, true, false, List, [], ◌∷◌, Some, refl, sym, ap, subst}
 use Rattle.std.specs.Prelude.{IsTrue}
-use Rattle.art_nodes.specs.Name.{Name}
+use Rattle.art_nodes.proofs.Common.{Name}
 use Rattle.art_nodes.specs.declared.leaf.LeafNode.{LeafNode}
-use Rattle.art_arena.specs.arena.Arena.{Arena, leaf_held, held_at}
-use Rattle.art_arena.specs.arena.Cells.{leaf_name}
-use Rattle.art_arena.specs.arena.Descents.{leaf_where}
-use Rattle.art_arena.specs.arena.Shapes.{Shape, LeafAt, leaves}
-use Rattle.art_arena.specs.arena.Stores.{StoresOnly}
-use Rattle.art_operations.specs.Deletions.{IsAmong}
-use Rattle.art_operations.proofs.NamedLeaves.{bytes-held}
+use Rattle.art_arena.proofs.Common.{Arena, leaf_held, held_at, leaf_name, leaf_where, Shape, LeafAt, leaves, StoresOnly}
+use Rattle.art_operations.proofs.Common.{IsAmong, bytes-held}
 
 module _ {K V : Type 0} (bytes : K → List ℕ) (test : List ℕ → Bool) where
   -- it is one of the leaves, and its key passes

@@ -3,13 +3,11 @@ use Rattle.std.proofs.Common.{◌≡◌, ℕ, Bool, true, false, cond, List, [],
 use Rattle.std.specs.Prelude.{IfOk, OnErr, filter}
 use Rattle.std.specs.List.{items_where_true}
 use Rattle.std.specs.List.Retain.{ExtractsNext, IsFiltered}
-use Rattle.art_arena.specs.tree.Order.{AscendsByKey}
-use Rattle.art_arena.specs.tree.Shrinks.{Shrinks}
-use Rattle.art_bytes.specs.Keys.{IsBefore}
-use Rattle.art_operations.specs.KeyedLists.{without_key}
-use Rattle.art_operations.proofs.KeyedLists.{taken}
-use Rattle.art_set.specs.Asked.{AnswersForKey, AskingKeys, CallableOnEachKey, KeysComeOf, ExtractsKey, StopsAtKey}
-use Rattle.art_walks.proofs.Spans.{all-filter}
+use Rattle.art_arena.proofs.Common.{AscendsByKey, Shrinks}
+use Rattle.art_bytes.proofs.Common.{IsBefore}
+use Rattle.art_operations.proofs.Common.{without_key, taken}
+use Rattle.art_set.proofs.Terms.{AnswersForKey, AskingKeys, CallableOnEachKey, KeysComeOf, ExtractsKey, StopsAtKey}
+use Rattle.art_walks.proofs.Common.{all-filter}
 
 module _ {X : Type 0} (key : X → List ℕ) where
   -- part of an ascending list ascends

@@ -2,14 +2,12 @@
 use Rattle.std.proofs.Common.{◌≡◌, ℕ, ◌≤◌, Bool, true, List, [], ◌∷◌, length, drop, Some, None, Result, Ok, Err, refl, sym, ap, ◌∙◌, subst, arith}
 use Rattle.std.specs.Prelude.{IfOk, OnErr, filter, is_ok}
 use Rattle.std.specs.Map.{keys_of}
-use Rattle.art_arena.specs.arena.Shapes.{key_of}
-use Rattle.art_arena.specs.tree.Shrinks.{Shrinks}
+use Rattle.art_arena.proofs.Common.{key_of, Shrinks}
 use Rattle.art_bytes.specs.declared.as_bytes.AsBytes as as_bytes
-use Rattle.art_map.specs.Contents.{first_item}
-use Rattle.art_map.specs.Extractions.{left_of, map_of}
+use Rattle.art_map.proofs.Common.{first_item, left_of, map_of}
 use Rattle.art_map.specs.declared.map.extraction.Extraction.{Extraction}
-use Rattle.art_operations.specs.KeyedLists.{without_key}
-use Rattle.art_set.specs.Asked.{AskingKeys, CallableOnEachKey}
+use Rattle.art_operations.proofs.Common.{without_key}
+use Rattle.art_set.proofs.Terms.{AskingKeys, CallableOnEachKey}
 use Rattle.art_set.proofs.AskedKeys.{callable-none}
 use Rattle.art_set.proofs.Seen.{keys-without, shrinking}
 

@@ -6,13 +6,11 @@ use Rattle.std.specs.List.{AllByRecursion}
 use Rattle.std.specs.Ordering.{is_lt}
 use Rattle.std.specs.declared.cmp.Ordering.{Ordering}
 use Rattle.std.specs.declared.cmp.Ordering.TheVariants.{Less, Equal, Greater}
-use Rattle.art_bytes.specs.Keys.{bytes_cmp, is_below}
-use Rattle.art_set.specs.Members.{is_member}
-use Rattle.art_set.specs.Merges.{comparisons_of, difference_of, has_not_below, AscendsInBytes}
-use Rattle.art_operations.proofs.Nearest.{turned}
-use Rattle.art_set.specs.lemmas.KindLaws.{filter-none, filter-same}
-use Rattle.art_walks.proofs.Spans.{all-filter}
-use Rattle.art_arena.proofs.tree.Order.{all_weaker}
+use Rattle.art_bytes.proofs.Common.{bytes_cmp, is_below}
+use Rattle.art_set.proofs.Terms.{is_member, comparisons_of, difference_of, has_not_below, AscendsInBytes, filter-none, filter-same}
+use Rattle.art_operations.proofs.Common.{turned}
+use Rattle.art_walks.proofs.Common.{all-filter}
+use Rattle.art_arena.proofs.Common.{all_weaker}
 use Rattle.art_set.proofs.MergeLemmas.{AreAbove, above-lack, above-next, above-next-turned, above-same, agrees, behind}
 
 -- what holds is so where a test fails

@@ -1,10 +1,10 @@
 -- A set's keys beside the unit are the pairs of its map.
 use Rattle.std.proofs.Common.{◌≡◌, ℕ, not, List, [], ◌∷◌, length, refl, sym, ap, ◌∙◌}
 use Rattle.std.specs.Map.{keys_of}
-use Rattle.art_arena.specs.arena.Shapes.{key_of}
-use Rattle.art_arena.specs.tree.Tenants.{begins_with, with_front, without_front}
+use Rattle.std.proofs.lemmas.List.{length-map}
+use Rattle.art_arena.proofs.Common.{key_of, begins_with, with_front, without_front}
 use Rattle.art_set.specs.Pairs.{pairs_of_keys}
-use Rattle.art_set.proofs.Seen.{as-many, keys-filter}
+use Rattle.art_set.proofs.Seen.{keys-filter}
 
 pub with-units : {K : Type 0} (ps : List (K × Unit {0})) → ps ≡ pairs_of_keys (keys_of ps)
 with-units [] = refl
@@ -16,7 +16,7 @@ module _ {K V : Type 0} (bytes : K → List ℕ) (front : List ℕ) (ps : List (
   keys-behind = keys-filter (λ k. begins_with front (bytes k)) ps
 
   pub many-behind : length (with_front (key_of bytes) front ps) ≡ length (with_front bytes front (keys_of ps))
-  many-behind = sym (as-many (with_front (key_of bytes) front ps)) ∙ ap length keys-behind
+  many-behind = sym (length-map (with_front (key_of bytes) front ps) (λ p. p.0)) ∙ ap length keys-behind
 
   pub keys-beside : keys_of (without_front (key_of bytes) front ps) ≡ without_front bytes front (keys_of ps)
   keys-beside = keys-filter (λ k. not (begins_with front (bytes k))) ps

@@ -7,14 +7,13 @@ use Rattle.std.specs.Vec.Iter.{into_iter_items, into_iter_steps}
 use Rattle.std.specs.declared.vec.IntoIter.{IntoIter}
 use Rattle.std.proofs.IntoIterSteps.{All-taken}
 use Rattle.std.proofs.lemmas.List.{append-nil, map-append}
-use Rattle.art_arena.specs.tree.Order.{AscendsByKey}
-use Rattle.art_operations.proofs.KeyedLists.{put_new}
+use Rattle.art_arena.proofs.Common.{AscendsByKey}
+use Rattle.art_operations.proofs.Common.{put_new}
 use Rattle.art_operations.specs.declared.insert.result.InsertRefused.{InsertRefused}
-use Rattle.art_map.specs.Bulk.{IsMadeOf}
-use Rattle.art_map.specs.Contents.{Contents}
+use Rattle.art_map.proofs.Common.{IsMadeOf, Contents}
 use Rattle.art_map.proofs.VecPairs.{taken-front}
 use Rattle.art_set.specs.Bulk.{ExtendsWithKeys, HandsNextKeyBack, IsMadeOfKeys, IsKeyOfList}
-use Rattle.art_set.specs.Members.{with_key_put, with_keys_put}
+use Rattle.art_set.proofs.Terms.{with_key_put, with_keys_put}
 use Rattle.art_set.specs.declared.set.refused.RefusedKey.{RefusedKey}
 use Rattle.art_set.proofs.Seen.{keys-put-all}
 

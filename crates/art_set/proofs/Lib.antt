@@ -8,3 +8,5 @@ pub mod KeyPuts
 pub mod KeyPairs
 pub mod MembersBehind
 pub mod KeyCompares
+pub mod Terms
+pub mod Common

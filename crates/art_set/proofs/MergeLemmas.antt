@@ -1,5 +1,5 @@
 -- The first key of two ascending lists, and what a merge of them has behind it.
-use Rattle.std.proofs.Common.{◌≡◌, ℕ, ◌+◌, ◌-◌, ◌^◌, ◌<◌, ◌==◌, min, Bool, true, false, not, cond, ◌&&◌, ◌||◌, bytes_eq, List, [], ◌∷◌, refl, sym, ap, ap₂, ◌∙◌, subst, arith, length, eqb-true, Option, Some, None}
+use Rattle.std.proofs.Common.{◌≡◌, ℕ, ◌+◌, ◌-◌, ◌^◌, ◌<◌, min, Bool, true, false, not, cond, ◌&&◌, ◌||◌, bytes_eq, List, [], ◌∷◌, refl, sym, ap, ap₂, ◌∙◌, subst, arith, length, Option, Some, None}
 use Rattle.std.specs.Prelude.{filter, is_some, ⊤, IfNone}
 use Rattle.std.specs.Bool.{OnFalse}
 use Rattle.std.specs.List.{AllByRecursion, list_all}
@@ -8,18 +8,15 @@ use Rattle.std.specs.declared.cmp.Ordering.TheVariants.{Less, Equal, Greater}
 use Rattle.std.proofs.lemmas.Cmp.{nat_list_cmp_total}
 use Rattle.std.proofs.lemmas.Map.Text.{is_eq-slice_cmp}
 use Rattle.std.specs.Ordering.{is_eq}
-use Rattle.art_bytes.specs.Keys.{bytes_cmp, is_below}
-use Rattle.art_set.specs.inner.Merging.{Beside, IsCompared, keys_left, steps_left, merge_of, merging, of_first, of_second, merged}
+use Rattle.art_bytes.proofs.Common.{bytes_cmp, is_below}
+use Rattle.art_set.proofs.Terms.{Beside, IsCompared, keys_left, steps_left, merge_of, merging, of_first, of_second, merged, is_member, filter-none, filter-same, GivesNext, Merge, put_below, put_among, AscendsInBytes}
 use Rattle.art_set.specs.declared.merges.sides.Wanted.{Wanted}
 use Rattle.std.specs.Borrow.{Bor}
 use Rattle.std.specs.Iterator.{MakesProgress, at_most}
 use Rattle.std.specs.Map.Iter.{TakesFirst, deref}
-use Rattle.art_set.specs.Members.{is_member}
-use Rattle.art_arena.proofs.tree.Order.{all_weaker}
-use Rattle.art_operations.proofs.Nearest.{turned}
-use Rattle.art_walks.proofs.Spans.{all-filter}
-use Rattle.art_set.specs.lemmas.KindLaws.{filter-none, filter-same}
-use Rattle.art_set.specs.Merges.{GivesNext, Merge, put_below, put_among, AscendsInBytes}
+use Rattle.art_arena.proofs.Common.{all_weaker}
+use Rattle.art_operations.proofs.Common.{turned}
+use Rattle.art_walks.proofs.Common.{all-filter}
 
 -- keys that are not equal in the order have other bytes
 differs : (k l : List ℕ) → bytes_cmp k l ≡ Less → bytes_eq k l ≡ false
@@ -173,24 +170,18 @@ one-less-behind x xs on n e = let l = ap length e in omega (arith, l)
 pub both-less : {X : Type 0} (x y : X) (xs ys on beyond : List X) → xs ≡ x ∷ on → ys ≡ y ∷ beyond → length on + length beyond < length xs + length ys
 both-less x y xs ys on beyond e f = let l = ap length e in let m = ap length f in omega (arith, l, m)
 
-pub none-there : {X : Type 0} (xs : List X) → true ≡ (length xs == 0) → xs ≡ []
-none-there [] e = refl
-none-there (x ∷ xs) e = let f = eqb-true (length (x ∷ xs)) 0 (sym e) in absurd (omega (arith, f))
-
 -- once a list is at its end, and what the other has alone is not wanted, nothing more comes
 pub none-of-first : {K : Type 0} (bytes : K → List ℕ) (w : Wanted) (xs ys : List K) → xs ≡ [] → OnFalse w.second (merged bytes w.first w.both w.second xs ys ≡ [])
-none-of-first bytes w xs ys e = pick w.second
-  where
-    pick : (b : Bool) → OnFalse b (merged bytes w.first w.both b xs ys ≡ [])
-    pick true = tt
-    pick false = ap (λ zs. merged bytes w.first w.both false zs ys) e ∙ merged-no_first bytes w.first w.both ys
+none-of-first bytes w xs ys e = elim w.second as (λ b. OnFalse b (merged bytes w.first w.both b xs ys ≡ [])) [
+  | true ↦ tt
+  | false ↦ ap (λ zs. merged bytes w.first w.both false zs ys) e ∙ merged-no_first bytes w.first w.both ys
+]
 
 pub none-of-second : {K : Type 0} (bytes : K → List ℕ) (w : Wanted) (xs ys : List K) → ys ≡ [] → OnFalse w.first (merged bytes w.first w.both w.second xs ys ≡ [])
-none-of-second bytes w xs ys e = pick w.first
-  where
-    pick : (b : Bool) → OnFalse b (merged bytes b w.both w.second xs ys ≡ [])
-    pick true = tt
-    pick false = ap (λ zs. merged bytes false w.both w.second xs zs) e ∙ merged-no_second bytes w.both w.second xs
+none-of-second bytes w xs ys e = elim w.first as (λ b. OnFalse b (merged bytes b w.both w.second xs ys ≡ [])) [
+  | true ↦ tt
+  | false ↦ ap (λ zs. merged bytes false w.both w.second xs zs) e ∙ merged-no_second bytes w.both w.second xs
+]
 
 -- what comes of two lists is what the merge gives of them
 pub gives : {K : Type 0} (bytes : K → List ℕ) (w : Wanted) (of : List K → List K → List K) → ((xs ys : List K) → merged bytes w.first w.both w.second xs ys ≡ of xs ys)

@@ -6,18 +6,12 @@ use Rattle.std.specs.Ordering.{is_eq, is_lt}
 use Rattle.std.specs.declared.cmp.Ordering.{Ordering}
 use Rattle.std.specs.declared.cmp.Ordering.TheVariants.{Less, Equal, Greater}
 use Rattle.std.proofs.lemmas.Map.Text.{is_eq-slice_cmp}
-use Rattle.art_arena.specs.tree.Order.{AscendsByKey}
-use Rattle.art_bytes.specs.Keys.{BeginsWith, Conflict, IsBefore, bytes_cmp}
-use Rattle.art_bytes.proofs.Order.{before_cmp, cmp_before}
-use Rattle.art_arena.proofs.tree.Order.{all_append, all_left}
-use Rattle.art_set.specs.Members.{is_member, with_key_put}
-use Rattle.art_set.specs.inner.Merging.{merged, of_first, of_second}
+use Rattle.art_arena.proofs.Common.{AscendsByKey, all_append, all_left, all_weaker}
+use Rattle.art_bytes.proofs.Common.{BeginsWith, Conflict, IsBefore, bytes_cmp, before_cmp, cmp_before}
+use Rattle.art_set.proofs.Terms.{is_member, with_key_put, merged, of_first, of_second, AscendsInBytes, difference_of, put_among, put_below, filter-none}
 use Rattle.art_set.proofs.KeyPuts.{put-last}
-use Rattle.art_set.specs.Merges.{AscendsInBytes, difference_of, put_among, put_below}
-use Rattle.art_operations.proofs.Nearest.{turned}
-use Rattle.art_set.specs.lemmas.KindLaws.{filter-none}
-use Rattle.art_walks.proofs.Spans.{all-filter}
-use Rattle.art_arena.proofs.tree.Order.{all_weaker}
+use Rattle.art_operations.proofs.Common.{turned}
+use Rattle.art_walks.proofs.Common.{all-filter}
 use Rattle.art_set.proofs.MergeLemmas.{AreAbove, above-below, all-joined, all-put, differs-turned}
 
 module _ {K : Type 0} (bytes : K → List ℕ) where

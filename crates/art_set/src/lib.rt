@@ -17,8 +17,7 @@ mod operators;
 mod set;
 
 pub use iterators::extract_if::ExtractIf;
-pub use iterators::prefix::Prefix;
-pub use iterators::{IntoIter, Iter, Range};
+pub use iterators::{IntoIter, Iter, Prefix, Range};
 pub use merges::{Difference, Intersection, Merged, SymmetricDifference, Union};
 pub use set::TreeSet;
 pub use set::refused::RefusedKey;

@@ -55,10 +55,7 @@ impl<'a, 'b, K: OrderedBytes + NoPrefixesBytes + Clone + Drop, const PREFIX_LEN:
     ghost bitand_gives = { λ a b r. ((k c : K) → K.is_clone k c → c ≡ k)
         → IfOk r (λ s. s ≡ intersection_of K.bytes a.now b.now) };
 
-    fn bitand(
-        self,
-        other: &'b TreeSet<K, PREFIX_LEN>,
-    ) -> Result<TreeSet<K, PREFIX_LEN>, AllocError> {
+    fn bitand(self, other: &'b TreeSet<K, PREFIX_LEN>) -> Self::Output {
         collected::<InBoth, _, _>(self, other)
     }
 }
@@ -81,10 +78,7 @@ impl<'a, 'b, K: OrderedBytes + NoPrefixesBytes + Clone + Drop, const PREFIX_LEN:
     ghost bitor_gives = { λ a b r. ((k c : K) → K.is_clone k c → c ≡ k)
         → IfOk r (λ s. s ≡ union_of K.bytes a.now b.now) };
 
-    fn bitor(
-        self,
-        other: &'b TreeSet<K, PREFIX_LEN>,
-    ) -> Result<TreeSet<K, PREFIX_LEN>, AllocError> {
+    fn bitor(self, other: &'b TreeSet<K, PREFIX_LEN>) -> Self::Output {
         collected::<InEither, _, _>(self, other)
     }
 }
@@ -107,10 +101,7 @@ impl<'a, 'b, K: OrderedBytes + NoPrefixesBytes + Clone + Drop, const PREFIX_LEN:
     ghost bitxor_gives = { λ a b r. ((k c : K) → K.is_clone k c → c ≡ k)
         → IfOk r (λ s. s ≡ symmetric_difference_of K.bytes a.now b.now) };
 
-    fn bitxor(
-        self,
-        other: &'b TreeSet<K, PREFIX_LEN>,
-    ) -> Result<TreeSet<K, PREFIX_LEN>, AllocError> {
+    fn bitxor(self, other: &'b TreeSet<K, PREFIX_LEN>) -> Self::Output {
         collected::<OneAlone, _, _>(self, other)
     }
 }
@@ -133,7 +124,7 @@ impl<'a, 'b, K: OrderedBytes + NoPrefixesBytes + Clone + Drop, const PREFIX_LEN:
     ghost sub_gives = { λ a b r. ((k c : K) → K.is_clone k c → c ≡ k)
         → IfOk r (λ s. s ≡ difference_of K.bytes a.now b.now) };
 
-    fn sub(self, other: &'b TreeSet<K, PREFIX_LEN>) -> Result<TreeSet<K, PREFIX_LEN>, AllocError> {
+    fn sub(self, other: &'b TreeSet<K, PREFIX_LEN>) -> Self::Output {
         collected::<FirstAlone, _, _>(self, other)
     }
 }

@@ -3,17 +3,10 @@
 use Rattle.std.proofs.Common.{◌≡◌, ℕ, ◌+◌, ◌≤◌, List, [], ◌∷◌, ◌++◌, length, take, drop, Option, Some, refl, sym, ap, ap₂, subst, ◌∙◌, arith, append_assoc, length-append}
 use Rattle.std.proofs.lemmas.List.{take-append-drop, take_at, drop_at, length-take-le, length-drop}
 use Rattle.std.proofs.Math.Seq.{take-add}
-use Rattle.art_bytes.specs.Keys.{BeginsWith}
-use Rattle.art_nodes.specs.Name.{Name}
-use Rattle.art_arena.specs.arena.Cells.{Cell, pair, branches, copies, AreHeld}
-use Rattle.art_arena.specs.tree.Kinds.{IsKindOf}
-use Rattle.art_arena.specs.arena.Shapes.{Shape, Branches, leaf_at, inner_at, no_branch, branch, name_of, children_at, width, cells, cells_in, node_of, IsUnder, AreUnder}
-use Rattle.art_arena.specs.arena.Meaning.{IsPart, IsSubtree}
-use Rattle.art_arena.proofs.tree.Order.{all_left, all_right}
-use Rattle.art_bytes.proofs.Order.{begins_append}
-use Rattle.art_walks.specs.inner.Fillings.{first_key, first_key_in, Fits, FitIn}
-use Rattle.art_arena.proofs.shapes.CellLists.{cell_children, same_cell}
-use Rattle.art_arena.proofs.shapes.Contexts.{length-children}
+use Rattle.art_bytes.proofs.Common.{BeginsWith, begins_append}
+use Rattle.art_nodes.proofs.Common.{Name}
+use Rattle.art_arena.proofs.Common.{Cell, pair, branches, copies, AreHeld, IsKindOf, Shape, Branches, leaf_at, inner_at, no_branch, branch, name_of, children_at, width, cells, cells_in, node_of, IsUnder, AreUnder, IsPart, IsSubtree, all_left, all_right, cell_children, same_cell, length-children}
+use Rattle.art_walks.proofs.Terms.{first_key, first_key_in, Fits, FitIn}
 
 -- what the header of a cell tells
 abbrev pub prefix_len_of : {K V : Type 0} → Cell K V → ℕ

@@ -3,22 +3,12 @@ use Rattle.std.proofs.Common.{◌≡◌, ◌≢◌, ℕ, suc, ◌+◌, ◌<◌, 
 use Rattle.std.specs.Bool.{MatchBool}
 use Rattle.std.specs.List.{AllByRecursion}
 use Rattle.std.proofs.lemmas.Bool.Decides.{leb_tells}
-use Rattle.std.proofs.lemmas.List.{take-take, take_all, length-take-le, length-drop}
+use Rattle.std.proofs.lemmas.List.{map-append, take-take, take_all, length-take-le, length-drop}
+use Rattle.art_nodes.proofs.Common.{Name, InnerNode, IsAscendingFrom, names_of, first_child}
 use Rattle.art_nodes.specs.declared.kind.NodeType.TheVariants.{Leaf}
-use Rattle.art_nodes.specs.Name.{Name}
-use Rattle.art_nodes.specs.InnerNode.{InnerNode, IsAscendingFrom, names_of, first_child}
 use Rattle.art_nodes.specs.declared.leaf.LeafNode.{LeafNode}
-use Rattle.art_arena.specs.arena.Arena.{Arena, Held, leaf_held, inner_held, held_at, cell_of, node_at, slots_of}
-use Rattle.art_arena.specs.arena.Cells.{Cell, pair, branches, leaf_name, copies, AreHeld}
-use Rattle.art_arena.specs.arena.Meaning.{IsPart}
-use Rattle.art_arena.specs.arena.Shapes.{Shape, Branches, leaf_at, inner_at, no_branch, branch, name_of, children_at, width, cells, cells_in, node_of}
-use Rattle.art_arena.specs.tree.Kinds.{IsKindOf}
-use Rattle.art_arena.proofs.shapes.CellLists.{copies-append, cell_children, same_cell}
-use Rattle.art_arena.proofs.shapes.Measures.{cells_few, nodes_below, nodes_below-held, total}
-use Rattle.art_arena.proofs.tree.Order.{all_left, all_right, all_append}
-use Rattle.art_walks.specs.declared.checker.keys.Place.{Place}
-use Rattle.art_walks.specs.inner.Skeletons.{HasKinds, HaveKinds}
-use Rattle.art_walks.specs.inner.Fillings.{placed, first_key, first_key_in, Fits, FitIn, HasShape, LeafHasKey, StandsAsTold, FitBelow, FitAt, ChildFits, Await, Opens}
+use Rattle.art_arena.proofs.Common.{Arena, Held, leaf_held, inner_held, held_at, cell_of, node_at, slots_of, Cell, pair, branches, leaf_name, copies, AreHeld, IsPart, Shape, Branches, leaf_at, inner_at, no_branch, branch, name_of, children_at, width, cells, cells_in, node_of, IsKindOf, copies-append, cell_children, same_cell, cells_few, nodes_below, nodes_below-held, total, all_left, all_right, all_append}
+use Rattle.art_walks.proofs.Terms.{Place, HasKinds, HaveKinds, placed, first_key, first_key_in, Fits, FitIn, HasShape, LeafHasKey, StandsAsTold, FitBelow, FitAt, ChildFits, Await, Opens}
 use Rattle.art_walks.proofs.Fillings.{first_key-same, fits-same, prefix_len_of, stored_of}
 
 -- two sides of an answer, each said in other words
@@ -34,14 +24,6 @@ yes_of false A B e h = absurd (cc)
 pub no_of : (b : Bool) (A B : Type 0) → b ≡ false → MatchBool b A B → B
 no_of true A B e h = absurd (cc)
 no_of false A B e h = h
-
-placed-append : (ps qs : List Place) → placed (ps ++ qs) ≡ placed ps ++ placed qs
-placed-append [] qs = refl
-placed-append (p ∷ ps) qs = ap (λ ns. p.name ∷ ns) (placed-append ps qs)
-
-names-append : (cs ds : List (ℕ × Name)) → names_of (cs ++ ds) ≡ names_of cs ++ names_of ds
-names-append [] ds = refl
-names-append (c ∷ cs) ds = ap (λ ns. c.1 ∷ ns) (names-append cs ds)
 
 -- a number for each name, in sum
 abbrev pub sum_of : (Name → ℕ) → List Name → ℕ
@@ -187,7 +169,7 @@ module _ {K V : Type 0} (bytes : K → List ℕ) (P : ℕ) (at : Name → Option
     pub await-join : (cs ds : List (ℕ × Name)) (ps qs : List Place) → Await bytes P at e key cs ps → Await bytes P at e key ds qs → Await bytes P at e key (cs ++ ds) (ps ++ qs)
     await-join cs ds ps qs one two = record {
       stand = all_append (StandsAsTold bytes P at) ps qs one.stand two.stand;
-      names = placed-append ps qs ∙ ap₂ (λ xs ys. xs ++ ys) one.names two.names ∙ sym (names-append cs ds);
+      names = map-append (λ (p : Place). p.name) ps qs ∙ ap₂ (λ xs ys. xs ++ ys) one.names two.names ∙ sym (map-append (λ (c : ℕ × Name). c.1) cs ds);
       enough = λ h. all_append (ChildFits bytes P at e key) cs ds (one.enough (all_left (FitAt bytes P at) ps qs h)) (two.enough (all_right (FitAt bytes P at) ps qs h));
       needed = λ h. all_append (FitAt bytes P at) ps qs (one.needed (all_left (ChildFits bytes P at e key) cs ds h)) (two.needed (all_right (ChildFits bytes P at e key) cs ds h));
     }
@@ -270,15 +252,18 @@ module _ {K V : Type 0} (bytes : K → List ℕ) (P : ℕ) (at : Name → Option
         ∙ ap₂ (λ n (k : List ℕ). take n (drop place.depth k)) (ap length (sym stored-is)) (sym key-in)
         )
 
-    pub unfit-children : (AllByRecursion (ChildFits bytes P at (place.depth + node.header.prefix_len) key) node.children → ⊥) → FitAt bytes P at place → ⊥
-    unfit-children unfit fit =
+    all-fit : FitAt bytes P at place → AllByRecursion (ChildFits bytes P at (place.depth + node.header.prefix_len) key) node.children
+    all-fit fit =
         let fits = fits-root fit in
-        unfit (subst (AllByRecursion (ChildFits bytes P at (place.depth + node.header.prefix_len) key)) root.children_are (
+        subst (AllByRecursion (ChildFits bytes P at (place.depth + node.header.prefix_len) key)) root.children_are (
         subst (λ k. AllByRecursion (ChildFits bytes P at (place.depth + node.header.prefix_len) k) (children_at root.kids)) (sym key-in) (
         subst (λ n. AllByRecursion (ChildFits bytes P at (place.depth + n) (first_key_in bytes root.kids)) (children_at root.kids)) (sym len-is)
         (fit-out (place.depth + length root.prefix) (first_key_in bytes root.kids) 0 root.kids root.parts fits.3)
         )
-        ))
+        )
+
+    pub unfit-children : (AllByRecursion (ChildFits bytes P at (place.depth + node.header.prefix_len) key) node.children → ⊥) → FitAt bytes P at place → ⊥
+    unfit-children unfit fit = unfit (all-fit fit)
 
     pub opens : IsAscendingFrom 0 node.children → place.depth + node.header.prefix_len ≤ length key → node.header.stored ≡ take (length node.header.stored) (drop place.depth key)
         → (old new places : List Place) → new ≡ old ++ places → Await bytes P at (place.depth + node.header.prefix_len) key node.children places → Opens bytes P at place old new
@@ -293,15 +278,6 @@ module _ {K V : Type 0} (bytes : K → List ℕ) (P : ℕ) (at : Name → Option
       needed = λ fit. await.needed (all-fit fit);
     }
       where
-        all-fit : FitAt bytes P at place → AllByRecursion (ChildFits bytes P at (place.depth + node.header.prefix_len) key) node.children
-        all-fit fit =
-            subst (AllByRecursion (ChildFits bytes P at (place.depth + node.header.prefix_len) key)) root.children_are (
-            subst (λ k. AllByRecursion (ChildFits bytes P at (place.depth + node.header.prefix_len) k) (children_at root.kids)) (sym key-in) (
-            subst (λ n. AllByRecursion (ChildFits bytes P at (place.depth + n) (first_key_in bytes root.kids)) (children_at root.kids)) (sym len-is)
-            (let fits = fits-root fit in fit-out (place.depth + length root.prefix) (first_key_in bytes root.kids) 0 root.kids root.parts fits.3)
-            )
-            )
-
         here : AllByRecursion (ChildFits bytes P at (place.depth + node.header.prefix_len) key) node.children → Fits bytes P place.depth (inner_at (name_of stands.below.shape) root.prefix root.kids)
         here all =
             let l = len-is in
@@ -440,7 +416,7 @@ module _ {K V : Type 0} (bytes : K → List ℕ) (P : ℕ) (arena : Arena K V) w
   waiting-top : (waiting rest : List Place) (place : Place) → waiting ≡ rest ++ place ∷ [] → nodes_waiting waiting ≡ nodes_waiting rest + nodes_below (slots_of arena) (node_at arena) place.name
   waiting-top waiting rest place top =
       let f = nodes_below (slots_of arena) (node_at arena) in
-      let e = ap (λ ps. sum_of f (placed ps)) top ∙ ap (sum_of f) (placed-append rest (place ∷ [])) in
+      let e = ap (λ ps. sum_of f (placed ps)) top ∙ ap (sum_of f) (map-append (λ (p : Place). p.name) rest (place ∷ [])) in
       omega (arith, e, sum-append f (placed rest) (place.name ∷ []))
 
   some-cells : (s : Shape K V) → 1 ≤ length (cells P s)
@@ -458,6 +434,6 @@ module _ {K V : Type 0} (bytes : K → List ℕ) (P : ℕ) (arena : Arena K V) w
       let f = nodes_below (slots_of arena) (node_at arena) in
       let t = waiting-top waiting rest place top in
       let here = node-size place.name stands.below opened.node opened.held in
-      let now = ap (λ ps. sum_of f (placed ps)) opened.wait ∙ ap (sum_of f) (placed-append rest opened.places) ∙ sum-append f (placed rest) (placed opened.places) in
+      let now = ap (λ ps. sum_of f (placed ps)) opened.wait ∙ ap (sum_of f) (map-append (λ (p : Place). p.name) rest opened.places) ∙ sum-append f (placed rest) (placed opened.places) in
       let names = ap (sum_of f) opened.names in
       omega (arith, t, here, now, names)

@@ -1,21 +1,13 @@
 -- How many names of each kind a check met: as many as the tree that the shape means has nodes with so many children.
 use Rattle.std.proofs.Common.{◌≡◌, ◌≢◌, ℕ, ◌+◌, ◌≤◌, true, false, cond, ◌&&◌, nat_le, List, [], ◌∷◌, ◌++◌, length, refl, sym, ap, ◌∙◌, arith, length-append, subst, inl, inr}
 use Rattle.std.proofs.lemmas.Bool.Decides.{nat_tests, leb_tells}
+use Rattle.art_nodes.proofs.Common.{Name, row_of}
 use Rattle.art_nodes.specs.declared.kind.NodeType.{NodeType}
 use Rattle.art_nodes.specs.declared.kind.NodeType.TheVariants.{Leaf}
-use Rattle.art_nodes.specs.Name.{Name}
-use Rattle.art_arena.specs.arena.Cells.{same_kind}
-use Rattle.art_arena.specs.tree.Kinds.{IsKindOf}
-use Rattle.art_arena.specs.tree.Trees.{count, nodes_with, nodes_in}
-use Rattle.art_arena.specs.arena.Shapes.{Shape, Branches, leaf_at, inner_at, no_branch, branch, leaves, leaves_in, cells, cells_in, width, erase, erase_in}
-use Rattle.art_arena.proofs.shapes.Erased.{count-erase}
-use Rattle.art_walks.specs.Stats.{in_range}
-use Rattle.art_walks.specs.inner.Names.{count_kind}
-use Rattle.art_walks.specs.inner.Skeletons.{HasKinds, HaveKinds, cell_names}
+use Rattle.art_arena.proofs.Common.{same_kind, IsKindOf, count, nodes_with, nodes_in, Shape, Branches, leaf_at, inner_at, no_branch, branch, leaves, leaves_in, cells, cells_in, width, erase, erase_in, count-erase, same_kind_tells}
+use Rattle.art_walks.proofs.Terms.{in_range, count_kind, HasKinds, HaveKinds, cell_names}
 use Rattle.art_walks.proofs.Skeletons.{cell_names-append}
-use Rattle.art_arena.proofs.shapes.CellLists.{same_kind_tells}
 use Rattle.art_arena.proofs.tree.Limits.{one_kind}
-use Rattle.art_nodes.specs.Kind.{row_of}
 
 pub count_kind-append : (kind : NodeType) (xs ys : List Name) → count_kind kind (xs ++ ys) ≡ count_kind kind xs + count_kind kind ys
 count_kind-append kind [] ys = omega arith

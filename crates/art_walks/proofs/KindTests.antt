@@ -3,7 +3,7 @@ use Rattle.std.proofs.Common.{◌≡◌, refl}
 use Rattle.art_nodes.specs.declared.kind.NodeType.{NodeType}
 use Rattle.art_nodes.specs.declared.kind.NodeType.TheVariants.{Node4, Node16, Node32, Node48, Node256, Leaf}
 use Rattle.art_nodes.specs.contracts.kind.NodeTypePartialEq.TheImpl.{eq-value}
-use Rattle.art_arena.specs.arena.Cells.{same_kind}
+use Rattle.art_arena.proofs.Common.{same_kind}
 
 pub kinds_told : (k l : NodeType) → eq-value.it k l ≡ same_kind k l
 kinds_told Node4 Node4 = refl

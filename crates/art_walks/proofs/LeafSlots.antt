@@ -1,16 +1,12 @@
 -- The leaves of a shape among the names that a check met: their links are told by the slab keys alone.
 use Rattle.std.proofs.Common.{◌≡◌, ℕ, ◌+◌, List, [], ◌∷◌, ◌++◌, length, Option, Some, refl, sym, ap, ap₂, ◌∙◌, arith}
+use Rattle.art_nodes.proofs.Common.{Name}
 use Rattle.art_nodes.specs.declared.kind.NodeType.{NodeType}
 use Rattle.art_nodes.specs.declared.kind.NodeType.TheVariants.{Leaf}
-use Rattle.art_nodes.specs.Name.{Name}
-use Rattle.art_arena.specs.tree.Kinds.{IsKindOf}
-use Rattle.art_arena.specs.arena.Shapes.{Shape, Branches, leaf_at, inner_at, no_branch, branch, LeafAt, leaves, leaves_in, cells, cells_in, width}
-use Rattle.art_arena.specs.arena.Linked.{Links, AreLinked}
-use Rattle.art_walks.specs.inner.Skeletons.{HasKinds, HaveKinds, cell_names}
-use Rattle.art_walks.specs.inner.Slots.{with_slot, leaf_slots, AreLinkedSlots}
+use Rattle.art_arena.proofs.Common.{IsKindOf, Shape, Branches, leaf_at, inner_at, no_branch, branch, LeafAt, leaves, leaves_in, cells, cells_in, width, Links, AreLinked, slot_list}
+use Rattle.art_walks.proofs.Terms.{HasKinds, HaveKinds, cell_names, with_slot, leaf_slots, AreLinkedSlots}
 use Rattle.art_walks.proofs.Skeletons.{cell_names-append}
 use Rattle.art_walks.proofs.Fillings.{fill, fill_in}
-use Rattle.art_arena.proofs.shapes.LinkedLists.{slot_list}
 use Rattle.std.proofs.lemmas.List.{map-append}
 
 leaf_slots-append : (xs ys : List Name) → leaf_slots (xs ++ ys) ≡ leaf_slots xs ++ leaf_slots ys

@@ -14,3 +14,5 @@ pub mod RunLengths
 pub mod Rests
 pub mod Spans
 pub mod MapReads
+pub mod Terms
+pub mod Common

@@ -1,8 +1,8 @@
 -- The walk along the leaves that were met: they are linked if those that are left are, behind the last one.
 use Rattle.std.proofs.Common.{◌≡◌, ℕ, List, [], ◌∷◌, Option, Some, None}
-use Rattle.art_arena.specs.arena.Linked.{Links}
+use Rattle.art_arena.proofs.Common.{Links}
 use Rattle.art_walks.specs.declared.checker.links.Last.{Last}
-use Rattle.art_walks.specs.inner.Slots.{AreLinkedSlots}
+use Rattle.art_walks.proofs.Terms.{AreLinkedSlots}
 
 abbrev pub first_number : List ℕ → Option ℕ
 first_number [] = None

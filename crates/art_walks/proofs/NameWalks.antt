@@ -1,21 +1,12 @@
 -- The walk over the names below a root: what was met, what waits, and which ways lead there.
-use Rattle.std.proofs.Common.{◌≡◌, ◌≢◌, ◌⊎◌, ℕ, zero, suc, ◌+◌, ◌-◌, min, ◌<◌, ◌≤◌, Bool, true, false, cond, ◌||◌, List, [], ◌∷◌, ◌++◌, reverse, length, take, Option, Some, None, IsSome, inl, inr, refl, sym, ap, ap₂, subst, ◌∙◌, arith, length-append}
+use Rattle.std.proofs.Common.{◌≡◌, ◌≢◌, ◌⊎◌, ℕ, suc, ◌+◌, ◌-◌, min, ◌<◌, ◌≤◌, Bool, true, false, cond, ◌||◌, List, [], ◌∷◌, ◌++◌, reverse, replicate, length, take, Option, Some, None, IsSome, inl, inr, refl, sym, ap, ap₂, subst, ◌∙◌, arith, length-append}
 use Rattle.std.specs.List.{AllByRecursion}
 use Rattle.std.proofs.lemmas.Bool.Decides.{eqb_tells, leb_tells}
-use Rattle.std.proofs.lemmas.List.{reverse-append, reverse-reverse, take_at}
+use Rattle.std.proofs.lemmas.List.{append-nil, length-replicate, reverse-append, reverse-reverse, take_all, take_at}
+use Rattle.art_nodes.proofs.Common.{Name, InnerNode, IsInnerNode, IsAscending, IsAscendingFrom, names_of, child_at}
 use Rattle.art_nodes.specs.declared.kind.NodeType.TheVariants.{Leaf}
-use Rattle.art_nodes.specs.Name.{Name}
-use Rattle.art_nodes.specs.InnerNode.{InnerNode, IsInnerNode, IsAscending, IsAscendingFrom, names_of, child_at}
-use Rattle.art_arena.specs.arena.Arena.{Arena, node_at, slots_of}
-use Rattle.art_arena.specs.arena.Cells.{Cell, pair, branches, leaf_name, copies, same_name, AreHeld}
-use Rattle.art_arena.specs.arena.Linked.{Links}
-use Rattle.art_arena.specs.arena.Shapes.{node_of}
-use Rattle.art_arena.proofs.shapes.CellLists.{same_name_tells, same_name-self}
-use Rattle.art_arena.proofs.shapes.LinkedLists.{some_of}
-use Rattle.art_arena.proofs.shapes.Measures.{held_few}
-use Rattle.art_walks.specs.Faults.{child_in, led_to, HasDeadName, HasLoop, HasWrongCount}
-use Rattle.art_walks.specs.inner.Names.{has_name, meets, AreOnce, IsOpened, IsMiscounted}
-use Rattle.art_walks.specs.inner.Skeletons.{cell_names, IsSkeleton}
+use Rattle.art_arena.proofs.Common.{Arena, node_at, slots_of, Cell, pair, branches, leaf_name, copies, same_name, AreHeld, Links, node_of, same_name_tells, same_name-self, some_of, held_few, all_append}
+use Rattle.art_walks.proofs.Terms.{child_in, led_to, HasDeadName, HasLoop, HasWrongCount, has_name, meets, AreOnce, IsOpened, IsMiscounted, cell_names, IsSkeleton}
 use Rattle.art_walks.proofs.Skeletons.{Completes, completes-start, completes-end, completes-leaf, completes-inner}
 use Rattle.art_walks.proofs.Ways.{led_to-edge, loop_of_edges, loop_of_root}
 
@@ -118,16 +109,6 @@ found_twice q low (c ∷ cs) rises h = elim (same_name_tells q c.1) [
       | inr other ↦ let more = at_least q (c.0 + 1) cs byte rises.2 (rw other.0 at e) in omega (arith, more, rises.0)
     ]
 
--- a header's stored bytes are the front of some prefix of the length that it tells
-pad : ℕ → List ℕ
-pad zero = []
-pad (suc n) = 0 ∷ pad n
-
-length-pad : (n : ℕ) → length (pad n) ≡ n
-unfolding pad
-length-pad zero = refl
-length-pad (suc n) = ap suc (length-pad n)
-
 module _ {K V : Type 0} where
   pub copies-named : (n : Name) (cs : List (Name × Cell K V)) → copies n cs ≡ meets n (cell_names cs)
   copies-named n [] = refl
@@ -150,31 +131,23 @@ module _ {K V : Type 0} where
   make : List (ℕ × Name) → ℕ → ℕ → List ℕ → Cell K V
   make children num len stored = branches (record { header = record { num_children = num; prefix_len = len; stored = stored }; children = children })
 
+  -- a header's stored bytes are the front of some prefix of the length that it tells
   has_prefix : (P room : ℕ) (node : InnerNode) → IsInnerNode P room node → (prefix : List ℕ) × ◌≡◌ {A = Cell K V} (branches node) (node_of P prefix node.children)
-  unfolding make pad
+  unfolding make
   has_prefix P room node is =
+      let stored = node.header.stored in
+      let len = node.header.prefix_len in
       let stores = is.header.stores in
-      let counts = is.counts in
-      let many = length-pad (node.header.prefix_len - length node.header.stored) in
-      let lens : node.header.prefix_len ≡ length (node.header.stored ++ pad (node.header.prefix_len - length node.header.stored)) =
-      omega (arith, stores, many, length-append node.header.stored (pad (node.header.prefix_len - length node.header.stored))) in (
-        node.header.stored ++ pad (node.header.prefix_len - length node.header.stored),
-        ap₂ (λ num len. make node.children num len node.header.stored) counts lens
-            ∙ ap (make node.children (length node.children) (length (node.header.stored ++ pad (node.header.prefix_len - length node.header.stored)))) (front node.header.stored node.header.prefix_len stores),
-      )
+      let prefix : List ℕ = stored ++ replicate (len - length stored) 0 in
+      let lens : len ≡ length prefix = omega (arith, stores, length-replicate {A = ℕ} (len - length stored) 0, length-append stored (replicate (len - length stored) 0)) in
+      (prefix, ap₂ (λ num l. make node.children num l stored) is.counts lens ∙ ap (make node.children (length node.children) (length prefix)) (front stored len stores))
     where
-      all : (xs : List ℕ) (n : ℕ) → length xs ≤ n → xs ≡ take n (xs ++ [])
-      all [] zero h = refl
-      all [] (suc n) h = refl
-      all (x ∷ xs) zero h = absurd (omega (arith, h))
-      all (x ∷ xs) (suc n) h = ap (λ ys. x ∷ ys) (all xs n (omega (arith, h)))
-
-      front : (stored : List ℕ) (len : ℕ) → length stored ≡ min len P → stored ≡ take P (stored ++ pad (len - length stored))
+      front : (stored : List ℕ) (len : ℕ) → length stored ≡ min len P → stored ≡ take P (stored ++ replicate (len - length stored) 0)
       front stored len e = elim (leb_tells len P) [
         | inl short ↦
             let none : len - length stored ≡ 0 = omega (arith, e, short.1) in
-            all stored P (omega (arith, e)) ∙ ap (λ n. take P (stored ++ pad n)) (sym none)
-        | inr long ↦ sym (take_at stored (pad (len - length stored)) P (omega (arith, e, long.1)))
+            sym (take_all P stored (omega (arith, e))) ∙ ap (take P) (sym (append-nil stored)) ∙ ap (λ n. take P (stored ++ replicate n 0)) (sym none)
+        | inr long ↦ sym (take_at stored (replicate (len - length stored) 0) P (omega (arith, e, long.1)))
       ]
 
   module _ (at : Name → Option (Cell K V)) where
@@ -339,18 +312,10 @@ module _ {K V : Type 0} where
               ]
 
           held_more : IsSome (at q) → AllByRecursion (λ n. IsSome (at n)) (met ++ q ∷ [])
-          held_more there = all_more met walk.held
-            where
-              all_more : (xs : List Name) → AllByRecursion (λ n. IsSome (at n)) xs → AllByRecursion (λ n. IsSome (at n)) (xs ++ q ∷ [])
-              all_more [] h = (there, tt)
-              all_more (x ∷ xs) h = (h.0, all_more xs h.1)
+          held_more there = all_append (λ n. IsSome (at n)) met (q ∷ []) walk.held (there, tt)
 
           rises_more : IsAscending (children q) → AreAscending (met ++ q ∷ [])
-          rises_more there = all_more met walk.rises
-            where
-              all_more : (xs : List Name) → AreAscending xs → AreAscending (xs ++ q ∷ [])
-              all_more [] h = (there, tt)
-              all_more (x ∷ xs) h = (h.0, all_more xs h.1)
+          rises_more there = all_append (λ n. IsAscending (children n)) met (q ∷ []) walk.rises (there, tt)
 
           -- whatever waits beside those that waited stands under some byte of this name
           led_more : (cs : List Name) → ((n : Name) → meets n cs ≡ meets n (names_of (children q))) → IsAscending (children q) → (n : Name) → 1 ≤ meets n (met ++ q ∷ []) + meets n (rest ++ cs) → IsLedTo n
@@ -382,23 +347,16 @@ module _ {K V : Type 0} where
               let childless : children q ≡ [] = ap children_there there in
               let rising : IsAscending (children q) = subst IsAscending (sym childless) tt in
               let none : (n : Name) → meets n [] ≡ meets n (names_of (children q)) = λ n. sym (ap (λ cs. meets n (names_of cs)) childless) in
-              let plain : rest ++ [] ≡ rest = nothing rest in
+              let plain : rest ++ [] ≡ rest = append-nil rest in
               record {
                 complete = subst (λ x. Completes P at root (met ++ x ∷ []) (reverse rest)) (sym named_so)
                     (completes-leaf P at root met (reverse rest) q.slot k v (ap at (sym named_so) ∙ there) (subst (λ x. Completes P at root met (x ∷ reverse rest)) named_so complete_here));
                 once = once_more;
                 rises = rises_more rising;
-                held = held_more (there_some there);
+                held = held_more (rw there refl);
                 led = λ n h. led_more [] none rising n (subst (λ r. 1 ≤ meets n (met ++ q ∷ []) + meets n r) (sym plain) h);
                 counted = λ n. subst (λ r. meets n (met ++ q ∷ []) + meets n r ≡ cond (same_name n root) 1 0 + edges n (met ++ q ∷ [])) plain (counted_more [] none n);
               }
-            where
-              nothing : (xs : List Name) → xs ++ [] ≡ xs
-              nothing [] = refl
-              nothing (x ∷ xs) = ap (λ ys. x ∷ ys) (nothing xs)
-
-              there_some : at q ≡ Some (pair k v) → IsSome (at q)
-              there_some e = rw e refl
 
           pub walk-inner : (new_waiting : List Name) → IsOpened at q P rest new_waiting → IsNameWalk (met ++ q ∷ []) new_waiting
           walk-inner new_waiting opened =

@@ -1,19 +1,15 @@
 -- What is left of a run whose leaves are taken out of their arena, from either end.
-use Rattle.std.proofs.Common.{◌≡◌, ◌≢◌, ℕ, ◌+◌, ◌-◌, ◌<◌, ◌≤◌, cond, List, [], ◌∷◌, ◌++◌, length, Option, Some, None, IsSome, refl, sym, ap, ap₂, subst, ◌∙◌, inl, inr, arith, length-append}
+use Rattle.std.proofs.Common.{◌≡◌, ◌≢◌, ℕ, ◌+◌, ◌-◌, ◌<◌, ◌≤◌, cond, List, [], ◌∷◌, ◌++◌, length, Option, Some, None, IsSome, refl, sym, ap, ap₂, subst, ◌∙◌, inl, inr, arith}
 use Rattle.std.proofs.lemmas.Bool.Decides.{eqb_tells}
-use Rattle.std.proofs.lemmas.List.{length-map, map-append}
+use Rattle.std.proofs.lemmas.List.{length-map}
+use Rattle.art_nodes.proofs.Common.{Name}
 use Rattle.art_nodes.specs.declared.leaf.LeafNode.{LeafNode}
-use Rattle.art_nodes.specs.Name.{Name}
-use Rattle.art_arena.specs.arena.Arena.{Arena, leaf_held, held_at, node_at, links_at, links_of, cell_of}
-use Rattle.art_arena.specs.arena.Cells.{Cell, UpdatesAt, pair, leaf_name}
-use Rattle.art_arena.specs.arena.Linked.{AreLinked, first_slot, last_slot, times}
-use Rattle.art_arena.specs.arena.Shapes.{LeafAt, pairs_of}
-use Rattle.art_arena.proofs.shapes.LinkedLists.{AreLinked-frame, AreLinked-left, AreLinked-right, ends_with-first, eqb-self, times-append}
-use Rattle.art_arena.proofs.shapes.Subtrees.{cell_held}
-use Rattle.art_arena.proofs.tree.Order.{all_left, all_right}
-use Rattle.art_walks.specs.Runs.{Ends, HasEnds}
-use Rattle.art_walks.specs.Walked.{AreStored, IsCounted, IsRest, pairs_along, start_of}
+use Rattle.art_arena.proofs.Common.{Arena, leaf_held, held_at, node_at, links_at, links_of, cell_of, Cell, UpdatesAt, pair, leaf_name, AreLinked, first_slot, last_slot, times, LeafAt, Links, pairs_of, AreLinked-frame, AreLinked-left, AreLinked-right, ends_with-first, eqb-self, times-append, cell_held}
+use Rattle.art_arena.specs.declared.ends.End.{End}
+use Rattle.art_arena.specs.declared.ends.End.TheVariants.{First, Last}
+use Rattle.art_walks.proofs.Terms.{Ends, HasEnds, AreStored, IsCounted, IsRest, pairs_along, start_of}
 use Rattle.art_walks.proofs.Counted.{linked-pairs, walk-linked}
+use Rattle.art_walks.proofs.RunLengths.{longer, pairs-end, put_at, stored-end}
 use Rattle.art_walks.proofs.RunSteps.{ends_there, next_of, once_in, previous_of, some-last}
 
 module _ {K V : Type 0} where
@@ -40,15 +36,15 @@ module _ {K V : Type 0} where
   rest-length arena ends len rest = ap length (rest-pairs arena ends len rest) ∙ length-map rest.leaves (λ (l : LeafAt K V). (l.key, l.value)) ∙ sym rest.len_is
 
   -- a leaf was given up with its pair, and one fewer are left
-  pub record Gave (old new : Arena K V) (was now : Ends) (len : ℕ) (p : K × V) (order : K × V → List (K × V) → List (K × V)) : Type 0 where
+  pub record Gave (end : End) (old new : Arena K V) (was now : Ends) (len : ℕ) (p : K × V) : Type 0 where
     pub some : 1 ≤ len
     pub rest : IsRest new now (len - 1)
-    pub parts : pairs_along len old (start_of was) ≡ order p (pairs_along (len - 1) new (start_of now))
+    pub parts : pairs_along len old (start_of was) ≡ put_at end p (pairs_along (len - 1) new (start_of now))
 
   -- so fewer are left than were
-  pub fewer : (old new : Arena K V) (was now : Ends) (len : ℕ) (p : K × V) (order : K × V → List (K × V) → List (K × V)) → IsRest old was len → Gave old new was now len p order
+  pub fewer : (end : End) (old new : Arena K V) (was now : Ends) (len : ℕ) (p : K × V) → IsRest old was len → Gave end old new was now len p
       → length (pairs_along (len - 1) new (start_of now)) < length (pairs_along len old (start_of was))
-  fewer old new was now len p order rest gave = omega (arith, rest-length old was len rest, rest-length new now (len - 1) gave.rest, gave.some)
+  fewer end old new was now len p rest gave = omega (arith, rest-length old was len rest, rest-length new now (len - 1) gave.rest, gave.some)
 
   -- what a leaf holds is what is read of it
   same-pair : (arena : Arena K V) (l : LeafAt K V) (slot : ℕ) (leaf : LeafNode K V) → l.slot ≡ slot → node_at arena (leaf_name l.slot) ≡ Some (pair l.key l.value) → held_at arena (leaf_name slot) ≡ Some (leaf_held leaf)
@@ -83,16 +79,51 @@ module _ {K V : Type 0} where
   here-once : (slot : ℕ) (l : LeafAt K V) → l.slot ≡ slot → times slot (l ∷ []) ≡ 1
   here-once slot l is = rw is (ap {B = ℕ} (λ b. cond b 1 0 + 0) (eqb-self slot))
 
-  module _ (old : Arena K V) (ends : Ends) (a b len : ℕ) (is_run : ends ≡ Some (a, b)) (left_of : IsRest old ends len) where
-    rest : IsRest old (Some (a, b)) len
-    rest = subst (λ e. IsRest old e len) is_run left_of
+  -- the leaves beside the one at an end
+  times-end : (end : End) (n : ℕ) (l : LeafAt K V) (ls : List (LeafAt K V)) → times n (put_at end l ls) ≡ times n (l ∷ []) + times n ls
+  times-end First n l ls = omega arith
+  times-end Last n l ls = omega (arith, times-append n ls (l ∷ []))
+
+  linked-end : (links : ℕ → Option Links) (end : End) (l : LeafAt K V) (ls : List (LeafAt K V)) (before after : Option ℕ) → AreLinked links before (put_at end l ls) after
+      → (front : Option ℕ) × (back : Option ℕ) × AreLinked links front ls back
+  linked-end links First l ls before after linked = (Some l.slot, after, linked.1)
+  linked-end links Last l ls before after linked = (before, Some l.slot, AreLinked-left links before ls (l ∷ []) after linked)
+
+  -- the leaf at an end was taken out
+  gave : (end : End) (old new : Arena K V) (ends now : Ends) (len slot : ℕ) (leaf : LeafNode K V) → held_at old (leaf_name slot) ≡ Some (leaf_held leaf) → UpdatesAt (held_at old) (held_at new) (leaf_name slot) None
+      → (rest : IsRest old ends len) (l : LeafAt K V) (ls : List (LeafAt K V)) → rest.leaves ≡ put_at end l ls → l.slot ≡ slot → (times slot ls ≡ 0 → HasEnds ls now) → Gave end old new ends now len (leaf.key, leaf.value)
+  gave end old new ends now len slot leaf there gone rest l ls are is ends_now =
+      let once : (n : ℕ) → times n (put_at end l ls) ≤ 1 = subst (λ xs. (n : ℕ) → times n xs ≤ 1) are rest.once in
+      let stored = stored-end old end l ls (subst (AreStored old) are rest.stored) in
+      let beside = linked-end (links_at old) end l ls rest.before rest.after (subst (λ xs. AreLinked (links_at old) rest.before xs rest.after) are rest.linked) in
+      let len_is : len ≡ length (put_at end l ls) = rest.len_is ∙ ap length are in
+      let absent : times slot ls ≡ 0 = let o = once slot in omega (arith, o, times-end end slot l ls, here-once slot l is) in
+      let left : IsRest new now (len - 1) = record {
+        leaves = ls;
+        before = beside.0;
+        after = beside.1;
+        linked = linked-without old new slot gone beside.0 ls beside.1 absent beside.2;
+        once = λ n. let o = once n in omega (arith, o, times-end end n l ls);
+        ends_are = ends_now absent;
+        stored = stored-without old new slot gone ls absent stored.1;
+        len_is = omega (arith, len_is, longer end l ls);
+      } in
+      record {
+        some = omega (arith, len_is, longer end l ls);
+        rest = left;
+        parts = rest-pairs old ends len rest ∙ ap pairs_of are ∙ pairs-end old end l ls
+            ∙ ap₂ (λ p ps. put_at end p ps) (same-pair old l slot leaf is stored.0 there) (sym (rest-pairs new now (len - 1) left));
+      }
+
+  module _ (old : Arena K V) (ends : Ends) (a b len : ℕ) (is_run : ends ≡ Some (a, b)) (rest : IsRest old ends len) where
+    has_ends : HasEnds rest.leaves (Some (a, b))
+    has_ends = subst (HasEnds rest.leaves) is_run rest.ends_are
 
     -- the last is held
     pub back-held : IsSome (held_at old (leaf_name b))
     back-held =
-        let e = ends_with-first rest.leaves b rest.ends_are.1 in
-        let Q = λ (l : LeafAt K V). node_at old (leaf_name l.slot) ≡ Some (pair l.key l.value) in
-        let stored = (all_right Q e.0 (e.1 ∷ []) (subst (AreStored old) e.2 rest.stored)).0 in
+        let e = ends_with-first rest.leaves b has_ends.1 in
+        let stored = (stored-end old Last e.1 e.0 (subst (AreStored old) e.2 rest.stored)).0 in
         cell_held (held_at old (leaf_name b)) _ (ap (λ n. node_at old (leaf_name n)) (sym e.3) ∙ stored)
 
     module _ (new : Arena K V) (now : Ends) (leaf : LeafNode K V) where
@@ -109,75 +140,34 @@ module _ {K V : Type 0} where
             let next = next_of (held_at old (leaf_name a)) leaf _ (ap (links_at old) (sym is) ∙ linked.0) there in
             subst (HasEnds (m ∷ ms)) (sym (more apart m.slot next)) (refl, ends.1)
 
-        pub gave-front : Gave old new ends now len (leaf.key, leaf.value) (λ p ps. p ∷ ps)
-        gave-front =
-            subst (λ e. Gave old new e now len (leaf.key, leaf.value) (λ p ps. p ∷ ps)) (sym is_run) (go rest.leaves rest.before rest.after rest.linked rest.once rest.ends_are rest.stored rest.len_is)
+        pub gave-front : Gave First old new ends now len (leaf.key, leaf.value)
+        gave-front = go rest.leaves refl
           where
-            go : (ls : List (LeafAt K V)) (before after : Option ℕ) → AreLinked (links_at old) before ls after → ((n : ℕ) → times n ls ≤ 1) → HasEnds ls (Some (a, b)) → AreStored old ls → len ≡ length ls
-                → Gave old new (Some (a, b)) now len (leaf.key, leaf.value) (λ p ps. p ∷ ps)
-            go [] before after linked once ends stored len_is = let e = ends.0 in absurd (cc)
-            go (l ∷ ls) before after linked once ends stored len_is =
-                let is : l.slot ≡ a = let e = ends.0 in cc in
-                let absent : times a ls ≡ 0 = let o = once a in omega (arith, o, here-once a l is) in
-                let left : IsRest new now (len - 1) = record {
-                  leaves = ls;
-                  before = Some l.slot;
-                  after = after;
-                  linked = linked-without old new a gone (Some l.slot) ls after absent linked.1;
-                  once = λ n. let o = once n in omega (arith, o);
-                  ends_are = front-ends l ls before after is absent ends linked;
-                  stored = stored-without old new a gone ls absent stored.1;
-                  len_is = omega (arith, len_is);
-                } in
-                record {
-                  some = omega (arith, len_is);
-                  rest = left;
-                  parts = ap (λ n. pairs_along n old (start_of (Some (a, b)))) len_is ∙ linked-pairs old (Some (a, b)) before (l ∷ ls) after linked stored ends
-                      ∙ ap₂ (λ p ps. p ∷ ps) (same-pair old l a leaf is stored.0 there) (sym (rest-pairs new now (len - 1) left));
-                }
+            go : (ls : List (LeafAt K V)) → rest.leaves ≡ ls → Gave First old new ends now len (leaf.key, leaf.value)
+            go [] are = let e = (subst (λ xs. HasEnds xs (Some (a, b))) are has_ends).0 in absurd (cc)
+            go (l ∷ ls) are =
+                let ends_are = subst (λ xs. HasEnds xs (Some (a, b))) are has_ends in
+                let is : l.slot ≡ a = let e = ends_are.0 in cc in
+                gave First old new ends now len a leaf there gone rest l ls are is
+                (λ absent. front-ends l ls rest.before rest.after is absent ends_are (subst (λ xs. AreLinked (links_at old) rest.before xs rest.after) are rest.linked))
 
       -- the last was taken out
       module _ (there : held_at old (leaf_name b) ≡ Some (leaf_held leaf)) (gone : UpdatesAt (held_at old) (held_at new) (leaf_name b) None) (alone : a ≡ b → now ≡ None)
           (more : a ≢ b → (n : ℕ) → leaf.previous ≡ Some n → now ≡ Some (a, n)) where
-        back-ends : (zs : List (LeafAt K V)) (z : LeafAt K V) (before after : Option ℕ) → z.slot ≡ b → times b zs ≡ 0 → HasEnds (zs ++ z ∷ []) (Some (a, b)) → links_at old b ≡ Some (record { previous = last_slot before zs; next = after })
-            → HasEnds zs now
-        back-ends [] z before after is absent ends links =
+        back-ends : (zs : List (LeafAt K V)) (z : LeafAt K V) → z.slot ≡ b → times b zs ≡ 0 → HasEnds (zs ++ z ∷ []) (Some (a, b)) → AreLinked (links_at old) rest.before (zs ++ z ∷ []) rest.after → HasEnds zs now
+        back-ends [] z is absent ends linked =
             let same : a ≡ b = let e = ends.0 in cc in
             subst (HasEnds []) (sym (alone same)) refl
-        back-ends (y ∷ ys) z before after is absent ends links =
+        back-ends (y ∷ ys) z is absent ends linked =
+            let links = ap (links_at old) (sym is) ∙ (AreLinked-right (links_at old) rest.before (y ∷ ys) (z ∷ []) rest.after linked).0 in
             let first : y.slot ≡ a = let e = ends.0 in cc in
             let apart : a ≢ b = λ e. omega (arith, absent, here-once b y (first ∙ e)) in
             let last = some-last y.slot ys in
             let previous : leaf.previous ≡ Some last.0 = previous_of (held_at old (leaf_name b)) leaf _ links there ∙ last.1 in
             subst (HasEnds (y ∷ ys)) (sym (more apart last.0 previous)) (ends.0, last.1)
 
-        pub gave-back : Gave old new ends now len (leaf.key, leaf.value) (λ p ps. ps ++ p ∷ [])
+        pub gave-back : Gave Last old new ends now len (leaf.key, leaf.value)
         gave-back =
-            let e = ends_with-first rest.leaves b rest.ends_are.1 in
-            subst (λ e. Gave old new e now len (leaf.key, leaf.value) (λ p ps. ps ++ p ∷ [])) (sym is_run)
-            (go e.0 e.1 e.3 (subst (λ ls. AreLinked (links_at old) rest.before ls rest.after) e.2 rest.linked) (subst (λ ls. (n : ℕ) → times n ls ≤ 1) e.2 rest.once)
-            (subst (λ ls. HasEnds ls (Some (a, b))) e.2 rest.ends_are) (subst (AreStored old) e.2 rest.stored) (rest.len_is ∙ ap length e.2))
-          where
-            go : (zs : List (LeafAt K V)) (z : LeafAt K V) → z.slot ≡ b → AreLinked (links_at old) rest.before (zs ++ z ∷ []) rest.after → ((n : ℕ) → times n (zs ++ z ∷ []) ≤ 1) → HasEnds (zs ++ z ∷ []) (Some (a, b))
-                → AreStored old (zs ++ z ∷ []) → len ≡ length (zs ++ z ∷ []) → Gave old new (Some (a, b)) now len (leaf.key, leaf.value) (λ p ps. ps ++ p ∷ [])
-            go zs z is linked once ends stored len_is =
-                let Q = λ (l : LeafAt K V). node_at old (leaf_name l.slot) ≡ Some (pair l.key l.value) in
-                let absent : times b zs ≡ 0 = let o = once b in omega (arith, o, times-append b zs (z ∷ []), here-once b z is) in
-                let right = AreLinked-right (links_at old) rest.before zs (z ∷ []) rest.after linked in
-                let left : IsRest new now (len - 1) = record {
-                  leaves = zs;
-                  before = rest.before;
-                  after = Some z.slot;
-                  linked = linked-without old new b gone rest.before zs (Some z.slot) absent (AreLinked-left (links_at old) rest.before zs (z ∷ []) rest.after linked);
-                  once = λ n. let o = once n in omega (arith, o, times-append n zs (z ∷ []));
-                  ends_are = back-ends zs z rest.before rest.after is absent ends (ap (links_at old) (sym is) ∙ right.0);
-                  stored = stored-without old new b gone zs absent (all_left Q zs (z ∷ []) stored);
-                  len_is = omega (arith, len_is, length-append zs (z ∷ []));
-                } in
-                record {
-                  some = omega (arith, len_is, length-append zs (z ∷ []));
-                  rest = left;
-                  parts = ap (λ n. pairs_along n old (start_of (Some (a, b)))) len_is ∙ linked-pairs old (Some (a, b)) rest.before (zs ++ z ∷ []) rest.after linked stored ends
-                      ∙ map-append (λ (l : LeafAt K V). (l.key, l.value)) zs (z ∷ [])
-                      ∙ ap₂ (λ p ps. ps ++ p ∷ []) (same-pair old z b leaf is (all_right Q zs (z ∷ []) stored).0 there) (sym (rest-pairs new now (len - 1) left));
-                }
+            let e = ends_with-first rest.leaves b has_ends.1 in
+            gave Last old new ends now len b leaf there gone rest e.1 e.0 e.2 e.3
+            (λ absent. back-ends e.0 e.1 e.3 absent (subst (λ xs. HasEnds xs (Some (a, b))) e.2 has_ends) (subst (λ xs. AreLinked (links_at old) rest.before xs rest.after) e.2 rest.linked))

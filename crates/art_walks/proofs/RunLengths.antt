@@ -1,19 +1,31 @@
--- How many leaves a run has, told by its ends, and how many are left behind a step at either end.
-use Rattle.std.proofs.Common.{◌≡◌, ℕ, zero, suc, ◌+◌, ◌-◌, ◌<◌, ◌≤◌, cond, eqb, true, false, List, [], ◌∷◌, ◌++◌, length, Option, Some, None, refl, sym, ap, subst, ◌∙◌, inl, inr, arith}
+-- How many leaves a run has, told by its ends, and what is left behind a step at either end.
+use Rattle.std.proofs.Common.{◌≡◌, ℕ, zero, suc, ◌+◌, ◌<◌, ◌≤◌, cond, eqb, true, false, List, [], ◌∷◌, ◌++◌, length, Option, Some, None, IsSome, refl, sym, ap, ap₂, subst, ◌∙◌, inl, inr, arith, length-append}
 use Rattle.std.proofs.lemmas.Bool.Decides.{eqb_tells}
+use Rattle.std.proofs.lemmas.List.{map-append}
+use Rattle.art_nodes.proofs.Common.{Name}
 use Rattle.art_nodes.specs.declared.kind.NodeType.TheVariants.{Leaf}
 use Rattle.art_nodes.specs.declared.leaf.LeafNode.{LeafNode}
-use Rattle.art_nodes.specs.Name.{Name}
-use Rattle.art_arena.specs.arena.Arena.{Arena, leaf_held, held_at, node_at, links_at, slots_of}
-use Rattle.art_arena.specs.arena.Cells.{AreHeld, Cell, leaf_name, pair}
-use Rattle.art_arena.specs.arena.Linked.{AreLinked, last_slot, times}
-use Rattle.art_arena.specs.arena.Shapes.{LeafAt, pairs_of}
-use Rattle.art_arena.proofs.shapes.LinkedLists.{AreLinked-right, eqb-self}
-use Rattle.art_arena.proofs.shapes.Measures.{occurrences, few, slots_as, slots_in, slots_within}
-use Rattle.art_walks.specs.Runs.{Ends, IsWalk}
-use Rattle.art_walks.specs.Walked.{AreStored, IsCounted, ends_behind, leaves_left, pairs_along, run_length, start_of}
-use Rattle.art_walks.proofs.Counted.{EndsWalk, Took, counted-pairs, fewer-left, none-ends, pair-read}
+use Rattle.art_arena.proofs.Common.{Arena, leaf_held, held_at, node_at, links_at, slots_of, AreHeld, Cell, leaf_name, pair, AreLinked, last_slot, times, LeafAt, pairs_of, AreLinked-right, eqb-self, occurrences, few, slots_as, slots_in, slots_within, all_left, all_right, cell_held, holds_pair}
+use Rattle.art_arena.specs.declared.ends.End.{End}
+use Rattle.art_arena.specs.declared.ends.End.TheVariants.{First, Last}
+use Rattle.art_walks.proofs.Terms.{Ends, IsWalk, AreStored, IsCounted, ends_behind, leaves_left, pairs_along, pairs_left, run_length, start_of}
+use Rattle.art_walks.proofs.Counted.{EndsWalk, counted-pairs, no-ends}
 use Rattle.art_walks.proofs.RunSteps.{ends_there, once_in}
+
+-- an item put to others at an end
+abbrev pub put_at : {X : Type 0} → End → X → List X → List X
+put_at First x xs = x ∷ xs
+put_at Last x xs = xs ++ x ∷ []
+
+-- a list with an item has one at each end
+at-end : {X : Type 0} (end : End) (x : X) (xs : List X) → (y : X) × (ys : List X) × (x ∷ xs ≡ put_at end y ys)
+at-end First x xs = (x, xs, refl)
+at-end Last x [] = (x, [], refl)
+at-end Last x (y ∷ ys) = let e = at-end Last y ys in (e.0, x ∷ e.1, ap (λ zs. x ∷ zs) e.2)
+
+pub longer : {X : Type 0} (end : End) (x : X) (xs : List X) → length (put_at end x xs) ≡ length xs + 1
+longer First x xs = omega arith
+longer Last x xs = length-append xs (x ∷ [])
 
 module _ {K V : Type 0} where
   -- the leaves as cells
@@ -80,31 +92,78 @@ module _ {K V : Type 0} (arena : Arena K V) where
   pub recounted : (ends : Ends) (n : ℕ) → IsCounted arena ends n → IsCounted arena ends (leaves_left arena ends)
   recounted ends n run = subst (IsCounted arena ends) (sym (measured ends n run)) run
 
-  pub run-pairs : (ends : Ends) (n : ℕ) (run : IsCounted arena ends n) → pairs_along (leaves_left arena ends) arena (start_of ends) ≡ pairs_of run.leaves
+  pub run-pairs : (ends : Ends) (n : ℕ) (run : IsCounted arena ends n) → pairs_left arena ends ≡ pairs_of run.leaves
   run-pairs ends n run = ap (λ m. pairs_along m arena (start_of ends)) (measured ends n run) ∙ counted-pairs arena ends n run
 
-  -- behind a step
-  module _ (old new : Ends) (slot : ℕ) (order : K × V → List (K × V) → List (K × V)) (took : Took arena old new (leaves_left arena old) slot order) where
-    left_is : leaves_left arena new ≡ leaves_left arena old - 1
-    left_is = measured new (leaves_left arena old - 1) took.rest
+  -- the leaf at an end stands in the arena, beside the others
+  pub stored-end : (end : End) (l : LeafAt K V) (ys : List (LeafAt K V)) → AreStored arena (put_at end l ys) → (node_at arena (leaf_name l.slot) ≡ Some (pair l.key l.value)) × AreStored arena ys
+  stored-end First l ys stored = stored
+  stored-end Last l ys stored =
+      let Q = λ (l : LeafAt K V). node_at arena (leaf_name l.slot) ≡ Some (pair l.key l.value) in ((all_right Q ys (l ∷ []) stored).0, all_left Q ys (l ∷ []) stored)
 
-    pub run-kept : IsCounted arena new (leaves_left arena new)
-    run-kept = recounted new (leaves_left arena old - 1) took.rest
+  pub pairs-end : (end : End) (l : LeafAt K V) (ys : List (LeafAt K V)) → pairs_of (put_at end l ys) ≡ put_at end (l.key, l.value) (pairs_of ys)
+  pairs-end First l ys = refl
+  pairs-end Last l ys = map-append (λ (l : LeafAt K V). (l.key, l.value)) ys (l ∷ [])
 
-    pub run-fewer : IsCounted arena old (leaves_left arena old) → length (pairs_along (leaves_left arena new) arena (start_of new)) < length (pairs_along (leaves_left arena old) arena (start_of old))
-    run-fewer run = subst (λ n. length (pairs_along n arena (start_of new)) < length (pairs_along (leaves_left arena old) arena (start_of old))) (sym left_is) (fewer-left arena old new (leaves_left arena old) slot order took run)
+  -- what holds behind a step that took a leaf at an end
+  pub record Stepped (end : End) (old new : Ends) (slot : ℕ) : Type 0 where
+    pub held : IsSome (held_at arena (leaf_name slot))
+    pub kept : IsCounted arena new (leaves_left arena new)
+    pub fewer : length (pairs_left arena new) < length (pairs_left arena old)
+    pub read : (k : K) (v : V) → ((l : LeafNode K V) → held_at arena (leaf_name slot) ≡ Some (leaf_held l) → k ≡ l.key) → ((l : LeafNode K V) → held_at arena (leaf_name slot) ≡ Some (leaf_held l) → v ≡ l.value)
+        → pairs_left arena old ≡ put_at end (k, v) (pairs_left arena new)
 
-    pub run-read : (k : K) (v : V) → ((l : LeafNode K V) → held_at arena (leaf_name slot) ≡ Some (leaf_held l) → k ≡ l.key) → ((l : LeafNode K V) → held_at arena (leaf_name slot) ≡ Some (leaf_held l) → v ≡ l.value)
-        → pairs_along (leaves_left arena old) arena (start_of old) ≡ order (k, v) (pairs_along (leaves_left arena new) arena (start_of new))
-    run-read k v key value = pair-read arena old new (leaves_left arena old) slot order took k v key value ∙ ap (λ n. order (k, v) (pairs_along n arena (start_of new))) (sym left_is)
+  -- and behind one where none was left
+  pub record Ended (old new : Ends) : Type 0 where
+    pub kept : IsCounted arena new (leaves_left arena new)
+    pub was : pairs_left arena old ≡ []
+    pub empty : pairs_left arena new ≡ []
 
-  -- behind the last one
-  module _ (old new : Ends) (run : IsCounted arena old (leaves_left arena old)) (none : leaves_left arena old ≡ 0) (end : EndsWalk arena old new None) where
-    was : old ≡ None
-    was = none-ends arena old new (leaves_left arena old) run none
+  module _ (end : End) (old new : Ends) (run : IsCounted arena old (leaves_left arena old)) where
+    -- what a step answers at that end
+    abbrev AnswersAt : Option ℕ → Type 0
+    AnswersAt result = (l : LeafAt K V) (ys : List (LeafAt K V)) → IsWalk (links_at arena) old (put_at end l ys) → (result ≡ Some l.slot) × IsWalk (links_at arena) new ys
 
-    pub end-kept : IsCounted arena new (leaves_left arena new)
-    end-kept = subst (λ e. IsCounted arena e (leaves_left arena e)) (was ∙ sym (end was).1) run
+    pub stepped : (slot : ℕ) → AnswersAt (Some slot) → EndsWalk arena old new (Some slot) → Stepped end old new slot
+    stepped slot answer end_is = go run.leaves run.walk run.stored run.len_is
+      where
+        taken : (l : LeafAt K V) (ys : List (LeafAt K V)) → IsWalk (links_at arena) old (put_at end l ys) → AreStored arena (put_at end l ys) → leaves_left arena old ≡ length (put_at end l ys) → Stepped end old new slot
+        taken l ys walk stored len_is =
+            let step = answer l ys walk in
+            let same : l.slot ≡ slot = let e = step.0 in cc in
+            let all = stored-end end l ys stored in
+            let here : node_at arena (leaf_name slot) ≡ Some (pair l.key l.value) = subst (λ n. node_at arena (leaf_name n) ≡ Some (pair l.key l.value)) same all.0 in
+            let rest : IsCounted arena new (length ys) = record { leaves = ys; walk = step.1; stored = all.1; len_is = refl } in
+            let parts : pairs_left arena old ≡ put_at end (l.key, l.value) (pairs_left arena new) =
+            run-pairs old (leaves_left arena old) (record { leaves = put_at end l ys; walk = walk; stored = stored; len_is = len_is }) ∙ pairs-end end l ys
+            ∙ ap (put_at end (l.key, l.value)) (sym (run-pairs new (length ys) rest)) in
+            let holds = holds_pair (held_at arena (leaf_name slot)) l.key l.value here in
+            record {
+              held = cell_held (held_at arena (leaf_name slot)) _ here;
+              kept = recounted new (length ys) rest;
+              fewer = omega (arith, ap length parts, longer end (l.key, l.value) (pairs_left arena new));
+              read = λ k v key value. parts ∙ ap₂ (λ a b. put_at end (a, b) (pairs_left arena new)) (sym (key holds.leaf holds.is ∙ holds.key)) (sym (value holds.leaf holds.is ∙ holds.value));
+            }
 
-    pub end-empty : pairs_along (leaves_left arena new) arena (start_of new) ≡ []
-    end-empty = subst (λ e. pairs_along (leaves_left arena e) arena (start_of e) ≡ []) (sym (end was).1) (ap (λ n. pairs_along n arena None) (none-long (slots_of arena)))
+        go : (ls : List (LeafAt K V)) → IsWalk (links_at arena) old ls → AreStored arena ls → leaves_left arena old ≡ length ls → Stepped end old new slot
+        go [] walk stored len_is = let none = (end_is (no-ends arena old walk.ends_are)).0 in absurd (cc)
+        go (l ∷ ls) walk stored len_is =
+            let e = at-end end l ls in
+            taken e.0 e.1 (subst (IsWalk (links_at arena) old) e.2 walk) (subst (AreStored arena) e.2 stored) (len_is ∙ ap length e.2)
+
+    pub ended : AnswersAt None → EndsWalk arena old new None → Ended old new
+    ended answer end_is = go run.leaves run.walk
+      where
+        nothing : pairs_left arena None ≡ []
+        nothing = ap (λ n. pairs_along n arena None) (none-long (slots_of arena))
+
+        go : (ls : List (LeafAt K V)) → IsWalk (links_at arena) old ls → Ended old new
+        go [] walk =
+            let is = no-ends arena old walk.ends_are in
+            let now = (end_is is).1 in
+            record {
+              kept = subst (λ e. IsCounted arena e (leaves_left arena e)) (is ∙ sym now) run;
+              was = ap (pairs_left arena) is ∙ nothing;
+              empty = ap (pairs_left arena) now ∙ nothing;
+            }
+        go (l ∷ ls) walk = let e = at-end end l ls in let f = (answer e.0 e.1 (subst (IsWalk (links_at arena) old) e.2 walk)).0 in absurd (cc)

@@ -4,12 +4,8 @@ use Rattle.std.proofs.lemmas.Bool.Decides.{eqb_tells}
 use Rattle.std.proofs.Math.Bool.{Bool-set}
 use Rattle.std.proofs.Math.Logic.{∥∥₁_elim}
 use Rattle.art_nodes.specs.declared.leaf.LeafNode.{LeafNode}
-use Rattle.art_arena.specs.arena.Arena.{Arena, Held, leaf_held, links_of, links_at, held_at}
-use Rattle.art_arena.specs.arena.Cells.{leaf_name}
-use Rattle.art_arena.specs.arena.Shapes.{LeafAt}
-use Rattle.art_arena.specs.arena.Linked.{Links, first_slot, last_slot, times, IsList}
-use Rattle.art_arena.proofs.shapes.LinkedLists.{eqb-self, times-append, times-here, ends_with-first, last_slot-append, link_there}
-use Rattle.art_walks.specs.Runs.{IsWalk}
+use Rattle.art_arena.proofs.Common.{Arena, Held, leaf_held, links_of, links_at, held_at, leaf_name, LeafAt, Links, first_slot, last_slot, times, IsList, eqb-self, times-append, times-here, ends_with-first, last_slot-append, link_there}
+use Rattle.art_walks.proofs.Terms.{IsWalk}
 
 pub eqb-apart : (a b : ℕ) → eqb a b ≡ false → a ≢ b
 eqb-apart a b off = elim (eqb_tells a b) [ inl same ↦ absurd (let e = same.0 in cc) | inr other ↦ other.1 ]

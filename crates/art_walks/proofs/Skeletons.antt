@@ -1,14 +1,9 @@
 -- From an arena to a shape: what a check has met so far, as a shape whose last parts are still to come. Prefixes play no part here.
 use Rattle.std.proofs.Common.{◌≡◌, ℕ, List, [], ◌∷◌, ◌++◌, length, Option, Some, refl, sym, ap, ap₂, subst, ◌∙◌, append_assoc}
-use Rattle.art_nodes.specs.Name.{Name}
-use Rattle.art_nodes.specs.InnerNode.{names_of}
-use Rattle.art_arena.specs.arena.Cells.{Cell, pair, leaf_name, AreHeld}
-use Rattle.art_arena.specs.tree.Kinds.{IsKindOf}
-use Rattle.art_arena.specs.arena.Shapes.{Shape, Branches, leaf_at, inner_at, no_branch, branch, name_of, children_at, width, cells, cells_in, node_of}
-use Rattle.art_arena.proofs.tree.Order.{all_left, all_right}
-use Rattle.art_walks.specs.inner.Skeletons.{HasKinds, HaveKinds, cell_names, IsSkeleton}
-use Rattle.art_arena.proofs.shapes.CellLists.{cell_children, same_cell}
-use Rattle.art_arena.proofs.shapes.Contexts.{length-children}
+use Rattle.std.proofs.lemmas.List.{append-nil}
+use Rattle.art_nodes.proofs.Common.{Name, names_of}
+use Rattle.art_arena.proofs.Common.{Cell, pair, leaf_name, AreHeld, IsKindOf, Shape, Branches, leaf_at, inner_at, no_branch, branch, name_of, children_at, width, cells, cells_in, node_of, all_left, all_right, cell_children, same_cell, length-children}
+use Rattle.art_walks.proofs.Terms.{HasKinds, HaveKinds, cell_names, IsSkeleton}
 
 module _ {K V : Type 0} where
   -- the names of some shapes, and their kinds
@@ -72,20 +67,12 @@ module _ {K V : Type 0} where
       root_is = (cc);
       held = all_left (λ (c : Name × Cell K V). at c.0 ≡ Some c.1) (cells P s) [] held;
       kinds = kinds.0;
-      names_are = sym (cell_names-append (cells P s) [] ∙ nothing (cell_names (cells P s)));
+      names_are = sym (cell_names-append (cells P s) [] ∙ append-nil (cell_names (cells P s)));
     }
-      where
-        nothing : (xs : List Name) → xs ++ [] ≡ xs
-        nothing [] = refl
-        nothing (x ∷ xs) = ap (λ ys. x ∷ ys) (nothing xs)
 
     -- At the end the whole shape was.
     pub completes-end : (met : List Name) → Completes met [] → IsSkeleton P at root met
-    completes-end met complete = subst (IsSkeleton P at root) (nothing met) (complete [] refl tt tt)
-      where
-        nothing : (xs : List Name) → xs ++ [] ≡ xs
-        nothing [] = refl
-        nothing (x ∷ xs) = ap (λ ys. x ∷ ys) (nothing xs)
+    completes-end met complete = subst (IsSkeleton P at root) (append-nil met) (complete [] refl tt tt)
 
     -- A leaf is met.
     pub completes-leaf : (met waiting : List Name) (slot : ℕ) (k : K) (v : V) → at (leaf_name slot) ≡ Some (pair k v) → Completes met (leaf_name slot ∷ waiting) → Completes (met ++ leaf_name slot ∷ []) waiting

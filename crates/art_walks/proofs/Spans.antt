@@ -2,22 +2,10 @@
 use Rattle.std.proofs.Common.{◌≡◌, ℕ, Bool, true, false, cond, filter, List, [], ◌∷◌, ◌++◌, length, Some, None, refl, sym, ap, subst, ◌∙◌}
 use Rattle.std.specs.List.{AllByRecursion}
 use Rattle.std.proofs.lemmas.List.{length-map, map-append}
-use Rattle.art_nodes.specs.Name.{Name}
-use Rattle.art_arena.specs.arena.Arena.{Arena, links_at, node_at}
-use Rattle.art_arena.specs.arena.Cells.{Cell, leaf_name, pair}
-use Rattle.art_arena.specs.arena.Descents.{passing}
-use Rattle.art_arena.specs.arena.Linked.{IsList}
-use Rattle.art_arena.specs.arena.Shapes.{Shape, LeafAt, leaves, pairs_of}
-use Rattle.art_arena.specs.arena.Stores.{StoresBeside}
-use Rattle.art_arena.proofs.shapes.Meanings.{nodes-subtree}
-use Rattle.art_arena.proofs.shapes.Prefixes.{leaves_are_held}
-use Rattle.art_arena.proofs.shapes.Surroundings.{tree-list}
-use Rattle.art_operations.specs.Bounds.{AreEndsWhere}
-use Rattle.art_operations.proofs.LeafPairs.{leaf_pair}
-use Rattle.art_operations.proofs.RangeEnds.{tree_ascends}
-use Rattle.art_operations.proofs.Stretches.{IsConvex, stretch}
-use Rattle.art_walks.specs.MapReads.{IsSpanOf}
-use Rattle.art_walks.specs.Runs.{Ends, HasEnds}
+use Rattle.art_nodes.proofs.Common.{Name}
+use Rattle.art_arena.proofs.Common.{Arena, links_at, node_at, Cell, leaf_name, pair, passing, IsList, Shape, LeafAt, leaves, pairs_of, StoresBeside, nodes-subtree, leaves_are_held, tree-list}
+use Rattle.art_operations.proofs.Common.{AreEndsWhere, leaf_pair, tree_ascends, IsConvex, stretch}
+use Rattle.art_walks.proofs.Terms.{IsSpanOf, Ends, HasEnds}
 
 -- what holds of all items holds of those that pass
 pub all-filter : {X : Type 0} (P : X → Type 0) (test : X → Bool) (xs : List X) → AllByRecursion P xs → AllByRecursion P (filter test xs)

@@ -2,37 +2,17 @@
 use Rattle.std.proofs.Common.{◌≡◌, ◌≢◌, ℕ, suc, ◌+◌, List, [], ◌∷◌, ◌++◌, length, Option, Some, None, IsSome, Result, Ok, Err, IfErr, refl, sym, ap, subst, ◌∙◌, arith}
 use Rattle.std.specs.List.{AllByRecursion}
 use Rattle.std.specs.Result.{IsErrAnd}
-use Rattle.art_walks.specs.declared.malformed.MalformedTreeError.{MalformedTreeError}
-use Rattle.art_arena.specs.arena.Arena.{Arena, held_at, node_at}
+use Rattle.art_walks.proofs.Terms.{MalformedTreeError, child_in, led_to, HasOtherKeys, HasOtherLinks, meets, AreOnce, HasKinds, HaveKinds, cell_names, IsSkeleton, Fits, AreLinkedSlots, leaf_slots, in_range, count_kind}
+use Rattle.art_arena.proofs.Common.{Arena, held_at, node_at, Cell, pair, AreHeld, IsKindOf, Tree, items, nodes_with, LeafAt, pairs_of, Shape, Branches, leaf_at, inner_at, no_branch, branch, name_of, children_at, join, leaves, erase, cells, cells_in, node_of, Links, AreLinked, IsPart, Means, cells_in-join, items-erase, all_left, all_right, cell_held, slot_list}
+use Rattle.art_nodes.proofs.Common.{Name, child_at}
 use Rattle.art_nodes.specs.declared.kind.NodeType.{NodeType}
 use Rattle.art_nodes.specs.declared.kind.NodeType.TheVariants.{Leaf}
-use Rattle.art_nodes.specs.Name.{Name}
-use Rattle.art_nodes.specs.InnerNode.{InnerNode, child_at}
-use Rattle.art_arena.specs.arena.Cells.{Cell, pair, branches, AreHeld}
-use Rattle.art_arena.specs.tree.Kinds.{IsKindOf}
-use Rattle.art_arena.specs.tree.Trees.{Tree, items, nodes_with}
-use Rattle.art_arena.specs.arena.Shapes.{LeafAt, pairs_of, Shape, Branches, leaf_at, inner_at, no_branch, branch, name_of, children_at, join, leaves, erase, cells, cells_in, node_of, IsUnder, AreUnder}
-use Rattle.art_arena.specs.arena.Linked.{Links, AreLinked}
-use Rattle.art_arena.specs.arena.Meaning.{IsPart, Means}
-use Rattle.art_arena.proofs.shapes.Contexts.{cells_in-join, length-children}
-use Rattle.art_arena.proofs.shapes.Erased.{items-erase}
-use Rattle.art_arena.proofs.tree.Order.{all_left, all_right}
-use Rattle.art_walks.specs.Faults.{child_in, led_to, HasOtherKeys, HasOtherLinks}
 use Rattle.art_walks.proofs.NameWalks.{copies-named}
-use Rattle.art_walks.proofs.Ways.{onward-some, branch_of}
-use Rattle.art_walks.specs.inner.Names.{meets, AreOnce}
-use Rattle.art_walks.specs.inner.Skeletons.{HasKinds, HaveKinds, cell_names, IsSkeleton}
+use Rattle.art_walks.proofs.Ways.{onward-some, branch_of, kinds-under, right_count}
 use Rattle.art_walks.proofs.Skeletons.{same_cells}
-use Rattle.art_walks.specs.inner.Fillings.{Fits}
 use Rattle.art_walks.proofs.Fillings.{fill, fill_in, width-fill, cells-fill, filled-subtree, unfit-none}
-use Rattle.art_walks.specs.inner.Slots.{AreLinkedSlots, leaf_slots}
 use Rattle.art_walks.proofs.LeafSlots.{slots-named, linked-slots, slots-linked, leaves-fill}
-use Rattle.art_walks.specs.Stats.{in_range}
-use Rattle.art_walks.specs.inner.Names.{count_kind}
 use Rattle.art_walks.proofs.KindCounts.{count-leaves, count-nodes}
-use Rattle.art_arena.proofs.shapes.CellLists.{cell_children}
-use Rattle.art_arena.proofs.shapes.Subtrees.{cell_held}
-use Rattle.art_arena.proofs.shapes.LinkedLists.{slot_list}
 
 -- a fault that is passed on stands as it did
 pub passed : {T : Type 0} (r : Result T MalformedTreeError) (e : MalformedTreeError) (Q : MalformedTreeError → Type 0) → IsErrAnd r (λ x. x ≡ e) → Q e → IfErr r Q
@@ -62,15 +42,6 @@ module _ {K V : Type 0} where
       kinds-fill_in d no_branch kinds = tt
       kinds-fill_in d (branch b s rest) kinds = (kinds-fill d s kinds.0, kinds-fill_in d rest kinds.1)
 
-    mutual
-      kinds-under : (path : List ℕ) (s : Shape K V) → IsUnder bytes path s → HasKinds s
-      kinds-under path (leaf_at slot k v) under = tt
-      kinds-under path (inner_at n prefix kids) under = (under.0, kinds-under_in (path ++ prefix) 0 kids under.1)
-
-      kinds-under_in : (path : List ℕ) (low : ℕ) (kids : Branches K V) → AreUnder bytes path low kids → HaveKinds kids
-      kinds-under_in path low no_branch under = tt
-      kinds-under_in path low (branch b s rest) under = (kinds-under (path ++ b ∷ []) s under.1, kinds-under_in path (b + 1) rest under.2)
-
   module _ (P : ℕ) (at : Name → Option (Cell K V)) where
     abbrev held_cell : Name × Cell K V → Type 0
     held_cell c = at c.0 ≡ Some c.1
@@ -94,15 +65,6 @@ module _ {K V : Type 0} where
         (all_left held_cell (cells P has.child) (cells_in P has.after) (all_right held_cell (cells_in P has.before) (cells P has.child ++ cells_in P has.after) there_held))
         (kind_of-branch has.before byte has.child has.after (subst HaveKinds has.whole kinds.1)) next.2
 
-    right_count : (m : Name) (t : Shape K V) → name_of t ≡ m → AreHeld at (cells P t) → HasKinds t → (node : InnerNode) → at m ≡ Some (branches node) → IsKindOf m.kind (length node.children)
-    right_count m (leaf_at slot k v) is held kinds node e =
-        let both : Some (pair k v) ≡ Some (branches node) = sym (ap at (sym is) ∙ held.0) ∙ e in absurd (cc)
-    right_count m (inner_at n prefix kids) is held kinds node e =
-        let both : Some (node_of P prefix (children_at kids)) ≡ Some (branches node) = sym (ap at (sym is) ∙ held.0) ∙ e in
-        let one : ◌≡◌ {A = Cell K V} (node_of P prefix (children_at kids)) (branches node) = cc in
-        let same : children_at kids ≡ node.children = ap cell_children one in
-        subst (λ (x : Name). IsKindOf x.kind (length node.children)) is (subst (IsKindOf n.kind) (sym (length-children kids) ∙ ap length same) kinds.0)
-
   module _ (bytes : K → List ℕ) (P : ℕ) (at : Name → Option (Cell K V)) (links : ℕ → Option Links) (root : Name) (names : List Name) (s : IsSkeleton P at root names) (once : AreOnce names) where
     -- the names that were met make a shape in which none stands twice
     pub skeleton-part : IsPart P at root s.shape
@@ -122,7 +84,7 @@ module _ {K V : Type 0} where
       part = skeleton-part;
       counted = λ w.
           let t = kinds_led P at w.way root w.name s.shape s.root_is s.held s.kinds w.leads in
-          w.wrong (right_count P at w.name t.0 t.1 t.2 t.3 w.node w.held);
+          w.wrong (right_count bytes P at w.name t.0 t.1 t.2 t.3 w.node w.held);
       none = λ t sub. unfit-none bytes P at root s.shape skeleton-part unfit t sub;
     }
 
@@ -134,7 +96,7 @@ module _ {K V : Type 0} where
         subtree = filled-subtree bytes P at root s.shape skeleton-part fits;
         none = λ t sub linked.
             let same : cells P t ≡ cells P s.shape = same_cells P at t s.shape sub.part.held s.held (sub.part.named ∙ sym s.root_is) in
-            let slots : slot_list (leaves t) ≡ leaf_slots names = slots-named P t (kinds-under bytes [] t sub.under) ∙ ap (λ cs. leaf_slots (cell_names cs)) same ∙ ap leaf_slots s.names_are in
+            let slots : slot_list (leaves t) ≡ leaf_slots names = slots-named P t (kinds-under bytes P at [] t sub.under) ∙ ap (λ cs. leaf_slots (cell_names cs)) same ∙ ap leaf_slots s.names_are in
             unlinked (subst (λ ss. AreLinkedSlots links None ss None) slots (slots-linked links None (leaves t) None linked));
       }
 

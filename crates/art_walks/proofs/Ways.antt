@@ -1,22 +1,9 @@
 -- Where bytes lead down from the root of a canonical shape: to its parts, and different bytes to different ones. So no fault stands there.
 use Rattle.std.proofs.Common.{◌≡◌, ◌≢◌, ◌⊎◌, ℕ, ◌+◌, ◌<◌, ◌≤◌, cond, List, [], ◌∷◌, ◌++◌, length, Option, Some, None, inl, inr, refl, sym, ap, ap₂, subst, ◌∙◌, arith, true}
 use Rattle.std.proofs.lemmas.Bool.Decides.{eqb_tells}
-use Rattle.art_nodes.specs.Name.{Name}
-use Rattle.art_nodes.specs.InnerNode.{InnerNode, child_at}
-use Rattle.art_arena.specs.arena.Cells.{Cell, pair, branches, copies, same_name, leaf_name}
-use Rattle.art_arena.specs.tree.Kinds.{IsKindOf}
-use Rattle.art_arena.specs.tree.Trees.{Tree}
-use Rattle.art_arena.specs.arena.Shapes.{Shape, Branches, leaf_at, inner_at, no_branch, branch, name_of, children_at, join, cells, cells_in, node_of}
-use Rattle.art_arena.specs.arena.Linked.{Links}
-use Rattle.art_arena.specs.arena.Meaning.{IsSubtree, Means}
-use Rattle.art_arena.proofs.shapes.CellLists.{copies-append, same_name-self}
-use Rattle.art_arena.proofs.shapes.Contexts.{cells_in-join, length-children}
-use Rattle.art_arena.proofs.shapes.Measures.{nodes_below, nodes_below-held}
-use Rattle.art_arena.proofs.shapes.Meanings.{means-subtree}
-use Rattle.art_arena.proofs.shapes.Subtrees.{subtree-branch}
-use Rattle.art_walks.specs.declared.malformed.MalformedTreeError.{MalformedTreeError}
-use Rattle.art_walks.specs.declared.malformed.MalformedTreeError.TheVariants.{DeadName, LoopFound, WrongChildrenCount, PrefixMismatch, LeafSiblingWrongOrder, WrongSiblingLinks, EmptyTreeWithLen, Memory}
-use Rattle.art_walks.specs.Faults.{child_in, onward, led_to, HasLoop, Stands, FaultMeansNoTree}
+use Rattle.art_nodes.proofs.Common.{Name, InnerNode, child_at}
+use Rattle.art_arena.proofs.Common.{Cell, pair, branches, copies, same_name, leaf_name, IsKindOf, IsUnder, AreUnder, AreHeld, cell_children, Tree, Shape, Branches, leaf_at, inner_at, no_branch, branch, name_of, children_at, join, cells, cells_in, node_of, Links, IsSubtree, Means, copies-append, same_name-self, cells_in-join, length-children, nodes_below, nodes_below-held, means-subtree, subtree-branch}
+use Rattle.art_walks.proofs.Terms.{HasKinds, HaveKinds, MalformedTreeError, DeadName, LoopFound, WrongChildrenCount, PrefixMismatch, LeafSiblingWrongOrder, WrongSiblingLinks, EmptyTreeWithLen, Memory, child_in, onward, led_to, HasLoop, Stands, FaultMeansNoTree}
 
 pub onward-some : (next : Name → Option Name) (o : Option Name) (m : Name) → onward next o ≡ Some m → (c : Name) × (o ≡ Some c) × (next c ≡ Some m)
 onward-some next None m e = absurd (cc)
@@ -186,21 +173,25 @@ module _ {K V : Type 0} (bytes : K → List ℕ) (P : ℕ) (at : Name → Option
           let all : copies m (cells P s) ≡ copies m (cells P (inner_at n on.prefix on.kids)) = ap (λ z. copies m (cells P z)) on.is in
           omega (arith, both, once, all, here_once P m l.part l.subtree.part.named, here_once P m l'.part l'.subtree.part.named, l.counted m, l'.counted m)
 
-  -- what is held at the end of a way is of its kind
-  pub right_count : (n : Name) (path : List ℕ) (s : Shape K V) → IsSubtree bytes P at n path s → (node : InnerNode) → at n ≡ Some (branches node) → IsKindOf n.kind (length node.children)
-  right_count n path (leaf_at slot k v) sub node e =
-      let there : at n ≡ Some (pair k v) = ap at (sym sub.part.named) ∙ sub.part.held.0 in
-      let both : Some (pair k v) ≡ Some (branches node) = sym there ∙ e in absurd (cc)
-  right_count n path (inner_at m prefix kids) sub node e =
-      let there : at n ≡ Some (node_of P prefix (children_at kids)) = ap at (sym sub.part.named) ∙ sub.part.held.0 in
-      let both : Some (node_of P prefix (children_at kids)) ≡ Some (branches node) = sym there ∙ e in
-      let cells_same : node_of P prefix (children_at kids) ≡ branches node = cc in
-      let same : children_at kids ≡ node.children = ap children_in cells_same in
-      subst (λ (x : Name). IsKindOf x.kind (length node.children)) sub.part.named (subst (IsKindOf m.kind) (sym (length-children kids) ∙ ap length same) sub.under.0)
-    where
-      children_in : Cell K V → List (ℕ × Name)
-      children_in (pair k v) = []
-      children_in (branches node) = node.children
+  -- each node of a canonical shape is of its kind
+  mutual
+    pub kinds-under : (path : List ℕ) (s : Shape K V) → IsUnder bytes path s → HasKinds s
+    kinds-under path (leaf_at slot k v) under = tt
+    kinds-under path (inner_at n prefix kids) under = (under.0, kinds-under_in (path ++ prefix) 0 kids under.1)
+
+    kinds-under_in : (path : List ℕ) (low : ℕ) (kids : Branches K V) → AreUnder bytes path low kids → HaveKinds kids
+    kinds-under_in path low no_branch under = tt
+    kinds-under_in path low (branch b s rest) under = (kinds-under (path ++ b ∷ []) s under.1, kinds-under_in path (b + 1) rest under.2)
+
+  -- and so is what is held at the root of such a shape
+  pub right_count : (m : Name) (t : Shape K V) → name_of t ≡ m → AreHeld at (cells P t) → HasKinds t → (node : InnerNode) → at m ≡ Some (branches node) → IsKindOf m.kind (length node.children)
+  right_count m (leaf_at slot k v) is held kinds node e =
+      let both : Some (pair k v) ≡ Some (branches node) = sym (ap at (sym is) ∙ held.0) ∙ e in absurd (cc)
+  right_count m (inner_at n prefix kids) is held kinds node e =
+      let both : Some (node_of P prefix (children_at kids)) ≡ Some (branches node) = sym (ap at (sym is) ∙ held.0) ∙ e in
+      let one : ◌≡◌ {A = Cell K V} (node_of P prefix (children_at kids)) (branches node) = cc in
+      let same : children_at kids ≡ node.children = ap cell_children one in
+      subst (λ (x : Name). IsKindOf x.kind (length node.children)) is (subst (IsKindOf n.kind) (sym (length-children kids) ∙ ap length same) kinds.0)
 
   pub held_at_root : (n : Name) (path : List ℕ) (s : Shape K V) → IsSubtree bytes P at n path s → at n ≡ None → ⊥
   held_at_root n path (leaf_at slot k v) sub dead = let there = sym dead ∙ ap at (sym sub.part.named) ∙ sub.part.held.0 in cc
@@ -271,7 +262,7 @@ module _ {K V : Type 0} (bytes : K → List ℕ) (P : ℕ) (at : Name → Option
     excluded : (fault : MalformedTreeError) → Stands bytes P at links_of root fault → fault ≡ Memory
     excluded DeadName h = let l = led h.way root [] means.shape sub h.name h.leads in absurd (held_at_root h.name l.path l.part l.subtree h.dead)
     excluded LoopFound h = absurd (no_loop h.way h.other root [] means.shape sub h.name h.leads h.leads_too h.apart)
-    excluded WrongChildrenCount h = let l = led h.way root [] means.shape sub h.name h.leads in absurd (h.wrong (right_count h.name l.path l.part l.subtree h.node h.held))
+    excluded WrongChildrenCount h = let l = led h.way root [] means.shape sub h.name h.leads in absurd (h.wrong (right_count h.name l.part l.subtree.part.named l.subtree.part.held (kinds-under l.path l.part l.subtree.under) h.node h.held))
     excluded PrefixMismatch h = absurd (h.none means.shape sub)
     excluded LeafSiblingWrongOrder h = absurd (h.links.none means.shape sub means.linked)
     excluded WrongSiblingLinks h = absurd (h.none means.shape sub means.linked)

@@ -151,10 +151,8 @@ impl<K: AsBytes + Drop, V: Drop, const PREFIX_LEN: usize> Iterator for IntoKeys<
 
     #[inline]
     fn next(&mut self) -> Option<K> {
-        match self.inner.next() {
-            Some((key, _)) => Some(key),
-            None => None,
-        }
+        let (key, _) = self.inner.next()?;
+        Some(key)
     }
 
     fn size_hint(&self) -> (usize, Option<usize>)
@@ -175,10 +173,8 @@ impl<K: AsBytes + Drop, V: Drop, const PREFIX_LEN: usize> DoubleEndedIterator
 
     #[inline]
     fn next_back(&mut self) -> Option<K> {
-        match self.inner.next_back() {
-            Some((key, _)) => Some(key),
-            None => None,
-        }
+        let (key, _) = self.inner.next_back()?;
+        Some(key)
     }
 }
 
@@ -226,10 +222,8 @@ impl<K: AsBytes + Drop, V: Drop, const PREFIX_LEN: usize> Iterator
 
     #[inline]
     fn next(&mut self) -> Option<V> {
-        match self.inner.next() {
-            Some((_, value)) => Some(value),
-            None => None,
-        }
+        let (_, value) = self.inner.next()?;
+        Some(value)
     }
 
     fn size_hint(&self) -> (usize, Option<usize>)
@@ -250,10 +244,8 @@ impl<K: AsBytes + Drop, V: Drop, const PREFIX_LEN: usize> DoubleEndedIterator
 
     #[inline]
     fn next_back(&mut self) -> Option<V> {
-        match self.inner.next_back() {
-            Some((_, value)) => Some(value),
-            None => None,
-        }
+        let (_, value) = self.inner.next_back()?;
+        Some(value)
     }
 }
 

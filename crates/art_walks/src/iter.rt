@@ -7,38 +7,31 @@ ghost use Rattle.std.specs.Map.Iter.{TakesFirst, TakesLast, deref, deref_pair};
 ghost use Rattle.art_arena.specs.arena.Shapes.{pairs_of};
 ghost use Rattle.art_walks.specs.Walked.{IsCounted};
 
-use crate::ahead::Ahead;
+use crate::range::Range;
 use crate::raw_iterator::RawIterator;
 use art_arena::NodeArena;
 use art_bytes::AsBytes;
 use art_nodes::OpaqueNodePtr;
 use std::alloc::AllocError;
 use std::iter::FusedIterator;
-use std::marker::{Model, PhantomData};
+use std::marker::Model;
 
 /// An iterator over the pairs of a run of leaves in order, from either end. A contract sees it as the list of those
 /// still to come.
-///
-/// The last parameter is never written: it tells the borrow check that the arena lives as long as it is lent.
 #[derive(Drop)]
 pub struct Iter<'a, K, V, const PREFIX_LEN: usize, M: 'a = NodeArena<K, V, PREFIX_LEN>> {
-    arena: &'a NodeArena<K, V, PREFIX_LEN>,
-    leaves: RawIterator,
+    inner: Range<'a, K, V, PREFIX_LEN, M>,
     len: usize,
-    root: Option<OpaqueNodePtr>,
-    ahead: Ahead,
-    mark: PhantomData<M>,
 }
 
 impl<'a, K, V, const PREFIX_LEN: usize, M: 'a> Model for Iter<'a, K, V, PREFIX_LEN, M> {
-    ghost use Rattle.std.specs.Prelude.{List};
-    ghost use Rattle.art_walks.specs.Walked.{IsCounted, pairs_along, start_of};
+    ghost use Rattle.std.specs.Prelude.{◌≡◌, List, length};
 
     ghost Value = { List (K × V) };
 
-    ghost view = { λ it. pairs_along it.len it.arena.now (start_of it.leaves) };
+    ghost view = { λ it. it.inner };
 
-    ghost invariant = { λ it. IsCounted it.arena.now it.leaves it.len };
+    ghost invariant = { λ it. it.len ≡ length it.inner };
 }
 
 impl<'a, K: AsBytes, V, const PREFIX_LEN: usize> Iter<'a, K, V, PREFIX_LEN> {
@@ -53,27 +46,17 @@ impl<'a, K: AsBytes, V, const PREFIX_LEN: usize> Iter<'a, K, V, PREFIX_LEN> {
         ensures { (run : IsCounted arena.now leaves len) → result ≡ pairs_of run.leaves }
     {
         Iter {
-            arena,
-            leaves,
+            inner: Range::new(arena, leaves, root),
             len,
-            root,
-            ahead: Ahead::new(),
-            mark: PhantomData,
         }
     }
 
     /// Returns the same iterator, which reads nothing ahead: for a caller that does so itself.
-    pub fn one_by_one(self) -> Self
+    pub fn one_by_one(mut self) -> Self
         ensures { result ≡ self.entry }
     {
-        Iter {
-            arena: self.arena,
-            leaves: self.leaves,
-            len: self.len,
-            root: None,
-            ahead: Ahead::new(),
-            mark: PhantomData,
-        }
+        self.inner.ahead.stop();
+        self
     }
 }
 
@@ -84,12 +67,8 @@ impl<'a, K, V, const PREFIX_LEN: usize> Clone for Iter<'a, K, V, PREFIX_LEN> {
 
     fn clone(&self) -> Result<Self, AllocError> {
         Ok(Iter {
-            arena: self.arena,
-            leaves: self.leaves,
+            inner: self.inner.clone()?,
             len: self.len,
-            root: self.root,
-            ahead: self.ahead.another(),
-            mark: PhantomData,
         })
     }
 }
@@ -103,12 +82,10 @@ impl<'a, K: AsBytes, V, const PREFIX_LEN: usize> Iterator for Iter<'a, K, V, PRE
 
     #[inline]
     fn next(&mut self) -> Option<(&'a K, &'a V)> {
-        let arena = self.arena;
-        self.ahead.step(arena, self.root, self.leaves);
-        match self.leaves.next(arena) {
-            Some(leaf) => {
+        match self.inner.next() {
+            Some(pair) => {
                 self.len -= 1;
-                Some(arena.as_key_value_ref(leaf))
+                Some(pair)
             }
             None => None,
         }
@@ -132,12 +109,10 @@ impl<'a, K: AsBytes, V, const PREFIX_LEN: usize> DoubleEndedIterator
 
     #[inline]
     fn next_back(&mut self) -> Option<(&'a K, &'a V)> {
-        let arena = self.arena;
-        self.ahead.stop();
-        match self.leaves.next_back(arena) {
-            Some(leaf) => {
+        match self.inner.next_back() {
+            Some(pair) => {
                 self.len -= 1;
-                Some(arena.as_key_value_ref(leaf))
+                Some(pair)
             }
             None => None,
         }
@@ -196,10 +171,8 @@ impl<'a, K: AsBytes, V, const PREFIX_LEN: usize> Iterator for Keys<'a, K, V, PRE
 
     #[inline]
     fn next(&mut self) -> Option<&'a K> {
-        match self.inner.next() {
-            Some((key, _)) => Some(key),
-            None => None,
-        }
+        let (key, _) = self.inner.next()?;
+        Some(key)
     }
 
     fn size_hint(&self) -> (usize, Option<usize>)
@@ -219,10 +192,8 @@ impl<'a, K: AsBytes, V, const PREFIX_LEN: usize> DoubleEndedIterator
 
     #[inline]
     fn next_back(&mut self) -> Option<&'a K> {
-        match self.inner.next_back() {
-            Some((key, _)) => Some(key),
-            None => None,
-        }
+        let (key, _) = self.inner.next_back()?;
+        Some(key)
     }
 }
 
@@ -278,10 +249,8 @@ impl<'a, K: AsBytes, V, const PREFIX_LEN: usize> Iterator for Values<'a, K, V, P
 
     #[inline]
     fn next(&mut self) -> Option<&'a V> {
-        match self.inner.next() {
-            Some((_, value)) => Some(value),
-            None => None,
-        }
+        let (_, value) = self.inner.next()?;
+        Some(value)
     }
 
     fn size_hint(&self) -> (usize, Option<usize>)
@@ -301,10 +270,8 @@ impl<'a, K: AsBytes, V, const PREFIX_LEN: usize> DoubleEndedIterator
 
     #[inline]
     fn next_back(&mut self) -> Option<&'a V> {
-        match self.inner.next_back() {
-            Some((_, value)) => Some(value),
-            None => None,
-        }
+        let (_, value) = self.inner.next_back()?;
+        Some(value)
     }
 }
 

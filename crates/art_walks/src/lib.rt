@@ -14,7 +14,6 @@ mod map_reader;
 mod range;
 mod raw_iterator;
 mod stats;
-mod subtree;
 mod visitor;
 
 pub use ahead::Ahead;
@@ -24,8 +23,7 @@ pub use into_iter::{IntoIter, IntoKeys, IntoValues};
 pub use iter::{Iter, Keys, Values};
 pub use malformed::MalformedTreeError;
 pub use map_reader::{MapReader, ReadSpan};
-pub use range::{Prefix, Range};
+pub use range::{Prefix, Range, SubtreeIter};
 pub use raw_iterator::RawIterator;
 pub use stats::WellFormedTreeStats;
-pub use subtree::SubtreeIter;
 pub use visitor::{Visitable, Visitor};

@@ -1,6 +1,6 @@
 //! A reader of a map, which counts each node that it reads.
 ghost use Rattle.std.specs.Prelude.{◌≡◌, ◌≢◌, ◌+◌, ◌-◌, ◌^◌, ◌≤◌, ◌⊎◌, ◌∷◌, [], ℕ, List, bytes_eq, filter, length};
-ghost use Rattle.std.specs.Prelude.{min, MatchOption, None, Some, option_map};
+ghost use Rattle.std.specs.Prelude.{min, MatchOption, None, Some, if◌then◌else◌, option_map};
 ghost use Rattle.std.specs.BTreeMap.Range.{range_contains};
 ghost use Rattle.std.specs.Map.{lookup_entry};
 ghost use Rattle.std.specs.Map.Iter.{deref_pair};
@@ -89,57 +89,16 @@ impl<'a, K: AsBytes, V, const PREFIX_LEN: usize, M: 'a> Model
     ghost invariant = { λ r. ReadsMap K.bytes PREFIX_LEN r.reader.arena.now r.root };
 }
 
-// The leaf with exactly this key below a root, which was read. The nodes of the key's path are read, and no others.
+// Whether a leaf's key is a query, or where fronts are asked for, a prefix of it.
 #[inline(always)]
-fn leaf_with_key<'a, K: AsBytes, V, const PREFIX_LEN: usize>(
-    reader: &mut ArenaReader<'a, K, V, PREFIX_LEN>,
-    root: OpaqueNodePtr,
-    key: &[u8],
-) -> Option<&'a LeafNode<K, V>>
-    requires { ReadsMap K.bytes PREFIX_LEN reader.old.arena.now (Some root) }
-    ensures value { OfPairs K.bytes PREFIX_LEN reader.old.arena.now (Some root)
-        (λ pairs. option_map (λ leaf. (leaf.now.key, leaf.now.value)) result
-        ≡ lookup_entry (λ k. bytes_eq (K.bytes k) key.now) pairs) }
-    ensures kept { reader.new.arena.now ≡ reader.old.arena.now }
-    ensures counts { OfPairs K.bytes PREFIX_LEN reader.old.arena.now (Some root)
-        (λ pairs. ReadsPathOf K.bytes key.now pairs reader.old.count reader.new.count) }
+fn is_taken<K: AsBytes, V>(leaf: &LeafNode<K, V>, query: &[u8], of_fronts: bool) -> bool
+    ensures { result ≡ (if of_fronts then begins_with (K.bytes leaf.now.key) query.now
+        else bytes_eq (K.bytes leaf.now.key) query.now) }
 {
-    match land(reader, root, key) {
-        Some(landed) => {
-            if landed.leaf.compare_full_key(key) {
-                return Some(landed.leaf);
-            }
-            None
-        }
-        None => None,
+    if of_fronts {
+        return query.starts_with(leaf.key_ref().as_bytes());
     }
-}
-
-// The leaf whose key is a prefix of this one, or all of it, below a root, which was read. The nodes of the key's path
-// are read, and no others.
-#[inline(always)]
-fn leaf_with_front<'a, K: AsBytes, V, const PREFIX_LEN: usize>(
-    reader: &mut ArenaReader<'a, K, V, PREFIX_LEN>,
-    root: OpaqueNodePtr,
-    key: &[u8],
-) -> Option<&'a LeafNode<K, V>>
-    requires { ReadsMap K.bytes PREFIX_LEN reader.old.arena.now (Some root) }
-    ensures value { OfPairs K.bytes PREFIX_LEN reader.old.arena.now (Some root)
-        (λ pairs. option_map (λ leaf. (leaf.now.key, leaf.now.value)) result
-        ≡ lookup_entry (λ k. begins_with (K.bytes k) key.now) pairs) }
-    ensures kept { reader.new.arena.now ≡ reader.old.arena.now }
-    ensures counts { OfPairs K.bytes PREFIX_LEN reader.old.arena.now (Some root)
-        (λ pairs. ReadsPathOf K.bytes key.now pairs reader.old.count reader.new.count) }
-{
-    match land(reader, root, key) {
-        Some(landed) => {
-            if key.starts_with(landed.leaf.key_ref().as_bytes()) {
-                return Some(landed.leaf);
-            }
-            None
-        }
-        None => None,
-    }
+    leaf.compare_full_key(query)
 }
 
 // A bound of bytes: those of its key.
@@ -193,6 +152,30 @@ impl<'a, K: AsBytes, V, const PREFIX_LEN: usize> MapReader<'a, K, V, PREFIX_LEN>
         self.reader.count()
     }
 
+    // The pair whose key is taken for a query, if there is one. The nodes of the query's path are read, and no others.
+    #[inline(always)]
+    fn pair_of(&mut self, query: &[u8], of_fronts: bool) -> Option<(&'a K, &'a V)>
+        ensures value { OfPairs K.bytes PREFIX_LEN self.old.nodes self.old.root (λ pairs. option_map deref_pair result
+            ≡ lookup_entry (λ k. if of_fronts then begins_with (K.bytes k) query.now
+            else bytes_eq (K.bytes k) query.now) pairs) }
+        ensures kept { IsSameMap self.old self.new }
+        ensures counts { OfPairs K.bytes PREFIX_LEN self.old.nodes self.old.root
+            (λ pairs. ReadsPathOf K.bytes query.now pairs self.old.count self.new.count) }
+    {
+        let root = match self.root {
+            Some(root) => root,
+            None => return None,
+        };
+        let landed = match land(&mut self.reader, root, query) {
+            Some(landed) => landed,
+            None => return None,
+        };
+        if is_taken(landed.leaf, query, of_fronts) {
+            return Some(landed.leaf.entry_ref());
+        }
+        None
+    }
+
     /// Returns the pair whose key has the query's bytes, if there is one. The nodes of the key's path are read, and no
     /// others.
     ///
@@ -209,15 +192,7 @@ impl<'a, K: AsBytes, V, const PREFIX_LEN: usize> MapReader<'a, K, V, PREFIX_LEN>
         ensures counts { OfPairs K.bytes PREFIX_LEN self.old.nodes self.old.root
             (λ pairs. ReadsPathOf K.bytes (Q.bytes key.now) pairs self.old.count self.new.count) }
     {
-        let root = match self.root {
-            Some(root) => root,
-            None => return None,
-        };
-        let leaf = match leaf_with_key(&mut self.reader, root, key.as_bytes()) {
-            Some(leaf) => leaf,
-            None => return None,
-        };
-        Some(leaf.entry_ref())
+        self.pair_of(key.as_bytes(), false)
     }
 
     /// Returns the one pair whose key is a prefix of the query's bytes, or equals them, if there is one. The nodes of
@@ -236,15 +211,7 @@ impl<'a, K: AsBytes, V, const PREFIX_LEN: usize> MapReader<'a, K, V, PREFIX_LEN>
         ensures counts { OfPairs K.bytes PREFIX_LEN self.old.nodes self.old.root
             (λ pairs. ReadsPathOf K.bytes (Q.bytes key.now) pairs self.old.count self.new.count) }
     {
-        let root = match self.root {
-            Some(root) => root,
-            None => return None,
-        };
-        let leaf = match leaf_with_front(&mut self.reader, root, key.as_bytes()) {
-            Some(leaf) => leaf,
-            None => return None,
-        };
-        Some(leaf.entry_ref())
+        self.pair_of(key.as_bytes(), true)
     }
 
     /// Returns a span over the pairs whose keys are between two bounds, by their bytes, ascending. If the map has a

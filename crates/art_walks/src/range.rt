@@ -23,7 +23,7 @@ pub struct Range<'a, K, V, const PREFIX_LEN: usize, M: 'a = NodeArena<K, V, PREF
     arena: &'a NodeArena<K, V, PREFIX_LEN>,
     leaves: RawIterator,
     root: Option<OpaqueNodePtr>,
-    ahead: Ahead,
+    pub(crate) ahead: Ahead,
     mark: PhantomData<M>,
 }
 
@@ -111,70 +111,9 @@ impl<'a, K: AsBytes, V, const PREFIX_LEN: usize> DoubleEndedIterator
     }
 }
 
-/// An iterator over the pairs of the leaves whose keys begin with a prefix, in order, from either end. A contract sees
-/// it as the list of those still to come.
-#[derive(Drop)]
-pub struct Prefix<'a, K, V, const PREFIX_LEN: usize, M: 'a = NodeArena<K, V, PREFIX_LEN>> {
-    inner: Range<'a, K, V, PREFIX_LEN, M>,
-}
+/// An iterator over the pairs of the leaves whose keys begin with a prefix, in order, from either end.
+pub type Prefix<'a, K, V, const PREFIX_LEN: usize> = Range<'a, K, V, PREFIX_LEN>;
 
-impl<'a, K, V, const PREFIX_LEN: usize, M: 'a> Model for Prefix<'a, K, V, PREFIX_LEN, M> {
-    ghost use Rattle.std.specs.Prelude.{List};
-
-    ghost Value = { List (K × V) };
-
-    ghost view = { λ it. it.inner };
-}
-
-impl<'a, K: AsBytes, V, const PREFIX_LEN: usize> Prefix<'a, K, V, PREFIX_LEN> {
-    /// Returns an iterator over a run of leaves, which are linked neighbours in this arena.
-    pub fn new(
-        arena: &'a NodeArena<K, V, PREFIX_LEN>,
-        leaves: RawIterator,
-        root: Option<OpaqueNodePtr>,
-    ) -> Self
-        requires { (n : ℕ) × IsCounted arena.now leaves n }
-        ensures { (n : ℕ) (run : IsCounted arena.now leaves n) → result ≡ pairs_of run.leaves }
-    {
-        Prefix {
-            inner: Range::new(arena, leaves, root),
-        }
-    }
-}
-
-impl<'a, K, V, const PREFIX_LEN: usize> Clone for Prefix<'a, K, V, PREFIX_LEN> {
-    ghost is_clone = { λ original copy. copy ≡ original };
-
-    ghost is_infallible = { λ _. ⊤ };
-
-    fn clone(&self) -> Result<Self, AllocError> {
-        Ok(Prefix {
-            inner: self.inner.clone()?,
-        })
-    }
-}
-
-impl<'a, K: AsBytes, V, const PREFIX_LEN: usize> Iterator for Prefix<'a, K, V, PREFIX_LEN> {
-    type Item = (&'a K, &'a V);
-
-    ghost next_gives = { TakesFirst deref_pair };
-
-    ghost remaining = { λ rest. at_most (length rest) };
-
-    #[inline]
-    fn next(&mut self) -> Option<(&'a K, &'a V)> {
-        self.inner.next()
-    }
-}
-
-impl<'a, K: AsBytes, V, const PREFIX_LEN: usize> FusedIterator for Prefix<'a, K, V, PREFIX_LEN> {}
-
-impl<'a, K: AsBytes, V, const PREFIX_LEN: usize> DoubleEndedIterator
-    for Prefix<'a, K, V, PREFIX_LEN> {
-    ghost next_back_gives = { TakesLast deref_pair };
-
-    #[inline]
-    fn next_back(&mut self) -> Option<(&'a K, &'a V)> {
-        self.inner.next_back()
-    }
-}
+/// An iterator over the pairs of the leaves below one node of a tree in order, from either end. Their keys are those
+/// that begin with the prefix that leads to the node.
+pub type SubtreeIter<'a, K, V, const PREFIX_LEN: usize> = Range<'a, K, V, PREFIX_LEN>;

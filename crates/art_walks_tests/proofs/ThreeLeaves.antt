@@ -1,8 +1,7 @@
 -- A walk over three linked leaves, at each of its steps.
 use Rattle.std.proofs.Common.{◌≡◌, ℕ, [], ◌∷◌, Option, Some, None, refl, sym, ap₂, ◌∙◌, subst}
-use Rattle.art_arena.specs.arena.Shapes.{LeafAt}
-use Rattle.art_arena.specs.arena.Linked.{Links, IsList}
-use Rattle.art_walks.specs.Runs.{Ends, IsWalk}
+use Rattle.art_arena.proofs.Common.{LeafAt, Links, IsList}
+use Rattle.art_walks.proofs.Common.{Ends, IsWalk}
 
 -- the walk over a list of three
 pub whole : {K V : Type 0} (links : ℕ → Option Links) (ends : Ends) (a c : ℕ) (x y z : LeafAt K V) → IsList links (x ∷ y ∷ z ∷ []) → x.slot ≡ a → z.slot ≡ c → ends ≡ Some (a, c)

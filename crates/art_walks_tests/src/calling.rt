@@ -65,6 +65,16 @@ pub fn all_leaves<K: AsBytes, V>(
     (run, arena.leaf_count())
 }
 
+// The run between two leaves, if there are any.
+fn run_between(ends: Option<(LeafPtr, LeafPtr)>) -> RawIterator
+    ensures { result ≡ ends }
+{
+    match ends {
+        Some((first, last)) => RawIterator::new(first, last),
+        None => RawIterator::empty(),
+    }
+}
+
 /// The pairs whose keys begin with a prefix.
 pub fn pairs_behind<'a, K: AsBytes, V>(
     arena: &'a NodeArena<K, V, 4>,
@@ -75,10 +85,8 @@ pub fn pairs_behind<'a, K: AsBytes, V>(
     ensures { (s : Shape K V) → StoresOnly K.bytes 4 arena.now root s
         → result ≡ pairs_of (passing K.bytes (λ k. begins_with prefix.now k) (leaves s)) }
 {
-    match find_prefix_segment(arena, root, prefix) {
-        Some((first, last)) => Prefix::new(arena, RawIterator::new(first, last), Some(root)),
-        None => Prefix::new(arena, RawIterator::empty(), None),
-    }
+    let run = run_between(find_prefix_segment(arena, root, prefix));
+    Prefix::new(arena, run, Some(root))
 }
 
 /// The pairs whose keys are between two bounds.
@@ -93,10 +101,8 @@ pub fn pairs_between<'a, K: AsBytes, V>(
         → result ≡ pairs_of (passing K.bytes (λ k. range_contains bytes_cmp (bound_map (λ key. key.now) start.entry)
         (bound_map (λ key. key.now) end.entry) k) (leaves s)) }
 {
-    match find_range_segment(arena, root, start, end) {
-        Some((first, last)) => Range::new(arena, RawIterator::new(first, last), Some(root)),
-        None => Range::new(arena, RawIterator::empty(), None),
-    }
+    let run = run_between(find_range_segment(arena, root, start, end));
+    Range::new(arena, run, Some(root))
 }
 
 /// Copies of the values of a run of so many leaves, in order, for which room is made at once.

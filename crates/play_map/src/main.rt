@@ -134,35 +134,23 @@ fn play_ended<const PREFIX_LEN: usize>(
     Ok(())
 }
 
-fn free_0(rt: &(impl Print + AllocGlobal), script: &mut Script) -> io::Result<()> {
-    let mut map: TreeMap<FreeKey, u64, 0> = TreeMap::with_prefix_len(rt.alloc());
+fn with_free_map<const PREFIX_LEN: usize>(
+    rt: &(impl Print + AllocGlobal),
+    script: &mut Script,
+) -> io::Result<()>
+    requires { PREFIX_LEN ≤ 16 }
+{
+    let mut map: TreeMap<FreeKey, u64, PREFIX_LEN> = TreeMap::with_prefix_len(rt.alloc());
     play_free(rt, script, &mut map)
 }
 
-fn free_4(rt: &(impl Print + AllocGlobal), script: &mut Script) -> io::Result<()> {
-    let mut map: TreeMap<FreeKey, u64, 4> = TreeMap::with_prefix_len(rt.alloc());
-    play_free(rt, script, &mut map)
-}
-
-fn free_16(rt: &(impl Print + AllocGlobal), script: &mut Script) -> io::Result<()> {
-    let mut map: TreeMap<FreeKey, u64, 16> = TreeMap::new(rt.alloc());
-    play_free(rt, script, &mut map)
-}
-
-fn ended_0(rt: &(impl Print + AllocGlobal), script: &mut Script) -> io::Result<()> {
-    let mut map: TreeMap<EndedKey, u64, 0> = TreeMap::with_prefix_len(rt.alloc());
-    let mut other = TreeMap::with_prefix_len(rt.alloc());
-    play_ended(rt, script, &mut map, &mut other)
-}
-
-fn ended_4(rt: &(impl Print + AllocGlobal), script: &mut Script) -> io::Result<()> {
-    let mut map: TreeMap<EndedKey, u64, 4> = TreeMap::with_prefix_len(rt.alloc());
-    let mut other = TreeMap::with_prefix_len(rt.alloc());
-    play_ended(rt, script, &mut map, &mut other)
-}
-
-fn ended_16(rt: &(impl Print + AllocGlobal), script: &mut Script) -> io::Result<()> {
-    let mut map: TreeMap<EndedKey, u64, 16> = TreeMap::new(rt.alloc());
+fn with_ended_maps<const PREFIX_LEN: usize>(
+    rt: &(impl Print + AllocGlobal),
+    script: &mut Script,
+) -> io::Result<()>
+    requires { PREFIX_LEN ≤ 16 }
+{
+    let mut map: TreeMap<EndedKey, u64, PREFIX_LEN> = TreeMap::with_prefix_len(rt.alloc());
     let mut other = TreeMap::with_prefix_len(rt.alloc());
     play_ended(rt, script, &mut map, &mut other)
 }
@@ -187,21 +175,14 @@ fn play_sets<const PREFIX_LEN: usize>(
     Ok(())
 }
 
-fn set_0(rt: &(impl Print + AllocGlobal), script: &mut Script) -> io::Result<()> {
-    let mut set: TreeSet<EndedKey, 0> = TreeSet::with_prefix_len(rt.alloc());
+fn with_sets<const PREFIX_LEN: usize>(
+    rt: &(impl Print + AllocGlobal),
+    script: &mut Script,
+) -> io::Result<()>
+    requires { PREFIX_LEN ≤ 16 }
+{
+    let mut set: TreeSet<EndedKey, PREFIX_LEN> = TreeSet::with_prefix_len(rt.alloc());
     let mut other = TreeSet::with_prefix_len(rt.alloc());
-    play_sets(rt, script, &mut set, &mut other)
-}
-
-fn set_4(rt: &(impl Print + AllocGlobal), script: &mut Script) -> io::Result<()> {
-    let mut set: TreeSet<EndedKey, 4> = TreeSet::with_prefix_len(rt.alloc());
-    let mut other = TreeSet::with_prefix_len(rt.alloc());
-    play_sets(rt, script, &mut set, &mut other)
-}
-
-fn set_16(rt: &(impl Print + AllocGlobal), script: &mut Script) -> io::Result<()> {
-    let mut set: TreeSet<EndedKey, 16> = TreeSet::new(rt.alloc());
-    let mut other = TreeSet::new(rt.alloc());
     play_sets(rt, script, &mut set, &mut other)
 }
 
@@ -211,15 +192,15 @@ fn main(rt: HostRuntime) -> io::Result<()> {
         return Ok(());
     }
     match script.line() {
-        "map 0 free" => free_0(&rt, &mut script),
-        "map 4 free" => free_4(&rt, &mut script),
-        "map 16 free" => free_16(&rt, &mut script),
-        "map 0 ended" => ended_0(&rt, &mut script),
-        "map 4 ended" => ended_4(&rt, &mut script),
-        "map 16 ended" => ended_16(&rt, &mut script),
-        "map 0 set" => set_0(&rt, &mut script),
-        "map 4 set" => set_4(&rt, &mut script),
-        "map 16 set" => set_16(&rt, &mut script),
+        "map 0 free" => with_free_map::<0>(&rt, &mut script),
+        "map 4 free" => with_free_map::<4>(&rt, &mut script),
+        "map 16 free" => with_free_map::<16>(&rt, &mut script),
+        "map 0 ended" => with_ended_maps::<0>(&rt, &mut script),
+        "map 4 ended" => with_ended_maps::<4>(&rt, &mut script),
+        "map 16 ended" => with_ended_maps::<16>(&rt, &mut script),
+        "map 0 set" => with_sets::<0>(&rt, &mut script),
+        "map 4 set" => with_sets::<4>(&rt, &mut script),
+        "map 16 set" => with_sets::<16>(&rt, &mut script),
         _ => say(&rt, "not understood"),
     }
 }

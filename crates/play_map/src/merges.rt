@@ -2,7 +2,7 @@
 
 use crate::key::EndedKey;
 use crate::sets::show_in_list;
-use crate::told::{Told, say, show_bool, show_order};
+use crate::told::{Told, compare, show_bool};
 use art_set::TreeSet;
 use play_script::Asked;
 use std::io;
@@ -69,20 +69,6 @@ fn merge<const PREFIX_LEN: usize>(
         ),
         "intersection" => show_merge!(rt, set.intersection(other), most, is_counted),
         _ => show_merge!(rt, set.union(other), most, is_counted),
-    }
-}
-
-// How the two sets compare.
-fn compare<const PREFIX_LEN: usize>(
-    rt: &impl Print,
-    set: &TreeSet<EndedKey, PREFIX_LEN>,
-    other: &TreeSet<EndedKey, PREFIX_LEN>,
-) -> io::Result<()> {
-    let order = set.cmp(other);
-    if set.partial_cmp(other) == Some(order) {
-        show_order(rt, order, set == other)
-    } else {
-        say(rt, "another order")
     }
 }
 

@@ -112,7 +112,7 @@ fn show_stored_key(rt: &impl Print, key: Option<&FreeKey>) -> io::Result<()> {
 
 // What is done with the entry of a key in conflict.
 macro_rules! with_inner {
-    ($rt:ident, $map:ident, $key:ident, $entry:ident, $done:expr) => {
+    ($rt:ident, $map:ident, $key:ident, |$entry:ident| $done:expr) => {
         match $map.prefix_entry($key) {
             PrefixEntry::Occupied(entry) => match entry.kind() {
                 PrefixOccupiedKind::Inner(mut $entry) => $done,
@@ -130,16 +130,10 @@ fn write_value<const PREFIX_LEN: usize>(
     key: FreeKey,
     number: u64,
 ) -> io::Result<()> {
-    with_inner!(
-        rt,
-        map,
-        key,
-        entry,
-        {
-            show_stored_key(rt, entry.get_key())?;
-            write(rt, entry.get_mut(), number)
-        }
-    )
+    with_inner!(rt, map, key, |entry| {
+        show_stored_key(rt, entry.get_key())?;
+        write(rt, entry.get_mut(), number)
+    })
 }
 
 // It lends that pair.
@@ -149,23 +143,17 @@ fn write_pair<const PREFIX_LEN: usize>(
     key: FreeKey,
     number: u64,
 ) -> io::Result<()> {
-    with_inner!(
-        rt,
-        map,
-        key,
-        entry,
-        {
-            let mut pair = entry.get_key_value_mut();
-            match pair.value_mut() {
-                Some(value) => *value = number,
-                None => return say(rt, "None"),
-            }
-            match pair.key() {
-                Some(key) => show_key(rt, "", key),
-                None => say(rt, "None"),
-            }
+    with_inner!(rt, map, key, |entry| {
+        let mut pair = entry.get_key_value_mut();
+        match pair.value_mut() {
+            Some(value) => *value = number,
+            None => return say(rt, "None"),
         }
-    )
+        match pair.key() {
+            Some(key) => show_key(rt, "", key),
+            None => say(rt, "None"),
+        }
+    })
 }
 
 // Sets the value of the one entry in conflict, beside its own key.
@@ -175,21 +163,15 @@ fn write_lone_pair<const PREFIX_LEN: usize>(
     key: FreeKey,
     number: u64,
 ) -> io::Result<()> {
-    with_inner!(
-        rt,
-        map,
-        key,
-        entry,
-        {
-            show_key(rt, "", entry.key())?;
-            if entry.get().is_none() {
-                return say(rt, "None");
-            }
-            let pair = entry.lone_pair_mut();
-            *pair.value = number;
-            show_key(rt, "", pair.key)
+    with_inner!(rt, map, key, |entry| {
+        show_key(rt, "", entry.key())?;
+        if entry.get().is_none() {
+            return say(rt, "None");
         }
-    )
+        let pair = entry.lone_pair_mut();
+        *pair.value = number;
+        show_key(rt, "", pair.key)
+    })
 }
 
 // It lends the values of all pairs from both ends, to each of which the number is added.
@@ -199,19 +181,13 @@ fn raise_inner<const PREFIX_LEN: usize>(
     key: FreeKey,
     number: u64,
 ) -> io::Result<()> {
-    with_inner!(
-        rt,
-        map,
-        key,
-        entry,
-        {
-            let mut values = entry.iter_mut();
-            raise(rt, values.next_back(), number)?;
-            raise(rt, values.next(), number)?;
-            raise(rt, values.next(), number)?;
-            show_bool(rt, values.is_empty())
-        }
-    )
+    with_inner!(rt, map, key, |entry| {
+        let mut values = entry.iter_mut();
+        raise(rt, values.next_back(), number)?;
+        raise(rt, values.next(), number)?;
+        raise(rt, values.next(), number)?;
+        show_bool(rt, values.is_empty())
+    })
 }
 
 // What an entry shows: its key, and the stored key that it concerns.

@@ -5,7 +5,7 @@ ghost use Rattle.std.specs.Option.{unwrap_or};
 
 use std::cmp::Ordering;
 use std::hash::{Hash, Hasher};
-use std::{fmt, io};
+use std::{fmt, io, mem};
 
 /// How printing the reply to a line went; nothing where a room doesn't know the line.
 pub type Told = Option<io::Result<()>>;
@@ -40,12 +40,22 @@ pub fn show_hash<T: Hash>(rt: &impl Print, fed: &T) -> io::Result<()> {
     println!(rt; "{}", state.finish())
 }
 
-/// Prints how two of a kind compare, and whether they are equal.
-pub fn show_order(rt: &impl Print, order: Ordering, is_equal: bool) -> io::Result<()> {
+// Prints how two of a kind compare, and whether they are equal.
+fn show_order(rt: &impl Print, order: Ordering, is_equal: bool) -> io::Result<()> {
     match order {
         Ordering::Less => println!(rt; "less {is_equal}"),
         Ordering::Equal => println!(rt; "equal {is_equal}"),
         Ordering::Greater => println!(rt; "greater {is_equal}"),
+    }
+}
+
+/// Prints how two of a kind compare by each of their calls, which must agree.
+pub fn compare<T: Ord>(rt: &impl Print, first: &T, second: &T) -> io::Result<()> {
+    let order = first.cmp(second);
+    if first.partial_cmp(second) == Some(order) {
+        show_order(rt, order, first == second)
+    } else {
+        say(rt, "another order")
     }
 }
 
@@ -57,6 +67,12 @@ pub fn say(rt: &impl Print, line: &str) -> io::Result<()> {
 /// Prints that a call was done, or that it found no memory.
 pub fn show_done(rt: &impl Print, is_done: bool) -> io::Result<()> {
     say(rt, if is_done { "done" } else { "memory" })
+}
+
+/// The two of a kind change places.
+pub fn swap<T>(rt: &impl Print, first: &mut T, second: &mut T) -> io::Result<()> {
+    mem::swap(first, second);
+    say(rt, "done")
 }
 
 /// Prints whether something is so.

@@ -6,7 +6,7 @@ use crate::changes::show_refused;
 use crate::copies::copy_map;
 use crate::key::EndedKey;
 use crate::prefix_removals::{most_read, show_removed};
-use crate::told::{Told, say, show_done, show_hash, show_order, show_text};
+use crate::told::{Told, compare, say, show_done, show_hash, show_text, swap};
 use crate::walks::{count, drain, show_counted_key, show_counted_value};
 use art_bytes::SliceKey;
 use art_map::TreeMap;
@@ -99,30 +99,6 @@ fn remove_from_both<const PREFIX_LEN: usize>(
     };
     show_removed(rt, first.apply(), most)?;
     show_removed(rt, second.apply(), most_of_other)
-}
-
-// How the two maps compare.
-fn compare<const PREFIX_LEN: usize>(
-    rt: &impl Print,
-    map: &TreeMap<EndedKey, u64, PREFIX_LEN>,
-    other: &TreeMap<EndedKey, u64, PREFIX_LEN>,
-) -> io::Result<()> {
-    let order = map.cmp(other);
-    if map.partial_cmp(other) == Some(order) {
-        show_order(rt, order, map == other)
-    } else {
-        say(rt, "another order")
-    }
-}
-
-// The two maps change places.
-fn swap<const PREFIX_LEN: usize>(
-    rt: &impl Print,
-    map: &mut TreeMap<EndedKey, u64, PREFIX_LEN>,
-    other: &mut TreeMap<EndedKey, u64, PREFIX_LEN>,
-) -> io::Result<()> {
-    mem::swap(map, other);
-    say(rt, "done")
 }
 
 // The pairs of the second map go over to the first.

@@ -5,7 +5,7 @@ use crate::copies::copy_set;
 use crate::key::EndedKey;
 use crate::merges;
 use crate::sets::{show_counted, show_refused};
-use crate::told::{Told, say, show_done};
+use crate::told::{Told, say, show_done, swap};
 use crate::walks::{count, drain};
 use art_bytes::SliceKey;
 use art_set::{RefusedKey, TreeSet};
@@ -83,16 +83,6 @@ fn extend<const PREFIX_LEN: usize>(
         Ok(()) => println!(rt; "done"),
         Err(refused) => show_refused(rt, &refused.key),
     }
-}
-
-// The two sets change places.
-fn swap<const PREFIX_LEN: usize>(
-    rt: &impl Print,
-    set: &mut TreeSet<EndedKey, PREFIX_LEN>,
-    other: &mut TreeSet<EndedKey, PREFIX_LEN>,
-) -> io::Result<()> {
-    mem::swap(set, other);
-    say(rt, "done")
 }
 
 // The keys of the second set go over to the first.

@@ -1,8 +1,7 @@
 -- The first leaf whose key passes a test.
 use Rattle.std.proofs.Common.{◌≡◌, ℕ, Bool, true, false, List, [], ◌∷◌, Some, refl, ap}
-use Rattle.art_arena.specs.arena.Descents.{leaf_where}
-use Rattle.art_arena.specs.arena.Shapes.{LeafAt}
-use Rattle.art_operations.specs.Deletions.{IsAmong}
+use Rattle.art_arena.proofs.Common.{leaf_where, LeafAt}
+use Rattle.art_operations.proofs.Common.{IsAmong}
 
 module _ {K V : Type 0} (bytes : K → List ℕ) (test : List ℕ → Bool) where
   -- it is one of the leaves

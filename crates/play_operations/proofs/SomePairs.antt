@@ -1,14 +1,9 @@
 -- That an arena holds one tree, by its pairs or by its shape, and what keeps that so.
 use Rattle.std.proofs.Common.{ℕ, List, [], ◌++◌, Option, Some, None, refl}
-use Rattle.art_nodes.specs.Name.{Name}
-use Rattle.art_arena.specs.arena.Arena.{Arena, SameNodes}
-use Rattle.art_arena.specs.arena.Shapes.{Shape, leaves, pairs_of}
-use Rattle.art_arena.specs.arena.Stores.{StoresOnly}
-use Rattle.art_operations.specs.Deletions.{IsDeletedBeside}
-use Rattle.art_operations.specs.Pairs.{HasPairs}
-use Rattle.art_operations.specs.Runs.{HoldsTreeOf}
+use Rattle.art_nodes.proofs.Common.{Name}
+use Rattle.art_arena.proofs.Common.{Arena, SameNodes, Shape, leaves, pairs_of, StoresOnly}
+use Rattle.art_operations.proofs.Common.{IsDeletedBeside, HasPairs, HoldsTreeOf, leaves-pairs, pairs-same}
 use Rattle.art_operations.specs.declared.delete.result.DeleteResult.{DeleteResult}
-use Rattle.art_operations.proofs.HeldPairs.{leaves-pairs, pairs-same}
 
 module _ {K V : Type 0} (bytes : K → List ℕ) (P : ℕ) where
   -- it has some pairs, and nothing else

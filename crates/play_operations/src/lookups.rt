@@ -25,9 +25,7 @@ pub struct Read {
 impl<K: AsBytes, V, const PREFIX_LEN: usize> Tree<K, V, PREFIX_LEN> {
     // The leaf with a key.
     fn search(&self, key: &[u8]) -> Option<Read> {
-        let Some(root) = self.root else {
-            return None;
-        };
+        let root = self.root?;
         let mut reader = ArenaReader::new(&self.arena);
         let leaf = search_with(&mut reader, root, key);
         Some(Read {
@@ -39,9 +37,7 @@ impl<K: AsBytes, V, const PREFIX_LEN: usize> Tree<K, V, PREFIX_LEN> {
 
     // The leaf whose key is a front of these bytes, or all of them.
     fn prefix_search(&self, key: &[u8]) -> Option<Read> {
-        let Some(root) = self.root else {
-            return None;
-        };
+        let root = self.root?;
         let mut reader = ArenaReader::new(&self.arena);
         let leaf = prefix_search_with(&mut reader, root, key);
         Some(Read {
@@ -53,9 +49,7 @@ impl<K: AsBytes, V, const PREFIX_LEN: usize> Tree<K, V, PREFIX_LEN> {
 
     // The first leaf.
     fn minimum(&self) -> Option<Read> {
-        let Some(root) = self.root else {
-            return None;
-        };
+        let root = self.root?;
         let mut reader = ArenaReader::new(&self.arena);
         let leaf = minimum_with(&mut reader, root);
         Some(Read {
@@ -67,9 +61,7 @@ impl<K: AsBytes, V, const PREFIX_LEN: usize> Tree<K, V, PREFIX_LEN> {
 
     // The last leaf.
     fn maximum(&self) -> Option<Read> {
-        let Some(root) = self.root else {
-            return None;
-        };
+        let root = self.root?;
         let mut reader = ArenaReader::new(&self.arena);
         let leaf = maximum_with(&mut reader, root);
         Some(Read {
@@ -94,30 +86,20 @@ impl<K: AsBytes, V, const PREFIX_LEN: usize> Tree<K, V, PREFIX_LEN> {
 
     // The leaf at a bound.
     fn at_bound(&self, word: &str, key: &[u8], is_start: bool) -> Option<LeafPtr> {
-        match self.root {
-            Some(root) => {
-                find_leaf_pointer_for_bound(&self.arena, root, bound_of(word, key), is_start)
-            }
-            None => None,
-        }
+        let root = self.root?;
+        find_leaf_pointer_for_bound(&self.arena, root, bound_of(word, key), is_start)
     }
 
     // The leaves between two bounds.
     fn range(&self, asked: &Asked<'_>) -> Option<(LeafPtr, LeafPtr)> {
         let start = bound_of(asked.words[0], asked.first);
         let end = bound_of(asked.words[1], asked.second);
-        match self.root {
-            Some(root) => find_range_segment(&self.arena, root, start, end),
-            None => None,
-        }
+        find_range_segment(&self.arena, self.root?, start, end)
     }
 
     // The leaves behind a prefix.
     fn segment(&self, prefix: &[u8]) -> Option<(LeafPtr, LeafPtr)> {
-        match self.root {
-            Some(root) => find_prefix_segment(&self.arena, root, prefix),
-            None => None,
-        }
+        find_prefix_segment(&self.arena, self.root?, prefix)
     }
 
     // What the checker returns.

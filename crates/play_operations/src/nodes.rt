@@ -104,10 +104,7 @@ impl<K, const PREFIX_LEN: usize> Nodes<K, PREFIX_LEN> {
 
     // The leaf with this number, or none.
     fn leaf(&self, word: &str) -> Option<LeafPtr> {
-        match self.name(word) {
-            Some(name) => name.cast::<KindLeaf>(),
-            None => None,
-        }
+        self.name(word)?.cast::<KindLeaf>()
     }
 
     // The number of a name: that of the first one that is the same.

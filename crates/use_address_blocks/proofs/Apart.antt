@@ -4,18 +4,13 @@ use Rattle.std.proofs.Common.{◌∙◌, subst, inl, inr, arith}
 use Rattle.std.proofs.lemmas.Bool.{cond-true, cond-false}
 use Rattle.std.specs.Global.{Vec}
 use Rattle.std.specs.Map.{lookup_entry}
-use Rattle.art_bytes.specs.Keys.{BeginsWith, IsBefore}
-use Rattle.art_arena.specs.tree.Changes.{IsIn, put_in_order, is_before}
-use Rattle.art_arena.specs.tree.Order.{AscendsByKey}
-use Rattle.art_arena.specs.tree.Tenants.{begins_with}
-use Rattle.art_arena.proofs.tree.Tenants.{begins_true, begins_false}
-use Rattle.art_arena.proofs.tree.Insert.{all_at}
-use Rattle.art_arena.specs.arena.Shapes.{key_of}
-use Rattle.art_operations.specs.KeyedLists.{IsBlocked}
+use Rattle.art_bytes.proofs.Common.{BeginsWith, IsBefore}
+use Rattle.art_arena.proofs.Common.{IsIn, put_in_order, is_before, AscendsByKey, begins_with, begins_true, begins_false, all_at, key_of}
+use Rattle.art_operations.proofs.Common.{IsBlocked}
 use Rattle.art_operations.specs.declared.insert.point.InsertPrefixError.{InsertPrefixError}
 use Rattle.art_map.specs.declared.map.refused.TryInsertError.{TryInsertError}
 use Rattle.art_map.specs.declared.map.refused.TryInsertError.TheVariants.{Prefix}
-use Rattle.art_map.specs.Changes.{IsTryRefused}
+use Rattle.art_map.proofs.Common.{IsTryRefused}
 use Rattle.use_address_blocks.specs.Blocks.{Covers, IsBlockOf}
 
 -- two keys that diverge are not both fronts of one address

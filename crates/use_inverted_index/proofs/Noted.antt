@@ -2,11 +2,9 @@
 use Rattle.std.proofs.Common.{◌≡◌, ℕ, Bool, true, false, cond, List, [], Option, Some, bytes_eq, refl, sym, ap, ◌∙◌}
 use Rattle.std.specs.Map.{lookup}
 use Rattle.std.specs.Option.{unwrap_or}
-use Rattle.art_arena.proofs.tree.Distinct.{bytes_from_same}
-use Rattle.art_operations.specs.Pairs.{with_pair_put}
-use Rattle.art_map.specs.Contents.{has_bytes}
-use Rattle.art_map.specs.Laws.{ended}
-use Rattle.art_map.proofs.EndedKeys.{ended-found, ended-same}
+use Rattle.art_arena.proofs.Common.{bytes_from_same}
+use Rattle.art_operations.proofs.Common.{with_pair_put}
+use Rattle.art_map.proofs.Common.{has_bytes, ended, ended-found, ended-same}
 use Rattle.art_map.proofs.FoundBehind.{found-inserted}
 use Rattle.use_inverted_index.specs.Notes.{numbers_of}
 

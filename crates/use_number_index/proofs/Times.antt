@@ -7,16 +7,12 @@ use Rattle.std.specs.Map.{values_of}
 use Rattle.std.specs.Ordering.{nat_cmp}
 use Rattle.std.specs.declared.cmp.Ordering.TheVariants.{Less, Greater}
 use Rattle.std.proofs.lemmas.Bool.{cond-false, cases_lt}
-use Rattle.art_bytes.specs.Keys.{IsBefore}
-use Rattle.art_bytes.specs.Numbers.{big_endian}
+use Rattle.art_bytes.proofs.Common.{IsBefore, big_endian, before_cmp}
 use Rattle.art_bytes.specs.Mappings.{HaveFixedBytes}
 use Rattle.art_bytes.specs.lemmas.FixedLaws.{unsigned_bytes}
-use Rattle.art_bytes.proofs.Order.{before_cmp}
-use Rattle.art_arena.specs.tree.Changes.{IsIn, put_in_order, is_before}
-use Rattle.art_arena.specs.tree.Order.{AscendsByKey}
-use Rattle.art_arena.proofs.tree.Distinct.{bytes_from_same}
-use Rattle.art_operations.specs.KeyedLists.{without_key}
-use Rattle.art_map.specs.Contents.{first_item}
+use Rattle.art_arena.proofs.Common.{IsIn, put_in_order, is_before, AscendsByKey, bytes_from_same}
+use Rattle.art_operations.proofs.Common.{without_key}
+use Rattle.art_map.proofs.Common.{first_item}
 use Rattle.use_number_index.specs.declared.Entry.{Entry}
 use Rattle.use_number_index.specs.Entries.{IsKeyed, AreEntries, IsEarliest, IsEntryAdded}
 

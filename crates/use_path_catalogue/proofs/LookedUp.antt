@@ -3,11 +3,9 @@ use Rattle.std.proofs.Common.{◌≡◌, ℕ, cond, List, Option, None, bytes_eq
 use Rattle.std.specs.Map.{lookup}
 use Rattle.std.specs.Prelude.{Ok, Err, IfOk, OnOk}
 use Rattle.std.specs.declared.result.Result.{Result}
-use Rattle.art_arena.specs.arena.Shapes.{key_of}
-use Rattle.art_operations.specs.KeyedLists.{without_key}
-use Rattle.art_map.specs.Contents.{has_bytes}
-use Rattle.art_map.specs.Laws.{ended}
-use Rattle.art_map.proofs.EndedKeys.{ended-found, ended-removed}
+use Rattle.art_arena.proofs.Common.{key_of}
+use Rattle.art_operations.proofs.Common.{without_key}
+use Rattle.art_map.proofs.Common.{has_bytes, ended, ended-found, ended-removed}
 use Rattle.use_path_catalogue.specs.Catalogue.{size_at}
 
 pub old_size : {E : Type 0} (r : Result (Option ℕ) E) (q : List ℕ) (ps : List (List ℕ × ℕ))

@@ -1,13 +1,9 @@
 -- What stands beside a tree, and stays where only the tree changes.
 use Rattle.std.proofs.Common.{◌≡◌, ℕ, ◌≤◌, true, cond, List, [], ◌∷◌, ◌++◌, Option, Some, None, is_some, refl, sym, ap, ap₂, subst, ◌∙◌, arith}
-use Rattle.art_nodes.specs.InnerNode.{InnerNode}
-use Rattle.art_nodes.specs.Name.{Name}
+use Rattle.art_nodes.proofs.Common.{InnerNode, Name}
 use Rattle.art_nodes.specs.declared.kind.NodeType.{NodeType}
 use Rattle.art_nodes.specs.declared.kind.NodeType.TheVariants.{Leaf}
-use Rattle.art_arena.specs.arena.Arena.{Arena, Held, leaf_held, inner_held, as_inner, held_as, cell_of, links_of, node_at, links_at, KeepsNodes, SameNodes}
-use Rattle.art_arena.specs.arena.Cells.{Cell, leaf_name, same_name, copies, AreHeld, Holds}
-use Rattle.art_arena.specs.arena.Linked.{Links, times, KeepsLinksOutside}
-use Rattle.art_arena.specs.arena.Shapes.{Shape, leaves, cells, IsUnder}
+use Rattle.art_arena.proofs.Terms.{Arena, Held, leaf_held, inner_held, as_inner, held_as, cell_of, links_of, node_at, links_at, KeepsNodes, SameNodes, Cell, leaf_name, same_name, copies, AreHeld, Holds, Links, times, KeepsLinksOutside, Shape, leaves, cells, IsUnder}
 use Rattle.art_arena.proofs.shapes.CellLists.{copies-append, same_name-self}
 use Rattle.art_arena.proofs.shapes.Surroundings.{times-leaves}
 

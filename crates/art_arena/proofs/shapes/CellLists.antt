@@ -1,10 +1,10 @@
 -- Finite maps from names, and the lists of what they hold: no shapes here.
-use Rattle.std.proofs.Common.{◌≡◌, ◌≢◌, ◌⊎◌, ◌+◌, ◌≤◌, ℕ, true, false, cond, List, [], ◌∷◌, ◌++◌, Option, Some, None, is_some, refl, sym, ap, ap₂, ◌∙◌, inl, inr, arith}
+use Rattle.std.proofs.Common.{◌≡◌, ◌≢◌, ◌⊎◌, ◌+◌, ◌≤◌, ℕ, true, false, cond, List, [], ◌∷◌, ◌++◌, Option, Some, None, is_some, refl, sym, ap, ap₂, subst, ◌∙◌, inl, inr, arith}
 use Rattle.std.proofs.lemmas.Bool.Decides.{eqb_tells}
+use Rattle.art_nodes.proofs.Common.{Name}
 use Rattle.art_nodes.specs.declared.kind.NodeType.{NodeType}
 use Rattle.art_nodes.specs.declared.kind.NodeType.TheVariants.{Node4, Node16, Node32, Node48, Node256, Leaf}
-use Rattle.art_nodes.specs.Name.{Name}
-use Rattle.art_arena.specs.arena.Cells.{Cell, pair, branches, UpdatesAt, same_kind, same_name, copies, AreHeld, Holds, HoldsOnly}
+use Rattle.art_arena.proofs.Terms.{Cell, pair, branches, UpdatesAt, same_kind, same_name, copies, AreHeld, Holds, HoldsOnly}
 use Rattle.art_arena.proofs.tree.Order.{all_append, all_left, all_right}
 
 -- the children of a cell
@@ -49,91 +49,65 @@ module _ {C : Type 0} where
   copies-append n [] ys = omega arith
   copies-append n (x ∷ xs) ys = omega (arith, copies-append n xs ys)
 
+  -- what the list names stays, where the maps differ elsewhere alone
+  pub AreHeld-kept : (old new : Name → Option C) (cells : List (Name × C)) → ((n : Name) → 1 ≤ copies n cells → new n ≡ old n) → AreHeld old cells → AreHeld new cells
+  AreHeld-kept old new [] same held = tt
+  AreHeld-kept old new (c ∷ rest) same held = (
+    same c.0 (omega (arith, ap {B = ℕ} (λ b. cond b 1 0) (same_name-self c.0))) ∙ held.0,
+    AreHeld-kept old new rest (λ n here. same n (omega (arith, here))) held.1,
+  )
+
   -- what the list doesn't name may change
   pub AreHeld-frame : (old new : Name → Option C) (place : Name) (value : Option C) → UpdatesAt old new place value → (cells : List (Name × C)) → copies place cells ≡ 0 → AreHeld old cells → AreHeld new cells
-  AreHeld-frame old new place value updates [] absent held = tt
-  AreHeld-frame old new place value updates (c ∷ rest) absent held =
-      elim (same_name_tells place c.0) [
-        | inl same ↦ absurd (omega (arith, rw same.0 at absent))
-        | inr other ↦
-            let none : copies place rest ≡ 0 = omega (arith, absent) in
-            (updates.others c.0 (λ e. other.1 (sym e)) ∙ held.0, AreHeld-frame old new place value updates rest none held.1)
-      ]
+  AreHeld-frame old new place value updates cells absent held =
+      AreHeld-kept old new cells (λ n here. updates.others n (λ e. let none = subst (λ m. copies m cells ≡ 0) (sym e) absent in omega (arith, here, none))) held
 
   -- a name that isn't in the map isn't in the list
   pub copies-vacant : (at : Name → Option C) (cells : List (Name × C)) (n : Name) → Holds at cells → at n ≡ None → copies n cells ≡ 0
   copies-vacant at cells n holds vacant = holds.once n ∙ ap (λ o. cond (is_some o) 1 0) vacant
 
-  -- the map of a list with one more cell
-  pub Holds-add : (old new : Name → Option C) (n : Name) (c : C) (xs ys : List (Name × C)) → UpdatesAt old new n (Some c) → old n ≡ None → Holds old (xs ++ ys) → Holds new (xs ++ (n, c) ∷ ys)
-  Holds-add old new n c xs ys updates vacant holds =
-      let none : copies n (xs ++ ys) ≡ 0 = copies-vacant old (xs ++ ys) n holds vacant in
-      let parts = copies-append n xs ys in
+  -- the map of a list where other cells of a name stand in the place of these
+  Holds-edit : (old new : Name → Option C) (n : Name) (value : Option C) (xs was is ys : List (Name × C)) → UpdatesAt old new n value → copies n (xs ++ ys) ≡ 0 → AreHeld new is
+      → copies n is ≡ cond (is_some value) 1 0 → ((m : Name) → same_name m n ≡ false → copies m is ≡ copies m was) → Holds old (xs ++ (was ++ ys)) → Holds new (xs ++ (is ++ ys))
+  Holds-edit old new n value xs was is ys updates absent here counted same holds =
       let P_old = λ (x : Name × C). old x.0 ≡ Some x.1 in
       let P_new = λ (x : Name × C). new x.0 ≡ Some x.1 in
-      let left = AreHeld-frame old new n (Some c) updates xs (omega arith) (all_left P_old xs ys holds.held) in
-      let right = AreHeld-frame old new n (Some c) updates ys (omega arith) (all_right P_old xs ys holds.held) in
+      let parts = copies-append n xs ys in
+      let left = AreHeld-frame old new n value updates xs (omega arith) (all_left P_old xs (was ++ ys) holds.held) in
+      let right = AreHeld-frame old new n value updates ys (omega arith) (all_right P_old was ys (all_right P_old xs (was ++ ys) holds.held)) in
       record {
-        held = all_append P_new xs ((n, c) ∷ ys) left (updates.changed, right);
+        held = all_append P_new xs (is ++ ys) left (all_append P_new is ys here right);
         once = λ m. elim (same_name_tells m n) [
-          | inl same ↦
-              let is_there : new m ≡ Some c = ap new same.1 ∙ updates.changed in
-              let was : copies m (xs ++ ys) ≡ 0 = ap (λ p. copies p (xs ++ ys)) same.1 ∙ none in
-              let counted : copies m (xs ++ (n, c) ∷ ys) ≡ copies m xs + (1 + copies m ys) = rw same.0 at (copies-append m xs ((n, c) ∷ ys)) in
-              rw is_there (omega (arith, counted, was, copies-append m xs ys))
+          | inl there ↦ rw (there.1, updates.changed) (omega (arith, copies-append n xs (is ++ ys), copies-append n is ys, counted))
           | inr other ↦
-              let counted : copies m (xs ++ (n, c) ∷ ys) ≡ copies m xs + (0 + copies m ys) = rw other.0 at (copies-append m xs ((n, c) ∷ ys)) in
-              let same_count : copies m (xs ++ (n, c) ∷ ys) ≡ copies m (xs ++ ys) = omega (arith, copies-append m xs ys) in
+              let same_count : copies m (xs ++ (is ++ ys)) ≡ copies m (xs ++ (was ++ ys)) =
+              omega (arith, copies-append m xs (is ++ ys), copies-append m is ys, copies-append m xs (was ++ ys), copies-append m was ys, same m other.0) in
               rw (updates.others m other.1) (same_count ∙ holds.once m)
         ];
       }
+
+  -- a name in the list once isn't there twice
+  copies-around : (at : Name → Option C) (n : Name) (c : C) (xs ys : List (Name × C)) → Holds at (xs ++ (n, c) ∷ ys) → copies n (xs ++ ys) ≡ 0
+  copies-around at n c xs ys holds =
+      let there = (all_right (λ (x : Name × C). at x.0 ≡ Some x.1) xs ((n, c) ∷ ys) holds.held).0 in
+      let once : copies n (xs ++ (n, c) ∷ ys) ≡ 1 = holds.once n ∙ ap (λ o. cond (is_some o) 1 0) there in
+      let parts : copies n (xs ++ (n, c) ∷ ys) ≡ copies n xs + (1 + copies n ys) = rw same_name-self at (copies-append n xs ((n, c) ∷ ys)) in
+      omega (arith, copies-append n xs ys)
+
+  -- the map of a list with one more cell
+  pub Holds-add : (old new : Name → Option C) (n : Name) (c : C) (xs ys : List (Name × C)) → UpdatesAt old new n (Some c) → old n ≡ None → Holds old (xs ++ ys) → Holds new (xs ++ (n, c) ∷ ys)
+  Holds-add old new n c xs ys updates vacant holds =
+      Holds-edit old new n (Some c) xs [] ((n, c) ∷ []) ys updates (copies-vacant old (xs ++ ys) n holds vacant) (updates.changed, tt) (rw (same_name-self n) refl) (λ m other. rw other refl) holds
 
   -- the map of a list with another cell in the place of one
   pub Holds-write : (old new : Name → Option C) (n : Name) (was c : C) (xs ys : List (Name × C)) → UpdatesAt old new n (Some c) → Holds old (xs ++ (n, was) ∷ ys) → Holds new (xs ++ (n, c) ∷ ys)
   Holds-write old new n was c xs ys updates holds =
-      let P_old = λ (x : Name × C). old x.0 ≡ Some x.1 in
-      let P_new = λ (x : Name × C). new x.0 ≡ Some x.1 in
-      let there = all_right P_old xs ((n, was) ∷ ys) holds.held in
-      let once : copies n (xs ++ (n, was) ∷ ys) ≡ 1 = holds.once n ∙ ap (λ o. cond (is_some o) 1 0) there.0 in
-      let parts : copies n (xs ++ (n, was) ∷ ys) ≡ copies n xs + (1 + copies n ys) = rw same_name-self at (copies-append n xs ((n, was) ∷ ys)) in
-      let left = AreHeld-frame old new n (Some c) updates xs (omega arith) (all_left P_old xs ((n, was) ∷ ys) holds.held) in
-      let right = AreHeld-frame old new n (Some c) updates ys (omega arith) there.1 in
-      record {
-        held = all_append P_new xs ((n, c) ∷ ys) left (updates.changed, right);
-        once = λ m.
-            let same_count : copies m (xs ++ (n, c) ∷ ys) ≡ copies m (xs ++ (n, was) ∷ ys) = copies-append m xs ((n, c) ∷ ys) ∙ sym (copies-append m xs ((n, was) ∷ ys)) in
-            elim (same_name_tells m n) [
-              | inl same ↦
-                  let is_there : new m ≡ Some c = ap new same.1 ∙ updates.changed in
-                  let was_there : old m ≡ Some was = ap old same.1 ∙ there.0 in
-                  rw is_there (same_count ∙ holds.once m ∙ ap (λ o. cond (is_some o) 1 0) was_there)
-              | inr other ↦ rw (updates.others m other.1) (same_count ∙ holds.once m)
-            ];
-      }
+      Holds-edit old new n (Some c) xs ((n, was) ∷ []) ((n, c) ∷ []) ys updates (copies-around old n was xs ys holds) (updates.changed, tt) (rw (same_name-self n) refl) (λ m other. refl) holds
 
   -- the map of a list with one cell less
   pub Holds-remove : (old new : Name → Option C) (n : Name) (was : C) (xs ys : List (Name × C)) → UpdatesAt old new n None → Holds old (xs ++ (n, was) ∷ ys) → Holds new (xs ++ ys)
   Holds-remove old new n was xs ys updates holds =
-      let P_old = λ (x : Name × C). old x.0 ≡ Some x.1 in
-      let P_new = λ (x : Name × C). new x.0 ≡ Some x.1 in
-      let there = all_right P_old xs ((n, was) ∷ ys) holds.held in
-      let once : copies n (xs ++ (n, was) ∷ ys) ≡ 1 = holds.once n ∙ ap (λ o. cond (is_some o) 1 0) there.0 in
-      let parts : copies n (xs ++ (n, was) ∷ ys) ≡ copies n xs + (1 + copies n ys) = rw same_name-self at (copies-append n xs ((n, was) ∷ ys)) in
-      let left = AreHeld-frame old new n None updates xs (omega arith) (all_left P_old xs ((n, was) ∷ ys) holds.held) in
-      let right = AreHeld-frame old new n None updates ys (omega arith) there.1 in
-      record {
-        held = all_append P_new xs ys left right;
-        once = λ m. elim (same_name_tells m n) [
-          | inl same ↦
-              let gone : new m ≡ None = ap new same.1 ∙ updates.changed in
-              let empty : copies n (xs ++ ys) ≡ 0 = omega (arith, copies-append n xs ys) in
-              rw (gone, same.1) empty
-          | inr other ↦
-              let counted : copies m (xs ++ (n, was) ∷ ys) ≡ copies m xs + (0 + copies m ys) = rw other.0 at (copies-append m xs ((n, was) ∷ ys)) in
-              let same_count : copies m (xs ++ ys) ≡ copies m (xs ++ (n, was) ∷ ys) = omega (arith, copies-append m xs ys) in
-              rw (updates.others m other.1) (same_count ∙ holds.once m)
-        ];
-      }
+      Holds-edit old new n None xs ((n, was) ∷ []) [] ys updates (copies-around old n was xs ys holds) tt refl (λ m other. rw other refl) holds
 
   -- cells may stand in another order
   pub Holds-turn : (at : Name → Option C) (xs ys zs ws : List (Name × C)) → Holds at (xs ++ (ys ++ (zs ++ ws))) → Holds at (xs ++ (zs ++ (ys ++ ws)))
@@ -172,21 +146,9 @@ module _ {C : Type 0} where
       none (Some c) e = absurd (omega (arith, e))
   holds-only at (c ∷ cells) holds = holds
 
-  AreHeld-same : (old new : Name → Option C) → ((n : Name) → new n ≡ old n) → (cells : List (Name × C)) → AreHeld old cells → AreHeld new cells
-  AreHeld-same old new same [] held = tt
-  AreHeld-same old new same (c ∷ rest) held = (same c.0 ∙ held.0, AreHeld-same old new same rest held.1)
-
   -- two maps that answer alike hold the same cells
   pub Holds-same : (old new : Name → Option C) → ((n : Name) → new n ≡ old n) → (cells : List (Name × C)) → Holds old cells → Holds new cells
   Holds-same old new same cells holds = record {
-    held = AreHeld-same old new same cells holds.held;
+    held = AreHeld-kept old new cells (λ n here. same n) holds.held;
     once = λ n. holds.once n ∙ ap (λ o. cond (is_some o) 1 0) (sym (same n));
   }
-
-  -- what the list names stays, where the maps differ elsewhere alone
-  pub AreHeld-kept : (old new : Name → Option C) (cells : List (Name × C)) → ((n : Name) → 1 ≤ copies n cells → new n ≡ old n) → AreHeld old cells → AreHeld new cells
-  AreHeld-kept old new [] same held = tt
-  AreHeld-kept old new (c ∷ rest) same held = (
-    same c.0 (omega (arith, ap {B = ℕ} (λ b. cond b 1 0) (same_name-self c.0))) ∙ held.0,
-    AreHeld-kept old new rest (λ n here. same n (omega (arith, here))) held.1,
-  )

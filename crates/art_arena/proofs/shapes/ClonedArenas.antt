@@ -3,12 +3,11 @@ use Rattle.std.proofs.Common.{◌≡◌, ℕ, zero, suc, List, [], ◌∷◌, Op
 use Rattle.std.specs.List.{AllZip}
 use Rattle.slab.specs.Slab.{Slab, get, IsSlotClone}
 use Rattle.art_nodes.specs.Leaf.{IsLeafClone}
-use Rattle.art_nodes.specs.InnerNode.{InnerNode}
+use Rattle.art_nodes.proofs.Common.{InnerNode}
 use Rattle.art_nodes.specs.declared.leaf.LeafNode.{LeafNode}
 use Rattle.art_nodes.specs.declared.kind.NodeType.{NodeType}
 use Rattle.art_nodes.specs.declared.kind.NodeType.TheVariants.{Node4, Node16, Node32, Node48, Node256, Leaf}
-use Rattle.art_arena.specs.arena.Arena.{Arena, as_leaf, as_inner, held_as}
-use Rattle.art_arena.specs.arena.ArenaClones.{IsHeldClone, IsArenaClone}
+use Rattle.art_arena.proofs.Terms.{Arena, as_leaf, as_inner, held_as, IsHeldClone, IsArenaClone}
 
 -- a clone of an inner node is the same
 abbrev pub SameInner : InnerNode → InnerNode → Type 0

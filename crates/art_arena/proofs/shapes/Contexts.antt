@@ -1,9 +1,7 @@
 -- A shape with a place: what stands around the place depends on the name there alone.
 use Rattle.std.proofs.Common.{◌≡◌, ℕ, suc, ◌+◌, ◌≤◌, List, [], ◌∷◌, ◌++◌, length, refl, sym, ap, subst, ◌∙◌, arith, append_assoc, zero-le}
 use Rattle.std.proofs.lemmas.List.{append-nil}
-use Rattle.art_arena.specs.tree.Kinds.{IsKindOf}
-use Rattle.art_arena.specs.arena.Shapes.{Shape, Branches, no_branch, branch, name_of, children_at, join, width, leaves, leaves_in, cells, cells_in, IsUnder, AreUnder}
-use Rattle.art_arena.specs.arena.Context.{Frame, fill, plug, path_to, leaves_before, leaves_after, root_of, frame_cell, cells_before, cells_after, AreBelow, AreAround}
+use Rattle.art_arena.proofs.Terms.{IsKindOf, Shape, Branches, no_branch, branch, name_of, children_at, join, width, leaves, leaves_in, cells, cells_in, IsUnder, AreUnder, Frame, fill, plug, path_to, leaves_before, leaves_after, root_of, frame_cell, cells_before, cells_after, AreBelow, AreAround}
 
 module _ {K V : Type 0} where
   pub children_at-join : (f g : Branches K V) → children_at (join f g) ≡ children_at f ++ children_at g

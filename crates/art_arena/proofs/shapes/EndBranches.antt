@@ -1,10 +1,7 @@
 -- The child at the end of the branches: the first or the last leaf stands there.
 use Rattle.std.proofs.Common.{◌≡◌, ℕ, List, [], ◌∷◌, ◌++◌, Some, None, IsSome, refl, sym, ap, subst, ◌∙◌, arith, ◌≤◌}
-use Rattle.art_nodes.specs.Name.{Name}
-use Rattle.art_arena.specs.arena.Shapes.{Shape, Branches, no_branch, branch, LeafAt, leaves, leaves_in, join, width, IsUnder, AreUnder, children_at, name_of}
-use Rattle.art_arena.specs.arena.EndLeaves.{end_slot, end_child}
-use Rattle.art_arena.specs.declared.ends.End.{End}
-use Rattle.art_arena.specs.declared.ends.End.TheVariants.{First, Last}
+use Rattle.art_nodes.proofs.Common.{Name}
+use Rattle.art_arena.proofs.Terms.{Shape, Branches, no_branch, branch, LeafAt, leaves, leaves_in, join, width, IsUnder, AreUnder, children_at, name_of, end_slot, end_child, End, First, Last}
 use Rattle.art_arena.proofs.shapes.Contexts.{leaves_in-join}
 use Rattle.art_arena.proofs.shapes.LinkedLists.{last_slot-append}
 use Rattle.std.proofs.lemmas.List.{append-nil}

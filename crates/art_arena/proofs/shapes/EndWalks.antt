@@ -1,32 +1,18 @@
 -- The way down to the first or the last leaf below a node.
 use Rattle.std.proofs.Common.{◌≡◌, ◌≢◌, ℕ, suc, ◌+◌, ◌-◌, ◌^◌, ◌<◌, ◌≤◌, min, List, [], ◌∷◌, ◌++◌, take, drop, length, Option, Some, IsSome, refl, sym, ap, ap₂, subst, ◌∙◌, arith, append_assoc, length-append, length-drop}
 use Rattle.std.proofs.lemmas.List.{drop-drop}
-use Rattle.art_bytes.specs.Keys.{BeginsWith}
-use Rattle.art_bytes.proofs.Order.{begins_append, begins_step}
+use Rattle.art_bytes.proofs.Common.{BeginsWith, begins_append, begins_step}
+use Rattle.art_nodes.proofs.Common.{InnerNode, Name}
 use Rattle.art_nodes.specs.declared.kind.NodeType.TheVariants.{Leaf}
-use Rattle.art_nodes.specs.InnerNode.{InnerNode}
-use Rattle.art_nodes.specs.Name.{Name}
-use Rattle.art_arena.specs.tree.Kinds.{IsKindOf}
-use Rattle.art_arena.specs.arena.Arena.{Arena, Held, inner_held, held_at, node_at, slots_of}
-use Rattle.art_arena.specs.arena.Shapes.{Shape, Branches, LeafAt, leaf_at, inner_at, name_of, no_branch, branch, join, width, leaves, leaves_in, erase, erase_in, IsUnder, AreUnder}
-use Rattle.art_arena.specs.arena.Cells.{leaf_name, pair}
-use Rattle.art_arena.specs.arena.Descents.{ReadsPath}
-use Rattle.art_arena.specs.arena.Reads.{KeysWithin}
-use Rattle.art_arena.specs.tree.Paths.{path_of, path_in}
+use Rattle.art_arena.proofs.Terms.{Arena, Held, inner_held, held_at, node_at, slots_of, Shape, Branches, LeafAt, leaf_at, inner_at, name_of, branch, join, leaves, leaves_in, erase, erase_in, IsUnder, AreUnder, leaf_name, pair, ReadsPath, KeysWithin, path_of, path_in, Frame, IsSubtree, IsPlace, Step, steps_to, end_slot, end_child, IsLeafPlace, End, First, Last}
 use Rattle.art_arena.proofs.tree.Order.{all_left, all_right}
 use Rattle.art_arena.proofs.tree.Sizes.{path_length}
 use Rattle.art_arena.proofs.shapes.Finding.{counted_more, path_in-step}
 use Rattle.art_arena.proofs.shapes.Prefixes.{drop-front}
-use Rattle.art_arena.specs.arena.Context.{Frame, plug, path_to, AreBelow}
-use Rattle.art_arena.specs.arena.Meaning.{IsSubtree}
-use Rattle.art_arena.specs.arena.Places.{IsPlace}
-use Rattle.art_arena.specs.arena.Steps.{Step, steps_to}
 use Rattle.art_arena.proofs.shapes.LastSteps.{last_two}
-use Rattle.art_arena.proofs.shapes.Contexts.{leaves_in-join, width-join}
-use Rattle.art_arena.proofs.shapes.Places.{at-root, leaf-there}
-use Rattle.art_arena.specs.arena.EndLeaves.{end_slot, end_child, IsLeafPlace}
-use Rattle.art_arena.specs.declared.ends.End.{End}
-use Rattle.art_arena.specs.declared.ends.End.TheVariants.{First, Last}
+use Rattle.art_arena.proofs.shapes.Contexts.{leaves_in-join}
+use Rattle.art_arena.proofs.shapes.Places.{around, at-root, leaf-there}
+pub use Rattle.art_arena.proofs.shapes.Places.{place_below}
 use Rattle.art_arena.proofs.shapes.Measures.{nodes_below}
 use Rattle.art_arena.proofs.shapes.Subtrees.{subtree-inner, subtree-branch, root_held, measure_is}
 use Rattle.art_arena.proofs.shapes.EndBranches.{EndBranch, end_branch}
@@ -36,45 +22,13 @@ pub same_inner : {K V : Type 0} (held : Option (Held K V)) (a b : InnerNode) →
 same_inner held a b e f = cc
 
 module _ {K V : Type 0} (bytes : K → List ℕ) where
-  record Around (path : List ℕ) (low : ℕ) (before : Branches K V) (b : ℕ) (t : Shape K V) (after : Branches K V) : Type 0 where
-    pub before_under : AreUnder bytes path low before
-    pub below : AreBelow b before
-    pub above_low : low ≤ b
-    pub here_under : IsUnder bytes (path ++ b ∷ []) t
-    pub after_under : AreUnder bytes path (b + 1) after
-
-  around : (path : List ℕ) (low : ℕ) (before : Branches K V) (b : ℕ) (t : Shape K V) (after : Branches K V) → AreUnder bytes path low (join before (branch b t after)) → Around path low before b t after
-  around path low no_branch b t after under = record { before_under = tt; below = tt; above_low = under.0; here_under = under.1; after_under = under.2 }
-  around path low (branch c u before) b t after under =
-      let later = around path (c + 1) before b t after under.2 in
-      record {
-        before_under = (under.0, under.1, later.before_under);
-        below = (omega (arith, later.above_low), later.below);
-        above_low = omega (arith, later.above_low, under.0);
-        here_under = later.here_under;
-        after_under = later.after_under;
-      }
-
-  -- from an inner node at a place to one of its children
-  pub place_below : (whole : Shape K V) (ctx : List (Frame K V)) (n : Name) (prefix : List ℕ) (kids before : Branches K V) (b : ℕ) (t : Shape K V) (after : Branches K V)
-      → IsPlace bytes whole ctx (inner_at n prefix kids) → kids ≡ join before (branch b t after)
-      → IsPlace bytes whole (record { name = n; prefix = prefix; before = before; byte = b; after = after } ∷ ctx) t
-  place_below whole ctx n prefix kids before b t after place is =
-      let a = around (path_to ctx ++ prefix) 0 before b t after (subst (AreUnder bytes (path_to ctx ++ prefix) 0) is place.under.1) in
-      let wide : width kids ≡ suc (width before + width after) = omega (arith, ap width is, width-join before (branch b t after)) in
-      record {
-        is = place.is ∙ ap (λ f. plug ctx (inner_at n prefix f)) is;
-        around = (subst (IsKindOf n.kind) wide place.under.0, a.before_under, a.below, a.after_under, place.around);
-        under = a.here_under;
-      }
-
   -- the path of a key goes on from an inner node to the child under the key's byte there
   path_goes_on : (below prefix : List ℕ) (n : Name) (kids before : Branches K V) (b : ℕ) (t : Shape K V) (after : Branches K V)
       → AreUnder bytes (below ++ prefix) 0 kids → kids ≡ join before (branch b t after) → (k : List ℕ) → BeginsWith ((below ++ prefix) ++ b ∷ []) k
       → length (path_of (erase (inner_at n prefix kids)) (drop (length below) k)) ≡ suc (length (path_of (erase t) (drop (length ((below ++ prefix) ++ b ∷ [])) k)))
   path_goes_on below prefix n kids before b t after under whole k begins =
       let st = begins_step (below ++ prefix) b k begins in
-      let a = around (below ++ prefix) 0 before b t after (subst (AreUnder bytes (below ++ prefix) 0) whole under) in
+      let a = around bytes (below ++ prefix) 0 before b t after (subst (AreUnder bytes (below ++ prefix) 0) whole under) in
       let here : drop (length prefix) (drop (length below) k) ≡ b ∷ st.0 =
       drop-drop (length prefix) (length below) k ∙ ap (λ d. drop d k) (sym (length-append below prefix)) ∙ ap (drop (length (below ++ prefix))) st.1 ∙ drop-front (below ++ prefix) (b ∷ st.0) in
       let there : drop (length ((below ++ prefix) ++ b ∷ [])) k ≡ st.0 =

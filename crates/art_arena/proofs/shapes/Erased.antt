@@ -1,10 +1,7 @@
 -- A shape, its names put aside, is the canonical tree of its pairs.
 use Rattle.std.proofs.Common.{◌≡◌, ℕ, suc, ◌+◌, ◌≤◌, List, [], ◌∷◌, ◌++◌, refl, sym, ap, ap₂, ◌∙◌, arith}
 use Rattle.std.proofs.lemmas.List.{map-append}
-use Rattle.art_arena.specs.tree.Trees.{items, items_in, count, IsBelow, IsCanonical, AreCanonical}
-use Rattle.art_arena.specs.tree.TreeOf.{tree_of}
-use Rattle.art_arena.specs.arena.Shapes.{Shape, Branches, leaf_at, inner_at, no_branch, branch, leaves, leaves_in, pairs_of, width, erase, erase_in, IsUnder, AreUnder, key_of}
-use Rattle.art_arena.specs.Laws.{ShapeMeansTree}
+use Rattle.art_arena.proofs.Terms.{items, items_in, count, IsBelow, IsCanonical, AreCanonical, tree_of, Shape, Branches, leaf_at, inner_at, no_branch, branch, leaves, leaves_in, pairs_of, width, erase, erase_in, IsUnder, AreUnder, key_of, ShapeMeansTree}
 use Rattle.art_arena.proofs.tree.Unique.{tree_of_items}
 
 module _ {K V : Type 0} where

@@ -1,5 +1,5 @@
 -- The way of a key: what one step down finds, and where it ends.
-use Rattle.std.proofs.Common.{◌≡◌, ◌≢◌, ℕ, suc, ◌+◌, ◌<◌, ◌≤◌, min, Bool, true, false, cond, List, [], ◌∷◌, ◌++◌, length, get_or, drop, filter, map, None, refl, sym, ap, ap₂, ◌∙◌, inl, inr, arith, length-append, append_assoc, add-one, drop-cons, bytes_eq}
+use Rattle.std.proofs.Common.{◌≡◌, ◌≢◌, ℕ, suc, ◌+◌, ◌<◌, ◌≤◌, min, Bool, true, false, List, [], ◌∷◌, ◌++◌, length, get_or, drop, filter, map, None, refl, sym, ap, ap₂, ◌∙◌, inl, inr, arith, length-append, append_assoc, add-one, drop-cons, bytes_eq}
 use Rattle.std.specs.List.{AllByRecursion}
 use Rattle.std.specs.Bool.{Decides}
 use Rattle.std.proofs.lemmas.Bool.{false_from_ne_true}
@@ -7,25 +7,15 @@ use Rattle.std.proofs.lemmas.Bool.Decides.{eqb_tells}
 use Rattle.std.proofs.lemmas.Slice.Eq.{bytes_eq-Decides}
 use Rattle.std.proofs.lemmas.List.{append-nil, map-append}
 use Rattle.std.proofs.lemmas.List.Elements.{filter-append}
-use Rattle.art_bytes.specs.Keys.{BeginsWith}
-use Rattle.art_nodes.specs.Name.{Name}
-use Rattle.art_nodes.specs.InnerNode.{child_at}
+use Rattle.art_bytes.proofs.Common.{BeginsWith, begins_step}
+use Rattle.art_nodes.proofs.Common.{Name, child_at}
 use Rattle.art_arena.specs.tree.Trees as tree
-use Rattle.art_arena.specs.tree.Paths.{path_of, path_in}
-use Rattle.art_arena.specs.arena.Shapes.{Shape, Branches, leaf_at, inner_at, no_branch, branch, LeafAt, children_at, join, leaves, leaves_in, erase, erase_in, AreUnder}
-use Rattle.art_arena.specs.arena.Context.{AreBelow}
-use Rattle.art_arena.specs.arena.Steps.{Step}
-use Rattle.art_arena.specs.arena.Found.{Located, located, located_in, located_with_key}
+use Rattle.art_arena.proofs.Terms.{path_of, path_in, Shape, Branches, leaf_at, inner_at, no_branch, branch, LeafAt, children_at, join, leaves, leaves_in, erase, erase_in, AreUnder, AreBelow, Step, Located, located, located_in, located_with_key, TakesFronts, located_where}
 use Rattle.art_arena.proofs.tree.Order.{all_append, all_left, all_right, all_weaker}
-use Rattle.art_arena.specs.arena.Descents.{TakesFronts, located_where}
+use Rattle.art_arena.proofs.tree.Filters.{filter-map}
 use Rattle.art_arena.proofs.tree.Fronts.{begins_trans}
+use Rattle.art_arena.proofs.shapes.Passing.{byte_behind}
 use Rattle.art_arena.proofs.shapes.Places.{leaves-begin}
-use Rattle.art_bytes.proofs.Order.{begins_step}
-
--- bytes behind a path
-pub byte_behind : (path rest : List ℕ) (c : ℕ) → get_or (path ++ c ∷ rest) (length path) 0 ≡ c
-byte_behind [] rest c = refl
-byte_behind (x ∷ path) rest c = byte_behind path rest c
 
 -- a key that goes on behind the path by one byte is no front of one that goes on by another, or that ends with it
 pub other_byte : (path key other : List ℕ) (c b : ℕ) → BeginsWith (path ++ c ∷ []) other → get_or key (length path) 0 ≡ b → c ≢ b → BeginsWith other key → ⊥
@@ -170,16 +160,5 @@ module _ {K V : Type 0} (bytes : K → List ℕ) (key : List ℕ) where
         map-append pair_at (located (record { node = n; byte = b } ∷ above) s) (located_in above n rest)
         ∙ ap₂ (λ xs ys. xs ++ ys) (pairs-located (record { node = n; byte = b } ∷ above) s) (pairs-located_in above n rest)
 
-  -- the test that a leaf has the key
-  abbrev has : Located K V → Bool
-  has l = bytes_eq (bytes l.leaf.key) key
-
-  pairs-filter : (ls : List (Located K V)) → filter (λ p. bytes_eq (bytes p.0) key) (map pair_at ls) ≡ map pair_at (filter has ls)
-  pairs-filter [] = refl
-  pairs-filter (l ∷ ls) = elim (has l) as (λ b. cond b (pair_at l ∷ filter (λ p. bytes_eq (bytes p.0) key) (map pair_at ls)) (filter (λ p. bytes_eq (bytes p.0) key) (map pair_at ls)) ≡ map pair_at (cond b (l ∷ filter has ls) (filter has ls))) [
-    | true ↦ ap (λ xs. pair_at l ∷ xs) (pairs-filter ls)
-    | false ↦ pairs-filter ls
-  ]
-
   pub pairs-with_key : (s : Shape K V) → filter (λ p. bytes_eq (bytes p.0) key) (tree.items (erase s)) ≡ map pair_at (located_with_key bytes key s)
-  pairs-with_key s = ap (filter (λ p. bytes_eq (bytes p.0) key)) (sym (pairs-located [] s)) ∙ pairs-filter (located [] s)
+  pairs-with_key s = ap (filter (λ p. bytes_eq (bytes p.0) key)) (sym (pairs-located [] s)) ∙ filter-map (λ p. bytes_eq (bytes p.0) key) pair_at (located [] s)

@@ -1,18 +1,11 @@
 -- What the leaf at which a descent ended tells of the leaves with the key, and of those whose keys are a front of it.
-use Rattle.std.proofs.Common.{◌≡◌, ◌≢◌, ℕ, Bool, true, false, if◌then◌else◌, List, [], ◌∷◌, ◌++◌, map, filter, Option, Some, None, refl, sym, ap, ap₂, subst, ◌∙◌, append-nil, bytes_eq}
+use Rattle.std.proofs.Common.{◌≡◌, ◌≢◌, ℕ, Bool, true, false, List, [], ◌∷◌, ◌++◌, map, filter, Option, Some, None, refl, sym, ap, ap₂, subst, ◌∙◌, append-nil, bytes_eq}
 use Rattle.std.proofs.lemmas.List.{map-append}
 use Rattle.std.proofs.lemmas.Slice.Eq.{bytes_eq-Decides}
-use Rattle.art_nodes.specs.Name.{Name}
+use Rattle.art_nodes.proofs.Common.{Name}
 use Rattle.art_nodes.specs.declared.leaf.LeafNode.{LeafNode}
-use Rattle.art_arena.specs.tree.Trees.{Tree, items}
-use Rattle.art_arena.specs.tree.Tenants.{begins_with}
-use Rattle.art_arena.specs.arena.Cells.{Cell, pair, leaf_name, AreHeld}
-use Rattle.art_arena.specs.arena.Shapes.{Shape, Branches, leaf_at, inner_at, no_branch, branch, LeafAt, leaves, leaves_in, cells}
-use Rattle.art_arena.specs.arena.Linked.{Links, first_slot}
-use Rattle.art_arena.specs.arena.Meaning.{IsSubtree, Means}
-use Rattle.art_arena.specs.arena.Steps.{Step, steps_to}
-use Rattle.art_arena.specs.arena.Found.{Located, located, located_in, located_with_key}
-use Rattle.art_arena.specs.arena.Descents.{TakesFronts, passing, leaf_where, located_where, LandsAt, HasNoFront}
+use Rattle.art_arena.proofs.Terms.{Tree, items, begins_with, Cell, pair, leaf_name, AreHeld, Shape, Branches, leaf_at, inner_at, no_branch, branch, LeafAt, leaves, leaves_in, cells, Links, first_slot, IsSubtree, Means, Step, steps_to, Located, located, located_in, located_with_key, TakesFronts, passing, leaf_where, located_where, LandsAt, HasNoFront}
+use Rattle.art_arena.proofs.tree.Filters.{filter-map}
 use Rattle.art_arena.proofs.tree.Tenants.{begins_true}
 use Rattle.art_arena.proofs.shapes.Places.{held-below}
 use Rattle.art_arena.proofs.shapes.Finding.{same_key, other_key, pair_at, pairs-with_key}
@@ -42,16 +35,9 @@ mutual
       ∙ ap₂ (λ xs ys. xs ++ ys) (leaves-located (record { node = n; byte = b } ∷ above) s) (leaves-located_in above n rest)
 
 module _ {K V : Type 0} (bytes : K → List ℕ) where
-  passing-map : (test : List ℕ → Bool) (ls : List (Located K V)) → passing bytes test (leaves_of ls) ≡ leaves_of (located_where bytes test ls)
-  passing-map test [] = refl
-  passing-map test (l ∷ ls) = elim (test (bytes l.leaf.key)) as (λ b. (if b then l.leaf ∷ passing bytes test (leaves_of ls) else passing bytes test (leaves_of ls)) ≡ leaves_of (if b then l ∷ located_where bytes test ls else located_where bytes test ls)) [
-    | true ↦ ap (λ xs. l.leaf ∷ xs) (passing-map test ls)
-    | false ↦ passing-map test ls
-  ]
-
   -- the leaves that pass a test, with the steps to them or without
   pub passing-located : (test : List ℕ → Bool) (s : Shape K V) → passing bytes test (leaves s) ≡ leaves_of (located_where bytes test (located [] s))
-  passing-located test s = ap (passing bytes test) (sym (leaves-located [] s)) ∙ passing-map test (located [] s)
+  passing-located test s = ap (passing bytes test) (sym (leaves-located [] s)) ∙ filter-map (λ l. test (bytes l.key)) (λ l. l.leaf) (located [] s)
 
   module _ (key : List ℕ) (s : Shape K V) where
     module _ (slot : ℕ) (leaf : LeafNode K V) (last : List Step) (lands : LandsAt bytes key s slot leaf last) where

@@ -1,24 +1,16 @@
 -- A guide: how it is found by a way down, and what it tells at each node on the key's way.
 use Rattle.std.proofs.Common.{◌≡◌, ℕ, ◌+◌, ◌≤◌, List, [], ◌∷◌, ◌++◌, length, get_or, Option, Some, None, sym, ap, subst, ◌∙◌, inl, inr, arith, length-append}
-use Rattle.art_bytes.specs.Keys.{BeginsWith}
-use Rattle.art_bytes.proofs.Order.{begins_append, begins_step}
-use Rattle.art_nodes.specs.InnerNode.{InnerNode, child_at}
-use Rattle.art_nodes.specs.Name.{Name}
+use Rattle.art_bytes.proofs.Common.{BeginsWith, begins_append, begins_step}
+use Rattle.art_nodes.proofs.Common.{InnerNode, child_at, Name}
 use Rattle.art_nodes.specs.declared.leaf.LeafNode.{LeafNode}
-use Rattle.art_arena.specs.arena.Arena.{Arena, cell_of, held_at, leaf_held, node_at}
-use Rattle.art_arena.specs.arena.Cells.{Cell, branches, leaf_name}
-use Rattle.art_arena.specs.arena.Descents.{GoesOn, GoesNoFurther, IsGuide, GuidesBelow}
-use Rattle.art_arena.specs.arena.Meaning.{IsAtDepth, IsSubtree}
-use Rattle.art_arena.specs.arena.Prefixes.{prefix_of}
-use Rattle.art_arena.specs.arena.Linked.{first_slot}
-use Rattle.art_arena.specs.arena.Reads.{IsReadAt, KeysWithin}
-use Rattle.art_arena.specs.arena.Shapes.{Shape, Branches, leaf_at, inner_at, no_branch, branch, join, name_of, children_at, leaves, IsUnder}
+use Rattle.art_arena.proofs.Terms.{Arena, cell_of, held_at, leaf_held, node_at, Cell, branches, leaf_name, GoesOn, GoesNoFurther, IsGuide, GuidesBelow, IsAtDepth, IsSubtree, prefix_of, first_slot, IsReadAt, KeysWithin, Shape, Branches, leaf_at, inner_at, no_branch, branch, join, name_of, children_at, leaves, IsUnder, AreUnder}
 use Rattle.std.specs.List.{AllByRecursion}
 use Rattle.art_arena.proofs.tree.Shrinks.{same_front}
 use Rattle.art_arena.proofs.shapes.EndWalks.{within_branch}
-use Rattle.art_arena.proofs.shapes.Finding.{Avoid, avoid-above, avoid-below, avoid-missing, byte_behind}
+use Rattle.art_arena.proofs.shapes.Finding.{Avoid, avoid-above, avoid-below, avoid-missing}
+use Rattle.art_arena.proofs.shapes.Passing.{byte_behind}
 use Rattle.art_arena.proofs.shapes.OneMeaning.{same_shape}
-use Rattle.art_arena.proofs.shapes.Places.{inner-there, leaves-begin, split}
+use Rattle.art_arena.proofs.shapes.Places.{around, inner-there, leaves-begin, split}
 use Rattle.art_arena.proofs.shapes.Prefixes.{first_leaf}
 use Rattle.art_arena.proofs.shapes.Subtrees.{some_leaf, subtree-branch}
 
@@ -130,7 +122,8 @@ module _ {K V : Type 0} (bytes : K → List ℕ) (P : ℕ) (at : Name → Option
     along-child b child next goes =
         let h = here in
         let front = path ++ h.prefix in
-        let sp = split bytes h.kids b child front 0 h.subtree.under.1 (ap (λ cs. child_at cs b) (sym h.kids_are) ∙ goes.child_is) in
+        let sp = split h.kids b child (ap (λ cs. child_at cs b) (sym h.kids_are) ∙ goes.child_is) in
+        let a = around bytes front 0 sp.before b sp.here sp.after (subst (AreUnder bytes front 0) sp.kids_are h.subtree.under.1) in
         let below = subtree-branch bytes P at n path h.prefix h.kids sp.before b sp.here sp.after h.subtree sp.kids_are in
         let at_b : get_or key (length front) 0 ≡ b = ap (λ i. get_or key i 0) h.front_len ∙ goes.byte_is in
         record {
@@ -144,7 +137,7 @@ module _ {K V : Type 0} (bytes : K → List ℕ) (P : ℕ) (at : Name → Option
               subst (IsGuide key guide path) (sym h.is) (
                 begins_append front (b ∷ []) guide (guide_path key guide (front ++ b ∷ []) sp.here g),
                 subst (GuidesBelow key guide front) (sym sp.kids_are)
-                    (guides_up key guide bytes front sp.before b sp.here sp.after at_b (avoid-below bytes key b sp.before sp.below) (avoid-above bytes key front b (b + 1) sp.after (omega arith) sp.after_under) g),
+                    (guides_up key guide bytes front sp.before b sp.here sp.after at_b (avoid-below bytes key b sp.before a.below) (avoid-above bytes key front b (b + 1) sp.after (omega arith) a.after_under) g),
               );
           within = λ longest short. within_branch bytes longest h.kids sp.before b sp.here sp.after sp.kids_are (subst (λ t. KeysWithin bytes longest (leaves t)) h.is short);
         }

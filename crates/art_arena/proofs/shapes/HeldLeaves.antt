@@ -1,16 +1,12 @@
 -- The leaves that an arena has are those of the cells that it holds.
-use Rattle.std.proofs.Common.{◌≡◌, ◌≢◌, ℕ, zero, suc, ◌+◌, ◌≤◌, cond, leb, List, [], ◌∷◌, ◌++◌, length, Option, Some, None, is_some, count_by, slice_index_or, refl, sym, ap, ◌∙◌, inl, inr, arith, length-append}
-use Rattle.std.proofs.lemmas.Bool.Decides.{eqb_tells, leb_tells}
+use Rattle.std.proofs.Common.{◌≡◌, ◌≢◌, ℕ, zero, suc, ◌+◌, ◌<◌, ◌≤◌, cond, List, [], ◌∷◌, ◌++◌, length, Option, Some, None, is_some, count_by, slice_index_or, refl, sym, ap, ◌∙◌, inl, inr, arith, eq-eqb, length-append}
+use Rattle.std.proofs.lemmas.Bool.Decides.{eqb_tells}
 use Rattle.std.proofs.lemmas.List.Sums.{sum_by-cons}
 use Rattle.slab.specs.Slab.{get}
+use Rattle.art_nodes.proofs.Common.{InnerNode, Name}
 use Rattle.art_nodes.specs.declared.kind.NodeType.TheVariants.{Leaf}
 use Rattle.art_nodes.specs.declared.leaf.LeafNode.{LeafNode}
-use Rattle.art_nodes.specs.InnerNode.{InnerNode}
-use Rattle.art_nodes.specs.Name.{Name}
-use Rattle.art_arena.specs.arena.Cells.{Cell, branches, leaf_name, AreHeld, Holds}
-use Rattle.art_arena.specs.arena.Arena.{Arena, as_leaf, cell_of, node_at, leaves_held}
-use Rattle.art_arena.specs.arena.Stores.{StoresOnly}
-use Rattle.art_arena.specs.arena.Shapes.{Shape, Branches, leaf_at, inner_at, no_branch, branch, leaves, leaves_in, cells, cells_in}
+use Rattle.art_arena.proofs.Terms.{Cell, branches, leaf_name, AreHeld, Holds, Arena, as_leaf, cell_of, node_at, leaves_held, StoresOnly, Shape, Branches, leaf_at, inner_at, no_branch, branch, leaves, leaves_in, cells, cells_in}
 use Rattle.art_arena.proofs.tree.Order.{all_left, all_right}
 use Rattle.art_arena.proofs.shapes.CellLists.{same_kind_tells}
 use Rattle.art_arena.proofs.shapes.Measures.{occurrences, without, length-without, slots_as, count-slots_as, length-slots_as}
@@ -37,35 +33,16 @@ abbrev sum_below : (ℕ → ℕ) → ℕ → ℕ
 sum_below f zero = 0
 sum_below f (suc n) = sum_below f n + f n
 
--- numbers that stand in a list as often as a function says are as many as its sum
-counted : (f : ℕ → ℕ) (n : ℕ) (xs : List ℕ) → ((m : ℕ) → occurrences m xs ≡ cond (leb (suc m) n) (f m) 0) → length xs ≡ sum_below f n
-counted f zero [] each = refl
-counted f zero (x ∷ xs) each = elim (eqb_tells x x) [
-  | inl same ↦ elim (leb_tells (suc x) 0) [
-    | inl less ↦ absurd (omega (arith, less.1))
-    | inr more ↦ absurd (let e = each x in omega (arith, rw (same.0, more.0) at e))
-  ]
-  | inr other ↦ absurd (other.1 refl)
-]
-counted f (suc n) xs each =
-    let rest = counted f n (without n xs) (λ m. elim (eqb_tells m n) [
-      | inl same ↦ elim (leb_tells (suc m) n) [
-        | inl less ↦ absurd (omega (arith, less.1, same.1))
-        | inr more ↦ rw (more.0, same.1) (count-self n xs)
-      ]
-      | inr other ↦ count-other m n xs other.1 ∙ each m ∙ elim (leb_tells (suc m) n) [
-        | inl less ↦ elim (leb_tells (suc m) (suc n)) [
-          | inl wide ↦ rw (less.0, wide.0) refl
-          | inr past ↦ absurd (omega (arith, less.1, past.1))
-        ]
-        | inr more ↦ elim (leb_tells (suc m) (suc n)) [
-          | inl wide ↦ absurd (other.1 (omega (arith, wide.1, more.1)))
-          | inr past ↦ rw (more.0, past.0) refl
-        ]
-      ]
+-- numbers below n that stand in a list as often as a function says are as many as its sum
+counted : (f : ℕ → ℕ) (n : ℕ) (xs : List ℕ) → ((m : ℕ) → m < n → occurrences m xs ≡ f m) → ((m : ℕ) → n ≤ m → occurrences m xs ≡ 0) → length xs ≡ sum_below f n
+counted f zero [] below past = refl
+counted f zero (x ∷ xs) below past = absurd (let e = past x (omega arith) in omega (arith, rw (eq-eqb x x refl) at e))
+counted f (suc n) xs below past =
+    let rest = counted f n (without n xs) (λ m less. count-other m n xs (λ e. absurd (omega (arith, e, less))) ∙ below m (omega (arith, less))) (λ m from. elim (eqb_tells m n) [
+      | inl same ↦ rw same.1 (count-self n xs)
+      | inr other ↦ count-other m n xs other.1 ∙ past m (omega (arith, from, other.1))
     ]) in
-    let here : occurrences n xs ≡ f n = each n ∙ elim (leb_tells (suc n) (suc n)) [ inl wide ↦ rw wide.0 refl | inr past ↦ absurd (omega (arith, past.1)) ] in
-    omega (arith, length-without n xs, rest, here)
+    omega (arith, length-without n xs, rest, below n (omega arith))
 
 module _ {T : Type 0} where
   -- how often a slot has a value: once or not at all
@@ -96,12 +73,7 @@ module _ {K V : Type 0} where
   leaves_counted arena cs holds =
       let f = filled arena.leaves.slots in
       let once : (m : ℕ) → occurrences m (slots_as Leaf cs) ≡ f m = λ m. count-slots_as Leaf m cs ∙ holds.once (leaf_name m) ∙ leaf_filled (get arena.leaves m) in
-      let each : (m : ℕ) → occurrences m (slots_as Leaf cs) ≡ cond (leb (suc m) (length arena.leaves.slots)) (f m) 0 =
-      λ m. elim (leb_tells (suc m) (length arena.leaves.slots)) [
-        | inl less ↦ rw less.0 (once m)
-        | inr more ↦ rw more.0 (once m ∙ past-end arena.leaves.slots m (omega (arith, more.1)))
-      ] in
-      count-slots arena.leaves.slots ∙ sym (counted f (length arena.leaves.slots) (slots_as Leaf cs) each)
+      count-slots arena.leaves.slots ∙ sym (counted f (length arena.leaves.slots) (slots_as Leaf cs) (λ m less. once m) (λ m past. once m ∙ past-end arena.leaves.slots m past))
 
   no_branches : (o : Option (LeafNode K V)) (node : InnerNode) → cell_of (as_leaf o) ≡ Some (branches node) → ⊥
   no_branches None node e = absurd (cc)

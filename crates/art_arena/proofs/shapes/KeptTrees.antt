@@ -1,11 +1,7 @@
 -- Another tree of an arena: where its nodes are kept, its root means what it meant.
 use Rattle.std.proofs.Common.{◌≡◌, ℕ, ◌≤◌, List, [], ◌∷◌, None, sym, ap, subst, inl, inr, arith}
-use Rattle.art_nodes.specs.Name.{Name}
-use Rattle.art_arena.specs.arena.Arena.{Arena, cell_of, links_of, held_at, node_at, links_at, KeepsNodes}
-use Rattle.art_arena.specs.arena.Cells.{Cell, leaf_name, copies}
-use Rattle.art_arena.specs.arena.Linked.{AreLinked}
-use Rattle.art_arena.specs.arena.Meaning.{IsSubtree, IsTreeBeside}
-use Rattle.art_arena.specs.arena.Shapes.{Shape, leaves, cells, IsUnder}
+use Rattle.art_nodes.proofs.Common.{Name}
+use Rattle.art_arena.proofs.Terms.{Arena, cell_of, links_of, held_at, node_at, links_at, KeepsNodes, Cell, leaf_name, copies, AreLinked, IsSubtree, IsTreeBeside, Shape, leaves, cells, IsUnder}
 use Rattle.art_arena.proofs.shapes.CellLists.{same_name_tells, AreHeld-kept, Holds-swap}
 use Rattle.art_arena.proofs.shapes.LinkedLists.{AreLinked-kept}
 use Rattle.art_arena.proofs.shapes.Surroundings.{times-leaves}

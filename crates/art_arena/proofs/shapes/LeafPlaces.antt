@@ -1,13 +1,8 @@
 -- Each leaf of a tree stands at a place.
 use Rattle.std.proofs.Common.{◌≡◌, ℕ, zero, suc, ◌+◌, ◌≤◌, ◌⊎◌, inl, inr, List, [], take, refl, sym, ap, subst, arith}
 use Rattle.std.proofs.lemmas.Bool.Decides.{eqb_tells}
-use Rattle.art_nodes.specs.Name.{Name}
-use Rattle.art_arena.specs.arena.Context.{Frame}
-use Rattle.art_arena.specs.arena.EndLeaves.{IsLeafPlace}
-use Rattle.art_arena.specs.arena.Linked.{times}
-use Rattle.art_arena.specs.arena.Places.{IsPlace}
-use Rattle.art_arena.specs.arena.Shapes.{Shape, Branches, leaf_at, inner_at, no_branch, branch, join, leaves, leaves_in, IsUnder}
-use Rattle.art_arena.specs.arena.Steps.{Step, steps_to}
+use Rattle.art_nodes.proofs.Common.{Name}
+use Rattle.art_arena.proofs.Terms.{Frame, IsLeafPlace, times, IsPlace, Shape, Branches, leaf_at, inner_at, no_branch, branch, join, leaves, leaves_in, IsUnder, Step, steps_to}
 use Rattle.art_arena.proofs.shapes.EndWalks.{place_below}
 use Rattle.art_arena.proofs.shapes.LinkedLists.{times-append}
 use Rattle.art_arena.proofs.shapes.Places.{at-root}

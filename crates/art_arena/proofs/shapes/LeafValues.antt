@@ -2,9 +2,7 @@
 use Rattle.std.proofs.Common.{◌≡◌, ℕ, Option, Some, None, IsSome, refl, sym, ap, subst}
 use Rattle.slab.specs.Slab.{get}
 use Rattle.art_nodes.specs.declared.leaf.LeafNode.{LeafNode}
-use Rattle.art_arena.specs.arena.Arena.{Arena, Held, leaf_held, inner_held, as_leaf, held_at, cell_of}
-use Rattle.art_arena.specs.arena.Cells.{UpdatesAt, leaf_name}
-use Rattle.art_arena.specs.arena.Lends.{with_value_in, with_leaf_value}
+use Rattle.art_arena.proofs.Terms.{Arena, Held, leaf_held, inner_held, as_leaf, held_at, cell_of, UpdatesAt, leaf_name, with_value_in, with_leaf_value}
 use Rattle.art_arena.specs.lemmas.WrittenNodes.{written_leaf}
 
 module _ {K V : Type 0} where

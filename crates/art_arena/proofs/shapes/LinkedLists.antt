@@ -1,9 +1,7 @@
 -- The leaves as a linked list: a list in two parts, and what a write of one leaf's links leaves.
 use Rattle.std.proofs.Common.{◌≡◌, ◌≢◌, ℕ, ◌+◌, ◌≤◌, true, cond, eqb, List, [], ◌∷◌, ◌++◌, map, Option, Some, None, IsSome, refl, sym, ap, ◌∙◌, inl, inr, arith, ap₂, subst, append_assoc}
 use Rattle.std.proofs.lemmas.Bool.Decides.{eqb_tells}
-use Rattle.art_arena.specs.arena.Cells.{UpdatesAt}
-use Rattle.art_arena.specs.arena.Shapes.{LeafAt}
-use Rattle.art_arena.specs.arena.Linked.{Links, first_slot, last_slot, AreLinked, times, AreHalves, CanLink, IsList, IsBeside, KeepsOtherLinks, KeepsLinksOutside}
+use Rattle.art_arena.proofs.Terms.{UpdatesAt, LeafAt, Links, first_slot, last_slot, AreLinked, times, AreHalves, CanLink, IsList, IsBeside, KeepsOtherLinks, KeepsLinksOutside}
 
 pub eqb-self : (n : ℕ) → eqb n n ≡ true
 eqb-self n = elim (eqb_tells n n) [ inl y ↦ y.0 | inr o ↦ absurd (o.1 refl) ]
@@ -41,14 +39,8 @@ module _ {K V : Type 0} where
   last_slot-append before (x ∷ xs) ys = last_slot-append (Some x.slot) xs ys
 
   pub AreLinked-frame : (old new : ℕ → Option Links) (p : ℕ) (value : Option Links) → UpdatesAt old new p value → (before : Option ℕ) (xs : List (LeafAt K V)) (after : Option ℕ) → times p xs ≡ 0 → AreLinked old before xs after → AreLinked new before xs after
-  AreLinked-frame old new p value updates before [] after absent linked = tt
-  AreLinked-frame old new p value updates before (x ∷ xs) after absent linked =
-      elim (eqb_tells p x.slot) [
-        | inl same ↦ absurd (omega (arith, rw same.0 at absent))
-        | inr other ↦
-            let none : times p xs ≡ 0 = omega (arith, absent) in
-            (updates.others x.slot (λ e. other.1 (sym e)) ∙ linked.0, AreLinked-frame old new p value updates (Some x.slot) xs after none linked.1)
-      ]
+  AreLinked-frame old new p value updates before xs after absent linked =
+      AreLinked-kept old new before xs after (λ n here. updates.others n (λ e. let none = subst (λ m. times m xs ≡ 0) (sym e) absent in omega (arith, here, none))) linked
 
   pub AreLinked-left : (links : ℕ → Option Links) (before : Option ℕ) (xs ys : List (LeafAt K V)) (after : Option ℕ) → AreLinked links before (xs ++ ys) after → AreLinked links before xs (first_slot ys after)
   AreLinked-left links before [] ys after linked = tt
@@ -87,6 +79,19 @@ module _ {K V : Type 0} where
   pub times-here : (xs ys : List (LeafAt K V)) (l : LeafAt K V) → 1 ≤ times l.slot (xs ++ l ∷ ys)
   times-here xs ys l = omega (arith, times-append l.slot xs (l ∷ ys), ap {B = ℕ} (λ b. cond b 1 0) (eqb-self l.slot))
 
+  -- and so are the one at its end and the one at its start
+  times-end : (xs : List (LeafAt K V)) (p : ℕ) → last_slot None xs ≡ Some p → 1 ≤ times p xs
+  times-end xs p last =
+      let e = ends_with-first xs p last in
+      omega (arith, times-here e.0 [] e.1, ap (times p) e.2 ∙ ap (λ n. times n (e.0 ++ e.1 ∷ [])) (sym e.3))
+
+  times-start : (ys : List (LeafAt K V)) (p : ℕ) → first_slot ys None ≡ Some p → 1 ≤ times p ys
+  times-start [] p first = absurd (cc)
+  times-start (y ∷ ys) p first =
+      let is : y.slot ≡ p = cc in
+      let one : times p (y ∷ []) ≡ 1 = rw (is, eqb-self p) refl in
+      omega (arith, one)
+
   -- the next slot of the last leaf changes
   pub relink_end : (old new : ℕ → Option Links) (xs : List (LeafAt K V)) (p : ℕ) (was after : Option ℕ) → ((n : ℕ) → times n xs ≤ 1) → last_slot None xs ≡ Some p → AreLinked old None xs was → ((links : Links) → old p ≡ Some links → UpdatesAt old new p (Some (record links { next = after }))) → AreLinked new None xs after
   relink_end old new xs p was after once last linked updates =
@@ -117,11 +122,7 @@ module _ {K V : Type 0} where
   halves-end old new xs after before ys p next halves last updates =
       let there = some_of (old p) (end_there old xs p after last halves.left) in
       let update = updates there.0 there.1 in
-      let e = ends_with-first xs p last in
-      let here = times-here e.0 [] e.1 in
-      let same : times p xs ≡ times e.1.slot (e.0 ++ e.1 ∷ []) = ap (times p) e.2 ∙ ap (λ n. times n (e.0 ++ e.1 ∷ [])) (sym e.3) in
-      let both = halves.once p in
-      let none : times p ys ≡ 0 = omega (arith, here, same, both) in
+      let none : times p ys ≡ 0 = omega (arith, halves.once p, times-end xs p last) in
       record {
         left = relink_end old new xs p after next (λ n. let b = halves.once n in omega (arith, b)) last halves.left updates;
         right = AreLinked-frame old new p _ update before ys None none halves.right;
@@ -138,8 +139,7 @@ module _ {K V : Type 0} where
       let there : old p ≡ Some (record { previous = before; next = first_slot ys None }) = ap old (sym is) ∙ halves.right.0 in
       let update = updates _ there in
       let both = halves.once p in
-      let same : eqb p y.slot ≡ true = rw is (eqb-self p) in
-      let one : times p (y ∷ []) ≡ 1 = rw same refl in
+      let one : times p (y ∷ []) ≡ 1 = rw (is, eqb-self p) refl in
       record {
         left = AreLinked-frame old new p _ update None xs after (omega (arith, both, one)) halves.left;
         right = (ap new is ∙ update.changed, AreLinked-frame old new p _ update (Some y.slot) ys None (omega (arith, both, one)) halves.right.1);
@@ -182,19 +182,10 @@ module _ {K V : Type 0} where
 
   -- a leaf that is in neither of two lists is no end of them
   pub last-apart : (xs : List (LeafAt K V)) (p : ℕ) → times p xs ≡ 0 → last_slot None xs ≢ Some p
-  last-apart xs p none last =
-      let e = ends_with-first xs p last in
-      let here = times-here e.0 [] e.1 in
-      let same : times p xs ≡ times e.1.slot (e.0 ++ e.1 ∷ []) = ap (times p) e.2 ∙ ap (λ n. times n (e.0 ++ e.1 ∷ [])) (sym e.3) in
-      absurd (omega (arith, here, same, none))
+  last-apart xs p none last = omega (arith, times-end xs p last, none)
 
   pub first-apart : (ys : List (LeafAt K V)) (p : ℕ) → times p ys ≡ 0 → first_slot ys None ≢ Some p
-  first-apart [] p none first = absurd (cc)
-  first-apart (y ∷ ys) p none first =
-      let is : y.slot ≡ p = cc in
-      let same : eqb p y.slot ≡ true = rw is (eqb-self p) in
-      let one : times p (y ∷ []) ≡ 1 = rw same refl in
-      absurd (omega (arith, one, none))
+  first-apart ys p none first = omega (arith, times-start ys p first, none)
 
   -- what the start of a list links back to
   pub start_there : (links : ℕ → Option Links) (before : Option ℕ) (ys : List (LeafAt K V)) (p : ℕ) → first_slot ys None ≡ Some p → AreLinked links before ys None → IsSome (links p)
@@ -376,20 +367,13 @@ can_take_run links xs run ys leaf name first last p n same beside starts ends be
 
 -- a leaf that is in a list once isn't beside itself
 
+alone : {K V : Type 0} (xs : List (LeafAt K V)) (l : LeafAt K V) (ys : List (LeafAt K V)) (p : ℕ) → l.slot ≡ p → ((n : ℕ) → times n (xs ++ l ∷ ys) ≤ 1) → times p xs + times p ys ≡ 0
+alone xs l ys p is once =
+    let one : times p (l ∷ []) ≡ 1 = rw (is, eqb-self p) refl in
+    omega (arith, once p, times-append p xs (l ∷ ys), one)
+
 pub not_before : {K V : Type 0} (xs : List (LeafAt K V)) (l : LeafAt K V) (ys : List (LeafAt K V)) (p : ℕ) → l.slot ≡ p → ((n : ℕ) → times n (xs ++ l ∷ ys) ≤ 1) → last_slot None xs ≢ Some p
-not_before xs l ys p is once = last-apart xs p (apart is)
-  where
-    apart : l.slot ≡ p → times p xs ≡ 0
-    apart e =
-        let o = once l.slot in
-        let none : times l.slot xs ≡ 0 = omega (arith, o, times-append l.slot xs (l ∷ ys), ap {B = ℕ} (λ b. cond b 1 0) (eqb-self l.slot)) in
-        subst (λ n. times n xs ≡ 0) e none
+not_before xs l ys p is once = last-apart xs p (omega (arith, alone xs l ys p is once))
 
 pub not_behind : {K V : Type 0} (xs : List (LeafAt K V)) (l : LeafAt K V) (ys : List (LeafAt K V)) (p : ℕ) → l.slot ≡ p → ((n : ℕ) → times n (xs ++ l ∷ ys) ≤ 1) → first_slot ys None ≢ Some p
-not_behind xs l ys p is once = first-apart ys p (apart is)
-  where
-    apart : l.slot ≡ p → times p ys ≡ 0
-    apart e =
-        let o = once l.slot in
-        let none : times l.slot ys ≡ 0 = omega (arith, o, times-append l.slot xs (l ∷ ys), ap {B = ℕ} (λ b. cond b 1 0) (eqb-self l.slot)) in
-        subst (λ n. times n ys ≡ 0) e none
+not_behind xs l ys p is once = first-apart ys p (omega (arith, alone xs l ys p is once))

@@ -1,12 +1,7 @@
 -- From what a name means to what is held below it, and back.
 use Rattle.std.proofs.Common.{◌≡◌, ℕ, ◌≤◌, cond, List, [], Option, Some, None, is_some, arith, ◌+◌, sym, ◌∙◌}
-use Rattle.art_nodes.specs.Name.{Name}
-use Rattle.art_arena.specs.tree.Trees.{Tree}
-use Rattle.art_arena.specs.arena.Cells.{Cell, copies}
-use Rattle.art_arena.specs.arena.Shapes.{Shape, cells}
-use Rattle.art_arena.specs.arena.Linked.{Links}
-use Rattle.art_arena.specs.arena.Meaning.{IsPart, IsSubtree, IsNodesBeside, Means, MeansBeside}
-use Rattle.art_arena.specs.Laws.{AllIsMeant}
+use Rattle.art_nodes.proofs.Common.{Name}
+use Rattle.art_arena.proofs.Terms.{Tree, Cell, copies, Shape, cells, Links, IsPart, IsSubtree, IsNodesBeside, Means, MeansBeside, AllIsMeant}
 use Rattle.art_arena.proofs.shapes.CellLists.{copies-append}
 use Rattle.art_arena.proofs.tree.Order.{all_right}
 

@@ -1,18 +1,15 @@
 -- How many nodes stand below a name, told by the arena alone: the measure of a walk down.
 use Rattle.std.proofs.Common.{true≢false, ◌≡◌, ℕ, zero, suc, ◌+◌, ◌<◌, ◌≤◌, Bool, true, false, cond, eqb, List, [], ◌∷◌, length, Option, Some, None, IsSome, refl, sym, ap, subst, ◌∙◌, inl, inr, arith, length-append}
 use Rattle.std.specs.List.{AllByRecursion}
+use Rattle.std.proofs.lemmas.Bool.{cond_both}
 use Rattle.std.proofs.lemmas.Bool.Decides.{eqb_tells}
 use Rattle.slab.specs.Slab.{get}
 use Rattle.slab.proofs.SlabLemmas.{ContainsKey-within}
+use Rattle.art_nodes.proofs.Common.{InnerNode, Name}
 use Rattle.art_nodes.specs.declared.kind.NodeType.{NodeType}
 use Rattle.art_nodes.specs.declared.kind.NodeType.TheVariants.{Node4, Node16, Node32, Node48, Node256, Leaf}
 use Rattle.art_nodes.specs.declared.leaf.LeafNode.{LeafNode}
-use Rattle.art_nodes.specs.InnerNode.{InnerNode}
-use Rattle.art_nodes.specs.Name.{Name}
-use Rattle.art_arena.specs.arena.Cells.{Cell, pair, branches, same_kind, copies, AreHeld}
-use Rattle.art_arena.specs.arena.Arena.{Arena, Held, as_leaf, as_inner, held_as, held_at, cell_of, node_at, slots_of}
-use Rattle.art_arena.specs.arena.Shapes.{Shape, Branches, leaf_at, inner_at, no_branch, branch, name_of, children_at, cells, cells_in}
-use Rattle.art_arena.specs.arena.Meaning.{IsPart}
+use Rattle.art_arena.proofs.Terms.{Cell, pair, branches, same_kind, copies, AreHeld, Arena, Held, as_leaf, as_inner, held_as, held_at, cell_of, node_at, slots_of, Shape, Branches, leaf_at, inner_at, no_branch, branch, name_of, children_at, cells, cells_in, IsPart}
 use Rattle.art_arena.proofs.tree.Order.{all_left, all_right}
 use Rattle.art_arena.proofs.shapes.CellLists.{same_kind_tells}
 
@@ -35,10 +32,9 @@ length-without n (x ∷ xs) = elim (eqb n x) as (λ b. suc (length xs) ≡ lengt
 
 count-without : (m n : ℕ) (xs : List ℕ) → occurrences m (without n xs) ≤ occurrences m xs
 count-without m n [] = omega arith
-count-without m n (x ∷ xs) = elim (eqb n x) as (λ b. occurrences m (cond b (without n xs) (x ∷ without n xs)) ≤ cond (eqb m x) 1 0 + occurrences m xs) [
-  | true ↦ omega (arith, count-without m n xs)
-  | false ↦ omega (arith, count-without m n xs)
-]
+count-without m n (x ∷ xs) =
+    let later = count-without m n xs in
+    cond_both (eqb n x) (without n xs) (x ∷ without n xs) (λ ys. occurrences m ys ≤ occurrences m (x ∷ xs)) (λ _. omega (arith, later)) (λ _. omega (arith, later))
 
 pub below-without : (n : ℕ) (xs : List ℕ) → AllByRecursion (λ x. x < suc n) xs → AllByRecursion (λ x. x < n) (without n xs)
 below-without n [] h = tt

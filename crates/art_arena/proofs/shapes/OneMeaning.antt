@@ -1,17 +1,14 @@
 -- A name in an arena means one tree, though a header stores but the front of a prefix: the leaves have the rest.
 use Rattle.std.proofs.Common.{◌≡◌, ℕ, ◌≤◌, List, [], ◌∷◌, ◌++◌, length, Option, Some, refl, sym, ap, ap₂, ◌∙◌, subst, arith, length-append}
-use Rattle.art_nodes.specs.Name.{Name}
+use Rattle.art_nodes.proofs.Common.{Name}
 use Rattle.std.specs.List.{AllByRecursion}
-use Rattle.art_bytes.specs.Keys.{BeginsWith}
-use Rattle.art_arena.specs.arena.Cells.{Cell, pair, branches, AreHeld}
-use Rattle.art_arena.specs.arena.Shapes.{Shape, Branches, leaf_at, inner_at, no_branch, branch, name_of, children_at, width, erase, erase_in, cells, cells_in, IsUnder, AreUnder, key_of, node_of}
-use Rattle.art_arena.specs.Laws.{OneMeaning}
+use Rattle.art_bytes.proofs.Common.{BeginsWith, begins_append}
+use Rattle.art_arena.proofs.Terms.{Cell, pair, branches, AreHeld, Shape, Branches, leaf_at, inner_at, no_branch, branch, name_of, children_at, width, erase, erase_in, cells, cells_in, IsUnder, AreUnder, key_of, node_of, OneMeaning}
 use Rattle.art_arena.proofs.tree.Order.{all_left, all_right}
 use Rattle.art_arena.proofs.tree.Canonical.{begin_in, some_item_in}
 use Rattle.art_arena.proofs.tree.Fronts.{cancel_front}
 use Rattle.art_arena.proofs.tree.Shrinks.{same_front}
 use Rattle.art_arena.proofs.shapes.Erased.{count-erase, canonical_in-erase}
-use Rattle.art_bytes.proofs.Order.{begins_append}
 use Rattle.art_arena.proofs.shapes.CellLists.{cell_children, same_cell}
 
 module _ {K V : Type 0} (bytes : K → List ℕ) (P : ℕ) (at : Name → Option (Cell K V)) where

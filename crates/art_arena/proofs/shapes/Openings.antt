@@ -2,10 +2,8 @@
 use Rattle.std.proofs.Common.{◌≡◌, ℕ, suc, ◌+◌, List, ◌∷◌, ◌++◌, None, refl, ap, inl, inr, arith}
 use Rattle.std.proofs.lemmas.Bool.{cases_order}
 use Rattle.std.proofs.lemmas.Bool.Decides.{eqb_tells, leb_tells}
-use Rattle.art_nodes.specs.Name.{Name}
-use Rattle.art_nodes.specs.InnerNode.{child_at, with_child, without_child}
-use Rattle.art_arena.specs.arena.Shapes.{Branches, no_branch, branch, name_of, children_at, join, AreUnder}
-use Rattle.art_arena.specs.arena.Context.{AreBelow}
+use Rattle.art_nodes.proofs.Common.{Name, child_at, with_child, without_child}
+use Rattle.art_arena.proofs.Terms.{Branches, no_branch, branch, name_of, children_at, join, AreUnder, AreBelow}
 
 module _ {K V : Type 0} (bytes : K → List ℕ) where
   pub record Opening (kids : Branches K V) (b : ℕ) (path : List ℕ) (low : ℕ) : Type 0 where

@@ -1,10 +1,7 @@
 -- An edit below one child leaves every other child as it was.
 use Rattle.std.proofs.Common.{◌≡◌, ◌≢◌, ◌⊎◌, ℕ, ◌+◌, ◌≤◌, true, List, [], ◌∷◌, ◌++◌, Option, Some, IsSome, refl, ap, subst, inl, inr, arith}
-use Rattle.art_nodes.specs.Name.{Name}
-use Rattle.art_arena.specs.arena.Cells.{Cell, same_name, copies, AreHeld}
-use Rattle.art_arena.specs.arena.Shapes.{Shape, Branches, no_branch, branch, name_of, cells, cells_in, IsBranch}
-use Rattle.art_arena.specs.arena.Context.{frame_cell}
-use Rattle.art_arena.specs.Laws.{EditKeepsOthers}
+use Rattle.art_nodes.proofs.Common.{Name}
+use Rattle.art_arena.proofs.Terms.{Cell, same_name, copies, AreHeld, Shape, Branches, no_branch, branch, name_of, cells, cells_in, IsBranch, frame_cell, EditKeepsOthers}
 use Rattle.art_arena.proofs.tree.Order.{all_left, all_right}
 use Rattle.art_arena.proofs.shapes.CellLists.{same_name_tells, same_name-self, copies-append, AreHeld-kept}
 use Rattle.art_arena.proofs.shapes.Contexts.{cells-fill}

@@ -1,15 +1,8 @@
 -- How a key passes over the prefix of an inner node by its bytes, and where it goes no further.
 use Rattle.std.proofs.Common.{◌≡◌, ℕ, ◌+◌, ◌<◌, List, [], ◌∷◌, ◌++◌, length, drop, get_or, Option, Some, None, MatchOption, refl, sym, ap, subst, ◌∙◌, inl, inr, arith, append_assoc, length-append}
-use Rattle.art_bytes.specs.Keys.{BeginsWith}
-use Rattle.art_bytes.proofs.Order.{begins_step, begins_from_step}
-use Rattle.art_nodes.specs.InnerNode.{InnerNode, child_at}
-use Rattle.art_nodes.specs.Name.{Name}
-use Rattle.art_arena.specs.arena.Arena.{Arena, inner_held, cell_of, held_at, node_at}
-use Rattle.art_arena.specs.arena.Cells.{Cell, pair}
-use Rattle.art_arena.specs.arena.Descents.{GoesOn, GoesNoFurther, Stops}
-use Rattle.art_arena.specs.arena.Meaning.{IsAtDepth, IsSubtree}
-use Rattle.art_arena.specs.arena.Prefixes.{prefix_of}
-use Rattle.art_arena.specs.arena.Shapes.{Shape, inner_at, children_at}
+use Rattle.art_bytes.proofs.Common.{BeginsWith, begins_step, begins_from_step}
+use Rattle.art_nodes.proofs.Common.{InnerNode, child_at, Name}
+use Rattle.art_arena.proofs.Terms.{Arena, inner_held, cell_of, held_at, node_at, Cell, pair, GoesOn, GoesNoFurther, Stops, IsAtDepth, IsSubtree, prefix_of, Shape, inner_at, children_at}
 use Rattle.art_arena.proofs.shapes.Places.{InnerThere, inner-there}
 use Rattle.art_arena.proofs.shapes.Prefixes.{drop-front}
 

@@ -2,17 +2,11 @@
 use Rattle.std.proofs.Common.{◌≡◌, ℕ, suc, ◌+◌, ◌≤◌, List, [], ◌∷◌, ◌++◌, length, take, Option, Some, refl, sym, ap, ap₂, subst, ◌∙◌, inl, inr, arith}
 use Rattle.std.proofs.lemmas.Bool.Decides.{eqb_tells}
 use Rattle.std.specs.List.{AllByRecursion}
-use Rattle.art_bytes.specs.Keys.{BeginsWith}
-use Rattle.art_nodes.specs.Name.{Name}
-use Rattle.art_nodes.specs.InnerNode.{InnerNode, child_at}
-use Rattle.art_arena.specs.tree.Kinds.{IsKindOf}
-use Rattle.art_arena.specs.arena.Cells.{Cell, pair, branches, AreHeld}
-use Rattle.art_arena.specs.arena.Shapes.{Shape, Branches, leaf_at, inner_at, no_branch, branch, name_of, children_at, join, width, leaves, leaves_in, cells, IsUnder, AreUnder}
-use Rattle.art_arena.specs.arena.Context.{Frame, plug, path_to, cells_before, cells_after, AreBelow}
-use Rattle.art_arena.specs.arena.Places.{IsPlace}
+use Rattle.art_bytes.proofs.Common.{BeginsWith, begins_append}
+use Rattle.art_nodes.proofs.Common.{Name, InnerNode, child_at}
+use Rattle.art_arena.proofs.Terms.{IsKindOf, Cell, pair, branches, AreHeld, Shape, Branches, leaf_at, inner_at, no_branch, branch, name_of, children_at, join, width, leaves, leaves_in, cells, IsUnder, AreUnder, Frame, plug, path_to, cells_before, cells_after, AreBelow, IsPlace}
 use Rattle.art_arena.proofs.tree.Order.{all_append, all_left, all_right, all_weaker}
 use Rattle.art_arena.proofs.shapes.Contexts.{cells-plug, width-join}
-use Rattle.art_bytes.proofs.Order.{begins_append}
 
 module _ {K V : Type 0} (P : ℕ) (at : Name → Option (Cell K V)) where
   -- what stands at a place of a tree that is held is held
@@ -43,6 +37,36 @@ module _ {K V : Type 0} (P : ℕ) (at : Name → Option (Cell K V)) where
       let e = sym there ∙ held.0 in
       record { prefix = prefix; kids = kids; is = refl; node_is = cc }
 
+module _ {K V : Type 0} where
+  -- the branches around the one under a byte
+  pub record Splits (kids : Branches K V) (b : ℕ) (m : Name) : Type 0 where
+    pub before : Branches K V
+    pub here : Shape K V
+    pub after : Branches K V
+    pub kids_are : kids ≡ join before (branch b here after)
+    pub named : name_of here ≡ m
+
+  pub split : (kids : Branches K V) (b : ℕ) (m : Name) → child_at (children_at kids) b ≡ Some m → Splits kids b m
+  split no_branch b m found = absurd (cc)
+  split (branch c s rest) b m found = elim (eqb_tells c b) [
+    | inl same ↦ record {
+      before = no_branch;
+      here = s;
+      after = rest;
+      kids_are = ap (λ x. branch x s rest) same.1;
+      named = (let e = rw same.0 at found in cc);
+    }
+    | inr other ↦
+        let later = split rest b m (rw other.0 at found) in
+        record {
+          before = branch c s later.before;
+          here = later.here;
+          after = later.after;
+          kids_are = ap (branch c s) later.kids_are;
+          named = later.named;
+        }
+  ]
+
 module _ {K V : Type 0} (bytes : K → List ℕ) where
   -- each leaf's key begins with the path to the shape
   mutual
@@ -58,75 +82,37 @@ module _ {K V : Type 0} (bytes : K → List ℕ) where
         (all_weaker _ (λ l. BeginsWith path (bytes l.key)) (λ l h. begins_append path (b ∷ []) (bytes l.key) h) (leaves s) (leaves-begin (path ++ b ∷ []) s under.1))
         (leaves_in-begin path (b + 1) rest under.2)
 
-  -- the branches around the one under a byte
-  pub record Splits (kids : Branches K V) (b : ℕ) (m : Name) (path : List ℕ) (low : ℕ) : Type 0 where
-    pub before : Branches K V
-    pub here : Shape K V
-    pub after : Branches K V
-    pub kids_are : kids ≡ join before (branch b here after)
-    pub named : name_of here ≡ m
-    pub below : AreBelow b before
+  -- what is known of a branch, and of those around it
+  pub record Around (path : List ℕ) (low : ℕ) (before : Branches K V) (b : ℕ) (t : Shape K V) (after : Branches K V) : Type 0 where
     pub before_under : AreUnder bytes path low before
+    pub below : AreBelow b before
     pub above_low : low ≤ b
-    pub here_under : IsUnder bytes (path ++ b ∷ []) here
+    pub here_under : IsUnder bytes (path ++ b ∷ []) t
     pub after_under : AreUnder bytes path (b + 1) after
 
-  pub split : (kids : Branches K V) (b : ℕ) (m : Name) (path : List ℕ) (low : ℕ) → AreUnder bytes path low kids → child_at (children_at kids) b ≡ Some m → Splits kids b m path low
-  split no_branch b m path low under found = absurd (cc)
-  split (branch c s rest) b m path low under found = elim (eqb_tells c b) [
-    | inl same ↦ record {
-      before = no_branch;
-      here = s;
-      after = rest;
-      kids_are = ap (λ x. branch x s rest) same.1;
-      named = (let e = rw same.0 at found in cc);
-      below = tt;
-      before_under = tt;
-      above_low = rw same.1 at under.0;
-      here_under = rw same.1 at under.1;
-      after_under = rw same.1 at under.2;
-    }
-    | inr other ↦
-        let later = split rest b m path (c + 1) under.2 (rw other.0 at found) in
-        record {
-          before = branch c s later.before;
-          here = later.here;
-          after = later.after;
-          kids_are = ap (branch c s) later.kids_are;
-          named = later.named;
-          below = (omega (arith, later.above_low), later.below);
-          before_under = (under.0, under.1, later.before_under);
-          above_low = omega (arith, under.0, later.above_low);
-          here_under = later.here_under;
-          after_under = later.after_under;
-        }
-  ]
-
-  -- from an inner node at a place to its child under a byte
-  pub record StepsDown (whole : Shape K V) (ctx : List (Frame K V)) (n : Name) (prefix : List ℕ) (kids : Branches K V) (b : ℕ) (m : Name) : Type 0 where
-    pub before : Branches K V
-    pub here : Shape K V
-    pub after : Branches K V
-    pub kids_are : kids ≡ join before (branch b here after)
-    pub named : name_of here ≡ m
-    pub place : IsPlace bytes whole (record { name = n; prefix = prefix; before = before; byte = b; after = after } ∷ ctx) here
-
-  pub step-down : (whole : Shape K V) (ctx : List (Frame K V)) (n : Name) (prefix : List ℕ) (kids : Branches K V) (b : ℕ) (m : Name) → IsPlace bytes whole ctx (inner_at n prefix kids)
-      → child_at (children_at kids) b ≡ Some m → StepsDown whole ctx n prefix kids b m
-  step-down whole ctx n prefix kids b m place found =
-      let sp = split kids b m (path_to ctx ++ prefix) 0 place.under.1 found in
-      let wide : width kids ≡ suc (width sp.before + width sp.after) = omega (arith, ap width sp.kids_are, width-join sp.before (branch b sp.here sp.after)) in
+  pub around : (path : List ℕ) (low : ℕ) (before : Branches K V) (b : ℕ) (t : Shape K V) (after : Branches K V) → AreUnder bytes path low (join before (branch b t after)) → Around path low before b t after
+  around path low no_branch b t after under = record { before_under = tt; below = tt; above_low = under.0; here_under = under.1; after_under = under.2 }
+  around path low (branch c u before) b t after under =
+      let later = around path (c + 1) before b t after under.2 in
       record {
-        before = sp.before;
-        here = sp.here;
-        after = sp.after;
-        kids_are = sp.kids_are;
-        named = sp.named;
-        place = record {
-          is = place.is ∙ ap (λ f. plug ctx (inner_at n prefix f)) sp.kids_are;
-          around = (subst (IsKindOf n.kind) wide place.under.0, sp.before_under, sp.below, sp.after_under, place.around);
-          under = sp.here_under;
-        };
+        before_under = (under.0, under.1, later.before_under);
+        below = (omega (arith, later.above_low), later.below);
+        above_low = omega (arith, later.above_low, under.0);
+        here_under = later.here_under;
+        after_under = later.after_under;
+      }
+
+  -- from an inner node at a place to one of its children
+  pub place_below : (whole : Shape K V) (ctx : List (Frame K V)) (n : Name) (prefix : List ℕ) (kids before : Branches K V) (b : ℕ) (t : Shape K V) (after : Branches K V)
+      → IsPlace bytes whole ctx (inner_at n prefix kids) → kids ≡ join before (branch b t after)
+      → IsPlace bytes whole (record { name = n; prefix = prefix; before = before; byte = b; after = after } ∷ ctx) t
+  place_below whole ctx n prefix kids before b t after place is =
+      let a = around (path_to ctx ++ prefix) 0 before b t after (subst (AreUnder bytes (path_to ctx ++ prefix) 0) is place.under.1) in
+      let wide : width kids ≡ suc (width before + width after) = omega (arith, ap width is, width-join before (branch b t after)) in
+      record {
+        is = place.is ∙ ap (λ f. plug ctx (inner_at n prefix f)) is;
+        around = (subst (IsKindOf n.kind) wide place.under.0, a.before_under, a.below, a.after_under, place.around);
+        under = a.here_under;
       }
 
   -- the place of the whole itself

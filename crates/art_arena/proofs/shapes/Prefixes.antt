@@ -7,55 +7,40 @@ use Rattle.std.specs.declared.cmp.Ordering.{Ordering}
 use Rattle.std.specs.declared.cmp.Ordering.TheVariants.{Less, Equal, Greater}
 use Rattle.std.proofs.lemmas.Bool.{cases_order}
 use Rattle.std.proofs.lemmas.Bool.Decides.{eqb_tells, Decides-eqb}
+use Rattle.std.proofs.lemmas.List.{drop_at, take_all, take_at}
 use Rattle.std.proofs.lemmas.Slice.Eq.{starts_is}
-use Rattle.art_bytes.specs.Keys.{BeginsWith, bytes_cmp}
-use Rattle.art_nodes.specs.PrefixMatch.{agreeing}
+use Rattle.art_bytes.proofs.Common.{BeginsWith, bytes_cmp}
+use Rattle.art_nodes.proofs.Common.{agreeing, InnerNode, Name}
 use Rattle.art_nodes.specs.declared.kind.NodeType.TheVariants.{Leaf}
 use Rattle.art_nodes.specs.declared.leaf.LeafNode.{LeafNode}
-use Rattle.art_nodes.specs.InnerNode.{InnerNode}
-use Rattle.art_nodes.specs.Name.{Name}
-use Rattle.art_arena.specs.arena.Cells.{Cell, pair, AreHeld, leaf_name}
-use Rattle.art_arena.specs.arena.Arena.{Arena, leaf_held, inner_held, held_at, node_at}
-use Rattle.art_arena.specs.arena.Shapes.{Shape, Branches, leaf_at, inner_at, no_branch, branch, LeafAt, leaves, leaves_in, cells, cells_in}
-use Rattle.art_arena.specs.arena.Linked.{first_slot}
+use Rattle.art_arena.proofs.Terms.{Cell, pair, AreHeld, leaf_name, Arena, leaf_held, inner_held, held_at, node_at, Shape, Branches, leaf_at, inner_at, no_branch, branch, LeafAt, leaves, leaves_in, cells, cells_in, first_slot, IsSubtree, prefix_of, Mismatches}
 use Rattle.art_arena.proofs.tree.Order.{all_append, all_left, all_right, all_weaker}
-use Rattle.art_arena.specs.arena.Meaning.{IsSubtree}
-use Rattle.art_arena.specs.arena.Prefixes.{prefix_of, Mismatches}
 use Rattle.art_arena.proofs.shapes.Subtrees.{inner_of, holds_pair, leaves_begin_prefix}
 
 pub drop-front : (xs ys : List ℕ) → drop (length xs) (xs ++ ys) ≡ ys
-drop-front [] ys = refl
-drop-front (x ∷ xs) ys = drop-front xs ys
+drop-front xs ys = drop_at xs ys (length xs) refl
 
 pub take-front : (xs ys : List ℕ) → take (length xs) (xs ++ ys) ≡ xs
-take-front [] ys = refl
-take-front (x ∷ xs) ys = ap (λ zs. x ∷ zs) (take-front xs ys)
+take-front xs ys = take_at xs ys (length xs) refl
 
 -- the slice from a place to the end
 pub tail : (d : ℕ) (xs : List ℕ) → take (length xs - d) (drop d xs) ≡ drop d xs
-tail d xs = ap (λ n. take n (drop d xs)) (sym (length-drop d xs)) ∙ all (drop d xs)
-  where
-    all : (ys : List ℕ) → take (length ys) ys ≡ ys
-    all [] = refl
-    all (y ∷ ys) = ap (λ zs. y ∷ zs) (all ys)
+tail d xs = take_all (length xs - d) (drop d xs) (omega (arith, length-drop d xs))
 
 -- what the test for a front tells
-
-pub begins_of : (r : Bool) (xs ys p q : List ℕ) → xs ≡ ys → p ≡ q → r ≡ starts_with ◌==◌ xs p → r ≡ true → BeginsWith q ys
-begins_of r xs ys p q same same_front test passed =
-    let starts : r ≡ starts_with ◌==◌ ys q = rw (← same, ← same_front) test in
-    (drop (length q) ys, (starts_is Decides-eqb ys q r starts).0 passed)
-
-pub begins_not : (r : Bool) (xs ys p q : List ℕ) → xs ≡ ys → p ≡ q → r ≡ starts_with ◌==◌ xs p → r ≡ false → BeginsWith q ys → ⊥
-begins_not r xs ys p q same same_front test failed (rest, e) =
-    let starts : r ≡ starts_with ◌==◌ ys q = rw (← same, ← same_front) test in
-    let passed : r ≡ true = (starts_is Decides-eqb ys q r starts).1 rest e in cc
 
 pub begins_tells : (r : Bool) (xs ys p q : List ℕ) → xs ≡ ys → p ≡ q → r ≡ starts_with ◌==◌ xs p → (IsTrue r → BeginsWith q ys) × (BeginsWith q ys → IsTrue r)
 begins_tells r xs ys p q same same_front test =
     let starts : r ≡ starts_with ◌==◌ ys q = rw (← same, ← same_front) test in
     let tells = starts_is Decides-eqb ys q r starts in
     (λ passed. (drop (length q) ys, tells.0 passed), λ begins. tells.1 begins.0 begins.1)
+
+pub begins_of : (r : Bool) (xs ys p q : List ℕ) → xs ≡ ys → p ≡ q → r ≡ starts_with ◌==◌ xs p → r ≡ true → BeginsWith q ys
+begins_of r xs ys p q same same_front test passed = (begins_tells r xs ys p q same same_front test).0 passed
+
+pub begins_not : (r : Bool) (xs ys p q : List ℕ) → xs ≡ ys → p ≡ q → r ≡ starts_with ◌==◌ xs p → r ≡ false → BeginsWith q ys → ⊥
+begins_not r xs ys p q same same_front test failed begins =
+    let passed : r ≡ true = (begins_tells r xs ys p q same same_front test).1 begins in cc
 
 -- a prefix, read from a key that begins with the path to it and then goes on with it
 pub record Read (depth len : ℕ) (prefix key : List ℕ) : Type 0 where

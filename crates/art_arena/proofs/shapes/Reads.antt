@@ -1,27 +1,12 @@
 -- What is read of an inner node, and on a way down from it to a first or last leaf.
 use Rattle.std.proofs.Common.{◌≡◌, ◌≢◌, ℕ, suc, ◌+◌, ◌-◌, ◌^◌, ◌≤◌, min, List, [], ◌++◌, length, drop, IfErr, IfSome, None, Option, Some, IsSome, Ok, Err, sym, ap, subst, ◌∙◌, arith}
 use Rattle.std.specs.declared.result.Result.{Result}
-use Rattle.art_bytes.specs.Keys.{BeginsWith}
-use Rattle.art_bytes.proofs.Order.{begins_append}
+use Rattle.art_bytes.proofs.Common.{BeginsWith, begins_append}
+use Rattle.art_nodes.proofs.Common.{InnerNode, Name}
 use Rattle.art_nodes.specs.declared.kind.NodeType.TheVariants.{Leaf}
 use Rattle.art_nodes.specs.declared.leaf.LeafNode.{LeafNode}
-use Rattle.art_nodes.specs.InnerNode.{InnerNode}
-use Rattle.art_nodes.specs.Name.{Name}
-use Rattle.art_arena.specs.arena.Arena.{Arena, cell_of, held_at, leaf_held, node_at}
-use Rattle.art_arena.specs.arena.Cells.{leaf_name}
-use Rattle.art_arena.specs.arena.Context.{Frame, plug, leaves_before, leaves_after}
-use Rattle.art_arena.specs.arena.Descents.{ReadsPath}
-use Rattle.art_arena.specs.arena.EndLeaves.{end_slot, end_child}
-use Rattle.art_arena.specs.arena.Linked.{first_slot}
-use Rattle.art_arena.specs.arena.Meaning.{IsSubtree}
-use Rattle.art_arena.specs.arena.Prefixes.{prefix_of}
-use Rattle.art_arena.specs.arena.Reads.{IsReadAt, KeysWithin, ReadsAtLeast, ReadsToFirst}
-use Rattle.art_arena.specs.arena.Shapes.{Shape, LeafAt, erase, leaves}
-use Rattle.art_arena.specs.tree.Paths.{path_of}
-use Rattle.art_arena.specs.tree.Trees.{Tree}
+use Rattle.art_arena.proofs.Terms.{Arena, cell_of, held_at, leaf_held, node_at, leaf_name, Frame, plug, leaves_before, leaves_after, ReadsPath, end_slot, end_child, first_slot, IsSubtree, prefix_of, IsReadAt, KeysWithin, ReadsAtLeast, ReadsToFirst, Shape, LeafAt, erase, leaves, path_of, Tree, End, First}
 use Rattle.art_arena.specs.tree.Trees as tree
-use Rattle.art_arena.specs.declared.ends.End.{End}
-use Rattle.art_arena.specs.declared.ends.End.TheVariants.{First}
 use Rattle.art_arena.proofs.tree.Order.{all_left, all_right}
 use Rattle.art_arena.proofs.shapes.Contexts.{leaves-plug}
 use Rattle.art_arena.proofs.shapes.EndWalks.{EndStep, end_step, on_end-start, same_inner}

@@ -1,15 +1,9 @@
 -- The parent of a place is pointed at another node: the one write that every edit of a part's root makes.
 use Rattle.std.proofs.Common.{◌≡◌, ◌≢◌, ℕ, suc, ◌+◌, List, [], ◌∷◌, ◌++◌, length, take, Option, Some, refl, sym, ap, subst, ◌∙◌, inl, inr, arith, append_assoc}
 use Rattle.std.proofs.lemmas.Bool.Decides.{eqb_tells, leb_tells}
+use Rattle.art_nodes.proofs.Common.{Name, InnerNode, child_at, with_child, with_children}
 use Rattle.art_nodes.specs.declared.kind.NodeType.TheVariants.{Leaf}
-use Rattle.art_nodes.specs.Name.{Name}
-use Rattle.art_nodes.specs.InnerNode.{InnerNode, child_at, with_child, with_children}
-use Rattle.art_arena.specs.tree.Kinds.{IsKindOf}
-use Rattle.art_arena.specs.arena.Cells.{Cell, branches, UpdatesAt, Holds}
-use Rattle.art_arena.specs.arena.Shapes.{Shape, Branches, no_branch, branch, name_of, children_at, width, cells, cells_in, IsUnder}
-use Rattle.art_arena.specs.arena.Context.{Frame, plug, path_to, root_of, frame_cell, AreAround, AreBelow, cells_before, cells_after}
-use Rattle.art_arena.specs.arena.Meaning.{IsNodesBeside}
-use Rattle.art_arena.specs.arena.Steps.{Step, steps_to}
+use Rattle.art_arena.proofs.Terms.{IsKindOf, Cell, branches, UpdatesAt, Holds, Shape, Branches, no_branch, branch, name_of, children_at, width, cells, cells_in, IsUnder, Frame, plug, path_to, root_of, frame_cell, AreAround, AreBelow, cells_before, cells_after, IsNodesBeside, Step, steps_to}
 use Rattle.art_arena.proofs.tree.Order.{all_right}
 use Rattle.art_arena.proofs.shapes.CellLists.{Holds-write, Holds-swap}
 use Rattle.art_arena.proofs.shapes.Contexts.{cells-plug, name_of-plug, IsUnder-plug}

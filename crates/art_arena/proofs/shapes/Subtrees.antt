@@ -1,22 +1,16 @@
 -- A subtree: what the arena has at its root, its children, and its leaves.
 use Rattle.std.proofs.Common.{◌≡◌, ◌≢◌, ℕ, ◌+◌, ◌<◌, ◌≤◌, List, [], ◌∷◌, ◌++◌, length, Option, Some, None, IsSome, refl, sym, ap, subst, ◌∙◌, arith, length-append, take}
+use Rattle.art_nodes.proofs.Common.{InnerNode, first_child, last_child, Name}
 use Rattle.art_nodes.specs.declared.kind.NodeType.TheVariants.{Leaf}
 use Rattle.art_nodes.specs.declared.leaf.LeafNode.{LeafNode}
-use Rattle.art_nodes.specs.InnerNode.{InnerNode, first_child, last_child}
-use Rattle.art_nodes.specs.Name.{Name}
-use Rattle.art_arena.specs.tree.Kinds.{IsKindOf}
-use Rattle.art_arena.specs.arena.Cells.{Cell, pair, branches, copies, AreHeld}
-use Rattle.art_arena.specs.arena.Arena.{Arena, Held, leaf_held, inner_held, cell_of, held_at, node_at, slots_of}
-use Rattle.art_arena.specs.arena.Shapes.{Shape, Branches, leaf_at, inner_at, no_branch, branch, LeafAt, name_of, children_at, join, leaves, leaves_in, cells, cells_in, IsUnder, AreUnder, width}
+use Rattle.art_arena.proofs.Terms.{IsKindOf, Cell, pair, branches, copies, AreHeld, Arena, Held, leaf_held, inner_held, cell_of, held_at, node_at, slots_of, Shape, Branches, leaf_at, inner_at, no_branch, branch, LeafAt, name_of, children_at, join, leaves, leaves_in, cells, cells_in, IsUnder, AreUnder, width, prefix_of, IsSubtree}
 use Rattle.art_arena.proofs.tree.Order.{all_left, all_right}
 use Rattle.std.specs.List.{AllByRecursion}
 use Rattle.std.proofs.lemmas.List.{append-nil}
-use Rattle.art_bytes.specs.Keys.{BeginsWith}
-use Rattle.art_arena.specs.arena.Prefixes.{prefix_of}
+use Rattle.art_bytes.proofs.Common.{BeginsWith}
 use Rattle.art_arena.proofs.shapes.CellLists.{copies-append}
 use Rattle.art_arena.proofs.shapes.Contexts.{cells_in-join}
-use Rattle.art_arena.proofs.shapes.Places.{leaves_in-begin}
-use Rattle.art_arena.specs.arena.Meaning.{IsSubtree}
+use Rattle.art_arena.proofs.shapes.Places.{around, leaves_in-begin}
 use Rattle.art_arena.proofs.shapes.Measures.{cells_few, nodes_below, nodes_below-held}
 
 module _ {K V : Type 0} where
@@ -70,8 +64,7 @@ module _ {K V : Type 0} where
 module _ {K V : Type 0} (bytes : K → List ℕ) where
   pub AreUnder-here : (path : List ℕ) (low : ℕ) (before : Branches K V) (b : ℕ) (t : Shape K V) (after : Branches K V)
       → AreUnder bytes path low (join before (branch b t after)) → IsUnder bytes (path ++ b ∷ []) t
-  AreUnder-here path low no_branch b t after under = under.1
-  AreUnder-here path low (branch c u before) b t after under = AreUnder-here path (c + 1) before b t after under.2
+  AreUnder-here path low before b t after under = (around bytes path low before b t after under).here_under
 
   -- each canonical shape has a leaf
   pub some_leaf : (path : List ℕ) (s : Shape K V) → IsUnder bytes path s → (l : LeafAt K V) × (ls : List (LeafAt K V)) × (leaves s ≡ l ∷ ls)

@@ -1,17 +1,10 @@
 -- The leaves around a place, and a key that goes there.
 use Rattle.std.proofs.Common.{◌≡◌, ℕ, ◌+◌, ◌<◌, false, List, [], ◌∷◌, ◌++◌, Option, Some, None, refl, sym, ap, subst, ◌∙◌, inl, inr, arith}
 use Rattle.std.specs.List.{AllByRecursion}
-use Rattle.art_bytes.specs.Keys.{BeginsWith, Conflict, IsBefore}
-use Rattle.art_nodes.specs.Name.{Name}
+use Rattle.art_bytes.proofs.Common.{BeginsWith, Conflict, IsBefore, before_at, begins_append, begins_step, conflict_not_before, conflict_turned}
+use Rattle.art_nodes.proofs.Common.{Name}
 use Rattle.art_nodes.specs.declared.kind.NodeType.TheVariants.{Leaf}
-use Rattle.art_arena.specs.tree.Kinds.{IsKindOf}
-use Rattle.art_arena.specs.arena.Meaning.{IsTreeBeside}
-use Rattle.art_arena.specs.tree.Changes.{IsIn}
-use Rattle.art_arena.specs.arena.Cells.{Cell, leaf_name, same_name, UpdatesAt, copies}
-use Rattle.art_arena.specs.arena.Shapes.{Shape, Branches, leaf_at, inner_at, no_branch, branch, LeafAt, width, leaves, leaves_in, cells, cells_in, IsUnder, AreUnder}
-use Rattle.art_arena.specs.arena.Linked.{Links, times, IsList, IsBeside}
-use Rattle.art_arena.specs.arena.Context.{Frame, path_to, leaves_before, leaves_after, AreAround, AreBelow}
-use Rattle.art_arena.specs.arena.Places.{IsPlace}
+use Rattle.art_arena.proofs.Terms.{IsKindOf, IsTreeBeside, IsIn, Cell, leaf_name, same_name, UpdatesAt, copies, Shape, Branches, leaf_at, inner_at, no_branch, branch, LeafAt, width, leaves, leaves_in, cells, cells_in, IsUnder, AreUnder, Links, times, IsList, IsBeside, Frame, path_to, leaves_before, leaves_after, AreAround, AreBelow, IsPlace, HasConflict, NoConflict}
 use Rattle.art_arena.proofs.tree.Order.{all_append, all_weaker}
 use Rattle.art_arena.proofs.tree.Insert.{in_left, in_right}
 use Rattle.art_arena.proofs.shapes.CellLists.{same_name_tells, copies-append, copies-vacant}
@@ -19,8 +12,6 @@ use Rattle.art_arena.proofs.shapes.LinkedLists.{times-append, AreLinked-frame}
 use Rattle.art_arena.proofs.shapes.Contexts.{leaves-plug}
 use Rattle.art_arena.proofs.shapes.Meanings.{nodes-part}
 use Rattle.art_arena.proofs.shapes.Places.{leaves-begin}
-use Rattle.art_bytes.proofs.Order.{before_at, begins_append, begins_step, conflict_not_before, conflict_turned}
-use Rattle.art_arena.specs.arena.Descents.{HasConflict, NoConflict}
 
 -- of two keys that go on behind a path by different bytes, the one with the smaller byte comes first
 pub smaller_byte_first : (path : List ℕ) (b c : ℕ) (k l : List ℕ) → b < c → BeginsWith (path ++ b ∷ []) k → BeginsWith (path ++ c ∷ []) l → IsBefore k l

@@ -3,11 +3,11 @@ use Rattle.std.proofs.Common.{◌≡◌, ℕ, ◌-◌, ◌≤◌, length, Option
 use Rattle.std.proofs.lemmas.Bool.Decides.{leb_tells}
 use Rattle.slab.specs.Slab.{Slab, get, EndsWithValue, HasRoomFor}
 use Rattle.slab.proofs.SlabLemmas.{ContainsKey-within}
+use Rattle.art_nodes.proofs.Common.{InnerNode}
 use Rattle.art_nodes.specs.declared.kind.NodeType.{NodeType}
 use Rattle.art_nodes.specs.declared.kind.NodeType.TheVariants.{Node4, Node16, Node32, Node48, Node256, Leaf}
 use Rattle.art_nodes.specs.declared.leaf.LeafNode.{LeafNode}
-use Rattle.art_nodes.specs.InnerNode.{InnerNode}
-use Rattle.art_arena.specs.arena.Arena.{Arena, as_inner, as_leaf, held_as, IsTrimmed, KeepsRoomOf}
+use Rattle.art_arena.proofs.Terms.{Arena, as_inner, as_leaf, held_as, IsTrimmed, KeepsRoomOf}
 
 -- a slab that ends with a value has no more slots than one with a value wherever it has one
 as-few : {S T : Type 0} (s : Slab S) (t : Slab T) → EndsWithValue s → ((key : ℕ) → IsSome (get s key) → IsSome (get t key)) → length s.slots ≤ length t.slots

@@ -1,9 +1,8 @@
 -- What an edit of an arena does to its cells and to the links of its leaves.
 use Rattle.std.proofs.Common.{◌≡◌, ◌≢◌, ℕ, Option, sym, ap}
+use Rattle.art_nodes.proofs.Common.{Name}
 use Rattle.art_nodes.specs.declared.kind.NodeType.TheVariants.{Leaf}
-use Rattle.art_nodes.specs.Name.{Name}
-use Rattle.art_arena.specs.arena.Cells.{leaf_name, UpdatesAt}
-use Rattle.art_arena.specs.arena.Arena.{Arena, Held, held_at, cell_of, links_of, node_at, links_at, SameNodes}
+use Rattle.art_arena.proofs.Terms.{leaf_name, UpdatesAt, Arena, Held, held_at, cell_of, links_of, node_at, links_at, SameNodes}
 
 module _ {K V : Type 0} where
   -- a node that is written is a cell that is written

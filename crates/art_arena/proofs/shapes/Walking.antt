@@ -3,27 +3,16 @@ use Rattle.std.proofs.Common.{◌≡◌, ℕ, suc, ◌+◌, ◌-◌, ◌^◌, �
 use Rattle.std.proofs.Math.ListN.{drop_of_length-le}
 use Rattle.std.proofs.lemmas.Bool.Decides.{leb_tells}
 use Rattle.std.proofs.lemmas.List.{drop-drop}
-use Rattle.art_nodes.specs.Name.{Name}
-use Rattle.art_nodes.specs.InnerNode.{InnerNode, child_at}
-use Rattle.art_arena.specs.tree.Paths.{path_of, path_in}
-use Rattle.art_arena.specs.arena.Cells.{Cell, pair, branches, copies, AreHeld}
-use Rattle.art_bytes.specs.Keys.{BeginsWith}
-use Rattle.art_arena.specs.arena.Shapes.{Shape, Branches, leaf_at, inner_at, name_of, children_at, cells, erase, erase_in, leaves_in}
-use Rattle.art_arena.specs.arena.Context.{Frame, path_to, cells_before, cells_after}
-use Rattle.art_arena.specs.arena.Meaning.{IsSubtree}
-use Rattle.art_arena.specs.arena.Steps.{Step, steps_to}
-use Rattle.art_arena.specs.arena.Places.{IsPlace}
-use Rattle.art_arena.specs.arena.Prefixes.{prefix_of}
-use Rattle.art_arena.specs.arena.Found.{located, located_in}
-use Rattle.art_arena.specs.arena.Descents.{GoesOn, GoesNoFurther, GuidesBelow, IsGuide, TakesFronts, located_where, LandsAt, HasNoFront, OnWayTo, ReadsPath}
+use Rattle.art_nodes.proofs.Common.{Name, InnerNode, child_at}
 use Rattle.art_nodes.specs.declared.leaf.LeafNode.{LeafNode}
-use Rattle.art_arena.specs.arena.Arena.{Arena, Held, leaf_held, inner_held, held_at, cell_of, node_at}
+use Rattle.art_arena.proofs.Terms.{path_of, path_in, Cell, pair, branches, copies, AreHeld, Shape, Branches, leaf_at, inner_at, name_of, children_at, cells, erase, erase_in, leaves_in, Frame, path_to, cells_before, cells_after, IsSubtree, Step, steps_to, IsPlace, prefix_of, located, located_in, GoesOn, GoesNoFurther, GuidesBelow, IsGuide, TakesFronts, located_where, LandsAt, HasNoFront, OnWayTo, ReadsPath, Arena, Held, leaf_held, inner_held, held_at, cell_of, node_at}
+use Rattle.art_bytes.proofs.Common.{BeginsWith}
 use Rattle.art_arena.proofs.shapes.Guides.{guide_down}
 use Rattle.art_arena.proofs.shapes.LastSteps.{last_two}
 use Rattle.art_arena.proofs.shapes.Reads.{some_weaker}
 use Rattle.art_arena.proofs.shapes.CellLists.{copies-append}
 use Rattle.art_arena.proofs.shapes.Contexts.{cells-plug}
-use Rattle.art_arena.proofs.shapes.Places.{StepsDown, held-below, leaf-there, inner-there, step-down, at-root}
+use Rattle.art_arena.proofs.shapes.Places.{Splits, held-below, leaf-there, inner-there, place_below, split, at-root}
 use Rattle.art_arena.proofs.shapes.Finding.{NoneFits, dropped, counted_more, located-step, none-located_in, none-avoid, none-short, avoid-missing, path_in-step, path_in-missing, path_in-ended}
 
 -- how many nodes are counted after so many more
@@ -151,8 +140,8 @@ module _ {K V : Type 0} (bytes : K → List ℕ) (key : List ℕ) (whole : Shape
         part-path = ap (λ s. length (path_of (erase s) (drop depth key))) here.is ∙ ap (λ k. suc (length (path_in (erase_in here.kids) k))) behind
 
         -- the child to which it goes on
-        way-down : (b : ℕ) (child : Name) (next : ℕ) → GoesOn key depth node b child next → StepsDown bytes whole way.ctx current here.prefix here.kids b child
-        way-down b child next goes = step-down bytes whole way.ctx current here.prefix here.kids b child here.place (ap (λ n. child_at n.children b) (sym here.node_is) ∙ goes.child_is)
+        way-down : (b : ℕ) (child : Name) (next : ℕ) → GoesOn key depth node b child next → Splits here.kids b child
+        way-down b child next goes = split here.kids b child (ap (λ n. child_at n.children b) (sym here.node_is) ∙ goes.child_is)
 
         -- it goes on to a child
         pub way-step : (b : ℕ) (child : Name) (next : ℕ) → GoesOn key depth node b child next
@@ -161,21 +150,22 @@ module _ {K V : Type 0} (bytes : K → List ℕ) (key : List ℕ) (whole : Shape
             let h = here in
             let at_b : get_or key (length path) 0 ≡ b = ap (λ i. get_or key i 0) path-long ∙ goes.byte_is in
             let sd = way-down b child next goes in
+            let place = place_below bytes whole way.ctx current h.prefix h.kids sd.before b sd.here sd.after h.place sd.kids_are in
             let rest : drop (depth + node.header.prefix_len) key ≡ b ∷ drop next key =
             dropped (depth + node.header.prefix_len) key (omega (arith, goes.within, goes.next_is)) ∙ ap₂ (λ c n. c ∷ drop n key) goes.byte_is (sym goes.next_is) in
             let inner_path : path_in (erase_in h.kids) (drop (depth + node.header.prefix_len) key) ≡ path_of (erase sd.here) (drop next key) =
-            ap₂ (λ f k. path_in (erase_in f) k) sd.kids_are rest ∙ path_in-step bytes key sd.before b sd.here sd.after (drop next key) sd.place.around.2 in
+            ap₂ (λ f k. path_in (erase_in f) k) sd.kids_are rest ∙ path_in-step bytes key sd.before b sd.here sd.after (drop next key) place.around.2 in
             record {
               ctx = record { name = current; prefix = h.prefix; before = sd.before; byte = b; after = sd.after } ∷ way.ctx;
               part = sd.here;
-              place = sd.place;
+              place = place;
               named = sd.named;
               steps = last_two (record { node = current; byte = b }) (steps_to way.ctx) ∙ ap (λ xs. take 2 (record { node = current; byte = b } ∷ xs)) way.steps;
               depth_is = omega (arith, length-append (path_to way.ctx ++ h.prefix) (b ∷ []), length-append (path_to way.ctx) h.prefix, way.depth_is, goes.next_is, ap (λ n. n.header.prefix_len) h.node_is);
               finds = λ test takes.
                   way.finds test takes ∙ ap (λ s. located_where bytes test (located (steps_to way.ctx) s)) h.is
                   ∙ ap (λ f. located_where bytes test (located_in (steps_to way.ctx) current f)) sd.kids_are
-                  ∙ located-step bytes key test takes path (steps_to way.ctx) current sd.before b sd.here sd.after at_b sd.place.around.1 sd.place.around.2 sd.place.around.3;
+                  ∙ located-step bytes key test takes path (steps_to way.ctx) current sd.before b sd.here sd.after at_b place.around.1 place.around.2 place.around.3;
               long = omega (arith, way.long, part-path, ap length inner_path);
               reads = ap (λ c. min (c + 1) (2 ^ 64 - 1)) way.reads ∙ counted_more start (suc (length way.ctx)) (2 ^ 64 - 1);
             }

@@ -1,11 +1,10 @@
 -- The items whose keys pass a test stand together, if the test holds between two keys for which it holds.
-use Rattle.std.proofs.Common.{◌≡◌, ℕ, ◌<◌, ◌⊎◌, List, [], ◌∷◌, ◌++◌, refl, sym, ap, ap₂, ◌∙◌, subst, inl, inr, arith, Bool, true, false, filter}
+use Rattle.std.proofs.Common.{◌≡◌, ℕ, ◌<◌, ◌⊎◌, List, [], ◌∷◌, ◌++◌, refl, sym, ap, ap₂, ◌∙◌, inl, inr, arith, Bool, true, false, filter}
 use Rattle.std.specs.List.{AllByRecursion}
-use Rattle.std.proofs.lemmas.Bool.{cond-true, cond-false, cases_Bool}
-use Rattle.art_bytes.specs.Keys.{BeginsWith, IsBefore}
-use Rattle.art_arena.specs.tree.Order.{AscendsByKey}
-use Rattle.art_arena.specs.tree.Tenants.{begins_with, with_front}
-use Rattle.art_arena.specs.Laws.{FrontIsBlock}
+use Rattle.std.proofs.lemmas.Bool.{cond_both}
+use Rattle.art_bytes.proofs.Common.{BeginsWith, IsBefore}
+use Rattle.art_arena.proofs.Terms.{AscendsByKey, begins_with, with_front, FrontIsBlock}
+use Rattle.art_arena.proofs.tree.Filters.{all_kept}
 use Rattle.art_arena.proofs.tree.Tenants.{begins_true}
 use Rattle.art_arena.proofs.tree.Parts.{begins_same}
 
@@ -42,48 +41,30 @@ module _ {X : Type 0} (key : X → List ℕ) (test : List ℕ → Bool) (convex 
   past x y h less out [] a = refl
   past x y h less out (z ∷ zs) a =
       let r = past x y h less out zs a.1 in
-      elim (cases_Bool (test (key z))) [
-        | inl t ↦ let e : true ≡ false = sym (convex (key x) (key y) (key z) h t less a.0) ∙ out in absurd (cc)
-        | inr f ↦ cond-false _ (z ∷ Kept zs) (Kept zs) f ∙ r
-      ]
+      cond_both (test (key z)) (z ∷ Kept zs) (Kept zs) (λ l. l ≡ [])
+      (λ t. let e : true ≡ false = sym (convex (key x) (key y) (key z) h t less a.0) ∙ out in absurd (cc)) (λ f. r)
 
   kept_after : (x : X) (xs : List X) → test (key x) ≡ true → AscendsByKey key (x ∷ xs) → (after : List X) × (xs ≡ Kept xs ++ after)
   kept_after x [] h a = ([], refl)
   kept_after x (y ∷ ys) h a =
       let later = λ (t : test (key y) ≡ true). kept_after y ys t a.1 in
-      elim (cases_Bool (test (key y))) [
-        | inl t ↦ let r = later t in (r.0, ap (λ l. y ∷ l) r.1 ∙ sym (ap (λ l. l ++ r.0) (cond-true _ (y ∷ Kept ys) (Kept ys) t)))
-        | inr f ↦ (y ∷ ys, sym (ap (λ l. l ++ y ∷ ys) (cond-false _ (y ∷ Kept ys) (Kept ys) f ∙ past x y h a.0.0 f ys a.1.0)))
-      ]
+      cond_both (test (key y)) (y ∷ Kept ys) (Kept ys) (λ l. (after : List X) × (y ∷ ys ≡ l ++ after))
+      (λ t. let r = later t in (r.0, ap (λ l. y ∷ l) r.1)) (λ f. (y ∷ ys, sym (ap (λ l. l ++ y ∷ ys) (past x y h a.0.0 f ys a.1.0))))
 
   pub kept_block : (xs : List X) → AscendsByKey key xs → (before : List X) × (after : List X) × (xs ≡ before ++ (Kept xs ++ after))
   kept_block [] h = ([], [], refl)
   kept_block (x ∷ xs) h =
       let r = kept_block xs h.1 in
-      elim (cases_Bool (test (key x))) [
-        | inl t ↦ let b = kept_after x xs t h in ([], b.0, ap (λ l. x ∷ l) b.1 ∙ sym (ap (λ l. l ++ b.0) (cond-true _ (x ∷ Kept xs) (Kept xs) t)))
-        | inr f ↦ (x ∷ r.0, r.1, ap (λ l. x ∷ l) r.2 ∙ sym (ap (λ l. (x ∷ r.0) ++ (l ++ r.1)) (cond-false _ (x ∷ Kept xs) (Kept xs) f)))
-      ]
+      cond_both (test (key x)) (x ∷ Kept xs) (Kept xs) (λ l. (before : List X) × (after : List X) × (x ∷ xs ≡ before ++ (l ++ after)))
+      (λ t. let b = kept_after x xs t h in ([], b.0, ap (λ l. x ∷ l) b.1)) (λ f. (x ∷ r.0, r.1, ap (λ l. x ∷ l) r.2))
 
 module _ {X : Type 0} (key : X → List ℕ) where
-  -- a filter
-  own_all : (P : X → Type 0) (front : List ℕ) (xs : List X) → AllByRecursion P xs → AllByRecursion P (with_front key front xs)
-  own_all P front [] h = tt
-  own_all P front (x ∷ xs) h =
-      let r = own_all P front xs h.1 in
-      elim (cases_Bool (begins_with front (key x))) [
-        | inl t ↦ subst (AllByRecursion P) (sym (cond-true _ (x ∷ with_front key front xs) (with_front key front xs) t)) (h.0, r)
-        | inr f ↦ subst (AllByRecursion P) (sym (cond-false _ (x ∷ with_front key front xs) (with_front key front xs) f)) r
-      ]
-
   own_ascending : (front : List ℕ) (xs : List X) → AscendsByKey key xs → AscendsByKey key (with_front key front xs)
   own_ascending front [] h = tt
   own_ascending front (x ∷ xs) h =
       let r = own_ascending front xs h.1 in
-      elim (cases_Bool (begins_with front (key x))) [
-        | inl t ↦ subst (AscendsByKey key) (sym (cond-true _ (x ∷ with_front key front xs) (with_front key front xs) t)) (own_all (λ y. IsBefore (key x) (key y)) front xs h.0, r)
-        | inr f ↦ subst (AscendsByKey key) (sym (cond-false _ (x ∷ with_front key front xs) (with_front key front xs) f)) r
-      ]
+      cond_both (begins_with front (key x)) (x ∷ with_front key front xs) (with_front key front xs) (AscendsByKey key)
+      (λ t. (all_kept (λ y. begins_with front (key y)) (λ y. IsBefore (key x) (key y)) xs h.0, r)) (λ f. r)
 
 module _ (X : Type 0) where
   pub front_is_block : FrontIsBlock X

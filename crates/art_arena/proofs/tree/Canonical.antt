@@ -1,11 +1,9 @@
 -- What holds of the items of a canonical tree.
 use Rattle.std.proofs.Common.{◌≡◌, ℕ, ◌≤◌, List, [], ◌∷◌, ◌++◌, refl, ap, arith}
 use Rattle.std.specs.List.{AllByRecursion}
-use Rattle.art_bytes.specs.Keys.{BeginsWith, IsBefore}
-use Rattle.art_arena.specs.tree.Order.{AscendsByKey}
-use Rattle.art_arena.specs.tree.Trees.{Tree, Forest, leaf, inner, no_child, child, items, items_in, count, IsBelow, IsCanonical, AreCanonical}
+use Rattle.art_bytes.proofs.Common.{BeginsWith, IsBefore, begins_append}
+use Rattle.art_arena.proofs.Terms.{AscendsByKey, Tree, Forest, leaf, inner, no_child, child, items, items_in, count, IsBelow, IsCanonical, AreCanonical}
 use Rattle.art_arena.proofs.tree.Order.{all_append, all_weaker, all_before_at, ascending_append}
-use Rattle.art_bytes.proofs.Order.{begins_append}
 
 module _ {X : Type 0} (key : X → List ℕ) where
   -- each key begins with the path

@@ -1,13 +1,11 @@
 -- How many children a node of a canonical tree may have.
 use Rattle.std.proofs.Common.{◌≡◌, ℕ, suc, ◌+◌, ◌<◌, ◌≤◌, List, [], ◌∷◌, ◌++◌, refl, sym, ap, subst, inl, arith, Bool, false}
 use Rattle.std.specs.List.{AllByRecursion}
-use Rattle.art_arena.specs.tree.Changes.{IsIn}
-use Rattle.art_arena.specs.tree.Trees.{Tree, Forest, leaf, inner, no_child, child, items, items_in, count, IsBelow, IsCanonical, AreCanonical, nodes_with, nodes_in}
-use Rattle.art_arena.specs.tree.Shrinks.{one_if}
+use Rattle.art_arena.proofs.Terms.{IsIn, Tree, Forest, leaf, inner, no_child, child, items, items_in, count, IsBelow, IsCanonical, AreCanonical, nodes_with, nodes_in, one_if}
 use Rattle.art_arena.proofs.tree.Order.{all_left, all_right}
 use Rattle.art_arena.proofs.tree.Canonical.{begin, some_item}
 use Rattle.art_arena.proofs.tree.Insert.{all_at}
-use Rattle.art_bytes.proofs.Order.{begins_step}
+use Rattle.art_bytes.proofs.Common.{begins_step}
 
 module _ {X : Type 0} (key : X → List ℕ) where
   -- children have bytes, if the keys do

@@ -1,25 +1,21 @@
 -- All keys with a front taken out of a canonical tree.
-use Rattle.std.proofs.Common.{◌≡◌, ◌≢◌, ℕ, suc, ◌+◌, ◌<◌, ◌≤◌, List, [], ◌∷◌, ◌++◌, length, refl, sym, ap, ap₂, ◌∙◌, subst, inl, inr, append_assoc, append-nil, arith, length-append, Bool, true, false, not, cond, eqb, eq-eqb, ne_eqb}
+use Rattle.std.proofs.Common.{◌≡◌, ◌≢◌, ℕ, suc, ◌+◌, ◌<◌, ◌≤◌, List, [], ◌∷◌, ◌++◌, length, refl, sym, ap, ap₂, ◌∙◌, subst, inl, inr, append_assoc, append-nil, arith, length-append, Bool, not, cond, eqb, eq-eqb, ne_eqb}
 use Rattle.std.specs.List.{AllByRecursion}
 use Rattle.std.proofs.lemmas.Bool.{cond-true, cond-false, cases_eq, cases_Bool, not_from_true, not_from_false}
 use Rattle.std.proofs.lemmas.List.Elements.{filter-append}
-use Rattle.art_bytes.specs.Keys.{BeginsWith, common_prefix}
-use Rattle.art_arena.specs.tree.Changes.{IsIn}
-use Rattle.art_arena.specs.tree.Trees.{Tree, Forest, leaf, inner, no_child, child, items, items_in, count, IsBelow, IsCanonical, AreCanonical, nodes_with, nodes_in}
-use Rattle.art_arena.specs.tree.Landing.{ends, differs, passes, pass}
-use Rattle.art_arena.specs.tree.Fronts.{width_of}
-use Rattle.art_arena.specs.tree.Tenants.{begins_with, with_front, without_front}
-use Rattle.art_arena.specs.tree.Shrinks.{one_if, one_fewer, IsCrossing}
-use Rattle.art_arena.proofs.tree.Order.{all_weaker}
+use Rattle.art_bytes.proofs.Common.{BeginsWith, common_prefix, begins_from_step}
+use Rattle.art_arena.proofs.Terms.{IsIn, Tree, Forest, leaf, inner, no_child, child, items, items_in, count, IsBelow, IsCanonical, AreCanonical, nodes_with, nodes_in, ends, differs, passes, pass, width_of, begins_with, with_front, without_front, one_if, one_fewer, IsCrossing}
+use Rattle.art_arena.proofs.tree.Order.{all_append, all_weaker}
 use Rattle.art_arena.proofs.tree.Canonical.{begin, begin_in, some_item, some_item_in}
 use Rattle.art_arena.proofs.tree.Insert.{all_at, in_left, in_right}
 use Rattle.art_arena.proofs.tree.Delete.{settled, settled_canonical, settled_items, settled_nodes}
+use Rattle.art_arena.proofs.tree.Filters.{filter_all, filter_none, from_kept}
 use Rattle.art_arena.proofs.tree.Fronts.{Widths, WidthsIn, not_among_others, begins_trans, widths, common_left}
 use Rattle.art_arena.proofs.tree.Paths.{in_cases}
-use Rattle.art_arena.proofs.tree.Shrinks.{same_front, same_tree}
+use Rattle.art_arena.proofs.tree.Shrinks.{at_above, at_other, same_front, same_tree}
 use Rattle.art_arena.proofs.tree.Landing.{Passed, end, other, on, pass_says}
+use Rattle.art_arena.proofs.tree.Tenants.{begins_true, begins_false}
 use Rattle.art_arena.proofs.tree.Parts.{own_all, own_none, own_append, elsewhere, begins_same, begins_not}
-use Rattle.art_bytes.proofs.Order.{begins_step, begins_from_step, common_apart}
 
 -- how many children the node has from which the part is cut, n where there is none
 abbrev mutual
@@ -38,24 +34,16 @@ lifted path (inner prefix cs) = inner (path ++ prefix) cs
 
 module _ {X : Type 0} (key : X → List ℕ) (front : List ℕ) where
   others_all : (xs : List X) → AllByRecursion (λ x. BeginsWith front (key x)) xs → without_front key front xs ≡ []
-  others_all [] h = refl
-  others_all (x ∷ xs) h = cond-false _ (x ∷ without_front key front xs) (without_front key front xs) (not_from_true _ (begins_same front (key x) h.0)) ∙ others_all xs h.1
+  others_all xs h = filter_none (λ x. not (begins_with front (key x))) xs (all_weaker _ _ (λ x b. not_from_true _ (begins_same front (key x) b)) xs h)
 
   others_none : (xs : List X) → AllByRecursion (λ x. BeginsWith front (key x) → ⊥) xs → without_front key front xs ≡ xs
-  others_none [] h = refl
-  others_none (x ∷ xs) h = cond-true _ (x ∷ without_front key front xs) (without_front key front xs) (not_from_false _ (begins_not front (key x) h.0)) ∙ ap (λ l. x ∷ l) (others_none xs h.1)
+  others_none xs h = filter_all (λ x. not (begins_with front (key x))) xs (all_weaker _ _ (λ x n. not_from_false _ (begins_not front (key x) n)) xs h)
 
   others_append : (xs ys : List X) → without_front key front (xs ++ ys) ≡ without_front key front xs ++ without_front key front ys
   others_append xs ys = filter-append (λ x. not (begins_with front (key x))) xs ys
 
   others_in : (x : X) (xs : List X) → IsIn x (without_front key front xs) → IsIn x xs
-  others_in x [] i = i
-  others_in x (y ∷ ys) i =
-      let rest = others_in x ys in
-      elim (cases_Bool (begins_with front (key y))) [
-        | inl t ↦ inr (rest (subst (IsIn x) (cond-false _ (y ∷ without_front key front ys) (without_front key front ys) (not_from_true _ t)) i))
-        | inr f ↦ elim (subst (IsIn x) (cond-true _ (y ∷ without_front key front ys) (without_front key front ys) (not_from_false _ f)) i) [ inl e ↦ inl e | inr j ↦ inr (rest j) ]
-      ]
+  others_in x xs i = (from_kept (λ y. not (begins_with front (key y))) x xs i).0
 
   lifted_canonical : (path : List ℕ) (t : Tree X) → IsCanonical key path t → IsCanonical key [] (lifted path t)
   lifted_canonical path (leaf x) h = (key x, refl)
@@ -120,33 +108,17 @@ module _ {X : Type 0} (key : X → List ℕ) (front : List ℕ) where
       subst (CutsNodes test (nodes_with test (inner prefix cs)) (nodes_with test (inner prefix ds)) (nodes_with test v)) (sym (l n)) (omega (arith, c, d)))
       (λ g n ws. last g (count cs) ws.1 ∙ sym (l n))
 
-  -- other children's keys meet the front at the node
-  at_other : (q : List ℕ) (b : ℕ) (r : List ℕ) → front ≡ q ++ b ∷ r → (c : ℕ) → b ≢ c → (k : List ℕ) → BeginsWith (q ++ c ∷ []) k → common_prefix front k ≡ q
-  at_other q b r e c n k h = let s = begins_step q c k h in ap₂ common_prefix e s.1 ∙ common_apart q b c r s.0 n
-
-  at_above : (q : List ℕ) (b : ℕ) (r : List ℕ) → front ≡ q ++ b ∷ r → (cs : Forest X) → IsBelow b cs → AreCanonical key q cs → (z : X) → IsIn z (items_in cs) → common_prefix front (key z) ≡ q
-  at_above q b r e no_child low h z i = absurd i
-  at_above q b r e (child c t cs) low h z i =
-      elim (in_cases z (items t) (items_in cs) i) [
-        | inl j ↦ at_other q b r e c (λ f. let l = low.0 in omega arith) (key z) (all_at (λ x. BeginsWith (q ++ c ∷ []) (key x)) z (items t) (begin key (q ++ c ∷ []) t h.0) j)
-        | inr j ↦ at_above q b r e cs low.1 h.2 z j
-      ]
-
   not_above : (q : List ℕ) (b : ℕ) (r : List ℕ) → front ≡ q ++ b ∷ r → (cs : Forest X) → IsBelow b cs → AreCanonical key q cs → AllByRecursion (λ x. BeginsWith front (key x) → ⊥) (items_in cs)
   not_above q b r e cs low h = all_weaker _ _ (λ x n j. n (begins_trans (q ++ b ∷ []) front (key x) (begins_from_step q b r front e) j)) _ (not_among_others key q b cs low h)
 
-  open_all : (P : X → Type 0) → (xs ys : List X) → AllByRecursion P xs → AllByRecursion P ys → AllByRecursion P (xs ++ ys)
-  open_all P [] ys h k = k
-  open_all P (x ∷ xs) ys h k = (h.0, open_all P xs ys h.1 k)
-
   on_child : (q : List ℕ) (b : ℕ) (r : List ℕ) → front ≡ q ++ b ∷ r → (t : Tree X) (cs : Forest X) → AreCanonical key q (child b t cs) → Cut (q ++ b ∷ []) r t → CutIn q b r (child b t cs)
-  on_child q b r e t cs h (untouched none) = untouched_in (open_all _ (items t) (items_in cs) none (not_above q b r e cs h.1 h.2))
+  on_child q b r e t cs h (untouched none) = untouched_in (all_append _ (items t) (items_in cs) none (not_above q b r e cs h.1 h.2))
   on_child q b r e t cs h (all_of every last) =
       let none = not_above q b r e cs h.1 h.2 in
       gone cs t (q ++ b ∷ []) h.2 h.0 refl (λ a low. low.1)
       (others_append (items t) (items_in cs) ∙ ap₂ (λ l m. l ++ m) (others_all (items t) every) (others_none (items_in cs) none))
       (own_append key front (items t) (items_in cs) ∙ ap₂ (λ l m. l ++ m) (own_all key front (items t) every) (own_none key front (items_in cs) none) ∙ append-nil (items t))
-      (λ z i n. elim (in_cases z (items t) (items_in cs) i) [ inl j ↦ absurd (n (all_at (λ x. BeginsWith front (key x)) z (items t) every j)) | inr j ↦ at_above q b r e cs h.1 h.2 z j ])
+      (λ z i n. elim (in_cases z (items t) (items_in cs) i) [ inl j ↦ absurd (n (all_at (λ x. BeginsWith front (key x)) z (items t) every j)) | inr j ↦ at_above key front q b r e cs h.1 h.2 z j ])
       (λ z i. all_at (λ x. BeginsWith front (key x) → ⊥) z (items_in cs) none i)
       (λ test. omega arith)
       (λ n. cond-true (eqb b b) (cut_count n t r) (cut_count_in n cs b r) (eq-eqb b b refl) ∙ last n)
@@ -158,7 +130,7 @@ module _ {X : Type 0} (key : X → List ℕ) (front : List ℕ) where
       (own_append key front (items t) (items_in cs) ∙ ap₂ (λ l m. l ++ m) ev (own_none key front (items_in cs) none) ∙ append-nil (items v))
       m (
         (cross.0.0, in_left cross.0.0 (items t) (items_in cs) cross.0.1, cross.0.2, cross.0.3),
-        λ z i n. elim (in_cases z (items t) (items_in cs) i) [ inl j ↦ cross.1 z j n | inr j ↦ let f = ap length (at_above q b r e cs h.1 h.2 z j) in let g = length-append q (b ∷ []) in omega arith ],
+        λ z i n. elim (in_cases z (items t) (items_in cs) i) [ inl j ↦ cross.1 z j n | inr j ↦ let f = ap length (at_above key front q b r e cs h.1 h.2 z j) in let g = length-append q (b ∷ []) in omega arith ],
       )
       (let g = length-append q (b ∷ []) in omega arith)
       (λ test n. let c = nodes test n in subst (CutsNodes test (nodes_in test (child b t cs)) (nodes_in test (child b u cs)) (nodes_with test v)) (sym (l n)) (omega (arith, c)))
@@ -166,14 +138,14 @@ module _ {X : Type 0} (key : X → List ℕ) (front : List ℕ) where
 
   past_child : (q : List ℕ) (b : ℕ) (r : List ℕ) → front ≡ q ++ b ∷ r → (c : ℕ) → b ≢ c → (t : Tree X) (cs : Forest X) → AreCanonical key q (child c t cs) → CutIn q b r cs → CutIn q b r (child c t cs)
   past_child q b r e c apart t cs h (untouched_in none) =
-      untouched_in (open_all _ (items t) (items_in cs) (all_weaker _ _ (λ x i. elsewhere key front q b r e c apart (key x) i) _ (begin key (q ++ c ∷ []) t h.0)) none)
+      untouched_in (all_append _ (items t) (items_in cs) (all_weaker _ _ (λ x i. elsewhere key front q b r e c apart (key x) i) _ (begin key (q ++ c ∷ []) t h.0)) none)
   past_child q b r e c apart t cs h (gone ds v w hd hv m low eo ev at out nodes last) =
       let here = all_weaker (λ x. BeginsWith (q ++ c ∷ []) (key x)) (λ x. BeginsWith front (key x) → ⊥) (λ x i. elsewhere key front q b r e c apart (key x) i) (items t) (begin key (q ++ c ∷ []) t h.0) in
       gone (child c t ds) v w (h.0, low c h.1, hd) hv (ap suc m) (λ a l. (l.0, low a l.1))
       (others_append (items t) (items_in cs) ∙ ap₂ (λ l m. l ++ m) (others_none (items t) here) eo)
       (own_append key front (items t) (items_in cs) ∙ ap₂ (λ l m. l ++ m) (own_none key front (items t) here) ev)
       (λ z i n. elim (in_cases z (items t) (items_in cs) i) [
-        | inl j ↦ at_other q b r e c apart (key z) (all_at (λ x. BeginsWith (q ++ c ∷ []) (key x)) z (items t) (begin key (q ++ c ∷ []) t h.0) j)
+        | inl j ↦ at_other key front q b r e c apart t h.0 z j
         | inr j ↦ at z j n
       ])
       (λ z i. elim (in_cases z (items t) (items_in ds) i) [ inl j ↦ all_at (λ x. BeginsWith front (key x) → ⊥) z (items t) here j | inr j ↦ out z j ])
@@ -188,7 +160,7 @@ module _ {X : Type 0} (key : X → List ℕ) (front : List ℕ) where
       top (
         (cross.0.0, in_right cross.0.0 (items t) (items_in cs) cross.0.1, cross.0.2, cross.0.3),
         λ z i n. elim (in_cases z (items t) (items_in cs) i) [
-          | inl j ↦ let f = ap length (at_other q b r e c apart (key z) (all_at (λ x. BeginsWith (q ++ c ∷ []) (key x)) z (items t) (begin key (q ++ c ∷ []) t h.0) j)) in omega arith
+          | inl j ↦ let f = ap length (at_other key front q b r e c apart t h.0 z j) in omega arith
           | inr j ↦ cross.1 z j n
         ],
       )
@@ -210,15 +182,9 @@ module _ {X : Type 0} (key : X → List ℕ) (front : List ℕ) where
     cuts : (p : List ℕ) (t : Tree X) → IsCanonical key p t → (rest : List ℕ) → front ≡ p ++ rest → Cut p rest t
     cuts p (leaf x) h rest e =
         elim (cases_Bool (begins_with front (key x))) [
-          | inl f ↦ all_of (begins f, tt) (λ n. refl)
-          | inr f ↦ untouched (not_begins f, tt)
+          | inl f ↦ all_of (begins_true front (key x) f, tt) (λ n. refl)
+          | inr f ↦ untouched (begins_false front (key x) f, tt)
         ]
-      where
-        begins : begins_with front (key x) ≡ true → BeginsWith front (key x)
-        begins f = Rattle.art_arena.proofs.tree.Tenants.begins_true front (key x) f
-
-        not_begins : begins_with front (key x) ≡ false → BeginsWith front (key x) → ⊥
-        not_begins f = Rattle.art_arena.proofs.tree.Tenants.begins_false front (key x) f
     cuts p (inner prefix cs) h rest e =
         at_prefix p prefix cs h rest e (λ b r g. cuts_in (p ++ prefix) cs h.1 b r (e ∙ ap (λ m. p ++ m) g ∙ sym (append_assoc p prefix (b ∷ r)))) (pass_says prefix rest)
 

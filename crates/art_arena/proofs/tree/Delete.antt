@@ -1,15 +1,13 @@
 -- Removal from a canonical tree.
-use Rattle.std.proofs.Common.{◌≡◌, ℕ, suc, ◌+◌, ◌≤◌, ◌⊎◌, List, [], ◌∷◌, ◌++◌, length, drop, drop_at, Bool, cond, eqb, eq-eqb, ne_eqb, refl, sym, ap, ap₂, ◌∙◌, subst, inl, inr, append_assoc, append-nil, arith}
-use Rattle.std.proofs.lemmas.Bool.{cases_eq, cond-true, cond-false}
-use Rattle.art_bytes.specs.Keys.{BeginsWith}
-use Rattle.art_arena.specs.tree.Changes.{IsIn, IsPutIn}
-use Rattle.art_arena.specs.tree.Trees.{Tree, Forest, leaf, inner, no_child, child, items, items_in, count, IsBelow, IsCanonical, AreCanonical, nodes_with, nodes_in}
-use Rattle.art_arena.specs.tree.Shrinks.{one_if, one_fewer}
+use Rattle.std.proofs.Common.{◌≡◌, ℕ, suc, ◌+◌, ◌≤◌, ◌⊎◌, List, [], ◌∷◌, ◌++◌, length, drop, drop_at, Bool, true, false, bytes_eq, cond, eqb, eq-eqb, ne_eqb, refl, sym, ap, ap₂, ◌∙◌, subst, inl, inr, append_assoc, append-nil, arith}
+use Rattle.std.proofs.lemmas.Bool.{cases_Bool, cases_eq, cond-true, cond-false}
+use Rattle.std.proofs.lemmas.Slice.Eq.{bytes_eq-Decides}
+use Rattle.art_bytes.proofs.Common.{BeginsWith, begins_append, begins_step}
+use Rattle.art_arena.proofs.Terms.{IsIn, IsPutIn, Tree, Forest, leaf, inner, no_child, child, items, items_in, count, IsBelow, IsCanonical, AreCanonical, nodes_with, nodes_in, one_if, one_fewer}
 use Rattle.art_arena.proofs.tree.Canonical.{begin}
 use Rattle.art_arena.proofs.tree.Insert.{all_at, put_left, put_right, put_first}
-use Rattle.art_bytes.proofs.Order.{begins_append, begins_step}
 use Rattle.art_arena.proofs.tree.Fronts.{cancel_front}
-use Rattle.art_arena.proofs.tree.Paths.{in_cases}
+use Rattle.art_arena.proofs.tree.Paths.{deeper, in_cases}
 
 -- A child that is left alone takes the node's place: its prefix becomes the node's, the byte, and its own.
 abbrev pub merged : {X : Type 0} → List ℕ → ℕ → Tree X → Tree X
@@ -38,12 +36,10 @@ abbrev pub Loses : (ℕ → Bool) → ℕ → ℕ → ℕ → Type 0
 Loses test before after n = after + one_if (test n) ≡ before + one_fewer test n
 
 pub list_cases : (k l : List ℕ) → (k ≡ l) ⊎ (k ≡ l → ⊥)
-list_cases [] [] = inl refl
-list_cases [] (b ∷ l) = inr (λ e. cc)
-list_cases (a ∷ k) [] = inr (λ e. cc)
-list_cases (a ∷ k) (b ∷ l) =
-    let rest = list_cases k l in
-    elim (cases_eq a b) [ inl e ↦ elim rest [ inl f ↦ inl cc | inr g ↦ inr (λ f. let h : k ≡ l = cc in g h) ] | inr g ↦ inr (λ f. let h : a ≡ b = cc in g h) ]
+list_cases k l = elim (cases_Bool (bytes_eq k l)) [
+  | inl t ↦ inl ((bytes_eq-Decides k l).0 t)
+  | inr f ↦ inr (λ e. let g : true ≡ false = sym ((bytes_eq-Decides k l).1 e) ∙ f in cc)
+]
 
 -- whether k goes on behind the prefix
 pub goes_behind : (prefix k : List ℕ) → ((b : ℕ) × (r : List ℕ) × (k ≡ prefix ++ b ∷ r)) ⊎ ((b : ℕ) (r : List ℕ) → k ≡ prefix ++ b ∷ r → ⊥)
@@ -173,22 +169,13 @@ module _ {X : Type 0} (key : X → List ℕ) where
       other z (inl h) i = g (sym (cancel_front path s rest (sym f ∙ ap key h ∙ i ∙ e)))
       other z (inr h) i = h
 
-  -- each key below goes on behind the path
-  deeper : (q : List ℕ) (cs : Forest X) → AreCanonical key q cs → (y : X) → IsIn y (items_in cs) → (b : ℕ) × (r : List ℕ) × (key y ≡ q ++ b ∷ r)
-  deeper q no_child h y i = absurd i
-  deeper q (child c t cs) h y i =
-      elim (in_cases y (items t) (items_in cs) i) [
-        | inl j ↦ let s = begins_step q c (key y) (all_at _ y (items t) (begin key (q ++ c ∷ []) t h.0) j) in (c, s.0, s.1)
-        | inr j ↦ deeper q cs h.2 y j
-      ]
-
   mutual
     pub delete : (path : List ℕ) (t : Tree X) → IsCanonical key path t → (k rest : List ℕ) → k ≡ path ++ rest → Removal path k rest t
     delete path (leaf y) h k rest e = at_leaf path y h.0 k rest h.1 e (list_cases rest h.0)
     delete path (inner prefix cs) h k rest e =
         elim (goes_behind prefix rest) [
           | inl s ↦ up path prefix k s.0 s.1 rest cs s.2 h.0 (delete_in (path ++ prefix) cs h.1 k s.0 s.1 (e ∙ ap (λ m. path ++ m) s.2 ∙ sym (append_assoc path prefix (s.0 ∷ s.1))))
-          | inr never ↦ absent (λ y i f. let d = deeper (path ++ prefix) cs h.1 y i in
+          | inr never ↦ absent (λ y i f. let d = deeper key (key y) (path ++ prefix) cs h.1 (y, i, refl) in
               never d.0 d.1 (cancel_front path rest (prefix ++ d.0 ∷ d.1) (sym e ∙ sym f ∙ d.2 ∙ append_assoc path prefix (d.0 ∷ d.1))))
         ]
 

@@ -1,20 +1,16 @@
 -- Sums over the distinct elements of a list.
-use Rattle.std.proofs.Common.{◌≡◌, ℕ, ◌+◌, List, [], ◌∷◌, ◌++◌, length, refl, sym, ap, ap₂, ◌∙◌, inl, inr, arith, Bool, true, false, cond, ◌||◌, sum_by, bytes_eq, eq-eqb, eqb-true}
+use Rattle.std.proofs.Common.{◌≡◌, ℕ, ◌+◌, List, [], ◌∷◌, ◌++◌, length, refl, sym, ap, ◌∙◌, inl, inr, arith, Bool, true, false, cond, ◌||◌, sum_by, bytes_eq}
 use Rattle.std.specs.List.{AllByRecursion, list_any}
-use Rattle.std.proofs.lemmas.Bool.{cond-true, cond-false, and_parts, and_from, false_from_ne_true, or_left, or_right}
+use Rattle.std.proofs.lemmas.Bool.{cond-true, cond-false, false_from_ne_true, or_left, or_right}
 use Rattle.std.proofs.lemmas.List.Sums.{sum_by-cons}
-use Rattle.art_arena.specs.tree.Changes.{IsIn}
-use Rattle.art_arena.specs.tree.Fronts.{distinct}
+use Rattle.std.proofs.lemmas.Slice.Eq.{bytes_eq-Decides}
+use Rattle.art_arena.proofs.Terms.{IsIn, distinct}
 
 pub same_bytes : (k : List ℕ) → bytes_eq k k ≡ true
-same_bytes [] = refl
-same_bytes (a ∷ k) = and_from _ _ (eq-eqb a a refl) (same_bytes k)
+same_bytes k = (bytes_eq-Decides k k).1 refl
 
 pub bytes_from_same : (k l : List ℕ) → bytes_eq k l ≡ true → k ≡ l
-bytes_from_same [] [] e = refl
-bytes_from_same [] (b ∷ l) e = absurd (cc)
-bytes_from_same (a ∷ k) [] e = absurd (cc)
-bytes_from_same (a ∷ k) (b ∷ l) e = let p = and_parts _ _ e in ap₂ (λ c m. c ∷ m) (eqb-true a b p.0) (bytes_from_same k l p.1)
+bytes_from_same k l e = (bytes_eq-Decides k l).0 e
 
 pub length_sum : {A : Type 0} (xs : List A) → length xs ≡ sum_by (λ x. 1) xs
 length_sum [] = refl

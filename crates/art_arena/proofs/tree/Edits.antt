@@ -1,27 +1,21 @@
 -- An item is put into a canonical tree, or taken out of it.
 use Rattle.std.proofs.Common.{◌≡◌, ◌≢◌, ℕ, ◌⊎◌, List, [], ◌∷◌, ◌++◌, refl, sym, ap, ◌∙◌, subst, inl, inr}
-use Rattle.std.proofs.lemmas.Bool.{cond-true, cond-false, cases_Bool}
-use Rattle.art_bytes.specs.Keys.{Conflict, IsBefore}
-use Rattle.art_arena.specs.tree.Order.{AscendsByKey}
-use Rattle.art_arena.specs.tree.Changes.{IsIn, IsPutIn, is_before, put_in_order}
-use Rattle.art_arena.specs.tree.Trees.{Tree, leaf, items, IsCanonical}
-use Rattle.art_arena.specs.Laws.{Insertion, InsertionIsFree, Deletion}
+use Rattle.std.proofs.lemmas.Bool.{cond_both}
+use Rattle.art_bytes.proofs.Common.{Conflict, IsBefore, before_not_self, conflict_turned, conflict_not_before}
+use Rattle.art_arena.proofs.Terms.{AscendsByKey, IsIn, IsPutIn, is_before, put_in_order, Tree, leaf, items, IsCanonical, Insertion, InsertionIsFree, Deletion}
 use Rattle.art_arena.proofs.tree.Canonical.{ascending}
 use Rattle.art_arena.proofs.tree.Insert.{all_at, in_right, Inserting, grown, found, blocked, insert}
 use Rattle.art_arena.proofs.tree.Exists.{put_is}
 use Rattle.art_arena.proofs.tree.Delete.{Removal, absent, whole, removed, delete}
 use Rattle.art_arena.proofs.tree.Paths.{in_cases}
-use Rattle.art_bytes.proofs.Order.{before_not_self, conflict_turned, conflict_not_before}
 
 module _ {X : Type 0} (key : X → List ℕ) where
   is_put_in : (x : X) (xs : List X) → IsPutIn x xs (put_in_order key x xs)
   is_put_in x [] = ([], [], refl, refl)
   is_put_in x (y ∷ ys) =
       let r = is_put_in x ys in
-      elim (cases_Bool (is_before (key x) (key y))) [
-        | inl e ↦ ([], y ∷ ys, refl, cond-true _ (x ∷ y ∷ ys) (y ∷ put_in_order key x ys) e)
-        | inr e ↦ (y ∷ r.0, r.1, ap (λ l. y ∷ l) r.2, cond-false _ (x ∷ y ∷ ys) (y ∷ put_in_order key x ys) e ∙ ap (λ l. y ∷ l) r.3)
-      ]
+      cond_both (is_before (key x) (key y)) (x ∷ y ∷ ys) (y ∷ put_in_order key x ys) (IsPutIn x (y ∷ ys))
+      (λ e. ([], y ∷ ys, refl, refl)) (λ e. (y ∷ r.0, r.1, ap (λ l. y ∷ l) r.2, ap (λ l. y ∷ l) r.3))
 
   before_it : (front : List X) (x : X) (back : List X) → AscendsByKey key (front ++ x ∷ back) → (y : X) → IsIn y front → IsBefore (key y) (key x)
   before_it [] x back h y i = absurd i

@@ -1,12 +1,6 @@
 -- The definitions at work, as the checker computes them.
 use Rattle.std.proofs.Common.{◌≡◌, ℕ, zero, suc, List, [], ◌∷◌, ◌++◌, length, refl, Option, Some, None, Bool, true, map, flat_map, nat_eq, nat_le, ◌&&◌, arith}
-use Rattle.art_arena.specs.tree.Trees.{Tree, leaf, inner, no_child, child, items, nodes_with}
-use Rattle.art_arena.specs.tree.TreeOf.{tree_of}
-use Rattle.art_arena.specs.tree.Kinds.{IsLimit, ChangesKind}
-use Rattle.art_arena.specs.tree.Paths.{path_of}
-use Rattle.art_arena.specs.tree.Landing.{Landing, on_leaf, begins_all, splits_prefix, lacks_child, landing}
-use Rattle.art_arena.specs.tree.Fronts.{fronts_of, fronts_with, width_of}
-use Rattle.art_arena.specs.tree.Tenants.{with_front, crossings}
+use Rattle.art_arena.proofs.Terms.{Tree, leaf, inner, no_child, child, items, nodes_with, tree_of, IsLimit, ChangesKind, path_of, Landing, on_leaf, begins_all, splits_prefix, lacks_child, landing, fronts_of, fronts_with, width_of, with_front, crossings}
 use Rattle.art_nodes.specs.declared.kind.NodeType.TheVariants.{Node4, Node16, Node32, Node48, Node256}
 
 -- the numbers below n

@@ -2,15 +2,11 @@
 use Rattle.std.proofs.Common.{◌≡◌, ℕ, List, [], ◌∷◌, ◌++◌, refl, sym, ap, ◌∙◌, subst, inl, inr, Some, true, eq-eqb, lt-ltb, eqb-true, ltb-true}
 use Rattle.std.specs.List.{AllByRecursion}
 use Rattle.std.proofs.lemmas.Bool.{cond-true, cond-false, or_left, or_right, and_from, or_cases, and_parts, false_from_ne_true}
-use Rattle.art_arena.specs.tree.Order.{AscendsByKey}
-use Rattle.art_arena.specs.tree.Changes.{IsIn, IsPutIn, is_before, put_in_order}
-use Rattle.art_arena.specs.tree.Trees.{Tree, leaf, items, IsCanonical}
-use Rattle.art_arena.specs.tree.TreeOf.{tree_of}
+use Rattle.art_arena.proofs.Terms.{AscendsByKey, IsIn, IsPutIn, is_before, put_in_order, Tree, leaf, items, IsCanonical, tree_of}
 use Rattle.art_arena.proofs.tree.Canonical.{ascending}
 use Rattle.art_arena.proofs.tree.Unique.{tree_of_items}
 use Rattle.art_arena.proofs.tree.Insert.{all_at, in_right, Inserting, grown, found, blocked, insert}
-use Rattle.art_bytes.specs.Keys.{IsBefore}
-use Rattle.art_bytes.proofs.Order.{before_trans, before_not_self, conflict_not_before}
+use Rattle.art_bytes.proofs.Common.{IsBefore, before_trans, before_not_self, conflict_not_before}
 
 pub before_true : (k l : List ℕ) → IsBefore k l → is_before k l ≡ true
 before_true [] l h = absurd h

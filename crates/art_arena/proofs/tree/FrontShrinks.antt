@@ -1,56 +1,31 @@
 -- Whether a removal shrinks a node is told by the keys with the front alone, where another of them is stored.
-use Rattle.std.proofs.Common.{◌≡◌, ◌≢◌, ℕ, ◌≤◌, ◌↔◌, List, [], ◌∷◌, ◌++◌, length, refl, sym, ap, ap₂, ◌∙◌, subst, inl, inr, arith, length-append, nat_eq}
+use Rattle.std.proofs.Common.{◌≡◌, ◌≢◌, ℕ, ◌≤◌, ◌↔◌, List, [], ◌∷◌, length, refl, sym, ap, ◌∙◌, subst, inl, inr, arith, length-append, nat_eq}
 use Rattle.std.specs.List.{cons_option}
-use Rattle.std.proofs.lemmas.Bool.{cond-true, cond-false, cases_Bool, cases_lt}
-use Rattle.art_bytes.specs.Keys.{BeginsWith, common_prefix}
-use Rattle.art_arena.specs.tree.Changes.{IsIn}
-use Rattle.art_arena.specs.tree.Trees.{Forest, inner, items, IsCanonical}
-use Rattle.art_arena.specs.tree.Kinds.{IsLimit}
-use Rattle.art_arena.specs.tree.Fronts.{byte_after, bytes_after, width_of, distinct}
-use Rattle.art_arena.specs.tree.Tenants.{begins_with, with_front}
-use Rattle.art_arena.specs.tree.Shrinks.{IsMeeting, Shrinks}
+use Rattle.std.proofs.lemmas.Bool.{cond_both, cases_Bool, cases_lt}
+use Rattle.art_bytes.proofs.Common.{BeginsWith, common_prefix}
+use Rattle.art_arena.proofs.Terms.{IsIn, Forest, inner, items, IsCanonical, IsLimit, byte_after, bytes_after, width_of, distinct, begins_with, with_front, IsMeeting, Shrinks}
+use Rattle.art_arena.proofs.tree.Filters.{in_kept}
 use Rattle.art_arena.proofs.tree.Fronts.{begins_trans, none_after, common_left}
 use Rattle.art_arena.proofs.tree.Paths.{deeper}
 use Rattle.art_arena.proofs.tree.Tenants.{begins_true, begins_false, common_right, own_in}
 use Rattle.art_arena.proofs.tree.Shrinks.{TreeMeets, tree_meets, another}
+pub use Rattle.art_arena.proofs.tree.Shrinks.{front_le}
 use Rattle.art_arena.proofs.tree.Parts.{begins_same}
-
-pub front_le : (p q k : List ℕ) → BeginsWith p k → BeginsWith q k → length p ≤ length q → BeginsWith p q
-front_le [] q k h j l = (q, refl)
-front_le (a ∷ p) [] k h j l = absurd (omega arith)
-front_le (a ∷ p) (b ∷ q) [] (r, e) j l = absurd (cc)
-front_le (a ∷ p) (b ∷ q) (c ∷ k) (r, e) (s, f) l =
-    let hp : k ≡ p ++ r = cc in
-    let hq : k ≡ q ++ s = cc in
-    let i : b ≡ a = cc in
-    let le : length p ≤ length q = omega arith in
-    let rest = front_le p q k (r, hp) (s, hq) le in
-    (rest.0, ap₂ (λ x m. x ∷ m) i rest.1)
 
 begins_length : (p q : List ℕ) → BeginsWith p q → length p ≤ length q
 begins_length p q (r, e) = let f = ap length e in let g = length-append p r in omega arith
 
 module _ {X : Type 0} (key : X → List ℕ) where
   in_own : (front : List ℕ) (x : X) (xs : List X) → IsIn x xs → BeginsWith front (key x) → IsIn x (with_front key front xs)
-  in_own front x [] i h = i
-  in_own front x (y ∷ ys) (inl e) h =
-      subst (IsIn x) (sym (cond-true _ (y ∷ with_front key front ys) (with_front key front ys) (ap (λ z. begins_with front (key z)) e ∙ begins_same front (key x) h))) (inl e)
-  in_own front x (y ∷ ys) (inr i) h =
-      let rest = in_own front x ys i h in
-      elim (cases_Bool (begins_with front (key y))) [
-        | inl t ↦ subst (IsIn x) (sym (cond-true _ (y ∷ with_front key front ys) (with_front key front ys) t)) (inr rest)
-        | inr f ↦ subst (IsIn x) (sym (cond-false _ (y ∷ with_front key front ys) (with_front key front ys) f)) rest
-      ]
+  in_own front x xs i h = in_kept (λ y. begins_with front (key y)) x xs i (begins_same front (key x) h)
 
   own_bytes : (front m : List ℕ) → BeginsWith front m → (xs : List X) → bytes_after key m (with_front key front xs) ≡ bytes_after key m xs
   own_bytes front m h [] = refl
   own_bytes front m h (x ∷ xs) =
       let rest = own_bytes front m h xs in
-      elim (cases_Bool (begins_with front (key x))) [
-        | inl t ↦ ap (bytes_after key m) (cond-true _ (x ∷ with_front key front xs) (with_front key front xs) t) ∙ ap (cons_option (byte_after m (key x))) rest
-        | inr f ↦ ap (bytes_after key m) (cond-false _ (x ∷ with_front key front xs) (with_front key front xs) f) ∙ rest
-            ∙ sym (ap (λ o. cons_option o (bytes_after key m xs)) (none_after m (key x) (λ j. begins_false front (key x) f (begins_trans front m (key x) h j))))
-      ]
+      cond_both (begins_with front (key x)) (x ∷ with_front key front xs) (with_front key front xs) (λ l. bytes_after key m l ≡ bytes_after key m (x ∷ xs))
+      (λ t. ap (cons_option (byte_after m (key x))) rest)
+      (λ f. rest ∙ sym (ap (λ o. cons_option o (bytes_after key m xs)) (none_after m (key x) (λ j. begins_false front (key x) f (begins_trans front m (key x) h j)))))
 
   pub own_width : (front m : List ℕ) → BeginsWith front m → (xs : List X) → width_of key (with_front key front xs) m ≡ width_of key xs m
   own_width front m h xs = ap (λ l. length (distinct nat_eq l)) (own_bytes front m h xs)

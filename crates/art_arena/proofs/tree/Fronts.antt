@@ -1,17 +1,14 @@
 -- The fronts of neighbours are those of the inner nodes.
-use Rattle.std.proofs.Common.{◌≡◌, ℕ, zero, suc, ◌+◌, ◌<◌, ◌≤◌, ◌⊎◌, List, [], ◌∷◌, ◌++◌, length, refl, sym, ap, ap₂, ◌∙◌, subst, inl, inr, append_assoc, append-nil, arith, Bool, true, false, cond, sum_by, eqb, nat_eq, bytes_eq, eq-eqb, eqb-true, Some, None}
+use Rattle.std.proofs.Common.{◌≡◌, ℕ, zero, suc, ◌+◌, ◌<◌, ◌≤◌, ◌⊎◌, List, [], ◌∷◌, ◌++◌, length, refl, sym, ap, ap₂, ◌∙◌, subst, inl, inr, append_assoc, append-nil, arith, Bool, false, cond, sum_by, eqb, nat_eq, bytes_eq, eq-eqb, eqb-true, Some, None}
 use Rattle.std.specs.List.{AllByRecursion, list_any, cons_option}
-use Rattle.std.proofs.lemmas.Bool.{cond-true}
+use Rattle.std.proofs.lemmas.Bool.{cond-true, cond_both}
 use Rattle.std.proofs.lemmas.List.Elements.{filter_map-append}
-use Rattle.art_bytes.specs.Keys.{BeginsWith, common_prefix}
-use Rattle.art_arena.specs.tree.Changes.{IsIn}
-use Rattle.art_arena.specs.tree.Trees.{Tree, Forest, leaf, inner, no_child, child, items, items_in, count, IsBelow, IsCanonical, AreCanonical, nodes_with, nodes_in}
-use Rattle.art_arena.specs.tree.Fronts.{distinct, neighbour_fronts, byte_after, bytes_after, width_of, fronts_with}
+use Rattle.art_bytes.proofs.Common.{BeginsWith, common_prefix, begins_append, begins_step, common_begins, common_apart}
+use Rattle.art_arena.proofs.Terms.{IsIn, Tree, Forest, leaf, inner, no_child, child, items, items_in, count, IsBelow, IsCanonical, AreCanonical, nodes_with, nodes_in, distinct, neighbour_fronts, byte_after, bytes_after, width_of, fronts_with}
 use Rattle.art_arena.proofs.tree.Order.{all_append, all_weaker}
 use Rattle.art_arena.proofs.tree.Canonical.{begin, some_item}
 use Rattle.art_arena.proofs.tree.Insert.{in_right}
 use Rattle.art_arena.proofs.tree.Distinct.{same_bytes, bytes_from_same, length_sum, not_among, among, sum_again, sum_new, sum_apart, sum_same}
-use Rattle.art_bytes.proofs.Order.{begins_append, begins_step, common_begins, common_apart}
 
 -- fronts of fronts
 
@@ -25,11 +22,9 @@ begins_trans p q k (r, e) (s, f) = (r ++ s, f ∙ ap (λ m. m ++ s) e ∙ append
 pub common_left : (k l : List ℕ) → BeginsWith (common_prefix k l) k
 common_left [] l = ([], refl)
 common_left (a ∷ k) [] = (a ∷ k, refl)
-common_left (a ∷ k) (b ∷ l) = go (eqb a b) (common_left k l)
-  where
-    go : (t : Bool) → BeginsWith (common_prefix k l) k → BeginsWith (cond t (a ∷ common_prefix k l) []) (a ∷ k)
-    go true (r, e) = (r, ap (λ m. a ∷ m) e)
-    go false h = (a ∷ k, refl)
+common_left (a ∷ k) (b ∷ l) =
+    let r = common_left k l in
+    cond_both (eqb a b) (a ∷ common_prefix k l) [] (λ m. BeginsWith m (a ∷ k)) (λ _. (r.0, ap (λ m. a ∷ m) r.1)) (λ _. (a ∷ k, refl))
 
 pub one_byte : (q : List ℕ) (b c : ℕ) (k : List ℕ) → BeginsWith (q ++ b ∷ []) k → BeginsWith (q ++ c ∷ []) k → b ≡ c
 one_byte q b c k h j =
@@ -49,11 +44,8 @@ after_front (a ∷ q) b r = cond-true _ _ _ (eq-eqb a a refl) ∙ after_front q 
 pub none_after : (q k : List ℕ) → (BeginsWith q k → ⊥) → byte_after q k ≡ None
 none_after [] k h = absurd (h (k, refl))
 none_after (a ∷ q) [] h = refl
-none_after (a ∷ q) (b ∷ k) h = go (eqb a b) refl (λ j. none_after q k j)
-  where
-    go : (t : Bool) → eqb a b ≡ t → ((BeginsWith q k → ⊥) → byte_after q k ≡ None) → cond t (byte_after q k) None ≡ None
-    go true e rest = rest (λ j. h (j.0, ap₂ (λ c m. c ∷ m) (sym (eqb-true a b e)) j.1))
-    go false e rest = refl
+none_after (a ∷ q) (b ∷ k) h =
+    cond_both (eqb a b) (byte_after q k) None (λ o. o ≡ None) (λ e. none_after q k (λ j. h (j.0, ap₂ (λ c m. c ∷ m) (sym (eqb-true a b e)) j.1))) (λ _. refl)
 
 -- f at the front of each inner node
 abbrev mutual

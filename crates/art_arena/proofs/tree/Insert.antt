@@ -2,11 +2,9 @@
 use Rattle.std.proofs.Common.{◌≡◌, ℕ, ◌<◌, ◌≤◌, ◌⊎◌, List, [], ◌∷◌, ◌++◌, refl, sym, ap, ◌∙◌, subst, inl, inr, append_assoc, append-nil, arith}
 use Rattle.std.specs.List.{AllByRecursion}
 use Rattle.std.proofs.lemmas.Bool.{cases_order}
-use Rattle.art_bytes.specs.Keys.{BeginsWith, Conflict, IsProperFront}
-use Rattle.art_arena.specs.tree.Changes.{IsIn, IsPutIn}
-use Rattle.art_arena.specs.tree.Trees.{Tree, Forest, leaf, inner, no_child, child, items, items_in, count, IsBelow, IsCanonical, AreCanonical}
+use Rattle.art_bytes.proofs.Common.{BeginsWith, Conflict, IsProperFront, begins_step, begins_from_step, conflict_first, conflict_second}
+use Rattle.art_arena.proofs.Terms.{IsIn, IsPutIn, Tree, Forest, leaf, inner, no_child, child, items, items_in, count, IsBelow, IsCanonical, AreCanonical}
 use Rattle.art_arena.proofs.tree.Canonical.{begin, some_item}
-use Rattle.art_bytes.proofs.Order.{begins_step, begins_from_step, conflict_first, conflict_second}
 
 -- how two lists of bytes meet
 pub data Meeting (k l : List ℕ) : Type 0 where
@@ -62,22 +60,21 @@ put_last x xs = (xs, [], sym (append-nil xs), refl)
 module _ {X : Type 0} (key : X → List ℕ) where
   -- The split of a leaf or a prefix: two children under what both begin with.
 
-  -- what stands below the other byte
-  abbrev pub fork_after : List ℕ → ℕ → X → ℕ → Tree X → Tree X
-  fork_after p a x b t = inner p (child a (leaf x) (child b t no_child))
+  -- the child with the smaller byte comes first
+  abbrev pub fork : (p : List ℕ) (a : ℕ) (x : X) (b : ℕ) (t : Tree X) → (a < b) ⊎ (b < a) → Tree X
+  fork p a x b t (inl less) = inner p (child a (leaf x) (child b t no_child))
+  fork p a x b t (inr more) = inner p (child b t (child a (leaf x) no_child))
 
-  abbrev pub fork_before : List ℕ → ℕ → X → ℕ → Tree X → Tree X
-  fork_before p a x b t = inner p (child b t (child a (leaf x) no_child))
-
-  pub fork_after_canonical : (path p : List ℕ) (a : ℕ) (r : List ℕ) (x : X) (b : ℕ) (t : Tree X) → a < b → key x ≡ path ++ (p ++ a ∷ r)
-      → IsCanonical key ((path ++ p) ++ b ∷ []) t → IsCanonical key path (fork_after p a x b t)
-  fork_after_canonical path p a r x b t l e h =
+  pub fork_canonical : (path p : List ℕ) (a : ℕ) (r : List ℕ) (x : X) (b : ℕ) (t : Tree X) (o : (a < b) ⊎ (b < a)) → key x ≡ path ++ (p ++ a ∷ r)
+      → IsCanonical key ((path ++ p) ++ b ∷ []) t → IsCanonical key path (fork p a x b t o)
+  fork_canonical path p a r x b t (inl l) e h =
       (omega arith, (begins_from_step (path ++ p) a r (key x) (e ∙ sym (append_assoc path p (a ∷ r))), (l, tt), (h, tt, tt)))
-
-  pub fork_before_canonical : (path p : List ℕ) (a : ℕ) (r : List ℕ) (x : X) (b : ℕ) (t : Tree X) → b < a → key x ≡ path ++ (p ++ a ∷ r)
-      → IsCanonical key ((path ++ p) ++ b ∷ []) t → IsCanonical key path (fork_before p a x b t)
-  fork_before_canonical path p a r x b t l e h =
+  fork_canonical path p a r x b t (inr l) e h =
       (omega arith, (h, (l, tt), (begins_from_step (path ++ p) a r (key x) (e ∙ sym (append_assoc path p (a ∷ r))), tt, tt)))
+
+  fork_put : (p : List ℕ) (a : ℕ) (x : X) (b : ℕ) (t : Tree X) (o : (a < b) ⊎ (b < a)) → IsPutIn x (items t) (items (fork p a x b t o))
+  fork_put p a x b t (inl l) = ([], items t, refl, ap (λ l. x ∷ l) (append-nil (items t)))
+  fork_put p a x b t (inr l) = put_last x (items t)
 
   -- the lower part of an inner node whose prefix is split
   pub lower_canonical : (path p : List ℕ) (b : ℕ) (s : List ℕ) (cs : Forest X) → IsCanonical key path (inner (p ++ b ∷ s) cs) → IsCanonical key ((path ++ p) ++ b ∷ []) (inner s cs)
@@ -142,14 +139,10 @@ module _ {X : Type 0} (key : X → List ℕ) where
       blocked y (inl refl) (conflict_first (key x) (key y) (b, r, f ∙ ap (λ m. path ++ m) g ∙ sym (append_assoc path rest (b ∷ r)) ∙ ap (λ m. m ++ b ∷ r) (sym e)))
   at_leaf path y s x rest f e (second_ends b r g) =
       blocked y (inl refl) (conflict_second (key x) (key y) (b, r, e ∙ ap (λ m. path ++ m) g ∙ sym (append_assoc path s (b ∷ r)) ∙ ap (λ m. m ++ b ∷ r) (sym f)))
-  at_leaf path y s x rest f e (differ p a r b u g i (inl o)) =
-      grown (fork_after p a x b (leaf y))
-      (fork_after_canonical path p a r x b (leaf y) o (e ∙ ap (λ m. path ++ m) g) (begins_from_step (path ++ p) b u (key y) (f ∙ ap (λ m. path ++ m) i ∙ sym (append_assoc path p (b ∷ u)))))
-      (put_first x (y ∷ []))
-  at_leaf path y s x rest f e (differ p a r b u g i (inr o)) =
-      grown (fork_before p a x b (leaf y))
-      (fork_before_canonical path p a r x b (leaf y) o (e ∙ ap (λ m. path ++ m) g) (begins_from_step (path ++ p) b u (key y) (f ∙ ap (λ m. path ++ m) i ∙ sym (append_assoc path p (b ∷ u)))))
-      (put_last x (y ∷ []))
+  at_leaf path y s x rest f e (differ p a r b u g i o) =
+      grown (fork p a x b (leaf y) o)
+      (fork_canonical path p a r x b (leaf y) o (e ∙ ap (λ m. path ++ m) g) (begins_from_step (path ++ p) b u (key y) (f ∙ ap (λ m. path ++ m) i ∙ sym (append_assoc path p (b ∷ u)))))
+      (fork_put p a x b (leaf y) o)
 
   -- within a prefix, where it isn't passed
   at_prefix : (path prefix : List ℕ) (cs : Forest X) → IsCanonical key path (inner prefix cs) → (x : X) (rest : List ℕ) → key x ≡ path ++ rest
@@ -162,14 +155,10 @@ module _ {X : Type 0} (key : X → List ℕ) where
       (b ∷ r, ap (λ m. path ++ m) g ∙ sym (append_assoc path rest (b ∷ r)) ∙ ap (λ m. m ++ b ∷ r) (sym e)) in
       blocked f.0 f.1 f.2
   at_prefix path prefix cs h x rest e down (second_ends b r g) = into path prefix x b cs h.0 (down b r g)
-  at_prefix path prefix cs h x rest e down (differ p a r b s g i (inl o)) =
-      grown (fork_after p a x b (inner s cs))
-      (fork_after_canonical path p a r x b (inner s cs) o (e ∙ ap (λ m. path ++ m) g) (lower_canonical path p b s cs (subst (λ m. IsCanonical key path (inner m cs)) i h)))
-      ([], items_in cs, refl, ap (λ l. x ∷ l) (append-nil (items_in cs)))
-  at_prefix path prefix cs h x rest e down (differ p a r b s g i (inr o)) =
-      grown (fork_before p a x b (inner s cs))
-      (fork_before_canonical path p a r x b (inner s cs) o (e ∙ ap (λ m. path ++ m) g) (lower_canonical path p b s cs (subst (λ m. IsCanonical key path (inner m cs)) i h)))
-      (put_last x (items_in cs))
+  at_prefix path prefix cs h x rest e down (differ p a r b s g i o) =
+      grown (fork p a x b (inner s cs) o)
+      (fork_canonical path p a r x b (inner s cs) o (e ∙ ap (λ m. path ++ m) g) (lower_canonical path p b s cs (subst (λ m. IsCanonical key path (inner m cs)) i h)))
+      (fork_put p a x b (inner s cs) o)
 
   mutual
     pub insert : (path : List ℕ) (t : Tree X) → IsCanonical key path t → (x : X) (rest : List ℕ) → key x ≡ path ++ rest → Inserting path x t

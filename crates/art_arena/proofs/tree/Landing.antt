@@ -1,16 +1,12 @@
 -- Where a key's descent ends, and the items.
-use Rattle.std.proofs.Common.{◌≡◌, ◌≢◌, ℕ, List, [], ◌∷◌, ◌++◌, length, drop, drop_at, refl, sym, ap, ◌∙◌, subst, inl, inr, append_assoc, append-nil, arith, eqb, eq-eqb, ne_eqb, Some}
-use Rattle.std.proofs.lemmas.Bool.{cond-true, cond-false, cases_eq, cases_order}
-use Rattle.art_bytes.specs.Keys.{BeginsWith, Conflict, IsProperFront}
-use Rattle.art_arena.specs.tree.Changes.{IsIn}
-use Rattle.art_arena.specs.tree.Trees.{Tree, Forest, leaf, inner, no_child, child, items, items_in, IsCanonical, AreCanonical}
-use Rattle.art_arena.specs.tree.Paths.{last_leaf, path_of, path_in}
-use Rattle.art_arena.specs.tree.Landing.{ends, differs, passes, pass, Landing, on_leaf, begins_all, splits_prefix, lacks_child, landing, landing_in, EndsInConflict}
+use Rattle.std.proofs.Common.{◌≡◌, ◌≢◌, ℕ, List, [], ◌∷◌, ◌++◌, length, drop, drop_at, refl, sym, ap, ◌∙◌, subst, inl, inr, append_assoc, append-nil, arith, eqb, eqb-true, eq-eqb, ne_eqb, Some}
+use Rattle.std.proofs.lemmas.Bool.{cond-true, cond-false, cond_both, cases_eq, cases_order}
+use Rattle.art_bytes.proofs.Common.{BeginsWith, Conflict, IsProperFront, begins_step, begins_from_step, before_at, conflict_first, conflict_turned, conflict_not_before}
+use Rattle.art_arena.proofs.Terms.{IsIn, Tree, Forest, leaf, inner, no_child, child, items, items_in, IsCanonical, AreCanonical, last_leaf, path_of, path_in, ends, differs, passes, pass, Landing, on_leaf, begins_all, splits_prefix, lacks_child, landing, landing_in, EndsInConflict}
 use Rattle.art_arena.proofs.tree.Canonical.{begin, some_item_in}
 use Rattle.art_arena.proofs.tree.Insert.{all_at, in_left, in_right}
 use Rattle.art_arena.proofs.tree.Fronts.{cancel_front, one_byte, not_among_others, begins_trans}
 use Rattle.art_arena.proofs.tree.Paths.{in_cases, deeper}
-use Rattle.art_bytes.proofs.Order.{begins_step, begins_from_step, before_at, conflict_first, conflict_turned, conflict_not_before}
 
 -- pass, with what it says
 pub data Passed (prefix k : List ℕ) : Type 0 where
@@ -58,18 +54,14 @@ module _ {X : Type 0} (key : X → List ℕ) (k : List ℕ) where
     proper q rest (d ∷ s) c u l e f =
         (d, s ++ c ∷ u, f ∙ ap (λ m. m ++ c ∷ u) (sym (append_assoc q rest (d ∷ s))) ∙ append_assoc (q ++ rest) (d ∷ s) (c ∷ u) ∙ ap (λ m. m ++ d ∷ (s ++ c ∷ u)) (sym e))
 
-    -- what an item below an inner node goes on by
-    below : (q : List ℕ) (cs : Forest X) → AreCanonical key q cs → (y : X) → IsIn y (items_in cs) → (c : ℕ) × (u : List ℕ) × (key y ≡ q ++ c ∷ u)
-    below q cs h y i = deeper key (key y) q cs h (y, i, refl)
-
     at_prefix : (p prefix : List ℕ) (cs : Forest X) → IsCanonical key p (inner prefix cs) → (rest : List ℕ) → k ≡ p ++ rest → (y : X) → IsIn y (items_in cs) → R (key y)
         → ((b : ℕ) (r : List ℕ) → rest ≡ prefix ++ b ∷ r → LandsOn y (landing_in cs b r)) → Passed prefix rest → LandsOn y (landing (inner prefix cs) rest)
     at_prefix p prefix cs h rest e y i R-y down (end f s g) =
-        let b = below (p ++ prefix) cs h.1 y i in
+        let b = deeper key (key y) (p ++ prefix) cs h.1 (y, i, refl) in
         subst (λ v. LandsOn y (elim v as (λ _. Landing X) [ ends ↦ begins_all | differs ↦ splits_prefix | passes c r ↦ landing_in cs c r ])) (sym f)
         (proper p rest s b.0 b.1 (key y) e (b.2 ∙ ap (λ m. (p ++ m) ++ b.0 ∷ b.1) g))
     at_prefix p prefix cs h rest e y i R-y down (other f z a r b s g j apart) =
-        let d = below (p ++ prefix) cs h.1 y i in
+        let d = deeper key (key y) (p ++ prefix) cs h.1 (y, i, refl) in
         absurd (no_apart (p ++ z) a r b (s ++ d.0 ∷ d.1) (key y) (e ∙ ap (λ m. p ++ m) g ∙ sym (append_assoc p z (a ∷ r)))
         (d.2 ∙ ap (λ m. (p ++ m) ++ d.0 ∷ d.1) j ∙ ap (λ m. m ++ d.0 ∷ d.1) (sym (append_assoc p z (b ∷ s))) ∙ append_assoc (p ++ z) (b ∷ s) (d.0 ∷ d.1)) apart R-y)
     at_prefix p prefix cs h rest e y i R-y down (on b r f g) =
@@ -96,7 +88,7 @@ module _ {X : Type 0} (key : X → List ℕ) (k : List ℕ) where
               | inr n ↦ let s = begins_step q c (key y) (all_at _ y (items t) (begin key (q ++ c ∷ []) t h.0) j) in absurd (no_apart q b r c s.0 (key y) e s.1 n R-y)
             ]
             | inr j ↦ elim (cases_eq b c) [
-              | inl f ↦ let s = below q cs h.2 y j in
+              | inl f ↦ let s = deeper key (key y) q cs h.2 (y, j, refl) in
                   absurd (elim (cases_eq b s.0) [
                     | inl g ↦ all_at (λ x. BeginsWith (q ++ c ∷ []) (key x) → ⊥) y (items_in cs) (not_among_others key q c cs h.1 h.2) j
                         (begins_from_step q c s.1 (key y) (s.2 ∙ ap (λ a. q ++ a ∷ s.1) (sym g ∙ f)))
@@ -152,10 +144,7 @@ module _ {X : Type 0} (key : X → List ℕ) (k : List ℕ) where
     there_in q (child c t cs) h b r e =
         let here = λ (f : b ≡ c). there_left (items t) (items_in cs) (landing t r) (there (q ++ c ∷ []) t h.0 r (e ∙ ap (λ a. q ++ a ∷ r) f ∙ sym (append_assoc q (c ∷ []) r))) in
         let later = there_right (items t) (items_in cs) (landing_in cs b r) (there_in q cs h.2 b r e) in
-        elim (cases_eq b c) [
-          | inl f ↦ subst (IsThere (items t ++ items_in cs)) (sym (cond-true (eqb b c) (landing t r) (landing_in cs b r) (eq-eqb b c f))) (here f)
-          | inr n ↦ subst (IsThere (items t ++ items_in cs)) (sym (cond-false (eqb b c) (landing t r) (landing_in cs b r) (ne_eqb b c n))) later
-        ]
+        cond_both (eqb b c) (landing t r) (landing_in cs b r) (IsThere (items t ++ items_in cs)) (λ f. here (eqb-true b c f)) (λ n. later)
 
   -- the descent ends at the leaf whose key is a front of k
   pub lands_on : (t : Tree X) → IsCanonical key [] t → (y : X) → IsIn y (items t) → BeginsWith (key y) k → landing t k ≡ on_leaf y
@@ -202,9 +191,6 @@ last_more t x [] e = absurd (cc)
 last_more t x (u ∷ nodes) e = e
 
 module _ {X : Type 0} (key : X → List ℕ) where
-  last_into : (prefix : List ℕ) (cs : Forest X) (x : X) (nodes : List (Tree X)) → last_leaf nodes ≡ Some x → last_leaf (inner prefix cs ∷ nodes) ≡ Some x
-  last_into prefix cs x nodes e = last_more (inner prefix cs) x nodes e
-
   -- what is a front of k is on k's way
   mutual
     finds : (k p : List ℕ) (t : Tree X) → IsCanonical key p t → (y : X) → IsIn y (items t) → BeginsWith (key y) k → (rest : List ℕ) → k ≡ p ++ rest → last_leaf (path_of t rest) ≡ Some y
@@ -214,7 +200,7 @@ module _ {X : Type 0} (key : X → List ℕ) where
         let d = deeper key (key y) (p ++ prefix) cs h.1 (y, i, refl) in
         let g : k ≡ (p ++ prefix) ++ d.0 ∷ (d.1 ++ s.0) = s.1 ∙ ap (λ m. m ++ s.0) d.2 ∙ append_assoc (p ++ prefix) (d.0 ∷ d.1) s.0 in
         let f : rest ≡ prefix ++ d.0 ∷ (d.1 ++ s.0) = cancel_front p rest (prefix ++ d.0 ∷ (d.1 ++ s.0)) (sym e ∙ g ∙ append_assoc p prefix (d.0 ∷ (d.1 ++ s.0))) in
-        last_into prefix cs y (path_in cs (drop (length prefix) rest))
+        last_more (inner prefix cs) y (path_in cs (drop (length prefix) rest))
         (ap (λ l. last_leaf (path_in cs l)) (ap (drop (length prefix)) f ∙ drop_at prefix (d.0 ∷ (d.1 ++ s.0)) (length prefix) refl)
         ∙ finds_in k (p ++ prefix) cs h.1 y i s d.0 (d.1 ++ s.0) g)
 
@@ -285,7 +271,4 @@ mutual
   last_in_forest (child c t cs) (b ∷ k) x e =
       let here = λ (f : last_leaf (path_of t k) ≡ Some x). in_left x (items t) (items_in cs) (last_in_tree t k x f) in
       let there = λ (f : last_leaf (path_in cs (b ∷ k)) ≡ Some x). in_right x (items t) (items_in cs) (last_in_forest cs (b ∷ k) x f) in
-      elim (cases_eq b c) [
-        | inl f ↦ here (sym (ap last_leaf (cond-true (eqb b c) (path_of t k) (path_in cs (b ∷ k)) (eq-eqb b c f))) ∙ e)
-        | inr n ↦ there (sym (ap last_leaf (cond-false (eqb b c) (path_of t k) (path_in cs (b ∷ k)) (ne_eqb b c n))) ∙ e)
-      ]
+      cond_both (eqb b c) (path_of t k) (path_in cs (b ∷ k)) (λ nodes. last_leaf nodes ≡ Some x → IsIn x (items t ++ items_in cs)) (λ _. here) (λ _. there) e

@@ -1,11 +1,10 @@
 -- The table of kinds: which kind a number of children tells, and where the loss of one changes it.
 use Rattle.std.proofs.Common.{◌≡◌, ◌≢◌, ℕ, ◌-◌, ◌≤◌, IsSome, refl, inl, inr, arith}
 use Rattle.std.proofs.lemmas.Bool.{cases_lt}
+use Rattle.art_nodes.proofs.Common.{row_of}
 use Rattle.art_nodes.specs.declared.kind.NodeType.{NodeType}
 use Rattle.art_nodes.specs.declared.kind.NodeType.TheVariants.{Node4, Node16, Node32, Node48, Node256, Leaf}
-use Rattle.art_nodes.specs.Kind.{row_of}
-use Rattle.art_arena.specs.tree.Kinds.{IsKindOf, IsLimit, ChangesKind}
-use Rattle.art_arena.specs.Laws.{LimitsAreKinds}
+use Rattle.art_arena.proofs.Terms.{IsKindOf, IsLimit, ChangesKind, LimitsAreKinds}
 
 -- the ranges of two kinds have nothing in common
 

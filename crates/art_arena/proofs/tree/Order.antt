@@ -1,9 +1,8 @@
 -- Lemmas on ascending lists of items with keys.
 use Rattle.std.proofs.Common.{ℕ, ◌<◌, List, [], ◌∷◌, ◌++◌, sym, subst}
 use Rattle.std.specs.List.{AllByRecursion}
-use Rattle.art_bytes.specs.Keys.{BeginsWith, IsBefore}
-use Rattle.art_bytes.proofs.Order.{before_at, before_trans, begins_step}
-use Rattle.art_arena.specs.tree.Order.{AscendsByKey, AreInOrder}
+use Rattle.art_bytes.proofs.Common.{BeginsWith, IsBefore, before_at, before_trans, begins_step}
+use Rattle.art_arena.proofs.Terms.{AscendsByKey, AreInOrder}
 
 -- all of a list
 

@@ -1,19 +1,17 @@
 -- The part of a tree below a front holds the items that begin with it.
-use Rattle.std.proofs.Common.{◌≡◌, ◌≢◌, ℕ, List, [], ◌∷◌, ◌++◌, refl, sym, ap, ◌∙◌, subst, inl, inr, append_assoc, append-nil, true, false, eqb, eq-eqb, ne_eqb, Some, None, Option}
+use Rattle.std.proofs.Common.{◌≡◌, ◌≢◌, ℕ, List, [], ◌∷◌, ◌++◌, refl, sym, ap, ◌∙◌, subst, inl, inr, append_assoc, append-nil, true, false, eqb, eqb-true, Some, None, Option}
 use Rattle.std.specs.List.{AllByRecursion}
-use Rattle.std.proofs.lemmas.Bool.{cond-true, cond-false, cases_eq, cases_Bool, false_from_ne_true, true_from_ne_false}
+use Rattle.std.proofs.lemmas.Bool.{cond-true, cond-false, cond_both, cases_Bool, eqb-false, false_from_ne_true, true_from_ne_false}
 use Rattle.std.proofs.lemmas.List.Elements.{filter-append}
-use Rattle.art_bytes.specs.Keys.{BeginsWith}
-use Rattle.art_arena.specs.tree.Trees.{Tree, Forest, leaf, inner, no_child, child, items, items_in, IsCanonical, AreCanonical}
-use Rattle.art_arena.specs.tree.Landing.{ends, differs, passes}
-use Rattle.art_arena.specs.tree.Tenants.{begins_with, with_front}
+use Rattle.art_bytes.proofs.Common.{BeginsWith, begins_from_step}
+use Rattle.art_arena.proofs.Terms.{Tree, Forest, leaf, inner, no_child, child, items, items_in, IsCanonical, AreCanonical, ends, differs, passes, begins_with, with_front}
 use Rattle.art_arena.specs.tree.Parts.{part_with_front, part_in, items_of}
 use Rattle.art_arena.proofs.tree.Order.{all_weaker}
 use Rattle.art_arena.proofs.tree.Canonical.{begin, begin_in}
+use Rattle.art_arena.proofs.tree.Filters.{filter_all, filter_none}
 use Rattle.art_arena.proofs.tree.Fronts.{one_byte, not_among_others, begins_trans}
 use Rattle.art_arena.proofs.tree.Tenants.{begins_true, begins_false}
 use Rattle.art_arena.proofs.tree.Landing.{Passed, end, other, on, pass_says}
-use Rattle.art_bytes.proofs.Order.{begins_from_step}
 
 pub begins_same : (front k : List ℕ) → BeginsWith front k → begins_with front k ≡ true
 begins_same front k h = true_from_ne_false _ (λ e. begins_false front k e h)
@@ -23,12 +21,10 @@ begins_not front k h = false_from_ne_true _ (λ e. h (begins_true front k e))
 
 module _ {X : Type 0} (key : X → List ℕ) (front : List ℕ) where
   pub own_all : (xs : List X) → AllByRecursion (λ x. BeginsWith front (key x)) xs → with_front key front xs ≡ xs
-  own_all [] h = refl
-  own_all (x ∷ xs) h = cond-true _ (x ∷ with_front key front xs) (with_front key front xs) (begins_same front (key x) h.0) ∙ ap (λ l. x ∷ l) (own_all xs h.1)
+  own_all xs h = filter_all (λ x. begins_with front (key x)) xs (all_weaker _ _ (λ x b. begins_same front (key x) b) xs h)
 
   pub own_none : (xs : List X) → AllByRecursion (λ x. BeginsWith front (key x) → ⊥) xs → with_front key front xs ≡ []
-  own_none [] h = refl
-  own_none (x ∷ xs) h = cond-false _ (x ∷ with_front key front xs) (with_front key front xs) (begins_not front (key x) h.0) ∙ own_none xs h.1
+  own_none xs h = filter_none (λ x. begins_with front (key x)) xs (all_weaker _ _ (λ x n. begins_not front (key x) n) xs h)
 
   pub own_append : (xs ys : List X) → with_front key front (xs ++ ys) ≡ with_front key front xs ++ with_front key front ys
   own_append xs ys = filter-append (λ x. begins_with front (key x)) xs ys
@@ -70,10 +66,8 @@ module _ {X : Type 0} (key : X → List ℕ) (front : List ℕ) where
         let there = λ (n : b ≡ c → ⊥). own_append (items t) (items_in cs)
         ∙ ap (λ l. l ++ with_front key front (items_in cs)) (own_none (items t) (all_weaker _ _ (λ x i. elsewhere q b r e c n (key x) i) _ (begin key (q ++ c ∷ []) t h.0)))
         ∙ part_in_is q cs h.2 b r e in
-        elim (cases_eq b c) [
-          | inl f ↦ here f ∙ sym (ap items_of (cond-true (eqb b c) (part_with_front key front t r) (part_in key front cs b r) (eq-eqb b c f)))
-          | inr n ↦ there n ∙ sym (ap items_of (cond-false (eqb b c) (part_with_front key front t r) (part_in key front cs b r) (ne_eqb b c n)))
-        ]
+        cond_both (eqb b c) (part_with_front key front t r) (part_in key front cs b r) (λ o. with_front key front (items t ++ items_in cs) ≡ items_of o)
+        (λ e. here (eqb-true b c e)) (λ e. there (eqb-false b c e))
 
   pub part_is_own : (t : Tree X) → IsCanonical key [] t → with_front key front (items t) ≡ items_of (part_with_front key front t front)
   part_is_own t h = part_is [] t h front refl

@@ -3,17 +3,13 @@ use Rattle.std.proofs.Common.{◌≡◌, ℕ, zero, suc, ◌+◌, ◌≤◌, ◌
 use Rattle.std.specs.List.{AllByRecursion, list_any}
 use Rattle.std.proofs.lemmas.Bool.{cond-true, cond-false, cases_eq}
 use Rattle.std.proofs.lemmas.List.{map-append}
-use Rattle.art_bytes.specs.Keys.{BeginsWith, common_prefix}
-use Rattle.art_arena.specs.tree.Changes.{IsIn}
-use Rattle.art_arena.specs.tree.Trees.{Tree, Forest, leaf, inner, no_child, child, items, items_in, count, IsBelow, IsCanonical, AreCanonical}
-use Rattle.art_arena.specs.tree.Paths.{path_of, path_in}
-use Rattle.art_arena.specs.tree.Fronts.{distinct, meetings_of}
+use Rattle.art_bytes.proofs.Common.{BeginsWith, common_prefix, begins_step, begins_from_step, common_begins, common_apart}
+use Rattle.art_arena.proofs.Terms.{IsIn, Tree, Forest, leaf, inner, no_child, child, items, items_in, count, IsBelow, IsCanonical, AreCanonical, path_of, path_in, distinct, meetings_of}
 use Rattle.art_arena.proofs.tree.Order.{all_append, all_weaker}
 use Rattle.art_arena.proofs.tree.Canonical.{begin, some_item, some_item_in}
 use Rattle.art_arena.proofs.tree.Insert.{in_right, in_left, all_at}
 use Rattle.art_arena.proofs.tree.Distinct.{same_bytes, bytes_from_same, length_sum, not_among, among, sum_apart, sum_same, sum_absorbed}
 use Rattle.art_arena.proofs.tree.Fronts.{extra, cancel_front, one_byte, not_longer, not_among_others}
-use Rattle.art_bytes.proofs.Order.{begins_step, begins_from_step, common_begins, common_apart}
 
 pub in_cases : {X : Type 0} (y : X) (xs ys : List X) → IsIn y (xs ++ ys) → IsIn y xs ⊎ IsIn y ys
 in_cases y [] ys i = inr i
@@ -44,9 +40,6 @@ module _ {X : Type 0} (key : X → List ℕ) (k : List ℕ) where
   -- an item whose key is k
   abbrev pub Stored : List X → Type 0
   Stored xs = (x : X) × IsIn x xs × (key x ≡ k)
-
-  pub goes_on : (q : List ℕ) (b : ℕ) (r : List ℕ) → k ≡ q ++ b ∷ r → BeginsWith (q ++ b ∷ []) k
-  goes_on q b r e = begins_from_step q b r k e
 
   -- keys that go on by another byte
   pub meets_apart : (q : List ℕ) (b : ℕ) (r : List ℕ) → k ≡ q ++ b ∷ r → (c : ℕ) → (b ≡ c → ⊥) → (xs : List X) → AllByRecursion (λ x. BeginsWith (q ++ c ∷ []) (key x)) xs
@@ -92,7 +85,7 @@ module _ {X : Type 0} (key : X → List ℕ) (k : List ℕ) where
       let ms = shared_fronts (items t) in
       let v = some_item_in key q (child c u cs) (omega arith) h.2 in
       let all : AllByRecursion (λ f. f ≡ q) (common_prefix k (key v.0) ∷ shared_fronts v.1) = subst (λ l. AllByRecursion (λ f. f ≡ q) (shared_fronts l)) v.2 (meets_above q b r e (child c u cs) h.1 h.2) in
-      let here = meets_begin (q ++ b ∷ []) (goes_on q b r e) (items t) (begin key (q ++ b ∷ []) t h.0) in
+      let here = meets_begin (q ++ b ∷ []) (begins_from_step q b r k e) (items t) (begin key (q ++ b ∷ []) t h.0) in
       let apart = all_weaker (BeginsWith (q ++ b ∷ [])) (λ g. list_any (bytes_eq g) (common_prefix k (key v.0) ∷ shared_fronts v.1) ≡ false)
       (λ g j. not_among bytes_eq same_bytes bytes_from_same g (common_prefix k (key v.0) ∷ shared_fronts v.1)
       (all_weaker (λ f. f ≡ q) (λ f. g ≡ f → ⊥) (λ f i n. not_longer q b (subst (BeginsWith (q ++ b ∷ [])) (n ∙ i) j)) (common_prefix k (key v.0) ∷ shared_fronts v.1) all)) (shared_fronts (items t)) here in
@@ -156,9 +149,9 @@ module _ {X : Type 0} (key : X → List ℕ) (k : List ℕ) where
         (on_child q c r (e ∙ ap (λ a. q ++ a ∷ r) f) t cs h (path_number (q ++ c ∷ []) t h.0 r (e ∙ ap (λ a. q ++ a ∷ r) f ∙ sym (append_assoc q (c ∷ []) r)) (s.0, i, s.2))) in
         let there = λ (i : IsIn s.0 (items_in cs)) (f : b ≡ c → ⊥). past_child q b r e c f t cs h (s.0, i, s.2) (path_in_number q cs h.2 b r e (s.0, i, s.2)) in
         elim (in_cases s.0 (items t) (items_in cs) s.1) [
-          | inl i ↦ here (one_byte q b c k (goes_on q b r e) (subst (BeginsWith (q ++ c ∷ [])) s.2 (all_at (λ x. BeginsWith (q ++ c ∷ []) (key x)) s.0 (items t) (begin key (q ++ c ∷ []) t h.0) i))) i
+          | inl i ↦ here (one_byte q b c k (begins_from_step q b r k e) (subst (BeginsWith (q ++ c ∷ [])) s.2 (all_at (λ x. BeginsWith (q ++ c ∷ []) (key x)) s.0 (items t) (begin key (q ++ c ∷ []) t h.0) i))) i
           | inr i ↦ there i (λ f. all_at (λ x. BeginsWith (q ++ c ∷ []) (key x) → ⊥) s.0 (items_in cs) (not_among_others key q c cs h.1 h.2) i
-              (subst (BeginsWith (q ++ c ∷ [])) (sym s.2) (subst (λ a. BeginsWith (q ++ a ∷ []) k) f (goes_on q b r e))))
+              (subst (BeginsWith (q ++ c ∷ [])) (sym s.2) (subst (λ a. BeginsWith (q ++ a ∷ []) k) f (begins_from_step q b r k e))))
         ]
 
   -- the path to a stored key has a node for each front that the key shares with some key, itself included

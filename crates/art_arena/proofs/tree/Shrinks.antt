@@ -1,39 +1,39 @@
 -- The node above a leaf, by the keys alone.
 use Rattle.std.proofs.Common.{◌≡◌, ◌≢◌, ℕ, ◌<◌, ◌≤◌, ◌⊎◌, List, [], ◌∷◌, ◌++◌, length, drop, drop_at, refl, sym, ap, ap₂, ◌∙◌, subst, inl, inr, append_assoc, append-nil, arith, length-append, Bool, eqb, eq-eqb, ne_eqb, Some}
 use Rattle.std.proofs.lemmas.Bool.{cond-true, cond-false}
-use Rattle.art_bytes.specs.Keys.{BeginsWith, IsBefore, common_prefix}
-use Rattle.art_arena.specs.tree.Order.{AscendsByKey}
-use Rattle.art_arena.specs.tree.Changes.{IsIn, IsPutIn}
-use Rattle.art_arena.specs.tree.Trees.{Tree, Forest, leaf, inner, no_child, child, items, items_in, count, IsBelow, IsCanonical, AreCanonical, nodes_with}
-use Rattle.art_arena.specs.tree.TreeOf.{tree_of}
-use Rattle.art_arena.specs.tree.Kinds.{IsLimit}
-use Rattle.art_arena.specs.tree.Fronts.{width_of}
-use Rattle.art_arena.specs.tree.Shrinks.{IsMeeting}
-use Rattle.art_arena.specs.Laws.{ShrinksIsKindChange}
+use Rattle.art_bytes.proofs.Common.{BeginsWith, IsBefore, begins_from_step, common_prefix, before_not_self}
+use Rattle.art_arena.proofs.Terms.{AscendsByKey, IsIn, IsPutIn, Tree, Forest, leaf, inner, no_child, child, items, items_in, count, IsBelow, IsCanonical, AreCanonical, nodes_with, tree_of, IsLimit, width_of, IsMeeting, ShrinksIsKindChange}
 use Rattle.art_arena.proofs.tree.Canonical.{begin, ascending}
 use Rattle.art_arena.proofs.tree.Unique.{tree_of_items}
 use Rattle.art_arena.proofs.tree.Insert.{all_at, in_left, in_right}
+use Rattle.art_arena.proofs.tree.Exists.{in_middle}
 use Rattle.art_arena.proofs.tree.Delete.{last_count, last_in, Loses, Removal, absent, whole, removed, delete}
 use Rattle.art_arena.proofs.tree.Fronts.{Widths, WidthsIn, cancel_front, one_byte, not_among_others, widths, common_left}
-use Rattle.art_arena.proofs.tree.Paths.{in_cases, in_map, Stored, meets_apart, meets_above, off_path, deeper, goes_on, in_unmap}
+use Rattle.art_arena.proofs.tree.Paths.{in_cases, in_map, Stored, meets_apart, meets_above, off_path, deeper, in_unmap}
 use Rattle.art_arena.proofs.tree.Limits.{limits_are_kinds}
-use Rattle.art_bytes.proofs.Order.{before_not_self}
 
 common_itself : (k : List ℕ) → common_prefix k k ≡ k
 common_itself [] = refl
 common_itself (a ∷ k) = cond-true _ _ _ (eq-eqb a a refl) ∙ ap (λ m. a ∷ m) (common_itself k)
 
-pub same_front : (p q k : List ℕ) → BeginsWith p k → BeginsWith q k → length p ≡ length q → p ≡ q
-same_front [] [] k h j e = refl
-same_front [] (b ∷ q) k h j e = absurd (omega arith)
-same_front (a ∷ p) [] k h j e = absurd (omega arith)
-same_front (a ∷ p) (b ∷ q) [] h j e = let f : [] ≡ a ∷ (p ++ h.0) = h.1 in absurd (cc)
-same_front (a ∷ p) (b ∷ q) (c ∷ k) (r, f) (s, g) e =
-    let i : a ≡ b = cc in
+pub front_le : (p q k : List ℕ) → BeginsWith p k → BeginsWith q k → length p ≤ length q → BeginsWith p q
+front_le [] q k h j l = (q, refl)
+front_le (a ∷ p) [] k h j l = absurd (omega arith)
+front_le (a ∷ p) (b ∷ q) [] (r, e) j l = absurd (cc)
+front_le (a ∷ p) (b ∷ q) (c ∷ k) (r, e) (s, f) l =
     let hp : k ≡ p ++ r = cc in
     let hq : k ≡ q ++ s = cc in
-    let l : length p ≡ length q = omega arith in
-    ap₂ (λ x y. x ∷ y) i (same_front p q k (r, hp) (s, hq) l)
+    let i : b ≡ a = cc in
+    let le : length p ≤ length q = omega arith in
+    let rest = front_le p q k (r, hp) (s, hq) le in
+    (rest.0, ap₂ (λ x m. x ∷ m) i rest.1)
+
+pub same_front : (p q k : List ℕ) → BeginsWith p k → BeginsWith q k → length p ≡ length q → p ≡ q
+same_front p q k h j e = go (front_le p q k h j (omega arith))
+  where
+    go : BeginsWith p q → p ≡ q
+    go ([], f) = sym (f ∙ append-nil p)
+    go (b ∷ r, f) = absurd (omega (arith, ap length f, length-append p (b ∷ r)))
 
 module _ {X : Type 0} (key : X → List ℕ) where
   pub same_meeting : (xs : List X) (k m n : List ℕ) → IsMeeting key xs k m → IsMeeting key xs k n → m ≡ n
@@ -56,11 +56,11 @@ module _ {X : Type 0} (key : X → List ℕ) where
         ⊎ ((m : List ℕ) × IsMeeting key (items_in cs) k m × (length q < length m) × ((w : List ℕ → ℕ) (n : ℕ) → WidthsIn w q cs → w m ≡ last_in n cs (b ∷ r)))
 
     -- the keys off the path meet k at the node's front
-    at_other : (q : List ℕ) (b : ℕ) (r : List ℕ) → k ≡ q ++ b ∷ r → (c : ℕ) → (b ≡ c → ⊥) → (t : Tree X) → IsCanonical key (q ++ c ∷ []) t → (z : X) → IsIn z (items t) → common_prefix k (key z) ≡ q
+    pub at_other : (q : List ℕ) (b : ℕ) (r : List ℕ) → k ≡ q ++ b ∷ r → (c : ℕ) → (b ≡ c → ⊥) → (t : Tree X) → IsCanonical key (q ++ c ∷ []) t → (z : X) → IsIn z (items t) → common_prefix k (key z) ≡ q
     at_other q b r e c apart t h z i =
         all_at (λ f. f ≡ q) _ _ (meets_apart key k q b r e c apart (items t) (begin key (q ++ c ∷ []) t h)) (in_map (λ x. common_prefix k (key x)) z (items t) i)
 
-    at_above : (q : List ℕ) (b : ℕ) (r : List ℕ) → k ≡ q ++ b ∷ r → (cs : Forest X) → IsBelow b cs → AreCanonical key q cs → (z : X) → IsIn z (items_in cs) → common_prefix k (key z) ≡ q
+    pub at_above : (q : List ℕ) (b : ℕ) (r : List ℕ) → k ≡ q ++ b ∷ r → (cs : Forest X) → IsBelow b cs → AreCanonical key q cs → (z : X) → IsIn z (items_in cs) → common_prefix k (key z) ≡ q
     at_above q b r e cs low h z i = all_at (λ f. f ≡ q) _ _ (meets_above key k q b r e cs low h) (in_map (λ x. common_prefix k (key x)) z (items_in cs) i)
 
     on_child : (q : List ℕ) (b : ℕ) (r : List ℕ) → k ≡ q ++ b ∷ r → (t : Tree X) (cs : Forest X) → AreCanonical key q (child b t cs)
@@ -151,9 +151,9 @@ module _ {X : Type 0} (key : X → List ℕ) where
           (on_child q c r (e ∙ ap (λ a. q ++ a ∷ r) f) t cs h (tree_meets (q ++ c ∷ []) t h.0 r (e ∙ ap (λ a. q ++ a ∷ r) f ∙ sym (append_assoc q (c ∷ []) r)) (s.0, i, s.2))) in
           let there = λ (i : IsIn s.0 (items_in cs)) (f : b ≡ c → ⊥). past_child q b r e c f t cs h (forest_meets q cs h.2 b r e (s.0, i, s.2)) in
           elim (in_cases s.0 (items t) (items_in cs) s.1) [
-            | inl i ↦ here (one_byte q b c k (goes_on key k q b r e) (subst (BeginsWith (q ++ c ∷ [])) s.2 (all_at (λ x. BeginsWith (q ++ c ∷ []) (key x)) s.0 (items t) (begin key (q ++ c ∷ []) t h.0) i))) i
+            | inl i ↦ here (one_byte q b c k (begins_from_step q b r k e) (subst (BeginsWith (q ++ c ∷ [])) s.2 (all_at (λ x. BeginsWith (q ++ c ∷ []) (key x)) s.0 (items t) (begin key (q ++ c ∷ []) t h.0) i))) i
             | inr i ↦ there i (λ f. all_at (λ x. BeginsWith (q ++ c ∷ []) (key x) → ⊥) s.0 (items_in cs) (not_among_others key q c cs h.1 h.2) i
-                (subst (BeginsWith (q ++ c ∷ [])) (sym s.2) (subst (λ a. BeginsWith (q ++ a ∷ []) k) f (goes_on key k q b r e))))
+                (subst (BeginsWith (q ++ c ∷ [])) (sym s.2) (subst (λ a. BeginsWith (q ++ a ∷ []) k) f (begins_from_step q b r k e))))
           ]
 
   -- the width of the longest front that k shares is the number of children of the node above k's leaf
@@ -167,20 +167,17 @@ module _ {X : Type 0} (key : X → List ℕ) where
   pub same_tree : (t u : Tree X) → IsCanonical key [] t → IsCanonical key [] u → items t ≡ items u → t ≡ u
   same_tree t u h j e = let f : Some t ≡ Some u = sym (tree_of_items key t h) ∙ ap (tree_of key) e ∙ tree_of_items key u j in cc
 
-  in_middle : (front : List X) (x : X) (back : List X) → IsIn x (front ++ x ∷ back)
-  in_middle front x back = in_right x front (x ∷ back) (inl refl)
-
   -- without the one item of a key, an ascending list is one list
   same_rest : (x y : X) → key y ≡ key x → (front back front' back' : List X) → AscendsByKey key (front ++ x ∷ back) → front ++ x ∷ back ≡ front' ++ y ∷ back' → front ++ back ≡ front' ++ back'
   same_rest x y e [] back [] back' h f = cc
   same_rest x y e [] back (z ∷ front') back' h f =
       let a : x ≡ z = cc in
       let b : back ≡ front' ++ y ∷ back' = cc in
-      let less = all_at (λ w. IsBefore (key x) (key w)) y back h.0 (subst (IsIn y) (sym b) (in_middle front' y back')) in
+      let less = all_at (λ w. IsBefore (key x) (key w)) y back h.0 (subst (IsIn y) (sym b) (in_middle key front' y back')) in
       absurd (before_not_self (key x) (subst (IsBefore (key x)) e less))
   same_rest x y e (z ∷ front) back [] back' h f =
       let a : z ≡ y = cc in
-      let less = all_at (λ w. IsBefore (key z) (key w)) x (front ++ x ∷ back) h.0 (in_middle front x back) in
+      let less = all_at (λ w. IsBefore (key z) (key w)) x (front ++ x ∷ back) h.0 (in_middle key front x back) in
       absurd (before_not_self (key x) (subst (λ k. IsBefore k (key x)) (ap key a ∙ e) less))
   same_rest x y e (z ∷ front) back (w ∷ front') back' h f =
       let a : z ≡ w = cc in
@@ -193,7 +190,7 @@ module _ {X : Type 0} (key : X → List ℕ) where
   removal_loses t u h j x (front, back, a, b) m meet test = go (delete key [] t h (key x) (key x) refl)
     where
       stored : IsIn x (items t)
-      stored = subst (IsIn x) (sym b) (in_middle front x back)
+      stored = subst (IsIn x) (sym b) (in_middle key front x back)
 
       go : Removal key [] (key x) (key x) t → Loses test (nodes_with test t) (nodes_with test u) (width_of key (items t) m)
       go (absent never) = absurd (never x stored refl)

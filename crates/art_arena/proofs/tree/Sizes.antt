@@ -1,8 +1,7 @@
 -- How long a path is, and how many inner nodes there are.
 use Rattle.std.proofs.Common.{ℕ, ◌+◌, ◌≤◌, List, [], ◌∷◌, ◌++◌, length, drop, arith, length-append, length-drop, Bool, eqb}
 use Rattle.std.proofs.lemmas.Bool.{cond_both}
-use Rattle.art_arena.specs.tree.Trees.{Tree, Forest, leaf, inner, no_child, child, items, items_in, count, IsCanonical, AreCanonical, nodes_with, nodes_in}
-use Rattle.art_arena.specs.tree.Paths.{path_of, path_in}
+use Rattle.art_arena.proofs.Terms.{Tree, Forest, leaf, inner, no_child, child, items, items_in, count, IsCanonical, AreCanonical, nodes_with, nodes_in, path_of, path_in}
 
 -- a path has at most one node more than the key has bytes
 mutual

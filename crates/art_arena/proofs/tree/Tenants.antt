@@ -1,17 +1,14 @@
 -- Paths in a tree of the keys that begin with a front, and in the tree of all keys.
-use Rattle.std.proofs.Common.{◌≡◌, ℕ, ◌+◌, ◌≤◌, List, [], ◌∷◌, ◌++◌, length, map, filter, refl, sym, ap, ap₂, ◌∙◌, subst, inl, inr, append-nil, arith, Bool, true, false, not, cond, ◌||◌, ◌&&◌, sum_by, eqb, bytes_eq, eq-eqb, eqb-true, ne_eqb}
+use Rattle.std.proofs.Common.{◌≡◌, ℕ, ◌+◌, ◌≤◌, List, [], ◌∷◌, ◌++◌, length, map, filter, refl, sym, ap, ap₂, ◌∙◌, subst, inl, inr, append-nil, arith, Bool, true, false, not, cond, ◌||◌, ◌&&◌, sum_by, eqb, bytes_eq, eq-eqb, eqb-true}
 use Rattle.std.specs.List.{AllByRecursion, list_any}
-use Rattle.std.proofs.lemmas.Bool.{cond-true, cond-false, cases_Bool, cases_eq, or_left, or_right, or_cases, and_parts, and_from, not_from_true, not_from_false, false_from_ne_true}
-use Rattle.art_bytes.specs.Keys.{BeginsWith, common_prefix, IsProperFront}
-use Rattle.art_arena.specs.tree.Changes.{IsIn}
-use Rattle.art_arena.specs.tree.Trees.{Tree, items, IsCanonical}
-use Rattle.art_arena.specs.tree.Paths.{path_of}
-use Rattle.art_arena.specs.tree.Fronts.{distinct, meetings_of}
-use Rattle.art_arena.specs.tree.Tenants.{begins_with, with_front, without_front, crossings}
+use Rattle.std.proofs.lemmas.Bool.{cond-true, cond-false, cond_both, not-true, not-false, cases_Bool, or_left, or_right, or_cases, and_parts, and_from, not_from_true, not_from_false, false_from_ne_true}
+use Rattle.art_bytes.proofs.Common.{BeginsWith, common_prefix, IsProperFront, common_begins}
+use Rattle.art_arena.proofs.Terms.{IsIn, Tree, items, IsCanonical, path_of, distinct, meetings_of, begins_with, with_front, without_front, crossings}
 use Rattle.art_arena.proofs.tree.Distinct.{same_bytes, bytes_from_same, length_sum, sum_again, sum_new, sum_chosen}
+use Rattle.art_arena.proofs.tree.Filters.{all_pass, from_kept, map_same}
 use Rattle.art_arena.proofs.tree.Fronts.{begins_trans, common_left}
+use Rattle.art_arena.proofs.tree.Order.{all_weaker}
 use Rattle.art_arena.proofs.tree.Paths.{path_is_meetings, all_map}
-use Rattle.art_bytes.proofs.Order.{common_begins}
 
 pub begins_true : (front k : List ℕ) → begins_with front k ≡ true → BeginsWith front k
 begins_true [] k e = (k, refl)
@@ -44,10 +41,7 @@ common_right [] l = (l, refl)
 common_right (a ∷ k) [] = ([], refl)
 common_right (a ∷ k) (b ∷ l) =
     let r = common_right k l in
-    elim (cases_eq a b) as (λ _. BeginsWith (cond (eqb a b) (a ∷ common_prefix k l) []) (b ∷ l)) [
-      | inl e ↦ subst (λ m. BeginsWith m (b ∷ l)) (sym (cond-true _ _ _ (eq-eqb a b e))) (r.0, ap₂ (λ c m. c ∷ m) (sym e) r.1)
-      | inr n ↦ subst (λ m. BeginsWith m (b ∷ l)) (sym (cond-false _ _ _ (ne_eqb a b n))) (b ∷ l, refl)
-    ]
+    cond_both (eqb a b) (a ∷ common_prefix k l) [] (λ m. BeginsWith m (b ∷ l)) (λ e. (r.0, ap₂ (λ c m. c ∷ m) (sym (eqb-true a b e)) r.1)) (λ _. (b ∷ l, refl))
 
 -- distinct values, in two parts
 
@@ -65,20 +59,15 @@ module _ {X : Type 0} (p : X → Bool) (m : X → List ℕ) (Q : List ℕ → Ty
   among_in z h [] = refl
   among_in z h (x ∷ xs) =
       let rest = among_in z h xs in
-      elim (cases_Bool (p x)) [
-        | inl t ↦ ap (λ b. bytes_eq z (m x) || b) rest ∙ sym (ap (λ l. list_any (bytes_eq z) (map m l)) (cond-true _ _ _ t))
-        | inr f ↦ ap (λ b. b || list_any (bytes_eq z) (map m xs)) (differs z (m x) h (out x f)) ∙ rest ∙ sym (ap (λ l. list_any (bytes_eq z) (map m l)) (cond-false _ _ _ f))
-      ]
+      cond_both (p x) (x ∷ filter p xs) (filter p xs) (λ l. list_any (bytes_eq z) (map m (x ∷ xs)) ≡ list_any (bytes_eq z) (map m l))
+      (λ t. ap (λ b. bytes_eq z (m x) || b) rest) (λ f. ap (λ b. b || list_any (bytes_eq z) (map m xs)) (differs z (m x) h (out x f)) ∙ rest)
 
   among_out : (z : List ℕ) → (Q z → ⊥) → (xs : List X) → list_any (bytes_eq z) (map m xs) ≡ list_any (bytes_eq z) (map m (filter (λ x. not (p x)) xs))
   among_out z h [] = refl
   among_out z h (x ∷ xs) =
       let rest = among_out z h xs in
-      elim (cases_Bool (p x)) [
-        | inl t ↦ ap (λ b. b || list_any (bytes_eq z) (map m xs)) (differs_back z (m x) h (in' x t)) ∙ rest
-            ∙ sym (ap (λ l. list_any (bytes_eq z) (map m l)) (cond-false _ _ _ (not_from_true _ t)))
-        | inr f ↦ ap (λ b. bytes_eq z (m x) || b) rest ∙ sym (ap (λ l. list_any (bytes_eq z) (map m l)) (cond-true _ _ _ (not_from_false _ f)))
-      ]
+      cond_both (not (p x)) (x ∷ filter (λ y. not (p y)) xs) (filter (λ y. not (p y)) xs) (λ l. list_any (bytes_eq z) (map m (x ∷ xs)) ≡ list_any (bytes_eq z) (map m l))
+      (λ t. ap (λ b. bytes_eq z (m x) || b) rest) (λ f. ap (λ b. b || list_any (bytes_eq z) (map m xs)) (differs_back z (m x) h (in' x (not-false _ f))) ∙ rest)
 
   two_parts : (xs : List X) → Number (map m xs) ≡ Number (map m (filter p xs)) + Number (map m (filter (λ x. not (p x)) xs))
   two_parts [] = omega arith
@@ -144,12 +133,8 @@ module _ (a : ℕ) (front : List ℕ) where
         | inr f ↦
             let n = sum_chosen bytes_eq same_bytes bytes_from_same (λ f. 1) (list_any (bytes_eq (c ∷ m)) ms) (c ∷ m) (distinct bytes_eq ms) in
             let o = sum_new bytes_eq same_bytes bytes_from_same (λ f. 1) m (tails ms) f in
-            let q = at_most_one (list_any (bytes_eq (c ∷ m)) ms) in omega (arith, n, o, rest, q)
+            let q = cond_both (list_any (bytes_eq (c ∷ m)) ms) 0 1 (λ k. k ≤ 1) (λ _. omega arith) (λ _. omega arith) in omega (arith, n, o, rest, q)
       ]
-    where
-      at_most_one : (t : Bool) → cond t 0 1 ≤ 1
-      at_most_one true = omega arith
-      at_most_one false = omega arith
 
 few_fronts : (front : List ℕ) (ms : List (List ℕ)) → AllByRecursion (λ m. IsProperFront m front) ms → Number ms ≤ length front
 few_fronts [] [] h = omega arith
@@ -158,36 +143,17 @@ few_fronts [] ((c ∷ m) ∷ ms) ((b, r, e), k) = absurd (cc)
 few_fronts (a ∷ front) ms h =
     let rest = few_fronts front (tails ms) (tails_proper a front ms h) in
     let n = tails_number a front ms h in
-    let q = at_most_one (list_any (bytes_eq []) ms) in
+    let q = cond_both (list_any (bytes_eq []) ms) 1 0 (λ k. k ≤ 1) (λ _. omega arith) (λ _. omega arith) in
     omega (arith, rest, n, q)
-  where
-    at_most_one : (t : Bool) → cond t 1 0 ≤ 1
-    at_most_one true = omega arith
-    at_most_one false = omega arith
 
 module _ {X : Type 0} (key : X → List ℕ) (front : List ℕ) where
   pub own_in : (x : X) (xs : List X) → IsIn x (with_front key front xs) → IsIn x xs × (begins_with front (key x) ≡ true)
-  own_in x [] i = absurd i
-  own_in x (y ∷ ys) i =
-      let rest = own_in x ys in
-      elim (cases_Bool (begins_with front (key y))) [
-        | inl t ↦ elim (subst (IsIn x) (cond-true _ (y ∷ with_front key front ys) (with_front key front ys) t) i) [
-          | inl e ↦ (inl e, ap (λ z. begins_with front (key z)) (sym e) ∙ t)
-          | inr j ↦ let r = rest j in (inr r.0, r.1)
-        ]
-        | inr f ↦ let r = rest (subst (IsIn x) (cond-false _ (y ∷ with_front key front ys) (with_front key front ys) f) i) in (inr r.0, r.1)
-      ]
+  own_in x xs i = from_kept (λ y. begins_with front (key y)) x xs i
 
   short : (r : List ℕ) (xs : List X) → map (λ y. common_prefix (front ++ r) (key y)) (without_front key front xs) ≡ map (λ y. common_prefix front (key y)) (without_front key front xs)
-  short r [] = refl
-  short r (x ∷ xs) =
-      let rest = short r xs in
-      elim (cases_Bool (begins_with front (key x))) [
-        | inl t ↦ let o = cond-false (not (begins_with front (key x))) (x ∷ without_front key front xs) (without_front key front xs) (not_from_true _ t) in
-            ap (map (λ y. common_prefix (front ++ r) (key y))) o ∙ rest ∙ sym (ap (map (λ y. common_prefix front (key y))) o)
-        | inr f ↦ let o = cond-true (not (begins_with front (key x))) (x ∷ without_front key front xs) (without_front key front xs) (not_from_false _ f) in
-            ap (map (λ y. common_prefix (front ++ r) (key y))) o ∙ ap₂ (λ a l. a ∷ l) (common_short front r (key x) f) rest ∙ sym (ap (map (λ y. common_prefix front (key y))) o)
-      ]
+  short r xs =
+      map_same (λ y. common_prefix (front ++ r) (key y)) (λ y. common_prefix front (key y)) (without_front key front xs)
+      (all_weaker _ _ (λ x n. common_short front r (key x) (not-true (begins_with front (key x)) n)) (without_front key front xs) (all_pass (λ x. not (begins_with front (key x))) xs))
 
   -- The path to a key of its own is longer in the tree of all keys, by the number of crossings.
   pub tenant_path : (t u : Tree X) → IsCanonical key [] t → IsCanonical key [] u → items u ≡ with_front key front (items t) → (x : X) → IsIn x (items u)
@@ -223,13 +189,7 @@ module _ {X : Type 0} (key : X → List ℕ) (front : List ℕ) where
       goes (b ∷ r, f) = (b, r, f)
 
   all_proper : (xs : List X) → AllByRecursion (λ y. IsProperFront (common_prefix front (key y)) front) (without_front key front xs)
-  all_proper [] = tt
-  all_proper (x ∷ xs) =
-      let rest = all_proper xs in
-      elim (cases_Bool (begins_with front (key x))) [
-        | inl t ↦ subst (AllByRecursion (λ y. IsProperFront (common_prefix front (key y)) front)) (sym (cond-false _ _ _ (not_from_true _ t))) rest
-        | inr f ↦ subst (AllByRecursion (λ y. IsProperFront (common_prefix front (key y)) front)) (sym (cond-true _ _ _ (not_from_false _ f))) (proper_front (key x) f, rest)
-      ]
+  all_proper xs = all_weaker _ _ (λ x n. proper_front (key x) (not-true (begins_with front (key x)) n)) (without_front key front xs) (all_pass (λ x. not (begins_with front (key x))) xs)
 
   -- four bytes have at most four crossings
   pub few_crossings : (xs : List X) → crossings key front xs ≤ length front

@@ -3,11 +3,9 @@ use Rattle.std.proofs.Common.{◌≡◌, ℕ, zero, suc, ◌+◌, ◌<◌, ◌�
 use Rattle.std.specs.List.{AllByRecursion}
 use Rattle.std.proofs.lemmas.Bool.{cond-true, cond-false}
 use Rattle.std.proofs.lemmas.List.{get_or_at}
-use Rattle.art_bytes.specs.Keys.{BeginsWith, common_prefix, shared_prefix}
-use Rattle.art_arena.specs.tree.Trees.{Tree, Forest, leaf, inner, no_child, child, items, items_in, count, IsBelow, IsCanonical, AreCanonical}
-use Rattle.art_arena.specs.tree.TreeOf.{Group, add_to, grouped, children_of, tree_below, tree_of}
+use Rattle.art_bytes.proofs.Common.{BeginsWith, common_prefix, shared_prefix, begins_step, shared_parts, shared_begins, common_apart, common_front}
+use Rattle.art_arena.proofs.Terms.{Tree, Forest, leaf, inner, no_child, child, items, items_in, count, IsBelow, IsCanonical, AreCanonical, Group, add_to, grouped, children_of, tree_below, tree_of}
 use Rattle.art_arena.proofs.tree.Canonical.{begin, some_item, some_item_in}
-use Rattle.art_bytes.proofs.Order.{begins_step, shared_parts, shared_begins, common_apart, common_front}
 
 -- the groups of the children's items
 abbrev pub groups_of : {X : Type 0} → Forest X → List (Group X)

@@ -8,7 +8,7 @@ ghost use Rattle.art_c.specs.Copies.{rooms};
 use crate::bytes::Bytes;
 use crate::code::Code;
 use crate::copies::give_pair;
-use crate::handle::{Art, Map};
+use crate::handle::{Art, Map, with_store};
 use art_bytes::SliceKey;
 use std::alloc::Global;
 use std::ops::Bound;
@@ -35,33 +35,27 @@ pub(super) enum Wanted<'a> {
 fn above<'m>(map: &'m Map, key: &[u8]) -> Option<(&'m Bytes, &'m Bytes)>
     ensures { option_map deref_pair result ≡ pair_above key.now map.now.pairs }
 {
-    let key = SliceKey(key);
-    let mut pairs = map.range(Bound::Excluded(&key), Bound::Unbounded);
-    pairs.next()
+    map.range(Bound::Excluded(&SliceKey(key)), Bound::Unbounded)
+        .next()
 }
 
 fn below<'m>(map: &'m Map, key: &[u8]) -> Option<(&'m Bytes, &'m Bytes)>
     ensures { option_map deref_pair result ≡ pair_below key.now map.now.pairs }
 {
-    let key = SliceKey(key);
-    let mut pairs = map.range(Bound::Unbounded, Bound::Excluded(&key));
-    pairs.next_back()
+    map.range(Bound::Unbounded, Bound::Excluded(&SliceKey(key)))
+        .next_back()
 }
 
 fn first_behind<'m>(map: &'m Map, prefix: &[u8]) -> Option<(&'m Bytes, &'m Bytes)>
     ensures { option_map deref_pair result ≡ first_behind prefix.now map.now.pairs }
 {
-    let prefix = SliceKey(prefix);
-    let mut pairs = map.prefix(&prefix);
-    pairs.next()
+    map.prefix(&SliceKey(prefix)).next()
 }
 
 fn last_behind<'m>(map: &'m Map, prefix: &[u8]) -> Option<(&'m Bytes, &'m Bytes)>
     ensures { option_map deref_pair result ≡ last_behind prefix.now map.now.pairs }
 {
-    let prefix = SliceKey(prefix);
-    let mut pairs = map.prefix(&prefix);
-    pairs.next_back()
+    map.prefix(&SliceKey(prefix)).next_back()
 }
 
 fn pair_of<'m>(map: &'m Map, wanted: Wanted<'_>) -> Option<(&'m Bytes, &'m Bytes)>
@@ -92,18 +86,8 @@ pub(super) fn read(
         (rooms key_room.old key_len.old value_room.old value_len.old)
         result art.new (rooms key_room.new key_len.new value_room.new value_len.new) }
 {
-    match art.take(alloc) {
-        Some(store) => {
-            let code = give_pair(
-                pair_of(&store.map, wanted),
-                key_room,
-                key_len,
-                value_room,
-                value_len,
-            );
-            *art = Art::of(store);
-            code.number()
-        }
-        None => Code::NoMap.number(),
-    }
+    with_store!(alloc, art, |store| {
+        let pair = pair_of(&store.map, wanted);
+        give_pair(pair, key_room, key_len, value_room, value_len)
+    })
 }

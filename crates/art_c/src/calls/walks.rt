@@ -8,7 +8,7 @@ ghost use Rattle.art_c.specs.Walks.{AreTaken, bound_of, IsWalked, many_rooms, pa
 
 use crate::bytes::Bytes;
 use crate::code::Code;
-use crate::handle::{Art, Map};
+use crate::handle::{Art, Map, with_store};
 use crate::many::{ArtLens, lens_of, tell_lens, write_pair};
 use art_arena::End;
 use art_bytes::{AsBytes, SliceKey};
@@ -123,12 +123,7 @@ pub(super) fn walk_in(
         (many_rooms room.old lens.old count.old)
         result art.new (many_rooms room.new lens.new count.new) }
 {
-    match art.take(alloc) {
-        Some(store) => {
-            let code = walk(&store.map, end, from, key, room, lens, count);
-            *art = Art::of(store);
-            code.number()
-        }
-        None => Code::NoMap.number(),
-    }
+    with_store!(alloc, art, |store| {
+        walk(&store.map, end, from, key, room, lens, count)
+    })
 }

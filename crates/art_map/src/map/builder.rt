@@ -1,5 +1,5 @@
 //! `TreeMapBuilder`: a map that is made of pairs which come one after another.
-ghost use Rattle.std.specs.Prelude.{◌≡◌, ◌<◌, ◌^◌, List, [], false, OnErr, OnOk};
+ghost use Rattle.std.specs.Prelude.{◌≡◌, ◌<◌, ◌^◌, List, [], false, IfErr, IfOk, MatchResult, OnErr, OnOk};
 ghost use Rattle.std.specs.Iterator.{IsFinite};
 ghost use Rattle.std.specs.List.{AllByRecursion};
 ghost use Rattle.std.specs.Map.Iter.{deref_pair};
@@ -13,11 +13,20 @@ use crate::map::TreeMap;
 use art_arena::NodeArena;
 use art_bytes::{AsBytes, NoPrefixesBytes};
 use art_operations::{InsertRefused, PushRefused, TreeBuilder};
-use std::alloc::Global;
+use std::alloc::{AllocError, Global};
 use std::mem;
+
+// So many pairs are inserted before the first look whether keys go behind the last again.
+const FIRST_PAUSE: usize = 8;
+
+// Each look doubles their number, up to this one.
+const LONGEST_PAUSE: usize = 1024;
 
 /// A map in the making, which takes pairs one after another. As long as each key goes behind the last, no place is
 /// looked for, and an inner node is made once, with all its children. From the first that doesn't, pairs are inserted.
+/// Eight pairs later it looks whether keys go behind the last again, and so no place is looked for again, until one
+/// doesn't. Each look doubles the number of pairs that are inserted before the next one, up to 1024.
+///
 /// Nodes of its `PREFIX_LEN` must fit in memory: see `nodes_fit`.
 ///
 /// ```
@@ -30,8 +39,12 @@ use std::mem;
 #[derive(Drop)]
 pub struct TreeMapBuilder<K: AsBytes, V, const PREFIX_LEN: usize> {
     alloc: Global,
-    // Whether each key went behind the last. If one didn't, the map has the pairs.
+    // Whether keys go behind the last. If one didn't, the map has the pairs.
     in_order: bool,
+    // If not, so many pairs are inserted before the next look,
+    wait: usize,
+    // and between the last look and that one so many.
+    pause: usize,
     arena: NodeArena<K, V, PREFIX_LEN>,
     builder: TreeBuilder,
     map: TreeMap<K, V, PREFIX_LEN>,
@@ -53,6 +66,8 @@ impl<K: NoPrefixesBytes + Drop, V: Drop, const PREFIX_LEN: usize> TreeMapBuilder
         TreeMapBuilder {
             alloc,
             in_order: true,
+            wait: FIRST_PAUSE,
+            pause: FIRST_PAUSE,
             arena,
             builder,
             map,
@@ -70,6 +85,8 @@ impl<K: NoPrefixesBytes + Drop, V: Drop, const PREFIX_LEN: usize> TreeMapBuilder
             None => TreeMapBuilder {
                 alloc,
                 in_order: true,
+                wait: FIRST_PAUSE,
+                pause: FIRST_PAUSE,
                 arena: map.arena,
                 builder: TreeBuilder::new(alloc),
                 map: TreeMap::with_prefix_len(alloc),
@@ -77,6 +94,8 @@ impl<K: NoPrefixesBytes + Drop, V: Drop, const PREFIX_LEN: usize> TreeMapBuilder
             Some(_) => TreeMapBuilder {
                 alloc,
                 in_order: false,
+                wait: FIRST_PAUSE,
+                pause: FIRST_PAUSE,
                 arena: NodeArena::new(alloc),
                 builder: TreeBuilder::new(alloc),
                 map,
@@ -146,6 +165,23 @@ impl<K: NoPrefixesBytes + Drop, V: Drop, const PREFIX_LEN: usize> TreeMapBuilder
             → HasGathered K.bytes K.is_key self.new pairs) }
         ensures names { HasLeavesOf K.bytes (nodes_of self.new) (nodes_of self.old) }
     {
+        let Ok(()) = self.resume(key.as_bytes()) else {
+            return Err(InsertRefused { key, value });
+        };
+        self.put_on(key, value)
+    }
+
+    // Takes a pair behind the last one, where keys go there, or inserts it.
+    fn put_on(&mut self, key: K, value: V) -> Result<(), InsertRefused<K, V>>
+        requires fits_in_memory { PREFIX_LEN < 2 ^ 62 }
+        requires taken { (pairs : List (K × V)) × HasGathered K.bytes K.is_key self.old pairs }
+        ensures ok { OnOk result ((pairs : List (K × V)) → HasGathered K.bytes K.is_key self.old pairs
+            → HasGathered K.bytes K.is_key self.new (with_pair_put K.bytes key value pairs)) }
+        ensures handed_back { HandsPairBack key value result }
+        ensures kept { OnErr result ((pairs : List (K × V)) → HasGathered K.bytes K.is_key self.old pairs
+            → HasGathered K.bytes K.is_key self.new pairs) }
+        ensures names { HasLeavesOf K.bytes (nodes_of self.new) (nodes_of self.old) }
+    {
         // Its bytes tell that it is a key.
         let _known = key.as_bytes();
         if !self.in_order {
@@ -157,6 +193,53 @@ impl<K: NoPrefixesBytes + Drop, V: Drop, const PREFIX_LEN: usize> TreeMapBuilder
             Err(PushRefused::NotBehind { key, value }) => {
                 self.settle();
                 self.insert(key, value)
+            }
+        }
+    }
+
+    // Where pairs are inserted, looks after a pause whether keys go behind the last again, as this one does. Then the
+    // map's tree is opened again, and pairs go on behind its last one. The next pause is twice as long, up to a limit.
+    //
+    // Fails only if out of memory. Either way the builder has the pairs that it had.
+    #[inline]
+    fn resume(&mut self, key: &[u8]) -> Result<(), AllocError>
+        ensures pairs { (pairs : List (K × V)) → HasGathered K.bytes K.is_key self.old pairs
+            → HasGathered K.bytes K.is_key self.new pairs }
+        ensures names { HasLeavesOf K.bytes (nodes_of self.new) (nodes_of self.old) }
+    {
+        if self.in_order {
+            return Ok(());
+        }
+        if self.wait > 0 {
+            self.wait -= 1;
+            return Ok(());
+        }
+        self.pause = next_pause(self.pause);
+        self.wait = self.pause;
+        if !self.map.ends_before(key) {
+            return Ok(());
+        }
+        self.reopen()
+    }
+
+    // Opens the tree of the map again. Out of memory the map keeps it.
+    fn reopen(&mut self) -> Result<(), AllocError>
+        requires settled { self.old.in_order ≡ false }
+        ensures pairs { (pairs : List (K × V)) → self.old.map.pairs ≡ pairs
+            → HasGathered K.bytes K.is_key self.new pairs }
+        ensures names { HasLeavesOf K.bytes (nodes_of self.new) self.old.map.nodes }
+    {
+        let empty = TreeMap::with_prefix_len(self.alloc);
+        match mem::replace(&mut self.map, empty).into_tree() {
+            Ok((arena, builder)) => {
+                self.in_order = true;
+                self.arena = arena;
+                self.builder = builder;
+                Ok(())
+            }
+            Err(map) => {
+                self.map = map;
+                Err(AllocError)
             }
         }
     }
@@ -210,7 +293,23 @@ impl<K: NoPrefixesBytes + Drop, V: Drop, const PREFIX_LEN: usize> TreeMapBuilder
     }
 }
 
+// The pause after the next look.
+fn next_pause(pause: usize) -> usize {
+    if pause < LONGEST_PAUSE {
+        return 2 * pause;
+    }
+    pause
+}
+
 impl<K: NoPrefixesBytes + Drop, V: Drop, const PREFIX_LEN: usize> TreeMap<K, V, PREFIX_LEN> {
+    // Whether there is a last key, which comes before these bytes.
+    fn ends_before(&self, key: &[u8]) -> bool {
+        match self.last_key_value() {
+            Some((last, _)) => last.as_bytes() < key,
+            None => false,
+        }
+    }
+
     // Moves the pairs into a builder, which goes on from them. The map is empty then.
     pub(super) fn take_into_builder(&mut self) -> TreeMapBuilder<K, V, PREFIX_LEN>
         requires fits_in_memory { PREFIX_LEN < 2 ^ 62 }
@@ -243,5 +342,27 @@ impl<K: NoPrefixesBytes + Drop, V: Drop, const PREFIX_LEN: usize> TreeMap<K, V, 
         let mut arena = arena;
         let root = builder.finish(&mut arena);
         TreeMap { alloc, arena, root }
+    }
+
+    // Opens the tree of the map again at its last leaf, to build on there. Out of memory it returns the map as it was.
+    fn into_tree(self) -> Result<(NodeArena<K, V, PREFIX_LEN>, TreeBuilder), Self>
+        ensures ok { IfOk result (λ tree. Builds K.bytes PREFIX_LEN tree.0 tree.1 self.pairs
+            × AllByRecursion (λ p. K.is_key p.0) self.pairs) }
+        ensures err { IfErr result (λ map. map.pairs ≡ self.pairs) }
+        ensures names { MatchResult result (λ tree. HasLeavesOf K.bytes tree.0 self.nodes)
+            (λ map. HasLeavesOf K.bytes map.nodes self.nodes) }
+    {
+        let alloc = self.alloc;
+        let mut arena = self.arena;
+        let Some(root) = self.root else {
+            return Ok((arena, TreeBuilder::new(alloc)));
+        };
+        match TreeBuilder::reopen(alloc, &mut arena, root) {
+            Ok(builder) => Ok((arena, builder)),
+            Err(node) => {
+                let root = Some(node);
+                Err(TreeMap { alloc, arena, root })
+            }
+        }
     }
 }

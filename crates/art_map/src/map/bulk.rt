@@ -15,8 +15,8 @@ use std::alloc::Global;
 
 impl<K: NoPrefixesBytes + Drop, V: Drop, const PREFIX_LEN: usize> TreeMap<K, V, PREFIX_LEN> {
     /// Inserts the pairs that an iterator gives, one after another. Each replaces a pair whose key has the same bytes.
-    /// The iterator has to end. If the map is empty, no place is looked for as long as the keys ascend: see
-    /// `TreeMapBuilder`.
+    /// The iterator has to end. As long as keys go behind the last one of the map, no place is looked for: from the
+    /// ninth pair on, or from the first one if the map is empty. See `TreeMapBuilder`.
     ///
     /// Fails if there is no memory for a pair, which the error returns. The pairs before it stay in the map, and the
     /// iterator is dropped.

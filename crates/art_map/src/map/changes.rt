@@ -25,10 +25,7 @@ use art_operations::{
 fn entry_of<K, V>(leaf: Option<LeafNode<K, V>>) -> Option<(K, V)>
     ensures { result ≡ entry_in leaf }
 {
-    match leaf {
-        Some(leaf) => Some(leaf.into_entry()),
-        None => None,
-    }
+    Some(leaf?.into_entry())
 }
 
 // The value of a pair, whose key is dropped.
@@ -36,10 +33,8 @@ fn entry_of<K, V>(leaf: Option<LeafNode<K, V>>) -> Option<(K, V)>
 pub(super) fn value_of<K: Drop, V>(pair: Option<(K, V)>) -> Option<V>
     ensures { result ≡ option_value pair }
 {
-    match pair {
-        Some((_key, value)) => Some(value),
-        None => None,
-    }
+    let (_key, value) = pair?;
+    Some(value)
 }
 
 impl<K: AsBytes, V, const PREFIX_LEN: usize> TreeMap<K, V, PREFIX_LEN> {
@@ -117,10 +112,8 @@ impl<K: AsBytes, V, const PREFIX_LEN: usize> TreeMap<K, V, PREFIX_LEN> {
         ensures kept { OnErr result (IsUntouched self.old self.new) }
         ensures handed_back { HandsPairBack key value result }
     {
-        match self.put_leaf_at(place, key, value) {
-            Ok((_leaf, old)) => Ok(old),
-            Err(refused) => Err(refused),
-        }
+        let (_leaf, old) = self.put_leaf_at(place, key, value)?;
+        Ok(old)
     }
 
     // Inserts a pair as `put_at` does, and returns its leaf too.
@@ -173,10 +166,8 @@ impl<K: AsBytes, V, const PREFIX_LEN: usize> TreeMap<K, V, PREFIX_LEN> {
         ensures handed_back { HandsPairBack key value result }
     {
         let _opened = &self.root;
-        match self.put_leaf_at(place, key, value) {
-            Ok((leaf, _old)) => Ok(leaf),
-            Err(refused) => Err(refused),
-        }
+        let (leaf, _old) = self.put_leaf_at(place, key, value)?;
+        Ok(leaf)
     }
 
     // Inserts a pair, and returns the one whose key has the same bytes, if there is one. If it fails, the map is
@@ -222,6 +213,7 @@ impl<K: AsBytes, V, const PREFIX_LEN: usize> TreeMap<K, V, PREFIX_LEN> {
     /// assert!(rt; matches!(map.try_insert(StrKey("abc"), 3), Err(TryInsertError::Prefix { .. })));
     /// ```
     #[inline(never)]
+    #[tactic(auto, using(crate::proofs::LookedUp::values))]
     pub fn try_insert(&mut self, key: K, value: V) -> Result<Option<V>, TryInsertError<K, V>>
     where
         K: Drop,
@@ -298,10 +290,8 @@ impl<K: AsBytes, V, const PREFIX_LEN: usize> TreeMap<K, V, PREFIX_LEN> {
         ensures kept { OnErr result (IsUntouched self.old self.new) }
         ensures handed_back { HandsPairBack key value result }
     {
-        match self.prefix_put(key, value) {
-            Ok(put) => Ok(put.count),
-            Err(refused) => Err(refused),
-        }
+        let put = self.prefix_put(key, value)?;
+        Ok(put.count)
     }
 }
 
@@ -328,6 +318,7 @@ impl<K: NoPrefixesBytes, V, const PREFIX_LEN: usize> TreeMap<K, V, PREFIX_LEN> {
     /// assert_eq!(rt; map.insert(*b"ab", 2)?, Some(1));
     /// assert_eq!(rt; map.get(b"ab"), Some(&2));
     /// ```
+    #[tactic(auto, using(crate::proofs::LookedUp::values))]
     pub fn insert(&mut self, key: K, value: V) -> Result<Option<V>, InsertRefused<K, V>>
     where
         K: Drop,
@@ -341,10 +332,8 @@ impl<K: NoPrefixesBytes, V, const PREFIX_LEN: usize> TreeMap<K, V, PREFIX_LEN> {
         ensures succeeds { HasRoom self.old.nodes 2 → IsOk result }
         ensures room { UsesRoom 2 self.old.nodes self.new.nodes }
     {
-        match self.replace_entry(key, value) {
-            Ok(old) => Ok(value_of(old)),
-            Err(refused) => Err(refused),
-        }
+        let old = self.replace_entry(key, value)?;
+        Ok(value_of(old))
     }
 
     /// Inserts a pair. It replaces a pair whose key has the same bytes, and returns that pair with its key.

@@ -26,10 +26,8 @@ impl<K: AsBytes, V, const PREFIX_LEN: usize> TreeMap<K, V, PREFIX_LEN> {
             (entry.map.ghost_name ≡ self.entry.ghost_name) × (entry.map.now ≡ self.old)) }
         ensures pair { IsPairOf (first_item self.old.pairs) result }
     {
-        match self.first() {
-            Some(leaf) => Some(OccupiedEntry::new(self, leaf)),
-            None => None,
-        }
+        let leaf = self.first()?;
+        Some(OccupiedEntry::new(self, leaf))
     }
 
     /// Returns the entry of the last pair, whose key is the greatest, if there is one. It allocates nothing.
@@ -48,9 +46,7 @@ impl<K: AsBytes, V, const PREFIX_LEN: usize> TreeMap<K, V, PREFIX_LEN> {
             (entry.map.ghost_name ≡ self.entry.ghost_name) × (entry.map.now ≡ self.old)) }
         ensures pair { IsPairOf (last_item self.old.pairs) result }
     {
-        match self.last() {
-            Some(leaf) => Some(OccupiedEntry::new(self, leaf)),
-            None => None,
-        }
+        let leaf = self.last()?;
+        Some(OccupiedEntry::new(self, leaf))
     }
 }

@@ -14,7 +14,8 @@ ghost use Rattle.art_walks.specs.Bounds.{AreValidKeyBounds};
 ghost use Rattle.art_walks.specs.Runs.{IsWalk};
 ghost use Rattle.art_map.specs.Contents.{first_item, last_item, IsUntouched};
 ghost use Rattle.art_map.specs.LeafNames.{AddsNoLeaf, KeepsLeaves};
-ghost use Rattle.art_map.specs.Leaves.{IsRun, IsNextAt, slot_at};
+ghost use Rattle.art_map.specs.Leaves.{IsRun, IsNextAt};
+ghost use Rattle.art_map.specs.LentRuns.{slot_at};
 ghost use Rattle.art_map.specs.Ranges.{pairs_between};
 
 use crate::map::TreeMap;
@@ -38,7 +39,8 @@ pub struct Extraction<'a, K: AsBytes, V, const PREFIX_LEN: usize> {
 }
 
 // The leaf at an end of a run, which then ends before it.
-fn next_of<K, V, const PREFIX_LEN: usize>(
+#[inline(always)]
+pub(super) fn next_of<K, V, const PREFIX_LEN: usize>(
     leaves: &mut RawIterator,
     arena: &NodeArena<K, V, PREFIX_LEN>,
     end: End,
@@ -47,7 +49,7 @@ fn next_of<K, V, const PREFIX_LEN: usize>(
     ensures taken { (l : LeafAt K V) (ys zs : List (LeafAt K V)) → IsAtEnd end l ys zs
         → IsWalk (links_at arena.now) leaves.old zs
         → (result ≡ Some l.slot) × IsWalk (links_at arena.now) leaves.new ys }
-    ensures none { leaves.old ≡ None → result ≡ None }
+    ensures none { leaves.old ≡ None → (result ≡ None) × (leaves.new ≡ None) }
 {
     match end {
         End::First => leaves.next(arena),
@@ -110,13 +112,9 @@ impl<'a, K: AsBytes, V, const PREFIX_LEN: usize> Extraction<'a, K, V, PREFIX_LEN
         ensures* writes_back { sem 𝓛 (lends_end K.row V.row PREFIX_LEN K.AsBytes end self.entry result) }
         ensures value { IsLentAt end (left_of self.old) result }
     {
-        match self.leaf_at(end) {
-            Some(leaf) => {
-                let (_key, value) = self.map.pair_mut_at(leaf);
-                Some(value)
-            }
-            None => None,
-        }
+        let leaf = self.leaf_at(end)?;
+        let (_key, value) = self.map.pair_mut_at(leaf);
+        Some(value)
     }
 
     /// Lends the value of the first pair that is still to be decided on for writing. It returns `None` if none is left.
@@ -160,10 +158,8 @@ impl<'a, K: AsBytes, V, const PREFIX_LEN: usize> Extraction<'a, K, V, PREFIX_LEN
         ensures { MatchOption result (left_of self.now ≡ []) (λ pair. (rest : List (K × V))
             × IsAtEnd end (deref_pair pair) rest (left_of self.now)) }
     {
-        match self.leaf_at(end) {
-            Some(leaf) => Some(self.map.pair_at(leaf)),
-            None => None,
-        }
+        let leaf = self.leaf_at(end)?;
+        Some(self.map.pair_at(leaf))
     }
 
     /// Returns the first pair that is still to be decided on, if one is left.

@@ -76,9 +76,9 @@ impl<K: AsBytes, V, const PREFIX_LEN: usize> TreeMap<K, V, PREFIX_LEN> {
 }
 
 impl<'a, K: AsBytes, V, const PREFIX_LEN: usize> IterMut<'a, K, V, PREFIX_LEN> {
-    ghost use Rattle.art_map.specs.LentIters.{IsIterFirst, IsIterLast, lends_if_in_iter, lends_in_iter};
+    ghost use Rattle.art_map.specs.LentIters.{IsIterEnd, IsIterFirst, IsIterLast, lends_if_in_iter, lends_in_iter};
+    ghost use Rattle.art_map.specs.LentIters.{iter_before, iter_behind, iter_left, iter_rest};
     ghost use Rattle.art_map.specs.LentWalks.{LendsValue};
-    ghost use Rattle.art_map.specs.LentIters.{iter_before, iter_behind, iter_rest};
 
     /// Returns whether no pair is still to come.
     ///
@@ -172,15 +172,7 @@ impl<'a, K: AsBytes, V, const PREFIX_LEN: usize> IterMut<'a, K, V, PREFIX_LEN> {
             (iter_behind self.old) result.1) }
         ensures lent { IsIterFirst self.old (deref_pair_mut result) }
     {
-        let mut leaves = self.leaves;
-        self.map.read_ahead(&mut self.ahead, leaves, End::First);
-        let leaf = match self.map.first_of(&mut leaves) {
-            Some(leaf) => leaf,
-            None => unreachable!(),
-        };
-        self.leaves = leaves;
-        self.len -= 1;
-        self.map.pair_mut_at(leaf)
+        self.lend(End::First)
     }
 
     /// Lends the last pair still to come, its value for writing. A pair has to be left, as `is_empty` tells.
@@ -200,9 +192,20 @@ impl<'a, K: AsBytes, V, const PREFIX_LEN: usize> IterMut<'a, K, V, PREFIX_LEN> {
             (iter_before self.old) result.1) }
         ensures lent { IsIterLast self.old (deref_pair_mut result) }
     {
+        self.lend(End::Last)
+    }
+
+    // Lends the pair at an end of those still to come, its value for writing.
+    #[inline(always)]
+    fn lend(&mut self, end: End) -> (&K, &mut V)
+        requires { 0 < length (iter_rest self.old) }
+        ensures* writes_back { sem 𝓛 (lends_in_iter K.row V.row PREFIX_LEN K.AsBytes self.entry
+            (iter_left end self.old) result.1) }
+        ensures lent { IsIterEnd end self.old (deref_pair_mut result) }
+    {
         let mut leaves = self.leaves;
-        self.map.read_ahead(&mut self.ahead, leaves, End::Last);
-        let leaf = match self.map.last_of(&mut leaves) {
+        self.map.read_ahead(&mut self.ahead, leaves, end);
+        let leaf = match self.map.leaf_of(&mut leaves, end) {
             Some(leaf) => leaf,
             None => unreachable!(),
         };

@@ -26,40 +26,32 @@ impl<K: AsBytes, V, const PREFIX_LEN: usize> TreeMap<K, V, PREFIX_LEN> {
     pub(super) fn find(&self, key: &[u8]) -> Option<LeafPtr>
         ensures { IsFound (has_bytes K.bytes key.now) self.now result }
     {
-        match self.root {
-            Some(root) => search_unchecked(&self.arena, root, key),
-            None => None,
-        }
+        let root = self.root?;
+        search_unchecked(&self.arena, root, key)
     }
 
     // The leaf of the pair whose key is a prefix of these bytes, or equals them.
     fn prefix_find(&self, key: &[u8]) -> Option<LeafPtr>
         ensures { IsFound (is_front K.bytes key.now) self.now result }
     {
-        match self.root {
-            Some(root) => prefix_search_unchecked(&self.arena, root, key),
-            None => None,
-        }
+        let root = self.root?;
+        prefix_search_unchecked(&self.arena, root, key)
     }
 
     // The leaf of the first pair.
     pub(super) fn first(&self) -> Option<LeafPtr>
         ensures { IsAt (first_item self.now.pairs) self.now result }
     {
-        match self.root {
-            Some(root) => Some(minimum_unchecked(&self.arena, root)),
-            None => None,
-        }
+        let root = self.root?;
+        Some(minimum_unchecked(&self.arena, root))
     }
 
     // The leaf of the last pair.
     pub(super) fn last(&self) -> Option<LeafPtr>
         ensures { IsAt (last_item self.now.pairs) self.now result }
     {
-        match self.root {
-            Some(root) => Some(maximum_unchecked(&self.arena, root)),
-            None => None,
-        }
+        let root = self.root?;
+        Some(maximum_unchecked(&self.arena, root))
     }
 
     // The pair of a leaf.
@@ -103,6 +95,7 @@ impl<K: AsBytes, V, const PREFIX_LEN: usize> TreeMap<K, V, PREFIX_LEN> {
     /// assert_eq!(rt; map.get(&StrKey("ab")), Some(&1));
     /// assert_eq!(rt; map.get(b"ac"), None);
     /// ```
+    #[tactic(auto, using(crate::proofs::LookedUp::values))]
     pub fn get<Q: AsBytes>(&self, key: &Q) -> Option<&V>
         ensures { option_copied result ≡ found_value K.bytes (Q.bytes key.now) self.now.pairs }
     {
@@ -122,10 +115,8 @@ impl<K: AsBytes, V, const PREFIX_LEN: usize> TreeMap<K, V, PREFIX_LEN> {
     pub fn get_key_value<Q: AsBytes>(&self, key: &Q) -> Option<(&K, &V)>
         ensures { option_map deref_pair result ≡ found_pair K.bytes (Q.bytes key.now) self.now.pairs }
     {
-        match self.find(key.as_bytes()) {
-            Some(leaf) => Some(self.pair_at(leaf)),
-            None => None,
-        }
+        let leaf = self.find(key.as_bytes())?;
+        Some(self.pair_at(leaf))
     }
 
     /// Returns whether a pair's key has the query's bytes.
@@ -174,6 +165,7 @@ impl<K: AsBytes, V, const PREFIX_LEN: usize> TreeMap<K, V, PREFIX_LEN> {
     /// assert_eq!(rt; blocks.prefix_get(&[10, 1, 0, 7]), Some(&"lab"));
     /// assert_eq!(rt; blocks.prefix_get(&[10, 2, 0, 7]), None);
     /// ```
+    #[tactic(auto, using(crate::proofs::LookedUp::values))]
     pub fn prefix_get<Q: AsBytes>(&self, key: &Q) -> Option<&V>
         ensures { option_copied result ≡ lookup (is_front K.bytes (Q.bytes key.now)) self.now.pairs }
     {
@@ -193,10 +185,8 @@ impl<K: AsBytes, V, const PREFIX_LEN: usize> TreeMap<K, V, PREFIX_LEN> {
     pub fn prefix_get_key_value<Q: AsBytes>(&self, key: &Q) -> Option<(&K, &V)>
         ensures { option_map deref_pair result ≡ lookup_entry (is_front K.bytes (Q.bytes key.now)) self.now.pairs }
     {
-        match self.prefix_find(key.as_bytes()) {
-            Some(leaf) => Some(self.pair_at(leaf)),
-            None => None,
-        }
+        let leaf = self.prefix_find(key.as_bytes())?;
+        Some(self.pair_at(leaf))
     }
 
     /// Lends the value of the one pair whose key is a prefix of the query's bytes, or equals them, for writing, if
@@ -244,10 +234,8 @@ impl<K: AsBytes, V, const PREFIX_LEN: usize> TreeMap<K, V, PREFIX_LEN> {
             (entry.map.ghost_name ≡ self.entry.ghost_name) × (entry.map.now ≡ self.old)) }
         ensures pair { IsPairOf (lookup_entry (is_front K.bytes (Q.bytes key.now)) self.old.pairs) result }
     {
-        match self.prefix_find(key.as_bytes()) {
-            Some(leaf) => Some(OccupiedEntry::new(self, leaf)),
-            None => None,
-        }
+        let leaf = self.prefix_find(key.as_bytes())?;
+        Some(OccupiedEntry::new(self, leaf))
     }
 
     /// Returns the first pair, whose key is the least, if there is one.
@@ -260,10 +248,8 @@ impl<K: AsBytes, V, const PREFIX_LEN: usize> TreeMap<K, V, PREFIX_LEN> {
     pub fn first_key_value(&self) -> Option<(&K, &V)>
         ensures { option_map deref_pair result ≡ first_item self.now.pairs }
     {
-        match self.first() {
-            Some(leaf) => Some(self.pair_at(leaf)),
-            None => None,
-        }
+        let leaf = self.first()?;
+        Some(self.pair_at(leaf))
     }
 
     /// Returns the last pair, whose key is the greatest, if there is one.
@@ -276,10 +262,8 @@ impl<K: AsBytes, V, const PREFIX_LEN: usize> TreeMap<K, V, PREFIX_LEN> {
     pub fn last_key_value(&self) -> Option<(&K, &V)>
         ensures { option_map deref_pair result ≡ last_item self.now.pairs }
     {
-        match self.last() {
-            Some(leaf) => Some(self.pair_at(leaf)),
-            None => None,
-        }
+        let leaf = self.last()?;
+        Some(self.pair_at(leaf))
     }
 }
 

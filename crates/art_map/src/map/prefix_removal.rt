@@ -154,10 +154,10 @@ impl<K: AsBytes, V, const PREFIX_LEN: usize> TreeMap<K, V, PREFIX_LEN> {
     {
         let (found, visits) = self.part_behind(prefix);
         match found {
-            Some(part) => match self.ready_part(part) {
-                Ok(ready) => Ok(KnownBlock::new(Some(ready), visits)),
-                Err(refused) => Err(refused),
-            },
+            Some(part) => {
+                let ready = self.ready_part(part)?;
+                Ok(KnownBlock::new(Some(ready), visits))
+            }
             None => Ok(KnownBlock::new(None, visits)),
         }
     }
@@ -241,15 +241,13 @@ impl<K: AsBytes, V, const PREFIX_LEN: usize> TreeMap<K, V, PREFIX_LEN> {
         ensures shrinks { OnErr result (ShrinksAtCut K.bytes prefix.now self.old.pairs) }
     {
         let front = History::new().then(&Piece { bytes: prefix });
-        match self.block_behind(prefix) {
-            Ok(block) => Ok(PrefixRemoval {
-                map: self,
-                block,
-                front,
-                mark: PhantomData,
-            }),
-            Err(refused) => Err(refused),
-        }
+        let block = self.block_behind(prefix)?;
+        Ok(PrefixRemoval {
+            map: self,
+            block,
+            front,
+            mark: PhantomData,
+        })
     }
 
     /// Removes all pairs whose keys begin with a prefix. It fails as `prepare_remove_prefix` does.

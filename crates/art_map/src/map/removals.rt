@@ -30,6 +30,7 @@ impl<K: AsBytes, V, const PREFIX_LEN: usize> TreeMap<K, V, PREFIX_LEN> {
     /// assert_eq!(rt; map.remove(b"ab")?, Some(1));
     /// assert_eq!(rt; map.remove(b"ab")?, None);
     /// ```
+    #[tactic(auto, using(crate::proofs::LookedUp::values))]
     pub fn remove<Q: AsBytes>(&mut self, key: &Q) -> Result<Option<V>, AllocError>
     where
         K: Drop,
@@ -41,10 +42,8 @@ impl<K: AsBytes, V, const PREFIX_LEN: usize> TreeMap<K, V, PREFIX_LEN> {
         ensures shrinks { OnErr result (HasKey (key_of K.bytes) (Q.bytes key.now) self.old.pairs
             × Shrinks (key_of K.bytes) self.old.pairs (Q.bytes key.now)) }
     {
-        match self.remove_entry(key) {
-            Ok(pair) => Ok(value_of(pair)),
-            Err(refused) => Err(refused),
-        }
+        let pair = self.remove_entry(key)?;
+        Ok(value_of(pair))
     }
 
     /// Removes the pair whose key has the query's bytes, and returns it, if there is one.

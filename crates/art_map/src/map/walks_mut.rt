@@ -1,16 +1,17 @@
 //! Iterators over a part of a map, which lend its values for writing one at a time.
-ghost use Rattle.std.specs.Prelude.{◌≡◌, ◌==◌, ◌<◌, ◌⊎◌, ◌∷◌, ◌++◌, [], length, IfSome};
+ghost use Rattle.std.specs.Prelude.{◌≡◌, ◌==◌, ◌<◌, ◌⊎◌, [], length, IfSome};
 ghost use Rattle.std.specs.Range.Bound.{bound_map};
 ghost use Rattle.std.specs.Borrow.{sem};
 ghost use Rattle.std.specs.Map.Iter.{deref_pair_mut};
 ghost use Rattle.art_arena.specs.arena.Shapes.{key_of};
 ghost use Rattle.art_arena.specs.tree.Tenants.{with_front};
 ghost use Rattle.art_walks.specs.Bounds.{AreValidKeyBounds};
-ghost use Rattle.art_walks.specs.Walked.{start_of};
-ghost use Rattle.art_map.specs.LentRuns.{IsRunIn, end_of, left_behind, left_before, run_pairs};
+ghost use Rattle.art_operations.specs.Pairs.{IsAtEnd};
+ghost use Rattle.art_map.specs.LentRuns.{IsRunIn, left_at, run_pairs, slot_at};
 ghost use Rattle.art_map.specs.Ranges.{pairs_between};
 
 use crate::map::TreeMap;
+use crate::map::extraction::next_of;
 use crate::map::ranges::bytes_of;
 use art_arena::{End, LeafPtr};
 use art_bytes::AsBytes;
@@ -40,26 +41,16 @@ impl<K: AsBytes, V, const PREFIX_LEN: usize> TreeMap<K, V, PREFIX_LEN> {
     ghost use Rattle.art_map.specs.Lends.{with_value_at};
     ghost use Rattle.art_map.specs.LentWalks.{range_rest};
 
-    // The first leaf of a run, which goes on behind it.
-    pub(super) fn first_of(&self, leaves: &mut RawIterator) -> Option<LeafPtr>
+    // The leaf at an end of a run, which is then without it.
+    #[inline(always)]
+    pub(super) fn leaf_of(&self, leaves: &mut RawIterator, end: End) -> Option<LeafPtr>
         requires { ∥ IsRunIn self.now leaves.old ∥₁ }
-        ensures first { result ≡ start_of leaves.old }
-        ensures behind { leaves.new ≡ left_behind self.now leaves.old }
+        ensures leaf { result ≡ slot_at end leaves.old }
+        ensures left { leaves.new ≡ left_at end self.now leaves.old }
         ensures rest { IfSome result (λ leaf. HasLeafAt self.now leaf × ((p : _) → HasPairAt self.now leaf p → (w : V)
-            → run_pairs self.now leaves.old ≡ p ∷ run_pairs (with_value_at self.now leaf w) leaves.new)) }
+            → IsAtEnd end p (run_pairs (with_value_at self.now leaf w) leaves.new) (run_pairs self.now leaves.old))) }
     {
-        leaves.next(&self.arena)
-    }
-
-    // The last leaf of a run, which then ends before it.
-    pub(super) fn last_of(&self, leaves: &mut RawIterator) -> Option<LeafPtr>
-        requires { ∥ IsRunIn self.now leaves.old ∥₁ }
-        ensures last { result ≡ end_of leaves.old }
-        ensures before { leaves.new ≡ left_before self.now leaves.old }
-        ensures rest { IfSome result (λ leaf. HasLeafAt self.now leaf × ((p : _) → HasPairAt self.now leaf p → (w : V)
-            → run_pairs self.now leaves.old ≡ run_pairs (with_value_at self.now leaf w) leaves.new ++ p ∷ [])) }
-    {
-        leaves.next_back(&self.arena)
+        next_of(leaves, &self.arena, end)
     }
 
     // Goes on by the leaf at an end of a run. From the front it reads ahead.
@@ -143,8 +134,9 @@ impl<K: AsBytes, V, const PREFIX_LEN: usize> TreeMap<K, V, PREFIX_LEN> {
 }
 
 impl<'a, K: AsBytes, V, const PREFIX_LEN: usize> RangeMut<'a, K, V, PREFIX_LEN> {
-    ghost use Rattle.art_map.specs.LentWalks.{IsRangeFirst, IsRangeLast, LendsValue, lends_if_in_range, lends_in_range};
-    ghost use Rattle.art_map.specs.LentWalks.{range_before, range_behind, range_rest};
+    ghost use Rattle.art_map.specs.LentWalks.{IsRangeEnd, IsRangeFirst, IsRangeLast, LendsValue};
+    ghost use Rattle.art_map.specs.LentWalks.{lends_if_in_range, lends_in_range};
+    ghost use Rattle.art_map.specs.LentWalks.{range_before, range_behind, range_left, range_rest};
 
     /// Returns whether no pair is still to come.
     ///
@@ -158,7 +150,7 @@ impl<'a, K: AsBytes, V, const PREFIX_LEN: usize> RangeMut<'a, K, V, PREFIX_LEN> 
         ensures { result ≡ (length (range_rest self.now) == 0) }
     {
         let mut ahead = self.leaves;
-        self.map.first_of(&mut ahead).is_none()
+        self.map.leaf_of(&mut ahead, End::First).is_none()
     }
 
     /// Lends the value of the first pair still to come for writing. It returns `None` if none is, and from then on.
@@ -222,13 +214,7 @@ impl<'a, K: AsBytes, V, const PREFIX_LEN: usize> RangeMut<'a, K, V, PREFIX_LEN> 
             (range_behind self.old) result.1) }
         ensures lent { IsRangeFirst self.old (deref_pair_mut result) }
     {
-        self.map
-            .read_ahead(&mut self.ahead, self.leaves, End::First);
-        let leaf = match self.map.first_of(&mut self.leaves) {
-            Some(leaf) => leaf,
-            None => unreachable!(),
-        };
-        self.map.pair_mut_at(leaf)
+        self.lend(End::First)
     }
 
     /// Lends the last pair still to come, its value for writing. A pair has to be left, as `is_empty` tells.
@@ -248,8 +234,19 @@ impl<'a, K: AsBytes, V, const PREFIX_LEN: usize> RangeMut<'a, K, V, PREFIX_LEN> 
             (range_before self.old) result.1) }
         ensures lent { IsRangeLast self.old (deref_pair_mut result) }
     {
-        self.map.read_ahead(&mut self.ahead, self.leaves, End::Last);
-        let leaf = match self.map.last_of(&mut self.leaves) {
+        self.lend(End::Last)
+    }
+
+    // Lends the pair at an end of those still to come, its value for writing.
+    #[inline(always)]
+    fn lend(&mut self, end: End) -> (&K, &mut V)
+        requires { 0 < length (range_rest self.old) }
+        ensures* writes_back { sem 𝓛 (lends_in_range K.row V.row PREFIX_LEN K.AsBytes self.entry
+            (range_left end self.old) result.1) }
+        ensures lent { IsRangeEnd end self.old (deref_pair_mut result) }
+    {
+        self.map.read_ahead(&mut self.ahead, self.leaves, end);
+        let leaf = match self.map.leaf_of(&mut self.leaves, end) {
             Some(leaf) => leaf,
             None => unreachable!(),
         };

@@ -1,8 +1,10 @@
 -- A leaf beside the place of a key among the leaves.
-use Rattle.std.specs.Prelude.{◌≡◌, ℕ, List, ◌∷◌, ◌++◌}
+use Rattle.std.specs.Prelude.{◌≡◌, ℕ, Bool, true, false, not, List, ◌∷◌, ◌++◌}
 use Rattle.std.specs.List.{AllByRecursion}
 use Rattle.std.specs.declared.cmp.Ordering.{Ordering}
-use Rattle.std.specs.declared.cmp.Ordering.TheVariants.{Less, Greater}
+use Rattle.std.specs.declared.cmp.Ordering.TheVariants.{Less, Equal, Greater}
+use Rattle.std.specs.declared.ops.Bound.{Bound}
+use Rattle.std.specs.declared.ops.Bound.TheVariants.{Included, Excluded}
 use Rattle.art_bytes.specs.Keys.{bytes_cmp}
 use Rattle.art_arena.specs.arena.Shapes.{LeafAt}
 
@@ -21,3 +23,14 @@ module _ {K V : Type 0} (bytes : K → List ℕ) (key : List ℕ) where
     pub below : Compare Less before
     pub compares : bytes_cmp (bytes leaf.key) key ≡ order
     pub above : Compare Greater after
+
+-- the bound at this key, which takes the key itself or not
+abbrev pub bound_at : Bool → List ℕ → Bound (List ℕ)
+bound_at true key = Included key
+bound_at false key = Excluded key
+
+-- whether it takes a key that compares so with its own: as a start or as an end, and its own key or not
+abbrev pub takes : Bool → Bool → Ordering → Bool
+takes is_start includes Less = not is_start
+takes is_start includes Equal = includes
+takes is_start includes Greater = is_start

@@ -7,8 +7,7 @@ use Rattle.art_nodes.specs.declared.kind.NodeType.{NodeType}
 use Rattle.art_arena.specs.arena.Arena.{Arena, node_at, links_at}
 use Rattle.art_arena.specs.arena.Cells.{Cell, pair, leaf_name, Holds}
 use Rattle.art_arena.specs.arena.Context.{Frame, path_to, root_of, leaves_before, leaves_after, cells_before}
-use Rattle.art_arena.specs.arena.Context.{cells_after}
-use Rattle.art_arena.specs.arena.Context.{AreAround, AreBelow}
+use Rattle.art_arena.specs.arena.Context.{cells_after, AreAround, AreBelow}
 use Rattle.art_arena.specs.arena.Linked.{IsBeside, first_slot, last_slot}
 use Rattle.art_arena.specs.arena.Shapes.{LeafAt, join, children_at, width, node_of, cells_in, AreUnder}
 use Rattle.art_operations.specs.declared.insert.into_existing.Neighbours.{Neighbours}

@@ -1,11 +1,15 @@
 -- Where the search for a key's place ends.
-use Rattle.std.specs.Prelude.{ℕ, List, Option, Some, None}
+use Rattle.std.specs.Prelude.{◌≡◌, ◌⊎◌, ℕ, List, ◌∷◌, ◌++◌, Option, Some, None, Ok, Err}
+use Rattle.std.specs.declared.result.Result.{Result}
+use Rattle.art_bytes.specs.Keys.{BeginsWith, IsProperFront}
 use Rattle.art_nodes.specs.Name.{Name}
 use Rattle.art_arena.specs.arena.Shapes.{Shape, leaves}
+use Rattle.art_operations.specs.Meetings.{PartAt}
 use Rattle.art_operations.specs.Points.{AllConflict, MeetsAt, NoConflict}
 use Rattle.art_operations.specs.declared.insert.point.InsertKind.{InsertKind}
 use Rattle.art_operations.specs.declared.insert.point.InsertKind.TheVariants as kind
 use Rattle.art_operations.specs.declared.insert.point.InsertPoint.{InsertPoint}
+use Rattle.art_operations.specs.declared.insert.point.PrefixConflict.{PrefixConflict}
 use Rattle.art_operations.specs.declared.insert.point.Stop.{Stop}
 use Rattle.art_operations.specs.declared.insert.point.Way.{Way}
 use Rattle.art_operations.specs.declared.insert.point.Way.TheVariants as way
@@ -21,6 +25,27 @@ met_by name way.Conflict = None
 -- the place of a key that meets this where a descent from this root stopped
 abbrev pub point_at : Name → Stop → InsertKind → InsertPoint
 point_at root stop met = record { root = root; path = stop.path; key_bytes_used = stop.depth; insert_kind = met }
+
+-- what a search that stopped here answers: the place of a key that meets this, or the part whose keys are in conflict
+abbrev pub answer_at : Name → Stop → Option InsertKind → Result InsertPoint PrefixConflict
+answer_at root stop (Some met) = Ok (point_at root stop met)
+answer_at root stop None = Err (record { root = root; path = stop.path; part = stop.node })
+
+-- how a search ends at a leaf, by the rest of its key and that of the new one
+abbrev pub IsWayAtLeaf : List ℕ → List ℕ → Way → Type 0
+IsWayAtLeaf old new way.Same = old ≡ new
+IsWayAtLeaf old new (way.PartsFromLeaf parted) = PartAt old new parted
+IsWayAtLeaf old new way.Conflict = IsProperFront old new ⊎ IsProperFront new old
+IsWayAtLeaf old new (way.PartsFromPrefix parted) = ⊥
+IsWayAtLeaf old new (way.NoChild byte) = ⊥
+
+-- and at an inner node, by its prefix and the rest of the key
+abbrev pub IsWayAtInner : List ℕ → List ℕ → Way → Type 0
+IsWayAtInner prefix rest (way.PartsFromPrefix parted) = PartAt prefix rest parted
+IsWayAtInner prefix rest (way.NoChild byte) = (more : List ℕ) × (rest ≡ prefix ++ byte ∷ more)
+IsWayAtInner prefix rest way.Conflict = BeginsWith rest prefix
+IsWayAtInner prefix rest way.Same = ⊥
+IsWayAtInner prefix rest (way.PartsFromLeaf parted) = ⊥
 
 module _ {K V : Type 0} (bytes : K → List ℕ) (key : List ℕ) where
   -- the key meets this in the part behind this path, where its place is

@@ -23,17 +23,17 @@ use std::alloc::{AllocError, Global};
 #[derive(Clone, Copy)]
 pub(super) struct Open {
     /// How many bytes of a key lead to its children: those before the byte by which it branches, and that byte.
-    behind: usize,
+    pub(super) behind: usize,
     /// How many children of other open nodes come before its own.
-    first: usize,
+    pub(super) first: usize,
 }
 
 /// The open nodes, from the root down, and the children that they have so far, one node's behind those of the node
 /// above. What is still to come below the last child of each is not among them.
 #[derive(Drop)]
 pub(super) struct Spine {
-    stack: Vec<Open>,
-    children: Vec<(u8, OpaqueNodePtr)>,
+    pub(super) stack: Vec<Open>,
+    pub(super) children: Vec<(u8, OpaqueNodePtr)>,
 }
 
 // Allocates so many nodes of one kind as can stand over so many leaves.
@@ -99,9 +99,9 @@ impl Spine {
         Ok(())
     }
 
-    // How many bytes lead to what comes below the last open node: so many at least.
+    /// How many bytes lead to what comes below the last open node: so many at least.
     #[inline(always)]
-    fn begin(&self, low: usize) -> usize
+    pub(super) fn begin(&self, low: usize) -> usize
         ensures { result ≡ begin_of low self.now.stack.items }
     {
         match self.stack.last() {
@@ -184,6 +184,35 @@ fn close_top<K: AsBytes, V, const PREFIX_LEN: usize>(
     Ok(node)
 }
 
+/// Makes the open nodes to which more bytes lead than these, from the last one up. This part stands below the last one.
+/// It returns the root of the part that they and it are.
+pub(super) fn close_from<K: AsBytes, V, const PREFIX_LEN: usize>(
+    arena: &mut NodeArena<K, V, PREFIX_LEN>,
+    spine: &mut Spine,
+    last: LeafPtr,
+    low: usize,
+    start: OpaqueNodePtr,
+) -> Result<OpaqueNodePtr, AllocError>
+    requires { (rest : List (Name × Cell K V))
+        × HasSome (HasSpine K.bytes PREFIX_LEN arena.old spine.old rest last low start) }
+    ensures ok { IfOk result (λ root. (rest : List (Name × Cell K V))
+        → OfEach (HasSpine K.bytes PREFIX_LEN arena.old spine.old rest last low start)
+        (HasSpine K.bytes PREFIX_LEN arena.new spine.new rest last low root)) }
+    ensures closed { OnOk result (begin_of low spine.new.stack.items ≡ low) }
+    ensures leaves { SameLeaves arena.old arena.new }
+    ensures succeeds { (more : ℕ) → HasSpineRoom arena.old spine.old (suc more) → IsOk result }
+    ensures room { OnOk result ((more : ℕ) → HasSpineRoom arena.old spine.old (suc more)
+        → HasSpineRoom arena.new spine.new (suc more)) }
+{
+    let mut part = start;
+    'close: loop {
+        if spine.begin(low) <= low {
+            return Ok(part);
+        }
+        part = close_top(arena, spine, last, low, part)?;
+    }
+}
+
 /// Makes the open nodes to which more bytes lead than these, from the last one up. It returns the root of the part that
 /// they and the last leaf are.
 pub(super) fn close<K: AsBytes, V, const PREFIX_LEN: usize>(
@@ -203,13 +232,7 @@ pub(super) fn close<K: AsBytes, V, const PREFIX_LEN: usize>(
     ensures room { OnOk result ((more : ℕ) → HasSpineRoom arena.old spine.old (suc more)
         → HasSpineRoom arena.new spine.new (suc more)) }
 {
-    let mut part = last.to_opaque();
-    'close: loop {
-        if spine.begin(low) <= low {
-            return Ok(part);
-        }
-        part = close_top(arena, spine, last, low, part)?;
-    }
+    close_from(arena, spine, last, low, last.to_opaque())
 }
 
 /// Goes on from the last leaf to the next one, from whose key the last one's parts so: makes what is whole before the

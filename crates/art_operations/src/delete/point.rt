@@ -1,5 +1,6 @@
 //! The leaf that is to be deleted.
 ghost use Rattle.std.specs.Prelude.{◌≡◌, Some, None, IfSome};
+ghost use Rattle.art_arena.specs.arena.EndLeaves.{end_slot};
 ghost use Rattle.art_arena.specs.arena.Found.{found_in, IsAtKey};
 ghost use Rattle.art_arena.specs.arena.Linked.{first_slot, last_slot};
 ghost use Rattle.art_arena.specs.arena.Shapes.{leaves};
@@ -41,6 +42,25 @@ pub fn search_for_delete_point<K: AsBytes, V, const PREFIX_LEN: usize>(
     }
 }
 
+/// The leaf at an end, with the inner nodes above it.
+pub(crate) fn end_point<K: AsBytes, V, const PREFIX_LEN: usize>(
+    arena: &NodeArena<K, V, PREFIX_LEN>,
+    root: OpaqueNodePtr,
+    end: End,
+) -> DeletePoint
+    requires { HasTree K.bytes PREFIX_LEN arena.now root }
+    ensures value { OfTree K.bytes PREFIX_LEN arena.now root
+        (λ s. end_slot end (leaves s) ≡ Some result.leaf_node_ptr) }
+    ensures place { OfTree K.bytes PREFIX_LEN arena.now root
+        (λ s. IsLeafPlace K.bytes s result.leaf_node_ptr (steps_of result.path)) }
+{
+    let found = end_leaf(arena, root, end);
+    DeletePoint {
+        path: found.path,
+        leaf_node_ptr: found.leaf_node_ptr,
+    }
+}
+
 /// Finds the first leaf of the tree below a name. It allocates nothing.
 pub fn find_minimum_to_delete<K: AsBytes, V, const PREFIX_LEN: usize>(
     arena: &NodeArena<K, V, PREFIX_LEN>,
@@ -52,11 +72,7 @@ pub fn find_minimum_to_delete<K: AsBytes, V, const PREFIX_LEN: usize>(
     ensures place { OfTree K.bytes PREFIX_LEN arena.now root
         (λ s. IsLeafPlace K.bytes s result.leaf_node_ptr (steps_of result.path)) }
 {
-    let found = end_leaf(arena, root, End::First);
-    DeletePoint {
-        path: found.path,
-        leaf_node_ptr: found.leaf_node_ptr,
-    }
+    end_point(arena, root, End::First)
 }
 
 /// Finds the last leaf of the tree below a name. It allocates nothing.
@@ -70,9 +86,5 @@ pub fn find_maximum_to_delete<K: AsBytes, V, const PREFIX_LEN: usize>(
     ensures place { OfTree K.bytes PREFIX_LEN arena.now root
         (λ s. IsLeafPlace K.bytes s result.leaf_node_ptr (steps_of result.path)) }
 {
-    let found = end_leaf(arena, root, End::Last);
-    DeletePoint {
-        path: found.path,
-        leaf_node_ptr: found.leaf_node_ptr,
-    }
+    end_point(arena, root, End::Last)
 }

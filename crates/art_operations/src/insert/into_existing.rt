@@ -1,6 +1,5 @@
 //! A new leaf under an inner node that is there.
-ghost use Rattle.std.specs.Prelude.{◌≡◌, ◌<◌, ◌+◌, ℕ, suc, List, ◌∷◌, ◌++◌, take, Some, None};
-ghost use Rattle.std.specs.Prelude.{IsOk, IfOk, OnErr};
+ghost use Rattle.std.specs.Prelude.{◌≡◌, ◌<◌, ◌+◌, ℕ, suc, List, ◌∷◌, ◌++◌, take, Some, None, IsOk, IfOk, OnErr};
 ghost use Rattle.art_nodes.specs.Name.{Name};
 ghost use Rattle.art_nodes.specs.InnerNode as node;
 ghost use Rattle.art_arena.specs.arena.Arena.{KeepsNodes, SameCells, SameNodes, HasRoom, KeepsRoom, UsesRoom, links_at};

@@ -1,8 +1,6 @@
 //! The place of a new key.
-ghost use Rattle.std.specs.Prelude.{◌≡◌, ◌≢◌, ◌↔◌, ◌+◌, ◌≤◌, ℕ, List, IfOk, IfErr, IsTrue};
-ghost use Rattle.std.specs.Prelude.{MatchOption};
+ghost use Rattle.std.specs.Prelude.{◌≡◌, ◌↔◌, ◌+◌, ◌≤◌, ℕ, List, length, drop, IfOk, IfErr, IsTrue, MatchOption};
 ghost use Rattle.art_bytes.specs.Keys.{BeginsWith};
-ghost use Rattle.art_arena.specs.arena.Cells.{leaf_name};
 ghost use Rattle.art_arena.specs.arena.Shapes.{Shape};
 ghost use Rattle.art_operations.specs.Openings.{DescentReads, ForLongest, PlaceReads, ReadsAtLeast};
 ghost use Rattle.art_operations.specs.Points.{IsInTheWay, IsPlaceOrConflict, Refuses};
@@ -11,7 +9,7 @@ ghost use Rattle.art_operations.specs.declared.insert.point.Way.TheVariants as w
 ghost use Rattle.art_arena.specs.arena.Arena.{node_at};
 ghost use Rattle.art_arena.specs.arena.Steps.{steps_of};
 ghost use Rattle.art_arena.specs.arena.Descents.{OnWayTo, Stops};
-ghost use Rattle.art_operations.specs.inner.Ways.{IsWay, point_at};
+ghost use Rattle.art_operations.specs.inner.Ways.{IsWayAtInner, IsWayAtLeaf, IsWay, answer_at, met_by, point_at};
 ghost use Rattle.art_arena.specs.arena.Stores.{StoresAt};
 ghost use Rattle.art_operations.specs.Whichever.{HasTree, OfTree};
 
@@ -21,7 +19,7 @@ use art_arena::{
     read_full_prefix_with,
 };
 use art_bytes::AsBytes;
-use art_nodes::{KindLeaf, NodePtr, NodeType, OpaqueNodePtr};
+use art_nodes::{KindLeaf, LeafNode, NodePtr, OpaqueNodePtr};
 use std::alloc::{AllocError, Global};
 use std::marker::Model;
 use thiserror::Error;
@@ -168,6 +166,49 @@ impl Stop {
             insert_kind,
         }
     }
+
+    // What a search that ended here in this way answers. The place is made in each case alone: what cases hand on
+    // together is taken apart into bytes.
+    #[inline(always)]
+    fn answer(self, root: OpaqueNodePtr, way: Way) -> Result<InsertPoint, PrefixConflict>
+        ensures { result ≡ answer_at root self (met_by self.node way) }
+    {
+        let node = self.node;
+        match way {
+            Way::Conflict => Err(PrefixConflict {
+                root,
+                path: self.path,
+                part: node,
+            }),
+            Way::Same => Ok(self.point(
+                root,
+                InsertKind::Exact {
+                    leaf_node_ptr: NodePtr::from_slot(node.slot()),
+                },
+            )),
+            Way::PartsFromLeaf(parted) => Ok(self.point(
+                root,
+                InsertKind::SplitLeaf {
+                    leaf_node_ptr: NodePtr::from_slot(node.slot()),
+                    parted,
+                },
+            )),
+            Way::PartsFromPrefix(parted) => Ok(self.point(
+                root,
+                InsertKind::MismatchPrefix {
+                    inner_node_ptr: node,
+                    parted,
+                },
+            )),
+            Way::NoChild(key_byte) => Ok(self.point(
+                root,
+                InsertKind::IntoExisting {
+                    inner_node_ptr: node,
+                    key_byte,
+                },
+            )),
+        }
+    }
 }
 
 // How the search for the place of a key ends at a node.
@@ -198,24 +239,14 @@ impl Way {
     }
 }
 
-// Where the search ends at a leaf.
+// Where the search ends at a leaf, behind so many bytes of both keys.
 #[inline(always)]
-fn way_at_leaf<K: AsBytes, V, const PREFIX_LEN: usize>(
-    reader: &mut ArenaReader<'_, K, V, PREFIX_LEN>,
-    leaf: LeafPtr,
-    key: &[u8],
-    depth: usize,
-) -> Way
-    requires { (path : List ℕ) × (s : Shape K V)
-        × StoresAt K.bytes PREFIX_LEN reader.old.arena.now (leaf_name leaf) depth path s × BeginsWith path key.now }
-    ensures way { (path : List ℕ) (s : Shape K V)
-        → StoresAt K.bytes PREFIX_LEN reader.old.arena.now (leaf_name leaf) depth path s
-        → BeginsWith path key.now → IsWay K.bytes key.now path s (leaf_name leaf) result }
-    ensures kept { reader.new.arena.now ≡ reader.old.arena.now }
-    ensures least { ReadsAtLeast 1 reader.old.count reader.new.count }
-    ensures one { reader.new.count ≤ reader.old.count + 1 }
+fn way_at_leaf<K: AsBytes, V>(leaf: &LeafNode<K, V>, key: &[u8], depth: usize) -> Way
+    requires stored { depth ≤ length (K.bytes leaf.now.key) }
+    requires key { depth ≤ length key.now }
+    ensures { IsWayAtLeaf (drop depth (K.bytes leaf.now.key)) (drop depth key.now) result }
 {
-    let stored = reader.visit_leaf(leaf).key_ref().as_bytes();
+    let stored = leaf.key_ref().as_bytes();
     match meet(&stored[depth..], &key[depth..]) {
         Meeting::Same => Way::Same,
         Meeting::OldEnds => Way::Conflict,
@@ -224,31 +255,11 @@ fn way_at_leaf<K: AsBytes, V, const PREFIX_LEN: usize>(
     }
 }
 
-// Where the search ends at an inner node, from which the key goes no further.
+// Where the search ends at an inner node with this prefix, from which a key with this rest goes no further.
 #[inline(always)]
-fn way_at_inner<K: AsBytes, V, const PREFIX_LEN: usize>(
-    reader: &mut ArenaReader<'_, K, V, PREFIX_LEN>,
-    node: OpaqueNodePtr,
-    key: &[u8],
-    depth: usize,
-) -> Way
-    requires stands { (path : List ℕ) × (s : Shape K V)
-        × StoresAt K.bytes PREFIX_LEN reader.old.arena.now node depth path s × BeginsWith path key.now }
-    requires inner { node.kind ≢ NodeType.Leaf }
-    requires stops { (path : List ℕ) (s : Shape K V)
-        → StoresAt K.bytes PREFIX_LEN reader.old.arena.now node depth path s
-        → BeginsWith path key.now → Stops K.bytes key.now path s }
-    ensures way { (path : List ℕ) (s : Shape K V)
-        → StoresAt K.bytes PREFIX_LEN reader.old.arena.now node depth path s
-        → BeginsWith path key.now → IsWay K.bytes key.now path s node result }
-    ensures kept { reader.new.arena.now ≡ reader.old.arena.now }
-    ensures least { ReadsAtLeast 1 reader.old.count reader.new.count }
-    ensures few { (path : List ℕ) (s : Shape K V)
-        → StoresAt K.bytes PREFIX_LEN reader.old.arena.now node depth path s
-        → ForLongest K.bytes s (λ longest. reader.new.count + depth ≤ reader.old.count + (longest + 1)) }
+fn way_at_inner(prefix: &[u8], rest: &[u8]) -> Way
+    ensures { IsWayAtInner prefix.now rest.now result }
 {
-    let prefix = read_full_prefix_with(reader, node, depth).prefix;
-    let rest = &key[depth..];
     match meet(prefix, rest) {
         Meeting::Same => Way::Conflict,
         Meeting::NewEnds => Way::Conflict,
@@ -280,8 +291,11 @@ fn way_with<K: AsBytes, V, const PREFIX_LEN: usize>(
         → ForLongest K.bytes s (λ longest. reader.new.count + depth ≤ reader.old.count + (longest + 1)) }
 {
     match node.cast::<KindLeaf>() {
-        Some(leaf) => way_at_leaf(reader, leaf, key, depth),
-        None => way_at_inner(reader, node, key, depth),
+        Some(leaf) => way_at_leaf(reader.visit_leaf(leaf), key, depth),
+        None => {
+            let prefix = read_full_prefix_with(reader, node, depth).prefix;
+            way_at_inner(prefix, &key[depth..])
+        }
     }
 }
 
@@ -389,42 +403,8 @@ pub(crate) fn find_insert_point_with<K: AsBytes, V, const PREFIX_LEN: usize>(
         (λ longest. PlaceReads longest reader.old.count reader.new.count)) }
 {
     let stop = stop_with(reader, root, key);
-    let node = stop.node;
-    // The place is made in each case alone: what cases hand on together is taken apart into bytes.
-    match way_with(reader, node, key, stop.depth) {
-        Way::Conflict => Err(PrefixConflict {
-            root,
-            path: stop.path,
-            part: node,
-        }),
-        Way::Same => Ok(stop.point(
-            root,
-            InsertKind::Exact {
-                leaf_node_ptr: NodePtr::from_slot(node.slot()),
-            },
-        )),
-        Way::PartsFromLeaf(parted) => Ok(stop.point(
-            root,
-            InsertKind::SplitLeaf {
-                leaf_node_ptr: NodePtr::from_slot(node.slot()),
-                parted,
-            },
-        )),
-        Way::PartsFromPrefix(parted) => Ok(stop.point(
-            root,
-            InsertKind::MismatchPrefix {
-                inner_node_ptr: node,
-                parted,
-            },
-        )),
-        Way::NoChild(key_byte) => Ok(stop.point(
-            root,
-            InsertKind::IntoExisting {
-                inner_node_ptr: node,
-                key_byte,
-            },
-        )),
-    }
+    let way = way_with(reader, stop.node, key, stop.depth);
+    stop.answer(root, way)
 }
 
 // Why a key can't be put in: it is in conflict with a stored one.

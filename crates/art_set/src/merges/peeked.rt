@@ -5,13 +5,14 @@ ghost use Rattle.std.specs.Map.Iter.{TakesFirst, deref};
 use crate::iterators::Iter;
 use art_arena::NodeArena;
 use art_bytes::AsBytes;
+use art_walks::Keys;
 use std::marker::Model;
 
 /// The keys of a set that are still to come, in order. A contract sees it as the list of them.
 #[derive(Drop)]
 pub(crate) struct Peeked<'a, K, const PREFIX_LEN: usize, M: 'a = NodeArena<K, (), PREFIX_LEN>> {
     head: Option<&'a K>,
-    rest: Iter<'a, K, PREFIX_LEN, M>,
+    rest: Keys<'a, K, (), PREFIX_LEN, M>,
 }
 
 impl<'a, K, const PREFIX_LEN: usize, M: 'a> Model for Peeked<'a, K, PREFIX_LEN, M> {

@@ -10,8 +10,7 @@ ghost use Rattle.art_map.specs.PrefixBlocks.{AreCutVisits, ShrinksAtCut};
 ghost use Rattle.art_set.specs.Members.{keys_between};
 ghost use Rattle.art_set.specs.Pairs.{pairs_of_keys};
 
-use crate::iterators::Range;
-use crate::iterators::prefix::Prefix;
+use crate::iterators::{Prefix, Range};
 use crate::set::TreeSet;
 use art_bytes::AsBytes;
 use art_map::Removed;

@@ -90,6 +90,6 @@ impl<K: AsBytes + Drop, const PREFIX_LEN: usize> IntoIterator for TreeSet<K, PRE
 
     fn into_iter(self) -> IntoIter<K, PREFIX_LEN> {
         let TreeSet { alloc: _, map } = self;
-        IntoIter::new(map.into_keys())
+        map.into_keys()
     }
 }

@@ -1,5 +1,5 @@
 use Rattle.std.proofs.Common.{◌∙◌, ap, sym, length}
-use Rattle.art_engine.specs.Keys.{full_pair}
+use Rattle.art_engine.proofs.Common.{full_pair}
 use Rattle.art_engine.proofs.Filters.{length-map}
 use Rattle.use_embedded_index.proofs.count.Goals as goal
 

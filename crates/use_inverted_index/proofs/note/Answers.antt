@@ -1,10 +1,9 @@
 use Rattle.std.proofs.Common.{ap, ap₂, bytes_eq, cond, refl, subst, sym, ◌∙◌}
 use Rattle.std.specs.Result.{IsOk}
 use Rattle.std.specs.Option.{unwrap_or}
-use Rattle.art_operations.specs.Pairs.{with_pair_put}
-use Rattle.art_map.specs.Entries.{entry_key}
-use Rattle.art_map.specs.Laws.{ended}
-use Rattle.art_set.specs.Members.{with_key_put}
+use Rattle.art_operations.proofs.Common.{with_pair_put}
+use Rattle.art_map.proofs.Common.{entry_key, ended}
+use Rattle.art_set.proofs.Common.{with_key_put}
 use Rattle.use_inverted_index.specs.Notes.{number_bytes, numbers_of}
 use Rattle.use_inverted_index.proofs.Noted.{lent-numbers, put-noted, still-noted}
 use Rattle.use_inverted_index.proofs.note.Goals as goal

@@ -1,5 +1,5 @@
 use Rattle.std.proofs.Common.{Some, None, ap, ◌∙◌}
-use Rattle.art_set.specs.Members.{is_member}
+use Rattle.art_set.proofs.Common.{is_member}
 use Rattle.use_inverted_index.specs.Notes.{number_bytes}
 use Rattle.use_inverted_index.proofs.Noted.{told-numbers}
 use Rattle.use_inverted_index.proofs.stands_in.Goals as goal

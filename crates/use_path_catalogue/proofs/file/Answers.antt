@@ -1,7 +1,7 @@
 use Rattle.std.proofs.Common.{ℕ, List, sym, subst, ap, ◌∙◌}
 use Rattle.std.proofs.Common.{◌≡◌, cond, bytes_eq}
 use Rattle.std.specs.Prelude.{IfOk, OnOk, Some}
-use Rattle.art_map.proofs.EndedKeys.{ended-found, ended-inserted}
+use Rattle.art_map.proofs.Common.{ended-found, ended-inserted}
 use Rattle.use_path_catalogue.specs.Catalogue.{size_at}
 use Rattle.use_path_catalogue.proofs.file.Goals as goal
 use Rattle.use_path_catalogue.proofs.file.Goals.{in-Ok, in-Err}

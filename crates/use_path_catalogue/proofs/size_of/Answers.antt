@@ -1,5 +1,5 @@
 use Rattle.std.proofs.Common.{◌∙◌}
-use Rattle.art_map.proofs.EndedKeys.{ended-found}
+use Rattle.art_map.proofs.Common.{ended-found}
 use Rattle.use_path_catalogue.proofs.size_of.Goals as goal
 
 pub returns : goal.returns

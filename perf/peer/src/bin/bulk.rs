@@ -75,6 +75,10 @@ fn main() {
     let size: u64 = text.trim().parse().unwrap();
     load("ascending", || pairs_of(0, size, 1));
     load("shuffled", || shuffled_below(size));
+    let (mut low, high) = (map_of(0, size / 2, 1), pairs_of(size / 2, size, 1));
+    let start = now();
+    low.extend(high);
+    tell("extend,behind", start, low.len());
     let (mut low, mut high) = (map_of(0, size / 2, 1), map_of(size / 2, size, 1));
     append("append,behind", &mut low, &mut high);
     let (mut even, mut odd) = (map_of(0, size, 2), map_of(1, size, 2));

@@ -1,10 +1,5 @@
 use Rattle.std.proofs.Common.{◌+◌, ◌-◌, ◌^◌, [], ℕ, Some, min, sym, ap, subst, ◌∙◌, refl, arith, lit<}
-use Rattle.art_arena.specs.arena.Arena.{held_at, node_at}
-use Rattle.art_arena.specs.arena.Context.{path_to}
-use Rattle.art_arena.specs.arena.Meaning.{IsAtDepth, IsSubtree}
-use Rattle.art_arena.specs.arena.Reads.{IsReadAt}
-use Rattle.art_arena.specs.arena.Shapes.{Shape}
-use Rattle.art_arena.specs.arena.Visited.{held_of}
+use Rattle.art_arena.proofs.Terms.{held_at, node_at, path_to, IsAtDepth, IsSubtree, IsReadAt, Shape, held_of}
 use Rattle.art_arena.proofs.shapes.Guides.{guide_any}
 use Rattle.art_arena.proofs.shapes.Passing.{leaf-stops}
 use Rattle.art_arena.proofs.shapes.Reads.{part_within, some_weaker}

@@ -1,5 +1,5 @@
 use Rattle.std.proofs.Common.{◌≡◌, length, refl, sym, ◌∙◌}
-use Rattle.art_arena.specs.arena.Prefixes.{prefix_of}
+use Rattle.art_arena.proofs.Terms.{prefix_of}
 use Rattle.art_arena.proofs.shapes.Prefixes.{tail}
 use Rattle.art_arena.proofs.shapes.Reads.{read_len}
 use Rattle.art_arena.proofs.Words.{begins_empty}

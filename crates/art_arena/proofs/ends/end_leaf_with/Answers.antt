@@ -1,12 +1,7 @@
 use Rattle.std.proofs.Common.{◌≡◌, ◌≢◌, lit<, sym, ap, ◌∙◌, refl, ℕ, List, [], Some, drop, length}
+use Rattle.art_nodes.proofs.Common.{InnerNode}
 use Rattle.art_nodes.specs.declared.kind.NodeType.TheVariants.{Leaf}
-use Rattle.art_nodes.specs.InnerNode.{InnerNode}
-use Rattle.art_arena.specs.arena.Arena.{held_at, inner_held, node_at}
-use Rattle.art_arena.specs.arena.Cells.{leaf_name}
-use Rattle.art_arena.specs.arena.EndLeaves.{end_child}
-use Rattle.art_arena.specs.arena.Meaning.{IsSubtree}
-use Rattle.art_arena.specs.arena.Shapes.{Shape, erase}
-use Rattle.art_arena.specs.arena.Visited.{held_of}
+use Rattle.art_arena.proofs.Terms.{held_at, inner_held, node_at, leaf_name, end_child, IsSubtree, Shape, erase, held_of}
 use Rattle.art_arena.proofs.shapes.LinkedLists.{some_of}
 use Rattle.art_arena.proofs.shapes.Reads.{reads_some}
 use Rattle.art_arena.proofs.shapes.EndWalks.{EndsAtLeaf, EndStep, end_at, end_step, on_end-start, same_inner}

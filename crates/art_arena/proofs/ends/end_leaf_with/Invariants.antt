@@ -1,7 +1,5 @@
 use Rattle.std.proofs.Common.{◌≡◌, ℕ, List}
-use Rattle.art_arena.specs.arena.Arena.{node_at, slots_of}
-use Rattle.art_arena.specs.arena.Shapes.{Shape}
-use Rattle.art_arena.specs.arena.Meaning.{IsSubtree}
+use Rattle.art_arena.proofs.Terms.{node_at, slots_of, Shape, IsSubtree}
 use Rattle.art_arena.proofs.shapes.Measures.{nodes_below}
 use Rattle.art_arena.proofs.shapes.EndWalks.{OnEnd}
 use Rattle.art_arena.proofs.ends.end_leaf_with.Given as goal

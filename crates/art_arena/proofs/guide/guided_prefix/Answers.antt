@@ -1,9 +1,6 @@
 use Rattle.std.proofs.Common.{◌≡◌, ◌+◌, ◌≤◌, ◌-◌, length, ap, ◌∙◌, arith, List, ℕ, IfSome}
-use Rattle.art_nodes.specs.Name.{Name}
-use Rattle.art_arena.specs.arena.Descents.{IsGuide}
-use Rattle.art_arena.specs.arena.Shapes.{Shape}
-use Rattle.art_arena.specs.arena.Prefixes.{prefix_of}
-use Rattle.art_arena.specs.arena.Reads.{IsReadAt}
+use Rattle.art_nodes.proofs.Common.{Name}
+use Rattle.art_arena.proofs.Terms.{IsGuide, Shape, prefix_of, IsReadAt}
 use Rattle.art_arena.proofs.shapes.Guides.{read_begins}
 use Rattle.art_arena.proofs.shapes.Prefixes.{read, Read}
 use Rattle.art_arena.proofs.shapes.Reads.{read_len}

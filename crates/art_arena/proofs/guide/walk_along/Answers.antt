@@ -1,9 +1,5 @@
 use Rattle.std.proofs.Common.{ℕ, List, refl, sym, ap, subst, ◌∙◌, Some, arith, lit<}
-use Rattle.art_arena.specs.arena.Arena.{held_at, node_at}
-use Rattle.art_arena.specs.arena.Meaning.{IsAtDepth}
-use Rattle.art_arena.specs.arena.Reads.{IsReadAt}
-use Rattle.art_arena.specs.arena.Shapes.{Shape}
-use Rattle.art_arena.specs.arena.Visited.{held_of}
+use Rattle.art_arena.proofs.Terms.{held_at, node_at, IsAtDepth, IsReadAt, Shape, held_of}
 use Rattle.art_arena.proofs.shapes.Guides.{along-goes, along-start, deep_within, read_ends}
 use Rattle.art_arena.proofs.shapes.Walking.{lent-inner}
 use Rattle.art_arena.proofs.guide.walk_along.Goals as goal

@@ -1,7 +1,5 @@
 use Rattle.std.proofs.Common.{◌≡◌, ◌≤◌, ◌+◌, ◌-◌, ◌^◌, min, ℕ, List, length}
-use Rattle.art_arena.specs.arena.Arena.{node_at}
-use Rattle.art_arena.specs.arena.Meaning.{IsAtDepth}
-use Rattle.art_arena.specs.arena.Shapes.{Shape}
+use Rattle.art_arena.proofs.Terms.{node_at, IsAtDepth, Shape}
 use Rattle.art_arena.proofs.shapes.Guides.{IsAlong}
 use Rattle.art_arena.proofs.guide.walk_along.Given as goal
 

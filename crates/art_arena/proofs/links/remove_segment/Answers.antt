@@ -1,6 +1,5 @@
 use Rattle.std.proofs.Common.{None, sym, ◌∙◌, subst, refl, arith}
-use Rattle.art_arena.specs.arena.Arena.{links_at}
-use Rattle.art_arena.specs.arena.Linked.{AreHalves, last_slot}
+use Rattle.art_arena.proofs.Terms.{links_at, AreHalves, last_slot}
 use Rattle.art_arena.proofs.shapes.LinkedLists.{run_start, run_end, run_previous, run_next, around_run, joined}
 use Rattle.art_arena.proofs.links.remove_segment.Goals as goal
 

@@ -1,6 +1,6 @@
 use Rattle.std.proofs.Common.{◌≡◌, Option, Some, IsSome, refl, ap, ◌∙◌}
-use Rattle.art_nodes.specs.InnerNode.{InnerNode}
-use Rattle.art_arena.specs.arena.Arena.{Held, held_at, inner_held, as_inner}
+use Rattle.art_nodes.proofs.Common.{InnerNode}
+use Rattle.art_arena.proofs.Terms.{Held, held_at, inner_held, as_inner}
 use Rattle.art_arena.specs.arena.NodeEdits.{edited}
 use Rattle.art_arena.proofs.node_edits.edit_at.Goals as goal
 

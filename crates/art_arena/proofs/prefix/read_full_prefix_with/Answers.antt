@@ -1,9 +1,5 @@
 use Rattle.std.proofs.Common.{◌≡◌, ℕ, List, Some, ap, sym, subst, ◌∙◌, arith}
-use Rattle.art_arena.specs.arena.Arena.{held_at, leaf_held}
-use Rattle.art_arena.specs.arena.Cells.{leaf_name}
-use Rattle.art_arena.specs.arena.Reads.{IsReadAt}
-use Rattle.art_arena.specs.arena.Shapes.{Shape}
-use Rattle.art_arena.specs.arena.Stores.{StoresAt}
+use Rattle.art_arena.proofs.Terms.{held_at, leaf_held, leaf_name, IsReadAt, Shape, StoresAt}
 use Rattle.art_arena.proofs.prefix.read_full_prefix_with.Goals as goal
 use Rattle.art_arena.proofs.prefix.read_full_prefix_with.Goals.{After-visit_inner-inner}
 

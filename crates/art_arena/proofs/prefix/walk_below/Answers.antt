@@ -1,5 +1,5 @@
 use Rattle.std.proofs.Common.{sym, ◌∙◌, arith, lit<}
-use Rattle.art_arena.specs.declared.ends.End.TheVariants.{First}
+use Rattle.art_arena.proofs.Terms.{First}
 use Rattle.art_arena.proofs.shapes.LinkedLists.{some_of}
 use Rattle.art_arena.proofs.shapes.Reads.{read_child, read_first, read_some}
 use Rattle.art_arena.proofs.prefix.walk_below.Goals as goal

@@ -1,7 +1,5 @@
 use Rattle.std.proofs.Common.{◌≡◌, Some, sym, subst, arith, lit<}
-use Rattle.art_arena.specs.arena.Arena.{held_at, leaf_held}
-use Rattle.art_arena.specs.arena.Cells.{leaf_name}
-use Rattle.art_arena.specs.arena.Reads.{IsReadAt}
+use Rattle.art_arena.proofs.Terms.{held_at, leaf_held, leaf_name, IsReadAt}
 use Rattle.art_arena.proofs.reader.first_below.Goals as goal
 
 pub walk_below-first-requires : goal.walk_below-first-requires

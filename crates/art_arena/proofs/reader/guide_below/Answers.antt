@@ -1,5 +1,5 @@
 use Rattle.std.proofs.Common.{sym, subst, arith}
-use Rattle.art_arena.specs.arena.Reads.{IsReadAt}
+use Rattle.art_arena.proofs.Terms.{IsReadAt}
 use Rattle.art_arena.proofs.reader.guide_below.Goals as goal
 
 pub returns-clause-few : goal.returns-clause-few

@@ -1,8 +1,6 @@
 use Rattle.std.proofs.Common.{rules, sym, subst}
-use Rattle.art_lines.specs.Commands.{Spells}
-use Rattle.art_engine.specs.Stored.{all_records_of}
-use Rattle.art_engine.specs.Changed.{IsChangeDone}
-use Rattle.art_lines.specs.Parsed.{tenant_in_place, key_in_place, value_in_place, number_in_place, changes}
+use Rattle.art_lines.proofs.Common.{Spells, tenant_in_place, key_in_place, value_in_place, number_in_place, changes}
+use Rattle.art_engine.proofs.Terms.{all_records_of, IsChangeDone}
 use Rattle.art_engine.proofs.BothMaps.{put_in_both, over_in_both, del_in_both, nput_in_both, ndel_in_both}
 use Rattle.art_engine.proofs.FieldLengths.{put_fits, over_fits, nput_fits}
 use Rattle.art_engine.proofs.NumberPlaces.{are_in_order}
@@ -11,36 +9,21 @@ use Rattle.art_engine.proofs.change.change.Goals as goal
 
 pub put_value-requires : goal.put_value-requires
 put_value-requires g c =
-    let F = c.args.fields.now in (
-      search rules,
-      (
-        c.requires.held,
-        put_fits c.requires.spelled.0 (tenant_in_place F) (key_in_place F) (value_in_place F)
-            (subst (λ w. Spells c.requires.spelled.0 (changes w F)) c.in-Put.is c.requires.spelled.1),
-      ),
-    )
+    let F = c.args.fields.now in let line = c.requires.spelled.0 in
+    let fits = put_fits line (tenant_in_place F) (key_in_place F) (value_in_place F) (subst (λ w. Spells line (changes w F)) c.in-Put.is c.requires.spelled.1) in
+    (search rules, (c.requires.held, fits))
 
 pub put_over-requires : goal.put_over-requires
 put_over-requires g c =
-    let F = c.args.fields.now in (
-      search rules,
-      (
-        c.requires.held,
-        over_fits c.requires.spelled.0 (tenant_in_place F) (key_in_place F) (value_in_place F)
-            (subst (λ w. Spells c.requires.spelled.0 (changes w F)) c.in-Over.is c.requires.spelled.1),
-      ),
-    )
+    let F = c.args.fields.now in let line = c.requires.spelled.0 in
+    let fits = over_fits line (tenant_in_place F) (key_in_place F) (value_in_place F) (subst (λ w. Spells line (changes w F)) c.in-Over.is c.requires.spelled.1) in
+    (search rules, (c.requires.held, fits))
 
 pub put_at_number-requires : goal.put_at_number-requires
 put_at_number-requires g c =
-    let F = c.args.fields.now in (
-      search rules,
-      (
-        c.requires.numbers,
-        nput_fits c.requires.spelled.0 (tenant_in_place F) (number_in_place F) (value_in_place F)
-            (subst (λ w. Spells c.requires.spelled.0 (changes w F)) c.in-NPut.is c.requires.spelled.1),
-      ),
-    )
+    let F = c.args.fields.now in let line = c.requires.spelled.0 in
+    let fits = nput_fits line (tenant_in_place F) (number_in_place F) (value_in_place F) (subst (λ w. Spells line (changes w F)) c.in-NPut.is c.requires.spelled.1) in
+    (search rules, (c.requires.numbers, fits))
 
 pub returns-in-Put-clause-done : goal.returns-in-Put-clause-done
 returns-in-Put-clause-done g c =

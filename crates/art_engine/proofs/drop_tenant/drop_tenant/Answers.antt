@@ -1,13 +1,10 @@
 use Rattle.std.proofs.Common.{rules, arith, ◌≡◌, ℕ, List, ◌≢◌, ◌<◌, ◌^◌, [], length, map, refl, sym, ap, ap₂, subst, ◌∙◌}
 use Rattle.std.specs.Global.{Vec}
 use Rattle.std.specs.Int.{to_be_bytes, w32}
-use Rattle.art_arena.specs.tree.Tenants.{with_front, without_front}
-use Rattle.art_operations.specs.Subtrees.{ShrinksWithout}
-use Rattle.art_engine.specs.Counts.{longest}
-use Rattle.art_lines.specs.Keys.{full_key}
-use Rattle.art_engine.specs.Keys.{full_key_of, number_key_of}
-use Rattle.art_lines.specs.Parsed.{tenant_in_place}
-use Rattle.art_engine.specs.Stored.{Pair, NumberPair, record_of, number_record_of, ArePairs, AreNumberPairs}
+use Rattle.art_arena.proofs.Common.{with_front, without_front}
+use Rattle.art_operations.proofs.Common.{ShrinksWithout}
+use Rattle.art_engine.proofs.Terms.{longest, full_key_of, number_key_of, Pair, NumberPair, record_of, number_record_of, ArePairs, AreNumberPairs}
+use Rattle.art_lines.proofs.Common.{full_key, tenant_in_place}
 use Rattle.art_engine.proofs.Conflicts.{bytes_of}
 use Rattle.art_engine.proofs.NumberPlaces.{number_bytes}
 use Rattle.art_engine.proofs.RecordCounts.{pairs_within}

@@ -4,12 +4,8 @@ use Rattle.std.specs.List.{AllByRecursion}
 use Rattle.std.specs.Map.Iter.{deref_pair}
 use Rattle.std.specs.Prelude.{option_map}
 use Rattle.std.proofs.lemmas.List.{take-set-le}
-use Rattle.art_lines.specs.Words.{line_of}
-use Rattle.art_lines.specs.Commands.{put_words}
-use Rattle.art_engine.specs.Records.{KeyFits}
-use Rattle.art_engine.specs.Spans.{pending, pending_all, IsClosed}
-use Rattle.art_engine.specs.Stored.{Pair, record_of, IsFull}
-use Rattle.art_lines.proofs.Cuts.{taken_none, taken_from, taken_through, taken_cut, when_err}
+use Rattle.art_lines.proofs.Common.{line_of, put_words, taken_none, taken_from, taken_through, taken_cut, when_err}
+use Rattle.art_engine.proofs.Terms.{KeyFits, pending, pending_all, IsClosed, Pair, record_of, IsFull}
 use Rattle.art_engine.proofs.Dumping.{dumped, gathered_next, line_fits, words_put}
 use Rattle.art_engine.proofs.dump.gather_keys.Goals as goal
 

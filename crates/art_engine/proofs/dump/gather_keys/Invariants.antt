@@ -1,10 +1,8 @@
 use Rattle.std.proofs.Common.{◌≡◌, ◌≤◌, ◌++◌, drop, length, take, map, false}
 use Rattle.std.specs.List.{AllByRecursion}
 use Rattle.std.specs.Map.Iter.{deref_pair}
-use Rattle.art_engine.specs.Records.{KeyFits}
-use Rattle.art_engine.specs.Spans.{pending_all, IsClosed}
-use Rattle.art_engine.specs.Stored.{record_of, IsFull}
-use Rattle.art_lines.specs.Gathered.{IsPartTaken}
+use Rattle.art_engine.proofs.Terms.{KeyFits, pending_all, IsClosed, record_of, IsFull}
+use Rattle.art_lines.proofs.Common.{IsPartTaken}
 use Rattle.art_engine.proofs.Dumping.{dumped, words_put}
 use Rattle.art_engine.proofs.dump.gather_keys.Given as goal
 

@@ -5,12 +5,8 @@ use Rattle.std.specs.Map.Iter.{deref_pair}
 use Rattle.std.specs.Prelude.{option_map}
 use Rattle.std.proofs.lemmas.Int.{to_z-of_z}
 use Rattle.std.proofs.lemmas.List.{take-set-le}
-use Rattle.art_lines.specs.Words.{line_of}
-use Rattle.art_lines.specs.Commands.{nput_words}
-use Rattle.art_engine.specs.Records.{NumberFits}
-use Rattle.art_engine.specs.Spans.{pending, pending_all, IsClosed}
-use Rattle.art_engine.specs.Stored.{NumberPair, number_record_of}
-use Rattle.art_lines.proofs.Cuts.{taken_none, taken_from, taken_through, taken_cut, when_err}
+use Rattle.art_lines.proofs.Common.{line_of, nput_words, taken_none, taken_from, taken_through, taken_cut, when_err}
+use Rattle.art_engine.proofs.Terms.{NumberFits, pending, pending_all, IsClosed, NumberPair, number_record_of}
 use Rattle.art_engine.proofs.Dumping.{dumped, gathered_next, number_line_fits, words_nput}
 use Rattle.art_engine.proofs.dump.gather_numbers.Goals as goal
 

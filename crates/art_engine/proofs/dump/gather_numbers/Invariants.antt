@@ -1,10 +1,8 @@
 use Rattle.std.proofs.Common.{◌≡◌, ◌≤◌, ◌++◌, drop, length, take, map, false}
 use Rattle.std.specs.List.{AllByRecursion}
 use Rattle.std.specs.Map.Iter.{deref_pair}
-use Rattle.art_engine.specs.Records.{NumberFits}
-use Rattle.art_engine.specs.Spans.{pending_all, IsClosed}
-use Rattle.art_engine.specs.Stored.{number_record_of}
-use Rattle.art_lines.specs.Gathered.{IsPartTaken}
+use Rattle.art_engine.proofs.Terms.{NumberFits, pending_all, IsClosed, number_record_of}
+use Rattle.art_lines.proofs.Common.{IsPartTaken}
 use Rattle.art_engine.proofs.Dumping.{dumped, words_nput}
 use Rattle.art_engine.proofs.dump.gather_numbers.Given as goal
 

@@ -2,9 +2,7 @@ use Rattle.std.proofs.Common.{arith}
 use Rattle.std.proofs.lemmas.List.{length-map}
 use Rattle.std.specs.Prelude.{◌==◌, ℕ, ℤ, List, filter}
 use Rattle.art_operations.proofs.NodeCounts.{few-nodes, many-nodes}
-use Rattle.art_engine.specs.Keys.{full_key_of, number_key_of}
-use Rattle.art_engine.specs.Laws.{DropsReadFew}
-use Rattle.art_engine.specs.Records.{KeyRecord, NumberRecord}
+use Rattle.art_engine.proofs.Terms.{full_key_of, number_key_of, DropsReadFew, KeyRecord, NumberRecord}
 use Rattle.art_engine.proofs.laws.drops_read_few.Goals as goal
 
 few : DropsReadFew

@@ -1,17 +1,12 @@
 use Rattle.std.proofs.Common.{rules, ℕ, ◌+◌, ◌^◌, ◌<◌, List, length, map, ap, ap₂, sym, ◌∙◌, subst, arith, inr}
-use Rattle.std.specs.Prelude.{filter, flat_map, max}
+use Rattle.std.specs.Prelude.{filter, max}
 use Rattle.std.specs.List.{AllByRecursion}
 use Rattle.std.specs.declared.ops.Bound.TheVariants.{Included, Excluded}
 use Rattle.std.specs.BTreeMap.Range.{IsLeBy, range_contains}
 use Rattle.std.proofs.lemmas.Result.{on_ok_weaker}
-use Rattle.art_bytes.specs.Keys.{bytes_cmp}
-use Rattle.art_lines.specs.Words.{line_of}
-use Rattle.art_lines.specs.Writes.{Writes}
-use Rattle.art_engine.specs.Counts.{longest, GrewBy}
-use Rattle.art_engine.specs.Keys.{full_key_of}
-use Rattle.art_engine.specs.Spans.{span_pairs, own_pair, IsListed}
-use Rattle.art_engine.specs.Stored.{Pair, record_of}
-use Rattle.art_lines.specs.Parsed.{tenant_in_place, key_in_place, value_in_place}
+use Rattle.art_bytes.proofs.Common.{bytes_cmp}
+use Rattle.art_lines.proofs.Common.{Writes, tenant_in_place, key_in_place, value_in_place}
+use Rattle.art_engine.proofs.Terms.{longest, GrewBy, full_key_of, span_pairs, own_pair, IsListed, Pair, record_of}
 use Rattle.art_engine.proofs.Listings.{never_falls}
 use Rattle.art_engine.proofs.FullTests.{in_order_full}
 use Rattle.art_engine.proofs.ListedLines.{list_all}

@@ -1,15 +1,10 @@
 use Rattle.std.proofs.Common.{ℕ, rules, ◌≡◌, ◌+◌, ◌^◌, ◌<◌, List, length, map, ap, sym, ◌∙◌, subst, arith}
-use Rattle.std.specs.Prelude.{filter, flat_map}
+use Rattle.std.specs.Prelude.{filter}
 use Rattle.std.specs.List.{AllByRecursion}
 use Rattle.std.proofs.lemmas.Result.{on_ok_weaker}
-use Rattle.art_arena.specs.tree.Tenants.{begins_with}
-use Rattle.art_lines.specs.Words.{line_of}
-use Rattle.art_lines.specs.Writes.{Writes}
-use Rattle.art_engine.specs.Counts.{longest, GrewBy}
-use Rattle.art_engine.specs.Keys.{full_key_of}
-use Rattle.art_engine.specs.Spans.{span_pairs, own_pair, IsListed}
-use Rattle.art_engine.specs.Stored.{Pair, record_of}
-use Rattle.art_lines.specs.Parsed.{tenant_in_place, key_in_place}
+use Rattle.art_arena.proofs.Common.{begins_with}
+use Rattle.art_lines.proofs.Common.{Writes, tenant_in_place, key_in_place}
+use Rattle.art_engine.proofs.Terms.{longest, GrewBy, full_key_of, span_pairs, own_pair, IsListed, Pair, record_of}
 use Rattle.art_engine.proofs.Listings.{never_falls}
 use Rattle.art_engine.proofs.ListedLines.{list_all}
 use Rattle.art_engine.proofs.RecordCounts.{own_pairs, own_left, left_listed, left_few, left_grew, list_tests, pairs_within}

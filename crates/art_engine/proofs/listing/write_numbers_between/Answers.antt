@@ -1,16 +1,12 @@
 use Rattle.std.proofs.Common.{rules, ℕ, ◌^◌, ◌<◌, List, length, map, ap, ap₂, sym, ◌∙◌, subst, arith, inr}
-use Rattle.std.specs.Prelude.{filter, flat_map}
+use Rattle.std.specs.Prelude.{filter}
 use Rattle.std.specs.List.{AllByRecursion}
 use Rattle.std.specs.declared.ops.Bound.TheVariants.{Included}
 use Rattle.std.specs.BTreeMap.Range.{IsLeBy, range_contains}
 use Rattle.std.proofs.lemmas.Result.{on_ok_weaker}
-use Rattle.art_bytes.specs.Keys.{bytes_cmp}
-use Rattle.art_lines.specs.Words.{line_of}
-use Rattle.art_lines.specs.Writes.{Writes}
-use Rattle.art_engine.specs.Counts.{GrewBy}
-use Rattle.art_engine.specs.Spans.{span_pairs, own_number, IsNumbered}
-use Rattle.art_engine.specs.Stored.{NumberPair}
-use Rattle.art_lines.specs.Parsed.{tenant_in_place, number_in_place, bound_in_place}
+use Rattle.art_bytes.proofs.Common.{bytes_cmp}
+use Rattle.art_lines.proofs.Common.{Writes, tenant_in_place, number_in_place, bound_in_place}
+use Rattle.art_engine.proofs.Terms.{GrewBy, span_pairs, own_number, IsNumbered, NumberPair}
 use Rattle.art_engine.proofs.Listings.{never_falls}
 use Rattle.art_engine.proofs.NumberKeys.{HaveBytes, numbers_in_order}
 use Rattle.art_engine.proofs.ListedLines.{numbers_all}

@@ -1,12 +1,11 @@
-use Rattle.std.proofs.Common.{arith, rules, ◌≡◌, ◌+◌, ◌++◌, ◌≤◌, ◌∷◌, ℕ, List, [], length, take, drop, map, refl, ap, ap₂, sym, ◌∙◌, subst}
+use Rattle.std.proofs.Common.{arith, rules, ◌≡◌, ◌+◌, ◌++◌, ◌≤◌, ◌∷◌, ℕ, [], length, take, drop, refl, ap, sym, ◌∙◌, subst}
 use Rattle.std.specs.List.{AllByRecursion}
 use Rattle.std.specs.Prelude.{option_map}
 use Rattle.std.proofs.lemmas.List.{take-set-le}
 use Rattle.std.specs.Map.Iter.{deref_pair}
 use Rattle.std.specs.Global.{Vec}
-use Rattle.art_lines.specs.Words.{line_of}
-use Rattle.art_engine.specs.Spans.{pending, pending_all, IsClosed, span_pairs}
-use Rattle.art_lines.proofs.Cuts.{taken_none, taken_from, taken_through, taken_cut, when_err, writes_rest}
+use Rattle.art_lines.proofs.Common.{taken_none, taken_from, taken_through, taken_cut, writes_cut, writes_rest}
+use Rattle.art_engine.proofs.Terms.{pending, pending_all, IsClosed, span_pairs}
 use Rattle.art_engine.proofs.ListedLines.{lines_from, lines_next, list_end}
 use Rattle.art_engine.proofs.ReadTogether.{length_all}
 use Rattle.art_engine.proofs.SpanLemmas.{when_ok}
@@ -44,11 +43,8 @@ returns-in_err-next-clause-written g c =
     let rest = pending_all deref_pair (drop c.next.new.self.at (take c.next.new.self.len c.next.new.self.pairs)) (span_pairs c.next.new.records.nodes c.next.new.place) in
     let kept = take-set-le c.pairs.held c.pairs.room 1023 c.seen.result c.pairs.invariant.held in
     let told = lines_next g.K.ListedKey.words (list_end (c.pairs.count + length left)) p rest left _ (take c.pairs.held c.pairs.room) c.in-Some.ensures.gives refl in
-    record {
-      ok = search rules;
-      cut = when_err _ (taken_cut _ _ _ _ _ _ (taken_from _ _ _ _ _ told c.pairs.invariant.taken) (rw kept at c.in_err-next.ensures.cut));
-      failed = search rules;
-    }
+    writes_cut _ _ _ _ _ c.from_residual.ensures.0 c.in_err-next.ensures.failed
+    (taken_cut _ _ _ _ _ _ (taken_from _ _ _ _ _ told c.pairs.invariant.taken) (rw kept at c.in_err-next.ensures.cut))
 
 pub overflow_add-count : goal.overflow_add-count
 overflow_add-count g c =

@@ -1,10 +1,9 @@
 use Rattle.std.proofs.Common.{◌≡◌, ◌+◌, ◌≤◌, ◌++◌, [], drop, length, take, false}
 use Rattle.std.specs.Map.Iter.{deref_pair}
 use Rattle.std.specs.List.{AllByRecursion}
-use Rattle.art_walks.specs.MapReads.{IsSameMap, IsSpan}
-use Rattle.art_engine.specs.Counts.{GrewBy}
-use Rattle.art_lines.specs.Gathered.{IsPartTaken}
-use Rattle.art_engine.specs.Spans.{pending_all, IsClosed, span_pairs}
+use Rattle.art_walks.proofs.Common.{IsSameMap, IsSpan}
+use Rattle.art_engine.proofs.Terms.{GrewBy, pending_all, IsClosed, span_pairs}
+use Rattle.art_lines.proofs.Common.{IsPartTaken}
 use Rattle.art_engine.proofs.ListedLines.{lines_from, list_end}
 use Rattle.art_engine.proofs.listing.write_pairs.Given as goal
 

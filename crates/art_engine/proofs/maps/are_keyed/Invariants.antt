@@ -1,5 +1,5 @@
 use Rattle.std.specs.List.{AllByRecursion}
-use Rattle.art_engine.specs.Held.{IsShortPair}
+use Rattle.art_engine.proofs.Terms.{IsShortPair}
 use Rattle.art_engine.proofs.HeldMaps.{IsRecord}
 use Rattle.art_engine.proofs.maps.are_keyed.Given as goal
 

@@ -1,5 +1,5 @@
 use Rattle.std.specs.List.{AllByRecursion}
-use Rattle.art_engine.specs.Held.{IsShortNumberPair}
+use Rattle.art_engine.proofs.Terms.{IsShortNumberPair}
 use Rattle.art_engine.proofs.HeldMaps.{IsNumberRecord}
 use Rattle.art_engine.proofs.maps.are_numbered.Given as goal
 

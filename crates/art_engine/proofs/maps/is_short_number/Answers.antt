@@ -4,7 +4,7 @@ use Rattle.std.specs.Fmt.{signed_decimal}
 use Rattle.std.specs.Int.{from_be_bytes, cast_signed, cast_unsigned, w32, w64}
 use Rattle.std.proofs.lemmas.Bool.{leb-true, le-leb}
 use Rattle.std.proofs.lemmas.Int.{to_z-of_z}
-use Rattle.art_engine.specs.Keys.{number_of_bytes}
+use Rattle.art_engine.proofs.Terms.{number_of_bytes}
 use Rattle.art_engine.proofs.HeldMaps.{number_again, number_short_told}
 use Rattle.art_engine.proofs.maps.is_short_number.Goals as goal
 

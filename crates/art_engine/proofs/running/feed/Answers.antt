@@ -1,8 +1,8 @@
 use Rattle.std.proofs.Common.{◌≡◌, ℕ, List, [], ◌∷◌, ◌+◌, ◌-◌, ◌++◌, length, take, drop, ap, sym, ◌∙◌, subst, refl, append_assoc, append-nil}
-use Rattle.art_engine.specs.Progress.{Carried, NoNewline}
+use Rattle.art_engine.proofs.Terms.{Carried, NoNewline}
 use Rattle.art_engine.proofs.LineLemmas.{none_before, none_at_all, behind_newline}
 use Rattle.art_engine.proofs.Carrying.{carried_part}
-use Rattle.art_lines.proofs.Cuts.{when_err}
+use Rattle.art_lines.proofs.Common.{when_err}
 use Rattle.art_engine.proofs.CutRuns.{cut_run-more}
 use Rattle.art_engine.proofs.running.feed.Goals as goal
 

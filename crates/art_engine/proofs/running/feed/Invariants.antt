@@ -1,6 +1,5 @@
 use Rattle.std.proofs.Common.{◌≡◌, ℕ, List, ◌++◌, length, false}
-use Rattle.art_engine.specs.State.{State}
-use Rattle.art_engine.specs.Progress.{Carried}
+use Rattle.art_engine.proofs.Terms.{State, Carried}
 use Rattle.art_engine.proofs.running.feed.Given as goal
 
 -- the part of the piece before the rest is carried

@@ -2,7 +2,7 @@ use Rattle.std.proofs.Common.{arith, ◌≡◌, ℕ, List, [], sym, ◌∙◌, r
 use Rattle.std.proofs.lemmas.Bool.{eqb-true}
 use Rattle.art_lines.proofs.HexText.{length_nil}
 use Rattle.art_engine.proofs.Carrying.{carried_line, whole_in_piece, put_together}
-use Rattle.art_lines.proofs.Cuts.{when_err}
+use Rattle.art_lines.proofs.Common.{when_err}
 use Rattle.art_engine.proofs.CutRuns.{cut_run-line}
 use Rattle.art_engine.proofs.running.finish.Goals as goal
 

@@ -1,9 +1,7 @@
 use Rattle.std.proofs.Common.{◌≡◌, ℕ, ◌<◌, ◌++◌, [], List, length, take, sym, ◌∙◌, ap, arith, append-nil, append_assoc, subst, true, false, Ok}
 use Rattle.std.proofs.lemmas.Bool.{eqb-false}
-use Rattle.art_lines.specs.Lines.{lines_so_far}
-use Rattle.art_engine.specs.Outcome.{answer}
-use Rattle.art_engine.specs.Faults.{AfterWriteFault}
-use Rattle.art_engine.specs.Progress.{Carried}
+use Rattle.art_lines.proofs.Common.{lines_so_far}
+use Rattle.art_engine.proofs.Terms.{answer, AfterWriteFault, Carried}
 use Rattle.art_engine.proofs.Carrying.{carried_none, outcome_last}
 use Rattle.art_engine.proofs.CutRuns.{cut_run-last}
 use Rattle.art_engine.proofs.running.run.Goals as goal

@@ -1,5 +1,5 @@
 use Rattle.std.proofs.Common.{◌≡◌, ℕ, List, ◌++◌, false}
-use Rattle.art_engine.specs.Progress.{Carried}
+use Rattle.art_engine.proofs.Terms.{Carried}
 use Rattle.art_engine.proofs.running.run.Given as goal
 
 -- what is given so far is carried

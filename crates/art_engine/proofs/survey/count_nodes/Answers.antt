@@ -1,6 +1,6 @@
 use Rattle.std.proofs.Common.{[], ◌∷◌, ap₂, ◌∙◌}
 use Rattle.std.specs.Prelude.{codes}
-use Rattle.art_engine.specs.Replies.{count_words}
+use Rattle.art_engine.proofs.Terms.{count_words}
 use Rattle.art_engine.proofs.Auditing.{counts_same, number_counts_same}
 use Rattle.art_engine.proofs.survey.count_nodes.Goals as goal
 

@@ -2,7 +2,7 @@ use Rattle.std.proofs.Common.{◌≡◌, ◌+◌, [], length, take, set, ap, sym
 use Rattle.std.specs.Prelude.{option_map}
 use Rattle.std.proofs.lemmas.List.{take_more_set, length-set}
 use Rattle.std.specs.Map.Iter.{deref_pair}
-use Rattle.art_engine.specs.Spans.{pending, pending_all, IsClosed}
+use Rattle.art_engine.proofs.Terms.{pending, pending_all, IsClosed}
 use Rattle.art_engine.proofs.ReadTogether.{pending_more, closed_more, length_more}
 use Rattle.art_engine.proofs.together.read_all.Goals as goal
 

@@ -1,6 +1,6 @@
 use Rattle.std.proofs.Common.{◌≡◌, ◌+◌, ◌-◌, ◌≤◌, ◌<◌, ℕ, [], length, take}
 use Rattle.std.specs.Map.Iter.{deref_pair}
-use Rattle.art_engine.specs.Spans.{pending_all, IsClosed}
+use Rattle.art_engine.proofs.Terms.{pending_all, IsClosed}
 use Rattle.art_engine.proofs.together.read_all.Given as goal
 
 -- those read so far stand before what is left

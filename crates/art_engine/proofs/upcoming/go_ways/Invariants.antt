@@ -1,7 +1,7 @@
 use Rattle.std.proofs.Common.{◌≡◌, length}
 use Rattle.std.specs.List.{sum_by}
-use Rattle.art_arena.specs.arena.Visited.{count_of}
-use Rattle.art_engine.specs.Ahead.{GrewAlike}
+use Rattle.art_arena.proofs.Common.{count_of}
+use Rattle.art_engine.proofs.Terms.{GrewAlike}
 use Rattle.art_engine.proofs.upcoming.go_ways.Given as goal
 
 -- what the lines count is what was counted so far

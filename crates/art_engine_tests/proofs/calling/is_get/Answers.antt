@@ -1,5 +1,5 @@
 use Rattle.std.proofs.Common.{refl}
-use Rattle.art_lines.specs.Commands.{of_tenant, get}
+use Rattle.art_lines.proofs.Common.{of_tenant, get}
 use Rattle.art_engine_tests.proofs.calling.is_get.Goals as goal
 
 pub returns-in-Some-Get : goal.returns-in-Some-Get

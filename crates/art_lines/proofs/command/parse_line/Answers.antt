@@ -1,6 +1,6 @@
 use Rattle.std.proofs.Common.{ap, ◌∙◌, Some}
 use Rattle.std.specs.Prelude.{option_map}
-use Rattle.art_lines.specs.Parsed.{meaning}
+use Rattle.art_lines.proofs.Terms.{meaning}
 use Rattle.art_lines.proofs.Spelling.{read_back}
 use Rattle.art_lines.proofs.command.parse_line.Goals as goal
 

@@ -1,6 +1,6 @@
 use Rattle.std.proofs.Common.{ap, ◌∙◌}
 use Rattle.std.specs.Prelude.{option_map, option_copied}
-use Rattle.art_lines.specs.InPlace.{fields_behind}
+use Rattle.art_lines.proofs.Terms.{fields_behind}
 use Rattle.art_lines.proofs.Parsing.{row_found, no_row, fits_behind, too_long, says_word, says_nothing, read_none, read_some}
 use Rattle.art_lines.proofs.Shapes.{command_read}
 use Rattle.art_lines.proofs.command.read_line.Goals as goal

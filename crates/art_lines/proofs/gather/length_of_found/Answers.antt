@@ -3,19 +3,13 @@ use Rattle.art_lines.proofs.Gathering.{found-about}
 use Rattle.art_lines.proofs.gather.length_of_found.Goals as goal
 
 pub overflow_add-result : goal.overflow_add-result
-overflow_add-result c =
-    let least = (found-about c.args.word.now c.args.value.now).least in let line = c.requires in
-    omega arith
+overflow_add-result c = omega (arith, (found-about c.args.word.now c.args.value.now).least)
 
 pub overflow_add-result-2 : goal.overflow_add-result-2
-overflow_add-result-2 c =
-    let least = (found-about c.args.word.now c.args.value.now).least in let line = c.requires in
-    omega arith
+overflow_add-result-2 c = omega (arith, (found-about c.args.word.now c.args.value.now).least)
 
 pub returns-clause-most : goal.returns-clause-most
-returns-clause-most c = let most = (found-about c.args.word.now c.args.value.now).most in omega arith
+returns-clause-most c = omega (arith, (found-about c.args.word.now c.args.value.now).most)
 
 pub returns-clause-few : goal.returns-clause-few
-returns-clause-few c =
-    let least = (found-about c.args.word.now c.args.value.now).least in let line = c.requires in
-    omega arith
+returns-clause-few c = omega (arith, (found-about c.args.word.now c.args.value.now).least)

@@ -1,30 +1,20 @@
-use Rattle.std.proofs.Common.{rules, arith, ap, sym, ◌∙◌, ◌++◌, take}
+use Rattle.std.proofs.Common.{arith, ap, sym, ◌∙◌, ◌++◌, take}
 use Rattle.std.proofs.lemmas.Fmt.{length-decimal-le}
-use Rattle.art_lines.proofs.Cuts.{cut_before, taken_from, taken_longer, when_err, writes_rest}
+use Rattle.art_lines.proofs.Cuts.{cut_before, taken_from, taken_longer, writes_cut, writes_rest}
 use Rattle.art_lines.proofs.Gathering.{puts_then}
 use Rattle.art_lines.proofs.ReplyLines.{end_parts}
 use Rattle.art_lines.proofs.gather.write_end.Goals as goal
 
 pub returns-in_err-at : goal.returns-in_err-at
-returns-in_err-at g c =
-    record {
-      ok = search rules;
-      cut = when_err _ (cut_before _ _ _ _ c.in_err-at.ensures.cut);
-      failed = search rules;
-    }
+returns-in_err-at g c = writes_cut _ _ _ _ _ c.from_residual.ensures.0 c.in_err-at.ensures.failed (cut_before _ _ _ _ c.in_err-at.ensures.cut)
 
 pub put_number-newline-requires : goal.put_number-newline-requires
 put_number-newline-requires g c =
-    let few = length-decimal-le 20 c.args.count (omega arith) (omega arith) (omega arith) in
-    let next = c.put_text-number.ensures.next_is in let left = c.in_ok-at.ensures.fits in let room = c.requires.room in
-    omega arith
+    omega (arith, length-decimal-le 20 c.args.count (omega arith) (omega arith) (omega arith), c.in_ok-at.ensures.fits)
 
 pub put_text-end-requires : goal.put_text-end-requires
 put_text-end-requires g c =
-    let few = length-decimal-le 20 c.args.count (omega arith) (omega arith) (omega arith) in
-    let first = c.put_text-number.ensures.next_is in let second = c.put_number-newline.ensures.next_is in
-    let left = c.in_ok-at.ensures.fits in let room = c.requires.room in
-    omega arith
+    omega (arith, length-decimal-le 20 c.args.count (omega arith) (omega arith) (omega arith), c.in_ok-at.ensures.fits)
 
 pub returns : goal.returns
 returns g c =

@@ -1,29 +1,14 @@
-use Rattle.std.proofs.lemmas.Grind.{common_steps}
-use Rattle.std.proofs.Common.{arith, rules}
-use Rattle.std.proofs.lemmas.Result.{on_err_weaker}
-use Rattle.art_lines.proofs.Cuts.{cut_before, cut_behind, when_err}
+use Rattle.std.proofs.Common.{refl}
+use Rattle.art_lines.proofs.Cuts.{cut_before, cut_behind, writes_cut, writes_then}
 use Rattle.art_lines.proofs.reply.write_behind.Goals as goal
 
 pub returns-in_err-write_piece : goal.returns-in_err-write_piece
-returns-in_err-write_piece g c =
-    record {
-      ok = search rules;
-      cut = when_err _ (cut_before _ _ _ _ c.in_err-write_piece.ensures.cut);
-      failed = search rules;
-    }
+returns-in_err-write_piece g c = writes_cut _ _ _ _ _ c.from_residual.ensures.0 c.in_err-write_piece.ensures.failed (cut_before _ _ _ _ c.in_err-write_piece.ensures.cut)
 
 pub returns-in_err-write_bytes : goal.returns-in_err-write_bytes
 returns-in_err-write_bytes g c =
-    record {
-      ok = search rules;
-      cut = when_err _ (cut_behind _ _ _ _ _ c.in_ok-write_piece.ensures.ok (cut_before _ _ _ _ c.in_err-write_bytes.ensures.cut));
-      failed = search rules;
-    }
+    writes_cut _ _ _ _ _ c.from_residual-in_err-write_bytes.ensures.0 c.in_err-write_bytes.ensures.failed
+    (cut_behind _ _ _ _ _ c.in_ok-write_piece.ensures.ok (cut_before _ _ _ _ c.in_err-write_bytes.ensures.cut))
 
 pub returns : goal.returns
-returns g c =
-    record {
-      ok = grind (arith, common_steps);
-      cut = on_err_weaker c.write_piece-2.result (λ cut. cut_behind _ _ _ _ _ c.in_ok-write_piece.ensures.ok (cut_behind _ _ _ _ _ c.in_ok-write_bytes.ensures.ok cut)) c.write_piece-2.ensures.cut;
-      failed = search rules;
-    }
+returns g c = writes_then _ _ _ _ _ _ _ _ c.in_ok-write_piece.ensures.ok refl (writes_then _ _ _ _ _ _ _ _ c.in_ok-write_bytes.ensures.ok refl c.write_piece-2.ensures)

@@ -1,7 +1,7 @@
 use Rattle.std.proofs.Common.{rules, ◌≡◌, ◌<◌, length, arith, ◌∙◌, ap, sym}
 use Rattle.std.proofs.lemmas.Bool.{eqb-true, eqb-false}
 use Rattle.hex.specs.Hex.{encode_lower}
-use Rattle.art_lines.proofs.Cuts.{taken_none, taken_more, taken_all, taken_cut, taken_from, when_err}
+use Rattle.art_lines.proofs.Cuts.{taken_none, taken_more, taken_all, taken_cut, taken_from, writes_cut}
 use Rattle.art_lines.proofs.HexText.{encode_lower-parts, encode_lower-nil, shown-bytes, length_nil}
 use Rattle.art_lines.proofs.reply.write_bytes.Goals as goal
 
@@ -21,11 +21,8 @@ loop-rest-preserved g c =
 pub returns-in_err-write_part : goal.returns-in_err-write_part
 returns-in_err-write_part g c =
     let parts = encode_lower-parts c.min.result c.loop-rest.rest.now c.split_at.result.0.now c.split_at.result.1.now c.split_at.ensures.front c.split_at.ensures.back in
-    record {
-      ok = search rules;
-      cut = when_err _ (taken_cut _ _ _ _ _ _ (taken_from _ _ _ _ _ parts c.loop-rest.invariant.taken) c.in_err-write_part.ensures.cut);
-      failed = search rules;
-    }
+    writes_cut _ _ _ _ _ c.from_residual.ensures.0 c.in_err-write_part.ensures.failed
+    (taken_cut _ _ _ _ _ _ (taken_from _ _ _ _ _ parts c.loop-rest.invariant.taken) c.in_err-write_part.ensures.cut)
 
 pub returns : goal.returns
 returns g c =

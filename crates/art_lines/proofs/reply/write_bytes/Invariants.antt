@@ -1,7 +1,6 @@
 use Rattle.std.proofs.Common.{◌≡◌, length, false}
 use Rattle.hex.specs.Hex.{encode_lower}
-use Rattle.art_lines.specs.Words.{shown, bytes}
-use Rattle.art_lines.specs.Gathered.{IsPartTaken}
+use Rattle.art_lines.proofs.Terms.{shown, bytes, IsPartTaken}
 use Rattle.art_lines.proofs.reply.write_bytes.Given as goal
 
 -- what is taken so far, and the digits of the rest

@@ -1,5 +1,5 @@
 use Rattle.std.proofs.Common.{◌≡◌, length, false}
-use Rattle.art_lines.specs.Gathered.{IsPartTaken}
+use Rattle.art_lines.proofs.Terms.{IsPartTaken}
 use Rattle.art_lines.proofs.reply.write_piece.Given as goal
 
 -- what is taken so far, and the rest

@@ -1,6 +1,6 @@
 use Rattle.std.proofs.Common.{◌≡◌, ◌%◌, ◌-◌, ◌≤◌, length, take}
 use Rattle.hex.specs.Hex.{encode_lower}
-use Rattle.art_lines.specs.Gathered.{Puts}
+use Rattle.art_lines.proofs.Terms.{Puts}
 use Rattle.art_lines.proofs.room.put_eights.Given as goal
 
 -- the digits of the bytes so far

@@ -143,10 +143,8 @@ impl<'a, K: AsBytes, V, const PREFIX_LEN: usize> OccupiedEntry<'a, K, V, PREFIX_
         ensures shrinks { OnErr result (Shrinks (key_of K.bytes) self.entry.map.now.pairs
             (K.bytes (entry_key (Occupied self.entry)))) }
     {
-        match self.remove_entry() {
-            Ok((_key, value)) => Ok(value),
-            Err(refused) => Err(refused),
-        }
+        let (_key, value) = self.remove_entry()?;
+        Ok(value)
     }
 
     /// Removes the pair from the map, and returns it.

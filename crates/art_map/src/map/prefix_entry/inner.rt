@@ -92,13 +92,9 @@ impl<'a, K: AsBytes, V, const PREFIX_LEN: usize> InnerOccupiedEntry<'a, K, V, PR
         ensures* writes_back { sem 𝓛 (lends_lone K.row V.row PREFIX_LEN K.AsBytes self.entry result) }
         ensures value { option_copied_mut result ≡ option_value (lone_item (removed_pairs K.bytes self.old)) }
     {
-        match self.map.lone_over(self.key.as_bytes()) {
-            Some(leaf) => {
-                let (_key, value) = self.map.pair_mut_at(leaf);
-                Some(value)
-            }
-            None => None,
-        }
+        let leaf = self.map.lone_over(self.key.as_bytes())?;
+        let (_key, value) = self.map.pair_mut_at(leaf);
+        Some(value)
     }
 
     /// Returns the pair that an insertion would remove, if it is one alone: its stored key, and its value for writing.

@@ -89,12 +89,8 @@ impl<'a, K: AsBytes, V, const PREFIX_LEN: usize> LonePairMut<'a, K, V, PREFIX_LE
         ensures* writes_back { sem 𝓛 (lends_shown_value K.row V.row PREFIX_LEN K.AsBytes self.entry result) }
         ensures value { option_copied_mut result ≡ option_value (shown_pair self.old) }
     {
-        match self.leaf {
-            Some(leaf) => {
-                let (_key, value) = self.map.pair_mut_at(leaf);
-                Some(value)
-            }
-            None => None,
-        }
+        let leaf = self.leaf?;
+        let (_key, value) = self.map.pair_mut_at(leaf);
+        Some(value)
     }
 }

@@ -1,5 +1,5 @@
 use Rattle.std.proofs.Common.{length, ◌-◌, ◌≡◌, ◌+◌, ◌≤◌, drop}
-use Rattle.art_nodes.specs.inner.Place.{place}
+use Rattle.art_nodes.proofs.Terms.{place}
 use Rattle.art_nodes.proofs.child_iter.place_of.Given as goal
 
 abbrev pub invariant-loop-at : goal.invariant-loop-at

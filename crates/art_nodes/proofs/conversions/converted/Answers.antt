@@ -1,6 +1,5 @@
 use Rattle.std.proofs.Common.{◌≡◌, ◌++◌, ◌∷◌, [], ℕ, List, ap, ◌∙◌, refl, append_assoc}
-use Rattle.art_nodes.specs.InnerNode.{InnerNode, IsAscendingFrom}
-use Rattle.art_nodes.specs.Name.{Name}
+use Rattle.art_nodes.proofs.Terms.{InnerNode, IsAscendingFrom, Name}
 use Rattle.art_nodes.proofs.ChildLemmas.{with_child-behind}
 use Rattle.art_nodes.proofs.conversions.converted.Goals as goal
 

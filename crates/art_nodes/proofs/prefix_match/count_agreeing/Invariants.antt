@@ -1,5 +1,5 @@
 use Rattle.std.proofs.Common.{length, ◌-◌, ◌≡◌, ◌+◌, ◌≤◌, drop}
-use Rattle.art_nodes.specs.PrefixMatch.{agreeing}
+use Rattle.art_nodes.proofs.Terms.{agreeing}
 use Rattle.art_nodes.proofs.prefix_match.count_agreeing.Given as goal
 
 abbrev pub invariant-bytes : goal.invariant-bytes

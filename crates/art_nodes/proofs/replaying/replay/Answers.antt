@@ -1,6 +1,6 @@
 use Rattle.std.proofs.Common.{rules, ◌≡◌, ◌+◌, [], ◌∷◌, ◌++◌, ◌∙◌, take, ap, sym, arith}
 use Rattle.std.proofs.lemmas.List.{take_more}
-use Rattle.art_nodes.specs.Replay.{IsChildAnswer, children_after}
+use Rattle.art_nodes.proofs.Terms.{IsChildAnswer, children_after}
 use Rattle.art_nodes.specs.inner.Replayed.{replayed_children}
 use Rattle.art_nodes.proofs.ReplayLemmas.{replayed_one_more}
 use Rattle.art_nodes.proofs.replaying.replay.Goals as goal

@@ -1,5 +1,5 @@
 use Rattle.std.proofs.Common.{◌≡◌, [], take}
-use Rattle.art_nodes.specs.Replay.{AreChildAnswers}
+use Rattle.art_nodes.proofs.Terms.{AreChildAnswers}
 use Rattle.art_nodes.specs.inner.Replayed.{replayed_children}
 use Rattle.art_nodes.proofs.ReplayLemmas.{children_after_all}
 use Rattle.art_nodes.proofs.replaying.replay.Given as goal

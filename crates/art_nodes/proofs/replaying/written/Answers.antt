@@ -1,6 +1,5 @@
 use Rattle.std.proofs.Common.{rules, ◌≡◌, None, length, ap, ◌∙◌, inl, arith}
-use Rattle.art_nodes.specs.InnerNode.{child_at, IsAscending}
-use Rattle.art_nodes.specs.Kind.{row_of}
+use Rattle.art_nodes.proofs.Terms.{child_at, IsAscending, row_of}
 use Rattle.art_nodes.proofs.ReplayLemmas.{isn't_largest, room_when_grown}
 use Rattle.art_nodes.proofs.replaying.written.Goals as goal
 

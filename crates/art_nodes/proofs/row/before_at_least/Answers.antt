@@ -1,6 +1,6 @@
 use Rattle.std.proofs.Common.{◌≡◌, ℕ, List, leb, min, take, w8, w64, arith, ap, ◌∙◌}
 use Rattle.std.specs.Int.{trailing_zeros}
-use Rattle.art_nodes.specs.inner.Place.{place}
+use Rattle.art_nodes.proofs.Terms.{place}
 use Rattle.std.proofs.lemmas.Simd.{length-chunk}
 use Rattle.std.proofs.lemmas.List.{take_all}
 use lib.Lanes.{chunk}

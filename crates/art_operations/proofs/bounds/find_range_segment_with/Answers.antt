@@ -2,12 +2,8 @@ use Rattle.std.proofs.Common.{ℕ, List, false, true, None, Some, IsSome, ◌≡
 use Rattle.std.specs.BTreeMap.Range.{is_past_end}
 use Rattle.std.specs.Range.Bound.{bound_map}
 use Rattle.std.specs.declared.ops.Bound.{Bound}
-use Rattle.art_bytes.specs.Keys.{bytes_cmp}
-use Rattle.art_arena.specs.arena.Arena.{held_at, leaf_held, links_at}
-use Rattle.art_arena.specs.arena.Cells.{leaf_name}
-use Rattle.art_arena.specs.arena.Linked.{AreLinked}
-use Rattle.art_arena.specs.arena.Shapes.{leaves}
-use Rattle.art_arena.specs.arena.Stores.{Stores}
+use Rattle.art_bytes.proofs.Common.{bytes_cmp}
+use Rattle.art_arena.proofs.Common.{held_at, leaf_held, links_at, leaf_name, AreLinked, leaves, Stores}
 use Rattle.art_operations.proofs.Points.{stored_is}
 use Rattle.art_operations.proofs.RangeEnds.{ends-between, first-from, first-held, has-last, key-read, none-between, none-from}
 use Rattle.art_operations.proofs.bounds.find_range_segment_with.Goals as goal
@@ -72,15 +68,3 @@ pub returns-in-None-find_leaf_pointer_for_bound_with-clause-few : goal.returns-i
 returns-in-None-find_leaf_pointer_for_bound_with-clause-few g c = λ s stores longest short.
     let there = subst (λ a. Stores g.K.AsBytes.bytes g.row.PREFIX_LEN a c.args.root s) (sym (c.visit_leaf.ensures.kept ∙ c.in-Some.ensures.kept)) stores in
     omega (arith, c.in-Some.ensures.few s stores longest short, c.visit_leaf.ensures.counts, c.in-None-find_leaf_pointer_for_bound_with.ensures.few s there longest short)
-
-pub returns-in-None-clause-least : goal.returns-in-None-clause-least
-returns-in-None-clause-least g c = omega (arith, c.in-None.ensures.least)
-
-pub returns-then-is_past-clause-least : goal.returns-then-is_past-clause-least
-returns-then-is_past-clause-least g c = omega (arith, c.in-Some.ensures.least, c.visit_leaf.ensures.counts)
-
-pub returns-in-Some-find_leaf_pointer_for_bound_with-clause-least : goal.returns-in-Some-find_leaf_pointer_for_bound_with-clause-least
-returns-in-Some-find_leaf_pointer_for_bound_with-clause-least g c = omega (arith, c.in-Some.ensures.least, c.visit_leaf.ensures.counts, c.in-Some-find_leaf_pointer_for_bound_with.ensures.least)
-
-pub returns-in-None-find_leaf_pointer_for_bound_with-clause-least : goal.returns-in-None-find_leaf_pointer_for_bound_with-clause-least
-returns-in-None-find_leaf_pointer_for_bound_with-clause-least g c = omega (arith, c.in-Some.ensures.least, c.visit_leaf.ensures.counts, c.in-None-find_leaf_pointer_for_bound_with.ensures.least)

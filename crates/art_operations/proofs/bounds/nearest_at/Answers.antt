@@ -1,13 +1,6 @@
 use Rattle.std.proofs.Common.{ap, subst, sym, arith}
-use Rattle.art_arena.specs.arena.Arena.{node_at}
-use Rattle.art_arena.specs.arena.Cells.{leaf_name}
-use Rattle.art_arena.specs.arena.Context.{path_to}
-use Rattle.art_arena.specs.arena.Meaning.{IsSubtree}
-use Rattle.art_arena.specs.arena.Shapes.{name_of, leaves}
-use Rattle.art_arena.specs.arena.Reads.{KeysWithin}
-use Rattle.art_arena.proofs.shapes.Reads.{part_within}
-use Rattle.art_operations.specs.Points.{MeetsAt}
-use Rattle.art_operations.specs.inner.Nearest.{IsNearest}
+use Rattle.art_arena.proofs.Common.{node_at, leaf_name, path_to, IsSubtree, name_of, leaves, KeysWithin, part_within}
+use Rattle.art_operations.proofs.Terms.{MeetsAt, IsNearest}
 use Rattle.art_operations.proofs.Nearest.{leaf_held_there, nearest_in, nearest_lone, point_subtree, told_of}
 use Rattle.art_operations.proofs.bounds.nearest_at.Goals as goal
 
@@ -84,9 +77,3 @@ returns-in-IntoExisting-clause-few g c = λ s stores at longest short.
     let sub = point_subtree g.K.AsBytes.bytes g.row.PREFIX_LEN c.args.reader.now.arena.now c.args.key.now c.args.root c.in-IntoExisting.inner_node_ptr s c.args.point stores at (ap name_of meets.2) in
     c.nearest_child.ensures.few (path_to at.ctx) meets.0 meets.1 (subst (IsSubtree g.K.AsBytes.bytes g.row.PREFIX_LEN (node_at c.args.reader.now.arena.now) c.in-IntoExisting.inner_node_ptr (path_to at.ctx)) meets.2 sub) meets.3
     longest (subst (λ t. KeysWithin g.K.AsBytes.bytes longest (leaves t)) meets.2 (part_within g.K.AsBytes.bytes longest s at.ctx at.part at.toward.place.is short))
-
-pub returns-in-Exact-clause-least : goal.returns-in-Exact-clause-least
-returns-in-Exact-clause-least g c = omega (arith, c.visit_leaf.ensures.counts)
-
-pub returns-in-SplitLeaf-clause-least : goal.returns-in-SplitLeaf-clause-least
-returns-in-SplitLeaf-clause-least g c = omega (arith, c.visit_leaf-in-SplitLeaf.ensures.counts)

@@ -1,11 +1,8 @@
 use Rattle.std.proofs.Common.{[], ◌∷◌, ◌++◌, sym, subst, ◌∙◌, arith}
 use Rattle.std.specs.declared.ops.Bound.TheVariants.{Excluded, Unbounded}
-use Rattle.art_nodes.specs.InnerNode.{first_child, children_between}
-use Rattle.art_arena.specs.arena.Arena.{node_at}
-use Rattle.art_arena.specs.arena.Meaning.{IsSubtree}
-use Rattle.art_arena.specs.arena.Shapes.{inner_at}
+use Rattle.art_nodes.proofs.Common.{first_child, children_between}
+use Rattle.art_arena.proofs.Common.{node_at, IsSubtree, inner_at, root_held, subtree-branch}
 use Rattle.art_arena.proofs.shapes.EndWalks.{within_branch}
-use Rattle.art_arena.proofs.shapes.Subtrees.{root_held, subtree-branch}
 use Rattle.art_operations.proofs.Door.{read_at}
 use Rattle.art_operations.proofs.Nearest.{child_after, no_child_after}
 use Rattle.art_operations.proofs.bounds.nearest_child.Goals as goal
@@ -47,9 +44,3 @@ pub maximum_with-requires : goal.maximum_with-requires
 maximum_with-requires g c =
     let r = c.requires in
     (omega arith, (r.0, inner_at c.args.node r.1 r.2, subst (λ a. IsSubtree g.K.AsBytes.bytes g.row.PREFIX_LEN (node_at a) c.args.node r.0 (inner_at c.args.node r.1 r.2)) (sym c.visit_inner.ensures.kept) r.3))
-
-pub returns-in-Some-clause-least : goal.returns-in-Some-clause-least
-returns-in-Some-clause-least g c = omega (arith, c.minimum_with.ensures.least, c.visit_inner.ensures.counts)
-
-pub returns-in-None-clause-least : goal.returns-in-None-clause-least
-returns-in-None-clause-least g c = omega (arith, c.maximum_with.ensures.least, c.visit_inner.ensures.counts)

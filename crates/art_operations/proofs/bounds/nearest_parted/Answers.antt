@@ -11,9 +11,3 @@ pub returns-clause-nearest : goal.returns-clause-nearest
 returns-clause-nearest g c = λ key path prefix kids sub on part.
     let upto : c.args.parted.old_byte ≤ c.args.parted.new_byte = let h = c.if-parted.false in omega (arith, h) in
     parted_before g.K.AsBytes.bytes key path prefix kids c.args.parted on c.args.node sub.under part _ upto (c.maximum_with.ensures.value path _ sub)
-
-pub returns-then-parted-clause-few : goal.returns-then-parted-clause-few
-returns-then-parted-clause-few g c = c.minimum_with.ensures.few
-
-pub returns-clause-few : goal.returns-clause-few
-returns-clause-few g c = c.maximum_with.ensures.few

@@ -1,12 +1,8 @@
 use Rattle.std.proofs.Common.{ap, subst, sym, refl, ◌∙◌, arith, None}
-use Rattle.art_arena.specs.arena.Arena.{node_at}
-use Rattle.art_arena.specs.arena.Meaning.{IsSubtree}
+use Rattle.art_arena.proofs.Common.{node_at, IsSubtree, first_slot, last_slot, passing, begins_with, begins_of}
 use Rattle.art_operations.proofs.Points.{stored_is}
-use Rattle.art_arena.specs.arena.Linked.{first_slot, last_slot}
-use Rattle.art_arena.specs.arena.Descents.{passing}
-use Rattle.art_arena.specs.tree.Tenants.{begins_with}
-use Rattle.art_arena.proofs.shapes.Prefixes.{begins_of, begins_not}
-use Rattle.art_operations.specs.Points.{AllConflict}
+use Rattle.art_arena.proofs.shapes.Prefixes.{begins_not}
+use Rattle.art_operations.proofs.Terms.{AllConflict}
 use Rattle.art_operations.proofs.Nearest.{first_of_part}
 use Rattle.art_operations.proofs.Segments.{begin_all, begin_none}
 use Rattle.art_operations.proofs.bounds.segment_at.Goals as goal
@@ -49,6 +45,3 @@ returns-then-starts_with-clause-all g c = λ path s sub conflicts.
     let begins = begins_of c.starts_with.result _ (g.K.AsBytes.bytes first.first.key) _ c.args.prefix.now stored refl c.starts_with.ensures.value c.if-starts_with.true in
     let all = begin_all g.K.AsBytes.bytes c.args.prefix.now first.first first.others (subst (AllConflict g.K.AsBytes.bytes c.args.prefix.now) first.are conflicts) first.before begins in
     ap (passing g.K.AsBytes.bytes (λ k. begins_with c.args.prefix.now k)) first.are ∙ all ∙ sym first.are
-
-pub returns-then-starts_with-clause-least : goal.returns-then-starts_with-clause-least
-returns-then-starts_with-clause-least g c = omega (arith, c.end_leaf_with-first.ensures.least, c.maximum_with.ensures.least)

@@ -1,6 +1,5 @@
 use Rattle.std.proofs.Common.{[], arith}
-use Rattle.art_arena.specs.arena.Arena.{node_at}
-use Rattle.art_arena.proofs.shapes.Meanings.{nodes-subtree}
+use Rattle.art_arena.proofs.Common.{node_at, nodes-subtree}
 use Rattle.art_operations.proofs.ClonedTrees.{cloned-tree}
 use Rattle.art_operations.proofs.clone.clone_unchecked.Goals as goal
 

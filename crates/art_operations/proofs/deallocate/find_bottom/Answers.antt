@@ -1,12 +1,12 @@
-use Rattle.std.proofs.Common.{◌≢◌, sym, ◌∙◌, refl, lit<}
+use Rattle.std.proofs.Common.{◌≢◌, [], sym, ◌∙◌, refl, lit<}
+use Rattle.art_nodes.proofs.Common.{first_child}
 use Rattle.art_nodes.specs.declared.kind.NodeType.TheVariants.{Leaf}
-use Rattle.art_nodes.specs.InnerNode.{first_child}
 use Rattle.art_operations.proofs.Door.{read_at}
-use Rattle.art_operations.proofs.FreeSteps.{first-start, first-step}
+use Rattle.art_operations.proofs.FreeSteps.{first-step}
 use Rattle.art_operations.proofs.deallocate.find_bottom.Goals as goal
 
 pub down-init : goal.down-init
-down-init g c = λ w s rest part. first-start g.row.PREFIX_LEN w c.args.arena.now c.args.root s rest part
+down-init g c = λ w s rest part. record { ctx = []; part = s; whole = refl; first = tt; holds = part; place_is = refl }
 
 pub down-smaller : goal.down-smaller
 down-smaller g c =

@@ -1,8 +1,7 @@
 use Rattle.std.proofs.Common.{Bool, List}
-use Rattle.art_nodes.specs.Name.{Name}
-use Rattle.art_arena.specs.arena.Cells.{Cell}
-use Rattle.art_arena.specs.arena.Shapes.{Shape}
-use Rattle.art_operations.specs.inner.Freeing.{HoldsPart}
+use Rattle.art_nodes.proofs.Common.{Name}
+use Rattle.art_arena.proofs.Common.{Cell, Shape}
+use Rattle.art_operations.proofs.Terms.{HoldsPart}
 use Rattle.art_operations.proofs.FreedSizes.{size_of}
 use Rattle.art_operations.proofs.FreeSteps.{OnFirst}
 use Rattle.art_operations.proofs.deallocate.find_bottom.Given as goal

@@ -1,5 +1,5 @@
 use Rattle.std.proofs.Common.{lit<}
-use Rattle.art_operations.proofs.FreedAll.{left-start, left-step, left-end, counts_all}
+use Rattle.art_operations.proofs.FreedAll.{left-start, left-step, left-end}
 use Rattle.art_operations.proofs.deallocate.free_nodes.Goals as goal
 
 pub free-init : goal.free-init
@@ -25,14 +25,6 @@ free-preserved g c = record {
   left = λ s rest part. let left = c.free.invariant.left s rest part in (left-step g.row.PREFIX_LEN c.args.with_leaves c.args.arena.now c.free.arena c.free_one.new.arena s c.free.current c.in-Some.left.root _ _ rest left c.saturating_add-count.ensures (c.in-Some.ensures.freed left.part rest left.holds) (c.free_one.ensures.kept left.part rest left.holds)).0;
   room = λ n room. c.free_one.ensures.room n (c.free.invariant.room n room);
 }
-
-pub returns-in-None-clause-freed : goal.returns-in-None-clause-freed
-returns-in-None-clause-freed g c = λ s rest part. let left = c.free.invariant.left s rest part in (c.in-None.ensures.freed left.part rest left.holds).1
-
-pub returns-in-None-clause-value : goal.returns-in-None-clause-value
-returns-in-None-clause-value g c = λ s rest part.
-    let left = c.free.invariant.left s rest part in
-    counts_all _ _ _ _ (c.in-None.ensures.freed left.part rest left.holds).0 left.fewer left.counted c.saturating_add-count.ensures
 
 pub returns-in-None-clause-kept : goal.returns-in-None-clause-kept
 returns-in-None-clause-kept g c = λ s rest part.

@@ -1,9 +1,7 @@
 use Rattle.std.proofs.Common.{List}
-use Rattle.art_nodes.specs.Name.{Name}
-use Rattle.art_arena.specs.arena.Arena.{KeepsRoom}
-use Rattle.art_arena.specs.arena.Cells.{Cell}
-use Rattle.art_arena.specs.arena.Shapes.{Shape}
-use Rattle.art_operations.specs.inner.Freeing.{HoldsPart}
+use Rattle.art_nodes.proofs.Common.{Name}
+use Rattle.art_arena.proofs.Common.{KeepsRoom, Cell, Shape}
+use Rattle.art_operations.proofs.Terms.{HoldsPart}
 use Rattle.art_operations.proofs.FreedSizes.{size_of}
 use Rattle.art_operations.proofs.FreedAll.{IsLeft}
 use Rattle.art_operations.proofs.deallocate.free_nodes.Given as goal

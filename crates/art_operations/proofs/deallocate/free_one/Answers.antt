@@ -1,7 +1,7 @@
 use Rattle.std.proofs.Common.{◌≢◌, refl, sym, ap, ◌∙◌, length, lit<}
+use Rattle.art_nodes.proofs.Common.{IsAscending}
 use Rattle.art_nodes.specs.declared.kind.NodeType.TheVariants.{Leaf}
-use Rattle.art_nodes.specs.InnerNode.{IsAscending}
-use Rattle.art_operations.specs.inner.Freeing.{IsChildIn}
+use Rattle.art_operations.proofs.Terms.{IsChildIn}
 use Rattle.art_operations.proofs.Door.{read_at, so_at}
 use Rattle.art_operations.proofs.FreeSteps.{part-inner, node_in}
 use Rattle.art_operations.proofs.FreedOne.{leaf-childless, inner-childless, freed-childless, freed-single, lessened, taken, taken-out, freed-child, kept-child}

@@ -1,11 +1,11 @@
-use Rattle.std.proofs.Common.{sym, ◌∙◌, lit<}
-use Rattle.art_nodes.proofs.ChildLemmas.{is_true-eq}
-use Rattle.art_operations.proofs.FreedRuns.{run-start, run-held, run-less, run-over, run-next, run-goes-on, run-end}
+use Rattle.std.proofs.Common.{refl, sym, ◌∙◌, lit<, arith}
+use Rattle.art_nodes.proofs.Common.{is_true-eq}
+use Rattle.art_operations.proofs.FreedRuns.{run-held, run-less, run-over, run-next, run-goes-on, run-end}
 use Rattle.art_operations.proofs.deallocate.free_run.Goals as goal
 
 pub run-init : goal.run-init
 run-init g c = record {
-  left = λ ls rest run. run-start c.args.arena.now ls c.args.first c.args.last rest run;
+  left = λ ls rest run. record { left = ls; run = run; names = λ n. omega arith; kept = λ n none. refl };
   room = λ n room. room;
 }
 

@@ -1,9 +1,7 @@
 use Rattle.std.proofs.Common.{List}
-use Rattle.art_nodes.specs.Name.{Name}
-use Rattle.art_arena.specs.arena.Arena.{KeepsRoom, leaves_held}
-use Rattle.art_arena.specs.arena.Cells.{Cell}
-use Rattle.art_arena.specs.arena.Shapes.{LeafAt}
-use Rattle.art_operations.specs.Frees.{HoldsRun}
+use Rattle.art_nodes.proofs.Common.{Name}
+use Rattle.art_arena.proofs.Common.{KeepsRoom, leaves_held, Cell, LeafAt}
+use Rattle.art_operations.proofs.Terms.{HoldsRun}
 use Rattle.art_operations.proofs.FreedRuns.{IsRunLeft}
 use Rattle.art_operations.proofs.deallocate.free_run.Given as goal
 

@@ -1,5 +1,6 @@
-use Rattle.std.proofs.Common.{lit<, arith}
-use Rattle.art_operations.proofs.FreedAll.{all-part, all-kept, leaves-gone}
+use Rattle.std.proofs.Common.{ap, ◌∙◌, lit<, arith}
+use Rattle.art_arena.proofs.Common.{copies}
+use Rattle.art_operations.proofs.FreedAll.{all-part, leaves-gone, with_all}
 use Rattle.art_operations.proofs.deallocate.free_tree.Goals as goal
 
 pub free_nodes-nodes-requires : goal.free_nodes-nodes-requires
@@ -25,7 +26,7 @@ returns-clause-leaves g c = λ s rest beside.
 
 pub returns-clause-kept : goal.returns-clause-kept
 returns-clause-kept g c = λ s rest beside.
-    all-kept g.row.PREFIX_LEN c.args.arena.now c.free_nodes-nodes.new.arena s (c.free_nodes-nodes.ensures.kept s rest (all-part g.row.PREFIX_LEN c.args.arena.now c.args.root s rest beside))
+    λ k none. c.free_nodes-nodes.ensures.kept s rest (all-part g.row.PREFIX_LEN c.args.arena.now c.args.root s rest beside) k (ap (copies k) (with_all g.row.PREFIX_LEN s) ∙ none)
 
 pub returns-clause-nodes : goal.returns-clause-nodes
 returns-clause-nodes g c = λ s rest beside. c.free_nodes-nodes.ensures.value s rest (all-part g.row.PREFIX_LEN c.args.arena.now c.args.root s rest beside)

@@ -1,8 +1,5 @@
 use Rattle.std.proofs.Common.{◌≡◌, ℕ, Bool, List, [], ◌∷◌, length, Option, Some, refl, ap, ◌∙◌}
-use Rattle.art_arena.specs.tree.Fronts.{fronts_with}
-use Rattle.art_arena.specs.tree.Trees.{Tree, items, IsCanonical}
-use Rattle.art_arena.proofs.tree.Exists.{tree_of_ascending}
-use Rattle.art_arena.proofs.tree.Fronts.{kinds_are_fronts}
+use Rattle.art_arena.proofs.Common.{fronts_with, Tree, items, IsCanonical, tree_of_ascending, kinds_are_fronts}
 use Rattle.art_operations.specs.Laws.{CountsAreFrontsOfPairs, inner_count, leaf_count}
 use Rattle.art_operations.proofs.laws.counts_are_fronts_of_pairs.Goals as goal
 

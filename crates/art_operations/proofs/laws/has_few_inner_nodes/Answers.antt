@@ -1,6 +1,5 @@
 use Rattle.std.proofs.Common.{◌≡◌, ℕ, ◌-◌, ◌≤◌, Bool, List, [], ◌∷◌, length, Option, Some, ap, arith}
-use Rattle.art_arena.specs.tree.Trees.{Tree, items, IsCanonical}
-use Rattle.art_arena.proofs.tree.Exists.{tree_of_ascending}
+use Rattle.art_arena.proofs.Common.{Tree, items, IsCanonical, tree_of_ascending}
 use Rattle.art_arena.proofs.tree.Sizes.{few_nodes}
 use Rattle.art_operations.specs.Laws.{HasFewInnerNodes, inner_count}
 use Rattle.art_operations.proofs.laws.has_few_inner_nodes.Goals as goal

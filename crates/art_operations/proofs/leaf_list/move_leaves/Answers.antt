@@ -1,6 +1,6 @@
-use Rattle.std.proofs.Common.{◌-◌, subst, arith}
+use Rattle.std.proofs.Common.{subst, arith}
 use Rattle.art_nodes.specs.declared.kind.NodeType.TheVariants.{Leaf}
-use Rattle.art_arena.specs.arena.Arena.{HasRoomOf}
+use Rattle.art_arena.proofs.Common.{HasRoomOf}
 use Rattle.art_operations.proofs.LeafListsMoved.{none-moved, one-more}
 use Rattle.art_operations.proofs.leaf_list.move_leaves.Goals as goal
 

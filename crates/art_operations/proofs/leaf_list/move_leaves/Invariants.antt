@@ -1,8 +1,7 @@
 use Rattle.std.proofs.Common.{◌-◌, List, []}
 use Rattle.art_nodes.specs.declared.kind.NodeType.TheVariants.{Leaf}
-use Rattle.art_arena.specs.arena.Arena.{HasRoomOf, KeepsRoomOf}
-use Rattle.art_arena.specs.arena.Shapes.{LeafAt}
-use Rattle.art_operations.specs.LeafCursors.{KeepsCells, KeepsInnerRoom, StandsBetween}
+use Rattle.art_arena.proofs.Common.{HasRoomOf, KeepsRoomOf, LeafAt}
+use Rattle.art_operations.proofs.Terms.{KeepsCells, KeepsInnerRoom, StandsBetween}
 use Rattle.art_operations.proofs.LeafListsMoved.{AreMoved}
 use Rattle.art_operations.proofs.leaf_list.move_leaves.Given as goal
 

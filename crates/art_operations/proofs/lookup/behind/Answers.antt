@@ -1,6 +1,6 @@
 use Rattle.std.proofs.Common.{length, sym, ◌∙◌, arith}
 use Rattle.std.proofs.lemmas.List.{drop_all}
-use Rattle.art_arena.proofs.shapes.Prefixes.{tail}
+use Rattle.art_arena.proofs.Common.{tail}
 use Rattle.art_operations.proofs.lookup.behind.Goals as goal
 
 pub returns-then-depth-bytes : goal.returns-then-depth-bytes

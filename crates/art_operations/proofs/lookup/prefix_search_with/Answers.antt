@@ -1,10 +1,7 @@
 use Rattle.std.proofs.Common.{ap, refl, ◌∙◌}
 use Rattle.std.proofs.lemmas.Bool.{false_from_ne_true}
-use Rattle.art_arena.specs.tree.Tenants.{begins_with}
-use Rattle.art_arena.proofs.shapes.FoundLeaves.{takes_front, leaf_passes, leaf_fails, misses}
-use Rattle.art_arena.proofs.tree.Parts.{begins_same}
-use Rattle.art_arena.proofs.shapes.Prefixes.{begins_of, begins_not}
-use Rattle.art_arena.proofs.tree.Tenants.{begins_true}
+use Rattle.art_arena.proofs.Common.{begins_with, takes_front, leaf_passes, leaf_fails, misses, begins_same, begins_of, begins_true}
+use Rattle.art_arena.proofs.shapes.Prefixes.{begins_not}
 use Rattle.art_operations.proofs.lookup.prefix_search_with.Goals as goal
 
 pub returns-then-starts_with-clause-value : goal.returns-then-starts_with-clause-value

@@ -1,6 +1,5 @@
 use Rattle.std.proofs.Common.{sym, ◌∙◌, true, false, ◌≡◌}
-use Rattle.art_arena.proofs.shapes.Finding.{same_key, other_key}
-use Rattle.art_arena.proofs.shapes.FoundLeaves.{takes_equal, leaf_passes, leaf_fails, misses}
+use Rattle.art_arena.proofs.Common.{same_key, other_key, takes_equal, leaf_passes, leaf_fails, misses}
 use Rattle.art_operations.proofs.lookup.search_with.Goals as goal
 
 pub returns-then-compare_full_key-clause-value : goal.returns-then-compare_full_key-clause-value

@@ -21,9 +21,3 @@ returns-in-None-clause-placed g c pairs rest has =
 
 pub returns-in-Ok-clause-place : goal.returns-in-Ok-clause-place
 returns-in-Ok-clause-place g c = rw c.in-Some.is (λ s tree. ∣ (c.in-Ok.ensures.answer s tree).0 ∣₁)
-
-pub returns-in-None-clause-place : goal.returns-in-None-clause-place
-returns-in-None-clause-place g c = rw c.in-None.is tt
-
-pub returns-in-Err-clause-part : goal.returns-in-Err-clause-part
-returns-in-Err-clause-part g c = rw c.in-Some.is c.in-Err.ensures.part

@@ -1,12 +1,7 @@
 use Rattle.std.proofs.Common.{◌+◌, ℕ, List, Some, refl, ap, ◌∙◌, arith}
-use Rattle.art_arena.specs.arena.Arena.{node_at}
-use Rattle.art_arena.specs.arena.Context.{path_to}
-use Rattle.art_arena.specs.arena.Descents.{OnWayTo}
-use Rattle.art_arena.specs.arena.Shapes.{Shape}
-use Rattle.art_arena.specs.arena.Steps.{steps_of}
-use Rattle.art_arena.specs.arena.Stores.{Stores, StoresAt}
-use Rattle.art_bytes.specs.Keys.{BeginsWith}
-use Rattle.art_operations.specs.inner.Ways.{IsWay, point_at}
+use Rattle.art_arena.proofs.Common.{node_at, path_to, OnWayTo, Shape, steps_of, Stores, StoresAt}
+use Rattle.art_bytes.proofs.Common.{BeginsWith}
+use Rattle.art_operations.proofs.Terms.{IsWay, point_at}
 use Rattle.art_operations.proofs.HeldPairs.{put-at, some-tree, stored-exact}
 use Rattle.art_operations.proofs.LeafNames.{inserted-names}
 use Rattle.art_operations.proofs.NewNodes.{fewer}

@@ -1,6 +1,5 @@
-use Rattle.std.proofs.Common.{◌+◌, subst, arith}
-use Rattle.art_arena.specs.arena.Steps.{steps_of}
-use Rattle.art_operations.specs.Pairs.{CanPut}
+use Rattle.std.proofs.Common.{◌+◌, arith}
+use Rattle.art_arena.proofs.Common.{steps_of}
 use Rattle.art_operations.proofs.HeldPairs.{put-at, stored-exact}
 use Rattle.art_operations.proofs.LeafNames.{inserted-names}
 use Rattle.art_operations.proofs.NewNodes.{fewer}
@@ -9,27 +8,23 @@ use Rattle.art_operations.proofs.pairs.put_pair.Goals as goal
 
 pub apply-requires : goal.apply-requires
 apply-requires g c =
-    let bytes = g.K.AsBytes.bytes in
-    let has = subst (λ p. CanPut bytes g.row.PREFIX_LEN c.args.arena.now p (bytes c.args.key) c.requires.0 c.requires.1) c.in-Some.is c.requires.2 in
+    let has = rw c.in-Some.is at c.requires.2 in
     (omega arith, (has.shape, c.requires.1, has.is_tree, has.place))
 
 pub returns-in-Some-clause-ok : goal.returns-in-Some-clause-ok
 returns-in-Some-clause-ok g c = map_ok c.apply.result _ _ c.apply.ensures.ok (λ put inserted. λ pairs rest can.
-    let bytes = g.K.AsBytes.bytes in
-    let has = subst (λ p. CanPut bytes g.row.PREFIX_LEN c.args.arena.now p (bytes c.args.key) pairs rest) c.in-Some.is can in
-    put-at bytes g.row.PREFIX_LEN c.args.arena.now c.apply.new.arena c.in-Some.point c.args.key c.args.value pairs has (steps_of c.in-Some.point.path) put (inserted has.shape rest has.is_tree has.place))
+    let has = rw c.in-Some.is at can in
+    put-at g.K.AsBytes.bytes g.row.PREFIX_LEN c.args.arena.now c.apply.new.arena c.in-Some.point c.args.key c.args.value pairs has (steps_of c.in-Some.point.path) put (inserted has.shape rest has.is_tree has.place))
 
 pub returns-in-Some-clause-others : goal.returns-in-Some-clause-others
 returns-in-Some-clause-others g c = map_ok c.apply.result _ _ c.apply.ensures.others (λ put kept. λ pairs rest can.
-    let bytes = g.K.AsBytes.bytes in
-    let has = subst (λ p. CanPut bytes g.row.PREFIX_LEN c.args.arena.now p (bytes c.args.key) pairs rest) c.in-Some.is can in
+    let has = rw c.in-Some.is at can in
     kept has.shape rest has.is_tree has.place)
 
 pub returns-in-Some-clause-stored : goal.returns-in-Some-clause-stored
 returns-in-Some-clause-stored g c = λ pairs rest can stored.
-    let bytes = g.K.AsBytes.bytes in
-    let has = subst (λ p. CanPut bytes g.row.PREFIX_LEN c.args.arena.now p (bytes c.args.key) pairs rest) c.in-Some.is can in
-    let exact = stored-exact bytes g.row.PREFIX_LEN c.args.arena.now c.in-Some.point (bytes c.args.key) pairs has stored in
+    let has = rw c.in-Some.is at can in
+    let exact = stored-exact g.K.AsBytes.bytes g.row.PREFIX_LEN c.args.arena.now c.in-Some.point (g.K.AsBytes.bytes c.args.key) pairs has stored in
     c.apply.ensures.exact exact.0 exact.1
 
 pub returns-in-None-clause-ok : goal.returns-in-None-clause-ok
@@ -44,7 +39,6 @@ returns-in-None-clause-room g c = λ n room. c.put_first.ensures.room n (fewer c
 
 pub returns-in-Some-clause-names : goal.returns-in-Some-clause-names
 returns-in-Some-clause-names g c =
-    let bytes = g.K.AsBytes.bytes in
-    let has = subst (λ p. CanPut bytes g.row.PREFIX_LEN c.args.arena.now p (bytes c.args.key) c.requires.0 c.requires.1) c.in-Some.is c.requires.2 in
+    let has = rw c.in-Some.is at c.requires.2 in
     both_ok c.apply.result _ _ _ c.apply.ensures.ok c.apply.ensures.others (λ put inserted kept.
-    inserted-names bytes g.row.PREFIX_LEN c.args.arena.now c.apply.new.arena c.in-Some.point.root c.requires.1 has.shape has.is_tree (kept has.shape c.requires.1 has.is_tree has.place) (steps_of c.in-Some.point.path) c.args.key c.args.value put (inserted has.shape c.requires.1 has.is_tree has.place))
+    inserted-names g.K.AsBytes.bytes g.row.PREFIX_LEN c.args.arena.now c.apply.new.arena c.in-Some.point.root c.requires.1 has.shape has.is_tree (kept has.shape c.requires.1 has.is_tree has.place) (steps_of c.in-Some.point.path) c.args.key c.args.value put (inserted has.shape c.requires.1 has.is_tree has.place))

@@ -1,7 +1,6 @@
 use Rattle.std.proofs.Common.{refl, arith}
-use Rattle.art_arena.specs.arena.Steps.{steps_of}
-use Rattle.art_arena.proofs.shapes.Besides.{keeps-same}
-use Rattle.art_operations.proofs.HeldPairs.{some-tree, can-delete, taken-pair, taken-keeps, shrinks-pair, nothing-found}
+use Rattle.art_arena.proofs.Common.{steps_of, keeps-same}
+use Rattle.art_operations.proofs.HeldPairs.{some-tree, can-delete, taken-pair, shrinks-pair, nothing-found}
 use Rattle.art_operations.proofs.LeafNames.{deleted-names}
 use Rattle.art_operations.proofs.pairs.take_pair.Goals as goal
 
@@ -27,9 +26,9 @@ returns-in-Ok-clause-ok g c = λ pairs rest has.
 
 pub returns-in-Ok-clause-others : goal.returns-in-Ok-clause-others
 returns-in-Ok-clause-others g c = λ pairs rest has.
-    taken-keeps g.K.AsBytes.bytes g.row.PREFIX_LEN c.args.arena.now rest c.args.root c.in-Some.top c.in-Some.is c.args.key.now pairs has
-    c.in-Some-search_for_delete_point.point.leaf_node_ptr (steps_of c.in-Some-search_for_delete_point.point.path) c.in-Some-search_for_delete_point.ensures.place
-    c.apply.new.arena (λ s tree place. c.in-Ok.ensures.others s rest tree place)
+    let point = c.in-Some-search_for_delete_point.point in
+    let at = can-delete g.K.AsBytes.bytes g.row.PREFIX_LEN c.args.arena.now rest c.args.root c.in-Some.top c.in-Some.is c.args.key.now pairs has point.leaf_node_ptr (steps_of point.path) c.in-Some-search_for_delete_point.ensures.place in
+    c.in-Ok.ensures.others at.0 rest at.2 at.3
 
 pub returns-in_default-clause-others : goal.returns-in_default-clause-others
 returns-in_default-clause-others g c = λ pairs rest has. keeps-same c.args.arena.now c.args.arena.now (λ n. refl) rest
@@ -48,9 +47,3 @@ returns-in-Ok-clause-names g c =
     let point = c.in-Some-search_for_delete_point.point in
     let at = can-delete g.K.AsBytes.bytes g.row.PREFIX_LEN c.args.arena.now c.requires.1 c.args.root c.in-Some.top c.in-Some.is c.args.key.now c.requires.0 c.requires.2 point.leaf_node_ptr (steps_of point.path) c.in-Some-search_for_delete_point.ensures.place in
     deleted-names g.K.AsBytes.bytes g.row.PREFIX_LEN c.args.arena.now c.apply.new.arena c.in-Some.top at.1 at.0 at.2 (c.in-Ok.ensures.others at.0 at.1 at.2 at.3) point.leaf_node_ptr c.in-Ok.deleted (c.in-Ok.ensures.ok at.0 at.1 at.2 at.3)
-
-pub returns-in_default-clause-names : goal.returns-in_default-clause-names
-returns-in_default-clause-names g c = λ slot key has. has
-
-pub returns-in_default-search_for_delete_point-clause-names : goal.returns-in_default-search_for_delete_point-clause-names
-returns-in_default-search_for_delete_point-clause-names g c = λ slot key has. has

@@ -1,6 +1,6 @@
 use Rattle.std.proofs.Common.{◌∷◌, [], sym, ap, ◌∙◌}
-use Rattle.art_nodes.specs.Concrete.{inner_name_of}
-use Rattle.art_arena.specs.arena.Steps.{Step, steps_of}
+use Rattle.art_nodes.proofs.Common.{inner_name_of}
+use Rattle.art_arena.proofs.Common.{Step, steps_of}
 use Rattle.art_operations.proofs.parent.last_step.Goals as goal
 
 pub returns-in-Normal : goal.returns-in-Normal

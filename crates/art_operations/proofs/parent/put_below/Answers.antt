@@ -1,6 +1,5 @@
 use Rattle.std.proofs.Common.{inr, arith}
-use Rattle.art_arena.specs.arena.Arena.{node_at}
-use Rattle.art_arena.proofs.shapes.Updates.{links-kept}
+use Rattle.art_arena.proofs.Common.{node_at, links-kept}
 use Rattle.art_operations.proofs.Edits.{at_top, last-is, parent_there, new_child}
 use Rattle.art_operations.proofs.parent.put_below.Goals as goal
 

@@ -1,5 +1,5 @@
 use Rattle.std.proofs.Common.{arith}
-use Rattle.art_arena.specs.arena.Steps.{steps_of}
+use Rattle.art_arena.proofs.Common.{steps_of}
 use Rattle.art_operations.proofs.parent.repoint.Goals as goal
 
 pub put_below-requires : goal.put_below-requires

@@ -1,4 +1,4 @@
-use Rattle.art_operations.specs.Runs.{IsCloned}
+use Rattle.art_operations.proofs.Terms.{IsCloned}
 use Rattle.art_operations.proofs.Clones.{delete-clones}
 use Rattle.art_operations.proofs.RepeatedClones.{cloned-keeps}
 use Rattle.art_operations.proofs.running.carry_out.Goals as goal

@@ -1,13 +1,13 @@
-use Rattle.std.proofs.Common.{[], subst}
-use Rattle.art_operations.specs.Pairs.{HasTaken}
-use Rattle.art_operations.proofs.Done.{done-taken, done-none}
+use Rattle.std.proofs.Common.{[], length, sym, ap, subst}
+use Rattle.art_operations.proofs.Terms.{HasTaken}
+use Rattle.art_operations.proofs.Done.{done-none}
 use Rattle.art_operations.proofs.HeldPairs.{pairs-same}
 use Rattle.art_operations.proofs.running.delete.Goals as goal
 
 pub returns-in-Ok-Some : goal.returns-in-Ok-Some
 returns-in-Ok-Some g c pairs has =
-    done-taken g.K.AsBytes.bytes g.row.PREFIX_LEN c.take_pair.new.arena pairs c.args.root c.args.key.now c.in-Ok-Some.deleted
-    (subst (λ taken. HasTaken g.K.AsBytes.bytes g.row.PREFIX_LEN c.take_pair.new.arena c.args.root (g.K.AsBytes.bytes c.args.key.now) taken pairs []) c.in-Ok-Some.field-0-is (rw c.as_bytes.ensures.value at (c.in-Ok-Some.ensures.ok pairs [] has)))
+    let has_taken = subst (λ taken. HasTaken g.K.AsBytes.bytes g.row.PREFIX_LEN c.take_pair.new.arena c.args.root (g.K.AsBytes.bytes c.args.key.now) taken pairs []) c.in-Ok-Some.field-0-is (rw c.as_bytes.ensures.value at (c.in-Ok-Some.ensures.ok pairs [] has)) in
+    (sym (ap length has_taken.0), has_taken.1)
 
 pub returns-in-Ok-None : goal.returns-in-Ok-None
 returns-in-Ok-None g c pairs has =

@@ -1,15 +1,10 @@
 use Rattle.std.proofs.Common.{[], ◌∙◌, refl, sym, subst, arith}
-use Rattle.art_arena.specs.arena.Shapes.{key_of}
-use Rattle.art_operations.specs.KeyedLists.{IsBlocked}
-use Rattle.art_operations.specs.Pairs.{CanPut}
-use Rattle.art_operations.specs.declared.running.Answer.TheVariants.{Prefix, Memory}
-use Rattle.art_operations.specs.Runs.{IsCloned}
+use Rattle.art_arena.proofs.Common.{key_of}
+use Rattle.art_operations.proofs.Terms.{IsBlocked, CanPut, Prefix, IsCloned}
+use Rattle.art_operations.specs.declared.running.Answer.TheVariants.{Memory}
 use Rattle.art_operations.proofs.Clones.{insert-clones, insert-stays}
 use Rattle.art_operations.proofs.RepeatedClones.{cloned-once, cloned-keeps}
 use Rattle.art_operations.proofs.running.insert.Goals as goal
-
-pub find_place-requires : goal.find_place-requires
-find_place-requires g c = (omega arith, (c.requires.pairs.2.0, [], c.requires.pairs.2.2))
 
 pub returns-in-Err : goal.returns-in-Err
 returns-in-Err g c n pairs has =

@@ -1,5 +1,5 @@
 use Rattle.std.proofs.Common.{[], refl, subst, arith}
-use Rattle.art_operations.specs.Pairs.{CanPutOver}
+use Rattle.art_operations.proofs.Terms.{CanPutOver}
 use Rattle.art_operations.proofs.HeldPairs.{pairs-same}
 use Rattle.art_operations.proofs.PutOver.{done-over}
 use Rattle.art_operations.proofs.running.overwrite.Goals as goal

@@ -1,11 +1,7 @@
-use Rattle.std.proofs.Common.{arith}
-use Rattle.art_operations.specs.Runs.{IsCloned}
+use Rattle.art_operations.proofs.Terms.{IsCloned}
 use Rattle.art_operations.proofs.Clones.{over-clones}
 use Rattle.art_operations.proofs.RepeatedClones.{cloned-once, cloned-keeps}
 use Rattle.art_operations.proofs.running.prefix_insert.Goals as goal
-
-pub overwrite-requires : goal.overwrite-requires
-overwrite-requires g c = (omega arith, (c.requires.pairs.2.0, c.requires.pairs.2.2))
 
 pub returns-in-Ok : goal.returns-in-Ok
 returns-in-Ok g c n pairs has =

@@ -1,7 +1,6 @@
 use Rattle.std.proofs.Common.{◌≡◌, ◌+◌, ◌∙◌, [], ◌∷◌, ◌++◌, take, ap, sym, subst, rules, arith}
 use Rattle.std.proofs.lemmas.List.{take_more, take_all}
-use Rattle.art_operations.specs.Commands.{clones_in, pairs_after}
-use Rattle.art_operations.specs.Runs.{HoldsClonesOf, IsCloned}
+use Rattle.art_operations.proofs.Terms.{clones_in, pairs_after, HoldsClonesOf, IsCloned}
 use Rattle.art_operations.proofs.CommandLists.{as-many, run-one-more}
 use Rattle.art_operations.proofs.HeldPairs.{pairs-tree}
 use Rattle.art_operations.proofs.running.run.Goals as goal

@@ -1,5 +1,5 @@
 use Rattle.std.proofs.Common.{◌∷◌, [], arith}
-use Rattle.art_operations.proofs.Building.{fresh}
+use Rattle.art_operations.proofs.Common.{fresh}
 use Rattle.art_operations_tests.proofs.building.built.Goals as goal
 
 pub push-requires : goal.push-requires

@@ -1,6 +1,6 @@
 use Rattle.std.proofs.Common.{[], refl, ap, arith}
-use Rattle.art_arena.specs.arena.Arena.{cell_of}
-use Rattle.art_operations.specs.Pairs.{with_pair_put}
+use Rattle.art_arena.proofs.Common.{cell_of}
+use Rattle.art_operations.proofs.Common.{with_pair_put}
 use Rattle.art_operations_tests.proofs.callers.comes_and_goes.Goals as goal
 
 pub forget-requires : goal.forget-requires

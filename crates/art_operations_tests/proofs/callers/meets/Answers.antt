@@ -1,6 +1,5 @@
 use Rattle.std.proofs.Common.{[], refl, arith}
-use Rattle.art_arena.specs.arena.Arena.{node_at}
-use Rattle.art_arena.proofs.shapes.Meanings.{nodes-subtree}
+use Rattle.art_arena.proofs.Common.{node_at, nodes-subtree}
 use Rattle.art_operations_tests.proofs.callers.meets.Goals as goal
 
 pub find-leaf-requires : goal.find-leaf-requires

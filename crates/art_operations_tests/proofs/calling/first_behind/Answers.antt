@@ -1,9 +1,6 @@
 use Rattle.std.proofs.Common.{arith}
-use Rattle.art_arena.specs.arena.Arena.{node_at}
-use Rattle.art_arena.specs.arena.Shapes.{leaves}
-use Rattle.art_arena.specs.tree.Tenants.{begins_with}
-use Rattle.art_arena.proofs.shapes.Meanings.{nodes-subtree}
-use Rattle.art_operations.proofs.NamedLeaves.{leaf-held}
+use Rattle.art_arena.proofs.Common.{node_at, leaves, begins_with, nodes-subtree}
+use Rattle.art_operations.proofs.Common.{leaf-held}
 use Rattle.art_operations_tests.proofs.FirstLeaf.{first-passing, key-passes}
 use Rattle.art_operations_tests.proofs.calling.first_behind.Goals as goal
 

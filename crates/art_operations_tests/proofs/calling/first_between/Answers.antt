@@ -1,11 +1,9 @@
 use Rattle.std.proofs.Common.{arith}
 use Rattle.std.specs.BTreeMap.Range.{range_contains}
 use Rattle.std.specs.Range.Bound.{bound_map}
-use Rattle.art_bytes.specs.Keys.{bytes_cmp}
-use Rattle.art_arena.specs.arena.Arena.{node_at}
-use Rattle.art_arena.specs.arena.Shapes.{leaves}
-use Rattle.art_arena.proofs.shapes.Meanings.{nodes-subtree}
-use Rattle.art_operations.proofs.NamedLeaves.{leaf-held}
+use Rattle.art_bytes.proofs.Common.{bytes_cmp}
+use Rattle.art_arena.proofs.Common.{node_at, leaves, nodes-subtree}
+use Rattle.art_operations.proofs.Common.{leaf-held}
 use Rattle.art_operations_tests.proofs.FirstLeaf.{first-passing, key-passes}
 use Rattle.art_operations_tests.proofs.calling.first_between.Goals as goal
 

@@ -1,7 +1,6 @@
 use Rattle.std.proofs.Common.{[], Some, sym, subst}
-use Rattle.art_arena.specs.arena.Shapes.{key_of}
-use Rattle.art_operations.specs.Pairs.{HasPairs}
-use Rattle.art_operations.proofs.KeyedLists.{nothing_taken}
+use Rattle.art_arena.proofs.Common.{key_of}
+use Rattle.art_operations.proofs.Common.{HasPairs, nothing_taken}
 use Rattle.art_operations_tests.proofs.calling.forget.Goals as goal
 
 pub returns-in-Some-clause-ok : goal.returns-in-Some-clause-ok

@@ -1,11 +1,6 @@
 use Rattle.std.proofs.Common.{[], sym, subst, ◌∙◌, arith}
-use Rattle.art_arena.specs.arena.Arena.{node_at}
-use Rattle.art_arena.specs.arena.Shapes.{LeafAt, leaves}
-use Rattle.art_arena.specs.arena.Stores.{StoresOnly}
-use Rattle.art_arena.proofs.shapes.Meanings.{nodes-subtree}
-use Rattle.art_arena.proofs.tree.Paths.{in_map}
-use Rattle.art_operations.specs.Points.{IsPoint}
-use Rattle.art_operations.proofs.LeafPairs.{stored_in}
+use Rattle.art_arena.proofs.Common.{node_at, LeafAt, leaves, StoresOnly, nodes-subtree, in_map}
+use Rattle.art_operations.proofs.Common.{IsPoint, stored_in}
 use Rattle.art_operations_tests.proofs.calling.put_new.Goals as goal
 
 pub apply-requires : goal.apply-requires

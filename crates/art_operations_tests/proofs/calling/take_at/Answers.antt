@@ -1,6 +1,5 @@
 use Rattle.std.proofs.Common.{[], arith}
-use Rattle.art_arena.specs.arena.Arena.{node_at}
-use Rattle.art_arena.proofs.shapes.Meanings.{nodes-subtree}
+use Rattle.art_arena.proofs.Common.{node_at, nodes-subtree}
 use Rattle.art_operations_tests.proofs.calling.take_at.Goals as goal
 
 pub apply-requires : goal.apply-requires

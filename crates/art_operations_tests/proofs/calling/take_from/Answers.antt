@@ -1,10 +1,8 @@
 use Rattle.std.proofs.Common.{[], sym, arith}
 use Rattle.std.specs.BTreeMap.Range.{is_from_start}
 use Rattle.std.specs.declared.ops.Bound.TheVariants.{Included}
-use Rattle.art_bytes.specs.Keys.{bytes_cmp}
-use Rattle.art_arena.specs.arena.Arena.{node_at}
-use Rattle.art_arena.specs.arena.Shapes.{leaves}
-use Rattle.art_arena.proofs.shapes.Meanings.{nodes-subtree}
+use Rattle.art_bytes.proofs.Common.{bytes_cmp}
+use Rattle.art_arena.proofs.Common.{node_at, leaves, nodes-subtree}
 use Rattle.art_operations_tests.proofs.FirstLeaf.{first-passing}
 use Rattle.art_operations_tests.proofs.calling.take_from.Goals as goal
 

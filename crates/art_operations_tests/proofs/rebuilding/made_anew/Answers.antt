@@ -1,8 +1,6 @@
 use Rattle.std.proofs.Common.{length, sym, ap, subst, ◌∙◌, arith}
-use Rattle.art_arena.specs.arena.Shapes.{pairs_of}
-use Rattle.art_operations.specs.Pairs.{HasPairs}
-use Rattle.art_operations.specs.Rebuilds.{HasInnerRoom}
-use Rattle.art_operations.proofs.HeldPairs.{pairs-same}
+use Rattle.art_arena.proofs.Common.{pairs_of}
+use Rattle.art_operations.proofs.Common.{HasPairs, HasInnerRoom, pairs-same}
 use Rattle.art_operations_tests.proofs.Counted.{counted, length-pairs}
 use Rattle.art_operations_tests.proofs.rebuilding.made_anew.Goals as goal
 

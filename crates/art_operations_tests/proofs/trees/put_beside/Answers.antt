@@ -1,9 +1,6 @@
 use Rattle.std.proofs.Common.{[], refl, arith}
-use Rattle.art_arena.specs.arena.Arena.{node_at}
-use Rattle.art_arena.specs.arena.Shapes.{cells}
-use Rattle.art_arena.proofs.shapes.CellLists.{holds-only}
+use Rattle.art_arena.proofs.Common.{node_at, cells, holds-only, nodes-subtree}
 use Rattle.art_arena.proofs.shapes.KeptTrees.{other-tree}
-use Rattle.art_arena.proofs.shapes.Meanings.{nodes-subtree}
 use Rattle.art_operations_tests.proofs.trees.put_beside.Goals as goal
 
 pub put_pair-requires : goal.put_pair-requires

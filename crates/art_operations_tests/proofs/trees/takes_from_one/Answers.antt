@@ -1,5 +1,5 @@
 use Rattle.std.proofs.Common.{[], refl, arith}
-use Rattle.art_arena.specs.arena.Shapes.{cells, leaves, pairs_of}
+use Rattle.art_arena.proofs.Common.{cells, leaves, pairs_of}
 use Rattle.art_arena.proofs.shapes.KeptTrees.{kept-subtree}
 use Rattle.art_operations_tests.proofs.trees.takes_from_one.Goals as goal
 

@@ -1,11 +1,10 @@
 use Rattle.std.proofs.Common.{[], ◌++◌, ap, ap₂, sym, subst, ◌∙◌}
 use Rattle.std.specs.Map.{keys_of}
 use Rattle.std.proofs.lemmas.List.{append-nil}
-use Rattle.art_operations.specs.Pairs.{with_pair_put}
+use Rattle.art_operations.proofs.Common.{with_pair_put}
 use Rattle.art_set.proofs.MergeOrder.{ascending-merged, collected}
 use Rattle.art_set.proofs.Seen.{keys-put}
-use Rattle.art_set.specs.Merges.{AscendsInBytes}
-use Rattle.art_set.specs.inner.Merging.{merging}
+use Rattle.art_set.proofs.Terms.{AscendsInBytes, merging}
 use Rattle.art_set.proofs.operators.collected.Goals as goal
 
 pub loop-key-init : goal.loop-key-init

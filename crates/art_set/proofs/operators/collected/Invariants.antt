@@ -1,8 +1,8 @@
 use Rattle.std.proofs.Common.{◌≡◌, ◌++◌, List, length}
 use Rattle.std.specs.List.{AllByRecursion}
 use Rattle.std.specs.Map.{keys_of}
-use Rattle.art_map.specs.Builders.{HasGathered}
-use Rattle.art_set.specs.inner.Merging.{merging}
+use Rattle.art_map.proofs.Common.{HasGathered}
+use Rattle.art_set.proofs.Terms.{merging}
 use Rattle.art_set.proofs.operators.collected.Given as goal
 
 -- where a clone of a key equals it, the map in the making has the keys that came

@@ -1,7 +1,7 @@
 use Rattle.std.proofs.Common.{length, IsSome}
 use Rattle.std.specs.List.{AllByRecursion}
-use Rattle.art_nodes.specs.InnerNode.{names_of}
-use Rattle.art_arena.specs.arena.Arena.{held_at}
+use Rattle.art_nodes.proofs.Common.{names_of}
+use Rattle.art_arena.proofs.Common.{held_at}
 use Rattle.art_walks.specs.Visits.{AreVisitedAfter}
 use Rattle.art_walks.proofs.visitor.visit_others.Given as goal
 

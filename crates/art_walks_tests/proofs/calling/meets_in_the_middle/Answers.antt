@@ -1,5 +1,5 @@
 use Rattle.std.proofs.Common.{[], ◌∷◌, lit<}
-use Rattle.art_arena.specs.arena.Arena.{links_at}
+use Rattle.art_arena.proofs.Common.{links_at}
 use Rattle.art_walks_tests.proofs.ThreeLeaves.{whole, no_ends, still}
 use Rattle.art_walks_tests.proofs.calling.meets_in_the_middle.Goals as goal
 

@@ -1,31 +1,20 @@
-use Rattle.std.proofs.Common.{length, ap, ◌∙◌, arith}
+use Rattle.std.proofs.Common.{◌∙◌, arith}
 use Rattle.std.specs.BTreeMap.Range.{range_contains}
 use Rattle.std.specs.Range.Bound.{bound_map}
-use Rattle.art_bytes.specs.Keys.{bytes_cmp}
-use Rattle.art_arena.specs.arena.Descents.{passing}
-use Rattle.art_arena.specs.arena.Shapes.{leaves, pairs_of}
-use Rattle.art_operations.proofs.Stretches.{between_convex}
+use Rattle.art_bytes.proofs.Common.{bytes_cmp}
+use Rattle.art_operations.proofs.Common.{between_convex}
 use Rattle.art_walks_tests.proofs.TreeRuns.{passing-run, stores}
 use Rattle.art_walks_tests.proofs.calling.pairs_between.Goals as goal
 
-pub new-requires-in-Some : goal.new-requires-in-Some
-new-requires-in-Some g c =
+pub new-requires : goal.new-requires
+new-requires g c =
     let (s, tree) = c.requires in
-    let run = passing-run g.K.AsBytes.bytes 4 c.args.arena.now c.args.root s tree (λ k. range_contains bytes_cmp (bound_map (λ key. key.now) c.args.start) (bound_map (λ key. key.now) c.args.end) k) (between_convex (bound_map (λ key. key.now) c.args.start) (bound_map (λ key. key.now) c.args.end)) _ (c.in-Some.ensures s (stores g.K.AsBytes.bytes 4 c.args.arena.now c.args.root s tree) tree.linked) in
-    (omega arith, (omega arith, (length (passing g.K.AsBytes.bytes (λ k. range_contains bytes_cmp (bound_map (λ key. key.now) c.args.start) (bound_map (λ key. key.now) c.args.end) k) (leaves s)), rw c.new.ensures run.0)))
+    let run = passing-run g.K.AsBytes.bytes 4 c.args.arena.now c.args.root s tree (λ k. range_contains bytes_cmp (bound_map (λ key. key.now) c.args.start) (bound_map (λ key. key.now) c.args.end) k) (between_convex (bound_map (λ key. key.now) c.args.start) (bound_map (λ key. key.now) c.args.end))
+    c.run_between-run.result (rw c.run_between-run.ensures (c.find_range_segment.ensures s (stores g.K.AsBytes.bytes 4 c.args.arena.now c.args.root s tree) tree.linked)) in
+    (omega arith, (omega arith, (run.0, run.1)))
 
-pub new-requires-in-None : goal.new-requires-in-None
-new-requires-in-None g c =
-    let (s, tree) = c.requires in
-    let run = passing-run g.K.AsBytes.bytes 4 c.args.arena.now c.args.root s tree (λ k. range_contains bytes_cmp (bound_map (λ key. key.now) c.args.start) (bound_map (λ key. key.now) c.args.end) k) (between_convex (bound_map (λ key. key.now) c.args.start) (bound_map (λ key. key.now) c.args.end)) _ (c.in-None.ensures s (stores g.K.AsBytes.bytes 4 c.args.arena.now c.args.root s tree) tree.linked) in
-    (omega arith, (omega arith, (length (passing g.K.AsBytes.bytes (λ k. range_contains bytes_cmp (bound_map (λ key. key.now) c.args.start) (bound_map (λ key. key.now) c.args.end) k) (leaves s)), rw c.empty.ensures run.0)))
-
-pub returns-in-Some : goal.returns-in-Some
-returns-in-Some g c = λ s tree.
-    let run = passing-run g.K.AsBytes.bytes 4 c.args.arena.now c.args.root s tree (λ k. range_contains bytes_cmp (bound_map (λ key. key.now) c.args.start) (bound_map (λ key. key.now) c.args.end) k) (between_convex (bound_map (λ key. key.now) c.args.start) (bound_map (λ key. key.now) c.args.end)) c.new.result (rw c.new.ensures (c.in-Some.ensures s (stores g.K.AsBytes.bytes 4 c.args.arena.now c.args.root s tree) tree.linked)) in
-    c.new-in-Some.ensures _ run.0 ∙ ap pairs_of run.1
-
-pub returns-in-None : goal.returns-in-None
-returns-in-None g c = λ s tree.
-    let run = passing-run g.K.AsBytes.bytes 4 c.args.arena.now c.args.root s tree (λ k. range_contains bytes_cmp (bound_map (λ key. key.now) c.args.start) (bound_map (λ key. key.now) c.args.end) k) (between_convex (bound_map (λ key. key.now) c.args.start) (bound_map (λ key. key.now) c.args.end)) c.empty.result (rw c.empty.ensures (c.in-None.ensures s (stores g.K.AsBytes.bytes 4 c.args.arena.now c.args.root s tree) tree.linked)) in
-    c.new-in-None.ensures _ run.0 ∙ ap pairs_of run.1
+pub returns : goal.returns
+returns g c = λ s tree.
+    let run = passing-run g.K.AsBytes.bytes 4 c.args.arena.now c.args.root s tree (λ k. range_contains bytes_cmp (bound_map (λ key. key.now) c.args.start) (bound_map (λ key. key.now) c.args.end) k) (between_convex (bound_map (λ key. key.now) c.args.start) (bound_map (λ key. key.now) c.args.end))
+    c.run_between-run.result (rw c.run_between-run.ensures (c.find_range_segment.ensures s (stores g.K.AsBytes.bytes 4 c.args.arena.now c.args.root s tree) tree.linked)) in
+    c.new.ensures _ run.1 ∙ run.2

@@ -1,7 +1,7 @@
 use Rattle.std.proofs.Common.{length, IsSome}
 use Rattle.std.specs.List.{AllByRecursion}
-use Rattle.art_nodes.specs.InnerNode.{names_of}
-use Rattle.art_arena.specs.arena.Arena.{held_at}
+use Rattle.art_nodes.proofs.Common.{names_of}
+use Rattle.art_arena.proofs.Common.{held_at}
 use Rattle.art_walks_tests.proofs.visits.are_held.Given as goal
 
 -- if those that are left are held, all are

@@ -1,6 +1,5 @@
 use Rattle.std.proofs.Common.{[], ◌∷◌, refl, lit<}
-use Rattle.art_arena.specs.arena.Arena.{links_at}
-use Rattle.art_arena.specs.arena.Shapes.{LeafAt}
+use Rattle.art_arena.proofs.Common.{links_at, LeafAt}
 use Rattle.art_walks_tests.proofs.LeafTrios.{three_list}
 use Rattle.art_walks_tests.proofs.walks.linked_leaves.Goals as goal
 

@@ -1,6 +1,5 @@
 use Rattle.std.proofs.Common.{[], arith}
-use Rattle.art_arena.specs.arena.Arena.{node_at}
-use Rattle.art_arena.proofs.shapes.CellLists.{holds-only}
+use Rattle.art_arena.proofs.Common.{node_at, holds-only}
 use Rattle.art_operations.proofs.FreedParts.{stored-beside}
 use Rattle.play_operations.proofs.frees.free_all.Goals as goal
 

@@ -1,9 +1,6 @@
 use Rattle.std.proofs.Common.{[], arith}
-use Rattle.art_arena.specs.arena.Arena.{node_at}
-use Rattle.art_arena.specs.arena.Shapes.{leaves}
-use Rattle.art_arena.proofs.shapes.CellLists.{holds-only}
-use Rattle.art_arena.proofs.shapes.Meanings.{nodes-subtree}
-use Rattle.art_operations.specs.Frees.{inner_cells}
+use Rattle.art_arena.proofs.Common.{node_at, leaves, holds-only, nodes-subtree}
+use Rattle.art_operations.proofs.Common.{inner_cells}
 use Rattle.art_operations.proofs.FreedParts.{stored-run, stored-inner}
 use Rattle.play_operations.proofs.frees.free_apart.Goals as goal
 

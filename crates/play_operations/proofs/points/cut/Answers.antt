@@ -1,10 +1,7 @@
 use Rattle.std.proofs.Common.{[], refl, sym, subst, arith}
-use Rattle.art_arena.specs.arena.Steps.{steps_of}
-use Rattle.art_arena.specs.arena.Stores.{StoresBeside}
-use Rattle.art_operations.specs.Subtrees.{HasRoomAbove, IsSubtreePoint}
-use Rattle.art_operations.specs.Whichever.{HasTreeWhere}
+use Rattle.art_arena.proofs.Common.{steps_of, StoresBeside}
+use Rattle.art_operations.proofs.Common.{HasRoomAbove, IsSubtreePoint, HasTreeWhere, leaves-pairs, tree-same}
 use Rattle.art_operations.specs.declared.delete.subtree.SubtreeDeletePoint.{SubtreeDeletePoint}
-use Rattle.art_operations.proofs.HeldPairs.{leaves-pairs, tree-same}
 use Rattle.play_operations.proofs.points.cut.Goals as goal
 
 pub prepare-requires : goal.prepare-requires

@@ -1,7 +1,5 @@
 use Rattle.std.proofs.Common.{[], sym, subst, arith}
-use Rattle.art_arena.specs.arena.Arena.{node_at}
-use Rattle.art_arena.specs.arena.Meaning.{IsSubtree}
-use Rattle.art_arena.proofs.shapes.Meanings.{nodes-subtree}
+use Rattle.art_arena.proofs.Common.{node_at, IsSubtree, nodes-subtree}
 use Rattle.art_operations.proofs.FoundParts.{found-part}
 use Rattle.play_operations.proofs.points.part_of.Goals as goal
 

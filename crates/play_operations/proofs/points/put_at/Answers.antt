@@ -1,8 +1,6 @@
 use Rattle.std.proofs.Common.{[], sym, subst, ◌∙◌, arith}
-use Rattle.art_arena.specs.arena.Arena.{node_at}
-use Rattle.art_arena.specs.arena.Stores.{StoresOnly}
-use Rattle.art_arena.proofs.shapes.Meanings.{nodes-subtree}
-use Rattle.art_operations.specs.Points.{IsPoint}
+use Rattle.art_arena.proofs.Common.{node_at, StoresOnly, nodes-subtree}
+use Rattle.art_operations.proofs.Common.{IsPoint}
 use Rattle.play_operations.proofs.SomePairs.{of-shape}
 use Rattle.play_operations.proofs.points.put_at.Goals as goal
 

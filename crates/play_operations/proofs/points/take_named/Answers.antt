@@ -1,7 +1,5 @@
 use Rattle.std.proofs.Common.{[], bytes_eq, sym, arith}
-use Rattle.art_arena.specs.arena.Arena.{node_at}
-use Rattle.art_arena.specs.arena.Shapes.{leaves}
-use Rattle.art_arena.proofs.shapes.Meanings.{nodes-subtree}
+use Rattle.art_arena.proofs.Common.{node_at, leaves, nodes-subtree}
 use Rattle.play_operations.proofs.FirstLeaf.{first-passing}
 use Rattle.play_operations.proofs.SomePairs.{of-deleted}
 use Rattle.play_operations.proofs.points.take_named.Goals as goal

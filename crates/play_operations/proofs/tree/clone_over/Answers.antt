@@ -1,5 +1,5 @@
 use Rattle.std.proofs.Common.{refl}
-use Rattle.art_arena.specs.arena.Shapes.{leaves, pairs_of}
+use Rattle.art_arena.proofs.Common.{leaves, pairs_of}
 use Rattle.play_operations.proofs.tree.clone_over.Goals as goal
 
 pub returns-in-Ok-clause-some : goal.returns-in-Ok-clause-some

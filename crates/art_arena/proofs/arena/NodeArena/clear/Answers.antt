@@ -2,7 +2,7 @@ use Rattle.std.proofs.Common.{◌≡◌, ℕ, [], sym, ap, subst, arith}
 use Rattle.std.specs.Prelude.{count_by, is_some}
 use Rattle.slab.specs.Slab.{Slab, slab_len, HasRoomFor}
 use Rattle.art_nodes.specs.declared.leaf.LeafNode.{LeafNode}
-use Rattle.art_arena.specs.arena.Arena.{Arena, HasRoom}
+use Rattle.art_arena.proofs.Terms.{Arena, HasRoom}
 use Rattle.art_arena.proofs.arena.NodeArena.clear.Goals as goal
 
 emptied : {T : Type 0} (old new : Slab T) (n : ℕ) → new.slots ≡ [] → new.capacity ≡ old.capacity → HasRoomFor old n → HasRoomFor new n

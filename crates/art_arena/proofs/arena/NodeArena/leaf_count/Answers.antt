@@ -1,5 +1,5 @@
 use Rattle.std.proofs.Common.{ap, ◌∙◌}
-use Rattle.art_arena.specs.arena.Arena.{Arena, leaves_held}
+use Rattle.art_arena.proofs.Terms.{Arena, leaves_held}
 use Rattle.art_arena.proofs.shapes.HeldLeaves.{leaves_of_tree, leaves_of_none}
 use Rattle.art_arena.proofs.arena.NodeArena.leaf_count.Goals as goal
 

@@ -1,6 +1,6 @@
 use Rattle.std.proofs.Common.{sym, subst}
 use Rattle.slab.specs.Slab.{HasRoomFor}
-use Rattle.art_arena.specs.arena.Arena.{Arena}
+use Rattle.art_arena.proofs.Terms.{Arena}
 use Rattle.art_arena.proofs.arena.NodeArena.room_is_bounded.Goals as goal
 
 pub returns : goal.returns

@@ -1,5 +1,5 @@
 use Rattle.std.proofs.Common.{lit<}
-use Rattle.art_arena.specs.arena.Arena.{Arena}
+use Rattle.art_arena.proofs.Terms.{Arena}
 use Rattle.art_arena.proofs.shapes.TrimmedArenas.{all-trimmed, no-more-room}
 use Rattle.art_arena.proofs.arena.NodeArena.shrink_to_fit.Goals as goal
 

@@ -1,6 +1,5 @@
 use Rattle.std.proofs.Common.{subst, arith}
-use Rattle.art_arena.specs.arena.Arena.{Arena}
-use Rattle.art_arena.specs.arena.ArenaClones.{IsArenaClone}
+use Rattle.art_arena.proofs.Terms.{Arena, IsArenaClone}
 use Rattle.art_arena.proofs.shapes.ClonedArenas.{SameInner, arena-cloned, empty-cloned}
 use Rattle.art_arena.proofs.arena.NodeArena.try_clone.Goals as goal
 

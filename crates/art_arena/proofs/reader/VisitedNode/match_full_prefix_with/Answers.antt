@@ -1,11 +1,6 @@
 use Rattle.std.proofs.Common.{◌≡◌, ◌∙◌, Some, ap, drop, length, List, ℕ}
-use Rattle.art_nodes.specs.Name.{Name}
-use Rattle.art_arena.specs.arena.Arena.{held_at}
-use Rattle.art_arena.specs.arena.Prefixes.{prefix_of}
-use Rattle.art_arena.specs.arena.Reads.{IsReadAt}
-use Rattle.art_arena.specs.arena.Shapes.{Shape}
-use Rattle.art_arena.specs.arena.Stores.{StoresAt}
-use Rattle.art_arena.specs.arena.Visited.{held_of}
+use Rattle.art_nodes.proofs.Common.{Name}
+use Rattle.art_arena.proofs.Terms.{held_at, prefix_of, IsReadAt, Shape, StoresAt, held_of}
 use Rattle.art_arena.proofs.shapes.Subtrees.{leaves_begin_prefix}
 use Rattle.art_arena.proofs.shapes.Prefixes.{tail, begins_of, begins_not, mismatches}
 use Rattle.art_arena.proofs.reader.VisitedNode.match_full_prefix_with.Goals as goal

@@ -1,6 +1,6 @@
 use Rattle.std.proofs.Common.{sym, subst, ◌∙◌}
-use Rattle.art_arena.specs.arena.Shapes.{key_of}
-use Rattle.art_operations.specs.KeyedLists.{IsBlocked}
+use Rattle.art_arena.proofs.Common.{key_of}
+use Rattle.art_operations.proofs.Common.{IsBlocked}
 use Rattle.art_c.specs.Calls.{whole}
 use Rattle.art_c.proofs.Lookups.{put-new, put-over}
 use Rattle.art_c.proofs.calls.changes.put.Goals as goal

@@ -1,8 +1,7 @@
 -- The invariant is what was copied out so far, as `CopiedOut` has it.
 use Rattle.std.proofs.Common.{◌≡◌, ℕ, ◌+◌, ◌≤◌, ◌-◌, List, ◌∷◌, length, Some, sym, ap, ap₂, subst, ◌∙◌, arith}
 use Rattle.std.proofs.Math.ListN.{set}
-use Rattle.art_map.specs.Asked.{from_end}
-use Rattle.art_map.specs.Contents.{first_item}
+use Rattle.art_map.proofs.Common.{from_end, first_item}
 use Rattle.art_c.specs.Calls.{Pairs}
 use Rattle.art_c.specs.Walks.{ManyRooms, many_rooms, NoneElseFits}
 use Rattle.art_c.proofs.Walks.{all-copied, fewer, no-bytes, no-place, one-more}

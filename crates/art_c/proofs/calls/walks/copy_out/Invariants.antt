@@ -1,5 +1,5 @@
 use Rattle.std.proofs.Common.{length}
-use Rattle.art_map.specs.Asked.{from_end}
+use Rattle.art_map.proofs.Common.{from_end}
 use Rattle.art_c.specs.Walks.{many_rooms}
 use Rattle.art_c.proofs.Walks.{CopiedOut}
 use Rattle.art_c.proofs.calls.walks.copy_out.Given as goal

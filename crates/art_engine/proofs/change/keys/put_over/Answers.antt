@@ -1,8 +1,6 @@
 use Rattle.std.proofs.Common.{ap, sym, ◌∙◌, subst}
-use Rattle.art_lines.specs.Commands.{of_tenant, over}
-use Rattle.art_engine.specs.Stored.{Pair, records_of, ArePairs}
-use Rattle.art_engine.specs.Changed.{IsChangeDone}
-use Rattle.art_lines.specs.Parsed.{tenant_in_place, key_in_place, value_in_place}
+use Rattle.art_lines.proofs.Common.{of_tenant, over, tenant_in_place, key_in_place, value_in_place}
+use Rattle.art_engine.proofs.Terms.{Pair, records_of, ArePairs, IsChangeDone}
 use Rattle.art_engine.proofs.Changing.{over_done}
 use Rattle.art_engine.proofs.Overwriting.{over_keeps}
 use Rattle.art_engine.proofs.change.keys.put_over.Goals as goal

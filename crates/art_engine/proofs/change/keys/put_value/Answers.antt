@@ -1,8 +1,8 @@
 use Rattle.std.proofs.Common.{ℕ, ap, sym, subst, ◌∙◌, bytes_eq}
 use Rattle.std.specs.Global.{Vec}
 use Rattle.std.specs.Map.{lookup}
-use Rattle.art_operations.specs.KeyedLists.{IsBlocked}
-use Rattle.art_lines.specs.Parsed.{tenant_in_place, key_in_place, value_in_place}
+use Rattle.art_operations.proofs.Common.{IsBlocked}
+use Rattle.art_lines.proofs.Common.{tenant_in_place, key_in_place, value_in_place}
 use Rattle.art_engine.proofs.Conflicts.{bytes_of}
 use Rattle.art_engine.proofs.Placing.{conflict_placed, put_keeps_pairs, new_placed, old_placed}
 use Rattle.art_engine.proofs.change.keys.put_value.Goals as goal

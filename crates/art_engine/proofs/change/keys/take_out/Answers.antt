@@ -1,9 +1,9 @@
 use Rattle.std.proofs.Common.{ℕ, ap, sym, ◌∙◌, subst, bytes_eq}
 use Rattle.std.specs.Global.{Vec}
 use Rattle.std.specs.Map.{lookup}
-use Rattle.art_arena.specs.tree.Shrinks.{Shrinks}
-use Rattle.art_operations.specs.KeyedLists.{HasKey, without_key}
-use Rattle.art_lines.specs.Parsed.{tenant_in_place, key_in_place}
+use Rattle.art_arena.proofs.Common.{Shrinks}
+use Rattle.art_operations.proofs.Common.{HasKey, without_key}
+use Rattle.art_lines.proofs.Common.{tenant_in_place, key_in_place}
 use Rattle.art_engine.proofs.Changing.{del_keeps, gone_done, absent_done, del_refused}
 use Rattle.art_engine.proofs.Conflicts.{bytes_of}
 use Rattle.art_engine.proofs.change.keys.take_out.Goals as goal

@@ -1,6 +1,6 @@
 use Rattle.std.proofs.Common.{ℕ, List, ap, sym, ◌∙◌, bytes_eq}
 use Rattle.std.specs.Map.{lookup}
-use Rattle.art_lines.specs.Parsed.{tenant_in_place, number_in_place, value_in_place}
+use Rattle.art_lines.proofs.Common.{tenant_in_place, number_in_place, value_in_place}
 use Rattle.art_engine.proofs.NumberPlaces.{nput_keeps, nput_old, nput_new}
 use Rattle.art_engine.proofs.change.numbers.put_at_number.Goals as goal
 

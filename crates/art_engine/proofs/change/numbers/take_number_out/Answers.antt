@@ -1,8 +1,8 @@
 use Rattle.std.proofs.Common.{ℕ, List, ap, sym, ◌∙◌, subst, bytes_eq}
 use Rattle.std.specs.Map.{lookup}
-use Rattle.art_arena.specs.tree.Shrinks.{Shrinks}
-use Rattle.art_operations.specs.KeyedLists.{HasKey, without_key}
-use Rattle.art_lines.specs.Parsed.{tenant_in_place, number_in_place}
+use Rattle.art_arena.proofs.Common.{Shrinks}
+use Rattle.art_operations.proofs.Common.{HasKey, without_key}
+use Rattle.art_lines.proofs.Common.{tenant_in_place, number_in_place}
 use Rattle.art_engine.proofs.NumberPlaces.{number_bytes, ndel_keeps, ndel_gone, ndel_absent, ndel_refused}
 use Rattle.art_engine.proofs.change.numbers.take_number_out.Goals as goal
 

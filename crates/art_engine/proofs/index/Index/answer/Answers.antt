@@ -1,21 +1,16 @@
 use Rattle.std.proofs.Common.{rules, refl, ◌≡◌, ℕ, List, ◌++◌, ap, sym, ◌∙◌, subst, false}
 use Rattle.std.proofs.lemmas.Bool.{false≢true}
 use Rattle.std.specs.Prelude.{Option, Some, option_map}
+use Rattle.art_lines.proofs.Common.{tenant_in_place, command_with, looks_up, changes, drops, asks_all, when_err, spells}
 use Rattle.art_lines.specs.declared.command.fields.Fields.{Fields}
 use Rattle.art_lines.specs.declared.command.word.Word.{Word}
-use Rattle.art_engine.specs.Counts.{IsShort, ReadsOwnPath}
+use Rattle.art_engine.proofs.Terms.{IsShort, ReadsOwnPath, Records, State, all_records_of}
 use Rattle.art_lines.specs.Reading.{command_of}
-use Rattle.art_engine.specs.Records.{Records}
-use Rattle.art_engine.specs.State.{State}
-use Rattle.art_lines.specs.Parsed.{tenant_in_place, command_with, looks_up, changes, drops, asks_all}
-use Rattle.art_engine.specs.Stored.{all_records_of}
 use Rattle.art_engine.proofs.CutRuns.{cut_line}
-use Rattle.art_lines.proofs.Cuts.{when_err}
 use Rattle.art_engine.proofs.Replies.{done_told, done_left, done_lawful, told_of, all_told, all_left, all_lawful, same_left, bad_told, bad_left, drop_told, drop_left, drop_lawful, drop_reads}
 use Rattle.art_engine.proofs.Families.{look_leaves, all_leaves}
 use Rattle.art_engine.proofs.CountLaws.{short_of, own_path_of}
 use Rattle.art_engine.proofs.LineCounts.{line_reads, are_records}
-use Rattle.art_lines.proofs.Spelling.{spells}
 use Rattle.art_engine.proofs.index.Index.answer.Goals as goal
 use Rattle.art_engine.proofs.index.Index.answer.Goals.{in-Old-2, in-New-2, in-Gone-2}
 

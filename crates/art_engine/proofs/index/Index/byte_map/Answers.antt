@@ -1,6 +1,5 @@
 use Rattle.std.proofs.Common.{map, ap, ◌∙◌}
-use Rattle.art_engine.specs.Keys.{full_pair}
-use Rattle.art_engine.specs.State.{State}
+use Rattle.art_engine.proofs.Terms.{full_pair, State}
 use Rattle.art_engine.proofs.Placing.{pairs_are}
 use Rattle.art_engine.proofs.index.Index.byte_map.Goals as goal
 

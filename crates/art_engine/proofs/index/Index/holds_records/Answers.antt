@@ -1,6 +1,5 @@
 use Rattle.std.proofs.Common.{ap, subst}
-use Rattle.art_engine.specs.Records.{AreRecords}
-use Rattle.art_engine.specs.State.{State}
+use Rattle.art_engine.proofs.Terms.{AreRecords, State}
 use Rattle.art_engine.proofs.NumberPlaces.{are_in_order}
 use Rattle.art_engine.proofs.index.Index.holds_records.Goals as goal
 

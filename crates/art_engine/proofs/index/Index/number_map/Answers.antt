@@ -1,6 +1,5 @@
 use Rattle.std.proofs.Common.{map, ap, ◌∙◌}
-use Rattle.art_engine.specs.Keys.{number_pair}
-use Rattle.art_engine.specs.State.{State}
+use Rattle.art_engine.proofs.Terms.{number_pair, State}
 use Rattle.art_engine.proofs.NumberPlaces.{number_pairs_are}
 use Rattle.art_engine.proofs.index.Index.number_map.Goals as goal
 

@@ -1,7 +1,6 @@
-use Rattle.std.proofs.Common.{◌+◌, ◌≡◌, ◌≤◌, ℕ, List, length, drop, ap, ap₂, sym, subst, arith}
-use Rattle.art_lines.specs.Words.{line_of}
-use Rattle.art_lines.specs.ReplyWords.{pair_words}
-use Rattle.art_engine.specs.Spans.{own_pair}
+use Rattle.std.proofs.Common.{◌≤◌, ℕ, List, length, drop, ap, ap₂, sym, subst, arith}
+use Rattle.art_lines.proofs.Common.{line_of, pair_words}
+use Rattle.art_engine.proofs.Terms.{own_pair}
 use Rattle.art_engine.proofs.listing.VecU8ListedKey.gather.Goals as goal
 
 pub gather_pair-requires-clause-front : goal.gather_pair-requires-clause-front

@@ -1,13 +1,8 @@
 use Rattle.std.proofs.Common.{◌+◌, ◌≤◌, ℕ, List, length, drop, map, ap, ap₂, sym, ◌∙◌, subst, Some}
 use Rattle.std.specs.Prelude.{option_map}
-use Rattle.art_arena.specs.tree.Tenants.{begins_with}
-use Rattle.art_engine.specs.Counts.{exactly, path_nodes, Grew}
-use Rattle.art_engine.specs.Keys.{full_key_of}
-use Rattle.art_lines.specs.Words.{line_of}
-use Rattle.art_lines.specs.ReplyWords.{pair_words}
-use Rattle.art_engine.specs.Spans.{IsListed}
-use Rattle.art_engine.specs.Stored.{Pair, record_of}
-use Rattle.art_lines.specs.Parsed.{tenant_in_place, key_in_place}
+use Rattle.art_arena.proofs.Common.{begins_with}
+use Rattle.art_engine.proofs.Terms.{exactly, path_nodes, Grew, full_key_of, IsListed, Pair, record_of}
+use Rattle.art_lines.proofs.Common.{line_of, pair_words, tenant_in_place, key_in_place}
 use Rattle.art_engine.proofs.Finding.{all_found, front_found}
 use Rattle.art_engine.proofs.ListedLines.{are_listed}
 use Rattle.art_engine.proofs.RecordCounts.{record_path}

@@ -1,8 +1,8 @@
 use Rattle.std.proofs.Common.{ℕ, List, ap, ◌∙◌, subst, Some}
 use Rattle.std.specs.Prelude.{option_map}
-use Rattle.art_walks.specs.MapReads.{ReadsPathOf}
-use Rattle.art_lines.specs.Parsed.{tenant_in_place, number_in_place}
-use Rattle.art_engine.specs.Stored.{NumberPair}
+use Rattle.art_walks.proofs.Common.{ReadsPathOf}
+use Rattle.art_lines.proofs.Common.{tenant_in_place, number_in_place}
+use Rattle.art_engine.proofs.Terms.{NumberPair}
 use Rattle.art_engine.proofs.RecordCounts.{number_path, number_value_found}
 use Rattle.art_engine.proofs.lookup.record.value_at_number.Goals as goal
 

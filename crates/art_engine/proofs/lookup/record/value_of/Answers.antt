@@ -1,9 +1,7 @@
 use Rattle.std.proofs.Common.{map, ap, ◌∙◌, subst, Some}
 use Rattle.std.specs.Prelude.{option_map}
-use Rattle.art_engine.specs.Counts.{exactly, path_nodes, Grew}
-use Rattle.art_engine.specs.Keys.{full_key_of}
-use Rattle.art_lines.specs.Parsed.{tenant_in_place, key_in_place}
-use Rattle.art_engine.specs.Stored.{Pair, record_of}
+use Rattle.art_engine.proofs.Terms.{exactly, path_nodes, Grew, full_key_of, Pair, record_of}
+use Rattle.art_lines.proofs.Common.{tenant_in_place, key_in_place}
 use Rattle.art_engine.proofs.RecordCounts.{record_path, value_found}
 use Rattle.art_engine.proofs.lookup.record.value_of.Goals as goal
 

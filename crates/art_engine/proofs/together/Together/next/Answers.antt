@@ -1,7 +1,7 @@
 use Rattle.std.proofs.Common.{rules, ◌≡◌, ◌+◌, ◌≤◌, [], drop, take, length, ap, sym, subst, ◌∙◌, arith}
 use Rattle.std.proofs.lemmas.List.{drop_all, length-take}
 use Rattle.std.specs.Map.Iter.{deref_pair}
-use Rattle.art_engine.specs.Spans.{pending_all}
+use Rattle.art_engine.proofs.Terms.{pending_all}
 use Rattle.art_engine.proofs.together.Together.next.Goals as goal
 
 pub returns-then-self-clause-gives : goal.returns-then-self-clause-gives

@@ -1,6 +1,6 @@
 use Rattle.std.proofs.Common.{◌≡◌, ◌+◌, ◌-◌, ◌<◌, suc, drop, take, Some, ap, sym, ◌∙◌, arith, rules}
 use Rattle.std.specs.List.{sum_by}
-use Rattle.art_engine.specs.Ahead.{told_at}
+use Rattle.art_engine.proofs.Terms.{told_at}
 use Rattle.art_engine.proofs.LinesAhead.{left_behind}
 use Rattle.art_engine.proofs.upcoming.Upcoming.turn.Goals as goal
 

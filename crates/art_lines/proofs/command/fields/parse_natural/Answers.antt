@@ -1,4 +1,4 @@
-use Rattle.std.proofs.Common.{◌≡◌, ◌<◌, ◌≤◌, ◌^◌, length, get_or, sym, ◌∙◌, arith}
+use Rattle.std.proofs.Common.{◌≡◌, ℕ, ◌<◌, ◌≤◌, ◌^◌, length, get_or, sym, ◌∙◌, arith}
 use Rattle.std.proofs.lemmas.Bool.{eqb-true, eqb-false, true≢false, and_from, le-leb}
 use Rattle.std.proofs.Math.Nat.{pow-le-pow_right}
 use Rattle.art_lines.proofs.Parsing.{natural_empty, natural_long, natural_padded, natural_other, natural_read, natural_wide}
@@ -17,19 +17,14 @@ returns-then-field-eq48-clause-natural c = natural_padded c.args.field.now c.if-
 pub returns-then-not-is_ascii_digit-clause-natural : goal.returns-then-not-is_ascii_digit-clause-natural
 returns-then-not-is_ascii_digit-clause-natural c = let v = c.if-not-is_ascii_digit.ensures in natural_other c.args.field.now c.loop-digit.digit-index c.loop-digit-test.true (λ h. absurd (true≢false (sym (and_from _ _ (le-leb 48 _ h.0) (le-leb _ 57 h.1)) ∙ sym v.value)))
 
+at_most : (digits : ℕ) → digits ≤ 18 → 10 ^ digits ≤ 10 ^ 18
+at_most digits few = let ten : 0 < 10 = omega arith in pow-le-pow_right ten few
+
 pub overflow_mul-number : goal.overflow_mul-number
-overflow_mul-number c =
-    let small = c.loop-digit.invariant.small in let within = c.loop-digit-test.true in let short = c.if-field-gt19.false in
-    let few : c.loop-digit.digit-index ≤ 18 = omega arith in let ten : 0 < 10 = omega arith in
-    let most : 10 ^ c.loop-digit.digit-index ≤ 10 ^ 18 = pow-le-pow_right ten few in
-    omega arith
+overflow_mul-number c = omega (arith, at_most c.loop-digit.digit-index (omega arith))
 
 pub overflow_add-number : goal.overflow_add-number
-overflow_add-number c =
-    let small = c.loop-digit.invariant.small in let within = c.loop-digit-test.true in let short = c.if-field-gt19.false in
-    let few : c.loop-digit.digit-index ≤ 18 = omega arith in let ten : 0 < 10 = omega arith in
-    let most : 10 ^ c.loop-digit.digit-index ≤ 10 ^ 18 = pow-le-pow_right ten few in
-    omega arith
+overflow_add-number c = omega (arith, at_most c.loop-digit.digit-index (omega arith))
 
 pub returns-then-number-clause-natural : goal.returns-then-number-clause-natural
 returns-then-number-clause-natural c =

@@ -1,5 +1,4 @@
-use Rattle.art_lines.specs.declared.command.word.Shape.TheVariants.{Key, KeyAndValue, Number, NumberAndValue, TwoNumbers, Tenant}
-use Rattle.art_lines.specs.Parsed.{tenant_in_place}
+use Rattle.art_lines.proofs.Terms.{Key, KeyAndValue, Number, NumberAndValue, TwoNumbers, Tenant, tenant_in_place}
 use Rattle.art_lines.proofs.Shapes.{by_shape, alone_read, nothing_behind, something_lacks, too_much}
 use Rattle.art_lines.proofs.command.shapes.read_behind.Goals as goal
 

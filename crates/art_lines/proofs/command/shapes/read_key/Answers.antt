@@ -1,4 +1,4 @@
-use Rattle.art_lines.specs.Parsed.{tenant_in_place, key_in_place}
+use Rattle.art_lines.proofs.Terms.{tenant_in_place, key_in_place}
 use Rattle.art_lines.specs.Reading.{bytes_in}
 use Rattle.art_lines.proofs.LastField.{no_bytes}
 use Rattle.art_lines.proofs.Shapes.{one_not_read, one_read}

@@ -1,4 +1,4 @@
-use Rattle.art_lines.specs.Parsed.{tenant_in_place, number_in_place}
+use Rattle.art_lines.proofs.Terms.{tenant_in_place, number_in_place}
 use Rattle.art_lines.specs.Reading.{number_in}
 use Rattle.art_lines.proofs.LastField.{no_number}
 use Rattle.art_lines.proofs.Shapes.{one_not_read, one_read}

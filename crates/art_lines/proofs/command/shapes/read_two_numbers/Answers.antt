@@ -1,5 +1,5 @@
 use Rattle.std.proofs.Common.{◌∙◌}
-use Rattle.art_lines.specs.Parsed.{tenant_in_place, number_in_place, bound_in_place}
+use Rattle.art_lines.proofs.Terms.{tenant_in_place, number_in_place, bound_in_place}
 use Rattle.art_lines.specs.Reading.{number_in}
 use Rattle.art_lines.proofs.LastField.{no_number}
 use Rattle.art_lines.proofs.Shapes.{tenant_not_read, middle_not_read, two_read}

@@ -1,6 +1,6 @@
 use Rattle.std.proofs.Common.{[], refl, sym, ap, subst, ◌∙◌, arith}
-use Rattle.art_arena.specs.tree.Changes.{IsIn}
-use Rattle.art_map.specs.Asked.{with_pairs_put}
+use Rattle.art_arena.proofs.Common.{IsIn}
+use Rattle.art_map.proofs.Terms.{with_pairs_put}
 use Rattle.art_map.proofs.Asks.{none-left}
 use Rattle.art_map.proofs.Puts.{put-behind}
 use Rattle.art_map.proofs.map.TreeMap.append.Goals as goal

@@ -1,10 +1,7 @@
 use Rattle.std.proofs.Common.{length, sym, ap, subst, ◌∙◌, arith}
 use Rattle.art_nodes.specs.declared.kind.NodeType.TheVariants.{Leaf}
-use Rattle.art_arena.specs.arena.Arena.{HasRoomOf}
-use Rattle.art_arena.specs.arena.Shapes.{key_of}
-use Rattle.art_arena.specs.tree.Order.{AscendsByKey}
-use Rattle.art_operations.specs.Rebuilds.{HasInnerRoom}
-use Rattle.art_operations.proofs.LeafNames.{same-names}
+use Rattle.art_arena.proofs.Common.{HasRoomOf, key_of, AscendsByKey}
+use Rattle.art_operations.proofs.Common.{HasInnerRoom, same-names}
 use Rattle.art_map.proofs.map.TreeMap.append_at_once.Goals as goal
 
 pub merge-requires : goal.merge-requires

@@ -1,6 +1,6 @@
 use Rattle.std.proofs.Common.{◌*◌, length, sym, ap, subst, ◌∙◌, arith}
-use Rattle.art_arena.specs.arena.Arena.{HasRoom}
-use Rattle.art_operations.proofs.LeafNames.{same-names}
+use Rattle.art_arena.proofs.Common.{HasRoom}
+use Rattle.art_operations.proofs.Common.{same-names}
 use Rattle.art_map.proofs.map.TreeMap.append_by_search.Goals as goal
 
 pub put_pairs-requires : goal.put_pairs-requires

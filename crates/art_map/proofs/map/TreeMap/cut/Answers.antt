@@ -1,12 +1,9 @@
 use Rattle.std.proofs.Common.{arith, ◌≡◌, ℕ, List, length, Some, sym, subst}
 use Rattle.std.proofs.Math.Logic.{∥∥₁_map}
-use Rattle.art_arena.specs.arena.Shapes.{key_of}
-use Rattle.art_arena.specs.arena.Steps.{steps_of}
-use Rattle.art_arena.specs.tree.Tenants.{with_front, without_front}
+use Rattle.art_arena.proofs.Common.{key_of, steps_of, with_front, without_front}
 use Rattle.art_operations.proofs.KnownRooms.{known-room}
-use Rattle.art_map.specs.Contents.{contents, pairs_from}
-use Rattle.art_map.specs.PrefixBlocks.{cut_visits, IsReadyPart}
-use Rattle.art_map.proofs.LeafNames.{kept-names, named}
+use Rattle.art_map.proofs.Terms.{pairs_from, cut_visits, IsReadyPart}
+use Rattle.art_map.proofs.LeafNames.{names-between}
 use Rattle.art_map.proofs.PrefixBlocks.{cut-count, cut-left, cut-map, cut-visits, place-there}
 use Rattle.art_map.proofs.map.TreeMap.cut.Goals as goal
 
@@ -44,12 +41,4 @@ returns-clause-visits g c =
 
 pub returns-clause-names : goal.returns-clause-names
 returns-clause-names g c =
-    let bytes = g.K.AsBytes.bytes in
-    let is_key = g.K.AsBytes.is_key in
-    let P = g.row.PREFIX_LEN in
-    let old = c.self.inside.arena in
-    let root = c.self.inside.root in
-    let new = c.apply-cut.new.arena in
-    let r = subst (λ m. (front : List ℕ) × ∥ IsReadyPart bytes P m front (Some c.args.ready) ∥₁) (sym c.self.view_is) c.requires in
-    let map = cut-map bytes P r.0 is_key old root c.self.invariant c.args.ready.point (∥∥₁_map r.1 (λ ready. ready.0)) new c.apply-cut.result c.apply-cut.ensures.cut in
-    rw (← c.self.view_is) (kept-names bytes (contents old root) (contents new c.apply-cut.result.new_root) (named bytes P old is_key root c.self.invariant) (named bytes P new is_key c.apply-cut.result.new_root map) c.apply-cut.ensures.names)
+    rw (← c.self.view_is) (names-between g.K.AsBytes.bytes g.row.PREFIX_LEN g.K.AsBytes.is_key c.self.inside.arena c.apply-cut.new.arena c.self.inside.root c.apply-cut.result.new_root c.self.invariant (invariant_of-self g c) c.apply-cut.ensures.names)

@@ -1,8 +1,7 @@
 use Rattle.std.proofs.Common.{arith, length, sym, ap, ◌∙◌}
-use Rattle.art_arena.specs.arena.Shapes.{key_of}
-use Rattle.art_arena.specs.tree.Tenants.{begins_with}
-use Rattle.art_operations.proofs.KeyedLists.{all-but-none}
-use Rattle.art_map.specs.PrefixBlocks.{Block}
+use Rattle.art_arena.proofs.Common.{key_of, begins_with}
+use Rattle.art_operations.proofs.Common.{all-but-none}
+use Rattle.art_map.proofs.Terms.{Block}
 use Rattle.art_map.proofs.PrefixBlocks.{none-ready, none-visits}
 use Rattle.art_map.proofs.map.TreeMap.cut_block.Goals as goal
 

@@ -1,8 +1,6 @@
 use Rattle.std.proofs.Common.{refl, sym, ap, subst, ◌∙◌, arith}
 use Rattle.std.specs.Map.Calls.{CalledAtPair, RetainsPairs, TakesPair}
-use Rattle.art_map.specs.Extractions.{map_of}
-use Rattle.art_map.specs.LeafNames.{AddsNoLeaf}
-use Rattle.art_map.specs.inner.Asks.{asking_by}
+use Rattle.art_map.proofs.Terms.{map_of, AddsNoLeaf, asking_by}
 use Rattle.art_map.proofs.Asks.{callable-first, none-left, on-err, one-left, retained-all, retaining-all, retaining-kept, retaining-stopped, retaining-taken}
 use Rattle.art_map.proofs.LeafNames.{then-names}
 use Rattle.art_map.proofs.map.TreeMap.drop_others.Goals.{After-take}

@@ -1,8 +1,6 @@
 use Rattle.std.proofs.Common.{◌≡◌, length}
 use Rattle.std.specs.Map.Calls.{CalledAtPair, TakesPair}
-use Rattle.art_map.specs.Extractions.{left_of, map_of}
-use Rattle.art_map.specs.LeafNames.{AddsNoLeaf}
-use Rattle.art_map.specs.inner.Asks.{asking_by}
+use Rattle.art_map.proofs.Terms.{left_of, map_of, AddsNoLeaf, asking_by}
 use Rattle.art_map.proofs.Asks.{Retaining}
 use Rattle.art_map.proofs.map.TreeMap.drop_others.Given as goal
 

@@ -1,7 +1,6 @@
 use Rattle.std.proofs.Common.{Some, option_map, sym, arith}
-use Rattle.art_arena.specs.arena.Shapes.{leaves}
-use Rattle.art_operations.specs.KeyedLists.{overlaps}
-use Rattle.art_operations.proofs.RangeEnds.{tree_ascends}
+use Rattle.art_arena.proofs.Common.{leaves}
+use Rattle.art_operations.proofs.Common.{overlaps, tree_ascends}
 use Rattle.art_map.proofs.Maps.{looked-up}
 use Rattle.art_map.proofs.Overlapped.{first_of, lone_ends, many_ends, overlap_convex}
 use Rattle.art_map.proofs.Ranges.{top-stores, walk-nowhere, walk-where}

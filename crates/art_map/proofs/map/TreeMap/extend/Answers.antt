@@ -1,6 +1,5 @@
 use Rattle.std.proofs.Common.{[], map, refl, arith}
-use Rattle.art_map.specs.Asked.{with_pairs_put}
-use Rattle.art_map.specs.Builders.{nodes_of}
+use Rattle.art_map.proofs.Terms.{with_pairs_put, nodes_of}
 use Rattle.art_map.proofs.LeafNames.{then-names}
 use Rattle.art_map.proofs.Puts.{gather-extends, next-back}
 use Rattle.art_map.proofs.map.TreeMap.extend.Goals as goal

@@ -1,7 +1,6 @@
 use Rattle.std.proofs.Common.{[], map, refl, arith}
 use Rattle.std.specs.Map.Iter.{deref_pair}
-use Rattle.art_map.specs.Asked.{with_pairs_put}
-use Rattle.art_map.specs.Builders.{nodes_of}
+use Rattle.art_map.proofs.Terms.{with_pairs_put, nodes_of}
 use Rattle.art_map.proofs.LeafNames.{then-names}
 use Rattle.art_map.proofs.Puts.{gather-extends, next-back}
 use Rattle.art_map.proofs.map.TreeMap.extend_from_refs.Goals as goal

@@ -1,6 +1,6 @@
 use Rattle.std.proofs.Common.{ap₂, ◌∙◌}
-use Rattle.art_map.specs.Ranges.{pairs_between}
-use Rattle.art_walks.proofs.RunLengths.{run-pairs}
+use Rattle.art_map.proofs.Terms.{pairs_between}
+use Rattle.art_walks.proofs.Common.{run-pairs}
 use Rattle.art_map.proofs.map.TreeMap.extraction.Goals as goal
 
 pub returns-clause-left : goal.returns-clause-left

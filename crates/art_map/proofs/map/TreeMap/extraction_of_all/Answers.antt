@@ -1,5 +1,5 @@
 use Rattle.std.proofs.Common.{◌∙◌}
-use Rattle.art_walks.proofs.RunLengths.{run-pairs}
+use Rattle.art_walks.proofs.Common.{run-pairs}
 use Rattle.art_map.proofs.Ranges.{all-between}
 use Rattle.art_map.proofs.map.TreeMap.extraction_of_all.Goals as goal
 

@@ -1,7 +1,7 @@
 use Rattle.art_map.proofs.Maps.{first-found}
 use Rattle.art_map.proofs.map.TreeMap.first.Goals as goal
 
-pub returns-in-Some : goal.returns-in-Some
-returns-in-Some g c =
+pub returns : goal.returns
+returns g c =
     rw (← c.self.view_is)
-    (first-found g.K.AsBytes.bytes g.K.AsBytes.is_key g.row.PREFIX_LEN c.self.inside.arena c.self.inside.root c.in-Some.root c.in-Some.is c.self.invariant c.minimum_unchecked.result c.minimum_unchecked.ensures)
+    (first-found g.K.AsBytes.bytes g.K.AsBytes.is_key g.row.PREFIX_LEN c.self.inside.arena c.self.inside.root c.in_ok-root.root c.in_ok-root.was c.self.invariant c.minimum_unchecked.result c.minimum_unchecked.ensures)

@@ -1,5 +1,5 @@
 use Rattle.std.proofs.Common.{[], map, refl, arith}
-use Rattle.art_map.specs.Asked.{with_pairs_put}
+use Rattle.art_map.proofs.Terms.{with_pairs_put}
 use Rattle.art_map.proofs.Puts.{made-refused, next-back}
 use Rattle.art_map.proofs.map.TreeMap.from_iter.Goals as goal
 

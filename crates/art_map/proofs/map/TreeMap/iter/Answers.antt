@@ -1,5 +1,5 @@
 use Rattle.std.proofs.Common.{length, sym, ap, ◌∙◌, arith}
-use Rattle.art_map.specs.Contents.{Contents}
+use Rattle.art_map.proofs.Terms.{Contents}
 use Rattle.art_map.proofs.Maps.{ascending-map, as-counted}
 use Rattle.art_map.proofs.map.TreeMap.iter.Goals as goal
 

@@ -1,5 +1,5 @@
 use Rattle.std.proofs.Common.{sym, ◌∙◌}
-use Rattle.art_walks.proofs.RunLengths.{measured, recounted, run-pairs}
+use Rattle.art_walks.proofs.Common.{measured, recounted, run-pairs}
 use Rattle.art_map.proofs.map.TreeMap.iter_mut.Goals as goal
 
 pub invariant_of-result : goal.invariant_of-result

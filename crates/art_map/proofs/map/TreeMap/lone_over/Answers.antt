@@ -1,6 +1,6 @@
 use Rattle.std.proofs.Common.{eqb-true, sym}
 use Rattle.std.proofs.lemmas.Bool.{eqb-false}
-use Rattle.art_map.specs.Overlapped.{overlaps_query}
+use Rattle.art_map.proofs.Terms.{overlaps_query}
 use Rattle.art_map.proofs.Overlapped.{lone-at, not_lone}
 use Rattle.art_map.proofs.map.TreeMap.lone_over.Goals as goal
 

@@ -1,6 +1,5 @@
 use Rattle.std.proofs.Common.{arith}
-use Rattle.art_map.specs.Asked.{with_pairs_put}
-use Rattle.art_map.specs.Contents.{pairs_from}
+use Rattle.art_map.proofs.Terms.{with_pairs_put, pairs_from}
 use Rattle.art_map.proofs.Below.{has-seen}
 use Rattle.art_map.proofs.Maps.{make}
 use Rattle.art_map.proofs.map.TreeMap.merge.Goals as goal

@@ -1,7 +1,5 @@
 use Rattle.std.proofs.Common.{sym, subst, ◌∙◌, ◌-◌, ◌*◌, arith}
-use Rattle.art_arena.specs.arena.Arena.{HasRoom}
-use Rattle.art_arena.specs.arena.Shapes.{key_of}
-use Rattle.art_arena.specs.tree.Order.{AscendsByKey}
+use Rattle.art_arena.proofs.Common.{HasRoom, key_of, AscendsByKey}
 use Rattle.art_operations.proofs.NewNodes.{fewer}
 use Rattle.art_map.proofs.LeafNames.{then-names}
 use Rattle.art_map.proofs.map.TreeMap.move_last.Goals as goal

@@ -1,6 +1,6 @@
 use Rattle.std.proofs.Common.{◌≡◌, ◌+◌, ◌++◌, ◌-◌, ◌*◌, length}
-use Rattle.art_arena.specs.arena.Arena.{HasRoom}
-use Rattle.art_map.specs.LeafNames.{AddsNoLeaf}
+use Rattle.art_arena.proofs.Common.{HasRoom}
+use Rattle.art_map.proofs.Terms.{AddsNoLeaf}
 use Rattle.art_map.proofs.map.TreeMap.move_last.Given as goal
 
 abbrev pub invariant-loop : goal.invariant-loop

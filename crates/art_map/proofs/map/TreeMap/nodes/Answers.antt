@@ -1,4 +1,4 @@
-use Rattle.art_operations.proofs.HeldPairs.{pairs-tree}
+use Rattle.art_operations.proofs.Common.{pairs-tree}
 use Rattle.art_map.proofs.Maps.{ascending-map}
 use Rattle.art_map.proofs.map.TreeMap.nodes.Goals as goal
 

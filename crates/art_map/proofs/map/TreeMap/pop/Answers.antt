@@ -1,8 +1,8 @@
 use Rattle.std.proofs.Common.{[], Some, None, subst}
-use Rattle.art_operations.specs.Pairs.{HasTakenEnd}
+use Rattle.art_operations.proofs.Common.{HasTakenEnd}
 use Rattle.art_map.proofs.Maps.{end-map, end-pairs, end-none-map, end-none-pairs, same-map, same-pairs}
-use Rattle.art_map.specs.Contents.{contents, pairs_from}
-use Rattle.art_map.proofs.LeafNames.{kept-names, named}
+use Rattle.art_map.proofs.Terms.{pairs_from}
+use Rattle.art_map.proofs.LeafNames.{names-between}
 use Rattle.art_map.proofs.map.TreeMap.pop.Goals.{After-into_entry, In-Ok-None}
 use Rattle.art_map.proofs.map.TreeMap.pop.Goals as goal
 
@@ -62,22 +62,8 @@ returns-in-Ok-None-clause-none_new g c = rw (← c.self.view_is) c.in-Ok-None.en
 
 pub returns-in-Ok-Some-clause-names : goal.returns-in-Ok-Some-clause-names
 returns-in-Ok-Some-clause-names g c =
-    let bytes = g.K.AsBytes.bytes in
-    let is_key = g.K.AsBytes.is_key in
-    let P = g.row.PREFIX_LEN in
-    let old = c.self.inside.arena in
-    let root = c.self.inside.root in
-    let new = c.take_end.new.arena in
-    let map = end-map bytes is_key P old root c.self.invariant new c.args.end c.in-Ok-Some.deleted (one-taken g c) in
-    rw (← c.self.view_is) (kept-names bytes (contents old root) (contents new c.in-Ok-Some.deleted.new_root) (named bytes P old is_key root c.self.invariant) (named bytes P new is_key c.in-Ok-Some.deleted.new_root map) c.in-Ok-Some.ensures.names)
+    rw (← c.self.view_is) (names-between g.K.AsBytes.bytes g.row.PREFIX_LEN g.K.AsBytes.is_key c.self.inside.arena c.take_end.new.arena c.self.inside.root c.in-Ok-Some.deleted.new_root c.self.invariant (invariant_of-self g c) c.in-Ok-Some.ensures.names)
 
 pub returns-in-Ok-None-clause-names : goal.returns-in-Ok-None-clause-names
 returns-in-Ok-None-clause-names g c =
-    let bytes = g.K.AsBytes.bytes in
-    let is_key = g.K.AsBytes.is_key in
-    let P = g.row.PREFIX_LEN in
-    let old = c.self.inside.arena in
-    let root = c.self.inside.root in
-    let new = c.take_end.new.arena in
-    let map = end-none-map bytes is_key P old root c.self.invariant new c.args.end (none-taken g c) in
-    rw (← c.self.view_is) (kept-names bytes (contents old root) (contents new root) (named bytes P old is_key root c.self.invariant) (named bytes P new is_key root map) c.in-Ok-None.ensures.names)
+    rw (← c.self.view_is) (names-between g.K.AsBytes.bytes g.row.PREFIX_LEN g.K.AsBytes.is_key c.self.inside.arena c.take_end.new.arena c.self.inside.root c.self.inside.root c.self.invariant (invariant_of-self-in-Ok-None g c) c.in-Ok-None.ensures.names)

@@ -1,5 +1,5 @@
 use Rattle.std.proofs.Common.{◌∙◌}
-use Rattle.art_walks.proofs.RunLengths.{recounted, run-pairs}
+use Rattle.art_walks.proofs.Common.{recounted, run-pairs}
 use Rattle.art_map.proofs.map.TreeMap.prefix_mut.Goals as goal
 
 pub invariant_of-result : goal.invariant_of-result

@@ -1,7 +1,6 @@
 use Rattle.std.proofs.Common.{[], sym, subst, arith, ◌∙◌}
-use Rattle.art_operations.specs.LeafNames.{KeepsLeavesOf}
-use Rattle.art_operations.specs.Pairs.{CanPutOver}
-use Rattle.art_map.specs.Contents.{pairs_from}
+use Rattle.art_operations.proofs.Common.{KeepsLeavesOf, CanPutOver}
+use Rattle.art_map.proofs.Terms.{pairs_from}
 use Rattle.art_map.proofs.Maps.{over-count, over-map, over-pairs, same-map, same-pairs}
 use Rattle.art_map.proofs.map.TreeMap.prefix_put.Goals as goal
 

@@ -1,5 +1,5 @@
 use Rattle.std.proofs.Common.{[], ap, ◌∙◌}
-use Rattle.art_map.specs.Contents.{option_value}
+use Rattle.art_map.proofs.Terms.{option_value}
 use Rattle.art_map.proofs.Maps.{put-map, put-pairs, put-value, same-map, same-pairs}
 use Rattle.art_map.proofs.map.TreeMap.put_leaf_at.Goals as goal
 

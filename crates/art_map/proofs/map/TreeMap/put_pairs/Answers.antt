@@ -1,7 +1,7 @@
 use Rattle.std.proofs.Common.{refl, sym, ap, subst, length, ◌∙◌, ◌*◌, arith}
-use Rattle.art_arena.specs.arena.Arena.{HasRoom}
+use Rattle.art_arena.proofs.Common.{HasRoom}
 use Rattle.art_operations.proofs.NewNodes.{fewer}
-use Rattle.art_map.specs.Asked.{with_pairs_put}
+use Rattle.art_map.proofs.Terms.{with_pairs_put}
 use Rattle.art_map.proofs.LeafNames.{then-names}
 use Rattle.art_map.proofs.map.TreeMap.put_pairs.Goals as goal
 

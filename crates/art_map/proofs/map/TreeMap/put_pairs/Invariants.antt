@@ -1,7 +1,6 @@
 use Rattle.std.proofs.Common.{◌≡◌, ◌*◌, length}
-use Rattle.art_arena.specs.arena.Arena.{HasRoom}
-use Rattle.art_map.specs.Asked.{with_pairs_put}
-use Rattle.art_map.specs.LeafNames.{KeepsAllLeaves}
+use Rattle.art_arena.proofs.Common.{HasRoom}
+use Rattle.art_map.proofs.Terms.{with_pairs_put, KeepsAllLeaves}
 use Rattle.art_map.proofs.map.TreeMap.put_pairs.Given as goal
 
 abbrev pub invariant-loop-key : goal.invariant-loop-key

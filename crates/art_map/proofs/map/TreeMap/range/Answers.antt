@@ -1,5 +1,5 @@
 use Rattle.std.proofs.Common.{ap₂, ◌∙◌}
-use Rattle.art_map.specs.Ranges.{pairs_between}
+use Rattle.art_map.proofs.Terms.{pairs_between}
 use Rattle.art_map.proofs.map.TreeMap.range.Goals as goal
 
 pub returns-clause-rest : goal.returns-clause-rest

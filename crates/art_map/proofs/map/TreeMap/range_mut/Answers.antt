@@ -1,6 +1,6 @@
 use Rattle.std.proofs.Common.{ap₂, ◌∙◌}
-use Rattle.art_walks.proofs.RunLengths.{recounted, run-pairs}
-use Rattle.art_map.specs.Ranges.{pairs_between}
+use Rattle.art_walks.proofs.Common.{recounted, run-pairs}
+use Rattle.art_map.proofs.Terms.{pairs_between}
 use Rattle.art_map.proofs.map.TreeMap.range_mut.Goals as goal
 
 pub invariant_of-result : goal.invariant_of-result

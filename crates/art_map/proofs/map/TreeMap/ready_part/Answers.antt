@@ -1,7 +1,6 @@
 use Rattle.std.proofs.Common.{arith, ℕ, List, Some, sym, subst}
 use Rattle.std.specs.Prelude.{IfOk, OnErr}
-use Rattle.art_map.specs.PrefixBlocks.{IsFoundPart, IsReadyPart, ShrinksAtCut}
-use Rattle.art_map.specs.Contents.{contents}
+use Rattle.art_map.proofs.Terms.{IsFoundPart, IsReadyPart, ShrinksAtCut, contents}
 use Rattle.art_map.proofs.Entries.{err-on}
 use Rattle.art_map.proofs.Maps.{same-map, same-pairs}
 use Rattle.art_map.proofs.PrefixBlocks.{cut-shrinks, place-there, ready-same}

@@ -1,6 +1,6 @@
 use Rattle.std.proofs.Common.{sym, subst, arith}
-use Rattle.art_arena.specs.arena.Shapes.{key_of}
-use Rattle.art_operations.specs.KeyedLists.{IsBlocked}
+use Rattle.art_arena.proofs.Common.{key_of}
+use Rattle.art_operations.proofs.Common.{IsBlocked}
 use Rattle.art_map.proofs.map.TreeMap.refusal.Goals as goal
 
 pub blocked-requires : goal.blocked-requires

@@ -1,6 +1,6 @@
 use Rattle.std.proofs.Common.{sym, subst}
-use Rattle.art_operations.proofs.LeafNames.{same-names}
-use Rattle.art_map.specs.LeafNames.{KeepsLeaves}
+use Rattle.art_operations.proofs.Common.{same-names}
+use Rattle.art_map.proofs.Terms.{KeepsLeaves}
 use Rattle.art_map.proofs.map.TreeMap.remove_prefix.Goals as goal
 
 pub returns-in-Ok-clause-names : goal.returns-in-Ok-clause-names

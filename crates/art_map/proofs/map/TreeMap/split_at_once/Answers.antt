@@ -1,6 +1,5 @@
 use Rattle.std.proofs.Common.{length, sym, ap, subst, ◌∙◌, arith}
-use Rattle.art_operations.specs.Rebuilds.{HasInnerRoom}
-use Rattle.art_operations.proofs.LeafNames.{same-names}
+use Rattle.art_operations.proofs.Common.{HasInnerRoom, same-names}
 use Rattle.art_map.proofs.map.TreeMap.split_at_once.Goals as goal
 
 pub split_into-requires : goal.split_into-requires

@@ -1,6 +1,6 @@
 use Rattle.std.proofs.Common.{◌++◌, length, sym, ap, ap₂, ◌∙◌, arith}
 use Rattle.std.proofs.lemmas.List.{append-nil}
-use Rattle.art_operations.proofs.LeafNames.{same-names}
+use Rattle.art_operations.proofs.Common.{same-names}
 use Rattle.art_map.proofs.map.TreeMap.split_by_ends.Goals as goal
 
 pub move_last-requires : goal.move_last-requires

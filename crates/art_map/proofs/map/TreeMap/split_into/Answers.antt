@@ -1,6 +1,6 @@
 use Rattle.std.proofs.Common.{◌+◌, ◌++◌, length, sym, ap, ap₂, subst, ◌∙◌, arith}
-use Rattle.art_arena.proofs.tree.Order.{all_left, all_right}
-use Rattle.art_map.specs.Contents.{pairs_from}
+use Rattle.art_arena.proofs.Common.{all_left, all_right}
+use Rattle.art_map.proofs.Terms.{pairs_from}
 use Rattle.art_map.proofs.Below.{has-seen}
 use Rattle.art_map.proofs.Maps.{AreKeys, make}
 use Rattle.art_map.proofs.map.TreeMap.split_into.Goals as goal

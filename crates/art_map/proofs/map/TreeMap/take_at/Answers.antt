@@ -1,9 +1,8 @@
 use Rattle.std.proofs.Common.{sym, arith, refl}
-use Rattle.art_operations.proofs.LeafNames.{same-names}
+use Rattle.art_operations.proofs.Common.{same-names}
 use Rattle.art_map.proofs.Maps.{same-map, same-pairs, taken-map, taken-pairs}
 use Rattle.art_map.proofs.MapLeaves.{among-tree, has-root, same-leaves, shrinks-leaf, taken-held, taken-leaf, taken-leaves}
-use Rattle.art_map.specs.Contents.{contents}
-use Rattle.art_map.proofs.LeafNames.{kept-names, named}
+use Rattle.art_map.proofs.LeafNames.{names-between}
 use Rattle.art_map.proofs.map.TreeMap.take_at.Goals as goal
 
 pub take_leaf-requires : goal.take_leaf-requires
@@ -58,15 +57,7 @@ returns-in-Ok-clause-none_new g c = rw (← c.self.view_is) c.in-Ok.ensures.name
 
 pub returns-in-Ok-clause-names : goal.returns-in-Ok-clause-names
 returns-in-Ok-clause-names g c =
-    let bytes = g.K.AsBytes.bytes in
-    let is_key = g.K.AsBytes.is_key in
-    let P = g.row.PREFIX_LEN in
-    let old = c.self.inside.arena in
-    let root = c.self.inside.root in
-    let new = c.take_leaf.new.arena in
-    let taken = taken-leaf bytes P is_key old root c.self.invariant c.args.leaf (rw (← c.self.view_is) at c.requires) c.in-Some.root c.in-Some.is new c.in-Ok.deleted c.in-Ok.ensures.ok in
-    let map = taken-map bytes is_key P old root c.self.invariant new (bytes c.in-Ok.deleted.deleted_leaf.key) c.in-Ok.deleted taken in
-    rw (← c.self.view_is) (kept-names bytes (contents old root) (contents new c.in-Ok.deleted.new_root) (named bytes P old is_key root c.self.invariant) (named bytes P new is_key c.in-Ok.deleted.new_root map) c.in-Ok.ensures.names)
+    rw (← c.self.view_is) (names-between g.K.AsBytes.bytes g.row.PREFIX_LEN g.K.AsBytes.is_key c.self.inside.arena c.take_leaf.new.arena c.self.inside.root c.in-Ok.deleted.new_root c.self.invariant (invariant_of-self g c) c.in-Ok.ensures.names)
 
 pub returns-in-Err-clause-none_new : goal.returns-in-Err-clause-none_new
 returns-in-Err-clause-none_new g c = rw (← c.self.view_is) (same-names g.K.AsBytes.bytes c.take_leaf.new.arena c.self.inside.arena (λ n. sym (c.in-Err.ensures.err n)))

@@ -1,6 +1,6 @@
 use Rattle.std.proofs.Common.{subst}
-use Rattle.art_operations.specs.LeafNames.{HasLeavesOf}
-use Rattle.art_map.specs.Builders.{HasGathered, nodes_of}
+use Rattle.art_operations.proofs.Common.{HasLeavesOf}
+use Rattle.art_map.proofs.Terms.{HasGathered, nodes_of}
 use Rattle.art_map.proofs.map.TreeMap.take_into_builder.Goals as goal
 
 pub returns-clause-pairs : goal.returns-clause-pairs

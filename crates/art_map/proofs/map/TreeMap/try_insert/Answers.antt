@@ -1,11 +1,8 @@
-use Rattle.std.proofs.Common.{sym, subst, arith, ◌∙◌}
-use Rattle.art_arena.specs.arena.Shapes.{key_of}
-use Rattle.art_operations.specs.Insertions.{IsForConflict, IsPairRefused}
-use Rattle.art_operations.specs.declared.insert.result.PairRefused.{PairRefused}
-use Rattle.art_operations.specs.declared.insert.result.PairRefused.TheVariants.{Conflict, Memory}
-use Rattle.art_operations.specs.KeyedLists.{IsBlocked}
-use Rattle.art_map.specs.Changes.{IsTryRefused}
-use Rattle.art_map.proofs.LookedUp.{lookup-value}
+use Rattle.std.proofs.Common.{sym, subst, arith}
+use Rattle.art_arena.proofs.Common.{key_of}
+use Rattle.art_operations.proofs.Common.{IsPairRefused, IsBlocked}
+use Rattle.art_map.proofs.Terms.{IsTryRefused}
+use Rattle.art_map.proofs.Joins.{blocked}
 use Rattle.art_map.proofs.map.TreeMap.try_insert.Goals.{In-Err}
 use Rattle.art_map.proofs.map.TreeMap.try_insert.Goals as goal
 
@@ -20,13 +17,5 @@ pub returns-in-Err-clause-refused : goal.returns-in-Err-clause-refused
 returns-in-Err-clause-refused g c =
     subst (λ ps. IsTryRefused g.K.AsBytes.bytes ps c.args.key c.args.value c.refusal.result) c.in-Err.ensures.err (c.refusal.ensures c.args.key c.args.value (told g (goal.at.returns-in-Err-clause-refused g c).In-Err))
 
--- where there is room, it is refused for a conflict
-blocked : {K V B R : Type 0} (k : K) (v : V) (e : PairRefused K V) → IsPairRefused k v B e → (R → IsForConflict e) → R → B
-blocked k v (Conflict l w) refused conflict room = refused.2
-blocked k v (Memory l w) refused conflict room = absurd (conflict room)
-
 pub returns-in-Err-clause-succeeds : goal.returns-in-Err-clause-succeeds
 returns-in-Err-clause-succeeds g c = blocked c.args.key c.args.value c.in-Err.refused c.in-Err.ensures.refused c.in-Err.ensures.succeeds
-
-pub returns-in-Ok-clause-value : goal.returns-in-Ok-clause-value
-returns-in-Ok-clause-value g c = c.value_of.ensures ∙ sym (lookup-value _ c.args.self.now.pairs c.in-Ok.old (sym c.in-Ok.ensures.old))

@@ -1,6 +1,6 @@
 use Rattle.std.proofs.Common.{arith}
-use Rattle.art_arena.specs.tree.Tenants.{begins_with}
-use Rattle.art_operations.proofs.Stretches.{front_convex}
+use Rattle.art_arena.proofs.Common.{begins_with}
+use Rattle.art_operations.proofs.Common.{front_convex}
 use Rattle.art_map.proofs.Ranges.{top-stores, walk-nowhere, walk-where}
 use Rattle.art_map.proofs.map.TreeMap.walk_behind.Goals as goal
 

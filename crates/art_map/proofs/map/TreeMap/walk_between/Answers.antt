@@ -1,8 +1,8 @@
 use Rattle.std.proofs.Common.{arith}
 use Rattle.std.specs.BTreeMap.Range.{range_contains}
 use Rattle.std.specs.Range.Bound.{bound_map}
-use Rattle.art_bytes.specs.Keys.{bytes_cmp}
-use Rattle.art_operations.proofs.Stretches.{between_convex}
+use Rattle.art_bytes.proofs.Common.{bytes_cmp}
+use Rattle.art_operations.proofs.Common.{between_convex}
 use Rattle.art_map.proofs.Ranges.{top-tree, run-nowhere, run-where, walk-nowhere, walk-where}
 use Rattle.art_map.proofs.map.TreeMap.walk_between.Goals as goal
 

@@ -1,7 +1,7 @@
 use Rattle.std.proofs.Common.{sym, subst}
-use Rattle.art_arena.specs.arena.Shapes.{key_of}
-use Rattle.art_operations.specs.KeyedLists.{overlapping}
-use Rattle.art_map.specs.Walked.{IsWalkOf}
+use Rattle.art_arena.proofs.Common.{key_of}
+use Rattle.art_operations.proofs.Common.{overlapping}
+use Rattle.art_map.proofs.Terms.{IsWalkOf}
 use Rattle.art_map.proofs.map.TreeMap.walk_over.Goals as goal
 
 pub returns : goal.returns

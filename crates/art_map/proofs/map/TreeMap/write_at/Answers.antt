@@ -1,5 +1,5 @@
 use Rattle.std.proofs.Common.{ap, ◌∙◌}
-use Rattle.art_operations.specs.Pairs.{with_pair_put}
+use Rattle.art_operations.proofs.Common.{with_pair_put}
 use Rattle.art_map.proofs.Written.{one-pair}
 use Rattle.art_map.proofs.map.TreeMap.write_at.Goals as goal
 

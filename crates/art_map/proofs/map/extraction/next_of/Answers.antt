@@ -1,7 +1,7 @@
 use Rattle.std.proofs.Common.{subst}
-use Rattle.art_arena.specs.arena.Arena.{links_at}
-use Rattle.art_operations.specs.Pairs.{IsAtEnd}
-use Rattle.art_walks.specs.Runs.{IsWalk}
+use Rattle.art_arena.proofs.Common.{links_at}
+use Rattle.art_operations.proofs.Common.{IsAtEnd}
+use Rattle.art_walks.proofs.Common.{IsWalk}
 use Rattle.art_map.proofs.map.extraction.next_of.Goals as goal
 
 pub returns-in-First-clause-taken : goal.returns-in-First-clause-taken

@@ -1,7 +1,6 @@
 use Rattle.std.proofs.Common.{sym, subst, arith}
-use Rattle.art_arena.specs.arena.Shapes.{pairs_of}
-use Rattle.art_operations.specs.Rebuilds.{HasInnerRoom, HoldsInOrder}
-use Rattle.art_operations.proofs.LeafListsOrdered.{inner-kept, inner-kept-of}
+use Rattle.art_arena.proofs.Common.{pairs_of}
+use Rattle.art_operations.proofs.Common.{HasInnerRoom, HoldsInOrder, inner-kept, inner-kept-of}
 use Rattle.art_map.proofs.CutLeaves.{all-before, joined, left-long, left-order, long-before, moved-long, moved-order, pairs-left-long}
 use Rattle.art_map.proofs.LeafNames.{then-names}
 use Rattle.art_map.proofs.Merged.{kept-leaf-names, same-leaf-names-back}

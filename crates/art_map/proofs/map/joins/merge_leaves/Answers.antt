@@ -1,11 +1,8 @@
 use Rattle.std.proofs.Common.{List, length, sym, ap, subst, arith}
 use Rattle.art_nodes.specs.declared.kind.NodeType.TheVariants.{Leaf}
-use Rattle.art_operations.specs.LeafCursors.{StandsAhead}
-use Rattle.art_operations.specs.Pairs.{HasPairs}
-use Rattle.art_operations.specs.Rebuilds.{HoldsInOrder}
+use Rattle.art_operations.proofs.Common.{StandsAhead, HasPairs, HoldsInOrder, ahead-of, in-order, inner-kept, inner-kept-of}
 use Rattle.art_operations.proofs.LeafListsMoved.{start_of}
-use Rattle.art_operations.proofs.LeafListsOrdered.{ahead-of, in-order, inner-kept, inner-kept-of}
-use Rattle.art_map.specs.Asked.{with_pairs_put}
+use Rattle.art_map.proofs.Terms.{with_pairs_put}
 use Rattle.art_map.proofs.CutLeaves.{pairs-long}
 use Rattle.art_map.proofs.LeafNames.{then-names}
 use Rattle.art_map.proofs.Merged.{put-long, same-leaf-names}

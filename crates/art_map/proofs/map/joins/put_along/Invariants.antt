@@ -1,11 +1,8 @@
 use Rattle.std.proofs.Common.{List, length}
 use Rattle.std.specs.List.{AllByRecursion}
 use Rattle.art_nodes.specs.declared.kind.NodeType.TheVariants.{Leaf}
-use Rattle.art_arena.specs.arena.Arena.{HasRoomOf}
-use Rattle.art_arena.specs.arena.Shapes.{key_of}
-use Rattle.art_arena.specs.tree.Order.{AscendsByKey}
-use Rattle.art_operations.specs.LeafCursors.{KeepsInnerRoom, StandsAhead}
-use Rattle.art_operations.specs.LeafNames.{HasLeavesOf}
+use Rattle.art_arena.proofs.Common.{HasRoomOf, key_of, AscendsByKey}
+use Rattle.art_operations.proofs.Common.{KeepsInnerRoom, StandsAhead, HasLeavesOf}
 use Rattle.art_map.proofs.Merged.{MergesOn}
 use Rattle.art_map.proofs.map.joins.put_along.Given as goal
 

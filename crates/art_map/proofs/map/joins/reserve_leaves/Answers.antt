@@ -1,4 +1,4 @@
-use Rattle.art_operations.proofs.LeafListsOrdered.{inner-kept-of}
+use Rattle.art_operations.proofs.Common.{inner-kept-of}
 use Rattle.art_map.proofs.map.joins.reserve_leaves.Goals as goal
 
 pub returns-clause-inner : goal.returns-clause-inner

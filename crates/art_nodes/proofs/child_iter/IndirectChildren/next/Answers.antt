@@ -1,6 +1,6 @@
 use Rattle.std.proofs.Common.{◌<◌, length, ap₂, arith}
 use Rattle.std.specs.List.{zip}
-use Rattle.art_nodes.specs.inner.Place.{bytes_within}
+use Rattle.art_nodes.proofs.Terms.{bytes_within}
 use Rattle.art_nodes.proofs.PlaceLemmas.{next-within}
 use Rattle.art_nodes.proofs.child_iter.IndirectChildren.next.Goals as goal
 

@@ -1,6 +1,6 @@
 use Rattle.std.proofs.Common.{◌≡◌, ◌<◌, ◌+◌, ◌∷◌, [], ◌++◌, List, ℕ, length, length-append, ap, ap₂, ◌∙◌, arith}
 use Rattle.std.specs.List.{zip}
-use Rattle.art_nodes.specs.inner.Place.{bytes_within}
+use Rattle.art_nodes.proofs.Terms.{bytes_within}
 use Rattle.art_nodes.proofs.ChildLemmas.{zip-snoc}
 use Rattle.art_nodes.proofs.PlaceLemmas.{last-within}
 use Rattle.art_nodes.proofs.child_iter.IndirectChildren.next_back.Goals as goal

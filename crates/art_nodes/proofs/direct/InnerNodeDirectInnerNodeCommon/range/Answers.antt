@@ -1,6 +1,6 @@
 use Rattle.art_nodes.proofs.PlaceLemmas.{children_between-within}
 use Rattle.art_nodes.proofs.DirectLemmas.{ascending-table}
-use Rattle.art_nodes.specs.inner.Table.{children_from}
+use Rattle.art_nodes.proofs.Terms.{children_from}
 use Rattle.art_nodes.proofs.direct.InnerNodeDirectInnerNodeCommon.range.Goals as goal
 
 pub returns : goal.returns

@@ -1,6 +1,6 @@
 use Rattle.std.proofs.Common.{◌<◌, length, refl, sym, ◌∙◌, arith}
 use Rattle.std.proofs.lemmas.Option.{slice_get_read}
-use Rattle.art_nodes.specs.inner.Place.{place}
+use Rattle.art_nodes.proofs.Terms.{place}
 use Rattle.art_nodes.proofs.SortedLemmas.{found_here, found_nowhere}
 use Rattle.art_nodes.proofs.indirect.InnerNodeIndirectInnerNodeCommon.lookup_child.Goals as goal
 

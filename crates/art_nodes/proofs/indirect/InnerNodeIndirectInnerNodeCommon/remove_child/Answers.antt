@@ -1,8 +1,7 @@
 use Rattle.std.proofs.Common.{◌<◌, ◌-◌, min, length, refl, sym, ◌∙◌, arith}
 use Rattle.std.specs.List.{zip}
 use Rattle.std.proofs.lemmas.Option.{slice_get_read}
-use Rattle.art_nodes.specs.InnerNode.{without_child}
-use Rattle.art_nodes.specs.inner.Place.{place}
+use Rattle.art_nodes.proofs.Terms.{without_child, place}
 use Rattle.art_nodes.proofs.RowLemmas.{taken_out}
 use Rattle.art_nodes.proofs.SortedLemmas.{Becomes, sorted_node, found_here, found_nowhere, unchanged, removed}
 use Rattle.art_nodes.proofs.indirect.InnerNodeIndirectInnerNodeCommon.remove_child.Goals as goal

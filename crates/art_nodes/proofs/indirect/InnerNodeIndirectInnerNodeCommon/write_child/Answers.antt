@@ -1,8 +1,7 @@
 use Rattle.std.proofs.Common.{◌≡◌, ◌+◌, min, length, slice_set, arith}
 use Rattle.std.specs.List.{zip, refill}
 use Rattle.std.proofs.lemmas.List.{length-set}
-use Rattle.art_nodes.specs.InnerNode.{with_child}
-use Rattle.art_nodes.specs.inner.Place.{place}
+use Rattle.art_nodes.proofs.Terms.{with_child, place}
 use Rattle.art_nodes.proofs.RowLemmas.{refilled, pushed_in}
 use Rattle.art_nodes.proofs.SortedLemmas.{Becomes, sorted_node, replaced, added, room_there, place_there}
 use Rattle.art_nodes.proofs.indirect.InnerNodeIndirectInnerNodeCommon.write_child.Goals as goal

@@ -1,5 +1,5 @@
 use Rattle.std.proofs.Common.{◌≤◌, length, ap, ◌∙◌, arith}
-use Rattle.art_nodes.specs.Header.{Header}
+use Rattle.art_nodes.proofs.Terms.{Header}
 use Rattle.art_nodes.proofs.inner_node.InnerNodeCommon.attempt_pessimistic_match_prefix.Goals as goal
 
 pub returns-else-matched_bytes-len-clause-compared : goal.returns-else-matched_bytes-len-clause-compared

@@ -1,7 +1,7 @@
 use Rattle.std.proofs.Common.{◌≡◌, ◌≢◌, ◌==◌, ◌/◌, ◌%◌, ◌^◌, bit_and, true, false, slice_index, sym, ap, ◌∙◌, arith}
 use Rattle.std.specs.Int.{bit_at}
 use Rattle.std.proofs.lemmas.Nat.Bits.{shr_and_one, bit_at-lt}
-use Rattle.art_nodes.specs.inner.Mask.{is_marked}
+use Rattle.art_nodes.proofs.Terms.{is_marked}
 use Rattle.art_nodes.proofs.MaskLemmas.{stands, belongs}
 use Rattle.art_nodes.proofs.mask.Mask.find.Goals as goal
 

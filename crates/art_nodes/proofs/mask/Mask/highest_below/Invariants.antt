@@ -1,5 +1,5 @@
 use Rattle.std.proofs.Common.{◌≡◌, ◌<◌, ◌≤◌, ◌*◌, ℕ, false}
-use Rattle.art_nodes.specs.inner.Mask.{is_marked}
+use Rattle.art_nodes.proofs.Terms.{is_marked}
 use Rattle.art_nodes.proofs.mask.Mask.highest_below.Given as goal
 
 abbrev pub invariant-loop-at : goal.invariant-loop-at

@@ -1,5 +1,5 @@
 use Rattle.std.proofs.Common.{◌/◌, ◌<◌, length, arith}
-use Rattle.art_nodes.specs.inner.Mask.{is_marked}
+use Rattle.art_nodes.proofs.Terms.{is_marked}
 use Rattle.art_nodes.proofs.MaskLemmas.{inserted, fails_where_it_belongs, marked_now, others_now}
 use Rattle.art_nodes.proofs.mask.Mask.mark.Goals as goal
 

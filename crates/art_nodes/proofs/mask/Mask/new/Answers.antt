@@ -1,5 +1,5 @@
 use Rattle.std.proofs.Common.{[], ◌∷◌}
-use Rattle.art_nodes.specs.inner.Mask.{is_marked}
+use Rattle.art_nodes.proofs.Terms.{is_marked}
 use Rattle.art_nodes.proofs.PassingLemmas.{passing-none}
 use Rattle.art_nodes.proofs.MaskLemmas.{no_words}
 use Rattle.art_nodes.proofs.mask.Mask.new.Goals as goal

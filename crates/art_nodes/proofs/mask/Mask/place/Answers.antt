@@ -1,5 +1,6 @@
 use Rattle.std.proofs.Common.{◌≡◌, ◌+◌, ◌*◌, ◌/◌, refl, sym, ap, ap₂, ◌∙◌, arith, length}
-use Rattle.art_nodes.specs.inner.Mask.{is_marked, those_passing}
+use Rattle.art_nodes.specs.inner.Mask.{those_passing}
+use Rattle.art_nodes.proofs.Terms.{is_marked}
 use Rattle.art_nodes.proofs.PassingLemmas.{place_of_bound}
 use Rattle.art_nodes.proofs.MaskLemmas.{one_word_more, place_by_words}
 use Rattle.art_nodes.proofs.mask.Mask.place.Goals as goal

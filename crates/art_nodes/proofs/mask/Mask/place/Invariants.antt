@@ -1,5 +1,6 @@
 use Rattle.std.proofs.Common.{◌≡◌, ◌≤◌, ◌*◌, length}
-use Rattle.art_nodes.specs.inner.Mask.{is_marked, those_passing}
+use Rattle.art_nodes.specs.inner.Mask.{those_passing}
+use Rattle.art_nodes.proofs.Terms.{is_marked}
 use Rattle.art_nodes.proofs.mask.Mask.place.Given as goal
 
 abbrev pub invariant-loop-at : goal.invariant-loop-at

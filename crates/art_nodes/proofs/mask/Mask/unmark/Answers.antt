@@ -1,5 +1,5 @@
 use Rattle.std.proofs.Common.{◌/◌, ◌<◌, length, arith}
-use Rattle.art_nodes.specs.inner.Mask.{is_marked}
+use Rattle.art_nodes.proofs.Terms.{is_marked}
 use Rattle.art_nodes.proofs.MaskLemmas.{removed, passes_where_it_stands, unmarked_now, others_still}
 use Rattle.art_nodes.proofs.mask.Mask.unmark.Goals as goal
 

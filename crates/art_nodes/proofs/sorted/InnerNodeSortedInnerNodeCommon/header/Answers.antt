@@ -1,4 +1,4 @@
-use Rattle.art_nodes.specs.inner.Sorted.{in_use}
+use Rattle.art_nodes.proofs.Terms.{in_use}
 use Rattle.art_nodes.proofs.SortedLemmas.{IsInnerNode-sorted}
 use Rattle.art_nodes.proofs.sorted.InnerNodeSortedInnerNodeCommon.header.Goals as goal
 

@@ -1,6 +1,6 @@
 use Rattle.std.proofs.Common.{◌≡◌, ◌==◌, ◌<◌, Some, None, length, position, arith, ap, sym, ◌∙◌}
 use Rattle.std.proofs.lemmas.List.Quantifiers.{position-Some}
-use Rattle.art_nodes.specs.inner.Sorted.{in_use}
+use Rattle.art_nodes.proofs.Terms.{in_use}
 use Rattle.art_nodes.proofs.RowLemmas.{read_in_use}
 use Rattle.art_nodes.proofs.SortedLemmas.{found-at, found-nowhere}
 use Rattle.art_nodes.proofs.sorted.InnerNodeSortedInnerNodeCommon.lookup_child.Goals as goal

@@ -1,7 +1,7 @@
 use Rattle.std.proofs.Common.{take, sym, ◌∙◌}
 use Rattle.std.specs.List.{zip}
 use Rattle.std.specs.Range.Bound.{start_index, end_index}
-use Rattle.art_nodes.specs.inner.Sorted.{in_use}
+use Rattle.art_nodes.proofs.Terms.{in_use}
 use Rattle.art_nodes.proofs.PlaceLemmas.{children_between-within, place-all, place-le, place-within, valid-forward, within-zip}
 use Rattle.art_nodes.proofs.sorted.InnerNodeSortedInnerNodeCommon.range.Goals as goal
 

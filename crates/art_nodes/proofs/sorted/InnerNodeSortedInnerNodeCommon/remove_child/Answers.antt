@@ -1,8 +1,6 @@
 use Rattle.std.proofs.Common.{◌<◌, ◌≡◌, ◌-◌, Some, length, take, ap, arith, sym, ◌∙◌}
 use Rattle.std.specs.List.{remove, zip}
-use Rattle.art_nodes.specs.InnerNode.{without_child}
-use Rattle.art_nodes.specs.inner.Place.{StandsAt, BelongsAt}
-use Rattle.art_nodes.specs.inner.Sorted.{in_use}
+use Rattle.art_nodes.proofs.Terms.{without_child, StandsAt, BelongsAt, in_use}
 use Rattle.art_nodes.proofs.RowLemmas.{read_in_use}
 use Rattle.art_nodes.proofs.SortedLemmas.{BecomesRows, found_here, found_nowhere, sorted_node, unchanged, removed, rows_of}
 use Rattle.art_nodes.proofs.sorted.InnerNodeSortedInnerNodeCommon.remove_child.Goals as goal

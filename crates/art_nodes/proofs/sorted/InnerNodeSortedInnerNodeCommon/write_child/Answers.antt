@@ -1,10 +1,8 @@
 use Rattle.std.proofs.Common.{◌≡◌, ◌<◌, ◌+◌, take, slice_set, refl, arith, ◌∙◌}
 use Rattle.std.specs.List.{insert, zip}
-use Rattle.art_nodes.specs.InnerNode.{with_child}
+use Rattle.art_nodes.proofs.Terms.{with_child, StandsAt, BelongsAt, in_use}
 use Rattle.std.proofs.lemmas.List.{length-set}
 use lib.Seq.{take-set-lt}
-use Rattle.art_nodes.specs.inner.Place.{StandsAt, BelongsAt}
-use Rattle.art_nodes.specs.inner.Sorted.{in_use}
 use Rattle.art_nodes.proofs.SortedLemmas.{BecomesRows, sorted_node, replaced, added, room_there, place_there, counts_up, rows_of}
 use Rattle.art_nodes.proofs.sorted.InnerNodeSortedInnerNodeCommon.write_child.Goals as goal
 

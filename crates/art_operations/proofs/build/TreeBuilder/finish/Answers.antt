@@ -1,8 +1,6 @@
 use Rattle.std.proofs.Common.{[], ◌-◌, ◌+◌, suc, Some, None, refl, subst, ap, sym, ◌∙◌, arith}
-use Rattle.art_arena.specs.arena.Cells.{leaf_name}
-use Rattle.art_operations.specs.Pairs.{HasPairs}
-use Rattle.art_operations.specs.inner.Rebuilding.{HasSpineRoom}
-use Rattle.art_operations.specs.inner.Spines.{begin_of}
+use Rattle.art_arena.proofs.Common.{leaf_name}
+use Rattle.art_operations.proofs.Terms.{HasPairs, HasSpineRoom, begin_of}
 use Rattle.art_operations.proofs.Building.{builds-none, builds-some, finished, none-held, spine-of}
 use Rattle.art_operations.proofs.PassedLeaves.{never}
 use Rattle.art_operations.proofs.build.TreeBuilder.finish.Goals as goal

@@ -1,18 +1,10 @@
 use Rattle.std.proofs.Common.{◌≡◌, ◌<◌, ◌≤◌, ◌-◌, ◌∷◌, [], ◌++◌, ℕ, suc, Some, List, All, refl, sym, ap, subst, ◌∙◌, arith}
 use Rattle.std.proofs.lemmas.List.Elements.{All-get_or}
-use Rattle.art_bytes.specs.Keys.{IsBefore}
+use Rattle.art_bytes.proofs.Common.{IsBefore}
 use Rattle.art_nodes.specs.declared.kind.NodeType.TheVariants.{Leaf}
-use Rattle.art_arena.specs.arena.Arena.{Arena, links_at}
-use Rattle.art_arena.specs.arena.Rooms.{UsesRoomOf}
-use Rattle.art_arena.specs.arena.Cells.{leaf_name}
-use Rattle.art_arena.specs.arena.Shapes.{LeafAt}
-use Rattle.art_operations.specs.Builders.{Builds, BuildsUpTo, GoesBehind, IsPushRefused}
-use Rattle.art_operations.specs.Meetings.{PartAt}
+use Rattle.art_arena.proofs.Common.{Arena, links_at, UsesRoomOf, leaf_name, LeafAt}
+use Rattle.art_operations.proofs.Terms.{Builds, BuildsUpTo, GoesBehind, IsPushRefused, PartAt, Parted, HasStoredLast, IsListTo, Meets, CanPassAt, HasSpineRoom}
 use Rattle.art_operations.specs.declared.meeting.Meeting.TheVariants as meeting
-use Rattle.art_operations.specs.declared.meeting.Parted.{Parted}
-use Rattle.art_operations.specs.inner.Cursors.{HasStoredLast, IsListTo}
-use Rattle.art_operations.specs.inner.Meetings.{Meets}
-use Rattle.art_operations.specs.inner.Rebuilding.{CanPassAt, HasSpineRoom}
 use Rattle.art_operations.proofs.Building.{all_leaves, behind-all, behind-last, builds-some, is-before, is-held, last-bytes, new-inside, not-behind, old-byte, old-inside}
 use Rattle.art_operations.proofs.InnerRooms.{beside-leaf}
 use Rattle.art_operations.proofs.LeafNames.{same-names}

@@ -1,5 +1,5 @@
 use Rattle.std.proofs.Common.{◌++◌, ◌∷◌, [], None, sym, subst}
-use Rattle.art_operations.specs.Builders.{Builds, BuildsTo, BuildsUpTo}
+use Rattle.art_operations.proofs.Terms.{Builds, BuildsTo, BuildsUpTo}
 use Rattle.art_operations.proofs.Building.{builds-none}
 use Rattle.art_operations.proofs.InnerRooms.{beside-leaf}
 use Rattle.art_operations.proofs.Pushed.{first-pair, no-list, refused-builds, stored-names}

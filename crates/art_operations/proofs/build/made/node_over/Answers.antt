@@ -1,10 +1,8 @@
 use Rattle.std.proofs.Common.{◌≡◌, ◌+◌, ◌<◌, ◌∷◌, [], ◌++◌, ℕ, List, take, drop, length, get_or, suc, sym, ap, subst, ◌∙◌}
 use Rattle.std.proofs.lemmas.List.{take-append-drop, take_more}
 use Rattle.std.proofs.Math.Seq.{drop-cons}
-use Rattle.art_nodes.specs.InnerNode.{InnerNode, IsAscending, node_with, with_child}
-use Rattle.art_nodes.specs.Name.{Name}
-use Rattle.art_nodes.proofs.ChildLemmas.{with_child-behind}
-use Rattle.art_operations.specs.inner.Spines.{inner_over}
+use Rattle.art_nodes.proofs.Common.{InnerNode, IsAscending, node_with, with_child, Name, with_child-behind}
+use Rattle.art_operations.proofs.Terms.{inner_over}
 use Rattle.art_operations.proofs.build.made.node_over.Goals as goal
 
 -- a node of the children before a place, with the child there, has one child more

@@ -1,5 +1,5 @@
 use Rattle.std.proofs.Common.{◌≡◌, take}
-use Rattle.art_operations.specs.inner.Spines.{inner_over}
+use Rattle.art_operations.proofs.Terms.{inner_over}
 use Rattle.art_operations.proofs.build.made.node_over.Given as goal
 
 abbrev pub invariant-loop-child : goal.invariant-loop-child

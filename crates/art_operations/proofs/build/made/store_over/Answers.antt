@@ -1,6 +1,6 @@
 use Rattle.std.proofs.Common.{◌+◌, suc, length, arith}
+use Rattle.art_nodes.proofs.Common.{length-ascending}
 use Rattle.art_nodes.specs.declared.kind.NodeType.TheVariants.{Node4, Node16, Node32, Node48, Node256}
-use Rattle.art_nodes.proofs.ChildLemmas.{length-ascending}
 use Rattle.art_operations.proofs.InnerRooms.{fewer-leaves, first-room, stored}
 use Rattle.art_operations.proofs.Spines.{stored-leaves}
 use Rattle.art_operations.proofs.build.made.store_over.Goals as goal

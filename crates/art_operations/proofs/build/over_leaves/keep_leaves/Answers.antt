@@ -1,7 +1,6 @@
 use Rattle.std.proofs.Common.{[], Some, sym, subst, arith}
-use Rattle.art_arena.specs.arena.Shapes.{leaves}
-use Rattle.art_operations.specs.Pairs.{HasPairs}
-use Rattle.art_arena.proofs.shapes.Meanings.{nodes-subtree}
+use Rattle.art_arena.proofs.Common.{leaves, nodes-subtree}
+use Rattle.art_operations.proofs.Terms.{HasPairs}
 use Rattle.art_operations.proofs.KeptLeaves.{kept-leaves, none-in-order}
 use Rattle.art_operations.proofs.build.over_leaves.keep_leaves.Goals as goal
 

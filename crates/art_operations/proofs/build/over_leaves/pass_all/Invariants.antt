@@ -1,8 +1,6 @@
 use Rattle.std.proofs.Common.{List, Some}
-use Rattle.art_arena.specs.arena.Rooms.{SameLeaves}
-use Rattle.art_arena.specs.arena.Shapes.{LeafAt}
-use Rattle.art_operations.specs.Rebuilds.{HoldsInOrder}
-use Rattle.art_operations.specs.inner.Rebuilding.{HasSpineRoom}
+use Rattle.art_arena.proofs.Common.{SameLeaves, LeafAt}
+use Rattle.art_operations.proofs.Terms.{HoldsInOrder, HasSpineRoom}
 use Rattle.art_operations.proofs.PassedLeaves.{ArePassed}
 use Rattle.art_operations.proofs.build.over_leaves.pass_all.Given as goal
 

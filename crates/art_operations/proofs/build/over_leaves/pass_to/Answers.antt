@@ -1,9 +1,8 @@
 use Rattle.std.proofs.Common.{◌+◌, ◌<◌, ℕ, List, All, sym, subst, arith}
 use Rattle.std.proofs.lemmas.List.Elements.{All-get_or}
-use Rattle.art_bytes.specs.Keys.{IsBefore}
-use Rattle.art_arena.specs.arena.Shapes.{LeafAt}
-use Rattle.art_operations.specs.Meetings.{PartAt}
-use Rattle.art_operations.specs.inner.Rebuilding.{CanPass, CanPassAt}
+use Rattle.art_bytes.proofs.Common.{IsBefore}
+use Rattle.art_arena.proofs.Common.{LeafAt}
+use Rattle.art_operations.proofs.Terms.{PartAt, CanPass, CanPassAt}
 use Rattle.art_operations.proofs.Building.{old-byte, old-inside}
 use Rattle.art_operations.proofs.PassedLeaves.{above, next-is-held, next-read}
 use Rattle.art_operations.proofs.Rebuilding.{last-is-held, last-read}

@@ -1,5 +1,5 @@
 use Rattle.std.proofs.Common.{◌≤◌, length, [], Some, sym, subst, arith}
-use Rattle.art_operations.specs.Rebuilds.{HasInnerRoom, HoldsInOrder}
+use Rattle.art_operations.proofs.Terms.{HasInnerRoom, HoldsInOrder}
 use Rattle.art_operations.proofs.InnerRooms.{fresh-room}
 use Rattle.art_operations.proofs.PassedLeaves.{never, none-rebuilt, rebuilt}
 use Rattle.art_operations.proofs.Rebuilding.{last-stands}

@@ -1,27 +1,10 @@
-use Rattle.std.proofs.Common.{◌∙◌, arith}
-use Rattle.art_operations.proofs.Spines.{begin-from}
+use Rattle.std.proofs.Common.{IfOk, List, subst}
+use Rattle.art_nodes.proofs.Common.{Name}
+use Rattle.art_arena.proofs.Common.{Cell}
+use Rattle.art_operations.proofs.Terms.{HasSpine, OfEach}
 use Rattle.art_operations.proofs.build.spine.close.Goals as goal
 
-pub returns-then-begin-low-clause-closed : goal.returns-then-begin-low-clause-closed
-returns-then-begin-low-clause-closed g c =
-    let e = c.begin.ensures in
-    let least = begin-from c.args.low c.close.spine.stack.items in
-    omega (arith, e, least)
-
-pub close_top-requires : goal.close_top-requires
-close_top-requires g c =
-    let r = c.requires in
-    let e = c.begin.ensures in
-    (omega arith, (omega (arith, e), (r.0, (r.1.0, r.1.1, c.close.invariant.stands r.0 r.1.0 r.1.1 r.1.2))))
-
-pub close-preserved : goal.close-preserved
-close-preserved g c = record {
-  stands = λ rest key ls has. c.in_ok-part.ensures.ok rest key ls (c.close.invariant.stands rest key ls has);
-  room = λ more room. c.in_ok-part.ensures.room more (c.close.invariant.room more room);
-  leaves = λ slot. c.in_ok-part.ensures.leaves slot ∙ c.close.invariant.leaves slot;
-}
-
-pub returns-in_err-part-clause-succeeds : goal.returns-in_err-part-clause-succeeds
-returns-in_err-part-clause-succeeds g c = λ more room.
-    let ok = c.in_err-part.ensures.succeeds more (c.close.invariant.room more room) in
-    absurd (cc)
+pub returns-clause-ok : goal.returns-clause-ok
+returns-clause-ok g c =
+    subst (λ start. IfOk c.close_from.result (λ root. (rest : List (Name × Cell g.row.K.Denot g.row.V.Denot)) → OfEach (HasSpine g.K.AsBytes.bytes g.row.PREFIX_LEN c.args.arena.now c.args.spine.now rest c.args.last c.args.low start) (HasSpine g.K.AsBytes.bytes g.row.PREFIX_LEN c.close_from.new.arena c.close_from.new.spine rest c.args.last c.args.low root)))
+    c.to_opaque.ensures c.close_from.ensures.ok

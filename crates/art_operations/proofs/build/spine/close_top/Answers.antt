@@ -1,14 +1,9 @@
 use Rattle.std.proofs.Common.{◌≡◌, ◌+◌, ◌-◌, ◌<◌, ◌≤◌, ℕ, suc, List, [], ◌∷◌, All, length, length-append, take, drop, slice_index, refl, sym, ap, subst, ◌∙◌, arith}
 use Rattle.std.proofs.lemmas.List.{take_all, length-drop}
 use Rattle.std.proofs.lemmas.List.Elements.{All-get_or}
-use Rattle.art_arena.specs.arena.Arena.{inner_held, Allocates}
-use Rattle.art_arena.specs.arena.Cells.{Cell}
-use Rattle.art_arena.specs.arena.Shapes.{LeafAt}
-use Rattle.art_arena.specs.tree.Kinds.{IsKindOf}
-use Rattle.art_nodes.specs.InnerNode.{IsAscending}
-use Rattle.art_nodes.specs.Name.{Name}
-use Rattle.art_operations.specs.Rebuilds.{HasInnerRoom}
-use Rattle.art_operations.specs.inner.Spines.{HasSpine, begin_of, inner_over}
+use Rattle.art_arena.proofs.Common.{inner_held, Allocates, Cell, LeafAt, IsKindOf}
+use Rattle.art_nodes.proofs.Common.{IsAscending, Name}
+use Rattle.art_operations.proofs.Terms.{HasInnerRoom, HasSpine, begin_of, inner_over}
 use Rattle.art_operations.proofs.Closing.{inside, from-before, own, own-children, own-ascending, own-two, other-children, all-count, left-count, closed}
 use Rattle.art_operations.proofs.InnerRooms.{closed-room}
 use Rattle.art_operations.proofs.build.spine.close_top.Goals as goal

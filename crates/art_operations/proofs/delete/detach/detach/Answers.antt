@@ -1,7 +1,7 @@
 use Rattle.std.proofs.Common.{[], ◌∷◌, sym, ap, subst, ◌∙◌, lit<}
-use Rattle.art_nodes.specs.Concrete.{inner_name_of}
-use Rattle.art_arena.specs.arena.Steps.{steps_of}
-use Rattle.art_operations.specs.Subtrees.{CanLoseChild}
+use Rattle.art_nodes.proofs.Common.{inner_name_of}
+use Rattle.art_arena.proofs.Common.{steps_of}
+use Rattle.art_operations.proofs.Terms.{CanLoseChild}
 use Rattle.art_operations.proofs.Detaching.{lone, child_part, loses_kind, apart_of_root, grand_node, grand_there, grand_child, grand_inner, apart_below, links_below}
 use Rattle.art_operations.proofs.Results.{always_err}
 use Rattle.art_operations.proofs.delete.detach.detach.Goals as goal

@@ -13,9 +13,3 @@ pub returns-in-Err-clause-err : goal.returns-in-Err-clause-err
 returns-in-Err-clause-err g c =
     let h = c.requires.held in
     undone c.args.arena.now c.edit_inner.new.self c.shrink.new.self c.edit_inner-in-Err.new.self c.args.parent h.0 c.args.byte c.args.child h.1 h.2 c.edit_inner.ensures.updates c.in-Err.ensures.err c.edit_inner-in-Err.ensures.updates
-
-pub returns-in-Err-clause-succeeds : goal.returns-in-Err-clause-succeeds
-returns-in-Err-clause-succeeds g c = λ room. c.in-Err.ensures.succeeds (c.edit_inner.ensures.room 1 room)
-
-pub returns-in-Err-clause-room : goal.returns-in-Err-clause-room
-returns-in-Err-clause-room g c = λ n room. c.edit_inner-in-Err.ensures.room n (c.in-Err.ensures.room n (c.edit_inner.ensures.room _ room))

@@ -1,11 +1,7 @@
 use Rattle.std.proofs.Common.{◌≡◌, ◌≢◌, ℕ, suc, ◌+◌, List, length, refl, sym, ◌∙◌, subst, lit<, arith}
-use Rattle.art_nodes.specs.Name.{Name}
-use Rattle.art_nodes.specs.Kind.{CanShrink}
-use Rattle.art_arena.specs.arena.Arena.{links_at}
-use Rattle.art_arena.specs.arena.Cells.{Cell}
-use Rattle.art_arena.specs.arena.Shapes.{name_of}
-use Rattle.art_arena.proofs.shapes.Updates.{links-same}
-use Rattle.art_operations.specs.inner.Detached.{IsChildPart, StandsFor}
+use Rattle.art_nodes.proofs.Common.{Name, CanShrink}
+use Rattle.art_arena.proofs.Common.{links_at, Cell, name_of, links-same}
+use Rattle.art_operations.proofs.Terms.{IsChildPart, StandsFor}
 use Rattle.art_operations.proofs.Door.{read_at}
 use Rattle.art_operations.proofs.Merges.{other_path, other_subtree, other_apart}
 use Rattle.art_operations.proofs.Results.{both_ok, from_err, either_way}

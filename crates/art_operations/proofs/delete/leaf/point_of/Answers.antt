@@ -1,5 +1,5 @@
 use Rattle.std.proofs.Common.{arith}
-use Rattle.art_arena.specs.arena.Steps.{steps_of}
+use Rattle.art_arena.proofs.Common.{steps_of}
 use Rattle.art_operations.proofs.NamedLeaves.{leaf-held, named-stores, named-place, same-named, bytes-held, not-missed}
 use Rattle.art_operations.proofs.delete.leaf.point_of.Goals as goal
 

@@ -1,6 +1,6 @@
 use Rattle.std.proofs.lemmas.Result.{on_err_weaker}
-use Rattle.art_arena.specs.arena.Steps.{steps_of}
-use Rattle.art_operations.specs.DeletePoints.{IsLeafPlace}
+use Rattle.art_arena.proofs.Common.{steps_of}
+use Rattle.art_operations.proofs.Terms.{IsLeafPlace}
 use Rattle.art_operations.proofs.LeafNames.{deleted-names}
 use Rattle.art_operations.proofs.NamedLeaves.{named-shrinks}
 use Rattle.art_operations.proofs.Results.{both_ok}

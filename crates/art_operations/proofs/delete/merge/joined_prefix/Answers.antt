@@ -1,5 +1,5 @@
 use Rattle.std.proofs.Common.{◌≡◌, ◌+◌, arith, refl}
-use Rattle.art_operations.proofs.JoinedPrefixes.{joined_header, covered}
+use Rattle.art_operations.proofs.JoinedPrefixes.{covered}
 use Rattle.art_operations.proofs.delete.merge.joined_prefix.Goals as goal
 
 pub push_prefix-requires-2 : goal.push_prefix-requires-2
@@ -12,8 +12,3 @@ push_prefix-requires-2 g c =
         omega (arith, len, c.prefix_len.ensures, c.requires.fits),
       ),
     )
-
-pub returns : goal.returns
-returns g c =
-    joined_header g.row.PREFIX_LEN c.args.above.now c.args.below.now c.without_children-prefix.result c.push_prefix.new.self c.push_prefix-2.new.self c.args.byte c.prefix_len.result c.read_prefix.result.now
-    c.num_children-below.ensures.is_header.stores c.without_children-prefix.ensures c.push_prefix.ensures c.read_prefix.ensures c.prefix_len.ensures c.push_prefix-2.ensures

@@ -1,8 +1,7 @@
 use Rattle.std.proofs.Common.{◌≡◌, ℕ, sym, ap, subst, ◌∙◌, lit<}
-use Rattle.art_nodes.specs.Name.{Name}
-use Rattle.art_arena.specs.arena.Arena.{held_at, node_at}
-use Rattle.art_arena.specs.arena.Meaning.{IsSubtree}
-use Rattle.art_operations.specs.inner.Removals.{Lengthens}
+use Rattle.art_nodes.proofs.Common.{Name}
+use Rattle.art_arena.proofs.Common.{held_at, node_at, IsSubtree}
+use Rattle.art_operations.proofs.Terms.{Lengthens}
 use Rattle.art_operations.proofs.Lengthened.{others_kept}
 use Rattle.art_operations.proofs.delete.merge.merge.Goals as goal
 use Rattle.art_operations.proofs.delete.merge.merge.Goals.{After-lengthen}

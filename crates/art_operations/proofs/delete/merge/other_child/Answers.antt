@@ -1,5 +1,5 @@
 use Rattle.std.proofs.Common.{sym, ◌∙◌}
-use Rattle.art_nodes.specs.InnerNode.{first_child, last_child}
+use Rattle.art_nodes.proofs.Common.{first_child, last_child}
 use Rattle.art_operations.proofs.Door.{read_at}
 use Rattle.art_operations.proofs.OtherChild.{first-other, last-other, has_first, has_last}
 use Rattle.art_operations.proofs.delete.merge.other_child.Goals as goal

@@ -1,7 +1,6 @@
 use Rattle.std.proofs.Common.{◌≡◌, ◌+◌, ◌≤◌, length, refl, ap, ◌∙◌, arith, lit<}
-use Rattle.art_nodes.specs.InnerNode.{InnerNode}
-use Rattle.art_arena.specs.arena.Prefixes.{prefix_of}
-use Rattle.art_arena.proofs.shapes.Prefixes.{header_there, first_leaf, read}
+use Rattle.art_nodes.proofs.Common.{InnerNode}
+use Rattle.art_arena.proofs.Common.{prefix_of, header_there, first_leaf, read}
 use Rattle.art_operations.proofs.PutBack.{same_inner}
 use Rattle.art_operations.proofs.delete.merge.prefixes_fit.Goals as goal
 

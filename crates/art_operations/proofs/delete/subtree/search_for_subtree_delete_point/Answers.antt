@@ -1,16 +1,10 @@
-use Rattle.std.proofs.Common.{None, length, subst, sym, arith}
-use Rattle.art_arena.specs.arena.Arena.{node_at}
-use Rattle.art_arena.specs.arena.Context.{path_to}
-use Rattle.art_arena.specs.arena.Meaning.{IsSubtree}
-use Rattle.art_arena.specs.arena.Shapes.{Shape, leaves}
-use Rattle.art_arena.specs.arena.Stores.{Stores}
-use Rattle.art_arena.specs.tree.Tenants.{begins_with}
-use Rattle.art_arena.proofs.shapes.Reads.{part_within}
-use Rattle.art_arena.proofs.shapes.Walking.{place-subtree}
-use Rattle.art_operations.specs.Openings.{ForLongest, SpanReads}
+use Rattle.std.proofs.Common.{None, length, arith}
+use Rattle.art_arena.proofs.Common.{path_to, Shape, leaves, Stores, begins_with, part_within}
+use Rattle.art_operations.proofs.Terms.{ForLongest, SpanReads}
 use Rattle.art_operations.proofs.FoundParts.{conflict_point, found_leaf, leaf_root}
 use Rattle.art_operations.proofs.Openings.{opening_of}
 use Rattle.art_operations.proofs.Segments.{begin_in, ends_same}
+use Rattle.art_operations.proofs.Stops.{way_part}
 use Rattle.art_operations.proofs.delete.subtree.search_for_subtree_delete_point.Goals as goal
 use Rattle.art_operations.proofs.delete.subtree.search_for_subtree_delete_point.Goals.{After-segment_at}
 
@@ -33,13 +27,13 @@ pub segment_at-requires : goal.segment_at-requires
 segment_at-requires g c =
     let r = c.requires in
     let way = c.in-Err.ensures.part r.0 r.1 in
-    (omega arith, (path_to way.ctx, way.part, (subst (λ a. IsSubtree g.K.AsBytes.bytes g.row.PREFIX_LEN (node_at a) c.in-Err.conflict.part (path_to way.ctx) way.part) (sym c.in-Err.ensures.kept) (subst (λ n. IsSubtree g.K.AsBytes.bytes g.row.PREFIX_LEN (node_at c.args.reader.now.arena.now) n (path_to way.ctx) way.part) way.here (place-subtree g.K.AsBytes.bytes g.row.PREFIX_LEN (node_at c.args.reader.now.arena.now) c.args.root r.0 way.ctx way.part r.1 way.toward.place)))))
+    (omega arith, (path_to way.ctx, way.part, (way_part g.K.AsBytes.bytes g.row.PREFIX_LEN c.args.prefix.now c.args.reader.now.arena.now _ c.in-Err.ensures.kept c.args.root c.in-Err.conflict.part r.0 r.1 way)))
 
 pub returns-in_default-clause-answer : goal.returns-in_default-clause-answer
 returns-in_default-clause-answer g c = λ s stores.
     let way = c.in-Err.ensures.part s stores in
     ends_same g.K.AsBytes.bytes (λ k. begins_with c.args.prefix.now k) (leaves s) (leaves way.part) None (begin_in g.K.AsBytes.bytes c.args.prefix.now s way.part way.ctx way.toward.place way.toward.begins)
-    (c.in_default.ensures.value (path_to way.ctx) way.part (subst (λ a. IsSubtree g.K.AsBytes.bytes g.row.PREFIX_LEN (node_at a) c.in-Err.conflict.part (path_to way.ctx) way.part) (sym c.in-Err.ensures.kept) (subst (λ n. IsSubtree g.K.AsBytes.bytes g.row.PREFIX_LEN (node_at c.args.reader.now.arena.now) n (path_to way.ctx) way.part) way.here (place-subtree g.K.AsBytes.bytes g.row.PREFIX_LEN (node_at c.args.reader.now.arena.now) c.args.root s way.ctx way.part stores way.toward.place))) way.conflicts)
+    (c.in_default.ensures.value (path_to way.ctx) way.part (way_part g.K.AsBytes.bytes g.row.PREFIX_LEN c.args.prefix.now c.args.reader.now.arena.now _ c.in-Err.ensures.kept c.args.root c.in-Err.conflict.part s stores way) way.conflicts)
 
 -- how much was read
 reads : (g : _) (c : After-segment_at g) (s : Shape g.row.K.Denot g.row.V.Denot) → Stores g.K.AsBytes.bytes g.row.PREFIX_LEN c.args.reader.now.arena.now c.args.root s
@@ -49,7 +43,7 @@ reads g c s stores longest short =
     omega (
       arith,
       c.in-Err.ensures.few s stores longest short,
-      c.segment_at.ensures.few (path_to way.ctx) way.part (subst (λ a. IsSubtree g.K.AsBytes.bytes g.row.PREFIX_LEN (node_at a) c.in-Err.conflict.part (path_to way.ctx) way.part) (sym c.in-Err.ensures.kept) (subst (λ n. IsSubtree g.K.AsBytes.bytes g.row.PREFIX_LEN (node_at c.args.reader.now.arena.now) n (path_to way.ctx) way.part) way.here (place-subtree g.K.AsBytes.bytes g.row.PREFIX_LEN (node_at c.args.reader.now.arena.now) c.args.root s way.ctx way.part stores way.toward.place))) longest (part_within g.K.AsBytes.bytes longest s way.ctx way.part way.toward.place.is short),
+      c.segment_at.ensures.few (path_to way.ctx) way.part (way_part g.K.AsBytes.bytes g.row.PREFIX_LEN c.args.prefix.now c.args.reader.now.arena.now _ c.in-Err.ensures.kept c.args.root c.in-Err.conflict.part s stores way) longest (part_within g.K.AsBytes.bytes longest s way.ctx way.part way.toward.place.is short),
     )
 
 pub returns-in_default-clause-linear : goal.returns-in_default-clause-linear
@@ -62,17 +56,11 @@ pub returns-clause-answer : goal.returns-clause-answer
 returns-clause-answer g c = λ s stores.
     let way = c.in-Err.ensures.part s stores in
     conflict_point g.K.AsBytes.bytes c.args.prefix.now s c.args.root stores.part.named c.in-Err.conflict.root c.in-Err.conflict.part c.in-Err.conflict.path c.in-Some.ends.0 c.in-Some.ends.1 way
-    (c.in-Some.ensures.value (path_to way.ctx) way.part (subst (λ a. IsSubtree g.K.AsBytes.bytes g.row.PREFIX_LEN (node_at a) c.in-Err.conflict.part (path_to way.ctx) way.part) (sym c.in-Err.ensures.kept) (subst (λ n. IsSubtree g.K.AsBytes.bytes g.row.PREFIX_LEN (node_at c.args.reader.now.arena.now) n (path_to way.ctx) way.part) way.here (place-subtree g.K.AsBytes.bytes g.row.PREFIX_LEN (node_at c.args.reader.now.arena.now) c.args.root s way.ctx way.part stores way.toward.place))) way.conflicts)
-    (c.in-Some.ensures.all (path_to way.ctx) way.part (subst (λ a. IsSubtree g.K.AsBytes.bytes g.row.PREFIX_LEN (node_at a) c.in-Err.conflict.part (path_to way.ctx) way.part) (sym c.in-Err.ensures.kept) (subst (λ n. IsSubtree g.K.AsBytes.bytes g.row.PREFIX_LEN (node_at c.args.reader.now.arena.now) n (path_to way.ctx) way.part) way.here (place-subtree g.K.AsBytes.bytes g.row.PREFIX_LEN (node_at c.args.reader.now.arena.now) c.args.root s way.ctx way.part stores way.toward.place))) way.conflicts)
+    (c.in-Some.ensures.value (path_to way.ctx) way.part (way_part g.K.AsBytes.bytes g.row.PREFIX_LEN c.args.prefix.now c.args.reader.now.arena.now _ c.in-Err.ensures.kept c.args.root c.in-Err.conflict.part s stores way) way.conflicts)
+    (c.in-Some.ensures.all (path_to way.ctx) way.part (way_part g.K.AsBytes.bytes g.row.PREFIX_LEN c.args.prefix.now c.args.reader.now.arena.now _ c.in-Err.ensures.kept c.args.root c.in-Err.conflict.part s stores way) way.conflicts)
 
 pub returns-clause-linear : goal.returns-clause-linear
 returns-clause-linear g c = reads g (goal.at.returns-clause-linear g c).After-segment_at
 
 pub returns-clause-few : goal.returns-clause-few
 returns-clause-few g c = λ s stores longest short. opening_of longest (length c.args.prefix.now) _ _ (reads g (goal.at.returns-clause-few g c).After-segment_at s stores longest short)
-
-pub returns-in_default-clause-least : goal.returns-in_default-clause-least
-returns-in_default-clause-least g c = omega (arith, c.in-Err.ensures.least, c.segment_at.ensures.least)
-
-pub returns-clause-least : goal.returns-clause-least
-returns-clause-least g c = omega (arith, c.in-Err.ensures.least, c.segment_at.ensures.least)

@@ -1,6 +1,6 @@
 use Rattle.std.proofs.Common.{◌≡◌, refl, sym, ap, ◌∙◌, arith}
 use Rattle.art_nodes.specs.declared.leaf.LeafNode.{LeafNode}
-use Rattle.art_arena.specs.arena.Steps.{steps_of}
+use Rattle.art_arena.proofs.Common.{steps_of}
 use Rattle.art_operations.proofs.Inserted.{exact_place, exact_there, replaced, kept_links, inserted_keeps}
 use Rattle.art_operations.proofs.insert.exact.replace_pair.Goals as goal
 

@@ -1,5 +1,5 @@
 use Rattle.std.proofs.Common.{◌+◌, ◌∙◌, arith}
-use Rattle.art_arena.specs.arena.Shapes.{width}
+use Rattle.art_arena.proofs.Common.{width}
 use Rattle.art_operations.proofs.Growth.{next-kind, both-held, still-held, same_links, renamed}
 use Rattle.art_operations.proofs.Waiting.{open_node, node-held, node-inner, as_many}
 use Rattle.art_operations.proofs.insert.into_existing.grow_at.Goals as goal

@@ -1,7 +1,6 @@
 use Rattle.std.proofs.Common.{subst}
-use Rattle.art_arena.specs.arena.Arena.{links_at}
-use Rattle.art_arena.proofs.shapes.LinkedLists.{kept-between}
-use Rattle.art_operations.specs.inner.Waiting.{AreNeighbours}
+use Rattle.art_arena.proofs.Common.{links_at, kept-between}
+use Rattle.art_operations.proofs.Terms.{AreNeighbours}
 use Rattle.art_operations.proofs.insert.into_existing.link_in.Goals as goal
 
 pub returns-in-Both-clause-others : goal.returns-in-Both-clause-others

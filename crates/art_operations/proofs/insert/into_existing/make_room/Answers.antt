@@ -1,10 +1,7 @@
 use Rattle.std.proofs.Common.{◌≡◌, ◌<◌, ◌⊎◌, ◌+◌, ◌∙◌, IsSome, length, sym, ap, subst, refl, arith}
-use Rattle.art_nodes.specs.InnerNode.{child_at}
-use Rattle.art_nodes.specs.Kind.{row_of}
-use Rattle.art_arena.specs.arena.Shapes.{width}
-use Rattle.art_arena.specs.arena.Context.{Frame}
-use Rattle.art_arena.specs.arena.Steps.{steps_of}
-use Rattle.art_operations.specs.inner.Waiting.{AwaitsLeaf}
+use Rattle.art_nodes.proofs.Common.{child_at, row_of}
+use Rattle.art_arena.proofs.Common.{width, Frame, steps_of}
+use Rattle.art_operations.proofs.Terms.{AwaitsLeaf}
 use Rattle.art_operations.proofs.PutBack.{same_inner}
 use Rattle.art_operations.proofs.Waiting.{node-held, node-inner, as_many, has_few}
 use Rattle.art_operations.proofs.Growth.{same-kind}

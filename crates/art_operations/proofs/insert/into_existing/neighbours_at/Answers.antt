@@ -1,5 +1,5 @@
 use Rattle.std.proofs.Common.{◌∷◌, refl, arith}
-use Rattle.art_arena.specs.arena.Context.{leaves_before, leaves_after}
+use Rattle.art_arena.proofs.Common.{leaves_before, leaves_after}
 use Rattle.art_operations.proofs.NewLeaves.{neighbours_of_longer}
 use Rattle.art_operations.proofs.Waiting.{node-held, node-inner, next, previous, some_child}
 use Rattle.art_operations.proofs.insert.into_existing.neighbours_at.Goals as goal

@@ -1,8 +1,6 @@
 use Rattle.std.proofs.Common.{◌+◌, refl, sym, ◌∙◌, subst, arith}
 use Rattle.std.specs.Option.{IsSome}
-use Rattle.art_arena.specs.arena.Arena.{HasRoom}
-use Rattle.art_arena.specs.arena.Cells.{leaf_name}
-use Rattle.art_arena.proofs.shapes.Updates.{links-update}
+use Rattle.art_arena.proofs.Common.{HasRoom, leaf_name, links-update}
 use Rattle.art_operations.proofs.Inserted.{put_keeps}
 use Rattle.art_operations.proofs.Waiting.{node-inner}
 use Rattle.art_operations.proofs.IntoExisting.{starts, inserted}

@@ -1,17 +1,8 @@
 use Rattle.std.proofs.Common.{◌≡◌, ◌<◌, ◌∷◌, ◌++◌, length, Some, ◌∙◌, ap, subst, inl, arith}
-use Rattle.art_nodes.specs.Kind.{row_of}
-use Rattle.art_nodes.specs.InnerNode.{with_child, with_children}
-use Rattle.art_arena.specs.arena.Arena.{inner_held, held_at, links_at, cell_of}
-use Rattle.art_arena.specs.arena.Cells.{UpdatesAt}
-use Rattle.art_arena.specs.arena.Context.{leaves_before, leaves_after}
-use Rattle.art_arena.specs.arena.Linked.{IsBeside}
-use Rattle.art_arena.proofs.shapes.Subtrees.{inner_of}
-use Rattle.art_arena.proofs.shapes.Updates.{links-kept}
+use Rattle.art_nodes.proofs.Common.{row_of, with_child, with_children}
+use Rattle.art_arena.proofs.Common.{inner_held, held_at, links_at, cell_of, UpdatesAt, leaves_before, leaves_after, IsBeside, inner_of, links-kept}
 use Rattle.art_operations.proofs.Waiting.{open_node, node-held, node-inner, as_many, child_was_put}
 use Rattle.art_operations.proofs.insert.into_existing.put_leaf.Goals as goal
-
-pub neighbours_at-neighbours-requires : goal.neighbours_at-neighbours-requires
-neighbours_at-neighbours-requires g c = (omega arith, (_, _, c.requires.1, c.requires.2, c.requires.3, c.requires.4, c.requires.5))
 
 pub link_in-requires : goal.link_in-requires
 link_in-requires g c =

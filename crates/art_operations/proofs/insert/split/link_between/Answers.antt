@@ -1,7 +1,5 @@
 use Rattle.std.proofs.Common.{◌∷◌, ◌++◌, None, sym, ap, subst, ◌∙◌, arith}
-use Rattle.art_arena.specs.arena.Arena.{links_at}
-use Rattle.art_arena.specs.arena.Linked.{AreLinked, IsBeside, KeepsLinksOutside}
-use Rattle.art_arena.proofs.shapes.LinkedLists.{kept-before, kept-behind}
+use Rattle.art_arena.proofs.Common.{links_at, AreLinked, IsBeside, KeepsLinksOutside, kept-before, kept-behind}
 use Rattle.art_operations.proofs.NewLeaves.{goes_before, goes_after, behind_last}
 use Rattle.art_operations.proofs.insert.split.link_between.Goals as goal
 

@@ -1,19 +1,10 @@
 use Rattle.std.proofs.Common.{rules, ◌≡◌, ◌+◌, ◌<◌, ◌^◌, ◌∷◌, ◌++◌, ◌∙◌, List, ltb, Some, refl, subst, arith}
-use Rattle.art_arena.specs.arena.Arena.{node_at, links_at}
-use Rattle.art_arena.specs.arena.Cells.{Cell, UpdatesAt}
-use Rattle.art_nodes.specs.Name.{Name}
-use Rattle.art_arena.specs.arena.Context.{path_to, leaves_before, leaves_after}
-use Rattle.art_arena.specs.arena.Linked.{IsBeside}
-use Rattle.art_arena.specs.arena.Meaning.{IsTreeBeside}
-use Rattle.art_arena.specs.arena.Shapes.{Shape}
-use Rattle.art_arena.specs.arena.Steps.{steps_of}
-use Rattle.art_operations.specs.inner.Edits.{StandsAround}
-use Rattle.art_operations.specs.inner.Splits.{trimmed, root_cell, with_prefix, IsBetween}
-use Rattle.art_operations.specs.Points.{IsPoint}
+use Rattle.art_arena.proofs.Common.{node_at, links_at, Cell, UpdatesAt, path_to, leaves_before, leaves_after, IsBeside, IsTreeBeside, Shape, steps_of, links-update, links-kept}
+use Rattle.art_nodes.proofs.Common.{Name}
+use Rattle.art_operations.proofs.Terms.{StandsAround, trimmed, root_cell, with_prefix, IsBetween, IsPoint}
 use Rattle.art_operations.proofs.Splits.{SplitPlace, split_place}
 use Rattle.art_operations.proofs.SplitTrees.{part_subtree, part_at_depth, part_cell, part_held, split_frame, split_leaves, end_between, split_cells, split_beside, split_stands, split, split_name, not_leaf}
 use Rattle.art_operations.proofs.Inserted.{put_keeps}
-use Rattle.art_arena.proofs.shapes.Updates.{links-update, links-kept}
 use Rattle.art_operations.proofs.insert.split.split.Goals as goal
 use Rattle.art_operations.proofs.insert.split.split.Goals.{In_ok-made, After-trim, After-link_between}
 

@@ -1,7 +1,6 @@
 use Rattle.std.proofs.Common.{◌≡◌, ◌+◌, Some, IsSome, refl, sym, subst, ◌∙◌, arith}
-use Rattle.art_arena.specs.arena.Arena.{held_at}
-use Rattle.art_arena.specs.arena.Cells.{leaf_name}
-use Rattle.art_operations.specs.inner.Edits.{lone_leaf}
+use Rattle.art_arena.proofs.Common.{held_at, leaf_name}
+use Rattle.art_operations.proofs.Terms.{lone_leaf}
 use Rattle.art_operations.proofs.NewNodes.{fewer, undone}
 use Rattle.art_operations.proofs.insert.split.store_nodes.Goals as goal
 

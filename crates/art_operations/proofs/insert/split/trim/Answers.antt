@@ -1,6 +1,6 @@
 use Rattle.std.proofs.Common.{◌≢◌, IsSome, refl, sym, subst}
 use Rattle.art_nodes.specs.declared.kind.NodeType.TheVariants.{Leaf}
-use Rattle.art_arena.proofs.shapes.Updates.{links-kept}
+use Rattle.art_arena.proofs.Common.{links-kept}
 use Rattle.art_operations.proofs.NewNodes.{held_inner}
 use Rattle.art_operations.proofs.insert.split.trim.Goals as goal
 

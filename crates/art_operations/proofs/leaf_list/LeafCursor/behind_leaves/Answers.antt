@@ -1,8 +1,6 @@
 use Rattle.std.proofs.Common.{◌≡◌, [], None, Some, refl, sym, subst, arith}
-use Rattle.art_arena.specs.arena.Shapes.{leaves}
-use Rattle.art_arena.proofs.shapes.Meanings.{nodes-subtree}
-use Rattle.art_operations.specs.LeafCursors.{StandsInList}
-use Rattle.art_operations.specs.Pairs.{HasPairs}
+use Rattle.art_arena.proofs.Common.{leaves, nodes-subtree}
+use Rattle.art_operations.proofs.Terms.{StandsInList, HasPairs}
 use Rattle.art_operations.proofs.KeptLeaves.{kept-leaves, none-in-order}
 use Rattle.art_operations.proofs.LeafListsOrdered.{behind-all}
 use Rattle.art_operations.proofs.leaf_list.LeafCursor.behind_leaves.Goals as goal

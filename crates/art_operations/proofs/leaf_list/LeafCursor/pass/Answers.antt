@@ -1,5 +1,5 @@
 use Rattle.std.proofs.Common.{◌≡◌, ◌<◌, ◌++◌, Some, None, refl, lit<, ◌∙◌, sym, ap, subst}
-use Rattle.art_bytes.specs.Keys.{bytes_cmp}
+use Rattle.art_bytes.proofs.Common.{bytes_cmp}
 use Rattle.art_operations.proofs.LeafListsParted.{after-held}
 use Rattle.art_operations.proofs.LeafListsPassed.{HasStepped, left-less, leaves_left, not-stepped, passed-to, same_bytes, stepped-on}
 use Rattle.art_operations.proofs.leaf_list.LeafCursor.pass.Goals as goal

@@ -1,6 +1,6 @@
 use Rattle.std.proofs.Common.{List}
-use Rattle.art_arena.specs.arena.Shapes.{LeafAt}
-use Rattle.art_operations.specs.LeafCursors.{StandsBetween}
+use Rattle.art_arena.proofs.Common.{LeafAt}
+use Rattle.art_operations.proofs.Terms.{StandsBetween}
 use Rattle.art_operations.proofs.LeafListsPassed.{HasStepped, leaves_left}
 use Rattle.art_operations.proofs.leaf_list.LeafCursor.pass.Given as goal
 

@@ -1,6 +1,6 @@
 use Rattle.std.proofs.Common.{◌+◌, ◌++◌, None, Some, refl, subst, arith}
 use Rattle.art_nodes.specs.declared.kind.NodeType.TheVariants.{Leaf}
-use Rattle.art_operations.specs.inner.Cursors.{HasPassed}
+use Rattle.art_operations.proofs.Terms.{HasPassed}
 use Rattle.art_operations.proofs.LeafListsPut.{found-after, found-key, kept-names, put-inserted, put-replaced, replaced-names}
 use Rattle.art_operations.proofs.leaf_list.LeafCursor.put.Goals as goal
 

@@ -1,5 +1,5 @@
 use Rattle.std.proofs.Common.{◌≡◌, Some, sym, ap₂, subst, arith, lit<}
-use Rattle.art_operations.specs.LeafCursors.{HasRemoved}
+use Rattle.art_operations.proofs.Terms.{HasRemoved}
 use Rattle.art_operations.proofs.LeafListsParted.{before-held, ends, none-removed, removed, removed-parted}
 use Rattle.art_operations.proofs.leaf_list.LeafCursor.remove.Goals as goal
 

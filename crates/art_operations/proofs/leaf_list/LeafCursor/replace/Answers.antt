@@ -1,10 +1,8 @@
 use Rattle.std.proofs.Common.{◌≡◌, Some, sym, ap, ap₂, subst, ◌∙◌, arith}
 use Rattle.art_nodes.specs.declared.leaf.LeafNode.{LeafNode}
-use Rattle.art_arena.specs.arena.Arena.{leaf_held, held_at, with_leaf}
-use Rattle.art_arena.specs.arena.Cells.{leaf_name, UpdatesAt}
+use Rattle.art_arena.proofs.Common.{leaf_held, held_at, with_leaf, leaf_name, UpdatesAt, nodes-update}
 use Rattle.art_arena.specs.lemmas.WrittenNodes.{written_leaf}
-use Rattle.art_arena.proofs.shapes.Updates.{nodes-update}
-use Rattle.art_operations.specs.inner.Cursors.{HasReplaced}
+use Rattle.art_operations.proofs.Terms.{HasReplaced}
 use Rattle.art_operations.proofs.LeafListsParted.{after-held, leaf-made, replaced}
 use Rattle.art_operations.proofs.leaf_list.LeafCursor.replace.Goals as goal
 use Rattle.art_operations.proofs.leaf_list.LeafCursor.replace.Goals.{After-into_entry}

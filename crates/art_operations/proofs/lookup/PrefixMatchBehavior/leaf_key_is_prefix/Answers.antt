@@ -1,5 +1,5 @@
 use Rattle.std.proofs.Common.{refl, ap, drop, ◌∙◌}
-use Rattle.art_arena.proofs.shapes.Prefixes.{begins_tells}
+use Rattle.art_arena.proofs.Common.{begins_tells}
 use Rattle.art_operations.proofs.lookup.PrefixMatchBehavior.leaf_key_is_prefix.Goals as goal
 
 pub returns-in-Pessimistic : goal.returns-in-Pessimistic

@@ -1,10 +1,11 @@
 use Rattle.std.proofs.Common.{◌≢◌, arith, refl, sym, ap, ◌∙◌}
 use Rattle.std.proofs.lemmas.List.{length-map}
-use Rattle.art_nodes.specs.Name.{Name}
+use Rattle.art_nodes.proofs.Common.{Name}
 use Rattle.art_nodes.specs.declared.kind.NodeType.TheVariants.{Leaf}
-use Rattle.art_arena.specs.arena.Shapes.{leaves}
+use Rattle.art_arena.proofs.Common.{leaves}
 use Rattle.art_operations.proofs.LeafPairs.{leaf_pair}
-use Rattle.art_operations.proofs.Overwrites.{freed_leaf, leaf_named}
+use Rattle.art_operations.proofs.Overwrites.{freed_leaf}
+use Rattle.art_operations.proofs.Points.{leaf_named}
 use Rattle.art_operations.proofs.PartSizes.{two_leaves}
 use Rattle.art_operations.proofs.prefix_insert.apply.remove_part.Goals as goal
 

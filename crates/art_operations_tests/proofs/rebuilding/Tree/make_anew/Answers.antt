@@ -1,4 +1,4 @@
-use Rattle.art_operations.proofs.HeldPairs.{pairs-same}
+use Rattle.art_operations.proofs.Common.{pairs-same}
 use Rattle.art_operations_tests.proofs.rebuilding.Tree.make_anew.Goals as goal
 
 pub invariant_of-self : goal.invariant_of-self

@@ -1,6 +1,5 @@
 use Rattle.std.proofs.Common.{[]}
-use Rattle.art_operations.specs.Pairs.{with_pair_put}
-use Rattle.art_operations.proofs.HeldPairs.{pairs-same}
+use Rattle.art_operations.proofs.Common.{with_pair_put, pairs-same}
 use Rattle.art_operations_tests.proofs.rebuilding.Tree.put.Goals as goal
 
 pub invariant_of-self : goal.invariant_of-self

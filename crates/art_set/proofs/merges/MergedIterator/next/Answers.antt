@@ -1,6 +1,6 @@
 use Rattle.std.proofs.Common.{subst}
 use Rattle.std.specs.Map.Iter.{TakesFirst, deref}
-use Rattle.art_set.specs.inner.Merging.{merging}
+use Rattle.art_set.proofs.Terms.{merging}
 use Rattle.art_set.proofs.MergeLemmas.{gives, goes}
 use Rattle.art_set.proofs.merges.MergedIterator.next.Goals as goal
 

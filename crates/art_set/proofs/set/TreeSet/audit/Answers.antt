@@ -1,7 +1,7 @@
 use Rattle.std.proofs.Common.{◌≡◌, subst}
 use Rattle.std.specs.Prelude.{IfOk}
-use Rattle.art_arena.specs.arena.Shapes.{key_of}
-use Rattle.art_map.specs.Audit.{audit_of}
+use Rattle.art_arena.proofs.Common.{key_of}
+use Rattle.art_map.proofs.Common.{audit_of}
 use Rattle.art_set.proofs.KeyPairs.{with-units}
 use Rattle.art_set.proofs.set.TreeSet.audit.Goals as goal
 

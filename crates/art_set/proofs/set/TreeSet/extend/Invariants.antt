@@ -1,5 +1,5 @@
 use Rattle.std.proofs.Common.{◌≡◌, map}
-use Rattle.art_set.specs.Members.{with_keys_put}
+use Rattle.art_set.proofs.Terms.{with_keys_put}
 use Rattle.art_set.proofs.set.TreeSet.extend.Given as goal
 
 abbrev pub invariant-loop-key : goal.invariant-loop-key

@@ -1,6 +1,6 @@
 use Rattle.std.proofs.Common.{refl, sym, ap, ◌∙◌}
 use Rattle.std.specs.Map.Iter.{deref}
-use Rattle.art_set.specs.Members.{with_key_put}
+use Rattle.art_set.proofs.Terms.{with_key_put}
 use Rattle.art_set.proofs.KeyPuts.{extend-refused, next-back, put-item}
 use Rattle.art_set.proofs.set.TreeSet.extend_from_refs.Goals as goal
 

@@ -1,6 +1,6 @@
 use Rattle.std.proofs.Common.{◌≡◌, map}
 use Rattle.std.specs.Map.Iter.{deref}
-use Rattle.art_set.specs.Members.{with_keys_put}
+use Rattle.art_set.proofs.Terms.{with_keys_put}
 use Rattle.art_set.proofs.set.TreeSet.extend_from_refs.Given as goal
 
 abbrev pub invariant-loop-key : goal.invariant-loop-key

@@ -1,6 +1,5 @@
 use Rattle.std.proofs.Common.{[], map, refl, sym, subst, arith, Ok}
-use Rattle.art_map.specs.Asked.{with_pairs_put}
-use Rattle.art_map.specs.Builders.{HasGathered}
+use Rattle.art_map.proofs.Common.{with_pairs_put, HasGathered}
 use Rattle.art_map.proofs.Puts.{put-item}
 use Rattle.art_set.proofs.KeyPuts.{keys-made, next-back}
 use Rattle.art_set.proofs.set.TreeSet.from_iter.Goals as goal

@@ -1,6 +1,5 @@
 use Rattle.std.proofs.Common.{[], map}
-use Rattle.art_map.specs.Asked.{with_pairs_put}
-use Rattle.art_map.specs.Builders.{HasGathered}
+use Rattle.art_map.proofs.Common.{with_pairs_put, HasGathered}
 use Rattle.art_set.proofs.set.TreeSet.from_iter.Given as goal
 
 abbrev pub invariant-loop-key : goal.invariant-loop-key

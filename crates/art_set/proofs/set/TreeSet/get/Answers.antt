@@ -1,5 +1,5 @@
 use Rattle.std.proofs.Common.{ap, ◌∙◌}
-use Rattle.art_set.specs.Members.{key_if_some}
+use Rattle.art_set.proofs.Terms.{key_if_some}
 use Rattle.art_set.proofs.Seen.{found}
 use Rattle.art_set.proofs.set.TreeSet.get.Goals as goal
 

@@ -1,5 +1,5 @@
 use Rattle.std.proofs.Common.{not}
-use Rattle.art_set.specs.Members.{is_member}
+use Rattle.art_set.proofs.Terms.{is_member}
 use Rattle.art_set.proofs.MergeLemmas.{none-came, not-twice}
 use Rattle.art_set.proofs.set.TreeSet.is_subset.Goals as goal
 

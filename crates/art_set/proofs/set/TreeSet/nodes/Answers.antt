@@ -1,5 +1,5 @@
 use Rattle.std.proofs.Common.{subst}
-use Rattle.art_operations.specs.Runs.{HoldsTreeOf}
+use Rattle.art_operations.proofs.Common.{HoldsTreeOf}
 use Rattle.art_set.proofs.KeyPairs.{with-units}
 use Rattle.art_set.proofs.Seen.{ascending}
 use Rattle.art_set.proofs.set.TreeSet.nodes.Goals as goal

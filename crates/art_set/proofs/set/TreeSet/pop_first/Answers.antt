@@ -1,5 +1,5 @@
 use Rattle.art_arena.specs.declared.ends.End.TheVariants.{First}
-use Rattle.art_map.proofs.Asks.{on-err}
+use Rattle.art_map.proofs.Common.{on-err}
 use Rattle.art_set.proofs.Seen.{shrinks-at-end}
 use Rattle.art_set.proofs.set.TreeSet.pop_first.Goals as goal
 

@@ -1,5 +1,5 @@
 use Rattle.std.proofs.Common.{subst}
-use Rattle.art_walks.specs.MapReads.{ReadsPairs}
+use Rattle.art_walks.proofs.Common.{ReadsPairs}
 use Rattle.art_set.proofs.KeyPairs.{with-units}
 use Rattle.art_set.proofs.set.TreeSet.reader.Goals as goal
 

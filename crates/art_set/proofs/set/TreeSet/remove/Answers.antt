@@ -1,7 +1,8 @@
 use Rattle.std.proofs.Common.{ap, ◌∙◌}
 use Rattle.std.specs.Prelude.{is_some}
-use Rattle.art_map.proofs.Asks.{on-err}
-use Rattle.art_set.proofs.Seen.{has-key, is-found, keys-without, shrinking}
+use Rattle.std.proofs.lemmas.Map.Made.{is_some-lookup}
+use Rattle.art_map.proofs.Common.{on-err}
+use Rattle.art_set.proofs.Seen.{has-key, keys-without, shrinking}
 use Rattle.art_set.proofs.set.TreeSet.remove.Goals as goal
 
 pub returns-in_err-found-clause-shrinks : goal.returns-in_err-found-clause-shrinks
@@ -10,7 +11,7 @@ returns-in_err-found-clause-shrinks g c =
     on-err c.from_residual.result (rw (← c.self.view_is) (has-key g.K.AsBytes.bytes _ c.self.inside.map.pairs there, shrinking g.K.AsBytes.bytes _ c.self.inside.map.pairs shrinks))
 
 pub returns-clause-found : goal.returns-clause-found
-returns-clause-found g c = rw (← c.self.view_is) (c.is_some.ensures ∙ ap is_some c.in_ok-found.ensures.value ∙ is-found _ c.self.inside.map.pairs)
+returns-clause-found g c = rw (← c.self.view_is) (c.is_some.ensures ∙ ap is_some c.in_ok-found.ensures.value ∙ is_some-lookup _ c.self.inside.map.pairs)
 
 pub returns-clause-keys : goal.returns-clause-keys
 returns-clause-keys g c = rw (← c.self.view_is, c.in_ok-found.ensures.pairs) (keys-without g.K.AsBytes.bytes _ c.self.inside.map.pairs)

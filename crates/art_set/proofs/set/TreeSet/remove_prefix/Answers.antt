@@ -1,9 +1,9 @@
 use Rattle.std.proofs.Common.{ℕ, ◌*◌, length, ap, subst, ◌∙◌}
 use Rattle.std.specs.Prelude.{IfOk, OnErr}
 use Rattle.std.specs.Map.{keys_of}
-use Rattle.art_operations.specs.Openings.{OpeningReads}
-use Rattle.art_walks.specs.MapReads.{PairsWithin}
-use Rattle.art_map.specs.PrefixBlocks.{AreCutVisits, ShrinksAtCut}
+use Rattle.art_operations.proofs.Common.{OpeningReads}
+use Rattle.art_walks.proofs.Common.{PairsWithin}
+use Rattle.art_map.proofs.Common.{AreCutVisits, ShrinksAtCut}
 use Rattle.art_set.proofs.KeyPairs.{keys-beside, many-behind, with-units}
 use Rattle.art_set.proofs.Seen.{if-ok, on-ok}
 use Rattle.art_set.proofs.set.TreeSet.remove_prefix.Goals as goal

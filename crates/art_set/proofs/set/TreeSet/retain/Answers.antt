@@ -1,10 +1,9 @@
 use Rattle.std.proofs.Common.{true, false, Ok, Err, refl, sym, ap, subst, ◌∙◌}
 use Rattle.std.specs.Fn.{CalledAt, TakesAt}
 use Rattle.std.specs.Map.{keys_of}
-use Rattle.art_arena.specs.tree.Shrinks.{Shrinks}
-use Rattle.art_map.proofs.Asks.{on-err}
-use Rattle.art_map.specs.Extractions.{left_of, map_of}
-use Rattle.art_set.specs.Asked.{StopsAtKey}
+use Rattle.art_arena.proofs.Common.{Shrinks}
+use Rattle.art_map.proofs.Common.{on-err, left_of, map_of}
+use Rattle.art_set.proofs.Terms.{StopsAtKey}
 use Rattle.art_set.proofs.AskedKeys.{callable-next, retained-all, retaining-all, retaining-kept, retaining-stopped, retaining-taken}
 use Rattle.art_set.proofs.AskedPairs.{asking_by, first-left, first-passed, none-first, refused-key, taken-key}
 use Rattle.art_set.proofs.set.TreeSet.retain.Goals as goal

@@ -1,6 +1,6 @@
 use Rattle.std.proofs.Common.{◌≡◌, length}
 use Rattle.std.specs.Fn.{CalledAt, TakesAt}
-use Rattle.art_map.specs.Extractions.{left_of, map_of}
+use Rattle.art_map.proofs.Common.{left_of, map_of}
 use Rattle.art_set.proofs.AskedKeys.{RetainingKeys}
 use Rattle.art_set.proofs.AskedPairs.{asking_by}
 use Rattle.art_set.proofs.set.TreeSet.retain.Given as goal

@@ -1,6 +1,6 @@
 use Rattle.std.proofs.Common.{ap, ◌∙◌}
-use Rattle.art_map.proofs.Asks.{on-err}
-use Rattle.art_set.specs.Members.{key_if_some}
+use Rattle.art_map.proofs.Common.{on-err}
+use Rattle.art_set.proofs.Terms.{key_if_some}
 use Rattle.art_set.proofs.Seen.{found, has-key, keys-without, shrinking}
 use Rattle.art_set.proofs.set.TreeSet.take.Goals as goal
 

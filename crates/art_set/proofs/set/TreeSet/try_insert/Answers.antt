@@ -1,4 +1,4 @@
-use Rattle.art_map.specs.Contents.{has_bytes}
+use Rattle.art_map.proofs.Common.{has_bytes}
 use Rattle.art_set.proofs.Seen.{blocking, has-pair, keys-put, was-added}
 use Rattle.art_set.proofs.set.TreeSet.try_insert.Goals as goal
 

@@ -1,5 +1,5 @@
 use Rattle.std.proofs.Common.{subst}
-use Rattle.art_map.specs.Changes.{IsTryRefused}
+use Rattle.art_map.proofs.Common.{IsTryRefused}
 use Rattle.art_set.proofs.Seen.{blocks}
 use Rattle.art_set.proofs.set.changes.without_value.Goals as goal
 

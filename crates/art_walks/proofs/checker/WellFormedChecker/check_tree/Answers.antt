@@ -1,13 +1,10 @@
 use Rattle.std.proofs.Common.{None, sym, ap, subst, ◌∙◌, arith}
 use Rattle.std.specs.List.{AllByRecursion}
 use Rattle.std.specs.Option.{IsSome}
-use Rattle.art_nodes.specs.Name.{Name}
+use Rattle.art_nodes.proofs.Common.{Name}
 use Rattle.art_nodes.specs.declared.kind.NodeType.TheVariants.{Node4, Node16, Node32, Node48, Node256, Leaf}
-use Rattle.art_arena.specs.arena.Arena.{held_at, links_at, node_at}
-use Rattle.art_walks.specs.Faults.{Stands}
-use Rattle.art_walks.specs.inner.Names.{count_kind}
-use Rattle.art_walks.specs.inner.Slots.{AreLinkedSlots, leaf_slots}
-use Rattle.art_walks.specs.inner.Fillings.{Fits}
+use Rattle.art_arena.proofs.Common.{held_at, links_at, node_at}
+use Rattle.art_walks.proofs.Terms.{Stands, count_kind, AreLinkedSlots, leaf_slots, Fits}
 use Rattle.art_walks.proofs.KeyWalks.{fits-below, no_of, yes_of}
 use Rattle.art_walks.proofs.Verdicts.{passed, names-held, skeleton-part, keys-fault, links-fault, canonical}
 use Rattle.art_walks.proofs.checker.WellFormedChecker.check_tree.Goals as goal

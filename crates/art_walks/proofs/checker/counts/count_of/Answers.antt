@@ -1,8 +1,8 @@
 use Rattle.std.proofs.Common.{◌≡◌, ◌+◌, ℕ, cond, [], ◌∷◌, ◌++◌, take, sym, ap, ◌∙◌, arith}
 use Rattle.std.proofs.lemmas.List.{take_more}
-use Rattle.art_arena.specs.arena.Cells.{same_kind}
+use Rattle.art_arena.proofs.Common.{same_kind}
 use Rattle.art_walks.proofs.KindTests.{kinds_told}
-use Rattle.art_walks.specs.inner.Names.{count_kind}
+use Rattle.art_walks.proofs.Terms.{count_kind}
 use Rattle.art_walks.proofs.KindCounts.{count_kind-append}
 use Rattle.art_walks.proofs.checker.counts.count_of.Goals.{then-eq, else-eq}
 use Rattle.art_walks.proofs.checker.counts.count_of.Goals as goal

@@ -1,5 +1,5 @@
 use Rattle.std.proofs.Common.{◌≡◌, ◌≤◌, take}
-use Rattle.art_walks.specs.inner.Names.{count_kind}
+use Rattle.art_walks.proofs.Terms.{count_kind}
 use Rattle.art_walks.proofs.checker.counts.count_of.Given as goal
 
 abbrev pub invariant-loop-name : goal.invariant-loop-name

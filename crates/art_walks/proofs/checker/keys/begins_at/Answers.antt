@@ -1,7 +1,7 @@
 use Rattle.std.proofs.Common.{length, take, drop}
 use Rattle.std.proofs.lemmas.Bool.Decides.{Decides-eqb}
 use Rattle.std.proofs.lemmas.Slice.Eq.{slice_eq-Decides}
-use Rattle.art_arena.proofs.shapes.Prefixes.{tail}
+use Rattle.art_arena.proofs.Common.{tail}
 use Rattle.art_walks.proofs.checker.keys.begins_at.Goals as goal
 
 pub returns : goal.returns

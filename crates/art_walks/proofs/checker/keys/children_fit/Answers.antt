@@ -1,9 +1,8 @@
 use Rattle.std.proofs.Common.{◌≡◌, ◌++◌, ◌∷◌, ◌+◌, ℕ, [], take, length, refl, sym, ap, subst, ◌∙◌, arith, append_assoc}
 use Rattle.std.specs.List.{AllByRecursion}
-use Rattle.art_nodes.specs.Name.{Name}
-use Rattle.art_arena.specs.arena.Arena.{node_at}
-use Rattle.art_walks.specs.declared.checker.keys.Place.{Place}
-use Rattle.art_walks.specs.inner.Fillings.{HasShape, LeafHasKey, ChildFits, Await, first_key}
+use Rattle.art_nodes.proofs.Common.{Name}
+use Rattle.art_arena.proofs.Common.{node_at}
+use Rattle.art_walks.proofs.Terms.{Place, HasShape, LeafHasKey, ChildFits, Await, first_key}
 use Rattle.art_walks.proofs.KeyWalks.{await-join, await-one, other_words}
 use Rattle.art_walks.proofs.checker.keys.children_fit.Goals as goal
 

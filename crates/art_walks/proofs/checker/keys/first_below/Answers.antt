@@ -1,7 +1,6 @@
 use Rattle.std.proofs.Common.{◌≢◌, refl, sym, ap, ◌∙◌}
-use Rattle.art_arena.specs.arena.Cells.{leaf_name}
+use Rattle.art_arena.proofs.Common.{leaf_name, node_at, cell_of}
 use Rattle.art_nodes.specs.declared.kind.NodeType.TheVariants.{Leaf}
-use Rattle.art_arena.specs.arena.Arena.{node_at, cell_of}
 use Rattle.art_walks.proofs.KeyWalks.{key-below, leaf-key, step, no-child}
 use Rattle.art_walks.proofs.checker.keys.first_below.Goals as goal
 

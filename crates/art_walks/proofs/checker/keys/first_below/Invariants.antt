@@ -1,9 +1,6 @@
 use Rattle.std.proofs.Common.{◌≡◌}
-use Rattle.art_arena.specs.arena.Arena.{node_at, slots_of}
-use Rattle.art_arena.specs.arena.Meaning.{IsPart}
-use Rattle.art_arena.specs.arena.Shapes.{Shape}
-use Rattle.art_arena.proofs.shapes.Measures.{nodes_below}
-use Rattle.art_walks.specs.inner.Fillings.{first_key, HasShape}
+use Rattle.art_arena.proofs.Common.{node_at, slots_of, IsPart, Shape, nodes_below}
+use Rattle.art_walks.proofs.Terms.{first_key, HasShape}
 use Rattle.art_walks.proofs.checker.keys.first_below.Given as goal
 
 abbrev pub invariant-down : goal.invariant-down

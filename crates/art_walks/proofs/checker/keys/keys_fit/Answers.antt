@@ -1,6 +1,6 @@
 use Rattle.std.proofs.Common.{◌≡◌, ◌-◌, ◌∷◌, ◌++◌, [], take, refl, ap, ◌∙◌, arith}
-use Rattle.art_arena.specs.arena.Arena.{node_at}
-use Rattle.art_walks.specs.declared.checker.keys.Place.{Place}
+use Rattle.art_arena.proofs.Common.{node_at}
+use Rattle.art_walks.proofs.Terms.{Place}
 use Rattle.art_walks.proofs.KeyWalks.{left-start, left-end, left-leaf, left-inner, left-unfit, stands-here, fewer-leaf, fewer-inner, yes_of, no_of}
 use Rattle.art_walks.proofs.checker.keys.keys_fit.Goals as goal
 

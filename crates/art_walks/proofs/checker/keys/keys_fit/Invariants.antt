@@ -1,4 +1,4 @@
-use Rattle.art_arena.specs.arena.Arena.{node_at}
+use Rattle.art_arena.proofs.Common.{node_at}
 use Rattle.art_walks.proofs.KeyWalks.{RestsOn, nodes_waiting}
 use Rattle.art_walks.proofs.checker.keys.keys_fit.Given as goal
 

@@ -1,9 +1,8 @@
 use Rattle.std.proofs.Common.{◌+◌, ℕ, List, drop, length, take, refl, sym, ap, subst, ◌∙◌, arith}
 use Rattle.std.specs.List.{AllByRecursion}
-use Rattle.art_nodes.specs.Name.{Name}
-use Rattle.art_nodes.specs.InnerNode.{IsAscending}
-use Rattle.art_arena.specs.arena.Arena.{cell_of, node_at}
-use Rattle.art_walks.specs.inner.Fillings.{Await, ChildFits, first_key, LeafHasKey, HasShape}
+use Rattle.art_nodes.proofs.Common.{Name, IsAscending}
+use Rattle.art_arena.proofs.Common.{cell_of, node_at}
+use Rattle.art_walks.proofs.Terms.{Await, ChildFits, first_key, LeafHasKey, HasShape}
 use Rattle.art_walks.proofs.KeyWalks.{children-stand, first-child-key, opens, unfit-short, unfit-stored, unfit-children, other_words}
 use Rattle.art_walks.proofs.checker.keys.node_fits.Goals as goal
 

@@ -1,8 +1,7 @@
 use Rattle.std.proofs.Common.{◌≡◌, ◌++◌, ◌∷◌, ◌+◌, [], take, length, refl, sym, ap, subst, ◌∙◌, arith, append_assoc}
 use Rattle.std.specs.List.{AllByRecursion}
-use Rattle.art_arena.specs.arena.Arena.{node_at}
-use Rattle.art_walks.specs.declared.checker.keys.Place.{Place}
-use Rattle.art_walks.specs.inner.Fillings.{HasShape, ChildFits, first_key}
+use Rattle.art_arena.proofs.Common.{node_at}
+use Rattle.art_walks.proofs.Terms.{Place, HasShape, ChildFits, first_key}
 use Rattle.art_walks.proofs.KeyWalks.{await-join, await-one, child-unfit, of_one}
 use Rattle.art_walks.proofs.checker.keys.others_fit.Goals as goal
 

@@ -1,8 +1,7 @@
 use Rattle.std.proofs.Common.{◌≡◌, ◌++◌, ℕ, List, length}
-use Rattle.art_nodes.specs.Name.{Name}
-use Rattle.art_arena.specs.arena.Arena.{node_at}
-use Rattle.art_walks.specs.declared.checker.keys.Place.{Place}
-use Rattle.art_walks.specs.inner.Fillings.{Await}
+use Rattle.art_nodes.proofs.Common.{Name}
+use Rattle.art_arena.proofs.Common.{node_at}
+use Rattle.art_walks.proofs.Terms.{Place, Await}
 use Rattle.art_walks.proofs.checker.keys.others_fit.Given as goal
 
 abbrev pub invariant-loop-child : goal.invariant-loop-child

@@ -1,6 +1,6 @@
 use Rattle.std.proofs.Common.{None, drop}
-use Rattle.art_arena.specs.arena.Arena.{links_at}
-use Rattle.art_walks.specs.inner.Slots.{AreLinkedSlots, leaf_slots}
+use Rattle.art_arena.proofs.Common.{links_at}
+use Rattle.art_walks.proofs.Terms.{AreLinkedSlots, leaf_slots}
 use Rattle.art_walks.proofs.LinkWalks.{IsLinkedFrom}
 use Rattle.art_walks.proofs.checker.links.leaves_linked.Given as goal
 

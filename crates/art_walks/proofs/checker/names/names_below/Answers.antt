@@ -1,9 +1,6 @@
 use Rattle.std.proofs.Common.{◌≡◌, ℕ, Bool, true, false, not, List, [], ◌∷◌, ◌++◌, length, ◌-◌, take, length-append, sym, ap, subst, ◌∙◌, refl, inl, inr}
-use Rattle.art_arena.specs.arena.Arena.{links_at, node_at, slots_of}
-use Rattle.art_arena.proofs.shapes.Measures.{pair_there, nothing_there}
-use Rattle.art_walks.specs.declared.malformed.MalformedTreeError.{MalformedTreeError}
-use Rattle.art_walks.specs.declared.malformed.MalformedTreeError.TheVariants.{WrongChildrenCount, Memory}
-use Rattle.art_walks.specs.Faults.{HasWrongCount, Stands}
+use Rattle.art_arena.proofs.Common.{links_at, node_at, slots_of, pair_there, nothing_there}
+use Rattle.art_walks.proofs.Terms.{MalformedTreeError, WrongChildrenCount, Memory, HasWrongCount, Stands}
 use Rattle.art_walks.proofs.NameWalks.{seen-more, seen-first, nearer, walk-begin, walk-end, walk-dead, walk-loop, walk-miscounted, walk-leaf, walk-inner, walk-few, IsNameWalk}
 use Rattle.art_walks.proofs.Verdicts.{passed}
 use Rattle.art_walks.proofs.checker.names.names_below.Goals as goal

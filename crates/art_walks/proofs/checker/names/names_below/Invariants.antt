@@ -1,7 +1,7 @@
 use Rattle.std.proofs.Common.{◌≡◌, ◌-◌, length}
-use Rattle.art_nodes.specs.Name.{Name}
-use Rattle.art_arena.specs.arena.Arena.{node_at, slots_of}
-use Rattle.art_walks.specs.inner.Names.{has_name}
+use Rattle.art_nodes.proofs.Common.{Name}
+use Rattle.art_arena.proofs.Common.{node_at, slots_of}
+use Rattle.art_walks.proofs.Terms.{has_name}
 use Rattle.art_walks.proofs.NameWalks.{IsNameWalk}
 use Rattle.art_walks.proofs.checker.names.names_below.Given as goal
 

@@ -1,9 +1,8 @@
 use Rattle.std.proofs.Common.{◌≡◌, ◌||◌, ◌&&◌, not, ℕ, Bool, true, false, cond, nat_eq, List, [], ◌∷◌, refl, sym, ap, ap₂, ◌∙◌, inl, inr}
 use Rattle.std.specs.List.{list_any}
-use Rattle.art_walks.specs.inner.Names.{has_name}
-use Rattle.art_arena.specs.arena.Cells.{same_kind, same_name}
-use Rattle.art_arena.proofs.shapes.CellLists.{same_name_tells}
-use Rattle.art_nodes.specs.Name.{Name}
+use Rattle.art_walks.proofs.Terms.{has_name}
+use Rattle.art_arena.proofs.Common.{same_kind, same_name, same_name_tells}
+use Rattle.art_nodes.proofs.Common.{Name}
 use Rattle.art_nodes.specs.declared.kind.NodeType.{NodeType}
 use Rattle.art_walks.proofs.KindTests.{kinds_told}
 use Rattle.art_nodes.specs.contracts.names.OpaqueNodePtrPartialEq.TheImpl.{eq-value}

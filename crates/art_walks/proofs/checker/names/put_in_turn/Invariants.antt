@@ -1,5 +1,5 @@
 use Rattle.std.proofs.Common.{◌≡◌, ◌++◌, reverse, length}
-use Rattle.art_nodes.specs.InnerNode.{names_of}
+use Rattle.art_nodes.proofs.Common.{names_of}
 use Rattle.art_walks.proofs.checker.names.put_in_turn.Given as goal
 
 abbrev pub invariant-loop-child : goal.invariant-loop-child

@@ -1,11 +1,12 @@
 use Rattle.std.proofs.Common.{[], ◌-◌, ◌∷◌, ◌++◌, ◌∙◌, ap, ap₂, arith, sym}
-use Rattle.art_walks.specs.Walked.{pairs_along, start_of}
+use Rattle.art_arena.specs.declared.ends.End.TheVariants.{Last}
+use Rattle.art_walks.proofs.Terms.{pairs_along, start_of}
 use Rattle.art_walks.proofs.Rests.{Gave, back-held, fewer, gave-back}
 use Rattle.art_walks.proofs.into_iter.IntoIterDoubleEndedIterator.next_back.Given.{Over}
 use Rattle.art_walks.proofs.into_iter.IntoIterDoubleEndedIterator.next_back.Goals as goal
 
 gave : (g : Over) (c : goal.After-into_entry g)
-    → Gave c.self.inside.arena c.deallocate_node_ptr-leaf.new.self c.self.inside.leaves c.before-self-inside.result c.self.inside.len (c.deallocate_node_ptr-leaf.result.key, c.deallocate_node_ptr-leaf.result.value) (λ p ps. ps ++ p ∷ [])
+    → Gave Last c.self.inside.arena c.deallocate_node_ptr-leaf.new.self c.self.inside.leaves c.before-self-inside.result c.self.inside.len (c.deallocate_node_ptr-leaf.result.key, c.deallocate_node_ptr-leaf.result.value)
 gave g c =
     gave-back c.self.inside.arena c.self.inside.leaves c.in_ok-first.first c.in_ok-first.last c.self.inside.len (cc c.in_ok-first.was) c.self.invariant
     c.deallocate_node_ptr-leaf.new.self c.before-self-inside.result c.deallocate_node_ptr-leaf.result c.deallocate_node_ptr-leaf.ensures.value c.deallocate_node_ptr-leaf.ensures.updates
@@ -29,7 +30,7 @@ returns-clause-goes g c = record {
     tt,
     tt,
     rw (← c.self.view_is)
-        (fewer c.self.inside.arena c.deallocate_node_ptr-leaf.new.self c.self.inside.leaves c.before-self-inside.result c.self.inside.len _ (λ p ps. ps ++ p ∷ []) c.self.invariant (gave g c)),
+        (fewer Last c.self.inside.arena c.deallocate_node_ptr-leaf.new.self c.self.inside.leaves c.before-self-inside.result c.self.inside.len _ c.self.invariant (gave g c)),
   );
   keeps = tt;
   rests = λ fin. tt;

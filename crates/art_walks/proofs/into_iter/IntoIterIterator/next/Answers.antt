@@ -1,11 +1,12 @@
 use Rattle.std.proofs.Common.{◌-◌, ◌∷◌, ◌∙◌, ap, ap₂, sym}
-use Rattle.art_walks.specs.Walked.{pairs_along, start_of}
+use Rattle.art_arena.specs.declared.ends.End.TheVariants.{First}
+use Rattle.art_walks.proofs.Terms.{pairs_along, start_of}
 use Rattle.art_walks.proofs.Rests.{Gave, fewer, gave-front}
 use Rattle.art_walks.proofs.into_iter.IntoIterIterator.next.Given.{Over}
 use Rattle.art_walks.proofs.into_iter.IntoIterIterator.next.Goals as goal
 
 gave : (g : Over) (c : goal.After-into_entry g)
-    → Gave c.self.inside.arena c.deallocate_node_ptr-leaf.new.self c.self.inside.leaves c.behind-self-inside.result c.self.inside.len (c.deallocate_node_ptr-leaf.result.key, c.deallocate_node_ptr-leaf.result.value) (λ p ps. p ∷ ps)
+    → Gave First c.self.inside.arena c.deallocate_node_ptr-leaf.new.self c.self.inside.leaves c.behind-self-inside.result c.self.inside.len (c.deallocate_node_ptr-leaf.result.key, c.deallocate_node_ptr-leaf.result.value)
 gave g c =
     gave-front c.self.inside.arena c.self.inside.leaves c.in_ok-first.first c.in_ok-first.last c.self.inside.len (cc c.in_ok-first.was) c.self.invariant
     c.deallocate_node_ptr-leaf.new.self c.behind-self-inside.result c.deallocate_node_ptr-leaf.result c.deallocate_node_ptr-leaf.ensures.value c.deallocate_node_ptr-leaf.ensures.updates
@@ -25,7 +26,7 @@ returns-clause-goes g c = record {
     tt,
     tt,
     rw (← c.self.view_is)
-        (fewer c.self.inside.arena c.deallocate_node_ptr-leaf.new.self c.self.inside.leaves c.behind-self-inside.result c.self.inside.len _ (λ p ps. p ∷ ps) c.self.invariant (gave g c)),
+        (fewer First c.self.inside.arena c.deallocate_node_ptr-leaf.new.self c.self.inside.leaves c.behind-self-inside.result c.self.inside.len _ c.self.invariant (gave g c)),
   );
   keeps = tt;
   rests = λ fin. tt;

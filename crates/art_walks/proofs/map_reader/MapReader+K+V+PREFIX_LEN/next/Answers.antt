@@ -1,5 +1,5 @@
 use Rattle.std.proofs.Common.{Some, ap, ap₂, subst, sym, ◌∙◌}
-use Rattle.art_walks.specs.MapReads.{IsSpan, IsSpanOf}
+use Rattle.art_walks.proofs.Terms.{IsSpan, IsSpanOf}
 use Rattle.art_walks.proofs.MapReads.{span-later, span-step}
 use Rattle.art_walks.proofs.map_reader.MapReader+K+V+PREFIX_LEN.next.Goals as goal
 

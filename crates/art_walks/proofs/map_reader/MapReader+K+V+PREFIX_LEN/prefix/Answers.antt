@@ -1,9 +1,8 @@
 use Rattle.std.proofs.Common.{ℕ, List, length, arith, filter, subst, sym, refl}
-use Rattle.art_arena.specs.tree.Tenants.{begins_with}
-use Rattle.art_operations.proofs.Stretches.{front_convex}
-use Rattle.art_operations.specs.Openings.{SpanReads}
+use Rattle.art_arena.proofs.Common.{begins_with}
+use Rattle.art_operations.proofs.Common.{front_convex, SpanReads}
 use Rattle.art_operations.proofs.Openings.{opening_of}
-use Rattle.art_walks.specs.MapReads.{IsSpanOf, PairsWithin, ReadsPairs}
+use Rattle.art_walks.proofs.Terms.{IsSpanOf, PairsWithin, ReadsPairs}
 use Rattle.art_walks.proofs.MapReads.{keys-within, no-span, span-of, the-shape, the-stores, where_none, where_some}
 use Rattle.art_walks.proofs.map_reader.MapReader+K+V+PREFIX_LEN.prefix.Goals as goal
 use Rattle.art_walks.proofs.map_reader.MapReader+K+V+PREFIX_LEN.prefix.Goals.{After-find_prefix_segment_with}

@@ -1,11 +1,10 @@
 use Rattle.std.proofs.Common.{ℕ, List, arith, filter, subst, sym, refl}
 use Rattle.std.specs.BTreeMap.Range.{range_contains}
 use Rattle.std.specs.Range.Bound.{bound_map}
-use Rattle.art_bytes.specs.Keys.{bytes_cmp}
-use Rattle.art_operations.proofs.Stretches.{between_convex}
-use Rattle.art_operations.specs.Openings.{SpanReads}
+use Rattle.art_bytes.proofs.Common.{bytes_cmp}
+use Rattle.art_operations.proofs.Common.{between_convex, SpanReads}
 use Rattle.art_operations.proofs.Openings.{opening_of}
-use Rattle.art_walks.specs.MapReads.{IsSpanOf, PairsWithin, ReadsPairs}
+use Rattle.art_walks.proofs.Terms.{IsSpanOf, PairsWithin, ReadsPairs}
 use Rattle.art_walks.proofs.MapReads.{keys-within, no-span, span-of, the-links, the-shape, the-stores, where_none, where_some}
 use Rattle.art_walks.proofs.map_reader.MapReader+K+V+PREFIX_LEN.range.Goals as goal
 use Rattle.art_walks.proofs.map_reader.MapReader+K+V+PREFIX_LEN.range.Goals.{After-find_range_segment_with}

@@ -1,5 +1,5 @@
 use Rattle.std.proofs.Common.{[]}
-use Rattle.art_operations.specs.Pairs.{with_pair_put}
+use Rattle.art_operations.proofs.Common.{with_pair_put}
 use Rattle.play_operations.proofs.SomePairs.{kept}
 use Rattle.play_operations.proofs.tree.Tree.insert.Goals as goal
 

@@ -1,6 +1,5 @@
 use Rattle.std.proofs.Common.{[], subst}
-use Rattle.art_operations.specs.Pairs.{CanPut, with_pair_put}
-use Rattle.art_operations.proofs.HeldPairs.{pairs-same}
+use Rattle.art_operations.proofs.Common.{CanPut, with_pair_put, pairs-same}
 use Rattle.play_operations.proofs.tree.Tree.insert_placed.Goals as goal
 
 pub invariant_of-self : goal.invariant_of-self

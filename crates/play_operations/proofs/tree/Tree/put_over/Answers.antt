@@ -1,6 +1,5 @@
 use Rattle.std.proofs.Common.{[], subst}
-use Rattle.art_operations.specs.Pairs.{CanPutOver, with_pair_over}
-use Rattle.art_operations.proofs.HeldPairs.{pairs-same}
+use Rattle.art_operations.proofs.Common.{CanPutOver, with_pair_over, pairs-same}
 use Rattle.play_operations.proofs.tree.Tree.put_over.Goals as goal
 
 pub invariant_of-self : goal.invariant_of-self

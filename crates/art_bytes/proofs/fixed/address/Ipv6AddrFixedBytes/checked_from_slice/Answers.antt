@@ -1,8 +1,7 @@
 -- The segments that were read from the octets have these octets again.
 use Rattle.std.proofs.Common.{rules, ◌≡◌, ◌<◌, ℕ, length, get_or, subst, sym, ◌∙◌}
 use Rattle.std.specs.Net.Addr.{ipv6_octets, ipv6_segments}
-use Rattle.art_bytes.specs.Keys.{AreBytes}
-use Rattle.art_bytes.specs.lemmas.KeyLaws.{AreBytes-by_index}
+use Rattle.art_bytes.proofs.Terms.{AreBytes, AreBytes-by_index}
 use Rattle.art_bytes.specs.lemmas.AddressLaws.{octets_read}
 use Rattle.art_bytes.proofs.fixed.address.Ipv6AddrFixedBytes.checked_from_slice.Goals as goal
 

@@ -1,7 +1,6 @@
 -- An array of bytes has their number and range; the contract says which octets they are.
 use Rattle.std.proofs.Common.{rules, ◌≡◌, ◌<◌, ℕ, length, get_or, subst}
-use Rattle.art_bytes.specs.Keys.{AreBytes}
-use Rattle.art_bytes.specs.lemmas.KeyLaws.{AreBytes-by_index}
+use Rattle.art_bytes.proofs.Terms.{AreBytes, AreBytes-by_index}
 use Rattle.art_bytes.proofs.fixed.address.Ipv6AddrFixedBytes.to_array.Goals as goal
 
 are_octets : (c : goal.After-octets-octets) → AreBytes c.octets-octets.result × (length c.octets-octets.result ≡ 16)

@@ -2,8 +2,7 @@
 use Rattle.std.proofs.Common.{refl, subst, sym, ap, ◌∙◌}
 use Rattle.std.specs.List.{list_any}
 use Rattle.std.specs.Prelude.{nat_eq}
-use Rattle.art_bytes.specs.Keys.{AreBytes}
-use Rattle.art_bytes.specs.lemmas.KeyLaws.{none_is_zero, some_is_zero}
+use Rattle.art_bytes.proofs.Terms.{AreBytes, none_is_zero, some_is_zero}
 use Rattle.art_bytes.proofs.keys.zero_ended.ZeroEnded.new.Goals as goal
 
 pub returns-then-contains-clause-refused : goal.returns-then-contains-clause-refused

@@ -1,6 +1,6 @@
 use Rattle.std.proofs.Common.{◌≡◌, ℕ, ◌^◌, ◌<◌, subst, List, take, drop}
 use Rattle.std.specs.Int.{from_be_bytes, w32}
-use Rattle.art_lines.specs.Keys.{full_key}
+use Rattle.art_lines.proofs.Terms.{full_key}
 use Rattle.art_lines.proofs.command.fields.Fields.full_key.Goals as goal
 
 pub returns-clause-value : goal.returns-clause-value

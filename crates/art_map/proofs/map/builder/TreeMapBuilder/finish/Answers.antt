@@ -1,5 +1,5 @@
 use Rattle.std.proofs.Common.{sym, subst, arith}
-use Rattle.art_operations.specs.LeafNames.{HasLeavesOf}
+use Rattle.art_operations.proofs.Common.{HasLeavesOf}
 use Rattle.art_map.proofs.Built.{in-order, is-false, is-true, nodes-in-order, nodes-settled, settled}
 use Rattle.art_map.proofs.map.builder.TreeMapBuilder.finish.Goals as goal
 

@@ -1,4 +1,4 @@
-use Rattle.art_operations.proofs.LeafNames.{same-names}
+use Rattle.art_operations.proofs.Common.{same-names}
 use Rattle.art_map.proofs.map.builder.TreeMapBuilder.insert.Goals as goal
 
 pub returns-in_err-insert-clause-names : goal.returns-in_err-insert-clause-names

@@ -1,4 +1,4 @@
-use Rattle.art_operations.proofs.Building.{fresh}
+use Rattle.art_operations.proofs.Common.{fresh}
 use Rattle.art_map.proofs.map.builder.TreeMapBuilder.new.Goals as goal
 
 pub returns : goal.returns

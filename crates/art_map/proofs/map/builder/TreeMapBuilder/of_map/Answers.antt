@@ -1,9 +1,9 @@
 use Rattle.std.proofs.Common.{true, ap, subst}
-use Rattle.art_operations.specs.Pairs.{HasPairs}
+use Rattle.art_operations.proofs.Common.{HasPairs}
 use Rattle.art_map.proofs.Built.{goes-on}
 use Rattle.art_map.proofs.map.builder.TreeMapBuilder.of_map.Goals as goal
 
 pub returns-in-None-clause-pairs : goal.returns-in-None-clause-pairs
 returns-in-None-clause-pairs g c =
-    goes-on g.K.AsBytes.bytes g.K.AsBytes.is_key (record { alloc = c.map.inside.alloc; in_order = true; arena = c.map.inside.arena; builder = c.new.result; map = c.with_prefix_len.result }) c.map.inside.root c.args.map.pairs c.in-None.is
+    goes-on g.K.AsBytes.bytes g.K.AsBytes.is_key (record { alloc = c.map.inside.alloc; in_order = true; wait = 8; pause = 8; arena = c.map.inside.arena; builder = c.new.result; map = c.with_prefix_len.result }) c.map.inside.root c.args.map.pairs c.in-None.is
     (subst (HasPairs g.K.AsBytes.bytes g.row.PREFIX_LEN c.map.inside.arena c.map.inside.root) (ap (λ m. m.pairs) c.map.view_is) c.map.invariant.has) c.new.ensures.last c.new.ensures.spine c.new.ensures.room c.with_prefix_len.ensures

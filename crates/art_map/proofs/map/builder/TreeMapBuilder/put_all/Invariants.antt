@@ -1,7 +1,6 @@
 use Rattle.std.proofs.Common.{List, map}
-use Rattle.art_operations.specs.LeafNames.{HasLeavesOf}
-use Rattle.art_map.specs.Asked.{with_pairs_put}
-use Rattle.art_map.specs.Builders.{HasGathered, nodes_of}
+use Rattle.art_operations.proofs.Common.{HasLeavesOf}
+use Rattle.art_map.proofs.Terms.{with_pairs_put, HasGathered, nodes_of}
 use Rattle.art_map.proofs.map.builder.TreeMapBuilder.put_all.Given as goal
 
 abbrev pub invariant-loop-key : goal.invariant-loop-key

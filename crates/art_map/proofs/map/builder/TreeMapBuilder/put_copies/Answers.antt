@@ -1,7 +1,6 @@
 use Rattle.std.proofs.Common.{map, refl, sym, subst, arith}
 use Rattle.std.specs.Map.Iter.{deref_pair}
-use Rattle.art_map.specs.Asked.{with_pairs_put}
-use Rattle.art_map.specs.Builders.{HasGathered, nodes_of}
+use Rattle.art_map.proofs.Terms.{with_pairs_put, HasGathered, nodes_of}
 use Rattle.art_map.proofs.LeafNames.{then-names}
 use Rattle.art_map.proofs.Puts.{gather-refused, next-back, put-item}
 use Rattle.art_map.proofs.map.builder.TreeMapBuilder.put_copies.Goals as goal

@@ -1,8 +1,7 @@
 use Rattle.std.proofs.Common.{List, map}
 use Rattle.std.specs.Map.Iter.{deref_pair}
-use Rattle.art_operations.specs.LeafNames.{HasLeavesOf}
-use Rattle.art_map.specs.Asked.{with_pairs_put}
-use Rattle.art_map.specs.Builders.{HasGathered, nodes_of}
+use Rattle.art_operations.proofs.Common.{HasLeavesOf}
+use Rattle.art_map.proofs.Terms.{with_pairs_put, HasGathered, nodes_of}
 use Rattle.art_map.proofs.map.builder.TreeMapBuilder.put_copies.Given as goal
 
 abbrev pub invariant-loop-key : goal.invariant-loop-key

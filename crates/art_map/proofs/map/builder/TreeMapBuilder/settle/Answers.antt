@@ -1,6 +1,5 @@
 use Rattle.std.proofs.Common.{sym, subst}
-use Rattle.art_operations.specs.Builders.{Builds}
-use Rattle.art_operations.specs.LeafNames.{HasLeavesOf}
+use Rattle.art_operations.proofs.Common.{Builds, HasLeavesOf}
 use Rattle.art_map.proofs.map.builder.TreeMapBuilder.settle.Goals as goal
 
 pub returns-clause-pairs : goal.returns-clause-pairs

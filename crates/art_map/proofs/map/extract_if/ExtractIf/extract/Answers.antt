@@ -1,9 +1,6 @@
 use Rattle.std.proofs.Common.{◌<◌, length, Some, None, refl, sym, ap, subst, ◌∙◌, arith}
 use Rattle.std.specs.Map.Calls.{CalledAtPair, TakesPair}
-use Rattle.art_map.specs.Asked.{asking, extract_map}
-use Rattle.art_map.specs.Extractions.{map_of}
-use Rattle.art_map.specs.LeafNames.{AddsNoLeaf}
-use Rattle.art_map.specs.inner.Asks.{asking_by}
+use Rattle.art_map.proofs.Terms.{asking, extract_map, map_of, AddsNoLeaf, asking_by}
 use Rattle.art_map.proofs.Asks.{callable-next, extracts-later, extracts-none, extracts-now, fewer-passed, fewer-taken, none-left, one-left}
 use Rattle.art_map.proofs.LeafNames.{then-names}
 use Rattle.art_map.proofs.map.extract_if.ExtractIf.extract.Goals.{After-ask}

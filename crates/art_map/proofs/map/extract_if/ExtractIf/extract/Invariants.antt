@@ -1,8 +1,7 @@
 use Rattle.std.proofs.Common.{◌≡◌, ◌≤◌, length, Option, Result}
 use Rattle.std.specs.Map.Calls.{CalledAtPair}
 use Rattle.std.specs.declared.alloc.AllocError.{AllocError}
-use Rattle.art_map.specs.Asked.{Asking, CanExtractIf, Extracts, asking, extract_map}
-use Rattle.art_map.specs.LeafNames.{AddsNoLeaf}
+use Rattle.art_map.proofs.Terms.{Asking, CanExtractIf, Extracts, asking, extract_map, AddsNoLeaf}
 use Rattle.art_map.proofs.map.extract_if.ExtractIf.extract.Given as goal
 
 -- what a call does from here on is what it does

@@ -1,6 +1,6 @@
 use Rattle.std.proofs.Common.{refl, sym}
 use base.Stored.{Coded-set, coded_list, coded×}
-use Rattle.art_map.specs.Extractions.{left_of}
+use Rattle.art_map.proofs.Terms.{left_of}
 use Rattle.art_map.proofs.Extractions.{key-at-end, left-still, still-written}
 use Rattle.art_map.proofs.LeafNames.{written-names}
 use Rattle.art_map.proofs.map.extraction.Extraction.ask.Goals as goal

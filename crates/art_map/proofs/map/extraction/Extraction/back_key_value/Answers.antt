@@ -1,5 +1,5 @@
 use Rattle.std.specs.Map.Iter.{deref_pair}
-use Rattle.art_map.specs.Extractions.{left_of}
+use Rattle.art_map.proofs.Terms.{left_of}
 use Rattle.art_map.proofs.Extractions.{last-shown}
 use Rattle.art_map.proofs.map.extraction.Extraction.back_key_value.Goals as goal
 

@@ -1,10 +1,7 @@
 use Rattle.std.proofs.Common.{subst}
 use base.Stored.{Coded-set, coded_list, coded×}
-use Rattle.art_arena.specs.arena.Shapes.{key_of}
-use Rattle.art_arena.specs.tree.Shrinks.{Shrinks}
-use Rattle.art_map.specs.Contents.{IsUntouched}
-use Rattle.art_map.specs.Extractions.{left_of}
-use Rattle.art_map.specs.LeafNames.{AddsNoLeaf, KeepsLeaves}
+use Rattle.art_arena.proofs.Common.{key_of, Shrinks}
+use Rattle.art_map.proofs.Terms.{IsUntouched, left_of, AddsNoLeaf, KeepsLeaves}
 use Rattle.art_map.proofs.Extractions.{either-some, empty-some, left-taken}
 use Rattle.art_map.proofs.map.extraction.Extraction.take.Goals as goal
 

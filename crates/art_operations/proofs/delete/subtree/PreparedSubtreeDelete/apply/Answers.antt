@@ -1,11 +1,6 @@
 use Rattle.std.proofs.Common.{◌-◌, ◌^◌, min, length, ap, ◌∙◌, subst, lit<}
-use Rattle.art_arena.specs.arena.Arena.{links_at}
-use Rattle.art_arena.specs.arena.Context.{path_to, leaves_before, leaves_after}
-use Rattle.art_arena.specs.arena.Shapes.{leaves, pairs_of, key_of}
-use Rattle.art_arena.proofs.shapes.LinkedLists.{kept-without_run}
-use Rattle.art_operations.specs.Deletions.{HasLeavesBeside}
-use Rattle.art_operations.specs.Frees.{HoldsBeside}
-use Rattle.art_operations.specs.NodeCounts.{nodes_counted}
+use Rattle.art_arena.proofs.Common.{links_at, path_to, leaves_before, leaves_after, leaves, pairs_of, key_of, kept-without_run}
+use Rattle.art_operations.proofs.Terms.{HasLeavesBeside, HoldsBeside, nodes_counted}
 use Rattle.art_operations.proofs.NodeCounts.{shape-nodes}
 use Rattle.art_operations.proofs.LeafNames.{cut-names}
 use Rattle.art_operations.proofs.Deleted.{beside_part, part_beside, still_listed, others_left, kept_beside}

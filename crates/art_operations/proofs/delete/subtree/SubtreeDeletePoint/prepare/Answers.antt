@@ -1,5 +1,5 @@
 use Rattle.std.proofs.Common.{lit<}
-use Rattle.art_arena.specs.arena.Steps.{steps_of}
+use Rattle.art_arena.proofs.Common.{steps_of}
 use Rattle.art_operations.proofs.Edits.{last-is}
 use Rattle.art_operations.proofs.Preparing.{parent_inner, parent_node, parent_there, parent_some, parent_shrinks}
 use Rattle.art_operations.proofs.Results.{always_err}

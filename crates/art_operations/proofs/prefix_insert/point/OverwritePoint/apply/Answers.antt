@@ -1,13 +1,7 @@
 use Rattle.std.proofs.Common.{◌≡◌, List, ◌∷◌, ◌++◌, refl, subst, arith}
-use Rattle.art_nodes.specs.Name.{Name}
-use Rattle.art_arena.specs.arena.Arena.{node_at, links_at}
-use Rattle.art_arena.specs.arena.Cells.{Cell, pair, leaf_name, Holds}
-use Rattle.art_arena.specs.arena.Meaning.{IsTreeBeside}
-use Rattle.art_arena.specs.arena.Steps.{steps_of}
-use Rattle.art_arena.specs.arena.Context.{path_to, root_of, leaves_before, leaves_after, cells_before, cells_after}
-use Rattle.art_arena.specs.arena.Shapes.{Shape, cells, leaves}
-use Rattle.art_arena.proofs.shapes.LinkedLists.{kept-run}
-use Rattle.art_operations.specs.Points.{IsInTheWay}
+use Rattle.art_nodes.proofs.Common.{Name}
+use Rattle.art_arena.proofs.Common.{node_at, links_at, Cell, pair, leaf_name, Holds, IsTreeBeside, steps_of, path_to, root_of, leaves_before, leaves_after, cells_before, cells_after, Shape, cells, leaves, kept-run}
+use Rattle.art_operations.proofs.Terms.{IsInTheWay}
 use Rattle.art_operations.proofs.Overwrites.{part_stands, stands_beside, part_left, part_apart, overwritten, others_stay}
 use Rattle.art_operations.proofs.prefix_insert.point.OverwritePoint.apply.Goals as goal
 use Rattle.art_operations.proofs.prefix_insert.point.OverwritePoint.apply.Goals.{After-repoint-new_root}

@@ -1,7 +1,5 @@
 use Rattle.std.proofs.Common.{◌+◌, arith}
-use Rattle.art_arena.specs.arena.Shapes.{leaves}
-use Rattle.art_arena.specs.arena.Steps.{steps_of}
-use Rattle.art_arena.proofs.tree.Insert.{all_at}
+use Rattle.art_arena.proofs.Common.{leaves, steps_of, all_at}
 use Rattle.art_operations.proofs.LeafNames.{inserted-names, overwritten-names}
 use Rattle.art_operations.proofs.NewNodes.{fewer}
 use Rattle.art_operations.proofs.NotStored.{not-in-way}

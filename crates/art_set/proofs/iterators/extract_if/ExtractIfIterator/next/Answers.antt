@@ -1,8 +1,8 @@
 use Rattle.std.proofs.Common.{◌<◌, length, true, false, None, refl, ap, ◌∙◌, arith}
 use Rattle.std.specs.Fn.{CalledAt, TakesAt}
 use Rattle.std.specs.Map.{keys_of}
-use Rattle.art_map.specs.Extractions.{left_of, map_of}
-use Rattle.art_set.specs.Asked.{AskingKeys, asking_keys}
+use Rattle.art_map.proofs.Common.{left_of, map_of}
+use Rattle.art_set.proofs.Terms.{AskingKeys, asking_keys}
 use Rattle.art_set.proofs.AskedKeys.{callable-behind, callable-next, extracts-later, extracts-none, extracts-now}
 use Rattle.art_set.proofs.AskedPairs.{fewer-left, first-left, first-passed, none-first, refused-key, taken-key}
 use Rattle.art_set.proofs.iterators.extract_if.ExtractIfIterator.next.Goals as goal

@@ -1,7 +1,7 @@
 use Rattle.std.proofs.Common.{◌≡◌, ◌≤◌, length, Option, Result}
 use Rattle.std.specs.declared.alloc.AllocError.{AllocError}
 use Rattle.std.specs.Fn.{CalledAt}
-use Rattle.art_set.specs.Asked.{AskingKeys, CanExtractKeys, ExtractsKey, asking_keys, extract_set}
+use Rattle.art_set.proofs.Terms.{AskingKeys, CanExtractKeys, ExtractsKey, asking_keys, extract_set}
 use Rattle.art_set.proofs.iterators.extract_if.ExtractIfIterator.next.Given as goal
 
 -- what a call does from here on is what it does

@@ -1,5 +1,5 @@
 use Rattle.std.proofs.Common.{◌≡◌}
-use Rattle.art_set.specs.inner.Merging.{keys_left, merging, IsCompared}
+use Rattle.art_set.proofs.Terms.{keys_left, merging, IsCompared}
 use Rattle.art_set.proofs.merges.sides.Sides+K+PREFIX_LEN.next_wanted.Given as goal
 
 -- what was gone past is not wanted

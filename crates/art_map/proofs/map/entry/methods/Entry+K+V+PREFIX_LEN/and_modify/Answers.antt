@@ -1,6 +1,7 @@
 use Rattle.std.proofs.Common.{◌≡◌, refl, sym, ap, subst, ◌∙◌, Option}
 use Rattle.std.specs.Map.Calls.{MayWrite, ModifiesValue}
-use Rattle.art_map.specs.Entries.{Occupied, entry_pairs, entry_value, pairs_without}
+use Rattle.art_map.specs.Entries.{Occupied}
+use Rattle.art_map.proofs.Terms.{entry_pairs, entry_value, pairs_without}
 use Rattle.art_map.proofs.Entries.{written-without}
 use Rattle.art_map.proofs.map.entry.methods.Entry+K+V+PREFIX_LEN.and_modify.Goals as goal
 

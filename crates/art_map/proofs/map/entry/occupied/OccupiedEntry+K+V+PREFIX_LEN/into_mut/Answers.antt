@@ -1,5 +1,5 @@
 use Rattle.std.proofs.Common.{refl, sym, ap, ◌∙◌}
-use Rattle.art_operations.specs.Pairs.{with_pair_put}
+use Rattle.art_operations.proofs.Common.{with_pair_put}
 use Rattle.art_map.proofs.Entries.{has-pair, key-is, value-is}
 use Rattle.art_map.proofs.LeafNames.{written-all}
 use Rattle.art_map.proofs.map.entry.occupied.OccupiedEntry+K+V+PREFIX_LEN.into_mut.Goals as goal

@@ -1,6 +1,6 @@
 use Rattle.std.proofs.Common.{sym, ap, ◌∙◌}
-use Rattle.art_arena.specs.arena.Shapes.{key_of}
-use Rattle.art_operations.specs.KeyedLists.{without_key}
+use Rattle.art_arena.proofs.Common.{key_of}
+use Rattle.art_operations.proofs.Common.{without_key}
 use Rattle.art_map.proofs.Entries.{key-is, value-is, has-pair, ok-more, ok-on, err-on}
 use Rattle.art_map.proofs.map.entry.occupied.OccupiedEntry+K+V+PREFIX_LEN.remove_entry.Goals as goal
 

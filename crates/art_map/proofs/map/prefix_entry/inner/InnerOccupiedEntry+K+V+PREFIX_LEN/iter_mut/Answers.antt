@@ -1,7 +1,7 @@
 use Rattle.std.proofs.Common.{refl, sym, ap, ◌∙◌, arith}
-use Rattle.art_arena.specs.arena.Shapes.{key_of}
-use Rattle.art_operations.specs.KeyedLists.{overlapping}
-use Rattle.art_walks.proofs.RunLengths.{recounted, run-pairs}
+use Rattle.art_arena.proofs.Common.{key_of}
+use Rattle.art_operations.proofs.Common.{overlapping}
+use Rattle.art_walks.proofs.Common.{recounted, run-pairs}
 use Rattle.art_map.proofs.map.prefix_entry.inner.InnerOccupiedEntry+K+V+PREFIX_LEN.iter_mut.Goals as goal
 
 pub run_mut-requires : goal.run_mut-requires

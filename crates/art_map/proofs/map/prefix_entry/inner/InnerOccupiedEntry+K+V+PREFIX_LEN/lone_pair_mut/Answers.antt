@@ -1,9 +1,8 @@
 use Rattle.std.proofs.Common.{◌≡◌, Some, refl, sym, subst, ◌∙◌}
-use Rattle.art_arena.specs.arena.Shapes.{key_of}
-use Rattle.art_operations.specs.KeyedLists.{overlapping}
+use Rattle.art_arena.proofs.Common.{key_of}
+use Rattle.art_operations.proofs.Common.{overlapping}
 use Rattle.std.specs.Map.{set_value}
-use Rattle.art_map.specs.Lends.{with_value_at}
-use Rattle.art_map.specs.Overlapped.{lone_item, overlaps_query}
+use Rattle.art_map.proofs.Terms.{with_value_at, lone_item, overlaps_query}
 use Rattle.art_map.proofs.LeafNames.{written-all}
 use Rattle.art_map.proofs.Written.{one-pair}
 use Rattle.art_map.proofs.map.prefix_entry.inner.InnerOccupiedEntry+K+V+PREFIX_LEN.lone_pair_mut.Goals as goal

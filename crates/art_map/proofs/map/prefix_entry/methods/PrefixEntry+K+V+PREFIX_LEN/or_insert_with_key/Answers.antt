@@ -1,6 +1,7 @@
 use Rattle.std.proofs.Common.{refl, sym, subst}
 use Rattle.std.specs.Fn.{FnOnceReturnsAt}
-use Rattle.art_map.specs.PrefixEntries.{Occupied, prefix_key}
+use Rattle.art_map.specs.PrefixEntries.{Occupied}
+use Rattle.art_map.proofs.Terms.{prefix_key}
 use Rattle.art_map.proofs.Entries.{err-more, ok-more}
 use Rattle.art_map.proofs.PrefixEntries.{no-value}
 use Rattle.art_map.proofs.map.prefix_entry.methods.PrefixEntry+K+V+PREFIX_LEN.or_insert_with_key.Goals as goal

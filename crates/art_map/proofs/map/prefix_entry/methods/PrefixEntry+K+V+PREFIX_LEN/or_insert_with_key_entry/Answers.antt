@@ -1,6 +1,7 @@
 use Rattle.std.proofs.Common.{refl, sym, subst}
 use Rattle.std.specs.Fn.{FnOnceReturnsAt}
-use Rattle.art_map.specs.PrefixEntries.{Occupied, occupied_kind, prefix_key}
+use Rattle.art_map.specs.PrefixEntries.{Occupied}
+use Rattle.art_map.proofs.Terms.{occupied_kind, prefix_key}
 use Rattle.art_map.proofs.Entries.{err-more, ok-more}
 use Rattle.art_map.proofs.PrefixEntries.{no-error, no-value, same-fills, written-fills}
 use Rattle.art_map.proofs.map.prefix_entry.methods.PrefixEntry+K+V+PREFIX_LEN.or_insert_with_key_entry.Goals as goal

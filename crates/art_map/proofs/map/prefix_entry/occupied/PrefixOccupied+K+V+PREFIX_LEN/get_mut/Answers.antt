@@ -1,10 +1,8 @@
 use Rattle.std.proofs.Common.{◌≡◌, Some, None, refl, sym, ap, subst, ◌∙◌}
-use Rattle.art_arena.specs.arena.Shapes.{key_of}
-use Rattle.art_operations.specs.KeyedLists.{overlapping}
+use Rattle.art_arena.proofs.Common.{key_of}
+use Rattle.art_operations.proofs.Common.{overlapping}
 use Rattle.std.specs.Map.{set_value}
-use Rattle.art_map.specs.Contents.{option_value}
-use Rattle.art_map.specs.Lends.{with_value_at}
-use Rattle.art_map.specs.Overlapped.{lone_item, overlaps_query}
+use Rattle.art_map.proofs.Terms.{option_value, with_value_at, lone_item, overlaps_query}
 use Rattle.art_map.proofs.Entries.{value-is}
 use Rattle.art_map.proofs.LeafNames.{written-all}
 use Rattle.art_map.proofs.PrefixEntries.{held-at, kind-new, kind-stored, leaf-entry, shown-new, shown-stored}

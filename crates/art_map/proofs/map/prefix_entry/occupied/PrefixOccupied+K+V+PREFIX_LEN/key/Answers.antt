@@ -1,5 +1,5 @@
 use Rattle.std.proofs.Common.{refl, sym, arith}
-use Rattle.art_map.specs.Found.{has_leaf}
+use Rattle.art_map.proofs.Terms.{has_leaf}
 use Rattle.art_map.proofs.Entries.{key-is}
 use Rattle.art_map.proofs.PrefixEntries.{held-at, kind-new, kind-stored, leaf-entry}
 use Rattle.art_map.proofs.map.prefix_entry.occupied.PrefixOccupied+K+V+PREFIX_LEN.key.Goals as goal

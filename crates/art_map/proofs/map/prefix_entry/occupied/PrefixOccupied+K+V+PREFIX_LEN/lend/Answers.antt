@@ -1,5 +1,5 @@
 use Rattle.std.proofs.Common.{refl, arith}
-use Rattle.art_map.specs.Found.{has_leaf}
+use Rattle.art_map.proofs.Terms.{has_leaf}
 use Rattle.art_map.proofs.PrefixEntries.{held-at, names-shown, pairs-shown, slot-of, value-shown}
 use Rattle.art_map.proofs.map.prefix_entry.occupied.PrefixOccupied+K+V+PREFIX_LEN.lend.Goals as goal
 

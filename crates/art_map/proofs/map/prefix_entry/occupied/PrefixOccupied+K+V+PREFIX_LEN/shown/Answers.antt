@@ -1,7 +1,7 @@
 use Rattle.std.proofs.Common.{refl, sym, ap}
-use Rattle.art_arena.specs.arena.Shapes.{key_of}
-use Rattle.art_operations.specs.KeyedLists.{overlapping}
-use Rattle.art_map.specs.Overlapped.{lone_item, overlaps_query}
+use Rattle.art_arena.proofs.Common.{key_of}
+use Rattle.art_operations.proofs.Common.{overlapping}
+use Rattle.art_map.proofs.Terms.{lone_item, overlaps_query}
 use Rattle.art_map.proofs.Entries.{has-pair}
 use Rattle.art_map.proofs.PrefixEntries.{held-at, kind-new, kind-stored, leaf-entry, lone-shown}
 use Rattle.art_map.proofs.map.prefix_entry.occupied.PrefixOccupied+K+V+PREFIX_LEN.shown.Goals as goal

@@ -1,5 +1,0 @@
-use Rattle.art_engine.proofs.FullKeys.{full_keys_keep_conflicts}
-use Rattle.art_engine.proofs.laws.full_keys_keep_conflicts.Goals as goal
-
-pub returns : goal.returns
-returns c = full_keys_keep_conflicts

@@ -1,0 +1,30 @@
+use Rattle.std.proofs.Common.{refl}
+use Rattle.art_map.proofs.LentIters.{fewer-left, fewer-lent, is-lent, same-left}
+use Rattle.art_map.proofs.LentWalks.{run-left, run-lent}
+use Rattle.art_map.proofs.map.iter_mut.IterMut.lend.Goals as goal
+
+pub invariant_of-self : goal.invariant_of-self
+invariant_of-self g c =
+    let walk = c.args.self.now in
+    let left = c.in-Some.ensures.left in
+    record {
+      valid = run-left walk.map.now c.args.end walk.leaves c.leaf_of.new.leaves walk.valid left;
+      counted = fewer-left walk.map.now walk.leaves walk.valid walk.len walk.counted c.args.end c.leaf_of.new.leaves left;
+    }
+
+pub invariant_of-self-lent : goal.invariant_of-self-lent
+invariant_of-self-lent g c =
+    let walk = c.args.self.now in
+    let step = c.in-Some.ensures in
+    λ w. (
+      run-lent walk.map.now c.args.end walk.leaves c.leaf_of.new.leaves walk.valid step.left c.in-Some.leaf step.leaf w,
+      (fewer-lent walk.map.now walk.leaves walk.valid walk.len walk.counted c.args.end c.leaf_of.new.leaves step.left c.in-Some.leaf step.leaf w, tt),
+    )
+
+pub returns : goal.returns
+returns g c =
+    let walk = c.args.self.now in
+    let step = c.in-Some.ensures in (
+      (refl, λ w. same-left walk c.in-Some.leaf c.leaf_of.new.leaves c.args.end step.leaf step.left w _ _),
+      record { writes_back = tt; lent = is-lent walk c.in-Some.leaf c.leaf_of.new.leaves c.args.end step.leaf step.left _ (step.rest.1 _ c.pair_mut_at.ensures.value, c.pair_mut_at.ensures.pairs) },
+    )

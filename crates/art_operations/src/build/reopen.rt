@@ -1,0 +1,127 @@
+//! A builder that goes on from a tree: the inner nodes on the way to its last leaf are open again, from the root down.
+ghost use Rattle.std.specs.Prelude.{◌≡◌, ◌≢◌, ◌+◌, ◌<◌, ◌≤◌, ◌++◌, ℕ, List, Some, length, vec_capacity};
+ghost use Rattle.std.specs.Prelude.{IfErr, IfOk, IsOk, OnErr, OnOk};
+ghost use Rattle.art_arena.specs.arena.Rooms.{SameLeaves};
+ghost use Rattle.art_arena.specs.arena.Shapes.{LeafAt};
+ghost use Rattle.art_operations.specs.Builders.{Builds};
+ghost use Rattle.art_operations.specs.Pairs.{HasPairs};
+ghost use Rattle.art_operations.specs.Whichever.{HasSome, OfEach};
+ghost use Rattle.art_operations.specs.inner.Rebuilding.{HasSpineRoom};
+ghost use Rattle.art_operations.specs.inner.Reopening.{OpensTo};
+ghost use Rattle.art_operations.specs.inner.Spines.{begin_of};
+
+use crate::build::TreeBuilder;
+use crate::build::spine::{Open, Spine, close_from};
+use crate::minmax::maximum_unchecked;
+use art_arena::{NodeArena, NodeEdit};
+use art_bytes::AsBytes;
+use art_nodes::{ChildIter, KindLeaf, NodeType, OpaqueNodePtr};
+use std::alloc::{AllocError, Global};
+
+// Notes children behind those that are noted.
+fn note_all(noted: &mut Vec<(u8, OpaqueNodePtr)>, children: ChildIter<'_>) -> Result<(), AllocError>
+    ensures items { OnOk result (noted.new.items ≡ noted.old.items ++ children.entry) }
+    ensures capacity { vec_capacity noted.old ≤ vec_capacity noted.new }
+    ensures succeeds { length noted.old.items + length children.entry ≤ vec_capacity noted.old → IsOk result }
+{
+    let mut left = children;
+    while let Some(child) = left.next() {
+        match noted.push(child) {
+            Ok(()) => {}
+            Err(_) => return Err(AllocError),
+        }
+    }
+    Ok(())
+}
+
+// Opens the inner node that the part is: frees it, and notes its children, all but the last. That is the part then. No
+// byte that leads to a part stands behind so many.
+//
+// Fails only if out of memory. Then room that was there stays, and nothing else changes.
+fn open_top<K: AsBytes + Drop, V: Drop, const PREFIX_LEN: usize>(
+    arena: &mut NodeArena<K, V, PREFIX_LEN>,
+    spine: &mut Spine,
+    part: OpaqueNodePtr,
+    most: usize,
+) -> Result<OpaqueNodePtr, AllocError>
+    requires inner { part.kind ≢ NodeType.Leaf }
+    requires stands { (leaf : LeafAt K V) × (ls : List (LeafAt K V))
+        × OpensTo K.bytes PREFIX_LEN arena.old spine.old part leaf ls × (length (K.bytes leaf.key) ≤ most) }
+    ensures ok { IfOk result (λ child. OfEach (OpensTo K.bytes PREFIX_LEN arena.old spine.old part)
+        (OpensTo K.bytes PREFIX_LEN arena.new spine.new child)) }
+    ensures err { OnErr result (OfEach (OpensTo K.bytes PREFIX_LEN arena.old spine.old part)
+        (OpensTo K.bytes PREFIX_LEN arena.new spine.new part)) }
+    ensures deeper { OnOk result (begin_of 0 spine.old.stack.items < begin_of 0 spine.new.stack.items) }
+    ensures within { OnOk result (begin_of 0 spine.new.stack.items ≤ most) }
+    ensures room { OnOk result (HasSpineRoom arena.new spine.new 1) }
+    ensures stack { OnErr result (spine.new.stack.items ≡ spine.old.stack.items) }
+    ensures kept_room { OnErr result ((n : ℕ) → HasSpineRoom arena.old spine.old n
+        → HasSpineRoom arena.new spine.new n) }
+    ensures leaves { SameLeaves arena.old arena.new }
+{
+    let count = arena.inner(part).num_children();
+    spine.reserve(arena, count)?;
+    let inner = arena.inner(part);
+    let behind = spine.begin(0) + inner.prefix_len() + 1;
+    let first = spine.children.len();
+    let Ok(()) = spine.stack.push(Open { behind, first }) else {
+        unreachable!();
+    };
+    let Ok(()) = note_all(&mut spine.children, inner.children()) else {
+        unreachable!();
+    };
+    let Some(child) = spine.children.pop() else {
+        unreachable!();
+    };
+    arena.edit_inner(part, &NodeEdit::Free);
+    Ok(child.1)
+}
+
+impl TreeBuilder {
+    /// Goes on from a tree that an arena holds alone: the inner nodes on the way to its last leaf are open again. No
+    /// leaf changes. It takes time in proportion to the children of those nodes.
+    ///
+    /// Fails only if out of memory. The error is the root of the tree, which has the pairs that it had.
+    pub fn reopen<K: AsBytes + Drop, V: Drop, const PREFIX_LEN: usize>(
+        alloc: Global,
+        arena: &mut NodeArena<K, V, PREFIX_LEN>,
+        root: OpaqueNodePtr,
+    ) -> Result<TreeBuilder, OpaqueNodePtr>
+        requires { (pairs : List (K × V)) × HasPairs K.bytes PREFIX_LEN arena.old (Some root) pairs }
+        ensures ok { IfOk result (λ builder. (pairs : List (K × V))
+            → HasPairs K.bytes PREFIX_LEN arena.old (Some root) pairs
+            → Builds K.bytes PREFIX_LEN arena.new builder pairs) }
+        ensures err { IfErr result (λ node. (pairs : List (K × V))
+            → HasPairs K.bytes PREFIX_LEN arena.old (Some root) pairs
+            → HasPairs K.bytes PREFIX_LEN arena.new (Some node) pairs) }
+        ensures leaves { SameLeaves arena.old arena.new }
+    {
+        let mut spine = Spine::new(alloc);
+        let last = maximum_unchecked(arena, root);
+        let most = arena.as_key_ref(last).as_bytes().len();
+        let mut part = root;
+        let mut room = 0;
+        'open: loop {
+            if part.is::<KindLeaf>() {
+                return Ok(TreeBuilder {
+                    spine,
+                    last: Some(last),
+                    room,
+                });
+            }
+            let Ok(child) = open_top(arena, &mut spine, part, most) else {
+                // Where nothing is open, the part is the root.
+                if room == 0 {
+                    return Err(part);
+                }
+                // There is room to make again what was opened.
+                let Ok(node) = close_from(arena, &mut spine, last, 0, part) else {
+                    unreachable!();
+                };
+                return Err(node);
+            };
+            part = child;
+            room = 1;
+        }
+    }
+}
